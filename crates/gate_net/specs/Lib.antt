@@ -1,0 +1,5 @@
+pub mod Net
+pub mod Values
+pub mod Paths
+pub mod Edits
+pub mod Laws
