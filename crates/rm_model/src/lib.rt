@@ -1,0 +1,12 @@
+//! The model of a BLIF text: names, covers and latches, and what they mean.
+#![tactic(auto)]
+
+mod list;
+mod parts;
+mod points;
+mod value;
+
+pub use list::Listed;
+pub use parts::{Cover, Latch, LatchKind, Literal, Model, Name, Row, Timing};
+pub use points::{observed, sources};
+pub use value::cover_value;

@@ -1,0 +1,112 @@
+// The names at which a model is driven and observed from outside.
+ghost use Rattle.std.specs.Prelude.{◌≡◌, ◌++◌, ◌∷◌, [], IfOk, OnOk, filter, map, not, Option};
+ghost use Rattle.std.specs.List.{filter_map};
+ghost use Rattle.std.specs.Option.{option_copied};
+ghost use Rattle.rm_model.specs.Value.{control_of, is_among as among, observed_names, source_names};
+
+use crate::list::Listed;
+use crate::parts::{Latch, Model, Name};
+use rm_base::NoMemory;
+use std::alloc::Global;
+
+pub fn copy_name(alloc: Global, name: &Name) -> Result<Name, NoMemory>
+    ensures { IfOk result (λ copy. copy ≡ name.now) }
+{
+    Ok(Listed::from_vec(Vec::from_slice(alloc, name.items())?))
+}
+
+pub fn is_among(names: &[Name], name: &Name) -> bool
+    ensures { result ≡ among names.now name.now }
+{
+    names.iter().any(|other| name.items() == other.items())
+}
+
+fn push_names(alloc: Global, out: &mut Vec<Name>, names: &[Name]) -> Result<(), NoMemory>
+    ensures { OnOk result (out.new.items ≡ out.old.items ++ names.now) }
+{
+    for name in names {
+        out.push(copy_name(alloc, name)?)?;
+    }
+    Ok(())
+}
+
+fn push_others(
+    alloc: Global,
+    out: &mut Vec<Name>,
+    inputs: &[Name],
+    names: &[Name],
+) -> Result<(), NoMemory>
+    ensures { OnOk result (out.new.items ≡ out.old.items ++ filter (λ x. not (among inputs.now x)) names.now) }
+{
+    for name in names {
+        if !is_among(inputs, name) {
+            out.push(copy_name(alloc, name)?)?;
+        }
+    }
+    Ok(())
+}
+
+fn push_latch_outputs(alloc: Global, out: &mut Vec<Name>, latches: &[Latch]) -> Result<(), NoMemory>
+    ensures { OnOk result (out.new.items ≡ out.old.items ++ map (λ l. l.output) latches.now) }
+{
+    for latch in latches {
+        out.push(copy_name(alloc, &latch.output)?)?;
+    }
+    Ok(())
+}
+
+fn push_latch_inputs(alloc: Global, out: &mut Vec<Name>, latches: &[Latch]) -> Result<(), NoMemory>
+    ensures { OnOk result (out.new.items ≡ out.old.items ++ map (λ l. l.input) latches.now) }
+{
+    for latch in latches {
+        out.push(copy_name(alloc, &latch.input)?)?;
+    }
+    Ok(())
+}
+
+fn control(latch: &Latch) -> Option<&Name>
+    ensures { option_copied result ≡ control_of latch.now }
+{
+    match &latch.timing {
+        None => None,
+        Some(timing) => timing.control.as_ref(),
+    }
+}
+
+fn push_controls(alloc: Global, out: &mut Vec<Name>, latches: &[Latch]) -> Result<(), NoMemory>
+    ensures { OnOk result (out.new.items ≡ out.old.items ++ filter_map control_of latches.now) }
+{
+    for latch in latches {
+        if let Some(control) = control(latch) {
+            out.push(copy_name(alloc, control)?)?;
+        }
+    }
+    Ok(())
+}
+
+/// The inputs, the clocks that aren't inputs, and the latch outputs.
+pub fn sources(alloc: Global, model: &Model) -> Result<Vec<Name>, NoMemory>
+    ensures { IfOk result (λ names. names.items ≡ source_names model.now) }
+{
+    let mut names = Vec::new(alloc);
+    push_names(alloc, &mut names, model.inputs.items())?;
+    push_others(
+        alloc,
+        &mut names,
+        model.inputs.items(),
+        model.clocks.items(),
+    )?;
+    push_latch_outputs(alloc, &mut names, model.latches.items())?;
+    Ok(names)
+}
+
+/// The outputs, the latch inputs and the latch controls.
+pub fn observed(alloc: Global, model: &Model) -> Result<Vec<Name>, NoMemory>
+    ensures { IfOk result (λ names. names.items ≡ observed_names model.now) }
+{
+    let mut names = Vec::new(alloc);
+    push_names(alloc, &mut names, model.outputs.items())?;
+    push_latch_inputs(alloc, &mut names, model.latches.items())?;
+    push_controls(alloc, &mut names, model.latches.items())?;
+    Ok(names)
+}
