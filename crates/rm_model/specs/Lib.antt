@@ -1,2 +1,3 @@
 pub mod Words
 pub mod Value
+pub mod Ranks
