@@ -46,18 +46,18 @@ is_over limit count = nat_lt limit count
 
 -- a name after those that stand before it in the text, and behind `earlier` words of its own line
 abbrev pub use_fault : List Use → ℕ → Use → Option ReadRefusal
-use_fault had earlier use =
-    let uses = had ++ use ∷ [] in
+use_fault had earlier this =
+    let uses = had ++ this ∷ [] in
     let sources = distinct_count (names_in is_source_role uses) in
     let observed = length (names_in is_observed_role uses) in
     let signals = distinct_count (names_in (λ _. true) uses) in
-    or_else (fault_if (stands_in drives_twice had use) DoubleDriven use.place)
-    (or_else (fault_if (stands_in lists_twice had use) DoubleOutput use.place)
-    (or_else (name_limit use.name use.place)
-    (or_else (limit_if (is_cover_input use.role && nat_lt 65535 earlier) Inputs (earlier + 1) use.place)
-    (or_else (limit_if (is_over 1024 sources) Sources sources use.place)
-    (or_else (limit_if (is_over 4096 observed) Observed observed use.place)
-    (limit_if (is_over 131072 signals) Signals signals use.place))))))
+    or_else (fault_if (stands_in drives_twice had this) DoubleDriven this.place)
+    (or_else (fault_if (stands_in lists_twice had this) DoubleOutput this.place)
+    (or_else (name_limit this.name this.place)
+    (or_else (limit_if (is_cover_input this.role && nat_lt 65535 earlier) Inputs (earlier + 1) this.place)
+    (or_else (limit_if (is_over 1024 sources) Sources sources this.place)
+    (or_else (limit_if (is_over 4096 observed) Observed observed this.place)
+    (limit_if (is_over 131072 signals) Signals signals this.place))))))
 
 abbrev pub latch_types : List Word
 latch_types = codes "fe" ∷ codes "re" ∷ codes "ah" ∷ codes "al" ∷ codes "as" ∷ []
@@ -67,7 +67,7 @@ init_values = codes "0" ∷ codes "1" ∷ codes "2" ∷ codes "3" ∷ []
 
 abbrev pub use_fault_if : List Use → ℕ → Option Use → Option ReadRefusal
 use_fault_if had earlier None = None
-use_fault_if had earlier (Some use) = use_fault had earlier use
+use_fault_if had earlier (Some this) = use_fault had earlier this
 
 abbrev pub part_fault : List Use → ℕ → Part × Spot → Option ReadRefusal
 part_fault had earlier (Title, s) = name_limit s.word s.place
@@ -206,10 +206,10 @@ said_by said [] = said
 said_by said (l ∷ ls) = said_by (after_line said l.tokens) ls
 
 abbrev pub is_undriven : List Use → Use → Bool
-is_undriven uses use = wants_driver use.role && not (is_among (names_in is_driver uses) use.name)
+is_undriven uses this = wants_driver this.role && not (is_among (names_in is_driver uses) this.name)
 
 abbrev pub undriven_fault : List Use → Option ReadRefusal
-undriven_fault uses = elim (find (is_undriven uses) uses) [ None ↦ None | Some use ↦ fault Undriven use.place ]
+undriven_fault uses = elim (find (is_undriven uses) uses) [ None ↦ None | Some this ↦ fault Undriven this.place ]
 
 -- the place of each `.names`, and its cover without rows
 abbrev pub cover_names : List Word → Cover

@@ -1,14 +1,16 @@
 -- The grammar: which model the logical lines of a text say.
-use Rattle.std.specs.Prelude.{◌≡◌, ◌≢◌, ◌⊎◌, ◌==◌, ◌≤◌, Bool, true, false, not, ◌&&◌, ◌||◌, List, [], ◌∷◌, ◌++◌, map, filter, length, All, codes, if◌then◌else◌, IfSome}
-use Rattle.std.specs.List.{flat_map, list_all, filter_map}
+use Rattle.std.specs.Prelude.{◌≡◌, ◌⊎◌, ◌==◌, ℕ, Bool, true, false, not, ◌&&◌, ◌||◌, List, [], ◌∷◌, ◌++◌, map, filter, codes, if◌then◌else◌}
+use Rattle.std.specs.List.{flat_map}
 use Rattle.rm_model.specs.Words.{Word, is_word}
-use Rattle.blif_lines.specs.Layout.{Line, is_token, before}
-use Rattle.blif_format.specs.Text.{cover_words, latch_words}
-use Rattle.rm_model.specs.Value.{IsRanked, is_among, source_names, control_of}
-use Rattle.rm_model.specs.declared.parts.Literal.{Literal}
-use Rattle.rm_model.specs.declared.parts.Cover.{Cover}
-use Rattle.rm_model.specs.declared.parts.Latch.{Latch}
+use Rattle.rm_model.specs.Value.{IsRanked}
+use Rattle.rm_model.specs.WellFormed.{IsWellFormed}
 use Rattle.rm_model.specs.declared.parts.Model.{Model}
+use Rattle.blif_format.specs.Text.{Line, cover_words, latch_words}
+
+-- what stands before the first line that passes the test
+abbrev pub before : (Line → Bool) → List Line → List Line
+before test [] = []
+before test (l ∷ ls) = if test l then [] else l ∷ before test ls
 
 -- the first word of the line, and a test of it
 abbrev pub begins_with : Word → Line → Bool
@@ -48,36 +50,6 @@ before_end lines = before (begins_with (codes ".end")) lines
 abbrev pub body_of : List Line → List Line
 body_of [] = []
 body_of (l ∷ ls) = before_end ls
-
-abbrev pub is_distinct : List Word → Bool
-is_distinct [] = true
-is_distinct (x ∷ xs) = not (is_among xs x) && is_distinct xs
-
--- what drives a name, each once
-abbrev pub driven_names : Model → List Word
-driven_names m = source_names m ++ map (λ (c : Cover). c.output) m.covers
-
-abbrev pub used_names : Model → List Word
-used_names m = ((m.outputs ++ flat_map (λ (c : Cover). c.inputs) m.covers) ++ map (λ (l : Latch). l.input) m.latches) ++ filter_map control_of m.latches
-
--- every name that the model holds
-abbrev pub names_of : Model → List Word
-names_of m = (m.name ∷ driven_names m) ++ (m.clocks ++ used_names m)
-
-pub record IsWellFormedCover (c : Cover) : Type 0 where
-  pub no_rows : c.rows ≡ [] → c.on ≡ true
-  pub row_lengths : All (λ (r : List Literal). length r ≡ length c.inputs) c.rows
-
-pub record IsWellFormed (m : Model) : Type 0 where
-  pub tokens : list_all is_token (names_of m) ≡ true
-  pub inputs_once : is_distinct m.inputs ≡ true
-  pub clocks_once : is_distinct m.clocks ≡ true
-  pub driven_once : is_distinct (driven_names m) ≡ true
-  pub outputs_once : is_distinct m.outputs ≡ true
-  pub all_driven : list_all (is_among (driven_names m)) (used_names m) ≡ true
-  pub covers : All IsWellFormedCover m.covers
-  pub inits : All (λ (l : Latch). IfSome l.init (λ n. n ≤ 3)) m.latches
-  pub controls : All (λ (l : Latch). IfSome (control_of l) (λ x. x ≢ codes "NIL")) m.latches
 
 pub record Reads (lines : List Line) (m : Model) : Type 0 where
   pub first : (body : List Line) × (lines ≡ (codes ".model" ∷ m.name ∷ []) ∷ body)

@@ -2,12 +2,15 @@
 use Rattle.std.specs.Prelude.{ℕ, ◌+◌, Bool, List, [], ◌∷◌, ◌++◌, map, codes, if◌then◌else◌, Option, None, Some}
 use Rattle.std.specs.List.{flat_map}
 use Rattle.rm_model.specs.Words.{Word, literal_byte, kind_word}
-use Rattle.blif_lines.specs.Layout.{Line}
 use Rattle.rm_model.specs.declared.parts.Literal.{Literal}
 use Rattle.rm_model.specs.declared.parts.Cover.{Cover}
 use Rattle.rm_model.specs.declared.parts.Timing.{Timing}
 use Rattle.rm_model.specs.declared.parts.Latch.{Latch}
 use Rattle.rm_model.specs.declared.parts.Model.{Model}
+
+-- a line is its words
+abbrev pub Line : Type 0
+Line = List Word
 
 abbrev pub control_word : Option Word → Word
 control_word None = codes "NIL"

@@ -134,7 +134,7 @@ lists_twice role other = false
 
 -- whether the name stands in some role that clashes with its new one
 abbrev pub stands_in : (Role → Role → Bool) → List Use → Use → Bool
-stands_in clashes had use = list_any (λ (u : Use). clashes u.role use.role && is_word u.name use.name) had
+stands_in clashes had this = list_any (λ (u : Use). clashes u.role this.role && is_word u.name this.name) had
 
 abbrev pub names_in : (Role → Bool) → List Use → List Word
 names_in test uses = map (λ (u : Use). u.name) (filter (λ (u : Use). test u.role) uses)

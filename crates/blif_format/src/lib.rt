@@ -2,5 +2,7 @@
 #![tactic(auto)]
 
 mod refusal;
+mod rows;
 
 pub use refusal::{FaultKind, Quantity, ReadRefusal};
+pub use rows::worked_rows;
