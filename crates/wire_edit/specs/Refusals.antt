@@ -1,12 +1,12 @@
 -- Why a step isn't made: the first reason in the numbered order.
-use Rattle.std.specs.Prelude.{◌≡◌, ℕ, ◌-◌, ◌<◌, Bool, true, not, ◌&&◌, ◌⊎◌, ◌↔◌, Option, Some, None, List, [], ◌∷◌, length, nat_lt, sum_by}
+use Rattle.std.specs.Prelude.{◌≡◌, ℕ, ◌-◌, Bool, true, false, not, ◌&&◌, ◌⊎◌, ◌↔◌, Option, Some, None, List, [], ◌∷◌, length, nat_lt, sum_by}
 use Rattle.rm_base.specs.declared.numbers.NodeId.{NodeId}
 use Rattle.gate_net.specs.Net.{Node, Net, drivers_of, wire_count}
 use Rattle.gate_net.specs.Paths.{Reaches}
 use Rattle.wire_edit.specs.declared.steps.Step.{Step}
 use Rattle.wire_edit.specs.declared.steps.Step.TheVariants.{Add, Fix, NewNot, Const, Same, NoPins, OnePin, Twice, Twin, Dead}
 use Rattle.wire_edit.specs.declared.steps.Rule.{Rule}
-use Rattle.wire_edit.specs.declared.steps.Rule.TheVariants as rule.{Const, Same, NoPins, OnePin, Twice, Twin, Dead}
+use Rattle.wire_edit.specs.declared.steps.Rule.TheVariants as rule
 use Rattle.wire_edit.specs.declared.refusal.EditRefusal.{EditRefusal}
 use Rattle.wire_edit.specs.declared.refusal.EditRefusal.TheVariants.{NoNode, WrongKind, NoPin, Cycle, AlreadyPin, RuleNotMet, Full}
 use Rattle.wire_edit.specs.declared.room.Room.{Room}

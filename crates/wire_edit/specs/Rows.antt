@@ -5,7 +5,7 @@ use Rattle.gate_net.specs.declared.Kind.TheVariants.{Source, Zero, One, And, Or,
 use Rattle.gate_net.specs.Net.{Node, Net, plain_node}
 use Rattle.wire_edit.specs.declared.steps.Step.{Step}
 use Rattle.wire_edit.specs.declared.steps.Step.TheVariants.{Add, Fix, Const, Same, OnePin, Dead}
-use Rattle.wire_edit.specs.declared.steps.Rule.TheVariants as rule.{Const}
+use Rattle.wire_edit.specs.declared.steps.Rule.TheVariants as rule
 use Rattle.wire_edit.specs.declared.refusal.EditRefusal.{EditRefusal}
 use Rattle.wire_edit.specs.declared.refusal.EditRefusal.TheVariants.{NoNode, WrongKind, NoPin, Cycle, AlreadyPin, RuleNotMet}
 use Rattle.wire_edit.specs.declared.room.Room.{Room}

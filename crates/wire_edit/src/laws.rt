@@ -3,7 +3,8 @@ ghost use Rattle.std.specs.Prelude.{◌≡◌, Some, None, true, false};
 ghost use Rattle.wire_edit.specs.Steps.{stepped};
 ghost use Rattle.wire_edit.specs.Refusals.{refusal_of};
 ghost use Rattle.wire_edit.specs.Order.{next_step};
-ghost use Rattle.wire_edit.specs.Rows.{four_gates, much, no_pins, add, constant, zero_row, zero_row_moved, zero_row_tidy, buffer_row, node, add_9_2, const_6_0, no_node_40, cycle_6_9, already_6_2, wrong_2, no_pin_6_5, not_met_6, fix_6_5, const_2_0, dead_2, same_3_1, one_pin_3, dead_3, buffer_once, buffer_moved, buffer_tidy};
+ghost use Rattle.wire_edit.specs.declared.refusal.EditRefusal.TheVariants.{Full};
+ghost use Rattle.wire_edit.specs.Rows.{four_gates, much, no_pins, add, zero_row, zero_row_moved, zero_row_tidy, buffer_row, add_9_2, const_6_0, no_node_40, cycle_6_9, already_6_2, wrong_2, no_pin_6_5, not_met_6, fix_6_5, const_2_0, dead_2, same_3_1, one_pin_3, dead_3, buffer_once, buffer_moved, buffer_tidy};
 
 /// Rows that are worked out by hand.
 pub fn worked_rows()
@@ -13,7 +14,7 @@ pub fn worked_rows()
     ensures no_node { refusal_of four_gates much (add 6 40) false ≡ Some no_node_40 }
     ensures no_pin { refusal_of four_gates much fix_6_5 false ≡ Some no_pin_6_5 }
     ensures not_met { refusal_of four_gates much const_6_0 false ≡ Some not_met_6 }
-    ensures full { refusal_of four_gates no_pins add_9_2 false ≡ Some EditRefusal.Full }
+    ensures full { refusal_of four_gates no_pins add_9_2 false ≡ Some Full }
     ensures made { refusal_of four_gates much add_9_2 false ≡ None }
     ensures tidy { next_step four_gates ≡ None }
     ensures zero_first { next_step zero_row ≡ Some const_2_0 }
