@@ -1,0 +1,12 @@
+//! Steps of a net: additions, fixes and local rules, their refusals, and the tidying order.
+#![tactic(auto)]
+
+mod laws;
+mod refusal;
+mod room;
+mod steps;
+
+pub use laws::worked_rows;
+pub use refusal::EditRefusal;
+pub use room::Room;
+pub use steps::{Rule, Step};
