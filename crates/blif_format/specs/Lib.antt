@@ -4,3 +4,4 @@ pub mod Uses
 pub mod Unsupported
 pub mod FirstFault
 pub mod Rows
+pub mod Laws
