@@ -33,5 +33,5 @@ abbrev pub after_call : CallLog → CallLog
 after_call log = record {
   made = one_more log.made;
   failed = (if fails_next log then one_more log.failed else log.failed);
-  listed = log.listed
+  listed = log.listed;
 }
