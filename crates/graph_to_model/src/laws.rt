@@ -2,7 +2,6 @@
 ghost use Rattle.std.specs.Prelude.{◌≡◌};
 ghost use Rattle.cover_decompose.specs.Decomposition.{net_of_model};
 ghost use Rattle.cover_decompose.specs.Rows.{r2, r5};
-ghost use Rattle.graph_to_model.specs.Laws.{TidyNetsHaveModels};
 ghost use Rattle.graph_to_model.specs.NetModel.{model_of_net};
 ghost use Rattle.graph_to_model.specs.Rows.{copies, r2_out, r5_out, taken_prefix, taken_prefix_out};
 ghost use Rattle.graph_to_model.specs.Wires.{wires};
@@ -16,9 +15,4 @@ pub fn worked_rows()
     ensures copies { model_of_net copies (net_of_model copies) ≡ copies }
     ensures copies_wires { wires copies ≡ 0 }
     ensures prefix { (model_of_net taken_prefix (net_of_model taken_prefix)).covers ≡ taken_prefix_out }
-{}
-
-/// A tidy net stands for its model, which has as many wires.
-pub fn tidy_nets_have_models()
-    ensures { TidyNetsHaveModels }
 {}
