@@ -61,8 +61,8 @@ pub record HasFault (text : List ℕ) (kind : FaultKind) (place : Place) : Type 
 -- a quantity of the text is over its limit: its length, one of its first fault, or the wires of the decomposition
 pub record IsLong (text : List ℕ) (quantity : Quantity) (count : ℕ) : Type 0 where
   pub long : most_bytes < length text
-  pub quantity : quantity ≡ Text
-  pub count : count ≡ most_bytes + 1
+  pub named : quantity ≡ Text
+  pub counted : count ≡ most_bytes + 1
 
 pub record ExceedsAt (text : List ℕ) (quantity : Quantity) (count : ℕ) : Type 0 where
   pub short : length text ≤ most_bytes
@@ -75,8 +75,8 @@ pub record HasManyPins (text : List ℕ) (quantity : Quantity) (count : ℕ) : T
   pub faultless : first_fault text ≡ None
   pub reads : Reads (lines_of text) model
   pub many : most_pins < decomposed model
-  pub quantity : quantity ≡ Pins
-  pub count : count ≡ decomposed model
+  pub named : quantity ≡ Pins
+  pub counted : count ≡ decomposed model
 
 abbrev pub Exceeds : List ℕ → Quantity → ℕ → Type 0
 Exceeds text quantity count = IsLong text quantity count ⊎ (ExceedsAt text quantity count ⊎ HasManyPins text quantity count)
