@@ -3,5 +3,7 @@
 
 mod laws;
 mod line;
+mod reader;
+mod scan;
 
-pub use line::Token;
+pub use line::{LineFault, LogicalLine, Token};
