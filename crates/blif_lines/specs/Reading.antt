@@ -1,16 +1,11 @@
 -- What a reader of lines has still to come, and its answers.
 use Rattle.std.specs.Prelude.{◌≡◌, ◌≤◌, ◌<◌, ◌-◌, ℕ, List, [], ◌∷◌, map, length, take, drop, All, Option, None, Some}
 use Rattle.rm_base.specs.declared.numbers.Place.{Place}
-use Rattle.blif_lines.specs.Layout.{Spot, Flaw, BadByteAt, OpenJoinAt, Logical}
+use Rattle.blif_lines.specs.Layout.{Spot, Flaw, BadByteAt, OpenJoinAt, Logical, Reading}
 use Rattle.blif_lines.specs.declared.line.Token.{Token}
 use Rattle.blif_lines.specs.declared.line.LogicalLine.{LogicalLine}
 use Rattle.blif_lines.specs.declared.line.LineFault.{LineFault}
 use Rattle.blif_lines.specs.declared.line.LineFault.TheVariants.{BadByte, OpenJoin, NoMemory}
-
--- the text, and the logical lines still to come
-pub record Reading : Type 0 where
-  pub text : List ℕ
-  pub rest : List Logical
 
 -- a line with neither token nor flaw means nothing
 abbrev pub pending : List Logical → List Logical
@@ -30,10 +25,13 @@ pub record IsWithin (text : List ℕ) (t : Token) : Type 0 where
   pub some : t.start < t.end
   pub end : t.end ≤ length text
 
--- the answer of a reader that finds no flaw
+-- what a reader that finds no flaw gives of the lines of a text, and the lines that it leaves
+abbrev pub GivesLine : List ℕ → List Logical → List Logical → Option LogicalLine → Type 0
+GivesLine text rest left None = (pending rest ≡ []) × (left ≡ [])
+GivesLine text rest left (Some line) = pending rest ≡ record { tokens = map (spot_of text) line; flaw = None } ∷ left
+
 abbrev pub Gives : Reading → Reading → Option LogicalLine → Type 0
-Gives old new None = (pending old.rest ≡ []) × (new.rest ≡ [])
-Gives old new (Some line) = pending old.rest ≡ record { tokens = map (spot_of old.text) line; flaw = None } ∷ new.rest
+Gives old new found = GivesLine old.text old.rest new.rest found
 
 abbrev pub StandsFirst : Flaw → List Logical → Type 0
 StandsFirst f [] = ⊥

@@ -7,3 +7,4 @@ mod reader;
 mod scan;
 
 pub use line::{LineFault, LogicalLine, Token};
+pub use reader::LineReader;

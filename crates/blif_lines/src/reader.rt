@@ -1,8 +1,8 @@
 // The reader of logical lines.
-ghost use Rattle.std.specs.Prelude.{◌≡◌, ◌≢◌, ◌≤◌, ◌<◌, ◌+◌, ◌^◌, [], ◌∷◌, ◌++◌, IfOk, IfErr, OnErr, OnOk, length, drop, map, min, All, None, Some};
+ghost use Rattle.std.specs.Prelude.{◌≡◌, ◌≢◌, ◌≤◌, ◌<◌, ◌+◌, ◌^◌, [], ◌∷◌, ◌++◌, IfOk, IfErr, OnErr, OnOk, length, drop, map, min, All, None, Some, IfSome};
 ghost use Rattle.blif_lines.specs.Layout.{Logical, layout, layout_from};
 ghost use Rattle.blif_lines.specs.Cuts.{place_at, line_start, line_end_of, spots_between};
-ghost use Rattle.blif_lines.specs.Reading.{spot_of, IsWithin, Gives, IsFault, pending};
+ghost use Rattle.blif_lines.specs.Reading.{spot_of, IsWithin, Gives, GivesLine, IsFault, pending};
 
 use crate::line::{LineFault, LogicalLine, Token};
 use crate::scan::{Piece, line_end, next_piece};
@@ -109,5 +109,99 @@ fn take_line(alloc: Global, text: &[u8], from: Cursor) -> Result<Taken, LineFaul
                 cursor = next;
             }
         }
+    }
+}
+
+/// A logical line with tokens, if there is one, and where the next physical line starts.
+#[derive(Drop)]
+struct Found {
+    line: Option<LogicalLine>,
+    next: Cursor,
+}
+
+/// The first logical line with tokens from the cursor on.
+fn find_line(alloc: Global, text: &[u8], from: Cursor) -> Result<Found, LineFault>
+    requires within { from.at ≤ length text.now }
+    requires small { length text.now ≤ 2 ^ 24 }
+    requires start { from.start ≡ from.at }
+    requires line { from.line ≤ from.at + 1 }
+    ensures ok { IfOk result (λ f. GivesLine text.now (layout_from from.at (line_start from.line) (drop from.at text.now)) (layout_from f.next.at (line_start f.next.line) (drop f.next.at text.now)) f.line) }
+    ensures end { IfOk result (λ f. f.next.at ≤ length text.now) }
+    ensures number { IfOk result (λ f. f.next.line ≤ f.next.at + 1) }
+    ensures tokens { IfOk result (λ f. IfSome f.line (λ line. line ≢ [])) }
+    ensures within { IfOk result (λ f. IfSome f.line (λ line. All (IsWithin text.now) line)) }
+    ensures fault { IfErr result (λ e. IsFault (pending (layout_from from.at (line_start from.line) (drop from.at text.now))) e) }
+{
+    let mut cursor = from;
+    'lines: while cursor.at < text.len() {
+        let taken = take_line(alloc, text, cursor)?;
+        cursor = taken.next;
+        if !taken.line.tokens().is_empty() {
+            return Ok(Found {
+                line: Some(taken.line),
+                next: cursor,
+            });
+        }
+    }
+    Ok(Found {
+        line: None,
+        next: cursor,
+    })
+}
+
+/// Reads a text line by line. Contracts see the text and the logical lines still to come.
+#[derive(Drop)]
+pub struct LineReader<'a> {
+    text: &'a [u8],
+    at: usize,
+    line: u32,
+    alloc: Global,
+}
+
+impl<'a> Model for LineReader<'a> {
+    ghost use Rattle.blif_lines.specs.Layout.{Reading};
+
+    ghost Value = { Reading };
+
+    ghost use Rattle.blif_lines.specs.Views.{reading, IsReading};
+
+    ghost view = { reading };
+
+    ghost invariant = { IsReading };
+}
+
+impl<'a> LineReader<'a> {
+    pub fn new(alloc: Global, text: &'a [u8]) -> LineReader<'a>
+        requires { length text.now ≤ 16777216 }
+        ensures text { result.text ≡ text.now }
+        ensures rest { result.rest ≡ layout text.now }
+    {
+        LineReader {
+            text,
+            at: 0,
+            line: 1,
+            alloc,
+        }
+    }
+
+    /// The next logical line with tokens, or None at the end of the text. A line of blanks and comments is passed over,
+    /// but for its fault. After a fault the answer is the same again.
+    pub fn next(&mut self) -> Result<Option<LogicalLine>, LineFault>
+        ensures text { self.new.text ≡ self.old.text }
+        ensures ok { IfOk result (λ found. Gives self.old self.new found) }
+        ensures tokens { IfOk result (λ found. IfSome found (λ line. line ≢ [])) }
+        ensures within { IfOk result (λ found. IfSome found (λ line. All (IsWithin self.old.text) line)) }
+        ensures fault { IfErr result (λ e. IsFault (pending self.old.rest) e) }
+        ensures same { OnErr result (self.new ≡ self.old) }
+    {
+        let from = Cursor {
+            at: self.at,
+            line: self.line,
+            start: self.at,
+        };
+        let found = find_line(self.alloc, self.text, from)?;
+        self.at = found.next.at;
+        self.line = found.next.line;
+        Ok(found.line)
     }
 }
