@@ -8,3 +8,6 @@ mod scan;
 
 pub use line::{LineFault, LogicalLine, Token};
 pub use reader::LineReader;
+
+#[cfg(test)]
+mod tests;
