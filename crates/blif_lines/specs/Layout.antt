@@ -123,3 +123,8 @@ has_words (w ∷ ws) = true
 
 abbrev pub lines_of : List ℕ → List (List (List ℕ))
 lines_of text = filter has_words (map words_in (layout text))
+
+-- what a reader of lines has: the text, and the logical lines still to come
+pub record Reading : Type 0 where
+  pub text : List ℕ
+  pub rest : List Logical

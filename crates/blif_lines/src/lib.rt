@@ -3,5 +3,11 @@
 
 mod laws;
 mod line;
+mod reader;
+mod scan;
 
-pub use line::Token;
+pub use line::{LineFault, LogicalLine, Token};
+pub use reader::LineReader;
+
+#[cfg(test)]
+mod tests;
