@@ -1,6 +1,10 @@
 // The whole text of a model.
 ghost use Rattle.std.specs.Prelude.{◌≡◌, ◌++◌, IfOk, OnOk};
 ghost use Rattle.blif_format.specs.Text.{clock_lines, text_of, text_of_lines};
+ghost use Rattle.blif_format.specs.Grammar.{Reads};
+ghost use Rattle.blif_format.specs.Laws.{AreFlawless};
+ghost use Rattle.blif_lines.specs.Layout.{layout, lines_of};
+ghost use Rattle.rm_model.specs.Value.{IsRanked};
 ghost use Rattle.rm_model.specs.WellFormed.{IsWellFormed};
 ghost use Rattle.blif_writer.specs.Written.{head_text};
 
@@ -34,7 +38,11 @@ fn put_head(out: &mut Vec<u8>, model: &Model) -> Result<(), NoMemory>
 /// joined to the next, and there are no comments.
 pub fn write_model(alloc: Global, model: &Model) -> Result<Vec<u8>, NoMemory>
     requires { IsWellFormed model.now }
-    ensures { IfOk result (λ text. text.items ≡ text_of model.now) }
+    ensures text { IfOk result (λ text. text.items ≡ text_of model.now) }
+    ensures flawless { IfOk result (λ text. AreFlawless (layout text.items)) }
+    ensures reads {
+        IsRanked model.now → IfOk result (λ text. Reads (lines_of text.items) model.now)
+    }
 {
     let mut out = Vec::new(alloc);
     put_head(&mut out, model)?;
