@@ -133,8 +133,8 @@ inner_lines m = (clock_lines m.clocks ++ latch_lines m.latches) ++ flat_map cove
 none-inner : (test : Line → Bool) → ((l : Line) → is_dotted l ≡ false → test l ≡ false) → ((ws : Line) → test (codes ".clock" ∷ ws) ≡ false) → ((ws : Line) → test (codes ".latch" ∷ ws) ≡ false) → ((ws : Line) → test (codes ".names" ∷ ws) ≡ false) → (m : Model) → None_of test (inner_lines m)
 none-inner test each clock latch names m =
     none-append test (clock_lines m.clocks ++ latch_lines m.latches) (flat_map cover_lines m.covers)
-        (none-append test (clock_lines m.clocks) (latch_lines m.latches) (none-clocks test clock m.clocks) (none-latches test latch m.latches))
-        (none-covers test each names m.covers)
+    (none-append test (clock_lines m.clocks) (latch_lines m.latches) (none-clocks test clock m.clocks) (none-latches test latch m.latches))
+    (none-covers test each names m.covers)
 
 -- words of a command in the inner lines
 filter-inner : (test : Line → Bool) (m : Model) → None_of test (inner_lines m) → filter test end_line ≡ [] → filter test (inner_lines m ++ end_line) ≡ []
@@ -163,12 +163,12 @@ read_clocks m =
     let no_latch : filter test latches ≡ [] = filter-none test latches (none-latches test (λ ws. refl) m.latches) in
     let no_cover : filter test covers ≡ [] = filter-none test covers (none-covers test (not_first (codes "clock")) (λ ws. refl) m.covers) in
     let found : filter test (((clocks ++ latches) ++ covers) ++ end_line) ≡ filter test clocks =
-        filter-append test ((clocks ++ latches) ++ covers) end_line
-        ∙ (append-nil (filter test ((clocks ++ latches) ++ covers))
-        ∙ (filter-append test (clocks ++ latches) covers
-        ∙ (ap (λ ls. filter test (clocks ++ latches) ++ ls) no_cover
-        ∙ (append-nil (filter test (clocks ++ latches))
-        ∙ (filter-append test clocks latches ∙ (ap (λ ls. filter test clocks ++ ls) no_latch ∙ append-nil (filter test clocks))))))) in
+    filter-append test ((clocks ++ latches) ++ covers) end_line
+    ∙ (append-nil (filter test ((clocks ++ latches) ++ covers))
+    ∙ (filter-append test (clocks ++ latches) covers
+    ∙ (ap (λ ls. filter test (clocks ++ latches) ++ ls) no_cover
+    ∙ (append-nil (filter test (clocks ++ latches))
+    ∙ (filter-append test clocks latches ∙ (ap (λ ls. filter test clocks ++ ls) no_latch ∙ append-nil (filter test clocks))))))) in
     ap (flat_map words_after) found ∙ clock_words m.clocks
 
 read_latches : (m : Model) → map words_after (filter (begins_with (codes ".latch")) (model_lines m)) ≡ map latch_words m.latches
@@ -180,12 +180,12 @@ read_latches m =
     let no_clock : filter test clocks ≡ [] = filter-none test clocks (none-clocks test (λ ws. refl) m.clocks) in
     let no_cover : filter test covers ≡ [] = filter-none test covers (none-covers test (not_first (codes "latch")) (λ ws. refl) m.covers) in
     let found : filter test (((clocks ++ latches) ++ covers) ++ end_line) ≡ filter test latches =
-        filter-append test ((clocks ++ latches) ++ covers) end_line
-        ∙ (append-nil (filter test ((clocks ++ latches) ++ covers))
-        ∙ (filter-append test (clocks ++ latches) covers
-        ∙ (ap (λ ls. filter test (clocks ++ latches) ++ ls) no_cover
-        ∙ (append-nil (filter test (clocks ++ latches))
-        ∙ (filter-append test clocks latches ∙ ap (λ ls. ls ++ filter test latches) no_clock))))) in
+    filter-append test ((clocks ++ latches) ++ covers) end_line
+    ∙ (append-nil (filter test ((clocks ++ latches) ++ covers))
+    ∙ (filter-append test (clocks ++ latches) covers
+    ∙ (ap (λ ls. filter test (clocks ++ latches) ++ ls) no_cover
+    ∙ (append-nil (filter test (clocks ++ latches))
+    ∙ (filter-append test clocks latches ∙ ap (λ ls. ls ++ filter test latches) no_clock))))) in
     ap (map words_after) found ∙ filter-latches m.latches
 
 read_covers : (m : Model) → names_lines (model_lines m) ≡ map cover_words m.covers
@@ -212,7 +212,7 @@ read_commands m =
     ap (follow false) inner
     ∙ (ap (follow false) (append_assoc (clock_lines m.clocks) (latch_lines m.latches) (flat_map cover_lines m.covers))
     ∙ follow-clocks false m.clocks (latch_lines m.latches ++ flat_map cover_lines m.covers)
-        (λ b. follow-latches b m.latches (flat_map cover_lines m.covers) (λ b. follow-covers b m.covers)))
+    (λ b. follow-latches b m.latches (flat_map cover_lines m.covers) (λ b. follow-covers b m.covers)))
 
 pub model_lines_read : (m : Model) → IsWellFormed m → IsRanked m → Reads (model_lines m) m
 model_lines_read m good ranked = record {

@@ -78,7 +78,7 @@ latches_tokens (l ∷ ls) inputs outputs controls inits =
     let o = both (is_token l.output) (list_all is_token (map (λ (l : Latch). l.output) ls)) outputs in
     let c = option_parts (control_of l) (filter_map control_of ls) controls in
     and_true (latch_tokens l i.0 o.0 c.0 (All-head (λ (l : Latch). IfSome l.init (λ n. n ≤ 3)) l ls inits))
-        (latches_tokens ls i.1 o.1 c.1 (All-tail (λ (l : Latch). IfSome l.init (λ n. n ≤ 3)) l ls inits))
+    (latches_tokens ls i.1 o.1 c.1 (All-tail (λ (l : Latch). IfSome l.init (λ n. n ≤ 3)) l ls inits))
 
 -- COVERS
 
@@ -144,9 +144,9 @@ model_lines_tokens m good =
     let covers = flat_map cover_lines m.covers in
     let first : list_all is_token_line head ≡ true = and_true (and_true named.0 refl) (and_true inputs.0 (and_true outputs.0 refl)) in
     all_together is_token_line (((head ++ clock_lines m.clocks) ++ latches) ++ covers) ((codes ".end" ∷ []) ∷ [])
-        (all_together is_token_line ((head ++ clock_lines m.clocks) ++ latches) covers
-            (all_together is_token_line (head ++ clock_lines m.clocks) latches
-                (all_together is_token_line head (clock_lines m.clocks) first (clocks_tokens m.clocks clocked.0))
-                (latches_tokens m.latches read.1 sources.1 used.1 good.inits))
-            (covers_tokens m.covers outputs.1 driven.1))
-        refl
+    (all_together is_token_line ((head ++ clock_lines m.clocks) ++ latches) covers
+    (all_together is_token_line (head ++ clock_lines m.clocks) latches
+    (all_together is_token_line head (clock_lines m.clocks) first (clocks_tokens m.clocks clocked.0))
+    (latches_tokens m.latches read.1 sources.1 used.1 good.inits))
+    (covers_tokens m.covers outputs.1 driven.1))
+    refl

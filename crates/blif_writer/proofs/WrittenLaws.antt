@@ -31,7 +31,7 @@ line_put out a b d w ws p q r = r ∙ (ap (λ t. t ++ 10 ∷ []) (q ∙ ap (λ t
 pub longer_line_put : (out a b c d : List ℕ) (w : Word) (ws : Line) (v : Word) → a ≡ out ++ w → b ≡ a ++ behind_blanks ws → c ≡ b ++ 32 ∷ v → d ≡ c ++ 10 ∷ [] → d ≡ out ++ line_text (w ∷ (ws ++ v ∷ []))
 longer_line_put out a b c d w ws v p q r s =
     let more : c ≡ a ++ behind_blanks (ws ++ v ∷ []) =
-        r ∙ (ap (λ t. t ++ 32 ∷ v) q ∙ (append_assoc a (behind_blanks ws) (32 ∷ v) ∙ ap (λ t. a ++ t) (sym (blanks-push ws v)))) in
+    r ∙ (ap (λ t. t ++ 32 ∷ v) q ∙ (append_assoc a (behind_blanks ws) (32 ∷ v) ∙ ap (λ t. a ++ t) (sym (blanks-push ws v)))) in
     line_put out a c d w (ws ++ v ∷ []) p more s
 
 text_of_lines-append : (ls ms : List Line) → text_of_lines (ls ++ ms) ≡ text_of_lines ls ++ text_of_lines ms
@@ -55,7 +55,7 @@ covers-text [] = refl
 covers-text (c ∷ cs) =
     let names = codes ".names" ∷ (c.inputs ++ c.output ∷ []) in
     let rows : text_of_lines (cover_lines c) ≡ cover_text c =
-        ap (λ t. spelled names ++ 10 ∷ t) (rows-text c.on c.rows) ∙ line-front names (flat_map (row_text c.on) c.rows) in
+    ap (λ t. spelled names ++ 10 ∷ t) (rows-text c.on c.rows) ∙ line-front names (flat_map (row_text c.on) c.rows) in
     text_of_lines-append (cover_lines c) (flat_map cover_lines cs) ∙ (ap (λ t. t ++ text_of_lines (flat_map cover_lines cs)) rows ∙ ap (λ t. cover_text c ++ t) (covers-text cs))
 
 -- the lines before the latches
@@ -67,7 +67,7 @@ head-text m rest =
     let clocks = text_of_lines (clock_lines m.clocks) in
     text_of_lines-append ((name ∷ inputs ∷ outputs ∷ []) ++ clock_lines m.clocks) rest
     ∙ ap (λ t. t ++ text_of_lines rest)
-        (line-front name _ ∙ ap (λ t. line_text name ++ t) (line-front inputs _ ∙ ap (λ t. line_text inputs ++ t) (line-front outputs clocks)))
+    (line-front name _ ∙ ap (λ t. line_text name ++ t) (line-front inputs _ ∙ ap (λ t. line_text inputs ++ t) (line-front outputs clocks)))
 
 -- the whole text
 pub model_put : (m : Model) (none a b c d : List ℕ) → none ≡ [] → a ≡ none ++ head_text m → b ≡ a ++ flat_map latch_text m.latches → c ≡ b ++ flat_map cover_text m.covers → d ≡ c ++ codes ".end\n" → d ≡ text_of m
@@ -77,7 +77,7 @@ model_put m none a b c d e p q r s =
     let covers = flat_map cover_lines m.covers in
     let first : a ≡ text_of_lines head = p ∙ (ap (λ t. t ++ head_text m) e ∙ (sym (append-nil (head_text m)) ∙ (sym (head-text m []) ∙ ap text_of_lines (append-nil head)))) in
     let second : b ≡ text_of_lines (head ++ latches) =
-        q ∙ (ap (λ t. t ++ flat_map latch_text m.latches) first ∙ (ap (λ t. text_of_lines head ++ t) (sym (latches-text m.latches)) ∙ sym (text_of_lines-append head latches))) in
+    q ∙ (ap (λ t. t ++ flat_map latch_text m.latches) first ∙ (ap (λ t. text_of_lines head ++ t) (sym (latches-text m.latches)) ∙ sym (text_of_lines-append head latches))) in
     let third : c ≡ text_of_lines ((head ++ latches) ++ covers) =
-        r ∙ (ap (λ t. t ++ flat_map cover_text m.covers) second ∙ (ap (λ t. text_of_lines (head ++ latches) ++ t) (sym (covers-text m.covers)) ∙ sym (text_of_lines-append (head ++ latches) covers))) in
+    r ∙ (ap (λ t. t ++ flat_map cover_text m.covers) second ∙ (ap (λ t. text_of_lines (head ++ latches) ++ t) (sym (covers-text m.covers)) ∙ sym (text_of_lines-append (head ++ latches) covers))) in
     s ∙ (ap (λ t. t ++ codes ".end\n") third ∙ sym (text_of_lines-append ((head ++ latches) ++ covers) ((codes ".end" ∷ []) ∷ [])))

@@ -6,3 +6,6 @@ mod parts;
 mod write;
 
 pub use write::write_model;
+
+#[cfg(test)]
+mod tests;

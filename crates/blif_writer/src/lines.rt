@@ -46,10 +46,8 @@ pub fn put_line_and(
     words: &[Name],
     last: &[u8],
 ) -> Result<(), NoMemory>
-    ensures {
-        OnOk result
-            (out.new.items ≡ out.old.items ++ line_text (first.now ∷ (words.now ++ last.now ∷ [])))
-    }
+    ensures { OnOk result
+        (out.new.items ≡ out.old.items ++ line_text (first.now ∷ (words.now ++ last.now ∷ []))) }
 {
     put(out, first)?;
     put_words(out, words)?;

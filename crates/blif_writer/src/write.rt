@@ -1,5 +1,5 @@
 // The whole text of a model.
-ghost use Rattle.std.specs.Prelude.{◌≡◌, ◌++◌, IfOk, OnOk};
+ghost use Rattle.std.specs.Prelude.{◌≡◌, ◌≤◌, ◌++◌, All, IfOk, IfSome, OnOk};
 ghost use Rattle.blif_format.specs.Text.{clock_lines, text_of, text_of_lines};
 ghost use Rattle.blif_format.specs.Grammar.{Reads};
 ghost use Rattle.blif_format.specs.Laws.{AreFlawless};
@@ -37,12 +37,11 @@ fn put_head(out: &mut Vec<u8>, model: &Model) -> Result<(), NoMemory>
 /// latches with the fields that they have, the covers with their rows, and `.end`. No line is
 /// joined to the next, and there are no comments.
 pub fn write_model(alloc: Global, model: &Model) -> Result<Vec<u8>, NoMemory>
-    requires { IsWellFormed model.now }
+    requires { All (λ l. IfSome l.init (λ n. n ≤ 3)) model.now.latches }
     ensures text { IfOk result (λ text. text.items ≡ text_of model.now) }
-    ensures flawless { IfOk result (λ text. AreFlawless (layout text.items)) }
-    ensures reads {
-        IsRanked model.now → IfOk result (λ text. Reads (lines_of text.items) model.now)
-    }
+    ensures flawless { IsWellFormed model.now → IfOk result (λ text. AreFlawless (layout text.items)) }
+    ensures reads { IsWellFormed model.now → IsRanked model.now →
+        IfOk result (λ text. Reads (lines_of text.items) model.now) }
 {
     let mut out = Vec::new(alloc);
     put_head(&mut out, model)?;

@@ -14,10 +14,10 @@ returns c =
     let latches = c.in_ok-put_latches.ensures ∙ ap (λ ls. c.put_head.new.out.items ++ flat_map latch_text ls) c.items.ensures in
     let covers = c.in_ok-put_covers.ensures ∙ ap (λ cs. c.put_latches.new.out.items ++ flat_map cover_text cs) c.items-2.ensures in
     let whole : c.put.new.out.items ≡ text_of c.args.model.now =
-        model_put c.args.model.now c.new-out.result.items c.put_head.new.out.items c.put_latches.new.out.items c.put_covers.new.out.items c.put.new.out.items
-        c.new-out.ensures.items c.in_ok-put_head.ensures latches covers c.in_ok-put.ensures in
+    model_put c.args.model.now c.new-out.result.items c.put_head.new.out.items c.put_latches.new.out.items c.put_covers.new.out.items c.put.new.out.items
+    c.new-out.ensures.items c.in_ok-put_head.ensures latches covers c.in_ok-put.ensures in
     record {
       text = whole;
-      flawless = subst (λ (t : List ℕ). AreFlawless (layout t)) (sym whole) (text_flawless c.args.model.now c.requires);
-      reads = λ ranked. subst (λ (t : List ℕ). Reads (lines_of t) c.args.model.now) (sym whole) (text_reads c.args.model.now c.requires ranked);
+      flawless = λ good. subst (λ (t : List ℕ). AreFlawless (layout t)) (sym whole) (text_flawless c.args.model.now good);
+      reads = λ good ranked. subst (λ (t : List ℕ). Reads (lines_of t) c.args.model.now) (sym whole) (text_reads c.args.model.now good ranked);
     }
