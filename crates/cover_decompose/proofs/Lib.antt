@@ -1,3 +1,5 @@
 pub mod Joins
 pub mod Places
 pub mod Values
+pub mod Members
+pub mod Order

@@ -1,4 +1,4 @@
-use Rattle.cover_decompose.proofs.Values.{cover-value}
+use Rattle.cover_decompose.proofs.Order.{observed_kept}
 use Rattle.cover_decompose.proofs.laws.any_law.Goals as goal
 
 pub returns : goal.returns
