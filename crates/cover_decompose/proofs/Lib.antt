@@ -3,3 +3,4 @@ pub mod Places
 pub mod Values
 pub mod Members
 pub mod Order
+pub mod Ranked

@@ -1,5 +1,5 @@
 -- What the nodes of a decomposition are worth, where each node is worth its function of what it reads.
-use Rattle.std.proofs.Common.{◌≡◌, ℕ, Bool, true, false, cond, not, List, [], ◌∷◌, ◌++◌, map, length, refl, ap, sym, ◌∙◌}
+use Rattle.std.proofs.Common.{◌≡◌, ℕ, Bool, true, false, cond, not, List, [], ◌∷◌, ◌++◌, map, length, refl, ap, sym, ◌∙◌, ◌⊎◌, inl, inr}
 use Rattle.std.specs.Prelude.{Option, None, Some, ◌&&◌, ◌||◌, slice_get}
 use Rattle.std.specs.List.{list_all, list_any, AllByRecursion}
 use Rattle.std.proofs.lemmas.Slice.Eq.{bytes_eq-Decides}
@@ -15,6 +15,9 @@ use Rattle.gate_net.specs.Values.{gate_value}
 use Rattle.cover_decompose.specs.Decomposition.{State, with_entry, with_gate, with_not, literals, joined, term, terms, closed, cover_node, with_cover, with_covers}
 use Rattle.cover_decompose.proofs.Joins.{junction-and, junction-or, and-true, or-false}
 use Rattle.cover_decompose.proofs.Places.{get_left, get_seam}
+use Rattle.cover_decompose.proofs.Members.{all_from, all_in, among_in, word_refl, word_same, or_cases, In}
+use Rattle.cover_decompose.proofs.Order.{Reading, AreAmong, outputs_onto}
+use Rattle.rm_model.specs.Value.{is_among}
 
 module _ (val a : ℕ → Bool) (v : Word → Bool) where
   -- each node made is worth its function of what it reads
@@ -176,3 +179,35 @@ module _ (val a : ℕ → Bool) (v : Word → Bool) where
       by_rows : (rows : List (List Literal)) (on : Bool) (bs : List Bool) → (rows ≡ [] → on ≡ true) → cond on (list_any (λ row. row_matches row bs) rows) (not (list_any (λ row. row_matches row bs) rows)) ≡ value_of_rows rows on bs
       by_rows [] on bs empty = rw (empty refl) refl
       by_rows (r ∷ rs) on bs empty = turned on (list_any (λ row. row_matches row bs) (r ∷ rs))
+
+  -- what is among these names is worth what the signals are
+  abbrev pub KnownAmong : (Word → ℕ) → List Word → Type 0
+  KnownAmong node_of xs = (x : Word) → is_among xs x ≡ true → val (node_of x) ≡ v x
+
+  -- the cover's output has the cover's value
+  pub record Fits (c : Cover) : Type 0 where
+    pub no_rows : c.rows ≡ [] → c.on ≡ true
+    pub value : v c.output ≡ value_of c (map v c.inputs)
+
+  covers-meets : (s : State) (cs : List Cover) → Meets (with_covers s cs).made → Meets s.made
+  covers-meets s [] h = h
+  covers-meets s (c ∷ cs) h = cover-meets s c (covers-meets (with_cover s c) cs h)
+
+  inputs_known : (node_of : Word → ℕ) (done xs : List Word) → KnownAmong node_of done → AreAmong done xs → Known node_of xs
+  inputs_known node_of done [] h r = tt
+  inputs_known node_of done (x ∷ xs) h r = (h x r.0, inputs_known node_of done xs h r.1)
+
+  one_more : (before node_of : Word → ℕ) (done : List Word) (y : Word) (n : ℕ) → node_of ≡ before → KnownAmong before done → val n ≡ v y → KnownAmong (with_entry node_of y n) (y ∷ done)
+  one_more before node_of done y n e h here x m = by_test (is_word x y) refl m
+    where
+      by_test : (b : Bool) → is_word x y ≡ b → (b || is_among done x) ≡ true → val (cond b n (node_of x)) ≡ v x
+      by_test true same m = rw (word_same x y same) here
+      by_test false same m = ap (λ (f : Word → ℕ). val (f x)) e ∙ h x m
+
+  pub covers-value : (s : State) (cs : List Cover) (done : List Word) → val 0 ≡ false → val 1 ≡ true → KnownAmong s.node_of done → NotsKnown s.not_of → Reading done cs → AllByRecursion Fits cs → Meets (with_covers s cs).made → KnownAmong (with_covers s cs).node_of (outputs_onto done cs)
+  covers-value s [] done none one known nots reading fits h = known
+  covers-value s (c ∷ cs) done none one known nots reading fits h =
+      let here = cover-value s c none one fits.0.no_rows (inputs_known s.node_of done c.inputs known reading.0) nots (covers-meets (with_cover s c) cs h) in
+      covers-value (with_cover s c) cs (c.output ∷ done) none one
+        (one_more s.node_of (cover_node s c).0.node_of done c.output (cover_node s c).1 here.1.nodes known (here.0 ∙ sym fits.0.value))
+        here.1.nots reading.1 fits.1 h

@@ -1,4 +1,5 @@
-use Rattle.cover_decompose.proofs.Order.{observed_kept}
+use Rattle.cover_decompose.proofs.Ranked.{observed_there}
+use Rattle.cover_decompose.proofs.Values.{covers-value}
 use Rattle.cover_decompose.proofs.laws.any_law.Goals as goal
 
 pub returns : goal.returns
