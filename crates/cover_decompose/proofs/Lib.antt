@@ -4,3 +4,6 @@ pub mod Values
 pub mod Members
 pub mod Order
 pub mod Ranked
+pub mod Formed
+pub mod Started
+pub mod Stands

@@ -189,7 +189,7 @@ module _ (val a : ℕ → Bool) (v : Word → Bool) where
     pub no_rows : c.rows ≡ [] → c.on ≡ true
     pub value : v c.output ≡ value_of c (map v c.inputs)
 
-  covers-meets : (s : State) (cs : List Cover) → Meets (with_covers s cs).made → Meets s.made
+  pub covers-meets : (s : State) (cs : List Cover) → Meets (with_covers s cs).made → Meets s.made
   covers-meets s [] h = h
   covers-meets s (c ∷ cs) h = cover-meets s c (covers-meets (with_cover s c) cs h)
 

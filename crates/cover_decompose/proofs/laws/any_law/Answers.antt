@@ -1,5 +1,6 @@
 use Rattle.cover_decompose.proofs.Ranked.{observed_there}
-use Rattle.cover_decompose.proofs.Values.{covers-value}
+use Rattle.cover_decompose.proofs.Stands.{observed_values}
+use Rattle.cover_decompose.proofs.Formed.{covers_made}
 use Rattle.cover_decompose.proofs.laws.any_law.Goals as goal
 
 pub returns : goal.returns
