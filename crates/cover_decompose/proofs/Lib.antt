@@ -7,3 +7,7 @@ pub mod Ranked
 pub mod Formed
 pub mod Started
 pub mod Stands
+pub mod Sums
+pub mod Wires
+pub mod WellFormed
+pub mod Points
