@@ -52,7 +52,7 @@ module _ (first : List Node) where
   below_push : (made : List Node) (g : Node) → ((y : ℕ) (n : Node) → slice_get made y ≡ Some n → AllBelow y n.drivers) → AllBelow (length made) g.drivers → (y : ℕ) (n : Node) → slice_get (made ++ g ∷ []) y ≡ Some n → AllBelow y n.drivers
   below_push made g h b y n e =
       elim (get_parts made (g ∷ []) y n e) [
-        inl old ↦ h y n old
+        | inl old ↦ h y n old
         | inr r ↦ last r.0 r.1.0 r.1.1
       ]
     where
@@ -85,19 +85,21 @@ module _ (first : List Node) where
   not_made s x None e h =
       let node : Node = record { kind = Not; drivers = s.node_of x ∷ [] } in
       let longer : length (s.made ++ node ∷ []) ≡ suc (length s.made) = length-push s.made node in
-      let g = gate_made s Not (s.node_of x ∷ []) h (inr (inr (refl, (s.node_of x, refl)))) (h.nodes x, tt) in
-      (record {
-        made = record {
-          gates = g.made.gates;
-          made_is = g.made.made_is;
-          are_gates = g.made.are_gates;
-          below = g.made.below;
-          nodes = g.made.nodes;
-          nots = λ y n m. by_test y n (is_word y x) refl g.made.nots m;
-        };
-        longer = g.longer;
-        same = refl;
-      }, omega arith)
+      let g = gate_made s Not (s.node_of x ∷ []) h (inr (inr (refl, (s.node_of x, refl)))) (h.nodes x, tt) in (
+        record {
+          made = record {
+            gates = g.made.gates;
+            made_is = g.made.made_is;
+            are_gates = g.made.are_gates;
+            below = g.made.below;
+            nodes = g.made.nodes;
+            nots = λ y n m. by_test y n (is_word y x) refl g.made.nots m;
+          };
+          longer = g.longer;
+          same = refl;
+        },
+        omega arith,
+      )
     where
       by_test : (y : Word) (n : ℕ) (b : Bool) → is_word y x ≡ b → ((x' : Word) (n' : ℕ) → s.not_of x' ≡ Some n' → n' < length (s.made ++ record { kind = Not; drivers = s.node_of x ∷ [] } ∷ [])) → cond b (Some (length s.made)) (s.not_of y) ≡ Some n → n < length (s.made ++ record { kind = Not; drivers = s.node_of x ∷ [] } ∷ [])
       by_test y n true same old m =
@@ -159,15 +161,17 @@ module _ (first : List Node) where
 
   pub cover_made : (s : State) (c : Cover) → 1 < length s.made → IsMade first s → IsMade first (with_cover s c) × (length s.made ≤ length (with_cover s c).made)
   cover_made s c one h =
-      let r = node_made s c one h in
-      (record {
-        gates = r.0.made.gates;
-        made_is = r.0.made.made_is;
-        are_gates = r.0.made.are_gates;
-        below = r.0.made.below;
-        nodes = λ x. by_test x (is_word x c.output) r.1 (r.0.made.nodes x);
-        nots = r.0.made.nots;
-      }, r.0.longer)
+      let r = node_made s c one h in (
+        record {
+          gates = r.0.made.gates;
+          made_is = r.0.made.made_is;
+          are_gates = r.0.made.are_gates;
+          below = r.0.made.below;
+          nodes = λ x. by_test x (is_word x c.output) r.1 (r.0.made.nodes x);
+          nots = r.0.made.nots;
+        },
+        r.0.longer,
+      )
     where
       by_test : (x : Word) (b : Bool) → (cover_node s c).1 < length (cover_node s c).0.made → (cover_node s c).0.node_of x < length (cover_node s c).0.made → cond b (cover_node s c).1 ((cover_node s c).0.node_of x) < length (cover_node s c).0.made
       by_test x true lt old = lt

@@ -11,3 +11,4 @@ pub mod Sums
 pub mod Wires
 pub mod WellFormed
 pub mod Points
+pub mod Counted

@@ -127,7 +127,7 @@ pub in_any : {A : Type 0} (test : A → Bool) (xs : List A) → list_any test xs
 in_any test [] e = absurd cc
 in_any test (y ∷ xs) e =
     elim (or_cases (test y) (list_any test xs) e) [
-      inl t ↦ (y, (inl refl, t))
+      | inl t ↦ (y, (inl refl, t))
       | inr t ↦ let r = in_any test xs t in (r.0, (inr r.1.0, r.1.1))
     ]
 

@@ -77,7 +77,7 @@ pub in-of_ranks : (ranked : List (ℕ × Cover)) (first count n : ℕ) (c : Cove
 in-of_ranks ranked first zero n c h le lt = absurd (omega arith)
 in-of_ranks ranked first (suc count) n c h le lt =
     elim (eqb_tells first n) [
-      inl e ↦ in_left (of_rank ranked first) (of_ranks ranked (suc first) count) c (in-of_rank ranked first c (rw e.1 h))
+      | inl e ↦ in_left (of_rank ranked first) (of_ranks ranked (suc first) count) c (in-of_rank ranked first c (rw e.1 h))
       | inr e ↦ in_right (of_rank ranked first) (of_ranks ranked (suc first) count) c (in-of_ranks ranked (suc first) count n c h (let ne : first ≢ n = e.1 in omega arith) (omega arith))
     ]
 
@@ -85,7 +85,7 @@ pub of_ranks-in : (ranked : List (ℕ × Cover)) (first count : ℕ) (c : Cover)
 of_ranks-in ranked first zero c h = absurd h
 of_ranks-in ranked first (suc count) c h =
     elim (in_append (of_rank ranked first) (of_ranks ranked (suc first) count) c h) [
-      inl a ↦ (first, of_rank-in ranked first c a)
+      | inl a ↦ (first, of_rank-in ranked first c a)
       | inr b ↦ of_ranks-in ranked (suc first) count c b
     ]
 
@@ -102,16 +102,16 @@ pub record Lower (first : List Word) (ranked : List (ℕ × Cover)) (n : ℕ) (d
 reading_rank : (sources : List Word) (ranked : List (ℕ × Cover)) (n : ℕ) (done : List Word) → ReadsLower sources ranked → Lower sources ranked n done → (c : Cover) → In (of_rank ranked n) c → AreAmong done c.inputs
 reading_rank sources ranked n done lower l c h =
     all_from (λ x. is_among done x ≡ true) c.inputs
-      (λ x m. elim (lower n c (of_rank-in ranked n c h) x m) [
-        inl s ↦ l.sources x s
-        | inr r ↦ let there : is_among done r.1.0.output ≡ true = l.outputs r.0 r.1.0 r.1.1.0 r.1.1.1.0 in rw (← r.1.1.1.1) there
-      ])
+    (λ x m. elim (lower n c (of_rank-in ranked n c h) x m) [
+      | inl s ↦ l.sources x s
+      | inr r ↦ let there : is_among done r.1.0.output ≡ true = l.outputs r.0 r.1.0 r.1.1.0 r.1.1.1.0 in rw (← r.1.1.1.1) there
+    ])
 
 lower_next : (sources : List Word) (ranked : List (ℕ × Cover)) (n : ℕ) (done : List Word) → Lower sources ranked n done → Lower sources ranked (suc n) (outputs_onto done (of_rank ranked n))
 lower_next sources ranked n done l = record {
   sources = λ x h. onto_keeps done (of_rank ranked n) x (l.sources x h);
   outputs = λ k d h lt. elim (eqb_tells k n) [
-    inl e ↦ onto_outputs done (of_rank ranked n) d (in-of_rank ranked n d (rw (← e.1) h))
+    | inl e ↦ onto_outputs done (of_rank ranked n) d (in-of_rank ranked n d (rw (← e.1) h))
     | inr e ↦ onto_keeps done (of_rank ranked n) d.output (l.outputs k d h (let ne : k ≢ n = e.1 in omega arith))
   ];
 }
@@ -120,8 +120,8 @@ pub reading_ranks : (sources : List Word) (ranked : List (ℕ × Cover)) (first 
 reading_ranks sources ranked first zero done lower l = tt
 reading_ranks sources ranked first (suc count) done lower l =
     reading_append done (of_rank ranked first) (of_ranks ranked (suc first) count)
-      (reading_at_once done (of_rank ranked first) (reading_rank sources ranked first done lower l))
-      (reading_ranks sources ranked (suc first) count (outputs_onto done (of_rank ranked first)) lower (lower_next sources ranked first done l))
+    (reading_at_once done (of_rank ranked first) (reading_rank sources ranked first done lower l))
+    (reading_ranks sources ranked (suc first) count (outputs_onto done (of_rank ranked first)) lower (lower_next sources ranked first done l))
 
 -- of the names that are there, those that are needed are kept
 abbrev pub Keeps : List Word → List Word → List Cover → List Word → Type 0
@@ -130,7 +130,7 @@ Keeps observed full later kept = (x : Word) → is_among full x ≡ true → is_
 needed_later : (observed : List Word) (c : Cover) (later : List Cover) (x : Word) → is_needed observed later x ≡ true → is_needed observed (c ∷ later) x ≡ true
 needed_later observed c later x h =
     elim (or_cases (is_among observed x) (list_any (λ (d : Cover). is_among d.inputs x) later) h) [
-      inl a ↦ or_left (is_among observed x) (list_any (λ (d : Cover). is_among d.inputs x) (c ∷ later)) a
+      | inl a ↦ or_left (is_among observed x) (list_any (λ (d : Cover). is_among d.inputs x) (c ∷ later)) a
       | inr b ↦ or_right (is_among observed x) (list_any (λ (d : Cover). is_among d.inputs x) (c ∷ later)) (or_right (is_among c.inputs x) (list_any (λ (d : Cover). is_among d.inputs x) later) b)
     ]
 
@@ -145,14 +145,14 @@ among_cases y xs x h = elim (or_cases (is_word x y) (is_among xs x) h) [ inl a �
 keeps_without : (observed full kept : List Word) (c : Cover) (later : List Cover) → is_needed observed later c.output ≡ false → Keeps observed full later kept → Keeps observed (c.output ∷ full) later kept
 keeps_without observed full kept c later unneeded h x e need =
     elim (among_cases c.output full x e) [
-      inl same ↦ let bad : true ≡ false = sym need ∙ (ap (λ (y : Word). is_needed observed later y) same ∙ unneeded) in absurd cc
+      | inl same ↦ let bad : true ≡ false = sym need ∙ (ap (λ (y : Word). is_needed observed later y) same ∙ unneeded) in absurd cc
       | inr there ↦ h x there need
     ]
 
 keeps_with : (observed full kept : List Word) (c : Cover) (later : List Cover) → Keeps observed full (c ∷ later) kept → Keeps observed (c.output ∷ full) later (c.output ∷ kept)
 keeps_with observed full kept c later h x e need =
     elim (among_cases c.output full x e) [
-      inl same ↦ let here : is_word x c.output ≡ true = rw same (word_refl c.output) in or_left (is_word x c.output) (is_among kept x) here
+      | inl same ↦ let here : is_word x c.output ≡ true = rw same (word_refl c.output) in or_left (is_word x c.output) (is_among kept x) here
       | inr there ↦ or_right (is_word x c.output) (is_among kept x) (h x there (needed_later observed c later x need))
     ]
 

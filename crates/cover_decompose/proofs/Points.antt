@@ -67,7 +67,7 @@ onto_cases : (done : List Word) (cs : List Cover) (x : Word) → is_among (outpu
 onto_cases done [] x e = inl e
 onto_cases done (c ∷ cs) x e =
     elim (onto_cases (c.output ∷ done) cs x e) [
-      inl a ↦ elim (or_cases (is_word x c.output) (is_among done x) a) [ inl same ↦ inr (c, (inl refl, sym (word_same x c.output same))) | inr b ↦ inl b ]
+      | inl a ↦ elim (or_cases (is_word x c.output) (is_among done x) a) [ inl same ↦ inr (c, (inl refl, sym (word_same x c.output same))) | inr b ↦ inl b ]
       | inr d ↦ inr (d.0, (inr d.1.0, d.1.1))
     ]
 
@@ -77,7 +77,7 @@ reading_there done [] c x r h i = absurd h
 reading_there done (b ∷ cs) c x r (inl same) i = inl (all_in (λ y. is_among done y ≡ true) b.inputs x r.0 (let P : Cover → Type 0 = λ y. In y.inputs x in subst P (sym same) i))
 reading_there done (b ∷ cs) c x r (inr h) i =
     elim (reading_there (b.output ∷ done) cs c x r.1 h i) [
-      inl a ↦ elim (or_cases (is_word x b.output) (is_among done x) a) [ inl same ↦ inr (b, (inl refl, sym (word_same x b.output same))) | inr k ↦ inl k ]
+      | inl a ↦ elim (or_cases (is_word x b.output) (is_among done x) a) [ inl same ↦ inr (b, (inl refl, sym (word_same x b.output same))) | inr k ↦ inl k ]
       | inr d ↦ inr (d.0, (inr d.1.0, d.1.1))
     ]
 
@@ -130,14 +130,14 @@ source_at n (y ∷ xs) (suc k) x e h = by_test (is_word x y) refl (distinct_rest
     by_test false same out rest = omega arith
 
 module _ (m : Model) (h : IsRankable m) where
-  not_source : (c : Cover) → In m.covers c → In (source_names m) c.output → ⊥
+  pub not_source : (c : Cover) → In m.covers c → In (source_names m) c.output → ⊥
   not_source c i s = distinct_parts (source_names m) (map (λ (c : Cover). c.output) m.covers) c.output h.formed.driven_once s (in_mapped (λ (c : Cover). c.output) m.covers c i)
 
-  same_cover : (c d : Cover) → In m.covers c → In m.covers d → c.output ≡ d.output → c ≡ d
+  pub same_cover : (c d : Cover) → In m.covers c → In m.covers d → c.output ≡ d.output → c ≡ d
   same_cover c d i j e = outputs_differ m.covers c d (distinct_right (source_names m) (map (λ (c : Cover). c.output) m.covers) h.formed.driven_once) i j e
 
   -- a cover whose output is there is taken
-  taken_there : (c : Cover) (x : Word) → In m.covers c → c.output ≡ x → (is_among (source_names m) x ≡ true) ⊎ ((d : Cover) × (In (taken m) d × (d.output ≡ x))) → In (taken m) c
+  pub taken_there : (c : Cover) (x : Word) → In m.covers c → c.output ≡ x → (is_among (source_names m) x ≡ true) ⊎ ((d : Cover) × (In (taken m) d × (d.output ≡ x))) → In (taken m) c
   taken_there c x i e (inl s) = absurd (not_source c i (let P : Word → Type 0 = λ y. In (source_names m) y in subst P (sym e) (in_among (source_names m) x s)))
   taken_there c x i e (inr d) = let P : Cover → Type 0 = λ y. In (taken m) y in subst P (same_cover d.0 c (taken_in m h d.0 d.1.0) i (d.1.1 ∙ sym e)) d.1.0
 
@@ -159,19 +159,19 @@ module _ (m : Model) (h : IsRankable m) where
       by_need true e next inside (inl same) =
           let P : Cover → Type 0 = λ y. IsNeeded m y.output in
           subst P same
-            (elim (or_cases (is_among (observed_names m) d.output) (list_any (λ (k : Cover). is_among k.inputs d.output) (needed_of (observed_names m) cs)) e) [
-              inl o ↦ observed o
-              | inr r ↦
+          (elim (or_cases (is_among (observed_names m) d.output) (list_any (λ (k : Cover). is_among k.inputs d.output) (needed_of (observed_names m) cs)) e) [
+            | inl o ↦ observed o
+            | inr r ↦
                 let k = in_any (λ (k : Cover). is_among k.inputs d.output) (needed_of (observed_names m) cs) r in
                 read k.0 (in_contains m.covers k.0 (inside k.0 (inr k.1.0))) (next (λ k j. inside k (inr j)) k.0 k.1.0) k.1.1
-            ])
+          ])
       by_need false e next inside i = next inside c i
 
   pub points : HasPoints (net_of_model m) m
   points = record {
     same = λ i j x a b. slice_get-map (last_state m).node_of (observed_names m) i ∙ (ap (λ (o : Option Word). option_map (last_state m).node_of o) (a ∙ sym b) ∙ sym (slice_get-map (last_state m).node_of (observed_names m) j));
     own = λ i k x a b.
-      slice_get-map (last_state m).node_of (observed_names m) i ∙ (ap (λ (o : Option Word). option_map (last_state m).node_of o) a ∙ ap (λ (n : ℕ). Some n)
+        slice_get-map (last_state m).node_of (observed_names m) i ∙ (ap (λ (o : Option Word). option_map (last_state m).node_of o) a ∙ ap (λ (n : ℕ). Some n)
         (other_kept (start m) (taken m) x (λ c t e. not_source c (taken_in m h c t) (let P : Word → Type 0 = λ y. In (source_names m) y in subst P (sym e) (in_at (source_names m) k x b)))
-          ∙ source_at 2 (source_names m) k x (distinct_left (source_names m) (map (λ (c : Cover). c.output) m.covers) h.formed.driven_once) b));
+        ∙ source_at 2 (source_names m) k x (distinct_left (source_names m) (map (λ (c : Cover). c.output) m.covers) h.formed.driven_once) b));
   }

@@ -130,9 +130,9 @@ module _ (m : Model) (h : IsRankable m) where
   reads_lower n c i x r =
       let here = in_ranked n c i in
       let used : In (used_names m) x = in_left ((m.outputs ++ flat_map (λ (c : Cover). c.inputs) m.covers) ++ map (λ (l : Latch). l.input) m.latches) (filter_map control_of m.latches) x
-          (in_left (m.outputs ++ flat_map (λ (c : Cover). c.inputs) m.covers) (map (λ (l : Latch). l.input) m.latches) x (in_right m.outputs (flat_map (λ (c : Cover). c.inputs) m.covers) x (in_flat m.covers c x here.0 r))) in
+      (in_left (m.outputs ++ flat_map (λ (c : Cover). c.inputs) m.covers) (map (λ (l : Latch). l.input) m.latches) x (in_right m.outputs (flat_map (λ (c : Cover). c.inputs) m.covers) x (in_flat m.covers c x here.0 r))) in
       elim (used_driven x used) [
-        inl s ↦ inl (among_in (source_names m) x s)
+        | inl s ↦ inl (among_in (source_names m) x s)
         | inr o ↦ inr (by_cover n c x r here.1 (in_map (λ (c : Cover). c.output) m.covers x o))
       ]
     where
@@ -175,11 +175,11 @@ module _ (m : Model) (h : IsRankable m) where
       let latch : List Word = map (λ (l : Latch). l.input) m.latches in
       let controls : List Word = filter_map control_of m.latches in
       elim (in_append (m.outputs ++ latch) controls x i) [
-        inl p ↦ in_left ((m.outputs ++ inputs) ++ latch) controls x
-          (elim (in_append m.outputs latch x p) [
-            inl o ↦ in_left (m.outputs ++ inputs) latch x (in_left m.outputs inputs x o)
-            | inr l ↦ in_right (m.outputs ++ inputs) latch x l
-          ])
+        | inl p ↦ in_left ((m.outputs ++ inputs) ++ latch) controls x
+            (elim (in_append m.outputs latch x p) [
+              | inl o ↦ in_left (m.outputs ++ inputs) latch x (in_left m.outputs inputs x o)
+              | inr l ↦ in_right (m.outputs ++ inputs) latch x l
+            ])
         | inr c ↦ in_right ((m.outputs ++ inputs) ++ latch) controls x c
       ]
 
@@ -187,10 +187,10 @@ module _ (m : Model) (h : IsRankable m) where
   pub observed_there : (x : Word) → In (observed_names m) x → is_among (outputs_onto (source_names m) (taken m)) x ≡ true
   observed_there x i =
       observed_kept (observed_names m) (source_names m) (source_names m) (covers_by_rank m) (λ y e n. e) x (among_in (observed_names m) x i)
-        (elim (used_driven x (observed_used x i)) [
-          inl s ↦ onto_keeps (source_names m) (covers_by_rank m) x (among_in (source_names m) x s)
-          | inr o ↦
+      (elim (used_driven x (observed_used x i)) [
+        | inl s ↦ onto_keeps (source_names m) (covers_by_rank m) x (among_in (source_names m) x s)
+        | inr o ↦
             let d = in_map (λ (c : Cover). c.output) m.covers x o in
             let P : Word → Type 0 = λ y. is_among (outputs_onto (source_names m) (covers_by_rank m)) y ≡ true in
             subst P d.1.1 (onto_outputs (source_names m) (covers_by_rank m) d.0 (by_rank_in d.0 d.1.0))
-        ])
+      ])

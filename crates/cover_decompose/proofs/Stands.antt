@@ -30,10 +30,10 @@ meets_good made observed a val v good x n e =
 fits : (m : Model) (val a : ℕ → Bool) (v : Word → Bool) → IsRankable m → IsConsistent m v → AllByRecursion (Fits val a v) (taken m)
 fits m val a v h consistent =
     all_from (Fits val a v) (taken m)
-      (λ c i. record {
-        no_rows = (all_in IsWellFormedCover m.covers c (all_by_index IsWellFormedCover m.covers h.formed.covers) (taken_in m h c i)).no_rows;
-        value = all_in (λ (c : Cover). v c.output ≡ value_of c (map v c.inputs)) m.covers c (all_by_index (λ (c : Cover). v c.output ≡ value_of c (map v c.inputs)) m.covers consistent) (taken_in m h c i);
-      })
+    (λ c i. record {
+      no_rows = (all_in IsWellFormedCover m.covers c (all_by_index IsWellFormedCover m.covers h.formed.covers) (taken_in m h c i)).no_rows;
+      value = all_in (λ (c : Cover). v c.output ≡ value_of c (map v c.inputs)) m.covers c (all_by_index (λ (c : Cover). v c.output ≡ value_of c (map v c.inputs)) m.covers consistent) (taken_in m h c i);
+    })
 
 pub observed_values : (m : Model) (a val : ℕ → Bool) (v : Word → Bool) → IsRankable m → AreGoodValues (net_of_model m) a val → IsConsistent m v → SameAssignment m a v → map val (net_of_model m).observed ≡ map v (observed_names m)
 observed_values m a val v h good consistent same =
@@ -41,8 +41,8 @@ observed_values m a val v h good consistent same =
     let meets : Meets val a v s.made = meets_good s.made (map s.node_of (observed_names m)) a val v good in
     let start_meets : Meets val a v (start m).made = covers-meets val a v (start m) (taken m) meets in
     let known : KnownAmong val a v s.node_of (outputs_onto (source_names m) (taken m)) =
-        covers-value val a v (start m) (taken m) (source_names m) (zero_is val a v m start_meets) (one_is val a v m start_meets)
-          (sources_known val a v m start_meets same) (no_nots val a v m) (taken_reading m h) (fits m val a v h consistent) meets in
+    covers-value val a v (start m) (taken m) (source_names m) (zero_is val a v m start_meets) (one_is val a v m start_meets)
+    (sources_known val a v m start_meets same) (no_nots val a v m) (taken_reading m h) (fits m val a v h consistent) meets in
     each (observed_names m) s.node_of (all_from (λ x. val (s.node_of x) ≡ v x) (observed_names m) (λ x i. known x (observed_there m h x i)))
   where
     each : (xs : List Word) (f : Word → ℕ) → AllByRecursion (λ x. val (f x) ≡ v x) xs → map val (map f xs) ≡ map v xs

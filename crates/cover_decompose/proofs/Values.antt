@@ -209,5 +209,5 @@ module _ (val a : ℕ → Bool) (v : Word → Bool) where
   covers-value s (c ∷ cs) done none one known nots reading fits h =
       let here = cover-value s c none one fits.0.no_rows (inputs_known s.node_of done c.inputs known reading.0) nots (covers-meets (with_cover s c) cs h) in
       covers-value (with_cover s c) cs (c.output ∷ done) none one
-        (one_more s.node_of (cover_node s c).0.node_of done c.output (cover_node s c).1 here.1.nodes known (here.0 ∙ sym fits.0.value))
-        here.1.nots reading.1 fits.1 h
+      (one_more s.node_of (cover_node s c).0.node_of done c.output (cover_node s c).1 here.1.nodes known (here.0 ∙ sym fits.0.value))
+      here.1.nots reading.1 fits.1 h

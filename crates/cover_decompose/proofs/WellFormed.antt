@@ -25,7 +25,7 @@ there_node made observed x n e = by_node (slice_get made x) (sym (ap (λ (o : Op
     by_node None e = absurd cc
     by_node (Some k) e = e
 
-is_live : (made : List Node) (observed : List ℕ) (x : ℕ) → x < length made → node_at (record { nodes = map (λ n. Some n) made; observed = observed }) x ≢ None
+pub is_live : (made : List Node) (observed : List ℕ) (x : ℕ) → x < length made → node_at (record { nodes = map (λ n. Some n) made; observed = observed }) x ≢ None
 is_live made observed x lt e = let there = at made x lt in let bad : Some there.0 ≡ None = sym (node_there made observed x there.0 there.1) ∙ e in absurd cc
   where
     at : (xs : List Node) (k : ℕ) → k < length xs → (n : Node) × (slice_get xs k ≡ Some n)
@@ -81,16 +81,16 @@ module _ (m : Model) where
   placed : (x : ℕ) (n : Node) → slice_get (last_state m).made x ≡ Some n → IsPlaced (length (source_names m)) x n
   placed x n e =
       elim (get_parts (start m).made made.gates x n (ap (λ (ns : List Node). slice_get ns x) (sym made.made_is) ∙ e)) [
-        inl s ↦ start_placed (length (source_names m)) x n s
+        | inl s ↦ start_placed (length (source_names m)) x n s
         | inr g ↦ inr (inr (inr ((let at : x ≡ length (start m).made + g.0 = g.1.0 in let l : length (start m).made ≡ 2 + length (source_names m) = start-length m in omega arith), gate_at made.gates g.0 n made.are_gates g.1.1)))
       ]
 
   pub sources_are : source_count (net_of_model m) ≡ length (source_names m)
   sources_are =
       let of_net : sum_by (λ (o : Option Node). count_in o source_in) (map (λ n. Some n) (last_state m).made) ≡ total (λ (n : Node). source_in n.kind) (last_state m).made =
-          sum-total (λ (o : Option Node). count_in o source_in) (map (λ n. Some n) (last_state m).made) ∙ total-map (λ (o : Option Node). count_in o source_in) (λ (n : Node). Some n) (last_state m).made in
+      sum-total (λ (o : Option Node). count_in o source_in) (map (λ n. Some n) (last_state m).made) ∙ total-map (λ (o : Option Node). count_in o source_in) (λ (n : Node). Some n) (last_state m).made in
       let parts : total (λ (n : Node). source_in n.kind) (last_state m).made ≡ total (λ (n : Node). source_in n.kind) (start m).made + total (λ (n : Node). source_in n.kind) made.gates =
-          ap (λ (ns : List Node). total (λ (n : Node). source_in n.kind) ns) made.made_is ∙ total-append (λ (n : Node). source_in n.kind) (start m).made made.gates in
+      ap (λ (ns : List Node). total (λ (n : Node). source_in n.kind) ns) made.made_is ∙ total-append (λ (n : Node). source_in n.kind) (start m).made made.gates in
       let gates : total (λ (n : Node). source_in n.kind) made.gates ≡ 0 = no_sources made.gates made.are_gates in
       let firsts : total (λ (n : Node). source_in n.kind) (replicate (length (source_names m)) (plain Source)) ≡ length (source_names m) = each_source (length (source_names m)) in
       of_net ∙ (parts ∙ omega arith)
@@ -104,9 +104,9 @@ module _ (m : Model) where
   gate_kind : (n : Node) → IsGateNode n → (n.kind ≡ Zero → ⊥) × ((n.kind ≡ One → ⊥) × (n.kind ≡ Source → ⊥))
   gate_kind n g =
       elim g [
-        inl a ↦ ((λ e. absurd cc), ((λ e. absurd cc), (λ e. absurd cc)))
+        | inl a ↦ ((λ e. absurd cc), ((λ e. absurd cc), (λ e. absurd cc)))
         | inr r ↦ elim r [
-          inl a ↦ ((λ e. absurd cc), ((λ e. absurd cc), (λ e. absurd cc)))
+          | inl a ↦ ((λ e. absurd cc), ((λ e. absurd cc), (λ e. absurd cc)))
           | inr b ↦ let a : n.kind ≡ Not = b.0 in ((λ e. absurd cc), ((λ e. absurd cc), (λ e. absurd cc)))
         ]
       ]
@@ -117,17 +117,17 @@ module _ (m : Model) where
     acyclic = ((λ x. x), λ y p x r. reads_lower y p x r);
     constants = record { zero_is = at_start 0 (plain Zero) refl; one_is = at_start 1 (plain One) refl };
     only_zero = λ x k. let n = by_kind x Zero k in elim (placed x n.0 n.1.0) [
-      inl a ↦ a.0
+      | inl a ↦ a.0
       | inr r ↦ elim r [ inl a ↦ (let e : n.0.kind ≡ Zero = n.1.1 in let f : n.0.kind ≡ One = a.1 in absurd cc) | inr s ↦ elim s [ inl a ↦ (let e : n.0.kind ≡ Zero = n.1.1 in let f : n.0.kind ≡ Source = a.1 in absurd cc) | inr g ↦ absurd ((gate_kind n.0 g.1).0 n.1.1) ] ]
     ];
     only_one = λ x k. let n = by_kind x One k in elim (placed x n.0 n.1.0) [
-      inl a ↦ (let e : n.0.kind ≡ One = n.1.1 in let f : n.0.kind ≡ Zero = a.1 in absurd cc)
+      | inl a ↦ (let e : n.0.kind ≡ One = n.1.1 in let f : n.0.kind ≡ Zero = a.1 in absurd cc)
       | inr r ↦ elim r [ inl a ↦ a.0 | inr s ↦ elim s [ inl a ↦ (let e : n.0.kind ≡ One = n.1.1 in let f : n.0.kind ≡ Source = a.1 in absurd cc) | inr g ↦ absurd ((gate_kind n.0 g.1).1.0 n.1.1) ] ]
     ];
     sources = record {
       first = λ k lt. let at : slice_get (start m).made (2 + k) ≡ Some (plain Source) = source_there (length (source_names m)) k (let e : source_count (net_of_model m) ≡ length (source_names m) = sources_are in omega arith) in at_start (2 + k) (plain Source) at;
       only = λ x k. let n = by_kind x Source k in elim (placed x n.0 n.1.0) [
-        inl a ↦ (let e : n.0.kind ≡ Source = n.1.1 in let f : n.0.kind ≡ Zero = a.1 in absurd cc)
+        | inl a ↦ (let e : n.0.kind ≡ Source = n.1.1 in let f : n.0.kind ≡ Zero = a.1 in absurd cc)
         | inr r ↦ elim r [ inl a ↦ (let e : n.0.kind ≡ Source = n.1.1 in let f : n.0.kind ≡ One = a.1 in absurd cc) | inr s ↦ elim s [ inl a ↦ (a.0.0, (let e : source_count (net_of_model m) ≡ length (source_names m) = sources_are in let lt : x < 2 + length (source_names m) = a.0.1 in omega arith)) | inr g ↦ absurd ((gate_kind n.0 g.1).1.1 n.1.1) ] ]
       ];
     };
@@ -165,13 +165,13 @@ module _ (m : Model) where
           let n = by_kind y Not k in
           let is : drivers_of (net_of_model m) y ≡ n.0.drivers = ap drivers_in k.1 in
           elim (placed y n.0 n.1.0) [
-            inl a ↦ (let e : n.0.kind ≡ Not = n.1.1 in let f : n.0.kind ≡ Zero = a.1 in absurd cc)
+            | inl a ↦ (let e : n.0.kind ≡ Not = n.1.1 in let f : n.0.kind ≡ Zero = a.1 in absurd cc)
             | inr r ↦ elim r [
-              inl a ↦ (let e : n.0.kind ≡ Not = n.1.1 in let f : n.0.kind ≡ One = a.1 in absurd cc)
+              | inl a ↦ (let e : n.0.kind ≡ Not = n.1.1 in let f : n.0.kind ≡ One = a.1 in absurd cc)
               | inr s ↦ elim s [
-                inl a ↦ (let e : n.0.kind ≡ Not = n.1.1 in let f : n.0.kind ≡ Source = a.1 in absurd cc)
+                | inl a ↦ (let e : n.0.kind ≡ Not = n.1.1 in let f : n.0.kind ≡ Source = a.1 in absurd cc)
                 | inr g ↦ elim g.1 [
-                  inl a ↦ (let e : n.0.kind ≡ Not = n.1.1 in absurd cc)
+                  | inl a ↦ (let e : n.0.kind ≡ Not = n.1.1 in absurd cc)
                   | inr b ↦ elim b [ inl a ↦ (let e : n.0.kind ≡ Not = n.1.1 in absurd cc) | inr d ↦ (d.1.0, is ∙ d.1.1) ]
                 ]
               ]
@@ -183,9 +183,9 @@ module _ (m : Model) where
   gates_after x g =
       let n = by_kind x g.0 g.1.0 in
       elim (placed x n.0 n.1.0) [
-        inl a ↦ absurd (not_gate Zero g.0 (sym a.1 ∙ n.1.1) (λ h. h) g.1.1)
+        | inl a ↦ absurd (not_gate Zero g.0 (sym a.1 ∙ n.1.1) (λ h. h) g.1.1)
         | inr r ↦ elim r [
-          inl a ↦ absurd (not_gate One g.0 (sym a.1 ∙ n.1.1) (λ h. h) g.1.1)
+          | inl a ↦ absurd (not_gate One g.0 (sym a.1 ∙ n.1.1) (λ h. h) g.1.1)
           | inr s ↦ elim s [ inl a ↦ absurd (not_gate Source g.0 (sym a.1 ∙ n.1.1) (λ h. h) g.1.1) | inr h ↦ h.0 ]
         ]
       ]

@@ -95,8 +95,8 @@ literals_wires s (x ∷ xs) (Zero ∷ ls) earlier h =
     let here = not_wires s x (s.not_of x) earlier refl h in
     let rest = literals_wires t xs ls (seen earlier (x ∷ [])) here.nots in
     counts_same s (literals t xs ls).0 (new_count earlier (x ∷ []) + new_count (seen earlier (x ∷ [])) (zero_names xs ls)) (new_count earlier (x ∷ zero_names xs ls)) (seen (seen earlier (x ∷ [])) (zero_names xs ls)) (seen earlier (x ∷ zero_names xs ls))
-      (sym (new_count-append earlier (x ∷ []) (zero_names xs ls))) (sym (seen-append earlier (x ∷ []) (zero_names xs ls)))
-      (then_counts s t (literals t xs ls).0 (new_count earlier (x ∷ [])) (new_count (seen earlier (x ∷ [])) (zero_names xs ls)) (seen earlier (x ∷ [])) (seen (seen earlier (x ∷ [])) (zero_names xs ls)) here rest)
+    (sym (new_count-append earlier (x ∷ []) (zero_names xs ls))) (sym (seen-append earlier (x ∷ []) (zero_names xs ls)))
+    (then_counts s t (literals t xs ls).0 (new_count earlier (x ∷ [])) (new_count (seen earlier (x ∷ [])) (zero_names xs ls)) (seen earlier (x ∷ [])) (seen (seen earlier (x ∷ [])) (zero_names xs ls)) here rest)
 
 pub literals_length : (s : State) (xs : List Word) (ls : List Literal) → length ls ≡ length xs → length (literals s xs ls).1 ≡ literal_count ls
 literals_length s [] [] e = refl
@@ -117,7 +117,7 @@ term_wires s xs row earlier len h =
     let ns : List ℕ = (literals s xs row).1 in
     let lits = literals_wires s xs row earlier h in
     then_counts s t (term s xs row).0 (new_count earlier (zero_names xs row)) (joining (literal_count row)) (seen earlier (zero_names xs row)) (seen earlier (zero_names xs row)) lits
-      (counts_same t (term s xs row).0 (joining (length ns)) (joining (literal_count row)) (seen earlier (zero_names xs row)) (seen earlier (zero_names xs row)) (ap joining (literals_length s xs row len)) refl (joined_wires t And 1 ns (seen earlier (zero_names xs row)) lits.nots))
+    (counts_same t (term s xs row).0 (joining (length ns)) (joining (literal_count row)) (seen earlier (zero_names xs row)) (seen earlier (zero_names xs row)) (ap joining (literals_length s xs row len)) refl (joined_wires t And 1 ns (seen earlier (zero_names xs row)) lits.nots))
 
 pub terms_wires : (s : State) (xs : List Word) (rows : List (List Literal)) (earlier : List Word) → AllByRecursion (λ (r : List Literal). length r ≡ length xs) rows → NotsAre earlier s.not_of
     → Counts s (terms s xs rows).0 (total (λ row. joining (literal_count row)) rows + new_count earlier (flat_map (zero_names xs) rows)) (seen earlier (flat_map (zero_names xs) rows))
@@ -130,8 +130,8 @@ terms_wires s xs (r ∷ rs) earlier len h =
     let rest = terms_wires t xs rs (seen earlier zs) len.1 first.nots in
     let count : new_count earlier (zs ++ rest_names) ≡ new_count earlier zs + new_count (seen earlier zs) rest_names = new_count-append earlier zs rest_names in
     counts_same s (terms t xs rs).0 ((new_count earlier zs + joining (literal_count r)) + (total (λ row. joining (literal_count row)) rs + new_count (seen earlier zs) rest_names)) ((joining (literal_count r) + total (λ row. joining (literal_count row)) rs) + new_count earlier (zs ++ rest_names))
-      (seen (seen earlier zs) rest_names) (seen earlier (zs ++ rest_names)) (omega arith) (sym (seen-append earlier zs rest_names))
-      (then_counts s t (terms t xs rs).0 (new_count earlier zs + joining (literal_count r)) (total (λ row. joining (literal_count row)) rs + new_count (seen earlier zs) rest_names) (seen earlier zs) (seen (seen earlier zs) rest_names) first rest)
+    (seen (seen earlier zs) rest_names) (seen earlier (zs ++ rest_names)) (omega arith) (sym (seen-append earlier zs rest_names))
+    (then_counts s t (terms t xs rs).0 (new_count earlier zs + joining (literal_count r)) (total (λ row. joining (literal_count row)) rs + new_count (seen earlier zs) rest_names) (seen earlier zs) (seen (seen earlier zs) rest_names) first rest)
 
 pub terms_length : (s : State) (xs : List Word) (rows : List (List Literal)) → length (terms s xs rows).1 ≡ length rows
 terms_length s xs [] = refl

@@ -2,3 +2,7 @@
 #![tactic(auto)]
 
 mod laws;
+
+pub use laws::{
+    decompositions_are_formed, decompositions_stand, needed_covers_are_taken, worked_rows,
+};
