@@ -2,6 +2,7 @@
 #![tactic(auto)]
 
 mod laws;
+mod plan;
 
 pub use laws::{
     decompositions_are_formed, decompositions_stand, needed_covers_are_taken, worked_rows,
