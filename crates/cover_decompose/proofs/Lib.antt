@@ -12,3 +12,4 @@ pub mod Wires
 pub mod WellFormed
 pub mod Points
 pub mod Counted
+pub mod PlanSteps
