@@ -1,0 +1,15 @@
+pub mod Joins
+pub mod Places
+pub mod Values
+pub mod Members
+pub mod Order
+pub mod Ranked
+pub mod Formed
+pub mod Started
+pub mod Stands
+pub mod Sums
+pub mod Wires
+pub mod WellFormed
+pub mod Points
+pub mod Counted
+pub mod PlanSteps

@@ -3,3 +3,5 @@ pub mod Decomposition
 pub mod Count
 pub mod StandsFor
 pub mod Rows
+pub mod Plan
+pub mod PlanView

@@ -15,3 +15,8 @@ pub record StandsFor (net : Net) (m : Model) : Type 0 where
   pub sources : source_count net ≡ length (source_names m)
   pub observed : length net.observed ≡ length (observed_names m)
   pub values : (a values : ℕ → Bool) (v : Word → Bool) → AreGoodValues net a values → IsConsistent m v → SameAssignment m a v → map values net.observed ≡ map v (observed_names m)
+
+-- equal observed names stand on one node, and a source's own name on its node
+pub record HasPoints (net : Net) (m : Model) : Type 0 where
+  pub same : (i j : ℕ) (x : Word) → slice_get (observed_names m) i ≡ Some x → slice_get (observed_names m) j ≡ Some x → slice_get net.observed i ≡ slice_get net.observed j
+  pub own : (i k : ℕ) (x : Word) → slice_get (observed_names m) i ≡ Some x → slice_get (source_names m) k ≡ Some x → slice_get net.observed i ≡ Some (2 + k)

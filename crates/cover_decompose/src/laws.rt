@@ -1,11 +1,19 @@
 // Laws of the definitions, each the contract of a function that does nothing.
-ghost use Rattle.std.specs.Prelude.{◌≡◌, [], ◌∷◌, map};
-ghost use Rattle.cover_decompose.specs.Needed.{IsNeeded};
+ghost use Rattle.std.specs.Prelude.{◌≡◌, ◌≢◌, ◌+◌, ◌<◌, ◌≤◌, ◌↔◌, ◌⊎◌, ℕ, [], ◌∷◌, Option, None, Some, Contains, length, slice_get, true};
+ghost use Rattle.gate_net.specs.Net.{IsGate, IsWellFormed as IsWellFormedNet, node_at, wire_count};
+ghost use Rattle.rm_model.specs.Ranks.{first_without_rank};
+ghost use Rattle.rm_model.specs.Value.{is_among, source_names};
+ghost use Rattle.rm_model.specs.WellFormed.{IsWellFormed};
+ghost use Rattle.rm_model.specs.declared.parts.Cover.{Cover};
+ghost use Rattle.cover_decompose.specs.Needed.{IsNeeded, taken};
 ghost use Rattle.cover_decompose.specs.Decomposition.{net_of_model};
 ghost use Rattle.cover_decompose.specs.Count.{decomposed};
-ghost use Rattle.cover_decompose.specs.StandsFor.{StandsFor};
+ghost use Rattle.cover_decompose.specs.StandsFor.{HasPoints, StandsFor};
 ghost use Rattle.cover_decompose.specs.Rows.{r2, r3, r5, mux, constant, dashed, net_with, and_gate, or_gate, not_gate};
 ghost use Rattle.rm_model.specs.declared.parts.Model.{Model};
+ghost use Rattle.rm_model.specs.Words.{Word};
+
+use rm_model::ranks_follow;
 
 /// Decompositions that are worked out by hand.
 pub fn worked_rows()
@@ -25,6 +33,26 @@ pub fn worked_rows()
     ensures dashed_wires { decomposed dashed ≡ 2 }
 {}
 
-pub fn any_law()
-    ensures { (m : Model) → StandsFor (net_of_model m) m → StandsFor (net_of_model m) m }
+/// The decomposition of a well-formed model with ranks stands for it.
+pub fn decompositions_stand()
+    ensures stands { (m : Model) → IsWellFormed m → first_without_rank m ≡ None → StandsFor (net_of_model m) m }
+    ensures points { (m : Model) → IsWellFormed m → first_without_rank m ≡ None → HasPoints (net_of_model m) m }
+    ensures wires { (m : Model) → IsWellFormed m → first_without_rank m ≡ None → wire_count (net_of_model m) ≡ decomposed m }
+{
+    ranks_follow();
+}
+
+/// The net of every decomposition is well formed, and its gates have the numbers after the sources, with no gap.
+pub fn decompositions_are_formed()
+    ensures formed { (m : Model) → IsWellFormedNet (net_of_model m) }
+    ensures gates { (m : Model) (x : ℕ) → IsGate (net_of_model m) x → 2 + length (source_names m) ≤ x }
+    ensures no_gaps { (m : Model) (x : ℕ) → x < length (net_of_model m).nodes → node_at (net_of_model m) x ≢ None }
 {}
+
+/// The covers taken are those whose output is needed, and each reads sources and the outputs of covers before it.
+pub fn needed_covers_are_taken()
+    ensures taken { (m : Model) (c : Cover) → IsWellFormed m → first_without_rank m ≡ None → Contains (taken m) c ↔ (Contains m.covers c × IsNeeded m c.output) }
+    ensures order { (m : Model) (j : ℕ) (d : Cover) (x : Word) → IsWellFormed m → first_without_rank m ≡ None → slice_get (taken m) j ≡ Some d → is_among d.inputs x ≡ true → (is_among (source_names m) x ≡ true) ⊎ ((i : ℕ) × ((c : Cover) × ((slice_get (taken m) i ≡ Some c) × ((c.output ≡ x) × (i < j))))) }
+{
+    ranks_follow();
+}

@@ -2,3 +2,8 @@
 #![tactic(auto)]
 
 mod laws;
+mod plan;
+
+pub use laws::{
+    decompositions_are_formed, decompositions_stand, needed_covers_are_taken, worked_rows,
+};

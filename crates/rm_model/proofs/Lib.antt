@@ -1,1 +1,3 @@
+mod CoverLemmas
 mod RankLaws
+mod RankedLaws

@@ -1,7 +1,10 @@
 // Laws of the definitions, each the contract of a function that does nothing.
-ghost use Rattle.std.specs.Prelude.{◌≡◌, ◌<◌, ℕ, Option, List, length, [], ◌∷◌, codes, false, true};
-ghost use Rattle.rm_model.specs.WellFormed.{is_token, IsWellFormed};
-ghost use Rattle.rm_model.specs.Ranks.{rank_at, ranks_of, AreRanks};
+ghost use Rattle.std.specs.Prelude.{◌≡◌, ◌<◌, ◌↔◌, ℕ, Option, List, slice_get, length, [], ◌∷◌, codes, false, true};
+ghost use Rattle.rm_model.specs.WellFormed.{driven_names, is_distinct, is_token, IsWellFormed};
+ghost use Rattle.rm_model.specs.Ranks.{cover_of, first_without_rank, rank_at, ranks_of, AreRanks};
+ghost use Rattle.rm_model.specs.Value.{IsRanked};
+ghost use Rattle.rm_model.specs.Words.{Word};
+ghost use Rattle.rm_model.specs.declared.parts.Cover.{Cover};
 ghost use Rattle.rm_model.specs.declared.parts.Model.{Model};
 
 /// Which words may stand in a text.
@@ -25,5 +28,18 @@ pub fn ranks_follow()
     ensures follow { (m : Model) → AreRanks m (ranks_of m) }
     ensures only { (m : Model) (ranks : List (Option ℕ)) → AreRanks m ranks → ranks ≡ ranks_of m }
     ensures small { (m : Model) (k n : ℕ) → rank_at (ranks_of m) k ≡ Some n → n < length m.covers }
+{
+}
+
+/// A model whose names have one driver each is ranked exactly where each of its covers has a rank, which is greater than those of the covers that it reads.
+pub fn ranks_exist()
+    ensures ranked {
+        (m : Model) → is_distinct (driven_names m) ≡ true → (IsRanked m ↔ (first_without_rank m ≡ None))
+    }
+    ensures lower {
+        (m : Model) (c : Cover) (x : Word) (k p j n : ℕ) → slice_get m.covers k ≡ Some c
+            → slice_get c.inputs p ≡ Some x → cover_of m.covers x ≡ Some j → rank_at (ranks_of m) k ≡ Some n
+            → ((i : ℕ) × ((rank_at (ranks_of m) j ≡ Some i) × (i < n)))
+    }
 {
 }

@@ -7,7 +7,7 @@ mod parts;
 mod points;
 mod value;
 
-pub use laws::{ranks_follow, tokens_are};
+pub use laws::{ranks_exist, ranks_follow, tokens_are};
 pub use list::Listed;
 pub use parts::{Cover, Latch, LatchKind, Literal, Model, Name, Row, Timing};
 pub use points::{observed, sources};
