@@ -1,5 +1,7 @@
 pub mod Tests
+pub mod Changes
 pub mod Steps
 pub mod Refusals
 pub mod Order
+pub mod Laws
 pub mod Rows

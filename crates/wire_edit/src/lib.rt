@@ -6,7 +6,7 @@ mod refusal;
 mod room;
 mod steps;
 
-pub use laws::worked_rows;
+pub use laws::{answers_apply, steps_keep, worked_rows};
 pub use refusal::EditRefusal;
 pub use room::Room;
 pub use steps::{Rule, Step};
