@@ -1,1 +1,13 @@
 pub mod Tested
+pub mod Totals
+pub mod Canonical
+pub mod Conditions
+pub mod Plain
+pub mod Redriven
+pub mod MovedForm
+pub mod Apart
+pub mod ApartForm
+pub mod Formed
+pub mod Observing
+pub mod Keeping
+pub mod Answering
