@@ -11,3 +11,7 @@ pub mod Formed
 pub mod Observing
 pub mod Keeping
 pub mod Answering
+pub mod Ordering
+pub mod Counting
+pub mod Working
+pub mod Ending

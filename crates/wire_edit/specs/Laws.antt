@@ -35,6 +35,20 @@ StepsKeepObserved = (net : Net) (step : Step) → IsWellFormed net → Applies n
 abbrev pub StepsKeepValues : Type 0
 StepsKeepValues = (net : Net) (step : Step) → IsWellFormed net → Applies net step → IsSound net step → KeepsPlaces net (stepped net step)
 
+-- a local rule but NewNot
+abbrev pub IsTidying : Step → Type 0
+IsTidying (Add gate node) = ⊥
+IsTidying (Fix gate position value) = ⊥
+IsTidying (NewNot node) = ⊥
+IsTidying _ = Unit {0}
+
+-- the next step may be made, and where there is none no such rule applies
+abbrev pub NextApplies : Type 0
+NextApplies = (net : Net) (step : Step) → next_step net ≡ Some step → IsTidying step × Applies net step
+
+abbrev pub TidyMeans : Type 0
+TidyMeans = (net : Net) → IsTidy net ↔ ((step : Step) → IsTidying step → Applies net step → ⊥)
+
 -- a step that isn't refused may be made
 abbrev pub AnswersApply : Type 0
 AnswersApply = (net : Net) (room : Room) (step : Step) → IsAnswer net room step None → Applies net step

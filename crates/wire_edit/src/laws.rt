@@ -1,6 +1,7 @@
 //! Laws of the steps.
 ghost use Rattle.std.specs.Prelude.{◌≡◌, Some, None, true, false};
-ghost use Rattle.wire_edit.specs.Laws.{StepsKeepForm, StepsKeepObserved, StepsKeepValues, AnswersApply};
+ghost use Rattle.wire_edit.specs.Laws.{StepsKeepForm, StepsKeepObserved, StepsKeepValues, AnswersApply, NextApplies, TidyMeans};
+ghost use Rattle.wire_edit.specs.Work.{TidyingEnds, FixesEnd, AddsRaise, WorkIsBounded, WiresGrow};
 ghost use Rattle.wire_edit.specs.Steps.{stepped};
 ghost use Rattle.wire_edit.specs.Refusals.{refusal_of};
 ghost use Rattle.wire_edit.specs.Order.{next_step};
@@ -17,6 +18,21 @@ pub fn steps_keep()
 /// A step that isn't refused may be made.
 pub fn answers_apply()
     ensures { AnswersApply }
+{}
+
+/// The next step may be made, and a net is tidy where no local rule but `NewNot` applies.
+pub fn order_tells()
+    ensures next { NextApplies }
+    ensures tidy { TidyMeans }
+{}
+
+/// Tidying ends: each of its steps lowers a sum that the wires and the live nodes bound.
+pub fn tidying_ends()
+    ensures tidying { TidyingEnds }
+    ensures fixes { FixesEnd }
+    ensures adds { AddsRaise }
+    ensures bounded { WorkIsBounded }
+    ensures wires { WiresGrow }
 {}
 
 /// Rows that are worked out by hand.

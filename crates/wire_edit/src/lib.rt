@@ -6,7 +6,7 @@ mod refusal;
 mod room;
 mod steps;
 
-pub use laws::{answers_apply, steps_keep, worked_rows};
+pub use laws::{answers_apply, order_tells, steps_keep, tidying_ends, worked_rows};
 pub use refusal::EditRefusal;
 pub use room::Room;
 pub use steps::{Rule, Step};
