@@ -55,7 +55,7 @@ control_gate Not c e = cc
 abbrev pub junction_kind : (net : Net) (x : ℕ) (c : Bool) → IsJunction net x c → IsGate net x
 junction_kind net x c j = (j.0, (j.1.0, control_gate j.0 c j.1.1))
 
-control_not : (kind : Kind) (c : Bool) → controlling kind ≡ Some c → kind ≡ Not → ⊥
+pub control_not : (kind : Kind) (c : Bool) → controlling kind ≡ Some c → kind ≡ Not → ⊥
 control_not kind c e is = let wrong : controlling Not ≡ Some c = rw is at e in cc
 
 alive : (net : Net) (x : ℕ) → IsLive net x → node_at net x ≢ None

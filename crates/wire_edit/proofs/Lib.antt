@@ -15,3 +15,4 @@ pub mod Ordering
 pub mod Counting
 pub mod Working
 pub mod Ending
+pub mod Staying

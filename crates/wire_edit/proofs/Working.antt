@@ -145,8 +145,8 @@ module _ (net : Net) (gate : ℕ) (ds : List ℕ) (g : IsGate net gate) where
   there : node_at after gate ≡ Some (record { kind = g.0; drivers = ds })
   there = node_at-there net gate ds node g.1.0.1
 
-  kinds : (x : ℕ) → kind_of after x ≡ kind_of net x
-  kinds x = elim (eqb_tells x gate) [
+  pub with_kinds : (x : ℕ) → kind_of after x ≡ kind_of net x
+  with_kinds x = elim (eqb_tells x gate) [
     | inl t ↦ ap (kind_of after) t.1 ∙ ap kind_in there ∙ sym (ap (kind_of net) t.1 ∙ ap kind_in g.1.0.1)
     | inr t ↦ ap kind_in (node_at-other net gate ds x t.1)
   ]
@@ -155,7 +155,7 @@ module _ (net : Net) (gate : ℕ) (ds : List ℕ) (g : IsGate net gate) where
   old = ap drivers_in g.1.0.1
 
   pub with_used : (Extra : ℕ → Type 0) → ((x p : ℕ) → is_gate net x ≡ true → slice_get ds p ≡ Some x → ((q : ℕ) × Reads net gate q x) ⊎ Extra x) → (x : ℕ) → is_used_gate after x ≡ true → (is_used_gate net x ≡ true) ⊎ Extra x
-  with_used Extra h = use_back net after Extra (λ x e. gate_same net after x (kinds x) e) reads (λ x k o. inl (observed_in_use net x o))
+  with_used Extra h = use_back net after Extra (λ x e. gate_same net after x (with_kinds x) e) reads (λ x k o. inl (observed_in_use net x o))
     where
       reads : (x y p : ℕ) → is_gate net x ≡ true → Reads after y p x → (is_in_use net x ≡ true) ⊎ Extra x
       reads x y p k r = elim (eqb_tells y gate) [
@@ -254,7 +254,7 @@ module _ (net : Net) (from to : ℕ) (well : IsWellFormed net) (can : CanChange 
   moved_drivers : (y : ℕ) → drivers_of moved y ≡ map (redirected from to) (drivers_of net y)
   moved_drivers y = ap drivers_in (node_at-moved net from to y) ∙ drivers_redirected from to (node_at net y)
 
-  moved_kinds : (x : ℕ) → kind_of moved x ≡ kind_of net x
+  pub moved_kinds : (x : ℕ) → kind_of moved x ≡ kind_of net x
   moved_kinds x = ap kind_in (node_at-moved net from to x) ∙ same (node_at net x)
     where
       same : (o : Option Node) → kind_in (node_redirected from to o) ≡ kind_in o

@@ -3,6 +3,7 @@ pub mod Changes
 pub mod Steps
 pub mod Refusals
 pub mod Order
+pub mod Touched
 pub mod Work
 pub mod Laws
 pub mod Rows
