@@ -7,6 +7,7 @@ pub mod Kept
 pub mod Started
 pub mod Bounded
 pub mod Placed
+pub mod Listed
 pub mod Fresh
 pub mod NetOf
 pub mod Pinned

@@ -120,3 +120,19 @@ pub(crate) fn next_reading(pins: &mut PinIter<'_>, pool: &Pool) -> Option<PinNo>
     }
     None
 }
+
+// Whether an observed place is among the readers of a node.
+pub(crate) fn observes(pool: &Pool, node: u32) -> bool
+    requires within { node < length pool.now.fanouts }
+    requires linked { (p : ℕ) → has p (list_of pool.now.fanouts node) ≡ true → IsLinked pool.now p }
+    ensures found { result ≡ true → (p : ℕ) × ((has p (list_of pool.now.fanouts node) ≡ true) × (has p (list_of pool.now.inputs 0) ≡ true)) }
+    ensures none { result ≡ false → (p : ℕ) → has p (list_of pool.now.fanouts node) ≡ true → has p (list_of pool.now.inputs 0) ≡ false }
+{
+    look(pool);
+    for pin in pool.fanouts(node) {
+        if pool.gate_of(pin) == 0 {
+            return true;
+        }
+    }
+    false
+}

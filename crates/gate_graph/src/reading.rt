@@ -6,7 +6,7 @@ ghost use Rattle.gate_graph.specs.Circuit.{net_of, fanouts_of, IsGraph, gate_pin
 ghost use Rattle.gate_net.specs.Net.{drivers_of, IsLive, IsObserved};
 
 use crate::driver_iter::Inputs;
-use crate::pins::{last_live, nth_pin, pins_of_gate};
+use crate::pins::{last_live, nth_pin, observes, pins_of_gate};
 use crate::reader_iter::Fanouts;
 use crate::rings::look;
 use crate::state::Graph;
@@ -125,12 +125,7 @@ impl Graph {
         if node.0 as usize >= self.kinds.len() {
             return false;
         }
-        for pin in self.pool.fanouts(node.0) {
-            if self.pool.gate_of(pin) == 0 {
-                return true;
-            }
-        }
-        false
+        observes(&self.pool, node.0)
     }
 
     /// One more than the greatest number of a live node.

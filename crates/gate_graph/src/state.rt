@@ -78,6 +78,7 @@ impl Graph {
     pub(crate) fn tell(&self)
         ensures graph { IsGraph self.now }
         ensures rings { AreRings (rings_of self.now.pool) }
+        ensures nodes { length self.now.pool.fanouts ≡ length self.now.pool.inputs }
     {
         look(&self.pool);
         let _kinds = &self.kinds;

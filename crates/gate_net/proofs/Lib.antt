@@ -9,3 +9,5 @@ pub mod Fixed
 pub mod Added
 pub mod Ordered
 pub mod Moved
+pub mod Follows
+pub mod Readings

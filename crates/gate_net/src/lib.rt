@@ -1,6 +1,7 @@
 //! What a net of gates is: its nodes and pins, its good and faulty values, its changes, and their laws.
 #![tactic(auto)]
 
+ghost use Rattle.gate_net.specs.Forward.{ReadingsHold, ReadingsAgree};
 ghost use Rattle.gate_net.specs.Laws.{ValuesExist, FaultyValuesExist, OutsideIsEqual, ChainsDecide, IdlePinsChangeNothing, FixesKeep, FixesKeepAcyclic, AddsKeep, PinsKeepAcyclic, MovesKeep, TwiceKeeps, MovesKeepAcyclic};
 
 /// What a node is.
@@ -37,6 +38,16 @@ pub fn chains_decide()
 /// A stuck pin that reads what it is stuck at changes no value.
 pub fn idle_pins_change_nothing()
     ensures { IdlePinsChangeNothing }
+{}
+
+/// What forward reading marks is true for every completion of the known sources.
+pub fn readings_hold()
+    ensures { ReadingsHold }
+{}
+
+/// There is one forward reading at most.
+pub fn readings_agree()
+    ensures { ReadingsAgree }
 {}
 
 /// A pin whose fault is undetected may read the constant.

@@ -1,3 +1,4 @@
 pub mod Words
 pub mod Value
 pub mod Ranks
+pub mod WellFormed

@@ -1,5 +1,5 @@
 -- The rank of each cover: 0 where it reads sources alone, and otherwise one more than the greatest rank of the covers that it reads.
-use Rattle.std.specs.Prelude.{◌≡◌, ℕ, zero, suc, List, [], ◌∷◌, map, length, max, Option, None, Some, slice_index_or, if◌then◌else◌, replicate}
+use Rattle.std.specs.Prelude.{◌≡◌, ℕ, zero, suc, Bool, true, false, List, [], ◌∷◌, map, length, max, position, Option, None, Some, slice_index_or, if◌then◌else◌, replicate}
 use Rattle.std.specs.Option.{option_map}
 use Rattle.rm_model.specs.Words.{Word, is_word}
 use Rattle.rm_model.specs.declared.parts.Cover.{Cover}
@@ -20,10 +20,14 @@ abbrev pub highest : List (Option ℕ) → Option ℕ
 highest [] = Some 0
 highest (r ∷ rs) = higher r (highest rs)
 
+-- the rank at a place, None past the end
+abbrev pub rank_at : List (Option ℕ) → ℕ → Option ℕ
+rank_at ranks k = slice_index_or ranks k None
+
 -- the least rank of a reader of what drives a name: a source, or the cover at that place
 abbrev pub rank_above : List (Option ℕ) → Option ℕ → Option ℕ
 rank_above ranks None = Some 0
-rank_above ranks (Some k) = option_map (λ n. suc n) (slice_index_or ranks k None)
+rank_above ranks (Some k) = option_map (λ n. suc n) (rank_at ranks k)
 
 -- the rank of a cover by the ranks of those that it reads
 abbrev pub rank_by : Model → List (Option ℕ) → Cover → Option ℕ
@@ -41,3 +45,11 @@ ranks_of m = ranks_below (length m.covers) m
 -- these are the ranks: each follows from the others
 abbrev pub AreRanks : Model → List (Option ℕ) → Type 0
 AreRanks m ranks = ranks ≡ map (rank_by m ranks) m.covers
+
+abbrev pub is_missing : Option ℕ → Bool
+is_missing None = true
+is_missing (Some n) = false
+
+-- the place of the first cover without rank
+abbrev pub first_without_rank : Model → Option ℕ
+first_without_rank m = position is_missing (ranks_of m)

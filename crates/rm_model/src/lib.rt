@@ -1,11 +1,13 @@
 //! The model of a BLIF text: names, covers and latches, and what they mean.
 #![tactic(auto)]
 
+mod laws;
 mod list;
 mod parts;
 mod points;
 mod value;
 
+pub use laws::{ranks_follow, tokens_are};
 pub use list::Listed;
 pub use parts::{Cover, Latch, LatchKind, Literal, Model, Name, Row, Timing};
 pub use points::{observed, sources};

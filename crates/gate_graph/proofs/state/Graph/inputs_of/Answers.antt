@@ -2,6 +2,7 @@ use Rattle.std.proofs.Common.{◌≡◌, map, arith, ap, sym, ◌∙◌, Some, N
 use Rattle.gate_net.specs.declared.Kind.TheVariants.{One}
 use Rattle.pin_pool.specs.Ring.{has}
 use Rattle.gate_graph.specs.Circuit.{Circuit, IsGraph, home}
+use Rattle.std.proofs.lemmas.List.{length-map}
 use Rattle.gate_graph.proofs.LeadOns.{live-in}
 use Rattle.gate_graph.proofs.KindAt.{kind-within}
 use Rattle.gate_graph.proofs.Pinned.{linked-gate, drivers-all}

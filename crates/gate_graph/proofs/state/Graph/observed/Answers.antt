@@ -1,10 +1,10 @@
-use Rattle.std.proofs.Common.{rules, ◌≡◌, ◌+◌, ◌<◌, ◌≤◌, ◌↔◌, [], Some, None, IsTrue, true, length, slice_get, ℕ, ◌-◌, ◌*◌, ◌/◌, ◌%◌, Bool, false, nat_eq, nat_lt, List, ◌∷◌, ◌++◌, slice_index_or, slice_set, bit_and, bit_or, Fits, w8, w32, w64, Bor, MutBor}
-use Rattle.std.specs.Option.{option_map}
-use Rattle.gate_graph.specs.Rings.{rings_of, AreRings, IsIn, kind_at}
-use Rattle.gate_graph.specs.Circuit.{net_of, fanouts_of, IsGraph, gate_pins}
-use Rattle.gate_net.specs.Net.{drivers_of, IsLive, IsObserved}
+use Rattle.std.proofs.Common.{◌≡◌, ◌<◌, ℕ, List, length, map, refl, sym, ap, ◌∙◌, true, arith}
+use Rattle.gate_graph.specs.Circuit.{Circuit, home}
+use Rattle.gate_graph.proofs.NetOf.{observed-net}
 use Rattle.gate_graph.proofs.state.Graph.observed.Goals as goal
 
--- src/reading.rt:83:5
 pub returns-clause-observed : goal.returns-clause-observed
-returns-clause-observed c = ?
+returns-clause-observed c =
+    let i = c.self.inside in
+    let v : Circuit = record { kinds = i.kinds.items; pool = i.pool; epoch = i.epoch } in
+    rw (← c.self.view_is) (ap (map (home i.pool.fanouts)) c.inputs.ensures.list ∙ sym (observed-net v))

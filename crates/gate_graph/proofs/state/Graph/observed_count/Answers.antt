@@ -1,22 +1,10 @@
-use Rattle.std.proofs.Common.{rules, ◌≡◌, ◌+◌, ◌<◌, ◌≤◌, ◌↔◌, [], Some, None, IsTrue, true, length, slice_get, ℕ, ◌-◌, ◌*◌, ◌/◌, ◌%◌, Bool, false, nat_eq, nat_lt, List, ◌∷◌, ◌++◌, slice_index_or, slice_set, bit_and, bit_or, Fits, w8, w32, w64, Bor, MutBor}
-use Rattle.std.specs.Option.{option_map}
-use Rattle.gate_graph.specs.Rings.{rings_of, AreRings, IsIn, kind_at}
-use Rattle.gate_graph.specs.Circuit.{net_of, fanouts_of, IsGraph, gate_pins}
-use Rattle.gate_net.specs.Net.{drivers_of, IsLive, IsObserved}
+use Rattle.std.proofs.Common.{◌≡◌, ◌+◌, ℕ, ◌++◌, map, length, length-append, ap, ◌∙◌, arith}
+use Rattle.std.proofs.lemmas.List.{length-map}
+use Rattle.rm_base.specs.declared.numbers.NodeId.{NodeId}
 use Rattle.gate_graph.proofs.state.Graph.observed_count.Goals as goal
 
--- src/reading.rt:99:9
-pub loop-init : goal.loop-init
-loop-init c = ?
-
--- src/reading.rt:100:13
 pub overflow_add-count : goal.overflow_add-count
-overflow_add-count c = ?
-
--- src/reading.rt:99:9
-pub loop-preserved : goal.loop-preserved
-loop-preserved c = ?
-
--- src/reading.rt:95:5
-pub returns : goal.returns
-returns c = ?
+overflow_add-count c =
+    let i = c.loop.invariant in
+    let all = ap length i.all ∙ length-append (map (λ (n : NodeId). n.0) c.loop.yielded) c.loop.iterator' in
+    omega (arith, i.count, all, length-map c.loop.yielded (λ (n : NodeId). n.0), ap length c.in-Some.ensures.steps, c.observed-items.ensures.few, ap length c.observed-items.ensures.observed)

@@ -1,0 +1,46 @@
+-- The number of wires of a decomposition, summed over the needed covers.
+use Rattle.std.specs.Prelude.{ℕ, zero, suc, ◌+◌, List, [], ◌∷◌, length, sum_by, if◌then◌else◌}
+use Rattle.std.specs.List.{flat_map}
+use Rattle.rm_model.specs.Words.{Word}
+use Rattle.rm_model.specs.Value.{is_among}
+use Rattle.rm_model.specs.declared.parts.Literal.{Literal}
+use Rattle.rm_model.specs.declared.parts.Literal.TheVariants.{Zero, One, Any}
+use Rattle.rm_model.specs.declared.parts.Cover.{Cover}
+use Rattle.rm_model.specs.declared.parts.Model.{Model}
+use Rattle.cover_decompose.specs.Needed.{taken}
+
+abbrev pub literal_count : List Literal → ℕ
+literal_count [] = 0
+literal_count (Any ∷ ls) = literal_count ls
+literal_count (Zero ∷ ls) = suc (literal_count ls)
+literal_count (One ∷ ls) = suc (literal_count ls)
+
+-- two or more are joined by a gate, with a wire for each
+abbrev pub joining : ℕ → ℕ
+joining zero = 0
+joining (suc zero) = 0
+joining (suc (suc n)) = suc (suc n)
+
+-- the literals of rows with two or more, the rows where there are two or more, and one where the rows end in 0
+abbrev pub cover_wires : Cover → ℕ
+cover_wires c = (sum_by (λ row. joining (literal_count row)) c.rows + joining (length c.rows)) + (if c.on then 0 else 1)
+
+-- the names that a row reads as 0
+abbrev pub zero_names : List Word → List Literal → List Word
+zero_names (x ∷ xs) (Zero ∷ ls) = x ∷ zero_names xs ls
+zero_names (x ∷ xs) (One ∷ ls) = zero_names xs ls
+zero_names (x ∷ xs) (Any ∷ ls) = zero_names xs ls
+zero_names [] ls = []
+zero_names (x ∷ xs) [] = []
+
+abbrev pub cover_zero_names : Cover → List Word
+cover_zero_names c = flat_map (zero_names c.inputs) c.rows
+
+-- how many names there are beside some earlier ones, each counted once
+abbrev pub new_count : List Word → List Word → ℕ
+new_count earlier [] = 0
+new_count earlier (x ∷ xs) = if is_among earlier x then new_count earlier xs else suc (new_count (x ∷ earlier) xs)
+
+-- the wires of the needed covers, and one for each signal that one of them reads as 0
+abbrev pub decomposed : Model → ℕ
+decomposed m = sum_by cover_wires (taken m) + new_count [] (flat_map cover_zero_names (taken m))

@@ -1,0 +1,5 @@
+pub mod Needed
+pub mod Decomposition
+pub mod Count
+pub mod StandsFor
+pub mod Rows
