@@ -1,13 +1,13 @@
 -- The steps: when each may be made, and the net to which it leads.
-use Rattle.std.specs.Prelude.{◌≡◌, ◌≢◌, ℕ, ◌<◌, Bool, true, false, not, ◌&&◌, Option, Some, None, List, [], ◌∷◌, length, nat_eq, nat_lt, slice_set, option_map, if◌then◌else◌}
-use Rattle.gate_net.specs.declared.Kind.TheVariants.{Not}
-use Rattle.gate_net.specs.Net.{Node, Net, drivers_of, trimmed}
+use Rattle.std.specs.Prelude.{◌≡◌, ◌≢◌, ℕ, ◌<◌, Bool, true, false, not, ◌&&◌, Option, Some, None, length, nat_eq, nat_lt, if◌then◌else◌}
+use Rattle.gate_net.specs.Net.{Net, drivers_of}
 use Rattle.gate_net.specs.Values.{same_bool}
 use Rattle.gate_net.specs.Paths.{Reaches}
-use Rattle.gate_net.specs.Edits.{with_pin, without_pin, fixed, constant_node, with_readers_moved}
+use Rattle.gate_net.specs.Edits.{constant_node}
+use Rattle.wire_edit.specs.Changes.{Change, append, remove, fix, readers, new_not, retire, changed}
 use Rattle.wire_edit.specs.declared.steps.Step.{Step}
 use Rattle.wire_edit.specs.declared.steps.Step.TheVariants.{Add, Fix, NewNot, Const, Same, NoPins, OnePin, Twice, Twin, Dead}
-use Rattle.wire_edit.specs.Tests.{is_present, is_live, is_junction, is_not, is_gate, control_of, driver_at, constant_at, second_driver, is_among, is_in_use, is_some_among, is_repeated}
+use Rattle.wire_edit.specs.Tests.{is_present, is_live, is_junction, is_not, is_gate, control_of, driver_at, constant_at, second_driver, is_among, is_in_use, is_repeated}
 
 abbrev pub is_not_at : Net → Option ℕ → Bool
 is_not_at net None = false
@@ -39,43 +39,37 @@ Applies net (Add gate node) =
 Applies net (Fix gate position value) = (is_gate net gate.0 ≡ true) × (position < length (drivers_of net gate.0))
 Applies net step = rule_applies net step ≡ true
 
--- a dead number among them, or the next one, has the node instead
-abbrev pub with_least_free : List (Option Node) → Node → List (Option Node)
-with_least_free [] n = Some n ∷ []
-with_least_free (None ∷ os) n = Some n ∷ os
-with_least_free (Some m ∷ os) n = Some m ∷ with_least_free os n
+abbrev pub or_zero : Option ℕ → ℕ
+or_zero None = 0
+or_zero (Some x) = x
 
--- a Not of the node has the least free number
-abbrev pub with_new_not : Net → ℕ → Net
-with_new_not net x = record net { nodes = with_least_free net.nodes (record { kind = Not; drivers = x ∷ [] }) }
+-- of a pin that reads a constant: by the controlling value of an And or an Or, and else at a Not
+abbrev pub constant_change : ℕ → ℕ → Option Bool → Option Bool → Change
+constant_change gate position control None = remove gate position
+constant_change gate position (Some c) (Some b) = if same_bool b c then readers gate (constant_node c) else remove gate position
+constant_change gate position None (Some b) = readers gate (constant_node (not b))
 
--- the node and its pins are gone
-abbrev pub without_node : Net → ℕ → Net
-without_node net x = record net { nodes = trimmed (slice_set net.nodes x None) }
+-- what an And or an Or without pins gives
+abbrev pub empty_node : Option Bool → ℕ
+empty_node None = 0
+empty_node (Some c) = constant_node (not c)
 
-abbrev pub with_readers_at : Net → ℕ → Option ℕ → Net
-with_readers_at net gate None = net
-with_readers_at net gate (Some x) = with_readers_moved net gate x
-
--- of a pin that reads a constant: at an And or an Or by the controlling value, and else at a Not
-abbrev pub without_constant : Net → ℕ → ℕ → Option Bool → Option Bool → Net
-without_constant net gate position control None = net
-without_constant net gate position (Some c) (Some b) =
-    if same_bool b c then with_readers_moved net gate (constant_node c) else without_pin net gate position
-without_constant net gate position None (Some b) = with_readers_moved net gate (constant_node (not b))
+-- the change that the step makes
+abbrev pub change_of : Net → Step → Change
+change_of net (Add gate node) = append gate.0 node.0
+change_of net (Fix gate position value) = fix gate.0 position value
+change_of net (NewNot node) = new_not node.0
+change_of net (Const gate position) = constant_change gate.0 position (control_of net gate.0) (constant_at net gate.0 position)
+change_of net (Same gate position) = remove gate.0 position
+change_of net (NoPins gate) = readers gate.0 (empty_node (control_of net gate.0))
+change_of net (OnePin gate) = readers gate.0 (or_zero (driver_at net gate.0 0))
+change_of net (Twice gate) = readers gate.0 (or_zero (second_driver net gate.0))
+change_of net (Twin gate other) = readers gate.0 other.0
+change_of net (Dead gate) = retire gate.0
 
 -- the net to which a step leads
 abbrev pub stepped : Net → Step → Net
-stepped net (Add gate node) = with_pin net gate.0 node.0
-stepped net (Fix gate position value) = fixed net (record { gate = gate; position = position; value = value })
-stepped net (NewNot node) = with_new_not net node.0
-stepped net (Const gate position) = without_constant net gate.0 position (control_of net gate.0) (constant_at net gate.0 position)
-stepped net (Same gate position) = without_pin net gate.0 position
-stepped net (NoPins gate) = with_readers_at net gate.0 (option_map (λ c. constant_node (not c)) (control_of net gate.0))
-stepped net (OnePin gate) = with_readers_at net gate.0 (driver_at net gate.0 0)
-stepped net (Twice gate) = with_readers_at net gate.0 (second_driver net gate.0)
-stepped net (Twin gate other) = with_readers_moved net gate.0 other.0
-stepped net (Dead gate) = without_node net gate.0
+stepped net step = changed net (change_of net step)
 
 abbrev pub IsLocal : Step → Type 0
 IsLocal (Add gate node) = ⊥
