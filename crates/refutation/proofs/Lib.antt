@@ -8,3 +8,4 @@ pub mod Grows
 pub mod Closings
 pub mod Depths
 pub mod Searches
+pub mod FactMarks

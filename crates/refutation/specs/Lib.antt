@@ -6,3 +6,4 @@ pub mod Closing
 pub mod Learning
 pub mod OpenSearch
 pub mod Laws
+pub mod FactSets
