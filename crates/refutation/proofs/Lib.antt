@@ -9,3 +9,4 @@ pub mod Closings
 pub mod Depths
 pub mod Searches
 pub mod FactMarks
+pub mod Looks

@@ -7,3 +7,5 @@ pub mod Learning
 pub mod OpenSearch
 pub mod Laws
 pub mod FactSets
+pub mod Pins
+pub mod Answers

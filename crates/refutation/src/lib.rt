@@ -4,6 +4,7 @@
 mod held;
 mod items;
 pub mod laws;
+pub mod pins;
 mod reasoning;
 mod trees;
 
