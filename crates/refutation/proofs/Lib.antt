@@ -10,3 +10,5 @@ pub mod Depths
 pub mod Searches
 pub mod FactMarks
 pub mod Looks
+pub mod Told
+pub mod Walks

@@ -5,6 +5,7 @@ ghost use Rattle.gate_net.specs.Values.{controlling};
 ghost use Rattle.gate_net.specs.Forward.{junction_follows, junction_back, is_known, not_known, all_but};
 ghost use Rattle.refutation.specs.Facts.{one_of};
 ghost use Rattle.refutation.specs.FactSets.{held_by};
+ghost use Rattle.refutation.specs.Lines.{IsStuckPin};
 ghost use Rattle.refutation.specs.Pins.{known_on, pin_value, stuck_of, Glances};
 
 use crate::held::FactSet;
@@ -162,3 +163,10 @@ pub(crate) fn opposite(known: Option<bool>) -> Option<bool>
     }
 }
 
+
+/// Whether the pin is the stuck one.
+pub fn is_stuck(fault: &Fault, node: NodeId, position: u32) -> bool
+    ensures { IsTrue result ↔ IsStuckPin fault.now node.0 position }
+{
+    node.0 == fault.gate.0 && position == fault.position
+}
