@@ -17,7 +17,7 @@ use Rattle.refutation.specs.declared.pins.Stuck.{Stuck}
 use Rattle.rm_base.specs.declared.numbers.Fault.{Fault}
 use mathlib.Core.Bool.{beq}
 
-slice_get_below : {A : Type 0} (xs : List A) (x : ℕ) → slice_get xs x ≢ None → x < length xs
+pub slice_get_below : {A : Type 0} (xs : List A) (x : ℕ) → slice_get xs x ≢ None → x < length xs
 slice_get_below [] x h = absurd (h refl)
 slice_get_below (y ∷ xs) zero h = omega arith
 slice_get_below (y ∷ xs) (suc x) h = let rest : x < length xs = slice_get_below xs x h in omega arith
