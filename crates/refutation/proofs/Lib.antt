@@ -8,3 +8,7 @@ pub mod Grows
 pub mod Closings
 pub mod Depths
 pub mod Searches
+pub mod FactMarks
+pub mod Looks
+pub mod Told
+pub mod Walks

@@ -6,3 +6,6 @@ pub mod Closing
 pub mod Learning
 pub mod OpenSearch
 pub mod Laws
+pub mod FactSets
+pub mod Pins
+pub mod Answers
