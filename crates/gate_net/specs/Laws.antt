@@ -4,8 +4,8 @@ use Rattle.rm_base.specs.declared.numbers.Fault.{Fault}
 use Rattle.gate_net.specs.declared.Kind.{Kind}
 use Rattle.gate_net.specs.declared.Kind.TheVariants.{Not}
 use Rattle.gate_net.specs.Net.{Net, Reads, IsKind, IsLive, IsAcyclic, HasConstants}
-use Rattle.gate_net.specs.Values.{AreGoodValues, AreFaultyValues, SameObserved, IsUndetected, controlling}
-use Rattle.gate_net.specs.Paths.{Reaches}
+use Rattle.gate_net.specs.Values.{AreGoodValues, AreFaultyValues, IsRun, SameObserved, IsUndetected, controlling}
+use Rattle.gate_net.specs.Paths.{Reaches, IsInChain}
 use Rattle.gate_net.specs.Edits.{fixed, with_pin, last_pin, with_readers_moved}
 
 -- there is one valuation for each assignment, and only one
@@ -17,6 +17,21 @@ ValuesExist =
 abbrev pub FaultyValuesExist : Type 0
 FaultyValuesExist =
     (net : Net) (fault : Fault) → IsAcyclic net → (a : ℕ → Bool) → (f : ℕ → Bool) × (AreFaultyValues net fault a f × ((w : ℕ → Bool) → AreFaultyValues net fault a w → (x : ℕ) → f x ≡ w x))
+
+-- what the fault doesn't reach has one value in both
+abbrev pub OutsideIsEqual : Type 0
+OutsideIsEqual =
+    (net : Net) (fault : Fault) → IsAcyclic net → (a v f : ℕ → Bool) → IsRun net fault a v f → (y : ℕ) → y ≢ fault.gate.0 → (Reaches net fault.gate.0 y → ⊥) → v y ≡ f y
+
+-- where a node of the chain is equal, no observed node differs
+abbrev pub ChainsDecide : Type 0
+ChainsDecide =
+    (net : Net) (fault : Fault) → IsAcyclic net → (a v f : ℕ → Bool) → IsRun net fault a v f → (y : ℕ) → IsInChain net fault.gate.0 y → v y ≡ f y → SameObserved net v f
+
+-- a stuck pin that reads what it is stuck at changes nothing
+abbrev pub IdlePinsChangeNothing : Type 0
+IdlePinsChangeNothing =
+    (net : Net) (fault : Fault) → IsAcyclic net → (a v f : ℕ → Bool) → IsRun net fault a v f → (driver : ℕ) → Reads net fault.gate.0 fault.position driver → v driver ≡ fault.value → (y : ℕ) → v y ≡ f y
 
 -- every observed node has the same value under every assignment
 abbrev pub KeepsValues : Net → Net → Type 0

@@ -1,5 +1,6 @@
 pub mod Net
 pub mod Values
 pub mod Paths
+pub mod Forward
 pub mod Edits
 pub mod Laws

@@ -3,7 +3,7 @@ use Rattle.std.specs.Prelude.{◌≡◌, ◌≢◌, ℕ, List, [], ◌∷◌, ma
 use Rattle.rm_base.specs.declared.numbers.Fault.{Fault}
 use Rattle.gate_net.specs.declared.Kind.{Kind}
 use Rattle.gate_net.specs.declared.Kind.TheVariants.{Source, Zero, One, And, Or, Not}
-use Rattle.gate_net.specs.Net.{Node, Net, node_at, drivers_of, IsObserved, IsKind}
+use Rattle.gate_net.specs.Net.{Node, Net, node_at, drivers_of, Reads, IsObserved, IsKind}
 
 abbrev pub same_bool : Bool → Bool → Bool
 same_bool true b = b
@@ -53,6 +53,10 @@ faulty_reads net fault constant f x =
 
 abbrev pub AreFaultyValues : Net → Fault → (ℕ → Bool) → (ℕ → Bool) → Type 0
 AreFaultyValues net fault a f = (x : ℕ) → f x ≡ node_value (node_at net x) (a x) (faulty_reads net fault (λ b. b) f x)
+
+-- the stuck pin exists
+abbrev pub HasPin : Net → Fault → Type 0
+HasPin net fault = (driver : ℕ) × Reads net fault.gate.0 fault.position driver
 
 -- the good and the faulty values under one assignment
 pub record IsRun (net : Net) (fault : Fault) (a v f : ℕ → Bool) : Type 0 where

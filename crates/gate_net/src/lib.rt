@@ -1,7 +1,8 @@
 //! What a net of gates is: its nodes and pins, its good and faulty values, its changes, and their laws.
 #![tactic(auto)]
 
-ghost use Rattle.gate_net.specs.Laws.{ValuesExist, FixesKeep, FixesKeepAcyclic, AddsKeep, PinsKeepAcyclic, MovesKeep, TwiceKeeps, MovesKeepAcyclic};
+ghost use Rattle.gate_net.specs.Forward.{ReadingsHold, ReadingsAgree};
+ghost use Rattle.gate_net.specs.Laws.{ValuesExist, FaultyValuesExist, OutsideIsEqual, ChainsDecide, IdlePinsChangeNothing, FixesKeep, FixesKeepAcyclic, AddsKeep, PinsKeepAcyclic, MovesKeep, TwiceKeeps, MovesKeepAcyclic};
 
 /// What a node is.
 #[derive(Clone, Copy, Debug, PartialEq, Eq)]
@@ -17,6 +18,36 @@ pub enum Kind {
 /// An acyclic net has exactly one valuation for each assignment.
 pub fn values_exist()
     ensures { ValuesExist }
+{}
+
+/// And exactly one faulty valuation.
+pub fn faulty_values_exist()
+    ensures { FaultyValuesExist }
+{}
+
+/// A node that the fault doesn't reach has one value with and without it.
+pub fn outside_is_equal()
+    ensures { OutsideIsEqual }
+{}
+
+/// Where a node of the chain has one value with and without the fault, so has every observed node.
+pub fn chains_decide()
+    ensures { ChainsDecide }
+{}
+
+/// A stuck pin that reads what it is stuck at changes no value.
+pub fn idle_pins_change_nothing()
+    ensures { IdlePinsChangeNothing }
+{}
+
+/// What forward reading marks is true for every completion of the known sources.
+pub fn readings_hold()
+    ensures { ReadingsHold }
+{}
+
+/// There is one forward reading at most.
+pub fn readings_agree()
+    ensures { ReadingsAgree }
 {}
 
 /// A pin whose fault is undetected may read the constant.

@@ -1,18 +1,23 @@
-// Numbers of nodes and sources, places in a text, and want of memory.
+// Numbers of nodes and sources, places in a text, want of memory, and stuck-at faults.
 use std::alloc::{AllocError, AllocFailed};
 
+/// The number of a node of a net: 0 is the constant Zero, 1 the constant One, then come the sources
+/// in their order, and then the gates.
 #[derive(Clone, Copy, Debug, PartialEq, Eq, PartialOrd, Ord)]
 pub struct NodeId(pub u32);
 
+/// The number of a source among the sources of a model, or of a point in a list, from 0.
 #[derive(Clone, Copy, Debug, PartialEq, Eq, PartialOrd, Ord)]
 pub struct SourceNo(pub u32);
 
+/// A place in a text. Lines and columns count from 1, and a column counts bytes.
 #[derive(Clone, Copy, Debug, PartialEq, Eq)]
 pub struct Place {
     pub line: u32,
     pub column: u32,
 }
 
+/// Memory that was asked for wasn't given.
 #[derive(Clone, Copy, Debug, PartialEq, Eq)]
 pub struct NoMemory;
 
@@ -28,7 +33,8 @@ impl<T: Drop> From<AllocFailed<T>> for NoMemory {
     }
 }
 
-/// One pin stuck at a value.
+/// The stuck-at fault of one pin, which is named by its gate and its position there, from 0: the
+/// gate reads `value` at that pin, whatever its driver says.
 #[derive(Clone, Copy, Debug, PartialEq, Eq)]
 pub struct Fault {
     pub gate: NodeId,

@@ -1,0 +1,5 @@
+pub mod LineLaws
+pub mod ReadLaws
+pub mod TextReads
+pub mod TokenLaws
+pub mod WrittenLaws

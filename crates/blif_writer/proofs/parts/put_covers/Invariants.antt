@@ -1,0 +1,8 @@
+use Rattle.std.proofs.Common.{◌≡◌, ◌++◌, take, map}
+use Rattle.std.specs.List.{flat_map}
+use Rattle.blif_writer.specs.Written.{behind_blanks, cover_text, latch_text, row_text}
+use Rattle.rm_model.specs.Words.{literal_byte}
+use Rattle.blif_writer.proofs.parts.put_covers.Given as goal
+
+abbrev pub invariant-loop-cover : goal.invariant-loop-cover
+invariant-loop-cover l = l.out.items ≡ l.initial.out.items ++ flat_map cover_text (take l.cover-index l.covers)

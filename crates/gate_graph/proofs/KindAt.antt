@@ -1,0 +1,39 @@
+-- Kinds by node number.
+use Rattle.std.proofs.Common.{◌≡◌, ◌≢◌, ℕ, zero, suc, ◌+◌, ◌<◌, ◌≤◌, true, false, List, [], ◌∷◌, length, set, Option, Some, None, ◌⊎◌, refl, sym, ap, ◌∙◌, arith, inl, inr, get_or-set_same, get_or-set_other, get_or, length-set}
+use mathlib.Core.Path.{fun_ext}
+use Rattle.std.proofs.lemmas.Bool.{cases_eq, cases_lt}
+use Rattle.std.proofs.lemmas.List.{get_or_past}
+use Rattle.gate_net.specs.declared.Kind.{Kind}
+use Rattle.pin_pool.specs.Pins.{Pins}
+use Rattle.gate_graph.specs.Rings.{Rings, Wiring, rings_of, changed, kind_at, wiring_of}
+use Rattle.gate_graph.specs.Circuit.{kinds_live}
+use Rattle.gate_graph.proofs.RingsOf.{changed-same, changed-other}
+
+pub kind-within : (kinds : List (Option Kind)) (n : ℕ) → kind_at kinds n ≢ None → n < length kinds
+kind-within kinds n live = elim (cases_lt n (length kinds)) [
+  | inl lt ↦ lt
+  | inr le ↦ absurd (live (get_or_past kinds n None le))
+]
+
+pub wired-set : (kinds kinds' : List (Option Kind)) (v v' : Pins) (node : ℕ) (kind : Option Kind) (r : Rings) → ((u : Pins) → wiring_of kinds' u ≡ record { kind = changed (λ n. kind_at kinds n) node kind; rings = rings_of u }) → rings_of v' ≡ r → wiring_of kinds' v' ≡ record { kind = changed (λ n. kind_at kinds n) node kind; rings = r }
+wired-set kinds kinds' v v' node kind r each e =
+    each v' ∙ ap (λ (s : Rings). let w : Wiring = record { kind = changed (λ (n : ℕ). kind_at kinds n) node kind; rings = s } in w) e
+
+pub live-set : (kinds kinds' : List (Option Kind)) (v : Pins) (node : ℕ) (kind : Option Kind) (least n : ℕ) → ((u : Pins) → wiring_of kinds' u ≡ record { kind = changed (λ n. kind_at kinds n) node kind; rings = rings_of u }) → kinds_live kinds least → n ≤ least → (n ≤ node) ⊎ (kind ≢ None) → kinds_live kinds' n
+live-set kinds kinds' v node kind least n each live le or m h =
+    let now : kind_at kinds' m ≡ changed (λ (n : ℕ). kind_at kinds n) node kind m = ap (λ (w : Wiring). w.kind m) (each v) in
+    elim (cases_eq m node) [
+      | inr ne ↦ rw (now, changed-other (λ (n : ℕ). kind_at kinds n) node kind m ne) (live m (omega arith))
+      | inl is ↦ elim or [
+        | inl le' ↦ absurd (omega arith)
+        | inr some ↦ rw (now, is, changed-same (λ (n : ℕ). kind_at kinds n) node kind) some
+      ]
+    ]
+
+pub live-next : (kinds kinds' : List (Option Kind)) (v : Pins) (node : ℕ) (kind : Option Kind) → ((u : Pins) → wiring_of kinds' u ≡ record { kind = changed (λ n. kind_at kinds n) node kind; rings = rings_of u }) → kinds_live kinds node → kind ≢ None → kinds_live kinds' (node + 1)
+live-next kinds kinds' v node kind each live some m h =
+    let now : kind_at kinds' m ≡ changed (λ (n : ℕ). kind_at kinds n) node kind m = ap (λ (w : Wiring). w.kind m) (each v) in
+    elim (cases_eq m node) [
+      | inr ne ↦ rw (now, changed-other (λ (n : ℕ). kind_at kinds n) node kind m ne) (live m (omega arith))
+      | inl is ↦ rw (now, is, changed-same (λ (n : ℕ). kind_at kinds n) node kind) some
+    ]

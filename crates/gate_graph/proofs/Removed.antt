@@ -1,0 +1,174 @@
+-- A pin is taken out, or gets another driver.
+use Rattle.std.proofs.Common.{◌≡◌, ◌≢◌, ℕ, zero, suc, ◌+◌, ◌<◌, ◌≤◌, Bool, true, false, not, List, [], ◌∷◌, ◌++◌, length, map, set, subst, Option, Some, None, refl, sym, ap, ◌∙◌, arith, inl, inr, ◌⊎◌}
+use Rattle.std.specs.Prelude.{slice_get, if◌then◌else◌}
+use mathlib.Core.Path.{fun_ext}
+use Rattle.std.proofs.lemmas.Bool.{cases_eq, ne_eqb, eq-eqb, false_from_ne_true, false≢true}
+use Rattle.std.proofs.lemmas.Bool.Decides.{eqb_tells, nat_tests}
+use Rattle.gate_net.specs.declared.Kind.{Kind}
+use Rattle.gate_net.specs.declared.Kind.TheVariants.{Not}
+use Rattle.gate_net.specs.Net.{Net, node_at, drivers_of, Reads, IsAcyclic}
+use Rattle.gate_net.specs.Edits.{with_drivers, with_pin}
+use Rattle.gate_net.specs.Net.{IsLive}
+use Rattle.gate_net.specs.Paths.{Reaches}
+use Rattle.gate_net.specs.Values.{IsJunction}
+use Rattle.gate_net.specs.Edits.{without as without_at, without_pin}
+use Rattle.gate_graph.proofs.NetEdits.{node_at-other, node_at-there}
+use Rattle.gate_graph.proofs.NetRanks.{pins_keep_acyclic}
+use Rattle.pin_pool.specs.Ring.{has, without, previous_from, IsApart}
+use Rattle.pin_pool.specs.Pins.{Pins, list_of, put_after, before_in, StandsIn, code, named}
+use Rattle.pin_pool.specs.declared.pool.PinNo.{PinNo}
+use Rattle.pin_pool.specs.declared.pool.Slot.{Slot}
+use Rattle.pin_pool.proofs.RingLemmas.{has-without, without-absent, put-without, previous-among_all, previous-other}
+use Rattle.gate_graph.specs.declared.entries.Entry.{Entry}
+use Rattle.gate_graph.specs.declared.entries.Entry.TheVariants.{Removed, Redriven}
+use Rattle.gate_graph.specs.Rings.{Rings, Wiring, AreRings, AreOnce, IsShaped, IsWired, Stood, rings_of, wiring_of, kind_at, unlinked, relinked, redriven, restored, changed, all_without, IsIn, IsOut}
+use Rattle.gate_graph.specs.Entries.{CanTakeBack, taken_back, LeadOn}
+use Rattle.gate_graph.specs.Circuit.{Circuit, wiring, net_of, gate_pins, home}
+use Rattle.gate_graph.proofs.RingsOf.{changed-same, changed-other, same-rings}
+use Rattle.gate_graph.proofs.NetOf.{home-here, map-same, net-with, drivers-there, node-there}
+use Rattle.gate_graph.proofs.LeadOns.{lead-rings, kind-of, not-not, not-constant}
+use Rattle.gate_graph.proofs.Pinned.{has-at}
+use Rattle.gate_graph.proofs.Ranked.{acyclic-net, wired-by}
+use Rattle.gate_graph.proofs.Appended.{pushed, pushed-has, pushed-keeps, pushed-had, without-pushed}
+
+code-named : (a : ℕ) → code (named a) ≡ a
+code-named a = elim (cases_eq a 4294967295) [ inl e ↦ rw e refl | inr e ↦ rw (ne_eqb a 4294967295 e) refl ]
+
+stands-named : (xs : List ℕ) (a : ℕ) → has a (4294967295 ∷ xs) ≡ true → StandsIn xs (named a)
+stands-named xs a h = elim (cases_eq a 4294967295) [
+  | inl e ↦ rw e tt
+  | inr e ↦ rw (ne_eqb a 4294967295 e) (grind (arith, nat_tests))
+]
+
+module _ (f : ℕ → List ℕ) (taken : ℕ → Bool) (once : AreOnce f taken) (p : ℕ) where
+  pub out : IsOut (all_without p f) p
+  out n = has-without p (f n) p (once.apart n) ∙ grind (arith, nat_tests)
+
+  pub had : (n q : ℕ) → has q (all_without p f n) ≡ true → (has q (f n) ≡ true) × (q ≢ p)
+  had n q h = let read = has-without p (f n) q (once.apart n) in elim (eqb_tells q p) [
+    | inl t ↦ absurd (grind (arith, nat_tests))
+    | inr t ↦ (grind (arith, nat_tests), t.1)
+  ]
+
+  pub keeps : (n q : ℕ) → has q (f n) ≡ true → q ≢ p → has q (all_without p f n) ≡ true
+  keeps n q h ne = has-without p (f n) q (once.apart n) ∙ rw (ne_eqb q p ne) h
+
+  pub elsewhere : (g n : ℕ) → has p (f g) ≡ true → n ≢ g → all_without p f n ≡ f n
+  elsewhere g n h ne = without-absent p (f n) (false_from_ne_true _ (λ k. ne (once.one n g p k h)))
+
+  pub stands : (g : ℕ) (b : Option PinNo) → has p (f g) ≡ true → b ≡ before_in (f g) p → StandsIn (all_without p f g) b
+  stands g b h e =
+      let xs = f g in
+      let a = previous_from 4294967295 4294967295 xs p in
+      let pz : p ≢ 4294967295 = grind (arith, nat_tests, once.pins g, h) in
+      let among : has a (4294967295 ∷ without p xs) ≡ true =
+      grind (arith, nat_tests, previous-among_all 4294967295 4294967295 xs p, previous-other 4294967295 4294967295 xs p pz h, has-without p xs a (once.apart g)) in
+      rw e (stands-named (without p xs) a among)
+
+  pub put-back : (g : ℕ) (b : Option PinNo) → has p (f g) ≡ true → b ≡ before_in (f g) p → changed (all_without p f) g (put_after (all_without p f g) b p) ≡ f
+  put-back g b h e =
+      let xs = f g in
+      let at : code b ≡ previous_from 4294967295 4294967295 xs p = ap code e ∙ code-named _ in
+      let here : put_after (all_without p f g) b p ≡ xs = rw at (put-without 4294967295 4294967295 xs p (once.pins g, once.apart g) h) in
+      fun_ext (λ n. elim (cases_eq n g) [
+        | inl s ↦ rw s (changed-same (all_without p f) g (put_after (all_without p f g) b p) ∙ here)
+        | inr s ↦ changed-other (all_without p f) g (put_after (all_without p f g) b p) n s ∙ elsewhere g n h s
+      ])
+
+without-map : (f : ℕ → ℕ) (xs : List ℕ) (k p : ℕ) → IsApart xs → slice_get xs k ≡ Some p → map f (without p xs) ≡ without_at (map f xs) k
+without-map f [] k p a e = cc
+without-map f (x ∷ xs) zero p a e = let is : x ≡ p = cc in rw (is, eq-eqb p p refl) refl
+without-map f (x ∷ xs) (suc k) p a e = elim (cases_eq p x) [
+  | inl is ↦ let wrong : has x xs ≡ true = rw (sym is) (has-at xs k p e) in absurd (false≢true (sym a.0 ∙ wrong))
+  | inr ne ↦ rw (ne_eqb p x ne) (ap (λ (l : List ℕ). f x ∷ l) (without-map f xs k p a.1 e))
+]
+
+module _ (v w : Circuit) (p : ℕ) (same : w.kinds ≡ v.kinds) (e : rings_of w.pool ≡ unlinked p (rings_of v.pool)) (rv : AreRings (rings_of v.pool)) where
+  abbrev ins : ℕ → List ℕ
+  ins n = list_of v.pool.inputs n
+
+  abbrev outs : ℕ → List ℕ
+  outs n = list_of v.pool.fanouts n
+
+  pub back-removed : (pin : PinNo) (slot : Slot) → pin.0 ≡ p → Stood (rings_of v.pool) p slot → kind_at v.kinds slot.gate ≢ None → kind_at v.kinds slot.driver ≢ None → (es : List Entry) → LeadOn v w es (Removed pin slot ∷ es)
+  back-removed pin slot is s gate driver es =
+      let again : relinked p slot (unlinked p (rings_of v.pool)) ≡ rings_of v.pool =
+      same-rings _ _ (put-back ins _ rv.inputs p slot.gate slot.in_gate s.in_gate s.after_gate) (put-back outs _ rv.fanouts p slot.driver slot.in_driver s.in_driver s.after_driver) refl in
+      let x : Wiring = record { kind = λ n. kind_at v.kinds n; rings = unlinked p (rings_of v.pool) } in
+      let can : CanTakeBack x (Removed pin slot) =
+      rw is (rv.inputs.members slot.gate p s.in_gate, (out ins _ rv.inputs p, (out outs _ rv.fanouts p, (gate, (driver, (stands ins _ rv.inputs p slot.gate slot.in_gate s.in_gate s.after_gate, stands outs _ rv.fanouts p slot.driver slot.in_driver s.in_driver s.after_driver)))))) in
+      lead-rings v w (Removed pin slot) es (unlinked p (rings_of v.pool)) same e
+      (can, ap (λ (q : ℕ). let y : Wiring = record { kind = λ (n : ℕ). kind_at v.kinds n; rings = relinked q slot (unlinked p (rings_of v.pool)) } in y) is ∙ ap (λ (r : Rings). let y : Wiring = record { kind = λ (n : ℕ). kind_at v.kinds n; rings = r } in y) again) tt
+
+  input-now : (n : ℕ) → list_of w.pool.inputs n ≡ all_without p ins n
+  input-now n = ap (λ (r : Rings). r.inputs n) e
+
+  fanout-now : (n : ℕ) → list_of w.pool.fanouts n ≡ all_without p outs n
+  fanout-now n = ap (λ (r : Rings). r.fanouts n) e
+
+  module _ (rw' : AreRings (rings_of w.pool)) (ww : IsWired (wiring v)) (g k : ℕ) (kind : Kind) (ne : g ≢ 0) (live : kind_at v.kinds g ≡ Some kind) (at : slice_get (ins g) k ≡ Some p) where
+    in-gate : has p (ins g) ≡ true
+    in-gate = has-at (ins g) k p at
+
+    home-old : (n q : ℕ) → has q (all_without p ins n) ≡ true → home w.pool.fanouts q ≡ home v.pool.fanouts q
+    home-old n q h =
+        let was = had ins _ rv.inputs p n q h in
+        let by = ww.shape.driven n q was.0 in
+        home-here w.pool.fanouts _ q by.0 rw'.fanouts (ap (has q) (fanout-now by.0) ∙ keeps outs _ rv.fanouts p by.0 q by.1 was.1) ∙ sym (home-here v.pool.fanouts _ q by.0 rv.fanouts by.1)
+
+    pub net-removed : net_of w ≡ without_pin (net_of v) g k
+    net-removed =
+        net-with v w g kind (without_at (drivers_of (net_of v) g) k) ne live (λ n. ap (λ (ks : List (Option Kind)). kind_at ks n) same)
+        (λ n other. ap (map (home w.pool.fanouts)) (input-now n) ∙ map-same (home w.pool.fanouts) (home v.pool.fanouts) (all_without p ins n) (home-old n) ∙ ap (map (home v.pool.fanouts)) (elsewhere ins _ rv.inputs p g n in-gate other))
+        (ap (map (home w.pool.fanouts)) (input-now g) ∙ map-same (home w.pool.fanouts) (home v.pool.fanouts) (all_without p ins g) (home-old g)
+        ∙ without-map (home v.pool.fanouts) (ins g) k p (rv.inputs.apart g) at
+        ∙ ap (λ (l : List ℕ). without_at l k) (sym (drivers-there v g kind ne live)))
+
+    shaped-now : kind ≢ Not → IsShaped (record { kind = λ n. kind_at v.kinds n; rings = unlinked p (rings_of v.pool) })
+    shaped-now junction =
+        let s = ww.shape in record {
+          zero_is = s.zero_is;
+          one_is = s.one_is;
+          one_reads = ap (without p) s.one_reads;
+          gates_live = λ n q h. s.gates_live n q (had ins _ rv.inputs p n q h).0;
+          drivers_live = λ n q h. s.drivers_live n q (had outs _ rv.fanouts p n q h).0;
+          driven = λ n q h. (let was = had ins _ rv.inputs p n q h in let by = s.driven n q was.0 in (by.0, keeps outs _ rv.fanouts p by.0 q by.1 was.1));
+          read = λ n q h. (let was = had outs _ rv.fanouts p n q h in let by = s.read n q was.0 in (by.0, keeps ins _ rv.inputs p by.0 q by.1 was.1));
+          nots = λ y is. (
+              let other : y ≢ g = λ here. junction (let both : Some kind ≡ Some Not = sym live ∙ ap (λ (n : ℕ). kind_at v.kinds n) (sym here) ∙ is in cc) in
+              let old = s.nots y is in
+              (old.0, elsewhere ins _ rv.inputs p g y in-gate other ∙ old.1));
+          sources = s.sources;
+          first = s.first;
+          sources_read = λ n h. ap (without p) (s.sources_read n h);
+        }
+
+    pub wired-removed : kind ≢ Not → IsWired (wiring w)
+    wired-removed junction =
+        let x : Wiring = record { kind = λ n. kind_at v.kinds n; rings = unlinked p (rings_of v.pool) } in
+        let now : wiring w ≡ x = rw (same, e) refl in
+        let wired : IsWired x = record {
+          shape = shaped-now junction;
+          rank = ww.rank;
+          ranked = λ n m q ne' h d. ww.ranked n m q ne' (had ins _ rv.inputs p n q h).0 (had outs _ rv.fanouts p m q d).0;
+        } in
+        subst (λ (y : Wiring). IsWired y) (sym now) wired
+
+-- what removing a pin comes to
+pub record Removes (v w : Circuit) (g k : ℕ) (pin : PinNo) (slot : Slot) : Type 0 where
+  pub wired : IsWired (wiring w)
+  pub net : net_of w ≡ without_pin (net_of v) g k
+  pub undos : (es : List Entry) → LeadOn v w es (Removed pin slot ∷ es)
+
+pub removes : (v w : Circuit) (g k : ℕ) (pin : PinNo) (slot : Slot) → w.kinds ≡ v.kinds → rings_of w.pool ≡ unlinked pin.0 (rings_of v.pool) → AreRings (rings_of v.pool) → AreRings (rings_of w.pool) → IsWired (wiring v) → ((c : Bool) × IsJunction (net_of v) g c) → Some pin.0 ≡ slice_get (gate_pins v.pool g) k → Stood (rings_of v.pool) pin.0 slot → Removes v w g k pin slot
+removes v w g k pin slot same e rv rw' ww junction at stood =
+    let kind = junction.1.0 in
+    let live : kind_at v.kinds g ≡ Some kind = kind-of v g _ junction.1.1.0.1 in
+    let ne = (not-constant v ww.shape g kind junction.0 live junction.1.1.1).0 in
+    let at' : slice_get (list_of v.pool.inputs g) k ≡ Some pin.0 = sym (rw (ne_eqb g 0 ne) at at) in
+    let not = not-not kind junction.0 junction.1.1.1 in
+    record {
+      wired = wired-removed v w pin.0 same e rv rw' ww g k kind ne live at' not;
+      net = net-removed v w pin.0 same e rv rw' ww g k kind ne live at';
+      undos = back-removed v w pin.0 same e rv pin slot refl stood (ww.shape.gates_live slot.gate pin.0 stood.in_gate) (ww.shape.drivers_live slot.driver pin.0 stood.in_driver);
+    }

@@ -1,0 +1,66 @@
+-- Circuits with one wiring have one net.
+use Rattle.std.proofs.Common.{◌≡◌, ◌≢◌, ℕ, zero, suc, ◌≤◌, Bool, true, false, List, [], ◌∷◌, length, map, Option, Some, None, refl, sym, ap, ◌∙◌, subst, arith}
+use Rattle.std.specs.Prelude.{if◌then◌else◌}
+use Rattle.gate_net.specs.declared.Kind.{Kind}
+use Rattle.pin_pool.specs.Ring.{has}
+use Rattle.pin_pool.specs.Pins.{Pins, list_of}
+use Rattle.gate_graph.specs.Rings.{Wiring, kind_at}
+use Rattle.gate_graph.specs.declared.entries.Entry.{Entry}
+use Rattle.gate_graph.specs.declared.entries.Entry.TheVariants.{Appended, Removed, Redriven, Moved, Made, Retired}
+use Rattle.gate_graph.specs.Entries.{LeadOn, CanGoBack, back_to, AreWithin, IsWithin}
+use Rattle.gate_graph.specs.Circuit.{Circuit, wiring, net_of, fanouts_of, node_in, node_with, gate_pins, home, number_with, number_or_zero, next_number, reader, place_in, without_observed, SameWiring}
+use Rattle.gate_graph.proofs.NetOf.{net-ext, nodes-trimmed, node_at-net, observed-net, map-same}
+
+number-nil : (ms : List (List ℕ)) (p : ℕ) → ((n : ℕ) → [] ≡ list_of ms n) → None ≡ number_with ms p
+number-nil [] p h = refl
+number-nil (ys ∷ ms) p h =
+    let here : ys ≡ [] = sym (h 0) in
+    rw here (ap next_number (number-nil ms p (λ n. h (suc n))))
+
+number-same : (ls ms : List (List ℕ)) (p : ℕ) → ((n : ℕ) → list_of ls n ≡ list_of ms n) → number_with ls p ≡ number_with ms p
+number-same [] ms p h = number-nil ms p h
+number-same (xs ∷ ls) [] p h = sym (number-nil (xs ∷ ls) p (λ n. sym (h n)))
+number-same (xs ∷ ls) (ys ∷ ms) p h =
+    let here : xs ≡ ys = h 0 in
+    rw (here, number-same ls ms p (λ n. h (suc n))) refl
+
+pub home-same : (ls ms : List (List ℕ)) (p : ℕ) → ((n : ℕ) → list_of ls n ≡ list_of ms n) → home ls p ≡ home ms p
+home-same ls ms p h = ap number_or_zero (number-same ls ms p h)
+
+map-pairs : (f g : ℕ → ℕ × ℕ) (xs : List ℕ) → ((q : ℕ) → f q ≡ g q) → map f xs ≡ map g xs
+map-pairs f g [] h = refl
+map-pairs f g (x ∷ xs) h = rw (h x, map-pairs f g xs h) refl
+
+pub same-wiring : SameWiring
+unfolding fanouts_of
+same-wiring v w e =
+    let kinds : (n : ℕ) → kind_at v.kinds n ≡ kind_at w.kinds n = λ n. ap (λ (x : Wiring). x.kind n) e in
+    let ins : (n : ℕ) → list_of v.pool.inputs n ≡ list_of w.pool.inputs n = λ n. ap (λ (x : Wiring). x.rings.inputs n) e in
+    let outs : (n : ℕ) → list_of v.pool.fanouts n ≡ list_of w.pool.fanouts n = λ n. ap (λ (x : Wiring). x.rings.fanouts n) e in
+    let homes : (q : ℕ) → home v.pool.fanouts q ≡ home w.pool.fanouts q = λ q. home-same v.pool.fanouts w.pool.fanouts q outs in
+    let mapped : (xs ys : List ℕ) → xs ≡ ys → map (home v.pool.fanouts) xs ≡ map (home w.pool.fanouts) ys = λ xs ys s. map-same (home v.pool.fanouts) (home w.pool.fanouts) xs (λ q h. homes q) ∙ ap (map (home w.pool.fanouts)) s in
+    let pins : (n : ℕ) → gate_pins v.pool n ≡ gate_pins w.pool n = λ n. rw (ins n) refl in
+    let readers : (q : ℕ) → reader v.pool q ≡ reader w.pool q = λ q. (let h = home-same v.pool.inputs w.pool.inputs q ins in rw (h, ins (home w.pool.inputs q)) refl) in (
+      net-ext v (net_of w) (nodes-trimmed w) (λ n. rw (kinds n) (ap (node_with (kind_at w.kinds n)) (mapped (gate_pins v.pool n) (gate_pins w.pool n) (pins n))) ∙ sym (node_at-net w n))
+          (mapped (list_of v.pool.inputs 0) (list_of w.pool.inputs 0) (ins 0) ∙ sym (observed-net w)),
+      λ n. rw (ins 0, outs n) (map-pairs (reader v.pool) (reader w.pool) _ readers),
+    )
+
+within-more : (m n : ℕ) (es : List Entry) → m ≤ n → AreWithin m es → AreWithin n es
+within-more m n [] h a = tt
+within-more m n (e ∷ es) h a = (one e a.0, within-more m n es h a.1)
+  where
+    one : (e : Entry) → IsWithin m e → IsWithin n e
+    one (Appended pin) w = tt
+    one (Removed pin slot) w = tt
+    one (Redriven pin slot) w = tt
+    one (Moved splice) w = tt
+    one (Made node pin) w = tt
+    one (Retired node kind) w = omega arith
+
+pub lead-same : (v w : Circuit) (es : List Entry) → wiring w ≡ wiring v → length v.kinds ≤ length w.kinds → LeadOn v w es es
+lead-same v w es e more = record {
+  back = λ go. subst (λ (x : Wiring). CanGoBack x es) (sym e) go;
+  to = ap (λ (x : Wiring). back_to x es) e;
+  within = within-more (length v.kinds) (length w.kinds) es more;
+}

@@ -1,0 +1,54 @@
+use Rattle.std.proofs.Common.{arith, refl}
+use Rattle.gate_graph.specs.Circuit.{Circuit}
+use Rattle.gate_graph.proofs.Appended.{appends}
+use Rattle.gate_graph.proofs.LeadOns.{kind-of, live-in, not-constant}
+use Rattle.gate_graph.proofs.Fanned.{last-reader, count-there}
+use Rattle.gate_graph.proofs.KindAt.{kind-within}
+use Rattle.gate_graph.proofs.state.Graph.append.Goals as goal
+
+pub link_new-pin-requires-clause-gate : goal.link_new-pin-requires-clause-gate
+link_new-pin-requires-clause-gate c =
+    let i = c.self.inside in
+    let v : Circuit = record { kinds = i.kinds.items; pool = i.pool; epoch = i.epoch } in
+    let gate = rw (← c.self.view_is) at c.requires.gate in
+    omega (arith, kind-within i.kinds.items c.args.gate.0 (live-in v c.args.gate.0 (gate.1.0, gate.1.1.0)), c.self.invariant.0.room)
+
+pub link_new-pin-requires-clause-driver : goal.link_new-pin-requires-clause-driver
+link_new-pin-requires-clause-driver c =
+    let i = c.self.inside in
+    let v : Circuit = record { kinds = i.kinds.items; pool = i.pool; epoch = i.epoch } in
+    omega (arith, kind-within i.kinds.items c.args.driver.0 (live-in v c.args.driver.0 (rw (← c.self.view_is) at c.requires.driver)), c.self.invariant.0.room)
+
+pub invariant_of-self : goal.invariant_of-self
+invariant_of-self c =
+    let i = c.self.inside in
+    let v : Circuit = record { kinds = i.kinds.items; pool = i.pool; epoch = i.epoch } in
+    let w : Circuit = record { kinds = i.kinds.items; pool = c.link_new-pin.new.pool; epoch = i.epoch } in
+    let a = appends v w c.args.gate.0 c.args.driver.0 c.link_new-pin.result refl c.link_new-pin.ensures.rings c.look.ensures.rings c.look-2.ensures.rings c.self.invariant.0.wired (rw (← c.self.view_is) at c.requires.gate) (rw (← c.self.view_is) at c.requires.driver) c.requires.apart (rw (← c.self.view_is) at c.requires.path) c.link_new-pin.ensures.fresh in
+    (record { wired = a.wired; room = omega (arith, c.self.invariant.0.room, c.link_new-pin.ensures.nodes); few = c.self.invariant.0.few }, c.self.invariant.1)
+
+pub returns-clause-net : goal.returns-clause-net
+returns-clause-net c =
+    let i = c.self.inside in
+    let v : Circuit = record { kinds = i.kinds.items; pool = i.pool; epoch = i.epoch } in
+    let w : Circuit = record { kinds = i.kinds.items; pool = c.link_new-pin.new.pool; epoch = i.epoch } in
+    let a = appends v w c.args.gate.0 c.args.driver.0 c.link_new-pin.result refl c.link_new-pin.ensures.rings c.look.ensures.rings c.look-2.ensures.rings c.self.invariant.0.wired (rw (← c.self.view_is) at c.requires.gate) (rw (← c.self.view_is) at c.requires.driver) c.requires.apart (rw (← c.self.view_is) at c.requires.path) c.link_new-pin.ensures.fresh in
+    rw (← c.self.view_is) a.net
+
+pub returns-clause-undos : goal.returns-clause-undos
+returns-clause-undos c =
+    let i = c.self.inside in
+    let v : Circuit = record { kinds = i.kinds.items; pool = i.pool; epoch = i.epoch } in
+    let w : Circuit = record { kinds = i.kinds.items; pool = c.link_new-pin.new.pool; epoch = i.epoch } in
+    let a = appends v w c.args.gate.0 c.args.driver.0 c.link_new-pin.result refl c.link_new-pin.ensures.rings c.look.ensures.rings c.look-2.ensures.rings c.self.invariant.0.wired (rw (← c.self.view_is) at c.requires.gate) (rw (← c.self.view_is) at c.requires.driver) c.requires.apart (rw (← c.self.view_is) at c.requires.path) c.link_new-pin.ensures.fresh in
+    rw (← c.self.view_is, c.push.ensures.entries) (a.undos c.args.undos.now.entries)
+
+pub returns-clause-readers : goal.returns-clause-readers
+returns-clause-readers c =
+    let i = c.self.inside in
+    let v : Circuit = record { kinds = i.kinds.items; pool = i.pool; epoch = i.epoch } in
+    let w : Circuit = record { kinds = i.kinds.items; pool = c.link_new-pin.new.pool; epoch = i.epoch } in
+    let gate = rw (← c.self.view_is) at c.requires.gate in
+    let live = kind-of v c.args.gate.0 _ gate.1.1.0.1 in
+    let ne = (not-constant v c.self.invariant.0.wired.shape c.args.gate.0 gate.1.0 gate.0 live gate.1.1.1).0 in
+    rw (← c.self.view_is) (last-reader v w c.link_new-pin.result.0 c.args.gate.0 c.args.driver.0 c.link_new-pin.ensures.rings c.look.ensures.rings c.look-2.ensures.rings c.self.invariant.0.wired ne (count-there v c.args.gate.0 c.self.invariant.0.wired.shape ne) c.link_new-pin.ensures.fresh)

@@ -1,0 +1,47 @@
+use Rattle.std.proofs.Common.{arith, refl, sym, ap, ◌∙◌, ◌≡◌, ℕ, List, Option}
+use Rattle.pin_pool.specs.Pins.{Pins}
+use Rattle.gate_net.specs.declared.Kind.{Kind}
+use Rattle.gate_graph.specs.Rings.{Wiring, kind_at}
+use Rattle.gate_graph.specs.Circuit.{Circuit, IsGraph, kinds_live}
+use Rattle.gate_graph.proofs.Kept.{graph-kept}
+use Rattle.gate_graph.proofs.Holding.{are-held, held-step, held-here, held-count}
+use Rattle.gate_graph.proofs.state.Graph.keep.Goals as goal
+
+pub loop-entry-init : goal.loop-entry-init
+loop-entry-init c =
+    rw (← c.self.view_is) (record {
+      kinds = refl;
+      inputs = refl;
+      fanouts = refl;
+      held_pins = are-held _ c.args.undos.now.entries (rw (← c.self.view_is) at c.requires.back);
+      spare = refl;
+      epoch = refl;
+      least = refl;
+    })
+
+pub give_back-requires : goal.give_back-requires
+give_back-requires c =
+    held-here c.loop-entry.self-inside.kinds.items c.loop-entry.self-inside.pool c.in-Removed.pin c.in-Removed.slot c.in-Some.entry c.loop-entry.undos.entries c.pop.new.self.entries c.in-Some.ensures.0 c.in-Removed.is c.loop-entry.invariant.held_pins
+
+pub loop-entry-preserved-in-Removed : goal.loop-entry-preserved-in-Removed
+loop-entry-preserved-in-Removed c =
+    let i = c.loop-entry.invariant in
+    let e = c.give_back.ensures in
+    record {
+      kinds = i.kinds;
+      inputs = ap (λ (v : Pins). v.inputs) e ∙ i.inputs;
+      fanouts = ap (λ (v : Pins). v.fanouts) e ∙ i.fanouts;
+      held_pins = held-step c.loop-entry.self-inside.kinds.items c.loop-entry.self-inside.pool c.give_back.new.self c.in-Removed.pin c.in-Removed.slot c.in-Some.entry c.loop-entry.undos.entries c.pop.new.self.entries c.in-Some.ensures.0 c.in-Removed.is i.held_pins e;
+      spare = omega (arith, i.spare, ap (λ (v : Pins). v.spare) e, held-count c.in-Removed.pin c.in-Removed.slot c.in-Some.entry c.loop-entry.undos.entries c.pop.new.self.entries c.in-Some.ensures.0 c.in-Removed.is);
+      epoch = i.epoch;
+      least = i.least;
+    }
+
+pub invariant_of-self : goal.invariant_of-self
+invariant_of-self c =
+    let i = c.loop-entry.invariant in
+    let graph : IsGraph c.args.self.now = rw c.self.view_is at c.self.invariant.0 in
+    let kinds : c.loop-entry.self-inside.kinds.items ≡ c.self.inside.kinds.items = i.kinds ∙ sym (ap (λ (u : Circuit). u.kinds) c.self.view_is) in (
+      graph-kept _ c.args.self.now i.kinds i.inputs i.fanouts graph,
+      λ m h none. c.self.invariant.1 m (omega (arith, h, i.least)) (ap (λ (ks : List (Option Kind)). kind_at ks m) (sym kinds) ∙ none),
+    )

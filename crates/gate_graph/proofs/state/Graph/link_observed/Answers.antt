@@ -1,0 +1,28 @@
+use Rattle.std.proofs.Common.{arith, refl}
+use Rattle.gate_graph.specs.Circuit.{Circuit}
+use Rattle.gate_graph.proofs.Observing.{observes}
+use Rattle.gate_graph.proofs.LeadOns.{live-in}
+use Rattle.gate_graph.proofs.KindAt.{kind-within}
+use Rattle.gate_graph.proofs.state.Graph.link_observed.Goals as goal
+
+pub link_new-pin-requires-clause-driver : goal.link_new-pin-requires-clause-driver
+link_new-pin-requires-clause-driver c =
+    let i = c.self.inside in
+    let v : Circuit = record { kinds = i.kinds.items; pool = i.pool; epoch = i.epoch } in
+    omega (arith, kind-within i.kinds.items c.args.node.0 (live-in v c.args.node.0 (rw (← c.self.view_is) at c.requires.node)), c.self.invariant.0.room)
+
+pub invariant_of-self : goal.invariant_of-self
+invariant_of-self c =
+    let i = c.self.inside in
+    let v : Circuit = record { kinds = i.kinds.items; pool = i.pool; epoch = i.epoch } in
+    let w : Circuit = record { kinds = i.kinds.items; pool = c.link_new-pin.new.pool; epoch = i.epoch } in
+    let a = observes v w c.link_new-pin.result.0 c.args.node.0 refl c.link_new-pin.ensures.rings c.look.ensures.rings c.look-2.ensures.rings c.self.invariant.0.wired (live-in v c.args.node.0 (rw (← c.self.view_is) at c.requires.node)) c.link_new-pin.ensures.fresh in
+    (record { wired = a.wired; room = omega (arith, c.self.invariant.0.room, c.link_new-pin.ensures.nodes); few = c.self.invariant.0.few }, c.self.invariant.1)
+
+pub returns-clause-net : goal.returns-clause-net
+returns-clause-net c =
+    let i = c.self.inside in
+    let v : Circuit = record { kinds = i.kinds.items; pool = i.pool; epoch = i.epoch } in
+    let w : Circuit = record { kinds = i.kinds.items; pool = c.link_new-pin.new.pool; epoch = i.epoch } in
+    let a = observes v w c.link_new-pin.result.0 c.args.node.0 refl c.link_new-pin.ensures.rings c.look.ensures.rings c.look-2.ensures.rings c.self.invariant.0.wired (live-in v c.args.node.0 (rw (← c.self.view_is) at c.requires.node)) c.link_new-pin.ensures.fresh in
+    rw (← c.self.view_is) a.net

@@ -1,0 +1,25 @@
+use Rattle.std.proofs.Common.{arith, ◌+◌}
+use Rattle.std.proofs.lemmas.Grind.{common_steps}
+use Rattle.std.specs.Ordering.{nat_cmp}
+use Rattle.std.specs.FinSet as finset
+use Rattle.gate_graph.proofs.Fresh.{rings-new, kinds-new, graph-new}
+use Rattle.gate_graph.proofs.Started.{net-started, fanouts-started}
+use Rattle.gate_graph.proofs.state.Graph.new.Goals as goal
+
+pub reserve-requires-clause-pins : goal.reserve-requires-clause-pins
+reserve-requires-clause-pins c = rw (c.new-pool.ensures.taken, finset.len-empty nat_cmp) (omega arith)
+
+pub returns-clause-net : goal.returns-clause-net
+returns-clause-net c =
+    net-started _ c.args.sources (kinds-new c.resize.new.self.items (c.args.sources + 2) c.args.sources (grind (arith, common_steps, c.in-Ok-resize.ensures.items, c.new-kinds.ensures.items)) (omega arith))
+    (rings-new c.new-pool.result c.reserve.new.self c.new-pool.ensures.inputs c.new-pool.ensures.fanouts c.new-pool.ensures.taken c.in-Ok.ensures.grown)
+
+pub returns-clause-fanouts : goal.returns-clause-fanouts
+returns-clause-fanouts c n = fanouts-started _ (rings-new c.new-pool.result c.reserve.new.self c.new-pool.ensures.inputs c.new-pool.ensures.fanouts c.new-pool.ensures.taken c.in-Ok.ensures.grown) n
+
+pub invariant_of-result : goal.invariant_of-result
+invariant_of-result c = (
+  graph-new _ c.reserve.new.self c.args.sources (kinds-new c.resize.new.self.items (c.args.sources + 2) c.args.sources (grind (arith, common_steps, c.in-Ok-resize.ensures.items, c.new-kinds.ensures.items)) (omega arith))
+      (rings-new c.new-pool.result c.reserve.new.self c.new-pool.ensures.inputs c.new-pool.ensures.fanouts c.new-pool.ensures.taken c.in-Ok.ensures.grown) (omega (arith, c.in-Ok.ensures.nodes)) c.requires,
+  λ m h. absurd (omega arith),
+)

@@ -1,0 +1,74 @@
+use Rattle.std.proofs.Common.{◌≡◌, ◌≢◌, ◌<◌, ℕ, length, map, arith, ap, ◌∙◌, true, None}
+use Rattle.std.proofs.lemmas.List.{length-map}
+use Rattle.rm_base.specs.declared.numbers.NodeId.{NodeId}
+use Rattle.pin_pool.specs.Ring.{has}
+use Rattle.gate_graph.specs.Rings.{kind_at, Wiring}
+use Rattle.gate_graph.specs.Circuit.{Circuit, IsGraph, kinds_live}
+use Rattle.gate_graph.proofs.LeadOns.{live-in}
+use Rattle.gate_graph.proofs.KindAt.{kind-within, live-next}
+use Rattle.gate_graph.proofs.Pinned.{dead-pins}
+use Rattle.gate_graph.proofs.Formed.{dead-node, live-node}
+use Rattle.gate_graph.proofs.Making.{free-found}
+use Rattle.gate_graph.proofs.Filling.{fills}
+use Rattle.gate_graph.proofs.state.Graph.new_gate.Goals as goal
+
+pub link_all-requires-clause-none : goal.link_all-requires-clause-none
+link_all-requires-clause-none c =
+    let i = c.self.inside in
+    let v : Circuit = record { kinds = i.kinds.items; pool = i.pool; epoch = i.epoch } in
+    let g : IsGraph v = c.self.invariant.0 in
+    let least : kinds_live i.kinds.items c.least_free-node.result = rw c.deref.ensures.value at c.least_free-node.ensures.live in
+    let within : c.least_free-node.result < length i.kinds.items = free-found i.kinds.items c.least_free-node.result (rw (← c.self.view_is) at c.requires.nodes) least in
+    let free : kind_at i.kinds.items c.least_free-node.result ≡ None = (rw c.deref.ensures.value at c.least_free-node.ensures.free) within in
+    let drivers : (d : ℕ) → has d (map (λ (n : NodeId). n.0) c.args.drivers.now) ≡ true → kind_at v.kinds d ≢ None = λ d h. live-in v d ((rw (← c.self.view_is) at c.requires.drivers) d h) in
+    dead-pins v g.wired.shape c.least_free-node.result free
+
+pub link_all-requires-clause-gate : goal.link_all-requires-clause-gate
+link_all-requires-clause-gate c =
+    let i = c.self.inside in
+    let v : Circuit = record { kinds = i.kinds.items; pool = i.pool; epoch = i.epoch } in
+    let g : IsGraph v = c.self.invariant.0 in
+    let least : kinds_live i.kinds.items c.least_free-node.result = rw c.deref.ensures.value at c.least_free-node.ensures.live in
+    let within : c.least_free-node.result < length i.kinds.items = free-found i.kinds.items c.least_free-node.result (rw (← c.self.view_is) at c.requires.nodes) least in
+    let free : kind_at i.kinds.items c.least_free-node.result ≡ None = (rw c.deref.ensures.value at c.least_free-node.ensures.free) within in
+    let drivers : (d : ℕ) → has d (map (λ (n : NodeId). n.0) c.args.drivers.now) ≡ true → kind_at v.kinds d ≢ None = λ d h. live-in v d ((rw (← c.self.view_is) at c.requires.drivers) d h) in
+    omega (arith, within, g.room)
+
+pub link_all-requires-clause-drivers : goal.link_all-requires-clause-drivers
+link_all-requires-clause-drivers c =
+    let i = c.self.inside in
+    let v : Circuit = record { kinds = i.kinds.items; pool = i.pool; epoch = i.epoch } in
+    let g : IsGraph v = c.self.invariant.0 in
+    let least : kinds_live i.kinds.items c.least_free-node.result = rw c.deref.ensures.value at c.least_free-node.ensures.live in
+    let within : c.least_free-node.result < length i.kinds.items = free-found i.kinds.items c.least_free-node.result (rw (← c.self.view_is) at c.requires.nodes) least in
+    let free : kind_at i.kinds.items c.least_free-node.result ≡ None = (rw c.deref.ensures.value at c.least_free-node.ensures.free) within in
+    let drivers : (d : ℕ) → has d (map (λ (n : NodeId). n.0) c.args.drivers.now) ≡ true → kind_at v.kinds d ≢ None = λ d h. live-in v d ((rw (← c.self.view_is) at c.requires.drivers) d h) in
+    λ d h. omega (arith, kind-within i.kinds.items d (drivers d h), g.room)
+
+pub invariant_of-self : goal.invariant_of-self
+invariant_of-self c =
+    let i = c.self.inside in
+    let v : Circuit = record { kinds = i.kinds.items; pool = i.pool; epoch = i.epoch } in
+    let g : IsGraph v = c.self.invariant.0 in
+    let least : kinds_live i.kinds.items c.least_free-node.result = rw c.deref.ensures.value at c.least_free-node.ensures.live in
+    let within : c.least_free-node.result < length i.kinds.items = free-found i.kinds.items c.least_free-node.result (rw (← c.self.view_is) at c.requires.nodes) least in
+    let free : kind_at i.kinds.items c.least_free-node.result ≡ None = (rw c.deref.ensures.value at c.least_free-node.ensures.free) within in
+    let drivers : (d : ℕ) → has d (map (λ (n : NodeId). n.0) c.args.drivers.now) ≡ true → kind_at v.kinds d ≢ None = λ d h. live-in v d ((rw (← c.self.view_is) at c.requires.drivers) d h) in
+    let w : Circuit = record { kinds = c.set_kind.new.kinds.items; pool = c.link_all.new.pool; epoch = i.epoch } in
+    let a = fills v w c.least_free-node.result c.args.kind (map (λ (n : NodeId). n.0) c.args.drivers.now) c.look.ensures.rings g.wired free c.link_all.ensures.filled (λ m. ap (λ (x : Wiring). x.kind m) (c.set_kind.ensures.kinds i.pool)) drivers (λ is. length-map c.args.drivers.now (λ (n : NodeId). n.0) ∙ c.requires.one is) c.requires.kind in (
+      record { wired = a.wired; room = omega (arith, g.room, c.link_all.ensures.nodes, c.set_kind.ensures.len); few = omega (arith, g.few, c.set_kind.ensures.len) },
+      live-next i.kinds.items c.set_kind.new.kinds.items i.pool c.least_free-node.result _ c.set_kind.ensures.kinds least (λ e. cc),
+    )
+
+pub returns-clause-made : goal.returns-clause-made
+returns-clause-made c =
+    let i = c.self.inside in
+    let v : Circuit = record { kinds = i.kinds.items; pool = i.pool; epoch = i.epoch } in
+    let g : IsGraph v = c.self.invariant.0 in
+    let least : kinds_live i.kinds.items c.least_free-node.result = rw c.deref.ensures.value at c.least_free-node.ensures.live in
+    let within : c.least_free-node.result < length i.kinds.items = free-found i.kinds.items c.least_free-node.result (rw (← c.self.view_is) at c.requires.nodes) least in
+    let free : kind_at i.kinds.items c.least_free-node.result ≡ None = (rw c.deref.ensures.value at c.least_free-node.ensures.free) within in
+    let drivers : (d : ℕ) → has d (map (λ (n : NodeId). n.0) c.args.drivers.now) ≡ true → kind_at v.kinds d ≢ None = λ d h. live-in v d ((rw (← c.self.view_is) at c.requires.drivers) d h) in
+    let w : Circuit = record { kinds = c.set_kind.new.kinds.items; pool = c.link_all.new.pool; epoch = i.epoch } in
+    let a = fills v w c.least_free-node.result c.args.kind (map (λ (n : NodeId). n.0) c.args.drivers.now) c.look.ensures.rings g.wired free c.link_all.ensures.filled (λ m. ap (λ (x : Wiring). x.kind m) (c.set_kind.ensures.kinds i.pool)) drivers (λ is. length-map c.args.drivers.now (λ (n : NodeId). n.0) ∙ c.requires.one is) c.requires.kind in
+    rw (← c.self.view_is) (record { number = record { free = dead-node v c.least_free-node.result free; least = λ m h. live-node v m (least m h) }; differs = a.differs; made = a.node })

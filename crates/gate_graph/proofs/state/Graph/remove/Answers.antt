@@ -1,0 +1,44 @@
+use Rattle.std.proofs.Common.{arith, refl, sym, Some, ◌≡◌}
+use Rattle.gate_graph.specs.Circuit.{Circuit}
+use Rattle.gate_graph.proofs.Removed.{removes}
+use Rattle.std.specs.Prelude.{slice_get}
+use Rattle.std.proofs.lemmas.Bool.{ne_eqb}
+use Rattle.pin_pool.specs.Pins.{list_of}
+use Rattle.gate_graph.specs.Circuit.{gate_pins}
+use Rattle.gate_graph.proofs.Ranked.{not-zero}
+use Rattle.gate_graph.proofs.Fanned.{reader-goes}
+use Rattle.gate_graph.proofs.state.Graph.remove.Goals as goal
+
+pub invariant_of-self : goal.invariant_of-self
+invariant_of-self c =
+    let i = c.self.inside in
+    let v : Circuit = record { kinds = i.kinds.items; pool = i.pool; epoch = i.epoch } in
+    let w : Circuit = record { kinds = i.kinds.items; pool = c.unlink_pin-slot.new.pool; epoch = i.epoch } in
+    let a = removes v w c.args.gate.0 c.args.position c.pin_of-pin.result c.unlink_pin-slot.result refl c.unlink_pin-slot.ensures.rings (rw (← c.self.view_is) at c.pin_of-pin.ensures.rings) c.look.ensures.rings c.self.invariant.0.wired (rw (← c.self.view_is) at c.requires.gate) (rw (← c.self.view_is) at c.pin_of-pin.ensures.pin) c.unlink_pin-slot.ensures.stood in
+    (record { wired = a.wired; room = omega (arith, c.self.invariant.0.room, c.unlink_pin-slot.ensures.nodes); few = c.self.invariant.0.few }, c.self.invariant.1)
+
+pub returns-clause-net : goal.returns-clause-net
+returns-clause-net c =
+    let i = c.self.inside in
+    let v : Circuit = record { kinds = i.kinds.items; pool = i.pool; epoch = i.epoch } in
+    let w : Circuit = record { kinds = i.kinds.items; pool = c.unlink_pin-slot.new.pool; epoch = i.epoch } in
+    let a = removes v w c.args.gate.0 c.args.position c.pin_of-pin.result c.unlink_pin-slot.result refl c.unlink_pin-slot.ensures.rings (rw (← c.self.view_is) at c.pin_of-pin.ensures.rings) c.look.ensures.rings c.self.invariant.0.wired (rw (← c.self.view_is) at c.requires.gate) (rw (← c.self.view_is) at c.pin_of-pin.ensures.pin) c.unlink_pin-slot.ensures.stood in
+    rw (← c.self.view_is) a.net
+
+pub returns-clause-undos : goal.returns-clause-undos
+returns-clause-undos c =
+    let i = c.self.inside in
+    let v : Circuit = record { kinds = i.kinds.items; pool = i.pool; epoch = i.epoch } in
+    let w : Circuit = record { kinds = i.kinds.items; pool = c.unlink_pin-slot.new.pool; epoch = i.epoch } in
+    let a = removes v w c.args.gate.0 c.args.position c.pin_of-pin.result c.unlink_pin-slot.result refl c.unlink_pin-slot.ensures.rings (rw (← c.self.view_is) at c.pin_of-pin.ensures.rings) c.look.ensures.rings c.self.invariant.0.wired (rw (← c.self.view_is) at c.requires.gate) (rw (← c.self.view_is) at c.pin_of-pin.ensures.pin) c.unlink_pin-slot.ensures.stood in
+    rw (← c.self.view_is, c.push.ensures.entries) (a.undos c.args.undos.now.entries)
+
+pub returns-clause-readers : goal.returns-clause-readers
+returns-clause-readers c =
+    let i = c.self.inside in
+    let v : Circuit = record { kinds = i.kinds.items; pool = i.pool; epoch = i.epoch } in
+    let w : Circuit = record { kinds = i.kinds.items; pool = c.unlink_pin-slot.new.pool; epoch = i.epoch } in
+    let at : Some c.pin_of-pin.result.0 ≡ slice_get (gate_pins v.pool c.args.gate.0) c.args.position = rw (← c.self.view_is) at c.pin_of-pin.ensures.pin in
+    let ne = not-zero v c.args.gate.0 c.args.position c.pin_of-pin.result.0 at in
+    let there : slice_get (list_of v.pool.inputs c.args.gate.0) c.args.position ≡ Some c.pin_of-pin.result.0 = sym (rw (ne_eqb c.args.gate.0 0 ne) at at) in
+    rw (← c.self.view_is) (reader-goes v w c.pin_of-pin.result.0 c.args.gate.0 c.args.position c.unlink_pin-slot.ensures.rings (rw (← c.self.view_is) at c.pin_of-pin.ensures.rings) c.look.ensures.rings c.self.invariant.0.wired ne there)

@@ -1,0 +1,51 @@
+use Rattle.std.proofs.Common.{arith, refl, sym, ◌≢◌}
+use Rattle.gate_graph.specs.Circuit.{Circuit}
+use Rattle.gate_graph.proofs.Reread.{rereads}
+use Rattle.gate_graph.proofs.Fanned.{readers-move}
+use Rattle.gate_graph.proofs.LeadOns.{live-in}
+use Rattle.gate_graph.proofs.KindAt.{kind-within}
+use Rattle.gate_graph.proofs.state.Graph.reread.Goals as goal
+
+pub move_fanouts-splice-requires-clause-from : goal.move_fanouts-splice-requires-clause-from
+move_fanouts-splice-requires-clause-from c =
+    let i = c.self.inside in
+    let v : Circuit = record { kinds = i.kinds.items; pool = i.pool; epoch = i.epoch } in
+    omega (arith, kind-within i.kinds.items c.args.from.0 (live-in v c.args.from.0 (rw (← c.self.view_is) at c.requires.from)), c.self.invariant.0.room)
+
+pub move_fanouts-splice-requires-clause-to : goal.move_fanouts-splice-requires-clause-to
+move_fanouts-splice-requires-clause-to c =
+    let i = c.self.inside in
+    let v : Circuit = record { kinds = i.kinds.items; pool = i.pool; epoch = i.epoch } in
+    omega (arith, kind-within i.kinds.items c.args.to.0 (live-in v c.args.to.0 (rw (← c.self.view_is) at c.requires.to)), c.self.invariant.0.room)
+
+pub invariant_of-self : goal.invariant_of-self
+invariant_of-self c =
+    let i = c.self.inside in
+    let v : Circuit = record { kinds = i.kinds.items; pool = i.pool; epoch = i.epoch } in
+    let w : Circuit = record { kinds = i.kinds.items; pool = c.move_fanouts-splice.new.pool; epoch = i.epoch } in
+    let a = rereads v w c.args.from.0 c.args.to.0 c.move_fanouts-splice.result refl c.move_fanouts-splice.ensures.rings c.look.ensures.rings c.look-2.ensures.rings c.self.invariant.0.wired (rw (← c.self.view_is) at c.requires.from) (rw (← c.self.view_is) at c.requires.to) c.requires.apart (rw (← c.self.view_is) at c.requires.path) c.move_fanouts-splice.ensures.splice in
+    (record { wired = a.wired; room = omega (arith, c.self.invariant.0.room, c.move_fanouts-splice.ensures.nodes); few = c.self.invariant.0.few }, c.self.invariant.1)
+
+pub returns-clause-net : goal.returns-clause-net
+returns-clause-net c =
+    let i = c.self.inside in
+    let v : Circuit = record { kinds = i.kinds.items; pool = i.pool; epoch = i.epoch } in
+    let w : Circuit = record { kinds = i.kinds.items; pool = c.move_fanouts-splice.new.pool; epoch = i.epoch } in
+    let a = rereads v w c.args.from.0 c.args.to.0 c.move_fanouts-splice.result refl c.move_fanouts-splice.ensures.rings c.look.ensures.rings c.look-2.ensures.rings c.self.invariant.0.wired (rw (← c.self.view_is) at c.requires.from) (rw (← c.self.view_is) at c.requires.to) c.requires.apart (rw (← c.self.view_is) at c.requires.path) c.move_fanouts-splice.ensures.splice in
+    rw (← c.self.view_is) a.net
+
+pub returns-clause-undos : goal.returns-clause-undos
+returns-clause-undos c =
+    let i = c.self.inside in
+    let v : Circuit = record { kinds = i.kinds.items; pool = i.pool; epoch = i.epoch } in
+    let w : Circuit = record { kinds = i.kinds.items; pool = c.move_fanouts-splice.new.pool; epoch = i.epoch } in
+    let a = rereads v w c.args.from.0 c.args.to.0 c.move_fanouts-splice.result refl c.move_fanouts-splice.ensures.rings c.look.ensures.rings c.look-2.ensures.rings c.self.invariant.0.wired (rw (← c.self.view_is) at c.requires.from) (rw (← c.self.view_is) at c.requires.to) c.requires.apart (rw (← c.self.view_is) at c.requires.path) c.move_fanouts-splice.ensures.splice in
+    rw (← c.self.view_is, c.push.ensures.entries) (a.undos c.args.undos.now.entries)
+
+pub returns-clause-readers : goal.returns-clause-readers
+returns-clause-readers c =
+    let i = c.self.inside in
+    let v : Circuit = record { kinds = i.kinds.items; pool = i.pool; epoch = i.epoch } in
+    let w : Circuit = record { kinds = i.kinds.items; pool = c.move_fanouts-splice.new.pool; epoch = i.epoch } in
+    let apart : c.args.from.0 ≢ c.args.to.0 = λ s. c.requires.apart (sym s) in
+    rw (← c.self.view_is) (readers-move v w c.args.from.0 c.args.to.0 apart c.move_fanouts-splice.ensures.rings)

@@ -1,0 +1,235 @@
+use Rattle.std.proofs.Common.{arith, refl, List, [], sym, ap, ◌∙◌, length, None, Option, ◌≡◌, ◌<◌, inl, subst}
+use Rattle.std.proofs.lemmas.List.{get_or_read}
+use Rattle.gate_net.specs.declared.Kind.{Kind}
+use Rattle.pin_pool.specs.Pins.{list_of}
+use Rattle.gate_graph.specs.Rings.{kind_at, AreRings, rings_of}
+use Rattle.gate_graph.specs.Circuit.{Circuit, IsGraph}
+use Rattle.gate_graph.proofs.KindAt.{kind-within, live-set}
+use Rattle.gate_graph.proofs.LeadOns.{live-in}
+use Rattle.gate_graph.proofs.Pinned.{has-at, map-none}
+use Rattle.gate_graph.proofs.Retiring.{emptied-start, emptied-step, retires, retire-count, none-first, some-first}
+use Rattle.gate_graph.proofs.state.Graph.retire.Goals as goal
+
+pub nth_pin-requires : goal.nth_pin-requires
+nth_pin-requires c =
+    let v = c.args.self.now in
+    let graph : IsGraph v = rw c.self.view_is at c.self.invariant.0 in
+    let i = c.loop-pin.invariant in
+    let g = c.args.gate.0 in
+    let w : Circuit = record { kinds = c.loop-pin.self-inside.kinds.items; pool = c.loop-pin.self-inside.pool; epoch = c.loop-pin.self-inside.epoch } in
+    let count = retire-count v g graph.wired.shape c.requires.gate in
+    let live = live-in v g (c.requires.gate.0, c.requires.gate.1.0) in
+    let within : g < length v.kinds = kind-within v.kinds g live in
+    omega (arith, within, graph.room, i.nodes)
+
+pub unlink_pin-slot-requires-clause-gate : goal.unlink_pin-slot-requires-clause-gate
+unlink_pin-slot-requires-clause-gate c =
+    let v = c.args.self.now in
+    let graph : IsGraph v = rw c.self.view_is at c.self.invariant.0 in
+    let i = c.loop-pin.invariant in
+    let g = c.args.gate.0 in
+    let w : Circuit = record { kinds = c.loop-pin.self-inside.kinds.items; pool = c.loop-pin.self-inside.pool; epoch = c.loop-pin.self-inside.epoch } in
+    let count = retire-count v g graph.wired.shape c.requires.gate in
+    let live = live-in v g (c.requires.gate.0, c.requires.gate.1.0) in
+    let within : g < length v.kinds = kind-within v.kinds g live in
+    let at = has-at (list_of w.pool.inputs g) 0 c.in-Some.pin.0 (sym c.in-Some.ensures) in
+    let some = some-first (list_of w.pool.inputs g) c.in-Some.pin.0 at in
+    (g, at)
+
+pub unlink_pin-slot-requires-clause-driver : goal.unlink_pin-slot-requires-clause-driver
+unlink_pin-slot-requires-clause-driver c =
+    let v = c.args.self.now in
+    let graph : IsGraph v = rw c.self.view_is at c.self.invariant.0 in
+    let i = c.loop-pin.invariant in
+    let g = c.args.gate.0 in
+    let w : Circuit = record { kinds = c.loop-pin.self-inside.kinds.items; pool = c.loop-pin.self-inside.pool; epoch = c.loop-pin.self-inside.epoch } in
+    let count = retire-count v g graph.wired.shape c.requires.gate in
+    let live = live-in v g (c.requires.gate.0, c.requires.gate.1.0) in
+    let within : g < length v.kinds = kind-within v.kinds g live in
+    let at = has-at (list_of w.pool.inputs g) 0 c.in-Some.pin.0 (sym c.in-Some.ensures) in
+    let some = some-first (list_of w.pool.inputs g) c.in-Some.pin.0 at in
+    i.emptied.driven g c.in-Some.pin.0 at
+
+pub push-requires : goal.push-requires
+push-requires c =
+    let v = c.args.self.now in
+    let graph : IsGraph v = rw c.self.view_is at c.self.invariant.0 in
+    let i = c.loop-pin.invariant in
+    let g = c.args.gate.0 in
+    let w : Circuit = record { kinds = c.loop-pin.self-inside.kinds.items; pool = c.loop-pin.self-inside.pool; epoch = c.loop-pin.self-inside.epoch } in
+    let count = retire-count v g graph.wired.shape c.requires.gate in
+    let live = live-in v g (c.requires.gate.0, c.requires.gate.1.0) in
+    let within : g < length v.kinds = kind-within v.kinds g live in
+    let at = has-at (list_of w.pool.inputs g) 0 c.in-Some.pin.0 (sym c.in-Some.ensures) in
+    let some = some-first (list_of w.pool.inputs g) c.in-Some.pin.0 at in
+    omega (arith, count, some, i.entries, c.requires.entries)
+
+pub loop-pin-smaller : goal.loop-pin-smaller
+loop-pin-smaller c =
+    let v = c.args.self.now in
+    let graph : IsGraph v = rw c.self.view_is at c.self.invariant.0 in
+    let i = c.loop-pin.invariant in
+    let g = c.args.gate.0 in
+    let w : Circuit = record { kinds = c.loop-pin.self-inside.kinds.items; pool = c.loop-pin.self-inside.pool; epoch = c.loop-pin.self-inside.epoch } in
+    let count = retire-count v g graph.wired.shape c.requires.gate in
+    let live = live-in v g (c.requires.gate.0, c.requires.gate.1.0) in
+    let within : g < length v.kinds = kind-within v.kinds g live in
+    let at = has-at (list_of w.pool.inputs g) 0 c.in-Some.pin.0 (sym c.in-Some.ensures) in
+    let some = some-first (list_of w.pool.inputs g) c.in-Some.pin.0 at in
+    let u : Circuit = record { kinds = c.loop-pin.self-inside.kinds.items; pool = c.unlink_pin-slot.new.pool; epoch = c.loop-pin.self-inside.epoch } in
+    let step = emptied-step v w u g c.in-Some.pin c.unlink_pin-slot.result c.args.undos.now.entries c.loop-pin.undos.entries graph.wired i.emptied refl c.unlink_pin-slot.ensures.rings c.look-in-Some.ensures.rings at c.unlink_pin-slot.ensures.stood in
+    omega (arith, step.1)
+
+pub loop-pin-preserved : goal.loop-pin-preserved
+loop-pin-preserved c =
+    let v = c.args.self.now in
+    let graph : IsGraph v = rw c.self.view_is at c.self.invariant.0 in
+    let i = c.loop-pin.invariant in
+    let g = c.args.gate.0 in
+    let w : Circuit = record { kinds = c.loop-pin.self-inside.kinds.items; pool = c.loop-pin.self-inside.pool; epoch = c.loop-pin.self-inside.epoch } in
+    let count = retire-count v g graph.wired.shape c.requires.gate in
+    let live = live-in v g (c.requires.gate.0, c.requires.gate.1.0) in
+    let within : g < length v.kinds = kind-within v.kinds g live in
+    let at = has-at (list_of w.pool.inputs g) 0 c.in-Some.pin.0 (sym c.in-Some.ensures) in
+    let some = some-first (list_of w.pool.inputs g) c.in-Some.pin.0 at in
+    let u : Circuit = record { kinds = c.loop-pin.self-inside.kinds.items; pool = c.unlink_pin-slot.new.pool; epoch = c.loop-pin.self-inside.epoch } in
+    let step = emptied-step v w u g c.in-Some.pin c.unlink_pin-slot.result c.args.undos.now.entries c.loop-pin.undos.entries graph.wired i.emptied refl c.unlink_pin-slot.ensures.rings c.look-in-Some.ensures.rings at c.unlink_pin-slot.ensures.stood in
+    record {
+      emptied = rw c.push.ensures.entries step.0;
+      entries = omega (arith, step.1, i.entries, c.push.ensures.spare);
+      nodes = c.unlink_pin-slot.ensures.nodes ∙ i.nodes;
+      spare = c.unlink_pin-slot.ensures.spare ∙ i.spare;
+      live = i.live;
+      epoch = i.epoch;
+      same = i.same;
+    }
+
+pub index-requires : goal.index-requires
+index-requires c =
+    let v = c.args.self.now in
+    let graph : IsGraph v = rw c.self.view_is at c.self.invariant.0 in
+    let i = c.loop-pin.invariant in
+    let g = c.args.gate.0 in
+    let w : Circuit = record { kinds = c.loop-pin.self-inside.kinds.items; pool = c.loop-pin.self-inside.pool; epoch = c.loop-pin.self-inside.epoch } in
+    let count = retire-count v g graph.wired.shape c.requires.gate in
+    let live = live-in v g (c.requires.gate.0, c.requires.gate.1.0) in
+    let within : g < length v.kinds = kind-within v.kinds g live in
+    omega (arith, within, ap length i.same, c.loop-pin.self-inside.kinds.ok.0)
+
+pub set_kind-requires : goal.set_kind-requires
+set_kind-requires c =
+    let v = c.args.self.now in
+    let graph : IsGraph v = rw c.self.view_is at c.self.invariant.0 in
+    let i = c.loop-pin.invariant in
+    let g = c.args.gate.0 in
+    let w : Circuit = record { kinds = c.loop-pin.self-inside.kinds.items; pool = c.loop-pin.self-inside.pool; epoch = c.loop-pin.self-inside.epoch } in
+    let count = retire-count v g graph.wired.shape c.requires.gate in
+    let live = live-in v g (c.requires.gate.0, c.requires.gate.1.0) in
+    let within : g < length v.kinds = kind-within v.kinds g live in
+    omega (arith, within, ap length i.same)
+
+pub push-requires-in-Some-index : goal.push-requires-in-Some-index
+push-requires-in-Some-index c =
+    let v = c.args.self.now in
+    let graph : IsGraph v = rw c.self.view_is at c.self.invariant.0 in
+    let i = c.loop-pin.invariant in
+    let g = c.args.gate.0 in
+    let w : Circuit = record { kinds = c.loop-pin.self-inside.kinds.items; pool = c.loop-pin.self-inside.pool; epoch = c.loop-pin.self-inside.epoch } in
+    let count = retire-count v g graph.wired.shape c.requires.gate in
+    let live = live-in v g (c.requires.gate.0, c.requires.gate.1.0) in
+    let within : g < length v.kinds = kind-within v.kinds g live in
+    let none : list_of w.pool.inputs g ≡ [] = none-first (list_of w.pool.inputs g) (sym c.nth_pin.ensures ∙ map-none _ c.nth_pin.result c.in_default.not-Some) in
+    omega (arith, count, ap length none, i.entries, c.requires.entries)
+
+pub unreachable-requires : goal.unreachable-requires
+unreachable-requires c =
+    let v = c.args.self.now in
+    let graph : IsGraph v = rw c.self.view_is at c.self.invariant.0 in
+    let i = c.loop-pin.invariant in
+    let g = c.args.gate.0 in
+    let w : Circuit = record { kinds = c.loop-pin.self-inside.kinds.items; pool = c.loop-pin.self-inside.pool; epoch = c.loop-pin.self-inside.epoch } in
+    let count = retire-count v g graph.wired.shape c.requires.gate in
+    let live = live-in v g (c.requires.gate.0, c.requires.gate.1.0) in
+    let within : g < length v.kinds = kind-within v.kinds g live in
+    let inside : g < length w.kinds = omega (arith, within, ap length i.same) in
+    let kind : kind_at w.kinds g ≡ c.index.result.now = sym (get_or_read w.kinds g c.index.result.now inside c.index.ensures None) in
+    live (ap (λ (ks : List (Option Kind)). kind_at ks g) (sym i.same) ∙ kind ∙ c.in-None.is)
+
+pub invariant_of-self : goal.invariant_of-self
+invariant_of-self c =
+    let v = c.args.self.now in
+    let graph : IsGraph v = rw c.self.view_is at c.self.invariant.0 in
+    let i = c.loop-pin.invariant in
+    let g = c.args.gate.0 in
+    let w : Circuit = record { kinds = c.loop-pin.self-inside.kinds.items; pool = c.loop-pin.self-inside.pool; epoch = c.loop-pin.self-inside.epoch } in
+    let count = retire-count v g graph.wired.shape c.requires.gate in
+    let live = live-in v g (c.requires.gate.0, c.requires.gate.1.0) in
+    let within : g < length v.kinds = kind-within v.kinds g live in
+    let none : list_of w.pool.inputs g ≡ [] = none-first (list_of w.pool.inputs g) (sym c.nth_pin.ensures ∙ map-none _ c.nth_pin.result c.in_default.not-Some) in
+    let inside : g < length w.kinds = omega (arith, within, ap length i.same) in
+    let kind : kind_at w.kinds g ≡ c.index.result.now = sym (get_or_read w.kinds g c.index.result.now inside c.index.ensures None) in
+    let u : Circuit = record { kinds = c.set_kind.new.kinds.items; pool = w.pool; epoch = w.epoch } in
+    let a = retires v w u g c.in-Some-index.kind c.args.undos.now.entries c.loop-pin.undos.entries (subst (λ (x : Circuit). AreRings (rings_of x.pool)) c.self.view_is c.look.ensures.rings) graph.wired i.emptied none c.requires.gate (kind ∙ c.in-Some-index.is) c.requires.unread (c.set_kind.ensures.kinds w.pool) c.set_kind.ensures.len in (
+      record { wired = a.wired; room = omega (arith, graph.room, ap length i.same, i.nodes, c.set_kind.ensures.len); few = omega (arith, graph.few, ap length i.same, c.set_kind.ensures.len) },
+      live-set w.kinds u.kinds w.pool g _ c.loop-pin.self-inside.least c.min-self-inside.result c.set_kind.ensures.kinds i.live (omega (arith, c.min-self-inside.ensures)) (inl (omega (arith, c.min-self-inside.ensures))),
+    )
+
+pub returns-clause-net : goal.returns-clause-net
+returns-clause-net c =
+    let v = c.args.self.now in
+    let graph : IsGraph v = rw c.self.view_is at c.self.invariant.0 in
+    let i = c.loop-pin.invariant in
+    let g = c.args.gate.0 in
+    let w : Circuit = record { kinds = c.loop-pin.self-inside.kinds.items; pool = c.loop-pin.self-inside.pool; epoch = c.loop-pin.self-inside.epoch } in
+    let count = retire-count v g graph.wired.shape c.requires.gate in
+    let live = live-in v g (c.requires.gate.0, c.requires.gate.1.0) in
+    let within : g < length v.kinds = kind-within v.kinds g live in
+    let none : list_of w.pool.inputs g ≡ [] = none-first (list_of w.pool.inputs g) (sym c.nth_pin.ensures ∙ map-none _ c.nth_pin.result c.in_default.not-Some) in
+    let inside : g < length w.kinds = omega (arith, within, ap length i.same) in
+    let kind : kind_at w.kinds g ≡ c.index.result.now = sym (get_or_read w.kinds g c.index.result.now inside c.index.ensures None) in
+    let u : Circuit = record { kinds = c.set_kind.new.kinds.items; pool = w.pool; epoch = w.epoch } in
+    let a = retires v w u g c.in-Some-index.kind c.args.undos.now.entries c.loop-pin.undos.entries (subst (λ (x : Circuit). AreRings (rings_of x.pool)) c.self.view_is c.look.ensures.rings) graph.wired i.emptied none c.requires.gate (kind ∙ c.in-Some-index.is) c.requires.unread (c.set_kind.ensures.kinds w.pool) c.set_kind.ensures.len in
+    a.net
+
+pub returns-clause-undos : goal.returns-clause-undos
+returns-clause-undos c =
+    let v = c.args.self.now in
+    let graph : IsGraph v = rw c.self.view_is at c.self.invariant.0 in
+    let i = c.loop-pin.invariant in
+    let g = c.args.gate.0 in
+    let w : Circuit = record { kinds = c.loop-pin.self-inside.kinds.items; pool = c.loop-pin.self-inside.pool; epoch = c.loop-pin.self-inside.epoch } in
+    let count = retire-count v g graph.wired.shape c.requires.gate in
+    let live = live-in v g (c.requires.gate.0, c.requires.gate.1.0) in
+    let within : g < length v.kinds = kind-within v.kinds g live in
+    let none : list_of w.pool.inputs g ≡ [] = none-first (list_of w.pool.inputs g) (sym c.nth_pin.ensures ∙ map-none _ c.nth_pin.result c.in_default.not-Some) in
+    let inside : g < length w.kinds = omega (arith, within, ap length i.same) in
+    let kind : kind_at w.kinds g ≡ c.index.result.now = sym (get_or_read w.kinds g c.index.result.now inside c.index.ensures None) in
+    let u : Circuit = record { kinds = c.set_kind.new.kinds.items; pool = w.pool; epoch = w.epoch } in
+    let a = retires v w u g c.in-Some-index.kind c.args.undos.now.entries c.loop-pin.undos.entries (subst (λ (x : Circuit). AreRings (rings_of x.pool)) c.self.view_is c.look.ensures.rings) graph.wired i.emptied none c.requires.gate (kind ∙ c.in-Some-index.is) c.requires.unread (c.set_kind.ensures.kinds w.pool) c.set_kind.ensures.len in
+    rw c.push-in-Some-index.ensures.entries a.undos
+
+pub returns-clause-entries : goal.returns-clause-entries
+returns-clause-entries c =
+    let v = c.args.self.now in
+    let graph : IsGraph v = rw c.self.view_is at c.self.invariant.0 in
+    let i = c.loop-pin.invariant in
+    let g = c.args.gate.0 in
+    let w : Circuit = record { kinds = c.loop-pin.self-inside.kinds.items; pool = c.loop-pin.self-inside.pool; epoch = c.loop-pin.self-inside.epoch } in
+    let count = retire-count v g graph.wired.shape c.requires.gate in
+    let live = live-in v g (c.requires.gate.0, c.requires.gate.1.0) in
+    let within : g < length v.kinds = kind-within v.kinds g live in
+    let none : list_of w.pool.inputs g ≡ [] = none-first (list_of w.pool.inputs g) (sym c.nth_pin.ensures ∙ map-none _ c.nth_pin.result c.in_default.not-Some) in
+    omega (arith, count, ap length none, i.entries, c.push-in-Some-index.ensures.spare)
+
+pub loop-pin-init : goal.loop-pin-init
+loop-pin-init c =
+    let o : Circuit = record { kinds = c.self.inside.kinds.items; pool = c.self.inside.pool; epoch = c.self.inside.epoch } in
+    rw (← c.self.view_is) (record {
+      emptied = emptied-start o c.args.gate.0 c.args.undos.now.entries c.look.ensures.rings c.self.invariant.0.wired;
+      entries = refl;
+      nodes = refl;
+      spare = refl;
+      live = c.self.invariant.1;
+      epoch = refl;
+      same = refl;
+    })

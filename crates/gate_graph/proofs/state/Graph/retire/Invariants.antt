@@ -1,0 +1,19 @@
+use Rattle.std.proofs.Common.{◌≡◌, ◌+◌, length}
+use Rattle.pin_pool.specs.Pins.{list_of}
+use Rattle.gate_graph.specs.Circuit.{Circuit, kinds_live}
+use Rattle.gate_graph.specs.Emptied.{IsEmptied}
+use Rattle.gate_graph.proofs.state.Graph.retire.Given as goal
+
+abbrev pub invariant-loop-pin : goal.invariant-loop-pin
+invariant-loop-pin l = record {
+  emptied : (let w : Circuit = record { kinds = l.self-inside.kinds.items; pool = l.self-inside.pool; epoch = l.self-inside.epoch } in IsEmptied l.fn.self w l.gate.0 l.fn.undos.entries l.undos.entries);
+  entries : l.undos.spare + length (list_of l.fn.self.pool.inputs l.gate.0) ≡ l.fn.undos.spare + length (list_of l.self-inside.pool.inputs l.gate.0);
+  nodes : length l.self-inside.pool.inputs ≡ length l.fn.self.pool.inputs;
+  spare : l.self-inside.pool.spare ≡ l.fn.self.pool.spare;
+  live : kinds_live l.self-inside.kinds.items l.self-inside.least;
+  epoch : l.self-inside.epoch ≡ l.fn.self.epoch;
+  same : l.self-inside.kinds.items ≡ l.fn.self.kinds;
+}
+
+abbrev pub decreases-loop-pin : goal.decreases-loop-pin
+decreases-loop-pin l = length (list_of l.self-inside.pool.inputs l.gate.0)

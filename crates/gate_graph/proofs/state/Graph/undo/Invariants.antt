@@ -1,0 +1,19 @@
+use Rattle.std.proofs.Common.{◌≡◌, ◌≤◌, length}
+use Rattle.gate_graph.specs.Rings.{wiring_of}
+use Rattle.gate_graph.specs.Entries.{CanGoBack, AreWithin, back_to}
+use Rattle.gate_graph.specs.Circuit.{wiring, kinds_live}
+use Rattle.gate_graph.proofs.state.Graph.undo.Given as goal
+
+abbrev pub invariant-loop-entry : goal.invariant-loop-entry
+invariant-loop-entry l = record {
+  back : CanGoBack (wiring_of l.self-inside.kinds.items l.self-inside.pool) l.undos.entries;
+  within : AreWithin (length l.self-inside.kinds.items) l.undos.entries;
+  same : back_to (wiring_of l.self-inside.kinds.items l.self-inside.pool) l.undos.entries ≡ back_to (wiring l.fn.self) l.fn.undos.entries;
+  room : length l.self-inside.kinds.items ≤ length l.self-inside.pool.inputs;
+  live : kinds_live l.self-inside.kinds.items l.self-inside.least;
+  few : length l.self-inside.kinds.items ≤ 4294967295;
+  epoch : l.self-inside.epoch ≡ l.fn.self.epoch;
+}
+
+abbrev pub decreases-loop-entry : goal.decreases-loop-entry
+decreases-loop-entry l = length l.undos.entries

@@ -1,0 +1,10 @@
+pub mod Rings
+pub mod Entries
+pub mod Circuit
+pub mod Trail
+pub mod Emptied
+pub mod Changes
+pub mod Holds
+pub mod Filled
+pub mod Start
+pub mod Readers

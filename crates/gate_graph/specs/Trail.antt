@@ -1,0 +1,8 @@
+-- What a contract sees of `Undos`.
+use Rattle.std.specs.Prelude.{ℕ, List}
+use Rattle.gate_graph.specs.declared.entries.Entry.{Entry}
+
+-- the entries, the newest first, and how many more have room
+pub record Trail : Type 0 where
+  pub entries : List Entry
+  pub spare : ℕ

@@ -1,0 +1,19 @@
+//! A graph of gates over a pool of pins, its edits, and their undoing.
+#![tactic(auto)]
+
+mod driver_iter;
+mod editing;
+mod entries;
+mod growing;
+mod pins;
+mod reader_iter;
+mod reading;
+mod rings;
+mod state;
+mod undoing;
+
+pub use driver_iter::Inputs;
+pub use editing::Edit;
+pub use entries::{Entry, Undos};
+pub use reader_iter::Fanouts;
+pub use state::{Graph, same_wiring};

@@ -1,0 +1,138 @@
+//! Pins of a gate.
+ghost use Rattle.std.specs.Prelude.{◌≡◌, ◌≢◌, ◌+◌, ◌<◌, ◌≤◌, ℕ, true, false, length, slice_get, Some, None, IfSome, [], ◌∷◌};
+ghost use Rattle.std.specs.Option.{option_map};
+ghost use Rattle.pin_pool.specs.Pins.{list_of, IsLinked};
+ghost use Rattle.gate_graph.specs.Rings.{kind_at};
+ghost use Rattle.gate_graph.specs.Circuit.{kinds_live, gate_pins, place_in, without_observed};
+ghost use Rattle.pin_pool.specs.Ring.{has};
+
+use crate::rings::look;
+use gate_net::Kind;
+use pin_pool::{PinIter, PinNo, Pool};
+
+// The kind that is kept for a number.
+pub(crate) fn stored_kind(kinds: &[Option<Kind>], node: u32) -> Option<Kind>
+    ensures { result ≡ kind_at kinds.now node }
+{
+    match kinds.get(node as usize) {
+        Some(kind) => *kind,
+        None => None,
+    }
+}
+
+// The pin at a position.
+pub(crate) fn nth_pin(pool: &Pool, gate: u32, position: u32) -> Option<PinNo>
+    requires { gate < length pool.now.inputs }
+    ensures { option_map (λ p. p.0) result ≡ slice_get (list_of pool.now.inputs gate) position }
+{
+    let mut left = position;
+    for pin in pool.inputs(gate) {
+        if left == 0 {
+            return Some(pin);
+        }
+        left -= 1;
+    }
+    None
+}
+
+// The least number from `from` on of no live node.
+pub(crate) fn least_free(kinds: &[Option<Kind>], from: u32) -> u32
+    requires few { length kinds.now ≤ 4294967295 }
+    requires live { kinds_live kinds.now from }
+    ensures live { kinds_live kinds.now result }
+    ensures free { result < length kinds.now → kind_at kinds.now result ≡ None }
+{
+    let mut at = from;
+    while (at as usize) < kinds.len() {
+        match kinds[at as usize] {
+            None => return at,
+            Some(_) => {}
+        }
+        at += 1;
+    }
+    at
+}
+
+// The pins of a gate, where those of number 0 are the observed places.
+pub(crate) fn pins_of_gate(pool: &Pool, gate: u32) -> PinIter<'_>
+    requires one { 1 < length pool.now.inputs }
+    requires gate { gate < length pool.now.inputs }
+    requires none { list_of pool.now.inputs 1 ≡ [] }
+    ensures pins { result ≡ gate_pins pool.now gate }
+    ensures few { length result ≤ 4294967295 }
+{
+    if gate == 0 {
+        return pool.inputs(1);
+    }
+    pool.inputs(gate)
+}
+
+// One more than the last number of a live node.
+pub(crate) fn last_live(kinds: &[Option<Kind>]) -> u32
+    requires few { length kinds.now ≤ 4294967295 }
+    requires some { (n : ℕ) × (kind_at kinds.now n ≢ None) }
+    ensures above { (m : ℕ) → result ≤ m → kind_at kinds.now m ≡ None }
+    ensures last { (m : ℕ) → m + 1 ≡ result → kind_at kinds.now m ≢ None }
+    ensures some { 0 < result }
+{
+    let mut bound = kinds.len() as u32;
+    while bound > 0 {
+        match kinds[(bound - 1) as usize] {
+            Some(_) => return bound,
+            None => {}
+        }
+        bound -= 1;
+    }
+    unreachable!()
+}
+
+// The place of a pin among those of its gate.
+pub(crate) fn place_of(pool: &Pool, gate: u32, pin: PinNo) -> u32
+    requires gate { gate < length pool.now.inputs }
+    requires there { has pin.0 (list_of pool.now.inputs gate) ≡ true }
+    ensures { result ≡ place_in (list_of pool.now.inputs gate) pin.0 }
+{
+    let mut at = 0u32;
+    for other in pool.inputs(gate) {
+        if other == pin {
+            return at;
+        }
+        at += 1;
+    }
+    unreachable!()
+}
+
+// The next pin that is no observed place.
+pub(crate) fn next_reading(pins: &mut PinIter<'_>, pool: &Pool) -> Option<PinNo>
+    requires linked { (p : ℕ) → has p pins.old ≡ true → IsLinked pool.now p }
+    ensures none { result ≡ None → without_observed (list_of pool.now.inputs 0) pins.old ≡ [] }
+    ensures rest { result ≡ None → pins.new ≡ [] }
+    ensures some { IfSome result (λ pin. without_observed (list_of pool.now.inputs 0) pins.old ≡ pin.0 ∷ without_observed (list_of pool.now.inputs 0) pins.new) }
+    ensures linked { IfSome result (λ pin. IsLinked pool.now pin.0) }
+    ensures reads { IfSome result (λ pin. has pin.0 (list_of pool.now.inputs 0) ≡ false) }
+    ensures kept { (p : ℕ) → has p pins.new ≡ true → has p pins.old ≡ true }
+{
+    look(pool);
+    while let Some(pin) = pins.next() {
+        if pool.gate_of(pin) != 0 {
+            return Some(pin);
+        }
+    }
+    None
+}
+
+// Whether an observed place is among the readers of a node.
+pub(crate) fn observes(pool: &Pool, node: u32) -> bool
+    requires within { node < length pool.now.fanouts }
+    requires linked { (p : ℕ) → has p (list_of pool.now.fanouts node) ≡ true → IsLinked pool.now p }
+    ensures found { result ≡ true → (p : ℕ) × ((has p (list_of pool.now.fanouts node) ≡ true) × (has p (list_of pool.now.inputs 0) ≡ true)) }
+    ensures none { result ≡ false → (p : ℕ) → has p (list_of pool.now.fanouts node) ≡ true → has p (list_of pool.now.inputs 0) ≡ false }
+{
+    look(pool);
+    for pin in pool.fanouts(node) {
+        if pool.gate_of(pin) == 0 {
+            return true;
+        }
+    }
+    false
+}

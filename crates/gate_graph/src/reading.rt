@@ -1,0 +1,138 @@
+//! Calls that read a graph.
+ghost use Rattle.std.specs.Prelude.{◌≡◌, ◌+◌, ◌<◌, ◌≤◌, ◌↔◌, [], Some, None, IsTrue, true, length, slice_get};
+ghost use Rattle.std.specs.Option.{option_map};
+ghost use Rattle.gate_graph.specs.Rings.{rings_of, AreRings, IsIn, kind_at};
+ghost use Rattle.gate_graph.specs.Circuit.{net_of, fanouts_of, IsGraph, gate_pins};
+ghost use Rattle.gate_net.specs.Net.{drivers_of, IsLive, IsObserved};
+
+use crate::driver_iter::Inputs;
+use crate::pins::{last_live, nth_pin, observes, pins_of_gate};
+use crate::reader_iter::Fanouts;
+use crate::rings::look;
+use crate::state::Graph;
+use pin_pool::PinNo;
+use rm_base::NodeId;
+
+impl Graph {
+    /// The driver of a pin, or None where there is no such pin.
+    pub fn driver(&self, gate: NodeId, position: u32) -> Option<NodeId>
+        ensures { option_map (λ n. n.0) result ≡ slice_get (drivers_of (net_of self.now) gate.0) position }
+    {
+        let Some(pin) = self.pin_at(gate, position) else {
+            return None;
+        };
+        Some(NodeId(self.pool.driver_of(pin)))
+    }
+
+    // The pin of a gate at a position.
+    fn pin_at(&self, gate: NodeId, position: u32) -> Option<PinNo>
+        ensures pin { option_map (λ p. p.0) result ≡ slice_get (gate_pins self.now.pool gate.0) position }
+        ensures graph { IsGraph self.now }
+        ensures rings { AreRings (rings_of self.now.pool) }
+    {
+        look(&self.pool);
+        if gate.0 == 0 {
+            return None;
+        }
+        if gate.0 as usize >= self.kinds.len() {
+            return None;
+        }
+        nth_pin(&self.pool, gate.0, position)
+    }
+
+    // The pin of a gate at a position where there is one.
+    pub(crate) fn pin_of(&self, gate: NodeId, position: u32) -> PinNo
+        requires { position < length (drivers_of (net_of self.now) gate.0) }
+        ensures pin { Some result.0 ≡ slice_get (gate_pins self.now.pool gate.0) position }
+        ensures linked { IsIn (rings_of self.now.pool).inputs result.0 × IsIn (rings_of self.now.pool).fanouts result.0 }
+        ensures rings { AreRings (rings_of self.now.pool) }
+    {
+        match self.pin_at(gate, position) {
+            Some(pin) => pin,
+            None => unreachable!(),
+        }
+    }
+
+    /// The drivers of a node, in pin order.
+    pub fn inputs_of(&self, node: NodeId) -> Inputs<'_>
+        requires { IsLive (net_of self.now) node.0 }
+        ensures drivers { result ≡ drivers_of (net_of self.now) node.0 }
+        ensures few { length result ≤ 4294967295 }
+    {
+        look(&self.pool);
+        let pins = pins_of_gate(&self.pool, node.0);
+        Inputs {
+            pins,
+            pool: &self.pool,
+        }
+    }
+
+    /// The pins that read a node, each as its gate and its position, in the order of their ring.
+    pub fn fanouts_of(&self, node: NodeId) -> Fanouts<'_>
+        requires { IsLive (net_of self.now) node.0 }
+        ensures { result ≡ fanouts_of self.now node.0 }
+    {
+        self.tell();
+        Fanouts {
+            pins: self.pool.fanouts(node.0),
+            pool: &self.pool,
+        }
+    }
+
+    /// The observed nodes, in order.
+    pub fn observed(&self) -> Inputs<'_>
+        ensures observed { result ≡ (net_of self.now).observed }
+        ensures few { length result ≤ 4294967295 }
+    {
+        self.tell();
+        Inputs {
+            pins: self.pool.inputs(0),
+            pool: &self.pool,
+        }
+    }
+
+    /// How many places are observed, in the time of as many steps.
+    pub fn observed_count(&self) -> usize
+        ensures { result ≡ length (net_of self.now).observed }
+    {
+        let mut count = 0usize;
+        for _ in self.observed() {
+            count += 1;
+        }
+        count
+    }
+
+    /// The node at an observed place, in the time of as many steps; `observed` gives all of them.
+    pub fn observed_at(&self, at: usize) -> NodeId
+        requires { at < length (net_of self.now).observed }
+        ensures { Some result.0 ≡ slice_get (net_of self.now).observed at }
+    {
+        let mut left = at;
+        for node in self.observed() {
+            if left == 0 {
+                return node;
+            }
+            left -= 1;
+        }
+        unreachable!()
+    }
+
+    /// Whether a node is observed, in the time of its readers.
+    pub fn is_observed(&self, node: NodeId) -> bool
+        ensures { IsTrue result ↔ IsObserved (net_of self.now) node.0 }
+    {
+        self.tell();
+        if node.0 as usize >= self.kinds.len() {
+            return false;
+        }
+        observes(&self.pool, node.0)
+    }
+
+    /// One more than the greatest number of a live node.
+    pub fn node_bound(&self) -> u32
+        ensures { result ≡ length (net_of self.now).nodes }
+    {
+        self.tell();
+        last_live(&self.kinds)
+    }
+}

@@ -1,0 +1,113 @@
+-- What follows forward and backward at a gate is right.
+use Rattle.std.proofs.Common.{Bool, List, None, Option, Some, [], ap, arith, false, inl, inr, map, not, refl, suc, sym, true, zero, ℕ, ◌∙◌, ◌∷◌, ◌≡◌}
+use Rattle.std.specs.List.{list_all, list_any}
+use Rattle.std.specs.Prelude.{if◌then◌else◌, slice_get, slice_set}
+use Rattle.gate_net.proofs.Bools.{and_both, bool_cases, never_opposite, not_not, or_either, same_bool_false, same_bool_true, some_same}
+use Rattle.gate_net.proofs.Junctions.{junction_cons_other, junction_cons_same, junction_member}
+use Rattle.gate_net.specs.Forward.{all_but, is_known, junction_back, junction_follows, value_back, value_forward}
+use Rattle.gate_net.specs.Values.{gate_value, junction, not_first, same_bool}
+use Rattle.gate_net.specs.declared.Kind.{Kind}
+use Rattle.gate_net.specs.declared.Kind.TheVariants.{And, Not, One, Or, Source, Zero}
+
+-- each known value is right
+abbrev pub Approximates : List (Option Bool) → List Bool → Type 0
+Approximates [] [] = Unit {0}
+Approximates [] (b ∷ bs) = ⊥
+Approximates (o ∷ os) [] = ⊥
+Approximates (o ∷ os) (b ∷ bs) = ((c : Bool) → o ≡ Some c → b ≡ c) × Approximates os bs
+
+pub approximates_map : (known : ℕ → Option Bool) (v : ℕ → Bool) (ds : List ℕ) → ((p x : ℕ) → slice_get ds p ≡ Some x → (c : Bool) → known x ≡ Some c → v x ≡ c) → Approximates (map known ds) (map v ds)
+approximates_map known v [] h = tt
+approximates_map known v (d ∷ ds) h = (h 0 d refl, approximates_map known v ds (λ p x e. h (suc p) x e))
+
+pub approximates_set : (os : List (Option Bool)) (bs : List Bool) (p : ℕ) (b : Bool) → Approximates os bs → Approximates (slice_set os p (Some b)) (slice_set bs p b)
+approximates_set [] [] p b h = tt
+approximates_set [] (x ∷ bs) p b h = absurd h
+approximates_set (o ∷ os) [] p b h = absurd h
+approximates_set (o ∷ os) (x ∷ bs) zero b h = (λ c e. some_same e, h.1)
+approximates_set (o ∷ os) (x ∷ bs) (suc p) b h = (h.0, approximates_set os bs p b h.1)
+
+pub is_known_true : (c : Bool) (o : Option Bool) → is_known c o ≡ true → o ≡ Some c
+is_known_true c None e = cc
+is_known_true c (Some b) e = ap Some (sym (same_bool_true c b e))
+
+pub junction_any : (c : Bool) (os : List (Option Bool)) (bs : List Bool) → Approximates os bs → list_any (is_known c) os ≡ true → junction c bs ≡ c
+junction_any c [] bs h e = cc
+junction_any c (o ∷ os) [] h e = absurd h
+junction_any c (o ∷ os) (b ∷ bs) h e = elim (or_either (is_known c o) (list_any (is_known c) os) e) [
+  | inl here ↦ junction_cons_same c b bs (h.0 c (is_known_true c o here))
+  | inr later ↦ elim (bool_cases b c) [
+    | inl same ↦ junction_cons_same c b bs same
+    | inr other ↦ junction_cons_other c b bs other ∙ junction_any c os bs h.1 later
+  ]
+]
+
+pub junction_all : (c : Bool) (os : List (Option Bool)) (bs : List Bool) → Approximates os bs → list_all (is_known (not c)) os ≡ true → junction c bs ≡ not c
+junction_all c [] [] h e = refl
+junction_all c [] (b ∷ bs) h e = absurd h
+junction_all c (o ∷ os) [] h e = absurd h
+junction_all c (o ∷ os) (b ∷ bs) h e =
+    let both : (is_known (not c) o ≡ true) × (list_all (is_known (not c)) os ≡ true) = and_both (is_known (not c) o) (list_all (is_known (not c)) os) e in
+    junction_cons_other c b bs (h.0 (not c) (is_known_true (not c) o both.0)) ∙ junction_all c os bs h.1 both.1
+
+-- where all other pins have the noncontrolling value, the value is that of the pin
+pub junction_others : (c : Bool) (os : List (Option Bool)) (bs : List Bool) (q : ℕ) (r : Bool) → Approximates os bs → all_but (is_known (not c)) q os ≡ true → slice_get bs q ≡ Some r → junction c bs ≡ r
+junction_others c os [] q r h e there = cc
+junction_others c [] (b ∷ bs) q r h e there = absurd h
+junction_others c (o ∷ os) (b ∷ bs) zero r h e there = elim (bool_cases b c) [
+  | inl same ↦ junction_cons_same c b bs same ∙ sym same ∙ some_same there
+  | inr other ↦ junction_cons_other c b bs other ∙ junction_all c os bs h.1 e ∙ sym other ∙ some_same there
+]
+junction_others c (o ∷ os) (b ∷ bs) (suc q) r h e there =
+    let both : (is_known (not c) o ≡ true) × (all_but (is_known (not c)) q os ≡ true) = and_both (is_known (not c) o) (all_but (is_known (not c)) q os) e in
+    junction_cons_other c b bs (h.0 (not c) (is_known_true (not c) o both.0)) ∙ junction_others c os bs q r h.1 both.1 there
+
+pub junction_forward : (c value : Bool) (os : List (Option Bool)) (bs : List Bool) → Approximates os bs → junction_follows c os ≡ Some value → junction c bs ≡ value
+junction_forward c value os bs h e = any (list_any (is_known c) os) refl
+  where
+    all_same : (t : Bool) → list_all (is_known (not c)) os ≡ t → (if t then Some (not c) else None) ≡ Some value → junction c bs ≡ value
+    all_same true is e = junction_all c os bs h is ∙ some_same e
+    all_same false is e = cc
+
+    any : (t : Bool) → list_any (is_known c) os ≡ t → junction c bs ≡ value
+    any true is = junction_any c os bs h is ∙ some_same (rw is at e)
+    any false is = all_same (list_all (is_known (not c)) os) refl (rw is at e)
+
+pub value_forward_right : (kind : Kind) (value assigned : Bool) (os : List (Option Bool)) (bs : List Bool) → Approximates os bs → value_forward kind os ≡ Some value → gate_value kind assigned bs ≡ value
+value_forward_right Source value assigned os bs h e = cc
+value_forward_right Zero value assigned os bs h e = cc
+value_forward_right One value assigned os bs h e = cc
+value_forward_right And value assigned os bs h e = junction_forward false value os bs h e
+value_forward_right Or value assigned os bs h e = junction_forward true value os bs h e
+value_forward_right Not value assigned [] bs h e = cc
+value_forward_right Not value assigned (None ∷ os) bs h e = cc
+value_forward_right Not value assigned (Some b ∷ os) [] h e = absurd h
+value_forward_right Not value assigned (Some b ∷ os) (c ∷ bs) h e = ap not (h.0 b refl) ∙ some_same e
+
+pub junction_backward : (c value other r : Bool) (os : List (Option Bool)) (bs : List Bool) (q : ℕ) → Approximates os bs → slice_get bs q ≡ Some r → junction c bs ≡ value → junction_back c value os q ≡ Some other → r ≡ other
+junction_backward c value other r os bs q h there is e = at_value (same_bool value c) refl
+  where
+    others : (t : Bool) → all_but (is_known (not c)) q os ≡ t → value ≡ c → (if t then Some c else None) ≡ Some other → r ≡ other
+    others true all same e = sym (junction_others c os bs q r h all there) ∙ is ∙ same ∙ some_same e
+    others false all same e = cc
+
+    at_value : (t : Bool) → same_bool value c ≡ t → r ≡ other
+    at_value true test = others (all_but (is_known (not c)) q os) refl (same_bool_true value c test) (rw test at e)
+    at_value false test = elim (bool_cases r c) [
+      | inl same ↦ absurd (never_opposite c (sym (junction_member c bs q (there ∙ ap Some same)) ∙ is ∙ same_bool_false value c test))
+      | inr opposite ↦ opposite ∙ some_same (rw test at e)
+    ]
+
+pub not_first_back : (bs : List Bool) (q : ℕ) (value r : Bool) → q ≡ 0 → slice_get bs q ≡ Some r → not_first bs ≡ value → r ≡ not value
+not_first_back [] q value r zero_is there is = cc
+not_first_back (b ∷ bs) zero value r zero_is there is = sym (some_same there) ∙ sym (not_not b) ∙ ap not is
+not_first_back (b ∷ bs) (suc q) value r zero_is there is = absurd (omega arith)
+
+pub value_back_right : (kind : Kind) (value other r assigned : Bool) (os : List (Option Bool)) (bs : List Bool) (q : ℕ) → Approximates os bs → slice_get bs q ≡ Some r → gate_value kind assigned bs ≡ value → value_back kind value os q ≡ Some other → r ≡ other
+value_back_right Source value other r assigned os bs q h there is e = cc
+value_back_right Zero value other r assigned os bs q h there is e = cc
+value_back_right One value other r assigned os bs q h there is e = cc
+value_back_right And value other r assigned os bs q h there is e = junction_backward false value other r os bs q h there is e
+value_back_right Or value other r assigned os bs q h there is e = junction_backward true value other r os bs q h there is e
+value_back_right Not value other r assigned os bs zero h there is e = not_first_back bs zero value r refl there is ∙ some_same e
+value_back_right Not value other r assigned os bs (suc q) h there is e = cc

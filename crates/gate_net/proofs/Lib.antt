@@ -1,0 +1,13 @@
+pub mod Bools
+pub mod Places
+pub mod Junctions
+pub mod AlongPins
+pub mod Spread
+pub mod Valuations
+pub mod Edited
+pub mod Fixed
+pub mod Added
+pub mod Ordered
+pub mod Moved
+pub mod Follows
+pub mod Readings

@@ -1,0 +1,15 @@
+use Rattle.std.proofs.Common.{refl}
+use Rattle.std.specs.Fmt.{digits}
+use Rattle.graph_to_model.proofs.laws.worked_rows.Goals as goal
+
+pub returns-clause-r2 : goal.returns-clause-r2
+unfolding digits
+returns-clause-r2 c = refl
+
+pub returns-clause-r5 : goal.returns-clause-r5
+unfolding digits
+returns-clause-r5 c = refl
+
+pub returns-clause-prefix : goal.returns-clause-prefix
+unfolding digits
+returns-clause-prefix c = refl

@@ -1,0 +1,6 @@
+pub mod Names
+pub mod NetModel
+pub mod Wires
+pub mod Fits
+pub mod Laws
+pub mod Rows

@@ -1,0 +1,18 @@
+//! Laws of the definitions.
+ghost use Rattle.std.specs.Prelude.{◌≡◌};
+ghost use Rattle.cover_decompose.specs.Decomposition.{net_of_model};
+ghost use Rattle.cover_decompose.specs.Rows.{r2, r5};
+ghost use Rattle.graph_to_model.specs.NetModel.{model_of_net};
+ghost use Rattle.graph_to_model.specs.Rows.{copies, r2_out, r5_out, taken_prefix, taken_prefix_out};
+ghost use Rattle.graph_to_model.specs.Wires.{wires};
+
+/// Models of nets that are worked out by hand.
+pub fn worked_rows()
+    ensures r2 { (model_of_net r2 (net_of_model r2)).covers ≡ r2_out }
+    ensures r2_wires { wires (model_of_net r2 (net_of_model r2)) ≡ 4 }
+    ensures r5 { (model_of_net r5 (net_of_model r5)).covers ≡ r5_out }
+    ensures r5_wires { wires (model_of_net r5 (net_of_model r5)) ≡ 5 }
+    ensures copies { model_of_net copies (net_of_model copies) ≡ copies }
+    ensures copies_wires { wires copies ≡ 0 }
+    ensures prefix { (model_of_net taken_prefix (net_of_model taken_prefix)).covers ≡ taken_prefix_out }
+{}

@@ -1,0 +1,6 @@
+//! The model of a tidy net, for writing.
+#![tactic(auto)]
+
+mod laws;
+
+pub use laws::worked_rows;

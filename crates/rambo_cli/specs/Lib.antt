@@ -1,0 +1,5 @@
+pub mod Words
+pub mod Lines
+pub mod Problems
+pub mod Written
+pub mod Outcome

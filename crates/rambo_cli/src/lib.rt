@@ -1,0 +1,11 @@
+//! The program's commands, in one call over the words, the files, the output and the gate.
+#![tactic(auto)]
+
+mod command;
+mod lines;
+mod problem;
+mod translate;
+mod words;
+mod work;
+
+pub use command::run;

@@ -1,0 +1,89 @@
+//! The lines that a run puts.
+ghost use Rattle.std.specs.Prelude.{◌≡◌, IfOk};
+ghost use Rattle.rambo_cli.specs.Lines.{fault_word as word_of_fault, quantity_word as word_of_quantity, fault_line, limit_line};
+ghost use Rattle.rambo_cli.specs.Problems.{line_of};
+
+use crate::problem::Problem;
+use blif_format::{FaultKind, Quantity};
+use itoa::Buffer;
+use rm_base::{NoMemory, Place};
+use std::alloc::Global;
+
+fn fault_word(kind: FaultKind) -> &'static str
+    ensures { result.now ≡ word_of_fault kind }
+{
+    match kind {
+        FaultKind::BadByte => "BadByte",
+        FaultKind::OpenJoin => "OpenJoin",
+        FaultKind::NoModel => "NoModel",
+        FaultKind::Unsupported => "Unsupported",
+        FaultKind::UnknownCommand => "UnknownCommand",
+        FaultKind::MissingWord => "MissingWord",
+        FaultKind::ExtraWord => "ExtraWord",
+        FaultKind::RowOutsideCover => "RowOutsideCover",
+        FaultKind::RowLength => "RowLength",
+        FaultKind::RowCharacter => "RowCharacter",
+        FaultKind::MixedCover => "MixedCover",
+        FaultKind::BadLatchWord => "BadLatchWord",
+        FaultKind::DoubleDriven => "DoubleDriven",
+        FaultKind::DoubleOutput => "DoubleOutput",
+        FaultKind::AfterEnd => "AfterEnd",
+        FaultKind::Undriven => "Undriven",
+        FaultKind::NoRank => "NoRank",
+    }
+}
+
+fn quantity_word(quantity: Quantity) -> &'static str
+    ensures { result.now ≡ word_of_quantity quantity }
+{
+    match quantity {
+        Quantity::Text => "text",
+        Quantity::Name => "name",
+        Quantity::Inputs => "inputs",
+        Quantity::Sources => "sources",
+        Quantity::Observed => "observed",
+        Quantity::Signals => "signals",
+        Quantity::Pins => "pins",
+        Quantity::Journal => "journal",
+    }
+}
+
+fn fault_text(alloc: Global, kind: FaultKind, place: Place) -> Result<Vec<u8>, NoMemory>
+    ensures { IfOk result (λ line. line.items ≡ fault_line kind place) }
+{
+    let mut buffer = Buffer::new();
+    let mut line = Vec::from_slice(alloc, b"text ")?;
+    line.extend_from_slice(buffer.format(place.line).as_bytes())?;
+    line.extend_from_slice(b":")?;
+    line.extend_from_slice(buffer.format(place.column).as_bytes())?;
+    line.extend_from_slice(b" ")?;
+    line.extend_from_slice(fault_word(kind).as_bytes())?;
+    line.extend_from_slice(b"\n")?;
+    Ok(line)
+}
+
+fn limit_text(alloc: Global, quantity: Quantity, count: u64) -> Result<Vec<u8>, NoMemory>
+    ensures { IfOk result (λ line. line.items ≡ limit_line quantity count) }
+{
+    let mut buffer = Buffer::new();
+    let mut line = Vec::from_slice(alloc, b"limit ")?;
+    line.extend_from_slice(quantity_word(quantity).as_bytes())?;
+    line.extend_from_slice(b" ")?;
+    line.extend_from_slice(buffer.format(count).as_bytes())?;
+    line.extend_from_slice(b"\n")?;
+    Ok(line)
+}
+
+/// The line that a problem puts.
+pub fn line(alloc: Global, problem: Problem) -> Result<Vec<u8>, NoMemory>
+    ensures { IfOk result (λ line. line.items ≡ line_of problem) }
+{
+    match problem {
+        Problem::Words => Ok(Vec::from_slice(alloc, b"words refused\n")?),
+        Problem::Text { kind, place } => fault_text(alloc, kind, place),
+        Problem::Limit { quantity, count } => limit_text(alloc, quantity, count),
+        Problem::Missing => Ok(Vec::from_slice(alloc, b"fault shelf\n")?),
+        Problem::Fault => Ok(Vec::from_slice(alloc, b"fault shelf\n")?),
+        Problem::Memory => Ok(Vec::from_slice(alloc, b"memory\n")?),
+    }
+}

@@ -1,0 +1,14 @@
+pub mod Known
+pub mod LinesRight
+pub mod Refuting
+pub mod Stacks
+pub mod Partials
+pub mod Edges
+pub mod Grows
+pub mod Closings
+pub mod Depths
+pub mod Searches
+pub mod FactMarks
+pub mod Looks
+pub mod Told
+pub mod Walks

@@ -1,0 +1,10 @@
+use Rattle.std.proofs.Common.{◌≡◌, inl, inr, true, ◌∙◌, sym}
+use Rattle.std.proofs.lemmas.Bool.Decides.{eqb_tells}
+use Rattle.refutation.proofs.Looks.{glance_all, glance_not_all}
+use Rattle.refutation.proofs.glances.all_equal.Goals as goal
+
+pub returns : goal.returns
+returns c = elim (eqb_tells c.look.result.rest 0) [
+  | inl t ↦ t.0 ∙ sym (glance_all c.look.result _ _ c.look.ensures t.1)
+  | inr t ↦ t.0 ∙ sym (glance_not_all c.look.result _ _ c.look.ensures t.1)
+]

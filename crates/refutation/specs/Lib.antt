@@ -1,0 +1,11 @@
+pub mod Facts
+pub mod Lines
+pub mod Branches
+pub mod Stack
+pub mod Closing
+pub mod Learning
+pub mod OpenSearch
+pub mod Laws
+pub mod FactSets
+pub mod Pins
+pub mod Answers

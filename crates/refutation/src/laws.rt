@@ -1,0 +1,50 @@
+//! What holds of every line, every tree and every closed set of facts.
+ghost use Rattle.refutation.specs.Laws.{LinesHold, TreesRefute, StackReads, PartialReads, EdgesAreCounted, PartialsAreSmall, LinesGrow, ClosedHasAll, DetectedNeverClashes, ClosedMeet, ClosedBelow, OpenSearchesWait};
+
+/// Each line keeps the truth of the held facts, wherever some observed node differs.
+pub fn lines_hold()
+    ensures { LinesHold }
+{}
+
+/// An accepted closed tree leaves no assignment that detects the fault.
+pub fn trees_refute()
+    ensures { TreesRefute }
+{}
+
+/// Reading with a stack accepts exactly the items of accepted trees.
+pub fn stack_reads()
+    ensures closed { StackReads }
+    ensures partial { PartialReads }
+{}
+
+/// A tree's edges can be counted over its items, and a partial tree has few.
+pub fn edges_are_few()
+    ensures counted { EdgesAreCounted }
+    ensures few { PartialsAreSmall }
+{}
+
+/// A line's condition stays met while facts come and no two are opposed.
+pub fn lines_grow()
+    ensures { LinesGrow }
+{}
+
+/// A set that is closed under every line, without a clash, has every derivable fact.
+pub fn closed_has_all()
+    ensures { ClosedHasAll }
+{}
+
+/// A fault that some assignment detects leads to no clash at any depth of learning.
+pub fn detected_never_clashes()
+    ensures { DetectedNeverClashes }
+{}
+
+/// Two sets that are closed at a depth meet in one, and are closed at smaller depths.
+pub fn closed_sets_meet()
+    ensures meet { ClosedMeet }
+    ensures below { ClosedBelow }
+{}
+
+/// At a split of an open search, forward reading isn't quiet.
+pub fn open_searches_wait()
+    ensures { OpenSearchesWait }
+{}

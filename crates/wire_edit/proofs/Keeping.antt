@@ -1,0 +1,217 @@
+-- Steps keep the value of every observed place.
+use Rattle.std.proofs.Common.{◌≡◌, ◌≢◌, ℕ, zero, suc, ◌<◌, Bool, true, false, not, ◌⊎◌, inl, inr, Option, Some, None, List, [], ◌∷◌, ◌++◌, length, map, refl, sym, ◌∙◌, ap, arith}
+use Rattle.std.specs.Prelude.{slice_get, nat_eq, nat_lt, if◌then◌else◌}
+use Rattle.std.proofs.lemmas.Bool.Decides.{eqb_tells}
+use Rattle.std.proofs.lemmas.Bool.{both_ways, or_cases}
+use Rattle.gate_net.specs.declared.Kind.{Kind}
+use Rattle.gate_net.specs.declared.Kind.TheVariants.{Source, Zero, One, And, Or, Not}
+use Rattle.rm_base.specs.declared.numbers.Fault.{Fault}
+use Rattle.gate_net.specs.Net.{Node, Net, node_at, drivers_in, drivers_of, Reads, IsObserved, IsKind, IsLive, IsGate, IsAcyclic, HasConstants, IsWellFormed}
+use Rattle.gate_net.specs.Values.{same_bool, junction, gate_value, node_value, AreGoodValues, controlling, IsJunction, IsUndetected}
+use Rattle.gate_net.specs.Paths.{Reaches}
+use Rattle.gate_net.specs.Edits.{with_drivers, with_pin, last_pin, fixed, without, without_pin, constant_node, constant_kind, with_readers_moved, IsUnread, DiffersAt}
+use Rattle.gate_net.specs.Laws.{KeepsValues, KeepsPlaces}
+use Rattle.gate_net.proofs.Bools.{bool_cases, not_not, same_bool_refl, same_bool_not, same_bool_true, same_bool_false, and_both, some_same}
+use Rattle.gate_net.proofs.Places.{map_agree, map_at, map_pointwise}
+use Rattle.gate_net.proofs.Junctions.{junction_member, first_is}
+use Rattle.gate_net.proofs.AlongPins.{along_pins, value_at}
+use Rattle.gate_net.proofs.Valuations.{values_unique}
+use Rattle.gate_net.proofs.Edited.{node_at-other, node_at-there}
+use Rattle.gate_net.proofs.Fixed.{fixes_keep}
+use Rattle.gate_net.proofs.Added.{adds_keep}
+use Rattle.gate_net.proofs.Moved.{moves_keep}
+use Rattle.wire_edit.specs.declared.steps.Step.{Step}
+use Rattle.wire_edit.specs.declared.steps.Step.TheVariants.{Add, Fix, NewNot, Const, Same, NoPins, OnePin, Twice, Twin, Dead}
+use Rattle.wire_edit.specs.Tests.{is_present, is_junction, is_not, is_gate, control_of, driver_at, constant_at, second_driver, is_in_use, is_repeated}
+use Rattle.wire_edit.specs.Changes.{Change, append, remove, fix, readers, new_not, retire, changed, CanChange, with_new_not, without_node}
+use Rattle.wire_edit.specs.Steps.{is_not_at, same_some, Applies, constant_change, empty_node, or_zero, change_of, stepped}
+use Rattle.wire_edit.specs.Laws.{IsSound}
+use Rattle.wire_edit.proofs.Tested.{present, live_is, junction_is_one, control_is, not_is, constant_read, gate_is, junction_gate, not_gate, repeated_at, got, one_in, none_in, same_at}
+use Rattle.wire_edit.proofs.Canonical.{least_free, least_is_free}
+use Rattle.wire_edit.proofs.Conditions.{constant_is, second_is, applies_changes}
+use Rattle.wire_edit.proofs.Formed.{changes_keep_form, new_differs, gone_differs, free_unread}
+
+-- the same values at the observed nodes are the same at the observed places
+places : (v w : ℕ → Bool) (xs : List ℕ) → ((x : ℕ) → (k : ℕ) × (slice_get xs k ≡ Some x) → v x ≡ w x) → map v xs ≡ map w xs
+places v w [] h = refl
+places v w (x ∷ xs) h =
+    let first : v x ≡ w x = h x (0, refl) in
+    let rest : map v xs ≡ map w xs = places v w xs (λ y k. h y (suc k.0, k.1)) in
+    cc
+
+values_places : (net after : Net) → KeepsValues net after → after.observed ≡ net.observed → KeepsPlaces net after
+values_places net after keeps same a v w good good' = rw same (places v w net.observed (λ x k. keeps a v w good good' x k))
+
+-- a node whose function of its drivers stays as it was
+redriven_keeps : (net : Net) (gate : ℕ) (n : Node) (drivers : List ℕ) → node_at net gate ≡ Some n → IsAcyclic (with_drivers net gate drivers) → ((a v : ℕ → Bool) → AreGoodValues net a v → gate_value n.kind (a gate) (map v drivers) ≡ gate_value n.kind (a gate) (map v n.drivers)) → KeepsPlaces net (with_drivers net gate drivers)
+redriven_keeps net gate n drivers is acyclic same a v w good after =
+    map_pointwise v w (values_unique (with_drivers net gate drivers) acyclic a v w kept after) net.observed
+  where
+    kept : AreGoodValues (with_drivers net gate drivers) a v
+    kept x = elim (eqb_tells x gate) [
+      | inl t ↦ rw t.1 (good gate ∙ ap (λ o. node_value o (a gate) (map v (drivers_in o))) is ∙ sym (same a v good)
+          ∙ sym (ap (λ o. node_value o (a gate) (map v (drivers_in o))) (node_at-there net gate drivers n is)))
+      | inr t ↦ good x ∙ sym (ap (λ o. node_value o (a x) (map v (drivers_in o))) (node_at-other net gate drivers x t.1))
+    ]
+
+-- a pin with the noncontrolling value, or that another one repeats, may go
+junction_same : (c b : Bool) (bs : List Bool) → b ≡ c → junction c (b ∷ bs) ≡ c
+junction_same c b bs e = rw (e, same_bool_refl c) refl
+
+junction_other : (c b : Bool) (bs : List Bool) → b ≡ not c → junction c (b ∷ bs) ≡ junction c bs
+junction_other c b bs e = rw (e, same_bool_not c) refl
+
+junction-without : (c : Bool) (v : ℕ → Bool) (ds : List ℕ) (p d : ℕ) → slice_get ds p ≡ Some d → v d ≡ not c → junction c (map v (without ds p)) ≡ junction c (map v ds)
+junction-without c v [] p d e h = refl
+junction-without c v (x ∷ ds) zero d e h = let is : x ≡ d = cc in sym (junction_other c (v x) (map v ds) (rw is h))
+junction-without c v (x ∷ ds) (suc p) d e h = ap (λ t. if same_bool (v x) c then c else t) (junction-without c v ds p d e h)
+
+junction-repeated : (c : Bool) (v : ℕ → Bool) (ds : List ℕ) (q p d : ℕ) → q < p → slice_get ds q ≡ Some d → slice_get ds p ≡ Some d → junction c (map v (without ds p)) ≡ junction c (map v ds)
+junction-repeated c v [] q p d lt e f = refl
+junction-repeated c v (x ∷ ds) q zero d lt e f = absurd (omega arith)
+junction-repeated c v (x ∷ ds) zero (suc p) d lt e f = elim (bool_cases (v x) c) [
+  | inl same ↦ junction_same c (v x) (map v (without ds p)) same ∙ sym (junction_same c (v x) (map v ds) same)
+  | inr other ↦ let is : x ≡ d = cc in ap (λ t. if same_bool (v x) c then c else t) (junction-without c v ds p d f (rw is at other))
+]
+junction-repeated c v (x ∷ ds) (suc q) (suc p) d lt e f = ap (λ t. if same_bool (v x) c then c else t) (junction-repeated c v ds q p d (omega arith) e f)
+
+-- the value of a junction by its controlling value
+junction_value : (kind : Kind) (c assigned : Bool) (bs : List Bool) → controlling kind ≡ Some c → gate_value kind assigned bs ≡ junction c bs
+junction_value Source c assigned bs e = cc
+junction_value Zero c assigned bs e = cc
+junction_value One c assigned bs e = cc
+junction_value And c assigned bs e = let same : c ≡ false = cc in rw same refl
+junction_value Or c assigned bs e = let same : c ≡ true = cc in rw same refl
+junction_value Not c assigned bs e = cc
+
+constant_value : (net : Net) (a v : ℕ → Bool) (x : ℕ) (b : Bool) → AreGoodValues net a v → IsKind net x (constant_kind b) → v x ≡ b
+constant_value net a v x true good is = value_at net a v x One (map v (drivers_of net x)) is (good x)
+constant_value net a v x false good is = value_at net a v x Zero (map v (drivers_of net x)) is (good x)
+
+not_value : (net : Net) (a v : ℕ → Bool) (x d : ℕ) → AreGoodValues net a v → IsKind net x Not → Reads net x 0 d → v x ≡ not (v d)
+not_value net a v x d good is reads = value_at net a v x Not (map v (drivers_of net x)) is (good x) ∙ first_is (map v (drivers_of net x)) (v d) (map_at v (drivers_of net x) 0 d reads)
+
+junction_is : (net : Net) (a v : ℕ → Bool) (x : ℕ) (c : Bool) (j : IsJunction net x c) → AreGoodValues net a v → v x ≡ junction c (map v (drivers_of net x))
+junction_is net a v x c j good = value_at net a v x j.0 (map v (drivers_of net x)) j.1.0 (good x) ∙ junction_value j.0 c (a x) (map v (drivers_of net x)) j.1.1
+
+-- a pin of a junction goes
+pin_gone : (net : Net) (gate p : ℕ) (c : Bool) → IsAcyclic (without_pin net gate p) → IsJunction net gate c → ((a v : ℕ → Bool) → AreGoodValues net a v → junction c (map v (without (drivers_of net gate) p)) ≡ junction c (map v (drivers_of net gate))) → KeepsPlaces net (without_pin net gate p)
+pin_gone net gate p c after j same =
+    redriven_keeps net gate _ (without (drivers_of net gate) p) j.1.0.1 after (λ a v good.
+        junction_value j.0 c (a gate) (map v (without (drivers_of net gate) p)) j.1.1 ∙ same a v good ∙ sym (junction_value j.0 c (a gate) (map v (drivers_of net gate)) j.1.1)
+        ∙ ap (λ o. gate_value j.0 (a gate) (map v (drivers_in o))) j.1.0.1)
+
+-- readers move to a constant
+to_value : (net : Net) → IsWellFormed net → (gate to : ℕ) (b : Bool) → to ≡ constant_node b → IsAcyclic (with_readers_moved net gate to) → ((a v : ℕ → Bool) → AreGoodValues net a v → v gate ≡ b) → KeepsPlaces net (with_readers_moved net gate to)
+to_value net well gate to b e acyclic value =
+    moves_keep net gate to acyclic (λ a v good. value a v good ∙ sym (ap v e ∙ constant_value net a v (constant_node b) b good (constant_is net well.constants b)))
+
+-- the nets differ at one node, which nothing reads
+apart_keeps : (net after : Net) (gate : ℕ) → IsAcyclic net → DiffersAt net after gate → IsUnread net gate → KeepsPlaces net after
+apart_keeps net after gate acyclic d unread a v w good good' =
+    rw d.observed (places v w net.observed (λ x k. same x (λ e. unread.unobserved (rw e at k))))
+  where
+    same : (y : ℕ) → y ≢ gate → v y ≡ w y
+    same = along_pins net acyclic (λ y. y ≢ gate → v y ≡ w y) (λ y h ne.
+        good y ∙ ap (node_value (node_at net y) (a y)) (map_agree v w (drivers_of net y) (λ p x reads. h p x reads (λ e. unread.unread y p (rw e at reads))))
+        ∙ sym (ap (λ o. node_value o (a y) (map w (drivers_in o))) (d.others y ne)) ∙ sym (good' y))
+
+junction_one : (c b : Bool) → junction c (b ∷ []) ≡ b
+junction_one true true = refl
+junction_one true false = refl
+junction_one false true = refl
+junction_one false false = refl
+
+-- the only pin of a Not
+not_pin : (net : Net) → IsWellFormed net → (gate p d : ℕ) → IsKind net gate Not → Reads net gate p d → Reads net gate 0 d
+not_pin net well gate p d kind reads = let only : (e : ℕ) × (drivers_of net gate ≡ e ∷ []) = well.nots_have_one gate kind in at (drivers_of net gate) only.0 p only.1 reads
+  where
+    at : (ds : List ℕ) (e p : ℕ) → ds ≡ e ∷ [] → slice_get ds p ≡ Some d → slice_get ds 0 ≡ Some d
+    at [] e p is there = cc
+    at (x ∷ ds) e zero is there = there
+    at (x ∷ []) e (suc p) is there = cc
+    at (x ∷ y ∷ ds) e (suc p) is there = cc
+
+gate_no_control : (net : Net) (gate : ℕ) → is_gate net gate ≡ true → control_of net gate ≡ None → is_not net gate ≡ true
+gate_no_control net gate g e = let h : _ = ap (λ o. is_present o) e in elim (or_cases (is_junction net gate) (is_not net gate) g) [ inl j ↦ absurd (both_ways (is_junction net gate) h j) | inr n ↦ n ]
+
+module _ (net : Net) (well : IsWellFormed net) (gate p : ℕ) (g : is_gate net gate ≡ true) (b : Bool) (constant : constant_at net gate p ≡ Some b) where
+  reads : (d : ℕ) × (Reads net gate p d × IsKind net d (constant_kind b))
+  reads = let r : (d : ℕ) × (Reads net gate p d × (_ × IsKind net d (constant_kind b))) = constant_read net gate p b constant in (r.0, (r.1.0, r.1.1.1))
+
+  at_junction : (c t : Bool) → control_of net gate ≡ Some c → same_bool b c ≡ t → IsAcyclic (changed net (if t then readers gate (constant_node c) else remove gate p)) → KeepsPlaces net (changed net (if t then readers gate (constant_node c) else remove gate p))
+  at_junction c true is same acyclic =
+      let e : b ≡ c = same_bool_true b c same in
+      to_value net well gate (constant_node c) c refl acyclic (λ a v good.
+      junction_is net a v gate c (control_is net gate c is) good
+      ∙ junction_member c (map v (drivers_of net gate)) p (map_at v (drivers_of net gate) p reads.0 reads.1.0 ∙ ap Some (constant_value net a v reads.0 b good reads.1.1 ∙ e)))
+  at_junction c false is same acyclic =
+      let e : b ≡ not c = same_bool_false b c same in
+      pin_gone net gate p c acyclic (control_is net gate c is) (λ a v good. junction-without c v (drivers_of net gate) p reads.0 reads.1.0 (constant_value net a v reads.0 b good reads.1.1 ∙ e))
+
+  pub constant_keeps : (control : Option Bool) → control_of net gate ≡ control → IsAcyclic (changed net (constant_change gate p control (Some b))) → KeepsPlaces net (changed net (constant_change gate p control (Some b)))
+  constant_keeps None is acyclic =
+      let kind : IsKind net gate Not = not_is net gate (gate_no_control net gate g is) in
+      to_value net well gate (constant_node (not b)) (not b) refl acyclic (λ a v good.
+      not_value net a v gate reads.0 good kind (not_pin net well gate p reads.0 kind reads.1.0) ∙ ap not (constant_value net a v reads.0 b good reads.1.1))
+  constant_keeps (Some c) is acyclic = at_junction c (same_bool b c) is refl acyclic
+
+-- EACH STEP
+keeps_from : (net : Net) (step : Step) → IsAcyclic (stepped net step) → IsWellFormed net → Applies net step → IsSound net step → KeepsPlaces net (stepped net step)
+keeps_from net (Add gate node) acyclic well (j, (live, (ne, (apart, fresh)))) sound =
+    let c : (c : Bool) × ((control_of net gate.0 ≡ Some c) × IsJunction net gate.0 c) = junction_is_one net gate.0 j in
+    values_places net (with_pin net gate.0 node.0) (adds_keep net gate.0 node.0 c.1.1.0 c.0 c.1.1.1.0 c.1.1.1.1 (sound c.0 c.1.0)) refl
+keeps_from net (Fix gate position value) acyclic well (g, lt) sound =
+    let d : (d : ℕ) × (slice_get (drivers_of net gate.0) position ≡ Some d) = got (drivers_of net gate.0) position lt in
+    let fault : Fault = record { gate = gate; position = position; value = value } in
+    values_places net (fixed net fault) (fixes_keep net fault d.0 well.constants d.1 sound) refl
+keeps_from net (NewNot node) acyclic well e sound =
+    apart_keeps net (with_new_not net node.0) (least_free net.nodes) well.acyclic (new_differs net node.0) (free_unread net (least_free net.nodes) well (least_is_free net.nodes))
+keeps_from net (Const gate position) acyclic well e sound =
+    let a : (is_gate net gate.0 ≡ true) × _ = and_both (is_gate net gate.0) _ e in
+    let u : (is_in_use net gate.0 ≡ true) × _ = and_both (is_in_use net gate.0) _ a.1 in
+    let k : (k : Bool) × (constant_at net gate.0 position ≡ Some k) = present (constant_at net gate.0 position) u.1 in
+    let at : IsAcyclic (changed net (constant_change gate.0 position (control_of net gate.0) (Some k.0))) = rw k.1 at acyclic in
+    rw k.1 (constant_keeps net well gate.0 position a.0 k.0 k.1 (control_of net gate.0) refl at)
+keeps_from net (Same gate position) acyclic well e sound =
+    let a : (is_junction net gate.0 ≡ true) × _ = and_both (is_junction net gate.0) _ e in
+    let u : (is_in_use net gate.0 ≡ true) × (is_repeated (drivers_of net gate.0) position ≡ true) = and_both (is_in_use net gate.0) _ a.1 in
+    let c : (c : Bool) × ((control_of net gate.0 ≡ Some c) × IsJunction net gate.0 c) = junction_is_one net gate.0 a.0 in
+    let r : (d : ℕ) × ((q : ℕ) × ((q < position) × ((slice_get (drivers_of net gate.0) q ≡ Some d) × (slice_get (drivers_of net gate.0) position ≡ Some d)))) = repeated_at (drivers_of net gate.0) position u.1 in
+    pin_gone net gate.0 position c.0 acyclic c.1.1 (λ a v good. junction-repeated c.0 v (drivers_of net gate.0) r.1.0 position r.0 r.1.1.0 r.1.1.1.0 r.1.1.1.1)
+keeps_from net (NoPins gate) acyclic well e sound =
+    let a : (is_junction net gate.0 ≡ true) × _ = and_both (is_junction net gate.0) _ e in
+    let u : (is_in_use net gate.0 ≡ true) × (nat_eq (length (drivers_of net gate.0)) 0 ≡ true) = and_both (is_in_use net gate.0) _ a.1 in
+    let c : (c : Bool) × ((control_of net gate.0 ≡ Some c) × IsJunction net gate.0 c) = junction_is_one net gate.0 a.0 in
+    to_value net well gate.0 (empty_node (control_of net gate.0)) (not c.0) (ap empty_node c.1.0) acyclic (λ a v good.
+    junction_is net a v gate.0 c.0 c.1.1 good ∙ ap (λ ds. junction c.0 (map v ds)) (none_in (drivers_of net gate.0) u.1))
+keeps_from net (OnePin gate) acyclic well e sound =
+    let a : (is_junction net gate.0 ≡ true) × _ = and_both (is_junction net gate.0) _ e in
+    let u : (is_in_use net gate.0 ≡ true) × (nat_eq (length (drivers_of net gate.0)) 1 ≡ true) = and_both (is_in_use net gate.0) _ a.1 in
+    let c : (c : Bool) × ((control_of net gate.0 ≡ Some c) × IsJunction net gate.0 c) = junction_is_one net gate.0 a.0 in
+    let d : (d : ℕ) × (drivers_of net gate.0 ≡ d ∷ []) = one_in (drivers_of net gate.0) u.1 in
+    let is : or_zero (driver_at net gate.0 0) ≡ d.0 = ap (λ ds. or_zero (slice_get ds 0)) d.1 in
+    moves_keep net gate.0 (or_zero (driver_at net gate.0 0)) acyclic (λ a v good.
+    junction_is net a v gate.0 c.0 c.1.1 good ∙ ap (λ ds. junction c.0 (map v ds)) d.1 ∙ junction_one c.0 (v d.0) ∙ ap v (sym is))
+keeps_from net (Twice gate) acyclic well e sound =
+    let a : (is_not net gate.0 ≡ true) × _ = and_both (is_not net gate.0) _ e in
+    let u : (is_in_use net gate.0 ≡ true) × (is_not_at net (driver_at net gate.0 0) ≡ true) = and_both (is_in_use net gate.0) _ a.1 in
+    let s : (inner : ℕ) × ((driver : ℕ) × (Reads net gate.0 0 inner × (IsKind net inner Not × (Reads net inner 0 driver × (second_driver net gate.0 ≡ Some driver))))) = second_is net gate.0 well u.1 in
+    moves_keep net gate.0 (or_zero (second_driver net gate.0)) acyclic (λ sources v good.
+    not_value net sources v gate.0 s.0 good (not_is net gate.0 a.0) s.1.1.0 ∙ ap not (not_value net sources v s.0 s.1.0 good s.1.1.1.0 s.1.1.1.1.0) ∙ not_not (v s.1.0)
+    ∙ ap v (sym (ap or_zero s.1.1.1.1.1)))
+keeps_from net (Twin gate other) acyclic well e sound =
+    let a : (is_not net gate.0 ≡ true) × _ = and_both (is_not net gate.0) _ e in
+    let u : (is_in_use net gate.0 ≡ true) × _ = and_both (is_in_use net gate.0) _ a.1 in
+    let o : (is_not net other.0 ≡ true) × _ = and_both (is_not net other.0) _ u.1 in
+    let l : (nat_lt other.0 gate.0 ≡ true) × _ = and_both (nat_lt other.0 gate.0) _ o.1 in
+    let d : (d : ℕ) × ((driver_at net gate.0 0 ≡ Some d) × (driver_at net other.0 0 ≡ Some d)) = same_at (driver_at net gate.0 0) (driver_at net other.0 0) l.1 in
+    moves_keep net gate.0 other.0 acyclic (λ sources v good. not_value net sources v gate.0 d.0 good (not_is net gate.0 a.0) d.1.0 ∙ sym (not_value net sources v other.0 d.0 good (not_is net other.0 o.0) d.1.1))
+keeps_from net (Dead gate) acyclic well e sound =
+    let can : IsGate net gate.0 × IsUnread net gate.0 = applies_changes net (Dead gate) well e in
+    apart_keeps net (without_node net gate.0) gate.0 well.acyclic (gone_differs net gate.0) can.1
+
+pub steps_keep_values : (net : Net) (step : Step) → IsWellFormed net → Applies net step → IsSound net step → KeepsPlaces net (stepped net step)
+steps_keep_values net step well applies sound =
+    let after : IsWellFormed (stepped net step) = changes_keep_form net (change_of net step) well (applies_changes net step well applies) in
+    keeps_from net step after.acyclic well applies sound

@@ -1,0 +1,89 @@
+-- A gate with other drivers leaves the net well formed.
+use Rattle.std.proofs.Common.{◌≡◌, ◌≢◌, ℕ, zero, suc, ◌+◌, ◌-◌, ◌<◌, ◌≤◌, Bool, true, false, ◌⊎◌, inl, inr, Option, Some, None, List, [], ◌∷◌, ◌++◌, length, map, refl, sym, ◌∙◌, ap, arith}
+use Rattle.std.specs.Prelude.{slice_get, slice_set, nat_eq, if◌then◌else◌}
+use Rattle.std.specs.List.{sum_by}
+use Rattle.std.proofs.lemmas.Bool.Decides.{eqb_tells}
+use Rattle.gate_net.specs.declared.Kind.{Kind}
+use Rattle.gate_net.specs.declared.Kind.TheVariants.{Source, Zero, One, And, Or, Not}
+use Rattle.rm_base.specs.declared.numbers.Fault.{Fault}
+use Rattle.gate_net.specs.Net.{Node, Net, node_at, kind_in, drivers_in, drivers_of, flatten_option, Reads, IsObserved, IsKind, IsLive, IsGate, IsGateKind, IsAcyclic, IsRanked, HasConstants, HasSources, IsWellFormed, plain_node, count_in, source_in, source_count, trimmed}
+use Rattle.gate_net.specs.Values.{controlling, IsJunction}
+use Rattle.gate_net.specs.Edits.{with_drivers, constant_node, constant_kind, fixed, with_pin, without, without_pin, redirected, node_redirected, with_readers_moved, IsUnread, DiffersAt}
+use Rattle.wire_edit.proofs.Conditions.{same_kind, constant_is}
+use Rattle.gate_net.proofs.Edited.{node_at-other, node_at-there, flatten_some}
+use Rattle.wire_edit.proofs.Totals.{total_with}
+use Rattle.wire_edit.proofs.Canonical.{canonical_set}
+use Rattle.wire_edit.proofs.Plain.{some_none, source_weight, gate_weight, KeepsPlain, plain_constants, plain_sources}
+
+module _ (net : Net) (gate : ℕ) (ds : List ℕ) (well : IsWellFormed net) (g : IsGate net gate) where
+  abbrev node : Node
+  node = record { kind = g.0; drivers = g.1.0.0 }
+
+  abbrev after : Net
+  after = with_drivers net gate ds
+
+  there : node_at after gate ≡ Some (record { kind = g.0; drivers = ds })
+  there = node_at-there net gate ds node g.1.0.1
+
+  gate_kind : (kind : Kind) → IsKind net gate kind → IsGateKind kind
+  gate_kind kind is = let e : g.0 ≡ kind = same_kind net gate g.0 kind g.1.0 is in rw e at g.1.1
+
+  keeps : KeepsPlain net after
+  keeps = record { forth = forth; back = back; count = count }
+    where
+      forth : (x : ℕ) (kind : Kind) → node_at net x ≡ plain_node kind → (IsGateKind kind → ⊥) → node_at after x ≡ plain_node kind
+      forth x kind is k = elim (eqb_tells x gate) [
+        | inl t ↦ absurd (k (gate_kind kind ([], rw t.1 at is)))
+        | inr t ↦ node_at-other net gate ds x t.1 ∙ is
+      ]
+
+      back : (x : ℕ) (kind : Kind) → IsKind after x kind → (IsGateKind kind → ⊥) → IsKind net x kind
+      back x kind is k = elim (eqb_tells x gate) [
+        | inl t ↦
+            let here : IsKind after gate kind = rw t.1 at is in
+            let e : g.0 ≡ kind = same_kind after gate g.0 kind (ds, there) here in absurd (k (rw e at g.1.1))
+        | inr t ↦ (is.0, sym (node_at-other net gate ds x t.1) ∙ is.1)
+      ]
+
+      count : source_count after ≡ source_count net
+      count =
+          let total : sum_by source_weight after.nodes + source_weight (Some node) ≡ sum_by source_weight net.nodes + source_weight (Some (record node { drivers = ds })) = total_with source_weight net gate ds node g.1.0.1 in
+          let none : source_in g.0 ≡ 0 = gate_weight g.0 g.1.1 in
+          omega arith
+
+  live_after : (x : ℕ) → node_at net x ≢ None → node_at after x ≢ None
+  live_after x live e = elim (eqb_tells x gate) [
+    | inl t ↦ let here : node_at after gate ≡ None = rw t.1 at e in some_none (sym there ∙ here)
+    | inr t ↦ live (sym (node_at-other net gate ds x t.1) ∙ e)
+  ]
+
+  pub with_formed : IsAcyclic after → ((p x : ℕ) → slice_get ds p ≡ Some x → node_at net x ≢ None) → (g.0 ≡ Not → (d : ℕ) × (ds ≡ d ∷ [])) → IsWellFormed after
+  with_formed acyclic live one = record {
+    acyclic = acyclic;
+    constants = plain_constants net after well keeps;
+    only_zero = λ x is. well.only_zero x (keeps.back x Zero is (λ e. e));
+    only_one = λ x is. well.only_one x (keeps.back x One is (λ e. e));
+    sources = plain_sources net after well keeps;
+    nots_have_one = nots;
+    drivers_live = drivers;
+    observed_live = λ x o. live_after x (well.observed_live x o);
+    canonical = rw g.1.0.1 (canonical_set net.nodes gate node (record node { drivers = ds }) well.canonical (flatten_some (slice_get net.nodes gate) node g.1.0.1));
+  }
+    where
+      nots : (y : ℕ) → IsKind after y Not → (d : ℕ) × (drivers_of after y ≡ d ∷ [])
+      nots y is = elim (eqb_tells y gate) [
+        | inl t ↦
+            let here : IsKind after gate Not = rw t.1 at is in
+            let d : (d : ℕ) × (ds ≡ d ∷ []) = one (same_kind after gate g.0 Not (ds, there) here) in
+            (d.0, ap (drivers_of after) t.1 ∙ ap drivers_in there ∙ d.1)
+        | inr t ↦
+            let d : (d : ℕ) × (drivers_of net y ≡ d ∷ []) = well.nots_have_one y (is.0, sym (node_at-other net gate ds y t.1) ∙ is.1) in
+            (d.0, ap drivers_in (node_at-other net gate ds y t.1) ∙ d.1)
+      ]
+
+      drivers : (y p x : ℕ) → Reads after y p x → node_at after x ≢ None
+      drivers y p x reads = elim (eqb_tells y gate) [
+        | inl t ↦ let here : Reads after gate p x = rw t.1 at reads in live_after x (live p x (ap (λ es. slice_get es p) (sym (ap drivers_in there)) ∙ here))
+        | inr t ↦ live_after x (well.drivers_live y p x (ap (λ o. slice_get (drivers_in o) p) (sym (node_at-other net gate ds y t.1)) ∙ reads))
+      ]
+

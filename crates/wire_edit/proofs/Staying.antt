@@ -1,0 +1,361 @@
+-- Where no rule applies at a gate that a change doesn't touch, none applies afterwards.
+use Rattle.std.proofs.Common.{◌≡◌, ◌≢◌, ℕ, zero, suc, ◌+◌, ◌<◌, ◌≤◌, Bool, true, false, not, ◌&&◌, ◌||◌, ◌⊎◌, inl, inr, Option, Some, None, List, [], ◌∷◌, ◌++◌, length, map, refl, sym, ◌∙◌, ap, arith}
+use Rattle.std.specs.Prelude.{slice_get, slice_set, nat_lt, nat_eq, if◌then◌else◌, option_and_then}
+use Rattle.std.proofs.lemmas.Bool.{ltb-true, lt-ltb, cases_eq, both_ways, and_from, and_left, cases_lt, eq-eqb}
+use Rattle.std.proofs.lemmas.Bool.Decides.{eqb_tells}
+use Rattle.gate_net.specs.declared.Kind.{Kind}
+use Rattle.gate_net.specs.declared.Kind.TheVariants.{Source, Zero, One, And, Or, Not}
+use Rattle.gate_net.specs.Net.{Node, Net, node_at, kind_in, kind_of, drivers_in, drivers_of, flatten_option, Reads, IsObserved, IsKind, IsLive, IsGate, IsGateKind, IsWellFormed, trimmed}
+use Rattle.gate_net.specs.Values.{controlling, IsJunction}
+use Rattle.gate_net.specs.Edits.{with_drivers, with_pin, without, without_pin, fixed, constant_node, redirected, node_redirected, with_readers_moved, IsUnread}
+use Rattle.gate_net.proofs.Bools.{and_both, not_true}
+use Rattle.gate_net.proofs.Edited.{node_at-other, node_at-there}
+use Rattle.gate_net.proofs.Places.{set_other, set_cases}
+use Rattle.gate_net.proofs.Moved.{node_at-moved, drivers_redirected, redirect_cases}
+use Rattle.rm_base.specs.declared.numbers.NodeId.{NodeId}
+use Rattle.wire_edit.specs.declared.steps.Step.TheVariants.{Const, Same, NoPins, OnePin, Twice, Twin, Dead}
+use Rattle.wire_edit.specs.Tests.{is_present, gate_control, is_not_kind, kind_constant, is_junction, is_not, is_gate, is_in_use, constant_of, constant_at, driver_at, is_repeated}
+use Rattle.wire_edit.specs.Changes.{Change, append, remove, fix, readers, new_not, retire, changed, CanChange, with_new_not, without_node}
+use Rattle.wire_edit.specs.Steps.{rule_applies, is_not_at, same_some}
+use Rattle.wire_edit.specs.Order.{node}
+use Rattle.wire_edit.specs.Touched.{IsReadBy, IsNotOf, IsTouched}
+use Rattle.wire_edit.proofs.Tested.{gate_is, junction_gate, not_gate, not_is, is_gate_there, present_is, read_in_use, observed_in_use, used_by, same_at}
+use Rattle.wire_edit.proofs.Canonical.{least_free, least_is_free, least-there, gone-there}
+use Rattle.wire_edit.proofs.Plain.{some_none}
+use Rattle.wire_edit.proofs.Conditions.{same_kind, constant_is, one_driver}
+use Rattle.wire_edit.proofs.Formed.{new_differs, gone_differs, junction_kind, control_not}
+use Rattle.wire_edit.proofs.Ordering.{NoRules}
+use Rattle.wire_edit.proofs.Working.{with_kinds, moved_kinds}
+
+-- no rule applies where there is no gate
+pub no_gate_rules : (net : Net) (x : ℕ) → is_gate net x ≡ false → NoRules net x
+no_gate_rules net x e = record {
+  no_const = λ p. and_left (is_gate net x) _ e;
+  no_same = λ p. and_left (is_junction net x) _ no_junction;
+  no_empty = and_left (is_junction net x) _ no_junction;
+  no_single = and_left (is_junction net x) _ no_junction;
+  no_twice = and_left (is_not net x) _ no_not;
+  no_twin = λ other. and_left (is_not net x) _ no_not;
+  no_dead = and_left (is_gate net x) _ e;
+}
+  where
+    no_junction : is_junction net x ≡ false
+    no_junction = not_true (is_junction net x) (λ t. both_ways (is_gate net x) e (junction_gate net x t))
+
+    no_not : is_not net x ≡ false
+    no_not = not_true (is_not net x) (λ t. both_ways (is_gate net x) e (not_gate net x t))
+
+in_use_of : (net : Net) (x : ℕ) → NoRules net x → is_gate net x ≡ true → is_in_use net x ≡ true
+in_use_of net x r g = at (is_gate net x) (is_in_use net x) g r.no_dead
+  where
+    at : (g t : Bool) → g ≡ true → (g && not t) ≡ false → t ≡ true
+    at true true is e = refl
+    at true false is e = cc
+    at false t is e = cc
+
+-- a gate whose surroundings stay
+pub record Stays (net after : Net) (x : ℕ) : Type 0 where
+  pub kind : kind_of after x ≡ kind_of net x
+  pub drivers : drivers_of after x ≡ drivers_of net x
+  pub used : is_gate net x ≡ true → is_in_use net x ≡ true → is_in_use after x ≡ true
+  pub kinds : (p d : ℕ) → Reads net x p d → kind_of after d ≡ kind_of net d
+  pub twins : (other d : ℕ) → is_not net x ≡ true → Reads net x 0 d → is_not after other ≡ true → Reads after other 0 d → (is_not net other ≡ true) × Reads net other 0 d
+
+module _ (net after : Net) (x : ℕ) (r : NoRules net x) (s : Stays net after x) where
+  junction_back : is_junction after x ≡ true → is_junction net x ≡ true
+  junction_back e = ap (λ k. is_present (gate_control k)) (sym s.kind) ∙ e
+
+  not_back : is_not after x ≡ true → is_not net x ≡ true
+  not_back e = ap is_not_kind (sym s.kind) ∙ e
+
+  gate_back : is_gate after x ≡ true → is_gate net x ≡ true
+  gate_back e = ap (λ k. is_present (gate_control k) || is_not_kind k) (sym s.kind) ∙ e
+
+  used : is_gate net x ≡ true → is_in_use net x ≡ true
+  used g = in_use_of net x r g
+
+  no_const : (p : ℕ) → rule_applies after (Const (node x) p) ≡ false
+  no_const p = not_true _ (λ e.
+      let a : (is_gate after x ≡ true) × _ = and_both (is_gate after x) _ e in
+      let b : (is_in_use after x ≡ true) × (is_present (constant_at after x p) ≡ true) = and_both (is_in_use after x) _ a.1 in
+      let g : is_gate net x ≡ true = gate_back a.0 in
+      both_ways _ (r.no_const p) (and_from (is_gate net x) _ g (and_from (is_in_use net x) _ (used g) (ap is_present (sym (constants (driver_at net x p) refl)) ∙ b.1))))
+    where
+      constants : (o : Option ℕ) → driver_at net x p ≡ o → constant_at after x p ≡ constant_at net x p
+      constants None e =
+          ap (λ ds. option_and_then (constant_of after) (slice_get ds p)) s.drivers ∙ ap (option_and_then (constant_of after)) e ∙ sym (ap (option_and_then (constant_of net)) e)
+      constants (Some d) e =
+          ap (λ ds. option_and_then (constant_of after) (slice_get ds p)) s.drivers ∙ ap (option_and_then (constant_of after)) e ∙ ap kind_constant (s.kinds p d e) ∙ sym (ap (option_and_then (constant_of net)) e)
+
+  no_same : (p : ℕ) → rule_applies after (Same (node x) p) ≡ false
+  no_same p = not_true _ (λ e.
+      let a : (is_junction after x ≡ true) × _ = and_both (is_junction after x) _ e in
+      let b : (is_in_use after x ≡ true) × (is_repeated (drivers_of after x) p ≡ true) = and_both (is_in_use after x) _ a.1 in
+      let j : is_junction net x ≡ true = junction_back a.0 in
+      both_ways _ (r.no_same p) (and_from (is_junction net x) _ j (and_from (is_in_use net x) _ (used (junction_gate net x j)) (ap (λ ds. is_repeated ds p) (sym s.drivers) ∙ b.1))))
+
+  no_empty : rule_applies after (NoPins (node x)) ≡ false
+  no_empty = not_true _ (λ e.
+      let a : (is_junction after x ≡ true) × _ = and_both (is_junction after x) _ e in
+      let b : (is_in_use after x ≡ true) × (nat_eq (length (drivers_of after x)) 0 ≡ true) = and_both (is_in_use after x) _ a.1 in
+      let j : is_junction net x ≡ true = junction_back a.0 in
+      both_ways _ r.no_empty (and_from (is_junction net x) _ j (and_from (is_in_use net x) _ (used (junction_gate net x j)) (ap (λ (ds : List ℕ). nat_eq (length ds) 0) (sym s.drivers) ∙ b.1))))
+
+  no_single : rule_applies after (OnePin (node x)) ≡ false
+  no_single = not_true _ (λ e.
+      let a : (is_junction after x ≡ true) × _ = and_both (is_junction after x) _ e in
+      let b : (is_in_use after x ≡ true) × (nat_eq (length (drivers_of after x)) 1 ≡ true) = and_both (is_in_use after x) _ a.1 in
+      let j : is_junction net x ≡ true = junction_back a.0 in
+      both_ways _ r.no_single (and_from (is_junction net x) _ j (and_from (is_in_use net x) _ (used (junction_gate net x j)) (ap (λ (ds : List ℕ). nat_eq (length ds) 1) (sym s.drivers) ∙ b.1))))
+
+  no_twice : rule_applies after (Twice (node x)) ≡ false
+  no_twice = not_true _ (λ e.
+      let a : (is_not after x ≡ true) × _ = and_both (is_not after x) _ e in
+      let b : (is_in_use after x ≡ true) × (is_not_at after (driver_at after x 0) ≡ true) = and_both (is_in_use after x) _ a.1 in
+      let n : is_not net x ≡ true = not_back a.0 in
+      both_ways _ r.no_twice (and_from (is_not net x) _ n (and_from (is_in_use net x) _ (used (not_gate net x n)) (sym (nots (driver_at net x 0) refl) ∙ b.1))))
+    where
+      nots : (o : Option ℕ) → driver_at net x 0 ≡ o → is_not_at after (driver_at after x 0) ≡ is_not_at net (driver_at net x 0)
+      nots None e = ap (λ ds. is_not_at after (slice_get ds 0)) s.drivers ∙ ap (is_not_at after) e ∙ sym (ap (is_not_at net) e)
+      nots (Some d) e = ap (λ ds. is_not_at after (slice_get ds 0)) s.drivers ∙ ap (is_not_at after) e ∙ ap is_not_kind (s.kinds 0 d e) ∙ sym (ap (is_not_at net) e)
+
+  no_twin : (other : ℕ) → rule_applies after (Twin (node x) (node other)) ≡ false
+  no_twin other = not_true _ (λ e.
+      let a : (is_not after x ≡ true) × _ = and_both (is_not after x) _ e in
+      let b : (is_in_use after x ≡ true) × _ = and_both (is_in_use after x) _ a.1 in
+      let o : (is_not after other ≡ true) × _ = and_both (is_not after other) _ b.1 in
+      let l : (nat_lt other x ≡ true) × (same_some (driver_at after x 0) (driver_at after other 0) ≡ true) = and_both (nat_lt other x) _ o.1 in
+      let d : (d : ℕ) × ((driver_at after x 0 ≡ Some d) × (driver_at after other 0 ≡ Some d)) = same_at (driver_at after x 0) (driver_at after other 0) l.1 in
+      let n : is_not net x ≡ true = not_back a.0 in
+      let own : Reads net x 0 d.0 = ap (λ ds. slice_get ds 0) (sym s.drivers) ∙ d.1.0 in
+      let t : (is_not net other ≡ true) × Reads net other 0 d.0 = s.twins other d.0 n own o.0 d.1.1 in
+      both_ways _ (r.no_twin other) (and_from (is_not net x) _ n (and_from (is_in_use net x) _ (used (not_gate net x n))
+      (and_from (is_not net other) _ t.0 (and_from (nat_lt other x) _ l.0 (same_there (driver_at net x 0) (driver_at net other 0) d.0 own t.1))))))
+    where
+      same_there : (o q : Option ℕ) (d : ℕ) → o ≡ Some d → q ≡ Some d → same_some o q ≡ true
+      same_there None q d e f = cc
+      same_there (Some y) None d e f = cc
+      same_there (Some y) (Some z) d e f = let is : y ≡ z = cc in eq-eqb y z is
+
+  no_dead : rule_applies after (Dead (node x)) ≡ false
+  no_dead = not_true _ (λ e.
+      let a : (is_gate after x ≡ true) × (not (is_in_use after x) ≡ true) = and_both (is_gate after x) _ e in
+      let g : is_gate net x ≡ true = gate_back a.0 in
+      let u : is_in_use after x ≡ true = s.used g (used g) in
+      let wrong : not true ≡ true = ap not (sym u) ∙ a.1 in cc)
+
+  pub stays_quiet : NoRules after x
+  stays_quiet = record { no_const = no_const; no_same = no_same; no_empty = no_empty; no_single = no_single; no_twice = no_twice; no_twin = no_twin; no_dead = no_dead }
+
+-- a Not in use whose driver is a constant has a rule
+not_constant : (net : Net) → IsWellFormed net → (x : ℕ) → NoRules net x → is_not net x ≡ true → (b : Bool) → Reads net x 0 (constant_node b) → ⊥
+not_constant net well x r n b reads =
+    both_ways _ (r.no_const 0) (and_from (is_gate net x) _ (not_gate net x n) (and_from (is_in_use net x) _ (in_use_of net x r (not_gate net x n))
+    (ap (λ o. is_present (option_and_then (constant_of net) o)) reads ∙ constant_there b)))
+  where
+    constant_there : (b : Bool) → is_present (constant_of net (constant_node b)) ≡ true
+    constant_there true = ap (λ o. is_present (kind_constant (kind_in o))) well.constants.one_is
+    constant_there false = ap (λ o. is_present (kind_constant (kind_in o))) well.constants.zero_is
+
+still_used : (net after : Net) (x : ℕ) → ((y p : ℕ) → Reads net y p x → (q : ℕ) × Reads after y q x) → (IsObserved net x → IsObserved after x) → is_in_use net x ≡ true → is_in_use after x ≡ true
+still_used net after x reads observed e = elim (used_by net x e) [
+  | inl r ↦ let q : (q : ℕ) × Reads after r.0 q x = reads r.0 r.1.0 r.1.1 in read_in_use after x r.0 q.0 q.1
+  | inr o ↦ observed_in_use after x (observed o)
+]
+
+-- OTHER DRIVERS AT A GATE
+module _ (net : Net) (gate : ℕ) (ds : List ℕ) (g : IsGate net gate) (x : ℕ) (ne : x ≢ gate) where
+  abbrev after : Net
+  after = with_drivers net gate ds
+
+  other_drivers : (y : ℕ) → y ≢ gate → drivers_of after y ≡ drivers_of net y
+  other_drivers y h = ap drivers_in (node_at-other net gate ds y h)
+
+  gate_drivers : drivers_of after gate ≡ ds
+  gate_drivers = ap drivers_in (node_at-there net gate ds (record { kind = g.0; drivers = g.1.0.0 }) g.1.0.1)
+
+  pub with_stays : ((p : ℕ) → Reads net gate p x → (q : ℕ) × (slice_get ds q ≡ Some x)) → ((d : ℕ) → is_not net x ≡ true → Reads net x 0 d → is_not net gate ≡ true → slice_get ds 0 ≡ Some d → Reads net gate 0 d) → Stays net after x
+  with_stays kept twin = record {
+    kind = with_kinds net gate ds g x;
+    drivers = other_drivers x ne;
+    used = λ k u. still_used net after x reads (λ o. o) u;
+    kinds = λ p d r. with_kinds net gate ds g d;
+    twins = twins;
+  }
+    where
+      reads : (y p : ℕ) → Reads net y p x → (q : ℕ) × Reads after y q x
+      reads y p r = elim (eqb_tells y gate) [
+        | inl t ↦
+            let q : (q : ℕ) × (slice_get ds q ≡ Some x) = kept p (ap (λ z. slice_get (drivers_of net z) p) (sym t.1) ∙ r) in
+            (q.0, ap (λ z. slice_get (drivers_of after z) q.0) t.1 ∙ ap (λ es. slice_get es q.0) gate_drivers ∙ q.1)
+        | inr t ↦ (p, ap (λ es. slice_get es p) (other_drivers y t.1) ∙ r)
+      ]
+
+      twins : (other d : ℕ) → is_not net x ≡ true → Reads net x 0 d → is_not after other ≡ true → Reads after other 0 d → (is_not net other ≡ true) × Reads net other 0 d
+      twins other d n own is r =
+          let was : is_not net other ≡ true = ap is_not_kind (sym (with_kinds net gate ds g other)) ∙ is in
+          elim (eqb_tells other gate) [
+            | inl t ↦
+                let here : slice_get ds 0 ≡ Some d = ap (λ es. slice_get es 0) (sym gate_drivers) ∙ ap (λ z. slice_get (drivers_of after z) 0) (sym t.1) ∙ r in
+                (was, ap (λ z. slice_get (drivers_of net z) 0) t.1 ∙ twin d n own (ap (is_not net) (sym t.1) ∙ was) here)
+            | inr t ↦ (was, ap (λ es. slice_get es 0) (sym (other_drivers other t.1)) ∙ r)
+          ]
+
+junction_no_not : (net : Net) (gate : ℕ) (c : Bool) → IsJunction net gate c → is_not net gate ≡ true → ⊥
+junction_no_not net gate c j n = control_not j.0 c j.1.1 (same_kind net gate j.0 Not j.1.0 (not_is net gate n))
+
+last_kept : (ds : List ℕ) (d p x : ℕ) → slice_get ds p ≡ Some x → slice_get (ds ++ d ∷ []) p ≡ Some x
+last_kept [] d p x e = cc
+last_kept (y ∷ ds) d zero x e = e
+last_kept (y ∷ ds) d (suc p) x e = last_kept ds d p x e
+
+without_kept : (ds : List ℕ) (p q x : ℕ) → (slice_get ds p ≡ Some x → ⊥) → slice_get ds q ≡ Some x → (k : ℕ) × (slice_get (without ds p) k ≡ Some x)
+without_kept [] p q x ne e = cc
+without_kept (y ∷ ds) zero zero x ne e = absurd (ne e)
+without_kept (y ∷ ds) zero (suc q) x ne e = (q, e)
+without_kept (y ∷ ds) (suc p) zero x ne e = (0, e)
+without_kept (y ∷ ds) (suc p) (suc q) x ne e = let rest : (k : ℕ) × (slice_get (without ds p) k ≡ Some x) = without_kept ds p q x ne e in (suc rest.0, rest.1)
+
+set_kept : (ds : List ℕ) (p c q x : ℕ) → (slice_get ds p ≡ Some x → ⊥) → slice_get ds q ≡ Some x → slice_get (slice_set ds p c) q ≡ Some x
+set_kept ds p c q x ne e = set_other ds p q c (λ is. ne (ap (slice_get ds) (sym is) ∙ e)) ∙ e
+
+-- EACH CHANGE
+not_moved : (from to : ℕ) (ds : List ℕ) → ((p : ℕ) → slice_get ds p ≡ Some from → ⊥) → map (redirected from to) ds ≡ ds
+not_moved from to [] h = refl
+not_moved from to (d ∷ ds) h =
+    let rest : map (redirected from to) ds ≡ ds = not_moved from to ds (λ p e. h (suc p) e) in
+    let here : redirected from to d ≡ d = elim (eqb_tells d from) [ inl t ↦ absurd (h 0 (ap Some t.1)) | inr t ↦ rw t.0 refl ] in
+    cc
+
+moved_kept : (from to : ℕ) (ds : List ℕ) (p x : ℕ) → x ≢ from → slice_get ds p ≡ Some x → slice_get (map (redirected from to) ds) p ≡ Some x
+moved_kept from to [] p x ne e = cc
+moved_kept from to (d ∷ ds) zero x ne e =
+    let is : d ≡ x = cc in
+    elim (eqb_tells d from) [ inl t ↦ absurd (ne (sym is ∙ t.1)) | inr t ↦ rw t.0 (ap Some is) ]
+moved_kept from to (d ∷ ds) (suc p) x ne e = moved_kept from to ds p x ne e
+
+module _ (net : Net) (from to : ℕ) (well : IsWellFormed net) (can : CanChange net (readers from to)) (x : ℕ) (r : NoRules net x) (untouched : IsTouched net (readers from to) x → ⊥) where
+  abbrev moved : Net
+  moved = with_readers_moved net from to
+
+  moved_drivers : (y : ℕ) → drivers_of moved y ≡ map (redirected from to) (drivers_of net y)
+  moved_drivers y = ap drivers_in (node_at-moved net from to y) ∙ drivers_redirected from to (node_at net y)
+
+  below_two : (n : ℕ) → (1 < n → ⊥) → (n ≡ constant_node false) ⊎ (n ≡ constant_node true)
+  below_two zero h = inl refl
+  below_two (suc zero) h = inr refl
+  below_two (suc (suc n)) h = absurd (h (omega arith))
+
+  pub moved_stays : Stays net moved x
+  moved_stays = record {
+    kind = moved_kinds net from to well can x;
+    drivers = moved_drivers x ∙ not_moved from to (drivers_of net x) (λ p e. untouched (inr (inl (p, e))));
+    used = λ k u. still_used net moved x
+        (λ y p e. (p, ap (λ es. slice_get es p) (moved_drivers y) ∙ moved_kept from to (drivers_of net y) p x (λ is. untouched (inl is)) e))
+        (λ o. (o.0, moved_kept from to net.observed o.0 x (λ is. untouched (inl is)) o.1)) u;
+    kinds = λ p d e. moved_kinds net from to well can d;
+    twins = twins;
+  }
+    where
+      no_new : (other : ℕ) → is_not net x ≡ true → Reads net x 0 to → is_not net other ≡ true → Reads net other 0 from → ⊥
+      no_new other n own is reads = untouched (inr (inr (above, ((n, own), (other, (is, reads))))))
+        where
+          above : 1 < to
+          above = elim (cases_lt 1 to) [
+            | inl lt ↦ lt
+            | inr le ↦ elim (below_two to (λ lt. omega (arith, lt, le))) [
+              | inl z ↦ absurd (not_constant net well x r n false (own ∙ ap Some z))
+              | inr o ↦ absurd (not_constant net well x r n true (own ∙ ap Some o))
+            ]
+          ]
+
+      twins : (other d : ℕ) → is_not net x ≡ true → Reads net x 0 d → is_not moved other ≡ true → Reads moved other 0 d → (is_not net other ≡ true) × Reads net other 0 d
+      twins other d n own is reads =
+          let was : is_not net other ≡ true = ap is_not_kind (sym (moved_kinds net from to well can other)) ∙ is in
+          elim (redirect_cases from to (drivers_of net other) 0 d (ap (λ es. slice_get es 0) (sym (moved_drivers other)) ∙ reads)) [
+            | inl old ↦ (was, old)
+            | inr new ↦ absurd (no_new other n (own ∙ ap Some new.0) was new.1)
+          ]
+
+module _ (net : Net) (driver : ℕ) (well : IsWellFormed net) (live : IsLive net driver) (x : ℕ) (untouched : IsTouched net (new_not driver) x → ⊥) where
+  abbrev grown : Net
+  grown = with_new_not net driver
+
+  abbrev new : ℕ
+  new = least_free net.nodes
+
+  made : node_at grown new ≡ Some (record { kind = Not; drivers = driver ∷ [] })
+  made = least-there net.nodes (record { kind = Not; drivers = driver ∷ [] })
+
+  others : (y : ℕ) → y ≢ new → node_at grown y ≡ node_at net y
+  others y h = (new_differs net driver).others y h
+
+  not_new : x ≢ new
+  not_new e = untouched (ap (is_not grown) e ∙ ap (λ o. is_not_kind (kind_in o)) made, ap (λ y. slice_get (drivers_of grown y) 0) e ∙ ap (λ o. slice_get (drivers_in o) 0) made)
+
+  live_apart : (d : ℕ) → node_at net d ≢ None → d ≢ new
+  live_apart d alive e = alive (ap (node_at net) e ∙ least_is_free net.nodes)
+
+  reads_apart : (y p z : ℕ) → Reads net y p z → y ≢ new
+  reads_apart y p z reads e =
+      let none : slice_get {X = ℕ} [] p ≡ Some z = ap (λ o. slice_get (drivers_in o) p) (sym (ap (node_at net) e ∙ least_is_free net.nodes)) ∙ reads in cc
+
+  pub grown_stays : Stays net grown x
+  grown_stays = record {
+    kind = ap kind_in (others x not_new);
+    drivers = ap drivers_in (others x not_new);
+    used = λ k u. still_used net grown x (λ y p e. (p, ap (λ o. slice_get (drivers_in o) p) (others y (reads_apart y p x e)) ∙ e)) (λ o. o) u;
+    kinds = λ p d e. ap kind_in (others d (live_apart d (well.drivers_live x p d e)));
+    twins = twins;
+  }
+    where
+      twins : (other d : ℕ) → is_not net x ≡ true → Reads net x 0 d → is_not grown other ≡ true → Reads grown other 0 d → (is_not net other ≡ true) × Reads net other 0 d
+      twins other d n own is reads = elim (eqb_tells other new) [
+        | inl t ↦
+            let e : Some driver ≡ Some d = ap (λ o. slice_get (drivers_in o) 0) (sym made) ∙ ap (λ z. slice_get (drivers_of grown z) 0) (sym t.1) ∙ reads in
+            absurd (untouched (ap (λ o. is_not_kind (kind_in o)) (others x not_new) ∙ n, ap (λ o. slice_get (drivers_in o) 0) (others x not_new) ∙ own ∙ sym e))
+        | inr t ↦ (ap (λ o. is_not_kind (kind_in o)) (sym (others other t.1)) ∙ is, ap (λ o. slice_get (drivers_in o) 0) (sym (others other t.1)) ∙ reads)
+      ]
+
+module _ (net : Net) (gate : ℕ) (unread : IsUnread net gate) (x : ℕ) (ne : x ≢ gate) (untouched : IsTouched net (retire gate) x → ⊥) where
+  abbrev rest : Net
+  rest = without_node net gate
+
+  resting : (y : ℕ) → y ≢ gate → node_at rest y ≡ node_at net y
+  resting y h = (gone_differs net gate).others y h
+
+  pub rest_stays : Stays net rest x
+  rest_stays = record {
+    kind = ap kind_in (resting x ne);
+    drivers = ap drivers_in (resting x ne);
+    used = λ k u. still_used net rest x
+        (λ y p e. (p, ap (λ o. slice_get (drivers_in o) p) (resting y (λ is. untouched (p, ap (λ z. slice_get (drivers_of net z) p) (sym is) ∙ e))) ∙ e)) (λ o. o) u;
+    kinds = λ p d e. ap kind_in (resting d (λ is. unread.unread x p (e ∙ ap Some is)));
+    twins = λ other d n own is reads.
+        let apart : other ≢ gate = λ e. let wrong : false ≡ true = ap (λ o. is_not_kind (kind_in o)) (sym (ap (node_at rest) e ∙ gone-there net.nodes gate)) ∙ is in cc in
+        (ap (λ o. is_not_kind (kind_in o)) (sym (resting other apart)) ∙ is, ap (λ o. slice_get (drivers_in o) 0) (sym (resting other apart)) ∙ reads);
+  }
+
+pub untouched_quiet : (net : Net) (change : Change) → IsWellFormed net → CanChange net change → (x : ℕ) → NoRules net x → (IsTouched net change x → ⊥) → NoRules (changed net change) x
+untouched_quiet net (append gate driver) well (j, can) x r untouched =
+    stays_quiet net (with_pin net gate driver) x r (with_stays net gate (drivers_of net gate ++ driver ∷ []) (junction_kind net gate j.0 j.1) x untouched
+    (λ p e. (p, last_kept (drivers_of net gate) driver p x e)) (λ d n own is there. absurd (junction_no_not net gate j.0 j.1 is)))
+untouched_quiet net (remove gate position) well (j, lt) x r untouched =
+    stays_quiet net (without_pin net gate position) x r (with_stays net gate (without (drivers_of net gate) position) (junction_kind net gate j.0 j.1) x (λ e. untouched (inl e))
+    (λ p e. without_kept (drivers_of net gate) position p x (λ here. untouched (inr here)) e) (λ d n own is there. absurd (junction_no_not net gate j.0 j.1 is)))
+untouched_quiet net (fix gate position value) well (g, lt) x r untouched =
+    stays_quiet net (with_drivers net gate (slice_set (drivers_of net gate) position (constant_node value))) x r
+    (with_stays net gate (slice_set (drivers_of net gate) position (constant_node value)) g x (λ e. untouched (inl e))
+    (λ p e. (p, set_kept (drivers_of net gate) position (constant_node value) p x (λ here. untouched (inr here)) e))
+    (λ d n own is there. elim (set_cases (drivers_of net gate) position 0 (constant_node value) d there) [
+      | inl e ↦ absurd (not_constant net well x r n value (own ∙ ap Some e))
+      | inr old ↦ old
+    ]))
+untouched_quiet net (readers from to) well can x r untouched =
+    stays_quiet net (with_readers_moved net from to) x r (moved_stays net from to well can x r untouched)
+untouched_quiet net (new_not driver) well live x r untouched =
+    stays_quiet net (with_new_not net driver) x r (grown_stays net driver well live x untouched)
+untouched_quiet net (retire gate) well (g, unread) x r untouched = elim (eqb_tells x gate) [
+  | inl t ↦ no_gate_rules (without_node net gate) x (ap (λ o. is_present (gate_control (kind_in o)) || is_not_kind (kind_in o)) (ap (node_at (without_node net gate)) t.1 ∙ gone-there net.nodes gate))
+  | inr t ↦ stays_quiet net (without_node net gate) x r (rest_stays net gate unread x t.1 untouched)
+]

@@ -1,0 +1,210 @@
+-- What the tests of nodes tell.
+use Rattle.std.proofs.Common.{◌≡◌, ◌≢◌, ℕ, zero, suc, ◌<◌, Bool, true, false, not, ◌||◌, ◌⊎◌, inl, inr, Option, Some, None, List, [], ◌∷◌, refl, sym, ◌∙◌, ap, arith, length, take}
+use Rattle.std.specs.Prelude.{slice_get, nat_eq, option_and_then}
+use Rattle.std.proofs.lemmas.Bool.{eqb-true, eq-eqb, both_ways}
+use Rattle.gate_net.specs.declared.Kind.{Kind}
+use Rattle.gate_net.specs.declared.Kind.TheVariants.{Source, Zero, One, And, Or, Not}
+use Rattle.gate_net.specs.Net.{Node, Net, node_at, kind_in, kind_of, drivers_in, drivers_of, flatten_option, Reads, IsKind, IsLive, IsGate, IsGateKind, IsObserved}
+use Rattle.gate_net.specs.Values.{controlling, IsJunction}
+use Rattle.gate_net.specs.Edits.{constant_kind, IsUnread}
+use Rattle.gate_net.proofs.Bools.{or_either, or_true, not_true}
+use Rattle.wire_edit.specs.Tests.{is_present, is_live, gate_control, control_of, is_junction, is_not_kind, is_not, is_gate, kind_constant, constant_of, driver_at, constant_at, second_driver, is_among, is_read_in, is_in_use, is_some_among, is_repeated}
+use Rattle.wire_edit.specs.Steps.{is_not_at, same_some}
+
+pub present : {A : Type 0} (o : Option A) → is_present o ≡ true → (x : A) × (o ≡ Some x)
+present None e = cc
+present (Some x) e = (x, refl)
+
+pub absent : {A : Type 0} (o : Option A) → is_present o ≡ false → o ≡ None
+absent None e = refl
+absent (Some x) e = cc
+
+pub present_is : {A : Type 0} (o : Option A) (x : A) → o ≡ Some x → is_present o ≡ true
+present_is None x e = cc
+present_is (Some y) x e = refl
+
+pub live_is : (net : Net) (x : ℕ) → is_live net x ≡ true → IsLive net x
+live_is net x e = let n : (n : Node) × (node_at net x ≡ Some n) = present (node_at net x) e in (n.0.kind, (n.0.drivers, n.1))
+
+pub is_live_there : (net : Net) (x : ℕ) → IsLive net x → is_live net x ≡ true
+is_live_there net x l = present_is (node_at net x) _ l.1.1
+
+control_kind : (k : Kind) (c : Bool) → gate_control (Some k) ≡ Some c → controlling k ≡ Some c
+control_kind Source c e = cc
+control_kind Zero c e = cc
+control_kind One c e = cc
+control_kind And c e = e
+control_kind Or c e = e
+control_kind Not c e = cc
+
+control_node : (o : Option Node) (c : Bool) → gate_control (kind_in o) ≡ Some c → (kind : Kind) × (((ds : List ℕ) × (o ≡ Some (record { kind = kind; drivers = ds }))) × (controlling kind ≡ Some c))
+control_node None c e = cc
+control_node (Some n) c e = (n.kind, ((n.drivers, refl), control_kind n.kind c e))
+
+pub control_is : (net : Net) (x : ℕ) (c : Bool) → control_of net x ≡ Some c → IsJunction net x c
+control_is net x c e = control_node (node_at net x) c e
+
+pub junction_is_one : (net : Net) (x : ℕ) → is_junction net x ≡ true → (c : Bool) × ((control_of net x ≡ Some c) × IsJunction net x c)
+junction_is_one net x e = let c : (c : Bool) × (control_of net x ≡ Some c) = present (control_of net x) e in (c.0, (c.1, control_is net x c.0 c.1))
+
+not_node : (o : Option Node) → is_not_kind (kind_in o) ≡ true → (ds : List ℕ) × (o ≡ Some (record { kind = Not; drivers = ds }))
+not_node None e = cc
+not_node (Some n) e = (n.drivers, ap (λ (k : Kind). Some (record { kind = k; drivers = n.drivers })) (at n.kind e))
+  where
+    at : (k : Kind) → is_not_kind (Some k) ≡ true → k ≡ Not
+    at Source e = cc
+    at Zero e = cc
+    at One e = cc
+    at And e = cc
+    at Or e = cc
+    at Not e = refl
+
+pub not_is : (net : Net) (x : ℕ) → is_not net x ≡ true → IsKind net x Not
+not_is net x e = not_node (node_at net x) e
+
+constant_node_is : (o : Option Node) (b : Bool) → kind_constant (kind_in o) ≡ Some b → (ds : List ℕ) × (o ≡ Some (record { kind = constant_kind b; drivers = ds }))
+constant_node_is None b e = cc
+constant_node_is (Some n) b e = (n.drivers, ap (λ (k : Kind). Some (record { kind = k; drivers = n.drivers })) (at n.kind b e))
+  where
+    at : (k : Kind) (b : Bool) → kind_constant (Some k) ≡ Some b → k ≡ constant_kind b
+    at Source b e = cc
+    at Zero true e = cc
+    at Zero false e = refl
+    at One true e = refl
+    at One false e = cc
+    at And b e = cc
+    at Or b e = cc
+    at Not b e = cc
+
+pub constant_is_one : (net : Net) (x : ℕ) (b : Bool) → constant_of net x ≡ Some b → IsKind net x (constant_kind b)
+constant_is_one net x b e = constant_node_is (node_at net x) b e
+
+pub constant_read : (net : Net) (gate p : ℕ) (b : Bool) → constant_at net gate p ≡ Some b → (d : ℕ) × (Reads net gate p d × ((constant_of net d ≡ Some b) × IsKind net d (constant_kind b)))
+constant_read net gate p b e = at (driver_at net gate p) refl e
+  where
+    at : (o : Option ℕ) → driver_at net gate p ≡ o → option_and_then (constant_of net) o ≡ Some b → (d : ℕ) × (Reads net gate p d × ((constant_of net d ≡ Some b) × IsKind net d (constant_kind b)))
+    at None is e = cc
+    at (Some d) is e = (d, (is, (e, constant_is_one net d b e)))
+
+gate_either : (o : Option Node) → (is_present (gate_control (kind_in o)) || is_not_kind (kind_in o)) ≡ true → (kind : Kind) × (((ds : List ℕ) × (o ≡ Some (record { kind = kind; drivers = ds }))) × IsGateKind kind)
+gate_either None e = cc
+gate_either (Some n) e = (n.kind, ((n.drivers, refl), at n.kind e))
+  where
+    at : (k : Kind) → (is_present (gate_control (Some k)) || is_not_kind (Some k)) ≡ true → IsGateKind k
+    at Source e = cc
+    at Zero e = cc
+    at One e = cc
+    at And e = tt
+    at Or e = tt
+    at Not e = tt
+
+pub gate_is : (net : Net) (x : ℕ) → is_gate net x ≡ true → IsGate net x
+gate_is net x e = gate_either (node_at net x) e
+
+pub is_gate_there : (net : Net) (x : ℕ) → IsGate net x → is_gate net x ≡ true
+is_gate_there net x (kind, ((ds, is), k)) = ap (λ o. is_present (gate_control (kind_in o)) || is_not_kind (kind_in o)) is ∙ at kind k
+  where
+    at : (k : Kind) → IsGateKind k → (is_present (gate_control (Some k)) || is_not_kind (Some k)) ≡ true
+    at Source k = absurd k
+    at Zero k = absurd k
+    at One k = absurd k
+    at And k = refl
+    at Or k = refl
+    at Not k = refl
+
+pub junction_gate : (net : Net) (x : ℕ) → is_junction net x ≡ true → is_gate net x ≡ true
+junction_gate net x e = ap (λ b. b || is_not net x) e
+
+pub not_gate : (net : Net) (x : ℕ) → is_not net x ≡ true → is_gate net x ≡ true
+not_gate net x e = ap (λ b. is_junction net x || b) e ∙ or_true (is_junction net x)
+
+-- MEMBERS
+pub among_at : (x : ℕ) (xs : List ℕ) → is_among x xs ≡ true → (k : ℕ) × (slice_get xs k ≡ Some x)
+among_at x [] e = cc
+among_at x (y ∷ ys) e = elim (or_either (nat_eq y x) (is_among x ys) e) [
+  | inl here ↦ (0, ap Some (eqb-true y x here))
+  | inr later ↦ let rest : (k : ℕ) × (slice_get ys k ≡ Some x) = among_at x ys later in (suc rest.0, rest.1)
+]
+
+pub at_among : (x : ℕ) (xs : List ℕ) (k : ℕ) → slice_get xs k ≡ Some x → is_among x xs ≡ true
+at_among x [] k e = cc
+at_among x (y ∷ ys) zero e = let is : y ≡ x = cc in ap (λ b. b || is_among x ys) (eq-eqb y x is)
+at_among x (y ∷ ys) (suc k) e = ap (λ b. nat_eq y x || b) (at_among x ys k e) ∙ or_true (nat_eq y x)
+
+pub read_at : (os : List (Option Node)) (x : ℕ) → is_read_in os x ≡ true → (y : ℕ) × ((p : ℕ) × (slice_get (drivers_in (flatten_option (slice_get os y))) p ≡ Some x))
+read_at [] x e = cc
+read_at (o ∷ os) x e = elim (or_either (is_among x (drivers_in o)) (is_read_in os x) e) [
+  | inl here ↦ (0, among_at x (drivers_in o) here)
+  | inr later ↦ let rest : (y : ℕ) × ((p : ℕ) × (slice_get (drivers_in (flatten_option (slice_get os y))) p ≡ Some x)) = read_at os x later in (suc rest.0, rest.1)
+]
+
+pub at_read : (os : List (Option Node)) (x y p : ℕ) → slice_get (drivers_in (flatten_option (slice_get os y))) p ≡ Some x → is_read_in os x ≡ true
+at_read [] x y p e = cc
+at_read (o ∷ os) x zero p e = ap (λ b. b || is_read_in os x) (at_among x (drivers_in o) p e)
+at_read (o ∷ os) x (suc y) p e = ap (λ b. is_among x (drivers_in o) || b) (at_read os x y p e) ∙ or_true (is_among x (drivers_in o))
+
+pub read_in_use : (net : Net) (x y p : ℕ) → Reads net y p x → is_in_use net x ≡ true
+read_in_use net x y p reads = ap (λ b. b || is_among x net.observed) (at_read net.nodes x y p reads)
+
+pub observed_in_use : (net : Net) (x : ℕ) → IsObserved net x → is_in_use net x ≡ true
+observed_in_use net x o = ap (λ b. is_read_in net.nodes x || b) (at_among x net.observed o.0 o.1) ∙ or_true (is_read_in net.nodes x)
+
+pub used_by : (net : Net) (x : ℕ) → is_in_use net x ≡ true → ((y : ℕ) × ((p : ℕ) × Reads net y p x)) ⊎ IsObserved net x
+used_by net x e = elim (or_either (is_read_in net.nodes x) (is_among x net.observed) e) [
+  | inl read ↦ inl (read_at net.nodes x read)
+  | inr observed ↦ inr (among_at x net.observed observed)
+]
+
+pub unused : (net : Net) (x : ℕ) → is_in_use net x ≡ false → IsUnread net x
+unused net x e = record {
+  unread = λ y p reads. both_ways _ e (read_in_use net x y p reads);
+  unobserved = λ o. both_ways _ e (observed_in_use net x o);
+}
+
+pub unread_unused : (net : Net) (x : ℕ) → IsUnread net x → is_in_use net x ≡ false
+unread_unused net x u = not_true (is_in_use net x) (λ e. elim (used_by net x e) [ inl read ↦ u.unread read.0 read.1.0 read.1.1 | inr o ↦ u.unobserved o ])
+
+taken_at : (xs : List ℕ) (k q x : ℕ) → slice_get (take k xs) q ≡ Some x → (q < k) × (slice_get xs q ≡ Some x)
+taken_at xs zero q x e = cc
+taken_at [] (suc k) q x e = cc
+taken_at (y ∷ ys) (suc k) zero x e = (omega arith, e)
+taken_at (y ∷ ys) (suc k) (suc q) x e = let rest : (q < k) × (slice_get ys q ≡ Some x) = taken_at ys k q x e in (omega (arith, rest.0), rest.1)
+
+-- an earlier place with the same number
+pub repeated_at : (xs : List ℕ) (k : ℕ) → is_repeated xs k ≡ true → (d : ℕ) × ((q : ℕ) × ((q < k) × ((slice_get xs q ≡ Some d) × (slice_get xs k ≡ Some d))))
+repeated_at xs k e = at (slice_get xs k) refl e
+  where
+    at : (o : Option ℕ) → slice_get xs k ≡ o → is_some_among o (take k xs) ≡ true → (d : ℕ) × ((q : ℕ) × ((q < k) × ((slice_get xs q ≡ Some d) × (slice_get xs k ≡ Some d))))
+    at None is e = cc
+    at (Some d) is e =
+        let there : (q : ℕ) × (slice_get (take k xs) q ≡ Some d) = among_at d (take k xs) e in
+        let earlier : (there.0 < k) × (slice_get xs there.0 ≡ Some d) = taken_at xs k there.0 d there.1 in
+        (d, (there.0, (earlier.0, (earlier.1, is))))
+
+pub within : {A : Type 0} (xs : List A) (k : ℕ) (x : A) → slice_get xs k ≡ Some x → k < length xs
+within [] k x e = cc
+within (y ∷ ys) zero x e = omega arith
+within (y ∷ ys) (suc k) x e = let rest : k < length ys = within ys k x e in omega arith
+
+pub got : {A : Type 0} (xs : List A) (k : ℕ) → k < length xs → (x : A) × (slice_get xs k ≡ Some x)
+got [] k lt = absurd (omega arith)
+got (y ∷ ys) zero lt = (y, refl)
+got (y ∷ ys) (suc k) lt = got ys k (omega arith)
+
+pub one_in : (xs : List ℕ) → nat_eq (length xs) 1 ≡ true → (d : ℕ) × (xs ≡ d ∷ [])
+one_in [] e = cc
+one_in (d ∷ []) e = (d, refl)
+one_in (d ∷ x ∷ xs) e = absurd (let is : suc (suc (length xs)) ≡ 1 = eqb-true (suc (suc (length xs))) 1 e in omega arith)
+
+pub none_in : (xs : List ℕ) → nat_eq (length xs) 0 ≡ true → xs ≡ []
+none_in [] e = refl
+none_in (d ∷ xs) e = absurd (let is : suc (length xs) ≡ 0 = eqb-true (suc (length xs)) 0 e in omega arith)
+
+pub not_at : (net : Net) (o : Option ℕ) → is_not_at net o ≡ true → (x : ℕ) × ((o ≡ Some x) × (is_not net x ≡ true))
+not_at net None e = cc
+not_at net (Some x) e = (x, (refl, e))
+
+pub same_at : (o q : Option ℕ) → same_some o q ≡ true → (x : ℕ) × ((o ≡ Some x) × (q ≡ Some x))
+same_at None q e = cc
+same_at (Some x) None e = cc
+same_at (Some x) (Some y) e = (x, (refl, ap Some (sym (eqb-true x y e))))

@@ -1,0 +1,48 @@
+-- The changes of which steps are made: one of them for each step.
+use Rattle.std.specs.Prelude.{◌≡◌, ◌≢◌, ℕ, ◌<◌, Bool, Option, Some, None, List, [], ◌∷◌, length, slice_set}
+use Rattle.gate_net.specs.declared.Kind.TheVariants.{Not}
+use Rattle.gate_net.specs.Net.{Node, Net, drivers_of, trimmed, IsLive, IsGate}
+use Rattle.gate_net.specs.Values.{IsJunction}
+use Rattle.gate_net.specs.Paths.{Reaches}
+use Rattle.gate_net.specs.Edits.{with_pin, without_pin, fixed, with_readers_moved, IsUnread}
+
+pub data Change : Type 0 where
+  append : (gate driver : ℕ) → Change
+  remove : (gate position : ℕ) → Change
+  fix : (gate position : ℕ) (value : Bool) → Change
+  readers : (from to : ℕ) → Change
+  new_not : (driver : ℕ) → Change
+  retire : (gate : ℕ) → Change
+
+-- the node has the least number that no live node has
+abbrev pub with_least_free : List (Option Node) → Node → List (Option Node)
+with_least_free [] n = Some n ∷ []
+with_least_free (None ∷ os) n = Some n ∷ os
+with_least_free (Some m ∷ os) n = Some m ∷ with_least_free os n
+
+-- a Not of the node has the least free number
+abbrev pub with_new_not : Net → ℕ → Net
+with_new_not net x = record net { nodes = with_least_free net.nodes (record { kind = Not; drivers = x ∷ [] }) }
+
+-- the node and its pins are gone
+abbrev pub without_node : Net → ℕ → Net
+without_node net x = record net { nodes = trimmed (slice_set net.nodes x None) }
+
+-- the net after a change
+abbrev pub changed : Net → Change → Net
+changed net (append gate driver) = with_pin net gate driver
+changed net (remove gate position) = without_pin net gate position
+changed net (fix gate position value) = fixed net (record { gate = record { 0 = gate }; position = position; value = value })
+changed net (readers from to) = with_readers_moved net from to
+changed net (new_not driver) = with_new_not net driver
+changed net (retire gate) = without_node net gate
+
+-- what a change needs, so that the net stays well formed
+abbrev pub CanChange : Net → Change → Type 0
+CanChange net (append gate driver) =
+    ((c : Bool) × IsJunction net gate c) × (IsLive net driver × ((driver ≢ gate) × (Reaches net gate driver → ⊥)))
+CanChange net (remove gate position) = ((c : Bool) × IsJunction net gate c) × (position < length (drivers_of net gate))
+CanChange net (fix gate position value) = IsGate net gate × (position < length (drivers_of net gate))
+CanChange net (readers from to) = IsGate net from × (IsLive net to × ((to ≢ from) × (Reaches net from to → ⊥)))
+CanChange net (new_not driver) = IsLive net driver
+CanChange net (retire gate) = IsGate net gate × IsUnread net gate

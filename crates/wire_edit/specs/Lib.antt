@@ -1,0 +1,10 @@
+pub mod Tests
+pub mod Changes
+pub mod Steps
+pub mod Refusals
+pub mod Order
+pub mod Touched
+pub mod Firsts
+pub mod Work
+pub mod Laws
+pub mod Rows

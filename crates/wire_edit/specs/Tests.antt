@@ -1,0 +1,79 @@
+-- Tests of the nodes of a net.
+use Rattle.std.specs.Prelude.{ℕ, Bool, true, false, ◌||◌, Option, Some, None, List, [], ◌∷◌, option_and_then, slice_get, take, nat_eq}
+use Rattle.gate_net.specs.declared.Kind.{Kind}
+use Rattle.gate_net.specs.declared.Kind.TheVariants.{Source, Zero, One, And, Or, Not}
+use Rattle.gate_net.specs.Net.{Node, Net, node_at, kind_of, drivers_in, drivers_of}
+
+abbrev pub is_present : {A : Type 0} → Option A → Bool
+is_present None = false
+is_present (Some x) = true
+
+abbrev pub is_live : Net → ℕ → Bool
+is_live net x = is_present (node_at net x)
+
+abbrev pub gate_control : Option Kind → Option Bool
+gate_control (Some And) = Some false
+gate_control (Some Or) = Some true
+gate_control _ = None
+
+-- the controlling value of an And or an Or
+abbrev pub control_of : Net → ℕ → Option Bool
+control_of net x = gate_control (kind_of net x)
+
+-- an And or an Or
+abbrev pub is_junction : Net → ℕ → Bool
+is_junction net x = is_present (control_of net x)
+
+abbrev pub is_not_kind : Option Kind → Bool
+is_not_kind (Some Not) = true
+is_not_kind _ = false
+
+abbrev pub is_not : Net → ℕ → Bool
+is_not net x = is_not_kind (kind_of net x)
+
+abbrev pub is_gate : Net → ℕ → Bool
+is_gate net x = is_junction net x || is_not net x
+
+abbrev pub kind_constant : Option Kind → Option Bool
+kind_constant (Some Zero) = Some false
+kind_constant (Some One) = Some true
+kind_constant _ = None
+
+-- the value of a constant
+abbrev pub constant_of : Net → ℕ → Option Bool
+constant_of net x = kind_constant (kind_of net x)
+
+abbrev pub driver_at : Net → ℕ → ℕ → Option ℕ
+driver_at net gate position = slice_get (drivers_of net gate) position
+
+-- the constant that the pin reads
+abbrev pub constant_at : Net → ℕ → ℕ → Option Bool
+constant_at net gate position = option_and_then (constant_of net) (driver_at net gate position)
+
+-- the driver of the driver
+abbrev pub second_driver : Net → ℕ → Option ℕ
+second_driver net gate = option_and_then (λ inner. driver_at net inner 0) (driver_at net gate 0)
+
+abbrev pub is_among : ℕ → List ℕ → Bool
+is_among x [] = false
+is_among x (y ∷ ys) = nat_eq y x || is_among x ys
+
+abbrev pub is_read_in : List (Option Node) → ℕ → Bool
+is_read_in [] x = false
+is_read_in (o ∷ os) x = is_among x (drivers_in o) || is_read_in os x
+
+-- some pin reads the node, or it is observed
+abbrev pub is_in_use : Net → ℕ → Bool
+is_in_use net x = is_read_in net.nodes x || is_among x net.observed
+
+abbrev pub is_some_among : Option ℕ → List ℕ → Bool
+is_some_among None xs = false
+is_some_among (Some x) xs = is_among x xs
+
+-- an earlier place of the list has the same number
+abbrev pub is_repeated : List ℕ → ℕ → Bool
+is_repeated xs k = is_some_among (slice_get xs k) (take k xs)
+
+abbrev pub live_in : Option Node → ℕ
+live_in None = 0
+live_in (Some n) = 1
