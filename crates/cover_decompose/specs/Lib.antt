@@ -5,3 +5,6 @@ pub mod StandsFor
 pub mod Rows
 pub mod Plan
 pub mod PlanView
+pub mod Signals
+pub mod Places
+pub mod Tally

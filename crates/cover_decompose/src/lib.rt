@@ -1,7 +1,10 @@
 //! The net of a model: each needed cover as an Or of Ands of literals.
 #![tactic(auto)]
 
+mod count;
 mod laws;
+mod names;
+mod needed;
 mod plan;
 
 pub use laws::{
