@@ -1,3 +1,4 @@
 mod CoverLemmas
+mod NumberLemmas
 mod RankLaws
 mod RankedLaws

@@ -2,3 +2,4 @@ pub mod Words
 pub mod Value
 pub mod Ranks
 pub mod WellFormed
+pub mod Numbers

@@ -3,6 +3,7 @@
 
 mod laws;
 mod list;
+mod name_table;
 mod parts;
 mod points;
 mod value;
