@@ -1,4 +1,5 @@
 mod CoverLemmas
+mod DriverLemmas
 mod NumberLemmas
 mod RankLaws
 mod RankedLaws

@@ -3,3 +3,5 @@ pub mod Value
 pub mod Ranks
 pub mod WellFormed
 pub mod Numbers
+pub mod Search
+pub mod SearchView

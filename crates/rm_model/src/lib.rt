@@ -1,11 +1,13 @@
 //! The model of a BLIF text: names, covers and latches, and what they mean.
 #![tactic(auto)]
 
+mod drivers;
 mod laws;
 mod list;
 mod name_table;
 mod parts;
 mod points;
+mod rank_search;
 mod value;
 
 pub use laws::{ranks_exist, ranks_follow, tokens_are};
