@@ -1,5 +1,7 @@
 mod CoverLemmas
 mod DriverLemmas
 mod NumberLemmas
+mod PlaceLemmas
 mod RankLaws
 mod RankedLaws
+mod SearchLemmas

@@ -1,5 +1,5 @@
 -- The search for ranks: what is known of the covers at each moment.
-use Rattle.std.specs.Prelude.{◌≡◌, ◌<◌, ◌≤◌, ◌⊎◌, ℕ, suc, List, [], ◌∷◌, map, length, take, Option, None, Some, slice_get, slice_index_or}
+use Rattle.std.specs.Prelude.{◌≡◌, ◌<◌, ◌≤◌, ◌⊎◌, ℕ, suc, List, [], ◌∷◌, ◌++◌, slice_set, map, length, take, Option, None, Some, slice_get, slice_index_or}
 use Rattle.rm_model.specs.Ranks.{rank_at}
 use Rattle.rm_model.specs.Numbers.{rank_over}
 use Rattle.rm_model.specs.declared.rank_search.Looked.{Looked}
@@ -27,6 +27,10 @@ HasRank o = (n : ℕ) × (o ≡ Some n)
 abbrev pub IsIn : List ℕ → ℕ → Type 0
 IsIn list k = (p : ℕ) × (slice_get list p ≡ Some k)
 
+-- so many drivers of a cover are known to allow this rank
+abbrev pub AllowsRank : List (Option ℕ) → List ℕ → Looked → Type 0
+AllowsRank ranks drivers l = (l.count ≤ length drivers) × (rank_over ranks (take l.count drivers) ≡ Some l.least)
+
 -- at each moment
 pub record IsSound (drivers : List (List ℕ)) (s : State) : Type 0 where
   pub ranks_length : length s.ranks ≡ length drivers
@@ -35,7 +39,7 @@ pub record IsSound (drivers : List (List ℕ)) (s : State) : Type 0 where
   pub follow : (k n : ℕ) → rank_at s.ranks k ≡ Some n → rank_over s.ranks (list_at drivers k) ≡ Some n
   pub small : (k n : ℕ) → rank_at s.ranks k ≡ Some n → n < length s.order
   pub count : length s.order ≡ known_count s.ranks
-  pub looked : (k : ℕ) (l : Looked) → slice_get s.looked k ≡ Some l → (l.count ≤ length (list_at drivers k)) × (rank_over s.ranks (take l.count (list_at drivers k)) ≡ Some l.least)
+  pub looked : (k : ℕ) (l : Looked) → slice_get s.looked k ≡ Some l → AllowsRank s.ranks (list_at drivers k) l
   pub listed : (k n : ℕ) → rank_at s.ranks k ≡ Some n → IsIn s.order k
   pub ranked : (k : ℕ) → IsIn s.order k → HasRank (rank_at s.ranks k)
   pub waiting : (d k : ℕ) → IsIn (list_at s.waiting d) k → k < length drivers
@@ -54,3 +58,21 @@ IsSettled drivers place s k = HasRank (rank_at s.ranks k) ⊎ Waits drivers plac
 -- the drivers are covers of the list
 abbrev pub AreKnown : List (List ℕ) → Type 0
 AreKnown drivers = (k d : ℕ) → IsIn (list_at drivers k) d → d < length drivers
+
+-- a cover is looked at up to a driver without rank, and waits for it
+abbrev pub waiting_for : State → ℕ → Looked → ℕ → State
+waiting_for s k l d = record s { looked = slice_set s.looked k l; waiting = slice_set s.waiting d (list_at s.waiting d ++ k ∷ []) }
+
+-- a cover gets its rank
+abbrev pub with_rank : State → ℕ → Looked → State
+with_rank s k l = record s { looked = slice_set s.looked k l; ranks = slice_set s.ranks k (Some l.least); order = s.order ++ k ∷ [] }
+
+-- no cover waits for this one any more
+abbrev pub woken : State → ℕ → State
+woken s d = record s { waiting = slice_set s.waiting d [] }
+
+-- what is settled stays so, and the order grows
+pub record LeadsTo (drivers : List (List ℕ)) (s t : State) : Type 0 where
+  pub sound : IsSound drivers t
+  pub kept : (place k : ℕ) → place ≤ length s.order → IsSettled drivers place s k → IsSettled drivers place t k
+  pub longer : length s.order ≤ length t.order

@@ -1,8 +1,8 @@
 // The ranks of covers by the covers that they read: a cover waits for the first of them that has no rank yet.
-ghost use Rattle.std.specs.Prelude.{◌≡◌, ◌^◌, ◌<◌, ◌≤◌, ℕ, [], ◌∷◌, ◌++◌, length, map, take, IfOk, OnOk, Some, None, Option, slice_set, All, slice_index};
+ghost use Rattle.std.specs.Prelude.{◌≡◌, ◌^◌, ◌<◌, ◌≤◌, ℕ, [], ◌∷◌, ◌++◌, length, map, take, IfOk, OnOk, Some, None, Option, slice_set, All, slice_index, slice_index_or};
 ghost use Rattle.rm_model.specs.Ranks.{rank_at};
 ghost use Rattle.rm_model.specs.Numbers.{rank_over};
-ghost use Rattle.rm_model.specs.Search.{list_at, AreKnown, IsSettled, IsSound};
+ghost use Rattle.rm_model.specs.Search.{list_at, waiting_for, with_rank, AllowsRank, AreKnown, IsSettled, IsSound, LeadsTo};
 ghost use Rattle.rm_model.specs.SearchView.{state_of};
 
 use rm_base::NoMemory;
@@ -74,39 +74,62 @@ fn take_waiting(alloc: Global, waiting: &mut Vec<Vec<u32>>, driver: usize) -> Ve
 }
 
 impl Search {
+    fn look_further(&self, drivers: &[u32], cover: usize) -> Looked
+        requires cover { cover < length self.now.looked.items }
+        requires looked { AllowsRank self.now.ranks.items drivers.now (slice_index_or self.now.looked.items cover (record { count = 0; least = 0 })) }
+        requires room { length self.now.ranks.items < 2 ^ 32 }
+        requires small { (k n : ℕ) → rank_at self.now.ranks.items k ≡ Some n → n < length self.now.ranks.items }
+        requires known { All (λ k. k < length self.now.ranks.items) drivers.now }
+        ensures looked { AllowsRank self.now.ranks.items drivers.now result }
+        ensures stopped {
+            result.count < length drivers.now
+                → rank_at self.now.ranks.items (slice_index drivers.now result.count) ≡ None
+        }
+    {
+        look_on(drivers, self.ranks.as_slice(), self.looked[cover])
+    }
+
+    fn wait(&mut self, driver: usize, cover: u32, looked: Looked) -> Result<(), NoMemory>
+        requires driver { driver < length self.old.waiting.items }
+        requires cover { cover < length self.old.looked.items }
+        ensures { OnOk result (state_of self.new ≡ waiting_for (state_of self.old) cover looked driver) }
+    {
+        self.looked[cover as usize] = looked;
+        add_waiting(&mut self.waiting, driver, cover)
+    }
+
+    fn rank(&mut self, cover: u32, looked: Looked) -> Result<(), NoMemory>
+        requires cover { cover < length self.old.looked.items }
+        requires same { length self.old.looked.items ≡ length self.old.ranks.items }
+        ensures { OnOk result (state_of self.new ≡ with_rank (state_of self.old) cover looked) }
+    {
+        self.looked[cover as usize] = looked;
+        self.ranks[cover as usize] = Some(looked.least);
+        self.order.push(cover)?;
+        Ok(())
+    }
+
+    /// Gives a cover its rank if all its drivers have theirs, and else lets it wait.
     fn look_at(&mut self, drivers: &[Vec<u32>], cover: u32) -> Result<(), NoMemory>
         requires sound { IsSound (map (λ d. d.items) drivers.now) (state_of self.old) }
         requires known { AreKnown (map (λ d. d.items) drivers.now) }
         requires room { length drivers.now < 2 ^ 32 }
         requires cover { cover < length drivers.now }
-        ensures sound { OnOk result (IsSound (map (λ d. d.items) drivers.now) (state_of self.new)) }
+        ensures leads { OnOk result (LeadsTo (map (λ d. d.items) drivers.now) (state_of self.old) (state_of self.new)) }
         ensures settled {
-            OnOk result ((place : ℕ) → place ≤ length self.old.order.items
-                → IsSettled (map (λ d. d.items) drivers.now) place (state_of self.new) cover)
+            OnOk result ((place : ℕ) → IsSettled (map (λ d. d.items) drivers.now) place (state_of self.new) cover)
         }
-        ensures kept {
-            OnOk result ((place k : ℕ) → place ≤ length self.old.order.items
-                → IsSettled (map (λ d. d.items) drivers.now) place (state_of self.old) k
-                → IsSettled (map (λ d. d.items) drivers.now) place (state_of self.new) k)
-        }
-        ensures longer { OnOk result (length self.old.order.items ≤ length self.new.order.items) }
     {
         let place = cover as usize;
         if self.ranks[place].is_some() {
             return Ok(());
         }
-        let looked = look_on(
-            drivers[place].as_slice(),
-            self.ranks.as_slice(),
-            self.looked[place],
-        );
-        self.looked[place] = looked;
-        if looked.count < drivers[place].len() {
-            let driver = drivers[place][looked.count] as usize;
-            return add_waiting(&mut self.waiting, driver, cover);
+        let list = drivers[place].as_slice();
+        let looked = self.look_further(list, place);
+        if looked.count < list.len() {
+            self.wait(list[looked.count] as usize, cover, looked)
+        } else {
+            self.rank(cover, looked)
         }
-        self.ranks[place] = Some(looked.least);
-        self.order.push(cover)?;
-        Ok(())
     }
 }
