@@ -12,7 +12,7 @@ use Rattle.rm_model.specs.Ranks.{cover_of}
 use Rattle.rm_model.specs.declared.parts.Cover.{Cover}
 use Rattle.rm_model.proofs.CoverLemmas.{not_true, outputs_of}
 
-position-step : (b : Bool) (n l : ℕ) → cond (nat_lt (cond (not b) (1 + n) 0) (suc l)) (Some (cond (not b) (1 + n) 0)) None ≡ cond b (Some 0) (option_map (λ k. suc k) (cond (nat_lt n l) (Some n) None))
+pub position-step : (b : Bool) (n l : ℕ) → cond (nat_lt (cond (not b) (1 + n) 0) (suc l)) (Some (cond (not b) (1 + n) 0)) None ≡ cond b (Some 0) (option_map (λ k. suc k) (cond (nat_lt n l) (Some n) None))
 position-step true n l = let first : nat_lt 0 (suc l) ≡ true = (Decides-ltb 0 (suc l)).1 (omega arith) in rw first refl
 position-step false n l = elim (cases_lt n l) [
   | inl lt ↦

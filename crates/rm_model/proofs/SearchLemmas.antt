@@ -1,14 +1,17 @@
 -- The steps of the search for ranks keep what is said of it.
-use Rattle.std.proofs.Common.{◌≡◌, ◌≢◌, ℕ, zero, suc, ◌<◌, ◌≤◌, ◌+◌, List, [], ◌∷◌, ◌++◌, map, length, take, set, get_or, max, Option, Some, None, ◌⊎◌, inl, inr, refl, sym, ap, ◌∙◌, subst, arith, length-append, length-set}
+use Rattle.std.proofs.Common.{◌≡◌, ◌≢◌, ℕ, zero, suc, ◌<◌, ◌≤◌, ◌+◌, List, [], ◌∷◌, ◌++◌, map, length, take, set, replicate, get_or, max, Option, Some, None, ◌⊎◌, inl, inr, refl, sym, ap, ◌∙◌, subst, arith, length-append, length-set}
 use Rattle.std.specs.Prelude.{slice_get}
 use Rattle.std.specs.Option.{option_map}
 use Rattle.std.proofs.Math.Seq.{take-length}
+use Rattle.std.proofs.Math.ListN.{get_or-eq_default}
+use Rattle.std.proofs.lemmas.Bool.{cases_lt}
+use Rattle.std.proofs.lemmas.List.{get_or-map, length-replicate}
 use Rattle.std.proofs.lemmas.Option.{slice_get_within}
 use Rattle.rm_model.specs.Ranks.{rank_at}
 use Rattle.rm_model.specs.Numbers.{rank_over}
-use Rattle.rm_model.specs.Search.{list_at, known_count, State, HasRank, IsIn, AllowsRank, IsSound, Waits, IsSettled, AreKnown, waiting_for, with_rank, woken, LeadsTo}
+use Rattle.rm_model.specs.Search.{list_at, known_count, State, HasRank, IsIn, AllowsRank, IsSound, Waits, IsSettled, AreKnown, waiting_for, with_rank, woken, start, LeadsTo}
 use Rattle.rm_model.specs.declared.rank_search.Looked.{Looked}
-use Rattle.rm_model.proofs.RankLaws.{Below, parts_of, higher_parts}
+use Rattle.rm_model.proofs.RankLaws.{Below, parts_of, higher_parts, at_replicate, same_list, length_map}
 use Rattle.rm_model.proofs.PlaceLemmas.{get-left, get-last, get-push, get-set, written, same_or_not}
 
 -- one driver's part
@@ -260,3 +263,91 @@ leads-on drivers s t u f g = record {
 
 pub leads-stays : (drivers : List (List ℕ)) (s : State) → IsSound drivers s → LeadsTo drivers s s
 leads-stays drivers s sound = record { sound = sound; kept = λ place k le h. h; longer = omega arith }
+
+known_count-length : (r : List (Option ℕ)) → known_count r ≤ length r
+known_count-length [] = omega arith
+known_count-length (None ∷ r) = omega (arith, known_count-length r)
+known_count-length (Some n ∷ r) = omega (arith, known_count-length r)
+
+pub ranks-small : (drivers : List (List ℕ)) (s : State) → IsSound drivers s → (k n : ℕ) → rank_at s.ranks k ≡ Some n → n < length s.ranks
+ranks-small drivers s sound k n e = omega (arith, sound.small k n e, sound.count, known_count-length s.ranks)
+
+pub order-short : (drivers : List (List ℕ)) (s : State) → IsSound drivers s → length s.order ≤ length drivers
+order-short drivers s sound = omega (arith, sound.count, known_count-length s.ranks, sound.ranks_length)
+
+pub rank-within : (r : List (Option ℕ)) (k n : ℕ) → rank_at r k ≡ Some n → k < length r
+rank-within [] k n e = absurd cc
+rank-within (a ∷ r) zero n e = omega arith
+rank-within (a ∷ r) (suc k) n e = omega (arith, rank-within r k n e)
+
+pub order-known : (drivers : List (List ℕ)) (s : State) → IsSound drivers s → (p k : ℕ) → slice_get s.order p ≡ Some k → k < length drivers
+order-known drivers s sound p k e =
+    let h : HasRank (rank_at s.ranks k) = sound.ranked k (p, e) in
+    omega (arith, rank-within s.ranks k h.0 h.1, sound.ranks_length)
+
+none-there : (n k i : ℕ) → rank_at (replicate n None) k ≡ Some i → ⊥
+none-there n k i e = let none = at_replicate n k in cc
+
+none-known : (n : ℕ) → known_count (replicate n None) ≡ 0
+none-known zero = refl
+none-known (suc n) = none-known n
+
+replicate-at : {X : Type 0} (n k : ℕ) (v x : X) → slice_get (replicate n v) k ≡ Some x → x ≡ v
+replicate-at zero k v x e = absurd cc
+replicate-at (suc n) zero v x e = let is : v ≡ x = cc in sym is
+replicate-at (suc n) (suc k) v x e = replicate-at n k v x e
+
+empty-lists : (n k : ℕ) → list_at (replicate n []) k ≡ []
+empty-lists zero k = refl
+empty-lists (suc n) zero = refl
+empty-lists (suc n) (suc k) = empty-lists n k
+
+not-in : {j : ℕ} (xs : List ℕ) → xs ≡ [] → IsIn xs j → ⊥
+not-in [] e h = let is = h.1 in cc
+not-in (x ∷ xs) e h = cc
+
+pub start-sound : (drivers : List (List ℕ)) (n : ℕ) → n ≡ length drivers → IsSound drivers (start n)
+start-sound drivers n e = record {
+  ranks_length = length-replicate n None ∙ e;
+  looked_length = length-replicate n (record { count = 0; least = 0 }) ∙ e;
+  waiting_length = length-replicate n [] ∙ e;
+  follow = λ k i is. absurd (none-there n k i is);
+  small = λ k i is. absurd (none-there n k i is);
+  count = sym (none-known n);
+  looked = λ k l is. let same : l ≡ record { count = 0; least = 0 } = replicate-at n k (record { count = 0; least = 0 }) l is in subst (AllowsRank (replicate n None) (list_at drivers k)) (sym same) (omega arith, ap (rank_over (replicate n None)) (take-zero (list_at drivers k)));
+  listed = λ k i is. absurd (none-there n k i is);
+  ranked = λ k at. absurd (not-in [] refl at);
+  waiting = λ d k at. absurd (not-in (list_at (replicate n []) d) (empty-lists n d) at);
+  ordered = λ p k d at reads. absurd (not-in [] refl (p, at));
+}
+  where
+    take-zero : (xs : List ℕ) → take 0 xs ≡ []
+    take-zero [] = refl
+    take-zero (x ∷ xs) = refl
+
+-- at the end a cover without rank waits for one without rank
+rank_over-none : (r : List (Option ℕ)) (ds : List ℕ) (d : ℕ) → IsIn ds d → rank_at r d ≡ None → rank_over r ds ≡ None
+rank_over-none r ds d at none = go (rank_over r ds) refl
+  where
+    go : (o : Option ℕ) → rank_over r ds ≡ o → o ≡ None
+    go None e = refl
+    go (Some n) e = absurd (let h : HasRank (rank_at r d) = rank_over-all r ds n at.0 d e at.1 in let is = h.1 in cc)
+
+pub settled-follow : (drivers : List (List ℕ)) (s : State) → IsSound drivers s → ((k : ℕ) → k < length drivers → IsSettled drivers (length s.order) s k) → s.ranks ≡ map (rank_over s.ranks) drivers
+settled-follow drivers s sound settled = same_list s.ranks (map (rank_over s.ranks) drivers) (sound.ranks_length ∙ sym (length_map (rank_over s.ranks) drivers)) (λ k. at k (cases_lt k (length drivers)))
+  where
+    by-list : (k : ℕ) → k < length drivers → rank_at (map (rank_over s.ranks) drivers) k ≡ rank_over s.ranks (list_at drivers k)
+    by-list k lt = get_or-map (rank_over s.ranks) drivers k [] None lt
+
+    value : (k : ℕ) → IsSettled drivers (length s.order) s k → rank_at s.ranks k ≡ rank_over s.ranks (list_at drivers k)
+    value k (inl h) = h.1 ∙ sym (sound.follow k h.0 h.1)
+    value k (inr w) = by (rank_at s.ranks k) refl w.open_yet
+      where
+        by : (o : Option ℕ) → rank_at s.ranks k ≡ o → (rank_at s.ranks w.driver ≡ None) ⊎ ((i : ℕ) × ((length s.order ≤ i) × (slice_get s.order i ≡ Some w.driver))) → o ≡ rank_over s.ranks (list_at drivers k)
+        by (Some n) e _ = sym (sound.follow k n e)
+        by None e (inl none) = sym (rank_over-none s.ranks (list_at drivers k) w.driver w.reads none)
+        by None e (inr h) = absurd (omega (arith, h.1.0, slice_get_within s.order h.0 w.driver h.1.1))
+
+    at : (k : ℕ) → (k < length drivers) ⊎ (length drivers ≤ k) → rank_at s.ranks k ≡ rank_at (map (rank_over s.ranks) drivers) k
+    at k (inl lt) = value k (settled k lt) ∙ sym (by-list k lt)
+    at k (inr le) = get_or-eq_default s.ranks None (omega (arith, le, sound.ranks_length)) ∙ sym (get_or-eq_default (map (rank_over s.ranks) drivers) None (omega (arith, le, length_map (rank_over s.ranks) drivers)))

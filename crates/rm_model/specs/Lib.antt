@@ -5,3 +5,4 @@ pub mod WellFormed
 pub mod Numbers
 pub mod Search
 pub mod SearchView
+pub mod RankFaults

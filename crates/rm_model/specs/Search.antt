@@ -1,5 +1,5 @@
 -- The search for ranks: what is known of the covers at each moment.
-use Rattle.std.specs.Prelude.{◌≡◌, ◌<◌, ◌≤◌, ◌⊎◌, ℕ, suc, List, [], ◌∷◌, ◌++◌, slice_set, map, length, take, Option, None, Some, slice_get, slice_index_or}
+use Rattle.std.specs.Prelude.{◌≡◌, ◌<◌, ◌≤◌, ◌⊎◌, ℕ, suc, List, [], ◌∷◌, ◌++◌, slice_set, map, replicate, length, take, Option, None, Some, slice_get, slice_index_or}
 use Rattle.rm_model.specs.Ranks.{rank_at}
 use Rattle.rm_model.specs.Numbers.{rank_over}
 use Rattle.rm_model.specs.declared.rank_search.Looked.{Looked}
@@ -76,3 +76,7 @@ pub record LeadsTo (drivers : List (List ℕ)) (s t : State) : Type 0 where
   pub sound : IsSound drivers t
   pub kept : (place k : ℕ) → place ≤ length s.order → IsSettled drivers place s k → IsSettled drivers place t k
   pub longer : length s.order ≤ length t.order
+
+-- no cover is looked at yet
+abbrev pub start : ℕ → State
+start n = record { ranks = replicate n None; looked = replicate n (record { count = 0; least = 0 }); waiting = replicate n []; order = [] }

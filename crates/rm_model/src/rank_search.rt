@@ -1,8 +1,8 @@
 // The ranks of covers by the covers that they read: a cover waits for the first of them that has no rank yet.
-ghost use Rattle.std.specs.Prelude.{◌≡◌, ◌^◌, ◌<◌, ◌≤◌, ℕ, [], ◌∷◌, ◌++◌, length, map, take, IfOk, OnOk, Some, None, Option, slice_set, All, slice_index, slice_index_or};
+ghost use Rattle.std.specs.Prelude.{◌≡◌, ◌^◌, ◌<◌, ◌≤◌, ℕ, [], ◌∷◌, ◌++◌, length, map, take, IfOk, OnOk, Some, None, Option, slice_set, All, slice_index, slice_index_or, is_some, ◌+◌, slice_get, replicate};
 ghost use Rattle.rm_model.specs.Ranks.{rank_at};
 ghost use Rattle.rm_model.specs.Numbers.{rank_over};
-ghost use Rattle.rm_model.specs.Search.{list_at, waiting_for, with_rank, AllowsRank, AreKnown, IsSettled, IsSound, LeadsTo};
+ghost use Rattle.rm_model.specs.Search.{list_at, start, waiting_for, with_rank, AllowsRank, AreKnown, IsSettled, IsSound, LeadsTo};
 ghost use Rattle.rm_model.specs.SearchView.{state_of};
 
 use rm_base::NoMemory;
@@ -73,6 +73,33 @@ fn take_waiting(alloc: Global, waiting: &mut Vec<Vec<u32>>, driver: usize) -> Ve
     mem::replace(&mut waiting[driver], Vec::new(alloc))
 }
 
+fn list_of(lists: &[Vec<u32>], place: usize) -> &[u32]
+    requires { place < length lists.now }
+    ensures { result.now ≡ list_at (map (λ l. l.items) lists.now) place }
+{
+    lists[place].as_slice()
+}
+
+fn no_ranks(alloc: Global, count: usize) -> Result<Vec<Option<u32>>, NoMemory>
+    ensures { IfOk result (λ ranks. ranks.items ≡ replicate count None) }
+{
+    let mut ranks = Vec::new(alloc);
+    for _ in 0..count {
+        ranks.push(None)?;
+    }
+    Ok(ranks)
+}
+
+fn no_lists(alloc: Global, count: usize) -> Result<Vec<Vec<u32>>, NoMemory>
+    ensures { IfOk result (λ lists. map (λ l. l.items) lists.items ≡ replicate count []) }
+{
+    let mut lists = Vec::new(alloc);
+    for _ in 0..count {
+        lists.push(Vec::new(alloc))?;
+    }
+    Ok(lists)
+}
+
 impl Search {
     fn look_further(&self, drivers: &[u32], cover: usize) -> Looked
         requires cover { cover < length self.now.looked.items }
@@ -109,6 +136,33 @@ impl Search {
         Ok(())
     }
 
+    fn has_rank(&self, cover: usize) -> bool
+        requires { cover < length self.now.ranks.items }
+        ensures { result ≡ is_some (rank_at self.now.ranks.items cover) }
+    {
+        self.ranks[cover].is_some()
+    }
+
+    fn look_at_unranked(&mut self, drivers: &[Vec<u32>], cover: u32) -> Result<(), NoMemory>
+        requires sound { IsSound (map (λ d. d.items) drivers.now) (state_of self.old) }
+        requires known { AreKnown (map (λ d. d.items) drivers.now) }
+        requires room { length drivers.now < 2 ^ 32 }
+        requires cover { cover < length drivers.now }
+        requires unknown { rank_at self.old.ranks.items cover ≡ None }
+        ensures leads { OnOk result (LeadsTo (map (λ d. d.items) drivers.now) (state_of self.old) (state_of self.new)) }
+        ensures settled {
+            OnOk result ((place : ℕ) → IsSettled (map (λ d. d.items) drivers.now) place (state_of self.new) cover)
+        }
+    {
+        let list = list_of(drivers, cover as usize);
+        let looked = self.look_further(list, cover as usize);
+        if looked.count < list.len() {
+            self.wait(list[looked.count] as usize, cover, looked)
+        } else {
+            self.rank(cover, looked)
+        }
+    }
+
     /// Gives a cover its rank if all its drivers have theirs, and else lets it wait.
     fn look_at(&mut self, drivers: &[Vec<u32>], cover: u32) -> Result<(), NoMemory>
         requires sound { IsSound (map (λ d. d.items) drivers.now) (state_of self.old) }
@@ -120,16 +174,107 @@ impl Search {
             OnOk result ((place : ℕ) → IsSettled (map (λ d. d.items) drivers.now) place (state_of self.new) cover)
         }
     {
-        let place = cover as usize;
-        if self.ranks[place].is_some() {
+        if self.has_rank(cover as usize) {
             return Ok(());
         }
-        let list = drivers[place].as_slice();
-        let looked = self.look_further(list, place);
-        if looked.count < list.len() {
-            self.wait(list[looked.count] as usize, cover, looked)
-        } else {
-            self.rank(cover, looked)
-        }
+        self.look_at_unranked(drivers, cover)
     }
+
+    fn look_at_all(&mut self, drivers: &[Vec<u32>], covers: &[u32]) -> Result<(), NoMemory>
+        requires sound { IsSound (map (λ d. d.items) drivers.now) (state_of self.old) }
+        requires known { AreKnown (map (λ d. d.items) drivers.now) }
+        requires room { length drivers.now < 2 ^ 32 }
+        requires covers { All (λ k. k < length drivers.now) covers.now }
+        ensures leads { OnOk result (LeadsTo (map (λ d. d.items) drivers.now) (state_of self.old) (state_of self.new)) }
+        ensures settled {
+            OnOk result ((place p k : ℕ) → place ≤ length self.old.order.items → slice_get covers.now p ≡ Some k
+                → IsSettled (map (λ d. d.items) drivers.now) place (state_of self.new) k)
+        }
+    {
+        for cover in covers {
+            self.look_at(drivers, *cover)?;
+        }
+        Ok(())
+    }
+
+    /// Looks again at the covers that wait for the cover at that place of the order.
+    fn wake(&mut self, alloc: Global, drivers: &[Vec<u32>], place: usize) -> Result<(), NoMemory>
+        requires sound { IsSound (map (λ d. d.items) drivers.now) (state_of self.old) }
+        requires known { AreKnown (map (λ d. d.items) drivers.now) }
+        requires room { length drivers.now < 2 ^ 32 }
+        requires place { place < length self.old.order.items }
+        ensures sound { OnOk result (IsSound (map (λ d. d.items) drivers.now) (state_of self.new)) }
+        ensures settled {
+            OnOk result ((k : ℕ) → IsSettled (map (λ d. d.items) drivers.now) place (state_of self.old) k
+                → IsSettled (map (λ d. d.items) drivers.now) (place + 1) (state_of self.new) k)
+        }
+    {
+        let cover = self.order[place] as usize;
+        let waiting = take_waiting(alloc, &mut self.waiting, cover);
+        self.look_at_all(drivers, waiting.as_slice())
+    }
+
+    fn look_at_each(&mut self, drivers: &[Vec<u32>]) -> Result<(), NoMemory>
+        requires sound { IsSound (map (λ d. d.items) drivers.now) (state_of self.old) }
+        requires known { AreKnown (map (λ d. d.items) drivers.now) }
+        requires room { length drivers.now < 2 ^ 32 }
+        ensures sound { OnOk result (IsSound (map (λ d. d.items) drivers.now) (state_of self.new)) }
+        ensures settled {
+            OnOk result ((k : ℕ) → k < length drivers.now
+                → IsSettled (map (λ d. d.items) drivers.now) 0 (state_of self.new) k)
+        }
+    {
+        for cover in 0..drivers.len() {
+            self.look_at(drivers, cover as u32)?;
+        }
+        Ok(())
+    }
+
+    fn wake_each(&mut self, alloc: Global, drivers: &[Vec<u32>]) -> Result<(), NoMemory>
+        requires sound { IsSound (map (λ d. d.items) drivers.now) (state_of self.old) }
+        requires known { AreKnown (map (λ d. d.items) drivers.now) }
+        requires room { length drivers.now < 2 ^ 32 }
+        requires settled {
+            (k : ℕ) → k < length drivers.now → IsSettled (map (λ d. d.items) drivers.now) 0 (state_of self.old) k
+        }
+        ensures sound { OnOk result (IsSound (map (λ d. d.items) drivers.now) (state_of self.new)) }
+        ensures settled {
+            OnOk result ((k : ℕ) → k < length drivers.now
+                → IsSettled (map (λ d. d.items) drivers.now) (length self.new.order.items) (state_of self.new) k)
+        }
+    {
+        let mut place = 0;
+        while place < self.order.len() {
+            self.wake(alloc, drivers, place)?;
+            place += 1;
+        }
+        Ok(())
+    }
+
+    fn new(alloc: Global, count: usize) -> Result<Search, NoMemory>
+        ensures { IfOk result (λ s. state_of s ≡ start count) }
+    {
+        let ranks = no_ranks(alloc, count)?;
+        let waiting = no_lists(alloc, count)?;
+        let looked = vec![in alloc; Looked { count: 0, least: 0 }; count]?;
+        Ok(Search {
+            ranks,
+            looked,
+            waiting,
+            order: Vec::new(alloc),
+        })
+    }
+}
+
+/// Finds the ranks of covers that read these covers, in time linear in the lists.
+pub fn find_ranks(alloc: Global, drivers: &[Vec<u32>]) -> Result<Search, NoMemory>
+    requires known { AreKnown (map (λ d. d.items) drivers.now) }
+    requires room { length drivers.now < 2 ^ 32 }
+    ensures sound { IfOk result (λ s. IsSound (map (λ d. d.items) drivers.now) (state_of s)) }
+    ensures ranks { IfOk result (λ s. s.ranks.items ≡ map (rank_over s.ranks.items) (map (λ d. d.items) drivers.now)) }
+{
+    let mut found = Search::new(alloc, drivers.len())?;
+    found.look_at_each(drivers)?;
+    found.wake_each(alloc, drivers)?;
+    Ok(found)
 }
