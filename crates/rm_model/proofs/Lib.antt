@@ -1,3 +1,9 @@
 mod CoverLemmas
+mod DriverLemmas
+mod LookLemmas
+mod NumberLemmas
+mod PlaceLemmas
 mod RankLaws
 mod RankedLaws
+mod RankingLemmas
+mod SearchLemmas

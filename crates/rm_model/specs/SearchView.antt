@@ -1,0 +1,7 @@
+-- What the search holds, as lists.
+use Rattle.std.specs.Prelude.{ℕ, List, map}
+use Rattle.rm_model.specs.Search.{State}
+use Rattle.rm_model.specs.declared.rank_search.Search.{Search}
+
+abbrev pub state_of : Search → State
+state_of s = record { ranks = s.ranks.items; looked = s.looked.items; waiting = map (λ w. w.items) s.waiting.items; order = s.order.items }

@@ -1,0 +1,90 @@
+// The rank of each cover of a model.
+ghost use Rattle.std.specs.Prelude.{◌≡◌, ◌^◌, ◌<◌, length, map, position, IfOk, IfErr, Some, Option, true};
+ghost use Rattle.rm_model.specs.Ranks.{first_without_rank, is_missing, ranks_of, AreRanks};
+ghost use Rattle.rm_model.specs.RankFaults.{IsRefused};
+ghost use Rattle.rm_model.specs.declared.ranking.RankFault.TheVariants.{NoMemory};
+ghost use Rattle.rm_model.specs.Search.{IsSound};
+ghost use Rattle.rm_model.specs.SearchView.{state_of};
+ghost use Rattle.rm_model.specs.Numbers.{drivers_of, IsFixed};
+ghost use Rattle.rm_model.specs.WellFormed.{is_distinct, IsWellFormed};
+
+use crate::drivers::drivers;
+use crate::parts::{Cover, Model};
+use crate::rank_search::{find_ranks, Search};
+use rm_base::NoMemory;
+use std::alloc::{AllocError, AllocFailed, Global};
+
+/// Why a model's covers have no ranks.
+#[derive(Clone, Copy, Debug, PartialEq, Eq)]
+pub enum RankFault {
+    /// The first cover, by its place in the model, that stands on a cycle or reads one that does.
+    NoRank { cover: u32 },
+    NoMemory,
+}
+
+impl From<NoMemory> for RankFault {
+    ghost from_gives = { λ _ e. e ≡ NoMemory };
+
+    fn from(_: NoMemory) -> Self {
+        RankFault::NoMemory
+    }
+}
+
+impl From<AllocError> for RankFault {
+    ghost from_gives = { λ _ e. e ≡ NoMemory };
+
+    fn from(_: AllocError) -> Self {
+        RankFault::NoMemory
+    }
+}
+
+impl<T: Drop> From<AllocFailed<T>> for RankFault {
+    ghost from_gives = { λ _ e. e ≡ NoMemory };
+
+    fn from(_: AllocFailed<T>) -> Self {
+        RankFault::NoMemory
+    }
+}
+
+fn all_ranks(alloc: Global, ranks: &[Option<u32>]) -> Result<Vec<u32>, RankFault>
+    requires { length ranks.now < 2 ^ 32 }
+    ensures ranks { IfOk result (λ all. map Some all.items ≡ ranks.now) }
+    ensures refused { IfErr result (λ fault. IsRefused (position is_missing ranks.now) fault) }
+{
+    let mut all = Vec::new(alloc);
+    for (place, rank) in ranks.iter().enumerate() {
+        match rank {
+            Some(rank) => all.push(*rank)?,
+            None => {
+                return Err(RankFault::NoRank {
+                    cover: place as u32,
+                });
+            }
+        }
+    }
+    Ok(all)
+}
+
+/// The search's result for the covers of a model.
+pub fn search_covers(alloc: Global, covers: &[Cover]) -> Result<Search, NoMemory>
+    requires once { is_distinct (map (λ c. c.output) covers.now) ≡ true }
+    requires room { length covers.now < 2 ^ 32 }
+    ensures sound { IfOk result (λ s. IsSound (map (drivers_of covers.now) covers.now) (state_of s)) }
+    ensures ranks { IfOk result (λ s. IsFixed covers.now s.ranks.items) }
+{
+    let lists = drivers(alloc, covers)?;
+    find_ranks(alloc, lists.as_slice())
+}
+
+/// The rank of each cover, in the order of the model: 0 where it reads sources alone, and otherwise one more than the greatest rank of
+/// the covers that it reads. It takes time linear in the model.
+pub fn rank(alloc: Global, model: &Model) -> Result<Vec<u32>, RankFault>
+    requires well_formed { IsWellFormed model.now }
+    requires covers { length model.now.covers < 2 ^ 32 }
+    ensures ranks { IfOk result (λ ranks. map Some ranks.items ≡ ranks_of model.now) }
+    ensures follow { IfOk result (λ ranks. AreRanks model.now (map Some ranks.items)) }
+    ensures refused { IfErr result (λ fault. IsRefused (first_without_rank model.now) fault) }
+{
+    let found = search_covers(alloc, model.covers.items())?;
+    all_ranks(alloc, found.ranks.as_slice())
+}
