@@ -32,7 +32,7 @@ abbrev pub WithoutLast : Type 0
 WithoutLast = (p : ℕ) (xs : List ℕ) → has p xs ≡ false → without p (xs ++ p ∷ []) ≡ xs
 
 abbrev pub WithoutPutAfter : Type 0
-WithoutPutAfter = (xs : List ℕ) (b : Option PinNo) (p : ℕ) → has p xs ≡ false → StandsIn xs b → without p (put_after xs b p) ≡ xs
+WithoutPutAfter = (xs : List ℕ) (b : Option PinNo) (p : ℕ) → has p xs ≡ false → without p (put_after xs b p) ≡ xs
 
 -- the pin before still stands, and the pin goes back behind it
 abbrev pub StandsBefore : Type 0

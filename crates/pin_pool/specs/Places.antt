@@ -4,6 +4,7 @@ use Rattle.std.specs.Ordering.{nat_cmp}
 use Rattle.std.specs.FinSet as set
 use Rattle.pin_pool.specs.Ring.{has, IsApart, put, without_pin, previous_from}
 use Rattle.pin_pool.specs.Pins.{Pins, list_of, StandsIn}
+use Rattle.pin_pool.specs.Rings.{Rings, IsIn}
 use Rattle.pin_pool.specs.declared.names.PinNo.{PinNo}
 use Rattle.pin_pool.specs.declared.names.Slot.{Slot}
 
@@ -85,7 +86,7 @@ pub record HasDriver (v : Pins) (p : ℕ) (slot : Slot) : Type 0 where
   pub driver : slot.driver < length v.fanouts
   pub in_driver : StandsIn (list_of (without_pin p v.fanouts) slot.driver) slot.in_driver
 
--- a pin is in a list of the one exactly if in a list of the other
-pub record ArePaired (inputs fanouts : List (List ℕ)) : Type 0 where
-  pub driven : (p : ℕ) → IsListed inputs p → IsListed fanouts p
-  pub read : (p : ℕ) → IsListed fanouts p → IsListed inputs p
+-- a pin is in the list of a gate exactly if it is in that of a driver
+pub record ArePaired (r : Rings) : Type 0 where
+  pub driven : (p : ℕ) → IsIn r.inputs p → IsIn r.fanouts p
+  pub read : (p : ℕ) → IsIn r.fanouts p → IsIn r.inputs p

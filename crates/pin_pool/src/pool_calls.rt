@@ -29,10 +29,11 @@ impl Model for Pool {
     ghost coded = { pins_code };
 
     ghost use Rattle.pin_pool.specs.Places.{ArePaired};
+    ghost use Rattle.pin_pool.specs.Rings.{rings_of};
 
     ghost view = { λ p. p.store };
 
-    ghost invariant = { λ p. ArePaired p.store.inputs p.store.fanouts };
+    ghost invariant = { λ p. ArePaired (rings_of p.store) };
 }
 
 impl Pool {
