@@ -31,7 +31,7 @@ module _ (f : ℕ → List ℕ) (taken : ℕ → Bool) (once : AreOnce f taken) 
         | inr s ↦ changed-other (all_without p f) g (put_after (all_without p f g) b p) n s ∙ elsewhere g n h s
       ])
 
-without-pushed : (f : ℕ → List ℕ) (g p : ℕ) → IsOut f p → all_without p (changed f g (f g ++ p ∷ [])) ≡ f
+pub without-pushed : (f : ℕ → List ℕ) (g p : ℕ) → IsOut f p → all_without p (changed f g (f g ++ p ∷ [])) ≡ f
 without-pushed f g p out = fun_ext (λ n. elim (cases_eq n g) [
   | inl e ↦ rw (e, changed-same f g (f g ++ p ∷ [])) (without-push p (f g) (out g))
   | inr ne ↦ rw (changed-other f g (f g ++ p ∷ []) n ne) (without-absent p (f n) (out n))

@@ -1,38 +1,27 @@
-use Rattle.std.proofs.Common.{rules, ◌≡◌, ◌≢◌, ◌<◌, ◌≤◌, ◌+◌, ◌↔◌, ℕ, true, false, length, IfOk, IsErr, OnErr, OnOk, ◌-◌, ◌*◌, ◌/◌, ◌%◌, Bool, nat_eq, nat_lt, List, [], ◌∷◌, ◌++◌, slice_index_or, bit_and, bit_or, Fits, w8, w32, w64, Bor, MutBor}
-use Rattle.std.specs.FinSet as set
-use Rattle.pin_pool.specs.Ring.{has}
-use Rattle.pin_pool.specs.Pins.{admitted}
-use Rattle.pin_pool.specs.Rings.{AreRings, CanMoveBack, CanRelink, CanRestore, IsLinked, IsLoose, IsValid, Rings, Stood, claimed, joined, moved, moved_back, no_rings, redriven, relinked, restored, returned, rings_of, unlinked}
+use Rattle.pin_pool.proofs.Calls.{can-relink, held-by, others-unlink, paired-unlink, rings-unlink, stood-unlink, valid-unlink}
+use Rattle.pin_pool.proofs.RingsOf.{valid-of}
 use Rattle.pin_pool.proofs.pool_calls.Pool.unlink.Goals as goal
 
--- src/pool_calls.rt:143:13
 pub unlink-slot-requires : goal.unlink-slot-requires
-unlink-slot-requires c = ?
+unlink-slot-requires c = held-by c.self.inside.store c.args.pin.0 c.self.invariant (rw (← c.self.view_is) at c.requires)
 
--- src/pool_calls.rt:130:5
 pub invariant_of-self : goal.invariant_of-self
-invariant_of-self c = ?
+invariant_of-self c = paired-unlink c.self.inside.store c.unlink-slot.new.self c.args.pin.0 c.look.ensures c.self.invariant c.look-2.ensures c.unlink-slot.ensures.lists
 
--- src/pool_calls.rt:130:5
 pub returns-clause-rings : goal.returns-clause-rings
-returns-clause-rings c = ?
+returns-clause-rings c = rw (← c.self.view_is) (rings-unlink c.self.inside.store c.unlink-slot.new.self c.args.pin.0 c.look.ensures c.self.invariant c.look-2.ensures c.unlink-slot.ensures.lists)
 
--- src/pool_calls.rt:130:5
 pub returns-clause-stood : goal.returns-clause-stood
-returns-clause-stood c = ?
+returns-clause-stood c = rw (← c.self.view_is) (stood-unlink c.self.inside.store c.unlink-slot.new.self c.args.pin.0 c.look.ensures c.self.invariant c.look-2.ensures c.unlink-slot.ensures.lists c.unlink-slot.result c.unlink-slot.ensures.in_gate c.unlink-slot.ensures.in_driver)
 
--- src/pool_calls.rt:130:5
 pub returns-clause-back : goal.returns-clause-back
-returns-clause-back c = ?
+returns-clause-back c = can-relink c.self.inside.store c.unlink-slot.new.self c.args.pin.0 c.look.ensures c.self.invariant c.look-2.ensures c.unlink-slot.ensures.lists c.unlink-slot.result c.unlink-slot.ensures.in_gate c.unlink-slot.ensures.in_driver
 
--- src/pool_calls.rt:130:5
 pub returns-clause-others : goal.returns-clause-others
-returns-clause-others c = ?
+returns-clause-others c = rw (← c.self.view_is) (others-unlink c.self.inside.store c.unlink-slot.new.self c.args.pin.0 c.look.ensures c.self.invariant c.look-2.ensures c.unlink-slot.ensures.lists)
 
--- src/pool_calls.rt:130:5
 pub returns-clause-was_valid : goal.returns-clause-was_valid
-returns-clause-was_valid c = ?
+returns-clause-was_valid c = rw (← c.self.view_is) (valid-of _ c.look.ensures c.self.invariant)
 
--- src/pool_calls.rt:130:5
 pub returns-clause-valid : goal.returns-clause-valid
-returns-clause-valid c = ?
+returns-clause-valid c = valid-unlink c.self.inside.store c.unlink-slot.new.self c.args.pin.0 c.look.ensures c.self.invariant c.look-2.ensures c.unlink-slot.ensures.lists
