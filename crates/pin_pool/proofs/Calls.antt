@@ -1,5 +1,6 @@
 -- What each call makes of the rings: v before, w after.
 use Rattle.std.proofs.Common.{◌≡◌, ◌≢◌, ℕ, ◌+◌, ◌-◌, ◌<◌, ◌≤◌, true, false, not, ◌&&◌, List, [], ◌∷◌, ◌++◌, length, take, drop, set, subst, Option, refl, sym, ap, ◌∙◌, arith, length-set}
+use Rattle.std.specs.Prelude.{Result, Ok, Err, OnErr, OnOk}
 use Rattle.std.specs.FinSet as finset
 use Rattle.std.specs.Ordering.{nat_cmp}
 use Rattle.std.proofs.lemmas.Bool.{false_from_ne_true, false≢true}
@@ -216,3 +217,17 @@ module _ (v w : Pins) (s : Splice) (kv : IsKept v) (pv : ArePaired (rings_of v))
 
   pub undoes-move_back : (before : Rings) → s.count ≡ length (before.fanouts s.from) → rings_of v ≡ moved s.from s.to before → rings_of w ≡ before
   undoes-move_back before count was = rings-move_back ∙ ap (moved_back s) was ∙ move_back-undoes before s can.apart count
+
+-- a claim of either result
+pub on-both : {T E : Type 0} (r : Result T E) (A B C : Type 0) → (A → C) → (B → C) → OnOk r A → OnErr r B → C
+on-both (Ok x) A B C f g a b = f a
+on-both (Err x) A B C f g a b = g b
+
+pub rings-link : (v w : Pins) (p g d : ℕ) → IsKept v → g < admitted v → d < admitted v → w ≡ record { inputs = with_list v.inputs g (list_of v.inputs g ++ p ∷ []); fanouts = with_list v.fanouts d (list_of v.fanouts d ++ p ∷ []); taken = v.taken; spare = v.spare } → rings_of w ≡ joined p g d (rings_of v)
+rings-link v w p g d k hg hd e =
+    rw e (same-rings _ _ (list_of-set v.inputs g (list_of v.inputs g ++ p ∷ []) hg) (list_of-set v.fanouts d (list_of v.fanouts d ++ p ∷ []) (omega (arith, hd, k.nodes))) refl)
+
+-- the lists are as they were
+pub paired-same : (v w : Pins) → ArePaired (rings_of v) → w.inputs ≡ v.inputs → w.fanouts ≡ v.fanouts → ArePaired (rings_of w)
+paired-same v w i a b = rw (a, b) (record { driven = i.driven; read = i.read })
+
