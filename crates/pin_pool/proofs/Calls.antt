@@ -1,5 +1,5 @@
 -- What each call makes of the rings: v before, w after.
-use Rattle.std.proofs.Common.{◌≡◌, ◌≢◌, ℕ, ◌+◌, ◌-◌, ◌<◌, ◌≤◌, true, false, not, ◌&&◌, List, [], ◌∷◌, ◌++◌, length, take, drop, set, subst, Option, refl, sym, ap, ◌∙◌, arith, length-set}
+use Rattle.std.proofs.Common.{◌≡◌, ◌≢◌, ℕ, ◌-◌, ◌<◌, false, List, [], ◌∷◌, ◌++◌, length, take, drop, set, subst, Option, refl, sym, ap, ◌∙◌, arith, length-set}
 use Rattle.std.specs.Prelude.{Result, Ok, Err, OnErr, OnOk}
 use Rattle.std.specs.FinSet as finset
 use Rattle.std.specs.Ordering.{nat_cmp}
@@ -8,13 +8,13 @@ use Rattle.std.proofs.lemmas.Bool.Decides.{nat_tests}
 use Rattle.std.proofs.lemmas.List.{length-map}
 use Rattle.pin_pool.specs.Ring.{has, IsApart, without, without_pin}
 use Rattle.pin_pool.specs.Pins.{Pins, admitted, before_in, list_of, put_after, StandsIn}
-use Rattle.pin_pool.specs.Places.{ArePaired, AreApart, GrowsTo, HasDriver, HasPlace, IsFree, IsHeld, IsKept, IsListed, IsPlace, IsUnlisted, moved_after, moved_last, put_at, with_list}
-use Rattle.pin_pool.specs.Rings.{Rings, rings_of, no_rings, changed, all_without, claimed, joined, returned, unlinked, relinked, redriven, restored, moved, moved_back, CanMoveBack, CanRelink, CanRestore, IsIn, IsOut, IsLinked, IsLoose, AreOnce, AreRings, IsValid, Stood}
+use Rattle.pin_pool.specs.Places.{ArePaired, AreApart, HasDriver, HasPlace, IsFree, IsHeld, IsKept, IsPlace, moved_after, moved_last, put_at, with_list}
+use Rattle.pin_pool.specs.Rings.{Rings, rings_of, changed, all_without, joined, unlinked, relinked, redriven, restored, moved, moved_back, CanMoveBack, CanRelink, CanRestore, IsIn, IsLinked, IsLoose, AreRings, IsValid, Stood}
 use Rattle.pin_pool.specs.declared.names.PinNo.{PinNo}
 use Rattle.pin_pool.specs.declared.names.Slot.{Slot}
 use Rattle.pin_pool.specs.declared.names.Splice.{Splice}
 use Rattle.pin_pool.proofs.RingLemmas.{has-without}
-use Rattle.pin_pool.proofs.ListLaws.{before-named, has-put_after, put-coded, stands-before}
+use Rattle.pin_pool.proofs.ListLaws.{before-named, has-put_after, put-coded}
 use Rattle.pin_pool.proofs.RingsOf.{list-without, list_of-set, list_of-without, listed, same-rings, valid-of}
 use Rattle.pin_pool.proofs.Paired.{gains, gains-push, loses, paired-joined, paired-moved, paired-moved_back, paired-redriven, paired-relinked, paired-restored, paired-unlinked}
 use Rattle.pin_pool.proofs.Undone.{relink-undoes, restore-undoes, move_back-undoes, stands, out-without, without-pushed}
@@ -110,9 +110,9 @@ module _ (v w : Pins) (p : ℕ) (slot : Slot) (kv : IsKept v) (pv : ArePaired (r
       let a : put_at (list_of v.inputs slot.gate) slot.in_gate p ≡ put_after (list_of v.inputs slot.gate) slot.in_gate p = put-coded 4294967295 _ slot.in_gate p (kv.inputs.pins slot.gate can.gate) can.in_gate in
       let b : put_at (list_of v.fanouts slot.driver) slot.in_driver p ≡ put_after (list_of v.fanouts slot.driver) slot.in_driver p = put-coded 4294967295 _ slot.in_driver p (kv.fanouts.pins slot.driver driver) can.in_driver in
       rw e (same-rings _ _
-        (list_of-set v.inputs slot.gate _ can.gate ∙ ap (λ (xs : List ℕ). changed (λ n. list_of v.inputs n) slot.gate xs) a)
-        (list_of-set v.fanouts slot.driver _ driver ∙ ap (λ (xs : List ℕ). changed (λ n. list_of v.fanouts n) slot.driver xs) b)
-        refl)
+      (list_of-set v.inputs slot.gate _ can.gate ∙ ap (λ (xs : List ℕ). changed (λ n. list_of v.inputs n) slot.gate xs) a)
+      (list_of-set v.fanouts slot.driver _ driver ∙ ap (λ (xs : List ℕ). changed (λ n. list_of v.fanouts n) slot.driver xs) b)
+      refl)
 
   pub paired-relink : ArePaired (rings_of w)
   paired-relink = paired-by w (relinked p slot (rings_of v)) rings-relink (paired-relinked (rings_of v) p slot pv)
@@ -176,10 +176,10 @@ module _ (v w : Pins) (p : ℕ) (slot : Slot) (kv : IsKept v) (pv : ArePaired (r
       let b : put_at (list_of (without_pin p v.fanouts) n) slot.in_driver p ≡ put_after (list_of (without_pin p v.fanouts) n) slot.in_driver p =
       put-coded 4294967295 _ slot.in_driver p (ap (has 4294967295) at ∙ none) (subst (λ (l : List ℕ). StandsIn l slot.in_driver) (sym at) can.in_driver) in
       rw e (same-rings _ _ refl
-        (list_of-set (without_pin p v.fanouts) n _ h
-        ∙ ap (λ (xs : List ℕ). changed (λ m. list_of (without_pin p v.fanouts) m) n xs) b
-        ∙ ap (λ (f : ℕ → List ℕ). changed f n (put_after (f n) slot.in_driver p)) (list_of-without v.fanouts p))
-        refl)
+      (list_of-set (without_pin p v.fanouts) n _ h
+      ∙ ap (λ (xs : List ℕ). changed (λ m. list_of (without_pin p v.fanouts) m) n xs) b
+      ∙ ap (λ (f : ℕ → List ℕ). changed f n (put_after (f n) slot.in_driver p)) (list_of-without v.fanouts p))
+      refl)
 
   pub paired-restore : ArePaired (rings_of w)
   paired-restore = paired-by w (restored p slot (rings_of v)) rings-restore (paired-restored (rings_of v) p slot (valid-of v kv pv).rings can.linked)
@@ -230,4 +230,3 @@ rings-link v w p g d k hg hd e =
 -- the lists are as they were
 pub paired-same : (v w : Pins) → ArePaired (rings_of v) → w.inputs ≡ v.inputs → w.fanouts ≡ v.fanouts → ArePaired (rings_of w)
 paired-same v w i a b = rw (a, b) (record { driven = i.driven; read = i.read })
-

@@ -1,12 +1,12 @@
 -- A pin in the list of a gate is in that of a driver, and the other way round.
-use Rattle.std.proofs.Common.{◌≡◌, ◌≢◌, ℕ, ◌-◌, ◌<◌, Bool, true, false, not, ◌&&◌, ◌||◌, List, [], ◌∷◌, ◌++◌, length, take, drop, subst, Option, eqb, refl, sym, ap, ◌∙◌, arith, inl, inr, ◌⊎◌}
-use Rattle.std.proofs.lemmas.Bool.{cases_eq, ne_eqb, eq-eqb, false≢true}
+use Rattle.std.proofs.Common.{◌≡◌, ◌≢◌, ℕ, ◌-◌, Bool, true, false, ◌||◌, List, [], ◌∷◌, ◌++◌, length, take, drop, eqb, refl, sym, ap, ◌∙◌, arith, inl, inr, ◌⊎◌}
+use Rattle.std.proofs.lemmas.Bool.{cases_eq, ne_eqb}
 use Rattle.std.proofs.lemmas.Bool.Decides.{eqb_tells, nat_tests}
 use Rattle.std.proofs.lemmas.List.{take-append-drop}
-use Rattle.pin_pool.specs.Ring.{has, IsApart, without}
-use Rattle.pin_pool.specs.Pins.{Pins, put_after}
+use Rattle.pin_pool.specs.Ring.{has, without}
+use Rattle.pin_pool.specs.Pins.{put_after}
 use Rattle.pin_pool.specs.Places.{ArePaired}
-use Rattle.pin_pool.specs.Rings.{Rings, rings_of, changed, all_without, joined, unlinked, relinked, redriven, restored, moved, moved_back, IsIn, IsOut, AreOnce, AreRings}
+use Rattle.pin_pool.specs.Rings.{Rings, changed, all_without, joined, unlinked, relinked, redriven, restored, moved, moved_back, IsIn, AreOnce, AreRings}
 use Rattle.pin_pool.specs.declared.names.Slot.{Slot}
 use Rattle.pin_pool.specs.declared.names.Splice.{Splice}
 use Rattle.pin_pool.proofs.RingLemmas.{has-without}
@@ -82,7 +82,7 @@ module _ (f : ℕ → List ℕ) (from to : ℕ) (apart : from ≢ to) where
       let at-other : (m : ℕ) → m ≢ from → m ≢ to → g m ≡ f m = λ m a b. changed-other (changed f from xs) to ys m b ∙ changed-other f from xs m a in
       let old : (q : ℕ) → (has q xs || has q ys) ≡ true → IsIn f q = λ q h. pick (λ n. has q (f n)) from to (sym (read q) ∙ h) in
       let new : (q : ℕ) → (has q (f from) || has q (f to)) ≡ true → IsIn g q = λ q h.
-          pick (λ n. has q (g n)) from to (rw (at-from, at-to) (read q ∙ h)) in
+      pick (λ n. has q (g n)) from to (rw (at-from, at-to) (read q ∙ h)) in
       record {
         had = λ q i. elim (cases_eq i.0 to) [
           | inl e ↦ old q (let at : has q ys ≡ true = ap (has q) (sym at-to) ∙ ap (λ (m : ℕ). has q (g m)) (sym e) ∙ i.1 in grind (arith, nat_tests))
@@ -159,6 +159,6 @@ paired-moved_back r s i apart empty =
     let xs = r.fanouts s.to in
     let n = length xs - s.count in
     one-has r _ i (has-two r.fanouts s.to s.from (λ e. apart (sym e)) (take n xs) (drop n xs) (λ q.
-        let none : has q (r.fanouts s.from) ≡ false = rw empty refl in
-        let both : has q xs ≡ (has q (take n xs) || has q (drop n xs)) = ap (has q) (sym (take-append-drop n xs)) ∙ has-append (take n xs) (drop n xs) q in
-        grind (arith, nat_tests)))
+    let none : has q (r.fanouts s.from) ≡ false = rw empty refl in
+    let both : has q xs ≡ (has q (take n xs) || has q (drop n xs)) = ap (has q) (sym (take-append-drop n xs)) ∙ has-append (take n xs) (drop n xs) q in
+    grind (arith, nat_tests)))

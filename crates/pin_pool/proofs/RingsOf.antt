@@ -1,5 +1,5 @@
 -- The pool's lists as functions of the node number.
-use Rattle.std.proofs.Common.{◌≡◌, ◌≢◌, ℕ, zero, suc, ◌+◌, ◌-◌, ◌<◌, ◌≤◌, Bool, true, false, List, [], ◌∷◌, ◌++◌, length, take, drop, set, replicate, refl, sym, ap, ◌∙◌, arith, inl, inr, get_or-set_same, get_or-set_other, eqb, get_or, length-set}
+use Rattle.std.proofs.Common.{◌≡◌, ◌≢◌, ℕ, zero, suc, ◌+◌, ◌<◌, Bool, true, false, List, [], ◌∷◌, ◌++◌, length, set, replicate, refl, sym, ap, ◌∙◌, arith, inl, inr, get_or-set_same, get_or-set_other}
 use mathlib.Core.Path.{fun_ext}
 use Rattle.std.specs.FinSet as finset
 use Rattle.std.specs.Ordering.{nat_cmp}
@@ -7,11 +7,11 @@ use Rattle.std.specs.Cmp.{nat_cmp_total, unsigned_tied}
 use Rattle.std.specs.FinSet.{contains-insert, contains-remove}
 use Rattle.std.proofs.lemmas.Bool.{cases_eq, cases_lt, ne_eqb, eq-eqb}
 use Rattle.std.proofs.lemmas.Bool.Decides.{nat_tests}
-use Rattle.std.proofs.lemmas.List.{get_or_past, length-map}
-use Rattle.pin_pool.specs.Ring.{has, IsApart, without, without_pin}
-use Rattle.pin_pool.specs.Pins.{Pins, list_of, put_after}
-use Rattle.pin_pool.specs.Places.{ArePaired, AreApart, GrowsTo, IsKept, IsListed, IsUnlisted, with_list}
-use Rattle.pin_pool.specs.Rings.{Rings, rings_of, no_rings, changed, all_without, IsIn, IsOut, AreOnce, AreRings, IsValid}
+use Rattle.std.proofs.lemmas.List.{get_or_past}
+use Rattle.pin_pool.specs.Ring.{has, without, without_pin}
+use Rattle.pin_pool.specs.Pins.{Pins, list_of}
+use Rattle.pin_pool.specs.Places.{ArePaired, AreApart, GrowsTo, IsKept, IsListed}
+use Rattle.pin_pool.specs.Rings.{Rings, rings_of, no_rings, changed, all_without, IsIn, AreOnce, IsValid}
 
 pub changed-same : {A : Type 0} (f : ℕ → A) (n : ℕ) (x : A) → changed f n x n ≡ x
 changed-same f n x = rw (eq-eqb n n refl) refl

@@ -1,9 +1,9 @@
 -- What a call did is undone.
-use Rattle.std.proofs.Common.{◌≡◌, ◌≢◌, ℕ, ◌+◌, ◌-◌, ◌<◌, Bool, true, false, List, [], ◌∷◌, ◌++◌, length, take, drop, Option, refl, sym, ap, ◌∙◌, arith, inl, inr, length-append}
+use Rattle.std.proofs.Common.{◌≡◌, ◌≢◌, ℕ, ◌-◌, Bool, true, false, List, [], ◌∷◌, ◌++◌, length, take, drop, Option, refl, sym, ap, ◌∙◌, arith, inl, inr, length-append}
 use mathlib.Core.Path.{fun_ext}
-use Rattle.std.proofs.lemmas.Bool.{cases_eq, ne_eqb, false_from_ne_true, false≢true}
+use Rattle.std.proofs.lemmas.Bool.{cases_eq, false_from_ne_true, false≢true}
 use Rattle.std.proofs.lemmas.Bool.Decides.{nat_tests}
-use Rattle.pin_pool.specs.Ring.{has, IsApart, without}
+use Rattle.pin_pool.specs.Ring.{has}
 use Rattle.pin_pool.specs.Pins.{put_after, before_in, StandsIn}
 use Rattle.pin_pool.specs.Rings.{Rings, changed, all_without, claimed, joined, dropped, linked, unlinked, returned, relinked, redriven, restored, moved, moved_back, IsOut, AreOnce, AreRings, Stood}
 use Rattle.pin_pool.specs.declared.names.PinNo.{PinNo}

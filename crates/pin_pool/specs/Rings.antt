@@ -1,9 +1,8 @@
 -- The lists of pins by node number, however many are admitted, and what each call makes of them.
-use Rattle.std.specs.Prelude.{◌≡◌, ◌≢◌, ℕ, ◌-◌, ◌<◌, ◌≤◌, ◌==◌, Bool, true, false, List, [], ◌∷◌, ◌++◌, length, take, drop, Option, if◌then◌else◌}
+use Rattle.std.specs.Prelude.{◌≡◌, ◌≢◌, ℕ, ◌-◌, ◌<◌, ◌≤◌, ◌==◌, Bool, true, false, List, [], ◌∷◌, ◌++◌, length, take, drop, if◌then◌else◌}
 use Rattle.std.specs.FinSet as set
 use Rattle.pin_pool.specs.Ring.{has, without, IsApart}
 use Rattle.pin_pool.specs.Pins.{Pins, admitted, list_of, put_after, before_in, StandsIn}
-use Rattle.pin_pool.specs.declared.names.PinNo.{PinNo}
 use Rattle.pin_pool.specs.declared.names.Slot.{Slot}
 use Rattle.pin_pool.specs.declared.names.Splice.{Splice}
 

@@ -1,4 +1,4 @@
-use Rattle.pin_pool.proofs.RingsOf.{rings-new, valid-of}
+use Rattle.pin_pool.proofs.RingsOf.{rings-new}
 use Rattle.pin_pool.proofs.pool_calls.Pool.new.Goals as goal
 
 pub returns-clause-rings : goal.returns-clause-rings
