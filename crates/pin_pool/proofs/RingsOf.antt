@@ -67,6 +67,7 @@ pub valid-of : (v : Pins) → IsKept v → ArePaired (rings_of v) → IsValid v
 valid-of v k p = record {
   rings = record { inputs = are-once v.inputs v.taken k.inputs; fanouts = are-once v.fanouts v.taken k.fanouts; driven = p.driven; read = p.read };
   nodes = k.nodes;
+  few = k.few;
 }
 
 -- a pool that has grown

@@ -1,5 +1,5 @@
 -- Lists of pins as the records keep them, where the last number is no pin.
-use Rattle.std.specs.Prelude.{◌≡◌, ℕ, ◌<◌, true, false, List, [], ◌∷◌, ◌++◌, length, slice_set, replicate, Option, Some, None, ◌==◌, if◌then◌else◌}
+use Rattle.std.specs.Prelude.{◌≡◌, ℕ, ◌+◌, ◌<◌, ◌≤◌, true, false, List, [], ◌∷◌, ◌++◌, length, slice_set, replicate, Option, Some, None, ◌==◌, if◌then◌else◌}
 use Rattle.std.specs.Ordering.{nat_cmp}
 use Rattle.std.specs.FinSet as set
 use Rattle.pin_pool.specs.Ring.{has, IsApart, put, without_pin, previous_from}
@@ -65,6 +65,7 @@ pub record IsKept (v : Pins) : Type 0 where
   pub inputs : AreApart v.inputs v.taken
   pub fanouts : AreApart v.fanouts v.taken
   pub nodes : length v.fanouts ≡ length v.inputs
+  pub few : set.len v.taken + v.spare ≤ 4294967295
 
 -- there are more pins and nodes, and no pin is taken, linked or moved
 pub record GrowsTo (old new : Pins) : Type 0 where

@@ -1,5 +1,5 @@
 -- The lists of pins by node number, however many are admitted, and what each call makes of them.
-use Rattle.std.specs.Prelude.{◌≡◌, ◌≢◌, ℕ, ◌-◌, ◌<◌, ◌≤◌, ◌==◌, Bool, true, false, List, [], ◌∷◌, ◌++◌, length, take, drop, if◌then◌else◌}
+use Rattle.std.specs.Prelude.{◌≡◌, ◌≢◌, ℕ, ◌+◌, ◌-◌, ◌<◌, ◌≤◌, ◌==◌, Bool, true, false, List, [], ◌∷◌, ◌++◌, length, take, drop, if◌then◌else◌}
 use Rattle.std.specs.FinSet as set
 use Rattle.pin_pool.specs.Ring.{has, without, IsApart}
 use Rattle.pin_pool.specs.Pins.{Pins, admitted, list_of, put_after, before_in, StandsIn}
@@ -119,6 +119,7 @@ pub record Stood (r : Rings) (p : ℕ) (slot : Slot) : Type 0 where
 pub record IsValid (v : Pins) : Type 0 where
   pub rings : AreRings (rings_of v)
   pub nodes : length v.fanouts ≡ length v.inputs
+  pub few : set.len v.taken + v.spare ≤ 4294967295
 
 -- p may be put where the slot says
 pub record CanRelink (v : Pins) (p : ℕ) (slot : Slot) : Type 0 where

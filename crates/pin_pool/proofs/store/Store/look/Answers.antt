@@ -1,4 +1,4 @@
-use Rattle.pin_pool.proofs.PoolLemmas.{valid-pool}
+use Rattle.pin_pool.proofs.RoomLemmas.{valid-pool}
 use Rattle.pin_pool.proofs.store.Store.look.Goals as goal
 
 pub returns : goal.returns
