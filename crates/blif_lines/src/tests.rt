@@ -6,6 +6,9 @@ use std::test::Fail;
 // Each token as `word@line:column`, lines apart by `|`, and what ended them.
 fn shown(alloc: Global, text: &[u8]) -> Result<String, Fail> {
     let mut out = String::new(alloc);
+    if text.len() > 16_777_216 {
+        return Ok(out);
+    }
     let mut reader = LineReader::new(alloc, text);
     for _ in 0..1_000 {
         match reader.next() {
@@ -111,6 +114,7 @@ fn many_joins(rt: HostRuntime) -> Result<(), Fail> {
         text.push(92u8)?;
         text.push(10u8)?;
     }
+    assert!(rt; text.len() <= 16_777_216);
     let mut reader = LineReader::new(alloc, text.as_slice());
     let fault = reader.next();
     assert!(rt; matches!(&fault, Err(LineFault::OpenJoin(Place { line: 8_388_608, column: 1 }))));
