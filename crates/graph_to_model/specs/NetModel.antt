@@ -11,15 +11,10 @@ use Rattle.gate_net.specs.declared.Kind.TheVariants.{And, Or, Not}
 use Rattle.gate_net.specs.Net.{Node, Net}
 use Rattle.graph_to_model.specs.Names.{node_name}
 
-abbrev pub row_at : ℕ → ℕ → List Literal
-row_at zero k = []
-row_at (suc n) zero = One ∷ replicate n Any
-row_at (suc n) (suc k) = Any ∷ row_at n k
-
 -- one row a pin, with 1 at that pin
-abbrev pub row_per_pin : ℕ → ℕ → List (List Literal)
-row_per_pin n zero = []
-row_per_pin n (suc k) = row_per_pin n k ++ row_at n k ∷ []
+abbrev pub row_per_pin : ℕ → List (List Literal)
+row_per_pin zero = []
+row_per_pin (suc n) = (One ∷ replicate n Any) ∷ map (λ r. Any ∷ r) (row_per_pin n)
 
 abbrev pub cover_with : List Word → Word → Bool → List (List Literal) → Cover
 cover_with inputs output on rows = record { inputs = inputs; output = output; on = on; rows = rows }
@@ -28,7 +23,7 @@ cover_with inputs output on rows = record { inputs = inputs; output = output; on
 abbrev pub gate_cover_of : Kind → List Word → Word → Option Cover
 gate_cover_of And inputs output = Some (cover_with inputs output true (replicate (length inputs) One ∷ []))
 gate_cover_of Or inputs output =
-    Some (if nat_le (length inputs) 64 then cover_with inputs output true (row_per_pin (length inputs) (length inputs))
+    Some (if nat_le (length inputs) 64 then cover_with inputs output true (row_per_pin (length inputs))
     else cover_with inputs output false (replicate (length inputs) Zero ∷ []))
 gate_cover_of Not inputs output = Some (cover_with inputs output true ((Zero ∷ []) ∷ []))
 gate_cover_of kind inputs output = None

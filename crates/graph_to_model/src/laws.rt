@@ -1,5 +1,8 @@
 //! Laws of the definitions.
-ghost use Rattle.std.specs.Prelude.{◌≡◌};
+ghost use Rattle.std.specs.Prelude.{◌≡◌, List, Bool, replicate, length};
+ghost use Rattle.rm_model.specs.Value.{row_matches};
+ghost use Rattle.gate_net.specs.Values.{junction};
+ghost use Rattle.rm_model.specs.declared.parts.Literal.TheVariants.{One};
 ghost use Rattle.cover_decompose.specs.Decomposition.{net_of_model};
 ghost use Rattle.cover_decompose.specs.Rows.{r2, r5};
 ghost use Rattle.graph_to_model.specs.NetModel.{model_of_net};
@@ -15,4 +18,9 @@ pub fn worked_rows()
     ensures copies { model_of_net copies (net_of_model copies) ≡ copies }
     ensures copies_wires { wires copies ≡ 0 }
     ensures prefix { (model_of_net taken_prefix (net_of_model taken_prefix)).covers ≡ taken_prefix_out }
+{}
+
+/// Probe.
+pub fn probe()
+    ensures { (bs : List Bool) → row_matches (replicate (length bs) One) bs ≡ junction false bs }
 {}

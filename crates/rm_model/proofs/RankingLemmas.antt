@@ -1,6 +1,6 @@
 -- From the lists of drivers to the ranks of a model.
 use Rattle.std.proofs.Common.{◌≡◌, ℕ, zero, suc, ◌<◌, ◌≤◌, List, [], ◌∷◌, map, length, take, get_or, Bool, true, false, Option, Some, None, ◌⊎◌, inl, inr, refl, sym, ap, ◌∙◌, subst, arith}
-use Rattle.std.specs.Prelude.{slice_get, position}
+use Rattle.std.specs.Prelude.{slice_get, position, Result, Ok, Err, IfOk}
 use Rattle.std.specs.List.{position_or_len, filter_map, cons_option}
 use Rattle.std.specs.Option.{option_map}
 use Rattle.std.proofs.lemmas.List.{length-map, get_or-map}
@@ -64,3 +64,11 @@ fixed-ranks m ranks fixed = ranks_are_only m ranks (ranks_of m) (fixed ∙ sym (
     map-same : {A B : Type 0} (f g : A → B) → ((x : A) → f x ≡ g x) → (xs : List A) → map f xs ≡ map g xs
     map-same f g h [] = refl
     map-same f g h (x ∷ xs) = rw (h x, map-same f g h xs) refl
+
+pub map-twice : {A B C : Type 0} (f : B → C) (g : A → B) (xs : List A) → map f (map g xs) ≡ map (λ x. f (g x)) xs
+map-twice f g [] = refl
+map-twice f g (x ∷ xs) = rw (map-twice f g xs) refl
+
+pub if_ok_map : {T E : Type 0} (P Q : T → Type 0) (r : Result T E) → ((x : T) → P x → Q x) → IfOk r P → IfOk r Q
+if_ok_map P Q (Ok x) f h = f x h
+if_ok_map P Q (Err e) f h = tt
