@@ -1,1 +1,3 @@
 pub mod GateValues
+pub mod Prefixes
+pub mod TidyFacts

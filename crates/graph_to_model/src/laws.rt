@@ -1,13 +1,15 @@
 //! Laws of the definitions.
-ghost use Rattle.std.specs.Prelude.{◌≡◌, List, Bool, replicate, length};
-ghost use Rattle.rm_model.specs.Value.{row_matches};
-ghost use Rattle.gate_net.specs.Values.{junction};
-ghost use Rattle.rm_model.specs.declared.parts.Literal.TheVariants.{One};
+ghost use Rattle.std.specs.Prelude.{◌≡◌};
+ghost use Rattle.gate_net.specs.Net.{Net, IsWellFormed};
+ghost use Rattle.wire_edit.specs.Order.{IsTidy};
+ghost use Rattle.graph_to_model.proofs.TidyFacts.{IsLean};
 ghost use Rattle.cover_decompose.specs.Decomposition.{net_of_model};
 ghost use Rattle.cover_decompose.specs.Rows.{r2, r5};
 ghost use Rattle.graph_to_model.specs.NetModel.{model_of_net};
 ghost use Rattle.graph_to_model.specs.Rows.{copies, r2_out, r5_out, taken_prefix, taken_prefix_out};
 ghost use Rattle.graph_to_model.specs.Wires.{wires};
+
+use wire_edit::order_tells;
 
 /// Models of nets that are worked out by hand.
 pub fn worked_rows()
@@ -20,7 +22,9 @@ pub fn worked_rows()
     ensures prefix { (model_of_net taken_prefix (net_of_model taken_prefix)).covers ≡ taken_prefix_out }
 {}
 
-/// Probe.
-pub fn probe()
-    ensures { (bs : List Bool) → row_matches (replicate (length bs) One) bs ≡ junction false bs }
-{}
+/// A tidy net stands for its model, which has as many wires.
+pub fn tidy_nets_have_models()
+    ensures { (net : Net) → IsWellFormed net → IsTidy net → IsLean net }
+{
+    order_tells();
+}

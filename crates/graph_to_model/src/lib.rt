@@ -3,4 +3,4 @@
 
 mod laws;
 
-pub use laws::{probe, worked_rows};
+pub use laws::{tidy_nets_have_models, worked_rows};
