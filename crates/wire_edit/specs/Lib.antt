@@ -4,7 +4,6 @@ pub mod Steps
 pub mod Refusals
 pub mod Order
 pub mod Touched
-pub mod Firsts
 pub mod Work
 pub mod Laws
 pub mod Rows

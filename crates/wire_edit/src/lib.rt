@@ -2,14 +2,11 @@
 #![tactic(auto)]
 
 mod laws;
-mod looks;
 mod refusal;
 mod room;
-mod rules;
 mod steps;
 
 pub use laws::{answers_apply, order_tells, steps_keep, tidying_ends, worked_rows};
 pub use refusal::EditRefusal;
 pub use room::Room;
-pub use rules::first_rule;
 pub use steps::{Rule, Step};
