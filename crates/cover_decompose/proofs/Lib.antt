@@ -12,4 +12,3 @@ pub mod Wires
 pub mod WellFormed
 pub mod Points
 pub mod Counted
-pub mod PlanSteps

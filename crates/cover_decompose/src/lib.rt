@@ -1,11 +1,7 @@
 //! The net of a model: each needed cover as an Or of Ands of literals.
 #![tactic(auto)]
 
-mod count;
 mod laws;
-mod names;
-mod needed;
-mod plan;
 
 pub use laws::{
     decompositions_are_formed, decompositions_stand, needed_covers_are_taken, worked_rows,

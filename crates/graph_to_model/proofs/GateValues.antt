@@ -1,13 +1,25 @@
 -- The cover of a gate has the gate's value.
-use Rattle.std.proofs.Common.{◌≡◌, ℕ, zero, suc, Bool, true, false, not, ◌&&◌, ◌||◌, List, [], ◌∷◌, map, length, refl, sym, ◌∙◌, ap}
-use Rattle.std.specs.Prelude.{if◌then◌else◌, replicate}
+use Rattle.std.proofs.Common.{◌≡◌, ◌≢◌, ◌≤◌, ℕ, zero, suc, Bool, true, false, not, ◌&&◌, ◌||◌, List, [], ◌∷◌, map, length, refl, sym, ◌∙◌, ap, subst, arith, All, nat_eq}
+use Rattle.std.specs.Prelude.{if◌then◌else◌, replicate, Option, Some, nat_le}
+use Rattle.std.proofs.lemmas.Bool.{ne_eqb}
+use Rattle.std.proofs.lemmas.List.Elements.{All-cons, All-nil, All-head, All-tail}
 use Rattle.std.specs.List.{list_all, list_any, zip}
 use Rattle.rm_model.specs.Words.{Word}
 use Rattle.rm_model.specs.Value.{literal_holds, row_matches, value_of, value_of_rows}
+use Rattle.rm_model.specs.WellFormed.{IsWellFormedCover}
 use Rattle.rm_model.specs.declared.parts.Literal.{Literal}
 use Rattle.rm_model.specs.declared.parts.Literal.TheVariants.{Zero, One, Any}
-use Rattle.gate_net.specs.Values.{junction, not_first}
-use Rattle.graph_to_model.specs.NetModel.{row_per_pin, cover_with}
+use Rattle.rm_model.specs.declared.parts.Cover.{Cover}
+use Rattle.gate_net.specs.declared.Kind.{Kind}
+use Rattle.gate_net.specs.declared.Kind.TheVariants as kinds
+use Rattle.gate_net.specs.declared.Kind.TheVariants.{Source, And, Or, Not}
+use Rattle.gate_net.specs.Net.{IsGateKind}
+use Rattle.gate_net.specs.Values.{junction, not_first, gate_value}
+use Rattle.graph_to_model.specs.NetModel.{row_per_pin, gate_cover_of}
+use Rattle.graph_to_model.specs.Wires.{is_copy}
+
+some_told : {A : Type 0} (a b : A) → Some a ≡ Some b → a ≡ b
+some_told a b e = cc
 
 -- a row of 1s matches where all are 1
 pub ones_match : (bs : List Bool) → row_matches (replicate (length bs) One) bs ≡ junction false bs
@@ -38,3 +50,119 @@ pub rows_match : (bs : List Bool) → list_any (λ (row : List Literal). row_mat
 rows_match [] = refl
 rows_match (true ∷ bs) = or_false (row_matches (replicate (length bs) Any) bs) _ (anys_match bs)
 rows_match (false ∷ bs) = behind_any false bs (row_per_pin (length bs)) ∙ rows_match bs
+
+-- what holds of the cover of a gate of that kind
+pub record CoverOf (kind : Kind) (inputs : List Word) (output : Word) (c : Cover) : Type 0 where
+  pub gate : IsGateKind kind
+  pub in_is : c.inputs ≡ inputs
+  pub out_is : c.output ≡ output
+  pub formed : IsWellFormedCover c
+  pub value : (bs : List Bool) → length bs ≡ length inputs → (kind ≡ Not → length inputs ≡ 1) → value_of c bs ≡ gate_value kind false bs
+  pub no_copy : (kind ≡ Not → length inputs ≡ 1) → (kind ≢ Not → 2 ≤ length inputs) → is_copy c ≡ false
+
+if_same : (b : Bool) → (if b then true else false) ≡ b
+if_same true = refl
+if_same false = refl
+
+if_not : (b : Bool) → (if not b then false else true) ≡ b
+if_not true = refl
+if_not false = refl
+
+or_none : (b : Bool) → (b || false) ≡ b
+or_none true = refl
+or_none false = refl
+
+and_value : (n : ℕ) (bs : List Bool) → length bs ≡ n → value_of_rows (replicate n One ∷ []) true bs ≡ junction false bs
+and_value n bs e = subst (λ (k : ℕ). value_of_rows (replicate k One ∷ []) true bs ≡ junction false bs) e
+    (if_same (row_matches (replicate (length bs) One) bs || false) ∙ (or_none (row_matches (replicate (length bs) One) bs) ∙ ones_match bs))
+
+wide_value : (n : ℕ) (bs : List Bool) → length bs ≡ n → value_of_rows (replicate n Zero ∷ []) false bs ≡ junction true bs
+wide_value n bs e = subst (λ (k : ℕ). value_of_rows (replicate k Zero ∷ []) false bs ≡ junction true bs) e
+    (ap (λ (b : Bool). if b then false else true) (or_none (row_matches (replicate (length bs) Zero) bs) ∙ zeros_match bs) ∙ if_not (junction true bs))
+
+rows_value : (rows : List (List Literal)) (bs : List Bool) → (rows ≡ [] → junction true bs ≡ false) → list_any (λ (row : List Literal). row_matches row bs) rows ≡ junction true bs → value_of_rows rows true bs ≡ junction true bs
+rows_value [] bs none e = sym (none refl)
+rows_value (r ∷ rs) bs none e = if_same (list_any (λ (row : List Literal). row_matches row bs) (r ∷ rs)) ∙ e
+
+no_rows : (n : ℕ) → row_per_pin n ≡ [] → n ≡ 0
+no_rows zero e = refl
+no_rows (suc n) e = absurd cc
+
+or_value : (n : ℕ) (bs : List Bool) → length bs ≡ n → value_of_rows (row_per_pin n) true bs ≡ junction true bs
+or_value n bs e = subst (λ (k : ℕ). value_of_rows (row_per_pin k) true bs ≡ junction true bs) e
+    (rows_value (row_per_pin (length bs)) bs (λ none. empty bs (no_rows (length bs) none)) (rows_match bs))
+  where
+    empty : (bs : List Bool) → length bs ≡ 0 → junction true bs ≡ false
+    empty [] e = refl
+    empty (b ∷ bs) e = absurd (omega arith)
+
+replicate_length : (n : ℕ) (l : Literal) → length (replicate n l) ≡ n
+replicate_length zero l = refl
+replicate_length (suc n) l = ap suc (replicate_length n l)
+
+one_row : (n : ℕ) (l : Literal) → All (λ (r : List Literal). length r ≡ n) (replicate n l ∷ [])
+one_row n l = All-cons (λ (r : List Literal). length r ≡ n) (replicate n l) [] (replicate_length n l) (All-nil (λ (r : List Literal). length r ≡ n))
+
+longer_rows : (n : ℕ) (rows : List (List Literal)) → All (λ (r : List Literal). length r ≡ n) rows → All (λ (r : List Literal). length r ≡ suc n) (map (λ r. Any ∷ r) rows)
+longer_rows n [] h = All-nil (λ (r : List Literal). length r ≡ suc n)
+longer_rows n (r ∷ rows) h =
+    All-cons (λ (r : List Literal). length r ≡ suc n) (Any ∷ r) (map (λ r. Any ∷ r) rows) (ap suc (All-head (λ (r : List Literal). length r ≡ n) r rows h))
+    (longer_rows n rows (All-tail (λ (r : List Literal). length r ≡ n) r rows h))
+
+row_lengths : (n : ℕ) → All (λ (r : List Literal). length r ≡ n) (row_per_pin n)
+row_lengths zero = All-nil (λ (r : List Literal). length r ≡ 0)
+row_lengths (suc n) =
+    All-cons (λ (r : List Literal). length r ≡ suc n) (One ∷ replicate n Any) (map (λ r. Any ∷ r) (row_per_pin n)) (ap suc (replicate_length n Any)) (longer_rows n (row_per_pin n) (row_lengths n))
+
+not_one : (n : ℕ) → 2 ≤ n → nat_eq n 1 ≡ false
+not_one n h = ne_eqb n 1 (λ (e : n ≡ 1). let f : ⊥ = omega arith in f)
+
+not_value : (n : ℕ) (bs : List Bool) → length bs ≡ n → n ≡ 1 → value_of_rows ((Zero ∷ []) ∷ []) true bs ≡ not_first bs
+not_value n [] e one = absurd (omega arith)
+not_value n (true ∷ []) e one = refl
+not_value n (false ∷ []) e one = refl
+not_value n (b ∷ d ∷ bs) e one = absurd (omega arith)
+
+and_false : (b : Bool) → (b && false) ≡ false
+and_false true = refl
+and_false false = refl
+
+pub cover_of : (kind : Kind) (inputs : List Word) (output : Word) (c : Cover) → gate_cover_of kind inputs output ≡ Some c → CoverOf kind inputs output c
+cover_of Source inputs output c e = absurd cc
+cover_of kinds.Zero inputs output c e = absurd cc
+cover_of kinds.One inputs output c e = absurd cc
+cover_of And inputs output c e = subst (CoverOf And inputs output) (some_told _ _ e) (record {
+  gate = tt;
+  in_is = refl;
+  out_is = refl;
+  formed = record { no_rows = λ none. refl; row_lengths = one_row (length inputs) One };
+  value = λ bs l one. and_value (length inputs) bs l;
+  no_copy = λ one two. rw (not_one (length inputs) (two (λ (f : And ≡ Not). let g : ⊥ = cc in g))) refl;
+})
+cover_of Or inputs output c e = by_width (nat_le (length inputs) 64) refl
+  where
+    by_width : (b : Bool) → nat_le (length inputs) 64 ≡ b → CoverOf Or inputs output c
+    by_width true w = subst (CoverOf Or inputs output) (some_told _ _ (rw w at e)) (record {
+      gate = tt;
+      in_is = refl;
+      out_is = refl;
+      formed = record { no_rows = λ none. refl; row_lengths = row_lengths (length inputs) };
+      value = λ bs l one. or_value (length inputs) bs l;
+      no_copy = λ one two. rw (not_one (length inputs) (two (λ (f : Or ≡ Not). let g : ⊥ = cc in g))) refl;
+    })
+    by_width false w = subst (CoverOf Or inputs output) (some_told _ _ (rw w at e)) (record {
+      gate = tt;
+      in_is = refl;
+      out_is = refl;
+      formed = record { no_rows = λ none. absurd cc; row_lengths = one_row (length inputs) Zero };
+      value = λ bs l one. wide_value (length inputs) bs l;
+      no_copy = λ one two. rw (not_one (length inputs) (two (λ (f : Or ≡ Not). let g : ⊥ = cc in g))) refl;
+    })
+cover_of Not inputs output c e = subst (CoverOf Not inputs output) (some_told _ _ e) (record {
+  gate = tt;
+  in_is = refl;
+  out_is = refl;
+  formed = record { no_rows = λ none. refl; row_lengths = ? };
+  value = λ bs l one. not_value (length inputs) bs l (one refl);
+  no_copy = λ one two. and_false (nat_eq (length inputs) 1);
+})

@@ -1,3 +1,4 @@
 pub mod GateValues
 pub mod Prefixes
 pub mod TidyFacts
+pub mod Named

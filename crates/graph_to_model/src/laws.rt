@@ -1,8 +1,6 @@
 //! Laws of the definitions.
 ghost use Rattle.std.specs.Prelude.{◌≡◌};
-ghost use Rattle.gate_net.specs.Net.{Net, IsWellFormed};
-ghost use Rattle.wire_edit.specs.Order.{IsTidy};
-ghost use Rattle.graph_to_model.proofs.TidyFacts.{IsLean};
+ghost use Rattle.graph_to_model.specs.Laws.{TidyNetsHaveModels};
 ghost use Rattle.cover_decompose.specs.Decomposition.{net_of_model};
 ghost use Rattle.cover_decompose.specs.Rows.{r2, r5};
 ghost use Rattle.graph_to_model.specs.NetModel.{model_of_net};
@@ -24,7 +22,7 @@ pub fn worked_rows()
 
 /// A tidy net stands for its model, which has as many wires.
 pub fn tidy_nets_have_models()
-    ensures { (net : Net) → IsWellFormed net → IsTidy net → IsLean net }
+    ensures { TidyNetsHaveModels }
 {
     order_tells();
 }
