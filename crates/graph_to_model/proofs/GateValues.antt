@@ -56,7 +56,7 @@ pub record CoverOf (kind : Kind) (inputs : List Word) (output : Word) (c : Cover
   pub gate : IsGateKind kind
   pub in_is : c.inputs ≡ inputs
   pub out_is : c.output ≡ output
-  pub formed : IsWellFormedCover c
+  pub formed : (kind ≡ Not → length inputs ≡ 1) → IsWellFormedCover c
   pub value : (bs : List Bool) → length bs ≡ length inputs → (kind ≡ Not → length inputs ≡ 1) → value_of c bs ≡ gate_value kind false bs
   pub no_copy : (kind ≡ Not → length inputs ≡ 1) → (kind ≢ Not → 2 ≤ length inputs) → is_copy c ≡ false
 
@@ -100,7 +100,7 @@ replicate_length : (n : ℕ) (l : Literal) → length (replicate n l) ≡ n
 replicate_length zero l = refl
 replicate_length (suc n) l = ap suc (replicate_length n l)
 
-one_row : (n : ℕ) (l : Literal) → All (λ (r : List Literal). length r ≡ n) (replicate n l ∷ [])
+pub one_row : (n : ℕ) (l : Literal) → All (λ (r : List Literal). length r ≡ n) (replicate n l ∷ [])
 one_row n l = All-cons (λ (r : List Literal). length r ≡ n) (replicate n l) [] (replicate_length n l) (All-nil (λ (r : List Literal). length r ≡ n))
 
 longer_rows : (n : ℕ) (rows : List (List Literal)) → All (λ (r : List Literal). length r ≡ n) rows → All (λ (r : List Literal). length r ≡ suc n) (map (λ r. Any ∷ r) rows)
@@ -135,7 +135,7 @@ cover_of And inputs output c e = subst (CoverOf And inputs output) (some_told _ 
   gate = tt;
   in_is = refl;
   out_is = refl;
-  formed = record { no_rows = λ none. refl; row_lengths = one_row (length inputs) One };
+  formed = λ one. record { no_rows = λ none. refl; row_lengths = one_row (length inputs) One };
   value = λ bs l one. and_value (length inputs) bs l;
   no_copy = λ one two. rw (not_one (length inputs) (two (λ (f : And ≡ Not). let g : ⊥ = cc in g))) refl;
 })
@@ -146,7 +146,7 @@ cover_of Or inputs output c e = by_width (nat_le (length inputs) 64) refl
       gate = tt;
       in_is = refl;
       out_is = refl;
-      formed = record { no_rows = λ none. refl; row_lengths = row_lengths (length inputs) };
+      formed = λ one. record { no_rows = λ none. refl; row_lengths = row_lengths (length inputs) };
       value = λ bs l one. or_value (length inputs) bs l;
       no_copy = λ one two. rw (not_one (length inputs) (two (λ (f : Or ≡ Not). let g : ⊥ = cc in g))) refl;
     })
@@ -154,7 +154,7 @@ cover_of Or inputs output c e = by_width (nat_le (length inputs) 64) refl
       gate = tt;
       in_is = refl;
       out_is = refl;
-      formed = record { no_rows = λ none. absurd cc; row_lengths = one_row (length inputs) Zero };
+      formed = λ one. record { no_rows = λ none. absurd cc; row_lengths = one_row (length inputs) Zero };
       value = λ bs l one. wide_value (length inputs) bs l;
       no_copy = λ one two. rw (not_one (length inputs) (two (λ (f : Or ≡ Not). let g : ⊥ = cc in g))) refl;
     })
@@ -162,7 +162,7 @@ cover_of Not inputs output c e = subst (CoverOf Not inputs output) (some_told _ 
   gate = tt;
   in_is = refl;
   out_is = refl;
-  formed = record { no_rows = λ none. refl; row_lengths = ? };
+  formed = λ one. record { no_rows = λ none. refl; row_lengths = subst (λ (k : ℕ). All (λ (r : List Literal). length r ≡ k) ((Zero ∷ []) ∷ [])) (sym (one refl)) (one_row 1 Zero) };
   value = λ bs l one. not_value (length inputs) bs l (one refl);
   no_copy = λ one two. and_false (nat_eq (length inputs) 1);
 })

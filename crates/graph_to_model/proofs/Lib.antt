@@ -2,3 +2,10 @@ pub mod GateValues
 pub mod Prefixes
 pub mod TidyFacts
 pub mod Named
+pub mod Covers
+pub mod Outputs
+pub mod Tokens
+pub mod Formed
+pub mod Standing
+pub mod Rank
+pub mod Pins

@@ -10,7 +10,6 @@ use Rattle.std.proofs.lemmas.Option.{slice_get_within}
 use Rattle.rm_model.specs.Words.{Word}
 use Rattle.rm_model.specs.Value.{is_among, source_names, observed_names}
 use Rattle.rm_model.specs.declared.parts.Model.{Model}
-use Rattle.rm_model.proofs.CoverLemmas.{among-at}
 use Rattle.gate_net.specs.Net.{Net}
 use Rattle.cover_decompose.proofs.Members.{In, in_at, in_left, in_right, any_in}
 use Rattle.graph_to_model.specs.Names.{kept_names, prefix, is_free, least_free, free_prefix, observed_name, node_name}
@@ -37,7 +36,7 @@ observed_at (k ∷ ks) (y ∷ ys) n x e = elim (eqb_tells k n) [
   | inr f ↦ let r = observed_at ks ys n x (rw f.0 at e) in (suc r.0, r.1)
 ]
 
-some_told : {A : Type 0} (a b : A) → Some a ≡ Some b → a ≡ b
+pub some_told : {A : Type 0} (a b : A) → Some a ≡ Some b → a ≡ b
 some_told a b e = cc
 
 -- a node's name stands on it in the observed list, or is the prefix and its number

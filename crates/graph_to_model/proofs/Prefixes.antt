@@ -1,5 +1,5 @@
 -- The free prefix begins no kept name.
-use Rattle.std.proofs.Common.{◌≡◌, ◌≢◌, ◌≤◌, ◌<◌, ◌+◌, ◌^◌, ℕ, zero, suc, Bool, true, false, not, ◌&&◌, ◌||◌, List, [], ◌∷◌, ◌++◌, length, refl, sym, ◌∙◌, ap, arith, subst, append_assoc, nat_eq}
+use Rattle.std.proofs.Common.{◌≡◌, ◌≢◌, ◌≤◌, ◌<◌, ◌+◌, ◌^◌, ℕ, zero, suc, Bool, true, false, not, ◌&&◌, ◌||◌, List, [], ◌∷◌, ◌++◌, length, refl, sym, ◌∙◌, ap, arith, subst, append_assoc, nat_eq, inl, inr, ◌%◌}
 use Rattle.std.specs.Prelude.{if◌then◌else◌}
 use Rattle.std.specs.Fmt.{decimal}
 use Rattle.std.specs.List.{list_any, starts_with}
@@ -23,7 +23,7 @@ begins (b ∷ bs) (c ∷ cs) e =
     (rest.0, ap (λ (d : ℕ). d ∷ cs) (same b c both.0) ∙ ap (λ (ds : List ℕ). b ∷ ds) rest.1)
   where
     same : (b c : ℕ) → nat_eq b c ≡ true → c ≡ b
-    same b c e = elim (eqb_tells b c) [ inl t ↦ sym t.1 | inr f ↦ absurd (omega arith) ]
+    same b c e = elim (eqb_tells b c) [ inl t ↦ sym t.1 | inr f ↦ let bad : true ≡ false = sym e ∙ f.0 in absurd cc ]
 
 -- no `_` stands in the text
 pub NoBar : Word → Type 0
@@ -80,42 +80,45 @@ without_first : (Word → Bool) → List Word → List Word
 without_first f [] = []
 without_first f (x ∷ xs) = if f x then xs else x ∷ without_first f xs
 
+less_step : (f : Word → Bool) (x : Word) (xs : List Word) (b : Bool) → (b || list_any f xs) ≡ true → (list_any f xs ≡ true → suc (length (without_first f xs)) ≡ length xs) → suc (length (if b then xs else x ∷ without_first f xs)) ≡ suc (length xs)
+less_step f x xs true e less = refl
+less_step f x xs false e less = ap suc (less e)
+
 one_less : (f : Word → Bool) (xs : List Word) → list_any f xs ≡ true → suc (length (without_first f xs)) ≡ length xs
 unfolding without_first
 one_less f [] e = absurd cc
-one_less f (x ∷ xs) e = told (f x) refl
-  where
-    told : (b : Bool) → f x ≡ b → suc (length (if f x then xs else x ∷ without_first f xs)) ≡ suc (length xs)
-    told true t = rw t refl
-    told false t = rw t (ap suc (one_less f xs (rw t at e)))
+one_less f (x ∷ xs) e = less_step f x xs (f x) e (one_less f xs)
+
+any_step : (f g : Word → Bool) (x : Word) (xs : List Word) (b : Bool) → (b ≡ true → g x ≡ false) → list_any g (without_first f xs) ≡ list_any g xs → list_any g (if b then xs else x ∷ without_first f xs) ≡ (g x || list_any g xs)
+any_step f g x xs true h e = rw (h refl) refl
+any_step f g x xs false h e = ap (λ (b : Bool). g x || b) e
 
 any-without : (f g : Word → Bool) (xs : List Word) → ((x : Word) → f x ≡ true → g x ≡ false) → list_any g (without_first f xs) ≡ list_any g xs
 unfolding without_first
 any-without f g [] h = refl
-any-without f g (x ∷ xs) h = told (f x) refl
-  where
-    told : (b : Bool) → f x ≡ b → list_any g (if f x then xs else x ∷ without_first f xs) ≡ (g x || list_any g xs)
-    told true t = rw (t, h x t) refl
-    told false t = rw t (ap (λ (b : Bool). g x || b) (any-without f g xs h))
+any-without f g (x ∷ xs) h = any_step f g x xs (f x) (h x) (any-without f g xs h)
 
 not_not : (b : Bool) → not (not b) ≡ b
 not_not true = refl
 not_not false = refl
 
+fewer : (tries t : ℕ) (xs : List Word) → length xs ≤ suc tries → list_any (begins_at t) xs ≡ true → length (without_first (begins_at t) xs) ≤ tries
+fewer tries t xs few e = let less : suc (length (without_first (begins_at t) xs)) ≡ length xs = one_less (begins_at t) xs e in omega arith
+
+free_step : (tries t : ℕ) (kept : List Word) (b : Bool) → is_free kept t ≡ b → (is_free kept t ≡ false → is_free kept (least_free tries (t + 1) kept) ≡ true) → is_free kept (if b then t else least_free tries (t + 1) kept) ≡ true
+free_step tries t kept true e later = e
+free_step tries t kept false e later = later e
+
+taken_by : (t : ℕ) (kept xs : List Word) → is_free kept t ≡ is_free xs t → is_free kept t ≡ false → list_any (begins_at t) xs ≡ true
+taken_by t kept xs same e = sym (not_not (list_any (begins_at t) xs)) ∙ ap not (sym same ∙ e)
+
 least_is_free : (tries t : ℕ) (kept xs : List Word) → length xs ≤ tries → t + tries < 2 ^ 64 → ((s : ℕ) → t ≤ s → s < 2 ^ 64 → is_free kept s ≡ is_free xs s) → is_free kept (least_free tries t kept) ≡ true
 least_is_free zero t kept [] few small same = same t (omega arith) (omega arith)
 least_is_free zero t kept (x ∷ xs) few small same = absurd (omega arith)
-least_is_free (suc tries) t kept xs few small same = told (is_free kept t) refl
-  where
-    fewer : list_any (begins_at t) xs ≡ true → length (without_first (begins_at t) xs) ≤ tries
-    fewer e = let less : suc (length (without_first (begins_at t) xs)) ≡ length xs = one_less (begins_at t) xs e in omega arith
-
-    told : (b : Bool) → is_free kept t ≡ b → is_free kept (if is_free kept t then t else least_free tries (t + 1) kept) ≡ true
-    told true e = rw e e
-    told false e =
-        let found : list_any (begins_at t) xs ≡ true = sym (not_not (list_any (begins_at t) xs)) ∙ ap not (sym (same t (omega arith) (omega arith)) ∙ e) in
-        rw e (least_is_free tries (t + 1) kept (without_first (begins_at t) xs) (fewer found) (omega arith)
-        (λ s above below. same s (omega arith) below ∙ ap not (sym (any-without (begins_at t) (begins_at s) xs (λ x begun. other_prefix s t x below (omega arith) (omega arith) begun)))))
+least_is_free (suc tries) t kept xs few small same = free_step tries t kept (is_free kept t) refl (λ e.
+    least_is_free tries (t + 1) kept (without_first (begins_at t) xs)
+    (fewer tries t xs few (taken_by t kept xs (same t (omega arith) (omega arith)) e)) (omega arith)
+    (λ s above below. same s (omega arith) below ∙ ap not (sym (any-without (begins_at t) (begins_at s) xs (λ x begun. other_prefix s t x below (omega arith) (omega arith) begun)))))
 
 -- as many tries as names are enough
 pub prefix_is_free : (kept : List Word) → length kept < 2 ^ 64 → is_free kept (least_free (length kept) 0 kept) ≡ true
