@@ -52,9 +52,9 @@ behind_marked o p (b ∷ bs) = at (b == 10) refl (behind_marked (o + 1) (moved p
     at : (t : Bool) → (b == 10) ≡ t → behind_first (marked (o + 1) (moved p 1) bs) ≡ marked ((o + 1) + front is_inner bs + 1) (line_start (p.line + 1)) (drop (front is_inner bs + 1) bs) → behind_first (marked o p (b ∷ bs)) ≡ marked (o + front is_inner (b ∷ bs) + 1) (line_start (p.line + 1)) (drop (front is_inner (b ∷ bs) + 1) (b ∷ bs))
     at true e ih = let zero_more : o + 0 + 1 ≡ o + 1 = omega arith in rw e (ap (λ (n : ℕ). marked n (line_start (p.line + 1)) bs) (sym zero_more))
     at false e ih =
-      let step : suc (front is_inner bs) + 1 ≡ suc (front is_inner bs + 1) = omega arith in
-      let far : (o + 1) + front is_inner bs + 1 ≡ o + suc (front is_inner bs) + 1 = omega arith in
-      rw e (ih ∙ ap (λ (n : ℕ). marked n (line_start (p.line + 1)) (drop (front is_inner bs + 1) bs)) far ∙ ap (λ (n : ℕ). marked (o + suc (front is_inner bs) + 1) (line_start (p.line + 1)) (drop n (b ∷ bs))) (sym step))
+        let step : suc (front is_inner bs) + 1 ≡ suc (front is_inner bs + 1) = omega arith in
+        let far : (o + 1) + front is_inner bs + 1 ≡ o + suc (front is_inner bs) + 1 = omega arith in
+        rw e (ih ∙ ap (λ (n : ℕ). marked n (line_start (p.line + 1)) (drop (front is_inner bs + 1) bs)) far ∙ ap (λ (n : ℕ). marked (o + suc (front is_inner bs) + 1) (line_start (p.line + 1)) (drop n (b ∷ bs))) (sym step))
 
 with_closed : (c : List Mark) (j : Option Mark) (ls : List Logical) → with_line c j ls ≡ closed_at (record { tokens = tokens_in (kept_at c j); flaw = first_bad (kept_at c j); joint = j }) j ls
 with_closed c None ls = refl
@@ -132,9 +132,9 @@ after_close done text at end next p cut line e =
     ap (λ (c : Cut). extend done (closed c (layout_from (line_end_of text at + 1) (line_start (p.line + 1)) (drop (line_end_of text at + 1) text)))) cut
     ∙ ap (λ (ss : List Spot). record { tokens = ss; flaw = None } ∷ layout_from (line_end_of text at + 1) (line_start (p.line + 1)) (drop (line_end_of text at + 1) text)) (append_nil done)
     ∙ ap (λ ls. record { tokens = done; flaw = None } ∷ ls) (
-      ap (λ (n : ℕ). layout_from (n + 1) (line_start (p.line + 1)) (drop (n + 1) text)) line
-      ∙ clamped (line_end_of text end + 1) (line_start (p.line + 1)) text
-      ∙ ap (λ (n : ℕ). layout_from n (line_start (p.line + 1)) (drop n text)) (sym e))
+    ap (λ (n : ℕ). layout_from (n + 1) (line_start (p.line + 1)) (drop (n + 1) text)) line
+    ∙ clamped (line_end_of text end + 1) (line_start (p.line + 1)) text
+    ∙ ap (λ (n : ℕ). layout_from n (line_start (p.line + 1)) (drop n text)) (sym e))
 
 closed_join : (ss : List Spot) (m : Mark) (c : Cut) (j : Option Mark) (ls : List Logical) → closed_at (record { tokens = ss; flaw = None; joint = Some m }) (Some m) (closed_at c j ls) ≡ extend ss (closed_at c j ls)
 closed_join ss m c None ls = refl
@@ -146,8 +146,8 @@ pub after_join : (done ss : List Spot) (m : Mark) (text : List ℕ) (at after ne
 after_join done ss m text at after next p cut line e h =
     ap (λ (c : Cut). extend done (closed c (layout_from (line_end_of text at + 1) (line_start (p.line + 1)) (drop (line_end_of text at + 1) text)))) cut
     ∙ ap (λ ls. extend done (closed (record { tokens = ss; flaw = None; joint = Some m }) ls)) (
-      ap (λ (n : ℕ). layout_from n (line_start (p.line + 1)) (drop n text)) (ap (λ (n : ℕ). n + 1) line ∙ (let same : line_end_of text after + 1 ≡ next = omega arith in same))
-      ∙ starts text next (line_start (p.line + 1)) h)
+    ap (λ (n : ℕ). layout_from n (line_start (p.line + 1)) (drop n text)) (ap (λ (n : ℕ). n + 1) line ∙ (let same : line_end_of text after + 1 ≡ next = omega arith in same))
+    ∙ starts text next (line_start (p.line + 1)) h)
     ∙ ap (extend done) (closed_join ss m (cut_from text next (line_start (p.line + 1))) (cut_from text next (line_start (p.line + 1))).joint (layout_from (line_end_of text next + 1) (line_start (p.line + 1 + 1)) (drop (line_end_of text next + 1) text)))
     ∙ extend_more done ss (lines_from text next (line_start (p.line + 1)))
 
@@ -156,8 +156,8 @@ pub open_first : (done ss : List Spot) (m : Mark) (text : List ℕ) (at after ne
 open_first done ss m text at after next p cut line e h =
     let none : layout_from (line_end_of text at + 1) (line_start (p.line + 1)) (drop (line_end_of text at + 1) text) ≡ [] = past_end (line_end_of text at + 1) (line_start (p.line + 1)) text (omega arith) in
     subst (StandsFirst (OpenJoinAt m.place)) (sym (
-      ap (λ (c : Cut). extend done (closed c (layout_from (line_end_of text at + 1) (line_start (p.line + 1)) (drop (line_end_of text at + 1) text)))) cut
-      ∙ ap (λ ls. extend done (closed (record { tokens = ss; flaw = None; joint = Some m }) ls)) none)) refl
+    ap (λ (c : Cut). extend done (closed c (layout_from (line_end_of text at + 1) (line_start (p.line + 1)) (drop (line_end_of text at + 1) text)))) cut
+    ∙ ap (λ ls. extend done (closed (record { tokens = ss; flaw = None; joint = Some m }) ls)) none)) refl
 
 -- the place of a byte behind the cursor
 pub place_is : (line start at here : ℕ) → start ≤ at → at ≤ here → moved (place_at line start at) (here - at) ≡ place_at line start here

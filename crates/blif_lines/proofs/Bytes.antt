@@ -115,11 +115,11 @@ boundary b w c = at (is_blank_byte b) (b == 10) refl refl
       | inr t ↦ elim (eqb_tells b 127) [
         | inl u ↦ let wrong : (nat_lt b 32 || true) ≡ false = rw (e, f, u.0) at c in clash (sym wrong ∙ or_last (nat_lt b 32))
         | inr u ↦
-          let large : nat_lt 32 b ≡ false = sym (and_true (nat_lt 32 b)) ∙ rw (t.0, u.0) at w in
-          let most : b ≤ 32 = ltb-false 32 b large in
-          let low : nat_lt b 32 ≡ false = sym (or_none (nat_lt b 32)) ∙ rw (e, f, u.0) at c in
-          let least : 32 ≤ b = ltb-false b 32 low in
-          let is : 32 ≡ b = omega arith in
-          clash (sym (subst (λ (n : ℕ). is_blank_byte n ≡ false) (sym is) e))
+            let large : nat_lt 32 b ≡ false = sym (and_true (nat_lt 32 b)) ∙ rw (t.0, u.0) at w in
+            let most : b ≤ 32 = ltb-false 32 b large in
+            let low : nat_lt b 32 ≡ false = sym (or_none (nat_lt b 32)) ∙ rw (e, f, u.0) at c in
+            let least : 32 ≤ b = ltb-false b 32 low in
+            let is : 32 ≡ b = omega arith in
+            clash (sym (subst (λ (n : ℕ). is_blank_byte n ≡ false) (sym is) e))
       ]
     ]

@@ -54,8 +54,10 @@ keeps ws x c solid other = at (list_all is_blank c) (joint c) refl refl
   where
     some : list_all is_blank (x ∷ c) ≡ false
     some = rw solid refl
+
     here : joint (ws ++ x ∷ c) ≡ joint (x ∷ c)
     here = joint_behind ws (x ∷ c) some
+
     at : (b : Bool) (j : Option Mark) → list_all is_blank c ≡ b → joint c ≡ j → IsKept (ws ++ x ∷ c) c (ws ++ x ∷ [])
     at true j all is =
         let none : joint c ≡ None = blanks_no_joint c all in
@@ -113,7 +115,7 @@ tokens_word (w ∷ ws) x d s all solid e is = rw (runs_word (w ∷ ws) x d all s
 pub bad_behind : (ws : List Mark) (x : Mark) (d : List Mark) → AreWord ws → is_blank x ≡ false → first_bad (ws ++ x ∷ d) ≡ first_bad (x ∷ d)
 bad_behind [] x d all solid = refl
 bad_behind (w ∷ []) x d all solid = rw (word_no_control w.byte all.0, solid, and_false (w.byte == 92)) refl
-bad_behind (w ∷ v ∷ ws) x d all solid = 
+bad_behind (w ∷ v ∷ ws) x d all solid =
     let ends : ends_token (v ∷ (ws ++ x ∷ d)) ≡ false = word_not_blank v.byte all.1.0 in
     let fine : (is_control w || ((w.byte == 92) && ends_token (v ∷ (ws ++ x ∷ d)))) ≡ false = ap (λ (t : Bool). t || ((w.byte == 92) && ends_token (v ∷ (ws ++ x ∷ d)))) (word_no_control w.byte all.0) ∙ ap (λ (t : Bool). (w.byte == 92) && t) ends ∙ and_false (w.byte == 92) in
     ap (λ (t : Bool). if t then Some (BadByteAt w.place) else first_bad (v ∷ (ws ++ x ∷ d))) fine ∙ bad_behind (v ∷ ws) x d all.1 solid
@@ -137,10 +139,13 @@ cut_blank m c e = at (list_all is_blank c) (joint c) refl refl
   where
     tokens_same : (d : List Mark) → tokens_in (m ∷ d) ≡ tokens_in d
     tokens_same d = rw e refl
+
     bad_same : (d : List Mark) → first_bad (m ∷ d) ≡ first_bad d
     bad_same d = rw (e, blank_no_slash m.byte e) refl
+
     same : joint (m ∷ c) ≡ joint c → kept (m ∷ c) ≡ m ∷ kept c → cut_of (m ∷ c) ≡ cut_of c
     same j k = let one : tokens_in (kept (m ∷ c)) ≡ tokens_in (kept c) = ap tokens_in k ∙ tokens_same (kept c) in let two : first_bad (kept (m ∷ c)) ≡ first_bad (kept c) = ap first_bad k ∙ bad_same (kept c) in cc
+
     at : (b : Bool) (j : Option Mark) → list_all is_blank c ≡ b → joint c ≡ j → cut_of (m ∷ c) ≡ cut_of c
     at true j all is =
         let none : joint c ≡ None = blanks_no_joint c all in

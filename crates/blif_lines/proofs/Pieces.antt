@@ -46,10 +46,10 @@ over_blanks o p (b ∷ bs) = at (is_blank_byte b) refl (over_blanks (o + 1) (mov
   where
     at : (t : Bool) → is_blank_byte b ≡ t → cut_of (content (marked (o + 1) (moved p 1) bs)) ≡ cut_of (content (marked ((o + 1) + front is_blank_byte bs) (moved (moved p 1) (front is_blank_byte bs)) (drop (front is_blank_byte bs) bs))) → cut_of (content (marked o p (b ∷ bs))) ≡ cut_of (content (marked (o + front is_blank_byte (b ∷ bs)) (moved p (front is_blank_byte (b ∷ bs))) (drop (front is_blank_byte (b ∷ bs)) (b ∷ bs))))
     at true is ih = rw is (
-      ap cut_of (cons_content o p b bs (blank_inner b is))
-      ∙ cut_blank (record { byte = b; start = o; place = p }) (content (marked (o + 1) (moved p 1) bs)) is
-      ∙ ih
-      ∙ ap (λ ms. cut_of (content ms)) (same_marks ((o + 1) + front is_blank_byte bs) (o + suc (front is_blank_byte bs)) (moved (moved p 1) (front is_blank_byte bs)) (moved p (suc (front is_blank_byte bs))) (drop (front is_blank_byte bs) bs) (omega arith) (moved_one p (front is_blank_byte bs))))
+        ap cut_of (cons_content o p b bs (blank_inner b is))
+        ∙ cut_blank (record { byte = b; start = o; place = p }) (content (marked (o + 1) (moved p 1) bs)) is
+        ∙ ih
+        ∙ ap (λ ms. cut_of (content ms)) (same_marks ((o + 1) + front is_blank_byte bs) (o + suc (front is_blank_byte bs)) (moved (moved p 1) (front is_blank_byte bs)) (moved p (suc (front is_blank_byte bs))) (drop (front is_blank_byte bs) bs) (omega arith) (moved_one p (front is_blank_byte bs))))
     at false is ih = rw is (ap (λ ms. cut_of (content ms)) (same_marks o (o + 0) p (moved p 0) (b ∷ bs) (omega arith) (sym (moved_none p))))
 
 -- the first k bytes of a token
@@ -67,16 +67,16 @@ splits o p (b ∷ bs) (suc k) h = at (is_word_byte b) refl (splits (o + 1) (move
   where
     at : (t : Bool) → is_word_byte b ≡ t → (k ≤ front is_word_byte bs → Splits (o + 1) (moved p 1) bs k) → Splits o p (b ∷ bs) (suc k)
     at true is ih =
-      let less : suc k ≤ suc (front is_word_byte bs) = rw is at h in
-      let s : Splits (o + 1) (moved p 1) bs k = ih (front_less k _ less) in
-      let here : behind b p ≡ moved p 1 = inner_behind b p (word_inner b is) in
-      record {
-        all = (is, rw here s.all);
-        content_is =
-          cons_content o p b bs (word_inner b is)
-          ∙ ap (λ ms. record { byte = b; start = o; place = p } ∷ ms) (s.content_is ∙ ap (λ ms. marked (o + 1) (moved p 1) (take k bs) ++ content ms) (same_marks ((o + 1) + k) (o + suc k) (moved (moved p 1) k) (moved p (suc k)) (drop k bs) (omega arith) (moved_one p k)))
-          ∙ ap (λ (q : Place). record { byte = b; start = o; place = p } ∷ (marked (o + 1) q (take k bs) ++ content (marked (o + suc k) (moved p (suc k)) (drop k bs)))) (sym here);
-      }
+        let less : suc k ≤ suc (front is_word_byte bs) = rw is at h in
+        let s : Splits (o + 1) (moved p 1) bs k = ih (front_less k _ less) in
+        let here : behind b p ≡ moved p 1 = inner_behind b p (word_inner b is) in
+        record {
+          all = (is, rw here s.all);
+          content_is =
+              cons_content o p b bs (word_inner b is)
+              ∙ ap (λ ms. record { byte = b; start = o; place = p } ∷ ms) (s.content_is ∙ ap (λ ms. marked (o + 1) (moved p 1) (take k bs) ++ content ms) (same_marks ((o + 1) + k) (o + suc k) (moved (moved p 1) k) (moved p (suc k)) (drop k bs) (omega arith) (moved_one p k)))
+              ∙ ap (λ (q : Place). record { byte = b; start = o; place = p } ∷ (marked (o + 1) q (take k bs) ++ content (marked (o + suc k) (moved p (suc k)) (drop k bs)))) (sym here);
+        }
     at false is ih = let less : suc k ≤ 0 = rw is at h in absurd (omega arith)
 
 pub front_at : (test : ℕ → Bool) (bs : List ℕ) (k : ℕ) → k < front test bs → (test (get_or bs k 0) ≡ true) × (k < length bs)
@@ -122,10 +122,10 @@ marked_last o p (b ∷ bs) (suc k) h = at (is_word_byte b) refl (marked_last (o 
   where
     at : (t : Bool) → is_word_byte b ≡ t → (suc k ≤ front is_word_byte bs → marked (o + 1) (moved p 1) (take k bs) ++ record { byte = get_or bs k 0; start = (o + 1) + k; place = moved (moved p 1) k } ∷ [] ≡ marked (o + 1) (moved p 1) (take (suc k) bs)) → marked o p (take (suc k) (b ∷ bs)) ++ record { byte = get_or bs k 0; start = o + suc k; place = moved p (suc k) } ∷ [] ≡ marked o p (take (suc (suc k)) (b ∷ bs))
     at true is ih =
-      let less : suc (suc k) ≤ suc (front is_word_byte bs) = rw is at h in
-      let here : behind b p ≡ moved p 1 = inner_behind b p (word_inner b is) in
-      let now = ih (front_less (suc k) _ less) in
-      rw here (ap (λ ms. record { byte = b; start = o; place = p } ∷ ms) (
+        let less : suc (suc k) ≤ suc (front is_word_byte bs) = rw is at h in
+        let here : behind b p ≡ moved p 1 = inner_behind b p (word_inner b is) in
+        let now = ih (front_less (suc k) _ less) in
+        rw here (ap (λ ms. record { byte = b; start = o; place = p } ∷ ms) (
         ap (λ (n : ℕ). marked (o + 1) (moved p 1) (take k bs) ++ record { byte = get_or bs k 0; start = n; place = moved p (suc k) } ∷ []) (let e : o + suc k ≡ (o + 1) + k = omega arith in e)
         ∙ ap (λ (q : Place). marked (o + 1) (moved p 1) (take k bs) ++ record { byte = get_or bs k 0; start = (o + 1) + k; place = q } ∷ []) (sym (moved_one p k))
         ∙ now))
@@ -248,21 +248,24 @@ word_piece text at start end k r e c other = record {
   where
     inside : suc k ≤ front is_word_byte (drop start text)
     inside = in_run text at start end k r (omega arith)
+
     byte_is : get_or (drop start text) k 0 ≡ get_or text (start + k) 0
     byte_is = byte_in text start (start + k) k refl
+
     long : end - start ≡ suc k
     long = omega arith
+
     cut : (p : Place) → cut_from text at p ≡ with_spot (spot_between text start end (moved p (start - at))) (cut_from text end (moved p (end - at)))
     cut p =
-      let q = moved p (start - at) in
-      let bs = drop start text in
-      let w : WordSplit start (moved p (start - at)) (drop start text) k = word_split start (moved p (start - at)) (drop start text) k inside in
-      let rest : content (marked (start + suc k) (moved (moved p (start - at)) (suc k)) (drop (suc k) (drop start text))) ≡ content (marked end (moved p (end - at)) (drop end text)) = rest_in text p at start end (suc k) (run_begins text at start end r) e in
-      cut_at_start text at start end p r
-      ∙ ap cut_of w.content_is
-      ∙ cut_word (marked start (moved p (start - at)) (take k (drop start text))) (record { byte = get_or (drop start text) k 0; start = start + k; place = moved (moved p (start - at)) k }) (content (marked (start + suc k) (moved (moved p (start - at)) (suc k)) (drop (suc k) (drop start text)))) (record { word = take (suc k) (drop start text); start = start; place = moved p (start - at) }) w.all w.word (ap (λ b. b == 92) byte_is ∙ no_slash (get_or text (start + k) 0) other) (ap ends_token rest ∙ ends_here text at start end (moved p (end - at)) r c) (spot_is start (moved p (start - at)) (drop start text) k inside)
-      ∙ ap (λ ms. with_spot (record { word = take (suc k) (drop start text); start = start; place = moved p (start - at) }) (cut_of ms)) rest
-      ∙ ap (λ (n : ℕ). with_spot (record { word = take n (drop start text); start = start; place = moved p (start - at) }) (cut_from text end (moved p (end - at)))) (sym long)
+        let q = moved p (start - at) in
+        let bs = drop start text in
+        let w : WordSplit start (moved p (start - at)) (drop start text) k = word_split start (moved p (start - at)) (drop start text) k inside in
+        let rest : content (marked (start + suc k) (moved (moved p (start - at)) (suc k)) (drop (suc k) (drop start text))) ≡ content (marked end (moved p (end - at)) (drop end text)) = rest_in text p at start end (suc k) (run_begins text at start end r) e in
+        cut_at_start text at start end p r
+        ∙ ap cut_of w.content_is
+        ∙ cut_word (marked start (moved p (start - at)) (take k (drop start text))) (record { byte = get_or (drop start text) k 0; start = start + k; place = moved (moved p (start - at)) k }) (content (marked (start + suc k) (moved (moved p (start - at)) (suc k)) (drop (suc k) (drop start text)))) (record { word = take (suc k) (drop start text); start = start; place = moved p (start - at) }) w.all w.word (ap (λ b. b == 92) byte_is ∙ no_slash (get_or text (start + k) 0) other) (ap ends_token rest ∙ ends_here text at start end (moved p (end - at)) r c) (spot_is start (moved p (start - at)) (drop start text) k inside)
+        ∙ ap (λ ms. with_spot (record { word = take (suc k) (drop start text); start = start; place = moved p (start - at) }) (cut_of ms)) rest
+        ∙ ap (λ (n : ℕ). with_spot (record { word = take n (drop start text); start = start; place = moved p (start - at) }) (cut_from text end (moved p (end - at)))) (sym long)
 
 begins_head : (test : ℕ → Bool) (text : List ℕ) (e : ℕ) → begins test (drop e text) ≡ true → (test (get_or text e 0) ≡ true) × (e < length text)
 begins_head test [] zero h = cc
@@ -279,18 +282,19 @@ bad_control text at start end r c = record {
   where
     head : (is_control_byte (get_or text end 0) ≡ true) × (end < length text)
     head = begins_head is_control_byte text end c
+
     cut : (p : Place) → (cut_from text at p).flaw ≡ Some (BadByteAt (moved p (end - at)))
     cut p =
-      let n : ℕ = front is_word_byte (drop start text) in
-      let s : Splits start (moved p (start - at)) (drop start text) (front is_word_byte (drop start text)) = splits start (moved p (start - at)) (drop start text) (front is_word_byte (drop start text)) (omega arith) in
-      ap (λ (d : Cut). d.flaw) (
+        let n : ℕ = front is_word_byte (drop start text) in
+        let s : Splits start (moved p (start - at)) (drop start text) (front is_word_byte (drop start text)) = splits start (moved p (start - at)) (drop start text) (front is_word_byte (drop start text)) (omega arith) in
+        ap (λ (d : Cut). d.flaw) (
         cut_at_start text at start end p r
         ∙ ap cut_of (s.content_is
-          ∙ ap (λ ms. marked start (moved p (start - at)) (take (front is_word_byte (drop start text)) (drop start text)) ++ ms) (
-            rest_in text p at start end (front is_word_byte (drop start text)) (run_begins text at start end r) r.end_is
-            ∙ ap (λ (cs : List ℕ). content (marked end (moved p (end - at)) cs)) (drop-cons text end 0 head.1)
-            ∙ cons_content end (moved p (end - at)) (get_or text end 0) (drop (suc end) text) (control_inner (get_or text end 0) head.0))))
-      ∙ flaw_control (marked start (moved p (start - at)) (take (front is_word_byte (drop start text)) (drop start text))) (record { byte = get_or text end 0; start = end; place = moved p (end - at) }) (content (marked (end + 1) (moved (moved p (end - at)) 1) (drop (suc end) text))) s.all head.0
+        ∙ ap (λ ms. marked start (moved p (start - at)) (take (front is_word_byte (drop start text)) (drop start text)) ++ ms) (
+        rest_in text p at start end (front is_word_byte (drop start text)) (run_begins text at start end r) r.end_is
+        ∙ ap (λ (cs : List ℕ). content (marked end (moved p (end - at)) cs)) (drop-cons text end 0 head.1)
+        ∙ cons_content end (moved p (end - at)) (get_or text end 0) (drop (suc end) text) (control_inner (get_or text end 0) head.0))))
+        ∙ flaw_control (marked start (moved p (start - at)) (take (front is_word_byte (drop start text)) (drop start text))) (record { byte = get_or text end 0; start = end; place = moved p (end - at) }) (content (marked (end + 1) (moved (moved p (end - at)) 1) (drop (suc end) text))) s.all head.0
 
 pub close_piece : (text : List ℕ) (at start end : ℕ) → IsRun text at start end → start ≡ end → begins is_control_byte (drop end text) ≡ false → IsClose text at end
 close_piece text at start end r e c = record {
@@ -302,11 +306,12 @@ close_piece text at start end r e c = record {
   where
     none : begins is_blank_byte (drop end text) ≡ false
     none = ap (λ n. begins is_blank_byte (drop n text)) (sym e) ∙ no_blank_at text at start end r
+
     cut : (p : Place) → cut_from text at p ≡ record { tokens = []; flaw = None; joint = None }
     cut p =
-      cut_at_start text at start end p r
-      ∙ ap (λ (n : ℕ). cut_of (content (marked n (moved p (start - at)) (drop n text)))) e
-      ∙ ap cut_of (closes_at end (moved p (start - at)) (drop end text) (no_word_at text at start end r) c none)
+        cut_at_start text at start end p r
+        ∙ ap (λ (n : ℕ). cut_of (content (marked n (moved p (start - at)) (drop n text)))) e
+        ∙ ap cut_of (closes_at end (moved p (start - at)) (drop end text) (no_word_at text at start end r) c none)
 
 -- what follows a backslash at the end of the token
 pub record IsEnd (text : List ℕ) (end after : ℕ) (b : Bool) : Type 0 where
@@ -325,15 +330,17 @@ bad_slash text at start end k bad after r e f c slash unclosed = record {
   where
     inside : suc k ≤ front is_word_byte (drop start text)
     inside = in_run text at start end k r (omega arith)
+
     byte_is : get_or (drop start text) k 0 ≡ 92
     byte_is = byte_in text start bad k f ∙ slash
+
     cut : (p : Place) → (cut_from text at p).flaw ≡ Some (BadByteAt (moved p (bad - at)))
     cut p =
-      let w : WordSplit start (moved p (start - at)) (drop start text) k = word_split start (moved p (start - at)) (drop start text) k inside in
-      let rest : content (marked (start + suc k) (moved (moved p (start - at)) (suc k)) (drop (suc k) (drop start text))) ≡ content (marked end (moved p (end - at)) (drop end text)) = rest_in text p at start end (suc k) (run_begins text at start end r) e in
-      ap (λ (d : Cut). d.flaw) (cut_at_start text at start end p r ∙ ap cut_of w.content_is)
-      ∙ flaw_slash (marked start (moved p (start - at)) (take k (drop start text))) (record { byte = get_or (drop start text) k 0; start = start + k; place = moved (moved p (start - at)) k }) (content (marked (start + suc k) (moved (moved p (start - at)) (suc k)) (drop (suc k) (drop start text)))) w.all w.word (slash_is (get_or (drop start text) k 0) byte_is) (ap ends_token rest ∙ ends_here text at start end (moved p (end - at)) r c) (ap (λ ms. list_all is_blank ms) rest ∙ blank_is text end after false (moved p (end - at)) unclosed)
-      ∙ ap (λ (q : Place). Some (BadByteAt q)) (place_in p at start bad k (run_begins text at start end r) f)
+        let w : WordSplit start (moved p (start - at)) (drop start text) k = word_split start (moved p (start - at)) (drop start text) k inside in
+        let rest : content (marked (start + suc k) (moved (moved p (start - at)) (suc k)) (drop (suc k) (drop start text))) ≡ content (marked end (moved p (end - at)) (drop end text)) = rest_in text p at start end (suc k) (run_begins text at start end r) e in
+        ap (λ (d : Cut). d.flaw) (cut_at_start text at start end p r ∙ ap cut_of w.content_is)
+        ∙ flaw_slash (marked start (moved p (start - at)) (take k (drop start text))) (record { byte = get_or (drop start text) k 0; start = start + k; place = moved (moved p (start - at)) k }) (content (marked (start + suc k) (moved (moved p (start - at)) (suc k)) (drop (suc k) (drop start text)))) w.all w.word (slash_is (get_or (drop start text) k 0) byte_is) (ap ends_token rest ∙ ends_here text at start end (moved p (end - at)) r c) (ap (λ ms. list_all is_blank ms) rest ∙ blank_is text end after false (moved p (end - at)) unclosed)
+        ∙ ap (λ (q : Place). Some (BadByteAt q)) (place_in p at start bad k (run_begins text at start end r) f)
 
 -- a token that ends in a backslash: its bytes before the last two, and these
 pub record PairSplit (o : ℕ) (p : Place) (bs : List ℕ) (k : ℕ) : Type 0 where
@@ -362,17 +369,20 @@ bad_before text at start end k bad after r e f slash other closed = record {
   where
     inside : suc (suc k) ≤ front is_word_byte (drop start text)
     inside = in_run text at start end (suc k) r (omega arith)
+
     last_is : get_or (drop start text) (suc k) 0 ≡ 92
     last_is = byte_in text start (end - 1) (suc k) (omega arith) ∙ slash
+
     byte_is : get_or (drop start text) k 0 ≡ 92
     byte_is = byte_in text start bad k f ∙ other
+
     cut : (p : Place) → (cut_from text at p).flaw ≡ Some (BadByteAt (moved p (bad - at)))
     cut p =
-      let w : PairSplit start (moved p (start - at)) (drop start text) k = pair_split start (moved p (start - at)) (drop start text) k inside in
-      let rest : content (marked (start + suc (suc k)) (moved (moved p (start - at)) (suc (suc k))) (drop (suc (suc k)) (drop start text))) ≡ content (marked end (moved p (end - at)) (drop end text)) = rest_in text p at start end (suc (suc k)) (run_begins text at start end r) e in
-      ap (λ (d : Cut). d.flaw) (cut_at_start text at start end p r ∙ ap cut_of w.content_is)
-      ∙ flaw_join (marked start (moved p (start - at)) (take k (drop start text))) (record { byte = get_or (drop start text) k 0; start = start + k; place = moved (moved p (start - at)) k }) (record { byte = get_or (drop start text) (suc k) 0; start = start + suc k; place = moved (moved p (start - at)) (suc k) }) (content (marked (start + suc (suc k)) (moved (moved p (start - at)) (suc (suc k))) (drop (suc (suc k)) (drop start text)))) w.all w.word (slash_is (get_or (drop start text) k 0) byte_is) (word_not_blank (get_or (drop start text) (suc k) 0) w.last) (slash_is (get_or (drop start text) (suc k) 0) last_is) (ap (λ ms. list_all is_blank ms) rest ∙ blank_is text end after true (moved p (end - at)) closed)
-      ∙ ap (λ (q : Place). Some (BadByteAt q)) (place_in p at start bad k (run_begins text at start end r) f)
+        let w : PairSplit start (moved p (start - at)) (drop start text) k = pair_split start (moved p (start - at)) (drop start text) k inside in
+        let rest : content (marked (start + suc (suc k)) (moved (moved p (start - at)) (suc (suc k))) (drop (suc (suc k)) (drop start text))) ≡ content (marked end (moved p (end - at)) (drop end text)) = rest_in text p at start end (suc (suc k)) (run_begins text at start end r) e in
+        ap (λ (d : Cut). d.flaw) (cut_at_start text at start end p r ∙ ap cut_of w.content_is)
+        ∙ flaw_join (marked start (moved p (start - at)) (take k (drop start text))) (record { byte = get_or (drop start text) k 0; start = start + k; place = moved (moved p (start - at)) k }) (record { byte = get_or (drop start text) (suc k) 0; start = start + suc k; place = moved (moved p (start - at)) (suc k) }) (content (marked (start + suc (suc k)) (moved (moved p (start - at)) (suc (suc k))) (drop (suc (suc k)) (drop start text)))) w.all w.word (slash_is (get_or (drop start text) k 0) byte_is) (word_not_blank (get_or (drop start text) (suc k) 0) w.last) (slash_is (get_or (drop start text) (suc k) 0) last_is) (ap (λ ms. list_all is_blank ms) rest ∙ blank_is text end after true (moved p (end - at)) closed)
+        ∙ ap (λ (q : Place). Some (BadByteAt q)) (place_in p at start bad k (run_begins text at start end r) f)
 
 line_end_after : (text : List ℕ) (at start end after : ℕ) (b : Bool) → IsRun text at start end → IsEnd text end after b → line_end_of text at ≡ line_end_of text after
 line_end_after text at start end after b r f = line_end_at_end text at start end r ∙ inner_at is_blank_byte text end (front is_blank_byte (drop end text)) after blank_is_inner (omega arith) f.after_is
@@ -389,21 +399,24 @@ join_alone text at start end slash after r e s is within closed = record {
   where
     inside : 1 ≤ front is_word_byte (drop start text)
     inside = let f : end ≡ start + front is_word_byte (drop start text) = r.end_is in omega arith
+
     byte_is : get_or (drop start text) 0 0 ≡ 92
     byte_is = byte_in text start slash 0 (omega arith) ∙ is
+
     none : nat_lt start slash ≡ false
     none = le-ltb start slash (omega arith)
+
     cut : (p : Place) → cut_from text at p ≡ record { tokens = spots_between text start slash (moved p (start - at)); flaw = None; joint = Some (record { byte = 92; start = slash; place = moved p (slash - at) }) }
     cut p =
-      let w : WordSplit start (moved p (start - at)) (drop start text) 0 = word_split start (moved p (start - at)) (drop start text) 0 inside in
-      let rest : content (marked (start + 1) (moved (moved p (start - at)) 1) (drop 1 (drop start text))) ≡ content (marked end (moved p (end - at)) (drop end text)) = rest_in text p at start end 1 (run_begins text at start end r) e in
-      cut_at_start text at start end p r
-      ∙ ap cut_of w.content_is
-      ∙ cut_join_alone (record { byte = get_or (drop start text) 0 0; start = start + 0; place = moved (moved p (start - at)) 0 }) (content (marked (start + 1) (moved (moved p (start - at)) 1) (drop 1 (drop start text)))) (word_not_blank (get_or (drop start text) 0 0) w.word) (slash_is (get_or (drop start text) 0 0) byte_is) (ap (λ ms. list_all is_blank ms) rest ∙ blank_is text end after true (moved p (end - at)) closed)
-      ∙ ap (λ (b : ℕ). record { tokens = []; flaw = None; joint = Some (record { byte = b; start = start + 0; place = moved (moved p (start - at)) 0 }) }) byte_is
-      ∙ ap (λ (n : ℕ). record { tokens = []; flaw = None; joint = Some (record { byte = 92; start = n; place = moved (moved p (start - at)) 0 }) }) (let f : start + 0 ≡ slash = omega arith in f)
-      ∙ ap (λ (q : Place). record { tokens = []; flaw = None; joint = Some (record { byte = 92; start = slash; place = q }) }) (place_in p at start slash 0 (run_begins text at start end r) (omega arith))
-      ∙ ap (λ (t : Bool). record { tokens = (if t then spot_between text start slash (moved p (start - at)) ∷ [] else []); flaw = None; joint = Some (record { byte = 92; start = slash; place = moved p (slash - at) }) }) (sym none)
+        let w : WordSplit start (moved p (start - at)) (drop start text) 0 = word_split start (moved p (start - at)) (drop start text) 0 inside in
+        let rest : content (marked (start + 1) (moved (moved p (start - at)) 1) (drop 1 (drop start text))) ≡ content (marked end (moved p (end - at)) (drop end text)) = rest_in text p at start end 1 (run_begins text at start end r) e in
+        cut_at_start text at start end p r
+        ∙ ap cut_of w.content_is
+        ∙ cut_join_alone (record { byte = get_or (drop start text) 0 0; start = start + 0; place = moved (moved p (start - at)) 0 }) (content (marked (start + 1) (moved (moved p (start - at)) 1) (drop 1 (drop start text)))) (word_not_blank (get_or (drop start text) 0 0) w.word) (slash_is (get_or (drop start text) 0 0) byte_is) (ap (λ ms. list_all is_blank ms) rest ∙ blank_is text end after true (moved p (end - at)) closed)
+        ∙ ap (λ (b : ℕ). record { tokens = []; flaw = None; joint = Some (record { byte = b; start = start + 0; place = moved (moved p (start - at)) 0 }) }) byte_is
+        ∙ ap (λ (n : ℕ). record { tokens = []; flaw = None; joint = Some (record { byte = 92; start = n; place = moved (moved p (start - at)) 0 }) }) (let f : start + 0 ≡ slash = omega arith in f)
+        ∙ ap (λ (q : Place). record { tokens = []; flaw = None; joint = Some (record { byte = 92; start = slash; place = q }) }) (place_in p at start slash 0 (run_begins text at start end r) (omega arith))
+        ∙ ap (λ (t : Bool). record { tokens = (if t then spot_between text start slash (moved p (start - at)) ∷ [] else []); flaw = None; joint = Some (record { byte = 92; start = slash; place = moved p (slash - at) }) }) (sym none)
 
 pub join_word : (text : List ℕ) (at start end k slash after : ℕ) → IsRun text at start end → end ≡ start + suc (suc k) → slash ≡ start + suc k → get_or text slash 0 ≡ 92 → get_or text (start + k) 0 ≢ 92 → after ≤ length text → IsEnd text end after true → IsJoin text at start slash after
 join_word text at start end k slash after r e s is other within closed = record {
@@ -417,26 +430,31 @@ join_word text at start end k slash after r e s is other within closed = record 
   where
     inside : suc (suc k) ≤ front is_word_byte (drop start text)
     inside = in_run text at start end (suc k) r (omega arith)
+
     last_is : get_or (drop start text) (suc k) 0 ≡ 92
     last_is = byte_in text start slash (suc k) s ∙ is
+
     byte_is : get_or (drop start text) k 0 ≡ get_or text (start + k) 0
     byte_is = byte_in text start (start + k) k refl
+
     some : nat_lt start slash ≡ true
     some = lt-ltb start slash (omega arith)
+
     long : slash - start ≡ suc k
     long = omega arith
+
     cut : (p : Place) → cut_from text at p ≡ record { tokens = spots_between text start slash (moved p (start - at)); flaw = None; joint = Some (record { byte = 92; start = slash; place = moved p (slash - at) }) }
     cut p =
-      let w : PairSplit start (moved p (start - at)) (drop start text) k = pair_split start (moved p (start - at)) (drop start text) k inside in
-      let rest : content (marked (start + suc (suc k)) (moved (moved p (start - at)) (suc (suc k))) (drop (suc (suc k)) (drop start text))) ≡ content (marked end (moved p (end - at)) (drop end text)) = rest_in text p at start end (suc (suc k)) (run_begins text at start end r) e in
-      cut_at_start text at start end p r
-      ∙ ap cut_of w.content_is
-      ∙ cut_join_word (marked start (moved p (start - at)) (take k (drop start text))) (record { byte = get_or (drop start text) k 0; start = start + k; place = moved (moved p (start - at)) k }) (record { byte = get_or (drop start text) (suc k) 0; start = start + suc k; place = moved (moved p (start - at)) (suc k) }) (content (marked (start + suc (suc k)) (moved (moved p (start - at)) (suc (suc k))) (drop (suc (suc k)) (drop start text)))) (record { word = take (suc k) (drop start text); start = start; place = moved p (start - at) }) w.all w.word (ap (λ b. b == 92) byte_is ∙ no_slash (get_or text (start + k) 0) other) (spot_is start (moved p (start - at)) (drop start text) k (omega arith)) (word_not_blank (get_or (drop start text) (suc k) 0) w.last) (slash_is (get_or (drop start text) (suc k) 0) last_is) (ap (λ ms. list_all is_blank ms) rest ∙ blank_is text end after true (moved p (end - at)) closed)
-      ∙ ap (λ (b : ℕ). record { tokens = record { word = take (suc k) (drop start text); start = start; place = moved p (start - at) } ∷ []; flaw = None; joint = Some (record { byte = b; start = start + suc k; place = moved (moved p (start - at)) (suc k) }) }) last_is
-      ∙ ap (λ (n : ℕ). record { tokens = record { word = take (suc k) (drop start text); start = start; place = moved p (start - at) } ∷ []; flaw = None; joint = Some (record { byte = 92; start = n; place = moved (moved p (start - at)) (suc k) }) }) (sym s)
-      ∙ ap (λ (q : Place). record { tokens = record { word = take (suc k) (drop start text); start = start; place = moved p (start - at) } ∷ []; flaw = None; joint = Some (record { byte = 92; start = slash; place = q }) }) (place_in p at start slash (suc k) (run_begins text at start end r) s)
-      ∙ ap (λ (n : ℕ). record { tokens = record { word = take n (drop start text); start = start; place = moved p (start - at) } ∷ []; flaw = None; joint = Some (record { byte = 92; start = slash; place = moved p (slash - at) }) }) (sym long)
-      ∙ ap (λ (t : Bool). record { tokens = (if t then spot_between text start slash (moved p (start - at)) ∷ [] else []); flaw = None; joint = Some (record { byte = 92; start = slash; place = moved p (slash - at) }) }) (sym some)
+        let w : PairSplit start (moved p (start - at)) (drop start text) k = pair_split start (moved p (start - at)) (drop start text) k inside in
+        let rest : content (marked (start + suc (suc k)) (moved (moved p (start - at)) (suc (suc k))) (drop (suc (suc k)) (drop start text))) ≡ content (marked end (moved p (end - at)) (drop end text)) = rest_in text p at start end (suc (suc k)) (run_begins text at start end r) e in
+        cut_at_start text at start end p r
+        ∙ ap cut_of w.content_is
+        ∙ cut_join_word (marked start (moved p (start - at)) (take k (drop start text))) (record { byte = get_or (drop start text) k 0; start = start + k; place = moved (moved p (start - at)) k }) (record { byte = get_or (drop start text) (suc k) 0; start = start + suc k; place = moved (moved p (start - at)) (suc k) }) (content (marked (start + suc (suc k)) (moved (moved p (start - at)) (suc (suc k))) (drop (suc (suc k)) (drop start text)))) (record { word = take (suc k) (drop start text); start = start; place = moved p (start - at) }) w.all w.word (ap (λ b. b == 92) byte_is ∙ no_slash (get_or text (start + k) 0) other) (spot_is start (moved p (start - at)) (drop start text) k (omega arith)) (word_not_blank (get_or (drop start text) (suc k) 0) w.last) (slash_is (get_or (drop start text) (suc k) 0) last_is) (ap (λ ms. list_all is_blank ms) rest ∙ blank_is text end after true (moved p (end - at)) closed)
+        ∙ ap (λ (b : ℕ). record { tokens = record { word = take (suc k) (drop start text); start = start; place = moved p (start - at) } ∷ []; flaw = None; joint = Some (record { byte = b; start = start + suc k; place = moved (moved p (start - at)) (suc k) }) }) last_is
+        ∙ ap (λ (n : ℕ). record { tokens = record { word = take (suc k) (drop start text); start = start; place = moved p (start - at) } ∷ []; flaw = None; joint = Some (record { byte = 92; start = n; place = moved (moved p (start - at)) (suc k) }) }) (sym s)
+        ∙ ap (λ (q : Place). record { tokens = record { word = take (suc k) (drop start text); start = start; place = moved p (start - at) } ∷ []; flaw = None; joint = Some (record { byte = 92; start = slash; place = q }) }) (place_in p at start slash (suc k) (run_begins text at start end r) s)
+        ∙ ap (λ (n : ℕ). record { tokens = record { word = take n (drop start text); start = start; place = moved p (start - at) } ∷ []; flaw = None; joint = Some (record { byte = 92; start = slash; place = moved p (slash - at) }) }) (sym long)
+        ∙ ap (λ (t : Bool). record { tokens = (if t then spot_between text start slash (moved p (start - at)) ∷ [] else []); flaw = None; joint = Some (record { byte = 92; start = slash; place = moved p (slash - at) }) }) (sym some)
 
 -- the same, as the code counts
 pub word_piece_at : (text : List ℕ) (at start end : ℕ) → IsRun text at start end → start ≢ end → begins is_control_byte (drop end text) ≡ false → get_or text (end - 1) 0 ≢ 92 → IsWord text at start end

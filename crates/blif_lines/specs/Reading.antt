@@ -24,6 +24,7 @@ spot_of text t = record { word = take (t.end - t.start) (drop t.start text); sta
 pub record IsWithin (text : List ℕ) (t : Token) : Type 0 where
   pub some : t.start < t.end
   pub end : t.end ≤ length text
+  pub column : t.place.column ≤ length text
 
 -- what a reader that finds no flaw gives of the lines of a text, and the lines that it leaves
 abbrev pub GivesLine : List ℕ → List Logical → List Logical → Option LogicalLine → Type 0

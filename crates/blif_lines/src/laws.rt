@@ -12,5 +12,4 @@ pub fn worked_rows()
     ensures last { map (λ (l : Logical). l.flaw) (layout (codes "a\n\n \\\n")) ≡ None ∷ None ∷ Some (OpenJoinAt (record { line = 3; column = 2 })) ∷ [] }
     ensures control { map (λ (l : Logical). l.flaw) (layout (codes "a\\\n\tb" ++ 1 ∷ 127 ∷ [])) ≡ Some (BadByteAt (record { line = 2; column = 3 })) ∷ [] }
     ensures high { map (λ (l : Logical). l.flaw) (layout (128 ∷ 255 ∷ 35 ∷ 0 ∷ 10 ∷ [])) ≡ None ∷ [] }
-{
-}
+{}

@@ -6,11 +6,18 @@ ghost use Rattle.blif_lines.specs.Cuts.{front, begins, is_closed, is_blank_byte,
 #[derive(Clone, Copy, PartialEq, Eq)]
 pub enum Piece {
     /// A token from `start` up to `end`.
-    Word { start: usize, end: usize },
+    Word {
+        start: usize,
+        end: usize,
+    },
     /// A byte that may not stand there.
-    Bad { bad: usize },
+    Bad {
+        bad: usize,
+    },
     /// The end of what the line says.
-    Close { end: usize },
+    Close {
+        end: usize,
+    },
     /// A joining backslash at `end`, behind a token from `start` that may be empty.
     Join {
         start: usize,

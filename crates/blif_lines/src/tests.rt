@@ -15,7 +15,8 @@ fn shown(alloc: Global, text: &[u8]) -> Result<String, Fail> {
             Ok(None) => return Ok(out),
             Ok(Some(line)) => {
                 for token in line.tokens() {
-                    let word = std::str::from_utf8(&text[token.start..token.end]).unwrap_or("?");
+                    let bytes = text.get(token.start..token.end).unwrap_or(b"?".as_slice());
+                    let word = std::str::from_utf8(bytes).unwrap_or("?");
                     let place = token.place;
                     out.push_str(&format!(in alloc; "{word}@{}:{} ", place.line, place.column)?)?;
                 }
@@ -86,11 +87,20 @@ fn bytes_outside_and_inside_comments(rt: HostRuntime) -> Result<(), Fail> {
         (255, false),
     ] {
         let lines = shown(rt.alloc(), &[b'a', byte, b'\n', b'b'])?;
-        assert!(rt; (lines.as_str() == "bad 1:2") == is_bad, "byte {byte} gives {lines}");
+        assert!(rt;
+            (lines.as_str() == "bad 1:2") == is_bad,
+            "byte {byte} gives {lines}"
+        );
         let lines = shown(rt.alloc(), &[b' ', byte, b'\n', b'b'])?;
-        assert!(rt; (lines.as_str() == "bad 1:2") == is_bad, "byte {byte} gives {lines}");
+        assert!(rt;
+            (lines.as_str() == "bad 1:2") == is_bad,
+            "byte {byte} gives {lines}"
+        );
         let lines = shown(rt.alloc(), &[b'a', b'#', byte, b'\n', b'b'])?;
-        assert!(rt; lines.as_str() == "a@1:1 |b@2:1 |", "byte {byte} gives {lines}");
+        assert!(rt;
+            lines.as_str() == "a@1:1 |b@2:1 |",
+            "byte {byte} gives {lines}"
+        );
     }
     Ok(())
 }
@@ -101,7 +111,12 @@ fn a_fault_is_answered_again(rt: HostRuntime) -> Result<(), Fail> {
     assert!(rt; reader.next()?.is_some());
     for _ in 0..3 {
         let fault = reader.next();
-        assert!(rt; matches!(&fault, Err(LineFault::BadByte(Place { line: 3, column: 1 }))));
+        assert!(rt;
+            matches!(
+                &fault,
+                Err(LineFault::BadByte(Place { line: 3, column: 1 }))
+            )
+        );
     }
     Ok(())
 }
@@ -117,6 +132,14 @@ fn many_joins(rt: HostRuntime) -> Result<(), Fail> {
     assert!(rt; text.len() <= 16_777_216);
     let mut reader = LineReader::new(alloc, text.as_slice());
     let fault = reader.next();
-    assert!(rt; matches!(&fault, Err(LineFault::OpenJoin(Place { line: 8_388_608, column: 1 }))));
+    assert!(rt;
+        matches!(
+            &fault,
+            Err(LineFault::OpenJoin(Place {
+                line: 8_388_608,
+                column: 1
+            }))
+        )
+    );
     Ok(())
 }

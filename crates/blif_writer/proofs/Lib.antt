@@ -1,5 +1,12 @@
+pub mod BodyLaws
+pub mod Counts
+pub mod FaultLaws
 pub mod LineLaws
 pub mod ReadLaws
+pub mod SpotLaws
+pub mod TallyLaws
 pub mod TextReads
 pub mod TokenLaws
+pub mod UseLaws
+pub mod WalkLaws
 pub mod WrittenLaws

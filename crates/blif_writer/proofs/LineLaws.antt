@@ -1,12 +1,12 @@
 -- The logical lines of written lines are those lines, and have no layout fault.
-use Rattle.std.proofs.Common.{◌≡◌, ◌==◌, ◌+◌, ◌<◌, ◌≤◌, ℕ, Bool, true, false, not, List, [], ◌∷◌, ◌++◌, map, filter, refl, ap, sym, subst, ◌∙◌, append-nil, arith}
-use Rattle.std.specs.Prelude.{◌&&◌, ◌||◌, nat_lt, if◌then◌else◌, Option, None, Some}
+use Rattle.std.proofs.Common.{◌≡◌, ◌==◌, ◌+◌, ℕ, Bool, true, false, not, List, [], ◌∷◌, ◌++◌, map, filter, refl, ap, sym, subst, ◌∙◌, append-nil, arith}
+use Rattle.std.specs.Prelude.{◌&&◌, ◌||◌, nat_lt, if◌then◌else◌, None, Some}
 use Rattle.std.specs.List.{list_all}
 use Rattle.std.proofs.lemmas.Bool.Decides.{nat_tests}
 use Rattle.rm_base.specs.declared.numbers.Place.{Place}
 use Rattle.rm_model.specs.Words.{Word}
 use Rattle.rm_model.specs.WellFormed.{is_word_byte, ends_in_backslash, is_token}
-use Rattle.blif_lines.specs.Layout.{Mark, Spot, Logical, behind, marked, onto_first, physical_lines, without_comment, is_blank, joint, runs, spots, tokens_in, is_control, BadByteAt, first_bad, single, logical_lines, with_line, layout_from, layout, words_in, has_words, lines_of}
+use Rattle.blif_lines.specs.Layout.{Mark, Spot, Logical, behind, marked, onto_first, physical_lines, without_comment, is_blank, joint, runs, spots, is_control, BadByteAt, first_bad, single, logical_lines, with_line, layout_from, layout, words_in, has_words, lines_of}
 use Rattle.blif_format.specs.Text.{Line, spelled, text_of_lines}
 use Rattle.blif_format.specs.Laws.{AreFlawless}
 
@@ -20,7 +20,7 @@ and_true p q = rw (p, q) refl
 or_false : {a b : Bool} → a ≡ false → b ≡ false → a || b ≡ false
 or_false p q = rw (p, q) refl
 
-and_false : (a : Bool) → a && false ≡ false
+pub and_false : (a : Bool) → a && false ≡ false
 and_false true = refl
 and_false false = refl
 

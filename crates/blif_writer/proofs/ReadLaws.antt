@@ -1,26 +1,20 @@
 -- The lines that are written for a model say that model.
-use Rattle.std.proofs.Common.{◌≡◌, ◌==◌, ◌+◌, ◌<◌, ◌≤◌, ℕ, Bool, true, false, not, List, [], ◌∷◌, ◌++◌, map, filter, refl, ap, sym, subst, ◌∙◌, inr, append_assoc, append-nil, arith}
-use Rattle.std.specs.Prelude.{◌⊎◌, ◌&&◌, ◌||◌, All, IfSome, codes, length, if◌then◌else◌, Option, None, Some}
-use Rattle.std.specs.List.{flat_map, list_all, filter_map}
-use Rattle.std.proofs.lemmas.List.{map-append}
-use Rattle.std.proofs.lemmas.List.Elements.{All-head, All-tail, filter-append}
+use Rattle.std.proofs.Common.{◌≡◌, ◌==◌, Bool, true, false, List, [], ◌∷◌, ◌++◌, map, filter, refl, ap, sym, ◌∙◌, inr, append_assoc, append-nil, arith}
+use Rattle.std.specs.Prelude.{◌&&◌, codes}
+use Rattle.std.specs.List.{flat_map}
+use Rattle.std.proofs.lemmas.List.Elements.{filter-append}
 use Rattle.std.proofs.lemmas.Bool.Decides.{nat_tests}
-use Rattle.rm_model.specs.Words.{Word, literal_byte, kind_word}
-use Rattle.rm_model.specs.Value.{IsRanked, control_of, source_names}
-use Rattle.rm_model.specs.WellFormed.{IsWellFormed, driven_names, used_names, is_token, is_word_byte, ends_in_backslash}
+use Rattle.rm_model.specs.Words.{Word}
+use Rattle.rm_model.specs.Value.{IsRanked}
+use Rattle.rm_model.specs.WellFormed.{IsWellFormed}
 use Rattle.rm_model.specs.declared.parts.Literal.{Literal}
 use Rattle.rm_model.specs.declared.parts.Literal.TheVariants.{Zero, One, Any}
-use Rattle.rm_model.specs.declared.parts.LatchKind.{LatchKind}
-use Rattle.rm_model.specs.declared.parts.LatchKind.TheVariants.{Fe, Re, Ah, Al, As}
-use Rattle.rm_model.specs.declared.parts.Timing.{Timing}
 use Rattle.rm_model.specs.declared.parts.Cover.{Cover}
 use Rattle.rm_model.specs.declared.parts.Latch.{Latch}
 use Rattle.rm_model.specs.declared.parts.Model.{Model}
-use Rattle.blif_lines.specs.Layout.{layout, lines_of}
-use Rattle.blif_format.specs.Text.{Line, clock_lines, control_word, cover_lines, cover_words, init_words, latch_words, model_lines, on_word, row_words, text_of, text_of_lines, timing_words}
+use Rattle.blif_format.specs.Text.{Line, clock_lines, cover_lines, cover_words, latch_words, model_lines, row_words}
 use Rattle.blif_format.specs.Grammar.{Reads, before, before_end, begins_with, body_of, follow, is_command, is_dotted, names_lines, words_after, words_of}
-use Rattle.blif_format.specs.Laws.{AreFlawless, WrittenTextsRead}
-use Rattle.blif_writer.proofs.LineLaws.{and_true, both, if_false, is_token_line, lines_flawless, lines_of-text_of_lines}
+use Rattle.blif_writer.proofs.LineLaws.{if_false}
 
 -- TESTS OF LINES
 
@@ -52,7 +46,7 @@ abbrev end_line : List Line
 end_line = (codes ".end" ∷ []) ∷ []
 
 -- a row begins with no dot
-row_undotted : (on : Bool) (row : List Literal) → is_dotted (row_words on row) ≡ false
+pub row_undotted : (on : Bool) (row : List Literal) → is_dotted (row_words on row) ≡ false
 row_undotted true [] = refl
 row_undotted false [] = refl
 row_undotted on (Zero ∷ ls) = refl
@@ -76,7 +70,7 @@ none-clocks test each [] = tt
 none-clocks test each (x ∷ xs) = (each (x ∷ xs), tt)
 
 -- a word that begins with a dot is no row's first
-not_first : (word : Word) (l : Line) → is_dotted l ≡ false → begins_with (46 ∷ word) l ≡ false
+pub not_first : (word : Word) (l : Line) → is_dotted l ≡ false → begins_with (46 ∷ word) l ≡ false
 not_first word [] e = refl
 not_first word ([] ∷ ws) e = refl
 not_first word ((b ∷ bs) ∷ ws) e = let other : (46 == b) ≡ false = grind (arith, nat_tests) in rw other refl

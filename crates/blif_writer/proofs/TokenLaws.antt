@@ -1,6 +1,6 @@
 -- The lines that are written for a well-formed model have words, and each word is a token.
-use Rattle.std.proofs.Common.{◌≡◌, ◌==◌, ◌+◌, ◌<◌, ◌≤◌, ℕ, Bool, true, false, not, List, [], ◌∷◌, ◌++◌, map, filter, refl, ap, sym, subst, ◌∙◌, arith}
-use Rattle.std.specs.Prelude.{◌&&◌, ◌||◌, All, IfSome, codes, Option, None, Some}
+use Rattle.std.proofs.Common.{◌≡◌, ◌==◌, ◌+◌, ◌≤◌, ℕ, Bool, true, false, not, List, [], ◌∷◌, ◌++◌, map, filter, refl, ap, sym, subst, ◌∙◌, arith}
+use Rattle.std.specs.Prelude.{All, IfSome, codes, Option, None, Some}
 use Rattle.std.specs.List.{cons_option, flat_map, list_all, filter_map}
 use Rattle.std.proofs.lemmas.List.Elements.{All-head, All-tail}
 use Rattle.std.proofs.lemmas.List.Folds.{list_all-append}
@@ -16,7 +16,7 @@ use Rattle.rm_model.specs.declared.parts.Timing.{Timing}
 use Rattle.rm_model.specs.declared.parts.Cover.{Cover}
 use Rattle.rm_model.specs.declared.parts.Latch.{Latch}
 use Rattle.rm_model.specs.declared.parts.Model.{Model}
-use Rattle.blif_format.specs.Text.{Line, clock_lines, control_word, cover_lines, init_words, latch_words, model_lines, on_word, row_words, timing_words}
+use Rattle.blif_format.specs.Text.{clock_lines, control_word, cover_lines, init_words, latch_words, model_lines, on_word, row_words, timing_words}
 use Rattle.blif_writer.proofs.LineLaws.{and_true, both, is_token_line}
 
 all_parts : {A : Type 0} (test : A → Bool) (xs ys : List A) → list_all test (xs ++ ys) ≡ true → (list_all test xs ≡ true) × (list_all test ys ≡ true)

@@ -1,13 +1,15 @@
 // The whole text of a model.
 ghost use Rattle.std.specs.Prelude.{◌≡◌, ◌≤◌, ◌++◌, All, IfOk, IfSome, OnOk};
 ghost use Rattle.blif_format.specs.Text.{clock_lines, text_of, text_of_lines};
+ghost use Rattle.blif_format.specs.FirstFault.{first_fault};
 ghost use Rattle.blif_format.specs.Grammar.{Reads};
-ghost use Rattle.blif_format.specs.Laws.{AreFlawless};
+ghost use Rattle.blif_format.specs.Laws.{AreFlawless, IsAtMostLimit};
 ghost use Rattle.blif_lines.specs.Layout.{layout, lines_of};
 ghost use Rattle.rm_model.specs.Value.{IsRanked};
 ghost use Rattle.rm_model.specs.WellFormed.{IsWellFormed};
 ghost use Rattle.blif_writer.specs.Written.{head_text};
 
+use crate::laws::read_texts_are_faultless;
 use crate::lines::{put, put_line, put_line_and};
 use crate::parts::{put_covers, put_latches};
 use rm_base::NoMemory;
@@ -40,9 +42,12 @@ pub fn write_model(alloc: Global, model: &Model) -> Result<Vec<u8>, NoMemory>
     requires { All (λ l. IfSome l.init (λ n. n ≤ 3)) model.now.latches }
     ensures text { IfOk result (λ text. text.items ≡ text_of model.now) }
     ensures flawless { IsWellFormed model.now → IfOk result (λ text. AreFlawless (layout text.items)) }
+    ensures faultless { IsWellFormed model.now → IsRanked model.now →
+        IfOk result (λ text. IsAtMostLimit (first_fault text.items)) }
     ensures reads { IsWellFormed model.now → IsRanked model.now →
         IfOk result (λ text. Reads (lines_of text.items) model.now) }
 {
+    read_texts_are_faultless();
     let mut out = Vec::new(alloc);
     put_head(&mut out, model)?;
     put_latches(&mut out, model.latches.items())?;

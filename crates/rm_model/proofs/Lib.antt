@@ -1,9 +1,14 @@
 mod CoverLemmas
 mod DriverLemmas
+mod EvaluationLemmas
+mod FormLemmas
 mod LookLemmas
+mod ModelLemmas
+mod NameLemmas
 mod NumberLemmas
 mod PlaceLemmas
 mod RankLaws
 mod RankedLaws
 mod RankingLemmas
 mod SearchLemmas
+mod ValuationLaws

@@ -1,6 +1,6 @@
 -- A model is ranked exactly where each of its covers has a rank.
 use Rattle.std.proofs.Common.{◌≡◌, ℕ, zero, suc, ◌<◌, ◌≤◌, ◌+◌, List, [], ◌∷◌, map, length, max, Bool, true, false, cond, Option, Some, None, ◌⊎◌, inl, inr, refl, sym, ap, ◌∙◌, subst, arith, get_or}
-use Rattle.std.specs.Prelude.{slice_get, All, position, nat_lt, unwrap_or}
+use Rattle.std.specs.Prelude.{slice_get, is_none, All, position, nat_lt, unwrap_or}
 use Rattle.std.specs.List.{position_or_len}
 use Rattle.std.proofs.lemmas.Bool.{cases_lt}
 use Rattle.std.proofs.lemmas.Bool.Decides.{Decides-ltb}
@@ -8,7 +8,7 @@ use Rattle.std.proofs.lemmas.Option.{slice_get_cases, slice_get_within}
 use Rattle.rm_model.specs.Words.{Word}
 use Rattle.rm_model.specs.Value.{IsRanked, is_cover_output, source_names}
 use Rattle.rm_model.specs.WellFormed.{is_distinct, driven_names}
-use Rattle.rm_model.specs.Ranks.{cover_of, rank_at, rank_above, rank_by, ranks_of, AreRanks, first_without_rank, is_missing, higher}
+use Rattle.rm_model.specs.Ranks.{cover_of, rank_at, rank_above, rank_by, ranks_of, AreRanks, first_without_rank, higher}
 use Rattle.rm_model.specs.declared.parts.Cover.{Cover}
 use Rattle.rm_model.specs.declared.parts.Model.{Model}
 use Rattle.rm_model.proofs.RankLaws.{rank_from, picked, at_next, ranks_are_fixed, ranks-length, parts_of, above_cases, above_source, above_cover}
@@ -65,14 +65,14 @@ module _ (m : Model) where
               (suc h.0, above_cover (ranks_of m) (cover_of m.covers x) j h.0 is h.1)
 
 -- no rank is missing
-none-missing : (r : List (Option ℕ)) → ((k : ℕ) → k < length r → HasRank (rank_at r k)) → position_or_len is_missing r ≡ length r
+none-missing : (r : List (Option ℕ)) → ((k : ℕ) → k < length r → HasRank (rank_at r k)) → position_or_len is_none r ≡ length r
 none-missing [] h = refl
 none-missing (a ∷ r) h = let here = h 0 (omega arith) in let rest = none-missing r (λ k lt. h (suc k) (omega (arith, lt))) in rw here.1 (omega (arith, rest))
 
 not_below : (n : ℕ) → nat_lt n n ≡ false
 not_below n = not_true (nat_lt n n) (λ e. absurd (let lt : n < n = (Decides-ltb n n).0 e in omega (arith, lt)))
 
-all-told : (r : List (Option ℕ)) → length r ≤ position_or_len is_missing r → (k : ℕ) → k < length r → HasRank (rank_at r k)
+all-told : (r : List (Option ℕ)) → length r ≤ position_or_len is_none r → (k : ℕ) → k < length r → HasRank (rank_at r k)
 all-told [] h k lt = absurd (omega (arith, lt))
 all-told (None ∷ r) h k lt = absurd (omega (arith, h))
 all-told (Some n ∷ r) h zero lt = (n, refl)
@@ -107,7 +107,7 @@ module _ (m : Model) where
       place k lt (inr h) = absurd (omega (arith, lt, h.0))
 
   pub none-some : first_without_rank m ≡ None → (k : ℕ) → k < length m.covers → HasRank (rank_at (ranks_of m) k)
-  none-some none k lt = all-told (ranks_of m) (position-none (position_or_len is_missing (ranks_of m)) (length (ranks_of m)) none) k (omega (arith, lt, ranks-length m))
+  none-some none k lt = all-told (ranks_of m) (position-none (position_or_len is_none (ranks_of m)) (length (ranks_of m)) none) k (omega (arith, lt, ranks-length m))
 
   name_rank-at : (x : Word) (k n : ℕ) → cover_of m.covers x ≡ Some k → rank_at (ranks_of m) k ≡ Some n → name_rank m x ≡ n
   name_rank-at x k n driven is = rw (driven, is) refl

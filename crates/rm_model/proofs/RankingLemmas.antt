@@ -1,13 +1,13 @@
 -- From the lists of drivers to the ranks of a model.
 use Rattle.std.proofs.Common.{◌≡◌, ℕ, zero, suc, ◌<◌, ◌≤◌, List, [], ◌∷◌, map, length, take, get_or, Bool, true, false, Option, Some, None, ◌⊎◌, inl, inr, refl, sym, ap, ◌∙◌, subst, arith}
-use Rattle.std.specs.Prelude.{slice_get, position, Result, Ok, Err, IfOk}
+use Rattle.std.specs.Prelude.{slice_get, is_none, position, Result, Ok, Err, IfOk}
 use Rattle.std.specs.List.{position_or_len, filter_map, cons_option}
 use Rattle.std.specs.Option.{option_map}
 use Rattle.std.proofs.lemmas.List.{length-map, get_or-map}
 use Rattle.std.proofs.lemmas.Option.{slice_get_cases, slice_get_within}
 use Rattle.std.proofs.Math.ListN.{get_or-eq_default}
 use Rattle.rm_model.specs.Words.{Word}
-use Rattle.rm_model.specs.Ranks.{cover_of, is_missing, rank_at, rank_by, ranks_of, AreRanks}
+use Rattle.rm_model.specs.Ranks.{cover_of, rank_at, rank_by, ranks_of, AreRanks}
 use Rattle.rm_model.specs.Numbers.{drivers_of, rank_over, IsFixed}
 use Rattle.rm_model.specs.Search.{list_at, IsIn, AreKnown}
 use Rattle.rm_model.specs.declared.parts.Cover.{Cover}
@@ -18,16 +18,16 @@ use Rattle.rm_model.proofs.NumberLemmas.{position-step}
 use Rattle.rm_model.proofs.RankLaws.{ranks_are_fixed, ranks_are_only}
 
 -- the first rank that is missing
-pub first-missing : (ranks : List (Option ℕ)) (xs : List ℕ) (i : ℕ) → map Some xs ≡ take i ranks → i < length ranks → rank_at ranks i ≡ None → position is_missing ranks ≡ Some i
+pub first-missing : (ranks : List (Option ℕ)) (xs : List ℕ) (i : ℕ) → map Some xs ≡ take i ranks → i < length ranks → rank_at ranks i ≡ None → position is_none ranks ≡ Some i
 first-missing [] xs i e lt none = absurd (omega (arith, lt))
-first-missing (None ∷ r) xs zero e lt none = position-step true (position_or_len is_missing r) (length r)
+first-missing (None ∷ r) xs zero e lt none = position-step true (position_or_len is_none r) (length r)
 first-missing (None ∷ r) [] (suc i) e lt none = absurd cc
 first-missing (None ∷ r) (x ∷ xs) (suc i) e lt none = absurd cc
 first-missing (Some n ∷ r) xs zero e lt none = absurd cc
 first-missing (Some n ∷ r) [] (suc i) e lt none = absurd cc
 first-missing (Some n ∷ r) (x ∷ xs) (suc i) e lt none =
     let rest : map Some xs ≡ take i r = cc in
-    position-step false (position_or_len is_missing r) (length r) ∙ ap (option_map (λ k. suc k)) (first-missing r xs i rest (omega (arith, lt)) none)
+    position-step false (position_or_len is_none r) (length r) ∙ ap (option_map (λ k. suc k)) (first-missing r xs i rest (omega (arith, lt)) none)
 
 in-filter : (f : Word → Option ℕ) (xs : List Word) (p d : ℕ) → slice_get (filter_map f xs) p ≡ Some d → (x : Word) × (f x ≡ Some d)
 in-filter f [] p d e = absurd cc

@@ -80,6 +80,15 @@ module _ (drivers : List (List ℕ)) (s : State) (sound : IsSound drivers s) (k 
   full : rank_over s.ranks (list_at drivers k) ≡ Some l.least
   full = ap (rank_over s.ranks) (sym (ap (λ (n : ℕ). take n (list_at drivers k)) all ∙ take-length (list_at drivers k))) ∙ least
 
+  not-listed : (p : ℕ) → slice_get s.order p ≡ Some k → ⊥
+  not-listed p e = let h : HasRank (rank_at s.ranks k) = sound.ranked k (p, e) in let is = h.1 in cc
+
+  push-once : (p q j : ℕ) → (slice_get s.order p ≡ Some j) ⊎ ((p ≡ length s.order) × (j ≡ k)) → (slice_get s.order q ≡ Some j) ⊎ ((q ≡ length s.order) × (j ≡ k)) → p ≡ q
+  push-once p q j (inl a) (inl b) = sound.once p q j a b
+  push-once p q j (inl a) (inr b) = absurd (not-listed p (a ∙ ap Some b.1))
+  push-once p q j (inr a) (inl b) = absurd (not-listed q (b ∙ ap Some a.1))
+  push-once p q j (inr a) (inr b) = a.0 ∙ sym b.0
+
   with_rank-sound : IsSound drivers after
   with_rank-sound = record {
     ranks_length = length-set s.ranks k (Some l.least) ∙ sound.ranks_length;
@@ -108,6 +117,7 @@ module _ (drivers : List (List ℕ)) (s : State) (sound : IsSound drivers s) (k 
       | inl is ↦ (length s.order, get-last s.order k ∙ ap Some (sym is))
       | inr ne ↦ let o = sound.listed j n (sym (elsewhere j ne) ∙ e) in (o.0, get-left s.order (k ∷ []) o.0 j o.1)
     ];
+    once = λ p q j e f. push-once p q j (get-push s.order k p j e) (get-push s.order k q j f);
     ranked = λ j at. elim (get-push s.order k at.0 j at.1) [
       | inl old ↦ let o : HasRank (rank_at s.ranks j) = sound.ranked j (at.0, old) in (o.0, more j o.0 o.1)
       | inr is ↦ (l.least, here j is.1)
@@ -169,6 +179,7 @@ module _ (drivers : List (List ℕ)) (s : State) (sound : IsSound drivers s) (k 
       | inr old ↦ sound.looked j h old
     ];
     listed = sound.listed;
+    once = sound.once;
     ranked = sound.ranked;
     waiting = λ e j at. elim (same_or_not e d) [
       | inl is ↦
@@ -226,6 +237,7 @@ module _ (drivers : List (List ℕ)) (s : State) (sound : IsSound drivers s) (pl
     count = sound.count;
     looked = sound.looked;
     listed = sound.listed;
+    once = sound.once;
     ranked = sound.ranked;
     waiting = λ e j in'. elim (same_or_not e d) [
       | inl is ↦ absurd (let none : IsIn [] j = subst (λ (ls : List ℕ). IsIn ls j) (none-here e is) in' in no_place none)
@@ -316,6 +328,7 @@ start-sound drivers n e = record {
   count = sym (none-known n);
   looked = λ k l is. let same : l ≡ record { count = 0; least = 0 } = replicate-at n k (record { count = 0; least = 0 }) l is in subst (AllowsRank (replicate n None) (list_at drivers k)) (sym same) (omega arith, ap (rank_over (replicate n None)) (take-zero (list_at drivers k)));
   listed = λ k i is. absurd (none-there n k i is);
+  once = λ p q k e f. absurd (not-in [] refl (p, e));
   ranked = λ k at. absurd (not-in [] refl at);
   waiting = λ d k at. absurd (not-in (list_at (replicate n []) d) (empty-lists n d) at);
   ordered = λ p k d at reads. absurd (not-in [] refl (p, at));

@@ -1,5 +1,5 @@
 -- The rank of each cover: 0 where it reads sources alone, and otherwise one more than the greatest rank of the covers that it reads.
-use Rattle.std.specs.Prelude.{◌≡◌, ℕ, zero, suc, Bool, true, false, List, [], ◌∷◌, map, length, max, position, Option, None, Some, slice_index_or, if◌then◌else◌, replicate}
+use Rattle.std.specs.Prelude.{◌≡◌, ℕ, zero, suc, is_none, List, [], ◌∷◌, map, length, max, position, Option, None, Some, slice_index_or, if◌then◌else◌, replicate}
 use Rattle.std.specs.Option.{option_map}
 use Rattle.rm_model.specs.Words.{Word, is_word}
 use Rattle.rm_model.specs.declared.parts.Cover.{Cover}
@@ -46,10 +46,6 @@ ranks_of m = ranks_below (length m.covers) m
 abbrev pub AreRanks : Model → List (Option ℕ) → Type 0
 AreRanks m ranks = ranks ≡ map (rank_by m ranks) m.covers
 
-abbrev pub is_missing : Option ℕ → Bool
-is_missing None = true
-is_missing (Some n) = false
-
 -- the place of the first cover without rank
 abbrev pub first_without_rank : Model → Option ℕ
-first_without_rank m = position is_missing (ranks_of m)
+first_without_rank m = position is_none (ranks_of m)

@@ -41,6 +41,7 @@ pub record IsSound (drivers : List (List ℕ)) (s : State) : Type 0 where
   pub count : length s.order ≡ known_count s.ranks
   pub looked : (k : ℕ) (l : Looked) → slice_get s.looked k ≡ Some l → AllowsRank s.ranks (list_at drivers k) l
   pub listed : (k n : ℕ) → rank_at s.ranks k ≡ Some n → IsIn s.order k
+  pub once : (p q k : ℕ) → slice_get s.order p ≡ Some k → slice_get s.order q ≡ Some k → p ≡ q
   pub ranked : (k : ℕ) → IsIn s.order k → HasRank (rank_at s.ranks k)
   pub waiting : (d k : ℕ) → IsIn (list_at s.waiting d) k → k < length drivers
   pub ordered : (p k d : ℕ) → slice_get s.order p ≡ Some k → IsIn (list_at drivers k) d → ((i : ℕ) × ((i < p) × (slice_get s.order i ≡ Some d)))
@@ -80,3 +81,9 @@ pub record LeadsTo (drivers : List (List ℕ)) (s t : State) : Type 0 where
 -- no cover is looked at yet
 abbrev pub start : ℕ → State
 start n = record { ranks = replicate n None; looked = replicate n (record { count = 0; least = 0 }); waiting = replicate n []; order = [] }
+
+-- covers in an order in which each stands behind those that it reads
+pub record IsOrder (drivers : List (List ℕ)) (order : List ℕ) : Type 0 where
+  pub within : (p k : ℕ) → slice_get order p ≡ Some k → k < length drivers
+  pub once : (p q k : ℕ) → slice_get order p ≡ Some k → slice_get order q ≡ Some k → p ≡ q
+  pub behind : (p k d : ℕ) → slice_get order p ≡ Some k → IsIn (list_at drivers k) d → ((i : ℕ) × ((i < p) × (slice_get order i ≡ Some d)))

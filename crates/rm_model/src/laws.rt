@@ -1,8 +1,8 @@
 // Laws of the definitions, each the contract of a function that does nothing.
-ghost use Rattle.std.specs.Prelude.{◌≡◌, ◌<◌, ◌↔◌, ℕ, Option, List, slice_get, length, [], ◌∷◌, codes, false, true};
+ghost use Rattle.std.specs.Prelude.{◌≡◌, ◌<◌, ◌↔◌, ℕ, Option, List, slice_get, Bool, map, length, [], ◌∷◌, codes, false, true};
 ghost use Rattle.rm_model.specs.WellFormed.{driven_names, is_distinct, is_token, IsWellFormed};
 ghost use Rattle.rm_model.specs.Ranks.{cover_of, first_without_rank, rank_at, ranks_of, AreRanks};
-ghost use Rattle.rm_model.specs.Value.{IsRanked};
+ghost use Rattle.rm_model.specs.Value.{is_among, source_names, IsConsistent, IsRanked};
 ghost use Rattle.rm_model.specs.Words.{Word};
 ghost use Rattle.rm_model.specs.declared.parts.Cover.{Cover};
 ghost use Rattle.rm_model.specs.declared.parts.Model.{Model};
@@ -40,6 +40,19 @@ pub fn ranks_exist()
         (m : Model) (c : Cover) (x : Word) (k p j n : ℕ) → slice_get m.covers k ≡ Some c
             → slice_get c.inputs p ≡ Some x → cover_of m.covers x ≡ Some j → rank_at (ranks_of m) k ≡ Some n
             → ((i : ℕ) × ((rank_at (ranks_of m) j ≡ Some i) × (i < n)))
+    }
+{
+}
+
+/// A ranked model has exactly one consistent valuation for each assignment of its sources.
+pub fn one_valuation()
+    ensures exists {
+        (m : Model) (values : List Bool) → IsWellFormed m → IsRanked m → length values ≡ length (source_names m)
+            → ((v : Word → Bool) × (IsConsistent m v × (map v (source_names m) ≡ values)))
+    }
+    ensures only {
+        (m : Model) (v w : Word → Bool) (x : Word) → IsWellFormed m → IsRanked m → IsConsistent m v → IsConsistent m w
+            → map v (source_names m) ≡ map w (source_names m) → is_among (driven_names m) x ≡ true → v x ≡ w x
     }
 {
 }

@@ -1,7 +1,10 @@
-//! The model of a BLIF text: names, covers and latches, and what they mean.
+//! The model of a BLIF text: names, covers and latches, which models are well formed, the ranks of their covers, and the values of their
+//! observed points for given values of their sources.
 #![tactic(auto)]
 
 mod drivers;
+mod evaluation;
+mod form;
 mod laws;
 mod list;
 mod name_table;
@@ -11,9 +14,14 @@ mod ranking;
 mod rank_search;
 mod value;
 
-pub use laws::{ranks_exist, ranks_follow, tokens_are};
+pub use evaluation::evaluate;
+pub use form::is_well_formed;
+pub use laws::{one_valuation, ranks_exist, ranks_follow, tokens_are};
 pub use list::Listed;
 pub use parts::{Cover, Latch, LatchKind, Literal, Model, Name, Row, Timing};
 pub use ranking::{rank, RankFault};
 pub use points::{observed, sources};
 pub use value::cover_value;
+
+#[cfg(test)]
+mod tests;

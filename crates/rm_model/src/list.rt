@@ -5,6 +5,7 @@ use rm_base::NoMemory;
 use std::alloc::Global;
 use std::marker::Model;
 
+/// A growing list, made from a vector and turned into one without taking memory.
 #[derive(Drop)]
 pub struct Listed<T> {
     kept: Vec<T>,
@@ -19,6 +20,7 @@ impl<T> Model for Listed<T> {
 }
 
 impl<T> Listed<T> {
+    /// The empty list. It takes no memory until an item is pushed.
     pub fn new(alloc: Global) -> Self
         ensures { result ≡ [] }
     {
@@ -27,12 +29,14 @@ impl<T> Listed<T> {
         }
     }
 
+    /// The list of a vector's items, in its memory.
     pub fn from_vec(items: Vec<T>) -> Self
         ensures { result ≡ items.items }
     {
         Listed { kept: items }
     }
 
+    /// The vector of the items, in the list's memory.
     pub fn into_vec(self) -> Vec<T>
         ensures { result.items ≡ self }
     {
@@ -40,12 +44,14 @@ impl<T> Listed<T> {
         kept
     }
 
+    /// All items, in order.
     pub fn items(&self) -> &[T]
         ensures { result.now ≡ self.now }
     {
         self.kept.as_slice()
     }
 
+    /// The number of items.
     pub fn len(&self) -> usize
         ensures { result ≡ length self.now }
     {
@@ -54,6 +60,7 @@ impl<T> Listed<T> {
 }
 
 impl<T: Drop> Listed<T> {
+    /// Adds an item at the end. Where memory is wanting the item is dropped.
     pub fn push(&mut self, item: T) -> Result<(), NoMemory>
         ensures ok { OnOk result (self.new ≡ self.old ++ item ∷ []) }
         ensures err { OnErr result (self.new ≡ self.old) }

@@ -1,7 +1,8 @@
 // Names that are numbered in the order in which they are added, with a look-up by hash.
-ghost use Rattle.std.specs.Prelude.{◌≡◌, ◌^◌, ◌<◌, [], ◌∷◌, ◌++◌, length, map, false, is_some, OnOk, OnErr, IfSome};
+ghost use Rattle.std.specs.Prelude.{◌≡◌, ◌^◌, ◌<◌, [], ◌∷◌, ◌++◌, length, map, false, is_some, OnOk, IfSome, ◌||◌, List, ℕ};
 ghost use Rattle.rm_model.specs.Value.{is_among};
 ghost use Rattle.rm_model.specs.Numbers.{place_of};
+ghost use Rattle.rm_model.specs.Words.{is_word};
 
 use indexmap::IndexSet;
 use rm_base::NoMemory;
@@ -33,6 +34,16 @@ impl<'a> NameTable<'a> {
     pub fn add(&mut self, name: &'a [u8]) -> Result<(), NoMemory>
         requires { is_among self.old name.now ≡ false }
         ensures ok { OnOk result (self.new ≡ self.old ++ name.now ∷ []) }
+    {
+        self.names.insert(name)?;
+        Ok(())
+    }
+
+    /// Adds a name that may be there already.
+    pub fn include(&mut self, name: &'a [u8]) -> Result<(), NoMemory>
+        ensures {
+            OnOk result ((x : List ℕ) → is_among self.new x ≡ (is_among self.old x || is_word x name.now))
+        }
     {
         self.names.insert(name)?;
         Ok(())

@@ -2,30 +2,53 @@
 ghost use Rattle.std.specs.Prelude.{◌≡◌, ◌++◌, ◌∷◌, [], IfOk, OnOk, filter, map, not, Option};
 ghost use Rattle.std.specs.List.{filter_map};
 ghost use Rattle.std.specs.Option.{option_copied};
+ghost use Rattle.rm_model.specs.Words.{Word};
 ghost use Rattle.rm_model.specs.Value.{control_of, is_among as among, observed_names, source_names};
 
 use crate::list::Listed;
+use crate::name_table::NameTable;
 use crate::parts::{Latch, Model, Name};
 use rm_base::NoMemory;
 use std::alloc::Global;
 
+/// A copy of a name.
 pub fn copy_name(alloc: Global, name: &Name) -> Result<Name, NoMemory>
     ensures { IfOk result (λ copy. copy ≡ name.now) }
 {
     Ok(Listed::from_vec(Vec::from_slice(alloc, name.items())?))
 }
 
-pub fn is_among(names: &[Name], name: &Name) -> bool
-    ensures { result ≡ among names.now name.now }
-{
-    names.iter().any(|other| name.items() == other.items())
-}
-
-fn push_names(alloc: Global, out: &mut Vec<Name>, names: &[Name]) -> Result<(), NoMemory>
+pub fn push_names(alloc: Global, out: &mut Vec<Name>, names: &[Name]) -> Result<(), NoMemory>
     ensures { OnOk result (out.new.items ≡ out.old.items ++ names.now) }
 {
     for name in names {
         out.push(copy_name(alloc, name)?)?;
+    }
+    Ok(())
+}
+
+pub fn table_of<'a>(alloc: Global, names: &'a [Name]) -> Result<NameTable<'a>, NoMemory>
+    ensures { IfOk result (λ table. (x : Word) → among table x ≡ among names.now x) }
+{
+    let mut table = NameTable::new(alloc);
+    for name in names {
+        table.include(name.items())?;
+    }
+    Ok(table)
+}
+
+fn push_unknown(
+    alloc: Global,
+    out: &mut Vec<Name>,
+    known: &NameTable,
+    names: &[Name],
+) -> Result<(), NoMemory>
+    ensures { OnOk result (out.new.items ≡ out.old.items ++ filter (λ x. not (among known.now x)) names.now) }
+{
+    for name in names {
+        if !known.has(name.items()) {
+            out.push(copy_name(alloc, name)?)?;
+        }
     }
     Ok(())
 }
@@ -38,12 +61,8 @@ fn push_others(
 ) -> Result<(), NoMemory>
     ensures { OnOk result (out.new.items ≡ out.old.items ++ filter (λ x. not (among inputs.now x)) names.now) }
 {
-    for name in names {
-        if !is_among(inputs, name) {
-            out.push(copy_name(alloc, name)?)?;
-        }
-    }
-    Ok(())
+    let known = table_of(alloc, inputs)?;
+    push_unknown(alloc, out, &known, names)
 }
 
 fn push_latch_outputs(alloc: Global, out: &mut Vec<Name>, latches: &[Latch]) -> Result<(), NoMemory>
@@ -55,7 +74,7 @@ fn push_latch_outputs(alloc: Global, out: &mut Vec<Name>, latches: &[Latch]) -> 
     Ok(())
 }
 
-fn push_latch_inputs(alloc: Global, out: &mut Vec<Name>, latches: &[Latch]) -> Result<(), NoMemory>
+pub fn push_latch_inputs(alloc: Global, out: &mut Vec<Name>, latches: &[Latch]) -> Result<(), NoMemory>
     ensures { OnOk result (out.new.items ≡ out.old.items ++ map (λ l. l.input) latches.now) }
 {
     for latch in latches {
@@ -64,7 +83,7 @@ fn push_latch_inputs(alloc: Global, out: &mut Vec<Name>, latches: &[Latch]) -> R
     Ok(())
 }
 
-fn control(latch: &Latch) -> Option<&Name>
+pub fn control(latch: &Latch) -> Option<&Name>
     ensures { option_copied result ≡ control_of latch.now }
 {
     match &latch.timing {
@@ -73,7 +92,7 @@ fn control(latch: &Latch) -> Option<&Name>
     }
 }
 
-fn push_controls(alloc: Global, out: &mut Vec<Name>, latches: &[Latch]) -> Result<(), NoMemory>
+pub fn push_controls(alloc: Global, out: &mut Vec<Name>, latches: &[Latch]) -> Result<(), NoMemory>
     ensures { OnOk result (out.new.items ≡ out.old.items ++ filter_map control_of latches.now) }
 {
     for latch in latches {
@@ -84,7 +103,8 @@ fn push_controls(alloc: Global, out: &mut Vec<Name>, latches: &[Latch]) -> Resul
     Ok(())
 }
 
-/// The inputs, the clocks that aren't inputs, and the latch outputs.
+/// The names that drive the model from outside, each once: the inputs, the clocks that aren't inputs, and the latch outputs, each in order.
+/// It takes time linear in these lists.
 pub fn sources(alloc: Global, model: &Model) -> Result<Vec<Name>, NoMemory>
     ensures { IfOk result (λ names. names.items ≡ source_names model.now) }
 {
@@ -100,7 +120,8 @@ pub fn sources(alloc: Global, model: &Model) -> Result<Vec<Name>, NoMemory>
     Ok(names)
 }
 
-/// The outputs, the latch inputs and the latch controls.
+/// The names that are seen from outside: the outputs, the latch inputs and the latch controls, each in order. A name may stand twice, and
+/// it may be a source.
 pub fn observed(alloc: Global, model: &Model) -> Result<Vec<Name>, NoMemory>
     ensures { IfOk result (λ names. names.items ≡ observed_names model.now) }
 {

@@ -1,6 +1,6 @@
 // The rank of each cover of a model.
-ghost use Rattle.std.specs.Prelude.{◌≡◌, ◌^◌, ◌<◌, length, map, position, IfOk, IfErr, Some, Option, true};
-ghost use Rattle.rm_model.specs.Ranks.{first_without_rank, is_missing, ranks_of, AreRanks};
+ghost use Rattle.std.specs.Prelude.{◌≡◌, ◌^◌, ◌<◌, length, map, position, IfOk, IfErr, Some, Option, true, is_none, IfSome};
+ghost use Rattle.rm_model.specs.Ranks.{first_without_rank, ranks_of, AreRanks};
 ghost use Rattle.rm_model.specs.RankFaults.{IsRefused};
 ghost use Rattle.rm_model.specs.declared.ranking.RankFault.TheVariants.{NoMemory};
 ghost use Rattle.rm_model.specs.Search.{IsSound};
@@ -49,7 +49,7 @@ impl<T: Drop> From<AllocFailed<T>> for RankFault {
 fn all_ranks(alloc: Global, ranks: &[Option<u32>]) -> Result<Vec<u32>, RankFault>
     requires { length ranks.now < 2 ^ 32 }
     ensures ranks { IfOk result (λ all. map Some all.items ≡ ranks.now) }
-    ensures refused { IfErr result (λ fault. IsRefused (position is_missing ranks.now) fault) }
+    ensures refused { IfErr result (λ fault. IsRefused (position is_none ranks.now) fault) }
 {
     let mut all = Vec::new(alloc);
     for (place, rank) in ranks.iter().enumerate() {
@@ -63,6 +63,14 @@ fn all_ranks(alloc: Global, ranks: &[Option<u32>]) -> Result<Vec<u32>, RankFault
         }
     }
     Ok(all)
+}
+
+/// The first place without a rank.
+pub fn first_missing(ranks: &[Option<u32>]) -> Option<usize>
+    ensures first { result ≡ position is_none ranks.now }
+    ensures within { IfSome result (λ place. place < length ranks.now) }
+{
+    ranks.iter().position(|rank| rank.is_none())
 }
 
 /// The search's result for the covers of a model.

@@ -1,7 +1,7 @@
-// Sources, observed points and the value of a cover.
+// The value of a cover.
 ghost use Rattle.std.specs.Prelude.{◌≡◌, IfOk, map, length, All, ℕ};
 ghost use Rattle.std.specs.List.{list_any};
-ghost use Rattle.rm_model.specs.Value.{literal_holds, row_matches as matches_row, source_names, observed_names, value_of};
+ghost use Rattle.rm_model.specs.Value.{literal_holds, row_matches as matches_row, value_of};
 
 use crate::parts::{Cover, Literal, Row};
 
@@ -29,7 +29,8 @@ fn any_row_matches(rows: &[Row], values: &[bool]) -> bool
     rows.iter().any(|row| row_matches(row.items(), values))
 }
 
-/// The boolean at the cover's output.
+/// The value of a cover's output where its inputs have these values, in order: with rows that end in `1`, whether some row matches; with
+/// rows that end in `0`, whether none does; without rows, false. It takes no memory.
 pub fn cover_value(cover: &Cover, values: &[bool]) -> bool
     requires places { length values.now ≡ length cover.now.inputs }
     requires rows { All (λ r. length r ≡ length cover.now.inputs) cover.now.rows }

@@ -1,7 +1,5 @@
-use Rattle.std.proofs.Common.{◌≡◌, ◌++◌, take, map}
-use Rattle.std.specs.List.{flat_map}
-use Rattle.blif_writer.specs.Written.{behind_blanks, cover_text, latch_text, row_text}
-use Rattle.rm_model.specs.Words.{literal_byte}
+use Rattle.std.proofs.Common.{◌≡◌, ◌++◌, take}
+use Rattle.blif_writer.specs.Written.{behind_blanks}
 use Rattle.blif_writer.proofs.lines.put_words.Given as goal
 
 abbrev pub invariant-loop-word : goal.invariant-loop-word

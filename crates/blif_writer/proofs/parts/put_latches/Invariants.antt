@@ -1,7 +1,6 @@
-use Rattle.std.proofs.Common.{◌≡◌, ◌++◌, take, map}
+use Rattle.std.proofs.Common.{◌≡◌, ◌++◌, take}
 use Rattle.std.specs.List.{flat_map}
-use Rattle.blif_writer.specs.Written.{behind_blanks, cover_text, latch_text, row_text}
-use Rattle.rm_model.specs.Words.{literal_byte}
+use Rattle.blif_writer.specs.Written.{latch_text}
 use Rattle.blif_writer.proofs.parts.put_latches.Given as goal
 
 abbrev pub invariant-loop-latch : goal.invariant-loop-latch

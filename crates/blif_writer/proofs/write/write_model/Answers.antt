@@ -1,8 +1,9 @@
 use Rattle.std.proofs.Common.{◌≡◌, ℕ, List, ◌++◌, ap, ◌∙◌, subst, sym}
 use Rattle.std.specs.List.{flat_map}
 use Rattle.blif_lines.specs.Layout.{layout, lines_of}
+use Rattle.blif_format.specs.FirstFault.{first_fault}
 use Rattle.blif_format.specs.Grammar.{Reads}
-use Rattle.blif_format.specs.Laws.{AreFlawless}
+use Rattle.blif_format.specs.Laws.{AreFlawless, IsAtMostLimit}
 use Rattle.blif_format.specs.Text.{text_of}
 use Rattle.blif_writer.specs.Written.{cover_text, latch_text}
 use Rattle.blif_writer.proofs.TextReads.{text_flawless, text_reads}
@@ -19,5 +20,7 @@ returns c =
     record {
       text = whole;
       flawless = λ good. subst (λ (t : List ℕ). AreFlawless (layout t)) (sym whole) (text_flawless c.args.model.now good);
+      faultless = λ good ranked. subst (λ (t : List ℕ). IsAtMostLimit (first_fault t)) (sym whole)
+          (c.read_texts_are_faultless.ensures (text_of c.args.model.now) c.args.model.now (text_flawless c.args.model.now good) (text_reads c.args.model.now good ranked));
       reads = λ good ranked. subst (λ (t : List ℕ). Reads (lines_of t) c.args.model.now) (sym whole) (text_reads c.args.model.now good ranked);
     }

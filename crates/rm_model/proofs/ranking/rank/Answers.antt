@@ -1,7 +1,7 @@
 use Rattle.std.proofs.Common.{◌≡◌, map, Vec, Global, List, ℕ, Option, Some, subst, sym, ap, ◌∙◌, Bool, true, IfOk, IfErr}
-use Rattle.std.specs.Prelude.{position}
+use Rattle.std.specs.Prelude.{position, is_none}
 use Rattle.rm_model.specs.Numbers.{IsFixed}
-use Rattle.rm_model.specs.Ranks.{ranks_of, AreRanks, is_missing}
+use Rattle.rm_model.specs.Ranks.{ranks_of, AreRanks}
 use Rattle.rm_model.specs.RankFaults.{IsRefused}
 use Rattle.rm_model.specs.Value.{source_names}
 use Rattle.rm_model.specs.WellFormed.{is_distinct}
@@ -31,4 +31,4 @@ pub returns-clause-refused : goal.returns-clause-refused
 returns-clause-refused c =
     let fixed : IsFixed c.args.model.now.covers c.in_ok-found.found.ranks.items = subst (λ (cs : List Cover). IsFixed cs c.in_ok-found.found.ranks.items) c.items.ensures c.in_ok-found.ensures.ranks in
     let is : c.as_slice.result.now ≡ ranks_of c.args.model.now = c.as_slice.ensures.value ∙ fixed-ranks c.args.model.now c.in_ok-found.found.ranks.items fixed in
-    subst (λ (l : List (Option ℕ)). IfErr c.all_ranks.result (λ (fault : RankFault). IsRefused (position is_missing l) fault)) is c.all_ranks.ensures.refused
+    subst (λ (l : List (Option ℕ)). IfErr c.all_ranks.result (λ (fault : RankFault). IsRefused (position is_none l) fault)) is c.all_ranks.ensures.refused
