@@ -136,9 +136,13 @@ module _ (m : Model) (net : Net) where
         let here : node_at net n ≡ Some node = subst (λ (z : ℕ). node_at net z ≡ Some node) t.1 at in
         let is : o ≡ Some node = sym (first_from net n o os same) ∙ here in
         let made = cover_made node.kind (map (node_name m net) node.drivers) (node_name m net n) gate in
-        let e : gate_cover m net n o ≡ Some made.0 = ap (λ (p : Option Node). gate_cover m net n p) is ∙ made.1 in
-        (made.0, (in_first (gate_cover m net n o) (gate_covers m net (n + 1) os) made.0 e,
-            subst (λ (z : ℕ). IsGateCover m net z made.0) (sym t.1) (gate_cover_is n o made.0 (first_from net n o os same) e)))
+        let e : gate_cover m net n o ≡ Some made.0 = ap (λ (p : Option Node). gate_cover m net n p) is ∙ made.1 in (
+          made.0,
+          (
+            in_first (gate_cover m net n o) (gate_covers m net (n + 1) os) made.0 e,
+            subst (λ (z : ℕ). IsGateCover m net z made.0) (sym t.1) (gate_cover_is n o made.0 (first_from net n o os same) e),
+          ),
+        )
     | inr f ↦
         let ne : x ≢ n = f.1 in
         let later = gates_in (n + 1) os (rest_from net n o os same) x node (omega arith) (omega arith) at gate in

@@ -94,8 +94,8 @@ module _ (m : Model) (net : Net) (w : IsWritable m net) where
       by_test false e rec = elim (eqb_tells g n) [
         | inl t ↦
             let here : (is_gate net n && is_word (node_name m net n) (node_name m net g)) ≡ true =
-                subst (λ (k : ℕ). (is_gate net k && is_word (node_name m net k) (node_name m net g)) ≡ true) t.1
-                (rw (gate_test net g gate.node gate.node.kind gate.at refl gate.gate) (word_refl (node_name m net g))) in
+            subst (λ (k : ℕ). (is_gate net k && is_word (node_name m net k) (node_name m net g)) ≡ true) t.1
+            (rw (gate_test net g gate.node gate.node.kind gate.at refl gate.gate) (word_refl (node_name m net g))) in
             let bad : true ≡ false = sym here ∙ e in absurd cc
         | inr f ↦ rec (let ne : g ≢ n = f.1 in omega arith)
       ]
@@ -152,7 +152,7 @@ module _ (m : Model) (net : Net) (w : IsWritable m net) where
       own = ap rank (ap (λ (d : Cover). d.output) copy.is ∙ copy_out m net copy.node copy.name) ∙ rank_absent (length net.nodes) copy.name (λ g gate name.
           let k = cover_at m net w g gate in
           copy.fresh (in_right (source_names m) (output_names (gates m net w)) copy.name
-            (subst (In (output_names (gates m net w))) (k.1.1.cover.out_is ∙ name) (in_mapped (λ (d : Cover). d.output) (gates m net w) k.0 k.1.0))))
+          (subst (In (output_names (gates m net w))) (k.1.1.cover.out_is ∙ name) (in_mapped (λ (d : Cover). d.output) (gates m net w) k.0 k.1.0))))
 
       rank_less : (d : ℕ) → rank y ≡ r d → r d ≤ greatest (length net.nodes) → rank c.output ≡ top → rank y < rank c.output
       rank_less d driver low own = let t : top ≡ suc (greatest (length net.nodes)) = top_is in omega (arith, driver, low, own, t)
@@ -165,8 +165,11 @@ module _ (m : Model) (net : Net) (w : IsWritable m net) where
           rank_less d driver low own
 
   pub ranked : IsRanked (model_of_net m net)
-  ranked = (rank, all_in_list (λ (c : Cover). All (λ x. Below c x) c.inputs) (model_of_net m net).covers
-      (λ c i. all_in_list (λ x. Below c x) c.inputs (λ y j. by_case c (cover_cases m net w c i) y j)))
+  ranked = (
+    rank,
+    all_in_list (λ (c : Cover). All (λ x. Below c x) c.inputs) (model_of_net m net).covers
+        (λ c i. all_in_list (λ x. Below c x) c.inputs (λ y j. by_case c (cover_cases m net w c i) y j)),
+  )
     where
       by_case : (c : Cover) → (((x : ℕ) × ((x < length net.nodes) × IsGateCover m net x c)) ⊎ IsCopyCover m net (had m net w) net.observed (observed_names m) c) → (y : Word) → In c.inputs y → Below c y
       by_case c (inl (x, (h, g))) y j = gate_below c x g y j

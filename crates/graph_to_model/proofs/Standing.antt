@@ -100,7 +100,7 @@ module _ (m : Model) (net : Net) (w : IsWritable m net) (a values : ℕ → Bool
       let at : node_at net x ≡ Some node = c.1.1.at in
       let kept : v (c.0).output ≡ value_of c.0 (map v (c.0).inputs) = all_at (λ (d : Cover). v d.output ≡ value_of d (map v d.inputs)) (model_of_net m net).covers c.0 consistent (in_left (gates m net w) (copies m net w) c.0 c.1.0) in
       let drivers : map v (map (node_name m net) node.drivers) ≡ map values node.drivers =
-          map_map v (node_name m net) node.drivers ∙ map_agree (λ d. v (node_name m net d)) values node.drivers (λ p d e. h p d (rw at e) (driver_named m net w x node p d at e)) in
+      map_map v (node_name m net) node.drivers ∙ map_agree (λ d. v (node_name m net d)) values node.drivers (λ p d e. h p d (rw at e) (driver_named m net w x node p d at e)) in
       let inputs : map v (c.0).inputs ≡ map values node.drivers = ap (map v) c.1.1.cover.in_is ∙ drivers in
       let counted : length (map values node.drivers) ≡ length (map (node_name m net) node.drivers) = map_length values node.drivers ∙ sym (map_words (node_name m net) node.drivers) in
       let value : value_of c.0 (map v (c.0).inputs) ≡ gate_value node.kind false (map values node.drivers) = ap (value_of c.0) inputs ∙ c.1.1.cover.value (map values node.drivers) counted (one_pin_not m net w x node at) in
@@ -163,7 +163,7 @@ module _ (m : Model) (net : Net) (w : IsWritable m net) (a values : ℕ → Bool
           let on : copy.node ≡ n = some_told copy.node n (sym copy.at.1.0 ∙ (w.fit.points.same copy.at.0 k x (copy.at.1.1 ∙ ap Some name) f ∙ e)) in
           let kept : v c.output ≡ value_of c (map v c.inputs) = all_at (λ (d : Cover). v d.output ≡ value_of d (map v d.inputs)) (model_of_net m net).covers c consistent (in_right (gates m net w) (copies m net w) c i) in
           let said : v copy.name ≡ value_of (copy_cover m net copy.node copy.name) (map v (copy_cover m net copy.node copy.name).inputs) =
-              ap v (sym (copy_out m net copy.node copy.name)) ∙ subst (λ (d : Cover). v d.output ≡ value_of d (map v d.inputs)) copy.is kept in
+          ap v (sym (copy_out m net copy.node copy.name)) ∙ subst (λ (d : Cover). v d.output ≡ value_of d (map v d.inputs)) copy.is kept in
           let live : node_at net copy.node ≢ None = w.formed.observed_live copy.node (copy.at.0, copy.at.1.0) in
           ap v (sym name) ∙ (copy_value copy.node copy.name (nat_eq copy.node 0) (nat_eq copy.node 1) refl refl live said ∙ ap values on)
 

@@ -3,11 +3,10 @@ ghost use Rattle.std.specs.Prelude.{◌≡◌, ◌≤◌, IfOk, length, None};
 
 use rm_base::{OutsideFault, Shelf, Sink};
 use std::alloc::Global;
-use std::fs;
 use std::fs::OpenOptions;
-use std::io;
 use std::io::{Read, Seek, SeekFrom, Write};
 use std::rt::Files;
+use std::{fs, io};
 
 #[derive(Drop)]
 pub struct FileShelf<'a, R: Files> {
@@ -55,9 +54,15 @@ fn add<R: Files>(rt: &R, name: &str, bytes: &[u8]) -> io::Result<()> {
 
 impl<'a, R: Files> Shelf for FileShelf<'a, R> {
     ghost files = { λ _. None };
+
     ghost faults = { λ s. s.faults };
 
-    fn read(&mut self, name: &str, from: u64, most: usize) -> Result<Option<Vec<u8>>, OutsideFault> {
+    fn read(
+        &mut self,
+        name: &str,
+        from: u64,
+        most: usize,
+    ) -> Result<Option<Vec<u8>>, OutsideFault> {
         match piece(self.rt, self.alloc, name, from, most) {
             Ok(bytes) => Ok(Some(bytes)),
             Err(_) => {
@@ -102,6 +107,7 @@ impl<'a, R: Print> StdoutSink<'a, R> {
 
 impl<'a, R: Print> Sink for StdoutSink<'a, R> {
     ghost written = { λ _. None };
+
     ghost faults = { λ s. s.faults };
 
     fn put(&mut self, bytes: &[u8]) -> Result<(), OutsideFault> {

@@ -8,10 +8,9 @@ mod tests;
 use edge::{FileShelf, StdoutSink};
 use rambo_cli::run;
 use rm_base::OpenGate;
-use std::env;
-use std::io;
 use std::io::ErrorKind;
 use std::process::ExitCode;
+use std::{env, io};
 
 // The words behind the program's name. Where one isn't text there are none, which are refused.
 fn words(rt: &HostRuntime) -> io::Result<Vec<String>> {
@@ -36,11 +35,5 @@ fn main(rt: HostRuntime) -> io::Result<ExitCode> {
     let words = words(&rt)?;
     let mut shelf = FileShelf::new(&rt, alloc);
     let mut sink = StdoutSink::new(&rt);
-    Ok(ExitCode::from(run(
-        alloc,
-        words.as_slice(),
-        &mut shelf,
-        &mut sink,
-        &OpenGate,
-    )))
+    Ok(ExitCode::from(run(alloc, words.as_slice(), &mut shelf, &mut sink, &OpenGate)))
 }

@@ -7,8 +7,8 @@ ghost use Rattle.rambo_cli.specs.Problems.{IsReported, IsPutWith};
 use crate::lines::line;
 use crate::problem::Problem;
 use crate::work::work;
-use rm_base::outside::{OutsideFault, Shelf, Sink};
 use rm_base::Gate;
+use rm_base::outside::{OutsideFault, Shelf, Sink};
 use std::alloc::Global;
 
 /// Does all that the program does, and answers its status.
@@ -29,7 +29,7 @@ pub fn run<S: Shelf, O: Sink, G: Gate>(
 
     // 1: the input has a fault, whose kind and place are put, and no file has changed.
     ensures unread { result ≡ 1 → EndsUnread (map string_bytes words.now) (S.files shelf.old)
-      (O.written out.old) (O.written out.new) }
+        (O.written out.old) (O.written out.new) }
     ensures unread_files { result ≡ 1 → S.files shelf.new ≡ S.files shelf.old }
 
     // 2: the words ask for nothing, and no file has changed.
@@ -38,16 +38,16 @@ pub fn run<S: Shelf, O: Sink, G: Gate>(
 
     // 3: a count of faults rose, or the input is missing.
     ensures faulty { result ≡ 3 → EndsFaulty (map string_bytes words.now) (S.files shelf.old)
-      (S.faults shelf.old) (S.faults shelf.new) (O.faults out.old) (O.faults out.new) }
+        (S.faults shelf.old) (S.faults shelf.new) (O.faults out.old) (O.faults out.new) }
     ensures faulty_line { result ≡ 3 → PutsUnlessFailed (O.written out.old) (O.written out.new)
-      (O.faults out.old) (O.faults out.new) }
+        (O.faults out.old) (O.faults out.new) }
 
     // 4: want of memory.
     ensures memory { result ≡ 4 → EndsWithoutMemory (O.written out.old) (O.written out.new) }
 
     // 5: something of the input is over its limit, which is put, and no file has changed.
     ensures over { result ≡ 5 → EndsOver (map string_bytes words.now) (S.files shelf.old)
-      (O.written out.old) (O.written out.new) }
+        (O.written out.old) (O.written out.new) }
     ensures over_files { result ≡ 5 → S.files shelf.new ≡ S.files shelf.old }
 
     // Whatever the status is.

@@ -4,8 +4,8 @@ ghost use Rattle.rambo_cli.specs.Problems.{outside_problem, read_problem, status
 ghost use Rattle.rambo_cli.specs.declared.problem.Problem.TheVariants.{Memory};
 
 use blif_format::{FaultKind, Quantity, ReadRefusal};
-use rm_base::{NoMemory, Place};
 use rm_base::outside::OutsideFault;
+use rm_base::{NoMemory, Place};
 
 #[derive(Clone, Copy, Debug, PartialEq, Eq)]
 pub enum Problem {

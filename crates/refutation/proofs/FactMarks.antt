@@ -118,7 +118,6 @@ none_marked (Faulty true) = refl
 none_marked Equal = refl
 none_marked Differs = refl
 
-
 abbrev pub none : NodeFacts
 none = record { good_is_0 = false; good_is_1 = false; faulty_is_0 = false; faulty_is_1 = false; equal = false; differs = false }
 

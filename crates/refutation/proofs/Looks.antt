@@ -47,7 +47,7 @@ pub record LooksTo (any : Bool) (rest at q : ℕ) (c : Bool) (os : List (Option 
   pub few : rest ≤ q
 
 pub looks_first : (c : Bool) (os : List (Option Bool)) → LooksTo false 0 0 0 c os
-looks_first c os = record { any_is = refl; rest_is = omega arith; at_is = λ h. absurd (omega arith); few = omega arith; }
+looks_first c os = record { any_is = refl; rest_is = omega arith; at_is = λ h. absurd (omega arith); few = omega arith }
 
 or_assoc : (a b c : Bool) → ((a || b) || c) ≡ (a || (b || c))
 or_assoc true b c = refl
@@ -189,4 +189,3 @@ never_other true true e = refl
 never_other true false e = cc
 never_other false true e = cc
 never_other false false e = refl
-

@@ -112,4 +112,3 @@ both_some net one other held y r e =
     let third : (b : Bool) × ((known_on other held y ≡ Some b) × (Some r ≡ Some (second.0, b))) = bind_some (known_on other held y) _ r second.1.1 in
     let same : r ≡ (second.0, third.0) = some_is third.1.1 in
     ((first.0, kind_is net y first.0 (sym first.1.0)), (second.1.0 ∙ ap (λ s. Some s.0) (sym same), third.1.0 ∙ ap (λ s. Some s.1) (sym same)))
-

@@ -163,7 +163,6 @@ pub(crate) fn opposite(known: Option<bool>) -> Option<bool>
     }
 }
 
-
 /// Whether the pin is the stuck one.
 pub fn is_stuck(fault: &Fault, node: NodeId, position: u32) -> bool
     ensures { IsTrue result ↔ IsStuckPin fault.now node.0 position }

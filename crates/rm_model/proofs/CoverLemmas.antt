@@ -108,6 +108,6 @@ drives-own (d ∷ cs) zero c once e = let is : c ≡ d = cc in rw (is, is_word-s
 drives-own (d ∷ cs) (suc k) c once e =
     let parts = both (not (is_among (outputs_of cs) d.output)) (is_distinct (outputs_of cs)) once in
     let other : is_word c.output d.output ≡ false = not_true (is_word c.output d.output) (λ same.
-        let there : is_among (outputs_of cs) c.output ≡ true = among-at (outputs_of cs) k c.output (output-at cs k c e) in
-        never (is_among (outputs_of cs) d.output) parts.0 (subst (λ (x : Word). is_among (outputs_of cs) x ≡ true) (same_word c.output d.output same) there)) in
+    let there : is_among (outputs_of cs) c.output ≡ true = among-at (outputs_of cs) k c.output (output-at cs k c e) in
+    never (is_among (outputs_of cs) d.output) parts.0 (subst (λ (x : Word). is_among (outputs_of cs) x ≡ true) (same_word c.output d.output same) there)) in
     rw (other, drives-own cs k c parts.1 e) refl

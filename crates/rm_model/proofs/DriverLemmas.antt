@@ -21,8 +21,8 @@ new-output (d ∷ cs) zero c once e = refl
 new-output (d ∷ cs) (suc i) c once e =
     let parts = both (not (is_among (outputs_of cs) d.output)) (is_distinct (outputs_of cs)) once in
     let other : is_word c.output d.output ≡ false = not_true (is_word c.output d.output) (λ same.
-        let there : is_among (outputs_of cs) c.output ≡ true = among-at (outputs_of cs) i c.output (output-at cs i c e) in
-        never (is_among (outputs_of cs) d.output) parts.0 (subst (λ (x : Word). is_among (outputs_of cs) x ≡ true) (same_word c.output d.output same) there)) in
+    let there : is_among (outputs_of cs) c.output ≡ true = among-at (outputs_of cs) i c.output (output-at cs i c e) in
+    never (is_among (outputs_of cs) d.output) parts.0 (subst (λ (x : Word). is_among (outputs_of cs) x ≡ true) (same_word c.output d.output same) there)) in
     rw (other, new-output cs i c parts.1 e) refl
 
 filter_map-same : {A B : Type 0} (f g : A → Option B) → ((x : A) → f x ≡ g x) → (xs : List A) → filter_map f xs ≡ filter_map g xs

@@ -26,7 +26,7 @@ module _ (m : Model) (formed : IsWellFormed m) where
       let middle = (list_all-append test (m.outputs ++ flat_map (λ (c : Cover). c.inputs) m.covers) (map (λ (l : Latch). l.input) m.latches) front).0 in
       let covers = (list_all-append test m.outputs (flat_map (λ (c : Cover). c.inputs) m.covers) middle).1 in
       all_from (λ (c : Cover). All (λ x. is_among (driven_names m) x ≡ true) c.inputs) m.covers (λ k c there.
-        all_from (λ (x : Word). is_among (driven_names m) x ≡ true) c.inputs (λ p x at. list_all-at test c.inputs p x (list_all-inputs test m.covers k c covers there) at))
+      all_from (λ (x : Word). is_among (driven_names m) x ≡ true) c.inputs (λ p x at. list_all-at test c.inputs p x (list_all-inputs test m.covers k c covers there) at))
 
   pub cover-inputs-driven : (names : List Word) (covers : List Cover) → names ≡ source_names m → covers ≡ m.covers → All (λ (c : Cover). All (λ x. is_among (names ++ outputs_of covers) x ≡ true) c.inputs) covers
   cover-inputs-driven names covers e f =

@@ -136,7 +136,9 @@ module _ (drivers : List (List ℕ)) (s : State) (sound : IsSound drivers s) (k 
   with_rank-kept : (place j : ℕ) → place ≤ length s.order → IsSettled drivers place s j → IsSettled drivers place after j
   with_rank-kept place j le (inl h) = inl (h.0, more j h.0 h.1)
   with_rank-kept place j le (inr w) = inr (record {
-    driver = w.driver; reads = w.reads; waits = w.waits;
+    driver = w.driver;
+    reads = w.reads;
+    waits = w.waits;
     open_yet = elim w.open_yet [
       | inl none ↦ elim (same_or_not w.driver k) [
         | inl is ↦ inr (length s.order, (le, get-last s.order k ∙ ap Some (sym is)))
@@ -211,7 +213,8 @@ module _ (drivers : List (List ℕ)) (s : State) (sound : IsSound drivers s) (k 
 
   pub waiting_for-settled : (place : ℕ) → IsSettled drivers place (waiting_for s k l d) k
   waiting_for-settled place = inr (record {
-    driver = d; reads = (l.count, reads);
+    driver = d;
+    reads = (l.count, reads);
     waits = subst (λ (ls : List ℕ). IsIn ls k) (sym (waits-here d refl)) (length (list_at s.waiting d), get-last (list_at s.waiting d) k);
     open_yet = inl unknown;
   })
@@ -254,16 +257,17 @@ module _ (drivers : List (List ℕ)) (s : State) (sound : IsSound drivers s) (pl
   woken-settled j (inr w) = elim (same_or_not w.driver d) [
     | inl is ↦ inr (subst (λ (i : ℕ). IsIn (list_at s.waiting i) j) is w.waits)
     | inr ne ↦ inl (inr (record {
-        driver = w.driver; reads = w.reads;
-        waits = subst (λ (ls : List ℕ). IsIn ls j) (sym (woken-elsewhere w.driver ne)) w.waits;
-        open_yet = elim w.open_yet [
-          | inl none ↦ inl none
-          | inr o ↦ elim (same_or_not o.0 place) [
-            | inl same ↦ absurd (ne (let there : slice_get s.order place ≡ Some w.driver = subst (λ (i : ℕ). slice_get s.order i ≡ Some w.driver) same o.1.1 in cc))
-            | inr other ↦ inr (o.0, (omega (arith, o.1.0, other), o.1.1))
-          ]
-        ];
-      }))
+      driver = w.driver;
+      reads = w.reads;
+      waits = subst (λ (ls : List ℕ). IsIn ls j) (sym (woken-elsewhere w.driver ne)) w.waits;
+      open_yet = elim w.open_yet [
+        | inl none ↦ inl none
+        | inr o ↦ elim (same_or_not o.0 place) [
+          | inl same ↦ absurd (ne (let there : slice_get s.order place ≡ Some w.driver = subst (λ (i : ℕ). slice_get s.order i ≡ Some w.driver) same o.1.1 in cc))
+          | inr other ↦ inr (o.0, (omega (arith, o.1.0, other), o.1.1))
+        ]
+      ];
+    }))
   ]
 
 pub leads-on : (drivers : List (List ℕ)) (s t u : State) → LeadsTo drivers s t → LeadsTo drivers t u → LeadsTo drivers s u

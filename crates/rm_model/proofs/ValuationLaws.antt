@@ -117,8 +117,8 @@ assigned-values (x ∷ xs) [] once e = absurd (omega (arith, e))
 assigned-values (x ∷ xs) (b ∷ bs) once e =
     let parts = both (not (is_among xs x)) (is_distinct xs) once in
     let rest : map (assigned (x ∷ xs) (b ∷ bs)) xs ≡ map (assigned xs bs) xs = map-same-in (assigned (x ∷ xs) (b ∷ bs)) (assigned xs bs) xs (λ p y at.
-        let other : is_word y x ≡ false = not_true (is_word y x) (λ same. never (is_among xs x) parts.0 (subst (λ (w : Word). is_among xs w ≡ true) (same_word y x same) (among-at xs p y at))) in
-        rw other refl) in
+    let other : is_word y x ≡ false = not_true (is_word y x) (λ same. never (is_among xs x) parts.0 (subst (λ (w : Word). is_among xs w ≡ true) (same_word y x same) (among-at xs p y at))) in
+    rw other refl) in
     let here : assigned (x ∷ xs) (b ∷ bs) x ≡ b = rw (is_word-same x) refl in
     rw (here, rest, assigned-values xs bs parts.1 (omega (arith, e))) refl
 

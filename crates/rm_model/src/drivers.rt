@@ -33,12 +33,14 @@ fn cover_drivers(alloc: Global, table: &NameTable, cover: &Cover) -> Result<Vec<
     Ok(drivers)
 }
 
-fn all_drivers(alloc: Global, table: &NameTable, covers: &[Cover]) -> Result<Vec<Vec<u32>>, NoMemory>
+fn all_drivers(
+    alloc: Global,
+    table: &NameTable,
+    covers: &[Cover],
+) -> Result<Vec<Vec<u32>>, NoMemory>
     requires { length table.now < 2 ^ 32 }
-    ensures {
-        IfOk result (λ ds. map (λ d. d.items) ds.items
-            ≡ map (λ c. filter_map (place_of table.now) c.inputs) covers.now)
-    }
+    ensures { IfOk result (λ ds. map (λ d. d.items) ds.items
+        ≡ map (λ c. filter_map (place_of table.now) c.inputs) covers.now) }
 {
     let mut all = Vec::new(alloc);
     for cover in covers {

@@ -11,7 +11,7 @@ ghost use Rattle.rm_model.specs.Words.{Word};
 use crate::name_table::NameTable;
 use crate::parts::{Cover, Model, Name};
 use crate::points::{observed, sources};
-use crate::ranking::{first_missing, search_covers, RankFault};
+use crate::ranking::{RankFault, first_missing, search_covers};
 use crate::value::cover_value;
 use rm_base::{NoMemory, SourceNo, Vector};
 use std::alloc::Global;
@@ -59,10 +59,8 @@ impl<'a> Known<'a> {
         requires known { All (λ x. is_among self.now.names x ≡ true) names.now }
         requires paired { length self.now.names ≡ length self.now.values.items }
         ensures length { IfOk result (λ values. length values.items ≡ length names.now) }
-        ensures values {
-            IfOk result (λ values. (v : Word → Bool) → map v self.now.names ≡ self.now.values.items
-                → values.items ≡ map v names.now)
-        }
+        ensures values { IfOk result (λ values. (v : Word → Bool) → map v self.now.names ≡ self.now.values.items
+            → values.items ≡ map v names.now) }
     {
         let mut values = Vec::new(alloc);
         for name in names {
@@ -72,7 +70,11 @@ impl<'a> Known<'a> {
     }
 }
 
-fn known_sources<'a>(alloc: Global, names: &'a [Name], values: &[bool]) -> Result<Known<'a>, NoMemory>
+fn known_sources<'a>(
+    alloc: Global,
+    names: &'a [Name],
+    values: &[bool],
+) -> Result<Known<'a>, NoMemory>
     requires once { is_distinct names.now ≡ true }
     requires paired { length names.now ≡ length values.now }
     ensures names { IfOk result (λ known. known.names ≡ names.now) }
@@ -91,10 +93,8 @@ fn add_cover<'a>(alloc: Global, known: &mut Known<'a>, cover: &'a Cover) -> Resu
     requires rows { All (λ r. length r ≡ length cover.now.inputs) cover.now.rows }
     requires paired { length known.old.names ≡ length known.old.values.items }
     ensures names { OnOk result (known.new.names ≡ known.old.names ++ cover.now.output ∷ []) }
-    ensures values {
-        OnOk result ((v : Word → Bool) → v cover.now.output ≡ value_of cover.now (map v cover.now.inputs)
-            → map v known.old.names ≡ known.old.values.items → map v known.new.names ≡ known.new.values.items)
-    }
+    ensures values { OnOk result ((v : Word → Bool) → v cover.now.output ≡ value_of cover.now (map v cover.now.inputs)
+        → map v known.old.names ≡ known.old.values.items → map v known.new.names ≡ known.new.values.items) }
     ensures paired { OnOk result (length known.new.names ≡ length known.new.values.items) }
 {
     let values = known.values_of(alloc, cover.inputs.items())?;
@@ -110,18 +110,12 @@ fn add_covers<'a>(
 ) -> Result<(), NoMemory>
     requires order { IsOrder (map (drivers_of covers.now) covers.now) order.now }
     requires once { is_distinct (known.old.names ++ map (λ c. c.output) covers.now) ≡ true }
-    requires driven {
-        All (λ c. All (λ x. is_among (known.old.names ++ map (λ c. c.output) covers.now) x ≡ true) c.inputs) covers.now
-    }
+    requires driven { All (λ c. All (λ x. is_among (known.old.names ++ map (λ c. c.output) covers.now) x ≡ true) c.inputs) covers.now }
     requires rows { All IsWellFormedCover covers.now }
     requires paired { length known.old.names ≡ length known.old.values.items }
-    ensures names {
-        OnOk result (known.new.names ≡ known.old.names ++ map (list_at (map (λ c. c.output) covers.now)) order.now)
-    }
-    ensures values {
-        OnOk result ((v : Word → Bool) → All (λ c. v c.output ≡ value_of c (map v c.inputs)) covers.now
-            → map v known.old.names ≡ known.old.values.items → map v known.new.names ≡ known.new.values.items)
-    }
+    ensures names { OnOk result (known.new.names ≡ known.old.names ++ map (list_at (map (λ c. c.output) covers.now)) order.now) }
+    ensures values { OnOk result ((v : Word → Bool) → All (λ c. v c.output ≡ value_of c (map v c.inputs)) covers.now
+        → map v known.old.names ≡ known.old.values.items → map v known.new.names ≡ known.new.values.items) }
     ensures paired { OnOk result (length known.new.names ≡ length known.new.values.items) }
 {
     for place in order {
@@ -152,10 +146,8 @@ fn values_in_order(
     requires all { (k : ℕ) → k < length model.now.covers → IsIn order.now k }
     requires sources { length vector.now ≡ length (source_names model.now) }
     requires observed { length (observed_names model.now) < 2 ^ 32 }
-    ensures {
-        IfOk result (λ values. (v : Word → Bool) → IsConsistent model.now v
-            → map v (source_names model.now) ≡ vector.now → values ≡ map v (observed_names model.now))
-    }
+    ensures { IfOk result (λ values. (v : Word → Bool) → IsConsistent model.now v
+        → map v (source_names model.now) ≡ vector.now → values ≡ map v (observed_names model.now)) }
 {
     let names = sources(alloc, model)?;
     let points = observed(alloc, model)?;
@@ -173,14 +165,10 @@ pub fn evaluate(alloc: Global, model: &Model, vector: &Vector) -> Result<Vector,
     requires few_sources { length (source_names model.now) < 2 ^ 32 }
     requires few_observed { length (observed_names model.now) < 2 ^ 32 }
     requires sources { length vector.now ≡ length (source_names model.now) }
-    ensures values {
-        IfOk result (λ values. (v : Word → Bool) → IsConsistent model.now v
-            → map v (source_names model.now) ≡ vector.now → values ≡ map v (observed_names model.now))
-    }
-    ensures valued {
-        IfOk result (λ values. (v : Word → Bool) × (IsConsistent model.now v
-            × ((map v (source_names model.now) ≡ vector.now) × (values ≡ map v (observed_names model.now)))))
-    }
+    ensures values { IfOk result (λ values. (v : Word → Bool) → IsConsistent model.now v
+        → map v (source_names model.now) ≡ vector.now → values ≡ map v (observed_names model.now)) }
+    ensures valued { IfOk result (λ values. (v : Word → Bool) × (IsConsistent model.now v
+        × ((map v (source_names model.now) ≡ vector.now) × (values ≡ map v (observed_names model.now))))) }
     ensures ranked { OnOk result (first_without_rank model.now ≡ None) }
     ensures refused { IfErr result (λ fault. IsRefused (first_without_rank model.now) fault) }
 {

@@ -6,7 +6,9 @@ ghost use Rattle.rm_model.specs.WellFormed.{driven_names, ends_in_backslash as h
 
 use crate::name_table::NameTable;
 use crate::parts::{Cover, Latch, Model, Name};
-use crate::points::{control, copy_name, push_controls, push_latch_inputs, push_names, sources, table_of};
+use crate::points::{
+    control, copy_name, push_controls, push_latch_inputs, push_names, sources, table_of,
+};
 use rm_base::NoMemory;
 use std::alloc::Global;
 

@@ -10,8 +10,8 @@ mod list;
 mod name_table;
 mod parts;
 mod points;
-mod ranking;
 mod rank_search;
+mod ranking;
 mod value;
 
 pub use evaluation::evaluate;
@@ -19,8 +19,8 @@ pub use form::is_well_formed;
 pub use laws::{one_valuation, ranks_exist, ranks_follow, tokens_are};
 pub use list::Listed;
 pub use parts::{Cover, Latch, LatchKind, Literal, Model, Name, Row, Timing};
-pub use ranking::{rank, RankFault};
 pub use points::{observed, sources};
+pub use ranking::{RankFault, rank};
 pub use value::cover_value;
 
 #[cfg(test)]

@@ -74,7 +74,11 @@ fn push_latch_outputs(alloc: Global, out: &mut Vec<Name>, latches: &[Latch]) -> 
     Ok(())
 }
 
-pub fn push_latch_inputs(alloc: Global, out: &mut Vec<Name>, latches: &[Latch]) -> Result<(), NoMemory>
+pub fn push_latch_inputs(
+    alloc: Global,
+    out: &mut Vec<Name>,
+    latches: &[Latch],
+) -> Result<(), NoMemory>
     ensures { OnOk result (out.new.items ≡ out.old.items ++ map (λ l. l.input) latches.now) }
 {
     for latch in latches {

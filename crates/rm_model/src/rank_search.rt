@@ -32,9 +32,7 @@ fn look_on(drivers: &[u32], ranks: &[Option<u32>], from: Looked) -> Looked
     requires known { All (λ k. k < length ranks.now) drivers.now }
     ensures within { result.count ≤ length drivers.now }
     ensures least { rank_over ranks.now (take result.count drivers.now) ≡ Some result.least }
-    ensures stopped {
-        result.count < length drivers.now → rank_at ranks.now (slice_index drivers.now result.count) ≡ None
-    }
+    ensures stopped { result.count < length drivers.now → rank_at ranks.now (slice_index drivers.now result.count) ≡ None }
 {
     let mut looked = from;
     while looked.count < drivers.len() {
@@ -54,11 +52,9 @@ fn look_on(drivers: &[u32], ranks: &[Option<u32>], from: Looked) -> Looked
 
 fn add_waiting(waiting: &mut Vec<Vec<u32>>, driver: usize, cover: u32) -> Result<(), NoMemory>
     requires { driver < length waiting.old.items }
-    ensures {
-        OnOk result (map (λ w. w.items) waiting.new.items
-            ≡ slice_set (map (λ w. w.items) waiting.old.items) driver
-                (list_at (map (λ w. w.items) waiting.old.items) driver ++ cover ∷ []))
-    }
+    ensures { OnOk result (map (λ w. w.items) waiting.new.items
+        ≡ slice_set (map (λ w. w.items) waiting.old.items) driver
+        (list_at (map (λ w. w.items) waiting.old.items) driver ++ cover ∷ [])) }
 {
     let list = &mut waiting[driver];
     list.push(cover)?;
@@ -108,10 +104,8 @@ impl Search {
         requires small { (k n : ℕ) → rank_at self.now.ranks.items k ≡ Some n → n < length self.now.ranks.items }
         requires known { All (λ k. k < length self.now.ranks.items) drivers.now }
         ensures looked { AllowsRank self.now.ranks.items drivers.now result }
-        ensures stopped {
-            result.count < length drivers.now
-                → rank_at self.now.ranks.items (slice_index drivers.now result.count) ≡ None
-        }
+        ensures stopped { result.count < length drivers.now
+            → rank_at self.now.ranks.items (slice_index drivers.now result.count) ≡ None }
     {
         look_on(drivers, self.ranks.as_slice(), self.looked[cover])
     }
@@ -150,9 +144,7 @@ impl Search {
         requires cover { cover < length drivers.now }
         requires unknown { rank_at self.old.ranks.items cover ≡ None }
         ensures leads { OnOk result (LeadsTo (map (λ d. d.items) drivers.now) (state_of self.old) (state_of self.new)) }
-        ensures settled {
-            OnOk result ((place : ℕ) → IsSettled (map (λ d. d.items) drivers.now) place (state_of self.new) cover)
-        }
+        ensures settled { OnOk result ((place : ℕ) → IsSettled (map (λ d. d.items) drivers.now) place (state_of self.new) cover) }
     {
         let list = list_of(drivers, cover as usize);
         let looked = self.look_further(list, cover as usize);
@@ -170,9 +162,7 @@ impl Search {
         requires room { length drivers.now < 2 ^ 32 }
         requires cover { cover < length drivers.now }
         ensures leads { OnOk result (LeadsTo (map (λ d. d.items) drivers.now) (state_of self.old) (state_of self.new)) }
-        ensures settled {
-            OnOk result ((place : ℕ) → IsSettled (map (λ d. d.items) drivers.now) place (state_of self.new) cover)
-        }
+        ensures settled { OnOk result ((place : ℕ) → IsSettled (map (λ d. d.items) drivers.now) place (state_of self.new) cover) }
     {
         if self.has_rank(cover as usize) {
             return Ok(());
@@ -186,10 +176,8 @@ impl Search {
         requires room { length drivers.now < 2 ^ 32 }
         requires covers { All (λ k. k < length drivers.now) covers.now }
         ensures leads { OnOk result (LeadsTo (map (λ d. d.items) drivers.now) (state_of self.old) (state_of self.new)) }
-        ensures settled {
-            OnOk result ((place p k : ℕ) → place ≤ length self.old.order.items → slice_get covers.now p ≡ Some k
-                → IsSettled (map (λ d. d.items) drivers.now) place (state_of self.new) k)
-        }
+        ensures settled { OnOk result ((place p k : ℕ) → place ≤ length self.old.order.items → slice_get covers.now p ≡ Some k
+            → IsSettled (map (λ d. d.items) drivers.now) place (state_of self.new) k) }
     {
         for cover in covers {
             self.look_at(drivers, *cover)?;
@@ -204,10 +192,8 @@ impl Search {
         requires room { length drivers.now < 2 ^ 32 }
         requires place { place < length self.old.order.items }
         ensures sound { OnOk result (IsSound (map (λ d. d.items) drivers.now) (state_of self.new)) }
-        ensures settled {
-            OnOk result ((k : ℕ) → IsSettled (map (λ d. d.items) drivers.now) place (state_of self.old) k
-                → IsSettled (map (λ d. d.items) drivers.now) (place + 1) (state_of self.new) k)
-        }
+        ensures settled { OnOk result ((k : ℕ) → IsSettled (map (λ d. d.items) drivers.now) place (state_of self.old) k
+            → IsSettled (map (λ d. d.items) drivers.now) (place + 1) (state_of self.new) k) }
     {
         let cover = self.order[place] as usize;
         let waiting = take_waiting(alloc, &mut self.waiting, cover);
@@ -219,10 +205,8 @@ impl Search {
         requires known { AreKnown (map (λ d. d.items) drivers.now) }
         requires room { length drivers.now < 2 ^ 32 }
         ensures sound { OnOk result (IsSound (map (λ d. d.items) drivers.now) (state_of self.new)) }
-        ensures settled {
-            OnOk result ((k : ℕ) → k < length drivers.now
-                → IsSettled (map (λ d. d.items) drivers.now) 0 (state_of self.new) k)
-        }
+        ensures settled { OnOk result ((k : ℕ) → k < length drivers.now
+            → IsSettled (map (λ d. d.items) drivers.now) 0 (state_of self.new) k) }
     {
         for cover in 0..drivers.len() {
             self.look_at(drivers, cover as u32)?;
@@ -234,14 +218,10 @@ impl Search {
         requires sound { IsSound (map (λ d. d.items) drivers.now) (state_of self.old) }
         requires known { AreKnown (map (λ d. d.items) drivers.now) }
         requires room { length drivers.now < 2 ^ 32 }
-        requires settled {
-            (k : ℕ) → k < length drivers.now → IsSettled (map (λ d. d.items) drivers.now) 0 (state_of self.old) k
-        }
+        requires settled { (k : ℕ) → k < length drivers.now → IsSettled (map (λ d. d.items) drivers.now) 0 (state_of self.old) k }
         ensures sound { OnOk result (IsSound (map (λ d. d.items) drivers.now) (state_of self.new)) }
-        ensures settled {
-            OnOk result ((k : ℕ) → k < length drivers.now
-                → IsSettled (map (λ d. d.items) drivers.now) (length self.new.order.items) (state_of self.new) k)
-        }
+        ensures settled { OnOk result ((k : ℕ) → k < length drivers.now
+            → IsSettled (map (λ d. d.items) drivers.now) (length self.new.order.items) (state_of self.new) k) }
     {
         let mut place = 0;
         while place < self.order.len() {

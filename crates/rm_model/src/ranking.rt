@@ -10,7 +10,7 @@ ghost use Rattle.rm_model.specs.WellFormed.{is_distinct, IsWellFormed};
 
 use crate::drivers::drivers;
 use crate::parts::{Cover, Model};
-use crate::rank_search::{find_ranks, Search};
+use crate::rank_search::{Search, find_ranks};
 use rm_base::NoMemory;
 use std::alloc::{AllocError, AllocFailed, Global};
 

@@ -4,7 +4,7 @@ use crate::form::is_well_formed;
 use crate::list::Listed;
 use crate::parts::{Cover, Latch, LatchKind, Literal, Model, Name, Row, Timing};
 use crate::points::{observed, sources};
-use crate::ranking::{rank, RankFault};
+use crate::ranking::{RankFault, rank};
 use rm_base::{NoMemory, SourceNo, Vector};
 use std::alloc::Global;
 use std::process::Abort;
@@ -72,13 +72,7 @@ fn model(
 
 fn four_gates(alloc: Global) -> Result<Model, NoMemory> {
     let mut covers = Listed::new(alloc);
-    covers.push(cover(
-        alloc,
-        &["a", "b", "c"],
-        "o",
-        &["11-", "1-1"],
-        true,
-    )?)?;
+    covers.push(cover(alloc, &["a", "b", "c"], "o", &["11-", "1-1"], true)?)?;
     covers.push(cover(alloc, &["o", "d"], "k", &["11"], true)?)?;
     model(alloc, &["a", "b", "c", "d"], &["k"], covers)
 }

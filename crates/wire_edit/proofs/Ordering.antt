@@ -31,7 +31,7 @@ none_from at from (suc count) h =
 
 pub from_none : (at : ℕ → Option Step) (from count : ℕ) → first_from at from count ≡ None → (k : ℕ) → from ≤ k → k < from + count → at k ≡ None
 from_none at from zero e k le lt = absurd (omega (arith, le, lt))
-from_none at from (suc count) e k le lt = 
+from_none at from (suc count) e k le lt =
     let both : (at from ≡ None) × (first_from at (suc from) count ≡ None) = or_none (at from) (first_from at (suc from) count) e in
     elim (order from k le) [
       | inl is ↦ rw (sym is) both.0
@@ -46,11 +46,22 @@ from_some at from zero step e = cc
 from_some at from (suc count) step e = elim (or_some (at from) (first_from at (suc from) count) step e) [
   | inl here ↦ (from, (omega arith, (omega arith, (here, λ j le lt. absurd (omega (arith, le, lt))))))
   | inr later ↦
-      let rest : (k : ℕ) × ((suc from ≤ k) × ((k < suc from + count) × ((at k ≡ Some step) × ((j : ℕ) → suc from ≤ j → j < k → at j ≡ None)))) = from_some at (suc from) count step later.1 in
-      (rest.0, (omega (arith, rest.1.0), (omega (arith, rest.1.1.0), (rest.1.1.1.0, λ j le lt. elim (cases_eq from j) [
-        | inl is ↦ rw (sym is) later.0
-        | inr ne ↦ rest.1.1.1.1 j (omega (arith, le, ne)) lt
-      ]))))
+      let rest : (k : ℕ) × ((suc from ≤ k) × ((k < suc from + count) × ((at k ≡ Some step) × ((j : ℕ) → suc from ≤ j → j < k → at j ≡ None)))) = from_some at (suc from) count step later.1 in (
+        rest.0,
+        (
+          omega (arith, rest.1.0),
+          (
+            omega (arith, rest.1.1.0),
+            (
+              rest.1.1.1.0,
+              λ j le lt. elim (cases_eq from j) [
+                | inl is ↦ rw (sym is) later.0
+                | inr ne ↦ rest.1.1.1.1 j (omega (arith, le, ne)) lt
+              ],
+            ),
+          ),
+        ),
+      )
 ]
 
 pub met_some : (net : Net) (rule step : Step) → where_met net rule ≡ Some step → (rule_applies net rule ≡ true) × (rule ≡ step)

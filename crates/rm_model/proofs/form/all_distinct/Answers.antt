@@ -11,7 +11,7 @@ returns-then-has c = sym (repeated c.args.names.now c.loop-name.name-index c.nam
 
 pub loop-name-preserved : goal.loop-name-preserved
 loop-name-preserved c = (
-    c.in_ok-add.ensures.ok ∙ (ap (λ (l : List Word). l ++ c.items-in-loop-name.result.now ∷ []) c.loop-name.invariant.0 ∙ (ap (λ (x : Word). take c.loop-name.name-index c.args.names.now ++ x ∷ []) c.items-in-loop-name.ensures ∙ sym (take-next c.args.names.now c.loop-name.name-index c.name-item.result c.loop-name-test.true c.name-item.is))),
-    distinct-more c.args.names.now c.loop-name.name-index c.name-item.result c.loop-name-test.true c.name-item.is c.loop-name.invariant.1
-    (ap (λ (l : List Word). is_among l c.name-item.result) (sym c.loop-name.invariant.0) ∙ (ap (λ (x : Word). is_among c.loop-name.seen x) (sym c.items.ensures) ∙ (sym c.has.ensures ∙ c.if-has.false)))
-  )
+  c.in_ok-add.ensures.ok ∙ (ap (λ (l : List Word). l ++ c.items-in-loop-name.result.now ∷ []) c.loop-name.invariant.0 ∙ (ap (λ (x : Word). take c.loop-name.name-index c.args.names.now ++ x ∷ []) c.items-in-loop-name.ensures ∙ sym (take-next c.args.names.now c.loop-name.name-index c.name-item.result c.loop-name-test.true c.name-item.is))),
+  distinct-more c.args.names.now c.loop-name.name-index c.name-item.result c.loop-name-test.true c.name-item.is c.loop-name.invariant.1
+      (ap (λ (l : List Word). is_among l c.name-item.result) (sym c.loop-name.invariant.0) ∙ (ap (λ (x : Word). is_among c.loop-name.seen x) (sym c.items.ensures) ∙ (sym c.has.ensures ∙ c.if-has.false))),
+)

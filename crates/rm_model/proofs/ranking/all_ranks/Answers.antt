@@ -1,4 +1,3 @@
-
 use Rattle.rm_model.proofs.RankingLemmas.{first-missing}
 use Rattle.rm_model.proofs.ranking.all_ranks.Goals as goal
 

@@ -20,10 +20,12 @@ invariant_of-result c =
     let i = c.self.inside in
     let v : Circuit = record { kinds = i.kinds.items; pool = i.pool; epoch = i.epoch } in
     let g : IsGraph v = c.self.invariant.0 in
-    let rings = rw (← c.self.view_is) at c.tell.ensures.rings in
-    (rings, λ p h. (
-        let there : has p (list_of i.pool.fanouts c.args.node.0) ≡ true = ap (has p) (sym c.fanouts.ensures.list) ∙ h in
-        (listed i.pool.inputs p (g.wired.shape.read c.args.node.0 p there), listed i.pool.fanouts p (c.args.node.0, there))))
+    let rings = rw (← c.self.view_is) at c.tell.ensures.rings in (
+      rings,
+      λ p h. (
+          let there : has p (list_of i.pool.fanouts c.args.node.0) ≡ true = ap (has p) (sym c.fanouts.ensures.list) ∙ h in
+          (listed i.pool.inputs p (g.wired.shape.read c.args.node.0 p there), listed i.pool.fanouts p (c.args.node.0, there))),
+    )
 
 pub returns : goal.returns
 returns c =

@@ -7,5 +7,5 @@ use Rattle.rm_model.proofs.rank_search.Search.look_at_all.Given as goal
 abbrev pub invariant-loop-cover : goal.invariant-loop-cover
 invariant-loop-cover l = record {
   leads : LeadsTo (map (λ d. d.items) l.drivers) (state_of l.initial.self) (state_of l.self);
-  settled : (place p k : ℕ) → place ≤ length l.initial.self.order.items → p < l.cover-index → slice_get l.covers p ≡ Some k → IsSettled (map (λ d. d.items) l.drivers) place (state_of l.self) k
+  settled : (place p k : ℕ) → place ≤ length l.initial.self.order.items → p < l.cover-index → slice_get l.covers p ≡ Some k → IsSettled (map (λ d. d.items) l.drivers) place (state_of l.self) k;
 }

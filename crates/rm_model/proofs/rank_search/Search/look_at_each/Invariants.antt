@@ -6,5 +6,5 @@ use Rattle.rm_model.proofs.rank_search.Search.look_at_each.Given as goal
 abbrev pub invariant-loop-cover : goal.invariant-loop-cover
 invariant-loop-cover l = record {
   sound : IsSound (map (λ d. d.items) l.drivers) (state_of l.self);
-  settled : (k : ℕ) → k < l.cover → IsSettled (map (λ d. d.items) l.drivers) 0 (state_of l.self) k
+  settled : (k : ℕ) → k < l.cover → IsSettled (map (λ d. d.items) l.drivers) 0 (state_of l.self) k;
 }

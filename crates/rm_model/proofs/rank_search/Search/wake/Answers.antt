@@ -44,6 +44,6 @@ returns-clause-settled c =
     let is : list ≡ c.as_slice.result.now = sym (c.as_slice.ensures.value ∙ c.take_waiting-waiting.ensures.taken) in
     on_ok_weaker c.look_at_all.result
     (λ h. settled-woken drivers s (state_of c.look_at_all.new.self) c.args.place c.index.result.now c.requires.sound at known
-      (subst (λ (w : List (List ℕ)). LeadsTo drivers (record s { waiting = w }) (state_of c.look_at_all.new.self)) c.take_waiting-waiting.ensures.left h.0)
-      (λ place p k le there. h.1 place p k le (subst (λ (l : List ℕ). slice_get l p ≡ Some k) is there)))
+    (subst (λ (w : List (List ℕ)). LeadsTo drivers (record s { waiting = w }) (state_of c.look_at_all.new.self)) c.take_waiting-waiting.ensures.left h.0)
+    (λ place p k le there. h.1 place p k le (subst (λ (l : List ℕ). slice_get l p ≡ Some k) is there)))
     (on_ok_both _ _ c.look_at_all.result c.look_at_all.ensures.leads c.look_at_all.ensures.settled)
