@@ -1,6 +1,6 @@
 -- A text whose lines say a model has no fault but a limit.
 use Rattle.std.proofs.Common.{◌≡◌, ◌+◌, ◌<◌, ◌≤◌, ℕ, Bool, true, false, not, cond, List, [], ◌∷◌, ◌++◌, map, filter, length, refl, ap, sym, subst, ◌∙◌, append_assoc, append-nil, arith}
-use Rattle.std.specs.Prelude.{◌↔◌, All, codes, find, nat_lt, Option, None, Some}
+use Rattle.std.specs.Prelude.{◌↔◌, All, codes, find, is_none, nat_lt, Option, None, Some}
 use Rattle.std.specs.List.{cons_option, filter_map, flat_map, list_any, position_or_len}
 use Rattle.std.proofs.lemmas.List.Elements.{All-map}
 use Rattle.std.proofs.lemmas.Bool.Decides.{nat_tests}
@@ -8,7 +8,7 @@ use Rattle.rm_base.specs.declared.numbers.Place.{Place}
 use Rattle.rm_model.specs.Words.{Word, is_word}
 use Rattle.rm_model.specs.Value.{IsRanked, control_of, is_among, is_cover_output as drives, source_names}
 use Rattle.rm_model.specs.WellFormed.{IsWellFormed, driven_names, is_distinct, used_names}
-use Rattle.rm_model.specs.Ranks.{first_without_rank, is_missing, ranks_of}
+use Rattle.rm_model.specs.Ranks.{first_without_rank, ranks_of}
 use Rattle.rm_model.specs.declared.parts.Cover.{Cover}
 use Rattle.rm_model.specs.declared.parts.Latch.{Latch}
 use Rattle.rm_model.specs.declared.parts.Model.{Model}
@@ -168,7 +168,7 @@ bare_ranked m ranked =
     )
 
 -- a list in which no rank is missing
-all_ranked : (ps : List Place) (ranks : List (Option ℕ)) → length ranks ≤ position_or_len is_missing ranks → first_unranked ps ranks ≡ None
+all_ranked : (ps : List Place) (ranks : List (Option ℕ)) → length ranks ≤ position_or_len is_none ranks → first_unranked ps ranks ≡ None
 all_ranked [] ranks h = refl
 all_ranked (p ∷ ps) [] h = refl
 all_ranked (p ∷ ps) (None ∷ ranks) h = absurd (omega arith)
@@ -201,7 +201,7 @@ no_unranked exist m found good ranked e =
     let distinct : is_distinct (driven_names under) ≡ true = ap is_distinct (bare_outputs m.covers) ∙ distinct_right (source_names m) (map (λ (c : Cover). c.output) m.covers) good.driven_once in
     let none : first_without_rank under ≡ None = (exist under distinct).0 (bare_ranked m ranked) in
     ap (λ (cs : List Cover). first_unranked (map (λ (e : Place × Cover). e.0) found) (ranks_of (bare_model cs))) e
-    ∙ all_ranked (map (λ (e : Place × Cover). e.0) found) (ranks_of under) (position-none (position_or_len is_missing (ranks_of under)) (length (ranks_of under)) none)
+    ∙ all_ranked (map (λ (e : Place × Cover). e.0) found) (ranks_of under) (position-none (position_or_len is_none (ranks_of under)) (length (ranks_of under)) none)
 
 -- THE FIRST LINE AND THOSE BEHIND IT
 

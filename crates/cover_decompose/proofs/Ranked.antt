@@ -1,11 +1,11 @@
 -- In a well-formed model with ranks, the needed covers read sources and each other, and give the observed names.
 use Rattle.std.proofs.Common.{◌≡◌, ◌<◌, ◌≤◌, ◌+◌, ℕ, zero, suc, Bool, true, false, cond, not, List, [], ◌∷◌, ◌++◌, length, map, refl, sym, ap, subst, ◌∙◌, ◌⊎◌, inl, inr, arith}
-use Rattle.std.specs.Prelude.{Some, None, Option, max, unwrap_or, slice_get, position, filter, slice_index_or}
+use Rattle.std.specs.Prelude.{Some, None, Option, is_none, max, unwrap_or, slice_get, position, filter, slice_index_or}
 use Rattle.std.specs.Option.{option_map}
 use Rattle.std.specs.List.{list_any, list_all, AllByRecursion, zip, flat_map, filter_map}
 use Rattle.rm_model.specs.Words.{Word, is_word}
 use Rattle.rm_model.specs.Value.{is_among, source_names, observed_names, control_of}
-use Rattle.rm_model.specs.Ranks.{cover_of, higher, highest, rank_at, rank_above, rank_by, ranks_of, AreRanks, is_missing, first_without_rank}
+use Rattle.rm_model.specs.Ranks.{cover_of, higher, highest, rank_at, rank_above, rank_by, ranks_of, AreRanks, first_without_rank}
 use Rattle.rm_model.specs.WellFormed.{IsWellFormed, driven_names, used_names}
 use Rattle.rm_model.specs.declared.parts.Latch.{Latch}
 use Rattle.rm_model.specs.declared.parts.Cover.{Cover}
@@ -17,7 +17,7 @@ use Rattle.cover_decompose.proofs.Order.{Covers, Keeps, Lower, ReadsLower, Readi
 some_is : {n k : ℕ} → Some n ≡ Some k → n ≡ k
 some_is e = cc
 
-present : (r : Option ℕ) → is_missing r ≡ false → (n : ℕ) × (r ≡ Some n)
+present : (r : Option ℕ) → is_none r ≡ false → (n : ℕ) × (r ≡ Some n)
 present None e = absurd cc
 present (Some n) e = (n, refl)
 
@@ -66,7 +66,7 @@ module _ (f : Cover → Option ℕ) where
   abbrev pub pairs : List Cover → List (ℕ × Cover)
   pairs cs = zip (map (λ r. unwrap_or r 0) (map f cs)) cs
 
-  pairs_in : (cs : List Cover) → AllByRecursion (λ r. is_missing r ≡ false) (map f cs) → (n : ℕ) (c : Cover) → In (pairs cs) (n, c) → In cs c × (f c ≡ Some n)
+  pairs_in : (cs : List Cover) → AllByRecursion (λ r. is_none r ≡ false) (map f cs) → (n : ℕ) (c : Cover) → In (pairs cs) (n, c) → In cs c × (f c ≡ Some n)
   pairs_in [] all n c h = absurd h
   pairs_in (d ∷ cs) all n c (inl e) =
       let there = present (f d) all.0 in
@@ -110,8 +110,8 @@ module _ (m : Model) (h : IsRankable m) where
   rank_f : Cover → Option ℕ
   rank_f = rank_by m (ranks_of m)
 
-  none_missing : AllByRecursion (λ r. is_missing r ≡ false) (map (rank_by m (ranks_of m)) m.covers)
-  none_missing = let P : List (Option ℕ) → Type 0 = λ rs. AllByRecursion (λ r. is_missing r ≡ false) rs in subst P h.follow (none_found is_missing (ranks_of m) h.all)
+  none_missing : AllByRecursion (λ r. is_none r ≡ false) (map (rank_by m (ranks_of m)) m.covers)
+  none_missing = let P : List (Option ℕ) → Type 0 = λ rs. AllByRecursion (λ r. is_none r ≡ false) rs in subst P h.follow (none_found is_none (ranks_of m) h.all)
 
   ranked_is : ranked_covers m ≡ pairs (rank_by m (ranks_of m)) m.covers
   ranked_is = ap (λ (rs : List (Option ℕ)). zip (map (λ r. unwrap_or r 0) rs) m.covers) h.follow
@@ -164,7 +164,7 @@ module _ (m : Model) (h : IsRankable m) where
   pub by_rank_in : (c : Cover) → In m.covers c → In (covers_by_rank m) c
   by_rank_in c i =
       let k = place_of m.covers c i in
-      let there = present (rank_by m (ranks_of m) c) (all_in (λ r. is_missing r ≡ false) (map (rank_by m (ranks_of m)) m.covers) (rank_by m (ranks_of m) c) none_missing (in_mapped (rank_by m (ranks_of m)) m.covers c i)) in
+      let there = present (rank_by m (ranks_of m) c) (all_in (λ r. is_none r ≡ false) (map (rank_by m (ranks_of m)) m.covers) (rank_by m (ranks_of m) c) none_missing (in_mapped (rank_by m (ranks_of m)) m.covers c i)) in
       let lt : there.0 < length m.covers = h.small k.0 there.0 (rank_there k.0 c k.1 ∙ there.1) in
       in-of_ranks (ranked_covers m) 0 (length m.covers) there.0 c (is_ranked there.0 c i there.1) (omega arith) (omega arith)
 

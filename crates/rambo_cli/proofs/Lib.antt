@@ -1,3 +1,5 @@
 pub mod Replacing
 pub mod Pieces
 pub mod Reports
+pub mod Tidied
+pub mod Composed

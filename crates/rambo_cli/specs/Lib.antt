@@ -3,3 +3,4 @@ pub mod Lines
 pub mod Problems
 pub mod Written
 pub mod Outcome
+pub mod Composition

@@ -2,6 +2,7 @@
 #![tactic(auto)]
 
 mod command;
+mod laws;
 mod lines;
 mod problem;
 mod translate;
@@ -9,3 +10,4 @@ mod words;
 mod work;
 
 pub use command::run;
+pub use laws::models_are_written;
