@@ -10,14 +10,8 @@ use Rattle.gate_net.specs.declared.Kind.{Kind}
 use Rattle.gate_net.specs.declared.Kind.TheVariants.{And, Or, Not}
 use Rattle.gate_net.specs.Net.{Node}
 use Rattle.cover_decompose.specs.Decomposition.{State, with_entry, with_gate, with_not, literals, joined, term, terms, closed, cover_node, with_cover, with_covers}
+use Rattle.cover_decompose.specs.Built.{AllBelow, IsGateNode}
 use Rattle.cover_decompose.proofs.Places.{get_left, get_parts, get_seam, length-push}
-
-abbrev pub AllBelow : ℕ → List ℕ → Type 0
-AllBelow n xs = AllByRecursion (λ x. x < n) xs
-
--- an And, an Or, or a Not of one node
-abbrev pub IsGateNode : Node → Type 0
-IsGateNode n = (n.kind ≡ And) ⊎ ((n.kind ≡ Or) ⊎ ((n.kind ≡ Not) × ((d : ℕ) × (n.drivers ≡ d ∷ []))))
 
 -- gates after the first nodes, each over nodes made before it; each signal and each Not is at a node made
 pub record IsMade (first : List Node) (s : State) : Type 0 where
@@ -85,7 +79,7 @@ module _ (first : List Node) where
   not_made s x None e h =
       let node : Node = record { kind = Not; drivers = s.node_of x ∷ [] } in
       let longer : length (s.made ++ node ∷ []) ≡ suc (length s.made) = length-push s.made node in
-      let g = gate_made s Not (s.node_of x ∷ []) h (inr (inr (refl, (s.node_of x, refl)))) (h.nodes x, tt) in (
+      let g = gate_made s Not (s.node_of x ∷ []) h (record { kind = inr (inr (refl, (s.node_of x, refl))); reads = omega arith }) (h.nodes x, tt) in (
         record {
           made = record {
             gates = g.made.gates;
@@ -127,7 +121,7 @@ module _ (first : List Node) where
   joined_made s kind empty (n ∷ []) k lt h b = (stays s h, b.0)
   joined_made s kind empty (n ∷ i ∷ ns) k lt h b =
       let longer : length (s.made ++ record { kind = kind; drivers = n ∷ i ∷ ns } ∷ []) ≡ suc (length s.made) = length-push s.made _ in
-      (gate_made s kind (n ∷ i ∷ ns) h (elim k [ inl a ↦ inl a | inr o ↦ inr (inl o) ]) b, omega arith)
+      (gate_made s kind (n ∷ i ∷ ns) h (record { kind = elim k [ inl a ↦ inl a | inr o ↦ inr (inl o) ]; reads = omega arith }) b, omega arith)
 
   term_made : (s : State) (xs : List Word) (row : List Literal) → 1 < length s.made → IsMade first s → Grows first s (term s xs row).0 × ((term s xs row).1 < length (term s xs row).0.made)
   term_made s xs row one h =
@@ -148,7 +142,7 @@ module _ (first : List Node) where
   closed_made true t h lt = (stays t.0 h, lt)
   closed_made false t h lt =
       let longer : length (t.0.made ++ record { kind = Not; drivers = t.1 ∷ [] } ∷ []) ≡ suc (length t.0.made) = length-push t.0.made _ in
-      (gate_made t.0 Not (t.1 ∷ []) h (inr (inr (refl, (t.1, refl)))) (lt, tt), omega arith)
+      (gate_made t.0 Not (t.1 ∷ []) h (record { kind = inr (inr (refl, (t.1, refl))); reads = omega arith }) (lt, tt), omega arith)
 
   pub node_made : (s : State) (c : Cover) → 1 < length s.made → IsMade first s → Grows first s (cover_node s c).0 × ((cover_node s c).1 < length (cover_node s c).0.made)
   node_made s c one h =

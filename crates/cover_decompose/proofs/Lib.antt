@@ -12,3 +12,14 @@ pub mod Wires
 pub mod WellFormed
 pub mod Points
 pub mod Counted
+pub mod PlanSteps
+pub mod Steps
+pub mod TableLemmas
+pub mod Sorting
+pub mod Matching
+pub mod Choosing
+pub mod NumberingLemmas
+pub mod ListingLemmas
+pub mod Building
+pub mod Fitting
+pub mod Whole

@@ -20,7 +20,7 @@ use Rattle.cover_decompose.proofs.Members.{In, all_in, among_in, in_among, in_ap
 use Rattle.cover_decompose.proofs.Order.{AreAmong, Reading, outputs_onto}
 use Rattle.cover_decompose.proofs.Ranked.{IsRankable, observed_there, taken_in, taken_reading}
 
-distinct_rest : (x : Word) (xs : List Word) → is_distinct (x ∷ xs) ≡ true → (is_among xs x ≡ false) × (is_distinct xs ≡ true)
+pub distinct_rest : (x : Word) (xs : List Word) → is_distinct (x ∷ xs) ≡ true → (is_among xs x ≡ false) × (is_distinct xs ≡ true)
 distinct_rest x xs e = by_test (is_among xs x) e
   where
     by_test : (b : Bool) → (not b && is_distinct xs) ≡ true → (b ≡ false) × (is_distinct xs ≡ true)
@@ -40,7 +40,7 @@ distinct_right : (xs ys : List Word) → is_distinct (xs ++ ys) ≡ true → is_
 distinct_right [] ys e = e
 distinct_right (x ∷ xs) ys e = distinct_right xs ys (distinct_rest x (xs ++ ys) e).1
 
-distinct_left : (xs ys : List Word) → is_distinct (xs ++ ys) ≡ true → is_distinct xs ≡ true
+pub distinct_left : (xs ys : List Word) → is_distinct (xs ++ ys) ≡ true → is_distinct xs ≡ true
 distinct_left [] ys e = refl
 distinct_left (x ∷ xs) ys e = by_test (is_among xs x) refl (distinct_rest x (xs ++ ys) e).0 (distinct_left xs ys (distinct_rest x (xs ++ ys) e).1)
   where

@@ -92,10 +92,25 @@ needed_in observed (d ∷ cs) c h = by_need (is_needed observed (needed_of obser
     by_need true next (inr h) = inr (next h)
     by_need false next h = inr (next h)
 
-in_flat : (cs : List Cover) (c : Cover) (x : Word) → In cs c → In c.inputs x → In (flat_map (λ (d : Cover). d.inputs) cs) x
+pub in_flat : (cs : List Cover) (c : Cover) (x : Word) → In cs c → In c.inputs x → In (flat_map (λ (d : Cover). d.inputs) cs) x
 in_flat [] c x h m = absurd h
 in_flat (d ∷ cs) c x (inl e) m = in_left d.inputs (flat_map (λ (d : Cover). d.inputs) cs) x (let P : Cover → Type 0 = λ y. In y.inputs x in subst P (sym e) m)
 in_flat (d ∷ cs) c x (inr h) m = in_right d.inputs (flat_map (λ (d : Cover). d.inputs) cs) x (in_flat cs c x h m)
+
+pub observed_is_used : (m : Model) (x : Word) → In (observed_names m) x → In (used_names m) x
+observed_is_used m x i =
+    let outputs = m.outputs in
+    let inputs : List Word = flat_map (λ (c : Cover). c.inputs) m.covers in
+    let latch : List Word = map (λ (l : Latch). l.input) m.latches in
+    let controls : List Word = filter_map control_of m.latches in
+    elim (in_append (m.outputs ++ latch) controls x i) [
+      | inl p ↦ in_left ((m.outputs ++ inputs) ++ latch) controls x
+          (elim (in_append m.outputs latch x p) [
+            | inl o ↦ in_left (m.outputs ++ inputs) latch x (in_left m.outputs inputs x o)
+            | inr l ↦ in_right (m.outputs ++ inputs) latch x l
+          ])
+      | inr c ↦ in_right ((m.outputs ++ inputs) ++ latch) controls x c
+    ]
 
 pub record IsRankable (m : Model) : Type 0 where
   pub formed : IsWellFormed m
@@ -168,26 +183,11 @@ module _ (m : Model) (h : IsRankable m) where
       let lt : there.0 < length m.covers = h.small k.0 there.0 (rank_there k.0 c k.1 ∙ there.1) in
       in-of_ranks (ranked_covers m) 0 (length m.covers) there.0 c (is_ranked there.0 c i there.1) (omega arith) (omega arith)
 
-  observed_used : (x : Word) → In (observed_names m) x → In (used_names m) x
-  observed_used x i =
-      let outputs = m.outputs in
-      let inputs : List Word = flat_map (λ (c : Cover). c.inputs) m.covers in
-      let latch : List Word = map (λ (l : Latch). l.input) m.latches in
-      let controls : List Word = filter_map control_of m.latches in
-      elim (in_append (m.outputs ++ latch) controls x i) [
-        | inl p ↦ in_left ((m.outputs ++ inputs) ++ latch) controls x
-            (elim (in_append m.outputs latch x p) [
-              | inl o ↦ in_left (m.outputs ++ inputs) latch x (in_left m.outputs inputs x o)
-              | inr l ↦ in_right (m.outputs ++ inputs) latch x l
-            ])
-        | inr c ↦ in_right ((m.outputs ++ inputs) ++ latch) controls x c
-      ]
-
   -- each observed name is a source, or the output of a needed cover
   pub observed_there : (x : Word) → In (observed_names m) x → is_among (outputs_onto (source_names m) (taken m)) x ≡ true
   observed_there x i =
       observed_kept (observed_names m) (source_names m) (source_names m) (covers_by_rank m) (λ y e n. e) x (among_in (observed_names m) x i)
-      (elim (used_driven x (observed_used x i)) [
+      (elim (used_driven x (observed_is_used m x i)) [
         | inl s ↦ onto_keeps (source_names m) (covers_by_rank m) x (among_in (source_names m) x s)
         | inr o ↦
             let d = in_map (λ (c : Cover). c.output) m.covers x o in

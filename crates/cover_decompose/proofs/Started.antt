@@ -8,9 +8,10 @@ use Rattle.rm_model.specs.declared.parts.Model.{Model}
 use Rattle.gate_net.specs.declared.Kind.{Kind}
 use Rattle.gate_net.specs.declared.Kind.TheVariants.{Source, Zero, One}
 use Rattle.gate_net.specs.Net.{Node}
+use Rattle.cover_decompose.specs.Built.{AllBelow}
 use Rattle.cover_decompose.specs.Decomposition.{State, plain, start, source_node}
 use Rattle.cover_decompose.specs.StandsFor.{SameAssignment}
-use Rattle.cover_decompose.proofs.Formed.{AllBelow, IsMade}
+use Rattle.cover_decompose.proofs.Formed.{IsMade}
 use Rattle.cover_decompose.proofs.Members.{word_same}
 use Rattle.cover_decompose.proofs.Places.{get_left}
 use Rattle.cover_decompose.proofs.Values.{Meets, KnownAmong, NotsKnown}

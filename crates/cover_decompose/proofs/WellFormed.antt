@@ -10,9 +10,10 @@ use Rattle.rm_model.specs.declared.parts.Model.{Model}
 use Rattle.gate_net.specs.declared.Kind.{Kind}
 use Rattle.gate_net.specs.declared.Kind.TheVariants.{Source, Zero, One, And, Or, Not}
 use Rattle.gate_net.specs.Net.{Node, Net, node_at, drivers_of, drivers_in, flatten_option, IsKind, IsObserved, Reads, plain_node, source_count, source_in, count_in, trimmed, HasSources, IsWellFormed, IsGate, IsGateKind, wire_count}
+use Rattle.cover_decompose.specs.Built.{AllBelow, IsGateNode}
 use Rattle.cover_decompose.specs.Needed.{taken}
 use Rattle.cover_decompose.specs.Decomposition.{State, plain, start, last_state, net_of_model}
-use Rattle.cover_decompose.proofs.Formed.{AllBelow, IsGateNode, IsMade, covers_made}
+use Rattle.cover_decompose.proofs.Formed.{IsMade, covers_made}
 use Rattle.cover_decompose.proofs.Places.{get_left, get_parts}
 use Rattle.cover_decompose.proofs.Stands.{node_there}
 use Rattle.cover_decompose.proofs.Started.{get_replicate, replicate_there, start-length, start-made}
@@ -67,7 +68,7 @@ no_sources : (gates : List Node) → AllByRecursion IsGateNode gates → total (
 no_sources [] h = refl
 no_sources (g ∷ gates) h =
     let rest : total (λ (n : Node). source_in n.kind) gates ≡ 0 = no_sources gates h.1 in
-    let here : source_in g.kind ≡ 0 = elim h.0 [ inl e ↦ ap source_in e | inr r ↦ elim r [ inl e ↦ ap source_in e | inr n ↦ ap source_in n.0 ] ] in
+    let here : source_in g.kind ≡ 0 = elim h.0.kind [ inl e ↦ ap source_in e | inr r ↦ elim r [ inl e ↦ ap source_in e | inr n ↦ ap source_in n.0 ] ] in
     omega arith
 
 each_source : (n : ℕ) → total (λ (n : Node). source_in n.kind) (replicate n (plain Source)) ≡ n
@@ -103,7 +104,7 @@ module _ (m : Model) where
 
   gate_kind : (n : Node) → IsGateNode n → (n.kind ≡ Zero → ⊥) × ((n.kind ≡ One → ⊥) × (n.kind ≡ Source → ⊥))
   gate_kind n g =
-      elim g [
+      elim g.kind [
         | inl a ↦ ((λ e. absurd cc), ((λ e. absurd cc), (λ e. absurd cc)))
         | inr r ↦ elim r [
           | inl a ↦ ((λ e. absurd cc), ((λ e. absurd cc), (λ e. absurd cc)))
@@ -170,7 +171,7 @@ module _ (m : Model) where
               | inl a ↦ (let e : n.0.kind ≡ Not = n.1.1 in let f : n.0.kind ≡ One = a.1 in absurd cc)
               | inr s ↦ elim s [
                 | inl a ↦ (let e : n.0.kind ≡ Not = n.1.1 in let f : n.0.kind ≡ Source = a.1 in absurd cc)
-                | inr g ↦ elim g.1 [
+                | inr g ↦ elim g.1.kind [
                   | inl a ↦ (let e : n.0.kind ≡ Not = n.1.1 in absurd cc)
                   | inr b ↦ elim b [ inl a ↦ (let e : n.0.kind ≡ Not = n.1.1 in absurd cc) | inr d ↦ (d.1.0, is ∙ d.1.1) ]
                 ]

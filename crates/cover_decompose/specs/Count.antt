@@ -1,5 +1,5 @@
 -- The number of wires of a decomposition, summed over the needed covers.
-use Rattle.std.specs.Prelude.{ℕ, zero, suc, ◌+◌, List, [], ◌∷◌, length, sum_by, if◌then◌else◌}
+use Rattle.std.specs.Prelude.{ℕ, zero, suc, ◌+◌, Bool, true, false, List, [], ◌∷◌, length, sum_by, if◌then◌else◌}
 use Rattle.std.specs.List.{flat_map}
 use Rattle.rm_model.specs.Words.{Word}
 use Rattle.rm_model.specs.Value.{is_among}
@@ -9,11 +9,14 @@ use Rattle.rm_model.specs.declared.parts.Cover.{Cover}
 use Rattle.rm_model.specs.declared.parts.Model.{Model}
 use Rattle.cover_decompose.specs.Needed.{taken}
 
+abbrev pub is_read : Literal → Bool
+is_read Any = false
+is_read Zero = true
+is_read One = true
+
 abbrev pub literal_count : List Literal → ℕ
 literal_count [] = 0
-literal_count (Any ∷ ls) = literal_count ls
-literal_count (Zero ∷ ls) = suc (literal_count ls)
-literal_count (One ∷ ls) = suc (literal_count ls)
+literal_count (l ∷ ls) = if is_read l then suc (literal_count ls) else literal_count ls
 
 -- two or more are joined by a gate, with a wire for each
 abbrev pub joining : ℕ → ℕ

@@ -1,30 +1,30 @@
 -- A pin is added.
-use Rattle.std.proofs.Common.{◌≡◌, ◌≢◌, ℕ, zero, suc, ◌+◌, ◌<◌, ◌≤◌, Bool, true, false, List, [], ◌∷◌, ◌++◌, length, map, Option, Some, None, refl, sym, ap, ◌∙◌, arith, inl, inr, ◌⊎◌}
-use Rattle.std.specs.Prelude.{slice_get, if◌then◌else◌}
+use Rattle.std.proofs.Common.{◌≡◌, ◌≢◌, ℕ, Bool, true, false, List, [], ◌∷◌, ◌++◌, map, Option, Some, None, refl, sym, ap, ◌∙◌, arith, inl, inr, ◌⊎◌}
 use mathlib.Core.Path.{fun_ext}
-use Rattle.std.proofs.lemmas.Bool.{cases_eq, ne_eqb, eq-eqb, false_from_ne_true, false≢true}
+use Rattle.std.proofs.lemmas.Bool.{cases_eq, false_from_ne_true, false≢true}
 use Rattle.std.proofs.lemmas.Bool.Decides.{eqb_tells, nat_tests}
 use Rattle.std.proofs.lemmas.List.{map-append}
 use Rattle.gate_net.specs.declared.Kind.{Kind}
 use Rattle.gate_net.specs.declared.Kind.TheVariants.{Source, Not}
-use Rattle.gate_net.specs.Net.{Net, node_at, drivers_of, Reads, IsAcyclic}
+use Rattle.gate_net.specs.Net.{drivers_of, IsAcyclic}
 use Rattle.gate_net.specs.Edits.{with_pin}
 use Rattle.gate_net.specs.Paths.{Reaches}
 use Rattle.gate_net.specs.Net.{IsLive}
 use Rattle.gate_net.specs.Values.{IsJunction}
 use Rattle.gate_graph.proofs.NetRanks.{pins_keep_acyclic}
-use Rattle.pin_pool.specs.Ring.{has, without}
-use Rattle.pin_pool.specs.Pins.{Pins, list_of}
+use Rattle.pin_pool.specs.Ring.{has}
+use Rattle.pin_pool.specs.Pins.{list_of}
 use Rattle.pin_pool.proofs.PoolLemmas.{has-push}
 use Rattle.pin_pool.proofs.RingLemmas.{without-absent, without-push}
-use Rattle.gate_graph.specs.Rings.{Rings, Wiring, AreRings, AreOnce, IsShaped, IsWired, rings_of, wiring_of, kind_at, linked, dropped, changed, all_without, IsIn, IsOut}
-use Rattle.pin_pool.specs.declared.pool.PinNo.{PinNo}
+use Rattle.pin_pool.specs.Rings.{Rings, AreRings, AreOnce, rings_of, linked, dropped, changed, all_without, IsOut}
+use Rattle.gate_graph.specs.Wirings.{IsShaped, IsWired, kind_at}
+use Rattle.pin_pool.specs.declared.names.PinNo.{PinNo}
 use Rattle.gate_graph.specs.declared.entries.Entry.{Entry}
 use Rattle.gate_graph.specs.declared.entries.Entry.TheVariants.{Appended}
-use Rattle.gate_graph.specs.Entries.{taken_back, LeadOn, AreWithin}
+use Rattle.gate_graph.specs.Entries.{taken_back, LeadOn}
 use Rattle.gate_graph.proofs.LeadOns.{lead-on, back-rings, within-same, kind-of, live-in, not-not, not-source, not-constant}
-use Rattle.gate_graph.specs.Circuit.{Circuit, wiring, net_of, gate_pins, home}
-use Rattle.gate_graph.proofs.RingsOf.{changed-same, changed-other, same-rings}
+use Rattle.gate_graph.specs.Circuit.{Circuit, wiring, net_of, home}
+use Rattle.pin_pool.proofs.RingsOf.{changed-same, changed-other, same-rings}
 use Rattle.gate_graph.proofs.NetOf.{home-here, map-same, net-with, drivers-there, node-there}
 use Rattle.gate_graph.proofs.Ranked.{acyclic-net, wired-by}
 

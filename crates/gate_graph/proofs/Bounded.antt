@@ -1,12 +1,11 @@
 -- The greatest live number.
-use Rattle.std.proofs.Common.{◌≡◌, ◌≢◌, ℕ, zero, suc, ◌+◌, ◌<◌, ◌≤◌, List, [], ◌∷◌, length, Option, Some, None, refl, sym, ap, ◌∙◌, arith, inl, inr}
+use Rattle.std.proofs.Common.{◌≡◌, ◌≢◌, ℕ, zero, suc, ◌+◌, ◌<◌, ◌≤◌, List, [], ◌∷◌, length, Option, Some, None, refl, ap, arith, inl, inr}
 use Rattle.std.specs.Prelude.{slice_get}
 use Rattle.std.proofs.lemmas.Bool.{cases_lt}
 use Rattle.std.proofs.lemmas.Option.{slice_get_past}
 use Rattle.std.proofs.lemmas.List.{get_or_past}
-use Rattle.gate_net.specs.declared.Kind.{Kind}
-use Rattle.gate_net.specs.Net.{Node, Net, node_at, flatten_option, trimmed, before_dead}
-use Rattle.gate_graph.specs.Rings.{kind_at}
+use Rattle.gate_net.specs.Net.{Node, Net, node_at, flatten_option, trimmed}
+use Rattle.gate_graph.specs.Wirings.{kind_at}
 use Rattle.gate_graph.specs.Circuit.{Circuit, net_of}
 use Rattle.gate_graph.proofs.NetOf.{nodes-trimmed, rest-trimmed}
 use Rattle.gate_graph.proofs.Formed.{live-node, dead-node}

@@ -1,67 +1,24 @@
 -- The readers of nodes, in ring order.
-use Rattle.std.proofs.Common.{◌≡◌, ◌≢◌, ℕ, zero, suc, ◌+◌, ◌<◌, ◌≤◌, Bool, true, false, ◌||◌, List, [], ◌∷◌, ◌++◌, length, map, subst, Option, Some, None, refl, sym, ap, ◌∙◌, arith, inl, inr, ◌⊎◌}
-use Rattle.std.specs.Prelude.{slice_get, if◌then◌else◌, ◌&&◌, eqb}
+use Rattle.std.proofs.Common.{◌≡◌, ◌≢◌, ℕ, zero, suc, Bool, true, false, List, [], ◌∷◌, ◌++◌, length, map, Option, Some, refl, sym, ap, ◌∙◌, arith, inl, inr}
+use Rattle.std.specs.Prelude.{slice_get, eqb}
 use Rattle.std.proofs.lemmas.Bool.{cases_eq, cases_Bool, cases_lt, lt-ltb, le-ltb, ne_eqb, eq-eqb, false≢true, false_from_ne_true, or_left, or_right, or_parts}
-use Rattle.std.proofs.lemmas.Bool.Decides.{eqb_tells, nat_tests}
 use Rattle.std.proofs.lemmas.List.{map-append, length-map}
 use Rattle.gate_net.specs.Net.{drivers_of}
 use Rattle.pin_pool.specs.Ring.{has, without, IsApart}
-use Rattle.pin_pool.specs.Pins.{Pins, list_of}
-use Rattle.gate_graph.specs.Rings.{Rings, Wiring, AreRings, IsShaped, IsWired, rings_of, linked, moved, redriven, unlinked, changed, all_without, IsOut}
-use Rattle.gate_graph.specs.Circuit.{Circuit, wiring, net_of, fanouts_of, gate_pins, home, reader, place_in, without_observed}
+use Rattle.pin_pool.specs.Pins.{list_of}
+use Rattle.pin_pool.specs.Rings.{Rings, AreRings, rings_of, linked, moved, redriven, unlinked, all_without}
+use Rattle.gate_graph.specs.Wirings.{IsShaped, IsWired}
+use Rattle.gate_graph.specs.Circuit.{Circuit, wiring, net_of, fanouts_of, fans_in, gate_pins, home, reader, place_in, without_observed}
 use Rattle.gate_graph.specs.Readers.{LastReader, ReadersMove, ReaderMoves, lowered, lowered_by, is_place, without_place}
-use Rattle.gate_graph.proofs.RingsOf.{changed-same, changed-other}
+use Rattle.pin_pool.proofs.RingsOf.{changed-same, changed-other}
 use Rattle.gate_graph.proofs.NetOf.{home-here}
 use Rattle.gate_graph.proofs.Pinned.{drivers-all, has-at}
-use Rattle.gate_graph.proofs.Appended.{pushed, pushed-has, pushed-keeps, fresh-out}
+use Rattle.gate_graph.proofs.Appended.{pushed}
 use Rattle.gate_graph.proofs.SameWired.{home-same}
 use Rattle.gate_graph.proofs.Removed.{had, keeps, elsewhere}
 use Rattle.gate_graph.proofs.Reread.{after, after-to, after-from, after-other}
-
--- readers that stay
-pub readers-same : (f g : ℕ → ℕ × ℕ) (obs xs : List ℕ) → ((q : ℕ) → has q xs ≡ true → has q obs ≡ false → f q ≡ g q) → map f (without_observed obs xs) ≡ map g (without_observed obs xs)
-readers-same f g obs [] h = refl
-readers-same f g obs (x ∷ xs) h =
-    let rest = readers-same f g obs xs (λ q k. h q (grind (arith, nat_tests))) in
-    elim (cases_Bool (has x obs)) [
-      | inl seen ↦ rw seen rest
-      | inr free ↦ rw (free, h x (grind (arith, nat_tests)) free, rest) refl
-    ]
-
-observed-append : (obs xs ys : List ℕ) → without_observed obs (xs ++ ys) ≡ without_observed obs xs ++ without_observed obs ys
-observed-append obs [] ys = refl
-observed-append obs (x ∷ xs) ys = elim (cases_Bool (has x obs)) [
-  | inl seen ↦ rw seen (observed-append obs xs ys)
-  | inr free ↦ rw (free, observed-append obs xs ys) refl
-]
-
-place-push : (xs : List ℕ) (p q : ℕ) → has q xs ≡ true → place_in (xs ++ p ∷ []) q ≡ place_in xs q
-place-push [] p q h = cc
-place-push (x ∷ xs) p q h = elim (eqb_tells q x) [
-  | inl t ↦ rw t.0 refl
-  | inr t ↦ let later : has q xs ≡ true = rw t.0 at h in rw (t.0, place-push xs p q later) refl
-]
-
-place-last : (xs : List ℕ) (p : ℕ) → has p xs ≡ false → place_in (xs ++ p ∷ []) p ≡ length xs
-place-last [] p h = rw (eq-eqb p p refl) refl
-place-last (x ∷ xs) p h = elim (eqb_tells p x) [
-  | inl t ↦ absurd (let wrong : true ≡ false = rw t.0 at h in cc)
-  | inr t ↦ let later : has p xs ≡ false = rw t.0 at h in rw (t.0, place-last xs p later) refl
-]
-
-place-at : (xs : List ℕ) (k p : ℕ) → IsApart xs → slice_get xs k ≡ Some p → place_in xs p ≡ k
-place-at [] k p a h = cc
-place-at (x ∷ xs) zero p a h = let is : x ≡ p = cc in rw (is, eq-eqb p p refl) refl
-place-at (x ∷ xs) (suc k) p a h =
-    let ne : p ≢ x = λ is. false≢true (sym a.0 ∙ ap (λ (q : ℕ). has q xs) (sym is) ∙ has-at xs k p h) in
-    rw (ne_eqb p x ne, place-at xs k p a.1 h) refl
-
-at-place : (xs : List ℕ) (q : ℕ) → has q xs ≡ true → slice_get xs (place_in xs q) ≡ Some q
-at-place [] q h = cc
-at-place (x ∷ xs) q h = elim (eqb_tells q x) [
-  | inl t ↦ rw (t.1, eq-eqb x x refl) refl
-  | inr t ↦ let later : has q xs ≡ true = rw t.0 at h in rw t.0 (at-place xs q later)
-]
+use Rattle.gate_graph.proofs.PlaceLists.{readers-same, observed-append, place-at, at-place}
+use Rattle.gate_graph.proofs.Extended.{fans-there, fans-others}
 
 some-same : (q p : ℕ) → (let o : Option ℕ = Some q in o ≡ Some p) → q ≡ p
 some-same q p e = cc
@@ -97,57 +54,12 @@ drop-place f p obs place (x ∷ xs) a unseen told =
           ])
     ]
 
-module _ (v w : Circuit) (p g d : ℕ) (e : rings_of w.pool ≡ linked p g d (rings_of v.pool)) (rv : AreRings (rings_of v.pool)) (rw' : AreRings (rings_of w.pool)) (ww : IsWired (wiring v)) (ne : g ≢ 0) (count : length (drivers_of (net_of v) g) ≡ length (list_of v.pool.inputs g)) (free : (let t : ℕ → Bool = (rings_of v.pool).taken in t p ≡ false)) where
-  abbrev ins : ℕ → List ℕ
-  ins n = list_of v.pool.inputs n
-
-  abbrev outs : ℕ → List ℕ
-  outs n = list_of v.pool.fanouts n
-
-  input-now : (n : ℕ) → list_of w.pool.inputs n ≡ pushed ins g p n
-  input-now n = ap (λ (r : Rings). r.inputs n) e
-
-  fanout-now : (n : ℕ) → list_of w.pool.fanouts n ≡ pushed outs d p n
-  fanout-now n = ap (λ (r : Rings). r.fanouts n) e
-
-  observed-now : list_of w.pool.inputs 0 ≡ ins 0
-  observed-now = input-now 0 ∙ changed-other ins g (ins g ++ p ∷ []) 0 (λ is. ne (sym is))
-
-  reader-old : (n q : ℕ) → has q (outs n) ≡ true → reader w.pool q ≡ reader v.pool q
-  reader-old n q h =
-      let by = ww.shape.read n q h in
-      let was : home v.pool.inputs q ≡ by.0 = home-here v.pool.inputs _ q by.0 rv.inputs by.1 in
-      let now : home w.pool.inputs q ≡ by.0 = home-here w.pool.inputs _ q by.0 rw'.inputs (ap (has q) (input-now by.0) ∙ pushed-keeps ins g p by.0 q by.1) in
-      let place : place_in (list_of w.pool.inputs by.0) q ≡ place_in (ins by.0) q = ap (λ (l : List ℕ). place_in l q) (input-now by.0) ∙ elim (cases_eq by.0 g) [
-        | inl is ↦ rw is (ap (λ (l : List ℕ). place_in l q) (changed-same ins g (ins g ++ p ∷ [])) ∙ place-push (ins g) p q (ap (λ (m : ℕ). has q (ins m)) (sym is) ∙ by.1))
-        | inr other ↦ ap (λ (l : List ℕ). place_in l q) (changed-other ins g (ins g ++ p ∷ []) by.0 other)
-      ] in
-      rw (was, now, place) refl
-
-  reader-new : reader w.pool p ≡ (g, length (ins g))
-  reader-new =
-      let now : home w.pool.inputs p ≡ g = home-here w.pool.inputs _ p g rw'.inputs (ap (has p) (input-now g) ∙ pushed-has ins g p) in
-      let place : place_in (list_of w.pool.inputs g) p ≡ length (ins g) = ap (λ (l : List ℕ). place_in l p) (input-now g ∙ changed-same ins g (ins g ++ p ∷ [])) ∙ place-last (ins g) p (fresh-out ins _ p rv.inputs free g) in
-      rw (now, place) refl
-
-  pub last-reader : LastReader v w g d
-  unfolding fanouts_of
-  last-reader = record {
-    there =
-        let obs = list_of v.pool.inputs 0 in
-        let out : without_observed obs (p ∷ []) ≡ p ∷ [] = rw (fresh-out ins _ p rv.inputs free 0) refl in
-        let new : reader w.pool p ≡ (g, length (drivers_of (net_of v) g)) = reader-new ∙ ap (λ (k : ℕ). let t : ℕ × ℕ = (g, k) in t) (sym count) in
-        ap (λ (l : List ℕ). map (reader w.pool) (without_observed l (list_of w.pool.fanouts d))) observed-now
-        ∙ ap (λ (l : List ℕ). map (reader w.pool) (without_observed obs l)) (fanout-now d ∙ changed-same outs d (outs d ++ p ∷ []))
-        ∙ ap (map (reader w.pool)) (observed-append obs (outs d) (p ∷ []) ∙ ap (λ (l : List ℕ). without_observed obs (outs d) ++ l) out)
-        ∙ map-append (reader w.pool) (without_observed obs (outs d)) (p ∷ [])
-        ∙ ap (λ (l : List (ℕ × ℕ)). l ++ reader w.pool p ∷ []) (readers-same (reader w.pool) (reader v.pool) obs (outs d) (λ q h k. reader-old d q h))
-        ∙ ap (λ (x : ℕ × ℕ). map (reader v.pool) (without_observed obs (outs d)) ++ x ∷ []) new;
-    others = λ n other.
-        ap (λ (l : List ℕ). map (reader w.pool) (without_observed l (list_of w.pool.fanouts n))) observed-now
-        ∙ ap (λ (l : List ℕ). map (reader w.pool) (without_observed (ins 0) l)) (fanout-now n ∙ changed-other outs d (outs d ++ p ∷ []) n other)
-        ∙ readers-same (reader w.pool) (reader v.pool) (ins 0) (outs n) (λ q h k. reader-old n q h);
-  }
+pub last-reader : (v w : Circuit) (p g d : ℕ) → rings_of w.pool ≡ linked p g d (rings_of v.pool) → AreRings (rings_of v.pool) → AreRings (rings_of w.pool) → IsWired (wiring v) → g ≢ 0 → length (drivers_of (net_of v) g) ≡ length (list_of v.pool.inputs g) → (let t : ℕ → Bool = (rings_of v.pool).taken in t p ≡ false) → LastReader v w g d
+unfolding fanouts_of
+last-reader v w p g d e rv rw' ww ne count free = record {
+  there = fans-there v.pool w.pool p g d e rv rw' free ne ∙ ap (λ (k : ℕ). let t : ℕ × ℕ = (g, k) in fans_in v.pool d ++ t ∷ []) (sym count);
+  others = fans-others v.pool w.pool p g d e rv rw' free ne;
+}
 
 pub count-there : (v : Circuit) (g : ℕ) → IsShaped (wiring v) → g ≢ 0 → length (drivers_of (net_of v) g) ≡ length (list_of v.pool.inputs g)
 count-there v g s ne = ap length (drivers-all v s g) ∙ length-map (gate_pins v.pool g) (home v.pool.fanouts) ∙ rw (ne_eqb g 0 ne) refl

@@ -1,27 +1,30 @@
 -- A gate is made, pin by pin.
-use Rattle.std.proofs.Common.{◌≡◌, ◌≢◌, ℕ, zero, suc, ◌+◌, ◌<◌, ◌≤◌, Bool, true, false, List, [], ◌∷◌, ◌++◌, length, map, take, get_or, subst, Option, Some, None, refl, sym, ap, ◌∙◌, arith, inl, inr, ◌⊎◌}
-use Rattle.std.specs.Prelude.{slice_get, if◌then◌else◌}
+use Rattle.std.proofs.Common.{◌≡◌, ◌≢◌, ℕ, zero, suc, ◌+◌, ◌<◌, Bool, true, false, List, [], ◌∷◌, ◌++◌, length, map, take, get_or, subst, Option, Some, None, refl, sym, ap, ◌∙◌, arith, inl, inr, append-nil}
 use mathlib.Core.Path.{fun_ext}
-use Rattle.std.proofs.lemmas.Bool.{cases_eq, ne_eqb, eq-eqb, false≢true, or_left, or_right}
+use Rattle.std.proofs.lemmas.Bool.{cases_eq, ne_eqb, eq-eqb, or_left, or_right}
 use Rattle.std.proofs.lemmas.Bool.Decides.{eqb_tells}
-use Rattle.std.proofs.lemmas.List.{map-append, length-map, take_more, get_or_past}
+use Rattle.std.proofs.lemmas.List.{map-append, length-map, take_more}
 use Rattle.gate_net.specs.declared.Kind.{Kind}
-use Rattle.gate_net.specs.declared.Kind.TheVariants.{Source, Zero, One, And, Or, Not}
-use Rattle.gate_net.specs.Net.{Net, Node, node_at}
+use Rattle.gate_net.specs.declared.Kind.TheVariants.{Source, Zero, One, Not}
+use Rattle.gate_net.specs.Net.{node_at}
 use Rattle.rm_base.specs.declared.numbers.NodeId.{NodeId}
 use Rattle.gate_net.specs.Net.{IsGateKind}
 use Rattle.gate_net.specs.Edits.{DiffersAt}
 use Rattle.pin_pool.specs.Ring.{has}
 use Rattle.pin_pool.specs.Pins.{Pins, list_of}
 use Rattle.pin_pool.proofs.PoolLemmas.{has-push}
-use Rattle.gate_graph.specs.Rings.{Rings, Wiring, AreRings, AreOnce, IsShaped, IsWired, rings_of, kind_at, linked, changed, IsIn, IsOut}
+use Rattle.pin_pool.specs.Rings.{Rings, AreRings, rings_of, linked, changed}
+use Rattle.gate_graph.specs.Wirings.{IsShaped, IsWired, kind_at}
 use Rattle.gate_graph.specs.Filled.{IsFilled}
-use Rattle.gate_graph.specs.Circuit.{Circuit, wiring, net_of, node_in, node_with, gate_pins, home, HasFree}
-use Rattle.gate_graph.proofs.RingsOf.{changed-same, changed-other}
+use Rattle.gate_graph.specs.Circuit.{Circuit, wiring, net_of, fanouts_of, fans_in, node_with, gate_pins, home}
+use Rattle.pin_pool.proofs.RingsOf.{changed-same, changed-other}
 use Rattle.gate_graph.proofs.NetOf.{home-here, map-same, node_at-net, observed-net}
 use Rattle.gate_graph.proofs.Firsts.{first-changed, gate-no_first, none-no_first}
-use Rattle.gate_graph.proofs.Pinned.{dead-pins}
-use Rattle.gate_graph.proofs.Appended.{pushed, pushed-has, pushed-keeps, pushed-had, fresh-out}
+use Rattle.gate_graph.specs.Spots.{places_from}
+use Rattle.gate_graph.specs.Readers.{NewReaders}
+use Rattle.gate_graph.proofs.Extended.{fans-next}
+use Rattle.gate_graph.proofs.PlaceLists.{places-start, append-three}
+use Rattle.gate_graph.proofs.Appended.{pushed, pushed-has, pushed-keeps, pushed-had}
 
 has-more : (ds : List ℕ) (d x : ℕ) → has x ds ≡ true → has x (ds ++ d ∷ []) ≡ true
 has-more ds d x h = has-push ds d x ∙ or_left _ _ h
@@ -40,14 +43,15 @@ filled-start v n rv none = record {
   rings = rv;
   old_in = λ m ne. refl;
   old_out = λ m q h. h;
+  fans = λ m. sym (append-nil (fans_in v m));
   homes = ap (map (home v.fanouts)) none;
   driven = λ q h. (let wrong : has q [] ≡ true = ap (has q) (sym none) ∙ h in cc);
   had_out = λ m q h. inl h;
 }
 
 -- one pin more
-pub filled-step : (v w u : Pins) (n p d : ℕ) (ds : List ℕ) → IsFilled v w n ds → rings_of u ≡ linked p n d (rings_of w) → AreRings (rings_of u) → (let t : ℕ → Bool = (rings_of w).taken in t p ≡ false) → IsFilled v u n (ds ++ d ∷ [])
-filled-step v w u n p d ds i e ru free =
+pub filled-step : (v w u : Pins) (n p d : ℕ) (ds : List ℕ) → n ≢ 0 → IsFilled v w n ds → rings_of u ≡ linked p n d (rings_of w) → AreRings (rings_of u) → (let t : ℕ → Bool = (rings_of w).taken in t p ≡ false) → IsFilled v u n (ds ++ d ∷ [])
+filled-step v w u n p d ds ne i e ru free =
     let ins : ℕ → List ℕ = λ m. list_of w.inputs m in
     let outs : ℕ → List ℕ = λ m. list_of w.fanouts m in
     let input-now : (m : ℕ) → list_of u.inputs m ≡ pushed ins n p m = λ m. ap (λ (r : Rings). r.inputs m) e in
@@ -60,6 +64,12 @@ filled-step v w u n p d ds i e ru free =
       rings = ru;
       old_in = λ m ne. input-now m ∙ changed-other ins n (ins n ++ p ∷ []) m ne ∙ i.old_in m ne;
       old_out = λ m q h. ap (has q) (fanout-now m) ∙ pushed-keeps outs d p m q (i.old_out m q h);
+      fans = λ m.
+          let count : length (ins n) ≡ length ds = sym (length-map (ins n) (home w.fanouts)) ∙ ap length i.homes in
+          fans-next w u p n d e i.rings ru free ne m
+          ∙ ap (λ (l : List (ℕ × ℕ)). l ++ places_from n (length (ins n)) (d ∷ []) m) (i.fans m)
+          ∙ append-three (fans_in v m) (places_from n 0 ds m) (places_from n (length (ins n)) (d ∷ []) m)
+          ∙ ap (λ (l : List (ℕ × ℕ)). fans_in v m ++ l) (ap (λ (k : ℕ). places_from n 0 ds m ++ places_from n k (d ∷ []) m) count ∙ sym (places-start n ds d m));
       homes = ap (map (home u.fanouts)) (input-now n ∙ changed-same ins n (ins n ++ p ∷ [])) ∙ map-append (home u.fanouts) (ins n) (p ∷ [])
           ∙ ap (λ (l : List ℕ). l ++ home u.fanouts p ∷ []) (map-same (home u.fanouts) (home w.fanouts) (ins n) old ∙ i.homes) ∙ ap (λ (x : ℕ). ds ++ x ∷ []) new;
       driven = λ q h. elim (pushed-had ins n p n q (ap (has q) (sym (input-now n)) ∙ h)) [
@@ -228,5 +238,10 @@ has-nth (x ∷ xs) (suc k) d h = or_right _ _ (has-nth xs k d (omega arith))
 pub next-driver : (xs : List NodeId) (k : ℕ) (d : NodeId) → k < length xs → (let x : NodeId = get_or xs k d in map (λ (n : NodeId). n.0) (take (k + 1) xs) ≡ map (λ (n : NodeId). n.0) (take k xs) ++ x.0 ∷ [])
 next-driver xs k d h = ap (map (λ (n : NodeId). n.0)) (take_more xs k d h) ∙ map-append (λ (n : NodeId). n.0) (take k xs) (get_or xs k d ∷ [])
 
-pub free-grown : (v w : Circuit) → wiring w ≡ wiring v → length v.kinds + 1 ≡ length w.kinds → HasFree w.kinds
-free-grown v w e h = (length v.kinds, (omega arith, ap (λ (x : Wiring). x.kind (length v.kinds)) e ∙ get_or_past v.kinds (length v.kinds) None (omega arith)))
+
+pub new-readers : (v w : Circuit) (n : ℕ) (ds : List ℕ) → IsFilled v.pool w.pool n ds → NewReaders v w n ds
+unfolding fanouts_of
+new-readers v w n ds i m = i.fans m
+
+pub free-not_zero : (v : Circuit) (n : ℕ) → IsShaped (wiring v) → kind_at v.kinds n ≡ None → n ≢ 0
+free-not_zero v n s free is = let both : Some Zero ≡ None = sym s.zero_is ∙ ap (λ (m : ℕ). kind_at v.kinds m) (sym is) ∙ free in cc

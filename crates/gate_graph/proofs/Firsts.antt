@@ -1,11 +1,12 @@
 -- The first numbers stay the constants and the sources.
-use Rattle.std.proofs.Common.{◌≡◌, ◌≢◌, ℕ, ◌+◌, ◌<◌, ◌≤◌, Option, Some, None, refl, sym, ap, ◌∙◌, arith, inl, inr}
+use Rattle.std.proofs.Common.{◌≡◌, ℕ, ◌+◌, Option, Some, None, sym, ap, ◌∙◌, inl, inr}
 use Rattle.std.proofs.lemmas.Bool.{cases_eq}
 use Rattle.gate_net.specs.declared.Kind.{Kind}
 use Rattle.gate_net.specs.declared.Kind.TheVariants.{Source, Zero, One}
 use Rattle.gate_net.specs.Net.{IsGateKind}
-use Rattle.gate_graph.specs.Rings.{AreFirst, changed}
-use Rattle.gate_graph.proofs.RingsOf.{changed-same, changed-other}
+use Rattle.pin_pool.specs.Rings.{changed}
+use Rattle.gate_graph.specs.Wirings.{AreFirst}
+use Rattle.pin_pool.proofs.RingsOf.{changed-same, changed-other}
 
 -- no node, or a gate
 abbrev pub IsNoFirst : Option Kind → Type 0

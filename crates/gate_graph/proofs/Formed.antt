@@ -1,16 +1,16 @@
 -- Each graph's net is well formed.
-use Rattle.std.proofs.Common.{◌≡◌, ◌≢◌, ℕ, zero, suc, ◌+◌, ◌<◌, ◌≤◌, arith, true, List, [], ◌∷◌, length, map, Option, Some, None, refl, sym, ap, ◌∙◌}
-use Rattle.std.specs.Prelude.{slice_get, if◌then◌else◌, sum_by}
+use Rattle.std.proofs.Common.{◌≡◌, ◌≢◌, ℕ, zero, suc, ◌+◌, ◌<◌, ◌≤◌, arith, List, [], ◌∷◌, map, Option, Some, None, refl, sym, ap, ◌∙◌}
+use Rattle.std.specs.Prelude.{slice_get, sum_by}
 use Rattle.std.proofs.lemmas.List.Sums.{sum_by-cons}
 use Rattle.std.specs.Option.{option_map}
 use Rattle.std.proofs.lemmas.Bool.{ne_eqb}
 use Rattle.std.proofs.lemmas.Option.{slice_get-map}
 use Rattle.gate_net.specs.declared.Kind.{Kind}
 use Rattle.gate_net.specs.declared.Kind.TheVariants.{Source, Zero, One, And, Or, Not}
-use Rattle.gate_net.specs.Net.{Net, Node, flatten_option, node_at, kind_in, kind_of, drivers_of, Reads, IsObserved, IsKind, count_in, source_in, source_count, IsWellFormed}
-use Rattle.pin_pool.specs.Ring.{has}
+use Rattle.gate_net.specs.Net.{Net, Node, flatten_option, node_at, kind_in, kind_of, IsKind, count_in, source_in, source_count, IsWellFormed}
 use Rattle.pin_pool.specs.Pins.{list_of}
-use Rattle.gate_graph.specs.Rings.{AreRings, IsShaped, IsWired, rings_of, kind_at}
+use Rattle.pin_pool.specs.Rings.{AreRings, rings_of}
+use Rattle.gate_graph.specs.Wirings.{IsShaped, IsWired, kind_at}
 use Rattle.gate_graph.specs.Circuit.{Circuit, wiring, net_of, node_with, gate_pins, home}
 use Rattle.gate_graph.proofs.NetOf.{node_at-net, node-there, observed-net, nodes-trimmed, home-here}
 use Rattle.gate_graph.proofs.LeadOns.{kind-of}

@@ -1,40 +1,16 @@
 -- A new graph, and a pool that has grown.
-use Rattle.std.proofs.Common.{◌≡◌, ◌≢◌, ℕ, zero, suc, ◌+◌, ◌<◌, ◌≤◌, Bool, true, false, List, [], ◌∷◌, ◌++◌, length, set, replicate, Option, Some, None, refl, sym, ap, ◌∙◌, arith, inl, inr, get_or, subst, length-append}
-use mathlib.Core.Path.{fun_ext}
-use Rattle.std.specs.FinSet as finset
-use Rattle.std.specs.Ordering.{nat_cmp}
+use Rattle.std.proofs.Common.{◌≡◌, ◌≢◌, ℕ, zero, suc, ◌+◌, ◌<◌, ◌≤◌, List, [], ◌∷◌, ◌++◌, length, set, replicate, Option, Some, None, refl, sym, ap, ◌∙◌, arith, subst, length-append}
 use Rattle.std.proofs.lemmas.List.{length-replicate}
 use Rattle.gate_net.specs.declared.Kind.{Kind}
 use Rattle.gate_net.specs.declared.Kind.TheVariants.{Source, Zero, One, Not}
-use Rattle.pin_pool.specs.Pins.{Pins, list_of, GrowsTo}
-use Rattle.gate_graph.specs.Rings.{Rings, Wiring, rings_of, changed, kind_at, wiring_of, AreFirst, IsShaped, IsWired}
+use Rattle.pin_pool.specs.Pins.{Pins}
+use Rattle.pin_pool.specs.Rings.{Rings, rings_of, no_rings}
+use Rattle.gate_graph.specs.Wirings.{Wiring, kind_at, wiring_of, AreFirst, IsShaped, IsWired}
 use Rattle.gate_graph.specs.Circuit.{Circuit, IsGraph, wiring, net_of, kinds_live}
 use Rattle.gate_graph.specs.declared.entries.Entry.{Entry}
 use Rattle.gate_graph.specs.Entries.{LeadOn}
+use Rattle.gate_graph.specs.Readers.{SameReaders}
 use Rattle.gate_graph.proofs.SameWired.{same-wiring, lead-same}
-use Rattle.gate_graph.proofs.RingsOf.{same-rings}
-
-list-blank : (n m : ℕ) → list_of (replicate n []) m ≡ []
-list-blank zero m = refl
-list-blank (suc n) zero = refl
-list-blank (suc n) (suc m) = list-blank n m
-
-list-more : (lists : List (List ℕ)) (n m : ℕ) → list_of (lists ++ replicate n []) m ≡ list_of lists m
-list-more [] n m = list-blank n m
-list-more (xs ∷ lists) n zero = refl
-list-more (xs ∷ lists) n (suc m) = list-more lists n m
-
-lists-more : (old new : List (List ℕ)) → ((n : ℕ) × (new ≡ old ++ replicate n [])) → (let f : ℕ → List ℕ = λ m. list_of new m in let g : ℕ → List ℕ = λ m. list_of old m in f ≡ g)
-lists-more old new g = fun_ext (λ m. rw g.1 (list-more old g.0 m))
-
-pub rings-grown : (v w : Pins) → GrowsTo v w → rings_of w ≡ rings_of v
-rings-grown v w g = same-rings _ _ (lists-more v.inputs w.inputs g.inputs) (lists-more v.fanouts w.fanouts g.fanouts) (ap {B = ℕ → Bool} (λ (s : finset.FinSet nat_cmp) (q : ℕ). finset.contains s q) g.taken)
-
-abbrev pub no_rings : Rings
-no_rings = record { inputs = λ n. []; fanouts = λ n. []; taken = λ p. false }
-
-pub rings-new : (v w : Pins) → v.inputs ≡ [] → v.fanouts ≡ [] → v.taken ≡ finset.empty → GrowsTo v w → rings_of w ≡ no_rings
-rings-new v w a b c g = rings-grown v w g ∙ rw (a, b, c) (same-rings _ _ refl refl (fun_ext (λ q. finset.contains-empty nat_cmp q)))
 
 abbrev pub first_kinds : ℕ → List (Option Kind)
 first_kinds n = Some Zero ∷ Some One ∷ replicate n (Some Source)
@@ -144,6 +120,7 @@ pub record Grows (v w : Circuit) (least : ℕ) : Type 0 where
   pub live : kinds_live w.kinds least
   pub wiring_is : wiring w ≡ wiring v
   pub net : net_of w ≡ net_of v
+  pub readers : SameReaders v w
   pub undos : (es : List Entry) → LeadOn v w es es
 
 pub grows : (v w : Circuit) (n least : ℕ) → IsGraph v → kinds_live v.kinds least → w.kinds ≡ v.kinds ++ replicate n None → rings_of w.pool ≡ rings_of v.pool → length w.kinds ≤ length w.pool.inputs → length w.kinds ≤ 4294967295 → Grows v w least
@@ -154,5 +131,6 @@ grows v w n least g live e r room few =
       live = λ m h none. live m h (ap (λ (x : Wiring). x.kind m) (sym same) ∙ none);
       wiring_is = same;
       net = (same-wiring w v same).0;
+      readers = (same-wiring w v same).1;
       undos = λ es. lead-same v w es same (omega (arith, ap length e ∙ length-append v.kinds (replicate n None)));
     }

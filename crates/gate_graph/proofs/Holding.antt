@@ -1,23 +1,24 @@
 -- The pins that undos hold are loose, and no pin is held twice.
-use Rattle.std.proofs.Common.{◌≡◌, ◌≢◌, ℕ, zero, suc, ◌+◌, ◌-◌, ◌<◌, ◌≤◌, Bool, true, false, ◌||◌, List, [], ◌∷◌, ◌++◌, length, take, drop, subst, Option, Some, None, refl, sym, ap, ◌∙◌, arith, inl, inr, ◌⊎◌}
-use Rattle.std.specs.Prelude.{if◌then◌else◌}
+use Rattle.std.proofs.Common.{◌≡◌, ◌≢◌, ℕ, ◌+◌, ◌-◌, Bool, true, false, List, [], ◌∷◌, ◌++◌, length, take, drop, subst, Option, refl, sym, ap, ◌∙◌, arith, inl, inr}
 use Rattle.std.specs.FinSet as finset
 use Rattle.std.proofs.lemmas.Bool.{cases_eq, ne_eqb, eq-eqb, false≢true, or_parts, or_cases, or_left, or_right}
 use Rattle.std.proofs.lemmas.Bool.Decides.{eqb_tells, nat_tests}
 use Rattle.std.proofs.lemmas.List.{take-append-drop}
 use Rattle.gate_net.specs.declared.Kind.{Kind}
-use Rattle.pin_pool.specs.Ring.{has, without, put, IsApart}
-use Rattle.pin_pool.specs.Pins.{Pins, list_of, put_after, code, IsLoose}
-use Rattle.pin_pool.specs.declared.pool.PinNo.{PinNo}
-use Rattle.pin_pool.specs.declared.pool.Slot.{Slot}
-use Rattle.pin_pool.proofs.RingLemmas.{has-put}
+use Rattle.pin_pool.specs.Ring.{has, without, IsApart}
+use Rattle.pin_pool.specs.Rings.{IsLoose}
+use Rattle.pin_pool.specs.Pins.{Pins, put_after}
+use Rattle.pin_pool.specs.declared.names.PinNo.{PinNo}
+use Rattle.pin_pool.specs.declared.names.Slot.{Slot}
+use Rattle.pin_pool.proofs.ListLaws.{has-put_after}
 use Rattle.pin_pool.proofs.PoolLemmas.{has-append}
 use Rattle.gate_graph.specs.declared.entries.Entry.{Entry}
 use Rattle.gate_graph.specs.declared.entries.Entry.TheVariants.{Appended, Removed, Redriven, Moved, Made, Retired}
-use Rattle.gate_graph.specs.Rings.{Rings, Wiring, rings_of, wiring_of, changed, all_without, IsOut}
+use Rattle.pin_pool.specs.Rings.{rings_of, returned, changed, all_without, IsOut}
+use Rattle.gate_graph.specs.Wirings.{Wiring, wiring_of, kind_at}
 use Rattle.gate_graph.specs.Entries.{CanTakeBack, taken_back, CanGoBack}
 use Rattle.gate_graph.specs.Holds.{held_by, held, IsHeld, AreHeld}
-use Rattle.gate_graph.proofs.RingsOf.{changed-same, changed-other, contains-one_less}
+use Rattle.pin_pool.proofs.RingsOf.{changed-same, changed-other}
 
 without-keeps : (p q : ℕ) (xs : List ℕ) → q ≢ p → has q (without p xs) ≡ has q xs
 without-keeps p q [] ne = refl
@@ -30,13 +31,13 @@ out-without : (f : ℕ → List ℕ) (p q : ℕ) → q ≢ p → IsOut (all_with
 out-without f p q ne o n = sym (without-keeps p q (f n) ne) ∙ o n
 
 -- a pin out of the lists with another at one number
-out-put : (f : ℕ → List ℕ) (g p q : ℕ) (b : ℕ) → IsOut (changed f g (put 4294967295 (f g) b p)) q → IsOut f q × (q ≢ p)
+out-put : (f : ℕ → List ℕ) (g p q : ℕ) (b : Option PinNo) → IsOut (changed f g (put_after (f g) b p)) q → IsOut f q × (q ≢ p)
 out-put f g p q b o =
-    let at : has q (put 4294967295 (f g) b p) ≡ false = ap (has q) (sym (changed-same f g (put 4294967295 (f g) b p))) ∙ o g in
-    let parts = or_parts _ _ (sym (has-put 4294967295 (f g) b p q) ∙ at) in (
+    let at : has q (put_after (f g) b p) ≡ false = ap (has q) (sym (changed-same f g (put_after (f g) b p))) ∙ o g in
+    let parts = or_parts _ _ (sym (has-put_after (f g) b p q) ∙ at) in (
       λ n. elim (cases_eq n g) [
         | inl is ↦ rw is parts.1
-        | inr ne ↦ ap (has q) (sym (changed-other f g (put 4294967295 (f g) b p) n ne)) ∙ o n
+        | inr ne ↦ ap (has q) (sym (changed-other f g (put_after (f g) b p) n ne)) ∙ o n
       ],
       λ is. (let yes' = eq-eqb q p is in false≢true (sym parts.0 ∙ yes')),
     )
@@ -65,11 +66,11 @@ held-before w (Appended pin) q can h =
     let t = not-dropped w.rings.taken pin.0 q h.0 in
     ((t.0, (out-without w.rings.inputs pin.0 q t.1 h.1.0, out-without w.rings.fanouts pin.0 q t.1 h.1.1)), refl)
 held-before w (Removed pin slot) q can h =
-    let a = out-put w.rings.inputs slot.gate pin.0 q (code slot.in_gate) h.1.0 in
-    let b = out-put w.rings.fanouts slot.driver pin.0 q (code slot.in_driver) h.1.1 in
+    let a = out-put w.rings.inputs slot.gate pin.0 q slot.in_gate h.1.0 in
+    let b = out-put w.rings.fanouts slot.driver pin.0 q slot.in_driver h.1.1 in
     ((h.0, (a.0, b.0)), rw (ne_eqb q pin.0 a.1) refl)
 held-before w (Redriven pin slot) q can h =
-    let b = out-put (all_without pin.0 w.rings.fanouts) slot.driver pin.0 q (code slot.in_driver) h.1.1 in
+    let b = out-put (all_without pin.0 w.rings.fanouts) slot.driver pin.0 q slot.in_driver h.1.1 in
     ((h.0, (h.1.0, out-without w.rings.fanouts pin.0 q b.1 b.0)), refl)
 held-before w (Moved splice) q can h =
     ((h.0, (h.1.0, out-back w.rings.fanouts splice.from splice.to (length (w.rings.fanouts splice.to) - splice.count) q can.1.1.0 can.1.1.1.0 h.1.1)), refl)
@@ -114,23 +115,25 @@ are-held w (e ∷ es) go =
     }
 
 -- a held pin is given back
-pub held-step : (kinds : List (Option Kind)) (v w : Pins) (pin : PinNo) (slot : Slot) (e : Entry) (es fs : List Entry) → es ≡ e ∷ fs → e ≡ Removed pin slot → AreHeld (wiring_of kinds v) (held es) → w ≡ record { inputs = v.inputs; fanouts = v.fanouts; taken = finset.remove v.taken pin.0; spare = v.spare + 1 } → AreHeld (wiring_of kinds w) (held fs)
+pub held-step : (kinds : List (Option Kind)) (v w : Pins) (pin : PinNo) (slot : Slot) (e : Entry) (es fs : List Entry) → es ≡ e ∷ fs → e ≡ Removed pin slot → AreHeld (wiring_of kinds v) (held es) → rings_of w ≡ returned pin.0 (rings_of v) → AreHeld (wiring_of kinds w) (held fs)
 held-step kinds v w pin slot e es fs is ise h now =
     let here : held es ≡ pin.0 ∷ held fs = ap held is ∙ ap (λ (x : Entry). held_by x ++ held fs) ise in
     let apart : IsApart (pin.0 ∷ held fs) = subst (λ (l : List ℕ). IsApart l) here h.apart in
-    rw now (record {
+    let x : Wiring = record { kind = λ n. kind_at kinds n; rings = returned pin.0 (rings_of v) } in
+    let is : wiring_of kinds w ≡ x = rw now refl in
+    subst (λ (y : Wiring). AreHeld y (held fs)) (sym is) (record {
       apart = apart.1;
       each = λ q m.
           let was = h.each q (ap (has q) here ∙ or_right _ _ m) in
           let ne : q ≢ pin.0 = λ s. false≢true (sym apart.0 ∙ ap (λ (n : ℕ). has n (held fs)) (sym s) ∙ m) in
-          (ap (λ (f : ℕ → Bool). f q) (contains-one_less v.taken pin.0) ∙ changed-other (λ (n : ℕ). finset.contains v.taken n) pin.0 false q ne ∙ was.0, was.1);
+          (changed-other (λ (n : ℕ). finset.contains v.taken n) pin.0 false q ne ∙ was.0, was.1);
     })
 
-pub held-here : (kinds : List (Option Kind)) (v : Pins) (pin : PinNo) (slot : Slot) (e : Entry) (es fs : List Entry) → es ≡ e ∷ fs → e ≡ Removed pin slot → AreHeld (wiring_of kinds v) (held es) → IsLoose v pin.0
+pub held-here : (kinds : List (Option Kind)) (v : Pins) (pin : PinNo) (slot : Slot) (e : Entry) (es fs : List Entry) → es ≡ e ∷ fs → e ≡ Removed pin slot → AreHeld (wiring_of kinds v) (held es) → IsLoose (rings_of v) pin.0
 held-here kinds v pin slot e es fs is ise h =
     let here : held es ≡ pin.0 ∷ held fs = ap held is ∙ ap (λ (x : Entry). held_by x ++ held fs) ise in
     let was = h.each pin.0 (ap (has pin.0) here ∙ or_left _ _ (eq-eqb pin.0 pin.0 refl)) in
-    (was.0, λ n k. was.1.0 n, λ n k. was.1.1 n)
+    (was.0, was.1.0)
 
 pub held-count : (pin : PinNo) (slot : Slot) (e : Entry) (es fs : List Entry) → es ≡ e ∷ fs → e ≡ Removed pin slot → length (held es) ≡ length (held fs) + 1
 held-count pin slot e es fs is ise =

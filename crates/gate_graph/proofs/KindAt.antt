@@ -1,13 +1,13 @@
 -- Kinds by node number.
-use Rattle.std.proofs.Common.{◌≡◌, ◌≢◌, ℕ, zero, suc, ◌+◌, ◌<◌, ◌≤◌, true, false, List, [], ◌∷◌, length, set, Option, Some, None, ◌⊎◌, refl, sym, ap, ◌∙◌, arith, inl, inr, get_or-set_same, get_or-set_other, get_or, length-set}
-use mathlib.Core.Path.{fun_ext}
+use Rattle.std.proofs.Common.{◌≡◌, ◌≢◌, ℕ, ◌+◌, ◌<◌, ◌≤◌, List, length, Option, None, ◌⊎◌, ap, ◌∙◌, arith, inl, inr}
 use Rattle.std.proofs.lemmas.Bool.{cases_eq, cases_lt}
 use Rattle.std.proofs.lemmas.List.{get_or_past}
 use Rattle.gate_net.specs.declared.Kind.{Kind}
 use Rattle.pin_pool.specs.Pins.{Pins}
-use Rattle.gate_graph.specs.Rings.{Rings, Wiring, rings_of, changed, kind_at, wiring_of}
+use Rattle.pin_pool.specs.Rings.{Rings, rings_of, changed}
+use Rattle.gate_graph.specs.Wirings.{Wiring, kind_at, wiring_of}
 use Rattle.gate_graph.specs.Circuit.{kinds_live}
-use Rattle.gate_graph.proofs.RingsOf.{changed-same, changed-other}
+use Rattle.pin_pool.proofs.RingsOf.{changed-same, changed-other}
 
 pub kind-within : (kinds : List (Option Kind)) (n : ℕ) → kind_at kinds n ≢ None → n < length kinds
 kind-within kinds n live = elim (cases_lt n (length kinds)) [

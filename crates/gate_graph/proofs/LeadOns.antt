@@ -1,15 +1,15 @@
 -- Undos lead on where the new entry can be taken back.
-use Rattle.std.proofs.Common.{◌≡◌, ◌≢◌, ℕ, ◌<◌, List, [], ◌∷◌, length, refl, sym, ap, ◌∙◌, subst, Option, Some, None, Bool, arith}
+use Rattle.std.proofs.Common.{◌≡◌, ◌≢◌, ℕ, List, ◌∷◌, length, refl, sym, ap, ◌∙◌, subst, Option, Some, None, Bool}
 use Rattle.gate_net.specs.declared.Kind.{Kind}
 use Rattle.gate_net.specs.declared.Kind.TheVariants.{Zero, One, Not, And, Or, Source}
 use Rattle.gate_net.specs.Net.{node_at}
-use Rattle.gate_net.specs.Net.{IsKind, IsLive}
+use Rattle.gate_net.specs.Net.{IsLive}
 use Rattle.gate_net.specs.Values.{controlling}
-use Rattle.pin_pool.specs.Pins.{list_of}
 use Rattle.gate_graph.specs.declared.entries.Entry.{Entry}
-use Rattle.gate_graph.specs.Rings.{Rings, Wiring, rings_of, kind_at, IsShaped}
+use Rattle.pin_pool.specs.Rings.{Rings, rings_of}
+use Rattle.gate_graph.specs.Wirings.{Wiring, kind_at, IsShaped}
 use Rattle.gate_graph.specs.Entries.{taken_back, CanTakeBack, CanGoBack, back_to, LeadOn, AreWithin, IsWithin}
-use Rattle.gate_graph.specs.Circuit.{Circuit, wiring, net_of, node_with, node_in, gate_pins, home}
+use Rattle.gate_graph.specs.Circuit.{Circuit, wiring, net_of, node_with}
 use Rattle.gate_graph.proofs.NetOf.{node_at-net}
 use Rattle.gate_net.specs.Net.{Node}
 

@@ -1,4 +1,3 @@
-pub mod RingsOf
 pub mod NetEdits
 pub mod NetRanks
 pub mod Firsts
@@ -8,6 +7,8 @@ pub mod Started
 pub mod Bounded
 pub mod Placed
 pub mod Listed
+pub mod Marking
+pub mod Searches
 pub mod Fresh
 pub mod NetOf
 pub mod Pinned
@@ -17,11 +18,15 @@ pub mod Appended
 pub mod Removed
 pub mod Redriven
 pub mod Reread
+pub mod Numbers
 pub mod Making
 pub mod Retiring
 pub mod SameWired
 pub mod Holding
 pub mod Observing
+pub mod PlaceLists
+pub mod Extended
 pub mod Fanned
 pub mod Formed
 pub mod Filling
+pub mod Counted

@@ -1,14 +1,14 @@
 -- The lists of readers are those of the net.
-use Rattle.std.proofs.Common.{◌≡◌, ◌≢◌, ℕ, zero, suc, ◌+◌, ◌<◌, ◌≤◌, Bool, true, false, List, [], ◌∷◌, ◌++◌, length, map, Option, Some, None, refl, sym, ap, ◌∙◌, arith, inl, inr, ◌⊎◌}
-use Rattle.std.specs.Prelude.{slice_get, if◌then◌else◌}
+use Rattle.std.proofs.Common.{◌≡◌, ◌≢◌, ℕ, zero, suc, true, false, List, [], ◌∷◌, map, Option, Some, None, refl, sym, ap, ◌∙◌, inl, inr}
+use Rattle.std.specs.Prelude.{slice_get}
 use Rattle.std.specs.Option.{option_map}
 use Rattle.std.proofs.lemmas.Bool.{cases_eq, ne_eqb, eq-eqb, or_left, or_right, cases_Bool, false≢true, false_from_ne_true}
-use Rattle.std.proofs.lemmas.Bool.Decides.{eqb_tells, nat_tests}
 use Rattle.std.proofs.lemmas.Option.{slice_get-map}
-use Rattle.gate_net.specs.Net.{drivers_of, Reads}
+use Rattle.gate_net.specs.Net.{Reads}
 use Rattle.pin_pool.specs.Ring.{has, IsApart}
 use Rattle.pin_pool.specs.Pins.{list_of}
-use Rattle.gate_graph.specs.Rings.{AreRings, IsShaped, rings_of}
+use Rattle.pin_pool.specs.Rings.{AreRings, rings_of}
+use Rattle.gate_graph.specs.Wirings.{IsShaped}
 use Rattle.gate_graph.specs.Circuit.{Circuit, wiring, net_of, fanouts_of, gate_pins, home, reader, place_in, without_observed}
 use Rattle.gate_graph.specs.Readers.{ListReaders}
 use Rattle.gate_graph.proofs.NetOf.{home-here}

@@ -1,32 +1,32 @@
 -- A Not is made.
-use Rattle.std.proofs.Common.{◌≡◌, ◌≢◌, ℕ, zero, suc, ◌+◌, ◌<◌, ◌≤◌, Bool, true, false, List, [], ◌∷◌, ◌++◌, length, map, subst, Option, Some, None, refl, sym, ap, ◌∙◌, arith, inl, inr, ◌⊎◌}
-use Rattle.std.specs.Prelude.{slice_get, if◌then◌else◌}
-use mathlib.Core.Path.{fun_ext}
-use Rattle.std.proofs.lemmas.Bool.{cases_eq, cases_lt, ne_eqb, eq-eqb, false≢true}
+use Rattle.std.proofs.Common.{◌≡◌, ◌≢◌, ℕ, suc, ◌<◌, Bool, true, false, List, [], ◌∷◌, ◌++◌, length, map, subst, Option, Some, None, refl, sym, ap, ◌∙◌, arith, inl, inr}
+use Rattle.std.proofs.lemmas.Bool.{cases_eq, cases_lt, ne_eqb, false≢true}
 use Rattle.gate_net.specs.declared.Kind.{Kind}
 use Rattle.gate_net.specs.declared.Kind.TheVariants.{Source, Zero, One, Not}
-use Rattle.gate_net.specs.Net.{Net, Node, node_at, drivers_of}
+use Rattle.gate_net.specs.Net.{node_at}
 use Rattle.gate_net.specs.Net.{IsLive}
 use Rattle.pin_pool.specs.Ring.{has}
-use Rattle.pin_pool.specs.Pins.{Pins, list_of}
-use Rattle.pin_pool.specs.declared.pool.PinNo.{PinNo}
+use Rattle.pin_pool.specs.Pins.{list_of}
+use Rattle.pin_pool.specs.declared.names.PinNo.{PinNo}
 use Rattle.gate_graph.specs.declared.entries.Entry.{Entry}
 use Rattle.gate_graph.specs.declared.entries.Entry.TheVariants.{Made}
-use Rattle.gate_graph.specs.Rings.{Rings, Wiring, AreRings, AreOnce, IsShaped, IsWired, rings_of, kind_at, linked, dropped, changed, IsIn, IsOut}
-use Rattle.gate_graph.specs.Entries.{CanTakeBack, taken_back, LeadOn}
+use Rattle.pin_pool.specs.Rings.{Rings, AreRings, rings_of, linked, dropped, changed}
+use Rattle.gate_graph.specs.Wirings.{free_in, Wiring, IsShaped, IsWired, kind_at}
+use Rattle.gate_graph.specs.Entries.{CanTakeBack, LeadOn}
 use Rattle.gate_net.specs.Edits.{MakesGate}
-use Rattle.gate_graph.specs.Circuit.{Circuit, wiring, net_of, node_in, node_with, gate_pins, home, HasFree, kinds_live}
-use Rattle.gate_graph.proofs.RingsOf.{changed-same, changed-other, same-rings}
+use Rattle.gate_graph.specs.Circuit.{Circuit, wiring, net_of, node_with, gate_pins, home, kinds_live}
+use Rattle.pin_pool.proofs.RingsOf.{changed-same, changed-other}
 use Rattle.gate_graph.proofs.NetOf.{home-here, map-same, node_at-net, observed-net}
 use Rattle.gate_graph.proofs.LeadOns.{lead-by, live-in, within-length}
 use Rattle.gate_graph.proofs.Firsts.{first-changed, gate-no_first, none-no_first}
 use Rattle.gate_graph.proofs.Pinned.{dead-pins}
+use Rattle.gate_graph.proofs.Numbers.{has-free}
 use Rattle.gate_graph.proofs.Appended.{pushed, pushed-has, pushed-keeps, pushed-had, fresh-out, dropped-linked, changed-back}
 
-pub free-found : (kinds : List (Option Kind)) (n : ℕ) → HasFree kinds → kinds_live kinds n → n < length kinds
-free-found kinds n free live = elim (cases_lt n (length kinds)) [
+pub free-found : (kinds : List (Option Kind)) (n : ℕ) → 0 < free_in kinds → kinds_live kinds n → n < length kinds
+free-found kinds n some live = elim (cases_lt n (length kinds)) [
   | inl lt ↦ lt
-  | inr le ↦ absurd (live free.0 (let h = free.1.0 in omega (arith, h)) free.1.1)
+  | inr le ↦ let free = has-free kinds some in absurd (live free.0 (let h = free.1.0 in omega (arith, h)) free.1.1)
 ]
 
 some-not-none : (k : Kind) → (let o : Option Kind = Some k in o) ≢ None

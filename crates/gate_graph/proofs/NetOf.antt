@@ -1,7 +1,6 @@
 -- The net of a circuit, by number.
-use Rattle.std.proofs.Common.{◌≡◌, ◌≢◌, ℕ, zero, suc, ◌+◌, ◌<◌, ◌≤◌, Bool, true, false, List, [], ◌∷◌, ◌++◌, length, map, set, Option, Some, None, refl, sym, ap, ◌∙◌, arith, inl, inr, get_or}
-use Rattle.std.specs.Prelude.{slice_get, if◌then◌else◌}
-use Rattle.std.specs.Option.{option_map}
+use Rattle.std.proofs.Common.{◌≡◌, ◌≢◌, ℕ, zero, suc, ◌+◌, ◌<◌, ◌≤◌, Bool, true, List, [], ◌∷◌, length, map, set, Option, Some, None, refl, sym, ap, ◌∙◌, arith, inl, inr}
+use Rattle.std.specs.Prelude.{slice_get}
 use Rattle.std.proofs.lemmas.Bool.{cases_eq, cases_lt, ne_eqb, eq-eqb, cases_Bool}
 use Rattle.std.proofs.lemmas.Bool.Decides.{nat_tests}
 use Rattle.std.proofs.lemmas.List.{get_or_past}
@@ -10,10 +9,11 @@ use Rattle.gate_net.specs.Net.{Node, Net, flatten_option, node_at, drivers_of, d
 use Rattle.gate_net.specs.Edits.{with_drivers, redriven}
 use Rattle.gate_graph.proofs.NetEdits.{node_at-other, node_at-there}
 use Rattle.pin_pool.specs.Ring.{has}
-use Rattle.pin_pool.specs.Pins.{Pins, list_of}
-use Rattle.gate_graph.specs.Rings.{AreOnce, kind_at}
+use Rattle.pin_pool.specs.Pins.{list_of}
+use Rattle.pin_pool.specs.Rings.{AreOnce}
+use Rattle.gate_graph.specs.Wirings.{kind_at}
 use Rattle.gate_net.specs.Net.{trimmed, before_dead}
-use Rattle.gate_graph.specs.Circuit.{Circuit, net_of, node_in, node_with, gate_pins, home, number_with, number_or_zero, next_number, each_from}
+use Rattle.gate_graph.specs.Circuit.{Circuit, net_of, node_in, node_with, gate_pins, home, number_with, number_or_zero, each_from}
 
 before-get : (x : Option Node) (ys : List (Option Node)) (n : ℕ) → flatten_option (slice_get (before_dead x ys) n) ≡ flatten_option (slice_get (x ∷ ys) n)
 before-get None [] zero = refl

@@ -1,17 +1,19 @@
 -- A node is observed once more.
-use Rattle.std.proofs.Common.{◌≡◌, ◌≢◌, ℕ, zero, suc, ◌+◌, ◌<◌, ◌≤◌, Bool, true, false, List, [], ◌∷◌, ◌++◌, length, map, subst, Option, Some, None, refl, sym, ap, ◌∙◌, arith, inl, inr, ◌⊎◌}
-use Rattle.std.specs.Prelude.{if◌then◌else◌}
+use Rattle.std.proofs.Common.{◌≡◌, ◌≢◌, ℕ, Bool, true, false, List, [], ◌∷◌, ◌++◌, map, subst, Option, Some, None, refl, sym, ap, ◌∙◌, arith, inl, inr}
 use Rattle.std.proofs.lemmas.Bool.{cases_eq, ne_eqb, false≢true}
 use Rattle.std.proofs.lemmas.List.{map-append}
 use Rattle.gate_net.specs.declared.Kind.{Kind}
 use Rattle.gate_net.specs.declared.Kind.TheVariants.{Source, Zero, Not}
-use Rattle.gate_net.specs.Net.{Net, node_at}
+use Rattle.gate_net.specs.Net.{Net}
 use Rattle.pin_pool.specs.Ring.{has}
-use Rattle.pin_pool.specs.Pins.{Pins, list_of}
-use Rattle.gate_graph.specs.Rings.{Rings, Wiring, AreRings, IsShaped, IsWired, rings_of, kind_at, linked, changed}
-use Rattle.gate_graph.specs.Circuit.{Circuit, wiring, net_of, node_in, node_with, gate_pins, home}
-use Rattle.gate_graph.proofs.RingsOf.{changed-same, changed-other}
+use Rattle.pin_pool.specs.Pins.{list_of}
+use Rattle.pin_pool.specs.Rings.{Rings, AreRings, rings_of, linked}
+use Rattle.gate_graph.specs.Wirings.{Wiring, IsWired, kind_at}
+use Rattle.gate_graph.specs.Circuit.{Circuit, wiring, net_of, fanouts_of, node_with, gate_pins, home}
+use Rattle.pin_pool.proofs.RingsOf.{changed-same, changed-other}
 use Rattle.gate_graph.proofs.NetOf.{home-here, map-same, net-ext, node_at-net, nodes-trimmed, observed-net}
+use Rattle.gate_graph.specs.Readers.{SameReaders}
+use Rattle.gate_graph.proofs.Extended.{fans-observed}
 use Rattle.gate_graph.proofs.Appended.{pushed, pushed-has, pushed-keeps, pushed-had, fresh-out, shaped-linked}
 
 pub record Observes (v w : Circuit) (d : ℕ) : Type 0 where
@@ -57,3 +59,7 @@ observes v w p d same e rv rw' ww driver free =
           ∙ ap (λ (l : List ℕ). l ++ home w.pool.fanouts p ∷ []) (map-same (home w.pool.fanouts) (home v.pool.fanouts) (ins 0) (old 0) ∙ sym (observed-net v))
           ∙ ap (λ (y : ℕ). (net_of v).observed ++ y ∷ []) new);
     }
+
+pub observed-readers : (v w : Circuit) (p d : ℕ) → rings_of w.pool ≡ linked p 0 d (rings_of v.pool) → AreRings (rings_of v.pool) → AreRings (rings_of w.pool) → (let t : ℕ → Bool = (rings_of v.pool).taken in t p ≡ false) → SameReaders v w
+unfolding fanouts_of
+observed-readers v w p d e rv rw' free n = fans-observed v.pool w.pool p 0 d e rv rw' free refl n

@@ -1,19 +1,21 @@
 -- Pins of gates, in a graph.
-use Rattle.std.proofs.Common.{◌≡◌, ◌≢◌, ℕ, zero, suc, ◌+◌, ◌<◌, ◌≤◌, Bool, true, false, List, [], ◌∷◌, ◌++◌, length, map, Option, Some, None, refl, sym, ap, ◌∙◌, arith, inl, inr}
-use Rattle.std.specs.Prelude.{slice_get, if◌then◌else◌}
+use Rattle.std.proofs.Common.{◌≡◌, ℕ, zero, suc, ◌<◌, ◌≤◌, true, List, [], ◌∷◌, length, map, Option, Some, None, refl, sym, ap, ◌∙◌, arith, inl, inr}
+use Rattle.std.specs.Prelude.{slice_get}
 use Rattle.std.specs.Option.{option_map}
-use Rattle.std.proofs.lemmas.Bool.{cases_eq, cases_lt, ne_eqb, eq-eqb}
+use Rattle.std.proofs.lemmas.Bool.{cases_eq, ne_eqb}
 use Rattle.std.proofs.lemmas.Bool.Decides.{nat_tests}
 use Rattle.std.proofs.lemmas.List.{get_or_past, length-map}
 use Rattle.std.proofs.lemmas.Option.{slice_get-map, slice_get-get_or}
 use Rattle.gate_net.specs.declared.Kind.{Kind}
 use Rattle.gate_net.specs.Net.{drivers_of, drivers_in}
 use Rattle.pin_pool.specs.Ring.{has}
-use Rattle.pin_pool.specs.Pins.{Pins, list_of, IsLinked}
-use Rattle.gate_graph.specs.Rings.{AreRings, Wiring, IsShaped, kind_at, wiring_of, rings_of}
+use Rattle.pin_pool.specs.Rings.{IsLinked}
+use Rattle.pin_pool.specs.Pins.{list_of}
+use Rattle.pin_pool.specs.Rings.{rings_of}
+use Rattle.gate_graph.specs.Wirings.{IsShaped, kind_at}
 use Rattle.gate_graph.specs.Circuit.{Circuit, wiring, net_of, node_with, gate_pins, home}
-use Rattle.gate_graph.proofs.RingsOf.{listed}
-use Rattle.gate_graph.proofs.NetOf.{node_at-net, home-here}
+
+use Rattle.gate_graph.proofs.NetOf.{node_at-net}
 
 pub has-at : (xs : List ℕ) (k p : ℕ) → slice_get xs k ≡ Some p → has p xs ≡ true
 has-at [] k p e = cc
@@ -63,10 +65,10 @@ module _ (v : Circuit) (w : IsShaped (wiring v)) where
       let count = ap length (drivers-all g) ∙ length-map (gate_pins v.pool g) (home v.pool.fanouts) in
       let some = slice_get-get_or (gate_pins v.pool g) k 0 (omega (arith, count)) in cc (none, some)
 
-  pub linked-by : (g p : ℕ) → has p (list_of v.pool.inputs g) ≡ true → IsLinked v.pool p
-  linked-by g p h = (listed v.pool.inputs p (g, h), listed v.pool.fanouts p (w.driven g p h))
+  pub linked-by : (g p : ℕ) → has p (list_of v.pool.inputs g) ≡ true → IsLinked (rings_of v.pool) p
+  linked-by g p h = (g, h)
 
-  pub linked-gate : (g p : ℕ) → has p (gate_pins v.pool g) ≡ true → IsLinked v.pool p
+  pub linked-gate : (g p : ℕ) → has p (gate_pins v.pool g) ≡ true → IsLinked (rings_of v.pool) p
   linked-gate g p h = elim (cases_eq g 0) [
     | inl is ↦ let none : has p [] ≡ true = rw is at h in cc
     | inr ne ↦ linked-by g p (rw (ne_eqb g 0 ne) at h)

@@ -1,17 +1,16 @@
 -- Where a pin stands among those of its gate, and which pins are read on.
-use Rattle.std.proofs.Common.{◌≡◌, ◌≢◌, ℕ, zero, suc, ◌+◌, ◌<◌, ◌≤◌, Bool, true, false, List, [], ◌∷◌, ◌++◌, length, map, Option, Some, None, refl, sym, ap, ◌∙◌, arith, inl, inr, ◌⊎◌}
-use Rattle.std.specs.Prelude.{slice_get, if◌then◌else◌}
+use Rattle.std.proofs.Common.{◌≡◌, ◌≢◌, ℕ, suc, Bool, true, false, List, [], ◌∷◌, ◌++◌, length, map, Some, refl, sym, ap, ◌∙◌, inl, inr, ◌⊎◌}
+use Rattle.std.specs.Prelude.{slice_get}
 use Rattle.std.proofs.lemmas.Bool.{cases_eq, ne_eqb, eq-eqb, or_right}
-use Rattle.std.proofs.lemmas.Bool.Decides.{eqb_tells, nat_tests}
 use Rattle.pin_pool.specs.Ring.{has}
-use Rattle.pin_pool.proofs.PoolLemmas.{has-append}
 use Rattle.std.specs.Option.{option_map}
 use Rattle.std.specs.Prelude.{IsTrue, ◌↔◌}
 use Rattle.std.proofs.lemmas.Option.{slice_get-map}
-use Rattle.std.proofs.lemmas.Bool.{or_left, cases_Bool, false≢true}
+use Rattle.std.proofs.lemmas.Bool.{or_left, false≢true}
 use Rattle.gate_net.specs.Net.{IsObserved}
 use Rattle.pin_pool.specs.Pins.{Pins, list_of}
-use Rattle.gate_graph.specs.Rings.{AreRings, IsShaped, rings_of}
+use Rattle.pin_pool.specs.Rings.{AreRings, rings_of}
+use Rattle.gate_graph.specs.Wirings.{IsShaped}
 use Rattle.gate_graph.specs.Circuit.{Circuit, wiring, net_of, fanouts_of, home, reader, place_in, without_observed}
 use Rattle.gate_graph.proofs.NetOf.{observed-net, home-here}
 use Rattle.gate_graph.proofs.Pinned.{has-at}

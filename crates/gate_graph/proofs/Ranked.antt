@@ -1,14 +1,15 @@
 -- Pins make no circle exactly where the net has none.
-use Rattle.std.proofs.Common.{◌≡◌, ◌≢◌, ℕ, zero, suc, ◌+◌, ◌<◌, ◌≤◌, Bool, true, false, List, [], ◌∷◌, ◌++◌, length, map, Option, Some, None, refl, sym, ap, ◌∙◌, arith, inl, inr}
-use Rattle.std.specs.Prelude.{slice_get, if◌then◌else◌}
+use Rattle.std.proofs.Common.{◌≡◌, ◌≢◌, ℕ, suc, true, List, [], ◌∷◌, map, Option, Some, None, refl, sym, ap, ◌∙◌, inl, inr}
+use Rattle.std.specs.Prelude.{slice_get}
 use Rattle.std.specs.Option.{option_map}
-use Rattle.std.proofs.lemmas.Bool.{cases_eq, ne_eqb, eq-eqb}
+use Rattle.std.proofs.lemmas.Bool.{ne_eqb}
 use Rattle.std.proofs.lemmas.Bool.Decides.{eqb_tells}
 use Rattle.std.proofs.lemmas.Option.{slice_get-map}
 use Rattle.gate_net.specs.Net.{drivers_of, Reads, IsAcyclic}
 use Rattle.pin_pool.specs.Ring.{has}
-use Rattle.pin_pool.specs.Pins.{Pins, list_of}
-use Rattle.gate_graph.specs.Rings.{AreRings, IsShaped, IsWired, rings_of}
+use Rattle.pin_pool.specs.Pins.{list_of}
+use Rattle.pin_pool.specs.Rings.{AreRings, rings_of}
+use Rattle.gate_graph.specs.Wirings.{IsShaped, IsWired}
 use Rattle.gate_graph.specs.Circuit.{Circuit, wiring, net_of, gate_pins, home}
 use Rattle.gate_graph.proofs.NetOf.{home-here}
 use Rattle.gate_graph.proofs.Pinned.{pin-in, drivers-all}

@@ -1,31 +1,33 @@
 -- A pin gets another driver.
-use Rattle.std.proofs.Common.{◌≡◌, ◌≢◌, ℕ, zero, suc, ◌+◌, ◌<◌, ◌≤◌, Bool, true, false, not, List, [], ◌∷◌, ◌++◌, length, map, set, subst, Option, Some, None, refl, sym, ap, ◌∙◌, arith, inl, inr, ◌⊎◌}
-use Rattle.std.specs.Prelude.{slice_get, slice_set, if◌then◌else◌}
-use Rattle.std.proofs.lemmas.Bool.{cases_eq, ne_eqb, eq-eqb}
+use Rattle.std.proofs.Common.{◌≡◌, ◌≢◌, ℕ, zero, suc, true, List, [], ◌∷◌, ◌++◌, length, map, set, subst, Option, Some, None, refl, sym, ap, ◌∙◌, arith, inl, inr, ◌⊎◌}
+use Rattle.std.specs.Prelude.{slice_get, slice_set}
+use Rattle.std.proofs.lemmas.Bool.{cases_eq, ne_eqb}
 use Rattle.std.proofs.lemmas.Bool.Decides.{eqb_tells, nat_tests}
 use Rattle.gate_net.specs.declared.Kind.{Kind}
-use Rattle.gate_net.specs.Net.{Net, Node, node_at, drivers_of, Reads, IsAcyclic}
+use Rattle.gate_net.specs.Net.{Net, drivers_of, Reads, IsAcyclic}
 use Rattle.gate_net.specs.Edits.{with_drivers, with_pin}
 use Rattle.gate_net.specs.Net.{IsLive}
 use Rattle.gate_net.specs.Paths.{Reaches}
 use Rattle.gate_graph.proofs.NetEdits.{node_at-other, node_at-there}
 use Rattle.gate_graph.proofs.NetRanks.{pins_keep_acyclic}
-use Rattle.pin_pool.specs.Ring.{has, without, IsApart}
-use Rattle.pin_pool.specs.Pins.{Pins, list_of, StandsIn, put_after}
-use Rattle.pin_pool.specs.declared.pool.PinNo.{PinNo}
-use Rattle.pin_pool.specs.declared.pool.Slot.{Slot}
+use Rattle.pin_pool.specs.Ring.{has, IsApart}
+use Rattle.pin_pool.specs.Pins.{list_of, StandsIn, put_after}
+use Rattle.pin_pool.specs.declared.names.PinNo.{PinNo}
+use Rattle.pin_pool.specs.declared.names.Slot.{Slot}
 use Rattle.gate_graph.specs.declared.entries.Entry.{Entry}
 use Rattle.gate_graph.specs.declared.entries.Entry.TheVariants.{Redriven}
-use Rattle.gate_graph.specs.Rings.{Rings, Wiring, AreRings, AreOnce, IsShaped, IsWired, Stood, rings_of, kind_at, redriven, restored, changed, all_without, IsIn, IsOut}
-use Rattle.gate_graph.specs.Entries.{CanTakeBack, taken_back, LeadOn}
+use Rattle.pin_pool.specs.Rings.{Rings, AreRings, Stood, rings_of, redriven, restored, changed, all_without}
+use Rattle.gate_graph.specs.Wirings.{Wiring, IsShaped, IsWired, kind_at}
+use Rattle.gate_graph.specs.Entries.{CanTakeBack, LeadOn}
 use Rattle.gate_graph.specs.Circuit.{Circuit, wiring, net_of, gate_pins, home}
-use Rattle.gate_graph.proofs.RingsOf.{changed-same, changed-other, same-rings}
+use Rattle.pin_pool.proofs.RingsOf.{same-rings}
 use Rattle.gate_graph.proofs.NetOf.{home-here, map-same, net-with, drivers-there, node-there}
-use Rattle.gate_graph.proofs.LeadOns.{lead-rings, kind-of, live-in}
+use Rattle.gate_graph.proofs.LeadOns.{lead-rings, live-in}
 use Rattle.gate_graph.proofs.Pinned.{has-at}
 use Rattle.gate_graph.proofs.Ranked.{acyclic-net, wired-by, not-zero}
 use Rattle.gate_graph.proofs.Appended.{pushed, pushed-has, pushed-keeps, pushed-had, without-pushed}
-use Rattle.gate_graph.proofs.Removed.{out, had, keeps, elsewhere, stands, put-back}
+use Rattle.pin_pool.proofs.Undone.{stands, back}
+use Rattle.gate_graph.proofs.Removed.{out, had, keeps}
 
 some-kind : (o : Option Kind) → o ≢ None → (k : Kind) × (o ≡ Some k)
 some-kind None h = absurd (h refl)
@@ -95,7 +97,7 @@ module _ (v w : Circuit) (p d : ℕ) (same : w.kinds ≡ v.kinds) (e : rings_of 
   back-redriven pin slot is s driver es =
       let again : restored p slot (redriven p d (rings_of v.pool)) ≡ rings_of v.pool =
       same-rings _ _ refl
-      (ap (λ (f : ℕ → List ℕ). changed f slot.driver (put_after (f slot.driver) slot.in_driver p)) rest-back ∙ put-back outs _ rv.fanouts p slot.driver slot.in_driver s.in_driver s.after_driver)
+      (ap (λ (f : ℕ → List ℕ). changed f slot.driver (put_after (f slot.driver) slot.in_driver p)) rest-back ∙ back outs _ rv.fanouts p slot.driver slot.in_driver s.in_driver s.after_driver)
       refl in
       let x : Wiring = record { kind = λ n. kind_at v.kinds n; rings = redriven p d (rings_of v.pool) } in
       let stood : StandsIn (all_without p (pushed rest d p) slot.driver) slot.in_driver =

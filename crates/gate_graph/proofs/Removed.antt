@@ -1,44 +1,29 @@
 -- A pin is taken out, or gets another driver.
-use Rattle.std.proofs.Common.{◌≡◌, ◌≢◌, ℕ, zero, suc, ◌+◌, ◌<◌, ◌≤◌, Bool, true, false, not, List, [], ◌∷◌, ◌++◌, length, map, set, subst, Option, Some, None, refl, sym, ap, ◌∙◌, arith, inl, inr, ◌⊎◌}
-use Rattle.std.specs.Prelude.{slice_get, if◌then◌else◌}
-use mathlib.Core.Path.{fun_ext}
+use Rattle.std.proofs.Common.{◌≡◌, ◌≢◌, ℕ, zero, suc, Bool, true, List, [], ◌∷◌, map, subst, Option, Some, None, refl, sym, ap, ◌∙◌, arith, inl, inr}
+use Rattle.std.specs.Prelude.{slice_get}
 use Rattle.std.proofs.lemmas.Bool.{cases_eq, ne_eqb, eq-eqb, false_from_ne_true, false≢true}
 use Rattle.std.proofs.lemmas.Bool.Decides.{eqb_tells, nat_tests}
 use Rattle.gate_net.specs.declared.Kind.{Kind}
 use Rattle.gate_net.specs.declared.Kind.TheVariants.{Not}
-use Rattle.gate_net.specs.Net.{Net, node_at, drivers_of, Reads, IsAcyclic}
-use Rattle.gate_net.specs.Edits.{with_drivers, with_pin}
-use Rattle.gate_net.specs.Net.{IsLive}
-use Rattle.gate_net.specs.Paths.{Reaches}
+use Rattle.gate_net.specs.Net.{drivers_of}
 use Rattle.gate_net.specs.Values.{IsJunction}
 use Rattle.gate_net.specs.Edits.{without as without_at, without_pin}
-use Rattle.gate_graph.proofs.NetEdits.{node_at-other, node_at-there}
-use Rattle.gate_graph.proofs.NetRanks.{pins_keep_acyclic}
-use Rattle.pin_pool.specs.Ring.{has, without, previous_from, IsApart}
-use Rattle.pin_pool.specs.Pins.{Pins, list_of, put_after, before_in, StandsIn, code, named}
-use Rattle.pin_pool.specs.declared.pool.PinNo.{PinNo}
-use Rattle.pin_pool.specs.declared.pool.Slot.{Slot}
-use Rattle.pin_pool.proofs.RingLemmas.{has-without, without-absent, put-without, previous-among_all, previous-other}
+use Rattle.pin_pool.specs.Ring.{has, without, IsApart}
+use Rattle.pin_pool.specs.Pins.{list_of}
+use Rattle.pin_pool.specs.declared.names.PinNo.{PinNo}
+use Rattle.pin_pool.specs.declared.names.Slot.{Slot}
+use Rattle.pin_pool.proofs.RingLemmas.{has-without, without-absent}
+use Rattle.pin_pool.proofs.Undone.{stands, back}
 use Rattle.gate_graph.specs.declared.entries.Entry.{Entry}
-use Rattle.gate_graph.specs.declared.entries.Entry.TheVariants.{Removed, Redriven}
-use Rattle.gate_graph.specs.Rings.{Rings, Wiring, AreRings, AreOnce, IsShaped, IsWired, Stood, rings_of, wiring_of, kind_at, unlinked, relinked, redriven, restored, changed, all_without, IsIn, IsOut}
-use Rattle.gate_graph.specs.Entries.{CanTakeBack, taken_back, LeadOn}
+use Rattle.gate_graph.specs.declared.entries.Entry.TheVariants.{Removed}
+use Rattle.pin_pool.specs.Rings.{Rings, AreRings, AreOnce, Stood, rings_of, unlinked, relinked, all_without, IsOut}
+use Rattle.gate_graph.specs.Wirings.{Wiring, IsShaped, IsWired, kind_at}
+use Rattle.gate_graph.specs.Entries.{CanTakeBack, LeadOn}
 use Rattle.gate_graph.specs.Circuit.{Circuit, wiring, net_of, gate_pins, home}
-use Rattle.gate_graph.proofs.RingsOf.{changed-same, changed-other, same-rings}
-use Rattle.gate_graph.proofs.NetOf.{home-here, map-same, net-with, drivers-there, node-there}
+use Rattle.pin_pool.proofs.RingsOf.{same-rings}
+use Rattle.gate_graph.proofs.NetOf.{home-here, map-same, net-with, drivers-there}
 use Rattle.gate_graph.proofs.LeadOns.{lead-rings, kind-of, not-not, not-constant}
 use Rattle.gate_graph.proofs.Pinned.{has-at}
-use Rattle.gate_graph.proofs.Ranked.{acyclic-net, wired-by}
-use Rattle.gate_graph.proofs.Appended.{pushed, pushed-has, pushed-keeps, pushed-had, without-pushed}
-
-code-named : (a : ℕ) → code (named a) ≡ a
-code-named a = elim (cases_eq a 4294967295) [ inl e ↦ rw e refl | inr e ↦ rw (ne_eqb a 4294967295 e) refl ]
-
-stands-named : (xs : List ℕ) (a : ℕ) → has a (4294967295 ∷ xs) ≡ true → StandsIn xs (named a)
-stands-named xs a h = elim (cases_eq a 4294967295) [
-  | inl e ↦ rw e tt
-  | inr e ↦ rw (ne_eqb a 4294967295 e) (grind (arith, nat_tests))
-]
 
 module _ (f : ℕ → List ℕ) (taken : ℕ → Bool) (once : AreOnce f taken) (p : ℕ) where
   pub out : IsOut (all_without p f) p
@@ -55,25 +40,6 @@ module _ (f : ℕ → List ℕ) (taken : ℕ → Bool) (once : AreOnce f taken) 
 
   pub elsewhere : (g n : ℕ) → has p (f g) ≡ true → n ≢ g → all_without p f n ≡ f n
   elsewhere g n h ne = without-absent p (f n) (false_from_ne_true _ (λ k. ne (once.one n g p k h)))
-
-  pub stands : (g : ℕ) (b : Option PinNo) → has p (f g) ≡ true → b ≡ before_in (f g) p → StandsIn (all_without p f g) b
-  stands g b h e =
-      let xs = f g in
-      let a = previous_from 4294967295 4294967295 xs p in
-      let pz : p ≢ 4294967295 = grind (arith, nat_tests, once.pins g, h) in
-      let among : has a (4294967295 ∷ without p xs) ≡ true =
-      grind (arith, nat_tests, previous-among_all 4294967295 4294967295 xs p, previous-other 4294967295 4294967295 xs p pz h, has-without p xs a (once.apart g)) in
-      rw e (stands-named (without p xs) a among)
-
-  pub put-back : (g : ℕ) (b : Option PinNo) → has p (f g) ≡ true → b ≡ before_in (f g) p → changed (all_without p f) g (put_after (all_without p f g) b p) ≡ f
-  put-back g b h e =
-      let xs = f g in
-      let at : code b ≡ previous_from 4294967295 4294967295 xs p = ap code e ∙ code-named _ in
-      let here : put_after (all_without p f g) b p ≡ xs = rw at (put-without 4294967295 4294967295 xs p (once.pins g, once.apart g) h) in
-      fun_ext (λ n. elim (cases_eq n g) [
-        | inl s ↦ rw s (changed-same (all_without p f) g (put_after (all_without p f g) b p) ∙ here)
-        | inr s ↦ changed-other (all_without p f) g (put_after (all_without p f g) b p) n s ∙ elsewhere g n h s
-      ])
 
 without-map : (f : ℕ → ℕ) (xs : List ℕ) (k p : ℕ) → IsApart xs → slice_get xs k ≡ Some p → map f (without p xs) ≡ without_at (map f xs) k
 without-map f [] k p a e = cc
@@ -93,7 +59,7 @@ module _ (v w : Circuit) (p : ℕ) (same : w.kinds ≡ v.kinds) (e : rings_of w.
   pub back-removed : (pin : PinNo) (slot : Slot) → pin.0 ≡ p → Stood (rings_of v.pool) p slot → kind_at v.kinds slot.gate ≢ None → kind_at v.kinds slot.driver ≢ None → (es : List Entry) → LeadOn v w es (Removed pin slot ∷ es)
   back-removed pin slot is s gate driver es =
       let again : relinked p slot (unlinked p (rings_of v.pool)) ≡ rings_of v.pool =
-      same-rings _ _ (put-back ins _ rv.inputs p slot.gate slot.in_gate s.in_gate s.after_gate) (put-back outs _ rv.fanouts p slot.driver slot.in_driver s.in_driver s.after_driver) refl in
+      same-rings _ _ (back ins _ rv.inputs p slot.gate slot.in_gate s.in_gate s.after_gate) (back outs _ rv.fanouts p slot.driver slot.in_driver s.in_driver s.after_driver) refl in
       let x : Wiring = record { kind = λ n. kind_at v.kinds n; rings = unlinked p (rings_of v.pool) } in
       let can : CanTakeBack x (Removed pin slot) =
       rw is (rv.inputs.members slot.gate p s.in_gate, (out ins _ rv.inputs p, (out outs _ rv.fanouts p, (gate, (driver, (stands ins _ rv.inputs p slot.gate slot.in_gate s.in_gate s.after_gate, stands outs _ rv.fanouts p slot.driver slot.in_driver s.in_driver s.after_driver)))))) in

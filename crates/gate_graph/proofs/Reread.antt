@@ -1,29 +1,29 @@
 -- All readers of a node move to another.
-use Rattle.std.proofs.Common.{◌≡◌, ◌≢◌, ℕ, zero, suc, ◌+◌, ◌-◌, ◌<◌, ◌≤◌, Bool, true, false, not, ◌||◌, List, [], ◌∷◌, ◌++◌, length, map, take, drop, subst, Option, Some, None, refl, sym, ap, ◌∙◌, arith, inl, inr, ◌⊎◌, length-append}
-use Rattle.std.specs.Prelude.{slice_get, nat_eq, if◌then◌else◌}
+use Rattle.std.proofs.Common.{◌≡◌, ◌≢◌, ℕ, ◌-◌, ◌≤◌, true, List, [], ◌∷◌, ◌++◌, length, map, take, drop, subst, Option, Some, None, refl, sym, ap, ◌∙◌, arith, inl, inr, ◌⊎◌, length-append}
 use mathlib.Core.Path.{fun_ext}
 use Rattle.std.proofs.lemmas.Bool.{cases_eq, ne_eqb, eq-eqb, or_cases}
-use Rattle.std.proofs.lemmas.Bool.Decides.{eqb_tells, nat_tests}
+use Rattle.std.proofs.lemmas.Bool.Decides.{nat_tests}
 use Rattle.std.proofs.lemmas.List.{take_at, drop_at}
 use Rattle.gate_net.specs.declared.Kind.{Kind}
-use Rattle.gate_net.specs.Net.{Net, Node, node_at, drivers_of, Reads, IsAcyclic}
+use Rattle.gate_net.specs.Net.{Node, IsAcyclic}
 use Rattle.gate_net.specs.Net.{IsLive}
 use Rattle.gate_net.specs.Paths.{Reaches}
 use Rattle.gate_net.specs.Edits.{redirected, node_redirected, with_readers_moved}
 use Rattle.gate_graph.proofs.NetEdits.{node_at-moved}
 use Rattle.gate_graph.proofs.NetRanks.{moves_keep_acyclic}
 use Rattle.pin_pool.specs.Ring.{has}
-use Rattle.pin_pool.specs.Pins.{Pins, list_of}
-use Rattle.pin_pool.specs.declared.pool.Splice.{Splice}
+use Rattle.pin_pool.specs.Pins.{list_of}
+use Rattle.pin_pool.specs.declared.names.Splice.{Splice}
 use Rattle.pin_pool.proofs.PoolLemmas.{has-append}
 use Rattle.gate_graph.specs.declared.entries.Entry.{Entry}
 use Rattle.gate_graph.specs.declared.entries.Entry.TheVariants.{Moved}
-use Rattle.gate_graph.specs.Rings.{Rings, Wiring, AreRings, AreOnce, IsShaped, IsWired, rings_of, kind_at, moved, moved_back, changed, IsIn, IsOut}
-use Rattle.gate_graph.specs.Entries.{CanTakeBack, taken_back, LeadOn}
+use Rattle.pin_pool.specs.Rings.{Rings, AreRings, rings_of, moved, moved_back, changed}
+use Rattle.gate_graph.specs.Wirings.{Wiring, IsShaped, IsWired, kind_at}
+use Rattle.gate_graph.specs.Entries.{CanTakeBack, LeadOn}
 use Rattle.gate_net.specs.Net.{trimmed, before_dead}
 use Rattle.gate_graph.specs.Circuit.{Circuit, wiring, net_of, node_in, node_with, gate_pins, home}
-use Rattle.gate_graph.proofs.RingsOf.{changed-same, changed-other, same-rings}
-use Rattle.gate_graph.proofs.NetOf.{home-here, map-same, net-ext, node_at-net, nodes-trimmed, observed-net}
+use Rattle.pin_pool.proofs.RingsOf.{changed-same, changed-other, same-rings}
+use Rattle.gate_graph.proofs.NetOf.{home-here, net-ext, node_at-net, nodes-trimmed, observed-net}
 use Rattle.gate_graph.proofs.LeadOns.{lead-rings, live-in}
 use Rattle.gate_graph.proofs.Ranked.{acyclic-net, wired-by}
 

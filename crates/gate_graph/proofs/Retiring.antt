@@ -1,6 +1,6 @@
 -- A gate goes, pin by pin.
-use Rattle.std.proofs.Common.{◌≡◌, ◌≢◌, ℕ, zero, suc, ◌+◌, ◌-◌, ◌<◌, ◌≤◌, Bool, true, false, List, [], ◌∷◌, ◌++◌, length, map, subst, Option, Some, None, refl, sym, ap, ◌∙◌, arith, inl, inr, ◌⊎◌}
-use Rattle.std.specs.Prelude.{slice_get, if◌then◌else◌}
+use Rattle.std.proofs.Common.{◌≡◌, ◌≢◌, ℕ, ◌+◌, ◌<◌, true, false, List, [], ◌∷◌, length, map, subst, Option, Some, None, refl, sym, ap, ◌∙◌, arith, inl, inr}
+use Rattle.std.specs.Prelude.{slice_get}
 use Rattle.std.specs.Option.{option_map}
 use mathlib.Core.Path.{fun_ext}
 use Rattle.std.proofs.lemmas.Bool.{cases_eq, ne_eqb, eq-eqb, false≢true, false_from_ne_true}
@@ -8,28 +8,30 @@ use Rattle.std.proofs.lemmas.Option.{slice_get-map}
 use Rattle.std.proofs.lemmas.List.{length-map}
 use Rattle.gate_net.specs.declared.Kind.{Kind}
 use Rattle.gate_net.specs.declared.Kind.TheVariants.{Source, Zero, One, And, Or, Not}
-use Rattle.gate_net.specs.Net.{Net, Node, node_at, drivers_of, Reads, IsObserved}
+use Rattle.gate_net.specs.Net.{node_at, drivers_of}
 use Rattle.gate_net.specs.Net.{IsGate, IsGateKind}
 use Rattle.gate_net.specs.Edits.{IsUnread, DiffersAt}
 use Rattle.pin_pool.specs.Ring.{has, without}
 use Rattle.pin_pool.specs.Pins.{Pins, list_of}
-use Rattle.pin_pool.specs.declared.pool.PinNo.{PinNo}
-use Rattle.pin_pool.specs.declared.pool.Slot.{Slot}
+use Rattle.pin_pool.specs.declared.names.PinNo.{PinNo}
+use Rattle.pin_pool.specs.declared.names.Slot.{Slot}
 use Rattle.gate_graph.specs.declared.entries.Entry.{Entry}
 use Rattle.gate_graph.specs.declared.entries.Entry.TheVariants.{Removed, Retired}
-use Rattle.gate_graph.specs.Rings.{Rings, Wiring, AreRings, AreOnce, IsShaped, IsWired, Stood, AreFirst, rings_of, kind_at, unlinked, changed, all_without, IsIn, IsOut}
-use Rattle.gate_graph.specs.Entries.{CanTakeBack, taken_back, LeadOn}
-use Rattle.gate_graph.specs.Circuit.{Circuit, wiring, net_of, node_in, node_with, gate_pins, home}
+use Rattle.pin_pool.specs.Rings.{Rings, AreRings, Stood, rings_of, unlinked, changed, all_without}
+use Rattle.gate_graph.specs.Wirings.{Wiring, IsShaped, IsWired, AreFirst, kind_at}
+use Rattle.gate_graph.specs.Entries.{LeadOn}
+use Rattle.gate_graph.specs.Circuit.{Circuit, wiring, net_of, fanouts_of, fans_in, node_with, gate_pins, home}
 use Rattle.gate_graph.specs.Emptied.{IsEmptied}
-use Rattle.gate_graph.proofs.RingsOf.{changed-same, changed-other}
+use Rattle.pin_pool.proofs.RingsOf.{changed-same, changed-other}
 use Rattle.gate_graph.proofs.NetOf.{home-here, map-same, node_at-net, observed-net, drivers-there}
 use Rattle.gate_graph.proofs.LeadOns.{lead-by, lead-trans, within-length, kind-of}
 use Rattle.gate_graph.proofs.Firsts.{first-changed, gate-no_first, none-no_first}
-use Rattle.gate_graph.proofs.Pinned.{has-at, no-pins}
+use Rattle.gate_graph.specs.Readers.{GateGoes}
+use Rattle.gate_graph.proofs.Extended.{fans-stripped, fans-none}
 use Rattle.gate_graph.proofs.Ranked.{reads-by, some-at}
 use Rattle.gate_graph.proofs.KindAt.{kind-within}
 use Rattle.gate_graph.proofs.Appended.{changed-back}
-use Rattle.gate_graph.proofs.Removed.{out, had, keeps, elsewhere, back-removed}
+use Rattle.gate_graph.proofs.Removed.{had, keeps, elsewhere, back-removed}
 
 length-without : (p : ℕ) (xs : List ℕ) → has p xs ≡ true → length (without p xs) + 1 ≡ length xs
 length-without p [] h = cc
@@ -51,12 +53,13 @@ emptied-start v g es rv ww = record {
   stay = λ n q h out. h;
   driven = ww.shape.driven;
   read = λ n q h g k. k;
+  fans = λ n. refl;
   undos = record { back = λ go. go; to = refl; within = λ h. h };
 }
 
 -- one pin more goes
-pub emptied-step : (v w u : Circuit) (g : ℕ) (pin : PinNo) (slot : Slot) (es fs : List Entry) → IsWired (wiring v) → IsEmptied v w g es fs → u.kinds ≡ w.kinds → rings_of u.pool ≡ unlinked pin.0 (rings_of w.pool) → AreRings (rings_of u.pool) → has pin.0 (list_of w.pool.inputs g) ≡ true → Stood (rings_of w.pool) pin.0 slot → IsEmptied v u g es (Removed pin slot ∷ fs) × (length (list_of u.pool.inputs g) + 1 ≡ length (list_of w.pool.inputs g))
-emptied-step v w u g pin slot es fs ww i same e ru at s =
+pub emptied-step : (v w u : Circuit) (g : ℕ) (pin : PinNo) (slot : Slot) (es fs : List Entry) → IsWired (wiring v) → g ≢ 0 → IsEmptied v w g es fs → u.kinds ≡ w.kinds → rings_of u.pool ≡ unlinked pin.0 (rings_of w.pool) → AreRings (rings_of u.pool) → has pin.0 (list_of w.pool.inputs g) ≡ true → Stood (rings_of w.pool) pin.0 slot → IsEmptied v u g es (Removed pin slot ∷ fs) × (length (list_of u.pool.inputs g) + 1 ≡ length (list_of w.pool.inputs g))
+emptied-step v w u g pin slot es fs ww nz i same e ru at s =
     let p = pin.0 in
     let ins : ℕ → List ℕ = λ n. list_of w.pool.inputs n in
     let outs : ℕ → List ℕ = λ n. list_of w.pool.fanouts n in
@@ -79,6 +82,7 @@ emptied-step v w u g pin slot es fs ww i same e ru at s =
         read = λ n q h m k. (
             let was = had outs _ i.rings.fanouts p n q (ap (has q) (sym (fanout-now n)) ∙ h) in
             ap (has q) (input-now m) ∙ keeps ins _ i.rings.inputs p m q (i.read n q was.0 m k) was.1);
+        fans = λ n. fans-stripped w.pool u.pool p g e i.rings ru nz at n ∙ i.fans n;
         undos = lead-trans v w u es fs (Removed pin slot ∷ fs) i.undos (back-removed w u p same e i.rings pin slot refl s gate driver fs);
       },
       ap (λ (l : List ℕ). length l + 1) (input-now g) ∙ length-without p (ins g) at,
@@ -242,3 +246,12 @@ none-first (x ∷ xs) e = cc
 pub some-first : (xs : List ℕ) → (p : ℕ) → has p xs ≡ true → 0 < length xs
 some-first [] p h = cc
 some-first (x ∷ xs) p h = omega arith
+
+pub gate-goes : (v w u : Circuit) (g : ℕ) (es fs : List Entry) → IsEmptied v w g es fs → list_of w.pool.inputs g ≡ [] → u.pool ≡ w.pool → GateGoes v u g
+unfolding fanouts_of
+gate-goes v w u g es fs i none same n = ap (λ (x : Pins). fans_in x n) same ∙ sym (fans-none w.pool g i.rings none n) ∙ i.fans n
+
+pub gate-not_zero : (v : Circuit) (g : ℕ) → IsShaped (wiring v) → IsGate (net_of v) g → g ≢ 0
+gate-not_zero v g s gate is =
+    let live = kind-of v g _ gate.1.0.1 in
+    (gate-not-constant gate.0 gate.1.1).0 (let both : Some gate.0 ≡ Some Zero = sym live ∙ ap (λ (n : ℕ). kind_at v.kinds n) is ∙ s.zero_is in cc)

@@ -1,14 +1,11 @@
 -- Circuits with one wiring have one net.
-use Rattle.std.proofs.Common.{◌≡◌, ◌≢◌, ℕ, zero, suc, ◌≤◌, Bool, true, false, List, [], ◌∷◌, length, map, Option, Some, None, refl, sym, ap, ◌∙◌, subst, arith}
-use Rattle.std.specs.Prelude.{if◌then◌else◌}
-use Rattle.gate_net.specs.declared.Kind.{Kind}
-use Rattle.pin_pool.specs.Ring.{has}
-use Rattle.pin_pool.specs.Pins.{Pins, list_of}
-use Rattle.gate_graph.specs.Rings.{Wiring, kind_at}
+use Rattle.std.proofs.Common.{◌≡◌, ℕ, suc, ◌≤◌, List, [], ◌∷◌, length, map, None, refl, sym, ap, ◌∙◌, subst, arith}
+use Rattle.pin_pool.specs.Pins.{list_of}
+use Rattle.gate_graph.specs.Wirings.{Wiring, kind_at}
 use Rattle.gate_graph.specs.declared.entries.Entry.{Entry}
 use Rattle.gate_graph.specs.declared.entries.Entry.TheVariants.{Appended, Removed, Redriven, Moved, Made, Retired}
 use Rattle.gate_graph.specs.Entries.{LeadOn, CanGoBack, back_to, AreWithin, IsWithin}
-use Rattle.gate_graph.specs.Circuit.{Circuit, wiring, net_of, fanouts_of, node_in, node_with, gate_pins, home, number_with, number_or_zero, next_number, reader, place_in, without_observed, SameWiring}
+use Rattle.gate_graph.specs.Circuit.{Circuit, wiring, net_of, fanouts_of, node_with, gate_pins, home, number_with, number_or_zero, next_number, reader, SameWiring}
 use Rattle.gate_graph.proofs.NetOf.{net-ext, nodes-trimmed, node_at-net, observed-net, map-same}
 
 number-nil : (ms : List (List ℕ)) (p : ℕ) → ((n : ℕ) → [] ≡ list_of ms n) → None ≡ number_with ms p
@@ -31,12 +28,10 @@ map-pairs : (f g : ℕ → ℕ × ℕ) (xs : List ℕ) → ((q : ℕ) → f q �
 map-pairs f g [] h = refl
 map-pairs f g (x ∷ xs) h = rw (h x, map-pairs f g xs h) refl
 
-pub same-wiring : SameWiring
+-- what is seen of a circuit says nothing of the pins that are taken
+pub same-seen : (v w : Circuit) → ((n : ℕ) → kind_at v.kinds n ≡ kind_at w.kinds n) → ((n : ℕ) → list_of v.pool.inputs n ≡ list_of w.pool.inputs n) → ((n : ℕ) → list_of v.pool.fanouts n ≡ list_of w.pool.fanouts n) → (net_of v ≡ net_of w) × ((n : ℕ) → fanouts_of v n ≡ fanouts_of w n)
 unfolding fanouts_of
-same-wiring v w e =
-    let kinds : (n : ℕ) → kind_at v.kinds n ≡ kind_at w.kinds n = λ n. ap (λ (x : Wiring). x.kind n) e in
-    let ins : (n : ℕ) → list_of v.pool.inputs n ≡ list_of w.pool.inputs n = λ n. ap (λ (x : Wiring). x.rings.inputs n) e in
-    let outs : (n : ℕ) → list_of v.pool.fanouts n ≡ list_of w.pool.fanouts n = λ n. ap (λ (x : Wiring). x.rings.fanouts n) e in
+same-seen v w kinds ins outs =
     let homes : (q : ℕ) → home v.pool.fanouts q ≡ home w.pool.fanouts q = λ q. home-same v.pool.fanouts w.pool.fanouts q outs in
     let mapped : (xs ys : List ℕ) → xs ≡ ys → map (home v.pool.fanouts) xs ≡ map (home w.pool.fanouts) ys = λ xs ys s. map-same (home v.pool.fanouts) (home w.pool.fanouts) xs (λ q h. homes q) ∙ ap (map (home w.pool.fanouts)) s in
     let pins : (n : ℕ) → gate_pins v.pool n ≡ gate_pins w.pool n = λ n. rw (ins n) refl in
@@ -45,6 +40,10 @@ same-wiring v w e =
           (mapped (list_of v.pool.inputs 0) (list_of w.pool.inputs 0) (ins 0) ∙ sym (observed-net w)),
       λ n. rw (ins 0, outs n) (map-pairs (reader v.pool) (reader w.pool) _ readers),
     )
+
+pub same-wiring : SameWiring
+same-wiring v w e =
+    same-seen v w (λ n. ap (λ (x : Wiring). x.kind n) e) (λ n. ap (λ (x : Wiring). x.rings.inputs n) e) (λ n. ap (λ (x : Wiring). x.rings.fanouts n) e)
 
 within-more : (m n : ℕ) (es : List Entry) → m ≤ n → AreWithin m es → AreWithin n es
 within-more m n [] h a = tt

@@ -1,16 +1,17 @@
 -- The net of a new graph.
-use Rattle.std.proofs.Common.{◌≡◌, ℕ, zero, suc, List, [], ◌∷◌, map, replicate, Option, Some, None, refl, sym, ap, ◌∙◌, inl, inr}
-use Rattle.std.specs.Prelude.{slice_get, if◌then◌else◌}
+use Rattle.std.proofs.Common.{◌≡◌, ℕ, zero, suc, List, [], ◌∷◌, map, replicate, Option, Some, refl, ap, ◌∙◌, inl, inr}
+use Rattle.std.specs.Prelude.{slice_get}
 use Rattle.std.proofs.lemmas.Bool.{cases_eq, ne_eqb}
 use Rattle.gate_net.specs.declared.Kind.{Kind}
 use Rattle.gate_net.specs.declared.Kind.TheVariants.{Source, Zero, One}
-use Rattle.gate_net.specs.Net.{Node, Net, node_at, flatten_option, plain_node, trimmed, before_dead}
+use Rattle.gate_net.specs.Net.{Node, node_at, flatten_option, plain_node, trimmed, before_dead}
 use Rattle.pin_pool.specs.Pins.{Pins, list_of}
-use Rattle.gate_graph.specs.Rings.{Rings, rings_of, kind_at}
-use Rattle.gate_graph.specs.Circuit.{Circuit, net_of, node_in, node_with, gate_pins, home, fanouts_of, reader, without_observed}
+use Rattle.pin_pool.specs.Rings.{Rings, rings_of, no_rings}
+use Rattle.gate_graph.specs.Wirings.{kind_at}
+use Rattle.gate_graph.specs.Circuit.{Circuit, net_of, node_with, gate_pins, home, fanouts_of, reader, without_observed}
 use Rattle.gate_graph.specs.Start.{first_net}
 use Rattle.gate_graph.proofs.NetOf.{net-ext}
-use Rattle.gate_graph.proofs.Fresh.{no_rings, first_kinds}
+use Rattle.gate_graph.proofs.Fresh.{first_kinds}
 
 all-live : (n : ℕ) → trimmed (replicate n (plain_node Source)) ≡ replicate n (plain_node Source)
 all-live zero = refl

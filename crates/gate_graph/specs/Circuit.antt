@@ -1,12 +1,11 @@
 -- What a contract sees of a graph, and the net and the fanouts that it stands for.
-use Rattle.std.specs.Prelude.{◌≡◌, ◌≢◌, ℕ, zero, suc, ◌<◌, ◌≤◌, ◌==◌, Bool, true, false, not, ◌&&◌, nat_lt, ◌-◌, List, [], ◌∷◌, ◌++◌, length, map, filter, Option, Some, None, if◌then◌else◌, slice_index_or, refl}
-use Rattle.std.specs.Coded.{Coded, code_by, coded×, coded_list, coded_option, coded_ℕ}
+use Rattle.std.specs.Prelude.{◌-◌, ◌≡◌, ◌≢◌, ℕ, zero, suc, ◌+◌, ◌<◌, ◌≤◌, ◌==◌, List, [], ◌∷◌, length, map, Option, Some, None, if◌then◌else◌}
+use Rattle.std.specs.FinSet as set
 use Rattle.gate_net.specs.declared.Kind.{Kind}
-use Rattle.gate_net.specs.declared.Kind.TheVariants.{Not}
-use Rattle.gate_net.specs.Net.{Node, Net, drivers_of, trimmed}
+use Rattle.gate_net.specs.Net.{Node, Net, trimmed}
 use Rattle.pin_pool.specs.Ring.{has}
-use Rattle.pin_pool.specs.Pins.{Pins, list_of, pins_code, IsValid}
-use Rattle.gate_graph.specs.Rings.{kind_at, Wiring, wiring_of, IsWired}
+use Rattle.pin_pool.specs.Pins.{Pins, list_of}
+use Rattle.gate_graph.specs.Wirings.{kind_at, free_in, Wiring, wiring_of, IsWired}
 
 -- the kinds by node number, the pins, and the epoch
 pub record Circuit : Type 0 where
@@ -65,9 +64,13 @@ abbrev pub without_observed : List ℕ → List ℕ → List ℕ
 without_observed observed [] = []
 without_observed observed (p ∷ ps) = if has p observed then without_observed observed ps else p ∷ without_observed observed ps
 
--- the readers of a node in ring order
+-- the readers of a node by its pins
+abbrev pub fans_in : Pins → ℕ → List (ℕ × ℕ)
+fans_in v n = map (reader v) (without_observed (list_of v.inputs 0) (list_of v.fanouts n))
+
+-- the readers of a node, each as its gate and its position, in ring order
 unfoldable pub fanouts_of : Circuit → ℕ → List (ℕ × ℕ)
-fanouts_of v n = map (reader v.pool) (without_observed (list_of v.pool.inputs 0) (list_of v.pool.fanouts n))
+fanouts_of v n = fans_in v.pool n
 
 -- what holds of every graph
 pub record IsGraph (v : Circuit) : Type 0 where
@@ -79,9 +82,32 @@ pub record IsGraph (v : Circuit) : Type 0 where
 abbrev pub kinds_live : List (Option Kind) → ℕ → Type 0
 kinds_live kinds n = (m : ℕ) → m < n → kind_at kinds m ≢ None
 
--- some number with room has no live node
-abbrev pub HasFree : List (Option Kind) → Type 0
-HasFree kinds = (n : ℕ) × ((n < length kinds) × (kind_at kinds n ≡ None))
+-- how many pins may be added, and how many nodes, before more room is reserved
+abbrev pub free_pins : Circuit → ℕ
+free_pins v = v.pool.spare
+
+abbrev pub free_nodes : Circuit → ℕ
+free_nodes v = free_in v.kinds
+
+-- the pins of gates, the observed places and the pins that undos hold, together
+abbrev pub pins_taken : Circuit → ℕ
+pins_taken v = set.len v.pool.taken
+
+-- how many nodes there are
+abbrev pub live_nodes : Circuit → ℕ
+live_nodes v = length v.kinds - free_in v.kinds
+
+-- so many free pins and nodes are used up
+pub record Uses (v w : Circuit) (pins nodes : ℕ) : Type 0 where
+  pub pins_left : free_pins w + pins ≡ free_pins v
+  pub nodes_left : free_nodes w + nodes ≡ free_nodes v
+  pub pins_more : pins_taken w ≡ pins_taken v + pins
+
+-- a node number is free again, and its pins are held
+pub record Frees (v w : Circuit) : Type 0 where
+  pub pins_left : free_pins w ≡ free_pins v
+  pub nodes_left : free_nodes w ≡ free_nodes v + 1
+  pub pins_more : pins_taken w ≡ pins_taken v
 
 -- circuits with one wiring have one net and the same readers in order
 abbrev pub SameWiring : Type 0

@@ -3,8 +3,9 @@ use Rattle.std.specs.Prelude.{◌≡◌, ◌≢◌, ℕ, true, false, List}
 use Rattle.pin_pool.specs.Ring.{has}
 use Rattle.pin_pool.specs.Pins.{list_of}
 use Rattle.gate_graph.specs.declared.entries.Entry.{Entry}
-use Rattle.gate_graph.specs.Rings.{AreRings, rings_of}
-use Rattle.gate_graph.specs.Circuit.{Circuit}
+use Rattle.pin_pool.specs.Rings.{AreRings, rings_of}
+use Rattle.gate_graph.specs.Circuit.{Circuit, fans_in}
+use Rattle.gate_graph.specs.Spots.{without_gate}
 use Rattle.gate_graph.specs.Entries.{LeadOn}
 
 pub record IsEmptied (v w : Circuit) (g : ℕ) (es fs : List Entry) : Type 0 where
@@ -16,4 +17,5 @@ pub record IsEmptied (v w : Circuit) (g : ℕ) (es fs : List Entry) : Type 0 whe
   pub stay : (n q : ℕ) → has q (list_of v.pool.fanouts n) ≡ true → has q (list_of v.pool.inputs g) ≡ false → has q (list_of w.pool.fanouts n) ≡ true
   pub driven : (n q : ℕ) → has q (list_of w.pool.inputs n) ≡ true → (m : ℕ) × (has q (list_of w.pool.fanouts m) ≡ true)
   pub read : (n q : ℕ) → has q (list_of w.pool.fanouts n) ≡ true → (m : ℕ) → has q (list_of v.pool.inputs m) ≡ true → has q (list_of w.pool.inputs m) ≡ true
+  pub fans : (n : ℕ) → without_gate g (fans_in w.pool n) ≡ without_gate g (fans_in v.pool n)
   pub undos : LeadOn v w es fs

@@ -1,11 +1,11 @@
 -- Entries of undos, the newest first, and the wiring that they lead back to.
-use Rattle.std.specs.Prelude.{◌≡◌, ◌≢◌, ℕ, ◌<◌, ◌≤◌, true, false, List, [], ◌∷◌, length, Option, Some, None}
-use Rattle.gate_net.specs.declared.Kind.{Kind}
+use Rattle.std.specs.Prelude.{◌≡◌, ◌≢◌, ℕ, ◌<◌, ◌≤◌, true, List, [], ◌∷◌, length, Some, None}
 use Rattle.pin_pool.specs.Pins.{StandsIn}
 use Rattle.pin_pool.specs.Ring.{without}
 use Rattle.gate_graph.specs.declared.entries.Entry.{Entry}
 use Rattle.gate_graph.specs.declared.entries.Entry.TheVariants.{Appended, Removed, Redriven, Moved, Made, Retired}
-use Rattle.gate_graph.specs.Rings.{Rings, Wiring, changed, dropped, relinked, restored, moved_back, IsIn, IsOut, IsWired}
+use Rattle.pin_pool.specs.Rings.{changed, dropped, relinked, restored, moved_back, IsIn, IsOut}
+use Rattle.gate_graph.specs.Wirings.{Wiring, IsWired}
 use Rattle.gate_graph.specs.Circuit.{Circuit, wiring}
 
 abbrev pub taken_back : Entry → Wiring → Wiring

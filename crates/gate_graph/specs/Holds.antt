@@ -3,7 +3,8 @@ use Rattle.std.specs.Prelude.{◌≡◌, ℕ, true, List, [], ◌∷◌, ◌++�
 use Rattle.pin_pool.specs.Ring.{has, IsApart}
 use Rattle.gate_graph.specs.declared.entries.Entry.{Entry}
 use Rattle.gate_graph.specs.declared.entries.Entry.TheVariants.{Removed}
-use Rattle.gate_graph.specs.Rings.{Wiring, IsOut}
+use Rattle.pin_pool.specs.Rings.{IsOut}
+use Rattle.gate_graph.specs.Wirings.{Wiring}
 
 abbrev pub held_by : Entry → List ℕ
 held_by (Removed pin slot) = pin.0 ∷ []

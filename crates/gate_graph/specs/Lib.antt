@@ -1,4 +1,4 @@
-pub mod Rings
+pub mod Wirings
 pub mod Entries
 pub mod Circuit
 pub mod Trail
@@ -7,4 +7,7 @@ pub mod Changes
 pub mod Holds
 pub mod Filled
 pub mod Start
+pub mod Spots
 pub mod Readers
+pub mod Search
+pub mod Totals

@@ -1,7 +1,8 @@
 -- The lists of readers, and how they change.
-use Rattle.std.specs.Prelude.{◌≡◌, ◌≢◌, ℕ, suc, ◌-◌, ◌≤◌, ◌==◌, ◌&&◌, ◌↔◌, nat_lt, Bool, List, [], ◌∷◌, ◌++◌, length, map, Some, slice_get, if◌then◌else◌}
+use Rattle.std.specs.Prelude.{◌≡◌, ◌≢◌, ℕ, suc, ◌-◌, ◌==◌, ◌&&◌, nat_lt, Bool, List, [], ◌∷◌, ◌++◌, length, map, Some, slice_get, if◌then◌else◌}
 use Rattle.gate_net.specs.Net.{drivers_of, Reads}
 use Rattle.gate_graph.specs.Circuit.{Circuit, net_of, fanouts_of}
+use Rattle.gate_graph.specs.Spots.{places_from, without_gate}
 
 abbrev pub is_place : ℕ × ℕ → ℕ × ℕ → Bool
 is_place place other = (other.0 == place.0) && (other.1 == place.1)
@@ -20,11 +21,6 @@ pub record ListReaders (v : Circuit) : Type 0 where
 -- the same readers in the same order
 abbrev pub SameReaders : Circuit → Circuit → Type 0
 SameReaders v w = (n : ℕ) → fanouts_of w n ≡ fanouts_of v n
-
--- the places from a position on whose driver is the node
-abbrev pub places_from : ℕ → ℕ → List ℕ → ℕ → List (ℕ × ℕ)
-places_from gate position [] n = []
-places_from gate position (d ∷ ds) n = if d == n then (gate, position) ∷ places_from gate (suc position) ds n else places_from gate (suc position) ds n
 
 -- the pins of a new gate are the last readers of their drivers, in order
 abbrev pub NewReaders : Circuit → Circuit → ℕ → List ℕ → Type 0
@@ -61,3 +57,7 @@ lowered gate k place = if place.0 == gate then (place.0, lowered_by k place.1) e
 abbrev pub ReaderGoes : Circuit → Circuit → ℕ → ℕ → Type 0
 ReaderGoes v w gate position =
     (n : ℕ) → fanouts_of w n ≡ map (lowered gate position) (without_place (gate, position) (fanouts_of v n))
+
+-- all readers that are pins of the gate go
+abbrev pub GateGoes : Circuit → Circuit → ℕ → Type 0
+GateGoes v w gate = (n : ℕ) → fanouts_of w n ≡ without_gate gate (fanouts_of v n)

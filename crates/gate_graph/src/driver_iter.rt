@@ -2,8 +2,8 @@
 ghost use Rattle.std.specs.Prelude.{◌≡◌, ℕ, List};
 ghost use Rattle.std.specs.Iterator.{YieldsFirstBy, item_count};
 
-use pin_pool::{PinIter, Pool};
 use rm_base::NodeId;
+use pin_pool::{PinIter, Pool};
 use std::marker::Model;
 
 /// The drivers of a gate, in order.
@@ -20,13 +20,13 @@ impl<'a> Model for Inputs<'a> {
 
     ghost use Rattle.std.specs.Prelude.{◌≡◌, true, map};
     ghost use Rattle.pin_pool.specs.Ring.{has};
-    ghost use Rattle.pin_pool.specs.Pins.{IsLinked};
-    ghost use Rattle.gate_graph.specs.Rings.{rings_of, AreRings};
+    ghost use Rattle.pin_pool.specs.Rings.{IsLinked};
+    ghost use Rattle.pin_pool.specs.Rings.{rings_of, AreRings};
     ghost use Rattle.gate_graph.specs.Circuit.{home};
 
     ghost view = { λ it. map (home it.pool.now.fanouts) it.pins };
 
-    ghost invariant = { λ it. AreRings (rings_of it.pool.now) × ((p : ℕ) → has p it.pins ≡ true → IsLinked it.pool.now p) };
+    ghost invariant = { λ it. AreRings (rings_of it.pool.now) × ((p : ℕ) → has p it.pins ≡ true → IsLinked (rings_of it.pool.now) p) };
 }
 
 impl Iterator for Inputs<'_> {

@@ -4,8 +4,8 @@ ghost use Rattle.gate_graph.specs.Entries.{LeadOn};
 ghost use Rattle.gate_graph.specs.Changes.{CanEdit, Edits, entries_for};
 ghost use Rattle.gate_graph.specs.declared.entries.Entry.{Entry};
 ghost use Rattle.gate_net.specs.Edits.{MakesGate};
-ghost use Rattle.gate_graph.specs.Circuit.{net_of, HasFree};
-ghost use Rattle.gate_graph.specs.Readers.{LastReader, ReadersMove, ReaderMoves, ReaderGoes};
+ghost use Rattle.gate_graph.specs.Circuit.{net_of, free_pins, free_nodes, Uses, Frees};
+ghost use Rattle.gate_graph.specs.Readers.{LastReader, ReadersMove, ReaderMoves, ReaderGoes, GateGoes};
 ghost use Rattle.gate_net.specs.Net.{drivers_of, node_at};
 ghost use Rattle.gate_net.specs.Paths.{Reaches};
 ghost use Rattle.gate_net.specs.Net.{IsLive, IsGate};
@@ -83,13 +83,13 @@ impl Graph {
         requires driver { IsLive (net_of self.old) driver.0 }
         requires apart { driver.0 ≢ gate.0 }
         requires path { Reaches (net_of self.old) gate.0 driver.0 → ⊥ }
-        requires room { 0 < self.old.pool.spare }
+        requires room { 0 < free_pins self.old }
         requires entry { 0 < undos.old.spare }
         ensures net { net_of self.new ≡ with_pin (net_of self.old) gate.0 driver.0 }
         ensures readers { LastReader self.old self.new gate.0 driver.0 }
         ensures undos { LeadOn self.old self.new undos.old.entries undos.new.entries }
         ensures epoch { self.new.epoch ≡ self.old.epoch }
-        ensures room { self.new.pool.spare + 1 ≡ self.old.pool.spare }
+        ensures uses { Uses self.old self.new 1 0 }
         ensures entry { undos.new.spare + 1 ≡ undos.old.spare }
     {
         look(&self.pool);
@@ -107,7 +107,7 @@ impl Graph {
         ensures readers { ReaderGoes self.old self.new gate.0 position }
         ensures undos { LeadOn self.old self.new undos.old.entries undos.new.entries }
         ensures epoch { self.new.epoch ≡ self.old.epoch }
-        ensures room { self.new.pool.spare ≡ self.old.pool.spare }
+        ensures uses { Uses self.old self.new 0 0 }
         ensures entry { undos.new.spare + 1 ≡ undos.old.spare }
     {
         let pin = self.pin_of(gate, position);
@@ -127,7 +127,7 @@ impl Graph {
         ensures readers { ReaderMoves self.old self.new gate.0 position driver.0 }
         ensures undos { LeadOn self.old self.new undos.old.entries undos.new.entries }
         ensures epoch { self.new.epoch ≡ self.old.epoch }
-        ensures room { self.new.pool.spare ≡ self.old.pool.spare }
+        ensures uses { Uses self.old self.new 0 0 }
         ensures entry { undos.new.spare + 1 ≡ undos.old.spare }
     {
         let pin = self.pin_of(gate, position);
@@ -147,7 +147,7 @@ impl Graph {
         ensures readers { ReadersMove self.old self.new from.0 to.0 }
         ensures undos { LeadOn self.old self.new undos.old.entries undos.new.entries }
         ensures epoch { self.new.epoch ≡ self.old.epoch }
-        ensures room { self.new.pool.spare ≡ self.old.pool.spare }
+        ensures uses { Uses self.old self.new 0 0 }
         ensures entry { undos.new.spare + 1 ≡ undos.old.spare }
     {
         look(&self.pool);
@@ -159,21 +159,21 @@ impl Graph {
     // A Not of the driver takes the least free number, which is given.
     fn new_not(&mut self, driver: NodeId, undos: &mut Undos) -> u32
         requires driver { IsLive (net_of self.old) driver.0 }
-        requires room { 0 < self.old.pool.spare }
-        requires nodes { HasFree self.old.kinds }
+        requires room { 0 < free_pins self.old }
+        requires nodes { 0 < free_nodes self.old }
         requires entry { 0 < undos.old.spare }
         ensures net { MakesGate (net_of self.old) (net_of self.new) Not (driver.0 ∷ []) result }
         ensures readers { LastReader self.old self.new result driver.0 }
         ensures undos { LeadOn self.old self.new undos.old.entries undos.new.entries }
         ensures epoch { self.new.epoch ≡ self.old.epoch }
-        ensures room { self.new.pool.spare + 1 ≡ self.old.pool.spare }
+        ensures uses { Uses self.old self.new 1 1 }
         ensures entry { undos.new.spare + 1 ≡ undos.old.spare }
     {
         look(&self.pool);
         let node = least_free(&self.kinds, self.least);
         let pin = link_new(&mut self.pool, node, driver.0);
         look(&self.pool);
-        set_kind(&mut self.kinds, node, Some(Kind::Not));
+        set_kind(&mut self.kinds, &mut self.free, node, Some(Kind::Not));
         self.least = node + 1;
         undos.push(Entry::Made { node, pin });
         node
@@ -185,9 +185,10 @@ impl Graph {
         requires unread { IsUnread (net_of self.old) gate.0 }
         requires entries { length (drivers_of (net_of self.old) gate.0) < undos.old.spare }
         ensures net { DiffersAt (net_of self.old) (net_of self.new) gate.0 × (node_at (net_of self.new) gate.0 ≡ None) }
+        ensures readers { GateGoes self.old self.new gate.0 }
         ensures undos { LeadOn self.old self.new undos.old.entries undos.new.entries }
         ensures epoch { self.new.epoch ≡ self.old.epoch }
-        ensures room { self.new.pool.spare ≡ self.old.pool.spare }
+        ensures uses { Frees self.old self.new }
         ensures entries { undos.new.spare + 1 + length (drivers_of (net_of self.old) gate.0) ≡ undos.old.spare }
     {
         look(&self.pool);
@@ -198,7 +199,7 @@ impl Graph {
         }
         match self.kinds[gate.0 as usize] {
             Some(kind) => {
-                set_kind(&mut self.kinds, gate.0, None);
+                set_kind(&mut self.kinds, &mut self.free, gate.0, None);
                 self.least = self.least.min(gate.0);
                 undos.push(Entry::Retired { node: gate.0, kind });
             }

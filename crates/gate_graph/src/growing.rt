@@ -1,13 +1,13 @@
 //! Calls that make a graph larger.
 ghost use Rattle.std.specs.Prelude.{◌≡◌, ◌+◌, ◌<◌, ◌≤◌, [], ◌∷◌, length, Some, None, IfOk, true, List, OnOk, ◌-◌, ◌++◌, OnErr, map, ℕ};
 ghost use Rattle.gate_graph.specs.Entries.{LeadOn};
-ghost use Rattle.std.specs.FinSet as set;
 ghost use Rattle.gate_graph.specs.declared.entries.Entry.{Entry};
 ghost use Rattle.gate_net.specs.Edits.{MakesGate};
-ghost use Rattle.gate_graph.specs.Circuit.{wiring, net_of, HasFree};
+ghost use Rattle.gate_graph.specs.Circuit.{wiring, net_of, free_pins, free_nodes, pins_taken, live_nodes};
 ghost use Rattle.gate_net.specs.Net.{IsLive, IsGateKind};
 ghost use Rattle.gate_net.specs.declared.Kind.TheVariants.{Not};
 ghost use Rattle.pin_pool.specs.Ring.{has};
+ghost use Rattle.gate_graph.specs.Readers.{NewReaders, SameReaders};
 
 use crate::pins::least_free;
 use crate::rings::{link_all, link_new, look};
@@ -17,25 +17,31 @@ use gate_net::Kind;
 use rm_base::{NoMemory, NodeId};
 
 impl Graph {
-    /// Makes free room for pins and nodes.
+    /// Makes the free room at least so many pins and nodes. It takes the time of the room that is made.
     pub fn reserve(&mut self, pins: usize, nodes: usize) -> Result<(), NoMemory>
-        requires pins { set.len self.old.pool.taken + pins ≤ 4294967295 }
-        requires nodes { length self.old.kinds + nodes ≤ 4294967295 }
-        ensures wiring { wiring self.new ≡ wiring self.old }
+        requires pins { pins_taken self.old + pins ≤ 4294967295 }
+        requires nodes { live_nodes self.old + nodes ≤ 4294967295 }
+        ensures pins { OnOk result (pins ≤ free_pins self.new) }
+        ensures nodes { OnOk result (nodes ≤ free_nodes self.new) }
         ensures net { net_of self.new ≡ net_of self.old }
-        ensures epoch { self.new.epoch ≡ self.old.epoch }
-        ensures pins { OnOk result (pins ≤ self.new.pool.spare) }
-        ensures nodes { OnOk result (length self.old.kinds + nodes ≡ length self.new.kinds) }
-        ensures kept { self.old.pool.spare ≤ self.new.pool.spare }
+        ensures fanouts { SameReaders self.old self.new }
+        ensures wiring { wiring self.new ≡ wiring self.old }
         ensures undos { (es : List Entry) → LeadOn self.old self.new es es }
+        ensures epoch { self.new.epoch ≡ self.old.epoch }
+        ensures kept_pins { free_pins self.old ≤ free_pins self.new }
+        ensures kept_nodes { free_nodes self.old ≤ free_nodes self.new }
+        ensures taken { pins_taken self.new ≡ pins_taken self.old }
+        ensures live { live_nodes self.new ≡ live_nodes self.old }
     {
-        let count = self.kinds.len() + nodes;
+        let missing = nodes.saturating_sub(self.free as usize);
+        let count = self.kinds.len() + missing;
         let Ok(()) = self.pool.reserve(pins, count) else {
             return Err(NoMemory);
         };
         let Ok(()) = self.kinds.resize(count, None) else {
             return Err(NoMemory);
         };
+        self.free += missing as u32;
         Ok(())
     }
 
@@ -44,10 +50,16 @@ impl Graph {
         requires kind { IsGateKind kind }
         requires one { kind ≡ Not → length drivers.now ≡ 1 }
         requires drivers { (d : ℕ) → has d (map (λ n. n.0) drivers.now) ≡ true → IsLive (net_of self.old) d }
-        requires pins { set.len self.old.pool.taken + length drivers.now ≤ 4294967295 }
-        requires nodes { length self.old.kinds < 4294967295 }
+        requires pins { pins_taken self.old + length drivers.now ≤ 4294967295 }
+        requires nodes { live_nodes self.old < 4294967295 }
         ensures made { IfOk result (λ node. MakesGate (net_of self.old) (net_of self.new) kind (map (λ n. n.0) drivers.now) node.0) }
+        ensures fanouts { IfOk result (λ node. NewReaders self.old self.new node.0 (map (λ n. n.0) drivers.now)) }
+        ensures pins { OnOk result (pins_taken self.new ≡ pins_taken self.old + length drivers.now) }
+        ensures nodes { OnOk result (live_nodes self.new ≡ live_nodes self.old + 1) }
         ensures refused { OnErr result (net_of self.new ≡ net_of self.old) }
+        ensures refused_fanouts { OnErr result (SameReaders self.old self.new) }
+        ensures refused_pins { OnErr result (pins_taken self.new ≡ pins_taken self.old) }
+        ensures refused_nodes { OnErr result (live_nodes self.new ≡ live_nodes self.old) }
         ensures epoch { self.new.epoch ≡ self.old.epoch }
     {
         self.tell();
@@ -62,15 +74,18 @@ impl Graph {
         requires kind { IsGateKind kind }
         requires one { kind ≡ Not → length drivers.now ≡ 1 }
         requires drivers { (d : ℕ) → has d (map (λ n. n.0) drivers.now) ≡ true → IsLive (net_of self.old) d }
-        requires pins { length drivers.now ≤ self.old.pool.spare }
-        requires nodes { HasFree self.old.kinds }
+        requires pins { length drivers.now ≤ free_pins self.old }
+        requires nodes { 0 < free_nodes self.old }
         ensures made { MakesGate (net_of self.old) (net_of self.new) kind (map (λ n. n.0) drivers.now) result }
+        ensures fanouts { NewReaders self.old self.new result (map (λ n. n.0) drivers.now) }
+        ensures pins { pins_taken self.new ≡ pins_taken self.old + length drivers.now }
+        ensures nodes { live_nodes self.new ≡ live_nodes self.old + 1 }
         ensures epoch { self.new.epoch ≡ self.old.epoch }
     {
         look(&self.pool);
         let node = least_free(&self.kinds, self.least);
         link_all(&mut self.pool, node, drivers);
-        set_kind(&mut self.kinds, node, Some(kind));
+        set_kind(&mut self.kinds, &mut self.free, node, Some(kind));
         self.least = node + 1;
         node
     }
@@ -78,9 +93,13 @@ impl Graph {
     /// Appends the node to the observed list.
     pub fn observe(&mut self, node: NodeId) -> Result<(), NoMemory>
         requires node { IsLive (net_of self.old) node.0 }
-        requires pins { set.len self.old.pool.taken + 1 ≤ 4294967295 }
+        requires pins { pins_taken self.old < 4294967295 }
         ensures observed { OnOk result (net_of self.new ≡ record (net_of self.old) { observed = (net_of self.old).observed ++ node.0 ∷ [] }) }
         ensures refused { OnErr result (net_of self.new ≡ net_of self.old) }
+        ensures fanouts { SameReaders self.old self.new }
+        ensures pins { OnOk result (pins_taken self.new ≡ pins_taken self.old + 1) }
+        ensures refused_pins { OnErr result (pins_taken self.new ≡ pins_taken self.old) }
+        ensures nodes { live_nodes self.new ≡ live_nodes self.old }
         ensures epoch { self.new.epoch ≡ self.old.epoch }
     {
         self.tell();
@@ -94,8 +113,11 @@ impl Graph {
     // Appends the node to the observed list, for which there is room.
     fn link_observed(&mut self, node: NodeId)
         requires node { IsLive (net_of self.old) node.0 }
-        requires room { 0 < self.old.pool.spare }
+        requires room { 0 < free_pins self.old }
         ensures net { net_of self.new ≡ record (net_of self.old) { observed = (net_of self.old).observed ++ node.0 ∷ [] } }
+        ensures fanouts { SameReaders self.old self.new }
+        ensures pins { pins_taken self.new ≡ pins_taken self.old + 1 }
+        ensures nodes { live_nodes self.new ≡ live_nodes self.old }
         ensures epoch { self.new.epoch ≡ self.old.epoch }
     {
         look(&self.pool);

@@ -1,6 +1,7 @@
 //! A graph of gates over a pool of pins, its edits, and their undoing.
 #![tactic(auto)]
 
+mod counting;
 mod driver_iter;
 mod editing;
 mod entries;
@@ -9,6 +10,7 @@ mod pins;
 mod reader_iter;
 mod reading;
 mod rings;
+mod searching;
 mod state;
 mod undoing;
 
@@ -16,4 +18,5 @@ pub use driver_iter::Inputs;
 pub use editing::Edit;
 pub use entries::{Entry, Undos};
 pub use reader_iter::Fanouts;
+pub use searching::Marks;
 pub use state::{Graph, same_wiring};

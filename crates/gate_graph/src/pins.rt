@@ -1,10 +1,12 @@
 //! Pins of a gate.
 ghost use Rattle.std.specs.Prelude.{◌≡◌, ◌≢◌, ◌+◌, ◌<◌, ◌≤◌, ℕ, true, false, length, slice_get, Some, None, IfSome, [], ◌∷◌};
 ghost use Rattle.std.specs.Option.{option_map};
-ghost use Rattle.pin_pool.specs.Pins.{list_of, IsLinked};
-ghost use Rattle.gate_graph.specs.Rings.{kind_at};
+ghost use Rattle.pin_pool.specs.Rings.{rings_of, IsLinked};
+ghost use Rattle.pin_pool.specs.Pins.{list_of};
+ghost use Rattle.gate_graph.specs.Wirings.{kind_at};
 ghost use Rattle.gate_graph.specs.Circuit.{kinds_live, gate_pins, place_in, without_observed};
 ghost use Rattle.pin_pool.specs.Ring.{has};
+ghost use Rattle.gate_net.specs.declared.Kind.TheVariants.{Source};
 
 use crate::rings::look;
 use gate_net::Kind;
@@ -104,11 +106,11 @@ pub(crate) fn place_of(pool: &Pool, gate: u32, pin: PinNo) -> u32
 
 // The next pin that is no observed place.
 pub(crate) fn next_reading(pins: &mut PinIter<'_>, pool: &Pool) -> Option<PinNo>
-    requires linked { (p : ℕ) → has p pins.old ≡ true → IsLinked pool.now p }
+    requires linked { (p : ℕ) → has p pins.old ≡ true → IsLinked (rings_of pool.now) p }
     ensures none { result ≡ None → without_observed (list_of pool.now.inputs 0) pins.old ≡ [] }
     ensures rest { result ≡ None → pins.new ≡ [] }
     ensures some { IfSome result (λ pin. without_observed (list_of pool.now.inputs 0) pins.old ≡ pin.0 ∷ without_observed (list_of pool.now.inputs 0) pins.new) }
-    ensures linked { IfSome result (λ pin. IsLinked pool.now pin.0) }
+    ensures linked { IfSome result (λ pin. IsLinked (rings_of pool.now) pin.0) }
     ensures reads { IfSome result (λ pin. has pin.0 (list_of pool.now.inputs 0) ≡ false) }
     ensures kept { (p : ℕ) → has p pins.new ≡ true → has p pins.old ≡ true }
 {
@@ -123,8 +125,8 @@ pub(crate) fn next_reading(pins: &mut PinIter<'_>, pool: &Pool) -> Option<PinNo>
 
 // Whether an observed place is among the readers of a node.
 pub(crate) fn observes(pool: &Pool, node: u32) -> bool
-    requires within { node < length pool.now.fanouts }
-    requires linked { (p : ℕ) → has p (list_of pool.now.fanouts node) ≡ true → IsLinked pool.now p }
+    requires within { node < length pool.now.inputs }
+    requires linked { (p : ℕ) → has p (list_of pool.now.fanouts node) ≡ true → IsLinked (rings_of pool.now) p }
     ensures found { result ≡ true → (p : ℕ) × ((has p (list_of pool.now.fanouts node) ≡ true) × (has p (list_of pool.now.inputs 0) ≡ true)) }
     ensures none { result ≡ false → (p : ℕ) → has p (list_of pool.now.fanouts node) ≡ true → has p (list_of pool.now.inputs 0) ≡ false }
 {
@@ -135,4 +137,43 @@ pub(crate) fn observes(pool: &Pool, node: u32) -> bool
         }
     }
     false
+}
+
+fn is_source(kind: Option<Kind>) -> bool
+    ensures yes_is { result ≡ true → kind ≡ Some Source }
+    ensures no_is { result ≡ false → kind ≢ Some Source }
+{
+    match kind {
+        Some(Kind::Source) => true,
+        _ => false,
+    }
+}
+
+// How many sources there are from number 2 on.
+pub(crate) fn first_sources(kinds: &[Option<Kind>]) -> u32
+    requires few { length kinds.now ≤ 4294967295 }
+    ensures all { (k : ℕ) → k < result → kind_at kinds.now (2 + k) ≡ Some Source }
+    ensures end { kind_at kinds.now (2 + result) ≢ Some Source }
+    ensures few { result ≤ length kinds.now }
+{
+    let mut at = 2u32;
+    while (at as usize) < kinds.len() {
+        if !is_source(stored_kind(kinds, at)) {
+            return at - 2;
+        }
+        at += 1;
+    }
+    at - 2
+}
+
+// How many pins a node has.
+pub(crate) fn count_pins(pool: &Pool, gate: u32) -> u32
+    requires { gate < length pool.now.inputs }
+    ensures { result ≡ length (list_of pool.now.inputs gate) }
+{
+    let mut count = 0u32;
+    for _ in pool.inputs(gate) {
+        count += 1;
+    }
+    count
 }

@@ -1,12 +1,13 @@
 //! Calls that read a graph.
 ghost use Rattle.std.specs.Prelude.{◌≡◌, ◌+◌, ◌<◌, ◌≤◌, ◌↔◌, [], Some, None, IsTrue, true, length, slice_get};
 ghost use Rattle.std.specs.Option.{option_map};
-ghost use Rattle.gate_graph.specs.Rings.{rings_of, AreRings, IsIn, kind_at};
+ghost use Rattle.pin_pool.specs.Rings.{rings_of, AreRings, IsIn};
+ghost use Rattle.gate_graph.specs.Wirings.{kind_at};
 ghost use Rattle.gate_graph.specs.Circuit.{net_of, fanouts_of, IsGraph, gate_pins};
 ghost use Rattle.gate_net.specs.Net.{drivers_of, IsLive, IsObserved};
 
 use crate::driver_iter::Inputs;
-use crate::pins::{last_live, nth_pin, observes, pins_of_gate};
+use crate::pins::{nth_pin, observes, pins_of_gate};
 use crate::reader_iter::Fanouts;
 use crate::rings::look;
 use crate::state::Graph;
@@ -126,13 +127,5 @@ impl Graph {
             return false;
         }
         observes(&self.pool, node.0)
-    }
-
-    /// One more than the greatest number of a live node.
-    pub fn node_bound(&self) -> u32
-        ensures { result ≡ length (net_of self.now).nodes }
-    {
-        self.tell();
-        last_live(&self.kinds)
     }
 }

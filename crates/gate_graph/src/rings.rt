@@ -4,15 +4,16 @@ ghost use Rattle.std.specs.FinSet as set;
 ghost use Rattle.pin_pool.specs.Ring.{has, without};
 ghost use Rattle.pin_pool.specs.Pins.{StandsIn, list_of};
 ghost use Rattle.gate_graph.specs.Filled.{IsFilled};
-ghost use Rattle.gate_graph.specs.Rings.{rings_of, linked, dropped, unlinked, relinked, redriven, restored, moved, moved_back, IsIn, IsOut, AreRings, Stood};
+ghost use Rattle.pin_pool.specs.Rings.{rings_of, linked, dropped, unlinked, relinked, redriven, restored, moved, moved_back, IsIn, IsOut, AreRings, Stood};
 
-use pin_pool::{PinNo, Pool, Slot, Splice};
 use rm_base::NodeId;
+use pin_pool::{PinNo, Pool, Slot, Splice};
 
 // Tells that no pin stands twice.
 pub(crate) fn look(pool: &Pool)
     ensures rings { AreRings (rings_of pool.now) }
     ensures nodes { length pool.now.fanouts ≡ length pool.now.inputs }
+    ensures few { set.len pool.now.taken + pool.now.spare ≤ 4294967295 }
 {
     let _spare = pool.spare();
 }
@@ -26,6 +27,7 @@ pub(crate) fn link_new(pool: &mut Pool, gate: u32, driver: u32) -> PinNo
     ensures rings { rings_of pool.new ≡ linked result.0 gate driver (rings_of pool.old) }
     ensures spare { pool.new.spare + 1 ≡ pool.old.spare }
     ensures nodes { length pool.new.inputs ≡ length pool.old.inputs }
+    ensures taken { set.len pool.new.taken ≡ set.len pool.old.taken + 1 }
 {
     look(pool);
     match pool.take() {
@@ -44,6 +46,7 @@ pub(crate) fn drop_pin(pool: &mut Pool, pin: PinNo)
     ensures rings { rings_of pool.new ≡ dropped pin.0 (rings_of pool.old) }
     ensures spare { pool.new.spare ≡ pool.old.spare + 1 }
     ensures nodes { length pool.new.inputs ≡ length pool.old.inputs }
+    ensures taken { set.len pool.new.taken ≤ set.len pool.old.taken }
 {
     look(pool);
     let _slot = pool.unlink(pin);
@@ -58,6 +61,7 @@ pub(crate) fn unlink_pin(pool: &mut Pool, pin: PinNo) -> Slot
     ensures stood { Stood (rings_of pool.old) pin.0 result }
     ensures spare { pool.new.spare ≡ pool.old.spare }
     ensures nodes { length pool.new.inputs ≡ length pool.old.inputs }
+    ensures taken { pool.new.taken ≡ pool.old.taken }
 {
     look(pool);
     pool.unlink(pin)
@@ -74,6 +78,7 @@ pub(crate) fn relink_pin(pool: &mut Pool, pin: PinNo, slot: Slot)
     ensures rings { rings_of pool.new ≡ relinked pin.0 slot (rings_of pool.old) }
     ensures spare { pool.new.spare ≡ pool.old.spare }
     ensures nodes { length pool.new.inputs ≡ length pool.old.inputs }
+    ensures taken { pool.new.taken ≡ pool.old.taken }
 {
     look(pool);
     pool.relink(pin, slot);
@@ -87,6 +92,7 @@ pub(crate) fn redrive_pin(pool: &mut Pool, pin: PinNo, driver: u32) -> Slot
     ensures stood { Stood (rings_of pool.old) pin.0 result }
     ensures spare { pool.new.spare ≡ pool.old.spare }
     ensures nodes { length pool.new.inputs ≡ length pool.old.inputs }
+    ensures taken { pool.new.taken ≡ pool.old.taken }
 {
     look(pool);
     pool.move_to_driver(pin, driver)
@@ -100,6 +106,7 @@ pub(crate) fn restore_pin(pool: &mut Pool, pin: PinNo, slot: Slot)
     ensures rings { rings_of pool.new ≡ restored pin.0 slot (rings_of pool.old) }
     ensures spare { pool.new.spare ≡ pool.old.spare }
     ensures nodes { length pool.new.inputs ≡ length pool.old.inputs }
+    ensures taken { pool.new.taken ≡ pool.old.taken }
 {
     look(pool);
     pool.restore_driver(pin, slot);
@@ -113,6 +120,7 @@ pub(crate) fn move_fanouts(pool: &mut Pool, from: u32, to: u32) -> Splice
     ensures splice { (result.from ≡ from) × (result.to ≡ to) × (result.count ≡ length ((rings_of pool.old).fanouts from)) }
     ensures spare { pool.new.spare ≡ pool.old.spare }
     ensures nodes { length pool.new.inputs ≡ length pool.old.inputs }
+    ensures taken { pool.new.taken ≡ pool.old.taken }
 {
     look(pool);
     pool.move_all(from, to)
@@ -127,6 +135,7 @@ pub(crate) fn move_fanouts_back(pool: &mut Pool, splice: Splice)
     ensures rings { rings_of pool.new ≡ moved_back splice (rings_of pool.old) }
     ensures spare { pool.new.spare ≡ pool.old.spare }
     ensures nodes { length pool.new.inputs ≡ length pool.old.inputs }
+    ensures taken { pool.new.taken ≡ pool.old.taken }
 {
     look(pool);
     pool.move_back(splice);
@@ -137,9 +146,11 @@ pub(crate) fn link_all(pool: &mut Pool, gate: u32, drivers: &[NodeId])
     requires spare { length drivers.now ≤ pool.old.spare }
     requires gate { gate < length pool.old.inputs }
     requires none { list_of pool.old.inputs gate ≡ [] }
+    requires apart { gate ≢ 0 }
     requires drivers { (d : ℕ) → has d (map (λ n. n.0) drivers.now) ≡ true → d < length pool.old.inputs }
     ensures filled { IsFilled pool.old pool.new gate (map (λ n. n.0) drivers.now) }
     ensures nodes { length pool.new.inputs ≡ length pool.old.inputs }
+    ensures taken { set.len pool.new.taken ≡ set.len pool.old.taken + length drivers.now }
 {
     look(pool);
     for driver in drivers {

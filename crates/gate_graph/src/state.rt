@@ -1,11 +1,11 @@
 //! The graph.
-ghost use Rattle.std.specs.Prelude.{◌≡◌, ◌≤◌, ℕ, [], IfOk, length};
-ghost use Rattle.gate_graph.specs.Rings.{rings_of, AreRings};
+ghost use Rattle.std.specs.Prelude.{◌<◌, ◌^◌, ◌↔◌, IsTrue, ◌≡◌, ◌+◌, ◌-◌, ◌≤◌, ℕ, [], IfOk, length};
+ghost use Rattle.pin_pool.specs.Rings.{rings_of, AreRings};
 ghost use Rattle.gate_graph.specs.Entries.{CanGoBack};
-ghost use Rattle.gate_graph.specs.Circuit.{Circuit, wiring, net_of, fanouts_of, IsGraph, SameWiring};
+ghost use Rattle.gate_graph.specs.Circuit.{Circuit, wiring, net_of, fanouts_of, pins_taken, free_pins, free_nodes, live_nodes, IsGraph, SameWiring};
 ghost use Rattle.gate_graph.specs.Readers.{ListReaders};
 ghost use Rattle.gate_graph.specs.Start.{first_net};
-ghost use Rattle.gate_net.specs.Net.{kind_of, drivers_of, IsWellFormed};
+ghost use Rattle.gate_net.specs.Net.{kind_of, source_count, gate_count, wire_count, IsWellFormed};
 
 use crate::pins::stored_kind;
 use crate::rings::look;
@@ -20,6 +20,7 @@ use std::marker::Model;
 pub struct Graph {
     pub(crate) pool: Pool,
     pub(crate) kinds: Vec<Option<Kind>>,
+    pub(crate) free: u32,
     pub(crate) least: u32,
     pub(crate) epoch: u64,
 }
@@ -35,11 +36,12 @@ impl Model for Graph {
     ghost coded = { Prim.hlevel (codes, pins_code) };
 
     ghost use Rattle.std.specs.Prelude.{◌≡◌, ◌≤◌, length};
+    ghost use Rattle.gate_graph.specs.Wirings.{free_in};
     ghost use Rattle.gate_graph.specs.Circuit.{kinds_live, IsGraph};
 
     ghost view = { λ g. record { kinds = g.kinds.items; pool = g.pool; epoch = g.epoch } };
 
-    ghost invariant = { λ g. (let v : Circuit = record { kinds = g.kinds.items; pool = g.pool; epoch = g.epoch } in IsGraph v) × kinds_live g.kinds.items g.least };
+    ghost invariant = { λ g. (let v : Circuit = record { kinds = g.kinds.items; pool = g.pool; epoch = g.epoch } in IsGraph v) × (kinds_live g.kinds.items g.least × (g.free ≡ free_in g.kinds.items)) };
 }
 
 impl Graph {
@@ -48,6 +50,8 @@ impl Graph {
         ensures net { IfOk result (λ g. net_of g ≡ first_net sources) }
         ensures fanouts { IfOk result (λ g. (n : ℕ) → fanouts_of g n ≡ []) }
         ensures epoch { IfOk result (λ g. g.epoch ≡ 0) }
+        ensures pins { IfOk result (λ g. pins_taken g ≡ 0) }
+        ensures nodes { IfOk result (λ g. live_nodes g ≡ sources + 2) }
     {
         let count = sources as usize + 2;
         let mut pool = Pool::new(alloc);
@@ -63,6 +67,7 @@ impl Graph {
         Ok(Graph {
             pool,
             kinds,
+            free: 0,
             least: 0,
             epoch: 0,
         })
@@ -79,15 +84,37 @@ impl Graph {
         ensures graph { IsGraph self.now }
         ensures rings { AreRings (rings_of self.now.pool) }
         ensures nodes { length self.now.pool.fanouts ≡ length self.now.pool.inputs }
+        ensures few { pins_taken self.now + free_pins self.now ≤ 4294967295 }
     {
         look(&self.pool);
         let _kinds = &self.kinds;
+    }
+
+    /// How many runs of changes were kept.
+    pub fn epoch(&self) -> u64
+        ensures { result ≡ self.now.epoch }
+    {
+        self.epoch
+    }
+
+    /// Whether nothing was kept since the graph had that epoch.
+    pub fn is_fresh(&self, epoch: u64) -> bool
+        ensures { IsTrue result ↔ ((epoch ≡ self.now.epoch) × (epoch < 2 ^ 64 - 1)) }
+    {
+        if epoch != self.epoch {
+            return false;
+        }
+        epoch < u64::MAX
     }
 
     /// Tells what holds of every graph.
     pub fn well_formed(&self)
         ensures net { IsWellFormed (net_of self.now) }
         ensures nodes { length (net_of self.now).nodes ≤ 4294967295 }
+        ensures live { live_nodes self.now ≡ 2 + source_count (net_of self.now) + gate_count (net_of self.now) }
+        ensures pins { wire_count (net_of self.now) + length (net_of self.now).observed ≤ pins_taken self.now }
+        ensures few { pins_taken self.now + free_pins self.now ≤ 4294967295 }
+        ensures room { live_nodes self.now + free_nodes self.now ≤ 4294967295 }
     {
         self.tell();
     }

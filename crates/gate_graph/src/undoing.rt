@@ -1,17 +1,17 @@
 //! Undoing and keeping changes.
 ghost use Rattle.std.specs.Prelude.{◌≡◌, ◌≢◌, ◌+◌, ◌<◌, ◌≤◌, [], length, Some, None, min, ◌^◌, ◌-◌};
-ghost use Rattle.gate_graph.specs.Rings.{wiring_of};
-ghost use Rattle.gate_graph.specs.Entries.{CanGoBack, AreWithin, back_to};
+ghost use Rattle.std.specs.FinSet as set;
+ghost use Rattle.pin_pool.specs.Pins.{Pins};
+ghost use Rattle.pin_pool.specs.Rings.{changed};
+ghost use Rattle.gate_graph.specs.Wirings.{wiring_of, kind_at, free_in, free_bit};
+ghost use Rattle.gate_graph.specs.Entries.{CanGoBack, AreWithin, back_to, taken_back, CanTakeBack, IsWithin};
 ghost use Rattle.gate_graph.specs.Holds.{held};
 ghost use Rattle.gate_graph.specs.declared.entries.Entry.{Entry};
-ghost use Rattle.gate_graph.specs.Circuit.{wiring};
-ghost use Rattle.std.specs.Prelude.{◌≡◌, ◌≤◌, ◌<◌, length, Some, None};
-ghost use Rattle.pin_pool.specs.Pins.{Pins};
-ghost use Rattle.gate_graph.specs.Rings.{wiring_of, changed};
-ghost use Rattle.gate_graph.specs.Entries.{taken_back, CanTakeBack, IsWithin};
-ghost use Rattle.gate_graph.specs.Circuit.{kinds_live};
+ghost use Rattle.gate_graph.specs.Circuit.{wiring, net_of, kinds_live, free_pins, free_nodes, pins_taken, live_nodes};
+ghost use Rattle.gate_graph.specs.Readers.{SameReaders};
 
 use crate::entries::{Entry, Undos};
+use crate::pins::stored_kind;
 use crate::rings::{drop_pin, move_fanouts_back, relink_pin, restore_pin};
 use crate::state::Graph;
 use gate_net::Kind;
@@ -24,22 +24,33 @@ impl Graph {
         ensures wiring { wiring self.new ≡ back_to (wiring self.old) undos.old.entries }
         ensures epoch { self.new.epoch ≡ self.old.epoch }
         ensures none { undos.new.entries ≡ [] }
+        ensures pins { free_pins self.old ≤ free_pins self.new }
+        ensures taken { pins_taken self.new ≤ pins_taken self.old }
+        ensures numbers { length self.new.kinds ≡ length self.old.kinds }
     {
         while let Some(entry) = undos.pop() {
-            take_back(&mut self.pool, &mut self.kinds, &mut self.least, entry);
+            take_back(
+                &mut self.pool,
+                &mut self.kinds,
+                &mut self.free,
+                &mut self.least,
+                entry,
+            );
         }
     }
 
     /// Keeps the edits, and gives back the pins that the undos hold.
     pub fn keep(&mut self, undos: &mut Undos)
         requires back { CanGoBack (wiring self.old) undos.old.entries }
-        ensures kinds { self.new.kinds ≡ self.old.kinds }
-        ensures inputs { self.new.pool.inputs ≡ self.old.pool.inputs }
-        ensures fanouts { self.new.pool.fanouts ≡ self.old.pool.fanouts }
+        ensures net { net_of self.new ≡ net_of self.old }
+        ensures fanouts { SameReaders self.old self.new }
         ensures none { undos.new.entries ≡ [] }
         ensures same { undos.old.entries ≡ [] → self.new.epoch ≡ self.old.epoch }
         ensures epoch { undos.old.entries ≢ [] → self.new.epoch ≡ min (self.old.epoch + 1) (2 ^ 64 - 1) }
-        ensures held { self.new.pool.spare ≡ self.old.pool.spare + length (held undos.old.entries) }
+        ensures free { free_pins self.new ≡ free_pins self.old + length (held undos.old.entries) }
+        ensures taken { pins_taken self.new + length (held undos.old.entries) ≡ pins_taken self.old }
+        ensures nodes { free_nodes self.new ≡ free_nodes self.old }
+        ensures numbers { live_nodes self.new ≡ live_nodes self.old }
     {
         if undos.is_empty() {
             return;
@@ -53,12 +64,41 @@ impl Graph {
     }
 }
 
+// How many numbers are free once one has another kind.
+fn count_free(free: u32, was: Option<Kind>, now: Option<Kind>) -> u32
+    requires some { was ≡ None → 0 < free }
+    requires room { was ≢ None → free < 4294967295 }
+    ensures { result + free_bit was ≡ free + free_bit now }
+{
+    match was {
+        None => match now {
+            None => free,
+            Some(_) => free - 1,
+        },
+        Some(_) => match now {
+            None => free + 1,
+            Some(_) => free,
+        },
+    }
+}
+
 // A node gets a kind, or none.
-pub(crate) fn set_kind(kinds: &mut Vec<Option<Kind>>, node: u32, kind: Option<Kind>)
-    requires { node < length kinds.old.items }
+pub(crate) fn set_kind(
+    kinds: &mut Vec<Option<Kind>>,
+    free: &mut u32,
+    node: u32,
+    kind: Option<Kind>,
+)
+    requires node { node < length kinds.old.items }
+    requires few { length kinds.old.items ≤ 4294967295 }
+    requires free { free.old ≡ free_in kinds.old.items }
     ensures kinds { (v : Pins) → wiring_of kinds.new.items v ≡ record (wiring_of kinds.old.items v) { kind = changed (wiring_of kinds.old.items v).kind node kind } }
     ensures len { length kinds.new.items ≡ length kinds.old.items }
+    ensures count { free_in kinds.new.items + free_bit (kind_at kinds.old.items node) ≡ free_in kinds.old.items + free_bit kind }
+    ensures free { free.new ≡ free_in kinds.new.items }
 {
+    let was = stored_kind(kinds, node);
+    *free = count_free(*free, was, kind);
     kinds[node as usize] = kind;
 }
 
@@ -66,6 +106,7 @@ pub(crate) fn set_kind(kinds: &mut Vec<Option<Kind>>, node: u32, kind: Option<Ki
 pub(crate) fn take_back(
     pool: &mut Pool,
     kinds: &mut Vec<Option<Kind>>,
+    free: &mut u32,
     least: &mut u32,
     entry: Entry,
 )
@@ -73,11 +114,15 @@ pub(crate) fn take_back(
     requires within { IsWithin (length kinds.old.items) entry }
     requires room { length kinds.old.items ≤ length pool.old.inputs }
     requires live { kinds_live kinds.old.items least.old }
+    requires few { length kinds.old.items ≤ 4294967295 }
+    requires free { free.old ≡ free_in kinds.old.items }
     ensures wiring { wiring_of kinds.new.items pool.new ≡ taken_back entry (wiring_of kinds.old.items pool.old) }
     ensures nodes { length pool.new.inputs ≡ length pool.old.inputs }
     ensures kinds { length kinds.new.items ≡ length kinds.old.items }
     ensures live { kinds_live kinds.new.items least.new }
     ensures spare { pool.old.spare ≤ pool.new.spare }
+    ensures free { free.new ≡ free_in kinds.new.items }
+    ensures taken { set.len pool.new.taken ≤ set.len pool.old.taken }
 {
     match entry {
         Entry::Appended { pin } => drop_pin(pool, pin),
@@ -86,11 +131,11 @@ pub(crate) fn take_back(
         Entry::Moved { splice } => move_fanouts_back(pool, splice),
         Entry::Made { node, pin } => {
             drop_pin(pool, pin);
-            set_kind(kinds, node, None);
+            set_kind(kinds, free, node, None);
             if node < *least {
                 *least = node;
             }
         }
-        Entry::Retired { node, kind } => set_kind(kinds, node, Some(kind)),
+        Entry::Retired { node, kind } => set_kind(kinds, free, node, Some(kind)),
     }
 }

@@ -11,6 +11,7 @@ use Rattle.gate_net.specs.Values.{controlling, IsJunction}
 use Rattle.gate_net.specs.Edits.{with_drivers, constant_node, constant_kind, fixed, with_pin, without, without_pin, redirected, node_redirected, with_readers_moved, IsUnread, DiffersAt}
 use Rattle.wire_edit.proofs.Conditions.{same_kind, constant_is}
 
+
 module _ (net after : Net) (gate high : ℕ) (acyclic : IsAcyclic net) (d : DiffersAt net after gate) (unread : IsUnread net gate) (low : (p z : ℕ) → Reads after gate p z → (z ≢ gate) × (acyclic.0 z < high)) where
   abbrev ranked_anew : ℕ → ℕ
   ranked_anew y = if nat_eq y gate then high else acyclic.0 y
@@ -40,3 +41,4 @@ module _ (net after : Net) (gate high : ℕ) (acyclic : IsAcyclic net) (d : Diff
             let b : ranked_anew y ≡ acyclic.0 y = anew_other y t.1 in
             omega arith
       ]
+

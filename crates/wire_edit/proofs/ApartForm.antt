@@ -64,3 +64,4 @@ module _ (net after : Net) (gate : ℕ) (well : IsWellFormed net) (d : DiffersAt
             let old : Reads net y p x = ap (λ o. slice_get (drivers_in o) p) (sym (d.others y t.1)) ∙ reads in
             live_after x (λ e. unread.unread y p (rw e at old)) (well.drivers_live y p x old)
       ]
+

@@ -148,7 +148,8 @@ applies_changes net (Twin gate other) well e =
     let d : (d : ℕ) × ((driver_at net gate.0 0 ≡ Some d) × (driver_at net other.0 0 ≡ Some d)) = same_at (driver_at net gate.0 0) (driver_at net other.0 0) l.1 in
     let kind : IsKind net other.0 Not = not_is net other.0 o.0 in
     let only : (k : ℕ) × (drivers_of net other.0 ≡ k ∷ []) = well.nots_have_one other.0 kind in
-    let below : other.0 < gate.0 = ltb-true other.0 gate.0 l.0 in (
+    let below : other.0 < gate.0 = ltb-true other.0 gate.0 l.0 in
+    (
       gate_is net gate.0 (not_gate net gate.0 a.0),
       (
         (Not, kind),

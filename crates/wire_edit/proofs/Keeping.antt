@@ -98,8 +98,8 @@ junction_is net a v x c j good = value_at net a v x j.0 (map v (drivers_of net x
 pin_gone : (net : Net) (gate p : ℕ) (c : Bool) → IsAcyclic (without_pin net gate p) → IsJunction net gate c → ((a v : ℕ → Bool) → AreGoodValues net a v → junction c (map v (without (drivers_of net gate) p)) ≡ junction c (map v (drivers_of net gate))) → KeepsPlaces net (without_pin net gate p)
 pin_gone net gate p c after j same =
     redriven_keeps net gate _ (without (drivers_of net gate) p) j.1.0.1 after (λ a v good.
-    junction_value j.0 c (a gate) (map v (without (drivers_of net gate) p)) j.1.1 ∙ same a v good ∙ sym (junction_value j.0 c (a gate) (map v (drivers_of net gate)) j.1.1)
-    ∙ ap (λ o. gate_value j.0 (a gate) (map v (drivers_in o))) j.1.0.1)
+        junction_value j.0 c (a gate) (map v (without (drivers_of net gate) p)) j.1.1 ∙ same a v good ∙ sym (junction_value j.0 c (a gate) (map v (drivers_of net gate)) j.1.1)
+        ∙ ap (λ o. gate_value j.0 (a gate) (map v (drivers_in o))) j.1.0.1)
 
 -- readers move to a constant
 to_value : (net : Net) → IsWellFormed net → (gate to : ℕ) (b : Bool) → to ≡ constant_node b → IsAcyclic (with_readers_moved net gate to) → ((a v : ℕ → Bool) → AreGoodValues net a v → v gate ≡ b) → KeepsPlaces net (with_readers_moved net gate to)
@@ -123,7 +123,7 @@ junction_one false true = refl
 junction_one false false = refl
 
 -- the only pin of a Not
-not_pin : (net : Net) → IsWellFormed net → (gate p d : ℕ) → IsKind net gate Not → Reads net gate p d → Reads net gate 0 d
+pub not_pin : (net : Net) → IsWellFormed net → (gate p d : ℕ) → IsKind net gate Not → Reads net gate p d → Reads net gate 0 d
 not_pin net well gate p d kind reads = let only : (e : ℕ) × (drivers_of net gate ≡ e ∷ []) = well.nots_have_one gate kind in at (drivers_of net gate) only.0 p only.1 reads
   where
     at : (ds : List ℕ) (e p : ℕ) → ds ≡ e ∷ [] → slice_get ds p ≡ Some d → slice_get ds 0 ≡ Some d

@@ -16,3 +16,8 @@ pub mod Counting
 pub mod Working
 pub mod Ending
 pub mod Staying
+pub mod Walks
+pub mod RuleAt
+pub mod Reading
+pub mod Marking
+pub mod Cycles

@@ -78,3 +78,4 @@ module _ (net : Net) (from to : ℕ) (well : IsWellFormed net) (live : IsLive ne
     observed_live = λ x o. places net.observed (λ q z e. well.observed_live z (q, e)) o.0 x o.1;
     canonical = canonical_map from to net.nodes well.canonical;
   }
+

@@ -31,7 +31,7 @@ none_from at from (suc count) h =
 
 pub from_none : (at : ℕ → Option Step) (from count : ℕ) → first_from at from count ≡ None → (k : ℕ) → from ≤ k → k < from + count → at k ≡ None
 from_none at from zero e k le lt = absurd (omega (arith, le, lt))
-from_none at from (suc count) e k le lt =
+from_none at from (suc count) e k le lt = 
     let both : (at from ≡ None) × (first_from at (suc from) count ≡ None) = or_none (at from) (first_from at (suc from) count) e in
     elim (order from k le) [
       | inl is ↦ rw (sym is) both.0
@@ -46,22 +46,11 @@ from_some at from zero step e = cc
 from_some at from (suc count) step e = elim (or_some (at from) (first_from at (suc from) count) step e) [
   | inl here ↦ (from, (omega arith, (omega arith, (here, λ j le lt. absurd (omega (arith, le, lt))))))
   | inr later ↦
-      let rest : (k : ℕ) × ((suc from ≤ k) × ((k < suc from + count) × ((at k ≡ Some step) × ((j : ℕ) → suc from ≤ j → j < k → at j ≡ None)))) = from_some at (suc from) count step later.1 in (
-        rest.0,
-        (
-          omega (arith, rest.1.0),
-          (
-            omega (arith, rest.1.1.0),
-            (
-              rest.1.1.1.0,
-              λ j le lt. elim (cases_eq from j) [
-                | inl is ↦ rw (sym is) later.0
-                | inr ne ↦ rest.1.1.1.1 j (omega (arith, le, ne)) lt
-              ],
-            ),
-          ),
-        ),
-      )
+      let rest : (k : ℕ) × ((suc from ≤ k) × ((k < suc from + count) × ((at k ≡ Some step) × ((j : ℕ) → suc from ≤ j → j < k → at j ≡ None)))) = from_some at (suc from) count step later.1 in
+      (rest.0, (omega (arith, rest.1.0), (omega (arith, rest.1.1.0), (rest.1.1.1.0, λ j le lt. elim (cases_eq from j) [
+        | inl is ↦ rw (sym is) later.0
+        | inr ne ↦ rest.1.1.1.1 j (omega (arith, le, ne)) lt
+      ]))))
 ]
 
 pub met_some : (net : Net) (rule step : Step) → where_met net rule ≡ Some step → (rule_applies net rule ≡ true) × (rule ≡ step)
@@ -128,6 +117,7 @@ twin_below net gate other e =
     ltb-true other gate l.0
 
 pub none_rules : (net : Net) (gate : ℕ) → rule_at net gate ≡ None → NoRules net gate
+unfolding rule_at
 none_rules net gate e =
     let a : _ × _ = or_none (first_from (consts net gate) 0 (length (drivers_of net gate))) _ e in
     let b : _ × _ = or_none (first_from (sames net gate) 0 (length (drivers_of net gate))) _ a.1 in
@@ -147,6 +137,7 @@ none_rules net gate e =
     }
 
 pub rules_none : (net : Net) (gate : ℕ) → NoRules net gate → rule_at net gate ≡ None
+unfolding rule_at
 rules_none net gate r =
     rest (none_from (consts net gate) 0 (length (drivers_of net gate)) (λ p le lt. none_met net (Const (node gate) p) (r.no_const p)))
     (rest (none_from (sames net gate) 0 (length (drivers_of net gate)) (λ p le lt. none_met net (Same (node gate) p) (r.no_same p)))
@@ -170,6 +161,7 @@ rule_is net gate rule step t e =
     record { tidying = rw m.1 at t; applies = rw m.1 at m.0 }
 
 pub some_rule : (net : Net) (gate : ℕ) (step : Step) → rule_at net gate ≡ Some step → IsRuleAt net gate step
+unfolding rule_at
 some_rule net gate step e = elim (or_some (first_from (consts net gate) 0 (length (drivers_of net gate))) _ step e) [
   | inl here ↦ let k : (k : ℕ) × ((0 ≤ k) × (_ × ((consts net gate k ≡ Some step) × _))) = from_some (consts net gate) 0 (length (drivers_of net gate)) step here in rule_is net gate (Const (node gate) k.0) step tt k.1.1.1.0
   | inr a ↦ elim (or_some (first_from (sames net gate) 0 (length (drivers_of net gate))) _ step a.1) [
@@ -199,6 +191,7 @@ gate_of_twin (Twin gate other) = Some gate.0
 gate_of_twin _ = None
 
 pub twin_gate : (net : Net) (gate : ℕ) (from other : NodeId) → rule_at net gate ≡ Some (Twin from other) → from.0 ≡ gate
+unfolding rule_at
 twin_gate net gate from other e = elim (or_some (first_from (consts net gate) 0 (length (drivers_of net gate))) _ _ e) [
   | inl here ↦ let k : (k : ℕ) × ((0 ≤ k) × (_ × ((consts net gate k ≡ Some (Twin from other)) × _))) = from_some (consts net gate) 0 (length (drivers_of net gate)) _ here in absurd (no_twin (Const (node gate) k.0) refl k.1.1.1.0)
   | inr a ↦ elim (or_some (first_from (sames net gate) 0 (length (drivers_of net gate))) _ _ a.1) [

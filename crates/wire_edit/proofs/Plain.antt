@@ -52,3 +52,4 @@ plain_sources net after well k = record {
   first = λ n lt. k.forth (2 + n) Source (well.sources.first n (rw k.count at lt)) (λ e. e);
   only = λ x is. rw k.count (well.sources.only x (k.back x Source is (λ e. e)));
 }
+

@@ -86,3 +86,4 @@ module _ (net : Net) (gate : ℕ) (ds : List ℕ) (well : IsWellFormed net) (g :
         | inl t ↦ let here : Reads after gate p x = rw t.1 at reads in live_after x (live p x (ap (λ es. slice_get es p) (sym (ap drivers_in there)) ∙ here))
         | inr t ↦ live_after x (well.drivers_live y p x (ap (λ o. slice_get (drivers_in o) p) (sym (node_at-other net gate ds y t.1)) ∙ reads))
       ]
+

@@ -201,7 +201,7 @@ module _ (net : Net) (gate : ℕ) (ds : List ℕ) (g : IsGate net gate) (x : ℕ
             | inr t ↦ (was, ap (λ es. slice_get es 0) (sym (other_drivers other t.1)) ∙ r)
           ]
 
-junction_no_not : (net : Net) (gate : ℕ) (c : Bool) → IsJunction net gate c → is_not net gate ≡ true → ⊥
+pub junction_no_not : (net : Net) (gate : ℕ) (c : Bool) → IsJunction net gate c → is_not net gate ≡ true → ⊥
 junction_no_not net gate c j n = control_not j.0 c j.1.1 (same_kind net gate j.0 Not j.1.0 (not_is net gate n))
 
 last_kept : (ds : List ℕ) (d p x : ℕ) → slice_get ds p ≡ Some x → slice_get (ds ++ d ∷ []) p ≡ Some x

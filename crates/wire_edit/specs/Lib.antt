@@ -4,6 +4,10 @@ pub mod Steps
 pub mod Refusals
 pub mod Order
 pub mod Touched
+pub mod Firsts
+pub mod Marked
+pub mod Edited
+pub mod Tried
 pub mod Work
 pub mod Laws
 pub mod Rows

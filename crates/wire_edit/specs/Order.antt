@@ -20,17 +20,17 @@ first_from at from zero = None
 first_from at from (suc count) = or_else (at from) (first_from at (suc from) count)
 
 -- the rule that comes first at the gate, if one applies there
-abbrev pub rule_at : Net → ℕ → Option Step
+unfoldable pub rule_at : Net → ℕ → Option Step
 rule_at net gate =
     first_of (
-    first_from (λ position. where_met net (Const (node gate) position)) 0 (length (drivers_of net gate))
-    ∷ first_from (λ position. where_met net (Same (node gate) position)) 0 (length (drivers_of net gate))
-    ∷ where_met net (NoPins (node gate))
-    ∷ where_met net (OnePin (node gate))
-    ∷ where_met net (Twice (node gate))
-    ∷ first_from (λ other. where_met net (Twin (node gate) (node other))) 0 gate
-    ∷ where_met net (Dead (node gate))
-    ∷ []
+      first_from (λ position. where_met net (Const (node gate) position)) 0 (length (drivers_of net gate))
+      ∷ first_from (λ position. where_met net (Same (node gate) position)) 0 (length (drivers_of net gate))
+      ∷ where_met net (NoPins (node gate))
+      ∷ where_met net (OnePin (node gate))
+      ∷ where_met net (Twice (node gate))
+      ∷ first_from (λ other. where_met net (Twin (node gate) (node other))) 0 gate
+      ∷ where_met net (Dead (node gate))
+      ∷ []
     )
 
 -- the rule at the least gate where one applies

@@ -18,7 +18,7 @@ gate_of kind drivers = Some (record { kind = kind; drivers = drivers })
 abbrev pub four_gates : Net
 four_gates = record {
   nodes = plain_node Zero ∷ plain_node One ∷ plain_node Source ∷ plain_node Source ∷ plain_node Source ∷ plain_node Source
-      ∷ gate_of And (2 ∷ 3 ∷ []) ∷ gate_of And (2 ∷ 4 ∷ []) ∷ gate_of Or (6 ∷ 7 ∷ []) ∷ gate_of And (8 ∷ 5 ∷ []) ∷ [];
+    ∷ gate_of And (2 ∷ 3 ∷ []) ∷ gate_of And (2 ∷ 4 ∷ []) ∷ gate_of Or (6 ∷ 7 ∷ []) ∷ gate_of And (8 ∷ 5 ∷ []) ∷ [];
   observed = 9 ∷ [];
 }
 

@@ -1,5 +1,5 @@
 use Rattle.std.proofs.Common.{◌≡◌, ℕ, ◌≤◌, length, None}
-use Rattle.gate_graph.specs.Rings.{kind_at}
+use Rattle.gate_graph.specs.Wirings.{kind_at}
 use Rattle.gate_graph.proofs.pins.last_live.Given as goal
 
 abbrev pub invariant-loop-bound : goal.invariant-loop-bound

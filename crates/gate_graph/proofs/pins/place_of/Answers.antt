@@ -1,8 +1,8 @@
-use Rattle.std.proofs.Common.{◌≡◌, ◌≢◌, ℕ, ◌∷◌, ◌++◌, List, length, map, refl, sym, ap, ◌∙◌, true, false, arith}
+use Rattle.std.proofs.Common.{◌≡◌, ◌≢◌, ℕ, ◌∷◌, ◌++◌, List, map, sym, ap, ◌∙◌, arith}
 use Rattle.std.proofs.lemmas.Bool.{eqb-true, eq-eqb, true≢false}
 use Rattle.std.proofs.lemmas.List.{length-map}
 use Rattle.std.proofs.lemmas.Grind.{common_steps}
-use Rattle.pin_pool.specs.declared.pool.PinNo.{PinNo}
+use Rattle.pin_pool.specs.declared.names.PinNo.{PinNo}
 use Rattle.gate_graph.specs.Circuit.{place_in}
 use Rattle.gate_graph.proofs.Placed.{place-found, map-push, has-map-push}
 use Rattle.gate_graph.proofs.pins.place_of.Goals as goal

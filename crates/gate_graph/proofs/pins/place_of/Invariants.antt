@@ -1,4 +1,4 @@
-use Rattle.std.proofs.Common.{◌≡◌, ◌+◌, ◌++◌, map, length, false}
+use Rattle.std.proofs.Common.{◌≡◌, ◌++◌, map, length, false}
 use Rattle.pin_pool.specs.Ring.{has}
 use Rattle.pin_pool.specs.Pins.{list_of}
 use Rattle.gate_graph.proofs.pins.place_of.Given as goal

@@ -15,4 +15,4 @@ pub returns-clause-steps : goal.returns-clause-steps
 returns-clause-steps c =
     let i = c.self.inside in
     sym c.self.view_is ∙ ap (map (home i.pool.now.fanouts)) c.in-Some.ensures.steps
-    ∙ ap (λ (n : ℕ). n ∷ map (home i.pool.now.fanouts) c.next.new.self) (home-here i.pool.now.fanouts _ c.in-Some.pin.0 c.driver_of.result c.self.invariant.0.fanouts c.driver_of.ensures.1)
+    ∙ ap (λ (n : ℕ). n ∷ map (home i.pool.now.fanouts) c.next.new.self) (home-here i.pool.now.fanouts _ c.in-Some.pin.0 c.driver_of.result c.self.invariant.0.fanouts c.driver_of.ensures.driver)

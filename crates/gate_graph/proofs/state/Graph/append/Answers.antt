@@ -52,3 +52,6 @@ returns-clause-readers c =
     let live = kind-of v c.args.gate.0 _ gate.1.1.0.1 in
     let ne = (not-constant v c.self.invariant.0.wired.shape c.args.gate.0 gate.1.0 gate.0 live gate.1.1.1).0 in
     rw (← c.self.view_is) (last-reader v w c.link_new-pin.result.0 c.args.gate.0 c.args.driver.0 c.link_new-pin.ensures.rings c.look.ensures.rings c.look-2.ensures.rings c.self.invariant.0.wired ne (count-there v c.args.gate.0 c.self.invariant.0.wired.shape ne) c.link_new-pin.ensures.fresh)
+
+pub returns-clause-uses : goal.returns-clause-uses
+returns-clause-uses c = rw (← c.self.view_is) (record { pins_left = c.link_new-pin.ensures.spare; nodes_left = omega arith; pins_more = c.link_new-pin.ensures.taken })

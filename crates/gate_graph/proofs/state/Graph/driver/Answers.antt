@@ -18,5 +18,5 @@ pub returns : goal.returns
 returns c =
     let v = c.args.self.now in
     let r = c.in-Some.ensures in
-    ap (λ (n : ℕ). Some n) (sym (home-here v.pool.fanouts _ c.in-Some.pin.0 c.driver_of.result r.rings.fanouts (ap (λ (u : Circuit). has c.in-Some.pin.0 (list_of u.pool.fanouts c.driver_of.result)) (sym c.self.view_is) ∙ c.driver_of.ensures.1)))
+    ap (λ (n : ℕ). Some n) (sym (home-here v.pool.fanouts _ c.in-Some.pin.0 c.driver_of.result r.rings.fanouts (ap (λ (u : Circuit). has c.in-Some.pin.0 (list_of u.pool.fanouts c.driver_of.result)) (sym c.self.view_is) ∙ c.driver_of.ensures.driver)))
     ∙ driver-at v r.graph.wired.shape c.args.gate.0 c.args.position (Some c.in-Some.pin.0) r.pin

@@ -1,10 +1,10 @@
-use Rattle.std.proofs.Common.{◌≡◌, ◌<◌, ℕ, List, length, map, refl, sym, ap, ◌∙◌, true, arith}
+use Rattle.std.proofs.Common.{◌≡◌, ◌<◌, ℕ, List, length, map, sym, ap, ◌∙◌, true, arith}
 use Rattle.pin_pool.specs.Ring.{has}
 use Rattle.pin_pool.specs.Pins.{list_of}
 use Rattle.gate_graph.specs.Circuit.{Circuit, IsGraph, reader, without_observed}
 use Rattle.gate_graph.proofs.KindAt.{kind-within}
 use Rattle.gate_graph.proofs.LeadOns.{live-in}
-use Rattle.gate_graph.proofs.RingsOf.{listed}
+
 use Rattle.gate_graph.proofs.Placed.{fanouts-are}
 use Rattle.gate_graph.proofs.state.Graph.fanouts_of.Goals as goal
 
@@ -12,20 +12,18 @@ pub fanouts-requires : goal.fanouts-requires
 fanouts-requires c =
     let v = c.args.self.now in
     let g = c.tell.ensures.graph in
-    let less : c.args.node.0 < length v.pool.fanouts = omega (arith, kind-within v.kinds c.args.node.0 (live-in v c.args.node.0 c.requires), g.room, c.tell.ensures.nodes) in
-    omega (arith, less, ap (λ (u : Circuit). length u.pool.fanouts) c.self.view_is)
+    let less : c.args.node.0 < length v.pool.inputs = omega (arith, kind-within v.kinds c.args.node.0 (live-in v c.args.node.0 c.requires), g.room) in
+    omega (arith, less, ap (λ (u : Circuit). length u.pool.inputs) c.self.view_is)
 
 pub invariant_of-result : goal.invariant_of-result
 invariant_of-result c =
     let i = c.self.inside in
     let v : Circuit = record { kinds = i.kinds.items; pool = i.pool; epoch = i.epoch } in
     let g : IsGraph v = c.self.invariant.0 in
-    let rings = rw (← c.self.view_is) at c.tell.ensures.rings in (
-      rings,
-      λ p h. (
-          let there : has p (list_of i.pool.fanouts c.args.node.0) ≡ true = ap (has p) (sym c.fanouts.ensures.list) ∙ h in
-          (listed i.pool.inputs p (g.wired.shape.read c.args.node.0 p there), listed i.pool.fanouts p (c.args.node.0, there))),
-    )
+    let rings = rw (← c.self.view_is) at c.tell.ensures.rings in
+    (rings, λ p h. (
+        let there : has p (list_of i.pool.fanouts c.args.node.0) ≡ true = ap (has p) (sym c.fanouts.ensures.list) ∙ h in
+        g.wired.shape.read c.args.node.0 p there))
 
 pub returns : goal.returns
 returns c =

@@ -1,11 +1,9 @@
-use Rattle.std.proofs.Common.{◌≡◌, ◌≢◌, ◌<◌, ℕ, None, List, length, sym, ap, ◌∙◌, true, false, arith}
-use Rattle.std.proofs.lemmas.Bool.{false≢true, cases_Bool}
+use Rattle.std.proofs.Common.{None, length, ap, arith}
+use Rattle.std.proofs.lemmas.Bool.{false≢true}
 use Rattle.std.proofs.lemmas.List.{get_or_past}
-use Rattle.pin_pool.specs.Ring.{has}
-use Rattle.pin_pool.specs.Pins.{list_of}
 use Rattle.gate_graph.specs.Circuit.{Circuit, IsGraph}
-use Rattle.gate_graph.proofs.RingsOf.{listed}
-use Rattle.gate_graph.proofs.Placed.{observed-found, observed-pin, observed-cases}
+
+use Rattle.gate_graph.proofs.Placed.{observed-pin, observed-cases}
 use Rattle.gate_graph.proofs.state.Graph.is_observed.Goals as goal
 
 pub returns-then-node-len : goal.returns-then-node-len
@@ -22,7 +20,7 @@ returns-then-node-len c = (
 pub observes-requires-clause-within : goal.observes-requires-clause-within
 observes-requires-clause-within c =
     let g = c.tell.ensures.graph in
-    let inputs = ap (λ (u : Circuit). length u.pool.fanouts) c.self.view_is in
+    let inputs = ap (λ (u : Circuit). length u.pool.inputs) c.self.view_is in
     let kinds = ap (λ (u : Circuit). length u.kinds) c.self.view_is in
     omega (arith, g.room, c.tell.ensures.nodes, inputs, kinds, c.if-node-len.false, c.len.ensures, c.self.inside.kinds.ok.0)
 
@@ -31,7 +29,7 @@ observes-requires-clause-linked c p h =
     let i = c.self.inside in
     let v : Circuit = record { kinds = i.kinds.items; pool = i.pool; epoch = i.epoch } in
     let g : IsGraph v = c.self.invariant.0 in
-    (listed i.pool.inputs p (g.wired.shape.read c.args.node.0 p h), listed i.pool.fanouts p (c.args.node.0, h))
+    g.wired.shape.read c.args.node.0 p h
 
 pub returns : goal.returns
 returns c =

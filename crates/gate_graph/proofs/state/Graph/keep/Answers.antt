@@ -1,10 +1,12 @@
-use Rattle.std.proofs.Common.{arith, refl, sym, ap, ◌∙◌, ◌≡◌, ℕ, List, Option}
-use Rattle.pin_pool.specs.Pins.{Pins}
+use Rattle.std.proofs.Common.{arith, refl, sym, ap, ◌∙◌, ◌≡◌, List, Option}
+use Rattle.pin_pool.specs.Rings.{Rings}
 use Rattle.gate_net.specs.declared.Kind.{Kind}
-use Rattle.gate_graph.specs.Rings.{Wiring, kind_at}
-use Rattle.gate_graph.specs.Circuit.{Circuit, IsGraph, kinds_live}
-use Rattle.gate_graph.proofs.Kept.{graph-kept}
+use Rattle.gate_graph.specs.Wirings.{kind_at, free_in}
+use Rattle.gate_graph.specs.Circuit.{Circuit, IsGraph}
+use Rattle.gate_graph.proofs.Kept.{graph-kept, net-kept, readers-kept}
 use Rattle.gate_graph.proofs.Holding.{are-held, held-step, held-here, held-count}
+use Rattle.std.specs.FinSet as finset
+use Rattle.gate_graph.proofs.Numbers.{len-one_less}
 use Rattle.gate_graph.proofs.state.Graph.keep.Goals as goal
 
 pub loop-entry-init : goal.loop-entry-init
@@ -13,8 +15,11 @@ loop-entry-init c =
       kinds = refl;
       inputs = refl;
       fanouts = refl;
+      nodes = refl;
       held_pins = are-held _ c.args.undos.now.entries (rw (← c.self.view_is) at c.requires.back);
       spare = refl;
+      taken = refl;
+      free = refl;
       epoch = refl;
       least = refl;
     })
@@ -29,10 +34,13 @@ loop-entry-preserved-in-Removed c =
     let e = c.give_back.ensures in
     record {
       kinds = i.kinds;
-      inputs = ap (λ (v : Pins). v.inputs) e ∙ i.inputs;
-      fanouts = ap (λ (v : Pins). v.fanouts) e ∙ i.fanouts;
-      held_pins = held-step c.loop-entry.self-inside.kinds.items c.loop-entry.self-inside.pool c.give_back.new.self c.in-Removed.pin c.in-Removed.slot c.in-Some.entry c.loop-entry.undos.entries c.pop.new.self.entries c.in-Some.ensures.0 c.in-Removed.is i.held_pins e;
-      spare = omega (arith, i.spare, ap (λ (v : Pins). v.spare) e, held-count c.in-Removed.pin c.in-Removed.slot c.in-Some.entry c.loop-entry.undos.entries c.pop.new.self.entries c.in-Some.ensures.0 c.in-Removed.is);
+      inputs = ap (λ (r : Rings). r.inputs) e.rings ∙ i.inputs;
+      fanouts = ap (λ (r : Rings). r.fanouts) e.rings ∙ i.fanouts;
+      nodes = e.nodes ∙ i.nodes;
+      held_pins = held-step c.loop-entry.self-inside.kinds.items c.loop-entry.self-inside.pool c.give_back.new.self c.in-Removed.pin c.in-Removed.slot c.in-Some.entry c.loop-entry.undos.entries c.pop.new.self.entries c.in-Some.ensures.0 c.in-Removed.is i.held_pins e.rings;
+      spare = omega (arith, i.spare, e.spare, held-count c.in-Removed.pin c.in-Removed.slot c.in-Some.entry c.loop-entry.undos.entries c.pop.new.self.entries c.in-Some.ensures.0 c.in-Removed.is);
+      taken = omega (arith, i.taken, ap finset.len e.taken, len-one_less c.loop-entry.self-inside.pool.taken c.in-Removed.pin.0 (held-here c.loop-entry.self-inside.kinds.items c.loop-entry.self-inside.pool c.in-Removed.pin c.in-Removed.slot c.in-Some.entry c.loop-entry.undos.entries c.pop.new.self.entries c.in-Some.ensures.0 c.in-Removed.is i.held_pins).0, held-count c.in-Removed.pin c.in-Removed.slot c.in-Some.entry c.loop-entry.undos.entries c.pop.new.self.entries c.in-Some.ensures.0 c.in-Removed.is);
+      free = i.free;
       epoch = i.epoch;
       least = i.least;
     }
@@ -42,6 +50,12 @@ invariant_of-self c =
     let i = c.loop-entry.invariant in
     let graph : IsGraph c.args.self.now = rw c.self.view_is at c.self.invariant.0 in
     let kinds : c.loop-entry.self-inside.kinds.items ≡ c.self.inside.kinds.items = i.kinds ∙ sym (ap (λ (u : Circuit). u.kinds) c.self.view_is) in (
-      graph-kept _ c.args.self.now i.kinds i.inputs i.fanouts graph,
-      λ m h none. c.self.invariant.1 m (omega (arith, h, i.least)) (ap (λ (ks : List (Option Kind)). kind_at ks m) (sym kinds) ∙ none),
+      graph-kept _ c.args.self.now i.kinds i.inputs i.fanouts i.nodes graph,
+      (λ m h none. c.self.invariant.1.0 m (omega (arith, h, i.least)) (ap (λ (ks : List (Option Kind)). kind_at ks m) (sym kinds) ∙ none), i.free ∙ c.self.invariant.1.1 ∙ ap free_in (sym kinds)),
     )
+
+pub returns-clause-net : goal.returns-clause-net
+returns-clause-net c = let i = c.loop-entry.invariant in net-kept _ c.args.self.now i.kinds i.inputs i.fanouts
+
+pub returns-clause-fanouts : goal.returns-clause-fanouts
+returns-clause-fanouts c = let i = c.loop-entry.invariant in readers-kept _ c.args.self.now i.kinds i.inputs i.fanouts

@@ -1,4 +1,4 @@
-use Rattle.std.proofs.Common.{◌≡◌, sym, ◌∙◌}
+use Rattle.std.proofs.Common.{sym, ◌∙◌}
 use Rattle.gate_graph.specs.Circuit.{Circuit}
 use Rattle.gate_graph.proofs.Formed.{kind_of-net}
 use Rattle.gate_graph.proofs.state.Graph.kind.Goals as goal

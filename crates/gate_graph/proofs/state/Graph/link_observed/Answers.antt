@@ -1,6 +1,6 @@
 use Rattle.std.proofs.Common.{arith, refl}
 use Rattle.gate_graph.specs.Circuit.{Circuit}
-use Rattle.gate_graph.proofs.Observing.{observes}
+use Rattle.gate_graph.proofs.Observing.{observes, observed-readers}
 use Rattle.gate_graph.proofs.LeadOns.{live-in}
 use Rattle.gate_graph.proofs.KindAt.{kind-within}
 use Rattle.gate_graph.proofs.state.Graph.link_observed.Goals as goal
@@ -26,3 +26,13 @@ returns-clause-net c =
     let w : Circuit = record { kinds = i.kinds.items; pool = c.link_new-pin.new.pool; epoch = i.epoch } in
     let a = observes v w c.link_new-pin.result.0 c.args.node.0 refl c.link_new-pin.ensures.rings c.look.ensures.rings c.look-2.ensures.rings c.self.invariant.0.wired (live-in v c.args.node.0 (rw (← c.self.view_is) at c.requires.node)) c.link_new-pin.ensures.fresh in
     rw (← c.self.view_is) a.net
+
+pub returns-clause-fanouts : goal.returns-clause-fanouts
+returns-clause-fanouts c =
+    let i = c.self.inside in
+    let v : Circuit = record { kinds = i.kinds.items; pool = i.pool; epoch = i.epoch } in
+    let w : Circuit = record { kinds = i.kinds.items; pool = c.link_new-pin.new.pool; epoch = i.epoch } in
+    rw (← c.self.view_is) (observed-readers v w c.link_new-pin.result.0 c.args.node.0 c.link_new-pin.ensures.rings c.look.ensures.rings c.look-2.ensures.rings c.link_new-pin.ensures.fresh)
+
+pub returns-clause-pins : goal.returns-clause-pins
+returns-clause-pins c = rw (← c.self.view_is) c.link_new-pin.ensures.taken

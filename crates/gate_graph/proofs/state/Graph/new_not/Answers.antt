@@ -5,8 +5,9 @@ use Rattle.gate_net.specs.declared.Kind.TheVariants.{Zero}
 use Rattle.gate_graph.proofs.Making.{makes, free-found}
 use Rattle.gate_graph.proofs.LeadOns.{live-in}
 use Rattle.gate_graph.proofs.KindAt.{kind-within, wired-set, live-next}
-use Rattle.gate_graph.specs.Rings.{kind_at}
+use Rattle.gate_graph.specs.Wirings.{kind_at}
 use Rattle.gate_graph.specs.Circuit.{kinds_live}
+use Rattle.gate_graph.proofs.Numbers.{bit-none}
 use Rattle.gate_graph.proofs.state.Graph.new_not.Goals as goal
 
 pub link_new-pin-requires-clause-driver : goal.link_new-pin-requires-clause-driver
@@ -31,7 +32,7 @@ invariant_of-self c =
     let within : c.least_free-node.result < length i.kinds.items = free-found i.kinds.items c.least_free-node.result (rw (← c.self.view_is) at c.requires.nodes) least in
     let free : kind_at i.kinds.items c.least_free-node.result ≡ None = (rw c.deref.ensures.value at c.least_free-node.ensures.free) within in
     let a = makes v w c.least_free-node.result c.args.driver.0 c.link_new-pin.result c.link_new-pin.ensures.rings c.look.ensures.rings c.look-2.ensures.rings c.self.invariant.0.wired free least (wired-set i.kinds.items c.set_kind.new.kinds.items i.pool c.link_new-pin.new.pool _ _ _ c.set_kind.ensures.kinds c.link_new-pin.ensures.rings) c.link_new-pin.ensures.fresh (rw (← c.self.view_is) at c.requires.driver) c.set_kind.ensures.len in
-    (record { wired = a.wired; room = omega (arith, c.self.invariant.0.room, c.link_new-pin.ensures.nodes, c.set_kind.ensures.len); few = omega (arith, c.self.invariant.0.few, c.set_kind.ensures.len) }, live-next i.kinds.items c.set_kind.new.kinds.items i.pool c.least_free-node.result _ c.set_kind.ensures.kinds least (λ e. cc))
+    (record { wired = a.wired; room = omega (arith, c.self.invariant.0.room, c.link_new-pin.ensures.nodes, c.set_kind.ensures.len); few = omega (arith, c.self.invariant.0.few, c.set_kind.ensures.len) }, (live-next i.kinds.items c.set_kind.new.kinds.items i.pool c.least_free-node.result _ c.set_kind.ensures.kinds least (λ e. cc), c.set_kind.ensures.free))
 
 pub returns-clause-net : goal.returns-clause-net
 returns-clause-net c =
@@ -65,3 +66,31 @@ returns-clause-readers c =
     let free : kind_at i.kinds.items c.least_free-node.result ≡ None = (rw c.deref.ensures.value at c.least_free-node.ensures.free) within in
     let ne : c.least_free-node.result ≢ 0 = λ is. (let both : Some Zero ≡ None = sym c.self.invariant.0.wired.shape.zero_is ∙ ap (λ (n : ℕ). kind_at i.kinds.items n) (sym is) ∙ free in cc) in
     rw (← c.self.view_is) (last-reader v w c.link_new-pin.result.0 c.least_free-node.result c.args.driver.0 c.link_new-pin.ensures.rings c.look.ensures.rings c.look-2.ensures.rings c.self.invariant.0.wired ne (count-there v c.least_free-node.result c.self.invariant.0.wired.shape ne) c.link_new-pin.ensures.fresh)
+
+pub returns-clause-uses : goal.returns-clause-uses
+returns-clause-uses c =
+    let i = c.self.inside in
+    let least : kinds_live i.kinds.items c.least_free-node.result = rw c.deref.ensures.value at c.least_free-node.ensures.live in
+    let within : c.least_free-node.result < length i.kinds.items = free-found i.kinds.items c.least_free-node.result (rw (← c.self.view_is) at c.requires.nodes) least in
+    let free : kind_at i.kinds.items c.least_free-node.result ≡ None = (rw c.deref.ensures.value at c.least_free-node.ensures.free) within in
+    rw (← c.self.view_is) (record {
+      pins_left = c.link_new-pin.ensures.spare;
+      nodes_left = omega (arith, c.set_kind.ensures.count, bit-none (kind_at i.kinds.items c.least_free-node.result) free);
+      pins_more = c.link_new-pin.ensures.taken;
+    })
+
+pub set_kind-requires-clause-node : goal.set_kind-requires-clause-node
+set_kind-requires-clause-node c =
+    let i = c.self.inside in
+    let g = c.self.invariant.0 in
+    let least : kinds_live i.kinds.items c.least_free-node.result = rw c.deref.ensures.value at c.least_free-node.ensures.live in
+    let within : c.least_free-node.result < length i.kinds.items = free-found i.kinds.items c.least_free-node.result (rw (← c.self.view_is) at c.requires.nodes) least in
+    within
+
+pub overflow_add-self : goal.overflow_add-self
+overflow_add-self c =
+    let i = c.self.inside in
+    let g = c.self.invariant.0 in
+    let least : kinds_live i.kinds.items c.least_free-node.result = rw c.deref.ensures.value at c.least_free-node.ensures.live in
+    let within : c.least_free-node.result < length i.kinds.items = free-found i.kinds.items c.least_free-node.result (rw (← c.self.view_is) at c.requires.nodes) least in
+    omega (arith, within, g.few)

@@ -1,7 +1,7 @@
-use Rattle.std.proofs.Common.{◌≡◌, ◌≢◌, ◌≤◌, ◌+◌, ℕ, Some, None, List, length, sym, ap, ◌∙◌, arith, Option}
+use Rattle.std.proofs.Common.{◌≡◌, Some, None, List, length, sym, ap, ◌∙◌, arith, Option}
 use Rattle.gate_net.specs.declared.Kind.{Kind}
 use Rattle.gate_net.specs.declared.Kind.TheVariants.{Zero}
-use Rattle.gate_graph.specs.Rings.{kind_at}
+use Rattle.gate_graph.specs.Wirings.{kind_at}
 use Rattle.gate_graph.specs.Circuit.{Circuit, IsGraph}
 use Rattle.gate_graph.proofs.Bounded.{bound-is}
 use Rattle.gate_graph.proofs.state.Graph.node_bound.Goals as goal

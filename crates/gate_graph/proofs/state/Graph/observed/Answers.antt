@@ -1,4 +1,4 @@
-use Rattle.std.proofs.Common.{◌≡◌, ◌<◌, ℕ, List, length, map, refl, sym, ap, ◌∙◌, true, arith}
+use Rattle.std.proofs.Common.{map, sym, ap, ◌∙◌}
 use Rattle.gate_graph.specs.Circuit.{Circuit, home}
 use Rattle.gate_graph.proofs.NetOf.{observed-net}
 use Rattle.gate_graph.proofs.state.Graph.observed.Goals as goal

@@ -1,4 +1,4 @@
-use Rattle.std.proofs.Common.{◌≡◌, ◌+◌, ℕ, ◌++◌, map, length, length-append, ap, ◌∙◌, arith}
+use Rattle.std.proofs.Common.{map, length, length-append, ap, ◌∙◌, arith}
 use Rattle.std.proofs.lemmas.List.{length-map}
 use Rattle.rm_base.specs.declared.numbers.NodeId.{NodeId}
 use Rattle.gate_graph.proofs.state.Graph.observed_count.Goals as goal

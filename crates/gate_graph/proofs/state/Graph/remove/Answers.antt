@@ -1,4 +1,5 @@
-use Rattle.std.proofs.Common.{arith, refl, sym, Some, ◌≡◌}
+use Rattle.std.specs.FinSet as finset
+use Rattle.std.proofs.Common.{arith, refl, sym, Some, ◌≡◌, ap}
 use Rattle.gate_graph.specs.Circuit.{Circuit}
 use Rattle.gate_graph.proofs.Removed.{removes}
 use Rattle.std.specs.Prelude.{slice_get}
@@ -42,3 +43,6 @@ returns-clause-readers c =
     let ne = not-zero v c.args.gate.0 c.args.position c.pin_of-pin.result.0 at in
     let there : slice_get (list_of v.pool.inputs c.args.gate.0) c.args.position ≡ Some c.pin_of-pin.result.0 = sym (rw (ne_eqb c.args.gate.0 0 ne) at at) in
     rw (← c.self.view_is) (reader-goes v w c.pin_of-pin.result.0 c.args.gate.0 c.args.position c.unlink_pin-slot.ensures.rings (rw (← c.self.view_is) at c.pin_of-pin.ensures.rings) c.look.ensures.rings c.self.invariant.0.wired ne there)
+
+pub returns-clause-uses : goal.returns-clause-uses
+returns-clause-uses c = rw (← c.self.view_is) (record { pins_left = omega (arith, c.unlink_pin-slot.ensures.spare); nodes_left = omega arith; pins_more = omega (arith, ap finset.len c.unlink_pin-slot.ensures.taken) })

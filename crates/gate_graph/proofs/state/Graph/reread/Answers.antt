@@ -1,4 +1,5 @@
-use Rattle.std.proofs.Common.{arith, refl, sym, ◌≢◌}
+use Rattle.std.specs.FinSet as finset
+use Rattle.std.proofs.Common.{arith, refl, sym, ◌≢◌, ap}
 use Rattle.gate_graph.specs.Circuit.{Circuit}
 use Rattle.gate_graph.proofs.Reread.{rereads}
 use Rattle.gate_graph.proofs.Fanned.{readers-move}
@@ -49,3 +50,6 @@ returns-clause-readers c =
     let w : Circuit = record { kinds = i.kinds.items; pool = c.move_fanouts-splice.new.pool; epoch = i.epoch } in
     let apart : c.args.from.0 ≢ c.args.to.0 = λ s. c.requires.apart (sym s) in
     rw (← c.self.view_is) (readers-move v w c.args.from.0 c.args.to.0 apart c.move_fanouts-splice.ensures.rings)
+
+pub returns-clause-uses : goal.returns-clause-uses
+returns-clause-uses c = rw (← c.self.view_is) (record { pins_left = omega (arith, c.move_fanouts-splice.ensures.spare); nodes_left = omega arith; pins_more = omega (arith, ap finset.len c.move_fanouts-splice.ensures.taken) })

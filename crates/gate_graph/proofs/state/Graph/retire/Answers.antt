@@ -2,12 +2,15 @@ use Rattle.std.proofs.Common.{arith, refl, List, [], sym, ap, ◌∙◌, length,
 use Rattle.std.proofs.lemmas.List.{get_or_read}
 use Rattle.gate_net.specs.declared.Kind.{Kind}
 use Rattle.pin_pool.specs.Pins.{list_of}
-use Rattle.gate_graph.specs.Rings.{kind_at, AreRings, rings_of}
+use Rattle.pin_pool.specs.Rings.{AreRings, rings_of}
+use Rattle.gate_graph.specs.Wirings.{kind_at, free_in}
 use Rattle.gate_graph.specs.Circuit.{Circuit, IsGraph}
 use Rattle.gate_graph.proofs.KindAt.{kind-within, live-set}
 use Rattle.gate_graph.proofs.LeadOns.{live-in}
 use Rattle.gate_graph.proofs.Pinned.{has-at, map-none}
-use Rattle.gate_graph.proofs.Retiring.{emptied-start, emptied-step, retires, retire-count, none-first, some-first}
+use Rattle.gate_graph.proofs.Retiring.{emptied-start, emptied-step, retires, retire-count, gate-goes, gate-not_zero, none-first, some-first}
+use Rattle.std.specs.FinSet as finset
+use Rattle.gate_graph.proofs.Numbers.{bit-some}
 use Rattle.gate_graph.proofs.state.Graph.retire.Goals as goal
 
 pub nth_pin-requires : goal.nth_pin-requires
@@ -77,7 +80,7 @@ loop-pin-smaller c =
     let at = has-at (list_of w.pool.inputs g) 0 c.in-Some.pin.0 (sym c.in-Some.ensures) in
     let some = some-first (list_of w.pool.inputs g) c.in-Some.pin.0 at in
     let u : Circuit = record { kinds = c.loop-pin.self-inside.kinds.items; pool = c.unlink_pin-slot.new.pool; epoch = c.loop-pin.self-inside.epoch } in
-    let step = emptied-step v w u g c.in-Some.pin c.unlink_pin-slot.result c.args.undos.now.entries c.loop-pin.undos.entries graph.wired i.emptied refl c.unlink_pin-slot.ensures.rings c.look-in-Some.ensures.rings at c.unlink_pin-slot.ensures.stood in
+    let step = emptied-step v w u g c.in-Some.pin c.unlink_pin-slot.result c.args.undos.now.entries c.loop-pin.undos.entries graph.wired (gate-not_zero v g graph.wired.shape c.requires.gate) i.emptied refl c.unlink_pin-slot.ensures.rings c.look-in-Some.ensures.rings at c.unlink_pin-slot.ensures.stood in
     omega (arith, step.1)
 
 pub loop-pin-preserved : goal.loop-pin-preserved
@@ -93,12 +96,14 @@ loop-pin-preserved c =
     let at = has-at (list_of w.pool.inputs g) 0 c.in-Some.pin.0 (sym c.in-Some.ensures) in
     let some = some-first (list_of w.pool.inputs g) c.in-Some.pin.0 at in
     let u : Circuit = record { kinds = c.loop-pin.self-inside.kinds.items; pool = c.unlink_pin-slot.new.pool; epoch = c.loop-pin.self-inside.epoch } in
-    let step = emptied-step v w u g c.in-Some.pin c.unlink_pin-slot.result c.args.undos.now.entries c.loop-pin.undos.entries graph.wired i.emptied refl c.unlink_pin-slot.ensures.rings c.look-in-Some.ensures.rings at c.unlink_pin-slot.ensures.stood in
+    let step = emptied-step v w u g c.in-Some.pin c.unlink_pin-slot.result c.args.undos.now.entries c.loop-pin.undos.entries graph.wired (gate-not_zero v g graph.wired.shape c.requires.gate) i.emptied refl c.unlink_pin-slot.ensures.rings c.look-in-Some.ensures.rings at c.unlink_pin-slot.ensures.stood in
     record {
       emptied = rw c.push.ensures.entries step.0;
       entries = omega (arith, step.1, i.entries, c.push.ensures.spare);
       nodes = c.unlink_pin-slot.ensures.nodes ∙ i.nodes;
       spare = c.unlink_pin-slot.ensures.spare ∙ i.spare;
+      taken = c.unlink_pin-slot.ensures.taken ∙ i.taken;
+      free = i.free;
       live = i.live;
       epoch = i.epoch;
       same = i.same;
@@ -116,8 +121,8 @@ index-requires c =
     let within : g < length v.kinds = kind-within v.kinds g live in
     omega (arith, within, ap length i.same, c.loop-pin.self-inside.kinds.ok.0)
 
-pub set_kind-requires : goal.set_kind-requires
-set_kind-requires c =
+pub set_kind-requires-clause-node : goal.set_kind-requires-clause-node
+set_kind-requires-clause-node c =
     let v = c.args.self.now in
     let graph : IsGraph v = rw c.self.view_is at c.self.invariant.0 in
     let i = c.loop-pin.invariant in
@@ -171,7 +176,7 @@ invariant_of-self c =
     let u : Circuit = record { kinds = c.set_kind.new.kinds.items; pool = w.pool; epoch = w.epoch } in
     let a = retires v w u g c.in-Some-index.kind c.args.undos.now.entries c.loop-pin.undos.entries (subst (λ (x : Circuit). AreRings (rings_of x.pool)) c.self.view_is c.look.ensures.rings) graph.wired i.emptied none c.requires.gate (kind ∙ c.in-Some-index.is) c.requires.unread (c.set_kind.ensures.kinds w.pool) c.set_kind.ensures.len in (
       record { wired = a.wired; room = omega (arith, graph.room, ap length i.same, i.nodes, c.set_kind.ensures.len); few = omega (arith, graph.few, ap length i.same, c.set_kind.ensures.len) },
-      live-set w.kinds u.kinds w.pool g _ c.loop-pin.self-inside.least c.min-self-inside.result c.set_kind.ensures.kinds i.live (omega (arith, c.min-self-inside.ensures)) (inl (omega (arith, c.min-self-inside.ensures))),
+      (live-set w.kinds u.kinds w.pool g _ c.loop-pin.self-inside.least c.min-self-inside.result c.set_kind.ensures.kinds i.live (omega (arith, c.min-self-inside.ensures)) (inl (omega (arith, c.min-self-inside.ensures))), c.set_kind.ensures.free),
     )
 
 pub returns-clause-net : goal.returns-clause-net
@@ -190,6 +195,22 @@ returns-clause-net c =
     let u : Circuit = record { kinds = c.set_kind.new.kinds.items; pool = w.pool; epoch = w.epoch } in
     let a = retires v w u g c.in-Some-index.kind c.args.undos.now.entries c.loop-pin.undos.entries (subst (λ (x : Circuit). AreRings (rings_of x.pool)) c.self.view_is c.look.ensures.rings) graph.wired i.emptied none c.requires.gate (kind ∙ c.in-Some-index.is) c.requires.unread (c.set_kind.ensures.kinds w.pool) c.set_kind.ensures.len in
     a.net
+
+pub returns-clause-readers : goal.returns-clause-readers
+returns-clause-readers c =
+    let v = c.args.self.now in
+    let graph : IsGraph v = rw c.self.view_is at c.self.invariant.0 in
+    let i = c.loop-pin.invariant in
+    let g = c.args.gate.0 in
+    let w : Circuit = record { kinds = c.loop-pin.self-inside.kinds.items; pool = c.loop-pin.self-inside.pool; epoch = c.loop-pin.self-inside.epoch } in
+    let count = retire-count v g graph.wired.shape c.requires.gate in
+    let live = live-in v g (c.requires.gate.0, c.requires.gate.1.0) in
+    let within : g < length v.kinds = kind-within v.kinds g live in
+    let none : list_of w.pool.inputs g ≡ [] = none-first (list_of w.pool.inputs g) (sym c.nth_pin.ensures ∙ map-none _ c.nth_pin.result c.in_default.not-Some) in
+    let inside : g < length w.kinds = omega (arith, within, ap length i.same) in
+    let kind : kind_at w.kinds g ≡ c.index.result.now = sym (get_or_read w.kinds g c.index.result.now inside c.index.ensures None) in
+    let u : Circuit = record { kinds = c.set_kind.new.kinds.items; pool = w.pool; epoch = w.epoch } in
+    gate-goes v w u g c.args.undos.now.entries c.loop-pin.undos.entries i.emptied none refl
 
 pub returns-clause-undos : goal.returns-clause-undos
 returns-clause-undos c =
@@ -229,7 +250,39 @@ loop-pin-init c =
       entries = refl;
       nodes = refl;
       spare = refl;
-      live = c.self.invariant.1;
+      taken = refl;
+      free = c.self.invariant.1.1;
+      live = c.self.invariant.1.0;
       epoch = refl;
       same = refl;
     })
+
+pub returns-clause-uses : goal.returns-clause-uses
+returns-clause-uses c =
+    let v = c.args.self.now in
+    let graph : IsGraph v = rw c.self.view_is at c.self.invariant.0 in
+    let i = c.loop-pin.invariant in
+    let g = c.args.gate.0 in
+    let w : Circuit = record { kinds = c.loop-pin.self-inside.kinds.items; pool = c.loop-pin.self-inside.pool; epoch = c.loop-pin.self-inside.epoch } in
+    let count = retire-count v g graph.wired.shape c.requires.gate in
+    let live = live-in v g (c.requires.gate.0, c.requires.gate.1.0) in
+    let within : g < length v.kinds = kind-within v.kinds g live in
+    let inside : g < length w.kinds = omega (arith, within, ap length i.same) in
+    let kind : kind_at w.kinds g ≡ c.index.result.now = sym (get_or_read w.kinds g c.index.result.now inside c.index.ensures None) in
+    record {
+      pins_left = i.spare;
+      nodes_left = omega (arith, c.set_kind.ensures.count, bit-some (kind_at w.kinds g) _ (kind ∙ c.in-Some-index.is), ap free_in i.same);
+      pins_more = ap finset.len i.taken;
+    }
+
+pub set_kind-requires-clause-few : goal.set_kind-requires-clause-few
+set_kind-requires-clause-few c =
+    let v = c.args.self.now in
+    let graph : IsGraph v = rw c.self.view_is at c.self.invariant.0 in
+    let i = c.loop-pin.invariant in
+    let g = c.args.gate.0 in
+    let w : Circuit = record { kinds = c.loop-pin.self-inside.kinds.items; pool = c.loop-pin.self-inside.pool; epoch = c.loop-pin.self-inside.epoch } in
+    let count = retire-count v g graph.wired.shape c.requires.gate in
+    let live = live-in v g (c.requires.gate.0, c.requires.gate.1.0) in
+    let within : g < length v.kinds = kind-within v.kinds g live in
+    omega (arith, graph.few, ap length i.same)

@@ -1,5 +1,6 @@
 use Rattle.std.proofs.Common.{◌≡◌, ◌+◌, length}
 use Rattle.pin_pool.specs.Pins.{list_of}
+use Rattle.gate_graph.specs.Wirings.{free_in}
 use Rattle.gate_graph.specs.Circuit.{Circuit, kinds_live}
 use Rattle.gate_graph.specs.Emptied.{IsEmptied}
 use Rattle.gate_graph.proofs.state.Graph.retire.Given as goal
@@ -10,6 +11,8 @@ invariant-loop-pin l = record {
   entries : l.undos.spare + length (list_of l.fn.self.pool.inputs l.gate.0) ≡ l.fn.undos.spare + length (list_of l.self-inside.pool.inputs l.gate.0);
   nodes : length l.self-inside.pool.inputs ≡ length l.fn.self.pool.inputs;
   spare : l.self-inside.pool.spare ≡ l.fn.self.pool.spare;
+  taken : l.self-inside.pool.taken ≡ l.fn.self.pool.taken;
+  free : l.self-inside.free ≡ free_in l.self-inside.kinds.items;
   live : kinds_live l.self-inside.kinds.items l.self-inside.least;
   epoch : l.self-inside.epoch ≡ l.fn.self.epoch;
   same : l.self-inside.kinds.items ≡ l.fn.self.kinds;

@@ -1,5 +1,6 @@
 use Rattle.std.proofs.Common.{◌≡◌, ◌≤◌, length}
-use Rattle.gate_graph.specs.Rings.{wiring_of}
+use Rattle.gate_graph.specs.Wirings.{wiring_of, free_in}
+use Rattle.std.specs.FinSet as set
 use Rattle.gate_graph.specs.Entries.{CanGoBack, AreWithin, back_to}
 use Rattle.gate_graph.specs.Circuit.{wiring, kinds_live}
 use Rattle.gate_graph.proofs.state.Graph.undo.Given as goal
@@ -12,6 +13,10 @@ invariant-loop-entry l = record {
   room : length l.self-inside.kinds.items ≤ length l.self-inside.pool.inputs;
   live : kinds_live l.self-inside.kinds.items l.self-inside.least;
   few : length l.self-inside.kinds.items ≤ 4294967295;
+  free : l.self-inside.free ≡ free_in l.self-inside.kinds.items;
+  spare : l.fn.self.pool.spare ≤ l.self-inside.pool.spare;
+  taken : set.len l.self-inside.pool.taken ≤ set.len l.fn.self.pool.taken;
+  numbers : length l.self-inside.kinds.items ≡ length l.fn.self.kinds;
   epoch : l.self-inside.epoch ≡ l.fn.self.epoch;
 }
 

@@ -1,0 +1,13 @@
+use Rattle.std.proofs.Common.{◌≡◌, ◌∷◌, [], ◌++◌, List, ap, map, ◌∙◌, Bool, false}
+use Rattle.std.specs.Borrow.{Bor}
+use Rattle.rm_model.specs.Words.{Word}
+use Rattle.rm_model.specs.Value.{is_among}
+use Rattle.cover_decompose.proofs.TableLemmas.{map-inserted}
+use Rattle.cover_decompose.proofs.names.NameTable.add.Goals as goal
+
+pub returns : goal.returns
+returns c =
+    let new : is_among (map (λ (k : Bor Word). k.now) c.self.inside.names.keys) c.args.name.now ≡ false = ap (λ (l : List Word). is_among l c.args.name.now) c.self.view_is ∙ c.requires in
+    ap (λ (l : List (Bor Word)). map (λ (k : Bor Word). k.now) l) c.in_ok-insert.ensures.keys
+    ∙ (map-inserted (λ (k : Bor Word). k.now) c.self.inside.names.keys _ new
+    ∙ ap (λ (l : List Word). l ++ c.args.name.now ∷ []) c.self.view_is)

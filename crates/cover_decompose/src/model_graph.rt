@@ -1,0 +1,99 @@
+// The graph of a model.
+ghost use Rattle.std.specs.Prelude.{◌≡◌, ◌<◌, ◌≤◌, ◌+◌, ◌^◌, ℕ, IfErr, IfOk, None, OnOk, length, map};
+ghost use Rattle.cover_decompose.specs.Built.{IsBuilt, readers_in};
+ghost use Rattle.cover_decompose.specs.Chosen.{AtPlaces, IsNumbered};
+ghost use Rattle.cover_decompose.specs.Count.{decomposed};
+ghost use Rattle.cover_decompose.specs.Decomposition.{last_state, net_of_model};
+ghost use Rattle.cover_decompose.specs.Needed.{taken};
+ghost use Rattle.cover_decompose.specs.Refusals.{IsRefused};
+ghost use Rattle.gate_graph.specs.Circuit.{fanouts_of, live_nodes, net_of, pins_taken};
+ghost use Rattle.rm_model.specs.Ranks.{first_without_rank};
+ghost use Rattle.rm_model.specs.Value.{observed_names, source_names};
+ghost use Rattle.rm_model.specs.WellFormed.{IsWellFormed};
+
+use crate::build::build;
+use crate::laws::decompositions_stand;
+use crate::listing::list_nodes;
+use crate::numbering::{Numbering, cover_order, number, taken_places, wire_count};
+use gate_graph::Graph;
+use rm_base::NoMemory;
+use rm_model::Model;
+use std::alloc::Global;
+
+/// The most wires that a decomposition may have.
+pub const MOST_PINS: u64 = 65536;
+
+/// Why a model is not decomposed.
+#[derive(Clone, Copy, Debug, PartialEq, Eq)]
+pub enum DecomposeRefusal {
+    /// The decomposition has more than 65,536 wires: this many.
+    Limit { pins: u64 },
+    NoMemory,
+}
+
+impl From<NoMemory> for DecomposeRefusal {
+    ghost use Rattle.std.specs.Prelude.{◌≡◌};
+    ghost use Rattle.cover_decompose.specs.declared.model_graph.DecomposeRefusal.TheVariants as refusal;
+
+    ghost from_gives = { λ e p. p ≡ refusal.NoMemory };
+
+    fn from(_error: NoMemory) -> Self {
+        DecomposeRefusal::NoMemory
+    }
+}
+
+fn graph_of(
+    alloc: Global,
+    model: &Model,
+    numbering: &Numbering,
+    places: &[usize],
+) -> Result<Graph, NoMemory>
+    requires formed { IsWellFormed model.now }
+    requires ranked { first_without_rank model.now ≡ None }
+    requires numbered { IsNumbered model.now (map (λ ks. ks.items) numbering.now.inputs.items) numbering.now.observed.items }
+    requires sources { numbering.now.sources ≡ length (source_names model.now) }
+    requires few_sources { length (source_names model.now) ≤ 1024 }
+    requires few_observed { length (observed_names model.now) ≤ 4096 }
+    requires covers { length model.now.covers < 2 ^ 32 }
+    requires places { AtPlaces model.now.covers places.now (taken model.now) }
+    requires few_pins { decomposed model.now ≤ 65536 }
+    ensures { IfOk result (λ g. IsBuilt g (last_state model.now).made (net_of_model model.now).observed) }
+{
+    decompositions_stand();
+    let plan = list_nodes(alloc, model, numbering, places)?;
+    let graph = build(
+        alloc,
+        numbering.sources,
+        &plan,
+        numbering.observed.as_slice(),
+    )?;
+    Ok(graph)
+}
+
+/// Makes the graph of a model: its sources, and each needed cover as an Or of Ands of literals.
+pub fn decompose(alloc: Global, model: &Model) -> Result<Graph, DecomposeRefusal>
+    requires formed { IsWellFormed model.now }
+    requires ranked { first_without_rank model.now ≡ None }
+    requires covers { length model.now.covers < 2 ^ 32 }
+    requires sources { length (source_names model.now) ≤ 1024 }
+    requires observed { length (observed_names model.now) ≤ 4096 }
+    requires fits { decomposed model.now < 2 ^ 64 }
+    ensures net { IfOk result (λ g. net_of g ≡ net_of_model model.now) }
+    ensures fanouts { IfOk result (λ g. (n : ℕ) → fanouts_of g n ≡ readers_in (net_of_model model.now) n) }
+    ensures pins { IfOk result (λ g. pins_taken g ≡ decomposed model.now + length (observed_names model.now)) }
+    ensures nodes { IfOk result (λ g. live_nodes g ≡ length (net_of_model model.now).nodes) }
+    ensures epoch { IfOk result (λ g. g.epoch ≡ 0) }
+    ensures within { OnOk result (decomposed model.now ≤ 65536) }
+    ensures refused { IfErr result (λ refusal. IsRefused model.now refusal) }
+{
+    decompositions_stand();
+    let numbering = number(alloc, model)?;
+    let order = cover_order(alloc, model)?;
+    let places = taken_places(alloc, model, &numbering, order.as_slice())?;
+    let pins = wire_count(alloc, model, &numbering, places.as_slice())?;
+    if pins > MOST_PINS {
+        return Err(DecomposeRefusal::Limit { pins });
+    }
+    let graph = graph_of(alloc, model, &numbering, places.as_slice())?;
+    Ok(graph)
+}

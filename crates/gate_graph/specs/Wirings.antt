@@ -1,0 +1,55 @@
+-- The kinds and the pins by node number, however much room there is, and what holds of them.
+use Rattle.std.specs.Prelude.{◌≡◌, ◌≢◌, ℕ, suc, ◌+◌, ◌<◌, ◌≤◌, true, List, [], ◌∷◌, Option, Some, None, slice_index_or}
+use Rattle.gate_net.specs.declared.Kind.{Kind}
+use Rattle.gate_net.specs.declared.Kind.TheVariants.{Source, Zero, One, Not}
+use Rattle.pin_pool.specs.Ring.{has}
+use Rattle.pin_pool.specs.Pins.{Pins}
+use Rattle.pin_pool.specs.Rings.{Rings, rings_of, IsIn}
+
+-- the kinds by node number, and the rings
+pub record Wiring : Type 0 where
+  pub kind : ℕ → Option Kind
+  pub rings : Rings
+
+abbrev pub kind_at : List (Option Kind) → ℕ → Option Kind
+kind_at kinds n = slice_index_or kinds n None
+
+abbrev pub wiring_of : List (Option Kind) → Pins → Wiring
+wiring_of kinds v = record { kind = λ n. kind_at kinds n; rings = rings_of v }
+
+-- the first numbers are the constants and the sources, and no others are
+pub record AreFirst (kind : ℕ → Option Kind) (sources : ℕ) : Type 0 where
+  pub source_is : (k : ℕ) → k < sources → kind (2 + k) ≡ Some Source
+  pub only_source : (n : ℕ) → kind n ≡ Some Source → (2 ≤ n) × (n < 2 + sources)
+  pub only_zero : (n : ℕ) → kind n ≡ Some Zero → n ≡ 0
+  pub only_one : (n : ℕ) → kind n ≡ Some One → n ≡ 1
+
+-- what holds of every graph, but that no pins make a circle
+pub record IsShaped (w : Wiring) : Type 0 where
+  pub zero_is : w.kind 0 ≡ Some Zero
+  pub one_is : w.kind 1 ≡ Some One
+  pub one_reads : w.rings.inputs 1 ≡ []
+  pub gates_live : (g p : ℕ) → has p (w.rings.inputs g) ≡ true → w.kind g ≢ None
+  pub drivers_live : (n p : ℕ) → has p (w.rings.fanouts n) ≡ true → w.kind n ≢ None
+  pub driven : (g p : ℕ) → has p (w.rings.inputs g) ≡ true → IsIn w.rings.fanouts p
+  pub read : (n p : ℕ) → has p (w.rings.fanouts n) ≡ true → IsIn w.rings.inputs p
+  pub nots : (y : ℕ) → w.kind y ≡ Some Not → (p : ℕ) × (w.rings.inputs y ≡ p ∷ [])
+  pub sources : ℕ
+  pub first : AreFirst w.kind sources
+  pub sources_read : (n : ℕ) → w.kind n ≡ Some Source → w.rings.inputs n ≡ []
+
+-- what holds of every graph
+pub record IsWired (w : Wiring) : Type 0 where
+  pub shape : IsShaped w
+  pub rank : ℕ → ℕ
+  pub ranked : (g n p : ℕ) → g ≢ 0 → has p (w.rings.inputs g) ≡ true → has p (w.rings.fanouts n) ≡ true → rank n < rank g
+
+-- how many numbers with room have no live node
+abbrev pub free_in : List (Option Kind) → ℕ
+free_in [] = 0
+free_in (None ∷ kinds) = suc (free_in kinds)
+free_in (Some kind ∷ kinds) = free_in kinds
+
+abbrev pub free_bit : Option Kind → ℕ
+free_bit None = 1
+free_bit (Some kind) = 0

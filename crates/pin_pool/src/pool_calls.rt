@@ -1,0 +1,284 @@
+//! The pool and its calls.
+ghost use Rattle.std.specs.Prelude.{◌≡◌, ◌≢◌, ◌<◌, ◌≤◌, ◌+◌, ◌↔◌, ℕ, true, false, length, IfOk, IsErr, OnErr, OnOk};
+ghost use Rattle.std.specs.FinSet as set;
+ghost use Rattle.pin_pool.specs.Ring.{has};
+ghost use Rattle.pin_pool.specs.Pins.{admitted};
+ghost use Rattle.pin_pool.specs.Rings.{AreRings, CanMoveBack, CanRelink, CanRestore, IsLinked, IsLoose, IsValid, Rings, Stood, claimed, joined, moved, moved_back, no_rings, redriven, relinked, restored, returned, rings_of, unlinked};
+ghost use Rattle.pin_pool.specs.declared.names.Slot.{Slot};
+ghost use Rattle.pin_pool.specs.declared.names.Splice.{Splice};
+
+use crate::names::{Full, PinNo, Slot, Splice};
+use crate::pin_iter::PinIter;
+use crate::store::Store;
+use rm_base::NoMemory;
+use std::alloc::Global;
+use std::marker::Model;
+
+/// Pins, each free, taken, or taken and linked to a gate and a driver.
+///
+/// Node numbers below some bound are admitted. A node has two lists of pins: its inputs, of which it
+/// is the gate, and its fanouts, of which it is the driver. No call but `reserve` takes memory.
+#[derive(Drop)]
+pub struct Pool {
+    store: Store,
+}
+
+impl Model for Pool {
+    ghost use Rattle.pin_pool.specs.Pins.{Pins, pins_code};
+
+    ghost Value = { Pins };
+
+    ghost coded = { pins_code };
+
+    ghost use Rattle.pin_pool.specs.Places.{ArePaired};
+    ghost use Rattle.pin_pool.specs.Rings.{rings_of};
+
+    ghost view = { λ p. p.store };
+
+    ghost invariant = { λ p. ArePaired (rings_of p.store) };
+}
+
+impl Pool {
+    /// A pool that admits no node. It takes no memory.
+    pub fn new(alloc: Global) -> Pool
+        ensures rings { rings_of result ≡ no_rings }
+        ensures taken { result.taken ≡ set.empty }
+        ensures spare { result.spare ≡ 0 }
+        ensures nodes { admitted result ≡ 0 }
+        ensures valid { IsValid result }
+    {
+        let store = Store::new(alloc);
+        store.look();
+        Pool { store }
+    }
+
+    /// How many pins may be taken before more room is reserved.
+    pub fn spare(&self) -> usize
+        ensures spare { result ≡ self.now.spare }
+        ensures valid { IsValid self.now }
+    {
+        self.store.look();
+        self.store.spare()
+    }
+
+    /// Makes room for `pins` more pins, and admits the node numbers below `nodes`.
+    pub fn reserve(&mut self, pins: usize, nodes: usize) -> Result<(), NoMemory>
+        requires pins { set.len self.old.taken + pins ≤ 4294967295 }
+        requires nodes { nodes ≤ 4294967295 }
+        ensures spare { OnOk result (pins ≤ self.new.spare) }
+        ensures more { self.old.spare ≤ self.new.spare }
+        ensures nodes { OnOk result (nodes ≤ admitted self.new) }
+        ensures admitted { admitted self.old ≤ admitted self.new }
+        ensures rings { rings_of self.new ≡ rings_of self.old }
+        ensures relinks { (p : ℕ) (slot : Slot) → CanRelink self.old p slot → CanRelink self.new p slot }
+        ensures restores { (p : ℕ) (slot : Slot) → CanRestore self.old p slot → CanRestore self.new p slot }
+        ensures moves_back { (splice : Splice) → CanMoveBack self.old splice → CanMoveBack self.new splice }
+        ensures taken { self.new.taken ≡ self.old.taken }
+        ensures refused { OnErr result (self.new ≡ self.old) }
+        ensures valid { IsValid self.new }
+    {
+        let done = self.store.reserve(pins, nodes);
+        self.store.look();
+        done
+    }
+
+    /// Takes a free pin, in constant time.
+    pub fn take(&mut self) -> Result<PinNo, Full>
+        ensures full { IsErr result ↔ (self.old.spare ≡ 0) }
+        ensures refused { OnErr result (self.new ≡ self.old) }
+        ensures fresh { IfOk result (λ pin. (rings_of self.old).taken pin.0 ≡ false) }
+        ensures rings { IfOk result (λ pin. rings_of self.new ≡ claimed pin.0 (rings_of self.old)) }
+        ensures loose { IfOk result (λ pin. IsLoose (rings_of self.new) pin.0) }
+        ensures taken { IfOk result (λ pin. self.new.taken ≡ set.insert self.old.taken pin.0) }
+        ensures spare { OnOk result (self.new.spare + 1 ≡ self.old.spare) }
+        ensures nodes { admitted self.new ≡ admitted self.old }
+        ensures valid { IsValid self.new }
+    {
+        let pin = self.store.take();
+        self.store.look();
+        pin
+    }
+
+    /// Frees a pin that isn't linked, in constant time.
+    pub fn give_back(&mut self, pin: PinNo)
+        requires { IsLoose (rings_of self.old) pin.0 }
+        ensures rings { rings_of self.new ≡ returned pin.0 (rings_of self.old) }
+        ensures taken { self.new.taken ≡ set.remove self.old.taken pin.0 }
+        ensures spare { self.new.spare ≡ self.old.spare + 1 }
+        ensures nodes { admitted self.new ≡ admitted self.old }
+        ensures valid { IsValid self.new }
+    {
+        self.store.look();
+        self.store.give_back(pin);
+        self.store.look();
+    }
+
+    /// Makes a pin the last input of a gate and the last fanout of a driver, in constant time.
+    pub fn link(&mut self, pin: PinNo, gate: u32, driver: u32)
+        requires loose { IsLoose (rings_of self.old) pin.0 }
+        requires gate { gate < admitted self.old }
+        requires driver { driver < admitted self.old }
+        ensures rings { rings_of self.new ≡ joined pin.0 gate driver (rings_of self.old) }
+        ensures linked { IsLinked (rings_of self.new) pin.0 }
+        ensures others { (q : ℕ) → IsLinked (rings_of self.old) q → IsLinked (rings_of self.new) q }
+        ensures taken { self.new.taken ≡ self.old.taken }
+        ensures spare { self.new.spare ≡ self.old.spare }
+        ensures nodes { admitted self.new ≡ admitted self.old }
+        ensures valid { IsValid self.new }
+    {
+        self.store.look();
+        self.store.link(pin, gate, driver);
+        self.store.look();
+    }
+
+    /// Takes a pin out of both its lists, in constant time, and gives the place that it had. The pin stays taken.
+    pub fn unlink(&mut self, pin: PinNo) -> Slot
+        requires { IsLinked (rings_of self.old) pin.0 }
+        ensures rings { rings_of self.new ≡ unlinked pin.0 (rings_of self.old) }
+        ensures stood { Stood (rings_of self.old) pin.0 result }
+        ensures back { CanRelink self.new pin.0 result }
+        ensures others { (q : ℕ) → q ≢ pin.0 → IsLinked (rings_of self.old) q → IsLinked (rings_of self.new) q }
+        ensures taken { self.new.taken ≡ self.old.taken }
+        ensures spare { self.new.spare ≡ self.old.spare }
+        ensures nodes { admitted self.new ≡ admitted self.old }
+        ensures was_valid { IsValid self.old }
+        ensures valid { IsValid self.new }
+    {
+        self.store.look();
+        let slot = self.store.unlink(pin);
+        self.store.look();
+        slot
+    }
+
+    /// Puts a pin that isn't linked into both lists that the slot names, in constant time: it undoes `unlink`.
+    pub fn relink(&mut self, pin: PinNo, slot: Slot)
+        requires { CanRelink self.old pin.0 slot }
+        ensures rings { rings_of self.new ≡ relinked pin.0 slot (rings_of self.old) }
+        ensures undoes { (before : Rings) → AreRings before → Stood before pin.0 slot → rings_of self.old ≡ unlinked pin.0 before → rings_of self.new ≡ before }
+        ensures linked { IsLinked (rings_of self.new) pin.0 }
+        ensures others { (q : ℕ) → IsLinked (rings_of self.old) q → IsLinked (rings_of self.new) q }
+        ensures taken { self.new.taken ≡ self.old.taken }
+        ensures spare { self.new.spare ≡ self.old.spare }
+        ensures nodes { admitted self.new ≡ admitted self.old }
+        ensures valid { IsValid self.new }
+    {
+        self.store.look();
+        self.store.relink(pin, slot);
+        self.store.look();
+    }
+
+    /// Makes a pin the last fanout of another driver, in constant time, and gives the place that it had.
+    /// It keeps its place in its gate. The driver may be the one that it has.
+    pub fn move_to_driver(&mut self, pin: PinNo, driver: u32) -> Slot
+        requires linked { IsLinked (rings_of self.old) pin.0 }
+        requires driver { driver < admitted self.old }
+        ensures rings { rings_of self.new ≡ redriven pin.0 driver (rings_of self.old) }
+        ensures stood { Stood (rings_of self.old) pin.0 result }
+        ensures back { CanRestore self.new pin.0 result }
+        ensures taken { self.new.taken ≡ self.old.taken }
+        ensures spare { self.new.spare ≡ self.old.spare }
+        ensures nodes { admitted self.new ≡ admitted self.old }
+        ensures was_valid { IsValid self.old }
+        ensures valid { IsValid self.new }
+    {
+        self.store.look();
+        let slot = self.store.move_to_driver(pin, driver);
+        self.store.look();
+        slot
+    }
+
+    /// Gives a pin the driver and the place among its fanouts that the slot names, in constant time: it undoes
+    /// `move_to_driver`. The pin keeps its place in its gate, whatever the slot says of that.
+    pub fn restore_driver(&mut self, pin: PinNo, slot: Slot)
+        requires { CanRestore self.old pin.0 slot }
+        ensures rings { rings_of self.new ≡ restored pin.0 slot (rings_of self.old) }
+        ensures undoes { (before : Rings) (driver : ℕ) → AreRings before → Stood before pin.0 slot → rings_of self.old ≡ redriven pin.0 driver before → rings_of self.new ≡ before }
+        ensures taken { self.new.taken ≡ self.old.taken }
+        ensures spare { self.new.spare ≡ self.old.spare }
+        ensures nodes { admitted self.new ≡ admitted self.old }
+        ensures valid { IsValid self.new }
+    {
+        self.store.look();
+        self.store.restore_driver(pin, slot);
+        self.store.look();
+    }
+
+    /// Appends all fanouts of one node, in order, to those of another, in the time of the pins moved.
+    pub fn move_all(&mut self, from: u32, to: u32) -> Splice
+        requires from { from < admitted self.old }
+        requires to { to < admitted self.old }
+        requires apart { from ≢ to }
+        ensures rings { rings_of self.new ≡ moved from to (rings_of self.old) }
+        ensures splice { (result.from ≡ from) × (result.to ≡ to) × (result.count ≡ length ((rings_of self.old).fanouts from)) }
+        ensures back { CanMoveBack self.new result }
+        ensures taken { self.new.taken ≡ self.old.taken }
+        ensures spare { self.new.spare ≡ self.old.spare }
+        ensures nodes { admitted self.new ≡ admitted self.old }
+        ensures valid { IsValid self.new }
+    {
+        self.store.look();
+        let splice = self.store.move_all(from, to);
+        self.store.look();
+        splice
+    }
+
+    /// Makes the last fanouts of one node, in order, those of another that has none, in the time of the pins
+    /// moved: it undoes `move_all`.
+    pub fn move_back(&mut self, splice: Splice)
+        requires { CanMoveBack self.old splice }
+        ensures rings { rings_of self.new ≡ moved_back splice (rings_of self.old) }
+        ensures undoes { (before : Rings) → splice.count ≡ length (before.fanouts splice.from) → rings_of self.old ≡ moved splice.from splice.to before → rings_of self.new ≡ before }
+        ensures taken { self.new.taken ≡ self.old.taken }
+        ensures spare { self.new.spare ≡ self.old.spare }
+        ensures nodes { admitted self.new ≡ admitted self.old }
+        ensures valid { IsValid self.new }
+    {
+        self.store.look();
+        self.store.move_back(splice);
+        self.store.look();
+    }
+
+    /// The pins whose gate is the node, in order.
+    pub fn inputs(&self, gate: u32) -> PinIter<'_>
+        requires { gate < admitted self.now }
+        ensures list { result ≡ (rings_of self.now).inputs gate }
+        ensures few { length result ≤ 4294967295 }
+        ensures valid { IsValid self.now }
+    {
+        self.store.look();
+        self.store.inputs(gate)
+    }
+
+    /// The pins whose driver is the node, in order.
+    pub fn fanouts(&self, driver: u32) -> PinIter<'_>
+        requires { driver < admitted self.now }
+        ensures list { result ≡ (rings_of self.now).fanouts driver }
+        ensures few { length result ≤ 4294967295 }
+        ensures valid { IsValid self.now }
+    {
+        self.store.look();
+        self.store.fanouts(driver)
+    }
+
+    /// The node that is a linked pin's gate, in constant time.
+    pub fn gate_of(&self, pin: PinNo) -> u32
+        requires { IsLinked (rings_of self.now) pin.0 }
+        ensures gate { has pin.0 ((rings_of self.now).inputs result) ≡ true }
+        ensures within { result < admitted self.now }
+        ensures valid { IsValid self.now }
+    {
+        self.store.look();
+        self.store.gate_of(pin)
+    }
+
+    /// The node that is a linked pin's driver, in constant time.
+    pub fn driver_of(&self, pin: PinNo) -> u32
+        requires { IsLinked (rings_of self.now) pin.0 }
+        ensures driver { has pin.0 ((rings_of self.now).fanouts result) ≡ true }
+        ensures within { result < admitted self.now }
+        ensures valid { IsValid self.now }
+    {
+        self.store.look();
+        self.store.driver_of(pin)
+    }
+}

@@ -1,0 +1,33 @@
+use Rattle.std.proofs.Common.{◌≡◌, ◌≤◌, ◌<◌, ℕ, Some, None, sym, ap, ◌∙◌, length, arith}
+use Rattle.std.specs.Prelude.{slice_get}
+use Rattle.std.specs.Option.{option_map}
+use Rattle.rm_base.specs.declared.numbers.NodeId.{NodeId}
+use Rattle.gate_graph.specs.Circuit.{net_of}
+use Rattle.gate_net.specs.Net.{drivers_of}
+use Rattle.wire_edit.specs.Tests.{driver_at}
+use Rattle.wire_edit.proofs.Tested.{junction_gate, within}
+use Rattle.wire_edit.proofs.RuleAt.{empty_rule, single_rule, wide_rule}
+use Rattle.wire_edit.proofs.Reading.{past_end}
+use Rattle.wire_edit.proofs.rules.rule_of_junction.Goals as goal
+
+pub returns-in_default : goal.returns-in_default
+returns-in_default c =
+    let net = net_of c.args.graph.now in
+    let none : driver_at net c.args.gate.0 0 ≡ None = sym c.driver.ensures ∙ ap (option_map (λ (n : NodeId). n.0)) c.in_default.is in
+    let le = past_end (drivers_of net c.args.gate.0) 0 none in
+    sym (empty_rule net c.args.gate.0 c.requires.used (junction_gate net c.args.gate.0 c.requires.kind) c.requires.none c.requires.kind c.requires.apart (omega (arith, le)))
+
+pub returns-in-None : goal.returns-in-None
+returns-in-None c =
+    let net = net_of c.args.graph.now in
+    let none : driver_at net c.args.gate.0 1 ≡ None = sym c.driver-2.ensures ∙ ap (option_map (λ (n : NodeId). n.0)) c.in-None.is in
+    let le = past_end (drivers_of net c.args.gate.0) 1 none in
+    let first : driver_at net c.args.gate.0 0 ≡ Some _ = sym c.driver.ensures ∙ ap (option_map (λ (n : NodeId). n.0)) c.in-Some.is in
+    let lt = within (drivers_of net c.args.gate.0) 0 _ first in
+    sym (single_rule net c.args.gate.0 c.requires.used (junction_gate net c.args.gate.0 c.requires.kind) c.requires.none c.requires.kind c.requires.apart (omega (arith, le, lt)))
+
+pub returns-in-Some-driver : goal.returns-in-Some-driver
+returns-in-Some-driver c =
+    let net = net_of c.args.graph.now in
+    let second : driver_at net c.args.gate.0 1 ≡ Some _ = sym c.driver-2.ensures ∙ ap (option_map (λ (n : NodeId). n.0)) c.in-Some-driver.is in
+    sym (wide_rule net c.args.gate.0 c.requires.used (junction_gate net c.args.gate.0 c.requires.kind) c.requires.none c.requires.kind c.requires.apart (within (drivers_of net c.args.gate.0) 1 _ second))

@@ -1,0 +1,66 @@
+//! The steps that a trial has made.
+ghost use Rattle.std.specs.Prelude.{◌≡◌, ◌+◌, ◌≤◌, ◌<◌, ◌++◌, ◌∷◌, [], IfOk};
+ghost use Rattle.wire_edit.specs.Tried.{StepList};
+
+use crate::steps::Step;
+use rm_base::NoMemory;
+use std::alloc::Global;
+use std::marker::Model;
+
+// Steps, with room for more.
+#[derive(Drop)]
+pub(crate) struct Made {
+    steps: Vec<Step>,
+    spare: usize,
+}
+
+impl Model for Made {
+    ghost use Rattle.wire_edit.specs.Tried.{StepList};
+
+    ghost Value = { StepList };
+
+    ghost use Rattle.std.specs.Prelude.{◌+◌, ◌≤◌, length, vec_capacity};
+
+    ghost view = { λ m. record { steps = m.steps.items; spare = m.spare } };
+
+    ghost invariant = { λ m. length m.steps.items + m.spare ≤ vec_capacity m.steps };
+}
+
+impl Made {
+    // No steps, with room for so many.
+    pub(crate) fn new(alloc: Global, steps: usize) -> Result<Made, NoMemory>
+        ensures { IfOk result (λ m. m ≡ record { steps = []; spare = steps }) }
+    {
+        let mut list = Vec::new(alloc);
+        match list.reserve(steps) {
+            Ok(()) => Ok(Made {
+                steps: list,
+                spare: steps,
+            }),
+            Err(_) => Err(NoMemory),
+        }
+    }
+
+    pub(crate) fn push(&mut self, step: Step)
+        requires { 0 < self.old.spare }
+        ensures steps { self.new.steps ≡ self.old.steps ++ step ∷ [] }
+        ensures spare { self.new.spare + 1 ≡ self.old.spare }
+    {
+        match self.steps.push(step) {
+            Ok(()) => self.spare -= 1,
+            Err(_) => unreachable!(),
+        }
+    }
+
+    pub(crate) fn steps(&self) -> &[Step]
+        ensures { result.now ≡ self.now.steps }
+    {
+        self.steps.as_slice()
+    }
+
+    pub(crate) fn spare(&self) -> usize
+        ensures { result ≡ self.now.spare }
+    {
+        self.spare
+    }
+}
