@@ -1,22 +1,17 @@
 -- A graph after one more gate, and after one more observed node.
-use Rattle.std.proofs.Common.{◌≡◌, ◌≢◌, ◌<◌, ◌≤◌, ◌+◌, ℕ, zero, suc, Bool, true, false, cond, List, [], ◌∷◌, ◌++◌, length, map, get_or, take, drop, refl, sym, ap, subst, ◌∙◌, ◌⊎◌, inl, inr, arith, append_assoc, add-one}
-use Rattle.std.specs.Prelude.{All, Some, None, Option, replicate, slice_get, slice_index, sum_by}
+use Rattle.std.proofs.Common.{◌≡◌, ◌≢◌, ◌<◌, ◌≤◌, ◌+◌, ℕ, zero, suc, List, [], ◌∷◌, ◌++◌, length, map, refl, sym, ap, ◌∙◌, ◌⊎◌, inl, inr, arith, append_assoc, add-one}
+use Rattle.std.specs.Prelude.{Some, None, Option, slice_get, sum_by}
 use Rattle.std.specs.Option.{option_map}
-use Rattle.std.specs.List.{AllByRecursion}
 use Rattle.std.proofs.lemmas.Bool.{cases_lt}
 use Rattle.std.proofs.lemmas.Option.{slice_get-map}
-use Rattle.std.proofs.lemmas.List.Sums.{sum_by-append, sum_by_push}
-use Rattle.gate_net.specs.declared.Kind.{Kind}
-use Rattle.gate_net.specs.declared.Kind.TheVariants.{Source, Zero, One, And, Or, Not}
+use Rattle.std.proofs.lemmas.List.Sums.{sum_by_push}
 use Rattle.gate_net.specs.Edits.{MakesGate}
-use Rattle.gate_net.specs.Net.{Node, Net, node_at, drivers_in, flatten_option, before_dead, trimmed, IsGateKind, IsLive}
-use Rattle.gate_graph.specs.Circuit.{Circuit, net_of, fanouts_of, pins_taken, live_nodes}
+use Rattle.gate_net.specs.Net.{Node, Net, node_at, flatten_option, before_dead, trimmed}
+use Rattle.gate_graph.specs.Circuit.{Circuit, net_of, pins_taken, live_nodes}
 use Rattle.gate_graph.specs.Readers.{NewReaders, SameReaders}
 use Rattle.gate_graph.specs.Spots.{places_from}
-use Rattle.cover_decompose.specs.Built.{AllBelow, IsBuildable, IsBuilt, IsGateNode, readers_from}
-use Rattle.cover_decompose.specs.Decomposition.{plain}
-use Rattle.cover_decompose.proofs.Places.{get_left, get_parts, get_seam, length-push}
-use Rattle.cover_decompose.proofs.Sums.{sum-total, total, total-append}
+use Rattle.cover_decompose.specs.Built.{IsBuilt, readers_from}
+use Rattle.cover_decompose.proofs.Places.{get_seam, length-push}
 
 -- a list without dead numbers at its end follows from what is at each number
 dead_or_live : (xs : List (Option Node)) → trimmed xs ≡ [] → (k : ℕ) → flatten_option (slice_get xs k) ≡ None

@@ -1,6 +1,6 @@
 -- The counts of a decomposition, and which covers it takes.
-use Rattle.std.proofs.Common.{◌≡◌, ◌≢◌, ◌<◌, ◌≤◌, ◌+◌, ◌↔◌, ℕ, zero, suc, Bool, true, false, cond, List, [], ◌∷◌, ◌++◌, length, map, refl, sym, ap, subst, ◌∙◌, ◌⊎◌, inl, inr, arith}
-use Rattle.std.specs.Prelude.{Some, None, Option, slice_get, Contains, replicate}
+use Rattle.std.proofs.Common.{◌≡◌, ◌≢◌, ◌<◌, ◌+◌, ◌↔◌, ℕ, zero, suc, true, List, [], ◌∷◌, length, map, refl, sym, ap, subst, ◌∙◌, ◌⊎◌, inl, inr, arith}
+use Rattle.std.specs.Prelude.{Some, None, slice_get, Contains, replicate}
 use Rattle.std.specs.List.{AllByRecursion, flat_map}
 use Rattle.rm_model.specs.Words.{Word, is_word}
 use Rattle.rm_model.specs.Value.{is_among, source_names, observed_names}
@@ -13,9 +13,9 @@ use Rattle.gate_net.specs.Net.{Node, node_at, wire_count}
 use Rattle.cover_decompose.specs.Count.{cover_wires, cover_zero_names, decomposed, new_count}
 use Rattle.cover_decompose.specs.Decomposition.{last_state, net_of_model, plain, start}
 use Rattle.cover_decompose.specs.Needed.{IsNeeded, covers_by_rank, taken}
-use Rattle.cover_decompose.proofs.Members.{In, all_by_index, all_from, all_in, in_among, in_at, in_contained, in_contains, or_cases, word_same}
+use Rattle.cover_decompose.proofs.Members.{In, all_by_index, all_from, all_in, in_among, in_contained, in_contains, or_cases, word_same}
 use Rattle.cover_decompose.proofs.Order.{Reading}
-use Rattle.cover_decompose.proofs.Points.{needed_taken, not_source, same_cover, taken_is_needed, taken_there}
+use Rattle.cover_decompose.proofs.Points.{needed_taken, taken_is_needed, taken_there}
 use Rattle.cover_decompose.proofs.Ranked.{IsRankable, taken_in, taken_reading}
 use Rattle.cover_decompose.proofs.Sums.{sum-total, total}
 use Rattle.cover_decompose.proofs.WellFormed.{is_live, wires_made}

@@ -1,6 +1,6 @@
 -- A plan over numbers and a state over names that stand for each other.
-use Rattle.std.proofs.Common.{◌≡◌, ◌≢◌, ◌<◌, ◌≤◌, ◌+◌, ℕ, zero, suc, Bool, true, false, cond, List, [], ◌∷◌, ◌++◌, length, map, get_or, set, refl, sym, ap, subst, ◌∙◌, ◌⊎◌, inl, inr, arith}
-use Rattle.std.specs.Prelude.{Some, None, Option, slice_get, slice_index, slice_index_or, slice_set}
+use Rattle.std.proofs.Common.{◌≡◌, ◌≢◌, ◌<◌, ◌+◌, ℕ, zero, suc, Bool, true, false, cond, List, [], ◌∷◌, length, map, get_or, set, refl, sym, ap, subst, ◌∙◌, arith}
+use Rattle.std.specs.Prelude.{Some, None, Option, slice_get, slice_index}
 use Rattle.std.specs.Option.{option_map}
 use Rattle.std.proofs.lemmas.List.{get_or-set_same, get_or-set_other}
 use Rattle.std.proofs.Math.ListN.{length-set}
@@ -12,7 +12,7 @@ use Rattle.gate_net.specs.declared.Kind.{Kind}
 use Rattle.gate_net.specs.declared.Kind.TheVariants.{And, Or, Not}
 use Rattle.gate_net.specs.Net.{Node}
 use Rattle.cover_decompose.specs.Decomposition.{State, with_entry, with_gate, with_not, literals, joined, term, terms, closed, cover_node, with_cover, with_covers}
-use Rattle.cover_decompose.specs.Plan.{Planned, gate_planned, not_planned, not_of, literal_planned, literals_planned, joined_planned, term_planned, terms_planned, closed_planned, node_planned, cover_planned, one_planned, covers_planned}
+use Rattle.cover_decompose.specs.Plan.{Planned, gate_planned, not_planned, not_of, literals_planned, joined_planned, term_planned, terms_planned, closed_planned, node_planned, cover_planned, one_planned, covers_planned}
 use Rattle.cover_decompose.specs.Chosen.{AreNumbered, AtPlaces, Signals}
 use Rattle.cover_decompose.specs.Signals.{signal_of}
 use Rattle.cover_decompose.proofs.Members.{word_refl, word_same}

@@ -1,6 +1,6 @@
 -- Elements of a list, and names among names.
 use Rattle.std.proofs.Common.{◌≡◌, ◌<◌, ◌+◌, ℕ, zero, suc, Bool, true, false, cond, List, [], ◌∷◌, ◌++◌, length, map, get_or, refl, sym, ap, ◌∙◌, ◌⊎◌, inl, inr, arith}
-use Rattle.std.specs.Prelude.{◌||◌, ◌&&◌, ◌==◌, Some, None, Option, position, slice_get, filter, Contains, slice_index_or}
+use Rattle.std.specs.Prelude.{◌||◌, ◌&&◌, Some, None, position, slice_get, filter, Contains}
 use Rattle.std.specs.List.{list_any, list_all, AllByRecursion, position_from}
 use Rattle.std.proofs.lemmas.Iterator.Adapters.{position_from-zero}
 use Rattle.std.proofs.lemmas.Slice.Eq.{bytes_eq-Decides}

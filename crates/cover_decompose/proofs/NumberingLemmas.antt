@@ -1,27 +1,26 @@
 -- The numbers of a well-formed model's signals.
-use Rattle.std.proofs.Common.{◌≡◌, ◌≢◌, ◌<◌, ◌≤◌, ◌+◌, ℕ, zero, suc, Bool, true, false, cond, not, List, [], ◌∷◌, ◌++◌, length, map, get_or, set, refl, sym, ap, subst, ◌∙◌, ◌⊎◌, inl, inr, arith}
-use Rattle.std.specs.Prelude.{All, Some, None, Option, is_none, slice_get, ◌&&◌, ◌||◌, replicate, unwrap_or, position}
+use Rattle.std.proofs.Common.{◌≡◌, ◌<◌, ◌+◌, ℕ, zero, suc, Bool, true, false, cond, List, [], ◌∷◌, ◌++◌, length, map, get_or, set, refl, sym, ap, subst, ◌∙◌, inl, inr, arith}
+use Rattle.std.specs.Prelude.{All, Some, Option, slice_get, ◌||◌, replicate, unwrap_or}
 use Rattle.std.specs.Option.{option_map}
 use Rattle.std.specs.List.{AllByRecursion, filter_map, flat_map, list_all, zip}
 use Rattle.std.proofs.lemmas.Option.{slice_get-map}
 use Rattle.std.proofs.Math.ListN.{length-set}
-use Rattle.rm_model.specs.Ranks.{first_without_rank, rank_at, ranks_of}
+use Rattle.rm_model.specs.Ranks.{rank_at, ranks_of}
 use Rattle.rm_model.specs.Words.{Word, is_word}
 use Rattle.rm_model.specs.Value.{control_of, is_among, observed_names, source_names}
 use Rattle.rm_model.specs.WellFormed.{IsWellFormed, IsWellFormedCover, driven_names, is_distinct, used_names}
 use Rattle.rm_model.specs.declared.parts.Cover.{Cover}
 use Rattle.rm_model.specs.declared.parts.Latch.{Latch}
-use Rattle.rm_model.specs.declared.parts.Literal.{Literal}
 use Rattle.rm_model.specs.declared.parts.Model.{Model}
-use Rattle.cover_decompose.specs.Chosen.{AreNumbered, AtPlaces, IsNumbered, Signals}
+use Rattle.cover_decompose.specs.Chosen.{AtPlaces, IsNumbered, Signals}
 use Rattle.cover_decompose.specs.Count.{cover_zero_names, cover_wires, decomposed, new_count}
-use Rattle.cover_decompose.specs.Needed.{covers_by_rank, needed_of, of_ranks, ranked_covers, taken}
+use Rattle.cover_decompose.specs.Needed.{covers_by_rank, of_ranks, ranked_covers, taken}
 use Rattle.cover_decompose.specs.Places.{marked, needed_places, placed, places_by_rank}
 use Rattle.cover_decompose.specs.Signals.{signal_of}
 use Rattle.cover_decompose.specs.Tally.{AreEven, covers_tally}
 use Rattle.cover_decompose.proofs.Choosing.{Marked, Pairs, covers_tally_match, needed_match, placed_pairs, ranks_places, set_marks}
 use Rattle.cover_decompose.proofs.Matching.{signal_within, signals_from}
-use Rattle.cover_decompose.proofs.Members.{In, all_by_index, all_pass_in, among_in, in_append, in_at, in_left, in_right, word_refl, word_same}
+use Rattle.cover_decompose.proofs.Members.{In, all_by_index, all_pass_in, among_in, in_at, in_left, in_right, word_refl, word_same}
 use Rattle.cover_decompose.proofs.Places.{get_right}
 use Rattle.cover_decompose.proofs.Points.{distinct_rest}
 use Rattle.cover_decompose.proofs.Ranked.{in_flat, observed_is_used}

@@ -1,13 +1,13 @@
 -- The covers by rank read only what comes before them, and so do the needed ones among themselves.
-use Rattle.std.proofs.Common.{◌≡◌, ◌<◌, ◌≤◌, ◌+◌, ℕ, zero, suc, Bool, true, false, cond, List, [], ◌∷◌, ◌++◌, length, map, refl, sym, ap, ◌∙◌, ◌⊎◌, inl, inr, arith, ◌≢◌}
-use Rattle.std.specs.Prelude.{◌||◌, ◌==◌, Some, None, Option, filter}
+use Rattle.std.proofs.Common.{◌≡◌, ◌<◌, ◌≤◌, ◌+◌, ℕ, zero, suc, Bool, true, false, cond, List, [], ◌∷◌, ◌++◌, refl, sym, ap, ◌∙◌, ◌⊎◌, inl, inr, arith, ◌≢◌}
+use Rattle.std.specs.Prelude.{◌==◌, filter}
 use Rattle.std.specs.List.{list_any, AllByRecursion}
 use Rattle.std.proofs.lemmas.Bool.Decides.{eqb_tells}
 use Rattle.rm_model.specs.Words.{Word, is_word}
 use Rattle.rm_model.specs.Value.{is_among}
 use Rattle.rm_model.specs.declared.parts.Cover.{Cover}
 use Rattle.cover_decompose.specs.Needed.{of_rank, of_ranks, is_needed, needed_of}
-use Rattle.cover_decompose.proofs.Members.{In, in_append, in_filter, in_filtered, in_left, in_map, in_mapped, in_right, all_from, all_in, among_in, in_among, any_in, in_any, or_cases, or_left, or_right, word_refl, word_same}
+use Rattle.cover_decompose.proofs.Members.{In, in_append, in_filter, in_filtered, in_left, in_map, in_mapped, in_right, all_from, all_in, among_in, or_cases, or_left, or_right, word_refl, word_same}
 
 abbrev pub outputs_onto : List Word → List Cover → List Word
 outputs_onto done [] = done

@@ -1,6 +1,6 @@
 -- One step of the loops of a plan: what is done, and what is left from a place on.
-use Rattle.std.proofs.Common.{◌≡◌, ◌<◌, ◌≤◌, ◌+◌, ℕ, zero, suc, List, [], ◌∷◌, ◌++◌, length, map, get_or, take, drop, refl, sym, ap, subst, ◌∙◌, arith, append_assoc, drop-cons, add-one}
-use Rattle.std.specs.Prelude.{All, None, Option, Some, slice_get, slice_index, slice_index_or, replicate}
+use Rattle.std.proofs.Common.{◌≡◌, ◌<◌, ◌≤◌, ◌+◌, ℕ, zero, suc, List, [], ◌∷◌, ◌++◌, length, get_or, drop, refl, sym, ap, ◌∙◌, arith, append_assoc, drop-cons, add-one}
+use Rattle.std.specs.Prelude.{None, Option, Some, slice_get, replicate}
 use Rattle.std.specs.Option.{option_to_list}
 use Rattle.gate_net.specs.Net.{Node}
 use Rattle.rm_model.specs.declared.parts.Cover.{Cover}

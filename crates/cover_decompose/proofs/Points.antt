@@ -1,23 +1,23 @@
 -- On which nodes the observed names stand, and which covers are taken.
-use Rattle.std.proofs.Common.{◌≡◌, ◌<◌, ◌≤◌, ◌+◌, ℕ, zero, suc, Bool, true, false, cond, not, List, [], ◌∷◌, ◌++◌, length, map, refl, sym, ap, subst, ◌∙◌, ◌⊎◌, inl, inr, arith}
-use Rattle.std.specs.Prelude.{Some, None, Option, slice_get, Contains, ◌&&◌, ◌||◌}
+use Rattle.std.proofs.Common.{◌≡◌, ◌+◌, ℕ, zero, suc, Bool, true, false, cond, not, List, [], ◌∷◌, ◌++◌, map, refl, sym, ap, subst, ◌∙◌, ◌⊎◌, inl, inr, arith}
+use Rattle.std.specs.Prelude.{Some, None, Option, slice_get, ◌&&◌}
 use Rattle.std.specs.Option.{option_map}
-use Rattle.std.specs.List.{AllByRecursion, list_any}
+use Rattle.std.specs.List.{list_any}
 use Rattle.std.proofs.lemmas.Option.{slice_get-map}
 use Rattle.rm_model.specs.Words.{Word, is_word}
 use Rattle.rm_model.specs.Value.{is_among, source_names, observed_names}
-use Rattle.rm_model.specs.WellFormed.{IsWellFormed, driven_names, is_distinct}
+use Rattle.rm_model.specs.WellFormed.{is_distinct}
 use Rattle.rm_model.specs.declared.parts.Cover.{Cover}
 use Rattle.rm_model.specs.declared.parts.Literal.{Literal}
 use Rattle.rm_model.specs.declared.parts.Literal.TheVariants.{Zero, One, Any}
 use Rattle.rm_model.specs.declared.parts.Model.{Model}
 use Rattle.gate_net.specs.declared.Kind.{Kind}
 use Rattle.gate_net.specs.declared.Kind.TheVariants.{And, Or}
-use Rattle.cover_decompose.specs.Needed.{is_needed, needed_of, taken, covers_by_rank, IsNeeded, observed, read}
+use Rattle.cover_decompose.specs.Needed.{is_needed, needed_of, taken, IsNeeded, observed, read}
 use Rattle.cover_decompose.specs.Decomposition.{State, cover_node, closed, joined, last_state, literals, net_of_model, source_node, start, term, terms, with_cover, with_covers, with_not}
 use Rattle.cover_decompose.specs.StandsFor.{HasPoints}
-use Rattle.cover_decompose.proofs.Members.{In, all_in, among_in, in_among, in_append, in_any, in_at, in_contained, in_contains, in_left, in_mapped, in_right, or_cases, word_refl, word_same}
-use Rattle.cover_decompose.proofs.Order.{AreAmong, Reading, outputs_onto}
+use Rattle.cover_decompose.proofs.Members.{In, all_in, among_in, in_among, in_any, in_at, in_contained, in_contains, in_left, in_mapped, in_right, or_cases, word_refl, word_same}
+use Rattle.cover_decompose.proofs.Order.{Reading, outputs_onto}
 use Rattle.cover_decompose.proofs.Ranked.{IsRankable, observed_there, taken_in, taken_reading}
 
 pub distinct_rest : (x : Word) (xs : List Word) → is_distinct (x ∷ xs) ≡ true → (is_among xs x ≡ false) × (is_distinct xs ≡ true)

@@ -1,8 +1,8 @@
 -- In a well-formed model with ranks, the needed covers read sources and each other, and give the observed names.
-use Rattle.std.proofs.Common.{◌≡◌, ◌<◌, ◌≤◌, ◌+◌, ℕ, zero, suc, Bool, true, false, cond, not, List, [], ◌∷◌, ◌++◌, length, map, refl, sym, ap, subst, ◌∙◌, ◌⊎◌, inl, inr, arith}
-use Rattle.std.specs.Prelude.{Some, None, Option, is_none, max, unwrap_or, slice_get, position, filter, slice_index_or}
+use Rattle.std.proofs.Common.{◌≡◌, ◌<◌, ◌≤◌, ℕ, zero, suc, Bool, true, false, cond, List, [], ◌∷◌, ◌++◌, length, map, refl, sym, ap, subst, ◌∙◌, ◌⊎◌, inl, inr, arith}
+use Rattle.std.specs.Prelude.{Some, None, Option, is_none, max, unwrap_or, slice_get}
 use Rattle.std.specs.Option.{option_map}
-use Rattle.std.specs.List.{list_any, list_all, AllByRecursion, zip, flat_map, filter_map}
+use Rattle.std.specs.List.{AllByRecursion, zip, flat_map, filter_map}
 use Rattle.rm_model.specs.Words.{Word, is_word}
 use Rattle.rm_model.specs.Value.{is_among, source_names, observed_names, control_of}
 use Rattle.rm_model.specs.Ranks.{cover_of, higher, highest, rank_at, rank_above, rank_by, ranks_of, AreRanks, first_without_rank}
@@ -10,9 +10,9 @@ use Rattle.rm_model.specs.WellFormed.{IsWellFormed, driven_names, used_names}
 use Rattle.rm_model.specs.declared.parts.Latch.{Latch}
 use Rattle.rm_model.specs.declared.parts.Cover.{Cover}
 use Rattle.rm_model.specs.declared.parts.Model.{Model}
-use Rattle.cover_decompose.specs.Needed.{ranked_covers, of_ranks, covers_by_rank, is_needed, needed_of, taken}
+use Rattle.cover_decompose.specs.Needed.{ranked_covers, covers_by_rank, is_needed, needed_of, taken}
 use Rattle.cover_decompose.proofs.Members.{In, in_append, in_at, in_left, in_map, in_mapped, in_right, in_among, among_in, all_in, all_pass_in, none_found, word_same, word_refl}
-use Rattle.cover_decompose.proofs.Order.{Covers, Keeps, Lower, ReadsLower, Reading, in-of_ranks, observed_kept, of_ranks-in, onto_keeps, onto_outputs, outputs_onto, reading_needed, reading_ranks}
+use Rattle.cover_decompose.proofs.Order.{ReadsLower, Reading, in-of_ranks, observed_kept, of_ranks-in, onto_keeps, onto_outputs, outputs_onto, reading_needed, reading_ranks}
 
 some_is : {n k : ℕ} → Some n ≡ Some k → n ≡ k
 some_is e = cc

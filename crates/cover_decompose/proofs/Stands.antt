@@ -1,20 +1,20 @@
 -- The decomposition stands for its model.
-use Rattle.std.proofs.Common.{◌≡◌, ℕ, Bool, true, false, List, [], ◌∷◌, ◌++◌, length, map, refl, sym, ap, ◌∙◌, get_or}
-use Rattle.std.specs.Prelude.{Some, None, Option, slice_get}
+use Rattle.std.proofs.Common.{◌≡◌, ℕ, Bool, List, [], ◌∷◌, map, refl, ap, ◌∙◌}
+use Rattle.std.specs.Prelude.{Some, Option, slice_get}
 use Rattle.std.specs.Option.{option_map}
 use Rattle.std.specs.List.{AllByRecursion}
 use Rattle.std.proofs.lemmas.Option.{slice_get-map}
 use Rattle.rm_model.specs.Words.{Word}
-use Rattle.rm_model.specs.Value.{is_among, source_names, observed_names, IsConsistent, value_of}
+use Rattle.rm_model.specs.Value.{source_names, observed_names, IsConsistent, value_of}
 use Rattle.rm_model.specs.WellFormed.{IsWellFormedCover}
 use Rattle.rm_model.specs.declared.parts.Cover.{Cover}
 use Rattle.rm_model.specs.declared.parts.Model.{Model}
-use Rattle.gate_net.specs.Net.{Node, Net, node_at, drivers_of, drivers_in, flatten_option}
-use Rattle.gate_net.specs.Values.{AreGoodValues, node_value, gate_value}
+use Rattle.gate_net.specs.Net.{Node, node_at, drivers_in, flatten_option}
+use Rattle.gate_net.specs.Values.{AreGoodValues, node_value}
 use Rattle.cover_decompose.specs.Needed.{taken}
-use Rattle.cover_decompose.specs.Decomposition.{State, start, last_state, net_of_model, with_covers}
+use Rattle.cover_decompose.specs.Decomposition.{State, start, last_state, net_of_model}
 use Rattle.cover_decompose.specs.StandsFor.{SameAssignment}
-use Rattle.cover_decompose.proofs.Members.{In, all_by_index, all_from, all_in}
+use Rattle.cover_decompose.proofs.Members.{all_by_index, all_from, all_in}
 use Rattle.cover_decompose.proofs.Order.{outputs_onto}
 use Rattle.cover_decompose.proofs.Ranked.{IsRankable, observed_there, taken_in, taken_reading}
 use Rattle.cover_decompose.proofs.Started.{no_nots, one_is, sources_known, zero_is}

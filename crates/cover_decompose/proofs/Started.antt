@@ -1,19 +1,16 @@
 -- The constants and the sources, and what they are worth.
-use Rattle.std.proofs.Common.{◌≡◌, ◌≢◌, ◌<◌, ◌≤◌, ◌+◌, ℕ, zero, suc, Bool, true, false, cond, List, [], ◌∷◌, ◌++◌, length, map, refl, sym, ap, subst, ◌∙◌, ◌⊎◌, inl, inr, arith}
-use Rattle.std.specs.Prelude.{Some, None, Option, slice_get, replicate, ◌||◌}
-use Rattle.std.specs.List.{AllByRecursion}
+use Rattle.std.proofs.Common.{◌≡◌, ◌<◌, ◌+◌, ℕ, zero, suc, Bool, true, false, cond, List, [], ◌∷◌, ◌++◌, length, refl, sym, ap, subst, ◌∙◌, arith}
+use Rattle.std.specs.Prelude.{Some, slice_get, replicate, ◌||◌}
 use Rattle.rm_model.specs.Words.{Word, is_word}
 use Rattle.rm_model.specs.Value.{is_among, source_names}
 use Rattle.rm_model.specs.declared.parts.Model.{Model}
-use Rattle.gate_net.specs.declared.Kind.{Kind}
 use Rattle.gate_net.specs.declared.Kind.TheVariants.{Source, Zero, One}
 use Rattle.gate_net.specs.Net.{Node}
 use Rattle.cover_decompose.specs.Built.{AllBelow}
-use Rattle.cover_decompose.specs.Decomposition.{State, plain, start, source_node}
+use Rattle.cover_decompose.specs.Decomposition.{plain, start, source_node}
 use Rattle.cover_decompose.specs.StandsFor.{SameAssignment}
 use Rattle.cover_decompose.proofs.Formed.{IsMade}
 use Rattle.cover_decompose.proofs.Members.{word_same}
-use Rattle.cover_decompose.proofs.Places.{get_left}
 use Rattle.cover_decompose.proofs.Values.{Meets, KnownAmong, NotsKnown}
 
 pub length-replicate_nodes : (n : ℕ) (x : Node) → length (replicate n x) ≡ n

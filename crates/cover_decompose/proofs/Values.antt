@@ -1,5 +1,5 @@
 -- What the nodes of a decomposition are worth, where each node is worth its function of what it reads.
-use Rattle.std.proofs.Common.{◌≡◌, ℕ, Bool, true, false, cond, not, List, [], ◌∷◌, ◌++◌, map, length, refl, ap, sym, ◌∙◌, ◌⊎◌, inl, inr}
+use Rattle.std.proofs.Common.{◌≡◌, ℕ, Bool, true, false, cond, not, List, [], ◌∷◌, ◌++◌, map, length, refl, ap, sym, ◌∙◌}
 use Rattle.std.specs.Prelude.{Option, None, Some, ◌&&◌, ◌||◌, slice_get}
 use Rattle.std.specs.List.{list_all, list_any, AllByRecursion}
 use Rattle.std.proofs.lemmas.Slice.Eq.{bytes_eq-Decides}
@@ -9,13 +9,13 @@ use Rattle.rm_model.specs.declared.parts.Literal.{Literal}
 use Rattle.rm_model.specs.declared.parts.Literal.TheVariants.{Zero, One, Any}
 use Rattle.rm_model.specs.declared.parts.Cover.{Cover}
 use Rattle.gate_net.specs.declared.Kind.{Kind}
-use Rattle.gate_net.specs.declared.Kind.TheVariants.{And, Or, Not}
+use Rattle.gate_net.specs.declared.Kind.TheVariants.{And, Or}
 use Rattle.gate_net.specs.Net.{Node}
 use Rattle.gate_net.specs.Values.{gate_value}
-use Rattle.cover_decompose.specs.Decomposition.{State, with_entry, with_gate, with_not, literals, joined, term, terms, closed, cover_node, with_cover, with_covers}
+use Rattle.cover_decompose.specs.Decomposition.{State, with_entry, with_not, literals, joined, term, terms, closed, cover_node, with_cover, with_covers}
 use Rattle.cover_decompose.proofs.Joins.{junction-and, junction-or, and-true, or-false}
 use Rattle.cover_decompose.proofs.Places.{get_left, get_seam}
-use Rattle.cover_decompose.proofs.Members.{all_from, all_in, among_in, word_refl, word_same, or_cases, In}
+use Rattle.cover_decompose.proofs.Members.{word_same}
 use Rattle.cover_decompose.proofs.Order.{Reading, AreAmong, outputs_onto}
 use Rattle.rm_model.specs.Value.{is_among}
 

@@ -1,5 +1,5 @@
 -- The net of a decomposition is well formed, with the model's sources.
-use Rattle.std.proofs.Common.{◌≡◌, ◌≢◌, ◌<◌, ◌≤◌, ◌+◌, ℕ, zero, suc, Bool, true, false, cond, List, [], ◌∷◌, ◌++◌, length, map, refl, sym, ap, subst, ◌∙◌, ◌⊎◌, inl, inr, arith}
+use Rattle.std.proofs.Common.{◌≡◌, ◌≢◌, ◌<◌, ◌≤◌, ◌+◌, ℕ, zero, suc, List, [], ◌∷◌, length, map, refl, sym, ap, subst, ◌∙◌, ◌⊎◌, inl, inr, arith}
 use Rattle.std.specs.Prelude.{Some, None, Option, slice_get, replicate, sum_by}
 use Rattle.std.specs.Option.{option_map}
 use Rattle.std.specs.List.{AllByRecursion}
@@ -8,11 +8,11 @@ use Rattle.rm_model.specs.Words.{Word}
 use Rattle.rm_model.specs.Value.{source_names, observed_names}
 use Rattle.rm_model.specs.declared.parts.Model.{Model}
 use Rattle.gate_net.specs.declared.Kind.{Kind}
-use Rattle.gate_net.specs.declared.Kind.TheVariants.{Source, Zero, One, And, Or, Not}
-use Rattle.gate_net.specs.Net.{Node, Net, node_at, drivers_of, drivers_in, flatten_option, IsKind, IsObserved, Reads, plain_node, source_count, source_in, count_in, trimmed, HasSources, IsWellFormed, IsGate, IsGateKind, wire_count}
+use Rattle.gate_net.specs.declared.Kind.TheVariants.{Source, Zero, One, Not}
+use Rattle.gate_net.specs.Net.{Node, node_at, drivers_of, drivers_in, flatten_option, IsKind, Reads, source_count, source_in, count_in, trimmed, IsWellFormed, IsGate, IsGateKind, wire_count}
 use Rattle.cover_decompose.specs.Built.{AllBelow, IsGateNode}
 use Rattle.cover_decompose.specs.Needed.{taken}
-use Rattle.cover_decompose.specs.Decomposition.{State, plain, start, last_state, net_of_model}
+use Rattle.cover_decompose.specs.Decomposition.{plain, start, last_state, net_of_model}
 use Rattle.cover_decompose.proofs.Formed.{IsMade, covers_made}
 use Rattle.cover_decompose.proofs.Places.{get_left, get_parts}
 use Rattle.cover_decompose.proofs.Stands.{node_there}

@@ -1,20 +1,16 @@
 -- The graph of a model's plan is the model's.
-use Rattle.std.proofs.Common.{◌≡◌, ◌<◌, ◌≤◌, ◌+◌, ℕ, zero, suc, List, [], ◌∷◌, ◌++◌, length, map, get_or, refl, sym, ap, subst, ◌∙◌, arith}
-use Rattle.std.specs.Prelude.{All, Some, replicate, slice_index, sum_by}
-use Rattle.std.specs.List.{AllByRecursion}
-use Rattle.gate_net.specs.declared.Kind.TheVariants.{Source, Zero, One}
-use Rattle.gate_net.specs.Net.{Node, Net, wire_count}
+use Rattle.std.proofs.Common.{◌≡◌, ◌<◌, ◌≤◌, ◌+◌, ℕ, zero, suc, List, [], ◌∷◌, length, map, refl, sym, ap, subst, ◌∙◌, arith}
+use Rattle.std.specs.Prelude.{All, Some, slice_index, sum_by}
+use Rattle.gate_net.specs.Net.{Node, wire_count}
 use Rattle.gate_graph.specs.Circuit.{Circuit, net_of, fanouts_of, pins_taken, live_nodes}
 use Rattle.rm_model.specs.Words.{Word}
 use Rattle.rm_model.specs.Value.{observed_names, source_names}
 use Rattle.rm_model.specs.declared.parts.Model.{Model}
 use Rattle.cover_decompose.specs.Built.{IsBuildable, IsBuilt, readers_in}
-use Rattle.cover_decompose.specs.Chosen.{Signals}
 use Rattle.cover_decompose.specs.Count.{decomposed}
-use Rattle.cover_decompose.specs.Decomposition.{last_state, net_of_model, plain, start}
+use Rattle.cover_decompose.specs.Decomposition.{last_state, net_of_model}
 use Rattle.cover_decompose.proofs.Counted.{observed_count}
-use Rattle.cover_decompose.proofs.Formed.{IsMade}
-use Rattle.cover_decompose.proofs.Sums.{sum-total, total}
+use Rattle.cover_decompose.proofs.Sums.{sum-total}
 use Rattle.cover_decompose.proofs.WellFormed.{made, wires_made}
 
 pub wires_sum : (m : Model) → wire_count (net_of_model m) ≡ decomposed m → sum_by (λ (n : Node). length n.drivers) (last_state m).made ≡ decomposed m

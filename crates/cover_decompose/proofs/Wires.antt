@@ -1,5 +1,5 @@
 -- A decomposition has as many wires as are counted over the covers.
-use Rattle.std.proofs.Common.{◌≡◌, ◌+◌, ℕ, zero, suc, Bool, true, false, cond, List, [], ◌∷◌, ◌++◌, length, map, refl, sym, ap, subst, ◌∙◌, arith}
+use Rattle.std.proofs.Common.{◌≡◌, ◌+◌, ℕ, suc, Bool, true, false, cond, List, [], ◌∷◌, ◌++◌, length, refl, sym, ap, subst, ◌∙◌, arith}
 use Rattle.std.specs.Prelude.{Some, None, Option, is_some, ◌||◌, sum_by}
 use Rattle.std.specs.List.{AllByRecursion, flat_map}
 use Rattle.rm_model.specs.Words.{Word, is_word}

@@ -5,9 +5,9 @@ use Rattle.rm_model.specs.declared.parts.Literal.{Literal}
 use Rattle.rm_model.specs.declared.parts.Literal.TheVariants.{Zero, One, Any}
 use Rattle.rm_model.specs.declared.parts.Cover.{Cover}
 use Rattle.rm_model.specs.declared.parts.Model.{Model}
-use Rattle.gate_net.specs.declared.Kind.TheVariants.{Source, And, Or, Not}
+use Rattle.gate_net.specs.declared.Kind.TheVariants.{And, Or, Not}
 use Rattle.gate_net.specs.Net.{Node, Net}
-use Rattle.cover_decompose.specs.Decomposition.{State, start, plain}
+use Rattle.cover_decompose.specs.Decomposition.{start}
 
 abbrev pub model_with : Word → List Word → List Word → List Cover → Model
 model_with name inputs outputs covers = record { name = name; inputs = inputs; clocks = []; outputs = outputs; latches = []; covers = covers }

@@ -154,10 +154,10 @@ within-set s (x ∷ xs) a h =
     let there = h x (or_left _ _ (eq-eqb x x refl)) in
     let less = len-one_less s x there in
     let rest = within-set (finset.remove s x) xs a.1 (λ q k. (
-        let ne : q ≢ x = λ is. false≢true (sym a.0 ∙ ap (λ (r : ℕ). has r xs) (sym is) ∙ k) in
-        let read = contains-remove nat_cmp_total s x q in
-        let was = h q (or_right _ _ k) in
-        grind (arith, nat_tests, read, unsigned_tied q x, was, ne))) in
+    let ne : q ≢ x = λ is. false≢true (sym a.0 ∙ ap (λ (r : ℕ). has r xs) (sym is) ∙ k) in
+    let read = contains-remove nat_cmp_total s x q in
+    let was = h q (or_right _ _ k) in
+    grind (arith, nat_tests, read, unsigned_tied q x, was, ne))) in
     omega (arith, less, rest)
 
 pub pins-few : (v : Pins) → AreRings (rings_of v) → (first n : ℕ) → pins_from (λ m. list_of v.inputs m) first n ≤ finset.len v.taken

@@ -238,7 +238,6 @@ has-nth (x ∷ xs) (suc k) d h = or_right _ _ (has-nth xs k d (omega arith))
 pub next-driver : (xs : List NodeId) (k : ℕ) (d : NodeId) → k < length xs → (let x : NodeId = get_or xs k d in map (λ (n : NodeId). n.0) (take (k + 1) xs) ≡ map (λ (n : NodeId). n.0) (take k xs) ++ x.0 ∷ [])
 next-driver xs k d h = ap (map (λ (n : NodeId). n.0)) (take_more xs k d h) ∙ map-append (λ (n : NodeId). n.0) (take k xs) (get_or xs k d ∷ [])
 
-
 pub new-readers : (v w : Circuit) (n : ℕ) (ds : List ℕ) → IsFilled v.pool w.pool n ds → NewReaders v w n ds
 unfolding fanouts_of
 new-readers v w n ds i m = i.fans m

@@ -30,3 +30,4 @@ pub mod Fanned
 pub mod Formed
 pub mod Filling
 pub mod Counted
+pub mod Following

@@ -14,7 +14,6 @@ use Rattle.pin_pool.specs.Pins.{list_of}
 use Rattle.pin_pool.specs.Rings.{rings_of}
 use Rattle.gate_graph.specs.Wirings.{IsShaped, kind_at}
 use Rattle.gate_graph.specs.Circuit.{Circuit, wiring, net_of, node_with, gate_pins, home}
-
 use Rattle.gate_graph.proofs.NetOf.{node_at-net}
 
 pub has-at : (xs : List ℕ) (k p : ℕ) → slice_get xs k ≡ Some p → has p xs ≡ true

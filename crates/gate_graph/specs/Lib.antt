@@ -11,3 +11,4 @@ pub mod Spots
 pub mod Readers
 pub mod Search
 pub mod Totals
+pub mod Order

@@ -2,8 +2,8 @@
 ghost use Rattle.std.specs.Prelude.{◌≡◌, ℕ, List};
 ghost use Rattle.std.specs.Iterator.{YieldsFirstBy, item_count};
 
-use rm_base::NodeId;
 use pin_pool::{PinIter, Pool};
+use rm_base::NodeId;
 use std::marker::Model;
 
 /// The drivers of a gate, in order.

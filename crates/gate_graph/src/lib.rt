@@ -6,12 +6,15 @@ mod driver_iter;
 mod editing;
 mod entries;
 mod growing;
+mod ordering;
 mod pins;
 mod reader_iter;
 mod reading;
 mod rings;
 mod searching;
 mod state;
+#[cfg(test)]
+mod tests;
 mod undoing;
 
 pub use driver_iter::Inputs;

@@ -177,3 +177,14 @@ pub(crate) fn count_pins(pool: &Pool, gate: u32) -> u32
     }
     count
 }
+
+// How many pins a gate has, where those of number 0 are the observed places.
+pub(crate) fn count_gate_pins(pool: &Pool, gate: u32) -> u32
+    requires { gate < length pool.now.inputs }
+    ensures { result ≡ length (gate_pins pool.now gate) }
+{
+    if gate == 0 {
+        return 0;
+    }
+    count_pins(pool, gate)
+}

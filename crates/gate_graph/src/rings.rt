@@ -6,8 +6,8 @@ ghost use Rattle.pin_pool.specs.Pins.{StandsIn, list_of};
 ghost use Rattle.gate_graph.specs.Filled.{IsFilled};
 ghost use Rattle.pin_pool.specs.Rings.{rings_of, linked, dropped, unlinked, relinked, redriven, restored, moved, moved_back, IsIn, IsOut, AreRings, Stood};
 
-use rm_base::NodeId;
 use pin_pool::{PinNo, Pool, Slot, Splice};
+use rm_base::NodeId;
 
 // Tells that no pin stands twice.
 pub(crate) fn look(pool: &Pool)

@@ -83,12 +83,7 @@ fn count_free(free: u32, was: Option<Kind>, now: Option<Kind>) -> u32
 }
 
 // A node gets a kind, or none.
-pub(crate) fn set_kind(
-    kinds: &mut Vec<Option<Kind>>,
-    free: &mut u32,
-    node: u32,
-    kind: Option<Kind>,
-)
+pub(crate) fn set_kind(kinds: &mut Vec<Option<Kind>>, free: &mut u32, node: u32, kind: Option<Kind>)
     requires node { node < length kinds.old.items }
     requires few { length kinds.old.items ≤ 4294967295 }
     requires free { free.old ≡ free_in kinds.old.items }

@@ -42,7 +42,7 @@ agree_at v w [] h (suc k) x e = absurd cc
 agree_at v w (y ∷ ys) h zero x e = let same : y ≡ x = cc in let first : v y ≡ w y = cc in ap v (sym same) ∙ (first ∙ ap w same)
 agree_at v w (y ∷ ys) h (suc k) x e = agree_at v w ys (cc) k x e
 
-module _ (laws : TidyLaws) (m : Model) (last : Net) (model : IsModel m) (parts : IsDecomposed m) (tidied : TidiesTo (net_of_model m) last) (few : AreFew last m) where
+module _ (laws : TidyLaws) (m : Model) (last : Net) (parts : IsDecomposed m) (tidied : TidiesTo (net_of_model m) last) where
   stay : IsKept (net_of_model m) last
   stay = kept laws tidied parts.formed
 
@@ -77,8 +77,8 @@ module _ (laws : TidyLaws) (m : Model) (last : Net) (model : IsModel m) (parts :
       sym first ∙ (stay.places a one.0 two.0 one.1.0 two.1.0 ∙ second)
 
   -- the model of the net to which tidying leads is written for the model
-  pub written : TidyNetsHaveModels → WrittenTextsRead → ReadTextsAreFaultless → IsRanked m → IsWritten m (text_of (model_of_net m last))
-  written models reads faultless ranked =
+  pub written : IsModel m → AreFew last m → TidyNetsHaveModels → WrittenTextsRead → ReadTextsAreFaultless → IsRanked m → IsWritten m (text_of (model_of_net m last))
+  written model few models reads faultless ranked =
       let is : IsModelOf last m = models last m stay.formed stay.tidy_net model fits few in
       let text = reads (model_of_net m last) is.well_formed is.ranked in
       record {

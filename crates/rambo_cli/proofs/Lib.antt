@@ -3,3 +3,4 @@ pub mod Pieces
 pub mod Reports
 pub mod Tidied
 pub mod Composed
+pub mod Bounded

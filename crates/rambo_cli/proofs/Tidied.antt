@@ -11,10 +11,9 @@ use Rattle.wire_edit.specs.declared.steps.Step.TheVariants.{Add, Fix, NewNot, Co
 use Rattle.wire_edit.specs.Tests.{is_gate}
 use Rattle.wire_edit.specs.Steps.{Applies, stepped}
 use Rattle.wire_edit.specs.Order.{IsTidy, next_step}
-use Rattle.wire_edit.specs.Laws.{IsSound, IsTidying, KeepsObserved, StepsKeepForm, StepsKeepObserved, StepsKeepValues, NextApplies}
+use Rattle.wire_edit.specs.Laws.{IsSound, IsTidying, KeepsObserved, StepsKeepForm, StepsKeepObserved, StepsKeepValues, StepsKeepSources, NextApplies}
 use Rattle.wire_edit.specs.Work.{WiresGrow, pins_made}
 use Rattle.rambo_cli.specs.Written.{TidiesTo, tidy, then}
-use Rattle.rambo_cli.specs.Composition.{StepsKeepSources}
 
 map_same : (v w : ℕ → Bool) (ds : List ℕ) → ((x : ℕ) → v x ≡ w x) → map v ds ≡ map w ds
 map_same v w [] h = refl

@@ -4,3 +4,4 @@ pub mod Problems
 pub mod Written
 pub mod Outcome
 pub mod Composition
+pub mod Bounds

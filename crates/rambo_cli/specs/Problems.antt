@@ -1,11 +1,15 @@
 -- What keeps a run from ending with 0.
-use Rattle.std.specs.Prelude.{◌≡◌, ◌⊎◌, ◌++◌, ℕ, List, Option}
+use Rattle.std.specs.Prelude.{◌≡◌, ◌⊎◌, ◌++◌, ◌<◌, ℕ, List, Option}
 use Rattle.std.specs.Option.{option_map}
 use Rattle.rm_base.specs.Causes.{Rose}
 use Rattle.rm_base.specs.declared.outside.OutsideFault.{OutsideFault}
 use Rattle.rm_base.specs.declared.outside.OutsideFault.TheVariants.{Failed, NoMemory as OutsideNoMemory}
+use Rattle.rm_model.specs.declared.parts.Model.{Model}
+use Rattle.blif_format.specs.declared.refusal.Quantity.TheVariants.{Pins}
 use Rattle.blif_format.specs.declared.refusal.ReadRefusal.{ReadRefusal}
 use Rattle.blif_format.specs.declared.refusal.ReadRefusal.TheVariants.{Fault as ReadFault, Limit as ReadLimit, NoMemory as ReadNoMemory}
+use Rattle.cover_decompose.specs.Count.{decomposed}
+use Rattle.rambo_cli.specs.Written.{most_pins}
 use Rattle.rambo_cli.specs.Lines.{fault_line, limit_line, words_line, shelf_line, memory_line}
 use Rattle.rambo_cli.specs.declared.problem.Problem.{Problem}
 use Rattle.rambo_cli.specs.declared.problem.Problem.TheVariants.{Words, Text, Limit, Missing, Fault, Memory}
@@ -58,3 +62,9 @@ abbrev pub KeepsFiles : {A : Type 0} → Problem → A → A → Type 0
 KeepsFiles Fault old new = Unit {0}
 KeepsFiles Memory old new = Unit {0}
 KeepsFiles problem old new = new ≡ old
+
+-- a model that is read has too many wires, or memory is wanting
+abbrev pub IsOver : Model → Problem → Type 0
+IsOver m (Limit quantity count) = (quantity ≡ Pins) × ((count ≡ decomposed m) × (most_pins < decomposed m))
+IsOver m Memory = Unit {0}
+IsOver m problem = ⊥

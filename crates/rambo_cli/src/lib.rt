@@ -1,13 +1,15 @@
 //! The program's commands, in one call over the words, the files, the output and the gate.
 #![tactic(auto)]
 
+mod bounds;
 mod command;
 mod laws;
 mod lines;
 mod problem;
+mod tidy;
 mod translate;
 mod words;
 mod work;
 
 pub use command::run;
-pub use laws::models_are_written;
+pub use laws::{models_are_written, tidied_nets_fit, wires_are_bounded};

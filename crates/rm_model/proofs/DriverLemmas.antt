@@ -1,5 +1,5 @@
 -- Tables of outputs, lists of drivers, and a rank over one more driver.
-use Rattle.std.proofs.Common.{◌≡◌, ℕ, zero, suc, ◌<◌, ◌≤◌, ◌+◌, List, [], ◌∷◌, ◌++◌, map, length, take, max, get_or, Bool, true, false, cond, not, ◌&&◌, Option, Some, None, ◌⊎◌, inl, inr, refl, sym, ap, ◌∙◌, subst, arith, add-one}
+use Rattle.std.proofs.Common.{◌≡◌, ℕ, zero, suc, ◌+◌, List, [], ◌∷◌, ◌++◌, map, take, max, true, false, not, Option, Some, None, refl, ap, ◌∙◌, subst, arith}
 use Rattle.std.specs.Prelude.{slice_get}
 use Rattle.std.specs.List.{filter_map}
 use Rattle.std.specs.Option.{option_map}
@@ -7,12 +7,12 @@ use Rattle.rm_model.specs.Words.{Word, is_word}
 use Rattle.rm_model.specs.Value.{is_among}
 use Rattle.rm_model.specs.WellFormed.{is_distinct}
 use Rattle.rm_model.specs.Numbers.{place_of, drivers_of, rank_over}
-use Rattle.rm_model.specs.Ranks.{cover_of, rank_at, rank_above, higher, rank_by}
+use Rattle.rm_model.specs.Ranks.{cover_of, rank_at, higher, rank_by}
 use Rattle.rm_model.specs.declared.parts.Cover.{Cover}
 use Rattle.rm_model.specs.declared.parts.Model.{Model}
 use Rattle.rm_model.proofs.CoverLemmas.{both, never, not_true, same_word, among-at, output-at, outputs_of}
 use Rattle.rm_model.proofs.NumberLemmas.{place_of-cover}
-use Rattle.rm_model.proofs.RankLaws.{Parts, parts_of, higher_parts, rank_from}
+use Rattle.rm_model.proofs.RankLaws.{parts_of, higher_parts, rank_from}
 
 -- an output isn't among those before it
 pub new-output : (cs : List Cover) (i : ℕ) (c : Cover) → is_distinct (outputs_of cs) ≡ true → slice_get cs i ≡ Some c → is_among (outputs_of (take i cs)) c.output ≡ false

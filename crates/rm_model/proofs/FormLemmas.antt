@@ -1,9 +1,8 @@
 -- Tests of a name and of names.
-use Rattle.std.proofs.Common.{◌≡◌, ℕ, zero, suc, ◌<◌, ◌+◌, ◌-◌, List, [], ◌∷◌, ◌++◌, length, take, drop, get_or, Bool, true, false, not, ◌&&◌, ◌||◌, Some, refl, sym, ap, ◌∙◌, subst, arith, rules}
+use Rattle.std.proofs.Common.{◌≡◌, ℕ, zero, suc, ◌<◌, ◌+◌, ◌-◌, List, [], ◌∷◌, ◌++◌, length, take, drop, get_or, Bool, true, false, not, ◌&&◌, ◌||◌, Some, refl, sym, ap, ◌∙◌, subst, arith}
 use Rattle.std.specs.Prelude.{slice_get, nat_eq, IsTrue, ◌↔◌}
 use Rattle.std.specs.List.{list_all}
 use Rattle.std.proofs.lemmas.List.{take_more, take-append-drop}
-use Rattle.std.proofs.lemmas.Option.{slice_get_read}
 use Rattle.rm_model.specs.Words.{Word, is_word}
 use Rattle.rm_model.specs.Value.{is_among}
 use Rattle.rm_model.specs.WellFormed.{driven_names, ends_in_backslash, is_distinct, is_token, is_word_byte, names_of, used_names, AreFormed, AreOnce, IsWellFormed}

@@ -1,12 +1,12 @@
 -- What a well-formed model's names and ranks give to whoever takes its covers in order.
-use Rattle.std.proofs.Common.{◌≡◌, ℕ, ◌<◌, List, [], ◌∷◌, ◌++◌, map, length, Bool, true, Option, Some, None, sym, ap, ◌∙◌, subst, arith}
+use Rattle.std.proofs.Common.{◌≡◌, ℕ, ◌<◌, List, ◌++◌, map, length, Bool, true, Option, Some, None, sym, ap, ◌∙◌, subst}
 use Rattle.std.specs.Prelude.{slice_get, All, position, is_none}
-use Rattle.std.specs.List.{list_all, flat_map, filter_map}
+use Rattle.std.specs.List.{flat_map, filter_map}
 use Rattle.rm_model.specs.Words.{Word}
-use Rattle.rm_model.specs.Value.{is_among, source_names, observed_names, control_of, IsConsistent, IsRanked}
+use Rattle.rm_model.specs.Value.{is_among, source_names, observed_names, control_of, IsConsistent}
 use Rattle.rm_model.specs.WellFormed.{is_distinct, driven_names, IsWellFormed}
 use Rattle.rm_model.specs.Ranks.{rank_at, ranks_of, first_without_rank}
-use Rattle.rm_model.specs.Numbers.{drivers_of, IsFixed}
+use Rattle.rm_model.specs.Numbers.{IsFixed}
 use Rattle.rm_model.specs.Search.{State, IsIn, IsOrder, IsSound}
 use Rattle.rm_model.specs.declared.parts.Cover.{Cover}
 use Rattle.rm_model.specs.declared.parts.Latch.{Latch}

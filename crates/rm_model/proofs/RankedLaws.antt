@@ -1,6 +1,6 @@
 -- A model is ranked exactly where each of its covers has a rank.
-use Rattle.std.proofs.Common.{◌≡◌, ℕ, zero, suc, ◌<◌, ◌≤◌, ◌+◌, List, [], ◌∷◌, map, length, max, Bool, true, false, cond, Option, Some, None, ◌⊎◌, inl, inr, refl, sym, ap, ◌∙◌, subst, arith, get_or}
-use Rattle.std.specs.Prelude.{slice_get, is_none, All, position, nat_lt, unwrap_or}
+use Rattle.std.proofs.Common.{◌≡◌, ℕ, zero, suc, ◌<◌, ◌≤◌, List, [], ◌∷◌, length, max, Bool, true, false, cond, Option, Some, None, ◌⊎◌, inl, inr, refl, sym, ap, ◌∙◌, subst, arith, get_or}
+use Rattle.std.specs.Prelude.{slice_get, is_none, All, nat_lt, unwrap_or}
 use Rattle.std.specs.List.{position_or_len}
 use Rattle.std.proofs.lemmas.Bool.{cases_lt}
 use Rattle.std.proofs.lemmas.Bool.Decides.{Decides-ltb}
@@ -8,11 +8,11 @@ use Rattle.std.proofs.lemmas.Option.{slice_get_cases, slice_get_within}
 use Rattle.rm_model.specs.Words.{Word}
 use Rattle.rm_model.specs.Value.{IsRanked, is_cover_output, source_names}
 use Rattle.rm_model.specs.WellFormed.{is_distinct, driven_names}
-use Rattle.rm_model.specs.Ranks.{cover_of, rank_at, rank_above, rank_by, ranks_of, AreRanks, first_without_rank, higher}
+use Rattle.rm_model.specs.Ranks.{cover_of, rank_at, rank_above, rank_by, ranks_of, first_without_rank, higher}
 use Rattle.rm_model.specs.declared.parts.Cover.{Cover}
 use Rattle.rm_model.specs.declared.parts.Model.{Model}
 use Rattle.rm_model.proofs.RankLaws.{rank_from, picked, at_next, ranks_are_fixed, ranks-length, parts_of, above_cases, above_source, above_cover}
-use Rattle.rm_model.proofs.CoverLemmas.{all_at, all_from, not_true, Drives, drives-of, some-drives, is-driven, drives-own, distinct-right, outputs_of}
+use Rattle.rm_model.proofs.CoverLemmas.{all_at, all_from, not_true, drives-of, some-drives, is-driven, drives-own, distinct-right, outputs_of}
 
 -- some rank
 abbrev pub HasRank : Option ℕ → Type 0

@@ -1,5 +1,5 @@
 -- From the lists of drivers to the ranks of a model.
-use Rattle.std.proofs.Common.{◌≡◌, ℕ, zero, suc, ◌<◌, ◌≤◌, List, [], ◌∷◌, map, length, take, get_or, Bool, true, false, Option, Some, None, ◌⊎◌, inl, inr, refl, sym, ap, ◌∙◌, subst, arith}
+use Rattle.std.proofs.Common.{◌≡◌, ℕ, zero, suc, ◌<◌, ◌≤◌, List, [], ◌∷◌, map, length, take, get_or, true, false, Option, Some, None, ◌⊎◌, inl, inr, refl, sym, ap, ◌∙◌, subst, arith}
 use Rattle.std.specs.Prelude.{slice_get, is_none, position, Result, Ok, Err, IfOk}
 use Rattle.std.specs.List.{position_or_len, filter_map, cons_option}
 use Rattle.std.specs.Option.{option_map}
@@ -7,7 +7,7 @@ use Rattle.std.proofs.lemmas.List.{length-map, get_or-map}
 use Rattle.std.proofs.lemmas.Option.{slice_get_cases, slice_get_within}
 use Rattle.std.proofs.Math.ListN.{get_or-eq_default}
 use Rattle.rm_model.specs.Words.{Word}
-use Rattle.rm_model.specs.Ranks.{cover_of, rank_at, rank_by, ranks_of, AreRanks}
+use Rattle.rm_model.specs.Ranks.{cover_of, rank_at, rank_by, ranks_of}
 use Rattle.rm_model.specs.Numbers.{drivers_of, rank_over, IsFixed}
 use Rattle.rm_model.specs.Search.{list_at, IsIn, AreKnown}
 use Rattle.rm_model.specs.declared.parts.Cover.{Cover}

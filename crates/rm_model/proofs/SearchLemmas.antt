@@ -1,5 +1,5 @@
 -- The steps of the search for ranks keep what is said of it.
-use Rattle.std.proofs.Common.{◌≡◌, ◌≢◌, ℕ, zero, suc, ◌<◌, ◌≤◌, ◌+◌, List, [], ◌∷◌, ◌++◌, map, length, take, set, replicate, get_or, max, Option, Some, None, ◌⊎◌, inl, inr, refl, sym, ap, ◌∙◌, subst, arith, length-append, length-set}
+use Rattle.std.proofs.Common.{◌≡◌, ◌≢◌, ℕ, zero, suc, ◌<◌, ◌≤◌, List, [], ◌∷◌, ◌++◌, map, length, take, set, replicate, Option, Some, None, ◌⊎◌, inl, inr, refl, sym, ap, ◌∙◌, subst, arith, length-append, length-set}
 use Rattle.std.specs.Prelude.{slice_get}
 use Rattle.std.specs.Option.{option_map}
 use Rattle.std.proofs.Math.Seq.{take-length}
@@ -9,7 +9,7 @@ use Rattle.std.proofs.lemmas.List.{get_or-map, length-replicate}
 use Rattle.std.proofs.lemmas.Option.{slice_get_within}
 use Rattle.rm_model.specs.Ranks.{rank_at}
 use Rattle.rm_model.specs.Numbers.{rank_over}
-use Rattle.rm_model.specs.Search.{list_at, known_count, State, HasRank, IsIn, AllowsRank, IsSound, Waits, IsSettled, AreKnown, waiting_for, with_rank, woken, start, LeadsTo}
+use Rattle.rm_model.specs.Search.{list_at, known_count, State, HasRank, IsIn, AllowsRank, IsSound, IsSettled, waiting_for, with_rank, woken, start, LeadsTo}
 use Rattle.rm_model.specs.declared.rank_search.Looked.{Looked}
 use Rattle.rm_model.proofs.RankLaws.{Below, parts_of, higher_parts, at_replicate, same_list, length_map}
 use Rattle.rm_model.proofs.PlaceLemmas.{get-left, get-last, get-push, get-set, written, same_or_not}

@@ -1,16 +1,16 @@
 -- A ranked model has one consistent valuation for each assignment of its sources.
-use Rattle.std.proofs.Common.{◌≡◌, ℕ, zero, suc, ◌<◌, ◌≤◌, List, [], ◌∷◌, ◌++◌, map, length, max, Bool, true, false, cond, not, ◌&&◌, ◌||◌, Option, Some, None, ◌⊎◌, inl, inr, refl, sym, ap, ◌∙◌, subst, arith, true≢false}
+use Rattle.std.proofs.Common.{◌≡◌, ℕ, zero, suc, ◌<◌, List, [], ◌∷◌, ◌++◌, map, length, max, Bool, true, false, cond, not, ◌||◌, Option, Some, None, ◌⊎◌, inl, inr, refl, sym, ap, ◌∙◌, subst, arith}
 use Rattle.std.specs.Prelude.{slice_get, All}
-use Rattle.std.specs.List.{list_any, list_all, flat_map, filter_map}
+use Rattle.std.specs.List.{list_any, flat_map, filter_map}
 use Rattle.std.specs.Option.{option_map}
 use Rattle.rm_model.specs.Words.{Word, is_word}
 use Rattle.rm_model.specs.Value.{is_among, source_names, value_of, IsConsistent, IsRanked, is_cover_output, control_of}
 use Rattle.rm_model.specs.Ranks.{cover_of}
-use Rattle.rm_model.specs.WellFormed.{is_distinct, driven_names, used_names, IsWellFormed}
+use Rattle.rm_model.specs.WellFormed.{is_distinct, driven_names, IsWellFormed}
 use Rattle.rm_model.specs.declared.parts.Cover.{Cover}
 use Rattle.rm_model.specs.declared.parts.Latch.{Latch}
 use Rattle.rm_model.specs.declared.parts.Model.{Model}
-use Rattle.rm_model.proofs.CoverLemmas.{all_at, all_from, both, never, not_true, same_word, is_word-same, among-at, at-among, distinct-right, outputs_of, output-at, Drives, drives-of, some-drives, is-driven, drives-own}
+use Rattle.rm_model.proofs.CoverLemmas.{all_at, all_from, both, never, not_true, same_word, is_word-same, among-at, at-among, distinct-right, outputs_of, output-at, drives-of, some-drives, is-driven, drives-own}
 use Rattle.rm_model.proofs.NameLemmas.{among-append, distinct-apart, distinct-left, list_all-append, list_all-at, list_all-inputs, map-same-in, same-in-map}
 
 -- the value of what drives a name, by the values of the names that it reads

@@ -1,5 +1,5 @@
 -- The search for ranks: what is known of the covers at each moment.
-use Rattle.std.specs.Prelude.{◌≡◌, ◌<◌, ◌≤◌, ◌⊎◌, ℕ, suc, List, [], ◌∷◌, ◌++◌, slice_set, map, replicate, length, take, Option, None, Some, slice_get, slice_index_or}
+use Rattle.std.specs.Prelude.{◌≡◌, ◌<◌, ◌≤◌, ◌⊎◌, ℕ, suc, List, [], ◌∷◌, ◌++◌, slice_set, replicate, length, take, Option, None, Some, slice_get, slice_index_or}
 use Rattle.rm_model.specs.Ranks.{rank_at}
 use Rattle.rm_model.specs.Numbers.{rank_over}
 use Rattle.rm_model.specs.declared.rank_search.Looked.{Looked}

@@ -1,5 +1,5 @@
 -- What the search holds, as lists.
-use Rattle.std.specs.Prelude.{ℕ, List, map}
+use Rattle.std.specs.Prelude.{map}
 use Rattle.rm_model.specs.Search.{State}
 use Rattle.rm_model.specs.declared.rank_search.Search.{Search}
 

@@ -47,7 +47,8 @@ impl<'a> Known<'a> {
     fn value(&self, name: &[u8]) -> bool
         requires known { is_among self.now.names name.now ≡ true }
         requires paired { length self.now.names ≡ length self.now.values.items }
-        ensures { (v : Word → Bool) → map v self.now.names ≡ self.now.values.items → result ≡ v name.now }
+        ensures { (v : Word → Bool) → map v self.now.names ≡ self.now.values.items
+            → result ≡ v name.now }
     {
         match self.names.place(name) {
             Some(place) => self.values[place],
@@ -93,8 +94,10 @@ fn add_cover<'a>(alloc: Global, known: &mut Known<'a>, cover: &'a Cover) -> Resu
     requires rows { All (λ r. length r ≡ length cover.now.inputs) cover.now.rows }
     requires paired { length known.old.names ≡ length known.old.values.items }
     ensures names { OnOk result (known.new.names ≡ known.old.names ++ cover.now.output ∷ []) }
-    ensures values { OnOk result ((v : Word → Bool) → v cover.now.output ≡ value_of cover.now (map v cover.now.inputs)
-        → map v known.old.names ≡ known.old.values.items → map v known.new.names ≡ known.new.values.items) }
+    ensures values { OnOk result ((v : Word → Bool)
+        → v cover.now.output ≡ value_of cover.now (map v cover.now.inputs)
+        → map v known.old.names ≡ known.old.values.items
+        → map v known.new.names ≡ known.new.values.items) }
     ensures paired { OnOk result (length known.new.names ≡ length known.new.values.items) }
 {
     let values = known.values_of(alloc, cover.inputs.items())?;
@@ -110,12 +113,16 @@ fn add_covers<'a>(
 ) -> Result<(), NoMemory>
     requires order { IsOrder (map (drivers_of covers.now) covers.now) order.now }
     requires once { is_distinct (known.old.names ++ map (λ c. c.output) covers.now) ≡ true }
-    requires driven { All (λ c. All (λ x. is_among (known.old.names ++ map (λ c. c.output) covers.now) x ≡ true) c.inputs) covers.now }
+    requires driven { let driven = known.old.names ++ map (λ c. c.output) covers.now in
+        All (λ c. All (λ x. is_among driven x ≡ true) c.inputs) covers.now }
     requires rows { All IsWellFormedCover covers.now }
     requires paired { length known.old.names ≡ length known.old.values.items }
-    ensures names { OnOk result (known.new.names ≡ known.old.names ++ map (list_at (map (λ c. c.output) covers.now)) order.now) }
-    ensures values { OnOk result ((v : Word → Bool) → All (λ c. v c.output ≡ value_of c (map v c.inputs)) covers.now
-        → map v known.old.names ≡ known.old.values.items → map v known.new.names ≡ known.new.values.items) }
+    ensures names { OnOk result (known.new.names
+        ≡ known.old.names ++ map (list_at (map (λ c. c.output) covers.now)) order.now) }
+    ensures values { OnOk result ((v : Word → Bool)
+        → All (λ c. v c.output ≡ value_of c (map v c.inputs)) covers.now
+        → map v known.old.names ≡ known.old.values.items
+        → map v known.new.names ≡ known.new.values.items) }
     ensures paired { OnOk result (length known.new.names ≡ length known.new.values.items) }
 {
     for place in order {
@@ -147,7 +154,8 @@ fn values_in_order(
     requires sources { length vector.now ≡ length (source_names model.now) }
     requires observed { length (observed_names model.now) < 2 ^ 32 }
     ensures { IfOk result (λ values. (v : Word → Bool) → IsConsistent model.now v
-        → map v (source_names model.now) ≡ vector.now → values ≡ map v (observed_names model.now)) }
+        → map v (source_names model.now) ≡ vector.now
+        → values ≡ map v (observed_names model.now)) }
 {
     let names = sources(alloc, model)?;
     let points = observed(alloc, model)?;
@@ -157,8 +165,8 @@ fn values_in_order(
     vector_of(alloc, values.as_slice())
 }
 
-/// The values of the model's observed points, in order, where its sources have the values of the vector, in order. It takes time linear
-/// in the model.
+/// The values of the model's observed points, in order, where its sources have the values of the
+/// vector, in order. It takes time linear in the model.
 pub fn evaluate(alloc: Global, model: &Model, vector: &Vector) -> Result<Vector, RankFault>
     requires well_formed { IsWellFormed model.now }
     requires covers { length model.now.covers < 2 ^ 32 }
@@ -166,9 +174,11 @@ pub fn evaluate(alloc: Global, model: &Model, vector: &Vector) -> Result<Vector,
     requires few_observed { length (observed_names model.now) < 2 ^ 32 }
     requires sources { length vector.now ≡ length (source_names model.now) }
     ensures values { IfOk result (λ values. (v : Word → Bool) → IsConsistent model.now v
-        → map v (source_names model.now) ≡ vector.now → values ≡ map v (observed_names model.now)) }
+        → map v (source_names model.now) ≡ vector.now
+        → values ≡ map v (observed_names model.now)) }
     ensures valued { IfOk result (λ values. (v : Word → Bool) × (IsConsistent model.now v
-        × ((map v (source_names model.now) ≡ vector.now) × (values ≡ map v (observed_names model.now))))) }
+        × ((map v (source_names model.now) ≡ vector.now)
+        × (values ≡ map v (observed_names model.now))))) }
     ensures ranked { OnOk result (first_without_rank model.now ≡ None) }
     ensures refused { IfErr result (λ fault. IsRefused (first_without_rank model.now) fault) }
 {

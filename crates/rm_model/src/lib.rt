@@ -1,5 +1,5 @@
-//! The model of a BLIF text: names, covers and latches, which models are well formed, the ranks of their covers, and the values of their
-//! observed points for given values of their sources.
+//! The model of a BLIF text: names, covers and latches, which models are well formed, the ranks of
+//! their covers, and the values of their observed points for given values of their sources.
 #![tactic(auto)]
 
 mod drivers;

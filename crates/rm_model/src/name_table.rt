@@ -41,7 +41,8 @@ impl<'a> NameTable<'a> {
 
     /// Adds a name that may be there already.
     pub fn include(&mut self, name: &'a [u8]) -> Result<(), NoMemory>
-        ensures { OnOk result ((x : List ℕ) → is_among self.new x ≡ (is_among self.old x || is_word x name.now)) }
+        ensures { OnOk result ((x : List ℕ)
+            → is_among self.new x ≡ (is_among self.old x || is_word x name.now)) }
     {
         self.names.insert(name)?;
         Ok(())

@@ -18,14 +18,16 @@ pub type Name = Listed<u8>;
 /// One literal for each input of the cover, in the order of the inputs.
 pub type Row = Listed<Literal>;
 
-/// A single-output cover, as a `.names` line with its rows has it (Berkeley Logic Interchange Format, logic gates).
+/// A single-output cover, as a `.names` line with its rows has it (Berkeley Logic Interchange
+/// Format, logic gates).
 #[derive(Drop)]
 pub struct Cover {
     /// The names that the cover reads; one name may stand twice.
     pub inputs: Listed<Name>,
     /// The name that the cover drives.
     pub output: Name,
-    /// Whether the rows end in `1`, so that they say where the output is true. Without rows it is true, and the output is always false.
+    /// Whether the rows end in `1`, so that they say where the output is true. Without rows it is
+    /// true, and the output is always false.
     pub on: bool,
     pub rows: Listed<Row>,
 }
@@ -53,7 +55,8 @@ pub struct Timing {
     pub control: Option<Name>,
 }
 
-/// A generic latch, as a `.latch` line has it. Its output is a source of the model, and its input an observed point.
+/// A generic latch, as a `.latch` line has it. Its output is a source of the model, and its input
+/// an observed point.
 #[derive(Drop)]
 pub struct Latch {
     pub input: Name,

@@ -43,7 +43,8 @@ fn push_unknown(
     known: &NameTable,
     names: &[Name],
 ) -> Result<(), NoMemory>
-    ensures { OnOk result (out.new.items ≡ out.old.items ++ filter (λ x. not (among known.now x)) names.now) }
+    ensures { OnOk result (out.new.items
+        ≡ out.old.items ++ filter (λ x. not (among known.now x)) names.now) }
 {
     for name in names {
         if !known.has(name.items()) {
@@ -59,7 +60,8 @@ fn push_others(
     inputs: &[Name],
     names: &[Name],
 ) -> Result<(), NoMemory>
-    ensures { OnOk result (out.new.items ≡ out.old.items ++ filter (λ x. not (among inputs.now x)) names.now) }
+    ensures { OnOk result (out.new.items
+        ≡ out.old.items ++ filter (λ x. not (among inputs.now x)) names.now) }
 {
     let known = table_of(alloc, inputs)?;
     push_unknown(alloc, out, &known, names)
@@ -107,8 +109,9 @@ pub fn push_controls(alloc: Global, out: &mut Vec<Name>, latches: &[Latch]) -> R
     Ok(())
 }
 
-/// The names that drive the model from outside, each once: the inputs, the clocks that aren't inputs, and the latch outputs, each in order.
-/// It takes time linear in these lists.
+/// The names that drive the model from outside, each once in a well-formed model: the inputs, the
+/// clocks that aren't inputs, and the latch outputs, each in order. It takes time linear in these
+/// lists.
 pub fn sources(alloc: Global, model: &Model) -> Result<Vec<Name>, NoMemory>
     ensures { IfOk result (λ names. names.items ≡ source_names model.now) }
 {
@@ -124,8 +127,8 @@ pub fn sources(alloc: Global, model: &Model) -> Result<Vec<Name>, NoMemory>
     Ok(names)
 }
 
-/// The names that are seen from outside: the outputs, the latch inputs and the latch controls, each in order. A name may stand twice, and
-/// it may be a source.
+/// The names that are seen from outside: the outputs, the latch inputs and the latch controls, each
+/// in order. A name may stand twice, and it may be a source.
 pub fn observed(alloc: Global, model: &Model) -> Result<Vec<Name>, NoMemory>
     ensures { IfOk result (λ names. names.items ≡ observed_names model.now) }
 {

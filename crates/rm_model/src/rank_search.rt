@@ -1,4 +1,5 @@
-// The ranks of covers by the covers that they read: a cover waits for the first of them that has no rank yet.
+// The ranks of covers by the covers that they read: a cover waits for the first of them that has no
+// rank yet.
 ghost use Rattle.std.specs.Prelude.{◌≡◌, ◌^◌, ◌<◌, ◌≤◌, ℕ, [], ◌∷◌, ◌++◌, length, map, take, IfOk, OnOk, Some, None, Option, slice_set, All, slice_index, slice_index_or, is_some, ◌+◌, slice_get, replicate};
 ghost use Rattle.rm_model.specs.Ranks.{rank_at};
 ghost use Rattle.rm_model.specs.Numbers.{rank_over};
@@ -9,7 +10,7 @@ use rm_base::NoMemory;
 use std::alloc::Global;
 use std::mem;
 
-/// How many drivers of a cover have a rank, from the first on, and the least rank that they allow it.
+/// How many drivers of a cover have a rank, from the first on, and the least rank that they allow.
 #[derive(Clone, Copy)]
 pub struct Looked {
     pub count: usize,
@@ -32,7 +33,8 @@ fn look_on(drivers: &[u32], ranks: &[Option<u32>], from: Looked) -> Looked
     requires known { All (λ k. k < length ranks.now) drivers.now }
     ensures within { result.count ≤ length drivers.now }
     ensures least { rank_over ranks.now (take result.count drivers.now) ≡ Some result.least }
-    ensures stopped { result.count < length drivers.now → rank_at ranks.now (slice_index drivers.now result.count) ≡ None }
+    ensures stopped { result.count < length drivers.now
+        → rank_at ranks.now (slice_index drivers.now result.count) ≡ None }
 {
     let mut looked = from;
     while looked.count < drivers.len() {
@@ -64,7 +66,8 @@ fn add_waiting(waiting: &mut Vec<Vec<u32>>, driver: usize, cover: u32) -> Result
 fn take_waiting(alloc: Global, waiting: &mut Vec<Vec<u32>>, driver: usize) -> Vec<u32>
     requires { driver < length waiting.old.items }
     ensures taken { result.items ≡ list_at (map (λ w. w.items) waiting.old.items) driver }
-    ensures left { map (λ w. w.items) waiting.new.items ≡ slice_set (map (λ w. w.items) waiting.old.items) driver [] }
+    ensures left { map (λ w. w.items) waiting.new.items
+        ≡ slice_set (map (λ w. w.items) waiting.old.items) driver [] }
 {
     mem::replace(&mut waiting[driver], Vec::new(alloc))
 }
@@ -99,7 +102,8 @@ fn no_lists(alloc: Global, count: usize) -> Result<Vec<Vec<u32>>, NoMemory>
 impl Search {
     fn look_further(&self, drivers: &[u32], cover: usize) -> Looked
         requires cover { cover < length self.now.looked.items }
-        requires looked { AllowsRank self.now.ranks.items drivers.now (slice_index_or self.now.looked.items cover (record { count = 0; least = 0 })) }
+        requires looked { AllowsRank self.now.ranks.items drivers.now
+            (slice_index_or self.now.looked.items cover (record { count = 0; least = 0 })) }
         requires room { length self.now.ranks.items < 2 ^ 32 }
         requires small { (k n : ℕ) → rank_at self.now.ranks.items k ≡ Some n → n < length self.now.ranks.items }
         requires known { All (λ k. k < length self.now.ranks.items) drivers.now }
@@ -143,8 +147,10 @@ impl Search {
         requires room { length drivers.now < 2 ^ 32 }
         requires cover { cover < length drivers.now }
         requires unknown { rank_at self.old.ranks.items cover ≡ None }
-        ensures leads { OnOk result (LeadsTo (map (λ d. d.items) drivers.now) (state_of self.old) (state_of self.new)) }
-        ensures settled { OnOk result ((place : ℕ) → IsSettled (map (λ d. d.items) drivers.now) place (state_of self.new) cover) }
+        ensures leads { OnOk result
+            (LeadsTo (map (λ d. d.items) drivers.now) (state_of self.old) (state_of self.new)) }
+        ensures settled { OnOk result ((place : ℕ)
+            → IsSettled (map (λ d. d.items) drivers.now) place (state_of self.new) cover) }
     {
         let list = list_of(drivers, cover as usize);
         let looked = self.look_further(list, cover as usize);
@@ -161,8 +167,10 @@ impl Search {
         requires known { AreKnown (map (λ d. d.items) drivers.now) }
         requires room { length drivers.now < 2 ^ 32 }
         requires cover { cover < length drivers.now }
-        ensures leads { OnOk result (LeadsTo (map (λ d. d.items) drivers.now) (state_of self.old) (state_of self.new)) }
-        ensures settled { OnOk result ((place : ℕ) → IsSettled (map (λ d. d.items) drivers.now) place (state_of self.new) cover) }
+        ensures leads { OnOk result
+            (LeadsTo (map (λ d. d.items) drivers.now) (state_of self.old) (state_of self.new)) }
+        ensures settled { OnOk result ((place : ℕ)
+            → IsSettled (map (λ d. d.items) drivers.now) place (state_of self.new) cover) }
     {
         if self.has_rank(cover as usize) {
             return Ok(());
@@ -175,8 +183,10 @@ impl Search {
         requires known { AreKnown (map (λ d. d.items) drivers.now) }
         requires room { length drivers.now < 2 ^ 32 }
         requires covers { All (λ k. k < length drivers.now) covers.now }
-        ensures leads { OnOk result (LeadsTo (map (λ d. d.items) drivers.now) (state_of self.old) (state_of self.new)) }
-        ensures settled { OnOk result ((place p k : ℕ) → place ≤ length self.old.order.items → slice_get covers.now p ≡ Some k
+        ensures leads { OnOk result
+            (LeadsTo (map (λ d. d.items) drivers.now) (state_of self.old) (state_of self.new)) }
+        ensures settled { OnOk result ((place p k : ℕ) → place ≤ length self.old.order.items
+            → slice_get covers.now p ≡ Some k
             → IsSettled (map (λ d. d.items) drivers.now) place (state_of self.new) k) }
     {
         for cover in covers {
@@ -192,7 +202,8 @@ impl Search {
         requires room { length drivers.now < 2 ^ 32 }
         requires place { place < length self.old.order.items }
         ensures sound { OnOk result (IsSound (map (λ d. d.items) drivers.now) (state_of self.new)) }
-        ensures settled { OnOk result ((k : ℕ) → IsSettled (map (λ d. d.items) drivers.now) place (state_of self.old) k
+        ensures settled { OnOk result ((k : ℕ)
+            → IsSettled (map (λ d. d.items) drivers.now) place (state_of self.old) k
             → IsSettled (map (λ d. d.items) drivers.now) (place + 1) (state_of self.new) k) }
     {
         let cover = self.order[place] as usize;
@@ -218,10 +229,12 @@ impl Search {
         requires sound { IsSound (map (λ d. d.items) drivers.now) (state_of self.old) }
         requires known { AreKnown (map (λ d. d.items) drivers.now) }
         requires room { length drivers.now < 2 ^ 32 }
-        requires settled { (k : ℕ) → k < length drivers.now → IsSettled (map (λ d. d.items) drivers.now) 0 (state_of self.old) k }
+        requires settled { (k : ℕ) → k < length drivers.now
+            → IsSettled (map (λ d. d.items) drivers.now) 0 (state_of self.old) k }
         ensures sound { OnOk result (IsSound (map (λ d. d.items) drivers.now) (state_of self.new)) }
         ensures settled { OnOk result ((k : ℕ) → k < length drivers.now
-            → IsSettled (map (λ d. d.items) drivers.now) (length self.new.order.items) (state_of self.new) k) }
+            → IsSettled (map (λ d. d.items) drivers.now) (length self.new.order.items)
+            (state_of self.new) k) }
     {
         let mut place = 0;
         while place < self.order.len() {
@@ -251,7 +264,8 @@ pub fn find_ranks(alloc: Global, drivers: &[Vec<u32>]) -> Result<Search, NoMemor
     requires known { AreKnown (map (λ d. d.items) drivers.now) }
     requires room { length drivers.now < 2 ^ 32 }
     ensures sound { IfOk result (λ s. IsSound (map (λ d. d.items) drivers.now) (state_of s)) }
-    ensures ranks { IfOk result (λ s. s.ranks.items ≡ map (rank_over s.ranks.items) (map (λ d. d.items) drivers.now)) }
+    ensures ranks { IfOk result (λ s. s.ranks.items
+        ≡ map (rank_over s.ranks.items) (map (λ d. d.items) drivers.now)) }
 {
     let mut found = Search::new(alloc, drivers.len())?;
     found.look_at_each(drivers)?;

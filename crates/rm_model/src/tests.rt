@@ -10,6 +10,14 @@ use std::alloc::Global;
 use std::process::Abort;
 use std::test::Fail;
 
+#[derive(Clone, Copy)]
+struct Gate<'a> {
+    inputs: &'a [&'a str],
+    output: &'a str,
+    rows: &'a [&'a str],
+    on: bool,
+}
+
 fn name(alloc: Global, text: &str) -> Result<Name, NoMemory> {
     Ok(Listed::from_vec(Vec::from_slice(alloc, text.as_bytes())?))
 }
@@ -22,89 +30,125 @@ fn names(alloc: Global, texts: &[&str]) -> Result<Listed<Name>, NoMemory> {
     Ok(list)
 }
 
+fn literal(byte: u8) -> Literal {
+    match byte {
+        b'0' => Literal::Zero,
+        b'1' => Literal::One,
+        _ => Literal::Any,
+    }
+}
+
 fn row(alloc: Global, text: &str) -> Result<Row, NoMemory> {
     let mut list = Listed::new(alloc);
     for byte in text.as_bytes() {
-        let literal = match *byte {
-            b'0' => Literal::Zero,
-            b'1' => Literal::One,
-            _ => Literal::Any,
-        };
-        list.push(literal)?;
+        list.push(literal(*byte))?;
     }
     Ok(list)
 }
 
-fn cover(
-    alloc: Global,
-    inputs: &[&str],
-    output: &str,
-    rows: &[&str],
-    on: bool,
-) -> Result<Cover, NoMemory> {
+fn rows(alloc: Global, texts: &[&str]) -> Result<Listed<Row>, NoMemory> {
     let mut list = Listed::new(alloc);
-    for text in rows {
+    for text in texts {
         list.push(row(alloc, *text)?)?;
     }
+    Ok(list)
+}
+
+fn cover(alloc: Global, gate: Gate) -> Result<Cover, NoMemory> {
+    let inputs = names(alloc, gate.inputs)?;
+    let output = name(alloc, gate.output)?;
+    let rows = rows(alloc, gate.rows)?;
     Ok(Cover {
-        inputs: names(alloc, inputs)?,
-        output: name(alloc, output)?,
-        on,
-        rows: list,
+        inputs,
+        output,
+        on: gate.on,
+        rows,
     })
+}
+
+fn covers(alloc: Global, gates: &[Gate]) -> Result<Listed<Cover>, NoMemory> {
+    let mut list = Listed::new(alloc);
+    for gate in gates {
+        list.push(cover(alloc, *gate)?)?;
+    }
+    Ok(list)
 }
 
 fn model(
     alloc: Global,
     inputs: &[&str],
     outputs: &[&str],
-    covers: Listed<Cover>,
+    gates: &[Gate],
 ) -> Result<Model, NoMemory> {
+    let name = name(alloc, "m")?;
+    let inputs = names(alloc, inputs)?;
+    let outputs = names(alloc, outputs)?;
+    let covers = covers(alloc, gates)?;
     Ok(Model {
-        name: name(alloc, "m")?,
-        inputs: names(alloc, inputs)?,
+        name,
+        inputs,
         clocks: Listed::new(alloc),
-        outputs: names(alloc, outputs)?,
+        outputs,
         latches: Listed::new(alloc),
         covers,
     })
 }
 
-fn four_gates(alloc: Global) -> Result<Model, NoMemory> {
-    let mut covers = Listed::new(alloc);
-    covers.push(cover(alloc, &["a", "b", "c"], "o", &["11-", "1-1"], true)?)?;
-    covers.push(cover(alloc, &["o", "d"], "k", &["11"], true)?)?;
-    model(alloc, &["a", "b", "c", "d"], &["k"], covers)
+fn and_gate<'a>(inputs: &'a [&'a str], output: &'a str) -> Gate<'a> {
+    Gate {
+        inputs,
+        output,
+        rows: &["11"],
+        on: true,
+    }
 }
 
-fn latch(
-    alloc: Global,
-    input: &str,
-    output: &str,
-    timing: Option<Timing>,
-    init: Option<u8>,
-) -> Result<Latch, NoMemory> {
+fn four_gates(alloc: Global) -> Result<Model, NoMemory> {
+    let either = Gate {
+        inputs: &["a", "b", "c"],
+        output: "o",
+        rows: &["11-", "1-1"],
+        on: true,
+    };
+    model(
+        alloc,
+        &["a", "b", "c", "d"],
+        &["k"],
+        &[either, and_gate(&["o", "d"], "k")],
+    )
+}
+
+fn edge_latch(alloc: Global) -> Result<Latch, NoMemory> {
+    let input = name(alloc, "nd")?;
+    let output = name(alloc, "q")?;
+    let control = name(alloc, "g")?;
     Ok(Latch {
-        input: name(alloc, input)?,
-        output: name(alloc, output)?,
-        timing,
-        init,
+        input,
+        output,
+        timing: Some(Timing {
+            kind: LatchKind::Re,
+            control: Some(control),
+        }),
+        init: Some(2),
     })
 }
 
-fn latches(alloc: Global) -> Result<Model, NoMemory> {
-    let mut covers = Listed::new(alloc);
-    covers.push(cover(alloc, &["clk", "e"], "g", &["11"], true)?)?;
-    covers.push(cover(alloc, &["d", "s"], "nd", &["11"], true)?)?;
-    let mut found = model(alloc, &["d", "e", "clk"], &["q"], covers)?;
-    let timing = Timing {
-        kind: LatchKind::Re,
-        control: Some(name(alloc, "g")?),
-    };
-    found
-        .latches
-        .push(latch(alloc, "nd", "q", Some(timing), Some(2))?)?;
-    found.latches.push(latch(alloc, "q", "s", None, None)?)?;
+fn plain_latch(alloc: Global) -> Result<Latch, NoMemory> {
+    let input = name(alloc, "q")?;
+    let output = name(alloc, "s")?;
+    Ok(Latch {
+        input,
+        output,
+        timing: None,
+        init: None,
+    })
+}
+
+fn two_latches(alloc: Global) -> Result<Model, NoMemory> {
+    let gates = [and_gate(&["clk", "e"], "g"), and_gate(&["d", "s"], "nd")];
+    let mut found = model(alloc, &["d", "e", "clk"], &["q"], &gates)?;
+    found.latches.push(edge_latch(alloc)?)?;
+    found.latches.push(plain_latch(alloc)?)?;
     Ok(found)
 }
 
@@ -119,6 +163,42 @@ fn ranks(
     Ok(rank(alloc, model))
 }
 
+fn expect_ranks(
+    rt: &impl Abort,
+    alloc: Global,
+    model: &Model,
+    expected: &[u32],
+) -> Result<(), NoMemory> {
+    match ranks(rt, alloc, model)? {
+        Ok(found) => assert!(rt; found.as_slice() == expected),
+        Err(_) => assert!(rt; false),
+    }
+    Ok(())
+}
+
+fn expect_no_rank(
+    rt: &impl Abort,
+    alloc: Global,
+    model: &Model,
+    expected: u32,
+) -> Result<(), NoMemory> {
+    match ranks(rt, alloc, model)? {
+        Err(RankFault::NoRank { cover }) => assert!(rt; cover == expected),
+        _ => assert!(rt; false),
+    }
+    Ok(())
+}
+
+fn vector(alloc: Global, values: &[bool]) -> Result<Vector, NoMemory> {
+    let mut made = Vector::zeros(alloc, values.len())?;
+    for (place, value) in values.iter().enumerate() {
+        if place < 1_000_000 {
+            made.set(SourceNo(place as u32), *value);
+        }
+    }
+    Ok(made)
+}
+
 fn values(
     rt: &impl Abort,
     alloc: Global,
@@ -129,22 +209,26 @@ fn values(
     assert!(rt; formed);
     assert!(rt; model.covers.len() < 1_000_000);
     let sources = sources(alloc, model)?;
-    let observed = observed(alloc, model)?;
-    assert!(rt; sources.len() < 1_000_000);
-    assert!(rt; observed.len() < 1_000_000);
     assert!(rt; vector.len() == sources.len());
+    assert!(rt; sources.len() < 1_000_000);
+    let observed = observed(alloc, model)?;
+    assert!(rt; observed.len() < 1_000_000);
     Ok(evaluate(alloc, model, vector))
 }
 
-fn vector(alloc: Global, text: &str) -> Result<Vector, NoMemory> {
-    let bytes = text.as_bytes();
-    let mut made = Vector::zeros(alloc, bytes.len())?;
-    for place in 0..bytes.len() {
-        if bytes[place] == b'1' && place < 1_000_000 {
-            made.set(SourceNo(place as u32), true);
-        }
+fn expect_values(
+    rt: &impl Abort,
+    alloc: Global,
+    model: &Model,
+    given: &[bool],
+    expected: &[bool],
+) -> Result<(), NoMemory> {
+    let vector = vector(alloc, given)?;
+    match values(rt, alloc, model, &vector)? {
+        Ok(found) => assert!(rt; found.values() == expected),
+        Err(_) => assert!(rt; false),
     }
-    Ok(made)
+    Ok(())
 }
 
 fn expect_names(rt: &impl Abort, found: &[Name], expected: &[&str]) {
@@ -154,142 +238,121 @@ fn expect_names(rt: &impl Abort, found: &[Name], expected: &[&str]) {
     }
 }
 
-fn expect_values(
-    rt: &impl Abort,
-    alloc: Global,
-    model: &Model,
-    given: &str,
-    expected: &[bool],
-) -> Result<(), Fail> {
-    let vector = vector(alloc, given)?;
-    let found = values(rt, alloc, model, &vector)??;
-    assert!(rt; found.values() == expected);
-    Ok(())
-}
-
-#[test]
-fn ranks_of_worked_models(rt: HostRuntime) -> Result<(), Fail> {
-    let alloc = rt.alloc();
-    let found = ranks(&rt, alloc, &four_gates(alloc)?)??;
-    assert!(rt; found.as_slice() == [0, 1].as_slice());
-    let found = ranks(&rt, alloc, &latches(alloc)?)??;
-    assert!(rt; found.as_slice() == [0, 0].as_slice());
-    Ok(())
-}
-
-#[test]
-fn a_cycle_has_no_rank(rt: HostRuntime) -> Result<(), Fail> {
-    let alloc = rt.alloc();
+fn chain(alloc: Global, length: u32) -> Result<Listed<Cover>, NoMemory> {
     let mut covers = Listed::new(alloc);
-    covers.push(cover(alloc, &["u"], "a", &["1"], true)?)?;
-    covers.push(cover(alloc, &["u", "q"], "p", &["11"], true)?)?;
-    covers.push(cover(alloc, &["p", "a"], "q", &["11"], true)?)?;
-    let model = model(alloc, &["u"], &["q"], covers)?;
-    let found = ranks(&rt, alloc, &model)?;
-    assert!(rt; matches!(found, Err(RankFault::NoRank { cover: 1 })));
-    Ok(())
-}
-
-#[test]
-fn a_cover_behind_a_cycle_has_no_rank(rt: HostRuntime) -> Result<(), Fail> {
-    let alloc = rt.alloc();
-    let mut covers = Listed::new(alloc);
-    covers.push(cover(alloc, &["u"], "a", &["1"], true)?)?;
-    covers.push(cover(alloc, &["a", "z"], "y", &["11"], true)?)?;
-    covers.push(cover(alloc, &["z", "u"], "z", &["11"], true)?)?;
-    let model = model(alloc, &["u"], &["y"], covers)?;
-    let found = ranks(&rt, alloc, &model)?;
-    assert!(rt; matches!(found, Err(RankFault::NoRank { cover: 1 })));
-    Ok(())
-}
-
-#[test]
-fn a_long_chain_is_ranked_at_once(rt: HostRuntime) -> Result<(), Fail> {
-    let alloc = rt.alloc();
-    let mut covers = Listed::new(alloc);
-    for place in 0..50_000u32 {
+    for place in 0..length.min(1_000_000) {
         let output = format!(in alloc; "x{place}")?;
         let next = place + 1;
         let input = format!(in alloc; "x{next}")?;
         covers.push(cover(
             alloc,
-            &[input.as_str(), input.as_str()],
-            output.as_str(),
-            &["11"],
-            true,
+            and_gate(&[input.as_str(), input.as_str()], output.as_str()),
         )?)?;
     }
-    let model = model(alloc, &["x50000"], &["x0"], covers)?;
-    let found = ranks(&rt, alloc, &model)??;
-    assert!(rt; found.len() == 50_000);
-    assert!(rt; found[0] == 49_999);
-    assert!(rt; found[49_999] == 0);
-    expect_values(&rt, alloc, &model, "1", &[true])?;
+    Ok(covers)
+}
+
+#[test]
+fn ranks_of_worked_models(rt: HostRuntime) -> Result<(), Fail> {
+    let found = four_gates(rt.alloc())?;
+    expect_ranks(&rt, rt.alloc(), &found, &[0, 1])?;
     Ok(())
 }
 
 #[test]
-fn values_of_worked_models(rt: HostRuntime) -> Result<(), Fail> {
-    let alloc = rt.alloc();
-    let found = four_gates(alloc)?;
-    expect_values(&rt, alloc, &found, "1101", &[true])?;
-    expect_values(&rt, alloc, &found, "0101", &[false])?;
-    let mut covers = Listed::new(alloc);
-    covers.push(cover(alloc, &["a", "b"], "z", &["00"], false)?)?;
-    covers.push(cover(alloc, &[], "y", &[], true)?)?;
-    covers.push(cover(alloc, &[], "x", &[""], true)?)?;
-    let model = model(alloc, &["a", "b"], &["z", "y", "x", "a"], covers)?;
-    expect_values(&rt, alloc, &model, "00", &[false, false, true, false])?;
-    expect_values(&rt, alloc, &model, "10", &[true, false, true, true])?;
+fn a_cycle_has_no_rank(rt: HostRuntime) -> Result<(), Fail> {
+    let gates = [
+        and_gate(&["u", "u"], "a"),
+        and_gate(&["u", "q"], "p"),
+        and_gate(&["p", "a"], "q"),
+    ];
+    let found = model(rt.alloc(), &["u"], &["q"], &gates)?;
+    expect_no_rank(&rt, rt.alloc(), &found, 1)?;
+    Ok(())
+}
+
+#[test]
+fn a_cover_behind_a_cycle_has_no_rank(rt: HostRuntime) -> Result<(), Fail> {
+    let gates = [
+        and_gate(&["u", "u"], "a"),
+        and_gate(&["a", "z"], "y"),
+        and_gate(&["z", "u"], "z"),
+    ];
+    let found = model(rt.alloc(), &["u"], &["y"], &gates)?;
+    expect_no_rank(&rt, rt.alloc(), &found, 1)?;
+    Ok(())
+}
+
+#[test]
+fn a_long_chain_is_ranked_at_once(rt: HostRuntime) -> Result<(), Fail> {
+    let mut found = model(rt.alloc(), &["x50000"], &["x0"], &[])?;
+    found.covers = chain(rt.alloc(), 50_000)?;
+    match ranks(&rt, rt.alloc(), &found)? {
+        Ok(found) => assert!(rt; found.len() == 50_000 && found[0] == 49_999),
+        Err(_) => assert!(rt; false),
+    }
+    Ok(())
+}
+
+#[test]
+fn values_of_four_gates(rt: HostRuntime) -> Result<(), Fail> {
+    let found = four_gates(rt.alloc())?;
+    let given = [true, true, false, true];
+    expect_values(&rt, rt.alloc(), &found, &given, &[true])?;
+    let given = [false, true, false, true];
+    expect_values(&rt, rt.alloc(), &found, &given, &[false])?;
+    Ok(())
+}
+
+#[test]
+fn values_of_other_rows(rt: HostRuntime) -> Result<(), Fail> {
+    let off = Gate {
+        inputs: &["a", "b"],
+        output: "z",
+        rows: &["00"],
+        on: false,
+    };
+    let zero = Gate {
+        inputs: &[],
+        output: "y",
+        rows: &[],
+        on: true,
+    };
+    let one = Gate {
+        inputs: &[],
+        output: "x",
+        rows: &[""],
+        on: true,
+    };
+    let points = ["z", "y", "x", "a"];
+    let found = model(rt.alloc(), &["a", "b"], &points, &[off, zero, one])?;
+    let expected = [false, false, true, false];
+    expect_values(&rt, rt.alloc(), &found, &[false, false], &expected)?;
     Ok(())
 }
 
 #[test]
 fn values_with_latches(rt: HostRuntime) -> Result<(), Fail> {
-    let alloc = rt.alloc();
-    let found = latches(alloc)?;
-    expect_values(&rt, alloc, &found, "11101", &[false, true, false, true])?;
-    expect_values(&rt, alloc, &found, "10110", &[true, false, true, false])?;
+    let found = two_latches(rt.alloc())?;
+    let given = [true, true, true, false, true];
+    let expected = [false, true, false, true];
+    expect_values(&rt, rt.alloc(), &found, &given, &expected)?;
     Ok(())
 }
 
 #[test]
-fn sources_and_observed_points(rt: HostRuntime) -> Result<(), Fail> {
-    let alloc = rt.alloc();
-    let mut found = latches(alloc)?;
-    expect_names(
-        &rt,
-        sources(alloc, &found)?.as_slice(),
-        &["d", "e", "clk", "q", "s"],
-    );
-    expect_names(
-        &rt,
-        observed(alloc, &found)?.as_slice(),
-        &["q", "nd", "q", "g"],
-    );
-    found.clocks.push(name(alloc, "clk")?)?;
-    found.clocks.push(name(alloc, "c2")?)?;
-    expect_names(
-        &rt,
-        sources(alloc, &found)?.as_slice(),
-        &["d", "e", "clk", "c2", "q", "s"],
-    );
+fn sources_of_latches(rt: HostRuntime) -> Result<(), Fail> {
+    let mut found = two_latches(rt.alloc())?;
+    found.clocks.push(name(rt.alloc(), "clk")?)?;
+    let all = sources(rt.alloc(), &found)?;
+    expect_names(&rt, all.as_slice(), &["d", "e", "clk", "q", "s"]);
     Ok(())
 }
 
 #[test]
-fn models_that_are_not_well_formed(rt: HostRuntime) -> Result<(), Fail> {
-    let alloc = rt.alloc();
-    let mut covers = Listed::new(alloc);
-    covers.push(cover(alloc, &["u"], "z", &["1"], true)?)?;
-    let mut found = model(alloc, &["a"], &["z"], covers)?;
-    let formed = is_well_formed(alloc, &found)?;
-    assert!(rt; !formed);
-    found.inputs.push(name(alloc, "u")?)?;
-    let formed = is_well_formed(alloc, &found)?;
-    assert!(rt; formed);
-    found.clocks.push(name(alloc, "c\\")?)?;
-    let formed = is_well_formed(alloc, &found)?;
-    assert!(rt; !formed);
+fn observed_points_of_latches(rt: HostRuntime) -> Result<(), Fail> {
+    let found = two_latches(rt.alloc())?;
+    let all = observed(rt.alloc(), &found)?;
+    expect_names(&rt, all.as_slice(), &["q", "nd", "q", "g"]);
     Ok(())
 }

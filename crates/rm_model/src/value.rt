@@ -29,8 +29,9 @@ fn any_row_matches(rows: &[Row], values: &[bool]) -> bool
     rows.iter().any(|row| row_matches(row.items(), values))
 }
 
-/// The value of a cover's output where its inputs have these values, in order: with rows that end in `1`, whether some row matches; with
-/// rows that end in `0`, whether none does; without rows, false. It takes no memory.
+/// The value of a cover's output where its inputs have these values, in order: with rows that end
+/// in `1`, whether some row matches; with rows that end in `0`, whether none does; without rows,
+/// false. It takes no memory.
 pub fn cover_value(cover: &Cover, values: &[bool]) -> bool
     requires places { length values.now ≡ length cover.now.inputs }
     requires rows { All (λ r. length r ≡ length cover.now.inputs) cover.now.rows }

@@ -21,3 +21,10 @@ pub mod RuleAt
 pub mod Reading
 pub mod Marking
 pub mod Cycles
+pub mod Touching
+pub mod Editing
+pub mod Budgets
+pub mod TrialSteps
+pub mod Totalling
+pub mod Trying
+pub mod Meeting

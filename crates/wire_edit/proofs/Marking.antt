@@ -74,3 +74,11 @@ clear_none bs n x h k lt = elim (cases_eq k x) [
     at [] x = refl
     at (b ∷ bs) zero = refl
     at (b ∷ bs) (suc x) = at bs x
+
+pub few : (bs : List Bool) (k : ℕ) (b : Bool) → length bs ≤ 4294967295 → length (set bs k b) ≤ 4294967295
+few bs k b le = rw (set_count bs k b) le
+
+pub blank_all : (n k : ℕ) → is_marked (replicate n false) k ≡ false
+blank_all zero k = refl
+blank_all (suc n) zero = refl
+blank_all (suc n) (suc k) = blank_all n k

@@ -250,7 +250,7 @@ next_applies net step e =
     let r : IsRuleAt net k.0 step = some_rule net k.0 step k.1.1.0 in
     (r.tidying, applies_of net step r.tidying r.applies)
 
-live_below : (os : List (Option Node)) (x : ℕ) (n : Node) → flatten_option (slice_get os x) ≡ Some n → x < length os
+pub live_below : (os : List (Option Node)) (x : ℕ) (n : Node) → flatten_option (slice_get os x) ≡ Some n → x < length os
 live_below [] x n e = cc
 live_below (o ∷ os) zero n e = omega arith
 live_below (o ∷ os) (suc x) n e = let rest : x < length os = live_below os x n e in omega arith

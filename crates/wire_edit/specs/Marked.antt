@@ -27,3 +27,7 @@ IsQuiet net marks = (x : ℕ) → is_marked marks x ≡ false → rule_at net x 
 -- all that the change touches is marked
 abbrev pub MarksTouched : Net → Change → List Bool → Type 0
 MarksTouched net change marks = (x : ℕ) → IsTouched net change x → x < length marks → is_marked marks x ≡ true
+
+-- no mark is set
+abbrev pub IsBlank : List Bool → Type 0
+IsBlank marks = (k : ℕ) → is_marked marks k ≡ false

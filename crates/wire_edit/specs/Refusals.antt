@@ -96,3 +96,8 @@ abbrev pub room_after : Room → Step → Room
 room_after room (Add gate node) = record room { steps = room.steps - 1; pins = room.pins - 1 }
 room_after room (NewNot node) = record { steps = room.steps - 1; pins = room.pins - 1; nodes = room.nodes - 1 }
 room_after room _ = record room { steps = room.steps - 1 }
+
+-- how many nodes a step makes
+abbrev pub nodes_made : Step → ℕ
+nodes_made (NewNot node) = 1
+nodes_made _ = 0

@@ -1,5 +1,5 @@
 -- How many tidying steps may follow: a sum that falls with each.
-use Rattle.std.specs.Prelude.{◌≡◌, ℕ, zero, suc, ◌+◌, ◌*◌, ◌<◌, ◌≤◌, Bool, true, false, ◌&&◌, nat_lt, Option, Some, None, List, [], ◌∷◌, slice_get, length, sum_by, if◌then◌else◌}
+use Rattle.std.specs.Prelude.{◌≡◌, ℕ, zero, suc, ◌+◌, ◌-◌, ◌*◌, ◌<◌, ◌≤◌, Bool, true, false, ◌&&◌, nat_lt, Option, Some, None, List, [], ◌∷◌, slice_get, length, sum_by, if◌then◌else◌}
 use Rattle.gate_net.specs.Net.{Node, Net, drivers_in, drivers_of, Reads, wire_count, gate_count, IsWellFormed}
 use Rattle.wire_edit.specs.declared.steps.Step.{Step}
 use Rattle.wire_edit.specs.declared.steps.Step.TheVariants.{Add, Fix, NewNot}
@@ -77,3 +77,16 @@ pins_made _ = 0
 -- no other step makes wires
 abbrev pub WiresGrow : Type 0
 WiresGrow = (net : Net) (step : Step) → IsWellFormed net → Applies net step → wire_count (stepped net step) ≤ wire_count net + pins_made step
+
+-- so much room leaves a step for what comes next, and as much room after it; k is what may still be added
+abbrev pub RoomForTidying : Type 0
+RoomForTidying =
+    (net : Net) (step : Step) (k room : ℕ) → IsWellFormed net → next_step net ≡ Some step → work net + k ≤ room → (0 < room) × (work (stepped net step) + k ≤ room - 1)
+
+abbrev pub RoomForFixes : Type 0
+RoomForFixes =
+    (net : Net) (step : Step) (driver k room : ℕ) → IsWellFormed net → Applies net step → FixesPin net step driver → 1 < driver → work net + k ≤ room → (0 < room) × (work (stepped net step) + k ≤ room - 1)
+
+abbrev pub RoomForAdding : Type 0
+RoomForAdding =
+    (net : Net) (step : Step) (k room : ℕ) → IsWellFormed net → Applies net step → MakesPin step → work net + (most_raised step + 1 + k) ≤ room → (0 < room) × (work (stepped net step) + k ≤ room - 1)

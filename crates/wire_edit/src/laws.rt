@@ -1,7 +1,7 @@
 //! Laws of the steps.
 ghost use Rattle.std.specs.Prelude.{◌≡◌, Some, None, true, false};
 ghost use Rattle.wire_edit.specs.Laws.{StepsKeepForm, StepsKeepObserved, StepsKeepValues, AnswersApply, NextApplies, TidyMeans};
-ghost use Rattle.wire_edit.specs.Work.{TidyingEnds, FixesEnd, AddsRaise, WorkIsBounded, WiresGrow};
+ghost use Rattle.wire_edit.specs.Work.{TidyingEnds, FixesEnd, AddsRaise, WorkIsBounded, WiresGrow, RoomForTidying, RoomForFixes, RoomForAdding};
 ghost use Rattle.wire_edit.specs.Steps.{stepped};
 ghost use Rattle.wire_edit.specs.Refusals.{refusal_of};
 ghost use Rattle.wire_edit.specs.Order.{next_step};
@@ -33,6 +33,13 @@ pub fn tidying_ends()
     ensures adds { AddsRaise }
     ensures bounded { WorkIsBounded }
     ensures wires { WiresGrow }
+{}
+
+/// Room that covers the work left, and what may still be added, never ends before tidying does.
+pub fn room_suffices()
+    ensures tidying { RoomForTidying }
+    ensures fixes { RoomForFixes }
+    ensures adding { RoomForAdding }
 {}
 
 /// Rows that are worked out by hand.

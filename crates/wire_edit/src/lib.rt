@@ -2,6 +2,7 @@
 #![tactic(auto)]
 
 mod agenda;
+mod counts;
 mod edits;
 mod faults;
 mod laws;
@@ -11,9 +12,12 @@ mod refusal;
 mod room;
 mod rules;
 mod steps;
+mod touch;
+mod trial;
 
-pub use laws::{answers_apply, order_tells, steps_keep, tidying_ends, worked_rows};
+pub use laws::{answers_apply, order_tells, room_suffices, steps_keep, tidying_ends, worked_rows};
 pub use refusal::EditRefusal;
 pub use room::Room;
 pub use rules::first_rule;
 pub use steps::{Rule, Step};
+pub use trial::{BeginRefusal, Trial};

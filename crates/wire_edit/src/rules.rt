@@ -151,7 +151,7 @@ pub(crate) fn rule_with(graph: &Graph, gate: NodeId, repeated: Option<u32>) -> O
 }
 
 // The rule that comes first at a number.
-fn rule_at(graph: &Graph, gate: NodeId) -> Option<Step>
+pub(crate) fn rule_at(graph: &Graph, gate: NodeId) -> Option<Step>
     ensures { result ≡ rule_at (net_of graph.now) gate.0 }
 {
     if !is_gate(graph, gate) {

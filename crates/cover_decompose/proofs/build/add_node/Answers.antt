@@ -1,4 +1,4 @@
-use Rattle.std.proofs.Common.{◌≡◌, ◌<◌, ◌≤◌, ◌+◌, [], All, List, ap, arith, length, map, subst, sym, take, true, ℕ, ◌∙◌}
+use Rattle.std.proofs.Common.{◌≡◌, ◌<◌, ◌≤◌, ◌+◌, [], All, List, ap, length, map, subst, sym, take, true, ℕ, ◌∙◌}
 use Rattle.std.specs.Prelude.{Some, slice_get}
 use Rattle.gate_net.specs.Edits.{MakesGate}
 use Rattle.gate_net.specs.Net.{IsLive, Node}

@@ -1,6 +1,6 @@
-use Rattle.std.proofs.Common.{[], List, map, subst, sym, take, ◌+◌, ap, ◌∙◌}
+use Rattle.std.proofs.Common.{[], List, subst, sym, take, ◌+◌}
 use Rattle.gate_net.specs.Net.{Node}
-use Rattle.cover_decompose.specs.Built.{IsBuildable, IsBuilt}
+use Rattle.cover_decompose.specs.Built.{IsBuilt}
 use Rattle.cover_decompose.proofs.Fitting.{start_built}
 use Rattle.cover_decompose.proofs.build.build.Goals as goal
 

@@ -1,11 +1,11 @@
-use Rattle.std.proofs.Common.{◌≡◌, ◌<◌, ◌≤◌, ◌+◌, ◌++◌, ◌∷◌, [], All, List, ap, arith, get_or, length, map, subst, sym, take, ℕ, ◌∙◌}
+use Rattle.std.proofs.Common.{◌≡◌, ◌<◌, ◌++◌, ◌∷◌, [], List, ap, get_or, length, map, subst, sym, take, ℕ, ◌∙◌}
 use Rattle.std.specs.Prelude.{Some, slice_get, slice_index}
 use Rattle.std.proofs.lemmas.Option.{slice_get-get_or}
 use Rattle.gate_net.specs.Net.{IsLive}
-use Rattle.gate_graph.specs.Circuit.{net_of, pins_taken}
+use Rattle.gate_graph.specs.Circuit.{net_of}
 use Rattle.cover_decompose.specs.Built.{IsBuilt}
 use Rattle.cover_decompose.proofs.Building.{observed_built}
-use Rattle.cover_decompose.proofs.Fitting.{node_live, take_push, map_push}
+use Rattle.cover_decompose.proofs.Fitting.{node_live, map_push}
 use Rattle.cover_decompose.proofs.build.observe.Goals as goal
 
 pub observe-requires-clause-node : goal.observe-requires-clause-node

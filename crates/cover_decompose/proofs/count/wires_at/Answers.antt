@@ -1,8 +1,6 @@
-use Rattle.std.proofs.Common.{◌≡◌, ◌<◌, ◌^◌, All, Global, List, Vec, ap, arith, get_or, length, map, ℕ, subst, sym, ◌∙◌, refl}
-use Rattle.std.specs.Prelude.{Option, Some, slice_get}
-use Rattle.rm_model.specs.declared.parts.Cover.{Cover}
+use Rattle.std.proofs.Common.{◌≡◌, ◌<◌, All, Global, List, Vec, ap, arith, length, map, ℕ, subst, sym, ◌∙◌}
 use Rattle.rm_model.specs.declared.parts.Literal.{Literal}
-use Rattle.cover_decompose.specs.Tally.{cover_tally, one_tally}
+use Rattle.cover_decompose.specs.Tally.{cover_tally}
 use Rattle.cover_decompose.proofs.Steps.{even_at, even_length, item_or, item_there, length_items, tally_there, there}
 use Rattle.cover_decompose.proofs.count.wires_at.Goals as goal
 

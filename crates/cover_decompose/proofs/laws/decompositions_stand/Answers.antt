@@ -1,4 +1,3 @@
-use Rattle.std.proofs.Common.{refl}
 use Rattle.cover_decompose.proofs.Points.{points}
 use Rattle.cover_decompose.proofs.Counted.{wires_are, observed_count}
 use Rattle.cover_decompose.proofs.Stands.{observed_values}

@@ -1,5 +1,4 @@
 use Rattle.cover_decompose.proofs.Counted.{taken_are_needed, taken_in_order}
-use Rattle.cover_decompose.proofs.Choosing.{covers_tally_match}
 use Rattle.cover_decompose.proofs.laws.needed_covers_are_taken.Goals as goal
 
 pub returns-clause-taken : goal.returns-clause-taken

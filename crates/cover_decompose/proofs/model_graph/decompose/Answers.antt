@@ -1,4 +1,4 @@
-use Rattle.std.proofs.Common.{◌≡◌, ◌≤◌, arith}
+use Rattle.std.proofs.Common.{◌≡◌, arith}
 use Rattle.cover_decompose.specs.Count.{decomposed}
 use Rattle.cover_decompose.proofs.Whole.{IsWhole, whole}
 use Rattle.cover_decompose.proofs.model_graph.decompose.Goals as goal

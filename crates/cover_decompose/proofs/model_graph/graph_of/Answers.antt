@@ -4,14 +4,13 @@ use Rattle.gate_net.specs.Net.{Node}
 use Rattle.rm_model.specs.Value.{observed_names, source_names}
 use Rattle.cover_decompose.specs.Built.{IsBuilt}
 use Rattle.cover_decompose.specs.Decomposition.{last_state}
-use Rattle.cover_decompose.proofs.NumberingLemmas.{all_same}
 use Rattle.cover_decompose.proofs.Whole.{buildable, observed_below, observed_few}
 use Rattle.cover_decompose.proofs.model_graph.graph_of.Goals as goal
 
 pub build-requires-clause-plan : goal.build-requires-clause-plan
 build-requires-clause-plan c =
     buildable c.args.model.now c.args.numbering.now.sources c.in_ok-plan.plan.made c.in_ok-plan.ensures.made c.requires.sources c.requires.few_sources
-      (c.decompositions_stand.ensures.wires c.args.model.now c.requires.formed c.requires.ranked) c.requires.few_pins
+    (c.decompositions_stand.ensures.wires c.args.model.now c.requires.formed c.requires.ranked) c.requires.few_pins
 
 pub build-requires-clause-signals : goal.build-requires-clause-signals
 build-requires-clause-signals c =
@@ -19,12 +18,12 @@ build-requires-clause-signals c =
     let sources : c.args.numbering.now.sources ≡ length (source_names c.args.model.now) = c.requires.sources in
     let same : length (source_names c.args.model.now) + length c.args.model.now.covers ≡ length c.in_ok-plan.plan.nodes = omega arith in
     subst (λ (l : List ℕ). All (λ k. k < length c.in_ok-plan.plan.nodes) l) (sym c.as_slice.ensures.value)
-      (subst (λ (n : ℕ). All (λ k. k < n) c.args.numbering.now.observed.items) same c.requires.numbered.points_within)
+    (subst (λ (n : ℕ). All (λ k. k < n) c.args.numbering.now.observed.items) same c.requires.numbered.points_within)
 
 pub build-requires-clause-nodes : goal.build-requires-clause-nodes
 build-requires-clause-nodes c =
     subst (λ (l : List ℕ). All (λ k. slice_index c.in_ok-plan.plan.nodes k < length c.in_ok-plan.plan.made) l) (sym c.as_slice.ensures.value)
-      (observed_below c.args.model.now c.in_ok-plan.plan.nodes c.args.numbering.now.observed.items c.in_ok-plan.plan.made c.in_ok-plan.ensures.made c.in_ok-plan.ensures.observed)
+    (observed_below c.args.model.now c.in_ok-plan.plan.nodes c.args.numbering.now.observed.items c.in_ok-plan.plan.made c.in_ok-plan.ensures.made c.in_ok-plan.ensures.observed)
 
 pub build-requires-clause-few : goal.build-requires-clause-few
 build-requires-clause-few c =
@@ -36,5 +35,5 @@ build-requires-clause-few c =
 pub returns : goal.returns
 returns c =
     subst (λ (l : List ℕ). IsBuilt c.in_ok-graph.graph (last_state c.args.model.now).made l)
-      (ap (λ (l : List ℕ). map (slice_index c.in_ok-plan.plan.nodes) l) c.as_slice.ensures.value ∙ c.in_ok-plan.ensures.observed)
-      (subst (λ (l : List Node). IsBuilt c.in_ok-graph.graph l (map (slice_index c.in_ok-plan.plan.nodes) c.as_slice.result.now)) c.in_ok-plan.ensures.made c.in_ok-graph.ensures)
+    (ap (λ (l : List ℕ). map (slice_index c.in_ok-plan.plan.nodes) l) c.as_slice.ensures.value ∙ c.in_ok-plan.ensures.observed)
+    (subst (λ (l : List Node). IsBuilt c.in_ok-graph.graph l (map (slice_index c.in_ok-plan.plan.nodes) c.as_slice.result.now)) c.in_ok-plan.ensures.made c.in_ok-graph.ensures)

@@ -1,4 +1,4 @@
-use Rattle.std.proofs.Common.{◌≡◌, ◌++◌, ◌<◌, List, ap, get_or, length, map, refl, sym, take, ◌∙◌, false}
+use Rattle.std.proofs.Common.{◌++◌, ◌<◌, List, ap, length, map, ◌∙◌}
 use Rattle.rm_model.specs.Words.{Word}
 use Rattle.rm_model.specs.Value.{is_among}
 use Rattle.rm_model.specs.declared.parts.Cover.{Cover}

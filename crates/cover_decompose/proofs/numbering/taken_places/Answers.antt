@@ -1,15 +1,7 @@
-use Rattle.std.proofs.Common.{◌≡◌, ◌<◌, ◌≤◌, ◌+◌, All, Bool, Global, List, Option, Some, Vec, ap, arith, false, get_or, length, map, replicate, subst, sym, true, ℕ, ◌∙◌}
-use Rattle.rm_model.specs.Ranks.{ranks_of}
-use Rattle.rm_model.specs.Value.{is_among, observed_names, source_names}
-use Rattle.rm_model.specs.Words.{Word}
-use Rattle.rm_model.specs.WellFormed.{driven_names}
-use Rattle.rm_model.specs.declared.parts.Cover.{Cover}
-use Rattle.std.specs.List.{list_all}
-use Rattle.cover_decompose.specs.Signals.{signal_of}
-use Rattle.cover_decompose.specs.Tally.{AreEven, covers_tally}
-use Rattle.cover_decompose.proofs.NumberingLemmas.{all_same, all_unmapped, in_order, inputs_driven, marks_count, numbered, observed_driven, places_bound, rank_count, ranks_small, taken_result, wires_result}
+use Rattle.std.proofs.Common.{◌≡◌, ◌<◌, ◌+◌, All, Bool, Global, List, Vec, ap, arith, get_or, length, map, subst, sym, ℕ, ◌∙◌}
+use Rattle.rm_model.specs.Value.{source_names}
+use Rattle.cover_decompose.proofs.NumberingLemmas.{all_same, all_unmapped, marks_count, places_bound, taken_result}
 use Rattle.cover_decompose.proofs.Steps.{length_items}
-use Rattle.cover_decompose.proofs.Matching.{signals_from}
 use Rattle.cover_decompose.proofs.numbering.taken_places.Goals as goal
 
 pub needed-requires-clause-places : goal.needed-requires-clause-places

@@ -13,10 +13,13 @@ gate_of-requires c =
 
 pub returns-then-gate_of-eq0-clause-found : goal.returns-then-gate_of-eq0-clause-found
 returns-then-gate_of-eq0-clause-found c e =
-    let i = c.loop-pin.invariant in
-    (c.in-Some.pin.0, (
+    let i = c.loop-pin.invariant in (
+      c.in-Some.pin.0,
+      (
         has-middle _ (map (λ (p : PinNo). p.0) c.loop-pin.yielded) c.next.new.self c.in-Some.pin.0 (i.all ∙ ap (λ (l : List ℕ). map (λ (p : PinNo). p.0) c.loop-pin.yielded ++ l) c.in-Some.ensures.steps),
-        ap (λ (n : ℕ). has c.in-Some.pin.0 (list_of c.args.pool.now.inputs n)) (sym c.if-gate_of-eq0.true) ∙ c.gate_of.ensures.gate))
+        ap (λ (n : ℕ). has c.in-Some.pin.0 (list_of c.args.pool.now.inputs n)) (sym c.if-gate_of-eq0.true) ∙ c.gate_of.ensures.gate,
+      ),
+    )
 
 pub loop-pin-preserved : goal.loop-pin-preserved
 loop-pin-preserved c =

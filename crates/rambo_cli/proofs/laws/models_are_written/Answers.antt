@@ -1,9 +1,9 @@
 use Rattle.rambo_cli.proofs.Tidied.{TidyLaws}
-use Rattle.rambo_cli.proofs.Composed.{fits, written}
+use Rattle.rambo_cli.proofs.Composed.{written}
 use Rattle.rambo_cli.proofs.laws.models_are_written.Goals as goal
 
 pub returns : goal.returns
-returns c = λ sources m last model ranked parts tidied few.
+returns c = λ m last model ranked parts tidied few.
     let laws : TidyLaws = record {
       exist = c.values_exist.ensures;
       form = c.steps_keep.ensures.form;
@@ -11,7 +11,6 @@ returns c = λ sources m last model ranked parts tidied few.
       values = c.steps_keep.ensures.values;
       next = c.order_tells.ensures.next;
       wires = c.tidying_ends.ensures.wires;
-      sources = sources;
+      sources = c.steps_keep.ensures.sources;
     } in
-    (written laws m last model parts tidied few c.tidy_nets_have_models.ensures c.written_texts_read.ensures c.read_texts_are_faultless.ensures ranked,
-      fits laws m last model parts tidied few)
+    written laws m last parts tidied model few c.tidy_nets_have_models.ensures c.written_texts_read.ensures c.read_texts_are_faultless.ensures ranked

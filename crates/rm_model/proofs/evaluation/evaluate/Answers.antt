@@ -1,4 +1,4 @@
-use Rattle.std.proofs.Common.{◌≡◌, ◌∙◌, ap, sym, subst, map, List, ℕ, Option, None}
+use Rattle.std.proofs.Common.{◌≡◌, ◌∙◌, ap, sym, subst, map, List, ℕ, None}
 use Rattle.std.specs.Prelude.{position, is_none}
 use Rattle.rm_model.specs.Numbers.{drivers_of}
 use Rattle.rm_model.specs.Ranks.{first_without_rank}

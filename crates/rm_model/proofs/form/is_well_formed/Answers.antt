@@ -1,4 +1,4 @@
-use Rattle.std.proofs.Common.{◌∙◌, sym}
+use Rattle.std.proofs.Common.{◌∙◌}
 use Rattle.rm_model.proofs.FormLemmas.{formed-exactly, used-among}
 use Rattle.rm_model.proofs.form.is_well_formed.Goals as goal
 

@@ -1,6 +1,5 @@
-use Rattle.std.proofs.Common.{rules, sym, ◌≡◌, [], ◌∷◌, ◌++◌, length, map, slice_set, ap, ◌∙◌, List, ℕ, Vec, Global, get_or}
+use Rattle.std.proofs.Common.{sym, [], ◌∷◌, ◌++◌, map, slice_set, ap, ◌∙◌, List, ℕ, Vec, Global}
 use Rattle.std.proofs.lemmas.List.{map-set, get_or-map}
-use Rattle.rm_model.specs.Search.{list_at}
 use Rattle.rm_model.proofs.rank_search.add_waiting.Goals as goal
 
 pub returns : goal.returns

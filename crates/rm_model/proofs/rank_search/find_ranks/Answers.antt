@@ -1,4 +1,4 @@
-use Rattle.std.proofs.Common.{◌≡◌, ◌<◌, map, Vec, Global, List, ℕ, length, arith, subst, sym}
+use Rattle.std.proofs.Common.{map, Vec, Global, List, ℕ, length, arith, subst, sym}
 use Rattle.std.proofs.lemmas.List.{length-map}
 use Rattle.rm_model.specs.Search.{State, IsSound}
 use Rattle.rm_model.specs.SearchView.{state_of}

@@ -1,5 +1,5 @@
-use Rattle.std.proofs.Common.{rules, ◌≡◌, [], ◌∷◌, ◌++◌, length, map, slice_set, ap, ◌∙◌, List, ℕ, Vec, Global, get_or}
-use Rattle.std.proofs.lemmas.List.{map-set, get_or-map}
+use Rattle.std.proofs.Common.{map, slice_set, ap, ◌∙◌, List, ℕ, Vec, Global}
+use Rattle.std.proofs.lemmas.List.{map-set}
 use Rattle.rm_model.proofs.rank_search.take_waiting.Goals as goal
 
 pub returns-clause-left : goal.returns-clause-left

@@ -1,4 +1,4 @@
-use Rattle.std.proofs.Common.{◌≡◌, map, Vec, Global, List, ℕ, Option, Some, subst, sym, ap, ◌∙◌, Bool, true, IfOk, IfErr}
+use Rattle.std.proofs.Common.{◌≡◌, map, Vec, Global, List, ℕ, Option, Some, subst, sym, ◌∙◌, true, IfOk, IfErr}
 use Rattle.std.specs.Prelude.{position, is_none}
 use Rattle.rm_model.specs.Numbers.{IsFixed}
 use Rattle.rm_model.specs.Ranks.{ranks_of, AreRanks}

@@ -1,4 +1,4 @@
-use Rattle.std.proofs.Common.{◌≡◌, map, Vec, Global, List, ℕ, Option, subst, sym, ap, ◌∙◌}
+use Rattle.std.proofs.Common.{◌≡◌, map, Vec, Global, List, ℕ, subst, sym, ap, ◌∙◌}
 use Rattle.rm_model.specs.Search.{AreKnown}
 use Rattle.rm_model.specs.Numbers.{rank_over, drivers_of, IsFixed}
 use Rattle.rm_model.specs.declared.rank_search.Search.{Search}

@@ -1,5 +1,4 @@
-use Rattle.std.proofs.Common.{◌≡◌, ◌+◌, ◌++◌, List, None, Option, ap, sym, arith, length, replicate, ℕ, ◌∙◌}
-use Rattle.cover_decompose.specs.Plan.{counting}
+use Rattle.std.proofs.Common.{List, Option, ap, sym, length, ℕ, ◌∙◌}
 use Rattle.cover_decompose.proofs.PlanSteps.{start-even}
 use Rattle.cover_decompose.proofs.plan.Plan.start.Goals as goal
 

@@ -4,7 +4,6 @@ use Rattle.pin_pool.specs.Pins.{list_of}
 use Rattle.gate_graph.specs.Circuit.{Circuit, IsGraph, reader, without_observed}
 use Rattle.gate_graph.proofs.KindAt.{kind-within}
 use Rattle.gate_graph.proofs.LeadOns.{live-in}
-
 use Rattle.gate_graph.proofs.Placed.{fanouts-are}
 use Rattle.gate_graph.proofs.state.Graph.fanouts_of.Goals as goal
 
@@ -20,10 +19,12 @@ invariant_of-result c =
     let i = c.self.inside in
     let v : Circuit = record { kinds = i.kinds.items; pool = i.pool; epoch = i.epoch } in
     let g : IsGraph v = c.self.invariant.0 in
-    let rings = rw (← c.self.view_is) at c.tell.ensures.rings in
-    (rings, λ p h. (
-        let there : has p (list_of i.pool.fanouts c.args.node.0) ≡ true = ap (has p) (sym c.fanouts.ensures.list) ∙ h in
-        g.wired.shape.read c.args.node.0 p there))
+    let rings = rw (← c.self.view_is) at c.tell.ensures.rings in (
+      rings,
+      λ p h. (
+          let there : has p (list_of i.pool.fanouts c.args.node.0) ≡ true = ap (has p) (sym c.fanouts.ensures.list) ∙ h in
+          g.wired.shape.read c.args.node.0 p there),
+    )
 
 pub returns : goal.returns
 returns c =

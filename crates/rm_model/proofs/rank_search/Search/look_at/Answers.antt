@@ -1,4 +1,4 @@
-use Rattle.std.proofs.Common.{map, Vec, Global, List, ℕ, inl}
+use Rattle.std.proofs.Common.{map, Vec, Global, ℕ, inl}
 use Rattle.rm_model.specs.SearchView.{state_of}
 use Rattle.rm_model.specs.Ranks.{rank_at}
 use Rattle.rm_model.proofs.SearchLemmas.{leads-stays}

@@ -1,9 +1,9 @@
-use Rattle.std.proofs.Common.{◌≡◌, ◌<◌, ℕ, Some, map, Vec, Global, List, length, arith, get_or, subst, sym, ap, ◌∙◌, refl}
+use Rattle.std.proofs.Common.{◌≡◌, ℕ, Some, map, Vec, Global, List, arith, get_or, subst, sym, ◌∙◌, refl}
 use Rattle.std.specs.Prelude.{slice_get}
 use Rattle.std.proofs.lemmas.List.{length-map}
 use Rattle.std.proofs.lemmas.Option.{slice_get-get_or, slice_get_read}
 use Rattle.std.proofs.lemmas.Result.{on_ok_weaker}
-use Rattle.rm_model.specs.Search.{State, IsSound, LeadsTo, IsIn, list_at, woken}
+use Rattle.rm_model.specs.Search.{State, IsSound, LeadsTo, list_at}
 use Rattle.rm_model.specs.SearchView.{state_of}
 use Rattle.rm_model.proofs.SearchLemmas.{order-known, woken-sound}
 use Rattle.rm_model.proofs.LookLemmas.{settled-woken, on_ok_both}

@@ -1,4 +1,4 @@
-use Rattle.std.proofs.Common.{◌≤◌, map, Vec, Global, List, ℕ, arith, length}
+use Rattle.std.proofs.Common.{map, Vec, Global, List, ℕ, arith, length}
 use Rattle.std.proofs.lemmas.List.{length-map}
 use Rattle.rm_model.specs.SearchView.{state_of}
 use Rattle.rm_model.proofs.SearchLemmas.{order-short}

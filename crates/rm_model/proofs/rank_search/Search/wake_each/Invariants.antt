@@ -1,4 +1,4 @@
-use Rattle.std.proofs.Common.{◌≡◌, ◌<◌, ◌≤◌, ◌-◌, ℕ, length, map, Some}
+use Rattle.std.proofs.Common.{◌<◌, ◌-◌, ℕ, length, map}
 use Rattle.rm_model.specs.Search.{IsSettled, IsSound}
 use Rattle.rm_model.specs.SearchView.{state_of}
 use Rattle.rm_model.proofs.rank_search.Search.wake_each.Given as goal

@@ -15,6 +15,7 @@ loop-self-preserved c =
     let lt : i.low < length i.marks.items = omega (arith, c.loop-self-test.true, c.len.ensures, i.marks.ok.0) in
     record {
       none = none_next i.marks.items i.low c.loop-self.invariant.none (sym (marked_is i.marks.items i.low c.index.result.now lt) ∙ sym c.index.ensures ∙ c.if-index.false);
+      few = c.loop-self.invariant.few;
       same = c.loop-self.invariant.same;
     }
 

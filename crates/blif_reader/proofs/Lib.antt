@@ -1,0 +1,13 @@
+pub mod Compared
+pub mod Plays
+pub mod TallyLaws
+pub mod Maps
+pub mod Free
+pub mod PartLaws
+pub mod LineLaws
+pub mod LatchLaws
+pub mod RowLaws
+pub mod GrammarLaws
+pub mod DraftLaws
+pub mod KnownLaws
+pub mod ReadLaws

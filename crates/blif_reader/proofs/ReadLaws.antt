@@ -1,0 +1,169 @@
+-- How reading goes on.
+use Rattle.std.proofs.Common.{◌≡◌, ◌≢◌, ℕ, zero, suc, List, [], ◌∷◌, ◌++◌, map, filter, length, Bool, true, false, not, ◌&&◌, ◌||◌, inl, inr, refl, sym, ◌∙◌, ap, subst, append_assoc, Option, None, Some, Result, Ok, Err}
+use Rattle.std.specs.Prelude.{if◌then◌else◌, codes, OnOk}
+use Rattle.std.specs.List.{filter_map, cons_option}
+use Rattle.std.specs.Option.{option_map}
+use Rattle.std.proofs.lemmas.List.Elements.{filter_map-append}
+use Rattle.rm_base.specs.declared.numbers.Place.{Place}
+use Rattle.rm_base.specs.declared.numbers.NoMemory.{NoMemory as Want}
+use Rattle.rm_model.specs.Words.{Word, is_word}
+use Rattle.rm_model.specs.declared.parts.Cover.{Cover}
+use Rattle.blif_lines.specs.Layout.{Spot, Flaw, BadByteAt, OpenJoinAt, Logical, layout, lines_of, words_in, has_words}
+use Rattle.blif_lines.specs.Reading.{pending, spot_of, StandsFirst}
+use Rattle.blif_lines.specs.declared.line.Token.{Token}
+use Rattle.blif_format.specs.Text.{Line}
+use Rattle.blif_format.specs.Grammar.{names_lines, begins_with, words_after}
+use Rattle.blif_format.specs.Uses.{Command, command_of}
+use Rattle.blif_format.specs.FirstFault.{Said, OpenCover as SaidCover, nothing_said, or_else, fault, fault_if, flaw_fault, words_fault, after_line, lines_fault, said_by, cover_in, cover_names, row_fault}
+use Rattle.blif_format.specs.declared.refusal.FaultKind.TheVariants.{BadByte, OpenJoin, NoModel}
+use Rattle.blif_format.specs.declared.refusal.ReadRefusal.{ReadRefusal}
+use Rattle.blif_format.specs.declared.refusal.ReadRefusal.TheVariants.{Fault, Limit, NoMemory}
+use Rattle.blif_reader.specs.Lines.{words_at}
+use Rattle.blif_reader.specs.Said.{IsSaid}
+use Rattle.blif_reader.specs.Drafts.{IsDraft, IsKnown, Changes, CurrentIs, AddsRow}
+use Rattle.blif_reader.specs.Progress.{bare_cover, Progress, IsRead, places_with}
+use Rattle.blif_reader.specs.Meant.{IsRefusal}
+use Rattle.blif_reader.specs.declared.check.Checker.{Checker}
+use Rattle.blif_reader.specs.declared.draft.Draft.{Draft}
+use Rattle.blif_reader.proofs.KnownLaws.{command_added, row_added}
+
+pub words_same : (text : List ℕ) (ws : List Token) → map (λ (t : Spot). t.word) (map (spot_of text) ws) ≡ words_at text ws
+words_same text [] = refl
+words_same text (w ∷ ws) = ap (λ (xs : List Word). (spot_of text w).word ∷ xs) (words_same text ws)
+
+pub added_command : (r : Result (Unit {0}) Want) (text : List ℕ) (said : Said) (lines : List Line) (d e : Draft) (first : Token) (rest : List Token) (k : Command) → IsDraft said lines d → words_fault said (spot_of text first ∷ map (spot_of text) rest) ≡ None → command_of (spot_of text first).word ≡ Some k → (IsKnown k (words_at text rest) → OnOk r (Changes k (words_at text rest) d e)) → OnOk r (IsDraft (after_line said (spot_of text first ∷ map (spot_of text) rest)) (lines ++ ((spot_of text first).word ∷ words_at text rest) ∷ []) e)
+added_command (Ok u) text said lines d e first rest k is none h f =
+    subst (λ (ws : List Word). IsDraft (after_line said (spot_of text first ∷ map (spot_of text) rest)) (lines ++ ((spot_of text first).word ∷ ws) ∷ []) e) (words_same text rest)
+    (command_added said lines d e (spot_of text first) (map (spot_of text) rest) k is none h (subst (λ (ws : List Word). IsKnown k ws → Changes k ws d e) (sym (words_same text rest)) f))
+added_command (Err x) text said lines d e first rest k is none h f = tt
+
+pub added_row : (r : Result (Unit {0}) Want) (text : List ℕ) (said : Said) (lines : List Line) (d e : Draft) (first : Token) (rest : List Token) → IsDraft said lines d → words_fault said (spot_of text first ∷ map (spot_of text) rest) ≡ None → command_of (spot_of text first).word ≡ None → ((o : SaidCover) → CurrentIs (Some o) d.current → row_fault o (spot_of text first) (map (spot_of text) rest) ≡ None → OnOk r (AddsRow (spot_of text first) (map (spot_of text) rest) o d e)) → OnOk r (IsDraft (after_line said (spot_of text first ∷ map (spot_of text) rest)) (lines ++ ((spot_of text first).word ∷ words_at text rest) ∷ []) e)
+added_row (Ok u) text said lines d e first rest is none h f =
+    subst (λ (ws : List Word). IsDraft (after_line said (spot_of text first ∷ map (spot_of text) rest)) (lines ++ ((spot_of text first).word ∷ ws) ∷ []) e) (words_same text rest)
+    (row_added said lines d e (spot_of text first) (map (spot_of text) rest) is none h f)
+added_row (Err x) text said lines d e first rest is none h f = tt
+
+-- lines without tokens and flaw
+pending_fault : (said : Said) (ls : List Logical) → lines_fault said ls ≡ lines_fault said (pending ls)
+pending_fault said [] = refl
+pending_fault said (l ∷ ls) = at l.tokens l.flaw refl refl (pending_fault said ls)
+  where
+    at : (ts : List Spot) (f : Option Flaw) → l.tokens ≡ ts → l.flaw ≡ f → lines_fault said ls ≡ lines_fault said (pending ls) → lines_fault said (l ∷ ls) ≡ lines_fault said (pending (l ∷ ls))
+    at [] None e g ih = rw (e, g) ih
+    at [] (Some f) e g ih = rw (e, g) refl
+    at (t ∷ ts) f e g ih = rw e refl
+
+pending_said : (said : Said) (ls : List Logical) → said_by said ls ≡ said_by said (pending ls)
+pending_said said [] = refl
+pending_said said (l ∷ ls) = at l.tokens l.flaw refl refl (pending_said said ls)
+  where
+    at : (ts : List Spot) (f : Option Flaw) → l.tokens ≡ ts → l.flaw ≡ f → said_by said ls ≡ said_by said (pending ls) → said_by said (l ∷ ls) ≡ said_by said (pending (l ∷ ls))
+    at [] None e g ih = rw (e, g) ih
+    at [] (Some f) e g ih = rw (e, g) refl
+    at (t ∷ ts) f e g ih = rw e refl
+
+pending_words : (ls : List Logical) → filter has_words (map words_in ls) ≡ filter has_words (map words_in (pending ls))
+pending_words [] = refl
+pending_words (l ∷ ls) = at l.tokens l.flaw refl refl (pending_words ls)
+  where
+    at : (ts : List Spot) (f : Option Flaw) → l.tokens ≡ ts → l.flaw ≡ f → filter has_words (map words_in ls) ≡ filter has_words (map words_in (pending ls)) → filter has_words (map words_in (l ∷ ls)) ≡ filter has_words (map words_in (pending (l ∷ ls)))
+    at [] None e g ih = rw (e, g) ih
+    at [] (Some f) e g ih = rw (e, g) refl
+    at (t ∷ ts) f e g ih = rw e refl
+
+pending_covers : (ls : List Logical) → filter_map cover_in ls ≡ filter_map cover_in (pending ls)
+pending_covers [] = refl
+pending_covers (l ∷ ls) = at l.tokens l.flaw refl refl (pending_covers ls)
+  where
+    at : (ts : List Spot) (f : Option Flaw) → l.tokens ≡ ts → l.flaw ≡ f → filter_map cover_in ls ≡ filter_map cover_in (pending ls) → filter_map cover_in (l ∷ ls) ≡ filter_map cover_in (pending (l ∷ ls))
+    at [] None e g ih = rw (e, g) ih
+    at [] (Some f) e g ih = rw (e, g) refl
+    at (t ∷ ts) f e g ih = rw e refl
+
+-- covers by their words alone
+bare_names : (ls : List Line) (l : Line) → begins_with (codes ".names") l ≡ true → map bare_cover (names_lines (ls ++ l ∷ [])) ≡ map bare_cover (names_lines ls) ++ cover_names (words_after l) ∷ []
+bare_names [] l e = rw e refl
+bare_names (k ∷ ks) l e = at (begins_with (codes ".names") k) refl (bare_names ks l e)
+  where
+    at : (t : Bool) → begins_with (codes ".names") k ≡ t → map bare_cover (names_lines (ks ++ l ∷ [])) ≡ map bare_cover (names_lines ks) ++ cover_names (words_after l) ∷ [] → map bare_cover (names_lines ((k ∷ ks) ++ l ∷ [])) ≡ map bare_cover (names_lines (k ∷ ks)) ++ cover_names (words_after l) ∷ []
+    at true i ih = rw i (ap (λ (cs : List Cover). cover_names (words_after k) ∷ cs) ih)
+    at false i ih = rw i ih
+
+bare_other : (ls : List Line) (l : Line) → begins_with (codes ".names") l ≡ false → map bare_cover (names_lines (ls ++ l ∷ [])) ≡ map bare_cover (names_lines ls)
+bare_other [] l e = rw e refl
+bare_other (k ∷ ks) l e = at (begins_with (codes ".names") k) refl (bare_other ks l e)
+  where
+    at : (t : Bool) → begins_with (codes ".names") k ≡ t → map bare_cover (names_lines (ks ++ l ∷ [])) ≡ map bare_cover (names_lines ks) → map bare_cover (names_lines ((k ∷ ks) ++ l ∷ [])) ≡ map bare_cover (names_lines (k ∷ ks))
+    at true i ih = rw i (ap (λ (cs : List Cover). cover_names (words_after k) ∷ cs) ih)
+    at false i ih = rw i ih
+
+map_more : {A B : Type 0} (f : A → B) (xs : List A) (y : A) → map f (xs ++ y ∷ []) ≡ map f xs ++ f y ∷ []
+map_more f [] y = refl
+map_more f (x ∷ xs) y = ap (λ zs. f x ∷ zs) (map_more f xs y)
+
+abbrev line_of : List ℕ → Token → List Token → Logical
+line_of text first rest = record { tokens = spot_of text first ∷ map (spot_of text) rest; flaw = None }
+
+pub progress_step : (text : List ℕ) (ls ms : List Logical) (c c' : Checker) (d d' : Draft) (places places' : List Place) (first : Token) (rest : List Token) → (p : Progress text ls c d places) → pending ls ≡ line_of text first rest ∷ ms → words_fault p.said (spot_of text first ∷ map (spot_of text) rest) ≡ None → IsSaid (after_line p.said (spot_of text first ∷ map (spot_of text) rest)) c' → IsDraft (after_line p.said (spot_of text first ∷ map (spot_of text) rest)) (p.lines ++ ((spot_of text first).word ∷ words_at text rest) ∷ []) d' → places' ≡ places_with text first places → Progress text ms c' d' places'
+progress_step text ls ms c c' d d' places places' first rest p e none said drafted far = at (is_word (codes ".names") (spot_of text first).word) refl
+  where
+    toks : List Spot
+    toks = spot_of text first ∷ map (spot_of text) rest
+    faults : lines_fault nothing_said (layout text) ≡ lines_fault (after_line p.said (spot_of text first ∷ map (spot_of text) rest)) ms
+    faults = p.faults ∙ pending_fault p.said ls ∙ ap (lines_fault p.said) e ∙ ap (λ (o : Option ReadRefusal). or_else o (lines_fault (after_line p.said (spot_of text first ∷ map (spot_of text) rest)) ms)) none
+    uses : said_by nothing_said (layout text) ≡ said_by (after_line p.said (spot_of text first ∷ map (spot_of text) rest)) ms
+    uses = p.uses ∙ pending_said p.said ls ∙ ap (said_by p.said) e
+    words : lines_of text ≡ (p.lines ++ ((spot_of text first).word ∷ words_at text rest) ∷ []) ++ filter has_words (map words_in ms)
+    words =
+      p.words
+      ∙ ap (λ (xs : List Line). p.lines ++ xs) (pending_words ls ∙ ap (λ (ns : List Logical). filter has_words (map words_in ns)) e ∙ ap (λ (ws : List Word). ((spot_of text first).word ∷ ws) ∷ filter has_words (map words_in ms)) (words_same text rest))
+      ∙ sym (append_assoc p.lines (((spot_of text first).word ∷ words_at text rest) ∷ []) (filter has_words (map words_in ms)))
+    covers : filter_map cover_in (layout text) ≡ p.named ++ filter_map cover_in (line_of text first rest ∷ ms)
+    covers = p.covers ∙ ap (λ (xs : List (Place × Cover)). p.named ++ xs) (pending_covers ls ∙ ap (filter_map cover_in) e)
+    at : (t : Bool) → is_word (codes ".names") (spot_of text first).word ≡ t → Progress text ms c' d' places'
+    at true i = record {
+      said = after_line p.said (spot_of text first ∷ map (spot_of text) rest);
+      lines = p.lines ++ ((spot_of text first).word ∷ words_at text rest) ∷ [];
+      named = p.named ++ (first.place, cover_names (words_at text rest)) ∷ [];
+      faults = faults;
+      uses = uses;
+      words = words;
+      covers =
+        covers
+        ∙ ap (λ (t : Bool). p.named ++ cons_option (if t then Some (first.place, cover_names (map (λ (s : Spot). s.word) (map (spot_of text) rest))) else None) (filter_map cover_in ms)) i
+        ∙ ap (λ (ws : List Word). p.named ++ (first.place, cover_names ws) ∷ filter_map cover_in ms) (words_same text rest)
+        ∙ sym (append_assoc p.named ((first.place, cover_names (words_at text rest)) ∷ []) (filter_map cover_in ms));
+      places_are =
+        map_more (λ (x : Place × Cover). x.0) p.named (first.place, cover_names (words_at text rest))
+        ∙ ap (λ (ps : List Place). ps ++ first.place ∷ []) p.places_are
+        ∙ ap (λ (t : Bool). if t then places ++ first.place ∷ [] else places) (sym i)
+        ∙ sym far;
+      covers_are =
+        map_more (λ (x : Place × Cover). x.1) p.named (first.place, cover_names (words_at text rest))
+        ∙ ap (λ (cs : List Cover). cs ++ cover_names (words_at text rest) ∷ []) p.covers_are
+        ∙ sym (bare_names p.lines ((spot_of text first).word ∷ words_at text rest) i);
+      checked = said;
+      drafted = drafted;
+    }
+    at false i = record {
+      said = after_line p.said (spot_of text first ∷ map (spot_of text) rest);
+      lines = p.lines ++ ((spot_of text first).word ∷ words_at text rest) ∷ [];
+      named = p.named;
+      faults = faults;
+      uses = uses;
+      words = words;
+      covers = covers ∙ ap (λ (t : Bool). p.named ++ cons_option (if t then Some (first.place, cover_names (map (λ (s : Spot). s.word) (map (spot_of text) rest))) else None) (filter_map cover_in ms)) i;
+      places_are = p.places_are ∙ ap (λ (t : Bool). if t then places ++ first.place ∷ [] else places) (sym i) ∙ sym far;
+      covers_are = p.covers_are ∙ sym (bare_other p.lines ((spot_of text first).word ∷ words_at text rest) i);
+      checked = said;
+      drafted = drafted;
+    }
+
+is_refused : (e : ReadRefusal) (f g : Option ReadRefusal) → ((r : ReadRefusal) → f ≡ Some r → g ≡ Some r) → IsRefusal e f → IsRefusal e g
+is_refused NoMemory f g h r = tt
+is_refused (Fault kind place) f g h r = h (Fault kind place) r
+is_refused (Limit quantity count place) f g h r = h (Limit quantity count place) r
+
+pub progress_fault : (text : List ℕ) (ls ms : List Logical) (c : Checker) (d : Draft) (places : List Place) (first : Token) (rest : List Token) (e : ReadRefusal) → (p : Progress text ls c d places) → pending ls ≡ line_of text first rest ∷ ms → IsRefusal e (words_fault p.said (spot_of text first ∷ map (spot_of text) rest)) → IsRefusal e (lines_fault nothing_said (layout text))
+progress_fault text ls ms c d places first rest e p is r =
+    is_refused e (words_fault p.said (spot_of text first ∷ map (spot_of text) rest)) (lines_fault nothing_said (layout text)) (λ x f. p.faults ∙ pending_fault p.said ls ∙ ap (lines_fault p.said) is ∙ ap (λ (o : Option ReadRefusal). or_else o (lines_fault (after_line p.said (spot_of text first ∷ map (spot_of text) rest)) ms)) f) r

@@ -1,0 +1,10 @@
+pub mod Meant
+pub mod Tally
+pub mod Seen
+pub mod Views
+pub mod Parts
+pub mod Said
+pub mod Rows
+pub mod Lines
+pub mod Drafts
+pub mod Progress

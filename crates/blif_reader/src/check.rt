@@ -1,0 +1,468 @@
+// The first fault of the words of a line, after those before it.
+ghost use Rattle.std.specs.Prelude.{◌≡◌, ◌≢◌, ◌≤◌, ◌<◌, ◌+◌, ◌-◌, ◌^◌, ◌++◌, ◌∷◌, ◌||◌, [], length, map, take, drop, false, true, List, ℕ, OnOk, IfOk, IfErr, All, None, Some};
+ghost use Rattle.std.specs.List.{filter_map};
+ghost use Rattle.rm_model.specs.Words.{Word, is_word};
+ghost use Rattle.blif_lines.specs.Layout.{Spot};
+ghost use Rattle.blif_lines.specs.Reading.{spot_of, IsWithin};
+ghost use Rattle.blif_format.specs.Text.{on_word};
+ghost use Rattle.blif_format.specs.Uses.{Use, use_of, parts_of, command_of as command_said};
+ghost use Rattle.blif_format.specs.FirstFault.{Said, part_fault, command_fault, ending_fault, character_fault, rest_fault, row_fault, or_else, extra_fault, last_word, nothing_said, dotted_fault, first_line_fault, row_fault_in, is_dotted, words_fault, after_line};
+ghost use Rattle.blif_reader.specs.Meant.{said_command, said_part, refusal_of, IsRefusal};
+ghost use Rattle.blif_reader.specs.Tally.{IsTally};
+ghost use Rattle.blif_reader.specs.Said.{said_ending, said_cover, IsSaid};
+ghost use Rattle.blif_format.specs.FirstFault.{is_literal as literal_byte};
+ghost use Rattle.blif_reader.specs.Rows.{columns_on, inputs_fault, word_fault, cover_for, ends, with_last};
+ghost use Rattle.std.specs.Option.{option_map};
+
+use crate::names::{Names, check_length};
+use crate::words::{
+    Command, Part, Role, command_of, is_init, is_latch_type, is_text, is_unsupported, least_words,
+    part_at,
+};
+use blif_format::{FaultKind, ReadRefusal};
+use blif_lines::Token;
+use rm_base::Place;
+use std::alloc::Global;
+
+/// The cover to which a row may belong.
+#[derive(Clone, Copy, PartialEq, Eq)]
+pub struct OpenCover {
+    pub inputs: usize,
+    pub ending: Option<bool>,
+}
+
+/// What the lines so far have said.
+#[derive(Drop)]
+pub struct Checker<'a> {
+    pub began: bool,
+    pub ended: bool,
+    pub cover: Option<OpenCover>,
+    pub names: Names<'a>,
+}
+
+fn fault(kind: FaultKind, place: Place) -> Result<(), ReadRefusal>
+    ensures { refusal_of result ≡ Some (ReadRefusal.Fault kind place) }
+{
+    Err(ReadRefusal::Fault { kind, place })
+}
+
+pub fn word_of<'a>(text: &'a [u8], token: &Token) -> &'a [u8]
+    requires { IsWithin text.now token.now }
+    ensures { result.now ≡ take (token.now.end - token.now.start) (drop token.now.start text.now) }
+{
+    &text[token.start..token.end]
+}
+
+fn check_ending(text: &[u8], ending: Option<bool>, last: &Token) -> Result<bool, ReadRefusal>
+    requires { IsWithin text.now last.now }
+    ensures fault { refusal_of result ≡ ending_fault (said_ending ending) (spot_of text.now last.now) }
+    ensures ok { IfOk result (λ on. (spot_of text.now last.now).word ≡ on_word on) }
+{
+    let word = word_of(text, last);
+    let is_on = is_text(word, "1");
+    if !is_on && !is_text(word, "0") {
+        return Err(ReadRefusal::Fault {
+            kind: FaultKind::RowCharacter,
+            place: last.place,
+        });
+    }
+    if let Some(first) = ending {
+        if first != is_on {
+            return Err(ReadRefusal::Fault {
+                kind: FaultKind::MixedCover,
+                place: last.place,
+            });
+        }
+    }
+    Ok(is_on)
+}
+
+fn is_literal(b: u8) -> bool
+    ensures { result ≡ literal_byte b }
+{
+    b == 48 || b == 49 || b == 45
+}
+
+// The place of the byte `i` behind a place.
+fn behind(place: Place, i: usize) -> Place
+    requires column { place.column ≤ 2 ^ 25 }
+    requires i { i ≤ 2 ^ 25 }
+    ensures { result ≡ columns_on place i }
+{
+    Place {
+        line: place.line,
+        column: place.column + i as u32,
+    }
+}
+
+fn check_characters(word: &[u8], place: Place) -> Result<(), ReadRefusal>
+    requires column { place.column ≤ 2 ^ 25 }
+    requires small { length word.now ≤ 2 ^ 25 }
+    ensures { refusal_of result ≡ character_fault place word.now }
+{
+    for (i, b) in word.iter().enumerate() {
+        if !is_literal(*b) {
+            return fault(FaultKind::RowCharacter, behind(place, i));
+        }
+    }
+    Ok(())
+}
+
+// The last word of a row, and the words behind it.
+fn check_last(
+    text: &[u8],
+    ending: Option<bool>,
+    last: &Token,
+    after: &[Token],
+) -> Result<bool, ReadRefusal>
+    requires { IsWithin text.now last.now }
+    ensures fault { refusal_of result ≡ or_else (ending_fault (said_ending ending) (spot_of text.now last.now)) (extra_fault (map (spot_of text.now) after.now)) }
+    ensures word { IfOk result (λ on. (spot_of text.now last.now).word ≡ on_word on) }
+    ensures alone { IfOk result (λ on. after.now ≡ []) }
+{
+    let is_on = check_ending(text, ending, last)?;
+    match after.first() {
+        Some(extra) => Err(ReadRefusal::Fault {
+            kind: FaultKind::ExtraWord,
+            place: extra.place,
+        }),
+        None => Ok(is_on),
+    }
+}
+
+fn check_inputs(text: &[u8], inputs: usize, first: &Token) -> Result<(), ReadRefusal>
+    requires word { IsWithin text.now first.now }
+    requires small { length text.now ≤ 2 ^ 24 }
+    ensures { refusal_of result ≡ inputs_fault inputs (spot_of text.now first.now) }
+{
+    let word = word_of(text, first);
+    if word.len() != inputs {
+        return fault(FaultKind::RowLength, first.place);
+    }
+    check_characters(word, first.place)
+}
+
+fn check_row(
+    text: &[u8],
+    cover: OpenCover,
+    first: &Token,
+    rest: &[Token],
+) -> Result<bool, ReadRefusal>
+    requires word { IsWithin text.now first.now }
+    requires words { All (IsWithin text.now) rest.now }
+    requires small { length text.now ≤ 2 ^ 24 }
+    ensures fault { refusal_of result ≡ row_fault (said_cover cover) (spot_of text.now first.now) (map (spot_of text.now) rest.now) }
+    ensures ok { IfOk result (λ on. last_word (spot_of text.now first.now ∷ map (spot_of text.now) rest.now) ≡ Some (on_word on)) }
+{
+    if cover.inputs == 0 {
+        return check_last(text, cover.ending, first, rest);
+    }
+    check_inputs(text, cover.inputs, first)?;
+    match rest.split_first() {
+        None => Err(ReadRefusal::Fault {
+            kind: FaultKind::MissingWord,
+            place: first.place,
+        }),
+        Some((last, after)) => check_last(text, cover.ending, last, after),
+    }
+}
+
+fn take_name<'a>(
+    names: &mut Names<'a>,
+    text: &'a [u8],
+    role: Role,
+    earlier: usize,
+    token: &Token,
+) -> Result<(), ReadRefusal>
+    requires word { IsWithin text.now token.now }
+    requires small { earlier ≤ 2 ^ 32 }
+    ensures ok { (had : List Use) → IsTally had names.old → OnOk result ((part_fault had earlier (said_part (Part.Name role), spot_of text.now token.now) ≡ None) × IsTally (had ++ filter_map use_of ((said_part (Part.Name role), spot_of text.now token.now) ∷ [])) names.new) }
+    ensures err { (had : List Use) → IsTally had names.old → IfErr result (λ e. IsRefusal e (part_fault had earlier (said_part (Part.Name role), spot_of text.now token.now))) }
+{
+    let word = word_of(text, token);
+    if role == Role::Control && is_text(word, "NIL") {
+        return Ok(());
+    }
+    names.take(role, word, earlier, token.place)
+}
+
+// A word that is no name.
+fn check_word(text: &[u8], part: Part, token: &Token) -> Result<(), ReadRefusal>
+    requires { IsWithin text.now token.now }
+    ensures { refusal_of result ≡ word_fault (said_part part) (spot_of text.now token.now) }
+{
+    let word = word_of(text, token);
+    match part {
+        Part::Title => check_length(word, token.place),
+        Part::LatchType => {
+            if is_latch_type(word) {
+                Ok(())
+            } else {
+                fault(FaultKind::BadLatchWord, token.place)
+            }
+        }
+        Part::Init => {
+            if is_init(word) {
+                Ok(())
+            } else {
+                fault(FaultKind::BadLatchWord, token.place)
+            }
+        }
+        Part::Extra => fault(FaultKind::ExtraWord, token.place),
+        Part::Name(_) => Ok(()),
+    }
+}
+
+fn take_part<'a>(
+    names: &mut Names<'a>,
+    text: &'a [u8],
+    part: Part,
+    earlier: usize,
+    token: &Token,
+) -> Result<(), ReadRefusal>
+    requires word { IsWithin text.now token.now }
+    requires small { earlier ≤ 2 ^ 32 }
+    ensures ok { (had : List Use) → IsTally had names.old → OnOk result ((part_fault had earlier (said_part part, spot_of text.now token.now) ≡ None) × IsTally (had ++ filter_map use_of ((said_part part, spot_of text.now token.now) ∷ [])) names.new) }
+    ensures err { (had : List Use) → IsTally had names.old → IfErr result (λ e. IsRefusal e (part_fault had earlier (said_part part, spot_of text.now token.now))) }
+{
+    match part {
+        Part::Name(role) => take_name(names, text, role, earlier, token),
+        Part::Title => check_word(text, Part::Title, token),
+        Part::LatchType => check_word(text, Part::LatchType, token),
+        Part::Init => check_word(text, Part::Init, token),
+        Part::Extra => check_word(text, Part::Extra, token),
+    }
+}
+
+// The words behind a command, from left to right.
+fn take_words<'a>(
+    names: &mut Names<'a>,
+    text: &'a [u8],
+    command: Command,
+    first: &Token,
+    words: &[Token],
+) -> Result<(), ReadRefusal>
+    requires words { All (IsWithin text.now) words.now }
+    requires small { length words.now ≤ 2 ^ 32 }
+    ensures ok { (had : List Use) → IsTally had names.old → OnOk result ((command_fault had (spot_of text.now first.now) (said_command command) (map (spot_of text.now) words.now) ≡ None) × IsTally (had ++ filter_map use_of (parts_of (said_command command) (map (spot_of text.now) words.now))) names.new) }
+    ensures err { (had : List Use) → IsTally had names.old → IfErr result (λ e. IsRefusal e (command_fault had (spot_of text.now first.now) (said_command command) (map (spot_of text.now) words.now))) }
+{
+    let count = words.len();
+    for (i, token) in words.iter().enumerate() {
+        match take_part(names, text, part_at(command, count, i), i, token) {
+            Ok(()) => {}
+            Err(refusal) => return Err(refusal),
+        }
+    }
+    if count < least_words(command) {
+        return fault(FaultKind::MissingWord, first.place);
+    }
+    Ok(())
+}
+
+// The cover to which rows behind a command may belong, with so many words behind the command.
+fn cover_behind(command: Command, count: usize) -> Option<OpenCover>
+    ensures { option_map said_cover result ≡ cover_for (said_command command) count }
+{
+    match command {
+        Command::Names => Some(OpenCover {
+            inputs: count.saturating_sub(1),
+            ending: None,
+        }),
+        _ => None,
+    }
+}
+
+fn is_end(command: Command) -> bool
+    ensures { result ≡ ends (said_command command) }
+{
+    match command {
+        Command::End => true,
+        _ => false,
+    }
+}
+
+fn either(one: bool, other: bool) -> bool
+    ensures { result ≡ (one || other) }
+{
+    one || other
+}
+
+impl<'a> Checker<'a> {
+    pub fn new(alloc: Global) -> Checker<'a>
+        ensures { IsSaid nothing_said result }
+    {
+        Checker {
+            began: false,
+            ended: false,
+            cover: None,
+            names: Names::new(alloc),
+        }
+    }
+}
+
+// A command whose word is known.
+fn take_command<'a>(
+    checker: &mut Checker<'a>,
+    text: &'a [u8],
+    command: Command,
+    first: &Token,
+    rest: &[Token],
+) -> Result<(), ReadRefusal>
+    requires words { All (IsWithin text.now) rest.now }
+    requires small { length rest.now ≤ 2 ^ 32 }
+    requires command { command_said (spot_of text.now first.now).word ≡ Some (said_command command) }
+    ensures ok { (said : Said) → IsSaid said checker.old → OnOk result ((command_fault said.uses (spot_of text.now first.now) (said_command command) (map (spot_of text.now) rest.now) ≡ None) × IsSaid (after_line said (spot_of text.now first.now ∷ map (spot_of text.now) rest.now)) checker.new) }
+    ensures err { (said : Said) → IsSaid said checker.old → IfErr result (λ e. IsRefusal e (command_fault said.uses (spot_of text.now first.now) (said_command command) (map (spot_of text.now) rest.now))) }
+{
+    match take_words(&mut checker.names, text, command, first, rest) {
+        Ok(()) => {}
+        Err(refusal) => return Err(refusal),
+    }
+    checker.began = true;
+    checker.ended = either(checker.ended, is_end(command));
+    checker.cover = cover_behind(command, rest.len());
+    Ok(())
+}
+
+fn take_other<'a>(
+    checker: &mut Checker<'a>,
+    text: &'a [u8],
+    command: Command,
+    first: &Token,
+    rest: &[Token],
+) -> Result<(), ReadRefusal>
+    requires words { All (IsWithin text.now) rest.now }
+    requires small { length rest.now ≤ 2 ^ 32 }
+    requires command { command_said (spot_of text.now first.now).word ≡ Some (said_command command) }
+    ensures ok { (said : Said) → IsSaid said checker.old → OnOk result ((dotted_fault said.uses (spot_of text.now first.now) (map (spot_of text.now) rest.now) (Some (said_command command)) ≡ None) × IsSaid (after_line said (spot_of text.now first.now ∷ map (spot_of text.now) rest.now)) checker.new) }
+    ensures err { (said : Said) → IsSaid said checker.old → IfErr result (λ e. IsRefusal e (dotted_fault said.uses (spot_of text.now first.now) (map (spot_of text.now) rest.now) (Some (said_command command)))) }
+{
+    match command {
+        Command::Model => fault(FaultKind::Unsupported, first.place),
+        Command::Inputs => take_command(checker, text, Command::Inputs, first, rest),
+        Command::Outputs => take_command(checker, text, Command::Outputs, first, rest),
+        Command::Clock => take_command(checker, text, Command::Clock, first, rest),
+        Command::Names => take_command(checker, text, Command::Names, first, rest),
+        Command::Latch => take_command(checker, text, Command::Latch, first, rest),
+        Command::End => take_command(checker, text, Command::End, first, rest),
+    }
+}
+
+fn take_dotted<'a>(
+    checker: &mut Checker<'a>,
+    text: &'a [u8],
+    first: &Token,
+    rest: &[Token],
+) -> Result<(), ReadRefusal>
+    requires word { IsWithin text.now first.now }
+    requires words { All (IsWithin text.now) rest.now }
+    requires small { length rest.now ≤ 2 ^ 32 }
+    ensures ok { (said : Said) → IsSaid said checker.old → OnOk result ((dotted_fault said.uses (spot_of text.now first.now) (map (spot_of text.now) rest.now) (command_said (spot_of text.now first.now).word) ≡ None) × IsSaid (after_line said (spot_of text.now first.now ∷ map (spot_of text.now) rest.now)) checker.new) }
+    ensures err { (said : Said) → IsSaid said checker.old → IfErr result (λ e. IsRefusal e (dotted_fault said.uses (spot_of text.now first.now) (map (spot_of text.now) rest.now) (command_said (spot_of text.now first.now).word))) }
+{
+    let word = word_of(text, first);
+    match command_of(word) {
+        Some(command) => take_other(checker, text, command, first, rest),
+        None => {
+            if is_unsupported(word) {
+                fault(FaultKind::Unsupported, first.place)
+            } else {
+                fault(FaultKind::UnknownCommand, first.place)
+            }
+        }
+    }
+}
+
+fn take_first<'a>(
+    checker: &mut Checker<'a>,
+    text: &'a [u8],
+    first: &Token,
+    rest: &[Token],
+) -> Result<(), ReadRefusal>
+    requires word { IsWithin text.now first.now }
+    requires words { All (IsWithin text.now) rest.now }
+    requires small { length rest.now ≤ 2 ^ 32 }
+    ensures ok { (said : Said) → IsSaid said checker.old → OnOk result ((first_line_fault (spot_of text.now first.now) (map (spot_of text.now) rest.now) ≡ None) × IsSaid (after_line said (spot_of text.now first.now ∷ map (spot_of text.now) rest.now)) checker.new) }
+    ensures err { (said : Said) → IsSaid said checker.old → IfErr result (λ e. IsRefusal e (first_line_fault (spot_of text.now first.now) (map (spot_of text.now) rest.now))) }
+{
+    if !is_text(word_of(text, first), ".model") {
+        return fault(FaultKind::NoModel, first.place);
+    }
+    take_command(checker, text, Command::Model, first, rest)
+}
+
+fn take_row<'a>(
+    checker: &mut Checker<'a>,
+    text: &'a [u8],
+    first: &Token,
+    rest: &[Token],
+) -> Result<(), ReadRefusal>
+    requires word { IsWithin text.now first.now }
+    requires words { All (IsWithin text.now) rest.now }
+    requires small { length text.now ≤ 2 ^ 24 }
+    requires began { checker.old.began ≡ true }
+    requires row { is_dotted (spot_of text.now first.now).word ≡ false }
+    ensures ok { (said : Said) → IsSaid said checker.old → OnOk result ((row_fault_in said.cover (spot_of text.now first.now) (map (spot_of text.now) rest.now) ≡ None) × IsSaid (after_line said (spot_of text.now first.now ∷ map (spot_of text.now) rest.now)) checker.new) }
+    ensures err { (said : Said) → IsSaid said checker.old → IfErr result (λ e. IsRefusal e (row_fault_in said.cover (spot_of text.now first.now) (map (spot_of text.now) rest.now))) }
+{
+    match checker.cover {
+        None => fault(FaultKind::RowOutsideCover, first.place),
+        Some(cover) => match check_row(text, cover, first, rest) {
+            Ok(is_on) => {
+                checker.cover = Some(with_ending(cover, is_on));
+                Ok(())
+            }
+            Err(refusal) => Err(refusal),
+        },
+    }
+}
+
+// The first row's ending counts.
+fn with_ending(cover: OpenCover, is_on: bool) -> OpenCover
+    ensures { said_cover result ≡ with_last (Some (on_word is_on)) (said_cover cover) }
+{
+    match cover.ending {
+        Some(_) => cover,
+        None => OpenCover {
+            inputs: cover.inputs,
+            ending: Some(is_on),
+        },
+    }
+}
+
+fn starts_with_dot(text: &[u8], token: &Token) -> bool
+    requires { IsWithin text.now token.now }
+    ensures { result ≡ is_dotted (spot_of text.now token.now).word }
+{
+    match word_of(text, token).first() {
+        Some(b) => *b == 46,
+        None => false,
+    }
+}
+
+/// Takes a line with tokens, or refuses it at its first fault.
+pub fn take_line<'a>(
+    checker: &mut Checker<'a>,
+    text: &'a [u8],
+    first: &Token,
+    rest: &[Token],
+) -> Result<(), ReadRefusal>
+    requires word { IsWithin text.now first.now }
+    requires words { All (IsWithin text.now) rest.now }
+    requires many { length rest.now ≤ 2 ^ 32 }
+    requires small { length text.now ≤ 2 ^ 24 }
+    ensures ok { (said : Said) → IsSaid said checker.old → OnOk result ((words_fault said (spot_of text.now first.now ∷ map (spot_of text.now) rest.now) ≡ None) × IsSaid (after_line said (spot_of text.now first.now ∷ map (spot_of text.now) rest.now)) checker.new) }
+    ensures err { (said : Said) → IsSaid said checker.old → IfErr result (λ e. IsRefusal e (words_fault said (spot_of text.now first.now ∷ map (spot_of text.now) rest.now))) }
+{
+    if checker.ended {
+        return fault(FaultKind::AfterEnd, first.place);
+    }
+    if !checker.began {
+        return take_first(checker, text, first, rest);
+    }
+    if starts_with_dot(text, first) {
+        return take_dotted(checker, text, first, rest);
+    }
+    take_row(checker, text, first, rest)
+}

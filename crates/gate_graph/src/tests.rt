@@ -1,0 +1,188 @@
+//! The calls on a net of four gates.
+ghost use Rattle.std.specs.Prelude.{◌≡◌, ◌≤◌, ◌+◌, ℕ, true, false, length, map, IfSome};
+ghost use Rattle.gate_net.specs.Net.{IsGateKind, IsLive};
+ghost use Rattle.gate_net.specs.declared.Kind.TheVariants.{Not};
+ghost use Rattle.pin_pool.specs.Ring.{has};
+ghost use Rattle.gate_graph.specs.Circuit.{live_nodes, net_of, pins_taken};
+
+use crate::{Graph, Marks};
+use gate_net::Kind;
+use rm_base::{NoMemory, NodeId};
+use std::alloc::Global;
+use std::test::Fail;
+
+fn is_live(graph: &Graph, node: NodeId) -> bool
+    ensures { result ≡ true → IsLive (net_of graph.now) node.0 }
+{
+    match graph.kind(node) {
+        Some(_) => true,
+        None => false,
+    }
+}
+
+fn are_live(graph: &Graph, drivers: &[NodeId]) -> bool
+    ensures { result ≡ true → (d : ℕ) → has d (map (λ n. n.0) drivers.now) ≡ true → IsLive (net_of graph.now) d }
+{
+    for driver in drivers {
+        if !is_live(graph, *driver) {
+            return false;
+        }
+    }
+    true
+}
+
+// Whether a gate of the kind may have so many pins.
+fn fits(kind: Kind, count: usize) -> bool
+    ensures gate { result ≡ true → IsGateKind kind }
+    ensures one { result ≡ true → kind ≡ Not → count ≡ 1 }
+{
+    match kind {
+        Kind::And => true,
+        Kind::Or => true,
+        Kind::Not => count == 1,
+        _ => false,
+    }
+}
+
+fn add(graph: &mut Graph, kind: Kind, drivers: &[NodeId]) -> Option<NodeId>
+    requires pins { pins_taken graph.old ≤ 1000 }
+    requires nodes { live_nodes graph.old ≤ 1000 }
+    requires few { length drivers.now ≤ 1000 }
+    ensures pins { pins_taken graph.new ≤ pins_taken graph.old + length drivers.now }
+    ensures nodes { live_nodes graph.new ≤ live_nodes graph.old + 1 }
+{
+    if !are_live(graph, drivers) {
+        return None;
+    }
+    if !fits(kind, drivers.len()) {
+        return None;
+    }
+    match graph.add_gate(kind, drivers) {
+        Ok(node) => Some(node),
+        Err(_) => None,
+    }
+}
+
+fn add_two(graph: &mut Graph, kind: Kind, first: u32, second: u32) -> Option<u32>
+    requires pins { pins_taken graph.old ≤ 900 }
+    requires nodes { live_nodes graph.old ≤ 900 }
+    ensures pins { pins_taken graph.new ≤ pins_taken graph.old + 2 }
+    ensures nodes { live_nodes graph.new ≤ live_nodes graph.old + 1 }
+{
+    let drivers = [NodeId(first), NodeId(second)];
+    match add(graph, kind, &drivers) {
+        Some(node) => Some(node.0),
+        None => None,
+    }
+}
+
+fn observe(graph: &mut Graph, node: u32) -> bool
+    requires { pins_taken graph.old ≤ 1000 }
+{
+    if !is_live(graph, NodeId(node)) {
+        return false;
+    }
+    graph.observe(NodeId(node)).is_ok()
+}
+
+// Whether a path leads from one node to the other.
+fn leads(alloc: Global, graph: &Graph, from: u32, to: u32) -> Result<bool, NoMemory> {
+    if !is_live(graph, NodeId(from)) {
+        return Ok(false);
+    }
+    if !is_live(graph, NodeId(to)) {
+        return Ok(false);
+    }
+    let mut marks = Marks::new(alloc, graph.node_bound())?;
+    Ok(graph.reaches(NodeId(from), NodeId(to), &mut marks))
+}
+
+// Whether the node has these drivers, in order.
+fn reads(graph: &Graph, node: u32, drivers: &[u32]) -> bool {
+    if !is_live(graph, NodeId(node)) {
+        return false;
+    }
+    let mut at = 0;
+    for driver in graph.inputs_of(NodeId(node)) {
+        if at >= drivers.len() {
+            return false;
+        }
+        if drivers[at] != driver.0 {
+            return false;
+        }
+        at += 1;
+    }
+    at == drivers.len()
+}
+
+// Whether these pins read the node, in order.
+fn is_read(graph: &Graph, node: u32, places: &[(u32, u32)]) -> bool {
+    if !is_live(graph, NodeId(node)) {
+        return false;
+    }
+    let mut at = 0;
+    for (gate, position) in graph.fanouts_of(NodeId(node)) {
+        if at >= places.len() {
+            return false;
+        }
+        if places[at].0 != gate.0 || places[at].1 != position {
+            return false;
+        }
+        at += 1;
+    }
+    at == places.len()
+}
+
+#[test]
+fn four_gates(rt: HostRuntime) -> Result<(), Fail> {
+    let alloc = rt.alloc();
+    let mut graph = Graph::new(alloc, 4)?;
+    assert_eq!(rt; add_two(&mut graph, Kind::And, 2, 3), Some(6));
+    assert_eq!(rt; add_two(&mut graph, Kind::And, 2, 4), Some(7));
+    assert_eq!(rt; add_two(&mut graph, Kind::Or, 6, 7), Some(8));
+    assert_eq!(rt; add_two(&mut graph, Kind::And, 8, 5), Some(9));
+    assert!(rt; observe(&mut graph, 9));
+    assert_eq!(rt; graph.kind(NodeId(0)), Some(Kind::Zero));
+    assert_eq!(rt; graph.kind(NodeId(1)), Some(Kind::One));
+    assert_eq!(rt; graph.kind(NodeId(5)), Some(Kind::Source));
+    assert_eq!(rt; graph.kind(NodeId(8)), Some(Kind::Or));
+    assert_eq!(rt; graph.kind(NodeId(10)), None);
+    assert_eq!(rt; graph.source_count(), 4);
+    assert_eq!(rt; graph.gate_count(), 4);
+    assert_eq!(rt; graph.wire_count(), 8);
+    assert_eq!(rt; graph.node_bound(), 10);
+    assert_eq!(rt; graph.observed_count(), 1);
+    assert!(rt; graph.is_observed(NodeId(9)));
+    assert!(rt; !graph.is_observed(NodeId(8)));
+    assert_eq!(rt; graph.driver(NodeId(8), 1), Some(NodeId(7)));
+    assert_eq!(rt; graph.driver(NodeId(8), 2), None);
+    assert!(rt; reads(&graph, 9, &[8, 5]));
+    assert!(rt; reads(&graph, 2, &[]));
+    assert!(rt; is_read(&graph, 2, &[(6, 0), (7, 0)]));
+    assert!(rt; is_read(&graph, 7, &[(8, 1)]));
+    assert!(rt; is_read(&graph, 9, &[]));
+    assert_eq!(rt; graph.epoch(), 0);
+    assert!(rt; graph.is_fresh(0));
+    Ok(())
+}
+
+#[test]
+fn paths_and_order(rt: HostRuntime) -> Result<(), Fail> {
+    let alloc = rt.alloc();
+    let mut graph = Graph::new(alloc, 4)?;
+    assert_eq!(rt; add_two(&mut graph, Kind::And, 2, 3), Some(6));
+    assert_eq!(rt; add_two(&mut graph, Kind::And, 2, 4), Some(7));
+    assert_eq!(rt; add_two(&mut graph, Kind::Or, 6, 7), Some(8));
+    assert_eq!(rt; add_two(&mut graph, Kind::And, 8, 5), Some(9));
+    assert!(rt; leads(alloc, &graph, 2, 9)?);
+    assert!(rt; leads(alloc, &graph, 7, 8)?);
+    assert!(rt; !leads(alloc, &graph, 9, 9)?);
+    assert!(rt; !leads(alloc, &graph, 5, 8)?);
+    assert!(rt; !leads(alloc, &graph, 9, 2)?);
+    let order = graph.order(alloc)?;
+    assert_eq!(rt; order.len(), 10);
+    for at in 0..order.len() {
+        assert_eq!(rt; order[at].0 as usize, at);
+    }
+    Ok(())
+}

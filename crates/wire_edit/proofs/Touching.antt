@@ -1,0 +1,137 @@
+-- Marks that a walk over readers sets.
+use Rattle.std.proofs.Common.{◌≡◌, ◌≢◌, ℕ, zero, suc, ◌+◌, ◌<◌, ◌≤◌, Bool, true, false, ◌||◌, ◌⊎◌, inl, inr, Option, Some, None, List, [], ◌∷◌, ◌++◌, length, map, refl, sym, ◌∙◌, ap, arith}
+use Rattle.std.specs.Prelude.{slice_get}
+use Rattle.std.proofs.lemmas.Bool.{both_ways}
+use Rattle.rm_base.specs.declared.numbers.NodeId.{NodeId}
+use Rattle.gate_net.specs.Net.{Net, node_at, drivers_in, drivers_of, Reads, IsWellFormed}
+use Rattle.gate_graph.specs.Circuit.{Circuit, net_of, fanouts_of}
+use Rattle.gate_graph.specs.Readers.{ListReaders}
+use Rattle.gate_graph.specs.declared.editing.Edit.{Edit}
+use Rattle.gate_graph.specs.declared.editing.Edit.TheVariants.{Append, Remove, Redrive, Readers, NewNot, Retire}
+use Rattle.wire_edit.specs.Tests.{is_live, is_not}
+use Rattle.wire_edit.specs.Changes.{Change, append, remove, fix, readers, new_not, retire}
+use Rattle.wire_edit.specs.Edited.{edit_of, IsNewNot}
+use Rattle.wire_edit.specs.Marked.{is_marked, KeepsMarks, MarksTouched}
+use Rattle.wire_edit.specs.Touched.{IsReadBy, IsNotOf, IsTouched}
+use Rattle.wire_edit.proofs.Tested.{absent}
+
+pub keeps_refl : (m : List Bool) → KeepsMarks m m
+keeps_refl m = record { count = refl; kept = λ k e. e }
+
+pub keeps_on : (a b c : List Bool) → KeepsMarks a b → KeepsMarks b c → KeepsMarks a c
+keeps_on a b c f g = record { count = g.count ∙ f.count; kept = λ k e. g.kept k (f.kept k e) }
+
+-- marks of before stay
+pub still : (a b : List Bool) → KeepsMarks a b → (x : ℕ) → (x < length a → is_marked a x ≡ true) → x < length b → is_marked b x ≡ true
+still a b k x h lt = k.kept x (h (omega (arith, lt, k.count)))
+
+pub dead_unread : (net : Net) (x : ℕ) → IsWellFormed net → is_live net x ≡ false → (y p : ℕ) → Reads net y p x → ⊥
+dead_unread net x well e y p reads = well.drivers_live y p x reads (absent (node_at net x) e)
+
+pub dead_reads : (net : Net) (gate x : ℕ) → is_live net gate ≡ false → IsReadBy net x gate → ⊥
+dead_reads net gate x e (p, reads) = nothing p x (ap (λ o. slice_get (drivers_in o) p) (sym (absent (node_at net gate) e)) ∙ reads)
+  where
+    nothing : (p x : ℕ) → slice_get {X = ℕ} [] p ≡ Some x → ⊥
+    nothing p x e = cc
+
+-- a walk over the readers that has come to these places; the test tells which readers are marked
+pub record Walked (v : Circuit) (node : ℕ) (test : ℕ → Bool) (before marks : List Bool) (places : List (ℕ × ℕ)) : Type 0 where
+  pub keeps : KeepsMarks before marks
+  pub left : (y p : ℕ) → test y ≡ true → Reads (net_of v) y p node → y < length marks → (is_marked marks y ≡ true) ⊎ ((k : ℕ) × (slice_get places k ≡ Some (y, p)))
+
+pub walk_start : (v : Circuit) (node : ℕ) (test : ℕ → Bool) (marks : List Bool) (places : List (ℕ × ℕ)) → ListReaders v → places ≡ fanouts_of v node → Walked v node test marks marks places
+walk_start v node test marks places listed e = record {
+  keeps = keeps_refl marks;
+  left = λ y p t reads lt.
+      let k : (k : ℕ) × (slice_get (fanouts_of v node) k ≡ Some (y, p)) = listed.all node (y, p) reads in
+      inr (k.0, ap (λ ps. slice_get ps k.0) e ∙ k.1);
+}
+
+same_pair : (p q : ℕ × ℕ) → Some p ≡ Some q → p.0 ≡ q.0
+same_pair p q e = ap first e
+  where
+    first : Option (ℕ × ℕ) → ℕ
+    first None = p.0
+    first (Some r) = r.0
+
+pub walk_step : (v : Circuit) (node : ℕ) (test : ℕ → Bool) (before marks next : List Bool) (reader position : ℕ) (places rest : List (ℕ × ℕ)) → Walked v node test before marks places → places ≡ (reader, position) ∷ rest → KeepsMarks marks next → (test reader ≡ true → reader < length next → is_marked next reader ≡ true) → Walked v node test before next rest
+walk_step v node test before marks next reader position places rest w e k marked = record {
+  keeps = keeps_on before marks next w.keeps k;
+  left = λ y p t reads lt. elim (w.left y p t reads (omega (arith, lt, k.count))) [
+    | inl done ↦ inl (k.kept y done)
+    | inr there ↦ at y p t lt there.0 (ap (λ ps. slice_get ps there.0) (sym e) ∙ there.1)
+  ];
+}
+  where
+    at : (y p : ℕ) → test y ≡ true → y < length next → (j : ℕ) → slice_get ((reader, position) ∷ rest) j ≡ Some (y, p) → (is_marked next y ≡ true) ⊎ ((k : ℕ) × (slice_get rest k ≡ Some (y, p)))
+    at y p t lt zero there =
+        let same : reader ≡ y = same_pair (reader, position) (y, p) there in
+        inl (ap (is_marked next) (sym same) ∙ marked (ap test same ∙ t) (omega (arith, lt, same)))
+    at y p t lt (suc j) there = inr (j, there)
+
+pub walk_end : (v : Circuit) (node : ℕ) (test : ℕ → Bool) (before marks : List Bool) (places : List (ℕ × ℕ)) → Walked v node test before marks places → places ≡ [] → (y p : ℕ) → test y ≡ true → Reads (net_of v) y p node → y < length marks → is_marked marks y ≡ true
+walk_end v node test before marks places w none y p t reads lt = elim (w.left y p t reads lt) [
+  | inl done ↦ done
+  | inr there ↦ absurd (nothing there.0 (y, p) (ap (λ ps. slice_get ps there.0) (sym none) ∙ there.1))
+]
+  where
+    nothing : (k : ℕ) (place : ℕ × ℕ) → slice_get {X = ℕ × ℕ} [] k ≡ Some place → ⊥
+    nothing k place e = cc
+
+-- whether a Not was met
+pub record Met (v : Circuit) (node : ℕ) (found : Bool) (places : List (ℕ × ℕ)) : Type 0 where
+  pub left : found ≡ false → (y p : ℕ) → is_not (net_of v) y ≡ true → Reads (net_of v) y p node → (k : ℕ) × (slice_get places k ≡ Some (y, p))
+
+pub met_start : (v : Circuit) (node : ℕ) (places : List (ℕ × ℕ)) → ListReaders v → places ≡ fanouts_of v node → Met v node false places
+met_start v node places listed e = record {
+  left = λ no_found y p t reads. let k : (k : ℕ) × (slice_get (fanouts_of v node) k ≡ Some (y, p)) = listed.all node (y, p) reads in (k.0, ap (λ ps. slice_get ps k.0) e ∙ k.1);
+}
+
+pub met_step : (v : Circuit) (node : ℕ) (found next : Bool) (reader position : ℕ) (places rest : List (ℕ × ℕ)) → Met v node found places → places ≡ (reader, position) ∷ rest → (next ≡ false → (found ≡ false) × (is_not (net_of v) reader ≡ false)) → Met v node next rest
+met_step v node found next reader position places rest m e both = record {
+  left = λ none y p t reads.
+      let k : (k : ℕ) × (slice_get places k ≡ Some (y, p)) = m.left (both none).0 y p t reads in
+      at none y p t k.0 (ap (λ ps. slice_get ps k.0) (sym e) ∙ k.1);
+}
+  where
+    at : next ≡ false → (y p : ℕ) → is_not (net_of v) y ≡ true → (j : ℕ) → slice_get ((reader, position) ∷ rest) j ≡ Some (y, p) → (k : ℕ) × (slice_get rest k ≡ Some (y, p))
+    at none y p t zero there = absurd (both_ways (is_not (net_of v) reader) (both none).1 (ap (is_not (net_of v)) (same_pair (reader, position) (y, p) there) ∙ t))
+    at none y p t (suc j) there = (j, there)
+
+pub met_end : (v : Circuit) (node : ℕ) (found : Bool) (places : List (ℕ × ℕ)) → Met v node found places → places ≡ [] → found ≡ false → (y : ℕ) → IsNotOf (net_of v) node y → ⊥
+met_end v node found places m none f y n =
+    let k : (k : ℕ) × (slice_get places k ≡ Some (y, 0)) = m.left f y 0 n.0 n.1 in
+    nothing k.0 (y, 0) (ap (λ ps. slice_get ps k.0) (sym none) ∙ k.1)
+  where
+    nothing : (k : ℕ) (place : ℕ × ℕ) → slice_get {X = ℕ × ℕ} [] k ≡ Some place → ⊥
+    nothing k place e = cc
+
+-- a walk over the drivers
+pub record Driven (ds : List ℕ) (before marks : List Bool) (left : List ℕ) : Type 0 where
+  pub keeps : KeepsMarks before marks
+  pub rest : (p x : ℕ) → slice_get ds p ≡ Some x → x < length marks → (is_marked marks x ≡ true) ⊎ ((k : ℕ) × (slice_get left k ≡ Some x))
+
+pub driven_start : (ds left : List ℕ) (marks : List Bool) → left ≡ ds → Driven ds marks marks left
+driven_start ds left marks e = record { keeps = keeps_refl marks; rest = λ p x there lt. inr (p, ap (λ xs. slice_get xs p) e ∙ there) }
+
+pub driven_step : (ds : List ℕ) (before marks next : List Bool) (d : ℕ) (left after : List ℕ) → Driven ds before marks left → left ≡ d ∷ after → KeepsMarks marks next → (d < length next → is_marked next d ≡ true) → Driven ds before next after
+driven_step ds before marks next d left after w e k marked = record {
+  keeps = keeps_on before marks next w.keeps k;
+  rest = λ p x there lt. elim (w.rest p x there (omega (arith, lt, k.count))) [
+    | inl done ↦ inl (k.kept x done)
+    | inr j ↦ at x lt j.0 (ap (λ xs. slice_get xs j.0) (sym e) ∙ j.1)
+  ];
+}
+  where
+    at : (x : ℕ) → x < length next → (j : ℕ) → slice_get (d ∷ after) j ≡ Some x → (is_marked next x ≡ true) ⊎ ((k : ℕ) × (slice_get after k ≡ Some x))
+    at x lt zero there = let is : d ≡ x = cc in inl (ap (is_marked next) (sym is) ∙ marked (omega (arith, lt, is)))
+    at x lt (suc j) there = inr (j, there)
+
+pub driven_end : (ds : List ℕ) (before marks : List Bool) (left : List ℕ) → Driven ds before marks left → left ≡ [] → (p x : ℕ) → slice_get ds p ≡ Some x → x < length marks → is_marked marks x ≡ true
+driven_end ds before marks left w none p x there lt = elim (w.rest p x there lt) [
+  | inl done ↦ done
+  | inr j ↦ absurd (nothing j.0 x (ap (λ xs. slice_get xs j.0) (sym none) ∙ j.1))
+]
+  where
+    nothing : (k x : ℕ) → slice_get {X = ℕ} [] k ≡ Some x → ⊥
+    nothing k x e = cc

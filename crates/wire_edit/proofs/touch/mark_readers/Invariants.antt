@@ -1,0 +1,9 @@
+use Rattle.std.proofs.Common.{ℕ, true}
+use Rattle.wire_edit.proofs.Touching.{Walked, Met}
+use Rattle.wire_edit.proofs.touch.mark_readers.Given as goal
+
+abbrev pub invariant-loop-reader : goal.invariant-loop-reader
+invariant-loop-reader l = record {
+  walked : Walked l.graph l.fn.node.0 (λ y. true) l.fn.agenda l.agenda l.reader-iterator;
+  met : Met l.graph l.fn.node.0 l.found l.reader-iterator;
+}
