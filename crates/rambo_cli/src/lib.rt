@@ -8,6 +8,8 @@ mod lines;
 mod problem;
 mod tidy;
 mod translate;
+#[cfg(test)]
+mod tests;
 mod words;
 mod work;
 

@@ -12,3 +12,6 @@ pub mod FactMarks
 pub mod Looks
 pub mod Told
 pub mod Walks
+pub mod Yielding
+pub mod OnlyReaders
+pub mod Below

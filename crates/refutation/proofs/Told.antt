@@ -1,13 +1,13 @@
 -- What the calls of a graph and of the facts tell.
-use Rattle.std.proofs.Common.{Bool, List, None, Option, Some, [], ap, arith, false, length, refl, suc, sym, true, zero, ℕ, ◌<◌, ◌∙◌, ◌∷◌, ◌≡◌, ◌≢◌}
+use Rattle.std.proofs.Common.{Bool, List, None, Option, Some, [], ap, arith, eqb, false, inl, inr, length, refl, subst, suc, sym, true, zero, ℕ, ◌<◌, ◌||◌, ◌∙◌, ◌∷◌, ◌≡◌, ◌≢◌}
+use Rattle.std.proofs.lemmas.Bool.{eqb-true}
 use Rattle.std.specs.Prelude.{slice_get}
+use Rattle.gate_net.proofs.Bools.{or_either}
 use Rattle.gate_net.specs.Forward.{value_back, value_forward}
 use Rattle.gate_net.specs.Net.{IsKind, IsLive, IsWellFormed, Net, Node, Reads, drivers_in, drivers_of, flatten_option, kind_in, kind_of, node_at}
 use Rattle.gate_net.specs.Values.{HasPin, faulty_reads, same_bool}
 use Rattle.gate_net.specs.declared.Kind.{Kind}
-use Rattle.refutation.proofs.FactMarks.{none}
 use Rattle.refutation.proofs.Looks.{stuck_reads}
-use Rattle.refutation.proofs.Partials.{found}
 use Rattle.refutation.specs.Answers.{backward_at, bind, both_at, forward_at}
 use Rattle.refutation.specs.Facts.{Held, known_faulty}
 use Rattle.refutation.specs.Pins.{AreBelow, known_on, pins_of, stuck_of}
@@ -112,3 +112,15 @@ both_some net one other held y r e =
     let third : (b : Bool) × ((known_on other held y ≡ Some b) × (Some r ≡ Some (second.0, b))) = bind_some (known_on other held y) _ r second.1.1 in
     let same : r ≡ (second.0, third.0) = some_is third.1.1 in
     ((first.0, kind_is net y first.0 (sym first.1.0)), (second.1.0 ∙ ap (λ s. Some s.0) (sym same), third.1.0 ∙ ap (λ s. Some s.1) (sym same)))
+
+pub live_from : (net : Net) (x : ℕ) (o : Option Kind) (kind : Kind) → o ≡ kind_of net x → o ≡ Some kind → IsLive net x
+live_from net x o kind e is = (kind, kind_is net x kind (sym is ∙ e))
+
+pub each_of_two : (P : ℕ → Type 0) (one other d : ℕ) → P one → P other → (eqb d one || (eqb d other || false)) ≡ true → P d
+each_of_two P one other d p q e = elim (or_either (eqb d one) (eqb d other || false) e) [
+  | inl here ↦ subst P (sym (eqb-true d one here)) p
+  | inr later ↦ elim (or_either (eqb d other) false later) [ inl there ↦ subst P (sym (eqb-true d other there)) q | inr never ↦ absurd cc ]
+]
+
+pub each_of_one : (P : ℕ → Type 0) (one d : ℕ) → P one → (eqb d one || false) ≡ true → P d
+each_of_one P one d p e = elim (or_either (eqb d one) false e) [ inl here ↦ subst P (sym (eqb-true d one here)) p | inr never ↦ absurd cc ]

@@ -49,7 +49,7 @@ chain_apart {net} rank ranked (next {before = rest} {x = x} {y = y} chain unobse
 )
 
 -- and live
-chain_live : {net : Net} {gate : ℕ} {before : List ℕ} {y : ℕ} → IsLive net gate → ChainTo net gate before y → IsLive net y
+pub chain_live : {net : Net} {gate : ℕ} {before : List ℕ} {y : ℕ} → IsLive net gate → ChainTo net gate before y → IsLive net y
 chain_live live start = live
 chain_live {net} live (next {x = x} {y = y} chain unobserved only) = reader_live net y only.reads.0 x only.reads.1
 

@@ -1,11 +1,13 @@
 // Sets of facts.
 ghost use Rattle.std.specs.Prelude.{◌≡◌, ◌<◌, ◌↔◌, List, length, IfOk, IsTrue, slice_set, slice_index_or, ℕ, suc, false};
+ghost use Rattle.gate_graph.specs.Circuit.{net_of};
 ghost use Rattle.refutation.specs.Facts.{with_fact, without_fact, AreOpposed};
 ghost use Rattle.refutation.specs.FactSets.{held_by, is_marked, marked, missing, Becomes};
 ghost use Rattle.refutation.specs.declared.held.NodeFacts.{NodeFacts};
 ghost use Rattle.refutation.specs.declared.reasoning.Fact.{Fact};
 
 use crate::reasoning::Fact;
+use gate_graph::Graph;
 use rm_base::{NoMemory, NodeId};
 use std::alloc::Global;
 use std::marker::Model;
@@ -86,6 +88,14 @@ fn write_mark(nodes: &mut Vec<NodeFacts>, place: usize, fact: Fact, held: bool)
 }
 
 impl FactSet {
+    /// No fact, for the node numbers of the graph.
+    pub fn new(alloc: Global, graph: &Graph) -> Result<FactSet, NoMemory>
+        ensures size { IfOk result (λ f. length f ≡ length (net_of graph.now).nodes) }
+        ensures none { IfOk result (λ f. (x : ℕ) (fact : Fact) → held_by f x fact ≡ false) }
+    {
+        FactSet::for_numbers(alloc, graph.node_bound())
+    }
+
     /// No fact, for the node numbers below `numbers`.
     pub fn for_numbers(alloc: Global, numbers: u32) -> Result<FactSet, NoMemory>
         ensures size { IfOk result (λ f. length f ≡ numbers) }

@@ -1,13 +1,23 @@
 //! Facts, lines and trees: what refutes a fault, and why an accepted tree means that no assignment detects it.
 #![tactic(auto)]
 
+pub mod chains;
+mod concluding;
+pub mod equal_lines;
+pub mod following;
+pub mod glances;
 mod held;
 mod items;
 pub mod laws;
 pub mod pins;
+pub mod place_lines;
 mod reasoning;
+#[cfg(test)]
+mod tests;
 mod trees;
+pub mod value_lines;
 
+pub use concluding::conclude;
 pub use held::{FactSet, NodeFacts};
 pub use items::{Form, Item, Shape};
 pub use reasoning::{Fact, Line};

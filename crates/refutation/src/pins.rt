@@ -1,4 +1,4 @@
-// What is known of a node or a pin, and what one look at a gate's pins tells.
+//! What is known of a node or a pin, and what one look at a gate's pins tells.
 ghost use Rattle.std.specs.Prelude.{◌≡◌, ◌<◌, ◌↔◌, List, length, Option, Bool, not, ℕ, IsTrue};
 ghost use Rattle.gate_net.specs.Net.{IsGateKind};
 ghost use Rattle.gate_net.specs.Values.{controlling};
@@ -68,7 +68,8 @@ pub fn known(facts: &FactSet, aspect: Aspect, node: NodeId) -> Option<bool>
     }
 }
 
-pub(crate) fn at_pin(stuck: Option<Stuck>, q: usize, known: Option<bool>) -> Option<bool>
+/// What is known at a pin, which may be the stuck one.
+pub fn at_pin(stuck: Option<Stuck>, q: usize, known: Option<bool>) -> Option<bool>
     ensures { result ≡ pin_value stuck q known }
 {
     match stuck {
@@ -97,7 +98,8 @@ pub fn stuck_at(fault: &Fault, gate: NodeId) -> Option<Stuck>
     }
 }
 
-pub(crate) fn is_value(known: Option<bool>, value: bool) -> bool
+/// Whether the value is known and is this.
+pub fn is_value(known: Option<bool>, value: bool) -> bool
     ensures { result ≡ is_known value known }
 {
     match known {
@@ -124,7 +126,8 @@ pub fn is_gate(kind: Kind) -> bool
     matches!(kind, Kind::And | Kind::Or | Kind::Not)
 }
 
-pub(crate) fn junction_forward(glance: Glance, value: bool) -> Option<bool>
+/// The value of an And or an Or that a glance for its controlling value gives.
+pub fn junction_forward(glance: Glance, value: bool) -> Option<bool>
     ensures { (os : List (Option Bool)) → Glances glance value os → result ≡ junction_follows value os }
 {
     if glance.any {
@@ -136,13 +139,15 @@ pub(crate) fn junction_forward(glance: Glance, value: bool) -> Option<bool>
     None
 }
 
-pub(crate) fn others_pass(glance: Glance, q: usize) -> bool
+/// Whether all pins but `q` are known to have the opposite of the glance's value.
+pub fn others_pass(glance: Glance, q: usize) -> bool
     ensures { (c : Bool) (os : List (Option Bool)) → Glances glance c os → result ≡ all_but (is_known (not c)) q os }
 {
     glance.rest == 0 || (glance.rest == 1 && glance.at == q)
 }
 
-pub(crate) fn junction_back(glance: Glance, c: bool, value: bool, q: usize) -> Option<bool>
+/// The value at pin `q` of an And or an Or with controlling value `c` that a glance for `c` gives.
+pub fn junction_back(glance: Glance, c: bool, value: bool, q: usize) -> Option<bool>
     ensures { (os : List (Option Bool)) → Glances glance c os → result ≡ junction_back c value os q }
 {
     if value != c {
@@ -154,7 +159,8 @@ pub(crate) fn junction_back(glance: Glance, c: bool, value: bool, q: usize) -> O
     None
 }
 
-pub(crate) fn opposite(known: Option<bool>) -> Option<bool>
+/// The opposite, where it is known.
+pub fn opposite(known: Option<bool>) -> Option<bool>
     ensures { result ≡ not_known known }
 {
     match known {

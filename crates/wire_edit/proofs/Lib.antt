@@ -28,3 +28,4 @@ pub mod TrialSteps
 pub mod Totalling
 pub mod Trying
 pub mod Meeting
+pub mod Sources

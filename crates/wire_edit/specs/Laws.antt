@@ -1,6 +1,6 @@
 -- Laws of the steps.
 use Rattle.std.specs.Prelude.{◌≡◌, ◌≢◌, ℕ, ◌+◌, ◌*◌, ◌<◌, ◌≤◌, Bool, true, false, not, Option, Some, None, List, [], ◌∷◌, slice_get, if◌then◌else◌, sum_by, length, filter, ◌↔◌}
-use Rattle.gate_net.specs.Net.{Node, Net, drivers_in, drivers_of, IsWellFormed, wire_count}
+use Rattle.gate_net.specs.Net.{Node, Net, drivers_in, drivers_of, IsWellFormed, source_count, wire_count}
 use Rattle.gate_net.specs.Values.{IsUndetected}
 use Rattle.gate_net.specs.Edits.{last_pin}
 use Rattle.gate_net.specs.Laws.{KeepsPlaces}
@@ -30,6 +30,10 @@ StepsKeepForm = (net : Net) (step : Step) → IsWellFormed net → Applies net s
 
 abbrev pub StepsKeepObserved : Type 0
 StepsKeepObserved = (net : Net) (step : Step) → IsWellFormed net → Applies net step → KeepsObserved net (stepped net step)
+
+-- a step adds and removes no source
+abbrev pub StepsKeepSources : Type 0
+StepsKeepSources = (net : Net) (step : Step) → IsWellFormed net → Applies net step → source_count (stepped net step) ≡ source_count net
 
 -- every observed place keeps its value under every assignment
 abbrev pub StepsKeepValues : Type 0

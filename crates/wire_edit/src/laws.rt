@@ -1,6 +1,6 @@
 //! Laws of the steps.
 ghost use Rattle.std.specs.Prelude.{◌≡◌, Some, None, true, false};
-ghost use Rattle.wire_edit.specs.Laws.{StepsKeepForm, StepsKeepObserved, StepsKeepValues, AnswersApply, NextApplies, TidyMeans};
+ghost use Rattle.wire_edit.specs.Laws.{StepsKeepForm, StepsKeepObserved, StepsKeepSources, StepsKeepValues, AnswersApply, NextApplies, TidyMeans};
 ghost use Rattle.wire_edit.specs.Work.{TidyingEnds, FixesEnd, AddsRaise, WorkIsBounded, WiresGrow, RoomForTidying, RoomForFixes, RoomForAdding};
 ghost use Rattle.wire_edit.specs.Steps.{stepped};
 ghost use Rattle.wire_edit.specs.Refusals.{refusal_of};
@@ -8,9 +8,10 @@ ghost use Rattle.wire_edit.specs.Order.{next_step};
 ghost use Rattle.wire_edit.specs.declared.refusal.EditRefusal.TheVariants.{Full};
 ghost use Rattle.wire_edit.specs.Rows.{four_gates, much, no_pins, add, zero_row, zero_row_moved, zero_row_tidy, buffer_row, add_9_2, const_6_0, no_node_40, cycle_6_9, already_6_2, wrong_2, no_pin_6_5, not_met_6, fix_6_5, const_2_0, dead_2, same_3_1, one_pin_3, dead_3, buffer_once, buffer_moved, buffer_tidy};
 
-/// Steps keep the net well formed, what stands together at observed places, and their values.
+/// Steps keep the net well formed, its sources, what stands together at observed places, and their values.
 pub fn steps_keep()
     ensures form { StepsKeepForm }
+    ensures sources { StepsKeepSources }
     ensures observed { StepsKeepObserved }
     ensures values { StepsKeepValues }
 {}

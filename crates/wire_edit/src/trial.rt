@@ -59,10 +59,9 @@ impl Model for Trial {
 
     ghost view = { λ t. record { graph = t.graph; trail = t.undos; steps = t.made.steps; room = record { pins = t.pins; nodes = t.nodes; steps = t.made.spare } } };
 
-    ghost use Rattle.std.specs.Prelude.{◌≡◌, [], ◌↔◌};
     ghost use Rattle.wire_edit.specs.Trials.{IsTrial};
 
-    ghost invariant = { λ t. IsTrial t.graph t.undos (record { pins = t.pins; nodes = t.nodes; steps = t.made.spare }) t.marks t.agenda × ((t.made.steps ≡ []) ↔ (t.undos.entries ≡ [])) };
+    ghost invariant = { λ t. IsTrial t.graph t.undos (record { pins = t.pins; nodes = t.nodes; steps = t.made.spare }) t.marks t.agenda };
 }
 
 // Makes a step's edit, and marks what it touches.
@@ -72,7 +71,6 @@ fn carry_out(graph: &mut Graph, undos: &mut Undos, agenda: &mut Agenda, step: St
     ensures edits { Edits graph.old (edit_of (change_of (net_of graph.old) step)) graph.new }
     ensures undos { LeadOn graph.old graph.new undos.old.entries undos.new.entries }
     ensures spent { undos.new.spare + entries_for graph.old (edit_of (change_of (net_of graph.old) step)) ≡ undos.old.spare }
-    ensures some { undos.new.entries ≢ [] }
     ensures epoch { graph.new.epoch ≡ graph.old.epoch }
     ensures few { length (net_of graph.new).nodes ≤ 4294967295 }
     ensures marks { KeepsMarks agenda.old agenda.new }
@@ -334,8 +332,8 @@ impl Trial {
     pub fn commit(self) -> Graph
         ensures net { net_of result ≡ net_of self.graph }
         ensures readers { (n : ℕ) → fanouts_of result n ≡ fanouts_of self.graph n }
-        ensures same { self.steps ≡ [] → result.epoch ≡ self.graph.epoch }
-        ensures epoch { self.steps ≢ [] → result.epoch ≡ min (self.graph.epoch + 1) (2 ^ 64 - 1) }
+        ensures same { self.trail.entries ≡ [] → result.epoch ≡ self.graph.epoch }
+        ensures epoch { self.trail.entries ≢ [] → result.epoch ≡ min (self.graph.epoch + 1) (2 ^ 64 - 1) }
     {
         let Trial {
             mut graph,

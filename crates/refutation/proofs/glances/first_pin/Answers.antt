@@ -1,5 +1,8 @@
-use Rattle.refutation.proofs.Looks.{first_number}
+use Rattle.std.proofs.Common.{◌≡◌, Some, refl}
+use Rattle.std.specs.Prelude.{slice_get}
 use Rattle.refutation.proofs.glances.first_pin.Goals as goal
 
 pub known-requires : goal.known-requires
-known-requires c = c.requires 0 _ (first_number c.args.drivers.now c.in-Some.driver.now c.in-Some.ensures.value)
+known-requires c =
+    let first : slice_get c.args.drivers 0 ≡ Some c.in-Some.driver.0 = rw c.in-Some.ensures.steps refl in
+    c.requires.within 0 c.in-Some.driver.0 first

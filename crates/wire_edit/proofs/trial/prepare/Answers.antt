@@ -9,6 +9,6 @@ returns-clause-parts c = (
   subst (λ (m : ℕ). IsTrial c.reserve.new.self c.in_ok-undos.undos c.args.room m c.in_ok-agenda.agenda) (sym c.in_ok-marks.ensures)
       (begun c.reserve.new.self (net_of c.args.graph.now) c.in_ok-undos.undos c.args.room c.in-Some.wires c.in-Some-entries_needed.entries c.saturating_add-numbers.result c.in_ok-agenda.agenda c.reserve.ensures.net
       c.in_ok-undos.ensures.0 c.leads_back.ensures c.in-Some.ensures c.in-Some-entries_needed.ensures c.in_ok-undos.ensures.1 c.in_ok-reserve.ensures.pins c.in_ok-reserve.ensures.nodes
-      ? c.well_formed-2.ensures.nodes c.in_ok-agenda.ensures),
+      (omega (arith, c.saturating_add-numbers.ensures, c.node_bound.ensures)) c.well_formed-2.ensures.nodes c.in_ok-agenda.ensures),
   (c.in_ok-made.ensures, c.in_ok-undos.ensures.0),
 )

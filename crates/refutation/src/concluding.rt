@@ -1,0 +1,78 @@
+// What a line gives.
+ghost use Rattle.std.specs.Prelude.{◌≡◌, ◌<◌, ◌≤◌, IfSome, length};
+ghost use Rattle.gate_net.specs.Net.{IsLive};
+ghost use Rattle.gate_net.specs.Values.{HasPin};
+ghost use Rattle.gate_graph.specs.Circuit.{net_of};
+ghost use Rattle.refutation.specs.FactSets.{held_by};
+ghost use Rattle.refutation.specs.Answers.{IsAnswer};
+
+use crate::equal_lines::{
+    line_differs_back, line_equal_forward, line_not_differs, line_not_equal, line_side,
+};
+use crate::held::FactSet;
+use crate::place_lines::{line_act, line_chain, line_constant, line_out, line_site};
+use crate::reasoning::{Fact, Line};
+use crate::value_lines::{
+    line_compare, line_faulty_back, line_faulty_forward, line_good_back, line_good_forward,
+    line_to_faulty, line_to_good,
+};
+use gate_graph::{Graph, Marks};
+use rm_base::{Fault, NodeId};
+
+fn concluded(
+    graph: &Graph,
+    fault: &Fault,
+    facts: &FactSet,
+    line: &Line,
+    marks: &mut Marks,
+) -> Option<(NodeId, Fact)>
+    requires gate { IsLive (net_of graph.now) fault.now.gate.0 }
+    requires facts { length (net_of graph.now).nodes ≤ length facts.now }
+    requires marks { length (net_of graph.now).nodes ≤ marks.old }
+    ensures answer { IsAnswer (net_of graph.now) fault.now (held_by facts.now) line.now result }
+    ensures marks { marks.new ≡ marks.old }
+{
+    match *line {
+        Line::Act => line_act(graph, fault),
+        Line::Site => line_site(fault),
+        Line::Chain { node } => line_chain(graph, fault, node),
+        Line::Out { node } => line_out(graph, fault, node, marks),
+        Line::Constant { node } => line_constant(graph, fault, node),
+        Line::GoodForward { node } => line_good_forward(graph, fault, facts, node),
+        Line::FaultyForward { node } => line_faulty_forward(graph, fault, facts, node),
+        Line::GoodBack { node, position } => line_good_back(graph, fault, facts, node, position),
+        Line::FaultyBack { node, position } => line_faulty_back(
+            graph, fault, facts, node, position,
+        ),
+        Line::Compare { node } => line_compare(graph, fault, facts, node),
+        Line::ToFaulty { node } => line_to_faulty(graph, fault, facts, node),
+        Line::ToGood { node } => line_to_good(graph, fault, facts, node),
+        Line::EqualForward { node } => line_equal_forward(graph, fault, facts, node),
+        Line::NotDiffers { node } => line_not_differs(graph, fault, facts, node),
+        Line::NotEqual { node } => line_not_equal(graph, fault, facts, node),
+        Line::DiffersBack { node, position } => line_differs_back(
+            graph, fault, facts, node, position,
+        ),
+        Line::Side { node, position } => line_side(graph, fault, facts, node, position),
+    }
+}
+
+/// The node and the fact that a line gives with these facts held, or None exactly where its condition isn't met. Only
+/// `Chain` and `Out` look at more than one gate.
+pub fn conclude(
+    graph: &Graph,
+    fault: &Fault,
+    facts: &FactSet,
+    line: &Line,
+    marks: &mut Marks,
+) -> Option<(NodeId, Fact)>
+    requires pin { HasPin (net_of graph.now) fault.now }
+    requires facts { length (net_of graph.now).nodes ≤ length facts.now }
+    requires marks { length (net_of graph.now).nodes ≤ marks.old }
+    ensures answer { IsAnswer (net_of graph.now) fault.now (held_by facts.now) line.now result }
+    ensures node { IfSome result (λ r. r.0.0 < length (net_of graph.now).nodes) }
+    ensures marks { marks.new ≡ marks.old }
+{
+    graph.well_formed();
+    concluded(graph, fault, facts, line, marks)
+}

@@ -1,0 +1,144 @@
+//! Lines on nodes that are equal or differ.
+ghost use Rattle.std.specs.Prelude.{◌≤◌, length};
+ghost use Rattle.gate_graph.specs.Circuit.{net_of};
+ghost use Rattle.refutation.specs.FactSets.{held_by};
+ghost use Rattle.refutation.specs.Answers.{IsAnswer};
+
+use crate::following::{gate_pins, pin_driver};
+use crate::glances::{all_equal, others_equal};
+use crate::held::FactSet;
+use crate::pins::{Aspect, controlling, is_gate, is_stuck, known};
+use crate::reasoning::{Fact, Line};
+use gate_graph::Graph;
+use gate_net::Kind;
+use rm_base::{Fault, NodeId};
+
+/// A gate other than the faulty one is equal where all its drivers are.
+pub fn line_equal_forward(
+    graph: &Graph,
+    fault: &Fault,
+    facts: &FactSet,
+    node: NodeId,
+) -> Option<(NodeId, Fact)>
+    requires { length (net_of graph.now).nodes ≤ length facts.now }
+    ensures { IsAnswer (net_of graph.now) fault.now (held_by facts.now) (Line.EqualForward node) result }
+{
+    let kind = graph.kind(node)?;
+    if !is_gate(kind) {
+        return None;
+    }
+    if node.0 == fault.gate.0 {
+        return None;
+    }
+    if !all_equal(gate_pins(graph, node), facts) {
+        return None;
+    }
+    Some((node, Fact::Equal))
+}
+
+/// A Not other than the faulty gate differs where its driver does.
+pub fn line_not_differs(
+    graph: &Graph,
+    fault: &Fault,
+    facts: &FactSet,
+    node: NodeId,
+) -> Option<(NodeId, Fact)>
+    requires { length (net_of graph.now).nodes ≤ length facts.now }
+    ensures { IsAnswer (net_of graph.now) fault.now (held_by facts.now) (Line.NotDiffers node) result }
+{
+    let kind = graph.kind(node)?;
+    if kind != Kind::Not {
+        return None;
+    }
+    if node.0 == fault.gate.0 {
+        return None;
+    }
+    let driver = pin_driver(graph, node, 0)?;
+    let equal = known(facts, Aspect::OfEqual, driver)?;
+    if equal {
+        return None;
+    }
+    Some((node, Fact::Differs))
+}
+
+/// The driver of a Not other than the faulty gate is equal where the Not is.
+pub fn line_not_equal(
+    graph: &Graph,
+    fault: &Fault,
+    facts: &FactSet,
+    node: NodeId,
+) -> Option<(NodeId, Fact)>
+    requires { length (net_of graph.now).nodes ≤ length facts.now }
+    ensures { IsAnswer (net_of graph.now) fault.now (held_by facts.now) (Line.NotEqual node) result }
+{
+    let kind = graph.kind(node)?;
+    if kind != Kind::Not {
+        return None;
+    }
+    if node.0 == fault.gate.0 {
+        return None;
+    }
+    let equal = known(facts, Aspect::OfEqual, node)?;
+    if !equal {
+        return None;
+    }
+    let driver = pin_driver(graph, node, 0)?;
+    Some((driver, Fact::Equal))
+}
+
+/// A pin's driver differs where the gate does and the drivers of all other pins are equal.
+pub fn line_differs_back(
+    graph: &Graph,
+    fault: &Fault,
+    facts: &FactSet,
+    node: NodeId,
+    position: u32,
+) -> Option<(NodeId, Fact)>
+    requires { length (net_of graph.now).nodes ≤ length facts.now }
+    ensures { IsAnswer (net_of graph.now) fault.now (held_by facts.now) (Line.DiffersBack node position) result }
+{
+    let kind = graph.kind(node)?;
+    if !is_gate(kind) {
+        return None;
+    }
+    if node.0 == fault.gate.0 {
+        return None;
+    }
+    let equal = known(facts, Aspect::OfEqual, node)?;
+    if equal {
+        return None;
+    }
+    let driver = pin_driver(graph, node, position)?;
+    if !others_equal(gate_pins(graph, node), facts, position as usize) {
+        return None;
+    }
+    Some((driver, Fact::Differs))
+}
+
+/// An equal driver of an And or Or that differs has the noncontrolling value.
+pub fn line_side(
+    graph: &Graph,
+    fault: &Fault,
+    facts: &FactSet,
+    node: NodeId,
+    position: u32,
+) -> Option<(NodeId, Fact)>
+    requires { length (net_of graph.now).nodes ≤ length facts.now }
+    ensures { IsAnswer (net_of graph.now) fault.now (held_by facts.now) (Line.Side node position) result }
+{
+    let kind = graph.kind(node)?;
+    let value = controlling(kind)?;
+    let equal = known(facts, Aspect::OfEqual, node)?;
+    if equal {
+        return None;
+    }
+    if is_stuck(fault, node, position) {
+        return None;
+    }
+    let driver = pin_driver(graph, node, position)?;
+    let same = known(facts, Aspect::OfEqual, driver)?;
+    if !same {
+        return None;
+    }
+    Some((driver, Fact::Good(!value)))
+}

@@ -1,0 +1,95 @@
+//! What follows at one gate.
+ghost use Rattle.std.specs.Prelude.{◌≡◌, ◌≢◌, ◌<◌, ◌≤◌, length, None};
+ghost use Rattle.std.specs.Prelude.{IfSome, slice_get};
+ghost use Rattle.std.specs.Option.{option_map};
+ghost use Rattle.gate_net.specs.Net.{kind_of, drivers_of};
+ghost use Rattle.gate_graph.specs.Circuit.{net_of};
+ghost use Rattle.refutation.specs.FactSets.{held_by};
+ghost use Rattle.refutation.specs.Pins.{AreBelow};
+ghost use Rattle.refutation.specs.Answers.{forward_at, backward_at, both_at, seen_pull};
+
+use crate::glances::{back, forward};
+use crate::held::FactSet;
+use crate::pins::{Aspect, Stuck, known};
+use gate_graph::{Graph, Inputs};
+use rm_base::NodeId;
+
+/// The drivers of a live node.
+pub fn gate_pins(graph: &Graph, node: NodeId) -> Inputs<'_>
+    requires { kind_of (net_of graph.now) node.0 ≢ None }
+    ensures drivers { result ≡ drivers_of (net_of graph.now) node.0 }
+    ensures within { AreBelow (drivers_of (net_of graph.now) node.0) (length (net_of graph.now).nodes) }
+    ensures few { length (drivers_of (net_of graph.now) node.0) ≤ 4294967295 }
+    ensures bound { node.0 < length (net_of graph.now).nodes }
+{
+    graph.well_formed();
+    graph.inputs_of(node)
+}
+
+/// The driver of a pin, where there is one.
+pub fn pin_driver(graph: &Graph, gate: NodeId, position: u32) -> Option<NodeId>
+    ensures driver { option_map (λ n. n.0) result ≡ slice_get (drivers_of (net_of graph.now) gate.0) position }
+    ensures within { IfSome result (λ d. d.0 < length (net_of graph.now).nodes) }
+{
+    graph.well_formed();
+    graph.driver(gate, position)
+}
+
+/// The value of a gate that follows.
+pub fn forward_line(
+    graph: &Graph,
+    stuck: Option<Stuck>,
+    facts: &FactSet,
+    aspect: Aspect,
+    node: NodeId,
+) -> Option<bool>
+    requires { length (net_of graph.now).nodes ≤ length facts.now }
+    ensures { result ≡ forward_at (net_of graph.now) stuck aspect (held_by facts.now) node.0 }
+{
+    let kind = graph.kind(node)?;
+    forward(kind, gate_pins(graph, node), stuck, facts, aspect)
+}
+
+/// A pin's driver, and the value that follows for it.
+pub fn backward_line(
+    graph: &Graph,
+    stuck: Option<Stuck>,
+    facts: &FactSet,
+    aspect: Aspect,
+    node: NodeId,
+    position: u32,
+) -> Option<(NodeId, bool)>
+    requires { length (net_of graph.now).nodes ≤ length facts.now }
+    ensures { seen_pull result ≡ backward_at (net_of graph.now) stuck aspect (held_by facts.now) node.0 position }
+{
+    let kind = graph.kind(node)?;
+    let value = known(facts, aspect, node)?;
+    let driver = graph.driver(node, position)?;
+    let follows = back(
+        kind,
+        value,
+        gate_pins(graph, node),
+        stuck,
+        facts,
+        aspect,
+        position as usize,
+    )?;
+    Some((driver, follows))
+}
+
+/// Two things that are known of one live node.
+pub fn both_known(
+    graph: &Graph,
+    facts: &FactSet,
+    one: Aspect,
+    other: Aspect,
+    node: NodeId,
+) -> Option<(bool, bool)>
+    requires { length (net_of graph.now).nodes ≤ length facts.now }
+    ensures { result ≡ both_at (net_of graph.now) one other (held_by facts.now) node.0 }
+{
+    let _kind = graph.kind(node)?;
+    let a = known(facts, one, node)?;
+    let b = known(facts, other, node)?;
+    Some((a, b))
+}

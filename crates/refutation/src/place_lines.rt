@@ -1,0 +1,72 @@
+//! Lines that ask for no fact.
+ghost use Rattle.std.specs.Prelude.{◌≡◌, ◌≤◌, length};
+ghost use Rattle.gate_net.specs.Net.{Net, IsLive};
+ghost use Rattle.gate_graph.specs.Circuit.{net_of};
+ghost use Rattle.refutation.specs.Facts.{Held};
+ghost use Rattle.refutation.specs.Answers.{IsAnswer};
+
+use crate::chains::is_in_chain;
+use crate::reasoning::{Fact, Line};
+use gate_graph::{Graph, Marks};
+use gate_net::Kind;
+use rm_base::{Fault, NodeId};
+
+/// The driver of the stuck pin has the opposite value.
+pub fn line_act(graph: &Graph, fault: &Fault) -> Option<(NodeId, Fact)>
+    ensures { (held : Held) → IsAnswer (net_of graph.now) fault.now held Line.Act result }
+{
+    let driver = graph.driver(fault.gate, fault.position)?;
+    Some((driver, Fact::Good(!fault.value)))
+}
+
+/// The faulty gate differs.
+pub fn line_site(fault: &Fault) -> Option<(NodeId, Fact)>
+    ensures { (net : Net) (held : Held) → IsAnswer net fault.now held Line.Site result }
+{
+    Some((fault.gate, Fact::Differs))
+}
+
+/// A constant has its value.
+pub fn line_constant(graph: &Graph, fault: &Fault, node: NodeId) -> Option<(NodeId, Fact)>
+    ensures { (held : Held) → IsAnswer (net_of graph.now) fault.now held (Line.Constant node) result }
+{
+    match graph.kind(node)? {
+        Kind::Zero => Some((node, Fact::Good(false))),
+        Kind::One => Some((node, Fact::Good(true))),
+        _ => None,
+    }
+}
+
+/// A node that the faulty gate doesn't reach is equal. It searches back from the node.
+pub fn line_out(
+    graph: &Graph,
+    fault: &Fault,
+    node: NodeId,
+    marks: &mut Marks,
+) -> Option<(NodeId, Fact)>
+    requires gate { IsLive (net_of graph.now) fault.now.gate.0 }
+    requires marks { length (net_of graph.now).nodes ≤ marks.old }
+    ensures answer { (held : Held) → IsAnswer (net_of graph.now) fault.now held (Line.Out node) result }
+    ensures marks { marks.new ≡ marks.old }
+{
+    let _kind = graph.kind(node)?;
+    if node.0 == fault.gate.0 {
+        return None;
+    }
+    if graph.reaches(fault.gate, node, marks) {
+        return None;
+    }
+    Some((node, Fact::Equal))
+}
+
+/// A node of the chain differs. It walks along the chain.
+pub fn line_chain(graph: &Graph, fault: &Fault, node: NodeId) -> Option<(NodeId, Fact)>
+    requires gate { IsLive (net_of graph.now) fault.now.gate.0 }
+    ensures { (held : Held) → IsAnswer (net_of graph.now) fault.now held (Line.Chain node) result }
+{
+    if is_in_chain(graph, fault.gate, node) {
+        Some((node, Fact::Differs))
+    } else {
+        None
+    }
+}
