@@ -11,3 +11,4 @@ pub mod GrammarLaws
 pub mod DraftLaws
 pub mod KnownLaws
 pub mod ReadLaws
+pub mod ModelLaws

@@ -1,5 +1,5 @@
 -- How reading goes on.
-use Rattle.std.proofs.Common.{◌≡◌, ◌≢◌, ℕ, zero, suc, List, [], ◌∷◌, ◌++◌, map, filter, length, Bool, true, false, not, ◌&&◌, ◌||◌, inl, inr, refl, sym, ◌∙◌, ap, subst, append_assoc, Option, None, Some, Result, Ok, Err}
+use Rattle.std.proofs.Common.{◌≡◌, ◌≢◌, ◌<◌, arith, ℕ, zero, suc, List, [], ◌∷◌, ◌++◌, map, filter, length, Bool, true, false, not, ◌&&◌, ◌||◌, inl, inr, refl, sym, ◌∙◌, ap, subst, append_assoc, Option, None, Some, Result, Ok, Err}
 use Rattle.std.specs.Prelude.{if◌then◌else◌, codes, OnOk}
 use Rattle.std.specs.List.{filter_map, cons_option}
 use Rattle.std.specs.Option.{option_map}
@@ -167,3 +167,59 @@ is_refused (Limit quantity count place) f g h r = h (Limit quantity count place)
 pub progress_fault : (text : List ℕ) (ls ms : List Logical) (c : Checker) (d : Draft) (places : List Place) (first : Token) (rest : List Token) (e : ReadRefusal) → (p : Progress text ls c d places) → pending ls ≡ line_of text first rest ∷ ms → IsRefusal e (words_fault p.said (spot_of text first ∷ map (spot_of text) rest)) → IsRefusal e (lines_fault nothing_said (layout text))
 progress_fault text ls ms c d places first rest e p is r =
     is_refused e (words_fault p.said (spot_of text first ∷ map (spot_of text) rest)) (lines_fault nothing_said (layout text)) (λ x f. p.faults ∙ pending_fault p.said ls ∙ ap (lines_fault p.said) is ∙ ap (λ (o : Option ReadRefusal). or_else o (lines_fault (after_line p.said (spot_of text first ∷ map (spot_of text) rest)) ms)) f) r
+
+pub flaw_first : (said : Said) (f : Flaw) (ls : List Logical) (r : ReadRefusal) → flaw_fault (Some f) ≡ Some r → StandsFirst f ls → lines_fault said ls ≡ Some r
+flaw_first said f [] r e h = absurd h
+flaw_first said f (l ∷ ls) r e h = ap (λ (o : Option Flaw). or_else (flaw_fault o) (or_else (words_fault said l.tokens) (lines_fault (after_line said l.tokens) ls))) h ∙ ap (λ (o : Option ReadRefusal). or_else o (or_else (words_fault said l.tokens) (lines_fault (after_line said l.tokens) ls))) e
+
+pub pending_refused : (text : List ℕ) (ls : List Logical) (c : Checker) (d : Draft) (places : List Place) (e : ReadRefusal) → (p : Progress text ls c d places) → IsRefusal e (lines_fault p.said (pending ls)) → IsRefusal e (lines_fault nothing_said (layout text))
+pending_refused text ls c d places e p r = subst (λ (o : Option ReadRefusal). IsRefusal e o) (sym (p.faults ∙ pending_fault p.said ls)) r
+
+kept_flaw : (k : Logical) (ks : List Logical) (f : Flaw) → k.tokens ≡ [] → k.flaw ≡ Some f → length (pending (k ∷ ks)) ≡ suc (length ks)
+kept_flaw k ks f g h = rw (g, h) refl
+
+kept_tokens : (k : Logical) (ks : List Logical) (t : Spot) (ts : List Spot) → k.tokens ≡ t ∷ ts → length (pending (k ∷ ks)) ≡ suc (length ks)
+kept_tokens k ks t ts g = rw g refl
+
+idle_passed : (k : Logical) (ks : List Logical) → k.tokens ≡ [] → k.flaw ≡ None → pending (k ∷ ks) ≡ pending ks
+idle_passed k ks g h = rw (g, h) refl
+
+pub pending_less : (ls ms : List Logical) (l : Logical) → pending ls ≡ l ∷ ms → length ms < length ls
+pending_less [] ms l e = cc
+pending_less (k ∷ ks) ms l e = at k.tokens k.flaw refl refl (pending_less ks ms l)
+  where
+    long : length (pending (k ∷ ks)) ≡ suc (length ms)
+    long = ap length e
+    at : (ts : List Spot) (f : Option Flaw) → k.tokens ≡ ts → k.flaw ≡ f → (pending ks ≡ l ∷ ms → length ms < length ks) → length ms < length (k ∷ ks)
+    at [] None g h ih = let less : length ms < length ks = ih (sym (idle_passed k ks g h) ∙ e) in omega arith
+    at [] (Some f) g h ih = let n : length (pending (k ∷ ks)) ≡ suc (length ks) = kept_flaw k ks f g h in let m : length (pending (k ∷ ks)) ≡ suc (length ms) = long in omega arith
+    at (t ∷ ts) f g h ih = let n : length (pending (k ∷ ks)) ≡ suc (length ks) = kept_tokens k ks t ts g in let m : length (pending (k ∷ ks)) ≡ suc (length ms) = long in omega arith
+
+pub given_line : (text other : List ℕ) (tokens line : List Token) (ls ms : List Logical) → other ≡ text → tokens ≡ line → pending ls ≡ record { tokens = map (spot_of other) line; flaw = None } ∷ ms → pending ls ≡ record { tokens = map (spot_of text) tokens; flaw = None } ∷ ms
+given_line text other tokens line ls ms e f g =
+    g
+    ∙ ap (λ (x : List ℕ). record { tokens = map (spot_of x) line; flaw = None } ∷ ms) e
+    ∙ ap (λ (ts : List Token). record { tokens = map (spot_of text) ts; flaw = None } ∷ ms) (sym f)
+
+pub progress_start : (text : List ℕ) (c : Checker) (d : Draft) → IsSaid nothing_said c → IsDraft nothing_said [] d → Progress text (layout text) c d []
+progress_start text c d said drafted = record { said = nothing_said; lines = []; named = []; faults = refl; uses = refl; words = refl; covers = refl; places_are = refl; covers_are = refl; checked = said; drafted = drafted }
+
+append_end : {A : Type 0} (xs : List A) → xs ++ [] ≡ xs
+append_end [] = refl
+append_end (x ∷ xs) = ap (λ ys. x ∷ ys) (append_end xs)
+
+pub progress_end : (text : List ℕ) (ls : List Logical) (c : Checker) (d : Draft) (places : List Place) → Progress text ls c d places → pending ls ≡ [] → IsRead text (said_by nothing_said (layout text)) c d places
+progress_end text ls c d places p e =
+    let said : said_by nothing_said (layout text) ≡ p.said = p.uses ∙ pending_said p.said ls ∙ ap (said_by p.said) e in
+    let words : lines_of text ≡ p.lines = p.words ∙ ap (λ (xs : List Line). p.lines ++ xs) (pending_words ls ∙ ap (λ (ns : List Logical). filter has_words (map words_in ns)) e) ∙ append_end p.lines in
+    let covers : filter_map cover_in (layout text) ≡ p.named = p.covers ∙ ap (λ (xs : List (Place × Cover)). p.named ++ xs) (pending_covers ls ∙ ap (filter_map cover_in) e) ∙ append_end p.named in
+    record {
+      uses = refl;
+      checked = subst (λ (s : Said). IsSaid s c) (sym said) p.checked;
+      drafted = subst (λ (s : Said). IsDraft s (lines_of text) d) (sym said) (subst (λ (xs : List Line). IsDraft p.said xs d) (sym words) p.drafted);
+      places_are = ap (map (λ (x : Place × Cover). x.0)) covers ∙ p.places_are;
+      covers_are = ap (map (λ (x : Place × Cover). x.1)) covers ∙ p.covers_are ∙ ap (λ (xs : List Line). map bare_cover (names_lines xs)) (sym words);
+    }
+
+pub progress_fault_end : (text : List ℕ) (ls : List Logical) (c : Checker) (d : Draft) (places : List Place) → Progress text ls c d places → pending ls ≡ [] → lines_fault nothing_said (layout text) ≡ fault_if (not c.began) NoModel (record { line = 1; column = 1 })
+progress_fault_end text ls c d places p e = p.faults ∙ pending_fault p.said ls ∙ ap (lines_fault p.said) e ∙ ap (λ (t : Bool). fault_if (not t) NoModel (record { line = 1; column = 1 })) p.checked.began

@@ -3,6 +3,7 @@ use Rattle.std.specs.Prelude.{◌≡◌, ◌<◌, ℕ, Bool, true, false, List, 
 use Rattle.rm_model.specs.Words.{Word}
 use Rattle.rm_model.specs.declared.parts.Literal.{Literal}
 use Rattle.rm_model.specs.declared.parts.Cover.{Cover}
+use Rattle.rm_model.specs.declared.parts.Model.{Model as CircuitModel}
 use Rattle.blif_format.specs.Text.{Line, on_word, latch_words, cover_words, row_words}
 use Rattle.blif_format.specs.Grammar.{before_end, begins_with, is_dotted, words_after, words_of, names_lines, follow, body_of}
 use Rattle.blif_format.specs.Uses.{Command, Model, Inputs, Outputs, Clock, Names, Latch, End}
@@ -126,3 +127,6 @@ pub record AddsRow (s : Spot) (ss : List Spot) (o : SaidCover) (d e : Draft) : T
   pub rest : e ≡ record d { current = e.current }
   pub covers : map cover_words (all_covers e) ≡ add_row (s.word ∷ map (λ (t : Spot). t.word) ss) (map cover_words (all_covers d))
   pub current : CurrentIs (Some (with_row (s ∷ ss) o)) e.current
+
+abbrev pub model_in : Draft → CircuitModel
+model_in d = record { name = d.name; inputs = d.inputs; clocks = d.clocks; outputs = d.outputs; latches = d.latches; covers = all_covers d }

@@ -6,14 +6,14 @@ ghost use Rattle.blif_lines.specs.Reading.{spot_of, IsWithin};
 ghost use Rattle.blif_format.specs.Text.{Line, control_word, timing_words, init_words, latch_words, cover_words, row_words};
 ghost use Rattle.blif_format.specs.FirstFault.{Said, nothing_said, words_fault, after_line, OpenCover as SaidCover, row_fault, latch_types, init_values, is_literal as literal_bytes};
 ghost use Rattle.blif_reader.specs.Meant.{said_command};
-ghost use Rattle.blif_reader.specs.Drafts.{IsDraft, all_covers, Changes, IsKnown, RowsAre, CurrentIs, HasRow, AddsRow, last_token, inputs_in};
+ghost use Rattle.blif_reader.specs.Drafts.{IsDraft, all_covers, model_in, Changes, IsKnown, RowsAre, CurrentIs, HasRow, AddsRow, last_token, inputs_in};
 ghost use Rattle.blif_reader.specs.Lines.{words_at, IsLatchLine, are_literals, init_part, timing_part};
 
 use crate::check::word_of;
 use crate::words::{Command, command_of, is_text, least_words};
 use blif_lines::Token;
 use rm_base::NoMemory;
-use rm_model::{Cover, Latch, LatchKind, Listed, Literal, Name, Row, Timing};
+use rm_model::{Cover, Latch, LatchKind, Listed, Literal, Model, Name, Row, Timing};
 use std::alloc::Global;
 
 fn name_at(alloc: Global, text: &[u8], token: &Token) -> Result<Name, NoMemory>
@@ -356,4 +356,29 @@ pub fn new_draft(alloc: Global) -> Draft
         covers: Listed::new(alloc),
         current: None,
     }
+}
+
+/// The model of the draft, whose last cover takes no more rows.
+pub fn model_of(draft: Draft) -> Result<Model, NoMemory>
+    ensures { IfOk result (λ m. m ≡ model_in draft) }
+{
+    let mut draft = draft;
+    close(&mut draft)?;
+    let Draft {
+        name,
+        inputs,
+        clocks,
+        outputs,
+        latches,
+        covers,
+        current: _,
+    } = draft;
+    Ok(Model {
+        name,
+        inputs,
+        clocks,
+        outputs,
+        latches,
+        covers,
+    })
 }

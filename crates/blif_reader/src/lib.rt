@@ -3,6 +3,9 @@
 
 mod check;
 mod draft;
+mod model;
 mod names;
 mod read;
 mod words;
+
+pub use model::read_model;

@@ -1,8 +1,9 @@
 // The reader of a text's lines.
-ghost use Rattle.std.specs.Prelude.{◌≡◌, ◌≤◌, ◌^◌, ◌∷◌, [], length, map, not, List, OnOk, IfOk, IfErr, All, None, Some};
+ghost use Rattle.std.specs.Prelude.{◌≡◌, ◌≢◌, ◌≤◌, ◌^◌, ◌∷◌, [], length, map, not, List, OnOk, IfOk, IfErr, All, None, Some, IfSome};
 ghost use Rattle.blif_lines.specs.Layout.{Logical, layout, lines_of};
-ghost use Rattle.blif_lines.specs.Reading.{spot_of, IsWithin, pending};
-ghost use Rattle.blif_format.specs.FirstFault.{Said, nothing_said, lines_fault, fault_if};
+ghost use Rattle.blif_lines.specs.Reading.{spot_of, IsWithin, pending, Gives};
+ghost use Rattle.blif_format.specs.FirstFault.{Said, nothing_said, said_by, lines_fault, fault_if};
+ghost use Rattle.blif_format.specs.declared.refusal.FaultKind.TheVariants.{NoModel};
 ghost use Rattle.blif_reader.specs.Meant.{IsRefusal};
 ghost use Rattle.blif_reader.specs.Progress.{Progress, IsRead, places_with};
 
@@ -64,4 +65,75 @@ fn take_tokens<'a>(
         Err(_) => return Err(ReadRefusal::NoMemory),
     }
     push_place(&mut lines.places, text, first)
+}
+
+// Takes the tokens of the next line, of which there are some.
+fn take_all<'a>(
+    alloc: Global,
+    lines: &mut Lines<'a>,
+    text: &'a [u8],
+    tokens: &[Token],
+) -> Result<(), ReadRefusal>
+    requires words { All (IsWithin text.now) tokens.now }
+    requires some { tokens.now ≢ [] }
+    requires small { length text.now ≤ 2 ^ 24 }
+    ensures ok { (ls ms : List Logical) → Progress text.now ls lines.old.checker lines.old.draft lines.old.places.items → pending ls ≡ record { tokens = map (spot_of text.now) tokens.now; flaw = None } ∷ ms → OnOk result (Progress text.now ms lines.new.checker lines.new.draft lines.new.places.items) }
+    ensures err { (ls ms : List Logical) → Progress text.now ls lines.old.checker lines.old.draft lines.old.places.items → pending ls ≡ record { tokens = map (spot_of text.now) tokens.now; flaw = None } ∷ ms → IfErr result (λ e. IsRefusal e (lines_fault nothing_said (layout text.now))) }
+{
+    match tokens.split_first() {
+        Some((first, rest)) => {
+            // no line has more tokens than the text has bytes
+            if rest.len() > 4_294_967_295 {
+                return Err(ReadRefusal::NoMemory);
+            }
+            take_tokens(alloc, lines, text, first, rest)
+        }
+        None => Err(ReadRefusal::NoMemory),
+    }
+}
+
+fn next_line(reader: &mut LineReader<'_>) -> Result<Option<LogicalLine>, ReadRefusal>
+    ensures text { reader.new.text ≡ reader.old.text }
+    ensures ok { IfOk result (λ found. Gives reader.old reader.new found) }
+    ensures tokens { IfOk result (λ found. IfSome found (λ line. line ≢ [])) }
+    ensures within { IfOk result (λ found. IfSome found (λ line. All (IsWithin reader.old.text) line)) }
+    ensures fault { (said : Said) → IfErr result (λ e. IsRefusal e (lines_fault said (pending reader.old.rest))) }
+{
+    match reader.next() {
+        Ok(found) => Ok(found),
+        Err(LineFault::BadByte(place)) => Err(ReadRefusal::Fault {
+            kind: FaultKind::BadByte,
+            place,
+        }),
+        Err(LineFault::OpenJoin(place)) => Err(ReadRefusal::Fault {
+            kind: FaultKind::OpenJoin,
+            place,
+        }),
+        Err(LineFault::NoMemory) => Err(ReadRefusal::NoMemory),
+    }
+}
+
+/// All lines of a text, or the first fault of lines.
+pub fn read_lines<'a>(alloc: Global, text: &'a [u8]) -> Result<Lines<'a>, ReadRefusal>
+    requires { length text.now ≤ 16777216 }
+    ensures ok { IfOk result (λ r. IsRead text.now (said_by nothing_said (layout text.now)) r.checker r.draft r.places.items) }
+    ensures faults { IfOk result (λ r. lines_fault nothing_said (layout text.now) ≡ fault_if (not r.checker.began) NoModel (record { line = 1; column = 1 })) }
+    ensures err { IfErr result (λ e. IsRefusal e (lines_fault nothing_said (layout text.now))) }
+{
+    let mut reader = LineReader::new(alloc, text);
+    let mut lines = Lines {
+        checker: Checker::new(alloc),
+        draft: new_draft(alloc),
+        places: Vec::new(alloc),
+    };
+    'lines: loop {
+        match next_line(&mut reader) {
+            Err(refusal) => return Err(refusal),
+            Ok(None) => return Ok(lines),
+            Ok(Some(line)) => match take_all(alloc, &mut lines, text, line.tokens()) {
+                Ok(()) => {}
+                Err(refusal) => return Err(refusal),
+            },
+        }
+    }
 }

@@ -9,3 +9,7 @@ pub mod Formed
 pub mod Standing
 pub mod Rank
 pub mod Pins
+pub mod Lists
+pub mod Making
+pub mod SetLemmas
+pub mod Steps

@@ -1,6 +1,15 @@
 //! The model of a tidy net, for writing.
 #![tactic(auto)]
 
+mod copies;
+mod copying;
+mod gates;
 mod laws;
+mod name_set;
+mod naming;
+mod net_model;
+mod places;
+mod prefix;
 
 pub use laws::{tidy_nets_have_models, worked_rows};
+pub use net_model::{ModelRefusal, model_of};

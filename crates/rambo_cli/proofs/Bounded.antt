@@ -79,7 +79,7 @@ covers_le (c ∷ cs) =
 
 needed_le : (observed : List Word) (cs : List Cover) → sum_by weight (needed_of observed cs) ≤ sum_by weight cs
 needed_le observed [] = omega arith
-needed_le observed (c ∷ cs) = by_test (is_needed observed (needed_of observed cs) c) (needed_le observed cs)
+needed_le observed (c ∷ cs) = by_test (is_needed observed (needed_of observed cs) c.output) (needed_le observed cs)
   where
     by_test : (b : Bool) → sum_by weight (needed_of observed cs) ≤ sum_by weight cs → sum_by weight (if b then c ∷ needed_of observed cs else needed_of observed cs) ≤ sum_by weight (c ∷ cs)
     by_test true h =

@@ -61,9 +61,9 @@ module _ (laws : TidyLaws) (m : Model) (last : Net) (parts : IsDecomposed m) (ti
     points = record {
       same = λ i j x e f. stay.observed.together i j (parts.points.same i j x e f);
       own = λ i k x e f.
-        let within : k < length (source_names m) = slice_get_within (source_names m) k x f in
-        let count : source_count (net_of_model m) ≡ length (source_names m) = parts.stands.sources in
-        stay.observed.stays i (2 + k) (parts.points.own i k x e f) (no_gate_below (net_of_model m) parts.formed (2 + k) (omega arith));
+          let within : k < length (source_names m) = slice_get_within (source_names m) k x f in
+          let count : source_count (net_of_model m) ≡ length (source_names m) = parts.stands.sources in
+          stay.observed.stays i (2 + k) (parts.points.own i k x e f) (no_gate_below (net_of_model m) parts.formed (2 + k) (omega arith));
     };
   }
 

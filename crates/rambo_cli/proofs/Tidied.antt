@@ -106,8 +106,8 @@ module _ (laws : TidyLaws) where
   stays_through net mid last formed also count first second = record {
     together = λ j k e. second.together j k (first.together j k e);
     stays = λ k x e no_gate.
-      let below : x < 2 + source_count net = live_below net formed x (formed.observed_live x (k, e)) no_gate in
-      second.stays k x (first.stays k x e no_gate) (no_gate_below mid also x (omega arith));
+        let below : x < 2 + source_count net = live_below net formed x (formed.observed_live x (k, e)) no_gate in
+        second.stays k x (first.stays k x e no_gate) (no_gate_below mid also x (omega arith));
   }
 
   pub kept : {net last : Net} → TidiesTo net last → IsWellFormed net → IsKept net last

@@ -6,10 +6,10 @@ mod command;
 mod laws;
 mod lines;
 mod problem;
-mod tidy;
-mod translate;
 #[cfg(test)]
 mod tests;
+mod tidy;
+mod translate;
 mod words;
 mod work;
 

@@ -1,12 +1,12 @@
 //! Tidying to the end.
-ghost use Rattle.std.specs.Prelude.{IfOk};
+ghost use Rattle.std.specs.Prelude.{◌≡◌, IfOk};
 ghost use Rattle.gate_graph.specs.Circuit.{net_of};
 ghost use Rattle.rambo_cli.specs.Written.{TidiesTo};
 
 use gate_graph::Graph;
 use rm_base::NoMemory;
 use std::alloc::Global;
-use wire_edit::{BeginRefusal, Room, Trial, order_tells, tidying_ends};
+use wire_edit::{BeginRefusal, Room, Trial, tidying_ends};
 
 // Room for as many steps as tidying takes at most.
 fn room_for(graph: &Graph) -> Room
@@ -26,7 +26,6 @@ fn room_for(graph: &Graph) -> Room
 pub fn tidied(alloc: Global, graph: Graph) -> Result<Graph, NoMemory>
     ensures { IfOk result (λ tidy. TidiesTo (net_of graph) (net_of tidy)) }
 {
-    tidying_ends();
     graph.well_formed();
     let room = room_for(&graph);
     match Trial::begin(alloc, graph, room) {
@@ -38,6 +37,7 @@ pub fn tidied(alloc: Global, graph: Graph) -> Result<Graph, NoMemory>
 fn finished(trial: Trial) -> Result<Graph, NoMemory>
     ensures { IfOk result (λ tidy. TidiesTo (net_of trial.graph) (net_of tidy)) }
 {
+    tidying_ends();
     let mut trial = trial;
     loop {
         trial.graph().well_formed();

@@ -1,0 +1,155 @@
+-- What the whole text says.
+use Rattle.std.proofs.Common.{◌≡◌, ◌≢◌, ℕ, zero, suc, List, [], ◌∷◌, ◌++◌, map, length, cond, Bool, true, false, not, ◌&&◌, ◌||◌, inl, inr, refl, sym, ◌∙◌, ap, subst, append_assoc, Option, None, Some}
+use Rattle.std.specs.Prelude.{◌⊎◌, if◌then◌else◌, codes, slice_get, position, replicate, nat_lt}
+use Rattle.std.specs.List.{filter_map, position_or_len}
+use Rattle.std.specs.Option.{option_map}
+use Rattle.rm_base.specs.declared.numbers.Place.{Place}
+use Rattle.rm_model.specs.Words.{Word, is_word}
+use Rattle.rm_model.specs.Value.{IsRanked}
+use Rattle.rm_model.specs.WellFormed.{IsWellFormed}
+use Rattle.rm_model.specs.Ranks.{cover_of, rank_above, rank_by, ranks_below, ranks_of, highest, first_without_rank}
+use Rattle.rm_model.specs.declared.parts.Cover.{Cover}
+use Rattle.rm_model.specs.declared.parts.Model.{Model}
+use Rattle.std.proofs.Common.{◌<◌, ◌≤◌, ◌+◌, arith}
+use Rattle.std.specs.Prelude.{is_none}
+use Rattle.std.proofs.lemmas.Bool.{lt-ltb, le-ltb, ltb-true, ltb-false}
+use Rattle.blif_lines.specs.Layout.{layout, lines_of}
+use Rattle.blif_format.specs.Text.{Line, cover_words, row_words}
+use Rattle.blif_format.specs.Grammar.{names_lines, before_end, Reads}
+use Rattle.blif_format.specs.FirstFault.{Said, nothing_said, or_else, lines_fault, said_by, undriven_fault, rank_fault, first_fault, first_unranked, cover_in, cover_names, bare_model}
+use Rattle.blif_format.specs.declared.refusal.FaultKind.TheVariants.{NoRank}
+use Rattle.blif_format.specs.declared.refusal.ReadRefusal.{ReadRefusal}
+use Rattle.blif_format.specs.declared.refusal.ReadRefusal.TheVariants.{Fault, Limit, NoMemory}
+use Rattle.blif_reader.specs.Meant.{IsRefusal}
+use Rattle.blif_reader.specs.Drafts.{all_covers, Begins, Ends, IsDraft, model_in}
+use Rattle.blif_reader.specs.Progress.{bare_cover, IsRead}
+use Rattle.blif_reader.specs.Ranked.{fault_at, rank_found}
+use Rattle.blif_reader.specs.declared.check.Checker.{Checker}
+use Rattle.blif_reader.specs.declared.draft.Draft.{Draft}
+
+-- the first place without rank
+abbrev first_gap : List (Option ℕ) → Option ℕ
+first_gap [] = None
+first_gap (r ∷ rs) = cond (is_none r) (Some 0) (option_map (λ k. suc k) (first_gap rs))
+
+position-step : (b : Bool) (n l : ℕ) → cond (nat_lt (cond (not b) (1 + n) 0) (suc l)) (Some (cond (not b) (1 + n) 0)) None ≡ cond b (Some 0) (option_map (λ k. suc k) (cond (nat_lt n l) (Some n) None))
+position-step true n l = let first : nat_lt 0 (suc l) ≡ true = lt-ltb 0 (suc l) (omega arith) in rw first refl
+position-step false n l = at (nat_lt n l) refl
+  where
+    at : (t : Bool) → nat_lt n l ≡ t → cond (nat_lt (1 + n) (suc l)) (Some (1 + n)) None ≡ option_map (λ k. suc k) (cond (nat_lt n l) (Some n) None)
+    at true e = let less : n < l = ltb-true n l e in let next : nat_lt (1 + n) (suc l) ≡ true = lt-ltb (1 + n) (suc l) (omega arith) in rw (e, next) (ap Some (omega arith))
+    at false e = let most : l ≤ n = ltb-false n l e in let next : nat_lt (1 + n) (suc l) ≡ false = le-ltb (1 + n) (suc l) (omega arith) in rw (e, next) refl
+
+gap_position : (rs : List (Option ℕ)) → position is_none rs ≡ first_gap rs
+gap_position [] = refl
+gap_position (r ∷ rs) = position-step (is_none r) (position_or_len is_none rs) (length rs) ∙ ap (λ (o : Option ℕ). cond (is_none r) (Some 0) (option_map (λ k. suc k) o)) (gap_position rs)
+
+next_fault : (p : Place) (ps : List Place) (o : Option ℕ) → fault_at (p ∷ ps) (option_map (λ k. suc k) o) ≡ fault_at ps o
+next_fault p ps None = refl
+next_fault p ps (Some k) = refl
+
+none_left : (o : Option ℕ) → fault_at [] o ≡ None
+none_left None = refl
+none_left (Some k) = refl
+
+first_fault_at : (ps : List Place) (rs : List (Option ℕ)) → first_unranked ps rs ≡ fault_at ps (first_gap rs)
+first_fault_at [] rs = sym (none_left (first_gap rs))
+first_fault_at (p ∷ ps) [] = refl
+first_fault_at (p ∷ ps) (None ∷ rs) = refl
+first_fault_at (p ∷ ps) (Some n ∷ rs) = first_fault_at ps rs ∙ sym (next_fault p ps (first_gap rs))
+
+pub no_gap : (ns : List ℕ) (rs : List (Option ℕ)) → map Some ns ≡ rs → position is_none rs ≡ None
+no_gap ns rs e = gap_position rs ∙ ap first_gap (sym e) ∙ go ns
+  where
+    go : (ns : List ℕ) → first_gap (map Some ns) ≡ None
+    go [] = refl
+    go (n ∷ ns) = ap (option_map (λ k. suc k)) (go ns)
+
+-- a cover's rows don't count for ranks
+abbrev strip : Cover → Cover
+strip c = record { inputs = c.inputs; output = c.output; on = true; rows = [] }
+
+names_strip : (xs : List Word) (x : Word) → cover_names (xs ++ x ∷ []) ≡ record { inputs = xs; output = x; on = true; rows = [] }
+names_strip [] x = refl
+names_strip (y ∷ []) x = refl
+names_strip (y ∷ z ∷ zs) x = ap (λ (c : Cover). record c { inputs = y ∷ c.inputs }) (names_strip (z ∷ zs) x)
+
+bare_strip : (cs : List Cover) → map bare_cover (map cover_words cs) ≡ map strip cs
+bare_strip [] = refl
+bare_strip (c ∷ cs) = ap (λ (d : Cover). d ∷ map bare_cover (map cover_words cs)) (names_strip c.inputs c.output) ∙ ap (λ (ds : List Cover). strip c ∷ ds) (bare_strip cs)
+
+cover_strip : (cs : List Cover) (x : Word) → cover_of (map strip cs) x ≡ cover_of cs x
+cover_strip [] x = refl
+cover_strip (c ∷ cs) x = ap (λ (o : Option ℕ). if is_word x c.output then Some 0 else option_map (λ k. suc k) o) (cover_strip cs x)
+
+map_same : {A B : Type 0} (f g : A → B) → ((a : A) → f a ≡ g a) → (xs : List A) → map f xs ≡ map g xs
+map_same f g e [] = refl
+map_same f g e (x ∷ xs) = ap (λ y. y ∷ map f xs) (e x) ∙ ap (λ ys. g x ∷ ys) (map_same f g e xs)
+
+rank_strip : (m : Model) (ranks : List (Option ℕ)) (c : Cover) → rank_by (bare_model (map strip m.covers)) ranks (strip c) ≡ rank_by m ranks c
+rank_strip m ranks c = ap highest (map_same (λ (x : Word). rank_above ranks (cover_of (map strip m.covers) x)) (λ (x : Word). rank_above ranks (cover_of m.covers x)) (λ x. ap (rank_above ranks) (cover_strip m.covers x)) c.inputs)
+
+map_strip : (m : Model) (ranks : List (Option ℕ)) (cs : List Cover) → map (rank_by (bare_model (map strip m.covers)) ranks) (map strip cs) ≡ map (rank_by m ranks) cs
+map_strip m ranks [] = refl
+map_strip m ranks (c ∷ cs) = ap (λ (r : Option ℕ). r ∷ map (rank_by (bare_model (map strip m.covers)) ranks) (map strip cs)) (rank_strip m ranks c) ∙ ap (λ (rs : List (Option ℕ)). rank_by m ranks c ∷ rs) (map_strip m ranks cs)
+
+length_strip : (cs : List Cover) → length (map strip cs) ≡ length cs
+length_strip [] = refl
+length_strip (c ∷ cs) = ap suc (length_strip cs)
+
+below_strip : (n : ℕ) (m : Model) → ranks_below n (bare_model (map strip m.covers)) ≡ ranks_below n m
+below_strip zero m = ap (λ (k : ℕ). replicate k None) (length_strip m.covers)
+below_strip (suc n) m = ap (λ (rs : List (Option ℕ)). map (rank_by (bare_model (map strip m.covers)) rs) (map strip m.covers)) (below_strip n m) ∙ map_strip m (ranks_below n m) m.covers
+
+ranks_strip : (m : Model) → ranks_of (bare_model (map strip m.covers)) ≡ ranks_of m
+ranks_strip m = ap (λ (k : ℕ). ranks_below k (bare_model (map strip m.covers))) (length_strip m.covers) ∙ below_strip (length m.covers) m
+
+-- the fault of ranks is found
+pub rank_is : (text : List ℕ) (said : Said) (c : Checker) (d : Draft) (places : List Place) → IsRead text said c d places → rank_fault (filter_map cover_in (layout text)) ≡ rank_found (model_in d) places
+rank_is text said c d places r =
+    let covers : map (λ (e : Place × Cover). e.1) (filter_map cover_in (layout text)) ≡ map strip (all_covers d) = r.covers_are ∙ ap (map bare_cover) r.drafted.covers ∙ bare_strip (all_covers d) in
+    ap (λ (ps : List Place). first_unranked ps (ranks_of (bare_model (map (λ (e : Place × Cover). e.1) (filter_map cover_in (layout text)))))) r.places_are
+    ∙ ap (λ (cs : List Cover). first_unranked places (ranks_of (bare_model cs))) covers
+    ∙ ap (first_unranked places) (ranks_strip (model_in d))
+    ∙ first_fault_at places (ranks_of (model_in d))
+    ∙ ap (fault_at places) (sym (gap_position (ranks_of (model_in d))))
+
+-- the faults of the text, one after another
+pub fault_is : (text : List ℕ) (said : Said) (c : Checker) (d : Draft) (places : List Place) → IsRead text said c d places → lines_fault nothing_said (layout text) ≡ None → undriven_fault said.uses ≡ None → first_fault text ≡ rank_found (model_in d) places
+fault_is text said c d places r none driven =
+    ap (λ (o : Option ReadRefusal). or_else o (or_else (undriven_fault (said_by nothing_said (layout text)).uses) (rank_fault (filter_map cover_in (layout text))))) none
+    ∙ ap (λ (s : Said). or_else (undriven_fault s.uses) (rank_fault (filter_map cover_in (layout text)))) r.uses
+    ∙ ap (λ (o : Option ReadRefusal). or_else o (rank_fault (filter_map cover_in (layout text)))) driven
+    ∙ rank_is text said c d places r
+
+pub undriven_first : (text : List ℕ) (said : Said) (c : Checker) (d : Draft) (places : List Place) (e : ReadRefusal) → IsRead text said c d places → lines_fault nothing_said (layout text) ≡ None → undriven_fault said.uses ≡ Some e → first_fault text ≡ Some e
+undriven_first text said c d places e r none wrong =
+    ap (λ (o : Option ReadRefusal). or_else o (or_else (undriven_fault (said_by nothing_said (layout text)).uses) (rank_fault (filter_map cover_in (layout text))))) none
+    ∙ ap (λ (s : Said). or_else (undriven_fault s.uses) (rank_fault (filter_map cover_in (layout text)))) r.uses
+    ∙ ap (λ (o : Option ReadRefusal). or_else o (rank_fault (filter_map cover_in (layout text)))) wrong
+
+pub lines_first : (text : List ℕ) (e : ReadRefusal) → IsRefusal e (lines_fault nothing_said (layout text)) → IsRefusal e (first_fault text)
+lines_first text NoMemory h = tt
+lines_first text (Fault kind place) h = ap (λ (o : Option ReadRefusal). or_else o (or_else (undriven_fault (said_by nothing_said (layout text)).uses) (rank_fault (filter_map cover_in (layout text))))) h
+lines_first text (Limit quantity count place) h = ap (λ (o : Option ReadRefusal). or_else o (or_else (undriven_fault (said_by nothing_said (layout text)).uses) (rank_fault (filter_map cover_in (layout text))))) h
+
+-- the model is read
+pub reads : (text : List ℕ) (said : Said) (c : Checker) (d : Draft) (places : List Place) → IsRead text said c d places → said.began ≡ true → IsWellFormed (model_in d) → IsRanked (model_in d) → Reads (lines_of text) (model_in d)
+reads text said c d places r began formed ranked =
+    let i : IsDraft said (lines_of text) d = r.drafted in
+    record {
+      first = subst (λ (t : Bool). Begins t (lines_of text) d.name) began i.begin;
+      ending = ending said.ended refl i.ending;
+      commands = i.commands;
+      inputs = i.inputs;
+      outputs = i.outputs;
+      clocks = i.clocks;
+      latches = i.latches;
+      covers = i.covers;
+      well_formed = formed;
+      ranked = ranked;
+    }
+  where
+    ending : (t : Bool) → said.ended ≡ t → Ends said.ended (lines_of text) → (lines_of text ≡ before_end (lines_of text)) ⊎ (lines_of text ≡ before_end (lines_of text) ++ (codes ".end" ∷ []) ∷ [])
+    ending true e h = inr (subst (λ (t : Bool). Ends t (lines_of text)) e h)
+    ending false e h = inl (sym (subst (λ (t : Bool). Ends t (lines_of text)) e h))

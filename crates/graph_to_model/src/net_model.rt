@@ -1,0 +1,124 @@
+// The model of a graph's net.
+ghost use Rattle.std.specs.Prelude.{◌≡◌, ℕ, Some, IfErr, IfOk, OnOk};
+ghost use Rattle.rm_model.specs.Value.{observed_names, source_names};
+ghost use Rattle.rm_model.specs.WellFormed.{IsWellFormed};
+ghost use Rattle.gate_graph.specs.Circuit.{net_of};
+ghost use Rattle.wire_edit.specs.Order.{IsTidy, next_step};
+ghost use Rattle.graph_to_model.specs.Fits.{Fits};
+ghost use Rattle.graph_to_model.specs.Laws.{AreFew};
+ghost use Rattle.graph_to_model.specs.Making.{gate_of_step};
+ghost use Rattle.graph_to_model.specs.NetModel.{model_of_net};
+ghost use Rattle.graph_to_model.specs.Refusals.{IsRefused};
+
+use crate::copies::all_covers;
+use crate::copying::{copy_latches, copy_name, copy_names};
+use crate::naming::node_names;
+use crate::places::observed_nodes;
+use gate_graph::Graph;
+use rm_base::{NoMemory, NodeId};
+use rm_model::{Cover, Listed, Model, observed, sources};
+use std::alloc::Global;
+use wire_edit::{Step, first_rule};
+
+/// Why a net has no model.
+#[derive(Clone, Copy, Debug, PartialEq, Eq)]
+pub enum ModelRefusal {
+    /// A local rule applies at this gate, so the net is to be tidied first.
+    NotTidy { node: NodeId },
+    NoMemory,
+}
+
+impl From<NoMemory> for ModelRefusal {
+    ghost use Rattle.std.specs.Prelude.{◌≡◌};
+    ghost use Rattle.graph_to_model.specs.declared.net_model.ModelRefusal.TheVariants as refusal;
+
+    ghost from_gives = { λ e p. p ≡ refusal.NoMemory };
+
+    fn from(_error: NoMemory) -> Self {
+        ModelRefusal::NoMemory
+    }
+}
+
+fn gate_of(step: Step) -> NodeId
+    ensures { result ≡ gate_of_step step }
+{
+    match step {
+        Step::Add { gate, .. }
+        | Step::Fix { gate, .. }
+        | Step::Const { gate, .. }
+        | Step::Same { gate, .. }
+        | Step::NoPins { gate }
+        | Step::OnePin { gate }
+        | Step::Twice { gate }
+        | Step::Twin { gate, .. }
+        | Step::Dead { gate } => gate,
+        Step::NewNot { node } => node,
+    }
+}
+
+fn covers_of(alloc: Global, graph: &Graph, original: &Model) -> Result<Listed<Cover>, NoMemory>
+    requires { Fits (net_of graph.now) original.now }
+    ensures { IfOk result (λ covers. covers ≡ (model_of_net original.now (net_of graph.now)).covers) }
+{
+    graph.well_formed();
+    let sources = sources(alloc, original)?;
+    let observed = observed(alloc, original)?;
+    let nodes = observed_nodes(alloc, graph)?;
+    let names = node_names(
+        alloc,
+        graph,
+        original,
+        sources.as_slice(),
+        observed.as_slice(),
+        nodes.as_slice(),
+    )?;
+    let covers = all_covers(
+        alloc,
+        graph,
+        sources.as_slice(),
+        nodes.as_slice(),
+        observed.as_slice(),
+        names.as_slice(),
+    )?;
+    Ok(Listed::from_vec(covers))
+}
+
+fn made(alloc: Global, graph: &Graph, original: &Model) -> Result<Model, NoMemory>
+    requires { Fits (net_of graph.now) original.now }
+    ensures { IfOk result (λ m. m ≡ model_of_net original.now (net_of graph.now)) }
+{
+    let name = copy_name(alloc, &original.name)?;
+    let inputs = copy_names(alloc, original.inputs.items())?;
+    let clocks = copy_names(alloc, original.clocks.items())?;
+    let outputs = copy_names(alloc, original.outputs.items())?;
+    let latches = copy_latches(alloc, original.latches.items())?;
+    let covers = covers_of(alloc, graph, original)?;
+    Ok(Model {
+        name,
+        inputs,
+        clocks,
+        outputs,
+        latches,
+        covers,
+    })
+}
+
+/// The model of a tidy net, with the names of the model that it was made of: its gates as covers by ascending number, and then copies and
+/// constants for the observed names that are left. It takes time linear in pins and names, but for the tries for a free prefix.
+pub fn model_of(alloc: Global, graph: &Graph, original: &Model) -> Result<Model, ModelRefusal>
+    requires formed { IsWellFormed original.now }
+    requires fits { Fits (net_of graph.now) original.now }
+    ensures model { IfOk result (λ m. m ≡ model_of_net original.now (net_of graph.now)) }
+    ensures tidy { OnOk result (IsTidy (net_of graph.now)) }
+    ensures few { AreFew (net_of graph.now) original.now }
+    ensures refused { IfErr result (λ refusal. IsRefused (net_of graph.now) refusal) }
+{
+    graph.well_formed();
+    if let Some(step) = first_rule(graph) {
+        return Err(ModelRefusal::NotTidy {
+            node: gate_of(step),
+        });
+    }
+    let model = made(alloc, graph, original)?;
+    Ok(model)
+}
