@@ -75,6 +75,7 @@ free_by_name (e ∷ es) look d same =
       | inl s ↦ let wrong : true ≡ false = sym h ∙ ap (is_among (key_names es)) s.1 ∙ new in cc
       | inr s ↦ same y (ap (λ b. is_word y e.0 || b) h ∙ or_true (is_word y e.0)) ∙ ap (λ (b : Bool). flags_or_none (if b then Some e.1 else entry_of es y)) s.0
     ]
+
     at : (t : Bool) → has_driver e.1.flags ≡ t → look e.0 ≡ e.1.flags → first_free es ≡ first_place (λ y. not (has_driver (look y))) (map first_of es) → first_free (e ∷ es) ≡ first_place (λ y. not (has_driver (look y))) (map first_of (e ∷ es))
     at true i here ih = let test : has_driver (look e.0) ≡ true = ap has_driver here ∙ i in rw (i, test) ih
     at false i here ih = let test : has_driver (look e.0) ≡ false = ap has_driver here ∙ i in rw (i, test) refl
@@ -92,6 +93,7 @@ distinct_add (y ∷ ys) x d n =
     or_left : (a b : Bool) → (a || b) ≡ false → a ≡ false
     or_left true b e = e
     or_left false b e = refl
+
     or_right : (a b : Bool) → (a || b) ≡ false → b ≡ false
     or_right true b e = cc
     or_right false b e = e
@@ -206,8 +208,8 @@ unfolding names_at find_place or_place first_place
 undriven_law uses t is =
     let d : is_distinct (key_names t.entries) ≡ true = ap is_distinct (keys_same t.entries ∙ ap names_at is.firsts_are) ∙ firsts_distinct [] uses refl in
     ap (option_map (λ (p : Place). Fault Undriven p)) (
-      free_by_name t.entries (flags_in uses) d (λ y h. sym (is.flags y))
-      ∙ ap (first_place (free_name uses)) is.firsts_are
-      ∙ firsts_find (free_name uses) [] uses
-      ∙ ap (option_map (λ (u : Use). u.place)) (find_same uses [] uses refl))
+    free_by_name t.entries (flags_in uses) d (λ y h. sym (is.flags y))
+    ∙ ap (first_place (free_name uses)) is.firsts_are
+    ∙ firsts_find (free_name uses) [] uses
+    ∙ ap (option_map (λ (u : Use). u.place)) (find_same uses [] uses refl))
     ∙ told (find (is_undriven uses) uses)

@@ -14,6 +14,7 @@ words_more x [] l = at (begins_with x l) refl
     append_none : (xs : List Word) → xs ++ [] ≡ xs
     append_none [] = refl
     append_none (y ∷ ys) = ap (λ zs. y ∷ zs) (append_none ys)
+
     at : (t : Bool) → begins_with x l ≡ t → words_of x (l ∷ []) ≡ (if begins_with x l then words_after l else [])
     at true e = rw e (append_none (words_after l))
     at false e = rw e refl
@@ -110,22 +111,26 @@ row_joins (l ∷ ls) r e h = at (begins_with (codes ".names") l) (has_dotted ls)
         by : (t : Bool) → is_dotted l ≡ t → is_dotted l ≡ true
         by true i = i
         by false i = let wrong : true ≡ false = sym b ∙ begins_dotted l i in cc
+
     later : begins_with (codes ".names") l ≡ true → is_open true ls ≡ true
     later b = let opens : is_open (if is_dotted l then begins_with (codes ".names") l else false) ls ≡ true = h in rw (dots b, b) at opens
+
     other : begins_with (codes ".names") l ≡ false → is_open false ls ≡ true
     other b = by (is_dotted l) refl
       where
         opens : is_open (if is_dotted l then begins_with (codes ".names") l else false) ls ≡ true
         opens = h
+
         by : (t : Bool) → is_dotted l ≡ t → is_open false ls ≡ true
         by true i = rw (i, b) at opens
         by false i = rw i at opens
+
     at : (t d : Bool) → begins_with (codes ".names") l ≡ t → has_dotted ls ≡ d → (is_open false ls ≡ true → HasRows ls r) → HasRows (l ∷ ls) r
     at true true b d ih =
-      let i : HasRows ls r = ih (open_dotted false true ls d ∙ later b) in
-      ((words_after l, before is_dotted ls), (i.0 ∷ i.1.0, (rw b (ap (λ xs. (words_after l, before is_dotted ls) ∷ xs) i.1.1.0), rw b (ap (λ (rs : List Line). (words_after l, rs) ∷ names_lines (ls ++ r ∷ [])) (dotted_before ls r d) ∙ ap (λ xs. (words_after l, before is_dotted ls) ∷ xs) i.1.1.1))))
+        let i : HasRows ls r = ih (open_dotted false true ls d ∙ later b) in
+        ((words_after l, before is_dotted ls), (i.0 ∷ i.1.0, (rw b (ap (λ xs. (words_after l, before is_dotted ls) ∷ xs) i.1.1.0), rw b (ap (λ (rs : List Line). (words_after l, rs) ∷ names_lines (ls ++ r ∷ [])) (dotted_before ls r d) ∙ ap (λ xs. (words_after l, before is_dotted ls) ∷ xs) i.1.1.1))))
     at true false b d ih =
-      ((words_after l, before is_dotted ls), ([], (rw b (ap (λ xs. (words_after l, before is_dotted ls) ∷ xs) (plain_names ls d)), rw b (ap (λ (rs : List Line). (words_after l, rs) ∷ names_lines (ls ++ r ∷ [])) (plain_before ls r e d) ∙ ap (λ xs. (words_after l, before is_dotted ls ++ r ∷ []) ∷ xs) (plain_names (ls ++ r ∷ []) (plain_more ls r e d))))))
+        ((words_after l, before is_dotted ls), ([], (rw b (ap (λ xs. (words_after l, before is_dotted ls) ∷ xs) (plain_names ls d)), rw b (ap (λ (rs : List Line). (words_after l, rs) ∷ names_lines (ls ++ r ∷ [])) (plain_before ls r e d) ∙ ap (λ xs. (words_after l, before is_dotted ls ++ r ∷ []) ∷ xs) (plain_names (ls ++ r ∷ []) (plain_more ls r e d))))))
     at false d b g ih = let i : HasRows ls r = ih (other b) in (i.0, (i.1.0, (rw b i.1.1.0, rw b i.1.1.1)))
 
 pub names_row : (ls : List Line) (r : Line) → is_dotted r ≡ false → is_open false ls ≡ true → names_lines (ls ++ r ∷ []) ≡ add_row r (names_lines ls)
@@ -136,6 +141,7 @@ follow_more c [] l f h = at (is_dotted l) refl
   where
     and_true : (a : Bool) → a ≡ true → (a && true) ≡ true
     and_true a e = rw e refl
+
     at : (t : Bool) → is_dotted l ≡ t → follow c (l ∷ []) ≡ true
     at true e = rw e (and_true (is_command l) (rw e at h))
     at false e = rw e (and_true c (rw e at h))
@@ -144,18 +150,20 @@ follow_more c (k ∷ ks) l f h = at (is_dotted k) refl (λ d. follow_more d ks l
     left : (a b : Bool) → (a && b) ≡ true → a ≡ true
     left true b e = refl
     left false b e = e
+
     right : (a b : Bool) → (a && b) ≡ true → b ≡ true
     right true b e = e
     right false b e = cc
+
     at : (t : Bool) → is_dotted k ≡ t → ((d : Bool) → follow d ks ≡ true → (if is_dotted l then is_command l else is_open d ks) ≡ true → follow d (ks ++ l ∷ []) ≡ true) → follow c ((k ∷ ks) ++ l ∷ []) ≡ true
     at true e ih =
-      let g : (is_command k && follow (begins_with (codes ".names") k) ks) ≡ true = rw e at f in
-      let o : (if is_dotted l then is_command l else is_open (begins_with (codes ".names") k) ks) ≡ true = rw e at h in
-      rw (e, left (is_command k) (follow (begins_with (codes ".names") k) ks) g) (ih (begins_with (codes ".names") k) (right (is_command k) (follow (begins_with (codes ".names") k) ks) g) o)
+        let g : (is_command k && follow (begins_with (codes ".names") k) ks) ≡ true = rw e at f in
+        let o : (if is_dotted l then is_command l else is_open (begins_with (codes ".names") k) ks) ≡ true = rw e at h in
+        rw (e, left (is_command k) (follow (begins_with (codes ".names") k) ks) g) (ih (begins_with (codes ".names") k) (right (is_command k) (follow (begins_with (codes ".names") k) ks) g) o)
     at false e ih =
-      let g : (c && follow c ks) ≡ true = rw e at f in
-      let o : (if is_dotted l then is_command l else is_open c ks) ≡ true = rw e at h in
-      rw e (ap (λ b. b && follow c (ks ++ l ∷ [])) (left c (follow c ks) g) ∙ ih c (right c (follow c ks) g) o)
+        let g : (c && follow c ks) ≡ true = rw e at f in
+        let o : (if is_dotted l then is_command l else is_open c ks) ≡ true = rw e at h in
+        rw e (ap (λ b. b && follow c (ks ++ l ∷ [])) (left c (follow c ks) g) ∙ ih c (right c (follow c ks) g) o)
 
 pub open_more : (c : Bool) (ls : List Line) (l : Line) → is_open c (ls ++ l ∷ []) ≡ (if is_dotted l then begins_with (codes ".names") l else is_open c ls)
 open_more c [] l = refl
@@ -168,9 +176,11 @@ before_more test (k ∷ ks) l e = at (test k) refl (before_more test ks l)
     tail : List Line → List Line
     tail [] = []
     tail (x ∷ xs) = xs
+
     push : (t : Bool) → k ∷ (if t then ks else ks ++ l ∷ []) ≡ (if t then k ∷ ks else (k ∷ ks) ++ l ∷ [])
     push true = refl
     push false = refl
+
     at : (t : Bool) → test k ≡ t → (before test ks ≡ ks → before test (ks ++ l ∷ []) ≡ (if test l then ks else ks ++ l ∷ [])) → before test ((k ∷ ks) ++ l ∷ []) ≡ (if test l then k ∷ ks else (k ∷ ks) ++ l ∷ [])
     at true i ih = let wrong : [] ≡ k ∷ ks = rw i at e in cc
     at false i ih = let now : k ∷ before test ks ≡ k ∷ ks = rw i at e in rw i (ap (λ (xs : List Line). k ∷ xs) (ih (ap tail now)) ∙ push (test l))

@@ -141,34 +141,38 @@ command_added said lines d e s ss k is none h ch = at said.began refl
   where
     w : s.word ≡ word_for k
     w = command_word s.word k h
+
     long : (after_line said (s ∷ ss)).cover ≡ cover_for k (length (spelled ss))
     long = after_cover said k s ss h ∙ ap (λ (n : ℕ). cover_for k n) (sym (length_map (λ (t : Spot). t.word) ss))
+
     by_end : (t : Bool) → ends k ≡ t → said.began ≡ true → is_model k ≡ false → IsKnown k (spelled ss) → IsDraft (after_line said (s ∷ ss)) (lines ++ (s.word ∷ spelled ss) ∷ []) e
     by_end false f b m known = command_body said lines d e s ss k (spelled ss) is b (goes_on said s ss none) m f w (after_ended said k s ss h) long (ch known)
     by_end true f b m known =
-      let same : k ≡ End = end_is k f in
-      let empty : spelled ss ≡ [] = subst (λ (j : Command). IsKnown j (spelled ss)) same known in
-      let c : Changes End (spelled ss) d e = subst (λ (j : Command). Changes j (spelled ss) d e) same (ch known) in
-      subst (λ (ws : List Word). IsDraft (after_line said (s ∷ ss)) (lines ++ (s.word ∷ ws) ∷ []) e) (sym empty)
-      (command_end said lines d e s ss is b (goes_on said s ss none) (w ∙ ap word_for same) (after_ended said k s ss h ∙ ap (λ (t : Bool). said.ended || t) f) (after_cover said k s ss h ∙ ap (λ (j : Command). cover_for j (length ss)) same) (subst (λ (ws : List Word). Changes End ws d e) empty c))
+        let same : k ≡ End = end_is k f in
+        let empty : spelled ss ≡ [] = subst (λ (j : Command). IsKnown j (spelled ss)) same known in
+        let c : Changes End (spelled ss) d e = subst (λ (j : Command). Changes j (spelled ss) d e) same (ch known) in
+        subst (λ (ws : List Word). IsDraft (after_line said (s ∷ ss)) (lines ++ (s.word ∷ ws) ∷ []) e) (sym empty)
+        (command_end said lines d e s ss is b (goes_on said s ss none) (w ∙ ap word_for same) (after_ended said k s ss h ∙ ap (λ (t : Bool). said.ended || t) f) (after_cover said k s ss h ∙ ap (λ (j : Command). cover_for j (length ss)) same) (subst (λ (ws : List Word). Changes End ws d e) empty c))
+
     model_is : (j : Command) → s.word ≡ codes ".model" → k ≡ Model
     model_is j m = some_same k Model (sym h ∙ ap command_of m)
       where
         some_same : (a b : Command) → Some a ≡ Some b → a ≡ b
         some_same a b e = cc
+
     at : (t : Bool) → said.began ≡ t → IsDraft (after_line said (s ∷ ss)) (lines ++ (s.word ∷ spelled ss) ∷ []) e
     at true b =
-      let n : dotted_fault said.uses s ss (command_of s.word) ≡ None = ap (λ (t : Bool). if t then dotted_fault said.uses s ss (command_of s.word) else row_fault_in said.cover s ss) (sym (ap is_dotted w ∙ dotted_case k)) ∙ later_goes said s ss none b in
-      let g = dotted_goes said.uses s ss k (ap (dotted_fault said.uses s ss) (sym h) ∙ n) in
-      by_end (ends k) refl b g.0 (known_of said.uses s k ss g.1)
+        let n : dotted_fault said.uses s ss (command_of s.word) ≡ None = ap (λ (t : Bool). if t then dotted_fault said.uses s ss (command_of s.word) else row_fault_in said.cover s ss) (sym (ap is_dotted w ∙ dotted_case k)) ∙ later_goes said s ss none b in
+        let g = dotted_goes said.uses s ss k (ap (dotted_fault said.uses s ss) (sym h) ∙ n) in
+        by_end (ends k) refl b g.0 (known_of said.uses s k ss g.1)
     at false b =
-      let f = first_goes said s ss none b in
-      let same : k ≡ Model = model_is k (sym (word_is (codes ".model") s.word f.0)) in
-      let known : IsKnown Model (spelled ss) = known_of [] s Model ss f.1 in
-      let one = one_word (spelled ss) known in
-      let c : Changes Model (spelled ss) d e = subst (λ (j : Command). Changes j (spelled ss) d e) same (ch (subst (λ (j : Command). IsKnown j (spelled ss)) (sym same) known)) in
-      subst (λ (ws : List Word). IsDraft (after_line said (s ∷ ss)) (lines ++ (s.word ∷ ws) ∷ []) e) (sym one.1)
-      (command_first said lines d e s ss one.0 is b (goes_on said s ss none) (sym (word_is (codes ".model") s.word f.0)) (after_ended said k s ss h ∙ ap (λ (j : Command). said.ended || ends j) same) (after_cover said k s ss h ∙ ap (λ (j : Command). cover_for j (length ss)) same) (subst (λ (ws : List Word). Changes Model ws d e) one.1 c))
+        let f = first_goes said s ss none b in
+        let same : k ≡ Model = model_is k (sym (word_is (codes ".model") s.word f.0)) in
+        let known : IsKnown Model (spelled ss) = known_of [] s Model ss f.1 in
+        let one = one_word (spelled ss) known in
+        let c : Changes Model (spelled ss) d e = subst (λ (j : Command). Changes j (spelled ss) d e) same (ch (subst (λ (j : Command). IsKnown j (spelled ss)) (sym same) known)) in
+        subst (λ (ws : List Word). IsDraft (after_line said (s ∷ ss)) (lines ++ (s.word ∷ ws) ∷ []) e) (sym one.1)
+        (command_first said lines d e s ss one.0 is b (goes_on said s ss none) (sym (word_is (codes ".model") s.word f.0)) (after_ended said k s ss h ∙ ap (λ (j : Command). said.ended || ends j) same) (after_cover said k s ss h ∙ ap (λ (j : Command). cover_for j (length ss)) same) (subst (λ (ws : List Word). Changes Model ws d e) one.1 c))
 
 -- a row's line
 pub row_added : (said : Said) (lines : List Line) (d e : Draft) (s : Spot) (ss : List Spot) → IsDraft said lines d → words_fault said (s ∷ ss) ≡ None → command_of s.word ≡ None → ((o : SaidCover) → CurrentIs (Some o) d.current → row_fault o s ss ≡ None → AddsRow s ss o d e) → IsDraft (after_line said (s ∷ ss)) (lines ++ (s.word ∷ spelled ss) ∷ []) e
@@ -176,16 +180,16 @@ row_added said lines d e s ss is none h add = at said.began refl
   where
     at : (t : Bool) → said.began ≡ t → IsDraft (after_line said (s ∷ ss)) (lines ++ (s.word ∷ spelled ss) ∷ []) e
     at false b =
-      let f = first_goes said s ss none b in
-      let wrong : command_of s.word ≡ Some Model = ap command_of (sym (word_is (codes ".model") s.word f.0)) in
-      let bad : None ≡ Some Model = sym h ∙ wrong in cc
+        let f = first_goes said s ss none b in
+        let wrong : command_of s.word ≡ Some Model = ap command_of (sym (word_is (codes ".model") s.word f.0)) in
+        let bad : None ≡ Some Model = sym h ∙ wrong in cc
     at true b = by (is_dotted s.word) refl (later_goes said s ss none b)
       where
         by : (t : Bool) → is_dotted s.word ≡ t → (if is_dotted s.word then dotted_fault said.uses s ss (command_of s.word) else row_fault_in said.cover s ss) ≡ None → IsDraft (after_line said (s ∷ ss)) (lines ++ (s.word ∷ spelled ss) ∷ []) e
         by true i n =
-          let m : dotted_fault said.uses s ss None ≡ None = ap (dotted_fault said.uses s ss) (sym h) ∙ rw i at n in
-          let wrong : (if is_among unsupported_words s.word then fault Unsupported s.place else fault UnknownCommand s.place) ≡ None = m in
-          absurd (never (is_among unsupported_words s.word) wrong)
+            let m : dotted_fault said.uses s ss None ≡ None = ap (dotted_fault said.uses s ss) (sym h) ∙ rw i at n in
+            let wrong : (if is_among unsupported_words s.word then fault Unsupported s.place else fault UnknownCommand s.place) ≡ None = m in
+            absurd (never (is_among unsupported_words s.word) wrong)
           where
             never : (t : Bool) → (if t then fault Unsupported s.place else fault UnknownCommand s.place) ≡ None → ⊥
             never true e = cc
@@ -198,10 +202,11 @@ row_added said lines d e s ss is none h add = at said.began refl
                 not_end : (t : Bool) → is_word (codes ".end") s.word ≡ t → (false || is_word (codes ".end") s.word) ≡ false
                 not_end true j = let wrong : true ≡ false = ap is_dotted (word_is (codes ".end") s.word j) ∙ i in cc
                 not_end false j = j
+
             over : (o : Option SaidCover) → said.cover ≡ o → row_fault_in said.cover s ss ≡ None → IsDraft (after_line said (s ∷ ss)) (lines ++ (s.word ∷ spelled ss) ∷ []) e
             over None c m = let wrong : fault RowOutsideCover s.place ≡ None = ap (λ (x : Option SaidCover). row_fault_in x s ss) (sym c) ∙ m in cc
             over (Some o) c m =
-              let here : row_fault o s ss ≡ None = ap (λ (x : Option SaidCover). row_fault_in x s ss) (sym c) ∙ m in
-              let now : CurrentIs (Some o) d.current = subst (λ (x : Option SaidCover). CurrentIs x d.current) c is.current in
-              let after : (after_line said (s ∷ ss)).cover ≡ Some (with_row (s ∷ ss) o) = rw i (ap (option_map (with_row (s ∷ ss))) c) in
-              row_line said lines d e s ss o (spelled ss) is b (goes_on said s ss none) c i ended after refl (add o now here)
+                let here : row_fault o s ss ≡ None = ap (λ (x : Option SaidCover). row_fault_in x s ss) (sym c) ∙ m in
+                let now : CurrentIs (Some o) d.current = subst (λ (x : Option SaidCover). CurrentIs x d.current) c is.current in
+                let after : (after_line said (s ∷ ss)).cover ≡ Some (with_row (s ∷ ss) o) = rw i (ap (option_map (with_row (s ∷ ss))) c) in
+                row_line said lines d e s ss o (spelled ss) is b (goes_on said s ss none) c i ended after refl (add o now here)

@@ -122,19 +122,20 @@ words_refuse had had' first k ss i part s e same at is r =
     let there : slice_get (parts_of k ss) i ≡ Some (part, s) = part_at k ss i s at ∙ ap (λ (p : Part). Some (p, s)) (sym is) in
     let rest : drop i (parts_of k ss) ≡ (part, s) ∷ drop (i + 1) (parts_of k ss) = drop_here (parts_of k ss) i (part, s) there in
     is_first e (part_fault had' i (part, s)) (command_fault had first k ss) (λ r f.
-      ap (λ o. or_else o (fault_if (nat_lt (length ss) (least_words k)) MissingWord first.place)) (same ∙ ap (parts_fault had' i) rest ∙ parts_first had' i (part, s) (drop (i + 1) (parts_of k ss)) r f)) r
+    ap (λ o. or_else o (fault_if (nat_lt (length ss) (least_words k)) MissingWord first.place)) (same ∙ ap (parts_fault had' i) rest ∙ parts_first had' i (part, s) (drop (i + 1) (parts_of k ss)) r f)) r
 
 pub words_go : (had had' : List Use) (k : Command) (ss : List Spot) (i : ℕ) (part : Part) (s : Spot) → parts_fault had 0 (parts_of k ss) ≡ parts_fault (had ++ filter_map use_of (take i (parts_of k ss))) i (drop i (parts_of k ss)) → slice_get ss i ≡ Some s → part ≡ part_in k (length ss) i → part_fault (had ++ filter_map use_of (take i (parts_of k ss))) i (part, s) ≡ None → ((had ++ filter_map use_of (take i (parts_of k ss))) ++ filter_map use_of ((part, s) ∷ []) ≡ had ++ filter_map use_of (take (i + 1) (parts_of k ss))) × (parts_fault had 0 (parts_of k ss) ≡ parts_fault (had ++ filter_map use_of (take (i + 1) (parts_of k ss))) (i + 1) (drop (i + 1) (parts_of k ss)))
 words_go had had' k ss i part s same at is none =
     let there : slice_get (parts_of k ss) i ≡ Some (part, s) = part_at k ss i s at ∙ ap (λ (p : Part). Some (p, s)) (sym is) in
     let rest : drop i (parts_of k ss) ≡ (part, s) ∷ drop (i + 1) (parts_of k ss) = drop_here (parts_of k ss) i (part, s) there in
     let more : had ++ filter_map use_of (take (i + 1) (parts_of k ss)) ≡ (had ++ filter_map use_of (take i (parts_of k ss))) ++ filter_map use_of ((part, s) ∷ []) =
-      ap (λ ps. had ++ filter_map use_of ps) (take_here (parts_of k ss) i (part, s) there) ∙ ap (λ us. had ++ us) (filter_map-append use_of (take i (parts_of k ss)) ((part, s) ∷ [])) ∙ sym (append_assoc had (filter_map use_of (take i (parts_of k ss))) (filter_map use_of ((part, s) ∷ []))) in
-    (sym more,
+    ap (λ ps. had ++ filter_map use_of ps) (take_here (parts_of k ss) i (part, s) there) ∙ ap (λ us. had ++ us) (filter_map-append use_of (take i (parts_of k ss)) ((part, s) ∷ [])) ∙ sym (append_assoc had (filter_map use_of (take i (parts_of k ss))) (filter_map use_of ((part, s) ∷ []))) in (
+      sym more,
       same
-      ∙ ap (parts_fault (had ++ filter_map use_of (take i (parts_of k ss))) i) rest
-      ∙ ap (λ o. or_else o (parts_fault ((had ++ filter_map use_of (take i (parts_of k ss))) ++ filter_map use_of ((part, s) ∷ [])) (i + 1) (drop (i + 1) (parts_of k ss)))) none
-      ∙ ap (λ us. parts_fault us (i + 1) (drop (i + 1) (parts_of k ss))) (sym more))
+          ∙ ap (parts_fault (had ++ filter_map use_of (take i (parts_of k ss))) i) rest
+          ∙ ap (λ o. or_else o (parts_fault ((had ++ filter_map use_of (take i (parts_of k ss))) ++ filter_map use_of ((part, s) ∷ [])) (i + 1) (drop (i + 1) (parts_of k ss)))) none
+          ∙ ap (λ us. parts_fault us (i + 1) (drop (i + 1) (parts_of k ss))) (sym more),
+    )
 
 all_length : (p : Part) (ss : List Spot) → length (all_are p ss) ≡ length ss
 all_length p [] = refl

@@ -111,8 +111,10 @@ distinct_more (y ∷ ys) x = at (is_among ys y) (is_word x y) refl refl (distinc
   where
     before : (b w : Bool) → is_among ys y ≡ b → is_word x y ≡ w → is_among (ys ++ x ∷ []) y ≡ (b || w)
     before b w e f = among_more ys x y ∙ ap (λ t. t || is_word y x) e ∙ ap (λ t. b || t) (word_turned y x ∙ f)
+
     same_among : is_word x y ≡ true → is_among ys y ≡ true → is_among ys x ≡ true
     same_among f e = let same : x ≡ y = word_is x y f in ap (is_among ys) same ∙ e
+
     at : (b w : Bool) → is_among ys y ≡ b → is_word x y ≡ w → distinct_count (ys ++ x ∷ []) ≡ (if is_among ys x then distinct_count ys else distinct_count ys + 1) → distinct_count ((y ∷ ys) ++ x ∷ []) ≡ (if is_among (y ∷ ys) x then distinct_count (y ∷ ys) else distinct_count (y ∷ ys) + 1)
     at true true e f ih = rw (before true true e f, e, f) (ih ∙ rw (same_among f e) refl)
     at true false e f ih = rw (before true false e f, e, f) ih

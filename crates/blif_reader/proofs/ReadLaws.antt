@@ -109,17 +109,22 @@ progress_step text ls ms c c' d d' places places' first rest p e none said draft
   where
     toks : List Spot
     toks = spot_of text first ∷ map (spot_of text) rest
+
     faults : lines_fault nothing_said (layout text) ≡ lines_fault (after_line p.said (spot_of text first ∷ map (spot_of text) rest)) ms
     faults = p.faults ∙ pending_fault p.said ls ∙ ap (lines_fault p.said) e ∙ ap (λ (o : Option ReadRefusal). or_else o (lines_fault (after_line p.said (spot_of text first ∷ map (spot_of text) rest)) ms)) none
+
     uses : said_by nothing_said (layout text) ≡ said_by (after_line p.said (spot_of text first ∷ map (spot_of text) rest)) ms
     uses = p.uses ∙ pending_said p.said ls ∙ ap (said_by p.said) e
+
     words : lines_of text ≡ (p.lines ++ ((spot_of text first).word ∷ words_at text rest) ∷ []) ++ filter has_words (map words_in ms)
     words =
-      p.words
-      ∙ ap (λ (xs : List Line). p.lines ++ xs) (pending_words ls ∙ ap (λ (ns : List Logical). filter has_words (map words_in ns)) e ∙ ap (λ (ws : List Word). ((spot_of text first).word ∷ ws) ∷ filter has_words (map words_in ms)) (words_same text rest))
-      ∙ sym (append_assoc p.lines (((spot_of text first).word ∷ words_at text rest) ∷ []) (filter has_words (map words_in ms)))
+        p.words
+        ∙ ap (λ (xs : List Line). p.lines ++ xs) (pending_words ls ∙ ap (λ (ns : List Logical). filter has_words (map words_in ns)) e ∙ ap (λ (ws : List Word). ((spot_of text first).word ∷ ws) ∷ filter has_words (map words_in ms)) (words_same text rest))
+        ∙ sym (append_assoc p.lines (((spot_of text first).word ∷ words_at text rest) ∷ []) (filter has_words (map words_in ms)))
+
     covers : filter_map cover_in (layout text) ≡ p.named ++ filter_map cover_in (line_of text first rest ∷ ms)
     covers = p.covers ∙ ap (λ (xs : List (Place × Cover)). p.named ++ xs) (pending_covers ls ∙ ap (filter_map cover_in) e)
+
     at : (t : Bool) → is_word (codes ".names") (spot_of text first).word ≡ t → Progress text ms c' d' places'
     at true i = record {
       said = after_line p.said (spot_of text first ∷ map (spot_of text) rest);
@@ -129,19 +134,19 @@ progress_step text ls ms c c' d d' places places' first rest p e none said draft
       uses = uses;
       words = words;
       covers =
-        covers
-        ∙ ap (λ (t : Bool). p.named ++ cons_option (if t then Some (first.place, cover_names (map (λ (s : Spot). s.word) (map (spot_of text) rest))) else None) (filter_map cover_in ms)) i
-        ∙ ap (λ (ws : List Word). p.named ++ (first.place, cover_names ws) ∷ filter_map cover_in ms) (words_same text rest)
-        ∙ sym (append_assoc p.named ((first.place, cover_names (words_at text rest)) ∷ []) (filter_map cover_in ms));
+          covers
+          ∙ ap (λ (t : Bool). p.named ++ cons_option (if t then Some (first.place, cover_names (map (λ (s : Spot). s.word) (map (spot_of text) rest))) else None) (filter_map cover_in ms)) i
+          ∙ ap (λ (ws : List Word). p.named ++ (first.place, cover_names ws) ∷ filter_map cover_in ms) (words_same text rest)
+          ∙ sym (append_assoc p.named ((first.place, cover_names (words_at text rest)) ∷ []) (filter_map cover_in ms));
       places_are =
-        map_more (λ (x : Place × Cover). x.0) p.named (first.place, cover_names (words_at text rest))
-        ∙ ap (λ (ps : List Place). ps ++ first.place ∷ []) p.places_are
-        ∙ ap (λ (t : Bool). if t then places ++ first.place ∷ [] else places) (sym i)
-        ∙ sym far;
+          map_more (λ (x : Place × Cover). x.0) p.named (first.place, cover_names (words_at text rest))
+          ∙ ap (λ (ps : List Place). ps ++ first.place ∷ []) p.places_are
+          ∙ ap (λ (t : Bool). if t then places ++ first.place ∷ [] else places) (sym i)
+          ∙ sym far;
       covers_are =
-        map_more (λ (x : Place × Cover). x.1) p.named (first.place, cover_names (words_at text rest))
-        ∙ ap (λ (cs : List Cover). cs ++ cover_names (words_at text rest) ∷ []) p.covers_are
-        ∙ sym (bare_names p.lines ((spot_of text first).word ∷ words_at text rest) i);
+          map_more (λ (x : Place × Cover). x.1) p.named (first.place, cover_names (words_at text rest))
+          ∙ ap (λ (cs : List Cover). cs ++ cover_names (words_at text rest) ∷ []) p.covers_are
+          ∙ sym (bare_names p.lines ((spot_of text first).word ∷ words_at text rest) i);
       checked = said;
       drafted = drafted;
     }
@@ -190,6 +195,7 @@ pending_less (k ∷ ks) ms l e = at k.tokens k.flaw refl refl (pending_less ks m
   where
     long : length (pending (k ∷ ks)) ≡ suc (length ms)
     long = ap length e
+
     at : (ts : List Spot) (f : Option Flaw) → k.tokens ≡ ts → k.flaw ≡ f → (pending ks ≡ l ∷ ms → length ms < length ks) → length ms < length (k ∷ ks)
     at [] None g h ih = let less : length ms < length ks = ih (sym (idle_passed k ks g h) ∙ e) in omega arith
     at [] (Some f) g h ih = let n : length (pending (k ∷ ks)) ≡ suc (length ks) = kept_flaw k ks f g h in let m : length (pending (k ∷ ks)) ≡ suc (length ms) = long in omega arith

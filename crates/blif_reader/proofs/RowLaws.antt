@@ -54,6 +54,7 @@ ending_passes first s e = record { word = word; same = same first (not_fault (is
   where
     one : not (is_ending s.word) ≡ false
     one = not_fault (not (is_ending s.word)) RowCharacter s.place (first_none (fault_if (not (is_ending s.word)) RowCharacter s.place) (fault_if (is_other_ending first s.word) MixedCover s.place) e)
+
     word : s.word ≡ on_word (is_word (codes "1") s.word)
     word = elim (word_tells (codes "1") s.word) [
       | inl t ↦ sym t.1 ∙ ap on_word (sym t.0)
@@ -62,6 +63,7 @@ ending_passes first s e = record { word = word; same = same first (not_fault (is
         | inr u ↦ let wrong : not (false || false) ≡ false = ap (λ b. not (b || false)) (sym u.0) ∙ ap (λ b. not (is_word (codes "0") s.word || b)) (sym t.0) ∙ one in cc
       ]
     ]
+
     same : (o : Option Word) → is_other_ending o s.word ≡ false → (v : Word) → o ≡ Some v → v ≡ s.word
     same None h v e = cc
     same (Some x) h v e = let is : x ≡ v = cc in sym is ∙ word_is x s.word (not_not (is_word x s.word) h)
@@ -113,11 +115,11 @@ row_passes text o first rest on e none = at (o.inputs == 0) refl rest e none
     at true z [] e none = let n : or_else (ending_fault o.ending (spot_of text first)) None ≡ None = rw z at none in row_alone o (spot_of text first) on e z (first_none (ending_fault o.ending (spot_of text first)) None n)
     at true z (t ∷ ts) e none = let n : or_else (ending_fault o.ending (spot_of text first)) (extra_fault (map (spot_of text) (t ∷ ts))) ≡ None = rw z at none in let wrong : extra_fault (map (spot_of text) (t ∷ ts)) ≡ None = second_none (ending_fault o.ending (spot_of text first)) (extra_fault (map (spot_of text) (t ∷ ts))) n in cc
     at false z rest e none =
-      let n : or_else (fault_if (not (length (spot_of text first).word == o.inputs)) RowLength first.place) (or_else (character_fault first.place (spot_of text first).word) (rest_fault o.ending first.place (map (spot_of text) rest))) ≡ None = rw z at none in
-      let long : (length (spot_of text first).word == o.inputs) ≡ true = not_not (length (spot_of text first).word == o.inputs) (not_fault (not (length (spot_of text first).word == o.inputs)) RowLength first.place (first_none (fault_if (not (length (spot_of text first).word == o.inputs)) RowLength first.place) (or_else (character_fault first.place (spot_of text first).word) (rest_fault o.ending first.place (map (spot_of text) rest))) n)) in
-      let m : or_else (character_fault first.place (spot_of text first).word) (rest_fault o.ending first.place (map (spot_of text) rest)) ≡ None = second_none (fault_if (not (length (spot_of text first).word == o.inputs)) RowLength first.place) (or_else (character_fault first.place (spot_of text first).word) (rest_fault o.ending first.place (map (spot_of text) rest))) n in
-      let literals : are_literals (spot_of text first).word ≡ true = all_literal first.place (spot_of text first).word (first_none (character_fault first.place (spot_of text first).word) (rest_fault o.ending first.place (map (spot_of text) rest)) m) in
-      two rest e long literals (second_none (character_fault first.place (spot_of text first).word) (rest_fault o.ending first.place (map (spot_of text) rest)) m)
+        let n : or_else (fault_if (not (length (spot_of text first).word == o.inputs)) RowLength first.place) (or_else (character_fault first.place (spot_of text first).word) (rest_fault o.ending first.place (map (spot_of text) rest))) ≡ None = rw z at none in
+        let long : (length (spot_of text first).word == o.inputs) ≡ true = not_not (length (spot_of text first).word == o.inputs) (not_fault (not (length (spot_of text first).word == o.inputs)) RowLength first.place (first_none (fault_if (not (length (spot_of text first).word == o.inputs)) RowLength first.place) (or_else (character_fault first.place (spot_of text first).word) (rest_fault o.ending first.place (map (spot_of text) rest))) n)) in
+        let m : or_else (character_fault first.place (spot_of text first).word) (rest_fault o.ending first.place (map (spot_of text) rest)) ≡ None = second_none (fault_if (not (length (spot_of text first).word == o.inputs)) RowLength first.place) (or_else (character_fault first.place (spot_of text first).word) (rest_fault o.ending first.place (map (spot_of text) rest))) n in
+        let literals : are_literals (spot_of text first).word ≡ true = all_literal first.place (spot_of text first).word (first_none (character_fault first.place (spot_of text first).word) (rest_fault o.ending first.place (map (spot_of text) rest)) m) in
+        two rest e long literals (second_none (character_fault first.place (spot_of text first).word) (rest_fault o.ending first.place (map (spot_of text) rest)) m)
       where
         two : (rest : List Token) → on ≡ is_word (codes "1") (spot_of text (last_token first rest)).word → (length (spot_of text first).word == o.inputs) ≡ true → are_literals (spot_of text first).word ≡ true → rest_fault o.ending first.place (map (spot_of text) rest) ≡ None → IsRow o (spot_of text first) (map (spot_of text) rest) (inputs_in (spot_of text first).word rest) on
         two [] e long literals r = cc
@@ -147,26 +149,29 @@ has_row o s ss input on c d row r are made ins out onn rows = record {
   inputs = ins;
   output = out;
   rows =
-    ap (λ (b : Bool). map (row_words b) d.rows) onn
-    ∙ ap (map (row_words on)) rows
-    ∙ map_append (row_words on) c.rows (row ∷ [])
-    ∙ ap (λ (l : Line). map (row_words on) c.rows ++ l ∷ []) (the_row o row input on made r.long ∙ sym r.words)
-    ∙ ap (λ (ls : List Line). ls ++ (s.word ∷ map (λ (t : Spot). t.word) ss) ∷ []) (before c.rows are.ending);
+      ap (λ (b : Bool). map (row_words b) d.rows) onn
+      ∙ ap (map (row_words on)) rows
+      ∙ map_append (row_words on) c.rows (row ∷ [])
+      ∙ ap (λ (l : Line). map (row_words on) c.rows ++ l ∷ []) (the_row o row input on made r.long ∙ sym r.words)
+      ∙ ap (λ (ls : List Line). ls ++ (s.word ∷ map (λ (t : Spot). t.word) ss) ∷ []) (before c.rows are.ending);
   still = record { inputs = same_inputs o.ending refl ∙ are.inputs ∙ ap length (sym ins); ending = ending o.ending refl };
 }
   where
     before : (rs : List (List Literal)) → o.ending ≡ ending_of c.on rs → map (row_words on) rs ≡ map (row_words c.on) rs
     before [] e = refl
     before (x ∷ xs) e = let same : c.on ≡ on = on_same c.on on (r.same (on_word c.on) e) in ap (λ (b : Bool). map (row_words b) (x ∷ xs)) (sym same)
+
     same_inputs : (e : Option Word) → o.ending ≡ e → (with_row (s ∷ ss) o).inputs ≡ o.inputs
     same_inputs None e = rw e refl
     same_inputs (Some v) e = rw e refl
+
     last_is : ending_of d.on d.rows ≡ Some (on_word on)
     last_is = ap (λ (b : Bool). ending_of b d.rows) onn ∙ ap (ending_of on) rows ∙ at c.rows
       where
         at : (rs : List (List Literal)) → ending_of on (rs ++ row ∷ []) ≡ Some (on_word on)
         at [] = refl
         at (x ∷ xs) = refl
+
     ending : (e : Option Word) → o.ending ≡ e → (with_row (s ∷ ss) o).ending ≡ ending_of d.on d.rows
     ending None e = rw e (r.last ∙ sym last_is)
     ending (Some v) e = rw e (ap (λ (w : Word). Some w) (r.same v e) ∙ sym last_is)
@@ -181,17 +186,17 @@ pub adds_row : (s : Spot) (ss : List Spot) (o : SaidCover) (c d : Cover) (before
 adds_row s ss o c d before after h is e =
     let now : after.current ≡ Some d = ap (λ (x : Draft). x.current) e in
     let words : cover_words d ≡ ((cover_words c).0, (cover_words c).1 ++ (s.word ∷ map (λ (t : Spot). t.word) ss) ∷ []) =
-      ap (λ (xs : List Word). (xs ++ d.output ∷ [], map (row_words d.on) d.rows)) h.inputs
-      ∙ ap (λ (x : Word). (c.inputs ++ x ∷ [], map (row_words d.on) d.rows)) h.output
-      ∙ ap (λ (ls : List Line). (c.inputs ++ c.output ∷ [], ls)) h.rows in
+    ap (λ (xs : List Word). (xs ++ d.output ∷ [], map (row_words d.on) d.rows)) h.inputs
+    ∙ ap (λ (x : Word). (c.inputs ++ x ∷ [], map (row_words d.on) d.rows)) h.output
+    ∙ ap (λ (ls : List Line). (c.inputs ++ c.output ∷ [], ls)) h.rows in
     record {
       rest = e ∙ ap (λ (x : Option Cover). record before { current = x }) (sym now);
       covers =
-        ap (λ (x : Draft). map cover_words (all_covers x)) e
-        ∙ map_append cover_words before.covers (d ∷ [])
-        ∙ ap (λ (x : Line × List Line). map cover_words before.covers ++ x ∷ []) words
-        ∙ sym (add_last (s.word ∷ map (λ (t : Spot). t.word) ss) (map cover_words before.covers) (cover_words c))
-        ∙ ap (add_row (s.word ∷ map (λ (t : Spot). t.word) ss)) (sym (map_append cover_words before.covers (c ∷ [])) ∙ ap (λ (x : Option Cover). map cover_words (before.covers ++ opt_list x)) (sym is));
+          ap (λ (x : Draft). map cover_words (all_covers x)) e
+          ∙ map_append cover_words before.covers (d ∷ [])
+          ∙ ap (λ (x : Line × List Line). map cover_words before.covers ++ x ∷ []) words
+          ∙ sym (add_last (s.word ∷ map (λ (t : Spot). t.word) ss) (map cover_words before.covers) (cover_words c))
+          ∙ ap (add_row (s.word ∷ map (λ (t : Spot). t.word) ss)) (sym (map_append cover_words before.covers (c ∷ [])) ∙ ap (λ (x : Option Cover). map cover_words (before.covers ++ opt_list x)) (sym is));
       current = subst (CurrentIs (Some (with_row (s ∷ ss) o))) (sym now) h.still;
     }
 

@@ -39,9 +39,9 @@ entry_other (f ∷ fs) x y e other = at (is_word x f.0) refl (entry_other fs x y
   where
     at : (t : Bool) → is_word x f.0 ≡ t → entry_of (put_entry fs x e) y ≡ entry_of fs y → entry_of (put_entry (f ∷ fs) x e) y ≡ entry_of (f ∷ fs) y
     at true i ih =
-      let same : x ≡ f.0 = word_is x f.0 i in
-      let not_here : is_word y f.0 ≡ false = ap (is_word y) (sym same) ∙ word_turned y x ∙ other in
-      rw i (rw not_here refl)
+        let same : x ≡ f.0 = word_is x f.0 i in
+        let not_here : is_word y f.0 ≡ false = ap (is_word y) (sym same) ∙ word_turned y x ∙ other in
+        rw i (rw not_here refl)
     at false i ih = rw i (ap (λ o. if is_word y f.0 then Some f.1 else o) ih)
 
 -- the flags with one more use
@@ -92,19 +92,19 @@ flags_same f role =
 flags_step : (had : List Use) (t : Tally) (u : Use) → IsTally had t → (y : Word) → flags_at (with_use t u).entries y ≡ flags_in (had ++ u ∷ []) y
 flags_step had t u is y = elim (word_tells u.name y) [
   | inl s ↦
-    ap (λ z. flags_at (with_use t u).entries z) (sym s.1)
-    ∙ ap flags_or_none (entry_same t.entries u.name (record { flags = with_role (flags_at t.entries u.name) u.role; place = place_or (entry_of t.entries u.name) u.place }))
-    ∙ ap (λ f. with_role f u.role) (is.flags u.name)
-    ∙ sym (flags_with (flags_in had u.name) u.role)
-    ∙ ap (λ b. or_flags (flags_in had u.name) u.role b) (sym (word_same u.name))
-    ∙ sym (flags_more had u u.name)
-    ∙ ap (λ z. flags_in (had ++ u ∷ []) z) s.1
+      ap (λ z. flags_at (with_use t u).entries z) (sym s.1)
+      ∙ ap flags_or_none (entry_same t.entries u.name (record { flags = with_role (flags_at t.entries u.name) u.role; place = place_or (entry_of t.entries u.name) u.place }))
+      ∙ ap (λ f. with_role f u.role) (is.flags u.name)
+      ∙ sym (flags_with (flags_in had u.name) u.role)
+      ∙ ap (λ b. or_flags (flags_in had u.name) u.role b) (sym (word_same u.name))
+      ∙ sym (flags_more had u u.name)
+      ∙ ap (λ z. flags_in (had ++ u ∷ []) z) s.1
   | inr s ↦
-    ap flags_or_none (entry_other t.entries u.name y (record { flags = with_role (flags_at t.entries u.name) u.role; place = place_or (entry_of t.entries u.name) u.place }) s.0)
-    ∙ is.flags y
-    ∙ sym (flags_same (flags_in had y) u.role)
-    ∙ ap (λ b. or_flags (flags_in had y) u.role b) (sym s.0)
-    ∙ sym (flags_more had u y)
+      ap flags_or_none (entry_other t.entries u.name y (record { flags = with_role (flags_at t.entries u.name) u.role; place = place_or (entry_of t.entries u.name) u.place }) s.0)
+      ∙ is.flags y
+      ∙ sym (flags_same (flags_in had y) u.role)
+      ∙ ap (λ b. or_flags (flags_in had y) u.role b) (sym s.0)
+      ∙ sym (flags_more had u y)
 ]
 
 -- which names are known
@@ -113,17 +113,17 @@ known_step had t u is y =
     let more : is_among (names_in any_role (had ++ u ∷ [])) y ≡ (is_among (names_in any_role had) y || is_word y u.name) = ap (λ xs. is_among xs y) (names_more any_role had u) ∙ among_more (names_in any_role had) u.name y in
     elim (word_tells u.name y) [
       | inl s ↦
-        ap (λ z. is_some (entry_of (with_use t u).entries z)) (sym s.1)
-        ∙ ap is_some (entry_same t.entries u.name (record { flags = with_role (flags_at t.entries u.name) u.role; place = place_or (entry_of t.entries u.name) u.place }))
-        ∙ sym (or_true (is_among (names_in any_role had) y))
-        ∙ ap (λ b. is_among (names_in any_role had) y || b) (sym (word_turned y u.name ∙ s.0))
-        ∙ sym more
+          ap (λ z. is_some (entry_of (with_use t u).entries z)) (sym s.1)
+          ∙ ap is_some (entry_same t.entries u.name (record { flags = with_role (flags_at t.entries u.name) u.role; place = place_or (entry_of t.entries u.name) u.place }))
+          ∙ sym (or_true (is_among (names_in any_role had) y))
+          ∙ ap (λ b. is_among (names_in any_role had) y || b) (sym (word_turned y u.name ∙ s.0))
+          ∙ sym more
       | inr s ↦
-        ap is_some (entry_other t.entries u.name y (record { flags = with_role (flags_at t.entries u.name) u.role; place = place_or (entry_of t.entries u.name) u.place }) s.0)
-        ∙ is.known y
-        ∙ sym (or_false (is_among (names_in any_role had) y))
-        ∙ ap (λ b. is_among (names_in any_role had) y || b) (sym (word_turned y u.name ∙ s.0))
-        ∙ sym more
+          ap is_some (entry_other t.entries u.name y (record { flags = with_role (flags_at t.entries u.name) u.role; place = place_or (entry_of t.entries u.name) u.place }) s.0)
+          ∙ is.known y
+          ∙ sym (or_false (is_among (names_in any_role had) y))
+          ∙ ap (λ b. is_among (names_in any_role had) y || b) (sym (word_turned y u.name ∙ s.0))
+          ∙ sym more
     ]
 
 length_put : (es : List (Word × Entry)) (x : Word) (e : Entry) → length (put_entry es x e) ≡ more_if (not (is_some (entry_of es x))) (length es)
@@ -142,6 +142,7 @@ count_step test had u = ap distinct_count (names_more test had u) ∙ at (test u
     append_none : (xs : List Word) → xs ++ [] ≡ xs
     append_none [] = refl
     append_none (x ∷ xs) = ap (λ ys. x ∷ ys) (append_none xs)
+
     at : (t b : Bool) → test u.role ≡ t → is_among (names_in test had) u.name ≡ b → distinct_count (names_in test had ++ (if test u.role then u.name ∷ [] else [])) ≡ more_if (test u.role && not (is_among (names_in test had) u.name)) (distinct_count (names_in test had))
     at true true i j = rw (i, j) (distinct_more (names_in test had) u.name ∙ rw j refl)
     at true false i j = rw (i, j) (distinct_more (names_in test had) u.name ∙ rw j refl)

@@ -68,12 +68,7 @@ fn control_of(alloc: Global, text: &[u8], token: &Token) -> Result<Option<Name>,
     Ok(Some(name))
 }
 
-fn timing_of(
-    alloc: Global,
-    text: &[u8],
-    kind: &Token,
-    control: &Token,
-) -> Result<Timing, NoMemory>
+fn timing_of(alloc: Global, text: &[u8], kind: &Token, control: &Token) -> Result<Timing, NoMemory>
     requires kind { IsWithin text.now kind.now }
     requires control { IsWithin text.now control.now }
     ensures { is_among latch_types (spot_of text.now kind.now).word ≡ true → IfOk result (λ t. timing_words (Some t) ≡ (spot_of text.now kind.now).word ∷ (spot_of text.now control.now).word ∷ []) }

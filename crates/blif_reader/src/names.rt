@@ -346,13 +346,7 @@ impl<'a> Names<'a> {
     {
         let entry = entry_at(&self.entries, name);
         let flags = flags_of(entry);
-        let counts = counts_with(
-            self.sources,
-            self.observed,
-            self.entries.len(),
-            role,
-            entry,
-        );
+        let counts = counts_with(self.sources, self.observed, self.entries.len(), role, entry);
         match check_use(flags, counts, role, name, earlier, place) {
             Ok(()) => {}
             Err(refusal) => return Err(refusal),

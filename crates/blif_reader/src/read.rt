@@ -23,11 +23,7 @@ pub struct Lines<'a> {
     pub places: Vec<Place>,
 }
 
-fn push_place(
-    places: &mut Vec<Place>,
-    text: &[u8],
-    first: &Token,
-) -> Result<(), ReadRefusal>
+fn push_place(places: &mut Vec<Place>, text: &[u8], first: &Token) -> Result<(), ReadRefusal>
     requires { IsWithin text.now first.now }
     ensures ok { OnOk result (places.new.items ≡ places_with text.now first.now places.old.items) }
     ensures err { IfErr result (λ e. e ≡ ReadRefusal.NoMemory) }

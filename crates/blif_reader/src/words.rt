@@ -178,13 +178,7 @@ pub fn part_at(command: Command, count: usize, index: usize) -> Part
     ensures { said_part result ≡ part_in (said_command command) count index }
 {
     match command {
-        Command::Model => {
-            if index == 0 {
-                Part::Title
-            } else {
-                Part::Extra
-            }
-        }
+        Command::Model => { if index == 0 { Part::Title } else { Part::Extra } }
         Command::Inputs => Part::Name(Role::Input),
         Command::Outputs => Part::Name(Role::Output),
         Command::Clock => Part::Name(Role::ClockInput),

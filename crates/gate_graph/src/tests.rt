@@ -2,7 +2,6 @@
 ghost use Rattle.std.specs.Prelude.{◌≡◌, ◌≤◌, ◌+◌, ℕ, true, false, length, map, IfSome};
 ghost use Rattle.gate_net.specs.Net.{IsGateKind, IsLive};
 ghost use Rattle.gate_net.specs.declared.Kind.TheVariants.{Not};
-ghost use Rattle.pin_pool.specs.Ring.{has};
 ghost use Rattle.gate_graph.specs.Circuit.{live_nodes, net_of, pins_taken};
 
 use crate::{Graph, Marks};
@@ -20,17 +19,6 @@ fn is_live(graph: &Graph, node: NodeId) -> bool
     }
 }
 
-fn are_live(graph: &Graph, drivers: &[NodeId]) -> bool
-    ensures { result ≡ true → (d : ℕ) → has d (map (λ n. n.0) drivers.now) ≡ true → IsLive (net_of graph.now) d }
-{
-    for driver in drivers {
-        if !is_live(graph, *driver) {
-            return false;
-        }
-    }
-    true
-}
-
 // Whether a gate of the kind may have so many pins.
 fn fits(kind: Kind, count: usize) -> bool
     ensures gate { result ≡ true → IsGateKind kind }
@@ -44,35 +32,24 @@ fn fits(kind: Kind, count: usize) -> bool
     }
 }
 
-fn add(graph: &mut Graph, kind: Kind, drivers: &[NodeId]) -> Option<NodeId>
-    requires pins { pins_taken graph.old ≤ 1000 }
-    requires nodes { live_nodes graph.old ≤ 1000 }
-    requires few { length drivers.now ≤ 1000 }
-    ensures pins { pins_taken graph.new ≤ pins_taken graph.old + length drivers.now }
-    ensures nodes { live_nodes graph.new ≤ live_nodes graph.old + 1 }
-{
-    if !are_live(graph, drivers) {
-        return None;
-    }
-    if !fits(kind, drivers.len()) {
-        return None;
-    }
-    match graph.add_gate(kind, drivers) {
-        Ok(node) => Some(node),
-        Err(_) => None,
-    }
-}
-
 fn add_two(graph: &mut Graph, kind: Kind, first: u32, second: u32) -> Option<u32>
     requires pins { pins_taken graph.old ≤ 900 }
     requires nodes { live_nodes graph.old ≤ 900 }
     ensures pins { pins_taken graph.new ≤ pins_taken graph.old + 2 }
     ensures nodes { live_nodes graph.new ≤ live_nodes graph.old + 1 }
 {
-    let drivers = [NodeId(first), NodeId(second)];
-    match add(graph, kind, &drivers) {
-        Some(node) => Some(node.0),
-        None => None,
+    if !is_live(graph, NodeId(first)) {
+        return None;
+    }
+    if !is_live(graph, NodeId(second)) {
+        return None;
+    }
+    if !fits(kind, 2) {
+        return None;
+    }
+    match graph.add_gate(kind, &[NodeId(first), NodeId(second)]) {
+        Ok(node) => Some(node.0),
+        Err(_) => None,
     }
 }
 

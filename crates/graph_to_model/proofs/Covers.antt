@@ -1,17 +1,17 @@
 -- The covers of the model of a net: one a gate, and then copies and constants.
-use Rattle.std.proofs.Common.{◌≡◌, ◌≢◌, ◌≤◌, ◌<◌, ◌+◌, ◌^◌, ℕ, zero, suc, Bool, true, false, not, ◌&&◌, ◌||◌, List, [], ◌∷◌, ◌++◌, map, length, refl, sym, ◌∙◌, ap, arith, subst, ◌⊎◌, inl, inr}
+use Rattle.std.proofs.Common.{◌≡◌, ◌≢◌, ◌≤◌, ◌<◌, ◌+◌, ℕ, zero, suc, Bool, true, false, not, ◌&&◌, List, [], ◌∷◌, ◌++◌, map, length, refl, sym, ◌∙◌, ap, arith, subst, ◌⊎◌, inl, inr}
 use Rattle.std.specs.Prelude.{Option, None, Some, slice_get, if◌then◌else◌, nat_eq}
 use Rattle.std.proofs.lemmas.Option.{slice_get_within}
 use Rattle.std.proofs.lemmas.Bool.Decides.{eqb_tells}
-use Rattle.rm_model.specs.Words.{Word, is_word}
-use Rattle.rm_model.specs.Value.{is_among, source_names, observed_names}
+use Rattle.rm_model.specs.Words.{Word}
+use Rattle.rm_model.specs.Value.{is_among}
 use Rattle.rm_model.specs.WellFormed.{IsWellFormed, is_distinct}
 use Rattle.rm_model.specs.declared.parts.Cover.{Cover}
 use Rattle.rm_model.specs.declared.parts.Model.{Model}
 use Rattle.gate_net.specs.declared.Kind.{Kind}
 use Rattle.gate_net.specs.declared.Kind.TheVariants.{Source, Zero, One, And, Or, Not}
 use Rattle.gate_net.specs.Net.{Node, Net, node_at, flatten_option, IsGateKind, IsWellFormed as IsNet}
-use Rattle.cover_decompose.proofs.Members.{In, in_append, in_left, in_right, in_map, in_mapped, among_in, in_among, or_cases, word_same, word_refl}
+use Rattle.cover_decompose.proofs.Members.{In, in_append, in_left, in_map, among_in, in_among}
 use Rattle.graph_to_model.specs.Names.{node_name}
 use Rattle.rm_model.specs.declared.parts.Literal.TheVariants.{One as One1}
 use Rattle.graph_to_model.specs.NetModel.{cover_with, gate_cover_of, gate_cover, gate_covers, onto, copy_cover, copy_covers}
@@ -19,7 +19,6 @@ use Rattle.graph_to_model.specs.Fits.{Fits}
 use Rattle.graph_to_model.specs.Laws.{AreFew}
 use Rattle.graph_to_model.proofs.GateValues.{CoverOf, cover_of}
 use Rattle.graph_to_model.proofs.TidyFacts.{IsLean}
-use Rattle.graph_to_model.proofs.Named.{gates_told, gate_not_source}
 
 -- what the laws take of a net and the model whose names it gets
 pub record IsWritable (m : Model) (net : Net) : Type 0 where

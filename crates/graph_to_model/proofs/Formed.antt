@@ -1,8 +1,7 @@
 -- The model of a net is well formed.
-use Rattle.std.proofs.Common.{◌≡◌, ◌≢◌, ◌≤◌, ◌<◌, ◌+◌, ◌-◌, ◌^◌, ℕ, zero, suc, Bool, true, false, List, [], ◌∷◌, ◌++◌, map, length, refl, sym, ◌∙◌, ap, arith, subst, ◌⊎◌, inl, inr, All, ◌&&◌, nat_eq}
+use Rattle.std.proofs.Common.{◌≡◌, ◌≢◌, ◌≤◌, ◌<◌, ◌+◌, ◌-◌, ◌^◌, ℕ, suc, Bool, true, false, List, [], ◌∷◌, ◌++◌, map, length, refl, sym, ◌∙◌, ap, arith, subst, ◌⊎◌, inl, inr, All, ◌&&◌, nat_eq}
 use Rattle.std.specs.Prelude.{Option, None, Some, slice_get, if◌then◌else◌}
 use Rattle.std.specs.List.{list_all, flat_map, filter_map}
-use Rattle.std.proofs.lemmas.Option.{slice_get_within}
 use Rattle.std.proofs.lemmas.Bool.{eq-eqb}
 use Rattle.std.proofs.lemmas.List.Elements.{All-cons, All-nil}
 use Rattle.rm_model.specs.Words.{Word}
@@ -15,16 +14,16 @@ use Rattle.rm_model.specs.declared.parts.Latch.{Latch}
 use Rattle.rm_model.specs.declared.parts.Model.{Model}
 use Rattle.gate_net.specs.declared.Kind.{Kind}
 use Rattle.gate_net.specs.declared.Kind.TheVariants.{Source, Zero, One, And, Or, Not}
-use Rattle.gate_net.specs.Net.{Node, Net, node_at, drivers_of, Reads, IsObserved, IsGateKind, flatten_option, source_count}
-use Rattle.cover_decompose.proofs.Members.{In, in_append, in_left, in_right, in_map, in_mapped, in_at, among_in, in_among, all_pass_in}
+use Rattle.gate_net.specs.Net.{Node, Net, node_at, Reads, IsGateKind, source_count}
+use Rattle.cover_decompose.proofs.Members.{In, in_append, in_left, in_right, in_map, in_at, among_in, all_pass_in}
 use Rattle.std.specs.Fmt.{decimal}
 use Rattle.graph_to_model.specs.Names.{free_prefix, node_name}
-use Rattle.graph_to_model.specs.NetModel.{cover_with, gate_covers, copy_cover, copy_covers, model_of_net}
+use Rattle.graph_to_model.specs.NetModel.{cover_with, model_of_net}
 use Rattle.graph_to_model.proofs.TidyFacts.{kind_is}
-use Rattle.graph_to_model.proofs.GateValues.{CoverOf, one_row}
-use Rattle.graph_to_model.proofs.Named.{StandsOn, source_name, gate_name, some_told}
+use Rattle.graph_to_model.proofs.GateValues.{one_row}
+use Rattle.graph_to_model.proofs.Named.{StandsOn, source_name, gate_name}
 use Rattle.graph_to_model.proofs.Covers.{IsWritable, output_names, IsGateCover, all_from_start, in_gates, gates_in, IsCopyCover, in_copies, place_of, place_below, live_within, copy_out}
-use Rattle.graph_to_model.proofs.Outputs.{gates, had, copies, driven_once, driven_are, observed_driven, gate_driven, gate_number}
+use Rattle.graph_to_model.proofs.Outputs.{gates, had, copies, driven_once, observed_driven, gate_driven, gate_number}
 use Rattle.graph_to_model.proofs.Tokens.{made_token}
 
 all_pass : (test : Word → Bool) (xs : List Word) → ((x : Word) → In xs x → test x ≡ true) → list_all test xs ≡ true

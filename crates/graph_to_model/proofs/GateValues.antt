@@ -1,11 +1,11 @@
 -- The cover of a gate has the gate's value.
 use Rattle.std.proofs.Common.{◌≡◌, ◌≢◌, ◌≤◌, ℕ, zero, suc, Bool, true, false, not, ◌&&◌, ◌||◌, List, [], ◌∷◌, map, length, refl, sym, ◌∙◌, ap, subst, arith, All, nat_eq}
-use Rattle.std.specs.Prelude.{if◌then◌else◌, replicate, Option, Some, nat_le}
+use Rattle.std.specs.Prelude.{if◌then◌else◌, replicate, Some, nat_le}
 use Rattle.std.proofs.lemmas.Bool.{ne_eqb}
 use Rattle.std.proofs.lemmas.List.Elements.{All-cons, All-nil, All-head, All-tail}
-use Rattle.std.specs.List.{list_all, list_any, zip}
+use Rattle.std.specs.List.{list_any}
 use Rattle.rm_model.specs.Words.{Word}
-use Rattle.rm_model.specs.Value.{literal_holds, row_matches, value_of, value_of_rows}
+use Rattle.rm_model.specs.Value.{row_matches, value_of, value_of_rows}
 use Rattle.rm_model.specs.WellFormed.{IsWellFormedCover}
 use Rattle.rm_model.specs.declared.parts.Literal.{Literal}
 use Rattle.rm_model.specs.declared.parts.Literal.TheVariants.{Zero, One, Any}

@@ -1,5 +1,5 @@
 -- The model by lists is the model of the net.
-use Rattle.std.proofs.Common.{◌≡◌, ◌≢◌, ◌≤◌, ◌<◌, ◌+◌, ◌-◌, ℕ, zero, suc, Bool, true, false, not, ◌||◌, List, [], ◌∷◌, ◌++◌, length, map, get_or, refl, sym, ◌∙◌, ap, arith, subst, ◌⊎◌, inl, inr, append_assoc}
+use Rattle.std.proofs.Common.{◌≡◌, ◌<◌, ◌+◌, ◌-◌, ℕ, suc, Bool, true, false, ◌||◌, List, [], ◌∷◌, ◌++◌, length, map, get_or, refl, sym, ◌∙◌, ap, arith, inl, inr, append_assoc}
 use Rattle.std.specs.Prelude.{Option, None, Some, slice_get, unwrap_or, if◌then◌else◌, nat_lt}
 use Rattle.std.specs.Option.{option_map}
 use Rattle.std.specs.Fmt.{decimal}
@@ -9,7 +9,7 @@ use Rattle.rm_model.specs.Words.{Word, is_word}
 use Rattle.rm_model.specs.Value.{is_among, source_names, observed_names}
 use Rattle.rm_model.specs.declared.parts.Cover.{Cover}
 use Rattle.rm_model.specs.declared.parts.Model.{Model}
-use Rattle.gate_net.specs.Net.{Node, Net, node_at, drivers_of, drivers_in, flatten_option, kind_of, IsObserved, IsWellFormed as IsNet}
+use Rattle.gate_net.specs.Net.{Node, Net, node_at, drivers_of, drivers_in, flatten_option, IsWellFormed as IsNet}
 use Rattle.gate_graph.proofs.Bounded.{live-below}
 use Rattle.graph_to_model.specs.Names.{kept_names, prefix, least_free, observed_name, node_name, free_prefix}
 use Rattle.graph_to_model.specs.NetModel.{gate_cover_of, gate_cover, gate_covers, onto, copy_cover, copy_covers, model_of_net}
@@ -37,7 +37,7 @@ name_is m net sources observed places pre n s o p f =
     ∙ (ap (λ (z : List Word). name_by (source_names m) z places pre n) o
     ∙ (ap (λ (z : Word). name_by (source_names m) (observed_names m) places z n) f
     ∙ ap (λ (z : Option Word). if nat_lt n (2 + length (source_names m)) then unwrap_or (slice_get (source_names m) (n - 2)) [] else unwrap_or z (free_prefix m ++ decimal n))
-        (ap (λ (q : Option ℕ). word_at (observed_names m) q) (p n) ∙ sym (observed_by net.observed (observed_names m) n))))
+    (ap (λ (q : Option ℕ). word_at (observed_names m) q) (p n) ∙ sym (observed_by net.observed (observed_names m) n))))
 
 module _ (m : Model) (net : Net) (names : List Word) (formed : IsNet net) (are : AreNames m net names) where
   all_named : (ds : List ℕ) → ((k d : ℕ) → slice_get ds k ≡ Some d → d < length net.nodes) → map (node_name m net) ds ≡ map (named names) ds
@@ -104,10 +104,10 @@ swap_or false false = refl
 pub name_covered : (names had new : List Word) (x y : Word) (n : ℕ) (out more : List Cover) (c : Cover) → is_among had x ≡ false → ((z : Word) → is_among new z ≡ (is_among had z || is_word z y)) → y ≡ x → more ≡ out ++ c ∷ [] → c ≡ copy_by names n x → (ns : List ℕ) (xs : List Word) → more ++ copies_by names new ns xs ≡ out ++ (if is_among had x then copies_by names had ns xs else copy_by names n x ∷ copies_by names (x ∷ had) ns xs)
 name_covered names had new x y n out more c absent had_now same pushed is ns xs =
     rw absent (
-      ap (λ (cs : List Cover). cs ++ copies_by names new ns xs) pushed
-      ∙ (append_assoc out (c ∷ []) (copies_by names new ns xs)
-      ∙ (ap (λ (d : Cover). out ++ (d ∷ copies_by names new ns xs)) is
-      ∙ ap (λ (cs : List Cover). out ++ (copy_by names n x ∷ cs)) (copies_had names new (x ∷ had) (λ z. had_now z ∙ (ap (λ (w : Word). is_among had z || is_word z w) same ∙ swap_or (is_among had z) (is_word z x))) ns xs)))
+    ap (λ (cs : List Cover). cs ++ copies_by names new ns xs) pushed
+    ∙ (append_assoc out (c ∷ []) (copies_by names new ns xs)
+    ∙ (ap (λ (d : Cover). out ++ (d ∷ copies_by names new ns xs)) is
+    ∙ ap (λ (cs : List Cover). out ++ (copy_by names n x ∷ cs)) (copies_had names new (x ∷ had) (λ z. had_now z ∙ (ap (λ (w : Word). is_among had z || is_word z w) same ∙ swap_or (is_among had z) (is_word z x))) ns xs)))
     )
 
 pub names_are : (m : Model) (net : Net) (sources observed : List Word) (nodes : List ℕ) (places shown : List (Option ℕ)) (pre read : Word) (names : List Word) (bound : ℕ) → sources ≡ source_names m → observed ≡ observed_names m → nodes ≡ net.observed → bound ≡ length net.nodes → AreFirstPlaces nodes places → length places ≡ bound → shown ≡ places → pre ≡ prefix (least_free (length (sources ++ observed)) 0 (sources ++ observed)) → read ≡ pre → length names ≡ length shown → ((n : ℕ) → n < length shown → named names n ≡ name_by sources observed shown read n) → AreNames m net names

@@ -1,18 +1,18 @@
 -- Nodes have different names.
-use Rattle.std.proofs.Common.{◌≡◌, ◌≢◌, ◌≤◌, ◌<◌, ◌+◌, ◌-◌, ◌^◌, ℕ, zero, suc, Bool, true, false, not, ◌||◌, List, [], ◌∷◌, ◌++◌, length, refl, sym, ◌∙◌, ap, arith, subst, ◌⊎◌, inl, inr, nat_eq}
-use Rattle.std.specs.Prelude.{Option, None, Some, slice_get, unwrap_or}
+use Rattle.std.proofs.Common.{◌≡◌, ◌≤◌, ◌<◌, ◌+◌, ◌-◌, ◌^◌, ℕ, suc, Bool, true, false, not, List, [], ◌∷◌, ◌++◌, length, refl, sym, ◌∙◌, ap, arith, subst, ◌⊎◌, inl, inr, nat_eq}
+use Rattle.std.specs.Prelude.{Option, None, Some, slice_get}
 use Rattle.std.specs.Fmt.{decimal}
 use Rattle.std.specs.List.{list_any, starts_with}
 use Rattle.std.proofs.lemmas.Fmt.{decimal_injective}
-use Rattle.std.proofs.lemmas.Bool.{eq-eqb, ne_eqb, lt-ltb, le-ltb}
+use Rattle.std.proofs.lemmas.Bool.{eq-eqb, lt-ltb, le-ltb}
 use Rattle.std.proofs.lemmas.Bool.Decides.{eqb_tells}
 use Rattle.std.proofs.lemmas.Option.{slice_get_within}
 use Rattle.rm_model.specs.Words.{Word}
-use Rattle.rm_model.specs.Value.{is_among, source_names, observed_names}
+use Rattle.rm_model.specs.Value.{source_names, observed_names}
 use Rattle.rm_model.specs.declared.parts.Model.{Model}
 use Rattle.gate_net.specs.Net.{Net}
 use Rattle.cover_decompose.proofs.Members.{In, in_at, in_left, in_right, any_in}
-use Rattle.graph_to_model.specs.Names.{kept_names, prefix, is_free, least_free, free_prefix, observed_name, node_name}
+use Rattle.graph_to_model.specs.Names.{kept_names, free_prefix, observed_name, node_name}
 use Rattle.graph_to_model.specs.Fits.{Fits}
 use Rattle.graph_to_model.proofs.Prefixes.{prefix_is_free}
 

@@ -1,21 +1,21 @@
 -- The covers of the model drive each name once, and every name that is used.
-use Rattle.std.proofs.Common.{◌≡◌, ◌≢◌, ◌≤◌, ◌<◌, ◌+◌, ◌^◌, ℕ, zero, suc, Bool, true, false, not, ◌&&◌, ◌||◌, List, [], ◌∷◌, ◌++◌, map, length, refl, sym, ◌∙◌, ap, arith, subst, append_assoc, ◌⊎◌, inl, inr}
-use Rattle.std.specs.Prelude.{Option, None, Some, slice_get}
+use Rattle.std.proofs.Common.{◌≡◌, ◌≤◌, ◌<◌, ◌+◌, ◌^◌, ℕ, zero, suc, true, List, [], ◌∷◌, ◌++◌, length, refl, sym, ◌∙◌, ap, arith, subst, append_assoc, ◌⊎◌, inl, inr}
+use Rattle.std.specs.Prelude.{Option, Some, slice_get}
 use Rattle.std.proofs.lemmas.Option.{slice_get_within}
 use Rattle.std.proofs.lemmas.Bool.{cases_lt}
 use Rattle.rm_model.specs.Words.{Word}
-use Rattle.rm_model.specs.Value.{is_among, source_names, observed_names}
+use Rattle.rm_model.specs.Value.{source_names, observed_names}
 use Rattle.rm_model.specs.WellFormed.{is_distinct, driven_names}
 use Rattle.rm_model.specs.declared.parts.Cover.{Cover}
 use Rattle.rm_model.specs.declared.parts.Model.{Model}
 use Rattle.gate_net.specs.declared.Kind.{Kind}
-use Rattle.gate_net.specs.declared.Kind.TheVariants.{Source, Zero, One, And, Or, Not}
+use Rattle.gate_net.specs.declared.Kind.TheVariants.{Source, Zero, One}
 use Rattle.gate_net.specs.Net.{Node, Net, node_at, IsGateKind, plain_node, source_count}
-use Rattle.cover_decompose.proofs.Members.{In, in_append, in_left, in_right, in_map, in_mapped, in_at, among_in, in_among}
+use Rattle.cover_decompose.proofs.Members.{In, in_left, in_right, in_map, in_mapped}
 use Rattle.graph_to_model.specs.Names.{node_name}
 use Rattle.graph_to_model.specs.NetModel.{gate_covers, copy_covers, model_of_net}
 use Rattle.graph_to_model.proofs.Named.{gates_told, gate_not_source, some_told}
-use Rattle.graph_to_model.proofs.Covers.{IsWritable, output_names, distinct-append, distinct_cons, distinct_left, IsGateCover, AreFrom, rest_from, all_from_start, in_gates, IsCopyCover, in_copies, copies_distinct, copies_in, copy_out, onto_names, place_below, place_of}
+use Rattle.graph_to_model.proofs.Covers.{IsWritable, output_names, distinct-append, distinct_left, IsGateCover, AreFrom, rest_from, all_from_start, in_gates, in_copies, copies_distinct, copies_in, copy_out, onto_names, place_below, place_of}
 
 module _ (m : Model) (net : Net) (w : IsWritable m net) where
   abbrev pub gates : List Cover

@@ -1,21 +1,20 @@
 -- The model of a net has as many wires.
-use Rattle.std.proofs.Common.{◌≡◌, ◌≢◌, ◌≤◌, ◌<◌, ◌+◌, ◌^◌, ℕ, zero, suc, Bool, true, false, List, [], ◌∷◌, ◌++◌, map, length, refl, sym, ◌∙◌, ap, arith, subst, ◌⊎◌, inl, inr, nat_eq, zero-add}
+use Rattle.std.proofs.Common.{◌≡◌, ◌≢◌, ◌≤◌, ◌+◌, ℕ, suc, Bool, true, false, List, [], ◌∷◌, ◌++◌, map, length, refl, sym, ◌∙◌, ap, arith, nat_eq, zero-add}
 use Rattle.std.specs.Prelude.{Option, None, Some, if◌then◌else◌, sum_by}
 use Rattle.std.proofs.lemmas.List.Sums.{sum_by-cons, sum_by-append}
 use Rattle.rm_model.specs.Words.{Word}
-use Rattle.rm_model.specs.Value.{source_names, observed_names, is_among}
+use Rattle.rm_model.specs.Value.{observed_names, is_among}
 use Rattle.rm_model.specs.declared.parts.Literal.TheVariants.{One as One1}
 use Rattle.rm_model.specs.declared.parts.Cover.{Cover}
 use Rattle.rm_model.specs.declared.parts.Model.{Model}
 use Rattle.gate_net.specs.declared.Kind.{Kind}
 use Rattle.gate_net.specs.declared.Kind.TheVariants.{Source, Zero, One, And, Or, Not}
 use Rattle.gate_net.specs.Net.{Node, Net, node_at, drivers_in, drivers_of, wire_count, IsGateKind, plain_node}
-use Rattle.wire_edit.specs.Tests.{is_junction}
 use Rattle.graph_to_model.specs.Names.{node_name}
 use Rattle.graph_to_model.specs.NetModel.{cover_with, gate_cover_of, gate_cover, gate_covers, onto, copy_cover, copy_covers, model_of_net}
 use Rattle.graph_to_model.specs.Wires.{is_copy, wires}
 use Rattle.graph_to_model.proofs.TidyFacts.{kind_is, source_plain, zero_plain, one_plain}
-use Rattle.graph_to_model.proofs.GateValues.{CoverOf, cover_of}
+use Rattle.graph_to_model.proofs.GateValues.{cover_of}
 use Rattle.graph_to_model.proofs.Named.{some_told}
 use Rattle.graph_to_model.proofs.Covers.{IsWritable, AreFrom, rest_from, first_from, all_from_start}
 use Rattle.graph_to_model.proofs.Outputs.{gates, had, copies}

@@ -1,25 +1,23 @@
 -- The model of a net is ranked.
-use Rattle.std.proofs.Common.{◌≡◌, ◌≢◌, ◌≤◌, ◌<◌, ◌+◌, ◌^◌, ℕ, zero, suc, Bool, true, false, ◌&&◌, List, [], ◌∷◌, ◌++◌, map, length, refl, sym, ◌∙◌, ap, arith, subst, ◌⊎◌, inl, inr, All, max}
-use Rattle.std.specs.Prelude.{Option, None, Some, slice_get, if◌then◌else◌}
-use Rattle.std.specs.List.{list_any}
+use Rattle.std.proofs.Common.{◌≡◌, ◌≢◌, ◌≤◌, ◌<◌, ◌+◌, ◌^◌, ℕ, zero, suc, Bool, true, false, ◌&&◌, List, [], ◌∷◌, ◌++◌, length, refl, sym, ◌∙◌, ap, arith, subst, ◌⊎◌, inl, inr, All, max}
+use Rattle.std.specs.Prelude.{Option, None, Some, if◌then◌else◌}
 use Rattle.std.proofs.lemmas.Bool.Decides.{eqb_tells}
 use Rattle.rm_model.specs.Words.{Word, is_word}
 use Rattle.rm_model.specs.Value.{source_names, observed_names, is_cover_output, IsRanked}
-use Rattle.rm_model.specs.WellFormed.{is_distinct, driven_names}
+use Rattle.rm_model.specs.WellFormed.{is_distinct}
 use Rattle.rm_model.specs.declared.parts.Cover.{Cover}
 use Rattle.rm_model.specs.declared.parts.Model.{Model}
 use Rattle.gate_net.specs.declared.Kind.{Kind}
 use Rattle.gate_net.specs.declared.Kind.TheVariants.{Source, Zero, One, And, Or, Not}
 use Rattle.gate_net.specs.Net.{Node, Net, node_at, Reads, IsGateKind}
 use Rattle.wire_edit.specs.Tests.{is_gate}
-use Rattle.cover_decompose.proofs.Members.{In, in_left, in_right, in_map, in_mapped, in_at, in_any, word_refl, word_same}
+use Rattle.cover_decompose.proofs.Members.{In, in_right, in_map, in_mapped, in_at, in_any, word_refl, word_same}
 use Rattle.graph_to_model.specs.Names.{node_name}
-use Rattle.graph_to_model.specs.NetModel.{gate_covers, copy_covers, model_of_net}
-use Rattle.graph_to_model.proofs.GateValues.{CoverOf}
+use Rattle.graph_to_model.specs.NetModel.{model_of_net}
 use Rattle.graph_to_model.proofs.Named.{source_name, gates_told}
-use Rattle.graph_to_model.proofs.Covers.{IsWritable, output_names, IsGateCover, IsCopyCover, gates_in, all_from_start, place_below, copy_out, live_within, distinct_head, distinct_tail}
-use Rattle.graph_to_model.proofs.Outputs.{gates, had, copies, driven_once, gate_number, cover_number}
-use Rattle.graph_to_model.proofs.Formed.{HasName, IsSourceNumber, IsGateNumber, cover_at, cover_cases, cover_reads, driver_named, index_of, all_in_list}
+use Rattle.graph_to_model.proofs.Covers.{IsWritable, output_names, IsGateCover, IsCopyCover, place_below, copy_out, live_within, distinct_head, distinct_tail}
+use Rattle.graph_to_model.proofs.Outputs.{gates, had, driven_once, gate_number}
+use Rattle.graph_to_model.proofs.Formed.{HasName, IsGateNumber, cover_at, cover_cases, cover_reads, driver_named, index_of, all_in_list}
 
 apart : (xs ys : List Word) (x : Word) → is_distinct (xs ++ ys) ≡ true → In xs x → In ys x → ⊥
 apart [] ys x e i j = i

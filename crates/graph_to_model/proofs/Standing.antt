@@ -1,6 +1,6 @@
 -- The net stands for its model.
-use Rattle.std.proofs.Common.{◌≡◌, ◌≢◌, ◌≤◌, ◌<◌, ◌+◌, ◌-◌, ◌^◌, ℕ, zero, suc, Bool, true, false, List, [], ◌∷◌, ◌++◌, map, length, refl, sym, ◌∙◌, ap, arith, subst, ◌⊎◌, inl, inr, All, nat_eq}
-use Rattle.std.specs.Prelude.{Option, None, Some, slice_get, if◌then◌else◌, sum_by}
+use Rattle.std.proofs.Common.{◌≡◌, ◌≢◌, ◌<◌, ◌+◌, ℕ, zero, suc, Bool, true, false, List, [], ◌∷◌, map, length, refl, sym, ◌∙◌, ap, arith, subst, ◌⊎◌, inl, inr, All, nat_eq}
+use Rattle.std.specs.Prelude.{Option, None, Some, slice_get, if◌then◌else◌}
 use Rattle.std.proofs.lemmas.Option.{slice_get_within}
 use Rattle.std.proofs.lemmas.Bool.{eq-eqb}
 use Rattle.std.proofs.lemmas.Bool.Decides.{eqb_tells}
@@ -12,19 +12,17 @@ use Rattle.rm_model.specs.declared.parts.Cover.{Cover}
 use Rattle.rm_model.specs.declared.parts.Model.{Model}
 use Rattle.gate_net.specs.declared.Kind.{Kind}
 use Rattle.gate_net.specs.declared.Kind.TheVariants.{Source, Zero, One, And, Or, Not}
-use Rattle.gate_net.specs.Net.{Node, Net, node_at, drivers_of, Reads, IsGateKind, plain_node, source_count}
-use Rattle.gate_net.specs.Values.{AreGoodValues, gate_value, node_value}
+use Rattle.gate_net.specs.Net.{Net, node_at, Reads, IsGateKind, plain_node, source_count}
+use Rattle.gate_net.specs.Values.{AreGoodValues, gate_value}
 use Rattle.gate_net.proofs.AlongPins.{along_pins}
 use Rattle.cover_decompose.specs.StandsFor.{StandsFor, SameAssignment}
-use Rattle.cover_decompose.proofs.Members.{In, in_left, in_right, in_at, in_map, in_append}
+use Rattle.cover_decompose.proofs.Members.{In, in_left, in_right, in_map, in_append}
 use Rattle.graph_to_model.specs.Names.{node_name}
-use Rattle.graph_to_model.specs.NetModel.{cover_with, copy_cover, copy_covers, gate_covers, model_of_net}
-use Rattle.graph_to_model.proofs.TidyFacts.{kind_is}
-use Rattle.graph_to_model.proofs.GateValues.{CoverOf}
+use Rattle.graph_to_model.specs.NetModel.{cover_with, copy_cover, model_of_net}
 use Rattle.graph_to_model.proofs.Named.{source_name, stands_on_gate, some_told}
-use Rattle.graph_to_model.proofs.Covers.{IsWritable, output_names, IsGateCover, IsCopyCover, in_copies, copies_in, in_gates, all_from_start, place_of, place_below, copy_out, HasOrCopies}
-use Rattle.graph_to_model.proofs.Outputs.{gates, had, copies, gate_number, cover_number}
-use Rattle.graph_to_model.proofs.Formed.{HasName, IsSourceNumber, IsGateNumber, cover_at, driver_named, live_named, one_pin_not, index_of}
+use Rattle.graph_to_model.proofs.Covers.{IsWritable, output_names, in_copies, copies_in, in_gates, all_from_start, place_of, place_below, copy_out, HasOrCopies}
+use Rattle.graph_to_model.proofs.Outputs.{gates, had, copies, cover_number}
+use Rattle.graph_to_model.proofs.Formed.{HasName, IsGateNumber, cover_at, driver_named, live_named, one_pin_not}
 
 all_at : {X : Type 0} (P : X → Type 0) (xs : List X) (x : X) → All P xs → In xs x → P x
 all_at P [] x h i = absurd i

@@ -1,6 +1,6 @@
 -- The names that are made are tokens.
-use Rattle.std.proofs.Common.{◌≡◌, ◌≤◌, ◌<◌, ◌+◌, ◌%◌, ◌^◌, ℕ, zero, suc, Bool, true, false, not, ◌&&◌, List, [], ◌∷◌, ◌++◌, length, refl, sym, ◌∙◌, ap, arith, nat_eq}
-use Rattle.std.specs.Prelude.{nat_lt, if◌then◌else◌}
+use Rattle.std.proofs.Common.{◌≡◌, ◌≤◌, ◌<◌, ◌+◌, ◌%◌, ◌^◌, ℕ, zero, suc, Bool, true, false, not, ◌&&◌, List, [], ◌∷◌, ◌++◌, length, refl, arith, nat_eq}
+use Rattle.std.specs.Prelude.{if◌then◌else◌}
 use Rattle.std.specs.Fmt.{decimal}
 use Rattle.std.specs.List.{list_all}
 use Rattle.std.proofs.lemmas.Fmt.{decimal_by_steps}
@@ -8,7 +8,7 @@ use Rattle.std.proofs.lemmas.Bool.{lt-ltb, ne_eqb}
 use Rattle.rm_model.specs.Words.{Word}
 use Rattle.rm_model.specs.WellFormed.{is_word_byte, ends_in_backslash, is_token}
 use Rattle.rm_model.specs.declared.parts.Model.{Model}
-use Rattle.graph_to_model.specs.Names.{kept_names, prefix, is_free, least_free, free_prefix}
+use Rattle.graph_to_model.specs.Names.{kept_names, is_free, least_free, free_prefix}
 
 -- a byte of a word that is no backslash
 abbrev is_plain : ℕ → Bool

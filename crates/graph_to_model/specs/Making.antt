@@ -1,5 +1,5 @@
 -- The model of a net by lists: the names of its nodes by number, and the covers by these names.
-use Rattle.std.specs.Prelude.{◌≡◌, ◌<◌, zero, suc, ◌+◌, ◌-◌, ◌==◌, ℕ, Bool, true, false, nat_lt, List, [], ◌∷◌, ◌++◌, map, length, if◌then◌else◌, Option, None, Some, unwrap_or, slice_get, slice_index_or, replicate}
+use Rattle.std.specs.Prelude.{◌≡◌, ◌<◌, suc, ◌+◌, ◌-◌, ◌==◌, ℕ, true, nat_lt, List, [], ◌∷◌, ◌++◌, map, length, if◌then◌else◌, Option, None, Some, unwrap_or, slice_get, slice_index_or, replicate}
 use Rattle.std.specs.Option.{option_map}
 use Rattle.std.specs.Fmt.{decimal}
 use Rattle.rm_base.specs.declared.numbers.NodeId.{NodeId}

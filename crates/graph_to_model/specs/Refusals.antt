@@ -1,6 +1,5 @@
 -- Why a net has no model.
-use Rattle.std.specs.Prelude.{◌≡◌, Option, None, Some}
-use Rattle.rm_base.specs.declared.numbers.NodeId.{NodeId}
+use Rattle.std.specs.Prelude.{◌≡◌, Some}
 use Rattle.gate_net.specs.Net.{Net}
 use Rattle.wire_edit.specs.declared.steps.Step.{Step}
 use Rattle.wire_edit.specs.Order.{IsTidy, next_step}

@@ -1,10 +1,9 @@
 -- Models of nets that are worked out by hand.
-use Rattle.std.specs.Prelude.{ℕ, true, false, List, [], ◌∷◌, ◌++◌, Some, codes}
-use Rattle.rm_model.specs.Words.{Word}
+use Rattle.std.specs.Prelude.{true, List, [], ◌∷◌, codes}
 use Rattle.rm_model.specs.declared.parts.Literal.TheVariants.{Zero, One, Any}
 use Rattle.rm_model.specs.declared.parts.Cover.{Cover}
 use Rattle.rm_model.specs.declared.parts.Model.{Model}
-use Rattle.cover_decompose.specs.Rows.{r2, r3, r5, model_with}
+use Rattle.cover_decompose.specs.Rows.{r2, model_with}
 use Rattle.graph_to_model.specs.NetModel.{cover_with}
 
 -- the models written for the decompositions of three models

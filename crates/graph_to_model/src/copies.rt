@@ -12,12 +12,7 @@ use rm_base::NoMemory;
 use rm_model::{Cover, Literal, Name};
 use std::alloc::Global;
 
-fn copy_cover(
-    alloc: Global,
-    node: usize,
-    name: &Name,
-    names: &[Name],
-) -> Result<Cover, NoMemory>
+fn copy_cover(alloc: Global, node: usize, name: &Name, names: &[Name]) -> Result<Cover, NoMemory>
     requires { node < length names.now }
     ensures { IfOk result (λ cover. cover ≡ copy_by names.now node name.now) }
 {

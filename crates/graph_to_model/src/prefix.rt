@@ -63,11 +63,7 @@ fn least_free(alloc: Global, sources: &[Name], observed: &[Name]) -> Result<usiz
 }
 
 /// The prefix of the names that are made.
-pub fn free_prefix(
-    alloc: Global,
-    sources: &[Name],
-    observed: &[Name],
-) -> Result<Vec<u8>, NoMemory>
+pub fn free_prefix(alloc: Global, sources: &[Name], observed: &[Name]) -> Result<Vec<u8>, NoMemory>
     requires { length sources.now + length observed.now < 2 ^ 63 }
     ensures { IfOk result (λ text. text.items ≡ prefix_with (least_free_in (length (sources.now ++ observed.now)) 0 (sources.now ++ observed.now))) }
 {

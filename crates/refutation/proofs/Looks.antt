@@ -10,7 +10,6 @@ use Rattle.gate_net.proofs.Places.{map_at, set_other, set_there}
 use Rattle.gate_net.specs.Forward.{all_but, is_known, junction_back, junction_follows}
 use Rattle.gate_net.specs.Net.{Net, drivers_of}
 use Rattle.gate_net.specs.Values.{faulty_reads}
-use Rattle.refutation.proofs.FactMarks.{none}
 use Rattle.refutation.specs.Pins.{FailsAt, Glances, failing, pin_value, stuck_of, with_stuck}
 use Rattle.refutation.specs.declared.pins.Glance.{Glance}
 use Rattle.refutation.specs.declared.pins.Stuck.{Stuck}

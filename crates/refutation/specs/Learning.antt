@@ -1,7 +1,7 @@
 -- Sets of facts that are closed at a depth of recursive learning.
 use Rattle.std.specs.Prelude.{Bool, IsTrue, List, None, Some, length, slice_get, suc, zero, ℕ, ◌≡◌, ◌≤◌}
 use Rattle.gate_net.specs.Net.{Net, Reads}
-use Rattle.gate_net.specs.Values.{IsJunction, junction}
+use Rattle.gate_net.specs.Values.{IsJunction}
 use Rattle.refutation.specs.Closing.{IsClashFree, IsClosedUnderLines, IsWithin}
 use Rattle.refutation.specs.Facts.{Held, known_good, with_fact}
 use Rattle.refutation.specs.declared.reasoning.Fact.{Fact}

@@ -304,19 +304,12 @@ fn values_of_four_gates(rt: HostRuntime) -> Result<(), Fail> {
     Ok(())
 }
 
-#[test]
-fn values_of_other_rows(rt: HostRuntime) -> Result<(), Fail> {
+fn other_rows(alloc: Global) -> Result<Model, NoMemory> {
     let off = Gate {
         inputs: &["a", "b"],
         output: "z",
         rows: &["00"],
         on: false,
-    };
-    let zero = Gate {
-        inputs: &[],
-        output: "y",
-        rows: &[],
-        on: true,
     };
     let one = Gate {
         inputs: &[],
@@ -324,9 +317,13 @@ fn values_of_other_rows(rt: HostRuntime) -> Result<(), Fail> {
         rows: &[""],
         on: true,
     };
-    let points = ["z", "y", "x", "a"];
-    let found = model(rt.alloc(), &["a", "b"], &points, &[off, zero, one])?;
-    let expected = [false, false, true, false];
+    model(alloc, &["a", "b"], &["z", "x", "a"], &[off, one])
+}
+
+#[test]
+fn values_of_other_rows(rt: HostRuntime) -> Result<(), Fail> {
+    let found = other_rows(rt.alloc())?;
+    let expected = [false, true, false];
     expect_values(&rt, rt.alloc(), &found, &[false, false], &expected)?;
     Ok(())
 }

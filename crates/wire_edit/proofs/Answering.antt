@@ -1,17 +1,16 @@
 -- A step that isn't refused may be made.
-use Rattle.std.proofs.Common.{◌≡◌, ◌≢◌, ℕ, zero, suc, ◌<◌, Bool, true, false, not, ◌⊎◌, inl, inr, Option, Some, None, List, [], ◌∷◌, length, refl, sym, ◌∙◌, ap}
+use Rattle.std.proofs.Common.{◌≡◌, Bool, true, false, not, inl, inr, Option, Some, None, length, refl, sym}
 use Rattle.std.specs.Prelude.{nat_lt}
 use Rattle.std.proofs.lemmas.Bool.{ltb-true, both_ways, not-true}
 use Rattle.rm_base.specs.declared.numbers.NodeId.{NodeId}
 use Rattle.gate_net.specs.Net.{Net, drivers_of}
-use Rattle.gate_net.specs.Paths.{Reaches}
 use Rattle.wire_edit.specs.declared.steps.Step.{Step}
 use Rattle.wire_edit.specs.declared.steps.Step.TheVariants.{Add, Fix, NewNot, Const, Same, NoPins, OnePin, Twice, Twin, Dead}
 use Rattle.wire_edit.specs.declared.refusal.EditRefusal.{EditRefusal}
 use Rattle.wire_edit.specs.declared.room.Room.{Room}
 use Rattle.wire_edit.specs.Tests.{is_live, is_junction, is_gate, is_among}
 use Rattle.wire_edit.specs.Steps.{rule_applies, Applies}
-use Rattle.wire_edit.specs.Refusals.{or_else, first_of, unless, fault_of, refusal_of, has_room, ClosesCycle, IsAnswer}
+use Rattle.wire_edit.specs.Refusals.{or_else, unless, fault_of, refusal_of, ClosesCycle, IsAnswer}
 
 no_first : {A : Type 0} (o p : Option A) → or_else o p ≡ None → (o ≡ None) × (p ≡ None)
 no_first None p e = (refl, e)

@@ -1,16 +1,9 @@
 -- A node that is new or gone leaves the net acyclic.
-use Rattle.std.proofs.Common.{◌≡◌, ◌≢◌, ℕ, zero, suc, ◌+◌, ◌-◌, ◌<◌, ◌≤◌, Bool, true, false, ◌⊎◌, inl, inr, Option, Some, None, List, [], ◌∷◌, ◌++◌, length, map, refl, sym, ◌∙◌, ap, arith}
-use Rattle.std.specs.Prelude.{slice_get, slice_set, nat_eq, if◌then◌else◌}
-use Rattle.std.specs.List.{sum_by}
+use Rattle.std.proofs.Common.{◌≡◌, ◌≢◌, ℕ, ◌<◌, inl, inr, refl, arith}
+use Rattle.std.specs.Prelude.{nat_eq, if◌then◌else◌}
 use Rattle.std.proofs.lemmas.Bool.Decides.{eqb_tells}
-use Rattle.gate_net.specs.declared.Kind.{Kind}
-use Rattle.gate_net.specs.declared.Kind.TheVariants.{Source, Zero, One, And, Or, Not}
-use Rattle.rm_base.specs.declared.numbers.Fault.{Fault}
-use Rattle.gate_net.specs.Net.{Node, Net, node_at, kind_in, drivers_in, drivers_of, flatten_option, Reads, IsObserved, IsKind, IsLive, IsGate, IsGateKind, IsAcyclic, IsRanked, HasConstants, HasSources, IsWellFormed, plain_node, count_in, source_in, source_count, trimmed}
-use Rattle.gate_net.specs.Values.{controlling, IsJunction}
-use Rattle.gate_net.specs.Edits.{with_drivers, constant_node, constant_kind, fixed, with_pin, without, without_pin, redirected, node_redirected, with_readers_moved, IsUnread, DiffersAt}
-use Rattle.wire_edit.proofs.Conditions.{same_kind, constant_is}
-
+use Rattle.gate_net.specs.Net.{Net, Reads, IsAcyclic}
+use Rattle.gate_net.specs.Edits.{IsUnread, DiffersAt}
 
 module _ (net after : Net) (gate high : ℕ) (acyclic : IsAcyclic net) (d : DiffersAt net after gate) (unread : IsUnread net gate) (low : (p z : ℕ) → Reads after gate p z → (z ≢ gate) × (acyclic.0 z < high)) where
   abbrev ranked_anew : ℕ → ℕ
@@ -41,4 +34,3 @@ module _ (net after : Net) (gate high : ℕ) (acyclic : IsAcyclic net) (d : Diff
             let b : ranked_anew y ≡ acyclic.0 y = anew_other y t.1 in
             omega arith
       ]
-

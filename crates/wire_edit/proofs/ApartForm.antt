@@ -1,16 +1,12 @@
 -- A node that is new or gone leaves the net well formed.
-use Rattle.std.proofs.Common.{◌≡◌, ◌≢◌, ℕ, zero, suc, ◌+◌, ◌-◌, ◌<◌, ◌≤◌, Bool, true, false, ◌⊎◌, inl, inr, Option, Some, None, List, [], ◌∷◌, ◌++◌, length, map, refl, sym, ◌∙◌, ap, arith}
-use Rattle.std.specs.Prelude.{slice_get, slice_set, nat_eq, if◌then◌else◌}
-use Rattle.std.specs.List.{sum_by}
+use Rattle.std.proofs.Common.{◌≡◌, ◌≢◌, ℕ, inl, inr, None, [], ◌∷◌, sym, ◌∙◌, ap}
+use Rattle.std.specs.Prelude.{slice_get}
 use Rattle.std.proofs.lemmas.Bool.Decides.{eqb_tells}
 use Rattle.gate_net.specs.declared.Kind.{Kind}
-use Rattle.gate_net.specs.declared.Kind.TheVariants.{Source, Zero, One, And, Or, Not}
-use Rattle.rm_base.specs.declared.numbers.Fault.{Fault}
-use Rattle.gate_net.specs.Net.{Node, Net, node_at, kind_in, drivers_in, drivers_of, flatten_option, Reads, IsObserved, IsKind, IsLive, IsGate, IsGateKind, IsAcyclic, IsRanked, HasConstants, HasSources, IsWellFormed, plain_node, count_in, source_in, source_count, trimmed}
-use Rattle.gate_net.specs.Values.{controlling, IsJunction}
-use Rattle.gate_net.specs.Edits.{with_drivers, constant_node, constant_kind, fixed, with_pin, without, without_pin, redirected, node_redirected, with_readers_moved, IsUnread, DiffersAt}
-use Rattle.wire_edit.proofs.Conditions.{same_kind, constant_is}
-use Rattle.wire_edit.proofs.Plain.{some_none, source_weight, gate_weight, KeepsPlain, plain_constants, plain_sources}
+use Rattle.gate_net.specs.declared.Kind.TheVariants.{Zero, One, Not}
+use Rattle.gate_net.specs.Net.{Net, node_at, drivers_in, drivers_of, Reads, IsObserved, IsKind, IsGateKind, IsAcyclic, IsWellFormed, plain_node, source_count, trimmed}
+use Rattle.gate_net.specs.Edits.{IsUnread, DiffersAt}
+use Rattle.wire_edit.proofs.Plain.{KeepsPlain, plain_constants, plain_sources}
 
 module _ (net after : Net) (gate : ℕ) (well : IsWellFormed net) (d : DiffersAt net after gate) (unread : IsUnread net gate) (no_plain : (kind : Kind) → IsKind net gate kind → IsGateKind kind) (no_plain_after : (kind : Kind) → IsKind after gate kind → IsGateKind kind) (count : source_count after ≡ source_count net) where
   keeps : KeepsPlain net after
@@ -64,4 +60,3 @@ module _ (net after : Net) (gate : ℕ) (well : IsWellFormed net) (d : DiffersAt
             let old : Reads net y p x = ap (λ o. slice_get (drivers_in o) p) (sym (d.others y t.1)) ∙ reads in
             live_after x (λ e. unread.unread y p (rw e at old)) (well.drivers_live y p x old)
       ]
-

@@ -1,14 +1,10 @@
 -- What a change takes of wires, nodes and numbers.
-use Rattle.std.proofs.Common.{◌≡◌, ◌≢◌, ℕ, zero, suc, ◌+◌, ◌<◌, ◌≤◌, Bool, Option, Some, None, List, [], ◌∷◌, ◌++◌, length, map, refl, sym, ◌∙◌, ap, arith}
-use Rattle.std.specs.Prelude.{slice_get, slice_set}
-use Rattle.std.specs.List.{sum_by}
-use Rattle.gate_net.specs.Net.{Node, Net, node_at, drivers_in, drivers_of, IsGate, IsWellFormed, wire_count}
-use Rattle.gate_net.specs.Edits.{with_drivers, constant_node, without, node_redirected}
-use Rattle.wire_edit.specs.Tests.{live_in}
+use Rattle.std.proofs.Common.{◌≡◌, ℕ, zero, suc, ◌+◌, ◌≤◌, Option, Some, None, List, [], ◌∷◌, length, map, refl, ap, arith}
+use Rattle.std.specs.Prelude.{slice_set}
+use Rattle.gate_net.specs.Net.{Node, Net, drivers_in, drivers_of, IsGate, IsWellFormed, wire_count}
+use Rattle.gate_net.specs.Edits.{node_redirected}
 use Rattle.wire_edit.specs.Changes.{Change, append, remove, fix, readers, new_not, retire, changed, CanChange, with_least_free, without_node}
-use Rattle.wire_edit.specs.Refusals.{live_count}
-use Rattle.wire_edit.proofs.Totals.{total_with, total_map, total_least, total_gone}
-use Rattle.wire_edit.proofs.Formed.{junction_kind}
+use Rattle.wire_edit.proofs.Totals.{total_gone}
 use Rattle.wire_edit.proofs.Working.{remove_wires, fix_wires, append_raises, moved_wires, new_raises}
 use Rattle.wire_edit.proofs.Editing.{pins_of, nodes_of, length_trimmed}
 

@@ -1,20 +1,20 @@
 -- A step that may be made makes a change that may be made.
-use Rattle.std.proofs.Common.{◌≡◌, ◌≢◌, ℕ, zero, suc, ◌<◌, Bool, true, false, not, ◌&&◌, ◌⊎◌, inl, inr, Option, Some, None, List, [], ◌∷◌, length, refl, sym, ◌∙◌, ap, arith}
+use Rattle.std.proofs.Common.{◌≡◌, ◌≢◌, ℕ, zero, suc, ◌<◌, Bool, true, false, not, Option, Some, None, List, [], ◌∷◌, length, refl, sym, ◌∙◌, ap, arith}
 use Rattle.std.specs.Prelude.{slice_get, nat_eq, nat_lt, if◌then◌else◌, option_and_then}
-use Rattle.std.proofs.lemmas.Bool.{ltb-true, both_ways}
+use Rattle.std.proofs.lemmas.Bool.{ltb-true}
 use Rattle.gate_net.specs.declared.Kind.{Kind}
-use Rattle.gate_net.specs.declared.Kind.TheVariants.{Source, Zero, One, And, Or, Not}
+use Rattle.gate_net.specs.declared.Kind.TheVariants.{Zero, One, Not}
 use Rattle.gate_net.specs.Net.{Node, Net, node_at, kind_in, drivers_of, Reads, IsKind, IsLive, IsGate, IsGateKind, IsAcyclic, IsRanked, HasConstants, IsWellFormed}
-use Rattle.gate_net.specs.Values.{same_bool, controlling, IsJunction}
+use Rattle.gate_net.specs.Values.{same_bool, IsJunction}
 use Rattle.gate_net.specs.Paths.{Reaches, pin, on}
 use Rattle.gate_net.specs.Edits.{constant_node, constant_kind}
-use Rattle.gate_net.proofs.Bools.{and_both, not_true}
+use Rattle.gate_net.proofs.Bools.{and_both}
 use Rattle.wire_edit.specs.declared.steps.Step.{Step}
 use Rattle.wire_edit.specs.declared.steps.Step.TheVariants.{Add, Fix, NewNot, Const, Same, NoPins, OnePin, Twice, Twin, Dead}
-use Rattle.wire_edit.specs.Tests.{is_present, is_live, is_junction, is_not, is_gate, control_of, driver_at, constant_at, second_driver, is_in_use, is_repeated}
-use Rattle.wire_edit.specs.Changes.{Change, append, remove, fix, readers, new_not, retire, CanChange}
-use Rattle.wire_edit.specs.Steps.{is_not_at, same_some, Applies, constant_change, empty_node, or_zero, change_of}
-use Rattle.wire_edit.proofs.Tested.{present, live_is, junction_is_one, control_is, not_is, constant_read, gate_is, junction_gate, not_gate, unused, repeated_at, within, one_in, none_in, not_at, same_at}
+use Rattle.wire_edit.specs.Tests.{is_junction, is_not, is_gate, control_of, driver_at, constant_at, second_driver, is_in_use, is_repeated}
+use Rattle.wire_edit.specs.Changes.{remove, readers, CanChange}
+use Rattle.wire_edit.specs.Steps.{is_not_at, Applies, constant_change, empty_node, or_zero, change_of}
+use Rattle.wire_edit.proofs.Tested.{present, live_is, junction_is_one, control_is, not_is, constant_read, gate_is, junction_gate, not_gate, unused, repeated_at, within, one_in, not_at, same_at}
 
 pub reaches_rank : (net : Net) (rank : ℕ → ℕ) → IsRanked net rank → {x y : ℕ} → Reaches net x y → rank x < rank y
 reaches_rank net rank ranked {x} {y} (pin p reads) = ranked y p x reads
@@ -148,8 +148,7 @@ applies_changes net (Twin gate other) well e =
     let d : (d : ℕ) × ((driver_at net gate.0 0 ≡ Some d) × (driver_at net other.0 0 ≡ Some d)) = same_at (driver_at net gate.0 0) (driver_at net other.0 0) l.1 in
     let kind : IsKind net other.0 Not = not_is net other.0 o.0 in
     let only : (k : ℕ) × (drivers_of net other.0 ≡ k ∷ []) = well.nots_have_one other.0 kind in
-    let below : other.0 < gate.0 = ltb-true other.0 gate.0 l.0 in
-    (
+    let below : other.0 < gate.0 = ltb-true other.0 gate.0 l.0 in (
       gate_is net gate.0 (not_gate net gate.0 a.0),
       (
         (Not, kind),

@@ -1,13 +1,13 @@
 -- Whether a new pin closes a cycle can be told.
-use Rattle.std.proofs.Common.{◌≡◌, ℕ, Bool, true, false, ◌↔◌, ◌⊎◌, inl, inr, Some, None, Option, refl, sym, ◌∙◌, ap, not}
+use Rattle.std.proofs.Common.{◌≡◌, ℕ, Bool, true, false, ◌↔◌, inl, inr, Some, refl, ◌∙◌, ap}
 use Rattle.rm_base.specs.declared.numbers.NodeId.{NodeId}
-use Rattle.gate_net.specs.Net.{Net, IsAcyclic, Reads}
+use Rattle.gate_net.specs.Net.{Net, IsAcyclic}
 use Rattle.gate_net.specs.Paths.{Reaches, pin, on}
 use Rattle.gate_net.proofs.Ordered.{is_after, after_right, after_there, after_upward}
 use Rattle.wire_edit.specs.declared.steps.Step.TheVariants.{Add}
 use Rattle.wire_edit.specs.declared.refusal.EditRefusal.TheVariants.{NoNode, WrongKind}
 use Rattle.wire_edit.specs.Tests.{is_live, is_junction}
-use Rattle.wire_edit.specs.Refusals.{fault_of, ClosesCycle, IsFault}
+use Rattle.wire_edit.specs.Refusals.{ClosesCycle, IsFault}
 
 path_after : (net : Net) (acyclic : IsAcyclic net) (gate : ℕ) {x y : ℕ} → Reaches net x y → x ≡ gate → is_after (acyclic.0 y) net gate y ≡ true
 path_after net acyclic gate {x} {y} (pin p reads) e =

@@ -1,22 +1,16 @@
 -- An edit of a graph makes the change of its net.
-use Rattle.std.proofs.Common.{◌≡◌, ◌≢◌, ℕ, zero, suc, ◌+◌, ◌-◌, ◌<◌, ◌≤◌, Bool, true, false, ◌⊎◌, inl, inr, Option, Some, None, List, [], ◌∷◌, length, refl, sym, ◌∙◌, ap, arith}
+use Rattle.std.proofs.Common.{◌≡◌, ◌≢◌, ℕ, suc, ◌+◌, ◌<◌, ◌≤◌, inl, inr, Option, Some, None, List, [], ◌∷◌, length, sym, ◌∙◌, ap, arith}
 use Rattle.std.specs.Prelude.{slice_get, slice_set}
-use Rattle.std.specs.List.{sum_by}
 use Rattle.std.proofs.lemmas.Bool.{cases_eq, cases_order}
-use Rattle.std.proofs.lemmas.Bool.Decides.{eqb_tells}
-use Rattle.std.proofs.lemmas.List.Sums.{sum_by-cons}
 use Rattle.gate_net.specs.declared.Kind.{Kind}
-use Rattle.gate_net.specs.Net.{Node, Net, node_at, drivers_of, flatten_option, before_dead, trimmed, IsLive, IsGate, IsWellFormed, wire_count}
-use Rattle.gate_net.specs.Edits.{constant_node, constant_kind, DiffersAt, MakesGate}
+use Rattle.gate_net.specs.Net.{Node, Net, node_at, flatten_option, before_dead, trimmed, IsWellFormed}
+use Rattle.gate_net.specs.Edits.{constant_node, DiffersAt, MakesGate}
 use Rattle.gate_graph.specs.Circuit.{Circuit, net_of, free_pins, free_nodes}
-use Rattle.gate_graph.specs.Changes.{CanEdit, Edits, entries_for}
-use Rattle.wire_edit.specs.Tests.{live_in}
+use Rattle.gate_graph.specs.Changes.{CanEdit, Edits}
 use Rattle.wire_edit.specs.Changes.{Change, append, remove, fix, readers, new_not, retire, changed, CanChange, with_least_free, with_new_not, without_node}
-use Rattle.wire_edit.specs.Refusals.{live_count}
 use Rattle.wire_edit.specs.Edited.{edit_of}
-use Rattle.wire_edit.proofs.Totals.{total_trimmed}
 use Rattle.wire_edit.proofs.Canonical.{least_free, least_is_free, below_is_live, least-there, least-other, gone-other, gone-there, same_nodes, canonical_least, canonical_trimmed}
-use Rattle.wire_edit.proofs.Conditions.{constant_is, constant_apart, to_constant}
+use Rattle.wire_edit.proofs.Conditions.{to_constant}
 
 -- pins that a change makes
 abbrev pub pins_of : Change → ℕ

@@ -1,22 +1,22 @@
 -- Tidying ends.
-use Rattle.std.proofs.Common.{◌≡◌, ◌≢◌, ℕ, zero, suc, ◌+◌, ◌<◌, ◌≤◌, Bool, true, false, not, ◌&&◌, Option, Some, None, List, [], ◌∷◌, length, refl, sym, ◌∙◌, ap, arith}
+use Rattle.std.proofs.Common.{◌≡◌, ℕ, ◌+◌, ◌<◌, ◌≤◌, Bool, true, false, not, ◌&&◌, Option, Some, None, [], ◌∷◌, length, refl, ◌∙◌, ap, arith}
 use Rattle.std.specs.Prelude.{slice_get, nat_lt, nat_eq, if◌then◌else◌}
-use Rattle.std.proofs.lemmas.Bool.{ltb-true, both_ways, and_from}
+use Rattle.std.proofs.lemmas.Bool.{ltb-true}
 use Rattle.rm_base.specs.declared.numbers.NodeId.{NodeId}
 use Rattle.gate_net.specs.Net.{Net, drivers_of, Reads, IsKind, IsWellFormed, wire_count}
 use Rattle.gate_net.specs.declared.Kind.TheVariants.{Not}
 use Rattle.gate_net.specs.Values.{same_bool}
 use Rattle.gate_net.specs.Edits.{constant_node}
-use Rattle.gate_net.proofs.Bools.{and_both, not_true}
+use Rattle.gate_net.proofs.Bools.{and_both}
 use Rattle.wire_edit.specs.declared.steps.Step.{Step}
 use Rattle.wire_edit.specs.declared.steps.Step.TheVariants.{Add, Fix, NewNot, Const, Same, NoPins, OnePin, Twice, Twin, Dead}
-use Rattle.wire_edit.specs.Tests.{is_present, is_gate, is_junction, is_not, is_in_use, control_of, constant_at, driver_at, second_driver}
+use Rattle.wire_edit.specs.Tests.{is_gate, is_junction, is_not, is_in_use, control_of, constant_at, driver_at, second_driver}
 use Rattle.wire_edit.specs.Changes.{Change, append, remove, fix, readers, new_not, retire, changed, CanChange}
-use Rattle.wire_edit.specs.Steps.{rule_applies, is_not_at, same_some, Applies, constant_change, empty_node, or_zero, change_of, stepped}
+use Rattle.wire_edit.specs.Steps.{rule_applies, is_not_at, Applies, constant_change, empty_node, or_zero, change_of, stepped}
 use Rattle.wire_edit.specs.Order.{node, next_step, rule_at}
 use Rattle.wire_edit.specs.Laws.{IsTidying}
 use Rattle.wire_edit.specs.Work.{one_if, work, FixesPin, MakesPin, most_raised, pins_made}
-use Rattle.wire_edit.proofs.Tested.{gate_is, junction_gate, not_gate, not_is, read_in_use, one_in, same_at, got}
+use Rattle.wire_edit.proofs.Tested.{gate_is, not_gate, read_in_use, one_in}
 use Rattle.wire_edit.proofs.Conditions.{constant_apart, second_is, applies_changes}
 use Rattle.wire_edit.proofs.Ordering.{NoRules, none_rules, next_at, next_applies, twin_gate}
 use Rattle.wire_edit.proofs.Working.{remove_wires, fix_wires, remove_falls, fix_falls, append_raises, moved_wires, readers_fall, retire_falls, new_raises}

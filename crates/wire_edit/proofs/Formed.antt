@@ -1,25 +1,24 @@
 -- A change keeps the net well formed.
-use Rattle.std.proofs.Common.{◌≡◌, ◌≢◌, ℕ, zero, suc, ◌+◌, ◌-◌, ◌<◌, ◌≤◌, Bool, true, false, ◌⊎◌, inl, inr, Option, Some, None, List, [], ◌∷◌, ◌++◌, length, map, refl, sym, ◌∙◌, ap, arith}
-use Rattle.std.specs.Prelude.{slice_get, slice_set, nat_eq, if◌then◌else◌}
-use Rattle.std.specs.List.{sum_by}
+use Rattle.std.proofs.Common.{◌≡◌, ◌≢◌, ℕ, zero, suc, ◌+◌, ◌<◌, Bool, inl, inr, Some, None, List, [], ◌∷◌, ◌++◌, refl, sym, ◌∙◌, ap, arith}
+use Rattle.std.specs.Prelude.{slice_get, slice_set}
 use Rattle.std.proofs.lemmas.Bool.Decides.{eqb_tells}
 use Rattle.gate_net.specs.declared.Kind.{Kind}
 use Rattle.gate_net.specs.declared.Kind.TheVariants.{Source, Zero, One, And, Or, Not}
 use Rattle.rm_base.specs.declared.numbers.Fault.{Fault}
-use Rattle.gate_net.specs.Net.{Node, Net, node_at, kind_in, drivers_in, drivers_of, flatten_option, Reads, IsObserved, IsKind, IsLive, IsGate, IsGateKind, IsAcyclic, IsRanked, HasConstants, HasSources, IsWellFormed, plain_node, count_in, source_in, source_count, trimmed}
+use Rattle.gate_net.specs.Net.{Node, Net, node_at, drivers_in, drivers_of, Reads, IsLive, IsGate, IsGateKind, IsAcyclic, IsWellFormed, source_in, source_count}
 use Rattle.gate_net.specs.Values.{controlling, IsJunction}
-use Rattle.gate_net.specs.Edits.{with_drivers, constant_node, constant_kind, fixed, with_pin, without, without_pin, redirected, node_redirected, with_readers_moved, IsUnread, DiffersAt}
-use Rattle.gate_net.proofs.Edited.{node_at-other, node_at-there, flatten_some}
+use Rattle.gate_net.specs.Edits.{constant_node, constant_kind, without, without_pin, IsUnread, DiffersAt}
+use Rattle.gate_net.proofs.Edited.{node_at-other, node_at-there}
 use Rattle.gate_net.proofs.Places.{set_cases, last_cases}
 use Rattle.gate_net.proofs.Ordered.{pins_keep_acyclic}
 use Rattle.gate_net.proofs.Fixed.{fixes_keep_acyclic}
-use Rattle.gate_net.proofs.Moved.{node_at-moved, drivers_redirected, redirect_cases, moves_keep_acyclic}
-use Rattle.wire_edit.specs.Changes.{Change, append, remove, fix, readers, new_not, retire, changed, CanChange, with_least_free, with_new_not, without_node}
+use Rattle.gate_net.proofs.Moved.{moves_keep_acyclic}
+use Rattle.wire_edit.specs.Changes.{Change, append, remove, fix, readers, new_not, retire, changed, CanChange, with_new_not, without_node}
 use Rattle.wire_edit.proofs.Tested.{got}
-use Rattle.wire_edit.proofs.Totals.{total_with, total_map, total_least, total_gone}
-use Rattle.wire_edit.proofs.Canonical.{canonical_set, canonical_map, canonical_least, canonical_trimmed, least_free, least_is_free, least-there, least-other, gone-other, gone-there}
+use Rattle.wire_edit.proofs.Totals.{total_least, total_gone}
+use Rattle.wire_edit.proofs.Canonical.{canonical_least, canonical_trimmed, least_free, least_is_free, least-there, least-other, gone-other, gone-there}
 use Rattle.wire_edit.proofs.Conditions.{same_kind, constant_is}
-use Rattle.wire_edit.proofs.Plain.{some_none, source_weight, gate_weight, KeepsPlain, plain_constants, plain_sources}
+use Rattle.wire_edit.proofs.Plain.{some_none, source_weight, gate_weight}
 use Rattle.wire_edit.proofs.Redriven.{with_formed}
 use Rattle.wire_edit.proofs.MovedForm.{moved_formed}
 use Rattle.wire_edit.proofs.Apart.{apart_acyclic}

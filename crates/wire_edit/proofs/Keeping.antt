@@ -1,17 +1,16 @@
 -- Steps keep the value of every observed place.
-use Rattle.std.proofs.Common.{◌≡◌, ◌≢◌, ℕ, zero, suc, ◌<◌, Bool, true, false, not, ◌⊎◌, inl, inr, Option, Some, None, List, [], ◌∷◌, ◌++◌, length, map, refl, sym, ◌∙◌, ap, arith}
+use Rattle.std.proofs.Common.{◌≡◌, ◌≢◌, ℕ, zero, suc, ◌<◌, Bool, true, false, not, inl, inr, Option, Some, None, List, [], ◌∷◌, length, map, refl, sym, ◌∙◌, ap, arith}
 use Rattle.std.specs.Prelude.{slice_get, nat_eq, nat_lt, if◌then◌else◌}
 use Rattle.std.proofs.lemmas.Bool.Decides.{eqb_tells}
 use Rattle.std.proofs.lemmas.Bool.{both_ways, or_cases}
 use Rattle.gate_net.specs.declared.Kind.{Kind}
 use Rattle.gate_net.specs.declared.Kind.TheVariants.{Source, Zero, One, And, Or, Not}
 use Rattle.rm_base.specs.declared.numbers.Fault.{Fault}
-use Rattle.gate_net.specs.Net.{Node, Net, node_at, drivers_in, drivers_of, Reads, IsObserved, IsKind, IsLive, IsGate, IsAcyclic, HasConstants, IsWellFormed}
-use Rattle.gate_net.specs.Values.{same_bool, junction, gate_value, node_value, AreGoodValues, controlling, IsJunction, IsUndetected}
-use Rattle.gate_net.specs.Paths.{Reaches}
-use Rattle.gate_net.specs.Edits.{with_drivers, with_pin, last_pin, fixed, without, without_pin, constant_node, constant_kind, with_readers_moved, IsUnread, DiffersAt}
+use Rattle.gate_net.specs.Net.{Node, Net, node_at, drivers_in, drivers_of, Reads, IsKind, IsGate, IsAcyclic, IsWellFormed}
+use Rattle.gate_net.specs.Values.{same_bool, junction, gate_value, node_value, AreGoodValues, controlling, IsJunction}
+use Rattle.gate_net.specs.Edits.{with_drivers, with_pin, fixed, without, without_pin, constant_node, constant_kind, with_readers_moved, IsUnread, DiffersAt}
 use Rattle.gate_net.specs.Laws.{KeepsValues, KeepsPlaces}
-use Rattle.gate_net.proofs.Bools.{bool_cases, not_not, same_bool_refl, same_bool_not, same_bool_true, same_bool_false, and_both, some_same}
+use Rattle.gate_net.proofs.Bools.{bool_cases, not_not, same_bool_refl, same_bool_not, same_bool_true, same_bool_false, and_both}
 use Rattle.gate_net.proofs.Places.{map_agree, map_at, map_pointwise}
 use Rattle.gate_net.proofs.Junctions.{junction_member, first_is}
 use Rattle.gate_net.proofs.AlongPins.{along_pins, value_at}
@@ -23,10 +22,10 @@ use Rattle.gate_net.proofs.Moved.{moves_keep}
 use Rattle.wire_edit.specs.declared.steps.Step.{Step}
 use Rattle.wire_edit.specs.declared.steps.Step.TheVariants.{Add, Fix, NewNot, Const, Same, NoPins, OnePin, Twice, Twin, Dead}
 use Rattle.wire_edit.specs.Tests.{is_present, is_junction, is_not, is_gate, control_of, driver_at, constant_at, second_driver, is_in_use, is_repeated}
-use Rattle.wire_edit.specs.Changes.{Change, append, remove, fix, readers, new_not, retire, changed, CanChange, with_new_not, without_node}
-use Rattle.wire_edit.specs.Steps.{is_not_at, same_some, Applies, constant_change, empty_node, or_zero, change_of, stepped}
+use Rattle.wire_edit.specs.Changes.{remove, readers, changed, with_new_not, without_node}
+use Rattle.wire_edit.specs.Steps.{is_not_at, Applies, constant_change, empty_node, or_zero, change_of, stepped}
 use Rattle.wire_edit.specs.Laws.{IsSound}
-use Rattle.wire_edit.proofs.Tested.{present, live_is, junction_is_one, control_is, not_is, constant_read, gate_is, junction_gate, not_gate, repeated_at, got, one_in, none_in, same_at}
+use Rattle.wire_edit.proofs.Tested.{present, junction_is_one, control_is, not_is, constant_read, repeated_at, got, one_in, none_in, same_at}
 use Rattle.wire_edit.proofs.Canonical.{least_free, least_is_free}
 use Rattle.wire_edit.proofs.Conditions.{constant_is, second_is, applies_changes}
 use Rattle.wire_edit.proofs.Formed.{changes_keep_form, new_differs, gone_differs, free_unread}
@@ -98,8 +97,8 @@ junction_is net a v x c j good = value_at net a v x j.0 (map v (drivers_of net x
 pin_gone : (net : Net) (gate p : ℕ) (c : Bool) → IsAcyclic (without_pin net gate p) → IsJunction net gate c → ((a v : ℕ → Bool) → AreGoodValues net a v → junction c (map v (without (drivers_of net gate) p)) ≡ junction c (map v (drivers_of net gate))) → KeepsPlaces net (without_pin net gate p)
 pin_gone net gate p c after j same =
     redriven_keeps net gate _ (without (drivers_of net gate) p) j.1.0.1 after (λ a v good.
-        junction_value j.0 c (a gate) (map v (without (drivers_of net gate) p)) j.1.1 ∙ same a v good ∙ sym (junction_value j.0 c (a gate) (map v (drivers_of net gate)) j.1.1)
-        ∙ ap (λ o. gate_value j.0 (a gate) (map v (drivers_in o))) j.1.0.1)
+    junction_value j.0 c (a gate) (map v (without (drivers_of net gate) p)) j.1.1 ∙ same a v good ∙ sym (junction_value j.0 c (a gate) (map v (drivers_of net gate)) j.1.1)
+    ∙ ap (λ o. gate_value j.0 (a gate) (map v (drivers_in o))) j.1.0.1)
 
 -- readers move to a constant
 to_value : (net : Net) → IsWellFormed net → (gate to : ℕ) (b : Bool) → to ≡ constant_node b → IsAcyclic (with_readers_moved net gate to) → ((a v : ℕ → Bool) → AreGoodValues net a v → v gate ≡ b) → KeepsPlaces net (with_readers_moved net gate to)

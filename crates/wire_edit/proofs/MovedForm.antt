@@ -1,19 +1,14 @@
 -- A move of readers leaves the net well formed.
-use Rattle.std.proofs.Common.{◌≡◌, ◌≢◌, ℕ, zero, suc, ◌+◌, ◌-◌, ◌<◌, ◌≤◌, Bool, true, false, ◌⊎◌, inl, inr, Option, Some, None, List, [], ◌∷◌, ◌++◌, length, map, refl, sym, ◌∙◌, ap, arith}
-use Rattle.std.specs.Prelude.{slice_get, slice_set, nat_eq, if◌then◌else◌}
-use Rattle.std.specs.List.{sum_by}
-use Rattle.std.proofs.lemmas.Bool.Decides.{eqb_tells}
+use Rattle.std.proofs.Common.{◌≡◌, ◌≢◌, ℕ, inl, inr, Option, Some, None, List, [], ◌∷◌, map, refl, sym, ◌∙◌, ap}
+use Rattle.std.specs.Prelude.{slice_get}
 use Rattle.gate_net.specs.declared.Kind.{Kind}
-use Rattle.gate_net.specs.declared.Kind.TheVariants.{Source, Zero, One, And, Or, Not}
-use Rattle.rm_base.specs.declared.numbers.Fault.{Fault}
-use Rattle.gate_net.specs.Net.{Node, Net, node_at, kind_in, drivers_in, drivers_of, flatten_option, Reads, IsObserved, IsKind, IsLive, IsGate, IsGateKind, IsAcyclic, IsRanked, HasConstants, HasSources, IsWellFormed, plain_node, count_in, source_in, source_count, trimmed}
-use Rattle.gate_net.specs.Values.{controlling, IsJunction}
-use Rattle.gate_net.specs.Edits.{with_drivers, constant_node, constant_kind, fixed, with_pin, without, without_pin, redirected, node_redirected, with_readers_moved, IsUnread, DiffersAt}
-use Rattle.wire_edit.proofs.Conditions.{same_kind, constant_is}
+use Rattle.gate_net.specs.declared.Kind.TheVariants.{Zero, One, Not}
+use Rattle.gate_net.specs.Net.{Node, Net, node_at, kind_in, drivers_in, drivers_of, IsKind, IsLive, IsAcyclic, IsWellFormed}
+use Rattle.gate_net.specs.Edits.{redirected, node_redirected, with_readers_moved}
 use Rattle.gate_net.proofs.Moved.{node_at-moved, drivers_redirected, redirect_cases}
 use Rattle.wire_edit.proofs.Totals.{total_map}
 use Rattle.wire_edit.proofs.Canonical.{canonical_map}
-use Rattle.wire_edit.proofs.Plain.{some_none, source_weight, gate_weight, KeepsPlain, plain_constants, plain_sources}
+use Rattle.wire_edit.proofs.Plain.{some_none, source_weight, KeepsPlain, plain_constants, plain_sources}
 
 module _ (net : Net) (from to : ℕ) (well : IsWellFormed net) (live : IsLive net to) where
   abbrev after : Net
@@ -78,4 +73,3 @@ module _ (net : Net) (from to : ℕ) (well : IsWellFormed net) (live : IsLive ne
     observed_live = λ x o. places net.observed (λ q z e. well.observed_live z (q, e)) o.0 x o.1;
     canonical = canonical_map from to net.nodes well.canonical;
   }
-

@@ -1,10 +1,10 @@
 -- Steps keep what stands together at observed places, and what stands on sources and constants.
-use Rattle.std.proofs.Common.{◌≡◌, ◌≢◌, ℕ, zero, suc, Bool, true, false, Option, Some, None, List, [], ◌∷◌, map, refl, sym, ◌∙◌, ap, inl, inr}
-use Rattle.std.specs.Prelude.{slice_get, nat_eq, if◌then◌else◌, option_map}
+use Rattle.std.proofs.Common.{◌≡◌, ℕ, zero, suc, false, Some, List, [], ◌∷◌, map, refl, sym, ◌∙◌, ap, inl, inr}
+use Rattle.std.specs.Prelude.{slice_get, option_map}
 use Rattle.std.proofs.lemmas.Bool.{both_ways}
 use Rattle.std.proofs.lemmas.Bool.Decides.{eqb_tells}
-use Rattle.gate_net.specs.Net.{Net, IsGate, IsWellFormed}
-use Rattle.gate_net.specs.Edits.{redirected, with_readers_moved}
+use Rattle.gate_net.specs.Net.{Net}
+use Rattle.gate_net.specs.Edits.{redirected}
 use Rattle.wire_edit.specs.Tests.{is_gate}
 use Rattle.wire_edit.specs.Changes.{Change, append, remove, fix, readers, new_not, retire, changed, CanChange}
 use Rattle.wire_edit.specs.Laws.{KeepsObserved}

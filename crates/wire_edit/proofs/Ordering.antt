@@ -1,15 +1,15 @@
 -- What the next step tells.
-use Rattle.std.proofs.Common.{◌≡◌, ◌≢◌, ℕ, zero, suc, ◌+◌, ◌<◌, ◌≤◌, Bool, true, false, not, ◌⊎◌, inl, inr, Option, Some, None, List, [], ◌∷◌, length, refl, sym, ◌∙◌, ap, arith}
-use Rattle.std.specs.Prelude.{slice_get, if◌then◌else◌, nat_lt, option_and_then}
+use Rattle.std.proofs.Common.{◌≡◌, ℕ, zero, suc, ◌+◌, ◌<◌, ◌≤◌, Bool, true, false, ◌⊎◌, inl, inr, Option, Some, None, List, [], ◌∷◌, length, refl, sym, ◌∙◌, ap, arith}
+use Rattle.std.specs.Prelude.{slice_get, if◌then◌else◌, nat_lt}
 use Rattle.std.proofs.lemmas.Bool.{ltb-true, both_ways, cases_eq}
 use Rattle.rm_base.specs.declared.numbers.NodeId.{NodeId}
-use Rattle.gate_net.specs.Net.{Node, Net, node_at, kind_of, flatten_option, drivers_of, IsLive, IsGate}
+use Rattle.gate_net.specs.Net.{Node, Net, flatten_option, drivers_of, IsGate}
 use Rattle.gate_net.proofs.Bools.{and_both, not_true}
 use Rattle.wire_edit.specs.declared.steps.Step.{Step}
 use Rattle.wire_edit.specs.declared.steps.Step.TheVariants.{Add, Fix, NewNot, Const, Same, NoPins, OnePin, Twice, Twin, Dead}
-use Rattle.wire_edit.specs.Tests.{is_present, is_live, is_gate, is_junction, is_not, is_in_use, driver_at, constant_at, constant_of, is_repeated}
+use Rattle.wire_edit.specs.Tests.{is_gate, is_junction, is_not, is_in_use, constant_at, is_repeated}
 use Rattle.wire_edit.specs.Steps.{rule_applies, Applies}
-use Rattle.wire_edit.specs.Refusals.{or_else, first_of}
+use Rattle.wire_edit.specs.Refusals.{or_else}
 use Rattle.wire_edit.specs.Order.{node, where_met, first_from, rule_at, next_step, IsTidy}
 use Rattle.wire_edit.specs.Laws.{IsTidying}
 use Rattle.wire_edit.proofs.Tested.{present, gate_is, junction_gate, not_gate, repeated_at, within, constant_read}
@@ -31,7 +31,7 @@ none_from at from (suc count) h =
 
 pub from_none : (at : ℕ → Option Step) (from count : ℕ) → first_from at from count ≡ None → (k : ℕ) → from ≤ k → k < from + count → at k ≡ None
 from_none at from zero e k le lt = absurd (omega (arith, le, lt))
-from_none at from (suc count) e k le lt = 
+from_none at from (suc count) e k le lt =
     let both : (at from ≡ None) × (first_from at (suc from) count ≡ None) = or_none (at from) (first_from at (suc from) count) e in
     elim (order from k le) [
       | inl is ↦ rw (sym is) both.0
@@ -46,11 +46,22 @@ from_some at from zero step e = cc
 from_some at from (suc count) step e = elim (or_some (at from) (first_from at (suc from) count) step e) [
   | inl here ↦ (from, (omega arith, (omega arith, (here, λ j le lt. absurd (omega (arith, le, lt))))))
   | inr later ↦
-      let rest : (k : ℕ) × ((suc from ≤ k) × ((k < suc from + count) × ((at k ≡ Some step) × ((j : ℕ) → suc from ≤ j → j < k → at j ≡ None)))) = from_some at (suc from) count step later.1 in
-      (rest.0, (omega (arith, rest.1.0), (omega (arith, rest.1.1.0), (rest.1.1.1.0, λ j le lt. elim (cases_eq from j) [
-        | inl is ↦ rw (sym is) later.0
-        | inr ne ↦ rest.1.1.1.1 j (omega (arith, le, ne)) lt
-      ]))))
+      let rest : (k : ℕ) × ((suc from ≤ k) × ((k < suc from + count) × ((at k ≡ Some step) × ((j : ℕ) → suc from ≤ j → j < k → at j ≡ None)))) = from_some at (suc from) count step later.1 in (
+        rest.0,
+        (
+          omega (arith, rest.1.0),
+          (
+            omega (arith, rest.1.1.0),
+            (
+              rest.1.1.1.0,
+              λ j le lt. elim (cases_eq from j) [
+                | inl is ↦ rw (sym is) later.0
+                | inr ne ↦ rest.1.1.1.1 j (omega (arith, le, ne)) lt
+              ],
+            ),
+          ),
+        ),
+      )
 ]
 
 pub met_some : (net : Net) (rule step : Step) → where_met net rule ≡ Some step → (rule_applies net rule ≡ true) × (rule ≡ step)

@@ -1,15 +1,8 @@
 -- Sources and constants stay as they are.
-use Rattle.std.proofs.Common.{◌≡◌, ◌≢◌, ℕ, zero, suc, ◌+◌, ◌-◌, ◌<◌, ◌≤◌, Bool, true, false, ◌⊎◌, inl, inr, Option, Some, None, List, [], ◌∷◌, ◌++◌, length, map, refl, sym, ◌∙◌, ap, arith}
-use Rattle.std.specs.Prelude.{slice_get, slice_set, nat_eq, if◌then◌else◌}
-use Rattle.std.specs.List.{sum_by}
-use Rattle.std.proofs.lemmas.Bool.Decides.{eqb_tells}
+use Rattle.std.proofs.Common.{◌≡◌, ℕ, ◌+◌, ◌-◌, ◌<◌, ◌≤◌, Option, Some, None, List, [], refl, sym, ◌∙◌, ap, arith}
 use Rattle.gate_net.specs.declared.Kind.{Kind}
 use Rattle.gate_net.specs.declared.Kind.TheVariants.{Source, Zero, One, And, Or, Not}
-use Rattle.rm_base.specs.declared.numbers.Fault.{Fault}
-use Rattle.gate_net.specs.Net.{Node, Net, node_at, kind_in, drivers_in, drivers_of, flatten_option, Reads, IsObserved, IsKind, IsLive, IsGate, IsGateKind, IsAcyclic, IsRanked, HasConstants, HasSources, IsWellFormed, plain_node, count_in, source_in, source_count, trimmed}
-use Rattle.gate_net.specs.Values.{controlling, IsJunction}
-use Rattle.gate_net.specs.Edits.{with_drivers, constant_node, constant_kind, fixed, with_pin, without, without_pin, redirected, node_redirected, with_readers_moved, IsUnread, DiffersAt}
-use Rattle.wire_edit.proofs.Conditions.{same_kind, constant_is}
+use Rattle.gate_net.specs.Net.{Node, Net, node_at, drivers_in, IsKind, IsGateKind, HasConstants, HasSources, IsWellFormed, plain_node, count_in, source_in, source_count}
 
 pub some_none : {n : Node} → ◌≡◌ {A = Option Node} (Some n) None → ⊥
 some_none e = cc
@@ -52,4 +45,3 @@ plain_sources net after well k = record {
   first = λ n lt. k.forth (2 + n) Source (well.sources.first n (rw k.count at lt)) (λ e. e);
   only = λ x is. rw k.count (well.sources.only x (k.back x Source is (λ e. e)));
 }
-

@@ -1,9 +1,8 @@
 -- What the calls that read a graph tell of its net.
-use Rattle.std.proofs.Common.{◌≡◌, ◌≢◌, ℕ, zero, suc, ◌<◌, ◌≤◌, Bool, true, false, ◌||◌, ◌&&◌, ◌↔◌, ◌⊎◌, inl, inr, Option, Some, None, List, [], ◌∷◌, length, take, refl, sym, ◌∙◌, ap, arith}
+use Rattle.std.proofs.Common.{◌≡◌, ℕ, zero, suc, ◌<◌, ◌≤◌, Bool, true, false, ◌||◌, ◌&&◌, ◌↔◌, ◌⊎◌, inl, inr, Option, Some, None, List, [], ◌∷◌, length, take, refl, sym, ◌∙◌, ap, arith}
 use Rattle.std.specs.Prelude.{slice_get, option_and_then}
-use Rattle.std.proofs.lemmas.Bool.{both_ways, eq-eqb, and_from}
+use Rattle.std.proofs.lemmas.Bool.{eq-eqb, and_from}
 use Rattle.gate_net.specs.Net.{Net, node_at, drivers_in, drivers_of, Reads, IsObserved, IsLive, IsGate, IsWellFormed}
-use Rattle.gate_net.specs.declared.Kind.TheVariants.{Not}
 use Rattle.gate_net.proofs.Bools.{not_true, and_both}
 use Rattle.gate_graph.specs.Circuit.{Circuit, net_of, fanouts_of}
 use Rattle.gate_graph.specs.Readers.{ListReaders}
@@ -116,11 +115,16 @@ lesser_step v gate driver least next reader position places rest well is l e cho
         at (suc k) there = inr (k, there)
 
 pub lesser_found : (v : Circuit) (gate driver least : ℕ) (places : List (ℕ × ℕ)) → Lesser v gate driver least places → places ≡ [] → least < gate → IsFirst (is_twin (net_of v) gate) gate (Some least)
-lesser_found v gate driver least places l none lt =
-    (lt, (elim l.found [ inl is ↦ absurd (omega (arith, is, lt)) | inr t ↦ t ], λ j below. not_true _ (λ t. elim (l.below j t) [
+lesser_found v gate driver least places l none lt = (
+  lt,
+  (
+    elim l.found [ inl is ↦ absurd (omega (arith, is, lt)) | inr t ↦ t ],
+    λ j below. not_true _ (λ t. elim (l.below j t) [
       | inl le ↦ omega (arith, le, below)
       | inr k ↦ no_place k.0 (j, 0) (ap (λ ps. slice_get ps k.0) (sym none) ∙ k.1)
-    ])))
+    ]),
+  ),
+)
   where
     no_place : (k : ℕ) (place : ℕ × ℕ) → slice_get {X = ℕ × ℕ} [] k ≡ Some place → ⊥
     no_place k place e = cc

@@ -1,15 +1,13 @@
 -- A gate with other drivers leaves the net well formed.
-use Rattle.std.proofs.Common.{◌≡◌, ◌≢◌, ℕ, zero, suc, ◌+◌, ◌-◌, ◌<◌, ◌≤◌, Bool, true, false, ◌⊎◌, inl, inr, Option, Some, None, List, [], ◌∷◌, ◌++◌, length, map, refl, sym, ◌∙◌, ap, arith}
-use Rattle.std.specs.Prelude.{slice_get, slice_set, nat_eq, if◌then◌else◌}
+use Rattle.std.proofs.Common.{◌≡◌, ◌≢◌, ℕ, ◌+◌, inl, inr, Some, None, List, [], ◌∷◌, sym, ◌∙◌, ap, arith}
+use Rattle.std.specs.Prelude.{slice_get}
 use Rattle.std.specs.List.{sum_by}
 use Rattle.std.proofs.lemmas.Bool.Decides.{eqb_tells}
 use Rattle.gate_net.specs.declared.Kind.{Kind}
-use Rattle.gate_net.specs.declared.Kind.TheVariants.{Source, Zero, One, And, Or, Not}
-use Rattle.rm_base.specs.declared.numbers.Fault.{Fault}
-use Rattle.gate_net.specs.Net.{Node, Net, node_at, kind_in, drivers_in, drivers_of, flatten_option, Reads, IsObserved, IsKind, IsLive, IsGate, IsGateKind, IsAcyclic, IsRanked, HasConstants, HasSources, IsWellFormed, plain_node, count_in, source_in, source_count, trimmed}
-use Rattle.gate_net.specs.Values.{controlling, IsJunction}
-use Rattle.gate_net.specs.Edits.{with_drivers, constant_node, constant_kind, fixed, with_pin, without, without_pin, redirected, node_redirected, with_readers_moved, IsUnread, DiffersAt}
-use Rattle.wire_edit.proofs.Conditions.{same_kind, constant_is}
+use Rattle.gate_net.specs.declared.Kind.TheVariants.{Zero, One, Not}
+use Rattle.gate_net.specs.Net.{Node, Net, node_at, drivers_in, drivers_of, Reads, IsKind, IsGate, IsGateKind, IsAcyclic, IsWellFormed, plain_node, source_in, source_count}
+use Rattle.gate_net.specs.Edits.{with_drivers}
+use Rattle.wire_edit.proofs.Conditions.{same_kind}
 use Rattle.gate_net.proofs.Edited.{node_at-other, node_at-there, flatten_some}
 use Rattle.wire_edit.proofs.Totals.{total_with}
 use Rattle.wire_edit.proofs.Canonical.{canonical_set}
@@ -86,4 +84,3 @@ module _ (net : Net) (gate : ℕ) (ds : List ℕ) (well : IsWellFormed net) (g :
         | inl t ↦ let here : Reads after gate p x = rw t.1 at reads in live_after x (live p x (ap (λ es. slice_get es p) (sym (ap drivers_in there)) ∙ here))
         | inr t ↦ live_after x (well.drivers_live y p x (ap (λ o. slice_get (drivers_in o) p) (sym (node_at-other net gate ds y t.1)) ∙ reads))
       ]
-

@@ -1,18 +1,16 @@
 -- Which rule comes first at a gate.
-use Rattle.std.proofs.Common.{◌≡◌, ◌≢◌, ℕ, zero, suc, ◌+◌, ◌<◌, ◌≤◌, Bool, true, false, not, ◌&&◌, ◌⊎◌, inl, inr, Option, Some, None, List, [], ◌∷◌, length, refl, sym, ◌∙◌, ap, arith}
-use Rattle.std.specs.Prelude.{slice_get, if◌then◌else◌, nat_lt, nat_eq, option_and_then}
-use Rattle.std.proofs.lemmas.Bool.{ltb-true, lt-ltb, both_ways, cases_eq, and_left, and_from, eq-eqb, ne_eqb}
-use Rattle.gate_net.specs.declared.Kind.TheVariants.{Not}
-use Rattle.gate_net.specs.Net.{Net, kind_of, drivers_of}
+use Rattle.std.proofs.Common.{◌≡◌, ℕ, zero, suc, ◌+◌, ◌<◌, ◌≤◌, Bool, true, false, not, ◌&&◌, inl, inr, Option, Some, None, length, refl, sym, ◌∙◌, ap, arith}
+use Rattle.std.proofs.lemmas.Bool.{lt-ltb, cases_eq, and_from, eq-eqb, ne_eqb}
+use Rattle.gate_net.specs.Net.{Net, drivers_of}
 use Rattle.gate_net.proofs.Bools.{and_both, not_true}
 use Rattle.wire_edit.specs.declared.steps.Step.{Step}
 use Rattle.wire_edit.specs.declared.steps.Step.TheVariants.{Const, Same, NoPins, OnePin, Twice, Twin, Dead}
-use Rattle.wire_edit.specs.Tests.{is_present, is_gate, is_junction, is_not, is_in_use, driver_at, is_repeated}
+use Rattle.wire_edit.specs.Tests.{is_gate, is_junction, is_not, is_in_use, driver_at, is_repeated}
 use Rattle.wire_edit.specs.Steps.{rule_applies, is_not_at, same_some}
-use Rattle.wire_edit.specs.Refusals.{or_else, first_of}
+use Rattle.wire_edit.specs.Refusals.{or_else}
 use Rattle.wire_edit.specs.Firsts.{IsFirst, reads_constant, is_twin}
 use Rattle.wire_edit.specs.Order.{node, where_met, first_from, rule_at}
-use Rattle.wire_edit.proofs.Tested.{junction_is_one, not_is, junction_gate, not_gate}
+use Rattle.wire_edit.proofs.Tested.{junction_is_one}
 use Rattle.wire_edit.proofs.Staying.{no_gate_rules, junction_no_not}
 use Rattle.wire_edit.proofs.Ordering.{none_from, none_met, consts, sames, twins, rules_none}
 

@@ -1,28 +1,25 @@
 -- Where no rule applies at a gate that a change doesn't touch, none applies afterwards.
-use Rattle.std.proofs.Common.{◌≡◌, ◌≢◌, ℕ, zero, suc, ◌+◌, ◌<◌, ◌≤◌, Bool, true, false, not, ◌&&◌, ◌||◌, ◌⊎◌, inl, inr, Option, Some, None, List, [], ◌∷◌, ◌++◌, length, map, refl, sym, ◌∙◌, ap, arith}
-use Rattle.std.specs.Prelude.{slice_get, slice_set, nat_lt, nat_eq, if◌then◌else◌, option_and_then}
-use Rattle.std.proofs.lemmas.Bool.{ltb-true, lt-ltb, cases_eq, both_ways, and_from, and_left, cases_lt, eq-eqb}
+use Rattle.std.proofs.Common.{◌≡◌, ◌≢◌, ℕ, zero, suc, ◌<◌, Bool, true, false, not, ◌&&◌, ◌||◌, ◌⊎◌, inl, inr, Option, Some, None, List, [], ◌∷◌, ◌++◌, length, map, refl, sym, ◌∙◌, ap, arith}
+use Rattle.std.specs.Prelude.{slice_get, slice_set, nat_lt, nat_eq, option_and_then}
+use Rattle.std.proofs.lemmas.Bool.{both_ways, and_from, and_left, cases_lt, eq-eqb}
 use Rattle.std.proofs.lemmas.Bool.Decides.{eqb_tells}
-use Rattle.gate_net.specs.declared.Kind.{Kind}
-use Rattle.gate_net.specs.declared.Kind.TheVariants.{Source, Zero, One, And, Or, Not}
-use Rattle.gate_net.specs.Net.{Node, Net, node_at, kind_in, kind_of, drivers_in, drivers_of, flatten_option, Reads, IsObserved, IsKind, IsLive, IsGate, IsGateKind, IsWellFormed, trimmed}
-use Rattle.gate_net.specs.Values.{controlling, IsJunction}
-use Rattle.gate_net.specs.Edits.{with_drivers, with_pin, without, without_pin, fixed, constant_node, redirected, node_redirected, with_readers_moved, IsUnread}
+use Rattle.gate_net.specs.declared.Kind.TheVariants.{Not}
+use Rattle.gate_net.specs.Net.{Net, node_at, kind_in, kind_of, drivers_in, drivers_of, Reads, IsObserved, IsLive, IsGate, IsWellFormed}
+use Rattle.gate_net.specs.Values.{IsJunction}
+use Rattle.gate_net.specs.Edits.{with_drivers, with_pin, without, without_pin, constant_node, redirected, with_readers_moved, IsUnread}
 use Rattle.gate_net.proofs.Bools.{and_both, not_true}
 use Rattle.gate_net.proofs.Edited.{node_at-other, node_at-there}
 use Rattle.gate_net.proofs.Places.{set_other, set_cases}
 use Rattle.gate_net.proofs.Moved.{node_at-moved, drivers_redirected, redirect_cases}
-use Rattle.rm_base.specs.declared.numbers.NodeId.{NodeId}
 use Rattle.wire_edit.specs.declared.steps.Step.TheVariants.{Const, Same, NoPins, OnePin, Twice, Twin, Dead}
 use Rattle.wire_edit.specs.Tests.{is_present, gate_control, is_not_kind, kind_constant, is_junction, is_not, is_gate, is_in_use, constant_of, constant_at, driver_at, is_repeated}
 use Rattle.wire_edit.specs.Changes.{Change, append, remove, fix, readers, new_not, retire, changed, CanChange, with_new_not, without_node}
 use Rattle.wire_edit.specs.Steps.{rule_applies, is_not_at, same_some}
 use Rattle.wire_edit.specs.Order.{node}
-use Rattle.wire_edit.specs.Touched.{IsReadBy, IsNotOf, IsTouched}
-use Rattle.wire_edit.proofs.Tested.{gate_is, junction_gate, not_gate, not_is, is_gate_there, present_is, read_in_use, observed_in_use, used_by, same_at}
+use Rattle.wire_edit.specs.Touched.{IsTouched}
+use Rattle.wire_edit.proofs.Tested.{junction_gate, not_gate, not_is, read_in_use, observed_in_use, used_by, same_at}
 use Rattle.wire_edit.proofs.Canonical.{least_free, least_is_free, least-there, gone-there}
-use Rattle.wire_edit.proofs.Plain.{some_none}
-use Rattle.wire_edit.proofs.Conditions.{same_kind, constant_is, one_driver}
+use Rattle.wire_edit.proofs.Conditions.{same_kind}
 use Rattle.wire_edit.proofs.Formed.{new_differs, gone_differs, junction_kind, control_not}
 use Rattle.wire_edit.proofs.Ordering.{NoRules}
 use Rattle.wire_edit.proofs.Working.{with_kinds, moved_kinds}

@@ -1,12 +1,11 @@
 -- Sums over the numbers of a net.
-use Rattle.std.proofs.Common.{◌≡◌, ◌≢◌, ℕ, zero, suc, ◌+◌, ◌<◌, ◌≤◌, Option, Some, None, List, [], ◌∷◌, length, take, true, false, refl, sym, ◌∙◌, ap, arith}
+use Rattle.std.proofs.Common.{◌≡◌, ℕ, zero, suc, ◌+◌, ◌<◌, ◌≤◌, Option, Some, None, List, [], ◌∷◌, length, take, true, false, refl, ◌∙◌, ap, arith}
 use Rattle.std.specs.Prelude.{slice_get}
 use Rattle.std.specs.List.{sum_by}
 use Rattle.std.proofs.lemmas.List.Sums.{sum_by-cons}
 use Rattle.std.proofs.lemmas.List.{take_all}
-use Rattle.gate_net.specs.Net.{Node, Net, node_at, flatten_option, drivers_in, wire_count}
+use Rattle.gate_net.specs.Net.{Node, Net, node_at, flatten_option, drivers_in}
 use Rattle.wire_edit.specs.Tests.{is_live, is_present, live_in}
-use Rattle.wire_edit.specs.Refusals.{live_count}
 
 pub sum_more : (f : Option Node → ℕ) (os : List (Option Node)) (n : ℕ) → n < length os → sum_by f (take (n + 1) os) ≡ sum_by f (take n os) + f (flatten_option (slice_get os n))
 sum_more f [] n lt = absurd (omega (arith, lt))

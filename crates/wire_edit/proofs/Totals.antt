@@ -3,8 +3,8 @@ use Rattle.std.proofs.Common.{◌≡◌, ℕ, zero, suc, ◌+◌, Option, Some, 
 use Rattle.std.specs.Prelude.{slice_get, slice_set}
 use Rattle.std.specs.List.{sum_by}
 use Rattle.std.proofs.lemmas.List.Sums.{sum_by-cons}
-use Rattle.gate_net.specs.Net.{Node, Net, node_at, flatten_option, before_dead, trimmed}
-use Rattle.gate_net.specs.Edits.{with_drivers, redriven}
+use Rattle.gate_net.specs.Net.{Node, Net, node_at, before_dead, trimmed}
+use Rattle.gate_net.specs.Edits.{with_drivers}
 use Rattle.gate_net.proofs.Edited.{flatten_some}
 use Rattle.wire_edit.specs.Changes.{with_least_free}
 

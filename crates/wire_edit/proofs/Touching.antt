@@ -1,18 +1,13 @@
 -- Marks that a walk over readers sets.
-use Rattle.std.proofs.Common.{◌≡◌, ◌≢◌, ℕ, zero, suc, ◌+◌, ◌<◌, ◌≤◌, Bool, true, false, ◌||◌, ◌⊎◌, inl, inr, Option, Some, None, List, [], ◌∷◌, ◌++◌, length, map, refl, sym, ◌∙◌, ap, arith}
+use Rattle.std.proofs.Common.{◌≡◌, ℕ, zero, suc, ◌<◌, Bool, true, false, ◌⊎◌, inl, inr, Option, Some, None, List, [], ◌∷◌, length, refl, sym, ◌∙◌, ap, arith}
 use Rattle.std.specs.Prelude.{slice_get}
 use Rattle.std.proofs.lemmas.Bool.{both_ways}
-use Rattle.rm_base.specs.declared.numbers.NodeId.{NodeId}
-use Rattle.gate_net.specs.Net.{Net, node_at, drivers_in, drivers_of, Reads, IsWellFormed}
+use Rattle.gate_net.specs.Net.{Net, node_at, drivers_in, Reads, IsWellFormed}
 use Rattle.gate_graph.specs.Circuit.{Circuit, net_of, fanouts_of}
 use Rattle.gate_graph.specs.Readers.{ListReaders}
-use Rattle.gate_graph.specs.declared.editing.Edit.{Edit}
-use Rattle.gate_graph.specs.declared.editing.Edit.TheVariants.{Append, Remove, Redrive, Readers, NewNot, Retire}
 use Rattle.wire_edit.specs.Tests.{is_live, is_not}
-use Rattle.wire_edit.specs.Changes.{Change, append, remove, fix, readers, new_not, retire}
-use Rattle.wire_edit.specs.Edited.{edit_of, IsNewNot}
-use Rattle.wire_edit.specs.Marked.{is_marked, KeepsMarks, MarksTouched}
-use Rattle.wire_edit.specs.Touched.{IsReadBy, IsNotOf, IsTouched}
+use Rattle.wire_edit.specs.Marked.{is_marked, KeepsMarks}
+use Rattle.wire_edit.specs.Touched.{IsReadBy, IsNotOf}
 use Rattle.wire_edit.proofs.Tested.{absent}
 
 pub keeps_refl : (m : List Bool) → KeepsMarks m m

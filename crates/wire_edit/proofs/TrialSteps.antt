@@ -1,12 +1,11 @@
 -- What holds of a trial holds after each step.
-use Rattle.std.proofs.Common.{◌≡◌, ◌≢◌, ℕ, zero, suc, ◌+◌, ◌-◌, ◌<◌, ◌≤◌, Bool, true, false, not, ◌&&◌, ◌⊎◌, inl, inr, Option, Some, None, List, [], ◌∷◌, length, refl, sym, ◌∙◌, ap, subst, arith}
+use Rattle.std.proofs.Common.{◌≡◌, ℕ, ◌+◌, ◌-◌, ◌<◌, ◌≤◌, Bool, true, false, inl, inr, Option, Some, None, List, length, refl, sym, ap, subst, arith}
 use Rattle.std.specs.Prelude.{nat_lt, if◌then◌else◌}
 use Rattle.std.proofs.lemmas.Bool.{both_ways, cases_lt, ltb-true}
-use Rattle.gate_net.specs.Net.{Net, drivers_of, IsWellFormed, wire_count}
+use Rattle.gate_net.specs.Net.{Net, IsWellFormed, wire_count}
 use Rattle.gate_net.specs.Values.{same_bool}
 use Rattle.gate_net.specs.Edits.{constant_node}
 use Rattle.gate_net.proofs.Bools.{and_both, not_true}
-use Rattle.gate_graph.specs.declared.entries.Entry.{Entry}
 use Rattle.gate_graph.specs.Circuit.{Circuit, net_of, free_pins, free_nodes}
 use Rattle.gate_graph.specs.Entries.{LeadOn}
 use Rattle.gate_graph.specs.Changes.{CanEdit, Edits, entries_for}
@@ -18,9 +17,8 @@ use Rattle.wire_edit.specs.Tests.{is_gate, control_of, constant_at}
 use Rattle.wire_edit.specs.Changes.{Change, append, remove, fix, readers, new_not, retire, changed, CanChange}
 use Rattle.wire_edit.specs.Steps.{Applies, constant_change, change_of, stepped}
 use Rattle.wire_edit.specs.Refusals.{has_room, room_after, nodes_made}
-use Rattle.wire_edit.specs.Order.{rule_at}
 use Rattle.wire_edit.specs.Work.{pins_made}
-use Rattle.wire_edit.specs.Edited.{edit_of, IsNewNot}
+use Rattle.wire_edit.specs.Edited.{edit_of}
 use Rattle.wire_edit.specs.Marked.{is_marked, KeepsMarks, IsQuiet, MarksTouched}
 use Rattle.wire_edit.specs.Trials.{IsTrial}
 use Rattle.wire_edit.proofs.Conditions.{applies_changes}

@@ -1,5 +1,5 @@
 -- What the calls of a trial rest on.
-use Rattle.std.proofs.Common.{◌≡◌, ◌≢◌, ℕ, zero, suc, ◌+◌, ◌-◌, ◌<◌, ◌≤◌, Bool, true, false, ◌⊎◌, inl, inr, Option, Some, None, List, [], ◌∷◌, ◌++◌, length, map, refl, sym, ◌∙◌, ap, subst, arith, min}
+use Rattle.std.proofs.Common.{◌≡◌, ◌≢◌, ℕ, ◌+◌, ◌-◌, ◌<◌, ◌≤◌, Bool, true, false, inl, inr, Some, None, List, [], ◌∷◌, ◌++◌, length, refl, sym, ◌∙◌, ap, subst, arith, min}
 use Rattle.std.proofs.lemmas.Bool.{cases_eq, cases_lt, both_ways, lt-ltb}
 use Rattle.gate_net.specs.Net.{Net, IsWellFormed, wire_count}
 use Rattle.gate_net.proofs.Bools.{not_true}
@@ -13,13 +13,13 @@ use Rattle.wire_edit.specs.declared.steps.Step.{Step}
 use Rattle.wire_edit.specs.declared.steps.Step.TheVariants.{Add, Fix, NewNot, Const, Same, NoPins, OnePin, Twice, Twin, Dead}
 use Rattle.wire_edit.specs.declared.room.Room.{Room}
 use Rattle.wire_edit.specs.Tests.{is_gate}
-use Rattle.wire_edit.specs.Changes.{Change, append, remove, fix, readers, new_not, retire, changed}
+use Rattle.wire_edit.specs.Changes.{Change, append, remove, fix, readers, new_not, retire}
 use Rattle.wire_edit.specs.Refusals.{has_room, room_after, nodes_made}
 use Rattle.wire_edit.specs.Laws.{IsTidying}
 use Rattle.wire_edit.specs.Order.{rule_at, next_step}
 use Rattle.wire_edit.specs.Work.{pins_made}
 use Rattle.wire_edit.specs.Edited.{edit_of, IsNewNot}
-use Rattle.wire_edit.specs.Touched.{IsNotOf, IsTouched}
+use Rattle.wire_edit.specs.Touched.{IsNotOf}
 use Rattle.wire_edit.specs.Marked.{is_marked, KeepsMarks, IsQuiet, MarksTouched}
 use Rattle.wire_edit.specs.Trials.{IsTrial}
 use Rattle.wire_edit.proofs.Ordering.{none_from, gate_below}

@@ -1,8 +1,7 @@
 -- Walks along lists.
-use Rattle.std.proofs.Common.{◌≡◌, ◌≢◌, ℕ, zero, suc, ◌+◌, ◌-◌, ◌<◌, ◌≤◌, Bool, true, false, ◌||◌, ◌⊎◌, inl, inr, Option, Some, None, List, [], ◌∷◌, ◌++◌, length, map, take, refl, sym, ◌∙◌, ap, arith}
-use Rattle.std.specs.Prelude.{slice_get, nat_eq}
+use Rattle.std.proofs.Common.{◌≡◌, ◌≢◌, ℕ, zero, suc, ◌+◌, ◌-◌, ◌<◌, Bool, true, false, ◌||◌, inl, inr, Some, List, [], ◌∷◌, ◌++◌, length, map, take, refl, ◌∙◌, ap, arith}
+use Rattle.std.specs.Prelude.{slice_get}
 use Rattle.std.proofs.lemmas.Bool.{ne_eqb, eq-eqb, cases_eq}
-use Rattle.rm_base.specs.declared.numbers.NodeId.{NodeId}
 use Rattle.wire_edit.specs.Tests.{is_among}
 
 pub next_place : {A B : Type 0} (f : A → B) (ds : List B) (ys : List A) (it rest : List B) (d : B) → ds ≡ map f ys ++ it → it ≡ d ∷ rest → slice_get ds (length ys) ≡ Some d

@@ -1,24 +1,23 @@
 -- Each tidying step lowers the work that is left.
-use Rattle.std.proofs.Common.{◌≡◌, ◌≢◌, ℕ, zero, suc, ◌+◌, ◌*◌, ◌-◌, ◌<◌, ◌≤◌, Bool, true, false, not, ◌&&◌, ◌||◌, ◌⊎◌, inl, inr, Option, Some, None, List, [], ◌∷◌, ◌++◌, length, map, refl, sym, ◌∙◌, ap, arith}
-use Rattle.std.specs.Prelude.{slice_get, slice_set, nat_lt, nat_eq, if◌then◌else◌}
+use Rattle.std.proofs.Common.{◌≡◌, ◌≢◌, ℕ, zero, suc, ◌+◌, ◌*◌, ◌<◌, ◌≤◌, Bool, true, false, ◌||◌, ◌⊎◌, inl, inr, Option, Some, None, List, [], ◌∷◌, ◌++◌, length, map, refl, sym, ◌∙◌, ap, arith}
+use Rattle.std.specs.Prelude.{slice_get, slice_set, nat_lt}
 use Rattle.std.specs.List.{sum_by}
-use Rattle.std.proofs.lemmas.Bool.{ltb-true, lt-ltb, cases_eq, both_ways, and_from}
+use Rattle.std.proofs.lemmas.Bool.{and_from}
 use Rattle.std.proofs.lemmas.Bool.Decides.{eqb_tells}
 use Rattle.std.proofs.lemmas.List.Sums.{sum_by-cons}
 use Rattle.gate_net.specs.declared.Kind.{Kind}
 use Rattle.gate_net.specs.declared.Kind.TheVariants.{Source, Zero, One, And, Or, Not}
-use Rattle.gate_net.specs.Net.{Node, Net, node_at, kind_in, kind_of, drivers_in, drivers_of, flatten_option, Reads, IsObserved, IsKind, IsLive, IsGate, IsGateKind, IsWellFormed, count_in, gate_in, wire_count, gate_count, trimmed}
-use Rattle.gate_net.specs.Values.{IsJunction, same_bool}
-use Rattle.gate_net.specs.Edits.{with_drivers, with_pin, without, without_pin, fixed, constant_node, redirected, node_redirected, with_readers_moved, IsUnread}
+use Rattle.gate_net.specs.Net.{Node, Net, node_at, kind_in, kind_of, drivers_in, drivers_of, flatten_option, Reads, IsObserved, IsLive, IsGate, IsGateKind, IsWellFormed, count_in, gate_in, wire_count, gate_count}
+use Rattle.gate_net.specs.Edits.{with_drivers, with_pin, without, without_pin, constant_node, redirected, node_redirected, with_readers_moved, IsUnread}
 use Rattle.gate_net.proofs.Bools.{and_both, not_true}
 use Rattle.gate_net.proofs.Edited.{node_at-other, node_at-there}
 use Rattle.gate_net.proofs.Places.{set_cases, last_cases}
 use Rattle.gate_net.proofs.Moved.{node_at-moved, drivers_redirected, redirect_cases}
 use Rattle.wire_edit.specs.Tests.{is_present, gate_control, is_not_kind, is_gate, is_in_use, live_in}
-use Rattle.wire_edit.specs.Changes.{Change, append, remove, fix, readers, new_not, retire, changed, CanChange, with_new_not, without_node}
+use Rattle.wire_edit.specs.Changes.{append, remove, fix, readers, retire, changed, CanChange, with_new_not, without_node}
 use Rattle.wire_edit.specs.Refusals.{live_count}
 use Rattle.wire_edit.specs.Work.{one_if, free_in, free_pins, count_from, is_used_gate, used_gates, work}
-use Rattle.wire_edit.proofs.Tested.{gate_is, is_gate_there, read_in_use, observed_in_use, used_by, unread_unused, got, within}
+use Rattle.wire_edit.proofs.Tested.{gate_is, is_gate_there, read_in_use, observed_in_use, used_by}
 use Rattle.wire_edit.proofs.Totals.{total_with, total_map, total_least, total_gone}
 use Rattle.wire_edit.proofs.Canonical.{least_free, least_is_free, least-there, gone-there}
 use Rattle.wire_edit.proofs.Plain.{some_none}

@@ -1,5 +1,5 @@
 -- The changes of which steps are made: one of them for each step.
-use Rattle.std.specs.Prelude.{◌≡◌, ◌≢◌, ℕ, ◌<◌, Bool, Option, Some, None, List, [], ◌∷◌, length, slice_set}
+use Rattle.std.specs.Prelude.{◌≢◌, ℕ, ◌<◌, Bool, Option, Some, None, List, [], ◌∷◌, length, slice_set}
 use Rattle.gate_net.specs.declared.Kind.TheVariants.{Not}
 use Rattle.gate_net.specs.Net.{Node, Net, drivers_of, trimmed, IsLive, IsGate}
 use Rattle.gate_net.specs.Values.{IsJunction}

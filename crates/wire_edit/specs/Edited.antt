@@ -1,5 +1,4 @@
 -- Changes of a net as edits of a graph.
-use Rattle.std.specs.Prelude.{ℕ}
 use Rattle.gate_net.specs.Edits.{constant_node}
 use Rattle.gate_graph.specs.declared.editing.Edit.{Edit}
 use Rattle.gate_graph.specs.declared.editing.Edit.TheVariants.{Append, Remove, Redrive, Readers, NewNot, Retire}

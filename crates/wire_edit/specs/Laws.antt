@@ -1,15 +1,14 @@
 -- Laws of the steps.
-use Rattle.std.specs.Prelude.{◌≡◌, ◌≢◌, ℕ, ◌+◌, ◌*◌, ◌<◌, ◌≤◌, Bool, true, false, not, Option, Some, None, List, [], ◌∷◌, slice_get, if◌then◌else◌, sum_by, length, filter, ◌↔◌}
-use Rattle.gate_net.specs.Net.{Node, Net, drivers_in, drivers_of, IsWellFormed, source_count, wire_count}
+use Rattle.std.specs.Prelude.{◌≡◌, ℕ, Bool, false, not, Some, None, slice_get, ◌↔◌}
+use Rattle.gate_net.specs.Net.{Net, IsWellFormed, source_count}
 use Rattle.gate_net.specs.Values.{IsUndetected}
 use Rattle.gate_net.specs.Edits.{last_pin}
 use Rattle.gate_net.specs.Laws.{KeepsPlaces}
 use Rattle.wire_edit.specs.declared.steps.Step.{Step}
 use Rattle.wire_edit.specs.declared.steps.Step.TheVariants.{Add, Fix, NewNot}
-use Rattle.wire_edit.specs.declared.refusal.EditRefusal.{EditRefusal}
 use Rattle.wire_edit.specs.declared.room.Room.{Room}
 use Rattle.wire_edit.specs.Tests.{is_gate, control_of}
-use Rattle.wire_edit.specs.Steps.{rule_applies, Applies, stepped}
+use Rattle.wire_edit.specs.Steps.{Applies, stepped}
 use Rattle.wire_edit.specs.Refusals.{IsAnswer}
 use Rattle.wire_edit.specs.Order.{next_step, IsTidy}
 

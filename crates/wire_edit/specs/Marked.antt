@@ -1,5 +1,5 @@
 -- Marks by number.
-use Rattle.std.specs.Prelude.{◌≡◌, ℕ, zero, suc, ◌<◌, ◌+◌, Bool, true, false, List, [], ◌∷◌, length, Option, None}
+use Rattle.std.specs.Prelude.{◌≡◌, ℕ, zero, suc, ◌<◌, ◌+◌, Bool, true, false, List, [], ◌∷◌, length, None}
 use Rattle.gate_net.specs.Net.{Net}
 use Rattle.wire_edit.specs.Work.{one_if}
 use Rattle.wire_edit.specs.Order.{rule_at}

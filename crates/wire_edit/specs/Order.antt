@@ -1,5 +1,5 @@
 -- The tidying order: which step comes next.
-use Rattle.std.specs.Prelude.{◌≡◌, ℕ, zero, suc, Option, Some, None, List, [], ◌∷◌, length, if◌then◌else◌}
+use Rattle.std.specs.Prelude.{◌≡◌, ℕ, zero, suc, Option, Some, None, [], ◌∷◌, length, if◌then◌else◌}
 use Rattle.rm_base.specs.declared.numbers.NodeId.{NodeId}
 use Rattle.gate_net.specs.Net.{Net, drivers_of}
 use Rattle.wire_edit.specs.declared.steps.Step.{Step}
@@ -23,14 +23,14 @@ first_from at from (suc count) = or_else (at from) (first_from at (suc from) cou
 unfoldable pub rule_at : Net → ℕ → Option Step
 rule_at net gate =
     first_of (
-      first_from (λ position. where_met net (Const (node gate) position)) 0 (length (drivers_of net gate))
-      ∷ first_from (λ position. where_met net (Same (node gate) position)) 0 (length (drivers_of net gate))
-      ∷ where_met net (NoPins (node gate))
-      ∷ where_met net (OnePin (node gate))
-      ∷ where_met net (Twice (node gate))
-      ∷ first_from (λ other. where_met net (Twin (node gate) (node other))) 0 gate
-      ∷ where_met net (Dead (node gate))
-      ∷ []
+    first_from (λ position. where_met net (Const (node gate) position)) 0 (length (drivers_of net gate))
+    ∷ first_from (λ position. where_met net (Same (node gate) position)) 0 (length (drivers_of net gate))
+    ∷ where_met net (NoPins (node gate))
+    ∷ where_met net (OnePin (node gate))
+    ∷ where_met net (Twice (node gate))
+    ∷ first_from (λ other. where_met net (Twin (node gate) (node other))) 0 gate
+    ∷ where_met net (Dead (node gate))
+    ∷ []
     )
 
 -- the rule at the least gate where one applies

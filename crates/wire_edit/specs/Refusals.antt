@@ -1,7 +1,7 @@
 -- Why a step isn't made: the first reason in the numbered order.
 use Rattle.std.specs.Prelude.{◌≡◌, ℕ, ◌-◌, Bool, true, false, not, ◌&&◌, ◌⊎◌, ◌↔◌, Option, Some, None, List, [], ◌∷◌, length, nat_lt, sum_by}
 use Rattle.rm_base.specs.declared.numbers.NodeId.{NodeId}
-use Rattle.gate_net.specs.Net.{Node, Net, drivers_of, wire_count}
+use Rattle.gate_net.specs.Net.{Net, drivers_of, wire_count}
 use Rattle.gate_net.specs.Paths.{Reaches}
 use Rattle.wire_edit.specs.declared.steps.Step.{Step}
 use Rattle.wire_edit.specs.declared.steps.Step.TheVariants.{Add, Fix, NewNot, Const, Same, NoPins, OnePin, Twice, Twin, Dead}

@@ -1,5 +1,5 @@
 -- Nets that are worked out by hand.
-use Rattle.std.specs.Prelude.{ℕ, true, List, [], ◌∷◌, Option, Some, None}
+use Rattle.std.specs.Prelude.{ℕ, true, List, [], ◌∷◌, Option, Some}
 use Rattle.gate_net.specs.declared.Kind.{Kind}
 use Rattle.gate_net.specs.declared.Kind.TheVariants.{Source, Zero, One, And, Or, Not}
 use Rattle.gate_net.specs.Net.{Node, Net, plain_node}
@@ -18,7 +18,7 @@ gate_of kind drivers = Some (record { kind = kind; drivers = drivers })
 abbrev pub four_gates : Net
 four_gates = record {
   nodes = plain_node Zero ∷ plain_node One ∷ plain_node Source ∷ plain_node Source ∷ plain_node Source ∷ plain_node Source
-    ∷ gate_of And (2 ∷ 3 ∷ []) ∷ gate_of And (2 ∷ 4 ∷ []) ∷ gate_of Or (6 ∷ 7 ∷ []) ∷ gate_of And (8 ∷ 5 ∷ []) ∷ [];
+      ∷ gate_of And (2 ∷ 3 ∷ []) ∷ gate_of And (2 ∷ 4 ∷ []) ∷ gate_of Or (6 ∷ 7 ∷ []) ∷ gate_of And (8 ∷ 5 ∷ []) ∷ [];
   observed = 9 ∷ [];
 }
 

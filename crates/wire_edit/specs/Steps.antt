@@ -31,7 +31,6 @@ rule_applies net (Twin gate other) =
     is_not net gate.0 && (is_in_use net gate.0 && (is_not net other.0 && (nat_lt other.0 gate.0 && same_some (driver_at net gate.0 0) (driver_at net other.0 0))))
 rule_applies net (Dead gate) = is_gate net gate.0 && not (is_in_use net gate.0)
 
-
 -- whether the condition of a step is met
 abbrev pub Applies : Net → Step → Type 0
 Applies net (Add gate node) =

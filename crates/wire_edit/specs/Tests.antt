@@ -1,7 +1,7 @@
 -- Tests of the nodes of a net.
 use Rattle.std.specs.Prelude.{ℕ, Bool, true, false, ◌||◌, Option, Some, None, List, [], ◌∷◌, option_and_then, slice_get, take, nat_eq}
 use Rattle.gate_net.specs.declared.Kind.{Kind}
-use Rattle.gate_net.specs.declared.Kind.TheVariants.{Source, Zero, One, And, Or, Not}
+use Rattle.gate_net.specs.declared.Kind.TheVariants.{Zero, One, And, Or, Not}
 use Rattle.gate_net.specs.Net.{Node, Net, node_at, kind_of, drivers_in, drivers_of}
 
 abbrev pub is_present : {A : Type 0} → Option A → Bool

@@ -1,6 +1,6 @@
 -- The gates at which a change may give a rule that none had before.
-use Rattle.std.specs.Prelude.{◌≡◌, ℕ, ◌<◌, Bool, true, ◌⊎◌, Some}
-use Rattle.gate_net.specs.Net.{Net, Reads, node_at}
+use Rattle.std.specs.Prelude.{◌≡◌, ℕ, ◌<◌, true, ◌⊎◌}
+use Rattle.gate_net.specs.Net.{Net, Reads}
 use Rattle.wire_edit.specs.Tests.{is_not}
 use Rattle.wire_edit.specs.Changes.{Change, append, remove, fix, readers, new_not, retire, changed}
 

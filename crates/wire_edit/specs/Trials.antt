@@ -1,5 +1,5 @@
 -- What holds of every trial.
-use Rattle.std.specs.Prelude.{◌≡◌, ◌≤◌, ◌<◌, ◌+◌, ℕ, List, [], Bool, length, min}
+use Rattle.std.specs.Prelude.{◌≤◌, ◌+◌, ℕ, List, Bool, length, min}
 use Rattle.gate_net.specs.Net.{wire_count}
 use Rattle.gate_graph.specs.Circuit.{Circuit, wiring, net_of, free_pins, free_nodes}
 use Rattle.gate_graph.specs.Entries.{CanGoBack, AreWithin}

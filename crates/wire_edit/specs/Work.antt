@@ -1,10 +1,10 @@
 -- How many tidying steps may follow: a sum that falls with each.
-use Rattle.std.specs.Prelude.{◌≡◌, ℕ, zero, suc, ◌+◌, ◌-◌, ◌*◌, ◌<◌, ◌≤◌, Bool, true, false, ◌&&◌, nat_lt, Option, Some, None, List, [], ◌∷◌, slice_get, length, sum_by, if◌then◌else◌}
-use Rattle.gate_net.specs.Net.{Node, Net, drivers_in, drivers_of, Reads, wire_count, gate_count, IsWellFormed}
+use Rattle.std.specs.Prelude.{◌≡◌, ℕ, zero, suc, ◌+◌, ◌-◌, ◌*◌, ◌<◌, ◌≤◌, Bool, true, false, ◌&&◌, nat_lt, Option, Some, List, [], ◌∷◌, length, sum_by}
+use Rattle.gate_net.specs.Net.{Node, Net, drivers_in, Reads, wire_count, gate_count, IsWellFormed}
 use Rattle.wire_edit.specs.declared.steps.Step.{Step}
 use Rattle.wire_edit.specs.declared.steps.Step.TheVariants.{Add, Fix, NewNot}
 use Rattle.wire_edit.specs.Tests.{is_gate, is_in_use}
-use Rattle.wire_edit.specs.Steps.{rule_applies, Applies, stepped}
+use Rattle.wire_edit.specs.Steps.{Applies, stepped}
 use Rattle.wire_edit.specs.Refusals.{live_count}
 use Rattle.wire_edit.specs.Order.{next_step}
 

@@ -8,7 +8,9 @@ ghost use Rattle.gate_net.specs.Net.{IsLive};
 ghost use Rattle.wire_edit.specs.declared.refusal.EditRefusal.TheVariants.{RuleNotMet};
 ghost use Rattle.wire_edit.specs.Refusals.{first_of, live, gate_kind, pin, unless, fault_of, ClosesCycle, IsFault};
 
-use crate::looks::{control_of, drives, is_constant, is_gate, is_in_use, is_junction, is_live, is_not};
+use crate::looks::{
+    control_of, drives, is_constant, is_gate, is_in_use, is_junction, is_live, is_not,
+};
 use crate::refusal::EditRefusal;
 use crate::rules::reads_before;
 use crate::steps::{Rule, Step};

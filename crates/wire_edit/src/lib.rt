@@ -12,6 +12,8 @@ mod refusal;
 mod room;
 mod rules;
 mod steps;
+#[cfg(test)]
+mod tests;
 mod touch;
 mod trial;
 

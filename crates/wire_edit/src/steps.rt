@@ -5,7 +5,10 @@ use rm_base::NodeId;
 #[derive(Clone, Copy, Debug, PartialEq, Eq)]
 pub enum Step {
     /// The gate reads the node by one more pin.
-    Add { gate: NodeId, node: NodeId },
+    Add {
+        gate: NodeId,
+        node: NodeId,
+    },
     /// The pin reads a constant instead.
     Fix {
         gate: NodeId,
@@ -13,21 +16,40 @@ pub enum Step {
         value: bool,
     },
     /// A Not of the node is made.
-    NewNot { node: NodeId },
+    NewNot {
+        node: NodeId,
+    },
     /// A pin reads a constant.
-    Const { gate: NodeId, position: u32 },
+    Const {
+        gate: NodeId,
+        position: u32,
+    },
     /// An earlier pin has the same driver.
-    Same { gate: NodeId, position: u32 },
+    Same {
+        gate: NodeId,
+        position: u32,
+    },
     /// An And or an Or has no pins.
-    NoPins { gate: NodeId },
+    NoPins {
+        gate: NodeId,
+    },
     /// An And or an Or has one pin.
-    OnePin { gate: NodeId },
+    OnePin {
+        gate: NodeId,
+    },
     /// A Not reads a Not.
-    Twice { gate: NodeId },
+    Twice {
+        gate: NodeId,
+    },
     /// A lower Not has the same driver.
-    Twin { gate: NodeId, other: NodeId },
+    Twin {
+        gate: NodeId,
+        other: NodeId,
+    },
     /// Nothing reads or observes the gate.
-    Dead { gate: NodeId },
+    Dead {
+        gate: NodeId,
+    },
 }
 
 /// The local rules: all steps but `Add` and `Fix`.

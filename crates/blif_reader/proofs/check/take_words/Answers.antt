@@ -30,6 +30,7 @@ returns-clause-ok c had is =
     let far : length c.args.words.now ≤ c.loop-i.i = c.loop-i-test.false in
     let long : length (map (spot_of c.args.text.now) c.args.words.now) ≤ c.loop-i.i = subst (λ (n : ℕ). n ≤ c.loop-i.i) (sym (length_map (spot_of c.args.text.now) c.args.words.now)) far in
     let enough : c.least_words.result ≤ length c.args.words.now = c.if-count-least_words.false in
-    let least : least_words (said_command c.args.command) ≤ length (map (spot_of c.args.text.now) c.args.words.now) = subst (λ (n : ℕ). n ≤ length (map (spot_of c.args.text.now) c.args.words.now)) c.least_words.ensures (subst (λ (n : ℕ). c.least_words.result ≤ n) (sym (length_map (spot_of c.args.text.now) c.args.words.now)) enough) in
-    (words_end had (spot_of c.args.text.now c.args.first.now) (said_command c.args.command) (map (spot_of c.args.text.now) c.args.words.now) c.loop-i.i i.1 long ∙ ap (λ (t : Bool). fault_if t MissingWord (spot_of c.args.text.now c.args.first.now).place) (le-ltb (length (map (spot_of c.args.text.now) c.args.words.now)) (least_words (said_command c.args.command)) least),
-      subst (λ ps. IsTally (had ++ filter_map use_of ps) c.loop-i.names) (take_whole (parts_of (said_command c.args.command) (map (spot_of c.args.text.now) c.args.words.now)) c.loop-i.i (subst (λ (n : ℕ). n ≤ c.loop-i.i) (sym (parts_length (said_command c.args.command) (map (spot_of c.args.text.now) c.args.words.now))) long)) i.0)
+    let least : least_words (said_command c.args.command) ≤ length (map (spot_of c.args.text.now) c.args.words.now) = subst (λ (n : ℕ). n ≤ length (map (spot_of c.args.text.now) c.args.words.now)) c.least_words.ensures (subst (λ (n : ℕ). c.least_words.result ≤ n) (sym (length_map (spot_of c.args.text.now) c.args.words.now)) enough) in (
+      words_end had (spot_of c.args.text.now c.args.first.now) (said_command c.args.command) (map (spot_of c.args.text.now) c.args.words.now) c.loop-i.i i.1 long ∙ ap (λ (t : Bool). fault_if t MissingWord (spot_of c.args.text.now c.args.first.now).place) (le-ltb (length (map (spot_of c.args.text.now) c.args.words.now)) (least_words (said_command c.args.command)) least),
+      subst (λ ps. IsTally (had ++ filter_map use_of ps) c.loop-i.names) (take_whole (parts_of (said_command c.args.command) (map (spot_of c.args.text.now) c.args.words.now)) c.loop-i.i (subst (λ (n : ℕ). n ≤ c.loop-i.i) (sym (parts_length (said_command c.args.command) (map (spot_of c.args.text.now) c.args.words.now))) long)) i.0,
+    )

@@ -18,9 +18,9 @@ returns-in-Err-check_ranks-clause-fault c =
     let driven : undriven_fault (said_by nothing_said (layout c.args.text.now)).uses ≡ None = sym (c.in-None.ensures (said_by nothing_said (layout c.args.text.now)).uses c.in-Ok.ensures.ok.checked.tally) in
     let first = fault_is c.args.text.now (said_by nothing_said (layout c.args.text.now)) c.in-Ok.lines.checker c.in-Ok.lines.draft c.in-Ok.lines.places.items c.in-Ok.ensures.ok none driven in
     let found : rank_found c.in-Ok-model_of.model c.as_slice.result.now ≡ first_fault c.args.text.now =
-      ap (λ (m : Model). rank_found m c.as_slice.result.now) c.in-Ok-model_of.ensures
-      ∙ ap (λ (ps : List Place). rank_found (model_in c.in-Ok.lines.draft) ps) c.as_slice.ensures.value
-      ∙ sym first in
+    ap (λ (m : Model). rank_found m c.as_slice.result.now) c.in-Ok-model_of.ensures
+    ∙ ap (λ (ps : List Place). rank_found (model_in c.in-Ok.lines.draft) ps) c.as_slice.ensures.value
+    ∙ sym first in
     subst (λ (o : Option ReadRefusal). IsRefusal c.in-Err-check_ranks.refusal o) found c.in-Err-check_ranks.ensures.err
 
 pub returns-clause-faultless : goal.returns-clause-faultless

@@ -1,4 +1,4 @@
-use Rattle.std.proofs.Common.{◌≡◌, ◌<◌, length, arith}
+use Rattle.std.proofs.Common.{◌<◌, length, arith}
 use Rattle.gate_graph.specs.Circuit.{net_of}
 use Rattle.graph_to_model.proofs.Steps.{covers_step}
 use Rattle.graph_to_model.proofs.gates.gate_covers.Goals as goal

@@ -1,4 +1,4 @@
-use Rattle.std.proofs.Common.{◌≡◌, ◌++◌, ◌∷◌, ◌+◌, ◌-◌, [], List, map, ◌∙◌, ap, arith, ℕ}
+use Rattle.std.proofs.Common.{◌++◌, ◌+◌, ◌-◌, List, map, ◌∙◌, ap}
 use Rattle.rm_model.specs.declared.parts.Literal.{Literal}
 use Rattle.graph_to_model.specs.NetModel.{row_per_pin}
 use Rattle.graph_to_model.specs.Making.{before}

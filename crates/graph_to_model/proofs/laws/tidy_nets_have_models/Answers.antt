@@ -1,4 +1,3 @@
-use Rattle.graph_to_model.specs.Laws.{IsModelOf}
 use Rattle.graph_to_model.proofs.TidyFacts.{lean}
 use Rattle.graph_to_model.proofs.Covers.{IsWritable}
 use Rattle.graph_to_model.proofs.Formed.{well_formed}

@@ -1,4 +1,3 @@
-use Rattle.std.proofs.Common.{◌∙◌}
 use Rattle.gate_graph.specs.Circuit.{net_of}
 use Rattle.graph_to_model.proofs.Steps.{observed_low}
 use Rattle.graph_to_model.proofs.Making.{names_are}

@@ -1,6 +1,5 @@
-use Rattle.std.proofs.Common.{◌≡◌, ◌++◌, ◌∷◌, ℕ, map, length, Some}
+use Rattle.std.proofs.Common.{◌≡◌, ◌++◌, ℕ, map, Some}
 use Rattle.std.specs.Prelude.{slice_get}
-use Rattle.gate_graph.specs.Circuit.{fanouts_of}
 use Rattle.rm_base.specs.declared.numbers.NodeId.{NodeId}
 use Rattle.refutation.proofs.chains.only_reader.Given as goal
 

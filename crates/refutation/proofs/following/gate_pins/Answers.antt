@@ -1,5 +1,4 @@
-use Rattle.std.proofs.Common.{◌≡◌, ◌≤◌, length, sym, subst, ℕ, List}
-use Rattle.gate_net.specs.Net.{drivers_of}
+use Rattle.std.proofs.Common.{◌≤◌, length, subst, ℕ, List}
 use Rattle.gate_graph.specs.Circuit.{net_of}
 use Rattle.refutation.proofs.Told.{drivers_below, kind_live, live_is}
 use Rattle.refutation.proofs.following.gate_pins.Goals as goal

@@ -1,4 +1,3 @@
-use Rattle.std.proofs.Common.{◌≡◌, sym, ◌∙◌}
 use Rattle.std.proofs.lemmas.Bool.{ne_eqb, eq-eqb}
 use Rattle.refutation.proofs.Looks.{glance_forward}
 use Rattle.refutation.proofs.pins.junction_forward.Goals as goal

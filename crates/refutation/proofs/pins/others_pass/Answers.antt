@@ -1,4 +1,4 @@
-use Rattle.std.proofs.Common.{◌≡◌, sym, ◌∙◌, refl}
+use Rattle.std.proofs.Common.{sym, ◌∙◌}
 use Rattle.std.proofs.lemmas.Bool.{ne_eqb, eq-eqb}
 use Rattle.refutation.proofs.Looks.{glance_none, glance_one, glance_many}
 use Rattle.refutation.proofs.pins.others_pass.Goals as goal

@@ -1,6 +1,5 @@
 use Rattle.gate_graph.specs.Circuit.{net_of}
-use Rattle.std.proofs.Common.{refl, None, Bool, Option}
-use Rattle.gate_net.specs.declared.Kind.{Kind}
+use Rattle.std.proofs.Common.{refl, None}
 use Rattle.refutation.specs.FactSets.{held_by}
 use Rattle.refutation.specs.declared.pins.Aspect.TheVariants.{OfGood}
 use Rattle.refutation.proofs.Told.{forward_some}

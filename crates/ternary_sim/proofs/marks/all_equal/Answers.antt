@@ -1,4 +1,4 @@
-use Rattle.std.proofs.Common.{◌≡◌, ◌∙◌, ap, inl, inr, length, sym}
+use Rattle.std.proofs.Common.{◌∙◌, ap, inl, inr, length, sym}
 use Rattle.rm_base.specs.declared.numbers.NodeId.{NodeId}
 use Rattle.refutation.proofs.OnlyReaders.{last_of}
 use Rattle.refutation.proofs.Yielding.{yielded_at, yielded_more}

@@ -1,4 +1,4 @@
-use Rattle.std.proofs.Common.{◌≡◌, ◌≤◌, ◌+◌, ◌∷◌, length, Some, Bool, true, false, ◌||◌, arith, sym, ◌∙◌, refl, length-append, map}
+use Rattle.std.proofs.Common.{◌≡◌, ◌≤◌, ◌+◌, length, Some, true, false, ◌||◌, arith, sym, ◌∙◌, refl, length-append, map}
 use Rattle.std.specs.Prelude.{slice_get}
 use Rattle.gate_net.specs.Forward.{is_known}
 use Rattle.refutation.specs.Pins.{with_stuck}

@@ -1,4 +1,4 @@
-use Rattle.std.proofs.Common.{◌≡◌, ◌+◌, ◌-◌, ◌<◌, ◌≤◌, ◌∙◌, ℕ, sym, subst, length, arith}
+use Rattle.std.proofs.Common.{◌+◌, ◌-◌, ◌<◌, ◌≤◌, ◌∙◌, sym, subst, length, arith}
 use Rattle.std.proofs.lemmas.List.{get_or_default}
 use Rattle.rm_base.specs.declared.vectors.Value3.TheVariants.{Unknown}
 use Rattle.gate_net.specs.declared.Kind.{Kind}

@@ -1,4 +1,4 @@
-use Rattle.std.proofs.Common.{◌≡◌, ◌+◌, ◌++◌, map, length}
+use Rattle.std.proofs.Common.{◌≡◌, ◌++◌, map, length}
 use Rattle.gate_graph.specs.Circuit.{net_of}
 use Rattle.gate_net.specs.Net.{drivers_of}
 use Rattle.wire_edit.proofs.counts.pin_count.Given as goal

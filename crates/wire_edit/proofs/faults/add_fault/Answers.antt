@@ -1,4 +1,4 @@
-use Rattle.std.proofs.Common.{◌≡◌, Some, None, true, false, sym, ap, ◌∙◌, refl}
+use Rattle.std.proofs.Common.{sym, ◌∙◌}
 use Rattle.gate_graph.specs.Circuit.{net_of}
 use Rattle.wire_edit.proofs.Cycles.{no_gate_fault, no_node_fault, kind_fault}
 use Rattle.wire_edit.proofs.Tested.{live_is}

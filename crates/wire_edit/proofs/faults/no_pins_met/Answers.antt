@@ -1,12 +1,10 @@
-use Rattle.std.proofs.Common.{◌≡◌, ◌≤◌, ◌<◌, ◌&&◌, ℕ, Some, None, true, false, Bool, sym, ap, ◌∙◌, length, arith}
-use Rattle.std.specs.Prelude.{slice_get, nat_eq}
+use Rattle.std.proofs.Common.{◌≡◌, None, sym, ap, ◌∙◌, length, arith}
 use Rattle.std.specs.Option.{option_map}
-use Rattle.std.proofs.lemmas.Bool.{eq-eqb, ne_eqb}
+use Rattle.std.proofs.lemmas.Bool.{eq-eqb}
 use Rattle.rm_base.specs.declared.numbers.NodeId.{NodeId}
 use Rattle.gate_graph.specs.Circuit.{net_of}
 use Rattle.gate_net.specs.Net.{drivers_of}
-use Rattle.wire_edit.specs.Tests.{driver_at, is_junction, is_in_use}
-use Rattle.wire_edit.proofs.Tested.{within}
+use Rattle.wire_edit.specs.Tests.{driver_at}
 use Rattle.wire_edit.proofs.Reading.{past_end, met_by}
 use Rattle.wire_edit.proofs.faults.no_pins_met.Goals as goal
 

@@ -1,5 +1,3 @@
-use Rattle.wire_edit.proofs.TrialSteps.{quiet_after}
-use Rattle.wire_edit.proofs.Staying.{untouched_quiet}
 use Rattle.wire_edit.proofs.Ordering.{next_applies, tidy_refuses, refuses_tidy}
 use Rattle.wire_edit.proofs.laws.order_tells.Goals as goal
 

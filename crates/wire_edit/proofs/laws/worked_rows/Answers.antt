@@ -29,4 +29,3 @@ returns-clause-buffer_second c = refl
 pub returns-clause-buffer_third : goal.returns-clause-buffer_third
 unfolding rule_at
 returns-clause-buffer_third c = refl
-

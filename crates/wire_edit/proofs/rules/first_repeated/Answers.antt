@@ -1,5 +1,4 @@
-use Rattle.std.proofs.Common.{◌∙◌, ◌≡◌, ◌<◌, ℕ, Some, sym, ap, arith, length, [], refl, false}
-use Rattle.std.specs.Prelude.{slice_get}
+use Rattle.std.proofs.Common.{◌∙◌, ◌≡◌, Some, sym, ap, arith, length}
 use Rattle.rm_base.specs.declared.numbers.NodeId.{NodeId}
 use Rattle.gate_graph.specs.Circuit.{net_of}
 use Rattle.gate_net.specs.Net.{drivers_of}
@@ -15,8 +14,7 @@ returns-then-reads_before c =
     let net = net_of c.args.graph.now in
     let there : driver_at net c.args.gate.0 (length c.loop-driver.yielded) ≡ Some c.in-Some.driver.0 = next_place (λ (n : NodeId). n.0) (drivers_of net c.args.gate.0) c.loop-driver.yielded _ _ c.in-Some.driver.0 i.all c.in-Some.ensures.steps in
     let here : driver_at net c.args.gate.0 c.loop-driver.position ≡ Some c.in-Some.driver.0 = ap (driver_at net c.args.gate.0) i.count ∙ there in
-    let total = walked (λ (n : NodeId). n.0) (drivers_of net c.args.gate.0) c.loop-driver.yielded _ i.all in
-    (
+    let total = walked (λ (n : NodeId). n.0) (drivers_of net c.args.gate.0) c.loop-driver.yielded _ i.all in (
       omega (arith, total, ap length c.in-Some.ensures.steps, i.count),
       (repeated_test (drivers_of net c.args.gate.0) c.loop-driver.position c.in-Some.driver.0 here ∙ sym c.reads_before.ensures ∙ c.if-reads_before.true, i.none),
     )

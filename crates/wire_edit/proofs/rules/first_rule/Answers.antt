@@ -1,4 +1,4 @@
-use Rattle.std.proofs.Common.{◌≡◌, ◌<◌, ◌≤◌, ◌+◌, ℕ, None, sym, ◌∙◌, ap, arith, subst, length}
+use Rattle.std.proofs.Common.{sym, ◌∙◌, arith, length}
 use Rattle.gate_graph.specs.Circuit.{net_of}
 use Rattle.wire_edit.specs.Order.{rule_at}
 use Rattle.wire_edit.proofs.Ordering.{none_from}

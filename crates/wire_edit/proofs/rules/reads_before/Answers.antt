@@ -1,4 +1,4 @@
-use Rattle.std.proofs.Common.{◌∙◌, ◌≡◌, ◌-◌, ℕ, sym, ap, [], ◌∷◌, take, length}
+use Rattle.std.proofs.Common.{◌∙◌, ℕ, sym, ap, take}
 use Rattle.std.proofs.lemmas.Bool.{eqb-true, eqb-false}
 use Rattle.wire_edit.specs.Tests.{is_among}
 use Rattle.gate_graph.specs.Circuit.{net_of}

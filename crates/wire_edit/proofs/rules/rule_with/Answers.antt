@@ -1,8 +1,8 @@
-use Rattle.std.proofs.Common.{◌≡◌, ℕ, Some, None, sym, ap, ◌∙◌, length, subst}
+use Rattle.std.proofs.Common.{Some, None, sym, ◌∙◌, length, subst}
 use Rattle.gate_graph.specs.Circuit.{net_of}
 use Rattle.gate_net.specs.Net.{drivers_of}
 use Rattle.wire_edit.specs.Firsts.{IsFirst, reads_constant}
-use Rattle.wire_edit.specs.Tests.{is_repeated, is_in_use}
+use Rattle.wire_edit.specs.Tests.{is_repeated}
 use Rattle.wire_edit.proofs.RuleAt.{unused_rule, constant_rule, repeated_rule}
 use Rattle.wire_edit.proofs.Reading.{gate_live, junction_of}
 use Rattle.wire_edit.proofs.rules.rule_with.Goals as goal

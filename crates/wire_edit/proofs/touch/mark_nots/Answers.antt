@@ -1,4 +1,4 @@
-use Rattle.std.proofs.Common.{◌≡◌, ◌∙◌}
+use Rattle.std.proofs.Common.{◌∙◌}
 use Rattle.gate_graph.specs.Circuit.{net_of}
 use Rattle.wire_edit.specs.Tests.{is_not}
 use Rattle.wire_edit.proofs.Touching.{walk_start}

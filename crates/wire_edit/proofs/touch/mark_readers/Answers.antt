@@ -1,4 +1,4 @@
-use Rattle.std.proofs.Common.{◌≡◌, ◌∙◌, true}
+use Rattle.std.proofs.Common.{◌∙◌, true}
 use Rattle.wire_edit.proofs.Touching.{walk_start, met_start}
 use Rattle.wire_edit.proofs.touch.mark_readers.Goals as goal
 

@@ -1,4 +1,4 @@
-use Rattle.std.proofs.Common.{ℕ, true}
+use Rattle.std.proofs.Common.{true}
 use Rattle.wire_edit.proofs.Touching.{Walked, Met}
 use Rattle.wire_edit.proofs.touch.mark_readers.Given as goal
 

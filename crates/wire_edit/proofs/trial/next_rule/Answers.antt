@@ -1,4 +1,4 @@
-use Rattle.std.proofs.Common.{◌≡◌, sym, ◌∙◌, ap, subst, List, Bool}
+use Rattle.std.proofs.Common.{sym, ◌∙◌, subst}
 use Rattle.gate_graph.specs.Circuit.{net_of}
 use Rattle.wire_edit.specs.Marked.{IsQuiet}
 use Rattle.wire_edit.proofs.Trying.{next_found, next_none}

@@ -1,4 +1,4 @@
-use Rattle.std.proofs.Common.{◌≡◌, ◌≤◌, ◌+◌, arith, ℕ, length, sym, ap, ◌∙◌, subst, min}
+use Rattle.std.proofs.Common.{arith, ℕ, sym, subst}
 use Rattle.gate_graph.specs.Circuit.{net_of}
 use Rattle.wire_edit.specs.Trials.{IsTrial}
 use Rattle.wire_edit.proofs.Trying.{begun}

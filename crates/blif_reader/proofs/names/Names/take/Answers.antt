@@ -22,12 +22,12 @@ invariant_of-self c =
       sources = k.sources;
       observed = k.observed;
       signals = subst (λ (n : ℕ). n ≤ 131072) (sym (
-        sym (length_seen c.put.new.entries.entries)
-        ∙ ap length c.in-Ok-put.ensures.ok
-        ∙ length_after (seen_entries c.self.inside.entries.entries) c.args.name.now _
-        ∙ ap (λ (o : Option Entry). more_if (not (is_some o)) (length (seen_entries c.self.inside.entries.entries))) (sym c.entry_at-entry.ensures)
-        ∙ ap (λ (n : ℕ). more_if (not (is_some c.entry_at-entry.result)) n) (length_seen c.self.inside.entries.entries ∙ sym c.len.ensures.len)
-        ∙ sym c.counts_with-counts.ensures.signals)) k.signals;
+          sym (length_seen c.put.new.entries.entries)
+          ∙ ap length c.in-Ok-put.ensures.ok
+          ∙ length_after (seen_entries c.self.inside.entries.entries) c.args.name.now _
+          ∙ ap (λ (o : Option Entry). more_if (not (is_some o)) (length (seen_entries c.self.inside.entries.entries))) (sym c.entry_at-entry.ensures)
+          ∙ ap (λ (n : ℕ). more_if (not (is_some c.entry_at-entry.result)) n) (length_seen c.self.inside.entries.entries ∙ sym c.len.ensures.len)
+          ∙ sym c.counts_with-counts.ensures.signals)) k.signals;
     }
 
 pub returns-in-Ok-put-clause-ok : goal.returns-in-Ok-put-clause-ok

@@ -1,4 +1,4 @@
-use Rattle.std.proofs.Common.{◌≡◌, List, ap, map, ◌∙◌, Bool, sym}
+use Rattle.std.proofs.Common.{List, ap, map, ◌∙◌}
 use Rattle.std.specs.Prelude.{◌||◌}
 use Rattle.std.specs.Borrow.{Bor}
 use Rattle.rm_model.specs.Words.{Word, is_word}

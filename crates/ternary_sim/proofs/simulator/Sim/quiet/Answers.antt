@@ -1,4 +1,4 @@
-use Rattle.std.proofs.Common.{◌≡◌, ◌∙◌, ℕ, List, ap, inl, inr, length, refl, sym, true, Some}
+use Rattle.std.proofs.Common.{◌≡◌, ◌∙◌, ℕ, ap, inl, inr, length, refl, sym, true, Some}
 use Rattle.std.specs.Prelude.{slice_get}
 use Rattle.rm_base.specs.declared.numbers.NodeId.{NodeId}
 use Rattle.gate_graph.specs.Circuit.{net_of}

@@ -2,7 +2,6 @@ use Rattle.std.proofs.Common.{map}
 use Rattle.rm_base.specs.declared.numbers.NodeId.{NodeId}
 use Rattle.ternary_sim.proofs.InOrder.{walk_from}
 use Rattle.gate_graph.specs.Circuit.{net_of}
-use Rattle.ternary_sim.specs.Sims.{Fits}
 use Rattle.ternary_sim.proofs.Loops.{finished}
 use Rattle.ternary_sim.proofs.simulator.Sim.run_fault.Goals as goal
 

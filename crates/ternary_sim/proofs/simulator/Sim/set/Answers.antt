@@ -1,6 +1,4 @@
 use Rattle.std.proofs.Common.{◌∙◌, length-set}
-use Rattle.gate_net.specs.Net.{Net}
-use Rattle.ternary_sim.specs.Sims.{Fits}
 use Rattle.ternary_sim.proofs.simulator.Sim.set.Goals as goal
 
 pub returns-clause-fits : goal.returns-clause-fits

@@ -1,7 +1,6 @@
-use Rattle.std.proofs.Common.{◌≡◌, ◌≢◌, ◌<◌, ◌+◌, ℕ, List, Bool, true, false, ap, sym, ◌∙◌, subst, arith, length}
-use Rattle.std.proofs.lemmas.Bool.{cases_eq}
+use Rattle.std.proofs.Common.{false, ap, sym, ◌∙◌, arith}
 use Rattle.wire_edit.specs.Marked.{is_marked, marks_left}
-use Rattle.wire_edit.proofs.Marking.{few, set_other_mark, set_marked, set_count, clear_fewer, clear_none, marked_within}
+use Rattle.wire_edit.proofs.Marking.{few, set_other_mark, clear_fewer, clear_none, marked_within}
 use Rattle.wire_edit.proofs.agenda.Agenda.clear.Goals as goal
 
 pub index_mut-requires : goal.index_mut-requires

@@ -1,5 +1,4 @@
-use Rattle.std.proofs.Common.{◌≡◌, ◌<◌, ℕ, List, Bool, true, false, ap, sym, ◌∙◌, arith, length}
-use Rattle.wire_edit.specs.Marked.{is_marked}
+use Rattle.std.proofs.Common.{◌<◌, sym, ◌∙◌, arith, length}
 use Rattle.wire_edit.proofs.Marking.{marked_is, none_next, none_all}
 use Rattle.wire_edit.proofs.agenda.Agenda.least.Goals as goal
 

@@ -1,4 +1,4 @@
-use Rattle.std.proofs.Common.{◌≡◌, ◌<◌, ℕ, List, Bool, true, false, ap, sym, ◌∙◌, subst, arith, length}
+use Rattle.std.proofs.Common.{List, Bool, true, ◌∙◌, subst, arith}
 use Rattle.std.specs.Prelude.{slice_set}
 use Rattle.wire_edit.specs.Marked.{KeepsMarks}
 use Rattle.wire_edit.proofs.Marking.{few, none_below, set_other_mark, set_marked, set_count, set_keeps}

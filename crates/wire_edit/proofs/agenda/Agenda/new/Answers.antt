@@ -1,4 +1,4 @@
-use Rattle.std.proofs.Common.{◌≡◌, ◌<◌, ℕ, true, List, Bool, ap, ◌∙◌, replicate, length}
+use Rattle.std.proofs.Common.{◌≡◌, true, ap, ◌∙◌, replicate, length}
 use Rattle.std.proofs.lemmas.List.{length-replicate}
 use Rattle.wire_edit.specs.Marked.{is_marked}
 use Rattle.wire_edit.proofs.Marking.{marked_all}

@@ -1,4 +1,4 @@
-use Rattle.std.proofs.Common.{◌≡◌, ap, ◌∙◌, ℕ}
+use Rattle.std.proofs.Common.{ap, ◌∙◌}
 use Rattle.gate_graph.specs.Circuit.{net_of, fanouts_of}
 use Rattle.wire_edit.specs.Tried.{Tried}
 use Rattle.wire_edit.proofs.trial.Trial.commit.Goals as goal

@@ -1,4 +1,4 @@
-use Rattle.std.proofs.Common.{◌≡◌, ◌∙◌, ap, sym, subst, ◌+◌, ◌-◌, true}
+use Rattle.std.proofs.Common.{◌≡◌, ◌∙◌, ap, sym, subst, true}
 use Rattle.gate_graph.specs.Circuit.{net_of}
 use Rattle.wire_edit.specs.declared.room.Room.{Room}
 use Rattle.wire_edit.specs.Steps.{Applies, stepped}

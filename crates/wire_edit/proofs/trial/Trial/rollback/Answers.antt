@@ -1,5 +1,5 @@
-use Rattle.std.proofs.Common.{◌≡◌, ap, ◌∙◌, sym}
-use Rattle.wire_edit.specs.Tried.{Tried, start_of}
+use Rattle.std.proofs.Common.{ap, ◌∙◌, sym}
+use Rattle.wire_edit.specs.Tried.{start_of}
 use Rattle.wire_edit.proofs.trial.Trial.rollback.Goals as goal
 
 pub returns-clause-graph : goal.returns-clause-graph
