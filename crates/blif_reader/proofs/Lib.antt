@@ -12,3 +12,6 @@ pub mod DraftLaws
 pub mod KnownLaws
 pub mod ReadLaws
 pub mod ModelLaws
+pub mod CleanLaws
+pub mod NameLaws
+pub mod FormLaws
