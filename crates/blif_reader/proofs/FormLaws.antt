@@ -78,10 +78,10 @@ names_are ls m inputs outputs clocks latches covers fit = record {
 false_true : false ≡ true → ⊥
 false_true e = cc
 
-among_append : (xs ys : List Word) (x : Word) → is_among (xs ++ ys) x ≡ (is_among xs x || is_among ys x)
+pub among_append : (xs ys : List Word) (x : Word) → is_among (xs ++ ys) x ≡ (is_among xs x || is_among ys x)
 among_append xs ys x = list_any-append (is_word x) xs ys
 
-and_first : (a b : Bool) → (a && b) ≡ true → a ≡ true
+pub and_first : (a b : Bool) → (a && b) ≡ true → a ≡ true
 and_first true b e = refl
 and_first false b e = e
 
@@ -105,7 +105,7 @@ distinct_both (z ∷ zs) ys h k apart =
 abbrev others : List Word → List Word → List Word
 others taken xs = filter (λ x. not (is_among taken x)) xs
 
-among_others : (taken xs : List Word) (x : Word) → is_among (others taken xs) x ≡ (is_among xs x && not (is_among taken x))
+pub among_others : (taken xs : List Word) (x : Word) → is_among (others taken xs) x ≡ (is_among xs x && not (is_among taken x))
 among_others taken [] x = refl
 among_others taken (y ∷ ys) x = at (is_among taken y) refl (word_tells x y) (among_others taken ys x)
   where
@@ -160,7 +160,7 @@ module _ (us : List Use) (m : Model) (n : NamesAre us m) where
   either P true b e f g = f refl
   either P false b e f g = g e
 
-  sources_once : IsClean us → is_distinct (source_names m) ≡ true
+  pub sources_once : IsClean us → is_distinct (source_names m) ≡ true
   sources_once c =
       distinct_both (m.inputs ++ others m.inputs m.clocks) (map (λ (l : Latch). l.output) m.latches)
       (distinct_both m.inputs (others m.inputs m.clocks) (distinct_names is_input m.inputs n.inputs c.inputs) (distinct_others m.inputs m.clocks (distinct_names is_clock m.clocks n.clocks c.clocks)) not_input)
@@ -169,7 +169,7 @@ module _ (us : List Use) (m : Model) (n : NamesAre us m) where
       (apart is_input is_latch m.inputs (map (λ (l : Latch). l.output) m.latches) n.inputs n.latches c.input_latch x)
       (λ h. apart is_clock is_latch m.clocks (map (λ (l : Latch). l.output) m.latches) n.clocks n.latches c.clock_latch x (other_clock x h)))
 
-  driven_once : IsClean us → is_distinct (driven_names m) ≡ true
+  pub driven_once : IsClean us → is_distinct (driven_names m) ≡ true
   driven_once c =
       distinct_both (source_names m) (map (λ (d : Cover). d.output) m.covers) (sources_once c) (distinct_names is_cover (map (λ (d : Cover). d.output) m.covers) n.covers c.covers)
       (λ x e. either (is_among (map (λ (d : Cover). d.output) m.covers) x ≡ false) (is_among (m.inputs ++ others m.inputs m.clocks) x) (is_among (map (λ (l : Latch). l.output) m.latches) x) (sym (among_append (m.inputs ++ others m.inputs m.clocks) (map (λ (l : Latch). l.output) m.latches) x) ∙ e)

@@ -15,3 +15,7 @@ pub mod ModelLaws
 pub mod CleanLaws
 pub mod NameLaws
 pub mod FormLaws
+pub mod ShapeLaws
+pub mod TokenLaws
+pub mod WholeLaws
+pub mod SizeLaws

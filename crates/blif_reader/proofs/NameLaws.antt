@@ -179,7 +179,7 @@ command_list t Latch ss = latch_list t ss
 command_list t End ss = ap (names_in t) (extras_none ss)
 
 -- THE WORDS OF A LINE
-abbrev picks_if : (Role → Bool) → Option Command → List Word → List Word
+abbrev pub picks_if : (Role → Bool) → Option Command → List Word → List Word
 picks_if t None ws = []
 picks_if t (Some k) ws = picks t k ws
 

@@ -10,3 +10,4 @@ pub mod Drafts
 pub mod Progress
 pub mod Ranked
 pub mod Laws
+pub mod Bounds
