@@ -19,3 +19,4 @@ pub mod ShapeLaws
 pub mod TokenLaws
 pub mod WholeLaws
 pub mod SizeLaws
+pub mod ExistLaws

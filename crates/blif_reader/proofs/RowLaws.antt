@@ -112,23 +112,36 @@ pub not_not : (t : Bool) → not t ≡ false → t ≡ true
 not_not true h = refl
 not_not false h = cc
 
-pub row_passes : (text : List ℕ) (o : SaidCover) (first : Token) (rest : List Token) (on : Bool) → on ≡ is_word (codes "1") (spot_of text (last_token first rest)).word → row_fault o (spot_of text first) (map (spot_of text) rest) ≡ None → IsRow o (spot_of text first) (map (spot_of text) rest) (inputs_in (spot_of text first).word rest) on
-row_passes text o first rest on e none = at (o.inputs == 0) refl rest e none
+-- the last word of a row, and its input part
+abbrev pub last_spot : Spot → List Spot → Spot
+last_spot s [] = s
+last_spot s (t ∷ ts) = t
+
+abbrev pub inputs_before : Word → List Spot → Word
+inputs_before word [] = []
+inputs_before word (t ∷ ts) = word
+
+pub row_spots : (o : SaidCover) (s : Spot) (ss : List Spot) (on : Bool) → on ≡ is_word (codes "1") (last_spot s ss).word → row_fault o s ss ≡ None → IsRow o s ss (inputs_before s.word ss) on
+row_spots o s ss on e none = at (o.inputs == 0) refl ss e none
   where
-    at : (z : Bool) → (o.inputs == 0) ≡ z → (rest : List Token) → on ≡ is_word (codes "1") (spot_of text (last_token first rest)).word → row_fault o (spot_of text first) (map (spot_of text) rest) ≡ None → IsRow o (spot_of text first) (map (spot_of text) rest) (inputs_in (spot_of text first).word rest) on
-    at true z [] e none = let n : or_else (ending_fault o.ending (spot_of text first)) None ≡ None = rw z at none in row_alone o (spot_of text first) on e z (first_none (ending_fault o.ending (spot_of text first)) None n)
-    at true z (t ∷ ts) e none = let n : or_else (ending_fault o.ending (spot_of text first)) (extra_fault (map (spot_of text) (t ∷ ts))) ≡ None = rw z at none in let wrong : extra_fault (map (spot_of text) (t ∷ ts)) ≡ None = second_none (ending_fault o.ending (spot_of text first)) (extra_fault (map (spot_of text) (t ∷ ts))) n in cc
-    at false z rest e none =
-        let n : or_else (fault_if (not (length (spot_of text first).word == o.inputs)) RowLength first.place) (or_else (character_fault first.place (spot_of text first).word) (rest_fault o.ending first.place (map (spot_of text) rest))) ≡ None = rw z at none in
-        let long : (length (spot_of text first).word == o.inputs) ≡ true = not_not (length (spot_of text first).word == o.inputs) (not_fault (not (length (spot_of text first).word == o.inputs)) RowLength first.place (first_none (fault_if (not (length (spot_of text first).word == o.inputs)) RowLength first.place) (or_else (character_fault first.place (spot_of text first).word) (rest_fault o.ending first.place (map (spot_of text) rest))) n)) in
-        let m : or_else (character_fault first.place (spot_of text first).word) (rest_fault o.ending first.place (map (spot_of text) rest)) ≡ None = second_none (fault_if (not (length (spot_of text first).word == o.inputs)) RowLength first.place) (or_else (character_fault first.place (spot_of text first).word) (rest_fault o.ending first.place (map (spot_of text) rest))) n in
-        let literals : are_literals (spot_of text first).word ≡ true = all_literal first.place (spot_of text first).word (first_none (character_fault first.place (spot_of text first).word) (rest_fault o.ending first.place (map (spot_of text) rest)) m) in
-        two rest e long literals (second_none (character_fault first.place (spot_of text first).word) (rest_fault o.ending first.place (map (spot_of text) rest)) m)
+    at : (z : Bool) → (o.inputs == 0) ≡ z → (ss : List Spot) → on ≡ is_word (codes "1") (last_spot s ss).word → row_fault o s ss ≡ None → IsRow o s ss (inputs_before s.word ss) on
+    at true z [] e none = let n : or_else (ending_fault o.ending s) None ≡ None = rw z at none in row_alone o s on e z (first_none (ending_fault o.ending s) None n)
+    at true z (t ∷ ts) e none = let n : or_else (ending_fault o.ending s) (extra_fault (t ∷ ts)) ≡ None = rw z at none in let wrong : extra_fault (t ∷ ts) ≡ None = second_none (ending_fault o.ending s) (extra_fault (t ∷ ts)) n in cc
+    at false z ss e none =
+        let n : or_else (fault_if (not (length s.word == o.inputs)) RowLength s.place) (or_else (character_fault s.place s.word) (rest_fault o.ending s.place ss)) ≡ None = rw z at none in
+        let long : (length s.word == o.inputs) ≡ true = not_not (length s.word == o.inputs) (not_fault (not (length s.word == o.inputs)) RowLength s.place (first_none (fault_if (not (length s.word == o.inputs)) RowLength s.place) (or_else (character_fault s.place s.word) (rest_fault o.ending s.place ss)) n)) in
+        let m : or_else (character_fault s.place s.word) (rest_fault o.ending s.place ss) ≡ None = second_none (fault_if (not (length s.word == o.inputs)) RowLength s.place) (or_else (character_fault s.place s.word) (rest_fault o.ending s.place ss)) n in
+        let literals : are_literals s.word ≡ true = all_literal s.place s.word (first_none (character_fault s.place s.word) (rest_fault o.ending s.place ss) m) in
+        two ss e long literals (second_none (character_fault s.place s.word) (rest_fault o.ending s.place ss) m)
       where
-        two : (rest : List Token) → on ≡ is_word (codes "1") (spot_of text (last_token first rest)).word → (length (spot_of text first).word == o.inputs) ≡ true → are_literals (spot_of text first).word ≡ true → rest_fault o.ending first.place (map (spot_of text) rest) ≡ None → IsRow o (spot_of text first) (map (spot_of text) rest) (inputs_in (spot_of text first).word rest) on
+        two : (ss : List Spot) → on ≡ is_word (codes "1") (last_spot s ss).word → (length s.word == o.inputs) ≡ true → are_literals s.word ≡ true → rest_fault o.ending s.place ss ≡ None → IsRow o s ss (inputs_before s.word ss) on
         two [] e long literals r = cc
-        two (t ∷ []) e long literals r = row_two o (spot_of text first) (spot_of text t) on e z long literals (first_none (ending_fault o.ending (spot_of text t)) None r)
-        two (t ∷ u ∷ us) e long literals r = let wrong : extra_fault (map (spot_of text) (u ∷ us)) ≡ None = second_none (ending_fault o.ending (spot_of text t)) (extra_fault (map (spot_of text) (u ∷ us))) r in cc
+        two (t ∷ []) e long literals r = row_two o s t on e z long literals (first_none (ending_fault o.ending t) None r)
+        two (t ∷ u ∷ us) e long literals r = let wrong : extra_fault (u ∷ us) ≡ None = second_none (ending_fault o.ending t) (extra_fault (u ∷ us)) r in cc
+
+pub row_passes : (text : List ℕ) (o : SaidCover) (first : Token) (rest : List Token) (on : Bool) → on ≡ is_word (codes "1") (spot_of text (last_token first rest)).word → row_fault o (spot_of text first) (map (spot_of text) rest) ≡ None → IsRow o (spot_of text first) (map (spot_of text) rest) (inputs_in (spot_of text first).word rest) on
+row_passes text o first [] on e none = row_spots o (spot_of text first) [] on e none
+row_passes text o first (t ∷ ts) on e none = row_spots o (spot_of text first) (map (spot_of text) (t ∷ ts)) on e none
 
 on_same : (a b : Bool) → on_word a ≡ on_word b → a ≡ b
 on_same true true e = refl

@@ -18,7 +18,7 @@ nothing : {A : Type 0} (xs : List A) → xs ≡ xs ++ []
 nothing [] = refl
 nothing (x ∷ xs) = ap (λ ys. x ∷ ys) (nothing xs)
 
-map_append : {A B : Type 0} (f : A → B) (xs ys : List A) → map f (xs ++ ys) ≡ map f xs ++ map f ys
+pub map_append : {A B : Type 0} (f : A → B) (xs ys : List A) → map f (xs ++ ys) ≡ map f xs ++ map f ys
 map_append f [] ys = refl
 map_append f (x ∷ xs) ys = ap (λ zs. f x ∷ zs) (map_append f xs ys)
 
@@ -26,13 +26,13 @@ closed_now : (o : Option Cover) → o ≡ None → CurrentIs None o
 closed_now o e = subst (CurrentIs None) (sym e) tt
 
 -- COVERS
-new_cover : (c : Cover) → c.rows ≡ [] → c.on ≡ true → IsWellFormedCover c
+pub new_cover : (c : Cover) → c.rows ≡ [] → c.on ≡ true → IsWellFormedCover c
 new_cover c rows on = record { no_rows = λ _. on; row_lengths = subst (All (λ (r : List Literal). length r ≡ length c.inputs)) (sym rows) (All-nil (λ (r : List Literal). length r ≡ length c.inputs)) }
 
-new_words : (c : Cover) (ws : List Word) → c.inputs ++ c.output ∷ [] ≡ ws → c.rows ≡ [] → cover_words c ≡ (ws, [])
+pub new_words : (c : Cover) (ws : List Word) → c.inputs ++ c.output ∷ [] ≡ ws → c.rows ≡ [] → cover_words c ≡ (ws, [])
 new_words c ws names rows = ap (λ (xs : List Word). (xs, map (row_words c.on) c.rows)) names ∙ ap (λ (rs : List (List Literal)). (ws, map (row_words c.on) rs)) rows
 
-new_open : (c : Cover) (ws : List Word) → c.inputs ++ c.output ∷ [] ≡ ws → c.rows ≡ [] → RowsAre (record { inputs = length ws - 1; ending = None }) c
+pub new_open : (c : Cover) (ws : List Word) → c.inputs ++ c.output ∷ [] ≡ ws → c.rows ≡ [] → RowsAre (record { inputs = length ws - 1; ending = None }) c
 new_open c ws names rows =
     let long : length (c.inputs ++ c.output ∷ []) ≡ length c.inputs + length (c.output ∷ []) = length-append c.inputs (c.output ∷ []) in
     let same : length (c.inputs ++ c.output ∷ []) ≡ length ws = ap length names in

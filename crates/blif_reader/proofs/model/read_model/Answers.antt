@@ -61,7 +61,7 @@ returns-clause-model c =
     let formed : IsWellFormed (model_in c.in-Ok.lines.draft) = is_formed c.args.text.now c.in-Ok.lines.checker c.in-Ok.lines.draft c.in-Ok.lines.places.items c.in-Ok.ensures.ok none driven began in
     let ranks : first_without_rank (model_in c.in-Ok.lines.draft) ≡ None = ap first_without_rank (sym c.in-Ok-model_of.ensures) ∙ c.in-Ok-check_ranks.ensures.ok in
     let ranked : IsRanked (model_in c.in-Ok.lines.draft) = (c.ranks_exist.ensures.ranked (model_in c.in-Ok.lines.draft) formed.driven_once).1 ranks in
-    subst (Reads (lines_of c.args.text.now)) (sym c.in-Ok-model_of.ensures) (reads c.args.text.now (said_in c.args.text.now) c.in-Ok.lines.checker c.in-Ok.lines.draft c.in-Ok.lines.places.items c.in-Ok.ensures.ok began formed ranked)
+    subst (Reads (lines_of c.args.text.now)) (sym c.in-Ok-model_of.ensures) (reads c.args.text.now (said_in c.args.text.now) c.in-Ok.lines.draft c.in-Ok.ensures.ok.drafted began formed ranked)
 
 pub returns-clause-sources : goal.returns-clause-sources
 returns-clause-sources c =
