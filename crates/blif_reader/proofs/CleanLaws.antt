@@ -1,14 +1,14 @@
 -- The names that a text without fault uses clash nowhere.
-use Rattle.std.proofs.Common.{◌≡◌, ℕ, ◌≤◌, ◌+◌, List, [], ◌∷◌, ◌++◌, length, Bool, true, false, not, ◌&&◌, ◌||◌, refl, sym, ◌∙◌, ap, subst, arith, append_assoc, Option, None, Some}
+use Rattle.std.proofs.Common.{◌≡◌, ℕ, ◌≤◌, ◌+◌, List, [], ◌∷◌, ◌++◌, length, Bool, true, false, ◌&&◌, ◌||◌, refl, sym, ◌∙◌, ap, subst, arith, append_assoc, Option, None, Some}
 use Rattle.std.specs.Prelude.{if◌then◌else◌, nat_lt, codes}
 use Rattle.std.specs.List.{cons_option, filter_map}
 use Rattle.std.proofs.lemmas.Bool.{ltb-false}
 use Rattle.rm_base.specs.declared.numbers.Place.{Place}
 use Rattle.rm_model.specs.Words.{Word, is_word}
 use Rattle.rm_model.specs.WellFormed.{is_distinct}
-use Rattle.blif_lines.specs.Layout.{Spot, Logical, Flaw}
+use Rattle.blif_lines.specs.Layout.{Spot, Logical}
 use Rattle.blif_format.specs.Uses.{Command, Model, command_of, Role, Input, ClockInput, Output, CoverInput, CoverOutput, LatchInput, LatchOutput, Control, Part, Title, Name, LatchType, Init, Extra, parts_of, least_words, Use, use_of, uses_of, all_are, is_source_role, is_observed_role, drives_twice, lists_twice, stands_in, names_in, distinct_count}
-use Rattle.blif_format.specs.FirstFault.{or_else, fault, fault_if, limit_if, name_limit, is_cover_input, is_over, use_fault, use_fault_if, part_fault, parts_fault, command_fault, is_dotted, dotted_fault, row_fault_in, words_fault, Said, after_line, said_by, flaw_fault, lines_fault}
+use Rattle.blif_format.specs.FirstFault.{or_else, fault_if, limit_if, name_limit, is_cover_input, is_over, use_fault, use_fault_if, part_fault, parts_fault, command_fault, is_dotted, dotted_fault, row_fault_in, words_fault, Said, after_line, said_by, flaw_fault, lines_fault}
 use Rattle.blif_format.specs.declared.refusal.FaultKind.TheVariants.{DoubleDriven, DoubleOutput, MissingWord}
 use Rattle.blif_format.specs.declared.refusal.Quantity.{Quantity}
 use Rattle.blif_format.specs.declared.refusal.Quantity.TheVariants.{Inputs, Sources, Observed, Signals}
@@ -17,9 +17,9 @@ use Rattle.blif_reader.specs.Tally.{plays, is_input, is_clock, is_latch, is_cove
 use Rattle.blif_reader.proofs.Compared.{or_false, or_assoc, word_is}
 use Rattle.blif_reader.proofs.Free.{distinct_add}
 use Rattle.blif_reader.proofs.Plays.{names_among, names_more}
-use Rattle.blif_reader.proofs.LineLaws.{word_for, command_word, uses_case}
+use Rattle.blif_reader.proofs.LineLaws.{command_word, uses_case}
 use Rattle.blif_reader.proofs.RowLaws.{first_none, second_none, not_fault}
-use Rattle.blif_reader.proofs.KnownLaws.{goes_on, first_goes, later_goes, dotted_goes, dotted_case}
+use Rattle.blif_reader.proofs.KnownLaws.{first_goes, later_goes, dotted_goes, dotted_case}
 
 -- no name stands in both roles
 abbrev pub Apart : (Role → Bool) → (Role → Bool) → List Use → Type 0
@@ -291,6 +291,7 @@ clean_parts had earlier (p ∷ ps) e c =
 
 clean_command : (had : List Use) (s : Spot) (k : Command) (ss : List Spot) → command_fault had s k ss ≡ None → IsClean had → IsClean (had ++ filter_map use_of (parts_of k ss))
 clean_command had s k ss e c = clean_parts had 0 (parts_of k ss) (first_none (parts_fault had 0 (parts_of k ss)) (fault_if (nat_lt (length ss) (least_words k)) MissingWord s.place) e) c
+
 -- the words of `.model` use no name
 extras_none : (ss : List Spot) → filter_map use_of (all_are Extra ss) ≡ []
 extras_none [] = refl

@@ -1,16 +1,14 @@
 -- A draft goes on with the lines.
-use Rattle.std.proofs.Common.{◌≡◌, ◌≢◌, ℕ, zero, suc, ◌<◌, List, [], ◌∷◌, ◌++◌, map, filter, length, Bool, true, false, not, ◌&&◌, ◌||◌, inl, inr, refl, sym, ◌∙◌, ap, subst, append_assoc, Option, None, Some}
+use Rattle.std.proofs.Common.{◌≡◌, ℕ, List, [], ◌∷◌, ◌++◌, map, filter, length, Bool, true, false, ◌||◌, inl, inr, refl, sym, ◌∙◌, ap, subst, Option, None, Some}
 use Rattle.std.specs.Prelude.{if◌then◌else◌, codes, is_some}
-use Rattle.std.specs.Option.{option_map}
-use Rattle.rm_model.specs.Words.{Word, is_word}
-use Rattle.rm_model.specs.declared.parts.Cover.{Cover}
+use Rattle.rm_model.specs.Words.{Word}
 use Rattle.blif_lines.specs.Layout.{Spot}
 use Rattle.blif_format.specs.Text.{Line, latch_words, cover_words}
-use Rattle.blif_format.specs.Grammar.{before, before_end, begins_with, is_dotted, words_after, words_of, names_lines, is_command, follow, body_of}
+use Rattle.blif_format.specs.Grammar.{before_end, begins_with, is_dotted, words_after, words_of, names_lines, is_command, follow, body_of}
 use Rattle.blif_format.specs.Uses.{Command, Model, Inputs, Outputs, Clock, Names, Latch, End}
-use Rattle.blif_format.specs.FirstFault.{Said, OpenCover as SaidCover, after_line, with_row, is_dotted as dotted_word, cover_after}
+use Rattle.blif_format.specs.FirstFault.{Said, OpenCover as SaidCover, after_line, with_row, is_dotted as dotted_word}
 use Rattle.blif_reader.specs.Rows.{cover_for, ends}
-use Rattle.blif_reader.specs.Drafts.{opt_list, all_covers, is_open, Begins, Ends, RowsAre, CurrentIs, IsDraft, given_name, given_inputs, given_outputs, given_clocks, given_latches, given_covers, Changes, IsKnown, add_row, AddsRow}
+use Rattle.blif_reader.specs.Drafts.{all_covers, is_open, Begins, Ends, CurrentIs, IsDraft, given_name, given_inputs, given_outputs, given_clocks, given_latches, given_covers, Changes, add_row, AddsRow}
 use Rattle.blif_reader.specs.declared.draft.Draft.{Draft}
 use Rattle.blif_reader.proofs.Compared.{word_tells}
 use Rattle.blif_reader.proofs.LineLaws.{word_for}

@@ -1,12 +1,12 @@
 -- The draft of lines without fault, by definition.
-use Rattle.std.proofs.Common.{◌≡◌, ◌≢◌, ℕ, zero, suc, ◌+◌, ◌-◌, ◌<◌, ◌≤◌, List, [], ◌∷◌, ◌++◌, map, filter, length, Bool, true, false, not, ◌&&◌, ◌||◌, inl, inr, refl, sym, ◌∙◌, ap, subst, arith, append_assoc, Option, None, Some, All}
-use Rattle.std.specs.Prelude.{if◌then◌else◌, codes, IfSome, ◌==◌, ◌⊎◌}
+use Rattle.std.proofs.Common.{◌≡◌, ◌≢◌, ℕ, ◌<◌, ◌≤◌, List, [], ◌∷◌, ◌++◌, map, filter, length, Bool, true, false, ◌&&◌, ◌||◌, inl, inr, refl, sym, ◌∙◌, ap, subst, arith, append_assoc, Option, None, Some, All}
+use Rattle.std.specs.Prelude.{if◌then◌else◌, codes, IfSome, ◌==◌}
 use Rattle.std.specs.Option.{option_map}
 use Rattle.std.specs.List.{list_any}
 use Rattle.std.proofs.lemmas.Bool.Decides.{eqb_tells}
 use Rattle.std.proofs.lemmas.List.Elements.{All-nil, All-cons, All-append}
 use Rattle.rm_model.specs.Words.{Word, is_word, literal_byte, kind_word}
-use Rattle.rm_model.specs.Value.{is_among, control_of}
+use Rattle.rm_model.specs.Value.{is_among}
 use Rattle.rm_model.specs.WellFormed.{IsWellFormedCover}
 use Rattle.rm_model.specs.declared.parts.Literal.{Literal}
 use Rattle.rm_model.specs.declared.parts.Literal.TheVariants.{Zero, One, Any}
@@ -21,9 +21,9 @@ use Rattle.blif_format.specs.Uses.{Command, Model, Inputs, Outputs, Clock, Names
 use Rattle.blif_format.specs.FirstFault.{OpenCover as SaidCover, or_else, flaw_fault, row_fault, words_fault, Said, nothing_said, after_line, said_by, lines_fault, latch_types, init_values, is_literal, cover_names}
 use Rattle.blif_reader.specs.Rows.{cover_for}
 use Rattle.blif_reader.specs.Lines.{IsLatchLine, are_literals}
-use Rattle.blif_reader.specs.Drafts.{opt_list, all_covers, RowsAre, CurrentIs, IsFitLatch, IsShaped, IsDraft, given_name, given_inputs, given_outputs, given_clocks, given_latches, given_covers, Changes, IsKnown, AddsRow}
+use Rattle.blif_reader.specs.Drafts.{opt_list, all_covers, RowsAre, CurrentIs, IsFitLatch, IsDraft, given_name, given_inputs, given_outputs, given_clocks, given_latches, given_covers, Changes, IsKnown, AddsRow}
 use Rattle.blif_reader.specs.declared.draft.Draft.{Draft}
-use Rattle.blif_reader.proofs.Compared.{word_tells, word_same}
+use Rattle.blif_reader.proofs.Compared.{word_tells}
 use Rattle.blif_reader.proofs.RowLaws.{first_none, second_none, IsRow, last_spot, inputs_before, row_spots, has_row, adds_row, current_rows}
 use Rattle.blif_reader.proofs.ShapeLaws.{map_append, new_cover, new_words, new_open}
 use Rattle.blif_reader.proofs.KnownLaws.{command_added, row_added}

@@ -1,26 +1,25 @@
 -- A model that lines without fault say is well formed.
-use Rattle.std.proofs.Common.{◌≡◌, ◌≢◌, ◌≤◌, ℕ, List, [], ◌∷◌, ◌++◌, map, filter, length, Bool, true, false, not, ◌&&◌, ◌||◌, inl, inr, refl, sym, ◌∙◌, ap, subst, Option, None, Some, All}
-use Rattle.std.specs.Prelude.{if◌then◌else◌, codes, find, IfSome, ◌⊎◌}
+use Rattle.std.proofs.Common.{◌≡◌, ◌≢◌, List, [], ◌∷◌, ◌++◌, map, filter, Bool, true, false, not, ◌&&◌, ◌||◌, inl, inr, refl, sym, ◌∙◌, ap, Option, None, Some, All}
+use Rattle.std.specs.Prelude.{if◌then◌else◌, codes, find, ◌⊎◌}
 use Rattle.std.specs.List.{cons_option, filter_map, flat_map, list_all}
 use Rattle.std.proofs.lemmas.List.Folds.{list_any-append, list_all-append}
 use Rattle.std.proofs.lemmas.List.Elements.{All-head, All-tail}
 use Rattle.rm_model.specs.Words.{Word, is_word}
-use Rattle.rm_model.specs.Value.{is_among, source_names, observed_names, control_of}
-use Rattle.rm_model.specs.WellFormed.{is_token, is_distinct, driven_names, used_names, names_of, IsWellFormed}
+use Rattle.rm_model.specs.Value.{is_among, source_names, control_of}
+use Rattle.rm_model.specs.WellFormed.{is_distinct, driven_names, used_names}
 use Rattle.rm_model.specs.declared.parts.Cover.{Cover}
 use Rattle.rm_model.specs.declared.parts.Latch.{Latch}
 use Rattle.rm_model.specs.declared.parts.Model.{Model}
 use Rattle.blif_lines.specs.Layout.{Logical, words_in, has_words}
 use Rattle.blif_format.specs.Text.{Line, latch_words, cover_words}
 use Rattle.blif_format.specs.Grammar.{begins_with, words_after, words_of, names_lines}
-use Rattle.blif_format.specs.Uses.{Command, Model as ModelLine, Inputs, Outputs, Clock, Names, Latch as LatchLine, End, command_of, Role, Input, ClockInput, Output, CoverInput, CoverOutput, LatchInput, LatchOutput, Control, Use, is_driver, wants_driver, names_in}
+use Rattle.blif_format.specs.Uses.{Command, Inputs, Outputs, Clock, Names, Latch as LatchLine, Role, Input, ClockInput, Output, CoverInput, CoverOutput, LatchInput, LatchOutput, Control, Use, is_driver, wants_driver, names_in}
 use Rattle.blif_format.specs.FirstFault.{is_cover_input, is_undriven, undriven_fault, fault}
 use Rattle.blif_format.specs.declared.refusal.FaultKind.TheVariants.{Undriven}
 use Rattle.blif_format.specs.declared.refusal.ReadRefusal.{ReadRefusal}
 use Rattle.blif_reader.specs.Tally.{plays, is_input, is_clock, is_latch, is_cover, is_output}
-use Rattle.blif_reader.specs.Drafts.{IsFitLatch, IsShaped, IsDraft, model_in}
-use Rattle.blif_reader.specs.declared.draft.Draft.{Draft}
-use Rattle.blif_reader.proofs.Compared.{word_tells, word_turned, word_same, or_false}
+use Rattle.blif_reader.specs.Drafts.{IsFitLatch}
+use Rattle.blif_reader.proofs.Compared.{word_tells, word_same, or_false}
 use Rattle.blif_reader.proofs.Plays.{names_among, plays_driver}
 use Rattle.blif_reader.proofs.LineLaws.{word_for}
 use Rattle.blif_reader.proofs.CleanLaws.{IsClean, Apart}

@@ -1,6 +1,6 @@
 -- A line without fault has what its command wants.
-use Rattle.std.proofs.Common.{◌≡◌, ◌≢◌, ℕ, zero, suc, ◌<◌, ◌+◌, List, [], ◌∷◌, ◌++◌, map, length, Bool, true, false, not, ◌&&◌, ◌||◌, inl, inr, refl, sym, ◌∙◌, ap, subst, arith, Option, None, Some}
-use Rattle.std.specs.Prelude.{if◌then◌else◌, codes, nat_lt, is_some}
+use Rattle.std.proofs.Common.{◌≡◌, ℕ, ◌<◌, ◌+◌, List, [], ◌∷◌, ◌++◌, map, length, Bool, true, false, not, ◌||◌, refl, sym, ◌∙◌, ap, subst, arith, Option, None, Some}
+use Rattle.std.specs.Prelude.{if◌then◌else◌, codes, nat_lt}
 use Rattle.std.specs.Option.{option_map}
 use Rattle.std.specs.List.{filter_map}
 use Rattle.rm_model.specs.Words.{Word, is_word}
@@ -8,11 +8,9 @@ use Rattle.rm_model.specs.Value.{is_among}
 use Rattle.blif_lines.specs.Layout.{Spot}
 use Rattle.blif_format.specs.Text.{Line}
 use Rattle.blif_format.specs.Unsupported.{unsupported_words}
-use Rattle.blif_format.specs.Uses.{Command, Model, Inputs, Outputs, Clock, Names, Latch, End, command_of, parts_of, least_words, Use, use_of, Part, Title, Name, LatchType, Init, Extra, LatchInput, LatchOutput, Control}
-use Rattle.blif_format.specs.FirstFault.{or_else, fault, fault_if, parts_fault, part_fault, command_fault, first_line_fault, dotted_fault, row_fault, row_fault_in, words_fault, Said, OpenCover as SaidCover, is_dotted, with_row, after_line, latch_types, init_values}
-use Rattle.blif_format.specs.declared.refusal.FaultKind.{FaultKind}
+use Rattle.blif_format.specs.Uses.{Command, Model, Inputs, Outputs, Clock, Names, Latch, End, command_of, parts_of, least_words, Use, use_of, Part, Title, Name, LatchType, Init, Extra}
+use Rattle.blif_format.specs.FirstFault.{fault, fault_if, parts_fault, part_fault, command_fault, first_line_fault, dotted_fault, row_fault, row_fault_in, words_fault, Said, OpenCover as SaidCover, is_dotted, with_row, after_line, latch_types, init_values}
 use Rattle.blif_format.specs.declared.refusal.FaultKind.TheVariants.{BadLatchWord, MissingWord, ExtraWord, AfterEnd, NoModel, Unsupported, UnknownCommand, RowOutsideCover}
-use Rattle.blif_format.specs.declared.refusal.ReadRefusal.{ReadRefusal}
 use Rattle.blif_reader.specs.Rows.{cover_for, ends}
 use Rattle.blif_reader.specs.Drafts.{IsDraft, Changes, IsKnown, CurrentIs, AddsRow}
 use Rattle.blif_reader.specs.declared.draft.Draft.{Draft}

@@ -1,6 +1,6 @@
 -- What the whole text says.
-use Rattle.std.proofs.Common.{◌≡◌, ◌≢◌, ℕ, zero, suc, List, [], ◌∷◌, ◌++◌, map, filter, length, cond, Bool, true, false, not, ◌&&◌, ◌||◌, inl, inr, refl, sym, ◌∙◌, ap, subst, append_assoc, Option, None, Some}
-use Rattle.std.specs.Prelude.{◌⊎◌, if◌then◌else◌, codes, slice_get, position, replicate, nat_lt}
+use Rattle.std.proofs.Common.{◌≡◌, ℕ, zero, suc, List, [], ◌∷◌, ◌++◌, map, filter, length, cond, Bool, true, false, not, inl, inr, refl, sym, ◌∙◌, ap, subst, Option, None, Some}
+use Rattle.std.specs.Prelude.{◌⊎◌, if◌then◌else◌, codes, position, replicate, nat_lt}
 use Rattle.std.specs.List.{cons_option, filter_map, position_or_len}
 use Rattle.std.specs.Option.{option_map}
 use Rattle.rm_base.specs.declared.numbers.Place.{Place}
@@ -14,7 +14,7 @@ use Rattle.std.proofs.Common.{◌<◌, ◌≤◌, ◌+◌, ◌*◌, arith}
 use Rattle.std.specs.Prelude.{is_none}
 use Rattle.std.proofs.lemmas.Bool.{lt-ltb, le-ltb, ltb-true, ltb-false}
 use Rattle.blif_lines.specs.Layout.{Spot, Logical, words_in, has_words, layout, lines_of}
-use Rattle.blif_format.specs.Text.{Line, cover_words, row_words}
+use Rattle.blif_format.specs.Text.{cover_words}
 use Rattle.blif_format.specs.Grammar.{before, is_dotted, names_lines, before_end, Reads}
 use Rattle.blif_format.specs.FirstFault.{Said, nothing_said, after_line, or_else, flaw_fault, words_fault, lines_fault, said_by, undriven_fault, rank_fault, first_fault, first_unranked, cover_in, cover_names, bare_model}
 use Rattle.blif_format.specs.declared.refusal.FaultKind.TheVariants.{NoModel, NoRank}

@@ -1,8 +1,7 @@
 -- The names that a text uses, by the words of its lines.
-use Rattle.std.proofs.Common.{◌≡◌, ◌≢◌, ℕ, List, [], ◌∷◌, ◌++◌, map, filter, Bool, true, false, not, ◌&&◌, ◌||◌, inl, inr, refl, sym, ◌∙◌, ap, append_assoc, Option, None, Some}
+use Rattle.std.proofs.Common.{◌≡◌, ◌≢◌, ℕ, List, [], ◌∷◌, ◌++◌, map, filter, Bool, true, false, inl, inr, refl, sym, ◌∙◌, ap, append_assoc, Option, None, Some}
 use Rattle.std.specs.Prelude.{if◌then◌else◌, codes, IfSome}
 use Rattle.std.specs.List.{cons_option, filter_map, flat_map}
-use Rattle.std.proofs.lemmas.List.Concat.{flat_map-append}
 use Rattle.rm_model.specs.Words.{Word, is_word}
 use Rattle.rm_model.specs.Value.{control_of}
 use Rattle.rm_model.specs.declared.parts.Timing.{Timing}
@@ -11,7 +10,7 @@ use Rattle.rm_model.specs.declared.parts.Latch.{Latch as LatchPart}
 use Rattle.blif_lines.specs.Layout.{Spot, Logical, words_in, has_words}
 use Rattle.blif_format.specs.Text.{Line, control_word, timing_words, init_words, latch_words, cover_words}
 use Rattle.blif_format.specs.Grammar.{begins_with, words_after, words_of, names_lines}
-use Rattle.blif_format.specs.Uses.{Command, Model, Inputs, Outputs, Clock, Names, Latch, End, command_of, Role, Input, ClockInput, Output, CoverInput, CoverOutput, LatchInput, LatchOutput, Control, Part, Title, Name, LatchType, Init, Extra, all_are, in_parts, names_parts, latch_parts, parts_of, Use, use_of, uses_of, names_in}
+use Rattle.blif_format.specs.Uses.{Command, Model, Inputs, Outputs, Clock, Names, Latch, End, command_of, Role, Input, ClockInput, Output, CoverInput, CoverOutput, LatchInput, LatchOutput, Control, Name, Init, Extra, all_are, in_parts, names_parts, parts_of, Use, use_of, uses_of, names_in}
 use Rattle.blif_format.specs.FirstFault.{Said, after_line, said_by, is_cover_input}
 use Rattle.blif_reader.specs.Tally.{is_input, is_clock, is_latch, is_cover, is_output}
 use Rattle.blif_reader.proofs.Compared.{word_tells}

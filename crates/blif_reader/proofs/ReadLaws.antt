@@ -1,24 +1,22 @@
 -- How reading goes on.
-use Rattle.std.proofs.Common.{◌≡◌, ◌≢◌, ◌<◌, ◌≤◌, ◌+◌, ◌-◌, ◌^◌, arith, take, drop, All, ℕ, zero, suc, List, [], ◌∷◌, ◌++◌, map, filter, length, Bool, true, false, not, ◌&&◌, ◌||◌, inl, inr, refl, sym, ◌∙◌, ap, subst, append_assoc, Option, None, Some, Result, Ok, Err}
+use Rattle.std.proofs.Common.{◌≡◌, ◌<◌, ◌≤◌, ◌+◌, ◌-◌, ◌^◌, arith, take, drop, All, ℕ, suc, List, [], ◌∷◌, ◌++◌, map, filter, length, Bool, true, false, not, refl, sym, ◌∙◌, ap, subst, append_assoc, Option, None, Some, Result, Ok, Err}
 use Rattle.std.specs.Prelude.{if◌then◌else◌, codes, OnOk, min}
 use Rattle.std.proofs.lemmas.List.{length-take}
 use Rattle.std.proofs.Common.{length-drop}
 use Rattle.std.proofs.lemmas.List.Elements.{All-head, All-tail}
 use Rattle.std.specs.List.{filter_map, cons_option}
-use Rattle.std.specs.Option.{option_map}
-use Rattle.std.proofs.lemmas.List.Elements.{filter_map-append}
 use Rattle.rm_base.specs.declared.numbers.Place.{Place}
 use Rattle.rm_base.specs.declared.numbers.NoMemory.{NoMemory as Want}
 use Rattle.rm_model.specs.Words.{Word, is_word}
 use Rattle.rm_model.specs.declared.parts.Cover.{Cover}
-use Rattle.blif_lines.specs.Layout.{Spot, Flaw, BadByteAt, OpenJoinAt, Logical, layout, lines_of, words_in, has_words}
+use Rattle.blif_lines.specs.Layout.{Spot, Flaw, Logical, layout, lines_of, words_in, has_words}
 use Rattle.blif_lines.specs.Reading.{pending, spot_of, IsWithin, StandsFirst}
 use Rattle.blif_lines.specs.declared.line.Token.{Token}
 use Rattle.blif_format.specs.Text.{Line}
 use Rattle.blif_format.specs.Grammar.{names_lines, begins_with, words_after}
 use Rattle.blif_format.specs.Uses.{Command, command_of}
-use Rattle.blif_format.specs.FirstFault.{Said, OpenCover as SaidCover, nothing_said, or_else, fault, fault_if, flaw_fault, words_fault, after_line, lines_fault, said_by, cover_in, cover_names, row_fault}
-use Rattle.blif_format.specs.declared.refusal.FaultKind.TheVariants.{BadByte, OpenJoin, NoModel}
+use Rattle.blif_format.specs.FirstFault.{Said, OpenCover as SaidCover, nothing_said, or_else, fault_if, flaw_fault, words_fault, after_line, lines_fault, said_by, cover_in, cover_names, row_fault}
+use Rattle.blif_format.specs.declared.refusal.FaultKind.TheVariants.{NoModel}
 use Rattle.blif_format.specs.declared.refusal.ReadRefusal.{ReadRefusal}
 use Rattle.blif_format.specs.declared.refusal.ReadRefusal.TheVariants.{Fault, Limit, NoMemory}
 use Rattle.blif_reader.specs.Lines.{words_at}

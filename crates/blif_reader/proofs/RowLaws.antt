@@ -1,7 +1,6 @@
 -- A row that is added to a cover.
-use Rattle.std.proofs.Common.{◌≡◌, ◌≢◌, ℕ, zero, suc, ◌+◌, ◌≤◌, List, [], ◌∷◌, ◌++◌, map, length, Bool, true, false, not, ◌&&◌, ◌||◌, inl, inr, refl, sym, ◌∙◌, ap, subst, arith, append_assoc, Option, None, Some, get_or}
+use Rattle.std.proofs.Common.{◌≡◌, ℕ, suc, List, [], ◌∷◌, ◌++◌, map, length, Bool, true, false, not, ◌&&◌, ◌||◌, inl, inr, refl, sym, ◌∙◌, ap, subst, arith, Option, None, Some}
 use Rattle.std.specs.Prelude.{if◌then◌else◌, codes, ◌==◌}
-use Rattle.std.specs.List.{list_all}
 use Rattle.std.proofs.lemmas.Bool.Decides.{eqb_tells}
 use Rattle.std.proofs.lemmas.Bool.{eqb-true}
 use Rattle.std.specs.Prelude.{All}
@@ -23,7 +22,7 @@ use Rattle.blif_format.specs.declared.refusal.ReadRefusal.{ReadRefusal}
 use Rattle.blif_reader.specs.Lines.{are_literals}
 use Rattle.blif_reader.specs.Drafts.{opt_list, all_covers, ending_of, RowsAre, CurrentIs, HasRow, AddsRow, IsShaped, add_row, last_token, inputs_in}
 use Rattle.blif_reader.specs.declared.draft.Draft.{Draft}
-use Rattle.blif_reader.proofs.Compared.{word_tells, word_same, word_is}
+use Rattle.blif_reader.proofs.Compared.{word_tells, word_is}
 
 pub first_none : (a b : Option ReadRefusal) → or_else a b ≡ None → a ≡ None
 first_none None b e = refl

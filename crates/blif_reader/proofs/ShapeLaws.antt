@@ -1,5 +1,5 @@
 -- What a command adds to a draft whose last cover takes no more rows.
-use Rattle.std.proofs.Common.{◌≡◌, ◌≢◌, ℕ, zero, suc, ◌+◌, ◌-◌, List, [], ◌∷◌, ◌++◌, map, length, refl, sym, ◌∙◌, ap, subst, arith, true, Option, None, Some, All, length-append}
+use Rattle.std.proofs.Common.{◌≡◌, ◌+◌, ◌-◌, List, [], ◌∷◌, ◌++◌, map, length, refl, sym, ◌∙◌, ap, subst, arith, true, Option, None, Some, All, length-append}
 use Rattle.std.proofs.lemmas.List.Elements.{All-nil, All-push}
 use Rattle.rm_model.specs.Words.{Word}
 use Rattle.rm_model.specs.WellFormed.{IsWellFormedCover}
@@ -7,10 +7,8 @@ use Rattle.rm_model.specs.declared.parts.Literal.{Literal}
 use Rattle.rm_model.specs.declared.parts.Cover.{Cover}
 use Rattle.rm_model.specs.declared.parts.Latch.{Latch as LatchPart}
 use Rattle.blif_format.specs.Text.{Line, latch_words, cover_words, row_words}
-use Rattle.blif_format.specs.Uses.{Command, Model, Inputs, Outputs, Clock, Names, Latch, End}
-use Rattle.blif_format.specs.FirstFault.{OpenCover as SaidCover}
-use Rattle.blif_reader.specs.Rows.{cover_for}
-use Rattle.blif_reader.specs.Drafts.{opt_list, all_covers, ending_of, RowsAre, CurrentIs, IsFitLatch, IsShaped, Changes}
+use Rattle.blif_format.specs.Uses.{Command, Names, Latch}
+use Rattle.blif_reader.specs.Drafts.{opt_list, all_covers, ending_of, RowsAre, CurrentIs, IsFitLatch, Changes}
 use Rattle.blif_reader.specs.declared.draft.Draft.{Draft}
 use Rattle.blif_reader.proofs.RowLaws.{all_front}
 

@@ -1,7 +1,7 @@
 -- A model has no more covers and literals than its text has bytes, and few sources and observed points.
-use Rattle.std.proofs.Common.{◌≡◌, ◌≢◌, ◌≤◌, ◌<◌, ◌+◌, ◌*◌, ◌-◌, ◌==◌, ℕ, zero, suc, List, [], ◌∷◌, ◌++◌, map, filter, length, Bool, true, false, not, ◌&&◌, ◌||◌, inl, inr, refl, sym, ◌∙◌, ap, subst, arith, Option, None, Some, length-append}
-use Rattle.std.specs.Prelude.{if◌then◌else◌, codes, ◌⊎◌}
-use Rattle.std.specs.List.{filter_map, flat_map, list_all}
+use Rattle.std.proofs.Common.{◌≡◌, ◌≤◌, ◌+◌, ◌*◌, ℕ, suc, List, [], ◌∷◌, ◌++◌, map, filter, length, Bool, true, false, not, ◌&&◌, ◌||◌, inl, inr, refl, sym, ◌∙◌, ap, arith, length-append}
+use Rattle.std.specs.Prelude.{if◌then◌else◌, codes}
+use Rattle.std.specs.List.{filter_map}
 use Rattle.rm_model.specs.Words.{Word, is_word, literal_byte}
 use Rattle.rm_model.specs.Value.{is_among, source_names, observed_names, control_of}
 use Rattle.rm_model.specs.WellFormed.{is_distinct}
@@ -9,11 +9,11 @@ use Rattle.rm_model.specs.declared.parts.Literal.{Literal}
 use Rattle.rm_model.specs.declared.parts.Cover.{Cover}
 use Rattle.rm_model.specs.declared.parts.Latch.{Latch as LatchPart}
 use Rattle.rm_model.specs.declared.parts.Model.{Model as CircuitModel}
-use Rattle.blif_format.specs.Text.{Line, on_word, row_words, cover_words}
-use Rattle.blif_format.specs.Grammar.{before, begins_with, is_dotted, words_after, names_lines}
+use Rattle.blif_format.specs.Text.{Line, row_words, cover_words}
+use Rattle.blif_format.specs.Grammar.{before, begins_with, is_dotted, names_lines}
 use Rattle.blif_format.specs.Uses.{Role, Input, ClockInput, Output, CoverInput, CoverOutput, LatchInput, LatchOutput, Control, Use, is_source_role, is_observed_role, names_in, distinct_count}
 use Rattle.blif_reader.specs.Bounds.{rows_weight, covers_weight}
-use Rattle.blif_reader.specs.Tally.{plays, is_input, is_clock, is_latch, is_output, has_source}
+use Rattle.blif_reader.specs.Tally.{plays, is_input, is_clock, is_latch, is_output}
 use Rattle.blif_reader.proofs.Compared.{word_tells, word_same, word_turned, word_is}
 use Rattle.blif_reader.proofs.GrammarLaws.{begins_dotted}
 use Rattle.blif_reader.proofs.NameLaws.{is_latch_input, is_control}

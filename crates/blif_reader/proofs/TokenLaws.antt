@@ -4,11 +4,10 @@ use Rattle.std.specs.Prelude.{if◌then◌else◌, nat_lt}
 use Rattle.std.specs.List.{list_all}
 use Rattle.std.proofs.lemmas.Bool.{lt-ltb, ltb-false}
 use Rattle.std.proofs.lemmas.Bool.Decides.{eqb_tells}
-use Rattle.std.proofs.lemmas.List.Folds.{list_all-append}
 use Rattle.rm_base.specs.declared.numbers.Place.{Place}
 use Rattle.rm_model.specs.Words.{Word}
 use Rattle.rm_model.specs.WellFormed.{is_token, is_word_byte, ends_in_backslash}
-use Rattle.blif_lines.specs.Layout.{Mark, Spot, Flaw, BadByteAt, OpenJoinAt, Logical, is_blank, is_control, onto_first, runs, spots, tokens_in, ends_token, first_bad, joint, before_joint, without_comment, physical_lines, marked, behind, earlier, single, join_to, with_line, logical_lines, layout_from, layout, words_in, has_words, lines_of}
+use Rattle.blif_lines.specs.Layout.{Mark, Spot, Flaw, BadByteAt, OpenJoinAt, Logical, is_blank, is_control, onto_first, runs, spots, tokens_in, ends_token, first_bad, joint, before_joint, without_comment, physical_lines, marked, behind, earlier, with_line, logical_lines, layout, words_in, has_words, lines_of}
 use Rattle.blif_format.specs.Text.{Line}
 
 -- RUNS OF BYTES

@@ -1,5 +1,5 @@
 -- The model of a text without fault is well formed.
-use Rattle.std.proofs.Common.{◌≡◌, ◌≢◌, ◌≤◌, ℕ, List, [], ◌∷◌, ◌++◌, map, filter, Bool, true, false, not, ◌&&◌, refl, sym, ◌∙◌, ap, subst, Option, None, Some, All}
+use Rattle.std.proofs.Common.{◌≡◌, ◌≢◌, ◌≤◌, ℕ, List, [], ◌∷◌, ◌++◌, map, filter, Bool, true, false, not, ◌&&◌, refl, sym, ◌∙◌, ap, subst, Option, None, Some}
 use Rattle.std.specs.Prelude.{if◌then◌else◌, codes, IfSome}
 use Rattle.std.specs.List.{filter_map, flat_map, list_all}
 use Rattle.std.proofs.lemmas.List.Folds.{list_all-append}
@@ -12,16 +12,16 @@ use Rattle.rm_model.specs.declared.parts.Latch.{Latch as LatchPart}
 use Rattle.rm_model.specs.declared.parts.Model.{Model as CircuitModel}
 use Rattle.blif_lines.specs.Layout.{Flaw, BadByteAt, OpenJoinAt, Logical, words_in, has_words, layout, lines_of}
 use Rattle.blif_format.specs.Text.{Line}
-use Rattle.blif_format.specs.Uses.{Command, Model, Inputs, Outputs, Clock, Names, Latch, End, command_of, Role, Input, ClockInput, Output, CoverInput, CoverOutput, LatchInput, LatchOutput, Control, Use, names_in}
+use Rattle.blif_format.specs.Uses.{Command, Model, Inputs, Outputs, Clock, Names, Latch, End, command_of, Role, Input, ClockInput, Output, CoverInput, CoverOutput, LatchInput, LatchOutput, Control, names_in}
 use Rattle.blif_format.specs.FirstFault.{or_else, fault, flaw_fault, words_fault, Said, nothing_said, after_line, said_by, lines_fault, is_cover_input, undriven_fault}
 use Rattle.blif_format.specs.declared.refusal.FaultKind.TheVariants.{BadByte, OpenJoin}
 use Rattle.blif_reader.specs.Tally.{is_input, is_clock, is_latch, is_cover, is_output}
-use Rattle.blif_reader.specs.Drafts.{Begins, IsFitLatch, IsShaped, IsDraft, all_covers, model_in}
+use Rattle.blif_reader.specs.Drafts.{Begins, IsFitLatch, IsDraft, model_in}
 use Rattle.blif_reader.specs.declared.draft.Draft.{Draft}
 use Rattle.blif_reader.proofs.RowLaws.{first_none, second_none}
 use Rattle.blif_reader.proofs.CleanLaws.{IsClean, nothing_clean, clean_lines}
 use Rattle.blif_reader.proofs.NameLaws.{is_latch_input, is_control, all_uses, said_uses, uses_list, line_picks, picks_if, list_picks, cover_picks, latch_picks, picks}
-use Rattle.blif_reader.proofs.FormLaws.{NamesAre, names_are, sources_once, driven_once, used_driven}
+use Rattle.blif_reader.proofs.FormLaws.{NamesAre, names_are, driven_once, used_driven}
 use Rattle.blif_reader.proofs.TokenLaws.{AreTokens, layout_tokens}
 
 -- NAMES THAT ARE WORDS OF THE TEXT

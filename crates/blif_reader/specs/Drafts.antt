@@ -1,5 +1,5 @@
 -- What a draft of a model has of the lines so far.
-use Rattle.std.specs.Prelude.{◌≡◌, ◌≢◌, ◌<◌, ◌≤◌, ℕ, Bool, true, false, List, [], ◌∷◌, ◌++◌, map, filter, length, is_some, codes, All, IfSome, Option, None, Some, if◌then◌else◌}
+use Rattle.std.specs.Prelude.{◌≡◌, ◌≢◌, ◌<◌, ◌≤◌, Bool, true, false, List, [], ◌∷◌, ◌++◌, map, filter, length, is_some, codes, All, IfSome, Option, None, Some, if◌then◌else◌}
 use Rattle.rm_model.specs.Words.{Word}
 use Rattle.rm_model.specs.declared.parts.Literal.{Literal}
 use Rattle.rm_model.specs.Value.{control_of}

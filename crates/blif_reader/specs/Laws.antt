@@ -1,5 +1,5 @@
 -- What follows of a text that has no first fault.
-use Rattle.std.specs.Prelude.{◌≡◌, ℕ, List, Option, None}
+use Rattle.std.specs.Prelude.{◌≡◌, ℕ, List, None}
 use Rattle.rm_model.specs.declared.parts.Model.{Model}
 use Rattle.blif_lines.specs.Layout.{lines_of}
 use Rattle.blif_format.specs.Grammar.{Reads}

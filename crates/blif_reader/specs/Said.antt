@@ -1,5 +1,5 @@
 -- What a checker has of the lines so far.
-use Rattle.std.specs.Prelude.{◌≡◌, ℕ, Bool, List, [], ◌∷◌, ◌++◌, map, Option, None, Some, if◌then◌else◌}
+use Rattle.std.specs.Prelude.{◌≡◌, Bool, Option}
 use Rattle.std.specs.Option.{option_map}
 use Rattle.rm_model.specs.Words.{Word}
 use Rattle.blif_format.specs.Text.{on_word}

@@ -3,6 +3,8 @@
 
 mod bounds;
 mod command;
+#[cfg(test)]
+mod damaged;
 mod laws;
 mod lines;
 mod problem;

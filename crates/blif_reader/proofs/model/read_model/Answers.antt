@@ -1,8 +1,7 @@
-use Rattle.std.proofs.Common.{◌≡◌, ◌≤◌, ◌<◌, ◌*◌, length, arith, ◌∙◌, sym, ap, subst, Bool, true, not, Option, None, List, ℕ}
+use Rattle.std.proofs.Common.{◌≡◌, ◌≤◌, ◌*◌, length, arith, ◌∙◌, sym, ap, subst, Bool, true, not, Option, None, List, ℕ}
 use Rattle.rm_model.specs.Ranks.{first_without_rank}
 use Rattle.rm_model.specs.Value.{source_names, observed_names, IsRanked}
 use Rattle.rm_model.specs.WellFormed.{IsWellFormed}
-use Rattle.rm_model.specs.declared.parts.Cover.{Cover}
 use Rattle.rm_model.specs.declared.parts.Model.{Model}
 use Rattle.rm_base.specs.declared.numbers.Place.{Place}
 use Rattle.blif_lines.specs.Layout.{layout, lines_of}
@@ -14,7 +13,7 @@ use Rattle.blif_reader.specs.Bounds.{covers_weight}
 use Rattle.blif_reader.specs.Meant.{IsRefusal}
 use Rattle.blif_reader.specs.Drafts.{all_covers, model_in}
 use Rattle.blif_reader.specs.Ranked.{rank_found, fault_at}
-use Rattle.blif_reader.proofs.ModelLaws.{reads, lines_first, fault_is, began_is, is_formed, few_covers, small_weight, few_sources, few_observed}
+use Rattle.blif_reader.proofs.ModelLaws.{reads, fault_is, began_is, is_formed, few_covers, small_weight, few_sources, few_observed}
 use Rattle.blif_reader.proofs.model.read_model.Goals as goal
 
 -- all that the lines say

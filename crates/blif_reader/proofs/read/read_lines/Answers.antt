@@ -1,5 +1,5 @@
-use Rattle.std.proofs.Common.{◌≡◌, ◌∙◌, sym, ap, arith}
-use Rattle.blif_reader.proofs.ReadLaws.{progress_start, progress_end, progress_fault_end, pending_less, pending_refused, given_line, tokens_few}
+use Rattle.std.proofs.Common.{arith}
+use Rattle.blif_reader.proofs.ReadLaws.{progress_end, progress_fault_end, pending_less, pending_refused, given_line, tokens_few}
 use Rattle.blif_reader.proofs.read.read_lines.Goals as goal
 
 pub returns-in-Err-clause-err : goal.returns-in-Err-clause-err
