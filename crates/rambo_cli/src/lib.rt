@@ -3,6 +3,8 @@
 
 mod bounds;
 mod command;
+#[cfg(test)]
+mod failing;
 mod laws;
 mod lines;
 mod problem;
