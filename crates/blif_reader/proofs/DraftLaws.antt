@@ -154,6 +154,7 @@ command_body said lines d e s ss k ws is began goes m notend w end cover ch =
       latches = lines_more (codes ".latch") lines (word_for k ∷ ws) ∙ ap (λ (xs : List Line). map words_after (filter (begins_with (codes ".latch")) lines) ++ xs) (latches_case k ws) ∙ ap (λ (xs : List Line). xs ++ given_latches k ws) is.latches ∙ sym ch.latches;
       covers = names_more lines (word_for k ∷ ws) (dot_case k ws) ∙ ap (λ (xs : List (Line × List Line)). names_lines lines ++ xs) (covers_case k ws) ∙ ap (λ (xs : List (Line × List Line)). xs ++ given_covers k ws) is.covers ∙ sym ch.covers;
       current = subst (λ (o : Option SaidCover). CurrentIs o e.current) (sym cover) ch.current;
+      shaped = ch.shaped is.shaped;
     })
 
 -- the end
@@ -178,6 +179,7 @@ command_end said lines d e s ss is began goes w end cover ch =
       latches = lines_more (codes ".latch") lines (codes ".end" ∷ []) ∙ ap (λ (xs : List Line). xs ++ []) is.latches ∙ sym ch.latches;
       covers = names_more lines (codes ".end" ∷ []) refl ∙ ap (λ (xs : List (Line × List Line)). xs ++ []) is.covers ∙ sym ch.covers;
       current = subst (λ (o : Option SaidCover). CurrentIs o e.current) (sym cover) ch.current;
+      shaped = ch.shaped is.shaped;
     })
 
 -- the first line
@@ -197,6 +199,7 @@ command_first said lines d e s ss x is began goes w end cover ch =
       latches = ap (λ (ls : List Line). map words_after (filter (begins_with (codes ".latch")) ls)) (sym empty) ∙ is.latches ∙ append_none (map latch_words d.latches) ∙ sym ch.latches;
       covers = ap names_lines (sym empty) ∙ is.covers ∙ append_none (map cover_words (all_covers d)) ∙ sym ch.covers;
       current = subst (λ (o : Option SaidCover). CurrentIs o e.current) (sym cover) ch.current;
+      shaped = ch.shaped is.shaped;
     })
   where
     append_none : {A : Type 0} (xs : List A) → xs ≡ xs ++ []
@@ -233,6 +236,7 @@ row_line said lines d e s ss o ws is began goes has plain ended cover words ch =
       latches = lines_more (codes ".latch") lines (s.word ∷ ws) ∙ ap (λ (t : Bool). map words_after (filter (begins_with (codes ".latch")) lines) ++ (if t then ws ∷ [] else [])) (row_begins (codes ".latch") s.word ws refl plain) ∙ append_end (map words_after (filter (begins_with (codes ".latch")) lines)) ∙ is.latches ∙ sym (ap (λ (x : Draft). map latch_words x.latches) ch.rest);
       covers = names_row lines (s.word ∷ ws) under all_open ∙ ap (add_row (s.word ∷ ws)) is.covers ∙ ap (λ (xs : List Word). add_row (s.word ∷ xs) (map cover_words (all_covers d))) words ∙ sym ch.covers;
       current = subst (λ (x : Option SaidCover). CurrentIs x e.current) (sym cover) ch.current;
+      shaped = ch.shaped is.shaped;
     }
   where
     append_end : {A : Type 0} (xs : List A) → xs ++ [] ≡ xs

@@ -50,7 +50,7 @@ names_more (k ∷ ks) l e = at (begins_with (codes ".names") k) refl (names_more
     at false i ih = rw i ih
 
 -- a row belongs to the last `.names` behind which only rows stand
-begins_dotted : (l : Line) → is_dotted l ≡ false → begins_with (codes ".names") l ≡ false
+pub begins_dotted : (l : Line) → is_dotted l ≡ false → begins_with (codes ".names") l ≡ false
 begins_dotted [] e = refl
 begins_dotted ([] ∷ ws) e = refl
 begins_dotted ((b ∷ bs) ∷ ws) e = elim (word_tells (codes ".names") (b ∷ bs)) [ inl t ↦ let wrong : true ≡ false = ap (λ (w : Word). is_dotted (w ∷ ws)) t.1 ∙ e in cc | inr t ↦ t.0 ]

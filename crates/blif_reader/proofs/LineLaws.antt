@@ -58,7 +58,7 @@ cover_case Names n o = refl
 cover_case Latch n o = refl
 cover_case End n o = refl
 
-uses_case : (s : Spot) (ss : List Spot) (k : Command) → command_of s.word ≡ Some k → uses_of (s ∷ ss) ≡ filter_map use_of (parts_of k ss)
+pub uses_case : (s : Spot) (ss : List Spot) (k : Command) → command_of s.word ≡ Some k → uses_of (s ∷ ss) ≡ filter_map use_of (parts_of k ss)
 uses_case s ss k h = at (command_of s.word) h
   where
     at : (o : Option Command) → o ≡ Some k → elim o as (λ _. List Use) [ None ↦ [] | Some command ↦ filter_map use_of (parts_of command ss) ] ≡ filter_map use_of (parts_of k ss)

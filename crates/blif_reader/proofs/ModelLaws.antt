@@ -5,12 +5,12 @@ use Rattle.std.specs.List.{filter_map, position_or_len}
 use Rattle.std.specs.Option.{option_map}
 use Rattle.rm_base.specs.declared.numbers.Place.{Place}
 use Rattle.rm_model.specs.Words.{Word, is_word}
-use Rattle.rm_model.specs.Value.{IsRanked}
+use Rattle.rm_model.specs.Value.{IsRanked, source_names, observed_names}
 use Rattle.rm_model.specs.WellFormed.{IsWellFormed}
 use Rattle.rm_model.specs.Ranks.{cover_of, rank_above, rank_by, ranks_below, ranks_of, highest, first_without_rank}
 use Rattle.rm_model.specs.declared.parts.Cover.{Cover}
 use Rattle.rm_model.specs.declared.parts.Model.{Model}
-use Rattle.std.proofs.Common.{◌<◌, ◌≤◌, ◌+◌, arith}
+use Rattle.std.proofs.Common.{◌<◌, ◌≤◌, ◌+◌, ◌*◌, arith}
 use Rattle.std.specs.Prelude.{is_none}
 use Rattle.std.proofs.lemmas.Bool.{lt-ltb, le-ltb, ltb-true, ltb-false}
 use Rattle.blif_lines.specs.Layout.{layout, lines_of}
@@ -20,12 +20,17 @@ use Rattle.blif_format.specs.FirstFault.{Said, nothing_said, or_else, lines_faul
 use Rattle.blif_format.specs.declared.refusal.FaultKind.TheVariants.{NoRank}
 use Rattle.blif_format.specs.declared.refusal.ReadRefusal.{ReadRefusal}
 use Rattle.blif_format.specs.declared.refusal.ReadRefusal.TheVariants.{Fault, Limit, NoMemory}
+use Rattle.blif_reader.specs.Bounds.{covers_weight}
 use Rattle.blif_reader.specs.Meant.{IsRefusal}
 use Rattle.blif_reader.specs.Drafts.{all_covers, Begins, Ends, IsDraft, model_in}
 use Rattle.blif_reader.specs.Progress.{bare_cover, IsRead}
 use Rattle.blif_reader.specs.Ranked.{fault_at, rank_found}
 use Rattle.blif_reader.specs.declared.check.Checker.{Checker}
 use Rattle.blif_reader.specs.declared.draft.Draft.{Draft}
+use Rattle.blif_reader.proofs.NameLaws.{all_uses}
+use Rattle.blif_reader.proofs.TokenLaws.{line_bytes, text_size}
+use Rattle.blif_reader.proofs.SizeLaws.{sources_small, observed_small, covers_small, weight_small}
+use Rattle.blif_reader.proofs.WholeLaws.{IsSound, sound, well_formed}
 
 -- the first place without rank
 abbrev first_gap : List (Option ℕ) → Option ℕ
@@ -153,3 +158,40 @@ reads text said c d places r began formed ranked =
     ending : (t : Bool) → said.ended ≡ t → Ends said.ended (lines_of text) → (lines_of text ≡ before_end (lines_of text)) ⊎ (lines_of text ≡ before_end (lines_of text) ++ (codes ".end" ∷ []) ∷ [])
     ending true e h = inr (subst (λ (t : Bool). Ends t (lines_of text)) e h)
     ending false e h = inl (sym (subst (λ (t : Bool). Ends t (lines_of text)) e h))
+
+-- WHAT IS KNOWN OF THE MODEL
+pub began_is : (text : List ℕ) (said : Said) (c : Checker) (d : Draft) (places : List Place) → IsRead text said c d places → c.began ≡ true → said.began ≡ true
+began_is text said c d places r e = r.checked.began ∙ e
+
+pub is_formed : (text : List ℕ) (c : Checker) (d : Draft) (places : List Place) → IsRead text (said_by nothing_said (layout text)) c d places → lines_fault nothing_said (layout text) ≡ None → undriven_fault (said_by nothing_said (layout text)).uses ≡ None → (said_by nothing_said (layout text)).began ≡ true → IsWellFormed (model_in d)
+is_formed text c d places r none driven began = well_formed text (said_by nothing_said (layout text)) d none driven began r.drafted
+
+map_length : {A B : Type 0} (f : A → B) (xs : List A) → length (map f xs) ≡ length xs
+map_length f [] = refl
+map_length f (x ∷ xs) = ap suc (map_length f xs)
+
+-- each cover has a place
+pub are_placed : (text : List ℕ) (said : Said) (c : Checker) (d : Draft) (places : List Place) → IsRead text said c d places → length places ≡ length (model_in d).covers
+are_placed text said c d places r =
+    ap length (sym r.places_are)
+    ∙ map_length (λ (e : Place × Cover). e.0) (filter_map cover_in (layout text))
+    ∙ sym (map_length (λ (e : Place × Cover). e.1) (filter_map cover_in (layout text)))
+    ∙ ap length (r.covers_are ∙ ap (map bare_cover) r.drafted.covers)
+    ∙ map_length bare_cover (map cover_words (all_covers d))
+    ∙ map_length cover_words (all_covers d)
+
+pub few_covers : (text : List ℕ) (said : Said) (d : Draft) → IsDraft said (lines_of text) d → length (all_covers d) ≤ length text
+few_covers text said d is =
+    let few : length (all_covers d) ≤ line_bytes (lines_of text) = covers_small (lines_of text) (all_covers d) is.covers in
+    let most : line_bytes (lines_of text) ≤ length text = text_size text in omega arith
+
+pub small_weight : (text : List ℕ) (said : Said) (d : Draft) → IsDraft said (lines_of text) d → covers_weight (all_covers d) ≤ 2 * length text
+small_weight text said d is =
+    let few : covers_weight (all_covers d) ≤ 2 * line_bytes (lines_of text) = weight_small (lines_of text) (all_covers d) is.covers in
+    let most : line_bytes (lines_of text) ≤ length text = text_size text in omega arith
+
+pub few_sources : (text : List ℕ) (said : Said) (d : Draft) → lines_fault nothing_said (layout text) ≡ None → IsDraft said (lines_of text) d → length (source_names (model_in d)) ≤ 1024
+few_sources text said d none is = let s : IsSound text d = sound text said d none is in sources_small (all_uses (layout text)) (model_in d) s.names s.clean
+
+pub few_observed : (text : List ℕ) (said : Said) (d : Draft) → lines_fault nothing_said (layout text) ≡ None → IsDraft said (lines_of text) d → length (observed_names (model_in d)) ≤ 4096
+few_observed text said d none is = let s : IsSound text d = sound text said d none is in observed_small (all_uses (layout text)) (model_in d) s.names s.clean

@@ -4,6 +4,10 @@ use Rattle.std.specs.Prelude.{if◌then◌else◌, codes, ◌==◌}
 use Rattle.std.specs.List.{list_all}
 use Rattle.std.proofs.lemmas.Bool.Decides.{eqb_tells}
 use Rattle.std.proofs.lemmas.Bool.{eqb-true}
+use Rattle.std.specs.Prelude.{All}
+use Rattle.std.proofs.lemmas.List.Elements.{All-nil, All-cons, All-head, All-tail, All-same, All-push}
+use Rattle.rm_model.specs.WellFormed.{IsWellFormedCover}
+use Rattle.blif_reader.proofs.PartLaws.{length_map}
 use Rattle.blif_lines.specs.Reading.{spot_of}
 use Rattle.blif_lines.specs.declared.line.Token.{Token}
 use Rattle.rm_base.specs.declared.numbers.Place.{Place}
@@ -17,7 +21,7 @@ use Rattle.blif_format.specs.declared.refusal.FaultKind.{FaultKind}
 use Rattle.blif_format.specs.declared.refusal.FaultKind.TheVariants.{RowCharacter, MixedCover, RowLength}
 use Rattle.blif_format.specs.declared.refusal.ReadRefusal.{ReadRefusal}
 use Rattle.blif_reader.specs.Lines.{are_literals}
-use Rattle.blif_reader.specs.Drafts.{opt_list, all_covers, ending_of, RowsAre, CurrentIs, HasRow, AddsRow, add_row, last_token, inputs_in}
+use Rattle.blif_reader.specs.Drafts.{opt_list, all_covers, ending_of, RowsAre, CurrentIs, HasRow, AddsRow, IsShaped, add_row, last_token, inputs_in}
 use Rattle.blif_reader.specs.declared.draft.Draft.{Draft}
 use Rattle.blif_reader.proofs.Compared.{word_tells, word_same, word_is}
 
@@ -155,8 +159,19 @@ has_row o s ss input on c d row r are made ins out onn rows = record {
       ∙ ap (λ (l : Line). map (row_words on) c.rows ++ l ∷ []) (the_row o row input on made r.long ∙ sym r.words)
       ∙ ap (λ (ls : List Line). ls ++ (s.word ∷ map (λ (t : Spot). t.word) ss) ∷ []) (before c.rows are.ending);
   still = record { inputs = same_inputs o.ending refl ∙ are.inputs ∙ ap length (sym ins); ending = ending o.ending refl };
+  formed = λ w. record { no_rows = λ e. absurd (some_row c.rows row (sym rows ∙ e)); row_lengths = lengths w.row_lengths };
 }
   where
+    some_row : (rs : List (List Literal)) (r : List Literal) → rs ++ r ∷ [] ≡ [] → ⊥
+    some_row [] r e = cc
+    some_row (q ∷ qs) r e = cc
+
+    row_long : length row ≡ length d.inputs
+    row_long = sym (length_map literal_byte row) ∙ ap length made ∙ r.long ∙ are.inputs ∙ ap length (sym ins)
+
+    lengths : All (λ (q : List Literal). length q ≡ length c.inputs) c.rows → All (λ (q : List Literal). length q ≡ length d.inputs) d.rows
+    lengths h = All-same (λ (q : List Literal). length q ≡ length d.inputs) d.rows (c.rows ++ row ∷ []) rows (All-push (λ (q : List Literal). length q ≡ length d.inputs) c.rows row (subst (λ (xs : List Word). All (λ (q : List Literal). length q ≡ length xs) c.rows) (sym ins) h) row_long)
+
     before : (rs : List (List Literal)) → o.ending ≡ ending_of c.on rs → map (row_words on) rs ≡ map (row_words c.on) rs
     before [] e = refl
     before (x ∷ xs) e = let same : c.on ≡ on = on_same c.on on (r.same (on_word c.on) e) in ap (λ (b : Bool). map (row_words b) (x ∷ xs)) (sym same)
@@ -175,6 +190,14 @@ has_row o s ss input on c d row r are made ins out onn rows = record {
     ending : (e : Option Word) → o.ending ≡ e → (with_row (s ∷ ss) o).ending ≡ ending_of d.on d.rows
     ending None e = rw e (r.last ∙ sym last_is)
     ending (Some v) e = rw e (ap (λ (w : Word). Some w) (r.same v e) ∙ sym last_is)
+
+pub all_front : {A : Type 0} (P : A → Type 0) (xs ys : List A) → All P (xs ++ ys) → All P xs
+all_front P [] ys h = All-nil P
+all_front P (x ∷ xs) ys h = All-cons P x xs (All-head P x (xs ++ ys) h) (all_front P xs ys (All-tail P x (xs ++ ys) h))
+
+pub all_back : {A : Type 0} (P : A → Type 0) (xs ys : List A) → All P (xs ++ ys) → All P ys
+all_back P [] ys h = h
+all_back P (x ∷ xs) ys h = all_back P xs ys (All-tail P x (xs ++ ys) h)
 
 -- the rows of the last cover
 add_last : (r : Line) (xs : List (Line × List Line)) (x : Line × List Line) → add_row r (xs ++ x ∷ []) ≡ xs ++ (x.0, x.1 ++ r ∷ []) ∷ []
@@ -198,7 +221,14 @@ adds_row s ss o c d before after h is e =
           ∙ sym (add_last (s.word ∷ map (λ (t : Spot). t.word) ss) (map cover_words before.covers) (cover_words c))
           ∙ ap (add_row (s.word ∷ map (λ (t : Spot). t.word) ss)) (sym (map_append cover_words before.covers (c ∷ [])) ∙ ap (λ (x : Option Cover). map cover_words (before.covers ++ opt_list x)) (sym is));
       current = subst (CurrentIs (Some (with_row (s ∷ ss) o))) (sym now) h.still;
+      shaped = λ f. subst IsShaped (sym e) (record {
+        covers = formed (subst (λ (x : Option Cover). All IsWellFormedCover (before.covers ++ opt_list x)) is f.covers);
+        latches = f.latches;
+      });
     }
+  where
+    formed : All IsWellFormedCover (before.covers ++ c ∷ []) → All IsWellFormedCover (before.covers ++ d ∷ [])
+    formed f = All-push IsWellFormedCover before.covers d (all_front IsWellFormedCover before.covers (c ∷ []) f) (h.formed (All-head IsWellFormedCover c [] (all_back IsWellFormedCover before.covers (c ∷ []) f)))
 
 pub current_rows : (o : SaidCover) (current : Option Cover) (c : Cover) → current ≡ Some c → CurrentIs (Some o) current → RowsAre o c
 current_rows o None c e h = absurd h
