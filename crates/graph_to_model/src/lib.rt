@@ -3,9 +3,9 @@
 
 mod copies;
 mod copying;
+mod driven_names;
 mod gates;
 mod laws;
-mod name_set;
 mod naming;
 mod net_model;
 mod places;

@@ -5,6 +5,8 @@ mod bounds;
 mod command;
 #[cfg(test)]
 mod damaged;
+#[cfg(test)]
+mod failing;
 mod laws;
 mod lines;
 mod problem;

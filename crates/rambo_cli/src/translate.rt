@@ -9,6 +9,7 @@ ghost use Rattle.blif_format.specs.declared.refusal.Quantity.{Quantity as Quanti
 ghost use Rattle.gate_graph.specs.Circuit.{net_of};
 ghost use Rattle.cover_decompose.specs.Decomposition.{net_of_model};
 ghost use Rattle.cover_decompose.specs.Count.{decomposed as wires_of};
+ghost use Rattle.wire_edit.specs.Order.{IsTidy};
 ghost use Rattle.graph_to_model.specs.NetModel.{model_of_net};
 ghost use Rattle.graph_to_model.specs.Fits.{Fits};
 ghost use Rattle.graph_to_model.specs.Laws.{AreFew};
@@ -26,7 +27,7 @@ use cover_decompose::{
     DecomposeRefusal, decompose, decompositions_are_formed, decompositions_stand,
 };
 use gate_graph::Graph;
-use graph_to_model::model_of;
+use graph_to_model::{ModelRefusal, model_of};
 use rm_base::NoMemory;
 use rm_model::{Model, ranks_exist};
 use std::alloc::Global;
@@ -58,12 +59,14 @@ fn graph_of(alloc: Global, model: &Model) -> Result<Graph, Problem>
 fn text_of(alloc: Global, graph: &Graph, model: &Model) -> Result<Vec<u8>, NoMemory>
     requires formed { IsWellFormed model.now }
     requires fits { Fits (net_of graph.now) model.now }
+    requires tidy { IsTidy (net_of graph.now) }
     ensures text { IfOk result (λ text. text.items ≡ model_text (model_of_net model.now (net_of graph.now))) }
     ensures few { OnOk result (AreFew (net_of graph.now) model.now) }
 {
     match model_of(alloc, graph, model) {
         Ok(made) => write_model(alloc, &made),
-        Err(_refusal) => Err(NoMemory),
+        Err(ModelRefusal::NotTidy { node: _ }) => unreachable!(),
+        Err(ModelRefusal::NoMemory) => Err(NoMemory),
     }
 }
 
