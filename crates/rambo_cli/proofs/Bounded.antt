@@ -12,7 +12,8 @@ use Rattle.rm_model.specs.declared.parts.Literal.TheVariants.{Zero, One, Any}
 use Rattle.rm_model.specs.declared.parts.Cover.{Cover}
 use Rattle.cover_decompose.specs.Needed.{taken, of_rank, of_ranks, covers_by_rank, is_needed, needed_of}
 use Rattle.cover_decompose.specs.Count.{literal_count, joining, cover_wires, zero_names, cover_zero_names, new_count}
-use Rattle.rambo_cli.specs.Bounds.{rows_weight, covers_weight, WiresAreBounded}
+use Rattle.blif_reader.specs.Bounds.{rows_weight, covers_weight}
+use Rattle.rambo_cli.specs.Bounds.{WiresAreBounded}
 
 abbrev weight : Cover → ℕ
 weight c = rows_weight c.rows + 1

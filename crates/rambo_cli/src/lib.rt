@@ -1,7 +1,6 @@
 //! The program's commands, in one call over the words, the files, the output and the gate.
 #![tactic(auto)]
 
-mod bounds;
 mod command;
 #[cfg(test)]
 mod damaged;

@@ -13,10 +13,10 @@ ghost use Rattle.wire_edit.specs.Order.{IsTidy};
 ghost use Rattle.graph_to_model.specs.NetModel.{model_of_net};
 ghost use Rattle.graph_to_model.specs.Fits.{Fits};
 ghost use Rattle.graph_to_model.specs.Laws.{AreFew};
+ghost use Rattle.rambo_cli.specs.Bounds.{IsSmall};
 ghost use Rattle.rambo_cli.specs.Written.{IsWritten, IsWrittenFor, HasFault, Exceeds, most_pins};
 ghost use Rattle.rambo_cli.specs.Problems.{IsOver};
 
-use crate::bounds::is_small;
 use crate::laws::{models_are_written, tidied_nets_fit, wires_are_bounded};
 use crate::problem::Problem;
 use crate::tidy::tidied;
@@ -36,15 +36,13 @@ use std::alloc::Global;
 fn graph_of(alloc: Global, model: &Model) -> Result<Graph, Problem>
     requires formed { IsWellFormed model.now }
     requires ranked { IsRanked model.now }
+    requires small { IsSmall model.now }
     ensures net { IfOk result (λ graph. net_of graph ≡ net_of_model model.now) }
     ensures few { OnOk result (wires_of model.now ≤ most_pins) }
     ensures refused { IfErr result (IsOver model.now) }
 {
     ranks_exist();
     wires_are_bounded();
-    if !is_small(alloc, model)? {
-        return Err(Problem::Memory);
-    }
     match decompose(alloc, model) {
         Ok(graph) => Ok(graph),
         Err(DecomposeRefusal::Limit { pins }) => Err(Problem::Limit {
@@ -74,6 +72,7 @@ fn text_of(alloc: Global, graph: &Graph, model: &Model) -> Result<Vec<u8>, NoMem
 fn written(alloc: Global, model: &Model) -> Result<Vec<u8>, Problem>
     requires formed { IsWellFormed model.now }
     requires ranked { IsRanked model.now }
+    requires small { IsSmall model.now }
     ensures few { OnOk result (wires_of model.now ≤ most_pins) }
     ensures done { IfOk result (λ output. IsWritten model.now output.items) }
     ensures refused { IfErr result (IsOver model.now) }
