@@ -5,7 +5,7 @@ use Rattle.rm_model.specs.Words.{Word}
 use Rattle.blif_format.specs.Text.{on_word}
 use Rattle.blif_format.specs.FirstFault.{Said, OpenCover as SaidCover}
 use Rattle.blif_reader.specs.Tally.{IsTally}
-use Rattle.blif_reader.specs.declared.check.OpenCover.{OpenCover}
+use Rattle.blif_reader.specs.declared.rows.OpenCover.{OpenCover}
 use Rattle.blif_reader.specs.declared.check.Checker.{Checker}
 
 abbrev pub said_ending : Option Bool → Option Word

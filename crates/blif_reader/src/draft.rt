@@ -9,8 +9,7 @@ ghost use Rattle.blif_reader.specs.Meant.{said_command};
 ghost use Rattle.blif_reader.specs.Drafts.{IsDraft, all_covers, model_in, Changes, IsKnown, RowsAre, CurrentIs, HasRow, AddsRow, IsFitLatch, last_token, inputs_in};
 ghost use Rattle.blif_reader.specs.Lines.{words_at, IsLatchLine, are_literals, init_part, timing_part};
 
-use crate::check::word_of;
-use crate::words::{Command, command_of, is_text, least_words};
+use crate::words::{Command, command_of, is_text, least_words, word_of};
 use blif_lines::Token;
 use rm_base::NoMemory;
 use rm_model::{Cover, Latch, LatchKind, Listed, Literal, Model, Name, Row, Timing};

@@ -7,6 +7,8 @@ mod laws;
 mod model;
 mod names;
 mod read;
+mod refusals;
+mod rows;
 mod words;
 
 pub use laws::faultless_texts_read;

@@ -7,9 +7,9 @@ ghost use Rattle.blif_format.specs.declared.refusal.FaultKind.TheVariants.{NoMod
 ghost use Rattle.blif_reader.specs.Meant.{IsRefusal};
 ghost use Rattle.blif_reader.specs.Progress.{Progress, IsRead, places_with};
 
-use crate::check::{Checker, take_line, word_of};
+use crate::check::{Checker, take_line};
 use crate::draft::{Draft, add_line, new_draft};
-use crate::words::is_text;
+use crate::words::{is_text, word_of};
 use blif_format::{FaultKind, ReadRefusal};
 use blif_lines::{LineFault, LineReader, LogicalLine, Token};
 use rm_base::Place;

@@ -44,7 +44,7 @@ fn outcome(alloc: Global, text: &[u8]) -> Result<Ending, Fail> {
 }
 
 // Whether the text ends with the status and the line, and without output.
-fn is_refused(alloc: Global, text: &[u8], status: u8, line: &str) -> Result<bool, Fail> {
+pub fn is_refused(alloc: Global, text: &[u8], status: u8, line: &str) -> Result<bool, Fail> {
     let found = outcome(alloc, text)?;
     Ok(
         found.status == status
@@ -53,12 +53,12 @@ fn is_refused(alloc: Global, text: &[u8], status: u8, line: &str) -> Result<bool
     )
 }
 
-fn is_damaged(alloc: Global, text: &str, fault: &str) -> Result<bool, Fail> {
+pub fn is_damaged(alloc: Global, text: &str, fault: &str) -> Result<bool, Fail> {
     let line = format!(in alloc; "text {fault}\n")?;
     is_refused(alloc, text.as_bytes(), 1, line.as_str())
 }
 
-fn becomes(alloc: Global, text: &str, output: &str) -> Result<bool, Fail> {
+pub fn becomes(alloc: Global, text: &str, output: &str) -> Result<bool, Fail> {
     let found = outcome(alloc, text.as_bytes())?;
     Ok(found.status == 0 && found.line.is_empty() && found.output.as_slice() == output.as_bytes())
 }

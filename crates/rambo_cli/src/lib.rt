@@ -7,6 +7,8 @@ mod damaged;
 #[cfg(test)]
 mod failing;
 mod laws;
+#[cfg(test)]
+mod limits;
 mod lines;
 mod problem;
 #[cfg(test)]
