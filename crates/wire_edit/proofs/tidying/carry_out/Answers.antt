@@ -4,7 +4,7 @@ use Rattle.gate_graph.specs.Changes.{Edits}
 use Rattle.gate_graph.specs.declared.editing.Edit.{Edit}
 use Rattle.wire_edit.specs.Steps.{change_of}
 use Rattle.wire_edit.proofs.Trying.{touched_carried}
-use Rattle.wire_edit.proofs.trial.carry_out.Goals as goal
+use Rattle.wire_edit.proofs.tidying.carry_out.Goals as goal
 
 pub returns-clause-touched : goal.returns-clause-touched
 returns-clause-touched c =

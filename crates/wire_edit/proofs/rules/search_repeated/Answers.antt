@@ -6,7 +6,7 @@ use Rattle.wire_edit.specs.Tests.{driver_at}
 use Rattle.wire_edit.specs.Tests.{is_repeated}
 use Rattle.wire_edit.proofs.Walks.{next_place, walked, march, pushed, none_more}
 use Rattle.wire_edit.proofs.Reading.{repeated_test}
-use Rattle.wire_edit.proofs.rules.first_repeated.Goals as goal
+use Rattle.wire_edit.proofs.rules.search_repeated.Goals as goal
 
 pub returns-then-reads_before : goal.returns-then-reads_before
 returns-then-reads_before c =
