@@ -32,3 +32,4 @@ pub mod TrialSteps
 pub mod Totalling
 pub mod Trying
 pub mod Sources
+pub mod Calling

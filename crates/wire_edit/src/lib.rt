@@ -21,7 +21,9 @@ mod tidying;
 mod touch;
 mod trial;
 
-pub use laws::{answers_apply, order_tells, room_suffices, steps_keep, tidying_ends, worked_rows};
+pub use laws::{
+    answers_apply, order_tells, rollback_restores, room_suffices, steps_keep, tidying_ends, worked_rows,
+};
 pub use refusal::EditRefusal;
 pub use room::Room;
 pub use rules::{first_rule, first_rule_by};

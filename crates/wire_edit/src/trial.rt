@@ -10,6 +10,8 @@ ghost use Rattle.wire_edit.specs.Edited.{edit_of};
 ghost use Rattle.wire_edit.specs.Marked.{KeepsMarks, IsQuiet, MarksTouched};
 ghost use Rattle.wire_edit.specs.Tried.{Tried, start_of, IsAt, GivesBack, refusal_in, Tidies};
 ghost use Rattle.wire_edit.specs.Trials.{IsTrial, IsReady};
+ghost use Rattle.wire_edit.specs.Calls.{IsBegun, IsApplied, IsTidied, IsRolledBack};
+ghost use Rattle.wire_edit.specs.declared.steps.Step.{Step as StepValue};
 ghost use Rattle.wire_edit.specs.Firsts.{IsPlainAfter};
 ghost use Rattle.wire_edit.specs.Work.{pins_made};
 ghost use Rattle.wire_edit.specs.Refusals.{nodes_made};
@@ -79,6 +81,7 @@ impl Trial {
         ensures steps { IfOk result (λ t. t.steps ≡ []) }
         ensures room { IfOk result (λ t. t.room ≡ room) }
         ensures refused { IfErr result (λ e. GivesBack e graph) }
+        ensures begun { IfOk result (λ t. IsBegun graph t) }
     {
         let mut graph = graph;
         match prepare(alloc, &mut graph, room) {
@@ -148,6 +151,7 @@ impl Trial {
         ensures refused { OnErr result (self.new ≡ self.old) }
         ensures start { start_of self.new ≡ start_of self.old }
         ensures epoch { self.new.graph.epoch ≡ self.old.graph.epoch }
+        ensures call { IsApplied self.old self.new step (refusal_in result) }
     {
         self.graph.well_formed();
         if let Some(refusal) = fault(&self.graph, step, &mut self.marks) {
@@ -166,8 +170,10 @@ impl Trial {
     /// Makes the next step of the tidying order and gives it, or None where the net is tidy.
     pub fn tidy_one(&mut self) -> Result<Option<Step>, EditRefusal>
         ensures tidies { Tidies self.old self.new result }
+        ensures room { (step : StepValue) → result ≡ Ok (Some step) → 0 < self.old.room.steps }
         ensures start { start_of self.new ≡ start_of self.old }
         ensures epoch { self.new.graph.epoch ≡ self.old.graph.epoch }
+        ensures call { IsTidied self.old self.new result }
     {
         self.graph.well_formed();
         let next = next_rule(&self.graph, &mut self.agenda, &mut self.seen, self.plain);
@@ -201,6 +207,7 @@ impl Trial {
         ensures wiring { wiring result ≡ start_of self }
         ensures graph { IsAt result (start_of self) }
         ensures epoch { result.epoch ≡ self.graph.epoch }
+        ensures call { IsRolledBack self result }
     {
         let Trial {
             mut graph,
