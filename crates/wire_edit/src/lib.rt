@@ -13,6 +13,8 @@ mod refusal;
 mod reserving;
 mod room;
 mod rules;
+#[cfg(test)]
+mod script_tests;
 mod seen;
 mod steps;
 #[cfg(test)]
@@ -22,7 +24,8 @@ mod touch;
 mod trial;
 
 pub use laws::{
-    answers_apply, order_tells, rollback_restores, room_suffices, steps_keep, tidying_ends, worked_rows,
+    answers_apply, order_tells, rollback_restores, room_suffices, steps_keep, tidying_ends,
+    worked_rows,
 };
 pub use refusal::EditRefusal;
 pub use room::Room;

@@ -37,6 +37,13 @@ impl Seen {
         let marks = vec![in alloc; false; numbers as usize]?;
         Ok(Seen { marks })
     }
+
+    /// Below which bound there are marks.
+    pub fn numbers(&self) -> usize
+        ensures { result ≡ self.now }
+    {
+        self.marks.len()
+    }
 }
 
 // Marks drivers up to the first that is marked already, and gives its position.
