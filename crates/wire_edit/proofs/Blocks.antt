@@ -72,9 +72,11 @@ none_blocked marks blocks b none k = not_true (is_marked marks k) (λ e.
     let is : is_marked blocks (k / 256) ≡ true = b.has k e in
     both_ways (is_marked blocks (k / 256)) (none (k / 256) (marked_within blocks (k / 256) is)) is)
 
-pub all_blocked : (marks blocks : List Bool) (count : ℕ) → count ≤ 4294967295 → length marks ≡ count → length blocks ≡ count / 256 + 1 → ((k : ℕ) → k < length blocks → is_marked blocks k ≡ true) → IsBlocked marks blocks
-all_blocked marks blocks count few is are all = record {
-  has = λ k e. let lt : k < length marks = marked_within marks k e in all (k / 256) (omega (arith, lt, is, are));
+pub all_blocked : (marks blocks : List Bool) (count : ℕ) (b : Bool) → count ≤ 4294967295 → length marks ≡ count → length blocks ≡ count / 256 + 1 → ((k : ℕ) → k < length marks → is_marked marks k ≡ b) → ((k : ℕ) → k < length blocks → is_marked blocks k ≡ b) → IsBlocked marks blocks
+all_blocked marks blocks count b few is are each all = record {
+  has = λ k e.
+      let lt : k < length marks = marked_within marks k e in
+      all (k / 256) (omega (arith, lt, is, are)) ∙ sym (each k lt) ∙ e;
   enough = omega (arith, is, are);
   few = omega (arith, few, is);
   few_blocks = omega (arith, few, are);

@@ -42,12 +42,12 @@ fn first_mark(marks: &[bool], from: usize, end: usize) -> Option<usize>
 }
 
 impl Agenda {
-    // All numbers below the count, each with a mark.
-    pub(crate) fn new(alloc: Global, count: u32) -> Result<Agenda, NoMemory>
-        ensures { IfOk result (λ a. (length a ≡ count) × ((k : ℕ) → k < count → is_marked a k ≡ true)) }
+    // All numbers below the count, each with a mark or none.
+    pub(crate) fn new(alloc: Global, count: u32, marked: bool) -> Result<Agenda, NoMemory>
+        ensures { IfOk result (λ a. (length a ≡ count) × ((k : ℕ) → k < count → is_marked a k ≡ marked)) }
     {
-        let marks = vec![in alloc; true; count as usize]?;
-        let blocks = vec![in alloc; true; count as usize / BLOCK + 1]?;
+        let marks = vec![in alloc; marked; count as usize]?;
+        let blocks = vec![in alloc; marked; count as usize / BLOCK + 1]?;
         Ok(Agenda { marks, blocks })
     }
 

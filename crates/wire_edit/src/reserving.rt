@@ -1,6 +1,7 @@
 //! What a trial reserves.
-ghost use Rattle.std.specs.Prelude.{◌≡◌, ◌≤◌, ◌+◌, [], IfOk, IfSome};
+ghost use Rattle.std.specs.Prelude.{◌≡◌, ◌≤◌, ◌+◌, [], true, IfOk, IfSome};
 ghost use Rattle.gate_graph.specs.Circuit.{wiring, net_of, pins_taken, live_nodes};
+ghost use Rattle.wire_edit.specs.Order.{IsTidy};
 ghost use Rattle.wire_edit.specs.Trials.{IsTrial};
 
 use crate::agenda::Agenda;
@@ -31,14 +32,16 @@ fn new_undos(alloc: Global, entries: usize) -> Result<Undos, NoMemory>
     }
 }
 
-// Reserves all that a trial takes.
+// Reserves all that a trial takes. In a tidy net no gate is to be looked at.
 pub(crate) fn prepare(
     alloc: Global,
     graph: &mut Graph,
     room: Room,
+    tidy: bool,
 ) -> Result<(Undos, Made, Marks, Agenda, Seen), NoMemory>
     requires pins { pins_taken graph.old + room.pins ≤ 4294967295 }
     requires nodes { live_nodes graph.old + room.nodes ≤ 4294967295 }
+    requires tidy { tidy ≡ true → IsTidy (net_of graph.old) }
     ensures wiring { wiring graph.new ≡ wiring graph.old }
     ensures net { net_of graph.new ≡ net_of graph.old }
     ensures epoch { graph.new.epoch ≡ graph.old.epoch }
@@ -54,7 +57,7 @@ pub(crate) fn prepare(
     let undos = new_undos(alloc, entries)?;
     let made = Made::new(alloc, room.steps)?;
     let marks = Marks::new(alloc, numbers)?;
-    let agenda = Agenda::new(alloc, numbers)?;
+    let agenda = Agenda::new(alloc, numbers, !tidy)?;
     let seen = Seen::new(alloc, numbers)?;
     Ok((undos, made, marks, agenda, seen))
 }

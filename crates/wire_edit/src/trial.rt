@@ -71,20 +71,19 @@ impl Model for Trial {
 }
 
 impl Trial {
-    /// Takes the graph over and reserves all that the room's steps take: no later call takes memory.
-    pub fn begin(alloc: Global, graph: Graph, room: Room) -> Result<Trial, BeginRefusal>
+    // Takes the graph over and reserves all that the room's steps take.
+    fn over(alloc: Global, graph: Graph, room: Room, tidy: bool) -> Result<Trial, BeginRefusal>
         requires pins { pins_taken graph + room.pins ≤ 4294967295 }
         requires nodes { live_nodes graph + room.nodes ≤ 4294967295 }
+        requires tidy { tidy ≡ true → IsTidy (net_of graph) }
         ensures net { IfOk result (λ t. net_of t.graph ≡ net_of graph) }
-        ensures start { IfOk result (λ t. start_of t ≡ wiring graph) }
-        ensures epoch { IfOk result (λ t. t.graph.epoch ≡ graph.epoch) }
         ensures steps { IfOk result (λ t. t.steps ≡ []) }
         ensures room { IfOk result (λ t. t.room ≡ room) }
         ensures refused { IfErr result (λ e. GivesBack e graph) }
         ensures begun { IfOk result (λ t. IsBegun graph t) }
     {
         let mut graph = graph;
-        match prepare(alloc, &mut graph, room) {
+        match prepare(alloc, &mut graph, room, tidy) {
             Ok((undos, made, marks, agenda, seen)) => Ok(Trial {
                 graph,
                 undos,
@@ -98,6 +97,36 @@ impl Trial {
             }),
             Err(NoMemory) => Err(BeginRefusal::NoMemory { graph }),
         }
+    }
+
+    /// Takes the graph over and reserves all that the room's steps take: no later call takes memory. The first
+    /// `tidy_one` looks at every gate.
+    pub fn begin(alloc: Global, graph: Graph, room: Room) -> Result<Trial, BeginRefusal>
+        requires pins { pins_taken graph + room.pins ≤ 4294967295 }
+        requires nodes { live_nodes graph + room.nodes ≤ 4294967295 }
+        ensures net { IfOk result (λ t. net_of t.graph ≡ net_of graph) }
+        ensures start { IfOk result (λ t. start_of t ≡ wiring graph) }
+        ensures epoch { IfOk result (λ t. t.graph.epoch ≡ graph.epoch) }
+        ensures steps { IfOk result (λ t. t.steps ≡ []) }
+        ensures room { IfOk result (λ t. t.room ≡ room) }
+        ensures refused { IfErr result (λ e. GivesBack e graph) }
+        ensures begun { IfOk result (λ t. IsBegun graph t) }
+    {
+        Trial::over(alloc, graph, room, false)
+    }
+
+    /// Begins a trial of a tidy net, in which `tidy_one` looks only at gates that the steps touch.
+    pub fn begin_tidy(alloc: Global, graph: Graph, room: Room) -> Result<Trial, BeginRefusal>
+        requires pins { pins_taken graph + room.pins ≤ 4294967295 }
+        requires nodes { live_nodes graph + room.nodes ≤ 4294967295 }
+        requires tidy { IsTidy (net_of graph) }
+        ensures net { IfOk result (λ t. net_of t.graph ≡ net_of graph) }
+        ensures steps { IfOk result (λ t. t.steps ≡ []) }
+        ensures room { IfOk result (λ t. t.room ≡ room) }
+        ensures refused { IfErr result (λ e. GivesBack e graph) }
+        ensures begun { IfOk result (λ t. IsBegun graph t) }
+    {
+        Trial::over(alloc, graph, room, true)
     }
 
     // The room that is left.
