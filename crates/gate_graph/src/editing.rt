@@ -59,6 +59,7 @@ impl Graph {
         ensures edits { Edits self.old edit.now self.new }
         ensures undos { LeadOn self.old self.new undos.old.entries undos.new.entries }
         ensures entries { undos.new.spare + entries_for self.old edit.now ≡ undos.old.spare }
+        ensures left { undos.new.entries ≢ [] }
         ensures epoch { self.new.epoch ≡ self.old.epoch }
     {
         match *edit {
@@ -91,6 +92,7 @@ impl Graph {
         ensures epoch { self.new.epoch ≡ self.old.epoch }
         ensures uses { Uses self.old self.new 1 0 }
         ensures entry { undos.new.spare + 1 ≡ undos.old.spare }
+        ensures left { undos.new.entries ≢ [] }
     {
         look(&self.pool);
         let pin = link_new(&mut self.pool, gate.0, driver.0);
@@ -109,6 +111,7 @@ impl Graph {
         ensures epoch { self.new.epoch ≡ self.old.epoch }
         ensures uses { Uses self.old self.new 0 0 }
         ensures entry { undos.new.spare + 1 ≡ undos.old.spare }
+        ensures left { undos.new.entries ≢ [] }
     {
         let pin = self.pin_of(gate, position);
         let slot = unlink_pin(&mut self.pool, pin);
@@ -129,6 +132,7 @@ impl Graph {
         ensures epoch { self.new.epoch ≡ self.old.epoch }
         ensures uses { Uses self.old self.new 0 0 }
         ensures entry { undos.new.spare + 1 ≡ undos.old.spare }
+        ensures left { undos.new.entries ≢ [] }
     {
         let pin = self.pin_of(gate, position);
         let slot = redrive_pin(&mut self.pool, pin, driver.0);
@@ -149,6 +153,7 @@ impl Graph {
         ensures epoch { self.new.epoch ≡ self.old.epoch }
         ensures uses { Uses self.old self.new 0 0 }
         ensures entry { undos.new.spare + 1 ≡ undos.old.spare }
+        ensures left { undos.new.entries ≢ [] }
     {
         look(&self.pool);
         let splice = move_fanouts(&mut self.pool, from.0, to.0);
@@ -168,6 +173,7 @@ impl Graph {
         ensures epoch { self.new.epoch ≡ self.old.epoch }
         ensures uses { Uses self.old self.new 1 1 }
         ensures entry { undos.new.spare + 1 ≡ undos.old.spare }
+        ensures left { undos.new.entries ≢ [] }
     {
         look(&self.pool);
         let node = least_free(&self.kinds, self.least);
@@ -190,6 +196,7 @@ impl Graph {
         ensures epoch { self.new.epoch ≡ self.old.epoch }
         ensures uses { Frees self.old self.new }
         ensures entries { undos.new.spare + 1 + length (drivers_of (net_of self.old) gate.0) ≡ undos.old.spare }
+        ensures left { undos.new.entries ≢ [] }
     {
         look(&self.pool);
         while let Some(pin) = nth_pin(&self.pool, gate.0, 0) {

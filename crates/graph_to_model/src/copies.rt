@@ -48,7 +48,7 @@ fn cover_name<'a>(
     Ok(())
 }
 
-fn copies<'a>(
+pub fn copies<'a>(
     alloc: Global,
     had: &mut NameTable<'a>,
     nodes: &[usize],

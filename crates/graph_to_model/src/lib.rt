@@ -10,6 +10,8 @@ mod naming;
 mod net_model;
 mod places;
 mod prefix;
+#[cfg(test)]
+mod tests;
 
 pub use laws::{tidy_nets_have_models, worked_rows};
 pub use net_model::{ModelRefusal, model_of};
