@@ -2,7 +2,7 @@
 use Rattle.std.specs.Prelude.{Bool, IsTrue, List, [], suc, ℕ, ◌*◌, ◌+◌, ◌-◌, ◌^◌, ◌∷◌, ◌≡◌, ◌≤◌}
 use Rattle.gate_net.specs.Net.{HasSources, IsAcyclic, Net, Reads, source_count}
 use Rattle.gate_net.specs.Values.{Detects, IsRun, IsUndetected, SameObserved}
-use Rattle.refutation.specs.Branches.{AreAccepted, AreAcceptedPartial, Branch, IsPartial, edges, items_of, split}
+use Rattle.refutation.specs.Branches.{AreAccepted, AreAcceptedPartial, Branch, IsPartial, edges, items_of, split, untrieds}
 use Rattle.refutation.specs.Closing.{Clashes, IsClashFree, IsClosedUnderLines, IsDerivable, IsWithin, both_hold}
 use Rattle.refutation.specs.Facts.{AreTrueFacts, Held, none_held, with_fact}
 use Rattle.refutation.specs.Learning.{IsClosedAt, LeadsToClash}
@@ -50,6 +50,17 @@ EdgesAreCounted = (t : Branch) → edges t ≡ 2 * splits_among (items_of t) - u
 abbrev pub PartialsAreSmall : Type 0
 PartialsAreSmall =
     (net : Net) (fault : Fault) (t : Branch) → HasSources net → IsPartial net fault none_held t → edges t + 2 ≤ 2 ^ (source_count net + 1)
+
+-- with n sources a partial tree has at most n Untrieds
+abbrev pub UntriedsAreFew : Type 0
+UntriedsAreFew =
+    (net : Net) (fault : Fault) (t : Branch) → HasSources net → IsPartial net fault none_held t → untrieds t ≤ source_count net
+
+-- a line gives one fact at most
+abbrev pub LinesGiveOne : Type 0
+LinesGiveOne =
+    (net : Net) (fault : Fault) (held : Held) (l : Line) (x y : ℕ) (fact other : Fact) → Concludes net fault held l x fact
+    → Concludes net fault held l y other → (x ≡ y) × (fact ≡ other)
 
 -- a line's condition stays met while facts come and no two are opposed
 abbrev pub LinesGrow : Type 0
