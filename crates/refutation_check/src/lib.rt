@@ -1,0 +1,13 @@
+//! The checker of refutation trees: a tree is accepted exactly where it is one, and else its first wrong item is named.
+#![tactic(auto)]
+
+mod branches;
+mod check;
+mod forward;
+mod reading;
+mod refusals;
+mod shape;
+mod trail;
+
+pub use check::check_tree;
+pub use refusals::CheckRefusal;
