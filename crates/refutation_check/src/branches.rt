@@ -61,7 +61,8 @@ impl Branches {
         requires node { node.0 < self.old.trail.numbers }
         ensures { OnOk result (Moves (goes_on (trees (with_fact (held_of self.old.trail.entries) node.0 fact) (others_of self.old.trail.entries self.old.pending.items))) self.old self.new) }
     {
-        self.trail.hold(node, fact)
+        self.trail.hold(node, fact)?;
+        Ok(())
     }
 
     /// Goes into the first branch of a split.
@@ -73,7 +74,8 @@ impl Branches {
     {
         let mark = self.trail.mark();
         self.pending.push(Pending { mark, node, first })?;
-        self.trail.hold(node, Fact::Good(first))
+        self.trail.hold(node, Fact::Good(first))?;
+        Ok(())
     }
 
     /// Goes to the next branch after the end of one, which is item `number`.
@@ -102,11 +104,13 @@ impl Branches {
         ensures ok { OnOk result (Moves (after_here form (others_of self.old.trail.entries self.old.pending.items) number) self.old self.new) }
         ensures err { IfErr result (λ r. Halts (after_here form (others_of self.old.trail.entries self.old.pending.items) number) r) }
     {
-        if form == Form::Closed {
-            return Err(CheckRefusal::Shape { item: number });
+        match form {
+            Form::Closed => Err(CheckRefusal::Shape { item: number }),
+            Form::Partial => {
+                self.stopped = true;
+                Ok(())
+            }
         }
-        self.stopped = true;
-        Ok(())
     }
 
     /// Passes over a branch that wasn't entered, or tells whether there is none.
