@@ -64,10 +64,10 @@ others_same n low high t s (q ∷ ps) c e =
     rw (front) (ap (λ hs. hs ++ with_fact (held_of (take q.mark s)) q.node.0 (Good (not q.first)) ∷ []) (others_same n q.mark high t s ps c.1.1 e))
 
 -- MOVES
-open_left : (b : Branches) → b.stopped ≡ false → left_of b ≡ trees (held_of b.trail.entries) (others_of b.trail.entries b.pending.items)
+pub open_left : (b : Branches) → b.stopped ≡ false → left_of b ≡ trees (held_of b.trail.entries) (others_of b.trail.entries b.pending.items)
 open_left b e = ap (λ (s : Bool). left_in s b.trail.entries b.pending.items) e
 
-stopped_left : (b : Branches) → b.stopped ≡ true → left_of b ≡ untrieds (length b.pending.items)
+pub stopped_left : (b : Branches) → b.stopped ≡ true → left_of b ≡ untrieds (length b.pending.items)
 stopped_left b e = ap (λ (s : Bool). left_in s b.trail.entries b.pending.items) e
 
 -- facts came after what the marks see

@@ -1,2 +1,5 @@
 pub mod Trails
 pub mod Branchings
+pub mod Quiets
+pub mod Splits
+pub mod Turnings

@@ -2,6 +2,7 @@
 ghost use Rattle.std.specs.Prelude.{◌≡◌, ◌<◌, ◌≤◌, ◌↔◌, [], IfErr, IfOk, IsTrue, OnOk, false, length};
 ghost use Rattle.gate_net.specs.Values.{HasPin};
 ghost use Rattle.gate_graph.specs.Circuit.{net_of};
+ghost use Rattle.refutation.specs.Branches.{HasNoGood};
 ghost use Rattle.refutation.specs.FactSets.{held_by};
 ghost use Rattle.refutation.specs.Facts.{AreOpposed, none_held};
 ghost use Rattle.rm_base.specs.declared.numbers.Fault.{Fault};
@@ -52,6 +53,14 @@ fn may_split_kind(form: Form, kind: Kind) -> bool
     }
 }
 
+// Whether no good fact is held on the node.
+fn has_no_good(facts: &FactSet, node: NodeId) -> bool
+    requires { node.0 < length facts.now }
+    ensures { IsTrue result ↔ HasNoGood (held_by facts.now) node.0 }
+{
+    !facts.holds(node, Fact::Good(false)) && !facts.holds(node, Fact::Good(true))
+}
+
 // Whether a tree of the form may split on the node.
 fn may_split(graph: &Graph, facts: &FactSet, form: Form, node: NodeId) -> bool
     requires { length (net_of graph.now).nodes ≤ length facts.now }
@@ -60,10 +69,7 @@ fn may_split(graph: &Graph, facts: &FactSet, form: Form, node: NodeId) -> bool
     let Some(kind) = graph.kind(node) else {
         return false;
     };
-    if !may_split_kind(form, kind) {
-        return false;
-    }
-    !facts.holds(node, Fact::Good(false)) && !facts.holds(node, Fact::Good(true))
+    may_split_kind(form, kind) && has_no_good(facts, node)
 }
 
 impl Walk {
