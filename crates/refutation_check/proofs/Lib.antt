@@ -3,3 +3,4 @@ pub mod Branchings
 pub mod Quiets
 pub mod Splits
 pub mod Turnings
+pub mod Steps
