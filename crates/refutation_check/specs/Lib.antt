@@ -5,3 +5,4 @@ pub mod Notes
 pub mod Standing
 pub mod Kept
 pub mod Walks
+pub mod Laws

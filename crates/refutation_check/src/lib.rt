@@ -4,6 +4,7 @@
 mod branches;
 mod check;
 mod forward;
+pub mod laws;
 mod reading;
 mod refusals;
 mod shape;
