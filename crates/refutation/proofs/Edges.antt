@@ -199,14 +199,6 @@ partials_are_small net fault t has partial =
     let e : length (numbers_from 2 (source_count net)) ≡ source_count net = length-numbers_from 2 (source_count net) in
     rw (← e) (partial_small net fault (numbers_from 2 (source_count net)) (sources_are net has) t none_held (length (numbers_from 2 (source_count net))) (count_le (is_free none_held) (numbers_from 2 (source_count net))) partial)
 
-pub untrieds_are_few : UntriedsAreFew
-unfolding left
-untrieds_are_few net fault t has partial =
-    let e : length (numbers_from 2 (source_count net)) ≡ source_count net = length-numbers_from 2 (source_count net) in
-    rw (← e)
-    (let a : untrieds t ≤ counted (is_free none_held) (numbers_from 2 (source_count net)) = partial_untrieds net fault (numbers_from 2 (source_count net)) (sources_are net has) t none_held partial in
-    omega (arith, count_le (is_free none_held) (numbers_from 2 (source_count net))))
-
 splits-append : (xs ys : List Item) → splits_among (xs ++ ys) ≡ splits_among xs + splits_among ys
 splits-append [] ys = omega arith
 splits-append (Line l ∷ xs) ys = splits-append xs ys
@@ -243,3 +235,12 @@ untrieds_counted untried = refl
 
 pub edges_are_counted : EdgesAreCounted
 edges_are_counted t = rw (splits_counted t, untrieds_counted t) refl
+
+pub untrieds_are_few : UntriedsAreFew
+unfolding left
+untrieds_are_few net fault items has accepted =
+    let t : Branch = accepted.0 in
+    let sources : List ℕ = numbers_from 2 (source_count net) in
+    let size : length sources ≡ source_count net = length-numbers_from 2 (source_count net) in
+    let few : untrieds t ≤ counted (is_free none_held) sources = partial_untrieds net fault sources (sources_are net has) t none_held accepted.1.1 in
+    rw (accepted.1.0, untrieds_counted t) (omega (arith, count_le (is_free none_held) sources))

@@ -2,7 +2,7 @@
 use Rattle.std.specs.Prelude.{Bool, IsTrue, List, [], suc, ℕ, ◌*◌, ◌+◌, ◌-◌, ◌^◌, ◌∷◌, ◌≡◌, ◌≤◌}
 use Rattle.gate_net.specs.Net.{HasSources, IsAcyclic, Net, Reads, source_count}
 use Rattle.gate_net.specs.Values.{Detects, IsRun, IsUndetected, SameObserved}
-use Rattle.refutation.specs.Branches.{AreAccepted, AreAcceptedPartial, Branch, IsPartial, edges, items_of, split, untrieds}
+use Rattle.refutation.specs.Branches.{AreAccepted, AreAcceptedPartial, Branch, IsPartial, edges, items_of, split}
 use Rattle.refutation.specs.Closing.{Clashes, IsClashFree, IsClosedUnderLines, IsDerivable, IsWithin, both_hold}
 use Rattle.refutation.specs.Facts.{AreTrueFacts, Held, none_held, with_fact}
 use Rattle.refutation.specs.Learning.{IsClosedAt, LeadsToClash}
@@ -54,7 +54,7 @@ PartialsAreSmall =
 -- with n sources a partial tree has at most n Untrieds
 abbrev pub UntriedsAreFew : Type 0
 UntriedsAreFew =
-    (net : Net) (fault : Fault) (t : Branch) → HasSources net → IsPartial net fault none_held t → untrieds t ≤ source_count net
+    (net : Net) (fault : Fault) (items : List Item) → HasSources net → AreAcceptedPartial net fault items → untrieds_among items ≤ source_count net
 
 -- a line gives one fact at most
 abbrev pub LinesGiveOne : Type 0

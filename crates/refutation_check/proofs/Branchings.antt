@@ -134,9 +134,14 @@ stop_moves b b' n c stopped pending trail = record {
 pub pass_moves : (b b' : Branches) (p : Pending) → IsClimbing b → b.stopped ≡ true → b'.stopped ≡ b.stopped → b.pending.items ≡ b'.pending.items ++ p ∷ [] → b'.trail ≡ b.trail → (k : ℕ) × ((left_of b ≡ untrieds (suc k)) × Moves (goes_on (untrieds k)) b b')
 pass_moves b b' p c stopped kept popped trail =
     let to : ClimbsTo b.trail.numbers 0 (length b.trail.entries) b'.pending.items p = climb_popped b b'.pending.items p popped c in
-    let more : length (b'.pending.items ++ p ∷ []) ≡ suc (length b'.pending.items) = length-append b'.pending.items (p ∷ []) ∙ omega arith in
-    (length b'.pending.items, (stopped_left b stopped ∙ ap untrieds (ap (λ (ps : List Pending). length ps) popped ∙ more), record {
-      climbs = rw trail (climb_more b.trail.numbers 0 p.mark (length b.trail.entries) b'.pending.items to.before to.mark);
-      numbers = ap (λ (w : Notes). w.numbers) trail;
-      turn_is = rw (stopped_left b' (kept ∙ stopped)) refl;
-    }))
+    let more : length (b'.pending.items ++ p ∷ []) ≡ suc (length b'.pending.items) = length-append b'.pending.items (p ∷ []) ∙ omega arith in (
+      length b'.pending.items,
+      (
+        stopped_left b stopped ∙ ap untrieds (ap (λ (ps : List Pending). length ps) popped ∙ more),
+        record {
+          climbs = rw trail (climb_more b.trail.numbers 0 p.mark (length b.trail.entries) b'.pending.items to.before to.mark);
+          numbers = ap (λ (w : Notes). w.numbers) trail;
+          turn_is = rw (stopped_left b' (kept ∙ stopped)) refl;
+        },
+      ),
+    )

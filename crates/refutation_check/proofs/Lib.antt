@@ -6,3 +6,4 @@ pub mod Turnings
 pub mod Steps
 pub mod Accepts
 pub mod OneRefusal
+pub mod Sizes

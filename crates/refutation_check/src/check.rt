@@ -10,10 +10,12 @@ ghost use Rattle.refutation_check.specs.Turns.{trees};
 ghost use Rattle.refutation_check.specs.declared.refusals.CheckRefusal.{CheckRefusal};
 ghost use Rattle.refutation_check.specs.declared.refusals.CheckRefusal.TheVariants as refusal;
 
+use crate::laws::{readings_accept, refusals_agree};
 use crate::reading::Walk;
 use crate::refusals::CheckRefusal;
 use crate::shape::shape_of;
 use gate_graph::Graph;
+use refutation::laws::{edges_are_few, trees_refute};
 use refutation::{Form, Item, Shape, Tree};
 use rm_base::Fault;
 use std::alloc::Global;
@@ -61,6 +63,12 @@ pub fn check_tree(
     ensures first { (r : CheckRefusal) → IsFirstRefusal (net_of graph.now) fault.now form tree.now r → IsErrOf result r ⊎ IsErrOf result refusal.NoMemory }
     ensures undetected { form ≡ Closed → OnOk result (IsUndetected (net_of graph.now) fault.now) }
 {
-    read_items(alloc, graph, fault, tree.items(), form)?;
-    Ok(shape_of(tree.items(), form))
+    graph.well_formed();
+    trees_refute();
+    edges_are_few();
+    readings_accept();
+    refusals_agree();
+    let items = tree.items();
+    read_items(alloc, graph, fault, items, form)?;
+    Ok(shape_of(items, form))
 }

@@ -22,12 +22,12 @@ returns-in_err-read-clause-err c =
     let p = err_from_is_err_and c.from_residual-in_err-read.result c.from_residual-in_err-read.ensures.1 in
     rw (p.1, p.2)
     (λ ne.
-        c.loop-item.invariant.refused c.in_err-read.field-0.0
-        (refused_here (net_of c.args.graph.now) c.args.fault.now c.args.form c.args.items.now (Line Act) c.loop-item.item-index c.loop-item.number (left_of c.loop-item.walk.branches) c.in_err-read.field-0.0 c.loop-item.invariant.number
-            c.loop-item-test.true (c.in_err-read.ensures.err ne)))
+    c.loop-item.invariant.refused c.in_err-read.field-0.0
+    (refused_here (net_of c.args.graph.now) c.args.fault.now c.args.form c.args.items.now (Line Act) c.loop-item.item-index c.loop-item.number (left_of c.loop-item.walk.branches) c.in_err-read.field-0.0 c.loop-item.invariant.number
+    c.loop-item-test.true (c.in_err-read.ensures.err ne)))
 
 pub returns-clause-err : goal.returns-clause-err
 returns-clause-err c ne =
     c.loop-item.invariant.refused _
     (refused_after (net_of c.args.graph.now) c.args.fault.now c.args.form c.args.items.now c.loop-item.item-index c.loop-item.number (left_of c.loop-item.walk.branches) c.loop-item.invariant.number (omega arith)
-        (λ end. let wrong : false ≡ true = sym c.if-is_end.false ∙ c.is_end.ensures.1 end in cc))
+    (λ end. let wrong : false ≡ true = sym c.if-is_end.false ∙ c.is_end.ensures.1 end in cc))
