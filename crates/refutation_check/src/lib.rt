@@ -8,6 +8,8 @@ pub mod laws;
 mod reading;
 mod refusals;
 mod shape;
+#[cfg(test)]
+mod tests;
 mod trail;
 
 pub use check::check_tree;
