@@ -1,1 +1,7 @@
+pub mod Agendas
+pub mod Local
+pub mod Places
+pub mod Reaches
+pub mod Readers
+pub mod Steps
 pub mod Trails

@@ -2,3 +2,8 @@ pub mod State
 pub mod Trail
 pub mod Outcomes
 pub mod Laws
+pub mod Agendas
+pub mod Reaching
+pub mod Settled
+pub mod Working
+pub mod Beginning

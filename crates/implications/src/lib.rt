@@ -1,10 +1,17 @@
 //! The engine that closes a set of facts under every line of reasoning about a fault, exactly.
 #![tactic(auto)]
 
+mod agenda;
 mod closing;
 mod extending;
+mod first_lines;
+mod found;
 pub mod laws;
+mod log;
+mod next_line;
 mod outcome;
+mod reaching;
+mod settling;
 mod state;
 
 pub use outcome::Closed;
