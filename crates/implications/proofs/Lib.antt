@@ -1,4 +1,5 @@
 pub mod Agendas
+pub mod Begins
 pub mod Local
 pub mod Places
 pub mod Reaches

@@ -27,3 +27,21 @@ AreDoneOnChain net fault facts = (z : NodeId) → IsDone net fault facts (Chain 
 
 abbrev pub AreDoneOutside : Net → Fault → List NodeFacts → Type 0
 AreDoneOutside net fault facts = (z : NodeId) → IsDone net fault facts (Out z)
+
+abbrev pub node_of : ℕ → NodeId
+node_of z = record { 0 = z }
+
+-- the lines of the chain were tried up to this node, which is that many steps from the gate
+pub record Chaining (net : Net) (fault : Fault) (old : List NodeFacts) (old_lines : List Line) (old_trail : List (NodeId × Fact)) (new : List NodeFacts) (new_lines : List Line) (new_trail : List (NodeId × Fact)) (at count : ℕ) : Type 0 where
+  pub works : Works net fault old old_lines new new_lines
+  pub keeps : Keeps old old_trail new new_trail
+  pub free : IsClashFree (held_by new)
+  pub long : Walks net fault.gate.0 (length net.nodes) at count
+  pub each : (z : ℕ) → IsDone net fault new (Chain (node_of z)) ⊎ Walks net fault.gate.0 z at count
+
+-- the lines of the nodes below the number were tried
+pub record GivingOut (net : Net) (fault : Fault) (number : ℕ) (old : List NodeFacts) (old_lines : List Line) (old_trail : List (NodeId × Fact)) (new : List NodeFacts) (new_lines : List Line) (new_trail : List (NodeId × Fact)) : Type 0 where
+  pub works : Works net fault old old_lines new new_lines
+  pub keeps : Keeps old old_trail new new_trail
+  pub free : IsClashFree (held_by new)
+  pub done : (z : ℕ) → z < number → IsDone net fault new (Out (node_of z))
