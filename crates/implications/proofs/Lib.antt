@@ -1,5 +1,6 @@
 pub mod Agendas
 pub mod Begins
+pub mod Closes
 pub mod Local
 pub mod Places
 pub mod Reaches

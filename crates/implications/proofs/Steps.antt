@@ -1,5 +1,5 @@
 -- What one more fact does to the work that is left.
-use Rattle.std.proofs.Common.{Bool, List, None, Option, Some, [], ap, append_assoc, arith, drop, false, inl, inr, length, length-append, not, refl, subst, suc, sym, true, ℕ, ◌&&◌, ◌*◌, ◌++◌, ◌+◌, ◌<◌, ◌||◌, ◌∙◌, ◌∷◌, ◌≡◌, ◌≢◌, ◌≤◌, ◌⊎◌}
+use Rattle.std.proofs.Common.{Bool, List, None, Option, Some, [], ap, append-nil, append_assoc, arith, drop, false, inl, inr, length, length-append, not, refl, subst, suc, sym, true, ℕ, ◌&&◌, ◌*◌, ◌++◌, ◌+◌, ◌<◌, ◌||◌, ◌∙◌, ◌∷◌, ◌≡◌, ◌≢◌, ◌≤◌, ◌⊎◌}
 use Rattle.std.proofs.Math.Seq.{drop-length}
 use Rattle.std.proofs.lemmas.Bool.{eq-eqb, eqb-true, ne_eqb}
 use Rattle.std.proofs.lemmas.Bool.Decides.{eqb_tells}
@@ -89,13 +89,14 @@ works_hold net fault facts lines facts' lines' f concludes h = record {
 
 -- THE TRAIL
 pub keeps_none : (facts : List NodeFacts) (trail : List (NodeId × Fact)) → Keeps facts trail facts trail
-keeps_none facts trail = record { more = λ x fact e. e; size = refl; longer = omega arith; back = λ mark start b. b; }
+keeps_none facts trail = record { more = λ x fact e. e; size = refl; rest = []; grown = sym (append-nil trail); back = λ mark start b. b; }
 
 pub keeps_join : (a : List NodeFacts) (a_trail : List (NodeId × Fact)) (b : List NodeFacts) (b_trail : List (NodeId × Fact)) (c : List NodeFacts) (c_trail : List (NodeId × Fact)) → Keeps a a_trail b b_trail → Keeps b b_trail c c_trail → Keeps a a_trail c c_trail
 keeps_join a a_trail b b_trail c c_trail h k = record {
   more = λ x fact e. k.more x fact (h.more x fact e);
   size = k.size ∙ h.size;
-  longer = let one : length a_trail ≤ length b_trail = h.longer in let two : length b_trail ≤ length c_trail = k.longer in omega arith;
+  rest = h.rest ++ k.rest;
+  grown = k.grown ∙ ap (λ xs. xs ++ k.rest) h.grown ∙ append_assoc a_trail h.rest k.rest;
   back = λ mark start b. k.back mark start (h.back mark start b);
 }
 
@@ -114,7 +115,8 @@ pub keeps_hold : (facts : List NodeFacts) (trail : List (NodeId × Fact)) (facts
 keeps_hold facts trail facts' trail' x fact new b is = record {
   more = more_held facts facts' x.0 fact b;
   size = b.size;
-  longer = let e : length trail' ≡ length trail + 1 = ap (λ xs. length xs) is ∙ length-append trail one in omega arith;
+  rest = (x, fact) ∷ [];
+  grown = is;
   back = λ mark start h. record {
     order = let e : length trail' ≡ length trail + 1 = ap (λ xs. length xs) is ∙ length-append trail one in let le : mark ≤ length trail = h.order in omega arith;
     size = b.size ∙ h.size;

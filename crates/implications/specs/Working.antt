@@ -6,7 +6,7 @@ use Rattle.implications.specs.Agendas.{seen_count}
 use Rattle.implications.specs.Settled.{IsSettled}
 use Rattle.implications.specs.Trail.{LeadsBack}
 use Rattle.implications.specs.declared.found.Found.{Found}
-use Rattle.refutation.specs.Closing.{IsClashFree, IsWithin, LinesLead}
+use Rattle.refutation.specs.Closing.{IsClashFree, IsClosedUnderLines, IsWithin, LinesLead}
 use Rattle.refutation.specs.FactSets.{Becomes, held_by, missing}
 use Rattle.refutation.specs.Facts.{AreOpposed, Held, with_fact}
 use Rattle.refutation.specs.declared.held.NodeFacts.{NodeFacts}
@@ -43,7 +43,8 @@ pub record Works (net : Net) (fault : Fault) (old : List NodeFacts) (old_lines :
 pub record Keeps (old : List NodeFacts) (old_trail : List (NodeId × Fact)) (new : List NodeFacts) (new_trail : List (NodeId × Fact)) : Type 0 where
   pub more : IsWithin (held_by old) (held_by new)
   pub size : length new ≡ length old
-  pub longer : length old_trail ≤ length new_trail
+  pub rest : List (NodeId × Fact)
+  pub grown : new_trail ≡ old_trail ++ rest
   pub back : (mark : ℕ) (start : List NodeFacts) → LeadsBack old_trail mark old start → LeadsBack new_trail mark new start
 
 -- one fact was found and added
@@ -73,6 +74,11 @@ pub record Running (net : Net) (fault : Fault) (old : List NodeFacts) (old_lines
   pub pending : IsPending net fault new new_agenda
   pub free : IsClashFree (held_by new)
   pub same : length new_agenda ≡ length old_agenda
+
+-- closing comes to a clash, or the facts are closed under every line, without a clash
+abbrev pub Closes : Net → Fault → List NodeFacts → Option NodeId → Type 0
+Closes net fault facts None = IsClosedUnderLines net fault (held_by facts) × IsClashFree (held_by facts)
+Closes net fault facts (Some x) = AreOpposed (held_by facts) x.0
 
 -- what the work comes to: a clash, or each node is settled
 abbrev pub Ending : Net → Fault → List NodeFacts → Option NodeId → Type 0
