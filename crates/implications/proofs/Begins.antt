@@ -150,7 +150,7 @@ chain_short net fault old old_lines old_trail facts lines trail at acyclic live 
 
 -- OUTSIDE
 pub outside_first : (net : Net) (fault : Fault) (facts : List NodeFacts) (lines : List Line) (trail : List (NodeId × Fact)) → Works net fault facts lines facts lines → Keeps facts trail facts trail → IsClashFree (held_by facts) → GivingOut net fault 0 facts lines trail facts lines trail
-outside_first net fault facts lines trail works keeps free = record { works = works; keeps = keeps; free = free; done = λ z below. absurd (omega arith); }
+outside_first net fault facts lines trail works keeps free = record { works = works; keeps = keeps; free = free; done = λ z below. absurd (omega arith) }
 
 pub outside_more : (net : Net) (fault : Fault) (number : ℕ) (old : List NodeFacts) (old_lines : List Line) (old_trail : List (NodeId × Fact)) (facts : List NodeFacts) (lines : List Line) (trail : List (NodeId × Fact)) (facts' : List NodeFacts) (lines' : List Line) (trail' : List (NodeId × Fact)) → GivingOut net fault number old old_lines old_trail facts lines trail → Works net fault facts lines facts' lines' → Keeps facts trail facts' trail' → IsClashFree (held_by facts') → IsDone net fault facts' (Out (node_of number)) → GivingOut net fault (number + 1) old old_lines old_trail facts' lines' trail'
 outside_more net fault number old old_lines old_trail facts lines trail facts' lines' trail' g works keeps free here = record {

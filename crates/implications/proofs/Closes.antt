@@ -77,7 +77,7 @@ clash_at : (net : Net) (fault : Fault) (start : Held) (lines : List Line) (after
 clash_at net fault start lines after x items leads opposed is = record {
   node = x;
   facts = after;
-  clash = record { leads = leads; opposed = opposed; };
+  clash = record { leads = leads; opposed = opposed };
   ends = is;
   tree = tree_of lines x;
   reads = is ∙ tree_items lines x;
@@ -95,7 +95,7 @@ grown_clash net fault start facts before lines (Some y) x items none works e clo
 
 pub grown_open : (net : Net) (fault : Fault) (start facts : List NodeFacts) (before lines : List Line) (o : Option NodeId) → before ≡ [] → Works net fault start before facts lines → IsWithin (held_by start) (held_by facts) → length facts ≡ length start → length net.nodes ≤ length start → o ≡ None → Closes net fault facts o → IsOpenFrom net fault (held_by start) lines facts × (length net.nodes ≤ length facts)
 grown_open net fault start facts before lines None none works within same size e closes = (
-  record { closed = closes.0; free = closes.1; within = within; leads = works.goes_on (held_by start) (leads_first net fault start before none); },
+  record { closed = closes.0; free = closes.1; within = within; leads = works.goes_on (held_by start) (leads_first net fault start before none) },
   omega arith,
 )
 grown_open net fault start facts before lines (Some y) none works within same size e closes = cc
@@ -114,11 +114,11 @@ closing_none : (net : Net) (fault : Fault) (start : List NodeFacts) (lines : Lis
 closing_none net fault start lines (Clash items) none h =
     let from : IsClashFrom net fault none_held lines items = subst (λ k. IsClashFrom net fault k lines items) (none_is start none) h in
     let clashes : Clashes net fault = (lines, (from.facts, (from.clash.leads, (from.node.0, from.clash.opposed)))) in
-    (record { clashes = clashes; accepted = (from.tree, (from.reads, from.closed)); clash_from = from; }, (λ _. clashes, λ _. tt))
+    (record { clashes = clashes; accepted = (from.tree, (from.reads, from.closed)); clash_from = from }, (λ _. clashes, λ _. tt))
 closing_none net fault start lines (Open facts) none h =
     let from : IsOpenFrom net fault none_held lines facts = subst (λ k. IsOpenFrom net fault k lines facts) (none_is start none) h.0 in
     let has = closed_has_all net fault (held_by facts) from.closed from.free in
-    (record { open_from = from; derivable = λ x fact. (λ e. (lines, (held_by facts, (from.leads, e))), has.0 x fact); no_clash = has.1; size = h.1; }, (λ never. absurd never, λ clashes. absurd (has.1 clashes)))
+    (record { open_from = from; derivable = λ x fact. (λ e. (lines, (held_by facts, (from.leads, e))), has.0 x fact); no_clash = has.1; size = h.1 }, (λ never. absurd never, λ clashes. absurd (has.1 clashes)))
 
 pub closing_ok : {E : Type 0} (net : Net) (fault : Fault) (start : List NodeFacts) (lines : List Line) (r : Result Closed E) → ((x : ℕ) (fact : Fact) → held_by start x fact ≡ false) → IfOk r (IsGrown net fault (held_by start) lines) → IfOk r (IsClosing net fault lines)
 closing_ok net fault start lines (Ok c) none h = (closing_none net fault start lines c none h).0

@@ -47,38 +47,61 @@ module _ (net : Net) (fault : Fault) (held other : Held) (y : ℕ) (here : Agree
       let is : x ≡ y = cc in
       (h.0, h.1, h.2, subst (λ w. value_forward h.0 (map (known_good other) (drivers_of net w)) ≡ Some h.1) (sym is) (rw goods at (subst (λ w. value_forward h.0 (map (known_good held) (drivers_of net w)) ≡ Some h.1) is h.3)), h.4, h.5)
   line_local (GoodBack z q) x fact e h =
-      let is : z.0 ≡ y = cc in
-      (h.0, h.1, h.2, h.3,
+      let is : z.0 ≡ y = cc in (
+        h.0,
+        h.1,
+        h.2,
+        h.3,
         subst (λ w. known_good other w ≡ Some h.1) (sym is) (rw (good_at y here) at (subst (λ w. known_good held w ≡ Some h.1) is h.4)),
         subst (λ w. value_back h.0 h.1 (map (known_good other) (drivers_of net w)) q ≡ Some h.2) (sym is) (rw goods at (subst (λ w. value_back h.0 h.1 (map (known_good held) (drivers_of net w)) q ≡ Some h.2) is h.5)),
-        h.6, h.7)
+        h.6,
+        h.7,
+      )
   line_local (Compare z) x fact e h =
-      let is : x ≡ y = cc in
-      (h.0, h.1, h.2,
+      let is : x ≡ y = cc in (
+        h.0,
+        h.1,
+        h.2,
         subst (λ w. known_good other w ≡ Some h.1) (sym is) (rw (good_at y here) at (subst (λ w. known_good held w ≡ Some h.1) is h.3)),
         subst (λ w. known_faulty other w ≡ Some h.2) (sym is) (rw (faulty_at y here) at (subst (λ w. known_faulty held w ≡ Some h.2) is h.4)),
-        h.5, h.6)
+        h.5,
+        h.6,
+      )
   line_local (FaultyForward z) x fact e h =
       let is : x ≡ y = cc in
       (h.0, h.1, h.2, subst (λ w. value_forward h.0 (faulty_reads net fault Some (known_faulty other) w) ≡ Some h.1) (sym is) (rw faulty_pins at (subst (λ w. value_forward h.0 (faulty_reads net fault Some (known_faulty held) w) ≡ Some h.1) is h.3)), h.4, h.5)
   line_local (FaultyBack z q) x fact e h =
-      let is : z.0 ≡ y = cc in
-      (h.0, h.1, h.2, h.3,
+      let is : z.0 ≡ y = cc in (
+        h.0,
+        h.1,
+        h.2,
+        h.3,
         subst (λ w. known_faulty other w ≡ Some h.1) (sym is) (rw (faulty_at y here) at (subst (λ w. known_faulty held w ≡ Some h.1) is h.4)),
         subst (λ w. value_back h.0 h.1 (faulty_reads net fault Some (known_faulty other) w) q ≡ Some h.2) (sym is) (rw faulty_pins at (subst (λ w. value_back h.0 h.1 (faulty_reads net fault Some (known_faulty held) w) q ≡ Some h.2) is h.5)),
-        h.6, h.7, h.8)
+        h.6,
+        h.7,
+        h.8,
+      )
   line_local (ToFaulty z) x fact e h =
-      let is : x ≡ y = cc in
-      (h.0, h.1, h.2,
+      let is : x ≡ y = cc in (
+        h.0,
+        h.1,
+        h.2,
         subst (λ w. known_good other w ≡ Some h.1) (sym is) (rw (good_at y here) at (subst (λ w. known_good held w ≡ Some h.1) is h.3)),
         subst (λ w. known_equal other w ≡ Some h.2) (sym is) (rw (equal_at y here) at (subst (λ w. known_equal held w ≡ Some h.2) is h.4)),
-        h.5, h.6)
+        h.5,
+        h.6,
+      )
   line_local (ToGood z) x fact e h =
-      let is : x ≡ y = cc in
-      (h.0, h.1, h.2,
+      let is : x ≡ y = cc in (
+        h.0,
+        h.1,
+        h.2,
         subst (λ w. known_faulty other w ≡ Some h.1) (sym is) (rw (faulty_at y here) at (subst (λ w. known_faulty held w ≡ Some h.1) is h.3)),
         subst (λ w. known_equal other w ≡ Some h.2) (sym is) (rw (equal_at y here) at (subst (λ w. known_equal held w ≡ Some h.2) is h.4)),
-        h.5, h.6)
+        h.5,
+        h.6,
+      )
   line_local (NotDiffers z) x fact e h =
       let is : x ≡ y = cc in
       (h.0, h.1, h.2, h.3, rw (equal_at h.0 (drivers 0 h.0 (subst (λ w. Reads net w 0 h.0) is h.3))) at h.4, h.5, h.6)
@@ -89,13 +112,23 @@ module _ (net : Net) (fault : Fault) (held other : Held) (y : ℕ) (here : Agree
       let is : x ≡ y = cc in
       (h.0, h.1, subst (λ w. IsTrue (list_all (is_known true) (map (known_equal other) (drivers_of net w)))) (sym is) (rw equals at (subst (λ w. IsTrue (list_all (is_known true) (map (known_equal held) (drivers_of net w)))) is h.2)), h.3, h.4)
   line_local (DiffersBack z q) x fact e h =
-      let is : z.0 ≡ y = cc in
-      (h.0, h.1,
+      let is : z.0 ≡ y = cc in (
+        h.0,
+        h.1,
         subst (λ w. known_equal other w ≡ Some false) (sym is) (rw (equal_at y here) at (subst (λ w. known_equal held w ≡ Some false) is h.2)),
         subst (λ w. IsTrue (all_but (is_known true) q (map (known_equal other) (drivers_of net w)))) (sym is) (rw equals at (subst (λ w. IsTrue (all_but (is_known true) q (map (known_equal held) (drivers_of net w)))) is h.3)),
-        h.4, h.5)
+        h.4,
+        h.5,
+      )
   line_local (Side z q) x fact e h =
-      let is : z.0 ≡ y = cc in
-      (h.0, h.1, h.2, h.3,
+      let is : z.0 ≡ y = cc in (
+        h.0,
+        h.1,
+        h.2,
+        h.3,
         subst (λ w. known_equal other w ≡ Some false) (sym is) (rw (equal_at y here) at (subst (λ w. known_equal held w ≡ Some false) is h.4)),
-        h.5, rw (equal_at x (drivers q x (subst (λ w. Reads net w q x) is h.7))) at h.6, h.7, h.8)
+        h.5,
+        rw (equal_at x (drivers q x (subst (λ w. Reads net w q x) is h.7))) at h.6,
+        h.7,
+        h.8,
+      )

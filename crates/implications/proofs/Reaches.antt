@@ -51,7 +51,7 @@ marks_new net x reached reached' listed listed' d p m new within reads = record 
 }
 
 pub marks_all : (net : Net) (x : ℕ) (reached reached' listed listed' : List Bool) → MarksSome net x reached reached' listed listed' → ((z p : ℕ) → Reads net z p x → IsSeen reached' z) → MarksReaders net x reached reached' listed listed'
-marks_all net x reached reached' listed listed' m all = record { kept = m.kept; kept_listed = m.kept_listed; all = all; new = m.new; new_listed = m.new_listed; less = m.less; }
+marks_all net x reached reached' listed listed' m all = record { kept = m.kept; kept_listed = m.kept_listed; all = all; new = m.new; new_listed = m.new_listed; less = m.less }
 
 -- THE SEARCH
 pub search_first : (net : Net) (gate n m : ℕ) (reached' listed' : List Bool) → MarksReaders net gate (replicate n false) reached' (replicate m false) listed' → Searches net gate reached' listed'
@@ -84,7 +84,7 @@ all_reached net gate reached listed s none {x} {y} (pin p reads) is = s.first y 
 all_reached net gate reached listed s none {x} {y} (on {z = z} p path reads) is = elim (s.done z (all_reached net gate reached listed s none path is)) [ inl on' ↦ absurd (none z on') | inr readers ↦ readers y p reads ]
 
 pub search_ends : (net : Net) (gate : ℕ) (reached listed : List Bool) → Searches net gate reached listed → ((z : ℕ) → IsSeen listed z → ⊥) → MarksReached net gate reached
-search_ends net gate reached listed s none = record { sound = s.sound; all = λ y path. all_reached net gate reached listed s none path refl; }
+search_ends net gate reached listed s none = record { sound = s.sound; all = λ y path. all_reached net gate reached listed s none path refl }
 
 pub search_less : (reached reached' listed listed₁ listed' : List Bool) (d : ℕ) → IsSeen listed d × (listed₁ ≡ slice_set listed d false) → search_left reached' listed' ≤ search_left reached listed₁ → search_left reached' listed' < search_left reached listed
 search_less reached reached' listed listed₁ listed' d taken less = let fewer : seen_count listed₁ < seen_count listed = clear_less listed listed₁ d taken in omega arith

@@ -73,7 +73,7 @@ leads_more net fault l x fact (k ∷ lines) start held after (y, (other, (conclu
     (y, (other, (concludes', leads_more net fault l x fact lines (with_fact start y other) held after rest concludes is)))
 
 pub works_none : (net : Net) (fault : Fault) (facts : List NodeFacts) (lines : List Line) → Works net fault facts lines facts lines
-works_none net fault facts lines = record { goes_on = λ start leads. leads; fewer = omega arith; }
+works_none net fault facts lines = record { goes_on = λ start leads. leads; fewer = omega arith }
 
 pub works_join : (net : Net) (fault : Fault) (a : List NodeFacts) (a_lines : List Line) (b : List NodeFacts) (b_lines : List Line) (c : List NodeFacts) (c_lines : List Line) → Works net fault a a_lines b b_lines → Works net fault b b_lines c c_lines → Works net fault a a_lines c c_lines
 works_join net fault a a_lines b b_lines c c_lines h k = record {
@@ -89,7 +89,7 @@ works_hold net fault facts lines facts' lines' f concludes h = record {
 
 -- THE TRAIL
 pub keeps_none : (facts : List NodeFacts) (trail : List (NodeId × Fact)) → Keeps facts trail facts trail
-keeps_none facts trail = record { more = λ x fact e. e; size = refl; rest = []; grown = sym (append-nil trail); back = λ mark start b. b; }
+keeps_none facts trail = record { more = λ x fact e. e; size = refl; rest = []; grown = sym (append-nil trail); back = λ mark start b. b }
 
 pub keeps_join : (a : List NodeFacts) (a_trail : List (NodeId × Fact)) (b : List NodeFacts) (b_trail : List (NodeId × Fact)) (c : List NodeFacts) (c_trail : List (NodeId × Fact)) → Keeps a a_trail b b_trail → Keeps b b_trail c c_trail → Keeps a a_trail c c_trail
 keeps_join a a_trail b b_trail c c_trail h k = record {
@@ -133,7 +133,7 @@ keeps_hold facts trail facts' trail' x fact new b is = record {
     same = ap (λ k. without_fact k x.0 fact) (becomes_is facts facts' x.0 fact b) ∙ fun_ext (λ y. fun_ext (λ other. with_without (held_by facts) x.0 fact new y other))
 
 pub back_none : (trail : List (NodeId × Fact)) (facts : List NodeFacts) → LeadsBack trail (length trail) facts facts
-back_none trail facts = record { order = omega arith; size = refl; back = λ x fact. rw (drop-length trail) refl; }
+back_none trail facts = record { order = omega arith; size = refl; back = λ x fact. rw (drop-length trail) refl }
 
 pub added_of : (facts : List NodeFacts) (trail : List (NodeId × Fact)) (facts' : List NodeFacts) (trail' : List (NodeId × Fact)) → Keeps facts trail facts' trail' → AreAdded (drop (length trail) trail') facts facts'
 added_of facts trail facts' trail' k = trail_tells trail' (length trail) facts' facts (k.back (length trail) facts (back_none trail facts))

@@ -7,3 +7,5 @@ pub mod Reaching
 pub mod Settled
 pub mod Working
 pub mod Beginning
+pub mod Pulls
+pub mod Sides

@@ -90,7 +90,12 @@ fn close_facts(
 
 impl Engine {
     // Closes the facts.
-    fn close_from(&mut self, graph: &Graph, fault: &Fault, facts: FactSet) -> Result<Closed, NoMemory>
+    fn close_from(
+        &mut self,
+        graph: &Graph,
+        fault: &Fault,
+        facts: FactSet,
+    ) -> Result<Closed, NoMemory>
         requires pin { HasPin (net_of graph.now) fault.now }
         requires numbers { length (net_of graph.now).nodes ≤ self.old.numbers }
         requires size { length (net_of graph.now).nodes ≤ length facts }

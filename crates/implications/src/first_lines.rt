@@ -97,12 +97,7 @@ fn give_on_chain(
 }
 
 // A node that isn't marked as reached from the faulty gate is equal.
-fn line_out(
-    graph: &Graph,
-    fault: &Fault,
-    reached: &[bool],
-    node: NodeId,
-) -> Option<(NodeId, Fact)>
+fn line_out(graph: &Graph, fault: &Fault, reached: &[bool], node: NodeId) -> Option<(NodeId, Fact)>
     requires marks { length (net_of graph.now).nodes ≤ length reached.now }
     requires marked { MarksReached (net_of graph.now) fault.now.gate.0 reached.now }
     ensures { (held : Held) → IsAnswer (net_of graph.now) fault.now held (Line.Out node) result }

@@ -6,12 +6,15 @@ mod closing;
 mod extending;
 mod first_lines;
 mod found;
+mod gate_lines;
 pub mod laws;
 mod log;
 mod next_line;
 mod outcome;
+mod pulls;
 mod reaching;
 mod settling;
+mod side_line;
 mod state;
 
 pub use outcome::Closed;

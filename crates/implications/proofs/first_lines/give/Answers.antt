@@ -9,19 +9,19 @@ use Rattle.refutation.specs.FactSets.{held_by}
 pub holds-requires : goal.holds-requires
 holds-requires c =
     let below : c.in-Some.node.0 < length (net_of c.args.graph.now).nodes =
-        concludes_below (net_of c.args.graph.now) c.args.fault.now (held_by c.args.facts.now) c.requires.ready.formed c.requires.ready.stuck c.args.line c.in-Some.node.0 c.in-Some.fact (answer_some (net_of c.args.graph.now) c.args.fault.now (held_by c.args.facts.now) c.args.line c.args.given (c.in-Some.node, c.in-Some.fact) c.in-Some.is c.requires.given) in
+    concludes_below (net_of c.args.graph.now) c.args.fault.now (held_by c.args.facts.now) c.requires.ready.formed c.requires.ready.stuck c.args.line c.in-Some.node.0 c.in-Some.fact (answer_some (net_of c.args.graph.now) c.args.fault.now (held_by c.args.facts.now) c.args.line c.args.given (c.in-Some.node, c.in-Some.fact) c.in-Some.is c.requires.given) in
     omega (arith, c.requires.ready.size)
 
 pub hold-requires-clause-node : goal.hold-requires-clause-node
 hold-requires-clause-node c =
     let below : c.in-Some.node.0 < length (net_of c.args.graph.now).nodes =
-        concludes_below (net_of c.args.graph.now) c.args.fault.now (held_by c.args.facts.now) c.requires.ready.formed c.requires.ready.stuck c.args.line c.in-Some.node.0 c.in-Some.fact (answer_some (net_of c.args.graph.now) c.args.fault.now (held_by c.args.facts.now) c.args.line c.args.given (c.in-Some.node, c.in-Some.fact) c.in-Some.is c.requires.given) in
+    concludes_below (net_of c.args.graph.now) c.args.fault.now (held_by c.args.facts.now) c.requires.ready.formed c.requires.ready.stuck c.args.line c.in-Some.node.0 c.in-Some.fact (answer_some (net_of c.args.graph.now) c.args.fault.now (held_by c.args.facts.now) c.args.line c.args.given (c.in-Some.node, c.in-Some.fact) c.in-Some.is c.requires.given) in
     omega (arith, c.requires.ready.size)
 
 pub is_opposed-requires : goal.is_opposed-requires
 is_opposed-requires c =
     let below : c.in-Some.node.0 < length (net_of c.args.graph.now).nodes =
-        concludes_below (net_of c.args.graph.now) c.args.fault.now (held_by c.args.facts.now) c.requires.ready.formed c.requires.ready.stuck c.args.line c.in-Some.node.0 c.in-Some.fact (answer_some (net_of c.args.graph.now) c.args.fault.now (held_by c.args.facts.now) c.args.line c.args.given (c.in-Some.node, c.in-Some.fact) c.in-Some.is c.requires.given) in
+    concludes_below (net_of c.args.graph.now) c.args.fault.now (held_by c.args.facts.now) c.requires.ready.formed c.requires.ready.stuck c.args.line c.in-Some.node.0 c.in-Some.fact (answer_some (net_of c.args.graph.now) c.args.fault.now (held_by c.args.facts.now) c.args.line c.args.given (c.in-Some.node, c.in-Some.fact) c.in-Some.is c.requires.given) in
     omega (arith, c.requires.ready.size, c.hold.ensures.keeps.size)
 
 pub returns-then-is_opposed-clause-works : goal.returns-then-is_opposed-clause-works

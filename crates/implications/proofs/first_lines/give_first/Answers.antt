@@ -23,6 +23,6 @@ returns-clause-gives c =
     let two = gives_none c.give_on_chain.new.facts (AreDoneOnChain (net_of c.args.graph.now) c.args.fault.now c.give_on_chain.new.facts) c.in_ok-clash-2.field-0 c.in_default-2.is c.in_ok-clash-2.ensures.gives in
     gives_ok c.give_outside.new.facts (AreDoneOutside (net_of c.args.graph.now) c.args.fault.now c.give_outside.new.facts) (HasFirst (net_of c.args.graph.now) c.args.fault.now (held_by c.give_outside.new.facts)) c.give_outside.result
     (λ outside. has_first (net_of c.args.graph.now) c.args.fault.now c.give_outside.new.facts
-        (at_fault_stays (net_of c.args.graph.now) c.args.fault.now c.give_at_fault.new.facts c.give_outside.new.facts (λ x fact e. c.give_outside.ensures.keeps.more x fact (c.give_on_chain.ensures.keeps.more x fact e)) one.1)
-        (on_chain_stays (net_of c.args.graph.now) c.args.fault.now c.give_on_chain.new.facts c.give_outside.new.facts c.give_outside.ensures.keeps.more two.1) outside)
+    (at_fault_stays (net_of c.args.graph.now) c.args.fault.now c.give_at_fault.new.facts c.give_outside.new.facts (λ x fact e. c.give_outside.ensures.keeps.more x fact (c.give_on_chain.ensures.keeps.more x fact e)) one.1)
+    (on_chain_stays (net_of c.args.graph.now) c.args.fault.now c.give_on_chain.new.facts c.give_outside.new.facts c.give_outside.ensures.keeps.more two.1) outside)
     c.give_outside.ensures.gives

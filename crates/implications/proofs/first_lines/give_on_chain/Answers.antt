@@ -28,9 +28,11 @@ returns-in_default-next_in_chain-clause-keeps c = keeps_join c.args.facts.now c.
 
 pub returns-in_default-next_in_chain-clause-gives : goal.returns-in_default-next_in_chain-clause-gives
 returns-in_default-next_in_chain-clause-gives c =
-    let given = gives_none c.give.new.facts (IsDone (net_of c.args.graph.now) c.args.fault.now c.give.new.facts (Chain c.loop-step.at)) c.in_ok-clash.field-0 c.in_default.is c.in_ok-clash.ensures.gives in
-    (given.0, chaining_ends (net_of c.args.graph.now) c.args.fault.now c.args.facts.now c.args.log.now.lines.items c.args.log.now.trail.items c.loop-step.facts c.loop-step.log.lines.items c.loop-step.log.trail.items c.loop-step.at c.loop-step._step (gate_live (net_of c.args.graph.now) c.args.fault.now c.requires.ready.stuck) c.loop-step.invariant
-    c.give.new.facts c.give.new.log.lines.items c.give.new.log.trail.items c.in_ok-clash.ensures.works c.give.ensures.keeps given.0 given.1 c.in_default-next_in_chain.ensures)
+    let given = gives_none c.give.new.facts (IsDone (net_of c.args.graph.now) c.args.fault.now c.give.new.facts (Chain c.loop-step.at)) c.in_ok-clash.field-0 c.in_default.is c.in_ok-clash.ensures.gives in (
+      given.0,
+      chaining_ends (net_of c.args.graph.now) c.args.fault.now c.args.facts.now c.args.log.now.lines.items c.args.log.now.trail.items c.loop-step.facts c.loop-step.log.lines.items c.loop-step.log.trail.items c.loop-step.at c.loop-step._step (gate_live (net_of c.args.graph.now) c.args.fault.now c.requires.ready.stuck) c.loop-step.invariant
+          c.give.new.facts c.give.new.log.lines.items c.give.new.log.trail.items c.in_ok-clash.ensures.works c.give.ensures.keeps given.0 given.1 c.in_default-next_in_chain.ensures,
+    )
 
 pub loop-step-preserved : goal.loop-step-preserved
 loop-step-preserved c =

@@ -9,7 +9,7 @@ use Rattle.implications.specs.Reaching.{MarksReaders}
 pub loop-node-init : goal.loop-node-init
 loop-node-init c =
     let marked : MarksReaders (net_of c.args.graph.now) c.args.gate.0 (replicate (length c.args.reached.now.items) false) c.mark_readers.new.reached.items (replicate (length c.args.agenda.now) false) c.mark_readers.new.agenda =
-        rw (← c.unmark.ensures, ← c.requires.none) c.mark_readers.ensures.marked in
+    rw (← c.unmark.ensures, ← c.requires.none) c.mark_readers.ensures.marked in
     record {
       search = search_first (net_of c.args.graph.now) c.args.gate.0 (length c.args.reached.now.items) (length c.args.agenda.now) c.mark_readers.new.reached.items c.mark_readers.new.agenda marked;
       size = refl;

@@ -13,25 +13,25 @@ use Rattle.rm_base.specs.declared.numbers.NodeId.{NodeId}
 pub index-requires : goal.index-requires
 index-requires c =
     let below : c.in-Some.reader.0 < length (net_of c.args.graph.now).nodes =
-        next_below c.args.graph.now c.args.node.0 c.readers_listed.ensures c.into_iter-reader-iterator.result (c.into_iter-reader-iterator.ensures.into_iter_gives ∙ c.fanouts_of-reader-items.ensures) c.loop-reader.yielded (c.in-Some.reader, c.in-Some._position) _ _ c.loop-reader.invariant.all c.in-Some.ensures.steps in
+    next_below c.args.graph.now c.args.node.0 c.readers_listed.ensures c.into_iter-reader-iterator.result (c.into_iter-reader-iterator.ensures.into_iter_gives ∙ c.fanouts_of-reader-items.ensures) c.loop-reader.yielded (c.in-Some.reader, c.in-Some._position) _ _ c.loop-reader.invariant.all c.in-Some.ensures.steps in
     omega (arith, c.requires.marks, c.loop-reader.invariant.size, c.loop-reader.reached.ok)
 
 pub index_mut-requires : goal.index_mut-requires
 index_mut-requires c =
     let below : c.in-Some.reader.0 < length (net_of c.args.graph.now).nodes =
-        next_below c.args.graph.now c.args.node.0 c.readers_listed.ensures c.into_iter-reader-iterator.result (c.into_iter-reader-iterator.ensures.into_iter_gives ∙ c.fanouts_of-reader-items.ensures) c.loop-reader.yielded (c.in-Some.reader, c.in-Some._position) _ _ c.loop-reader.invariant.all c.in-Some.ensures.steps in
+    next_below c.args.graph.now c.args.node.0 c.readers_listed.ensures c.into_iter-reader-iterator.result (c.into_iter-reader-iterator.ensures.into_iter_gives ∙ c.fanouts_of-reader-items.ensures) c.loop-reader.yielded (c.in-Some.reader, c.in-Some._position) _ _ c.loop-reader.invariant.all c.in-Some.ensures.steps in
     omega (arith, c.requires.marks, c.loop-reader.invariant.size, c.loop-reader.reached.ok)
 
 pub add-requires : goal.add-requires
 add-requires c =
     let below : c.in-Some.reader.0 < length (net_of c.args.graph.now).nodes =
-        next_below c.args.graph.now c.args.node.0 c.readers_listed.ensures c.into_iter-reader-iterator.result (c.into_iter-reader-iterator.ensures.into_iter_gives ∙ c.fanouts_of-reader-items.ensures) c.loop-reader.yielded (c.in-Some.reader, c.in-Some._position) _ _ c.loop-reader.invariant.all c.in-Some.ensures.steps in
+    next_below c.args.graph.now c.args.node.0 c.readers_listed.ensures c.into_iter-reader-iterator.result (c.into_iter-reader-iterator.ensures.into_iter_gives ∙ c.fanouts_of-reader-items.ensures) c.loop-reader.yielded (c.in-Some.reader, c.in-Some._position) _ _ c.loop-reader.invariant.all c.in-Some.ensures.steps in
     omega (arith, c.requires.agenda, c.loop-reader.invariant.room)
 
 pub loop-reader-preserved-then-not-index : goal.loop-reader-preserved-then-not-index
 loop-reader-preserved-then-not-index c =
     let below : c.in-Some.reader.0 < length (net_of c.args.graph.now).nodes =
-        next_below c.args.graph.now c.args.node.0 c.readers_listed.ensures c.into_iter-reader-iterator.result (c.into_iter-reader-iterator.ensures.into_iter_gives ∙ c.fanouts_of-reader-items.ensures) c.loop-reader.yielded (c.in-Some.reader, c.in-Some._position) _ _ c.loop-reader.invariant.all c.in-Some.ensures.steps in
+    next_below c.args.graph.now c.args.node.0 c.readers_listed.ensures c.into_iter-reader-iterator.result (c.into_iter-reader-iterator.ensures.into_iter_gives ∙ c.fanouts_of-reader-items.ensures) c.loop-reader.yielded (c.in-Some.reader, c.in-Some._position) _ _ c.loop-reader.invariant.all c.in-Some.ensures.steps in
     let within : c.in-Some.reader.0 < length c.loop-reader.reached.items = omega (arith, c.requires.marks, c.loop-reader.invariant.size) in
     record {
       all = yielded_more place_of c.into_iter-reader-iterator.result c.loop-reader.yielded (c.in-Some.reader, c.in-Some._position) _ _ c.loop-reader.invariant.all c.in-Some.ensures.steps;
@@ -51,7 +51,7 @@ loop-reader-preserved-then-not-index c =
 pub loop-reader-preserved : goal.loop-reader-preserved
 loop-reader-preserved c =
     let below : c.in-Some.reader.0 < length (net_of c.args.graph.now).nodes =
-        next_below c.args.graph.now c.args.node.0 c.readers_listed.ensures c.into_iter-reader-iterator.result (c.into_iter-reader-iterator.ensures.into_iter_gives ∙ c.fanouts_of-reader-items.ensures) c.loop-reader.yielded (c.in-Some.reader, c.in-Some._position) _ _ c.loop-reader.invariant.all c.in-Some.ensures.steps in
+    next_below c.args.graph.now c.args.node.0 c.readers_listed.ensures c.into_iter-reader-iterator.result (c.into_iter-reader-iterator.ensures.into_iter_gives ∙ c.fanouts_of-reader-items.ensures) c.loop-reader.yielded (c.in-Some.reader, c.in-Some._position) _ _ c.loop-reader.invariant.all c.in-Some.ensures.steps in
     let within : c.in-Some.reader.0 < length c.loop-reader.reached.items = omega (arith, c.requires.marks, c.loop-reader.invariant.size) in
     record {
       all = yielded_more place_of c.into_iter-reader-iterator.result c.loop-reader.yielded (c.in-Some.reader, c.in-Some._position) _ _ c.loop-reader.invariant.all c.in-Some.ensures.steps;
@@ -67,5 +67,5 @@ loop-reader-preserved c =
 pub returns-clause-marked : goal.returns-clause-marked
 returns-clause-marked c =
     marks_all (net_of c.args.graph.now) c.args.node.0 c.args.reached.now.items c.loop-reader.reached.items c.args.agenda.now c.loop-reader.agenda c.loop-reader.invariant.marks (λ z p reads.
-        let came = all_came c.args.graph.now c.args.node.0 c.readers_listed.ensures c.into_iter-reader-iterator.result (c.into_iter-reader-iterator.ensures.into_iter_gives ∙ c.fanouts_of-reader-items.ensures) c.loop-reader.yielded _ c.loop-reader.invariant.all c.in-None.ensures.steps.0 z p reads in
-        subst (IsSeen c.loop-reader.reached.items) came.1.1.1 (c.loop-reader.invariant.done came.0 came.1.0 came.1.1.0))
+    let came = all_came c.args.graph.now c.args.node.0 c.readers_listed.ensures c.into_iter-reader-iterator.result (c.into_iter-reader-iterator.ensures.into_iter_gives ∙ c.fanouts_of-reader-items.ensures) c.loop-reader.yielded _ c.loop-reader.invariant.all c.in-None.ensures.steps.0 z p reads in
+    subst (IsSeen c.loop-reader.reached.items) came.1.1.1 (c.loop-reader.invariant.done came.0 came.1.0 came.1.1.0))

@@ -23,13 +23,13 @@ loop-reader-init c =
 pub add-requires-in-loop-reader : goal.add-requires-in-loop-reader
 add-requires-in-loop-reader c =
     let below : c.in-Some.reader.0 < length (net_of c.args.graph.now).nodes =
-        next_below c.args.graph.now c.args.node.0 c.readers_listed.ensures c.into_iter-reader-iterator.result (c.into_iter-reader-iterator.ensures.into_iter_gives ∙ c.fanouts_of-reader-items.ensures) c.loop-reader.yielded (c.in-Some.reader, c.in-Some._position) _ _ c.loop-reader.invariant.all c.in-Some.ensures.steps in
+    next_below c.args.graph.now c.args.node.0 c.readers_listed.ensures c.into_iter-reader-iterator.result (c.into_iter-reader-iterator.ensures.into_iter_gives ∙ c.fanouts_of-reader-items.ensures) c.loop-reader.yielded (c.in-Some.reader, c.in-Some._position) _ _ c.loop-reader.invariant.all c.in-Some.ensures.steps in
     omega (arith, c.requires.agenda, c.loop-reader.invariant.size)
 
 pub loop-reader-preserved : goal.loop-reader-preserved
 loop-reader-preserved c =
     let below : c.in-Some.reader.0 < length (net_of c.args.graph.now).nodes =
-        next_below c.args.graph.now c.args.node.0 c.readers_listed.ensures c.into_iter-reader-iterator.result (c.into_iter-reader-iterator.ensures.into_iter_gives ∙ c.fanouts_of-reader-items.ensures) c.loop-reader.yielded (c.in-Some.reader, c.in-Some._position) _ _ c.loop-reader.invariant.all c.in-Some.ensures.steps in
+    next_below c.args.graph.now c.args.node.0 c.readers_listed.ensures c.into_iter-reader-iterator.result (c.into_iter-reader-iterator.ensures.into_iter_gives ∙ c.fanouts_of-reader-items.ensures) c.loop-reader.yielded (c.in-Some.reader, c.in-Some._position) _ _ c.loop-reader.invariant.all c.in-Some.ensures.steps in
     record {
       all = yielded_more place_of c.into_iter-reader-iterator.result c.loop-reader.yielded (c.in-Some.reader, c.in-Some._position) _ _ c.loop-reader.invariant.all c.in-Some.ensures.steps;
       kept = λ z seen. rw c.add-in-loop-reader.ensures (seen_kept c.loop-reader.agenda c.in-Some.reader.0 z (c.loop-reader.invariant.kept z seen));
