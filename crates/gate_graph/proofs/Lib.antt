@@ -30,4 +30,6 @@ pub mod Fanned
 pub mod Formed
 pub mod Filling
 pub mod Counted
+pub mod HeldPins
+pub mod CopyGraph
 pub mod Following

@@ -1,6 +1,7 @@
 //! Changes of a graph that can be undone.
 ghost use Rattle.std.specs.Prelude.{[], ◌∷◌, ◌≡◌, ◌≢◌, ◌+◌, ◌<◌, ◌≤◌, length, Some, None, slice_set, Bool, ◌-◌};
 ghost use Rattle.gate_graph.specs.Entries.{LeadOn};
+ghost use Rattle.gate_graph.specs.Holds.{HoldsOn};
 ghost use Rattle.gate_graph.specs.Changes.{CanEdit, Edits, entries_for};
 ghost use Rattle.gate_graph.specs.declared.entries.Entry.{Entry};
 ghost use Rattle.gate_net.specs.Edits.{MakesGate};
@@ -59,6 +60,7 @@ impl Graph {
         ensures edits { Edits self.old edit.now self.new }
         ensures undos { LeadOn self.old self.new undos.old.entries undos.new.entries }
         ensures entries { undos.new.spare + entries_for self.old edit.now ≡ undos.old.spare }
+        ensures held { HoldsOn self.old self.new undos.old.entries undos.new.entries }
         ensures epoch { self.new.epoch ≡ self.old.epoch }
     {
         match *edit {
@@ -88,6 +90,7 @@ impl Graph {
         ensures net { net_of self.new ≡ with_pin (net_of self.old) gate.0 driver.0 }
         ensures readers { LastReader self.old self.new gate.0 driver.0 }
         ensures undos { LeadOn self.old self.new undos.old.entries undos.new.entries }
+        ensures held { HoldsOn self.old self.new undos.old.entries undos.new.entries }
         ensures epoch { self.new.epoch ≡ self.old.epoch }
         ensures uses { Uses self.old self.new 1 0 }
         ensures entry { undos.new.spare + 1 ≡ undos.old.spare }
@@ -106,6 +109,7 @@ impl Graph {
         ensures net { net_of self.new ≡ without_pin (net_of self.old) gate.0 position }
         ensures readers { ReaderGoes self.old self.new gate.0 position }
         ensures undos { LeadOn self.old self.new undos.old.entries undos.new.entries }
+        ensures held { HoldsOn self.old self.new undos.old.entries undos.new.entries }
         ensures epoch { self.new.epoch ≡ self.old.epoch }
         ensures uses { Uses self.old self.new 0 0 }
         ensures entry { undos.new.spare + 1 ≡ undos.old.spare }
@@ -126,6 +130,7 @@ impl Graph {
         ensures net { net_of self.new ≡ with_drivers (net_of self.old) gate.0 (slice_set (drivers_of (net_of self.old) gate.0) position driver.0) }
         ensures readers { ReaderMoves self.old self.new gate.0 position driver.0 }
         ensures undos { LeadOn self.old self.new undos.old.entries undos.new.entries }
+        ensures held { HoldsOn self.old self.new undos.old.entries undos.new.entries }
         ensures epoch { self.new.epoch ≡ self.old.epoch }
         ensures uses { Uses self.old self.new 0 0 }
         ensures entry { undos.new.spare + 1 ≡ undos.old.spare }
@@ -146,6 +151,7 @@ impl Graph {
         ensures net { net_of self.new ≡ with_readers_moved (net_of self.old) from.0 to.0 }
         ensures readers { ReadersMove self.old self.new from.0 to.0 }
         ensures undos { LeadOn self.old self.new undos.old.entries undos.new.entries }
+        ensures held { HoldsOn self.old self.new undos.old.entries undos.new.entries }
         ensures epoch { self.new.epoch ≡ self.old.epoch }
         ensures uses { Uses self.old self.new 0 0 }
         ensures entry { undos.new.spare + 1 ≡ undos.old.spare }
@@ -165,6 +171,7 @@ impl Graph {
         ensures net { MakesGate (net_of self.old) (net_of self.new) Not (driver.0 ∷ []) result }
         ensures readers { LastReader self.old self.new result driver.0 }
         ensures undos { LeadOn self.old self.new undos.old.entries undos.new.entries }
+        ensures held { HoldsOn self.old self.new undos.old.entries undos.new.entries }
         ensures epoch { self.new.epoch ≡ self.old.epoch }
         ensures uses { Uses self.old self.new 1 1 }
         ensures entry { undos.new.spare + 1 ≡ undos.old.spare }
@@ -187,6 +194,7 @@ impl Graph {
         ensures net { DiffersAt (net_of self.old) (net_of self.new) gate.0 × (node_at (net_of self.new) gate.0 ≡ None) }
         ensures readers { GateGoes self.old self.new gate.0 }
         ensures undos { LeadOn self.old self.new undos.old.entries undos.new.entries }
+        ensures held { HoldsOn self.old self.new undos.old.entries undos.new.entries }
         ensures epoch { self.new.epoch ≡ self.old.epoch }
         ensures uses { Frees self.old self.new }
         ensures entries { undos.new.spare + 1 + length (drivers_of (net_of self.old) gate.0) ≡ undos.old.spare }

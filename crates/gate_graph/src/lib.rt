@@ -1,6 +1,7 @@
 //! A graph of gates over a pool of pins, its edits, and their undoing.
 #![tactic(auto)]
 
+mod copying;
 mod counting;
 mod driver_iter;
 mod editing;

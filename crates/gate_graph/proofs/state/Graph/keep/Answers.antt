@@ -7,6 +7,10 @@ use Rattle.gate_graph.proofs.Kept.{graph-kept, net-kept, readers-kept}
 use Rattle.gate_graph.proofs.Holding.{are-held, held-step, held-here, held-count}
 use Rattle.std.specs.FinSet as finset
 use Rattle.gate_graph.proofs.Numbers.{len-one_less}
+use Rattle.std.proofs.Common.{length, [], ◌≡◌}
+use Rattle.gate_graph.specs.Holds.{held}
+use Rattle.gate_graph.specs.declared.entries.Entry.{Entry}
+use Rattle.gate_graph.proofs.HeldPins.{held-are, linked-same}
 use Rattle.gate_graph.proofs.state.Graph.keep.Goals as goal
 
 pub loop-entry-init : goal.loop-entry-init
@@ -59,3 +63,13 @@ returns-clause-net c = let i = c.loop-entry.invariant in net-kept _ c.args.self.
 
 pub returns-clause-fanouts : goal.returns-clause-fanouts
 returns-clause-fanouts c = let i = c.loop-entry.invariant in readers-kept _ c.args.self.now i.kinds i.inputs i.fanouts
+
+pub returns-clause-held : goal.returns-clause-held
+returns-clause-held c =
+    let i = c.loop-entry.invariant in
+    let s = c.loop-entry.self-inside in
+    let v = c.args.self.now in
+    let w : Circuit = record { kinds = s.kinds.items; pool = s.pool; epoch = c.saturating_add-self-inside.result } in
+    let gw : IsGraph w = graph-kept w v i.kinds i.inputs i.fanouts i.nodes c.tell.ensures.graph in
+    let none = ap (λ (l : List Entry). length (held l)) c.in_default.ensures.0 in
+    omega (arith, held-are v c.tell.ensures.rings c.tell.ensures.graph, held-are w c.look.ensures.rings gw, linked-same v.pool w.pool i.nodes i.inputs, i.taken, none)
