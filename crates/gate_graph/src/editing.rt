@@ -62,6 +62,7 @@ impl Graph {
         ensures entries { undos.new.spare + entries_for self.old edit.now ≡ undos.old.spare }
         ensures held { HoldsOn self.old self.new undos.old.entries undos.new.entries }
         ensures epoch { self.new.epoch ≡ self.old.epoch }
+        ensures numbers { length self.new.kinds ≡ length self.old.kinds }
     {
         match *edit {
             Edit::Append { gate, driver } => self.append(gate, driver, undos),
@@ -92,6 +93,7 @@ impl Graph {
         ensures undos { LeadOn self.old self.new undos.old.entries undos.new.entries }
         ensures held { HoldsOn self.old self.new undos.old.entries undos.new.entries }
         ensures epoch { self.new.epoch ≡ self.old.epoch }
+        ensures numbers { length self.new.kinds ≡ length self.old.kinds }
         ensures uses { Uses self.old self.new 1 0 }
         ensures entry { undos.new.spare + 1 ≡ undos.old.spare }
     {
@@ -111,6 +113,7 @@ impl Graph {
         ensures undos { LeadOn self.old self.new undos.old.entries undos.new.entries }
         ensures held { HoldsOn self.old self.new undos.old.entries undos.new.entries }
         ensures epoch { self.new.epoch ≡ self.old.epoch }
+        ensures numbers { length self.new.kinds ≡ length self.old.kinds }
         ensures uses { Uses self.old self.new 0 0 }
         ensures entry { undos.new.spare + 1 ≡ undos.old.spare }
     {
@@ -132,6 +135,7 @@ impl Graph {
         ensures undos { LeadOn self.old self.new undos.old.entries undos.new.entries }
         ensures held { HoldsOn self.old self.new undos.old.entries undos.new.entries }
         ensures epoch { self.new.epoch ≡ self.old.epoch }
+        ensures numbers { length self.new.kinds ≡ length self.old.kinds }
         ensures uses { Uses self.old self.new 0 0 }
         ensures entry { undos.new.spare + 1 ≡ undos.old.spare }
     {
@@ -153,6 +157,7 @@ impl Graph {
         ensures undos { LeadOn self.old self.new undos.old.entries undos.new.entries }
         ensures held { HoldsOn self.old self.new undos.old.entries undos.new.entries }
         ensures epoch { self.new.epoch ≡ self.old.epoch }
+        ensures numbers { length self.new.kinds ≡ length self.old.kinds }
         ensures uses { Uses self.old self.new 0 0 }
         ensures entry { undos.new.spare + 1 ≡ undos.old.spare }
     {
@@ -173,6 +178,7 @@ impl Graph {
         ensures undos { LeadOn self.old self.new undos.old.entries undos.new.entries }
         ensures held { HoldsOn self.old self.new undos.old.entries undos.new.entries }
         ensures epoch { self.new.epoch ≡ self.old.epoch }
+        ensures numbers { length self.new.kinds ≡ length self.old.kinds }
         ensures uses { Uses self.old self.new 1 1 }
         ensures entry { undos.new.spare + 1 ≡ undos.old.spare }
     {
@@ -196,6 +202,7 @@ impl Graph {
         ensures undos { LeadOn self.old self.new undos.old.entries undos.new.entries }
         ensures held { HoldsOn self.old self.new undos.old.entries undos.new.entries }
         ensures epoch { self.new.epoch ≡ self.old.epoch }
+        ensures numbers { length self.new.kinds ≡ length self.old.kinds }
         ensures uses { Frees self.old self.new }
         ensures entries { undos.new.spare + 1 + length (drivers_of (net_of self.old) gate.0) ≡ undos.old.spare }
     {
