@@ -2,6 +2,7 @@ pub mod NetEdits
 pub mod NetRanks
 pub mod Firsts
 pub mod KindAt
+pub mod KnownKinds
 pub mod Kept
 pub mod Started
 pub mod Bounded

@@ -49,7 +49,7 @@ pub(crate) fn readers(
 
 // Whether the number has the same kind, drivers and readers in both, in the same order.
 fn is_same(alloc: Global, graph: &Graph, plain: &PlainNet, node: u32) -> Result<bool, NoMemory> {
-    if graph.kind(NodeId(node)) != plain.kind(node as usize) {
+    if graph.kind(NodeId(node)) != plain.kind(node) {
         return Ok(false);
     }
     if node != 0 && drivers(alloc, graph, node)? != plain.drivers(alloc, node)? {
@@ -64,9 +64,9 @@ pub(crate) fn are_same(alloc: Global, graph: &Graph, plain: &PlainNet) -> Result
         return Ok(false);
     }
     for node in 0..plain.bound() {
-        if !is_same(alloc, graph, plain, node as u32)? {
+        if !is_same(alloc, graph, plain, node)? {
             return Ok(false);
         }
     }
-    Ok(graph.node_bound() as usize <= plain.bound())
+    Ok(graph.node_bound() <= plain.bound())
 }

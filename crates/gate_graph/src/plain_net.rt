@@ -40,19 +40,24 @@ impl PlainNet {
         })
     }
 
-    pub(crate) fn bound(&self) -> usize {
-        self.kinds.len()
+    // A number that is above all others.
+    pub(crate) fn bound(&self) -> u32 {
+        let mut bound = 0u32;
+        for _ in &self.kinds {
+            bound = bound.saturating_add(1);
+        }
+        bound
     }
 
-    pub(crate) fn kind(&self, node: usize) -> Option<Kind> {
-        match self.kinds.get(node) {
+    pub(crate) fn kind(&self, node: u32) -> Option<Kind> {
+        match self.kinds.get(node as usize) {
             Some(kind) => *kind,
             None => None,
         }
     }
 
-    fn set_kind(&mut self, node: usize, kind: Option<Kind>) -> Result<(), NoMemory> {
-        if let Some(place) = self.kinds.get_mut(node) {
+    fn set_kind(&mut self, node: u32, kind: Option<Kind>) -> Result<(), NoMemory> {
+        if let Some(place) = self.kinds.get_mut(node as usize) {
             *place = kind;
             return Ok(());
         }
@@ -60,13 +65,15 @@ impl PlainNet {
         Ok(())
     }
 
-    fn least_free(&self) -> usize {
-        for node in 0..self.kinds.len() {
-            if self.kind(node).is_none() {
+    fn least_free(&self) -> u32 {
+        let mut node = 0u32;
+        for kind in &self.kinds {
+            if kind.is_none() {
                 return node;
             }
+            node = node.saturating_add(1);
         }
-        self.kinds.len()
+        node
     }
 
     // How many pins the gate has.
@@ -95,7 +102,7 @@ impl PlainNet {
         let node = self.least_free();
         self.set_kind(node, Some(kind))?;
         for driver in drivers {
-            self.append(node as u32, driver.0)?;
+            self.append(node, driver.0)?;
         }
         Ok(())
     }
@@ -165,7 +172,7 @@ impl PlainNet {
             }
         }
         self.wires = left;
-        self.set_kind(gate as usize, None)
+        self.set_kind(gate, None)
     }
 
     pub(crate) fn edit(&mut self, alloc: Global, edit: &Edit) -> Result<(), NoMemory> {

@@ -1,5 +1,7 @@
 //! Scripts of edits, with every list compared with a plain net.
-ghost use Rattle.std.specs.Prelude.{◌≡◌, ◌≤◌, ◌+◌, ℕ, true, false, length, map, IfOk};
+ghost use Rattle.std.specs.Prelude.{◌≡◌, ◌≢◌, ◌≤◌, ◌+◌, ◌*◌, length, IfOk};
+ghost use Rattle.gate_net.specs.Net.{IsGateKind};
+ghost use Rattle.gate_net.specs.declared.Kind.TheVariants.{Not};
 ghost use Rattle.gate_graph.specs.Circuit.{live_nodes, net_of, pins_taken, wiring};
 ghost use Rattle.gate_graph.specs.Entries.{AreWithin, CanGoBack};
 

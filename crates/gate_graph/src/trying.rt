@@ -149,7 +149,8 @@ fn may_edit(alloc: Global, graph: &Graph, edit: &Edit) -> Result<bool, NoMemory>
 
 fn count_pins(graph: &Graph, node: NodeId) -> usize
     requires { IsLive (net_of graph.now) node.0 }
-    ensures { result ≡ length (drivers_of (net_of graph.now) node.0) }
+    ensures count { result ≡ length (drivers_of (net_of graph.now) node.0) }
+    ensures few { result ≤ 4294967295 }
 {
     let mut count = 0usize;
     for _ in graph.inputs_of(node) {
