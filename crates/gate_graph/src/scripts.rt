@@ -145,7 +145,6 @@ fn run(
 fn four_gates(alloc: Global) -> Result<(Graph, PlainNet), NoMemory>
     ensures pins { IfOk result (λ r. pins_taken r.0 ≤ 100) }
     ensures nodes { IfOk result (λ r. live_nodes r.0 ≤ 100) }
-    ensures epoch { IfOk result (λ r. r.0.epoch ≡ 0) }
 {
     let mut graph = Graph::new(alloc, 4)?;
     let mut plain = PlainNet::new(alloc, 4)?;
