@@ -22,10 +22,10 @@ fn decomposed(alloc: Global, model: &Model) -> Result<Option<Graph>, DecomposeRe
     if !is_small(alloc, model)? {
         return Ok(None);
     }
-    if rank(alloc, model).is_err() {
-        return Ok(None);
+    match rank(alloc, model) {
+        Ok(_ranks) => Ok(Some(decompose(alloc, model)?)),
+        Err(_) => Ok(None),
     }
-    Ok(Some(decompose(alloc, model)?))
 }
 
 fn is_live(graph: &Graph, node: NodeId) -> bool

@@ -24,6 +24,7 @@ impl Graph {
         ensures wiring { wiring self.new ≡ back_to (wiring self.old) undos.old.entries }
         ensures epoch { self.new.epoch ≡ self.old.epoch }
         ensures none { undos.new.entries ≡ [] }
+        ensures spare { undos.new.spare ≡ undos.old.spare + length undos.old.entries }
         ensures pins { free_pins self.old ≤ free_pins self.new }
         ensures taken { pins_taken self.new ≤ pins_taken self.old }
         ensures free { free_pins self.new ≡ free_pins self.old + pins_made undos.old.entries }
@@ -50,6 +51,7 @@ impl Graph {
         ensures net { net_of self.new ≡ net_of self.old }
         ensures fanouts { SameReaders self.old self.new }
         ensures none { undos.new.entries ≡ [] }
+        ensures spare { undos.new.spare ≡ undos.old.spare + length undos.old.entries }
         ensures same { undos.old.entries ≡ [] → self.new.epoch ≡ self.old.epoch }
         ensures epoch { undos.old.entries ≢ [] → self.new.epoch ≡ min (self.old.epoch + 1) (2 ^ 64 - 1) }
         ensures free { free_pins self.new ≡ free_pins self.old + length (held undos.old.entries) }

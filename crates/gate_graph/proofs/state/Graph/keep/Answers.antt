@@ -24,6 +24,7 @@ loop-entry-init c =
       spare = refl;
       taken = refl;
       free = refl;
+      places = refl;
       epoch = refl;
       least = refl;
     })
@@ -45,6 +46,7 @@ loop-entry-preserved-in-Removed c =
       spare = omega (arith, i.spare, e.spare, held-count c.in-Removed.pin c.in-Removed.slot c.in-Some.entry c.loop-entry.undos.entries c.pop.new.self.entries c.in-Some.ensures.0 c.in-Removed.is);
       taken = omega (arith, i.taken, ap finset.len e.taken, len-one_less c.loop-entry.self-inside.pool.taken c.in-Removed.pin.0 (held-here c.loop-entry.self-inside.kinds.items c.loop-entry.self-inside.pool c.in-Removed.pin c.in-Removed.slot c.in-Some.entry c.loop-entry.undos.entries c.pop.new.self.entries c.in-Some.ensures.0 c.in-Removed.is i.held_pins).0, held-count c.in-Removed.pin c.in-Removed.slot c.in-Some.entry c.loop-entry.undos.entries c.pop.new.self.entries c.in-Some.ensures.0 c.in-Removed.is);
       free = i.free;
+      places = omega (arith, i.places, c.in-Some.ensures.1, ap (λ (l : List Entry). length l) c.in-Some.ensures.0);
       epoch = i.epoch;
       least = i.least;
     }

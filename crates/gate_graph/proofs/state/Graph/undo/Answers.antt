@@ -25,6 +25,7 @@ loop-entry-preserved c = record {
       let e = c.take_back.ensures in
       let can = (subst (λ (l : List Entry). CanGoBack (wiring_of s.kinds.items s.pool) l) c.in-Some.ensures.0 i.back).0 in
       undoing-step s.kinds.items c.take_back.new.kinds.items c.args.self.now.pool s.pool c.take_back.new.pool c.args.undos.now.entries c.loop-entry.undos.entries c.pop.new.self.entries c.in-Some.entry i.undoing c.in-Some.ensures.0 e.nodes e.rings i.room can e.wiring e.made e.freed;
+  places = omega (arith, c.loop-entry.invariant.places, c.in-Some.ensures.1, ap (λ (l : List Entry). length l) c.in-Some.ensures.0);
   epoch = search rules;
 }
 

@@ -1,4 +1,4 @@
-use Rattle.std.proofs.Common.{◌≡◌, ◌≤◌, length}
+use Rattle.std.proofs.Common.{◌+◌, ◌≡◌, ◌≤◌, length}
 use Rattle.gate_graph.specs.Wirings.{wiring_of, free_in}
 use Rattle.std.specs.FinSet as set
 use Rattle.gate_graph.specs.Entries.{CanGoBack, AreWithin, back_to}
@@ -19,6 +19,7 @@ invariant-loop-entry l = record {
   taken : set.len l.self-inside.pool.taken ≤ set.len l.fn.self.pool.taken;
   numbers : length l.self-inside.kinds.items ≡ length l.fn.self.kinds;
   undoing : IsUndoing l.fn.self.pool l.fn.undos.entries l.self-inside.pool l.undos.entries;
+  places : l.undos.spare + length l.undos.entries ≡ l.fn.undos.spare + length l.fn.undos.entries;
   epoch : l.self-inside.epoch ≡ l.fn.self.epoch;
 }
 
