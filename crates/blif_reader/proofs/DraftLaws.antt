@@ -1,16 +1,14 @@
 -- A draft goes on with the lines.
-use Rattle.std.proofs.Common.{◌≡◌, ◌≢◌, ℕ, zero, suc, ◌<◌, List, [], ◌∷◌, ◌++◌, map, filter, length, Bool, true, false, not, ◌&&◌, ◌||◌, inl, inr, refl, sym, ◌∙◌, ap, subst, append_assoc, Option, None, Some}
+use Rattle.std.proofs.Common.{◌≡◌, ℕ, List, [], ◌∷◌, ◌++◌, map, filter, length, Bool, true, false, ◌||◌, inl, inr, refl, sym, ◌∙◌, ap, subst, Option, None, Some}
 use Rattle.std.specs.Prelude.{if◌then◌else◌, codes, is_some}
-use Rattle.std.specs.Option.{option_map}
-use Rattle.rm_model.specs.Words.{Word, is_word}
-use Rattle.rm_model.specs.declared.parts.Cover.{Cover}
+use Rattle.rm_model.specs.Words.{Word}
 use Rattle.blif_lines.specs.Layout.{Spot}
 use Rattle.blif_format.specs.Text.{Line, latch_words, cover_words}
-use Rattle.blif_format.specs.Grammar.{before, before_end, begins_with, is_dotted, words_after, words_of, names_lines, is_command, follow, body_of}
+use Rattle.blif_format.specs.Grammar.{before_end, begins_with, is_dotted, words_after, words_of, names_lines, is_command, follow, body_of}
 use Rattle.blif_format.specs.Uses.{Command, Model, Inputs, Outputs, Clock, Names, Latch, End}
-use Rattle.blif_format.specs.FirstFault.{Said, OpenCover as SaidCover, after_line, with_row, is_dotted as dotted_word, cover_after}
+use Rattle.blif_format.specs.FirstFault.{Said, OpenCover as SaidCover, after_line, with_row, is_dotted as dotted_word}
 use Rattle.blif_reader.specs.Rows.{cover_for, ends}
-use Rattle.blif_reader.specs.Drafts.{opt_list, all_covers, is_open, Begins, Ends, RowsAre, CurrentIs, IsDraft, given_name, given_inputs, given_outputs, given_clocks, given_latches, given_covers, Changes, IsKnown, add_row, AddsRow}
+use Rattle.blif_reader.specs.Drafts.{all_covers, is_open, Begins, Ends, CurrentIs, IsDraft, given_name, given_inputs, given_outputs, given_clocks, given_latches, given_covers, Changes, add_row, AddsRow}
 use Rattle.blif_reader.specs.declared.draft.Draft.{Draft}
 use Rattle.blif_reader.proofs.Compared.{word_tells}
 use Rattle.blif_reader.proofs.LineLaws.{word_for}
@@ -154,6 +152,7 @@ command_body said lines d e s ss k ws is began goes m notend w end cover ch =
       latches = lines_more (codes ".latch") lines (word_for k ∷ ws) ∙ ap (λ (xs : List Line). map words_after (filter (begins_with (codes ".latch")) lines) ++ xs) (latches_case k ws) ∙ ap (λ (xs : List Line). xs ++ given_latches k ws) is.latches ∙ sym ch.latches;
       covers = names_more lines (word_for k ∷ ws) (dot_case k ws) ∙ ap (λ (xs : List (Line × List Line)). names_lines lines ++ xs) (covers_case k ws) ∙ ap (λ (xs : List (Line × List Line)). xs ++ given_covers k ws) is.covers ∙ sym ch.covers;
       current = subst (λ (o : Option SaidCover). CurrentIs o e.current) (sym cover) ch.current;
+      shaped = ch.shaped is.shaped;
     })
 
 -- the end
@@ -178,6 +177,7 @@ command_end said lines d e s ss is began goes w end cover ch =
       latches = lines_more (codes ".latch") lines (codes ".end" ∷ []) ∙ ap (λ (xs : List Line). xs ++ []) is.latches ∙ sym ch.latches;
       covers = names_more lines (codes ".end" ∷ []) refl ∙ ap (λ (xs : List (Line × List Line)). xs ++ []) is.covers ∙ sym ch.covers;
       current = subst (λ (o : Option SaidCover). CurrentIs o e.current) (sym cover) ch.current;
+      shaped = ch.shaped is.shaped;
     })
 
 -- the first line
@@ -197,6 +197,7 @@ command_first said lines d e s ss x is began goes w end cover ch =
       latches = ap (λ (ls : List Line). map words_after (filter (begins_with (codes ".latch")) ls)) (sym empty) ∙ is.latches ∙ append_none (map latch_words d.latches) ∙ sym ch.latches;
       covers = ap names_lines (sym empty) ∙ is.covers ∙ append_none (map cover_words (all_covers d)) ∙ sym ch.covers;
       current = subst (λ (o : Option SaidCover). CurrentIs o e.current) (sym cover) ch.current;
+      shaped = ch.shaped is.shaped;
     })
   where
     append_none : {A : Type 0} (xs : List A) → xs ≡ xs ++ []
@@ -233,6 +234,7 @@ row_line said lines d e s ss o ws is began goes has plain ended cover words ch =
       latches = lines_more (codes ".latch") lines (s.word ∷ ws) ∙ ap (λ (t : Bool). map words_after (filter (begins_with (codes ".latch")) lines) ++ (if t then ws ∷ [] else [])) (row_begins (codes ".latch") s.word ws refl plain) ∙ append_end (map words_after (filter (begins_with (codes ".latch")) lines)) ∙ is.latches ∙ sym (ap (λ (x : Draft). map latch_words x.latches) ch.rest);
       covers = names_row lines (s.word ∷ ws) under all_open ∙ ap (add_row (s.word ∷ ws)) is.covers ∙ ap (λ (xs : List Word). add_row (s.word ∷ xs) (map cover_words (all_covers d))) words ∙ sym ch.covers;
       current = subst (λ (x : Option SaidCover). CurrentIs x e.current) (sym cover) ch.current;
+      shaped = ch.shaped is.shaped;
     }
   where
     append_end : {A : Type 0} (xs : List A) → xs ++ [] ≡ xs

@@ -1,6 +1,6 @@
 -- The first name without a driver.
-use Rattle.std.proofs.Common.{◌≡◌, ◌≢◌, ℕ, ◌+◌, ◌≤◌, zero, suc, List, [], ◌∷◌, ◌++◌, map, length, drop, Bool, true, false, not, ◌&&◌, ◌||◌, inl, inr, refl, sym, ◌∙◌, ap, arith, add-one, append_assoc, Option, None, Some}
-use Rattle.std.specs.Prelude.{if◌then◌else◌, slice_get, find, fold, ◌⊎◌}
+use Rattle.std.proofs.Common.{◌≡◌, ℕ, ◌+◌, ◌≤◌, zero, suc, List, [], ◌∷◌, ◌++◌, map, length, drop, Bool, true, false, not, ◌&&◌, ◌||◌, inl, inr, refl, sym, ◌∙◌, ap, add-one, append_assoc, Option, None, Some}
+use Rattle.std.specs.Prelude.{if◌then◌else◌, slice_get, find, fold}
 use Rattle.std.specs.Option.{option_map}
 use Rattle.std.proofs.lemmas.List.{drop_all}
 use Rattle.rm_base.specs.declared.numbers.Place.{Place}
@@ -10,12 +10,11 @@ use Rattle.rm_model.specs.WellFormed.{is_distinct}
 use Rattle.blif_format.specs.Uses.{Role, Input, ClockInput, Output, CoverInput, CoverOutput, LatchInput, LatchOutput, Control, Use, is_driver, wants_driver, names_in}
 use Rattle.blif_format.specs.FirstFault.{is_undriven, undriven_fault, fault}
 use Rattle.blif_format.specs.declared.refusal.FaultKind.TheVariants.{Undriven}
-use Rattle.blif_format.specs.declared.refusal.ReadRefusal.{ReadRefusal}
 use Rattle.blif_format.specs.declared.refusal.ReadRefusal.TheVariants.{Fault}
 use Rattle.blif_reader.specs.declared.names.Flags.{Flags}
 use Rattle.blif_reader.specs.declared.names.Entry.{Entry}
-use Rattle.blif_reader.specs.Tally.{Tally, entry_of, flags_at, flags_or_none, has_driver, free_of, first_free, plays, flags_in, with_first, firsts, first_of, IsTally}
-use Rattle.blif_reader.proofs.Compared.{or_true, or_false, or_assoc, word_tells, word_same, word_turned, among_more, word_is}
+use Rattle.blif_reader.specs.Tally.{Tally, entry_of, flags_at, flags_or_none, has_driver, free_of, first_free, plays, flags_in, with_first, first_of, IsTally}
+use Rattle.blif_reader.proofs.Compared.{or_true, word_tells, word_same, word_turned, among_more, word_is}
 use Rattle.blif_reader.proofs.Plays.{plays_driver, names_among}
 
 pub free_here : (es : List (Word × Entry)) (i : ℕ) (p : Place) → Some p ≡ free_of (slice_get es i) → first_free (drop i es) ≡ Some p

@@ -1,10 +1,9 @@
 -- What one more line adds to what the grammar reads of lines.
-use Rattle.std.proofs.Common.{◌≡◌, ◌≢◌, ℕ, zero, suc, List, [], ◌∷◌, ◌++◌, map, filter, length, Bool, true, false, not, ◌&&◌, ◌||◌, inl, inr, refl, sym, ◌∙◌, ap, subst, append_assoc, Option, None, Some}
-use Rattle.std.specs.Prelude.{if◌then◌else◌, codes, is_some}
-use Rattle.std.specs.List.{flat_map}
-use Rattle.rm_model.specs.Words.{Word, is_word}
+use Rattle.std.proofs.Common.{◌≡◌, List, [], ◌∷◌, ◌++◌, map, filter, Bool, true, false, ◌&&◌, ◌||◌, inl, inr, refl, sym, ◌∙◌, ap, append_assoc}
+use Rattle.std.specs.Prelude.{if◌then◌else◌, codes}
+use Rattle.rm_model.specs.Words.{Word}
 use Rattle.blif_format.specs.Text.{Line}
-use Rattle.blif_format.specs.Grammar.{before, before_end, begins_with, is_dotted, words_after, words_of, names_lines, is_command, follow, body_of}
+use Rattle.blif_format.specs.Grammar.{before, begins_with, is_dotted, words_after, words_of, names_lines, is_command, follow}
 use Rattle.blif_reader.specs.Drafts.{is_open, add_row}
 use Rattle.blif_reader.proofs.Compared.{word_tells}
 
@@ -50,7 +49,7 @@ names_more (k ∷ ks) l e = at (begins_with (codes ".names") k) refl (names_more
     at false i ih = rw i ih
 
 -- a row belongs to the last `.names` behind which only rows stand
-begins_dotted : (l : Line) → is_dotted l ≡ false → begins_with (codes ".names") l ≡ false
+pub begins_dotted : (l : Line) → is_dotted l ≡ false → begins_with (codes ".names") l ≡ false
 begins_dotted [] e = refl
 begins_dotted ([] ∷ ws) e = refl
 begins_dotted ((b ∷ bs) ∷ ws) e = elim (word_tells (codes ".names") (b ∷ bs)) [ inl t ↦ let wrong : true ≡ false = ap (λ (w : Word). is_dotted (w ∷ ws)) t.1 ∙ e in cc | inr t ↦ t.0 ]

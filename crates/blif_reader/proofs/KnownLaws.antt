@@ -1,6 +1,6 @@
 -- A line without fault has what its command wants.
-use Rattle.std.proofs.Common.{◌≡◌, ◌≢◌, ℕ, zero, suc, ◌<◌, ◌+◌, List, [], ◌∷◌, ◌++◌, map, length, Bool, true, false, not, ◌&&◌, ◌||◌, inl, inr, refl, sym, ◌∙◌, ap, subst, arith, Option, None, Some}
-use Rattle.std.specs.Prelude.{if◌then◌else◌, codes, nat_lt, is_some}
+use Rattle.std.proofs.Common.{◌≡◌, ℕ, ◌<◌, ◌+◌, List, [], ◌∷◌, ◌++◌, map, length, Bool, true, false, not, ◌||◌, refl, sym, ◌∙◌, ap, subst, arith, Option, None, Some}
+use Rattle.std.specs.Prelude.{if◌then◌else◌, codes, nat_lt}
 use Rattle.std.specs.Option.{option_map}
 use Rattle.std.specs.List.{filter_map}
 use Rattle.rm_model.specs.Words.{Word, is_word}
@@ -8,11 +8,9 @@ use Rattle.rm_model.specs.Value.{is_among}
 use Rattle.blif_lines.specs.Layout.{Spot}
 use Rattle.blif_format.specs.Text.{Line}
 use Rattle.blif_format.specs.Unsupported.{unsupported_words}
-use Rattle.blif_format.specs.Uses.{Command, Model, Inputs, Outputs, Clock, Names, Latch, End, command_of, parts_of, least_words, Use, use_of, Part, Title, Name, LatchType, Init, Extra, LatchInput, LatchOutput, Control}
-use Rattle.blif_format.specs.FirstFault.{or_else, fault, fault_if, parts_fault, part_fault, command_fault, first_line_fault, dotted_fault, row_fault, row_fault_in, words_fault, Said, OpenCover as SaidCover, is_dotted, with_row, after_line, latch_types, init_values}
-use Rattle.blif_format.specs.declared.refusal.FaultKind.{FaultKind}
+use Rattle.blif_format.specs.Uses.{Command, Model, Inputs, Outputs, Clock, Names, Latch, End, command_of, parts_of, least_words, Use, use_of, Part, Title, Name, LatchType, Init, Extra}
+use Rattle.blif_format.specs.FirstFault.{fault, fault_if, parts_fault, part_fault, command_fault, first_line_fault, dotted_fault, row_fault, row_fault_in, words_fault, Said, OpenCover as SaidCover, is_dotted, with_row, after_line, latch_types, init_values}
 use Rattle.blif_format.specs.declared.refusal.FaultKind.TheVariants.{BadLatchWord, MissingWord, ExtraWord, AfterEnd, NoModel, Unsupported, UnknownCommand, RowOutsideCover}
-use Rattle.blif_format.specs.declared.refusal.ReadRefusal.{ReadRefusal}
 use Rattle.blif_reader.specs.Rows.{cover_for, ends}
 use Rattle.blif_reader.specs.Drafts.{IsDraft, Changes, IsKnown, CurrentIs, AddsRow}
 use Rattle.blif_reader.specs.declared.draft.Draft.{Draft}
@@ -84,14 +82,14 @@ known_of had s k ss e = at k (fine_words had 0 (parts_of k ss) (first_none (part
     at Latch f e = latch_fine s ss f e
     at End f e = end_fine ss f
 
-goes_on : (said : Said) (s : Spot) (ss : List Spot) → words_fault said (s ∷ ss) ≡ None → said.ended ≡ false
+pub goes_on : (said : Said) (s : Spot) (ss : List Spot) → words_fault said (s ∷ ss) ≡ None → said.ended ≡ false
 goes_on said s ss e = at said.ended refl
   where
     at : (t : Bool) → said.ended ≡ t → said.ended ≡ false
     at true i = let wrong : fault AfterEnd s.place ≡ None = rw i at e in cc
     at false i = i
 
-first_goes : (said : Said) (s : Spot) (ss : List Spot) → words_fault said (s ∷ ss) ≡ None → said.began ≡ false → (is_word (codes ".model") s.word ≡ true) × (command_fault [] s Model ss ≡ None)
+pub first_goes : (said : Said) (s : Spot) (ss : List Spot) → words_fault said (s ∷ ss) ≡ None → said.began ≡ false → (is_word (codes ".model") s.word ≡ true) × (command_fault [] s Model ss ≡ None)
 first_goes said s ss e b =
     let n : first_line_fault s ss ≡ None = rw (goes_on said s ss e, b) at e in
     at (is_word (codes ".model") s.word) refl n
@@ -100,10 +98,10 @@ first_goes said s ss e b =
     at true i n = (i, rw i at n)
     at false i n = let wrong : fault NoModel s.place ≡ None = rw i at n in cc
 
-later_goes : (said : Said) (s : Spot) (ss : List Spot) → words_fault said (s ∷ ss) ≡ None → said.began ≡ true → (if is_dotted s.word then dotted_fault said.uses s ss (command_of s.word) else row_fault_in said.cover s ss) ≡ None
+pub later_goes : (said : Said) (s : Spot) (ss : List Spot) → words_fault said (s ∷ ss) ≡ None → said.began ≡ true → (if is_dotted s.word then dotted_fault said.uses s ss (command_of s.word) else row_fault_in said.cover s ss) ≡ None
 later_goes said s ss e b = rw (goes_on said s ss e, b) at e
 
-dotted_case : (k : Command) → is_dotted (word_for k) ≡ true
+pub dotted_case : (k : Command) → is_dotted (word_for k) ≡ true
 dotted_case Model = refl
 dotted_case Inputs = refl
 dotted_case Outputs = refl
@@ -112,7 +110,7 @@ dotted_case Names = refl
 dotted_case Latch = refl
 dotted_case End = refl
 
-dotted_goes : (had : List Use) (s : Spot) (ss : List Spot) (k : Command) → dotted_fault had s ss (Some k) ≡ None → (is_model k ≡ false) × (command_fault had s k ss ≡ None)
+pub dotted_goes : (had : List Use) (s : Spot) (ss : List Spot) (k : Command) → dotted_fault had s ss (Some k) ≡ None → (is_model k ≡ false) × (command_fault had s k ss ≡ None)
 dotted_goes had s ss Model e = cc
 dotted_goes had s ss Inputs e = (refl, e)
 dotted_goes had s ss Outputs e = (refl, e)

@@ -12,3 +12,11 @@ pub mod DraftLaws
 pub mod KnownLaws
 pub mod ReadLaws
 pub mod ModelLaws
+pub mod CleanLaws
+pub mod NameLaws
+pub mod FormLaws
+pub mod ShapeLaws
+pub mod TokenLaws
+pub mod WholeLaws
+pub mod SizeLaws
+pub mod ExistLaws

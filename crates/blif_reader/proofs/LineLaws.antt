@@ -1,19 +1,18 @@
 -- What a line adds to what is said.
-use Rattle.std.proofs.Common.{◌≡◌, ◌≢◌, ℕ, zero, suc, ◌+◌, ◌-◌, List, [], ◌∷◌, ◌++◌, map, length, Bool, true, false, not, ◌&&◌, ◌||◌, inl, inr, refl, sym, ◌∙◌, ap, subst, Option, None, Some, Result, Ok, Err}
-use Rattle.std.specs.Prelude.{if◌then◌else◌, OnOk, IfErr, codes, ◌==◌}
+use Rattle.std.proofs.Common.{◌≡◌, ℕ, ◌-◌, List, [], ◌∷◌, ◌++◌, length, Bool, true, ◌||◌, inl, inr, refl, sym, ◌∙◌, ap, subst, Option, None, Some, Result, Ok, Err}
+use Rattle.std.specs.Prelude.{if◌then◌else◌, OnOk, IfErr, codes}
 use Rattle.std.specs.List.{filter_map}
 use Rattle.std.specs.Option.{option_map}
 use Rattle.rm_model.specs.Words.{Word, is_word}
 use Rattle.blif_lines.specs.Layout.{Spot}
 use Rattle.blif_format.specs.Uses.{Command, Model, Inputs, Outputs, Clock, Names, Latch, End, command_in, command_words, command_of, parts_of, Use, use_of, uses_of}
-use Rattle.blif_format.specs.FirstFault.{or_else, fault_if, parts_fault, command_fault, first_line_fault, Said, OpenCover as SaidCover, is_dotted, with_row, after_line, fault}
+use Rattle.blif_format.specs.FirstFault.{command_fault, first_line_fault, Said, OpenCover as SaidCover, is_dotted, with_row, after_line, fault}
 use Rattle.blif_format.specs.declared.refusal.ReadRefusal.{ReadRefusal}
 use Rattle.blif_format.specs.declared.refusal.FaultKind.TheVariants.{NoModel}
 use Rattle.blif_reader.specs.Meant.{IsRefusal}
-use Rattle.blif_reader.specs.Tally.{IsTally, Tally}
+use Rattle.blif_reader.specs.Tally.{IsTally}
 use Rattle.blif_reader.specs.Rows.{cover_for, ends}
 use Rattle.blif_reader.specs.Said.{said_cover, IsSaid}
-use Rattle.blif_reader.specs.declared.check.OpenCover.{OpenCover}
 use Rattle.blif_reader.specs.declared.check.Checker.{Checker}
 use Rattle.blif_reader.proofs.Compared.{word_tells}
 
@@ -58,7 +57,7 @@ cover_case Names n o = refl
 cover_case Latch n o = refl
 cover_case End n o = refl
 
-uses_case : (s : Spot) (ss : List Spot) (k : Command) → command_of s.word ≡ Some k → uses_of (s ∷ ss) ≡ filter_map use_of (parts_of k ss)
+pub uses_case : (s : Spot) (ss : List Spot) (k : Command) → command_of s.word ≡ Some k → uses_of (s ∷ ss) ≡ filter_map use_of (parts_of k ss)
 uses_case s ss k h = at (command_of s.word) h
   where
     at : (o : Option Command) → o ≡ Some k → elim o as (λ _. List Use) [ None ↦ [] | Some command ↦ filter_map use_of (parts_of command ss) ] ≡ filter_map use_of (parts_of k ss)

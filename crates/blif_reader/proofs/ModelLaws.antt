@@ -1,31 +1,38 @@
 -- What the whole text says.
-use Rattle.std.proofs.Common.{◌≡◌, ◌≢◌, ℕ, zero, suc, List, [], ◌∷◌, ◌++◌, map, length, cond, Bool, true, false, not, ◌&&◌, ◌||◌, inl, inr, refl, sym, ◌∙◌, ap, subst, append_assoc, Option, None, Some}
-use Rattle.std.specs.Prelude.{◌⊎◌, if◌then◌else◌, codes, slice_get, position, replicate, nat_lt}
-use Rattle.std.specs.List.{filter_map, position_or_len}
+use Rattle.std.proofs.Common.{◌≡◌, ℕ, zero, suc, List, [], ◌∷◌, ◌++◌, map, filter, length, cond, Bool, true, false, not, inl, inr, refl, sym, ◌∙◌, ap, subst, Option, None, Some}
+use Rattle.std.specs.Prelude.{◌⊎◌, if◌then◌else◌, codes, position, replicate, nat_lt}
+use Rattle.std.specs.List.{cons_option, filter_map, position_or_len}
 use Rattle.std.specs.Option.{option_map}
 use Rattle.rm_base.specs.declared.numbers.Place.{Place}
 use Rattle.rm_model.specs.Words.{Word, is_word}
-use Rattle.rm_model.specs.Value.{IsRanked}
-use Rattle.rm_model.specs.WellFormed.{IsWellFormed}
+use Rattle.rm_model.specs.Value.{IsRanked, source_names, observed_names}
+use Rattle.rm_model.specs.WellFormed.{driven_names, is_distinct, IsWellFormed}
 use Rattle.rm_model.specs.Ranks.{cover_of, rank_above, rank_by, ranks_below, ranks_of, highest, first_without_rank}
 use Rattle.rm_model.specs.declared.parts.Cover.{Cover}
 use Rattle.rm_model.specs.declared.parts.Model.{Model}
-use Rattle.std.proofs.Common.{◌<◌, ◌≤◌, ◌+◌, arith}
+use Rattle.std.proofs.Common.{◌<◌, ◌≤◌, ◌+◌, ◌*◌, arith}
 use Rattle.std.specs.Prelude.{is_none}
 use Rattle.std.proofs.lemmas.Bool.{lt-ltb, le-ltb, ltb-true, ltb-false}
-use Rattle.blif_lines.specs.Layout.{layout, lines_of}
-use Rattle.blif_format.specs.Text.{Line, cover_words, row_words}
-use Rattle.blif_format.specs.Grammar.{names_lines, before_end, Reads}
-use Rattle.blif_format.specs.FirstFault.{Said, nothing_said, or_else, lines_fault, said_by, undriven_fault, rank_fault, first_fault, first_unranked, cover_in, cover_names, bare_model}
-use Rattle.blif_format.specs.declared.refusal.FaultKind.TheVariants.{NoRank}
+use Rattle.blif_lines.specs.Layout.{Spot, Logical, words_in, has_words, layout, lines_of}
+use Rattle.blif_format.specs.Text.{cover_words}
+use Rattle.blif_format.specs.Grammar.{before, is_dotted, names_lines, before_end, Reads}
+use Rattle.blif_format.specs.FirstFault.{Said, nothing_said, after_line, or_else, flaw_fault, words_fault, lines_fault, said_by, undriven_fault, rank_fault, first_fault, first_unranked, cover_in, cover_names, bare_model}
+use Rattle.blif_format.specs.declared.refusal.FaultKind.TheVariants.{NoModel, NoRank}
 use Rattle.blif_format.specs.declared.refusal.ReadRefusal.{ReadRefusal}
 use Rattle.blif_format.specs.declared.refusal.ReadRefusal.TheVariants.{Fault, Limit, NoMemory}
+use Rattle.blif_reader.specs.Bounds.{covers_weight}
 use Rattle.blif_reader.specs.Meant.{IsRefusal}
 use Rattle.blif_reader.specs.Drafts.{all_covers, Begins, Ends, IsDraft, model_in}
 use Rattle.blif_reader.specs.Progress.{bare_cover, IsRead}
 use Rattle.blif_reader.specs.Ranked.{fault_at, rank_found}
 use Rattle.blif_reader.specs.declared.check.Checker.{Checker}
 use Rattle.blif_reader.specs.declared.draft.Draft.{Draft}
+use Rattle.blif_reader.proofs.RowLaws.{first_none, second_none}
+use Rattle.blif_reader.proofs.NameLaws.{all_uses}
+use Rattle.blif_reader.proofs.ExistLaws.{draft_exists}
+use Rattle.blif_reader.proofs.TokenLaws.{line_bytes, text_size}
+use Rattle.blif_reader.proofs.SizeLaws.{sources_small, observed_small, covers_small, weight_small}
+use Rattle.blif_reader.proofs.WholeLaws.{IsSound, sound, well_formed}
 
 -- the first place without rank
 abbrev first_gap : List (Option ℕ) → Option ℕ
@@ -134,9 +141,8 @@ lines_first text (Fault kind place) h = ap (λ (o : Option ReadRefusal). or_else
 lines_first text (Limit quantity count place) h = ap (λ (o : Option ReadRefusal). or_else o (or_else (undriven_fault (said_by nothing_said (layout text)).uses) (rank_fault (filter_map cover_in (layout text))))) h
 
 -- the model is read
-pub reads : (text : List ℕ) (said : Said) (c : Checker) (d : Draft) (places : List Place) → IsRead text said c d places → said.began ≡ true → IsWellFormed (model_in d) → IsRanked (model_in d) → Reads (lines_of text) (model_in d)
-reads text said c d places r began formed ranked =
-    let i : IsDraft said (lines_of text) d = r.drafted in
+pub reads : (text : List ℕ) (said : Said) (d : Draft) → IsDraft said (lines_of text) d → said.began ≡ true → IsWellFormed (model_in d) → IsRanked (model_in d) → Reads (lines_of text) (model_in d)
+reads text said d i began formed ranked =
     record {
       first = subst (λ (t : Bool). Begins t (lines_of text) d.name) began i.begin;
       ending = ending said.ended refl i.ending;
@@ -153,3 +159,88 @@ reads text said c d places r began formed ranked =
     ending : (t : Bool) → said.ended ≡ t → Ends said.ended (lines_of text) → (lines_of text ≡ before_end (lines_of text)) ⊎ (lines_of text ≡ before_end (lines_of text) ++ (codes ".end" ∷ []) ∷ [])
     ending true e h = inr (subst (λ (t : Bool). Ends t (lines_of text)) e h)
     ending false e h = inl (sym (subst (λ (t : Bool). Ends t (lines_of text)) e h))
+
+-- WHAT IS KNOWN OF THE MODEL
+pub began_is : (text : List ℕ) (said : Said) (c : Checker) (d : Draft) (places : List Place) → IsRead text said c d places → c.began ≡ true → said.began ≡ true
+began_is text said c d places r e = r.checked.began ∙ e
+
+pub is_formed : (text : List ℕ) (c : Checker) (d : Draft) (places : List Place) → IsRead text (said_by nothing_said (layout text)) c d places → lines_fault nothing_said (layout text) ≡ None → undriven_fault (said_by nothing_said (layout text)).uses ≡ None → (said_by nothing_said (layout text)).began ≡ true → IsWellFormed (model_in d)
+is_formed text c d places r none driven began = well_formed text (said_by nothing_said (layout text)) d none driven began r.drafted
+
+map_length : {A B : Type 0} (f : A → B) (xs : List A) → length (map f xs) ≡ length xs
+map_length f [] = refl
+map_length f (x ∷ xs) = ap suc (map_length f xs)
+
+-- each cover has a place
+pub are_placed : (text : List ℕ) (said : Said) (c : Checker) (d : Draft) (places : List Place) → IsRead text said c d places → length places ≡ length (model_in d).covers
+are_placed text said c d places r =
+    ap length (sym r.places_are)
+    ∙ map_length (λ (e : Place × Cover). e.0) (filter_map cover_in (layout text))
+    ∙ sym (map_length (λ (e : Place × Cover). e.1) (filter_map cover_in (layout text)))
+    ∙ ap length (r.covers_are ∙ ap (map bare_cover) r.drafted.covers)
+    ∙ map_length bare_cover (map cover_words (all_covers d))
+    ∙ map_length cover_words (all_covers d)
+
+pub few_covers : (text : List ℕ) (said : Said) (d : Draft) → IsDraft said (lines_of text) d → length (all_covers d) ≤ length text
+few_covers text said d is =
+    let few : length (all_covers d) ≤ line_bytes (lines_of text) = covers_small (lines_of text) (all_covers d) is.covers in
+    let most : line_bytes (lines_of text) ≤ length text = text_size text in omega arith
+
+pub small_weight : (text : List ℕ) (said : Said) (d : Draft) → IsDraft said (lines_of text) d → covers_weight (all_covers d) ≤ 2 * length text
+small_weight text said d is =
+    let few : covers_weight (all_covers d) ≤ 2 * line_bytes (lines_of text) = weight_small (lines_of text) (all_covers d) is.covers in
+    let most : line_bytes (lines_of text) ≤ length text = text_size text in omega arith
+
+pub few_sources : (text : List ℕ) (said : Said) (d : Draft) → lines_fault nothing_said (layout text) ≡ None → IsDraft said (lines_of text) d → length (source_names (model_in d)) ≤ 1024
+few_sources text said d none is = let s : IsSound text d = sound text said d none is in sources_small (all_uses (layout text)) (model_in d) s.names s.clean
+
+pub few_observed : (text : List ℕ) (said : Said) (d : Draft) → lines_fault nothing_said (layout text) ≡ None → IsDraft said (lines_of text) d → length (observed_names (model_in d)) ≤ 4096
+few_observed text said d none is = let s : IsSound text d = sound text said d none is in observed_small (all_uses (layout text)) (model_in d) s.names s.clean
+
+-- A TEXT WITHOUT FAULT
+no_unranked : (ps : List Place) (rs : List (Option ℕ)) → length rs ≤ length ps → first_unranked ps rs ≡ None → first_gap rs ≡ None
+no_unranked [] [] h e = refl
+no_unranked [] (r ∷ rs) h e = absurd (omega arith)
+no_unranked (p ∷ ps) [] h e = refl
+no_unranked (p ∷ ps) (None ∷ rs) h e = let wrong : Some (Fault NoRank p) ≡ None = e in cc
+no_unranked (p ∷ ps) (Some n ∷ rs) h e = ap (option_map (λ k. suc k)) (no_unranked ps rs (omega arith) e)
+
+covers_in_lines : (ls : List Logical) → map (λ (e : Place × Cover). e.1) (filter_map cover_in ls) ≡ map bare_cover (names_lines (filter has_words (map words_in ls)))
+covers_in_lines [] = refl
+covers_in_lines (l ∷ ls) = at l.tokens refl (covers_in_lines ls)
+  where
+    at : (ts : List Spot) → l.tokens ≡ ts → map (λ (e : Place × Cover). e.1) (filter_map cover_in ls) ≡ map bare_cover (names_lines (filter has_words (map words_in ls))) → map (λ (e : Place × Cover). e.1) (filter_map cover_in (l ∷ ls)) ≡ map bare_cover (names_lines (filter has_words (map words_in (l ∷ ls))))
+    at [] e ih = rw e ih
+    at (s ∷ ss) e ih = rw e (by (is_word (codes ".names") s.word) refl)
+      where
+        by : (b : Bool) → is_word (codes ".names") s.word ≡ b → map (λ (e : Place × Cover). e.1) (cons_option (if b then Some (s.place, cover_names (map (λ (t : Spot). t.word) ss)) else None) (filter_map cover_in ls)) ≡ map bare_cover (if b then (map (λ (t : Spot). t.word) ss, before is_dotted (filter has_words (map words_in ls))) ∷ names_lines (filter has_words (map words_in ls)) else names_lines (filter has_words (map words_in ls)))
+        by true i = ap (λ (cs : List Cover). cover_names (map (λ (t : Spot). t.word) ss) ∷ cs) ih
+        by false i = ih
+
+began_by : (said : Said) (ls : List Logical) → lines_fault said ls ≡ None → (said_by said ls).began ≡ true
+began_by said [] e = at said.began refl
+  where
+    at : (t : Bool) → said.began ≡ t → said.began ≡ true
+    at true h = h
+    at false h = let wrong : Some (Fault NoModel (record { line = 1; column = 1 })) ≡ None = rw h at e in cc
+began_by said (l ∷ ls) e = began_by (after_line said l.tokens) ls (second_none (words_fault said l.tokens) (lines_fault (after_line said l.tokens) ls) (second_none (flaw_fault l.flaw) (or_else (words_fault said l.tokens) (lines_fault (after_line said l.tokens) ls)) e))
+
+no_rank_missing : (text : List ℕ) (d : Draft) → names_lines (lines_of text) ≡ map cover_words (all_covers d) → length (ranks_of (model_in d)) ≡ length (all_covers d) → rank_fault (filter_map cover_in (layout text)) ≡ None → first_without_rank (model_in d) ≡ None
+no_rank_missing text d covers long none =
+    let same : map (λ (e : Place × Cover). e.1) (filter_map cover_in (layout text)) ≡ map strip (all_covers d) = covers_in_lines (layout text) ∙ ap (map bare_cover) covers ∙ bare_strip (all_covers d) in
+    let places : length (map (λ (e : Place × Cover). e.0) (filter_map cover_in (layout text))) ≡ length (all_covers d) =
+    map_length (λ (e : Place × Cover). e.0) (filter_map cover_in (layout text)) ∙ sym (map_length (λ (e : Place × Cover). e.1) (filter_map cover_in (layout text))) ∙ ap length same ∙ length_strip (all_covers d) in
+    let found : first_unranked (map (λ (e : Place × Cover). e.0) (filter_map cover_in (layout text))) (ranks_of (model_in d)) ≡ None =
+    ap (first_unranked (map (λ (e : Place × Cover). e.0) (filter_map cover_in (layout text)))) (sym (ranks_strip (model_in d)) ∙ ap (λ (cs : List Cover). ranks_of (bare_model cs)) (sym same)) ∙ none in
+    gap_position (ranks_of (model_in d)) ∙ no_unranked (map (λ (e : Place × Cover). e.0) (filter_map cover_in (layout text))) (ranks_of (model_in d)) (omega arith) found
+
+pub text_reads : ((m : Model) → length (ranks_of m) ≡ length m.covers) → ((m : Model) → is_distinct (driven_names m) ≡ true → first_without_rank m ≡ None → IsRanked m) → (text : List ℕ) → first_fault text ≡ None → (m : Model) × Reads (lines_of text) m
+text_reads long ranked text none =
+    let lines : lines_fault nothing_said (layout text) ≡ None = first_none (lines_fault nothing_said (layout text)) (or_else (undriven_fault (said_by nothing_said (layout text)).uses) (rank_fault (filter_map cover_in (layout text)))) none in
+    let later : or_else (undriven_fault (said_by nothing_said (layout text)).uses) (rank_fault (filter_map cover_in (layout text))) ≡ None = second_none (lines_fault nothing_said (layout text)) (or_else (undriven_fault (said_by nothing_said (layout text)).uses) (rank_fault (filter_map cover_in (layout text)))) none in
+    let driven : undriven_fault (said_by nothing_said (layout text)).uses ≡ None = first_none (undriven_fault (said_by nothing_said (layout text)).uses) (rank_fault (filter_map cover_in (layout text))) later in
+    let drafted = draft_exists (layout text) lines in
+    let began : (said_by nothing_said (layout text)).began ≡ true = began_by nothing_said (layout text) lines in
+    let formed : IsWellFormed (model_in drafted.0) = well_formed text (said_by nothing_said (layout text)) drafted.0 lines driven began drafted.1 in
+    let ranks : first_without_rank (model_in drafted.0) ≡ None = no_rank_missing text drafted.0 drafted.1.covers (long (model_in drafted.0)) (second_none (undriven_fault (said_by nothing_said (layout text)).uses) (rank_fault (filter_map cover_in (layout text))) later) in
+    (model_in drafted.0, reads text (said_by nothing_said (layout text)) drafted.0 drafted.1 began formed (ranked (model_in drafted.0) formed.driven_once ranks))

@@ -1,6 +1,6 @@
 -- The words behind a command, by their indices.
-use Rattle.std.proofs.Common.{◌≡◌, ◌≢◌, ℕ, zero, suc, ◌+◌, ◌≤◌, ◌<◌, List, [], ◌∷◌, ◌++◌, map, length, take, drop, Bool, true, false, not, ◌&&◌, ◌||◌, inl, inr, refl, sym, ◌∙◌, ap, arith, add-one, append_assoc, Option, None, Some, Result, Ok, Err}
-use Rattle.std.specs.Prelude.{if◌then◌else◌, slice_get, ◌==◌, nat_lt, OnOk, IfErr}
+use Rattle.std.proofs.Common.{◌≡◌, ℕ, zero, suc, ◌+◌, ◌≤◌, ◌<◌, List, [], ◌∷◌, ◌++◌, map, length, take, drop, Bool, false, inl, inr, refl, sym, ◌∙◌, ap, arith, add-one, append_assoc, Option, None, Some}
+use Rattle.std.specs.Prelude.{if◌then◌else◌, slice_get, ◌==◌, nat_lt}
 use Rattle.std.specs.List.{filter_map}
 use Rattle.std.proofs.Common.{get_or, subst}
 use Rattle.std.proofs.lemmas.List.{drop_all}
@@ -9,13 +9,13 @@ use Rattle.blif_lines.specs.declared.line.Token.{Token}
 use Rattle.std.proofs.lemmas.Bool.Decides.{eqb_tells}
 use Rattle.std.proofs.lemmas.List.Elements.{filter_map-append}
 use Rattle.blif_lines.specs.Layout.{Spot}
-use Rattle.blif_format.specs.Uses.{Command, Model, Inputs, Outputs, Clock, Names, Latch, End, Role, Input, ClockInput, Output, CoverInput, CoverOutput, LatchInput, LatchOutput, Control, Part, Title, Name, LatchType, Init, Extra, all_are, in_parts, names_parts, latch_parts, parts_of, Use, use_of}
+use Rattle.blif_format.specs.Uses.{Command, Model, Inputs, Outputs, Clock, Names, Latch, End, Input, ClockInput, Output, CoverInput, CoverOutput, LatchInput, LatchOutput, Control, Part, Title, Name, LatchType, Init, Extra, all_are, in_parts, names_parts, latch_parts, parts_of, Use, use_of}
 use Rattle.blif_format.specs.FirstFault.{or_else, fault_if, part_fault, parts_fault, command_fault}
 use Rattle.blif_format.specs.Uses.{least_words}
 use Rattle.blif_format.specs.declared.refusal.FaultKind.TheVariants.{MissingWord}
 use Rattle.blif_format.specs.declared.refusal.ReadRefusal.{ReadRefusal}
 use Rattle.blif_format.specs.declared.refusal.ReadRefusal.TheVariants.{Fault, Limit, NoMemory}
-use Rattle.blif_reader.specs.Meant.{refusal_of, IsRefusal}
+use Rattle.blif_reader.specs.Meant.{IsRefusal}
 use Rattle.blif_reader.specs.Parts.{latch_part_at, part_in}
 
 some_is : (t s : Spot) → Some t ≡ Some s → t ≡ s

@@ -1,14 +1,11 @@
 -- As what a name stands in some uses.
-use Rattle.std.proofs.Common.{◌≡◌, ◌≢◌, ℕ, ◌+◌, zero, suc, List, [], ◌∷◌, ◌++◌, map, filter, length, Bool, true, false, not, ◌&&◌, ◌||◌, inl, inr, refl, sym, ◌∙◌, ap, arith}
+use Rattle.std.proofs.Common.{◌≡◌, ◌+◌, List, [], ◌∷◌, ◌++◌, Bool, true, false, ◌&&◌, ◌||◌, refl, ◌∙◌, ap, arith}
 use Rattle.std.specs.Prelude.{if◌then◌else◌}
-use Rattle.std.specs.List.{list_any}
-use Rattle.std.proofs.lemmas.List.Folds.{list_any-append}
 use Rattle.rm_model.specs.Words.{Word, is_word}
 use Rattle.rm_model.specs.Value.{is_among}
-use Rattle.blif_format.specs.Uses.{Role, Input, ClockInput, Output, CoverInput, CoverOutput, LatchInput, LatchOutput, Control, Use, is_source_role, is_observed_role, is_driver, drives_twice, lists_twice, names_in, distinct_count}
-use Rattle.blif_reader.specs.declared.names.Flags.{Flags}
-use Rattle.blif_reader.specs.Tally.{plays, is_input, is_clock, is_latch, is_cover, is_output, any_role, flags_in, has_source, has_driver, is_driven_twice, is_listed_twice, with_role}
-use Rattle.blif_reader.proofs.Compared.{or_true, or_false, or_assoc, word_turned, among_more, word_is}
+use Rattle.blif_format.specs.Uses.{Role, Input, ClockInput, Output, CoverInput, CoverOutput, LatchInput, LatchOutput, Control, Use, is_source_role, is_driver, drives_twice, lists_twice, names_in, distinct_count}
+use Rattle.blif_reader.specs.Tally.{plays, is_input, is_clock, is_latch, is_cover, is_output, flags_in, has_source, has_driver, is_driven_twice, is_listed_twice}
+use Rattle.blif_reader.proofs.Compared.{word_turned, among_more, word_is}
 
 or_shuffle : (p q w a b : Bool) → (((p || q) && w) || (a || b)) ≡ (((p && w) || a) || ((q && w) || b))
 or_shuffle true q true a b = refl

@@ -1,21 +1,22 @@
 -- How reading goes on.
-use Rattle.std.proofs.Common.{◌≡◌, ◌≢◌, ◌<◌, arith, ℕ, zero, suc, List, [], ◌∷◌, ◌++◌, map, filter, length, Bool, true, false, not, ◌&&◌, ◌||◌, inl, inr, refl, sym, ◌∙◌, ap, subst, append_assoc, Option, None, Some, Result, Ok, Err}
-use Rattle.std.specs.Prelude.{if◌then◌else◌, codes, OnOk}
+use Rattle.std.proofs.Common.{◌≡◌, ◌<◌, ◌≤◌, ◌+◌, ◌-◌, ◌^◌, arith, take, drop, All, ℕ, suc, List, [], ◌∷◌, ◌++◌, map, filter, length, Bool, true, false, not, refl, sym, ◌∙◌, ap, subst, append_assoc, Option, None, Some, Result, Ok, Err}
+use Rattle.std.specs.Prelude.{if◌then◌else◌, codes, OnOk, min}
+use Rattle.std.proofs.lemmas.List.{length-take}
+use Rattle.std.proofs.Common.{length-drop}
+use Rattle.std.proofs.lemmas.List.Elements.{All-head, All-tail}
 use Rattle.std.specs.List.{filter_map, cons_option}
-use Rattle.std.specs.Option.{option_map}
-use Rattle.std.proofs.lemmas.List.Elements.{filter_map-append}
 use Rattle.rm_base.specs.declared.numbers.Place.{Place}
 use Rattle.rm_base.specs.declared.numbers.NoMemory.{NoMemory as Want}
 use Rattle.rm_model.specs.Words.{Word, is_word}
 use Rattle.rm_model.specs.declared.parts.Cover.{Cover}
-use Rattle.blif_lines.specs.Layout.{Spot, Flaw, BadByteAt, OpenJoinAt, Logical, layout, lines_of, words_in, has_words}
-use Rattle.blif_lines.specs.Reading.{pending, spot_of, StandsFirst}
+use Rattle.blif_lines.specs.Layout.{Spot, Flaw, Logical, layout, lines_of, words_in, has_words}
+use Rattle.blif_lines.specs.Reading.{pending, spot_of, IsWithin, StandsFirst}
 use Rattle.blif_lines.specs.declared.line.Token.{Token}
 use Rattle.blif_format.specs.Text.{Line}
 use Rattle.blif_format.specs.Grammar.{names_lines, begins_with, words_after}
 use Rattle.blif_format.specs.Uses.{Command, command_of}
-use Rattle.blif_format.specs.FirstFault.{Said, OpenCover as SaidCover, nothing_said, or_else, fault, fault_if, flaw_fault, words_fault, after_line, lines_fault, said_by, cover_in, cover_names, row_fault}
-use Rattle.blif_format.specs.declared.refusal.FaultKind.TheVariants.{BadByte, OpenJoin, NoModel}
+use Rattle.blif_format.specs.FirstFault.{Said, OpenCover as SaidCover, nothing_said, or_else, fault_if, flaw_fault, words_fault, after_line, lines_fault, said_by, cover_in, cover_names, row_fault}
+use Rattle.blif_format.specs.declared.refusal.FaultKind.TheVariants.{NoModel}
 use Rattle.blif_format.specs.declared.refusal.ReadRefusal.{ReadRefusal}
 use Rattle.blif_format.specs.declared.refusal.ReadRefusal.TheVariants.{Fault, Limit, NoMemory}
 use Rattle.blif_reader.specs.Lines.{words_at}
@@ -26,6 +27,7 @@ use Rattle.blif_reader.specs.Meant.{IsRefusal}
 use Rattle.blif_reader.specs.declared.check.Checker.{Checker}
 use Rattle.blif_reader.specs.declared.draft.Draft.{Draft}
 use Rattle.blif_reader.proofs.KnownLaws.{command_added, row_added}
+use Rattle.blif_reader.proofs.TokenLaws.{word_bytes, line_bytes, text_size}
 
 pub words_same : (text : List ℕ) (ws : List Token) → map (λ (t : Spot). t.word) (map (spot_of text) ws) ≡ words_at text ws
 words_same text [] = refl
@@ -62,7 +64,7 @@ pending_said said (l ∷ ls) = at l.tokens l.flaw refl refl (pending_said said l
     at [] (Some f) e g ih = rw (e, g) refl
     at (t ∷ ts) f e g ih = rw e refl
 
-pending_words : (ls : List Logical) → filter has_words (map words_in ls) ≡ filter has_words (map words_in (pending ls))
+pub pending_words : (ls : List Logical) → filter has_words (map words_in ls) ≡ filter has_words (map words_in (pending ls))
 pending_words [] = refl
 pending_words (l ∷ ls) = at l.tokens l.flaw refl refl (pending_words ls)
   where
@@ -210,7 +212,7 @@ given_line text other tokens line ls ms e f g =
 pub progress_start : (text : List ℕ) (c : Checker) (d : Draft) → IsSaid nothing_said c → IsDraft nothing_said [] d → Progress text (layout text) c d []
 progress_start text c d said drafted = record { said = nothing_said; lines = []; named = []; faults = refl; uses = refl; words = refl; covers = refl; places_are = refl; covers_are = refl; checked = said; drafted = drafted }
 
-append_end : {A : Type 0} (xs : List A) → xs ++ [] ≡ xs
+pub append_end : {A : Type 0} (xs : List A) → xs ++ [] ≡ xs
 append_end [] = refl
 append_end (x ∷ xs) = ap (λ ys. x ∷ ys) (append_end xs)
 
@@ -229,3 +231,37 @@ progress_end text ls c d places p e =
 
 pub progress_fault_end : (text : List ℕ) (ls : List Logical) (c : Checker) (d : Draft) (places : List Place) → Progress text ls c d places → pending ls ≡ [] → lines_fault nothing_said (layout text) ≡ fault_if (not c.began) NoModel (record { line = 1; column = 1 })
 progress_fault_end text ls c d places p e = p.faults ∙ pending_fault p.said ls ∙ ap (lines_fault p.said) e ∙ ap (λ (t : Bool). fault_if (not t) NoModel (record { line = 1; column = 1 })) p.checked.began
+
+-- A LINE HAS NO MORE WORDS THAN THE TEXT HAS BYTES
+bytes_append : (xs ys : List Line) → line_bytes (xs ++ ys) ≡ line_bytes xs + line_bytes ys
+bytes_append [] ys = omega arith
+bytes_append (x ∷ xs) ys = let h : line_bytes (xs ++ ys) ≡ line_bytes xs + line_bytes ys = bytes_append xs ys in omega arith
+
+some_bytes : (text : List ℕ) (t : Token) → IsWithin text t → 1 ≤ length (spot_of text t).word
+some_bytes text t w =
+    let some : t.start < t.end = w.some in
+    let end : t.end ≤ length text = w.end in
+    let left : length (drop t.start text) ≡ length text - t.start = length-drop t.start text in
+    let got : length (take (t.end - t.start) (drop t.start text)) ≡ min (t.end - t.start) (length (drop t.start text)) = length-take (t.end - t.start) (drop t.start text) in
+    omega arith
+
+words_few : (text : List ℕ) (line : List Token) → All (IsWithin text) line → length line ≤ word_bytes (map (λ (s : Spot). s.word) (map (spot_of text) line))
+words_few text [] h = omega arith
+words_few text (t ∷ ts) h =
+    let one : 1 ≤ length (spot_of text t).word = some_bytes text t (All-head (IsWithin text) t ts h) in
+    let rest : length ts ≤ word_bytes (map (λ (s : Spot). s.word) (map (spot_of text) ts)) = words_few text ts (All-tail (IsWithin text) t ts h) in omega arith
+
+first_bytes : (ws : Line) (ls : List Line) → word_bytes ws ≤ line_bytes (filter has_words (ws ∷ ls))
+first_bytes [] ls = omega arith
+first_bytes (w ∷ ws) ls = omega arith
+
+pub tokens_few : (text other : List ℕ) (tokens line : List Token) (ls ms : List Logical) (c : Checker) (d : Draft) (places : List Place) → Progress text ls c d places → other ≡ text → tokens ≡ line → pending ls ≡ record { tokens = map (spot_of other) line; flaw = None } ∷ ms → All (IsWithin other) line → length text ≤ 2 ^ 24 → length tokens ≤ 2 ^ 32
+tokens_few text other tokens line ls ms c d places p e f g w small =
+    let here : pending ls ≡ record { tokens = map (spot_of text) tokens; flaw = None } ∷ ms = given_line text other tokens line ls ms e f g in
+    let within : All (IsWithin text) tokens = subst (λ (x : List ℕ). All (IsWithin x) tokens) e (subst (All (IsWithin other)) (sym f) w) in
+    let few : length tokens ≤ word_bytes (map (λ (s : Spot). s.word) (map (spot_of text) tokens)) = words_few text tokens within in
+    let one : word_bytes (map (λ (s : Spot). s.word) (map (spot_of text) tokens)) ≤ line_bytes (filter has_words (map (λ (s : Spot). s.word) (map (spot_of text) tokens) ∷ map words_in ms)) = first_bytes (map (λ (s : Spot). s.word) (map (spot_of text) tokens)) (map words_in ms) in
+    let rest : line_bytes (filter has_words (map words_in ls)) ≡ line_bytes (filter has_words (map (λ (s : Spot). s.word) (map (spot_of text) tokens) ∷ map words_in ms)) = ap line_bytes (pending_words ls ∙ ap (λ (ns : List Logical). filter has_words (map words_in ns)) here) in
+    let whole : line_bytes (lines_of text) ≡ line_bytes p.lines + line_bytes (filter has_words (map words_in ls)) = ap line_bytes p.words ∙ bytes_append p.lines (filter has_words (map words_in ls)) in
+    let most : line_bytes (lines_of text) ≤ length text = text_size text in
+    omega arith

@@ -1,9 +1,12 @@
 -- A row that is added to a cover.
-use Rattle.std.proofs.Common.{◌≡◌, ◌≢◌, ℕ, zero, suc, ◌+◌, ◌≤◌, List, [], ◌∷◌, ◌++◌, map, length, Bool, true, false, not, ◌&&◌, ◌||◌, inl, inr, refl, sym, ◌∙◌, ap, subst, arith, append_assoc, Option, None, Some, get_or}
+use Rattle.std.proofs.Common.{◌≡◌, ℕ, suc, List, [], ◌∷◌, ◌++◌, map, length, Bool, true, false, not, ◌&&◌, ◌||◌, inl, inr, refl, sym, ◌∙◌, ap, subst, arith, Option, None, Some}
 use Rattle.std.specs.Prelude.{if◌then◌else◌, codes, ◌==◌}
-use Rattle.std.specs.List.{list_all}
 use Rattle.std.proofs.lemmas.Bool.Decides.{eqb_tells}
 use Rattle.std.proofs.lemmas.Bool.{eqb-true}
+use Rattle.std.specs.Prelude.{All}
+use Rattle.std.proofs.lemmas.List.Elements.{All-nil, All-cons, All-head, All-tail, All-same, All-push}
+use Rattle.rm_model.specs.WellFormed.{IsWellFormedCover}
+use Rattle.blif_reader.proofs.PartLaws.{length_map}
 use Rattle.blif_lines.specs.Reading.{spot_of}
 use Rattle.blif_lines.specs.declared.line.Token.{Token}
 use Rattle.rm_base.specs.declared.numbers.Place.{Place}
@@ -17,9 +20,9 @@ use Rattle.blif_format.specs.declared.refusal.FaultKind.{FaultKind}
 use Rattle.blif_format.specs.declared.refusal.FaultKind.TheVariants.{RowCharacter, MixedCover, RowLength}
 use Rattle.blif_format.specs.declared.refusal.ReadRefusal.{ReadRefusal}
 use Rattle.blif_reader.specs.Lines.{are_literals}
-use Rattle.blif_reader.specs.Drafts.{opt_list, all_covers, ending_of, RowsAre, CurrentIs, HasRow, AddsRow, add_row, last_token, inputs_in}
+use Rattle.blif_reader.specs.Drafts.{opt_list, all_covers, ending_of, RowsAre, CurrentIs, HasRow, AddsRow, IsShaped, add_row, last_token, inputs_in}
 use Rattle.blif_reader.specs.declared.draft.Draft.{Draft}
-use Rattle.blif_reader.proofs.Compared.{word_tells, word_same, word_is}
+use Rattle.blif_reader.proofs.Compared.{word_tells, word_is}
 
 pub first_none : (a b : Option ReadRefusal) → or_else a b ≡ None → a ≡ None
 first_none None b e = refl
@@ -108,23 +111,36 @@ pub not_not : (t : Bool) → not t ≡ false → t ≡ true
 not_not true h = refl
 not_not false h = cc
 
-pub row_passes : (text : List ℕ) (o : SaidCover) (first : Token) (rest : List Token) (on : Bool) → on ≡ is_word (codes "1") (spot_of text (last_token first rest)).word → row_fault o (spot_of text first) (map (spot_of text) rest) ≡ None → IsRow o (spot_of text first) (map (spot_of text) rest) (inputs_in (spot_of text first).word rest) on
-row_passes text o first rest on e none = at (o.inputs == 0) refl rest e none
+-- the last word of a row, and its input part
+abbrev pub last_spot : Spot → List Spot → Spot
+last_spot s [] = s
+last_spot s (t ∷ ts) = t
+
+abbrev pub inputs_before : Word → List Spot → Word
+inputs_before word [] = []
+inputs_before word (t ∷ ts) = word
+
+pub row_spots : (o : SaidCover) (s : Spot) (ss : List Spot) (on : Bool) → on ≡ is_word (codes "1") (last_spot s ss).word → row_fault o s ss ≡ None → IsRow o s ss (inputs_before s.word ss) on
+row_spots o s ss on e none = at (o.inputs == 0) refl ss e none
   where
-    at : (z : Bool) → (o.inputs == 0) ≡ z → (rest : List Token) → on ≡ is_word (codes "1") (spot_of text (last_token first rest)).word → row_fault o (spot_of text first) (map (spot_of text) rest) ≡ None → IsRow o (spot_of text first) (map (spot_of text) rest) (inputs_in (spot_of text first).word rest) on
-    at true z [] e none = let n : or_else (ending_fault o.ending (spot_of text first)) None ≡ None = rw z at none in row_alone o (spot_of text first) on e z (first_none (ending_fault o.ending (spot_of text first)) None n)
-    at true z (t ∷ ts) e none = let n : or_else (ending_fault o.ending (spot_of text first)) (extra_fault (map (spot_of text) (t ∷ ts))) ≡ None = rw z at none in let wrong : extra_fault (map (spot_of text) (t ∷ ts)) ≡ None = second_none (ending_fault o.ending (spot_of text first)) (extra_fault (map (spot_of text) (t ∷ ts))) n in cc
-    at false z rest e none =
-        let n : or_else (fault_if (not (length (spot_of text first).word == o.inputs)) RowLength first.place) (or_else (character_fault first.place (spot_of text first).word) (rest_fault o.ending first.place (map (spot_of text) rest))) ≡ None = rw z at none in
-        let long : (length (spot_of text first).word == o.inputs) ≡ true = not_not (length (spot_of text first).word == o.inputs) (not_fault (not (length (spot_of text first).word == o.inputs)) RowLength first.place (first_none (fault_if (not (length (spot_of text first).word == o.inputs)) RowLength first.place) (or_else (character_fault first.place (spot_of text first).word) (rest_fault o.ending first.place (map (spot_of text) rest))) n)) in
-        let m : or_else (character_fault first.place (spot_of text first).word) (rest_fault o.ending first.place (map (spot_of text) rest)) ≡ None = second_none (fault_if (not (length (spot_of text first).word == o.inputs)) RowLength first.place) (or_else (character_fault first.place (spot_of text first).word) (rest_fault o.ending first.place (map (spot_of text) rest))) n in
-        let literals : are_literals (spot_of text first).word ≡ true = all_literal first.place (spot_of text first).word (first_none (character_fault first.place (spot_of text first).word) (rest_fault o.ending first.place (map (spot_of text) rest)) m) in
-        two rest e long literals (second_none (character_fault first.place (spot_of text first).word) (rest_fault o.ending first.place (map (spot_of text) rest)) m)
+    at : (z : Bool) → (o.inputs == 0) ≡ z → (ss : List Spot) → on ≡ is_word (codes "1") (last_spot s ss).word → row_fault o s ss ≡ None → IsRow o s ss (inputs_before s.word ss) on
+    at true z [] e none = let n : or_else (ending_fault o.ending s) None ≡ None = rw z at none in row_alone o s on e z (first_none (ending_fault o.ending s) None n)
+    at true z (t ∷ ts) e none = let n : or_else (ending_fault o.ending s) (extra_fault (t ∷ ts)) ≡ None = rw z at none in let wrong : extra_fault (t ∷ ts) ≡ None = second_none (ending_fault o.ending s) (extra_fault (t ∷ ts)) n in cc
+    at false z ss e none =
+        let n : or_else (fault_if (not (length s.word == o.inputs)) RowLength s.place) (or_else (character_fault s.place s.word) (rest_fault o.ending s.place ss)) ≡ None = rw z at none in
+        let long : (length s.word == o.inputs) ≡ true = not_not (length s.word == o.inputs) (not_fault (not (length s.word == o.inputs)) RowLength s.place (first_none (fault_if (not (length s.word == o.inputs)) RowLength s.place) (or_else (character_fault s.place s.word) (rest_fault o.ending s.place ss)) n)) in
+        let m : or_else (character_fault s.place s.word) (rest_fault o.ending s.place ss) ≡ None = second_none (fault_if (not (length s.word == o.inputs)) RowLength s.place) (or_else (character_fault s.place s.word) (rest_fault o.ending s.place ss)) n in
+        let literals : are_literals s.word ≡ true = all_literal s.place s.word (first_none (character_fault s.place s.word) (rest_fault o.ending s.place ss) m) in
+        two ss e long literals (second_none (character_fault s.place s.word) (rest_fault o.ending s.place ss) m)
       where
-        two : (rest : List Token) → on ≡ is_word (codes "1") (spot_of text (last_token first rest)).word → (length (spot_of text first).word == o.inputs) ≡ true → are_literals (spot_of text first).word ≡ true → rest_fault o.ending first.place (map (spot_of text) rest) ≡ None → IsRow o (spot_of text first) (map (spot_of text) rest) (inputs_in (spot_of text first).word rest) on
+        two : (ss : List Spot) → on ≡ is_word (codes "1") (last_spot s ss).word → (length s.word == o.inputs) ≡ true → are_literals s.word ≡ true → rest_fault o.ending s.place ss ≡ None → IsRow o s ss (inputs_before s.word ss) on
         two [] e long literals r = cc
-        two (t ∷ []) e long literals r = row_two o (spot_of text first) (spot_of text t) on e z long literals (first_none (ending_fault o.ending (spot_of text t)) None r)
-        two (t ∷ u ∷ us) e long literals r = let wrong : extra_fault (map (spot_of text) (u ∷ us)) ≡ None = second_none (ending_fault o.ending (spot_of text t)) (extra_fault (map (spot_of text) (u ∷ us))) r in cc
+        two (t ∷ []) e long literals r = row_two o s t on e z long literals (first_none (ending_fault o.ending t) None r)
+        two (t ∷ u ∷ us) e long literals r = let wrong : extra_fault (u ∷ us) ≡ None = second_none (ending_fault o.ending t) (extra_fault (u ∷ us)) r in cc
+
+pub row_passes : (text : List ℕ) (o : SaidCover) (first : Token) (rest : List Token) (on : Bool) → on ≡ is_word (codes "1") (spot_of text (last_token first rest)).word → row_fault o (spot_of text first) (map (spot_of text) rest) ≡ None → IsRow o (spot_of text first) (map (spot_of text) rest) (inputs_in (spot_of text first).word rest) on
+row_passes text o first [] on e none = row_spots o (spot_of text first) [] on e none
+row_passes text o first (t ∷ ts) on e none = row_spots o (spot_of text first) (map (spot_of text) (t ∷ ts)) on e none
 
 on_same : (a b : Bool) → on_word a ≡ on_word b → a ≡ b
 on_same true true e = refl
@@ -155,8 +171,19 @@ has_row o s ss input on c d row r are made ins out onn rows = record {
       ∙ ap (λ (l : Line). map (row_words on) c.rows ++ l ∷ []) (the_row o row input on made r.long ∙ sym r.words)
       ∙ ap (λ (ls : List Line). ls ++ (s.word ∷ map (λ (t : Spot). t.word) ss) ∷ []) (before c.rows are.ending);
   still = record { inputs = same_inputs o.ending refl ∙ are.inputs ∙ ap length (sym ins); ending = ending o.ending refl };
+  formed = λ w. record { no_rows = λ e. absurd (some_row c.rows row (sym rows ∙ e)); row_lengths = lengths w.row_lengths };
 }
   where
+    some_row : (rs : List (List Literal)) (r : List Literal) → rs ++ r ∷ [] ≡ [] → ⊥
+    some_row [] r e = cc
+    some_row (q ∷ qs) r e = cc
+
+    row_long : length row ≡ length d.inputs
+    row_long = sym (length_map literal_byte row) ∙ ap length made ∙ r.long ∙ are.inputs ∙ ap length (sym ins)
+
+    lengths : All (λ (q : List Literal). length q ≡ length c.inputs) c.rows → All (λ (q : List Literal). length q ≡ length d.inputs) d.rows
+    lengths h = All-same (λ (q : List Literal). length q ≡ length d.inputs) d.rows (c.rows ++ row ∷ []) rows (All-push (λ (q : List Literal). length q ≡ length d.inputs) c.rows row (subst (λ (xs : List Word). All (λ (q : List Literal). length q ≡ length xs) c.rows) (sym ins) h) row_long)
+
     before : (rs : List (List Literal)) → o.ending ≡ ending_of c.on rs → map (row_words on) rs ≡ map (row_words c.on) rs
     before [] e = refl
     before (x ∷ xs) e = let same : c.on ≡ on = on_same c.on on (r.same (on_word c.on) e) in ap (λ (b : Bool). map (row_words b) (x ∷ xs)) (sym same)
@@ -175,6 +202,14 @@ has_row o s ss input on c d row r are made ins out onn rows = record {
     ending : (e : Option Word) → o.ending ≡ e → (with_row (s ∷ ss) o).ending ≡ ending_of d.on d.rows
     ending None e = rw e (r.last ∙ sym last_is)
     ending (Some v) e = rw e (ap (λ (w : Word). Some w) (r.same v e) ∙ sym last_is)
+
+pub all_front : {A : Type 0} (P : A → Type 0) (xs ys : List A) → All P (xs ++ ys) → All P xs
+all_front P [] ys h = All-nil P
+all_front P (x ∷ xs) ys h = All-cons P x xs (All-head P x (xs ++ ys) h) (all_front P xs ys (All-tail P x (xs ++ ys) h))
+
+pub all_back : {A : Type 0} (P : A → Type 0) (xs ys : List A) → All P (xs ++ ys) → All P ys
+all_back P [] ys h = h
+all_back P (x ∷ xs) ys h = all_back P xs ys (All-tail P x (xs ++ ys) h)
 
 -- the rows of the last cover
 add_last : (r : Line) (xs : List (Line × List Line)) (x : Line × List Line) → add_row r (xs ++ x ∷ []) ≡ xs ++ (x.0, x.1 ++ r ∷ []) ∷ []
@@ -198,7 +233,14 @@ adds_row s ss o c d before after h is e =
           ∙ sym (add_last (s.word ∷ map (λ (t : Spot). t.word) ss) (map cover_words before.covers) (cover_words c))
           ∙ ap (add_row (s.word ∷ map (λ (t : Spot). t.word) ss)) (sym (map_append cover_words before.covers (c ∷ [])) ∙ ap (λ (x : Option Cover). map cover_words (before.covers ++ opt_list x)) (sym is));
       current = subst (CurrentIs (Some (with_row (s ∷ ss) o))) (sym now) h.still;
+      shaped = λ f. subst IsShaped (sym e) (record {
+        covers = formed (subst (λ (x : Option Cover). All IsWellFormedCover (before.covers ++ opt_list x)) is f.covers);
+        latches = f.latches;
+      });
     }
+  where
+    formed : All IsWellFormedCover (before.covers ++ c ∷ []) → All IsWellFormedCover (before.covers ++ d ∷ [])
+    formed f = All-push IsWellFormedCover before.covers d (all_front IsWellFormedCover before.covers (c ∷ []) f) (h.formed (All-head IsWellFormedCover c [] (all_back IsWellFormedCover before.covers (c ∷ []) f)))
 
 pub current_rows : (o : SaidCover) (current : Option Cover) (c : Cover) → current ≡ Some c → CurrentIs (Some o) current → RowsAre o c
 current_rows o None c e h = absurd h

@@ -1,5 +1,5 @@
 -- A table of names stands for the uses that it has taken.
-use Rattle.std.proofs.Common.{◌≡◌, ◌≢◌, ℕ, ◌+◌, zero, suc, List, [], ◌∷◌, ◌++◌, map, length, Bool, true, false, not, ◌&&◌, ◌||◌, inl, inr, refl, sym, ◌∙◌, ap, arith, Option, None, Some}
+use Rattle.std.proofs.Common.{◌≡◌, ℕ, ◌+◌, suc, List, [], ◌∷◌, ◌++◌, map, length, Bool, true, false, not, ◌&&◌, ◌||◌, inl, inr, refl, sym, ◌∙◌, ap, arith, Option, None, Some}
 use Rattle.std.specs.Prelude.{if◌then◌else◌, is_some, nat_lt, ◌≤◌}
 use Rattle.std.specs.Borrow.{Bor}
 use Rattle.std.proofs.Common.{subst}
@@ -12,15 +12,15 @@ use Rattle.std.proofs.lemmas.List.Sums.{fold-append}
 use Rattle.rm_base.specs.declared.numbers.Place.{Place}
 use Rattle.rm_model.specs.Words.{Word, is_word}
 use Rattle.rm_model.specs.Value.{is_among}
-use Rattle.blif_format.specs.Uses.{Role, Input, ClockInput, Output, CoverInput, CoverOutput, LatchInput, LatchOutput, Control, Use, is_source_role, is_observed_role, drives_twice, lists_twice, names_in, distinct_count}
-use Rattle.blif_format.specs.FirstFault.{or_else, fault_if, limit_if, name_limit, is_cover_input, is_over, use_fault}
+use Rattle.blif_format.specs.Uses.{Role, Input, ClockInput, Output, CoverInput, CoverOutput, LatchInput, LatchOutput, Control, Use, is_source_role, is_observed_role, drives_twice, names_in, distinct_count}
+use Rattle.blif_format.specs.FirstFault.{or_else, fault_if, limit_if, name_limit, is_over, use_fault}
 use Rattle.blif_format.specs.declared.refusal.FaultKind.TheVariants.{DoubleDriven, DoubleOutput}
-use Rattle.blif_format.specs.declared.refusal.Quantity.TheVariants.{Inputs, Sources, Observed, Signals}
+use Rattle.blif_format.specs.declared.refusal.Quantity.TheVariants.{Sources, Observed, Signals}
 use Rattle.blif_format.specs.declared.refusal.ReadRefusal.{ReadRefusal}
 use Rattle.blif_reader.specs.declared.names.Flags.{Flags}
 use Rattle.blif_reader.specs.declared.names.Entry.{Entry}
 use Rattle.blif_reader.specs.declared.names.Counts.{Counts}
-use Rattle.blif_reader.specs.Tally.{Tally, entry_of, flags_at, flags_or_none, no_flags, has_source, is_driven_twice, is_listed_twice, with_role, put_entry, more_if, sources_after, observed_after, signals_after, place_or, with_use, use_check, flags_check, inputs_check, counts_check, counts_after, tally_fault, plays, is_input, is_clock, is_latch, is_cover, is_output, flags_in, any_role, with_first, firsts, first_of, IsTally}
+use Rattle.blif_reader.specs.Tally.{Tally, entry_of, flags_at, flags_or_none, has_source, is_driven_twice, is_listed_twice, with_role, put_entry, more_if, sources_after, observed_after, signals_after, place_or, with_use, use_check, flags_check, inputs_check, counts_check, counts_after, tally_fault, plays, is_input, is_clock, is_latch, is_cover, is_output, flags_in, any_role, with_first, firsts, first_of, IsTally}
 use Rattle.blif_reader.proofs.Compared.{or_true, or_false, or_assoc, word_tells, word_same, word_turned, among_more, word_is}
 use Rattle.blif_reader.proofs.Plays.{plays_source, driven_is, listed_is, names_among, names_more, distinct_more}
 

@@ -1,12 +1,15 @@
 -- What a draft of a model has of the lines so far.
-use Rattle.std.specs.Prelude.{◌≡◌, ◌<◌, ℕ, Bool, true, false, List, [], ◌∷◌, ◌++◌, map, filter, length, is_some, codes, Option, None, Some, if◌then◌else◌}
+use Rattle.std.specs.Prelude.{◌≡◌, ◌≢◌, ◌<◌, ◌≤◌, Bool, true, false, List, [], ◌∷◌, ◌++◌, map, filter, length, is_some, codes, All, IfSome, Option, None, Some, if◌then◌else◌}
 use Rattle.rm_model.specs.Words.{Word}
 use Rattle.rm_model.specs.declared.parts.Literal.{Literal}
+use Rattle.rm_model.specs.Value.{control_of}
+use Rattle.rm_model.specs.WellFormed.{IsWellFormedCover}
+use Rattle.rm_model.specs.declared.parts.Latch.{Latch}
 use Rattle.rm_model.specs.declared.parts.Cover.{Cover}
 use Rattle.rm_model.specs.declared.parts.Model.{Model as CircuitModel}
 use Rattle.blif_format.specs.Text.{Line, on_word, latch_words, cover_words, row_words}
 use Rattle.blif_format.specs.Grammar.{before_end, begins_with, is_dotted, words_after, words_of, names_lines, follow, body_of}
-use Rattle.blif_format.specs.Uses.{Command, Model, Inputs, Outputs, Clock, Names, Latch, End}
+use Rattle.blif_format.specs.Uses.{Command, Model, Inputs, Outputs, Clock, Names, Latch as LatchLine, End}
 use Rattle.blif_format.specs.FirstFault.{Said, OpenCover as SaidCover, with_row}
 use Rattle.blif_lines.specs.Layout.{Spot}
 use Rattle.blif_lines.specs.declared.line.Token.{Token}
@@ -48,6 +51,14 @@ CurrentIs None (Some c) = ⊥
 CurrentIs (Some o) None = ⊥
 CurrentIs (Some o) (Some c) = RowsAre o c
 
+-- what a text can say of a latch: its init value, and a control that isn't `NIL`
+abbrev pub IsFitLatch : Latch → Type 0
+IsFitLatch l = IfSome l.init (λ n. n ≤ 3) × IfSome (control_of l) (λ x. x ≢ codes "NIL")
+
+pub record IsShaped (d : Draft) : Type 0 where
+  pub covers : All IsWellFormedCover (all_covers d)
+  pub latches : All IsFitLatch d.latches
+
 pub record IsDraft (said : Said) (lines : List Line) (d : Draft) : Type 0 where
   pub begin : Begins said.began lines d.name
   pub ending : Ends said.ended lines
@@ -59,6 +70,7 @@ pub record IsDraft (said : Said) (lines : List Line) (d : Draft) : Type 0 where
   pub latches : map words_after (filter (begins_with (codes ".latch")) lines) ≡ map latch_words d.latches
   pub covers : names_lines lines ≡ map cover_words (all_covers d)
   pub current : CurrentIs said.cover d.current
+  pub shaped : IsShaped d
 
 -- what a command gives to the parts of the model
 abbrev pub given_name : Command → List Word → Word → Word
@@ -78,7 +90,7 @@ given_clocks Clock ws = ws
 given_clocks command ws = []
 
 abbrev pub given_latches : Command → List Word → List (List Word)
-given_latches Latch ws = ws ∷ []
+given_latches LatchLine ws = ws ∷ []
 given_latches command ws = []
 
 abbrev pub given_covers : Command → List Word → List (Line × List Line)
@@ -93,12 +105,13 @@ pub record Changes (command : Command) (ws : List Word) (d e : Draft) : Type 0 w
   pub latches : map latch_words e.latches ≡ map latch_words d.latches ++ given_latches command ws
   pub covers : map cover_words (all_covers e) ≡ map cover_words (all_covers d) ++ given_covers command ws
   pub current : CurrentIs (cover_for command (length ws)) e.current
+  pub shaped : IsShaped d → IsShaped e
 
 -- the words behind a command are as many and of the kind that it wants
 abbrev pub IsKnown : Command → List Word → Type 0
 IsKnown Model ws = length ws ≡ 1
 IsKnown Names ws = 0 < length ws
-IsKnown Latch ws = IsLatchLine ws
+IsKnown LatchLine ws = IsLatchLine ws
 IsKnown End ws = ws ≡ []
 IsKnown command ws = Unit {0}
 
@@ -122,11 +135,13 @@ pub record HasRow (s : Spot) (ss : List Spot) (o : SaidCover) (c d : Cover) : Ty
   pub output : d.output ≡ c.output
   pub rows : map (row_words d.on) d.rows ≡ map (row_words c.on) c.rows ++ (s.word ∷ map (λ (t : Spot). t.word) ss) ∷ []
   pub still : RowsAre (with_row (s ∷ ss) o) d
+  pub formed : IsWellFormedCover c → IsWellFormedCover d
 
 pub record AddsRow (s : Spot) (ss : List Spot) (o : SaidCover) (d e : Draft) : Type 0 where
   pub rest : e ≡ record d { current = e.current }
   pub covers : map cover_words (all_covers e) ≡ add_row (s.word ∷ map (λ (t : Spot). t.word) ss) (map cover_words (all_covers d))
   pub current : CurrentIs (Some (with_row (s ∷ ss) o)) e.current
+  pub shaped : IsShaped d → IsShaped e
 
 abbrev pub model_in : Draft → CircuitModel
 model_in d = record { name = d.name; inputs = d.inputs; clocks = d.clocks; outputs = d.outputs; latches = d.latches; covers = all_covers d }

@@ -9,3 +9,5 @@ pub mod Lines
 pub mod Drafts
 pub mod Progress
 pub mod Ranked
+pub mod Laws
+pub mod Bounds

@@ -1,9 +1,8 @@
 -- Words of lines, as the model takes them.
-use Rattle.std.specs.Prelude.{◌≡◌, ℕ, Bool, true, false, List, [], ◌∷◌, map}
+use Rattle.std.specs.Prelude.{◌≡◌, ℕ, Bool, true, List, [], ◌∷◌, map}
 use Rattle.std.specs.List.{list_all}
 use Rattle.rm_model.specs.Words.{Word}
 use Rattle.rm_model.specs.Value.{is_among}
-use Rattle.blif_lines.specs.Layout.{Spot}
 use Rattle.blif_lines.specs.Reading.{spot_of}
 use Rattle.blif_lines.specs.declared.line.Token.{Token}
 use Rattle.blif_format.specs.FirstFault.{latch_types, init_values, is_literal}

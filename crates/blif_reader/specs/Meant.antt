@@ -1,5 +1,5 @@
 -- The words of the grammar, as the reader's own types name them.
-use Rattle.std.specs.Prelude.{◌≡◌, ℕ, Option, None, Some, Result, Ok, Err}
+use Rattle.std.specs.Prelude.{◌≡◌, Option, None, Some, Result, Ok, Err}
 use Rattle.blif_format.specs.Uses.{Command as SaidCommand, Model as SaidModel, Inputs as SaidInputs, Outputs as SaidOutputs, Clock as SaidClock, Names as SaidNames, Latch as SaidLatch, End as SaidEnd, Role as SaidRole, Input as SaidInput, ClockInput as SaidClockInput, Output as SaidOutput, CoverInput as SaidCoverInput, CoverOutput as SaidCoverOutput, LatchInput as SaidLatchInput, LatchOutput as SaidLatchOutput, Control as SaidControl, Part as SaidPart, Title as SaidTitle, Name as SaidName, LatchType as SaidLatchType, Init as SaidInit, Extra as SaidExtra}
 use Rattle.blif_format.specs.declared.refusal.ReadRefusal.{ReadRefusal}
 use Rattle.blif_format.specs.declared.refusal.ReadRefusal.TheVariants.{Fault, Limit, NoMemory}

@@ -4,7 +4,7 @@ use Rattle.blif_lines.specs.Reading.{spot_of}
 use Rattle.blif_lines.specs.declared.line.Token.{Token}
 use Rattle.std.specs.List.{filter_map}
 use Rattle.rm_base.specs.declared.numbers.Place.{Place}
-use Rattle.rm_model.specs.Words.{Word, is_word}
+use Rattle.rm_model.specs.Words.{is_word}
 use Rattle.rm_model.specs.declared.parts.Cover.{Cover}
 use Rattle.blif_lines.specs.Layout.{Logical, layout, lines_of, words_in, has_words}
 use Rattle.blif_format.specs.Text.{Line}

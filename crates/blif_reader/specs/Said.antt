@@ -1,11 +1,11 @@
 -- What a checker has of the lines so far.
-use Rattle.std.specs.Prelude.{◌≡◌, ℕ, Bool, List, [], ◌∷◌, ◌++◌, map, Option, None, Some, if◌then◌else◌}
+use Rattle.std.specs.Prelude.{◌≡◌, Bool, Option}
 use Rattle.std.specs.Option.{option_map}
 use Rattle.rm_model.specs.Words.{Word}
 use Rattle.blif_format.specs.Text.{on_word}
 use Rattle.blif_format.specs.FirstFault.{Said, OpenCover as SaidCover}
 use Rattle.blif_reader.specs.Tally.{IsTally}
-use Rattle.blif_reader.specs.declared.check.OpenCover.{OpenCover}
+use Rattle.blif_reader.specs.declared.rows.OpenCover.{OpenCover}
 use Rattle.blif_reader.specs.declared.check.Checker.{Checker}
 
 abbrev pub said_ending : Option Bool → Option Word

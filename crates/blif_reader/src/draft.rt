@@ -1,16 +1,15 @@
 // The model that the lines so far say.
-ghost use Rattle.std.specs.Prelude.{◌≡◌, ◌≢◌, ◌≤◌, ◌<◌, ◌+◌, ◌-◌, ◌^◌, ◌++◌, ◌∷◌, [], length, map, true, List, ℕ, OnOk, OnErr, IfOk, All, None, Some, codes};
+ghost use Rattle.std.specs.Prelude.{◌≡◌, ◌≢◌, ◌≤◌, ◌<◌, ◌+◌, ◌-◌, ◌^◌, ◌++◌, ◌∷◌, [], length, map, true, List, ℕ, OnOk, OnErr, IfOk, IfSome, All, None, Some, codes};
 ghost use Rattle.rm_model.specs.Words.{Word, is_word, kind_word, literal_byte};
 ghost use Rattle.rm_model.specs.Value.{is_among};
 ghost use Rattle.blif_lines.specs.Reading.{spot_of, IsWithin};
 ghost use Rattle.blif_format.specs.Text.{Line, control_word, timing_words, init_words, latch_words, cover_words, row_words};
 ghost use Rattle.blif_format.specs.FirstFault.{Said, nothing_said, words_fault, after_line, OpenCover as SaidCover, row_fault, latch_types, init_values, is_literal as literal_bytes};
 ghost use Rattle.blif_reader.specs.Meant.{said_command};
-ghost use Rattle.blif_reader.specs.Drafts.{IsDraft, all_covers, model_in, Changes, IsKnown, RowsAre, CurrentIs, HasRow, AddsRow, last_token, inputs_in};
+ghost use Rattle.blif_reader.specs.Drafts.{IsDraft, all_covers, model_in, Changes, IsKnown, RowsAre, CurrentIs, HasRow, AddsRow, IsFitLatch, last_token, inputs_in};
 ghost use Rattle.blif_reader.specs.Lines.{words_at, IsLatchLine, are_literals, init_part, timing_part};
 
-use crate::check::word_of;
-use crate::words::{Command, command_of, is_text, least_words};
+use crate::words::{Command, command_of, is_text, least_words, word_of};
 use blif_lines::Token;
 use rm_base::NoMemory;
 use rm_model::{Cover, Latch, LatchKind, Listed, Literal, Model, Name, Row, Timing};
@@ -60,6 +59,7 @@ fn kind_of(word: &[u8]) -> LatchKind
 fn control_of(alloc: Global, text: &[u8], token: &Token) -> Result<Option<Name>, NoMemory>
     requires { IsWithin text.now token.now }
     ensures word { IfOk result (λ name. control_word name ≡ (spot_of text.now token.now).word) }
+    ensures name { IfOk result (λ name. IfSome name (λ x. x ≢ codes "NIL")) }
 {
     if is_text(word_of(text, token), "NIL") {
         return Ok(None);
@@ -71,7 +71,8 @@ fn control_of(alloc: Global, text: &[u8], token: &Token) -> Result<Option<Name>,
 fn timing_of(alloc: Global, text: &[u8], kind: &Token, control: &Token) -> Result<Timing, NoMemory>
     requires kind { IsWithin text.now kind.now }
     requires control { IsWithin text.now control.now }
-    ensures { is_among latch_types (spot_of text.now kind.now).word ≡ true → IfOk result (λ t. timing_words (Some t) ≡ (spot_of text.now kind.now).word ∷ (spot_of text.now control.now).word ∷ []) }
+    ensures words { is_among latch_types (spot_of text.now kind.now).word ≡ true → IfOk result (λ t. timing_words (Some t) ≡ (spot_of text.now kind.now).word ∷ (spot_of text.now control.now).word ∷ []) }
+    ensures name { IfOk result (λ t. IfSome t.control (λ x. x ≢ codes "NIL")) }
 {
     let control = control_of(alloc, text, control)?;
     Ok(Timing {
@@ -81,7 +82,8 @@ fn timing_of(alloc: Global, text: &[u8], kind: &Token, control: &Token) -> Resul
 }
 
 fn init_of(word: &[u8]) -> u8
-    ensures { is_among init_values word.now ≡ true → init_words (Some result) ≡ word.now ∷ [] }
+    ensures least { result ≤ 3 }
+    ensures words { is_among init_values word.now ≡ true → init_words (Some result) ≡ word.now ∷ [] }
 {
     if is_text(word, "0") {
         return 0;
@@ -97,7 +99,8 @@ fn init_of(word: &[u8]) -> u8
 
 fn latch_init(text: &[u8], words: &[Token]) -> Option<u8>
     requires { All (IsWithin text.now) words.now }
-    ensures { IsLatchLine (words_at text.now words.now) → init_words result ≡ init_part (words_at text.now words.now) }
+    ensures least { IfSome result (λ n. n ≤ 3) }
+    ensures words { IsLatchLine (words_at text.now words.now) → init_words result ≡ init_part (words_at text.now words.now) }
 {
     if words.len() == 3 {
         return Some(init_of(word_of(text, &words[2])));
@@ -110,7 +113,8 @@ fn latch_init(text: &[u8], words: &[Token]) -> Option<u8>
 
 fn latch_timing(alloc: Global, text: &[u8], words: &[Token]) -> Result<Option<Timing>, NoMemory>
     requires { All (IsWithin text.now) words.now }
-    ensures { IsLatchLine (words_at text.now words.now) → IfOk result (λ t. timing_words t ≡ timing_part (words_at text.now words.now)) }
+    ensures name { IfOk result (λ t. IfSome t (λ u. IfSome u.control (λ x. x ≢ codes "NIL"))) }
+    ensures words { IsLatchLine (words_at text.now words.now) → IfOk result (λ t. timing_words t ≡ timing_part (words_at text.now words.now)) }
 {
     if words.len() > 3 {
         match timing_of(alloc, text, &words[2], &words[3]) {
@@ -125,7 +129,8 @@ fn latch_timing(alloc: Global, text: &[u8], words: &[Token]) -> Result<Option<Ti
 pub fn latch_of(alloc: Global, text: &[u8], words: &[Token]) -> Result<Latch, NoMemory>
     requires within { All (IsWithin text.now) words.now }
     requires two { 2 ≤ length words.now }
-    ensures { IsLatchLine (words_at text.now words.now) → IfOk result (λ l. latch_words l ≡ words_at text.now words.now) }
+    ensures fit { IfOk result IsFitLatch }
+    ensures words { IsLatchLine (words_at text.now words.now) → IfOk result (λ l. latch_words l ≡ words_at text.now words.now) }
 {
     let input = name_at(alloc, text, &words[0])?;
     let output = name_at(alloc, text, &words[1])?;

@@ -3,9 +3,13 @@
 
 mod check;
 mod draft;
+mod laws;
 mod model;
 mod names;
 mod read;
+mod refusals;
+mod rows;
 mod words;
 
+pub use laws::faultless_texts_read;
 pub use model::read_model;

@@ -1,11 +1,14 @@
 // The model of a text.
-ghost use Rattle.std.specs.Prelude.{◌≡◌, ◌≤◌, length, OnOk, IfOk, IfErr, None, Option, ℕ};
+ghost use Rattle.std.specs.Prelude.{◌≡◌, ◌≤◌, ◌<◌, ◌*◌, ◌^◌, length, OnOk, IfOk, IfErr, None, Option, ℕ};
 ghost use Rattle.rm_model.specs.Ranks.{first_without_rank};
 ghost use Rattle.rm_model.specs.RankFaults.{IsRefused};
+ghost use Rattle.rm_model.specs.declared.ranking.RankFault.TheVariants.{NoRank};
+ghost use Rattle.rm_model.specs.Value.{source_names, observed_names};
 ghost use Rattle.rm_model.specs.WellFormed.{IsWellFormed};
 ghost use Rattle.blif_lines.specs.Layout.{lines_of};
 ghost use Rattle.blif_format.specs.Grammar.{Reads};
 ghost use Rattle.blif_format.specs.FirstFault.{first_fault};
+ghost use Rattle.blif_reader.specs.Bounds.{covers_weight};
 ghost use Rattle.blif_reader.specs.Meant.{IsRefusal};
 ghost use Rattle.blif_reader.specs.Ranked.{fault_at, rank_found};
 
@@ -13,7 +16,7 @@ use crate::draft::model_of;
 use crate::read::read_lines;
 use blif_format::{FaultKind, ReadRefusal};
 use rm_base::Place;
-use rm_model::{Model, RankFault, is_well_formed, rank, ranks_exist};
+use rm_model::{Model, RankFault, rank, ranks_exist, ranks_follow};
 use std::alloc::Global;
 
 fn fault(kind: FaultKind, place: Place) -> ReadRefusal
@@ -22,37 +25,25 @@ fn fault(kind: FaultKind, place: Place) -> ReadRefusal
     ReadRefusal::Fault { kind, place }
 }
 
-// A model that lines without fault say is well formed. Where it is not, nothing is claimed of it.
-fn check_form(alloc: Global, model: &Model) -> Result<(), ReadRefusal>
-    ensures ok { OnOk result (IsWellFormed model.now) }
-    ensures err { IfErr result (λ e. e ≡ ReadRefusal.NoMemory) }
-{
-    match is_well_formed(alloc, model) {
-        Ok(true) => Ok(()),
-        _ => Err(ReadRefusal::NoMemory),
-    }
-}
-
+// The refusal of a model without ranks, by the places of its covers.
 fn rank_refusal(refused: RankFault, places: &[Place]) -> ReadRefusal
+    requires { (k : ℕ) → refused ≡ NoRank k → k < length places.now }
     ensures { (first : Option ℕ) → IsRefused first refused → IsRefusal result (fault_at places.now first) }
 {
     match refused {
         RankFault::NoMemory => ReadRefusal::NoMemory,
-        RankFault::NoRank { cover } => match places.get(cover as usize) {
-            Some(place) => fault(FaultKind::NoRank, *place),
-            None => ReadRefusal::NoMemory,
-        },
+        RankFault::NoRank { cover } => fault(FaultKind::NoRank, places[cover as usize]),
     }
 }
 
 fn check_ranks(alloc: Global, model: &Model, places: &[Place]) -> Result<(), ReadRefusal>
-    requires { IsWellFormed model.now }
+    requires formed { IsWellFormed model.now }
+    requires few { length model.now.covers < 2 ^ 32 }
+    requires placed { length places.now ≡ length model.now.covers }
     ensures ok { OnOk result (first_without_rank model.now ≡ None) }
     ensures err { IfErr result (λ e. IsRefusal e (rank_found model.now places.now)) }
 {
-    if model.covers.len() > 4_294_967_295 {
-        return Err(ReadRefusal::NoMemory);
-    }
+    ranks_follow();
     match rank(alloc, model) {
         Ok(_) => return Ok(()),
         Err(refused) => return Err(rank_refusal(refused, places)),
@@ -60,12 +51,16 @@ fn check_ranks(alloc: Global, model: &Model, places: &[Place]) -> Result<(), Rea
 }
 
 /// The model that a text says, or the text's first fault. Within the limits a text says a model exactly where it has no
-/// fault. It takes one pass over the text and time linear in it.
+/// fault. It takes one pass over the text and time linear in it. The last clauses bound what is made of the model.
 pub fn read_model(alloc: Global, text: &[u8]) -> Result<Model, ReadRefusal>
     requires { length text.now ≤ 16777216 }
     ensures model { IfOk result (λ m. Reads (lines_of text.now) m) }
     ensures faultless { IfOk result (λ _. first_fault text.now ≡ None) }
     ensures fault { IfErr result (λ e. IsRefusal e (first_fault text.now)) }
+    ensures sources { IfOk result (λ m. length (source_names m) ≤ 1024) }
+    ensures observed { IfOk result (λ m. length (observed_names m) ≤ 4096) }
+    ensures covers { IfOk result (λ m. length m.covers ≤ length text.now) }
+    ensures weight { IfOk result (λ m. covers_weight m.covers ≤ 2 * length text.now) }
 {
     ranks_exist();
     let lines = match read_lines(alloc, text) {
@@ -84,10 +79,6 @@ pub fn read_model(alloc: Global, text: &[u8]) -> Result<Model, ReadRefusal>
         Ok(model) => model,
         Err(_) => return Err(ReadRefusal::NoMemory),
     };
-    match check_form(alloc, &model) {
-        Ok(()) => {}
-        Err(refusal) => return Err(refusal),
-    }
     match check_ranks(alloc, &model, lines.places.as_slice()) {
         Ok(()) => {}
         Err(refusal) => return Err(refusal),

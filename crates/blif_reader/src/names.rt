@@ -8,6 +8,7 @@ ghost use Rattle.blif_reader.specs.Meant.{said_role, refusal_of, IsRefusal};
 ghost use Rattle.blif_reader.specs.Tally.{Tally, IsTally, flags_or_none, no_flags, has_source as some_source, has_driver as some_driver, is_driven_twice as driven_twice, is_listed_twice as listed_twice, with_role as flags_with, more_if, entry_of, put_entry, place_or, first_free, free_of, use_check, flags_check, inputs_check, counts_check};
 ghost use Rattle.blif_reader.specs.Seen.{seen_entries};
 
+use crate::refusals::{fault, limit};
 use crate::words::Role;
 use blif_format::{FaultKind, Quantity, ReadRefusal};
 use indexmap::IndexMap;
@@ -30,22 +31,6 @@ pub struct Flags {
 pub struct Entry {
     pub flags: Flags,
     pub place: Place,
-}
-
-fn fault(kind: FaultKind, place: Place) -> Result<(), ReadRefusal>
-    ensures { refusal_of result ≡ Some (ReadRefusal.Fault kind place) }
-{
-    Err(ReadRefusal::Fault { kind, place })
-}
-
-fn limit(quantity: Quantity, count: usize, place: Place) -> Result<(), ReadRefusal>
-    ensures { refusal_of result ≡ Some (ReadRefusal.Limit quantity count place) }
-{
-    Err(ReadRefusal::Limit {
-        quantity,
-        count: count as u64,
-        place,
-    })
 }
 
 fn is_source(role: Role) -> bool

@@ -7,9 +7,9 @@ ghost use Rattle.blif_format.specs.declared.refusal.FaultKind.TheVariants.{NoMod
 ghost use Rattle.blif_reader.specs.Meant.{IsRefusal};
 ghost use Rattle.blif_reader.specs.Progress.{Progress, IsRead, places_with};
 
-use crate::check::{Checker, take_line, word_of};
+use crate::check::{Checker, take_line};
 use crate::draft::{Draft, add_line, new_draft};
-use crate::words::is_text;
+use crate::words::{is_text, word_of};
 use blif_format::{FaultKind, ReadRefusal};
 use blif_lines::{LineFault, LineReader, LogicalLine, Token};
 use rm_base::Place;
@@ -72,19 +72,14 @@ fn take_all<'a>(
 ) -> Result<(), ReadRefusal>
     requires words { All (IsWithin text.now) tokens.now }
     requires some { tokens.now ≢ [] }
+    requires many { length tokens.now ≤ 2 ^ 32 }
     requires small { length text.now ≤ 2 ^ 24 }
     ensures ok { (ls ms : List Logical) → Progress text.now ls lines.old.checker lines.old.draft lines.old.places.items → pending ls ≡ record { tokens = map (spot_of text.now) tokens.now; flaw = None } ∷ ms → OnOk result (Progress text.now ms lines.new.checker lines.new.draft lines.new.places.items) }
     ensures err { (ls ms : List Logical) → Progress text.now ls lines.old.checker lines.old.draft lines.old.places.items → pending ls ≡ record { tokens = map (spot_of text.now) tokens.now; flaw = None } ∷ ms → IfErr result (λ e. IsRefusal e (lines_fault nothing_said (layout text.now))) }
 {
     match tokens.split_first() {
-        Some((first, rest)) => {
-            // no line has more tokens than the text has bytes
-            if rest.len() > 4_294_967_295 {
-                return Err(ReadRefusal::NoMemory);
-            }
-            take_tokens(alloc, lines, text, first, rest)
-        }
-        None => Err(ReadRefusal::NoMemory),
+        Some((first, rest)) => take_tokens(alloc, lines, text, first, rest),
+        None => unreachable!(),
     }
 }
 

@@ -1,5 +1,6 @@
 // The words of commands, and what each word behind a command has to be.
-ghost use Rattle.std.specs.Prelude.{◌≡◌, ◌<◌, ◌≤◌, ◌^◌};
+ghost use Rattle.std.specs.Prelude.{◌≡◌, ◌<◌, ◌≤◌, ◌^◌, ◌-◌, take, drop};
+ghost use Rattle.blif_lines.specs.Reading.{IsWithin};
 ghost use Rattle.std.specs.List.{list_any};
 ghost use Rattle.std.specs.Option.{option_map};
 ghost use Rattle.rm_model.specs.Words.{is_word};
@@ -9,6 +10,8 @@ ghost use Rattle.blif_format.specs.FirstFault.{latch_types, init_values};
 ghost use Rattle.blif_reader.specs.Meant.{said_command, said_part};
 ghost use Rattle.blif_reader.specs.Parts.{latch_part_at, part_in};
 ghost use Rattle.blif_format.specs.Unsupported.{unsupported_words};
+
+use blif_lines::Token;
 
 #[derive(Clone, Copy, Debug, PartialEq, Eq)]
 pub enum Command {
@@ -42,6 +45,13 @@ pub enum Part {
     LatchType,
     Init,
     Extra,
+}
+
+pub fn word_of<'a>(text: &'a [u8], token: &Token) -> &'a [u8]
+    requires { IsWithin text.now token.now }
+    ensures { result.now ≡ take (token.now.end - token.now.start) (drop token.now.start text.now) }
+{
+    &text[token.start..token.end]
 }
 
 pub fn is_text(word: &[u8], text: &str) -> bool

@@ -5,49 +5,9 @@ ghost use Rattle.rm_model.specs.Value.{is_among};
 ghost use Rattle.rm_model.specs.WellFormed.{is_distinct};
 ghost use Rattle.cover_decompose.specs.Signals.{AreSignals, signal_of};
 
-use indexmap::IndexSet;
 use rm_base::NoMemory;
-use rm_model::{Cover, Name};
+use rm_model::{Cover, Name, NameTable};
 use std::alloc::Global;
-use std::marker::Model;
-
-/// Names in the order in which they were added.
-#[derive(Drop)]
-pub struct NameTable<'a> {
-    names: IndexSet<&'a [u8]>,
-}
-
-impl<'a> Model for NameTable<'a> {
-    ghost use Rattle.std.specs.Prelude.{List, ℕ, map};
-
-    ghost Value = { List (List ℕ) };
-
-    ghost view = { λ a. map (λ k. k.now) a.names.keys };
-}
-
-impl<'a> NameTable<'a> {
-    fn new(alloc: Global) -> NameTable<'a>
-        ensures { result ≡ [] }
-    {
-        NameTable {
-            names: IndexSet::new(alloc),
-        }
-    }
-
-    fn add(&mut self, name: &'a [u8]) -> Result<(), NoMemory>
-        requires { is_among self.old name.now ≡ false }
-        ensures { OnOk result (self.new ≡ self.old ++ name.now ∷ []) }
-    {
-        self.names.insert(name)?;
-        Ok(())
-    }
-
-    fn place(&self, name: &[u8]) -> Option<usize>
-        ensures { result ≡ signal_of self.now name.now }
-    {
-        self.names.get_index_of(name)
-    }
-}
 
 fn add_sources<'a>(table: &mut NameTable<'a>, sources: &'a [Name]) -> Result<(), NoMemory>
     requires { is_distinct (table.old ++ sources.now) ≡ true }

@@ -10,10 +10,10 @@ ghost use Rattle.cover_decompose.specs.Places.{marked};
 ghost use Rattle.rm_model.specs.WellFormed.{IsWellFormed, driven_names};
 
 use crate::count::wires;
-use crate::names::{NameTable, cover_inputs, signal_table, signals};
+use crate::names::{cover_inputs, signal_table, signals};
 use crate::needed::{mark, needed, places_by_rank};
 use rm_base::NoMemory;
-use rm_model::{Model, Name, RankFault, observed, rank, ranks_follow, sources};
+use rm_model::{Model, Name, NameTable, RankFault, observed, rank, ranks_follow, sources};
 use std::alloc::Global;
 
 /// The signals of a model: first the sources, and then the output of each cover.

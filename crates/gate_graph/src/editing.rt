@@ -61,6 +61,7 @@ impl Graph {
         ensures undos { LeadOn self.old self.new undos.old.entries undos.new.entries }
         ensures entries { undos.new.spare + entries_for self.old edit.now ≡ undos.old.spare }
         ensures held { HoldsOn self.old self.new undos.old.entries undos.new.entries }
+        ensures left { undos.new.entries ≢ [] }
         ensures epoch { self.new.epoch ≡ self.old.epoch }
         ensures numbers { length self.new.kinds ≡ length self.old.kinds }
     {
@@ -96,6 +97,7 @@ impl Graph {
         ensures numbers { length self.new.kinds ≡ length self.old.kinds }
         ensures uses { Uses self.old self.new 1 0 }
         ensures entry { undos.new.spare + 1 ≡ undos.old.spare }
+        ensures left { undos.new.entries ≢ [] }
     {
         look(&self.pool);
         let pin = link_new(&mut self.pool, gate.0, driver.0);
@@ -116,6 +118,7 @@ impl Graph {
         ensures numbers { length self.new.kinds ≡ length self.old.kinds }
         ensures uses { Uses self.old self.new 0 0 }
         ensures entry { undos.new.spare + 1 ≡ undos.old.spare }
+        ensures left { undos.new.entries ≢ [] }
     {
         let pin = self.pin_of(gate, position);
         let slot = unlink_pin(&mut self.pool, pin);
@@ -138,6 +141,7 @@ impl Graph {
         ensures numbers { length self.new.kinds ≡ length self.old.kinds }
         ensures uses { Uses self.old self.new 0 0 }
         ensures entry { undos.new.spare + 1 ≡ undos.old.spare }
+        ensures left { undos.new.entries ≢ [] }
     {
         let pin = self.pin_of(gate, position);
         let slot = redrive_pin(&mut self.pool, pin, driver.0);
@@ -160,6 +164,7 @@ impl Graph {
         ensures numbers { length self.new.kinds ≡ length self.old.kinds }
         ensures uses { Uses self.old self.new 0 0 }
         ensures entry { undos.new.spare + 1 ≡ undos.old.spare }
+        ensures left { undos.new.entries ≢ [] }
     {
         look(&self.pool);
         let splice = move_fanouts(&mut self.pool, from.0, to.0);
@@ -181,6 +186,7 @@ impl Graph {
         ensures numbers { length self.new.kinds ≡ length self.old.kinds }
         ensures uses { Uses self.old self.new 1 1 }
         ensures entry { undos.new.spare + 1 ≡ undos.old.spare }
+        ensures left { undos.new.entries ≢ [] }
     {
         look(&self.pool);
         let node = least_free(&self.kinds, self.least);
@@ -205,6 +211,7 @@ impl Graph {
         ensures numbers { length self.new.kinds ≡ length self.old.kinds }
         ensures uses { Frees self.old self.new }
         ensures entries { undos.new.spare + 1 + length (drivers_of (net_of self.old) gate.0) ≡ undos.old.spare }
+        ensures left { undos.new.entries ≢ [] }
     {
         look(&self.pool);
         while let Some(pin) = nth_pin(&self.pool, gate.0, 0) {

@@ -1,5 +1,5 @@
 //! Calls that read a graph.
-ghost use Rattle.std.specs.Prelude.{◌≡◌, ◌+◌, ◌<◌, ◌≤◌, ◌↔◌, [], Some, None, IsTrue, true, length, slice_get};
+ghost use Rattle.std.specs.Prelude.{◌≡◌, ◌+◌, ◌<◌, ◌≤◌, ◌↔◌, [], Some, None, IsTrue, true, length, map, slice_get};
 ghost use Rattle.std.specs.Option.{option_map};
 ghost use Rattle.pin_pool.specs.Rings.{rings_of, AreRings, IsIn};
 ghost use Rattle.gate_graph.specs.Wirings.{kind_at};
@@ -7,6 +7,7 @@ ghost use Rattle.gate_graph.specs.Circuit.{net_of, fanouts_of, IsGraph, gate_pin
 ghost use Rattle.gate_net.specs.Net.{drivers_of, IsLive, IsObserved};
 
 use crate::driver_iter::Inputs;
+use crate::gate_iter::Readers;
 use crate::pins::{nth_pin, observes, pins_of_gate};
 use crate::reader_iter::Fanouts;
 use crate::rings::look;
@@ -75,6 +76,18 @@ impl Graph {
     {
         self.tell();
         Fanouts {
+            pins: self.pool.fanouts(node.0),
+            pool: &self.pool,
+        }
+    }
+
+    /// The gates of the pins that read a node, in the order of `fanouts_of`.
+    pub fn readers_of(&self, node: NodeId) -> Readers<'_>
+        requires { IsLive (net_of self.now) node.0 }
+        ensures { result ≡ map (λ place. place.0) (fanouts_of self.now node.0) }
+    {
+        self.tell();
+        Readers {
             pins: self.pool.fanouts(node.0),
             pool: &self.pool,
         }

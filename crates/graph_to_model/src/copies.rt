@@ -5,11 +5,11 @@ ghost use Rattle.gate_graph.specs.Circuit.{net_of};
 ghost use Rattle.graph_to_model.specs.Making.{all_by, copies_by, copy_by};
 
 use crate::copying::copy_name;
+use crate::driven_names::driven;
 use crate::gates::{cover_with, even_row, gate_covers};
-use crate::name_set::{NameSet, driven};
 use gate_graph::Graph;
 use rm_base::NoMemory;
-use rm_model::{Cover, Literal, Name};
+use rm_model::{Cover, Literal, Name, NameTable};
 use std::alloc::Global;
 
 fn copy_cover(alloc: Global, node: usize, name: &Name, names: &[Name]) -> Result<Cover, NoMemory>
@@ -31,7 +31,7 @@ fn copy_cover(alloc: Global, node: usize, name: &Name, names: &[Name]) -> Result
 // Covers the name, unless it is had.
 fn cover_name<'a>(
     alloc: Global,
-    had: &mut NameSet<'a>,
+    had: &mut NameTable<'a>,
     covers: &mut Vec<Cover>,
     node: usize,
     name: &'a Name,
@@ -48,9 +48,9 @@ fn cover_name<'a>(
     Ok(())
 }
 
-fn copies<'a>(
+pub fn copies<'a>(
     alloc: Global,
-    had: &mut NameSet<'a>,
+    had: &mut NameTable<'a>,
     nodes: &[usize],
     observed: &'a [Name],
     names: &[Name],

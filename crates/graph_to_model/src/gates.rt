@@ -57,7 +57,7 @@ fn rows_per_pin(alloc: Global, count: usize) -> Result<Vec<Row>, NoMemory>
     Ok(rows)
 }
 
-fn gate_cover(
+pub fn gate_cover(
     alloc: Global,
     kind: Kind,
     inputs: Vec<Name>,

@@ -1,10 +1,10 @@
 //! Laws of the definitions.
-ghost use Rattle.std.specs.Prelude.{◌≡◌};
+ghost use Rattle.std.specs.Prelude.{◌≡◌, Some};
 ghost use Rattle.graph_to_model.specs.Laws.{TidyNetsHaveModels};
 ghost use Rattle.cover_decompose.specs.Decomposition.{net_of_model};
 ghost use Rattle.cover_decompose.specs.Rows.{r2, r5};
 ghost use Rattle.graph_to_model.specs.NetModel.{model_of_net};
-ghost use Rattle.graph_to_model.specs.Rows.{copies, r2_out, r5_out, taken_prefix, taken_prefix_out};
+ghost use Rattle.graph_to_model.specs.Rows.{copies, gate_of_next, gate_two, many_ones, one_zero, or_cover, r2_out, r5_out, rows_and_ending, taken_prefix, taken_prefix_out, zero_row};
 ghost use Rattle.graph_to_model.specs.Wires.{wires};
 
 use wire_edit::order_tells;
@@ -17,6 +17,9 @@ pub fn worked_rows()
     ensures r5_wires { wires (model_of_net r5 (net_of_model r5)) ≡ 5 }
     ensures copies { model_of_net copies (net_of_model copies) ≡ copies }
     ensures copies_wires { wires copies ≡ 0 }
+    ensures not_tidy { gate_of_next (net_of_model zero_row) ≡ Some gate_two }
+    ensures or_64 { rows_and_ending (or_cover 64) ≡ many_ones }
+    ensures or_65 { rows_and_ending (or_cover 65) ≡ one_zero }
     ensures prefix { (model_of_net taken_prefix (net_of_model taken_prefix)).covers ≡ taken_prefix_out }
 {}
 

@@ -3,13 +3,15 @@
 
 mod copies;
 mod copying;
+mod driven_names;
 mod gates;
 mod laws;
-mod name_set;
 mod naming;
 mod net_model;
 mod places;
 mod prefix;
+#[cfg(test)]
+mod tests;
 
 pub use laws::{tidy_nets_have_models, worked_rows};
 pub use net_model::{ModelRefusal, model_of};

@@ -18,7 +18,7 @@ use gate_graph::Graph;
 use rm_base::{NoMemory, NodeId};
 use rm_model::{Cover, Listed, Model, observed, sources};
 use std::alloc::Global;
-use wire_edit::{Step, first_rule};
+use wire_edit::{Seen, Step, first_rule, first_rule_by};
 
 /// Why a net has no model.
 #[derive(Clone, Copy, Debug, PartialEq, Eq)]
@@ -53,6 +53,19 @@ fn gate_of(step: Step) -> NodeId
         | Step::Twin { gate, .. }
         | Step::Dead { gate } => gate,
         Step::NewNot { node } => node,
+    }
+}
+
+// The next step of the tidying order. Without memory for marks it is looked for more slowly.
+fn next_step(alloc: Global, graph: &Graph) -> Option<Step>
+    ensures { result ≡ next_step (net_of graph.now) }
+{
+    match Seen::new(alloc, graph.node_bound()) {
+        Ok(marks) => {
+            let mut seen = marks;
+            first_rule_by(graph, &mut seen)
+        }
+        Err(_) => first_rule(graph),
     }
 }
 
@@ -114,7 +127,7 @@ pub fn model_of(alloc: Global, graph: &Graph, original: &Model) -> Result<Model,
     ensures refused { IfErr result (λ refusal. IsRefused (net_of graph.now) refusal) }
 {
     graph.well_formed();
-    if let Some(step) = first_rule(graph) {
+    if let Some(step) = next_step(alloc, graph) {
         return Err(ModelRefusal::NotTidy {
             node: gate_of(step),
         });

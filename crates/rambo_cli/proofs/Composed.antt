@@ -1,24 +1,17 @@
 -- The text that is written for a text.
-use Rattle.std.proofs.Common.{◌≡◌, ◌≢◌, ◌≤◌, ◌<◌, ◌+◌, ◌-◌, ◌^◌, ℕ, zero, suc, Bool, true, false, List, [], ◌∷◌, map, length, refl, sym, ◌∙◌, ap, arith, subst}
-use Rattle.std.specs.Prelude.{Option, None, Some, slice_get, unwrap_or}
+use Rattle.std.proofs.Common.{◌≡◌, ◌<◌, ◌+◌, ◌-◌, ℕ, zero, suc, Bool, false, List, [], ◌∷◌, map, length, refl, sym, ◌∙◌, ap, arith}
+use Rattle.std.specs.Prelude.{Some, slice_get, unwrap_or}
 use Rattle.std.proofs.lemmas.Option.{slice_get_within}
 use Rattle.rm_model.specs.Words.{Word}
-use Rattle.rm_model.specs.Value.{source_names, observed_names, IsConsistent, IsRanked, Equivalent}
+use Rattle.rm_model.specs.Value.{source_names, observed_names, IsConsistent, IsRanked}
 use Rattle.rm_model.specs.WellFormed.{IsWellFormed as IsModel}
 use Rattle.rm_model.specs.declared.parts.Model.{Model}
-use Rattle.gate_net.specs.Net.{Net, node_at, IsWellFormed, source_count, wire_count}
-use Rattle.gate_net.specs.Values.{AreGoodValues}
-use Rattle.gate_net.specs.Laws.{ValuesExist, KeepsPlaces}
-use Rattle.blif_lines.specs.Layout.{layout, lines_of}
+use Rattle.gate_net.specs.Net.{Net, source_count}
 use Rattle.blif_format.specs.Text.{text_of}
-use Rattle.blif_format.specs.Grammar.{Reads}
-use Rattle.blif_format.specs.FirstFault.{first_fault}
-use Rattle.blif_format.specs.Laws.{AreFlawless, IsAtMostLimit, ReadTextsAreFaultless, WrittenTextsRead}
+use Rattle.blif_format.specs.Laws.{ReadTextsAreFaultless, WrittenTextsRead}
 use Rattle.cover_decompose.specs.Decomposition.{net_of_model}
-use Rattle.cover_decompose.specs.Count.{decomposed}
-use Rattle.cover_decompose.specs.StandsFor.{StandsFor, HasPoints, SameAssignment}
+use Rattle.cover_decompose.specs.StandsFor.{SameAssignment}
 use Rattle.graph_to_model.specs.NetModel.{model_of_net}
-use Rattle.graph_to_model.specs.Wires.{wires}
 use Rattle.graph_to_model.specs.Fits.{Fits}
 use Rattle.graph_to_model.specs.Laws.{IsModelOf, AreFew, TidyNetsHaveModels}
 use Rattle.rambo_cli.specs.Written.{TidiesTo, IsWritten}

@@ -4,3 +4,4 @@ pub mod Reports
 pub mod Tidied
 pub mod Composed
 pub mod Bounded
+pub mod Room

@@ -9,7 +9,6 @@ use Rattle.blif_format.specs.declared.refusal.Quantity.{Quantity}
 use Rattle.rambo_cli.specs.declared.problem.Problem.{Problem}
 use Rattle.rambo_cli.specs.declared.problem.Problem.TheVariants.{Words, Text, Limit, Missing, Fault, Memory}
 use Rattle.rambo_cli.specs.Problems.{IsReported, status_of, line_of}
-use Rattle.rambo_cli.specs.Lines.{fault_line, limit_line}
 use Rattle.rambo_cli.specs.Written.{HasFault, Exceeds}
 use Rattle.rambo_cli.specs.Outcome.{Asks, Holds, Puts, EndsUnread, EndsOver}
 

@@ -1,16 +1,15 @@
 -- What stays while a net is tidied.
-use Rattle.std.proofs.Common.{◌≡◌, ◌≢◌, ◌≤◌, ◌<◌, ◌+◌, ◌-◌, ℕ, zero, suc, Bool, true, false, List, [], ◌∷◌, map, length, refl, sym, ◌∙◌, ap, arith, subst}
-use Rattle.std.specs.Prelude.{Option, None, Some, slice_get}
+use Rattle.std.proofs.Common.{◌≡◌, ◌≢◌, ◌≤◌, ◌<◌, ◌+◌, ℕ, zero, suc, Bool, true, false, List, [], ◌∷◌, map, refl, sym, ◌∙◌, ap, arith, subst}
+use Rattle.std.specs.Prelude.{Option, None, Some}
 use Rattle.gate_net.specs.declared.Kind.{Kind}
 use Rattle.gate_net.specs.declared.Kind.TheVariants.{Source, Zero, One, And, Or, Not}
 use Rattle.gate_net.specs.Net.{Node, Net, node_at, IsKind, IsWellFormed, plain_node, source_count, wire_count}
-use Rattle.gate_net.specs.Values.{AreGoodValues}
 use Rattle.gate_net.specs.Laws.{ValuesExist, KeepsPlaces}
 use Rattle.wire_edit.specs.declared.steps.Step.{Step}
 use Rattle.wire_edit.specs.declared.steps.Step.TheVariants.{Add, Fix, NewNot, Const, Same, NoPins, OnePin, Twice, Twin, Dead}
 use Rattle.wire_edit.specs.Tests.{is_gate}
-use Rattle.wire_edit.specs.Steps.{Applies, stepped}
-use Rattle.wire_edit.specs.Order.{IsTidy, next_step}
+use Rattle.wire_edit.specs.Steps.{stepped}
+use Rattle.wire_edit.specs.Order.{IsTidy}
 use Rattle.wire_edit.specs.Laws.{IsSound, IsTidying, KeepsObserved, StepsKeepForm, StepsKeepObserved, StepsKeepValues, StepsKeepSources, NextApplies}
 use Rattle.wire_edit.specs.Work.{WiresGrow, pins_made}
 use Rattle.rambo_cli.specs.Written.{TidiesTo, tidy, then}

@@ -1,9 +1,14 @@
 //! The program's commands, in one call over the words, the files, the output and the gate.
 #![tactic(auto)]
 
-mod bounds;
 mod command;
+#[cfg(test)]
+mod damaged;
+#[cfg(test)]
+mod failing;
 mod laws;
+#[cfg(test)]
+mod limits;
 mod lines;
 mod problem;
 #[cfg(test)]

@@ -4,9 +4,9 @@ use rm_base::{MemoryShelf, MemorySink, OpenGate};
 use std::alloc::{AllocError, Global};
 use std::test::Fail;
 
-const ONE_GATE: &str = ".model r1\n.inputs a b\n.outputs z\n.names a b z\n11 1\n.end\n";
+pub const ONE_GATE: &str = ".model r1\n.inputs a b\n.outputs z\n.names a b z\n11 1\n.end\n";
 
-fn words(alloc: Global, texts: &[&str]) -> Result<Vec<String>, AllocError> {
+pub fn words(alloc: Global, texts: &[&str]) -> Result<Vec<String>, AllocError> {
     let mut words = Vec::new(alloc);
     for text in texts {
         words.push(String::from_str(alloc, *text)?)?;
@@ -15,7 +15,7 @@ fn words(alloc: Global, texts: &[&str]) -> Result<Vec<String>, AllocError> {
 }
 
 // A shelf with one file, `in`.
-fn shelf(alloc: Global, text: &str, failing: &[u64]) -> Result<MemoryShelf, Fail> {
+pub fn shelf(alloc: Global, text: &str, failing: &[u64]) -> Result<MemoryShelf, Fail> {
     let mut files = Vec::new(alloc);
     files.push((
         String::from_str(alloc, "in")?,

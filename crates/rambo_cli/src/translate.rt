@@ -9,13 +9,14 @@ ghost use Rattle.blif_format.specs.declared.refusal.Quantity.{Quantity as Quanti
 ghost use Rattle.gate_graph.specs.Circuit.{net_of};
 ghost use Rattle.cover_decompose.specs.Decomposition.{net_of_model};
 ghost use Rattle.cover_decompose.specs.Count.{decomposed as wires_of};
+ghost use Rattle.wire_edit.specs.Order.{IsTidy};
 ghost use Rattle.graph_to_model.specs.NetModel.{model_of_net};
 ghost use Rattle.graph_to_model.specs.Fits.{Fits};
 ghost use Rattle.graph_to_model.specs.Laws.{AreFew};
+ghost use Rattle.rambo_cli.specs.Bounds.{IsSmall};
 ghost use Rattle.rambo_cli.specs.Written.{IsWritten, IsWrittenFor, HasFault, Exceeds, most_pins};
 ghost use Rattle.rambo_cli.specs.Problems.{IsOver};
 
-use crate::bounds::is_small;
 use crate::laws::{models_are_written, tidied_nets_fit, wires_are_bounded};
 use crate::problem::Problem;
 use crate::tidy::tidied;
@@ -26,7 +27,7 @@ use cover_decompose::{
     DecomposeRefusal, decompose, decompositions_are_formed, decompositions_stand,
 };
 use gate_graph::Graph;
-use graph_to_model::model_of;
+use graph_to_model::{ModelRefusal, model_of};
 use rm_base::NoMemory;
 use rm_model::{Model, ranks_exist};
 use std::alloc::Global;
@@ -35,15 +36,13 @@ use std::alloc::Global;
 fn graph_of(alloc: Global, model: &Model) -> Result<Graph, Problem>
     requires formed { IsWellFormed model.now }
     requires ranked { IsRanked model.now }
+    requires small { IsSmall model.now }
     ensures net { IfOk result (λ graph. net_of graph ≡ net_of_model model.now) }
     ensures few { OnOk result (wires_of model.now ≤ most_pins) }
     ensures refused { IfErr result (IsOver model.now) }
 {
     ranks_exist();
     wires_are_bounded();
-    if !is_small(alloc, model)? {
-        return Err(Problem::Memory);
-    }
     match decompose(alloc, model) {
         Ok(graph) => Ok(graph),
         Err(DecomposeRefusal::Limit { pins }) => Err(Problem::Limit {
@@ -58,12 +57,14 @@ fn graph_of(alloc: Global, model: &Model) -> Result<Graph, Problem>
 fn text_of(alloc: Global, graph: &Graph, model: &Model) -> Result<Vec<u8>, NoMemory>
     requires formed { IsWellFormed model.now }
     requires fits { Fits (net_of graph.now) model.now }
+    requires tidy { IsTidy (net_of graph.now) }
     ensures text { IfOk result (λ text. text.items ≡ model_text (model_of_net model.now (net_of graph.now))) }
     ensures few { OnOk result (AreFew (net_of graph.now) model.now) }
 {
     match model_of(alloc, graph, model) {
         Ok(made) => write_model(alloc, &made),
-        Err(_refusal) => Err(NoMemory),
+        Err(ModelRefusal::NotTidy { node: _ }) => unreachable!(),
+        Err(ModelRefusal::NoMemory) => Err(NoMemory),
     }
 }
 
@@ -71,6 +72,7 @@ fn text_of(alloc: Global, graph: &Graph, model: &Model) -> Result<Vec<u8>, NoMem
 fn written(alloc: Global, model: &Model) -> Result<Vec<u8>, Problem>
     requires formed { IsWellFormed model.now }
     requires ranked { IsRanked model.now }
+    requires small { IsSmall model.now }
     ensures few { OnOk result (wires_of model.now ≤ most_pins) }
     ensures done { IfOk result (λ output. IsWritten model.now output.items) }
     ensures refused { IfErr result (IsOver model.now) }

@@ -9,7 +9,7 @@ use Rattle.gate_net.specs.Values.{same_bool}
 use Rattle.gate_net.specs.declared.Kind.TheVariants.{Source}
 use Rattle.refutation.specs.Branches.{Branch, IsClosedOnSources, IsPartial, SplitsSource, clash, edges, here, items_of, line, quiet, split, splits, untried, untrieds}
 use Rattle.refutation.specs.Facts.{Held, none_held, same_fact, with_fact}
-use Rattle.refutation.specs.Laws.{EdgesAreCounted, PartialsAreSmall}
+use Rattle.refutation.specs.Laws.{EdgesAreCounted, PartialsAreSmall, UntriedsAreFew}
 use Rattle.refutation.specs.Stack.{splits_among, untrieds_among}
 use Rattle.refutation.specs.declared.items.Item.{Item}
 use Rattle.refutation.specs.declared.items.Item.TheVariants.{Clash, Here, Line, Quiet, Split, Untried}
@@ -152,6 +152,39 @@ module _ (net : Net) (fault : Fault) (sources : List ℕ) (all : AreSources net 
   partial_small quiet held n h c = absurd c
   partial_small untried held n h c = absurd c
 
+  closed_none : (t : Branch) (held : Held) → IsClosedOnSources net fault held t → untrieds t ≡ 0
+  closed_none (line l t) held c = closed_none t (with_fact held c.0 c.1) c.3
+  closed_none (split x first t u) held c =
+      let a : untrieds t ≡ 0 = closed_none t (with_fact held x.0 (Good first)) c.1 in
+      let b : untrieds u ≡ 0 = closed_none u (with_fact held x.0 (Good (not first))) c.2 in
+      omega arith
+  closed_none (clash x) held c = refl
+  closed_none quiet held c = refl
+  closed_none here held c = absurd c
+  closed_none untried held c = absurd c
+
+  partial_untrieds : (t : Branch) (held : Held) → IsPartial net fault held t → untrieds t ≤ left held
+  partial_untrieds (line l t) held c =
+      let le : left (with_fact held c.0 c.1) ≤ left held = left_line held c.0 c.1 in
+      let rest : untrieds t ≤ left (with_fact held c.0 c.1) = partial_untrieds t (with_fact held c.0 c.1) c.3 in
+      omega arith
+  partial_untrieds (split x first t u) held c =
+      let lt : left (with_fact held x.0 (Good first)) < left held = left_split held x.0 first c.0 in
+      let lu : left (with_fact held x.0 (Good (not first))) < left held = left_split held x.0 (not first) c.0 in
+      elim c.1 [
+        | inl open' ↦
+            let a : untrieds t ≤ left (with_fact held x.0 (Good first)) = partial_untrieds t (with_fact held x.0 (Good first)) open'.0 in
+            rw open'.1 (omega arith)
+        | inr closed ↦
+            let a : untrieds t ≡ 0 = closed_none t (with_fact held x.0 (Good first)) closed.0 in
+            let b : untrieds u ≤ left (with_fact held x.0 (Good (not first))) = partial_untrieds u (with_fact held x.0 (Good (not first))) closed.1 in
+            omega arith
+      ]
+  partial_untrieds here held c = omega arith
+  partial_untrieds (clash x) held c = absurd c
+  partial_untrieds quiet held c = absurd c
+  partial_untrieds untried held c = absurd c
+
 pub count_le : (p : ℕ → Bool) (xs : List ℕ) → counted p xs ≤ length xs
 count_le p [] = omega arith
 count_le p (x ∷ xs) = at (count_le p xs) (p x) refl
@@ -202,3 +235,12 @@ untrieds_counted untried = refl
 
 pub edges_are_counted : EdgesAreCounted
 edges_are_counted t = rw (splits_counted t, untrieds_counted t) refl
+
+pub untrieds_are_few : UntriedsAreFew
+unfolding left
+untrieds_are_few net fault items has accepted =
+    let t : Branch = accepted.0 in
+    let sources : List ℕ = numbers_from 2 (source_count net) in
+    let size : length sources ≡ source_count net = length-numbers_from 2 (source_count net) in
+    let few : untrieds t ≤ counted (is_free none_held) sources = partial_untrieds net fault sources (sources_are net has) t none_held accepted.1.1 in
+    rw (accepted.1.0, untrieds_counted t) (omega (arith, count_le (is_free none_held) sources))

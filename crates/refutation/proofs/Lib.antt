@@ -15,3 +15,4 @@ pub mod Walks
 pub mod Yielding
 pub mod OnlyReaders
 pub mod Below
+pub mod OneFact

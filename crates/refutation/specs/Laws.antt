@@ -51,6 +51,17 @@ abbrev pub PartialsAreSmall : Type 0
 PartialsAreSmall =
     (net : Net) (fault : Fault) (t : Branch) → HasSources net → IsPartial net fault none_held t → edges t + 2 ≤ 2 ^ (source_count net + 1)
 
+-- with n sources a partial tree has at most n Untrieds
+abbrev pub UntriedsAreFew : Type 0
+UntriedsAreFew =
+    (net : Net) (fault : Fault) (items : List Item) → HasSources net → AreAcceptedPartial net fault items → untrieds_among items ≤ source_count net
+
+-- a line gives one fact at most
+abbrev pub LinesGiveOne : Type 0
+LinesGiveOne =
+    (net : Net) (fault : Fault) (held : Held) (l : Line) (x y : ℕ) (fact other : Fact) → Concludes net fault held l x fact
+    → Concludes net fault held l y other → (x ≡ y) × (fact ≡ other)
+
 -- a line's condition stays met while facts come and no two are opposed
 abbrev pub LinesGrow : Type 0
 LinesGrow =

@@ -27,7 +27,8 @@ pub fn line_equal_forward(
     if !is_gate(kind) {
         return None;
     }
-    if node.0 == fault.gate.0 {
+    let is_faulty = node.0 == fault.gate.0;
+    if is_faulty {
         return None;
     }
     if !all_equal(gate_pins(graph, node), facts) {

@@ -1,5 +1,5 @@
 //! What holds of every line, every tree and every closed set of facts.
-ghost use Rattle.refutation.specs.Laws.{LinesHold, TreesRefute, StackReads, PartialReads, EdgesAreCounted, PartialsAreSmall, LinesGrow, ClosedHasAll, DetectedNeverClashes, ClosedMeet, ClosedBelow, OpenSearchesWait};
+ghost use Rattle.refutation.specs.Laws.{LinesHold, TreesRefute, StackReads, PartialReads, EdgesAreCounted, PartialsAreSmall, UntriedsAreFew, LinesGiveOne, LinesGrow, ClosedHasAll, DetectedNeverClashes, ClosedMeet, ClosedBelow, OpenSearchesWait};
 
 /// Each line keeps the truth of the held facts, wherever some observed node differs.
 pub fn lines_hold()
@@ -21,6 +21,12 @@ pub fn stack_reads()
 pub fn edges_are_few()
     ensures counted { EdgesAreCounted }
     ensures few { PartialsAreSmall }
+    ensures untried { UntriedsAreFew }
+{}
+
+/// A line gives one fact at most.
+pub fn lines_give_one()
+    ensures { LinesGiveOne }
 {}
 
 /// A line's condition stays met while facts come and no two are opposed.

@@ -18,6 +18,7 @@ pub use evaluation::evaluate;
 pub use form::is_well_formed;
 pub use laws::{one_valuation, ranks_exist, ranks_follow, tokens_are};
 pub use list::Listed;
+pub use name_table::NameTable;
 pub use parts::{Cover, Latch, LatchKind, Literal, Model, Name, Row, Timing};
 pub use points::{observed, sources};
 pub use ranking::{RankFault, rank};

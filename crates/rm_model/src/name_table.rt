@@ -1,4 +1,4 @@
-// Names that are numbered in the order in which they are added, with a look-up by hash.
+// Names that are numbered in the order in which they are added.
 ghost use Rattle.std.specs.Prelude.{◌≡◌, ◌^◌, ◌<◌, [], ◌∷◌, ◌++◌, length, map, false, is_some, OnOk, IfSome, ◌||◌, List, ℕ};
 ghost use Rattle.rm_model.specs.Value.{is_among};
 ghost use Rattle.rm_model.specs.Numbers.{place_of};
@@ -9,6 +9,7 @@ use rm_base::NoMemory;
 use std::alloc::Global;
 use std::marker::Model;
 
+/// Names in the order in which they were added, each once, with a look-up by hash.
 #[derive(Drop)]
 pub struct NameTable<'a> {
     names: IndexSet<&'a [u8]>,
@@ -23,6 +24,7 @@ impl<'a> Model for NameTable<'a> {
 }
 
 impl<'a> NameTable<'a> {
+    /// No name yet.
     pub fn new(alloc: Global) -> NameTable<'a>
         ensures { result ≡ [] }
     {
@@ -31,6 +33,7 @@ impl<'a> NameTable<'a> {
         }
     }
 
+    /// Adds a name that isn't there.
     pub fn add(&mut self, name: &'a [u8]) -> Result<(), NoMemory>
         requires { is_among self.old name.now ≡ false }
         ensures ok { OnOk result (self.new ≡ self.old ++ name.now ∷ []) }
@@ -48,6 +51,7 @@ impl<'a> NameTable<'a> {
         Ok(())
     }
 
+    /// The name's number, from 0 in the order of adding; None where it isn't there.
     pub fn place(&self, name: &[u8]) -> Option<usize>
         ensures place { result ≡ place_of self.now name.now }
         ensures within { IfSome result (λ k. k < length self.now) }
@@ -55,6 +59,7 @@ impl<'a> NameTable<'a> {
         self.names.get_index_of(name)
     }
 
+    /// Whether the name is there.
     pub fn has(&self, name: &[u8]) -> bool
         ensures { result ≡ is_among self.now name.now }
     {

@@ -1,9 +1,9 @@
 // The simulator.
-ghost use Rattle.std.specs.Prelude.{◌≡◌, ◌<◌, ◌↔◌, IfOk, IsTrue, length, map, replicate, slice_set};
+ghost use Rattle.std.specs.Prelude.{◌≡◌, ◌<◌, ◌↔◌, ℕ, Bool, IfOk, IsTrue, length, map, replicate, slice_set};
 ghost use Rattle.rm_base.specs.declared.vectors.Value3.TheVariants.{Unknown};
 ghost use Rattle.gate_net.specs.Net.{Net, source_count};
-ghost use Rattle.gate_net.specs.Values.{HasPin};
-ghost use Rattle.gate_net.specs.Forward.{IsForwardReading, MarksDetected, MarksQuiet, both_known_different};
+ghost use Rattle.gate_net.specs.Values.{HasPin, IsRun};
+ghost use Rattle.gate_net.specs.Forward.{Completes, IsForwardReading, IsTrueAt, MarksDetected, MarksQuiet, both_known_different};
 ghost use Rattle.gate_graph.specs.Circuit.{net_of};
 ghost use Rattle.refutation.specs.Pins.{AreBelow};
 ghost use Rattle.ternary_sim.specs.Marks.{seen, marking, known_source, good_at, faulty_at, equal_at};
@@ -12,6 +12,7 @@ ghost use Rattle.ternary_sim.specs.Sims.{Fits};
 use crate::marks::{NodeMarks, shown_value};
 use crate::reading::read_all;
 use gate_graph::Graph;
+use gate_net::readings_hold;
 use rm_base::vectors::Value3;
 use rm_base::{Fault, NoMemory, NodeId, SourceNo};
 use std::alloc::Global;
@@ -91,7 +92,8 @@ impl Sim {
         self.sources[source.0 as usize] = value;
     }
 
-    /// Reads forward from the sources, with the fault and without it. It takes no memory, and looks at each pin a few times.
+    /// Reads forward from the sources, with the fault and without it. What it then knows holds for every assignment that
+    /// gives the set sources their values. It takes no memory, and looks at each pin a few times.
     pub fn run_fault(&mut self, graph: &Graph, fault: &Fault)
         requires pin { HasPin (net_of graph.now) fault.now }
         requires fits { Fits self.old (net_of graph.now) }
@@ -99,8 +101,10 @@ impl Sim {
         ensures sources { self.new.sources ≡ self.old.sources }
         ensures order { self.new.order ≡ self.old.order }
         ensures fits { (net : Net) → Fits self.old net → Fits self.new net }
+        ensures sound { (a v f : ℕ → Bool) → Completes (net_of graph.now) (known_source self.new.sources) a → IsRun (net_of graph.now) fault.now a v f → (x : ℕ) → IsTrueAt (marking self.new.marks) v f x }
     {
         graph.well_formed();
+        readings_hold();
         read_all(
             graph,
             fault,

@@ -1,4 +1,4 @@
-//! Forward reading on a net of five gates, against values written by hand.
+//! Forward reading on three nets, against values written by hand.
 ghost use Rattle.std.specs.Prelude.{◌≡◌, ◌≢◌, ◌≤◌, ◌+◌, OnOk};
 ghost use Rattle.gate_net.specs.Net.{IsGateKind, Net};
 ghost use Rattle.gate_net.specs.declared.Kind.TheVariants.{Not};
@@ -76,7 +76,32 @@ fn wired(alloc: Global) -> Result<Option<Graph>, NoMemory> {
     }
 }
 
-// Values of the sources; what nodes 6, 8 and 9 then have, good, faulty and whether equal; detected and quiet.
+// Of the sources 2 and 3: 4 is And(2, 3), 5 is Or(2, 4).
+fn covered(alloc: Global) -> Result<Option<Graph>, NoMemory> {
+    let mut graph = Graph::new(alloc, 2)?;
+    let four = add_gate(&mut graph, Kind::And, 2, 3)?;
+    let five = add_gate(&mut graph, Kind::Or, 2, 4)?;
+    let seen = observe(&mut graph, 5)?;
+    if four && five && seen {
+        Ok(Some(graph))
+    } else {
+        Ok(None)
+    }
+}
+
+// Of the sources 2 and 3: 4 is And(2, 3).
+fn one_gate(alloc: Global) -> Result<Option<Graph>, NoMemory> {
+    let mut graph = Graph::new(alloc, 2)?;
+    let four = add_gate(&mut graph, Kind::And, 2, 3)?;
+    let seen = observe(&mut graph, 4)?;
+    if four && seen {
+        Ok(Some(graph))
+    } else {
+        Ok(None)
+    }
+}
+
+// Values of the sources; what three nodes then have, good, faulty and whether equal; detected and quiet.
 #[derive(Clone, Copy)]
 struct Case {
     sources: [Value3; 4],
@@ -128,6 +153,77 @@ const FAULT: Fault = Fault {
     value: true,
 };
 
+// With the fault, gate 5 still reads source 2.
+const COVERED: [Case; 4] = [
+    // The stuck pin alone makes gate 4 known.
+    Case {
+        sources: [U, U, U, U],
+        reads: [(2, U, U, true), (4, U, O, false), (5, U, U, false)],
+        detected: false,
+        quiet: false,
+    },
+    Case {
+        sources: [O, U, U, U],
+        reads: [(2, O, O, true), (4, O, O, true), (5, O, O, true)],
+        detected: false,
+        quiet: true,
+    },
+    // Gate 4 differs, and gate 5 doesn't.
+    Case {
+        sources: [I, I, U, U],
+        reads: [(2, I, I, true), (4, I, O, false), (5, I, I, true)],
+        detected: false,
+        quiet: true,
+    },
+    Case {
+        sources: [I, U, U, U],
+        reads: [(3, U, U, true), (4, U, O, false), (5, I, I, true)],
+        detected: false,
+        quiet: true,
+    },
+];
+
+const COVERED_FAULT: Fault = Fault {
+    gate: NodeId(4),
+    position: 0,
+    value: false,
+};
+
+const ONE_GATE: [Case; 4] = [
+    Case {
+        sources: [U, U, U, U],
+        reads: [(2, U, U, true), (3, U, U, true), (4, U, U, false)],
+        detected: false,
+        quiet: false,
+    },
+    // The driver of the stuck pin has the value.
+    Case {
+        sources: [U, I, U, U],
+        reads: [(2, U, U, true), (3, I, I, true), (4, U, U, true)],
+        detected: false,
+        quiet: true,
+    },
+    // It has the other one, and that alone tells nothing.
+    Case {
+        sources: [U, O, U, U],
+        reads: [(2, U, U, true), (3, O, O, true), (4, O, U, false)],
+        detected: false,
+        quiet: false,
+    },
+    Case {
+        sources: [I, O, U, U],
+        reads: [(2, I, I, true), (3, O, O, true), (4, O, I, false)],
+        detected: true,
+        quiet: false,
+    },
+];
+
+const ONE_GATE_FAULT: Fault = Fault {
+    gate: NodeId(4),
+    position: 1,
+    value: true,
+};
+
 fn set(sim: &mut Sim, source: u32, value: Value3)
     ensures { (net : Net) → Fits sim.old net → Fits sim.new net }
 {
@@ -142,8 +238,8 @@ fn reads(sim: &Sim, read: (u32, Value3, Value3, bool)) -> bool {
 }
 
 // Whether the case reads as it should.
-fn holds(alloc: Global, graph: &Graph, case: &Case) -> Result<bool, NoMemory> {
-    let Some(_) = graph.driver(FAULT.gate, FAULT.position) else {
+fn holds(alloc: Global, graph: &Graph, fault: &Fault, case: &Case) -> Result<bool, NoMemory> {
+    let Some(_) = graph.driver(fault.gate, fault.position) else {
         return Ok(false);
     };
     let mut sim = Sim::new(alloc, graph)?;
@@ -151,7 +247,7 @@ fn holds(alloc: Global, graph: &Graph, case: &Case) -> Result<bool, NoMemory> {
     set(&mut sim, 1, case.sources[1]);
     set(&mut sim, 2, case.sources[2]);
     set(&mut sim, 3, case.sources[3]);
-    sim.run_fault(graph, &FAULT);
+    sim.run_fault(graph, fault);
     let ends = sim.detected(graph) == case.detected && sim.quiet(graph) == case.quiet;
     Ok(
         ends && reads(&sim, case.reads[0])
@@ -161,10 +257,30 @@ fn holds(alloc: Global, graph: &Graph, case: &Case) -> Result<bool, NoMemory> {
 }
 
 #[test]
-fn forward_reading_by_hand(rt: HostRuntime) -> Result<(), Fail> {
+fn four_gates_and_a_not(rt: HostRuntime) -> Result<(), Fail> {
     let graph = wired(rt.alloc())?.ok_or("gates")?;
     for at in 0..CASES.len() {
-        let right = holds(rt.alloc(), &graph, &CASES[at])?;
+        let right = holds(rt.alloc(), &graph, &FAULT, &CASES[at])?;
+        assert!(rt; right, "at case {at}");
+    }
+    Ok(())
+}
+
+#[test]
+fn a_gate_beside_its_source(rt: HostRuntime) -> Result<(), Fail> {
+    let graph = covered(rt.alloc())?.ok_or("gates")?;
+    for at in 0..COVERED.len() {
+        let right = holds(rt.alloc(), &graph, &COVERED_FAULT, &COVERED[at])?;
+        assert!(rt; right, "at case {at}");
+    }
+    Ok(())
+}
+
+#[test]
+fn one_gate_alone(rt: HostRuntime) -> Result<(), Fail> {
+    let graph = one_gate(rt.alloc())?.ok_or("gates")?;
+    for at in 0..ONE_GATE.len() {
+        let right = holds(rt.alloc(), &graph, &ONE_GATE_FAULT, &ONE_GATE[at])?;
         assert!(rt; right, "at case {at}");
     }
     Ok(())

@@ -18,8 +18,12 @@ pub mod Ending
 pub mod Staying
 pub mod Walks
 pub mod RuleAt
+pub mod Gates
+pub mod NoConstants
 pub mod Reading
 pub mod Marking
+pub mod Blocks
+pub mod Repeating
 pub mod Cycles
 pub mod Touching
 pub mod Editing
@@ -27,5 +31,5 @@ pub mod Budgets
 pub mod TrialSteps
 pub mod Totalling
 pub mod Trying
-pub mod Meeting
 pub mod Sources
+pub mod Calling

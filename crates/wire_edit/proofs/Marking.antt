@@ -5,10 +5,10 @@ use Rattle.std.proofs.lemmas.Bool.{cases_eq, cases_lt}
 use Rattle.wire_edit.specs.Work.{one_if}
 use Rattle.wire_edit.specs.Marked.{is_marked, marks_left, KeepsMarks}
 
-pub marked_all : (n k : ℕ) → k < n → is_marked (replicate n true) k ≡ true
-marked_all zero k lt = absurd (omega (arith, lt))
-marked_all (suc n) zero lt = refl
-marked_all (suc n) (suc k) lt = marked_all n k (omega (arith, lt))
+pub marked_all : (b : Bool) (n k : ℕ) → k < n → is_marked (replicate n b) k ≡ b
+marked_all b zero k lt = absurd (omega (arith, lt))
+marked_all b (suc n) zero lt = refl
+marked_all b (suc n) (suc k) lt = marked_all b n k (omega (arith, lt))
 
 pub marked_is : (bs : List Bool) (k : ℕ) (d : Bool) → k < length bs → get_or bs k d ≡ is_marked bs k
 marked_is [] k d lt = absurd (omega (arith, lt))

@@ -1,33 +1,34 @@
 -- What the calls that read a graph tell of its net.
 use Rattle.std.proofs.Common.{◌≡◌, ℕ, zero, suc, ◌<◌, ◌≤◌, Bool, true, false, ◌||◌, ◌&&◌, ◌↔◌, ◌⊎◌, inl, inr, Option, Some, None, List, [], ◌∷◌, length, take, refl, sym, ◌∙◌, ap, arith}
-use Rattle.std.specs.Prelude.{slice_get, option_and_then}
-use Rattle.std.proofs.lemmas.Bool.{eq-eqb, and_from}
+use Rattle.std.specs.Prelude.{not, nat_lt, slice_get, option_and_then}
+use Rattle.std.proofs.lemmas.Bool.{eq-eqb, and_from, both_ways, lt-ltb}
 use Rattle.gate_net.specs.Net.{Net, node_at, drivers_in, drivers_of, Reads, IsObserved, IsLive, IsGate, IsWellFormed}
 use Rattle.gate_net.proofs.Bools.{not_true, and_both}
-use Rattle.gate_graph.specs.Circuit.{Circuit, net_of, fanouts_of}
+use Rattle.gate_graph.specs.Circuit.{Circuit, net_of}
 use Rattle.gate_graph.specs.Readers.{ListReaders}
 use Rattle.wire_edit.specs.Tests.{is_live, is_present, is_gate, is_not, is_junction, constant_of, driver_at, is_read_in, is_in_use, is_among, is_some_among, is_repeated}
 use Rattle.wire_edit.specs.Firsts.{IsFirst, reads_constant, is_twin}
 use Rattle.wire_edit.specs.Steps.{same_some}
-use Rattle.wire_edit.proofs.Tested.{absent, unread_unused, gate_is, not_is, among_at, at_among, at_read, read_at, same_at}
+use Rattle.wire_edit.specs.Marked.{IsQuietBelow}
+use Rattle.wire_edit.proofs.Tested.{absent, unread_unused, gate_is, not_is, among_at, at_among, at_read, read_at, same_at, not_gate}
 use Rattle.wire_edit.proofs.Keeping.{not_pin}
+use Rattle.wire_edit.proofs.Ordering.{NoRules, none_rules}
+use Rattle.wire_edit.proofs.Gates.{gates_of, gate_listed, gate_reads, no_gate}
 use Rattle.wire_edit.proofs.Formed.{free_unread}
 
 pub gate_live : (net : Net) (x : ℕ) → is_gate net x ≡ true → IsLive net x
 gate_live net x e = let g : IsGate net x = gate_is net x e in (g.0, g.1.0)
 
-pub first_reader : (v : Circuit) (x : ℕ) (places rest : List (ℕ × ℕ)) (place : ℕ × ℕ) → ListReaders v → places ≡ fanouts_of v x → places ≡ place ∷ rest → is_read_in (net_of v).nodes x ≡ true
-first_reader v x places rest place listed is first =
-    at_read (net_of v).nodes x place.0 place.1 (listed.reads x 0 place (ap (λ ps. slice_get ps 0) (sym is ∙ first)))
+pub first_reader : (v : Circuit) (x : ℕ) (gates rest : List ℕ) (gate : ℕ) → ListReaders v → gates ≡ gates_of v x → gates ≡ gate ∷ rest → is_read_in (net_of v).nodes x ≡ true
+first_reader v x gates rest gate listed is first =
+    let r : (p : ℕ) × Reads (net_of v) gate p x = gate_reads v listed x 0 gate (ap (λ (gs : List ℕ). slice_get gs 0) (sym is ∙ first)) in
+    at_read (net_of v).nodes x gate r.0 r.1
 
-pub no_reader : (v : Circuit) (x : ℕ) (places : List (ℕ × ℕ)) → ListReaders v → places ≡ fanouts_of v x → places ≡ [] → is_read_in (net_of v).nodes x ≡ false
-no_reader v x places listed is none = not_true _ (λ e.
+pub no_reader : (v : Circuit) (x : ℕ) (gates : List ℕ) → ListReaders v → gates ≡ gates_of v x → gates ≡ [] → is_read_in (net_of v).nodes x ≡ false
+no_reader v x gates listed is none = not_true _ (λ e.
     let r : (y : ℕ) × ((p : ℕ) × Reads (net_of v) y p x) = read_at (net_of v).nodes x e in
-    let k : (k : ℕ) × (slice_get (fanouts_of v x) k ≡ Some (r.0, r.1.0)) = listed.all x (r.0, r.1.0) r.1.1 in
-    nothing k.0 (r.0, r.1.0) (ap (λ ps. slice_get ps k.0) (sym (sym is ∙ none)) ∙ k.1))
-  where
-    nothing : (k : ℕ) (place : ℕ × ℕ) → slice_get {X = ℕ × ℕ} [] k ≡ Some place → ⊥
-    nothing k place e = cc
+    let k : (k : ℕ) × (slice_get (gates_of v x) k ≡ Some r.0) = gate_listed v listed x r.0 r.1.0 r.1.1 in
+    no_gate k.0 r.0 (ap (λ (gs : List ℕ). slice_get gs k.0) (sym (sym is ∙ none)) ∙ k.1))
 
 pub observed_test : (net : Net) (x : ℕ) (b : Bool) → ((b ≡ true) ↔ IsObserved net x) → b ≡ is_among x net.observed
 observed_test net x true h = let o : IsObserved net x = h.0 refl in sym (at_among x net.observed o.0 o.1)
@@ -48,12 +49,6 @@ junction_of net x g n = at (is_junction net x) (is_not net x) g n
     at false false g e = cc
 
 -- THE LEAST TWIN
-pub record Lesser (v : Circuit) (gate driver least : ℕ) (places : List (ℕ × ℕ)) : Type 0 where
-  pub most : least ≤ gate
-  pub reads : (k : ℕ) (place : ℕ × ℕ) → slice_get places k ≡ Some place → Reads (net_of v) place.0 place.1 driver
-  pub found : (least ≡ gate) ⊎ (is_twin (net_of v) gate least ≡ true)
-  pub below : (other : ℕ) → is_twin (net_of v) gate other ≡ true → (least ≤ other) ⊎ ((k : ℕ) × (slice_get places k ≡ Some (other, 0)))
-
 same_there : (o q : Option ℕ) (d : ℕ) → o ≡ Some d → q ≡ Some d → same_some o q ≡ true
 same_there None q d e f = cc
 same_there (Some y) None d e f = cc
@@ -66,77 +61,61 @@ twin_reads net gate driver other is e =
     let same : Some d.0 ≡ Some driver = sym d.1.0 ∙ is in
     (a.0, d.1.1 ∙ same)
 
-pub lesser_start : (v : Circuit) (gate driver : ℕ) (places : List (ℕ × ℕ)) → ListReaders v → driver_at (net_of v) gate 0 ≡ Some driver → places ≡ fanouts_of v driver → Lesser v gate driver gate places
-lesser_start v gate driver places listed is e = record {
-  most = omega arith;
-  reads = λ k place there. listed.reads driver k place (ap (λ ps. slice_get ps k) (sym e) ∙ there);
-  found = inl refl;
-  below = λ other t.
+-- the readers of the driver that are still to come, among them the lower Nots
+pub record Twins (v : Circuit) (gate driver : ℕ) (gates : List ℕ) : Type 0 where
+  pub reads : (k y : ℕ) → slice_get gates k ≡ Some y → (p : ℕ) × Reads (net_of v) y p driver
+  pub left : (other : ℕ) → other < gate → is_twin (net_of v) gate other ≡ true → (k : ℕ) × (slice_get gates k ≡ Some other)
+
+pub twins_start : (v : Circuit) (gate driver : ℕ) (gates : List ℕ) → ListReaders v → driver_at (net_of v) gate 0 ≡ Some driver → gates ≡ gates_of v driver → Twins v gate driver gates
+twins_start v gate driver gates listed is e = record {
+  reads = λ k y there. gate_reads v listed driver k y (ap (λ (gs : List ℕ). slice_get gs k) (sym e) ∙ there);
+  left = λ other lt t.
       let r : (is_not (net_of v) other ≡ true) × Reads (net_of v) other 0 driver = twin_reads (net_of v) gate driver other is t in
-      let k : (k : ℕ) × (slice_get (fanouts_of v driver) k ≡ Some (other, 0)) = listed.all driver (other, 0) r.1 in
-      inr (k.0, ap (λ ps. slice_get ps k.0) e ∙ k.1);
+      let k : (k : ℕ) × (slice_get (gates_of v driver) k ≡ Some other) = gate_listed v listed driver other 0 r.1 in
+      (k.0, ap (λ (gs : List ℕ). slice_get gs k.0) e ∙ k.1);
 }
 
-first_same : (p q : ℕ × ℕ) → Some p ≡ Some q → p.0 ≡ q.0
-first_same p q e = ap first_of_pair e
+pub twins_step : (v : Circuit) (gate driver reader : ℕ) (gates rest : List ℕ) → driver_at (net_of v) gate 0 ≡ Some driver → Twins v gate driver gates → gates ≡ reader ∷ rest → (reader < gate → is_not (net_of v) reader ≡ false) → Twins v gate driver rest
+twins_step v gate driver reader gates rest is t e other_kind = record {
+  reads = λ k y there. t.reads (suc k) y (ap (λ (gs : List ℕ). slice_get gs (suc k)) e ∙ there);
+  left = λ other lt twin. let k : (k : ℕ) × (slice_get gates k ≡ Some other) = t.left other lt twin in at other lt twin k.0 (ap (λ (gs : List ℕ). slice_get gs k.0) (sym e) ∙ k.1);
+}
   where
-    first_of_pair : Option (ℕ × ℕ) → ℕ
-    first_of_pair None = p.0
-    first_of_pair (Some r) = r.0
+    at : (other : ℕ) → other < gate → is_twin (net_of v) gate other ≡ true → (k : ℕ) → slice_get (reader ∷ rest) k ≡ Some other → (k : ℕ) × (slice_get rest k ≡ Some other)
+    at other lt twin zero there =
+        let same : reader ≡ other = cc in
+        let n : (is_not (net_of v) other ≡ true) × _ = twin_reads (net_of v) gate driver other is twin in
+        absurd (both_ways (is_not (net_of v) reader) (other_kind (omega (arith, lt, same))) (ap (is_not (net_of v)) same ∙ n.0))
+    at other lt twin (suc k) there = (k, there)
 
-pub lesser_step : (v : Circuit) (gate driver least next reader position : ℕ) (places rest : List (ℕ × ℕ)) → IsWellFormed (net_of v) → driver_at (net_of v) gate 0 ≡ Some driver → Lesser v gate driver least places → places ≡ (reader, position) ∷ rest → ((is_not (net_of v) reader ≡ true) × ((reader < least) × (next ≡ reader))) ⊎ ((is_not (net_of v) reader ≡ true → least ≤ reader) × (next ≡ least)) → Lesser v gate driver next rest
-lesser_step v gate driver least next reader position places rest well is l e choice = record { most = most; reads = λ k place there. l.reads (suc k) place (ap (λ ps. slice_get ps (suc k)) e ∙ there); found = found; below = below }
+pub twins_none : (v : Circuit) (gate driver : ℕ) (gates : List ℕ) → Twins v gate driver gates → gates ≡ [] → IsFirst (is_twin (net_of v) gate) gate None
+twins_none v gate driver gates t none j lt = not_true _ (λ twin.
+    let k : (k : ℕ) × (slice_get gates k ≡ Some j) = t.left j lt twin in
+    no_gate k.0 j (ap (λ (gs : List ℕ). slice_get gs k.0) (sym none) ∙ k.1))
+
+-- where no rule applies at a lower number, no two lower Nots have one driver
+one_twin : (net : Net) (gate driver one other : ℕ) → driver_at net gate 0 ≡ Some driver → IsQuietBelow net gate → one < gate → other < one → is_twin net gate one ≡ true → is_twin net gate other ≡ true → ⊥
+one_twin net gate driver one other is quiet lt less first second =
+    let a : (is_not net one ≡ true) × Reads net one 0 driver = twin_reads net gate driver one is first in
+    let b : (is_not net other ≡ true) × Reads net other 0 driver = twin_reads net gate driver other is second in
+    let none : NoRules net one = none_rules net one (quiet one lt) in
+    let same : same_some (driver_at net one 0) (driver_at net other 0) ≡ true = same_there (driver_at net one 0) (driver_at net other 0) driver a.1 b.1 in
+    used (is_in_use net one) a.0 same (lt-ltb other one less) refl none b.0
   where
-    reads : Reads (net_of v) reader position driver
-    reads = l.reads 0 (reader, position) (ap (λ ps. slice_get ps 0) e)
+    used : (u : Bool) → is_not net one ≡ true → same_some (driver_at net one 0) (driver_at net other 0) ≡ true → nat_lt other one ≡ true → is_in_use net one ≡ u → NoRules net one → is_not net other ≡ true → ⊥
+    used true n same lower u none m =
+        both_ways _ (none.no_twin other) (and_from (is_not net one) _ n (and_from (is_in_use net one) _ u (and_from (is_not net other) _ m (and_from (nat_lt other one) _ lower same))))
+    used false n same lower u none m = both_ways _ none.no_dead (and_from (is_gate net one) _ (not_gate net one n) (ap not u))
 
-    most : next ≤ gate
-    most = elim choice [ inl c ↦ omega (arith, c.1.0, c.1.1, l.most) | inr c ↦ omega (arith, c.1, l.most) ]
-
-    found : (next ≡ gate) ⊎ (is_twin (net_of v) gate next ≡ true)
-    found = elim choice [
-      | inl c ↦
-          let own : Reads (net_of v) reader 0 driver = not_pin (net_of v) well reader position driver (not_is (net_of v) reader c.0) reads in
-          inr (ap (is_twin (net_of v) gate) c.1.1 ∙ and_from (is_not (net_of v) reader) _ c.0 (same_there (driver_at (net_of v) gate 0) (driver_at (net_of v) reader 0) driver is own))
-      | inr c ↦ elim l.found [ inl g ↦ inl (c.1 ∙ g) | inr t ↦ inr (ap (is_twin (net_of v) gate) c.1 ∙ t) ]
-    ]
-
-    below : (other : ℕ) → is_twin (net_of v) gate other ≡ true → (next ≤ other) ⊎ ((k : ℕ) × (slice_get rest k ≡ Some (other, 0)))
-    below other t = elim (l.below other t) [
-      | inl le ↦ inl (elim choice [ inl c ↦ omega (arith, c.1.0, c.1.1, le) | inr c ↦ omega (arith, c.1, le) ])
-      | inr k ↦ at k.0 (ap (λ ps. slice_get ps k.0) (sym e) ∙ k.1)
-    ]
-      where
-        at : (k : ℕ) → slice_get ((reader, position) ∷ rest) k ≡ Some (other, 0) → (next ≤ other) ⊎ ((k : ℕ) × (slice_get rest k ≡ Some (other, 0)))
-        at zero there =
-            let same : reader ≡ other = first_same (reader, position) (other, 0) there in
-            let n : (is_not (net_of v) other ≡ true) × _ = twin_reads (net_of v) gate driver other is t in
-            inl (elim choice [ inl c ↦ omega (arith, c.1.1, same) | inr c ↦ let le : least ≤ reader = c.0 (ap (is_not (net_of v)) same ∙ n.0) in omega (arith, le, c.1, same) ])
-        at (suc k) there = inr (k, there)
-
-pub lesser_found : (v : Circuit) (gate driver least : ℕ) (places : List (ℕ × ℕ)) → Lesser v gate driver least places → places ≡ [] → least < gate → IsFirst (is_twin (net_of v) gate) gate (Some least)
-lesser_found v gate driver least places l none lt = (
-  lt,
-  (
-    elim l.found [ inl is ↦ absurd (omega (arith, is, lt)) | inr t ↦ t ],
-    λ j below. not_true _ (λ t. elim (l.below j t) [
-      | inl le ↦ omega (arith, le, below)
-      | inr k ↦ no_place k.0 (j, 0) (ap (λ ps. slice_get ps k.0) (sym none) ∙ k.1)
-    ]),
-  ),
-)
+pub twins_found : (v : Circuit) (gate driver reader : ℕ) (gates rest : List ℕ) → IsWellFormed (net_of v) → driver_at (net_of v) gate 0 ≡ Some driver → IsQuietBelow (net_of v) gate → Twins v gate driver gates → gates ≡ reader ∷ rest → reader < gate → is_not (net_of v) reader ≡ true → IsFirst (is_twin (net_of v) gate) gate (Some reader)
+twins_found v gate driver reader gates rest well is quiet t e lt n =
+    (lt, (here, λ j less. not_true _ (λ twin. one_twin (net_of v) gate driver reader j is quiet lt less here twin)))
   where
-    no_place : (k : ℕ) (place : ℕ × ℕ) → slice_get {X = ℕ × ℕ} [] k ≡ Some place → ⊥
-    no_place k place e = cc
-
-pub lesser_none : (v : Circuit) (gate driver least : ℕ) (places : List (ℕ × ℕ)) → Lesser v gate driver least places → places ≡ [] → gate ≤ least → IsFirst (is_twin (net_of v) gate) gate None
-lesser_none v gate driver least places l none le j lt = not_true _ (λ t. elim (l.below j t) [
-  | inl small ↦ omega (arith, small, lt, le)
-  | inr k ↦ no_place k.0 (j, 0) (ap (λ ps. slice_get ps k.0) (sym none) ∙ k.1)
-])
-  where
-    no_place : (k : ℕ) (place : ℕ × ℕ) → slice_get {X = ℕ × ℕ} [] k ≡ Some place → ⊥
-    no_place k place e = cc
+    here : is_twin (net_of v) gate reader ≡ true
+    here =
+        let r : (p : ℕ) × Reads (net_of v) reader p driver = t.reads 0 reader (ap (λ (gs : List ℕ). slice_get gs 0) e) in
+        let own : Reads (net_of v) reader 0 driver = not_pin (net_of v) well reader r.0 driver (not_is (net_of v) reader n) r.1 in
+        and_from (is_not (net_of v) reader) _ n (same_there (driver_at (net_of v) gate 0) (driver_at (net_of v) reader 0) driver is own)
 
 pub not_driven : (net : Net) (gate : ℕ) → IsWellFormed net → is_not net gate ≡ true → driver_at net gate 0 ≡ None → ⊥
 not_driven net gate well n none =

@@ -9,6 +9,7 @@ use Rattle.wire_edit.specs.Tests.{is_live, is_not}
 use Rattle.wire_edit.specs.Marked.{is_marked, KeepsMarks}
 use Rattle.wire_edit.specs.Touched.{IsReadBy, IsNotOf}
 use Rattle.wire_edit.proofs.Tested.{absent}
+use Rattle.wire_edit.proofs.Gates.{gates_of, gate_listed, no_gate}
 
 pub keeps_refl : (m : List Bool) → KeepsMarks m m
 keeps_refl m = record { count = refl; kept = λ k e. e }
@@ -29,77 +30,62 @@ dead_reads net gate x e (p, reads) = nothing p x (ap (λ o. slice_get (drivers_i
     nothing : (p x : ℕ) → slice_get {X = ℕ} [] p ≡ Some x → ⊥
     nothing p x e = cc
 
--- a walk over the readers that has come to these places; the test tells which readers are marked
-pub record Walked (v : Circuit) (node : ℕ) (test : ℕ → Bool) (before marks : List Bool) (places : List (ℕ × ℕ)) : Type 0 where
+-- a walk over the readers that has come to these gates; the test tells which readers are marked
+pub record Walked (v : Circuit) (node : ℕ) (test : ℕ → Bool) (before marks : List Bool) (gates : List ℕ) : Type 0 where
   pub keeps : KeepsMarks before marks
-  pub left : (y p : ℕ) → test y ≡ true → Reads (net_of v) y p node → y < length marks → (is_marked marks y ≡ true) ⊎ ((k : ℕ) × (slice_get places k ≡ Some (y, p)))
+  pub left : (y p : ℕ) → test y ≡ true → Reads (net_of v) y p node → y < length marks → (is_marked marks y ≡ true) ⊎ ((k : ℕ) × (slice_get gates k ≡ Some y))
 
-pub walk_start : (v : Circuit) (node : ℕ) (test : ℕ → Bool) (marks : List Bool) (places : List (ℕ × ℕ)) → ListReaders v → places ≡ fanouts_of v node → Walked v node test marks marks places
-walk_start v node test marks places listed e = record {
+pub walk_start : (v : Circuit) (node : ℕ) (test : ℕ → Bool) (marks : List Bool) (gates : List ℕ) → ListReaders v → gates ≡ gates_of v node → Walked v node test marks marks gates
+walk_start v node test marks gates listed e = record {
   keeps = keeps_refl marks;
   left = λ y p t reads lt.
-      let k : (k : ℕ) × (slice_get (fanouts_of v node) k ≡ Some (y, p)) = listed.all node (y, p) reads in
-      inr (k.0, ap (λ ps. slice_get ps k.0) e ∙ k.1);
+      let k : (k : ℕ) × (slice_get (gates_of v node) k ≡ Some y) = gate_listed v listed node y p reads in
+      inr (k.0, ap (λ (gs : List ℕ). slice_get gs k.0) e ∙ k.1);
 }
 
-same_pair : (p q : ℕ × ℕ) → Some p ≡ Some q → p.0 ≡ q.0
-same_pair p q e = ap first e
-  where
-    first : Option (ℕ × ℕ) → ℕ
-    first None = p.0
-    first (Some r) = r.0
-
-pub walk_step : (v : Circuit) (node : ℕ) (test : ℕ → Bool) (before marks next : List Bool) (reader position : ℕ) (places rest : List (ℕ × ℕ)) → Walked v node test before marks places → places ≡ (reader, position) ∷ rest → KeepsMarks marks next → (test reader ≡ true → reader < length next → is_marked next reader ≡ true) → Walked v node test before next rest
-walk_step v node test before marks next reader position places rest w e k marked = record {
+pub walk_step : (v : Circuit) (node : ℕ) (test : ℕ → Bool) (before marks next : List Bool) (reader : ℕ) (gates rest : List ℕ) → Walked v node test before marks gates → gates ≡ reader ∷ rest → KeepsMarks marks next → (test reader ≡ true → reader < length next → is_marked next reader ≡ true) → Walked v node test before next rest
+walk_step v node test before marks next reader gates rest w e k marked = record {
   keeps = keeps_on before marks next w.keeps k;
   left = λ y p t reads lt. elim (w.left y p t reads (omega (arith, lt, k.count))) [
     | inl done ↦ inl (k.kept y done)
-    | inr there ↦ at y p t lt there.0 (ap (λ ps. slice_get ps there.0) (sym e) ∙ there.1)
+    | inr there ↦ at y t lt there.0 (ap (λ (gs : List ℕ). slice_get gs there.0) (sym e) ∙ there.1)
   ];
 }
   where
-    at : (y p : ℕ) → test y ≡ true → y < length next → (j : ℕ) → slice_get ((reader, position) ∷ rest) j ≡ Some (y, p) → (is_marked next y ≡ true) ⊎ ((k : ℕ) × (slice_get rest k ≡ Some (y, p)))
-    at y p t lt zero there =
-        let same : reader ≡ y = same_pair (reader, position) (y, p) there in
-        inl (ap (is_marked next) (sym same) ∙ marked (ap test same ∙ t) (omega (arith, lt, same)))
-    at y p t lt (suc j) there = inr (j, there)
+    at : (y : ℕ) → test y ≡ true → y < length next → (j : ℕ) → slice_get (reader ∷ rest) j ≡ Some y → (is_marked next y ≡ true) ⊎ ((k : ℕ) × (slice_get rest k ≡ Some y))
+    at y t lt zero there = let same : reader ≡ y = cc in inl (ap (is_marked next) (sym same) ∙ marked (ap test same ∙ t) (omega (arith, lt, same)))
+    at y t lt (suc j) there = inr (j, there)
 
-pub walk_end : (v : Circuit) (node : ℕ) (test : ℕ → Bool) (before marks : List Bool) (places : List (ℕ × ℕ)) → Walked v node test before marks places → places ≡ [] → (y p : ℕ) → test y ≡ true → Reads (net_of v) y p node → y < length marks → is_marked marks y ≡ true
-walk_end v node test before marks places w none y p t reads lt = elim (w.left y p t reads lt) [
+pub walk_end : (v : Circuit) (node : ℕ) (test : ℕ → Bool) (before marks : List Bool) (gates : List ℕ) → Walked v node test before marks gates → gates ≡ [] → (y p : ℕ) → test y ≡ true → Reads (net_of v) y p node → y < length marks → is_marked marks y ≡ true
+walk_end v node test before marks gates w none y p t reads lt = elim (w.left y p t reads lt) [
   | inl done ↦ done
-  | inr there ↦ absurd (nothing there.0 (y, p) (ap (λ ps. slice_get ps there.0) (sym none) ∙ there.1))
+  | inr there ↦ absurd (no_gate there.0 y (ap (λ (gs : List ℕ). slice_get gs there.0) (sym none) ∙ there.1))
 ]
-  where
-    nothing : (k : ℕ) (place : ℕ × ℕ) → slice_get {X = ℕ × ℕ} [] k ≡ Some place → ⊥
-    nothing k place e = cc
 
 -- whether a Not was met
-pub record Met (v : Circuit) (node : ℕ) (found : Bool) (places : List (ℕ × ℕ)) : Type 0 where
-  pub left : found ≡ false → (y p : ℕ) → is_not (net_of v) y ≡ true → Reads (net_of v) y p node → (k : ℕ) × (slice_get places k ≡ Some (y, p))
+pub record Met (v : Circuit) (node : ℕ) (found : Bool) (gates : List ℕ) : Type 0 where
+  pub left : found ≡ false → (y p : ℕ) → is_not (net_of v) y ≡ true → Reads (net_of v) y p node → (k : ℕ) × (slice_get gates k ≡ Some y)
 
-pub met_start : (v : Circuit) (node : ℕ) (places : List (ℕ × ℕ)) → ListReaders v → places ≡ fanouts_of v node → Met v node false places
-met_start v node places listed e = record {
-  left = λ no_found y p t reads. let k : (k : ℕ) × (slice_get (fanouts_of v node) k ≡ Some (y, p)) = listed.all node (y, p) reads in (k.0, ap (λ ps. slice_get ps k.0) e ∙ k.1);
+pub met_start : (v : Circuit) (node : ℕ) (gates : List ℕ) → ListReaders v → gates ≡ gates_of v node → Met v node false gates
+met_start v node gates listed e = record {
+  left = λ no_found y p t reads. let k : (k : ℕ) × (slice_get (gates_of v node) k ≡ Some y) = gate_listed v listed node y p reads in (k.0, ap (λ (gs : List ℕ). slice_get gs k.0) e ∙ k.1);
 }
 
-pub met_step : (v : Circuit) (node : ℕ) (found next : Bool) (reader position : ℕ) (places rest : List (ℕ × ℕ)) → Met v node found places → places ≡ (reader, position) ∷ rest → (next ≡ false → (found ≡ false) × (is_not (net_of v) reader ≡ false)) → Met v node next rest
-met_step v node found next reader position places rest m e both = record {
+pub met_step : (v : Circuit) (node : ℕ) (found next : Bool) (reader : ℕ) (gates rest : List ℕ) → Met v node found gates → gates ≡ reader ∷ rest → (next ≡ false → (found ≡ false) × (is_not (net_of v) reader ≡ false)) → Met v node next rest
+met_step v node found next reader gates rest m e both = record {
   left = λ none y p t reads.
-      let k : (k : ℕ) × (slice_get places k ≡ Some (y, p)) = m.left (both none).0 y p t reads in
-      at none y p t k.0 (ap (λ ps. slice_get ps k.0) (sym e) ∙ k.1);
+      let k : (k : ℕ) × (slice_get gates k ≡ Some y) = m.left (both none).0 y p t reads in
+      at none y t k.0 (ap (λ (gs : List ℕ). slice_get gs k.0) (sym e) ∙ k.1);
 }
   where
-    at : next ≡ false → (y p : ℕ) → is_not (net_of v) y ≡ true → (j : ℕ) → slice_get ((reader, position) ∷ rest) j ≡ Some (y, p) → (k : ℕ) × (slice_get rest k ≡ Some (y, p))
-    at none y p t zero there = absurd (both_ways (is_not (net_of v) reader) (both none).1 (ap (is_not (net_of v)) (same_pair (reader, position) (y, p) there) ∙ t))
-    at none y p t (suc j) there = (j, there)
+    at : next ≡ false → (y : ℕ) → is_not (net_of v) y ≡ true → (j : ℕ) → slice_get (reader ∷ rest) j ≡ Some y → (k : ℕ) × (slice_get rest k ≡ Some y)
+    at none y t zero there = let same : reader ≡ y = cc in absurd (both_ways (is_not (net_of v) reader) (both none).1 (ap (is_not (net_of v)) same ∙ t))
+    at none y t (suc j) there = (j, there)
 
-pub met_end : (v : Circuit) (node : ℕ) (found : Bool) (places : List (ℕ × ℕ)) → Met v node found places → places ≡ [] → found ≡ false → (y : ℕ) → IsNotOf (net_of v) node y → ⊥
-met_end v node found places m none f y n =
-    let k : (k : ℕ) × (slice_get places k ≡ Some (y, 0)) = m.left f y 0 n.0 n.1 in
-    nothing k.0 (y, 0) (ap (λ ps. slice_get ps k.0) (sym none) ∙ k.1)
-  where
-    nothing : (k : ℕ) (place : ℕ × ℕ) → slice_get {X = ℕ × ℕ} [] k ≡ Some place → ⊥
-    nothing k place e = cc
+pub met_end : (v : Circuit) (node : ℕ) (found : Bool) (gates : List ℕ) → Met v node found gates → gates ≡ [] → found ≡ false → (y : ℕ) → IsNotOf (net_of v) node y → ⊥
+met_end v node found gates m none f y n =
+    let k : (k : ℕ) × (slice_get gates k ≡ Some y) = m.left f y 0 n.0 n.1 in
+    no_gate k.0 y (ap (λ (gs : List ℕ). slice_get gs k.0) (sym none) ∙ k.1)
 
 -- a walk over the drivers
 pub record Driven (ds : List ℕ) (before marks : List Bool) (left : List ℕ) : Type 0 where

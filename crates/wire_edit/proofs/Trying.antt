@@ -16,13 +16,14 @@ use Rattle.wire_edit.specs.Tests.{is_gate}
 use Rattle.wire_edit.specs.Changes.{Change, append, remove, fix, readers, new_not, retire}
 use Rattle.wire_edit.specs.Refusals.{has_room, room_after, nodes_made}
 use Rattle.wire_edit.specs.Laws.{IsTidying}
-use Rattle.wire_edit.specs.Order.{rule_at, next_step}
+use Rattle.std.specs.Prelude.{not}
+use Rattle.wire_edit.specs.Order.{rule_at, next_step, IsTidy}
 use Rattle.wire_edit.specs.Work.{pins_made}
 use Rattle.wire_edit.specs.Edited.{edit_of, IsNewNot}
 use Rattle.wire_edit.specs.Touched.{IsNotOf}
 use Rattle.wire_edit.specs.Marked.{is_marked, KeepsMarks, IsQuiet, MarksTouched}
 use Rattle.wire_edit.specs.Trials.{IsTrial}
-use Rattle.wire_edit.proofs.Ordering.{none_from, gate_below}
+use Rattle.wire_edit.proofs.Ordering.{none_from, from_none, gate_below}
 use Rattle.wire_edit.proofs.RuleAt.{first_found, no_rule}
 use Rattle.wire_edit.proofs.Editing.{edited_net}
 
@@ -83,17 +84,28 @@ pub quiet_cleared : (net : Net) (marks next : List Bool) (x : ℕ) → IsQuiet n
 quiet_cleared net marks next x quiet none others k e = elim (cases_eq k x) [ inl is ↦ ap (rule_at net) is ∙ none | inr ne ↦ quiet k (others k e ne) ]
 
 -- THE BEGINNING
-pub begun : (w : Circuit) (net : Net) (trail : Trail) (room : Room) (wires entries numbers : ℕ) (agenda : List Bool) → net_of w ≡ net → trail.entries ≡ [] → CanGoBack (wiring w) [] → wires ≡ wire_count net → room.steps + wires + room.pins ≤ entries → entries ≤ trail.spare → room.pins ≤ free_pins w → room.nodes ≤ free_nodes w → min (length net.nodes + room.nodes) 4294967295 ≤ numbers → length net.nodes ≤ 4294967295 → (length agenda ≡ numbers) × ((k : ℕ) → k < numbers → is_marked agenda k ≡ true) → IsTrial w trail room numbers agenda
-begun w net trail room wires entries numbers agenda is none back wires_are needed reserved pins nodes count few marked = record {
+tidy_rules : (net : Net) → IsTidy net → (x : ℕ) → rule_at net x ≡ None
+tidy_rules net e x = elim (cases_lt x (length net.nodes)) [
+  | inl lt ↦ from_none (rule_at net) 0 (length net.nodes) e x (omega arith) (omega (arith, lt))
+  | inr above ↦ no_rule net x (not_true (is_gate net x) (λ g. let lt : x < length net.nodes = gate_below net x g in omega (arith, lt, above)))
+]
+
+-- no rule applies at an unmarked number: in a tidy net at none, and else all are marked
+pub begins_quiet : (net : Net) (tidy : Bool) (numbers : ℕ) (agenda : List Bool) → (tidy ≡ true → IsTidy net) → ((k : ℕ) → k < numbers → is_marked agenda k ≡ not tidy) → (x : ℕ) → x < numbers → is_marked agenda x ≡ false → rule_at net x ≡ None
+begins_quiet net true numbers agenda tidy marked x lt unmarked = tidy_rules net (tidy refl) x
+begins_quiet net false numbers agenda tidy marked x lt unmarked = absurd (both_ways (is_marked agenda x) unmarked (marked x lt))
+
+pub begun : (w : Circuit) (net : Net) (trail : Trail) (room : Room) (wires entries numbers : ℕ) (agenda : List Bool) → net_of w ≡ net → trail.entries ≡ [] → CanGoBack (wiring w) [] → wires ≡ wire_count net → room.steps + wires + room.pins ≤ entries → entries ≤ trail.spare → room.pins ≤ free_pins w → room.nodes ≤ free_nodes w → min (length net.nodes + room.nodes) 4294967295 ≤ numbers → length net.nodes ≤ 4294967295 → length agenda ≡ numbers → ((x : ℕ) → x < numbers → is_marked agenda x ≡ false → rule_at net x ≡ None) → IsTrial w trail room numbers agenda
+begun w net trail room wires entries numbers agenda is none back wires_are needed reserved pins nodes count few long unmarked_quiet = record {
   back = subst (λ (es : List Entry). CanGoBack (wiring w) es) (sym none) back;
   within = subst (λ (es : List Entry). AreWithin (length w.kinds) es) (sym none) tt;
   entries = omega (arith, ap wire_count is, wires_are, needed, reserved);
   pins = pins;
   nodes = nodes;
   marks_suffice = omega (arith, ap (λ (n : Net). length n.nodes) is, count);
-  agenda_suffices = omega (arith, marked.0);
+  agenda_suffices = omega (arith, long);
   quiet = λ x unmarked. elim (cases_lt x numbers) [
-    | inl lt ↦ absurd (both_ways (is_marked agenda x) unmarked (marked.1 x lt))
+    | inl lt ↦ ap (λ (n : Net). rule_at n x) is ∙ unmarked_quiet x lt unmarked
     | inr above ↦ no_rule (net_of w) x (not_true (is_gate (net_of w) x) (λ g.
         let lt : x < length (net_of w).nodes = gate_below (net_of w) x g in omega (arith, lt, above, ap (λ (n : Net). length n.nodes) is, count, few)))
   ];

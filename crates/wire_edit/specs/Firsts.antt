@@ -1,6 +1,8 @@
 -- The first number that passes a test.
 use Rattle.std.specs.Prelude.{◌≡◌, ℕ, ◌<◌, Bool, true, false, ◌&&◌, Option, Some, None}
 use Rattle.gate_net.specs.Net.{Net}
+use Rattle.wire_edit.specs.declared.steps.Step.{Step}
+use Rattle.wire_edit.specs.declared.steps.Step.TheVariants.{Same}
 use Rattle.wire_edit.specs.Tests.{is_present, is_not, constant_at, driver_at}
 use Rattle.wire_edit.specs.Steps.{same_some}
 
@@ -11,6 +13,15 @@ IsFirst test count (Some k) = (k < count) × ((test k ≡ true) × ((j : ℕ) �
 
 abbrev pub reads_constant : Net → ℕ → ℕ → Bool
 reads_constant net gate position = is_present (constant_at net gate position)
+
+-- no pin of the gate reads a constant
+abbrev pub ReadsNoConstant : Net → ℕ → Type 0
+ReadsNoConstant net gate = (position : ℕ) → reads_constant net gate position ≡ false
+
+-- the gate of a `Same` reads no constant
+abbrev pub IsPlainAfter : Net → Step → Type 0
+IsPlainAfter net (Same gate position) = ReadsNoConstant net gate.0
+IsPlainAfter net _ = Unit {0}
 
 -- a Not with the driver of that Not
 abbrev pub is_twin : Net → ℕ → ℕ → Bool

@@ -8,6 +8,7 @@ pub mod Firsts
 pub mod Marked
 pub mod Edited
 pub mod Tried
+pub mod Calls
 pub mod Trials
 pub mod Work
 pub mod Laws

@@ -1,16 +1,19 @@
 //! The gates that tidying has to look at.
 ghost use Rattle.std.specs.Prelude.{◌≡◌, ◌≢◌, ◌+◌, ◌<◌, ◌≤◌, ℕ, true, false, length, IfOk, MatchOption};
-ghost use Rattle.wire_edit.specs.Marked.{is_marked, marks_left, KeepsMarks};
+ghost use Rattle.wire_edit.specs.Marked.{is_marked, marks_left, KeepsMarks, IsFirstMark};
 
 use rm_base::NoMemory;
 use std::alloc::Global;
 use std::marker::Model;
 
-// Marks by number. None is set below `low`.
+// How many numbers a block has.
+const BLOCK: usize = 256;
+
+// Marks by number. A block without a mark here has no number with one.
 #[derive(Drop)]
 pub(crate) struct Agenda {
     marks: Vec<bool>,
-    low: usize,
+    blocks: Vec<bool>,
 }
 
 impl Model for Agenda {
@@ -18,21 +21,41 @@ impl Model for Agenda {
 
     ghost Value = { List Bool };
 
-    ghost use Rattle.std.specs.Prelude.{◌≡◌, ◌<◌, ◌≤◌, ℕ, false, length};
-    ghost use Rattle.wire_edit.specs.Marked.{is_marked};
+    ghost use Rattle.wire_edit.specs.Marked.{IsBlocked};
 
     ghost view = { λ a. a.marks.items };
 
-    ghost invariant = { λ a. ((k : ℕ) → k < a.low → is_marked a.marks.items k ≡ false) × (length a.marks.items ≤ 4294967295) };
+    ghost invariant = { λ a. IsBlocked a.marks.items a.blocks.items };
+}
+
+// The first number with a mark from one number on, and before another.
+fn first_mark(marks: &[bool], from: usize, end: usize) -> Option<usize>
+    requires { end ≤ length marks.now }
+    ensures { IsFirstMark marks.now from end result }
+{
+    for number in from..end {
+        if marks[number] {
+            return Some(number);
+        }
+    }
+    None
 }
 
 impl Agenda {
-    // All numbers below the count, each with a mark.
-    pub(crate) fn new(alloc: Global, count: u32) -> Result<Agenda, NoMemory>
-        ensures { IfOk result (λ a. (length a ≡ count) × ((k : ℕ) → k < count → is_marked a k ≡ true)) }
+    // All numbers below the count, each with a mark or none.
+    pub(crate) fn new(alloc: Global, count: u32, marked: bool) -> Result<Agenda, NoMemory>
+        ensures { IfOk result (λ a. (length a ≡ count) × ((k : ℕ) → k < count → is_marked a k ≡ marked)) }
     {
-        let marks = vec![in alloc; true; count as usize]?;
-        Ok(Agenda { marks, low: 0 })
+        let marks = vec![in alloc; marked; count as usize]?;
+        let blocks = vec![in alloc; marked; count as usize / BLOCK + 1]?;
+        Ok(Agenda { marks, blocks })
+    }
+
+    // How many numbers have a place.
+    pub(crate) fn count(&self) -> usize
+        ensures { result ≡ length self.now }
+    {
+        self.marks.len()
     }
 
     // Sets a mark, if the number has a place.
@@ -45,21 +68,21 @@ impl Agenda {
             return;
         }
         self.marks[place] = true;
-        if place < self.low {
-            self.low = place;
-        }
+        self.blocks[place / BLOCK] = true;
     }
 
-    // The least number with a mark.
+    // The least number with a mark. Marks are taken from blocks that turn out to have none.
     pub(crate) fn least(&mut self) -> Option<u32>
         ensures same { self.new ≡ self.old }
         ensures least { MatchOption result ((k : ℕ) → is_marked self.new k ≡ false) (λ x. (is_marked self.new x ≡ true) × ((k : ℕ) → k < x → is_marked self.new k ≡ false)) }
     {
-        while self.low < self.marks.len() {
-            if self.marks[self.low] {
-                return Some(self.low as u32);
+        while let Some(block) = first_mark(&self.blocks, 0, self.blocks.len()) {
+            let first = block * BLOCK;
+            let end = (first + BLOCK).min(self.marks.len());
+            if let Some(number) = first_mark(&self.marks, first, end) {
+                return Some(number as u32);
             }
-            self.low += 1;
+            self.blocks[block] = false;
         }
         None
     }

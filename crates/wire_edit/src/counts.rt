@@ -1,7 +1,7 @@
 //! How large a net is.
-ghost use Rattle.std.specs.Prelude.{◌≡◌, ◌<◌, ◌≤◌, ◌^◌, ◌+◌, MatchOption, length, nat_lt};
+ghost use Rattle.std.specs.Prelude.{◌≡◌, ◌<◌, ◌≤◌, nat_lt};
 ghost use Rattle.gate_graph.specs.Circuit.{net_of};
-ghost use Rattle.gate_net.specs.Net.{node_at, drivers_of, wire_count};
+ghost use Rattle.gate_net.specs.Net.{node_at, wire_count};
 ghost use Rattle.wire_edit.specs.Tests.{live_in};
 ghost use Rattle.wire_edit.specs.Refusals.{live_count, ceiling};
 
@@ -11,34 +11,6 @@ use rm_base::NodeId;
 
 /// How many wires, or live nodes, a net may have.
 pub(crate) const CEILING: usize = 1_073_741_824;
-
-// How many pins a node has.
-fn pin_count(graph: &Graph, node: NodeId) -> usize
-    ensures { result ≡ length (drivers_of (net_of graph.now) node.0) }
-{
-    if !is_live(graph, node) {
-        return 0;
-    }
-    let mut count = 0usize;
-    for _ in graph.inputs_of(node) {
-        count += 1;
-    }
-    count
-}
-
-// How many wires the net has, or None where no number tells.
-pub(crate) fn wire_total(graph: &Graph) -> Option<usize>
-    ensures { MatchOption result (2 ^ 64 ≤ wire_count (net_of graph.now)) (λ n. n ≡ wire_count (net_of graph.now)) }
-{
-    let mut total = 0usize;
-    for number in 0..graph.node_bound() {
-        match total.checked_add(pin_count(graph, NodeId(number))) {
-            Some(sum) => total = sum,
-            None => return None,
-        }
-    }
-    Some(total)
-}
 
 // One for a live node.
 fn live_one(graph: &Graph, node: NodeId) -> usize
@@ -59,21 +31,23 @@ pub(crate) fn live_total(graph: &Graph) -> usize
     total
 }
 
-// Whether the net has fewer wires than the ceiling.
-pub(crate) fn few_wires(graph: &Graph) -> bool
+// Whether the net has fewer wires than the ceiling. They are counted only where the bound reaches it.
+pub(crate) fn few_wires(graph: &Graph, most: usize) -> bool
+    requires { wire_count (net_of graph.now) ≤ most }
     ensures { result ≡ nat_lt (wire_count (net_of graph.now)) ceiling }
 {
-    match wire_total(graph) {
-        Some(total) => total < CEILING,
-        None => false,
+    if most < CEILING {
+        return true;
     }
+    (graph.wire_count() as usize) < CEILING
 }
 
-// Whether fewer nodes live than the ceiling. Nodes are counted only where their numbers reach it.
-pub(crate) fn few_nodes(graph: &Graph) -> bool
+// Whether fewer nodes live than the ceiling. They are counted only where the bound reaches it.
+pub(crate) fn few_nodes(graph: &Graph, most: usize) -> bool
+    requires { most < ceiling → live_count (net_of graph.now) ≤ most }
     ensures { result ≡ nat_lt (live_count (net_of graph.now)) ceiling }
 {
-    if (graph.node_bound() as usize) < CEILING {
+    if most < CEILING {
         return true;
     }
     live_total(graph) < CEILING

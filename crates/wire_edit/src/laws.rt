@@ -2,11 +2,14 @@
 ghost use Rattle.std.specs.Prelude.{◌≡◌, Some, None, true, false};
 ghost use Rattle.wire_edit.specs.Laws.{StepsKeepForm, StepsKeepObserved, StepsKeepSources, StepsKeepValues, AnswersApply, NextApplies, TidyMeans};
 ghost use Rattle.wire_edit.specs.Work.{TidyingEnds, FixesEnd, AddsRaise, WorkIsBounded, WiresGrow, RoomForTidying, RoomForFixes, RoomForAdding};
+ghost use Rattle.wire_edit.specs.Calls.{RollbackRestores};
 ghost use Rattle.wire_edit.specs.Steps.{stepped};
 ghost use Rattle.wire_edit.specs.Refusals.{refusal_of};
 ghost use Rattle.wire_edit.specs.Order.{next_step};
 ghost use Rattle.wire_edit.specs.declared.refusal.EditRefusal.TheVariants.{Full};
 ghost use Rattle.wire_edit.specs.Rows.{four_gates, much, no_pins, add, zero_row, zero_row_moved, zero_row_tidy, buffer_row, add_9_2, const_6_0, no_node_40, cycle_6_9, already_6_2, wrong_2, no_pin_6_5, not_met_6, fix_6_5, const_2_0, dead_2, same_3_1, one_pin_3, dead_3, buffer_once, buffer_moved, buffer_tidy};
+
+use gate_graph::same_wiring;
 
 /// Steps keep the net well formed, its sources, what stands together at observed places, and their values.
 pub fn steps_keep()
@@ -42,6 +45,13 @@ pub fn room_suffices()
     ensures fixes { RoomForFixes }
     ensures adding { RoomForAdding }
 {}
+
+/// After any list of calls of a trial, refused ones among them, `rollback` gives the graph as it was when the trial began.
+pub fn rollback_restores()
+    ensures { RollbackRestores }
+{
+    same_wiring();
+}
 
 /// Rows that are worked out by hand.
 pub fn worked_rows()

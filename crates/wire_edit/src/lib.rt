@@ -2,6 +2,7 @@
 #![tactic(auto)]
 
 mod agenda;
+mod budget;
 mod counts;
 mod edits;
 mod faults;
@@ -9,17 +10,26 @@ mod laws;
 mod looks;
 mod made;
 mod refusal;
+mod reserving;
 mod room;
 mod rules;
+#[cfg(test)]
+mod script_tests;
+mod seen;
 mod steps;
 #[cfg(test)]
 mod tests;
+mod tidying;
 mod touch;
 mod trial;
 
-pub use laws::{answers_apply, order_tells, room_suffices, steps_keep, tidying_ends, worked_rows};
+pub use laws::{
+    answers_apply, order_tells, rollback_restores, room_suffices, steps_keep, tidying_ends,
+    worked_rows,
+};
 pub use refusal::EditRefusal;
 pub use room::Room;
-pub use rules::first_rule;
+pub use rules::{first_rule, first_rule_by};
+pub use seen::Seen;
 pub use steps::{Rule, Step};
 pub use trial::{BeginRefusal, Trial};

@@ -85,7 +85,7 @@ fn is_read(graph: &Graph, node: NodeId) -> bool
     ensures { result ≡ is_read_in (net_of graph.now).nodes node.0 }
 {
     graph.readers_listed();
-    for _ in graph.fanouts_of(node) {
+    for _ in graph.readers_of(node) {
         return true;
     }
     false

@@ -1,12 +1,14 @@
 //! Which rule comes first at a gate, and which in a net.
-ghost use Rattle.std.specs.Prelude.{◌≡◌, ◌<◌, ◌≤◌, ◌⊎◌, length, take, Some, None, true, false};
+ghost use Rattle.std.specs.Prelude.{◌≡◌, ◌<◌, ◌≤◌, length, take, Some, None, true, false};
 ghost use Rattle.gate_graph.specs.Circuit.{net_of};
 ghost use Rattle.gate_net.specs.Net.{drivers_of, IsLive};
 ghost use Rattle.wire_edit.specs.Tests.{is_gate, is_junction, is_not, is_in_use, is_repeated, is_among, driver_at};
-ghost use Rattle.wire_edit.specs.Firsts.{IsFirst, reads_constant, is_twin};
+ghost use Rattle.wire_edit.specs.Firsts.{IsFirst, ReadsNoConstant, reads_constant, is_twin};
 ghost use Rattle.wire_edit.specs.Order.{rule_at, next_step};
+ghost use Rattle.wire_edit.specs.Marked.{IsQuietBelow};
 
 use crate::looks::{is_constant, is_gate, is_in_use, is_live, is_not};
+use crate::seen::{Seen, first_repeated};
 use crate::steps::Step;
 use gate_graph::Graph;
 use gate_net::Kind;
@@ -47,8 +49,8 @@ pub(crate) fn reads_before(graph: &Graph, gate: NodeId, node: NodeId, before: u3
     false
 }
 
-// The first pin whose driver drives an earlier pin, in the time of the square of the pins.
-fn first_repeated(graph: &Graph, gate: NodeId) -> Option<u32>
+// The first pin whose driver drives an earlier pin, without marks: in the time of the square of the pins.
+fn search_repeated(graph: &Graph, gate: NodeId) -> Option<u32>
     requires { IsLive (net_of graph.now) gate.0 }
     ensures { IsFirst (is_repeated (drivers_of (net_of graph.now) gate.0)) (length (drivers_of (net_of graph.now) gate.0)) result }
 {
@@ -62,31 +64,31 @@ fn first_repeated(graph: &Graph, gate: NodeId) -> Option<u32>
     None
 }
 
-// The node, if it is a Not below the least one so far.
-fn lesser_not(graph: &Graph, node: NodeId, least: u32) -> u32
-    ensures { ((is_not (net_of graph.now) node.0 ≡ true) × ((node.0 < least) × (result ≡ node.0))) ⊎ ((is_not (net_of graph.now) node.0 ≡ true → least ≤ node.0) × (result ≡ least)) }
+// Whether the node is a Not below the gate.
+fn is_lower_not(graph: &Graph, node: NodeId, gate: NodeId) -> bool
+    ensures lower { result ≡ true → (node.0 < gate.0) × (is_not (net_of graph.now) node.0 ≡ true) }
+    ensures other { result ≡ false → node.0 < gate.0 → is_not (net_of graph.now) node.0 ≡ false }
 {
-    if node.0 >= least {
-        return least;
+    if node.0 >= gate.0 {
+        return false;
     }
-    if is_not(graph, node) {
-        return node.0;
-    }
-    least
+    is_not(graph, node)
 }
 
-// The least Not below the gate that has its driver.
+// The least Not below the gate that has its driver: any of them, as no rule applies below the gate.
 fn least_twin(graph: &Graph, gate: NodeId, driver: NodeId) -> Option<u32>
-    requires { Some driver.0 ≡ driver_at (net_of graph.now) gate.0 0 }
+    requires driver { Some driver.0 ≡ driver_at (net_of graph.now) gate.0 0 }
+    requires quiet { IsQuietBelow (net_of graph.now) gate.0 }
     ensures { IsFirst (is_twin (net_of graph.now) gate.0) gate.0 result }
 {
     graph.well_formed();
     graph.readers_listed();
-    let mut least = gate.0;
-    for (reader, _) in graph.fanouts_of(driver) {
-        least = lesser_not(graph, reader, least);
+    for reader in graph.readers_of(driver) {
+        if is_lower_not(graph, reader, gate) {
+            return Some(reader.0);
+        }
     }
-    if least < gate.0 { Some(least) } else { None }
+    None
 }
 
 // The rule at a Not in use that reads no constant.
@@ -94,6 +96,7 @@ fn rule_of_not(graph: &Graph, gate: NodeId) -> Option<Step>
     requires kind { is_not (net_of graph.now) gate.0 ≡ true }
     requires used { is_in_use (net_of graph.now) gate.0 ≡ true }
     requires none { IsFirst (reads_constant (net_of graph.now) gate.0) (length (drivers_of (net_of graph.now) gate.0)) None }
+    requires quiet { IsQuietBelow (net_of graph.now) gate.0 }
     ensures { result ≡ rule_at (net_of graph.now) gate.0 }
 {
     graph.well_formed();
@@ -129,16 +132,30 @@ fn rule_of_junction(graph: &Graph, gate: NodeId) -> Option<Step>
     }
 }
 
-// The rule that comes first at a gate, if the first repeated pin is this.
-pub(crate) fn rule_with(graph: &Graph, gate: NodeId, repeated: Option<u32>) -> Option<Step>
+// The first pin that reads a constant, which a gate known as plain doesn't have.
+fn constant_unless(graph: &Graph, gate: NodeId, plain: bool) -> Option<u32>
+    requires live { IsLive (net_of graph.now) gate.0 }
+    requires plain { plain ≡ true → ReadsNoConstant (net_of graph.now) gate.0 }
+    ensures { IsFirst (reads_constant (net_of graph.now) gate.0) (length (drivers_of (net_of graph.now) gate.0)) result }
+{
+    if plain {
+        return None;
+    }
+    first_constant(graph, gate)
+}
+
+// The rule that comes first at a gate, if the first repeated pin is this. A plain gate is known to read no constant.
+fn rule_with(graph: &Graph, gate: NodeId, repeated: Option<u32>, plain: bool) -> Option<Step>
     requires kind { is_gate (net_of graph.now) gate.0 ≡ true }
     requires repeated { IsFirst (is_repeated (drivers_of (net_of graph.now) gate.0)) (length (drivers_of (net_of graph.now) gate.0)) repeated }
+    requires plain { plain ≡ true → ReadsNoConstant (net_of graph.now) gate.0 }
+    requires quiet { IsQuietBelow (net_of graph.now) gate.0 }
     ensures { result ≡ rule_at (net_of graph.now) gate.0 }
 {
     if !is_in_use(graph, gate) {
         return Some(Step::Dead { gate });
     }
-    if let Some(position) = first_constant(graph, gate) {
+    if let Some(position) = constant_unless(graph, gate, plain) {
         return Some(Step::Const { gate, position });
     }
     if is_not(graph, gate) {
@@ -150,25 +167,56 @@ pub(crate) fn rule_with(graph: &Graph, gate: NodeId, repeated: Option<u32>) -> O
     }
 }
 
-// The rule that comes first at a number.
-pub(crate) fn rule_at(graph: &Graph, gate: NodeId) -> Option<Step>
+// The rule that comes first at a number below which no rule applies, by marks for drivers.
+pub(crate) fn rule_at(graph: &Graph, gate: NodeId, seen: &mut Seen, plain: bool) -> Option<Step>
+    requires seen { length (net_of graph.now).nodes ≤ seen.old }
+    requires plain { plain ≡ true → ReadsNoConstant (net_of graph.now) gate.0 }
+    requires quiet { IsQuietBelow (net_of graph.now) gate.0 }
+    ensures rule { result ≡ rule_at (net_of graph.now) gate.0 }
+    ensures seen { seen.new ≡ seen.old }
+{
+    if !is_gate(graph, gate) {
+        return None;
+    }
+    let repeated = first_repeated(graph, gate, seen);
+    rule_with(graph, gate, repeated, plain)
+}
+
+// The rule that comes first at a number below which no rule applies, without marks.
+fn search_rule(graph: &Graph, gate: NodeId) -> Option<Step>
+    requires quiet { IsQuietBelow (net_of graph.now) gate.0 }
     ensures { result ≡ rule_at (net_of graph.now) gate.0 }
 {
     if !is_gate(graph, gate) {
         return None;
     }
-    let repeated = first_repeated(graph, gate);
-    rule_with(graph, gate, repeated)
+    let repeated = search_repeated(graph, gate);
+    rule_with(graph, gate, repeated, false)
 }
 
 /// The next step of the tidying order, or None where the net is tidy.
 ///
-/// It looks from gate 0 on, and at a gate in the time of the square of its pins; a trial's `tidy_one` does not.
+/// It looks from gate 0 on, and at a gate in the time of the square of its pins. `first_rule_by` looks at a
+/// gate in the time of its pins, and a trial's `tidy_one` at few gates.
 pub fn first_rule(graph: &Graph) -> Option<Step>
     ensures { result ≡ next_step (net_of graph.now) }
 {
     for number in 0..graph.node_bound() {
-        if let Some(step) = rule_at(graph, NodeId(number)) {
+        if let Some(step) = search_rule(graph, NodeId(number)) {
+            return Some(step);
+        }
+    }
+    None
+}
+
+/// The next step of the tidying order, or None where the net is tidy, by marks for drivers.
+pub fn first_rule_by(graph: &Graph, seen: &mut Seen) -> Option<Step>
+    requires { length (net_of graph.now).nodes ≤ seen.old }
+    ensures first { result ≡ next_step (net_of graph.now) }
+    ensures seen { seen.new ≡ seen.old }
+{
+    for number in 0..graph.node_bound() {
+        if let Some(step) = rule_at(graph, NodeId(number), seen, false) {
             return Some(step);
         }
     }

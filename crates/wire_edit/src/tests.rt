@@ -55,7 +55,7 @@ fn observe(graph: &mut Graph, node: u32) -> bool
 }
 
 // Two Ands of the first of four sources, their Or, and the And of that with the last source, which is observed.
-fn four_gates(alloc: Global) -> Option<Graph>
+pub(crate) fn four_gates(alloc: Global) -> Option<Graph>
     ensures { IfSome result (λ g. (pins_taken g ≤ 50) × (live_nodes g ≤ 50)) }
 {
     let Ok(mut graph) = Graph::new(alloc, 4) else {
@@ -95,7 +95,7 @@ fn buffer(alloc: Global) -> Option<Graph>
     Some(graph)
 }
 
-fn begun(alloc: Global, graph: Option<Graph>, pins: usize) -> Option<Trial>
+pub(crate) fn begun(alloc: Global, graph: Option<Graph>, pins: usize) -> Option<Trial>
     requires few { IfSome graph (λ g. (pins_taken g ≤ 50) × (live_nodes g ≤ 50)) }
     requires pins { pins ≤ 10 }
 {

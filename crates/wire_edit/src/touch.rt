@@ -25,7 +25,7 @@ fn mark_readers(agenda: &mut Agenda, graph: &Graph, node: NodeId) -> bool
         return false;
     }
     let mut found = false;
-    for (reader, _) in graph.fanouts_of(node) {
+    for reader in graph.readers_of(node) {
         agenda.mark(reader.0);
         found = found || is_not(graph, reader);
     }
@@ -42,7 +42,7 @@ fn mark_nots(agenda: &mut Agenda, graph: &Graph, node: NodeId)
     if !is_live(graph, node) {
         return;
     }
-    for (reader, _) in graph.fanouts_of(node) {
+    for reader in graph.readers_of(node) {
         mark_not(agenda, graph, reader);
     }
 }

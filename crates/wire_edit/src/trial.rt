@@ -9,23 +9,26 @@ ghost use Rattle.wire_edit.specs.Order.{next_step, IsTidy};
 ghost use Rattle.wire_edit.specs.Edited.{edit_of};
 ghost use Rattle.wire_edit.specs.Marked.{KeepsMarks, IsQuiet, MarksTouched};
 ghost use Rattle.wire_edit.specs.Tried.{Tried, start_of, IsAt, GivesBack, refusal_in, Tidies};
-ghost use Rattle.wire_edit.specs.Trials.{IsTrial};
+ghost use Rattle.wire_edit.specs.Trials.{IsTrial, IsReady};
+ghost use Rattle.wire_edit.specs.Calls.{IsBegun, IsApplied, IsTidied, IsRolledBack};
+ghost use Rattle.wire_edit.specs.declared.steps.Step.{Step as StepValue};
+ghost use Rattle.wire_edit.specs.Firsts.{IsPlainAfter};
 ghost use Rattle.wire_edit.specs.Work.{pins_made};
 ghost use Rattle.wire_edit.specs.Refusals.{nodes_made};
 ghost use Rattle.wire_edit.specs.declared.refusal.EditRefusal.TheVariants.{Full};
 
 use crate::agenda::Agenda;
-use crate::counts::{few_nodes, few_wires, wire_total};
-use crate::edits::edit_for;
+use crate::budget::{nodes_made, pins_made, room_for};
 use crate::faults::fault;
 use crate::made::Made;
 use crate::refusal::EditRefusal;
+use crate::reserving::prepare;
 use crate::room::Room;
-use crate::rules::rule_at;
+use crate::seen::Seen;
 use crate::steps::Step;
-use crate::touch::{mark_after, mark_before};
+use crate::tidying::{carry_out, next_rule};
 use gate_graph::{Graph, Marks, Undos, same_wiring};
-use rm_base::{NoMemory, NodeId};
+use rm_base::NoMemory;
 use std::alloc::Global;
 use std::marker::Model;
 
@@ -45,6 +48,9 @@ pub struct Trial {
     nodes: usize,
     marks: Marks,
     agenda: Agenda,
+    seen: Seen,
+    // A gate that is known to read no constant.
+    plain: Option<u32>,
 }
 
 impl Model for Trial {
@@ -59,147 +65,42 @@ impl Model for Trial {
 
     ghost view = { λ t. record { graph = t.graph; trail = t.undos; steps = t.made.steps; room = record { pins = t.pins; nodes = t.nodes; steps = t.made.spare } } };
 
-    ghost use Rattle.wire_edit.specs.Trials.{IsTrial};
+    ghost use Rattle.wire_edit.specs.Trials.{IsTrial, IsReady};
 
-    ghost invariant = { λ t. IsTrial t.graph t.undos (record { pins = t.pins; nodes = t.nodes; steps = t.made.spare }) t.marks t.agenda };
-}
-
-// Makes a step's edit, and marks what it touches.
-fn carry_out(graph: &mut Graph, undos: &mut Undos, agenda: &mut Agenda, step: Step)
-    requires can { CanEdit graph.old (edit_of (change_of (net_of graph.old) step)) }
-    requires entries { entries_for graph.old (edit_of (change_of (net_of graph.old) step)) ≤ undos.old.spare }
-    ensures edits { Edits graph.old (edit_of (change_of (net_of graph.old) step)) graph.new }
-    ensures undos { LeadOn graph.old graph.new undos.old.entries undos.new.entries }
-    ensures spent { undos.new.spare + entries_for graph.old (edit_of (change_of (net_of graph.old) step)) ≡ undos.old.spare }
-    ensures epoch { graph.new.epoch ≡ graph.old.epoch }
-    ensures few { length (net_of graph.new).nodes ≤ 4294967295 }
-    ensures marks { KeepsMarks agenda.old agenda.new }
-    ensures touched { MarksTouched (net_of graph.old) (change_of (net_of graph.old) step) agenda.new }
-{
-    graph.well_formed();
-    let edit = edit_for(graph, step);
-    mark_before(agenda, graph, &edit);
-    graph.edit(&edit, undos);
-    graph.well_formed();
-    mark_after(agenda, graph, &edit);
-}
-
-// The next step of the tidying order. Marks are taken from gates without a rule.
-fn next_rule(graph: &Graph, agenda: &mut Agenda) -> Option<Step>
-    requires { IsQuiet (net_of graph.now) agenda.old }
-    ensures next { result ≡ next_step (net_of graph.now) }
-    ensures quiet { IsQuiet (net_of graph.now) agenda.new }
-    ensures count { length agenda.new ≡ length agenda.old }
-{
-    while let Some(number) = agenda.least() {
-        if let Some(step) = rule_at(graph, NodeId(number)) {
-            return Some(step);
-        }
-        agenda.clear(number);
-    }
-    None
-}
-
-// How many entries the undos of a room's steps take at most.
-fn entries_needed(room: Room, wires: usize) -> Option<usize>
-    ensures { IfSome result (λ n. room.steps + wires + room.pins ≤ n) }
-{
-    let Some(sum) = room.steps.checked_add(wires) else {
-        return None;
-    };
-    sum.checked_add(room.pins)
-}
-
-fn new_undos(alloc: Global, entries: usize) -> Result<Undos, NoMemory>
-    ensures { IfOk result (λ u. (u.entries ≡ []) × (entries ≤ u.spare)) }
-{
-    let mut undos = Undos::new(alloc);
-    match undos.reserve(entries) {
-        Ok(()) => Ok(undos),
-        Err(NoMemory) => Err(NoMemory),
-    }
-}
-
-// Reserves all that a trial takes.
-fn prepare(
-    alloc: Global,
-    graph: &mut Graph,
-    room: Room,
-) -> Result<(Undos, Made, Marks, Agenda), NoMemory>
-    requires pins { pins_taken graph.old + room.pins ≤ 4294967295 }
-    requires nodes { live_nodes graph.old + room.nodes ≤ 4294967295 }
-    ensures wiring { wiring graph.new ≡ wiring graph.old }
-    ensures net { net_of graph.new ≡ net_of graph.old }
-    ensures epoch { graph.new.epoch ≡ graph.old.epoch }
-    ensures parts { IfOk result (λ p. IsTrial graph.new p.0 room p.2 p.3 × ((p.1 ≡ record { steps = []; spare = room.steps }) × (p.0.entries ≡ []))) }
-{
-    let Some(wires) = wire_total(graph) else {
-        return Err(NoMemory);
-    };
-    let Some(entries) = entries_needed(room, wires) else {
-        return Err(NoMemory);
-    };
-    graph.well_formed();
-    let numbers = graph.node_bound().saturating_add(room.nodes as u32);
-    graph.reserve(room.pins, room.nodes)?;
-    graph.leads_back();
-    let undos = new_undos(alloc, entries)?;
-    let made = Made::new(alloc, room.steps)?;
-    let marks = Marks::new(alloc, numbers)?;
-    let agenda = Agenda::new(alloc, numbers)?;
-    Ok((undos, made, marks, agenda))
-}
-
-// How many pins a step makes.
-fn pins_made(step: Step) -> usize
-    ensures { result ≡ pins_made step }
-{
-    match step {
-        Step::Add { gate: _, node: _ } => 1,
-        Step::NewNot { node: _ } => 1,
-        _ => 0,
-    }
-}
-
-// How many nodes a step makes.
-fn nodes_made(step: Step) -> usize
-    ensures { result ≡ nodes_made step }
-{
-    match step {
-        Step::NewNot { node: _ } => 1,
-        _ => 0,
-    }
-}
-
-// Whether there is room for a step.
-fn room_for(graph: &Graph, room: Room, step: Step) -> bool
-    ensures { result ≡ has_room (net_of graph.now) room step }
-{
-    if room.steps == 0 {
-        return false;
-    }
-    match step {
-        Step::Add { gate: _, node: _ } => {
-            if room.pins == 0 {
-                return false;
-            }
-            few_wires(graph)
-        }
-        Step::NewNot { node: _ } => {
-            if room.pins == 0 {
-                return false;
-            }
-            if room.nodes == 0 {
-                return false;
-            }
-            few_nodes(graph)
-        }
-        _ => true,
-    }
+    ghost invariant = { λ t. IsTrial t.graph t.undos (record { pins = t.pins; nodes = t.nodes; steps = t.made.spare }) t.marks t.agenda × IsReady t.graph t.undos t.made.steps t.marks t.seen t.plain };
 }
 
 impl Trial {
-    /// Takes the graph over and reserves all that the room's steps take: no later call takes memory.
+    // Takes the graph over and reserves all that the room's steps take.
+    fn over(alloc: Global, graph: Graph, room: Room, tidy: bool) -> Result<Trial, BeginRefusal>
+        requires pins { pins_taken graph + room.pins ≤ 4294967295 }
+        requires nodes { live_nodes graph + room.nodes ≤ 4294967295 }
+        requires tidy { tidy ≡ true → IsTidy (net_of graph) }
+        ensures net { IfOk result (λ t. net_of t.graph ≡ net_of graph) }
+        ensures steps { IfOk result (λ t. t.steps ≡ []) }
+        ensures room { IfOk result (λ t. t.room ≡ room) }
+        ensures refused { IfErr result (λ e. GivesBack e graph) }
+        ensures begun { IfOk result (λ t. IsBegun graph t) }
+    {
+        let mut graph = graph;
+        match prepare(alloc, &mut graph, room, tidy) {
+            Ok((undos, made, marks, agenda, seen)) => Ok(Trial {
+                graph,
+                undos,
+                made,
+                pins: room.pins,
+                nodes: room.nodes,
+                marks,
+                agenda,
+                seen,
+                plain: None,
+            }),
+            Err(NoMemory) => Err(BeginRefusal::NoMemory { graph }),
+        }
+    }
+
+    /// Takes the graph over and reserves all that the room's steps take: no later call takes memory. The first
+    /// `tidy_one` looks at every gate.
     pub fn begin(alloc: Global, graph: Graph, room: Room) -> Result<Trial, BeginRefusal>
         requires pins { pins_taken graph + room.pins ≤ 4294967295 }
         requires nodes { live_nodes graph + room.nodes ≤ 4294967295 }
@@ -209,20 +110,23 @@ impl Trial {
         ensures steps { IfOk result (λ t. t.steps ≡ []) }
         ensures room { IfOk result (λ t. t.room ≡ room) }
         ensures refused { IfErr result (λ e. GivesBack e graph) }
+        ensures begun { IfOk result (λ t. IsBegun graph t) }
     {
-        let mut graph = graph;
-        match prepare(alloc, &mut graph, room) {
-            Ok((undos, made, marks, agenda)) => Ok(Trial {
-                graph,
-                undos,
-                made,
-                pins: room.pins,
-                nodes: room.nodes,
-                marks,
-                agenda,
-            }),
-            Err(NoMemory) => Err(BeginRefusal::NoMemory { graph }),
-        }
+        Trial::over(alloc, graph, room, false)
+    }
+
+    /// Begins a trial of a tidy net, in which `tidy_one` looks only at gates that the steps touch.
+    pub fn begin_tidy(alloc: Global, graph: Graph, room: Room) -> Result<Trial, BeginRefusal>
+        requires pins { pins_taken graph + room.pins ≤ 4294967295 }
+        requires nodes { live_nodes graph + room.nodes ≤ 4294967295 }
+        requires tidy { IsTidy (net_of graph) }
+        ensures net { IfOk result (λ t. net_of t.graph ≡ net_of graph) }
+        ensures steps { IfOk result (λ t. t.steps ≡ []) }
+        ensures room { IfOk result (λ t. t.room ≡ room) }
+        ensures refused { IfErr result (λ e. GivesBack e graph) }
+        ensures begun { IfOk result (λ t. IsBegun graph t) }
+    {
+        Trial::over(alloc, graph, room, true)
     }
 
     // The room that is left.
@@ -253,6 +157,17 @@ impl Trial {
         self.made.push(step);
         self.pins -= pins_made(step);
         self.nodes -= nodes_made(step);
+        self.plain = None;
+    }
+
+    // Remembers that the gate of a `Same` reads no constant.
+    fn remember(&mut self, step: Step)
+        requires { IsPlainAfter (net_of self.old.graph) step }
+        ensures { self.new ≡ self.old }
+    {
+        if let Step::Same { gate, position: _ } = step {
+            self.plain = Some(gate.0);
+        }
     }
 
     /// Makes exactly the step, or gives the first reason against it and changes nothing.
@@ -265,13 +180,16 @@ impl Trial {
         ensures refused { OnErr result (self.new ≡ self.old) }
         ensures start { start_of self.new ≡ start_of self.old }
         ensures epoch { self.new.graph.epoch ≡ self.old.graph.epoch }
+        ensures call { IsApplied self.old self.new step (refusal_in result) }
     {
         self.graph.well_formed();
         if let Some(refusal) = fault(&self.graph, step, &mut self.marks) {
             return Err(refusal);
         }
         let room = self.room();
-        if !room_for(&self.graph, room, step) {
+        let wires = self.undos.spare();
+        let nodes = self.agenda.count();
+        if !room_for(&self.graph, room, step, wires, nodes) {
             return Err(EditRefusal::Full);
         }
         self.make(step);
@@ -281,16 +199,21 @@ impl Trial {
     /// Makes the next step of the tidying order and gives it, or None where the net is tidy.
     pub fn tidy_one(&mut self) -> Result<Option<Step>, EditRefusal>
         ensures tidies { Tidies self.old self.new result }
+        ensures room { (step : StepValue) → result ≡ Ok (Some step) → 0 < self.old.room.steps }
         ensures start { start_of self.new ≡ start_of self.old }
         ensures epoch { self.new.graph.epoch ≡ self.old.graph.epoch }
+        ensures call { IsTidied self.old self.new result }
     {
-        let Some(step) = next_rule(&self.graph, &mut self.agenda) else {
+        self.graph.well_formed();
+        let next = next_rule(&self.graph, &mut self.agenda, &mut self.seen, self.plain);
+        let Some(step) = next else {
             return Ok(None);
         };
         if self.made.spare() == 0 {
             return Err(EditRefusal::Full);
         }
         self.make(step);
+        self.remember(step);
         Ok(Some(step))
     }
 
@@ -313,6 +236,7 @@ impl Trial {
         ensures wiring { wiring result ≡ start_of self }
         ensures graph { IsAt result (start_of self) }
         ensures epoch { result.epoch ≡ self.graph.epoch }
+        ensures call { IsRolledBack self result }
     {
         let Trial {
             mut graph,
@@ -322,18 +246,20 @@ impl Trial {
             nodes: _nodes,
             marks: _marks,
             agenda: _agenda,
+            seen: _seen,
+            plain: _plain,
         } = self;
         graph.undo(&mut undos);
         same_wiring();
         graph
     }
 
-    /// Gives the graph as it is now.
+    /// Gives the graph as it is now. Its epoch rises where a step was made.
     pub fn commit(self) -> Graph
         ensures net { net_of result ≡ net_of self.graph }
         ensures readers { (n : ℕ) → fanouts_of result n ≡ fanouts_of self.graph n }
-        ensures same { self.trail.entries ≡ [] → result.epoch ≡ self.graph.epoch }
-        ensures epoch { self.trail.entries ≢ [] → result.epoch ≡ min (self.graph.epoch + 1) (2 ^ 64 - 1) }
+        ensures same { self.steps ≡ [] → result.epoch ≡ self.graph.epoch }
+        ensures epoch { self.steps ≢ [] → result.epoch ≡ min (self.graph.epoch + 1) (2 ^ 64 - 1) }
     {
         let Trial {
             mut graph,
@@ -343,6 +269,8 @@ impl Trial {
             nodes: _nodes,
             marks: _marks,
             agenda: _agenda,
+            seen: _seen,
+            plain: _plain,
         } = self;
         graph.keep(&mut undos);
         graph

@@ -1,6 +1,5 @@
-use Rattle.std.proofs.Common.{◌≡◌, ◌∙◌, sym, ap, map, length, ℕ, refl, true, Bool, ◌||◌}
+use Rattle.std.proofs.Common.{◌∙◌, sym, ap, map, ℕ, refl, true, Bool, ◌||◌}
 use Rattle.blif_lines.specs.Reading.{spot_of}
-use Rattle.blif_format.specs.FirstFault.{Said}
 use Rattle.blif_reader.specs.Meant.{said_command}
 use Rattle.blif_reader.specs.Rows.{cover_for}
 use Rattle.blif_reader.proofs.PartLaws.{length_map}

@@ -1,10 +1,9 @@
-use Rattle.std.proofs.Common.{◌≡◌, ◌∙◌, sym, ap, map, true}
+use Rattle.std.proofs.Common.{◌∙◌, sym, ap, map}
 use Rattle.std.specs.Prelude.{codes}
 use Rattle.rm_model.specs.Words.{Word, is_word}
 use Rattle.blif_lines.specs.Reading.{spot_of}
 use Rattle.blif_format.specs.Uses.{Model}
-use Rattle.blif_format.specs.FirstFault.{Said, first_line_fault, command_fault, after_line}
-use Rattle.blif_reader.specs.Said.{IsSaid}
+use Rattle.blif_format.specs.FirstFault.{first_line_fault, command_fault}
 use Rattle.blif_reader.proofs.LineLaws.{first_is, on_ok, if_err}
 use Rattle.blif_reader.proofs.check.take_first.Goals as goal
 

@@ -1,11 +1,9 @@
-use Rattle.std.proofs.Common.{◌≡◌, ◌++◌, ◌∷◌, [], ◌∙◌, ◌<◌, ◌≤◌, sym, ap, subst, List, map, take, drop, get_or, length, ℕ, arith, Option, None, Some, false, Bool}
-use Rattle.std.specs.Prelude.{nat_lt}
+use Rattle.std.proofs.Common.{◌++◌, ◌∙◌, ◌≤◌, sym, ap, subst, List, map, take, get_or, length, ℕ, Bool}
 use Rattle.std.specs.List.{filter_map}
 use Rattle.std.proofs.lemmas.Bool.{le-ltb}
 use Rattle.blif_lines.specs.Reading.{spot_of}
-use Rattle.blif_lines.specs.declared.line.Token.{Token}
 use Rattle.blif_format.specs.Uses.{Use, use_of, parts_of, least_words}
-use Rattle.blif_format.specs.FirstFault.{fault_if, command_fault}
+use Rattle.blif_format.specs.FirstFault.{fault_if}
 use Rattle.blif_format.specs.declared.refusal.FaultKind.TheVariants.{MissingWord}
 use Rattle.blif_reader.specs.Meant.{said_command, said_part}
 use Rattle.blif_reader.specs.Tally.{IsTally}

@@ -5,7 +5,6 @@ use Rattle.blif_format.specs.Uses.{Use, use_of, parts_of}
 use Rattle.blif_format.specs.FirstFault.{parts_fault}
 use Rattle.blif_reader.specs.Meant.{said_command}
 use Rattle.blif_reader.specs.Tally.{IsTally}
-use Rattle.blif_reader.proofs.PartLaws.{part_at}
 use Rattle.blif_reader.proofs.check.take_words.Given as goal
 
 abbrev pub invariant-loop-i : goal.invariant-loop-i

@@ -1,7 +1,5 @@
-use Rattle.std.proofs.Common.{◌≡◌, ◌∙◌, sym, map, refl, Option, Some}
+use Rattle.std.proofs.Common.{◌≡◌, sym, map, refl, Some}
 use Rattle.blif_lines.specs.Reading.{spot_of}
-use Rattle.rm_model.specs.declared.parts.Cover.{Cover}
-use Rattle.blif_reader.proofs.KnownLaws.{command_added}
 use Rattle.blif_reader.proofs.RowLaws.{adds_row, current_rows}
 use Rattle.blif_reader.proofs.draft.add_row.Goals as goal
 

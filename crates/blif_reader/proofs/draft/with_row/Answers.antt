@@ -1,4 +1,4 @@
-use Rattle.std.proofs.Common.{◌≡◌, ◌∙◌, ap, map, refl}
+use Rattle.std.proofs.Common.{◌∙◌, ap, map, refl}
 use Rattle.blif_lines.specs.Reading.{spot_of}
 use Rattle.blif_reader.specs.Lines.{are_literals}
 use Rattle.blif_reader.specs.Drafts.{inputs_in}

@@ -1,22 +1,43 @@
-use Rattle.std.proofs.Common.{◌≡◌, ◌∙◌, sym, ap, subst, Bool, not, Option, None, List, ℕ}
+use Rattle.std.proofs.Common.{◌≡◌, ◌≤◌, ◌*◌, length, arith, ◌∙◌, sym, ap, subst, Bool, true, not, Option, None, List, ℕ}
 use Rattle.rm_model.specs.Ranks.{first_without_rank}
+use Rattle.rm_model.specs.Value.{source_names, observed_names, IsRanked}
+use Rattle.rm_model.specs.WellFormed.{IsWellFormed}
 use Rattle.rm_model.specs.declared.parts.Model.{Model}
 use Rattle.rm_base.specs.declared.numbers.Place.{Place}
-use Rattle.blif_lines.specs.Layout.{layout}
-use Rattle.blif_format.specs.FirstFault.{first_fault, said_by, nothing_said, lines_fault, fault_if, undriven_fault}
+use Rattle.blif_lines.specs.Layout.{layout, lines_of}
+use Rattle.blif_format.specs.Grammar.{Reads}
+use Rattle.blif_format.specs.FirstFault.{Said, first_fault, said_by, nothing_said, lines_fault, fault_if, undriven_fault}
 use Rattle.blif_format.specs.declared.refusal.FaultKind.TheVariants.{NoModel}
 use Rattle.blif_format.specs.declared.refusal.ReadRefusal.{ReadRefusal}
+use Rattle.blif_reader.specs.Bounds.{covers_weight}
 use Rattle.blif_reader.specs.Meant.{IsRefusal}
-use Rattle.blif_reader.specs.Drafts.{model_in}
+use Rattle.blif_reader.specs.Drafts.{all_covers, model_in}
 use Rattle.blif_reader.specs.Ranked.{rank_found, fault_at}
-use Rattle.blif_reader.proofs.ModelLaws.{reads, lines_first, fault_is}
+use Rattle.blif_reader.proofs.ModelLaws.{reads, fault_is, began_is, is_formed, few_covers, small_weight, few_sources, few_observed}
 use Rattle.blif_reader.proofs.model.read_model.Goals as goal
+
+-- all that the lines say
+abbrev said_in : List ℕ → Said
+said_in text = said_by nothing_said (layout text)
+
+pub check_ranks-requires-clause-formed : goal.check_ranks-requires-clause-formed
+check_ranks-requires-clause-formed c =
+    let none : lines_fault nothing_said (layout c.args.text.now) ≡ None = c.in-Ok.ensures.faults ∙ ap (λ (t : Bool). fault_if (not t) NoModel (record { line = 1; column = 1 })) c.if-not-lines.false in
+    let driven : undriven_fault (said_in c.args.text.now).uses ≡ None = sym (c.in-None.ensures (said_in c.args.text.now).uses c.in-Ok.ensures.ok.checked.tally) in
+    let began : (said_in c.args.text.now).began ≡ true = began_is c.args.text.now (said_in c.args.text.now) c.in-Ok.lines.checker c.in-Ok.lines.draft c.in-Ok.lines.places.items c.in-Ok.ensures.ok c.if-not-lines.false in
+    subst IsWellFormed (sym c.in-Ok-model_of.ensures) (is_formed c.args.text.now c.in-Ok.lines.checker c.in-Ok.lines.draft c.in-Ok.lines.places.items c.in-Ok.ensures.ok none driven began)
+
+pub check_ranks-requires-clause-few : goal.check_ranks-requires-clause-few
+check_ranks-requires-clause-few c =
+    let few : length (all_covers c.in-Ok.lines.draft) ≤ length c.args.text.now = few_covers c.args.text.now (said_in c.args.text.now) c.in-Ok.lines.draft c.in-Ok.ensures.ok.drafted in
+    let same : length c.in-Ok-model_of.model.covers ≡ length (all_covers c.in-Ok.lines.draft) = ap (λ (m : Model). length m.covers) c.in-Ok-model_of.ensures in
+    omega (arith, c.requires)
 
 pub returns-in-Err-check_ranks-clause-fault : goal.returns-in-Err-check_ranks-clause-fault
 returns-in-Err-check_ranks-clause-fault c =
     let none : lines_fault nothing_said (layout c.args.text.now) ≡ None = c.in-Ok.ensures.faults ∙ ap (λ (t : Bool). fault_if (not t) NoModel (record { line = 1; column = 1 })) c.if-not-lines.false in
-    let driven : undriven_fault (said_by nothing_said (layout c.args.text.now)).uses ≡ None = sym (c.in-None.ensures (said_by nothing_said (layout c.args.text.now)).uses c.in-Ok.ensures.ok.checked.tally) in
-    let first = fault_is c.args.text.now (said_by nothing_said (layout c.args.text.now)) c.in-Ok.lines.checker c.in-Ok.lines.draft c.in-Ok.lines.places.items c.in-Ok.ensures.ok none driven in
+    let driven : undriven_fault (said_in c.args.text.now).uses ≡ None = sym (c.in-None.ensures (said_in c.args.text.now).uses c.in-Ok.ensures.ok.checked.tally) in
+    let first = fault_is c.args.text.now (said_in c.args.text.now) c.in-Ok.lines.checker c.in-Ok.lines.draft c.in-Ok.lines.places.items c.in-Ok.ensures.ok none driven in
     let found : rank_found c.in-Ok-model_of.model c.as_slice.result.now ≡ first_fault c.args.text.now =
     ap (λ (m : Model). rank_found m c.as_slice.result.now) c.in-Ok-model_of.ensures
     ∙ ap (λ (ps : List Place). rank_found (model_in c.in-Ok.lines.draft) ps) c.as_slice.ensures.value
@@ -26,7 +47,33 @@ returns-in-Err-check_ranks-clause-fault c =
 pub returns-clause-faultless : goal.returns-clause-faultless
 returns-clause-faultless c =
     let none : lines_fault nothing_said (layout c.args.text.now) ≡ None = c.in-Ok.ensures.faults ∙ ap (λ (t : Bool). fault_if (not t) NoModel (record { line = 1; column = 1 })) c.if-not-lines.false in
-    let driven : undriven_fault (said_by nothing_said (layout c.args.text.now)).uses ≡ None = sym (c.in-None.ensures (said_by nothing_said (layout c.args.text.now)).uses c.in-Ok.ensures.ok.checked.tally) in
-    let first = fault_is c.args.text.now (said_by nothing_said (layout c.args.text.now)) c.in-Ok.lines.checker c.in-Ok.lines.draft c.in-Ok.lines.places.items c.in-Ok.ensures.ok none driven in
+    let driven : undriven_fault (said_in c.args.text.now).uses ≡ None = sym (c.in-None.ensures (said_in c.args.text.now).uses c.in-Ok.ensures.ok.checked.tally) in
+    let first = fault_is c.args.text.now (said_in c.args.text.now) c.in-Ok.lines.checker c.in-Ok.lines.draft c.in-Ok.lines.places.items c.in-Ok.ensures.ok none driven in
     let ranked : first_without_rank (model_in c.in-Ok.lines.draft) ≡ None = ap first_without_rank (sym c.in-Ok-model_of.ensures) ∙ c.in-Ok-check_ranks.ensures.ok in
     first ∙ ap (fault_at c.in-Ok.lines.places.items) ranked
+
+pub returns-clause-model : goal.returns-clause-model
+returns-clause-model c =
+    let none : lines_fault nothing_said (layout c.args.text.now) ≡ None = c.in-Ok.ensures.faults ∙ ap (λ (t : Bool). fault_if (not t) NoModel (record { line = 1; column = 1 })) c.if-not-lines.false in
+    let driven : undriven_fault (said_in c.args.text.now).uses ≡ None = sym (c.in-None.ensures (said_in c.args.text.now).uses c.in-Ok.ensures.ok.checked.tally) in
+    let began : (said_in c.args.text.now).began ≡ true = began_is c.args.text.now (said_in c.args.text.now) c.in-Ok.lines.checker c.in-Ok.lines.draft c.in-Ok.lines.places.items c.in-Ok.ensures.ok c.if-not-lines.false in
+    let formed : IsWellFormed (model_in c.in-Ok.lines.draft) = is_formed c.args.text.now c.in-Ok.lines.checker c.in-Ok.lines.draft c.in-Ok.lines.places.items c.in-Ok.ensures.ok none driven began in
+    let ranks : first_without_rank (model_in c.in-Ok.lines.draft) ≡ None = ap first_without_rank (sym c.in-Ok-model_of.ensures) ∙ c.in-Ok-check_ranks.ensures.ok in
+    let ranked : IsRanked (model_in c.in-Ok.lines.draft) = (c.ranks_exist.ensures.ranked (model_in c.in-Ok.lines.draft) formed.driven_once).1 ranks in
+    subst (Reads (lines_of c.args.text.now)) (sym c.in-Ok-model_of.ensures) (reads c.args.text.now (said_in c.args.text.now) c.in-Ok.lines.draft c.in-Ok.ensures.ok.drafted began formed ranked)
+
+pub returns-clause-sources : goal.returns-clause-sources
+returns-clause-sources c =
+    let none : lines_fault nothing_said (layout c.args.text.now) ≡ None = c.in-Ok.ensures.faults ∙ ap (λ (t : Bool). fault_if (not t) NoModel (record { line = 1; column = 1 })) c.if-not-lines.false in
+    subst (λ (m : Model). length (source_names m) ≤ 1024) (sym c.in-Ok-model_of.ensures) (few_sources c.args.text.now (said_in c.args.text.now) c.in-Ok.lines.draft none c.in-Ok.ensures.ok.drafted)
+
+pub returns-clause-observed : goal.returns-clause-observed
+returns-clause-observed c =
+    let none : lines_fault nothing_said (layout c.args.text.now) ≡ None = c.in-Ok.ensures.faults ∙ ap (λ (t : Bool). fault_if (not t) NoModel (record { line = 1; column = 1 })) c.if-not-lines.false in
+    subst (λ (m : Model). length (observed_names m) ≤ 4096) (sym c.in-Ok-model_of.ensures) (few_observed c.args.text.now (said_in c.args.text.now) c.in-Ok.lines.draft none c.in-Ok.ensures.ok.drafted)
+
+pub returns-clause-covers : goal.returns-clause-covers
+returns-clause-covers c = subst (λ (m : Model). length m.covers ≤ length c.args.text.now) (sym c.in-Ok-model_of.ensures) (few_covers c.args.text.now (said_in c.args.text.now) c.in-Ok.lines.draft c.in-Ok.ensures.ok.drafted)
+
+pub returns-clause-weight : goal.returns-clause-weight
+returns-clause-weight c = subst (λ (m : Model). covers_weight m.covers ≤ 2 * length c.args.text.now) (sym c.in-Ok-model_of.ensures) (small_weight c.args.text.now (said_in c.args.text.now) c.in-Ok.lines.draft c.in-Ok.ensures.ok.drafted)

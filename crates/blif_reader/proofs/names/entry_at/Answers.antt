@@ -1,4 +1,4 @@
-use Rattle.std.proofs.Common.{◌∙◌, sym, ap, Option, Some, None}
+use Rattle.std.proofs.Common.{◌∙◌}
 use Rattle.blif_reader.proofs.Maps.{seen_look}
 use Rattle.blif_reader.proofs.names.entry_at.Goals as goal
 

@@ -1,7 +1,6 @@
-use Rattle.std.proofs.Common.{◌∙◌, sym, ◌≡◌, ap, arith, length}
+use Rattle.std.proofs.Common.{◌∙◌, sym, arith}
 use Rattle.blif_reader.specs.Seen.{seen_entries}
-use Rattle.blif_reader.proofs.TallyLaws.{length_seen}
-use Rattle.blif_reader.proofs.Free.{free_here, free_later, free_end}
+use Rattle.blif_reader.proofs.Free.{free_here, free_later}
 use Rattle.blif_reader.proofs.names.first_free_of.Goals as goal
 
 pub returns-in-Some : goal.returns-in-Some

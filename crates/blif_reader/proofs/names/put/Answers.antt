@@ -1,4 +1,4 @@
-use Rattle.std.proofs.Common.{◌∙◌, sym, ap}
+use Rattle.std.proofs.Common.{◌∙◌, ap}
 use Rattle.blif_reader.specs.Seen.{seen_entries}
 use Rattle.blif_reader.proofs.Maps.{seen_put}
 use Rattle.blif_reader.proofs.names.put.Goals as goal

@@ -1,5 +1,5 @@
-use Rattle.std.proofs.Common.{◌≡◌, ◌∙◌, sym, ap}
-use Rattle.blif_reader.proofs.ReadLaws.{progress_start, progress_end, progress_fault_end, pending_less, pending_refused, given_line}
+use Rattle.std.proofs.Common.{arith}
+use Rattle.blif_reader.proofs.ReadLaws.{progress_end, progress_fault_end, pending_less, pending_refused, given_line, tokens_few}
 use Rattle.blif_reader.proofs.read.read_lines.Goals as goal
 
 pub returns-in-Err-clause-err : goal.returns-in-Err-clause-err
@@ -21,3 +21,9 @@ lines-smaller-in-Ok c = let g = rw c.in-Ok-Some.field-0-is at c.in-Ok-Some.ensur
 
 pub lines-smaller : goal.lines-smaller
 lines-smaller c = let g = rw c.in-Ok-Some.field-0-is at c.in-Ok-Some.ensures.ok in pending_less c.lines.reader.rest c.next_line.new.reader.rest _ g
+
+pub take_all-requires-clause-many : goal.take_all-requires-clause-many
+take_all-requires-clause-many c =
+    let g = rw c.in-Ok-Some.field-0-is at c.in-Ok-Some.ensures.ok in
+    let w = rw c.in-Ok-Some.field-0-is at c.in-Ok-Some.ensures.within in
+    tokens_few c.args.text.now c.lines.reader.text c.tokens.result.now c.in-Ok-Some.line c.lines.reader.rest c.next_line.new.reader.rest c.lines.lines.checker c.lines.lines.draft c.lines.lines.places.items c.lines.invariant.progress c.lines.invariant.text c.tokens.ensures g w (omega (arith, c.requires))

@@ -1,5 +1,3 @@
-use Rattle.std.proofs.Common.{map, ◌∷◌, ◌++◌, List, []}
-use Rattle.blif_lines.specs.Reading.{spot_of}
 use Rattle.blif_reader.specs.Progress.{Progress}
 use Rattle.blif_reader.proofs.LineLaws.{on_ok}
 use Rattle.blif_reader.proofs.ReadLaws.{progress_step, progress_fault}

@@ -19,5 +19,5 @@ text_of-requires-clause-fits c =
       points = c.decompositions_stand.ensures.points m c.requires.formed ranks;
       wires = c.decompositions_stand.ensures.wires m c.requires.formed ranks;
     } in
-    let leads : TidiesTo (net_of_model m) (net_of c.in_ok-graph.graph) = subst (λ (n : Net). TidiesTo n (net_of c.in_ok-graph.graph)) c.in_ok-start.ensures.net c.in_ok-graph.ensures in
+    let leads : TidiesTo (net_of_model m) (net_of c.in_ok-graph.graph) = subst (λ (n : Net). TidiesTo n (net_of c.in_ok-graph.graph)) c.in_ok-start.ensures.net c.in_ok-graph.ensures.order in
     c.tidied_nets_fit.ensures m (net_of c.in_ok-graph.graph) parts leads

@@ -1,4 +1,4 @@
-use Rattle.rambo_cli.proofs.Replacing.{appended_done, appended_begun, created_begun}
+use Rattle.rambo_cli.proofs.Replacing.{appended_done, appended_begun}
 use Rattle.rambo_cli.proofs.work.replace.Goals as goal
 
 pub returns-clause-done : goal.returns-clause-done

@@ -1,4 +1,4 @@
-use Rattle.std.proofs.Common.{Err, ◌≡◌, List, ℕ, ap, sym, subst, take}
+use Rattle.std.proofs.Common.{Err, List, ℕ, ap, subst}
 use Rattle.std.specs.Prelude.{IfSome}
 use Rattle.rambo_cli.specs.Words.{Names, names_view}
 use Rattle.rambo_cli.specs.Outcome.{Holds, IfTold, Replaces}

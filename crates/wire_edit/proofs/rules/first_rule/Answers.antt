@@ -8,7 +8,7 @@ use Rattle.wire_edit.proofs.rules.first_rule.Goals as goal
 pub returns-in-Some : goal.returns-in-Some
 returns-in-Some c =
     let net = net_of c.args.graph.now in
-    sym (first_found (rule_at net) 0 (length net.nodes) c.loop-number.number c.in-Some.step (omega arith) (omega (arith, c.node_bound-number-end.ensures)) (sym c.rule_at.ensures ∙ c.in-Some.is) (λ j le lt. c.loop-number.invariant j lt))
+    sym (first_found (rule_at net) 0 (length net.nodes) c.loop-number.number c.in-Some.step (omega arith) (omega (arith, c.node_bound-number-end.ensures)) (sym c.search_rule.ensures ∙ c.in-Some.is) (λ j le lt. c.loop-number.invariant j lt))
 
 pub returns : goal.returns
 returns c =

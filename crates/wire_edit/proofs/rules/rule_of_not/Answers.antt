@@ -16,8 +16,8 @@ returns-then-is_not c =
     let net = net_of c.args.graph.now in
     sym (twice_rule net c.args.gate.0 c.requires.used (not_gate net c.args.gate.0 c.requires.kind) c.requires.none c.requires.kind c.in-Some.driver.0 (sym c.driver.ensures ∙ ap (option_map (λ (n : NodeId). n.0)) c.in-Some.is) (sym c.is_not.ensures ∙ c.if-is_not.true))
 
-pub least_twin-requires : goal.least_twin-requires
-least_twin-requires c = sym (sym c.driver.ensures ∙ ap (option_map (λ (n : NodeId). n.0)) c.in-Some.is)
+pub least_twin-requires-clause-driver : goal.least_twin-requires-clause-driver
+least_twin-requires-clause-driver c = sym (sym c.driver.ensures ∙ ap (option_map (λ (n : NodeId). n.0)) c.in-Some.is)
 
 pub returns-in-Some-least_twin : goal.returns-in-Some-least_twin
 returns-in-Some-least_twin c =

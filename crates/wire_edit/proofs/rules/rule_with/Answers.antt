@@ -11,8 +11,8 @@ pub returns-then-not-is_in_use : goal.returns-then-not-is_in_use
 returns-then-not-is_in_use c =
     sym (unused_rule (net_of c.args.graph.now) c.args.gate.0 c.requires.kind (sym c.is_in_use.ensures ∙ c.if-not-is_in_use.true))
 
-pub first_constant-requires : goal.first_constant-requires
-first_constant-requires c = gate_live (net_of c.args.graph.now) c.args.gate.0 c.requires.kind
+pub constant_unless-requires-clause-live : goal.constant_unless-requires-clause-live
+constant_unless-requires-clause-live c = gate_live (net_of c.args.graph.now) c.args.gate.0 c.requires.kind
 
 pub returns-in-Some : goal.returns-in-Some
 returns-in-Some c =
@@ -25,6 +25,7 @@ rule_of_not-requires c = record {
   kind = sym c.is_not.ensures ∙ c.if-is_not.true;
   used = sym c.is_in_use.ensures ∙ c.if-not-is_in_use.false;
   none = c.in_default.ensures;
+  quiet = c.requires.quiet;
 }
 
 pub returns-in-Some-repeated : goal.returns-in-Some-repeated

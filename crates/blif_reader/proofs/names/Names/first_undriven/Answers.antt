@@ -1,4 +1,4 @@
-use Rattle.std.proofs.Common.{◌∙◌, sym, ap, subst, Option, Some}
+use Rattle.std.proofs.Common.{◌∙◌, sym, ap, subst}
 use Rattle.std.specs.Option.{option_map}
 use Rattle.rm_base.specs.declared.numbers.Place.{Place}
 use Rattle.blif_format.specs.declared.refusal.FaultKind.TheVariants.{Undriven}

@@ -1,11 +1,10 @@
-use Rattle.std.proofs.Common.{◌≡◌, ◌∙◌, sym, ap, subst, List, Some, ℕ, length, arith}
-use Rattle.std.proofs.Common.{refl, ◌≤◌, not, Option, Bool}
+use Rattle.std.proofs.Common.{◌∙◌, sym, ap, subst, ℕ, length}
+use Rattle.std.proofs.Common.{refl, ◌≤◌, not, Option}
 use Rattle.std.specs.Prelude.{is_some}
-use Rattle.blif_format.specs.Uses.{Use}
 use Rattle.blif_reader.specs.Tally.{more_if}
 use Rattle.blif_reader.specs.declared.names.Entry.{Entry}
 use Rattle.blif_reader.specs.Meant.{said_role}
-use Rattle.blif_reader.specs.Tally.{IsTally, Tally}
+use Rattle.blif_reader.specs.Tally.{IsTally}
 use Rattle.blif_reader.specs.Seen.{seen_entries}
 use Rattle.blif_reader.specs.Views.{tally}
 use Rattle.blif_reader.proofs.TallyLaws.{refuses_use, accepts_use, keeps_limits, KeepsLimits, length_seen, length_after}

@@ -1,13 +1,14 @@
 use Rattle.std.proofs.Common.{false, ap, sym, ◌∙◌, arith}
 use Rattle.wire_edit.specs.Marked.{is_marked, marks_left}
-use Rattle.wire_edit.proofs.Marking.{few, set_other_mark, clear_fewer, clear_none, marked_within}
+use Rattle.wire_edit.proofs.Marking.{set_other_mark, clear_fewer, marked_within}
+use Rattle.wire_edit.proofs.Blocks.{block_cleared}
 use Rattle.wire_edit.proofs.agenda.Agenda.clear.Goals as goal
 
 pub index_mut-requires : goal.index_mut-requires
 index_mut-requires c = let lt = marked_within c.self.inside.marks.items c.args.number (ap (λ bs. is_marked bs c.args.number) c.self.view_is ∙ c.requires) in omega (arith, lt, c.self.inside.marks.ok.0)
 
 pub invariant_of-self : goal.invariant_of-self
-invariant_of-self c = (clear_none c.self.inside.marks.items c.self.inside.low c.args.number c.self.invariant.0, few c.self.inside.marks.items c.args.number false c.self.invariant.1)
+invariant_of-self c = block_cleared c.self.inside.marks.items c.self.inside.blocks.items c.args.number c.self.invariant
 
 pub returns-clause-fewer : goal.returns-clause-fewer
 returns-clause-fewer c =

@@ -1,0 +1,158 @@
+//! Covers of gates, prefixes and copies on small lists of names.
+use crate::copies::copies;
+use crate::gates::gate_cover;
+use crate::name_set::{NameSet, driven};
+use crate::places::first_places;
+use crate::prefix::free_prefix;
+use gate_net::Kind;
+use rm_base::NoMemory;
+use rm_model::{Cover, Listed, Literal, Name};
+use std::alloc::Global;
+use std::process::Abort;
+use std::test::Fail;
+
+fn name(alloc: Global, text: &str) -> Result<Name, NoMemory> {
+    Ok(Listed::from_vec(Vec::from_slice(alloc, text.as_bytes())?))
+}
+
+fn names(alloc: Global, texts: &[&str]) -> Result<Vec<Name>, NoMemory> {
+    let mut list = Vec::new(alloc);
+    for text in texts {
+        list.push(name(alloc, *text)?)?;
+    }
+    Ok(list)
+}
+
+fn repeated(alloc: Global, text: &str, count: usize) -> Result<Vec<Name>, NoMemory> {
+    let mut list = Vec::new(alloc);
+    for _ in 0..count {
+        list.push(name(alloc, text)?)?;
+    }
+    Ok(list)
+}
+
+// The rows of a cover, each with a `.` after it, and the ending.
+fn rows_of(alloc: Global, cover: &Cover) -> Result<Vec<u8>, NoMemory> {
+    let mut text = Vec::new(alloc);
+    for row in cover.rows.items() {
+        for literal in row.items() {
+            text.push(match *literal {
+                Literal::Zero => b'0',
+                Literal::One => b'1',
+                Literal::Any => b'-',
+            })?;
+        }
+        text.push(b'.')?;
+    }
+    text.push(if cover.on { b'1' } else { b'0' })?;
+    Ok(text)
+}
+
+fn gate_rows(alloc: Global, kind: Kind, pins: usize) -> Result<Vec<u8>, NoMemory> {
+    match gate_cover(alloc, kind, repeated(alloc, "a", pins)?, name(alloc, "z")?)? {
+        Some(cover) => rows_of(alloc, &cover),
+        None => Ok(Vec::new(alloc)),
+    }
+}
+
+fn check_rows(
+    rt: &impl Abort,
+    alloc: Global,
+    kind: Kind,
+    pins: usize,
+    wanted: &str,
+) -> Result<(), NoMemory> {
+    let rows = gate_rows(alloc, kind, pins)?;
+    assert_eq!(rt; rows.as_slice(), wanted.as_bytes());
+    Ok(())
+}
+
+#[test]
+fn rows_of_gates(rt: HostRuntime) -> Result<(), Fail> {
+    let alloc = rt.alloc();
+    check_rows(&rt, alloc, Kind::And, 3, "111.1")?;
+    check_rows(&rt, alloc, Kind::Or, 3, "1--.-1-.--1.1")?;
+    check_rows(&rt, alloc, Kind::Not, 1, "0.1")?;
+    check_rows(&rt, alloc, Kind::Source, 0, "")?;
+    assert_eq!(rt; gate_rows(alloc, Kind::Or, 64)?.len(), 64 * 65 + 1);
+    assert_eq!(rt; gate_rows(alloc, Kind::Or, 65)?.len(), 67);
+    Ok(())
+}
+
+fn check_prefix(
+    rt: &impl Abort,
+    alloc: Global,
+    sources: &[&str],
+    observed: &[&str],
+    wanted: &str,
+) -> Result<(), NoMemory> {
+    let sources = names(alloc, sources)?;
+    let observed = names(alloc, observed)?;
+    if sources.len() > 9 {
+        return Ok(());
+    }
+    if observed.len() > 9 {
+        return Ok(());
+    }
+    let prefix = free_prefix(alloc, sources.as_slice(), observed.as_slice())?;
+    assert_eq!(rt; prefix.as_slice(), wanted.as_bytes());
+    Ok(())
+}
+
+#[test]
+fn prefixes(rt: HostRuntime) -> Result<(), Fail> {
+    let alloc = rt.alloc();
+    check_prefix(&rt, alloc, &["a", "n"], &["n0"], "n0_")?;
+    check_prefix(&rt, alloc, &["n0_"], &["n1_7", "z"], "n2_")?;
+    check_prefix(&rt, alloc, &["n1_"], &["n0_4", "n0_5"], "n2_")?;
+    check_prefix(&rt, alloc, &[], &[], "n0_")?;
+    Ok(())
+}
+
+#[test]
+fn first_names(rt: HostRuntime) -> Result<(), Fail> {
+    let alloc = rt.alloc();
+    let places = first_places(alloc, 6, &[4, 2, 4])?;
+    assert_eq!(rt;
+        places.as_slice(),
+        [None, None, Some(1), None, Some(0), None].as_slice()
+    );
+    Ok(())
+}
+
+// Nodes 0 and 1 are constants, 2 is `a` and 3 a gate named `y`: `a` and `y` are driven already.
+#[test]
+fn copies_in_order(rt: HostRuntime) -> Result<(), Fail> {
+    let alloc = rt.alloc();
+    let names_by_node = names(alloc, &["", "", "a", "y"])?;
+    let observed = names(alloc, &["k", "y", "a", "z", "o", "z"])?;
+    if names_by_node.len() != 4 {
+        return Ok(());
+    }
+    if observed.len() != 6 {
+        return Ok(());
+    }
+    let sources = names(alloc, &["a"])?;
+    let mut gates = Vec::new(alloc);
+    if let Some(cover) = gate_cover(alloc, Kind::Not, names(alloc, &["a"])?, name(alloc, "y")?)? {
+        gates.push(cover)?;
+    }
+    let mut had = driven(alloc, sources.as_slice(), gates.as_slice())?;
+    let covers = copies(
+        alloc,
+        &mut had,
+        &[0, 3, 2, 2, 1, 2],
+        observed.as_slice(),
+        names_by_node.as_slice(),
+    )?;
+    let wanted = ["k:1", "z:1.1", "o:.1"];
+    assert_eq!(rt; covers.len(), wanted.len());
+    for at in 0..covers.len() {
+        let mut text = Vec::from_slice(alloc, covers[at].output.items())?;
+        text.push(b':')?;
+        text.extend_from_slice(rows_of(alloc, &covers[at])?.as_slice())?;
+        assert!(rt; at < wanted.len());
+        assert_eq!(rt; text.as_slice(), wanted[at].as_bytes());
+    }
+    Ok(())
+}

@@ -1,7 +1,0 @@
-use Rattle.std.proofs.Common.{◌≡◌, ◌+◌}
-use Rattle.std.specs.Prelude.{drop}
-use Rattle.rambo_cli.specs.Bounds.{covers_weight}
-use Rattle.rambo_cli.proofs.bounds.weight.Given as goal
-
-abbrev pub invariant-loop-cover : goal.invariant-loop-cover
-invariant-loop-cover l = l.sum + covers_weight (drop l.cover-index l.covers) ≡ covers_weight l.fn.covers

@@ -1,0 +1,14 @@
+use Rattle.std.proofs.Common.{ap, length, refl, ◌<◌, ◌≡◌}
+use Rattle.refutation_check.proofs.Branchings.{ClimbsTo, climb_last, climb_popped, end_moves}
+use Rattle.refutation_check.specs.Notes.{Notes}
+use Rattle.refutation_check.proofs.branches.Branches.end.Goals as goal
+
+pub undo_to-requires : goal.undo_to-requires
+undo_to-requires c = (climb_popped c.args.self.now _ c.in-Some.next c.in-Some.ensures.items c.requires.climbs).mark
+
+pub hold-requires : goal.hold-requires
+hold-requires c = rw c.undo_to.ensures ((climb_popped c.args.self.now _ c.in-Some.next c.in-Some.ensures.items c.requires.climbs).within)
+
+pub returns-clause-ok : goal.returns-clause-ok
+returns-clause-ok c =
+    end_moves _ _ c.args.form c.args.number _ c.in-Some.next _ c.requires.climbs c.requires.«open» refl c.in-Some.ensures.items refl c.undo_to.ensures c.in_ok-hold.ensures.more c.in_ok-hold.ensures.held

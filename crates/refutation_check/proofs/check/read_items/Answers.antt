@@ -1,0 +1,33 @@
+use Rattle.std.proofs.Common.{arith, false, length, sym, true, ◌<◌, ◌∙◌, ◌≡◌}
+use Rattle.std.proofs.lemmas.Result.{err_from_is_err_and}
+use Rattle.gate_graph.specs.Circuit.{net_of}
+use Rattle.refutation.specs.declared.items.Item.TheVariants.{Line}
+use Rattle.refutation.specs.declared.reasoning.Line.TheVariants.{Act}
+use Rattle.refutation_check.proofs.Steps.{read_step, refused_after, refused_here, refused_step}
+use Rattle.refutation_check.specs.Standing.{left_of}
+use Rattle.refutation_check.proofs.check.read_items.Goals as goal
+
+pub loop-item-preserved : goal.loop-item-preserved
+loop-item-preserved c = record {
+  walk = c.in_ok-read.ensures.ok.walk;
+  number = omega arith;
+  read = λ rest. c.loop-item.invariant.read (read_step _ _ _ c.args.items.now _ c.loop-item.item-index c.loop-item.number _ _ c.loop-item.invariant.number c.loop-item-test.true c.in_ok-read.ensures.ok rest);
+  refused = λ r rest.
+      c.loop-item.invariant.refused r
+      (refused_step _ _ _ c.args.items.now _ c.loop-item.item-index c.loop-item.number _ _ r c.loop-item.invariant.number c.loop-item-test.true c.in_ok-read.ensures.ok rest);
+}
+
+pub returns-in_err-read-clause-err : goal.returns-in_err-read-clause-err
+returns-in_err-read-clause-err c =
+    let p = err_from_is_err_and c.from_residual-in_err-read.result c.from_residual-in_err-read.ensures.1 in
+    rw (p.1, p.2)
+    (λ ne.
+    c.loop-item.invariant.refused c.in_err-read.field-0.0
+    (refused_here (net_of c.args.graph.now) c.args.fault.now c.args.form c.args.items.now (Line Act) c.loop-item.item-index c.loop-item.number (left_of c.loop-item.walk.branches) c.in_err-read.field-0.0 c.loop-item.invariant.number
+    c.loop-item-test.true (c.in_err-read.ensures.err ne)))
+
+pub returns-clause-err : goal.returns-clause-err
+returns-clause-err c ne =
+    c.loop-item.invariant.refused _
+    (refused_after (net_of c.args.graph.now) c.args.fault.now c.args.form c.args.items.now c.loop-item.item-index c.loop-item.number (left_of c.loop-item.walk.branches) c.loop-item.invariant.number (omega arith)
+    (λ end. let wrong : false ≡ true = sym c.if-is_end.false ∙ c.is_end.ensures.1 end in cc))

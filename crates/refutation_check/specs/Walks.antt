@@ -1,0 +1,28 @@
+-- A reading of a tree.
+use Rattle.std.specs.Prelude.{None, Option, Some, length, ℕ, ◌≡◌, ◌≢◌, ◌≤◌}
+use Rattle.gate_net.specs.Net.{Net}
+use Rattle.refutation.specs.declared.items.Form.{Form}
+use Rattle.refutation.specs.declared.items.Item.{Item}
+use Rattle.refutation_check.specs.Standing.{IsClimbing, left_of}
+use Rattle.refutation_check.specs.Turns.{TurnsTo, goes_on, refused}
+use Rattle.refutation_check.specs.declared.reading.Walk.{Walk}
+use Rattle.refutation_check.specs.declared.refusals.CheckRefusal.{CheckRefusal}
+use Rattle.refutation_check.specs.declared.refusals.CheckRefusal.TheVariants.{NoMemory}
+use Rattle.refutation_check.specs.Kept.{FitsIfKept}
+use Rattle.rm_base.specs.declared.numbers.Fault.{Fault}
+
+-- what holds of a reading at any time
+pub record IsWalk (net : Net) (w : Walk) : Type 0 where
+  pub climbs : IsClimbing w.branches
+  pub numbers : w.branches.trail.numbers ≡ length net.nodes
+  pub marks : length net.nodes ≤ w.marks
+  pub sim : FitsIfKept w.sim net
+
+-- the item leads to what is left now
+pub record Goes (net : Net) (fault : Fault) (form : Form) (n : ℕ) (i : Item) (old new : Walk) : Type 0 where
+  pub walk : IsWalk net new
+  pub turn : TurnsTo net fault form n (left_of old.branches) i (goes_on (left_of new.branches))
+
+-- the item is refused so, but for want of memory
+abbrev pub Stops : Net → Fault → Form → ℕ → Item → Walk → CheckRefusal → Type 0
+Stops net fault form n i old r = r ≢ NoMemory → TurnsTo net fault form n (left_of old.branches) i (refused r)

@@ -1,0 +1,128 @@
+// The branch that is read and those that are still to be read.
+ghost use Rattle.std.specs.Prelude.{◌≡◌, ◌<◌, ◌↔◌, ◌∷◌, [], false, true, not, suc, ℕ, IsTrue, IfErr, IfOk, OnOk, length};
+ghost use Rattle.gate_graph.specs.Circuit.{net_of};
+ghost use Rattle.refutation.specs.Facts.{none_held, with_fact};
+ghost use Rattle.refutation.specs.declared.reasoning.Fact.TheVariants.{Good};
+ghost use Rattle.refutation_check.specs.Notes.{held_of};
+ghost use Rattle.refutation_check.specs.Standing.{Halts, IsClimbing, Moves, left_of, others_of};
+ghost use Rattle.refutation_check.specs.Turns.{after_end, after_here, goes_on, trees, untrieds};
+ghost use Rattle.refutation_check.specs.FirstRefusal.{IsEnd};
+
+use crate::refusals::CheckRefusal;
+use crate::trail::Trail;
+use gate_graph::Graph;
+use refutation::{Fact, Form};
+use rm_base::{NoMemory, NodeId};
+use std::alloc::Global;
+
+/// A second branch that is still to be read: how many facts came before its split, and what was split on.
+#[derive(Clone, Copy, Debug, PartialEq, Eq)]
+pub(crate) struct Pending {
+    mark: usize,
+    node: NodeId,
+    first: bool,
+}
+
+/// The facts of the branch that is read and the branches that are still to be read. Once a tree has come to its `Here`
+/// or its end, only the number of those that are left counts.
+#[derive(Debug, Drop)]
+pub(crate) struct Branches {
+    pub(crate) trail: Trail,
+    pending: Vec<Pending>,
+    pub(crate) stopped: bool,
+}
+
+impl Branches {
+    /// One branch, without a fact.
+    pub(crate) fn new(alloc: Global, graph: &Graph) -> Result<Branches, NoMemory>
+        ensures climbs { IfOk result (λ b. IsClimbing b) }
+        ensures numbers { IfOk result (λ b. b.trail.numbers ≡ length (net_of graph.now).nodes) }
+        ensures left { IfOk result (λ b. left_of b ≡ trees none_held []) }
+    {
+        let trail = Trail::new(alloc, graph)?;
+        Ok(Branches {
+            trail,
+            pending: Vec::new(alloc),
+            stopped: false,
+        })
+    }
+
+    /// Whether nothing is left to be read.
+    pub(crate) fn is_end(&self) -> bool
+        ensures { IsTrue result ↔ IsEnd (left_of self.now) }
+    {
+        self.stopped && self.pending.is_empty()
+    }
+
+    /// Holds the fact too.
+    pub(crate) fn hold(&mut self, node: NodeId, fact: Fact) -> Result<(), NoMemory>
+        requires climbs { IsClimbing self.old }
+        requires open { self.old.stopped ≡ false }
+        requires node { node.0 < self.old.trail.numbers }
+        ensures { OnOk result (Moves (goes_on (trees (with_fact (held_of self.old.trail.entries) node.0 fact) (others_of self.old.trail.entries self.old.pending.items))) self.old self.new) }
+    {
+        self.trail.hold(node, fact)?;
+        Ok(())
+    }
+
+    /// Goes into the first branch of a split.
+    pub(crate) fn split(&mut self, node: NodeId, first: bool) -> Result<(), NoMemory>
+        requires climbs { IsClimbing self.old }
+        requires open { self.old.stopped ≡ false }
+        requires node { node.0 < self.old.trail.numbers }
+        ensures { OnOk result (Moves (goes_on (trees (with_fact (held_of self.old.trail.entries) node.0 (Good first)) (with_fact (held_of self.old.trail.entries) node.0 (Good (not first)) ∷ others_of self.old.trail.entries self.old.pending.items))) self.old self.new) }
+    {
+        let mark = self.trail.mark();
+        self.pending.push(Pending { mark, node, first })?;
+        self.trail.hold(node, Fact::Good(first))?;
+        Ok(())
+    }
+
+    /// Goes to the next branch after the end of one, which is item `number`.
+    pub(crate) fn end(&mut self, form: Form, number: u64) -> Result<(), CheckRefusal>
+        requires climbs { IsClimbing self.old }
+        requires open { self.old.stopped ≡ false }
+        ensures ok { OnOk result (Moves (after_end form (others_of self.old.trail.entries self.old.pending.items) number) self.old self.new) }
+        ensures err { IfErr result (λ r. Halts (after_end form (others_of self.old.trail.entries self.old.pending.items) number) r) }
+    {
+        let Some(next) = self.pending.pop() else {
+            if form == Form::Partial {
+                return Err(CheckRefusal::Shape { item: number });
+            }
+            self.stopped = true;
+            return Ok(());
+        };
+        self.trail.undo_to(next.mark);
+        self.trail.hold(next.node, Fact::Good(!next.first))?;
+        Ok(())
+    }
+
+    /// Stops at the `Here` of a partial tree, which is item `number`.
+    pub(crate) fn stop(&mut self, form: Form, number: u64) -> Result<(), CheckRefusal>
+        requires climbs { IsClimbing self.old }
+        requires open { self.old.stopped ≡ false }
+        ensures ok { OnOk result (Moves (after_here form (others_of self.old.trail.entries self.old.pending.items) number) self.old self.new) }
+        ensures err { IfErr result (λ r. Halts (after_here form (others_of self.old.trail.entries self.old.pending.items) number) r) }
+    {
+        match form {
+            Form::Closed => Err(CheckRefusal::Shape { item: number }),
+            Form::Partial => {
+                self.stopped = true;
+                Ok(())
+            }
+        }
+    }
+
+    /// Passes over a branch that wasn't entered, or tells whether there is none.
+    pub(crate) fn pass(&mut self) -> bool
+        requires climbs { IsClimbing self.old }
+        requires stopped { self.old.stopped ≡ true }
+        ensures passed { result ≡ true → (k : ℕ) × ((left_of self.old ≡ untrieds (suc k)) × Moves (goes_on (untrieds k)) self.old self.new) }
+        ensures none { result ≡ false → left_of self.old ≡ untrieds 0 }
+    {
+        match self.pending.pop() {
+            Some(_) => true,
+            None => false,
+        }
+    }
+}

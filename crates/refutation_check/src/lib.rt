@@ -1,0 +1,16 @@
+//! The checker of refutation trees: a tree is accepted exactly where it is one, and else its first wrong item is named.
+#![tactic(auto)]
+
+mod branches;
+mod check;
+mod forward;
+pub mod laws;
+mod reading;
+mod refusals;
+mod shape;
+#[cfg(test)]
+mod tests;
+mod trail;
+
+pub use check::check_tree;
+pub use refusals::CheckRefusal;

@@ -1,0 +1,232 @@
+// Reading a tree item by item.
+ghost use Rattle.std.specs.Prelude.{◌≡◌, ◌<◌, ◌≤◌, ◌↔◌, [], IfErr, IfOk, IsTrue, OnOk, false, length};
+ghost use Rattle.gate_net.specs.Values.{HasPin};
+ghost use Rattle.gate_graph.specs.Circuit.{net_of};
+ghost use Rattle.refutation.specs.Branches.{HasNoGood};
+ghost use Rattle.refutation.specs.FactSets.{held_by};
+ghost use Rattle.refutation.specs.Facts.{AreOpposed, none_held};
+ghost use Rattle.rm_base.specs.declared.numbers.Fault.{Fault};
+ghost use Rattle.refutation.specs.declared.items.Item.TheVariants as item;
+ghost use Rattle.refutation_check.specs.Turns.{MaySplitIn, trees};
+ghost use Rattle.refutation_check.specs.Standing.{MaySplitKind, left_of};
+ghost use Rattle.refutation_check.specs.Walks.{Goes, IsWalk, Stops};
+
+use crate::branches::Branches;
+use crate::forward::is_quiet;
+use crate::refusals::CheckRefusal;
+use gate_graph::{Graph, Marks};
+use gate_net::Kind;
+use refutation::{Fact, FactSet, Form, Item, Line, conclude};
+use rm_base::{Fault, NoMemory, NodeId};
+use std::alloc::Global;
+use ternary_sim::Sim;
+
+/// A reading of a tree: what is left to be read, with marks for lines and a simulator for quiet ends.
+#[derive(Drop)]
+pub(crate) struct Walk {
+    pub(crate) branches: Branches,
+    marks: Marks,
+    sim: Option<Sim>,
+}
+
+// Whether the node is one with two opposed facts.
+fn is_opposed(facts: &FactSet, node: NodeId) -> bool
+    ensures { IsTrue result ↔ AreOpposed (held_by facts.now) node.0 }
+{
+    if node.0 as usize >= facts.len() {
+        return false;
+    }
+    facts.is_opposed(node)
+}
+
+// Whether a tree of the form may split on nodes of the kind.
+fn may_split_kind(form: Form, kind: Kind) -> bool
+    ensures { IsTrue result ↔ MaySplitKind form kind }
+{
+    match kind {
+        Kind::Source => true,
+        Kind::Zero | Kind::One => false,
+        Kind::And | Kind::Or | Kind::Not => match form {
+            Form::Closed => true,
+            Form::Partial => false,
+        },
+    }
+}
+
+// Whether no good fact is held on the node.
+fn has_no_good(facts: &FactSet, node: NodeId) -> bool
+    requires { node.0 < length facts.now }
+    ensures { IsTrue result ↔ HasNoGood (held_by facts.now) node.0 }
+{
+    !facts.holds(node, Fact::Good(false)) && !facts.holds(node, Fact::Good(true))
+}
+
+// Whether a tree of the form may split on the node.
+fn may_split(graph: &Graph, facts: &FactSet, form: Form, node: NodeId) -> bool
+    requires { length (net_of graph.now).nodes ≤ length facts.now }
+    ensures { IsTrue result ↔ MaySplitIn form (net_of graph.now) (held_by facts.now) node.0 }
+{
+    let Some(kind) = graph.kind(node) else {
+        return false;
+    };
+    may_split_kind(form, kind) && has_no_good(facts, node)
+}
+
+impl Walk {
+    /// Before the first item.
+    pub(crate) fn new(alloc: Global, graph: &Graph) -> Result<Walk, NoMemory>
+        ensures walk { IfOk result (λ w. IsWalk (net_of graph.now) w) }
+        ensures left { IfOk result (λ w. left_of w.branches ≡ trees none_held []) }
+    {
+        let branches = Branches::new(alloc, graph)?;
+        let marks = Marks::new(alloc, graph.node_bound())?;
+        Ok(Walk {
+            branches,
+            marks,
+            sim: None,
+        })
+    }
+
+    // Reads a line.
+    fn read_line(
+        &mut self,
+        graph: &Graph,
+        fault: &Fault,
+        form: Form,
+        line: &Line,
+        number: u64,
+    ) -> Result<(), CheckRefusal>
+        requires pin { HasPin (net_of graph.now) fault.now }
+        requires walk { IsWalk (net_of graph.now) self.old }
+        requires open { self.old.branches.stopped ≡ false }
+        ensures ok { OnOk result (Goes (net_of graph.now) fault.now form number (item.Line line.now) self.old self.new) }
+        ensures err { IfErr result (λ r. Stops (net_of graph.now) fault.now form number (item.Line line.now) self.old r) }
+    {
+        let facts = self.branches.trail.facts();
+        let Some((node, fact)) = conclude(graph, fault, facts, line, &mut self.marks) else {
+            return Err(CheckRefusal::BadLine { item: number });
+        };
+        self.branches.hold(node, fact)?;
+        Ok(())
+    }
+
+    // Reads a split.
+    fn read_split(
+        &mut self,
+        graph: &Graph,
+        form: Form,
+        node: NodeId,
+        first: bool,
+        number: u64,
+    ) -> Result<(), CheckRefusal>
+        requires walk { IsWalk (net_of graph.now) self.old }
+        requires open { self.old.branches.stopped ≡ false }
+        ensures ok { (fault : Fault) → OnOk result (Goes (net_of graph.now) fault form number (item.Split node first) self.old self.new) }
+        ensures err { (fault : Fault) → IfErr result (λ r. Stops (net_of graph.now) fault form number (item.Split node first) self.old r) }
+    {
+        if !may_split(graph, self.branches.trail.facts(), form, node) {
+            return Err(CheckRefusal::BadSplit { item: number });
+        }
+        self.branches.split(node, first)?;
+        Ok(())
+    }
+
+    // Reads the end of a branch by two opposed facts.
+    fn read_clash(
+        &mut self,
+        graph: &Graph,
+        form: Form,
+        node: NodeId,
+        number: u64,
+    ) -> Result<(), CheckRefusal>
+        requires walk { IsWalk (net_of graph.now) self.old }
+        requires open { self.old.branches.stopped ≡ false }
+        ensures ok { (fault : Fault) → OnOk result (Goes (net_of graph.now) fault form number (item.Clash node) self.old self.new) }
+        ensures err { (fault : Fault) → IfErr result (λ r. Stops (net_of graph.now) fault form number (item.Clash node) self.old r) }
+    {
+        let _graph = graph;
+        if !is_opposed(self.branches.trail.facts(), node) {
+            return Err(CheckRefusal::NotClash { item: number });
+        }
+        self.branches.end(form, number)?;
+        Ok(())
+    }
+
+    // Reads the end of a branch by forward reading.
+    fn read_quiet(
+        &mut self,
+        alloc: Global,
+        graph: &Graph,
+        fault: &Fault,
+        form: Form,
+        number: u64,
+    ) -> Result<(), CheckRefusal>
+        requires pin { HasPin (net_of graph.now) fault.now }
+        requires walk { IsWalk (net_of graph.now) self.old }
+        requires open { self.old.branches.stopped ≡ false }
+        ensures ok { OnOk result (Goes (net_of graph.now) fault.now form number item.Quiet self.old self.new) }
+        ensures err { IfErr result (λ r. Stops (net_of graph.now) fault.now form number item.Quiet self.old r) }
+    {
+        if !is_quiet(
+            alloc,
+            graph,
+            fault,
+            self.branches.trail.facts(),
+            &mut self.sim,
+        )? {
+            return Err(CheckRefusal::NotQuiet { item: number });
+        }
+        self.branches.end(form, number)?;
+        Ok(())
+    }
+
+    // Reads an item of an open branch.
+    fn read_open(
+        &mut self,
+        alloc: Global,
+        graph: &Graph,
+        fault: &Fault,
+        form: Form,
+        item: &Item,
+        number: u64,
+    ) -> Result<(), CheckRefusal>
+        requires pin { HasPin (net_of graph.now) fault.now }
+        requires walk { IsWalk (net_of graph.now) self.old }
+        requires open { self.old.branches.stopped ≡ false }
+        ensures ok { OnOk result (Goes (net_of graph.now) fault.now form number item.now self.old self.new) }
+        ensures err { IfErr result (λ r. Stops (net_of graph.now) fault.now form number item.now self.old r) }
+    {
+        match *item {
+            Item::Line(line) => self.read_line(graph, fault, form, &line, number),
+            Item::Split { node, first } => self.read_split(graph, form, node, first, number),
+            Item::Clash(node) => self.read_clash(graph, form, node, number),
+            Item::Quiet => self.read_quiet(alloc, graph, fault, form, number),
+            Item::Here => self.branches.stop(form, number),
+            Item::Untried => Err(CheckRefusal::Shape { item: number }),
+        }
+    }
+
+    /// Reads item `number`.
+    pub(crate) fn read(
+        &mut self,
+        alloc: Global,
+        graph: &Graph,
+        fault: &Fault,
+        form: Form,
+        item: &Item,
+        number: u64,
+    ) -> Result<(), CheckRefusal>
+        requires pin { HasPin (net_of graph.now) fault.now }
+        requires walk { IsWalk (net_of graph.now) self.old }
+        ensures ok { OnOk result (Goes (net_of graph.now) fault.now form number item.now self.old self.new) }
+        ensures err { IfErr result (λ r. Stops (net_of graph.now) fault.now form number item.now self.old r) }
+    {
+        if !self.branches.stopped {
+            return self.read_open(alloc, graph, fault, form, item, number);
+        }
+        if *item == Item::Untried && self.branches.pass() {
+            return Ok(());
+        }
+        Err(CheckRefusal::Shape { item: number })
+    }
+}

@@ -1,0 +1,309 @@
+//! Trees on two nets, each with what the checker answers.
+ghost use Rattle.std.specs.Prelude.{◌≡◌, ◌≢◌, ◌≤◌, ◌+◌, OnOk};
+ghost use Rattle.gate_net.specs.Net.{IsGateKind};
+ghost use Rattle.gate_net.specs.declared.Kind.TheVariants.{Not};
+ghost use Rattle.gate_graph.specs.Circuit.{live_nodes, pins_taken};
+
+use crate::{CheckRefusal, check_tree};
+use gate_graph::Graph;
+use gate_net::Kind;
+use refutation::{Form, Item, Line, Shape, Tree, TreeBuilder};
+use rm_base::{Fault, NoMemory, NodeId};
+use std::alloc::Global;
+use std::test::Fail;
+
+// Adds a gate of two live drivers.
+fn add_gate(graph: &mut Graph, kind: Kind, one: u32, other: u32) -> Result<bool, NoMemory>
+    requires kind { IsGateKind kind }
+    requires more { kind ≢ Not }
+    requires pins { pins_taken graph.old ≤ 1000 }
+    requires nodes { live_nodes graph.old ≤ 1000 }
+    ensures pins { OnOk result (pins_taken graph.new ≤ pins_taken graph.old + 3) }
+    ensures nodes { OnOk result (live_nodes graph.new ≤ live_nodes graph.old + 1) }
+{
+    let Some(_) = graph.kind(NodeId(one)) else {
+        return Ok(false);
+    };
+    let Some(_) = graph.kind(NodeId(other)) else {
+        return Ok(false);
+    };
+    graph.add_gate(kind, &[NodeId(one), NodeId(other)])?;
+    Ok(true)
+}
+
+// Adds an And of three live drivers.
+fn add_and(graph: &mut Graph, one: u32, other: u32, third: u32) -> Result<bool, NoMemory>
+    requires pins { pins_taken graph.old ≤ 1000 }
+    requires nodes { live_nodes graph.old ≤ 1000 }
+    ensures pins { OnOk result (pins_taken graph.new ≤ pins_taken graph.old + 3) }
+    ensures nodes { OnOk result (live_nodes graph.new ≤ live_nodes graph.old + 1) }
+{
+    let Some(_) = graph.kind(NodeId(one)) else {
+        return Ok(false);
+    };
+    let Some(_) = graph.kind(NodeId(other)) else {
+        return Ok(false);
+    };
+    let Some(_) = graph.kind(NodeId(third)) else {
+        return Ok(false);
+    };
+    graph.add_gate(Kind::And, &[NodeId(one), NodeId(other), NodeId(third)])?;
+    Ok(true)
+}
+
+// Observes a live node.
+fn observe(graph: &mut Graph, node: u32) -> Result<bool, NoMemory>
+    requires pins { pins_taken graph.old ≤ 1000 }
+    ensures pins { OnOk result (pins_taken graph.new ≤ pins_taken graph.old + 3) }
+    ensures nodes { OnOk result (live_nodes graph.new ≡ live_nodes graph.old) }
+{
+    let Some(_) = graph.kind(NodeId(node)) else {
+        return Ok(false);
+    };
+    graph.observe(NodeId(node))?;
+    Ok(true)
+}
+
+// Of the sources 2 and 3: 4 is And(2, 3), which is observed.
+fn one_gate(alloc: Global) -> Result<Option<Graph>, NoMemory> {
+    let mut graph = Graph::new(alloc, 2)?;
+    let four = add_gate(&mut graph, Kind::And, 2, 3)?;
+    let seen = observe(&mut graph, 4)?;
+    if four && seen {
+        Ok(Some(graph))
+    } else {
+        Ok(None)
+    }
+}
+
+// Of the sources 2 to 5: 6 is And(2, 3), 7 is And(2, 4), 8 is Or(6, 7), 9 is And(8, 5, 2), which is observed.
+fn four_gates(alloc: Global) -> Result<Option<Graph>, NoMemory> {
+    let mut graph = Graph::new(alloc, 4)?;
+    let six = add_gate(&mut graph, Kind::And, 2, 3)?;
+    let seven = add_gate(&mut graph, Kind::And, 2, 4)?;
+    let eight = add_gate(&mut graph, Kind::Or, 6, 7)?;
+    let nine = add_and(&mut graph, 8, 5, 2)?;
+    let made = six && seven && eight && nine;
+    let seen = observe(&mut graph, 9)?;
+    if made && seen {
+        Ok(Some(graph))
+    } else {
+        Ok(None)
+    }
+}
+
+// An item, written by its word.
+macro_rules! item {
+    (a) => {
+        Item::Line(Line::Act)
+    };
+    (s) => {
+        Item::Line(Line::Site)
+    };
+    (g $x:literal) => {
+        Item::Line(Line::GoodForward { node: NodeId($x) })
+    };
+    (f $x:literal) => {
+        Item::Line(Line::FaultyForward { node: NodeId($x) })
+    };
+    (h $x:literal) => {
+        Item::Line(Line::Chain { node: NodeId($x) })
+    };
+    (o $x:literal) => {
+        Item::Line(Line::Out { node: NodeId($x) })
+    };
+    (q $x:literal) => {
+        Item::Line(Line::ToFaulty { node: NodeId($x) })
+    };
+    (i $x:literal $p:literal) => {
+        Item::Line(Line::Side { node: NodeId($x), position: $p })
+    };
+    (zero $x:literal) => {
+        Item::Split { node: NodeId($x), first: false }
+    };
+    (one $x:literal) => {
+        Item::Split { node: NodeId($x), first: true }
+    };
+    (clash $x:literal) => {
+        Item::Clash(NodeId($x))
+    };
+    (quiet) => {
+        Item::Quiet
+    };
+    (here) => {
+        Item::Here
+    };
+    (untried) => {
+        Item::Untried
+    };
+}
+
+// A fault, a tree, its form, and what the checker answers.
+#[derive(Clone, Copy)]
+struct Case {
+    fault: (u32, u32, bool),
+    items: &'static [Item],
+    form: Form,
+    answer: Result<Shape, CheckRefusal>,
+}
+
+macro_rules! refused {
+    ($fault:ident $form:ident [$($word:ident $($number:literal)*),*] $why:ident $item:literal) => {
+        Case {
+            fault: $fault,
+            items: &[$(item!($word $($number)*)),*],
+            form: Form::$form,
+            answer: Err(CheckRefusal::$why { item: $item }),
+        }
+    };
+}
+
+macro_rules! accepted {
+    ($fault:ident $form:ident [$($word:ident $($number:literal)*),*] $edges:literal $here:literal $untried:literal) => {
+        Case {
+            fault: $fault,
+            items: &[$(item!($word $($number)*)),*],
+            form: Form::$form,
+            answer: Ok(Shape { edges: $edges, here: $here, untried: $untried }),
+        }
+    };
+}
+
+// Pin 0 of the And of two.
+const STUCK_AT_0: (u32, u32, bool) = (4, 0, false);
+
+const STUCK_AT_1: (u32, u32, bool) = (4, 0, true);
+
+const ON_ONE_GATE: [Case; 31] = [
+    // Each refusal at the first item, and no item at all.
+    refused!(STUCK_AT_0 Closed [g 4] BadLine 1),
+    refused!(STUCK_AT_0 Closed [clash 2] NotClash 1),
+    refused!(STUCK_AT_0 Closed [quiet] NotQuiet 1),
+    refused!(STUCK_AT_0 Closed [one 0, quiet, quiet] BadSplit 1),
+    refused!(STUCK_AT_0 Closed [here] Shape 1),
+    refused!(STUCK_AT_0 Closed [untried] Shape 1),
+    refused!(STUCK_AT_0 Closed [] Shape 1),
+    refused!(STUCK_AT_0 Partial [] Shape 1),
+    // Partial trees.
+    accepted!(STUCK_AT_0 Partial [here] 0 1 0),
+    accepted!(STUCK_AT_0 Partial [one 2, here, untried] 1 1 1),
+    accepted!(STUCK_AT_0 Partial [zero 2, quiet, here] 2 1 0),
+    accepted!(STUCK_AT_0 Partial [zero 2, quiet, zero 3, quiet, here] 4 1 0),
+    accepted!(STUCK_AT_0 Partial [zero 2, quiet, one 3, here, untried] 3 1 1),
+    // An Untried before the Here, a second Here, an end too early, an item after the end.
+    refused!(STUCK_AT_0 Partial [untried] Shape 1),
+    refused!(STUCK_AT_0 Partial [one 2, untried, here] Shape 2),
+    refused!(STUCK_AT_0 Partial [one 2, here, here] Shape 3),
+    refused!(STUCK_AT_0 Partial [one 2, here, quiet] Shape 3),
+    refused!(STUCK_AT_0 Partial [one 2, here] Shape 3),
+    refused!(STUCK_AT_0 Partial [one 2, here, untried, untried] Shape 4),
+    // After the Here nothing but the shape is looked at, and at the end of a tree the shape comes last.
+    refused!(STUCK_AT_0 Partial [one 2, here, g 99] Shape 3),
+    refused!(STUCK_AT_0 Partial [clash 2] NotClash 1),
+    // Splits on a node that is decided, on a gate, on a constant and on a dead number.
+    refused!(STUCK_AT_0 Closed [one 2, zero 2, quiet, quiet] BadSplit 2),
+    refused!(STUCK_AT_0 Partial [a, zero 2, here, untried] BadSplit 2),
+    refused!(STUCK_AT_0 Partial [zero 4, here, untried] BadSplit 1),
+    refused!(STUCK_AT_0 Closed [zero 4, quiet] NotQuiet 2),
+    refused!(STUCK_AT_0 Partial [zero 1, here, untried] BadSplit 1),
+    refused!(STUCK_AT_0 Closed [one 99, quiet, quiet] BadSplit 1),
+    refused!(STUCK_AT_0 Partial [one 99, here, untried] BadSplit 1),
+    refused!(STUCK_AT_0 Closed [clash 99] NotClash 1),
+    // The second branch holds the other value.
+    refused!(STUCK_AT_0 Closed [zero 2, quiet, quiet] NotQuiet 3),
+    // Good 0 and faulty 1 are not opposed.
+    refused!(STUCK_AT_1 Closed [a, g 4, one 3, o 3, q 3, f 4, clash 4] NotClash 7),
+];
+
+// The last pin of the And of three, and the first pin of gate 6.
+const NEW_PIN: (u32, u32, bool) = (9, 2, true);
+
+const OLD_PIN: (u32, u32, bool) = (6, 0, true);
+
+const ON_FOUR_GATES: [Case; 12] = [
+    // A new pin stuck at 1 and an old one stuck at 1, each refuted by a clash.
+    accepted!(NEW_PIN Closed [a, g 6, g 7, g 8, s, o 8, i 9 0, clash 8] 0 0 0),
+    accepted!(OLD_PIN Closed [a, s, h 8, h 9, o 2, i 9 2, clash 2] 0 0 0),
+    // Splits with two closed branches.
+    accepted!(NEW_PIN Closed [a, g 6, g 7, g 8, s, o 8, i 9 0, zero 3, clash 8, clash 8] 2 0 0),
+    accepted!(OLD_PIN Closed [one 2, quiet, s, h 8, h 9, o 2, i 9 2, clash 2] 2 0 0),
+    accepted!(NEW_PIN Partial [a, g 6, g 7, g 8, s, o 8, i 9 0, zero 3, clash 8, here] 2 1 0),
+    // An item after the end, and a second branch that is missing.
+    refused!(NEW_PIN Closed [a, g 6, g 7, g 8, s, o 8, i 9 0, clash 8, g 99] Shape 9),
+    refused!(NEW_PIN Closed [a, g 6, g 7, g 8, s, o 8, i 9 0, zero 3, clash 8] Shape 10),
+    // A partial tree without its Here.
+    refused!(NEW_PIN Partial [a, g 6, g 7, g 8, s, o 8, i 9 0, clash 8] Shape 8),
+    // The facts of the first branch are not held in the second.
+    refused!(NEW_PIN Closed [zero 3, a, g 6, g 7, g 8, s, o 8, i 9 0, clash 8, clash 8] NotClash 10),
+    // A node with both good facts is decided.
+    refused!(OLD_PIN Closed [a, s, h 8, h 9, o 2, i 9 2, zero 2] BadSplit 7),
+    // Each branch that is left has its Untried.
+    accepted!(NEW_PIN Partial [zero 3, zero 4, here, untried, untried] 2 1 2),
+    refused!(NEW_PIN Partial [zero 3, zero 4, here, untried] Shape 5),
+];
+
+fn tree_of(alloc: Global, items: &[Item]) -> Result<Tree, NoMemory> {
+    let mut tree = TreeBuilder::new(alloc);
+    for item in items {
+        tree.push(*item)?;
+    }
+    Ok(tree.finish())
+}
+
+// Whether the checker answers as it should.
+fn holds(alloc: Global, graph: &Graph, case: &Case) -> Result<bool, NoMemory> {
+    let fault = Fault {
+        gate: NodeId(case.fault.0),
+        position: case.fault.1,
+        value: case.fault.2,
+    };
+    let Some(_) = graph.driver(fault.gate, fault.position) else {
+        return Ok(false);
+    };
+    let tree = tree_of(alloc, case.items)?;
+    Ok(check_tree(alloc, graph, &fault, &tree, case.form) == case.answer)
+}
+
+#[test]
+fn trees_on_one_gate(rt: HostRuntime) -> Result<(), Fail> {
+    let graph = one_gate(rt.alloc())?.ok_or("gates")?;
+    for at in 0..ON_ONE_GATE.len() {
+        let right = holds(rt.alloc(), &graph, &ON_ONE_GATE[at])?;
+        assert!(rt; right, "at case {at}");
+    }
+    Ok(())
+}
+
+#[test]
+fn trees_on_four_gates(rt: HostRuntime) -> Result<(), Fail> {
+    let graph = four_gates(rt.alloc())?.ok_or("gates")?;
+    for at in 0..ON_FOUR_GATES.len() {
+        let right = holds(rt.alloc(), &graph, &ON_FOUR_GATES[at])?;
+        assert!(rt; right, "at case {at}");
+    }
+    Ok(())
+}
+
+// A tree that splits so often on source 2.
+fn many_splits(alloc: Global, count: u32) -> Result<Tree, NoMemory> {
+    let mut tree = TreeBuilder::new(alloc);
+    for _ in 0..count {
+        tree.push(item!(one 2))?;
+    }
+    Ok(tree.finish())
+}
+
+#[test]
+fn a_source_is_split_once(rt: HostRuntime) -> Result<(), Fail> {
+    let graph = one_gate(rt.alloc())?.ok_or("gates")?;
+    let fault = Fault {
+        gate: NodeId(4),
+        position: 0,
+        value: false,
+    };
+    let _driver = graph.driver(fault.gate, fault.position).ok_or("pin")?;
+    let tree = many_splits(rt.alloc(), 1_000_000)?;
+    let answer = check_tree(rt.alloc(), &graph, &fault, &tree, Form::Closed);
+    assert!(rt; answer == Err(CheckRefusal::BadSplit { item: 2 }));
+    Ok(())
+}

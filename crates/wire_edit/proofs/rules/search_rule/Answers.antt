@@ -1,0 +1,11 @@
+use Rattle.std.proofs.Common.{sym, ◌∙◌}
+use Rattle.gate_graph.specs.Circuit.{net_of}
+use Rattle.wire_edit.proofs.RuleAt.{no_rule}
+use Rattle.wire_edit.proofs.Reading.{gate_live}
+use Rattle.wire_edit.proofs.rules.search_rule.Goals as goal
+
+pub returns-then-not-is_gate : goal.returns-then-not-is_gate
+returns-then-not-is_gate c = sym (no_rule (net_of c.args.graph.now) c.args.gate.0 (sym c.is_gate.ensures ∙ c.if-not-is_gate.true))
+
+pub search_repeated-repeated-requires : goal.search_repeated-repeated-requires
+search_repeated-repeated-requires c = gate_live (net_of c.args.graph.now) c.args.gate.0 (sym c.is_gate.ensures ∙ c.if-not-is_gate.false)

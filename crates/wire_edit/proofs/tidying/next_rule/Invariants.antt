@@ -1,0 +1,14 @@
+use Rattle.std.proofs.Common.{◌≡◌, length}
+use Rattle.gate_graph.specs.Circuit.{net_of}
+use Rattle.wire_edit.specs.Marked.{IsQuiet, marks_left}
+use Rattle.wire_edit.proofs.tidying.next_rule.Given as goal
+
+abbrev pub invariant-loop-number : goal.invariant-loop-number
+invariant-loop-number l = record {
+  quiet : IsQuiet (net_of l.graph) l.agenda;
+  count : length l.agenda ≡ length l.fn.agenda;
+  seen : l.seen ≡ l.fn.seen;
+}
+
+abbrev pub decreases-loop-number : goal.decreases-loop-number
+decreases-loop-number l = marks_left l.agenda

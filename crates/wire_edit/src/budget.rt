@@ -1,0 +1,62 @@
+//! What steps take of a room.
+ghost use Rattle.std.specs.Prelude.{◌≡◌, ◌<◌, ◌≤◌};
+ghost use Rattle.gate_graph.specs.Circuit.{net_of};
+ghost use Rattle.gate_net.specs.Net.{wire_count};
+ghost use Rattle.wire_edit.specs.Refusals.{ceiling, has_room, live_count, nodes_made};
+ghost use Rattle.wire_edit.specs.Work.{pins_made};
+
+use crate::counts::{few_nodes, few_wires};
+use crate::room::Room;
+use crate::steps::Step;
+use gate_graph::Graph;
+
+// How many pins a step makes.
+pub(crate) fn pins_made(step: Step) -> usize
+    ensures { result ≡ pins_made step }
+{
+    match step {
+        Step::Add { gate: _, node: _ } => 1,
+        Step::NewNot { node: _ } => 1,
+        _ => 0,
+    }
+}
+
+// How many nodes a step makes.
+pub(crate) fn nodes_made(step: Step) -> usize
+    ensures { result ≡ nodes_made step }
+{
+    match step {
+        Step::NewNot { node: _ } => 1,
+        _ => 0,
+    }
+}
+
+// Whether there is room for a step, in a net that has at most so many wires and, where the number is
+// below the ceiling, so many live nodes.
+pub(crate) fn room_for(graph: &Graph, room: Room, step: Step, wires: usize, nodes: usize) -> bool
+    requires wires { wire_count (net_of graph.now) ≤ wires }
+    requires nodes { nodes < ceiling → live_count (net_of graph.now) ≤ nodes }
+    ensures { result ≡ has_room (net_of graph.now) room step }
+{
+    if room.steps == 0 {
+        return false;
+    }
+    match step {
+        Step::Add { gate: _, node: _ } => {
+            if room.pins == 0 {
+                return false;
+            }
+            few_wires(graph, wires)
+        }
+        Step::NewNot { node: _ } => {
+            if room.pins == 0 {
+                return false;
+            }
+            if room.nodes == 0 {
+                return false;
+            }
+            few_nodes(graph, nodes)
+        }
+        _ => true,
+    }
+}

@@ -1,0 +1,63 @@
+//! What a trial reserves.
+ghost use Rattle.std.specs.Prelude.{◌≡◌, ◌≤◌, ◌+◌, [], true, IfOk, IfSome};
+ghost use Rattle.gate_graph.specs.Circuit.{wiring, net_of, pins_taken, live_nodes};
+ghost use Rattle.wire_edit.specs.Order.{IsTidy};
+ghost use Rattle.wire_edit.specs.Trials.{IsTrial};
+
+use crate::agenda::Agenda;
+use crate::made::Made;
+use crate::room::Room;
+use crate::seen::Seen;
+use gate_graph::{Graph, Marks, Undos};
+use rm_base::NoMemory;
+use std::alloc::Global;
+
+// How many entries the undos of a room's steps take at most, or None for more than any memory holds.
+fn entries_needed(room: Room, wires: usize) -> Option<usize>
+    ensures { IfSome result (λ n. room.steps + wires + room.pins ≤ n) }
+{
+    let Some(sum) = room.steps.checked_add(wires) else {
+        return None;
+    };
+    sum.checked_add(room.pins)
+}
+
+fn new_undos(alloc: Global, entries: usize) -> Result<Undos, NoMemory>
+    ensures { IfOk result (λ u. (u.entries ≡ []) × (entries ≤ u.spare)) }
+{
+    let mut undos = Undos::new(alloc);
+    match undos.reserve(entries) {
+        Ok(()) => Ok(undos),
+        Err(NoMemory) => Err(NoMemory),
+    }
+}
+
+// Reserves all that a trial takes. In a tidy net no gate is to be looked at.
+pub(crate) fn prepare(
+    alloc: Global,
+    graph: &mut Graph,
+    room: Room,
+    tidy: bool,
+) -> Result<(Undos, Made, Marks, Agenda, Seen), NoMemory>
+    requires pins { pins_taken graph.old + room.pins ≤ 4294967295 }
+    requires nodes { live_nodes graph.old + room.nodes ≤ 4294967295 }
+    requires tidy { tidy ≡ true → IsTidy (net_of graph.old) }
+    ensures wiring { wiring graph.new ≡ wiring graph.old }
+    ensures net { net_of graph.new ≡ net_of graph.old }
+    ensures epoch { graph.new.epoch ≡ graph.old.epoch }
+    ensures parts { IfOk result (λ p. IsTrial graph.new p.0 room p.2 p.3 × ((p.1 ≡ record { steps = []; spare = room.steps }) × ((p.0.entries ≡ []) × (p.2 ≤ p.4)))) }
+{
+    let Some(entries) = entries_needed(room, graph.wire_count() as usize) else {
+        return Err(NoMemory);
+    };
+    graph.well_formed();
+    let numbers = graph.node_bound().saturating_add(room.nodes as u32);
+    graph.reserve(room.pins, room.nodes)?;
+    graph.leads_back();
+    let undos = new_undos(alloc, entries)?;
+    let made = Made::new(alloc, room.steps)?;
+    let marks = Marks::new(alloc, numbers)?;
+    let agenda = Agenda::new(alloc, numbers, !tidy)?;
+    let seen = Seen::new(alloc, numbers)?;
+    Ok((undos, made, marks, agenda, seen))
+}

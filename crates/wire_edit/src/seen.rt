@@ -1,0 +1,100 @@
+//! Marks by which a repeated driver is found.
+ghost use Rattle.std.specs.Prelude.{◌≡◌, ◌<◌, ◌≤◌, ℕ, true, length, take, unwrap_or, IfOk};
+ghost use Rattle.gate_graph.specs.Circuit.{net_of};
+ghost use Rattle.gate_graph.specs.Search.{AreBelow};
+ghost use Rattle.gate_net.specs.Net.{drivers_of, IsLive};
+ghost use Rattle.wire_edit.specs.Tests.{is_among, is_repeated};
+ghost use Rattle.wire_edit.specs.Firsts.{IsFirst};
+ghost use Rattle.wire_edit.specs.Marked.{is_marked, IsBlank};
+
+use gate_graph::{Graph, Inputs};
+use rm_base::{NoMemory, NodeId};
+use std::alloc::Global;
+use std::marker::Model;
+
+/// Marks for the node numbers below a bound, by which repeated drivers are found. A look leaves them as they were.
+#[derive(Drop)]
+pub struct Seen {
+    marks: Vec<bool>,
+}
+
+impl Model for Seen {
+    ghost use Rattle.std.specs.Prelude.{ℕ, length};
+    ghost use Rattle.wire_edit.specs.Marked.{IsBlank};
+
+    ghost Value = { ℕ };
+
+    ghost view = { λ s. length s.marks.items };
+
+    ghost invariant = { λ s. IsBlank s.marks.items };
+}
+
+impl Seen {
+    /// Marks for the numbers below the bound.
+    pub fn new(alloc: Global, numbers: u32) -> Result<Seen, NoMemory>
+        ensures { IfOk result (λ s. s ≡ numbers) }
+    {
+        let marks = vec![in alloc; false; numbers as usize]?;
+        Ok(Seen { marks })
+    }
+
+    /// Below which bound there are marks.
+    pub fn numbers(&self) -> usize
+        ensures { result ≡ self.now }
+    {
+        self.marks.len()
+    }
+}
+
+// Marks drivers up to the first that is marked already, and gives its position.
+fn mark_drivers(drivers: Inputs<'_>, marks: &mut [bool]) -> Option<u32>
+    requires few { length drivers ≤ 4294967295 }
+    requires within { AreBelow drivers (length marks.old) }
+    requires blank { IsBlank marks.old }
+    ensures first { IsFirst (is_repeated drivers.entry) (length drivers.entry) result }
+    ensures marked { (x : ℕ) → is_marked marks.new x ≡ true → is_among x (take (unwrap_or result 4294967295) drivers.entry) ≡ true }
+{
+    let mut position = 0u32;
+    for driver in drivers {
+        let place = driver.0 as usize;
+        if marks[place] {
+            return Some(position);
+        }
+        marks[place] = true;
+        position += 1;
+    }
+    None
+}
+
+// Takes the marks off the first drivers.
+fn unmark_drivers(drivers: Inputs<'_>, marks: &mut [bool], count: u32)
+    requires within { AreBelow drivers (length marks.old) }
+    requires marked { (x : ℕ) → is_marked marks.old x ≡ true → is_among x (take count drivers) ≡ true }
+    ensures { IsBlank marks.new }
+{
+    let mut left = count;
+    for driver in drivers {
+        if left == 0 {
+            return;
+        }
+        marks[driver.0 as usize] = false;
+        left -= 1;
+    }
+}
+
+// The first pin whose driver drives an earlier pin, in the time of the pins before it.
+pub(crate) fn first_repeated(graph: &Graph, gate: NodeId, seen: &mut Seen) -> Option<u32>
+    requires live { IsLive (net_of graph.now) gate.0 }
+    requires seen { length (net_of graph.now).nodes ≤ seen.old }
+    ensures first { IsFirst (is_repeated (drivers_of (net_of graph.now) gate.0)) (length (drivers_of (net_of graph.now) gate.0)) result }
+    ensures seen { seen.new ≡ seen.old }
+{
+    graph.well_formed();
+    let found = mark_drivers(graph.inputs_of(gate), &mut seen.marks);
+    unmark_drivers(
+        graph.inputs_of(gate),
+        &mut seen.marks,
+        found.unwrap_or(u32::MAX),
+    );
+    found
+}
