@@ -20,6 +20,7 @@ pub mod Matching
 pub mod Choosing
 pub mod NumberingLemmas
 pub mod ListingLemmas
+pub mod Bounded
 pub mod Building
 pub mod Fitting
 pub mod Whole

@@ -11,3 +11,4 @@ pub mod Tally
 pub mod Chosen
 pub mod Built
 pub mod Refusals
+pub mod Bounds

@@ -5,6 +5,7 @@ ghost use Rattle.rm_model.specs.Ranks.{first_without_rank};
 ghost use Rattle.rm_model.specs.Value.{is_among, source_names};
 ghost use Rattle.rm_model.specs.WellFormed.{IsWellFormed};
 ghost use Rattle.rm_model.specs.declared.parts.Cover.{Cover};
+ghost use Rattle.cover_decompose.specs.Bounds.{WiresAreBounded};
 ghost use Rattle.cover_decompose.specs.Needed.{IsNeeded, taken};
 ghost use Rattle.cover_decompose.specs.Decomposition.{net_of_model};
 ghost use Rattle.cover_decompose.specs.Count.{decomposed};
@@ -56,3 +57,8 @@ pub fn needed_covers_are_taken()
 {
     ranks_follow();
 }
+
+/// A decomposition has no more wires than the rows and literals of the model allow.
+pub fn wires_are_bounded()
+    ensures { WiresAreBounded }
+{}

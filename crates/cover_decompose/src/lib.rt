@@ -1,6 +1,7 @@
 //! The net of a model: each needed cover as an Or of Ands of literals.
 #![tactic(auto)]
 
+mod bounds;
 mod build;
 mod count;
 mod laws;
@@ -10,8 +11,14 @@ mod names;
 mod needed;
 mod numbering;
 mod plan;
+#[cfg(test)]
+mod rows;
+#[cfg(test)]
+mod tests;
 
+pub use bounds::is_small;
 pub use laws::{
-    decompositions_are_formed, decompositions_stand, needed_covers_are_taken, worked_rows,
+    decompositions_are_formed, decompositions_stand, needed_covers_are_taken, wires_are_bounded,
+    worked_rows,
 };
 pub use model_graph::{DecomposeRefusal, MOST_PINS, decompose};

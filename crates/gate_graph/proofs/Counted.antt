@@ -100,7 +100,7 @@ pins-more f first (suc n) =
     let t : suc n + 1 ≡ suc (n + 1) = omega arith in
     rw t (omega (arith, rest))
 
-no-pins-from : (f : ℕ → List ℕ) (first n : ℕ) → ((k m : ℕ) → m ≡ first + k → length (f m) ≡ 0) → pins_from f first n ≡ 0
+pub no-pins-from : (f : ℕ → List ℕ) (first n : ℕ) → ((k m : ℕ) → m ≡ first + k → length (f m) ≡ 0) → pins_from f first n ≡ 0
 no-pins-from f first zero h = refl
 no-pins-from f first (suc n) h = omega (arith, h 0 first (omega arith), no-pins-from f (suc first) n (λ k m e. h (suc k) m (omega arith)))
 
@@ -118,15 +118,15 @@ wires-are v s = sum-pins (net_of v).nodes (gate_pins v.pool) 0 (length v.kinds) 
     ap (λ (n : ℕ). length (gate_pins v.pool n)) is ∙ sym (ap length (drivers-all v s k) ∙ length-map (gate_pins v.pool k) (home v.pool.fanouts))))
 
 -- all pins of n gates
-abbrev listed_from : (ℕ → List ℕ) → ℕ → ℕ → List ℕ
+abbrev pub listed_from : (ℕ → List ℕ) → ℕ → ℕ → List ℕ
 listed_from f first zero = []
 listed_from f first (suc n) = f first ++ listed_from f (suc first) n
 
-length-listed : (f : ℕ → List ℕ) (first n : ℕ) → length (listed_from f first n) ≡ pins_from f first n
+pub length-listed : (f : ℕ → List ℕ) (first n : ℕ) → length (listed_from f first n) ≡ pins_from f first n
 length-listed f first zero = refl
 length-listed f first (suc n) = length-append (f first) (listed_from f (suc first) n) ∙ ap (λ k. length (f first) + k) (length-listed f (suc first) n)
 
-in-listed : (f : ℕ → List ℕ) (first n q : ℕ) → has q (listed_from f first n) ≡ true → (m : ℕ) × ((first ≤ m) × (has q (f m) ≡ true))
+pub in-listed : (f : ℕ → List ℕ) (first n q : ℕ) → has q (listed_from f first n) ≡ true → (m : ℕ) × ((first ≤ m) × (has q (f m) ≡ true))
 in-listed f first zero q h = cc
 in-listed f first (suc n) q h = elim (or_cases (has q (f first)) (has q (listed_from f (suc first) n)) (sym (has-append (f first) (listed_from f (suc first) n) q) ∙ h)) [
   | inl here ↦ (first, (omega arith, here))
@@ -148,7 +148,7 @@ apart-listed f each one first (suc n) = apart-append (f first) (listed_from f (s
     let le = at.1.0 in omega (arith, is, le))))
 
 -- numbers of a set, none twice, are no more than the set has
-within-set : (s : finset.FinSet nat_cmp) (xs : List ℕ) → IsApart xs → ((q : ℕ) → has q xs ≡ true → finset.contains s q ≡ true) → length xs ≤ finset.len s
+pub within-set : (s : finset.FinSet nat_cmp) (xs : List ℕ) → IsApart xs → ((q : ℕ) → has q xs ≡ true → finset.contains s q ≡ true) → length xs ≤ finset.len s
 within-set s [] a h = omega arith
 within-set s (x ∷ xs) a h =
     let there = h x (or_left _ _ (eq-eqb x x refl)) in
@@ -166,7 +166,7 @@ pins-few v r first n =
     let all = within-set v.taken (listed_from f first n) (apart-listed f r.inputs.apart r.inputs.one first n) (λ q h. (let at = in-listed f first n q h in r.inputs.members at.0 q at.1.1)) in
     omega (arith, all, length-listed f first n)
 
-same-pins : (v : Pins) (first n : ℕ) → 0 < first → pins_from (gate_pins v) first n ≡ pins_from (λ m. list_of v.inputs m) first n
+pub same-pins : (v : Pins) (first n : ℕ) → 0 < first → pins_from (gate_pins v) first n ≡ pins_from (λ m. list_of v.inputs m) first n
 same-pins v first zero h = refl
 same-pins v first (suc n) h =
     let here : gate_pins v first ≡ list_of v.inputs first = rw (ne_eqb first 0 (λ is. absurd (omega (arith, is)))) refl in

@@ -2,6 +2,7 @@ pub mod NetEdits
 pub mod NetRanks
 pub mod Firsts
 pub mod KindAt
+pub mod KnownKinds
 pub mod Kept
 pub mod Started
 pub mod Bounded
@@ -30,4 +31,6 @@ pub mod Fanned
 pub mod Formed
 pub mod Filling
 pub mod Counted
+pub mod HeldPins
+pub mod CopyGraph
 pub mod Following

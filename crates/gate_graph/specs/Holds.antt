@@ -1,10 +1,12 @@
 -- The pins that undos hold.
-use Rattle.std.specs.Prelude.{◌≡◌, ℕ, true, List, [], ◌∷◌, ◌++◌}
+use Rattle.std.specs.Prelude.{◌≡◌, ℕ, suc, ◌+◌, ◌-◌, true, List, [], ◌∷◌, ◌++◌, length}
+use Rattle.gate_net.specs.Net.{wire_count}
 use Rattle.pin_pool.specs.Ring.{has, IsApart}
 use Rattle.gate_graph.specs.declared.entries.Entry.{Entry}
-use Rattle.gate_graph.specs.declared.entries.Entry.TheVariants.{Removed}
+use Rattle.gate_graph.specs.declared.entries.Entry.TheVariants.{Appended, Removed, Made}
 use Rattle.pin_pool.specs.Rings.{IsOut}
 use Rattle.gate_graph.specs.Wirings.{Wiring}
+use Rattle.gate_graph.specs.Circuit.{Circuit, net_of, pins_taken}
 
 abbrev pub held_by : Entry → List ℕ
 held_by (Removed pin slot) = pin.0 ∷ []
@@ -21,3 +23,18 @@ IsHeld w q = (w.rings.taken q ≡ true) × (IsOut w.rings.inputs q × IsOut w.ri
 pub record AreHeld (w : Wiring) (pins : List ℕ) : Type 0 where
   pub apart : IsApart pins
   pub each : (q : ℕ) → has q pins ≡ true → IsHeld w q
+
+-- how many pins undos hold
+abbrev pub pins_held : Circuit → ℕ
+pins_held v = pins_taken v - (wire_count (net_of v) + length (net_of v).observed)
+
+-- the pins that are held beside those of the entries stay as many
+abbrev pub HoldsOn : Circuit → Circuit → List Entry → List Entry → Type 0
+HoldsOn v w es fs = pins_held w + length (held es) ≡ pins_held v + length (held fs)
+
+-- how many pins the entries made, which are free again once these are undone
+abbrev pub pins_made : List Entry → ℕ
+pins_made [] = 0
+pins_made (Appended pin ∷ es) = suc (pins_made es)
+pins_made (Made node pin ∷ es) = suc (pins_made es)
+pins_made (_ ∷ es) = pins_made es

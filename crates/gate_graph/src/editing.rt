@@ -1,6 +1,7 @@
 //! Changes of a graph that can be undone.
 ghost use Rattle.std.specs.Prelude.{[], ◌∷◌, ◌≡◌, ◌≢◌, ◌+◌, ◌<◌, ◌≤◌, length, Some, None, slice_set, Bool, ◌-◌};
 ghost use Rattle.gate_graph.specs.Entries.{LeadOn};
+ghost use Rattle.gate_graph.specs.Holds.{HoldsOn};
 ghost use Rattle.gate_graph.specs.Changes.{CanEdit, Edits, entries_for};
 ghost use Rattle.gate_graph.specs.declared.entries.Entry.{Entry};
 ghost use Rattle.gate_net.specs.Edits.{MakesGate};
@@ -59,8 +60,10 @@ impl Graph {
         ensures edits { Edits self.old edit.now self.new }
         ensures undos { LeadOn self.old self.new undos.old.entries undos.new.entries }
         ensures entries { undos.new.spare + entries_for self.old edit.now ≡ undos.old.spare }
+        ensures held { HoldsOn self.old self.new undos.old.entries undos.new.entries }
         ensures left { undos.new.entries ≢ [] }
         ensures epoch { self.new.epoch ≡ self.old.epoch }
+        ensures numbers { length self.new.kinds ≡ length self.old.kinds }
     {
         match *edit {
             Edit::Append { gate, driver } => self.append(gate, driver, undos),
@@ -89,7 +92,9 @@ impl Graph {
         ensures net { net_of self.new ≡ with_pin (net_of self.old) gate.0 driver.0 }
         ensures readers { LastReader self.old self.new gate.0 driver.0 }
         ensures undos { LeadOn self.old self.new undos.old.entries undos.new.entries }
+        ensures held { HoldsOn self.old self.new undos.old.entries undos.new.entries }
         ensures epoch { self.new.epoch ≡ self.old.epoch }
+        ensures numbers { length self.new.kinds ≡ length self.old.kinds }
         ensures uses { Uses self.old self.new 1 0 }
         ensures entry { undos.new.spare + 1 ≡ undos.old.spare }
         ensures left { undos.new.entries ≢ [] }
@@ -108,7 +113,9 @@ impl Graph {
         ensures net { net_of self.new ≡ without_pin (net_of self.old) gate.0 position }
         ensures readers { ReaderGoes self.old self.new gate.0 position }
         ensures undos { LeadOn self.old self.new undos.old.entries undos.new.entries }
+        ensures held { HoldsOn self.old self.new undos.old.entries undos.new.entries }
         ensures epoch { self.new.epoch ≡ self.old.epoch }
+        ensures numbers { length self.new.kinds ≡ length self.old.kinds }
         ensures uses { Uses self.old self.new 0 0 }
         ensures entry { undos.new.spare + 1 ≡ undos.old.spare }
         ensures left { undos.new.entries ≢ [] }
@@ -129,7 +136,9 @@ impl Graph {
         ensures net { net_of self.new ≡ with_drivers (net_of self.old) gate.0 (slice_set (drivers_of (net_of self.old) gate.0) position driver.0) }
         ensures readers { ReaderMoves self.old self.new gate.0 position driver.0 }
         ensures undos { LeadOn self.old self.new undos.old.entries undos.new.entries }
+        ensures held { HoldsOn self.old self.new undos.old.entries undos.new.entries }
         ensures epoch { self.new.epoch ≡ self.old.epoch }
+        ensures numbers { length self.new.kinds ≡ length self.old.kinds }
         ensures uses { Uses self.old self.new 0 0 }
         ensures entry { undos.new.spare + 1 ≡ undos.old.spare }
         ensures left { undos.new.entries ≢ [] }
@@ -150,7 +159,9 @@ impl Graph {
         ensures net { net_of self.new ≡ with_readers_moved (net_of self.old) from.0 to.0 }
         ensures readers { ReadersMove self.old self.new from.0 to.0 }
         ensures undos { LeadOn self.old self.new undos.old.entries undos.new.entries }
+        ensures held { HoldsOn self.old self.new undos.old.entries undos.new.entries }
         ensures epoch { self.new.epoch ≡ self.old.epoch }
+        ensures numbers { length self.new.kinds ≡ length self.old.kinds }
         ensures uses { Uses self.old self.new 0 0 }
         ensures entry { undos.new.spare + 1 ≡ undos.old.spare }
         ensures left { undos.new.entries ≢ [] }
@@ -170,7 +181,9 @@ impl Graph {
         ensures net { MakesGate (net_of self.old) (net_of self.new) Not (driver.0 ∷ []) result }
         ensures readers { LastReader self.old self.new result driver.0 }
         ensures undos { LeadOn self.old self.new undos.old.entries undos.new.entries }
+        ensures held { HoldsOn self.old self.new undos.old.entries undos.new.entries }
         ensures epoch { self.new.epoch ≡ self.old.epoch }
+        ensures numbers { length self.new.kinds ≡ length self.old.kinds }
         ensures uses { Uses self.old self.new 1 1 }
         ensures entry { undos.new.spare + 1 ≡ undos.old.spare }
         ensures left { undos.new.entries ≢ [] }
@@ -193,7 +206,9 @@ impl Graph {
         ensures net { DiffersAt (net_of self.old) (net_of self.new) gate.0 × (node_at (net_of self.new) gate.0 ≡ None) }
         ensures readers { GateGoes self.old self.new gate.0 }
         ensures undos { LeadOn self.old self.new undos.old.entries undos.new.entries }
+        ensures held { HoldsOn self.old self.new undos.old.entries undos.new.entries }
         ensures epoch { self.new.epoch ≡ self.old.epoch }
+        ensures numbers { length self.new.kinds ≡ length self.old.kinds }
         ensures uses { Frees self.old self.new }
         ensures entries { undos.new.spare + 1 + length (drivers_of (net_of self.old) gate.0) ≡ undos.old.spare }
         ensures left { undos.new.entries ≢ [] }

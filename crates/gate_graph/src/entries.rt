@@ -65,6 +65,7 @@ impl Undos {
         ensures entries { self.new.entries ≡ self.old.entries }
         ensures spare { OnOk result (entries ≤ self.new.spare) }
         ensures kept { self.old.spare ≤ self.new.spare }
+        ensures refused { OnErr result (self.new ≡ self.old) }
     {
         if entries <= self.room {
             return Ok(());

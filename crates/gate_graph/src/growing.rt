@@ -7,6 +7,7 @@ ghost use Rattle.gate_graph.specs.Circuit.{wiring, net_of, free_pins, free_nodes
 ghost use Rattle.gate_net.specs.Net.{IsLive, IsGateKind};
 ghost use Rattle.gate_net.specs.declared.Kind.TheVariants.{Not};
 ghost use Rattle.pin_pool.specs.Ring.{has};
+ghost use Rattle.gate_graph.specs.Holds.{pins_held};
 ghost use Rattle.gate_graph.specs.Readers.{NewReaders, SameReaders};
 
 use crate::pins::least_free;
@@ -31,6 +32,7 @@ impl Graph {
         ensures kept_pins { free_pins self.old ≤ free_pins self.new }
         ensures kept_nodes { free_nodes self.old ≤ free_nodes self.new }
         ensures taken { pins_taken self.new ≡ pins_taken self.old }
+        ensures held { pins_held self.new ≡ pins_held self.old }
         ensures live { live_nodes self.new ≡ live_nodes self.old }
     {
         let missing = nodes.saturating_sub(self.free as usize);
@@ -60,6 +62,7 @@ impl Graph {
         ensures refused_fanouts { OnErr result (SameReaders self.old self.new) }
         ensures refused_pins { OnErr result (pins_taken self.new ≡ pins_taken self.old) }
         ensures refused_nodes { OnErr result (live_nodes self.new ≡ live_nodes self.old) }
+        ensures held { pins_held self.new ≡ pins_held self.old }
         ensures epoch { self.new.epoch ≡ self.old.epoch }
     {
         self.tell();
@@ -80,6 +83,7 @@ impl Graph {
         ensures fanouts { NewReaders self.old self.new result (map (λ n. n.0) drivers.now) }
         ensures pins { pins_taken self.new ≡ pins_taken self.old + length drivers.now }
         ensures nodes { live_nodes self.new ≡ live_nodes self.old + 1 }
+        ensures held { pins_held self.new ≡ pins_held self.old }
         ensures epoch { self.new.epoch ≡ self.old.epoch }
     {
         look(&self.pool);
@@ -100,6 +104,7 @@ impl Graph {
         ensures pins { OnOk result (pins_taken self.new ≡ pins_taken self.old + 1) }
         ensures refused_pins { OnErr result (pins_taken self.new ≡ pins_taken self.old) }
         ensures nodes { live_nodes self.new ≡ live_nodes self.old }
+        ensures held { pins_held self.new ≡ pins_held self.old }
         ensures epoch { self.new.epoch ≡ self.old.epoch }
     {
         self.tell();
@@ -118,6 +123,7 @@ impl Graph {
         ensures fanouts { SameReaders self.old self.new }
         ensures pins { pins_taken self.new ≡ pins_taken self.old + 1 }
         ensures nodes { live_nodes self.new ≡ live_nodes self.old }
+        ensures held { pins_held self.new ≡ pins_held self.old }
         ensures epoch { self.new.epoch ≡ self.old.epoch }
     {
         look(&self.pool);

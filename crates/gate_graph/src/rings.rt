@@ -46,7 +46,7 @@ pub(crate) fn drop_pin(pool: &mut Pool, pin: PinNo)
     ensures rings { rings_of pool.new ≡ dropped pin.0 (rings_of pool.old) }
     ensures spare { pool.new.spare ≡ pool.old.spare + 1 }
     ensures nodes { length pool.new.inputs ≡ length pool.old.inputs }
-    ensures taken { set.len pool.new.taken ≤ set.len pool.old.taken }
+    ensures taken { set.len pool.new.taken + 1 ≡ set.len pool.old.taken }
 {
     look(pool);
     let _slot = pool.unlink(pin);

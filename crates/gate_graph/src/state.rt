@@ -3,6 +3,7 @@ ghost use Rattle.std.specs.Prelude.{◌<◌, ◌^◌, ◌↔◌, IsTrue, ◌≡�
 ghost use Rattle.pin_pool.specs.Rings.{rings_of, AreRings};
 ghost use Rattle.gate_graph.specs.Entries.{CanGoBack};
 ghost use Rattle.gate_graph.specs.Circuit.{Circuit, wiring, net_of, fanouts_of, pins_taken, free_pins, free_nodes, live_nodes, IsGraph, SameWiring};
+ghost use Rattle.gate_graph.specs.Holds.{pins_held};
 ghost use Rattle.gate_graph.specs.Readers.{ListReaders};
 ghost use Rattle.gate_graph.specs.Start.{first_net};
 ghost use Rattle.gate_net.specs.Net.{kind_of, source_count, gate_count, wire_count, IsWellFormed};
@@ -51,6 +52,7 @@ impl Graph {
         ensures fanouts { IfOk result (λ g. (n : ℕ) → fanouts_of g n ≡ []) }
         ensures epoch { IfOk result (λ g. g.epoch ≡ 0) }
         ensures pins { IfOk result (λ g. pins_taken g ≡ 0) }
+        ensures held { IfOk result (λ g. pins_held g ≡ 0) }
         ensures nodes { IfOk result (λ g. live_nodes g ≡ sources + 2) }
     {
         let count = sources as usize + 2;
@@ -113,6 +115,7 @@ impl Graph {
         ensures nodes { length (net_of self.now).nodes ≤ 4294967295 }
         ensures live { live_nodes self.now ≡ 2 + source_count (net_of self.now) + gate_count (net_of self.now) }
         ensures pins { wire_count (net_of self.now) + length (net_of self.now).observed ≤ pins_taken self.now }
+        ensures held { wire_count (net_of self.now) + length (net_of self.now).observed + pins_held self.now ≡ pins_taken self.now }
         ensures few { pins_taken self.now + free_pins self.now ≤ 4294967295 }
         ensures room { live_nodes self.now + free_nodes self.now ≤ 4294967295 }
     {

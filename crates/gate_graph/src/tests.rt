@@ -4,20 +4,12 @@ ghost use Rattle.gate_net.specs.Net.{IsGateKind, IsLive};
 ghost use Rattle.gate_net.specs.declared.Kind.TheVariants.{Not};
 ghost use Rattle.gate_graph.specs.Circuit.{live_nodes, net_of, pins_taken};
 
+use crate::comparing::is_live;
 use crate::{Graph, Marks};
 use gate_net::Kind;
 use rm_base::{NoMemory, NodeId};
 use std::alloc::Global;
 use std::test::Fail;
-
-fn is_live(graph: &Graph, node: NodeId) -> bool
-    ensures { result ≡ true → IsLive (net_of graph.now) node.0 }
-{
-    match graph.kind(node) {
-        Some(_) => true,
-        None => false,
-    }
-}
 
 // Whether a gate of the kind may have so many pins.
 fn fits(kind: Kind, count: usize) -> bool
@@ -110,6 +102,28 @@ fn is_read(graph: &Graph, node: u32, places: &[(u32, u32)]) -> bool {
     at == places.len()
 }
 
+// Where the node stands in the order.
+fn place_in(order: &[NodeId], node: u32) -> usize {
+    for at in 0..order.len() {
+        if order[at].0 == node {
+            return at;
+        }
+    }
+    order.len()
+}
+
+// The drivers of the four gates, each with its gate.
+const PINS: [(u32, u32); 8] = [
+    (2, 6),
+    (3, 6),
+    (2, 7),
+    (4, 7),
+    (6, 8),
+    (7, 8),
+    (8, 9),
+    (5, 9),
+];
+
 #[test]
 fn four_gates(rt: HostRuntime) -> Result<(), Fail> {
     let alloc = rt.alloc();
@@ -156,10 +170,15 @@ fn paths_and_order(rt: HostRuntime) -> Result<(), Fail> {
     assert!(rt; !leads(alloc, &graph, 9, 9)?);
     assert!(rt; !leads(alloc, &graph, 5, 8)?);
     assert!(rt; !leads(alloc, &graph, 9, 2)?);
+    assert!(rt; leads(alloc, &graph, 6, 9)?);
+    assert!(rt; !leads(alloc, &graph, 9, 6)?);
     let order = graph.order(alloc)?;
     assert_eq!(rt; order.len(), 10);
-    for at in 0..order.len() {
-        assert_eq!(rt; order[at].0 as usize, at);
+    for node in 0..10u32 {
+        assert!(rt; place_in(&order, node) < 10);
+    }
+    for (driver, gate) in PINS {
+        assert!(rt; place_in(&order, driver) < place_in(&order, gate));
     }
     Ok(())
 }

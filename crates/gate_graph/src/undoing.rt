@@ -1,18 +1,18 @@
 //! Undoing and keeping changes.
-ghost use Rattle.std.specs.Prelude.{◌≡◌, ◌≢◌, ◌+◌, ◌<◌, ◌≤◌, [], length, Some, None, min, ◌^◌, ◌-◌};
+ghost use Rattle.std.specs.Prelude.{◌≡◌, ◌≢◌, ◌+◌, ◌<◌, ◌≤◌, [], length, Some, None, min, ◌^◌, ◌-◌, ◌∷◌};
 ghost use Rattle.std.specs.FinSet as set;
 ghost use Rattle.pin_pool.specs.Pins.{Pins};
-ghost use Rattle.pin_pool.specs.Rings.{changed};
+ghost use Rattle.pin_pool.specs.Rings.{AreRings, changed, rings_of};
 ghost use Rattle.gate_graph.specs.Wirings.{wiring_of, kind_at, free_in, free_bit};
 ghost use Rattle.gate_graph.specs.Entries.{CanGoBack, AreWithin, back_to, taken_back, CanTakeBack, IsWithin};
-ghost use Rattle.gate_graph.specs.Holds.{held};
+ghost use Rattle.gate_graph.specs.Holds.{held, pins_held, pins_made};
 ghost use Rattle.gate_graph.specs.declared.entries.Entry.{Entry};
 ghost use Rattle.gate_graph.specs.Circuit.{wiring, net_of, kinds_live, free_pins, free_nodes, pins_taken, live_nodes};
 ghost use Rattle.gate_graph.specs.Readers.{SameReaders};
 
 use crate::entries::{Entry, Undos};
 use crate::pins::stored_kind;
-use crate::rings::{drop_pin, move_fanouts_back, relink_pin, restore_pin};
+use crate::rings::{drop_pin, look, move_fanouts_back, relink_pin, restore_pin};
 use crate::state::Graph;
 use gate_net::Kind;
 use pin_pool::Pool;
@@ -24,10 +24,15 @@ impl Graph {
         ensures wiring { wiring self.new ≡ back_to (wiring self.old) undos.old.entries }
         ensures epoch { self.new.epoch ≡ self.old.epoch }
         ensures none { undos.new.entries ≡ [] }
+        ensures spare { undos.new.spare ≡ undos.old.spare + length undos.old.entries }
         ensures pins { free_pins self.old ≤ free_pins self.new }
         ensures taken { pins_taken self.new ≤ pins_taken self.old }
+        ensures free { free_pins self.new ≡ free_pins self.old + pins_made undos.old.entries }
+        ensures made { pins_taken self.new + pins_made undos.old.entries ≡ pins_taken self.old }
+        ensures held { pins_held self.new + length (held undos.old.entries) ≡ pins_held self.old }
         ensures numbers { length self.new.kinds ≡ length self.old.kinds }
     {
+        self.tell();
         while let Some(entry) = undos.pop() {
             take_back(
                 &mut self.pool,
@@ -37,6 +42,7 @@ impl Graph {
                 entry,
             );
         }
+        look(&self.pool);
     }
 
     /// Keeps the edits, and gives back the pins that the undos hold.
@@ -45,21 +51,25 @@ impl Graph {
         ensures net { net_of self.new ≡ net_of self.old }
         ensures fanouts { SameReaders self.old self.new }
         ensures none { undos.new.entries ≡ [] }
+        ensures spare { undos.new.spare ≡ undos.old.spare + length undos.old.entries }
         ensures same { undos.old.entries ≡ [] → self.new.epoch ≡ self.old.epoch }
         ensures epoch { undos.old.entries ≢ [] → self.new.epoch ≡ min (self.old.epoch + 1) (2 ^ 64 - 1) }
         ensures free { free_pins self.new ≡ free_pins self.old + length (held undos.old.entries) }
         ensures taken { pins_taken self.new + length (held undos.old.entries) ≡ pins_taken self.old }
+        ensures held { pins_held self.new + length (held undos.old.entries) ≡ pins_held self.old }
         ensures nodes { free_nodes self.new ≡ free_nodes self.old }
         ensures numbers { live_nodes self.new ≡ live_nodes self.old }
     {
         if undos.is_empty() {
             return;
         }
+        self.tell();
         while let Some(entry) = undos.pop() {
             if let Entry::Removed { pin, slot: _ } = entry {
                 self.pool.give_back(pin);
             }
         }
+        look(&self.pool);
         self.epoch = self.epoch.saturating_add(1);
     }
 }
@@ -118,7 +128,11 @@ pub(crate) fn take_back(
     ensures spare { pool.old.spare ≤ pool.new.spare }
     ensures free { free.new ≡ free_in kinds.new.items }
     ensures taken { set.len pool.new.taken ≤ set.len pool.old.taken }
+    ensures made { set.len pool.new.taken + pins_made (entry ∷ []) ≡ set.len pool.old.taken }
+    ensures freed { pool.new.spare ≡ pool.old.spare + pins_made (entry ∷ []) }
+    ensures rings { AreRings (rings_of pool.old) }
 {
+    look(pool);
     match entry {
         Entry::Appended { pin } => drop_pin(pool, pin),
         Entry::Removed { pin, slot } => relink_pin(pool, pin, slot),

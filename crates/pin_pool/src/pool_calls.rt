@@ -52,6 +52,20 @@ impl Pool {
         Pool { store }
     }
 
+    /// A pool with the same lists and as many pins, in which the pins that aren't linked are free. It takes the
+    /// time of the pins and the nodes.
+    pub fn copy(&self, alloc: Global) -> Result<Pool, NoMemory>
+        ensures inputs { IfOk result (λ p. p.inputs ≡ self.now.inputs) }
+        ensures fanouts { IfOk result (λ p. p.fanouts ≡ self.now.fanouts) }
+        ensures taken { IfOk result (λ p. (q : ℕ) → set.contains p.taken q ≡ true → IsLinked (rings_of p) q) }
+        ensures pins { IfOk result (λ p. set.len p.taken + p.spare ≡ set.len self.now.taken + self.now.spare) }
+        ensures valid { IfOk result (λ p. IsValid p) }
+    {
+        let store = self.store.copy(alloc)?;
+        store.look();
+        Ok(Pool { store })
+    }
+
     /// How many pins may be taken before more room is reserved.
     pub fn spare(&self) -> usize
         ensures spare { result ≡ self.now.spare }

@@ -17,10 +17,10 @@ use std::marker::Model;
 // The records, the free ones by number, and the ends of the rings of each node.
 #[derive(Drop)]
 pub(crate) struct Store {
-    pins: Vec<Pin>,
-    free: Vec<u32>,
-    gates: Vec<Ends>,
-    drivers: Vec<Ends>,
+    pub(crate) pins: Vec<Pin>,
+    pub(crate) free: Vec<u32>,
+    pub(crate) gates: Vec<Ends>,
+    pub(crate) drivers: Vec<Ends>,
 }
 
 impl Model for Store {

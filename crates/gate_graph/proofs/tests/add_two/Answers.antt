@@ -1,18 +1,6 @@
-use Rattle.std.proofs.Common.{◌≡◌, ◌≢◌, ℕ, [], ◌∷◌, true, false, inl, inr}
-use Rattle.std.proofs.lemmas.Bool.{cases_eq, ne_eqb}
-use Rattle.gate_net.specs.Net.{Net, IsLive}
-use Rattle.pin_pool.specs.Ring.{has}
 use Rattle.gate_graph.specs.Circuit.{net_of}
+use Rattle.gate_graph.proofs.KnownKinds.{two-live}
 use Rattle.gate_graph.proofs.tests.add_two.Goals as goal
-
-two-live : (net : Net) (a b d : ℕ) → IsLive net a → IsLive net b → has d (a ∷ b ∷ []) ≡ true → IsLive net d
-two-live net a b d la lb h = elim (cases_eq d a) [
-  | inl is ↦ rw is la
-  | inr ne ↦ elim (cases_eq d b) [
-    | inl is ↦ rw is lb
-    | inr ne' ↦ let wrong : false ≡ true = rw (ne_eqb d a ne, ne_eqb d b ne') at h in cc
-  ]
-]
 
 pub add_gate-requires-clause-drivers : goal.add_gate-requires-clause-drivers
 add_gate-requires-clause-drivers c d h =

@@ -4,6 +4,14 @@ use Rattle.gate_graph.proofs.Appended.{appends}
 use Rattle.gate_graph.proofs.LeadOns.{kind-of, live-in, not-constant}
 use Rattle.gate_graph.proofs.Fanned.{last-reader, count-there}
 use Rattle.gate_graph.proofs.KindAt.{kind-within}
+use Rattle.gate_graph.proofs.HeldPins.{holds-by, linked-more}
+use Rattle.gate_graph.specs.Holds.{held}
+use Rattle.gate_graph.specs.declared.entries.Entry.{Entry}
+use Rattle.std.specs.FinSet as finset
+use Rattle.pin_pool.specs.Rings.{Rings}
+use Rattle.gate_graph.specs.Circuit.{IsGraph}
+use Rattle.std.proofs.Common.{List, ℕ, ◌∷◌, [], ◌++◌, length, length-append, ap}
+use Rattle.pin_pool.specs.Pins.{list_of}
 use Rattle.gate_graph.proofs.state.Graph.append.Goals as goal
 
 pub link_new-pin-requires-clause-gate : goal.link_new-pin-requires-clause-gate
@@ -55,3 +63,16 @@ returns-clause-readers c =
 
 pub returns-clause-uses : goal.returns-clause-uses
 returns-clause-uses c = rw (← c.self.view_is) (record { pins_left = c.link_new-pin.ensures.spare; nodes_left = omega arith; pins_more = c.link_new-pin.ensures.taken })
+
+pub returns-clause-held : goal.returns-clause-held
+returns-clause-held c =
+    let i = c.self.inside in
+    let v : Circuit = record { kinds = i.kinds.items; pool = i.pool; epoch = i.epoch } in
+    let w : Circuit = record { kinds = i.kinds.items; pool = c.link_new-pin.new.pool; epoch = i.epoch } in
+    let a = appends v w c.args.gate.0 c.args.driver.0 c.link_new-pin.result refl c.link_new-pin.ensures.rings c.look.ensures.rings c.look-2.ensures.rings c.self.invariant.0.wired (rw (← c.self.view_is) at c.requires.gate) (rw (← c.self.view_is) at c.requires.driver) c.requires.apart (rw (← c.self.view_is) at c.requires.path) c.link_new-pin.ensures.fresh in
+    let gw : IsGraph w = record { wired = a.wired; room = omega (arith, c.self.invariant.0.room, c.link_new-pin.ensures.nodes); few = c.self.invariant.0.few } in
+    let gate = rw (← c.self.view_is) at c.requires.gate in
+    let within = kind-within i.kinds.items c.args.gate.0 (live-in v c.args.gate.0 (gate.1.0, gate.1.1.0)) in
+    let more = linked-more v.pool w.pool c.link_new-pin.ensures.nodes c.args.gate.0 1 _ (ap (λ (r : Rings). r.inputs) c.link_new-pin.ensures.rings) (omega (arith, within, c.self.invariant.0.room)) (length-append (list_of v.pool.inputs c.args.gate.0) (c.link_new-pin.result.0 ∷ [])) in
+    let count = ap (λ (l : List Entry). length (held l)) c.push.ensures.entries in
+    rw (← c.self.view_is) (holds-by v w c.args.undos.now.entries c.push.new.self.entries c.look.ensures.rings c.look-2.ensures.rings c.self.invariant.0 gw (omega (arith, count, more, c.link_new-pin.ensures.taken)))

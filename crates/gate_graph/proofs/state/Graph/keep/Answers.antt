@@ -7,6 +7,10 @@ use Rattle.gate_graph.proofs.Kept.{graph-kept, net-kept, readers-kept}
 use Rattle.gate_graph.proofs.Holding.{are-held, held-step, held-here, held-count}
 use Rattle.std.specs.FinSet as finset
 use Rattle.gate_graph.proofs.Numbers.{len-one_less}
+use Rattle.std.proofs.Common.{length, [], ◌≡◌}
+use Rattle.gate_graph.specs.Holds.{held}
+use Rattle.gate_graph.specs.declared.entries.Entry.{Entry}
+use Rattle.gate_graph.proofs.HeldPins.{held-are, linked-same}
 use Rattle.gate_graph.proofs.state.Graph.keep.Goals as goal
 
 pub loop-entry-init : goal.loop-entry-init
@@ -20,6 +24,7 @@ loop-entry-init c =
       spare = refl;
       taken = refl;
       free = refl;
+      places = refl;
       epoch = refl;
       least = refl;
     })
@@ -41,6 +46,7 @@ loop-entry-preserved-in-Removed c =
       spare = omega (arith, i.spare, e.spare, held-count c.in-Removed.pin c.in-Removed.slot c.in-Some.entry c.loop-entry.undos.entries c.pop.new.self.entries c.in-Some.ensures.0 c.in-Removed.is);
       taken = omega (arith, i.taken, ap finset.len e.taken, len-one_less c.loop-entry.self-inside.pool.taken c.in-Removed.pin.0 (held-here c.loop-entry.self-inside.kinds.items c.loop-entry.self-inside.pool c.in-Removed.pin c.in-Removed.slot c.in-Some.entry c.loop-entry.undos.entries c.pop.new.self.entries c.in-Some.ensures.0 c.in-Removed.is i.held_pins).0, held-count c.in-Removed.pin c.in-Removed.slot c.in-Some.entry c.loop-entry.undos.entries c.pop.new.self.entries c.in-Some.ensures.0 c.in-Removed.is);
       free = i.free;
+      places = omega (arith, i.places, c.in-Some.ensures.1, ap (λ (l : List Entry). length l) c.in-Some.ensures.0);
       epoch = i.epoch;
       least = i.least;
     }
@@ -59,3 +65,13 @@ returns-clause-net c = let i = c.loop-entry.invariant in net-kept _ c.args.self.
 
 pub returns-clause-fanouts : goal.returns-clause-fanouts
 returns-clause-fanouts c = let i = c.loop-entry.invariant in readers-kept _ c.args.self.now i.kinds i.inputs i.fanouts
+
+pub returns-clause-held : goal.returns-clause-held
+returns-clause-held c =
+    let i = c.loop-entry.invariant in
+    let s = c.loop-entry.self-inside in
+    let v = c.args.self.now in
+    let w : Circuit = record { kinds = s.kinds.items; pool = s.pool; epoch = c.saturating_add-self-inside.result } in
+    let gw : IsGraph w = graph-kept w v i.kinds i.inputs i.fanouts i.nodes c.tell.ensures.graph in
+    let none = ap (λ (l : List Entry). length (held l)) c.in_default.ensures.0 in
+    omega (arith, held-are v c.tell.ensures.rings c.tell.ensures.graph, held-are w c.look.ensures.rings gw, linked-same v.pool w.pool i.nodes i.inputs, i.taken, none)

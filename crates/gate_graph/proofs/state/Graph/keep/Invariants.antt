@@ -15,6 +15,7 @@ invariant-loop-entry l = record {
   spare : l.self-inside.pool.spare + length (held l.undos.entries) ≡ l.fn.self.pool.spare + length (held l.fn.undos.entries);
   taken : set.len l.self-inside.pool.taken + length (held l.fn.undos.entries) ≡ set.len l.fn.self.pool.taken + length (held l.undos.entries);
   free : l.self-inside.free ≡ l.initial.self-inside.free;
+  places : l.undos.spare + length l.undos.entries ≡ l.fn.undos.spare + length l.fn.undos.entries;
   epoch : l.self-inside.epoch ≡ l.fn.self.epoch;
   least : l.self-inside.least ≡ l.initial.self-inside.least;
 }

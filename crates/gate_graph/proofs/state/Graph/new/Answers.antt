@@ -5,6 +5,7 @@ use Rattle.std.specs.FinSet as finset
 use Rattle.gate_graph.proofs.Fresh.{kinds-new, graph-new}
 use Rattle.gate_graph.proofs.Numbers.{free-first, live-first}
 use Rattle.gate_graph.proofs.Started.{net-started, fanouts-started}
+use Rattle.gate_graph.proofs.HeldPins.{none-taken}
 use Rattle.gate_graph.proofs.state.Graph.new.Goals as goal
 
 pub reserve-requires-clause-pins : goal.reserve-requires-clause-pins
@@ -32,3 +33,6 @@ pub returns-clause-nodes : goal.returns-clause-nodes
 returns-clause-nodes c =
     let kinds = kinds-new c.resize.new.self.items (c.args.sources + 2) c.args.sources (grind (arith, common_steps, c.in-Ok-resize.ensures.items, c.new-kinds.ensures.items)) (omega arith) in
     live-first _ c.args.sources kinds
+
+pub returns-clause-held : goal.returns-clause-held
+returns-clause-held c = none-taken _ (returns-clause-pins c)

@@ -11,6 +11,7 @@ use Rattle.gate_graph.proofs.Formed.{dead-node, live-node}
 use Rattle.gate_graph.proofs.Making.{free-found}
 use Rattle.gate_graph.proofs.Filling.{fills, new-readers, free-not_zero}
 use Rattle.gate_graph.proofs.Numbers.{bit-none, free-within}
+use Rattle.gate_graph.proofs.HeldPins.{held-by, linked-filled}
 use Rattle.gate_graph.proofs.state.Graph.new_gate.Goals as goal
 
 pub link_all-requires-clause-none : goal.link_all-requires-clause-none
@@ -118,3 +119,18 @@ overflow_add-self c =
     let least : kinds_live i.kinds.items c.least_free-node.result = rw c.deref.ensures.value at c.least_free-node.ensures.live in
     let within : c.least_free-node.result < length i.kinds.items = free-found i.kinds.items c.least_free-node.result (rw (← c.self.view_is) at c.requires.nodes) least in
     omega (arith, within, g.few)
+
+pub returns-clause-held : goal.returns-clause-held
+returns-clause-held c =
+    let i = c.self.inside in
+    let v : Circuit = record { kinds = i.kinds.items; pool = i.pool; epoch = i.epoch } in
+    let g : IsGraph v = c.self.invariant.0 in
+    let least : kinds_live i.kinds.items c.least_free-node.result = rw c.deref.ensures.value at c.least_free-node.ensures.live in
+    let within : c.least_free-node.result < length i.kinds.items = free-found i.kinds.items c.least_free-node.result (rw (← c.self.view_is) at c.requires.nodes) least in
+    let free : kind_at i.kinds.items c.least_free-node.result ≡ None = (rw c.deref.ensures.value at c.least_free-node.ensures.free) within in
+    let drivers : (d : ℕ) → has d (map (λ (n : NodeId). n.0) c.args.drivers.now) ≡ true → kind_at v.kinds d ≢ None = λ d h. live-in v d ((rw (← c.self.view_is) at c.requires.drivers) d h) in
+    let w : Circuit = record { kinds = c.set_kind.new.kinds.items; pool = c.link_all.new.pool; epoch = i.epoch } in
+    let a = fills v w c.least_free-node.result c.args.kind (map (λ (n : NodeId). n.0) c.args.drivers.now) c.look.ensures.rings g.wired free c.link_all.ensures.filled (λ m. ap (λ (x : Wiring). x.kind m) (c.set_kind.ensures.kinds i.pool)) drivers (λ is. length-map c.args.drivers.now (λ (n : NodeId). n.0) ∙ c.requires.one is) c.requires.kind in
+    let gw : IsGraph w = record { wired = a.wired; room = omega (arith, g.room, c.link_all.ensures.nodes, c.set_kind.ensures.len); few = omega (arith, g.few, c.set_kind.ensures.len) } in
+    let more = linked-filled v.pool w.pool c.link_all.ensures.nodes c.least_free-node.result (map (λ (n : NodeId). n.0) c.args.drivers.now) c.link_all.ensures.filled (omega (arith, within, g.room)) (dead-pins v g.wired.shape c.least_free-node.result free) in
+    rw (← c.self.view_is) (held-by v w c.look.ensures.rings c.link_all.ensures.filled.rings g gw (omega (arith, more, length-map c.args.drivers.now (λ (n : NodeId). n.0), c.link_all.ensures.taken)))

@@ -8,6 +8,14 @@ use Rattle.gate_graph.proofs.KindAt.{kind-within, wired-set, live-next}
 use Rattle.gate_graph.specs.Wirings.{kind_at}
 use Rattle.gate_graph.specs.Circuit.{kinds_live}
 use Rattle.gate_graph.proofs.Numbers.{bit-none}
+use Rattle.gate_graph.proofs.HeldPins.{holds-by, linked-more}
+use Rattle.gate_graph.specs.Holds.{held}
+use Rattle.gate_graph.specs.declared.entries.Entry.{Entry}
+use Rattle.std.specs.FinSet as finset
+use Rattle.pin_pool.specs.Rings.{Rings}
+use Rattle.gate_graph.specs.Circuit.{IsGraph}
+use Rattle.std.proofs.Common.{List, ◌∷◌, [], ◌++◌, length-append}
+use Rattle.pin_pool.specs.Pins.{list_of}
 use Rattle.gate_graph.proofs.state.Graph.new_not.Goals as goal
 
 pub link_new-pin-requires-clause-driver : goal.link_new-pin-requires-clause-driver
@@ -94,3 +102,17 @@ overflow_add-self c =
     let least : kinds_live i.kinds.items c.least_free-node.result = rw c.deref.ensures.value at c.least_free-node.ensures.live in
     let within : c.least_free-node.result < length i.kinds.items = free-found i.kinds.items c.least_free-node.result (rw (← c.self.view_is) at c.requires.nodes) least in
     omega (arith, within, g.few)
+
+pub returns-clause-held : goal.returns-clause-held
+returns-clause-held c =
+    let i = c.self.inside in
+    let v : Circuit = record { kinds = i.kinds.items; pool = i.pool; epoch = i.epoch } in
+    let w : Circuit = record { kinds = c.set_kind.new.kinds.items; pool = c.link_new-pin.new.pool; epoch = i.epoch } in
+    let least : kinds_live i.kinds.items c.least_free-node.result = rw c.deref.ensures.value at c.least_free-node.ensures.live in
+    let within : c.least_free-node.result < length i.kinds.items = free-found i.kinds.items c.least_free-node.result (rw (← c.self.view_is) at c.requires.nodes) least in
+    let free : kind_at i.kinds.items c.least_free-node.result ≡ None = (rw c.deref.ensures.value at c.least_free-node.ensures.free) within in
+    let a = makes v w c.least_free-node.result c.args.driver.0 c.link_new-pin.result c.link_new-pin.ensures.rings c.look.ensures.rings c.look-2.ensures.rings c.self.invariant.0.wired free least (wired-set i.kinds.items c.set_kind.new.kinds.items i.pool c.link_new-pin.new.pool _ _ _ c.set_kind.ensures.kinds c.link_new-pin.ensures.rings) c.link_new-pin.ensures.fresh (rw (← c.self.view_is) at c.requires.driver) c.set_kind.ensures.len in
+    let gw : IsGraph w = record { wired = a.wired; room = omega (arith, c.self.invariant.0.room, c.link_new-pin.ensures.nodes, c.set_kind.ensures.len); few = omega (arith, c.self.invariant.0.few, c.set_kind.ensures.len) } in
+    let more = linked-more v.pool w.pool c.link_new-pin.ensures.nodes c.least_free-node.result 1 _ (ap (λ (r : Rings). r.inputs) c.link_new-pin.ensures.rings) (omega (arith, within, c.self.invariant.0.room)) (length-append (list_of v.pool.inputs c.least_free-node.result) (c.link_new-pin.result.0 ∷ [])) in
+    let count = ap (λ (l : List Entry). length (held l)) c.push.ensures.entries in
+    rw (← c.self.view_is) (holds-by v w c.args.undos.now.entries c.push.new.self.entries c.look.ensures.rings c.look-2.ensures.rings c.self.invariant.0 gw (omega (arith, count, more, c.link_new-pin.ensures.taken)))

@@ -10,6 +10,13 @@ use Rattle.gate_graph.proofs.Ranked.{not-zero}
 use Rattle.gate_graph.proofs.Fanned.{reader-moves}
 use Rattle.gate_graph.proofs.LeadOns.{live-in}
 use Rattle.gate_graph.proofs.KindAt.{kind-within}
+use Rattle.gate_graph.proofs.HeldPins.{holds-by, linked-same}
+use Rattle.std.proofs.Common.{List, length}
+use Rattle.gate_graph.specs.Holds.{held}
+use Rattle.gate_graph.specs.declared.entries.Entry.{Entry}
+use Rattle.std.specs.FinSet as finset
+use Rattle.pin_pool.specs.Rings.{Rings}
+use Rattle.gate_graph.specs.Circuit.{IsGraph}
 use Rattle.gate_graph.proofs.state.Graph.redrive.Goals as goal
 
 pub redrive_pin-slot-requires-clause-to : goal.redrive_pin-slot-requires-clause-to
@@ -54,3 +61,15 @@ returns-clause-readers c =
 
 pub returns-clause-uses : goal.returns-clause-uses
 returns-clause-uses c = rw (← c.self.view_is) (record { pins_left = omega (arith, c.redrive_pin-slot.ensures.spare); nodes_left = omega arith; pins_more = omega (arith, ap finset.len c.redrive_pin-slot.ensures.taken) })
+
+pub returns-clause-held : goal.returns-clause-held
+returns-clause-held c =
+    let i = c.self.inside in
+    let v : Circuit = record { kinds = i.kinds.items; pool = i.pool; epoch = i.epoch } in
+    let w : Circuit = record { kinds = i.kinds.items; pool = c.redrive_pin-slot.new.pool; epoch = i.epoch } in
+    let a = redrives v w c.args.gate.0 c.args.position c.args.driver.0 c.pin_of-pin.result c.redrive_pin-slot.result refl c.redrive_pin-slot.ensures.rings (rw (← c.self.view_is) at c.pin_of-pin.ensures.rings) c.look.ensures.rings c.self.invariant.0.wired (rw (← c.self.view_is) at c.requires.driver) c.requires.apart (rw (← c.self.view_is) at c.requires.path) (rw (← c.self.view_is) at c.pin_of-pin.ensures.pin) c.redrive_pin-slot.ensures.stood in
+    let gw : IsGraph w = record { wired = a.wired; room = omega (arith, c.self.invariant.0.room, c.redrive_pin-slot.ensures.nodes); few = c.self.invariant.0.few } in
+    let rings = rw (← c.self.view_is) at c.pin_of-pin.ensures.rings in
+    let same = linked-same v.pool w.pool c.redrive_pin-slot.ensures.nodes (ap (λ (r : Rings). r.inputs) c.redrive_pin-slot.ensures.rings) in
+    let count = ap (λ (l : List Entry). length (held l)) c.push.ensures.entries in
+    rw (← c.self.view_is) (holds-by v w c.args.undos.now.entries c.push.new.self.entries rings c.look.ensures.rings c.self.invariant.0 gw (omega (arith, count, same, ap finset.len c.redrive_pin-slot.ensures.taken)))

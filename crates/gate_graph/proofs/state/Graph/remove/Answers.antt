@@ -8,6 +8,14 @@ use Rattle.pin_pool.specs.Pins.{list_of}
 use Rattle.gate_graph.specs.Circuit.{gate_pins}
 use Rattle.gate_graph.proofs.Ranked.{not-zero}
 use Rattle.gate_graph.proofs.Fanned.{reader-goes}
+use Rattle.gate_graph.proofs.HeldPins.{holds-by, linked-less}
+use Rattle.std.proofs.Common.{List, length}
+use Rattle.gate_graph.specs.Holds.{held}
+use Rattle.gate_graph.specs.declared.entries.Entry.{Entry}
+use Rattle.std.specs.FinSet as finset
+use Rattle.pin_pool.specs.Rings.{Rings}
+use Rattle.gate_graph.specs.Circuit.{IsGraph}
+use Rattle.std.proofs.Common.{ap}
 use Rattle.gate_graph.proofs.state.Graph.remove.Goals as goal
 
 pub invariant_of-self : goal.invariant_of-self
@@ -46,3 +54,16 @@ returns-clause-readers c =
 
 pub returns-clause-uses : goal.returns-clause-uses
 returns-clause-uses c = rw (← c.self.view_is) (record { pins_left = omega (arith, c.unlink_pin-slot.ensures.spare); nodes_left = omega arith; pins_more = omega (arith, ap finset.len c.unlink_pin-slot.ensures.taken) })
+
+pub returns-clause-held : goal.returns-clause-held
+returns-clause-held c =
+    let i = c.self.inside in
+    let v : Circuit = record { kinds = i.kinds.items; pool = i.pool; epoch = i.epoch } in
+    let w : Circuit = record { kinds = i.kinds.items; pool = c.unlink_pin-slot.new.pool; epoch = i.epoch } in
+    let a = removes v w c.args.gate.0 c.args.position c.pin_of-pin.result c.unlink_pin-slot.result refl c.unlink_pin-slot.ensures.rings (rw (← c.self.view_is) at c.pin_of-pin.ensures.rings) c.look.ensures.rings c.self.invariant.0.wired (rw (← c.self.view_is) at c.requires.gate) (rw (← c.self.view_is) at c.pin_of-pin.ensures.pin) c.unlink_pin-slot.ensures.stood in
+    let gw : IsGraph w = record { wired = a.wired; room = omega (arith, c.self.invariant.0.room, c.unlink_pin-slot.ensures.nodes); few = c.self.invariant.0.few } in
+    let rings = rw (← c.self.view_is) at c.pin_of-pin.ensures.rings in
+    let linked = rw (← c.self.view_is) at c.pin_of-pin.ensures.linked in
+    let less = linked-less v.pool w.pool c.unlink_pin-slot.ensures.nodes c.pin_of-pin.result.0 rings (ap (λ (r : Rings). r.inputs) c.unlink_pin-slot.ensures.rings) linked.0 in
+    let count = ap (λ (l : List Entry). length (held l)) c.push.ensures.entries in
+    rw (← c.self.view_is) (holds-by v w c.args.undos.now.entries c.push.new.self.entries rings c.look.ensures.rings c.self.invariant.0 gw (omega (arith, count, less, ap finset.len c.unlink_pin-slot.ensures.taken)))

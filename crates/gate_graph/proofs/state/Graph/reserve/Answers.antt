@@ -6,6 +6,8 @@ use Rattle.gate_graph.specs.Wirings.{free_in}
 use Rattle.gate_graph.specs.Circuit.{Circuit, IsGraph}
 use Rattle.gate_graph.proofs.Fresh.{grows}
 use Rattle.gate_graph.proofs.Numbers.{free-within, free-more}
+use Rattle.std.specs.FinSet as finset
+use Rattle.gate_graph.proofs.HeldPins.{held-kept}
 use Rattle.gate_graph.proofs.state.Graph.reserve.Goals as goal
 
 pub invariant_of-self-in_default-resize : goal.invariant_of-self-in_default-resize
@@ -232,3 +234,16 @@ returns-clause-nodes c =
     let now = ap free_in items ∙ free-more i.kinds.items c.saturating_sub-missing.result in
     let a = grows v w c.saturating_sub-missing.result i.least graph c.self.invariant.1.0 items c.reserve.ensures.rings (omega (arith, count, c.in-Ok.ensures.nodes, c.len.ensures, i.kinds.ok.0, graph.room, missing)) (omega (arith, count, graph.few, room, free, missing, free-within i.kinds.items)) in
     omega (arith, now, missing, free)
+
+pub returns-in_default-resize-clause-held : goal.returns-in_default-resize-clause-held
+returns-in_default-resize-clause-held c =
+    let i = c.self.inside in
+    let v : Circuit = record { kinds = i.kinds.items; pool = i.pool; epoch = i.epoch } in
+    let w : Circuit = record { kinds = c.resize.new.self.items; pool = c.reserve.new.self; epoch = i.epoch } in
+    held-kept c.args.self.now w (returns-in_default-resize-clause-net c) (ap finset.len c.reserve.ensures.taken ∙ ap (λ (u : Circuit). finset.len u.pool.taken) c.self.view_is)
+
+pub returns-clause-held : goal.returns-clause-held
+returns-clause-held c =
+    let i = c.self.inside in
+    let w : Circuit = record { kinds = c.resize.new.self.items; pool = c.reserve.new.self; epoch = i.epoch } in
+    held-kept c.args.self.now w (returns-clause-net c) (ap finset.len c.reserve.ensures.taken ∙ ap (λ (u : Circuit). finset.len u.pool.taken) c.self.view_is)

@@ -11,6 +11,10 @@ use Rattle.gate_graph.proofs.Pinned.{has-at, map-none}
 use Rattle.gate_graph.proofs.Retiring.{emptied-start, emptied-step, retires, retire-count, gate-goes, gate-not_zero, none-first, some-first}
 use Rattle.std.specs.FinSet as finset
 use Rattle.gate_graph.proofs.Numbers.{bit-some}
+use Rattle.gate_graph.proofs.HeldPins.{holds-by, linked-less}
+use Rattle.gate_graph.specs.Holds.{held}
+use Rattle.gate_graph.specs.declared.entries.Entry.{Entry}
+use Rattle.pin_pool.specs.Rings.{Rings}
 use Rattle.gate_graph.proofs.state.Graph.retire.Goals as goal
 
 pub nth_pin-requires : goal.nth_pin-requires
@@ -100,6 +104,7 @@ loop-pin-preserved c =
     record {
       emptied = rw c.push.ensures.entries step.0;
       entries = omega (arith, step.1, i.entries, c.push.ensures.spare);
+      held_pins = omega (arith, i.held_pins, linked-less w.pool u.pool c.unlink_pin-slot.ensures.nodes c.in-Some.pin.0 i.emptied.rings (ap (λ (r : Rings). r.inputs) c.unlink_pin-slot.ensures.rings) (g, at), ap (λ (l : List Entry). length (held l)) c.push.ensures.entries);
       nodes = c.unlink_pin-slot.ensures.nodes ∙ i.nodes;
       spare = c.unlink_pin-slot.ensures.spare ∙ i.spare;
       taken = c.unlink_pin-slot.ensures.taken ∙ i.taken;
@@ -248,6 +253,7 @@ loop-pin-init c =
     rw (← c.self.view_is) (record {
       emptied = emptied-start o c.args.gate.0 c.args.undos.now.entries c.look.ensures.rings c.self.invariant.0.wired;
       entries = refl;
+      held_pins = refl;
       nodes = refl;
       spare = refl;
       taken = refl;
@@ -286,3 +292,22 @@ set_kind-requires-clause-few c =
     let live = live-in v g (c.requires.gate.0, c.requires.gate.1.0) in
     let within : g < length v.kinds = kind-within v.kinds g live in
     omega (arith, graph.few, ap length i.same)
+
+pub returns-clause-held : goal.returns-clause-held
+returns-clause-held c =
+    let v = c.args.self.now in
+    let graph : IsGraph v = rw c.self.view_is at c.self.invariant.0 in
+    let i = c.loop-pin.invariant in
+    let g = c.args.gate.0 in
+    let w : Circuit = record { kinds = c.loop-pin.self-inside.kinds.items; pool = c.loop-pin.self-inside.pool; epoch = c.loop-pin.self-inside.epoch } in
+    let count = retire-count v g graph.wired.shape c.requires.gate in
+    let live = live-in v g (c.requires.gate.0, c.requires.gate.1.0) in
+    let within : g < length v.kinds = kind-within v.kinds g live in
+    let none : list_of w.pool.inputs g ≡ [] = none-first (list_of w.pool.inputs g) (sym c.nth_pin.ensures ∙ map-none _ c.nth_pin.result c.in_default.not-Some) in
+    let inside : g < length w.kinds = omega (arith, within, ap length i.same) in
+    let kind : kind_at w.kinds g ≡ c.index.result.now = sym (get_or_read w.kinds g c.index.result.now inside c.index.ensures None) in
+    let u : Circuit = record { kinds = c.set_kind.new.kinds.items; pool = w.pool; epoch = w.epoch } in
+    let a = retires v w u g c.in-Some-index.kind c.args.undos.now.entries c.loop-pin.undos.entries (subst (λ (x : Circuit). AreRings (rings_of x.pool)) c.self.view_is c.look.ensures.rings) graph.wired i.emptied none c.requires.gate (kind ∙ c.in-Some-index.is) c.requires.unread (c.set_kind.ensures.kinds w.pool) c.set_kind.ensures.len in
+    let gu : IsGraph u = record { wired = a.wired; room = omega (arith, graph.room, ap length i.same, i.nodes, c.set_kind.ensures.len); few = omega (arith, graph.few, ap length i.same, c.set_kind.ensures.len) } in
+    let count = ap (λ (l : List Entry). length (held l)) c.push-in-Some-index.ensures.entries in
+    holds-by v u c.args.undos.now.entries c.push-in-Some-index.new.self.entries (subst (λ (x : Circuit). AreRings (rings_of x.pool)) c.self.view_is c.look.ensures.rings) i.emptied.rings graph gu (omega (arith, count, i.held_pins, ap finset.len i.taken))

@@ -3,12 +3,15 @@ use Rattle.pin_pool.specs.Pins.{list_of}
 use Rattle.gate_graph.specs.Wirings.{free_in}
 use Rattle.gate_graph.specs.Circuit.{Circuit, kinds_live}
 use Rattle.gate_graph.specs.Emptied.{IsEmptied}
+use Rattle.gate_graph.specs.Holds.{held}
+use Rattle.gate_graph.proofs.HeldPins.{linked_pins}
 use Rattle.gate_graph.proofs.state.Graph.retire.Given as goal
 
 abbrev pub invariant-loop-pin : goal.invariant-loop-pin
 invariant-loop-pin l = record {
   emptied : (let w : Circuit = record { kinds = l.self-inside.kinds.items; pool = l.self-inside.pool; epoch = l.self-inside.epoch } in IsEmptied l.fn.self w l.gate.0 l.fn.undos.entries l.undos.entries);
   entries : l.undos.spare + length (list_of l.fn.self.pool.inputs l.gate.0) ≡ l.fn.undos.spare + length (list_of l.self-inside.pool.inputs l.gate.0);
+  held_pins : linked_pins l.self-inside.pool + length (held l.undos.entries) ≡ linked_pins l.fn.self.pool + length (held l.fn.undos.entries);
   nodes : length l.self-inside.pool.inputs ≡ length l.fn.self.pool.inputs;
   spare : l.self-inside.pool.spare ≡ l.fn.self.pool.spare;
   taken : l.self-inside.pool.taken ≡ l.fn.self.pool.taken;

@@ -1,8 +1,9 @@
-use Rattle.std.proofs.Common.{◌≡◌, ◌≤◌, length}
+use Rattle.std.proofs.Common.{◌+◌, ◌≡◌, ◌≤◌, length}
 use Rattle.gate_graph.specs.Wirings.{wiring_of, free_in}
 use Rattle.std.specs.FinSet as set
 use Rattle.gate_graph.specs.Entries.{CanGoBack, AreWithin, back_to}
 use Rattle.gate_graph.specs.Circuit.{wiring, kinds_live}
+use Rattle.gate_graph.proofs.HeldPins.{IsUndoing}
 use Rattle.gate_graph.proofs.state.Graph.undo.Given as goal
 
 abbrev pub invariant-loop-entry : goal.invariant-loop-entry
@@ -17,6 +18,8 @@ invariant-loop-entry l = record {
   spare : l.fn.self.pool.spare ≤ l.self-inside.pool.spare;
   taken : set.len l.self-inside.pool.taken ≤ set.len l.fn.self.pool.taken;
   numbers : length l.self-inside.kinds.items ≡ length l.fn.self.kinds;
+  undoing : IsUndoing l.fn.self.pool l.fn.undos.entries l.self-inside.pool l.undos.entries;
+  places : l.undos.spare + length l.undos.entries ≡ l.fn.undos.spare + length l.fn.undos.entries;
   epoch : l.self-inside.epoch ≡ l.fn.self.epoch;
 }
 

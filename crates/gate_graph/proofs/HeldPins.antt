@@ -1,0 +1,226 @@
+-- How many pins are linked, and how many are held beside them.
+use Rattle.std.proofs.Common.{◌≡◌, ◌≢◌, ℕ, zero, suc, ◌+◌, ◌-◌, ◌<◌, ◌≤◌, true, false, Bool, inl, inr, List, [], ◌∷◌, ◌++◌, length, map, refl, sym, ap, ◌∙◌, arith, length-append, Some, None, Option}
+use Rattle.std.specs.FinSet as finset
+use Rattle.std.specs.Ordering.{nat_cmp}
+use Rattle.std.specs.Cmp.{nat_cmp_total, unsigned_tied}
+use Rattle.std.specs.FinSet.{contains-remove, same_set, nat_cmp-IsAntisymmetric, contains-empty, len-empty}
+use Rattle.std.proofs.lemmas.Bool.{cases_Bool, cases_eq, cases_lt, ne_eqb, eq-eqb, false≢true, false_from_ne_true, or_left, or_right, or_cases}
+use Rattle.std.proofs.lemmas.Bool.Decides.{nat_tests}
+use Rattle.std.proofs.lemmas.List.{get_or_past, length-map}
+use Rattle.gate_net.specs.declared.Kind.{Kind}
+use Rattle.gate_net.specs.Net.{Net, wire_count}
+use Rattle.pin_pool.specs.Ring.{has, without, IsApart}
+use Rattle.pin_pool.specs.Pins.{Pins, list_of, put_after, put_behind}
+use Rattle.pin_pool.specs.declared.names.PinNo.{PinNo}
+use Rattle.pin_pool.proofs.PoolLemmas.{has-append}
+use Rattle.pin_pool.specs.Rings.{Rings, rings_of, AreRings, AreOnce, IsIn, IsLinked, changed, all_without}
+use Rattle.pin_pool.proofs.RingsOf.{changed-same, changed-other, has-within}
+use Rattle.pin_pool.proofs.RingLemmas.{without-absent}
+use Rattle.gate_graph.specs.declared.entries.Entry.{Entry}
+use Rattle.gate_graph.specs.declared.entries.Entry.TheVariants.{Appended, Removed, Redriven, Moved, Made, Retired}
+use Rattle.gate_graph.specs.Entries.{CanTakeBack, taken_back}
+use Rattle.gate_graph.proofs.KindAt.{kind-within}
+use Rattle.gate_graph.specs.Wirings.{Wiring, kind_at, wiring_of}
+use Rattle.gate_graph.specs.Circuit.{Circuit, wiring, net_of, gate_pins, home, pins_taken, IsGraph}
+use Rattle.gate_graph.specs.Holds.{held, held_by, pins_held, pins_made, HoldsOn}
+use Rattle.gate_graph.specs.Filled.{IsFilled}
+use Rattle.gate_graph.specs.Totals.{pins_from}
+use Rattle.gate_graph.proofs.NetOf.{observed-net}
+use Rattle.gate_graph.proofs.Pinned.{dead-pins}
+use Rattle.gate_graph.proofs.Counted.{wires-are, wires-few, same-pins, no-pins-from, live-numbers, listed_from, length-listed, in-listed, within-set}
+use Rattle.gate_graph.proofs.Numbers.{len-one_less, len-less}
+
+-- SUMS OF LENGTHS
+pins-split : (f : ℕ → List ℕ) (first n k : ℕ) → pins_from f first (n + k) ≡ pins_from f first n + pins_from f (first + n) k
+pins-split f first zero k = let e : first ≡ first + 0 = omega arith in let z : 0 + k ≡ k = omega arith in rw z (omega (arith, ap (λ m. pins_from f m k) e))
+pins-split f first (suc n) k =
+    let e : suc first + n ≡ first + suc n = omega arith in
+    let t : suc n + k ≡ suc (n + k) = omega arith in
+    rw t (omega (arith, pins-split f (suc first) n k, ap (λ m. pins_from f m k) e))
+
+pins-alike : (f g : ℕ → List ℕ) (first n : ℕ) → ((x : ℕ) → first ≤ x → length (g x) ≡ length (f x)) → pins_from g first n ≡ pins_from f first n
+pins-alike f g first zero h = refl
+pins-alike f g first (suc n) h = omega (arith, h first (omega arith), pins-alike f g (suc first) n (λ x le. h x (omega arith)))
+
+pins-at : (f g : ℕ → List ℕ) (m k first n : ℕ) → first ≤ m → m < first + n → length (g m) ≡ length (f m) + k → ((x : ℕ) → x ≢ m → length (g x) ≡ length (f x)) → pins_from g first n ≡ pins_from f first n + k
+pins-at f g m k first zero le lt at others = absurd (omega arith)
+pins-at f g m k first (suc n) le lt at others = elim (cases_eq first m) [
+  | inl is ↦
+      let here : length (g first) ≡ length (f first) + k = rw is at in
+      let rest = pins-alike f g (suc first) n (λ x less. others x (λ e. absurd (omega arith))) in
+      omega (arith, here, rest)
+  | inr ne ↦
+      let rest = pins-at f g m k (suc first) n (omega arith) (omega arith) at others in
+      omega (arith, rest, others first ne)
+]
+
+length-without : (p : ℕ) (xs : List ℕ) → has p xs ≡ true → length (without p xs) + 1 ≡ length xs
+length-without p [] h = cc
+length-without p (x ∷ xs) h = elim (cases_eq p x) [
+  | inl is ↦ rw (eq-eqb p x is) (omega arith)
+  | inr ne ↦
+      let later : has p xs ≡ true = rw (ne_eqb p x ne) at h in
+      rw (ne_eqb p x ne) (omega (arith, length-without p xs later))
+]
+
+length-put : (xs : List ℕ) (a p : ℕ) → length (put_behind xs a p) ≡ length xs + 1
+length-put [] a p = refl
+length-put (x ∷ xs) a p = elim (cases_eq x a) [
+  | inl is ↦ rw (eq-eqb x a is) (omega arith)
+  | inr ne ↦ rw (ne_eqb x a ne) (omega (arith, length-put xs a p))
+]
+
+pub length-put_after : (xs : List ℕ) (b : Option PinNo) (p : ℕ) → length (put_after xs b p) ≡ length xs + 1
+length-put_after xs None p = omega arith
+length-put_after xs (Some a) p = length-put xs a.0 p
+
+-- THE LINKED PINS OF A POOL
+abbrev pub linked_pins : Pins → ℕ
+linked_pins v = pins_from (λ m. list_of v.inputs m) 0 (length v.inputs)
+
+-- whatever bound is taken
+pins-bound : (lists : List (List ℕ)) (n : ℕ) → length lists ≤ n → pins_from (λ m. list_of lists m) 0 n ≡ pins_from (λ m. list_of lists m) 0 (length lists)
+pins-bound lists n le =
+    let e : n ≡ length lists + (n - length lists) = omega arith in
+    let none = no-pins-from (λ m. list_of lists m) (0 + length lists) (n - length lists) (λ k m at. ap length (get_or_past lists m [] (omega arith))) in
+    ap (λ k. pins_from (λ m. list_of lists m) 0 k) e ∙ omega (arith, pins-split (λ m. list_of lists m) 0 (length lists) (n - length lists), none)
+
+module _ (v w : Pins) (size : length w.inputs ≡ length v.inputs) where
+  over : (f : ℕ → List ℕ) → (rings_of w).inputs ≡ f → linked_pins w ≡ pins_from f 0 (length v.inputs)
+  over f e = ap (λ n. pins_from (λ m. list_of w.inputs m) 0 n) size ∙ ap (λ (g : ℕ → List ℕ). pins_from g 0 (length v.inputs)) e
+
+  pub linked-same : (rings_of w).inputs ≡ (rings_of v).inputs → linked_pins w ≡ linked_pins v
+  linked-same e = over (rings_of v).inputs e
+
+  -- a list is longer
+  pub linked-more : (g k : ℕ) (xs : List ℕ) → (rings_of w).inputs ≡ changed (rings_of v).inputs g xs → g < length v.inputs → length xs ≡ length (list_of v.inputs g) + k → linked_pins w ≡ linked_pins v + k
+  linked-more g k xs e within long =
+      let f : ℕ → List ℕ = λ m. list_of v.inputs m in
+      over (changed f g xs) e ∙ pins-at f (changed f g xs) g k 0 (length v.inputs) (omega arith) (omega arith) (ap length (changed-same f g xs) ∙ long) (λ x ne. ap length (changed-other f g xs x ne))
+
+  -- a pin goes
+  pub linked-less : (p : ℕ) → AreRings (rings_of v) → (rings_of w).inputs ≡ all_without p (rings_of v).inputs → IsIn (rings_of v).inputs p → linked_pins w + 1 ≡ linked_pins v
+  linked-less p r e at =
+      let f : ℕ → List ℕ = λ m. list_of v.inputs m in
+      let others : (x : ℕ) → x ≢ at.0 → length (f x) ≡ length (all_without p f x) = λ x ne. ap length (sym (without-absent p (f x) (false_from_ne_true _ (λ h. ne (r.inputs.one x at.0 p h at.1))))) in
+      let here : length (f at.0) ≡ length (all_without p f at.0) + 1 = sym (length-without p (f at.0) at.1) in
+      sym (pins-at (all_without p f) f at.0 1 0 (length v.inputs) (omega arith) (let lt = has-within v.inputs at.0 p at.1 in omega (arith, lt)) here others ∙ ap (λ n. n + 1) (sym (over (all_without p f) e)))
+
+  -- the pins of a new gate are made
+  pub linked-filled : (n : ℕ) (ds : List ℕ) → IsFilled v w n ds → n < length v.inputs → list_of v.inputs n ≡ [] → linked_pins w ≡ linked_pins v + length ds
+  linked-filled n ds i within none =
+      let f : ℕ → List ℕ = λ m. list_of v.inputs m in
+      let g : ℕ → List ℕ = λ m. list_of w.inputs m in
+      let here : length (g n) ≡ length (f n) + length ds = omega (arith, ap length none, sym (length-map (list_of w.inputs n) (home w.fanouts)), ap length i.homes) in
+      over g refl ∙ pins-at f g n (length ds) 0 (length v.inputs) (omega arith) (omega arith) here (λ x ne. ap length (i.old_in x ne))
+
+-- THE LINKED PINS OF A GRAPH
+pub wires-all : (v : Circuit) → IsGraph v → wire_count (net_of v) + length (net_of v).observed ≡ linked_pins v.pool
+wires-all v g = by (length v.kinds) refl
+  where
+    by : (n : ℕ) → length v.kinds ≡ n → wire_count (net_of v) + length (net_of v).observed ≡ linked_pins v.pool
+    by zero e = (let some = live-numbers v g.wired.shape in absurd (omega arith))
+    by (suc n) e =
+        let f : ℕ → List ℕ = λ m. list_of v.pool.inputs m in
+        let wires = wires-are v g.wired.shape ∙ ap (pins_from (gate_pins v.pool) 0) e in
+        let same = same-pins v.pool 1 n (omega arith) in
+        let observed = ap length (observed-net v) ∙ length-map (list_of v.pool.inputs 0) (home v.pool.fanouts) in
+        let k = length v.pool.inputs - suc n in
+        let wide : length v.pool.inputs ≡ suc n + k = omega (arith, g.room, e) in
+        let none = no-pins-from f (0 + suc n) k (λ j m at. ap length (dead-pins v g.wired.shape m (get_or_past v.kinds m None (omega (arith, at, e))))) in
+        let all : linked_pins v.pool ≡ pins_from f 0 (suc n) = ap (pins_from f 0) wide ∙ omega (arith, pins-split f 0 (suc n) k, none) in
+        omega (arith, wires, same, observed, all)
+
+pub held-are : (v : Circuit) → AreRings (rings_of v.pool) → IsGraph v → pins_held v + linked_pins v.pool ≡ pins_taken v
+held-are v r g =
+    let few = wires-few v r g.wired.shape in
+    let all = wires-all v g in
+    omega (arith, few, all)
+
+pub holds-by : (v w : Circuit) (es fs : List Entry) → AreRings (rings_of v.pool) → AreRings (rings_of w.pool) → IsGraph v → IsGraph w → pins_taken w + linked_pins v.pool + length (held es) ≡ pins_taken v + linked_pins w.pool + length (held fs) → HoldsOn v w es fs
+holds-by v w es fs rv rw' gv gw e = omega (arith, held-are v rv gv, held-are w rw' gw, e)
+
+-- the same where no undos are
+pub held-by : (v w : Circuit) → AreRings (rings_of v.pool) → AreRings (rings_of w.pool) → IsGraph v → IsGraph w → pins_taken w + linked_pins v.pool ≡ pins_taken v + linked_pins w.pool → pins_held w ≡ pins_held v
+held-by v w rv rw' gv gw e = omega (arith, held-are v rv gv, held-are w rw' gw, e)
+
+pub held-kept : (v w : Circuit) → net_of w ≡ net_of v → pins_taken w ≡ pins_taken v → pins_held w ≡ pins_held v
+held-kept v w net taken = omega (arith, taken, ap wire_count net, ap (λ (n : Net). length n.observed) net)
+
+pub none-taken : (v : Circuit) → pins_taken v ≡ 0 → pins_held v ≡ 0
+none-taken v e = omega (arith, e)
+
+-- ONE ENTRY TAKEN BACK
+pub linked-back : (kinds kinds' : List (Option Kind)) (v w : Pins) (e : Entry) → length w.inputs ≡ length v.inputs → AreRings (rings_of v) → length kinds ≤ length v.inputs → CanTakeBack (wiring_of kinds v) e → wiring_of kinds' w ≡ taken_back e (wiring_of kinds v) → linked_pins w + pins_made (e ∷ []) ≡ linked_pins v + length (held_by e)
+linked-back kinds kinds' v w (Appended pin) size r room can is = omega (arith, linked-less v w size pin.0 r (ap (λ (x : Wiring). x.rings.inputs) is) can.0)
+linked-back kinds kinds' v w (Made node pin) size r room can is = omega (arith, linked-less v w size pin.0 r (ap (λ (x : Wiring). x.rings.inputs) is) can.1.0)
+linked-back kinds kinds' v w (Removed pin slot) size r room can is =
+    let within : slot.gate < length kinds = kind-within kinds slot.gate can.1.1.1.0 in
+    omega (arith, linked-more v w size slot.gate 1 _ (ap (λ (x : Wiring). x.rings.inputs) is) (omega (arith, within)) (length-put_after (list_of v.inputs slot.gate) slot.in_gate pin.0))
+linked-back kinds kinds' v w (Redriven pin slot) size r room can is = omega (arith, linked-same v w size (ap (λ (x : Wiring). x.rings.inputs) is))
+linked-back kinds kinds' v w (Moved splice) size r room can is = omega (arith, linked-same v w size (ap (λ (x : Wiring). x.rings.inputs) is))
+linked-back kinds kinds' v w (Retired node kind) size r room can is = omega (arith, linked-same v w size (ap (λ (x : Wiring). x.rings.inputs) is))
+
+pub made-more : (e : Entry) (es : List Entry) → pins_made (e ∷ es) ≡ pins_made (e ∷ []) + pins_made es
+made-more (Appended pin) es = omega arith
+made-more (Made node pin) es = omega arith
+made-more (Removed pin slot) es = omega arith
+made-more (Redriven pin slot) es = omega arith
+made-more (Moved splice) es = omega arith
+made-more (Retired node kind) es = omega arith
+
+-- what undoing keeps
+pub record IsUndoing (v : Pins) (es : List Entry) (w : Pins) (fs : List Entry) : Type 0 where
+  pub free : w.spare + pins_made fs ≡ v.spare + pins_made es
+  pub made : finset.len w.taken + pins_made es ≡ finset.len v.taken + pins_made fs
+  pub held_pins : finset.len w.taken + linked_pins v + length (held es) ≡ finset.len v.taken + linked_pins w + length (held fs)
+
+pub undoing-start : (v : Pins) (es : List Entry) → IsUndoing v es v es
+undoing-start v es = record { free = refl; made = refl; held_pins = refl }
+
+pub undoing-step : (kinds kinds' : List (Option Kind)) (u v w : Pins) (es fs gs : List Entry) (e : Entry) → IsUndoing u es v fs → fs ≡ e ∷ gs → length w.inputs ≡ length v.inputs → AreRings (rings_of v) → length kinds ≤ length v.inputs → CanTakeBack (wiring_of kinds v) e → wiring_of kinds' w ≡ taken_back e (wiring_of kinds v) → finset.len w.taken + pins_made (e ∷ []) ≡ finset.len v.taken → w.spare ≡ v.spare + pins_made (e ∷ []) → IsUndoing u es w gs
+undoing-step kinds kinds' u v w es fs gs e i first size r room can is taken spare =
+    let back = linked-back kinds kinds' v w e size r room can is in
+    let made = ap pins_made first ∙ made-more e gs in
+    let count = ap (λ (l : List Entry). length (held l)) first ∙ length-append (held_by e) (held gs) in
+    record {
+      free = omega (arith, i.free, spare, made);
+      made = omega (arith, i.made, taken, made);
+      held_pins = omega (arith, i.held_pins, taken, back, count);
+    }
+
+-- THE PINS OF A COPY
+-- a set has no more numbers than a list that has them all
+pub set-within : (s : finset.FinSet nat_cmp) (xs : List ℕ) → ((q : ℕ) → finset.contains s q ≡ true → has q xs ≡ true) → finset.len s ≤ length xs
+set-within s [] h =
+    let none : s ≡ finset.empty = same_set nat_cmp_total nat_cmp-IsAntisymmetric _ _ (λ q. false_from_ne_true _ (λ k. false≢true (h q k)) ∙ sym (contains-empty nat_cmp q)) in
+    omega (arith, ap finset.len none, len-empty nat_cmp)
+set-within s (x ∷ xs) h =
+    let rest = set-within (finset.remove s x) xs (λ q k. (
+    let read = contains-remove nat_cmp_total s x q in
+    grind (arith, nat_tests, read, unsigned_tied q x, h q))) in
+    elim (cases_Bool (finset.contains s x)) [
+      | inl in' ↦ omega (arith, len-one_less s x in', rest)
+      | inr out ↦
+          let rest' = set-within s xs (λ q k. (
+          let ne : q ≢ x = λ is. false≢true (sym out ∙ ap (λ (r : ℕ). finset.contains s r) (sym is) ∙ k) in
+          let at = h q k in
+          grind (arith, nat_tests, at, ne))) in
+          omega (arith, rest')
+    ]
+
+listed-in : (f : ℕ → List ℕ) (first n m q : ℕ) → first ≤ m → m < first + n → has q (f m) ≡ true → has q (listed_from f first n) ≡ true
+listed-in f first zero m q le lt h = absurd (omega arith)
+listed-in f first (suc n) m q le lt h = elim (cases_eq first m) [
+  | inl is ↦ has-append (f first) (listed_from f (suc first) n) q ∙ or_left _ _ (ap (λ x. has q (f x)) is ∙ h)
+  | inr ne ↦ has-append (f first) (listed_from f (suc first) n) q ∙ or_right _ _ (listed-in f (suc first) n m q (omega arith) (omega arith) h)
+]
+
+-- where only linked pins are taken, they are as many
+pub taken-linked : (v : Pins) → AreRings (rings_of v) → ((q : ℕ) → finset.contains v.taken q ≡ true → IsLinked (rings_of v) q) → finset.len v.taken ≤ linked_pins v
+taken-linked v r h =
+    let f : ℕ → List ℕ = λ m. list_of v.inputs m in
+    let few = set-within v.taken (listed_from f 0 (length v.inputs)) (λ q k. (
+    let at = h q k in
+    listed-in f 0 (length v.inputs) at.0 q (omega arith) (let lt = has-within v.inputs at.0 q at.1 in omega (arith, lt)) at.1)) in
+    omega (arith, few, length-listed f 0 (length v.inputs))
