@@ -1,7 +1,7 @@
 -- What every list of calls keeps.
 use Rattle.std.proofs.Common.{◌≡◌, ◌≢◌, ◌≤◌, ◌<◌, ℕ, zero, suc, ◌-◌, Option, Some, None, List, [], ◌∷◌, refl, ◌∙◌, sym, ap, subst, arith}
 use Rattle.std.specs.Prelude.{Result, Ok, Err}
-use Rattle.gate_net.specs.Net.{Net, IsWellFormed}
+use Rattle.gate_net.specs.Net.{IsWellFormed}
 use Rattle.gate_graph.specs.Circuit.{net_of, SameWiring}
 use Rattle.wire_edit.specs.declared.steps.Step.{Step}
 use Rattle.wire_edit.specs.declared.steps.Step.TheVariants.{Add, Fix, NewNot, Const, Same, NoPins, OnePin, Twice, Twin, Dead}
@@ -13,7 +13,7 @@ use Rattle.wire_edit.specs.Laws.{IsTidying}
 use Rattle.wire_edit.specs.Order.{next_step}
 use Rattle.wire_edit.specs.Work.{work}
 use Rattle.wire_edit.specs.Tried.{Tried, start_of, Tidies}
-use Rattle.wire_edit.specs.Calls.{Call, apply, tidy_one, AreCalls, RollbackRestores, IsTidied, tidy_calls, TidyingHasRoom}
+use Rattle.wire_edit.specs.Calls.{Call, apply, tidy_one, AreCalls, RollbackRestores, tidy_calls, TidyingHasRoom}
 use Rattle.wire_edit.proofs.Conditions.{applies_changes}
 use Rattle.wire_edit.proofs.Formed.{changes_keep_form}
 use Rattle.wire_edit.proofs.Ordering.{next_applies}

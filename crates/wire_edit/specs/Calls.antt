@@ -5,7 +5,7 @@ use Rattle.gate_graph.specs.Circuit.{Circuit, wiring, net_of, fanouts_of}
 use Rattle.gate_graph.specs.Changes.{Edits}
 use Rattle.wire_edit.specs.declared.steps.Step.{Step}
 use Rattle.wire_edit.specs.declared.refusal.EditRefusal.{EditRefusal}
-use Rattle.wire_edit.specs.Steps.{change_of, stepped}
+use Rattle.wire_edit.specs.Steps.{change_of}
 use Rattle.wire_edit.specs.Refusals.{IsAnswer, room_after}
 use Rattle.wire_edit.specs.Edited.{edit_of}
 use Rattle.wire_edit.specs.Work.{work}
