@@ -1,10 +1,10 @@
 -- Blocks of marks.
-use Rattle.std.proofs.Common.{◌≡◌, ◌≢◌, ℕ, zero, suc, ◌+◌, ◌*◌, ◌/◌, ◌<◌, ◌≤◌, Bool, true, false, inl, inr, List, [], ◌∷◌, length, refl, sym, ◌∙◌, ap, arith}
+use Rattle.std.proofs.Common.{◌≡◌, ℕ, zero, suc, ◌+◌, ◌*◌, ◌/◌, ◌<◌, ◌≤◌, Bool, true, false, inl, inr, List, [], ◌∷◌, length, sym, ◌∙◌, ap, arith}
 use Rattle.std.specs.Prelude.{set}
 use Rattle.std.proofs.lemmas.Bool.{both_ways, cases_eq, cases_lt}
 use Rattle.gate_net.proofs.Bools.{not_true}
-use Rattle.wire_edit.specs.Marked.{is_marked, IsFirstMark, IsBlocked}
-use Rattle.wire_edit.proofs.Marking.{marked_within, marked_beyond, set_marked, set_other_mark, set_count, set_keeps, clear_fewer}
+use Rattle.wire_edit.specs.Marked.{is_marked, IsBlocked}
+use Rattle.wire_edit.proofs.Marking.{marked_within, set_marked, set_other_mark, set_count, set_keeps}
 
 block_within : (k blocks count : ℕ) → k < count → count < 256 * blocks → k / 256 < blocks
 block_within k blocks count lt most = omega (arith, lt, most)

@@ -2,8 +2,8 @@
 use Rattle.std.proofs.Common.{◌≡◌, ℕ, zero, suc, ◌<◌, ◌≤◌, Bool, true, false, inl, inr, Option, Some, None, List, [], ◌∷◌, length, refl, sym, ◌∙◌, ap, arith}
 use Rattle.std.specs.Prelude.{slice_get, option_and_then}
 use Rattle.std.proofs.lemmas.Bool.{both_ways, and_from}
-use Rattle.gate_net.specs.Net.{Net, drivers_in, drivers_of, IsGate, IsWellFormed}
-use Rattle.gate_net.specs.Edits.{with_drivers, without, without_pin}
+use Rattle.gate_net.specs.Net.{Net, drivers_in, drivers_of, IsGate}
+use Rattle.gate_net.specs.Edits.{without, without_pin}
 use Rattle.gate_net.proofs.Bools.{and_both, not_true}
 use Rattle.gate_net.proofs.Edited.{node_at-there}
 use Rattle.wire_edit.specs.declared.steps.Step.{Step}

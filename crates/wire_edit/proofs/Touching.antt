@@ -1,9 +1,9 @@
 -- Marks that a walk over readers sets.
-use Rattle.std.proofs.Common.{◌≡◌, ℕ, zero, suc, ◌<◌, Bool, true, false, ◌⊎◌, inl, inr, Option, Some, None, List, [], ◌∷◌, length, refl, sym, ◌∙◌, ap, arith}
+use Rattle.std.proofs.Common.{◌≡◌, ℕ, zero, suc, ◌<◌, Bool, true, false, ◌⊎◌, inl, inr, Some, List, [], ◌∷◌, length, refl, sym, ◌∙◌, ap, arith}
 use Rattle.std.specs.Prelude.{slice_get}
 use Rattle.std.proofs.lemmas.Bool.{both_ways}
 use Rattle.gate_net.specs.Net.{Net, node_at, drivers_in, Reads, IsWellFormed}
-use Rattle.gate_graph.specs.Circuit.{Circuit, net_of, fanouts_of}
+use Rattle.gate_graph.specs.Circuit.{Circuit, net_of}
 use Rattle.gate_graph.specs.Readers.{ListReaders}
 use Rattle.wire_edit.specs.Tests.{is_live, is_not}
 use Rattle.wire_edit.specs.Marked.{is_marked, KeepsMarks}

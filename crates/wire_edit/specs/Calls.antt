@@ -1,12 +1,14 @@
 -- Lists of calls of a trial, each as its contract tells it.
-use Rattle.std.specs.Prelude.{◌≡◌, ℕ, Option, None, Some, Result, List, [], ◌∷◌, ◌++◌}
+use Rattle.std.specs.Prelude.{◌≡◌, ◌≤◌, ℕ, zero, suc, Option, None, Some, Result, Err, List, [], ◌∷◌, ◌++◌}
+use Rattle.gate_net.specs.Net.{IsWellFormed}
 use Rattle.gate_graph.specs.Circuit.{Circuit, wiring, net_of, fanouts_of}
 use Rattle.gate_graph.specs.Changes.{Edits}
 use Rattle.wire_edit.specs.declared.steps.Step.{Step}
 use Rattle.wire_edit.specs.declared.refusal.EditRefusal.{EditRefusal}
-use Rattle.wire_edit.specs.Steps.{change_of, stepped}
+use Rattle.wire_edit.specs.Steps.{change_of}
 use Rattle.wire_edit.specs.Refusals.{IsAnswer, room_after}
 use Rattle.wire_edit.specs.Edited.{edit_of}
+use Rattle.wire_edit.specs.Work.{work}
 use Rattle.wire_edit.specs.Tried.{Tried, start_of, Tidies}
 
 -- a trial of the graph that has just begun
@@ -59,3 +61,14 @@ pub record IsAsBefore (graph before : Circuit) : Type 0 where
 abbrev pub RollbackRestores : Type 0
 RollbackRestores =
     (graph back : Circuit) (first last : Tried) (calls : List Call) → IsBegun graph first → AreCalls first calls last → IsRolledBack last back → IsAsBefore back graph
+
+-- so many calls of `tidy_one`
+abbrev pub tidy_calls : ℕ → List Call
+tidy_calls zero = []
+tidy_calls (suc n) = tidy_one ∷ tidy_calls n
+
+-- a trial that has steps for the work of its net never answers a refusal while it tidies
+abbrev pub TidyingHasRoom : Type 0
+TidyingHasRoom =
+    (first last new : Tried) (count : ℕ) (answer : Result (Option Step) EditRefusal) (why : EditRefusal) → IsWellFormed (net_of first.graph) → work (net_of first.graph) ≤ first.room.steps → AreCalls first (tidy_calls count) last
+    → IsTidied last new answer → answer ≡ Err why → ⊥

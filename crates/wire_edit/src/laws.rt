@@ -2,7 +2,7 @@
 ghost use Rattle.std.specs.Prelude.{◌≡◌, Some, None, true, false};
 ghost use Rattle.wire_edit.specs.Laws.{StepsKeepForm, StepsKeepObserved, StepsKeepSources, StepsKeepValues, AnswersApply, NextApplies, TidyMeans};
 ghost use Rattle.wire_edit.specs.Work.{TidyingEnds, FixesEnd, AddsRaise, WorkIsBounded, WiresGrow, RoomForTidying, RoomForFixes, RoomForAdding};
-ghost use Rattle.wire_edit.specs.Calls.{RollbackRestores};
+ghost use Rattle.wire_edit.specs.Calls.{RollbackRestores, TidyingHasRoom};
 ghost use Rattle.wire_edit.specs.Steps.{stepped};
 ghost use Rattle.wire_edit.specs.Refusals.{refusal_of};
 ghost use Rattle.wire_edit.specs.Order.{next_step};
@@ -44,6 +44,7 @@ pub fn room_suffices()
     ensures tidying { RoomForTidying }
     ensures fixes { RoomForFixes }
     ensures adding { RoomForAdding }
+    ensures calls { TidyingHasRoom }
 {}
 
 /// After any list of calls of a trial, refused ones among them, `rollback` gives the graph as it was when the trial began.

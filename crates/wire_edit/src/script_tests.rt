@@ -3,10 +3,11 @@ ghost use Rattle.std.specs.Prelude.{◌≡◌, ◌≤◌};
 
 use crate::looks::is_live;
 use crate::tests::{begun, four_gates};
-use crate::{Seen, Step, Trial, first_rule, first_rule_by};
+use crate::{Room, Seen, Step, Trial, first_rule, first_rule_by};
 use gate_graph::Graph;
 use rm_base::{NoMemory, NodeId};
 use std::alloc::Global;
+use std::process::Abort;
 use std::test::Fail;
 
 // The next number of a fixed sequence.
@@ -136,10 +137,26 @@ fn agree(trial: &mut Trial, seen: &mut Seen, steps: u32) -> bool {
     true
 }
 
-#[test]
-fn searches_agree(rt: HostRuntime) -> Result<(), Fail> {
-    let alloc = rt.alloc();
-    let Some(mut trial) = begun(alloc, four_gates(alloc), 10) else {
+// A trial of the four gates that begins as one of a tidy net.
+fn begun_tidy(alloc: Global) -> Option<Trial> {
+    let graph = four_gates(alloc)?;
+    if first_rule(&graph).is_some() {
+        return None;
+    }
+    let room = Room {
+        pins: 2,
+        nodes: 1,
+        steps: 40,
+    };
+    match Trial::begin_tidy(alloc, graph, room) {
+        Ok(trial) => Some(trial),
+        Err(_) => None,
+    }
+}
+
+// Fixes the first pin of each gate, and compares the searches from there on.
+fn fixed_and_tidied(rt: &impl Abort, alloc: Global, begun: Option<Trial>) -> Result<(), Fail> {
+    let Some(mut trial) = begun else {
         assert!(rt; false);
         return Ok(());
     };
@@ -150,10 +167,19 @@ fn searches_agree(rt: HostRuntime) -> Result<(), Fail> {
             position: 0,
             value: number != 7,
         };
-        let _made = trial.apply(fix);
+        assert_eq!(rt; trial.apply(fix), Ok(()));
     }
+    assert!(rt; first_rule(trial.graph()).is_some());
     assert!(rt; agree(&mut trial, &mut seen, 20));
     assert_eq!(rt; first_rule(trial.graph()), None);
+    Ok(())
+}
+
+#[test]
+fn searches_agree(rt: HostRuntime) -> Result<(), Fail> {
+    let alloc = rt.alloc();
+    fixed_and_tidied(&rt, alloc, begun(alloc, four_gates(alloc), 10))?;
+    fixed_and_tidied(&rt, alloc, begun_tidy(alloc))?;
     Ok(())
 }
 

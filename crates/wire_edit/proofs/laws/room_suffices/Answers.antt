@@ -3,6 +3,7 @@ use Rattle.std.specs.Prelude.{nat_lt}
 use Rattle.std.proofs.lemmas.Bool.{lt-ltb}
 use Rattle.wire_edit.specs.Work.{one_if}
 use Rattle.wire_edit.proofs.Ending.{tidying_ends, fixes_end, adds_raise}
+use Rattle.wire_edit.proofs.Calling.{tidying_has_room}
 use Rattle.wire_edit.proofs.laws.room_suffices.Goals as goal
 
 pub returns-clause-tidying : goal.returns-clause-tidying
@@ -20,3 +21,6 @@ pub returns-clause-adding : goal.returns-clause-adding
 returns-clause-adding c = λ net step k room well applies makes le.
     let rises = adds_raise net step well applies makes in
     (omega (arith, rises, le), omega (arith, rises, le))
+
+pub returns-clause-calls : goal.returns-clause-calls
+returns-clause-calls c = tidying_has_room

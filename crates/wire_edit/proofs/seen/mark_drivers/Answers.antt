@@ -1,9 +1,8 @@
-use Rattle.std.proofs.Common.{◌≡◌, ◌+◌, ◌<◌, ◌≤◌, ℕ, Some, List, true, length, map, take, sym, ap, ◌∙◌, subst, arith}
+use Rattle.std.proofs.Common.{◌≡◌, ◌+◌, ◌<◌, ◌≤◌, ℕ, Some, List, length, take, sym, ap, ◌∙◌, subst, arith}
 use Rattle.std.specs.Prelude.{slice_get}
 use Rattle.rm_base.specs.declared.numbers.NodeId.{NodeId}
 use Rattle.wire_edit.specs.Tests.{is_among, is_repeated}
 use Rattle.wire_edit.specs.Firsts.{IsFirst}
-use Rattle.wire_edit.specs.Marked.{is_marked}
 use Rattle.wire_edit.proofs.Marking.{marked_is}
 use Rattle.wire_edit.proofs.Reading.{repeated_test}
 use Rattle.wire_edit.proofs.Walks.{walked, march, pushed, none_more}
