@@ -1,5 +1,6 @@
 // Reading a tree item by item.
 ghost use Rattle.std.specs.Prelude.{◌≡◌, ◌<◌, ◌≤◌, ◌↔◌, [], IfErr, IfOk, IsTrue, OnOk, false, length};
+ghost use Rattle.gate_net.specs.Net.{Net};
 ghost use Rattle.gate_net.specs.Values.{HasPin};
 ghost use Rattle.gate_graph.specs.Circuit.{net_of};
 ghost use Rattle.refutation.specs.Branches.{HasNoGood};
@@ -8,7 +9,7 @@ ghost use Rattle.refutation.specs.Facts.{AreOpposed, none_held};
 ghost use Rattle.rm_base.specs.declared.numbers.Fault.{Fault};
 ghost use Rattle.refutation.specs.declared.items.Item.TheVariants as item;
 ghost use Rattle.refutation_check.specs.Turns.{MaySplitIn, trees};
-ghost use Rattle.refutation_check.specs.Standing.{MaySplitKind, left_of};
+ghost use Rattle.refutation_check.specs.Standing.{IsClimbing, MaySplitKind, left_of};
 ghost use Rattle.refutation_check.specs.Walks.{Goes, IsWalk, Stops};
 
 use crate::branches::Branches;
@@ -132,19 +133,12 @@ impl Walk {
     }
 
     // Reads the end of a branch by two opposed facts.
-    fn read_clash(
-        &mut self,
-        graph: &Graph,
-        form: Form,
-        node: NodeId,
-        number: u64,
-    ) -> Result<(), CheckRefusal>
-        requires walk { IsWalk (net_of graph.now) self.old }
+    fn read_clash(&mut self, form: Form, node: NodeId, number: u64) -> Result<(), CheckRefusal>
+        requires climbs { IsClimbing self.old.branches }
         requires open { self.old.branches.stopped ≡ false }
-        ensures ok { (fault : Fault) → OnOk result (Goes (net_of graph.now) fault form number (item.Clash node) self.old self.new) }
-        ensures err { (fault : Fault) → IfErr result (λ r. Stops (net_of graph.now) fault form number (item.Clash node) self.old r) }
+        ensures ok { (net : Net) (fault : Fault) → IsWalk net self.old → OnOk result (Goes net fault form number (item.Clash node) self.old self.new) }
+        ensures err { (net : Net) (fault : Fault) → IfErr result (λ r. Stops net fault form number (item.Clash node) self.old r) }
     {
-        let _graph = graph;
         if !is_opposed(self.branches.trail.facts(), node) {
             return Err(CheckRefusal::NotClash { item: number });
         }
@@ -199,7 +193,7 @@ impl Walk {
         match *item {
             Item::Line(line) => self.read_line(graph, fault, form, &line, number),
             Item::Split { node, first } => self.read_split(graph, form, node, first, number),
-            Item::Clash(node) => self.read_clash(graph, form, node, number),
+            Item::Clash(node) => self.read_clash(form, node, number),
             Item::Quiet => self.read_quiet(alloc, graph, fault, form, number),
             Item::Here => self.branches.stop(form, number),
             Item::Untried => Err(CheckRefusal::Shape { item: number }),
