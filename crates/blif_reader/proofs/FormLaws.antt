@@ -23,7 +23,8 @@ use Rattle.blif_reader.proofs.Compared.{word_tells, word_same, or_false}
 use Rattle.blif_reader.proofs.Plays.{names_among, plays_driver}
 use Rattle.blif_reader.proofs.LineLaws.{word_for}
 use Rattle.blif_reader.proofs.CleanLaws.{IsClean, Apart}
-use Rattle.blif_reader.proofs.NameLaws.{is_latch_input, is_control, all_uses, uses_list, only_lines, only_input, only_clock, only_output, only_cover, only_cover_input, only_latch, only_latch_input, only_control, list_words, names_words, cover_names_in, latch_names_in, AreNames, singles, options, line_picks, list_picks, cover_picks, latch_picks, picks}
+use Rattle.blif_reader.proofs.PartNames.{list_words, names_words, cover_names_in, latch_names_in, AreNames, singles, options}
+use Rattle.blif_reader.proofs.NameLaws.{is_latch_input, is_control, all_uses, uses_list, only_lines, only_input, only_clock, only_output, only_cover, only_cover_input, only_latch, only_latch_input, only_control, line_picks, list_picks, cover_picks, latch_picks, picks}
 
 -- THE NAMES OF THE MODEL
 -- the names that are used in each role are those of the model's parts

@@ -14,6 +14,7 @@ pub mod ReadLaws
 pub mod ModelLaws
 pub mod CleanLaws
 pub mod NameLaws
+pub mod PartNames
 pub mod FormLaws
 pub mod ShapeLaws
 pub mod TokenLaws
