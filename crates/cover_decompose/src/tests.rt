@@ -124,7 +124,10 @@ fn gives(
     observed: &[u32],
 ) -> Result<bool, DecomposeRefusal> {
     let model = model(alloc, inputs, outputs, covers)?;
-    let first = (inputs.len() as u32).saturating_add(2);
+    let mut first = 2u32;
+    for _ in inputs {
+        first = first.saturating_add(1);
+    }
     match decomposed(alloc, &model)? {
         Some(graph) => Ok(has_gates(&graph, first, gates, observed)),
         None => Ok(false),
