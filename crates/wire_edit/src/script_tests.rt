@@ -1,6 +1,4 @@
 //! A script of calls on a trial, and what is left after a rollback.
-ghost use Rattle.std.specs.Prelude.{◌≡◌, ◌≤◌};
-
 use crate::looks::is_live;
 use crate::tests::{begun, four_gates};
 use crate::{Room, Seen, Step, Trial, first_rule, first_rule_by};

@@ -1,21 +1,15 @@
 //! A trial of steps, which can be rolled back.
-ghost use Rattle.std.specs.Prelude.{◌≡◌, ◌≢◌, ◌<◌, ◌≤◌, ◌+◌, ◌^◌, ◌++◌, ◌∷◌, [], ℕ, min, true, false, length, ◌-◌, IfOk, IfErr, IfSome, OnOk, OnErr, Some, None, Ok, Err};
-ghost use Rattle.gate_graph.specs.Circuit.{Circuit, wiring, net_of, fanouts_of, pins_taken, live_nodes};
-ghost use Rattle.gate_graph.specs.Changes.{CanEdit, Edits, entries_for};
-ghost use Rattle.gate_graph.specs.Entries.{LeadOn};
+ghost use Rattle.std.specs.Prelude.{◌≡◌, ◌≢◌, ◌<◌, ◌≤◌, ◌+◌, ◌-◌, ◌^◌, ◌++◌, ◌∷◌, [], ℕ, min, true, IfOk, IfErr, OnOk, OnErr, Some, Ok};
+ghost use Rattle.gate_graph.specs.Circuit.{wiring, net_of, fanouts_of, pins_taken, live_nodes};
+ghost use Rattle.gate_graph.specs.Changes.{Edits};
 ghost use Rattle.wire_edit.specs.Steps.{Applies, change_of, stepped};
-ghost use Rattle.wire_edit.specs.Refusals.{refusal_of, has_room, room_after, IsAnswer, IsFault};
-ghost use Rattle.wire_edit.specs.Order.{next_step, IsTidy};
+ghost use Rattle.wire_edit.specs.Refusals.{has_room, room_after, IsAnswer};
+ghost use Rattle.wire_edit.specs.Order.{IsTidy};
 ghost use Rattle.wire_edit.specs.Edited.{edit_of};
-ghost use Rattle.wire_edit.specs.Marked.{KeepsMarks, IsQuiet, MarksTouched};
-ghost use Rattle.wire_edit.specs.Tried.{Tried, start_of, IsAt, GivesBack, refusal_in, Tidies};
-ghost use Rattle.wire_edit.specs.Trials.{IsTrial, IsReady};
+ghost use Rattle.wire_edit.specs.Firsts.{IsPlainAfter};
+ghost use Rattle.wire_edit.specs.Tried.{start_of, IsAt, GivesBack, refusal_in, Tidies};
 ghost use Rattle.wire_edit.specs.Calls.{IsBegun, IsApplied, IsTidied, IsRolledBack};
 ghost use Rattle.wire_edit.specs.declared.steps.Step.{Step as StepValue};
-ghost use Rattle.wire_edit.specs.Firsts.{IsPlainAfter};
-ghost use Rattle.wire_edit.specs.Work.{pins_made};
-ghost use Rattle.wire_edit.specs.Refusals.{nodes_made};
-ghost use Rattle.wire_edit.specs.declared.refusal.EditRefusal.TheVariants.{Full};
 
 use crate::agenda::Agenda;
 use crate::budget::{nodes_made, pins_made, room_for};
