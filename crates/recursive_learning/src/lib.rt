@@ -1,0 +1,5 @@
+//! Refutes a fault by learning to a depth of at most 2 what all justifications of a gate have in common.
+#![tactic(auto)]
+
+mod gates;
+pub mod laws;
