@@ -1,0 +1,4 @@
+pub mod State
+pub mod Trail
+pub mod Outcomes
+pub mod Laws

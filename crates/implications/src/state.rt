@@ -1,0 +1,77 @@
+// The engine, and what it tells.
+ghost use Rattle.std.specs.Prelude.{◌≡◌, ◌≤◌, ℕ, List, [], IfOk, length, drop};
+ghost use Rattle.gate_graph.specs.Circuit.{net_of};
+ghost use Rattle.refutation.specs.declared.held.NodeFacts.{NodeFacts};
+ghost use Rattle.implications.specs.Trail.{LeadsBack};
+
+use gate_graph::Graph;
+use refutation::{Fact, Line};
+use rm_base::{NoMemory, NodeId};
+use std::alloc::Global;
+use std::marker::Model;
+
+/// Closes sets of facts. Its buffers are made once, for the node numbers below a bound, and serve every call.
+#[derive(Drop)]
+pub struct Engine {
+    pub(crate) alloc: Global,
+    pub(crate) numbers: u32,
+    pub(crate) lines: Vec<Line>,
+    pub(crate) trail: Vec<(NodeId, Fact)>,
+}
+
+impl Model for Engine {
+    ghost use Rattle.implications.specs.State.{EngineState};
+
+    ghost Value = { EngineState };
+
+    ghost view = { λ e. record { numbers = e.numbers; lines = e.lines.items; trail = e.trail.items } };
+}
+
+impl Engine {
+    /// An engine for the graph, and for any other with no more node numbers.
+    pub fn new(alloc: Global, graph: &Graph) -> Result<Engine, NoMemory>
+        ensures numbers { IfOk result (λ e. length (net_of graph.now).nodes ≤ e.numbers) }
+        ensures lines { IfOk result (λ e. e.lines ≡ []) }
+        ensures trail { IfOk result (λ e. e.trail ≡ []) }
+    {
+        Engine::for_numbers(alloc, graph.node_bound())
+    }
+
+    /// An engine for graphs with node numbers below `numbers`.
+    pub fn for_numbers(alloc: Global, numbers: u32) -> Result<Engine, NoMemory>
+        ensures numbers { IfOk result (λ e. e.numbers ≡ numbers) }
+        ensures lines { IfOk result (λ e. e.lines ≡ []) }
+        ensures trail { IfOk result (λ e. e.trail ≡ []) }
+    {
+        Ok(Engine {
+            alloc,
+            numbers,
+            lines: Vec::new(alloc),
+            trail: Vec::new(alloc),
+        })
+    }
+
+    /// The lines of the last `close`, `grow` or `extend`, in order and without the clash; none before the first such
+    /// call, and none after one that answered want of memory.
+    pub fn lines(&self) -> &[Line]
+        ensures { result.now ≡ self.now.lines }
+    {
+        self.lines.as_slice()
+    }
+
+    /// Where the trail ends now, to come back to by `take_back`.
+    pub fn mark(&self) -> usize
+        ensures mark { result ≡ length self.now.trail }
+        ensures back { (now : List NodeFacts) → LeadsBack self.now.trail result now now }
+    {
+        self.trail.len()
+    }
+
+    /// The facts that were added after the mark, in order.
+    pub fn added(&self, mark: usize) -> &[(NodeId, Fact)]
+        requires { mark ≤ length self.now.trail }
+        ensures { result.now ≡ drop mark self.now.trail }
+    {
+        &self.trail[mark..]
+    }
+}
