@@ -1,15 +1,16 @@
 -- Writing the items of a tree, part by part.
-use Rattle.std.specs.Prelude.{Bool, IsTrue, List, Some, false, not, slice_get, true, ℕ, ◌++◌, ◌∷◌, ◌≡◌, ◌⊎◌}
-use Rattle.gate_net.specs.Net.{Net, Reads}
-use Rattle.gate_net.specs.Values.{IsJunction}
+use Rattle.std.specs.Prelude.{Bool, List, false, true, ◌++◌, ◌∷◌, ◌≡◌}
+use Rattle.gate_net.specs.Net.{Net}
 use Rattle.recursive_learning.specs.Working.{AreSettled}
-use Rattle.refutation.specs.Closing.{IsWithin}
-use Rattle.refutation.specs.Facts.{Held, known_good}
-use Rattle.refutation.specs.Learning.{LeadsToClash}
+use Rattle.refutation.specs.Facts.{Held}
 use Rattle.refutation.specs.Stack.{AcceptsAll}
 use Rattle.refutation.specs.declared.items.Item.{Item}
-use Rattle.refutation.specs.declared.reasoning.Fact.TheVariants.{Good}
+use Rattle.refutation.specs.declared.items.Item.TheVariants.{Line}
+use Rattle.refutation.specs.declared.reasoning.Line.{Line as OneLine}
 use Rattle.rm_base.specs.declared.numbers.Fault.{Fault}
+
+abbrev pub line_item : OneLine → Item
+line_item l = Line l
 
 -- where what follows is accepted with that stack of branches, it is accepted after the new items with the stack before them
 abbrev pub Writes : Net → Fault → (List Held → List Held) → List Item → (List Held → List Held) → List Item → Type 0
@@ -35,11 +36,3 @@ Leads net fault held before now after = Writes net fault (branch held) before (b
 abbrev pub IsTold : Net → Fault → Held → List Item → Bool → Held → List Item → Type 0
 IsTold net fault held before true now after = Ends net fault held before after
 IsTold net fault held before false now after = Leads net fault held before now after × AreSettled net fault now
-
--- taking any of the drivers that are left for the value leads to a clash at the depth
-pub record CasesClash (net : Net) (fault : Fault) (depth : ℕ) (now : Held) (y : ℕ) (c : Bool) (ds : List ℕ) : Type 0 where
-  pub junction : IsJunction net y c
-  pub known : known_good now y ≡ Some c
-  pub drivers : (p d : ℕ) → Reads net y p d → (known_good now d ≡ Some (not c)) ⊎ ((k : ℕ) × (slice_get ds k ≡ Some d))
-  pub reads : (k d : ℕ) → slice_get ds k ≡ Some d → (p : ℕ) × Reads net y p d
-  pub clash : (k d : ℕ) → slice_get ds k ≡ Some d → (more : Held) → IsWithin now more → IsTrue (more d (Good c)) → LeadsToClash net fault depth more
