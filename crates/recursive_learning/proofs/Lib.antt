@@ -1,1 +1,7 @@
 pub mod Learns
+pub mod Live
+pub mod Added
+pub mod Tells
+pub mod Open
+pub mod OpenDrivers
+pub mod Goods
