@@ -5,3 +5,4 @@ pub mod Tells
 pub mod Open
 pub mod OpenDrivers
 pub mod Goods
+pub mod Gains
