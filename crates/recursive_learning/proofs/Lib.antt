@@ -6,3 +6,6 @@ pub mod Open
 pub mod OpenDrivers
 pub mod Goods
 pub mod Gains
+pub mod Commons
+pub mod Rounds
+pub mod Vecs

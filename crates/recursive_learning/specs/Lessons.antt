@@ -1,11 +1,12 @@
 -- What was learned from a gate.
-use Rattle.std.specs.Prelude.{Bool, IsTrue, List, None, Some, [], false, length, slice_get, suc, true, ℕ, ◌<◌, ◌≡◌, ◌⊎◌}
+use Rattle.std.specs.Prelude.{Bool, IsTrue, List, None, Option, Some, [], false, length, map, slice_get, suc, true, ℕ, ◌<◌, ◌≡◌, ◌⊎◌}
 use Rattle.gate_net.specs.Net.{IsLive, Net}
 use Rattle.recursive_learning.specs.Common.{IsAmongGoods}
 use Rattle.recursive_learning.specs.Gates.{AllClash, AllLead, AreJustifications, HasTaught}
 use Rattle.recursive_learning.specs.Least.{AreForced}
 use Rattle.recursive_learning.specs.Working.{AreSettled}
 use Rattle.recursive_learning.specs.declared.lessons.Learned.{Learned}
+use Rattle.recursive_learning.specs.declared.lessons.Lesson.{Lesson}
 use Rattle.recursive_learning.specs.declared.lessons.Round.{Round}
 use Rattle.recursive_learning.specs.declared.lessons.Round.TheVariants.{Clash, Gained, Quiet}
 use Rattle.refutation.specs.Closing.{IsClashFree, IsClosedUnderLines, IsWithin}
@@ -15,6 +16,7 @@ use Rattle.refutation.specs.Learning.{AllHold, IsClosedAt, IsUnjustified, LeadsT
 use Rattle.refutation.specs.declared.held.NodeFacts.{NodeFacts}
 use Rattle.refutation.specs.declared.reasoning.Fact.TheVariants.{Good}
 use Rattle.rm_base.specs.declared.numbers.Fault.{Fault}
+use Rattle.rm_base.specs.declared.numbers.NodeId.{NodeId}
 
 -- the value is new, and may be held
 pub record IsNew (net : Net) (held : Held) (g : Learned) : Type 0 where
@@ -73,9 +75,14 @@ pub record IsLesson (net : Net) (fault : Fault) (depth : ℕ) (held : Held) (y :
   pub unjustified : IsUnjustified net held y c
   pub drivers : AreJustifications net held y ds
   pub clash : found ≡ false → AllClash net fault depth held y c
-  pub new : AreNew net held goods
-  pub lead : (k : ℕ) (g : Learned) → slice_get goods k ≡ Some g → AllLead net fault depth held y c g.node.0 g.value
-  pub some : IsTrue found → 0 < length goods
+  pub new : found ≡ true → AreNew net held goods
+  pub lead : found ≡ true → (k : ℕ) (g : Learned) → slice_get goods k ≡ Some g → AllLead net fault depth held y c g.node.0 g.value
+  pub some : found ≡ true → 0 < length goods
+
+-- what a look at the gate tells: nothing new, or a lesson
+abbrev pub Teaches : Net → Fault → ℕ → Held → ℕ → Option Lesson → Type 0
+Teaches net fault depth held y None = HasTaught net fault depth held y
+Teaches net fault depth held y (Some l) = IsLesson net fault depth held y l.value (map (λ (n : NodeId). n.0) l.drivers.items) l.found l.goods.items
 
 -- each of the nodes is live, and its good value isn't known
 abbrev pub AreOpen : Net → Held → List ℕ → Type 0

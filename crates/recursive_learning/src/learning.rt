@@ -1,12 +1,11 @@
 // Learning from the justifications of gates, in place.
-ghost use Rattle.std.specs.Prelude.{◌≡◌, ◌≤◌, ℕ, IfOk, MatchOption, None, Some, length, map, slice_get};
+ghost use Rattle.std.specs.Prelude.{◌≡◌, ◌≤◌, IfOk, None, length, map};
 ghost use Rattle.gate_net.specs.Net.{IsLive};
 ghost use Rattle.gate_net.specs.Values.{HasPin};
 ghost use Rattle.gate_graph.specs.Circuit.{net_of};
 ghost use Rattle.refutation.specs.Facts.{known_good, with_fact};
 ghost use Rattle.refutation.specs.FactSets.{held_by};
-ghost use Rattle.recursive_learning.specs.Gates.{HasTaught};
-ghost use Rattle.recursive_learning.specs.Lessons.{AreFound, AreOpen, IsAll, IsLesson, IsOne, IsRound};
+ghost use Rattle.recursive_learning.specs.Lessons.{AreFound, AreOpen, IsAll, IsOne, IsRound, Teaches};
 ghost use Rattle.recursive_learning.specs.Working.{AreSettled, IsLearned, Keeps};
 
 use crate::adding::{add, gain};
@@ -122,10 +121,11 @@ pub fn lesson_at(
     requires numbers { length (net_of graph.now).nodes ≤ engine.old.numbers }
     requires size { length (net_of graph.now).nodes ≤ length facts.old }
     requires settled { AreSettled (net_of graph.now) fault.now (held_by facts.old) }
-    ensures lesson { IfOk result (λ o. MatchOption o (HasTaught (net_of graph.now) fault.now depth (held_by facts.old) gate.0) (λ l. IsLesson (net_of graph.now) fault.now depth (held_by facts.old) gate.0 l.value (map (λ n. n.0) l.drivers.items) l.found l.goods.items)) }
+    ensures lesson { IfOk result (Teaches (net_of graph.now) fault.now depth (held_by facts.old) gate.0) }
     ensures same { IfOk result (λ _. facts.new ≡ facts.old) }
     ensures keeps { IfOk result (λ _. Keeps engine.old engine.new facts.old facts.new) }
 {
+    graph.well_formed();
     let _mark = engine.mark();
     let Some(value) = wanted_value(graph, facts, gate) else {
         return Ok(None);
@@ -210,5 +210,6 @@ fn take(
     if add(engine, graph, fault, facts, node, value)? {
         return Ok(true);
     }
-    learn(alloc, engine, graph, fault, facts, depth)
+    let clash = learn(alloc, engine, graph, fault, facts, depth)?;
+    Ok(clash)
 }
