@@ -9,3 +9,5 @@ pub mod Gains
 pub mod Commons
 pub mod Rounds
 pub mod Vecs
+pub mod Splits
+pub mod Writes

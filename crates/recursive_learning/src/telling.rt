@@ -1,5 +1,5 @@
 // Writing the lines of a branch.
-ghost use Rattle.std.specs.Prelude.{◌≡◌, ◌<◌, ◌≤◌, ◌++◌, IfOk, None, OnOk, length, map};
+ghost use Rattle.std.specs.Prelude.{◌≡◌, ◌<◌, ◌≤◌, ◌++◌, IfOk, IsTrue, None, OnOk, false, length, map};
 ghost use Rattle.gate_net.specs.Net.{IsLive};
 ghost use Rattle.gate_net.specs.Values.{HasPin};
 ghost use Rattle.gate_graph.specs.Circuit.{net_of};
@@ -40,6 +40,7 @@ pub fn tell(
     requires node { IsLive (net_of graph.now) node.0 }
     requires unknown { known_good (held_by facts.old) node.0 ≡ None }
     ensures told { IfOk result (λ ended. IsTold (net_of graph.now) fault.now (with_fact (held_by facts.old) node.0 (Fact.Good value)) tree.old ended (held_by facts.new) tree.new) }
+    ensures there { IfOk result (λ ended. ended ≡ false → IsTrue (held_by facts.new node.0 (Fact.Good value))) }
     ensures keeps { IfOk result (λ _. Keeps engine.old engine.new facts.old facts.new) }
     ensures fewer { IfOk result (λ _. missing facts.new < missing facts.old) }
 {

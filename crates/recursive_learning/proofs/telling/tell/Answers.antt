@@ -1,8 +1,9 @@
 use Rattle.std.proofs.Common.{List, None, Option, Some, false, map, refl, subst, sym, ◌++◌, ◌∷◌, [], ◌≡◌}
 use Rattle.gate_graph.specs.Circuit.{net_of}
-use Rattle.implications.specs.Outcomes.{IsExtended}
+use Rattle.implications.specs.Outcomes.{IsExtended, IsOpenFrom}
 use Rattle.recursive_learning.proofs.Tells.{told_clash, told_open}
 use Rattle.recursive_learning.specs.Telling.{Ends, IsTold, line_item}
+use Rattle.refutation.proofs.Closings.{with_there}
 use Rattle.refutation.specs.FactSets.{held_by}
 use Rattle.refutation.specs.Facts.{Held, with_fact}
 use Rattle.refutation.specs.declared.items.Item.{Item}
@@ -21,3 +22,9 @@ returns-clause-told c =
     subst (λ (items : List Item). Ends (net_of c.args.graph.now) c.args.fault.now (with_fact (held_by c.args.facts.now) c.args.node.0 (Good c.args.value)) c.args.tree.now items) (rw (c.in_ok-push_lines.ensures, c.lines.ensures) at (sym c.in_ok-push.ensures.ok))
     (told_clash (net_of c.args.graph.now) c.args.fault.now (with_fact (held_by c.args.facts.now) c.args.node.0 (Good c.args.value)) c.extend.new.self.lines (held_by c.extend.new.facts) c.in-Some.opposed c.args.tree.now
       (subst (IsExtended (net_of c.args.graph.now) c.args.fault.now (with_fact (held_by c.args.facts.now) c.args.node.0 (Good c.args.value)) c.extend.new.self.lines c.extend.new.facts) c.in-Some.is c.in_ok-clash.ensures.extended))
+
+pub returns-in_default-clause-there : goal.returns-in_default-clause-there
+returns-in_default-clause-there c none =
+    let o : IsOpenFrom (net_of c.args.graph.now) c.args.fault.now (with_fact (held_by c.args.facts.now) c.args.node.0 (Good c.args.value)) c.extend.new.self.lines c.extend.new.facts =
+        subst (IsExtended (net_of c.args.graph.now) c.args.fault.now (with_fact (held_by c.args.facts.now) c.args.node.0 (Good c.args.value)) c.extend.new.self.lines c.extend.new.facts) c.in_default.is c.in_ok-clash.ensures.extended in
+    o.within c.args.node.0 (Good c.args.value) (with_there (held_by c.args.facts.now) c.args.node.0 (Good c.args.value))
