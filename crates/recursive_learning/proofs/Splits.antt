@@ -3,6 +3,7 @@ use Rattle.std.proofs.Common.{Bool, List, None, Option, Some, [], ap, arith, fal
 use Rattle.std.proofs.lemmas.Bool.{cases_lt}
 use Rattle.std.specs.List.{list_all}
 use Rattle.std.specs.Prelude.{IsTrue, slice_get}
+use mathlib.Core.Bool.{beq}
 use Rattle.gate_net.proofs.Bools.{bool_cases}
 use Rattle.gate_net.specs.Forward.{is_known, value_forward}
 use Rattle.gate_net.specs.Net.{IsKind, IsLive, Net, Reads, drivers_of}
@@ -161,3 +162,14 @@ no_driver net fault start now c ds cases within settled others =
 
     other : IsTrue (now cases.gate (Good (not c)))
     other = settled.closed (GoodForward (record { 0 = cases.gate })) cases.gate (Good (not c)) (cases.junction.0, not c, cases.junction.1.0, follows, refl, refl)
+
+pub beq_other : (a b : Bool) → beq a b ≡ false → a ≡ not b
+beq_other true true e = cc
+beq_other true false e = refl
+beq_other false true e = refl
+beq_other false false e = cc
+
+pub place_less : (ds : List ℕ) (k d : ℕ) → slice_get ds k ≡ Some d → k < length ds
+place_less [] k d e = cc
+place_less (x ∷ xs) zero d e = omega arith
+place_less (x ∷ xs) (suc k) d e = let rest : k < length xs = place_less xs k d e in omega arith

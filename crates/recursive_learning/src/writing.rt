@@ -101,7 +101,8 @@ fn write_gate(
         return Ok(false);
     };
     if lesson.found {
-        return write_goods(alloc, engine, graph, fault, facts, depth, &lesson, tree);
+        let ended = write_goods(alloc, engine, graph, fault, facts, depth, &lesson, tree)?;
+        return Ok(ended);
     }
     write_cases(alloc, engine, graph, fault, facts, depth, lesson.value, &lesson.drivers, tree)?;
     Ok(true)
@@ -211,7 +212,8 @@ fn write_split(
         write_cases(alloc, engine, graph, fault, facts, depth, value, drivers, tree)?;
     }
     engine.take_back(facts, mark);
-    tell(engine, graph, fault, facts, good.node, good.value, tree)
+    let ended = tell(engine, graph, fault, facts, good.node, good.value, tree)?;
+    Ok(ended)
 }
 
 // Writes the cases of a gate, whose open drivers are among these: taking any of them for the value leads to a clash.
@@ -313,5 +315,6 @@ fn write_branches(
         write(alloc, engine, graph, fault, facts, depth, tree)?;
     }
     engine.take_back(facts, mark);
-    tell(engine, graph, fault, facts, driver, !value, tree)
+    let ended = tell(engine, graph, fault, facts, driver, !value, tree)?;
+    Ok(ended)
 }
