@@ -11,3 +11,4 @@ pub mod Rounds
 pub mod Vecs
 pub mod Splits
 pub mod Writes
+pub mod Refutes

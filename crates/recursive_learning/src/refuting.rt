@@ -120,8 +120,12 @@ pub fn refute(
     ensures numbers { OnOk result (engine.new.numbers ≡ engine.old.numbers) }
     ensures trail { OnOk result (length engine.new.trail ≡ length engine.old.trail) }
 {
+    graph.well_formed();
     match engine.close(graph, fault)? {
         Closed::Clash(tree) => Ok(Closed::Clash(tree)),
-        Closed::Open(facts) => refute_open(alloc, engine, graph, fault, depth, facts),
+        Closed::Open(facts) => {
+            let answer = refute_open(alloc, engine, graph, fault, depth, facts)?;
+            Ok(answer)
+        }
     }
 }
