@@ -1,1 +1,12 @@
+pub mod Agendas
+pub mod Begins
+pub mod Closes
+pub mod GateLines
+pub mod Local
+pub mod Places
+pub mod Pulling
+pub mod Reaches
+pub mod Readers
+pub mod SettledNodes
+pub mod Steps
 pub mod Trails

@@ -37,7 +37,7 @@ held_past (m ∷ marks) zero fact h = absurd (omega arith)
 held_past (m ∷ marks) (suc x) fact h = held_past marks x fact (omega arith)
 
 -- LISTS OF ADDED FACTS
-without-append : (a b : List (NodeId × Fact)) (held : Held) → without_all (a ++ b) held ≡ without_all a (without_all b held)
+pub without-append : (a b : List (NodeId × Fact)) (held : Held) → without_all (a ++ b) held ≡ without_all a (without_all b held)
 without-append [] b held = refl
 without-append (x ∷ a) b held = ap (λ h. without_fact h x.0.0 x.1) (without-append a b held)
 

@@ -8,8 +8,13 @@ ghost use Rattle.refutation.specs.Facts.{known_good, with_fact, without_fact};
 ghost use Rattle.refutation.specs.FactSets.{held_by, missing, Becomes};
 ghost use Rattle.refutation.specs.declared.held.NodeFacts.{NodeFacts};
 ghost use Rattle.implications.specs.Outcomes.{IsExtended};
+ghost use Rattle.implications.specs.Settled.{IsReady};
 ghost use Rattle.implications.specs.Trail.{AreAdded, LeadsBack, TakesBack};
+ghost use Rattle.implications.specs.Working.{Keeps};
 
+use crate::agenda::Agenda;
+use crate::log::Log;
+use crate::settling::{touch, work_off};
 use crate::state::Engine;
 use gate_graph::Graph;
 use refutation::{Fact, FactSet};
@@ -36,6 +41,35 @@ fn take_off(trail: &mut Vec<(NodeId, Fact)>, facts: &mut FactSet, mark: usize)
         };
         take_away(facts, node, fact);
     }
+}
+
+// Adds a good value of the node, and what follows from it, over an agenda with nothing on.
+fn add_good(
+    graph: &Graph,
+    fault: &Fault,
+    facts: &mut FactSet,
+    log: &mut Log,
+    agenda: &mut Agenda,
+    node: NodeId,
+    value: bool,
+) -> Result<Option<NodeId>, NoMemory>
+    requires ready { IsReady (net_of graph.now) fault.now facts.old }
+    requires agenda { length (net_of graph.now).nodes ≤ length agenda.old }
+    requires closed { IsClosedUnderLines (net_of graph.now) fault.now (held_by facts.old) }
+    requires free { IsClashFree (held_by facts.old) }
+    requires node { IsLive (net_of graph.now) node.0 }
+    requires unknown { known_good (held_by facts.old) node.0 ≡ None }
+    requires lines { log.old.lines.items ≡ [] }
+    ensures extended { IfOk result (IsExtended (net_of graph.now) fault.now (with_fact (held_by facts.old) node.0 (Fact.Good value)) log.new.lines.items facts.new) }
+    ensures fewer { IfOk result (λ _. missing facts.new < missing facts.old) }
+    ensures keeps { Keeps facts.old log.old.trail.items facts.new log.new.trail.items }
+    ensures agenda { length agenda.new ≡ length agenda.old }
+{
+    let fact = Fact::Good(value);
+    log.trail.push((node, fact))?;
+    facts.insert(node, fact);
+    touch(graph, agenda, node);
+    work_off(graph, fault, facts, log, agenda)
 }
 
 impl Engine {
@@ -68,11 +102,25 @@ impl Engine {
         ensures refused { OnErr result (self.new.lines ≡ []) }
         ensures numbers { self.new.numbers ≡ self.old.numbers }
     {
-        let _bound = graph.node_bound();
-        let _len = facts.len();
-        let _fact = (fault.gate, node, Fact::Good(value));
-        self.lines.clear();
-        Err(NoMemory)
+        graph.well_formed();
+        self.log.lines.clear();
+        let answer = add_good(
+            graph,
+            fault,
+            facts,
+            &mut self.log,
+            &mut self.agenda,
+            node,
+            value,
+        );
+        self.agenda.clear();
+        match answer {
+            Ok(found) => Ok(found),
+            Err(NoMemory) => {
+                self.log.lines.clear();
+                Err(NoMemory)
+            }
+        }
     }
 
     /// Takes the facts back that were added after the mark, in the time of as many steps.
@@ -85,6 +133,6 @@ impl Engine {
         ensures numbers { self.new.numbers ≡ self.old.numbers }
         ensures lines { self.new.lines ≡ self.old.lines }
     {
-        take_off(&mut self.trail, facts, mark);
+        take_off(&mut self.log.trail, facts, mark);
     }
 }

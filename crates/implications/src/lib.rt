@@ -1,10 +1,20 @@
 //! The engine that closes a set of facts under every line of reasoning about a fault, exactly.
 #![tactic(auto)]
 
+mod agenda;
 mod closing;
 mod extending;
+mod first_lines;
+mod found;
+mod gate_lines;
 pub mod laws;
+mod log;
+mod next_line;
 mod outcome;
+mod pulls;
+mod reaching;
+mod settling;
+mod side_line;
 mod state;
 
 pub use outcome::Closed;

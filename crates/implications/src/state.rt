@@ -4,6 +4,8 @@ ghost use Rattle.gate_graph.specs.Circuit.{net_of};
 ghost use Rattle.refutation.specs.declared.held.NodeFacts.{NodeFacts};
 ghost use Rattle.implications.specs.Trail.{LeadsBack};
 
+use crate::agenda::{Agenda, no_marks};
+use crate::log::Log;
 use gate_graph::Graph;
 use refutation::{Fact, Line};
 use rm_base::{NoMemory, NodeId};
@@ -14,17 +16,20 @@ use std::marker::Model;
 #[derive(Drop)]
 pub struct Engine {
     pub(crate) alloc: Global,
-    pub(crate) numbers: u32,
-    pub(crate) lines: Vec<Line>,
-    pub(crate) trail: Vec<(NodeId, Fact)>,
+    pub(crate) log: Log,
+    pub(crate) agenda: Agenda,
+    pub(crate) reached: Vec<bool>,
 }
 
 impl Model for Engine {
+    ghost use Rattle.std.specs.Prelude.{◌≡◌, length, replicate, false};
     ghost use Rattle.implications.specs.State.{EngineState};
 
     ghost Value = { EngineState };
 
-    ghost view = { λ e. record { numbers = e.numbers; lines = e.lines.items; trail = e.trail.items } };
+    ghost view = { λ e. record { numbers = length e.agenda; lines = e.log.lines.items; trail = e.log.trail.items } };
+
+    ghost invariant = { λ e. (e.agenda ≡ replicate (length e.agenda) false) × (length e.reached.items ≡ length e.agenda) };
 }
 
 impl Engine {
@@ -43,11 +48,17 @@ impl Engine {
         ensures lines { IfOk result (λ e. e.lines ≡ []) }
         ensures trail { IfOk result (λ e. e.trail ≡ []) }
     {
+        let agenda = Agenda::new(alloc, numbers)?;
+        let reached = no_marks(alloc, numbers)?;
+        let log = Log {
+            lines: Vec::with_capacity(alloc, numbers as usize)?,
+            trail: Vec::with_capacity(alloc, numbers as usize)?,
+        };
         Ok(Engine {
             alloc,
-            numbers,
-            lines: Vec::new(alloc),
-            trail: Vec::new(alloc),
+            log,
+            agenda,
+            reached,
         })
     }
 
@@ -56,7 +67,7 @@ impl Engine {
     pub fn lines(&self) -> &[Line]
         ensures { result.now ≡ self.now.lines }
     {
-        self.lines.as_slice()
+        self.log.lines.as_slice()
     }
 
     /// Where the trail ends now, to come back to by `take_back`.
@@ -64,7 +75,7 @@ impl Engine {
         ensures mark { result ≡ length self.now.trail }
         ensures back { (now : List NodeFacts) → LeadsBack self.now.trail result now now }
     {
-        self.trail.len()
+        self.log.trail.len()
     }
 
     /// The facts that were added after the mark, in order.
@@ -72,6 +83,6 @@ impl Engine {
         requires { mark ≤ length self.now.trail }
         ensures { result.now ≡ drop mark self.now.trail }
     {
-        &self.trail[mark..]
+        &self.log.trail[mark..]
     }
 }

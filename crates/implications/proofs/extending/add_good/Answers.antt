@@ -1,0 +1,25 @@
+use Rattle.gate_graph.specs.Circuit.{net_of}
+use Rattle.implications.proofs.Closes.{extended_ok, fewer_ok, good_free, good_pending, unknown_good}
+use Rattle.implications.proofs.Steps.{keeps_hold, keeps_join}
+use Rattle.implications.proofs.extending.add_good.Goals as goal
+use Rattle.refutation.specs.declared.reasoning.Fact.TheVariants.{Good}
+
+pub work_off-requires-clause-pending : goal.work_off-requires-clause-pending
+work_off-requires-clause-pending c = good_pending (net_of c.args.graph.now) c.args.fault.now c.args.facts.now c.insert.new.self c.args.agenda.now c.touch.new.agenda c.args.node.0 (Good c.args.value) c.requires.closed c.insert.ensures.facts c.touch.ensures
+
+pub work_off-requires-clause-free : goal.work_off-requires-clause-free
+work_off-requires-clause-free c = good_free c.args.facts.now c.insert.new.self c.args.node.0 c.args.value c.requires.free c.requires.unknown c.insert.ensures.facts
+
+pub returns-clause-extended : goal.returns-clause-extended
+returns-clause-extended c =
+    extended_ok (net_of c.args.graph.now) c.args.fault.now c.args.facts.now c.insert.new.self c.work_off.new.facts c.args.log.now.lines.items c.work_off.new.log.lines.items c.args.node.0 (Good c.args.value) c.work_off.result c.requires.lines c.requires.closed c.insert.ensures.facts c.work_off.ensures.works c.work_off.ensures.keeps.more c.work_off.ensures.ending
+
+pub returns-clause-fewer : goal.returns-clause-fewer
+returns-clause-fewer c =
+    fewer_ok (net_of c.args.graph.now) c.args.fault.now c.args.facts.now c.insert.new.self c.work_off.new.facts c.args.log.now.lines.items c.work_off.new.log.lines.items c.work_off.result (c.insert.ensures.missing (unknown_good c.args.facts.now c.args.node.0 c.args.value c.requires.free c.requires.unknown)) c.work_off.ensures.works
+
+pub returns-clause-keeps : goal.returns-clause-keeps
+returns-clause-keeps c =
+    keeps_join c.args.facts.now c.args.log.now.trail.items c.insert.new.self c.push.new.self.items c.work_off.new.facts c.work_off.new.log.trail.items
+    (keeps_hold c.args.facts.now c.args.log.now.trail.items c.insert.new.self c.push.new.self.items c.args.node (Good c.args.value) (unknown_good c.args.facts.now c.args.node.0 c.args.value c.requires.free c.requires.unknown) c.insert.ensures.facts c.in_ok-push.ensures.items)
+    c.work_off.ensures.keeps

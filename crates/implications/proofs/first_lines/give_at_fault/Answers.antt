@@ -1,0 +1,13 @@
+use Rattle.gate_graph.specs.Circuit.{net_of}
+use Rattle.implications.proofs.Steps.{keeps_join}
+use Rattle.implications.proofs.first_lines.give_at_fault.Goals as goal
+use Rattle.refutation.specs.FactSets.{held_by}
+
+pub give-requires-clause-given : goal.give-requires-clause-given
+give-requires-clause-given c = c.line_act-given.ensures (held_by c.args.facts.now)
+
+pub give-requires-2-clause-given : goal.give-requires-2-clause-given
+give-requires-2-clause-given c = c.line_site-given.ensures (net_of c.args.graph.now) (held_by c.give.new.facts)
+
+pub returns-clause-keeps : goal.returns-clause-keeps
+returns-clause-keeps c = keeps_join c.args.facts.now c.args.log.now.trail.items c.give.new.facts c.give.new.log.trail.items c.give-2.new.facts c.give-2.new.log.trail.items c.give.ensures.keeps c.give-2.ensures.keeps

@@ -1,0 +1,28 @@
+// What was found, line by line and fact by fact.
+ghost use Rattle.std.specs.Prelude.{◌≡◌, ◌<◌, OnOk, false, length};
+ghost use Rattle.refutation.specs.FactSets.{held_by};
+ghost use Rattle.implications.specs.Working.{Holds, Keeps};
+
+use crate::found::Found;
+use refutation::{Fact, FactSet, Line};
+use rm_base::{NoMemory, NodeId};
+
+/// The lines of a call, and the facts that were added and not taken back.
+#[derive(Drop)]
+pub struct Log {
+    pub lines: Vec<Line>,
+    pub trail: Vec<(NodeId, Fact)>,
+}
+
+// Holds what was found, and logs it.
+pub(crate) fn hold(facts: &mut FactSet, log: &mut Log, found: Found) -> Result<(), NoMemory>
+    requires node { found.node.0 < length facts.old }
+    requires new { held_by facts.old found.node.0 found.fact ≡ false }
+    ensures holds { OnOk result (Holds facts.old log.old.lines.items facts.new log.new.lines.items found) }
+    ensures keeps { Keeps facts.old log.old.trail.items facts.new log.new.trail.items }
+{
+    log.lines.push(found.line)?;
+    log.trail.push((found.node, found.fact))?;
+    facts.insert(found.node, found.fact);
+    Ok(())
+}

@@ -1,0 +1,199 @@
+// What a line at a node has to give that isn't held yet.
+ghost use Rattle.std.specs.Prelude.{◌≡◌};
+ghost use Rattle.gate_graph.specs.Circuit.{net_of};
+ghost use Rattle.gate_net.specs.Net.{IsGateKind, IsKind};
+ghost use Rattle.gate_net.specs.Values.{IsJunction};
+ghost use Rattle.gate_net.specs.declared.Kind.{Kind};
+ghost use Rattle.gate_net.specs.declared.Kind.TheVariants.{Not};
+ghost use Rattle.refutation.specs.Answers.{IsAnswer};
+ghost use Rattle.refutation.specs.Closing.{IsClashFree};
+ghost use Rattle.refutation.specs.FactSets.{held_by};
+ghost use Rattle.implications.specs.Pulls.{AreDoneFaulty, AreDoneGood, AreDoneNot, AreDoneValues, Finds};
+ghost use Rattle.implications.specs.Settled.{IsNext, IsReady, IsTried};
+
+use crate::found::Found;
+use crate::gate_lines::{equal_line, faulty_line, good_line};
+use crate::side_line::side_line;
+use gate_graph::Graph;
+use gate_net::Kind;
+use refutation::equal_lines::{line_not_differs, line_not_equal};
+use refutation::place_lines::line_constant;
+use refutation::value_lines::{
+    line_compare, line_faulty_back, line_faulty_forward, line_good_back, line_good_forward,
+    line_to_faulty, line_to_good,
+};
+use refutation::{Fact, FactSet, Line};
+use rm_base::{Fault, NodeId};
+
+// What a line gives, where it isn't held yet.
+fn tried(
+    graph: &Graph,
+    fault: &Fault,
+    facts: &FactSet,
+    line: Line,
+    given: Option<(NodeId, Fact)>,
+) -> Option<Found>
+    requires ready { IsReady (net_of graph.now) fault.now facts.now }
+    requires given { IsAnswer (net_of graph.now) fault.now (held_by facts.now) line given }
+    ensures { IsTried (net_of graph.now) fault.now facts.now line result }
+{
+    let (node, fact) = given?;
+    if facts.holds(node, fact) {
+        return None;
+    }
+    Some(Found { line, node, fact })
+}
+
+// The lines on one node's own values.
+fn value_line(graph: &Graph, fault: &Fault, facts: &FactSet, node: NodeId) -> Option<Found>
+    requires ready { IsReady (net_of graph.now) fault.now facts.now }
+    ensures { Finds (net_of graph.now) fault.now facts.now (AreDoneValues (net_of graph.now) fault.now facts.now node) result }
+{
+    let given = line_compare(graph, fault, facts, node);
+    if let Some(found) = tried(graph, fault, facts, Line::Compare { node }, given) {
+        return Some(found);
+    }
+    let given = line_to_faulty(graph, fault, facts, node);
+    if let Some(found) = tried(graph, fault, facts, Line::ToFaulty { node }, given) {
+        return Some(found);
+    }
+    let given = line_to_good(graph, fault, facts, node);
+    tried(graph, fault, facts, Line::ToGood { node }, given)
+}
+
+// The lines at an And or an Or with that controlling value.
+fn junction_line(
+    graph: &Graph,
+    fault: &Fault,
+    facts: &FactSet,
+    node: NodeId,
+    c: bool,
+) -> Option<Found>
+    requires ready { IsReady (net_of graph.now) fault.now facts.now }
+    requires free { IsClashFree (held_by facts.now) }
+    requires kind { IsJunction (net_of graph.now) node.0 c }
+    ensures { IsNext (net_of graph.now) fault.now facts.now node.0 result }
+{
+    if let Some(found) = value_line(graph, fault, facts, node) {
+        return Some(found);
+    }
+    if let Some(found) = good_line(graph, fault, facts, node, c) {
+        return Some(found);
+    }
+    if let Some(found) = faulty_line(graph, fault, facts, node, c) {
+        return Some(found);
+    }
+    if let Some(found) = equal_line(graph, fault, facts, node) {
+        return Some(found);
+    }
+    side_line(graph, fault, facts, node, c)
+}
+
+// The lines on the good value at a Not.
+fn not_good_line(graph: &Graph, fault: &Fault, facts: &FactSet, node: NodeId) -> Option<Found>
+    requires ready { IsReady (net_of graph.now) fault.now facts.now }
+    requires kind { IsKind (net_of graph.now) node.0 Not }
+    ensures { Finds (net_of graph.now) fault.now facts.now (AreDoneGood (net_of graph.now) fault.now facts.now node) result }
+{
+    let given = line_good_forward(graph, fault, facts, node);
+    if let Some(found) = tried(graph, fault, facts, Line::GoodForward { node }, given) {
+        return Some(found);
+    }
+    let position = 0;
+    let given = line_good_back(graph, fault, facts, node, position);
+    tried(
+        graph,
+        fault,
+        facts,
+        Line::GoodBack { node, position },
+        given,
+    )
+}
+
+// The lines on the faulty value at a Not.
+fn not_faulty_line(graph: &Graph, fault: &Fault, facts: &FactSet, node: NodeId) -> Option<Found>
+    requires ready { IsReady (net_of graph.now) fault.now facts.now }
+    requires kind { IsKind (net_of graph.now) node.0 Not }
+    ensures { Finds (net_of graph.now) fault.now facts.now (AreDoneFaulty (net_of graph.now) fault.now facts.now node) result }
+{
+    let given = line_faulty_forward(graph, fault, facts, node);
+    if let Some(found) = tried(graph, fault, facts, Line::FaultyForward { node }, given) {
+        return Some(found);
+    }
+    let position = 0;
+    let given = line_faulty_back(graph, fault, facts, node, position);
+    tried(
+        graph,
+        fault,
+        facts,
+        Line::FaultyBack { node, position },
+        given,
+    )
+}
+
+// The lines by which a Not and its driver differ or are equal together.
+fn not_equal_line(graph: &Graph, fault: &Fault, facts: &FactSet, node: NodeId) -> Option<Found>
+    requires ready { IsReady (net_of graph.now) fault.now facts.now }
+    ensures { Finds (net_of graph.now) fault.now facts.now (AreDoneNot (net_of graph.now) fault.now facts.now node) result }
+{
+    let given = line_not_differs(graph, fault, facts, node);
+    if let Some(found) = tried(graph, fault, facts, Line::NotDiffers { node }, given) {
+        return Some(found);
+    }
+    let given = line_not_equal(graph, fault, facts, node);
+    tried(graph, fault, facts, Line::NotEqual { node }, given)
+}
+
+// The lines at a Not.
+fn not_line(graph: &Graph, fault: &Fault, facts: &FactSet, node: NodeId) -> Option<Found>
+    requires ready { IsReady (net_of graph.now) fault.now facts.now }
+    requires free { IsClashFree (held_by facts.now) }
+    requires kind { IsKind (net_of graph.now) node.0 Not }
+    ensures { IsNext (net_of graph.now) fault.now facts.now node.0 result }
+{
+    if let Some(found) = value_line(graph, fault, facts, node) {
+        return Some(found);
+    }
+    if let Some(found) = not_good_line(graph, fault, facts, node) {
+        return Some(found);
+    }
+    if let Some(found) = not_faulty_line(graph, fault, facts, node) {
+        return Some(found);
+    }
+    if let Some(found) = equal_line(graph, fault, facts, node) {
+        return Some(found);
+    }
+    not_equal_line(graph, fault, facts, node)
+}
+
+// The lines at a constant or a source.
+fn plain_line(graph: &Graph, fault: &Fault, facts: &FactSet, node: NodeId) -> Option<Found>
+    requires ready { IsReady (net_of graph.now) fault.now facts.now }
+    requires kind { (kind : Kind) × (IsKind (net_of graph.now) node.0 kind × (IsGateKind kind → ⊥)) }
+    ensures { IsNext (net_of graph.now) fault.now facts.now node.0 result }
+{
+    if let Some(found) = value_line(graph, fault, facts, node) {
+        return Some(found);
+    }
+    let given = line_constant(graph, fault, node);
+    tried(graph, fault, facts, Line::Constant { node }, given)
+}
+
+// What a line at the node gives that isn't held, or None exactly where the node is settled.
+pub(crate) fn next_line(
+    graph: &Graph,
+    fault: &Fault,
+    facts: &FactSet,
+    node: NodeId,
+) -> Option<Found>
+    requires ready { IsReady (net_of graph.now) fault.now facts.now }
+    requires free { IsClashFree (held_by facts.now) }
+    ensures { IsNext (net_of graph.now) fault.now facts.now node.0 result }
+{
+    match graph.kind(node)? {
+        Kind::And => junction_line(graph, fault, facts, node, false),
+        Kind::Or => junction_line(graph, fault, facts, node, true),
+        Kind::Not => not_line(graph, fault, facts, node),
+        _ => plain_line(graph, fault, facts, node),
+    }
+}

@@ -1,0 +1,85 @@
+// The line on drivers of an And or an Or that differs.
+ghost use Rattle.std.specs.Prelude.{◌≡◌, ◌<◌, ◌≤◌, ◌↔◌, Bool, IsTrue, false, length};
+ghost use Rattle.gate_graph.specs.Circuit.{net_of};
+ghost use Rattle.gate_net.specs.Net.{drivers_of};
+ghost use Rattle.gate_net.specs.Values.{IsJunction};
+ghost use Rattle.refutation.specs.Closing.{IsClashFree};
+ghost use Rattle.refutation.specs.FactSets.{held_by};
+ghost use Rattle.refutation.specs.Pins.{AreBelow};
+ghost use Rattle.implications.specs.Pulls.{AreDoneSide, Finds};
+ghost use Rattle.implications.specs.Sides.{IsOpenPin, IsSide};
+ghost use Rattle.implications.specs.Settled.{IsReady};
+
+use crate::found::Found;
+use gate_graph::{Graph, Inputs};
+use refutation::following::gate_pins;
+use refutation::pins::{Aspect, is_stuck, is_value, known};
+use refutation::{Fact, FactSet, Line};
+use rm_base::{Fault, NodeId};
+
+// Whether the pin isn't the stuck one, and its driver is equal and isn't known to have the value.
+fn is_open(
+    fault: &Fault,
+    facts: &FactSet,
+    node: NodeId,
+    position: u32,
+    driver: NodeId,
+    value: bool,
+) -> bool
+    requires { driver.0 < length facts.now }
+    ensures { IsTrue result ↔ IsOpenPin fault.now (held_by facts.now) node.0 position driver.0 value }
+{
+    if is_stuck(fault, node, position) {
+        return false;
+    }
+    if !is_value(known(facts, Aspect::OfEqual, driver), true) {
+        return false;
+    }
+    !is_value(known(facts, Aspect::OfGood, driver), value)
+}
+
+// The first pin but the stuck one whose driver is equal and isn't known to have the value.
+fn open_side(
+    drivers: Inputs<'_>,
+    fault: &Fault,
+    facts: &FactSet,
+    node: NodeId,
+    value: bool,
+) -> Option<(u32, NodeId)>
+    requires within { AreBelow drivers (length facts.now) }
+    requires few { length drivers ≤ 4294967295 }
+    ensures { IsSide drivers.entry fault.now (held_by facts.now) node.0 value result }
+{
+    let mut position = 0u32;
+    for driver in drivers {
+        if is_open(fault, facts, node, position, driver, value) {
+            return Some((position, driver));
+        }
+        position += 1;
+    }
+    None
+}
+
+// The line on the equal drivers of an And or an Or that differs.
+pub(crate) fn side_line(
+    graph: &Graph,
+    fault: &Fault,
+    facts: &FactSet,
+    node: NodeId,
+    c: bool,
+) -> Option<Found>
+    requires ready { IsReady (net_of graph.now) fault.now facts.now }
+    requires free { IsClashFree (held_by facts.now) }
+    requires kind { IsJunction (net_of graph.now) node.0 c }
+    ensures { Finds (net_of graph.now) fault.now facts.now (AreDoneSide (net_of graph.now) fault.now facts.now node) result }
+{
+    if !is_value(known(facts, Aspect::OfEqual, node), false) {
+        return None;
+    }
+    let (position, driver) = open_side(gate_pins(graph, node), fault, facts, node, !c)?;
+    Some(Found {
+        line: Line::Side { node, position },
+        node: driver,
+        fact: Fact::Good(!c),
+    })
+}
