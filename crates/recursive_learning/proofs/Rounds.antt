@@ -57,7 +57,7 @@ learned_join net fault depth a b false c first second = (
 )
 
 pub learned_none : (net : Net) (fault : Fault) (start : Held) → AreSettled net fault start → IsLearned net fault 0 start false start
-learned_none net fault start settled = (record { within = λ x fact e. e; free = settled.free; closed = settled.closed; least = forced_none net fault 0 start; }, settled)
+learned_none net fault start settled = (record { within = λ x fact e. e; free = settled.free; closed = settled.closed; least = forced_none net fault 0 start }, settled)
 
 -- LEARNING
 pub record Learning (net : Net) (fault : Fault) (depth : ℕ) (before after : EngineState) (start now : List NodeFacts) : Type 0 where
@@ -78,7 +78,7 @@ learning_more net fault depth before middle after start now then l keeps settled
 -- no gate has anything to teach
 pub learning_quiet : (net : Net) (fault : Fault) (depth : ℕ) (before after : EngineState) (start now : List NodeFacts) → Learning net fault (suc depth) before after start now → ((y : ℕ) → IsAll y → HasTaught net fault depth (held_by now) y) → IsLearned net fault (suc depth) (held_by start) false (held_by now)
 learning_quiet net fault depth before after start now l taught = (
-  record { within = l.keeps.more; free = l.settled.free; closed = (l.settled.closed, λ y c unjustified few. taught y tt c unjustified few); least = l.forced; },
+  record { within = l.keeps.more; free = l.settled.free; closed = (l.settled.closed, λ y c unjustified few. taught y tt c unjustified few); least = l.forced },
   l.settled,
 )
 
@@ -111,12 +111,15 @@ passing_gained net fault depth number before middle after start now then round y
 pub passing_quiet : (net : Net) (fault : Fault) (depth number : ℕ) (before middle after : EngineState) (start now then : List NodeFacts) (round : Round) → Passing net fault depth number before middle start now round → Keeps middle after now then → IsRound net fault depth (IsOne number) now Quiet then → Passing net fault depth (number + 1) before after start then round
 passing_quiet net fault depth number before middle after start now then round p keeps quiet =
     subst (λ (f : List NodeFacts). Passing net fault depth (number + 1) before after start f round) (sym quiet.0) (record {
-      learning = record { keeps = keeps_join before middle after start now now p.learning.keeps (subst (λ (f : List NodeFacts). Keeps middle after now f) quiet.0 keeps); settled = p.learning.settled; forced = p.learning.forced; };
+      learning = record { keeps = keeps_join before middle after start now now p.learning.keeps (subst (λ (f : List NodeFacts). Keeps middle after now f) quiet.0 keeps); settled = p.learning.settled; forced = p.learning.forced };
       less = p.less;
-      quiet = λ is. ((p.quiet is).0, λ y less. elim (cases_lt y number) [
-        | inl lt ↦ (p.quiet is).1 y lt
-        | inr ge ↦ let same : y ≡ number = omega arith in subst (λ (f : List NodeFacts). HasTaught net fault depth (held_by f) y) (p.quiet is).0 (quiet.1 y same)
-      ]);
+      quiet = λ is. (
+        (p.quiet is).0,
+        λ y less. elim (cases_lt y number) [
+          | inl lt ↦ (p.quiet is).1 y lt
+          | inr ge ↦ let same : y ≡ number = omega arith in subst (λ (f : List NodeFacts). HasTaught net fault depth (held_by f) y) (p.quiet is).0 (quiet.1 y same)
+        ],
+      );
       gained = p.gained;
       no_clash = p.no_clash;
     })
@@ -172,7 +175,7 @@ taught_nothing net fault depth held y value ds known j nothing c unjustified few
 
 pub lesson_of : (net : Net) (fault : Fault) (depth : ℕ) (held : Held) (y : ℕ) (c : Bool) (ds : List ℕ) (found : Bool) (goods : List Learned) → IsJunction net y c → known_good held y ≡ Some c → NoneGives net held y c → AreJustifications net held y ds → ds ≢ [] → AreFound net fault depth held c ds found goods → (found ≡ true → goods ≢ []) → IsLesson net fault depth held y c ds found goods
 lesson_of net fault depth held y c ds found goods junction known none j some is more = record {
-  unjustified = record { junction = junction; known = known; none_gives = none; one_may = first ds some j; };
+  unjustified = record { junction = junction; known = known; none_gives = none; one_may = first ds some j };
   drivers = j;
   clash = λ e d just. let at = j.all d just in is.0 e at.0 d at.1;
   new = λ e. (is.1.1 e).new;
@@ -193,10 +196,12 @@ pub taken_back : (before middle after : EngineState) (mark : ℕ) (now then agai
     → ((start : List NodeFacts) → LeadsBack middle.trail mark then start → again ≡ start) → ((earlier : ℕ) (start : List NodeFacts) → earlier ≤ mark → LeadsBack middle.trail earlier then start → LeadsBack after.trail earlier again start) → after.numbers ≡ middle.numbers
     → (again ≡ now) × Keeps before after now again
 taken_back before middle after mark now then again is here keeps back earlier numbers =
-    let same : again ≡ now = back now (keeps.back mark now here) in
-    (same, record {
-      numbers = let n = keeps.numbers in cc;
-      size = rw same refl;
-      more = λ x fact e. rw same e;
-      back = λ m start h. earlier m start (let order : m ≤ length before.trail = h.order in omega arith) (keeps.back m start h);
-    })
+    let same : again ≡ now = back now (keeps.back mark now here) in (
+      same,
+      record {
+        numbers = let n = keeps.numbers in cc;
+        size = rw same refl;
+        more = λ x fact e. rw same e;
+        back = λ m start h. earlier m start (let order : m ≤ length before.trail = h.order in omega arith) (keeps.back m start h);
+      },
+    )

@@ -71,13 +71,13 @@ pub split_told : (net : Net) (fault : Fault) (held : Held) (x : NodeId) (first :
 split_told net fault held x first before middle after true now may one second =
     writes_join net fault (branch held) (branch (with_fact held x.0 (Good (not first)))) none before middle after
     (writes_join net fault (branch held) (two (with_fact held x.0 (Good first)) (with_fact held x.0 (Good (not first)))) (branch (with_fact held x.0 (Good (not first)))) before (before ++ Split x first ∷ []) middle
-      (split_writes net fault held x first before may) (first_ends net fault (with_fact held x.0 (Good first)) (with_fact held x.0 (Good (not first))) (before ++ Split x first ∷ []) middle one))
+    (split_writes net fault held x first before may) (first_ends net fault (with_fact held x.0 (Good first)) (with_fact held x.0 (Good (not first))) (before ++ Split x first ∷ []) middle one))
     second
 split_told net fault held x first before middle after false now may one second = (
   writes_join net fault (branch held) (branch (with_fact held x.0 (Good (not first)))) (branch now) before middle after
-  (writes_join net fault (branch held) (two (with_fact held x.0 (Good first)) (with_fact held x.0 (Good (not first)))) (branch (with_fact held x.0 (Good (not first)))) before (before ++ Split x first ∷ []) middle
-    (split_writes net fault held x first before may) (first_ends net fault (with_fact held x.0 (Good first)) (with_fact held x.0 (Good (not first))) (before ++ Split x first ∷ []) middle one))
-  second.0,
+      (writes_join net fault (branch held) (two (with_fact held x.0 (Good first)) (with_fact held x.0 (Good (not first)))) (branch (with_fact held x.0 (Good (not first)))) before (before ++ Split x first ∷ []) middle
+      (split_writes net fault held x first before may) (first_ends net fault (with_fact held x.0 (Good first)) (with_fact held x.0 (Good (not first))) (before ++ Split x first ∷ []) middle one))
+      second.0,
   second.1,
 )
 
@@ -132,8 +132,8 @@ lesson_opposite net fault depth held now y c ds found goods j g l some at inside
   cases = cases_grow net held now c ds fault inside free (cases_of net fault depth held y c ds found goods l);
   clash = λ k d there more within is isn't s contains free' closed.
       free' g.node.0 (both_good s g.node.0 g.value
-        (l.lead some j g at d (l.drivers.each k d there) s (λ x fact e. contains x fact (with_within held more d (Good c) (λ y other h. within y other (inside y other h)) is x fact e)) free' closed)
-        (contains g.node.0 (Good (not g.value)) isn't));
+      (l.lead some j g at d (l.drivers.each k d there) s (λ x fact e. contains x fact (with_within held more d (Good c) (λ y other h. within y other (inside y other h)) is x fact e)) free' closed)
+      (contains g.node.0 (Good (not g.value)) isn't));
 }
 
 -- with the opposite held, each driver clashes

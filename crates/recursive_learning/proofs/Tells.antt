@@ -45,7 +45,7 @@ clash_ends net fault held x before opposed = (Clash x ∷ [], (refl, λ below re
 pub told_open : (net : Net) (fault : Fault) (start : Held) (lines : List Line) (facts : List NodeFacts) (before : List Item) → IsWellFormed net → HasPin net fault → ((x : ℕ) (b : Bool) (held : Held) → start ≡ with_fact held x (Good b) → AreSettled net fault held → IsLive net x → IsOpenFrom net fault start lines facts → IsTold net fault start before false (held_by facts) (before ++ map line_item lines))
 told_open net fault start lines facts before formed stuck x b held is settled live o = (
   lines_lead net fault lines start (held_by facts) before o.leads,
-  record { closed = o.closed; free = o.free; live = leads_live net fault formed stuck lines start (held_by facts) (rw is (with_live net held x (Good b) settled.live live)) o.leads; },
+  record { closed = o.closed; free = o.free; live = leads_live net fault formed stuck lines start (held_by facts) (rw is (with_live net held x (Good b) settled.live live)) o.leads },
 )
 
 pub told_clash : (net : Net) (fault : Fault) (start : Held) (lines : List Line) (facts : Held) (x : NodeId) (before : List Item) → IsClashAt net fault start lines facts x.0 → Ends net fault start before ((before ++ map line_item lines) ++ Clash x ∷ [])

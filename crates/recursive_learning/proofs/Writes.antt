@@ -51,12 +51,15 @@ pub pass_more : (net : Net) (fault : Fault) (depth number : ℕ) (a b c : Engine
 pass_more net fault depth number a b c start now next items middle after p keeps (inl (same, (still, taught))) =
     subst (λ (f : List NodeFacts). PassWriting net fault depth (number + 1) a c start f items after) (sym same)
     (subst (λ (is : List Item). PassWriting net fault depth (number + 1) a c start now items is) (sym still) (record {
-      going = record { keeps = keeps_join a b c start now now p.going.keeps (subst (λ (f : List NodeFacts). Keeps b c now f) same keeps); settled = p.going.settled; leads = p.going.leads; };
+      going = record { keeps = keeps_join a b c start now now p.going.keeps (subst (λ (f : List NodeFacts). Keeps b c now f) same keeps); settled = p.going.settled; leads = p.going.leads };
       state = elim p.state [
-        | inl quiet ↦ inl (quiet.0, λ y less. elim (cases_lt y number) [
-          | inl lt ↦ quiet.1 y lt
-          | inr ge ↦ let is : number ≡ y = omega arith in subst (λ (f : List NodeFacts). HasTaught net fault depth (held_by f) y) quiet.0 (subst (HasTaught net fault depth (held_by now)) is taught)
-        ])
+        | inl quiet ↦ inl (
+          quiet.0,
+          λ y less. elim (cases_lt y number) [
+            | inl lt ↦ quiet.1 y lt
+            | inr ge ↦ let is : number ≡ y = omega arith in subst (λ (f : List NodeFacts). HasTaught net fault depth (held_by f) y) quiet.0 (subst (HasTaught net fault depth (held_by now)) is taught)
+          ],
+        )
         | inr less ↦ inr less
       ];
     }))

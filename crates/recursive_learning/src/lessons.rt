@@ -80,11 +80,7 @@ fn goods_among(
 }
 
 // Those of the values that are held.
-fn held_among(
-    alloc: Global,
-    goods: &[Learned],
-    facts: &FactSet,
-) -> Result<Vec<Learned>, NoMemory>
+fn held_among(alloc: Global, goods: &[Learned], facts: &FactSet) -> Result<Vec<Learned>, NoMemory>
     ensures { IfOk result (λ v. AreHeldAmong goods.now (held_by facts.now) v.items) }
 {
     let mut kept = Vec::new(alloc);

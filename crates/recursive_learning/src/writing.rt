@@ -70,7 +70,16 @@ fn write_pass(
 {
     let _mark = engine.mark();
     for number in 0..graph.node_bound() {
-        if write_gate(alloc, engine, graph, fault, facts, depth, NodeId(number), tree)? {
+        if write_gate(
+            alloc,
+            engine,
+            graph,
+            fault,
+            facts,
+            depth,
+            NodeId(number),
+            tree,
+        )? {
             return Ok(true);
         }
     }
@@ -104,7 +113,17 @@ fn write_gate(
         let ended = write_goods(alloc, engine, graph, fault, facts, depth, &lesson, tree)?;
         return Ok(ended);
     }
-    write_cases(alloc, engine, graph, fault, facts, depth, lesson.value, &lesson.drivers, tree)?;
+    write_cases(
+        alloc,
+        engine,
+        graph,
+        fault,
+        facts,
+        depth,
+        lesson.value,
+        &lesson.drivers,
+        tree,
+    )?;
     Ok(true)
 }
 
@@ -133,7 +152,16 @@ fn write_goods(
     let _mark = engine.mark();
     for good in &lesson.goods {
         if write_good(
-            alloc, engine, graph, fault, facts, depth, lesson.value, &lesson.drivers, *good, tree,
+            alloc,
+            engine,
+            graph,
+            fault,
+            facts,
+            depth,
+            lesson.value,
+            &lesson.drivers,
+            *good,
+            tree,
         )? {
             return Ok(true);
         }
@@ -172,10 +200,14 @@ fn write_good(
             let _mark = engine.mark();
             return Ok(false);
         }
-        write_cases(alloc, engine, graph, fault, facts, depth, value, drivers, tree)?;
+        write_cases(
+            alloc, engine, graph, fault, facts, depth, value, drivers, tree,
+        )?;
         return Ok(true);
     }
-    write_split(alloc, engine, graph, fault, facts, depth, value, drivers, good, tree)
+    write_split(
+        alloc, engine, graph, fault, facts, depth, value, drivers, good, tree,
+    )
 }
 
 // Writes a split on a value that a gate teaches, the opposite first; whether the second branch has ended too.
@@ -209,7 +241,9 @@ fn write_split(
         first: !good.value,
     })?;
     if !tell(engine, graph, fault, facts, good.node, !good.value, tree)? {
-        write_cases(alloc, engine, graph, fault, facts, depth, value, drivers, tree)?;
+        write_cases(
+            alloc, engine, graph, fault, facts, depth, value, drivers, tree,
+        )?;
     }
     engine.take_back(facts, mark);
     let ended = tell(engine, graph, fault, facts, good.node, good.value, tree)?;
@@ -240,7 +274,9 @@ fn write_cases(
     graph.well_formed();
     let _mark = engine.mark();
     for driver in drivers {
-        if write_case(alloc, engine, graph, fault, facts, depth, value, *driver, tree)? {
+        if write_case(
+            alloc, engine, graph, fault, facts, depth, value, *driver, tree,
+        )? {
             return Ok(());
         }
     }
@@ -279,7 +315,9 @@ fn write_case(
         let _mark = engine.mark();
         return Ok(false);
     }
-    write_branches(alloc, engine, graph, fault, facts, depth, value, driver, tree)
+    write_branches(
+        alloc, engine, graph, fault, facts, depth, value, driver, tree,
+    )
 }
 
 // Writes a split on a driver, with the value first; whether the second branch has ended too.

@@ -47,7 +47,7 @@ learn-returns-in-Quiet-clause-learned t c =
     let h : IsRound (net_of c.args.graph.now) c.args.fault.now (c.args.depth - 1) IsAll c.loop.facts Quiet c.pass.new.facts = subst (λ (r : Round). IsRound (net_of c.args.graph.now) c.args.fault.now (c.args.depth - 1) IsAll c.loop.facts r c.pass.new.facts) c.in-Quiet.is c.in_ok-pass.ensures.round in
     subst (λ (f : List NodeFacts). IsLearned (net_of c.args.graph.now) c.args.fault.now c.args.depth (held_by c.args.facts.now) false (held_by f)) (sym h.0)
     (subst (λ (n : ℕ). IsLearned (net_of c.args.graph.now) c.args.fault.now n (held_by c.args.facts.now) false (held_by c.loop.facts)) e
-      (learning_quiet (net_of c.args.graph.now) c.args.fault.now (c.args.depth - 1) c.args.engine.now c.loop.engine c.args.facts.now c.loop.facts (subst (λ (n : ℕ). Learning (net_of c.args.graph.now) c.args.fault.now n c.args.engine.now c.loop.engine c.args.facts.now c.loop.facts) (sym e) c.loop.invariant.learning) h.1))
+    (learning_quiet (net_of c.args.graph.now) c.args.fault.now (c.args.depth - 1) c.args.engine.now c.loop.engine c.args.facts.now c.loop.facts (subst (λ (n : ℕ). Learning (net_of c.args.graph.now) c.args.fault.now n c.args.engine.now c.loop.engine c.args.facts.now c.loop.facts) (sym e) c.loop.invariant.learning) h.1))
 
 pub learn-loop-preserved : goal.learn-loop-preserved
 learn-loop-preserved t c =
@@ -73,11 +73,11 @@ pass-loop-number-preserved t c = elim c.match-branch-2.branch [
   | pass-in-Gained w ↦
       subst (Passing (net_of c.args.graph.now) c.args.fault.now c.args.depth (c.loop-number.number + 1) c.args.engine.now c.visit.new.engine c.args.facts.now c.visit.new.facts) (sym w.round-is)
       (passing_gained (net_of c.args.graph.now) c.args.fault.now c.args.depth c.loop-number.number c.args.engine.now c.loop-number.engine c.visit.new.engine c.args.facts.now c.loop-number.facts c.visit.new.facts c.loop-number.round c.loop-number.number c.loop-number.invariant c.in_ok-visit.ensures.keeps
-        (subst (λ (r : Round). IsRound (net_of c.args.graph.now) c.args.fault.now c.args.depth (IsOne c.loop-number.number) c.loop-number.facts r c.visit.new.facts) w.in-Gained.is c.in_ok-visit.ensures.round))
+      (subst (λ (r : Round). IsRound (net_of c.args.graph.now) c.args.fault.now c.args.depth (IsOne c.loop-number.number) c.loop-number.facts r c.visit.new.facts) w.in-Gained.is c.in_ok-visit.ensures.round))
   | pass-in-Quiet w ↦
       subst (Passing (net_of c.args.graph.now) c.args.fault.now c.args.depth (c.loop-number.number + 1) c.args.engine.now c.visit.new.engine c.args.facts.now c.visit.new.facts) (sym w.round-is)
       (passing_quiet (net_of c.args.graph.now) c.args.fault.now c.args.depth c.loop-number.number c.args.engine.now c.loop-number.engine c.visit.new.engine c.args.facts.now c.loop-number.facts c.visit.new.facts c.loop-number.round c.loop-number.invariant c.in_ok-visit.ensures.keeps
-        (subst (λ (r : Round). IsRound (net_of c.args.graph.now) c.args.fault.now c.args.depth (IsOne c.loop-number.number) c.loop-number.facts r c.visit.new.facts) w.in-Quiet.is c.in_ok-visit.ensures.round))
+      (subst (λ (r : Round). IsRound (net_of c.args.graph.now) c.args.fault.now c.args.depth (IsOne c.loop-number.number) c.loop-number.facts r c.visit.new.facts) w.in-Quiet.is c.in_ok-visit.ensures.round))
 ]
 
 pub pass-returns-clause-round : goal.pass-returns-clause-round
@@ -102,9 +102,9 @@ pub visit-returns-then-branch-clause-round : goal.visit-returns-then-branch-clau
 visit-returns-then-branch-clause-round t c =
     let l : IsLesson (net_of c.args.graph.now) c.args.fault.now c.args.depth (held_by c.args.facts.now) c.args.gate.0 c.in-Some.lesson.value (map (λ n. n.0) c.in-Some.lesson.drivers.items) c.in-Some.lesson.found c.in-Some.lesson.goods.items = (subst (Teaches (net_of c.args.graph.now) c.args.fault.now c.args.depth (held_by c.args.facts.now) c.args.gate.0) c.in-Some.is c.in_ok-lesson.ensures.lesson) in
     let g : IsGained (net_of c.args.graph.now) c.args.fault.now c.in-Some.lesson.goods.items c.args.facts.now true c.gain.new.facts =
-        subst (λ (f : List NodeFacts). IsGained (net_of c.args.graph.now) c.args.fault.now c.in-Some.lesson.goods.items f true c.gain.new.facts) c.in_ok-lesson.ensures.same
-        (subst (λ (goods : List Learned). IsGained (net_of c.args.graph.now) c.args.fault.now goods c.lesson_at.new.facts true c.gain.new.facts) c.deref.ensures.value
-          (subst (λ (b : Bool). IsGained (net_of c.args.graph.now) c.args.fault.now c.deref.result.now c.lesson_at.new.facts b c.gain.new.facts) c.if-branch.true c.in_ok-gain.ensures.gained)) in
+    subst (λ (f : List NodeFacts). IsGained (net_of c.args.graph.now) c.args.fault.now c.in-Some.lesson.goods.items f true c.gain.new.facts) c.in_ok-lesson.ensures.same
+    (subst (λ (goods : List Learned). IsGained (net_of c.args.graph.now) c.args.fault.now goods c.lesson_at.new.facts true c.gain.new.facts) c.deref.ensures.value
+    (subst (λ (b : Bool). IsGained (net_of c.args.graph.now) c.args.fault.now c.deref.result.now c.lesson_at.new.facts b c.gain.new.facts) c.if-branch.true c.in_ok-gain.ensures.gained)) in
     visit_gain_clash (net_of c.args.graph.now) c.args.fault.now c.args.depth c.args.gate.0 c.in-Some.lesson.value (map (λ n. n.0) c.in-Some.lesson.drivers.items) c.in-Some.lesson.found c.in-Some.lesson.goods.items c.args.facts.now c.gain.new.facts l c.if-not-lesson.false g
 
 pub visit-returns-then-branch-clause-keeps : goal.visit-returns-then-branch-clause-keeps
@@ -114,9 +114,9 @@ pub visit-returns-clause-round : goal.visit-returns-clause-round
 visit-returns-clause-round t c =
     let l : IsLesson (net_of c.args.graph.now) c.args.fault.now c.args.depth (held_by c.args.facts.now) c.args.gate.0 c.in-Some.lesson.value (map (λ n. n.0) c.in-Some.lesson.drivers.items) c.in-Some.lesson.found c.in-Some.lesson.goods.items = (subst (Teaches (net_of c.args.graph.now) c.args.fault.now c.args.depth (held_by c.args.facts.now) c.args.gate.0) c.in-Some.is c.in_ok-lesson.ensures.lesson) in
     let g : IsGained (net_of c.args.graph.now) c.args.fault.now c.in-Some.lesson.goods.items c.args.facts.now false c.gain.new.facts =
-        subst (λ (f : List NodeFacts). IsGained (net_of c.args.graph.now) c.args.fault.now c.in-Some.lesson.goods.items f false c.gain.new.facts) c.in_ok-lesson.ensures.same
-        (subst (λ (goods : List Learned). IsGained (net_of c.args.graph.now) c.args.fault.now goods c.lesson_at.new.facts false c.gain.new.facts) c.deref.ensures.value
-          (subst (λ (b : Bool). IsGained (net_of c.args.graph.now) c.args.fault.now c.deref.result.now c.lesson_at.new.facts b c.gain.new.facts) c.if-branch.false c.in_ok-gain.ensures.gained)) in
+    subst (λ (f : List NodeFacts). IsGained (net_of c.args.graph.now) c.args.fault.now c.in-Some.lesson.goods.items f false c.gain.new.facts) c.in_ok-lesson.ensures.same
+    (subst (λ (goods : List Learned). IsGained (net_of c.args.graph.now) c.args.fault.now goods c.lesson_at.new.facts false c.gain.new.facts) c.deref.ensures.value
+    (subst (λ (b : Bool). IsGained (net_of c.args.graph.now) c.args.fault.now c.deref.result.now c.lesson_at.new.facts b c.gain.new.facts) c.if-branch.false c.in_ok-gain.ensures.gained)) in
     visit_gain (net_of c.args.graph.now) c.args.fault.now c.args.depth c.args.gate.0 c.in-Some.lesson.value (map (λ n. n.0) c.in-Some.lesson.drivers.items) c.in-Some.lesson.found c.in-Some.lesson.goods.items (IsOne c.args.gate.0) c.args.facts.now c.gain.new.facts l c.if-not-lesson.false g
 
 pub visit-returns-clause-keeps : goal.visit-returns-clause-keeps
@@ -172,45 +172,45 @@ in_common-returns-then-is_empty-clause-found t c =
       | in_common-then-not-branch+in_ok-common w ↦
           let same : c.loop-driver.facts ≡ c.args.facts.now = c.loop-driver.invariant.same in
           let learned : IsLearned (net_of c.args.graph.now) c.args.fault.now c.args.depth (with_fact (held_by c.args.facts.now) (get_or c.args.drivers.now c.loop-driver.driver-index (record { 0 = 0 })).0 (Good c.args.value)) false (held_by c.take.new.facts) =
-              subst (λ (f : List NodeFacts). IsLearned (net_of c.args.graph.now) c.args.fault.now c.args.depth (with_fact (held_by f) (get_or c.args.drivers.now c.loop-driver.driver-index (record { 0 = 0 })).0 (Good c.args.value)) false (held_by c.take.new.facts)) same
-              (subst (λ (b : Bool). IsLearned (net_of c.args.graph.now) c.args.fault.now c.args.depth (with_fact (held_by c.loop-driver.facts) (get_or c.args.drivers.now c.loop-driver.driver-index (record { 0 = 0 })).0 (Good c.args.value)) b (held_by c.take.new.facts)) w.if-not-branch.true c.in_ok-take.ensures.learned) in
+          subst (λ (f : List NodeFacts). IsLearned (net_of c.args.graph.now) c.args.fault.now c.args.depth (with_fact (held_by f) (get_or c.args.drivers.now c.loop-driver.driver-index (record { 0 = 0 })).0 (Good c.args.value)) false (held_by c.take.new.facts)) same
+          (subst (λ (b : Bool). IsLearned (net_of c.args.graph.now) c.args.fault.now c.args.depth (with_fact (held_by c.loop-driver.facts) (get_or c.args.drivers.now c.loop-driver.driver-index (record { 0 = 0 })).0 (Good c.args.value)) b (held_by c.take.new.facts)) w.if-not-branch.true c.in_ok-take.ensures.learned) in
           let added : AreAdded w.added.result.now c.args.facts.now c.take.new.facts =
-              rw w.added.ensures (subst (λ (f : List NodeFacts). AreAdded (drop c.mark-mark.result c.take.new.engine.trail) f c.take.new.facts) same
-                (trail_tells c.take.new.engine.trail c.mark-mark.result c.take.new.facts c.loop-driver.facts (c.in_ok-take.ensures.keeps.back c.mark-mark.result c.loop-driver.facts (c.mark-mark.ensures.back c.loop-driver.facts)))) in
+          rw w.added.ensures (subst (λ (f : List NodeFacts). AreAdded (drop c.mark-mark.result c.take.new.engine.trail) f c.take.new.facts) same
+          (trail_tells c.take.new.engine.trail c.mark-mark.result c.take.new.facts c.loop-driver.facts (c.in_ok-take.ensures.keeps.back c.mark-mark.result c.loop-driver.facts (c.mark-mark.ensures.back c.loop-driver.facts)))) in
           rw (w.common-is, w.in_ok-common.ensures.found)
           (common_open (net_of c.args.graph.now) c.args.fault.now c.args.depth (held_by c.args.facts.now) c.args.value (map (λ n. n.0) c.args.drivers.now) c.loop-driver.driver-index (get_or c.args.drivers.now c.loop-driver.driver-index (record { 0 = 0 })).0 (driver_at c.args.drivers.now c.loop-driver.driver-index (record { 0 = 0 }) (omega arith)) c.take.new.facts w.added.result.now learned.0 learned.1 (subst (λ (f : List NodeFacts). IsWithin (held_by f) (held_by c.take.new.facts)) same c.in_ok-take.ensures.keeps.more) added.new added.all
-            c.loop-driver.common.found c.loop-driver.common.goods.items w.in_ok-common.common.goods.items c.loop-driver.invariant.common w.in_ok-common.ensures.goods)
+          c.loop-driver.common.found c.loop-driver.common.goods.items w.in_ok-common.common.goods.items c.loop-driver.invariant.common w.in_ok-common.ensures.goods)
       | in_common-else-not-branch w ↦
           rw w.common-is
           (common_clash (net_of c.args.graph.now) c.args.fault.now c.args.depth (held_by c.args.facts.now) c.args.value (map (λ n. n.0) c.args.drivers.now) c.loop-driver.driver-index c.loop-driver.common.found c.loop-driver.common.goods.items (get_or c.args.drivers.now c.loop-driver.driver-index (record { 0 = 0 })).0 c.loop-driver.invariant.common (driver_at c.args.drivers.now c.loop-driver.driver-index (record { 0 = 0 }) (omega arith))
-            (subst (λ (f : List NodeFacts). LeadsToClash (net_of c.args.graph.now) c.args.fault.now c.args.depth (with_fact (held_by f) (get_or c.args.drivers.now c.loop-driver.driver-index (record { 0 = 0 })).0 (Good c.args.value))) c.loop-driver.invariant.same
-              (subst (λ (b : Bool). IsLearned (net_of c.args.graph.now) c.args.fault.now c.args.depth (with_fact (held_by c.loop-driver.facts) (get_or c.args.drivers.now c.loop-driver.driver-index (record { 0 = 0 })).0 (Good c.args.value)) b (held_by c.take.new.facts)) w.if-not-branch.false c.in_ok-take.ensures.learned)))
+          (subst (λ (f : List NodeFacts). LeadsToClash (net_of c.args.graph.now) c.args.fault.now c.args.depth (with_fact (held_by f) (get_or c.args.drivers.now c.loop-driver.driver-index (record { 0 = 0 })).0 (Good c.args.value))) c.loop-driver.invariant.same
+          (subst (λ (b : Bool). IsLearned (net_of c.args.graph.now) c.args.fault.now c.args.depth (with_fact (held_by c.loop-driver.facts) (get_or c.args.drivers.now c.loop-driver.driver-index (record { 0 = 0 })).0 (Good c.args.value)) b (held_by c.take.new.facts)) w.if-not-branch.false c.in_ok-take.ensures.learned)))
     ] in
     found_none (net_of c.args.graph.now) c.args.fault.now c.args.depth (held_by c.args.facts.now) c.args.value (map (λ n. n.0) c.args.drivers.now) (c.loop-driver.driver-index + 1) c.if-not-branch.common.found c.if-not-branch.common.goods.items common c.if-common.true (empty_is c.if-not-branch.common.goods c.if-is_empty.ensures)
 
 pub in_common-loop-driver-preserved : goal.in_common-loop-driver-preserved
 in_common-loop-driver-preserved t c =
     record {
-    keeps = keeps_join c.args.engine.now c.loop-driver.engine c.take_back.new.self c.args.facts.now c.loop-driver.facts c.take_back.new.facts c.loop-driver.invariant.keeps (taken_back c.loop-driver.engine c.take.new.engine c.take_back.new.self c.mark-mark.result c.loop-driver.facts c.take.new.facts c.take_back.new.facts c.mark-mark.ensures.mark (c.mark-mark.ensures.back c.loop-driver.facts) c.in_ok-take.ensures.keeps c.take_back.ensures.back c.take_back.ensures.earlier c.take_back.ensures.numbers).1;
-    same = (taken_back c.loop-driver.engine c.take.new.engine c.take_back.new.self c.mark-mark.result c.loop-driver.facts c.take.new.facts c.take_back.new.facts c.mark-mark.ensures.mark (c.mark-mark.ensures.back c.loop-driver.facts) c.in_ok-take.ensures.keeps c.take_back.ensures.back c.take_back.ensures.earlier c.take_back.ensures.numbers).0 ∙ c.loop-driver.invariant.same;
-    common = elim c.if-not-branch.branch [
-      | in_common-then-not-branch+in_ok-common w ↦
-          let same : c.loop-driver.facts ≡ c.args.facts.now = c.loop-driver.invariant.same in
-          let learned : IsLearned (net_of c.args.graph.now) c.args.fault.now c.args.depth (with_fact (held_by c.args.facts.now) (get_or c.args.drivers.now c.loop-driver.driver-index (record { 0 = 0 })).0 (Good c.args.value)) false (held_by c.take.new.facts) =
-              subst (λ (f : List NodeFacts). IsLearned (net_of c.args.graph.now) c.args.fault.now c.args.depth (with_fact (held_by f) (get_or c.args.drivers.now c.loop-driver.driver-index (record { 0 = 0 })).0 (Good c.args.value)) false (held_by c.take.new.facts)) same
-              (subst (λ (b : Bool). IsLearned (net_of c.args.graph.now) c.args.fault.now c.args.depth (with_fact (held_by c.loop-driver.facts) (get_or c.args.drivers.now c.loop-driver.driver-index (record { 0 = 0 })).0 (Good c.args.value)) b (held_by c.take.new.facts)) w.if-not-branch.true c.in_ok-take.ensures.learned) in
-          let added : AreAdded w.added.result.now c.args.facts.now c.take.new.facts =
-              rw w.added.ensures (subst (λ (f : List NodeFacts). AreAdded (drop c.mark-mark.result c.take.new.engine.trail) f c.take.new.facts) same
-                (trail_tells c.take.new.engine.trail c.mark-mark.result c.take.new.facts c.loop-driver.facts (c.in_ok-take.ensures.keeps.back c.mark-mark.result c.loop-driver.facts (c.mark-mark.ensures.back c.loop-driver.facts)))) in
-          rw (w.common-is, w.in_ok-common.ensures.found)
-          (common_open (net_of c.args.graph.now) c.args.fault.now c.args.depth (held_by c.args.facts.now) c.args.value (map (λ n. n.0) c.args.drivers.now) c.loop-driver.driver-index (get_or c.args.drivers.now c.loop-driver.driver-index (record { 0 = 0 })).0 (driver_at c.args.drivers.now c.loop-driver.driver-index (record { 0 = 0 }) (omega arith)) c.take.new.facts w.added.result.now learned.0 learned.1 (subst (λ (f : List NodeFacts). IsWithin (held_by f) (held_by c.take.new.facts)) same c.in_ok-take.ensures.keeps.more) added.new added.all
+      keeps = keeps_join c.args.engine.now c.loop-driver.engine c.take_back.new.self c.args.facts.now c.loop-driver.facts c.take_back.new.facts c.loop-driver.invariant.keeps (taken_back c.loop-driver.engine c.take.new.engine c.take_back.new.self c.mark-mark.result c.loop-driver.facts c.take.new.facts c.take_back.new.facts c.mark-mark.ensures.mark (c.mark-mark.ensures.back c.loop-driver.facts) c.in_ok-take.ensures.keeps c.take_back.ensures.back c.take_back.ensures.earlier c.take_back.ensures.numbers).1;
+      same = (taken_back c.loop-driver.engine c.take.new.engine c.take_back.new.self c.mark-mark.result c.loop-driver.facts c.take.new.facts c.take_back.new.facts c.mark-mark.ensures.mark (c.mark-mark.ensures.back c.loop-driver.facts) c.in_ok-take.ensures.keeps c.take_back.ensures.back c.take_back.ensures.earlier c.take_back.ensures.numbers).0 ∙ c.loop-driver.invariant.same;
+      common = elim c.if-not-branch.branch [
+        | in_common-then-not-branch+in_ok-common w ↦
+            let same : c.loop-driver.facts ≡ c.args.facts.now = c.loop-driver.invariant.same in
+            let learned : IsLearned (net_of c.args.graph.now) c.args.fault.now c.args.depth (with_fact (held_by c.args.facts.now) (get_or c.args.drivers.now c.loop-driver.driver-index (record { 0 = 0 })).0 (Good c.args.value)) false (held_by c.take.new.facts) =
+            subst (λ (f : List NodeFacts). IsLearned (net_of c.args.graph.now) c.args.fault.now c.args.depth (with_fact (held_by f) (get_or c.args.drivers.now c.loop-driver.driver-index (record { 0 = 0 })).0 (Good c.args.value)) false (held_by c.take.new.facts)) same
+            (subst (λ (b : Bool). IsLearned (net_of c.args.graph.now) c.args.fault.now c.args.depth (with_fact (held_by c.loop-driver.facts) (get_or c.args.drivers.now c.loop-driver.driver-index (record { 0 = 0 })).0 (Good c.args.value)) b (held_by c.take.new.facts)) w.if-not-branch.true c.in_ok-take.ensures.learned) in
+            let added : AreAdded w.added.result.now c.args.facts.now c.take.new.facts =
+            rw w.added.ensures (subst (λ (f : List NodeFacts). AreAdded (drop c.mark-mark.result c.take.new.engine.trail) f c.take.new.facts) same
+            (trail_tells c.take.new.engine.trail c.mark-mark.result c.take.new.facts c.loop-driver.facts (c.in_ok-take.ensures.keeps.back c.mark-mark.result c.loop-driver.facts (c.mark-mark.ensures.back c.loop-driver.facts)))) in
+            rw (w.common-is, w.in_ok-common.ensures.found)
+            (common_open (net_of c.args.graph.now) c.args.fault.now c.args.depth (held_by c.args.facts.now) c.args.value (map (λ n. n.0) c.args.drivers.now) c.loop-driver.driver-index (get_or c.args.drivers.now c.loop-driver.driver-index (record { 0 = 0 })).0 (driver_at c.args.drivers.now c.loop-driver.driver-index (record { 0 = 0 }) (omega arith)) c.take.new.facts w.added.result.now learned.0 learned.1 (subst (λ (f : List NodeFacts). IsWithin (held_by f) (held_by c.take.new.facts)) same c.in_ok-take.ensures.keeps.more) added.new added.all
             c.loop-driver.common.found c.loop-driver.common.goods.items w.in_ok-common.common.goods.items c.loop-driver.invariant.common w.in_ok-common.ensures.goods)
-      | in_common-else-not-branch w ↦
-          rw w.common-is
-          (common_clash (net_of c.args.graph.now) c.args.fault.now c.args.depth (held_by c.args.facts.now) c.args.value (map (λ n. n.0) c.args.drivers.now) c.loop-driver.driver-index c.loop-driver.common.found c.loop-driver.common.goods.items (get_or c.args.drivers.now c.loop-driver.driver-index (record { 0 = 0 })).0 c.loop-driver.invariant.common (driver_at c.args.drivers.now c.loop-driver.driver-index (record { 0 = 0 }) (omega arith))
+        | in_common-else-not-branch w ↦
+            rw w.common-is
+            (common_clash (net_of c.args.graph.now) c.args.fault.now c.args.depth (held_by c.args.facts.now) c.args.value (map (λ n. n.0) c.args.drivers.now) c.loop-driver.driver-index c.loop-driver.common.found c.loop-driver.common.goods.items (get_or c.args.drivers.now c.loop-driver.driver-index (record { 0 = 0 })).0 c.loop-driver.invariant.common (driver_at c.args.drivers.now c.loop-driver.driver-index (record { 0 = 0 }) (omega arith))
             (subst (λ (f : List NodeFacts). LeadsToClash (net_of c.args.graph.now) c.args.fault.now c.args.depth (with_fact (held_by f) (get_or c.args.drivers.now c.loop-driver.driver-index (record { 0 = 0 })).0 (Good c.args.value))) c.loop-driver.invariant.same
-              (subst (λ (b : Bool). IsLearned (net_of c.args.graph.now) c.args.fault.now c.args.depth (with_fact (held_by c.loop-driver.facts) (get_or c.args.drivers.now c.loop-driver.driver-index (record { 0 = 0 })).0 (Good c.args.value)) b (held_by c.take.new.facts)) w.if-not-branch.false c.in_ok-take.ensures.learned)))
-    ];
+            (subst (λ (b : Bool). IsLearned (net_of c.args.graph.now) c.args.fault.now c.args.depth (with_fact (held_by c.loop-driver.facts) (get_or c.args.drivers.now c.loop-driver.driver-index (record { 0 = 0 })).0 (Good c.args.value)) b (held_by c.take.new.facts)) w.if-not-branch.false c.in_ok-take.ensures.learned)))
+      ];
     }
 
 pub in_common-returns-clause-found : goal.in_common-returns-clause-found

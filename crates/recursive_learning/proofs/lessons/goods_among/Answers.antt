@@ -21,10 +21,10 @@ loop-entry-preserved c = elim c.if-is_good.branch [
   | then-is_good+in_ok-push w ↦
       rw (w.goods-is, w.in_ok-push.ensures.items)
       (goods_next c.args.added.now (held_by c.args.facts.now) _ c.loop-entry.entry-index zero (omega arith)
-        (goods_push (take c.loop-entry.entry-index c.args.added.now) (held_by c.args.facts.now) c.loop-entry.goods.items (get_or c.args.added.now c.loop-entry.entry-index zero) c.in-Good.value c.loop-entry.invariant c.in-Good.is w.if-is_good.ensures))
+      (goods_push (take c.loop-entry.entry-index c.args.added.now) (held_by c.args.facts.now) c.loop-entry.goods.items (get_or c.args.added.now c.loop-entry.entry-index zero) c.in-Good.value c.loop-entry.invariant c.in-Good.is w.if-is_good.ensures))
   | else-is_good w ↦
       rw w.goods-is
       (goods_next c.args.added.now (held_by c.args.facts.now) c.loop-entry.goods.items c.loop-entry.entry-index zero (omega arith)
-        (goods_skip (take c.loop-entry.entry-index c.args.added.now) (held_by c.args.facts.now) c.loop-entry.goods.items (get_or c.args.added.now c.loop-entry.entry-index zero) c.loop-entry.invariant
-          (λ b is known. w.if-is_good.ensures (let same : Good c.in-Good.value ≡ Good b = sym c.in-Good.is ∙ is in let e : c.in-Good.value ≡ b = cc in rw e known))))
+      (goods_skip (take c.loop-entry.entry-index c.args.added.now) (held_by c.args.facts.now) c.loop-entry.goods.items (get_or c.args.added.now c.loop-entry.entry-index zero) c.loop-entry.invariant
+      (λ b is known. w.if-is_good.ensures (let same : Good c.in-Good.value ≡ Good b = sym c.in-Good.is ∙ is in let e : c.in-Good.value ≡ b = cc in rw e known))))
 ]

@@ -13,9 +13,9 @@ loop-good-preserved c = elim c.if-is_good.branch [
   | then-is_good+in_ok-push w ↦
       rw (w.kept-is, w.in_ok-push.ensures.items)
       (kept_next c.args.goods.now (held_by c.args.facts.now) _ c.loop-good.good-index zero (omega arith)
-        (kept_push (take c.loop-good.good-index c.args.goods.now) (held_by c.args.facts.now) c.loop-good.kept.items (get_or c.args.goods.now c.loop-good.good-index zero) c.loop-good.invariant w.if-is_good.ensures))
+      (kept_push (take c.loop-good.good-index c.args.goods.now) (held_by c.args.facts.now) c.loop-good.kept.items (get_or c.args.goods.now c.loop-good.good-index zero) c.loop-good.invariant w.if-is_good.ensures))
   | else-is_good w ↦
       rw w.kept-is
       (kept_next c.args.goods.now (held_by c.args.facts.now) c.loop-good.kept.items c.loop-good.good-index zero (omega arith)
-        (kept_skip (take c.loop-good.good-index c.args.goods.now) (held_by c.args.facts.now) c.loop-good.kept.items (get_or c.args.goods.now c.loop-good.good-index zero) c.loop-good.invariant w.if-is_good.ensures))
+      (kept_skip (take c.loop-good.good-index c.args.goods.now) (held_by c.args.facts.now) c.loop-good.kept.items (get_or c.args.goods.now c.loop-good.good-index zero) c.loop-good.invariant w.if-is_good.ensures))
 ]

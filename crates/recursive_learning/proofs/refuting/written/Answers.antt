@@ -17,4 +17,4 @@ pub returns-clause-accepted : goal.returns-clause-accepted
 returns-clause-accepted c =
     rw c.finish.ensures
     (written_accepted (net_of c.args.graph.now) c.args.fault.now c.args.engine.now.lines (held_by c.args.facts) c.push_lines.new.tree c.write.new.tree c.requires.lines
-      (c.in_ok-push_lines.ensures ∙ ap (λ (items : List Item). items ++ map line_item c.lines.result.now) c.new-tree.ensures ∙ ap (λ (lines : List Line). [] ++ map line_item lines) c.lines.ensures) c.in_ok-write.ensures.ends)
+    (c.in_ok-push_lines.ensures ∙ ap (λ (items : List Item). items ++ map line_item c.lines.result.now) c.new-tree.ensures ∙ ap (λ (lines : List Line). [] ++ map line_item lines) c.lines.ensures) c.in_ok-write.ensures.ends)

@@ -71,15 +71,44 @@ write_gate-returns-then-lesson-clause-keeps t c =
 
 pub write_gate-write_cases-requires : goal.write_gate-write_cases-requires
 write_gate-write_cases-requires t c =
-    let l : IsLesson (net_of c.args.graph.now) c.args.fault.now c.args.depth (held_by c.args.facts.now) c.args.gate.0 c.in-Some.lesson.value (map (λ n. n.0) c.in-Some.lesson.drivers.items) c.in-Some.lesson.found c.in-Some.lesson.goods.items = (subst (Teaches (net_of c.args.graph.now) c.args.fault.now c.args.depth (held_by c.args.facts.now) c.args.gate.0) c.in-Some.is c.in_ok-lesson.ensures.lesson) in
-    (search rules, (c.requires.pin, (rw c.in_ok-lesson.ensures.keeps.numbers c.requires.numbers, (rw c.in_ok-lesson.ensures.keeps.size c.requires.size, (rw c.in_ok-lesson.ensures.same c.requires.settled,
-      rw (c.deref.ensures.value, c.in_ok-lesson.ensures.same) (lesson_cases (net_of c.args.graph.now) c.args.fault.now c.args.depth (held_by c.args.facts.now) c.args.gate.0 c.in-Some.lesson.value (map (λ n. n.0) c.in-Some.lesson.drivers.items) c.in-Some.lesson.found c.in-Some.lesson.goods.items l c.if-lesson.false))))))
+    let l : IsLesson (net_of c.args.graph.now) c.args.fault.now c.args.depth (held_by c.args.facts.now) c.args.gate.0 c.in-Some.lesson.value (map (λ n. n.0) c.in-Some.lesson.drivers.items) c.in-Some.lesson.found c.in-Some.lesson.goods.items = (subst (Teaches (net_of c.args.graph.now) c.args.fault.now c.args.depth (held_by c.args.facts.now) c.args.gate.0) c.in-Some.is c.in_ok-lesson.ensures.lesson) in (
+      search rules,
+      (
+        c.requires.pin,
+        (
+          rw c.in_ok-lesson.ensures.keeps.numbers c.requires.numbers,
+          (
+            rw c.in_ok-lesson.ensures.keeps.size c.requires.size,
+            (
+              rw c.in_ok-lesson.ensures.same c.requires.settled,
+              rw (c.deref.ensures.value, c.in_ok-lesson.ensures.same) (lesson_cases (net_of c.args.graph.now) c.args.fault.now c.args.depth (held_by c.args.facts.now) c.args.gate.0 c.in-Some.lesson.value (map (λ n. n.0) c.in-Some.lesson.drivers.items) c.in-Some.lesson.found c.in-Some.lesson.goods.items l c.if-lesson.false),
+            ),
+          ),
+        ),
+      ),
+    )
 
 pub write_goods-write_good-requires : goal.write_goods-write_good-requires
 write_goods-write_good-requires t c =
-    rw (c.deref.ensures.value, c.deref-good-items.ensures.value)
-    (search rules, (c.requires.pin, (rw c.loop-good.invariant.going.keeps.numbers c.requires.numbers, (rw c.loop-good.invariant.going.keeps.size c.requires.size, (c.loop-good.invariant.going.settled, ((c.requires.lesson.1.new c.requires.found c.loop-good.good-index (get_or c.args.lesson.now.goods.items c.loop-good.good-index (record { node = record { 0 = 0 }; value = false })) (slice_get-get_or c.args.lesson.now.goods.items c.loop-good.good-index (record { node = record { 0 = 0 }; value = false }) (omega (arith, ap length c.deref-good-items.ensures.value)))).live,
-      lesson_opposite (net_of c.args.graph.now) c.args.fault.now c.args.depth (held_by c.args.facts.now) (held_by c.loop-good.facts) c.requires.lesson.0 c.args.lesson.now.value (map (λ n. n.0) c.args.lesson.now.drivers.items) c.args.lesson.now.found c.args.lesson.now.goods.items c.loop-good.good-index (get_or c.args.lesson.now.goods.items c.loop-good.good-index (record { node = record { 0 = 0 }; value = false })) c.requires.lesson.1 c.requires.found (slice_get-get_or c.args.lesson.now.goods.items c.loop-good.good-index (record { node = record { 0 = 0 }; value = false }) (omega (arith, ap length c.deref-good-items.ensures.value))) c.loop-good.invariant.going.keeps.more c.loop-good.invariant.going.settled.free))))))
+    rw (c.deref.ensures.value, c.deref-good-items.ensures.value) (
+      search rules,
+      (
+        c.requires.pin,
+        (
+          rw c.loop-good.invariant.going.keeps.numbers c.requires.numbers,
+          (
+            rw c.loop-good.invariant.going.keeps.size c.requires.size,
+            (
+              c.loop-good.invariant.going.settled,
+              (
+                (c.requires.lesson.1.new c.requires.found c.loop-good.good-index (get_or c.args.lesson.now.goods.items c.loop-good.good-index (record { node = record { 0 = 0 }; value = false })) (slice_get-get_or c.args.lesson.now.goods.items c.loop-good.good-index (record { node = record { 0 = 0 }; value = false }) (omega (arith, ap length c.deref-good-items.ensures.value)))).live,
+                lesson_opposite (net_of c.args.graph.now) c.args.fault.now c.args.depth (held_by c.args.facts.now) (held_by c.loop-good.facts) c.requires.lesson.0 c.args.lesson.now.value (map (λ n. n.0) c.args.lesson.now.drivers.items) c.args.lesson.now.found c.args.lesson.now.goods.items c.loop-good.good-index (get_or c.args.lesson.now.goods.items c.loop-good.good-index (record { node = record { 0 = 0 }; value = false })) c.requires.lesson.1 c.requires.found (slice_get-get_or c.args.lesson.now.goods.items c.loop-good.good-index (record { node = record { 0 = 0 }; value = false }) (omega (arith, ap length c.deref-good-items.ensures.value))) c.loop-good.invariant.going.keeps.more c.loop-good.invariant.going.settled.free,
+              ),
+            ),
+          ),
+        ),
+      ),
+    )
 
 pub write_goods-loop-good-preserved : goal.write_goods-loop-good-preserved
 write_goods-loop-good-preserved t c =
@@ -99,9 +128,22 @@ write_goods-returns-then-branch-clause-told t c =
 
 pub write_good-write_cases-requires : goal.write_good-write_cases-requires
 write_good-write_cases-requires t c =
-    let known : known_good (held_by c.args.facts.now) c.args.good.node.0 ≡ Some (not c.args.good.value) = sym c.known.ensures ∙ c.in-Some.is ∙ ap Some (beq_other c.in-Some.known_value c.args.good.value c.if-known_value-good.false) in
-    (search rules, (c.requires.pin, (c.requires.numbers, (c.requires.size, (c.requires.settled,
-      opposite_cases (net_of c.args.graph.now) c.args.fault.now c.args.depth (held_by c.args.facts.now) (held_by c.args.facts.now) c.args.value (map (λ n. n.0) c.args.drivers.now) c.args.good.node.0 c.args.good.value c.requires.cases (λ x fact e. e) c.requires.settled.free (known_held (held_by c.args.facts.now) c.args.good.node.0 (not c.args.good.value) known))))))
+    let known : known_good (held_by c.args.facts.now) c.args.good.node.0 ≡ Some (not c.args.good.value) = sym c.known.ensures ∙ c.in-Some.is ∙ ap Some (beq_other c.in-Some.known_value c.args.good.value c.if-known_value-good.false) in (
+      search rules,
+      (
+        c.requires.pin,
+        (
+          c.requires.numbers,
+          (
+            c.requires.size,
+            (
+              c.requires.settled,
+              opposite_cases (net_of c.args.graph.now) c.args.fault.now c.args.depth (held_by c.args.facts.now) (held_by c.args.facts.now) c.args.value (map (λ n. n.0) c.args.drivers.now) c.args.good.node.0 c.args.good.value c.requires.cases (λ x fact e. e) c.requires.settled.free (known_held (held_by c.args.facts.now) c.args.good.node.0 (not c.args.good.value) known),
+            ),
+          ),
+        ),
+      ),
+    )
 
 pub write_split-take_back-requires : goal.write_split-take_back-requires
 write_split-take_back-requires t c =
@@ -162,7 +204,7 @@ write_split-returns-clause-told t c =
     ] in
     split_told (net_of c.args.graph.now) c.args.fault.now (held_by c.args.facts.now) c.args.good.node (not c.args.good.value) c.args.tree.now c.if-not-branch.tree c.tell-2.new.tree c.in_ok-ended.ended (held_by c.tell-2.new.facts) (may_split (net_of c.args.graph.now) c.args.fault.now (held_by c.args.facts.now) c.args.good.node.0 c.requires.settled c.requires.node c.requires.unknown) ends
     (subst (λ (v : Bool). IsTold (net_of c.args.graph.now) c.args.fault.now (with_fact (held_by c.args.facts.now) c.args.good.node.0 (Good v)) c.if-not-branch.tree c.in_ok-ended.ended (held_by c.tell-2.new.facts) c.tell-2.new.tree) (sym (not_not c.args.good.value))
-      (subst (λ (f : List NodeFacts). IsTold (net_of c.args.graph.now) c.args.fault.now (with_fact (held_by f) c.args.good.node.0 (Good c.args.good.value)) c.if-not-branch.tree c.in_ok-ended.ended (held_by c.tell-2.new.facts) c.tell-2.new.tree) taken.0 c.in_ok-ended.ensures.told))
+    (subst (λ (f : List NodeFacts). IsTold (net_of c.args.graph.now) c.args.fault.now (with_fact (held_by f) c.args.good.node.0 (Good c.args.good.value)) c.if-not-branch.tree c.in_ok-ended.ended (held_by c.tell-2.new.facts) c.tell-2.new.tree) taken.0 c.in_ok-ended.ensures.told))
 
 pub write_branches-take_back-requires : goal.write_branches-take_back-requires
 write_branches-take_back-requires t c =
@@ -217,16 +259,45 @@ write_branches-returns-clause-told t c =
 
 pub write_split-write_cases-requires : goal.write_split-write_cases-requires
 write_split-write_cases-requires t c =
-    let settled : AreSettled (net_of c.args.graph.now) c.args.fault.now (held_by c.tell.new.facts) = (subst (λ (b : Bool). IsTold (net_of c.args.graph.now) c.args.fault.now (with_fact (held_by c.args.facts.now) c.args.good.node.0 (Good (not c.args.good.value))) c.push.new.self b (held_by c.tell.new.facts) c.tell.new.tree) c.if-not-branch.true c.in_ok-tell.ensures.told).1 in
-    (search rules, (c.requires.pin, (rw c.in_ok-tell.ensures.keeps.numbers c.requires.numbers, (rw c.in_ok-tell.ensures.keeps.size c.requires.size, (settled,
-      opposite_cases (net_of c.args.graph.now) c.args.fault.now c.args.depth (held_by c.args.facts.now) (held_by c.tell.new.facts) c.args.value (map (λ n. n.0) c.args.drivers.now) c.args.good.node.0 c.args.good.value c.requires.cases c.in_ok-tell.ensures.keeps.more settled.free (c.in_ok-tell.ensures.there c.if-not-branch.true))))))
+    let settled : AreSettled (net_of c.args.graph.now) c.args.fault.now (held_by c.tell.new.facts) = (subst (λ (b : Bool). IsTold (net_of c.args.graph.now) c.args.fault.now (with_fact (held_by c.args.facts.now) c.args.good.node.0 (Good (not c.args.good.value))) c.push.new.self b (held_by c.tell.new.facts) c.tell.new.tree) c.if-not-branch.true c.in_ok-tell.ensures.told).1 in (
+      search rules,
+      (
+        c.requires.pin,
+        (
+          rw c.in_ok-tell.ensures.keeps.numbers c.requires.numbers,
+          (
+            rw c.in_ok-tell.ensures.keeps.size c.requires.size,
+            (
+              settled,
+              opposite_cases (net_of c.args.graph.now) c.args.fault.now c.args.depth (held_by c.args.facts.now) (held_by c.tell.new.facts) c.args.value (map (λ n. n.0) c.args.drivers.now) c.args.good.node.0 c.args.good.value c.requires.cases c.in_ok-tell.ensures.keeps.more settled.free (c.in_ok-tell.ensures.there c.if-not-branch.true),
+            ),
+          ),
+        ),
+      ),
+    )
 
 pub write_cases-write_case-requires : goal.write_cases-write_case-requires
 write_cases-write_case-requires t c =
     let there : slice_get (map (λ n. n.0) c.args.drivers.now) c.loop-driver.driver-index ≡ Some (get_or c.args.drivers.now c.loop-driver.driver-index (record { 0 = 0 })).0 = (driver_at c.args.drivers.now c.loop-driver.driver-index (record { 0 = 0 }) (omega arith)) in
-    let reads = c.requires.cases.cases.reads c.loop-driver.driver-index (get_or c.args.drivers.now c.loop-driver.driver-index (record { 0 = 0 })).0 there in
-    (search rules, (c.requires.pin, (rw c.loop-driver.invariant.going.keeps.numbers c.requires.numbers, (rw c.loop-driver.invariant.going.keeps.size c.requires.size, (c.loop-driver.invariant.going.settled, (driver_live (net_of c.args.graph.now) c.well_formed-2.ensures.net c.requires.cases.cases.gate reads.0 (get_or c.args.drivers.now c.loop-driver.driver-index (record { 0 = 0 })).0 reads.1,
-      λ more within is. c.requires.cases.clash c.loop-driver.driver-index (get_or c.args.drivers.now c.loop-driver.driver-index (record { 0 = 0 })).0 there more (λ x fact e. within x fact (c.loop-driver.invariant.going.keeps.more x fact e)) is))))))
+    let reads = c.requires.cases.cases.reads c.loop-driver.driver-index (get_or c.args.drivers.now c.loop-driver.driver-index (record { 0 = 0 })).0 there in (
+      search rules,
+      (
+        c.requires.pin,
+        (
+          rw c.loop-driver.invariant.going.keeps.numbers c.requires.numbers,
+          (
+            rw c.loop-driver.invariant.going.keeps.size c.requires.size,
+            (
+              c.loop-driver.invariant.going.settled,
+              (
+                driver_live (net_of c.args.graph.now) c.well_formed-2.ensures.net c.requires.cases.cases.gate reads.0 (get_or c.args.drivers.now c.loop-driver.driver-index (record { 0 = 0 })).0 reads.1,
+                λ more within is. c.requires.cases.clash c.loop-driver.driver-index (get_or c.args.drivers.now c.loop-driver.driver-index (record { 0 = 0 })).0 there more (λ x fact e. within x fact (c.loop-driver.invariant.going.keeps.more x fact e)) is,
+              ),
+            ),
+          ),
+        ),
+      ),
+    )
 
 pub write_cases-loop-driver-preserved : goal.write_cases-loop-driver-preserved
 write_cases-loop-driver-preserved t c =
@@ -240,4 +311,4 @@ write_cases-returns-then-branch-clause-keeps t c =
 pub write_cases-returns-clause-ends : goal.write_cases-returns-clause-ends
 write_cases-returns-clause-ends t c =
     absurd (no_driver (net_of c.args.graph.now) c.args.fault.now (held_by c.args.facts.now) (held_by c.loop-driver.facts) c.args.value (map (λ n. n.0) c.args.drivers.now) c.requires.cases.cases c.loop-driver.invariant.going.keeps.more c.loop-driver.invariant.going.settled
-      (λ k d at. c.loop-driver.invariant.others k d (let less : k < length (map (λ n. n.0) c.args.drivers.now) = place_less (map (λ n. n.0) c.args.drivers.now) k d at in let same : length (map (λ n. n.0) c.args.drivers.now) ≡ length c.args.drivers.now = length-map c.args.drivers.now (λ n. n.0) in omega arith) at))
+    (λ k d at. c.loop-driver.invariant.others k d (let less : k < length (map (λ n. n.0) c.args.drivers.now) = place_less (map (λ n. n.0) c.args.drivers.now) k d at in let same : length (map (λ n. n.0) c.args.drivers.now) ≡ length c.args.drivers.now = length-map c.args.drivers.now (λ n. n.0) in omega arith) at))
