@@ -8,6 +8,8 @@ mod learning;
 mod lessons;
 mod refuting;
 mod telling;
+#[cfg(test)]
+mod tests;
 mod writing;
 
 pub use refuting::refute;
