@@ -1,8 +1,8 @@
 // Nets as tables.
-ghost use Rattle.std.specs.Prelude.{◌≡◌, ◌≤◌, ◌+◌, ℕ, IsTrue, OnOk, length, map, true};
-ghost use Rattle.gate_net.specs.Net.{IsGateKind, IsLive};
-ghost use Rattle.gate_graph.specs.Circuit.{live_nodes, net_of, pins_taken};
-ghost use Rattle.pin_pool.specs.Ring.{has};
+ghost use Rattle.std.specs.Prelude.{◌≡◌, ◌≢◌, ◌≤◌, ◌+◌, OnOk, length};
+ghost use Rattle.gate_net.specs.Net.{IsGateKind};
+ghost use Rattle.gate_net.specs.declared.Kind.TheVariants.{Not};
+ghost use Rattle.gate_graph.specs.Circuit.{live_nodes, pins_taken};
 
 use gate_graph::Graph;
 use gate_net::Kind;
@@ -18,35 +18,56 @@ pub enum Gate {
     Not(u32),
 }
 
-// Whether the nodes are live.
-fn are_live(graph: &Graph, drivers: &[NodeId]) -> bool
-    ensures { IsTrue result → (d : ℕ) → has d (map (λ n. n.0) drivers.now) ≡ true → IsLive (net_of graph.now) d }
-{
-    for driver in drivers {
-        if graph.kind(*driver).is_none() {
-            return false;
-        }
-    }
-    true
-}
-
-fn add(graph: &mut Graph, kind: Kind, drivers: &[NodeId]) -> Result<bool, NoMemory>
+// Adds an And or an Or of two live drivers.
+fn add_two(graph: &mut Graph, kind: Kind, one: u32, other: u32) -> Result<bool, NoMemory>
     requires kind { IsGateKind kind }
-    requires one { length drivers.now ≤ 3 }
+    requires more { kind ≢ Not }
     requires pins { pins_taken graph.old ≤ 100000 }
     requires nodes { live_nodes graph.old ≤ 100000 }
     ensures pins { OnOk result (pins_taken graph.new ≤ pins_taken graph.old + 3) }
     ensures nodes { OnOk result (live_nodes graph.new ≤ live_nodes graph.old + 1) }
 {
-    if kind == Kind::Not {
-        if drivers.len() != 1 {
-            return Ok(false);
-        }
-    }
-    if !are_live(graph, drivers) {
+    let Some(_) = graph.kind(NodeId(one)) else {
         return Ok(false);
-    }
-    graph.add_gate(kind, drivers)?;
+    };
+    let Some(_) = graph.kind(NodeId(other)) else {
+        return Ok(false);
+    };
+    graph.add_gate(kind, &[NodeId(one), NodeId(other)])?;
+    Ok(true)
+}
+
+// Adds an Or of three live drivers.
+fn add_three(graph: &mut Graph, one: u32, other: u32, third: u32) -> Result<bool, NoMemory>
+    requires pins { pins_taken graph.old ≤ 100000 }
+    requires nodes { live_nodes graph.old ≤ 100000 }
+    ensures pins { OnOk result (pins_taken graph.new ≤ pins_taken graph.old + 3) }
+    ensures nodes { OnOk result (live_nodes graph.new ≤ live_nodes graph.old + 1) }
+{
+    let Some(_) = graph.kind(NodeId(one)) else {
+        return Ok(false);
+    };
+    let Some(_) = graph.kind(NodeId(other)) else {
+        return Ok(false);
+    };
+    let Some(_) = graph.kind(NodeId(third)) else {
+        return Ok(false);
+    };
+    graph.add_gate(Kind::Or, &[NodeId(one), NodeId(other), NodeId(third)])?;
+    Ok(true)
+}
+
+// Adds a Not of a live driver.
+fn add_not(graph: &mut Graph, driver: u32) -> Result<bool, NoMemory>
+    requires pins { pins_taken graph.old ≤ 100000 }
+    requires nodes { live_nodes graph.old ≤ 100000 }
+    ensures pins { OnOk result (pins_taken graph.new ≤ pins_taken graph.old + 3) }
+    ensures nodes { OnOk result (live_nodes graph.new ≤ live_nodes graph.old + 1) }
+{
+    let Some(_) = graph.kind(NodeId(driver)) else {
+        return Ok(false);
+    };
+    graph.add_gate(Kind::Not, &[NodeId(driver)])?;
     Ok(true)
 }
 
@@ -57,16 +78,10 @@ fn add_gate(graph: &mut Graph, gate: Gate) -> Result<bool, NoMemory>
     ensures nodes { OnOk result (live_nodes graph.new ≤ live_nodes graph.old + 1) }
 {
     match gate {
-        Gate::And([one, other]) => add(graph, Kind::And, &[NodeId(one), NodeId(other)]),
-        Gate::Or([one, other]) => add(graph, Kind::Or, &[NodeId(one), NodeId(other)]),
-        Gate::OrOfThree([one, other, third]) => {
-            add(
-                graph,
-                Kind::Or,
-                &[NodeId(one), NodeId(other), NodeId(third)],
-            )
-        }
-        Gate::Not(driver) => add(graph, Kind::Not, &[NodeId(driver)]),
+        Gate::And([one, other]) => add_two(graph, Kind::And, one, other),
+        Gate::Or([one, other]) => add_two(graph, Kind::Or, one, other),
+        Gate::OrOfThree([one, other, third]) => add_three(graph, one, other, third),
+        Gate::Not(driver) => add_not(graph, driver),
     }
 }
 
