@@ -8,8 +8,8 @@ ghost use Rattle.refutation.specs.Branches.{AreAccepted};
 ghost use Rattle.refutation.specs.Facts.{none_held};
 ghost use Rattle.refutation.specs.FactSets.{held_by};
 ghost use Rattle.refutation.specs.Learning.{LeadsToClash};
-ghost use Rattle.recursive_learning.specs.Answers.{IsRefuting};
-ghost use Rattle.recursive_learning.specs.Working.{AreSettled};
+ghost use Rattle.recursive_learning.specs.Answers.{IsDeepened, IsRefuting};
+ghost use Rattle.recursive_learning.specs.Working.{AreSettled, Keeps};
 ghost use Rattle.recursive_learning.specs.Least.{AreForced};
 
 use crate::learning::learn;
@@ -71,6 +71,32 @@ fn tree_of(
     }
 }
 
+// Learns from closed facts to one depth after another; the first at which they lead to a clash.
+fn deepen(
+    alloc: Global,
+    engine: &mut Engine,
+    graph: &Graph,
+    fault: &Fault,
+    facts: &mut FactSet,
+    depth: u8,
+) -> Result<Option<u8>, NoMemory>
+    requires pin { HasPin (net_of graph.now) fault.now }
+    requires numbers { length (net_of graph.now).nodes ≤ engine.old.numbers }
+    requires size { length (net_of graph.now).nodes ≤ length facts.old }
+    requires settled { AreSettled (net_of graph.now) fault.now (held_by facts.old) }
+    requires depth { depth ≤ 2 }
+    ensures deepened { IfOk result (λ level. IsDeepened (net_of graph.now) fault.now depth (held_by facts.old) level (held_by facts.new)) }
+    ensures keeps { IfOk result (λ _. Keeps engine.old engine.new facts.old facts.new) }
+{
+    let _mark = engine.mark();
+    for level in 0..depth {
+        if learn(alloc, engine, graph, fault, facts, level + 1)? {
+            return Ok(Some(level + 1));
+        }
+    }
+    Ok(None)
+}
+
 // Learns from closed facts to the depth.
 fn refute_open(
     alloc: Global,
@@ -85,6 +111,7 @@ fn refute_open(
     requires size { length (net_of graph.now).nodes ≤ length facts }
     requires settled { AreSettled (net_of graph.now) fault.now (held_by facts) }
     requires forced { AreForced (net_of graph.now) fault.now 0 none_held (held_by facts) }
+    requires depth { depth ≤ 2 }
     ensures refuting { IfOk result (IsRefuting (net_of graph.now) fault.now depth) }
     ensures numbers { OnOk result (engine.new.numbers ≡ engine.old.numbers) }
     ensures trail { OnOk result (length engine.new.trail ≡ length engine.old.trail) }
@@ -92,19 +119,19 @@ fn refute_open(
     let mut held = facts;
     let mut nothing = FactSet::for_numbers(alloc, 0)?;
     let mark = engine.mark();
-    let clash = learn(alloc, engine, graph, fault, &mut held, depth)?;
+    let clash = deepen(alloc, engine, graph, fault, &mut held, depth)?;
     // What was learned stays: the trail is cut without it.
     engine.take_back(&mut nothing, mark);
-    if clash {
-        Ok(Closed::Clash(tree_of(alloc, engine, graph, fault, depth)?))
-    } else {
-        Ok(Closed::Open(held))
-    }
+    let Some(level) = clash else {
+        return Ok(Closed::Open(held));
+    };
+    let tree = tree_of(alloc, engine, graph, fault, level)?;
+    Ok(Closed::Clash(tree))
 }
 
 /// Refutes a stuck pin by learning to the depth. `Clash` comes exactly where no set of facts without opposed facts is
 /// closed at that depth, and its tree is made again from the start, as an `Open` keeps no lines; `Open` has the least
-/// such set. The engine's lines are then those of some call on the way.
+/// such set. It looks for a clash at the smaller depths first. The engine's lines are then those of some call on the way.
 pub fn refute(
     alloc: Global,
     engine: &mut Engine,
