@@ -55,6 +55,11 @@ abbrev pub ClashesStay : Type 0
 ClashesStay =
     (net : Net) (fault : Fault) (depth : ℕ) (held more : Held) → IsWithin held more → LeadsToClash net fault depth held → LeadsToClash net fault depth more
 
+-- what leads to a clash at a depth still does at a larger one
+abbrev pub ClashesDeepen : Type 0
+ClashesDeepen =
+    (net : Net) (fault : Fault) (level depth : ℕ) (held : Held) → level ≤ depth → LeadsToClash net fault level held → LeadsToClash net fault depth held
+
 -- under the opposite of a learned value each justification leads to a clash, also with more facts
 abbrev pub OppositesClash : Type 0
 OppositesClash =

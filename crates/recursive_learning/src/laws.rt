@@ -1,5 +1,5 @@
 //! What the justifications of a gate teach, and what stays under more facts.
-ghost use Rattle.recursive_learning.specs.Gates.{ClashesAreLearned, ClashesStay, OppositesClash, ValuesAreLearned};
+ghost use Rattle.recursive_learning.specs.Gates.{ClashesAreLearned, ClashesDeepen, ClashesStay, OppositesClash, ValuesAreLearned};
 
 /// What all justifications of a gate come to is forced.
 pub fn gates_teach()
@@ -7,8 +7,10 @@ pub fn gates_teach()
     ensures values { ValuesAreLearned }
 {}
 
-/// What leads to a clash does so under more facts, and under the opposite of a learned value.
+/// What leads to a clash does so under more facts and at larger depths; and under the opposite of a learned value each
+/// justification does.
 pub fn clashes_stay()
     ensures stay { ClashesStay }
+    ensures deepen { ClashesDeepen }
     ensures opposites { OppositesClash }
 {}
