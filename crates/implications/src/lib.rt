@@ -16,6 +16,8 @@ mod reaching;
 mod settling;
 mod side_line;
 mod state;
+#[cfg(test)]
+mod tests;
 
 pub use outcome::Closed;
 pub use state::Engine;

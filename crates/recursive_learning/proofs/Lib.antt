@@ -1,0 +1,14 @@
+pub mod Learns
+pub mod Live
+pub mod Added
+pub mod Tells
+pub mod Open
+pub mod OpenDrivers
+pub mod Goods
+pub mod Gains
+pub mod Commons
+pub mod Rounds
+pub mod Vecs
+pub mod Splits
+pub mod Writes
+pub mod Refutes

@@ -1,0 +1,121 @@
+-- Writing what the gates teach, one after another.
+use Rattle.std.proofs.Common.{Bool, List, None, Some, arith, false, inl, inr, length, refl, subst, suc, sym, true, zero, ℕ, ◌+◌, ◌<◌, ◌∙◌, ◌∷◌, ◌≡◌, ◌≤◌, ◌⊎◌}
+use Rattle.std.proofs.lemmas.Bool.{cases_lt}
+use Rattle.std.specs.Prelude.{IsTrue, not, slice_get}
+use Rattle.gate_net.specs.Net.{Net}
+use Rattle.implications.specs.State.{EngineState}
+use Rattle.recursive_learning.proofs.Gains.{keeps_join, keeps_none}
+use Rattle.recursive_learning.proofs.Rounds.{junction_below}
+use Rattle.recursive_learning.proofs.Splits.{told_join}
+use Rattle.recursive_learning.proofs.Tells.{writes_join, writes_none}
+use Rattle.recursive_learning.specs.Gates.{HasTaught}
+use Rattle.recursive_learning.specs.Telling.{Ends, IsTold, Leads, branch}
+use Rattle.recursive_learning.specs.Working.{AreSettled, Keeps}
+use Rattle.recursive_learning.specs.Writing.{IsWritten}
+use Rattle.refutation.specs.FactSets.{held_by, missing}
+use Rattle.refutation.specs.Facts.{Held, known_good}
+use Rattle.refutation.specs.Learning.{LeadsToClash}
+use Rattle.refutation.specs.declared.held.NodeFacts.{NodeFacts}
+use Rattle.refutation.specs.declared.items.Item.{Item}
+use Rattle.refutation.specs.declared.reasoning.Fact.TheVariants.{Good}
+use Rattle.rm_base.specs.declared.numbers.Fault.{Fault}
+
+-- the branch has gone on to these facts
+pub record Going (net : Net) (fault : Fault) (before after : EngineState) (start now : List NodeFacts) (items then : List Item) : Type 0 where
+  pub keeps : Keeps before after start now
+  pub settled : AreSettled net fault (held_by now)
+  pub leads : Leads net fault (held_by start) items (held_by now) then
+
+pub going_none : (net : Net) (fault : Fault) (e : EngineState) (start : List NodeFacts) (items : List Item) → AreSettled net fault (held_by start) → Going net fault e e start start items items
+going_none net fault e start items settled = record { keeps = keeps_none e start; settled = settled; leads = writes_none net fault (branch (held_by start)) items }
+
+pub going_more : (net : Net) (fault : Fault) (a b c : EngineState) (start now next : List NodeFacts) (items middle after : List Item) → Going net fault a b start now items middle → Keeps b c now next → IsTold net fault (held_by now) middle false (held_by next) after → Going net fault a c start next items after
+going_more net fault a b c start now next items middle after g keeps told = record {
+  keeps = keeps_join a b c start now next g.keeps keeps;
+  settled = told.1;
+  leads = writes_join net fault (branch (held_by start)) (branch (held_by now)) (branch (held_by next)) items middle after g.leads told.0;
+}
+
+pub going_ends : (net : Net) (fault : Fault) (a b : EngineState) (start now : List NodeFacts) (items middle after : List Item) → Going net fault a b start now items middle → Ends net fault (held_by now) middle after → Ends net fault (held_by start) items after
+going_ends net fault a b start now items middle after g ends = told_join net fault (held_by start) items middle after (held_by now) (held_by now) true g.leads ends
+
+-- A PASS
+pub record PassWriting (net : Net) (fault : Fault) (depth number : ℕ) (before after : EngineState) (start now : List NodeFacts) (items then : List Item) : Type 0 where
+  pub going : Going net fault before after start now items then
+  pub state : ((now ≡ start) × ((y : ℕ) → y < number → HasTaught net fault depth (held_by start) y)) ⊎ (missing now < missing start)
+
+pub pass_none : (net : Net) (fault : Fault) (depth : ℕ) (e : EngineState) (start : List NodeFacts) (items : List Item) → AreSettled net fault (held_by start) → PassWriting net fault depth 0 e e start start items items
+pass_none net fault depth e start items settled = record { going = going_none net fault e start items settled; state = inl (refl, λ y less. absurd (omega arith)) }
+
+pub pass_more : (net : Net) (fault : Fault) (depth number : ℕ) (a b c : EngineState) (start now next : List NodeFacts) (items middle after : List Item) → PassWriting net fault depth number a b start now items middle → Keeps b c now next → IsWritten net fault depth number now middle false next after → PassWriting net fault depth (number + 1) a c start next items after
+pass_more net fault depth number a b c start now next items middle after p keeps (inl (same, (still, taught))) =
+    subst (λ (f : List NodeFacts). PassWriting net fault depth (number + 1) a c start f items after) (sym same)
+    (subst (λ (is : List Item). PassWriting net fault depth (number + 1) a c start now items is) (sym still) (record {
+      going = record { keeps = keeps_join a b c start now now p.going.keeps (subst (λ (f : List NodeFacts). Keeps b c now f) same keeps); settled = p.going.settled; leads = p.going.leads };
+      state = elim p.state [
+        | inl quiet ↦ inl (
+          quiet.0,
+          λ y less. elim (cases_lt y number) [
+            | inl lt ↦ quiet.1 y lt
+            | inr ge ↦ let is : number ≡ y = omega arith in subst (λ (f : List NodeFacts). HasTaught net fault depth (held_by f) y) quiet.0 (subst (HasTaught net fault depth (held_by now)) is taught)
+          ],
+        )
+        | inr less ↦ inr less
+      ];
+    }))
+pass_more net fault depth number a b c start now next items middle after p keeps (inr (told, fewer)) = record {
+  going = going_more net fault a b c start now next items middle after p.going keeps told;
+  state = inr (elim p.state [
+    | inl quiet ↦ subst (λ (f : List NodeFacts). missing next < missing f) quiet.0 fewer
+    | inr less ↦ let one : missing now < missing start = less in let other : missing next < missing now = fewer in omega arith
+  ]);
+}
+
+pub pass_fewer : (net : Net) (fault : Fault) (depth number : ℕ) (a b : EngineState) (start now : List NodeFacts) (items then : List Item) → length net.nodes ≤ number → PassWriting net fault depth number a b start now items then → AreSettled net fault (held_by start) → LeadsToClash net fault (suc depth) (held_by start) → missing now < missing start
+pass_fewer net fault depth number a b start now items then end p settled clash = elim p.state [
+  | inl quiet ↦ absurd (clash (held_by start) (λ x fact e. e) settled.free (settled.closed, λ y c unjustified few. quiet.1 y (let below : y < length net.nodes = junction_below net y c unjustified.junction in omega arith) c unjustified few))
+  | inr less ↦ less
+]
+
+-- VALUES
+pub record GoodsWriting (net : Net) (fault : Fault) (index : ℕ) (before after : EngineState) (start now : List NodeFacts) (items then : List Item) : Type 0 where
+  pub going : Going net fault before after start now items then
+  pub begin : index ≡ 0 → now ≡ start
+  pub fewer : 0 < index → missing now < missing start
+
+pub goods_none : (net : Net) (fault : Fault) (e : EngineState) (start : List NodeFacts) (items : List Item) → AreSettled net fault (held_by start) → GoodsWriting net fault 0 e e start start items items
+goods_none net fault e start items settled = record { going = going_none net fault e start items settled; begin = λ z. refl; fewer = λ z. absurd (omega arith) }
+
+pub goods_more : (net : Net) (fault : Fault) (index : ℕ) (a b c : EngineState) (start now next : List NodeFacts) (items middle after : List Item) (x : ℕ) → GoodsWriting net fault index a b start now items middle → known_good (held_by start) x ≡ None → Keeps b c now next → IsTold net fault (held_by now) middle false (held_by next) after → missing next ≤ missing now → (known_good (held_by now) x ≡ None → missing next < missing now) → GoodsWriting net fault (index + 1) a c start next items after
+goods_more net fault index a b c start now next items middle after x w unknown keeps told less fewer = record {
+  going = going_more net fault a b c start now next items middle after w.going keeps told;
+  begin = λ z. absurd (omega arith);
+  fewer = λ z. at index refl;
+}
+  where
+    at : (n : ℕ) → index ≡ n → missing next < missing start
+    at zero is =
+        let same : now ≡ start = w.begin is in
+        let first : missing next < missing now = fewer (subst (λ (f : List NodeFacts). known_good (held_by f) x ≡ None) (sym same) unknown) in
+        subst (λ (f : List NodeFacts). missing next < missing f) same first
+    at (suc n) is = let more : missing now < missing start = w.fewer (omega arith) in omega arith
+
+one_place : (ds : List ℕ) (k d e : ℕ) → slice_get ds k ≡ Some d → slice_get ds k ≡ Some e → d ≡ e
+one_place ds k d e one other = cc
+
+-- CASES
+pub record CasesWriting (net : Net) (fault : Fault) (c : Bool) (ds : List ℕ) (index : ℕ) (before after : EngineState) (start now : List NodeFacts) (items then : List Item) : Type 0 where
+  pub going : Going net fault before after start now items then
+  pub others : (k d : ℕ) → k < index → slice_get ds k ≡ Some d → IsTrue (held_by now d (Good (not c)))
+
+pub cases_none : (net : Net) (fault : Fault) (c : Bool) (ds : List ℕ) (e : EngineState) (start : List NodeFacts) (items : List Item) → AreSettled net fault (held_by start) → CasesWriting net fault c ds 0 e e start start items items
+cases_none net fault c ds e start items settled = record { going = going_none net fault e start items settled; others = λ k d less. absurd (omega arith) }
+
+pub cases_more : (net : Net) (fault : Fault) (value : Bool) (ds : List ℕ) (index d : ℕ) (a b c : EngineState) (start now next : List NodeFacts) (items middle after : List Item) → CasesWriting net fault value ds index a b start now items middle → slice_get ds index ≡ Some d → Keeps b c now next → IsTold net fault (held_by now) middle false (held_by next) after → IsTrue (held_by next d (Good (not value))) → CasesWriting net fault value ds (index + 1) a c start next items after
+cases_more net fault value ds index d a b c start now next items middle after w there keeps told other = record {
+  going = going_more net fault a b c start now next items middle after w.going keeps told;
+  others = λ k e less at. elim (cases_lt k index) [
+    | inl lt ↦ keeps.more e (Good (not value)) (w.others k e lt at)
+    | inr ge ↦ let is : k ≡ index = omega arith in subst (λ (n : ℕ). IsTrue (held_by next n (Good (not value)))) (one_place ds index d e there (subst (λ (m : ℕ). slice_get ds m ≡ Some e) is at)) other
+  ];
+}

@@ -1,0 +1,23 @@
+use Rattle.std.proofs.Common.{Bool, arith, false, subst, true, ◌+◌}
+use Rattle.gate_graph.specs.Circuit.{net_of}
+use Rattle.recursive_learning.proofs.Gains.{keeps_join}
+use Rattle.recursive_learning.proofs.Refutes.{deepening_clash, deepening_more, deepening_none}
+use Rattle.recursive_learning.specs.Working.{IsLearned}
+use Rattle.refutation.specs.FactSets.{held_by}
+use Rattle.recursive_learning.proofs.refuting.deepen.Goals as goal
+
+pub loop-level-init : goal.loop-level-init
+loop-level-init c = deepening_none (net_of c.args.graph.now) c.args.fault.now c.args.engine.now c.args.facts.now c.requires.settled
+
+pub loop-level-preserved : goal.loop-level-preserved
+loop-level-preserved c =
+    deepening_more (net_of c.args.graph.now) c.args.fault.now c.loop-level.level c.args.engine.now c.loop-level.engine c.learn.new.engine c.args.facts.now c.loop-level.facts c.learn.new.facts c.loop-level.invariant c.in_ok-learn.ensures.keeps
+    (subst (λ (b : Bool). IsLearned (net_of c.args.graph.now) c.args.fault.now (c.loop-level.level + 1) (held_by c.loop-level.facts) b (held_by c.learn.new.facts)) c.if-branch.false c.in_ok-learn.ensures.learned)
+
+pub returns-then-branch-clause-deepened : goal.returns-then-branch-clause-deepened
+returns-then-branch-clause-deepened c = (omega arith,
+    deepening_clash (net_of c.args.graph.now) c.args.fault.now c.loop-level.level c.args.engine.now c.loop-level.engine c.args.facts.now c.loop-level.facts c.loop-level.invariant
+    (subst (λ (b : Bool). IsLearned (net_of c.args.graph.now) c.args.fault.now (c.loop-level.level + 1) (held_by c.loop-level.facts) b (held_by c.learn.new.facts)) c.if-branch.true c.in_ok-learn.ensures.learned))
+
+pub returns-then-branch-clause-keeps : goal.returns-then-branch-clause-keeps
+returns-then-branch-clause-keeps c = keeps_join c.args.engine.now c.loop-level.engine c.learn.new.engine c.args.facts.now c.loop-level.facts c.learn.new.facts c.loop-level.invariant.keeps c.in_ok-learn.ensures.keeps

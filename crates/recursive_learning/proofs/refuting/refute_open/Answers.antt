@@ -1,0 +1,22 @@
+use Rattle.std.proofs.Common.{None, Option, Some, subst, ℕ}
+use Rattle.gate_graph.specs.Circuit.{net_of}
+use Rattle.implications.specs.Trail.{LeadsBack}
+use Rattle.recursive_learning.proofs.Refutes.{clash_at_deeper, clash_of_all, least_of_all}
+use Rattle.recursive_learning.specs.Answers.{IsDeepened}
+use Rattle.refutation.specs.FactSets.{held_by}
+use Rattle.refutation.specs.Facts.{none_held}
+use Rattle.recursive_learning.proofs.refuting.refute_open.Goals as goal
+
+pub take_back-requires : goal.take_back-requires
+take_back-requires c =
+    let h : LeadsBack c.deepen.new.engine.trail c.mark-mark.result c.deepen.new.facts c.args.facts = c.in_ok-clash.ensures.keeps.back c.mark-mark.result c.args.facts (c.mark-mark.ensures.back c.args.facts) in
+    h.order
+
+pub tree_of-requires-clause-clash : goal.tree_of-requires-clause-clash
+tree_of-requires-clause-clash c = clash_of_all (net_of c.args.graph.now) c.args.fault.now c.in-Some.level (held_by c.args.facts) c.requires.forced (subst (λ (o : Option ℕ). IsDeepened (net_of c.args.graph.now) c.args.fault.now c.args.depth (held_by c.args.facts) o (held_by c.deepen.new.facts)) c.in-Some.is c.in_ok-clash.ensures.deepened).1
+
+pub returns-clause-refuting : goal.returns-clause-refuting
+returns-clause-refuting c = (clash_at_deeper (net_of c.args.graph.now) c.args.fault.now c.in-Some.level c.args.depth none_held (subst (λ (o : Option ℕ). IsDeepened (net_of c.args.graph.now) c.args.fault.now c.args.depth (held_by c.args.facts) o (held_by c.deepen.new.facts)) c.in-Some.is c.in_ok-clash.ensures.deepened).0 (clash_of_all (net_of c.args.graph.now) c.args.fault.now c.in-Some.level (held_by c.args.facts) c.requires.forced (subst (λ (o : Option ℕ). IsDeepened (net_of c.args.graph.now) c.args.fault.now c.args.depth (held_by c.args.facts) o (held_by c.deepen.new.facts)) c.in-Some.is c.in_ok-clash.ensures.deepened).1), c.in_ok-tree.ensures.accepted)
+
+pub returns-in_default-clause-refuting : goal.returns-in_default-clause-refuting
+returns-in_default-clause-refuting c = (least_of_all (net_of c.args.graph.now) c.args.fault.now c.args.depth (held_by c.args.facts) (held_by c.deepen.new.facts) c.requires.forced (subst (λ (o : Option ℕ). IsDeepened (net_of c.args.graph.now) c.args.fault.now c.args.depth (held_by c.args.facts) o (held_by c.deepen.new.facts)) c.in_default.is c.in_ok-clash.ensures.deepened), rw c.in_ok-clash.ensures.keeps.size c.requires.size)

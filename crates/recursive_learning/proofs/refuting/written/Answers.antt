@@ -1,0 +1,20 @@
+use Rattle.std.proofs.Common.{List, [], ap, map, sym, ◌++◌, ◌∙◌}
+use Rattle.gate_graph.specs.Circuit.{net_of}
+use Rattle.implications.specs.Trail.{LeadsBack}
+use Rattle.recursive_learning.proofs.Refutes.{written_accepted}
+use Rattle.recursive_learning.specs.Telling.{line_item}
+use Rattle.refutation.specs.FactSets.{held_by}
+use Rattle.refutation.specs.declared.items.Item.{Item}
+use Rattle.refutation.specs.declared.reasoning.Line.{Line}
+use Rattle.recursive_learning.proofs.refuting.written.Goals as goal
+
+pub take_back-requires : goal.take_back-requires
+take_back-requires c =
+    let h : LeadsBack c.write.new.engine.trail c.mark-mark.result c.write.new.facts c.args.facts = c.in_ok-write.ensures.keeps.back c.mark-mark.result c.args.facts (c.mark-mark.ensures.back c.args.facts) in
+    h.order
+
+pub returns-clause-accepted : goal.returns-clause-accepted
+returns-clause-accepted c =
+    rw c.finish.ensures
+    (written_accepted (net_of c.args.graph.now) c.args.fault.now c.args.engine.now.lines (held_by c.args.facts) c.push_lines.new.tree c.write.new.tree c.requires.lines
+    (c.in_ok-push_lines.ensures ∙ ap (λ (items : List Item). items ++ map line_item c.lines.result.now) c.new-tree.ensures ∙ ap (λ (lines : List Line). [] ++ map line_item lines) c.lines.ensures) c.in_ok-write.ensures.ends)

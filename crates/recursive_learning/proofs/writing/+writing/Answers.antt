@@ -1,0 +1,314 @@
+use Rattle.std.proofs.Common.{Bool, List, None, Some, [], ap, arith, false, get_or, length, map, not, rules, subst, suc, sym, true, ◌++◌, ◌-◌, ◌<◌, ◌∙◌, ◌∷◌, ◌≡◌, ◌≢◌, ◌≤◌, ℕ}
+use Rattle.std.proofs.lemmas.List.{length-map}
+use Rattle.std.proofs.lemmas.Option.{slice_get-get_or}
+use Rattle.std.specs.Prelude.{slice_get}
+use Rattle.gate_graph.specs.Circuit.{net_of}
+use Rattle.implications.specs.Trail.{LeadsBack}
+use Rattle.recursive_learning.proofs.Gains.{keeps_join}
+use Rattle.recursive_learning.proofs.Learns.{clashes_stay}
+use Rattle.recursive_learning.proofs.Live.{driver_live}
+use Rattle.recursive_learning.proofs.Rounds.{taken_back}
+use Rattle.recursive_learning.proofs.Splits.{beq_other, lesson_cases, lesson_opposite, may_split, no_driver, not_not, opposite_cases, place_less, split_told, told_ends}
+use Rattle.recursive_learning.proofs.Vecs.{driver_at}
+use Rattle.recursive_learning.proofs.Writes.{cases_more, going_ends, going_more, goods_more, pass_fewer, pass_more}
+use Rattle.recursive_learning.specs.Lessons.{IsLesson, Teaches}
+use Rattle.recursive_learning.specs.Telling.{Ends, IsTold}
+use Rattle.recursive_learning.specs.Working.{AreSettled, Keeps}
+use Rattle.recursive_learning.specs.Writing.{IsWritten}
+use Rattle.refutation.proofs.Depths.{known_held}
+use Rattle.refutation.specs.FactSets.{held_by, missing}
+use Rattle.refutation.specs.Facts.{known_good, with_fact}
+use Rattle.refutation.specs.Learning.{LeadsToClash}
+use Rattle.refutation.specs.declared.held.NodeFacts.{NodeFacts}
+use Rattle.refutation.specs.declared.items.Item.{Item}
+use Rattle.refutation.specs.declared.items.Item.TheVariants.{Split}
+use Rattle.refutation.specs.declared.reasoning.Fact.TheVariants.{Good}
+use Rattle.recursive_learning.proofs.writing.+writing.Goals as goal
+use Rattle.recursive_learning.proofs.writing.+writing.Goals.{write_branches-else-not-branch, write_branches-then-not-branch+in_ok-write, write_split-else-not-branch, write_split-then-not-branch+in_ok-write_cases}
+
+pub write-returns-then-depth-eq0-clause-ends : goal.write-returns-then-depth-eq0-clause-ends
+write-returns-then-depth-eq0-clause-ends t c =
+    absurd (subst (λ (n : ℕ). LeadsToClash (net_of c.args.graph.now) c.args.fault.now n (held_by c.args.facts.now)) c.if-depth-eq0.true c.requires.clash (held_by c.args.facts.now) (λ x fact e. e) c.requires.settled.free c.requires.settled.closed)
+
+pub write-write_pass-requires : goal.write-write_pass-requires
+write-write_pass-requires t c =
+    let e : suc (c.args.depth - 1) ≡ c.args.depth = let deep : c.args.depth ≢ 0 = c.loop.invariant.deep in omega arith in
+    (search rules, (c.requires.pin, (rw c.loop.invariant.going.keeps.numbers c.requires.numbers, (rw c.loop.invariant.going.keeps.size c.requires.size, (c.loop.invariant.going.settled, subst (λ (n : ℕ). LeadsToClash (net_of c.args.graph.now) c.args.fault.now n (held_by c.loop.facts)) (sym e) c.loop.invariant.clash)))))
+
+pub write-loop-preserved : goal.write-loop-preserved
+write-loop-preserved t c =
+    record {
+      going = going_more (net_of c.args.graph.now) c.args.fault.now c.args.engine.now c.loop.engine c.write_pass.new.engine c.args.facts.now c.loop.facts c.write_pass.new.facts c.args.tree.now c.loop.tree c.write_pass.new.tree c.loop.invariant.going c.in_ok-write_pass.ensures.keeps
+          (subst (λ (b : Bool). IsTold (net_of c.args.graph.now) c.args.fault.now (held_by c.loop.facts) c.loop.tree b (held_by c.write_pass.new.facts) c.write_pass.new.tree) c.if-not-branch.true c.in_ok-write_pass.ensures.told);
+      clash = clashes_stay (net_of c.args.graph.now) c.args.fault.now c.args.depth (held_by c.loop.facts) (held_by c.write_pass.new.facts) c.in_ok-write_pass.ensures.keeps.more c.loop.invariant.clash;
+      deep = c.loop.invariant.deep;
+    }
+
+pub write-returns-clause-keeps : goal.write-returns-clause-keeps
+write-returns-clause-keeps t c =
+    keeps_join c.args.engine.now c.loop.engine c.write_pass.new.engine c.args.facts.now c.loop.facts c.write_pass.new.facts c.loop.invariant.going.keeps c.in_ok-write_pass.ensures.keeps
+
+pub write_pass-loop-number-preserved : goal.write_pass-loop-number-preserved
+write_pass-loop-number-preserved t c =
+    pass_more (net_of c.args.graph.now) c.args.fault.now c.args.depth c.loop-number.number c.args.engine.now c.loop-number.engine c.write_gate.new.engine c.args.facts.now c.loop-number.facts c.write_gate.new.facts c.args.tree.now c.loop-number.tree c.write_gate.new.tree c.loop-number.invariant c.in_ok-write_gate.ensures.keeps
+    (subst (λ (b : Bool). IsWritten (net_of c.args.graph.now) c.args.fault.now c.args.depth c.loop-number.number c.loop-number.facts c.loop-number.tree b c.write_gate.new.facts c.write_gate.new.tree) c.if-branch.false c.in_ok-write_gate.ensures.written)
+
+pub write_pass-returns-clause-fewer : goal.write_pass-returns-clause-fewer
+write_pass-returns-clause-fewer t c none =
+    pass_fewer (net_of c.args.graph.now) c.args.fault.now c.args.depth c.loop-number.number c.args.engine.now c.loop-number.engine c.args.facts.now c.loop-number.facts c.args.tree.now c.loop-number.tree (let bound = c.node_bound-number-end.ensures in omega arith) c.loop-number.invariant c.requires.settled c.requires.clash
+
+pub write_pass-returns-then-branch-clause-keeps : goal.write_pass-returns-then-branch-clause-keeps
+write_pass-returns-then-branch-clause-keeps t c =
+    keeps_join c.args.engine.now c.loop-number.engine c.write_gate.new.engine c.args.facts.now c.loop-number.facts c.write_gate.new.facts c.loop-number.invariant.going.keeps c.in_ok-write_gate.ensures.keeps
+
+pub write_gate-returns-clause-keeps : goal.write_gate-returns-clause-keeps
+write_gate-returns-clause-keeps t c =
+    keeps_join c.args.engine.now c.lesson_at.new.engine c.write_cases.new.engine c.args.facts.now c.lesson_at.new.facts c.write_cases.new.facts c.in_ok-lesson.ensures.keeps c.in_ok-write_cases.ensures.keeps
+
+pub write_gate-returns-then-lesson-clause-keeps : goal.write_gate-returns-then-lesson-clause-keeps
+write_gate-returns-then-lesson-clause-keeps t c =
+    keeps_join c.args.engine.now c.lesson_at.new.engine c.write_goods.new.engine c.args.facts.now c.lesson_at.new.facts c.write_goods.new.facts c.in_ok-lesson.ensures.keeps c.in_ok-ended.ensures.keeps
+
+pub write_gate-write_cases-requires : goal.write_gate-write_cases-requires
+write_gate-write_cases-requires t c =
+    let l : IsLesson (net_of c.args.graph.now) c.args.fault.now c.args.depth (held_by c.args.facts.now) c.args.gate.0 c.in-Some.lesson.value (map (λ n. n.0) c.in-Some.lesson.drivers.items) c.in-Some.lesson.found c.in-Some.lesson.goods.items = (subst (Teaches (net_of c.args.graph.now) c.args.fault.now c.args.depth (held_by c.args.facts.now) c.args.gate.0) c.in-Some.is c.in_ok-lesson.ensures.lesson) in (
+      search rules,
+      (
+        c.requires.pin,
+        (
+          rw c.in_ok-lesson.ensures.keeps.numbers c.requires.numbers,
+          (
+            rw c.in_ok-lesson.ensures.keeps.size c.requires.size,
+            (
+              rw c.in_ok-lesson.ensures.same c.requires.settled,
+              rw (c.deref.ensures.value, c.in_ok-lesson.ensures.same) (lesson_cases (net_of c.args.graph.now) c.args.fault.now c.args.depth (held_by c.args.facts.now) c.args.gate.0 c.in-Some.lesson.value (map (λ n. n.0) c.in-Some.lesson.drivers.items) c.in-Some.lesson.found c.in-Some.lesson.goods.items l c.if-lesson.false),
+            ),
+          ),
+        ),
+      ),
+    )
+
+pub write_goods-write_good-requires : goal.write_goods-write_good-requires
+write_goods-write_good-requires t c =
+    rw (c.deref.ensures.value, c.deref-good-items.ensures.value) (
+      search rules,
+      (
+        c.requires.pin,
+        (
+          rw c.loop-good.invariant.going.keeps.numbers c.requires.numbers,
+          (
+            rw c.loop-good.invariant.going.keeps.size c.requires.size,
+            (
+              c.loop-good.invariant.going.settled,
+              (
+                (c.requires.lesson.1.new c.requires.found c.loop-good.good-index (get_or c.args.lesson.now.goods.items c.loop-good.good-index (record { node = record { 0 = 0 }; value = false })) (slice_get-get_or c.args.lesson.now.goods.items c.loop-good.good-index (record { node = record { 0 = 0 }; value = false }) (omega (arith, ap length c.deref-good-items.ensures.value)))).live,
+                lesson_opposite (net_of c.args.graph.now) c.args.fault.now c.args.depth (held_by c.args.facts.now) (held_by c.loop-good.facts) c.requires.lesson.0 c.args.lesson.now.value (map (λ n. n.0) c.args.lesson.now.drivers.items) c.args.lesson.now.found c.args.lesson.now.goods.items c.loop-good.good-index (get_or c.args.lesson.now.goods.items c.loop-good.good-index (record { node = record { 0 = 0 }; value = false })) c.requires.lesson.1 c.requires.found (slice_get-get_or c.args.lesson.now.goods.items c.loop-good.good-index (record { node = record { 0 = 0 }; value = false }) (omega (arith, ap length c.deref-good-items.ensures.value))) c.loop-good.invariant.going.keeps.more c.loop-good.invariant.going.settled.free,
+              ),
+            ),
+          ),
+        ),
+      ),
+    )
+
+pub write_goods-loop-good-preserved : goal.write_goods-loop-good-preserved
+write_goods-loop-good-preserved t c =
+    let fewer : known_good (held_by c.loop-good.facts) (get_or c.args.lesson.now.goods.items c.loop-good.good-index (record { node = record { 0 = 0 }; value = false })).node.0 ≡ None → missing c.write_good.new.facts < missing c.loop-good.facts = rw c.deref-good-items.ensures.value at (c.in_ok-write_good.ensures.fewer c.if-branch.false) in
+    goods_more (net_of c.args.graph.now) c.args.fault.now c.loop-good.good-index c.args.engine.now c.loop-good.engine c.write_good.new.engine c.args.facts.now c.loop-good.facts c.write_good.new.facts c.args.tree.now c.loop-good.tree c.write_good.new.tree (get_or c.args.lesson.now.goods.items c.loop-good.good-index (record { node = record { 0 = 0 }; value = false })).node.0 c.loop-good.invariant (c.requires.lesson.1.new c.requires.found c.loop-good.good-index (get_or c.args.lesson.now.goods.items c.loop-good.good-index (record { node = record { 0 = 0 }; value = false })) (slice_get-get_or c.args.lesson.now.goods.items c.loop-good.good-index (record { node = record { 0 = 0 }; value = false }) (omega (arith, ap length c.deref-good-items.ensures.value)))).unknown c.in_ok-write_good.ensures.keeps
+    (subst (λ (b : Bool). IsTold (net_of c.args.graph.now) c.args.fault.now (held_by c.loop-good.facts) c.loop-good.tree b (held_by c.write_good.new.facts) c.write_good.new.tree) c.if-branch.false c.in_ok-write_good.ensures.told)
+    (c.in_ok-write_good.ensures.less c.if-branch.false) fewer
+
+pub write_goods-returns-then-branch-clause-keeps : goal.write_goods-returns-then-branch-clause-keeps
+write_goods-returns-then-branch-clause-keeps t c =
+    keeps_join c.args.engine.now c.loop-good.engine c.write_good.new.engine c.args.facts.now c.loop-good.facts c.write_good.new.facts c.loop-good.invariant.going.keeps c.in_ok-write_good.ensures.keeps
+
+pub write_goods-returns-then-branch-clause-told : goal.write_goods-returns-then-branch-clause-told
+write_goods-returns-then-branch-clause-told t c =
+    going_ends (net_of c.args.graph.now) c.args.fault.now c.args.engine.now c.loop-good.engine c.args.facts.now c.loop-good.facts c.args.tree.now c.loop-good.tree c.write_good.new.tree c.loop-good.invariant.going
+    (subst (λ (b : Bool). IsTold (net_of c.args.graph.now) c.args.fault.now (held_by c.loop-good.facts) c.loop-good.tree b (held_by c.write_good.new.facts) c.write_good.new.tree) c.if-branch.true c.in_ok-write_good.ensures.told)
+
+pub write_good-write_cases-requires : goal.write_good-write_cases-requires
+write_good-write_cases-requires t c =
+    let known : known_good (held_by c.args.facts.now) c.args.good.node.0 ≡ Some (not c.args.good.value) = sym c.known.ensures ∙ c.in-Some.is ∙ ap Some (beq_other c.in-Some.known_value c.args.good.value c.if-known_value-good.false) in (
+      search rules,
+      (
+        c.requires.pin,
+        (
+          c.requires.numbers,
+          (
+            c.requires.size,
+            (
+              c.requires.settled,
+              opposite_cases (net_of c.args.graph.now) c.args.fault.now c.args.depth (held_by c.args.facts.now) (held_by c.args.facts.now) c.args.value (map (λ n. n.0) c.args.drivers.now) c.args.good.node.0 c.args.good.value c.requires.cases (λ x fact e. e) c.requires.settled.free (known_held (held_by c.args.facts.now) c.args.good.node.0 (not c.args.good.value) known),
+            ),
+          ),
+        ),
+      ),
+    )
+
+pub write_split-take_back-requires : goal.write_split-take_back-requires
+write_split-take_back-requires t c =
+    let kept : Keeps c.args.engine.now c.if-not-branch.engine c.args.facts.now c.if-not-branch.facts = elim c.if-not-branch.branch [
+      | write_split-then-not-branch+in_ok-write_cases w ↦ rw (w.engine-is, w.facts-is) (keeps_join c.args.engine.now c.tell.new.engine w.write_cases.new.engine c.args.facts.now c.tell.new.facts w.write_cases.new.facts c.in_ok-tell.ensures.keeps w.in_ok-write_cases.ensures.keeps)
+      | write_split-else-not-branch w ↦ rw (w.engine-is, w.facts-is) c.in_ok-tell.ensures.keeps
+    ] in
+    let h : LeadsBack c.if-not-branch.engine.trail c.mark-mark.result c.if-not-branch.facts c.args.facts.now = kept.back c.mark-mark.result c.args.facts.now (c.mark-mark.ensures.back c.args.facts.now) in
+    h.order
+
+pub write_split-tell-requires-2-clause-settled : goal.write_split-tell-requires-2-clause-settled
+write_split-tell-requires-2-clause-settled t c =
+    let kept : Keeps c.args.engine.now c.if-not-branch.engine c.args.facts.now c.if-not-branch.facts = elim c.if-not-branch.branch [
+      | write_split-then-not-branch+in_ok-write_cases w ↦ rw (w.engine-is, w.facts-is) (keeps_join c.args.engine.now c.tell.new.engine w.write_cases.new.engine c.args.facts.now c.tell.new.facts w.write_cases.new.facts c.in_ok-tell.ensures.keeps w.in_ok-write_cases.ensures.keeps)
+      | write_split-else-not-branch w ↦ rw (w.engine-is, w.facts-is) c.in_ok-tell.ensures.keeps
+    ] in
+    let taken : (c.take_back.new.facts ≡ c.args.facts.now) × Keeps c.args.engine.now c.take_back.new.self c.args.facts.now c.take_back.new.facts = taken_back c.args.engine.now c.if-not-branch.engine c.take_back.new.self c.mark-mark.result c.args.facts.now c.if-not-branch.facts c.take_back.new.facts c.mark-mark.ensures.mark (c.mark-mark.ensures.back c.args.facts.now) kept c.take_back.ensures.back c.take_back.ensures.earlier c.take_back.ensures.numbers in
+    rw taken.0 c.requires.settled
+
+pub write_split-tell-requires-2-clause-unknown : goal.write_split-tell-requires-2-clause-unknown
+write_split-tell-requires-2-clause-unknown t c =
+    let kept : Keeps c.args.engine.now c.if-not-branch.engine c.args.facts.now c.if-not-branch.facts = elim c.if-not-branch.branch [
+      | write_split-then-not-branch+in_ok-write_cases w ↦ rw (w.engine-is, w.facts-is) (keeps_join c.args.engine.now c.tell.new.engine w.write_cases.new.engine c.args.facts.now c.tell.new.facts w.write_cases.new.facts c.in_ok-tell.ensures.keeps w.in_ok-write_cases.ensures.keeps)
+      | write_split-else-not-branch w ↦ rw (w.engine-is, w.facts-is) c.in_ok-tell.ensures.keeps
+    ] in
+    let taken : (c.take_back.new.facts ≡ c.args.facts.now) × Keeps c.args.engine.now c.take_back.new.self c.args.facts.now c.take_back.new.facts = taken_back c.args.engine.now c.if-not-branch.engine c.take_back.new.self c.mark-mark.result c.args.facts.now c.if-not-branch.facts c.take_back.new.facts c.mark-mark.ensures.mark (c.mark-mark.ensures.back c.args.facts.now) kept c.take_back.ensures.back c.take_back.ensures.earlier c.take_back.ensures.numbers in
+    rw taken.0 c.requires.unknown
+
+pub write_split-returns-clause-keeps : goal.write_split-returns-clause-keeps
+write_split-returns-clause-keeps t c =
+    let kept : Keeps c.args.engine.now c.if-not-branch.engine c.args.facts.now c.if-not-branch.facts = elim c.if-not-branch.branch [
+      | write_split-then-not-branch+in_ok-write_cases w ↦ rw (w.engine-is, w.facts-is) (keeps_join c.args.engine.now c.tell.new.engine w.write_cases.new.engine c.args.facts.now c.tell.new.facts w.write_cases.new.facts c.in_ok-tell.ensures.keeps w.in_ok-write_cases.ensures.keeps)
+      | write_split-else-not-branch w ↦ rw (w.engine-is, w.facts-is) c.in_ok-tell.ensures.keeps
+    ] in
+    let taken : (c.take_back.new.facts ≡ c.args.facts.now) × Keeps c.args.engine.now c.take_back.new.self c.args.facts.now c.take_back.new.facts = taken_back c.args.engine.now c.if-not-branch.engine c.take_back.new.self c.mark-mark.result c.args.facts.now c.if-not-branch.facts c.take_back.new.facts c.mark-mark.ensures.mark (c.mark-mark.ensures.back c.args.facts.now) kept c.take_back.ensures.back c.take_back.ensures.earlier c.take_back.ensures.numbers in
+    keeps_join c.args.engine.now c.take_back.new.self c.tell-2.new.engine c.args.facts.now c.take_back.new.facts c.tell-2.new.facts taken.1 c.in_ok-ended.ensures.keeps
+
+pub write_split-returns-clause-fewer : goal.write_split-returns-clause-fewer
+write_split-returns-clause-fewer t c none =
+    let kept : Keeps c.args.engine.now c.if-not-branch.engine c.args.facts.now c.if-not-branch.facts = elim c.if-not-branch.branch [
+      | write_split-then-not-branch+in_ok-write_cases w ↦ rw (w.engine-is, w.facts-is) (keeps_join c.args.engine.now c.tell.new.engine w.write_cases.new.engine c.args.facts.now c.tell.new.facts w.write_cases.new.facts c.in_ok-tell.ensures.keeps w.in_ok-write_cases.ensures.keeps)
+      | write_split-else-not-branch w ↦ rw (w.engine-is, w.facts-is) c.in_ok-tell.ensures.keeps
+    ] in
+    let taken : (c.take_back.new.facts ≡ c.args.facts.now) × Keeps c.args.engine.now c.take_back.new.self c.args.facts.now c.take_back.new.facts = taken_back c.args.engine.now c.if-not-branch.engine c.take_back.new.self c.mark-mark.result c.args.facts.now c.if-not-branch.facts c.take_back.new.facts c.mark-mark.ensures.mark (c.mark-mark.ensures.back c.args.facts.now) kept c.take_back.ensures.back c.take_back.ensures.earlier c.take_back.ensures.numbers in
+    subst (λ (f : List NodeFacts). missing c.tell-2.new.facts < missing f) taken.0 c.in_ok-ended.ensures.fewer
+
+pub write_split-returns-clause-told : goal.write_split-returns-clause-told
+write_split-returns-clause-told t c =
+    let kept : Keeps c.args.engine.now c.if-not-branch.engine c.args.facts.now c.if-not-branch.facts = elim c.if-not-branch.branch [
+      | write_split-then-not-branch+in_ok-write_cases w ↦ rw (w.engine-is, w.facts-is) (keeps_join c.args.engine.now c.tell.new.engine w.write_cases.new.engine c.args.facts.now c.tell.new.facts w.write_cases.new.facts c.in_ok-tell.ensures.keeps w.in_ok-write_cases.ensures.keeps)
+      | write_split-else-not-branch w ↦ rw (w.engine-is, w.facts-is) c.in_ok-tell.ensures.keeps
+    ] in
+    let taken : (c.take_back.new.facts ≡ c.args.facts.now) × Keeps c.args.engine.now c.take_back.new.self c.args.facts.now c.take_back.new.facts = taken_back c.args.engine.now c.if-not-branch.engine c.take_back.new.self c.mark-mark.result c.args.facts.now c.if-not-branch.facts c.take_back.new.facts c.mark-mark.ensures.mark (c.mark-mark.ensures.back c.args.facts.now) kept c.take_back.ensures.back c.take_back.ensures.earlier c.take_back.ensures.numbers in
+    let told : IsTold (net_of c.args.graph.now) c.args.fault.now (with_fact (held_by c.args.facts.now) c.args.good.node.0 (Good (not c.args.good.value))) (c.args.tree.now ++ Split c.args.good.node (not c.args.good.value) ∷ []) c.in_ok-tell.field-0 (held_by c.tell.new.facts) c.tell.new.tree = subst (λ (items : List Item). IsTold (net_of c.args.graph.now) c.args.fault.now (with_fact (held_by c.args.facts.now) c.args.good.node.0 (Good (not c.args.good.value))) items c.in_ok-tell.field-0 (held_by c.tell.new.facts) c.tell.new.tree) c.in_ok-push.ensures.ok c.in_ok-tell.ensures.told in
+    let ends : Ends (net_of c.args.graph.now) c.args.fault.now (with_fact (held_by c.args.facts.now) c.args.good.node.0 (Good (not c.args.good.value))) (c.args.tree.now ++ Split c.args.good.node (not c.args.good.value) ∷ []) c.if-not-branch.tree = elim c.if-not-branch.branch [
+      | write_split-then-not-branch+in_ok-write_cases w ↦ rw w.tree-is (told_ends (net_of c.args.graph.now) c.args.fault.now (with_fact (held_by c.args.facts.now) c.args.good.node.0 (Good (not c.args.good.value))) (c.args.tree.now ++ Split c.args.good.node (not c.args.good.value) ∷ []) c.tell.new.tree w.write_cases.new.tree (held_by c.tell.new.facts) (subst (λ (b : Bool). IsTold (net_of c.args.graph.now) c.args.fault.now (with_fact (held_by c.args.facts.now) c.args.good.node.0 (Good (not c.args.good.value))) (c.args.tree.now ++ Split c.args.good.node (not c.args.good.value) ∷ []) b (held_by c.tell.new.facts) c.tell.new.tree) w.if-not-branch.true told) w.in_ok-write_cases.ensures.ends)
+      | write_split-else-not-branch w ↦ rw w.tree-is (subst (λ (b : Bool). IsTold (net_of c.args.graph.now) c.args.fault.now (with_fact (held_by c.args.facts.now) c.args.good.node.0 (Good (not c.args.good.value))) (c.args.tree.now ++ Split c.args.good.node (not c.args.good.value) ∷ []) b (held_by c.tell.new.facts) c.tell.new.tree) w.if-not-branch.false told)
+    ] in
+    split_told (net_of c.args.graph.now) c.args.fault.now (held_by c.args.facts.now) c.args.good.node (not c.args.good.value) c.args.tree.now c.if-not-branch.tree c.tell-2.new.tree c.in_ok-ended.ended (held_by c.tell-2.new.facts) (may_split (net_of c.args.graph.now) c.args.fault.now (held_by c.args.facts.now) c.args.good.node.0 c.requires.settled c.requires.node c.requires.unknown) ends
+    (subst (λ (v : Bool). IsTold (net_of c.args.graph.now) c.args.fault.now (with_fact (held_by c.args.facts.now) c.args.good.node.0 (Good v)) c.if-not-branch.tree c.in_ok-ended.ended (held_by c.tell-2.new.facts) c.tell-2.new.tree) (sym (not_not c.args.good.value))
+    (subst (λ (f : List NodeFacts). IsTold (net_of c.args.graph.now) c.args.fault.now (with_fact (held_by f) c.args.good.node.0 (Good c.args.good.value)) c.if-not-branch.tree c.in_ok-ended.ended (held_by c.tell-2.new.facts) c.tell-2.new.tree) taken.0 c.in_ok-ended.ensures.told))
+
+pub write_branches-take_back-requires : goal.write_branches-take_back-requires
+write_branches-take_back-requires t c =
+    let kept : Keeps c.args.engine.now c.if-not-branch.engine c.args.facts.now c.if-not-branch.facts = elim c.if-not-branch.branch [
+      | write_branches-then-not-branch+in_ok-write w ↦ rw (w.engine-is, w.facts-is) (keeps_join c.args.engine.now c.tell.new.engine w.write.new.engine c.args.facts.now c.tell.new.facts w.write.new.facts c.in_ok-tell.ensures.keeps w.in_ok-write.ensures.keeps)
+      | write_branches-else-not-branch w ↦ rw (w.engine-is, w.facts-is) c.in_ok-tell.ensures.keeps
+    ] in
+    let h : LeadsBack c.if-not-branch.engine.trail c.mark-mark.result c.if-not-branch.facts c.args.facts.now = kept.back c.mark-mark.result c.args.facts.now (c.mark-mark.ensures.back c.args.facts.now) in
+    h.order
+
+pub write_branches-tell-requires-2-clause-settled : goal.write_branches-tell-requires-2-clause-settled
+write_branches-tell-requires-2-clause-settled t c =
+    let kept : Keeps c.args.engine.now c.if-not-branch.engine c.args.facts.now c.if-not-branch.facts = elim c.if-not-branch.branch [
+      | write_branches-then-not-branch+in_ok-write w ↦ rw (w.engine-is, w.facts-is) (keeps_join c.args.engine.now c.tell.new.engine w.write.new.engine c.args.facts.now c.tell.new.facts w.write.new.facts c.in_ok-tell.ensures.keeps w.in_ok-write.ensures.keeps)
+      | write_branches-else-not-branch w ↦ rw (w.engine-is, w.facts-is) c.in_ok-tell.ensures.keeps
+    ] in
+    let taken : (c.take_back.new.facts ≡ c.args.facts.now) × Keeps c.args.engine.now c.take_back.new.self c.args.facts.now c.take_back.new.facts = taken_back c.args.engine.now c.if-not-branch.engine c.take_back.new.self c.mark-mark.result c.args.facts.now c.if-not-branch.facts c.take_back.new.facts c.mark-mark.ensures.mark (c.mark-mark.ensures.back c.args.facts.now) kept c.take_back.ensures.back c.take_back.ensures.earlier c.take_back.ensures.numbers in
+    rw taken.0 c.requires.settled
+
+pub write_branches-tell-requires-2-clause-unknown : goal.write_branches-tell-requires-2-clause-unknown
+write_branches-tell-requires-2-clause-unknown t c =
+    let kept : Keeps c.args.engine.now c.if-not-branch.engine c.args.facts.now c.if-not-branch.facts = elim c.if-not-branch.branch [
+      | write_branches-then-not-branch+in_ok-write w ↦ rw (w.engine-is, w.facts-is) (keeps_join c.args.engine.now c.tell.new.engine w.write.new.engine c.args.facts.now c.tell.new.facts w.write.new.facts c.in_ok-tell.ensures.keeps w.in_ok-write.ensures.keeps)
+      | write_branches-else-not-branch w ↦ rw (w.engine-is, w.facts-is) c.in_ok-tell.ensures.keeps
+    ] in
+    let taken : (c.take_back.new.facts ≡ c.args.facts.now) × Keeps c.args.engine.now c.take_back.new.self c.args.facts.now c.take_back.new.facts = taken_back c.args.engine.now c.if-not-branch.engine c.take_back.new.self c.mark-mark.result c.args.facts.now c.if-not-branch.facts c.take_back.new.facts c.mark-mark.ensures.mark (c.mark-mark.ensures.back c.args.facts.now) kept c.take_back.ensures.back c.take_back.ensures.earlier c.take_back.ensures.numbers in
+    rw taken.0 c.requires.unknown
+
+pub write_branches-returns-clause-keeps : goal.write_branches-returns-clause-keeps
+write_branches-returns-clause-keeps t c =
+    let kept : Keeps c.args.engine.now c.if-not-branch.engine c.args.facts.now c.if-not-branch.facts = elim c.if-not-branch.branch [
+      | write_branches-then-not-branch+in_ok-write w ↦ rw (w.engine-is, w.facts-is) (keeps_join c.args.engine.now c.tell.new.engine w.write.new.engine c.args.facts.now c.tell.new.facts w.write.new.facts c.in_ok-tell.ensures.keeps w.in_ok-write.ensures.keeps)
+      | write_branches-else-not-branch w ↦ rw (w.engine-is, w.facts-is) c.in_ok-tell.ensures.keeps
+    ] in
+    let taken : (c.take_back.new.facts ≡ c.args.facts.now) × Keeps c.args.engine.now c.take_back.new.self c.args.facts.now c.take_back.new.facts = taken_back c.args.engine.now c.if-not-branch.engine c.take_back.new.self c.mark-mark.result c.args.facts.now c.if-not-branch.facts c.take_back.new.facts c.mark-mark.ensures.mark (c.mark-mark.ensures.back c.args.facts.now) kept c.take_back.ensures.back c.take_back.ensures.earlier c.take_back.ensures.numbers in
+    keeps_join c.args.engine.now c.take_back.new.self c.tell-2.new.engine c.args.facts.now c.take_back.new.facts c.tell-2.new.facts taken.1 c.in_ok-ended.ensures.keeps
+
+pub write_branches-returns-clause-told : goal.write_branches-returns-clause-told
+write_branches-returns-clause-told t c =
+    let kept : Keeps c.args.engine.now c.if-not-branch.engine c.args.facts.now c.if-not-branch.facts = elim c.if-not-branch.branch [
+      | write_branches-then-not-branch+in_ok-write w ↦ rw (w.engine-is, w.facts-is) (keeps_join c.args.engine.now c.tell.new.engine w.write.new.engine c.args.facts.now c.tell.new.facts w.write.new.facts c.in_ok-tell.ensures.keeps w.in_ok-write.ensures.keeps)
+      | write_branches-else-not-branch w ↦ rw (w.engine-is, w.facts-is) c.in_ok-tell.ensures.keeps
+    ] in
+    let taken : (c.take_back.new.facts ≡ c.args.facts.now) × Keeps c.args.engine.now c.take_back.new.self c.args.facts.now c.take_back.new.facts = taken_back c.args.engine.now c.if-not-branch.engine c.take_back.new.self c.mark-mark.result c.args.facts.now c.if-not-branch.facts c.take_back.new.facts c.mark-mark.ensures.mark (c.mark-mark.ensures.back c.args.facts.now) kept c.take_back.ensures.back c.take_back.ensures.earlier c.take_back.ensures.numbers in
+    let told : IsTold (net_of c.args.graph.now) c.args.fault.now (with_fact (held_by c.args.facts.now) c.args.driver.0 (Good c.args.value)) (c.args.tree.now ++ Split c.args.driver c.args.value ∷ []) c.in_ok-tell.field-0 (held_by c.tell.new.facts) c.tell.new.tree = subst (λ (items : List Item). IsTold (net_of c.args.graph.now) c.args.fault.now (with_fact (held_by c.args.facts.now) c.args.driver.0 (Good c.args.value)) items c.in_ok-tell.field-0 (held_by c.tell.new.facts) c.tell.new.tree) c.in_ok-push.ensures.ok c.in_ok-tell.ensures.told in
+    let ends : Ends (net_of c.args.graph.now) c.args.fault.now (with_fact (held_by c.args.facts.now) c.args.driver.0 (Good c.args.value)) (c.args.tree.now ++ Split c.args.driver c.args.value ∷ []) c.if-not-branch.tree = elim c.if-not-branch.branch [
+      | write_branches-then-not-branch+in_ok-write w ↦ rw w.tree-is (told_ends (net_of c.args.graph.now) c.args.fault.now (with_fact (held_by c.args.facts.now) c.args.driver.0 (Good c.args.value)) (c.args.tree.now ++ Split c.args.driver c.args.value ∷ []) c.tell.new.tree w.write.new.tree (held_by c.tell.new.facts) (subst (λ (b : Bool). IsTold (net_of c.args.graph.now) c.args.fault.now (with_fact (held_by c.args.facts.now) c.args.driver.0 (Good c.args.value)) (c.args.tree.now ++ Split c.args.driver c.args.value ∷ []) b (held_by c.tell.new.facts) c.tell.new.tree) w.if-not-branch.true told) w.in_ok-write.ensures.ends)
+      | write_branches-else-not-branch w ↦ rw w.tree-is (subst (λ (b : Bool). IsTold (net_of c.args.graph.now) c.args.fault.now (with_fact (held_by c.args.facts.now) c.args.driver.0 (Good c.args.value)) (c.args.tree.now ++ Split c.args.driver c.args.value ∷ []) b (held_by c.tell.new.facts) c.tell.new.tree) w.if-not-branch.false told)
+    ] in
+    split_told (net_of c.args.graph.now) c.args.fault.now (held_by c.args.facts.now) c.args.driver c.args.value c.args.tree.now c.if-not-branch.tree c.tell-2.new.tree c.in_ok-ended.ended (held_by c.tell-2.new.facts) (may_split (net_of c.args.graph.now) c.args.fault.now (held_by c.args.facts.now) c.args.driver.0 c.requires.settled c.requires.node c.requires.unknown) ends
+    (subst (λ (f : List NodeFacts). IsTold (net_of c.args.graph.now) c.args.fault.now (with_fact (held_by f) c.args.driver.0 (Good (not c.args.value))) c.if-not-branch.tree c.in_ok-ended.ended (held_by c.tell-2.new.facts) c.tell-2.new.tree) taken.0 c.in_ok-ended.ensures.told)
+
+pub write_split-write_cases-requires : goal.write_split-write_cases-requires
+write_split-write_cases-requires t c =
+    let settled : AreSettled (net_of c.args.graph.now) c.args.fault.now (held_by c.tell.new.facts) = (subst (λ (b : Bool). IsTold (net_of c.args.graph.now) c.args.fault.now (with_fact (held_by c.args.facts.now) c.args.good.node.0 (Good (not c.args.good.value))) c.push.new.self b (held_by c.tell.new.facts) c.tell.new.tree) c.if-not-branch.true c.in_ok-tell.ensures.told).1 in (
+      search rules,
+      (
+        c.requires.pin,
+        (
+          rw c.in_ok-tell.ensures.keeps.numbers c.requires.numbers,
+          (
+            rw c.in_ok-tell.ensures.keeps.size c.requires.size,
+            (
+              settled,
+              opposite_cases (net_of c.args.graph.now) c.args.fault.now c.args.depth (held_by c.args.facts.now) (held_by c.tell.new.facts) c.args.value (map (λ n. n.0) c.args.drivers.now) c.args.good.node.0 c.args.good.value c.requires.cases c.in_ok-tell.ensures.keeps.more settled.free (c.in_ok-tell.ensures.there c.if-not-branch.true),
+            ),
+          ),
+        ),
+      ),
+    )
+
+pub write_cases-write_case-requires : goal.write_cases-write_case-requires
+write_cases-write_case-requires t c =
+    let there : slice_get (map (λ n. n.0) c.args.drivers.now) c.loop-driver.driver-index ≡ Some (get_or c.args.drivers.now c.loop-driver.driver-index (record { 0 = 0 })).0 = (driver_at c.args.drivers.now c.loop-driver.driver-index (record { 0 = 0 }) (omega arith)) in
+    let reads = c.requires.cases.cases.reads c.loop-driver.driver-index (get_or c.args.drivers.now c.loop-driver.driver-index (record { 0 = 0 })).0 there in (
+      search rules,
+      (
+        c.requires.pin,
+        (
+          rw c.loop-driver.invariant.going.keeps.numbers c.requires.numbers,
+          (
+            rw c.loop-driver.invariant.going.keeps.size c.requires.size,
+            (
+              c.loop-driver.invariant.going.settled,
+              (
+                driver_live (net_of c.args.graph.now) c.well_formed-2.ensures.net c.requires.cases.cases.gate reads.0 (get_or c.args.drivers.now c.loop-driver.driver-index (record { 0 = 0 })).0 reads.1,
+                λ more within is. c.requires.cases.clash c.loop-driver.driver-index (get_or c.args.drivers.now c.loop-driver.driver-index (record { 0 = 0 })).0 there more (λ x fact e. within x fact (c.loop-driver.invariant.going.keeps.more x fact e)) is,
+              ),
+            ),
+          ),
+        ),
+      ),
+    )
+
+pub write_cases-loop-driver-preserved : goal.write_cases-loop-driver-preserved
+write_cases-loop-driver-preserved t c =
+    cases_more (net_of c.args.graph.now) c.args.fault.now c.args.value (map (λ n. n.0) c.args.drivers.now) c.loop-driver.driver-index (get_or c.args.drivers.now c.loop-driver.driver-index (record { 0 = 0 })).0 c.args.engine.now c.loop-driver.engine c.write_case.new.engine c.args.facts.now c.loop-driver.facts c.write_case.new.facts c.args.tree.now c.loop-driver.tree c.write_case.new.tree c.loop-driver.invariant (driver_at c.args.drivers.now c.loop-driver.driver-index (record { 0 = 0 }) (omega arith)) c.in_ok-write_case.ensures.keeps
+    (subst (λ (b : Bool). IsTold (net_of c.args.graph.now) c.args.fault.now (held_by c.loop-driver.facts) c.loop-driver.tree b (held_by c.write_case.new.facts) c.write_case.new.tree) c.if-branch.false c.in_ok-write_case.ensures.told) (c.in_ok-write_case.ensures.other c.if-branch.false)
+
+pub write_cases-returns-then-branch-clause-keeps : goal.write_cases-returns-then-branch-clause-keeps
+write_cases-returns-then-branch-clause-keeps t c =
+    keeps_join c.args.engine.now c.loop-driver.engine c.write_case.new.engine c.args.facts.now c.loop-driver.facts c.write_case.new.facts c.loop-driver.invariant.going.keeps c.in_ok-write_case.ensures.keeps
+
+pub write_cases-returns-clause-ends : goal.write_cases-returns-clause-ends
+write_cases-returns-clause-ends t c =
+    absurd (no_driver (net_of c.args.graph.now) c.args.fault.now (held_by c.args.facts.now) (held_by c.loop-driver.facts) c.args.value (map (λ n. n.0) c.args.drivers.now) c.requires.cases.cases c.loop-driver.invariant.going.keeps.more c.loop-driver.invariant.going.settled
+    (λ k d at. c.loop-driver.invariant.others k d (let less : k < length (map (λ n. n.0) c.args.drivers.now) = place_less (map (λ n. n.0) c.args.drivers.now) k d at in let same : length (map (λ n. n.0) c.args.drivers.now) ≡ length c.args.drivers.now = length-map c.args.drivers.now (λ n. n.0) in omega arith) at))

@@ -1,0 +1,15 @@
+//! Refutes a fault by learning, to a depth of at most 2, what all justifications of a gate have in common.
+#![tactic(auto)]
+
+mod adding;
+mod gates;
+pub mod laws;
+mod learning;
+mod lessons;
+mod refuting;
+mod telling;
+#[cfg(test)]
+mod tests;
+mod writing;
+
+pub use refuting::refute;

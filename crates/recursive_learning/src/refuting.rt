@@ -1,0 +1,158 @@
+// Refuting a fault.
+ghost use Rattle.std.specs.Prelude.{◌≡◌, ◌≤◌, ◌↔◌, IfOk, OnOk, length};
+ghost use Rattle.gate_net.specs.Values.{HasPin};
+ghost use Rattle.gate_graph.specs.Circuit.{net_of};
+ghost use Rattle.implications.specs.Outcomes.{IsClash};
+ghost use Rattle.refutation.specs.Closing.{LinesLead};
+ghost use Rattle.refutation.specs.Branches.{AreAccepted};
+ghost use Rattle.refutation.specs.Facts.{none_held};
+ghost use Rattle.refutation.specs.FactSets.{held_by};
+ghost use Rattle.refutation.specs.Learning.{LeadsToClash};
+ghost use Rattle.recursive_learning.specs.Answers.{IsDeepened, IsRefuting};
+ghost use Rattle.recursive_learning.specs.Working.{AreSettled, Keeps};
+ghost use Rattle.recursive_learning.specs.Least.{AreForced};
+
+use crate::learning::learn;
+use crate::telling::push_lines;
+use crate::writing::write;
+use gate_graph::Graph;
+use implications::{Closed, Engine};
+use refutation::{FactSet, Tree, TreeBuilder};
+use rm_base::{Fault, NoMemory};
+use std::alloc::Global;
+
+// Writes the tree of closed facts to which these lines led, and which lead to a clash at the depth.
+fn written(
+    alloc: Global,
+    engine: &mut Engine,
+    graph: &Graph,
+    fault: &Fault,
+    depth: u8,
+    facts: FactSet,
+) -> Result<Tree, NoMemory>
+    requires pin { HasPin (net_of graph.now) fault.now }
+    requires numbers { length (net_of graph.now).nodes ≤ engine.old.numbers }
+    requires size { length (net_of graph.now).nodes ≤ length facts }
+    requires settled { AreSettled (net_of graph.now) fault.now (held_by facts) }
+    requires lines { LinesLead (net_of graph.now) fault.now none_held engine.old.lines (held_by facts) }
+    requires clash { LeadsToClash (net_of graph.now) fault.now depth (held_by facts) }
+    ensures accepted { IfOk result (λ t. AreAccepted (net_of graph.now) fault.now t) }
+    ensures numbers { OnOk result (engine.new.numbers ≡ engine.old.numbers) }
+    ensures trail { OnOk result (length engine.new.trail ≡ length engine.old.trail) }
+{
+    let mut held = facts;
+    let mark = engine.mark();
+    let mut tree = TreeBuilder::new(alloc);
+    push_lines(&mut tree, engine.lines())?;
+    write(alloc, engine, graph, fault, &mut held, depth, &mut tree)?;
+    engine.take_back(&mut held, mark);
+    Ok(tree.finish())
+}
+
+// Writes the tree of a fault that leads to a clash at the depth.
+fn tree_of(
+    alloc: Global,
+    engine: &mut Engine,
+    graph: &Graph,
+    fault: &Fault,
+    depth: u8,
+) -> Result<Tree, NoMemory>
+    requires pin { HasPin (net_of graph.now) fault.now }
+    requires numbers { length (net_of graph.now).nodes ≤ engine.old.numbers }
+    requires clash { LeadsToClash (net_of graph.now) fault.now depth none_held }
+    ensures accepted { IfOk result (λ t. AreAccepted (net_of graph.now) fault.now t) }
+    ensures numbers { OnOk result (engine.new.numbers ≡ engine.old.numbers) }
+    ensures trail { OnOk result (length engine.new.trail ≡ length engine.old.trail) }
+{
+    graph.well_formed();
+    match engine.close(graph, fault)? {
+        Closed::Clash(tree) => Ok(tree),
+        Closed::Open(facts) => written(alloc, engine, graph, fault, depth, facts),
+    }
+}
+
+// Learns from closed facts to one depth after another; the first at which they lead to a clash.
+fn deepen(
+    alloc: Global,
+    engine: &mut Engine,
+    graph: &Graph,
+    fault: &Fault,
+    facts: &mut FactSet,
+    depth: u8,
+) -> Result<Option<u8>, NoMemory>
+    requires pin { HasPin (net_of graph.now) fault.now }
+    requires numbers { length (net_of graph.now).nodes ≤ engine.old.numbers }
+    requires size { length (net_of graph.now).nodes ≤ length facts.old }
+    requires settled { AreSettled (net_of graph.now) fault.now (held_by facts.old) }
+    requires depth { depth ≤ 2 }
+    ensures deepened { IfOk result (λ level. IsDeepened (net_of graph.now) fault.now depth (held_by facts.old) level (held_by facts.new)) }
+    ensures keeps { IfOk result (λ _. Keeps engine.old engine.new facts.old facts.new) }
+{
+    let _mark = engine.mark();
+    for level in 0..depth {
+        if learn(alloc, engine, graph, fault, facts, level + 1)? {
+            return Ok(Some(level + 1));
+        }
+    }
+    Ok(None)
+}
+
+// Learns from closed facts to the depth.
+fn refute_open(
+    alloc: Global,
+    engine: &mut Engine,
+    graph: &Graph,
+    fault: &Fault,
+    depth: u8,
+    facts: FactSet,
+) -> Result<Closed, NoMemory>
+    requires pin { HasPin (net_of graph.now) fault.now }
+    requires numbers { length (net_of graph.now).nodes ≤ engine.old.numbers }
+    requires size { length (net_of graph.now).nodes ≤ length facts }
+    requires settled { AreSettled (net_of graph.now) fault.now (held_by facts) }
+    requires forced { AreForced (net_of graph.now) fault.now 0 none_held (held_by facts) }
+    requires depth { depth ≤ 2 }
+    ensures refuting { IfOk result (IsRefuting (net_of graph.now) fault.now depth) }
+    ensures numbers { OnOk result (engine.new.numbers ≡ engine.old.numbers) }
+    ensures trail { OnOk result (length engine.new.trail ≡ length engine.old.trail) }
+{
+    let mut held = facts;
+    let mut nothing = FactSet::for_numbers(alloc, 0)?;
+    let mark = engine.mark();
+    let clash = deepen(alloc, engine, graph, fault, &mut held, depth)?;
+    // What was learned stays: the trail is cut without it.
+    engine.take_back(&mut nothing, mark);
+    let Some(level) = clash else {
+        return Ok(Closed::Open(held));
+    };
+    let tree = tree_of(alloc, engine, graph, fault, level)?;
+    Ok(Closed::Clash(tree))
+}
+
+/// Refutes a stuck pin by learning to the depth. `Clash` comes exactly where no set of facts without opposed facts is
+/// closed at that depth, and its tree is made again from the start, as an `Open` keeps no lines; `Open` has the least
+/// such set. It looks for a clash at the smaller depths first. The engine's lines are then those of some call on the way.
+pub fn refute(
+    alloc: Global,
+    engine: &mut Engine,
+    graph: &Graph,
+    fault: &Fault,
+    depth: u8,
+) -> Result<Closed, NoMemory>
+    requires pin { HasPin (net_of graph.now) fault.now }
+    requires numbers { length (net_of graph.now).nodes ≤ engine.old.numbers }
+    requires depth { depth ≤ 2 }
+    ensures refuting { IfOk result (IsRefuting (net_of graph.now) fault.now depth) }
+    ensures exact { IfOk result (λ c. IsClash c ↔ LeadsToClash (net_of graph.now) fault.now depth none_held) }
+    ensures numbers { OnOk result (engine.new.numbers ≡ engine.old.numbers) }
+    ensures trail { OnOk result (length engine.new.trail ≡ length engine.old.trail) }
+{
+    graph.well_formed();
+    match engine.close(graph, fault)? {
+        Closed::Clash(tree) => Ok(Closed::Clash(tree)),
+        Closed::Open(facts) => {
+            let answer = refute_open(alloc, engine, graph, fault, depth, facts)?;
+            Ok(answer)
+        }
+    }
+}

@@ -1,0 +1,172 @@
+// Nets whose answers were worked out by hand.
+ghost use Rattle.std.specs.Prelude.{◌≤◌};
+
+use super::nets::{Gate, wired};
+use crate::refute;
+use gate_graph::Graph;
+use implications::{Closed, Engine};
+use rm_base::{Fault, NoMemory, NodeId};
+use std::alloc::Global;
+use std::test::Fail;
+
+// (a b + a c) d, of the sources a, b, c and d. The assignment 0101 detects that the first pin of a b is stuck at 1.
+const SHARED: [Gate; 4] = [
+    Gate::And(2, 3),
+    Gate::And(2, 4),
+    Gate::Or(6, 7),
+    Gate::And(8, 5),
+];
+
+// (a b + a c) (a' d + a' e) f, of the sources a to f. If f stuck at 1 is detected, both sums are 1. Neither sum says by
+// itself which of its products is 1, so no line leads on. But each product of the first needs a, and then both products
+// of the second are 0: all justifications of the first sum clash.
+const ONE_DEEP: [Gate; 9] = [
+    Gate::Not(2),
+    Gate::And(2, 3),
+    Gate::And(2, 4),
+    Gate::And(8, 5),
+    Gate::And(8, 6),
+    Gate::Or(9, 10),
+    Gate::Or(11, 12),
+    Gate::And(13, 14),
+    Gate::And(15, 7),
+];
+
+// (P + Q) f, where P is (a b + a c) (a' d + a' e), and Q is the same of five other sources. If f stuck at 1 is
+// detected, P or Q is 1. Either alone clashes only where its own sums are looked into, as above, and the two share no
+// node, so with justifications that lines close nothing is learned; with justifications that are closed at depth 1,
+// both clash.
+const TWO_DEEP: [Gate; 18] = [
+    Gate::Not(2),
+    Gate::And(2, 3),
+    Gate::And(2, 4),
+    Gate::And(13, 5),
+    Gate::And(13, 6),
+    Gate::Or(14, 15),
+    Gate::Or(16, 17),
+    Gate::And(18, 19),
+    Gate::Not(7),
+    Gate::And(7, 8),
+    Gate::And(7, 9),
+    Gate::And(21, 10),
+    Gate::And(21, 11),
+    Gate::Or(22, 23),
+    Gate::Or(24, 25),
+    Gate::And(26, 27),
+    Gate::Or(20, 28),
+    Gate::And(29, 12),
+];
+
+// S f where S is (a b + a c) (a' + y) (a' + z), and y is p q + p r, and z is p' s + p' u. If f stuck at 1 is detected,
+// all three are 1. Each justification of the first gives a, and from that y and z, without a clash: a is learned. Only
+// then do all justifications of y clash.
+const LEARNS: [Gate; 16] = [
+    Gate::And(2, 3),
+    Gate::And(2, 4),
+    Gate::Or(11, 12),
+    Gate::Not(5),
+    Gate::And(5, 6),
+    Gate::And(5, 7),
+    Gate::Or(15, 16),
+    Gate::And(14, 8),
+    Gate::And(14, 9),
+    Gate::Or(18, 19),
+    Gate::Not(2),
+    Gate::Or(21, 17),
+    Gate::Or(21, 20),
+    Gate::And(13, 22),
+    Gate::And(24, 23),
+    Gate::And(25, 10),
+];
+
+/// Whether the fault is refuted at the depth; None where the net has no such pin.
+pub fn is_refuted(
+    alloc: Global,
+    graph: &Graph,
+    fault: &Fault,
+    depth: u8,
+) -> Result<Option<bool>, NoMemory>
+    requires { depth ≤ 2 }
+{
+    let Some(_) = graph.driver(fault.gate, fault.position) else {
+        return Ok(None);
+    };
+    let mut engine = Engine::new(alloc, graph)?;
+    match refute(alloc, &mut engine, graph, fault, depth)? {
+        Closed::Clash(_) => Ok(Some(true)),
+        Closed::Open(_) => Ok(Some(false)),
+    }
+}
+
+// A net, a fault of it, and the least depth at which it is refuted.
+#[derive(Clone, Copy)]
+struct Case<'a> {
+    sources: u32,
+    gates: &'a [Gate],
+    observed: u32,
+    fault: Fault,
+    from: u8,
+}
+
+const fn fault(gate: u32, position: u32, value: bool) -> Fault {
+    Fault {
+        gate: NodeId(gate),
+        position,
+        value,
+    }
+}
+
+// Whether the case has its answer at the depth.
+fn is_right(alloc: Global, case: &Case<'_>, depth: u8) -> Result<bool, NoMemory>
+    requires { depth ≤ 2 }
+{
+    if case.sources > 1000 || case.gates.len() > 10000 {
+        return Ok(false);
+    }
+    let Some(graph) = wired(alloc, case.sources, case.gates, case.observed)? else {
+        return Ok(false);
+    };
+    let answer = is_refuted(alloc, &graph, &case.fault, depth)?;
+    Ok(answer == Some(depth >= case.from))
+}
+
+#[test]
+fn each_needs_its_depth(rt: HostRuntime) -> Result<(), Fail> {
+    let cases = [
+        Case {
+            sources: 4,
+            gates: &SHARED,
+            observed: 9,
+            fault: fault(6, 0, true),
+            from: 3,
+        },
+        Case {
+            sources: 6,
+            gates: &ONE_DEEP,
+            observed: 16,
+            fault: fault(16, 1, true),
+            from: 1,
+        },
+        Case {
+            sources: 11,
+            gates: &TWO_DEEP,
+            observed: 30,
+            fault: fault(30, 1, true),
+            from: 2,
+        },
+        Case {
+            sources: 9,
+            gates: &LEARNS,
+            observed: 26,
+            fault: fault(26, 1, true),
+            from: 1,
+        },
+    ];
+    for case in &cases {
+        for depth in 0..3u8 {
+            let right = is_right(rt.alloc(), case, depth)?;
+            assert!(rt; right, "gate {} at depth {depth}", case.fault.gate.0);
+        }
+    }
+    Ok(())
+}
