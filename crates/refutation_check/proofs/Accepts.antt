@@ -1,5 +1,5 @@
 -- The items are read to the end of a tree exactly where it is accepted.
-use Rattle.std.proofs.Common.{Bool, List, [], ap, inl, inr, length, not, refl, subst, suc, sym, zero, ℕ, ◌∷◌, ◌≡◌, ◌⊎◌}
+use Rattle.std.proofs.Common.{List, [], ap, inl, inr, length, not, refl, subst, suc, sym, ℕ, ◌∷◌, ◌≡◌}
 use Rattle.gate_net.specs.Net.{Net}
 use Rattle.refutation.specs.Facts.{Held, none_held, with_fact}
 use Rattle.refutation.specs.Laws.{PartialReads, StackReads}
@@ -9,9 +9,9 @@ use Rattle.refutation.specs.declared.items.Form.TheVariants.{Closed, Partial}
 use Rattle.refutation.specs.declared.items.Item.{Item}
 use Rattle.refutation.specs.declared.items.Item.TheVariants.{Clash, Here, Line, Quiet, Split, Untried}
 use Rattle.refutation.specs.declared.reasoning.Fact.TheVariants.{Good}
-use Rattle.refutation_check.specs.FirstRefusal.{AreRead, IsEnd}
+use Rattle.refutation_check.specs.FirstRefusal.{AreRead}
 use Rattle.refutation_check.specs.Laws.{ReadingsAccept}
-use Rattle.refutation_check.specs.Turns.{Decides, Left, Turn, TurnsTo, after_end, goes_on, refused, trees, untrieds}
+use Rattle.refutation_check.specs.Turns.{Decides, Left, Turn, after_end, goes_on, refused, trees, untrieds}
 use Rattle.refutation_check.specs.declared.refusals.CheckRefusal.{CheckRefusal}
 use Rattle.refutation_check.specs.declared.refusals.CheckRefusal.TheVariants.{NoMemory}
 use Rattle.rm_base.specs.declared.numbers.Fault.{Fault}

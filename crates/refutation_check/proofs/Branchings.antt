@@ -1,18 +1,16 @@
 -- Branches that are left while facts come and go.
-use Rattle.std.proofs.Common.{Bool, List, [], ap, arith, false, length, length-append, not, refl, suc, sym, take, true, zero, ℕ, ◌++◌, ◌+◌, ◌<◌, ◌∙◌, ◌∷◌, ◌≡◌, ◌≢◌, ◌≤◌}
+use Rattle.std.proofs.Common.{Bool, List, [], ap, arith, false, length, length-append, not, refl, suc, sym, take, true, ℕ, ◌++◌, ◌<◌, ◌∙◌, ◌∷◌, ◌≡◌, ◌≤◌}
 use Rattle.std.proofs.lemmas.List.{length-take-le, take-append-le, take-take, take_all}
-use Rattle.refutation.specs.Facts.{Held, with_fact}
+use Rattle.refutation.specs.Facts.{with_fact}
 use Rattle.refutation.specs.declared.items.Form.{Form}
-use Rattle.refutation.specs.declared.items.Form.TheVariants.{Closed, Partial}
+use Rattle.refutation.specs.declared.items.Form.TheVariants.{Partial}
 use Rattle.refutation.specs.declared.reasoning.Fact.{Fact}
 use Rattle.refutation.specs.declared.reasoning.Fact.TheVariants.{Good}
 use Rattle.refutation_check.specs.Notes.{HasMore, Notes, held_of}
-use Rattle.refutation_check.specs.Standing.{Climb, Halts, IsClimbing, Moves, left_in, left_of, others_of}
-use Rattle.refutation_check.specs.Turns.{Left, Turn, after_end, after_here, goes_on, refused, trees, untrieds}
+use Rattle.refutation_check.specs.Standing.{Climb, IsClimbing, Moves, left_in, left_of, others_of}
+use Rattle.refutation_check.specs.Turns.{after_end, after_here, goes_on, trees, untrieds}
 use Rattle.refutation_check.specs.declared.branches.Branches.{Branches}
 use Rattle.refutation_check.specs.declared.branches.Pending.{Pending}
-use Rattle.refutation_check.specs.declared.refusals.CheckRefusal.{CheckRefusal}
-use Rattle.refutation_check.specs.declared.refusals.CheckRefusal.TheVariants.{Shape}
 use Rattle.refutation_check.specs.declared.trail.Entry.{Entry}
 use Rattle.rm_base.specs.declared.numbers.NodeId.{NodeId}
 

@@ -1,5 +1,5 @@
 -- A tree has one first refusal at most, and none where it is accepted.
-use Rattle.std.proofs.Common.{Bool, List, [], ap, inl, inr, length, refl, subst, suc, sym, zero, ℕ, ◌∙◌, ◌∷◌, ◌≡◌, ◌⊎◌}
+use Rattle.std.proofs.Common.{List, [], ap, inl, inr, subst, suc, sym, zero, ℕ, ◌∙◌, ◌∷◌, ◌≡◌}
 use Rattle.gate_net.specs.Net.{Net}
 use Rattle.refutation.specs.Facts.{Held, none_held, with_fact}
 use Rattle.refutation.specs.Laws.{LinesGiveOne}
@@ -8,7 +8,7 @@ use Rattle.refutation.specs.declared.items.Item.{Item}
 use Rattle.refutation.specs.declared.items.Item.TheVariants.{Clash, Here, Line, Quiet, Split, Untried}
 use Rattle.refutation.specs.declared.reasoning.Fact.{Fact}
 use Rattle.refutation_check.proofs.Accepts.{going_same, never_both, refused_same}
-use Rattle.refutation_check.specs.FirstRefusal.{AreRead, AreRefused, IsEnd}
+use Rattle.refutation_check.specs.FirstRefusal.{AreRead, AreRefused}
 use Rattle.refutation_check.specs.Laws.{AcceptedAreNotRefused, ReadingsAccept, RefusalsAgree}
 use Rattle.refutation_check.specs.Turns.{Decides, Left, Turn, TurnsTo, goes_on, refused, trees, untrieds}
 use Rattle.refutation_check.specs.declared.refusals.CheckRefusal.{CheckRefusal}

@@ -1,9 +1,8 @@
 -- Forward reading from what is known of the sources.
-use Rattle.std.proofs.Common.{Bool, List, None, Option, Some, ap, arith, get_or, inl, inr, length, map, suc, sym, zero, ℕ, ◌+◌, ◌-◌, ◌<◌, ◌∙◌, ◌∷◌, ◌≡◌, ◌≤◌, [], refl}
-use Rattle.std.specs.Prelude.{IsTrue, slice_get, slice_index_or, slice_set, ◌↔◌}
+use Rattle.std.proofs.Common.{Bool, List, None, Option, Some, ap, arith, length, suc, zero, ℕ, ◌+◌, ◌-◌, ◌<◌, ◌∙◌, ◌∷◌, ◌≡◌, ◌≤◌, [], refl}
+use Rattle.std.specs.Prelude.{IsTrue, slice_get, slice_index_or, ◌↔◌}
 use Rattle.gate_net.specs.Forward.{IsForwardReading, Marking, MarksQuiet, ReadingsAgree, kind_forward, node_forward}
 use Rattle.gate_net.specs.Net.{HasSources, IsAcyclic, IsKind, Net, Node, flatten_option, node_at, source_count}
-use Rattle.gate_net.specs.Values.{faulty_reads}
 use Rattle.gate_net.specs.declared.Kind.{Kind}
 use Rattle.gate_net.specs.declared.Kind.TheVariants.{And, Not, One, Or, Source, Zero}
 use Rattle.refutation.specs.Facts.{Held, known_good}

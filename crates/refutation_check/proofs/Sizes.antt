@@ -1,7 +1,7 @@
 -- How large accepted trees are.
-use Rattle.std.proofs.Common.{Bool, List, [], arith, inl, inr, length, length-append, not, refl, suc, ℕ, ◌*◌, ◌++◌, ◌+◌, ◌∙◌, ◌∷◌, ◌≡◌, ◌≤◌}
+use Rattle.std.proofs.Common.{List, [], arith, inl, inr, length, length-append, not, refl, ℕ, ◌*◌, ◌++◌, ◌+◌, ◌∷◌, ◌≡◌, ◌≤◌}
 use Rattle.gate_net.specs.Net.{HasSources, Net, source_count}
-use Rattle.refutation.specs.Branches.{AreAccepted, AreAcceptedPartial, Branch, IsClosed, IsClosedOnSources, IsPartial, clash, here, items_of, line, quiet, split, untried}
+use Rattle.refutation.specs.Branches.{Branch, IsClosed, IsClosedOnSources, IsPartial, clash, here, items_of, line, quiet, split, untried}
 use Rattle.refutation.specs.Facts.{Held, none_held, with_fact}
 use Rattle.refutation.specs.Laws.{UntriedsAreFew}
 use Rattle.refutation.specs.Stack.{splits_among, untrieds_among}

@@ -1,5 +1,5 @@
 -- Where a tree may split, and which nodes hold facts.
-use Rattle.std.proofs.Common.{Bool, List, None, Option, Some, [], ap, arith, false, inl, inr, length, refl, subst, suc, sym, true, zero, ℕ, ◌<◌, ◌∙◌, ◌∷◌, ◌≡◌, ◌≤◌}
+use Rattle.std.proofs.Common.{List, None, Option, Some, [], ap, arith, false, inl, inr, length, refl, subst, suc, sym, true, zero, ℕ, ◌<◌, ◌∷◌, ◌≡◌, ◌≤◌}
 use Rattle.std.specs.Prelude.{IsTrue}
 use Rattle.gate_net.specs.Net.{IsKind, IsLive, Net, Node, kind_in, kind_of, node_at}
 use Rattle.gate_net.specs.declared.Kind.{Kind}

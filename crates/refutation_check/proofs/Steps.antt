@@ -1,5 +1,5 @@
 -- One item more of a tree.
-use Rattle.std.proofs.Common.{List, [], add-one, arith, drop, drop-cons, get_or, inl, inr, length, refl, suc, sym, ℕ, ◌+◌, ◌<◌, ◌≡◌, ◌≤◌}
+use Rattle.std.proofs.Common.{List, add-one, drop, drop-cons, get_or, inl, inr, length, refl, suc, ℕ, ◌+◌, ◌<◌, ◌≡◌, ◌≤◌}
 use Rattle.std.proofs.lemmas.List.{drop_all}
 use Rattle.gate_net.specs.Net.{Net}
 use Rattle.refutation.specs.declared.items.Form.{Form}

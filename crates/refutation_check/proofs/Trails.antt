@@ -1,10 +1,10 @@
 -- Facts that come and are taken back.
-use Rattle.std.proofs.Common.{Bool, List, [], ap, arith, false, inl, inr, length, length-append, not, refl, subst, sym, take, true, ℕ, ◌&&◌, ◌++◌, ◌+◌, ◌<◌, ◌≤◌, ◌||◌, ◌∙◌, ◌∷◌, ◌≡◌}
+use Rattle.std.proofs.Common.{Bool, List, [], ap, arith, false, inl, inr, length, length-append, not, refl, sym, take, true, ℕ, ◌&&◌, ◌++◌, ◌+◌, ◌<◌, ◌≤◌, ◌||◌, ◌∙◌, ◌∷◌, ◌≡◌}
 use Rattle.std.proofs.lemmas.Bool.Decides.{eqb_tells}
 use Rattle.std.specs.Prelude.{nat_eq}
 use Rattle.std.proofs.lemmas.List.{take-append-le}
 use mathlib.Core.Path.{fun_ext}
-use Rattle.gate_net.proofs.Bools.{and_both, or_either, or_true}
+use Rattle.gate_net.proofs.Bools.{and_both}
 use Rattle.refutation.proofs.Known.{same_fact_true}
 use Rattle.refutation.specs.FactSets.{Becomes, held_by}
 use Rattle.refutation.specs.Facts.{Held, none_held, same_fact, with_fact, without_fact}

@@ -1,5 +1,5 @@
 -- What each item of a tree leads to, and where it is refused.
-use Rattle.std.specs.Prelude.{List, [], length, not, suc, zero, ℕ, ◌∷◌, ◌≡◌, ◌⊎◌}
+use Rattle.std.specs.Prelude.{List, [], length, not, suc, ℕ, ◌∷◌, ◌≡◌, ◌⊎◌}
 use Rattle.gate_net.specs.Net.{Net}
 use Rattle.refutation.specs.Branches.{MaySplit, SplitsSource}
 use Rattle.refutation.specs.Facts.{AreOpposed, Held, with_fact}

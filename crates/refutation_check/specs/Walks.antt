@@ -1,5 +1,5 @@
 -- A reading of a tree.
-use Rattle.std.specs.Prelude.{None, Option, Some, length, ℕ, ◌≡◌, ◌≢◌, ◌≤◌}
+use Rattle.std.specs.Prelude.{length, ℕ, ◌≡◌, ◌≢◌, ◌≤◌}
 use Rattle.gate_net.specs.Net.{Net}
 use Rattle.refutation.specs.declared.items.Form.{Form}
 use Rattle.refutation.specs.declared.items.Item.{Item}

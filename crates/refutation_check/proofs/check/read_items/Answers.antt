@@ -1,4 +1,4 @@
-use Rattle.std.proofs.Common.{arith, false, length, sym, true, ◌<◌, ◌∙◌, ◌≡◌}
+use Rattle.std.proofs.Common.{arith, false, sym, true, ◌∙◌, ◌≡◌}
 use Rattle.std.proofs.lemmas.Result.{err_from_is_err_and}
 use Rattle.gate_graph.specs.Circuit.{net_of}
 use Rattle.refutation.specs.declared.items.Item.TheVariants.{Line}

@@ -1,6 +1,5 @@
-use Rattle.std.proofs.Common.{ap, length, refl, ◌<◌, ◌≡◌}
-use Rattle.refutation_check.proofs.Branchings.{ClimbsTo, climb_last, climb_popped, end_moves}
-use Rattle.refutation_check.specs.Notes.{Notes}
+use Rattle.std.proofs.Common.{refl}
+use Rattle.refutation_check.proofs.Branchings.{climb_popped, end_moves}
 use Rattle.refutation_check.proofs.branches.Branches.end.Goals as goal
 
 pub undo_to-requires : goal.undo_to-requires

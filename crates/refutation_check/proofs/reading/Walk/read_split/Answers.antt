@@ -1,5 +1,4 @@
 use Rattle.std.proofs.Common.{false, true, ◌∙◌, ◌≡◌, sym}
-use Rattle.gate_graph.specs.Circuit.{net_of}
 use Rattle.refutation_check.proofs.Splits.{splits_within}
 use Rattle.refutation_check.proofs.Turnings.{bad_split}
 use Rattle.refutation_check.proofs.reading.Walk.read_split.Goals as goal

@@ -1,7 +1,6 @@
 use Rattle.std.proofs.Common.{false, length, sym, ◌<◌, ◌∙◌, ◌≡◌}
 use Rattle.refutation.specs.FactSets.{held_by}
 use Rattle.refutation_check.proofs.Trails.{held_of-push, trail_more}
-use Rattle.refutation_check.specs.Notes.{Notes, held_of}
 use Rattle.refutation_check.proofs.trail.Trail.hold.Goals as goal
 
 pub invariant_of-self-2 : goal.invariant_of-self-2
