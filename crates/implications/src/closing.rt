@@ -14,7 +14,7 @@ ghost use Rattle.implications.specs.Working.{Closes, Keeps, Works};
 
 use crate::agenda::Agenda;
 use crate::first_lines::give_first;
-use crate::log::Log;
+use crate::log::{Log, start};
 use crate::outcome::Closed;
 use crate::reaching::mark_reached;
 use crate::settling::work_off;
@@ -106,8 +106,7 @@ impl Engine {
         ensures trail { self.new.trail ≡ self.old.trail }
     {
         graph.well_formed();
-        self.log.lines.clear();
-        let mark = self.log.trail.len();
+        let mark = start(&mut self.log);
         mark_reached(graph, fault.gate, &mut self.reached, &mut self.agenda);
         let answer = close_facts(
             self.alloc,

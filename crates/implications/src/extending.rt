@@ -13,7 +13,7 @@ ghost use Rattle.implications.specs.Trail.{AreAdded, LeadsBack, TakesBack};
 ghost use Rattle.implications.specs.Working.{Keeps};
 
 use crate::agenda::Agenda;
-use crate::log::Log;
+use crate::log::{Log, start};
 use crate::settling::{touch, work_off};
 use crate::state::Engine;
 use gate_graph::Graph;
@@ -103,7 +103,7 @@ impl Engine {
         ensures numbers { self.new.numbers ≡ self.old.numbers }
     {
         graph.well_formed();
-        self.log.lines.clear();
+        let _mark = start(&mut self.log);
         let answer = add_good(
             graph,
             fault,

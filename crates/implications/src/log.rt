@@ -1,5 +1,5 @@
 // What was found, line by line and fact by fact.
-ghost use Rattle.std.specs.Prelude.{◌≡◌, ◌<◌, OnOk, false, length};
+ghost use Rattle.std.specs.Prelude.{◌≡◌, ◌<◌, [], OnOk, false, length};
 ghost use Rattle.refutation.specs.FactSets.{held_by};
 ghost use Rattle.implications.specs.Working.{Holds, Keeps};
 
@@ -12,6 +12,16 @@ use rm_base::{NoMemory, NodeId};
 pub struct Log {
     pub lines: Vec<Line>,
     pub trail: Vec<(NodeId, Fact)>,
+}
+
+// Begins the lines of a call, and tells where the trail ends now.
+pub(crate) fn start(log: &mut Log) -> usize
+    ensures mark { result ≡ length log.old.trail.items }
+    ensures lines { log.new.lines.items ≡ [] }
+    ensures trail { log.new.trail.items ≡ log.old.trail.items }
+{
+    log.lines.clear();
+    log.trail.len()
 }
 
 // Holds what was found, and logs it.

@@ -1,6 +1,8 @@
 // Answers that were worked out by hand.
 ghost use Rattle.std.specs.Prelude.{◌≡◌, ◌<◌, ◌≤◌, length};
 ghost use Rattle.gate_graph.specs.Circuit.{net_of};
+ghost use Rattle.refutation.specs.Closing.{IsClashFree, IsClosedUnderLines};
+ghost use Rattle.refutation.specs.FactSets.{held_by};
 
 use super::nets::{Gate, wired};
 use crate::{Closed, Engine};
@@ -12,23 +14,23 @@ use std::alloc::Global;
 use std::test::Fail;
 
 // x + x y, of the sources x and y.
-const ABSORBED: [Gate; 2] = [Gate::And([2, 3]), Gate::Or([2, 4])];
+const ABSORBED: [Gate; 2] = [Gate::And(2, 3), Gate::Or(2, 4)];
 
 // s' a + s b + a b, of the sources s, a and b.
 const SELECTED: [Gate; 5] = [
     Gate::Not(2),
-    Gate::And([5, 3]),
-    Gate::And([2, 4]),
-    Gate::And([3, 4]),
-    Gate::OrOfThree([6, 7, 8]),
+    Gate::And(5, 3),
+    Gate::And(2, 4),
+    Gate::And(3, 4),
+    Gate::OrOfThree(6, 7, 8),
 ];
 
 // (a b + a c) d, of the sources a, b, c and d.
 const SHARED: [Gate; 4] = [
-    Gate::And([2, 3]),
-    Gate::And([2, 4]),
-    Gate::Or([6, 7]),
-    Gate::And([8, 5]),
+    Gate::And(2, 3),
+    Gate::And(2, 4),
+    Gate::Or(6, 7),
+    Gate::And(8, 5),
 ];
 
 // What is known of a node: its good value, its faulty value, and whether it is equal.
@@ -152,30 +154,14 @@ fn is_known(facts: &FactSet, node: u32, wanted: &Known) -> bool {
         && known(facts, Aspect::OfEqual, node) == wanted.2
 }
 
-// Whether exactly that is known after closing the fault of the case.
-fn is_right(alloc: Global, case: &Case) -> Result<bool, NoMemory> {
-    let Some(graph) = wired(alloc, 4, &SHARED, 9)? else {
-        return Ok(false);
-    };
-    let mut engine = Engine::new(alloc, &graph)?;
-    let Some(Closed::Open(facts)) = close(&mut engine, &graph, &case.fault)? else {
-        return Ok(false);
-    };
+// Whether that is known of each node.
+fn are_known(facts: &FactSet, wanted: &[Known; 10]) -> bool {
     for node in 0..10u32 {
-        if !is_known(&facts, node, &case.known[node as usize]) {
-            return Ok(false);
+        if !is_known(facts, node, &wanted[node as usize]) {
+            return false;
         }
     }
-    Ok(true)
-}
-
-#[test]
-fn derivable_facts_are_known(rt: HostRuntime) -> Result<(), Fail> {
-    for at in 0..CASES.len() {
-        let right = is_right(rt.alloc(), &CASES[at])?;
-        assert!(rt; right, "at case {at}");
-    }
-    Ok(())
+    true
 }
 
 // Whether the engine's lines lead, one after another, from no facts to these.
@@ -225,65 +211,124 @@ fn is_same_at(one: &FactSet, other: &FactSet, node: NodeId) -> bool
     true
 }
 
-// Whether the lines are those of the last call, before and after each.
-fn lines_are_last(alloc: Global) -> Result<bool, NoMemory> {
-    let Some(graph) = wired(alloc, 4, &SHARED, 9)? else {
-        return Ok(false);
-    };
-    let mut engine = Engine::new(alloc, &graph)?;
+// Whether closing the fault, after another one, gives exactly what is wanted, with its own lines alone.
+fn gives(alloc: Global, graph: &Graph, case: &Case) -> Result<bool, NoMemory> {
+    let mut engine = Engine::new(alloc, graph)?;
     if !engine.lines().is_empty() {
         return Ok(false);
     }
-    for case in &CASES {
-        let Some(Closed::Open(facts)) = close(&mut engine, &graph, &case.fault)? else {
-            return Ok(false);
-        };
-        if !lead_to(alloc, &engine, &graph, &case.fault, &facts)? {
-            return Ok(false);
-        }
+    let Some(_) = close(&mut engine, graph, &F)? else {
+        return Ok(false);
+    };
+    let Some(Closed::Open(facts)) = close(&mut engine, graph, &case.fault)? else {
+        return Ok(false);
+    };
+    if !lead_to(alloc, &engine, graph, &case.fault, &facts)? {
+        return Ok(false);
     }
-    Ok(true)
+    Ok(are_known(&facts, &case.known))
+}
+
+fn is_right(alloc: Global, case: &Case) -> Result<bool, NoMemory> {
+    let Some(graph) = wired(alloc, 4, &SHARED, 9)? else {
+        return Ok(false);
+    };
+    gives(alloc, &graph, case)
 }
 
 #[test]
-fn lines_lead_to_the_facts(rt: HostRuntime) -> Result<(), Fail> {
-    let right = lines_are_last(rt.alloc())?;
-    assert!(rt; right);
+fn derivable_facts_are_known(rt: HostRuntime) -> Result<(), Fail> {
+    for at in 0..CASES.len() {
+        let right = is_right(rt.alloc(), &CASES[at])?;
+        assert!(rt; right, "at case {at}");
+    }
     Ok(())
 }
 
-// What is known of node 4 after growing, and after extending in place, by its value; and whether taking back gives
-// the facts before.
-fn grown(alloc: Global) -> Result<Option<(Option<bool>, Option<bool>, bool)>, NoMemory> {
-    let Some(graph) = wired(alloc, 4, &SHARED, 9)? else {
+// What is known of node 4 after growing facts that don't tell its good value by its being 1.
+fn grown(
+    engine: &mut Engine,
+    graph: &Graph,
+    facts: &FactSet,
+    fault: &Fault,
+) -> Result<Option<bool>, NoMemory>
+    requires numbers { length (net_of graph.now).nodes ≤ engine.old.numbers }
+    requires size { length (net_of graph.now).nodes ≤ length facts.now }
+    requires free { IsClashFree (held_by facts.now) }
+    ensures { engine.new.numbers ≡ engine.old.numbers }
+{
+    let node = NodeId(4);
+    let Some(_) = graph.driver(fault.gate, fault.position) else {
         return Ok(None);
     };
-    let mut engine = Engine::new(alloc, &graph)?;
-    let (Some(_), Some(_)) = (graph.driver(F.gate, F.position), graph.kind(NodeId(4))) else {
+    let Some(_) = graph.kind(node) else {
         return Ok(None);
     };
-    let Closed::Open(mut facts) = engine.close(&graph, &F)? else {
-        return Ok(None);
-    };
-    if known(&facts, Aspect::OfGood, NodeId(4)).is_some() {
+    if known(facts, Aspect::OfGood, node).is_some() {
         return Ok(None);
     }
-    let Closed::Open(more) = engine.grow(&graph, &F, &facts, NodeId(4), true)? else {
+    let Closed::Open(more) = engine.grow(graph, fault, facts, node, true)? else {
         return Ok(None);
     };
+    if 4 < more.len() {
+        return Ok(known(&more, Aspect::OfFaulty, node));
+    }
+    Ok(None)
+}
+
+// The same by extending them in place, where taking that back gives the facts before.
+fn extended(
+    alloc: Global,
+    engine: &mut Engine,
+    graph: &Graph,
+    facts: &mut FactSet,
+    fault: &Fault,
+) -> Result<Option<bool>, NoMemory>
+    requires numbers { length (net_of graph.now).nodes ≤ engine.old.numbers }
+    requires size { length (net_of graph.now).nodes ≤ length facts.old }
+    requires closed { IsClosedUnderLines (net_of graph.now) fault.now (held_by facts.old) }
+    requires free { IsClashFree (held_by facts.old) }
+{
+    let node = NodeId(4);
+    let Some(_) = graph.driver(fault.gate, fault.position) else {
+        return Ok(None);
+    };
+    let Some(_) = graph.kind(node) else {
+        return Ok(None);
+    };
+    if known(facts, Aspect::OfGood, node).is_some() {
+        return Ok(None);
+    }
     let before = facts.copy(alloc)?;
     let mark = engine.mark();
-    let None = engine.extend(&graph, &F, &mut facts, NodeId(4), true)? else {
-        return Ok(None);
+    let clash = engine.extend(graph, fault, facts, node, true)?;
+    let now = known(facts, Aspect::OfFaulty, node);
+    engine.take_back(facts, mark);
+    if clash.is_none() && is_same(facts, &before) {
+        return Ok(now);
+    }
+    Ok(None)
+}
+
+// What growing and extending tell of node 4.
+fn both(alloc: Global) -> Result<(Option<bool>, Option<bool>), NoMemory> {
+    let Some(graph) = wired(alloc, 4, &SHARED, 9)? else {
+        return Ok((None, None));
     };
-    let by_grow = known(&more, Aspect::OfFaulty, NodeId(4));
-    let by_extend = known(&facts, Aspect::OfFaulty, NodeId(4));
-    engine.take_back(&mut facts, mark);
-    Ok(Some((by_grow, by_extend, is_same(&facts, &before))))
+    let mut engine = Engine::new(alloc, &graph)?;
+    let Some(_) = graph.driver(F.gate, F.position) else {
+        return Ok((None, None));
+    };
+    let Closed::Open(mut facts) = engine.close(&graph, &F)? else {
+        return Ok((None, None));
+    };
+    let one = grown(&mut engine, &graph, &facts, &F)?;
+    let other = extended(alloc, &mut engine, &graph, &mut facts, &F)?;
+    Ok((one, other))
 }
 
 #[test]
 fn grows_and_takes_back(rt: HostRuntime) -> Result<(), Fail> {
-    assert_eq!(rt; grown(rt.alloc())?, Some((Some(true), Some(true), true)));
+    assert_eq!(rt; both(rt.alloc())?, (Some(true), Some(true)));
     Ok(())
 }

@@ -1,5 +1,5 @@
 // Every fault of fifty small nets, against all assignments.
-ghost use Rattle.std.specs.Prelude.{◌≡◌, ◌<◌, ◌≤◌, IfOk, length};
+ghost use Rattle.std.specs.Prelude.{◌≡◌, ◌<◌, ◌≤◌, length};
 ghost use Rattle.gate_graph.specs.Circuit.{net_of};
 
 use super::nets::{Gate, wired};
@@ -31,16 +31,14 @@ fn drawn_gate(state: &mut u64, nodes: u32) -> Gate
     let one = draw(state, nodes);
     let other = draw(state, nodes);
     match kind {
-        0 | 1 => Gate::And([one, other]),
-        2 | 3 => Gate::Or([one, other]),
+        0 | 1 => Gate::And(one, other),
+        2 | 3 => Gate::Or(one, other),
         _ => Gate::Not(one),
     }
 }
 
 // Gates whose drivers are constants, sources and gates before them.
-fn drawn_gates(alloc: Global, seed: u64) -> Result<Vec<Gate>, NoMemory>
-    ensures { IfOk result (λ v. length v.items ≡ 9) }
-{
+fn drawn_gates(alloc: Global, seed: u64) -> Result<Vec<Gate>, NoMemory> {
     let mut state = seed;
     let mut gates = Vec::new(alloc);
     for at in 0..GATES {
@@ -73,13 +71,13 @@ fn read(values: &[bool], fault: &Option<Fault>, node: u32, position: u32, driver
 
 fn gate_value(values: &[bool], fault: &Option<Fault>, node: u32, gate: Gate) -> bool {
     match gate {
-        Gate::And([one, other]) => {
+        Gate::And(one, other) => {
             read(values, fault, node, 0, one) & read(values, fault, node, 1, other)
         }
-        Gate::Or([one, other]) => {
+        Gate::Or(one, other) => {
             read(values, fault, node, 0, one) | read(values, fault, node, 1, other)
         }
-        Gate::OrOfThree(_) => false,
+        Gate::OrOfThree(_, _, _) => false,
         Gate::Not(driver) => !read(values, fault, node, 0, driver),
     }
 }
@@ -90,9 +88,7 @@ fn last_value(
     gates: &[Gate],
     fault: &Option<Fault>,
     assignment: u32,
-) -> Result<bool, NoMemory>
-    requires { length gates.now ≤ 100 }
-{
+) -> Result<bool, NoMemory> {
     let mut values = Vec::new(alloc);
     values.push(false)?;
     values.push(true)?;
@@ -104,15 +100,13 @@ fn last_value(
     for gate in gates {
         value = gate_value(values.as_slice(), fault, node, *gate);
         values.push(value)?;
-        node += 1;
+        node = node.wrapping_add(1);
     }
     Ok(value)
 }
 
 // Whether some assignment detects the fault at the last gate.
-fn is_detected(alloc: Global, gates: &[Gate], fault: Fault) -> Result<bool, NoMemory>
-    requires { length gates.now ≤ 100 }
-{
+fn is_detected(alloc: Global, gates: &[Gate], fault: Fault) -> Result<bool, NoMemory> {
     for assignment in 0..16u32 {
         let good = last_value(alloc, gates, &None, assignment)?;
         let faulty = last_value(alloc, gates, &Some(fault), assignment)?;
@@ -140,8 +134,7 @@ fn count_fault(
     fault: Fault,
     count: &mut Count,
 ) -> Result<(), NoMemory>
-    requires gates { length gates.now ≤ 100 }
-    requires numbers { length (net_of graph.now).nodes ≤ engine.old.numbers }
+    requires { length (net_of graph.now).nodes ≤ engine.old.numbers }
     ensures { engine.new.numbers ≡ engine.old.numbers }
 {
     let Some(_) = graph.driver(fault.gate, fault.position) else {
@@ -158,23 +151,39 @@ fn count_fault(
     Ok(())
 }
 
-// Closes all faults of the net of a seed.
-fn count_net(alloc: Global, seed: u64, count: &mut Count) -> Result<(), NoMemory> {
-    let gates = drawn_gates(alloc, seed)?;
-    let last = 1 + SOURCES + GATES;
-    let Some(graph) = wired(alloc, SOURCES, gates.as_slice(), last)? else {
-        return Ok(());
-    };
-    let mut engine = Engine::new(alloc, &graph)?;
+// Closes all faults of a net.
+fn count_faults(
+    alloc: Global,
+    engine: &mut Engine,
+    graph: &Graph,
+    gates: &[Gate],
+    count: &mut Count,
+) -> Result<(), NoMemory>
+    requires { length (net_of graph.now).nodes ≤ engine.old.numbers }
+{
     for number in 0..4 * GATES {
         let fault = Fault {
             gate: NodeId(2 + SOURCES + number / 4),
             position: number % 2,
             value: number % 4 < 2,
         };
-        count_fault(alloc, &mut engine, &graph, gates.as_slice(), fault, count)?;
+        count_fault(alloc, engine, graph, gates, fault, count)?;
     }
     Ok(())
+}
+
+// Closes all faults of the net of a seed.
+fn count_net(alloc: Global, seed: u64, count: &mut Count) -> Result<(), NoMemory> {
+    let gates = drawn_gates(alloc, seed)?;
+    if gates.len() > 100 {
+        return Ok(());
+    }
+    let last = 1 + SOURCES + GATES;
+    let Some(graph) = wired(alloc, SOURCES, gates.as_slice(), last)? else {
+        return Ok(());
+    };
+    let mut engine = Engine::new(alloc, &graph)?;
+    count_faults(alloc, &mut engine, &graph, gates.as_slice(), count)
 }
 
 #[test]

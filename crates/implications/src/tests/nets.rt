@@ -12,9 +12,9 @@ use std::alloc::Global;
 /// A gate of a table: an And or an Or of all drivers, or a Not of the first.
 #[derive(Clone, Copy)]
 pub enum Gate {
-    And([u32; 2]),
-    Or([u32; 2]),
-    OrOfThree([u32; 3]),
+    And(u32, u32),
+    Or(u32, u32),
+    OrOfThree(u32, u32, u32),
     Not(u32),
 }
 
@@ -78,9 +78,9 @@ fn add_gate(graph: &mut Graph, gate: Gate) -> Result<bool, NoMemory>
     ensures nodes { OnOk result (live_nodes graph.new ≤ live_nodes graph.old + 1) }
 {
     match gate {
-        Gate::And([one, other]) => add_two(graph, Kind::And, one, other),
-        Gate::Or([one, other]) => add_two(graph, Kind::Or, one, other),
-        Gate::OrOfThree([one, other, third]) => add_three(graph, one, other, third),
+        Gate::And(one, other) => add_two(graph, Kind::And, one, other),
+        Gate::Or(one, other) => add_two(graph, Kind::Or, one, other),
+        Gate::OrOfThree(one, other, third) => add_three(graph, one, other, third),
         Gate::Not(driver) => add_not(graph, driver),
     }
 }
