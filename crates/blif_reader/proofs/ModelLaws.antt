@@ -20,7 +20,7 @@ use Rattle.blif_format.specs.FirstFault.{Said, nothing_said, after_line, or_else
 use Rattle.blif_format.specs.declared.refusal.FaultKind.TheVariants.{NoModel, NoRank}
 use Rattle.blif_format.specs.declared.refusal.ReadRefusal.{ReadRefusal}
 use Rattle.blif_format.specs.declared.refusal.ReadRefusal.TheVariants.{Fault, Limit, NoMemory}
-use Rattle.blif_reader.specs.Bounds.{covers_weight}
+use Rattle.rm_model.specs.Size.{covers_weight}
 use Rattle.blif_reader.specs.Meant.{IsRefusal}
 use Rattle.blif_reader.specs.Drafts.{all_covers, Begins, Ends, IsDraft, model_in}
 use Rattle.blif_reader.specs.Progress.{bare_cover, IsRead}

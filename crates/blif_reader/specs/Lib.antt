@@ -10,4 +10,3 @@ pub mod Drafts
 pub mod Progress
 pub mod Ranked
 pub mod Laws
-pub mod Bounds

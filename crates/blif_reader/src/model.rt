@@ -8,7 +8,7 @@ ghost use Rattle.rm_model.specs.WellFormed.{IsWellFormed};
 ghost use Rattle.blif_lines.specs.Layout.{lines_of};
 ghost use Rattle.blif_format.specs.Grammar.{Reads};
 ghost use Rattle.blif_format.specs.FirstFault.{first_fault};
-ghost use Rattle.blif_reader.specs.Bounds.{covers_weight};
+ghost use Rattle.rm_model.specs.Size.{covers_weight};
 ghost use Rattle.blif_reader.specs.Meant.{IsRefusal};
 ghost use Rattle.blif_reader.specs.Ranked.{fault_at, rank_found};
 

@@ -13,7 +13,8 @@ use Rattle.rm_model.specs.declared.parts.Cover.{Cover}
 use Rattle.rm_model.specs.declared.parts.Model.{Model}
 use Rattle.cover_decompose.specs.Needed.{taken, ranked_covers, of_rank, of_ranks, covers_by_rank, is_needed, needed_of}
 use Rattle.cover_decompose.specs.Count.{literal_count, joining, cover_wires, zero_names, cover_zero_names, new_count, decomposed}
-use Rattle.cover_decompose.specs.Bounds.{rows_weight, covers_weight, WiresAreBounded}
+use Rattle.rm_model.specs.Size.{rows_weight, covers_weight}
+use Rattle.cover_decompose.specs.Bounds.{WiresAreBounded}
 
 abbrev weight : Cover → ℕ
 weight c = rows_weight c.rows + 1

@@ -1,18 +1,9 @@
--- A number that bounds the wires of a decomposition.
-use Rattle.std.specs.Prelude.{◌<◌, ◌≤◌, ◌+◌, ◌*◌, ◌^◌, ℕ, List, [], ◌∷◌, length}
+-- Models whose decomposition can be counted and numbered.
+use Rattle.std.specs.Prelude.{◌<◌, ◌≤◌, ◌^◌, length}
+use Rattle.rm_model.specs.Size.{covers_weight}
 use Rattle.rm_model.specs.Value.{source_names, observed_names}
-use Rattle.rm_model.specs.declared.parts.Literal.{Literal}
-use Rattle.rm_model.specs.declared.parts.Cover.{Cover}
 use Rattle.rm_model.specs.declared.parts.Model.{Model}
 use Rattle.cover_decompose.specs.Count.{decomposed}
-
-abbrev pub rows_weight : List (List Literal) → ℕ
-rows_weight [] = 0
-rows_weight (r ∷ rs) = 2 * length r + 1 + rows_weight rs
-
-abbrev pub covers_weight : List Cover → ℕ
-covers_weight [] = 0
-covers_weight (c ∷ cs) = rows_weight c.rows + 1 + covers_weight cs
 
 abbrev pub WiresAreBounded : Type 0
 WiresAreBounded = (m : Model) → decomposed m ≤ covers_weight m.covers

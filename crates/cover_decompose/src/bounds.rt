@@ -1,6 +1,7 @@
 //! Whether the decomposition of a model can be counted and numbered.
 ghost use Rattle.std.specs.Prelude.{◌≡◌, ◌+◌, ◌*◌, length, IfOk, IfSome, true};
-ghost use Rattle.cover_decompose.specs.Bounds.{rows_weight, covers_weight, IsSmall};
+ghost use Rattle.rm_model.specs.Size.{rows_weight, covers_weight};
+ghost use Rattle.cover_decompose.specs.Bounds.{IsSmall};
 
 use rm_base::NoMemory;
 use rm_model::{Cover, Model, Row, observed, sources};

@@ -3,5 +3,4 @@ pub mod Pieces
 pub mod Reports
 pub mod Tidied
 pub mod Composed
-pub mod Bounded
 pub mod Room

@@ -4,4 +4,3 @@ pub mod Problems
 pub mod Written
 pub mod Outcome
 pub mod Composition
-pub mod Bounds

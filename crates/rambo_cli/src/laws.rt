@@ -1,5 +1,4 @@
 //! How the layers compose.
-ghost use Rattle.rambo_cli.specs.Bounds.{WiresAreBounded};
 ghost use Rattle.rambo_cli.specs.Composition.{ModelsAreWritten, TidiedNetsFit};
 
 use blif_writer::{read_texts_are_faultless, written_texts_read};
@@ -29,8 +28,3 @@ pub fn models_are_written()
     written_texts_read();
     read_texts_are_faultless();
 }
-
-/// A decomposition has no more wires than the rows and literals of the model allow.
-pub fn wires_are_bounded()
-    ensures { WiresAreBounded }
-{}

@@ -19,4 +19,4 @@ mod words;
 mod work;
 
 pub use command::run;
-pub use laws::{models_are_written, tidied_nets_fit, wires_are_bounded};
+pub use laws::{models_are_written, tidied_nets_fit};

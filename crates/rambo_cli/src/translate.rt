@@ -13,18 +13,18 @@ ghost use Rattle.wire_edit.specs.Order.{IsTidy};
 ghost use Rattle.graph_to_model.specs.NetModel.{model_of_net};
 ghost use Rattle.graph_to_model.specs.Fits.{Fits};
 ghost use Rattle.graph_to_model.specs.Laws.{AreFew};
-ghost use Rattle.rambo_cli.specs.Bounds.{IsSmall};
+ghost use Rattle.cover_decompose.specs.Bounds.{IsSmall};
 ghost use Rattle.rambo_cli.specs.Written.{IsWritten, IsWrittenFor, HasFault, Exceeds, most_pins};
 ghost use Rattle.rambo_cli.specs.Problems.{IsOver};
 
-use crate::laws::{models_are_written, tidied_nets_fit, wires_are_bounded};
+use crate::laws::{models_are_written, tidied_nets_fit};
 use crate::problem::Problem;
 use crate::tidy::tidied;
 use blif_format::Quantity;
 use blif_reader::read_model;
 use blif_writer::write_model;
 use cover_decompose::{
-    DecomposeRefusal, decompose, decompositions_are_formed, decompositions_stand,
+    DecomposeRefusal, decompose, decompositions_are_formed, decompositions_stand, wires_are_bounded,
 };
 use gate_graph::Graph;
 use graph_to_model::{ModelRefusal, model_of};

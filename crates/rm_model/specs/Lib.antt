@@ -6,3 +6,4 @@ pub mod Numbers
 pub mod Search
 pub mod SearchView
 pub mod RankFaults
+pub mod Size

@@ -1,13 +1,20 @@
 // Nets whose answers were worked out by hand.
 ghost use Rattle.std.specs.Prelude.{◌≤◌};
+ghost use Rattle.gate_net.specs.Values.{HasPin};
+ghost use Rattle.gate_graph.specs.Circuit.{net_of};
 
 use super::nets::{Gate, wired};
 use crate::refute;
 use gate_graph::Graph;
 use implications::{Closed, Engine};
+use refutation::{Form, Tree};
+use refutation_check::{CheckRefusal, check_tree};
 use rm_base::{Fault, NoMemory, NodeId};
 use std::alloc::Global;
 use std::test::Fail;
+
+// x + x y, of the sources x and y. That the first pin of x y is stuck at 0 is refuted by lines alone.
+const ABSORBED: [Gate; 2] = [Gate::And(2, 3), Gate::Or(2, 4)];
 
 // (a b + a c) d, of the sources a, b, c and d. The assignment 0101 detects that the first pin of a b is stuck at 1.
 const SHARED: [Gate; 4] = [
@@ -79,7 +86,19 @@ const LEARNS: [Gate; 16] = [
     Gate::And(25, 10),
 ];
 
-/// Whether the fault is refuted at the depth; None where the net has no such pin.
+// Whether the checker accepts the tree.
+fn is_accepted(alloc: Global, graph: &Graph, fault: &Fault, tree: &Tree) -> Result<bool, NoMemory>
+    requires { HasPin (net_of graph.now) fault.now }
+{
+    match check_tree(alloc, graph, fault, tree, Form::Closed) {
+        Ok(_) => Ok(true),
+        Err(CheckRefusal::NoMemory) => Err(NoMemory),
+        Err(_) => Ok(false),
+    }
+}
+
+/// Whether the fault is refuted at the depth; None where the net has no such pin, or where the checker doesn't accept the
+/// refutation.
 pub fn is_refuted(
     alloc: Global,
     graph: &Graph,
@@ -93,7 +112,10 @@ pub fn is_refuted(
     };
     let mut engine = Engine::new(alloc, graph)?;
     match refute(alloc, &mut engine, graph, fault, depth)? {
-        Closed::Clash(_) => Ok(Some(true)),
+        Closed::Clash(tree) => {
+            let accepted = is_accepted(alloc, graph, fault, &tree)?;
+            Ok(accepted.then_some(true))
+        }
         Closed::Open(_) => Ok(Some(false)),
     }
 }
@@ -133,6 +155,13 @@ fn is_right(alloc: Global, case: &Case<'_>, depth: u8) -> Result<bool, NoMemory>
 #[test]
 fn each_needs_its_depth(rt: HostRuntime) -> Result<(), Fail> {
     let cases = [
+        Case {
+            sources: 2,
+            gates: &ABSORBED,
+            observed: 5,
+            fault: fault(4, 0, false),
+            from: 0,
+        },
         Case {
             sources: 4,
             gates: &SHARED,

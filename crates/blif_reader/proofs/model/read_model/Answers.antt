@@ -9,7 +9,7 @@ use Rattle.blif_format.specs.Grammar.{Reads}
 use Rattle.blif_format.specs.FirstFault.{Said, first_fault, said_by, nothing_said, lines_fault, fault_if, undriven_fault}
 use Rattle.blif_format.specs.declared.refusal.FaultKind.TheVariants.{NoModel}
 use Rattle.blif_format.specs.declared.refusal.ReadRefusal.{ReadRefusal}
-use Rattle.blif_reader.specs.Bounds.{covers_weight}
+use Rattle.rm_model.specs.Size.{covers_weight}
 use Rattle.blif_reader.specs.Meant.{IsRefusal}
 use Rattle.blif_reader.specs.Drafts.{all_covers, model_in}
 use Rattle.blif_reader.specs.Ranked.{rank_found, fault_at}

@@ -1,6 +1,6 @@
 use Rattle.std.proofs.Common.{◌≡◌, ◌+◌}
 use Rattle.std.specs.Prelude.{drop}
-use Rattle.cover_decompose.specs.Bounds.{rows_weight}
+use Rattle.rm_model.specs.Size.{rows_weight}
 use Rattle.cover_decompose.proofs.bounds.add_rows.Given as goal
 
 abbrev pub invariant-loop-row : goal.invariant-loop-row

@@ -1,6 +1,6 @@
 use Rattle.std.proofs.Common.{◌≡◌, ◌+◌}
 use Rattle.std.specs.Prelude.{drop}
-use Rattle.cover_decompose.specs.Bounds.{covers_weight}
+use Rattle.rm_model.specs.Size.{covers_weight}
 use Rattle.cover_decompose.proofs.bounds.weight.Given as goal
 
 abbrev pub invariant-loop-cover : goal.invariant-loop-cover
