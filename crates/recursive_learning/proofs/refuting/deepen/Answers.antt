@@ -15,9 +15,11 @@ loop-level-preserved c =
     (subst (λ (b : Bool). IsLearned (net_of c.args.graph.now) c.args.fault.now (c.loop-level.level + 1) (held_by c.loop-level.facts) b (held_by c.learn.new.facts)) c.if-branch.false c.in_ok-learn.ensures.learned)
 
 pub returns-then-branch-clause-deepened : goal.returns-then-branch-clause-deepened
-returns-then-branch-clause-deepened c = (omega arith,
-    deepening_clash (net_of c.args.graph.now) c.args.fault.now c.loop-level.level c.args.engine.now c.loop-level.engine c.args.facts.now c.loop-level.facts c.loop-level.invariant
-    (subst (λ (b : Bool). IsLearned (net_of c.args.graph.now) c.args.fault.now (c.loop-level.level + 1) (held_by c.loop-level.facts) b (held_by c.learn.new.facts)) c.if-branch.true c.in_ok-learn.ensures.learned))
+returns-then-branch-clause-deepened c = (
+  omega arith,
+  deepening_clash (net_of c.args.graph.now) c.args.fault.now c.loop-level.level c.args.engine.now c.loop-level.engine c.args.facts.now c.loop-level.facts c.loop-level.invariant
+      (subst (λ (b : Bool). IsLearned (net_of c.args.graph.now) c.args.fault.now (c.loop-level.level + 1) (held_by c.loop-level.facts) b (held_by c.learn.new.facts)) c.if-branch.true c.in_ok-learn.ensures.learned),
+)
 
 pub returns-then-branch-clause-keeps : goal.returns-then-branch-clause-keeps
 returns-then-branch-clause-keeps c = keeps_join c.args.engine.now c.loop-level.engine c.learn.new.engine c.args.facts.now c.loop-level.facts c.learn.new.facts c.loop-level.invariant.keeps c.in_ok-learn.ensures.keeps
