@@ -1,16 +1,15 @@
 -- What the justifications looked at so far have in common.
-use Rattle.std.proofs.Common.{Bool, List, None, Some, [], ap, arith, drop, false, inl, inr, length, not, refl, subst, suc, sym, true, zero, ℕ, ◌+◌, ◌<◌, ◌∙◌, ◌∷◌, ◌≡◌, ◌≢◌, ◌≤◌, ◌⊎◌}
+use Rattle.std.proofs.Common.{Bool, List, None, Some, [], arith, false, inl, inr, length, refl, subst, suc, sym, true, zero, ℕ, ◌+◌, ◌<◌, ◌∙◌, ◌∷◌, ◌≡◌, ◌≤◌, ◌⊎◌}
 use Rattle.std.proofs.lemmas.Bool.{cases_lt}
 use Rattle.std.specs.Prelude.{IsTrue, slice_get}
 use Rattle.gate_net.specs.Net.{Net}
-use Rattle.implications.specs.Trail.{AreAdded, IsAmong}
-use Rattle.recursive_learning.specs.Common.{AreGoodsOf, AreHeldAmong, IsAmongGoods, Meets}
+use Rattle.implications.specs.Trail.{IsAmong}
+use Rattle.recursive_learning.specs.Common.{Meets}
 use Rattle.recursive_learning.specs.Least.{IsLeastAt}
-use Rattle.recursive_learning.specs.Lessons.{AreCommon, AreFound, AreLessons, AreNew, IsNew, IsNothingNew}
+use Rattle.recursive_learning.specs.Lessons.{AreCommon, AreFound, IsNothingNew}
 use Rattle.recursive_learning.specs.Working.{AreSettled}
 use Rattle.recursive_learning.specs.declared.lessons.Learned.{Learned}
-use Rattle.refutation.proofs.Closings.{with_more}
-use Rattle.refutation.proofs.Depths.{both_good, known_held}
+use Rattle.refutation.proofs.Depths.{known_held}
 use Rattle.refutation.specs.Closing.{IsClashFree, IsWithin}
 use Rattle.refutation.specs.FactSets.{held_by}
 use Rattle.refutation.specs.Facts.{Held, known_good, one_of, with_fact}

@@ -1,7 +1,7 @@
 -- Adding good values one after another.
-use Rattle.std.proofs.Common.{Bool, List, None, Some, [], arith, false, inl, inr, length, refl, subst, suc, true, zero, ℕ, ◌+◌, ◌<◌, ◌∷◌, ◌≡◌, ◌≤◌}
-use Rattle.std.specs.Prelude.{IsTrue, slice_get}
-use Rattle.gate_net.specs.Net.{IsLive, Net}
+use Rattle.std.proofs.Common.{List, None, Some, arith, false, refl, subst, suc, true, zero, ℕ, ◌+◌, ◌<◌, ◌≡◌, ◌≤◌}
+use Rattle.std.specs.Prelude.{slice_get}
+use Rattle.gate_net.specs.Net.{Net}
 use Rattle.implications.specs.State.{EngineState}
 use Rattle.recursive_learning.specs.Lessons.{AreNew, HoldsAll, IsGained}
 use Rattle.recursive_learning.specs.Working.{AreSettled, IsLearned, Keeps}

@@ -1,9 +1,9 @@
 -- Good values among facts.
-use Rattle.std.proofs.Common.{Bool, List, Some, [], ap, false, get_or, length, take, ◌+◌, ◌<◌, inl, inr, refl, suc, sym, true, zero, ℕ, ◌++◌, ◌∙◌, ◌∷◌, ◌≡◌, ◌≢◌, ◌⊎◌}
+use Rattle.std.proofs.Common.{Bool, List, Some, [], ap, get_or, length, take, ◌+◌, ◌<◌, inl, inr, refl, suc, sym, zero, ℕ, ◌++◌, ◌∙◌, ◌∷◌, ◌≡◌, ◌≢◌, ◌⊎◌}
 use Rattle.std.proofs.lemmas.List.{take_more}
 use Rattle.std.specs.Prelude.{slice_get}
 use Rattle.implications.specs.Trail.{IsAmong}
-use Rattle.recursive_learning.specs.Common.{AreGoodsOf, AreHeldAmong, IsAmongGoods, IsKnownGood}
+use Rattle.recursive_learning.specs.Common.{AreGoodsOf, AreHeldAmong, IsAmongGoods}
 use Rattle.recursive_learning.specs.declared.lessons.Learned.{Learned}
 use Rattle.refutation.specs.Facts.{Held, known_good}
 use Rattle.refutation.specs.declared.reasoning.Fact.{Fact}

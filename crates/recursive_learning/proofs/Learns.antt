@@ -1,5 +1,5 @@
 -- What the justifications of one gate teach, and what stays under more facts.
-use Rattle.std.proofs.Common.{not, suc, ℕ}
+use Rattle.std.proofs.Common.{not}
 use Rattle.recursive_learning.specs.Gates.{ClashesAreLearned, ClashesStay, OppositesClash, ValuesAreLearned}
 use Rattle.refutation.proofs.Closings.{with_within}
 use Rattle.refutation.proofs.Depths.{both_good, learned_in, one_may_in}

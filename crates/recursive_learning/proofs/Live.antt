@@ -1,5 +1,5 @@
 -- Facts to which lines lead are on live nodes.
-use Rattle.std.proofs.Common.{List, None, Option, Some, [], inl, inr, refl, subst, ◌∷◌, ◌≡◌, ◌≢◌, ℕ}
+use Rattle.std.proofs.Common.{List, None, Option, Some, [], inl, inr, refl, ◌∷◌, ◌≡◌, ◌≢◌, ℕ}
 use Rattle.std.specs.Prelude.{IsTrue}
 use Rattle.gate_net.specs.Net.{IsLive, IsWellFormed, Net, Node, Reads, node_at}
 use Rattle.gate_net.specs.Values.{HasPin}

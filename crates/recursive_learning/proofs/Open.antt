@@ -1,12 +1,12 @@
 -- Drivers that may give a gate its value.
-use Rattle.std.proofs.Common.{Bool, List, None, Option, Some, [], ap, false, inl, inr, map, not, refl, suc, sym, true, zero, ℕ, ◌∙◌, ◌∷◌, ◌≡◌}
+use Rattle.std.proofs.Common.{Bool, List, Option, Some, [], ap, false, inl, inr, map, not, refl, suc, sym, true, zero, ℕ, ◌∙◌, ◌∷◌, ◌≡◌}
 use Rattle.std.specs.List.{list_any}
 use Rattle.std.specs.Prelude.{slice_get}
 use mathlib.Core.Bool.{beq}
 use Rattle.gate_net.proofs.Bools.{or_true}
 use Rattle.gate_net.proofs.Follows.{is_known_true}
 use Rattle.gate_net.specs.Forward.{is_known}
-use Rattle.gate_net.specs.Net.{IsKind, Net, Reads, drivers_of, kind_in, kind_of}
+use Rattle.gate_net.specs.Net.{Net, drivers_of, kind_in, kind_of}
 use Rattle.gate_net.specs.Values.{controlling}
 use Rattle.gate_net.specs.declared.Kind.{Kind}
 use Rattle.recursive_learning.specs.Gates.{NoneGives}

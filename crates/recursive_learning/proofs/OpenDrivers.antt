@@ -1,6 +1,6 @@
 -- The different drivers of a gate whose good value isn't known.
-use Rattle.std.proofs.Common.{Bool, List, None, Option, Some, [], ap, append-nil, arith, false, inl, inr, length, length-append, map, refl, suc, sym, true, zero, ℕ, ◌++◌, ◌+◌, ◌<◌, ◌||◌, ◌∙◌, ◌∷◌, ◌≡◌, ◌≢◌, ◌≤◌, ◌⊎◌}
-use Rattle.std.proofs.lemmas.Bool.{eq-eqb, eqb-true}
+use Rattle.std.proofs.Common.{Bool, List, None, Option, Some, [], ap, append-nil, arith, false, inl, inr, length, length-append, map, refl, suc, sym, true, zero, ℕ, ◌++◌, ◌+◌, ◌||◌, ◌∙◌, ◌∷◌, ◌≡◌, ◌≢◌, ◌≤◌, ◌⊎◌}
+use Rattle.std.proofs.lemmas.Bool.{eq-eqb}
 use Rattle.std.proofs.lemmas.Bool.Decides.{eqb_tells}
 use Rattle.std.proofs.lemmas.List.Folds.{list_any-append}
 use Rattle.std.proofs.lemmas.Map.Keys.{IsDistinct-push}
@@ -8,8 +8,8 @@ use Rattle.std.proofs.lemmas.Map.Made.{length-le_from_is_member}
 use Rattle.std.specs.Cmp.{nat_eq_equiv}
 use Rattle.std.specs.List.{IsDistinct, list_any}
 use Rattle.std.specs.Prelude.{is_some, nat_eq, slice_get}
-use Rattle.gate_net.proofs.Bools.{or_either, or_true}
-use Rattle.gate_net.specs.Net.{Net, Reads, drivers_of}
+use Rattle.gate_net.proofs.Bools.{or_true}
+use Rattle.gate_net.specs.Net.{Net, drivers_of}
 use Rattle.recursive_learning.specs.Gates.{AreJustifications}
 use Rattle.refutation.specs.Facts.{Held, known_good}
 use Rattle.refutation.specs.Learning.{HasFew, IsJustification}

@@ -1,8 +1,8 @@
 -- From no facts to an answer.
-use Rattle.std.proofs.Common.{List, [], append-nil, arith, suc, zero, ◌+◌, ◌-◌, inl, inr, length, map, refl, subst, sym, true, false, ◌++◌, ◌∙◌, ◌∷◌, ◌≡◌, ◌≤◌, ◌↔◌, ℕ}
+use Rattle.std.proofs.Common.{List, [], append-nil, arith, suc, zero, ◌+◌, ◌-◌, map, subst, sym, true, false, ◌++◌, ◌∙◌, ◌∷◌, ◌≡◌, ◌≤◌, ◌↔◌, ℕ}
 use Rattle.gate_net.specs.Net.{IsWellFormed, Net}
 use Rattle.gate_net.specs.Values.{HasPin}
-use Rattle.implications.specs.Outcomes.{IsClash, IsClashed, IsClosing, IsOpen}
+use Rattle.implications.specs.Outcomes.{IsClash, IsClashed, IsOpen}
 use Rattle.implications.specs.State.{EngineState}
 use Rattle.implications.specs.declared.outcome.Closed.{Closed}
 use Rattle.implications.specs.declared.outcome.Closed.TheVariants.{Clash, Open}

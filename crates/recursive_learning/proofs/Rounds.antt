@@ -1,15 +1,15 @@
 -- Looking at the gates, one after another.
-use Rattle.std.proofs.Common.{Bool, List, None, Some, [], arith, false, inl, inr, length, refl, subst, suc, sym, true, zero, ℕ, ◌+◌, ◌-◌, ◌<◌, ◌∙◌, ◌∷◌, ◌≡◌, ◌≢◌, ◌≤◌}
+use Rattle.std.proofs.Common.{Bool, List, Some, [], arith, false, inl, inr, length, refl, subst, suc, sym, true, ℕ, ◌+◌, ◌<◌, ◌∷◌, ◌≡◌, ◌≢◌, ◌≤◌}
 use Rattle.std.proofs.lemmas.Bool.{cases_lt}
-use Rattle.std.specs.Prelude.{IsTrue, slice_get}
-use Rattle.gate_net.specs.Net.{IsLive, Net}
+use Rattle.std.specs.Prelude.{slice_get}
+use Rattle.gate_net.specs.Net.{Net}
 use Rattle.gate_net.specs.Values.{IsJunction}
 use Rattle.implications.specs.State.{EngineState}
 use Rattle.implications.specs.Trail.{LeadsBack}
 use Rattle.recursive_learning.proofs.Gains.{keeps_join, keeps_none}
 use Rattle.recursive_learning.proofs.Learns.{clashes_are_learned, values_are_learned}
 use Rattle.recursive_learning.specs.Gates.{AreJustifications, HasTaught, NoneGives}
-use Rattle.recursive_learning.specs.Least.{AreForced, IsLeastAt}
+use Rattle.recursive_learning.specs.Least.{AreForced}
 use Rattle.recursive_learning.specs.Lessons.{AreFound, HoldsAll, IsAll, IsGained, IsLesson, IsNothingNew, IsOne, IsRound}
 use Rattle.recursive_learning.specs.Working.{AreSettled, IsLearned, Keeps}
 use Rattle.recursive_learning.specs.declared.lessons.Learned.{Learned}
@@ -20,8 +20,8 @@ use Rattle.refutation.proofs.Depths.{lines_of}
 use Rattle.refutation.proofs.Told.{kind_live}
 use Rattle.refutation.specs.Closing.{IsClashFree, IsWithin}
 use Rattle.refutation.specs.FactSets.{held_by, missing}
-use Rattle.refutation.specs.Facts.{Held, known_good, with_fact}
-use Rattle.refutation.specs.Learning.{HasFew, HasLearned, IsClosedAt, IsJustification, IsUnjustified, LeadsToClash}
+use Rattle.refutation.specs.Facts.{Held, known_good}
+use Rattle.refutation.specs.Learning.{HasFew, HasLearned, IsClosedAt, IsJustification, LeadsToClash}
 use Rattle.refutation.specs.declared.held.NodeFacts.{NodeFacts}
 use Rattle.refutation.specs.declared.reasoning.Fact.TheVariants.{Good}
 use Rattle.rm_base.specs.declared.numbers.Fault.{Fault}

@@ -1,6 +1,5 @@
 -- Splits, and gates of which all drivers are shown to have the other value.
-use Rattle.std.proofs.Common.{Bool, List, None, Option, Some, [], ap, arith, false, inl, inr, length, map, not, refl, subst, suc, sym, true, zero, ℕ, ◌+◌, ◌++◌, ◌<◌, ◌∙◌, ◌∷◌, ◌≡◌, ◌⊎◌}
-use Rattle.std.proofs.lemmas.Bool.{cases_lt}
+use Rattle.std.proofs.Common.{Bool, List, None, Option, Some, [], ap, arith, false, inl, inr, length, map, not, refl, suc, true, zero, ℕ, ◌++◌, ◌<◌, ◌∙◌, ◌∷◌, ◌≡◌, ◌⊎◌}
 use Rattle.std.specs.List.{list_all}
 use Rattle.std.specs.Prelude.{IsTrue, slice_get}
 use mathlib.Core.Bool.{beq}
@@ -11,20 +10,17 @@ use Rattle.gate_net.specs.declared.Kind.{Kind}
 use Rattle.gate_net.specs.declared.Kind.TheVariants.{And, Not, One, Or, Source, Zero}
 use Rattle.recursive_learning.proofs.Commons.{held_known}
 use Rattle.recursive_learning.proofs.Tells.{writes_join}
-use Rattle.recursive_learning.specs.Gates.{AllClash, AllLead, AreJustifications}
 use Rattle.recursive_learning.specs.Lessons.{IsLesson}
 use Rattle.recursive_learning.specs.Telling.{Ends, IsTold, Leads, Writes, branch, none}
 use Rattle.recursive_learning.specs.Working.{AreSettled}
-use Rattle.recursive_learning.specs.Writing.{CaseClashes, CasesClash, HasCases, OppositeClashes}
+use Rattle.recursive_learning.specs.Writing.{CasesClash, HasCases, OppositeClashes}
 use Rattle.recursive_learning.specs.declared.lessons.Learned.{Learned}
-use Rattle.refutation.proofs.Closings.{with_there, with_within}
+use Rattle.refutation.proofs.Closings.{with_within}
 use Rattle.refutation.proofs.Depths.{all_of, both_good, junction_kind, known_held}
 use Rattle.refutation.proofs.Grows.{all_not_any, good_stays, is_known_some}
-use Rattle.refutation.specs.Branches.{IsNoConstant, MaySplit}
+use Rattle.refutation.specs.Branches.{MaySplit}
 use Rattle.refutation.specs.Closing.{IsClashFree, IsWithin}
 use Rattle.refutation.specs.Facts.{Held, known_good, one_of, with_fact}
-use Rattle.refutation.specs.Learning.{IsJustification, LeadsToClash}
-use Rattle.refutation.specs.Stack.{AcceptsAll}
 use Rattle.refutation.specs.declared.items.Item.{Item}
 use Rattle.refutation.specs.declared.items.Item.TheVariants.{Split}
 use Rattle.refutation.specs.declared.reasoning.Fact.TheVariants.{Good}

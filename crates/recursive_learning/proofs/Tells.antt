@@ -1,8 +1,8 @@
 -- Writing the items of a tree, part by part.
-use Rattle.std.proofs.Common.{Bool, List, None, Option, Some, [], ap, append_assoc, false, map, not, refl, subst, sym, true, ℕ, ◌++◌, ◌∙◌, ◌∷◌, ◌≡◌}
+use Rattle.std.proofs.Common.{Bool, List, [], ap, append_assoc, false, map, refl, subst, sym, ℕ, ◌++◌, ◌∷◌, ◌≡◌}
 use Rattle.gate_net.specs.Net.{IsLive, IsWellFormed, Net}
 use Rattle.gate_net.specs.Values.{HasPin}
-use Rattle.implications.specs.Outcomes.{IsClashAt, IsExtended, IsOpenFrom}
+use Rattle.implications.specs.Outcomes.{IsClashAt, IsOpenFrom}
 use Rattle.recursive_learning.proofs.Live.{leads_live, with_live}
 use Rattle.recursive_learning.specs.Telling.{Ends, IsTold, Leads, Writes, branch, line_item, none}
 use Rattle.recursive_learning.specs.Working.{AreSettled}

@@ -1,5 +1,5 @@
 -- Writing what the gates teach, one after another.
-use Rattle.std.proofs.Common.{Bool, List, None, Some, arith, false, inl, inr, length, refl, subst, suc, sym, true, zero, ℕ, ◌+◌, ◌<◌, ◌∙◌, ◌∷◌, ◌≡◌, ◌≤◌, ◌⊎◌}
+use Rattle.std.proofs.Common.{Bool, List, None, Some, arith, false, inl, inr, length, refl, subst, suc, sym, true, zero, ℕ, ◌+◌, ◌<◌, ◌≡◌, ◌≤◌, ◌⊎◌}
 use Rattle.std.proofs.lemmas.Bool.{cases_lt}
 use Rattle.std.specs.Prelude.{IsTrue, not, slice_get}
 use Rattle.gate_net.specs.Net.{Net}
@@ -13,7 +13,7 @@ use Rattle.recursive_learning.specs.Telling.{Ends, IsTold, Leads, branch}
 use Rattle.recursive_learning.specs.Working.{AreSettled, Keeps}
 use Rattle.recursive_learning.specs.Writing.{IsWritten}
 use Rattle.refutation.specs.FactSets.{held_by, missing}
-use Rattle.refutation.specs.Facts.{Held, known_good}
+use Rattle.refutation.specs.Facts.{known_good}
 use Rattle.refutation.specs.Learning.{LeadsToClash}
 use Rattle.refutation.specs.declared.held.NodeFacts.{NodeFacts}
 use Rattle.refutation.specs.declared.items.Item.{Item}

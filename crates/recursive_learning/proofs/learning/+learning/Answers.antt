@@ -1,26 +1,25 @@
-use Rattle.std.proofs.Common.{Bool, Global, List, None, Vec, rules, Option, Some, [], ap, arith, false, get_or, length, map, refl, subst, suc, sym, true, ◌+◌, ◌-◌, ◌<◌, ◌∙◌, ◌≡◌, ◌≢◌, ◌≤◌, ℕ}
+use Rattle.std.proofs.Common.{Bool, Global, List, Vec, rules, Option, arith, false, get_or, map, subst, suc, sym, true, ◌+◌, ◌-◌, ◌∙◌, ◌≡◌, ◌≢◌, ℕ}
 use Rattle.std.proofs.lemmas.List.{length-map}
-use Rattle.std.proofs.lemmas.Option.{slice_get-get_or}
 use Rattle.std.specs.Option.{MatchOption}
-use Rattle.std.specs.Prelude.{drop, slice_get}
+use Rattle.std.specs.Prelude.{drop}
 use Rattle.gate_graph.specs.Circuit.{net_of}
 use Rattle.implications.proofs.Trails.{trail_tells}
 use Rattle.implications.specs.Trail.{AreAdded, LeadsBack}
-use Rattle.recursive_learning.proofs.Commons.{common_clash, common_none, common_open, found_all, found_none}
+use Rattle.recursive_learning.proofs.Commons.{common_clash, common_open, found_all, found_none}
 use Rattle.recursive_learning.proofs.Gains.{keeps_join}
 use Rattle.recursive_learning.proofs.Live.{driver_live}
-use Rattle.recursive_learning.proofs.Rounds.{Learning, Passing, forced_clash, learned_join, learned_none, learning_more, learning_none, learning_quiet, lesson_of, passed, passing_clash, passing_gained, passing_none, passing_quiet, taken_back, taught_empty, taught_nothing, visit_clash, visit_gain, visit_gain_clash}
+use Rattle.recursive_learning.proofs.Rounds.{Learning, Passing, forced_clash, learned_join, learning_more, learning_quiet, lesson_of, passed, passing_clash, passing_gained, passing_quiet, taken_back, taught_nothing, visit_clash, visit_gain, visit_gain_clash}
 use Rattle.recursive_learning.proofs.Vecs.{driver_at, empty_is, full_is, map_some, true_false}
 use Rattle.recursive_learning.specs.Gates.{AreJustifications, HasTaught}
 use Rattle.recursive_learning.specs.Least.{AreForced}
-use Rattle.recursive_learning.specs.Lessons.{AreCommon, AreFound, AreNew, IsAll, IsGained, IsLesson, IsOne, IsRound, Teaches}
-use Rattle.recursive_learning.specs.Working.{AreSettled, IsLearned, Keeps}
+use Rattle.recursive_learning.specs.Lessons.{AreCommon, AreFound, IsAll, IsGained, IsLesson, IsOne, IsRound, Teaches}
+use Rattle.recursive_learning.specs.Working.{IsLearned}
 use Rattle.recursive_learning.specs.declared.lessons.Learned.{Learned}
 use Rattle.recursive_learning.specs.declared.lessons.Round.{Round}
 use Rattle.recursive_learning.specs.declared.lessons.Round.TheVariants.{Clash, Gained, Quiet}
 use Rattle.refutation.specs.Closing.{IsWithin}
 use Rattle.refutation.specs.FactSets.{held_by}
-use Rattle.refutation.specs.Facts.{Held, with_fact}
+use Rattle.refutation.specs.Facts.{with_fact}
 use Rattle.refutation.specs.Learning.{HasFew, LeadsToClash}
 use Rattle.refutation.specs.declared.held.NodeFacts.{NodeFacts}
 use Rattle.refutation.specs.declared.reasoning.Fact.TheVariants.{Good}

@@ -1,6 +1,5 @@
-use Rattle.std.proofs.Common.{Bool, arith, ap, false, get_or, length, subst, sym, take, true, ◌<◌, ◌∙◌, ◌≡◌}
-use Rattle.recursive_learning.proofs.Goods.{goods_next, goods_none, goods_push, goods_skip}
-use Rattle.recursive_learning.specs.Common.{AreGoodsOf, IsKnownGood}
+use Rattle.std.proofs.Common.{arith, false, get_or, sym, take, ◌∙◌, ◌≡◌}
+use Rattle.recursive_learning.proofs.Goods.{goods_next, goods_push, goods_skip}
 use Rattle.refutation.specs.FactSets.{held_by}
 use Rattle.refutation.specs.declared.reasoning.Fact.{Fact}
 use Rattle.refutation.specs.declared.reasoning.Fact.TheVariants.{Good}

@@ -1,4 +1,4 @@
-use Rattle.std.proofs.Common.{Bool, arith, false, subst, true, ◌+◌}
+use Rattle.std.proofs.Common.{Bool, arith, subst, ◌+◌}
 use Rattle.gate_graph.specs.Circuit.{net_of}
 use Rattle.recursive_learning.proofs.Gains.{keeps_join}
 use Rattle.recursive_learning.proofs.Refutes.{deepening_clash, deepening_more, deepening_none}

@@ -1,4 +1,4 @@
-use Rattle.std.proofs.Common.{None, Option, Some, subst, ℕ}
+use Rattle.std.proofs.Common.{Option, subst, ℕ}
 use Rattle.gate_graph.specs.Circuit.{net_of}
 use Rattle.implications.specs.Trail.{LeadsBack}
 use Rattle.recursive_learning.proofs.Refutes.{clash_at_deeper, clash_of_all, least_of_all}

@@ -1,4 +1,4 @@
-use Rattle.std.proofs.Common.{List, [], ap, map, sym, ◌++◌, ◌∙◌}
+use Rattle.std.proofs.Common.{List, [], ap, map, ◌++◌, ◌∙◌}
 use Rattle.gate_graph.specs.Circuit.{net_of}
 use Rattle.implications.specs.Trail.{LeadsBack}
 use Rattle.recursive_learning.proofs.Refutes.{written_accepted}

@@ -1,14 +1,13 @@
-use Rattle.std.proofs.Common.{List, None, Option, Some, false, map, refl, subst, sym, ◌++◌, ◌∷◌, [], ◌≡◌}
+use Rattle.std.proofs.Common.{List, false, refl, subst, sym}
 use Rattle.gate_graph.specs.Circuit.{net_of}
 use Rattle.implications.specs.Outcomes.{IsExtended, IsOpenFrom}
 use Rattle.recursive_learning.proofs.Tells.{told_clash, told_open}
-use Rattle.recursive_learning.specs.Telling.{Ends, IsTold, line_item}
+use Rattle.recursive_learning.specs.Telling.{Ends, IsTold}
 use Rattle.refutation.proofs.Closings.{with_there}
 use Rattle.refutation.specs.FactSets.{held_by}
-use Rattle.refutation.specs.Facts.{Held, with_fact}
+use Rattle.refutation.specs.Facts.{with_fact}
 use Rattle.refutation.specs.declared.items.Item.{Item}
 use Rattle.refutation.specs.declared.reasoning.Fact.TheVariants.{Good}
-use Rattle.rm_base.specs.declared.numbers.NodeId.{NodeId}
 use Rattle.recursive_learning.proofs.telling.tell.Goals as goal
 
 pub returns-in_default-clause-told : goal.returns-in_default-clause-told
