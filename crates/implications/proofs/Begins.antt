@@ -1,17 +1,14 @@
 -- The lines that ask for no facts.
-use Rattle.std.proofs.Common.{List, None, Option, Some, arith, inl, inr, length, refl, subst, sym, ℕ, ◌+◌, ◌<◌, ◌∙◌, ◌≡◌, ◌≢◌, ◌≤◌, ◌⊎◌}
+use Rattle.std.proofs.Common.{List, None, Option, Some, arith, inl, inr, length, refl, subst, sym, ℕ, ◌+◌, ◌<◌, ◌∙◌, ◌≡◌, ◌≢◌, ◌≤◌}
 use Rattle.std.proofs.lemmas.Bool.{cases_lt}
 use Rattle.std.proofs.lemmas.Bool.Decides.{eqb_tells}
 use Rattle.std.specs.Prelude.{Err, IfOk, IsTrue, Ok, Result, slice_get}
-use Rattle.gate_net.specs.Net.{IsAcyclic, IsLive, IsWellFormed, Net, drivers_of}
+use Rattle.gate_net.specs.Net.{IsAcyclic, IsLive, Net, drivers_of}
 use Rattle.gate_net.specs.Paths.{Reaches}
-use Rattle.gate_net.specs.Values.{HasPin}
 use Rattle.implications.specs.Beginning.{AreDoneAtFault, AreDoneOnChain, AreDoneOutside, Chaining, Gives, GivingOut, node_of}
 use Rattle.implications.specs.Settled.{HasFirst, IsDone, IsSettled, place_of}
 use Rattle.implications.specs.Working.{Keeps, Works}
-use Rattle.implications.proofs.Places.{concludes_live}
-use Rattle.implications.proofs.Steps.{free_more, keeps_join, more_held, works_join}
-use Rattle.refutation.proofs.Below.{concludes_below}
+use Rattle.implications.proofs.Steps.{keeps_join, works_join}
 use Rattle.refutation.proofs.Closings.{with_there}
 use Rattle.refutation.proofs.Told.{kind_live}
 use Rattle.refutation.proofs.Walks.{Walks, walk_ends, walk_goes_on, walk_live, walk_short, walk_starts}

@@ -1,19 +1,19 @@
 -- What closing comes to.
-use Rattle.std.proofs.Common.{Bool, List, None, Option, Some, [], ap, add-one, append_assoc, arith, drop, drop-cons, false, get_or, inl, inr, length, length-append, refl, replicate, subst, suc, sym, take, true, ℕ, ◌++◌, ◌+◌, ◌<◌, ◌∙◌, ◌∷◌, ◌≡◌, ◌≤◌, ◌⊎◌}
+use Rattle.std.proofs.Common.{Bool, List, None, Option, Some, [], ap, add-one, append_assoc, arith, drop, drop-cons, false, get_or, inl, inr, length, length-append, refl, subst, suc, sym, take, true, ℕ, ◌++◌, ◌+◌, ◌<◌, ◌∙◌, ◌∷◌, ◌≡◌, ◌≤◌}
 use Rattle.std.specs.Prelude.{Err, IfOk, IsTrue, Ok, OnOk, Result, nat_eq, ◌↔◌}
 use Rattle.std.proofs.Math.ListN.{drop_of_length-le}
 use Rattle.std.proofs.Math.Seq.{take-append_seam}
 use Rattle.std.proofs.lemmas.Bool.{cases_lt, eq-eqb}
 use mathlib.Core.Path.{fun_ext}
 use Rattle.gate_graph.specs.Search.{IsSeen}
-use Rattle.gate_net.specs.Net.{IsLive, Net}
+use Rattle.gate_net.specs.Net.{Net}
 use Rattle.implications.proofs.Begins.{closed_all, closed_first, closed_settled, first_more}
 use Rattle.implications.proofs.Places.{place_live}
-use Rattle.implications.proofs.Steps.{becomes_is, free_more, keeps_join, more_held, pending_more}
-use Rattle.implications.specs.Outcomes.{IsClash, IsClashAt, IsClashFrom, IsClashed, IsClosing, IsExtended, IsGrown, IsOpen, IsOpenFrom, clash_items}
-use Rattle.implications.specs.Settled.{HasFirst, IsSettled}
+use Rattle.implications.proofs.Steps.{becomes_is, free_more, more_held, pending_more}
+use Rattle.implications.specs.Outcomes.{IsClash, IsClashFrom, IsClosing, IsExtended, IsGrown, IsOpenFrom, clash_items}
+use Rattle.implications.specs.Settled.{HasFirst}
 use Rattle.implications.specs.Trail.{IsLonger}
-use Rattle.implications.specs.Working.{Closes, Ending, IsPending, Keeps, Touches, Works}
+use Rattle.implications.specs.Working.{Closes, Ending, IsPending, Touches, Works}
 use Rattle.implications.specs.declared.outcome.Closed.{Closed}
 use Rattle.implications.specs.declared.outcome.Closed.TheVariants.{Clash, Open}
 use Rattle.refutation.proofs.Closings.{closed_has_all}

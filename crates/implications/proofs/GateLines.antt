@@ -1,21 +1,20 @@
 -- Lines at a gate, by what is known of it and of its pins.
-use Rattle.std.proofs.Common.{Bool, List, None, Option, Some, ap, arith, false, inl, inr, length, map, not, refl, subst, sym, true, ℕ, ◌<◌, ◌∙◌, ◌≡◌, ◌≢◌, ◌≤◌, ◌⊎◌}
+use Rattle.std.proofs.Common.{Bool, List, None, Option, Some, ap, arith, false, inl, inr, length, map, not, refl, subst, sym, true, ℕ, ◌<◌, ◌∙◌, ◌≡◌, ◌≢◌, ◌≤◌}
 use Rattle.std.proofs.lemmas.Bool.{eq-eqb, eqb-true}
 use Rattle.std.proofs.lemmas.Option.{slice_get_within}
 use Rattle.std.specs.List.{list_all}
 use Rattle.std.specs.Prelude.{IsTrue, nat_eq, slice_get}
 use Rattle.gate_net.proofs.Bools.{bool_cases, never_opposite}
 use Rattle.gate_net.proofs.Places.{map_at}
-use Rattle.gate_net.specs.Forward.{all_but, is_known, junction_back, junction_follows, value_back, value_forward}
-use Rattle.gate_net.specs.Net.{IsGate, IsGateKind, IsKind, IsLive, IsWellFormed, Net, Node, Reads, drivers_of, node_at}
+use Rattle.gate_net.specs.Forward.{is_known, junction_back, value_back, value_forward}
+use Rattle.gate_net.specs.Net.{IsGate, IsGateKind, IsKind, IsWellFormed, Net, Node, Reads, drivers_of}
 use Rattle.gate_net.specs.Values.{IsJunction, controlling, faulty_reads}
 use Rattle.gate_net.specs.declared.Kind.{Kind}
 use Rattle.gate_net.specs.declared.Kind.TheVariants.{And, Not, One, Or, Source, Zero}
 use Rattle.implications.proofs.Places.{driver_live}
-use Rattle.implications.specs.Pulls.{AreDoneEqual, AreDoneFaulty, AreDoneGood, AreDoneNot, AreDoneSide, AreDoneValues, Finds, IsEqualPull, IsPlaced, IsPull, IsPulled, SomePin}
-use Rattle.implications.specs.Settled.{IsDone, IsFresh, IsReady, IsSettled, place_of}
+use Rattle.implications.specs.Pulls.{AreDoneEqual, AreDoneFaulty, AreDoneGood, AreDoneSide, IsEqualPull, IsPlaced, IsPull, IsPulled, SomePin}
+use Rattle.implications.specs.Settled.{IsDone, IsFresh}
 use Rattle.implications.specs.Sides.{IsOpenPin, IsOpenSide, IsSide}
-use Rattle.implications.specs.declared.found.Found.{Found}
 use Rattle.implications.specs.declared.gate_lines.Pulled.{Pulled}
 use Rattle.implications.specs.declared.gate_lines.Pulled.TheVariants.{Gate as GateNode, Pin as PinNode}
 use Rattle.implications.specs.declared.pulls.Pull.{Pull}
@@ -26,16 +25,13 @@ use Rattle.refutation.proofs.Looks.{pin_at}
 use Rattle.refutation.proofs.Told.{faulty_pins}
 use Rattle.refutation.specs.Closing.{IsClashFree}
 use Rattle.refutation.specs.FactSets.{held_by}
-use Rattle.refutation.specs.Facts.{AreOpposed, Held, known_equal, known_faulty, known_good, one_of}
-use Rattle.refutation.specs.Lines.{Concludes, IsStuckPin}
-use Rattle.refutation.specs.Pins.{known_on, pin_value, pins_of, stuck_of, with_stuck}
+use Rattle.refutation.specs.Facts.{Held, known_equal, known_faulty, known_good, one_of}
+use Rattle.refutation.specs.Lines.{IsStuckPin}
+use Rattle.refutation.specs.Pins.{pin_value, pins_of, stuck_of, with_stuck}
 use Rattle.refutation.specs.declared.held.NodeFacts.{NodeFacts}
 use Rattle.refutation.specs.declared.pins.Aspect.TheVariants.{OfEqual, OfFaulty, OfGood}
-use Rattle.refutation.specs.declared.pins.Stuck.{Stuck}
-use Rattle.refutation.specs.declared.reasoning.Fact.{Fact}
 use Rattle.refutation.specs.declared.reasoning.Fact.TheVariants.{Differs, Equal, Faulty, Good}
-use Rattle.refutation.specs.declared.reasoning.Line.{Line}
-use Rattle.refutation.specs.declared.reasoning.Line.TheVariants.{Act, Chain, Compare, Constant, DiffersBack, EqualForward, FaultyBack, FaultyForward, GoodBack, GoodForward, NotDiffers, NotEqual, Out, Side, Site, ToFaulty, ToGood}
+use Rattle.refutation.specs.declared.reasoning.Line.TheVariants.{DiffersBack, EqualForward, FaultyBack, FaultyForward, GoodBack, GoodForward, Side}
 use Rattle.rm_base.specs.declared.numbers.Fault.{Fault}
 use Rattle.rm_base.specs.declared.numbers.NodeId.{NodeId}
 

@@ -1,5 +1,5 @@
 -- A line asks for facts at its place and at the drivers of that alone.
-use Rattle.std.proofs.Common.{Bool, None, Some, ap, false, map, refl, subst, sym, true, ℕ, ◌≡◌}
+use Rattle.std.proofs.Common.{Some, ap, false, map, refl, subst, sym, true, ℕ, ◌≡◌}
 use Rattle.std.specs.List.{list_all}
 use Rattle.std.specs.Prelude.{IsTrue, if◌then◌else◌, nat_eq, slice_set}
 use Rattle.gate_net.specs.Forward.{all_but, is_known, value_back, value_forward}

@@ -1,5 +1,5 @@
 -- The node of a fact that a line gives, and the node of a line's place, are live.
-use Rattle.std.proofs.Common.{None, Option, Some, arith, length, refl, sym, ℕ, ◌<◌, ◌≡◌, ◌≢◌}
+use Rattle.std.proofs.Common.{None, Option, Some, length, refl, ℕ, ◌<◌, ◌≡◌, ◌≢◌}
 use Rattle.gate_net.specs.Net.{IsLive, IsWellFormed, Net, Node, Reads, node_at}
 use Rattle.gate_net.specs.Values.{HasPin}
 use Rattle.implications.specs.Settled.{place_of}

@@ -1,14 +1,13 @@
 -- What a glance at a gate's pins gives.
-use Rattle.std.proofs.Common.{Bool, List, None, Option, Some, [], arith, false, inl, inr, not, refl, suc, sym, true, zero, ℕ, ◌&&◌, ◌<◌, ◌||◌, ◌∙◌, ◌∷◌, ◌≡◌, ◌≢◌, ◌⊎◌}
+use Rattle.std.proofs.Common.{Bool, List, None, Option, Some, [], arith, false, inl, inr, not, refl, suc, sym, true, zero, ℕ, ◌<◌, ◌||◌, ◌∙◌, ◌∷◌, ◌≡◌, ◌≢◌, ◌⊎◌}
 use Rattle.std.proofs.lemmas.Bool.{eq-eqb}
 use Rattle.std.specs.List.{list_all, list_any}
-use Rattle.std.specs.Prelude.{IsTrue, if◌then◌else◌, nat_eq, slice_get}
+use Rattle.std.specs.Prelude.{IsTrue, if◌then◌else◌, slice_get}
 use Rattle.gate_net.proofs.Bools.{and_both, or_either, same_bool_not, same_bool_refl}
 use Rattle.gate_net.proofs.Follows.{is_known_true}
 use Rattle.gate_net.specs.Forward.{all_but, is_known, junction_back, junction_follows}
 use Rattle.gate_net.specs.Values.{same_bool}
 use Rattle.implications.specs.Pulls.{IsEqualPull, IsPull}
-use Rattle.implications.specs.declared.pulls.Pull.{Pull}
 use Rattle.implications.specs.declared.pulls.Pull.TheVariants.{Gate, Pin}
 use Rattle.refutation.proofs.Grows.{all_not_any, is_known_some}
 use Rattle.refutation.proofs.Looks.{glance_all, glance_many, glance_not_all, glance_one}

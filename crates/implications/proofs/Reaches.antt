@@ -1,5 +1,5 @@
 -- Searching on from a gate along its readers.
-use Rattle.std.proofs.Common.{Bool, List, Some, arith, false, inl, inr, length, refl, replicate, suc, sym, true, ℕ, ◌*◌, ◌+◌, ◌<◌, ◌≡◌, ◌≤◌, ◌⊎◌}
+use Rattle.std.proofs.Common.{Bool, List, Some, arith, false, inl, inr, length, refl, replicate, suc, true, ℕ, ◌<◌, ◌≡◌, ◌≤◌, ◌⊎◌}
 use Rattle.std.proofs.lemmas.Bool.Decides.{eqb_tells}
 use Rattle.std.proofs.lemmas.Option.{slice_get_within}
 use Rattle.std.specs.Prelude.{slice_get, slice_set}

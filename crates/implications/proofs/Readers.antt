@@ -1,5 +1,5 @@
 -- Going over the readers of a node.
-use Rattle.std.proofs.Common.{List, Some, [], ap, append-nil, arith, inl, inr, length, map, refl, sym, suc, zero, ℕ, ◌++◌, ◌+◌, ◌<◌, ◌∙◌, ◌∷◌, ◌≡◌, ◌≤◌, ◌⊎◌}
+use Rattle.std.proofs.Common.{List, Some, [], ap, append-nil, length, map, refl, sym, suc, zero, ℕ, ◌++◌, ◌<◌, ◌∙◌, ◌∷◌, ◌≡◌}
 use Rattle.std.specs.Prelude.{slice_get}
 use Rattle.gate_graph.specs.Circuit.{Circuit, fanouts_of, net_of}
 use Rattle.gate_graph.specs.Readers.{ListReaders}

@@ -1,6 +1,6 @@
 -- When a node is settled.
-use Rattle.std.proofs.Common.{Bool, List, None, Option, Some, [], ap, false, map, refl, subst, suc, sym, true, zero, ℕ, ◌∙◌, ◌∷◌, ◌≡◌, ◌≢◌}
-use Rattle.std.specs.Prelude.{IsTrue, if◌then◌else◌, slice_get}
+use Rattle.std.proofs.Common.{Bool, List, None, Option, Some, [], ap, false, refl, subst, suc, sym, true, zero, ℕ, ◌∙◌, ◌∷◌, ◌≡◌}
+use Rattle.std.specs.Prelude.{if◌then◌else◌, slice_get}
 use Rattle.gate_net.specs.Forward.{value_back, value_forward}
 use Rattle.gate_net.specs.Net.{IsGateKind, IsKind, IsLive, IsWellFormed, Net, Reads, drivers_of}
 use Rattle.gate_net.specs.Values.{IsJunction, controlling}
@@ -9,14 +9,12 @@ use Rattle.gate_net.specs.declared.Kind.TheVariants.{And, Not, One, Or, Source, 
 use Rattle.implications.proofs.GateLines.{junction_gate, kind_once}
 use Rattle.implications.proofs.Places.{place_live}
 use Rattle.implications.specs.Pulls.{AreDoneEqual, AreDoneFaulty, AreDoneGood, AreDoneNot, AreDoneSide, AreDoneValues, Finds}
-use Rattle.implications.specs.Settled.{IsDone, IsNext, IsSettled, place_of}
+use Rattle.implications.specs.Settled.{IsDone, IsNext, IsSettled}
 use Rattle.implications.specs.declared.found.Found.{Found}
 use Rattle.refutation.specs.FactSets.{held_by}
 use Rattle.refutation.specs.Facts.{Held}
 use Rattle.refutation.specs.Lines.{Concludes}
 use Rattle.refutation.specs.declared.held.NodeFacts.{NodeFacts}
-use Rattle.refutation.specs.declared.reasoning.Fact.{Fact}
-use Rattle.refutation.specs.declared.reasoning.Line.{Line}
 use Rattle.refutation.specs.declared.reasoning.Line.TheVariants.{Act, Chain, Compare, Constant, DiffersBack, EqualForward, FaultyBack, FaultyForward, GoodBack, GoodForward, NotDiffers, NotEqual, Out, Side, Site, ToFaulty, ToGood}
 use Rattle.rm_base.specs.declared.numbers.Fault.{Fault}
 use Rattle.rm_base.specs.declared.numbers.NodeId.{NodeId}

@@ -1,13 +1,12 @@
 -- What one more fact does to the work that is left.
-use Rattle.std.proofs.Common.{Bool, List, None, Option, Some, [], ap, append-nil, append_assoc, arith, drop, false, inl, inr, length, length-append, not, refl, subst, suc, sym, true, ℕ, ◌&&◌, ◌*◌, ◌++◌, ◌+◌, ◌<◌, ◌||◌, ◌∙◌, ◌∷◌, ◌≡◌, ◌≢◌, ◌≤◌, ◌⊎◌}
+use Rattle.std.proofs.Common.{Bool, List, None, Option, Some, [], ap, append-nil, append_assoc, arith, drop, false, inl, inr, length, length-append, refl, subst, suc, sym, true, ℕ, ◌*◌, ◌++◌, ◌+◌, ◌<◌, ◌∙◌, ◌∷◌, ◌≡◌, ◌≢◌, ◌≤◌}
 use Rattle.std.proofs.Math.Seq.{drop-length}
-use Rattle.std.proofs.lemmas.Bool.{eq-eqb, eqb-true, ne_eqb}
+use Rattle.std.proofs.lemmas.Bool.{eqb-true, ne_eqb}
 use Rattle.std.proofs.lemmas.Bool.Decides.{eqb_tells}
 use Rattle.std.proofs.lemmas.List.{drop-append-le}
 use Rattle.std.specs.Prelude.{IsTrue, nat_eq, slice_set}
 use mathlib.Core.Path.{fun_ext}
 use Rattle.gate_graph.specs.Search.{IsSeen}
-use Rattle.gate_net.proofs.Bools.{and_both}
 use Rattle.gate_net.specs.Net.{Net, Reads, drivers_of}
 use Rattle.implications.proofs.Agendas.{count_within, seen_stays}
 use Rattle.implications.proofs.Local.{line_local}
@@ -15,9 +14,9 @@ use Rattle.implications.proofs.Trails.{trail_tells, without-append}
 use Rattle.implications.specs.Agendas.{seen_count}
 use Rattle.implications.specs.Settled.{AgreeAt, IsFresh, IsSettled}
 use Rattle.implications.specs.Trail.{AreAdded, LeadsBack, without_all}
-use Rattle.implications.specs.Working.{Ending, Holds, IsPending, IsPendingBut, Keeps, Outcome, Settling, Touches, Works, work}
+use Rattle.implications.specs.Working.{Holds, IsPending, IsPendingBut, Keeps, Outcome, Settling, Touches, Works, work}
 use Rattle.implications.specs.declared.found.Found.{Found}
-use Rattle.refutation.proofs.Closings.{with_more, with_there}
+use Rattle.refutation.proofs.Closings.{with_more}
 use Rattle.refutation.proofs.Depths.{find}
 use Rattle.refutation.proofs.Known.{same_fact_true}
 use Rattle.refutation.proofs.Told.{kind_live}

@@ -1,17 +1,16 @@
 -- Facts that were added one after another.
-use Rattle.std.proofs.Common.{Bool, List, None, Option, Some, [], ap, append_assoc, arith, drop, false, get_or, inl, inr, length, length-append, not, refl, subst, suc, sym, take, true, zero, ℕ, ◌&&◌, ◌++◌, ◌+◌, ◌<◌, ◌||◌, ◌∙◌, ◌∷◌, ◌≡◌, ◌≤◌, ◌⊎◌}
+use Rattle.std.proofs.Common.{Bool, List, Some, [], ap, append_assoc, arith, drop, false, inl, inr, length, not, refl, suc, sym, true, zero, ℕ, ◌&&◌, ◌++◌, ◌∙◌, ◌∷◌, ◌≡◌, ◌≤◌, ◌⊎◌}
 use Rattle.std.proofs.Math.Seq.{drop-append_seam}
 use Rattle.std.proofs.lemmas.Bool.{eq-eqb, eqb-true}
 use Rattle.std.proofs.lemmas.List.{drop-append-le}
-use Rattle.std.specs.Prelude.{IsTrue, nat_eq, slice_get}
+use Rattle.std.specs.Prelude.{nat_eq}
 use mathlib.Core.Path.{fun_ext}
-use Rattle.gate_net.proofs.Bools.{and_both, or_either, or_true}
 use Rattle.implications.specs.Laws.{TrailTells}
-use Rattle.implications.specs.Trail.{AreAdded, IsAmong, LeadsBack, TakesBack, without_all}
+use Rattle.implications.specs.Trail.{IsAmong, LeadsBack, TakesBack, without_all}
 use Rattle.refutation.proofs.Closings.{same_fact_refl}
 use Rattle.refutation.proofs.Known.{same_fact_true}
 use Rattle.refutation.specs.FactSets.{Becomes, held_by, is_marked}
-use Rattle.refutation.specs.Facts.{Held, same_fact, with_fact, without_fact}
+use Rattle.refutation.specs.Facts.{Held, same_fact, without_fact}
 use Rattle.refutation.specs.declared.held.NodeFacts.{NodeFacts}
 use Rattle.refutation.specs.declared.reasoning.Fact.{Fact}
 use Rattle.refutation.specs.declared.reasoning.Fact.TheVariants.{Differs, Equal, Faulty, Good}

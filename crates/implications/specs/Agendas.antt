@@ -1,5 +1,5 @@
 -- Node numbers that are to be looked at, each at most once.
-use Rattle.std.specs.Prelude.{Bool, List, None, Option, Some, [], false, if◌then◌else◌, length, slice_get, slice_index, slice_set, suc, true, ℕ, ◌+◌, ◌<◌, ◌∷◌, ◌≡◌}
+use Rattle.std.specs.Prelude.{Bool, List, None, Option, Some, [], false, if◌then◌else◌, length, slice_index, slice_set, suc, true, ℕ, ◌+◌, ◌<◌, ◌∷◌, ◌≡◌}
 use Rattle.gate_graph.specs.Search.{IsSeen, unseen}
 use Rattle.rm_base.specs.declared.numbers.NodeId.{NodeId}
 

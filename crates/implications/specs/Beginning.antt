@@ -1,7 +1,7 @@
 -- The lines that ask for no facts.
 use Rattle.std.specs.Prelude.{List, None, Option, Some, length, ℕ, ◌<◌, ◌⊎◌}
 use Rattle.gate_net.specs.Net.{Net}
-use Rattle.implications.specs.Settled.{HasFirst, IsDone}
+use Rattle.implications.specs.Settled.{IsDone}
 use Rattle.implications.specs.Working.{Keeps, Works}
 use Rattle.refutation.proofs.Walks.{Walks}
 use Rattle.refutation.specs.Closing.{IsClashFree}

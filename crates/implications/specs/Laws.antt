@@ -1,5 +1,5 @@
 -- Laws of lines and of trails.
-use Rattle.std.specs.Prelude.{IsTrue, List, drop, length, ℕ, ◌≡◌, ◌⊎◌}
+use Rattle.std.specs.Prelude.{List, drop, ℕ}
 use Rattle.gate_net.specs.Net.{Net}
 use Rattle.implications.specs.Trail.{AreAdded, LeadsBack}
 use Rattle.refutation.specs.Closing.{ClashFrom, IsClashFree, IsClosedUnderLines, IsWithin, LinesLead}

@@ -10,7 +10,6 @@ use Rattle.implications.specs.declared.gate_lines.Pulled.TheVariants.{Gate as Ga
 use Rattle.implications.specs.declared.pulls.Pull.{Pull}
 use Rattle.implications.specs.declared.pulls.Pull.TheVariants.{Gate, Pin}
 use Rattle.refutation.specs.declared.held.NodeFacts.{NodeFacts}
-use Rattle.refutation.specs.declared.reasoning.Line.{Line}
 use Rattle.refutation.specs.declared.reasoning.Line.TheVariants.{Compare, DiffersBack, EqualForward, FaultyBack, FaultyForward, GoodBack, GoodForward, NotDiffers, NotEqual, Side, ToFaulty, ToGood}
 use Rattle.rm_base.specs.declared.numbers.Fault.{Fault}
 use Rattle.rm_base.specs.declared.numbers.NodeId.{NodeId}

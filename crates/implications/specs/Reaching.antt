@@ -1,5 +1,5 @@
 -- Marking what is reached from a gate.
-use Rattle.std.specs.Prelude.{Bool, List, length, ℕ, ◌*◌, ◌+◌, ◌≡◌, ◌≤◌, ◌⊎◌}
+use Rattle.std.specs.Prelude.{Bool, List, ℕ, ◌*◌, ◌+◌, ◌≤◌, ◌⊎◌}
 use Rattle.gate_graph.specs.Search.{IsSeen, unseen}
 use Rattle.gate_net.specs.Net.{Net, Reads}
 use Rattle.gate_net.specs.Paths.{Reaches}

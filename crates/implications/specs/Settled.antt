@@ -1,6 +1,6 @@
 -- Nodes at which no line has more to give.
 use Rattle.std.specs.Prelude.{IsTrue, List, None, Option, Some, false, length, ℕ, ◌≡◌, ◌≤◌}
-use Rattle.gate_net.specs.Net.{IsLive, IsWellFormed, Net, Reads}
+use Rattle.gate_net.specs.Net.{IsLive, IsWellFormed, Net}
 use Rattle.gate_net.specs.Values.{HasPin}
 use Rattle.implications.specs.declared.found.Found.{Found}
 use Rattle.refutation.specs.Facts.{Held}
@@ -11,7 +11,6 @@ use Rattle.refutation.specs.declared.reasoning.Fact.{Fact}
 use Rattle.refutation.specs.declared.reasoning.Line.{Line}
 use Rattle.refutation.specs.declared.reasoning.Line.TheVariants.{Act, Chain, Compare, Constant, DiffersBack, EqualForward, FaultyBack, FaultyForward, GoodBack, GoodForward, NotDiffers, NotEqual, Out, Side, Site, ToFaulty, ToGood}
 use Rattle.rm_base.specs.declared.numbers.Fault.{Fault}
-use Rattle.rm_base.specs.declared.numbers.NodeId.{NodeId}
 
 -- the node whose facts, with its drivers', the line's condition asks for
 abbrev pub place_of : Line → Option ℕ

@@ -1,5 +1,5 @@
 -- Working off the agenda.
-use Rattle.std.specs.Prelude.{Bool, List, None, Option, Some, [], false, length, suc, ℕ, ◌*◌, ◌++◌, ◌+◌, ◌∷◌, ◌≡◌, ◌≤◌, ◌⊎◌}
+use Rattle.std.specs.Prelude.{Bool, List, None, Option, Some, [], length, suc, ℕ, ◌*◌, ◌++◌, ◌+◌, ◌∷◌, ◌≡◌, ◌≤◌, ◌⊎◌}
 use Rattle.gate_graph.specs.Search.{IsSeen}
 use Rattle.gate_net.specs.Net.{Net, Reads}
 use Rattle.implications.specs.Agendas.{seen_count}

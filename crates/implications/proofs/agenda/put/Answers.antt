@@ -1,6 +1,6 @@
-use Rattle.std.proofs.Common.{arith, false, sym, true}
+use Rattle.std.proofs.Common.{arith, false, sym}
 use Rattle.gate_graph.proofs.Marking.{is_at}
-use Rattle.implications.proofs.Agendas.{agenda_put, put_fits, set_again}
+use Rattle.implications.proofs.Agendas.{agenda_put, put_fits}
 use Rattle.implications.proofs.agenda.put.Goals as goal
 
 pub index_mut-requires-2 : goal.index_mut-requires-2

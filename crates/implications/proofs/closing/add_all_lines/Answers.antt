@@ -1,6 +1,6 @@
 use Rattle.gate_graph.specs.Circuit.{net_of}
 use Rattle.implications.proofs.Begins.{gives_none}
-use Rattle.implications.proofs.Closes.{closes_ok, pending_first}
+use Rattle.implications.proofs.Closes.{closes_ok}
 use Rattle.implications.proofs.Steps.{keeps_join}
 use Rattle.implications.proofs.closing.add_all_lines.Goals as goal
 use Rattle.implications.specs.Settled.{HasFirst}

@@ -1,12 +1,11 @@
-use Rattle.std.proofs.Common.{arith, length, refl, ◌≡◌}
+use Rattle.std.proofs.Common.{arith, length, ◌≡◌}
 use Rattle.gate_graph.specs.Circuit.{net_of}
-use Rattle.implications.proofs.Begins.{chain_gives, chain_short, chaining_ends, chaining_first, chaining_more, gives_none}
+use Rattle.implications.proofs.Begins.{chain_short, chaining_ends, chaining_first, chaining_more, gives_none}
 use Rattle.implications.proofs.Steps.{keeps_join, keeps_none, works_none}
 use Rattle.implications.proofs.first_lines.give_on_chain.Goals as goal
 use Rattle.implications.specs.Settled.{IsDone}
 use Rattle.refutation.proofs.Told.{gate_live}
 use Rattle.refutation.proofs.Walks.{walk_live}
-use Rattle.refutation.specs.FactSets.{held_by}
 use Rattle.refutation.specs.declared.reasoning.Line.TheVariants.{Chain}
 
 pub loop-step-init : goal.loop-step-init

@@ -1,4 +1,4 @@
-use Rattle.std.proofs.Common.{None, Some, false, subst}
+use Rattle.std.proofs.Common.{None, Some, subst}
 use Rattle.gate_graph.specs.Circuit.{net_of}
 use Rattle.gate_net.specs.Net.{drivers_of}
 use Rattle.implications.proofs.GateLines.{pulled_placed, some_pin}

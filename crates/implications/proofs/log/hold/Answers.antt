@@ -1,5 +1,4 @@
-use Rattle.std.proofs.Common.{◌∙◌}
-use Rattle.implications.proofs.Steps.{keeps_hold, keeps_none}
+use Rattle.implications.proofs.Steps.{keeps_hold}
 use Rattle.implications.proofs.log.hold.Goals as goal
 
 pub returns-clause-keeps : goal.returns-clause-keeps

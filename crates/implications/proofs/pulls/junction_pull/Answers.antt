@@ -1,4 +1,4 @@
-use Rattle.std.proofs.Common.{None, Some, ap, sym, ◌∙◌, ◌≡◌}
+use Rattle.std.proofs.Common.{Some, ap, sym, ◌∙◌}
 use Rattle.gate_net.proofs.Follows.{is_known_true}
 use Rattle.implications.proofs.Pulling.{not_known_false, other_one, pull_known, pull_many, pull_one, pull_other, pull_unknown}
 use Rattle.implications.proofs.pulls.junction_pull.Goals as goal

@@ -1,4 +1,4 @@
-use Rattle.std.proofs.Common.{Bool, List, ap, arith, false, length, length-set, refl, replicate, sym, ◌∙◌, ◌≡◌}
+use Rattle.std.proofs.Common.{ap, arith, false, length, length-set, refl, replicate, sym, ◌∙◌, ◌≡◌}
 use Rattle.std.proofs.lemmas.List.{length-replicate}
 use Rattle.gate_graph.specs.Circuit.{net_of}
 use Rattle.implications.proofs.Agendas.{none_marked}

@@ -1,6 +1,6 @@
-use Rattle.std.proofs.Common.{ap, arith, false, inl, inr, length, length-set, map, subst, sym, true, ℕ, ◌++◌, ◌<◌, ◌∙◌, ◌≡◌}
+use Rattle.std.proofs.Common.{ap, arith, false, inl, inr, length, length-set, subst, sym, true, ℕ, ◌<◌, ◌∙◌}
 use Rattle.gate_graph.proofs.Marking.{is_at, seen_kept, seen_new}
-use Rattle.gate_graph.specs.Circuit.{fanouts_of, net_of}
+use Rattle.gate_graph.specs.Circuit.{net_of}
 use Rattle.gate_graph.specs.Search.{IsSeen}
 use Rattle.implications.proofs.Agendas.{on_any}
 use Rattle.implications.proofs.Reaches.{marks_all, marks_new}

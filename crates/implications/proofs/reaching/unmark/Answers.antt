@@ -1,4 +1,4 @@
-use Rattle.std.proofs.Common.{ap, arith, false, length, replicate, ◌∙◌}
+use Rattle.std.proofs.Common.{ap, arith, false, replicate, ◌∙◌}
 use Rattle.implications.proofs.Agendas.{all_off}
 use Rattle.implications.proofs.reaching.unmark.Goals as goal
 

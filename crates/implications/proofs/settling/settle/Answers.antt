@@ -1,6 +1,6 @@
 use Rattle.std.proofs.Common.{arith, false, length, true, ◌<◌, ◌≡◌}
 use Rattle.gate_graph.specs.Circuit.{net_of}
-use Rattle.implications.proofs.Steps.{fresh_within, keeps_join, pending_settled, settled_keeps, settled_less, settled_smaller, settled_works, settling_more}
+use Rattle.implications.proofs.Steps.{fresh_within, keeps_join, settled_keeps, settled_less, settled_smaller, settled_works, settling_more}
 use Rattle.implications.proofs.settling.settle.Goals as goal
 
 pub returns-in_err-hold-clause-keeps : goal.returns-in_err-hold-clause-keeps

@@ -1,6 +1,6 @@
-use Rattle.std.proofs.Common.{ℕ, ap, arith, inl, inr, length, length-set, map, refl, subst, sym, true, ◌++◌, ◌<◌, ◌∙◌, ◌≡◌}
+use Rattle.std.proofs.Common.{ℕ, ap, arith, inl, inr, length, length-set, refl, subst, true, ◌<◌, ◌∙◌}
 use Rattle.gate_graph.proofs.Marking.{seen_kept, seen_new}
-use Rattle.gate_graph.specs.Circuit.{fanouts_of, net_of}
+use Rattle.gate_graph.specs.Circuit.{net_of}
 use Rattle.gate_graph.specs.Search.{IsSeen}
 use Rattle.implications.proofs.Readers.{all_came, next_below}
 use Rattle.implications.proofs.settling.touch.Goals as goal

@@ -6,7 +6,6 @@ use Rattle.implications.proofs.Pulling.{not_known_false}
 use Rattle.implications.proofs.side_line.side_line.Goals as goal
 use Rattle.implications.specs.Sides.{IsSide}
 use Rattle.refutation.specs.FactSets.{held_by}
-use Rattle.refutation.specs.Facts.{known_equal}
 
 pub returns-then-not-is_value : goal.returns-then-not-is_value
 returns-then-not-is_value c = side_none (net_of c.args.graph.now) c.args.fault.now c.args.facts.now c.requires.ready.formed c.requires.free c.args.node (subst (λ k. k ≢ Some false) c.known.ensures (not_known_false false c.known.result (sym c.if-not-is_value.ensures)))

@@ -1,4 +1,4 @@
-use Rattle.std.proofs.Common.{arith, false, get_or, sym, ◌-◌, ◌<◌, ◌≡◌, ◌≢◌, length}
+use Rattle.std.proofs.Common.{arith, get_or, ◌-◌, ◌<◌, ◌≡◌, ◌≢◌, length}
 use Rattle.implications.proofs.Agendas.{agenda_take, read_is, take_within}
 use Rattle.implications.proofs.agenda.Agenda.take.Goals as goal
 

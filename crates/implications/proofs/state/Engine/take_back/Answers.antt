@@ -1,4 +1,4 @@
-use Rattle.std.proofs.Common.{ap, subst, sym, ◌≡◌}
+use Rattle.std.proofs.Common.{subst, sym}
 use Rattle.implications.proofs.Trails.{back_all, back_earlier}
 use Rattle.implications.proofs.state.Engine.take_back.Goals as goal
 use Rattle.implications.specs.State.{EngineState}
