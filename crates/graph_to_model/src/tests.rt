@@ -1,7 +1,7 @@
 //! Covers of gates, prefixes and copies on small lists of names.
 use crate::copies::copies;
+use crate::driven_names::driven;
 use crate::gates::gate_cover;
-use crate::name_set::{NameSet, driven};
 use crate::places::first_places;
 use crate::prefix::free_prefix;
 use gate_net::Kind;
