@@ -9,3 +9,5 @@ pub mod Working
 pub mod Beginning
 pub mod Pulls
 pub mod Sides
+pub mod Tallies
+pub mod Counts

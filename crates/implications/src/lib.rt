@@ -3,6 +3,7 @@
 
 mod agenda;
 mod closing;
+mod counts;
 mod extending;
 mod first_lines;
 mod found;
@@ -16,6 +17,7 @@ mod reaching;
 mod settling;
 mod side_line;
 mod state;
+mod tallies;
 #[cfg(test)]
 mod tests;
 
