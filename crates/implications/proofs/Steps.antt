@@ -4,8 +4,9 @@ use Rattle.std.proofs.Math.Seq.{drop-length}
 use Rattle.std.proofs.lemmas.Bool.{eqb-true, ne_eqb}
 use Rattle.std.proofs.lemmas.Bool.Decides.{eqb_tells}
 use Rattle.std.proofs.lemmas.List.{drop-append-le}
-use Rattle.std.specs.Prelude.{IsTrue, nat_eq, slice_set}
+use Rattle.std.specs.Prelude.{IsTrue, nat_eq, replicate, slice_set, ◌↔◌}
 use mathlib.Core.Path.{fun_ext}
+use Rattle.gate_graph.proofs.Searches.{none_seen}
 use Rattle.gate_graph.specs.Search.{IsSeen}
 use Rattle.gate_net.specs.Net.{Net, Reads, drivers_of}
 use Rattle.implications.proofs.Agendas.{count_within, seen_stays}
@@ -13,8 +14,9 @@ use Rattle.implications.proofs.Local.{line_local}
 use Rattle.implications.proofs.Trails.{trail_tells, without-append}
 use Rattle.implications.specs.Agendas.{seen_count}
 use Rattle.implications.specs.Settled.{AgreeAt, IsFresh, IsSettled}
+use Rattle.implications.specs.Tallies.{AreTallied, TallyState}
 use Rattle.implications.specs.Trail.{AreAdded, LeadsBack, without_all}
-use Rattle.implications.specs.Working.{Holds, IsPending, IsPendingBut, Keeps, Outcome, Settling, Touches, Works, work}
+use Rattle.implications.specs.Working.{Holds, IsPending, IsPendingBut, Keeps, Outcome, Settling, Stops, Sweeps, Touches, Works, work}
 use Rattle.implications.specs.declared.found.Found.{Found}
 use Rattle.refutation.proofs.Closings.{with_more}
 use Rattle.refutation.proofs.Depths.{find}
@@ -137,6 +139,14 @@ back_none trail facts = record { order = omega arith; size = refl; back = λ x f
 pub added_of : (facts : List NodeFacts) (trail : List (NodeId × Fact)) (facts' : List NodeFacts) (trail' : List (NodeId × Fact)) → Keeps facts trail facts' trail' → AreAdded (drop (length trail) trail') facts facts'
 added_of facts trail facts' trail' k = trail_tells trail' (length trail) facts' facts (k.back (length trail) facts (back_none trail facts))
 
+-- tallies of the facts with one more are those of the facts now
+pub tallied_by : (net : Net) (facts facts' : List NodeFacts) (x : ℕ) (fact : Fact) (position : ℕ) (s : TallyState) → Becomes facts facts' (with_fact (held_by facts) x fact) → AreTallied net (with_fact (held_by facts) x fact) position s → AreTallied net (held_by facts') position s
+tallied_by net facts facts' x fact position s b tallied = subst (λ h. AreTallied net h position s) (sym (becomes_is facts facts' x fact b)) tallied
+
+-- where no gate was counted
+pub tallied_none : (net : Net) (held : Held) (position : ℕ) (s : TallyState) → s.counted ≡ replicate (length s.counted) false → AreTallied net held position s
+tallied_none net held position s none y seen = absurd (none_seen (length s.counted) y (subst (λ marks. IsSeen marks y) none seen))
+
 -- THE AGENDA
 pub pending_more : (net : Net) (fault : Fault) (facts facts' : List NodeFacts) (agenda agenda' : List Bool) (y x : ℕ) (fact : Fact) → IsPendingBut net fault facts agenda y → Becomes facts facts' (with_fact (held_by facts) x fact) → Touches net agenda agenda' x → IsPendingBut net fault facts' agenda' y
 pending_more net fault facts facts' agenda agenda' y x fact pending b t z = elim (pending z) [
@@ -167,6 +177,9 @@ all_settled net fault facts agenda pending none y = elim (pending y) [ inl on' �
 
 times_suc : (a b : ℕ) → suc a * b ≡ b + a * b
 times_suc a b = omega arith
+
+pub less_than : {a b d : ℕ} → a < b → b ≤ d → a < d
+less_than h k = omega arith
 
 pub work_less : (facts facts' : List NodeFacts) (agenda agenda' : List Bool) → suc (missing facts') ≡ missing facts → length agenda' ≡ length agenda → work facts' agenda' < work facts agenda
 work_less facts facts' agenda agenda' less same =
@@ -213,6 +226,39 @@ module _ (net : Net) (fault : Fault) (old : List NodeFacts) (old_lines : List Li
       less = settled_less;
       same = t.size ∙ s.same;
     }
+
+pub not_opposed : (b : Bool) (facts : List NodeFacts) (x : ℕ) → b ≡ false → (IsTrue b ↔ AreOpposed (held_by facts) x) → AreOpposed (held_by facts) x → ⊥
+not_opposed b facts x off tells opposed = let on' : b ≡ true = tells.1 opposed in cc
+
+-- one stretch of work at the node after another
+module _ (net : Net) (fault : Fault) (a : List NodeFacts) (a_lines : List Line) (a_trail : List (NodeId × Fact)) (a_agenda : List Bool) (b : List NodeFacts) (b_lines : List Line) (b_trail : List (NodeId × Fact)) (b_agenda : List Bool) (c : List NodeFacts) (c_lines : List Line) (c_trail : List (NodeId × Fact)) (c_agenda : List Bool) (y : ℕ) (first : Settling net fault a a_lines a_trail a_agenda b b_lines b_trail b_agenda y) where
+  pub less_join : work c c_agenda ≤ work b b_agenda → work c c_agenda ≤ work a a_agenda
+  less_join next = let before : work b b_agenda ≤ work a a_agenda = first.less in omega arith
+
+  pub settling_join : Settling net fault b b_lines b_trail b_agenda c c_lines c_trail c_agenda y → Settling net fault a a_lines a_trail a_agenda c c_lines c_trail c_agenda y
+  settling_join next = record {
+    works = works_join net fault a a_lines b b_lines c c_lines first.works next.works;
+    keeps = keeps_join a a_trail b b_trail c c_trail first.keeps next.keeps;
+    pending = next.pending;
+    free = next.free;
+    less = less_join next.less;
+    same = next.same ∙ first.same;
+  }
+
+  pub stops_join : (x : ℕ) → Stops net fault b b_lines b_agenda c c_lines c_agenda x → Stops net fault a a_lines a_agenda c c_lines c_agenda x
+  stops_join x next = record {
+    works = works_join net fault a a_lines b b_lines c c_lines first.works next.works;
+    less = less_join next.less;
+    opposed = next.opposed;
+  }
+
+pub sweeps_none : (net : Net) (fault : Fault) (a : List NodeFacts) (a_lines : List Line) (a_trail : List (NodeId × Fact)) (a_agenda : List Bool) (b : List NodeFacts) (b_lines : List Line) (b_trail : List (NodeId × Fact)) (b_agenda : List Bool) (y : ℕ) (o : Option NodeId) → o ≡ None → Sweeps net fault a a_lines a_trail a_agenda b b_lines b_trail b_agenda y o → Settling net fault a a_lines a_trail a_agenda b b_lines b_trail b_agenda y
+sweeps_none net fault a a_lines a_trail a_agenda b b_lines b_trail b_agenda y None e h = h
+sweeps_none net fault a a_lines a_trail a_agenda b b_lines b_trail b_agenda y (Some x) e h = cc
+
+pub sweeps_some : (net : Net) (fault : Fault) (a : List NodeFacts) (a_lines : List Line) (a_trail : List (NodeId × Fact)) (a_agenda : List Bool) (b : List NodeFacts) (b_lines : List Line) (b_trail : List (NodeId × Fact)) (b_agenda : List Bool) (y : ℕ) (o : Option NodeId) (x : NodeId) → o ≡ Some x → Sweeps net fault a a_lines a_trail a_agenda b b_lines b_trail b_agenda y o → Stops net fault a a_lines a_agenda b b_lines b_agenda x.0
+sweeps_some net fault a a_lines a_trail a_agenda b b_lines b_trail b_agenda y None x e h = cc
+sweeps_some net fault a a_lines a_trail a_agenda b b_lines b_trail b_agenda y (Some z) x e h = let same : z ≡ x = cc in subst (λ (n : NodeId). Stops net fault a a_lines a_agenda b b_lines b_agenda n.0) same h
 
 pub fresh_within : (net : Net) (fault : Fault) (old : List NodeFacts) (old_trail : List (NodeId × Fact)) (facts : List NodeFacts) (trail : List (NodeId × Fact)) (f : Found) → length net.nodes ≤ length old → Keeps old old_trail facts trail → IsFresh net fault facts f → f.node.0 < length facts
 fresh_within net fault old old_trail facts trail f size k fresh =

@@ -62,6 +62,19 @@ pub record Settling (net : Net) (fault : Fault) (old : List NodeFacts) (old_line
   pub less : work new new_agenda ≤ work old old_agenda
   pub same : length new_agenda ≡ length old_agenda
 
+-- a stretch of work at the node that ended with a clash
+pub record Stops (net : Net) (fault : Fault) (old : List NodeFacts) (old_lines : List Line) (old_agenda : List Bool) (new : List NodeFacts) (new_lines : List Line) (new_agenda : List Bool) (x : ℕ) : Type 0 where
+  pub works : Works net fault old old_lines new new_lines
+  pub less : work new new_agenda ≤ work old old_agenda
+  pub opposed : AreOpposed (held_by new) x
+
+-- what going over the pins of the node y comes to: a clash, or the state of the work at the node
+abbrev pub Sweeps : Net → Fault → List NodeFacts → List Line → List (NodeId × Fact) → List Bool → List NodeFacts → List Line → List (NodeId × Fact) → List Bool → ℕ → Option NodeId → Type 0
+Sweeps net fault old old_lines old_trail old_agenda new new_lines new_trail new_agenda y None =
+    Settling net fault old old_lines old_trail old_agenda new new_lines new_trail new_agenda y
+Sweeps net fault old old_lines old_trail old_agenda new new_lines new_trail new_agenda y (Some x) =
+    Stops net fault old old_lines old_agenda new new_lines new_agenda x.0
+
 -- what a stretch of work comes to: a clash, or each node is on the agenda or settled
 abbrev pub Outcome : Net → Fault → List NodeFacts → List Bool → Option NodeId → Type 0
 Outcome net fault facts agenda None = IsPending net fault facts agenda × IsClashFree (held_by facts)

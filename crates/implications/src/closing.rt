@@ -19,6 +19,7 @@ use crate::outcome::Closed;
 use crate::reaching::mark_reached;
 use crate::settling::work_off;
 use crate::state::Engine;
+use crate::tallies::Tallies;
 use gate_graph::Graph;
 use refutation::{Fact, FactSet, Item, Line, Tree, TreeBuilder};
 use rm_base::{Fault, NoMemory, NodeId};
@@ -32,22 +33,26 @@ fn add_all_lines(
     facts: &mut FactSet,
     log: &mut Log,
     agenda: &mut Agenda,
+    tallies: &mut Tallies,
 ) -> Result<Option<NodeId>, NoMemory>
     requires ready { IsReady (net_of graph.now) fault.now facts.old }
     requires free { IsClashFree (held_by facts.old) }
     requires marks { length (net_of graph.now).nodes ≤ length reached.now }
     requires marked { MarksReached (net_of graph.now) fault.now.gate.0 reached.now }
     requires agenda { length (net_of graph.now).nodes ≤ length agenda.old }
+    requires room { length (net_of graph.now).nodes ≤ length tallies.old.counted }
+    requires uncounted { tallies.old.counted ≡ replicate (length tallies.old.counted) false }
     ensures works { OnOk result (Works (net_of graph.now) fault.now facts.old log.old.lines.items facts.new log.new.lines.items) }
     ensures keeps { Keeps facts.old log.old.trail.items facts.new log.new.trail.items }
     ensures closes { IfOk result (Closes (net_of graph.now) fault.now facts.new) }
     ensures agenda { length agenda.new ≡ length agenda.old }
+    ensures room { length tallies.new.counted ≡ length tallies.old.counted }
 {
     if let Some(clash) = give_first(graph, fault, reached, facts, log)? {
         return Ok(Some(clash));
     }
     agenda.add_all(graph.node_bound());
-    work_off(graph, fault, facts, log, agenda)
+    work_off(graph, fault, facts, log, agenda, tallies)
 }
 
 // The tree of the lines, ended by a clash.
@@ -70,6 +75,7 @@ fn close_facts(
     mut facts: FactSet,
     log: &mut Log,
     agenda: &mut Agenda,
+    tallies: &mut Tallies,
     reached: &[bool],
 ) -> Result<Closed, NoMemory>
     requires ready { IsReady (net_of graph.now) fault.now facts }
@@ -77,12 +83,15 @@ fn close_facts(
     requires marks { length (net_of graph.now).nodes ≤ length reached.now }
     requires marked { MarksReached (net_of graph.now) fault.now.gate.0 reached.now }
     requires agenda { length (net_of graph.now).nodes ≤ length agenda.old }
+    requires room { length (net_of graph.now).nodes ≤ length tallies.old.counted }
+    requires uncounted { tallies.old.counted ≡ replicate (length tallies.old.counted) false }
     requires lines { log.old.lines.items ≡ [] }
     ensures grown { IfOk result (IsGrown (net_of graph.now) fault.now (held_by facts) log.new.lines.items) }
     ensures trail { IsLonger log.old.trail.items log.new.trail.items }
     ensures agenda { length agenda.new ≡ length agenda.old }
+    ensures room { length tallies.new.counted ≡ length tallies.old.counted }
 {
-    match add_all_lines(graph, fault, reached, &mut facts, log, agenda)? {
+    match add_all_lines(graph, fault, reached, &mut facts, log, agenda, tallies)? {
         Some(node) => Ok(Closed::Clash(clash_tree(alloc, log.lines.as_slice(), node)?)),
         None => Ok(Closed::Open(facts)),
     }
@@ -115,10 +124,12 @@ impl Engine {
             facts,
             &mut self.log,
             &mut self.agenda,
+            &mut self.tallies,
             self.reached.as_slice(),
         );
         self.log.trail.truncate(mark);
         self.agenda.clear();
+        self.tallies.clear();
         match answer {
             Ok(closed) => Ok(closed),
             Err(NoMemory) => {

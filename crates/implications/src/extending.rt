@@ -1,5 +1,5 @@
 // Extending a closed set of facts in place, and taking that back.
-ghost use Rattle.std.specs.Prelude.{◌≡◌, ◌<◌, ◌≤◌, ℕ, List, [], None, IfOk, OnErr, drop, length};
+ghost use Rattle.std.specs.Prelude.{◌≡◌, ◌<◌, ◌≤◌, ℕ, List, [], None, IfOk, OnErr, drop, false, length, replicate};
 ghost use Rattle.gate_net.specs.Net.{IsLive};
 ghost use Rattle.gate_net.specs.Values.{HasPin};
 ghost use Rattle.gate_graph.specs.Circuit.{net_of};
@@ -14,8 +14,9 @@ ghost use Rattle.implications.specs.Working.{Keeps};
 
 use crate::agenda::Agenda;
 use crate::log::{Log, start};
-use crate::settling::{touch, work_off};
+use crate::settling::work_off;
 use crate::state::Engine;
+use crate::tallies::{Tallies, touch};
 use gate_graph::Graph;
 use refutation::{Fact, FactSet};
 use rm_base::{Fault, NoMemory, NodeId};
@@ -50,11 +51,14 @@ fn add_good(
     facts: &mut FactSet,
     log: &mut Log,
     agenda: &mut Agenda,
+    tallies: &mut Tallies,
     node: NodeId,
     value: bool,
 ) -> Result<Option<NodeId>, NoMemory>
     requires ready { IsReady (net_of graph.now) fault.now facts.old }
     requires agenda { length (net_of graph.now).nodes ≤ length agenda.old }
+    requires room { length (net_of graph.now).nodes ≤ length tallies.old.counted }
+    requires uncounted { tallies.old.counted ≡ replicate (length tallies.old.counted) false }
     requires closed { IsClosedUnderLines (net_of graph.now) fault.now (held_by facts.old) }
     requires free { IsClashFree (held_by facts.old) }
     requires node { IsLive (net_of graph.now) node.0 }
@@ -64,12 +68,13 @@ fn add_good(
     ensures fewer { IfOk result (λ _. missing facts.new < missing facts.old) }
     ensures keeps { Keeps facts.old log.old.trail.items facts.new log.new.trail.items }
     ensures agenda { length agenda.new ≡ length agenda.old }
+    ensures room { length tallies.new.counted ≡ length tallies.old.counted }
 {
     let fact = Fact::Good(value);
     log.trail.push((node, fact))?;
+    touch(graph, fault, facts, agenda, tallies, node, fact);
     facts.insert(node, fact);
-    touch(graph, agenda, node);
-    work_off(graph, fault, facts, log, agenda)
+    work_off(graph, fault, facts, log, agenda, tallies)
 }
 
 impl Engine {
@@ -110,10 +115,12 @@ impl Engine {
             facts,
             &mut self.log,
             &mut self.agenda,
+            &mut self.tallies,
             node,
             value,
         );
         self.agenda.clear();
+        self.tallies.clear();
         match answer {
             Ok(found) => Ok(found),
             Err(NoMemory) => {

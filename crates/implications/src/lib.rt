@@ -12,11 +12,14 @@ pub mod laws;
 mod log;
 mod next_line;
 mod outcome;
+mod pin_line;
 mod pulls;
 mod reaching;
 mod settling;
 mod side_line;
 mod state;
+mod sweeping;
+mod tallied_lines;
 mod tallies;
 #[cfg(test)]
 mod tests;

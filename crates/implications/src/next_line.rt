@@ -1,5 +1,5 @@
 // What a line at a node has to give that isn't held yet.
-ghost use Rattle.std.specs.Prelude.{◌≡◌};
+ghost use Rattle.std.specs.Prelude.{◌≡◌, ◌≤◌, length};
 ghost use Rattle.gate_graph.specs.Circuit.{net_of};
 ghost use Rattle.gate_net.specs.Net.{IsGateKind, IsKind};
 ghost use Rattle.gate_net.specs.Values.{IsJunction};
@@ -10,10 +10,12 @@ ghost use Rattle.refutation.specs.Closing.{IsClashFree};
 ghost use Rattle.refutation.specs.FactSets.{held_by};
 ghost use Rattle.implications.specs.Pulls.{AreDoneFaulty, AreDoneGood, AreDoneNot, AreDoneValues, Finds};
 ghost use Rattle.implications.specs.Settled.{IsNext, IsReady, IsTried};
+ghost use Rattle.implications.specs.Tallies.{AreTallied};
 
 use crate::found::Found;
-use crate::gate_lines::{equal_line, faulty_line, good_line};
-use crate::side_line::side_line;
+use crate::gate_lines::equal_line;
+use crate::tallied_lines::tallied_line;
+use crate::tallies::Tallies;
 use gate_graph::Graph;
 use gate_net::Kind;
 use refutation::equal_lines::{line_not_differs, line_not_equal};
@@ -45,7 +47,7 @@ fn tried(
 }
 
 // The lines on one node's own values.
-fn value_line(graph: &Graph, fault: &Fault, facts: &FactSet, node: NodeId) -> Option<Found>
+pub(crate) fn value_line(graph: &Graph, fault: &Fault, facts: &FactSet, node: NodeId) -> Option<Found>
     requires ready { IsReady (net_of graph.now) fault.now facts.now }
     ensures { Finds (net_of graph.now) fault.now facts.now (AreDoneValues (net_of graph.now) fault.now facts.now node) result }
 {
@@ -66,27 +68,21 @@ fn junction_line(
     graph: &Graph,
     fault: &Fault,
     facts: &FactSet,
+    tallies: &mut Tallies,
     node: NodeId,
     c: bool,
 ) -> Option<Found>
     requires ready { IsReady (net_of graph.now) fault.now facts.now }
     requires free { IsClashFree (held_by facts.now) }
+    requires room { length (net_of graph.now).nodes ≤ length tallies.old.counted }
+    requires tallied { AreTallied (net_of graph.now) (held_by facts.now) fault.now.position tallies.old }
     requires kind { IsJunction (net_of graph.now) node.0 c }
-    ensures { IsNext (net_of graph.now) fault.now facts.now node.0 result }
+    ensures next { IsNext (net_of graph.now) fault.now facts.now node.0 result }
+    ensures tallied { AreTallied (net_of graph.now) (held_by facts.now) fault.now.position tallies.new }
+    ensures room { length tallies.new.counted ≡ length tallies.old.counted }
 {
-    if let Some(found) = value_line(graph, fault, facts, node) {
-        return Some(found);
-    }
-    if let Some(found) = good_line(graph, fault, facts, node, c) {
-        return Some(found);
-    }
-    if let Some(found) = faulty_line(graph, fault, facts, node, c) {
-        return Some(found);
-    }
-    if let Some(found) = equal_line(graph, fault, facts, node) {
-        return Some(found);
-    }
-    side_line(graph, fault, facts, node, c)
+    let tally = tallies.of(graph, fault, facts, node);
+    tallied_line(graph, fault, facts, &tally, node, c)
 }
 
 // The lines on the good value at a Not.
@@ -184,15 +180,20 @@ pub(crate) fn next_line(
     graph: &Graph,
     fault: &Fault,
     facts: &FactSet,
+    tallies: &mut Tallies,
     node: NodeId,
 ) -> Option<Found>
     requires ready { IsReady (net_of graph.now) fault.now facts.now }
     requires free { IsClashFree (held_by facts.now) }
-    ensures { IsNext (net_of graph.now) fault.now facts.now node.0 result }
+    requires room { length (net_of graph.now).nodes ≤ length tallies.old.counted }
+    requires tallied { AreTallied (net_of graph.now) (held_by facts.now) fault.now.position tallies.old }
+    ensures next { IsNext (net_of graph.now) fault.now facts.now node.0 result }
+    ensures tallied { AreTallied (net_of graph.now) (held_by facts.now) fault.now.position tallies.new }
+    ensures room { length tallies.new.counted ≡ length tallies.old.counted }
 {
     match graph.kind(node)? {
-        Kind::And => junction_line(graph, fault, facts, node, false),
-        Kind::Or => junction_line(graph, fault, facts, node, true),
+        Kind::And => junction_line(graph, fault, facts, tallies, node, false),
+        Kind::Or => junction_line(graph, fault, facts, tallies, node, true),
         Kind::Not => not_line(graph, fault, facts, node),
         _ => plain_line(graph, fault, facts, node),
     }

@@ -1,31 +1,48 @@
 // Working off the nodes at which a line may have more to give.
-ghost use Rattle.std.specs.Prelude.{◌≡◌, ◌≤◌, IfOk, OnOk, length};
+ghost use Rattle.std.specs.Prelude.{◌≡◌, ◌≤◌, ◌↔◌, IfOk, IsTrue, OnOk, length};
 ghost use Rattle.gate_graph.specs.Circuit.{net_of};
-ghost use Rattle.gate_net.specs.Net.{IsLive};
 ghost use Rattle.refutation.specs.Closing.{IsClashFree};
+ghost use Rattle.refutation.specs.Facts.{AreOpposed};
 ghost use Rattle.refutation.specs.FactSets.{held_by};
-ghost use Rattle.implications.specs.Settled.{IsReady};
-ghost use Rattle.implications.specs.Working.{IsPending, IsPendingBut, Touches, Works, Keeps, Outcome, Ending, work};
+ghost use Rattle.implications.specs.Settled.{IsFresh, IsReady};
+ghost use Rattle.implications.specs.Tallies.{AreTallied};
+ghost use Rattle.implications.specs.Working.{IsPending, IsPendingBut, Touches, Holds, Works, Keeps, Outcome, Ending, work};
 
 use crate::agenda::Agenda;
+use crate::found::Found;
 use crate::log::{Log, hold};
 use crate::next_line::next_line;
+use crate::sweeping::sweep;
+use crate::tallies::{Tallies, touch};
 use gate_graph::Graph;
 use refutation::FactSet;
 use rm_base::{Fault, NoMemory, NodeId};
 
-// Puts the node and its readers on the agenda.
-pub(crate) fn touch(graph: &Graph, agenda: &mut Agenda, node: NodeId)
-    requires node { IsLive (net_of graph.now) node.0 }
+// Adds what was found, and puts its node and its readers on the agenda; whether two facts are now opposed on the node.
+pub(crate) fn add_found(
+    graph: &Graph,
+    fault: &Fault,
+    facts: &mut FactSet,
+    log: &mut Log,
+    agenda: &mut Agenda,
+    tallies: &mut Tallies,
+    found: Found,
+) -> Result<bool, NoMemory>
+    requires size { length (net_of graph.now).nodes ≤ length facts.old }
     requires agenda { length (net_of graph.now).nodes ≤ length agenda.old }
-    ensures { Touches (net_of graph.now) agenda.old agenda.new node.0 }
+    requires room { length (net_of graph.now).nodes ≤ length tallies.old.counted }
+    requires tallied { AreTallied (net_of graph.now) (held_by facts.old) fault.now.position tallies.old }
+    requires fresh { IsFresh (net_of graph.now) fault.now facts.old found }
+    ensures holds { OnOk result (Holds facts.old log.old.lines.items facts.new log.new.lines.items found) }
+    ensures keeps { Keeps facts.old log.old.trail.items facts.new log.new.trail.items }
+    ensures touches { Touches (net_of graph.now) agenda.old agenda.new found.node.0 }
+    ensures tallied { OnOk result (AreTallied (net_of graph.now) (held_by facts.new) fault.now.position tallies.new) }
+    ensures room { length tallies.new.counted ≡ length tallies.old.counted }
+    ensures opposed { IfOk result (λ opposed. IsTrue opposed ↔ AreOpposed (held_by facts.new) found.node.0) }
 {
-    graph.well_formed();
-    graph.readers_listed();
-    agenda.add(node);
-    for (reader, _position) in graph.fanouts_of(node) {
-        agenda.add(reader);
-    }
+    touch(graph, fault, facts, agenda, tallies, found.node, found.fact);
+    hold(facts, log, found)?;
+    Ok(facts.is_opposed(found.node))
 }
 
 // Adds what lines at the node give, until it is settled or two facts are opposed on a node, which is then given.
@@ -35,26 +52,34 @@ fn settle(
     facts: &mut FactSet,
     log: &mut Log,
     agenda: &mut Agenda,
+    tallies: &mut Tallies,
     node: NodeId,
 ) -> Result<Option<NodeId>, NoMemory>
     requires ready { IsReady (net_of graph.now) fault.now facts.old }
     requires agenda { length (net_of graph.now).nodes ≤ length agenda.old }
+    requires room { length (net_of graph.now).nodes ≤ length tallies.old.counted }
+    requires tallied { AreTallied (net_of graph.now) (held_by facts.old) fault.now.position tallies.old }
     requires pending { IsPendingBut (net_of graph.now) fault.now facts.old agenda.old node.0 }
     requires free { IsClashFree (held_by facts.old) }
     ensures works { OnOk result (Works (net_of graph.now) fault.now facts.old log.old.lines.items facts.new log.new.lines.items) }
     ensures keeps { Keeps facts.old log.old.trail.items facts.new log.new.trail.items }
     ensures outcome { IfOk result (Outcome (net_of graph.now) fault.now facts.new agenda.new) }
+    ensures tallied { OnOk result (AreTallied (net_of graph.now) (held_by facts.new) fault.now.position tallies.new) }
     ensures less { OnOk result (work facts.new agenda.new ≤ work facts.old agenda.old) }
     ensures size { length agenda.new ≡ length agenda.old }
+    ensures room { length tallies.new.counted ≡ length tallies.old.counted }
 {
-    while let Some(found) = next_line(graph, fault, facts, node) {
-        hold(facts, log, found)?;
-        touch(graph, agenda, found.node);
-        if facts.is_opposed(found.node) {
+    loop {
+        if let Some(clash) = sweep(graph, fault, facts, log, agenda, tallies, node)? {
+            return Ok(Some(clash));
+        }
+        let Some(found) = next_line(graph, fault, facts, tallies, node) else {
+            return Ok(None);
+        };
+        if add_found(graph, fault, facts, log, agenda, tallies, found)? {
             return Ok(Some(found.node));
         }
     }
-    Ok(None)
 }
 
 // Works off the agenda, until it is empty or two facts are opposed on a node, which is then given.
@@ -64,18 +89,22 @@ pub(crate) fn work_off(
     facts: &mut FactSet,
     log: &mut Log,
     agenda: &mut Agenda,
+    tallies: &mut Tallies,
 ) -> Result<Option<NodeId>, NoMemory>
     requires ready { IsReady (net_of graph.now) fault.now facts.old }
     requires agenda { length (net_of graph.now).nodes ≤ length agenda.old }
+    requires room { length (net_of graph.now).nodes ≤ length tallies.old.counted }
+    requires tallied { AreTallied (net_of graph.now) (held_by facts.old) fault.now.position tallies.old }
     requires pending { IsPending (net_of graph.now) fault.now facts.old agenda.old }
     requires free { IsClashFree (held_by facts.old) }
     ensures works { OnOk result (Works (net_of graph.now) fault.now facts.old log.old.lines.items facts.new log.new.lines.items) }
     ensures keeps { Keeps facts.old log.old.trail.items facts.new log.new.trail.items }
     ensures ending { IfOk result (Ending (net_of graph.now) fault.now facts.new) }
     ensures size { length agenda.new ≡ length agenda.old }
+    ensures room { length tallies.new.counted ≡ length tallies.old.counted }
 {
     while let Some(node) = agenda.take() {
-        match settle(graph, fault, facts, log, agenda, node)? {
+        match settle(graph, fault, facts, log, agenda, tallies, node)? {
             Some(clash) => return Ok(Some(clash)),
             None => {}
         }

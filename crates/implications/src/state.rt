@@ -6,6 +6,7 @@ ghost use Rattle.implications.specs.Trail.{LeadsBack};
 
 use crate::agenda::{Agenda, no_marks};
 use crate::log::Log;
+use crate::tallies::Tallies;
 use gate_graph::Graph;
 use refutation::{Fact, Line};
 use rm_base::{NoMemory, NodeId};
@@ -18,6 +19,7 @@ pub struct Engine {
     pub(crate) alloc: Global,
     pub(crate) log: Log,
     pub(crate) agenda: Agenda,
+    pub(crate) tallies: Tallies,
     pub(crate) reached: Vec<bool>,
 }
 
@@ -29,7 +31,7 @@ impl Model for Engine {
 
     ghost view = { λ e. record { numbers = length e.agenda; lines = e.log.lines.items; trail = e.log.trail.items } };
 
-    ghost invariant = { λ e. (e.agenda ≡ replicate (length e.agenda) false) × (length e.reached.items ≡ length e.agenda) };
+    ghost invariant = { λ e. (e.agenda ≡ replicate (length e.agenda) false) × (e.tallies.counted ≡ replicate (length e.agenda) false) × (length e.reached.items ≡ length e.agenda) };
 }
 
 impl Engine {
@@ -49,6 +51,7 @@ impl Engine {
         ensures trail { IfOk result (λ e. e.trail ≡ []) }
     {
         let agenda = Agenda::new(alloc, numbers)?;
+        let tallies = Tallies::new(alloc, numbers)?;
         let reached = no_marks(alloc, numbers)?;
         let log = Log {
             lines: Vec::with_capacity(alloc, numbers as usize)?,
@@ -58,6 +61,7 @@ impl Engine {
             alloc,
             log,
             agenda,
+            tallies,
             reached,
         })
     }

@@ -1,39 +1,61 @@
-use Rattle.std.proofs.Common.{arith, false, length, true, ◌<◌, ◌≡◌}
+use Rattle.std.proofs.Common.{◌∙◌}
 use Rattle.gate_graph.specs.Circuit.{net_of}
-use Rattle.implications.proofs.Steps.{fresh_within, keeps_join, settled_keeps, settled_less, settled_smaller, settled_works, settling_more}
+use Rattle.implications.proofs.Steps.{keeps_join, less_than, not_opposed, settled_keeps, settled_less, settled_smaller, settled_works, settling_join, settling_more, sweeps_none}
 use Rattle.implications.proofs.settling.settle.Goals as goal
 
-pub returns-in_err-hold-clause-keeps : goal.returns-in_err-hold-clause-keeps
-returns-in_err-hold-clause-keeps c =
-    keeps_join c.args.facts.now c.args.log.now.trail.items c.loop-found.facts c.loop-found.log.trail.items c.hold.new.facts c.hold.new.log.trail.items c.loop-found.invariant.keeps c.hold.ensures.keeps
+pub returns-in_err-clash-clause-keeps : goal.returns-in_err-clash-clause-keeps
+returns-in_err-clash-clause-keeps c = keeps_join c.args.facts.now c.args.log.now.trail.items c.loop-clash.facts c.loop-clash.log.trail.items c.sweep.new.facts c.sweep.new.log.trail.items c.loop-clash.invariant.state.keeps c.sweep.ensures.keeps
 
-pub is_opposed-requires : goal.is_opposed-requires
-is_opposed-requires c =
-    let within : c.in-Some.found.node.0 < length c.loop-found.facts = fresh_within (net_of c.args.graph.now) c.args.fault.now c.args.facts.now c.args.log.now.trail.items c.loop-found.facts c.loop-found.log.trail.items c.in-Some.found c.requires.ready.size c.loop-found.invariant.keeps c.in-Some.ensures in
-    omega (arith, c.hold.ensures.keeps.size)
+pub returns-in-Some-clause-keeps : goal.returns-in-Some-clause-keeps
+returns-in-Some-clause-keeps c = keeps_join c.args.facts.now c.args.log.now.trail.items c.loop-clash.facts c.loop-clash.log.trail.items c.sweep.new.facts c.sweep.new.log.trail.items c.loop-clash.invariant.state.keeps c.sweep.ensures.keeps
 
-pub returns-then-is_opposed-clause-works : goal.returns-then-is_opposed-clause-works
-returns-then-is_opposed-clause-works c =
-    settled_works (net_of c.args.graph.now) c.args.fault.now c.args.facts.now c.args.log.now.lines.items c.args.log.now.trail.items c.args.agenda.now c.loop-found.facts c.loop-found.log.lines.items c.loop-found.log.trail.items c.loop-found.agenda c.args.node.0 c.loop-found.invariant
-    c.in-Some.found c.in-Some.ensures c.hold.new.facts c.hold.new.log.lines.items c.hold.new.log.trail.items c.in_ok-hold.ensures.holds c.hold.ensures.keeps
+pub returns-in_default-next_line-clause-keeps : goal.returns-in_default-next_line-clause-keeps
+returns-in_default-next_line-clause-keeps c = keeps_join c.args.facts.now c.args.log.now.trail.items c.loop-clash.facts c.loop-clash.log.trail.items c.sweep.new.facts c.sweep.new.log.trail.items c.loop-clash.invariant.state.keeps c.sweep.ensures.keeps
 
-pub returns-then-is_opposed-clause-keeps : goal.returns-then-is_opposed-clause-keeps
-returns-then-is_opposed-clause-keeps c =
-    settled_keeps (net_of c.args.graph.now) c.args.fault.now c.args.facts.now c.args.log.now.lines.items c.args.log.now.trail.items c.args.agenda.now c.loop-found.facts c.loop-found.log.lines.items c.loop-found.log.trail.items c.loop-found.agenda c.args.node.0 c.loop-found.invariant
-    c.in-Some.found c.in-Some.ensures c.hold.new.facts c.hold.new.log.lines.items c.hold.new.log.trail.items c.in_ok-hold.ensures.holds c.hold.ensures.keeps
+pub returns-in_err-add_found-clause-keeps : goal.returns-in_err-add_found-clause-keeps
+returns-in_err-add_found-clause-keeps c =
+    keeps_join c.args.facts.now c.args.log.now.trail.items c.sweep.new.facts c.sweep.new.log.trail.items c.add_found.new.facts c.add_found.new.log.trail.items
+    (keeps_join c.args.facts.now c.args.log.now.trail.items c.loop-clash.facts c.loop-clash.log.trail.items c.sweep.new.facts c.sweep.new.log.trail.items c.loop-clash.invariant.state.keeps c.sweep.ensures.keeps)
+    c.add_found.ensures.keeps
 
-pub returns-then-is_opposed-clause-less : goal.returns-then-is_opposed-clause-less
-returns-then-is_opposed-clause-less c =
-    settled_less (net_of c.args.graph.now) c.args.fault.now c.args.facts.now c.args.log.now.lines.items c.args.log.now.trail.items c.args.agenda.now c.loop-found.facts c.loop-found.log.lines.items c.loop-found.log.trail.items c.loop-found.agenda c.args.node.0 c.loop-found.invariant
-    c.in-Some.found c.in-Some.ensures c.hold.new.facts c.hold.new.log.lines.items c.hold.new.log.trail.items c.in_ok-hold.ensures.holds c.hold.ensures.keeps c.touch.new.agenda c.touch.ensures
+pub returns-then-branch-clause-works : goal.returns-then-branch-clause-works
+returns-then-branch-clause-works c =
+    settled_works (net_of c.args.graph.now) c.args.fault.now c.args.facts.now c.args.log.now.lines.items c.args.log.now.trail.items c.args.agenda.now c.sweep.new.facts c.sweep.new.log.lines.items c.sweep.new.log.trail.items c.sweep.new.agenda c.args.node.0
+    (settling_join (net_of c.args.graph.now) c.args.fault.now c.args.facts.now c.args.log.now.lines.items c.args.log.now.trail.items c.args.agenda.now c.loop-clash.facts c.loop-clash.log.lines.items c.loop-clash.log.trail.items c.loop-clash.agenda c.sweep.new.facts c.sweep.new.log.lines.items c.sweep.new.log.trail.items c.sweep.new.agenda c.args.node.0 c.loop-clash.invariant.state
+    (sweeps_none (net_of c.args.graph.now) c.args.fault.now c.loop-clash.facts c.loop-clash.log.lines.items c.loop-clash.log.trail.items c.loop-clash.agenda c.sweep.new.facts c.sweep.new.log.lines.items c.sweep.new.log.trail.items c.sweep.new.agenda c.args.node.0 c.in_ok-clash.field-0 c.in_default.is c.in_ok-clash.ensures.sweeps))
+    c.in-Some-next_line.found c.in-Some-next_line.ensures.next c.add_found.new.facts c.add_found.new.log.lines.items c.add_found.new.log.trail.items c.in_ok-add_found.ensures.holds c.add_found.ensures.keeps
 
-pub loop-found-smaller : goal.loop-found-smaller
-loop-found-smaller c =
-    settled_smaller (net_of c.args.graph.now) c.args.fault.now c.args.facts.now c.args.log.now.lines.items c.args.log.now.trail.items c.args.agenda.now c.loop-found.facts c.loop-found.log.lines.items c.loop-found.log.trail.items c.loop-found.agenda c.args.node.0 c.loop-found.invariant
-    c.in-Some.found c.in-Some.ensures c.hold.new.facts c.hold.new.log.lines.items c.hold.new.log.trail.items c.in_ok-hold.ensures.holds c.hold.ensures.keeps c.touch.new.agenda c.touch.ensures
+pub returns-then-branch-clause-keeps : goal.returns-then-branch-clause-keeps
+returns-then-branch-clause-keeps c =
+    settled_keeps (net_of c.args.graph.now) c.args.fault.now c.args.facts.now c.args.log.now.lines.items c.args.log.now.trail.items c.args.agenda.now c.sweep.new.facts c.sweep.new.log.lines.items c.sweep.new.log.trail.items c.sweep.new.agenda c.args.node.0
+    (settling_join (net_of c.args.graph.now) c.args.fault.now c.args.facts.now c.args.log.now.lines.items c.args.log.now.trail.items c.args.agenda.now c.loop-clash.facts c.loop-clash.log.lines.items c.loop-clash.log.trail.items c.loop-clash.agenda c.sweep.new.facts c.sweep.new.log.lines.items c.sweep.new.log.trail.items c.sweep.new.agenda c.args.node.0 c.loop-clash.invariant.state
+    (sweeps_none (net_of c.args.graph.now) c.args.fault.now c.loop-clash.facts c.loop-clash.log.lines.items c.loop-clash.log.trail.items c.loop-clash.agenda c.sweep.new.facts c.sweep.new.log.lines.items c.sweep.new.log.trail.items c.sweep.new.agenda c.args.node.0 c.in_ok-clash.field-0 c.in_default.is c.in_ok-clash.ensures.sweeps))
+    c.in-Some-next_line.found c.in-Some-next_line.ensures.next c.add_found.new.facts c.add_found.new.log.lines.items c.add_found.new.log.trail.items c.in_ok-add_found.ensures.holds c.add_found.ensures.keeps
 
-pub loop-found-preserved : goal.loop-found-preserved
-loop-found-preserved c =
-    settling_more (net_of c.args.graph.now) c.args.fault.now c.args.facts.now c.args.log.now.lines.items c.args.log.now.trail.items c.args.agenda.now c.loop-found.facts c.loop-found.log.lines.items c.loop-found.log.trail.items c.loop-found.agenda c.args.node.0 c.loop-found.invariant
-    c.in-Some.found c.in-Some.ensures c.hold.new.facts c.hold.new.log.lines.items c.hold.new.log.trail.items c.in_ok-hold.ensures.holds c.hold.ensures.keeps c.touch.new.agenda c.touch.ensures
-    (λ opposed. let t : c.is_opposed.result ≡ true = c.is_opposed.ensures.1 opposed in let f : c.is_opposed.result ≡ false = c.if-is_opposed.false in cc)
+pub returns-then-branch-clause-less : goal.returns-then-branch-clause-less
+returns-then-branch-clause-less c =
+    settled_less (net_of c.args.graph.now) c.args.fault.now c.args.facts.now c.args.log.now.lines.items c.args.log.now.trail.items c.args.agenda.now c.sweep.new.facts c.sweep.new.log.lines.items c.sweep.new.log.trail.items c.sweep.new.agenda c.args.node.0
+    (settling_join (net_of c.args.graph.now) c.args.fault.now c.args.facts.now c.args.log.now.lines.items c.args.log.now.trail.items c.args.agenda.now c.loop-clash.facts c.loop-clash.log.lines.items c.loop-clash.log.trail.items c.loop-clash.agenda c.sweep.new.facts c.sweep.new.log.lines.items c.sweep.new.log.trail.items c.sweep.new.agenda c.args.node.0 c.loop-clash.invariant.state
+    (sweeps_none (net_of c.args.graph.now) c.args.fault.now c.loop-clash.facts c.loop-clash.log.lines.items c.loop-clash.log.trail.items c.loop-clash.agenda c.sweep.new.facts c.sweep.new.log.lines.items c.sweep.new.log.trail.items c.sweep.new.agenda c.args.node.0 c.in_ok-clash.field-0 c.in_default.is c.in_ok-clash.ensures.sweeps))
+    c.in-Some-next_line.found c.in-Some-next_line.ensures.next c.add_found.new.facts c.add_found.new.log.lines.items c.add_found.new.log.trail.items c.in_ok-add_found.ensures.holds c.add_found.ensures.keeps
+    c.add_found.new.agenda c.add_found.ensures.touches
+
+pub loop-clash-smaller : goal.loop-clash-smaller
+loop-clash-smaller c =
+    less_than (settled_smaller (net_of c.args.graph.now) c.args.fault.now c.args.facts.now c.args.log.now.lines.items c.args.log.now.trail.items c.args.agenda.now c.sweep.new.facts c.sweep.new.log.lines.items c.sweep.new.log.trail.items c.sweep.new.agenda c.args.node.0
+    (settling_join (net_of c.args.graph.now) c.args.fault.now c.args.facts.now c.args.log.now.lines.items c.args.log.now.trail.items c.args.agenda.now c.loop-clash.facts c.loop-clash.log.lines.items c.loop-clash.log.trail.items c.loop-clash.agenda c.sweep.new.facts c.sweep.new.log.lines.items c.sweep.new.log.trail.items c.sweep.new.agenda c.args.node.0 c.loop-clash.invariant.state
+    (sweeps_none (net_of c.args.graph.now) c.args.fault.now c.loop-clash.facts c.loop-clash.log.lines.items c.loop-clash.log.trail.items c.loop-clash.agenda c.sweep.new.facts c.sweep.new.log.lines.items c.sweep.new.log.trail.items c.sweep.new.agenda c.args.node.0 c.in_ok-clash.field-0 c.in_default.is c.in_ok-clash.ensures.sweeps))
+    c.in-Some-next_line.found c.in-Some-next_line.ensures.next c.add_found.new.facts c.add_found.new.log.lines.items c.add_found.new.log.trail.items c.in_ok-add_found.ensures.holds c.add_found.ensures.keeps
+    c.add_found.new.agenda c.add_found.ensures.touches)
+    (sweeps_none (net_of c.args.graph.now) c.args.fault.now c.loop-clash.facts c.loop-clash.log.lines.items c.loop-clash.log.trail.items c.loop-clash.agenda c.sweep.new.facts c.sweep.new.log.lines.items c.sweep.new.log.trail.items c.sweep.new.agenda c.args.node.0 c.in_ok-clash.field-0 c.in_default.is c.in_ok-clash.ensures.sweeps).less
+
+pub loop-clash-preserved : goal.loop-clash-preserved
+loop-clash-preserved c = record {
+  state = settling_more (net_of c.args.graph.now) c.args.fault.now c.args.facts.now c.args.log.now.lines.items c.args.log.now.trail.items c.args.agenda.now c.sweep.new.facts c.sweep.new.log.lines.items c.sweep.new.log.trail.items c.sweep.new.agenda c.args.node.0
+    (settling_join (net_of c.args.graph.now) c.args.fault.now c.args.facts.now c.args.log.now.lines.items c.args.log.now.trail.items c.args.agenda.now c.loop-clash.facts c.loop-clash.log.lines.items c.loop-clash.log.trail.items c.loop-clash.agenda c.sweep.new.facts c.sweep.new.log.lines.items c.sweep.new.log.trail.items c.sweep.new.agenda c.args.node.0 c.loop-clash.invariant.state
+    (sweeps_none (net_of c.args.graph.now) c.args.fault.now c.loop-clash.facts c.loop-clash.log.lines.items c.loop-clash.log.trail.items c.loop-clash.agenda c.sweep.new.facts c.sweep.new.log.lines.items c.sweep.new.log.trail.items c.sweep.new.agenda c.args.node.0 c.in_ok-clash.field-0 c.in_default.is c.in_ok-clash.ensures.sweeps))
+    c.in-Some-next_line.found c.in-Some-next_line.ensures.next c.add_found.new.facts c.add_found.new.log.lines.items c.add_found.new.log.trail.items c.in_ok-add_found.ensures.holds c.add_found.ensures.keeps
+    c.add_found.new.agenda c.add_found.ensures.touches (not_opposed c.in_ok-add_found.field-0 c.add_found.new.facts c.in-Some-next_line.found.node.0 c.if-branch.false c.in_ok-add_found.ensures.opposed);
+  tallied = c.in_ok-add_found.ensures.tallied;
+  room = c.add_found.ensures.room ∙ c.next_line.ensures.room ∙ c.sweep.ensures.room ∙ c.loop-clash.invariant.room;
+}

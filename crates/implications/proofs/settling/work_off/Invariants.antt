@@ -1,9 +1,16 @@
+use Rattle.std.proofs.Common.{length, ◌≡◌}
+use Rattle.gate_graph.specs.Circuit.{net_of}
 use Rattle.implications.proofs.settling.work_off.Given as goal
+use Rattle.implications.specs.Tallies.{AreTallied}
 use Rattle.implications.specs.Working.{Running, work}
+use Rattle.refutation.specs.FactSets.{held_by}
 
 abbrev pub invariant-loop-node : goal.invariant-loop-node
-invariant-loop-node l =
-    Running (Rattle.gate_graph.specs.Circuit.net_of l.graph) l.fault l.initial.facts l.initial.log.lines.items l.initial.log.trail.items l.initial.agenda l.facts l.log.lines.items l.log.trail.items l.agenda
+invariant-loop-node l = record {
+  state : Running (net_of l.graph) l.fault l.initial.facts l.initial.log.lines.items l.initial.log.trail.items l.initial.agenda l.facts l.log.lines.items l.log.trail.items l.agenda;
+  tallied : AreTallied (net_of l.graph) (held_by l.facts) l.fault.position l.tallies;
+  room : length l.tallies.counted ≡ length l.initial.tallies.counted;
+}
 
 abbrev pub decreases-loop-node : goal.decreases-loop-node
 decreases-loop-node l = work l.facts l.agenda

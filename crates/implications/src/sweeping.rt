@@ -1,0 +1,128 @@
+// Going over the pins of an And or an Or once, and adding what follows at each.
+ghost use Rattle.std.specs.Prelude.{◌≡◌, ◌≤◌, IfOk, OnOk, length};
+ghost use Rattle.gate_graph.specs.Circuit.{net_of};
+ghost use Rattle.gate_net.specs.Net.{Reads};
+ghost use Rattle.gate_net.specs.Values.{IsJunction};
+ghost use Rattle.refutation.specs.Closing.{IsClashFree};
+ghost use Rattle.refutation.specs.FactSets.{held_by};
+ghost use Rattle.implications.specs.Settled.{IsReady};
+ghost use Rattle.implications.specs.Tallies.{AreTallied};
+ghost use Rattle.implications.specs.Working.{IsPendingBut, Works, Keeps, Sweeps, work};
+
+use crate::agenda::Agenda;
+use crate::log::Log;
+use crate::pin_line::{has_sweep, pin_line};
+use crate::settling::add_found;
+use crate::tallies::Tallies;
+use gate_graph::Graph;
+use refutation::FactSet;
+use refutation::following::gate_pins;
+use refutation::pins::controlling;
+use rm_base::{Fault, NoMemory, NodeId};
+
+// Adds what follows at one pin, or up to a clash, whose node is given.
+fn sweep_pin(
+    graph: &Graph,
+    fault: &Fault,
+    facts: &mut FactSet,
+    log: &mut Log,
+    agenda: &mut Agenda,
+    tallies: &mut Tallies,
+    node: NodeId,
+    position: u32,
+    driver: NodeId,
+    c: bool,
+) -> Result<Option<NodeId>, NoMemory>
+    requires ready { IsReady (net_of graph.now) fault.now facts.old }
+    requires agenda { length (net_of graph.now).nodes ≤ length agenda.old }
+    requires room { length (net_of graph.now).nodes ≤ length tallies.old.counted }
+    requires tallied { AreTallied (net_of graph.now) (held_by facts.old) fault.now.position tallies.old }
+    requires pending { IsPendingBut (net_of graph.now) fault.now facts.old agenda.old node.0 }
+    requires free { IsClashFree (held_by facts.old) }
+    requires kind { IsJunction (net_of graph.now) node.0 c }
+    requires reads { Reads (net_of graph.now) node.0 position driver.0 }
+    ensures sweeps { IfOk result (Sweeps (net_of graph.now) fault.now facts.old log.old.lines.items log.old.trail.items agenda.old facts.new log.new.lines.items log.new.trail.items agenda.new node.0) }
+    ensures keeps { Keeps facts.old log.old.trail.items facts.new log.new.trail.items }
+    ensures tallied { OnOk result (AreTallied (net_of graph.now) (held_by facts.new) fault.now.position tallies.new) }
+    ensures size { length agenda.new ≡ length agenda.old }
+    ensures room { length tallies.new.counted ≡ length tallies.old.counted }
+{
+    while let Some(found) = pin_line(graph, fault, facts, node, position, driver, c) {
+        if add_found(graph, fault, facts, log, agenda, tallies, found)? {
+            return Ok(Some(found.node));
+        }
+    }
+    Ok(None)
+}
+
+// Adds what follows at each pin, or up to a clash, whose node is given.
+fn sweep_pins(
+    graph: &Graph,
+    fault: &Fault,
+    facts: &mut FactSet,
+    log: &mut Log,
+    agenda: &mut Agenda,
+    tallies: &mut Tallies,
+    node: NodeId,
+    c: bool,
+) -> Result<Option<NodeId>, NoMemory>
+    requires ready { IsReady (net_of graph.now) fault.now facts.old }
+    requires agenda { length (net_of graph.now).nodes ≤ length agenda.old }
+    requires room { length (net_of graph.now).nodes ≤ length tallies.old.counted }
+    requires tallied { AreTallied (net_of graph.now) (held_by facts.old) fault.now.position tallies.old }
+    requires pending { IsPendingBut (net_of graph.now) fault.now facts.old agenda.old node.0 }
+    requires free { IsClashFree (held_by facts.old) }
+    requires kind { IsJunction (net_of graph.now) node.0 c }
+    ensures sweeps { IfOk result (Sweeps (net_of graph.now) fault.now facts.old log.old.lines.items log.old.trail.items agenda.old facts.new log.new.lines.items log.new.trail.items agenda.new node.0) }
+    ensures keeps { Keeps facts.old log.old.trail.items facts.new log.new.trail.items }
+    ensures tallied { OnOk result (AreTallied (net_of graph.now) (held_by facts.new) fault.now.position tallies.new) }
+    ensures size { length agenda.new ≡ length agenda.old }
+    ensures room { length tallies.new.counted ≡ length tallies.old.counted }
+{
+    let mut position = 0u32;
+    for driver in gate_pins(graph, node) {
+        if let Some(clash) = sweep_pin(
+            graph, fault, facts, log, agenda, tallies, node, position, driver, c,
+        )? {
+            return Ok(Some(clash));
+        }
+        position += 1;
+    }
+    Ok(None)
+}
+
+/// Adds what follows at single pins where that is many facts, going over the pins of an And or an Or once; up to a
+/// clash, whose node is given. What it leaves `next_line` finds.
+pub(crate) fn sweep(
+    graph: &Graph,
+    fault: &Fault,
+    facts: &mut FactSet,
+    log: &mut Log,
+    agenda: &mut Agenda,
+    tallies: &mut Tallies,
+    node: NodeId,
+) -> Result<Option<NodeId>, NoMemory>
+    requires ready { IsReady (net_of graph.now) fault.now facts.old }
+    requires agenda { length (net_of graph.now).nodes ≤ length agenda.old }
+    requires room { length (net_of graph.now).nodes ≤ length tallies.old.counted }
+    requires tallied { AreTallied (net_of graph.now) (held_by facts.old) fault.now.position tallies.old }
+    requires pending { IsPendingBut (net_of graph.now) fault.now facts.old agenda.old node.0 }
+    requires free { IsClashFree (held_by facts.old) }
+    ensures sweeps { IfOk result (Sweeps (net_of graph.now) fault.now facts.old log.old.lines.items log.old.trail.items agenda.old facts.new log.new.lines.items log.new.trail.items agenda.new node.0) }
+    ensures keeps { Keeps facts.old log.old.trail.items facts.new log.new.trail.items }
+    ensures tallied { OnOk result (AreTallied (net_of graph.now) (held_by facts.new) fault.now.position tallies.new) }
+    ensures size { length agenda.new ≡ length agenda.old }
+    ensures room { length tallies.new.counted ≡ length tallies.old.counted }
+{
+    let Some(kind) = graph.kind(node) else {
+        return Ok(None);
+    };
+    let Some(c) = controlling(kind) else {
+        return Ok(None);
+    };
+    let tally = tallies.of(graph, fault, facts, node);
+    if !has_sweep(facts, fault, &tally, node, c) {
+        return Ok(None);
+    }
+    sweep_pins(graph, fault, facts, log, agenda, tallies, node, c)
+}
