@@ -1,12 +1,15 @@
 pub mod Agendas
 pub mod Begins
 pub mod Closes
+pub mod Counting
 pub mod GateLines
 pub mod Local
 pub mod Places
 pub mod Pulling
 pub mod Reaches
+pub mod ReaderCounts
 pub mod Readers
+pub mod Rising
 pub mod SettledNodes
 pub mod Steps
 pub mod Trails

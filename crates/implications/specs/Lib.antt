@@ -11,3 +11,4 @@ pub mod Pulls
 pub mod Sides
 pub mod Tallies
 pub mod Counts
+pub mod Rises

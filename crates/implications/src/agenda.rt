@@ -1,5 +1,5 @@
 // The node numbers that are to be looked at.
-ghost use Rattle.std.specs.Prelude.{◌≡◌, ◌≢◌, ◌<◌, ◌≤◌, ℕ, Bool, List, IfOk, length, replicate, slice_get, slice_index, slice_set, suc, false, true, Some};
+ghost use Rattle.std.specs.Prelude.{◌≡◌, ◌≢◌, ◌<◌, ◌≤◌, ◌↔◌, ℕ, Bool, List, IfOk, IsTrue, length, replicate, slice_get, slice_index, slice_set, suc, false, true, Some};
 ghost use Rattle.gate_graph.specs.Search.{IsSeen};
 ghost use Rattle.implications.specs.Agendas.{IsAgenda, IsTaken};
 
@@ -67,6 +67,14 @@ impl Agenda {
             queue,
             count: 0,
         })
+    }
+
+    /// Whether a number is on.
+    pub fn has(&self, node: NodeId) -> bool
+        requires { node.0 < length self.now }
+        ensures { IsTrue result ↔ IsSeen self.now node.0 }
+    {
+        self.marks[node.0 as usize]
     }
 
     /// Puts a number on.

@@ -1,14 +1,19 @@
 // How many pins of a gate hold what.
-ghost use Rattle.std.specs.Prelude.{◌≡◌, ◌<◌, ◌≤◌, IfOk, false, length, replicate};
+ghost use Rattle.std.specs.Prelude.{◌≡◌, ◌≢◌, ◌<◌, ◌≤◌, ◌&&◌, ◌++◌, ◌∷◌, [], ℕ, List, IfOk, Some, false, length, replicate, slice_get, true};
 ghost use Rattle.gate_graph.specs.Circuit.{net_of};
+ghost use Rattle.gate_graph.specs.Search.{IsSeen};
 ghost use Rattle.gate_net.specs.Net.{IsLive, drivers_of};
 ghost use Rattle.refutation.specs.FactSets.{held_by};
-ghost use Rattle.refutation.specs.Facts.{with_fact};
+ghost use Rattle.refutation.specs.Facts.{Held, with_fact};
+ghost use Rattle.refutation.specs.Pins.{AreBelow};
+ghost use Rattle.implications.specs.Rises.{CanRise, IsRaised, RaisesAt, risen, rise_at, rise_by};
 ghost use Rattle.implications.specs.Tallies.{AreTallied, IsTally};
 ghost use Rattle.implications.specs.Working.{Touches};
+ghost use Rattle.implications.specs.declared.tallies.Tally.{Tally};
 
 use crate::agenda::Agenda;
-use gate_graph::Graph;
+use gate_graph::{Graph, Inputs};
+use refutation::following::gate_pins;
 use refutation::{Fact, FactSet};
 use rm_base::{Fault, NoMemory, NodeId};
 use std::alloc::Global;
@@ -28,6 +33,199 @@ pub struct Tally {
     pub passing_0: u32,
     pub passing_1: u32,
     pub at: NodeId,
+}
+
+/// Which counts of a tally rise.
+#[derive(Clone, Copy, Debug)]
+pub struct Rise {
+    pub good_0: bool,
+    pub good_1: bool,
+    pub faulty_0: bool,
+    pub faulty_1: bool,
+    pub equal: bool,
+    pub differs: bool,
+    pub passing_0: bool,
+    pub passing_1: bool,
+}
+
+// No count rises.
+const NONE_RISES: Rise = Rise {
+    good_0: false,
+    good_1: false,
+    faulty_0: false,
+    faulty_1: false,
+    equal: false,
+    differs: false,
+    passing_0: false,
+    passing_1: false,
+};
+
+// The tally of a gate without pins.
+fn no_pins() -> Tally
+    ensures { (held : Held) (position : ℕ) → IsTally held position [] result }
+{
+    Tally {
+        pins: 0,
+        good_0: 0,
+        good_1: 0,
+        faulty_0: 0,
+        faulty_1: 0,
+        equal: 0,
+        differs: 0,
+        passing_0: 0,
+        passing_1: 0,
+        at: NodeId(0),
+    }
+}
+
+// So many tallies.
+fn no_tallies(alloc: Global, numbers: u32) -> Result<Vec<Tally>, NoMemory>
+    ensures { IfOk result (λ v. length v.items ≡ numbers) }
+{
+    Ok(vec![in alloc; no_pins(); numbers as usize]?)
+}
+
+// A count that is one more where it rises.
+fn risen(count: u32, rises: bool) -> u32
+    requires { rises ≡ true → count < 4294967295 }
+    ensures { result ≡ risen rises count 1 }
+{
+    if rises { count + 1 } else { count }
+}
+
+// The tally with these counts one more.
+fn raised(tally: Tally, rise: Rise) -> Tally
+    requires { CanRise rise tally }
+    ensures { IsRaised rise 1 tally result }
+{
+    Tally {
+        pins: tally.pins,
+        good_0: risen(tally.good_0, rise.good_0),
+        good_1: risen(tally.good_1, rise.good_1),
+        faulty_0: risen(tally.faulty_0, rise.faulty_0),
+        faulty_1: risen(tally.faulty_1, rise.faulty_1),
+        equal: risen(tally.equal, rise.equal),
+        differs: risen(tally.differs, rise.differs),
+        passing_0: risen(tally.passing_0, rise.passing_0),
+        passing_1: risen(tally.passing_1, rise.passing_1),
+        at: tally.at,
+    }
+}
+
+fn both(one: bool, other: bool) -> bool
+    ensures { result ≡ (one && other) }
+{
+    one && other
+}
+
+// Which counts rise by a pin with that driver.
+fn rise_at(facts: &FactSet, driver: NodeId) -> Rise
+    requires { driver.0 < length facts.now }
+    ensures { result ≡ rise_at (held_by facts.now) driver.0 }
+{
+    let good_0 = facts.holds(driver, Fact::Good(false));
+    let good_1 = facts.holds(driver, Fact::Good(true));
+    let equal = facts.holds(driver, Fact::Equal);
+    Rise {
+        good_0,
+        good_1,
+        faulty_0: facts.holds(driver, Fact::Faulty(false)),
+        faulty_1: facts.holds(driver, Fact::Faulty(true)),
+        equal,
+        differs: facts.holds(driver, Fact::Differs),
+        passing_0: both(equal, good_0),
+        passing_1: both(equal, good_1),
+    }
+}
+
+// Which counts rise by a fact that comes to be held on a pin's driver.
+fn rise_by(facts: &FactSet, node: NodeId, fact: Fact) -> Rise
+    requires { node.0 < length facts.now }
+    ensures { result ≡ rise_by (held_by facts.now) node.0 fact }
+{
+    match fact {
+        Fact::Good(false) => Rise {
+            good_0: true,
+            passing_0: facts.holds(node, Fact::Equal),
+            ..NONE_RISES
+        },
+        Fact::Good(true) => Rise {
+            good_1: true,
+            passing_1: facts.holds(node, Fact::Equal),
+            ..NONE_RISES
+        },
+        Fact::Faulty(false) => Rise {
+            faulty_0: true,
+            ..NONE_RISES
+        },
+        Fact::Faulty(true) => Rise {
+            faulty_1: true,
+            ..NONE_RISES
+        },
+        Fact::Equal => Rise {
+            equal: true,
+            passing_0: facts.holds(node, Fact::Good(false)),
+            passing_1: facts.holds(node, Fact::Good(true)),
+            ..NONE_RISES
+        },
+        Fact::Differs => Rise {
+            differs: true,
+            ..NONE_RISES
+        },
+    }
+}
+
+// The driver of the pin at the position, once one more pin was counted.
+fn driver_at(tally: Tally, position: u32, driver: NodeId) -> NodeId
+    ensures here { tally.pins ≡ position → result ≡ driver }
+    ensures elsewhere { tally.pins ≢ position → result ≡ tally.at }
+{
+    if tally.pins == position {
+        driver
+    } else {
+        tally.at
+    }
+}
+
+// The tally with one pin more, that has that driver.
+fn with_driver(tally: Tally, position: u32, facts: &FactSet, driver: NodeId) -> Tally
+    requires driver { driver.0 < length facts.now }
+    requires room { tally.pins < 4294967295 }
+    requires counted { (ds : List ℕ) × IsTally (held_by facts.now) position ds tally }
+    ensures { (ds : List ℕ) → IsTally (held_by facts.now) position ds tally → IsTally (held_by facts.now) position (ds ++ driver.0 ∷ []) result }
+{
+    let at = driver_at(tally, position, driver);
+    let more = Tally {
+        pins: tally.pins + 1,
+        at,
+        ..tally
+    };
+    raised(more, rise_at(facts, driver))
+}
+
+// The tally of a gate with these drivers.
+fn count_pins(drivers: Inputs<'_>, position: u32, facts: &FactSet) -> Tally
+    requires within { AreBelow drivers (length facts.now) }
+    requires few { length drivers ≤ 4294967295 }
+    ensures { IsTally (held_by facts.now) position drivers.entry result }
+{
+    let mut tally = no_pins();
+    for driver in drivers {
+        tally = with_driver(tally, position, facts, driver);
+    }
+    tally
+}
+
+// Raises the tally at that place.
+fn raise_at(tallies: &mut Vec<Tally>, place: u32, rise: Rise)
+    requires place { place < length tallies.old.items }
+    requires can { (t : Tally) → slice_get tallies.old.items place ≡ Some t → CanRise rise t }
+    ensures raised { (t : Tally) → slice_get tallies.old.items place ≡ Some t → (t' : Tally) × ((slice_get tallies.new.items place ≡ Some t') × IsRaised rise 1 t t') }
+    ensures others { (y : ℕ) → y ≢ place → slice_get tallies.new.items y ≡ slice_get tallies.old.items y }
+    ensures size { length tallies.new.items ≡ length tallies.old.items }
+{
+    let tally = tallies[place as usize];
+    tallies[place as usize] = raised(tally, rise);
 }
 
 /// The tallies of the gates that were counted during a call. A gate is counted when it is looked at for the first
@@ -54,7 +252,9 @@ impl Tallies {
     pub fn new(alloc: Global, numbers: u32) -> Result<Tallies, NoMemory>
         ensures { IfOk result (λ t. t.counted ≡ replicate numbers false) }
     {
-        Err(NoMemory)
+        let counted = Agenda::new(alloc, numbers)?;
+        let tallies = no_tallies(alloc, numbers)?;
+        Ok(Tallies { counted, tallies })
     }
 
     /// The tally of a node, which is counted where it wasn't yet.
@@ -67,7 +267,25 @@ impl Tallies {
         ensures tallied { AreTallied (net_of graph.now) (held_by facts.now) fault.now.position self.new }
         ensures room { length self.new.counted ≡ length self.old.counted }
     {
-        unreachable!()
+        if self.counted.has(node) {
+            return self.tallies[node.0 as usize];
+        }
+        let tally = count_pins(gate_pins(graph, node), fault.position, facts);
+        self.counted.add(node);
+        self.tallies[node.0 as usize] = tally;
+        tally
+    }
+
+    // The tally of a gate rises, where it was counted.
+    fn raise(&mut self, gate: NodeId, rise: Rise)
+        requires room { gate.0 < length self.old.counted }
+        requires can { IsSeen self.old.counted gate.0 → (t : Tally) → slice_get self.old.tallies gate.0 ≡ Some t → CanRise rise t }
+        ensures { RaisesAt rise self.old self.new gate.0 }
+    {
+        if !self.counted.has(gate) {
+            return;
+        }
+        raise_at(&mut self.tallies, gate.0, rise);
     }
 
     /// No gate counted any more, in the time of those that were.
@@ -98,4 +316,11 @@ pub(crate) fn touch(
     ensures tallied { AreTallied (net_of graph.now) (with_fact (held_by facts.now) node.0 fact) fault.now.position tallies.new }
     ensures room { length tallies.new.counted ≡ length tallies.old.counted }
 {
+    let rise = rise_by(facts, node, fact);
+    graph.readers_listed();
+    agenda.add(node);
+    for reader in graph.readers_of(node) {
+        agenda.add(reader);
+        tallies.raise(reader, rise);
+    }
 }

@@ -1,0 +1,113 @@
+-- Going over the gates that read a node: each comes once for each of its pins that do.
+use Rattle.std.proofs.Common.{Bool, List, Some, [], ap, append-nil, arith, false, inl, inr, length, map, refl, subst, suc, sym, true, zero, ℕ, ◌++◌, ◌<◌, ◌∙◌, ◌∷◌, ◌≡◌, ◌≢◌}
+use Rattle.std.proofs.lemmas.Bool.{eq-eqb, eqb-true}
+use Rattle.std.proofs.lemmas.Bool.Decides.{eqb_tells}
+use Rattle.std.proofs.lemmas.Option.{slice_get-map}
+use Rattle.std.specs.Option.{option_map}
+use Rattle.std.specs.Prelude.{nat_eq, slice_get, slice_set}
+use Rattle.gate_graph.specs.Circuit.{Circuit, fanouts_of, net_of}
+use Rattle.gate_graph.specs.Readers.{ListReaders}
+use Rattle.gate_graph.specs.Search.{IsSeen}
+use Rattle.gate_net.proofs.Places.{map_at}
+use Rattle.gate_net.specs.Net.{Reads, drivers_of}
+use Rattle.implications.proofs.Agendas.{count-clear, seen_left, seen_stays}
+use Rattle.implications.proofs.Counting.{counting-append}
+use Rattle.implications.proofs.Places.{reader_below}
+use Rattle.implications.specs.Agendas.{seen_count}
+use Rattle.implications.specs.Tallies.{counting}
+use Rattle.refutation.proofs.OnlyReaders.{map_found}
+use Rattle.refutation.proofs.Yielding.{yielded_at}
+use Rattle.rm_base.specs.declared.numbers.NodeId.{NodeId}
+
+-- PLACES OF ONE GATE
+abbrev gate_in : ℕ × ℕ → ℕ
+gate_in place = place.0
+
+marks_counted : (n : ℕ) (ds : List ℕ) → seen_count (map (nat_eq n) ds) ≡ counting (nat_eq n) ds
+marks_counted n [] = refl
+marks_counted n (d ∷ ds) = rw (marks_counted n ds) refl
+
+none_counted : (marks : List Bool) → ((p : ℕ) → IsSeen marks p → ⊥) → seen_count marks ≡ 0
+none_counted [] none = refl
+none_counted (true ∷ marks) none = absurd (none zero refl)
+none_counted (false ∷ marks) none = none_counted marks (λ p seen. none (suc p) seen)
+
+same_some : {A : Type 0} {a b : A} → Some a ≡ Some b → a ≡ b
+same_some e = cc
+
+among_rest : (place other : ℕ × ℕ) (places : List (ℕ × ℕ)) → (place ≡ other → ⊥) → (k : ℕ) × (slice_get (place ∷ places) k ≡ Some other) → (k : ℕ) × (slice_get places k ≡ Some other)
+among_rest place other places ne (zero, e) = absurd (ne (same_some e))
+among_rest place other places ne (suc k, e) = (k, e)
+
+-- a list that has the gate's marked places, each once, and no others of that gate
+places_counted : (y : ℕ) (marks : List Bool) (places : List (ℕ × ℕ)) → ((k p : ℕ) → slice_get places k ≡ Some (y, p) → IsSeen marks p)
+    → ((p : ℕ) → IsSeen marks p → (k : ℕ) × (slice_get places k ≡ Some (y, p)))
+    → ((k l p : ℕ) → slice_get places k ≡ Some (y, p) → slice_get places l ≡ Some (y, p) → k ≡ l) → counting (nat_eq y) (map gate_in places) ≡ seen_count marks
+places_counted y marks [] sound all once = sym (none_counted marks (λ p seen. nowhere p (all p seen)))
+  where
+    nowhere : (p : ℕ) → (k : ℕ) × (slice_get {X = ℕ × ℕ} [] k ≡ Some (y, p)) → ⊥
+    nowhere p (k, e) = cc
+places_counted y marks (place ∷ places) sound all once = elim (eqb_tells y place.0) [
+  | inl e ↦
+      let first : slice_get (place ∷ places) zero ≡ Some (y, place.1) = rw e.1 refl in
+      let seen : IsSeen marks place.1 = sound zero place.1 first in
+      let rest : counting (nat_eq y) (map gate_in places) ≡ seen_count (slice_set marks place.1 false) = places_counted y (slice_set marks place.1 false) places
+      (λ k p there. seen_stays marks place.1 p (sound (suc k) p there) (λ is.
+      let same : suc k ≡ zero = once (suc k) zero p there (rw is first) in absurd (omega arith)))
+      (λ p left. let before : IsSeen marks p × (p ≢ place.1) = seen_left marks place.1 p left in
+      among_rest place (y, p) places (λ is. before.1 (sym (ap (λ (q : ℕ × ℕ). q.1) is))) (all p before.0))
+      (λ k l p one other. let same : suc k ≡ suc l = once (suc k) (suc l) p one other in omega arith) in
+      rw e.0 (ap suc rest ∙ count-clear marks place.1 seen)
+  | inr e ↦
+      let rest : counting (nat_eq y) (map gate_in places) ≡ seen_count marks = places_counted y marks places
+      (λ k p there. sound (suc k) p there)
+      (λ p seen. among_rest place (y, p) places (λ is. e.1 (sym (ap (λ (q : ℕ × ℕ). q.0) is))) (all p seen))
+      (λ k l p one other. let same : suc k ≡ suc l = once (suc k) (suc l) p one other in omega arith) in
+      rw e.0 rest
+]
+
+-- a gate stands among the readers of a node once for each of its pins that reads the node
+pub readers_counted : (v : Circuit) → ListReaders v → (n y : ℕ) → counting (nat_eq y) (map gate_in (fanouts_of v n)) ≡ counting (nat_eq n) (drivers_of (net_of v) y)
+readers_counted v listed n y = places_counted y (map (nat_eq n) ds) (fanouts_of v n)
+    (λ k p there. map_at (nat_eq n) ds p n (listed.reads n k (y, p) there) ∙ ap (λ (b : Bool). Some b) (eq-eqb n n refl))
+    (λ p seen. let at : (x : ℕ) × ((slice_get ds p ≡ Some x) × (nat_eq n x ≡ true)) = map_found (nat_eq n) ds p true seen in
+    listed.all n (y, p) (at.1.0 ∙ ap (λ (x : ℕ). Some x) (sym (eqb-true n at.0 at.1.1))))
+    (λ k l p one other. listed.once n k l (y, p) one other)
+    ∙ marks_counted n ds
+  where
+    ds : List ℕ
+    ds = drivers_of (net_of v) y
+
+-- IN A LOOP
+module _ (v : Circuit) (n : ℕ) (listed : ListReaders v) (all : List ℕ) (is : all ≡ map (λ (place : ℕ × ℕ). place.0) (fanouts_of v n)) (yielded : List NodeId) where
+  -- the gate that comes next reads the node
+  next_reads : (x : NodeId) (rest rest' : List ℕ) → all ≡ map (λ (d : NodeId). d.0) yielded ++ rest → rest ≡ x.0 ∷ rest' → (p : ℕ) × Reads (net_of v) x.0 p n
+  next_reads x rest rest' e step =
+      let at : slice_get (map gate_in (fanouts_of v n)) (length yielded) ≡ Some x.0 = ap (λ (xs : List ℕ). slice_get xs (length yielded)) (sym is) ∙ yielded_at (λ (d : NodeId). d.0) all yielded x rest rest' e step in
+      let found : (place : ℕ × ℕ) × ((slice_get (fanouts_of v n) (length yielded) ≡ Some place) × (gate_in place ≡ x.0)) = map_found gate_in (fanouts_of v n) (length yielded) x.0 at in
+      (found.0.1, subst (λ (g : ℕ). Reads (net_of v) g found.0.1 n) found.1.1 (listed.reads n (length yielded) found.0 found.1.0))
+
+  pub next_below : (x : NodeId) (rest rest' : List ℕ) → all ≡ map (λ (d : NodeId). d.0) yielded ++ rest → rest ≡ x.0 ∷ rest' → x.0 < length (net_of v).nodes
+  next_below x rest rest' e step = let reads = next_reads x rest rest' e step in reader_below (net_of v) x.0 reads.0 n reads.1
+
+  -- it has come less often than it has pins that read the node
+  pub next_counted : (x : NodeId) (rest rest' : List ℕ) → all ≡ map (λ (d : NodeId). d.0) yielded ++ rest → rest ≡ x.0 ∷ rest' → counting (nat_eq x.0) (map (λ (d : NodeId). d.0) yielded) < counting (nat_eq n) (drivers_of (net_of v) x.0)
+  next_counted x rest rest' e step =
+      let whole : counting (nat_eq x.0) (map (λ (d : NodeId). d.0) yielded ++ rest) ≡ counting (nat_eq n) (drivers_of (net_of v) x.0) = ap (counting (nat_eq x.0)) (sym e ∙ is) ∙ readers_counted v listed n x.0 in
+      let more : counting (nat_eq x.0) rest ≡ suc (counting (nat_eq x.0) rest') = rw step (rw (eq-eqb x.0 x.0 refl) refl) in
+      omega (arith, counting-append (nat_eq x.0) (map (λ (d : NodeId). d.0) yielded) rest)
+
+  -- at the end each reader has come
+  pub all_came : (rest : List ℕ) → all ≡ map (λ (d : NodeId). d.0) yielded ++ rest → rest ≡ [] → (z p : ℕ) → Reads (net_of v) z p n → (k : ℕ) × ((gate : NodeId) × ((slice_get yielded k ≡ Some gate) × (gate.0 ≡ z)))
+  all_came rest e none z p reads =
+      let at : (k : ℕ) × (slice_get (fanouts_of v n) k ≡ Some (z, p)) = listed.all n (z, p) reads in
+      let whole : all ≡ map (λ (d : NodeId). d.0) yielded = e ∙ ap (λ (xs : List ℕ). map (λ (d : NodeId). d.0) yielded ++ xs) none ∙ append-nil (map (λ (d : NodeId). d.0) yielded) in
+      let there : slice_get (map gate_in (fanouts_of v n)) at.0 ≡ Some z = slice_get-map gate_in (fanouts_of v n) at.0 ∙ ap (option_map gate_in) at.1 in
+      let found : (x : NodeId) × ((slice_get yielded at.0 ≡ Some x) × (x.0 ≡ z)) = map_found (λ (d : NodeId). d.0) yielded at.0 z (ap (λ (xs : List ℕ). slice_get xs at.0) (sym whole ∙ is) ∙ there) in
+      (at.0, (found.0, (found.1.0, found.1.1)))
+
+  -- and as often as it has pins that read the node
+  pub all_counted : (rest : List ℕ) → all ≡ map (λ (d : NodeId). d.0) yielded ++ rest → rest ≡ [] → (y : ℕ) → counting (nat_eq y) (map (λ (d : NodeId). d.0) yielded) ≡ counting (nat_eq n) (drivers_of (net_of v) y)
+  all_counted rest e none y =
+      let whole : all ≡ map (λ (d : NodeId). d.0) yielded = e ∙ ap (λ (xs : List ℕ). map (λ (d : NodeId). d.0) yielded ++ xs) none ∙ append-nil (map (λ (d : NodeId). d.0) yielded) in
+      ap (counting (nat_eq y)) (sym whole ∙ is) ∙ readers_counted v listed n y

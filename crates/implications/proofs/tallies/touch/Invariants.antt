@@ -1,0 +1,18 @@
+use Rattle.std.proofs.Common.{Some, length, map, ℕ, ◌++◌, ◌≡◌}
+use Rattle.std.specs.Prelude.{slice_get}
+use Rattle.gate_graph.specs.Search.{IsSeen}
+use Rattle.implications.proofs.Rising.{Raises}
+use Rattle.implications.proofs.tallies.touch.Given as goal
+use Rattle.implications.specs.Rises.{rise_by}
+use Rattle.refutation.specs.FactSets.{held_by}
+use Rattle.rm_base.specs.declared.numbers.NodeId.{NodeId}
+
+abbrev pub invariant-loop-reader : goal.invariant-loop-reader
+invariant-loop-reader l = record {
+  all : l.initial.reader-iterator ≡ map (λ (d : NodeId). d.0) l.yielded ++ l.reader-iterator;
+  kept : (z : ℕ) → IsSeen l.fn.agenda z → IsSeen l.agenda z;
+  itself : IsSeen l.agenda l.fn.node.0;
+  done : (k : ℕ) (gate : NodeId) → slice_get l.yielded k ≡ Some gate → IsSeen l.agenda gate.0;
+  size : length l.agenda ≡ length l.fn.agenda;
+  raised : Raises (rise_by (held_by l.facts) l.fn.node.0 l.fn.fact) l.fn.tallies l.tallies (map (λ (d : NodeId). d.0) l.yielded);
+}
