@@ -1,11 +1,21 @@
 use Rattle.gate_graph.specs.Circuit.{net_of}
 use Rattle.implications.proofs.Closes.{extended_ok, fewer_ok, good_free, good_pending, unknown_good}
-use Rattle.implications.proofs.Steps.{keeps_hold, keeps_join}
+use Rattle.implications.proofs.Steps.{keeps_hold, keeps_join, tallied_by, tallied_none}
 use Rattle.implications.proofs.extending.add_good.Goals as goal
+use Rattle.refutation.specs.FactSets.{held_by}
 use Rattle.refutation.specs.declared.reasoning.Fact.TheVariants.{Good}
 
+pub touch-requires-clause-new : goal.touch-requires-clause-new
+touch-requires-clause-new c = unknown_good c.args.facts.now c.args.node.0 c.args.value c.requires.free c.requires.unknown
+
+pub touch-requires-clause-tallied : goal.touch-requires-clause-tallied
+touch-requires-clause-tallied c = tallied_none (net_of c.args.graph.now) (held_by c.args.facts.now) c.args.fault.now.position c.args.tallies.now c.requires.uncounted
+
+pub work_off-requires-clause-tallied : goal.work_off-requires-clause-tallied
+work_off-requires-clause-tallied c = tallied_by (net_of c.args.graph.now) c.args.facts.now c.insert.new.self c.args.node.0 (Good c.args.value) c.args.fault.now.position c.touch.new.tallies c.insert.ensures.facts c.touch.ensures.tallied
+
 pub work_off-requires-clause-pending : goal.work_off-requires-clause-pending
-work_off-requires-clause-pending c = good_pending (net_of c.args.graph.now) c.args.fault.now c.args.facts.now c.insert.new.self c.args.agenda.now c.touch.new.agenda c.args.node.0 (Good c.args.value) c.requires.closed c.insert.ensures.facts c.touch.ensures
+work_off-requires-clause-pending c = good_pending (net_of c.args.graph.now) c.args.fault.now c.args.facts.now c.insert.new.self c.args.agenda.now c.touch.new.agenda c.args.node.0 (Good c.args.value) c.requires.closed c.insert.ensures.facts c.touch.ensures.touches
 
 pub work_off-requires-clause-free : goal.work_off-requires-clause-free
 work_off-requires-clause-free c = good_free c.args.facts.now c.insert.new.self c.args.node.0 c.args.value c.requires.free c.requires.unknown c.insert.ensures.facts
