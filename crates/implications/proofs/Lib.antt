@@ -1,6 +1,9 @@
 pub mod Agendas
 pub mod Begins
 pub mod Closes
+pub mod Counted
+pub mod Counting
+pub mod DoneLines
 pub mod GateLines
 pub mod Local
 pub mod Places
@@ -9,4 +12,5 @@ pub mod Reaches
 pub mod Readers
 pub mod SettledNodes
 pub mod Steps
+pub mod Sweeps
 pub mod Trails

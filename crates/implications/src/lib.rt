@@ -4,6 +4,7 @@
 mod agenda;
 mod closing;
 mod counts;
+mod done_lines;
 mod extending;
 mod first_lines;
 mod found;
@@ -17,6 +18,8 @@ mod reaching;
 mod settling;
 mod side_line;
 mod state;
+mod sweeping;
+mod tallied_lines;
 mod tallies;
 #[cfg(test)]
 mod tests;
