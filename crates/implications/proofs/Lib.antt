@@ -1,7 +1,10 @@
 pub mod Agendas
 pub mod Begins
 pub mod Closes
+pub mod CountRises
+pub mod Counted
 pub mod Counting
+pub mod DoneLines
 pub mod GateLines
 pub mod Local
 pub mod Places
@@ -12,4 +15,5 @@ pub mod Readers
 pub mod Rising
 pub mod SettledNodes
 pub mod Steps
+pub mod Sweeps
 pub mod Trails

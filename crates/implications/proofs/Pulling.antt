@@ -101,7 +101,7 @@ follows_some c value os e = at (list_any (is_known c) os) (list_all (is_known (n
     at false true is all = let some : Some (not c) ≡ Some value = rw (is, all) at e in inr (sym (some_is some), all)
     at false false is all = let none : None ≡ Some value = rw (is, all) at e in cc
 
-back_same : (c : Bool) (os : List (Option Bool)) (q : ℕ) (other : Bool) → junction_back c c os q ≡ Some other → (all_but (is_known (not c)) q os ≡ true) × (other ≡ c)
+pub back_same : (c : Bool) (os : List (Option Bool)) (q : ℕ) (other : Bool) → junction_back c c os q ≡ Some other → (all_but (is_known (not c)) q os ≡ true) × (other ≡ c)
 back_same c os q other e = at (all_but (is_known (not c)) q os) refl (rw (same_bool_refl c) at e)
   where
     some_is : {a b : Bool} → Some a ≡ Some b → a ≡ b
@@ -111,7 +111,7 @@ back_same c os q other e = at (all_but (is_known (not c)) q os) refl (rw (same_b
     at true is e = (is, sym (some_is e))
     at false is e = cc
 
-back_other : (c : Bool) (os : List (Option Bool)) (q : ℕ) → junction_back c (not c) os q ≡ Some (not c)
+pub back_other : (c : Bool) (os : List (Option Bool)) (q : ℕ) → junction_back c (not c) os q ≡ Some (not c)
 back_other c os q = rw (same_bool_not c) refl
 
 -- the value that follows is known

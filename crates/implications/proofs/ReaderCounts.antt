@@ -11,7 +11,7 @@ use Rattle.gate_graph.specs.Search.{IsSeen}
 use Rattle.gate_net.proofs.Places.{map_at}
 use Rattle.gate_net.specs.Net.{Reads, drivers_of}
 use Rattle.implications.proofs.Agendas.{count-clear, seen_left, seen_stays}
-use Rattle.implications.proofs.Counting.{counting-append}
+use Rattle.implications.proofs.CountRises.{counting-append}
 use Rattle.implications.proofs.Places.{reader_below}
 use Rattle.implications.specs.Agendas.{seen_count}
 use Rattle.implications.specs.Tallies.{counting}

@@ -7,7 +7,8 @@ use Rattle.gate_graph.proofs.Marking.{seen_cases}
 use Rattle.gate_graph.specs.Search.{IsSeen}
 use Rattle.gate_net.proofs.Places.{set_other}
 use Rattle.gate_net.specs.Net.{Net, drivers_of}
-use Rattle.implications.proofs.Counting.{ComesToPass, counted_more, counting-append, counting_few, counting_rises, counting_room, risen_more, risen_none}
+use Rattle.implications.proofs.Counting.{count_few}
+use Rattle.implications.proofs.CountRises.{ComesToPass, counted_more, counting-append, counting_rises, counting_room, risen_more, risen_none}
 use Rattle.implications.specs.Rises.{CanRise, IsRaised, RaisesAt, comes_to_pass, rise_at, rise_by, risen}
 use Rattle.implications.specs.Tallies.{AreTallied, IsTally, TallyState, counting, is_passing}
 use Rattle.implications.specs.declared.tallies.Rise.{Rise}
@@ -44,14 +45,14 @@ at_more ds d position pins before after here many is last earlier old x e = elim
 -- the counts are at most the pins
 pub rises_at_pin : (held : Held) (position d : ℕ) (ds : List ℕ) (t : Tally) (at : NodeId) → IsTally held position ds t → CanRise (rise_at held d) (record t { pins = t.pins + 1; at = at })
 rises_at_pin held position d ds t at h = record {
-  good_0 = λ rises. omega (arith, h.good_0, h.pins, counting_few (λ (x : ℕ). held x (Good false)) ds);
-  good_1 = λ rises. omega (arith, h.good_1, h.pins, counting_few (λ (x : ℕ). held x (Good true)) ds);
-  faulty_0 = λ rises. omega (arith, h.faulty_0, h.pins, counting_few (λ (x : ℕ). held x (Faulty false)) ds);
-  faulty_1 = λ rises. omega (arith, h.faulty_1, h.pins, counting_few (λ (x : ℕ). held x (Faulty true)) ds);
-  equal = λ rises. omega (arith, h.equal, h.pins, counting_few (λ (x : ℕ). held x Equal) ds);
-  differs = λ rises. omega (arith, h.differs, h.pins, counting_few (λ (x : ℕ). held x Differs) ds);
-  passing_0 = λ rises. omega (arith, h.passing_0, h.pins, counting_few (is_passing held false) ds);
-  passing_1 = λ rises. omega (arith, h.passing_1, h.pins, counting_few (is_passing held true) ds);
+  good_0 = λ rises. omega (arith, h.good_0, h.pins, count_few (λ (x : ℕ). held x (Good false)) ds);
+  good_1 = λ rises. omega (arith, h.good_1, h.pins, count_few (λ (x : ℕ). held x (Good true)) ds);
+  faulty_0 = λ rises. omega (arith, h.faulty_0, h.pins, count_few (λ (x : ℕ). held x (Faulty false)) ds);
+  faulty_1 = λ rises. omega (arith, h.faulty_1, h.pins, count_few (λ (x : ℕ). held x (Faulty true)) ds);
+  equal = λ rises. omega (arith, h.equal, h.pins, count_few (λ (x : ℕ). held x Equal) ds);
+  differs = λ rises. omega (arith, h.differs, h.pins, count_few (λ (x : ℕ). held x Differs) ds);
+  passing_0 = λ rises. omega (arith, h.passing_0, h.pins, count_few (is_passing held false) ds);
+  passing_1 = λ rises. omega (arith, h.passing_1, h.pins, count_few (is_passing held true) ds);
 }
 
 -- the tally with one pin more

@@ -4,6 +4,7 @@
 mod agenda;
 mod closing;
 mod counts;
+mod done_lines;
 mod extending;
 mod first_lines;
 mod found;

@@ -7,7 +7,7 @@ ghost use Rattle.refutation.specs.Closing.{IsClashFree};
 ghost use Rattle.refutation.specs.FactSets.{held_by};
 ghost use Rattle.refutation.specs.Pins.{AreBelow};
 ghost use Rattle.implications.specs.Pulls.{AreDoneSide, Finds};
-ghost use Rattle.implications.specs.Sides.{IsOpenPin, IsSide};
+ghost use Rattle.implications.specs.Sides.{IsOpenPin, IsOpenSide, IsSide};
 ghost use Rattle.implications.specs.Settled.{IsReady};
 
 use crate::found::Found;
@@ -16,6 +16,17 @@ use refutation::following::gate_pins;
 use refutation::pins::{Aspect, is_stuck, is_value, known};
 use refutation::{Fact, FactSet, Line};
 use rm_base::{Fault, NodeId};
+
+// Whether the driver is equal and isn't known to have the value.
+pub(crate) fn is_open_side(facts: &FactSet, driver: NodeId, value: bool) -> bool
+    requires { driver.0 < length facts.now }
+    ensures { IsTrue result ↔ IsOpenSide (held_by facts.now) driver.0 value }
+{
+    if !is_value(known(facts, Aspect::OfEqual, driver), true) {
+        return false;
+    }
+    !is_value(known(facts, Aspect::OfGood, driver), value)
+}
 
 // Whether the pin isn't the stuck one, and its driver is equal and isn't known to have the value.
 fn is_open(
@@ -32,10 +43,7 @@ fn is_open(
     if is_stuck(fault, node, position) {
         return false;
     }
-    if !is_value(known(facts, Aspect::OfEqual, driver), true) {
-        return false;
-    }
-    !is_value(known(facts, Aspect::OfGood, driver), value)
+    is_open_side(facts, driver, value)
 }
 
 // The first pin but the stuck one whose driver is equal and isn't known to have the value.

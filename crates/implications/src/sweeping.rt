@@ -121,7 +121,7 @@ pub(crate) fn sweep(
         return Ok(None);
     };
     let tally = tallies.of(graph, fault, facts, node);
-    if !has_sweep(facts, fault, &tally, node, c) {
+    if !has_sweep(graph, fault, facts, &tally, node, c) {
         return Ok(None);
     }
     sweep_pins(graph, fault, facts, log, agenda, tallies, node, c)

@@ -1,0 +1,16 @@
+use Rattle.std.proofs.Common.{List, None, Option, Bool, map, subst}
+use Rattle.gate_graph.specs.Circuit.{net_of}
+use Rattle.gate_net.specs.Net.{drivers_of}
+use Rattle.implications.proofs.Counted.{equals_counted}
+use Rattle.implications.proofs.GateLines.{equal_done}
+use Rattle.implications.proofs.done_lines.equal_is_done.Goals as goal
+use Rattle.implications.specs.Pulls.{IsEqualPull}
+use Rattle.refutation.specs.FactSets.{held_by}
+use Rattle.refutation.specs.Facts.{known_equal}
+
+pub returns : goal.returns
+returns c e =
+    let equals : List (Option Bool) = map (known_equal (held_by c.args.facts.now)) (drivers_of (net_of c.args.graph.now) c.args.node.0) in
+    let f = equals_counted (held_by c.args.facts.now) c.requires.free c.args.fault.now.position (drivers_of (net_of c.args.graph.now) c.args.node.0) c.args.tally.now c.requires.tally in
+    equal_done (net_of c.args.graph.now) c.args.fault.now c.args.facts.now c.requires.ready.formed c.requires.free c.args.node
+    (subst (λ k. IsEqualPull equals k None) c.known.ensures (c.equal_pulls_nothing.ensures e equals (c.count_for-count.ensures.count equals f.0 f.1.0 f.1.1)))
