@@ -11,7 +11,6 @@ pub mod Places
 pub mod Pulling
 pub mod Reaches
 pub mod ReaderCounts
-pub mod Readers
 pub mod Rising
 pub mod SettledNodes
 pub mod Steps

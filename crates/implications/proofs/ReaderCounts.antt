@@ -81,7 +81,7 @@ readers_counted v listed n y = places_counted y (map (nat_eq n) ds) (fanouts_of 
 -- IN A LOOP
 module _ (v : Circuit) (n : ℕ) (listed : ListReaders v) (all : List ℕ) (is : all ≡ map (λ (place : ℕ × ℕ). place.0) (fanouts_of v n)) (yielded : List NodeId) where
   -- the gate that comes next reads the node
-  next_reads : (x : NodeId) (rest rest' : List ℕ) → all ≡ map (λ (d : NodeId). d.0) yielded ++ rest → rest ≡ x.0 ∷ rest' → (p : ℕ) × Reads (net_of v) x.0 p n
+  pub next_reads : (x : NodeId) (rest rest' : List ℕ) → all ≡ map (λ (d : NodeId). d.0) yielded ++ rest → rest ≡ x.0 ∷ rest' → (p : ℕ) × Reads (net_of v) x.0 p n
   next_reads x rest rest' e step =
       let at : slice_get (map gate_in (fanouts_of v n)) (length yielded) ≡ Some x.0 = ap (λ (xs : List ℕ). slice_get xs (length yielded)) (sym is) ∙ yielded_at (λ (d : NodeId). d.0) all yielded x rest rest' e step in
       let found : (place : ℕ × ℕ) × ((slice_get (fanouts_of v n) (length yielded) ≡ Some place) × (gate_in place ≡ x.0)) = map_found gate_in (fanouts_of v n) (length yielded) x.0 at in

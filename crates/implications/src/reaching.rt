@@ -19,7 +19,7 @@ fn mark_readers(graph: &Graph, node: NodeId, reached: &mut Vec<bool>, agenda: &m
 {
     graph.well_formed();
     graph.readers_listed();
-    for (reader, _position) in graph.fanouts_of(node) {
+    for reader in graph.readers_of(node) {
         if !reached[reader.0 as usize] {
             reached[reader.0 as usize] = true;
             agenda.add(reader);

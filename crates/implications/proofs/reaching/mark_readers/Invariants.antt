@@ -8,9 +8,9 @@ use Rattle.rm_base.specs.declared.numbers.NodeId.{NodeId}
 
 abbrev pub invariant-loop-reader : goal.invariant-loop-reader
 invariant-loop-reader l = record {
-  all : l.initial.reader-iterator ≡ map (λ (p : NodeId × ℕ). (p.0.0, p.1)) l.yielded ++ l.reader-iterator;
+  all : l.initial.reader-iterator ≡ map (λ (d : NodeId). d.0) l.yielded ++ l.reader-iterator;
   marks : MarksSome (net_of l.graph) l.fn.node.0 l.initial.reached.items l.reached.items l.initial.agenda l.agenda;
-  done : (k : ℕ) (place : NodeId × ℕ) → slice_get l.yielded k ≡ Some place → IsSeen l.reached.items place.0.0;
+  done : (k : ℕ) (gate : NodeId) → slice_get l.yielded k ≡ Some gate → IsSeen l.reached.items gate.0;
   size : length l.reached.items ≡ length l.initial.reached.items;
   room : length l.agenda ≡ length l.initial.agenda;
 }
