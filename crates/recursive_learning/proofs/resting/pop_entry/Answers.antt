@@ -1,0 +1,8 @@
+use Rattle.std.proofs.Common.{subst, sym}
+use Rattle.recursive_learning.proofs.Indexes.{index_pop}
+use Rattle.recursive_learning.proofs.resting.pop_entry.Goals as goal
+use Rattle.recursive_learning.specs.Resting.{IsIndex}
+
+pub returns-clause-index : goal.returns-clause-index
+returns-clause-index c =
+    index_pop c.pop.new.self.items c.in-Some.entry c.args.last.now.items (rw c.in-Some.ensures.items at c.requires.index)
