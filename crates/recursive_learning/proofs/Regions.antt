@@ -1,17 +1,17 @@
 -- What a gate rests on: while the facts there stay, it has nothing to teach.
-use Rattle.std.proofs.Common.{Bool, List, None, Option, Some, [], ap, false, inl, inr, refl, subst, sym, true, ℕ, ◌<◌, ◌∙◌, ◌≡◌, ◌≢◌, ◌⊎◌, ◌||◌}
-use Rattle.std.proofs.lemmas.Bool.Decides.{eqb_tells}
+use Rattle.std.proofs.Common.{Bool, List, None, Option, Some, [], ap, arith, false, ◌+◌, inl, inr, refl, subst, sym, true, ℕ, ◌<◌, ◌∙◌, ◌≡◌, ◌≢◌, ◌⊎◌, ◌||◌}
+use Rattle.std.proofs.lemmas.Bool.{cases_lt}
 use Rattle.std.specs.Prelude.{IsTrue, length, not, slice_get}
 use Rattle.gate_net.proofs.Bools.{or_either, or_true}
 use Rattle.gate_net.specs.Net.{Net, Reads}
 use Rattle.gate_net.specs.Values.{IsJunction}
 use Rattle.implications.specs.Laws.{FirstLinesAskNothing, LinesAreLocal}
 use Rattle.implications.specs.Settled.{AgreeAt, place_of}
-use Rattle.recursive_learning.proofs.Learns.{clashes_stay}
+use Rattle.recursive_learning.proofs.Indexes.{watched_longer}
 use Rattle.recursive_learning.specs.Gates.{AreJustifications, HasTaught, NoneGives}
 use Rattle.recursive_learning.specs.Least.{IsLeastAt}
 use Rattle.recursive_learning.specs.Lessons.{AreCommon}
-use Rattle.recursive_learning.specs.Resting.{IsWatched}
+use Rattle.recursive_learning.specs.Resting.{IsLonger, IsWatched}
 use Rattle.recursive_learning.specs.Watching.{AgreeAround, Covers, HasRegion, IsCovered, StaysTaught}
 use Rattle.recursive_learning.specs.Working.{AreSettled}
 use Rattle.recursive_learning.specs.declared.lessons.Learned.{Learned}
@@ -178,3 +178,25 @@ module _ (local : LinesAreLocal) (first : FirstLinesAskNothing) (net : Net) (fau
       let there : known_good held y ≡ Some c' = (unjustified_before net held more y around c' u).known in
       let same : c ≡ c' = cc in
       subst (HasLearned net (IsClosedUnderLines net fault) more y) same (region_learned more within settled_more around agree)
+
+-- DRIVER AFTER DRIVER
+covered_longer : (net : Net) (fault : Fault) (held : Held) (c : Bool) (d : ℕ) (xs ys : List Entry) (y : ℕ) → IsLonger xs ys → IsCovered net fault held c d xs y → IsCovered net fault held c d ys y
+covered_longer net fault held c d xs ys y longer covered some =
+    let h = covered some in
+    (h.0, (h.1.0, (h.1.1.0, λ z. elim (h.1.1.1 z) [ inl watched ↦ inl (watched_longer xs ys longer z y watched) | inr around ↦ inr around ])))
+
+pub covered_more : (net : Net) (fault : Fault) (held : Held) (c : Bool) (ds : List ℕ) (n d : ℕ) (xs ys : List Entry) (y : ℕ) → IsLonger xs ys → ((k e : ℕ) → k < n → slice_get ds k ≡ Some e → IsCovered net fault held c e xs y) → slice_get ds n ≡ Some d → IsCovered net fault held c d ys y → (k e : ℕ) → k < n + 1 → slice_get ds k ≡ Some e → IsCovered net fault held c e ys y
+covered_more net fault held c ds n d xs ys y longer before there here k e less at = elim (cases_lt k n) [
+  | inl lt ↦ covered_longer net fault held c e xs ys y longer (before k e lt at)
+  | inr ge ↦ let is : k ≡ n = omega arith in subst (λ (i : ℕ). IsCovered net fault held c i ys y) (same_place ds n d e there (subst (λ (i : ℕ). slice_get ds i ≡ Some e) is at)) here
+]
+  where
+    same_place : (ds : List ℕ) (k d e : ℕ) → slice_get ds k ≡ Some d → slice_get ds k ≡ Some e → d ≡ e
+    same_place ds k d e one other = cc
+
+pub region_of : (net : Net) (fault : Fault) (depth : ℕ) (held : Held) (c : Bool) (ds : List ℕ) (n : ℕ) (found : Bool) (goods : List Learned) (entries : List Entry) (y : ℕ) → AreCommon net fault depth held c ds n found goods → found ≡ true → goods ≡ [] → depth ≡ 0 → ((k d : ℕ) → k < n → slice_get ds k ≡ Some d → IsCovered net fault held c d entries y) → HasRegion net fault held c ds entries y
+region_of net fault depth held c ds n found goods entries y common some none zero covered = record {
+  count = n;
+  common = subst (λ (d : ℕ). AreCommon net fault d held c ds n true []) zero (subst (λ (f : Bool). AreCommon net fault depth held c ds n f []) some (subst (AreCommon net fault depth held c ds n found) none common));
+  covered = covered;
+}

@@ -1,5 +1,5 @@
 -- What is known of gates while facts come.
-use Rattle.std.proofs.Common.{Bool, List, None, Option, Some, [], ap, arith, drop, false, get_or, inl, inr, length, refl, replicate, subst, suc, sym, take, true, zero, ℕ, ◌++◌, ◌+◌, ◌<◌, ◌∙◌, ◌∷◌, ◌≡◌, ◌≢◌, ◌≤◌, ◌⊎◌}
+use Rattle.std.proofs.Common.{Bool, List, None, Option, Some, [], ap, arith, drop, false, get_or, inl, inr, length, length-set, refl, replicate, subst, suc, sym, take, true, zero, ℕ, ◌++◌, ◌+◌, ◌<◌, ◌∙◌, ◌∷◌, ◌≡◌, ◌≢◌, ◌≤◌, ◌⊎◌}
 use Rattle.std.proofs.lemmas.Bool.{cases_lt}
 use Rattle.std.proofs.lemmas.Bool.Decides.{eqb_tells}
 use Rattle.std.proofs.lemmas.List.{take_at}
@@ -286,3 +286,32 @@ around_map net P Q f a at live z around = f z (at live z around)
 
 pub none_dead : (net : Net) (x : ℕ) → kind_of net x ≡ None → IsLive net x → ⊥
 none_dead net x none live = let is : kind_of net x ≡ Some live.0 = ap kind_in live.1.1 in let wrong : None ≡ Some live.0 = sym none ∙ is in cc
+
+pub watching_leaves : (net : Net) (fault : Fault) (held : Held) (v w : Watch) → LeavesList v w → IsWatching net fault held v → IsWatching net fault held w
+watching_leaves net fault held v w leaves (inl unknown) = inl (leaves.all ∙ unknown)
+watching_leaves net fault held v w leaves (inr known) = inr (λ y. known_longer net fault held v w leaves y (known y))
+
+pub watching_known : (net : Net) (fault : Fault) (held now : Held) (v w : Watch) → w.all ≡ v.all → ((y : ℕ) → IsKnown net fault held v y → IsKnown net fault now w y) → IsWatching net fault held v → IsWatching net fault now w
+watching_known net fault held now v w all known (inl unknown) = inl (all ∙ unknown)
+watching_known net fault held now v w all known (inr before) = inr (λ y. known y (before y))
+
+pub known_still : (net : Net) (fault : Fault) (held : Held) (v w : Watch) (y : ℕ) → StillLists v w → IsKnown net fault held v y → IsKnown net fault held w y
+known_still net fault held v w y still (inl seen) = inl (still.kept y seen)
+known_still net fault held v w y still (inr stays) = inr (rw still.rests stays)
+
+pub known_same : (net : Net) (fault : Fault) (held : Held) (v w : Watch) (y : ℕ) → w.listed ≡ v.listed → w.rests ≡ v.rests → IsKnown net fault held v y → IsKnown net fault held w y
+known_same net fault held v w y same rests (inl seen) = inl (rw same seen)
+known_same net fault held v w y same rests (inr stays) = inr (rw rests stays)
+
+pub lengthens_rests : (v w : Watch) → w.rests ≡ v.rests → length w.listed ≡ length v.listed → Lengthens v w
+lengthens_rests v w rests size = lengthens_leaves' v w rests size
+  where
+    append_none : (xs : List Entry) → xs ++ [] ≡ xs
+    append_none [] = refl
+    append_none (x ∷ xs) = ap (λ (l : List Entry). x ∷ l) (append_none xs)
+
+    lengthens_leaves' : (v w : Watch) → w.rests ≡ v.rests → length w.listed ≡ length v.listed → Lengthens v w
+    lengthens_leaves' v w rests size = record { size = size; numbers = ap (λ (r : RestsState). r.numbers) rests; longer = ([], sym (append_none v.rests.entries ∙ ap (λ (r : RestsState). r.entries) (sym rests))) }
+
+pub lengthens_taken : (v w : Watch) (d : ℕ) → w.listed ≡ slice_set v.listed d false → w.rests ≡ v.rests → Lengthens v w
+lengthens_taken v w d is rests = lengthens_rests v w rests (ap length is ∙ length-set v.listed d false)

@@ -155,13 +155,24 @@ fn learn_deeper(
     let mut quiet = 0;
     while quiet < bound {
         let round = visit_deep(alloc, engine, graph, fault, facts, watch, depth - 1, NodeId(number))?;
-        if round == Round::Clash {
+        if is_clash(round) {
             return Ok(true);
         }
         quiet = quiet_after(round, quiet);
         number = next_number(number, bound);
     }
     Ok(false)
+}
+
+// Whether that is a clash.
+fn is_clash(round: Round) -> bool
+    ensures clash { result ≡ true → round ≡ Clash }
+    ensures other { result ≡ false → round ≢ Clash }
+{
+    match round {
+        Round::Clash => true,
+        Round::Gained | Round::Quiet => false,
+    }
 }
 
 // For how many gates nothing was taught, after one more.
