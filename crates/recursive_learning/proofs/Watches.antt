@@ -315,3 +315,6 @@ lengthens_rests v w rests size = lengthens_leaves' v w rests size
 
 pub lengthens_taken : (v w : Watch) (d : ℕ) → w.listed ≡ slice_set v.listed d false → w.rests ≡ v.rests → Lengthens v w
 lengthens_taken v w d is rests = lengthens_rests v w rests (ap length is ∙ length-set v.listed d false)
+
+pub lengthens_none : (w : Watch) → Lengthens w w
+lengthens_none w = lengthens_leaves w w (leaves_none w)
