@@ -1,5 +1,5 @@
 -- Where more facts are held, no more are missing.
-use Rattle.std.proofs.Common.{Bool, List, [], ap, arith, false, length, suc, true, zero, ℕ, ◌+◌, ◌∷◌, ◌≡◌, ◌≤◌}
+use Rattle.std.proofs.Common.{Bool, List, [], arith, false, length, suc, true, zero, ◌∷◌, ◌≡◌, ◌≤◌}
 use Rattle.std.specs.Prelude.{IsTrue}
 use Rattle.refutation.specs.Closing.{IsWithin}
 use Rattle.refutation.specs.FactSets.{held_by, if_not, is_marked, missing, unmarked}

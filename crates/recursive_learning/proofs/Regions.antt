@@ -1,14 +1,13 @@
 -- What a gate rests on: while the facts there stay, it has nothing to teach.
-use Rattle.std.proofs.Common.{Bool, List, None, Option, Some, [], ap, arith, false, ◌+◌, inl, inr, refl, subst, sym, true, ℕ, ◌<◌, ◌∙◌, ◌≡◌, ◌≢◌, ◌⊎◌, ◌||◌}
+use Rattle.std.proofs.Common.{Bool, List, None, Option, Some, [], arith, false, ◌+◌, inl, inr, refl, subst, sym, true, ℕ, ◌<◌, ◌∙◌, ◌≡◌, ◌||◌}
 use Rattle.std.proofs.lemmas.Bool.{cases_lt}
-use Rattle.std.specs.Prelude.{IsTrue, length, not, slice_get}
+use Rattle.std.specs.Prelude.{IsTrue, slice_get}
 use Rattle.gate_net.proofs.Bools.{or_either, or_true}
-use Rattle.gate_net.specs.Net.{Net, Reads}
-use Rattle.gate_net.specs.Values.{IsJunction}
+use Rattle.gate_net.specs.Net.{Net}
 use Rattle.implications.specs.Laws.{FirstLinesAskNothing, LinesAreLocal}
 use Rattle.implications.specs.Settled.{AgreeAt, place_of}
 use Rattle.recursive_learning.proofs.Indexes.{watched_longer}
-use Rattle.recursive_learning.specs.Gates.{AreJustifications, HasTaught, NoneGives}
+use Rattle.recursive_learning.specs.Gates.{AreJustifications}
 use Rattle.recursive_learning.specs.Least.{IsLeastAt}
 use Rattle.recursive_learning.specs.Lessons.{AreCommon}
 use Rattle.recursive_learning.specs.Resting.{IsLonger, IsWatched}
@@ -16,10 +15,10 @@ use Rattle.recursive_learning.specs.Watching.{AgreeAround, Covers, HasRegion, Is
 use Rattle.recursive_learning.specs.Working.{AreSettled}
 use Rattle.recursive_learning.specs.declared.lessons.Learned.{Learned}
 use Rattle.recursive_learning.specs.declared.resting.Entry.{Entry}
-use Rattle.refutation.proofs.Closings.{with_more, with_there, with_within}
+use Rattle.refutation.proofs.Closings.{with_there, with_within}
 use Rattle.refutation.specs.Closing.{IsClashFree, IsClosedUnderLines, IsWithin}
 use Rattle.refutation.specs.Facts.{AreOpposed, Held, known_good, with_fact}
-use Rattle.refutation.specs.Learning.{AllHold, HasFew, HasLearned, IsClosedAt, IsJustification, IsUnjustified, LeadsToClash, NoneContains}
+use Rattle.refutation.specs.Learning.{AllHold, HasFew, HasLearned, IsJustification, IsUnjustified, NoneContains}
 use Rattle.refutation.specs.Lines.{Concludes}
 use Rattle.refutation.specs.declared.reasoning.Fact.{Fact}
 use Rattle.refutation.specs.declared.reasoning.Fact.TheVariants.{Differs, Equal, Faulty, Good}
@@ -157,9 +156,9 @@ module _ (local : LinesAreLocal) (first : FirstLinesAskNothing) (net : Net) (fau
     held_by_all x b all false is = within x (Good b) (elim (region.common.all refl x b (λ k d less at some.
         let cover = region.covered k d less at some in
         led_before d cover.0 cover.1.0 cover.1.1.0 cover.1.1.1 x b (all d (just_after net held more y around d (j.each k d at)) (still_open d cover.0 cover.1.0 cover.1.1.0 cover.1.1.1)) is)) [
-      | inl there ↦ there
-      | inr among ↦ absurd (none_among among.0 among.1.0 among.1.1.0)
-    ])
+          | inl there ↦ there
+          | inr among ↦ absurd (none_among among.0 among.1.0 among.1.1.0)
+        ])
       where
         none_among : (k : ℕ) (g : Learned) → slice_get {X = Learned} [] k ≡ Some g → ⊥
         none_among k g e = cc

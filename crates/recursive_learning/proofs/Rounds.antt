@@ -1,6 +1,5 @@
 -- Looking at the gates, one after another.
-use Rattle.std.proofs.Common.{Bool, List, Some, [], arith, false, inl, inr, length, refl, subst, suc, sym, true, ℕ, ◌+◌, ◌<◌, ◌∷◌, ◌≡◌, ◌≢◌, ◌≤◌}
-use Rattle.std.proofs.lemmas.Bool.{cases_lt}
+use Rattle.std.proofs.Common.{Bool, List, Some, [], arith, false, length, refl, subst, suc, true, ℕ, ◌<◌, ◌∷◌, ◌≡◌, ◌≢◌, ◌≤◌}
 use Rattle.std.specs.Prelude.{slice_get}
 use Rattle.gate_net.specs.Net.{Net}
 use Rattle.gate_net.specs.Values.{IsJunction}
@@ -10,16 +9,15 @@ use Rattle.recursive_learning.proofs.Gains.{keeps_join, keeps_none}
 use Rattle.recursive_learning.proofs.Learns.{clashes_are_learned, values_are_learned}
 use Rattle.recursive_learning.specs.Gates.{AreJustifications, HasTaught, NoneGives}
 use Rattle.recursive_learning.specs.Least.{AreForced}
-use Rattle.recursive_learning.specs.Lessons.{AreFound, HoldsAll, IsGained, IsLesson, IsNothingNew, IsOne, IsRound}
+use Rattle.recursive_learning.specs.Lessons.{AreFound, HoldsAll, IsGained, IsLesson, IsNothingNew, IsRound}
 use Rattle.recursive_learning.specs.Working.{AreSettled, IsLearned, Keeps}
 use Rattle.recursive_learning.specs.declared.lessons.Learned.{Learned}
-use Rattle.recursive_learning.specs.declared.lessons.Round.{Round}
-use Rattle.recursive_learning.specs.declared.lessons.Round.TheVariants.{Clash, Gained, Quiet}
+use Rattle.recursive_learning.specs.declared.lessons.Round.TheVariants.{Gained}
 use Rattle.refutation.proofs.Closings.{with_there}
 use Rattle.refutation.proofs.Depths.{lines_of}
 use Rattle.refutation.proofs.Told.{kind_live}
 use Rattle.refutation.specs.Closing.{IsClashFree, IsWithin}
-use Rattle.refutation.specs.FactSets.{held_by, missing}
+use Rattle.refutation.specs.FactSets.{held_by}
 use Rattle.refutation.specs.Facts.{Held, known_good}
 use Rattle.refutation.specs.Learning.{HasFew, HasLearned, IsClosedAt, IsJustification, LeadsToClash}
 use Rattle.refutation.specs.declared.held.NodeFacts.{NodeFacts}

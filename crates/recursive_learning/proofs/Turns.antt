@@ -1,5 +1,5 @@
 -- Going round the gates, and back to the same one.
-use Rattle.std.proofs.Common.{Bool, List, ap, arith, false, inl, inr, length, length-set, refl, subst, suc, sym, true, zero, ℕ, ◌*◌, ◌+◌, ◌-◌, ◌<◌, ◌∙◌, ◌≡◌, ◌≢◌, ◌≤◌, ◌⊎◌}
+use Rattle.std.proofs.Common.{Bool, List, arith, false, inl, inr, length, length-set, refl, subst, suc, sym, zero, ℕ, ◌*◌, ◌+◌, ◌-◌, ◌<◌, ◌∙◌, ◌≡◌, ◌≢◌, ◌≤◌, ◌⊎◌}
 use Rattle.std.proofs.lemmas.Bool.{cases_lt}
 use Rattle.std.specs.Prelude.{slice_set}
 use Rattle.gate_graph.specs.Search.{IsSeen}

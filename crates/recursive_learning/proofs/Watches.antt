@@ -1,16 +1,15 @@
 -- What is known of gates while facts come.
-use Rattle.std.proofs.Common.{Bool, List, None, Option, Some, [], ap, arith, drop, false, get_or, inl, inr, length, length-set, refl, replicate, subst, suc, sym, take, true, zero, ℕ, ◌++◌, ◌+◌, ◌<◌, ◌∙◌, ◌∷◌, ◌≡◌, ◌≢◌, ◌≤◌, ◌⊎◌}
+use Rattle.std.proofs.Common.{Bool, List, None, Option, Some, [], ap, append-nil, arith, false, get_or, inl, inr, length, length-set, refl, replicate, subst, suc, sym, true, zero, ℕ, ◌+◌, ◌<◌, ◌∙◌, ◌∷◌, ◌≡◌, ◌≤◌, ◌⊎◌}
 use Rattle.std.proofs.lemmas.Bool.{cases_lt}
 use Rattle.std.proofs.lemmas.Bool.Decides.{eqb_tells}
-use Rattle.std.proofs.lemmas.List.{take_at}
 use Rattle.std.proofs.lemmas.Option.{get_or_from_slice_get}
 use Rattle.std.specs.Prelude.{IsTrue, slice_get, slice_set}
 use Rattle.gate_graph.proofs.Searches.{none_seen}
 use Rattle.gate_graph.specs.Search.{IsSeen}
-use Rattle.gate_net.specs.Net.{IsLive, Net, Reads, kind_in, kind_of}
+use Rattle.gate_net.specs.Net.{IsLive, Net, kind_in, kind_of}
 use Rattle.implications.proofs.Agendas.{seen_stays}
 use Rattle.implications.specs.Settled.{AgreeAt}
-use Rattle.implications.specs.Trail.{AreAdded, IsAmong}
+use Rattle.implications.specs.Trail.{IsAmong}
 use Rattle.recursive_learning.proofs.Indexes.{longer_join, watched_longer}
 use Rattle.recursive_learning.proofs.Regions.{stays_idle}
 use Rattle.recursive_learning.proofs.Rounds.{junction_below}
@@ -21,9 +20,7 @@ use Rattle.recursive_learning.specs.Working.{AreSettled}
 use Rattle.recursive_learning.specs.declared.resting.Entry.{Entry}
 use Rattle.recursive_learning.specs.declared.watch.Watch.{Watch}
 use Rattle.refutation.specs.Closing.{IsWithin}
-use Rattle.refutation.specs.FactSets.{held_by}
 use Rattle.refutation.specs.Facts.{Held}
-use Rattle.refutation.specs.declared.held.NodeFacts.{NodeFacts}
 use Rattle.refutation.specs.declared.reasoning.Fact.{Fact}
 use Rattle.rm_base.specs.declared.numbers.Fault.{Fault}
 use Rattle.rm_base.specs.declared.numbers.NodeId.{NodeId}
@@ -112,8 +109,8 @@ known_more net fault held now added v w settled within all still changed y (inr 
       stays more (λ x fact e. grown x fact (within x fact e)) settled'
       (around_join net held now more y (far_agrees net fault held now added settled within all y (λ k a there live near. none (changed k a there live y near).itself)) around)
       (λ z watched.
-        let here : IsWatched w.rests.entries z y = rw still.rests watched in
-        around_join net held now more z (far_agrees net fault held now added settled within all z (λ k a there live near. none ((changed k a there live z near).gates y here))) (agree z here)))
+      let here : IsWatched w.rests.entries z y = rw still.rests watched in
+      around_join net held now more z (far_agrees net fault held now added settled within all z (λ k a there live near. none ((changed k a there live z near).gates y here))) (agree z here)))
 ]
 
 pub watching_more : (net : Net) (fault : Fault) (held now : Held) (added : List (NodeId × Fact)) (v w : Watch) → AreSettled net fault now → IsWithin held now → ((x : ℕ) (fact : Fact) → IsTrue (now x fact) → IsTrue (held x fact) ⊎ IsAmong added x fact) → StillLists v w → ListsChanged net added w → IsWatching net fault held v → IsWatching net fault now w
@@ -171,11 +168,7 @@ pub lengthens_leaves : (v w : Watch) → LeavesList v w → Lengthens v w
 lengthens_leaves v w l = record { size = ap length l.listed; numbers = l.numbers; longer = l.longer }
 
 pub lengthens_still : (v w : Watch) → StillLists v w → Lengthens v w
-lengthens_still v w s = record { size = s.size; numbers = ap (λ (r : RestsState). r.numbers) s.rests; longer = ([], sym (append_none v.rests.entries ∙ ap (λ (r : RestsState). r.entries) (sym s.rests))) }
-  where
-    append_none : (xs : List Entry) → xs ++ [] ≡ xs
-    append_none [] = refl
-    append_none (x ∷ xs) = ap (λ (l : List Entry). x ∷ l) (append_none xs)
+lengthens_still v w s = record { size = s.size; numbers = ap (λ (r : RestsState). r.numbers) s.rests; longer = ([], sym (append-nil v.rests.entries ∙ ap (λ (r : RestsState). r.entries) (sym s.rests))) }
 
 pub lengthens_join : (u v w : Watch) → Lengthens u v → Lengthens v w → Lengthens u w
 lengthens_join u v w one two = record {
@@ -193,11 +186,7 @@ leaves_join u v w one two = record {
 }
 
 pub leaves_none : (w : Watch) → LeavesList w w
-leaves_none w = record { all = refl; listed = refl; numbers = refl; longer = ([], sym (append_none w.rests.entries)) }
-  where
-    append_none : (xs : List Entry) → xs ++ [] ≡ xs
-    append_none [] = refl
-    append_none (x ∷ xs) = ap (λ (l : List Entry). x ∷ l) (append_none xs)
+leaves_none w = record { all = refl; listed = refl; numbers = refl; longer = ([], sym (append-nil w.rests.entries)) }
 
 -- one more entry
 pub leaves_more : (u v : Watch) (rests : RestsState) → LeavesList u v → rests.numbers ≡ v.rests.numbers → IsLonger v.rests.entries rests.entries → LeavesList u (record { all = v.all; listed = v.listed; rests = rests })
@@ -219,32 +208,6 @@ blank_leaves v w l blank = record { all = l.all ∙ blank.all; none = l.listed �
 
 pub none_leaves : (v w : Watch) → w.listed ≡ v.listed → HasNoneListed v → HasNoneListed w
 none_leaves v w same none = same ∙ none ∙ ap (λ (s : List Bool). replicate (length s) false) (sym same)
-
--- a branch, and back
-pub watch_back : (u v w x : Watch) (count : ℕ) → HasNoneListed u → StillLists u v → Lengthens v w → count ≡ length u.rests.entries → x.all ≡ u.all → x.listed ≡ replicate (length w.listed) false → x.rests.entries ≡ take count w.rests.entries → x.rests.numbers ≡ w.rests.numbers → LeavesList u x
-watch_back u v w x count none still longer is all listed entries numbers = record {
-  all = all;
-  listed = listed ∙ ap (λ (n : ℕ). replicate n false) (longer.size ∙ still.size) ∙ sym none;
-  numbers = numbers ∙ longer.numbers ∙ ap (λ (r : RestsState). r.numbers) still.rests;
-  longer = ([], entries ∙ ap (take count) grown ∙ take_at u.rests.entries longer.longer.0 count (sym is) ∙ sym (append_none u.rests.entries));
-}
-  where
-    grown : w.rests.entries ≡ u.rests.entries ++ longer.longer.0
-    grown = longer.longer.1 ∙ ap (λ (r : RestsState). r.entries ++ longer.longer.0) still.rests
-
-    append_none : (xs : List Entry) → xs ++ [] ≡ xs
-    append_none [] = refl
-    append_none (x ∷ xs) = ap (λ (l : List Entry). x ∷ l) (append_none xs)
-
-pub count_back : (u v w : Watch) (count : ℕ) → StillLists u v → Lengthens v w → count ≡ length u.rests.entries → count ≤ length w.rests.entries
-count_back u v w count still longer is =
-    let e : length w.rests.entries ≡ length v.rests.entries + length longer.longer.0 = ap length longer.longer.1 ∙ length_two v.rests.entries longer.longer.0 in
-    let f : length v.rests.entries ≡ length u.rests.entries = ap (λ (r : RestsState). length r.entries) still.rests in
-    omega arith
-  where
-    length_two : (xs ys : List Entry) → length (xs ++ ys) ≡ length xs + length ys
-    length_two [] ys = omega arith
-    length_two (x ∷ xs) ys = let rest : length (xs ++ ys) ≡ length xs + length ys = length_two xs ys in omega arith
 
 pub still_none : (w : Watch) → StillLists w w
 still_none w = record { all = refl; rests = refl; size = refl; kept = λ y seen. seen }
@@ -304,14 +267,11 @@ known_same net fault held v w y same rests (inl seen) = inl (rw same seen)
 known_same net fault held v w y same rests (inr stays) = inr (rw rests stays)
 
 pub lengthens_rests : (v w : Watch) → w.rests ≡ v.rests → length w.listed ≡ length v.listed → Lengthens v w
-lengthens_rests v w rests size = lengthens_leaves' v w rests size
-  where
-    append_none : (xs : List Entry) → xs ++ [] ≡ xs
-    append_none [] = refl
-    append_none (x ∷ xs) = ap (λ (l : List Entry). x ∷ l) (append_none xs)
-
-    lengthens_leaves' : (v w : Watch) → w.rests ≡ v.rests → length w.listed ≡ length v.listed → Lengthens v w
-    lengthens_leaves' v w rests size = record { size = size; numbers = ap (λ (r : RestsState). r.numbers) rests; longer = ([], sym (append_none v.rests.entries ∙ ap (λ (r : RestsState). r.entries) (sym rests))) }
+lengthens_rests v w rests size = record {
+  size = size;
+  numbers = ap (λ (r : RestsState). r.numbers) rests;
+  longer = ([], sym (append-nil v.rests.entries ∙ ap (λ (r : RestsState). r.entries) (sym rests)));
+}
 
 pub lengthens_taken : (v w : Watch) (d : ℕ) → w.listed ≡ slice_set v.listed d false → w.rests ≡ v.rests → Lengthens v w
 lengthens_taken v w d is rests = lengthens_rests v w rests (ap length is ∙ length-set v.listed d false)

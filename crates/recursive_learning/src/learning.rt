@@ -14,6 +14,7 @@ ghost use Rattle.recursive_learning.specs.declared.lessons.Round.TheVariants.{Cl
 use crate::adding::{add, gain};
 use crate::gates::{open_drivers, wanted_value};
 use crate::lessons::{Common, Lesson, Round, met};
+use crate::turning::{is_clash, next_number, quiet_after};
 use crate::watch::Watch;
 use gate_graph::Graph;
 use implications::Engine;
@@ -154,7 +155,16 @@ fn learn_deeper(
     let mut number = 0;
     let mut quiet = 0;
     while quiet < bound {
-        let round = visit_deep(alloc, engine, graph, fault, facts, watch, depth - 1, NodeId(number))?;
+        let round = visit_deep(
+            alloc,
+            engine,
+            graph,
+            fault,
+            facts,
+            watch,
+            depth - 1,
+            NodeId(number),
+        )?;
         if is_clash(round) {
             return Ok(true);
         }
@@ -162,38 +172,6 @@ fn learn_deeper(
         number = next_number(number, bound);
     }
     Ok(false)
-}
-
-// Whether that is a clash.
-fn is_clash(round: Round) -> bool
-    ensures clash { result ≡ true → round ≡ Clash }
-    ensures other { result ≡ false → round ≢ Clash }
-{
-    match round {
-        Round::Clash => true,
-        Round::Gained | Round::Quiet => false,
-    }
-}
-
-// For how many gates nothing was taught, after one more.
-fn quiet_after(round: Round, quiet: u32) -> u32
-    requires { quiet < 4294967295 }
-    ensures quiet { round ≡ Quiet → result ≡ quiet + 1 }
-    ensures gained { round ≡ Gained → result ≡ 0 }
-{
-    match round {
-        Round::Quiet => quiet + 1,
-        Round::Gained | Round::Clash => 0,
-    }
-}
-
-// The number after that one, where 0 follows the last.
-fn next_number(number: u32, bound: u32) -> u32
-    requires { number < bound }
-    ensures next { number + 1 < bound → result ≡ number + 1 }
-    ensures first { number + 1 ≡ bound → result ≡ 0 }
-{
-    if number + 1 < bound { number + 1 } else { 0 }
 }
 
 // Learns from one gate, with justifications closed at the depth, and closes the facts there again.
@@ -313,7 +291,9 @@ pub fn lesson_at(
     if drivers.is_empty() {
         return Ok(None);
     }
-    let common = in_common(alloc, engine, graph, fault, facts, watch, depth, gate, &drivers, value)?;
+    let common = in_common(
+        alloc, engine, graph, fault, facts, watch, depth, gate, &drivers, value,
+    )?;
     if common.found && common.goods.is_empty() {
         return Ok(None);
     }
@@ -359,7 +339,9 @@ fn in_common(
         goods: Vec::new(alloc),
     };
     for driver in drivers {
-        common = one_more(alloc, engine, graph, fault, facts, watch, depth, gate, *driver, value, common)?;
+        common = one_more(
+            alloc, engine, graph, fault, facts, watch, depth, gate, *driver, value, common,
+        )?;
         if common.found && common.goods.is_empty() {
             return Ok(common);
         }
@@ -399,14 +381,16 @@ fn one_more(
     ensures covered { OnOk result (depth ≡ 0 → watch.old.all ≡ false → IsCovered (net_of graph.now) fault.now (held_by facts.old) value driver.0 watch.new.rests.entries gate.0) }
 {
     let mark = engine.mark();
-    if take(alloc, engine, graph, fault, facts, watch, depth, driver, value)? {
+    if take(
+        alloc, engine, graph, fault, facts, watch, depth, driver, value,
+    )? {
         engine.take_back(facts, mark);
         return Ok(before);
     }
-    let common = met(alloc, &before, engine.added(mark), facts)?;
+    let more = met(alloc, &before, engine.added(mark), facts)?;
     watch.rest_on_region(graph, gate, engine.added(mark), depth)?;
     engine.take_back(facts, mark);
-    Ok(common)
+    Ok(more)
 }
 
 // Adds a good value, and closes at the depth; whether that is a clash. The watch is left as it was.

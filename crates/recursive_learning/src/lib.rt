@@ -11,6 +11,7 @@ mod resting;
 mod telling;
 #[cfg(test)]
 mod tests;
+mod turning;
 mod watch;
 mod writing;
 

@@ -49,7 +49,9 @@ fn written(
     let mark = engine.mark();
     let mut tree = TreeBuilder::new(alloc);
     push_lines(&mut tree, engine.lines())?;
-    write(alloc, engine, graph, fault, &mut held, watch, depth, &mut tree)?;
+    write(
+        alloc, engine, graph, fault, &mut held, watch, depth, &mut tree,
+    )?;
     engine.take_back(&mut held, mark);
     Ok(tree.finish())
 }

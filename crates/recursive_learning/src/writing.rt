@@ -125,7 +125,9 @@ fn write_gate(
         return Ok(false);
     };
     if lesson.found {
-        let ended = write_goods(alloc, engine, graph, fault, facts, watch, depth, &lesson, tree)?;
+        let ended = write_goods(
+            alloc, engine, graph, fault, facts, watch, depth, &lesson, tree,
+        )?;
         return Ok(ended);
     }
     write_cases(

@@ -1,4 +1,4 @@
-use Rattle.std.proofs.Common.{Bool, Global, List, Option, Some, Vec, [], arith, drop, false, get_or, inl, inr, length, map, refl, rules, subst, suc, sym, true, ◌+◌, ◌-◌, ◌<◌, ◌∙◌, ◌≡◌, ◌≢◌, ◌≤◌, ◌⊎◌, ℕ}
+use Rattle.std.proofs.Common.{Bool, Global, List, Option, Some, Vec, arith, drop, false, get_or, inl, inr, length, map, refl, rules, subst, suc, sym, true, ◌+◌, ◌-◌, ◌<◌, ◌∙◌, ◌≡◌, ◌≢◌, ◌≤◌, ℕ}
 use Rattle.std.proofs.lemmas.List.{length-map}
 use Rattle.std.proofs.lemmas.Option.{slice_get_within}
 use Rattle.std.specs.Option.{MatchOption}
@@ -26,7 +26,7 @@ use Rattle.recursive_learning.specs.Watching.{HasRegion, IsCovered, Lengthens, S
 use Rattle.recursive_learning.specs.Working.{IsLearned}
 use Rattle.recursive_learning.specs.declared.lessons.Learned.{Learned}
 use Rattle.recursive_learning.specs.declared.lessons.Round.{Round}
-use Rattle.recursive_learning.specs.declared.lessons.Round.TheVariants.{Clash, Gained, Quiet}
+use Rattle.recursive_learning.specs.declared.lessons.Round.TheVariants.{Clash, Gained}
 use Rattle.refutation.specs.Closing.{IsWithin}
 use Rattle.refutation.specs.FactSets.{held_by, missing}
 use Rattle.refutation.specs.Facts.{with_fact}
@@ -401,7 +401,7 @@ one_more-returns-clause-common t c ds n there common =
     let h : LeadsBack c.take.new.engine.trail c.mark-mark.result c.take.new.facts c.args.facts.now = c.in_ok-take.ensures.keeps.back c.mark-mark.result c.args.facts.now (c.mark-mark.ensures.back c.args.facts.now) in
     let learned : IsLearned (net_of c.args.graph.now) c.args.fault.now c.args.depth (with_fact (held_by c.args.facts.now) c.args.driver.0 (Good c.args.value)) false (held_by c.take.new.facts) = subst (λ (b : Bool). IsLearned (net_of c.args.graph.now) c.args.fault.now c.args.depth (with_fact (held_by c.args.facts.now) c.args.driver.0 (Good c.args.value)) b (held_by c.take.new.facts)) c.if-branch.false c.in_ok-take.ensures.learned in
     let added : AreAdded c.added.result.now c.args.facts.now c.take.new.facts = rw c.added.ensures (trail_tells c.take.new.engine.trail c.mark-mark.result c.take.new.facts c.args.facts.now h) in
-    rw c.in_ok-common.ensures.found (common_open (net_of c.args.graph.now) c.args.fault.now c.args.depth (held_by c.args.facts.now) c.args.value ds n c.args.driver.0 there c.take.new.facts c.added.result.now learned.0 learned.1 c.in_ok-take.ensures.keeps.more added.new added.all c.args.before.found c.args.before.goods.items c.in_ok-common.common.goods.items common c.in_ok-common.ensures.goods)
+    rw c.in_ok-more.ensures.found (common_open (net_of c.args.graph.now) c.args.fault.now c.args.depth (held_by c.args.facts.now) c.args.value ds n c.args.driver.0 there c.take.new.facts c.added.result.now learned.0 learned.1 c.in_ok-take.ensures.keeps.more added.new added.all c.args.before.found c.args.before.goods.items c.in_ok-more.more.goods.items common c.in_ok-more.ensures.goods)
 
 pub one_more-returns-clause-same : goal.one_more-returns-clause-same
 one_more-returns-clause-same t c =
@@ -415,9 +415,16 @@ pub one_more-returns-clause-covered : goal.one_more-returns-clause-covered
 one_more-returns-clause-covered t c zero unknown open' =
     let h : LeadsBack c.take.new.engine.trail c.mark-mark.result c.take.new.facts c.args.facts.now = c.in_ok-take.ensures.keeps.back c.mark-mark.result c.args.facts.now (c.mark-mark.ensures.back c.args.facts.now) in
     let learned : IsLearned (net_of c.args.graph.now) c.args.fault.now c.args.depth (with_fact (held_by c.args.facts.now) c.args.driver.0 (Good c.args.value)) false (held_by c.take.new.facts) = subst (λ (b : Bool). IsLearned (net_of c.args.graph.now) c.args.fault.now c.args.depth (with_fact (held_by c.args.facts.now) c.args.driver.0 (Good c.args.value)) b (held_by c.take.new.facts)) c.if-branch.false c.in_ok-take.ensures.learned in
-    let added : AreAdded c.added-2.result.now c.args.facts.now c.take.new.facts = rw c.added-2.ensures (trail_tells c.take.new.engine.trail c.mark-mark.result c.take.new.facts c.args.facts.now h) in
-    (held_by c.take.new.facts, (subst (λ (n : ℕ). IsLeastAt (net_of c.args.graph.now) c.args.fault.now n (with_fact (held_by c.args.facts.now) c.args.driver.0 (Good c.args.value)) (held_by c.take.new.facts)) zero learned.0, (c.in_ok-take.ensures.keeps.more,
-      region_covers (net_of c.args.graph.now) c.args.fault.now (held_by c.args.facts.now) (held_by c.take.new.facts) c.added-2.result.now c.rest_on_region.new.self.rests.entries c.args.gate.0 learned.1 c.in_ok-take.ensures.keeps.more added.all (c.in_ok-rest_on_region.ensures.region zero (c.in_ok-take.ensures.leaves.all ∙ unknown)))))
+    let added : AreAdded c.added-2.result.now c.args.facts.now c.take.new.facts = rw c.added-2.ensures (trail_tells c.take.new.engine.trail c.mark-mark.result c.take.new.facts c.args.facts.now h) in (
+      held_by c.take.new.facts,
+      (
+        subst (λ (n : ℕ). IsLeastAt (net_of c.args.graph.now) c.args.fault.now n (with_fact (held_by c.args.facts.now) c.args.driver.0 (Good c.args.value)) (held_by c.take.new.facts)) zero learned.0,
+        (
+          c.in_ok-take.ensures.keeps.more,
+          region_covers (net_of c.args.graph.now) c.args.fault.now (held_by c.args.facts.now) (held_by c.take.new.facts) c.added-2.result.now c.rest_on_region.new.self.rests.entries c.args.gate.0 learned.1 c.in_ok-take.ensures.keeps.more added.all (c.in_ok-rest_on_region.ensures.region zero (c.in_ok-take.ensures.leaves.all ∙ unknown)),
+        ),
+      ),
+    )
 
 -- TAKE
 

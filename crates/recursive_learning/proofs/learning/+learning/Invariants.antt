@@ -1,4 +1,4 @@
-use Rattle.std.proofs.Common.{List, Some, false, length, map, suc, true, ℕ, ◌*◌, ◌+◌, ◌-◌, ◌<◌, ◌≡◌, ◌≤◌}
+use Rattle.std.proofs.Common.{Some, false, map, suc, ℕ, ◌*◌, ◌+◌, ◌-◌, ◌<◌, ◌≡◌, ◌≤◌}
 use Rattle.std.specs.Prelude.{slice_get}
 use Rattle.gate_graph.specs.Circuit.{net_of}
 use Rattle.implications.specs.Working.{work}

@@ -17,7 +17,7 @@ loop-level-init c = record {
 pub loop-level-preserved : goal.loop-level-preserved
 loop-level-preserved c = record {
   deepening = deepening_more (net_of c.args.graph.now) c.args.fault.now c.loop-level.level c.args.engine.now c.loop-level.engine c.learn.new.engine c.args.facts.now c.loop-level.facts c.learn.new.facts c.loop-level.invariant.deepening c.in_ok-learn.ensures.keeps
-    (subst (λ (b : Bool). IsLearned (net_of c.args.graph.now) c.args.fault.now (c.loop-level.level + 1) (held_by c.loop-level.facts) b (held_by c.learn.new.facts)) c.if-branch.false c.in_ok-learn.ensures.learned);
+      (subst (λ (b : Bool). IsLearned (net_of c.args.graph.now) c.args.fault.now (c.loop-level.level + 1) (held_by c.loop-level.facts) b (held_by c.learn.new.facts)) c.if-branch.false c.in_ok-learn.ensures.learned);
   watching = c.in_ok-learn.ensures.watching c.if-branch.false;
   lengthens = lengthens_join c.args.watch.now c.loop-level.watch c.learn.new.watch c.loop-level.invariant.lengthens c.in_ok-learn.ensures.lengthens;
 }

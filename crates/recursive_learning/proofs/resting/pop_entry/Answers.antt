@@ -1,7 +1,5 @@
-use Rattle.std.proofs.Common.{subst, sym}
 use Rattle.recursive_learning.proofs.Indexes.{index_pop}
 use Rattle.recursive_learning.proofs.resting.pop_entry.Goals as goal
-use Rattle.recursive_learning.specs.Resting.{IsIndex}
 
 pub returns-clause-index : goal.returns-clause-index
 returns-clause-index c =

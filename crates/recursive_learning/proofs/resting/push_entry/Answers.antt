@@ -1,10 +1,7 @@
-use Rattle.std.proofs.Common.{List, arith, get_or, length, subst, sym, [], ◌++◌, ◌+◌, ◌∷◌, ◌≡◌, ℕ}
-use Rattle.std.specs.Prelude.{slice_set}
+use Rattle.std.proofs.Common.{arith, get_or, length, ◌≡◌}
 use Rattle.implications.proofs.Agendas.{read_is}
 use Rattle.recursive_learning.proofs.Indexes.{index_push, watched_push}
 use Rattle.recursive_learning.proofs.resting.push_entry.Goals as goal
-use Rattle.recursive_learning.specs.Resting.{IsIndex, IsWatched}
-use Rattle.recursive_learning.specs.declared.resting.Entry.{Entry}
 
 pub returns-clause-index : goal.returns-clause-index
 returns-clause-index c =

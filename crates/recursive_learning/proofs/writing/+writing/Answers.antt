@@ -54,7 +54,7 @@ pub write_pass-loop-number-preserved : goal.write_pass-loop-number-preserved
 write_pass-loop-number-preserved t c =
     record {
       passing = pass_more (net_of c.args.graph.now) c.args.fault.now c.args.depth c.loop-number.number c.args.engine.now c.loop-number.engine c.write_gate.new.engine c.args.facts.now c.loop-number.facts c.write_gate.new.facts c.args.tree.now c.loop-number.tree c.write_gate.new.tree c.loop-number.invariant.passing c.in_ok-write_gate.ensures.keeps
-      (subst (λ (b : Bool). IsWritten (net_of c.args.graph.now) c.args.fault.now c.args.depth c.loop-number.number c.loop-number.facts c.loop-number.tree b c.write_gate.new.facts c.write_gate.new.tree) c.if-branch.false c.in_ok-write_gate.ensures.written);
+          (subst (λ (b : Bool). IsWritten (net_of c.args.graph.now) c.args.fault.now c.args.depth c.loop-number.number c.loop-number.facts c.loop-number.tree b c.write_gate.new.facts c.write_gate.new.tree) c.if-branch.false c.in_ok-write_gate.ensures.written);
       leaves = leaves_join c.args.watch.now c.loop-number.watch c.write_gate.new.watch c.loop-number.invariant.leaves c.in_ok-write_gate.ensures.leaves;
     }
 
@@ -85,7 +85,9 @@ write_gate-write_cases-requires t c =
           (
             rw c.in_ok-lesson.ensures.keeps.size c.requires.size,
             (
-              rw c.in_ok-lesson.ensures.same c.requires.settled, (room_leaves (net_of c.args.graph.now) c.args.watch.now c.lesson_at.new.watch c.in_ok-lesson.ensures.leaves c.requires.room, (blank_leaves c.args.watch.now c.lesson_at.new.watch c.in_ok-lesson.ensures.leaves c.requires.blank, rw (c.deref.ensures.value, c.in_ok-lesson.ensures.same) (lesson_cases (net_of c.args.graph.now) c.args.fault.now c.args.depth (held_by c.args.facts.now) c.args.gate.0 c.in-Some.lesson.value (map (λ n. n.0) c.in-Some.lesson.drivers.items) c.in-Some.lesson.found c.in-Some.lesson.goods.items l c.if-lesson.false)))),
+              rw c.in_ok-lesson.ensures.same c.requires.settled,
+              (room_leaves (net_of c.args.graph.now) c.args.watch.now c.lesson_at.new.watch c.in_ok-lesson.ensures.leaves c.requires.room, (blank_leaves c.args.watch.now c.lesson_at.new.watch c.in_ok-lesson.ensures.leaves c.requires.blank, rw (c.deref.ensures.value, c.in_ok-lesson.ensures.same) (lesson_cases (net_of c.args.graph.now) c.args.fault.now c.args.depth (held_by c.args.facts.now) c.args.gate.0 c.in-Some.lesson.value (map (λ n. n.0) c.in-Some.lesson.drivers.items) c.in-Some.lesson.found c.in-Some.lesson.goods.items l c.if-lesson.false))),
+            ),
           ),
         ),
       ),
@@ -102,10 +104,18 @@ write_goods-write_good-requires t c =
           (
             rw c.loop-good.invariant.writing.going.keeps.size c.requires.size,
             (
-              c.loop-good.invariant.writing.going.settled, (room_leaves (net_of c.args.graph.now) c.args.watch.now c.loop-good.watch c.loop-good.invariant.leaves c.requires.room, (blank_leaves c.args.watch.now c.loop-good.watch c.loop-good.invariant.leaves c.requires.blank, (
-                (c.requires.lesson.1.new c.requires.found c.loop-good.good-index (get_or c.args.lesson.now.goods.items c.loop-good.good-index (record { node = record { 0 = 0 }; value = false })) (slice_get-get_or c.args.lesson.now.goods.items c.loop-good.good-index (record { node = record { 0 = 0 }; value = false }) (omega (arith, ap length c.deref-good-items.ensures.value)))).live,
-                lesson_opposite (net_of c.args.graph.now) c.args.fault.now c.args.depth (held_by c.args.facts.now) (held_by c.loop-good.facts) c.requires.lesson.0 c.args.lesson.now.value (map (λ n. n.0) c.args.lesson.now.drivers.items) c.args.lesson.now.found c.args.lesson.now.goods.items c.loop-good.good-index (get_or c.args.lesson.now.goods.items c.loop-good.good-index (record { node = record { 0 = 0 }; value = false })) c.requires.lesson.1 c.requires.found (slice_get-get_or c.args.lesson.now.goods.items c.loop-good.good-index (record { node = record { 0 = 0 }; value = false }) (omega (arith, ap length c.deref-good-items.ensures.value))) c.loop-good.invariant.writing.going.keeps.more c.loop-good.invariant.writing.going.settled.free,
-              )))),
+              c.loop-good.invariant.writing.going.settled,
+              (
+                room_leaves (net_of c.args.graph.now) c.args.watch.now c.loop-good.watch c.loop-good.invariant.leaves c.requires.room,
+                (
+                  blank_leaves c.args.watch.now c.loop-good.watch c.loop-good.invariant.leaves c.requires.blank,
+                  (
+                    (c.requires.lesson.1.new c.requires.found c.loop-good.good-index (get_or c.args.lesson.now.goods.items c.loop-good.good-index (record { node = record { 0 = 0 }; value = false })) (slice_get-get_or c.args.lesson.now.goods.items c.loop-good.good-index (record { node = record { 0 = 0 }; value = false }) (omega (arith, ap length c.deref-good-items.ensures.value)))).live,
+                    lesson_opposite (net_of c.args.graph.now) c.args.fault.now c.args.depth (held_by c.args.facts.now) (held_by c.loop-good.facts) c.requires.lesson.0 c.args.lesson.now.value (map (λ n. n.0) c.args.lesson.now.drivers.items) c.args.lesson.now.found c.args.lesson.now.goods.items c.loop-good.good-index (get_or c.args.lesson.now.goods.items c.loop-good.good-index (record { node = record { 0 = 0 }; value = false })) c.requires.lesson.1 c.requires.found (slice_get-get_or c.args.lesson.now.goods.items c.loop-good.good-index (record { node = record { 0 = 0 }; value = false }) (omega (arith, ap length c.deref-good-items.ensures.value))) c.loop-good.invariant.writing.going.keeps.more c.loop-good.invariant.writing.going.settled.free,
+                  ),
+                ),
+              ),
+            ),
           ),
         ),
       ),
@@ -116,8 +126,8 @@ write_goods-loop-good-preserved t c =
     let fewer : known_good (held_by c.loop-good.facts) (get_or c.args.lesson.now.goods.items c.loop-good.good-index (record { node = record { 0 = 0 }; value = false })).node.0 ≡ None → missing c.write_good.new.facts < missing c.loop-good.facts = rw c.deref-good-items.ensures.value at (c.in_ok-write_good.ensures.fewer c.if-branch.false) in
     record {
       writing = goods_more (net_of c.args.graph.now) c.args.fault.now c.loop-good.good-index c.args.engine.now c.loop-good.engine c.write_good.new.engine c.args.facts.now c.loop-good.facts c.write_good.new.facts c.args.tree.now c.loop-good.tree c.write_good.new.tree (get_or c.args.lesson.now.goods.items c.loop-good.good-index (record { node = record { 0 = 0 }; value = false })).node.0 c.loop-good.invariant.writing (c.requires.lesson.1.new c.requires.found c.loop-good.good-index (get_or c.args.lesson.now.goods.items c.loop-good.good-index (record { node = record { 0 = 0 }; value = false })) (slice_get-get_or c.args.lesson.now.goods.items c.loop-good.good-index (record { node = record { 0 = 0 }; value = false }) (omega (arith, ap length c.deref-good-items.ensures.value)))).unknown c.in_ok-write_good.ensures.keeps
-      (subst (λ (b : Bool). IsTold (net_of c.args.graph.now) c.args.fault.now (held_by c.loop-good.facts) c.loop-good.tree b (held_by c.write_good.new.facts) c.write_good.new.tree) c.if-branch.false c.in_ok-write_good.ensures.told)
-      (c.in_ok-write_good.ensures.less c.if-branch.false) fewer;
+          (subst (λ (b : Bool). IsTold (net_of c.args.graph.now) c.args.fault.now (held_by c.loop-good.facts) c.loop-good.tree b (held_by c.write_good.new.facts) c.write_good.new.tree) c.if-branch.false c.in_ok-write_good.ensures.told)
+          (c.in_ok-write_good.ensures.less c.if-branch.false) fewer;
       leaves = leaves_join c.args.watch.now c.loop-good.watch c.write_good.new.watch c.loop-good.invariant.leaves c.in_ok-write_good.ensures.leaves;
     }
 
@@ -141,7 +151,9 @@ write_good-write_cases-requires t c =
           (
             c.requires.size,
             (
-              c.requires.settled, (c.requires.room, (c.requires.blank, opposite_cases (net_of c.args.graph.now) c.args.fault.now c.args.depth (held_by c.args.facts.now) (held_by c.args.facts.now) c.args.value (map (λ n. n.0) c.args.drivers.now) c.args.good.node.0 c.args.good.value c.requires.cases (λ x fact e. e) c.requires.settled.free (known_held (held_by c.args.facts.now) c.args.good.node.0 (not c.args.good.value) known)))),
+              c.requires.settled,
+              (c.requires.room, (c.requires.blank, opposite_cases (net_of c.args.graph.now) c.args.fault.now c.args.depth (held_by c.args.facts.now) (held_by c.args.facts.now) c.args.value (map (λ n. n.0) c.args.drivers.now) c.args.good.node.0 c.args.good.value c.requires.cases (λ x fact e. e) c.requires.settled.free (known_held (held_by c.args.facts.now) c.args.good.node.0 (not c.args.good.value) known))),
+            ),
           ),
         ),
       ),
@@ -270,7 +282,9 @@ write_split-write_cases-requires t c =
           (
             rw c.in_ok-tell.ensures.keeps.size c.requires.size,
             (
-              settled, (c.requires.room, (c.requires.blank, opposite_cases (net_of c.args.graph.now) c.args.fault.now c.args.depth (held_by c.args.facts.now) (held_by c.tell.new.facts) c.args.value (map (λ n. n.0) c.args.drivers.now) c.args.good.node.0 c.args.good.value c.requires.cases c.in_ok-tell.ensures.keeps.more settled.free (c.in_ok-tell.ensures.there c.if-not-branch.true)))),
+              settled,
+              (c.requires.room, (c.requires.blank, opposite_cases (net_of c.args.graph.now) c.args.fault.now c.args.depth (held_by c.args.facts.now) (held_by c.tell.new.facts) c.args.value (map (λ n. n.0) c.args.drivers.now) c.args.good.node.0 c.args.good.value c.requires.cases c.in_ok-tell.ensures.keeps.more settled.free (c.in_ok-tell.ensures.there c.if-not-branch.true))),
+            ),
           ),
         ),
       ),
@@ -288,10 +302,18 @@ write_cases-write_case-requires t c =
           (
             rw c.loop-driver.invariant.writing.going.keeps.size c.requires.size,
             (
-              c.loop-driver.invariant.writing.going.settled, (room_leaves (net_of c.args.graph.now) c.args.watch.now c.loop-driver.watch c.loop-driver.invariant.leaves c.requires.room, (blank_leaves c.args.watch.now c.loop-driver.watch c.loop-driver.invariant.leaves c.requires.blank, (
-                driver_live (net_of c.args.graph.now) c.well_formed-2.ensures.net c.requires.cases.cases.gate reads.0 (get_or c.args.drivers.now c.loop-driver.driver-index (record { 0 = 0 })).0 reads.1,
-                λ more within is. c.requires.cases.clash c.loop-driver.driver-index (get_or c.args.drivers.now c.loop-driver.driver-index (record { 0 = 0 })).0 there more (λ x fact e. within x fact (c.loop-driver.invariant.writing.going.keeps.more x fact e)) is,
-              )))),
+              c.loop-driver.invariant.writing.going.settled,
+              (
+                room_leaves (net_of c.args.graph.now) c.args.watch.now c.loop-driver.watch c.loop-driver.invariant.leaves c.requires.room,
+                (
+                  blank_leaves c.args.watch.now c.loop-driver.watch c.loop-driver.invariant.leaves c.requires.blank,
+                  (
+                    driver_live (net_of c.args.graph.now) c.well_formed-2.ensures.net c.requires.cases.cases.gate reads.0 (get_or c.args.drivers.now c.loop-driver.driver-index (record { 0 = 0 })).0 reads.1,
+                    λ more within is. c.requires.cases.clash c.loop-driver.driver-index (get_or c.args.drivers.now c.loop-driver.driver-index (record { 0 = 0 })).0 there more (λ x fact e. within x fact (c.loop-driver.invariant.writing.going.keeps.more x fact e)) is,
+                  ),
+                ),
+              ),
+            ),
           ),
         ),
       ),
@@ -301,7 +323,7 @@ pub write_cases-loop-driver-preserved : goal.write_cases-loop-driver-preserved
 write_cases-loop-driver-preserved t c =
     record {
       writing = cases_more (net_of c.args.graph.now) c.args.fault.now c.args.value (map (λ n. n.0) c.args.drivers.now) c.loop-driver.driver-index (get_or c.args.drivers.now c.loop-driver.driver-index (record { 0 = 0 })).0 c.args.engine.now c.loop-driver.engine c.write_case.new.engine c.args.facts.now c.loop-driver.facts c.write_case.new.facts c.args.tree.now c.loop-driver.tree c.write_case.new.tree c.loop-driver.invariant.writing (driver_at c.args.drivers.now c.loop-driver.driver-index (record { 0 = 0 }) (omega arith)) c.in_ok-write_case.ensures.keeps
-      (subst (λ (b : Bool). IsTold (net_of c.args.graph.now) c.args.fault.now (held_by c.loop-driver.facts) c.loop-driver.tree b (held_by c.write_case.new.facts) c.write_case.new.tree) c.if-branch.false c.in_ok-write_case.ensures.told) (c.in_ok-write_case.ensures.other c.if-branch.false);
+          (subst (λ (b : Bool). IsTold (net_of c.args.graph.now) c.args.fault.now (held_by c.loop-driver.facts) c.loop-driver.tree b (held_by c.write_case.new.facts) c.write_case.new.tree) c.if-branch.false c.in_ok-write_case.ensures.told) (c.in_ok-write_case.ensures.other c.if-branch.false);
       leaves = leaves_join c.args.watch.now c.loop-driver.watch c.write_case.new.watch c.loop-driver.invariant.leaves c.in_ok-write_case.ensures.leaves;
     }
 

@@ -1,9 +1,7 @@
-use Rattle.std.proofs.Common.{List, Some, ap, get_or, length, subst, suc, sym, ◌∙◌, ◌≡◌, ℕ}
-use Rattle.std.specs.Prelude.{slice_get}
+use Rattle.std.proofs.Common.{get_or, ◌∙◌, ◌≡◌}
 use Rattle.implications.proofs.Agendas.{read_is}
 use Rattle.recursive_learning.proofs.Indexes.{watched_last}
 use Rattle.recursive_learning.proofs.resting.Rests.add.Goals as goal
-use Rattle.recursive_learning.specs.declared.resting.Entry.{Entry}
 
 pub returns-then-is_of_gate-clause-watched : goal.returns-then-is_of_gate-clause-watched
 returns-then-is_of_gate-clause-watched c =

@@ -1,12 +1,11 @@
-use Rattle.std.proofs.Common.{List, Some, ap, arith, get_or, length, length-set, refl, subst, suc, sym, true, ◌+◌, ◌-◌, ◌<◌, ◌∙◌, ◌≡◌, ◌≤◌, ℕ}
-use Rattle.std.specs.Prelude.{slice_get, slice_index}
+use Rattle.std.proofs.Common.{ap, arith, get_or, length, length-set, refl, subst, suc, true, ◌-◌, ◌<◌, ◌∙◌, ◌≡◌, ◌≤◌, ℕ}
+use Rattle.std.specs.Prelude.{slice_index}
 use Rattle.gate_graph.proofs.Marking.{seen_kept, seen_new}
 use Rattle.gate_graph.specs.Search.{IsSeen}
 use Rattle.implications.proofs.Agendas.{read_is}
 use Rattle.recursive_learning.proofs.Indexes.{SeesFrom, entry_read, entry_within, last_itself, sees_first, sees_next}
 use Rattle.recursive_learning.proofs.resting.Rests.list_at.Goals as goal
 use Rattle.recursive_learning.specs.Resting.{IsLast, RestsState}
-use Rattle.recursive_learning.specs.declared.resting.Entry.{Entry}
 
 pub loop-number-init : goal.loop-number-init
 loop-number-init c =

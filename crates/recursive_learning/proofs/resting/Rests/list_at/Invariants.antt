@@ -1,4 +1,4 @@
-use Rattle.std.proofs.Common.{length, ℕ, ◌≡◌, ◌≤◌}
+use Rattle.std.proofs.Common.{length, ℕ, ◌≡◌}
 use Rattle.gate_graph.specs.Search.{IsSeen}
 use Rattle.recursive_learning.proofs.Indexes.{SeesFrom}
 use Rattle.recursive_learning.specs.Resting.{IsLast}

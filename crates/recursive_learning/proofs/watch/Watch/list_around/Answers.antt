@@ -1,9 +1,8 @@
-use Rattle.std.proofs.Common.{ap, arith, inl, inr, length, subst, sym, ◌<◌, ◌∙◌, ◌≡◌, ℕ}
+use Rattle.std.proofs.Common.{ap, arith, inl, inr, length, subst, sym, ◌<◌, ◌∙◌, ℕ}
 use Rattle.gate_graph.specs.Circuit.{net_of}
 use Rattle.implications.proofs.Readers.{all_came, next_below}
 use Rattle.recursive_learning.proofs.Watches.{listed_still, room_still, still_join}
 use Rattle.recursive_learning.specs.Watching.{HasRoom, IsListedAt}
-use Rattle.recursive_learning.specs.Resting.{RestsState}
 use Rattle.refutation.proofs.OnlyReaders.{last_of, place_of}
 use Rattle.refutation.proofs.Yielding.{yielded_more}
 use Rattle.rm_base.specs.declared.numbers.NodeId.{NodeId}

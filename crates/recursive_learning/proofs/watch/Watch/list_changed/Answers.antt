@@ -1,4 +1,4 @@
-use Rattle.std.proofs.Common.{arith, false, get_or, length, ℕ, ◌<◌}
+use Rattle.std.proofs.Common.{arith, false, length, ◌<◌}
 use Rattle.std.proofs.lemmas.Option.{slice_get_within}
 use Rattle.gate_graph.specs.Circuit.{net_of}
 use Rattle.recursive_learning.proofs.Watches.{Around, UpTo, around_map, listed_still, still_join, up_to_map, up_to_more}

@@ -1,4 +1,3 @@
-use Rattle.std.proofs.Common.{ℕ}
 use Rattle.gate_graph.specs.Circuit.{net_of}
 use Rattle.recursive_learning.proofs.Watches.{Around, UpTo}
 use Rattle.recursive_learning.specs.Watching.{IsListedAt, StillLists}

@@ -1,4 +1,4 @@
-use Rattle.std.proofs.Common.{ap, arith, inl, inr, length, subst, sym, ◌<◌, ◌∙◌, ◌≡◌, ℕ}
+use Rattle.std.proofs.Common.{ap, arith, inl, inr, length, subst, sym, ◌<◌, ◌∙◌, ℕ}
 use Rattle.gate_graph.specs.Circuit.{net_of}
 use Rattle.implications.proofs.Readers.{all_came, next_below}
 use Rattle.recursive_learning.proofs.Watches.{leaves_more, room_leaves}

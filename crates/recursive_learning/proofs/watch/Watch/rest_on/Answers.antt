@@ -1,4 +1,4 @@
-use Rattle.std.proofs.Common.{arith, false, get_or, length, ℕ, ◌<◌}
+use Rattle.std.proofs.Common.{arith, false, length, ℕ, ◌<◌}
 use Rattle.std.proofs.lemmas.Option.{slice_get_within}
 use Rattle.gate_graph.specs.Circuit.{net_of}
 use Rattle.recursive_learning.proofs.Indexes.{watched_longer}
