@@ -1,5 +1,5 @@
 -- A line asks for facts at its place and at the drivers of that alone.
-use Rattle.std.proofs.Common.{Some, ap, false, map, refl, subst, sym, true, ℕ, ◌≡◌}
+use Rattle.std.proofs.Common.{None, Some, ap, false, map, refl, subst, sym, true, ℕ, ◌≡◌}
 use Rattle.std.specs.List.{list_all}
 use Rattle.std.specs.Prelude.{IsTrue, if◌then◌else◌, nat_eq, slice_set}
 use Rattle.gate_net.specs.Forward.{all_but, is_known, value_back, value_forward}
@@ -132,3 +132,23 @@ module _ (net : Net) (fault : Fault) (held other : Held) (y : ℕ) (here : Agree
         h.7,
         h.8,
       )
+
+-- a line without a place asks for no facts
+pub first_local : (net : Net) (fault : Fault) (held other : Held) (l : Line) (x : ℕ) (fact : Fact) → place_of l ≡ None → Concludes net fault held l x fact → Concludes net fault other l x fact
+first_local net fault held other Act x fact e h = h
+first_local net fault held other Site x fact e h = h
+first_local net fault held other (Chain z) x fact e h = h
+first_local net fault held other (Out z) x fact e h = h
+first_local net fault held other (Constant z) x fact e h = cc
+first_local net fault held other (GoodForward z) x fact e h = cc
+first_local net fault held other (Compare z) x fact e h = cc
+first_local net fault held other (FaultyForward z) x fact e h = cc
+first_local net fault held other (ToFaulty z) x fact e h = cc
+first_local net fault held other (ToGood z) x fact e h = cc
+first_local net fault held other (NotDiffers z) x fact e h = cc
+first_local net fault held other (NotEqual z) x fact e h = cc
+first_local net fault held other (EqualForward z) x fact e h = cc
+first_local net fault held other (GoodBack z q) x fact e h = cc
+first_local net fault held other (FaultyBack z q) x fact e h = cc
+first_local net fault held other (DiffersBack z q) x fact e h = cc
+first_local net fault held other (Side z q) x fact e h = cc

@@ -1,5 +1,5 @@
 //! What holds of lines and of trails.
-ghost use Rattle.implications.specs.Laws.{LinesForce, ClashesForce, TrailTells};
+ghost use Rattle.implications.specs.Laws.{LinesForce, ClashesForce, LinesAreLocal, FirstLinesAskNothing, TrailTells};
 
 /// A closed set without a clash that contains some facts contains all to which lines lead from them.
 pub fn lines_force()
@@ -10,4 +10,10 @@ pub fn lines_force()
 /// What leads back is what was added.
 pub fn trails_tell()
     ensures { TrailTells }
+{}
+
+/// A line asks for facts at its place and at the drivers of that alone, and one without a place for none.
+pub fn lines_are_local()
+    ensures local { LinesAreLocal }
+    ensures first { FirstLinesAskNothing }
 {}

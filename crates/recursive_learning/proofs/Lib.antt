@@ -12,3 +12,8 @@ pub mod Vecs
 pub mod Splits
 pub mod Writes
 pub mod Refutes
+pub mod Indexes
+pub mod Regions
+pub mod Watches
+pub mod Turns
+pub mod Missing

@@ -1,6 +1,5 @@
 -- Looking at the gates, one after another.
-use Rattle.std.proofs.Common.{Bool, List, Some, [], arith, false, inl, inr, length, refl, subst, suc, sym, true, ℕ, ◌+◌, ◌<◌, ◌∷◌, ◌≡◌, ◌≢◌, ◌≤◌}
-use Rattle.std.proofs.lemmas.Bool.{cases_lt}
+use Rattle.std.proofs.Common.{Bool, List, Some, [], arith, false, length, refl, subst, suc, true, ℕ, ◌<◌, ◌∷◌, ◌≡◌, ◌≢◌, ◌≤◌}
 use Rattle.std.specs.Prelude.{slice_get}
 use Rattle.gate_net.specs.Net.{Net}
 use Rattle.gate_net.specs.Values.{IsJunction}
@@ -10,16 +9,15 @@ use Rattle.recursive_learning.proofs.Gains.{keeps_join, keeps_none}
 use Rattle.recursive_learning.proofs.Learns.{clashes_are_learned, values_are_learned}
 use Rattle.recursive_learning.specs.Gates.{AreJustifications, HasTaught, NoneGives}
 use Rattle.recursive_learning.specs.Least.{AreForced}
-use Rattle.recursive_learning.specs.Lessons.{AreFound, HoldsAll, IsAll, IsGained, IsLesson, IsNothingNew, IsOne, IsRound}
+use Rattle.recursive_learning.specs.Lessons.{AreFound, HoldsAll, IsGained, IsLesson, IsNothingNew, IsRound}
 use Rattle.recursive_learning.specs.Working.{AreSettled, IsLearned, Keeps}
 use Rattle.recursive_learning.specs.declared.lessons.Learned.{Learned}
-use Rattle.recursive_learning.specs.declared.lessons.Round.{Round}
-use Rattle.recursive_learning.specs.declared.lessons.Round.TheVariants.{Clash, Gained, Quiet}
+use Rattle.recursive_learning.specs.declared.lessons.Round.TheVariants.{Gained}
 use Rattle.refutation.proofs.Closings.{with_there}
 use Rattle.refutation.proofs.Depths.{lines_of}
 use Rattle.refutation.proofs.Told.{kind_live}
 use Rattle.refutation.specs.Closing.{IsClashFree, IsWithin}
-use Rattle.refutation.specs.FactSets.{held_by, missing}
+use Rattle.refutation.specs.FactSets.{held_by}
 use Rattle.refutation.specs.Facts.{Held, known_good}
 use Rattle.refutation.specs.Learning.{HasFew, HasLearned, IsClosedAt, IsJustification, LeadsToClash}
 use Rattle.refutation.specs.declared.held.NodeFacts.{NodeFacts}
@@ -76,64 +74,14 @@ learning_more net fault depth before middle after start now then l keeps settled
 }
 
 -- no gate has anything to teach
-pub learning_quiet : (net : Net) (fault : Fault) (depth : ℕ) (before after : EngineState) (start now : List NodeFacts) → Learning net fault (suc depth) before after start now → ((y : ℕ) → IsAll y → HasTaught net fault depth (held_by now) y) → IsLearned net fault (suc depth) (held_by start) false (held_by now)
+pub learning_quiet : (net : Net) (fault : Fault) (depth : ℕ) (before after : EngineState) (start now : List NodeFacts) → Learning net fault (suc depth) before after start now → ((y : ℕ) → HasTaught net fault depth (held_by now) y) → IsLearned net fault (suc depth) (held_by start) false (held_by now)
 learning_quiet net fault depth before after start now l taught = (
-  record { within = l.keeps.more; free = l.settled.free; closed = (l.settled.closed, λ y c unjustified few. taught y tt c unjustified few); least = l.forced },
+  record { within = l.keeps.more; free = l.settled.free; closed = (l.settled.closed, taught); least = l.forced },
   l.settled,
 )
 
--- A PASS
-pub record Passing (net : Net) (fault : Fault) (depth number : ℕ) (before after : EngineState) (start now : List NodeFacts) (round : Round) : Type 0 where
-  pub learning : Learning net fault (suc depth) before after start now
-  pub less : missing now ≤ missing start
-  pub quiet : round ≡ Quiet → (now ≡ start) × ((y : ℕ) → y < number → HasTaught net fault depth (held_by start) y)
-  pub gained : round ≡ Gained → missing now < missing start
-  pub no_clash : round ≢ Clash
-
-pub passing_none : (net : Net) (fault : Fault) (depth : ℕ) (e : EngineState) (start : List NodeFacts) → AreSettled net fault (held_by start) → Passing net fault depth 0 e e start start Quiet
-passing_none net fault depth e start settled = record {
-  learning = learning_none net fault (suc depth) e start settled;
-  less = omega arith;
-  quiet = λ is. (refl, λ y less. absurd (omega arith));
-  gained = λ is. cc;
-  no_clash = λ is. cc;
-}
-
-pub passing_gained : (net : Net) (fault : Fault) (depth number : ℕ) (before middle after : EngineState) (start now then : List NodeFacts) (round : Round) (y : ℕ) → Passing net fault depth number before middle start now round → Keeps middle after now then → IsRound net fault depth (IsOne y) now Gained then → Passing net fault depth (number + 1) before after start then Gained
-passing_gained net fault depth number before middle after start now then round y p keeps gained = record {
-  learning = learning_more net fault (suc depth) before middle after start now then p.learning keeps gained.0 gained.1.0;
-  less = let a : missing now ≤ missing start = p.less in let b : missing then < missing now = gained.1.1 in omega arith;
-  quiet = λ is. cc;
-  gained = λ is. let a : missing now ≤ missing start = p.less in let b : missing then < missing now = gained.1.1 in omega arith;
-  no_clash = λ is. cc;
-}
-
-pub passing_quiet : (net : Net) (fault : Fault) (depth number : ℕ) (before middle after : EngineState) (start now then : List NodeFacts) (round : Round) → Passing net fault depth number before middle start now round → Keeps middle after now then → IsRound net fault depth (IsOne number) now Quiet then → Passing net fault depth (number + 1) before after start then round
-passing_quiet net fault depth number before middle after start now then round p keeps quiet =
-    subst (λ (f : List NodeFacts). Passing net fault depth (number + 1) before after start f round) (sym quiet.0) (record {
-      learning = record { keeps = keeps_join before middle after start now now p.learning.keeps (subst (λ (f : List NodeFacts). Keeps middle after now f) quiet.0 keeps); settled = p.learning.settled; forced = p.learning.forced };
-      less = p.less;
-      quiet = λ is. (
-        (p.quiet is).0,
-        λ y less. elim (cases_lt y number) [
-          | inl lt ↦ (p.quiet is).1 y lt
-          | inr ge ↦ let same : y ≡ number = omega arith in subst (λ (f : List NodeFacts). HasTaught net fault depth (held_by f) y) (p.quiet is).0 (quiet.1 y same)
-        ],
-      );
-      gained = p.gained;
-      no_clash = p.no_clash;
-    })
-
-pub passing_clash : (net : Net) (fault : Fault) (depth number : ℕ) (before middle : EngineState) (start now then : List NodeFacts) (round : Round) (gates : ℕ → Type 0) → Passing net fault depth number before middle start now round → IsRound net fault depth gates now Clash then → LeadsToClash net fault (suc depth) (held_by start)
-passing_clash net fault depth number before middle start now then round gates p clash = forced_clash net fault (suc depth) (held_by start) (held_by now) p.learning.forced clash
-
 pub junction_below : (net : Net) (y : ℕ) (c : Bool) → IsJunction net y c → y < length net.nodes
 junction_below net y c junction = kind_live net y (junction.0, junction.1.0)
-
-pub passed : (net : Net) (fault : Fault) (depth number : ℕ) (before after : EngineState) (start now : List NodeFacts) (round : Round) → length net.nodes ≤ number → Passing net fault depth number before after start now round → IsRound net fault depth IsAll start round now
-passed net fault depth number before after start now Clash end p = absurd (p.no_clash refl)
-passed net fault depth number before after start now Gained end p = (p.learning.settled, (p.learning.forced, p.gained refl))
-passed net fault depth number before after start now Quiet end p = ((p.quiet refl).0, λ y any c unjustified few. (p.quiet refl).1 y (let below : y < length net.nodes = junction_below net y c unjustified.junction in omega arith) c unjustified few)
 
 -- A VISIT
 pub few_of : (net : Net) (held : Held) (y : ℕ) (ds : List ℕ) → AreJustifications net held y ds → HasFew net held y

@@ -88,9 +88,6 @@ Teaches net fault depth held y (Some l) = IsLesson net fault depth held y l.valu
 abbrev pub AreOpen : Net → Held → List ℕ → Type 0
 AreOpen net held ds = (k d : ℕ) → slice_get ds k ≡ Some d → IsLive net d × (known_good held d ≡ None)
 
-abbrev pub IsAll : ℕ → Type 0
-IsAll y = Unit {0}
-
 abbrev pub IsOne : ℕ → ℕ → Type 0
 IsOne x y = y ≡ x
 
@@ -100,3 +97,8 @@ IsRound net fault depth gates start Clash now = LeadsToClash net fault (suc dept
 IsRound net fault depth gates start Gained now =
     AreSettled net fault (held_by now) × (AreForced net fault (suc depth) (held_by start) (held_by now) × (missing now < missing start))
 IsRound net fault depth gates start Quiet now = (now ≡ start) × ((y : ℕ) → gates y → HasTaught net fault depth (held_by start) y)
+
+-- from the facts at the start: a clash at depth 1, or more facts that are forced
+abbrev pub HasLooked : Net → Fault → Held → Bool → Held → Type 0
+HasLooked net fault start true now = LeadsToClash net fault 1 start
+HasLooked net fault start false now = AreSettled net fault now × AreForced net fault 1 start now

@@ -6,3 +6,5 @@ pub mod Lessons
 pub mod Telling
 pub mod Writing
 pub mod Answers
+pub mod Resting
+pub mod Watching

@@ -7,9 +7,12 @@ pub mod laws;
 mod learning;
 mod lessons;
 mod refuting;
+mod resting;
 mod telling;
 #[cfg(test)]
 mod tests;
+mod turning;
+mod watch;
 mod writing;
 
 pub use refuting::refute;

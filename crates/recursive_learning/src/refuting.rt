@@ -9,11 +9,13 @@ ghost use Rattle.refutation.specs.Facts.{none_held};
 ghost use Rattle.refutation.specs.FactSets.{held_by};
 ghost use Rattle.refutation.specs.Learning.{LeadsToClash};
 ghost use Rattle.recursive_learning.specs.Answers.{IsDeepened, IsRefuting};
+ghost use Rattle.recursive_learning.specs.Watching.{HasRoom, IsBlank, IsWatching, Lengthens};
 ghost use Rattle.recursive_learning.specs.Working.{AreSettled, Keeps};
 ghost use Rattle.recursive_learning.specs.Least.{AreForced};
 
 use crate::learning::learn;
 use crate::telling::push_lines;
+use crate::watch::Watch;
 use crate::writing::write;
 use gate_graph::Graph;
 use implications::{Closed, Engine};
@@ -27,12 +29,15 @@ fn written(
     engine: &mut Engine,
     graph: &Graph,
     fault: &Fault,
+    watch: &mut Watch,
     depth: u8,
     facts: FactSet,
 ) -> Result<Tree, NoMemory>
     requires pin { HasPin (net_of graph.now) fault.now }
     requires numbers { length (net_of graph.now).nodes ≤ engine.old.numbers }
     requires size { length (net_of graph.now).nodes ≤ length facts }
+    requires room { HasRoom (net_of graph.now) watch.old }
+    requires blank { IsBlank watch.old }
     requires settled { AreSettled (net_of graph.now) fault.now (held_by facts) }
     requires lines { LinesLead (net_of graph.now) fault.now none_held engine.old.lines (held_by facts) }
     requires clash { LeadsToClash (net_of graph.now) fault.now depth (held_by facts) }
@@ -44,7 +49,9 @@ fn written(
     let mark = engine.mark();
     let mut tree = TreeBuilder::new(alloc);
     push_lines(&mut tree, engine.lines())?;
-    write(alloc, engine, graph, fault, &mut held, depth, &mut tree)?;
+    write(
+        alloc, engine, graph, fault, &mut held, watch, depth, &mut tree,
+    )?;
     engine.take_back(&mut held, mark);
     Ok(tree.finish())
 }
@@ -55,10 +62,13 @@ fn tree_of(
     engine: &mut Engine,
     graph: &Graph,
     fault: &Fault,
+    watch: &mut Watch,
     depth: u8,
 ) -> Result<Tree, NoMemory>
     requires pin { HasPin (net_of graph.now) fault.now }
     requires numbers { length (net_of graph.now).nodes ≤ engine.old.numbers }
+    requires room { HasRoom (net_of graph.now) watch.old }
+    requires blank { IsBlank watch.old }
     requires clash { LeadsToClash (net_of graph.now) fault.now depth none_held }
     ensures accepted { IfOk result (λ t. AreAccepted (net_of graph.now) fault.now t) }
     ensures numbers { OnOk result (engine.new.numbers ≡ engine.old.numbers) }
@@ -67,7 +77,7 @@ fn tree_of(
     graph.well_formed();
     match engine.close(graph, fault)? {
         Closed::Clash(tree) => Ok(tree),
-        Closed::Open(facts) => written(alloc, engine, graph, fault, depth, facts),
+        Closed::Open(facts) => written(alloc, engine, graph, fault, watch, depth, facts),
     }
 }
 
@@ -78,19 +88,23 @@ fn deepen(
     graph: &Graph,
     fault: &Fault,
     facts: &mut FactSet,
+    watch: &mut Watch,
     depth: u8,
 ) -> Result<Option<u8>, NoMemory>
     requires pin { HasPin (net_of graph.now) fault.now }
     requires numbers { length (net_of graph.now).nodes ≤ engine.old.numbers }
     requires size { length (net_of graph.now).nodes ≤ length facts.old }
     requires settled { AreSettled (net_of graph.now) fault.now (held_by facts.old) }
+    requires room { HasRoom (net_of graph.now) watch.old }
+    requires watching { IsWatching (net_of graph.now) fault.now (held_by facts.old) watch.old }
     requires depth { depth ≤ 2 }
     ensures deepened { IfOk result (λ level. IsDeepened (net_of graph.now) fault.now depth (held_by facts.old) level (held_by facts.new)) }
     ensures keeps { IfOk result (λ _. Keeps engine.old engine.new facts.old facts.new) }
+    ensures lengthens { OnOk result (Lengthens watch.old watch.new) }
 {
     let _mark = engine.mark();
     for level in 0..depth {
-        if learn(alloc, engine, graph, fault, facts, level + 1)? {
+        if learn(alloc, engine, graph, fault, facts, watch, level + 1)? {
             return Ok(Some(level + 1));
         }
     }
@@ -116,16 +130,21 @@ fn refute_open(
     ensures numbers { OnOk result (engine.new.numbers ≡ engine.old.numbers) }
     ensures trail { OnOk result (length engine.new.trail ≡ length engine.old.trail) }
 {
+    if depth == 0 {
+        return Ok(Closed::Open(facts));
+    }
     let mut held = facts;
     let mut nothing = FactSet::for_numbers(alloc, 0)?;
+    let mut watch = Watch::new(alloc, graph.node_bound())?;
     let mark = engine.mark();
-    let clash = deepen(alloc, engine, graph, fault, &mut held, depth)?;
+    let clash = deepen(alloc, engine, graph, fault, &mut held, &mut watch, depth)?;
     // What was learned stays: the trail is cut without it.
     engine.take_back(&mut nothing, mark);
     let Some(level) = clash else {
         return Ok(Closed::Open(held));
     };
-    let tree = tree_of(alloc, engine, graph, fault, level)?;
+    watch.forget();
+    let tree = tree_of(alloc, engine, graph, fault, &mut watch, level)?;
     Ok(Closed::Clash(tree))
 }
 

@@ -8,12 +8,14 @@ ghost use Rattle.refutation.specs.FactSets.{held_by, missing};
 ghost use Rattle.refutation.specs.Learning.{LeadsToClash};
 ghost use Rattle.recursive_learning.specs.Lessons.{IsLesson};
 ghost use Rattle.recursive_learning.specs.Telling.{Ends, IsTold};
+ghost use Rattle.recursive_learning.specs.Watching.{HasRoom, IsBlank, LeavesList};
 ghost use Rattle.recursive_learning.specs.Writing.{CaseClashes, CasesClash, IsWritten, OppositeClashes};
 ghost use Rattle.recursive_learning.specs.Working.{AreSettled, Keeps};
 
 use crate::learning::lesson_at;
 use crate::lessons::{Learned, Lesson};
 use crate::telling::tell;
+use crate::watch::Watch;
 use gate_graph::Graph;
 use implications::Engine;
 use refutation::pins::{Aspect, known};
@@ -29,6 +31,7 @@ pub fn write(
     graph: &Graph,
     fault: &Fault,
     facts: &mut FactSet,
+    watch: &mut Watch,
     depth: u8,
     tree: &mut TreeBuilder,
 ) -> Result<(), NoMemory>
@@ -36,15 +39,18 @@ pub fn write(
     requires numbers { length (net_of graph.now).nodes ≤ engine.old.numbers }
     requires size { length (net_of graph.now).nodes ≤ length facts.old }
     requires settled { AreSettled (net_of graph.now) fault.now (held_by facts.old) }
+    requires room { HasRoom (net_of graph.now) watch.old }
+    requires blank { IsBlank watch.old }
     requires clash { LeadsToClash (net_of graph.now) fault.now depth (held_by facts.old) }
     ensures ends { OnOk result (Ends (net_of graph.now) fault.now (held_by facts.old) tree.old tree.new) }
     ensures keeps { OnOk result (Keeps engine.old engine.new facts.old facts.new) }
+    ensures leaves { OnOk result (LeavesList watch.old watch.new) }
 {
     let _mark = engine.mark();
     if depth == 0 {
         return Ok(());
     }
-    while !write_pass(alloc, engine, graph, fault, facts, depth - 1, tree)? {}
+    while !write_pass(alloc, engine, graph, fault, facts, watch, depth - 1, tree)? {}
     Ok(())
 }
 
@@ -56,6 +62,7 @@ fn write_pass(
     graph: &Graph,
     fault: &Fault,
     facts: &mut FactSet,
+    watch: &mut Watch,
     depth: u8,
     tree: &mut TreeBuilder,
 ) -> Result<bool, NoMemory>
@@ -63,10 +70,13 @@ fn write_pass(
     requires numbers { length (net_of graph.now).nodes ≤ engine.old.numbers }
     requires size { length (net_of graph.now).nodes ≤ length facts.old }
     requires settled { AreSettled (net_of graph.now) fault.now (held_by facts.old) }
+    requires room { HasRoom (net_of graph.now) watch.old }
+    requires blank { IsBlank watch.old }
     requires clash { LeadsToClash (net_of graph.now) fault.now (suc depth) (held_by facts.old) }
     ensures told { IfOk result (λ ended. IsTold (net_of graph.now) fault.now (held_by facts.old) tree.old ended (held_by facts.new) tree.new) }
     ensures fewer { IfOk result (λ ended. ended ≡ false → missing facts.new < missing facts.old) }
     ensures keeps { IfOk result (λ _. Keeps engine.old engine.new facts.old facts.new) }
+    ensures leaves { OnOk result (LeavesList watch.old watch.new) }
 {
     let _mark = engine.mark();
     for number in 0..graph.node_bound() {
@@ -76,6 +86,7 @@ fn write_pass(
             graph,
             fault,
             facts,
+            watch,
             depth,
             NodeId(number),
             tree,
@@ -94,6 +105,7 @@ fn write_gate(
     graph: &Graph,
     fault: &Fault,
     facts: &mut FactSet,
+    watch: &mut Watch,
     depth: u8,
     gate: NodeId,
     tree: &mut TreeBuilder,
@@ -102,15 +114,20 @@ fn write_gate(
     requires numbers { length (net_of graph.now).nodes ≤ engine.old.numbers }
     requires size { length (net_of graph.now).nodes ≤ length facts.old }
     requires settled { AreSettled (net_of graph.now) fault.now (held_by facts.old) }
+    requires room { HasRoom (net_of graph.now) watch.old }
+    requires blank { IsBlank watch.old }
     ensures written { IfOk result (λ ended. IsWritten (net_of graph.now) fault.now depth gate.0 facts.old tree.old ended facts.new tree.new) }
     ensures keeps { IfOk result (λ _. Keeps engine.old engine.new facts.old facts.new) }
+    ensures leaves { OnOk result (LeavesList watch.old watch.new) }
 {
     let _mark = engine.mark();
-    let Some(lesson) = lesson_at(alloc, engine, graph, fault, facts, depth, gate)? else {
+    let Some(lesson) = lesson_at(alloc, engine, graph, fault, facts, watch, depth, gate)? else {
         return Ok(false);
     };
     if lesson.found {
-        let ended = write_goods(alloc, engine, graph, fault, facts, depth, &lesson, tree)?;
+        let ended = write_goods(
+            alloc, engine, graph, fault, facts, watch, depth, &lesson, tree,
+        )?;
         return Ok(ended);
     }
     write_cases(
@@ -119,6 +136,7 @@ fn write_gate(
         graph,
         fault,
         facts,
+        watch,
         depth,
         lesson.value,
         &lesson.drivers,
@@ -135,6 +153,7 @@ fn write_goods(
     graph: &Graph,
     fault: &Fault,
     facts: &mut FactSet,
+    watch: &mut Watch,
     depth: u8,
     lesson: &Lesson,
     tree: &mut TreeBuilder,
@@ -143,11 +162,14 @@ fn write_goods(
     requires numbers { length (net_of graph.now).nodes ≤ engine.old.numbers }
     requires size { length (net_of graph.now).nodes ≤ length facts.old }
     requires settled { AreSettled (net_of graph.now) fault.now (held_by facts.old) }
+    requires room { HasRoom (net_of graph.now) watch.old }
+    requires blank { IsBlank watch.old }
     requires lesson { (y : ℕ) × IsLesson (net_of graph.now) fault.now depth (held_by facts.old) y lesson.now.value (map (λ n. n.0) lesson.now.drivers.items) lesson.now.found lesson.now.goods.items }
     requires found { lesson.now.found ≡ true }
     ensures told { IfOk result (λ ended. IsTold (net_of graph.now) fault.now (held_by facts.old) tree.old ended (held_by facts.new) tree.new) }
     ensures fewer { IfOk result (λ ended. ended ≡ false → missing facts.new < missing facts.old) }
     ensures keeps { IfOk result (λ _. Keeps engine.old engine.new facts.old facts.new) }
+    ensures leaves { OnOk result (LeavesList watch.old watch.new) }
 {
     let _mark = engine.mark();
     for good in &lesson.goods {
@@ -157,6 +179,7 @@ fn write_goods(
             graph,
             fault,
             facts,
+            watch,
             depth,
             lesson.value,
             &lesson.drivers,
@@ -177,6 +200,7 @@ fn write_good(
     graph: &Graph,
     fault: &Fault,
     facts: &mut FactSet,
+    watch: &mut Watch,
     depth: u8,
     value: bool,
     drivers: &[NodeId],
@@ -187,12 +211,15 @@ fn write_good(
     requires numbers { length (net_of graph.now).nodes ≤ engine.old.numbers }
     requires size { length (net_of graph.now).nodes ≤ length facts.old }
     requires settled { AreSettled (net_of graph.now) fault.now (held_by facts.old) }
+    requires room { HasRoom (net_of graph.now) watch.old }
+    requires blank { IsBlank watch.old }
     requires node { IsLive (net_of graph.now) good.node.0 }
     requires cases { OppositeClashes (net_of graph.now) fault.now depth (held_by facts.old) value (map (λ n. n.0) drivers.now) good.node.0 good.value }
     ensures told { IfOk result (λ ended. IsTold (net_of graph.now) fault.now (held_by facts.old) tree.old ended (held_by facts.new) tree.new) }
     ensures less { IfOk result (λ ended. ended ≡ false → missing facts.new ≤ missing facts.old) }
     ensures fewer { IfOk result (λ ended. ended ≡ false → known_good (held_by facts.old) good.node.0 ≡ None → missing facts.new < missing facts.old) }
     ensures keeps { IfOk result (λ _. Keeps engine.old engine.new facts.old facts.new) }
+    ensures leaves { OnOk result (LeavesList watch.old watch.new) }
 {
     graph.well_formed();
     if let Some(known_value) = known(facts, Aspect::OfGood, good.node) {
@@ -201,12 +228,12 @@ fn write_good(
             return Ok(false);
         }
         write_cases(
-            alloc, engine, graph, fault, facts, depth, value, drivers, tree,
+            alloc, engine, graph, fault, facts, watch, depth, value, drivers, tree,
         )?;
         return Ok(true);
     }
     write_split(
-        alloc, engine, graph, fault, facts, depth, value, drivers, good, tree,
+        alloc, engine, graph, fault, facts, watch, depth, value, drivers, good, tree,
     )
 }
 
@@ -218,6 +245,7 @@ fn write_split(
     graph: &Graph,
     fault: &Fault,
     facts: &mut FactSet,
+    watch: &mut Watch,
     depth: u8,
     value: bool,
     drivers: &[NodeId],
@@ -228,12 +256,15 @@ fn write_split(
     requires numbers { length (net_of graph.now).nodes ≤ engine.old.numbers }
     requires size { length (net_of graph.now).nodes ≤ length facts.old }
     requires settled { AreSettled (net_of graph.now) fault.now (held_by facts.old) }
+    requires room { HasRoom (net_of graph.now) watch.old }
+    requires blank { IsBlank watch.old }
     requires node { IsLive (net_of graph.now) good.node.0 }
     requires unknown { known_good (held_by facts.old) good.node.0 ≡ None }
     requires cases { OppositeClashes (net_of graph.now) fault.now depth (held_by facts.old) value (map (λ n. n.0) drivers.now) good.node.0 good.value }
     ensures told { IfOk result (λ ended. IsTold (net_of graph.now) fault.now (held_by facts.old) tree.old ended (held_by facts.new) tree.new) }
     ensures fewer { IfOk result (λ ended. ended ≡ false → missing facts.new < missing facts.old) }
     ensures keeps { IfOk result (λ _. Keeps engine.old engine.new facts.old facts.new) }
+    ensures leaves { OnOk result (LeavesList watch.old watch.new) }
 {
     let mark = engine.mark();
     tree.push(Item::Split {
@@ -242,7 +273,7 @@ fn write_split(
     })?;
     if !tell(engine, graph, fault, facts, good.node, !good.value, tree)? {
         write_cases(
-            alloc, engine, graph, fault, facts, depth, value, drivers, tree,
+            alloc, engine, graph, fault, facts, watch, depth, value, drivers, tree,
         )?;
     }
     engine.take_back(facts, mark);
@@ -258,6 +289,7 @@ fn write_cases(
     graph: &Graph,
     fault: &Fault,
     facts: &mut FactSet,
+    watch: &mut Watch,
     depth: u8,
     value: bool,
     drivers: &[NodeId],
@@ -267,15 +299,18 @@ fn write_cases(
     requires numbers { length (net_of graph.now).nodes ≤ engine.old.numbers }
     requires size { length (net_of graph.now).nodes ≤ length facts.old }
     requires settled { AreSettled (net_of graph.now) fault.now (held_by facts.old) }
+    requires room { HasRoom (net_of graph.now) watch.old }
+    requires blank { IsBlank watch.old }
     requires cases { CasesClash (net_of graph.now) fault.now depth (held_by facts.old) value (map (λ n. n.0) drivers.now) }
     ensures ends { OnOk result (Ends (net_of graph.now) fault.now (held_by facts.old) tree.old tree.new) }
     ensures keeps { OnOk result (Keeps engine.old engine.new facts.old facts.new) }
+    ensures leaves { OnOk result (LeavesList watch.old watch.new) }
 {
     graph.well_formed();
     let _mark = engine.mark();
     for driver in drivers {
         if write_case(
-            alloc, engine, graph, fault, facts, depth, value, *driver, tree,
+            alloc, engine, graph, fault, facts, watch, depth, value, *driver, tree,
         )? {
             return Ok(());
         }
@@ -291,6 +326,7 @@ fn write_case(
     graph: &Graph,
     fault: &Fault,
     facts: &mut FactSet,
+    watch: &mut Watch,
     depth: u8,
     value: bool,
     driver: NodeId,
@@ -300,23 +336,26 @@ fn write_case(
     requires numbers { length (net_of graph.now).nodes ≤ engine.old.numbers }
     requires size { length (net_of graph.now).nodes ≤ length facts.old }
     requires settled { AreSettled (net_of graph.now) fault.now (held_by facts.old) }
+    requires room { HasRoom (net_of graph.now) watch.old }
+    requires blank { IsBlank watch.old }
     requires node { IsLive (net_of graph.now) driver.0 }
     requires clash { CaseClashes (net_of graph.now) fault.now depth (held_by facts.old) value driver.0 }
     ensures told { IfOk result (λ ended. IsTold (net_of graph.now) fault.now (held_by facts.old) tree.old ended (held_by facts.new) tree.new) }
     ensures other { IfOk result (λ ended. ended ≡ false → IsTrue (held_by facts.new driver.0 (Fact.Good (not value)))) }
     ensures keeps { IfOk result (λ _. Keeps engine.old engine.new facts.old facts.new) }
+    ensures leaves { OnOk result (LeavesList watch.old watch.new) }
 {
     graph.well_formed();
     if let Some(known_value) = known(facts, Aspect::OfGood, driver) {
         if known_value == value {
-            write(alloc, engine, graph, fault, facts, depth, tree)?;
+            write(alloc, engine, graph, fault, facts, watch, depth, tree)?;
             return Ok(true);
         }
         let _mark = engine.mark();
         return Ok(false);
     }
     write_branches(
-        alloc, engine, graph, fault, facts, depth, value, driver, tree,
+        alloc, engine, graph, fault, facts, watch, depth, value, driver, tree,
     )
 }
 
@@ -328,6 +367,7 @@ fn write_branches(
     graph: &Graph,
     fault: &Fault,
     facts: &mut FactSet,
+    watch: &mut Watch,
     depth: u8,
     value: bool,
     driver: NodeId,
@@ -337,12 +377,15 @@ fn write_branches(
     requires numbers { length (net_of graph.now).nodes ≤ engine.old.numbers }
     requires size { length (net_of graph.now).nodes ≤ length facts.old }
     requires settled { AreSettled (net_of graph.now) fault.now (held_by facts.old) }
+    requires room { HasRoom (net_of graph.now) watch.old }
+    requires blank { IsBlank watch.old }
     requires node { IsLive (net_of graph.now) driver.0 }
     requires unknown { known_good (held_by facts.old) driver.0 ≡ None }
     requires clash { CaseClashes (net_of graph.now) fault.now depth (held_by facts.old) value driver.0 }
     ensures told { IfOk result (λ ended. IsTold (net_of graph.now) fault.now (held_by facts.old) tree.old ended (held_by facts.new) tree.new) }
     ensures other { IfOk result (λ ended. ended ≡ false → IsTrue (held_by facts.new driver.0 (Fact.Good (not value)))) }
     ensures keeps { IfOk result (λ _. Keeps engine.old engine.new facts.old facts.new) }
+    ensures leaves { OnOk result (LeavesList watch.old watch.new) }
 {
     let mark = engine.mark();
     tree.push(Item::Split {
@@ -350,7 +393,7 @@ fn write_branches(
         first: value,
     })?;
     if !tell(engine, graph, fault, facts, driver, value, tree)? {
-        write(alloc, engine, graph, fault, facts, depth, tree)?;
+        write(alloc, engine, graph, fault, facts, watch, depth, tree)?;
     }
     engine.take_back(facts, mark);
     let ended = tell(engine, graph, fault, facts, driver, !value, tree)?;

@@ -86,6 +86,33 @@ const LEARNS: [Gate; 16] = [
     Gate::And(25, 10),
 ];
 
+// (a + b) ((e a + e b)' + P) (e p + e q) f, where P is (h i + h j) (h' k + h' l). If f stuck at 1 is detected, all three
+// are 1. At first neither a + b nor the second one teaches anything: e isn't known, so neither a nor b leads to e a + e b.
+// The third one, which comes last, teaches e. Only then do both a and b lead to e a + e b, and so to P, which clashes at
+// depth 1: the two sums have to be looked at again for a fact that is on none of their drivers.
+const FAR: [Gate; 20] = [
+    Gate::Or(2, 3),
+    Gate::And(4, 2),
+    Gate::And(4, 3),
+    Gate::Or(14, 15),
+    Gate::Not(16),
+    Gate::Not(7),
+    Gate::And(7, 8),
+    Gate::And(7, 9),
+    Gate::And(18, 10),
+    Gate::And(18, 11),
+    Gate::Or(19, 20),
+    Gate::Or(21, 22),
+    Gate::And(23, 24),
+    Gate::Or(17, 25),
+    Gate::And(4, 5),
+    Gate::And(4, 6),
+    Gate::Or(27, 28),
+    Gate::And(13, 26),
+    Gate::And(30, 29),
+    Gate::And(31, 12),
+];
+
 // Whether the checker accepts the tree.
 fn is_accepted(alloc: Global, graph: &Graph, fault: &Fault, tree: &Tree) -> Result<bool, NoMemory>
     requires { HasPin (net_of graph.now) fault.now }
@@ -188,6 +215,13 @@ fn each_needs_its_depth(rt: HostRuntime) -> Result<(), Fail> {
             gates: &LEARNS,
             observed: 26,
             fault: fault(26, 1, true),
+            from: 1,
+        },
+        Case {
+            sources: 11,
+            gates: &FAR,
+            observed: 32,
+            fault: fault(32, 1, true),
             from: 1,
         },
     ];

@@ -1,8 +1,10 @@
-use Rattle.std.proofs.Common.{Option, subst, ℕ}
+use Rattle.std.proofs.Common.{Option, subst, sym, ℕ}
 use Rattle.gate_graph.specs.Circuit.{net_of}
 use Rattle.implications.specs.Trail.{LeadsBack}
 use Rattle.recursive_learning.proofs.Refutes.{clash_at_deeper, clash_of_all, least_of_all}
+use Rattle.recursive_learning.proofs.Rounds.{learned_none}
 use Rattle.recursive_learning.specs.Answers.{IsDeepened}
+use Rattle.recursive_learning.specs.Least.{IsLeastAt}
 use Rattle.refutation.specs.FactSets.{held_by}
 use Rattle.refutation.specs.Facts.{none_held}
 use Rattle.recursive_learning.proofs.refuting.refute_open.Goals as goal
@@ -20,3 +22,10 @@ returns-clause-refuting c = (clash_at_deeper (net_of c.args.graph.now) c.args.fa
 
 pub returns-in_default-clause-refuting : goal.returns-in_default-clause-refuting
 returns-in_default-clause-refuting c = (least_of_all (net_of c.args.graph.now) c.args.fault.now c.args.depth (held_by c.args.facts) (held_by c.deepen.new.facts) c.requires.forced (subst (λ (o : Option ℕ). IsDeepened (net_of c.args.graph.now) c.args.fault.now c.args.depth (held_by c.args.facts) o (held_by c.deepen.new.facts)) c.in_default.is c.in_ok-clash.ensures.deepened), rw c.in_ok-clash.ensures.keeps.size c.requires.size)
+
+pub returns-then-depth-eq0-clause-refuting : goal.returns-then-depth-eq0-clause-refuting
+returns-then-depth-eq0-clause-refuting c = (
+  subst (λ (n : ℕ). IsLeastAt (net_of c.args.graph.now) c.args.fault.now n none_held (held_by c.args.facts)) (sym c.if-depth-eq0.true)
+      (least_of_all (net_of c.args.graph.now) c.args.fault.now 0 (held_by c.args.facts) (held_by c.args.facts) c.requires.forced (learned_none (net_of c.args.graph.now) c.args.fault.now (held_by c.args.facts) c.requires.settled).0),
+  c.requires.size,
+)

@@ -10,6 +10,7 @@ use Rattle.recursive_learning.proofs.Live.{driver_live}
 use Rattle.recursive_learning.proofs.Rounds.{taken_back}
 use Rattle.recursive_learning.proofs.Splits.{beq_other, lesson_cases, lesson_opposite, may_split, no_driver, not_not, opposite_cases, place_less, split_told, told_ends}
 use Rattle.recursive_learning.proofs.Vecs.{driver_at}
+use Rattle.recursive_learning.proofs.Watches.{blank_leaves, leaves_join, leaves_none, room_leaves}
 use Rattle.recursive_learning.proofs.Writes.{cases_more, going_ends, going_more, goods_more, pass_fewer, pass_more}
 use Rattle.recursive_learning.specs.Lessons.{IsLesson, Teaches}
 use Rattle.recursive_learning.specs.Telling.{Ends, IsTold}
@@ -33,7 +34,7 @@ write-returns-then-depth-eq0-clause-ends t c =
 pub write-write_pass-requires : goal.write-write_pass-requires
 write-write_pass-requires t c =
     let e : suc (c.args.depth - 1) ≡ c.args.depth = let deep : c.args.depth ≢ 0 = c.loop.invariant.deep in omega arith in
-    (search rules, (c.requires.pin, (rw c.loop.invariant.going.keeps.numbers c.requires.numbers, (rw c.loop.invariant.going.keeps.size c.requires.size, (c.loop.invariant.going.settled, subst (λ (n : ℕ). LeadsToClash (net_of c.args.graph.now) c.args.fault.now n (held_by c.loop.facts)) (sym e) c.loop.invariant.clash)))))
+    (search rules, (c.requires.pin, (rw c.loop.invariant.going.keeps.numbers c.requires.numbers, (rw c.loop.invariant.going.keeps.size c.requires.size, (c.loop.invariant.going.settled, (room_leaves (net_of c.args.graph.now) c.args.watch.now c.loop.watch c.loop.invariant.leaves c.requires.room, (blank_leaves c.args.watch.now c.loop.watch c.loop.invariant.leaves c.requires.blank, subst (λ (n : ℕ). LeadsToClash (net_of c.args.graph.now) c.args.fault.now n (held_by c.loop.facts)) (sym e) c.loop.invariant.clash)))))))
 
 pub write-loop-preserved : goal.write-loop-preserved
 write-loop-preserved t c =
@@ -42,6 +43,7 @@ write-loop-preserved t c =
           (subst (λ (b : Bool). IsTold (net_of c.args.graph.now) c.args.fault.now (held_by c.loop.facts) c.loop.tree b (held_by c.write_pass.new.facts) c.write_pass.new.tree) c.if-not-branch.true c.in_ok-write_pass.ensures.told);
       clash = clashes_stay (net_of c.args.graph.now) c.args.fault.now c.args.depth (held_by c.loop.facts) (held_by c.write_pass.new.facts) c.in_ok-write_pass.ensures.keeps.more c.loop.invariant.clash;
       deep = c.loop.invariant.deep;
+      leaves = leaves_join c.args.watch.now c.loop.watch c.write_pass.new.watch c.loop.invariant.leaves c.in_ok-write_pass.ensures.leaves;
     }
 
 pub write-returns-clause-keeps : goal.write-returns-clause-keeps
@@ -50,16 +52,19 @@ write-returns-clause-keeps t c =
 
 pub write_pass-loop-number-preserved : goal.write_pass-loop-number-preserved
 write_pass-loop-number-preserved t c =
-    pass_more (net_of c.args.graph.now) c.args.fault.now c.args.depth c.loop-number.number c.args.engine.now c.loop-number.engine c.write_gate.new.engine c.args.facts.now c.loop-number.facts c.write_gate.new.facts c.args.tree.now c.loop-number.tree c.write_gate.new.tree c.loop-number.invariant c.in_ok-write_gate.ensures.keeps
-    (subst (λ (b : Bool). IsWritten (net_of c.args.graph.now) c.args.fault.now c.args.depth c.loop-number.number c.loop-number.facts c.loop-number.tree b c.write_gate.new.facts c.write_gate.new.tree) c.if-branch.false c.in_ok-write_gate.ensures.written)
+    record {
+      passing = pass_more (net_of c.args.graph.now) c.args.fault.now c.args.depth c.loop-number.number c.args.engine.now c.loop-number.engine c.write_gate.new.engine c.args.facts.now c.loop-number.facts c.write_gate.new.facts c.args.tree.now c.loop-number.tree c.write_gate.new.tree c.loop-number.invariant.passing c.in_ok-write_gate.ensures.keeps
+          (subst (λ (b : Bool). IsWritten (net_of c.args.graph.now) c.args.fault.now c.args.depth c.loop-number.number c.loop-number.facts c.loop-number.tree b c.write_gate.new.facts c.write_gate.new.tree) c.if-branch.false c.in_ok-write_gate.ensures.written);
+      leaves = leaves_join c.args.watch.now c.loop-number.watch c.write_gate.new.watch c.loop-number.invariant.leaves c.in_ok-write_gate.ensures.leaves;
+    }
 
 pub write_pass-returns-clause-fewer : goal.write_pass-returns-clause-fewer
 write_pass-returns-clause-fewer t c none =
-    pass_fewer (net_of c.args.graph.now) c.args.fault.now c.args.depth c.loop-number.number c.args.engine.now c.loop-number.engine c.args.facts.now c.loop-number.facts c.args.tree.now c.loop-number.tree (let bound = c.node_bound-number-end.ensures in omega arith) c.loop-number.invariant c.requires.settled c.requires.clash
+    pass_fewer (net_of c.args.graph.now) c.args.fault.now c.args.depth c.loop-number.number c.args.engine.now c.loop-number.engine c.args.facts.now c.loop-number.facts c.args.tree.now c.loop-number.tree (let bound = c.node_bound-number-end.ensures in omega arith) c.loop-number.invariant.passing c.requires.settled c.requires.clash
 
 pub write_pass-returns-then-branch-clause-keeps : goal.write_pass-returns-then-branch-clause-keeps
 write_pass-returns-then-branch-clause-keeps t c =
-    keeps_join c.args.engine.now c.loop-number.engine c.write_gate.new.engine c.args.facts.now c.loop-number.facts c.write_gate.new.facts c.loop-number.invariant.going.keeps c.in_ok-write_gate.ensures.keeps
+    keeps_join c.args.engine.now c.loop-number.engine c.write_gate.new.engine c.args.facts.now c.loop-number.facts c.write_gate.new.facts c.loop-number.invariant.passing.going.keeps c.in_ok-write_gate.ensures.keeps
 
 pub write_gate-returns-clause-keeps : goal.write_gate-returns-clause-keeps
 write_gate-returns-clause-keeps t c =
@@ -81,7 +86,7 @@ write_gate-write_cases-requires t c =
             rw c.in_ok-lesson.ensures.keeps.size c.requires.size,
             (
               rw c.in_ok-lesson.ensures.same c.requires.settled,
-              rw (c.deref.ensures.value, c.in_ok-lesson.ensures.same) (lesson_cases (net_of c.args.graph.now) c.args.fault.now c.args.depth (held_by c.args.facts.now) c.args.gate.0 c.in-Some.lesson.value (map (λ n. n.0) c.in-Some.lesson.drivers.items) c.in-Some.lesson.found c.in-Some.lesson.goods.items l c.if-lesson.false),
+              (room_leaves (net_of c.args.graph.now) c.args.watch.now c.lesson_at.new.watch c.in_ok-lesson.ensures.leaves c.requires.room, (blank_leaves c.args.watch.now c.lesson_at.new.watch c.in_ok-lesson.ensures.leaves c.requires.blank, rw (c.deref.ensures.value, c.in_ok-lesson.ensures.same) (lesson_cases (net_of c.args.graph.now) c.args.fault.now c.args.depth (held_by c.args.facts.now) c.args.gate.0 c.in-Some.lesson.value (map (λ n. n.0) c.in-Some.lesson.drivers.items) c.in-Some.lesson.found c.in-Some.lesson.goods.items l c.if-lesson.false))),
             ),
           ),
         ),
@@ -95,14 +100,20 @@ write_goods-write_good-requires t c =
       (
         c.requires.pin,
         (
-          rw c.loop-good.invariant.going.keeps.numbers c.requires.numbers,
+          rw c.loop-good.invariant.writing.going.keeps.numbers c.requires.numbers,
           (
-            rw c.loop-good.invariant.going.keeps.size c.requires.size,
+            rw c.loop-good.invariant.writing.going.keeps.size c.requires.size,
             (
-              c.loop-good.invariant.going.settled,
+              c.loop-good.invariant.writing.going.settled,
               (
-                (c.requires.lesson.1.new c.requires.found c.loop-good.good-index (get_or c.args.lesson.now.goods.items c.loop-good.good-index (record { node = record { 0 = 0 }; value = false })) (slice_get-get_or c.args.lesson.now.goods.items c.loop-good.good-index (record { node = record { 0 = 0 }; value = false }) (omega (arith, ap length c.deref-good-items.ensures.value)))).live,
-                lesson_opposite (net_of c.args.graph.now) c.args.fault.now c.args.depth (held_by c.args.facts.now) (held_by c.loop-good.facts) c.requires.lesson.0 c.args.lesson.now.value (map (λ n. n.0) c.args.lesson.now.drivers.items) c.args.lesson.now.found c.args.lesson.now.goods.items c.loop-good.good-index (get_or c.args.lesson.now.goods.items c.loop-good.good-index (record { node = record { 0 = 0 }; value = false })) c.requires.lesson.1 c.requires.found (slice_get-get_or c.args.lesson.now.goods.items c.loop-good.good-index (record { node = record { 0 = 0 }; value = false }) (omega (arith, ap length c.deref-good-items.ensures.value))) c.loop-good.invariant.going.keeps.more c.loop-good.invariant.going.settled.free,
+                room_leaves (net_of c.args.graph.now) c.args.watch.now c.loop-good.watch c.loop-good.invariant.leaves c.requires.room,
+                (
+                  blank_leaves c.args.watch.now c.loop-good.watch c.loop-good.invariant.leaves c.requires.blank,
+                  (
+                    (c.requires.lesson.1.new c.requires.found c.loop-good.good-index (get_or c.args.lesson.now.goods.items c.loop-good.good-index (record { node = record { 0 = 0 }; value = false })) (slice_get-get_or c.args.lesson.now.goods.items c.loop-good.good-index (record { node = record { 0 = 0 }; value = false }) (omega (arith, ap length c.deref-good-items.ensures.value)))).live,
+                    lesson_opposite (net_of c.args.graph.now) c.args.fault.now c.args.depth (held_by c.args.facts.now) (held_by c.loop-good.facts) c.requires.lesson.0 c.args.lesson.now.value (map (λ n. n.0) c.args.lesson.now.drivers.items) c.args.lesson.now.found c.args.lesson.now.goods.items c.loop-good.good-index (get_or c.args.lesson.now.goods.items c.loop-good.good-index (record { node = record { 0 = 0 }; value = false })) c.requires.lesson.1 c.requires.found (slice_get-get_or c.args.lesson.now.goods.items c.loop-good.good-index (record { node = record { 0 = 0 }; value = false }) (omega (arith, ap length c.deref-good-items.ensures.value))) c.loop-good.invariant.writing.going.keeps.more c.loop-good.invariant.writing.going.settled.free,
+                  ),
+                ),
               ),
             ),
           ),
@@ -113,17 +124,20 @@ write_goods-write_good-requires t c =
 pub write_goods-loop-good-preserved : goal.write_goods-loop-good-preserved
 write_goods-loop-good-preserved t c =
     let fewer : known_good (held_by c.loop-good.facts) (get_or c.args.lesson.now.goods.items c.loop-good.good-index (record { node = record { 0 = 0 }; value = false })).node.0 ≡ None → missing c.write_good.new.facts < missing c.loop-good.facts = rw c.deref-good-items.ensures.value at (c.in_ok-write_good.ensures.fewer c.if-branch.false) in
-    goods_more (net_of c.args.graph.now) c.args.fault.now c.loop-good.good-index c.args.engine.now c.loop-good.engine c.write_good.new.engine c.args.facts.now c.loop-good.facts c.write_good.new.facts c.args.tree.now c.loop-good.tree c.write_good.new.tree (get_or c.args.lesson.now.goods.items c.loop-good.good-index (record { node = record { 0 = 0 }; value = false })).node.0 c.loop-good.invariant (c.requires.lesson.1.new c.requires.found c.loop-good.good-index (get_or c.args.lesson.now.goods.items c.loop-good.good-index (record { node = record { 0 = 0 }; value = false })) (slice_get-get_or c.args.lesson.now.goods.items c.loop-good.good-index (record { node = record { 0 = 0 }; value = false }) (omega (arith, ap length c.deref-good-items.ensures.value)))).unknown c.in_ok-write_good.ensures.keeps
-    (subst (λ (b : Bool). IsTold (net_of c.args.graph.now) c.args.fault.now (held_by c.loop-good.facts) c.loop-good.tree b (held_by c.write_good.new.facts) c.write_good.new.tree) c.if-branch.false c.in_ok-write_good.ensures.told)
-    (c.in_ok-write_good.ensures.less c.if-branch.false) fewer
+    record {
+      writing = goods_more (net_of c.args.graph.now) c.args.fault.now c.loop-good.good-index c.args.engine.now c.loop-good.engine c.write_good.new.engine c.args.facts.now c.loop-good.facts c.write_good.new.facts c.args.tree.now c.loop-good.tree c.write_good.new.tree (get_or c.args.lesson.now.goods.items c.loop-good.good-index (record { node = record { 0 = 0 }; value = false })).node.0 c.loop-good.invariant.writing (c.requires.lesson.1.new c.requires.found c.loop-good.good-index (get_or c.args.lesson.now.goods.items c.loop-good.good-index (record { node = record { 0 = 0 }; value = false })) (slice_get-get_or c.args.lesson.now.goods.items c.loop-good.good-index (record { node = record { 0 = 0 }; value = false }) (omega (arith, ap length c.deref-good-items.ensures.value)))).unknown c.in_ok-write_good.ensures.keeps
+          (subst (λ (b : Bool). IsTold (net_of c.args.graph.now) c.args.fault.now (held_by c.loop-good.facts) c.loop-good.tree b (held_by c.write_good.new.facts) c.write_good.new.tree) c.if-branch.false c.in_ok-write_good.ensures.told)
+          (c.in_ok-write_good.ensures.less c.if-branch.false) fewer;
+      leaves = leaves_join c.args.watch.now c.loop-good.watch c.write_good.new.watch c.loop-good.invariant.leaves c.in_ok-write_good.ensures.leaves;
+    }
 
 pub write_goods-returns-then-branch-clause-keeps : goal.write_goods-returns-then-branch-clause-keeps
 write_goods-returns-then-branch-clause-keeps t c =
-    keeps_join c.args.engine.now c.loop-good.engine c.write_good.new.engine c.args.facts.now c.loop-good.facts c.write_good.new.facts c.loop-good.invariant.going.keeps c.in_ok-write_good.ensures.keeps
+    keeps_join c.args.engine.now c.loop-good.engine c.write_good.new.engine c.args.facts.now c.loop-good.facts c.write_good.new.facts c.loop-good.invariant.writing.going.keeps c.in_ok-write_good.ensures.keeps
 
 pub write_goods-returns-then-branch-clause-told : goal.write_goods-returns-then-branch-clause-told
 write_goods-returns-then-branch-clause-told t c =
-    going_ends (net_of c.args.graph.now) c.args.fault.now c.args.engine.now c.loop-good.engine c.args.facts.now c.loop-good.facts c.args.tree.now c.loop-good.tree c.write_good.new.tree c.loop-good.invariant.going
+    going_ends (net_of c.args.graph.now) c.args.fault.now c.args.engine.now c.loop-good.engine c.args.facts.now c.loop-good.facts c.args.tree.now c.loop-good.tree c.write_good.new.tree c.loop-good.invariant.writing.going
     (subst (λ (b : Bool). IsTold (net_of c.args.graph.now) c.args.fault.now (held_by c.loop-good.facts) c.loop-good.tree b (held_by c.write_good.new.facts) c.write_good.new.tree) c.if-branch.true c.in_ok-write_good.ensures.told)
 
 pub write_good-write_cases-requires : goal.write_good-write_cases-requires
@@ -138,7 +152,7 @@ write_good-write_cases-requires t c =
             c.requires.size,
             (
               c.requires.settled,
-              opposite_cases (net_of c.args.graph.now) c.args.fault.now c.args.depth (held_by c.args.facts.now) (held_by c.args.facts.now) c.args.value (map (λ n. n.0) c.args.drivers.now) c.args.good.node.0 c.args.good.value c.requires.cases (λ x fact e. e) c.requires.settled.free (known_held (held_by c.args.facts.now) c.args.good.node.0 (not c.args.good.value) known),
+              (c.requires.room, (c.requires.blank, opposite_cases (net_of c.args.graph.now) c.args.fault.now c.args.depth (held_by c.args.facts.now) (held_by c.args.facts.now) c.args.value (map (λ n. n.0) c.args.drivers.now) c.args.good.node.0 c.args.good.value c.requires.cases (λ x fact e. e) c.requires.settled.free (known_held (held_by c.args.facts.now) c.args.good.node.0 (not c.args.good.value) known))),
             ),
           ),
         ),
@@ -269,7 +283,7 @@ write_split-write_cases-requires t c =
             rw c.in_ok-tell.ensures.keeps.size c.requires.size,
             (
               settled,
-              opposite_cases (net_of c.args.graph.now) c.args.fault.now c.args.depth (held_by c.args.facts.now) (held_by c.tell.new.facts) c.args.value (map (λ n. n.0) c.args.drivers.now) c.args.good.node.0 c.args.good.value c.requires.cases c.in_ok-tell.ensures.keeps.more settled.free (c.in_ok-tell.ensures.there c.if-not-branch.true),
+              (c.requires.room, (c.requires.blank, opposite_cases (net_of c.args.graph.now) c.args.fault.now c.args.depth (held_by c.args.facts.now) (held_by c.tell.new.facts) c.args.value (map (λ n. n.0) c.args.drivers.now) c.args.good.node.0 c.args.good.value c.requires.cases c.in_ok-tell.ensures.keeps.more settled.free (c.in_ok-tell.ensures.there c.if-not-branch.true))),
             ),
           ),
         ),
@@ -284,14 +298,20 @@ write_cases-write_case-requires t c =
       (
         c.requires.pin,
         (
-          rw c.loop-driver.invariant.going.keeps.numbers c.requires.numbers,
+          rw c.loop-driver.invariant.writing.going.keeps.numbers c.requires.numbers,
           (
-            rw c.loop-driver.invariant.going.keeps.size c.requires.size,
+            rw c.loop-driver.invariant.writing.going.keeps.size c.requires.size,
             (
-              c.loop-driver.invariant.going.settled,
+              c.loop-driver.invariant.writing.going.settled,
               (
-                driver_live (net_of c.args.graph.now) c.well_formed-2.ensures.net c.requires.cases.cases.gate reads.0 (get_or c.args.drivers.now c.loop-driver.driver-index (record { 0 = 0 })).0 reads.1,
-                λ more within is. c.requires.cases.clash c.loop-driver.driver-index (get_or c.args.drivers.now c.loop-driver.driver-index (record { 0 = 0 })).0 there more (λ x fact e. within x fact (c.loop-driver.invariant.going.keeps.more x fact e)) is,
+                room_leaves (net_of c.args.graph.now) c.args.watch.now c.loop-driver.watch c.loop-driver.invariant.leaves c.requires.room,
+                (
+                  blank_leaves c.args.watch.now c.loop-driver.watch c.loop-driver.invariant.leaves c.requires.blank,
+                  (
+                    driver_live (net_of c.args.graph.now) c.well_formed-2.ensures.net c.requires.cases.cases.gate reads.0 (get_or c.args.drivers.now c.loop-driver.driver-index (record { 0 = 0 })).0 reads.1,
+                    λ more within is. c.requires.cases.clash c.loop-driver.driver-index (get_or c.args.drivers.now c.loop-driver.driver-index (record { 0 = 0 })).0 there more (λ x fact e. within x fact (c.loop-driver.invariant.writing.going.keeps.more x fact e)) is,
+                  ),
+                ),
               ),
             ),
           ),
@@ -301,14 +321,29 @@ write_cases-write_case-requires t c =
 
 pub write_cases-loop-driver-preserved : goal.write_cases-loop-driver-preserved
 write_cases-loop-driver-preserved t c =
-    cases_more (net_of c.args.graph.now) c.args.fault.now c.args.value (map (λ n. n.0) c.args.drivers.now) c.loop-driver.driver-index (get_or c.args.drivers.now c.loop-driver.driver-index (record { 0 = 0 })).0 c.args.engine.now c.loop-driver.engine c.write_case.new.engine c.args.facts.now c.loop-driver.facts c.write_case.new.facts c.args.tree.now c.loop-driver.tree c.write_case.new.tree c.loop-driver.invariant (driver_at c.args.drivers.now c.loop-driver.driver-index (record { 0 = 0 }) (omega arith)) c.in_ok-write_case.ensures.keeps
-    (subst (λ (b : Bool). IsTold (net_of c.args.graph.now) c.args.fault.now (held_by c.loop-driver.facts) c.loop-driver.tree b (held_by c.write_case.new.facts) c.write_case.new.tree) c.if-branch.false c.in_ok-write_case.ensures.told) (c.in_ok-write_case.ensures.other c.if-branch.false)
+    record {
+      writing = cases_more (net_of c.args.graph.now) c.args.fault.now c.args.value (map (λ n. n.0) c.args.drivers.now) c.loop-driver.driver-index (get_or c.args.drivers.now c.loop-driver.driver-index (record { 0 = 0 })).0 c.args.engine.now c.loop-driver.engine c.write_case.new.engine c.args.facts.now c.loop-driver.facts c.write_case.new.facts c.args.tree.now c.loop-driver.tree c.write_case.new.tree c.loop-driver.invariant.writing (driver_at c.args.drivers.now c.loop-driver.driver-index (record { 0 = 0 }) (omega arith)) c.in_ok-write_case.ensures.keeps
+          (subst (λ (b : Bool). IsTold (net_of c.args.graph.now) c.args.fault.now (held_by c.loop-driver.facts) c.loop-driver.tree b (held_by c.write_case.new.facts) c.write_case.new.tree) c.if-branch.false c.in_ok-write_case.ensures.told) (c.in_ok-write_case.ensures.other c.if-branch.false);
+      leaves = leaves_join c.args.watch.now c.loop-driver.watch c.write_case.new.watch c.loop-driver.invariant.leaves c.in_ok-write_case.ensures.leaves;
+    }
 
 pub write_cases-returns-then-branch-clause-keeps : goal.write_cases-returns-then-branch-clause-keeps
 write_cases-returns-then-branch-clause-keeps t c =
-    keeps_join c.args.engine.now c.loop-driver.engine c.write_case.new.engine c.args.facts.now c.loop-driver.facts c.write_case.new.facts c.loop-driver.invariant.going.keeps c.in_ok-write_case.ensures.keeps
+    keeps_join c.args.engine.now c.loop-driver.engine c.write_case.new.engine c.args.facts.now c.loop-driver.facts c.write_case.new.facts c.loop-driver.invariant.writing.going.keeps c.in_ok-write_case.ensures.keeps
 
 pub write_cases-returns-clause-ends : goal.write_cases-returns-clause-ends
 write_cases-returns-clause-ends t c =
-    absurd (no_driver (net_of c.args.graph.now) c.args.fault.now (held_by c.args.facts.now) (held_by c.loop-driver.facts) c.args.value (map (λ n. n.0) c.args.drivers.now) c.requires.cases.cases c.loop-driver.invariant.going.keeps.more c.loop-driver.invariant.going.settled
-    (λ k d at. c.loop-driver.invariant.others k d (let less : k < length (map (λ n. n.0) c.args.drivers.now) = place_less (map (λ n. n.0) c.args.drivers.now) k d at in let same : length (map (λ n. n.0) c.args.drivers.now) ≡ length c.args.drivers.now = length-map c.args.drivers.now (λ n. n.0) in omega arith) at))
+    absurd (no_driver (net_of c.args.graph.now) c.args.fault.now (held_by c.args.facts.now) (held_by c.loop-driver.facts) c.args.value (map (λ n. n.0) c.args.drivers.now) c.requires.cases.cases c.loop-driver.invariant.writing.going.keeps.more c.loop-driver.invariant.writing.going.settled
+    (λ k d at. c.loop-driver.invariant.writing.others k d (let less : k < length (map (λ n. n.0) c.args.drivers.now) = place_less (map (λ n. n.0) c.args.drivers.now) k d at in let same : length (map (λ n. n.0) c.args.drivers.now) ≡ length c.args.drivers.now = length-map c.args.drivers.now (λ n. n.0) in omega arith) at))
+
+pub write_split-returns-clause-leaves : goal.write_split-returns-clause-leaves
+write_split-returns-clause-leaves t c = elim c.if-not-branch.branch [
+  | write_split-then-not-branch+in_ok-write_cases w ↦ rw w.watch-is w.in_ok-write_cases.ensures.leaves
+  | write_split-else-not-branch w ↦ rw w.watch-is (leaves_none c.args.watch.now)
+]
+
+pub write_branches-returns-clause-leaves : goal.write_branches-returns-clause-leaves
+write_branches-returns-clause-leaves t c = elim c.if-not-branch.branch [
+  | write_branches-then-not-branch+in_ok-write w ↦ rw w.watch-is w.in_ok-write.ensures.leaves
+  | write_branches-else-not-branch w ↦ rw w.watch-is (leaves_none c.args.watch.now)
+]

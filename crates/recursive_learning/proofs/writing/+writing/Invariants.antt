@@ -1,6 +1,7 @@
 use Rattle.std.proofs.Common.{map, ◌*◌, ◌+◌, ◌≢◌}
 use Rattle.gate_graph.specs.Circuit.{net_of}
 use Rattle.recursive_learning.proofs.Writes.{CasesWriting, Going, GoodsWriting, PassWriting}
+use Rattle.recursive_learning.specs.Watching.{LeavesList}
 use Rattle.refutation.specs.FactSets.{held_by, missing}
 use Rattle.refutation.specs.Learning.{LeadsToClash}
 use Rattle.recursive_learning.proofs.writing.+writing.Given as goal
@@ -37,16 +38,26 @@ invariant-write-loop l = record {
   going : Going (net_of l.graph) l.fault l.initial.engine l.engine l.initial.facts l.facts l.initial.tree l.tree;
   clash : LeadsToClash (net_of l.graph) l.fault l.depth (held_by l.facts);
   deep : l.depth ≢ 0;
+  leaves : LeavesList l.fn.watch l.watch;
 }
 
 abbrev pub decreases-write-loop : goal.decreases-write-loop
 decreases-write-loop l = missing l.facts
 
 abbrev pub invariant-write_pass-loop-number : goal.invariant-write_pass-loop-number
-invariant-write_pass-loop-number l = PassWriting (net_of l.graph) l.fault l.depth l.number l.initial.engine l.engine l.initial.facts l.facts l.initial.tree l.tree
+invariant-write_pass-loop-number l = record {
+  passing : PassWriting (net_of l.graph) l.fault l.depth l.number l.initial.engine l.engine l.initial.facts l.facts l.initial.tree l.tree;
+  leaves : LeavesList l.fn.watch l.watch;
+}
 
 abbrev pub invariant-write_goods-loop-good : goal.invariant-write_goods-loop-good
-invariant-write_goods-loop-good l = GoodsWriting (net_of l.graph) l.fault l.good-index l.initial.engine l.engine l.initial.facts l.facts l.initial.tree l.tree
+invariant-write_goods-loop-good l = record {
+  writing : GoodsWriting (net_of l.graph) l.fault l.good-index l.initial.engine l.engine l.initial.facts l.facts l.initial.tree l.tree;
+  leaves : LeavesList l.fn.watch l.watch;
+}
 
 abbrev pub invariant-write_cases-loop-driver : goal.invariant-write_cases-loop-driver
-invariant-write_cases-loop-driver l = CasesWriting (net_of l.graph) l.fault l.value (map (λ n. n.0) l.drivers) l.driver-index l.initial.engine l.engine l.initial.facts l.facts l.initial.tree l.tree
+invariant-write_cases-loop-driver l = record {
+  writing : CasesWriting (net_of l.graph) l.fault l.value (map (λ n. n.0) l.drivers) l.driver-index l.initial.engine l.engine l.initial.facts l.facts l.initial.tree l.tree;
+  leaves : LeavesList l.fn.watch l.watch;
+}

@@ -1,0 +1,13 @@
+use Rattle.std.proofs.Common.{Some, map, ℕ, ◌++◌, ◌≡◌}
+use Rattle.std.specs.Prelude.{slice_get}
+use Rattle.recursive_learning.specs.Watching.{IsListedAt, StillLists}
+use Rattle.rm_base.specs.declared.numbers.NodeId.{NodeId}
+use Rattle.recursive_learning.proofs.watch.Watch.list_around.Given as goal
+
+abbrev pub invariant-loop-reader : goal.invariant-loop-reader
+invariant-loop-reader l = record {
+  all : l.initial.reader-iterator ≡ map (λ (p : NodeId × ℕ). (p.0.0, p.1)) l.yielded ++ l.reader-iterator;
+  still : StillLists l.fn.self l.self;
+  itself : IsListedAt l.self l.fn.node.0;
+  done : (k : ℕ) (place : NodeId × ℕ) → slice_get l.yielded k ≡ Some place → IsListedAt l.self place.0.0;
+}
