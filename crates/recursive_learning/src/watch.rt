@@ -100,7 +100,7 @@ impl Watch {
             return;
         };
         self.list_at(node);
-        for (reader, _position) in graph.fanouts_of(node) {
+        for reader in graph.readers_of(node) {
             self.list_at(reader);
         }
     }
@@ -129,7 +129,7 @@ impl Watch {
             return Ok(());
         };
         self.rests.add(gate, node)?;
-        for (reader, _position) in graph.fanouts_of(node) {
+        for reader in graph.readers_of(node) {
             self.rests.add(gate, reader)?;
         }
         Ok(())

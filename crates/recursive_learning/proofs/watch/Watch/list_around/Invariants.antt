@@ -6,8 +6,8 @@ use Rattle.recursive_learning.proofs.watch.Watch.list_around.Given as goal
 
 abbrev pub invariant-loop-reader : goal.invariant-loop-reader
 invariant-loop-reader l = record {
-  all : l.initial.reader-iterator ≡ map (λ (p : NodeId × ℕ). (p.0.0, p.1)) l.yielded ++ l.reader-iterator;
+  all : l.initial.reader-iterator ≡ map (λ (d : NodeId). d.0) l.yielded ++ l.reader-iterator;
   still : StillLists l.fn.self l.self;
   itself : IsListedAt l.self l.fn.node.0;
-  done : (k : ℕ) (place : NodeId × ℕ) → slice_get l.yielded k ≡ Some place → IsListedAt l.self place.0.0;
+  done : (k : ℕ) (gate : NodeId) → slice_get l.yielded k ≡ Some gate → IsListedAt l.self gate.0;
 }

@@ -7,8 +7,8 @@ use Rattle.recursive_learning.proofs.watch.Watch.rest_around.Given as goal
 
 abbrev pub invariant-loop-reader : goal.invariant-loop-reader
 invariant-loop-reader l = record {
-  all : l.initial.reader-iterator ≡ map (λ (p : NodeId × ℕ). (p.0.0, p.1)) l.yielded ++ l.reader-iterator;
+  all : l.initial.reader-iterator ≡ map (λ (d : NodeId). d.0) l.yielded ++ l.reader-iterator;
   leaves : LeavesList l.fn.self l.self;
   itself : IsWatched l.self.rests.entries l.fn.node.0 l.gate.0;
-  done : (k : ℕ) (place : NodeId × ℕ) → slice_get l.yielded k ≡ Some place → IsWatched l.self.rests.entries place.0.0 l.gate.0;
+  done : (k : ℕ) (gate : NodeId) → slice_get l.yielded k ≡ Some gate → IsWatched l.self.rests.entries gate.0 l.gate.0;
 }
