@@ -166,10 +166,6 @@ outside_ends net fault number old old_lines old_trail facts lines trail g all z 
     let below : x < length net.nodes = kind_live net x h.0 in
     g.done z.0 (omega arith) x fact h
 
--- a node that isn't marked
-pub out_not : (net : Net) (fault : Fault) (held : Held) (node : NodeId) → ((x : ℕ) → x ≡ node.0 → IsLive net x → x ≢ fault.gate.0 → (Reaches net fault.gate.0 x → ⊥) → ⊥) → IsAnswer net fault held (Out node) None
-out_not net fault held node never x fact h = never x h.3 h.0 h.1 h.2
-
 -- ALL OF THEM
 pub has_first : (net : Net) (fault : Fault) (facts : List NodeFacts) → AreDoneAtFault net fault facts → AreDoneOnChain net fault facts → AreDoneOutside net fault facts → HasFirst net fault (held_by facts)
 has_first net fault facts a b d Act x fact e h = a.0 x fact h

@@ -1,4 +1,3 @@
-pub mod Agendas
 pub mod Begins
 pub mod Closes
 pub mod CountRises
@@ -9,7 +8,6 @@ pub mod GateLines
 pub mod Local
 pub mod Places
 pub mod Pulling
-pub mod Reaches
 pub mod ReaderCounts
 pub mod Rising
 pub mod SettledNodes

@@ -2,27 +2,21 @@
 use Rattle.std.proofs.Common.{Bool, List, Some, [], ap, append-nil, arith, false, inl, inr, length, map, refl, subst, suc, sym, true, zero, ℕ, ◌++◌, ◌<◌, ◌∙◌, ◌∷◌, ◌≡◌, ◌≢◌}
 use Rattle.std.proofs.lemmas.Bool.{eq-eqb, eqb-true}
 use Rattle.std.proofs.lemmas.Bool.Decides.{eqb_tells}
-use Rattle.std.proofs.lemmas.Option.{slice_get-map}
-use Rattle.std.specs.Option.{option_map}
 use Rattle.std.specs.Prelude.{nat_eq, slice_get, slice_set}
 use Rattle.gate_graph.specs.Circuit.{Circuit, fanouts_of, net_of}
 use Rattle.gate_graph.specs.Readers.{ListReaders}
 use Rattle.gate_graph.specs.Search.{IsSeen}
 use Rattle.gate_net.proofs.Places.{map_at}
-use Rattle.gate_net.specs.Net.{Reads, drivers_of}
-use Rattle.implications.proofs.Agendas.{count-clear, seen_left, seen_stays}
+use Rattle.gate_net.specs.Net.{drivers_of}
+use Rattle.refutation.proofs.Agendas.{count-clear, seen_left, seen_stays}
 use Rattle.implications.proofs.CountRises.{counting-append}
-use Rattle.implications.proofs.Places.{reader_below}
-use Rattle.implications.specs.Agendas.{seen_count}
+use Rattle.refutation.specs.Agendas.{seen_count}
 use Rattle.implications.specs.Tallies.{counting}
 use Rattle.refutation.proofs.OnlyReaders.{map_found}
-use Rattle.refutation.proofs.Yielding.{yielded_at}
+use Rattle.refutation.proofs.Readers.{gate_in}
 use Rattle.rm_base.specs.declared.numbers.NodeId.{NodeId}
 
 -- PLACES OF ONE GATE
-abbrev gate_in : ℕ × ℕ → ℕ
-gate_in place = place.0
-
 marks_counted : (n : ℕ) (ds : List ℕ) → seen_count (map (nat_eq n) ds) ≡ counting (nat_eq n) ds
 marks_counted n [] = refl
 marks_counted n (d ∷ ds) = rw (marks_counted n ds) refl
@@ -80,33 +74,14 @@ readers_counted v listed n y = places_counted y (map (nat_eq n) ds) (fanouts_of 
 
 -- IN A LOOP
 module _ (v : Circuit) (n : ℕ) (listed : ListReaders v) (all : List ℕ) (is : all ≡ map (λ (place : ℕ × ℕ). place.0) (fanouts_of v n)) (yielded : List NodeId) where
-  -- the gate that comes next reads the node
-  pub next_reads : (x : NodeId) (rest rest' : List ℕ) → all ≡ map (λ (d : NodeId). d.0) yielded ++ rest → rest ≡ x.0 ∷ rest' → (p : ℕ) × Reads (net_of v) x.0 p n
-  next_reads x rest rest' e step =
-      let at : slice_get (map gate_in (fanouts_of v n)) (length yielded) ≡ Some x.0 = ap (λ (xs : List ℕ). slice_get xs (length yielded)) (sym is) ∙ yielded_at (λ (d : NodeId). d.0) all yielded x rest rest' e step in
-      let found : (place : ℕ × ℕ) × ((slice_get (fanouts_of v n) (length yielded) ≡ Some place) × (gate_in place ≡ x.0)) = map_found gate_in (fanouts_of v n) (length yielded) x.0 at in
-      (found.0.1, subst (λ (g : ℕ). Reads (net_of v) g found.0.1 n) found.1.1 (listed.reads n (length yielded) found.0 found.1.0))
-
-  pub next_below : (x : NodeId) (rest rest' : List ℕ) → all ≡ map (λ (d : NodeId). d.0) yielded ++ rest → rest ≡ x.0 ∷ rest' → x.0 < length (net_of v).nodes
-  next_below x rest rest' e step = let reads = next_reads x rest rest' e step in reader_below (net_of v) x.0 reads.0 n reads.1
-
-  -- it has come less often than it has pins that read the node
+  -- the gate that comes next has come less often than it has pins that read the node
   pub next_counted : (x : NodeId) (rest rest' : List ℕ) → all ≡ map (λ (d : NodeId). d.0) yielded ++ rest → rest ≡ x.0 ∷ rest' → counting (nat_eq x.0) (map (λ (d : NodeId). d.0) yielded) < counting (nat_eq n) (drivers_of (net_of v) x.0)
   next_counted x rest rest' e step =
       let whole : counting (nat_eq x.0) (map (λ (d : NodeId). d.0) yielded ++ rest) ≡ counting (nat_eq n) (drivers_of (net_of v) x.0) = ap (counting (nat_eq x.0)) (sym e ∙ is) ∙ readers_counted v listed n x.0 in
       let more : counting (nat_eq x.0) rest ≡ suc (counting (nat_eq x.0) rest') = rw step (rw (eq-eqb x.0 x.0 refl) refl) in
       omega (arith, counting-append (nat_eq x.0) (map (λ (d : NodeId). d.0) yielded) rest)
 
-  -- at the end each reader has come
-  pub all_came : (rest : List ℕ) → all ≡ map (λ (d : NodeId). d.0) yielded ++ rest → rest ≡ [] → (z p : ℕ) → Reads (net_of v) z p n → (k : ℕ) × ((gate : NodeId) × ((slice_get yielded k ≡ Some gate) × (gate.0 ≡ z)))
-  all_came rest e none z p reads =
-      let at : (k : ℕ) × (slice_get (fanouts_of v n) k ≡ Some (z, p)) = listed.all n (z, p) reads in
-      let whole : all ≡ map (λ (d : NodeId). d.0) yielded = e ∙ ap (λ (xs : List ℕ). map (λ (d : NodeId). d.0) yielded ++ xs) none ∙ append-nil (map (λ (d : NodeId). d.0) yielded) in
-      let there : slice_get (map gate_in (fanouts_of v n)) at.0 ≡ Some z = slice_get-map gate_in (fanouts_of v n) at.0 ∙ ap (option_map gate_in) at.1 in
-      let found : (x : NodeId) × ((slice_get yielded at.0 ≡ Some x) × (x.0 ≡ z)) = map_found (λ (d : NodeId). d.0) yielded at.0 z (ap (λ (xs : List ℕ). slice_get xs at.0) (sym whole ∙ is) ∙ there) in
-      (at.0, (found.0, (found.1.0, found.1.1)))
-
-  -- and as often as it has pins that read the node
+  -- at the end it has come as often as it has pins that read the node
   pub all_counted : (rest : List ℕ) → all ≡ map (λ (d : NodeId). d.0) yielded ++ rest → rest ≡ [] → (y : ℕ) → counting (nat_eq y) (map (λ (d : NodeId). d.0) yielded) ≡ counting (nat_eq n) (drivers_of (net_of v) y)
   all_counted rest e none y =
       let whole : all ≡ map (λ (d : NodeId). d.0) yielded = e ∙ ap (λ (xs : List ℕ). map (λ (d : NodeId). d.0) yielded ++ xs) none ∙ append-nil (map (λ (d : NodeId). d.0) yielded) in

@@ -9,10 +9,10 @@ use mathlib.Core.Path.{fun_ext}
 use Rattle.gate_graph.proofs.Searches.{none_seen}
 use Rattle.gate_graph.specs.Search.{IsSeen}
 use Rattle.gate_net.specs.Net.{Net, Reads, drivers_of}
-use Rattle.implications.proofs.Agendas.{count_within, seen_stays}
+use Rattle.refutation.proofs.Agendas.{count_within, seen_stays}
 use Rattle.implications.proofs.Local.{line_local}
 use Rattle.implications.proofs.Trails.{trail_tells, without-append}
-use Rattle.implications.specs.Agendas.{seen_count}
+use Rattle.refutation.specs.Agendas.{seen_count}
 use Rattle.implications.specs.Settled.{AgreeAt, IsFresh, IsSettled}
 use Rattle.implications.specs.Tallies.{AreTallied, TallyState}
 use Rattle.implications.specs.Trail.{AreAdded, LeadsBack, without_all}

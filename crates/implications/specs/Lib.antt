@@ -2,8 +2,6 @@ pub mod State
 pub mod Trail
 pub mod Outcomes
 pub mod Laws
-pub mod Agendas
-pub mod Reaching
 pub mod Settled
 pub mod Working
 pub mod Beginning

@@ -2,7 +2,7 @@
 use Rattle.std.specs.Prelude.{Bool, List, None, Option, Some, [], length, suc, ℕ, ◌*◌, ◌++◌, ◌+◌, ◌∷◌, ◌≡◌, ◌≤◌, ◌⊎◌}
 use Rattle.gate_graph.specs.Search.{IsSeen}
 use Rattle.gate_net.specs.Net.{Net, Reads}
-use Rattle.implications.specs.Agendas.{seen_count}
+use Rattle.refutation.specs.Agendas.{seen_count}
 use Rattle.implications.specs.Settled.{IsSettled}
 use Rattle.implications.specs.Trail.{LeadsBack}
 use Rattle.implications.specs.declared.found.Found.{Found}

@@ -6,21 +6,21 @@ ghost use Rattle.gate_graph.specs.Circuit.{net_of};
 ghost use Rattle.refutation.specs.Closing.{Clashes, IsClashFree};
 ghost use Rattle.refutation.specs.Facts.{known_good, with_fact};
 ghost use Rattle.refutation.specs.FactSets.{held_by};
+ghost use Rattle.refutation.specs.Sites.{IsSiteOf};
 ghost use Rattle.implications.specs.Outcomes.{IsClash, IsClosing, IsGrown, clash_items};
-ghost use Rattle.implications.specs.Reaching.{MarksReached};
 ghost use Rattle.implications.specs.Settled.{IsReady};
 ghost use Rattle.implications.specs.Trail.{IsLonger};
 ghost use Rattle.implications.specs.Working.{Closes, Keeps, Works};
 
-use crate::agenda::Agenda;
 use crate::first_lines::give_first;
 use crate::log::{Log, start};
 use crate::outcome::Closed;
-use crate::reaching::mark_reached;
 use crate::settling::work_off;
 use crate::state::Engine;
 use crate::tallies::Tallies;
 use gate_graph::Graph;
+use refutation::agenda::Agenda;
+use refutation::site::Site;
 use refutation::{Fact, FactSet, Item, Line, Tree, TreeBuilder};
 use rm_base::{Fault, NoMemory, NodeId};
 use std::alloc::Global;
@@ -29,7 +29,7 @@ use std::alloc::Global;
 fn add_all_lines(
     graph: &Graph,
     fault: &Fault,
-    reached: &[bool],
+    site: &Site,
     facts: &mut FactSet,
     log: &mut Log,
     agenda: &mut Agenda,
@@ -37,8 +37,7 @@ fn add_all_lines(
 ) -> Result<Option<NodeId>, NoMemory>
     requires ready { IsReady (net_of graph.now) fault.now facts.old }
     requires free { IsClashFree (held_by facts.old) }
-    requires marks { length (net_of graph.now).nodes ≤ length reached.now }
-    requires marked { MarksReached (net_of graph.now) fault.now.gate.0 reached.now }
+    requires site { IsSiteOf (net_of graph.now) fault.now.gate.0 site.now }
     requires agenda { length (net_of graph.now).nodes ≤ length agenda.old }
     requires room { length (net_of graph.now).nodes ≤ length tallies.old.counted }
     requires uncounted { tallies.old.counted ≡ replicate (length tallies.old.counted) false }
@@ -48,7 +47,7 @@ fn add_all_lines(
     ensures agenda { length agenda.new ≡ length agenda.old }
     ensures room { length tallies.new.counted ≡ length tallies.old.counted }
 {
-    if let Some(clash) = give_first(graph, fault, reached, facts, log)? {
+    if let Some(clash) = give_first(graph, fault, site, facts, log)? {
         return Ok(Some(clash));
     }
     agenda.add_all(graph.node_bound());
@@ -76,12 +75,11 @@ fn close_facts(
     log: &mut Log,
     agenda: &mut Agenda,
     tallies: &mut Tallies,
-    reached: &[bool],
+    site: &Site,
 ) -> Result<Closed, NoMemory>
     requires ready { IsReady (net_of graph.now) fault.now facts }
     requires free { IsClashFree (held_by facts) }
-    requires marks { length (net_of graph.now).nodes ≤ length reached.now }
-    requires marked { MarksReached (net_of graph.now) fault.now.gate.0 reached.now }
+    requires site { IsSiteOf (net_of graph.now) fault.now.gate.0 site.now }
     requires agenda { length (net_of graph.now).nodes ≤ length agenda.old }
     requires room { length (net_of graph.now).nodes ≤ length tallies.old.counted }
     requires uncounted { tallies.old.counted ≡ replicate (length tallies.old.counted) false }
@@ -91,7 +89,7 @@ fn close_facts(
     ensures agenda { length agenda.new ≡ length agenda.old }
     ensures room { length tallies.new.counted ≡ length tallies.old.counted }
 {
-    match add_all_lines(graph, fault, reached, &mut facts, log, agenda, tallies)? {
+    match add_all_lines(graph, fault, site, &mut facts, log, agenda, tallies)? {
         Some(node) => Ok(Closed::Clash(clash_tree(alloc, log.lines.as_slice(), node)?)),
         None => Ok(Closed::Open(facts)),
     }
@@ -116,7 +114,7 @@ impl Engine {
     {
         graph.well_formed();
         let mark = start(&mut self.log);
-        mark_reached(graph, fault.gate, &mut self.reached, &mut self.agenda);
+        self.site.mark(graph, fault.gate);
         let answer = close_facts(
             self.alloc,
             graph,
@@ -125,7 +123,7 @@ impl Engine {
             &mut self.log,
             &mut self.agenda,
             &mut self.tallies,
-            self.reached.as_slice(),
+            &self.site,
         );
         self.log.trail.truncate(mark);
         self.agenda.clear();

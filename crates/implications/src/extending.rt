@@ -12,12 +12,12 @@ ghost use Rattle.implications.specs.Settled.{IsReady};
 ghost use Rattle.implications.specs.Trail.{AreAdded, LeadsBack, TakesBack};
 ghost use Rattle.implications.specs.Working.{Keeps};
 
-use crate::agenda::Agenda;
 use crate::log::{Log, start};
 use crate::settling::work_off;
 use crate::state::Engine;
 use crate::tallies::{Tallies, touch};
 use gate_graph::Graph;
+use refutation::agenda::Agenda;
 use refutation::{Fact, FactSet};
 use rm_base::{Fault, NoMemory, NodeId};
 

@@ -3,10 +3,9 @@ ghost use Rattle.std.specs.Prelude.{◌≡◌, ◌≤◌, ℕ, IfOk, OnOk, None,
 ghost use Rattle.gate_graph.specs.Circuit.{net_of};
 ghost use Rattle.refutation.specs.Answers.{IsAnswer};
 ghost use Rattle.refutation.specs.Closing.{IsClashFree};
-ghost use Rattle.refutation.specs.Facts.{Held};
 ghost use Rattle.refutation.specs.FactSets.{held_by};
+ghost use Rattle.refutation.specs.Sites.{IsSiteOf};
 ghost use Rattle.implications.specs.Beginning.{Gives, AreDoneAtFault, AreDoneOnChain, AreDoneOutside};
-ghost use Rattle.implications.specs.Reaching.{MarksReached};
 ghost use Rattle.implications.specs.Settled.{IsDone, IsReady, HasFirst, place_of};
 ghost use Rattle.implications.specs.Working.{Works, Keeps};
 
@@ -14,7 +13,8 @@ use crate::found::Found;
 use crate::log::{Log, hold};
 use gate_graph::Graph;
 use refutation::chains::next_in_chain;
-use refutation::place_lines::{line_act, line_site};
+use refutation::place_lines::{line_act, line_out_marked, line_site};
+use refutation::site::Site;
 use refutation::{Fact, FactSet, Line};
 use rm_base::{Fault, NoMemory, NodeId};
 
@@ -96,42 +96,24 @@ fn give_on_chain(
     unreachable!()
 }
 
-// A node that isn't marked as reached from the faulty gate is equal.
-fn line_out(graph: &Graph, fault: &Fault, reached: &[bool], node: NodeId) -> Option<(NodeId, Fact)>
-    requires marks { length (net_of graph.now).nodes ≤ length reached.now }
-    requires marked { MarksReached (net_of graph.now) fault.now.gate.0 reached.now }
-    ensures { (held : Held) → IsAnswer (net_of graph.now) fault.now held (Line.Out node) result }
-{
-    graph.well_formed();
-    let _kind = graph.kind(node)?;
-    if node.0 == fault.gate.0 {
-        return None;
-    }
-    if reached[node.0 as usize] {
-        return None;
-    }
-    Some((node, Fact::Equal))
-}
-
 // The lines of the nodes that the faulty gate doesn't reach.
 fn give_outside(
     graph: &Graph,
     fault: &Fault,
-    reached: &[bool],
+    site: &Site,
     facts: &mut FactSet,
     log: &mut Log,
 ) -> Result<Option<NodeId>, NoMemory>
     requires ready { IsReady (net_of graph.now) fault.now facts.old }
     requires free { IsClashFree (held_by facts.old) }
-    requires marks { length (net_of graph.now).nodes ≤ length reached.now }
-    requires marked { MarksReached (net_of graph.now) fault.now.gate.0 reached.now }
+    requires site { IsSiteOf (net_of graph.now) fault.now.gate.0 site.now }
     ensures works { OnOk result (Works (net_of graph.now) fault.now facts.old log.old.lines.items facts.new log.new.lines.items) }
     ensures keeps { Keeps facts.old log.old.trail.items facts.new log.new.trail.items }
     ensures gives { IfOk result (Gives facts.new (AreDoneOutside (net_of graph.now) fault.now facts.new)) }
 {
     for number in 0..graph.node_bound() {
         let node = NodeId(number);
-        let given = line_out(graph, fault, reached, node);
+        let given = line_out_marked(graph, fault, node, site);
         if let Some(clash) = give(graph, fault, facts, log, Line::Out { node }, given)? {
             return Ok(Some(clash));
         }
@@ -143,14 +125,13 @@ fn give_outside(
 pub(crate) fn give_first(
     graph: &Graph,
     fault: &Fault,
-    reached: &[bool],
+    site: &Site,
     facts: &mut FactSet,
     log: &mut Log,
 ) -> Result<Option<NodeId>, NoMemory>
     requires ready { IsReady (net_of graph.now) fault.now facts.old }
     requires free { IsClashFree (held_by facts.old) }
-    requires marks { length (net_of graph.now).nodes ≤ length reached.now }
-    requires marked { MarksReached (net_of graph.now) fault.now.gate.0 reached.now }
+    requires site { IsSiteOf (net_of graph.now) fault.now.gate.0 site.now }
     ensures works { OnOk result (Works (net_of graph.now) fault.now facts.old log.old.lines.items facts.new log.new.lines.items) }
     ensures keeps { Keeps facts.old log.old.trail.items facts.new log.new.trail.items }
     ensures gives { IfOk result (Gives facts.new (HasFirst (net_of graph.now) fault.now (held_by facts.new))) }
@@ -161,5 +142,5 @@ pub(crate) fn give_first(
     if let Some(clash) = give_on_chain(graph, fault, facts, log)? {
         return Ok(Some(clash));
     }
-    give_outside(graph, fault, reached, facts, log)
+    give_outside(graph, fault, site, facts, log)
 }

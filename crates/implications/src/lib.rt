@@ -1,7 +1,6 @@
 //! The engine that closes a set of facts under every line of reasoning about a fault, exactly.
 #![tactic(auto)]
 
-pub mod agenda;
 mod closing;
 mod counts;
 mod done_lines;
@@ -15,7 +14,6 @@ mod next_line;
 mod outcome;
 mod pin_line;
 mod pulls;
-mod reaching;
 mod settling;
 mod side_line;
 mod state;

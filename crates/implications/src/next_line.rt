@@ -47,7 +47,12 @@ fn tried(
 }
 
 // The lines on one node's own values.
-pub(crate) fn value_line(graph: &Graph, fault: &Fault, facts: &FactSet, node: NodeId) -> Option<Found>
+pub(crate) fn value_line(
+    graph: &Graph,
+    fault: &Fault,
+    facts: &FactSet,
+    node: NodeId,
+) -> Option<Found>
     requires ready { IsReady (net_of graph.now) fault.now facts.now }
     ensures { Finds (net_of graph.now) fault.now facts.now (AreDoneValues (net_of graph.now) fault.now facts.now node) result }
 {

@@ -8,7 +8,6 @@ ghost use Rattle.implications.specs.Settled.{IsFresh, IsReady};
 ghost use Rattle.implications.specs.Tallies.{AreTallied};
 ghost use Rattle.implications.specs.Working.{IsPending, IsPendingBut, Touches, Holds, Works, Keeps, Outcome, Ending, work};
 
-use crate::agenda::Agenda;
 use crate::found::Found;
 use crate::log::{Log, hold};
 use crate::next_line::next_line;
@@ -16,6 +15,7 @@ use crate::sweeping::sweep;
 use crate::tallies::{Tallies, touch};
 use gate_graph::Graph;
 use refutation::FactSet;
+use refutation::agenda::Agenda;
 use rm_base::{Fault, NoMemory, NodeId};
 
 // Adds what was found, and puts its node and its readers on the agenda; whether two facts are now opposed on the node.

@@ -4,10 +4,11 @@ ghost use Rattle.gate_graph.specs.Circuit.{net_of};
 ghost use Rattle.refutation.specs.declared.held.NodeFacts.{NodeFacts};
 ghost use Rattle.implications.specs.Trail.{LeadsBack};
 
-use crate::agenda::{Agenda, no_marks};
 use crate::log::Log;
 use crate::tallies::Tallies;
 use gate_graph::Graph;
+use refutation::agenda::Agenda;
+use refutation::site::Site;
 use refutation::{Fact, Line};
 use rm_base::{NoMemory, NodeId};
 use std::alloc::Global;
@@ -20,7 +21,7 @@ pub struct Engine {
     pub(crate) log: Log,
     pub(crate) agenda: Agenda,
     pub(crate) tallies: Tallies,
-    pub(crate) reached: Vec<bool>,
+    pub(crate) site: Site,
 }
 
 impl Model for Engine {
@@ -31,7 +32,7 @@ impl Model for Engine {
 
     ghost view = { λ e. record { numbers = length e.agenda; lines = e.log.lines.items; trail = e.log.trail.items } };
 
-    ghost invariant = { λ e. (e.agenda ≡ replicate (length e.agenda) false) × (e.tallies.counted ≡ replicate (length e.agenda) false) × (length e.reached.items ≡ length e.agenda) };
+    ghost invariant = { λ e. (e.agenda ≡ replicate (length e.agenda) false) × (e.tallies.counted ≡ replicate (length e.agenda) false) × (length e.site.reached ≡ length e.agenda) };
 }
 
 impl Engine {
@@ -52,7 +53,7 @@ impl Engine {
     {
         let agenda = Agenda::new(alloc, numbers)?;
         let tallies = Tallies::new(alloc, numbers)?;
-        let reached = no_marks(alloc, numbers)?;
+        let site = Site::new(alloc, numbers)?;
         let log = Log {
             lines: Vec::with_capacity(alloc, numbers as usize)?,
             trail: Vec::with_capacity(alloc, numbers as usize)?,
@@ -62,7 +63,7 @@ impl Engine {
             log,
             agenda,
             tallies,
-            reached,
+            site,
         })
     }
 

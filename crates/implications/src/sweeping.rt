@@ -9,13 +9,13 @@ ghost use Rattle.implications.specs.Settled.{IsReady};
 ghost use Rattle.implications.specs.Tallies.{AreTallied};
 ghost use Rattle.implications.specs.Working.{IsPendingBut, Works, Keeps, Sweeps, work};
 
-use crate::agenda::Agenda;
 use crate::log::Log;
 use crate::pin_line::{has_sweep, pin_line};
 use crate::settling::add_found;
 use crate::tallies::Tallies;
 use gate_graph::Graph;
 use refutation::FactSet;
+use refutation::agenda::Agenda;
 use refutation::following::gate_pins;
 use refutation::pins::controlling;
 use rm_base::{Fault, NoMemory, NodeId};

@@ -11,8 +11,8 @@ ghost use Rattle.implications.specs.Tallies.{AreTallied, IsTally};
 ghost use Rattle.implications.specs.Working.{Touches};
 ghost use Rattle.implications.specs.declared.tallies.Tally.{Tally};
 
-use crate::agenda::Agenda;
 use gate_graph::{Graph, Inputs};
+use refutation::agenda::Agenda;
 use refutation::following::gate_pins;
 use refutation::{Fact, FactSet};
 use rm_base::{Fault, NoMemory, NodeId};

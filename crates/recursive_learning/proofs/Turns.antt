@@ -4,8 +4,8 @@ use Rattle.std.proofs.lemmas.Bool.{cases_lt}
 use Rattle.std.specs.Prelude.{slice_set}
 use Rattle.gate_graph.specs.Search.{IsSeen}
 use Rattle.gate_net.specs.Net.{Net}
-use Rattle.implications.proofs.Agendas.{count-clear, count_within}
-use Rattle.implications.specs.Agendas.{seen_count}
+use Rattle.refutation.proofs.Agendas.{count-clear, count_within}
+use Rattle.refutation.specs.Agendas.{seen_count}
 use Rattle.implications.specs.State.{EngineState}
 use Rattle.implications.specs.Working.{work}
 use Rattle.recursive_learning.proofs.Gains.{keeps_join}

@@ -7,7 +7,7 @@ use Rattle.std.specs.Prelude.{IsTrue, slice_get, slice_set}
 use Rattle.gate_graph.proofs.Searches.{none_seen}
 use Rattle.gate_graph.specs.Search.{IsSeen}
 use Rattle.gate_net.specs.Net.{IsLive, Net, kind_in, kind_of}
-use Rattle.implications.proofs.Agendas.{seen_stays}
+use Rattle.refutation.proofs.Agendas.{seen_stays}
 use Rattle.implications.specs.Settled.{AgreeAt}
 use Rattle.implications.specs.Trail.{IsAmong}
 use Rattle.recursive_learning.proofs.Indexes.{longer_join, watched_longer}

@@ -3,7 +3,7 @@ ghost use Rattle.std.specs.Prelude.{◌≡◌, ◌<◌, ◌≤◌, ◌-◌, ◌+
 ghost use Rattle.gate_graph.specs.Search.{IsSeen};
 ghost use Rattle.recursive_learning.specs.Resting.{IsIndex, IsLonger, IsWatched};
 
-use implications::agenda::Agenda;
+use refutation::agenda::Agenda;
 use rm_base::{NoMemory, NodeId};
 use std::alloc::Global;
 use std::marker::Model;

@@ -3,14 +3,14 @@ ghost use Rattle.std.specs.Prelude.{◌≡◌, ◌<◌, ◌≤◌, ℕ, [], IfOk
 ghost use Rattle.gate_net.specs.Net.{IsLive};
 ghost use Rattle.gate_graph.specs.Circuit.{net_of};
 ghost use Rattle.gate_graph.specs.Search.{IsSeen};
-ghost use Rattle.implications.specs.Agendas.{IsTaken};
+ghost use Rattle.refutation.specs.Agendas.{IsTaken};
 ghost use Rattle.recursive_learning.specs.Resting.{IsWatched};
 ghost use Rattle.recursive_learning.specs.Watching.{HasNoneListed, HasRoom, IsAround, IsBlank, IsListedAt, LeavesList, ListsChanged, RestsOn, StillLists};
 
 use crate::resting::Rests;
 use gate_graph::Graph;
-use implications::agenda::Agenda;
 use refutation::Fact;
+use refutation::agenda::Agenda;
 use rm_base::{NoMemory, NodeId};
 use std::alloc::Global;
 

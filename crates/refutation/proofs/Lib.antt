@@ -16,3 +16,8 @@ pub mod Yielding
 pub mod OnlyReaders
 pub mod Below
 pub mod OneFact
+pub mod NearLines
+pub mod Agendas
+pub mod Readers
+pub mod Reaches
+pub mod Sites

@@ -9,3 +9,6 @@ pub mod Laws
 pub mod FactSets
 pub mod Pins
 pub mod Answers
+pub mod Agendas
+pub mod Reaching
+pub mod Sites

@@ -1,10 +1,12 @@
 //! The chain of a gate.
-ghost use Rattle.std.specs.Prelude.{◌↔◌, IsTrue};
+ghost use Rattle.std.specs.Prelude.{◌≡◌, ◌≤◌, ◌↔◌, IsTrue, length};
 ghost use Rattle.gate_net.specs.Net.{IsLive};
 ghost use Rattle.gate_net.specs.Paths.{IsInChain};
 ghost use Rattle.gate_graph.specs.Circuit.{net_of};
 ghost use Rattle.refutation.specs.Answers.{IsOnlyReaderFound, IsNextInChain};
+ghost use Rattle.refutation.specs.Sites.{MarksChain};
 
+use crate::reaching::unmark;
 use gate_graph::Graph;
 use rm_base::NodeId;
 
@@ -14,11 +16,11 @@ fn only_reader(graph: &Graph, node: NodeId) -> Option<NodeId>
     ensures { IsOnlyReaderFound (net_of graph.now) node.0 result }
 {
     graph.readers_listed();
-    let mut fanouts = graph.fanouts_of(node);
-    let Some((gate, _position)) = fanouts.next() else {
+    let mut readers = graph.readers_of(node);
+    let Some(gate) = readers.next() else {
         return None;
     };
-    for (other, _at) in fanouts {
+    for other in readers {
         if other.0 != gate.0 {
             return None;
         }
@@ -51,6 +53,27 @@ pub fn is_in_chain(graph: &Graph, gate: NodeId, node: NodeId) -> bool
         }
         let Some(next) = next_in_chain(graph, at) else {
             return false;
+        };
+        at = next;
+    }
+    unreachable!()
+}
+
+// Marks the nodes of the chain that begins with the gate, and no others.
+pub(crate) fn mark_chain(graph: &Graph, gate: NodeId, marks: &mut Vec<bool>)
+    requires gate { IsLive (net_of graph.now) gate.0 }
+    requires room { length (net_of graph.now).nodes ≤ length marks.old.items }
+    ensures marked { MarksChain (net_of graph.now) gate.0 marks.new.items }
+    ensures size { length marks.new.items ≡ length marks.old.items }
+{
+    graph.well_formed();
+    unmark(marks);
+    let bound = graph.node_bound();
+    let mut at = gate;
+    for _step in 0..bound {
+        marks[at.0 as usize] = true;
+        let Some(next) = next_in_chain(graph, at) else {
+            return;
         };
         at = next;
     }

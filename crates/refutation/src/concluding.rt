@@ -4,14 +4,18 @@ ghost use Rattle.gate_net.specs.Net.{IsLive};
 ghost use Rattle.gate_net.specs.Values.{HasPin};
 ghost use Rattle.gate_graph.specs.Circuit.{net_of};
 ghost use Rattle.refutation.specs.FactSets.{held_by};
-ghost use Rattle.refutation.specs.Answers.{IsAnswer};
+ghost use Rattle.refutation.specs.Answers.{IsAnswer, IsNearAnswer};
+ghost use Rattle.refutation.specs.Sites.{IsSiteOf};
 
 use crate::equal_lines::{
     line_differs_back, line_equal_forward, line_not_differs, line_not_equal, line_side,
 };
 use crate::held::FactSet;
-use crate::place_lines::{line_act, line_chain, line_constant, line_out, line_site};
+use crate::place_lines::{
+    line_act, line_chain, line_chain_marked, line_constant, line_out, line_out_marked, line_site,
+};
 use crate::reasoning::{Fact, Line};
+use crate::site::Site;
 use crate::value_lines::{
     line_compare, line_faulty_back, line_faulty_forward, line_good_back, line_good_forward,
     line_to_faulty, line_to_good,
@@ -19,24 +23,20 @@ use crate::value_lines::{
 use gate_graph::{Graph, Marks};
 use rm_base::{Fault, NodeId};
 
-fn concluded(
+// What a line gives that looks at no more than one gate.
+fn concluded_near(
     graph: &Graph,
     fault: &Fault,
     facts: &FactSet,
     line: &Line,
-    marks: &mut Marks,
 ) -> Option<(NodeId, Fact)>
-    requires gate { IsLive (net_of graph.now) fault.now.gate.0 }
-    requires facts { length (net_of graph.now).nodes ≤ length facts.now }
-    requires marks { length (net_of graph.now).nodes ≤ marks.old }
-    ensures answer { IsAnswer (net_of graph.now) fault.now (held_by facts.now) line.now result }
-    ensures marks { marks.new ≡ marks.old }
+    requires { length (net_of graph.now).nodes ≤ length facts.now }
+    ensures { IsNearAnswer (net_of graph.now) fault.now (held_by facts.now) line.now result }
 {
     match *line {
         Line::Act => line_act(graph, fault),
         Line::Site => line_site(fault),
-        Line::Chain { node } => line_chain(graph, fault, node),
-        Line::Out { node } => line_out(graph, fault, node, marks),
+        Line::Chain { .. } | Line::Out { .. } => None,
         Line::Constant { node } => line_constant(graph, fault, node),
         Line::GoodForward { node } => line_good_forward(graph, fault, facts, node),
         Line::FaultyForward { node } => line_faulty_forward(graph, fault, facts, node),
@@ -54,6 +54,46 @@ fn concluded(
             graph, fault, facts, node, position,
         ),
         Line::Side { node, position } => line_side(graph, fault, facts, node, position),
+    }
+}
+
+// What a line gives, by a search where it looks at more than one gate.
+fn concluded(
+    graph: &Graph,
+    fault: &Fault,
+    facts: &FactSet,
+    line: &Line,
+    marks: &mut Marks,
+) -> Option<(NodeId, Fact)>
+    requires gate { IsLive (net_of graph.now) fault.now.gate.0 }
+    requires facts { length (net_of graph.now).nodes ≤ length facts.now }
+    requires marks { length (net_of graph.now).nodes ≤ marks.old }
+    ensures answer { IsAnswer (net_of graph.now) fault.now (held_by facts.now) line.now result }
+    ensures marks { marks.new ≡ marks.old }
+{
+    match *line {
+        Line::Chain { node } => line_chain(graph, fault, node),
+        Line::Out { node } => line_out(graph, fault, node, marks),
+        _ => concluded_near(graph, fault, facts, line),
+    }
+}
+
+// What a line gives, by the marks of the faulty gate where it looks at more than one gate.
+fn concluded_marked(
+    graph: &Graph,
+    fault: &Fault,
+    facts: &FactSet,
+    line: &Line,
+    site: &Site,
+) -> Option<(NodeId, Fact)>
+    requires facts { length (net_of graph.now).nodes ≤ length facts.now }
+    requires site { IsSiteOf (net_of graph.now) fault.now.gate.0 site.now }
+    ensures { IsAnswer (net_of graph.now) fault.now (held_by facts.now) line.now result }
+{
+    match *line {
+        Line::Chain { node } => line_chain_marked(graph, fault, node, site),
+        Line::Out { node } => line_out_marked(graph, fault, node, site),
+        _ => concluded_near(graph, fault, facts, line),
     }
 }
 
@@ -75,4 +115,22 @@ pub fn conclude(
 {
     graph.well_formed();
     concluded(graph, fault, facts, line, marks)
+}
+
+/// The same as `conclude`, by the marks of the faulty gate: each line takes the time of one gate's pins.
+pub fn conclude_marked(
+    graph: &Graph,
+    fault: &Fault,
+    facts: &FactSet,
+    line: &Line,
+    site: &Site,
+) -> Option<(NodeId, Fact)>
+    requires pin { HasPin (net_of graph.now) fault.now }
+    requires facts { length (net_of graph.now).nodes ≤ length facts.now }
+    requires site { IsSiteOf (net_of graph.now) fault.now.gate.0 site.now }
+    ensures answer { IsAnswer (net_of graph.now) fault.now (held_by facts.now) line.now result }
+    ensures node { IfSome result (λ r. r.0.0 < length (net_of graph.now).nodes) }
+{
+    graph.well_formed();
+    concluded_marked(graph, fault, facts, line, site)
 }

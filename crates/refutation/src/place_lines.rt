@@ -4,9 +4,11 @@ ghost use Rattle.gate_net.specs.Net.{Net, IsLive};
 ghost use Rattle.gate_graph.specs.Circuit.{net_of};
 ghost use Rattle.refutation.specs.Facts.{Held};
 ghost use Rattle.refutation.specs.Answers.{IsAnswer};
+ghost use Rattle.refutation.specs.Sites.{IsSiteOf};
 
 use crate::chains::is_in_chain;
 use crate::reasoning::{Fact, Line};
+use crate::site::Site;
 use gate_graph::{Graph, Marks};
 use gate_net::Kind;
 use rm_base::{Fault, NodeId};
@@ -65,6 +67,43 @@ pub fn line_chain(graph: &Graph, fault: &Fault, node: NodeId) -> Option<(NodeId,
     ensures { (held : Held) → IsAnswer (net_of graph.now) fault.now held (Line.Chain node) result }
 {
     if is_in_chain(graph, fault.gate, node) {
+        Some((node, Fact::Differs))
+    } else {
+        None
+    }
+}
+
+/// The same as `line_out`, by the marks of the faulty gate.
+pub fn line_out_marked(
+    graph: &Graph,
+    fault: &Fault,
+    node: NodeId,
+    site: &Site,
+) -> Option<(NodeId, Fact)>
+    requires { IsSiteOf (net_of graph.now) fault.now.gate.0 site.now }
+    ensures { (held : Held) → IsAnswer (net_of graph.now) fault.now held (Line.Out node) result }
+{
+    let _kind = graph.kind(node)?;
+    if node.0 == fault.gate.0 {
+        return None;
+    }
+    if site.is_reached(node) {
+        return None;
+    }
+    Some((node, Fact::Equal))
+}
+
+/// The same as `line_chain`, by the marks of the faulty gate.
+pub fn line_chain_marked(
+    graph: &Graph,
+    fault: &Fault,
+    node: NodeId,
+    site: &Site,
+) -> Option<(NodeId, Fact)>
+    requires { IsSiteOf (net_of graph.now) fault.now.gate.0 site.now }
+    ensures { (held : Held) → IsAnswer (net_of graph.now) fault.now held (Line.Chain node) result }
+{
+    if site.is_chained(node) {
         Some((node, Fact::Differs))
     } else {
         None

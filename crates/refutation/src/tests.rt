@@ -4,7 +4,8 @@ ghost use Rattle.gate_net.specs.Net.{IsGateKind};
 ghost use Rattle.gate_net.specs.declared.Kind.TheVariants.{Not};
 ghost use Rattle.gate_graph.specs.Circuit.{live_nodes, pins_taken};
 
-use crate::{Fact, FactSet, Item, Line, TreeBuilder, conclude};
+use crate::site::Site;
+use crate::{Fact, FactSet, Item, Line, TreeBuilder, conclude, conclude_marked};
 use gate_graph::{Graph, Marks};
 use gate_net::Kind;
 use rm_base::{Fault, NoMemory, NodeId};
@@ -304,7 +305,7 @@ fn same(given: Option<(NodeId, Fact)>, wanted: Option<(u32, Fact)>) -> bool {
     }
 }
 
-// Whether the line of the case gives what it should.
+// Whether the line of the case gives what it should, by a search and by marks.
 fn holds(alloc: Global, graph: &Graph, case: &Case) -> Result<bool, NoMemory> {
     let Some(_) = graph.driver(FAULT.gate, FAULT.position) else {
         return Ok(false);
@@ -314,7 +315,10 @@ fn holds(alloc: Global, graph: &Graph, case: &Case) -> Result<bool, NoMemory> {
     hold(&mut facts, case.facts[0]);
     hold(&mut facts, case.facts[1]);
     let given = conclude(graph, &FAULT, &facts, &case.line, &mut marks);
-    Ok(same(given, case.gives))
+    let mut site = Site::new(alloc, graph.node_bound())?;
+    site.mark(graph, FAULT.gate);
+    let marked = conclude_marked(graph, &FAULT, &facts, &case.line, &site);
+    Ok(same(given, case.gives) && same(marked, case.gives))
 }
 
 #[test]

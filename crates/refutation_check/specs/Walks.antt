@@ -1,5 +1,5 @@
 -- A reading of a tree.
-use Rattle.std.specs.Prelude.{length, ℕ, ◌≡◌, ◌≢◌, ◌≤◌}
+use Rattle.std.specs.Prelude.{length, ℕ, ◌≡◌, ◌≢◌}
 use Rattle.gate_net.specs.Net.{Net}
 use Rattle.refutation.specs.declared.items.Form.{Form}
 use Rattle.refutation.specs.declared.items.Item.{Item}
@@ -15,7 +15,6 @@ use Rattle.rm_base.specs.declared.numbers.Fault.{Fault}
 pub record IsWalk (net : Net) (w : Walk) : Type 0 where
   pub climbs : IsClimbing w.branches
   pub numbers : w.branches.trail.numbers ≡ length net.nodes
-  pub marks : length net.nodes ≤ w.marks
   pub sim : FitsIfKept w.sim net
 
 -- the item leads to what is left now

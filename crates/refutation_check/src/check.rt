@@ -16,6 +16,7 @@ use crate::refusals::CheckRefusal;
 use crate::shape::shape_of;
 use gate_graph::Graph;
 use refutation::laws::{edges_are_few, trees_refute};
+use refutation::site::Site;
 use refutation::{Form, Item, Shape, Tree};
 use rm_base::Fault;
 use std::alloc::Global;
@@ -32,11 +33,13 @@ fn read_items(
     ensures ok { OnOk result (AreRead (net_of graph.now) fault.now form 1 (trees none_held []) items.now) }
     ensures err { IfErr result (λ r. r ≢ refusal.NoMemory → IsFirstRefusal (net_of graph.now) fault.now form items.now r) }
 {
+    let mut site = Site::new(alloc, graph.node_bound())?;
+    site.mark(graph, fault.gate);
     let mut walk = Walk::new(alloc, graph)?;
     let mut number = 0u64;
     for item in items {
         number += 1;
-        walk.read(alloc, graph, fault, form, item, number)?;
+        walk.read(alloc, graph, fault, &site, form, item, number)?;
     }
     if walk.branches.is_end() {
         return Ok(());
@@ -44,9 +47,9 @@ fn read_items(
     Err(CheckRefusal::Shape { item: number + 1 })
 }
 
-/// Checks a tree: Ok exactly where it is accepted in the form, with its shape, and else the first refusal. It reads the
-/// items once, without recursion; a `Quiet` takes the time of one forward reading, and an item's facts are taken back
-/// when its branch ends. An item that follows the end of the tree or the `Here` of a partial one is looked at for its
+/// Checks a tree: Ok exactly where it is accepted in the form, with its shape, and else the first refusal. It marks what
+/// the faulty gate reaches, and reads the items once, without recursion: a line takes the time of one gate's pins, a
+/// `Quiet` that of one forward reading, and an item's facts are taken back when its branch ends. An item that follows the end of the tree or the `Here` of a partial one is looked at for its
 /// shape alone.
 pub fn check_tree(
     alloc: Global,

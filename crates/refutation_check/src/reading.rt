@@ -6,6 +6,7 @@ ghost use Rattle.gate_graph.specs.Circuit.{net_of};
 ghost use Rattle.refutation.specs.Branches.{HasNoGood};
 ghost use Rattle.refutation.specs.FactSets.{held_by};
 ghost use Rattle.refutation.specs.Facts.{AreOpposed, none_held};
+ghost use Rattle.refutation.specs.Sites.{IsSiteOf};
 ghost use Rattle.rm_base.specs.declared.numbers.Fault.{Fault};
 ghost use Rattle.refutation.specs.declared.items.Item.TheVariants as item;
 ghost use Rattle.refutation_check.specs.Turns.{MaySplitIn, trees};
@@ -15,18 +16,18 @@ ghost use Rattle.refutation_check.specs.Walks.{Goes, IsWalk, Stops};
 use crate::branches::Branches;
 use crate::forward::is_quiet;
 use crate::refusals::CheckRefusal;
-use gate_graph::{Graph, Marks};
+use gate_graph::Graph;
 use gate_net::Kind;
-use refutation::{Fact, FactSet, Form, Item, Line, conclude};
+use refutation::site::Site;
+use refutation::{Fact, FactSet, Form, Item, Line, conclude_marked};
 use rm_base::{Fault, NoMemory, NodeId};
 use std::alloc::Global;
 use ternary_sim::Sim;
 
-/// A reading of a tree: what is left to be read, with marks for lines and a simulator for quiet ends.
+/// A reading of a tree: what is left to be read, with a simulator for quiet ends.
 #[derive(Drop)]
 pub(crate) struct Walk {
     pub(crate) branches: Branches,
-    marks: Marks,
     sim: Option<Sim>,
 }
 
@@ -80,10 +81,8 @@ impl Walk {
         ensures left { IfOk result (λ w. left_of w.branches ≡ trees none_held []) }
     {
         let branches = Branches::new(alloc, graph)?;
-        let marks = Marks::new(alloc, graph.node_bound())?;
         Ok(Walk {
             branches,
-            marks,
             sim: None,
         })
     }
@@ -93,18 +92,20 @@ impl Walk {
         &mut self,
         graph: &Graph,
         fault: &Fault,
+        site: &Site,
         form: Form,
         line: &Line,
         number: u64,
     ) -> Result<(), CheckRefusal>
         requires pin { HasPin (net_of graph.now) fault.now }
+        requires site { IsSiteOf (net_of graph.now) fault.now.gate.0 site.now }
         requires walk { IsWalk (net_of graph.now) self.old }
         requires open { self.old.branches.stopped ≡ false }
         ensures ok { OnOk result (Goes (net_of graph.now) fault.now form number (item.Line line.now) self.old self.new) }
         ensures err { IfErr result (λ r. Stops (net_of graph.now) fault.now form number (item.Line line.now) self.old r) }
     {
         let facts = self.branches.trail.facts();
-        let Some((node, fact)) = conclude(graph, fault, facts, line, &mut self.marks) else {
+        let Some((node, fact)) = conclude_marked(graph, fault, facts, line, site) else {
             return Err(CheckRefusal::BadLine { item: number });
         };
         self.branches.hold(node, fact)?;
@@ -180,18 +181,20 @@ impl Walk {
         alloc: Global,
         graph: &Graph,
         fault: &Fault,
+        site: &Site,
         form: Form,
         item: &Item,
         number: u64,
     ) -> Result<(), CheckRefusal>
         requires pin { HasPin (net_of graph.now) fault.now }
+        requires site { IsSiteOf (net_of graph.now) fault.now.gate.0 site.now }
         requires walk { IsWalk (net_of graph.now) self.old }
         requires open { self.old.branches.stopped ≡ false }
         ensures ok { OnOk result (Goes (net_of graph.now) fault.now form number item.now self.old self.new) }
         ensures err { IfErr result (λ r. Stops (net_of graph.now) fault.now form number item.now self.old r) }
     {
         match *item {
-            Item::Line(line) => self.read_line(graph, fault, form, &line, number),
+            Item::Line(line) => self.read_line(graph, fault, site, form, &line, number),
             Item::Split { node, first } => self.read_split(graph, form, node, first, number),
             Item::Clash(node) => self.read_clash(form, node, number),
             Item::Quiet => self.read_quiet(alloc, graph, fault, form, number),
@@ -200,23 +203,25 @@ impl Walk {
         }
     }
 
-    /// Reads item `number`.
+    /// Reads item `number`, with the site of the fault marked.
     pub(crate) fn read(
         &mut self,
         alloc: Global,
         graph: &Graph,
         fault: &Fault,
+        site: &Site,
         form: Form,
         item: &Item,
         number: u64,
     ) -> Result<(), CheckRefusal>
         requires pin { HasPin (net_of graph.now) fault.now }
+        requires site { IsSiteOf (net_of graph.now) fault.now.gate.0 site.now }
         requires walk { IsWalk (net_of graph.now) self.old }
         ensures ok { OnOk result (Goes (net_of graph.now) fault.now form number item.now self.old self.new) }
         ensures err { IfErr result (λ r. Stops (net_of graph.now) fault.now form number item.now self.old r) }
     {
         if !self.branches.stopped {
-            return self.read_open(alloc, graph, fault, form, item, number);
+            return self.read_open(alloc, graph, fault, site, form, item, number);
         }
         if *item == Item::Untried && self.branches.pass() {
             return Ok(());

@@ -9,7 +9,7 @@ use Rattle.refutation.specs.FactSets.{held_by}
 use Rattle.refutation.specs.declared.reasoning.Line.TheVariants.{Out}
 
 pub give-requires-clause-given : goal.give-requires-clause-given
-give-requires-clause-given c = c.line_out-given.ensures (held_by c.loop-number.facts)
+give-requires-clause-given c = c.line_out_marked-given.ensures (held_by c.loop-number.facts)
 
 pub returns-in_err-clash-clause-keeps : goal.returns-in_err-clash-clause-keeps
 returns-in_err-clash-clause-keeps c = keeps_join c.args.facts.now c.args.log.now.trail.items c.loop-number.facts c.loop-number.log.trail.items c.give.new.facts c.give.new.log.trail.items c.loop-number.invariant.keeps c.give.ensures.keeps

@@ -1,6 +1,6 @@
 use Rattle.std.proofs.Common.{ap, arith, false, length, length-set, ℕ, ◌<◌, ◌∙◌, ◌≡◌, ◌≤◌}
 use Rattle.gate_graph.specs.Circuit.{net_of}
-use Rattle.implications.proofs.Agendas.{clear_less}
+use Rattle.refutation.proofs.Agendas.{clear_less}
 use Rattle.implications.proofs.Steps.{all_settled, keeps_join, outcome_none, work_take, works_join}
 use Rattle.implications.proofs.settling.work_off.Goals as goal
 use Rattle.implications.specs.Working.{work}
@@ -27,11 +27,11 @@ loop-node-preserved c =
     let same : length c.take.new.self ≡ length c.loop-node.agenda = ap (λ xs. length xs) c.in-Some.ensures.1 ∙ length-set c.loop-node.agenda c.in-Some.node.0 false in
     record {
       state = record {
-      works = works_join (net_of c.args.graph.now) c.args.fault.now c.args.facts.now c.args.log.now.lines.items c.loop-node.facts c.loop-node.log.lines.items c.settle.new.facts c.settle.new.log.lines.items c.loop-node.invariant.state.works c.in_ok-clash.ensures.works;
-      keeps = keeps_join c.args.facts.now c.args.log.now.trail.items c.loop-node.facts c.loop-node.log.trail.items c.settle.new.facts c.settle.new.log.trail.items c.loop-node.invariant.state.keeps c.settle.ensures.keeps;
-      pending = outcome.0;
-      free = outcome.1;
-      same = c.settle.ensures.size ∙ same ∙ c.loop-node.invariant.state.same;
+        works = works_join (net_of c.args.graph.now) c.args.fault.now c.args.facts.now c.args.log.now.lines.items c.loop-node.facts c.loop-node.log.lines.items c.settle.new.facts c.settle.new.log.lines.items c.loop-node.invariant.state.works c.in_ok-clash.ensures.works;
+        keeps = keeps_join c.args.facts.now c.args.log.now.trail.items c.loop-node.facts c.loop-node.log.trail.items c.settle.new.facts c.settle.new.log.trail.items c.loop-node.invariant.state.keeps c.settle.ensures.keeps;
+        pending = outcome.0;
+        free = outcome.1;
+        same = c.settle.ensures.size ∙ same ∙ c.loop-node.invariant.state.same;
       };
       tallied = c.in_ok-clash.ensures.tallied;
       room = c.settle.ensures.room ∙ c.loop-node.invariant.room;

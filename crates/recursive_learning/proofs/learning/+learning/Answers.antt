@@ -5,7 +5,7 @@ use Rattle.std.specs.Option.{MatchOption}
 use Rattle.std.specs.Prelude.{slice_get}
 use Rattle.gate_graph.specs.Circuit.{net_of}
 use Rattle.gate_graph.specs.Search.{IsSeen}
-use Rattle.implications.proofs.Agendas.{none_marked}
+use Rattle.refutation.proofs.Agendas.{none_marked}
 use Rattle.implications.proofs.Trails.{trail_tells}
 use Rattle.implications.specs.Trail.{AreAdded, LeadsBack}
 use Rattle.implications.specs.Working.{work}

@@ -1,11 +1,15 @@
 use Rattle.std.proofs.Common.{arith, false, sym, true, ◌∙◌, ◌≡◌}
 use Rattle.std.proofs.lemmas.Result.{err_from_is_err_and}
 use Rattle.gate_graph.specs.Circuit.{net_of}
+use Rattle.refutation.proofs.Told.{gate_live}
 use Rattle.refutation.specs.declared.items.Item.TheVariants.{Line}
 use Rattle.refutation.specs.declared.reasoning.Line.TheVariants.{Act}
 use Rattle.refutation_check.proofs.Steps.{read_step, refused_after, refused_here, refused_step}
 use Rattle.refutation_check.specs.Standing.{left_of}
 use Rattle.refutation_check.proofs.check.read_items.Goals as goal
+
+pub mark-requires-clause-gate : goal.mark-requires-clause-gate
+mark-requires-clause-gate c = gate_live (net_of c.args.graph.now) c.args.fault.now c.requires
 
 pub loop-item-preserved : goal.loop-item-preserved
 loop-item-preserved c = record {

@@ -1,6 +1,6 @@
 use Rattle.std.proofs.Common.{ap, arith, inl, inr, length, subst, sym, ◌<◌, ◌∙◌, ℕ}
 use Rattle.gate_graph.specs.Circuit.{net_of}
-use Rattle.implications.proofs.ReaderCounts.{all_came, next_below}
+use Rattle.refutation.proofs.Readers.{all_came, next_below}
 use Rattle.recursive_learning.proofs.Watches.{leaves_more, room_leaves}
 use Rattle.recursive_learning.proofs.Indexes.{watched_longer}
 use Rattle.recursive_learning.specs.Watching.{HasRoom}
