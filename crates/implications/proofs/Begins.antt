@@ -1,10 +1,9 @@
 -- The lines that ask for no facts.
-use Rattle.std.proofs.Common.{List, None, Option, Some, arith, inl, inr, length, refl, subst, sym, ℕ, ◌+◌, ◌<◌, ◌∙◌, ◌≡◌, ◌≢◌, ◌≤◌}
+use Rattle.std.proofs.Common.{List, None, Option, Some, arith, inl, inr, length, refl, subst, sym, ℕ, ◌+◌, ◌<◌, ◌∙◌, ◌≡◌, ◌≤◌}
 use Rattle.std.proofs.lemmas.Bool.{cases_lt}
 use Rattle.std.proofs.lemmas.Bool.Decides.{eqb_tells}
 use Rattle.std.specs.Prelude.{Err, IfOk, IsTrue, Ok, Result, slice_get}
 use Rattle.gate_net.specs.Net.{IsAcyclic, IsLive, Net, drivers_of}
-use Rattle.gate_net.specs.Paths.{Reaches}
 use Rattle.implications.specs.Beginning.{AreDoneAtFault, AreDoneOnChain, AreDoneOutside, Chaining, Gives, GivingOut, node_of}
 use Rattle.implications.specs.Settled.{HasFirst, IsDone, IsSettled, place_of}
 use Rattle.implications.specs.Working.{Keeps, Works}

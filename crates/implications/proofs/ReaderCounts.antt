@@ -1,5 +1,5 @@
 -- Going over the gates that read a node: each comes once for each of its pins that do.
-use Rattle.std.proofs.Common.{Bool, List, Some, [], ap, append-nil, arith, false, inl, inr, length, map, refl, subst, suc, sym, true, zero, ℕ, ◌++◌, ◌<◌, ◌∙◌, ◌∷◌, ◌≡◌, ◌≢◌}
+use Rattle.std.proofs.Common.{Bool, List, Some, [], ap, append-nil, arith, false, inl, inr, map, refl, suc, sym, true, zero, ℕ, ◌++◌, ◌<◌, ◌∙◌, ◌∷◌, ◌≡◌, ◌≢◌}
 use Rattle.std.proofs.lemmas.Bool.{eq-eqb, eqb-true}
 use Rattle.std.proofs.lemmas.Bool.Decides.{eqb_tells}
 use Rattle.std.specs.Prelude.{nat_eq, slice_get, slice_set}
