@@ -1,7 +1,7 @@
 use Rattle.std.proofs.Common.{Some, ap, arith, length, length-append, refl, sym, ◌∙◌, ◌≡◌, ◌≤◌}
 use Rattle.std.specs.Prelude.{slice_get}
 use Rattle.gate_graph.specs.Circuit.{net_of}
-use Rattle.gate_net.specs.Net.{Reads, drivers_of}
+use Rattle.gate_net.specs.Net.{drivers_of}
 use Rattle.implications.proofs.Steps.{keeps_join, settling_join, stops_join, sweeps_none, sweeps_some}
 use Rattle.implications.proofs.sweeping.sweep_pins.Goals as goal
 use Rattle.refutation.proofs.Yielding.{yielded_at, yielded_more}
