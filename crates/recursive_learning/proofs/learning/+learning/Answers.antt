@@ -14,7 +14,7 @@ use Rattle.recursive_learning.proofs.Gains.{keeps_join}
 use Rattle.recursive_learning.proofs.Live.{driver_live}
 use Rattle.recursive_learning.proofs.Missing.{missing_within}
 use Rattle.recursive_learning.proofs.Refutes.{clash_at_deeper}
-use Rattle.recursive_learning.proofs.Regions.{covered_more, region_of, region_stays}
+use Rattle.recursive_learning.proofs.Regions.{covered_more, region_of, region_stays, stays_idle}
 use Rattle.recursive_learning.proofs.Rounds.{Learning, forced_clash, forced_join, junction_below, learned_join, learning_more, learning_none, learning_quiet, lesson_of, taken_back, taught_nothing, visit_clash, visit_gain, visit_gain_clash}
 use Rattle.recursive_learning.proofs.Turns.{forced_at_deeper, gained_not_clash, lt_of, next_low, quiet_not_clash, taught_start, turn_learned, turn_learning, turn_less, turn_low, turn_taught, work_gained, work_taken}
 use Rattle.recursive_learning.proofs.Vecs.{driver_at, empty_is, full_is, map_some, true_false}
@@ -355,6 +355,15 @@ lesson_at-returns-clause-lesson t c =
       | lesson_at-else-common-via-then-common+else-is_empty-2 w ↦ full_is c.in_ok-common.common.goods w.if-is_empty-2.ensures
       | lesson_at-else-common-via-else-common w ↦ absurd (true_false c.in_ok-common.common.found some w.if-common.false)
     ])
+
+pub lesson_at-returns-in_default-clause-stays : goal.lesson_at-returns-in_default-clause-stays
+lesson_at-returns-in_default-clause-stays t c e zero unknown =
+    stays_idle (net_of c.args.graph.now) c.args.fault.now (held_by c.args.facts.now) c.args.watch.now.rests.entries c.args.gate.0 (λ value u few. c.in_default.ensures value u)
+
+pub lesson_at-returns-in_default-2-clause-stays : goal.lesson_at-returns-in_default-2-clause-stays
+lesson_at-returns-in_default-2-clause-stays t c e zero unknown =
+    let many : HasFew (net_of c.args.graph.now) (held_by c.args.facts.now) c.args.gate.0 → ⊥ = subst (λ (o : Option (Vec NodeId Global)). MatchOption o (HasFew (net_of c.args.graph.now) (held_by c.args.facts.now) c.args.gate.0 → ⊥) (λ v. AreJustifications (net_of c.args.graph.now) (held_by c.args.facts.now) c.args.gate.0 (map (λ n. n.0) v.items))) c.in_default-2.is c.in_ok-drivers.ensures in
+    stays_idle (net_of c.args.graph.now) c.args.fault.now (held_by c.args.facts.now) c.args.watch.now.rests.entries c.args.gate.0 (λ value u few. many few)
 
 -- ONE MORE
 
