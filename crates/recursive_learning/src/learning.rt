@@ -5,9 +5,8 @@ ghost use Rattle.gate_net.specs.Values.{HasPin};
 ghost use Rattle.gate_graph.specs.Circuit.{net_of};
 ghost use Rattle.refutation.specs.Facts.{known_good, with_fact};
 ghost use Rattle.refutation.specs.FactSets.{held_by};
-ghost use Rattle.implications.specs.Working.{work};
 ghost use Rattle.recursive_learning.specs.Lessons.{AreCommon, AreFound, AreOpen, HasLooked, IsOne, IsRound, Teaches};
-ghost use Rattle.recursive_learning.specs.Watching.{HasNoneListed, HasRegion, HasRoom, IsCovered, IsKnown, IsWatching, LeavesList, Lengthens, StaysTaught};
+ghost use Rattle.recursive_learning.specs.Watching.{HasNoneListed, HasRegion, HasRoom, IsCovered, IsKnown, IsWatching, LeavesList, Lengthens, StaysTaught, looks_left};
 ghost use Rattle.recursive_learning.specs.Working.{AreSettled, IsLearned, Keeps};
 ghost use Rattle.recursive_learning.specs.declared.lessons.Round.TheVariants.{Clash, Gained, Quiet};
 
@@ -115,7 +114,7 @@ fn look_at(
     ensures lengthens { OnOk result (Lengthens watch.old watch.new) }
     ensures all { OnOk result (watch.new.all ≡ false) }
     ensures known { IfOk result (λ clash. clash ≡ false → (y : ℕ) → IsKnown (net_of graph.now) fault.now (held_by facts.new) watch.new y) }
-    ensures less { IfOk result (λ clash. clash ≡ false → work facts.new watch.new.listed ≤ work facts.old watch.old.listed) }
+    ensures less { IfOk result (λ clash. clash ≡ false → looks_left facts.new watch.new.listed ≤ looks_left facts.old watch.old.listed) }
 {
     match visit(alloc, engine, graph, fault, facts, watch, taught, 0, gate)? {
         Round::Clash => Ok(true),

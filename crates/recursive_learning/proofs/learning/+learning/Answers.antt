@@ -8,7 +8,6 @@ use Rattle.gate_graph.specs.Search.{IsSeen}
 use Rattle.implications.proofs.Agendas.{none_marked}
 use Rattle.implications.proofs.Trails.{trail_tells}
 use Rattle.implications.specs.Trail.{AreAdded, LeadsBack}
-use Rattle.implications.specs.Working.{work}
 use Rattle.recursive_learning.proofs.Commons.{common_clash, common_open, found_all, found_none}
 use Rattle.recursive_learning.proofs.Gains.{keeps_join}
 use Rattle.recursive_learning.proofs.Live.{driver_live}
@@ -22,7 +21,7 @@ use Rattle.recursive_learning.proofs.Watches.{known_begun, known_longer, known_m
 use Rattle.recursive_learning.specs.Gates.{AreJustifications, HasTaught}
 use Rattle.recursive_learning.specs.Least.{IsLeastAt}
 use Rattle.recursive_learning.specs.Lessons.{AreCommon, AreFound, HasLooked, IsGained, IsLesson, IsOne, IsRound, Teaches}
-use Rattle.recursive_learning.specs.Watching.{HasRegion, IsCovered, Lengthens, StaysTaught}
+use Rattle.recursive_learning.specs.Watching.{HasRegion, IsCovered, Lengthens, StaysTaught, looks_left}
 use Rattle.recursive_learning.specs.Working.{IsLearned}
 use Rattle.recursive_learning.specs.declared.lessons.Learned.{Learned}
 use Rattle.recursive_learning.specs.declared.lessons.Round.{Round}
@@ -173,9 +172,9 @@ learn_one-returns-then-branch-clause-keeps t c =
 pub learn_one-loop-gate-smaller : goal.learn_one-loop-gate-smaller
 learn_one-loop-gate-smaller t c =
     let taken = c.in-Some.ensures.taken in
-    let one : work c.loop-gate.facts c.take.new.self.listed < work c.loop-gate.facts c.loop-gate.watch.listed = rw taken.1 (work_taken c.loop-gate.facts c.loop-gate.watch.listed c.in-Some.gate.0 taken.0) in
-    let less : work c.look_at.new.facts c.look_at.new.watch.listed ≤ work c.loop-gate.facts c.take.new.self.listed = c.in_ok-look_at.ensures.less c.if-branch.false in
-    lt_of (work c.look_at.new.facts c.look_at.new.watch.listed) (work c.loop-gate.facts c.take.new.self.listed) (work c.loop-gate.facts c.loop-gate.watch.listed) less one
+    let one : looks_left c.loop-gate.facts c.take.new.self.listed < looks_left c.loop-gate.facts c.loop-gate.watch.listed = rw taken.1 (work_taken c.loop-gate.facts c.loop-gate.watch.listed c.in-Some.gate.0 taken.0) in
+    let less : looks_left c.look_at.new.facts c.look_at.new.watch.listed ≤ looks_left c.loop-gate.facts c.take.new.self.listed = c.in_ok-look_at.ensures.less c.if-branch.false in
+    lt_of (looks_left c.look_at.new.facts c.look_at.new.watch.listed) (looks_left c.loop-gate.facts c.take.new.self.listed) (looks_left c.loop-gate.facts c.loop-gate.watch.listed) less one
 
 pub learn_one-loop-gate-preserved : goal.learn_one-loop-gate-preserved
 learn_one-loop-gate-preserved t c =
