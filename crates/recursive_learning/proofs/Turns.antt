@@ -7,13 +7,13 @@ use Rattle.gate_net.specs.Net.{Net}
 use Rattle.refutation.proofs.Agendas.{count-clear, count_within}
 use Rattle.refutation.specs.Agendas.{seen_count}
 use Rattle.implications.specs.State.{EngineState}
-use Rattle.implications.specs.Working.{work}
 use Rattle.recursive_learning.proofs.Gains.{keeps_join}
 use Rattle.recursive_learning.proofs.Refutes.{closed_at_smaller}
 use Rattle.recursive_learning.proofs.Rounds.{Learning, junction_below, learning_more, learning_quiet}
 use Rattle.recursive_learning.specs.Gates.{HasTaught}
 use Rattle.recursive_learning.specs.Least.{AreForced}
 use Rattle.recursive_learning.specs.Lessons.{IsOne, IsRound}
+use Rattle.recursive_learning.specs.Watching.{looks_left}
 use Rattle.recursive_learning.specs.Working.{IsLearned, Keeps}
 use Rattle.recursive_learning.specs.declared.lessons.Round.{Round}
 use Rattle.recursive_learning.specs.declared.lessons.Round.TheVariants.{Clash, Gained, Quiet}
@@ -68,14 +68,14 @@ product_less m n w a b less le =
     grow = grind arith
 
 -- a gate taken off the list
-pub work_taken : (facts : List NodeFacts) (listed : List Bool) (d : ℕ) → IsSeen listed d → work facts (slice_set listed d false) < work facts listed
+pub work_taken : (facts : List NodeFacts) (listed : List Bool) (d : ℕ) → IsSeen listed d → looks_left facts (slice_set listed d false) < looks_left facts listed
 work_taken facts listed d seen =
     let size : length (slice_set listed d false) ≡ length listed = length-set listed d false in
     let count : suc (seen_count (slice_set listed d false)) ≡ seen_count listed = count-clear listed d seen in
     rw size (omega arith)
 
 -- more facts, whatever is listed then
-pub work_gained : (old new : List NodeFacts) (before after : List Bool) → missing new < missing old → length after ≡ length before → work new after ≤ work old before
+pub work_gained : (old new : List NodeFacts) (before after : List Bool) → missing new < missing old → length after ≡ length before → looks_left new after ≤ looks_left old before
 work_gained old new before after less size =
     let count : seen_count after ≤ length after = count_within after in
     let h : missing new * suc (length before) + seen_count after < missing old * suc (length before) + suc (seen_count before) = product_less (missing new) (missing old) (length before) (seen_count after) (seen_count before) less (omega arith) in

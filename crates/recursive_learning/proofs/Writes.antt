@@ -39,6 +39,14 @@ going_more net fault a b c start now next items middle after g keeps told = reco
 pub going_ends : (net : Net) (fault : Fault) (a b : EngineState) (start now : List NodeFacts) (items middle after : List Item) → Going net fault a b start now items middle → Ends net fault (held_by now) middle after → Ends net fault (held_by start) items after
 going_ends net fault a b start now items middle after g ends = told_join net fault (held_by start) items middle after (held_by now) (held_by now) true g.leads ends
 
+-- one more gate, which has written something or nothing
+pub going_written : (net : Net) (fault : Fault) (depth y : ℕ) (a b c : EngineState) (start now next : List NodeFacts) (items middle after : List Item) → Going net fault a b start now items middle → Keeps b c now next → IsWritten net fault depth y now middle false next after → Going net fault a c start next items after
+going_written net fault depth y a b c start now next items middle after g keeps (inl (same, (still, taught))) =
+    subst (λ (f : List NodeFacts). Going net fault a c start f items after) (sym same)
+    (subst (λ (is : List Item). Going net fault a c start now items is) (sym still)
+    (record { keeps = keeps_join a b c start now now g.keeps (subst (λ (f : List NodeFacts). Keeps b c now f) same keeps); settled = g.settled; leads = g.leads }))
+going_written net fault depth y a b c start now next items middle after g keeps (inr (told, fewer)) = going_more net fault a b c start now next items middle after g keeps told
+
 -- A PASS
 pub record PassWriting (net : Net) (fault : Fault) (depth number : ℕ) (before after : EngineState) (start now : List NodeFacts) (items then : List Item) : Type 0 where
   pub going : Going net fault before after start now items then

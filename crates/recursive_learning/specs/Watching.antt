@@ -1,7 +1,8 @@
 -- Which gates are to be looked at, and what is known of the others.
-use Rattle.std.specs.Prelude.{Bool, List, [], false, length, replicate, slice_get, Some, true, ℕ, ◌<◌, ◌≡◌, ◌≤◌, ◌⊎◌}
+use Rattle.std.specs.Prelude.{Bool, List, [], false, length, replicate, slice_get, Some, true, ℕ, ◌<◌, ◌≡◌, ◌≤◌, ◌⊎◌, suc, ◌*◌, ◌+◌}
 use Rattle.gate_graph.specs.Search.{IsSeen}
 use Rattle.gate_net.specs.Net.{IsLive, Net, Reads}
+use Rattle.implications.specs.Agendas.{seen_count}
 use Rattle.implications.specs.Settled.{AgreeAt}
 use Rattle.recursive_learning.specs.Gates.{HasTaught}
 use Rattle.recursive_learning.specs.Least.{IsLeastAt}
@@ -11,8 +12,10 @@ use Rattle.recursive_learning.specs.Working.{AreSettled}
 use Rattle.recursive_learning.specs.declared.resting.Entry.{Entry}
 use Rattle.recursive_learning.specs.declared.watch.Watch.{Watch}
 use Rattle.refutation.specs.Closing.{IsWithin}
+use Rattle.refutation.specs.FactSets.{missing}
 use Rattle.refutation.specs.Facts.{Held, with_fact}
 use Rattle.refutation.specs.Learning.{LeadsToClash}
+use Rattle.refutation.specs.declared.held.NodeFacts.{NodeFacts}
 use Rattle.refutation.specs.declared.reasoning.Fact.{Fact}
 use Rattle.refutation.specs.declared.reasoning.Fact.TheVariants.{Good}
 use Rattle.rm_base.specs.declared.numbers.Fault.{Fault}
@@ -105,3 +108,7 @@ pub record HasRegion (net : Net) (fault : Fault) (held : Held) (c : Bool) (ds : 
   pub count : ℕ
   pub common : AreCommon net fault 0 held c ds count true []
   pub covered : (k d : ℕ) → k < count → slice_get ds k ≡ Some d → IsCovered net fault held c d entries y
+
+-- how many looks at gates are left at most
+abbrev pub looks_left : List NodeFacts → List Bool → ℕ
+looks_left facts listed = missing facts * suc (length listed) + seen_count listed

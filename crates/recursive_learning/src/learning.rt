@@ -5,9 +5,8 @@ ghost use Rattle.gate_net.specs.Values.{HasPin};
 ghost use Rattle.gate_graph.specs.Circuit.{net_of};
 ghost use Rattle.refutation.specs.Facts.{known_good, with_fact};
 ghost use Rattle.refutation.specs.FactSets.{held_by};
-ghost use Rattle.implications.specs.Working.{work};
 ghost use Rattle.recursive_learning.specs.Lessons.{AreCommon, AreFound, AreOpen, HasLooked, IsOne, IsRound, Teaches};
-ghost use Rattle.recursive_learning.specs.Watching.{HasNoneListed, HasRegion, HasRoom, IsCovered, IsKnown, IsWatching, LeavesList, Lengthens, StaysTaught};
+ghost use Rattle.recursive_learning.specs.Watching.{HasNoneListed, HasRegion, HasRoom, IsCovered, IsKnown, IsWatching, LeavesList, Lengthens, StaysTaught, looks_left};
 ghost use Rattle.recursive_learning.specs.Working.{AreSettled, IsLearned, Keeps};
 ghost use Rattle.recursive_learning.specs.declared.lessons.Round.TheVariants.{Clash, Gained, Quiet};
 
@@ -24,7 +23,8 @@ use rm_base::{Fault, NoMemory, NodeId};
 use std::alloc::Global;
 
 /// Closes settled facts at the depth, which is 1 at least; whether that is a clash. A gate is looked at where something
-/// changed on which what is known of it rests. Where there is no clash, the watch tells that of the closed facts.
+/// changed on which what is known of it rests. Where there is no clash, the watch tells that of the closed facts. The gates
+/// that taught something are listed in order, for the writer to begin with; no contract speaks of them.
 #[cycle(learning)]
 pub fn learn(
     alloc: Global,
@@ -33,6 +33,7 @@ pub fn learn(
     fault: &Fault,
     facts: &mut FactSet,
     watch: &mut Watch,
+    taught: &mut Vec<NodeId>,
     depth: u8,
 ) -> Result<bool, NoMemory>
     requires pin { HasPin (net_of graph.now) fault.now }
@@ -49,9 +50,9 @@ pub fn learn(
     ensures none { IfOk result (λ clash. clash ≡ false → HasNoneListed watch.new) }
 {
     if depth == 1 {
-        return learn_one(alloc, engine, graph, fault, facts, watch);
+        return learn_one(alloc, engine, graph, fault, facts, watch, taught);
     }
-    learn_deeper(alloc, engine, graph, fault, facts, watch, depth)
+    learn_deeper(alloc, engine, graph, fault, facts, watch, taught, depth)
 }
 
 // Closes at depth 1: looks at the gates that are listed, until none is.
@@ -63,6 +64,7 @@ fn learn_one(
     fault: &Fault,
     facts: &mut FactSet,
     watch: &mut Watch,
+    taught: &mut Vec<NodeId>,
 ) -> Result<bool, NoMemory>
     requires pin { HasPin (net_of graph.now) fault.now }
     requires numbers { length (net_of graph.now).nodes ≤ engine.old.numbers }
@@ -80,7 +82,7 @@ fn learn_one(
     let _mark = engine.mark();
     watch.begin(graph);
     while let Some(gate) = watch.take() {
-        if look_at(alloc, engine, graph, fault, facts, watch, gate)? {
+        if look_at(alloc, engine, graph, fault, facts, watch, taught, gate)? {
             return Ok(true);
         }
     }
@@ -96,6 +98,7 @@ fn look_at(
     fault: &Fault,
     facts: &mut FactSet,
     watch: &mut Watch,
+    taught: &mut Vec<NodeId>,
     gate: NodeId,
 ) -> Result<bool, NoMemory>
     requires pin { HasPin (net_of graph.now) fault.now }
@@ -111,9 +114,9 @@ fn look_at(
     ensures lengthens { OnOk result (Lengthens watch.old watch.new) }
     ensures all { OnOk result (watch.new.all ≡ false) }
     ensures known { IfOk result (λ clash. clash ≡ false → (y : ℕ) → IsKnown (net_of graph.now) fault.now (held_by facts.new) watch.new y) }
-    ensures less { IfOk result (λ clash. clash ≡ false → work facts.new watch.new.listed ≤ work facts.old watch.old.listed) }
+    ensures less { IfOk result (λ clash. clash ≡ false → looks_left facts.new watch.new.listed ≤ looks_left facts.old watch.old.listed) }
 {
-    match visit(alloc, engine, graph, fault, facts, watch, 0, gate)? {
+    match visit(alloc, engine, graph, fault, facts, watch, taught, 0, gate)? {
         Round::Clash => Ok(true),
         Round::Quiet => Ok(false),
         Round::Gained => {
@@ -132,6 +135,7 @@ fn learn_deeper(
     fault: &Fault,
     facts: &mut FactSet,
     watch: &mut Watch,
+    taught: &mut Vec<NodeId>,
     depth: u8,
 ) -> Result<bool, NoMemory>
     requires pin { HasPin (net_of graph.now) fault.now }
@@ -148,7 +152,7 @@ fn learn_deeper(
     ensures none { IfOk result (λ clash. clash ≡ false → HasNoneListed watch.new) }
 {
     let _mark = engine.mark();
-    if learn(alloc, engine, graph, fault, facts, watch, depth - 1)? {
+    if learn(alloc, engine, graph, fault, facts, watch, taught, depth - 1)? {
         return Ok(true);
     }
     let bound = graph.node_bound();
@@ -162,6 +166,7 @@ fn learn_deeper(
             fault,
             facts,
             watch,
+            taught,
             depth - 1,
             NodeId(number),
         )?;
@@ -183,6 +188,7 @@ fn visit_deep(
     fault: &Fault,
     facts: &mut FactSet,
     watch: &mut Watch,
+    taught: &mut Vec<NodeId>,
     depth: u8,
     gate: NodeId,
 ) -> Result<Round, NoMemory>
@@ -200,11 +206,13 @@ fn visit_deep(
     ensures watching { IfOk result (λ round. round ≢ Clash → IsWatching (net_of graph.now) fault.now (held_by facts.new) watch.new) }
     ensures none { IfOk result (λ round. round ≢ Clash → HasNoneListed watch.new) }
 {
-    match visit(alloc, engine, graph, fault, facts, watch, depth, gate)? {
+    match visit(
+        alloc, engine, graph, fault, facts, watch, taught, depth, gate,
+    )? {
         Round::Clash => Ok(Round::Clash),
         Round::Quiet => Ok(Round::Quiet),
         Round::Gained => {
-            if learn(alloc, engine, graph, fault, facts, watch, depth)? {
+            if learn(alloc, engine, graph, fault, facts, watch, taught, depth)? {
                 return Ok(Round::Clash);
             }
             Ok(Round::Gained)
@@ -221,6 +229,7 @@ fn visit(
     fault: &Fault,
     facts: &mut FactSet,
     watch: &mut Watch,
+    taught: &mut Vec<NodeId>,
     depth: u8,
     gate: NodeId,
 ) -> Result<Round, NoMemory>
@@ -239,9 +248,13 @@ fn visit(
     ensures quiet { IfOk result (λ round. round ≡ Quiet → watch.new.listed ≡ watch.old.listed) }
     ensures stays { IfOk result (λ round. round ≡ Quiet → depth ≡ 0 → watch.old.all ≡ false → StaysTaught (net_of graph.now) fault.now (held_by facts.new) watch.new.rests.entries gate.0) }
 {
-    let Some(lesson) = lesson_at(alloc, engine, graph, fault, facts, watch, depth, gate)? else {
+    let Some(lesson) = lesson_at(
+        alloc, engine, graph, fault, facts, watch, taught, depth, gate,
+    )?
+    else {
         return Ok(Round::Quiet);
     };
+    taught.push(gate)?;
     if !lesson.found {
         return Ok(Round::Clash);
     }
@@ -263,6 +276,7 @@ pub fn lesson_at(
     fault: &Fault,
     facts: &mut FactSet,
     watch: &mut Watch,
+    taught: &mut Vec<NodeId>,
     depth: u8,
     gate: NodeId,
 ) -> Result<Option<Lesson>, NoMemory>
@@ -292,7 +306,7 @@ pub fn lesson_at(
         return Ok(None);
     }
     let common = in_common(
-        alloc, engine, graph, fault, facts, watch, depth, gate, &drivers, value,
+        alloc, engine, graph, fault, facts, watch, taught, depth, gate, &drivers, value,
     )?;
     if common.found && common.goods.is_empty() {
         return Ok(None);
@@ -314,6 +328,7 @@ fn in_common(
     fault: &Fault,
     facts: &mut FactSet,
     watch: &mut Watch,
+    taught: &mut Vec<NodeId>,
     depth: u8,
     gate: NodeId,
     drivers: &[NodeId],
@@ -340,7 +355,7 @@ fn in_common(
     };
     for driver in drivers {
         common = one_more(
-            alloc, engine, graph, fault, facts, watch, depth, gate, *driver, value, common,
+            alloc, engine, graph, fault, facts, watch, taught, depth, gate, *driver, value, common,
         )?;
         if common.found && common.goods.is_empty() {
             return Ok(common);
@@ -358,6 +373,7 @@ fn one_more(
     fault: &Fault,
     facts: &mut FactSet,
     watch: &mut Watch,
+    taught: &mut Vec<NodeId>,
     depth: u8,
     gate: NodeId,
     driver: NodeId,
@@ -382,7 +398,7 @@ fn one_more(
 {
     let mark = engine.mark();
     if take(
-        alloc, engine, graph, fault, facts, watch, depth, driver, value,
+        alloc, engine, graph, fault, facts, watch, taught, depth, driver, value,
     )? {
         engine.take_back(facts, mark);
         return Ok(before);
@@ -402,6 +418,7 @@ fn take(
     fault: &Fault,
     facts: &mut FactSet,
     watch: &mut Watch,
+    taught: &mut Vec<NodeId>,
     depth: u8,
     node: NodeId,
     value: bool,
@@ -426,9 +443,11 @@ fn take(
     if depth == 0 {
         return Ok(false);
     }
+    let count = taught.len();
     let before = watch.mark();
     watch.list_changed(graph, engine.added(start));
-    let clash = learn(alloc, engine, graph, fault, facts, watch, depth)?;
+    let clash = learn(alloc, engine, graph, fault, facts, watch, taught, depth)?;
     watch.take_back(before);
+    taught.truncate(count);
     Ok(clash)
 }

@@ -6,6 +6,7 @@ mod gates;
 pub mod laws;
 mod learning;
 mod lessons;
+mod ordering;
 mod refuting;
 mod resting;
 mod telling;

@@ -14,13 +14,13 @@ ghost use Rattle.recursive_learning.specs.Working.{AreSettled, Keeps};
 ghost use Rattle.recursive_learning.specs.Least.{AreForced};
 
 use crate::learning::learn;
+use crate::ordering::write_from;
 use crate::telling::push_lines;
 use crate::watch::Watch;
-use crate::writing::write;
 use gate_graph::Graph;
 use implications::{Closed, Engine};
 use refutation::{FactSet, Tree, TreeBuilder};
-use rm_base::{Fault, NoMemory};
+use rm_base::{Fault, NoMemory, NodeId};
 use std::alloc::Global;
 
 // Writes the tree of closed facts to which these lines led, and which lead to a clash at the depth.
@@ -31,6 +31,7 @@ fn written(
     fault: &Fault,
     watch: &mut Watch,
     depth: u8,
+    taught: &[NodeId],
     facts: FactSet,
 ) -> Result<Tree, NoMemory>
     requires pin { HasPin (net_of graph.now) fault.now }
@@ -49,8 +50,8 @@ fn written(
     let mark = engine.mark();
     let mut tree = TreeBuilder::new(alloc);
     push_lines(&mut tree, engine.lines())?;
-    write(
-        alloc, engine, graph, fault, &mut held, watch, depth, &mut tree,
+    write_from(
+        alloc, engine, graph, fault, &mut held, watch, depth, taught, &mut tree,
     )?;
     engine.take_back(&mut held, mark);
     Ok(tree.finish())
@@ -64,6 +65,7 @@ fn tree_of(
     fault: &Fault,
     watch: &mut Watch,
     depth: u8,
+    taught: &[NodeId],
 ) -> Result<Tree, NoMemory>
     requires pin { HasPin (net_of graph.now) fault.now }
     requires numbers { length (net_of graph.now).nodes ≤ engine.old.numbers }
@@ -77,7 +79,7 @@ fn tree_of(
     graph.well_formed();
     match engine.close(graph, fault)? {
         Closed::Clash(tree) => Ok(tree),
-        Closed::Open(facts) => written(alloc, engine, graph, fault, watch, depth, facts),
+        Closed::Open(facts) => written(alloc, engine, graph, fault, watch, depth, taught, facts),
     }
 }
 
@@ -89,6 +91,7 @@ fn deepen(
     fault: &Fault,
     facts: &mut FactSet,
     watch: &mut Watch,
+    taught: &mut Vec<NodeId>,
     depth: u8,
 ) -> Result<Option<u8>, NoMemory>
     requires pin { HasPin (net_of graph.now) fault.now }
@@ -104,7 +107,7 @@ fn deepen(
 {
     let _mark = engine.mark();
     for level in 0..depth {
-        if learn(alloc, engine, graph, fault, facts, watch, level + 1)? {
+        if learn(alloc, engine, graph, fault, facts, watch, taught, level + 1)? {
             return Ok(Some(level + 1));
         }
     }
@@ -135,16 +138,26 @@ fn refute_open(
     }
     let mut held = facts;
     let mut nothing = FactSet::for_numbers(alloc, 0)?;
+    let mut taught = Vec::new(alloc);
     let mut watch = Watch::new(alloc, graph.node_bound())?;
     let mark = engine.mark();
-    let clash = deepen(alloc, engine, graph, fault, &mut held, &mut watch, depth)?;
+    let clash = deepen(
+        alloc,
+        engine,
+        graph,
+        fault,
+        &mut held,
+        &mut watch,
+        &mut taught,
+        depth,
+    )?;
     // What was learned stays: the trail is cut without it.
     engine.take_back(&mut nothing, mark);
     let Some(level) = clash else {
         return Ok(Closed::Open(held));
     };
     watch.forget();
-    let tree = tree_of(alloc, engine, graph, fault, &mut watch, level)?;
+    let tree = tree_of(alloc, engine, graph, fault, &mut watch, level, &taught)?;
     Ok(Closed::Clash(tree))
 }
 

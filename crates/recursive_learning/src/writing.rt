@@ -97,9 +97,9 @@ fn write_pass(
     Ok(false)
 }
 
-// Writes what one gate teaches; whether that ends the branch.
+/// Writes what one gate teaches; whether that ends the branch.
 #[cycle(writing)]
-fn write_gate(
+pub fn write_gate(
     alloc: Global,
     engine: &mut Engine,
     graph: &Graph,
@@ -121,7 +121,19 @@ fn write_gate(
     ensures leaves { OnOk result (LeavesList watch.old watch.new) }
 {
     let _mark = engine.mark();
-    let Some(lesson) = lesson_at(alloc, engine, graph, fault, facts, watch, depth, gate)? else {
+    let mut taught = Vec::new(alloc);
+    let Some(lesson) = lesson_at(
+        alloc,
+        engine,
+        graph,
+        fault,
+        facts,
+        watch,
+        &mut taught,
+        depth,
+        gate,
+    )?
+    else {
         return Ok(false);
     };
     if lesson.found {

@@ -8,13 +8,12 @@ use Rattle.gate_graph.specs.Search.{IsSeen}
 use Rattle.refutation.proofs.Agendas.{none_marked}
 use Rattle.implications.proofs.Trails.{trail_tells}
 use Rattle.implications.specs.Trail.{AreAdded, LeadsBack}
-use Rattle.implications.specs.Working.{work}
 use Rattle.recursive_learning.proofs.Commons.{common_clash, common_open, found_all, found_none}
 use Rattle.recursive_learning.proofs.Gains.{keeps_join}
 use Rattle.recursive_learning.proofs.Live.{driver_live}
 use Rattle.recursive_learning.proofs.Missing.{missing_within}
 use Rattle.recursive_learning.proofs.Refutes.{clash_at_deeper}
-use Rattle.recursive_learning.proofs.Regions.{covered_more, region_of, region_stays}
+use Rattle.recursive_learning.proofs.Regions.{covered_more, region_of, region_stays, stays_idle}
 use Rattle.recursive_learning.proofs.Rounds.{Learning, forced_clash, forced_join, junction_below, learned_join, learning_more, learning_none, learning_quiet, lesson_of, taken_back, taught_nothing, visit_clash, visit_gain, visit_gain_clash}
 use Rattle.recursive_learning.proofs.Turns.{forced_at_deeper, gained_not_clash, lt_of, next_low, quiet_not_clash, taught_start, turn_learned, turn_learning, turn_less, turn_low, turn_taught, work_gained, work_taken}
 use Rattle.recursive_learning.proofs.Vecs.{driver_at, empty_is, full_is, map_some, true_false}
@@ -22,7 +21,7 @@ use Rattle.recursive_learning.proofs.Watches.{known_begun, known_longer, known_m
 use Rattle.recursive_learning.specs.Gates.{AreJustifications, HasTaught}
 use Rattle.recursive_learning.specs.Least.{IsLeastAt}
 use Rattle.recursive_learning.specs.Lessons.{AreCommon, AreFound, HasLooked, IsGained, IsLesson, IsOne, IsRound, Teaches}
-use Rattle.recursive_learning.specs.Watching.{HasRegion, IsCovered, Lengthens, StaysTaught}
+use Rattle.recursive_learning.specs.Watching.{HasRegion, IsCovered, Lengthens, StaysTaught, looks_left}
 use Rattle.recursive_learning.specs.Working.{IsLearned}
 use Rattle.recursive_learning.specs.declared.lessons.Learned.{Learned}
 use Rattle.recursive_learning.specs.declared.lessons.Round.{Round}
@@ -173,9 +172,9 @@ learn_one-returns-then-branch-clause-keeps t c =
 pub learn_one-loop-gate-smaller : goal.learn_one-loop-gate-smaller
 learn_one-loop-gate-smaller t c =
     let taken = c.in-Some.ensures.taken in
-    let one : work c.loop-gate.facts c.take.new.self.listed < work c.loop-gate.facts c.loop-gate.watch.listed = rw taken.1 (work_taken c.loop-gate.facts c.loop-gate.watch.listed c.in-Some.gate.0 taken.0) in
-    let less : work c.look_at.new.facts c.look_at.new.watch.listed ≤ work c.loop-gate.facts c.take.new.self.listed = c.in_ok-look_at.ensures.less c.if-branch.false in
-    lt_of (work c.look_at.new.facts c.look_at.new.watch.listed) (work c.loop-gate.facts c.take.new.self.listed) (work c.loop-gate.facts c.loop-gate.watch.listed) less one
+    let one : looks_left c.loop-gate.facts c.take.new.self.listed < looks_left c.loop-gate.facts c.loop-gate.watch.listed = rw taken.1 (work_taken c.loop-gate.facts c.loop-gate.watch.listed c.in-Some.gate.0 taken.0) in
+    let less : looks_left c.look_at.new.facts c.look_at.new.watch.listed ≤ looks_left c.loop-gate.facts c.take.new.self.listed = c.in_ok-look_at.ensures.less c.if-branch.false in
+    lt_of (looks_left c.look_at.new.facts c.look_at.new.watch.listed) (looks_left c.loop-gate.facts c.take.new.self.listed) (looks_left c.loop-gate.facts c.loop-gate.watch.listed) less one
 
 pub learn_one-loop-gate-preserved : goal.learn_one-loop-gate-preserved
 learn_one-loop-gate-preserved t c =
@@ -355,6 +354,15 @@ lesson_at-returns-clause-lesson t c =
       | lesson_at-else-common-via-then-common+else-is_empty-2 w ↦ full_is c.in_ok-common.common.goods w.if-is_empty-2.ensures
       | lesson_at-else-common-via-else-common w ↦ absurd (true_false c.in_ok-common.common.found some w.if-common.false)
     ])
+
+pub lesson_at-returns-in_default-clause-stays : goal.lesson_at-returns-in_default-clause-stays
+lesson_at-returns-in_default-clause-stays t c e zero unknown =
+    stays_idle (net_of c.args.graph.now) c.args.fault.now (held_by c.args.facts.now) c.args.watch.now.rests.entries c.args.gate.0 (λ value u few. c.in_default.ensures value u)
+
+pub lesson_at-returns-in_default-2-clause-stays : goal.lesson_at-returns-in_default-2-clause-stays
+lesson_at-returns-in_default-2-clause-stays t c e zero unknown =
+    let many : HasFew (net_of c.args.graph.now) (held_by c.args.facts.now) c.args.gate.0 → ⊥ = subst (λ (o : Option (Vec NodeId Global)). MatchOption o (HasFew (net_of c.args.graph.now) (held_by c.args.facts.now) c.args.gate.0 → ⊥) (λ v. AreJustifications (net_of c.args.graph.now) (held_by c.args.facts.now) c.args.gate.0 (map (λ n. n.0) v.items))) c.in_default-2.is c.in_ok-drivers.ensures in
+    stays_idle (net_of c.args.graph.now) c.args.fault.now (held_by c.args.facts.now) c.args.watch.now.rests.entries c.args.gate.0 (λ value u few. many few)
 
 -- ONE MORE
 

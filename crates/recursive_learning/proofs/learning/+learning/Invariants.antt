@@ -1,11 +1,10 @@
 use Rattle.std.proofs.Common.{Some, false, map, suc, ℕ, ◌*◌, ◌+◌, ◌-◌, ◌<◌, ◌≡◌, ◌≤◌}
 use Rattle.std.specs.Prelude.{slice_get}
 use Rattle.gate_graph.specs.Circuit.{net_of}
-use Rattle.implications.specs.Working.{work}
 use Rattle.recursive_learning.proofs.Rounds.{Learning}
 use Rattle.recursive_learning.proofs.Turns.{AreTaughtBefore}
 use Rattle.recursive_learning.specs.Lessons.{AreCommon}
-use Rattle.recursive_learning.specs.Watching.{HasNoneListed, IsCovered, IsKnown, IsWatching, LeavesList, Lengthens}
+use Rattle.recursive_learning.specs.Watching.{HasNoneListed, IsCovered, IsKnown, IsWatching, LeavesList, Lengthens, looks_left}
 use Rattle.recursive_learning.specs.Working.{Keeps}
 use Rattle.refutation.specs.FactSets.{held_by, missing}
 use Rattle.recursive_learning.proofs.learning.+learning.Given as goal
@@ -49,7 +48,7 @@ invariant-learn_one-loop-gate l = record {
 }
 
 abbrev pub decreases-learn_one-loop-gate : goal.decreases-learn_one-loop-gate
-decreases-learn_one-loop-gate l = work l.facts l.watch.listed
+decreases-learn_one-loop-gate l = looks_left l.facts l.watch.listed
 
 abbrev pub invariant-learn_deeper-loop-quiet : goal.invariant-learn_deeper-loop-quiet
 invariant-learn_deeper-loop-quiet l = record {

@@ -10,11 +10,11 @@ use Rattle.recursive_learning.proofs.refuting.written.Goals as goal
 
 pub take_back-requires : goal.take_back-requires
 take_back-requires c =
-    let h : LeadsBack c.write.new.engine.trail c.mark-mark.result c.write.new.facts c.args.facts = c.in_ok-write.ensures.keeps.back c.mark-mark.result c.args.facts (c.mark-mark.ensures.back c.args.facts) in
+    let h : LeadsBack c.write_from.new.engine.trail c.mark-mark.result c.write_from.new.facts c.args.facts = c.in_ok-write_from.ensures.keeps.back c.mark-mark.result c.args.facts (c.mark-mark.ensures.back c.args.facts) in
     h.order
 
 pub returns-clause-accepted : goal.returns-clause-accepted
 returns-clause-accepted c =
     rw c.finish.ensures
-    (written_accepted (net_of c.args.graph.now) c.args.fault.now c.args.engine.now.lines (held_by c.args.facts) c.push_lines.new.tree c.write.new.tree c.requires.lines
-    (c.in_ok-push_lines.ensures ∙ ap (λ (items : List Item). items ++ map line_item c.lines.result.now) c.new-tree.ensures ∙ ap (λ (lines : List Line). [] ++ map line_item lines) c.lines.ensures) c.in_ok-write.ensures.ends)
+    (written_accepted (net_of c.args.graph.now) c.args.fault.now c.args.engine.now.lines (held_by c.args.facts) c.push_lines.new.tree c.write_from.new.tree c.requires.lines
+    (c.in_ok-push_lines.ensures ∙ ap (λ (items : List Item). items ++ map line_item c.lines.result.now) c.new-tree.ensures ∙ ap (λ (lines : List Line). [] ++ map line_item lines) c.lines.ensures) c.in_ok-write_from.ensures.ends)
