@@ -2,7 +2,7 @@
 use Rattle.std.specs.Prelude.{Bool, List, [], false, length, replicate, slice_get, Some, true, ℕ, ◌<◌, ◌≡◌, ◌≤◌, ◌⊎◌, suc, ◌*◌, ◌+◌}
 use Rattle.gate_graph.specs.Search.{IsSeen}
 use Rattle.gate_net.specs.Net.{IsLive, Net, Reads}
-use Rattle.implications.specs.Agendas.{seen_count}
+use Rattle.refutation.specs.Agendas.{seen_count}
 use Rattle.implications.specs.Settled.{AgreeAt}
 use Rattle.recursive_learning.specs.Gates.{HasTaught}
 use Rattle.recursive_learning.specs.Least.{IsLeastAt}
