@@ -1,4 +1,4 @@
-use Rattle.std.proofs.Common.{ap, arith, inl, inr, length, subst, sym, ◌<◌, ◌∙◌, ℕ}
+use Rattle.std.proofs.Common.{ap, arith, inl, inr, length, subst, sym, ◌<◌, ◌∙◌}
 use Rattle.gate_graph.specs.Circuit.{net_of}
 use Rattle.refutation.proofs.Readers.{all_came, next_below}
 use Rattle.recursive_learning.proofs.Watches.{listed_still, room_still, still_join}
