@@ -1,8 +1,9 @@
 -- The graph of a model's plan is the model's.
 use Rattle.std.proofs.Common.{◌≡◌, ◌<◌, ◌≤◌, ◌+◌, ℕ, zero, suc, List, [], ◌∷◌, length, map, refl, sym, ap, subst, ◌∙◌, arith}
 use Rattle.std.specs.Prelude.{All, Some, slice_index, sum_by}
-use Rattle.gate_net.specs.Net.{Node, wire_count}
+use Rattle.gate_net.specs.Net.{Net, Node, wire_count}
 use Rattle.gate_graph.specs.Circuit.{Circuit, net_of, fanouts_of, pins_taken, live_nodes}
+use Rattle.gate_graph.specs.Holds.{pins_held}
 use Rattle.rm_model.specs.Words.{Word}
 use Rattle.rm_model.specs.Value.{observed_names, source_names}
 use Rattle.rm_model.specs.declared.parts.Model.{Model}
@@ -10,6 +11,7 @@ use Rattle.cover_decompose.specs.Built.{IsBuildable, IsBuilt, readers_in}
 use Rattle.cover_decompose.specs.Count.{decomposed}
 use Rattle.cover_decompose.specs.Decomposition.{last_state, net_of_model}
 use Rattle.cover_decompose.proofs.Counted.{observed_count}
+use Rattle.cover_decompose.proofs.Fitting.{few_nodes}
 use Rattle.cover_decompose.proofs.Sums.{sum-total}
 use Rattle.cover_decompose.proofs.WellFormed.{made, wires_made}
 
@@ -51,14 +53,32 @@ pub record IsWhole (m : Model) (g : Circuit) : Type 0 where
   pub net : net_of g ≡ net_of_model m
   pub fanouts : (n : ℕ) → fanouts_of g n ≡ readers_in (net_of_model m) n
   pub pins : pins_taken g ≡ decomposed m + length (observed_names m)
+  pub held : pins_held g ≡ 0
   pub nodes : live_nodes g ≡ length (net_of_model m).nodes
   pub epoch : g.epoch ≡ 0
+
+none_held : (m : Model) (g : Circuit) → net_of g ≡ net_of_model m → wire_count (net_of_model m) ≡ decomposed m → pins_taken g ≡ decomposed m + length (observed_names m) → pins_held g ≡ 0
+none_held m g same wires pins =
+    let w : wire_count (net_of g) ≡ decomposed m = ap wire_count same ∙ wires in
+    let o : length (net_of g).observed ≡ length (observed_names m) = ap (λ (n : Net). length n.observed) same ∙ observed_count m in
+    omega (arith, w, o, pins)
+
+taken : (m : Model) (g : Circuit) → wire_count (net_of_model m) ≡ decomposed m → IsBuilt g (last_state m).made (net_of_model m).observed → pins_taken g ≡ decomposed m + length (observed_names m)
+taken m g wires h =
+    h.pins ∙ (let e : sum_by (λ (n : Node). length n.drivers) (last_state m).made ≡ decomposed m = wires_sum m wires in let o : length (net_of_model m).observed ≡ length (observed_names m) = observed_count m in omega arith)
 
 pub whole : (m : Model) (g : Circuit) → wire_count (net_of_model m) ≡ decomposed m → IsBuilt g (last_state m).made (net_of_model m).observed → IsWhole m g
 whole m g wires h = record {
   net = h.net;
   fanouts = h.readers;
-  pins = h.pins ∙ (let e : sum_by (λ (n : Node). length n.drivers) (last_state m).made ≡ decomposed m = wires_sum m wires in let o : length (net_of_model m).observed ≡ length (observed_names m) = observed_count m in omega arith);
+  pins = taken m g wires h;
+  held = none_held m g h.net wires (taken m g wires h);
   nodes = h.nodes ∙ sym (length-mapped (λ (n : Node). Some n) (last_state m).made);
   epoch = h.epoch;
 }
+
+-- few wires make few nodes
+pub few_live : (m : Model) (g : Circuit) → length (source_names m) ≤ 1024 → wire_count (net_of_model m) ≡ decomposed m → decomposed m ≤ 65536 → IsBuilt g (last_state m).made (net_of_model m).observed → live_nodes g ≤ 66562
+few_live m g sources wires le h =
+    let made : length (last_state m).made ≤ 66562 = few_nodes (last_state m).made (length (source_names m)) (buildable m (length (source_names m)) (last_state m).made refl refl sources wires le) in
+    omega (arith, h.nodes, made)

@@ -7,6 +7,7 @@ ghost use Rattle.cover_decompose.specs.Decomposition.{last_state, net_of_model};
 ghost use Rattle.cover_decompose.specs.Needed.{taken};
 ghost use Rattle.cover_decompose.specs.Refusals.{IsRefused};
 ghost use Rattle.gate_graph.specs.Circuit.{fanouts_of, live_nodes, net_of, pins_taken};
+ghost use Rattle.gate_graph.specs.Holds.{pins_held};
 ghost use Rattle.rm_model.specs.Ranks.{first_without_rank};
 ghost use Rattle.rm_model.specs.Value.{observed_names, source_names};
 ghost use Rattle.rm_model.specs.WellFormed.{IsWellFormed};
@@ -81,7 +82,9 @@ pub fn decompose(alloc: Global, model: &Model) -> Result<Graph, DecomposeRefusal
     ensures net { IfOk result (λ g. net_of g ≡ net_of_model model.now) }
     ensures fanouts { IfOk result (λ g. (n : ℕ) → fanouts_of g n ≡ readers_in (net_of_model model.now) n) }
     ensures pins { IfOk result (λ g. pins_taken g ≡ decomposed model.now + length (observed_names model.now)) }
+    ensures held { IfOk result (λ g. pins_held g ≡ 0) }
     ensures nodes { IfOk result (λ g. live_nodes g ≡ length (net_of_model model.now).nodes) }
+    ensures few { IfOk result (λ g. live_nodes g ≤ 66562) }
     ensures epoch { IfOk result (λ g. g.epoch ≡ 0) }
     ensures within { OnOk result (decomposed model.now ≤ 65536) }
     ensures refused { IfErr result (λ refusal. IsRefused model.now refusal) }

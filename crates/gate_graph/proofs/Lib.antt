@@ -34,3 +34,4 @@ pub mod Counted
 pub mod HeldPins
 pub mod CopyGraph
 pub mod Following
+pub mod FaultLists

@@ -4,3 +4,4 @@ pub mod Paths
 pub mod Forward
 pub mod Edits
 pub mod Laws
+pub mod Faults

@@ -8,3 +8,4 @@ pub mod Writing
 pub mod Answers
 pub mod Resting
 pub mod Watching
+pub mod Detected

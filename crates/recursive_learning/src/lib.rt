@@ -2,6 +2,7 @@
 #![tactic(auto)]
 
 mod adding;
+pub mod detected;
 mod gates;
 pub mod laws;
 mod learning;

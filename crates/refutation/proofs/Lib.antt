@@ -21,3 +21,4 @@ pub mod Agendas
 pub mod Readers
 pub mod Reaches
 pub mod Sites
+pub mod TrueFacts

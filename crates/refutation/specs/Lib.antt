@@ -12,3 +12,4 @@ pub mod Answers
 pub mod Agendas
 pub mod Reaching
 pub mod Sites
+pub mod Detected

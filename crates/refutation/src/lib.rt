@@ -4,6 +4,7 @@
 pub mod agenda;
 pub mod chains;
 mod concluding;
+pub mod detected;
 pub mod equal_lines;
 pub mod following;
 pub mod glances;

@@ -91,6 +91,13 @@ impl Vector {
         })
     }
 
+    /// The vector of these values. It takes no memory.
+    pub fn of(values: Vec<bool>) -> Vector
+        ensures { result ≡ values.items }
+    {
+        Vector { kept: values }
+    }
+
     pub fn len(&self) -> usize
         ensures { result ≡ length self.now }
     {

@@ -33,3 +33,7 @@ pub mod Totalling
 pub mod Trying
 pub mod Sources
 pub mod Calling
+pub mod FreePins
+pub mod Falling
+pub mod Unrefused
+pub mod LiveNodes

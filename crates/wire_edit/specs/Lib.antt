@@ -13,3 +13,7 @@ pub mod Trials
 pub mod Work
 pub mod Laws
 pub mod Rows
+pub mod Tidying
+pub mod Removals
+pub mod Rooms
+pub mod Sizes

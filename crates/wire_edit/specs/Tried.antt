@@ -4,6 +4,7 @@ use Rattle.gate_graph.specs.Circuit.{Circuit, wiring, net_of, fanouts_of}
 use Rattle.gate_graph.specs.Wirings.{Wiring}
 use Rattle.gate_graph.specs.Entries.{back_to}
 use Rattle.gate_graph.specs.Trail.{Trail}
+use Rattle.gate_graph.specs.Holds.{pins_held}
 use Rattle.wire_edit.specs.declared.steps.Step.{Step}
 use Rattle.wire_edit.specs.declared.room.Room.{Room}
 use Rattle.wire_edit.specs.declared.refusal.EditRefusal.{EditRefusal}
@@ -38,7 +39,7 @@ refusal_in (Err e) = Some e
 
 -- a refusal gives back the graph as it was
 abbrev pub GivesBack : BeginRefusal → Circuit → Type 0
-GivesBack (NoMemory v) graph = (wiring v ≡ wiring graph) × ((net_of v ≡ net_of graph) × (v.epoch ≡ graph.epoch))
+GivesBack (NoMemory v) graph = (wiring v ≡ wiring graph) × ((net_of v ≡ net_of graph) × ((v.epoch ≡ graph.epoch) × (pins_held v ≡ pins_held graph)))
 
 -- the next step of the order is made and given; none where the net is tidy; Full where it isn't and no step has room
 abbrev pub Tidies : Tried → Tried → Result (Option Step) EditRefusal → Type 0

@@ -16,6 +16,7 @@ mod rules;
 #[cfg(test)]
 mod script_tests;
 mod seen;
+mod step_laws;
 mod steps;
 #[cfg(test)]
 mod tests;
@@ -31,5 +32,6 @@ pub use refusal::EditRefusal;
 pub use room::Room;
 pub use rules::{first_rule, first_rule_by};
 pub use seen::Seen;
+pub use step_laws::{answers_agree, fixes_lower, live_counted, steps_grow, tidying_leads};
 pub use steps::{Rule, Step};
 pub use trial::{BeginRefusal, Trial};

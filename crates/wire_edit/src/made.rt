@@ -63,4 +63,11 @@ impl Made {
     {
         self.spare
     }
+
+    // Forgets the steps. The room for more stays.
+    pub(crate) fn clear(&mut self)
+        ensures { self.new ≡ record { steps = []; spare = self.old.spare } }
+    {
+        self.steps.clear();
+    }
 }

@@ -1,6 +1,8 @@
 //! What a trial reserves.
 ghost use Rattle.std.specs.Prelude.{◌≡◌, ◌≤◌, ◌+◌, [], true, IfOk, IfSome};
 ghost use Rattle.gate_graph.specs.Circuit.{wiring, net_of, pins_taken, live_nodes};
+ghost use Rattle.gate_graph.specs.Holds.{pins_held};
+ghost use Rattle.gate_graph.specs.Readers.{SameReaders};
 ghost use Rattle.wire_edit.specs.Order.{IsTidy};
 ghost use Rattle.wire_edit.specs.Trials.{IsTrial};
 
@@ -45,6 +47,8 @@ pub(crate) fn prepare(
     ensures wiring { wiring graph.new ≡ wiring graph.old }
     ensures net { net_of graph.new ≡ net_of graph.old }
     ensures epoch { graph.new.epoch ≡ graph.old.epoch }
+    ensures held { pins_held graph.new ≡ pins_held graph.old }
+    ensures readers { SameReaders graph.old graph.new }
     ensures parts { IfOk result (λ p. IsTrial graph.new p.0 room p.2 p.3 × ((p.1 ≡ record { steps = []; spare = room.steps }) × ((p.0.entries ≡ []) × (p.2 ≤ p.4)))) }
 {
     let Some(entries) = entries_needed(room, graph.wire_count() as usize) else {

@@ -1,5 +1,6 @@
 //! What a trial does to its graph.
 ghost use Rattle.std.specs.Prelude.{◌≡◌, ◌≢◌, ◌≤◌, ◌+◌, [], Some, true, IfSome, length};
+ghost use Rattle.gate_graph.specs.Holds.{HoldsOn};
 ghost use Rattle.gate_graph.specs.Circuit.{net_of};
 ghost use Rattle.gate_graph.specs.Changes.{CanEdit, Edits, entries_for};
 ghost use Rattle.gate_graph.specs.Entries.{LeadOn};
@@ -27,6 +28,7 @@ pub(crate) fn carry_out(graph: &mut Graph, undos: &mut Undos, agenda: &mut Agend
     ensures left { undos.new.entries ≢ [] }
     ensures spent { undos.new.spare + entries_for graph.old (edit_of (change_of (net_of graph.old) step)) ≡ undos.old.spare }
     ensures epoch { graph.new.epoch ≡ graph.old.epoch }
+    ensures held { HoldsOn graph.old graph.new undos.old.entries undos.new.entries }
     ensures few { length (net_of graph.new).nodes ≤ 4294967295 }
     ensures marks { KeepsMarks agenda.old agenda.new }
     ensures touched { MarksTouched (net_of graph.old) (change_of (net_of graph.old) step) agenda.new }

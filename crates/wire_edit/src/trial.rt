@@ -1,7 +1,9 @@
 //! A trial of steps, which can be rolled back.
-ghost use Rattle.std.specs.Prelude.{◌≡◌, ◌≢◌, ◌<◌, ◌≤◌, ◌+◌, ◌-◌, ◌^◌, ◌++◌, ◌∷◌, [], ℕ, min, true, IfOk, IfErr, OnOk, OnErr, Some, Ok};
+ghost use Rattle.std.specs.Prelude.{◌≡◌, ◌≢◌, ◌<◌, ◌≤◌, ◌+◌, ◌-◌, ◌^◌, ◌++◌, ◌∷◌, [], ℕ, length, min, true, IfOk, IfErr, OnOk, OnErr, Some, Ok};
 ghost use Rattle.gate_graph.specs.Circuit.{wiring, net_of, fanouts_of, pins_taken, live_nodes};
 ghost use Rattle.gate_graph.specs.Changes.{Edits};
+ghost use Rattle.gate_graph.specs.Holds.{HoldsOn, held, pins_held};
+ghost use Rattle.gate_graph.specs.Readers.{SameReaders};
 ghost use Rattle.wire_edit.specs.Steps.{Applies, change_of, stepped};
 ghost use Rattle.wire_edit.specs.Refusals.{has_room, room_after, IsAnswer};
 ghost use Rattle.wire_edit.specs.Order.{IsTidy};
@@ -75,6 +77,8 @@ impl Trial {
         ensures room { IfOk result (λ t. t.room ≡ room) }
         ensures refused { IfErr result (λ e. GivesBack e graph) }
         ensures begun { IfOk result (λ t. IsBegun graph t) }
+        ensures held { IfOk result (λ t. (t.trail.entries ≡ []) × (pins_held t.graph ≡ pins_held graph)) }
+        ensures readers { IfOk result (λ t. SameReaders graph t.graph) }
     {
         let mut graph = graph;
         match prepare(alloc, &mut graph, room, tidy) {
@@ -105,6 +109,8 @@ impl Trial {
         ensures room { IfOk result (λ t. t.room ≡ room) }
         ensures refused { IfErr result (λ e. GivesBack e graph) }
         ensures begun { IfOk result (λ t. IsBegun graph t) }
+        ensures held { IfOk result (λ t. (t.trail.entries ≡ []) × (pins_held t.graph ≡ pins_held graph)) }
+        ensures readers { IfOk result (λ t. SameReaders graph t.graph) }
     {
         Trial::over(alloc, graph, room, false)
     }
@@ -119,12 +125,14 @@ impl Trial {
         ensures room { IfOk result (λ t. t.room ≡ room) }
         ensures refused { IfErr result (λ e. GivesBack e graph) }
         ensures begun { IfOk result (λ t. IsBegun graph t) }
+        ensures held { IfOk result (λ t. (t.trail.entries ≡ []) × (pins_held t.graph ≡ pins_held graph)) }
+        ensures readers { IfOk result (λ t. SameReaders graph t.graph) }
     {
         Trial::over(alloc, graph, room, true)
     }
 
-    // The room that is left.
-    fn room(&self) -> Room
+    /// The room that is left.
+    pub fn room(&self) -> Room
         ensures { result ≡ self.now.room }
     {
         Room {
@@ -144,6 +152,7 @@ impl Trial {
         ensures room { self.new.room ≡ room_after self.old.room step }
         ensures start { start_of self.new ≡ start_of self.old }
         ensures epoch { self.new.graph.epoch ≡ self.old.graph.epoch }
+        ensures held { HoldsOn self.old.graph self.new.graph self.old.trail.entries self.new.trail.entries }
     {
         self.graph.well_formed();
         carry_out(&mut self.graph, &mut self.undos, &mut self.agenda, step);
@@ -175,6 +184,7 @@ impl Trial {
         ensures start { start_of self.new ≡ start_of self.old }
         ensures epoch { self.new.graph.epoch ≡ self.old.graph.epoch }
         ensures call { IsApplied self.old self.new step (refusal_in result) }
+        ensures held { HoldsOn self.old.graph self.new.graph self.old.trail.entries self.new.trail.entries }
     {
         self.graph.well_formed();
         if let Some(refusal) = fault(&self.graph, step, &mut self.marks) {
@@ -197,6 +207,7 @@ impl Trial {
         ensures start { start_of self.new ≡ start_of self.old }
         ensures epoch { self.new.graph.epoch ≡ self.old.graph.epoch }
         ensures call { IsTidied self.old self.new result }
+        ensures held { HoldsOn self.old.graph self.new.graph self.old.trail.entries self.new.trail.entries }
     {
         self.graph.well_formed();
         let next = next_rule(&self.graph, &mut self.agenda, &mut self.seen, self.plain);
@@ -231,6 +242,7 @@ impl Trial {
         ensures graph { IsAt result (start_of self) }
         ensures epoch { result.epoch ≡ self.graph.epoch }
         ensures call { IsRolledBack self result }
+        ensures held { pins_held result + length (held self.trail.entries) ≡ pins_held self.graph }
     {
         let Trial {
             mut graph,
@@ -248,12 +260,33 @@ impl Trial {
         graph
     }
 
+    /// Keeps the steps so far for good, and goes on from there with the room that is left: a rollback gives the graph as
+    /// it is now. It takes the time of those steps, and no memory.
+    pub fn settle(&mut self)
+        ensures net { net_of self.new.graph ≡ net_of self.old.graph }
+        ensures readers { (n : ℕ) → fanouts_of self.new.graph n ≡ fanouts_of self.old.graph n }
+        ensures start { start_of self.new ≡ wiring self.new.graph }
+        ensures entries { self.new.trail.entries ≡ [] }
+        ensures steps { self.new.steps ≡ [] }
+        ensures room { self.new.room ≡ self.old.room }
+        ensures same { self.old.steps ≡ [] → self.new.graph.epoch ≡ self.old.graph.epoch }
+        ensures epoch { self.old.steps ≢ [] → self.new.graph.epoch ≡ min (self.old.graph.epoch + 1) (2 ^ 64 - 1) }
+        ensures held { pins_held self.new.graph + length (held self.old.trail.entries) ≡ pins_held self.old.graph }
+        ensures tidy { IsTidy (net_of self.old.graph) → IsTidy (net_of self.new.graph) }
+    {
+        self.graph.keep(&mut self.undos);
+        self.graph.leads_back();
+        self.made.clear();
+    }
+
     /// Gives the graph as it is now. Its epoch rises where a step was made.
     pub fn commit(self) -> Graph
         ensures net { net_of result ≡ net_of self.graph }
         ensures readers { (n : ℕ) → fanouts_of result n ≡ fanouts_of self.graph n }
         ensures same { self.steps ≡ [] → result.epoch ≡ self.graph.epoch }
         ensures epoch { self.steps ≢ [] → result.epoch ≡ min (self.graph.epoch + 1) (2 ^ 64 - 1) }
+        ensures held { pins_held result + length (held self.trail.entries) ≡ pins_held self.graph }
+        ensures tidy { IsTidy (net_of self.graph) → IsTidy (net_of result) }
     {
         let Trial {
             mut graph,
