@@ -1,2 +1,4 @@
 pub mod Marks
 pub mod Sims
+pub mod Tracking
+pub mod Settling

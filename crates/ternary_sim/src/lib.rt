@@ -1,11 +1,16 @@
 //! Three-valued simulation of a net and of a stuck-at fault on it: what follows forward from the sources that are known.
 #![tactic(auto)]
 
+mod beginning;
 mod marks;
 mod reading;
+mod settling;
 mod simulator;
 #[cfg(test)]
 mod tests;
+mod tracker;
+mod trail;
 
 pub use marks::{NodeMarks, Reading};
 pub use simulator::Sim;
+pub use tracker::Tracker;

@@ -1,7 +1,6 @@
 // Forward reading, node by node.
 ghost use Rattle.std.specs.Prelude.{◌≡◌, length, map};
 ghost use Rattle.gate_net.specs.Net.{IsLive, drivers_of, node_at, source_count};
-ghost use Rattle.gate_net.specs.Values.{HasPin};
 ghost use Rattle.std.specs.Prelude.{nat_eq, if◌then◌else◌};
 ghost use Rattle.std.specs.List.{list_all};
 ghost use Rattle.gate_net.specs.Forward.{node_forward, is_idle, both_known_same};
@@ -45,7 +44,6 @@ fn node_value(
 
 // Whether the driver of the stuck pin is known to have the value that the pin is stuck at.
 fn is_idle(graph: &Graph, fault: &Fault, marks: &[NodeMarks]) -> bool
-    requires pin { HasPin (net_of graph.now) fault.now }
     requires drivers { AreBelow (drivers_of (net_of graph.now) fault.now.gate.0) (length marks.now) }
     ensures { result ≡ is_idle (net_of graph.now) fault.now (good_at marks.now) }
 {
@@ -55,7 +53,7 @@ fn is_idle(graph: &Graph, fault: &Fault, marks: &[NodeMarks]) -> bool
     }
 }
 
-fn both_known_same(good: Option<bool>, faulty: Option<bool>) -> bool
+pub(crate) fn both_known_same(good: Option<bool>, faulty: Option<bool>) -> bool
     ensures { result ≡ both_known_same good faulty }
 {
     match (good, faulty) {
@@ -65,8 +63,12 @@ fn both_known_same(good: Option<bool>, faulty: Option<bool>) -> bool
 }
 
 // Whether a node is marked equal by what its drivers are.
-fn is_equal_before(graph: &Graph, fault: &Fault, marks: &[NodeMarks], node: NodeId) -> bool
-    requires pin { HasPin (net_of graph.now) fault.now }
+pub(crate) fn is_equal_before(
+    graph: &Graph,
+    fault: &Fault,
+    marks: &[NodeMarks],
+    node: NodeId,
+) -> bool
     requires live { IsLive (net_of graph.now) node.0 }
     requires drivers { AreBelow (drivers_of (net_of graph.now) node.0) (length marks.now) }
     ensures { result ≡ (if nat_eq node.0 fault.now.gate.0 then is_idle (net_of graph.now) fault.now (good_at marks.now) else list_all (equal_at marks.now) (drivers_of (net_of graph.now) node.0)) }
@@ -86,7 +88,6 @@ fn read_node(
     marks: &[NodeMarks],
     node: NodeId,
 ) -> NodeMarks
-    requires pin { HasPin (net_of graph.now) fault.now }
     requires live { IsLive (net_of graph.now) node.0 }
     requires sources { length sources.now ≡ source_count (net_of graph.now) }
     requires drivers { AreBelow (drivers_of (net_of graph.now) node.0) (length marks.now) }
@@ -111,12 +112,12 @@ pub(crate) fn read_all(
     order: &[NodeId],
     marks: &mut Vec<NodeMarks>,
 )
-    requires pin { HasPin (net_of graph.now) fault.now }
     requires sources { length sources.now ≡ source_count (net_of graph.now) }
     requires order { IsOrder (net_of graph.now) (map (λ n. n.0) order.now) }
     requires marks { IsMarked (map (λ n. n.0) order.now) marks.old.items }
     ensures read { AreRead (net_of graph.now) fault.now (known_source sources.now) (map (λ n. n.0) order.now) marks.new.items (length order.now) }
     ensures marks { IsMarked (map (λ n. n.0) order.now) marks.new.items }
+    ensures size { length marks.new.items ≡ length marks.old.items }
 {
     graph.well_formed();
     for node in order {

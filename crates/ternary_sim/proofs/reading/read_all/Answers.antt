@@ -1,4 +1,4 @@
-use Rattle.std.proofs.Common.{◌<◌, List, ℕ, map, subst, get_or, sym, arith}
+use Rattle.std.proofs.Common.{◌<◌, ◌∙◌, length-set, List, ℕ, map, subst, get_or, sym, arith}
 use Rattle.rm_base.specs.declared.numbers.NodeId.{NodeId}
 use Rattle.gate_graph.specs.Circuit.{net_of}
 use Rattle.refutation.specs.Pins.{AreBelow}
@@ -43,4 +43,5 @@ loop-node-preserved c =
           c.loop-node.invariant.read (subst P c.as_slice.ensures.value c.read_node-read.ensures);
       marked = marked_more (numbers c.args.order.now) c.loop-node.marks.items c.loop-node.node-index (get_or c.args.order.now c.loop-node.node-index zero_node).0 c.read_node-read.result
           (order_at c.args.order.now c.loop-node.node-index zero_node c.loop-node-test.true) c.loop-node.invariant.marked;
+      size = length-set c.loop-node.marks.items (get_or c.args.order.now c.loop-node.node-index zero_node).0 c.read_node-read.result ∙ c.loop-node.invariant.size;
     }
