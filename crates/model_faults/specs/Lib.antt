@@ -1,0 +1,4 @@
+pub mod ModelFaults
+pub mod Valuations
+pub mod Laws
+pub mod Rows
