@@ -1,0 +1,42 @@
+-- From the journal and the output to the audit.
+use Rattle.std.proofs.Common.{◌≡◌, ℕ, List, Option, Some, None, Err, IfSome, subst}
+use Rattle.rm_base.specs.Files.{Files}
+use Rattle.rm_model.specs.Ranks.{first_without_rank}
+use Rattle.rm_model.specs.WellFormed.{IsWellFormed}
+use Rattle.rm_model.specs.Words.{Word}
+use Rattle.rm_model.specs.declared.parts.Model.{Model}
+use Rattle.gate_net.specs.Net.{Net}
+use Rattle.blif_format.specs.Text.{text_of}
+use Rattle.graph_to_model.specs.Fits.{Fits}
+use Rattle.graph_to_model.specs.NetModel.{model_of_net}
+use Rattle.journal_check.specs.Laws.{AcceptedStand}
+use Rattle.journal_audit.specs.Audited.{ComparedSays, IsProblem}
+use Rattle.journal_audit.specs.Differences.{DifferAt}
+use Rattle.journal_audit.specs.Turns.{EndsAccepted, IsLast}
+use Rattle.journal_audit.specs.declared.problem.AuditProblem.{AuditProblem}
+use Rattle.journal_audit.specs.declared.problem.AuditProblem.TheVariants.{Fault, Netlist, NoJournal, NoMemory, NoOutput, Refused, Text, TooLong}
+
+-- the last net of an accepted journal may be written as a model
+pub last_fits : AcceptedStand → (m : Model) (last : Net) → IsWellFormed m → first_without_rank m ≡ None → IsLast m last → Fits last m
+last_fits law m last formed ranked l =
+    let s = law.stands m l.budget l.records last formed ranked l.accepted in
+    record { sources = s.sources; observed = s.observed; points = law.points m l.budget l.records last formed ranked l.accepted }
+
+told_case : (told : Files) (m : Model) (journal output : Word) (last : Net) (count : ℕ) (text : List ℕ) (problem : AuditProblem) → EndsAccepted (Some told) m journal last count → text ≡ text_of (model_of_net m last) → ComparedSays told output text (Err problem) → IsProblem m told journal output problem
+told_case told m journal output last count text Fault a e says = tt
+told_case told m journal output last count text NoMemory a e says = tt
+told_case told m journal output last count text NoOutput a e says = (last, (count, (a.told, says)))
+told_case told m journal output last count text (Netlist byte) a e says =
+    (last, (count, (a.told, (says.0, (says.1.0, subst (λ (t : List ℕ). DifferAt t says.0 byte) e says.1.1)))))
+told_case told m journal output last count text NoJournal a e says = absurd says
+told_case told m journal output last count text TooLong a e says = absurd says
+told_case told m journal output last count text (Text f) a e says = absurd says
+told_case told m journal output last count text (Refused r) a e says = absurd says
+
+files_case : (files : Option Files) (m : Model) (journal output : Word) (last : Net) (count : ℕ) (text : List ℕ) (problem : AuditProblem) → EndsAccepted files m journal last count → text ≡ text_of (model_of_net m last) → IfSome files (λ told. ComparedSays told output text (Err problem)) → IfSome files (λ told. IsProblem m told journal output problem)
+files_case None m journal output last count text problem a e says = tt
+files_case (Some told) m journal output last count text problem a e says = told_case told m journal output last count text problem a e says
+
+pub compared_problem : (files mid : Option Files) (m : Model) (journal output : Word) (last : Net) (count : ℕ) (text : List ℕ) (problem : AuditProblem) → mid ≡ files → EndsAccepted files m journal last count → text ≡ text_of (model_of_net m last) → IfSome mid (λ told. ComparedSays told output text (Err problem)) → IfSome files (λ told. IsProblem m told journal output problem)
+compared_problem files mid m journal output last count text problem same a e says =
+    files_case files m journal output last count text problem a e (subst (λ (o : Option Files). IfSome o (λ told. ComparedSays told output text (Err problem))) same says)

@@ -1,0 +1,88 @@
+// The audit of a journal and an output.
+ghost use Rattle.std.specs.Prelude.{◌≡◌, ◌<◌, ◌≤◌, ◌^◌, ℕ, Err, IfErr, IfOk, IfSome, IsSome, None, OnOk, Option, length};
+ghost use Rattle.rm_base.specs.Causes.{Rose};
+ghost use Rattle.rm_base.specs.Files.{file_of};
+ghost use Rattle.rm_model.specs.Ranks.{first_without_rank};
+ghost use Rattle.rm_model.specs.Value.{observed_names, source_names};
+ghost use Rattle.rm_model.specs.WellFormed.{IsWellFormed};
+ghost use Rattle.blif_format.specs.Text.{text_of as model_text};
+ghost use Rattle.cover_decompose.specs.Count.{decomposed};
+ghost use Rattle.gate_graph.specs.Circuit.{net_of};
+ghost use Rattle.graph_to_model.specs.Fits.{Fits};
+ghost use Rattle.graph_to_model.specs.Laws.{AreFew};
+ghost use Rattle.graph_to_model.specs.NetModel.{model_of_net};
+ghost use Rattle.wire_edit.specs.Order.{IsTidy};
+ghost use Rattle.journal_audit.specs.Audited.{ComparedSays, IsOfOutput, IsPassed, IsPlain, IsProblem};
+ghost use Rattle.journal_audit.specs.Turns.{IsLast};
+
+use crate::compare::difference;
+use crate::problem::AuditProblem;
+use crate::reading::journal_net;
+use blif_writer::write_model;
+use gate_graph::Graph;
+use graph_to_model::{ModelRefusal, model_of};
+use journal_check::accepted_stand;
+use rm_base::{NoMemory, Shelf};
+use rm_model::Model;
+use std::alloc::Global;
+
+// The text of the model of the last net.
+fn text_of(alloc: Global, graph: &Graph, model: &Model) -> Result<Vec<u8>, NoMemory>
+    requires formed { IsWellFormed model.now }
+    requires fits { Fits (net_of graph.now) model.now }
+    requires tidy { IsTidy (net_of graph.now) }
+    ensures text { IfOk result (λ text. text.items ≡ model_text (model_of_net model.now (net_of graph.now))) }
+    ensures few { OnOk result (AreFew (net_of graph.now) model.now) }
+{
+    match model_of(alloc, graph, model) {
+        Ok(made) => write_model(alloc, &made),
+        Err(ModelRefusal::NotTidy { node: _ }) => unreachable!(),
+        Err(ModelRefusal::NoMemory) => Err(NoMemory),
+    }
+}
+
+// Whether the output is the text.
+fn compared<S: Shelf>(shelf: &mut S, output: &str, text: &[u8]) -> Result<(), AuditProblem>
+    ensures says { IfSome (S.files shelf.old) (λ told. ComparedSays told output.now text.now result) }
+    ensures told { result ≡ Err AuditProblem.NoOutput → IsSome (S.files shelf.old) }
+    ensures fault { result ≡ Err AuditProblem.Fault → Rose (S.faults shelf.old) (S.faults shelf.new) }
+    ensures plain { IfErr result IsOfOutput }
+    ensures later { S.faults shelf.old ≤ S.faults shelf.new }
+    ensures files { S.files shelf.new ≡ S.files shelf.old }
+{
+    let Some(found) = shelf.read(output, 0, text.len() + 1)? else {
+        return Err(AuditProblem::NoOutput);
+    };
+    difference(text, found.as_slice())
+}
+
+/// Replays the journal over the decomposition of the model and compares the output with the text of the last net's model:
+/// how many records the journal has, or the first reason against it. No file changes.
+pub fn audit<S: Shelf>(
+    alloc: Global,
+    shelf: &mut S,
+    model: &Model,
+    journal: &str,
+    output: &str,
+) -> Result<u64, AuditProblem>
+    requires formed { IsWellFormed model.now }
+    requires ranked { first_without_rank model.now ≡ None }
+    requires covers { length model.now.covers < 2 ^ 32 }
+    requires sources { length (source_names model.now) ≤ 1024 }
+    requires observed { length (observed_names model.now) ≤ 4096 }
+    requires few { decomposed model.now ≤ 65536 }
+    ensures passed { IfOk result (λ count. IfSome (S.files shelf.old) (λ told. IsPassed model.now told journal.now output.now count)) }
+    ensures problem { IfErr result (λ problem. IfSome (S.files shelf.old) (λ told. IsProblem model.now told journal.now output.now problem)) }
+    ensures no_journal { result ≡ Err AuditProblem.NoJournal → IsSome (S.files shelf.old) }
+    ensures no_output { result ≡ Err AuditProblem.NoOutput → IsSome (S.files shelf.old) }
+    ensures fault { result ≡ Err AuditProblem.Fault → Rose (S.faults shelf.old) (S.faults shelf.new) }
+    ensures plain { IfErr result IsPlain }
+    ensures later { S.faults shelf.old ≤ S.faults shelf.new }
+    ensures files { S.files shelf.new ≡ S.files shelf.old }
+{
+    accepted_stand();
+    let (graph, count) = journal_net(alloc, shelf, model, journal)?;
+    let text = text_of(alloc, &graph, model)?;
+    compared(shelf, output, text.as_slice())?;
+    Ok(count)
+}

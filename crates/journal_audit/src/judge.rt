@@ -1,0 +1,158 @@
+// Judging a journal entry by entry.
+ghost use Rattle.std.specs.Prelude.{◌≡◌, ◌<◌, ◌≤◌, ◌++◌, ◌^◌, [], ℕ, List, IfErr, IfOk, None, OnOk, length, true};
+ghost use Rattle.rm_model.specs.Ranks.{first_without_rank};
+ghost use Rattle.rm_model.specs.Value.{observed_names, source_names};
+ghost use Rattle.rm_model.specs.WellFormed.{IsWellFormed};
+ghost use Rattle.rm_model.specs.declared.parts.Model.{Model as ModelValue};
+ghost use Rattle.cover_decompose.specs.Count.{decomposed};
+ghost use Rattle.journal_text.specs.Streams.{GivesNone, comes};
+ghost use Rattle.journal_text.specs.Text.{IsEntry};
+ghost use Rattle.journal_text.specs.declared.reader.Awaited.{Awaited as AwaitedValue};
+ghost use Rattle.journal_text.specs.declared.reader.Awaited.TheVariants as awaited;
+ghost use Rattle.journal_text.specs.declared.record.Entry.TheVariants as entries;
+ghost use Rattle.journal_text.specs.declared.record.Record.{Record as RecordValue};
+ghost use Rattle.journal_check.specs.Replaying.{IsLocalTree};
+ghost use Rattle.journal_audit.specs.Judging.{IsTextProblem};
+ghost use Rattle.journal_audit.specs.Problems.{fault_problem as problem_of_fault, refusal_problem as problem_of_refusal};
+ghost use Rattle.journal_audit.specs.Stages.{IsJudged, IsReplayed, StageIs, TakenSays};
+ghost use Rattle.journal_audit.specs.declared.problem.AuditProblem.TheVariants.{NoMemory as Wanting};
+
+use crate::problem::AuditProblem;
+use crate::stage::Stage;
+use cover_decompose::DecomposeRefusal;
+use journal_check::{JournalRefusal, Replay, Why, records_replay, replays_accept};
+use journal_text::{Entry, JournalFault, JournalReader, Record, cuts_agree};
+use rm_model::Model;
+use std::alloc::Global;
+
+// A refusal, or want of memory.
+fn refusal_problem(refusal: JournalRefusal) -> AuditProblem
+    ensures { result ≡ problem_of_refusal refusal }
+{
+    match refusal.why {
+        Why::NoMemory => AuditProblem::NoMemory,
+        Why::Tree(_)
+        | Why::Edit(_)
+        | Why::VectorMisses
+        | Why::SpentShort { .. }
+        | Why::FaultMissing { .. }
+        | Why::RecordExtra
+        | Why::NotTidy { .. } => AuditProblem::Refused { refusal },
+    }
+}
+
+// A fault of the text, or want of memory.
+fn fault_problem(fault: JournalFault) -> AuditProblem
+    ensures { result ≡ problem_of_fault fault }
+{
+    match fault {
+        JournalFault::NoMemory => AuditProblem::NoMemory,
+        JournalFault::BadHeader { .. }
+        | JournalFault::BadRecord { .. }
+        | JournalFault::Truncated { .. }
+        | JournalFault::AfterEnd { .. } => AuditProblem::Text { fault },
+    }
+}
+
+// The replay begins at the decomposition of the model.
+fn begun(alloc: Global, model: &Model, budget: u32) -> Result<Stage, AuditProblem>
+    requires formed { IsWellFormed model.now }
+    requires ranked { first_without_rank model.now ≡ None }
+    requires covers { length model.now.covers < 2 ^ 32 }
+    requires sources { length (source_names model.now) ≤ 1024 }
+    requires observed { length (observed_names model.now) ≤ 4096 }
+    requires few { decomposed model.now ≤ 65536 }
+    ensures stage { IfOk result (λ stage. StageIs model.now budget [] awaited.Record stage) }
+    ensures memory { IfErr result (λ problem. problem ≡ Wanting) }
+{
+    match Replay::new(alloc, model, budget) {
+        Ok(replay) => Ok(Stage::Records { replay, count: 0 }),
+        Err(DecomposeRefusal::Limit { pins: _ }) => unreachable!(),
+        Err(DecomposeRefusal::NoMemory) => Err(AuditProblem::NoMemory),
+    }
+}
+
+// One more record.
+fn stepped(replay: Replay, count: u64, given: &Record) -> Result<Stage, AuditProblem>
+    requires tree { IsLocalTree given.now }
+    requires few { count < 2 ^ 63 }
+    ensures { (m : ModelValue) (budget : ℕ) (records : List RecordValue) → IsReplayed m budget records replay → count ≡ length records → TakenSays m budget records (entries.Record given.now) result }
+{
+    records_replay();
+    let mut replay = replay;
+    match replay.step(given) {
+        Ok(()) => Ok(Stage::Records {
+            replay,
+            count: count + 1,
+        }),
+        Err(refusal) => Err(refusal_problem(refusal)),
+    }
+}
+
+// The end of the journal.
+fn ended(replay: Replay, count: u64) -> Result<Stage, AuditProblem>
+    ensures { (m : ModelValue) (budget : ℕ) (records : List RecordValue) → IsReplayed m budget records replay → count ≡ length records → TakenSays m budget records entries.End result }
+{
+    records_replay();
+    replays_accept();
+    match replay.finish() {
+        Ok(graph) => Ok(Stage::Ended { graph, count }),
+        Err(refusal) => Err(refusal_problem(refusal)),
+    }
+}
+
+// One more entry.
+fn taken(alloc: Global, model: &Model, stage: Stage, entry: &Entry) -> Result<Stage, AuditProblem>
+    requires formed { IsWellFormed model.now }
+    requires ranked { first_without_rank model.now ≡ None }
+    requires covers { length model.now.covers < 2 ^ 32 }
+    requires sources { length (source_names model.now) ≤ 1024 }
+    requires observed { length (observed_names model.now) ≤ 4096 }
+    requires few { decomposed model.now ≤ 65536 }
+    requires valid { IsEntry entry.now }
+    requires stage { (budget : ℕ) × ((records : List RecordValue) × ((a : AwaitedValue) × (StageIs model.now budget records a stage × ((comes a entry.now ≡ true) × (length records ≤ 2 ^ 62))))) }
+    ensures { (budget : ℕ) (records : List RecordValue) (a : AwaitedValue) → StageIs model.now budget records a stage → comes a entry.now ≡ true → TakenSays model.now budget records entry.now result }
+{
+    match stage {
+        Stage::Header => match entry {
+            Entry::Header { budget } => begun(alloc, model, *budget),
+            Entry::Record(_) => unreachable!(),
+            Entry::End => unreachable!(),
+        },
+        Stage::Records { replay, count } => match entry {
+            Entry::Header { budget: _ } => unreachable!(),
+            Entry::Record(record) => stepped(replay, count, record),
+            Entry::End => ended(replay, count),
+        },
+        Stage::Ended { graph: _, count: _ } => unreachable!(),
+    }
+}
+
+/// Judges all entries whose lines are whole.
+pub(crate) fn judged(
+    alloc: Global,
+    model: &Model,
+    reader: &mut JournalReader,
+    stage: Stage,
+) -> Result<Stage, AuditProblem>
+    requires formed { IsWellFormed model.now }
+    requires ranked { first_without_rank model.now ≡ None }
+    requires covers { length model.now.covers < 2 ^ 32 }
+    requires sources { length (source_names model.now) ≤ 1024 }
+    requires observed { length (observed_names model.now) ≤ 4096 }
+    requires few { decomposed model.now ≤ 65536 }
+    requires judged { (text : List ℕ) × IsJudged model.now text reader.old stage }
+    ensures judged { (text : List ℕ) → IsJudged model.now text reader.old stage → IfOk result (λ after. IsJudged model.now text reader.new after) }
+    ensures none { OnOk result (GivesNone reader.new) }
+    ensures problem { (text more : List ℕ) → IsJudged model.now text reader.old stage → IfErr result (λ problem. IsTextProblem model.now (text ++ more) problem) }
+{
+    cuts_agree();
+    let mut stage = stage;
+    loop {
+        match reader.next() {
+            Ok(Some(entry)) => stage = taken(alloc, model, stage, &entry)?,
+            Ok(None) => return Ok(stage),
+            Err(fault) => return Err(fault_problem(fault)),
+        }
+    }
+}

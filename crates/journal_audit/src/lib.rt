@@ -1,0 +1,18 @@
+//! Checking a journal and a written netlist against a model, over files.
+#![tactic(auto)]
+
+mod auditing;
+mod compare;
+mod judge;
+mod laws;
+mod lines;
+mod problem;
+mod reading;
+mod stage;
+#[cfg(test)]
+mod tests;
+
+pub use auditing::audit;
+pub use laws::problems_exclude;
+pub use lines::{fault_line, netlist_line, refusal_line};
+pub use problem::AuditProblem;

@@ -1,0 +1,12 @@
+pub mod StandLaws
+pub mod TellLaws
+pub mod ReplayLaws
+pub mod SettleLaws
+pub mod LaneLaws
+pub mod MadeLaws
+pub mod TrialLaws
+pub mod LoopLaws
+pub mod OutcomeLaws
+pub mod FollowLaws
+pub mod WithinLaws
+pub mod DecompositionLaws

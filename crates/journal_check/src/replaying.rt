@@ -1,0 +1,159 @@
+// Replaying a journal record by record.
+ghost use Rattle.std.specs.Prelude.{◌≡◌, ◌<◌, ◌≤◌, ◌^◌, ◌≢◌, IfErr, IfOk, ℕ, None, Some, length};
+ghost use Rattle.journal_check.specs.declared.refusal.Why.TheVariants.{NoMemory as Wanting};
+ghost use Rattle.gate_graph.specs.Circuit.{net_of};
+ghost use Rattle.rm_model.specs.Ranks.{first_without_rank};
+ghost use Rattle.rm_model.specs.Value.{observed_names, source_names};
+ghost use Rattle.rm_model.specs.WellFormed.{IsWellFormed};
+ghost use Rattle.cover_decompose.specs.Count.{decomposed};
+ghost use Rattle.cover_decompose.specs.Decomposition.{net_of_model};
+ghost use Rattle.cover_decompose.specs.Refusals.{IsRefused};
+ghost use Rattle.journal_check.specs.Benches.{IsBench, IsIdle, RecordSays, position_of};
+ghost use Rattle.journal_check.specs.Replaying.{IsLocalTree, editing};
+ghost use Rattle.journal_check.specs.Standing.{Finishes, KeepsOthers, Steps};
+
+use crate::bench::Bench;
+use crate::freezing::{end, verdict};
+use crate::refusal::{JournalRefusal, Why};
+use crate::trying::edit;
+use cover_decompose::{DecomposeRefusal, decompose, decompositions_stand};
+use gate_graph::Graph;
+use journal_text::Record;
+use rm_model::Model as Netlist;
+use std::alloc::Global;
+use std::marker::Model;
+
+/// The replay of a journal's records, one after another.
+#[derive(Drop)]
+pub struct Replay {
+    alloc: Global,
+    // It is away only while a record is looked at.
+    bench: Option<Bench>,
+    budget: u32,
+    number: u64,
+    refused: Option<JournalRefusal>,
+}
+
+impl Model for Replay {
+    ghost use Rattle.journal_check.specs.Standing.{IsThere, Standing, position_in};
+
+    ghost Value = { Standing };
+
+    ghost view = { λ r. record { position = position_in r.bench; budget = r.budget; number = r.number; refusal = r.refused } };
+
+    ghost invariant = { λ r. IsThere r.bench };
+}
+
+// What a record does to the graph.
+fn taken(alloc: Global, bench: Bench, given: &Record, budget: u32) -> (Bench, Result<(), Why>)
+    requires bench { IsBench bench }
+    requires tree { IsLocalTree given.now }
+    ensures bench { IsBench result.0 }
+    ensures says { RecordSays budget (position_of bench) given.now (position_of result.0) result.1 }
+{
+    match given {
+        Record::Step { step, tree } => edit(alloc, bench, *step, tree),
+        Record::Hit {
+            fault: _,
+            vector: _,
+        } => verdict(alloc, bench, given, budget),
+        Record::Spent { fault: _, tree: _ } => verdict(alloc, bench, given, budget),
+    }
+}
+
+impl Replay {
+    /// Before the first record, at the decomposition of the model.
+    pub fn new(alloc: Global, model: &Netlist, budget: u32) -> Result<Replay, DecomposeRefusal>
+        requires formed { IsWellFormed model.now }
+        requires ranked { first_without_rank model.now ≡ None }
+        requires covers { length model.now.covers < 2 ^ 32 }
+        requires sources { length (source_names model.now) ≤ 1024 }
+        requires observed { length (observed_names model.now) ≤ 4096 }
+        requires fits { decomposed model.now < 2 ^ 64 }
+        ensures begins { IfOk result (λ r. r ≡ record { position = editing (net_of_model model.now); budget = budget; number = 1; refusal = None }) }
+        ensures refused { IfErr result (λ refusal. IsRefused model.now refusal) }
+    {
+        decompositions_stand();
+        let graph = decompose(alloc, model)?;
+        Ok(Replay::over(alloc, graph, budget))
+    }
+
+    fn over(alloc: Global, graph: Graph, budget: u32) -> Replay
+        requires { IsIdle graph }
+        ensures { result ≡ record { position = editing (net_of graph); budget = budget; number = 1; refusal = None } }
+    {
+        Replay {
+            alloc,
+            bench: Some(Bench::Idle { graph }),
+            budget,
+            number: 1,
+            refused: None,
+        }
+    }
+
+    // Looks at a record.
+    fn take(&mut self, given: &Record) -> Result<(), Why>
+        requires { IsLocalTree given.now }
+        ensures others { KeepsOthers self.old self.new }
+        ensures says { RecordSays self.old.budget self.old.position given.now self.new.position result }
+    {
+        let Some(bench) = self.bench.take() else {
+            unreachable!()
+        };
+        let (bench, answer) = taken(self.alloc, bench, given, self.budget);
+        self.bench = Some(bench);
+        answer
+    }
+
+    // Remembers a refusal, but for want of memory.
+    fn refuse(&mut self, why: Why) -> JournalRefusal
+        ensures memory { why ≡ Wanting → self.new ≡ self.old }
+        ensures kept { why ≢ Wanting → self.new ≡ record self.old { refusal = Some result } }
+        ensures refusal { (result.number ≡ self.old.number) × (result.why ≡ why) }
+    {
+        let refusal = JournalRefusal {
+            number: self.number,
+            why,
+        };
+        if why != Why::NoMemory {
+            self.refused = Some(refusal);
+        }
+        refusal
+    }
+
+    /// Replays one more record. After a refusal every later call answers it again; want of memory leaves all as it was.
+    pub fn step(&mut self, given: &Record) -> Result<(), JournalRefusal>
+        requires { IsLocalTree given.now }
+        ensures { Steps self.old.refusal self.old given.now self.new result }
+    {
+        if let Some(refusal) = self.refused {
+            return Err(refusal);
+        }
+        if let Err(why) = self.take(given) {
+            return Err(self.refuse(why));
+        }
+        self.number = self.number.saturating_add(1);
+        Ok(())
+    }
+
+    /// The last net, where the journal is accepted.
+    pub fn finish(self) -> Result<Graph, JournalRefusal>
+        ensures { Finishes self.refusal self result }
+    {
+        let Replay {
+            alloc,
+            bench,
+            budget: _budget,
+            number,
+            refused,
+        } = self;
+        if let Some(refusal) = refused {
+            return Err(refusal);
+        }
+        let Some(bench) = bench else { unreachable!() };
+        match end(alloc, bench) {
+            Ok(graph) => Ok(graph),
+            Err(why) => Err(JournalRefusal { number, why }),
+        }
+    }
+}

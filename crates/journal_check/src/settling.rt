@@ -1,0 +1,183 @@
+// The verdicts on the faults of the last net.
+ghost use Rattle.std.specs.Prelude.{◌≡◌, ◌↔◌, IsTrue, IfOk, List, ℕ, length, map};
+ghost use Rattle.gate_graph.specs.Circuit.{net_of};
+ghost use Rattle.gate_net.specs.Net.{Net, source_count};
+ghost use Rattle.gate_net.specs.Values.{HasPin};
+ghost use Rattle.gate_net.specs.Faults.{IsTest, faults_of};
+ghost use Rattle.fault_sim.specs.LaneStates.{Fits};
+ghost use Rattle.journal_text.specs.declared.record.Record.TheVariants as kept;
+ghost use Rattle.refutation.specs.declared.items.Item.{Item};
+ghost use Rattle.wire_edit.specs.declared.steps.Step.{Step as StepValue};
+ghost use Rattle.journal_check.specs.Benches.{Expects, IsSettling, VerdictSays, head_of, left_of};
+ghost use Rattle.journal_check.specs.Replaying.{SpentSays, VerdictLeads, refused};
+ghost use Rattle.journal_check.specs.Vectors.{bit_word};
+
+use crate::editing::why_tree;
+use crate::refusal::Why;
+use fault_sim::Lanes;
+use gate_graph::{Graph, faults_of};
+use journal_text::Record;
+use refutation::{Form, Tree};
+use refutation_check::check_tree;
+use rm_base::{Fault, NoMemory, Vector};
+use std::alloc::Global;
+
+/// The faults of the frozen net, how many of them are settled, and lanes that fit the net, with a word for each source.
+#[derive(Drop)]
+pub(crate) struct Settling {
+    faults: Vec<Fault>,
+    settled: usize,
+    lanes: Lanes,
+    words: Vec<u64>,
+}
+
+// Puts the vector into the first lane.
+fn fill(words: &mut Vec<u64>, vector: &[bool])
+    requires { length words.old.items ≡ length vector.now }
+    ensures { words.new.items ≡ map bit_word vector.now }
+{
+    for at in 0..words.len() {
+        words[at] = u64::from(vector[at]);
+    }
+}
+
+// Whether the vector has a value for each source and detects the fault.
+fn detects(
+    lanes: &mut Lanes,
+    words: &mut Vec<u64>,
+    graph: &Graph,
+    fault: &Fault,
+    vector: &Vector,
+) -> bool
+    requires pin { HasPin (net_of graph.now) fault.now }
+    requires fits { Fits lanes.old (net_of graph.now) }
+    requires words { length words.old.items ≡ source_count (net_of graph.now) }
+    ensures hit { IsTrue result ↔ IsTest (net_of graph.now) fault.now vector.now }
+    ensures fits { Fits lanes.new (net_of graph.now) }
+    ensures words { length words.new.items ≡ source_count (net_of graph.now) }
+{
+    if vector.len() != words.len() {
+        return false;
+    }
+    fill(words, vector.values());
+    let found = lanes.detect64(graph, fault, words.as_slice());
+    found & 1 == 1
+}
+
+// Whether the tree is that of a search of the fault that spent exactly its budget.
+fn spends(alloc: Global, graph: &Graph, fault: &Fault, tree: &Tree, budget: u32) -> Result<(), Why>
+    requires { HasPin (net_of graph.now) fault.now }
+    ensures { SpentSays (net_of graph.now) budget fault.now tree.now result }
+{
+    let shape = match check_tree(alloc, graph, fault, tree, Form::Partial) {
+        Ok(shape) => shape,
+        Err(refusal) => return Err(why_tree(refusal)),
+    };
+    if shape.edges != u64::from(budget) {
+        return Err(Why::SpentShort {
+            edges: shape.edges,
+            budget,
+        });
+    }
+    Ok(())
+}
+
+impl Settling {
+    /// All faults of the net are to come.
+    pub(crate) fn new(alloc: Global, graph: &Graph) -> Result<Settling, NoMemory>
+        ensures left { IfOk result (λ s. left_of s ≡ faults_of (net_of graph.now)) }
+        ensures settling { IfOk result (λ s. IsSettling (net_of graph.now) s) }
+    {
+        let faults = faults_of(alloc, graph)?;
+        let lanes = Lanes::new(alloc, graph)?;
+        let words = vec![in alloc; 0u64; graph.source_count() as usize]?;
+        Ok(Settling {
+            faults,
+            settled: 0,
+            lanes,
+            words,
+        })
+    }
+
+    /// The fault that comes next.
+    pub(crate) fn next(&self) -> Option<Fault>
+        ensures { result ≡ head_of (left_of self.now) }
+    {
+        self.faults.get(self.settled).copied()
+    }
+
+    // The next fault, which is to be that one.
+    fn expected(&self, given: Fault) -> Result<Fault, Why>
+        ensures { Expects (left_of self.now) given result }
+    {
+        let Some(fault) = self.next() else {
+            return Err(Why::RecordExtra);
+        };
+        if fault != given {
+            return Err(Why::FaultMissing { fault });
+        }
+        Ok(fault)
+    }
+
+    // Settles the next fault by a vector.
+    fn hit(&mut self, graph: &Graph, given: Fault, vector: &Vector) -> Result<(), Why>
+        requires { IsSettling (net_of graph.now) self.old }
+        ensures settling { IsSettling (net_of graph.now) self.new }
+        ensures says { (budget : ℕ) → VerdictSays (net_of graph.now) budget (left_of self.old) (kept.Hit given vector.now) (left_of self.new) result }
+    {
+        let fault = self.expected(given)?;
+        if !detects(&mut self.lanes, &mut self.words, graph, &fault, vector) {
+            return Err(Why::VectorMisses);
+        }
+        self.settled += 1;
+        Ok(())
+    }
+
+    // Settles the next fault by the tree of a search.
+    fn spent(
+        &mut self,
+        alloc: Global,
+        graph: &Graph,
+        given: Fault,
+        tree: &Tree,
+        budget: u32,
+    ) -> Result<(), Why>
+        requires { IsSettling (net_of graph.now) self.old }
+        ensures settling { IsSettling (net_of graph.now) self.new }
+        ensures says { VerdictSays (net_of graph.now) budget (left_of self.old) (kept.Spent given tree.now) (left_of self.new) result }
+    {
+        let fault = self.expected(given)?;
+        spends(alloc, graph, &fault, tree, budget)?;
+        self.settled += 1;
+        Ok(())
+    }
+
+    /// Why a step comes too late.
+    pub(crate) fn late(&self) -> Why
+        ensures { (net : Net) (budget : ℕ) (step : StepValue) (tree : List Item) → VerdictLeads net budget (left_of self.now) (kept.Step step tree) (refused result) }
+    {
+        match self.next() {
+            Some(fault) => Why::FaultMissing { fault },
+            None => Why::RecordExtra,
+        }
+    }
+
+    /// Settles the next fault by a record.
+    pub(crate) fn settle(
+        &mut self,
+        alloc: Global,
+        graph: &Graph,
+        given: &Record,
+        budget: u32,
+    ) -> Result<(), Why>
+        requires { IsSettling (net_of graph.now) self.old }
+        ensures settling { IsSettling (net_of graph.now) self.new }
+        ensures says { VerdictSays (net_of graph.now) budget (left_of self.old) given.now (left_of self.new) result }
+    {
+        match given {
+            Record::Step { step: _, tree: _ } => Err(self.late()),
+            Record::Hit { fault, vector } => self.hit(graph, *fault, vector),
+            Record::Spent { fault, tree } => self.spent(alloc, graph, *fault, tree, budget),
+        }
+    }
+}

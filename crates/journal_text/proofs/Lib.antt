@@ -1,0 +1,17 @@
+pub mod PieceLaws
+pub mod NumberLaws
+pub mod LetterLaws
+pub mod ByteLaws
+pub mod ItemLaws
+pub mod EntryLaws
+pub mod HeldLaws
+pub mod AcceptedLaws
+pub mod FaultLaws
+pub mod StreamLaws
+pub mod PieceMore
+pub mod CutLaws
+pub mod OneLaws
+pub mod Appending
+pub mod Joined
+pub mod AcceptedRuns
+pub mod OneFault

@@ -1,0 +1,36 @@
+use Rattle.std.proofs.Common.{◌≡◌, ◌≢◌, ℕ, List, [], ◌∷◌, ◌++◌, ◌<◌, ◌^◌, length, subst, sym, ap, ◌∙◌, Ok, Err, Some, None, Option, Result, arith}
+use Rattle.std.proofs.lemmas.Result.{err_from_is_err_and}
+use Rattle.journal_text.specs.declared.record.Record.{Record}
+use Rattle.journal_text.specs.declared.record.Entry.{Entry}
+use Rattle.journal_text.specs.declared.faults.JournalFault.{JournalFault}
+use Rattle.journal_text.specs.Streams.{Pending, FinishGives, NextGives, IsReadTo, empty_reader, budget_with, records_of}
+use Rattle.journal_text.proofs.StreamLaws.{read_first, read_more, next_fault, end_fault}
+use Rattle.journal_text.proofs.read.read_whole.Goals as goal
+
+pub loop-records-init : goal.loop-records-init
+loop-records-init c =
+    let start = c.new-reader.ensures in
+    let pushed = c.in_ok-push.ensures.ok in
+    subst (λ (rs : List Record). IsReadTo c.args.text.now 0 rs c.push.new.self) (sym c.new-records.ensures.items)
+    (subst (λ (p : Pending). IsReadTo c.args.text.now 0 [] p) (sym (pushed ∙ ap (λ (p : Pending). record p { held = p.held ++ c.args.text.now }) start)) (read_first c.args.text.now))
+
+pub returns-in_err-entry-clause-refused : goal.returns-in_err-entry-clause-refused
+returns-in_err-entry-clause-refused c =
+    let p = err_from_is_err_and c.from_residual-in_err-entry.result c.from_residual-in_err-entry.ensures.1 in
+    let bound : length c.args.text.now < 2 ^ 63 = omega arith in
+    rw (p.1, p.2) (next_fault c.lines_read.ensures c.args.text.now c.loop-records.budget c.loop-records.records.items c.loop-records.reader c.next.new.self c.in_err-entry.field-0.0 c.loop-records.invariant bound c.in_err-entry.ensures)
+
+pub loop-records-preserved : goal.loop-records-preserved
+loop-records-preserved c =
+    let given : NextGives c.loop-records.reader c.next.new.self (Ok (Some c.in-Some.entry)) = subst (λ (o : Option Entry). NextGives c.loop-records.reader c.next.new.self (Ok o)) c.in-Some.is c.in_ok-entry.ensures in
+    let more = read_more c.args.text.now c.loop-records.budget c.loop-records.records.items c.loop-records.reader c.next.new.self c.in-Some.entry c.loop-records.invariant given in
+    subst (λ (b : ℕ). IsReadTo c.args.text.now b c.add_entry.new.records.items c.next.new.self) (sym c.in_ok-add_entry.ensures.budget)
+    (subst (λ (rs : List Record). IsReadTo c.args.text.now (budget_with c.loop-records.budget c.in-Some.entry) rs c.next.new.self) (sym c.in_ok-add_entry.ensures.records) more)
+
+pub returns-in_err-finish-clause-refused : goal.returns-in_err-finish-clause-refused
+returns-in_err-finish-clause-refused c =
+    let p = err_from_is_err_and c.from_residual-in_err-finish.result c.from_residual-in_err-finish.ensures.1 in
+    let given : NextGives c.loop-records.reader c.next.new.self (Ok None) = subst (λ (o : Option Entry). NextGives c.loop-records.reader c.next.new.self (Ok o)) c.in_default.is c.in_ok-entry.ensures in
+    let bound : length c.args.text.now < 2 ^ 63 = omega arith in
+    let ends = subst (λ (q : Pending). FinishGives q c.in_err-finish.field-0.0) given.0 c.in_err-finish.ensures.err in
+    rw (p.1, p.2) (λ m. end_fault c.lines_read.ensures c.args.text.now c.loop-records.budget c.loop-records.records.items c.loop-records.reader c.in_err-finish.field-0.0 c.loop-records.invariant bound given.1 ends)

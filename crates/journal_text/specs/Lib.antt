@@ -1,0 +1,14 @@
+pub mod Pieces
+pub mod Numbers
+pub mod Letters
+pub mod Text
+pub mod Reading
+pub mod Appends
+pub mod Faults
+pub mod Held
+pub mod Streams
+pub mod Cutting
+pub mod Accepted
+pub mod Laws
+pub mod Runs
+pub mod Joining
