@@ -1,0 +1,13 @@
+pub mod KindOf
+pub mod TargetLists
+pub mod Appending
+pub mod KnownNodes
+pub mod Choices
+pub mod StampLists
+pub mod ChainMarks
+pub mod Walking
+pub mod Once
+pub mod OneChain
+pub mod OneTarget
+pub mod OneList
+pub mod OnePairs

@@ -1,0 +1,10 @@
+pub mod Joining
+pub mod Candidates
+pub mod Pairs
+pub mod Tidying
+pub mod Gains
+pub mod Additions
+pub mod Tries
+pub mod Laws
+pub mod Stamped
+pub mod Parts

@@ -1,0 +1,35 @@
+-- Parts of the list of candidates.
+use Rattle.std.specs.Prelude.{Bool, IsTrue, List, None, Option, Some, slice_get, true, ℕ, ◌<◌, ◌≡◌, ◌↔◌}
+use Rattle.gate_graph.specs.Search.{IsSeen}
+use Rattle.gate_net.specs.Net.{IsKind, Net, Reads}
+use Rattle.gate_net.specs.declared.Kind.{Kind}
+use Rattle.refutation.specs.Branches.{IsNoConstant}
+use Rattle.refutation.specs.Facts.{Held, known_equal, known_good}
+use Rattle.candidate_wires.specs.Joining.{HasNoNot}
+use Rattle.candidate_wires.specs.declared.known.Known.{Known}
+
+-- the node is a source or a gate that is known to be equal, and its good value is known
+pub record IsUsable (net : Net) (held : Held) (x : ℕ) (value : Bool) : Type 0 where
+  pub kind : Kind
+  pub is_kind : IsKind net x kind
+  pub no_constant : IsNoConstant kind
+  pub equal : known_equal held x ≡ Some true
+  pub known : known_good held x ≡ Some value
+
+-- what a look at a node tells: that it isn't usable, or its value and whether it may have a fresh Not
+abbrev pub IsKnown : Net → Held → Known → Type 0
+IsKnown net held k = IsUsable net held k.node.0 k.value × (IsTrue k.has_no_not ↔ HasNoNot net k.node.0)
+
+abbrev pub IsLook : Net → Held → ℕ → Option Known → Type 0
+IsLook net held x None = (value : Bool) → IsUsable net held x value → ⊥
+IsLook net held x (Some k) = (k.node.0 ≡ x) × IsKnown net held k
+
+-- the usable nodes below the number, in ascending order
+pub record AreKnown (net : Net) (held : Held) (n : ℕ) (ks : List Known) : Type 0 where
+  pub each : (m : ℕ) (k : Known) → slice_get ks m ≡ Some k → (k.node.0 < n) × IsKnown net held k
+  pub all : (x : ℕ) (value : Bool) → x < n → IsUsable net held x value → (m : ℕ) × ((k : Known) × ((slice_get ks m ≡ Some k) × (k.node.0 ≡ x)))
+  pub sorted : (l m : ℕ) (k j : Known) → l < m → slice_get ks l ≡ Some k → slice_get ks m ≡ Some j → k.node.0 < j.node.0
+
+-- exactly the drivers of the gate are marked
+abbrev pub MarksDrivers : Net → ℕ → List Bool → Type 0
+MarksDrivers net y driving = (x : ℕ) → IsSeen driving x ↔ ((p : ℕ) × Reads net y p x)

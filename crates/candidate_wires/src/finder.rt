@@ -1,0 +1,80 @@
+//! Candidates of one fault after another.
+ghost use Rattle.std.specs.Prelude.{◌≡◌, ◌≤◌, IfOk, length};
+ghost use Rattle.gate_net.specs.Values.{HasPin};
+ghost use Rattle.gate_graph.specs.Circuit.{net_of};
+ghost use Rattle.refutation.specs.FactSets.{held_by};
+ghost use Rattle.candidate_wires.specs.Candidates.{AreCandidates};
+
+use crate::candidate::Candidate;
+use crate::known::known_nodes;
+use crate::listing::along_chain;
+use crate::reaching::mark_reached;
+use crate::stamps::Stamps;
+use gate_graph::Graph;
+use refutation::FactSet;
+use refutation::agenda::Agenda;
+use rm_base::{Fault, NoMemory};
+use std::alloc::Global;
+use std::marker::Model;
+
+/// Finds candidates. Its marks are made once, for the node numbers below a bound, and serve one fault after another.
+#[derive(Drop)]
+pub struct Finder {
+    reached: Stamps,
+    driving: Stamps,
+    agenda: Agenda,
+}
+
+impl Model for Finder {
+    ghost use Rattle.std.specs.Prelude.{ℕ, ◌≡◌, length, replicate, false};
+
+    ghost Value = { ℕ };
+
+    ghost view = { λ f. length f.reached };
+
+    ghost invariant = { λ f. (length f.driving ≡ length f.reached) × (f.agenda ≡ replicate (length f.reached) false) };
+}
+
+impl Finder {
+    /// A finder for graphs with node numbers below `numbers`.
+    pub fn new(alloc: Global, numbers: u32) -> Result<Finder, NoMemory>
+        ensures { IfOk result (λ f. f ≡ numbers) }
+    {
+        let reached = Stamps::new(alloc, numbers)?;
+        let driving = Stamps::new(alloc, numbers)?;
+        let agenda = Agenda::new(alloc, numbers)?;
+        Ok(Finder {
+            reached,
+            driving,
+            agenda,
+        })
+    }
+
+    /// The candidates of the fault by these facts, in order. It takes one look at the facts of each node number; all
+    /// else takes the time of the known nodes' readers, of what the fault's gate reaches, of the pins of the gates of its
+    /// chain, and of a test for each of these gates and each known node.
+    pub fn candidates(
+        &mut self,
+        alloc: Global,
+        graph: &Graph,
+        fault: &Fault,
+        facts: &FactSet,
+    ) -> Result<Vec<Candidate>, NoMemory>
+        requires pin { HasPin (net_of graph.now) fault.now }
+        requires facts { length (net_of graph.now).nodes ≤ length facts.now }
+        requires numbers { length (net_of graph.now).nodes ≤ self.old }
+        ensures found { IfOk result (λ found. AreCandidates (net_of graph.now) fault.now (held_by facts.now) found.items) }
+        ensures numbers { self.new ≡ self.old }
+    {
+        let sources = known_nodes(alloc, graph, facts)?;
+        mark_reached(graph, fault.gate, &mut self.reached, &mut self.agenda);
+        along_chain(
+            alloc,
+            graph,
+            fault,
+            &mut self.reached,
+            &mut self.driving,
+            sources.as_slice(),
+        )
+    }
+}

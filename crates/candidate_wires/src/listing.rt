@@ -1,0 +1,92 @@
+// The candidates of a fault.
+ghost use Rattle.std.specs.Prelude.{◌≡◌, ◌≤◌, ◌++◌, List, IfOk, OnOk, length};
+ghost use Rattle.gate_net.specs.Net.{IsLive};
+ghost use Rattle.gate_net.specs.Values.{HasPin};
+ghost use Rattle.gate_graph.specs.Circuit.{net_of};
+ghost use Rattle.refutation.specs.Facts.{Held};
+ghost use Rattle.refutation.specs.FactSets.{held_by};
+ghost use Rattle.refutation.specs.Reaching.{MarksReached};
+ghost use Rattle.candidate_wires.specs.Candidates.{AreAmong, AreCandidates};
+ghost use Rattle.candidate_wires.specs.Parts.{AreKnown};
+ghost use Rattle.candidate_wires.specs.declared.candidate.Candidate.{Candidate as CandidateValue};
+
+use crate::candidate::Candidate;
+use crate::choosing::add_choices;
+use crate::drivers::mark_drivers;
+use crate::finder::Finder;
+use crate::known::Known;
+use crate::stamps::Stamps;
+use crate::targeting::control_of;
+use gate_graph::Graph;
+use refutation::FactSet;
+use refutation::chains::next_in_chain;
+use rm_base::{Fault, NoMemory, NodeId};
+use std::alloc::Global;
+
+// Adds the candidates at a node.
+fn add_at(
+    graph: &Graph,
+    at: NodeId,
+    reached: &Stamps,
+    driving: &mut Stamps,
+    sources: &[Known],
+    found: &mut Vec<Candidate>,
+) -> Result<(), NoMemory>
+    requires reached { MarksReached (net_of graph.now) at.0 reached.now }
+    requires room { length (net_of graph.now).nodes ≤ length driving.old }
+    ensures more { OnOk result ((more : List CandidateValue) × ((found.new.items ≡ found.old.items ++ more) × ((held : Held) → AreKnown (net_of graph.now) held (length (net_of graph.now).nodes) sources.now → AreAmong (net_of graph.now) held at.0 (length (net_of graph.now).nodes) more))) }
+    ensures room { length driving.new ≡ length driving.old }
+{
+    let Some(control) = control_of(graph, at) else {
+        return Ok(());
+    };
+    mark_drivers(graph, at, driving);
+    add_choices(at, control, reached, driving, sources, found)
+}
+
+// The candidates of the fault, by the marks of what its gate reaches and the known nodes. The next gate of a chain reaches
+// the same but itself.
+pub(crate) fn along_chain(
+    alloc: Global,
+    graph: &Graph,
+    fault: &Fault,
+    reached: &mut Stamps,
+    driving: &mut Stamps,
+    sources: &[Known],
+) -> Result<Vec<Candidate>, NoMemory>
+    requires gate { IsLive (net_of graph.now) fault.now.gate.0 }
+    requires reached { MarksReached (net_of graph.now) fault.now.gate.0 reached.old }
+    requires marks { length (net_of graph.now).nodes ≤ length reached.old }
+    requires room { length (net_of graph.now).nodes ≤ length driving.old }
+    ensures found { IfOk result (λ found. (held : Held) → AreKnown (net_of graph.now) held (length (net_of graph.now).nodes) sources.now → AreCandidates (net_of graph.now) fault.now held found.items) }
+    ensures marks { length reached.new ≡ length reached.old }
+    ensures room { length driving.new ≡ length driving.old }
+{
+    graph.well_formed();
+    let mut found = Vec::new(alloc);
+    let mut at = fault.gate;
+    for _step in 0..graph.node_bound() {
+        add_at(graph, at, reached, driving, sources, &mut found)?;
+        let Some(next) = next_in_chain(graph, at) else {
+            return Ok(found);
+        };
+        reached.unset(next);
+        at = next;
+    }
+    unreachable!()
+}
+
+/// The candidates of the fault by these facts, in order, as a `Finder` that is made for this one call finds them.
+pub fn candidates(
+    alloc: Global,
+    graph: &Graph,
+    fault: &Fault,
+    facts: &FactSet,
+) -> Result<Vec<Candidate>, NoMemory>
+    requires pin { HasPin (net_of graph.now) fault.now }
+    requires facts { length (net_of graph.now).nodes ≤ length facts.now }
+    ensures { IfOk result (λ found. AreCandidates (net_of graph.now) fault.now (held_by facts.now) found.items) }
+{
+    let mut finder = Finder::new(alloc, graph.node_bound())?;
+    finder.candidates(alloc, graph, fault, facts)
+}

@@ -1,0 +1,62 @@
+//! The targets of a net.
+ghost use Rattle.std.specs.Prelude.{◌≡◌, ◌<◌, ◌++◌, IfOk, OnOk, length, Option, Bool};
+ghost use Rattle.gate_graph.specs.Circuit.{net_of};
+ghost use Rattle.wire_edit.specs.Tests.{control_of};
+ghost use Rattle.candidate_wires.specs.Pairs.{faults_from, targets_at, targets_of};
+
+use gate_graph::{Graph, pin_count};
+use gate_net::Kind;
+use rm_base::{Fault, NoMemory, NodeId};
+use std::alloc::Global;
+
+/// The controlling value of an And or an Or.
+pub fn control_of(graph: &Graph, gate: NodeId) -> Option<bool>
+    ensures { result ≡ control_of (net_of graph.now) gate.0 }
+{
+    match graph.kind(gate) {
+        Some(Kind::And) => Some(false),
+        Some(Kind::Or) => Some(true),
+        _ => None,
+    }
+}
+
+// Adds the faults at a value of so many pins of a gate.
+fn push_faults(
+    faults: &mut Vec<Fault>,
+    gate: NodeId,
+    value: bool,
+    count: u32,
+) -> Result<(), NoMemory>
+    ensures { OnOk result (faults.new.items ≡ faults.old.items ++ faults_from gate.0 value 0 count) }
+{
+    for position in 0..count {
+        faults.push(Fault {
+            gate,
+            position,
+            value,
+        })?;
+    }
+    Ok(())
+}
+
+// Adds the targets at a gate.
+fn push_at(graph: &Graph, gate: NodeId, faults: &mut Vec<Fault>) -> Result<(), NoMemory>
+    ensures { OnOk result (faults.new.items ≡ faults.old.items ++ targets_at (net_of graph.now) gate.0) }
+{
+    let Some(control) = control_of(graph, gate) else {
+        return Ok(());
+    };
+    push_faults(faults, gate, !control, pin_count(graph, gate))?;
+    Ok(())
+}
+
+/// The targets of the net, by gate and position.
+pub fn targets(alloc: Global, graph: &Graph) -> Result<Vec<Fault>, NoMemory>
+    ensures { IfOk result (λ faults. faults.items ≡ targets_of (net_of graph.now)) }
+{
+    let mut faults = Vec::new(alloc);
+    for number in 0..graph.node_bound() {
+        push_at(graph, NodeId(number), &mut faults)?;
+    }
+    Ok(faults)
+}

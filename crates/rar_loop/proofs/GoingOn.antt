@@ -1,0 +1,256 @@
+-- Going on inside a trial, step by step.
+use Rattle.std.proofs.Common.{◌≡◌, ◌≢◌, ℕ, zero, suc, ◌+◌, ◌-◌, ◌<◌, ◌≤◌, Bool, true, false, Option, Some, None, List, [], ◌∷◌, ◌++◌, length, refl, sym, ◌∙◌, ap, subst, append_assoc, arith}
+use Rattle.std.specs.Prelude.{Ok, Err, nat_lt, if◌then◌else◌}
+use Rattle.gate_net.specs.Values.{same_bool}
+use Rattle.gate_net.specs.Edits.{constant_node, fixed}
+use Rattle.wire_edit.specs.Changes.{remove, readers}
+use Rattle.std.proofs.lemmas.Bool.{lt-ltb}
+use Rattle.std.proofs.lemmas.List.{append-nil, length-append}
+use Rattle.rm_base.specs.declared.numbers.Fault.{Fault}
+use Rattle.rm_base.specs.declared.numbers.NodeId.{NodeId}
+use Rattle.gate_net.specs.Net.{Net, drivers_of, Reads, IsGate, IsLive, IsWellFormed, wire_count, gate_count}
+use Rattle.gate_graph.specs.Circuit.{net_of}
+use Rattle.gate_graph.specs.Holds.{HoldsOn}
+use Rattle.refutation.specs.Branches.{AreAccepted}
+use Rattle.refutation.specs.declared.items.Item.{Item}
+use Rattle.wire_edit.specs.declared.steps.Step.{Step}
+use Rattle.wire_edit.specs.declared.steps.Step.TheVariants.{Add, Fix, NewNot, Const, Same, NoPins, OnePin, Twice, Twin, Dead}
+use Rattle.wire_edit.specs.declared.refusal.EditRefusal.{EditRefusal}
+use Rattle.wire_edit.specs.declared.room.Room.{Room}
+use Rattle.wire_edit.specs.Tests.{is_live, is_gate, control_of, constant_at}
+use Rattle.wire_edit.specs.Steps.{Applies, stepped, change_of, constant_change}
+use Rattle.wire_edit.specs.Refusals.{refusal_of, room_after, IsAnswer}
+use Rattle.wire_edit.specs.Order.{next_step}
+use Rattle.wire_edit.specs.Laws.{IsTidying}
+use Rattle.wire_edit.specs.Tried.{Tried, start_of, Tidies}
+use Rattle.wire_edit.specs.Work.{work, pins_made, RoomForTidying, RoomForFixes}
+use Rattle.wire_edit.proofs.Ordering.{next_applies}
+use Rattle.wire_edit.proofs.Tested.{gate_is, is_live_there}
+use Rattle.wire_edit.proofs.Reading.{gate_live}
+use Rattle.wire_edit.proofs.Ending.{wires_grow}
+use Rattle.wire_edit.proofs.Budgets.{length_budget}
+use Rattle.wire_edit.proofs.Editing.{nodes_of}
+use Rattle.journal_text.specs.declared.record.Record.{Record}
+use Rattle.journal_text.specs.declared.record.Record.TheVariants as record_of
+use Rattle.journal_text.specs.Accepted.{IsJustified, MayGrow, IsAcceptedStep}
+use Rattle.journal_text.specs.Runs.{AcceptedTo, steps_of}
+use Rattle.rar_loop.specs.Going.{Logs, IsNoLarger, Tallies, Goes, HasFreePin}
+use Rattle.journal_text.specs.Runs.{IsRemoval, AreRemovals}
+use Rattle.rar_loop.proofs.Falling.{tidying_removes, fix_applies}
+use Rattle.rar_loop.proofs.Sizing.{no_gates}
+
+-- LISTS OF RECORDS
+pub accepted_then : (net mid after : Net) (first second : List Record) → AcceptedTo net first mid → AcceptedTo mid second after → AcceptedTo net (first ++ second) after
+accepted_then net mid after [] second a b = subst (λ (n : Net). AcceptedTo n second after) a b
+accepted_then net mid after (record_of.Step step tree ∷ first) second a b = (a.0, accepted_then (stepped net step) mid after first second a.1 b)
+accepted_then net mid after (record_of.Hit fault vector ∷ first) second a b = absurd a
+accepted_then net mid after (record_of.Spent fault tree ∷ first) second a b = absurd a
+
+pub removals_then : (first second : List Record) → AreRemovals (steps_of first) → AreRemovals (steps_of second) → AreRemovals (steps_of (first ++ second))
+removals_then [] second a b = b
+removals_then (record_of.Step step tree ∷ first) second a b = (a.0, removals_then first second a.1 b)
+removals_then (record_of.Hit fault vector ∷ first) second a b = removals_then first second a b
+removals_then (record_of.Spent fault tree ∷ first) second a b = removals_then first second a b
+
+pub logs_none : (net : Net) (log : List Record) → Logs net net log log
+logs_none net log = record { more = []; added = sym (append-nil log); accepted = refl; removals = tt }
+
+pub logs_then : (net mid after : Net) (a b c : List Record) → Logs net mid a b → Logs mid after b c → Logs net after a c
+logs_then net mid after a b c l m = record {
+  more = l.more ++ m.more;
+  added = m.added ∙ ap (λ (xs : List Record). xs ++ m.more) l.added ∙ append_assoc a l.more m.more;
+  accepted = accepted_then net mid after l.more m.more l.accepted m.accepted;
+  removals = removals_then l.more m.more l.removals m.removals;
+}
+
+pub logs_one : (net : Net) (step : Step) (tree : List Item) (log new : List Record) → IsAcceptedStep net step tree → IsRemoval step → new ≡ log ++ record_of.Step step tree ∷ [] → Logs net (stepped net step) log new
+logs_one net step tree log new accepted removal is = record { more = record_of.Step step tree ∷ []; added = is; accepted = (accepted, refl); removals = (removal, tt) }
+
+-- SIZES
+nodes_constant : (gate p : ℕ) (control constant : Option Bool) → nodes_of (constant_change gate p control constant) ≡ 0
+nodes_constant gate p control None = refl
+nodes_constant gate p None (Some b) = refl
+nodes_constant gate p (Some c) (Some b) = at (same_bool b c)
+  where
+    at : (t : Bool) → nodes_of (if t then readers gate (constant_node c) else remove gate p) ≡ 0
+    at true = refl
+    at false = refl
+
+removal_nodes : (net : Net) (step : Step) → IsRemoval step → nodes_of (change_of net step) ≡ 0
+removal_nodes net (Add gate y) r = absurd r
+removal_nodes net (Fix gate position value) r = refl
+removal_nodes net (NewNot y) r = absurd r
+removal_nodes net (Const gate position) r = nodes_constant gate.0 position (control_of net gate.0) (constant_at net gate.0 position)
+removal_nodes net (Same gate position) r = refl
+removal_nodes net (NoPins gate) r = refl
+removal_nodes net (OnePin gate) r = refl
+removal_nodes net (Twice gate) r = refl
+removal_nodes net (Twin gate other) r = refl
+removal_nodes net (Dead gate) r = refl
+
+no_nodes : (net : Net) (step : Step) → IsRemoval step → length (stepped net step).nodes ≤ length net.nodes
+no_nodes net step r =
+    let le : length (stepped net step).nodes ≤ length net.nodes + nodes_of (change_of net step) = length_budget net (change_of net step) in
+    let none : nodes_of (change_of net step) ≡ 0 = removal_nodes net step r in
+    omega (arith, le, none)
+
+no_pins_made : (step : Step) → IsRemoval step → pins_made step ≡ 0
+no_pins_made (Add gate y) r = absurd r
+no_pins_made (NewNot y) r = absurd r
+no_pins_made (Fix gate position value) r = refl
+no_pins_made (Const gate position) r = refl
+no_pins_made (Same gate position) r = refl
+no_pins_made (NoPins gate) r = refl
+no_pins_made (OnePin gate) r = refl
+no_pins_made (Twice gate) r = refl
+no_pins_made (Twin gate other) r = refl
+no_pins_made (Dead gate) r = refl
+
+pub no_larger : (net : Net) (step : Step) → IsWellFormed net → Applies net step → IsRemoval step → IsNoLarger net (stepped net step)
+no_larger net step well applies r =
+    let w : wire_count (stepped net step) ≤ wire_count net + pins_made step = wires_grow net step well applies in
+    let none : pins_made step ≡ 0 = no_pins_made step r in
+    record { wires = omega (arith, w, none); gates = no_gates net step (removal_nodes net step r); numbers = no_nodes net step r }
+
+-- TALLIES
+pub tallies_none : (t : Tried) (log : List Record) → Tallies t t log log
+tallies_none t log = record { spent = refl; holds = refl }
+
+pub tallies_then : (t u v : Tried) (a b c : List Record) → Tallies t u a b → Tallies u v b c → Tallies t v a c
+tallies_then t u v a b c f g = record { spent = g.spent ∙ f.spent; holds = omega (arith, f.holds, g.holds) }
+
+-- a step was made and recorded
+pub tallies_one : (t u : Tried) (r : Record) (log new : List Record) → new ≡ log ++ r ∷ [] → 0 < t.room.steps → u.room.steps ≡ t.room.steps - 1 → HoldsOn t.graph u.graph t.trail.entries u.trail.entries → Tallies t u log new
+tallies_one t u r log new is some room holds =
+    let n : length new ≡ length log + 1 = ap (λ (rs : List Record). length rs) is ∙ length-append log (r ∷ []) in
+    record { spent = omega (arith, n, some, room); holds = holds }
+
+-- GOING ON
+pub goes_none : (t : Tried) (log : List Record) → Goes t t log log
+goes_none t log = record { logs = logs_none (net_of t.graph) log; no_larger = record { wires = omega arith; gates = omega arith; numbers = omega arith }; start = refl; epoch = refl; room = λ k le. le; tallies = tallies_none t log }
+
+pub goes_then : (t u v : Tried) (a b c : List Record) → Goes t u a b → Goes u v b c → Goes t v a c
+goes_then t u v a b c g h = record {
+  logs = logs_then (net_of t.graph) (net_of u.graph) (net_of v.graph) a b c g.logs h.logs;
+  no_larger = record {
+    wires = omega (arith, g.no_larger.wires, h.no_larger.wires);
+    gates = omega (arith, g.no_larger.gates, h.no_larger.gates);
+    numbers = omega (arith, g.no_larger.numbers, h.no_larger.numbers);
+  };
+  start = h.start ∙ g.start;
+  epoch = h.epoch ∙ g.epoch;
+  room = λ k le. h.room k (g.room k le);
+  tallies = tallies_then t u v a b c g.tallies h.tallies;
+}
+
+-- a removal was made and recorded
+pub goes_one :
+    (t u : Tried) (step : Step) (tree : List Item) (log new : List Record) → IsWellFormed (net_of t.graph) → IsAcceptedStep (net_of t.graph) step tree → IsRemoval step
+    → net_of u.graph ≡ stepped (net_of t.graph) step → new ≡ log ++ record_of.Step step tree ∷ [] → start_of u ≡ start_of t → u.graph.epoch ≡ t.graph.epoch
+    → ((k : ℕ) → work (net_of t.graph) + k ≤ t.room.steps → work (net_of u.graph) + k ≤ u.room.steps) → Tallies t u log new → Goes t u log new
+goes_one t u step tree log new well accepted removal net is start epoch room tallies = record {
+  logs = subst (λ (n : Net). Logs (net_of t.graph) n log new) (sym net) (logs_one (net_of t.graph) step tree log new accepted removal is);
+  no_larger = subst (λ (n : Net). IsNoLarger (net_of t.graph) n) (sym net) (no_larger (net_of t.graph) step well accepted.applies removal);
+  start = start;
+  epoch = epoch;
+  room = room;
+  tallies = tallies;
+}
+
+-- A FIX IS NOT REFUSED
+pub fix_made : (net : Net) (room : Room) (gate : NodeId) (p : ℕ) (value cyclic : Bool) → Applies net (Fix gate p value) → 0 < room.steps → refusal_of net room (Fix gate p value) cyclic ≡ None
+fix_made net room gate p value cyclic (g, lt) some =
+    let live : is_live net gate.0 ≡ true = is_live_there net gate.0 (gate_live net gate.0 g) in
+    let pin : nat_lt p (length (drivers_of net gate.0)) ≡ true = lt-ltb p (length (drivers_of net gate.0)) lt in
+    let left : nat_lt 0 room.steps ≡ true = lt-ltb 0 room.steps some in
+    rw (live, g, pin, left) refl
+
+-- TIDYING
+pub room_steps : (room : Room) (step : Step) → (room_after room step).steps ≡ room.steps - 1
+room_steps room (Add gate y) = refl
+room_steps room (NewNot y) = refl
+room_steps room (Fix gate position value) = refl
+room_steps room (Const gate position) = refl
+room_steps room (Same gate position) = refl
+room_steps room (NoPins gate) = refl
+room_steps room (OnePin gate) = refl
+room_steps room (Twice gate) = refl
+room_steps room (Twin gate other) = refl
+room_steps room (Dead gate) = refl
+
+tidying_justified : (net : Net) (step : Step) → IsTidying step → IsJustified net step []
+tidying_justified net (Add gate y) t = absurd t
+tidying_justified net (Fix gate position value) t = absurd t
+tidying_justified net (NewNot y) t = absurd t
+tidying_justified net (Const gate position) t = refl
+tidying_justified net (Same gate position) t = refl
+tidying_justified net (NoPins gate) t = refl
+tidying_justified net (OnePin gate) t = refl
+tidying_justified net (Twice gate) t = refl
+tidying_justified net (Twin gate other) t = refl
+tidying_justified net (Dead gate) t = refl
+
+tidying_grows : (net : Net) (step : Step) → IsTidying step → MayGrow net step
+tidying_grows net (Add gate y) t = absurd t
+tidying_grows net (Fix gate position value) t = absurd t
+tidying_grows net (NewNot y) t = absurd t
+tidying_grows net (Const gate position) t = tt
+tidying_grows net (Same gate position) t = tt
+tidying_grows net (NoPins gate) t = tt
+tidying_grows net (OnePin gate) t = tt
+tidying_grows net (Twice gate) t = tt
+tidying_grows net (Twin gate other) t = tt
+tidying_grows net (Dead gate) t = tt
+
+pub room_on : (room after : Room) (step : Step) (w k : ℕ) → after ≡ room_after room step → w + k ≤ room.steps - 1 → w + k ≤ after.steps
+room_on room after step w k is le =
+    let e : after.steps ≡ room.steps - 1 = ap (λ (r : Room). r.steps) is ∙ room_steps room step in
+    omega (arith, le, e)
+
+pub tidied_step :
+    RoomForTidying → (t u : Tried) (step : Step) (log new : List Record) → IsWellFormed (net_of t.graph) → Tidies t u (Ok (Some step)) → start_of u ≡ start_of t → u.graph.epoch ≡ t.graph.epoch
+    → new ≡ log ++ record_of.Step step [] ∷ [] → 0 < t.room.steps → HoldsOn t.graph u.graph t.trail.entries u.trail.entries → Goes t u log new
+tidied_step law t u step log new well made start epoch is some holds =
+    let n : IsTidying step × Applies (net_of t.graph) step = next_applies (net_of t.graph) step made.0 in
+    goes_one t u step [] log new well (record { applies = n.1; grows = tidying_grows (net_of t.graph) step n.0; justified = tidying_justified (net_of t.graph) step n.0 }) (tidying_removes step n.0) made.1.0 is start epoch
+    (λ k le.
+    let r : (0 < t.room.steps) × (work (stepped (net_of t.graph) step) + k ≤ t.room.steps - 1) = law (net_of t.graph) step k t.room.steps well made.0 le in
+    let w : work (net_of u.graph) ≡ work (stepped (net_of t.graph) step) = ap work made.1.0 in
+    let here : work (stepped (net_of t.graph) step) + k ≤ u.room.steps = room_on t.room u.room step (work (stepped (net_of t.graph) step)) k made.1.1.1.1 r.1 in
+    omega (arith, here, w))
+    (tallies_one t u (record_of.Step step []) log new is some (ap (λ (r : Room). r.steps) made.1.1.1.1 ∙ room_steps t.room step) holds)
+
+pub never_full : RoomForTidying → (t u : Tried) (why : EditRefusal) → IsWellFormed (net_of t.graph) → work (net_of t.graph) ≤ t.room.steps → Tidies t u (Err why) → ⊥
+never_full law t u why well le made = at (next_step (net_of t.graph)) refl
+  where
+    at : (o : Option Step) → next_step (net_of t.graph) ≡ o → ⊥
+    at None e = made.1.0 e
+    at (Some step) e =
+        let r : (0 < t.room.steps) × (work (stepped (net_of t.graph) step) + 0 ≤ t.room.steps - 1) = law (net_of t.graph) step 0 t.room.steps well e (omega (arith, le)) in
+        omega (arith, r.0, made.1.1.0)
+
+-- FIXING
+pub fixed_step :
+    RoomForFixes → (t u : Tried) (fault : Fault) (tree : List Item) (log new : List Record) → IsWellFormed (net_of t.graph) → HasFreePin (net_of t.graph) fault → AreAccepted (net_of t.graph) fault tree
+    → net_of u.graph ≡ fixed (net_of t.graph) fault → u.room ≡ room_after t.room (Fix fault.gate fault.position fault.value) → start_of u ≡ start_of t → u.graph.epoch ≡ t.graph.epoch
+    → new ≡ log ++ record_of.Step (Fix fault.gate fault.position fault.value) tree ∷ [] → work (net_of t.graph) ≤ t.room.steps → HoldsOn t.graph u.graph t.trail.entries u.trail.entries → Goes t u log new
+fixed_step law t u fault tree log new well pin accepted net room start epoch is fits holds =
+    let step : Step = Fix fault.gate fault.position fault.value in
+    let applies : Applies (net_of t.graph) step = fix_applies (net_of t.graph) fault well pin in
+    let first : (0 < t.room.steps) × (work (stepped (net_of t.graph) step) + 0 ≤ t.room.steps - 1) = law (net_of t.graph) step pin.0 0 t.room.steps well applies pin.1.0 pin.1.1 (omega (arith, fits)) in
+    goes_one t u step tree log new well (record { applies = applies; grows = tt; justified = accepted }) tt net is start epoch
+    (λ k le.
+    let r : (0 < t.room.steps) × (work (stepped (net_of t.graph) step) + k ≤ t.room.steps - 1) = law (net_of t.graph) step pin.0 k t.room.steps well applies pin.1.0 pin.1.1 le in
+    let w : work (net_of u.graph) ≡ work (stepped (net_of t.graph) step) = ap work net in
+    let here : work (stepped (net_of t.graph) step) + k ≤ u.room.steps = room_on t.room u.room step (work (stepped (net_of t.graph) step)) k room r.1 in
+    omega (arith, here, w))
+    (tallies_one t u (record_of.Step step tree) log new is first.0 (ap (λ (r : Room). r.steps) room ∙ room_steps t.room step) holds)
+
+pub fix_refused : RoomForFixes → (t : Tried) (fault : Fault) (why : EditRefusal) → IsWellFormed (net_of t.graph) → HasFreePin (net_of t.graph) fault → work (net_of t.graph) ≤ t.room.steps
+    → IsAnswer (net_of t.graph) t.room (Fix fault.gate fault.position fault.value) (Some why) → ⊥
+fix_refused law t fault why well pin le answer =
+    let step : Step = Fix fault.gate fault.position fault.value in
+    let applies : Applies (net_of t.graph) step = fix_applies (net_of t.graph) fault well pin in
+    let r : (0 < t.room.steps) × (work (stepped (net_of t.graph) step) + 0 ≤ t.room.steps - 1) = law (net_of t.graph) step pin.0 0 t.room.steps well applies pin.1.0 pin.1.1 (omega (arith, le)) in
+    let none : refusal_of (net_of t.graph) t.room step answer.cyclic ≡ None = fix_made (net_of t.graph) t.room fault.gate fault.position fault.value answer.cyclic applies r.0 in
+    let e : ◌≡◌ {A = Option EditRefusal} (Some why) None = answer.is ∙ none in cc

@@ -1,0 +1,16 @@
+pub mod FreePins
+pub mod Falling
+pub mod Sizing
+pub mod GoingOn
+pub mod Opens
+pub mod Blocks
+pub mod Looking
+pub mod NewNots
+pub mod Adding
+pub mod Readying
+pub mod Replacing
+pub mod Pairing
+pub mod Looping
+pub mod Streaming
+pub mod RunLaws
+pub mod WireFaults

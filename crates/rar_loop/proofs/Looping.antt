@@ -1,0 +1,103 @@
+-- The addition loop from block to block.
+use Rattle.std.proofs.Common.{◌≡◌, ℕ, zero, suc, ◌+◌, ◌-◌, ◌*◌, ◌<◌, ◌≤◌, Bool, true, false, Some, List, [], ◌∷◌, ◌++◌, Vec, Global, length, refl, sym, ◌∙◌, ap, subst, append_assoc, arith}
+use Rattle.std.proofs.lemmas.List.{append-nil}
+use Rattle.gate_net.specs.Net.{Net, IsWellFormed, wire_count, source_count, gate_count}
+use Rattle.wire_edit.specs.declared.steps.Step.{Step}
+use Rattle.wire_edit.specs.declared.steps.Step.TheVariants.{Add, Fix, NewNot, Const, Same, NoPins, OnePin, Twice, Twin, Dead}
+use Rattle.candidate_wires.specs.declared.candidate.Pair.{Pair}
+use Rattle.candidate_wires.specs.Pairs.{ArePairsBefore, paired}
+use Rattle.candidate_wires.specs.Additions.{Addition, additions}
+use Rattle.candidate_wires.specs.Tries.{NoneGains, AreTries, ArePlaces, EachImproves}
+use Rattle.journal_text.specs.declared.record.Record.{Record}
+use Rattle.journal_text.specs.Runs.{AcceptedTo, steps_of}
+use Rattle.gate_graph.specs.Circuit.{Circuit, net_of, pins_taken, live_nodes}
+use Rattle.gate_graph.specs.Holds.{pins_held}
+use Rattle.journal_text.specs.Accepted.{AcceptedStepsKeep}
+use Rattle.wire_edit.specs.Order.{IsTidy}
+use Rattle.wire_edit.specs.Refusals.{live_count}
+use Rattle.wire_edit.specs.Tried.{Tried}
+use Rattle.wire_edit.specs.Work.{work, WorkIsBounded}
+use Rattle.rar_loop.specs.Going.{Goes, IsNoLarger}
+use Rattle.journal_text.specs.Runs.{AreRemovals}
+use Rattle.rar_loop.specs.Swept.{IsSwept, HasSwept}
+use Rattle.rar_loop.specs.Trying.{IsClean, IsGained}
+use Rattle.rar_loop.specs.Improving.{HasBegun, HasImproved}
+use Rattle.rar_loop.proofs.GoingOn.{accepted_then, goes_then}
+use Rattle.rar_loop.proofs.Blocks.{removals_clean, removals_add_none, steps_then, places_then, improve_then, block_then}
+use Rattle.rar_loop.proofs.Readying.{live_bound}
+use Rattle.rar_loop.proofs.Sizing.{HasSize, accepted_places, accepted_sources, within_by}
+
+pub clean_then : (pending : Bool) (xs ys : List Step) → IsClean pending xs → IsClean false ys → IsClean pending (xs ++ ys)
+clean_then true [] ys a b = cc
+clean_then false [] ys a b = b
+clean_then p (NewNot x ∷ xs) ys a b = clean_then true xs ys a b
+clean_then p (Add gate y ∷ xs) ys a b = clean_then false xs ys a b
+clean_then p (Fix gate position value ∷ xs) ys a b = clean_then false xs ys a b
+clean_then p (Const gate position ∷ xs) ys a b = clean_then false xs ys a b
+clean_then p (Same gate position ∷ xs) ys a b = clean_then false xs ys a b
+clean_then p (NoPins gate ∷ xs) ys a b = clean_then false xs ys a b
+clean_then p (OnePin gate ∷ xs) ys a b = clean_then false xs ys a b
+clean_then p (Twice gate ∷ xs) ys a b = clean_then false xs ys a b
+clean_then p (Twin gate other ∷ xs) ys a b = clean_then false xs ys a b
+clean_then p (Dead gate ∷ xs) ys a b = clean_then false xs ys a b
+
+pub improved_first : (before : Circuit) (depth : ℕ) (graph : Circuit) (records : List Record) → HasBegun before depth graph records → HasImproved (net_of before) depth (net_of graph) records 0
+improved_first before depth graph records b =
+    let none = removals_add_none (net_of before) (steps_of records) b.removals in
+    record {
+      accepted = b.accepted;
+      clean = removals_clean (steps_of records) b.removals;
+      fewer = b.fewer;
+      tidy = b.tidy;
+      swept = b.swept;
+      improves = subst EachImproves (sym none.0) tt;
+      are_tries = subst (λ (adds : List Addition). ArePlaces adds 0) (sym none.0) refl;
+    }
+
+pub improved_more : (net mid after : Net) (depth : ℕ) (records more : List Record) (tries : ℕ) (pair : Pair) (pairs : List Pair) → HasImproved net depth mid records tries → ArePairsBefore mid pair pairs → NoneGains mid pairs
+    → IsGained mid pair depth more after → HasImproved net depth after (records ++ more) (tries + suc (length pairs))
+improved_more net mid after depth records more tries pair pairs h before none g =
+    let a : Addition = record { before = mid; candidate = pair.candidate; target = Some pair.fault; after = after } in
+    let adds : additions net (steps_of (records ++ more)) ≡ additions net (steps_of records) ++ a ∷ [] = block_then net mid after records more a h.accepted h.clean h.improves g.addition refl in
+    let one : EachImproves (a ∷ []) = ((pair.fault, (refl, (pairs, (before, (none, g.fewer))))), tt) in
+    let place : ArePlaces (a ∷ []) (suc (length pairs)) = (suc (length pairs), ((pair.fault, (refl, (pairs, (before, refl)))), (0, (refl, omega arith)))) in
+    record {
+      accepted = accepted_then net mid after records more h.accepted g.accepted;
+      clean = subst (IsClean false) (sym (steps_then records more)) (clean_then false (steps_of records) (steps_of more) h.clean g.clean);
+      fewer = omega (arith, h.fewer, g.fewer);
+      tidy = g.tidy;
+      swept = g.swept;
+      improves = subst EachImproves (sym adds) (improve_then (additions net (steps_of records)) (a ∷ []) h.improves one);
+      are_tries = subst (λ (xs : List Addition). ArePlaces xs (tries + suc (length pairs))) (sym adds) (places_then (additions net (steps_of records)) (a ∷ []) tries (suc (length pairs)) h.are_tries place);
+    }
+
+pub room_first : (t : Tried) (net : Net) → net_of t.graph ≡ net → WorkIsBounded → t.room.steps ≡ 2 * wire_count net + 2 * live_count net + 16 → work (net_of t.graph) ≤ t.room.steps
+room_first t net e law steps =
+    let w : work (net_of t.graph) ≡ work net = ap work e in
+    let b : work net ≤ 2 * wire_count net + 2 * live_count net = law net in
+    omega (arith, w, b, steps)
+
+-- the trial of the beginning: the graph, the trial at first, once tidied and once swept, and what it gives
+pub begun_first :
+    AcceptedStepsKeep → (before : Circuit) (depth : ℕ) (t u v : Tried) (graph : Circuit) (l0 l1 l2 : List Record) → IsWellFormed (net_of before) → HasSize before → HasSize graph → pins_taken before + live_nodes before ≤ 1048576
+    → net_of t.graph ≡ net_of before → t.room.steps ≡ 2 * wire_count (net_of before) + 2 * live_count (net_of before) + 16 → l0 ≡ [] → Goes t u l0 l1 → Goes u v l1 l2
+    → IsTidy (net_of v.graph) → HasSwept (net_of u.graph) (net_of v.graph) depth → net_of graph ≡ net_of v.graph → pins_held graph ≡ pins_held before → HasBegun before depth graph l2
+begun_first law before depth t u v graph l0 l1 l2 well size size' enough e steps empty g h tidy swept is held =
+    let net : Net = net_of before in
+    let after : Net = net_of graph in
+    let both : Goes t v l0 l2 = goes_then t u v l0 l1 l2 g h in
+    let all : l2 ≡ both.logs.more = both.logs.added ∙ ap (λ (rs : List Record). rs ++ both.logs.more) empty in
+    let to : AcceptedTo (net_of t.graph) l2 (net_of v.graph) = subst (λ (rs : List Record). AcceptedTo (net_of t.graph) rs (net_of v.graph)) (sym all) both.logs.accepted in
+    let accepted : AcceptedTo net l2 after = subst (λ (n : Net). AcceptedTo net l2 n) (sym is) (subst (λ (n : Net). AcceptedTo n l2 (net_of v.graph)) e to) in
+    let less : IsNoLarger net after = subst (λ (n : Net). IsNoLarger net n) (sym is) (subst (λ (n : Net). IsNoLarger n (net_of v.graph)) e both.no_larger) in
+    let live : live_count net ≤ 2 + (source_count net + gate_count net) = live_bound net well in
+    let none : length l0 ≡ 0 = ap (λ (rs : List Record). length rs) empty in
+    record {
+      accepted = accepted;
+      removals = subst (λ (rs : List Record). AreRemovals (steps_of rs)) (sym all) both.logs.removals;
+      fewer = less.wires;
+      tidy = subst IsTidy (sym is) tidy;
+      swept = subst (λ (n : Net). IsSwept n depth) (sym is) swept.swept;
+      within = within_by before graph size size' held (accepted_places net after l2 accepted) (accepted_sources law net after l2 well accepted) (omega (arith, less.wires, less.gates)) (omega (arith, less.numbers));
+      few = omega (arith, both.tallies.spent, none, steps, live, size.live, size.pins, enough);
+    }

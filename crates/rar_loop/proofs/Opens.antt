@@ -1,0 +1,64 @@
+-- An open set excludes a clash by direct implication, so what was tried in vain doesn't gain.
+use Rattle.std.proofs.Common.{◌≡◌, ℕ, zero, suc, ◌<◌, ◌≤◌, ◌⊎◌, inl, inr, Bool, true, false, not, Option, Some, None, List, refl, sym, ◌∙◌, ap, subst, arith}
+use Rattle.rm_base.specs.declared.numbers.Fault.{Fault}
+use Rattle.gate_net.specs.Net.{Net, wire_count}
+use Rattle.gate_net.specs.Values.{HasPin}
+use Rattle.gate_net.specs.Edits.{fixed, last_pin}
+use Rattle.refutation.specs.Closing.{Clashes, IsClashFree, IsClosedUnderLines}
+use Rattle.refutation.specs.Facts.{Held}
+use Rattle.refutation.specs.Learning.{IsClosedAt}
+use Rattle.refutation.specs.Laws.{ClosedHasAll}
+use Rattle.wire_edit.specs.declared.steps.Step.{Step}
+use Rattle.wire_edit.specs.Tests.{control_of}
+use Rattle.wire_edit.specs.Steps.{stepped}
+use Rattle.wire_edit.specs.Order.{IsTidy, next_step}
+use Rattle.candidate_wires.specs.declared.candidate.Pair.{Pair}
+use Rattle.candidate_wires.specs.Gains.{with_candidate, Gains, SomeClashes}
+use Rattle.candidate_wires.specs.Tidying.{TidiesTo, tidy, then}
+use Rattle.journal_text.specs.declared.record.Record.{Record}
+use Rattle.refutation.specs.Detected.{HasOpenSet}
+use Rattle.rar_loop.specs.Swept.{IsSwept, HasSwept}
+use Rattle.rar_loop.specs.Trying.{IsNewPinOpen, IsReplaced}
+
+closed_lines : (net : Net) (fault : Fault) (depth : ℕ) (held : Held) → IsClosedAt net fault depth held → IsClosedUnderLines net fault held
+closed_lines net fault zero held c = c
+closed_lines net fault (suc depth) held c = c.0
+
+pub open_excludes : ClosedHasAll → (net : Net) (fault : Fault) (depth : ℕ) → HasOpenSet net fault depth → Clashes net fault → ⊥
+open_excludes law net fault depth (held, (free, closed)) clash = (law net fault held (closed_lines net fault depth held closed) free).1 clash
+
+-- the tidying order leads to one net
+pub tidies_to_one : {net a b : Net} → TidiesTo net a → TidiesTo net b → a ≡ b
+tidies_to_one (tidy s) (tidy t) = refl
+tidies_to_one (tidy s) (then step next more) = let e : ◌≡◌ {A = Option Step} None (Some step) = sym s ∙ next in cc
+tidies_to_one (then step next more) (tidy t) = let e : ◌≡◌ {A = Option Step} None (Some step) = sym t ∙ next in cc
+tidies_to_one {net} {a} {b} (then step next more) (then other next' more') =
+    let same : ◌≡◌ {A = Option Step} (Some step) (Some other) = sym next ∙ next' in
+    let is : step ≡ other = cc in
+    tidies_to_one more (subst (λ (s : Step). TidiesTo (stepped net s) b) (sym is) more')
+
+pub open_pin_fails : ClosedHasAll → (net : Net) (pair : Pair) (depth : ℕ) → IsNewPinOpen net pair.candidate depth → Gains net pair → ⊥
+open_pin_fails law net pair depth (c, (is, open_set)) gains =
+    let same : ◌≡◌ {A = Option Bool} (Some c) (Some gains.new_pin.0) = sym is ∙ gains.new_pin.1.0 in
+    let e : c ≡ gains.new_pin.0 = cc in
+    open_excludes law (with_candidate net pair.candidate) (last_pin net pair.candidate.gate.0 (not gains.new_pin.0)) depth
+    (subst (λ (b : Bool). HasOpenSet (with_candidate net pair.candidate) (last_pin net pair.candidate.gate.0 (not b)) depth) e open_set) gains.new_pin.1.1
+
+pub open_target_fails : ClosedHasAll → (net : Net) (pair : Pair) (depth : ℕ) → HasOpenSet (with_candidate net pair.candidate) pair.fault depth → Gains net pair → ⊥
+open_target_fails law net pair depth open_set gains = open_excludes law (with_candidate net pair.candidate) pair.fault depth open_set gains.target
+
+swept_none : ClosedHasAll → (net : Net) (depth : ℕ) → IsSwept net depth → SomeClashes net → ⊥
+swept_none law net depth swept (fault, (pin, clash)) = open_excludes law net fault depth (swept fault pin) clash
+
+pub no_fewer_fails : ClosedHasAll → (net after : Net) (pair : Pair) (depth : ℕ) (records : List Record) → IsReplaced net pair depth records after → wire_count net ≤ wire_count after → Gains net pair → ⊥
+no_fewer_fails law net after pair depth records r le gains =
+    let same : gains.after ≡ r.mid = tidies_to_one gains.tidied r.tidied in
+    let pays : (wire_count r.mid < wire_count net) ⊎ ((wire_count r.mid ≡ wire_count net) × SomeClashes r.mid) = subst (λ (n : Net). (wire_count n < wire_count net) ⊎ ((wire_count n ≡ wire_count net) × SomeClashes n)) same gains.pays in
+    elim r.swept.pays [
+      | inl stays ↦ at_same stays pays
+      | inr falls ↦ elim pays [ inl lt ↦ absurd (omega (arith, lt, falls, le)) | inr e ↦ absurd (omega (arith, e.0, falls, le)) ]
+    ]
+  where
+    at_same : after ≡ r.mid → (wire_count r.mid < wire_count net) ⊎ ((wire_count r.mid ≡ wire_count net) × SomeClashes r.mid) → ⊥
+    at_same stays (inl lt) = let w : wire_count after ≡ wire_count r.mid = ap wire_count stays in absurd (omega (arith, lt, w, le))
+    at_same stays (inr e) = swept_none law r.mid depth (subst (λ (n : Net). IsSwept n depth) stays r.swept.swept) e.1

@@ -1,0 +1,159 @@
+-- What a try that went through left.
+use Rattle.std.proofs.Common.{◌≡◌, ℕ, zero, suc, ◌+◌, ◌<◌, ◌≤◌, ◌⊎◌, inl, inr, Bool, true, false, not, Option, Some, None, List, [], ◌∷◌, ◌++◌, length, refl, sym, ◌∙◌, ap, subst, append_assoc, arith}
+use Rattle.std.specs.Prelude.{nat_eq, max, if◌then◌else◌}
+use Rattle.std.proofs.lemmas.Bool.{eq-eqb}
+use Rattle.rm_base.specs.declared.numbers.Fault.{Fault}
+use Rattle.rm_base.specs.declared.numbers.NodeId.{NodeId}
+use Rattle.gate_net.specs.Net.{Net, Reads, IsLive, IsGate, IsWellFormed, wire_count, source_count, gate_count}
+use Rattle.rar_loop.specs.declared.trying.Attempt.{Attempt}
+use Rattle.rar_loop.specs.declared.trying.Attempt.TheVariants.{Gained, Failed}
+use Rattle.gate_net.specs.Values.{HasPin}
+use Rattle.gate_net.specs.Edits.{fixed}
+use Rattle.std.specs.Cmp.{nat_cmp_total}
+use Rattle.std.specs.FinSet.{same_set, len, nat_cmp-IsAntisymmetric}
+use Rattle.gate_graph.specs.Circuit.{Circuit, wiring, net_of, fanouts_of, live_nodes, pins_taken}
+use Rattle.gate_graph.specs.Holds.{pins_held}
+use Rattle.wire_edit.specs.Refusals.{live_count}
+use Rattle.journal_text.specs.Accepted.{AcceptedStepsKeep}
+use Rattle.gate_graph.specs.Wirings.{Wiring}
+use Rattle.refutation.specs.Laws.{ClosedHasAll}
+use Rattle.refutation.specs.declared.items.Item.{Item}
+use Rattle.wire_edit.specs.declared.steps.Step.{Step}
+use Rattle.wire_edit.specs.declared.steps.Step.TheVariants.{Add, Fix, NewNot}
+use Rattle.wire_edit.specs.Steps.{stepped}
+use Rattle.wire_edit.specs.Order.{IsTidy, node}
+use Rattle.wire_edit.specs.Tried.{IsAt}
+use Rattle.candidate_wires.specs.declared.candidate.Candidate.{Candidate}
+use Rattle.candidate_wires.specs.declared.candidate.Pair.{Pair}
+use Rattle.candidate_wires.specs.Tidying.{TidiesTo}
+use Rattle.candidate_wires.specs.Gains.{least_free, net_for, wire_for, with_candidate, Gains}
+use Rattle.candidate_wires.specs.Additions.{Addition, additions, additions_from, net_after}
+use Rattle.journal_text.specs.declared.record.Record.{Record}
+use Rattle.journal_text.specs.declared.record.Record.TheVariants as record_of
+use Rattle.journal_text.specs.Runs.{AcceptedTo, steps_of}
+use Rattle.refutation.specs.Detected.{HasOpenSet}
+use Rattle.rar_loop.specs.Swept.{HasSwept}
+use Rattle.rar_loop.specs.Going.{HasFreePin, HasFixed, Logs, IsNoLarger}
+use Rattle.journal_text.specs.Runs.{AreRemovals}
+use Rattle.rar_loop.specs.Sizes.{IsSame, IsWithin, most_steps}
+use Rattle.rar_loop.specs.Trying.{IsBetter, IsBack, IsAttempt, MayTry, HasAdded, HasReplaced, IsReplaced, IsGained, IsClean, IsNewPinOpen, adding_records, not_records}
+use Rattle.rar_loop.proofs.FreePins.{reader_gate, tidy_reads_none}
+use Rattle.rar_loop.proofs.GoingOn.{accepted_then, removals_then}
+use Rattle.rar_loop.proofs.Adding.{pin_stays}
+use Rattle.rar_loop.proofs.Sizing.{HasSize, added_gates, added_numbers, accepted_places, accepted_sources, within_by}
+use Rattle.rar_loop.proofs.Readying.{live_bound}
+use Rattle.rar_loop.proofs.Opens.{open_pin_fails, open_target_fails}
+use Rattle.rar_loop.proofs.Blocks.{removals_clean, removals_add_none, accepted_after, steps_then}
+
+-- THE TARGET'S PIN
+pub target_pin : (net after : Net) (pair : Pair) → IsWellFormed net → MayTry net pair → after ≡ with_candidate net pair.candidate → HasPin after pair.fault
+target_pin net after pair well may e =
+    let g : IsGate net pair.fault.gate.0 = reader_gate net well pair.fault.gate.0 pair.fault.position may.pin.0 may.pin.1 in
+    subst (λ (w : Net). HasPin w pair.fault) (sym e) (may.pin.0, pin_stays net pair.candidate may.wire pair.fault.gate.0 pair.fault.position may.pin.0 (g.0, g.1.0) may.pin.1)
+
+pub target_free : (net after : Net) (pair : Pair) → IsWellFormed net → IsTidy net → MayTry net pair → after ≡ with_candidate net pair.candidate → HasFreePin after pair.fault
+target_free net after pair well tidy may e =
+    let g : IsGate net pair.fault.gate.0 = reader_gate net well pair.fault.gate.0 pair.fault.position may.pin.0 may.pin.1 in
+    let free : 1 < may.pin.0 = tidy_reads_none net well tidy pair.fault.gate.0 pair.fault.position may.pin.0 may.pin.1 in
+    subst (λ (w : Net). HasFreePin w pair.fault) (sym e) (may.pin.0, (pin_stays net pair.candidate may.wire pair.fault.gate.0 pair.fault.position may.pin.0 (g.0, g.1.0) may.pin.1, free))
+
+-- THE RECORDS
+pub replaced_whole :
+    (net wired mid after : Net) (pair : Pair) (depth : ℕ) (fix_tree : List Item) (l0 l1 l2 : List Record) → HasAdded net pair.candidate depth l0 true → wired ≡ with_candidate net pair.candidate
+    → HasFixed pair.fault fix_tree l0 l1 → Logs wired mid l0 l1 → TidiesTo (fixed wired pair.fault) mid → Logs mid after l1 l2 → HasSwept mid after depth → IsTidy after
+    → IsNoLarger wired mid → IsNoLarger mid after → IsReplaced net pair depth l2 after
+replaced_whole net wired mid after pair depth fix_tree l0 l1 l2 added e fixes first tidied second swept tidy less less' =
+    let fix : Record = record_of.Step (Fix pair.fault.gate pair.fault.position pair.fault.value) fix_tree in
+    let l2-is : l2 ≡ l0 ++ (fix ∷ (fixes.rest ++ second.more)) = second.added ∙ ap (λ (xs : List Record). xs ++ second.more) fixes.are ∙ append_assoc l0 (fix ∷ fixes.rest) second.more in
+    let l2-more : l2 ≡ l0 ++ (first.more ++ second.more) = second.added ∙ ap (λ (xs : List Record). xs ++ second.more) first.added ∙ append_assoc l0 first.more second.more in
+    let to : AcceptedTo net l0 wired = subst (λ (w : Net). AcceptedTo net l0 w) (sym e) added.1.1 in
+    let rest : AcceptedTo wired (first.more ++ second.more) after = accepted_then wired mid after first.more second.more first.accepted second.accepted in
+    record {
+      tree = added.0;
+      fix_tree = fix_tree;
+      rest = fixes.rest ++ second.more;
+      are = l2-is ∙ ap (λ (xs : List Record). xs ++ (fix ∷ (fixes.rest ++ second.more))) added.1.0;
+      removals = removals_then fixes.rest second.more fixes.removals second.removals;
+      accepted = subst (λ (rs : List Record). AcceptedTo net rs after) (sym l2-more) (accepted_then net wired after l0 (first.more ++ second.more) to rest);
+      mid = mid;
+      tidied = subst (λ (w : Net). TidiesTo (fixed w pair.fault) mid) e tidied;
+      swept = swept;
+      tidy = tidy;
+      gates = omega (arith, added_gates net pair.candidate, ap gate_count e, less.gates, less'.gates);
+      numbers = omega (arith, added_numbers net pair.candidate, ap (λ (n : Net). length n.nodes) e, less.numbers, less'.numbers);
+    }
+
+-- ONE ADDITION
+steps_are : (c : Candidate) (net : Net) (tree fix_tree : List Item) (fault : Fault) (rest : List Record) (fresh : Bool)
+    → steps_of (((if fresh then record_of.Step (NewNot c.node) [] ∷ [] else []) ++ record_of.Step (Add c.gate (node (wire_for net c))) tree ∷ []) ++ record_of.Step (Fix fault.gate fault.position fault.value) fix_tree ∷ rest)
+    ≡ (if fresh then NewNot c.node ∷ [] else []) ++ (Add c.gate (node (wire_for net c)) ∷ Fix fault.gate fault.position fault.value ∷ steps_of rest)
+steps_are c net tree fix_tree fault rest true = refl
+steps_are c net tree fix_tree fault rest false = refl
+
+clean_steps : (c : Candidate) (y : NodeId) (fault : Fault) (rest : List Step) → AreRemovals rest → (fresh : Bool) → IsClean false ((if fresh then NewNot c.node ∷ [] else []) ++ (Add c.gate y ∷ Fix fault.gate fault.position fault.value ∷ rest))
+clean_steps c y fault rest r true = removals_clean rest r
+clean_steps c y fault rest r false = removals_clean rest r
+
+-- the one addition of such steps
+one_addition : (net : Net) (c : Candidate) (fault : Fault) (rest : List Step) → AreRemovals rest → (fresh : Bool) → c.fresh ≡ fresh →
+    let steps : List Step = (if fresh then NewNot c.node ∷ [] else []) ++ (Add c.gate (node (if fresh then least_free net else c.node.0)) ∷ Fix fault.gate fault.position fault.value ∷ rest) in
+    additions net steps ≡ record { before = net; candidate = c; target = Some fault; after = net_after net steps } ∷ []
+one_addition net c fault rest r true is =
+    let same : nat_eq (least_free net) (least_free net) ≡ true = eq-eqb (least_free net) (least_free net) refl in
+    let n : Net = stepped (stepped (stepped net (NewNot c.node)) (Add c.gate (node (least_free net)))) (Fix fault.gate fault.position fault.value) in
+    let none : (additions_from None n rest ≡ []) × _ = removals_add_none n rest r in
+    rw (same, is, none.0, none.1) refl
+one_addition net c fault rest r false is =
+    let n : Net = stepped (stepped net (Add c.gate c.node)) (Fix fault.gate fault.position fault.value) in
+    let none : (additions_from None n rest ≡ []) × _ = removals_add_none n rest r in
+    rw (is, none.0, none.1) refl
+
+pub gained_of : (net after : Net) (pair : Pair) (depth : ℕ) (records : List Record) → IsReplaced net pair depth records after → wire_count after < wire_count net → IsGained net pair depth records after
+gained_of net after pair depth records r fewer =
+    let c : Candidate = pair.candidate in
+    let steps : List Step = (if c.fresh then NewNot c.node ∷ [] else []) ++ (Add c.gate (node (wire_for net c)) ∷ Fix pair.fault.gate pair.fault.position pair.fault.value ∷ steps_of r.rest) in
+    let are : steps_of records ≡ steps = ap steps_of r.are ∙ steps_are c net r.tree r.fix_tree pair.fault r.rest c.fresh in
+    let last : net_after net (steps_of records) ≡ after = accepted_after net after records r.accepted in
+    let one : additions net steps ≡ record { before = net; candidate = c; target = Some pair.fault; after = net_after net steps } ∷ [] = one_addition net c pair.fault (steps_of r.rest) r.removals c.fresh refl in
+    let at : net_after net steps ≡ after = ap (net_after net) (sym are) ∙ last in
+    record {
+      accepted = r.accepted;
+      fewer = fewer;
+      tidy = r.tidy;
+      swept = r.swept.swept;
+      clean = subst (IsClean false) (sym are) (clean_steps c (node (wire_for net c)) pair.fault (steps_of r.rest) r.removals c.fresh);
+      addition = ap (additions net) are ∙ one ∙ ap (λ (n : Net). let a : Addition = record { before = net; candidate = c; target = Some pair.fault; after = n } in a ∷ []) at;
+    }
+
+pub better_of :
+    AcceptedStepsKeep → (graph better : Circuit) (after : Net) (pair : Pair) (depth : ℕ) (records : List Record) → IsWellFormed (net_of graph) → HasSize graph → HasSize better → net_of better ≡ after → IsReplaced (net_of graph) pair depth records after
+    → wire_count after < wire_count (net_of graph) → pins_held better ≡ pins_held graph → length records ≤ most_steps → IsBetter graph pair depth records better
+better_of law graph better after pair depth records well size size' is replaced fewer held few =
+    let net : Net = net_of graph in
+    let r : IsReplaced net pair depth records (net_of better) = subst (λ (n : Net). IsReplaced net pair depth records n) (sym is) replaced in
+    let less : wire_count (net_of better) < wire_count net = subst (λ (n : Net). wire_count n < wire_count net) (sym is) fewer in
+    let live : live_count net ≤ 2 + (source_count net + gate_count net) = live_bound net well in
+    record {
+      gained = gained_of net (net_of better) pair depth records r less;
+      within = within_by graph better size size' held (accepted_places net (net_of better) records r.accepted) (accepted_sources law net (net_of better) records well r.accepted) (omega (arith, less, r.gates))
+          (omega (arith, r.numbers, live, size.live, size.pins, less));
+      few = few;
+    }
+
+-- NO GAIN
+pub not_replaced_fails : ClosedHasAll → (net after : Net) (pair : Pair) (depth : ℕ) (records : List Record) → HasReplaced net pair depth records after false → Gains net pair → ⊥
+not_replaced_fails law net after pair depth records (inl new) gains = open_pin_fails law net pair depth new gains
+not_replaced_fails law net after pair depth records (inr target) gains = open_target_fails law net pair depth target gains
+
+pub rolled_back : (graph back : Circuit) (start : Wiring) → wiring graph ≡ start → IsAt back start → wiring back ≡ start
+    → live_nodes graph ≡ 2 + source_count (net_of graph) + gate_count (net_of graph) → live_nodes back ≡ 2 + source_count (net_of back) + gate_count (net_of back) → IsSame graph back
+rolled_back graph back start is at at' live live' =
+    let net : net_of back ≡ net_of graph = (at graph is).0 in
+    let taken : back.pool.taken ≡ graph.pool.taken = same_set nat_cmp_total nat_cmp-IsAntisymmetric back.pool.taken graph.pool.taken (λ q. ap (λ (w : Wiring). w.rings.taken q) (at' ∙ sym is)) in
+    let s : source_count (net_of back) ≡ source_count (net_of graph) = ap source_count net in
+    let g : gate_count (net_of back) ≡ gate_count (net_of graph) = ap gate_count net in
+    record { net = net; pins = ap len taken; nodes = omega (arith, live, live', s, g) }
+
+pub attempt_fails : (graph : Circuit) (pair : Pair) (depth : ℕ) (attempt : Attempt) → IsBack graph attempt → (Gains (net_of graph) pair → ⊥) → IsAttempt graph pair depth attempt
+attempt_fails graph pair depth (Failed back) same fails = (same, fails)
+attempt_fails graph pair depth (Gained better records) same fails = absurd same

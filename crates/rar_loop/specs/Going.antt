@@ -1,0 +1,53 @@
+-- What fixes and tidying do inside a trial.
+use Rattle.std.specs.Prelude.{◌≡◌, ◌<◌, ◌≤◌, ◌+◌, ◌++◌, ◌∷◌, [], ℕ, List, length}
+use Rattle.rm_base.specs.declared.numbers.Fault.{Fault}
+use Rattle.gate_net.specs.Net.{Net, Reads, wire_count, gate_count, source_count}
+use Rattle.gate_graph.specs.Circuit.{net_of}
+use Rattle.gate_graph.specs.Holds.{HoldsOn}
+use Rattle.wire_edit.specs.declared.steps.Step.TheVariants.{Fix}
+use Rattle.refutation.specs.declared.items.Item.{Item}
+use Rattle.wire_edit.specs.Tried.{Tried, start_of}
+use Rattle.wire_edit.specs.Work.{work}
+use Rattle.journal_text.specs.declared.record.Record.{Record}
+use Rattle.journal_text.specs.declared.record.Record.TheVariants as record_of
+use Rattle.journal_text.specs.Runs.{AcceptedTo, steps_of, AreRemovals}
+
+-- records of accepted removals were added, which lead from the one net to the other
+pub record Logs (net after : Net) (old new : List Record) : Type 0 where
+  pub more : List Record
+  pub added : new ≡ old ++ more
+  pub accepted : AcceptedTo net more after
+  pub removals : AreRemovals (steps_of more)
+
+-- nothing that counts grew
+pub record IsNoLarger (net after : Net) : Type 0 where
+  pub wires : wire_count after ≤ wire_count net
+  pub gates : gate_count after ≤ gate_count net
+  pub numbers : length after.nodes ≤ length net.nodes
+
+-- each step that was made took one of the room and was recorded, and beside the trial's own undos as many pins are held
+pub record Tallies (old new : Tried) (log log' : List Record) : Type 0 where
+  pub spent : length log' + new.room.steps ≡ length log + old.room.steps
+  pub holds : HoldsOn old.graph new.graph old.trail.entries new.trail.entries
+
+-- the trial went on by recorded removals, as far as its room allows
+pub record Goes (old new : Tried) (log log' : List Record) : Type 0 where
+  pub logs : Logs (net_of old.graph) (net_of new.graph) log log'
+  pub no_larger : IsNoLarger (net_of old.graph) (net_of new.graph)
+  pub start : start_of new ≡ start_of old
+  pub epoch : new.graph.epoch ≡ old.graph.epoch
+  pub room : (k : ℕ) → work (net_of old.graph) + k ≤ old.room.steps → work (net_of new.graph) + k ≤ new.room.steps
+  pub tallies : Tallies old new log log'
+
+-- a pin that no constant drives
+abbrev pub HasFreePin : Net → Fault → Type 0
+HasFreePin net fault = (driver : ℕ) × (Reads net fault.gate.0 fault.position driver × (1 < driver))
+
+abbrev pub ReadsNoConstants : Net → Type 0
+ReadsNoConstants net = (y position x : ℕ) → Reads net y position x → 1 < x
+
+-- the fix was recorded with its tree, and then removals
+pub record HasFixed (fault : Fault) (tree : List Item) (old new : List Record) : Type 0 where
+  pub rest : List Record
+  pub are : new ≡ old ++ record_of.Step (Fix fault.gate fault.position fault.value) tree ∷ rest
+  pub removals : AreRemovals (steps_of rest)

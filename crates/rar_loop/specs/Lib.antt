@@ -1,0 +1,9 @@
+pub mod Sizes
+pub mod Swept
+pub mod Going
+pub mod Trying
+pub mod Walking
+pub mod Ended
+pub mod Improving
+pub mod Rounds
+pub mod Rows

@@ -1,0 +1,15 @@
+//! Removes wires by adding others: a sweep that fixes each refuted pin, and the loop that tries pairs of a pin and a wire.
+#![tactic(auto)]
+
+mod beginning;
+mod fixing;
+mod laws;
+mod optimising;
+mod refuting;
+mod sweeping;
+mod tidying;
+mod trying;
+mod walking;
+
+pub use laws::{run_begins, run_goes_on, worked_rows};
+pub use optimising::optimise;

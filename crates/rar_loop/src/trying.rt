@@ -1,0 +1,217 @@
+//! Trying one pair.
+ghost use Rattle.std.specs.Prelude.{◌≡◌, ◌<◌, ◌≤◌, ◌+◌, [], IfOk, OnOk, Bool, IsTrue, not, Some, length, min};
+ghost use Rattle.gate_net.specs.Edits.{last_pin};
+ghost use Rattle.wire_edit.specs.Tests.{control_of};
+ghost use Rattle.gate_graph.specs.Circuit.{Circuit, net_of, pins_taken, live_nodes, wiring};
+ghost use Rattle.gate_net.specs.Net.{source_count, gate_count};
+ghost use Rattle.wire_edit.specs.Order.{IsTidy};
+ghost use Rattle.wire_edit.specs.Tried.{start_of};
+ghost use Rattle.candidate_wires.specs.Gains.{net_for, wire_for, with_candidate};
+ghost use Rattle.rar_loop.specs.Going.{Tallies};
+ghost use Rattle.rar_loop.specs.Trying.{MayAdd, MayTry, HasAdded, HasReplaced, IsAttempt, IsBack, IsReadyToAdd, not_records};
+
+use crate::fixing::fix_and_tidy;
+use crate::refuting::refuted;
+use crate::sweeping::sweep;
+use crate::tidying::push_local;
+use candidate_wires::{Candidate, Pair, added_pin, control_of, least_free};
+use gate_graph::Graph;
+use implications::Engine;
+use journal_text::{Record, accepted_steps_keep};
+use refutation::laws::closed_has_all;
+use rm_base::{Fault, NoMemory, NodeId};
+use std::alloc::Global;
+use wire_edit::{BeginRefusal, Room, Step, Trial, room_suffices, tidying_ends};
+
+/// What came of a try.
+#[derive(Drop)]
+pub(crate) enum Attempt {
+    /// There are fewer wires, by these records.
+    Gained { graph: Graph, records: Vec<Record> },
+    /// The graph is as it was.
+    Failed { graph: Graph },
+}
+
+// Makes the Not that a fresh candidate reads, and gives the node that is to be read.
+fn wire_of(
+    alloc: Global,
+    trial: &mut Trial,
+    log: &mut Vec<Record>,
+    candidate: &Candidate,
+) -> Result<NodeId, NoMemory>
+    requires candidate { MayAdd (net_of trial.old.graph) candidate.now }
+    requires ready { IsReadyToAdd trial.old 16 }
+    requires room { 0 < trial.old.room.nodes }
+    requires pins { 2 ≤ trial.old.room.pins }
+    requires none { log.old.items ≡ [] }
+    ensures node { IfOk result (λ node. node.0 ≡ wire_for (net_of trial.old.graph) candidate.now) }
+    ensures net { OnOk result (net_of trial.new.graph ≡ net_for (net_of trial.old.graph) candidate.now) }
+    ensures log { OnOk result (log.new.items ≡ not_records candidate.now) }
+    ensures ready { OnOk result (IsReadyToAdd trial.new 11) }
+    ensures pins { OnOk result (1 ≤ trial.new.room.pins) }
+    ensures tallies { OnOk result (Tallies trial.old trial.new log.old.items log.new.items) }
+    ensures start { start_of trial.new ≡ start_of trial.old }
+    ensures epoch { trial.new.graph.epoch ≡ trial.old.graph.epoch }
+{
+    if !candidate.fresh {
+        return Ok(candidate.node);
+    }
+    trial.graph().well_formed();
+    room_suffices();
+    let made = least_free(trial.graph());
+    let step = Step::NewNot {
+        node: candidate.node,
+    };
+    match trial.apply(step) {
+        Ok(()) => {}
+        Err(_refusal) => unreachable!(),
+    }
+    push_local(alloc, log, step)?;
+    Ok(made)
+}
+
+// The fault at the noncontrolling value of the pin that an addition makes.
+fn new_pin(graph: &Graph, gate: NodeId) -> Fault
+    ensures { (control : Bool) → control_of (net_of graph.now) gate.0 ≡ Some control → result ≡ last_pin (net_of graph.now) gate.0 (not control) }
+{
+    match control_of(graph, gate) {
+        Some(control) => added_pin(graph, gate, !control),
+        None => added_pin(graph, gate, false),
+    }
+}
+
+// Adds the candidate's wire, where its fault is then refuted; whether it is.
+fn add_wire(
+    alloc: Global,
+    engine: &mut Engine,
+    trial: &mut Trial,
+    log: &mut Vec<Record>,
+    candidate: &Candidate,
+    depth: u8,
+) -> Result<bool, NoMemory>
+    requires candidate { MayAdd (net_of trial.old.graph) candidate.now }
+    requires ready { IsReadyToAdd trial.old 16 }
+    requires room { 0 < trial.old.room.nodes }
+    requires pins { 2 ≤ trial.old.room.pins }
+    requires none { log.old.items ≡ [] }
+    requires numbers { min (length (net_of trial.old.graph).nodes + 1) 4294967295 ≤ engine.old.numbers }
+    requires depth { depth ≤ 2 }
+    ensures net { OnOk result (net_of trial.new.graph ≡ with_candidate (net_of trial.old.graph) candidate.now) }
+    ensures added { IfOk result (HasAdded (net_of trial.old.graph) candidate.now depth log.new.items) }
+    ensures ready { OnOk result (IsReadyToAdd trial.new 7) }
+    ensures tallies { IfOk result (λ added. IsTrue added → Tallies trial.old trial.new log.old.items log.new.items) }
+    ensures numbers { OnOk result (engine.new.numbers ≡ engine.old.numbers) }
+    ensures start { start_of trial.new ≡ start_of trial.old }
+    ensures epoch { trial.new.graph.epoch ≡ trial.old.graph.epoch }
+{
+    trial.graph().well_formed();
+    room_suffices();
+    let node = wire_of(alloc, trial, log, candidate)?;
+    let wired = trial.graph();
+    wired.well_formed();
+    let fault = new_pin(wired, candidate.gate);
+    let step = Step::Add {
+        gate: candidate.gate,
+        node,
+    };
+    match trial.apply(step) {
+        Ok(()) => {}
+        Err(_refusal) => unreachable!(),
+    }
+    match refuted(alloc, engine, trial.graph(), &fault, depth)? {
+        None => Ok(false),
+        Some(tree) => {
+            log.push(Record::Step { step, tree })?;
+            Ok(true)
+        }
+    }
+}
+
+// Adds the wire, fixes the target, tidies and sweeps, as far as both faults are refuted; whether they are.
+fn replace(
+    alloc: Global,
+    engine: &mut Engine,
+    trial: &mut Trial,
+    log: &mut Vec<Record>,
+    pair: &Pair,
+    depth: u8,
+) -> Result<bool, NoMemory>
+    requires tidy { IsTidy (net_of trial.old.graph) }
+    requires pair { MayTry (net_of trial.old.graph) pair.now }
+    requires ready { IsReadyToAdd trial.old 16 }
+    requires room { 0 < trial.old.room.nodes }
+    requires pins { 2 ≤ trial.old.room.pins }
+    requires none { log.old.items ≡ [] }
+    requires numbers { min (length (net_of trial.old.graph).nodes + 1) 4294967295 ≤ engine.old.numbers }
+    requires depth { depth ≤ 2 }
+    ensures tallies { IfOk result (λ replaced. IsTrue replaced → Tallies trial.old trial.new log.old.items log.new.items) }
+    ensures replaced { IfOk result (HasReplaced (net_of trial.old.graph) pair.now depth log.new.items (net_of trial.new.graph)) }
+    ensures numbers { OnOk result (engine.new.numbers ≡ engine.old.numbers) }
+    ensures start { OnOk result (start_of trial.new ≡ start_of trial.old) }
+    ensures epoch { OnOk result (trial.new.graph.epoch ≡ trial.old.graph.epoch) }
+{
+    trial.graph().well_formed();
+    let added = add_wire(alloc, engine, trial, log, &pair.candidate, depth)?;
+    if !added {
+        return Ok(false);
+    }
+    match refuted(alloc, engine, trial.graph(), &pair.fault, depth)? {
+        None => Ok(false),
+        Some(tree) => {
+            fix_and_tidy(alloc, trial, log, pair.fault, tree)?;
+            sweep(alloc, engine, trial, log, depth)?;
+            Ok(true)
+        }
+    }
+}
+
+// Rolls the trial back.
+fn given_back(trial: Trial) -> Attempt
+    ensures { (graph : Circuit) → wiring graph ≡ start_of trial → live_nodes graph ≡ 2 + source_count (net_of graph) + gate_count (net_of graph) → IsBack graph result }
+{
+    let graph = trial.rollback();
+    graph.well_formed();
+    Attempt::Failed { graph }
+}
+
+/// Tries a pair of a swept net.
+pub(crate) fn try_pair(
+    alloc: Global,
+    engine: &mut Engine,
+    graph: Graph,
+    pair: &Pair,
+    depth: u8,
+) -> Result<Attempt, NoMemory>
+    requires tidy { IsTidy (net_of graph) }
+    requires pair { MayTry (net_of graph) pair.now }
+    requires few { pins_taken graph + live_nodes graph ≤ 1048576 }
+    requires numbers { min (length (net_of graph).nodes + 1) 4294967295 ≤ engine.old.numbers }
+    requires depth { depth ≤ 2 }
+    ensures attempt { IfOk result (IsAttempt graph pair.now depth) }
+    ensures numbers { OnOk result (engine.new.numbers ≡ engine.old.numbers) }
+{
+    graph.well_formed();
+    tidying_ends();
+    closed_has_all();
+    accepted_steps_keep();
+    let wires = graph.wire_count();
+    let room = Room::enough(&graph);
+    let mut trial = match Trial::begin_tidy(alloc, graph, room) {
+        Ok(trial) => trial,
+        Err(BeginRefusal::NoMemory { graph: _ }) => return Err(NoMemory),
+    };
+    let mut log = Vec::new(alloc);
+    let refuted = replace(alloc, engine, &mut trial, &mut log, pair, depth)?;
+    if !refuted {
+        return Ok(given_back(trial));
+    }
+    if trial.graph().wire_count() < wires {
+        let better = trial.commit();
+        better.well_formed();
+        return Ok(Attempt::Gained {
+            graph: better,
+            records: log,
+        });
+    }
+    Ok(given_back(trial))
+}
