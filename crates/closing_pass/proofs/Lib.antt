@@ -1,0 +1,14 @@
+pub mod InOrder
+pub mod Standing
+pub mod Tries
+pub mod NextOnes
+pub mod Taking
+pub mod LastOnes
+pub mod Packing
+pub mod FreePins
+pub mod Falling
+pub mod GoingOn
+pub mod Recorded
+pub mod Sizes
+pub mod Sourced
+pub mod Verdicting

@@ -1,0 +1,12 @@
+use Rattle.std.proofs.Common.{◌≡◌, ◌≤◌, ◌+◌, sym, subst, arith}
+use Rattle.gate_graph.specs.Circuit.{net_of}
+use Rattle.gate_net.specs.Net.{Net}
+use Rattle.wire_edit.specs.Work.{work}
+use Rattle.closing_pass.proofs.Sizes.{IsSized, few_steps}
+use Rattle.closing_pass.proofs.closing.close_faults.Goals as goal
+
+pub close_all-requires-clause-few : goal.close_all-requires-clause-few
+close_all-requires-clause-few g c κs within =
+    let sized : IsSized c.args.graph = record { live = c.well_formed-2.ensures.live; pins = c.well_formed-2.ensures.held } in
+    let few : work (net_of c.args.graph) ≤ 4194304 = few_steps c.tidying_ends.ensures.bounded c.args.graph c.well_formed-2.ensures.net sized c.requires.few in
+    subst (λ (n : Net). work n ≤ 4194304) (sym c.in-Ok.ensures.net) few

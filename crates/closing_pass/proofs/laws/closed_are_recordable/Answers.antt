@@ -1,0 +1,5 @@
+use Rattle.closing_pass.proofs.Sourced.{closed_recordable}
+use Rattle.closing_pass.proofs.laws.closed_are_recordable.Goals as goal
+
+pub returns : goal.returns
+returns c = closed_recordable

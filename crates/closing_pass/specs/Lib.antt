@@ -1,0 +1,9 @@
+pub mod Verdicts
+pub mod Findings
+pub mod Trying
+pub mod Searching
+pub mod Passing
+pub mod Going
+pub mod Reports
+pub mod Closing
+pub mod Recording

@@ -1,0 +1,7 @@
+//! Laws of closing passes.
+ghost use Rattle.closing_pass.specs.Recording.{ClosedAreRecordable};
+
+/// What closes the faults of a tidy net can be recorded: each vector has a value, since a net with a pin has a source.
+pub fn closed_are_recordable()
+    ensures { ClosedAreRecordable }
+{}

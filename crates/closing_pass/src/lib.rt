@@ -1,0 +1,27 @@
+//! The closing pass: a test, or a search that spent its budget, for each stuck-at fault of a net. A pin whose fault no
+//! assignment detects is fixed on the way. The searches of a batch of faults run at once on one graph, which they share
+//! for reading.
+#![tactic(auto)]
+
+mod answering;
+mod batching;
+mod choosing;
+mod closing;
+mod finding;
+mod fixing;
+mod laws;
+mod passing;
+mod pieces;
+mod recording;
+mod report;
+mod searching;
+mod tidying;
+mod trying;
+mod verdicts;
+mod words;
+
+pub use batching::batch;
+pub use closing::close_faults;
+pub use laws::closed_are_recordable;
+pub use recording::write_verdicts;
+pub use report::Report;

@@ -1,0 +1,5 @@
+pub mod Texts
+pub mod RoundLaws
+pub mod VerdictLaws
+pub mod WholeLaws
+pub mod FilledLaws

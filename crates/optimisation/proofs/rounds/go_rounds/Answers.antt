@@ -1,0 +1,42 @@
+use Rattle.std.proofs.Common.{◌≤◌, ◌<◌, Result, Ok, Err, refl, arith}
+use Rattle.std.specs.Prelude.{OnErr}
+use Rattle.gate_net.specs.Net.{wire_count}
+use Rattle.gate_graph.specs.Circuit.{net_of}
+use Rattle.journal_text.specs.Runs.{IsStopped}
+use Rattle.optimisation.proofs.RoundLaws.{closed_stopped, further_run, nothing_closed, stopped_then}
+use Rattle.optimisation.proofs.rounds.go_rounds.Goals as goal
+
+on_err : {V E : Type 0} (r : Result V E) (P : Type 0) → P → OnErr r P
+on_err (Ok x) P h = tt
+on_err (Err e) P h = h
+
+pub returns-in_err-closed-clause-stopped : goal.returns-in_err-closed-clause-stopped
+returns-in_err-closed-clause-stopped g c =
+    let inv = c.loop-closed.invariant.recorded in
+    on_err c.from_residual-in_err-closed.result _
+    (stopped_then c.runs_join.ensures c.texts_append.ensures (net_of c.args.graph) (net_of c.loop-closed.round.graph) inv.records (g.S.Shelf.files c.args.shelf.now) (g.S.Shelf.files c.loop-closed.shelf) (g.S.Shelf.files c.close_faults.new.shelf) c.args.journal.now inv.run.accepted inv.written c.in_err-closed.ensures.stopped)
+
+pub returns-then-report-eq0-clause-ended : goal.returns-then-report-eq0-clause-ended
+returns-then-report-eq0-clause-ended g c = record {
+  recorded = nothing_closed c.texts_append.ensures (net_of c.args.graph) c.args.settings.now c.loop-closed.round
+      (record { graph = c.in_ok-closed.closed; made = c.loop-closed.round.made; tries = c.loop-closed.round.tries; settled = c.loop-closed.round.settled }) c.in_ok-closed.report
+      (g.S.Shelf.files c.args.shelf.now) (g.S.Shelf.files c.loop-closed.shelf) (g.S.Shelf.files c.close_faults.new.shelf) c.args.journal.now
+      c.loop-closed.invariant.recorded c.in_ok-closed.ensures.closed c.if-report-eq0.true c.in_ok-closed.ensures.no_fuller refl refl refl;
+  closed = c.in_ok-closed.ensures.verdicts;
+}
+
+pub returns-in_err-round-2-clause-stopped : goal.returns-in_err-round-2-clause-stopped
+returns-in_err-round-2-clause-stopped g c =
+    on_err c.from_residual-in_err-round-2.result _
+    (closed_stopped c.runs_join.ensures c.texts_append.ensures (net_of c.args.graph) c.args.settings.now c.loop-closed.round c.in_ok-closed.closed c.in_ok-closed.report (g.S.Shelf.files c.args.shelf.now) (g.S.Shelf.files c.loop-closed.shelf) (g.S.Shelf.files c.close_faults.new.shelf) (g.S.Shelf.files c.further_round.new.shelf) c.args.journal.now
+    c.loop-closed.invariant.recorded c.in_ok-closed.ensures.closed c.in_err-round-2.ensures.stopped)
+
+pub loop-closed-preserved : goal.loop-closed-preserved
+loop-closed-preserved g c = record {
+  recorded = further_run c.run_goes_on.ensures c.runs_join.ensures c.texts_append.ensures (net_of c.args.graph) c.args.settings.now c.loop-closed.round c.in_ok-closed.closed c.in_ok-closed.report c.in_ok-round-2.round
+      (g.S.Shelf.files c.args.shelf.now) (g.S.Shelf.files c.loop-closed.shelf) (g.S.Shelf.files c.close_faults.new.shelf) (g.S.Shelf.files c.further_round.new.shelf) c.args.journal.now
+      c.requires.wires c.loop-closed.invariant.recorded c.in_ok-closed.ensures.closed (omega (arith, c.if-report-eq0.false)) (omega (arith, c.in_ok-closed.ensures.local)) c.in_ok-closed.ensures.no_fuller c.in_ok-round-2.ensures.went;
+  tries = c.in_ok-round-2.ensures.within;
+  there = c.in_ok-round-2.ensures.there;
+  later = omega (arith, c.loop-closed.invariant.later, c.in_ok-closed.ensures.later, c.in_ok-round-2.ensures.later);
+}

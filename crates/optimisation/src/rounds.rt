@@ -1,0 +1,189 @@
+// Rounds: the addition loop and then the closing pass, until the pass fixes nothing.
+ghost use Rattle.std.specs.Prelude.{◌≡◌, ◌≢◌, ◌≤◌, ◌<◌, ◌+◌, Err, IfOk, OnErr, OnOk, IfErr};
+ghost use Rattle.rm_base.specs.Causes.{Rose};
+ghost use Rattle.gate_net.specs.Net.{wire_count};
+ghost use Rattle.gate_graph.specs.Circuit.{live_nodes, net_of, pins_taken};
+ghost use Rattle.wire_edit.specs.Order.{IsTidy};
+ghost use Rattle.candidate_wires.specs.declared.candidate.Outcome.TheVariants.{Settled};
+ghost use Rattle.journal_text.specs.Appends.{IsThere};
+ghost use Rattle.journal_text.specs.Runs.{IsStopped};
+ghost use Rattle.journal_text.specs.declared.append.Stop.TheVariants as stop;
+ghost use Rattle.rar_loop.specs.Rounds.{is_settled, tries_of};
+ghost use Rattle.optimisation.specs.Ended.{HasEnded};
+ghost use Rattle.optimisation.specs.Ran.{AreBounded, HasGoneOn, HasRecorded, sum_of};
+ghost use Rattle.closing_pass.specs.Reports.{made_in};
+ghost use Rattle.optimisation.specs.Ranges.{AreSettings};
+
+use candidate_wires::Outcome;
+use closing_pass::{Report, close_faults};
+use gate_graph::Graph;
+use journal_text::{Stop, runs_join, texts_append};
+use rar_loop::{optimise, run_begins, run_goes_on};
+use rm_base::{Gate, Made, Settings, Shelf};
+use std::alloc::Global;
+use std::thread::Threads;
+
+/// The graph after the addition loop of a round, the steps and the tries so far, and whether the loop tried all pairs in vain.
+#[derive(Drop)]
+pub(crate) struct Round {
+    pub(crate) graph: Graph,
+    pub(crate) made: Made,
+    pub(crate) tries: u32,
+    pub(crate) settled: bool,
+}
+
+/// The last round, whose closing pass fixed nothing.
+#[derive(Drop)]
+pub(crate) struct Rounds {
+    pub(crate) last: Round,
+    pub(crate) report: Report,
+}
+
+fn tries_of(outcome: &Outcome) -> u32
+    ensures { result ≡ tries_of outcome.now }
+{
+    match outcome {
+        Outcome::Settled { tries } => *tries,
+        Outcome::TriesSpent { tries, at: _ } => *tries,
+    }
+}
+
+fn is_settled(outcome: &Outcome) -> bool
+    ensures { result ≡ is_settled outcome.now }
+{
+    match outcome {
+        Outcome::Settled { tries: _ } => true,
+        Outcome::TriesSpent { tries: _, at: _ } => false,
+    }
+}
+
+// With the steps of a closing pass and of a further call.
+fn sum_of(made: Made, fixed: u32, local: u64, more: Made) -> Made
+    requires adds { made.adds + more.adds ≤ 18446744073709551615 }
+    requires fixes { made.fixes + fixed + more.fixes ≤ 18446744073709551615 }
+    requires local { made.local + local + more.local ≤ 18446744073709551615 }
+    ensures { result ≡ record { adds = made.adds + more.adds; fixes = made.fixes + fixed + more.fixes; local = made.local + local + more.local } }
+{
+    Made {
+        adds: made.adds + more.adds,
+        fixes: made.fixes + u64::from(fixed) + more.fixes,
+        local: made.local + local + more.local,
+    }
+}
+
+// The first round: the addition loop with all tries.
+fn first_round<S: Shelf>(
+    alloc: Global,
+    graph: Graph,
+    settings: &Settings,
+    shelf: &mut S,
+    journal: &str,
+) -> Result<Round, Stop>
+    requires few { pins_taken graph + live_nodes graph ≤ 1048576 }
+    requires wires { wire_count (net_of graph) ≤ 65536 }
+    requires settings { AreSettings settings.now }
+    requires there { IsThere (S.files shelf.old) journal.now }
+    ensures ran { IfOk result (λ r. HasRecorded (net_of graph) settings.now r (S.files shelf.old) (S.files shelf.new) journal.now) }
+    ensures within { IfOk result (λ r. r.tries ≤ settings.now.tries) }
+    ensures there { IsThere (S.files shelf.new) journal.now }
+    ensures stopped { OnErr result (IsStopped (net_of graph) (S.files shelf.old) (S.files shelf.new) journal.now) }
+    ensures failed { result ≡ Err stop.Failed → Rose (S.faults shelf.old) (S.faults shelf.new) }
+    ensures later { S.faults shelf.old ≤ S.faults shelf.new }
+{
+    graph.well_formed();
+    run_begins();
+    let (graph, outcome, made) = optimise(alloc, graph, settings, shelf, journal)?;
+    Ok(Round {
+        graph,
+        made,
+        tries: tries_of(&outcome),
+        settled: is_settled(&outcome),
+    })
+}
+
+// A further round, after a closing pass that fixed some pins: the addition loop with the tries that are left.
+fn further_round<S: Shelf>(
+    alloc: Global,
+    graph: Graph,
+    report: &Report,
+    made: Made,
+    tries: u32,
+    settings: &Settings,
+    shelf: &mut S,
+    journal: &str,
+) -> Result<Round, Stop>
+    requires few { pins_taken graph + live_nodes graph ≤ 1048576 }
+    requires settings { AreSettings settings.now }
+    requires tries { tries ≤ settings.now.tries }
+    requires adds { made.adds ≤ 4611756387171565568 }
+    requires fixes { made.fixes ≤ 4611756387171565568 }
+    requires local { (made.local ≤ 4611756387171565568) × (report.now.local ≤ 35184372088832) }
+    requires there { IsThere (S.files shelf.old) journal.now }
+    ensures went { IfOk result (λ r. HasGoneOn settings.now graph (sum_of made (made_in report.now)) tries r (S.files shelf.old) (S.files shelf.new) journal.now) }
+    ensures within { IfOk result (λ r. r.tries ≤ settings.now.tries) }
+    ensures there { IsThere (S.files shelf.new) journal.now }
+    ensures stopped { OnErr result (IsStopped (net_of graph) (S.files shelf.old) (S.files shelf.new) journal.now) }
+    ensures failed { result ≡ Err stop.Failed → Rose (S.faults shelf.old) (S.faults shelf.new) }
+    ensures later { S.faults shelf.old ≤ S.faults shelf.new }
+{
+    let left = Settings {
+        depth: settings.depth,
+        budget: settings.budget,
+        tries: settings.tries - tries,
+        workers: settings.workers,
+    };
+    let (graph, outcome, more) = optimise(alloc, graph, &left, shelf, journal)?;
+    Ok(Round {
+        graph,
+        made: sum_of(made, report.fixed, report.local, more),
+        tries: tries + tries_of(&outcome),
+        settled: is_settled(&outcome),
+    })
+}
+
+/// Goes round by round until a closing pass fixes nothing.
+pub(crate) fn go_rounds<R: Threads + Sync, G: Gate, S: Shelf>(
+    rt: &R,
+    alloc: Global,
+    graph: Graph,
+    settings: &Settings,
+    gate: &G,
+    shelf: &mut S,
+    journal: &str,
+) -> Result<Rounds, Stop>
+    requires few { pins_taken graph + live_nodes graph ≤ 1048576 }
+    requires wires { wire_count (net_of graph) ≤ 65536 }
+    requires settings { AreSettings settings.now }
+    requires there { IsThere (S.files shelf.old) journal.now }
+    ensures ended { IfOk result (λ r. HasEnded (net_of graph) settings.now r (S.files shelf.old) (S.files shelf.new) journal.now) }
+    ensures there { IsThere (S.files shelf.new) journal.now }
+    ensures stopped { OnErr result (IsStopped (net_of graph) (S.files shelf.old) (S.files shelf.new) journal.now) }
+    ensures failed { result ≡ Err stop.Failed → Rose (S.faults shelf.old) (S.faults shelf.new) }
+    ensures later { S.faults shelf.old ≤ S.faults shelf.new }
+{
+    run_goes_on();
+    runs_join();
+    texts_append();
+    let mut round = first_round(alloc, graph, settings, shelf, journal)?;
+    loop {
+        let Round {
+            graph,
+            made,
+            tries,
+            settled,
+        } = round;
+        let (closed, report) = close_faults(rt, alloc, graph, settings, gate, shelf, journal)?;
+        if report.fixed == 0 {
+            let last = Round {
+                graph: closed,
+                made,
+                tries,
+                settled,
+            };
+            return Ok(Rounds { last, report });
+        }
+        round = further_round(
+            alloc, closed, &report, made, tries, settings, shelf, journal,
+        )?;
+    }
+}
