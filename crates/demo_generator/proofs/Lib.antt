@@ -1,0 +1,4 @@
+pub mod Drawing
+pub mod Steps
+pub mod Signals
+pub mod Ready

@@ -1,0 +1,27 @@
+use Rattle.std.proofs.Common.{◌≡◌, ◌<◌, ◌^◌, None, ℕ, length, subst, sym}
+use Rattle.std.proofs.lemmas.Result.{IfOk-weaker}
+use Rattle.cover_decompose.specs.Count.{decomposed}
+use Rattle.demo_generator.specs.Ready.{IsReady}
+use Rattle.demo_generator.specs.Generator.{model_of_seed}
+use Rattle.rm_model.specs.Ranks.{first_without_rank}
+use Rattle.rm_model.specs.Value.{observed_names, source_names}
+use Rattle.rm_model.specs.WellFormed.{IsWellFormed}
+use Rattle.rm_model.specs.declared.parts.Model.{Model}
+use Rattle.demo_generator.proofs.model.demo_model.Goals as goal
+
+along : (seed : ℕ) (m : Model) → IsReady (model_of_seed seed) → m ≡ model_of_seed seed → IsReady m
+along seed m ready e = subst IsReady (sym e) ready
+
+pub returns : goal.returns
+returns c =
+    let ready = c.demo_models_are_ready.ensures c.args.seed in
+    let drawn = c.drawn_model.ensures in
+    record {
+      model = drawn;
+      formed = IfOk-weaker c.drawn_model.result _ IsWellFormed (λ m e. (along c.args.seed m ready e).formed) drawn;
+      ranked = IfOk-weaker c.drawn_model.result _ (λ m. first_without_rank m ≡ None) (λ m e. (along c.args.seed m ready e).ranked) drawn;
+      covers = IfOk-weaker c.drawn_model.result _ (λ (m : Model). length m.covers < 2 ^ 32) (λ m e. (along c.args.seed m ready e).covers) drawn;
+      sources = IfOk-weaker c.drawn_model.result _ (λ m. length (source_names m) ≡ 16) (λ m e. (along c.args.seed m ready e).sources) drawn;
+      observed = IfOk-weaker c.drawn_model.result _ (λ m. length (observed_names m) ≡ 8) (λ m e. (along c.args.seed m ready e).observed) drawn;
+      fits = IfOk-weaker c.drawn_model.result _ (λ m. decomposed m < 65536) (λ m e. (along c.args.seed m ready e).fits) drawn;
+    }

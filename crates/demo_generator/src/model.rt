@@ -1,0 +1,46 @@
+// The model of a seed.
+ghost use Rattle.std.specs.Prelude.{◌≡◌, ◌<◌, ◌^◌, IfOk, None, length};
+ghost use Rattle.cover_decompose.specs.Count.{decomposed};
+ghost use Rattle.demo_generator.specs.Generator.{model_of_seed};
+ghost use Rattle.rm_model.specs.Ranks.{first_without_rank};
+ghost use Rattle.rm_model.specs.Value.{observed_names, source_names};
+ghost use Rattle.rm_model.specs.WellFormed.{IsWellFormed};
+
+use crate::laws::demo_models_are_ready;
+use crate::names::signal_names;
+use crate::parts::draw_covers;
+use rm_base::NoMemory;
+use rm_model::{Listed, Model};
+use std::alloc::Global;
+
+fn drawn_model(alloc: Global, seed: u64) -> Result<Model, NoMemory>
+    ensures { IfOk result (λ m. m ≡ model_of_seed seed) }
+{
+    let name = String::from_str(alloc, "demo")?;
+    let inputs = signal_names(alloc, 0, 16)?;
+    let outputs = signal_names(alloc, 68, 8)?;
+    let covers = draw_covers(alloc, seed)?;
+    Ok(Model {
+        name: Listed::from_vec(name.into_bytes()),
+        inputs,
+        clocks: Listed::new(alloc),
+        outputs,
+        latches: Listed::new(alloc),
+        covers,
+    })
+}
+
+/// Draws the example of a seed: sixteen inputs, and sixty covers that each read three signals before them, of which
+/// the last eight are the outputs. One cover may read a signal twice.
+pub fn demo_model(alloc: Global, seed: u64) -> Result<Model, NoMemory>
+    ensures model { IfOk result (λ m. m ≡ model_of_seed seed) }
+    ensures formed { IfOk result (λ m. IsWellFormed m) }
+    ensures ranked { IfOk result (λ m. first_without_rank m ≡ None) }
+    ensures covers { IfOk result (λ m. length m.covers < 2 ^ 32) }
+    ensures sources { IfOk result (λ m. length (source_names m) ≡ 16) }
+    ensures observed { IfOk result (λ m. length (observed_names m) ≡ 8) }
+    ensures fits { IfOk result (λ m. decomposed m < 65536) }
+{
+    demo_models_are_ready();
+    drawn_model(alloc, seed)
+}

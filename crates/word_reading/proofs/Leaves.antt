@@ -1,0 +1,138 @@
+-- The three subcommands as clap builds them, and their rules.
+use Rattle.std.proofs.Common.{◌≡◌, ◌==◌, ◌&&◌, ℕ, Bool, true, false, not, cond, refl, subst, List, [], ◌∷◌, Some, None, is_some}
+use Rattle.std.specs.Prelude.{codes}
+use Rattle.std.specs.List.{AllByRecursion, find}
+use Rattle.std.specs.Option.{option_map_or}
+use Rattle.clap.specs.Walk.{Row, Rule, Text, arg_by_id, arg_by_short, has_long, has_row, is_multiple, most_values, takes_several, takes_values}
+use Rattle.clap.specs.Simple.{built}
+use Rattle.clap.specs.Kinds.{or_else}
+use Rattle.clap.specs.Faults.{is_simple_and_free, use_fault}
+use Rattle.clap.specs.declared.error.kind.ErrorKind.{ErrorKind}
+use Rattle.word_reading.specs.Judged.{check_rules, clean, demo_rules, leaf, opt_rules}
+use Rattle.word_reading.specs.Program.{program}
+use Rattle.word_reading.proofs.Runs.{IsSingle, IsSingles}
+
+pub subs_are : (built program).subs ≡ leaf (codes "opt") opt_rules ∷ leaf (codes "check") check_rules ∷ leaf (codes "demo") demo_rules ∷ []
+subs_are = refl
+
+pub is_simple_program : is_simple_and_free program ≡ true
+is_simple_program = refl
+
+found_all : (p : Rule → Bool) (Q : Rule → Type 0) (xs : List Rule) → AllByRecursion Q xs → (a : Rule) → find p xs ≡ Some a → Q a × (p a ≡ true)
+found_all p Q [] all a e = cc
+found_all p Q (x ∷ xs) all a e = go (p x) refl (λ f. found_all p Q xs all.1 a f)
+  where
+    go : (t : Bool) → p x ≡ t → (find p xs ≡ Some a → Q a × (p a ≡ true)) → Q a × (p a ≡ true)
+    go true is later =
+        let found : Some x ≡ Some a = rw is at e in
+        let same : x ≡ a = cc in
+        subst (λ y. Q y × (p y ≡ true)) same (all.0, is)
+    go false is later = later (rw is at e)
+
+abbrev IsKeyed : Rule → Type 0
+IsKeyed a = (k : Text) → (not (is_some a.index) && has_long a k) ≡ true → (rows : List Row) → clean (use_fault false a (codes "-" ∷ []) rows) ≡ false
+
+either : (b : Bool) (x y : ErrorKind) → clean (or_else (cond (b && true) (x ∷ []) []) (y ∷ [])) ≡ false
+either true x y = refl
+either false x y = refl
+
+abbrev AreSingle : List Rule → Type 0
+AreSingle c = AllByRecursion (IsSingle c) c
+
+singles_of : (c : List Rule) → AreSingle c → AllByRecursion IsKeyed c → ((x : ℕ) → arg_by_short c x ≡ None) → IsSingles c
+singles_of c single keyed short = record {
+  by_index = λ i a e. (found_all (λ r. option_map_or (λ k. k == i) r.index false) (IsSingle c) c single a e).0;
+  by_long = λ k a e. (found_all (λ r. not (is_some r.index) && has_long r k) (IsSingle c) c single a e).0;
+  no_hyphen = λ k a e.
+      let found = found_all (λ r. not (is_some r.index) && has_long r k) IsKeyed c keyed a e in
+      found.0 k found.1;
+  by_short = short;
+}
+
+single : (c : List Rule) (a : Rule) → arg_by_id c a.id ≡ Some a → takes_several a ≡ false → is_multiple a ≡ false → a.trailing_var_arg ≡ false → takes_values a ≡ true
+    → most_values a ≡ 1 → ((rows : List Row) → clean (use_fault false a [] rows) ≡ false) → IsSingle c a
+single c a f s m t v o w = record { found = f; several = s; multiple = m; trailing = t; takes = v; most = o; wants = w }
+
+pub opt_singles : IsSingles opt_rules
+opt_singles = singles_of opt_rules (
+  single _ _ refl refl refl refl refl refl (λ rows. refl),
+  (
+    single _ _ refl refl refl refl refl refl (λ rows. refl),
+    (
+      single _ _ refl refl refl refl refl refl (λ rows. refl),
+      (
+        single _ _ refl refl refl refl refl refl (λ rows. refl),
+        (
+          single _ _ refl refl refl refl refl refl (λ rows. refl),
+          (
+            single _ _ refl refl refl refl refl refl (λ rows. refl),
+            (single _ _ refl refl refl refl refl refl (λ rows. refl), tt),
+          ),
+        ),
+      ),
+    ),
+  ),
+) (
+  (λ k e rows. either (has_row (codes "depth") rows) _ _),
+  (
+    (λ k e rows. either (has_row (codes "budget") rows) _ _),
+    (
+      (λ k e rows. either (has_row (codes "tries") rows) _ _),
+      (
+        (λ k e rows. either (has_row (codes "workers") rows) _ _),
+        (
+          (λ k e. cc),
+          (
+            (λ k e. cc),
+            ((λ k e. cc), tt),
+          ),
+        ),
+      ),
+    ),
+  ),
+)
+    (λ x. refl)
+
+pub check_singles : IsSingles check_rules
+check_singles = singles_of check_rules (
+  single _ _ refl refl refl refl refl refl (λ rows. refl),
+  (
+    single _ _ refl refl refl refl refl refl (λ rows. refl),
+    (single _ _ refl refl refl refl refl refl (λ rows. refl), tt),
+  ),
+) (
+  (λ k e. cc),
+  (
+    (λ k e. cc),
+    ((λ k e. cc), tt),
+  ),
+)
+    (λ x. refl)
+
+pub demo_singles : IsSingles demo_rules
+demo_singles = singles_of demo_rules (
+  single _ _ refl refl refl refl refl refl (λ rows. refl),
+  (
+    single _ _ refl refl refl refl refl refl (λ rows. refl),
+    (
+      single _ _ refl refl refl refl refl refl (λ rows. refl),
+      (
+        single _ _ refl refl refl refl refl refl (λ rows. refl),
+        (single _ _ refl refl refl refl refl refl (λ rows. refl), tt),
+      ),
+    ),
+  ),
+) (
+  (λ k e rows. either (has_row (codes "depth") rows) _ _),
+  (
+    (λ k e rows. either (has_row (codes "budget") rows) _ _),
+    (
+      (λ k e rows. either (has_row (codes "tries") rows) _ _),
+      (
+        (λ k e rows. either (has_row (codes "workers") rows) _ _),
+        ((λ k e. cc), tt),
+      ),
+    ),
+  ),
+)
+    (λ x. refl)

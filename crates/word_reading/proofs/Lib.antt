@@ -1,0 +1,14 @@
+pub mod Bools
+pub mod Runs
+pub mod Classes
+pub mod Walks
+pub mod Leaves
+pub mod Levels
+pub mod FromAnswers
+pub mod Getters
+pub mod Numbers
+pub mod Slots
+pub mod Judging
+pub mod Forms
+pub mod Agrees
+pub mod Ranges

@@ -1,0 +1,35 @@
+//! What the words can ask for.
+
+use rm_base::Settings;
+
+/// A command with its names.
+#[derive(Clone, Copy)]
+pub enum Command<'a> {
+    /// Optimises the input, and writes the output and the journal.
+    Opt {
+        input: &'a str,
+        output: &'a str,
+        journal: &'a str,
+        settings: Settings,
+    },
+    /// Replays the journal over the input, and compares with the output.
+    Check {
+        input: &'a str,
+        journal: &'a str,
+        output: &'a str,
+    },
+    /// Optimises the generated model of the seed.
+    Demo {
+        seed: u64,
+        settings: Settings,
+    },
+}
+
+/// Why no command was read.
+#[derive(Clone, Copy, PartialEq, Eq)]
+pub enum WordFault {
+    /// The words ask for nothing.
+    Refused,
+    /// Want of memory.
+    NoMemory,
+}
