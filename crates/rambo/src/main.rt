@@ -35,5 +35,12 @@ fn main(rt: HostRuntime) -> io::Result<ExitCode> {
     let words = words(&rt)?;
     let mut shelf = FileShelf::new(&rt, alloc);
     let mut sink = StdoutSink::new(&rt);
-    Ok(ExitCode::from(run(alloc, words.as_slice(), &mut shelf, &mut sink, &OpenGate)))
+    Ok(ExitCode::from(run(
+        &rt,
+        alloc,
+        words.as_slice(),
+        &mut shelf,
+        &mut sink,
+        &OpenGate,
+    )))
 }

@@ -1,6 +1,10 @@
 pub mod Replacing
 pub mod Pieces
 pub mod Reports
-pub mod Tidied
+pub mod Plain
 pub mod Composed
-pub mod Room
+pub mod Tested
+pub mod Rising
+pub mod Auditing
+pub mod Writing
+pub mod Wanting

@@ -1,17 +1,19 @@
 -- What a read of one byte more than a text may have says of the file.
 use Rattle.std.proofs.Common.{◌≡◌, ◌≤◌, ◌<◌, ◌+◌, ℕ, List, take, length, refl, sym, ◌∙◌, ◌⊎◌, subst, ap, arith, inl, inr, Result, Ok, Err, length-take}
-use Rattle.std.specs.Prelude.{Option, None, Some, IfSome, IsSomeAnd}
+use Rattle.std.specs.Prelude.{Option, None, Some, IfErr, IfOk, IfSome, IsSomeAnd}
 use Rattle.std.specs.Option.{option_map}
-use Rattle.std.specs.Result.{IsErrAnd}
 use Rattle.std.proofs.lemmas.List.{take_all}
 use Rattle.rm_base.specs.Files.{Files, file_of, put_file}
 use Rattle.rm_base.specs.declared.numbers.Place.{Place}
 use Rattle.rm_model.specs.Words.{Word}
 use Rattle.blif_format.specs.declared.refusal.FaultKind.{FaultKind}
 use Rattle.blif_format.specs.declared.refusal.Quantity.{Quantity}
-use Rattle.rambo_cli.specs.Words.{Names}
-use Rattle.rambo_cli.specs.Written.{IsWrittenFor, HasFault, Exceeds, IsLong, ExceedsAt, HasManyPins}
-use Rattle.rambo_cli.specs.Outcome.{IfTold, Holds, Replaces, BeginsToReplace, BeginsFile}
+use Rattle.rm_model.specs.declared.parts.Model.{Model}
+use Rattle.rambo_cli.specs.Written.{IsSaid, HasFault, Exceeds, IsLong, ExceedsAt, HasManyPins}
+use Rattle.rambo_cli.specs.Outcome.{Holds}
+use Rattle.rambo_cli.specs.Problems.{ReadCause, TextCause}
+use Rattle.rambo_cli.specs.declared.problem.Problem.{Problem}
+use Rattle.rambo_cli.specs.declared.problem.Problem.TheVariants.{Words, Text, Limit, Missing, Fault, Journal, Record, Netlist, Memory}
 
 shorter : (n : ℕ) (xs : List ℕ) → length (take (n + 1) xs) ≤ n → take (n + 1) xs ≡ xs
 shorter n xs h = take_all (n + 1) xs (omega (arith, length-take (n + 1) xs))
@@ -19,8 +21,8 @@ shorter n xs h = take_all (n + 1) xs (omega (arith, length-take (n + 1) xs))
 longer : (n most : ℕ) (xs : List ℕ) → most < length (take n xs) → most < length xs
 longer n most xs h = omega (arith, length-take n xs)
 
-pub written_whole : (output bytes : List ℕ) → IsWrittenFor (take 16777217 bytes) output → IsWrittenFor bytes output
-written_whole output bytes h = subst (λ (text : List ℕ). IsWrittenFor text output) (shorter 16777216 bytes h.short) h
+pub said_whole : (model : Model) (bytes : List ℕ) → IsSaid (take 16777217 bytes) model → IsSaid bytes model
+said_whole model bytes h = subst (λ (text : List ℕ). IsSaid text model) (shorter 16777216 bytes h.short) h
 
 pub fault_whole : (kind : FaultKind) (place : Place) (bytes : List ℕ) → HasFault (take 16777217 bytes) kind place → HasFault bytes kind place
 fault_whole kind place bytes h = subst (λ (text : List ℕ). HasFault text kind place) (shorter 16777216 bytes h.short) h
@@ -37,10 +39,6 @@ exceeds_whole quantity count bytes h = elim h [
   ]
 ]
 
--- the words ask for these names
-pub asks : (o : Option Names) (names : Names) (P : Names → Type 0) → Some names ≡ o → P names → IsSomeAnd o P
-asks o names P e p = subst (λ (o : Option Names). IsSomeAnd o P) e p
-
 some_and : (P Q : List ℕ → Type 0) → ((bytes : List ℕ) → P bytes → Q bytes) → (o : Option (List ℕ)) → IsSomeAnd o P → IsSomeAnd o Q
 some_and P Q f None h = absurd h
 some_and P Q f (Some bytes) h = f bytes h
@@ -50,25 +48,48 @@ pub held : (P Q : List ℕ → Type 0) → ((bytes : List ℕ) → P bytes → Q
 held P Q f None name h = tt
 held P Q f (Some told) name h = some_and P Q f (file_of told name) h
 
--- the error of a call that is handed on
-pub handed : {V E : Type 0} (r : Result V E) (e p : E) → IsErrAnd r (λ q. q ≡ e) → r ≡ Err p → e ≡ p
-handed (Ok x) e p h k = absurd h
-handed (Err q) e p h k = sym h ∙ cc
+-- why the bytes of the file aren't read is why its whole text isn't
+cause_whole : (problem : Problem) (text bytes : List ℕ) (name : Word) (before now : ℕ) (told : Files) → file_of told name ≡ Some bytes → text ≡ take 16777217 bytes → TextCause text problem → ReadCause name (Some told) before now problem
+cause_whole (Text kind place) text bytes name before now told at e h =
+    subst (λ (o : Option (List ℕ)). IsSomeAnd o (λ t. HasFault t kind place)) (sym at) (fault_whole kind place bytes (subst (λ (t : List ℕ). HasFault t kind place) e h))
+cause_whole (Limit quantity count) text bytes name before now told at e h =
+    subst (λ (o : Option (List ℕ)). IsSomeAnd o (λ t. Exceeds t quantity count)) (sym at) (exceeds_whole quantity count bytes (subst (λ (t : List ℕ). Exceeds t quantity count) e h))
+cause_whole Memory text bytes name before now told at e h = tt
+cause_whole Words text bytes name before now told at e h = absurd h
+cause_whole Missing text bytes name before now told at e h = absurd h
+cause_whole Fault text bytes name before now told at e h = absurd h
+cause_whole (Journal f) text bytes name before now told at e h = absurd h
+cause_whole (Record r) text bytes name before now told at e h = absurd h
+cause_whole (Netlist byte) text bytes name before now told at e h = absurd h
 
-pub replaced : (names : Names) (old mid new : Option Files) (output : List ℕ) → mid ≡ old → new ≡ option_map (put_file names.output output) mid → IfSome old (λ told. Holds told names.input (λ text. IsWrittenFor text output)) → IfTold old new (Replaces names)
-replaced names None mid new output e f h = tt
-replaced names (Some told) mid new output e f h =
-    let is : new ≡ Some (put_file names.output output told) = f ∙ ap (option_map (put_file names.output output)) e in
-    subst (λ (files : Option Files). IfTold (Some told) files (Replaces names)) (sym is) (output, (h, refl))
+-- where nothing is told, nothing is said but of memory and faults
+cause_untold : (problem : Problem) (text : List ℕ) (name : Word) (before now : ℕ) → TextCause text problem → ReadCause name None before now problem
+cause_untold (Text kind place) text name before now h = tt
+cause_untold (Limit quantity count) text name before now h = tt
+cause_untold Memory text name before now h = tt
+cause_untold Words text name before now h = absurd h
+cause_untold Missing text name before now h = absurd h
+cause_untold Fault text name before now h = absurd h
+cause_untold (Journal f) text name before now h = absurd h
+cause_untold (Record r) text name before now h = absurd h
+cause_untold (Netlist byte) text name before now h = absurd h
 
-begun_at : (names : Names) (old new : Option Files) (output : List ℕ) (k : ℕ) → new ≡ option_map (put_file names.output (take k output)) old → IfSome old (λ told. Holds told names.input (λ text. IsWrittenFor text output)) → IfTold old new (BeginsToReplace names)
-begun_at names None new output k e h = tt
-begun_at names (Some told) new output k e h =
-    subst (λ (files : Option Files). IfTold (Some told) files (BeginsToReplace names)) (sym e) (inr (output, (k, (h, refl))))
+cause_at : (problem : Problem) (text : List ℕ) (name : Word) (before now : ℕ) (told : Files) (o : Option (List ℕ)) → file_of told name ≡ o → IsSomeAnd o (λ bytes. text ≡ take 16777217 bytes) → TextCause text problem → ReadCause name (Some told) before now problem
+cause_at problem text name before now told None at found h = absurd found
+cause_at problem text name before now told (Some bytes) at found h = cause_whole problem text bytes name before now told at found h
 
-pub begun : (o : Option Names) (names : Names) (old mid new : Option Files) (output : List ℕ) → Some names ≡ o → mid ≡ old → BeginsFile names.output output mid new → IfSome old (λ told. Holds told names.input (λ text. IsWrittenFor text output)) → (new ≡ old) ⊎ IsSomeAnd o (λ n. IfTold old new (BeginsToReplace n))
-begun o names old mid new output asked e b h = elim b [
-  | inl same ↦ inl (same ∙ e)
-  | inr part ↦ inr (asks o names (λ n. IfTold old new (BeginsToReplace n)) asked
-      (begun_at names old new output part.0 (part.1 ∙ ap (option_map (put_file names.output (take part.0 output))) e) h))
-]
+pub text_cause : (problem : Problem) (text : List ℕ) (files : Option Files) (name : Word) (before now : ℕ) → IfSome files (λ told. Holds told name (λ bytes. text ≡ take 16777217 bytes)) → TextCause text problem → ReadCause name files before now problem
+text_cause problem text None name before now found h = cause_untold problem text name before now h
+text_cause problem text (Some told) name before now found h = cause_at problem text name before now told (file_of told name) refl found h
+
+-- the model that was read is that of the whole text
+pub read_said : (r : Result Model Problem) (text : List ℕ) (files : Option Files) (name : Word) → IfSome files (λ told. Holds told name (λ bytes. text ≡ take 16777217 bytes)) → IfOk r (λ m. IsSaid text m)
+    → IfOk r (λ m. IfSome files (λ told. Holds told name (λ bytes. IsSaid bytes m)))
+read_said (Err p) text files name found h = tt
+read_said (Ok m) text files name found h =
+    held (λ bytes. text ≡ take 16777217 bytes) (λ bytes. IsSaid bytes m) (λ bytes e. said_whole m bytes (subst (λ (t : List ℕ). IsSaid t m) e h)) files name found
+
+-- and so is the reason against one
+pub read_cause : (r : Result Model Problem) (text : List ℕ) (files : Option Files) (name : Word) (before now : ℕ) → IfSome files (λ told. Holds told name (λ bytes. text ≡ take 16777217 bytes)) → IfErr r (TextCause text) → IfErr r (ReadCause name files before now)
+read_cause (Ok m) text files name before now found h = tt
+read_cause (Err p) text files name before now found h = text_cause p text files name before now found h

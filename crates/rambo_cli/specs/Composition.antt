@@ -1,6 +1,11 @@
--- How the layers compose to the text that is written.
-use Rattle.std.specs.Prelude.{◌≡◌}
-use Rattle.rm_model.specs.Value.{IsRanked}
+-- How the layers compose: from a run over a model to the text that is written for it.
+use Rattle.std.specs.Prelude.{◌≡◌, ◌++◌, ℕ, List, None}
+use Rattle.rm_base.specs.Files.{Files}
+use Rattle.rm_model.specs.Ranks.{first_without_rank}
+use Rattle.rm_model.specs.Words.{Word}
+use Rattle.journal_audit.specs.Audited.{IsPassed}
+use Rattle.rm_base.specs.declared.settings.Settings.{Settings}
+use Rattle.rm_model.specs.Value.{Equivalent, IsRanked}
 use Rattle.rm_model.specs.WellFormed.{IsWellFormed as IsModel}
 use Rattle.rm_model.specs.declared.parts.Model.{Model}
 use Rattle.gate_net.specs.Net.{Net, IsWellFormed, wire_count}
@@ -11,7 +16,12 @@ use Rattle.cover_decompose.specs.StandsFor.{StandsFor, HasPoints}
 use Rattle.graph_to_model.specs.NetModel.{model_of_net}
 use Rattle.graph_to_model.specs.Fits.{Fits}
 use Rattle.graph_to_model.specs.Laws.{AreFew}
-use Rattle.rambo_cli.specs.Written.{TidiesTo, IsWritten}
+use Rattle.journal_text.specs.Accepted.{Keeps}
+use Rattle.journal_text.specs.Text.{journal_text}
+use Rattle.journal_text.specs.declared.record.Record.{Record}
+use Rattle.optimisation.specs.Whole.{IsRunOver}
+use Rattle.optimisation.specs.declared.optimised.Figures.{Figures}
+use Rattle.rambo_cli.specs.Headline.{IsOptimisedInto}
 
 -- what holds of the decomposition of a model
 pub record IsDecomposed (m : Model) : Type 0 where
@@ -20,11 +30,19 @@ pub record IsDecomposed (m : Model) : Type 0 where
   pub points : HasPoints (net_of_model m) m
   pub wires : wire_count (net_of_model m) ≡ decomposed m
 
--- the net to which tidying leads has the sources and the observed points of the model
-abbrev pub TidiedNetsFit : Type 0
-TidiedNetsFit = (m : Model) (last : Net) → IsDecomposed m → TidiesTo (net_of_model m) last → Fits last m
+-- a net that keeps what is observed of the decomposition has the sources and the observed points of the model
+abbrev pub KeptNetsFit : Type 0
+KeptNetsFit = (m : Model) (last : Net) → IsDecomposed m → Keeps (net_of_model m) last → Fits last m
 
--- the text of the model of that net is written for the model
-abbrev pub ModelsAreWritten : Type 0
-ModelsAreWritten =
-    (m : Model) (last : Net) → IsModel m → IsRanked m → IsDecomposed m → TidiesTo (net_of_model m) last → AreFew last m → IsWritten m (text_of (model_of_net m last))
+-- the journal and the text of the last net of a run over a model are what the headline says
+abbrev pub RunsAreWritten : Type 0
+RunsAreWritten =
+    (m : Model) (settings : Settings) (net : Net) (steps verdicts : List Record) (figures : Figures) → IsModel m → IsRanked m → IsDecomposed m → AreFew net m
+    → IsRunOver m settings net steps verdicts figures
+    → IsOptimisedInto m settings figures (journal_text settings.budget (steps ++ verdicts)) (text_of (model_of_net m net))
+
+-- an output that passes the audit is the text of a model with the original's outputs and latch pins
+abbrev pub PassedAuditsTell : Type 0
+PassedAuditsTell =
+    (m : Model) (files : Files) (journal output : Word) (count : ℕ) → IsModel m → IsRanked m → first_without_rank m ≡ None → (passed : IsPassed m files journal output count)
+    → Equivalent m (model_of_net m passed.last)

@@ -53,3 +53,7 @@ shelf_line = codes "fault shelf" ++ 10 ∷ []
 
 abbrev pub memory_line : List ℕ
 memory_line = codes "memory" ++ 10 ∷ []
+
+-- `accepted N`: how many records a journal has that is accepted
+abbrev pub accepted_line : ℕ → List ℕ
+accepted_line count = codes "accepted " ++ (decimal count ++ 10 ∷ [])

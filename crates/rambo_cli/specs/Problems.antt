@@ -1,18 +1,33 @@
 -- What keeps a run from ending with 0.
-use Rattle.std.specs.Prelude.{◌≡◌, ◌⊎◌, ◌++◌, ◌<◌, ℕ, List, Option}
+use Rattle.std.specs.Prelude.{◌≡◌, ◌⊎◌, ◌++◌, ◌<◌, ℕ, List, Option, None, Some, IfSome, IsSome, IsSomeAnd}
 use Rattle.std.specs.Option.{option_map}
 use Rattle.rm_base.specs.Causes.{Rose}
+use Rattle.rm_base.specs.Files.{Files, file_of}
 use Rattle.rm_base.specs.declared.outside.OutsideFault.{OutsideFault}
 use Rattle.rm_base.specs.declared.outside.OutsideFault.TheVariants.{Failed, NoMemory as OutsideNoMemory}
+use Rattle.rm_model.specs.Words.{Word}
 use Rattle.rm_model.specs.declared.parts.Model.{Model}
-use Rattle.blif_format.specs.declared.refusal.Quantity.TheVariants.{Pins}
 use Rattle.blif_format.specs.declared.refusal.ReadRefusal.{ReadRefusal}
 use Rattle.blif_format.specs.declared.refusal.ReadRefusal.TheVariants.{Fault as ReadFault, Limit as ReadLimit, NoMemory as ReadNoMemory}
+use Rattle.blif_format.specs.declared.refusal.Quantity.TheVariants.{Pins, Journal as JournalLimit}
+use Rattle.journal_audit.specs.declared.problem.AuditProblem.{AuditProblem}
+use Rattle.journal_audit.specs.declared.problem.AuditProblem.TheVariants as audit
+use Rattle.journal_audit.specs.Lines.{fault_line as journal_fault_line, netlist_line, refusal_line}
 use Rattle.cover_decompose.specs.Count.{decomposed}
-use Rattle.rambo_cli.specs.Written.{most_pins}
-use Rattle.rambo_cli.specs.Lines.{fault_line, limit_line, words_line, shelf_line, memory_line}
+use Rattle.optimisation.specs.declared.halt.Halt.{Halt}
+use Rattle.optimisation.specs.declared.halt.Halt.TheVariants as halt
+use Rattle.word_reading.specs.Words.{Asked, opt, check, demo}
+use Rattle.word_reading.specs.declared.command.WordFault.{WordFault}
+use Rattle.word_reading.specs.declared.command.WordFault.TheVariants as word
+use Rattle.rambo_cli.specs.Written.{HasFault, Exceeds, most_pins}
+use Rattle.journal_audit.specs.Audited.{IsOfFiles}
+use Rattle.rambo_cli.specs.Outcome.{Audited, Holds, HasPassed, IfTold, IsAbsent, HasOptimised, HasShown}
+use Rattle.rambo_cli.specs.Summary.{summary_text}
+use Rattle.rambo_cli.specs.Lines.{accepted_line, fault_line, limit_line, words_line, shelf_line, memory_line}
+use Rattle.rambo_cli.specs.declared.work.Done.{Done}
+use Rattle.rambo_cli.specs.declared.work.Done.TheVariants.{Optimised, Accepted}
 use Rattle.rambo_cli.specs.declared.problem.Problem.{Problem}
-use Rattle.rambo_cli.specs.declared.problem.Problem.TheVariants.{Words, Text, Limit, Missing, Fault, Memory}
+use Rattle.rambo_cli.specs.declared.problem.Problem.TheVariants.{Words, Text, Limit, Missing, Fault, Journal, Record, Netlist, Memory}
 
 abbrev pub outside_problem : OutsideFault → Problem
 outside_problem Failed = Fault
@@ -23,12 +38,34 @@ read_problem (ReadFault kind place) = Text kind place
 read_problem (ReadLimit quantity count place) = Limit quantity count
 read_problem ReadNoMemory = Memory
 
+abbrev pub halt_problem : Halt → Problem
+halt_problem (halt.Limit pins) = Limit Pins pins
+halt_problem halt.Failed = Fault
+halt_problem halt.NoMemory = Memory
+
+abbrev pub audit_problem : AuditProblem → Problem
+audit_problem audit.Fault = Fault
+audit_problem audit.NoJournal = Missing
+audit_problem audit.NoOutput = Missing
+audit_problem audit.TooLong = Limit JournalLimit 4611686018427387905
+audit_problem (audit.Text f) = Journal f
+audit_problem (audit.Refused r) = Record r
+audit_problem (audit.Netlist byte) = Netlist byte
+audit_problem audit.NoMemory = Memory
+
+abbrev pub word_problem : WordFault → Problem
+word_problem word.Refused = Words
+word_problem word.NoMemory = Memory
+
 abbrev pub status_of : Problem → ℕ
 status_of Words = 2
 status_of (Text kind place) = 1
 status_of (Limit quantity count) = 5
 status_of Missing = 3
 status_of Fault = 3
+status_of (Journal f) = 6
+status_of (Record r) = 6
+status_of (Netlist byte) = 6
 status_of Memory = 4
 
 abbrev pub line_of : Problem → List ℕ
@@ -37,6 +74,9 @@ line_of (Text kind place) = fault_line kind place
 line_of (Limit quantity count) = limit_line quantity count
 line_of Missing = shelf_line
 line_of Fault = shelf_line
+line_of (Journal f) = journal_fault_line f
+line_of (Record r) = refusal_line r
+line_of (Netlist byte) = netlist_line byte
 line_of Memory = memory_line
 
 -- the line is put and the status answered, or the sink failed, or memory ran out and nothing is put
@@ -57,14 +97,74 @@ IsOutside Fault = Unit {0}
 IsOutside Memory = Unit {0}
 IsOutside _ = ⊥
 
+-- out of memory
+abbrev pub IsWant : Problem → Type 0
+IsWant Memory = Unit {0}
+IsWant _ = ⊥
+
+-- why a text isn't read
+abbrev pub TextCause : List ℕ → Problem → Type 0
+TextCause text (Text kind place) = HasFault text kind place
+TextCause text (Limit quantity count) = Exceeds text quantity count
+TextCause text Memory = Unit {0}
+TextCause text _ = ⊥
+
+-- this holds of the bytes of the file, where the shelf tells its files
+abbrev pub OfFile : Word → Option Files → (List ℕ → Type 0) → Type 0
+OfFile name files P = IfSome files (λ told. Holds told name P)
+
+-- why a model isn't optimised
+abbrev pub ModelCause : Model → ℕ → ℕ → Problem → Type 0
+ModelCause m before now (Limit quantity count) = (quantity ≡ Pins) × ((count ≡ decomposed m) × (most_pins < decomposed m))
+ModelCause m before now Fault = Rose before now
+ModelCause m before now Memory = Unit {0}
+ModelCause m before now _ = ⊥
+
+-- why the input isn't read, or isn't optimised
+abbrev pub ReadCause : Word → Option Files → ℕ → ℕ → Problem → Type 0
+ReadCause name files before now (Text kind place) = OfFile name files (λ text. HasFault text kind place)
+ReadCause name files before now (Limit quantity count) = OfFile name files (λ text. Exceeds text quantity count)
+ReadCause name files before now Missing = IsAbsent name files
+ReadCause name files before now Fault = Rose before now
+ReadCause name files before now Memory = Unit {0}
+ReadCause name files before now _ = ⊥
+
+-- the problem comes of one that the audit found of the model that the input says
+abbrev pub FoundBy : Word → Word → Word → Option Files → Problem → Type 0
+FoundBy input journal output files problem =
+    (found : AuditProblem) × ((problem ≡ audit_problem found) × (IsOfFiles found × ((problem ≡ Missing → IsSome files) × IfSome files (Audited input journal output found))))
+
+-- why the input isn't read, or the audit isn't passed
+abbrev pub CheckCause : Word → Word → Word → Option Files → ℕ → ℕ → Problem → Type 0
+CheckCause input journal output files before now problem = ReadCause input files before now problem ⊎ FoundBy input journal output files problem
+
+-- why a run doesn't end with 0
+abbrev pub IsCause : Option Asked → Option Files → ℕ → ℕ → Problem → Type 0
+IsCause None files before now problem = (problem ≡ Words) ⊎ (problem ≡ Memory)
+IsCause (Some (opt input output journal settings)) files before now problem = ReadCause input files before now problem
+IsCause (Some (check input journal output)) files before now problem = CheckCause input journal output files before now problem
+IsCause (Some (demo seed settings)) files before now problem = problem ≡ Memory
+
 -- a problem of the words or of the text changes no file
 abbrev pub KeepsFiles : {A : Type 0} → Problem → A → A → Type 0
 KeepsFiles Fault old new = Unit {0}
 KeepsFiles Memory old new = Unit {0}
 KeepsFiles problem old new = new ≡ old
 
--- a model that is read has too many wires, or memory is wanting
-abbrev pub IsOver : Model → Problem → Type 0
-IsOver m (Limit quantity count) = (quantity ≡ Pins) × ((count ≡ decomposed m) × (most_pins < decomposed m))
-IsOver m Memory = Unit {0}
-IsOver m problem = ⊥
+-- what a command that is done has done
+abbrev pub HasDone : Option Asked → Option Files → Option Files → Done → Type 0
+HasDone (Some (opt input output journal settings)) old new (Optimised figures) = IfTold old new (HasOptimised input output journal settings figures)
+HasDone (Some (check input journal output)) old new (Accepted count) = IfSome old (HasPassed input journal output count)
+HasDone (Some (demo seed settings)) old new (Optimised figures) = HasShown seed settings figures
+HasDone _ old new done = ⊥
+
+-- the text that it puts
+abbrev pub done_text : Done → List ℕ
+done_text (Optimised figures) = summary_text figures
+done_text (Accepted count) = accepted_line count
+
+-- the text is put, or the sink failed, or memory ran out
+abbrev pub HasEnded : List ℕ → ℕ → Option (List ℕ) → Option (List ℕ) → ℕ → ℕ → Type 0
+HasEnded text status old new before now =
+    ((status ≡ 0) × (new ≡ option_map (λ w. w ++ text) old))
+    ⊎ (((status ≡ 3) × Rose before now) ⊎ ((status ≡ 4) × ((new ≡ option_map (λ w. w ++ memory_line) old) ⊎ (new ≡ old))))

@@ -1,60 +1,70 @@
 //! The top call.
 ghost use Rattle.std.specs.Prelude.{◌≡◌, ◌≤◌, map};
 ghost use Rattle.std.specs.String.{string_bytes};
-ghost use Rattle.rambo_cli.specs.Outcome.{EndsDone, EndsUnread, EndsRefused, EndsFaulty, PutsUnlessFailed, EndsWithoutMemory, EndsOver, EndsSafely};
-ghost use Rattle.rambo_cli.specs.Problems.{IsReported, IsPutWith};
+ghost use Rattle.word_reading.specs.Words.{asked};
+ghost use Rattle.rambo_cli.specs.Outcome.{EndsDone, EndsUnread, EndsRefused, EndsFaulty, PutsUnlessFailed, EndsWithoutMemory, EndsOver, EndsRejected, EndsSafely};
+ghost use Rattle.rambo_cli.specs.Problems.{IsReported, IsPutWith, HasEnded, done_text};
 
-use crate::lines::line;
+use crate::lines::{done_line, line};
 use crate::problem::Problem;
-use crate::work::work;
+use crate::work::{Done, work};
 use rm_base::Gate;
 use rm_base::outside::{OutsideFault, Shelf, Sink};
 use std::alloc::Global;
+use std::thread::Threads;
 
 /// Does all that the program does, and answers its status.
 ///
-/// The words are `opt`, the name of the input and the name of the output. A gate lets the pieces of parallel work pass.
-pub fn run<S: Shelf, O: Sink, G: Gate>(
+/// The words are those of `opt IN OUT JOURNAL`, `check IN JOURNAL OUT` or `demo SEED`, with their options. A gate lets the
+/// pieces of parallel work pass.
+pub fn run<R: Threads + Sync, S: Shelf, O: Sink, G: Gate>(
+    rt: &R,
     alloc: Global,
     words: &[String],
     shelf: &mut S,
     out: &mut O,
-    _gate: &G,
+    gate: &G,
 ) -> u8
-    ensures status { result ≤ 5 }
+    ensures status { result ≤ 6 }
 
-    // 0: the output is the text that is written for the input, and nothing is put.
-    ensures done { result ≡ 0 → EndsDone (map string_bytes words.now) (S.files shelf.old) (S.files shelf.new) }
-    ensures done_quiet { result ≡ 0 → O.written out.new ≡ O.written out.old }
+    // 0: the command is done. Of `opt`: the headline stands of the journal and the output that are written, and the summary
+    // is put. Of `check`: the journal is accepted and the output is its last net's text. Of `demo`: the summary is put.
+    ensures done { result ≡ 0 → EndsDone (asked (map string_bytes words.now)) (S.files shelf.old) (S.files shelf.new)
+        (O.written out.old) (O.written out.new) }
 
     // 1: the input has a fault, whose kind and place are put, and no file has changed.
-    ensures unread { result ≡ 1 → EndsUnread (map string_bytes words.now) (S.files shelf.old)
+    ensures unread { result ≡ 1 → EndsUnread (asked (map string_bytes words.now)) (S.files shelf.old)
         (O.written out.old) (O.written out.new) }
     ensures unread_files { result ≡ 1 → S.files shelf.new ≡ S.files shelf.old }
 
-    // 2: the words ask for nothing, and no file has changed.
-    ensures refused { result ≡ 2 → EndsRefused (map string_bytes words.now) (O.written out.old) (O.written out.new) }
+    // 2: the words ask for no command, and no file has changed.
+    ensures refused { result ≡ 2 → EndsRefused (asked (map string_bytes words.now)) (O.written out.old) (O.written out.new) }
     ensures refused_files { result ≡ 2 → S.files shelf.new ≡ S.files shelf.old }
 
-    // 3: a count of faults rose, or the input is missing.
-    ensures faulty { result ≡ 3 → EndsFaulty (map string_bytes words.now) (S.files shelf.old)
+    // 3: a count of faults rose, or a file that is to be read is missing in its turn.
+    ensures faulty { result ≡ 3 → EndsFaulty (asked (map string_bytes words.now)) (S.files shelf.old)
         (S.faults shelf.old) (S.faults shelf.new) (O.faults out.old) (O.faults out.new) }
     ensures faulty_line { result ≡ 3 → PutsUnlessFailed (O.written out.old) (O.written out.new)
         (O.faults out.old) (O.faults out.new) }
 
-    // 4: want of memory.
+    // 4: out of memory.
     ensures memory { result ≡ 4 → EndsWithoutMemory (O.written out.old) (O.written out.new) }
 
-    // 5: something of the input is over its limit, which is put, and no file has changed.
-    ensures over { result ≡ 5 → EndsOver (map string_bytes words.now) (S.files shelf.old)
+    // 5: something of the input is over its limit, or the journal is, which is put, and no file has changed.
+    ensures over { result ≡ 5 → EndsOver (asked (map string_bytes words.now)) (S.files shelf.old)
         (O.written out.old) (O.written out.new) }
     ensures over_files { result ≡ 5 → S.files shelf.new ≡ S.files shelf.old }
 
+    // 6: the journal isn't accepted, or the output differs, which is put, and no file has changed.
+    ensures rejected { result ≡ 6 → EndsRejected (asked (map string_bytes words.now)) (S.files shelf.old)
+        (O.written out.old) (O.written out.new) }
+    ensures rejected_files { result ≡ 6 → S.files shelf.new ≡ S.files shelf.old }
+
     // Whatever the status is.
-    ensures safe { EndsSafely (map string_bytes words.now) (S.files shelf.old) (S.files shelf.new) }
+    ensures safe { EndsSafely (asked (map string_bytes words.now)) (S.files shelf.old) (S.files shelf.new) }
 {
-    match work(alloc, words, shelf) {
-        Ok(()) => 0,
+    match work(rt, alloc, words, shelf, gate) {
+        Ok(done) => finish(alloc, out, &done),
         Err(problem) => report(alloc, out, problem),
     }
 }
@@ -70,6 +80,18 @@ fn put<O: Sink>(out: &mut O, line: &[u8], status: u8) -> u8
     }
 }
 
+// Puts what a command has done.
+fn finish<O: Sink>(alloc: Global, out: &mut O, done: &Done) -> u8
+    ensures ended { HasEnded (done_text done.now) result (O.written out.old) (O.written out.new) (O.faults out.old) (O.faults out.new) }
+    ensures later { O.faults out.old ≤ O.faults out.new }
+{
+    match done_line(alloc, done) {
+        Ok(line) => put(out, line.as_slice(), 0),
+        Err(_) => put(out, b"memory\n", 4),
+    }
+}
+
+// Puts what kept the run from ending with 0.
 fn report<O: Sink>(alloc: Global, out: &mut O, problem: Problem) -> u8
     ensures reported { IsReported problem result (O.written out.old) (O.written out.new) (O.faults out.old) (O.faults out.new) }
     ensures later { O.faults out.old ≤ O.faults out.new }

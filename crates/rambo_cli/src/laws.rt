@@ -1,30 +1,38 @@
 //! How the layers compose.
-ghost use Rattle.rambo_cli.specs.Composition.{ModelsAreWritten, TidiedNetsFit};
+ghost use Rattle.rambo_cli.specs.Composition.{KeptNetsFit, PassedAuditsTell, RunsAreWritten};
 
 use blif_writer::{read_texts_are_faultless, written_texts_read};
+use cover_decompose::{decompositions_are_formed, decompositions_stand};
 use gate_net::values_exist;
 use graph_to_model::tidy_nets_have_models;
-use wire_edit::{order_tells, steps_keep, tidying_ends};
+use journal_check::accepted_journals_tell;
+use model_faults::laws::tidy_nets_have_model_faults;
 
-/// The net to which tidying leads has the sources and the observed points of the model.
-pub fn tidied_nets_fit()
-    ensures { TidiedNetsFit }
+/// A net that keeps what is observed of the decomposition has the sources and the observed points of the model.
+pub fn kept_nets_fit()
+    ensures { KeptNetsFit }
 {
     values_exist();
-    steps_keep();
-    order_tells();
-    tidying_ends();
 }
 
-/// The text of the model of a tidied decomposition is written for the model.
-pub fn models_are_written()
-    ensures { ModelsAreWritten }
+/// The journal and the text of the last net of a run over a model are what the headline says.
+pub fn runs_are_written()
+    ensures { RunsAreWritten }
 {
     values_exist();
-    steps_keep();
-    order_tells();
-    tidying_ends();
     tidy_nets_have_models();
+    tidy_nets_have_model_faults();
     written_texts_read();
     read_texts_are_faultless();
+}
+
+/// An output that passes the audit is the text of a model that gives the outputs and the latch pins of the original.
+pub fn passed_audits_tell()
+    ensures { PassedAuditsTell }
+{
+    values_exist();
+    decompositions_stand();
+    decompositions_are_formed();
+    accepted_journals_tell();
+    tidy_nets_have_models();
 }

@@ -1,22 +1,17 @@
-//! The program's commands, in one call over the words, the files, the output and the gate.
+//! The commands of the program, in one call: what its words ask for, over the files, the output and the workers' gate that
+//! it is handed.
 #![tactic(auto)]
 
+mod checking;
 mod command;
-#[cfg(test)]
-mod damaged;
-#[cfg(test)]
-mod failing;
 mod laws;
-#[cfg(test)]
-mod limits;
 mod lines;
+mod optimising;
 mod problem;
-#[cfg(test)]
-mod tests;
-mod tidy;
-mod translate;
-mod words;
+mod reading;
+mod showing;
+mod summary;
 mod work;
 
 pub use command::run;
-pub use laws::{models_are_written, tidied_nets_fit};
+pub use laws::{kept_nets_fit, runs_are_written};

@@ -1,11 +1,14 @@
 //! The lines that a run puts.
 ghost use Rattle.std.specs.Prelude.{◌≡◌, IfOk};
-ghost use Rattle.rambo_cli.specs.Lines.{fault_word as word_of_fault, quantity_word as word_of_quantity, fault_line, limit_line};
-ghost use Rattle.rambo_cli.specs.Problems.{line_of};
+ghost use Rattle.rambo_cli.specs.Lines.{fault_word as word_of_fault, quantity_word as word_of_quantity, accepted_line, fault_line as line_of_fault, limit_line};
+ghost use Rattle.rambo_cli.specs.Problems.{done_text, line_of};
 
 use crate::problem::Problem;
+use crate::summary::summary;
+use crate::work::Done;
 use blif_format::{FaultKind, Quantity};
 use itoa::Buffer;
+use journal_audit::{fault_line, netlist_line, refusal_line};
 use rm_base::{NoMemory, Place};
 use std::alloc::Global;
 
@@ -49,7 +52,7 @@ fn quantity_word(quantity: Quantity) -> &'static str
 }
 
 fn fault_text(alloc: Global, kind: FaultKind, place: Place) -> Result<Vec<u8>, NoMemory>
-    ensures { IfOk result (λ line. line.items ≡ fault_line kind place) }
+    ensures { IfOk result (λ line. line.items ≡ line_of_fault kind place) }
 {
     let mut buffer = Buffer::new();
     let mut line = Vec::from_slice(alloc, b"text ")?;
@@ -84,6 +87,30 @@ pub fn line(alloc: Global, problem: Problem) -> Result<Vec<u8>, NoMemory>
         Problem::Limit { quantity, count } => limit_text(alloc, quantity, count),
         Problem::Missing => Ok(Vec::from_slice(alloc, b"fault shelf\n")?),
         Problem::Fault => Ok(Vec::from_slice(alloc, b"fault shelf\n")?),
+        Problem::Journal { fault } => fault_line(alloc, fault),
+        Problem::Record { refusal } => refusal_line(alloc, &refusal),
+        Problem::Netlist { byte } => netlist_line(alloc, byte),
         Problem::Memory => Ok(Vec::from_slice(alloc, b"memory\n")?),
+    }
+}
+
+// The line of a journal that is accepted.
+fn accepted_text(alloc: Global, count: u64) -> Result<Vec<u8>, NoMemory>
+    ensures { IfOk result (λ line. line.items ≡ accepted_line count) }
+{
+    let mut buffer = Buffer::new();
+    let mut line = Vec::from_slice(alloc, b"accepted ")?;
+    line.extend_from_slice(buffer.format(count).as_bytes())?;
+    line.extend_from_slice(b"\n")?;
+    Ok(line)
+}
+
+/// What a command that is done puts.
+pub fn done_line(alloc: Global, done: &Done) -> Result<Vec<u8>, NoMemory>
+    ensures { IfOk result (λ line. line.items ≡ done_text done.now) }
+{
+    match done {
+        Done::Optimised(figures) => summary(alloc, figures),
+        Done::Accepted(count) => accepted_text(alloc, *count),
     }
 }

@@ -1,11 +1,16 @@
 //! What keeps a run from ending with 0.
 ghost use Rattle.std.specs.Prelude.{◌≡◌};
-ghost use Rattle.rambo_cli.specs.Problems.{outside_problem, read_problem, status_of};
+ghost use Rattle.rambo_cli.specs.Problems.{audit_problem, halt_problem, outside_problem, read_problem, status_of, word_problem};
 ghost use Rattle.rambo_cli.specs.declared.problem.Problem.TheVariants.{Memory};
 
 use blif_format::{FaultKind, Quantity, ReadRefusal};
+use journal_audit::AuditProblem;
+use journal_check::JournalRefusal;
+use journal_text::JournalFault;
+use optimisation::Halt;
 use rm_base::outside::OutsideFault;
 use rm_base::{NoMemory, Place};
+use word_reading::WordFault;
 
 #[derive(Clone, Copy, Debug, PartialEq, Eq)]
 pub enum Problem {
@@ -19,6 +24,12 @@ pub enum Problem {
     Missing,
     /// A call of the shelf has failed.
     Fault,
+    /// The text of the journal has a fault.
+    Journal { fault: JournalFault },
+    /// A record of the journal isn't accepted.
+    Record { refusal: JournalRefusal },
+    /// The output differs at this byte from the text of the last net.
+    Netlist { byte: u64 },
     Memory,
 }
 
@@ -36,6 +47,9 @@ impl Problem {
             } => 5,
             Problem::Missing => 3,
             Problem::Fault => 3,
+            Problem::Journal { fault: _ } => 6,
+            Problem::Record { refusal: _ } => 6,
+            Problem::Netlist { byte: _ } => 6,
             Problem::Memory => 4,
         }
     }
@@ -64,6 +78,52 @@ impl From<ReadRefusal> for Problem {
                 place: _,
             } => Problem::Limit { quantity, count },
             ReadRefusal::NoMemory => Problem::Memory,
+        }
+    }
+}
+
+impl From<Halt> for Problem {
+    ghost from_gives = { λ e p. p ≡ halt_problem e };
+
+    fn from(halt: Halt) -> Self {
+        match halt {
+            Halt::Limit { pins } => Problem::Limit {
+                quantity: Quantity::Pins,
+                count: pins,
+            },
+            Halt::Failed => Problem::Fault,
+            Halt::NoMemory => Problem::Memory,
+        }
+    }
+}
+
+impl From<AuditProblem> for Problem {
+    ghost from_gives = { λ e p. p ≡ audit_problem e };
+
+    fn from(problem: AuditProblem) -> Self {
+        match problem {
+            AuditProblem::Fault => Problem::Fault,
+            AuditProblem::NoJournal => Problem::Missing,
+            AuditProblem::NoOutput => Problem::Missing,
+            AuditProblem::TooLong => Problem::Limit {
+                quantity: Quantity::Journal,
+                count: 4_611_686_018_427_387_905,
+            },
+            AuditProblem::Text { fault } => Problem::Journal { fault },
+            AuditProblem::Refused { refusal } => Problem::Record { refusal },
+            AuditProblem::Netlist { byte } => Problem::Netlist { byte },
+            AuditProblem::NoMemory => Problem::Memory,
+        }
+    }
+}
+
+impl From<WordFault> for Problem {
+    ghost from_gives = { λ e p. p ≡ word_problem e };
+
+    fn from(fault: WordFault) -> Self {
+        match fault {
+            WordFault::Refused => Problem::Words,
+            WordFault::NoMemory => Problem::Memory,
         }
     }
 }

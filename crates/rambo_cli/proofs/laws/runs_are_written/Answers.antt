@@ -1,0 +1,30 @@
+use Rattle.std.proofs.Common.{◌≡◌, refl, sym, ◌∙◌, arith}
+use Rattle.rambo_cli.proofs.Composed.{fits, equivalent}
+use Rattle.rambo_cli.proofs.Tested.{tested}
+use Rattle.rambo_cli.proofs.laws.runs_are_written.Goals as goal
+use Rattle.graph_to_model.specs.NetModel.{model_of_net}
+use Rattle.blif_format.specs.Text.{text_of}
+
+pub returns : goal.returns
+returns c = λ m settings net steps verdicts figures model ranked parts few over.
+    let fit = fits c.values_exist.ensures m net parts over.keeps in
+    let is = c.tidy_nets_have_models.ensures net m over.keeps.form over.tidy model fit few in
+    let text = c.written_texts_read.ensures (model_of_net m net) is.well_formed is.ranked in
+    let faults = c.tidy_nets_have_model_faults.ensures.faults net m over.keeps.form over.tidy model fit few in
+    record {
+      net = net;
+      steps = steps;
+      verdicts = verdicts;
+      spelled = refl;
+      of_the_grammar = text.1;
+      acyclic = is.ranked;
+      faultless = c.read_texts_are_faultless.ensures (text_of (model_of_net m net)) (model_of_net m net) text.0 text.1;
+      same_function = equivalent c.values_exist.ensures m net parts over.keeps is ranked;
+      no_more_wires = omega (arith, is.wires, over.fewer);
+      recorded = refl;
+      accepted = record { steps = steps; verdicts = verdicts; parts = refl; leads = over.led; tidy = over.tidy; settled = over.settled };
+      tested = tested net (model_of_net m net) settings.budget verdicts faults (c.tidy_nets_have_model_faults.ensures.once net) c.tidy_nets_have_model_faults.ensures.vectors over.settled over.searched;
+      decided = λ enough. over.searched.decided enough;
+      run = over.run;
+      figures_are = over.figures;
+    }

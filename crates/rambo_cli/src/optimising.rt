@@ -1,0 +1,122 @@
+//! The command `opt`.
+ghost use Rattle.std.specs.Prelude.{◌≡◌, ◌≤◌, IfOk, IfErr, OnOk};
+ghost use Rattle.std.specs.Option.{option_map};
+ghost use Rattle.rm_base.specs.Causes.{HasCause};
+ghost use Rattle.rm_base.specs.Files.{put_file};
+ghost use Rattle.rm_model.specs.WellFormed.{IsWellFormed};
+ghost use Rattle.blif_format.specs.Text.{text_of as model_text};
+ghost use Rattle.gate_graph.specs.Circuit.{net_of};
+ghost use Rattle.wire_edit.specs.Order.{IsTidy};
+ghost use Rattle.graph_to_model.specs.NetModel.{model_of_net};
+ghost use Rattle.graph_to_model.specs.Fits.{Fits};
+ghost use Rattle.graph_to_model.specs.Laws.{AreFew};
+ghost use Rattle.rambo_cli.specs.Files.{BeginsFile};
+ghost use Rattle.rambo_cli.specs.Outcome.{BeginsToWrite, BeginsToWriteFor, HasOptimised, HasWritten, IfTold};
+ghost use Rattle.rambo_cli.specs.Problems.{KeepsFiles, ModelCause, ReadCause};
+ghost use Rattle.optimisation.specs.Ranges.{AreSettings};
+ghost use Rattle.rambo_cli.specs.Written.{IsUsable};
+
+use crate::laws::{kept_nets_fit, runs_are_written};
+use crate::problem::Problem;
+use crate::reading::read_input;
+use blif_writer::write_model;
+use cover_decompose::{decompositions_are_formed, decompositions_stand};
+use gate_graph::Graph;
+use graph_to_model::{ModelRefusal, model_of};
+use optimisation::{Figures, optimised_model};
+use rm_base::outside::{OutsideFault, Shelf};
+use rm_base::{Gate, NoMemory, Settings};
+use rm_model::Model;
+use std::alloc::Global;
+use std::thread::Threads;
+
+/// The names of the files of `opt`.
+#[derive(Clone, Copy)]
+pub(crate) struct Names<'a> {
+    pub(crate) input: &'a str,
+    pub(crate) output: &'a str,
+    pub(crate) journal: &'a str,
+}
+
+// The text of the model of a net.
+fn text_of(alloc: Global, graph: &Graph, model: &Model) -> Result<Vec<u8>, NoMemory>
+    requires formed { IsWellFormed model.now }
+    requires fits { Fits (net_of graph.now) model.now }
+    requires tidy { IsTidy (net_of graph.now) }
+    ensures text { IfOk result (λ text. text.items ≡ model_text (model_of_net model.now (net_of graph.now))) }
+    ensures few { OnOk result (AreFew (net_of graph.now) model.now) }
+{
+    match model_of(alloc, graph, model) {
+        Ok(made) => write_model(alloc, &made),
+        Err(ModelRefusal::NotTidy { node: _ }) => unreachable!(),
+        Err(ModelRefusal::NoMemory) => Err(NoMemory),
+    }
+}
+
+// Writes the text in place of the output.
+fn replace<S: Shelf>(shelf: &mut S, output: &str, text: &[u8]) -> Result<(), OutsideFault>
+    ensures done { OnOk result (S.files shelf.new ≡ option_map (put_file output.now text.now) (S.files shelf.old)) }
+    ensures begun { BeginsFile output.now text.now (S.files shelf.old) (S.files shelf.new) }
+    ensures cause { HasCause (S.faults shelf.old) (S.faults shelf.new) result }
+{
+    shelf.create(output)?;
+    shelf.append(output, text)
+}
+
+// Optimises the model, and writes the journal and then the output.
+fn optimise_model<R: Threads + Sync, G: Gate, S: Shelf>(
+    rt: &R,
+    alloc: Global,
+    shelf: &mut S,
+    gate: &G,
+    model: &Model,
+    output: &str,
+    journal: &str,
+    settings: &Settings,
+) -> Result<Figures, Problem>
+    requires usable { IsUsable model.now }
+    requires settings { AreSettings settings.now }
+    ensures done { IfOk result (λ figures. IfTold (S.files shelf.old) (S.files shelf.new) (HasWritten model.now output.now journal.now settings.now figures)) }
+    ensures cause { IfErr result (ModelCause model.now (S.faults shelf.old) (S.faults shelf.new)) }
+    ensures unchanged { IfErr result (λ problem. KeepsFiles problem (S.files shelf.old) (S.files shelf.new)) }
+    ensures safe { IfTold (S.files shelf.old) (S.files shelf.new) (BeginsToWriteFor model.now output.now journal.now settings.now) }
+    ensures later { S.faults shelf.old ≤ S.faults shelf.new }
+{
+    decompositions_stand();
+    decompositions_are_formed();
+    kept_nets_fit();
+    runs_are_written();
+    let run = optimised_model(rt, alloc, model, settings, gate, shelf, journal)?;
+    let text = text_of(alloc, &run.graph, model)?;
+    replace(shelf, output, text.as_slice())?;
+    Ok(run.figures)
+}
+
+/// Reads the input as a model, optimises it, and writes the journal and then the output.
+pub(crate) fn optimise_input<R: Threads + Sync, G: Gate, S: Shelf>(
+    rt: &R,
+    alloc: Global,
+    shelf: &mut S,
+    gate: &G,
+    names: &Names<'_>,
+    settings: &Settings,
+) -> Result<Figures, Problem>
+    requires settings { AreSettings settings.now }
+    ensures done { IfOk result (λ figures. IfTold (S.files shelf.old) (S.files shelf.new) (HasOptimised names.now.input.now names.now.output.now names.now.journal.now settings.now figures)) }
+    ensures cause { IfErr result (ReadCause names.now.input.now (S.files shelf.old) (S.faults shelf.old) (S.faults shelf.new)) }
+    ensures unchanged { IfErr result (λ problem. KeepsFiles problem (S.files shelf.old) (S.files shelf.new)) }
+    ensures safe { IfTold (S.files shelf.old) (S.files shelf.new) (BeginsToWrite names.now.input.now names.now.output.now names.now.journal.now settings.now) }
+    ensures later { S.faults shelf.old ≤ S.faults shelf.new }
+{
+    let model = read_input(alloc, shelf, names.input)?;
+    optimise_model(
+        rt,
+        alloc,
+        shelf,
+        gate,
+        &model,
+        names.output,
+        names.journal,
+        settings,
+    )
+}

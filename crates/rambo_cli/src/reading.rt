@@ -1,0 +1,79 @@
+//! Reads the input as a model.
+ghost use Rattle.std.specs.Prelude.{◌≡◌, ◌≤◌, length, IfOk, IfSome, None, Err, take, IfErr, IsSome};
+ghost use Rattle.rm_base.specs.Causes.{Rose};
+ghost use Rattle.rm_base.specs.Files.{file_of};
+ghost use Rattle.rambo_cli.specs.Outcome.{Holds};
+ghost use Rattle.rambo_cli.specs.Problems.{IsOutside, ReadCause, TextCause};
+ghost use Rattle.rambo_cli.specs.Written.{IsSaid, IsUsable};
+
+use crate::problem::Problem;
+use blif_format::Quantity;
+use blif_reader::read_model;
+use cover_decompose::wires_are_bounded;
+use rm_base::Shelf;
+use rm_model::{Model, ranks_exist};
+use std::alloc::Global;
+
+const MOST_BYTES: usize = 16_777_216;
+
+// The bytes of the input, at most one more than a text may have.
+fn bytes_of<S: Shelf>(shelf: &mut S, input: &str) -> Result<Vec<u8>, Problem>
+    ensures found { IfOk result (λ text. IfSome (S.files shelf.old) (λ told. Holds told input.now (λ bytes. text.items ≡ take 16777217 bytes))) }
+    ensures missing { result ≡ Err Problem.Missing → IfSome (S.files shelf.old) (λ told. file_of told input.now ≡ None) }
+    ensures told { result ≡ Err Problem.Missing → IsSome (S.files shelf.old) }
+    ensures fault { result ≡ Err Problem.Fault → Rose (S.faults shelf.old) (S.faults shelf.new) }
+    ensures others { IfErr result IsOutside }
+    ensures later { S.faults shelf.old ≤ S.faults shelf.new }
+    ensures files { S.files shelf.new ≡ S.files shelf.old }
+{
+    let Some(text) = shelf.read(input, 0, MOST_BYTES + 1)? else {
+        return Err(Problem::Missing);
+    };
+    Ok(text)
+}
+
+// The model that a text of at most 16,777,216 bytes says.
+fn short_model(alloc: Global, text: &[u8]) -> Result<Model, Problem>
+    requires { length text.now ≤ 16777216 }
+    ensures said { IfOk result (λ model. IsSaid text.now model) }
+    ensures usable { IfOk result IsUsable }
+    ensures cause { IfErr result (TextCause text.now) }
+{
+    ranks_exist();
+    wires_are_bounded();
+    match read_model(alloc, text) {
+        Ok(model) => Ok(model),
+        Err(refusal) => Err(Problem::from(refusal)),
+    }
+}
+
+// The model that a text says.
+fn model_of_text(alloc: Global, text: &[u8]) -> Result<Model, Problem>
+    ensures said { IfOk result (λ model. IsSaid text.now model) }
+    ensures usable { IfOk result IsUsable }
+    ensures cause { IfErr result (TextCause text.now) }
+{
+    if text.len() > MOST_BYTES {
+        return Err(Problem::Limit {
+            quantity: Quantity::Text,
+            count: 16_777_217,
+        });
+    }
+    short_model(alloc, text)
+}
+
+/// The model of the input.
+pub(crate) fn read_input<S: Shelf>(
+    alloc: Global,
+    shelf: &mut S,
+    input: &str,
+) -> Result<Model, Problem>
+    ensures said { IfOk result (λ model. IfSome (S.files shelf.old) (λ told. Holds told input.now (λ text. IsSaid text model))) }
+    ensures usable { IfOk result IsUsable }
+    ensures cause { IfErr result (ReadCause input.now (S.files shelf.old) (S.faults shelf.old) (S.faults shelf.new)) }
+    ensures files { S.files shelf.new ≡ S.files shelf.old }
+    ensures later { S.faults shelf.old ≤ S.faults shelf.new }
+{
+    let text = bytes_of(shelf, input)?;
+    model_of_text(alloc, text.as_slice())
+}
