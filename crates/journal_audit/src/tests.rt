@@ -1,7 +1,7 @@
 //! Audits of files in memory, against what is worked out by hand.
 use crate::{AuditProblem, audit, fault_line, netlist_line, refusal_line};
 use blif_reader::read_model;
-use cover_decompose::{decompose, is_small};
+use cover_decompose::{decompose, is_small, wires_are_bounded};
 use journal_check::{JournalRefusal, Why};
 use journal_text::JournalFault;
 use refutation_check::CheckRefusal;
@@ -46,6 +46,7 @@ fn shelf(alloc: Global, journal: &str, output: &str, failing: &[u64]) -> Result<
 // What an audit of the journal and the output answers, where the input is a model within its limits.
 fn audited(alloc: Global, input: &str, shelf: &mut MemoryShelf) -> Result<Answer, Fail> {
     ranks_exist();
+    wires_are_bounded();
     if input.len() > 1_000 {
         return Err("too long".into());
     }
@@ -236,21 +237,6 @@ fn missing_files_and_failing_calls(rt: HostRuntime) -> Result<(), Fail> {
         };
         assert_eq!(rt; got, wanted);
         assert_eq!(rt; shelf.file("out"), Some(ONE_GATE.as_bytes()));
-    }
-    Ok(())
-}
-
-// Each beginning of the worked journal is cut off.
-#[test]
-fn beginnings_are_cut_off(rt: HostRuntime) -> Result<(), Fail> {
-    let alloc = rt.alloc();
-    let mut line = 1u64;
-    for length in 1..ONE_GATE_JOURNAL.len() {
-        if ONE_GATE_JOURNAL.as_bytes()[length - 1] == b'\n' {
-            line += 1;
-        }
-        let got = answer(alloc, ONE_GATE, &ONE_GATE_JOURNAL[..length], ONE_GATE)?;
-        assert_eq!(rt; got, faulty(JournalFault::Truncated { line }));
     }
     Ok(())
 }

@@ -1,8 +1,11 @@
 //! Journals against what is worked out by hand.
+ghost use Rattle.std.specs.List.{AllByRecursion};
+ghost use Rattle.journal_check.specs.Replaying.{IsLocalTree};
+
 use crate::replaying::Replay;
-use crate::{JournalRefusal, Why};
+use crate::{JournalRefusal, Why, records_replay};
 use cover_decompose::{is_small, wires_are_bounded};
-use journal_text::{Entry, JournalFault, JournalReader};
+use journal_text::{JournalFault, Record, read_journal};
 use refutation_check::CheckRefusal;
 use rm_base::{Fault, NoMemory, NodeId};
 use rm_model::{Cover, Listed, Literal, Model, Name, Row, is_well_formed, rank, ranks_exist};
@@ -215,41 +218,27 @@ enum Answer {
     Refused(JournalRefusal),
 }
 
-// Reads the text in pieces of that size, and replays each record as soon as its line is whole.
-fn answer_of(alloc: Global, net: Net<'_>, text: &[u8], size: usize) -> Result<Answer, Fail> {
-    let mut reader = JournalReader::new(alloc);
-    let mut replay: Option<Replay> = None;
-    let mut count = 0u64;
-    let mut from = 0usize;
-    while from < text.len() {
-        let end = (from + size).min(text.len());
-        reader.push(&text[from..end])?;
-        from = end;
-        loop {
-            match reader.next() {
-                Err(fault) => return Ok(Answer::Fault(fault)),
-                Ok(None) => break,
-                Ok(Some(Entry::Header { budget })) => {
-                    replay = Some(start(alloc, net, budget)?);
-                }
-                Ok(Some(Entry::Record(record))) => {
-                    let replay = replay.as_mut().ok_or("replay")?;
-                    if let Err(refusal) = replay.step(&record) {
-                        return Ok(Answer::Refused(refusal));
-                    }
-                    count += 1;
-                }
-                Ok(Some(Entry::End)) => {
-                    let replay = replay.take().ok_or("replay")?;
-                    if let Err(refusal) = replay.finish() {
-                        return Ok(Answer::Refused(refusal));
-                    }
-                }
-            }
+// Replays the records.
+fn replayed(replay: Replay, records: &[Record]) -> Answer
+    requires { AllByRecursion IsLocalTree records.now }
+{
+    let mut replay = replay;
+    for given in records {
+        if let Err(refusal) = replay.step(given) {
+            return Answer::Refused(refusal);
         }
     }
-    match reader.finish() {
-        Ok(()) => Ok(Answer::Accepted(count)),
+    match replay.finish() {
+        Ok(_graph) => Answer::Accepted(records.len() as u64),
+        Err(refusal) => Answer::Refused(refusal),
+    }
+}
+
+// What the replay of a journal over the model's decomposition answers.
+fn answer_of(alloc: Global, net: Net<'_>, text: &[u8]) -> Result<Answer, Fail> {
+    records_replay();
+    match read_journal(alloc, text) {
+        Ok((budget, records)) => Ok(replayed(start(alloc, net, budget)?, records.as_slice())),
         Err(fault) => Ok(Answer::Fault(fault)),
     }
 }
@@ -299,7 +288,7 @@ fn worked_journals_are_accepted(rt: HostRuntime) -> Result<(), Fail> {
         (ZERO_ROW, "rambo 1 256\nconst 2 0\ndead 2\nend\n", 2),
     ];
     for (net, text, count) in rows {
-        let got = answer_of(alloc, net, text.as_bytes(), 7)?;
+        let got = answer_of(alloc, net, text.as_bytes())?;
         assert_eq!(rt; got, Answer::Accepted(count));
     }
     Ok(())
@@ -342,7 +331,7 @@ fn changed_journals_are_refused(rt: HostRuntime) -> Result<(), Fail> {
     ];
     for (old, new, wanted) in rows {
         let text = changed(alloc, J3, old, new)?;
-        let got = answer_of(alloc, FOUR_GATES, &text, 64)?;
+        let got = answer_of(alloc, FOUR_GATES, &text)?;
         assert_eq!(rt; got, wanted);
     }
     Ok(())
@@ -431,8 +420,8 @@ fn records_are_refused(rt: HostRuntime) -> Result<(), Fail> {
     for (record, why) in rows {
         let mut text = Vec::from_slice(alloc, b"rambo 1 2\n")?;
         text.extend_from_slice(record.as_bytes())?;
-        text.extend_from_slice(b"\nx\n")?;
-        let got = answer_of(alloc, FOUR_GATES, &text, 65536)?;
+        text.extend_from_slice(b"\nend\n")?;
+        let got = answer_of(alloc, FOUR_GATES, &text)?;
         assert_eq!(rt; got, refused(1, why), "{record}");
     }
     Ok(())
@@ -449,12 +438,12 @@ fn later_records_are_refused(rt: HostRuntime) -> Result<(), Fail> {
         ),
         (
             ONE_GATE,
-            "rambo 1 2\nhit 4 0 0 11\ndead 4\n",
+            "rambo 1 2\nhit 4 0 0 11\ndead 4\nend\n",
             refused(2, missing(4, 0, true)),
         ),
         (
             ONE_GATE,
-            "rambo 1 2\nhit 4 0 0 11\nhit 4 0 0 11\n",
+            "rambo 1 2\nhit 4 0 0 11\nhit 4 0 0 11\nend\n",
             refused(2, missing(4, 0, true)),
         ),
         (
@@ -480,7 +469,7 @@ fn later_records_are_refused(rt: HostRuntime) -> Result<(), Fail> {
         ),
         (
             NOTS,
-            "rambo 1 256\nhit 3 0 0 1\n",
+            "rambo 1 256\nhit 3 0 0 1\nend\n",
             refused(1, Why::NotTidy { node: NodeId(4) }),
         ),
         (
@@ -495,7 +484,7 @@ fn later_records_are_refused(rt: HostRuntime) -> Result<(), Fail> {
         ),
     ];
     for (net, text, wanted) in rows {
-        let got = answer_of(alloc, net, text.as_bytes(), 64)?;
+        let got = answer_of(alloc, net, text.as_bytes())?;
         assert_eq!(rt; got, wanted);
     }
     Ok(())
@@ -510,7 +499,7 @@ fn many_steps_are_replayed(rt: HostRuntime) -> Result<(), Fail> {
         text.extend_from_slice(b"not 2\ndead 10\n")?;
     }
     text.extend_from_slice(b"end\n")?;
-    let got = answer_of(alloc, FOUR_GATES, &text, 64)?;
+    let got = answer_of(alloc, FOUR_GATES, &text)?;
     assert_eq!(rt; got, refused(1_041, missing(6, 0, false)));
     Ok(())
 }
