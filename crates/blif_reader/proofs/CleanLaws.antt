@@ -1,25 +1,23 @@
 -- The names that a text without fault uses clash nowhere.
-use Rattle.std.proofs.Common.{◌≡◌, ℕ, ◌≤◌, ◌+◌, List, [], ◌∷◌, ◌++◌, length, Bool, true, false, ◌&&◌, ◌||◌, refl, sym, ◌∙◌, ap, subst, arith, append_assoc, Option, None, Some}
-use Rattle.std.specs.Prelude.{if◌then◌else◌, nat_lt, codes}
-use Rattle.std.specs.List.{cons_option, filter_map}
+use Rattle.std.proofs.Common.{◌≡◌, ℕ, ◌≤◌, ◌+◌, List, [], ◌∷◌, ◌++◌, length, Bool, true, false, ◌&&◌, ◌||◌, refl, sym, ◌∙◌, ap, arith, Option, None}
+use Rattle.std.specs.Prelude.{if◌then◌else◌, nat_lt}
 use Rattle.std.proofs.lemmas.Bool.{ltb-false}
 use Rattle.rm_base.specs.declared.numbers.Place.{Place}
 use Rattle.rm_model.specs.Words.{Word, is_word}
 use Rattle.rm_model.specs.WellFormed.{is_distinct}
-use Rattle.blif_lines.specs.Layout.{Spot, Logical}
-use Rattle.blif_format.specs.Uses.{Command, Model, command_of, Role, Input, ClockInput, Output, CoverInput, CoverOutput, LatchInput, LatchOutput, Control, Part, Title, Name, LatchType, Init, Extra, parts_of, least_words, Use, use_of, uses_of, all_are, is_source_role, is_observed_role, drives_twice, lists_twice, stands_in, names_in, distinct_count}
-use Rattle.blif_format.specs.FirstFault.{or_else, fault_if, limit_if, name_limit, is_cover_input, is_over, use_fault, use_fault_if, part_fault, parts_fault, command_fault, is_dotted, dotted_fault, row_fault_in, words_fault, Said, after_line, said_by, flaw_fault, lines_fault}
-use Rattle.blif_format.specs.declared.refusal.FaultKind.TheVariants.{DoubleDriven, DoubleOutput, MissingWord}
+use Rattle.blif_lines.specs.Layout.{Logical}
+use Rattle.blif_format.specs.Uses.{Role, Input, ClockInput, Output, CoverInput, CoverOutput, LatchInput, LatchOutput, Control, Use, is_source_role, is_observed_role, drives_twice, lists_twice, stands_in, names_in, distinct_count}
+use Rattle.blif_format.specs.FirstFault.{or_else, fault_if, limit_if, name_limit, is_cover_input, is_over, use_fault, Said, said_by, lines_fault}
+use Rattle.blif_format.specs.declared.refusal.FaultKind.TheVariants.{DoubleDriven, DoubleOutput}
 use Rattle.blif_format.specs.declared.refusal.Quantity.{Quantity}
-use Rattle.blif_format.specs.declared.refusal.Quantity.TheVariants.{Inputs, Sources, Observed, Signals}
+use Rattle.blif_format.specs.declared.refusal.Quantity.TheVariants.{Name as NameLength, Inputs, Sources, Observed, Signals}
 use Rattle.blif_format.specs.declared.refusal.ReadRefusal.{ReadRefusal}
 use Rattle.blif_reader.specs.Tally.{plays, is_input, is_clock, is_latch, is_cover, is_output}
 use Rattle.blif_reader.proofs.Compared.{or_false, or_assoc, word_is}
 use Rattle.blif_reader.proofs.Free.{distinct_add}
 use Rattle.blif_reader.proofs.Plays.{names_among, names_more}
-use Rattle.blif_reader.proofs.LineLaws.{command_word, uses_case}
+use Rattle.blif_reader.proofs.UseWalk.{walked_lines}
 use Rattle.blif_reader.proofs.RowLaws.{first_none, second_none, not_fault}
-use Rattle.blif_reader.proofs.KnownLaws.{first_goes, later_goes, dotted_goes, dotted_case}
 
 -- no name stands in both roles
 abbrev pub Apart : (Role → Bool) → (Role → Bool) → List Use → Type 0
@@ -160,23 +158,29 @@ listed_clash had u none e = no_play is_output (λ p. lists_twice p u.role) (λ p
 one_role : (a b : Role → Bool) (q : Role) → ((p : Role) → a p ≡ true → p ≡ q) → b q ≡ false → (p : Role) → a p ≡ true → b p ≡ false
 one_role a b q f e p h = ap b (f p h) ∙ e
 
-not_limit : (t : Bool) (q : Quantity) (n : ℕ) (p : Place) → limit_if t q n p ≡ None → t ≡ false
+pub not_limit : (t : Bool) (q : Quantity) (n : ℕ) (p : Place) → limit_if t q n p ≡ None → t ≡ false
 not_limit true q n p e = cc
 not_limit false q n p e = refl
 
 -- what a use without fault tells
-record IsFree (had : List Use) (u : Use) : Type 0 where
+pub record IsFree (had : List Use) (earlier : ℕ) (u : Use) : Type 0 where
   driven : stands_in drives_twice had u ≡ false
   listed : stands_in lists_twice had u ≡ false
+  pub short : nat_lt 1024 (length u.name) ≡ false
+  pub narrow : (is_cover_input u.role && nat_lt 65535 earlier) ≡ false
   sources : distinct_count (names_in is_source_role (had ++ u ∷ [])) ≤ 1024
   observed : length (names_in is_observed_role (had ++ u ∷ [])) ≤ 4096
+  pub signals : distinct_count (names_in (λ _. true) (had ++ u ∷ [])) ≤ 131072
 
-free_use : (had : List Use) (earlier : ℕ) (u : Use) → use_fault had earlier u ≡ None → IsFree had u
+pub free_use : (had : List Use) (earlier : ℕ) (u : Use) → use_fault had earlier u ≡ None → IsFree had earlier u
 free_use had earlier u e = record {
   driven = not_fault (stands_in drives_twice had u) DoubleDriven u.place (first_none one rest1 e);
   listed = not_fault (stands_in lists_twice had u) DoubleOutput u.place (first_none two rest2 n1);
+  short = not_limit (nat_lt 1024 (length u.name)) NameLength (length u.name) u.place (first_none three rest3 n2);
+  narrow = not_limit (is_cover_input u.role && nat_lt 65535 earlier) Inputs (earlier + 1) u.place (first_none four rest4 n3);
   sources = ltb-false 1024 sources (not_limit (is_over 1024 sources) Sources sources u.place (first_none five rest5 n4));
   observed = ltb-false 4096 observed (not_limit (is_over 4096 observed) Observed observed u.place (first_none six rest6 n5));
+  signals = ltb-false 131072 signals (not_limit (is_over 131072 signals) Signals signals u.place (second_none six rest6 n5));
 }
   where
     sources : ℕ
@@ -242,7 +246,7 @@ free_use had earlier u e = record {
 clean_use : (had : List Use) (earlier : ℕ) (u : Use) → use_fault had earlier u ≡ None → IsClean had → IsClean (had ++ u ∷ [])
 clean_use had earlier u e c = by (free_use had earlier u e)
   where
-    by : IsFree had u → IsClean (had ++ u ∷ [])
+    by : IsFree had earlier u → IsClean (had ++ u ∷ [])
     by f = record {
       inputs = distinct_more is_input had u c.inputs (driven_clash is_input is_input Input Input is_input_role is_input_role refl had u f.driven);
       clocks = distinct_more is_clock had u c.clocks (driven_clash is_clock is_clock ClockInput ClockInput is_clock_role is_clock_role refl had u f.driven);
@@ -258,87 +262,5 @@ clean_use had earlier u e c = by (free_use had earlier u e)
       observed = f.observed;
     }
 
--- WORDS AND LINES
-part_use : (had : List Use) (earlier : ℕ) (p : Part × Spot) → part_fault had earlier p ≡ None → use_fault_if had earlier (use_of p) ≡ None
-part_use had earlier (Title, s) e = refl
-part_use had earlier (LatchType, s) e = refl
-part_use had earlier (Init, s) e = refl
-part_use had earlier (Extra, s) e = refl
-part_use had earlier (Name role, s) e = e
-
-clean_parts : (had : List Use) (earlier : ℕ) (ps : List (Part × Spot)) → parts_fault had earlier ps ≡ None → IsClean had → IsClean (had ++ filter_map use_of ps)
-clean_parts had earlier [] e c = subst IsClean (sym (no_uses had)) c
-  where
-    no_uses : (us : List Use) → us ++ [] ≡ us
-    no_uses [] = refl
-    no_uses (u ∷ us) = ap (λ vs. u ∷ vs) (no_uses us)
-clean_parts had earlier (p ∷ ps) e c =
-    let here : use_fault_if had earlier (use_of p) ≡ None = part_use had earlier p (first_none (part_fault had earlier p) (parts_fault (had ++ filter_map use_of (p ∷ [])) (earlier + 1) ps) e) in
-    let more : IsClean ((had ++ filter_map use_of (p ∷ [])) ++ filter_map use_of ps) = clean_parts (had ++ filter_map use_of (p ∷ [])) (earlier + 1) ps (second_none (part_fault had earlier p) (parts_fault (had ++ filter_map use_of (p ∷ [])) (earlier + 1) ps) e) (at (use_of p) refl here) in
-    subst IsClean (append_assoc had (filter_map use_of (p ∷ [])) (filter_map use_of ps) ∙ ap (λ us. had ++ us) (onto (use_of p) (filter_map use_of ps))) more
-  where
-    no_uses : (us : List Use) → us ++ [] ≡ us
-    no_uses [] = refl
-    no_uses (u ∷ us) = ap (λ vs. u ∷ vs) (no_uses us)
-
-    onto : (o : Option Use) (us : List Use) → cons_option o [] ++ us ≡ cons_option o us
-    onto None us = refl
-    onto (Some u) us = refl
-
-    at : (o : Option Use) → use_of p ≡ o → use_fault_if had earlier o ≡ None → IsClean (had ++ cons_option (use_of p) [])
-    at None q n = subst (λ o. IsClean (had ++ cons_option o [])) (sym q) (subst IsClean (sym (no_uses had)) c)
-    at (Some u) q n = subst (λ o. IsClean (had ++ cons_option o [])) (sym q) (clean_use had earlier u n c)
-
-clean_command : (had : List Use) (s : Spot) (k : Command) (ss : List Spot) → command_fault had s k ss ≡ None → IsClean had → IsClean (had ++ filter_map use_of (parts_of k ss))
-clean_command had s k ss e c = clean_parts had 0 (parts_of k ss) (first_none (parts_fault had 0 (parts_of k ss)) (fault_if (nat_lt (length ss) (least_words k)) MissingWord s.place) e) c
-
--- the words of `.model` use no name
-extras_none : (ss : List Spot) → filter_map use_of (all_are Extra ss) ≡ []
-extras_none [] = refl
-extras_none (s ∷ ss) = extras_none ss
-
-model_uses : (ss : List Spot) → filter_map use_of (parts_of Model ss) ≡ []
-model_uses [] = refl
-model_uses (s ∷ []) = refl
-model_uses (s ∷ t ∷ ss) = extras_none ss
-
-clean_line : (said : Said) (ts : List Spot) → words_fault said ts ≡ None → IsClean said.uses → IsClean (after_line said ts).uses
-clean_line said [] e c = c
-clean_line said (s ∷ ss) e c = at (command_of s.word) refl
-  where
-    no_uses : (us : List Use) → us ++ [] ≡ us
-    no_uses [] = refl
-    no_uses (u ∷ us) = ap (λ vs. u ∷ vs) (no_uses us)
-
-    none_used : uses_of (s ∷ ss) ≡ [] → IsClean (said.uses ++ uses_of (s ∷ ss))
-    none_used n = subst IsClean (sym (ap (λ us. said.uses ++ us) n ∙ no_uses said.uses)) c
-
-    without : (o : Option Command) → o ≡ None → elim o as (λ _. List Use) [ None ↦ [] | Some k ↦ filter_map use_of (parts_of k ss) ] ≡ []
-    without None n = refl
-    without (Some k) n = cc
-
-    is_model_word : (k : Command) → command_of s.word ≡ Some k → is_word (codes ".model") s.word ≡ true → k ≡ Model
-    is_model_word k h m = some_same k Model (sym h ∙ ap command_of (sym (word_is (codes ".model") s.word m)))
-      where
-        some_same : (a b : Command) → Some a ≡ Some b → a ≡ b
-        some_same a b e = cc
-
-    at : (o : Option Command) → command_of s.word ≡ o → IsClean (said.uses ++ uses_of (s ∷ ss))
-    at None h = none_used (without (command_of s.word) h)
-    at (Some k) h = by said.began refl
-      where
-        by : (t : Bool) → said.began ≡ t → IsClean (said.uses ++ uses_of (s ∷ ss))
-        by false b =
-            let same : k ≡ Model = is_model_word k h (first_goes said s ss e b).0 in
-            none_used (uses_case s ss k h ∙ ap (λ j. filter_map use_of (parts_of j ss)) same ∙ model_uses ss)
-        by true b =
-            let dot : is_dotted s.word ≡ true = ap is_dotted (command_word s.word k h) ∙ dotted_case k in
-            let n : dotted_fault said.uses s ss (command_of s.word) ≡ None = ap (λ (t : Bool). if t then dotted_fault said.uses s ss (command_of s.word) else row_fault_in said.cover s ss) (sym dot) ∙ later_goes said s ss e b in
-            let g = dotted_goes said.uses s ss k (ap (dotted_fault said.uses s ss) (sym h) ∙ n) in
-            subst (λ us. IsClean (said.uses ++ us)) (sym (uses_case s ss k h)) (clean_command said.uses s k ss g.1 c)
-
 pub clean_lines : (said : Said) (ls : List Logical) → lines_fault said ls ≡ None → IsClean said.uses → IsClean (said_by said ls).uses
-clean_lines said [] e c = c
-clean_lines said (l ∷ ls) e c =
-    let n : or_else (words_fault said l.tokens) (lines_fault (after_line said l.tokens) ls) ≡ None = second_none (flaw_fault l.flaw) (or_else (words_fault said l.tokens) (lines_fault (after_line said l.tokens) ls)) e in
-    clean_lines (after_line said l.tokens) ls (second_none (words_fault said l.tokens) (lines_fault (after_line said l.tokens) ls) n) (clean_line said l.tokens (first_none (words_fault said l.tokens) (lines_fault (after_line said l.tokens) ls) n) c)
+clean_lines said ls none clean = walked_lines IsClean clean_use said ls none clean

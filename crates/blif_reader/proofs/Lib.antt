@@ -12,6 +12,7 @@ pub mod DraftLaws
 pub mod KnownLaws
 pub mod ReadLaws
 pub mod ModelLaws
+pub mod UseWalk
 pub mod CleanLaws
 pub mod NameLaws
 pub mod PartNames
@@ -21,3 +22,6 @@ pub mod TokenLaws
 pub mod WholeLaws
 pub mod SizeLaws
 pub mod ExistLaws
+pub mod WordCounts
+pub mod NoLimits
+pub mod Within

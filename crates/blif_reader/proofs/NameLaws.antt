@@ -24,7 +24,7 @@ is_control role = false
 abbrev pub all_uses : List Logical → List Use
 all_uses ls = flat_map (λ (l : Logical). uses_of l.tokens) ls
 
-line_uses : (said : Said) (ts : List Spot) → (after_line said ts).uses ≡ said.uses ++ uses_of ts
+pub line_uses : (said : Said) (ts : List Spot) → (after_line said ts).uses ≡ said.uses ++ uses_of ts
 line_uses said [] = sym (no_uses said.uses)
   where
     no_uses : (us : List Use) → us ++ [] ≡ us

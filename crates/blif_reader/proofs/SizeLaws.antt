@@ -1,5 +1,5 @@
 -- A model has no more covers and literals than its text has bytes, and few sources and observed points.
-use Rattle.std.proofs.Common.{◌≡◌, ◌≤◌, ◌+◌, ◌*◌, ℕ, suc, List, [], ◌∷◌, ◌++◌, map, filter, length, Bool, true, false, not, ◌&&◌, ◌||◌, inl, inr, refl, sym, ◌∙◌, ap, arith, length-append}
+use Rattle.std.proofs.Common.{◌≡◌, ◌≤◌, ◌+◌, ◌*◌, ℕ, suc, List, [], ◌∷◌, ◌++◌, map, filter, length, Bool, true, false, not, ◌&&◌, ◌||◌, inl, inr, refl, sym, ◌∙◌, ap, subst, arith, length-append}
 use Rattle.std.specs.Prelude.{if◌then◌else◌, codes}
 use Rattle.std.specs.List.{filter_map}
 use Rattle.rm_model.specs.Words.{Word, is_word, literal_byte}
@@ -84,11 +84,11 @@ covers_small ls cs e =
 
 -- SOURCES
 -- the list without a name
-abbrev without : Word → List Word → List Word
+abbrev pub without : Word → List Word → List Word
 without x [] = []
 without x (y ∷ ys) = if is_word x y then without x ys else y ∷ without x ys
 
-among_without : (x y : Word) (ys : List Word) → is_word x y ≡ false → is_among (without x ys) y ≡ is_among ys y
+pub among_without : (x y : Word) (ys : List Word) → is_word x y ≡ false → is_among (without x ys) y ≡ is_among ys y
 among_without x y [] e = refl
 among_without x y (z ∷ zs) e = at (is_word x z) refl (among_without x y zs e)
   where
@@ -116,7 +116,7 @@ count_absent x (y ∷ ys) e = at (is_word x y) refl (count_absent x ys)
     at false h ih = rw h (ap (λ (b : Bool). if b then distinct_count (without x ys) else 1 + distinct_count (without x ys)) (among_without x y ys h) ∙ ap (λ (n : ℕ). if is_among ys y then n else 1 + n) (ih (rw h at e)))
 
 -- one name less
-count_without : (x : Word) (ys : List Word) → is_among ys x ≡ true → 1 + distinct_count (without x ys) ≤ distinct_count ys
+pub count_without : (x : Word) (ys : List Word) → is_among ys x ≡ true → 1 + distinct_count (without x ys) ≤ distinct_count ys
 count_without x [] e = cc
 count_without x (y ∷ ys) e = at (is_word x y) refl (is_among ys x) refl (count_without x ys)
   where
@@ -135,7 +135,7 @@ and_second true b e = e
 and_second false b e = cc
 
 -- different names of a list are no more than its different names
-fewer : (xs ys : List Word) → is_distinct xs ≡ true → ((z : Word) → is_among xs z ≡ true → is_among ys z ≡ true) → length xs ≤ distinct_count ys
+pub fewer : (xs ys : List Word) → is_distinct xs ≡ true → ((z : Word) → is_among xs z ≡ true → is_among ys z ≡ true) → length xs ≤ distinct_count ys
 fewer [] ys h k = omega arith
 fewer (x ∷ xs) ys h k =
     let more : 1 + distinct_count (without x ys) ≤ distinct_count ys = count_without x ys (k x (ap (λ b. b || is_among xs x) (word_same x))) in
@@ -192,13 +192,15 @@ observed_count (u ∷ us) = at u.role refl (observed_count us)
     at LatchOutput e ih = rw e (omega arith)
     at Control e ih = rw e (omega arith)
 
-pub observed_small : (us : List Use) (m : CircuitModel) → NamesAre us m → IsClean us → length (observed_names m) ≤ 4096
-observed_small us m n c =
+pub observed_length : (us : List Use) (m : CircuitModel) → NamesAre us m → length (names_in is_observed_role us) ≡ length (observed_names m)
+observed_length us m n =
     let all : length (names_in is_observed_role us) ≡ (length (names_in is_output us) + length (names_in is_latch_input us)) + length (names_in is_control us) = observed_count us in
     let one : length (names_in is_output us) ≡ length m.outputs = ap length n.outputs in
     let two : length (names_in is_latch_input us) ≡ length (map (λ (l : LatchPart). l.input) m.latches) = ap length n.latch_inputs in
     let three : length (names_in is_control us) ≡ length (filter_map control_of m.latches) = ap length n.controls in
     let first : length (m.outputs ++ map (λ (l : LatchPart). l.input) m.latches) ≡ length m.outputs + length (map (λ (l : LatchPart). l.input) m.latches) = length-append m.outputs (map (λ (l : LatchPart). l.input) m.latches) in
     let whole : length ((m.outputs ++ map (λ (l : LatchPart). l.input) m.latches) ++ filter_map control_of m.latches) ≡ length (m.outputs ++ map (λ (l : LatchPart). l.input) m.latches) + length (filter_map control_of m.latches) = length-append (m.outputs ++ map (λ (l : LatchPart). l.input) m.latches) (filter_map control_of m.latches) in
-    let most : length (names_in is_observed_role us) ≤ 4096 = c.observed in
     omega arith
+
+pub observed_small : (us : List Use) (m : CircuitModel) → NamesAre us m → IsClean us → length (observed_names m) ≤ 4096
+observed_small us m n c = subst (λ (k : ℕ). k ≤ 4096) (observed_length us m n) c.observed

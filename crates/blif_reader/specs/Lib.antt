@@ -9,4 +9,5 @@ pub mod Lines
 pub mod Drafts
 pub mod Progress
 pub mod Ranked
+pub mod Limits
 pub mod Laws

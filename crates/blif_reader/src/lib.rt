@@ -11,5 +11,5 @@ mod refusals;
 mod rows;
 mod words;
 
-pub use laws::faultless_texts_read;
+pub use laws::{faultless_texts_read, texts_keep_limits};
 pub use model::read_model;

@@ -1,31 +1,38 @@
--- What a removal leaves no larger, and what a fix in a net without constant pins takes.
-use Rattle.std.proofs.Common.{◌≡◌, ℕ, ◌+◌, ◌<◌, ◌≤◌, Bool, true, false, Option, Some, None, List, [], ◌∷◌, ◌++◌, length, map, refl, sym, subst, arith}
-use Rattle.std.specs.Prelude.{slice_set}
+-- What a removal leaves no larger, and what a fix in a tidy net takes.
+use Rattle.std.proofs.Common.{◌≡◌, ℕ, zero, suc, ◌+◌, ◌<◌, ◌≤◌, Bool, true, false, Option, Some, None, List, [], ◌∷◌, length, map, refl, arith}
+use Rattle.std.specs.Prelude.{slice_get, slice_set, if◌then◌else◌}
 use Rattle.std.specs.List.{sum_by}
+use Rattle.std.proofs.lemmas.List.Sums.{sum_by-cons}
 use Rattle.rm_base.specs.declared.numbers.Fault.{Fault}
-use Rattle.gate_net.specs.declared.Kind.{Kind}
-use Rattle.gate_net.specs.declared.Kind.TheVariants.{Source, Zero, One, And, Or, Not}
-use Rattle.gate_net.specs.Net.{Node, Net, drivers_of, Reads, IsGate, IsWellFormed, count_in, gate_in, gate_count, source_count, wire_count}
-use Rattle.gate_net.specs.Values.{HasPin}
-use Rattle.gate_net.specs.Edits.{constant_node, fixed, node_redirected, redirected, with_drivers, without}
+use Rattle.gate_net.specs.Net.{Node, Net, before_dead, drivers_of, flatten_option, node_at, trimmed, IsWellFormed, count_in, gate_in, gate_count, wire_count}
+use Rattle.gate_net.specs.Values.{HasPin, same_bool}
+use Rattle.gate_net.specs.Edits.{constant_node, fixed, node_redirected, redirected, redriven, with_drivers, without}
 use Rattle.wire_edit.specs.declared.steps.Step.{Step}
 use Rattle.wire_edit.specs.declared.steps.Step.TheVariants.{Add, Fix, NewNot, Const, Same, NoPins, OnePin, Twice, Twin, Dead}
-use Rattle.wire_edit.specs.Changes.{Change, append, remove, fix, readers, new_not, retire, changed, CanChange}
-use Rattle.wire_edit.specs.Laws.{IsTidying}
-use Rattle.wire_edit.specs.Steps.{Applies, stepped, change_of}
+use Rattle.wire_edit.specs.Changes.{Change, append, remove, fix, readers, new_not, retire, changed}
+use Rattle.wire_edit.specs.Laws.{IsTidying, StepsKeepSources}
+use Rattle.wire_edit.specs.Steps.{Applies, stepped, change_of, constant_change}
 use Rattle.wire_edit.specs.Order.{IsTidy}
-use Rattle.wire_edit.specs.Work.{free_pins, pins_made}
-use Rattle.wire_edit.proofs.Tested.{is_gate_there, within}
-use Rattle.wire_edit.proofs.Conditions.{applies_changes}
-use Rattle.wire_edit.proofs.Ending.{wires_grow}
-use Rattle.wire_edit.proofs.Formed.{changes_keep_form, junction_kind}
-use Rattle.wire_edit.proofs.Sources.{changes_keep_sources}
-use Rattle.wire_edit.proofs.Totals.{total_with, total_map, total_gone}
-use Rattle.journal_text.specs.Runs.{IsRemoval}
-use Rattle.closing_pass.specs.Going.{HasFreePin, IsNoLarger, ReadsNoConstants}
-use Rattle.closing_pass.proofs.FreePins.{MakesNone, reader_gate, tidy_reads_none, all_free, removal_frees, removal_makes, fix_frees}
+use Rattle.wire_edit.specs.Removals.{AllAreFree, FixesTakeOne, FreeFixesApply, HasFreePin, IsRemoval, RemovalsFreeNone, TidyReadsNone}
+use Rattle.wire_edit.specs.Tests.{constant_at, control_of}
+use Rattle.wire_edit.specs.Work.{free_pins, pins_made, WiresGrow}
+use Rattle.journal_text.specs.Runs as runs
+use Rattle.closing_pass.specs.Going.{IsNoLarger}
 
-pub tidying_removes : (step : Step) → IsTidying step → IsRemoval step
+-- what laws of steps say of removals
+pub record RemovalLaws : Type 0 where
+  pub sources : StepsKeepSources
+  pub wires : WiresGrow
+  pub frees : RemovalsFreeNone
+
+-- what they say of fixes in tidy nets
+pub record FixLaws : Type 0 where
+  pub tidy : TidyReadsNone
+  pub all : AllAreFree
+  pub applies : FreeFixesApply
+  pub one : FixesTakeOne
+
+pub tidying_removes : (step : Step) → IsTidying step → runs.IsRemoval step
 tidying_removes (Add gate y) t = t
 tidying_removes (Fix gate position value) t = tt
 tidying_removes (NewNot y) t = t
@@ -37,32 +44,108 @@ tidying_removes (Twice gate) t = tt
 tidying_removes (Twin gate other) t = tt
 tidying_removes (Dead gate) t = tt
 
-pub step_formed : (net : Net) (step : Step) → IsWellFormed net → Applies net step → IsWellFormed (stepped net step)
-step_formed net step well applies = changes_keep_form net (change_of net step) well (applies_changes net step well applies)
+-- a removal makes no pin
+made_none : (step : Step) → runs.IsRemoval step → IsRemoval step × (pins_made step ≡ 0)
+made_none (Add gate y) r = absurd r
+made_none (NewNot y) r = absurd r
+made_none (Fix gate position value) r = (tt, refl)
+made_none (Const gate position) r = (tt, refl)
+made_none (Same gate position) r = (tt, refl)
+made_none (NoPins gate) r = (tt, refl)
+made_none (OnePin gate) r = (tt, refl)
+made_none (Twice gate) r = (tt, refl)
+made_none (Twin gate other) r = (tt, refl)
+made_none (Dead gate) r = (tt, refl)
 
 -- GATES
 abbrev gate_weight : Option Node → ℕ
 gate_weight o = count_in o gate_in
 
-with_gates : (net : Net) (gate : ℕ) (ds : List ℕ) → IsGate net gate → gate_count (with_drivers net gate ds) ≡ gate_count net
-with_gates net gate ds g =
-    let node : Node = record { kind = g.0; drivers = g.1.0.0 } in
-    let total : sum_by gate_weight (with_drivers net gate ds).nodes + gate_weight (Some node) ≡ sum_by gate_weight net.nodes + gate_weight (Some (record node { drivers = ds })) = total_with gate_weight net gate ds node g.1.0.1 in
-    omega arith
+abbrev gates_in : List (Option Node) → ℕ
+gates_in os = sum_by gate_weight os
 
-moved_gates : (from to : ℕ) (o : Option Node) → gate_weight (node_redirected from to o) ≡ gate_weight o
-moved_gates from to None = refl
-moved_gates from to (Some n) = refl
+lower_at : (os : List (Option Node)) (k : ℕ) (o : Option Node) → gate_weight o ≤ gate_weight (flatten_option (slice_get os k)) → gates_in (slice_set os k o) ≤ gates_in os
+lower_at [] k o le = omega arith
+lower_at (x ∷ os) zero o le =
+    let a : gates_in (o ∷ os) ≡ gate_weight o + gates_in os = sum_by-cons gate_weight o os in
+    let b : gates_in (x ∷ os) ≡ gate_weight x + gates_in os = sum_by-cons gate_weight x os in
+    omega (arith, a, b, le)
+lower_at (x ∷ os) (suc k) o le =
+    let rest : gates_in (slice_set os k o) ≤ gates_in os = lower_at os k o le in
+    let a : gates_in (x ∷ slice_set os k o) ≡ gate_weight x + gates_in (slice_set os k o) = sum_by-cons gate_weight x (slice_set os k o) in
+    let b : gates_in (x ∷ os) ≡ gate_weight x + gates_in os = sum_by-cons gate_weight x os in
+    omega (arith, a, b, rest)
 
-change_gates : (net : Net) (change : Change) → CanChange net change → MakesNone change → gate_count (changed net change) ≤ gate_count net
-change_gates net (append gate driver) can none = absurd none
-change_gates net (new_not driver) can none = absurd none
-change_gates net (remove gate position) (j, lt) none = let e : _ ≡ _ = with_gates net gate (without (drivers_of net gate) position) (junction_kind net gate j.0 j.1) in omega arith
-change_gates net (fix gate position value) (g, lt) none = let e : _ ≡ _ = with_gates net gate (slice_set (drivers_of net gate) position (constant_node value)) g in omega arith
-change_gates net (readers from to) can none = let e : _ ≡ _ = total_map gate_weight (node_redirected from to) (moved_gates from to) net.nodes in omega arith
-change_gates net (retire gate) (g, unread) none =
-    let e : gate_count (changed net (retire gate)) + gate_weight (Some (record { kind = g.0; drivers = g.1.0.0 })) ≡ gate_count net = total_gone gate_weight refl net gate (record { kind = g.0; drivers = g.1.0.0 }) g.1.0.1 in
-    omega arith
+before_dead_gates : (x : Option Node) (os : List (Option Node)) → gates_in (before_dead x os) ≤ gate_weight x + gates_in os
+before_dead_gates None [] = omega arith
+before_dead_gates None (o ∷ os) = let a : gates_in (None ∷ o ∷ os) ≡ gate_weight None + gates_in (o ∷ os) = sum_by-cons gate_weight None (o ∷ os) in omega (arith, a)
+before_dead_gates (Some n) os = let a : gates_in (Some n ∷ os) ≡ gate_weight (Some n) + gates_in os = sum_by-cons gate_weight (Some n) os in omega (arith, a)
+
+trimmed_gates : (os : List (Option Node)) → gates_in (trimmed os) ≤ gates_in os
+trimmed_gates [] = omega arith
+trimmed_gates (x ∷ os) =
+    let rest : gates_in (trimmed os) ≤ gates_in os = trimmed_gates os in
+    let here : gates_in (before_dead x (trimmed os)) ≤ gate_weight x + gates_in (trimmed os) = before_dead_gates x (trimmed os) in
+    let a : gates_in (x ∷ os) ≡ gate_weight x + gates_in os = sum_by-cons gate_weight x os in
+    omega (arith, rest, here, a)
+
+moved_gates : (from to : ℕ) (os : List (Option Node)) → gates_in (map (node_redirected from to) os) ≡ gates_in os
+moved_gates from to [] = refl
+moved_gates from to (o ∷ os) =
+    let rest : gates_in (map (node_redirected from to) os) ≡ gates_in os = moved_gates from to os in
+    let here : gate_weight (node_redirected from to o) ≡ gate_weight o = one o in
+    let a : gates_in (node_redirected from to o ∷ map (node_redirected from to) os) ≡ gate_weight (node_redirected from to o) + gates_in (map (node_redirected from to) os) = sum_by-cons gate_weight (node_redirected from to o) (map (node_redirected from to) os) in
+    let b : gates_in (o ∷ os) ≡ gate_weight o + gates_in os = sum_by-cons gate_weight o os in
+    omega (arith, rest, here, a, b)
+  where
+    one : (q : Option Node) → gate_weight (node_redirected from to q) ≡ gate_weight q
+    one None = refl
+    one (Some n) = refl
+
+with_gates : (net : Net) (gate : ℕ) (ds : List ℕ) → gate_count (with_drivers net gate ds) ≤ gate_count net
+with_gates net gate ds = lower_at net.nodes gate (redriven ds (node_at net gate)) (same (node_at net gate))
+  where
+    same : (o : Option Node) → gate_weight (redriven ds o) ≤ gate_weight o
+    same None = omega arith
+    same (Some n) = omega arith
+
+-- the change makes no pin
+abbrev MakesNone : Change → Type 0
+MakesNone (append gate driver) = ⊥
+MakesNone (new_not driver) = ⊥
+MakesNone _ = Unit {0}
+
+change_gates : (net : Net) (change : Change) → MakesNone change → gate_count (changed net change) ≤ gate_count net
+change_gates net (append gate driver) none = absurd none
+change_gates net (new_not driver) none = absurd none
+change_gates net (remove gate position) none = with_gates net gate (without (drivers_of net gate) position)
+change_gates net (fix gate position value) none = with_gates net gate (slice_set (drivers_of net gate) position (constant_node value))
+change_gates net (readers from to) none = let e : gates_in (map (node_redirected from to) net.nodes) ≡ gates_in net.nodes = moved_gates from to net.nodes in omega (arith, e)
+change_gates net (retire gate) none =
+    let a : gates_in (trimmed (slice_set net.nodes gate None)) ≤ gates_in (slice_set net.nodes gate None) = trimmed_gates (slice_set net.nodes gate None) in
+    let b : gates_in (slice_set net.nodes gate None) ≤ gates_in net.nodes = lower_at net.nodes gate None (omega arith) in
+    omega (arith, a, b)
+
+constant_makes : (gate p : ℕ) (control constant : Option Bool) → MakesNone (constant_change gate p control constant)
+constant_makes gate p control None = tt
+constant_makes gate p None (Some b) = tt
+constant_makes gate p (Some c) (Some b) = at (same_bool b c)
+  where
+    at : (t : Bool) → MakesNone (if t then readers gate (constant_node c) else remove gate p)
+    at true = tt
+    at false = tt
+
+removal_makes : (net : Net) (step : Step) → runs.IsRemoval step → MakesNone (change_of net step)
+removal_makes net (Add gate y) r = absurd r
+removal_makes net (Fix gate position value) r = tt
+removal_makes net (NewNot y) r = absurd r
+removal_makes net (Const gate position) r = constant_makes gate.0 position (control_of net gate.0) (constant_at net gate.0 position)
+removal_makes net (Same gate position) r = tt
+removal_makes net (NoPins gate) r = tt
+removal_makes net (OnePin gate) r = tt
+removal_makes net (Twice gate) r = tt
+removal_makes net (Twin gate other) r = tt
+removal_makes net (Dead gate) r = tt
 
 length_moved : (f : ℕ → ℕ) (xs : List ℕ) → length (map f xs) ≡ length xs
 length_moved f [] = refl
@@ -76,28 +159,15 @@ change_places net (fix gate position value) = refl
 change_places net (readers from to) = length_moved (redirected from to) net.observed
 change_places net (retire gate) = refl
 
-no_pins_made : (step : Step) → IsRemoval step → pins_made step ≡ 0
-no_pins_made (Add gate y) r = absurd r
-no_pins_made (NewNot y) r = absurd r
-no_pins_made (Fix gate position value) r = refl
-no_pins_made (Const gate position) r = refl
-no_pins_made (Same gate position) r = refl
-no_pins_made (NoPins gate) r = refl
-no_pins_made (OnePin gate) r = refl
-no_pins_made (Twice gate) r = refl
-no_pins_made (Twin gate other) r = refl
-no_pins_made (Dead gate) r = refl
-
-pub no_larger : (net : Net) (step : Step) → IsWellFormed net → Applies net step → IsRemoval step → IsNoLarger net (stepped net step)
-no_larger net step well applies r =
-    let w : wire_count (stepped net step) ≤ wire_count net + pins_made step = wires_grow net step well applies in
-    let none : pins_made step ≡ 0 = no_pins_made step r in
-    let can : CanChange net (change_of net step) = applies_changes net step well applies in
+pub no_larger : RemovalLaws → (net : Net) (step : Step) → IsWellFormed net → Applies net step → runs.IsRemoval step → IsNoLarger net (stepped net step)
+no_larger laws net step well applies r =
+    let w : wire_count (stepped net step) ≤ wire_count net + pins_made step = laws.wires net step well applies in
+    let none : IsRemoval step × (pins_made step ≡ 0) = made_none step r in
     record {
-      wires = omega (arith, w, none);
-      free = removal_frees net step well applies r;
-      gates = change_gates net (change_of net step) can (removal_makes net step r);
-      sources = changes_keep_sources net (change_of net step) can;
+      wires = omega (arith, w, none.1);
+      free = laws.frees net step well applies none.0;
+      gates = change_gates net (change_of net step) (removal_makes net step r);
+      sources = laws.sources net step well applies;
       places = change_places net (change_of net step);
     }
 
@@ -114,18 +184,15 @@ no_larger_then net mid after a b = record {
 }
 
 -- A FIX
-pub free_pin : (net : Net) (fault : Fault) → IsWellFormed net → IsTidy net → HasPin net fault → HasFreePin net fault
-free_pin net fault well tidy (d, reads) = (d, (reads, tidy_reads_none net well tidy fault.gate.0 fault.position d reads))
-
-pub fix_applies : (net : Net) (fault : Fault) → IsWellFormed net → HasFreePin net fault → Applies net (Fix fault.gate fault.position fault.value)
-fix_applies net fault well (d, (reads, lt)) = (is_gate_there net fault.gate.0 (reader_gate net well fault.gate.0 fault.position d reads), within (drivers_of net fault.gate.0) fault.position d reads)
+pub free_pin : TidyReadsNone → (net : Net) (fault : Fault) → IsWellFormed net → IsTidy net → HasPin net fault → HasFreePin net fault
+free_pin none net fault well tidy (d, reads) = (d, (reads, none net well tidy fault.gate.0 fault.position d reads))
 
 -- a fix in a tidy net, and what leaves no more pins free after it, leave fewer wires once the net is tidy again
-pub fix_falls : (net after : Net) (fault : Fault) → IsWellFormed net → IsTidy net → HasPin net fault → free_pins after ≤ free_pins (fixed net fault) → IsWellFormed after → IsTidy after → wire_count after < wire_count net
-fix_falls net after fault well tidy pin frees well' tidy' =
-    let p : HasFreePin net fault = free_pin net fault well tidy pin in
-    let g : IsGate net fault.gate.0 = reader_gate net well fault.gate.0 fault.position p.0 p.1.0 in
-    let one : free_pins (stepped net (Fix fault.gate fault.position fault.value)) + 1 ≤ free_pins net = fix_frees net fault.gate fault.position fault.value p.0 g p.1.0 p.1.1 in
-    let before : free_pins net ≡ wire_count net = all_free net (tidy_reads_none net well tidy) in
-    let last : free_pins after ≡ wire_count after = all_free after (tidy_reads_none after well' tidy') in
+pub fix_falls : FixLaws → (net after : Net) (fault : Fault) → IsWellFormed net → IsTidy net → HasPin net fault → free_pins after ≤ free_pins (fixed net fault) → IsWellFormed after → IsTidy after → wire_count after < wire_count net
+fix_falls laws net after fault well tidy pin frees well' tidy' =
+    let step : Step = Fix fault.gate fault.position fault.value in
+    let p : HasFreePin net fault = free_pin laws.tidy net fault well tidy pin in
+    let one : free_pins (stepped net step) + 1 ≤ free_pins net = laws.one net step p.0 well (laws.applies net fault well p) p.1.0 p.1.1 in
+    let before : free_pins net ≡ wire_count net = laws.all net (laws.tidy net well tidy) in
+    let last : free_pins after ≡ wire_count after = laws.all after (laws.tidy after well' tidy') in
     omega (arith, one, frees, before, last)

@@ -1,13 +1,12 @@
 -- Going on inside a trial, step by step.
-use Rattle.std.proofs.Common.{◌≡◌, ◌≢◌, ℕ, zero, suc, ◌+◌, ◌-◌, ◌<◌, ◌≤◌, Bool, true, false, Option, Some, None, List, [], ◌∷◌, ◌++◌, length, refl, sym, ◌∙◌, ap, subst, append_assoc, arith}
+use Rattle.std.proofs.Common.{◌≡◌, ℕ, ◌+◌, ◌-◌, ◌<◌, ◌≤◌, true, Option, Some, None, List, [], ◌∷◌, ◌++◌, length, refl, sym, ◌∙◌, ap, subst, append_assoc, arith}
 use Rattle.std.specs.Prelude.{Ok, Err, nat_lt}
 use Rattle.std.proofs.lemmas.Bool.{lt-ltb}
 use Rattle.std.proofs.lemmas.List.{append-nil, length-append}
 use Rattle.rm_base.specs.declared.numbers.Fault.{Fault}
-use Rattle.rm_base.specs.declared.numbers.NodeId.{NodeId}
-use Rattle.gate_net.specs.Net.{Net, drivers_of, IsWellFormed, wire_count}
+use Rattle.gate_net.specs.Net.{Net, IsWellFormed}
 use Rattle.gate_net.specs.Edits.{fixed}
-use Rattle.gate_graph.specs.Circuit.{Circuit, net_of}
+use Rattle.gate_graph.specs.Circuit.{net_of}
 use Rattle.gate_graph.specs.Holds.{HoldsOn, held, pins_held}
 use Rattle.refutation.specs.Branches.{AreAccepted}
 use Rattle.refutation.specs.declared.items.Item.{Item}
@@ -15,22 +14,20 @@ use Rattle.wire_edit.specs.declared.steps.Step.{Step}
 use Rattle.wire_edit.specs.declared.steps.Step.TheVariants.{Add, Fix, NewNot, Const, Same, NoPins, OnePin, Twice, Twin, Dead}
 use Rattle.wire_edit.specs.declared.refusal.EditRefusal.{EditRefusal}
 use Rattle.wire_edit.specs.declared.room.Room.{Room}
-use Rattle.wire_edit.specs.Tests.{is_live, is_gate}
 use Rattle.wire_edit.specs.Steps.{Applies, stepped}
-use Rattle.wire_edit.specs.Refusals.{refusal_of, room_after, IsAnswer}
+use Rattle.wire_edit.specs.Refusals.{room_after, IsAnswer}
+use Rattle.wire_edit.specs.Removals.{FreeFixesApply, HasFreePin}
+use Rattle.wire_edit.specs.Rooms.{ApplicableIsMade}
 use Rattle.wire_edit.specs.Order.{next_step}
-use Rattle.wire_edit.specs.Laws.{IsTidying}
+use Rattle.wire_edit.specs.Laws.{IsTidying, NextApplies}
 use Rattle.wire_edit.specs.Tried.{Tried, Tidies}
 use Rattle.wire_edit.specs.Work.{work, RoomForTidying, RoomForFixes, TidyingEnds, FixesEnd}
-use Rattle.wire_edit.proofs.Ordering.{next_applies}
-use Rattle.wire_edit.proofs.Tested.{is_live_there}
-use Rattle.wire_edit.proofs.Reading.{gate_live}
 use Rattle.journal_text.specs.declared.record.Record.{Record}
 use Rattle.journal_text.specs.declared.record.Record.TheVariants as kept
 use Rattle.journal_text.specs.Accepted.{IsJustified, IsAcceptedStep, MayGrow}
 use Rattle.journal_text.specs.Runs.{AcceptedTo, AreRemovals, IsRemoval, steps_of}
-use Rattle.closing_pass.specs.Going.{AddsLocal, AreTidying, Goes, HasFreePin, IsNoLarger, Logs}
-use Rattle.closing_pass.proofs.Falling.{fix_applies, no_larger, no_larger_same, no_larger_then, tidying_removes}
+use Rattle.closing_pass.specs.Going.{AddsLocal, AreTidying, Goes, IsNoLarger, Logs}
+use Rattle.closing_pass.proofs.Falling.{RemovalLaws, no_larger, no_larger_same, no_larger_then, tidying_removes}
 
 -- LISTS OF RECORDS
 pub accepted_then : (net mid after : Net) (first second : List Record) → AcceptedTo net first mid → AcceptedTo mid second after → AcceptedTo net (first ++ second) after
@@ -99,24 +96,16 @@ goes_then t u v a b c g h = record {
 
 -- a removal was made and recorded
 pub goes_one :
-    (t u : Tried) (step : Step) (tree : List Item) (log new : List Record) → IsWellFormed (net_of t.graph) → IsAcceptedStep (net_of t.graph) step tree → IsRemoval step
+    RemovalLaws → (t u : Tried) (step : Step) (tree : List Item) (log new : List Record) → IsWellFormed (net_of t.graph) → IsAcceptedStep (net_of t.graph) step tree → IsRemoval step
     → work (stepped (net_of t.graph) step) + 1 ≤ work (net_of t.graph) → net_of u.graph ≡ stepped (net_of t.graph) step → new ≡ log ++ kept.Step step tree ∷ []
     → HoldsOn t.graph u.graph t.trail.entries u.trail.entries
     → ((k : ℕ) → work (net_of t.graph) + k ≤ t.room.steps → work (net_of u.graph) + k ≤ u.room.steps) → Goes t u log new
-goes_one t u step tree log new well accepted removal falls net is holds room = record {
+goes_one laws t u step tree log new well accepted removal falls net is holds room = record {
   logs = subst (λ (n : Net). Logs (net_of t.graph) n log new) (sym net) (logs_one (net_of t.graph) step tree log new accepted removal falls is);
-  no_larger = subst (λ (n : Net). IsNoLarger (net_of t.graph) n) (sym net) (no_larger (net_of t.graph) step well accepted.applies removal);
+  no_larger = subst (λ (n : Net). IsNoLarger (net_of t.graph) n) (sym net) (no_larger laws (net_of t.graph) step well accepted.applies removal);
   held = holds;
   room = room;
 }
-
--- A FIX IS NOT REFUSED
-pub fix_made : (net : Net) (room : Room) (gate : NodeId) (p : ℕ) (value cyclic : Bool) → Applies net (Fix gate p value) → 0 < room.steps → refusal_of net room (Fix gate p value) cyclic ≡ None
-fix_made net room gate p value cyclic (g, lt) some =
-    let live : is_live net gate.0 ≡ true = is_live_there net gate.0 (gate_live net gate.0 g) in
-    let pin : nat_lt p (length (drivers_of net gate.0)) ≡ true = lt-ltb p (length (drivers_of net gate.0)) lt in
-    let left : nat_lt 0 room.steps ≡ true = lt-ltb 0 room.steps some in
-    rw (live, g, pin, left) refl
 
 -- TIDYING
 room_steps : (room : Room) (step : Step) → (room_after room step).steps ≡ room.steps - 1
@@ -149,13 +138,13 @@ room_on room after step w k is le =
     omega (arith, le, e)
 
 pub tidied_step :
-    RoomForTidying → TidyingEnds → (t u : Tried) (step : Step) (log new : List Record) → IsWellFormed (net_of t.graph) → Tidies t u (Ok (Some step)) → HoldsOn t.graph u.graph t.trail.entries u.trail.entries
+    RemovalLaws → NextApplies → RoomForTidying → TidyingEnds → (t u : Tried) (step : Step) (log new : List Record) → IsWellFormed (net_of t.graph) → Tidies t u (Ok (Some step)) → HoldsOn t.graph u.graph t.trail.entries u.trail.entries
     → new ≡ log ++ kept.Step step [] ∷ [] → Goes t u log new × AddsLocal log new
-tidied_step law ends t u step log new well made holds is =
-    let n : IsTidying step × Applies (net_of t.graph) step = next_applies (net_of t.graph) step made.0 in
+tidied_step laws next law ends t u step log new well made holds is =
+    let n : IsTidying step × Applies (net_of t.graph) step = next (net_of t.graph) step made.0 in
     let j : IsJustified (net_of t.graph) step [] × MayGrow (net_of t.graph) step = tidying_justified (net_of t.graph) step n.0 in
     let falls : work (stepped (net_of t.graph) step) < work (net_of t.graph) = ends (net_of t.graph) step well made.0 in (
-      goes_one t u step [] log new well (record { applies = n.1; grows = j.1; justified = j.0 }) (tidying_removes step n.0) (omega (arith, falls)) made.1.0 is holds
+      goes_one laws t u step [] log new well (record { applies = n.1; grows = j.1; justified = j.0 }) (tidying_removes step n.0) (omega (arith, falls)) made.1.0 is holds
           (λ k le.
           let r : (0 < t.room.steps) × (work (stepped (net_of t.graph) step) + k ≤ t.room.steps - 1) = law (net_of t.graph) step k t.room.steps well made.0 le in
           let w : work (net_of u.graph) ≡ work (stepped (net_of t.graph) step) = ap work made.1.0 in
@@ -175,26 +164,26 @@ never_full law t u why well le made = at (next_step (net_of t.graph)) refl
 
 -- FIXING
 pub fixed_step :
-    RoomForFixes → FixesEnd → (t u : Tried) (fault : Fault) (tree : List Item) (log new : List Record) → IsWellFormed (net_of t.graph) → HasFreePin (net_of t.graph) fault → AreAccepted (net_of t.graph) fault tree
+    RemovalLaws → FreeFixesApply → RoomForFixes → FixesEnd → (t u : Tried) (fault : Fault) (tree : List Item) (log new : List Record) → IsWellFormed (net_of t.graph) → HasFreePin (net_of t.graph) fault → AreAccepted (net_of t.graph) fault tree
     → net_of u.graph ≡ fixed (net_of t.graph) fault → u.room ≡ room_after t.room (Fix fault.gate fault.position fault.value) → HoldsOn t.graph u.graph t.trail.entries u.trail.entries
     → new ≡ log ++ kept.Step (Fix fault.gate fault.position fault.value) tree ∷ [] → Goes t u log new
-fixed_step law ends t u fault tree log new well pin accepted net room holds is =
+fixed_step laws free law ends t u fault tree log new well pin accepted net room holds is =
     let step : Step = Fix fault.gate fault.position fault.value in
-    let applies : Applies (net_of t.graph) step = fix_applies (net_of t.graph) fault well pin in
+    let applies : Applies (net_of t.graph) step = free (net_of t.graph) fault well pin in
     let one : nat_lt 1 pin.0 ≡ true = lt-ltb 1 pin.0 pin.1.1 in
     let less : work (stepped (net_of t.graph) step) + 1 ≤ work (net_of t.graph) = rw one at (ends (net_of t.graph) step pin.0 well applies pin.1.0) in
-    goes_one t u step tree log new well (record { applies = applies; grows = tt; justified = accepted }) tt less net is holds
+    goes_one laws t u step tree log new well (record { applies = applies; grows = tt; justified = accepted }) tt less net is holds
     (λ k le.
     let r : (0 < t.room.steps) × (work (stepped (net_of t.graph) step) + k ≤ t.room.steps - 1) = law (net_of t.graph) step pin.0 k t.room.steps well applies pin.1.0 pin.1.1 le in
     let w : work (net_of u.graph) ≡ work (stepped (net_of t.graph) step) = ap work net in
     let here : work (stepped (net_of t.graph) step) + k ≤ u.room.steps = room_on t.room u.room step (work (stepped (net_of t.graph) step)) k room r.1 in
     omega (arith, here, w))
 
-pub fix_refused : RoomForFixes → (t : Tried) (fault : Fault) (why : EditRefusal) → IsWellFormed (net_of t.graph) → HasFreePin (net_of t.graph) fault → work (net_of t.graph) ≤ t.room.steps
+pub fix_refused : FreeFixesApply → ApplicableIsMade → RoomForFixes → (t : Tried) (fault : Fault) (why : EditRefusal) → IsWellFormed (net_of t.graph) → HasFreePin (net_of t.graph) fault → work (net_of t.graph) ≤ t.room.steps
     → IsAnswer (net_of t.graph) t.room (Fix fault.gate fault.position fault.value) (Some why) → ⊥
-fix_refused law t fault why well pin le answer =
+fix_refused free made law t fault why well pin le answer =
     let step : Step = Fix fault.gate fault.position fault.value in
-    let applies : Applies (net_of t.graph) step = fix_applies (net_of t.graph) fault well pin in
+    let applies : Applies (net_of t.graph) step = free (net_of t.graph) fault well pin in
     let r : (0 < t.room.steps) × (work (stepped (net_of t.graph) step) + 0 ≤ t.room.steps - 1) = law (net_of t.graph) step pin.0 0 t.room.steps well applies pin.1.0 pin.1.1 (omega (arith, le)) in
-    let none : refusal_of (net_of t.graph) t.room step answer.cyclic ≡ None = fix_made (net_of t.graph) t.room fault.gate fault.position fault.value answer.cyclic applies r.0 in
-    let e : ◌≡◌ {A = Option EditRefusal} (Some why) None = answer.is ∙ none in cc
+    let none : ◌≡◌ {A = Option EditRefusal} (Some why) None = made (net_of t.graph) t.room step (Some why) applies (lt-ltb 0 t.room.steps r.0) answer in
+    cc

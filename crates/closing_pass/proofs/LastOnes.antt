@@ -1,18 +1,16 @@
 -- The verdicts of all faults.
-use Rattle.std.proofs.Common.{◌≡◌, ◌≢◌, ℕ, zero, suc, ◌+◌, ◌<◌, ◌≤◌, ◌⊎◌, inl, inr, Bool, Option, Some, None, List, [], ◌∷◌, ◌++◌, length, map, refl, sym, ◌∙◌, ap, subst, arith}
+use Rattle.std.proofs.Common.{◌≡◌, ℕ, ◌<◌, ◌≤◌, ◌⊎◌, inl, inr, Bool, Some, List, [], ◌∷◌, ◌++◌, length, refl, ◌∙◌, subst, arith}
 use Rattle.std.specs.Prelude.{slice_get}
-use Rattle.std.specs.List.{AllByRecursion}
 use Rattle.std.proofs.lemmas.Option.{slice_get_within}
-use Rattle.gate_net.specs.Faults.{IsTest, assigned, faults_of}
-use Rattle.gate_net.specs.Net.{Net, source_count}
-use Rattle.gate_net.specs.Values.{Detects}
+use Rattle.gate_net.specs.Faults.{IsTest, faults_of}
+use Rattle.gate_net.specs.Net.{Net}
 use Rattle.podem.specs.declared.verdict.Verdict.{Verdict}
 use Rattle.podem.specs.declared.verdict.Verdict.TheVariants as verdict
 use Rattle.refutation.specs.declared.items.Item.{Item}
 use Rattle.rm_base.specs.declared.numbers.Fault.{Fault}
 use Rattle.closing_pass.specs.declared.finding.Finding.{Finding}
 use Rattle.closing_pass.specs.declared.finding.Finding.TheVariants.{Detected, Open, Spent}
-use Rattle.closing_pass.specs.Findings.{AreFound, AreTried, AreVerdictsOf, HasCome, Holds, IsNumbered, IsSought, IsVerdictOf}
+use Rattle.closing_pass.specs.Findings.{AreVerdictsOf, HasCome, Holds, IsNumbered, IsSought, IsVerdictOf}
 use Rattle.closing_pass.specs.Reports.{AreClosed, IsClosing, fault_in}
 use Rattle.std.proofs.lemmas.List.{length-append}
 use Rattle.closing_pass.proofs.Standing.{by_recursion, mapped_is, one_stands, pushed_stands, stands_below, stands_pushed, stands_still}

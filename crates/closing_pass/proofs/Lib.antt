@@ -5,10 +5,11 @@ pub mod NextOnes
 pub mod Taking
 pub mod LastOnes
 pub mod Packing
-pub mod FreePins
 pub mod Falling
 pub mod GoingOn
 pub mod Recorded
 pub mod Sizes
+pub mod PinFaults
+pub mod LiveNodes
 pub mod Sourced
 pub mod Verdicting

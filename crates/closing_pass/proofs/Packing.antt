@@ -1,32 +1,39 @@
 -- Vectors as words.
-use Rattle.std.proofs.Common.{◌≡◌, ◌≢◌, ℕ, zero, suc, ◌+◌, ◌-◌, ◌<◌, ◌≤◌, ◌^◌, ◌⊎◌, ◌||◌, inl, inr, Bool, true, false, Option, Some, None, List, [], ◌∷◌, ◌++◌, length, get_or, refl, sym, ◌∙◌, ap, subst, arith}
+use Rattle.std.proofs.Common.{◌≡◌, ◌≢◌, ℕ, zero, suc, ◌+◌, ◌-◌, ◌<◌, ◌≤◌, ◌^◌, inl, inr, Bool, true, false, Some, List, [], ◌∷◌, ◌++◌, length, get_or, max, refl, sym, ◌∙◌, ap, subst, arith}
 use Rattle.std.specs.Prelude.{bit_or, if◌then◌else◌, nat_eq, slice_get, slice_index, slice_index_or}
 use Rattle.std.specs.Int.{bit_at}
-use Rattle.std.proofs.lemmas.Nat.Bits.{bit_at-pow_same, bit_at-pow_other}
+use Rattle.std.proofs.lemmas.Nat.Bits.{bit_at-lt, bit_at-pow_same, bit_at-pow_other, bit_at-zero, bit_at_or}
 use Rattle.std.proofs.lemmas.List.{length-append}
-use Rattle.std.proofs.lemmas.Option.{get_or_from_slice_get, slice_get_within, slice_get-get_or}
-use Rattle.gate_net.specs.Faults.{assigned}
-use Rattle.fault_sim.specs.Words.{assignment, lane}
-use Rattle.fault_sim.proofs.LaneLaws.{lane_or, lane_zero}
+use Rattle.std.proofs.lemmas.Option.{get_or_from_slice_get, slice_get-get_or}
+use Rattle.fault_sim.specs.Words.{lane}
 use Rattle.closing_pass.specs.Findings.{AreLong, ArePacked}
 use Rattle.closing_pass.specs.Trying.{AreInLanes}
-use Rattle.closing_pass.proofs.Standing.{pushed_stands, stands_below, stands_dropped, stands_pushed, taken_stands}
+use Rattle.closing_pass.proofs.Standing.{pushed_stands, stands_below}
 use Rattle.closing_pass.proofs.Taking.{same_or_not}
 use Rattle.closing_pass.proofs.Tries.{lt_or_le}
 
-or_one : (b : Bool) → (b || true) ≡ true
-or_one true = refl
-or_one false = refl
+one_more : (b : ℕ) → b < 2 → max b 1 ≡ 1
+one_more zero lt = refl
+one_more (suc zero) lt = refl
+one_more (suc (suc b)) lt = absurd (omega arith)
 
-or_none : (b : Bool) → (b || false) ≡ b
-or_none true = refl
-or_none false = refl
+none_more : (b : ℕ) → b < 2 → max b 0 ≡ b
+none_more zero lt = refl
+none_more (suc zero) lt = refl
+none_more (suc (suc b)) lt = absurd (omega arith)
 
 lane_set_same : (w k : ℕ) → lane k (bit_or w (2 ^ k)) ≡ true
-lane_set_same w k = lane_or k w (2 ^ k) ∙ ap (λ (b : Bool). lane k w || b) (ap (λ (n : ℕ). nat_eq n 1) (bit_at-pow_same k)) ∙ or_one (lane k w)
+lane_set_same w k =
+    let bit : bit_at (bit_or w (2 ^ k)) k ≡ 1 = bit_at_or w (2 ^ k) k ∙ ap (λ (n : ℕ). max (bit_at w k) n) (bit_at-pow_same k) ∙ one_more (bit_at w k) (bit_at-lt w k) in
+    ap (λ (n : ℕ). nat_eq n 1) bit
 
 lane_set_other : (w k i : ℕ) → i ≢ k → lane i (bit_or w (2 ^ k)) ≡ lane i w
-lane_set_other w k i ne = lane_or i w (2 ^ k) ∙ ap (λ (b : Bool). lane i w || b) (ap (λ (n : ℕ). nat_eq n 1) (bit_at-pow_other k i ne)) ∙ or_none (lane i w)
+lane_set_other w k i ne =
+    let bit : bit_at (bit_or w (2 ^ k)) i ≡ bit_at w i = bit_at_or w (2 ^ k) i ∙ ap (λ (n : ℕ). max (bit_at w i) n) (bit_at-pow_other k i ne) ∙ none_more (bit_at w i) (bit_at-lt w i) in
+    ap (λ (n : ℕ). nat_eq n 1) bit
+
+lane_zero : (i : ℕ) → lane i 0 ≡ false
+lane_zero i = ap (λ (n : ℕ). nat_eq n 1) (bit_at-zero i)
 
 -- the first bits are the values of a source in the first vectors, and all others are 0
 pub record IsWordOf (vectors : List (List Bool)) (source place word : ℕ) : Type 0 where

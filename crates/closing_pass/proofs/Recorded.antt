@@ -1,5 +1,5 @@
 -- Recording a fix after another.
-use Rattle.std.proofs.Common.{◌≡◌, ◌≢◌, ℕ, zero, suc, ◌+◌, ◌<◌, ◌≤◌, ◌^◌, Option, Some, None, List, [], ◌∷◌, ◌++◌, length, refl, sym, ◌∙◌, ap, subst, arith}
+use Rattle.std.proofs.Common.{◌≡◌, ℕ, suc, ◌+◌, ◌<◌, ◌≤◌, Option, List, [], ◌∷◌, ◌++◌, length, refl, sym, ◌∙◌, ap, subst, arith}
 use Rattle.std.specs.Prelude.{Err, Ok, OnErr, Result}
 use Rattle.std.proofs.lemmas.List.{length-append}
 use Rattle.gate_net.specs.Net.{Net, wire_count}
@@ -13,9 +13,8 @@ use Rattle.wire_edit.specs.declared.steps.Step.{Step}
 use Rattle.wire_edit.specs.declared.steps.Step.TheVariants.{Add, Fix, NewNot, Const, Same, NoPins, OnePin, Twice, Twin, Dead}
 use Rattle.journal_text.specs.Appends.{IsThere}
 use Rattle.journal_text.specs.Joining.{RunsJoin, TextsAppend}
-use Rattle.journal_text.specs.Runs.{AcceptedTo, AcceptedRunsAreWritable, AreRemovals, AreWritable, HasAppended, HasAppendedPart, IsRemoval, IsStopped, counted, made_by, none_made, records_text, steps_of}
+use Rattle.journal_text.specs.Runs.{AcceptedTo, AreRemovals, HasAppended, HasAppendedPart, IsRemoval, IsStopped, counted, made_by, none_made, records_text, steps_of}
 use Rattle.journal_text.specs.declared.record.Record.{Record}
-use Rattle.journal_text.specs.declared.record.Record.TheVariants as kept
 use Rattle.closing_pass.specs.Closing.{HasGone, HasRecordedFix}
 use Rattle.closing_pass.specs.Going.{AreTidying, HasFixed, Logs}
 use Rattle.closing_pass.specs.Reports.{HasClosed, IsRemovedTo, made_in}

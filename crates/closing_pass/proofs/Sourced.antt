@@ -1,30 +1,26 @@
 -- A tidy net with a pin has a source, so what closes its faults can be recorded.
-use Rattle.std.proofs.Common.{◌≡◌, ◌≢◌, ℕ, zero, suc, ◌+◌, ◌-◌, ◌<◌, ◌≤◌, Bool, true, false, not, Option, Some, None, List, [], ◌∷◌, ◌++◌, length, map, refl, sym, ◌∙◌, ap, subst, arith}
+use Rattle.std.proofs.Common.{◌≡◌, ◌≢◌, ℕ, zero, suc, ◌+◌, ◌-◌, ◌<◌, ◌≤◌, Bool, true, false, not, ◌||◌, Option, Some, None, List, [], ◌∷◌, length, map, refl, sym, ◌∙◌, ap, arith}
 use Rattle.std.specs.Prelude.{nat_eq, slice_get}
-use Rattle.std.specs.List.{AllByRecursion}
 use Rattle.std.proofs.lemmas.Bool.{and_from}
 use Rattle.rm_base.specs.declared.numbers.Fault.{Fault}
 use Rattle.gate_net.specs.declared.Kind.{Kind}
 use Rattle.gate_net.specs.declared.Kind.TheVariants.{Source, Zero, One, And, Or, Not}
-use Rattle.gate_net.specs.Faults.{IsTest, faults_of}
-use Rattle.gate_net.specs.Net.{Net, Node, drivers_in, drivers_of, kind_in, node_at, Reads, IsGate, IsGateKind, IsKind, IsRanked, IsWellFormed, source_count}
-use Rattle.gate_graph.proofs.FaultLists.{pins_all}
+use Rattle.gate_net.specs.Faults.{faults_of}
+use Rattle.gate_net.specs.Net.{Net, Node, drivers_in, drivers_of, kind_in, node_at, plain_node, Reads, IsGate, IsGateKind, IsRanked, IsWellFormed, source_count}
 use Rattle.std.proofs.lemmas.Option.{slice_get-map}
 use Rattle.std.specs.Option.{option_map}
 use Rattle.gate_net.specs.Values.{HasPin}
 use Rattle.podem.specs.declared.verdict.Verdict.{Verdict}
 use Rattle.podem.specs.declared.verdict.Verdict.TheVariants.{Detected, Refuted, Spent}
 use Rattle.refutation.specs.Branches.{Branch, line, split, clash, quiet, here, untried, items_of}
-use Rattle.refutation.specs.declared.items.Item.{Item}
 use Rattle.wire_edit.specs.declared.steps.Step.TheVariants.{NoPins, Dead}
 use Rattle.wire_edit.specs.Order.{IsTidy, node}
-use Rattle.wire_edit.specs.Steps.{Applies}
-use Rattle.wire_edit.specs.Tests.{gate_control, is_gate, is_in_use, is_junction, is_present}
-use Rattle.wire_edit.proofs.Ordering.{tidy_refuses}
-use Rattle.wire_edit.proofs.Tested.{is_gate_there}
+use Rattle.wire_edit.specs.Tests.{gate_control, is_gate, is_in_use, is_junction, is_not_kind, is_present}
+use Rattle.wire_edit.specs.Laws.{TidyMeans}
+use Rattle.wire_edit.specs.Removals.{TidyReadsNone}
 use Rattle.closing_pass.specs.Recording.{AreRecordable, IsRecordable}
 use Rattle.closing_pass.specs.Reports.{AreClosed, IsClosing, fault_in}
-use Rattle.closing_pass.proofs.FreePins.{reader_gate, tidy_reads_none}
+use Rattle.closing_pass.proofs.PinFaults.{pins_all}
 use Rattle.closing_pass.proofs.Standing.{by_recursion, from_recursion}
 
 -- a node that is no constant is a gate, where there is no source
@@ -43,40 +39,71 @@ gate_of net well none x lt there = at (node_at net x) refl
     at None is = absurd (there is)
     at (Some n) is = kinds n.kind n.drivers is
 
+-- a node with a pin is a gate
+reader_gate : (net : Net) → IsWellFormed net → (y p x : ℕ) → Reads net y p x → IsGate net y
+reader_gate net well y p x reads = at (node_at net y) refl
+  where
+    none_reads : slice_get {X = ℕ} [] p ≡ Some x → ⊥
+    none_reads e = cc
+
+    bare : (kind : Kind) → node_at net y ≡ plain_node kind → ⊥
+    bare kind is = none_reads (ap (λ (o : Option Node). slice_get (drivers_in o) p) (sym is) ∙ reads)
+
+    gate : (kind : Kind) (ds : List ℕ) → node_at net y ≡ Some (record { kind = kind; drivers = ds }) → IsGate net y
+    gate Source ds is =
+        let s : (2 ≤ y) × (y < 2 + source_count net) = well.sources.only y (ds, is) in
+        let same : 2 + (y - 2) ≡ y = omega (arith, s.0) in
+        absurd (bare Source (rw same at (well.sources.first (y - 2) (omega (arith, s.0, s.1)))))
+    gate Zero ds is = let e : y ≡ 0 = well.only_zero y (ds, is) in absurd (bare Zero (ap (node_at net) e ∙ well.constants.zero_is))
+    gate One ds is = let e : y ≡ 1 = well.only_one y (ds, is) in absurd (bare One (ap (node_at net) e ∙ well.constants.one_is))
+    gate And ds is = (And, ((ds, is), tt))
+    gate Or ds is = (Or, ((ds, is), tt))
+    gate Not ds is = (Not, ((ds, is), tt))
+
+    at : (o : Option Node) → node_at net y ≡ o → IsGate net y
+    at None is = absurd (none_reads (ap (λ o. slice_get (drivers_in o) p) (sym is) ∙ reads))
+    at (Some n) is = gate n.kind n.drivers is
+
 -- a gate of a tidy net has a pin
-has_pin : (net : Net) → IsWellFormed net → IsTidy net → (y : ℕ) → IsGate net y → (x : ℕ) × Reads net y 0 x
-has_pin net well tidy y (kind, ((ds, is), gk)) = at kind ds is gk
+has_pin : TidyMeans → (net : Net) → IsWellFormed net → IsTidy net → (y : ℕ) → IsGate net y → (x : ℕ) × Reads net y 0 x
+has_pin means net well tidy y (kind, ((ds, is), gk)) = at kind ds is gk
   where
     drivers : (k : Kind) (ds : List ℕ) → node_at net y ≡ Some (record { kind = k; drivers = ds }) → drivers_of net y ≡ ds
     drivers k ds is = ap drivers_in is
 
     none : (junction : is_junction net y ≡ true) → is_gate net y ≡ true → drivers_of net y ≡ [] → (u : Bool) → is_in_use net y ≡ u → ⊥
-    none junction gate empty true used = tidy_refuses net tidy (NoPins (node y)) tt (and_from (is_junction net y) _ junction (and_from (is_in_use net y) _ used (ap (λ (xs : List ℕ). nat_eq (length xs) 0) empty)))
-    none junction gate empty false used = tidy_refuses net tidy (Dead (node y)) tt (and_from (is_gate net y) _ gate (ap not used))
+    none junction gate empty true used = (means net).0 tidy (NoPins (node y)) tt (and_from (is_junction net y) _ junction (and_from (is_in_use net y) _ used (ap (λ (xs : List ℕ). nat_eq (length xs) 0) empty)))
+    none junction gate empty false used = (means net).0 tidy (Dead (node y)) tt (and_from (is_gate net y) _ gate (ap not used))
 
     first : (k : Kind) (ds : List ℕ) → node_at net y ≡ Some (record { kind = k; drivers = ds }) → is_junction net y ≡ true → is_gate net y ≡ true → (x : ℕ) × Reads net y 0 x
     first k [] is junction gate = absurd (none junction gate (drivers k [] is) (is_in_use net y) refl)
     first k (d ∷ ds) is junction gate = (d, ap (λ (xs : List ℕ). slice_get xs 0) (drivers k (d ∷ ds) is))
 
+    junction_is : (o : Option Node) → node_at net y ≡ o → is_junction net y ≡ is_present (gate_control (kind_in o))
+    junction_is o is = ap (λ (o : Option Node). is_present (gate_control (kind_in o))) is
+
+    gate_is : (o : Option Node) → node_at net y ≡ o → is_gate net y ≡ (is_present (gate_control (kind_in o)) || is_not_kind (kind_in o))
+    gate_is o is = ap (λ (o : Option Node). is_present (gate_control (kind_in o)) || is_not_kind (kind_in o)) is
+
     at : (k : Kind) (ds : List ℕ) → node_at net y ≡ Some (record { kind = k; drivers = ds }) → IsGateKind k → (x : ℕ) × Reads net y 0 x
     at Source ds is gk = absurd gk
     at Zero ds is gk = absurd gk
     at One ds is gk = absurd gk
-    at And ds is gk = first And ds is (ap (λ (o : Option Node). is_present (gate_control (kind_in o))) is) (is_gate_there net y (And, ((ds, is), tt)))
-    at Or ds is gk = first Or ds is (ap (λ (o : Option Node). is_present (gate_control (kind_in o))) is) (is_gate_there net y (Or, ((ds, is), tt)))
+    at And ds is gk = first And ds is (junction_is _ is) (gate_is _ is)
+    at Or ds is gk = first Or ds is (junction_is _ is) (gate_is _ is)
     at Not ds is gk = let d : (d : ℕ) × (drivers_of net y ≡ d ∷ []) = well.nots_have_one y (ds, is) in (d.0, ap (λ (xs : List ℕ). slice_get xs 0) d.1)
 
 -- so without sources there would be gates of ever lower ranks
-no_gates : (net : Net) → IsWellFormed net → IsTidy net → source_count net ≡ 0 → (rank : ℕ → ℕ) → IsRanked net rank → (n y : ℕ) → rank y < n → IsGate net y → ⊥
-no_gates net well tidy none rank ranked zero y lt g = absurd (omega (arith, lt))
-no_gates net well tidy none rank ranked (suc n) y lt g =
-    let x : (x : ℕ) × Reads net y 0 x = has_pin net well tidy y g in
+no_gates : TidyMeans → TidyReadsNone → (net : Net) → IsWellFormed net → IsTidy net → source_count net ≡ 0 → (rank : ℕ → ℕ) → IsRanked net rank → (n y : ℕ) → rank y < n → IsGate net y → ⊥
+no_gates means reads net well tidy none rank ranked zero y lt g = absurd (omega (arith, lt))
+no_gates means reads net well tidy none rank ranked (suc n) y lt g =
+    let x : (x : ℕ) × Reads net y 0 x = has_pin means net well tidy y g in
     let lower : rank x.0 < rank y = ranked y 0 x.0 x.1 in
-    no_gates net well tidy none rank ranked n x.0 (omega (arith, lt, lower)) (gate_of net well none x.0 (tidy_reads_none net well tidy y 0 x.0 x.1) (well.drivers_live y 0 x.0 x.1))
+    no_gates means reads net well tidy none rank ranked n x.0 (omega (arith, lt, lower)) (gate_of net well none x.0 (reads net well tidy y 0 x.0 x.1) (well.drivers_live y 0 x.0 x.1))
 
-pub has_source : (net : Net) (fault : Fault) → IsWellFormed net → IsTidy net → HasPin net fault → source_count net ≢ 0
-has_source net fault well tidy pin none =
-    no_gates net well tidy none well.acyclic.0 well.acyclic.1 (suc (well.acyclic.0 fault.gate.0)) fault.gate.0 (omega arith) (reader_gate net well fault.gate.0 fault.position pin.0 pin.1)
+has_source : TidyMeans → TidyReadsNone → (net : Net) (fault : Fault) → IsWellFormed net → IsTidy net → HasPin net fault → source_count net ≢ 0
+has_source means reads net fault well tidy pin none =
+    no_gates means reads net well tidy none well.acyclic.0 well.acyclic.1 (suc (well.acyclic.0 fault.gate.0)) fault.gate.0 (omega arith) (reader_gate net well fault.gate.0 fault.position pin.0 pin.1)
 
 has_item : (t : Branch) → items_of t ≢ []
 has_item (line l t) e = absurd (cc)
@@ -86,13 +113,14 @@ has_item quiet e = absurd (cc)
 has_item here e = absurd (cc)
 has_item untried e = absurd (cc)
 
-recordable : (net : Net) (budget : ℕ) (fault : Fault) (v : Verdict) → IsWellFormed net → IsTidy net → HasPin net fault → IsClosing net budget fault v → IsRecordable (fault, v)
-recordable net budget fault (Detected vector) well tidy pin test = λ e. has_source net fault well tidy pin (sym test.size ∙ ap length e)
-recordable net budget fault (Refuted tree) well tidy pin closing = closing
-recordable net budget fault (Spent tree) well tidy pin closing = λ e. has_item closing.0.tree (sym closing.0.same ∙ e)
+recordable : TidyMeans → TidyReadsNone → (net : Net) (budget : ℕ) (fault : Fault) (v : Verdict) → IsWellFormed net → IsTidy net → HasPin net fault → IsClosing net budget fault v → IsRecordable (fault, v)
+recordable means reads net budget fault (Detected vector) well tidy pin test = λ e. has_source means reads net fault well tidy pin (sym test.size ∙ ap length e)
+recordable means reads net budget fault (Refuted tree) well tidy pin closing = closing
+recordable means reads net budget fault (Spent tree) well tidy pin closing = λ e. has_item closing.0.tree (sym closing.0.same ∙ e)
 
-pub closed_recordable : (net : Net) (budget : ℕ) (verdicts : List (Fault × Verdict)) → IsWellFormed net → IsTidy net → AreClosed net budget verdicts → AreRecordable verdicts
-closed_recordable net budget verdicts well tidy closed = by_recursion IsRecordable verdicts (λ k entry is. recordable net budget entry.0 entry.1 well tidy (pin k entry is) (from_recursion (λ e. IsClosing net budget e.0 e.1) verdicts closed.closing k entry is))
+pub closed_recordable : TidyMeans → TidyReadsNone → (net : Net) (budget : ℕ) (verdicts : List (Fault × Verdict)) → IsWellFormed net → IsTidy net → AreClosed net budget verdicts → AreRecordable verdicts
+closed_recordable means reads net budget verdicts well tidy closed =
+    by_recursion IsRecordable verdicts (λ k entry is. recordable means reads net budget entry.0 entry.1 well tidy (pin k entry is) (from_recursion (λ e. IsClosing net budget e.0 e.1) verdicts closed.closing k entry is))
   where
     pin : (k : ℕ) (entry : Fault × Verdict) → slice_get verdicts k ≡ Some entry → HasPin net entry.0
     pin k entry is =

@@ -1,17 +1,16 @@
 -- Trying vectors one part after another, on one fault after another.
-use Rattle.std.proofs.Common.{◌≡◌, ◌≢◌, ℕ, zero, suc, ◌+◌, ◌-◌, ◌<◌, ◌≤◌, ◌⊎◌, inl, inr, Bool, true, false, Option, Some, None, List, [], ◌∷◌, ◌++◌, length, refl, sym, ◌∙◌, ap, subst, arith}
+use Rattle.std.proofs.Common.{◌≡◌, ◌≢◌, ℕ, zero, suc, ◌+◌, ◌-◌, ◌<◌, ◌≤◌, ◌⊎◌, inl, inr, Bool, Option, Some, List, [], ◌∷◌, length, refl, sym, ◌∙◌, ap, subst, arith}
 use Rattle.std.specs.Prelude.{slice_get, slice_set}
 use Rattle.std.proofs.lemmas.Option.{slice_get_within}
 use mathlib.Core.Path.{fun_ext}
-use Rattle.gate_net.proofs.Places.{set_there, set_other}
-use Rattle.gate_net.specs.Faults.{IsTest, assigned}
+use Rattle.gate_net.specs.Faults.{assigned}
 use Rattle.gate_net.specs.Net.{Net, source_count}
 use Rattle.gate_net.specs.Values.{Detects}
 use Rattle.fault_sim.specs.Words.{assignment}
 use Rattle.rm_base.specs.declared.numbers.Fault.{Fault}
 use Rattle.closing_pass.specs.declared.finding.Finding.{Finding}
-use Rattle.closing_pass.specs.declared.finding.Finding.TheVariants.{Detected, Open, Spent}
-use Rattle.closing_pass.specs.Findings.{AreClosedBefore, AreFound, AreLong, AreTried, HasCome, Holds, IsSought}
+use Rattle.closing_pass.specs.declared.finding.Finding.TheVariants.{Detected, Open}
+use Rattle.closing_pass.specs.Findings.{AreLong, HasCome, Holds, IsSought}
 use Rattle.closing_pass.specs.Trying.{AreInLanes, HasTried, HasTriedBefore, HasTriedOn, IsHit, IsMissed, IsTriedAt}
 use Rattle.closing_pass.proofs.Standing.{one_stands, some_is, stands_below}
 
@@ -24,6 +23,19 @@ lt_or_le (suc k) (suc n) = elim (lt_or_le k n) [
   | inl lt ↦ inl (omega (arith, lt))
   | inr le ↦ inr (omega (arith, le))
 ]
+
+-- PLACES OF A LIST
+pub set_there : {A : Type 0} (xs : List A) (p : ℕ) (a b : A) → slice_get xs p ≡ Some a → slice_get (slice_set xs p b) p ≡ Some b
+set_there [] p a b e = cc
+set_there (x ∷ xs) zero a b e = refl
+set_there (x ∷ xs) (suc p) a b e = set_there xs p a b e
+
+pub set_other : {A : Type 0} (xs : List A) (p q : ℕ) (a : A) → q ≢ p → slice_get (slice_set xs p a) q ≡ slice_get xs q
+set_other [] p q a ne = refl
+set_other (x ∷ xs) zero zero a ne = absurd (ne refl)
+set_other (x ∷ xs) zero (suc q) a ne = refl
+set_other (x ∷ xs) (suc p) zero a ne = refl
+set_other (x ∷ xs) (suc p) (suc q) a ne = set_other xs p q a (λ e. ne (ap suc e))
 
 -- LANES
 pub detects_lane : (net : Net) (fault : Fault) (words : List ℕ) (i : ℕ) (v : List Bool) → ((x : ℕ) → assignment words i x ≡ assigned v x) → Detects net fault (assignment words i) → Detects net fault (assigned v)

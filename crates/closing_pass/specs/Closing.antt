@@ -1,16 +1,14 @@
 -- What a closing pass has done so far.
-use Rattle.std.specs.Prelude.{◌≡◌, ◌≤◌, ◌+◌, ℕ, Bool, List, Option, length}
+use Rattle.std.specs.Prelude.{◌≡◌, ◌≤◌, ◌+◌, ℕ, List, Option, length}
 use Rattle.gate_graph.specs.Circuit.{net_of}
 use Rattle.gate_graph.specs.Holds.{HoldsOn}
-use Rattle.gate_net.specs.Net.{Net, source_count}
+use Rattle.gate_net.specs.Net.{Net}
 use Rattle.journal_text.specs.Runs.{AcceptedTo, AreRemovals, HasAppended, made_by, records_text, steps_of}
 use Rattle.journal_text.specs.declared.record.Record.{Record}
 use Rattle.rm_base.specs.Files.{Files}
 use Rattle.rm_base.specs.declared.settings.Made.{Made}
-use Rattle.wire_edit.specs.Order.{IsTidy}
 use Rattle.wire_edit.specs.Tried.{Tried}
 use Rattle.wire_edit.specs.Work.{work}
-use Rattle.closing_pass.specs.Findings.{AreLong}
 use Rattle.closing_pass.specs.Going.{IsNoLarger}
 use Rattle.closing_pass.specs.Reports.{IsRemovedTo}
 

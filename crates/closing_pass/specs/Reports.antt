@@ -1,5 +1,5 @@
 -- What a closing pass leaves: its steps, and a verdict for each fault of the net.
-use Rattle.std.specs.Prelude.{◌≡◌, ◌≤◌, ◌+◌, ◌^◌, ℕ, Bool, List, [], ◌∷◌, Option, Some, map, slice_get}
+use Rattle.std.specs.Prelude.{◌≡◌, ◌≤◌, ◌+◌, ◌^◌, ℕ, Bool, List, [], Option, Some, map, slice_get}
 use Rattle.std.specs.List.{AllByRecursion}
 use Rattle.gate_graph.specs.Circuit.{Circuit, live_nodes, pins_taken}
 use Rattle.gate_graph.specs.Holds.{pins_held}
@@ -8,7 +8,6 @@ use Rattle.gate_net.specs.Net.{Net, source_count, wire_count}
 use Rattle.gate_net.specs.Values.{Detects}
 use Rattle.journal_text.specs.Runs.{AcceptedTo, AreRemovals, HasAppended, made_by, none_made, records_text, steps_of}
 use Rattle.journal_text.specs.declared.record.Record.{Record}
-use Rattle.journal_text.specs.declared.record.Record.TheVariants as kept
 use Rattle.podem.specs.Verdicts.{IsSpent}
 use Rattle.podem.specs.declared.verdict.Verdict.{Verdict}
 use Rattle.podem.specs.declared.verdict.Verdict.TheVariants.{Detected, Refuted, Spent}

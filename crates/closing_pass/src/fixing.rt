@@ -13,7 +13,7 @@ use journal_text::Record;
 use refutation::Tree;
 use rm_base::{Fault, NoMemory};
 use std::alloc::Global;
-use wire_edit::{Step, Trial, room_suffices, steps_keep, tidying_ends};
+use wire_edit::{Step, Trial, answers_agree, fixes_lower, room_suffices, steps_keep, tidying_ends};
 
 /// Fixes a refuted pin of a tidy net, and tidies: a wire goes.
 pub(crate) fn fix_and_tidy(
@@ -36,6 +36,8 @@ pub(crate) fn fix_and_tidy(
     room_suffices();
     tidying_ends();
     steps_keep();
+    fixes_lower();
+    answers_agree();
     let step = Step::Fix {
         gate: fault.gate,
         position: fault.position,

@@ -15,6 +15,8 @@ mod pieces;
 mod recording;
 mod report;
 mod searching;
+#[cfg(test)]
+mod tests;
 mod tidying;
 mod trying;
 mod verdicts;

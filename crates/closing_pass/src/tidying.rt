@@ -10,7 +10,7 @@ use journal_text::Record;
 use refutation::TreeBuilder;
 use rm_base::NoMemory;
 use std::alloc::Global;
-use wire_edit::{Step, Trial, room_suffices, tidying_ends};
+use wire_edit::{Step, Trial, fixes_lower, order_tells, room_suffices, steps_keep, tidying_ends};
 
 // Adds the record of a local step.
 fn push_local(alloc: Global, log: &mut Vec<Record>, step: Step) -> Result<(), NoMemory>
@@ -30,6 +30,9 @@ pub(crate) fn tidy(alloc: Global, trial: &mut Trial, log: &mut Vec<Record>) -> R
 {
     tidying_ends();
     room_suffices();
+    steps_keep();
+    fixes_lower();
+    order_tells();
     loop {
         trial.graph().well_formed();
         match trial.tidy_one() {

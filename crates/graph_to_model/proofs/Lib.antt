@@ -13,3 +13,4 @@ pub mod Lists
 pub mod Making
 pub mod SetLemmas
 pub mod Steps
+pub mod Small

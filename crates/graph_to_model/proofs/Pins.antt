@@ -20,13 +20,13 @@ use Rattle.graph_to_model.proofs.Covers.{IsWritable, AreFrom, rest_from, first_f
 use Rattle.graph_to_model.proofs.Outputs.{gates, had, copies}
 use Rattle.graph_to_model.proofs.Formed.{one_pin_not}
 
-abbrev pins : Cover → ℕ
+abbrev pub pins : Cover → ℕ
 pins c = if is_copy c then 0 else length c.inputs
 
-abbrev node_pins : Option Node → ℕ
+abbrev pub node_pins : Option Node → ℕ
 node_pins o = length (drivers_in o)
 
-map_words : (f : ℕ → Word) (ds : List ℕ) → length (map f ds) ≡ length ds
+pub map_words : (f : ℕ → Word) (ds : List ℕ) → length (map f ds) ≡ length ds
 map_words f [] = refl
 map_words f (d ∷ ds) = ap suc (map_words f ds)
 
@@ -51,7 +51,7 @@ module _ (m : Model) (net : Net) (w : IsWritable m net) where
       made : gate_cover_of Not (map (node_name m net) node.drivers) (node_name m net x) ≡ None → ⊥
       made f = cc
 
-  two_or_more : (x : ℕ) (node : Node) (kind : Kind) → node_at net x ≡ Some node → node.kind ≡ kind → IsGateKind kind → kind ≢ Not → 2 ≤ length (map (node_name m net) node.drivers)
+  pub two_or_more : (x : ℕ) (node : Node) (kind : Kind) → node_at net x ≡ Some node → node.kind ≡ kind → IsGateKind kind → kind ≢ Not → 2 ≤ length (map (node_name m net) node.drivers)
   two_or_more x node Source at e gate ne = absurd gate
   two_or_more x node Zero at e gate ne = absurd gate
   two_or_more x node One at e gate ne = absurd gate
@@ -65,13 +65,13 @@ module _ (m : Model) (net : Net) (w : IsWritable m net) where
       let names : length (map (node_name m net) node.drivers) ≡ length node.drivers = map_words (node_name m net) node.drivers in omega arith
   two_or_more x node Not at e gate ne = absurd (ne refl)
 
-  cover_pins : (x : ℕ) (node : Node) (c : Cover) → node_at net x ≡ Some node → gate_cover m net x (Some node) ≡ Some c → pins c ≡ length node.drivers
+  pub cover_pins : (x : ℕ) (node : Node) (c : Cover) → node_at net x ≡ Some node → gate_cover m net x (Some node) ≡ Some c → pins c ≡ length node.drivers
   cover_pins x node c at e =
       let h = cover_of node.kind (map (node_name m net) node.drivers) (node_name m net x) c e in
       let no : is_copy c ≡ false = h.no_copy (one_pin_not m net w x node at) (two_or_more x node node.kind at refl h.gate) in
       rw no (ap length h.in_is ∙ map_words (node_name m net) node.drivers)
 
-  gate_pins : (n : ℕ) (os : List (Option Node)) → AreFrom net n os → sum_by pins (gate_covers m net n os) ≡ sum_by node_pins os
+  pub gate_pins : (n : ℕ) (os : List (Option Node)) → AreFrom net n os → sum_by pins (gate_covers m net n os) ≡ sum_by node_pins os
   gate_pins n [] same = refl
   gate_pins n (o ∷ os) same = by_node o (gate_cover m net n o) refl (first_from net n o os same) (gate_pins (n + 1) os (rest_from net n o os same)) ∙ sym (sum_by-cons node_pins o os)
     where

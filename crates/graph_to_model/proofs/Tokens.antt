@@ -64,7 +64,7 @@ plain_token b bs h = and_true (list_all is_word_byte (b ∷ bs)) _ (words (b ∷
     ends (x ∷ []) h = no_backslash (nat_eq x 92) (both (is_word_byte x) _ (both (is_plain x) true h).0).1
     ends (x ∷ y ∷ ys) h = ends (y ∷ ys) (both (is_plain x) (list_all is_plain (y ∷ ys)) h).1
 
-least_le : (tries t : ℕ) (kept : List Word) → least_free tries t kept ≤ t + tries
+pub least_le : (tries t : ℕ) (kept : List Word) → least_free tries t kept ≤ t + tries
 least_le zero t kept = omega arith
 least_le (suc tries) t kept = by_test (is_free kept t) (least_le tries (t + 1) kept)
   where

@@ -1,6 +1,6 @@
 //! Laws of the definitions.
 ghost use Rattle.std.specs.Prelude.{◌≡◌, Some};
-ghost use Rattle.graph_to_model.specs.Laws.{TidyNetsHaveModels};
+ghost use Rattle.graph_to_model.specs.Laws.{TidyNetsHaveModels, TidyNetsHaveSmallModels};
 ghost use Rattle.cover_decompose.specs.Decomposition.{net_of_model};
 ghost use Rattle.cover_decompose.specs.Rows.{r2, r5};
 ghost use Rattle.graph_to_model.specs.NetModel.{model_of_net};
@@ -26,6 +26,13 @@ pub fn worked_rows()
 /// A tidy net stands for its model, which has as many wires.
 pub fn tidy_nets_have_models()
     ensures { TidyNetsHaveModels }
+{
+    order_tells();
+}
+
+/// The model of a tidy net has few covers, no wide ones beyond its wires, and short names.
+pub fn tidy_nets_have_small_models()
+    ensures { TidyNetsHaveSmallModels }
 {
     order_tells();
 }

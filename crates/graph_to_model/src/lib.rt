@@ -13,5 +13,5 @@ mod prefix;
 #[cfg(test)]
 mod tests;
 
-pub use laws::{tidy_nets_have_models, worked_rows};
+pub use laws::{tidy_nets_have_models, tidy_nets_have_small_models, worked_rows};
 pub use net_model::{ModelRefusal, model_of};

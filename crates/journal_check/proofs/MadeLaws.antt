@@ -1,8 +1,9 @@
 -- Steps of a journal, as they are made.
-use Rattle.std.proofs.Common.{◌≡◌, ◌≢◌, ℕ, ◌<◌, Bool, true, false, ◌&&◌, Option, Some, None, Ok, Err, IfSome, List, refl, ap, sym, subst, ◌∙◌, inl, inr, arith, nat_lt}
+use Rattle.std.proofs.Common.{◌≡◌, ◌≢◌, ℕ, zero, suc, ◌<◌, Bool, true, false, Option, Some, None, Ok, Err, IfSome, List, [], ◌∷◌, length, refl, ap, sym, subst, inl, inr, arith, nat_lt}
 use Rattle.std.proofs.lemmas.Bool.Decides.{nat_tests}
+use Rattle.std.specs.Prelude.{slice_get}
 use Rattle.rm_base.specs.declared.numbers.Fault.{Fault}
-use Rattle.gate_net.specs.Net.{Node, Net, IsLive, drivers_of, kind_in, kind_of, node_at, wire_count}
+use Rattle.gate_net.specs.Net.{Node, Net, IsLive, drivers_of, kind_in, node_at, wire_count}
 use Rattle.gate_net.specs.Values.{HasPin}
 use Rattle.refutation.specs.declared.items.Item.{Item}
 use Rattle.refutation.specs.declared.items.Form.TheVariants.{Closed}
@@ -12,15 +13,16 @@ use Rattle.wire_edit.specs.declared.steps.Step.TheVariants as step
 use Rattle.wire_edit.specs.declared.room.Room.{Room}
 use Rattle.wire_edit.specs.declared.refusal.EditRefusal.{EditRefusal}
 use Rattle.wire_edit.specs.declared.refusal.EditRefusal.TheVariants.{Full}
-use Rattle.wire_edit.specs.Tests.{control_of, is_present}
+use Rattle.wire_edit.specs.Tests.{control_of, gate_control, is_present}
 use Rattle.wire_edit.specs.Steps.{Applies, stepped}
 use Rattle.wire_edit.specs.Refusals.{IsAnswer, fault_of, has_room, or_else, unless, live_count, ceiling}
 use Rattle.wire_edit.specs.Laws.{AnswersApply}
+use Rattle.wire_edit.specs.Rooms.{IsUnspent, RoomsAgree}
+use Rattle.wire_edit.specs.Sizes.{AddedIsLast}
 use Rattle.journal_text.specs.Accepted.{IsAcceptedStep, IsJustified, MayGrow}
-use Rattle.journal_text.proofs.AcceptedLaws.{get_below, last_reads}
 use Rattle.journal_check.specs.declared.refusal.Why.{Why}
 use Rattle.journal_check.specs.declared.refusal.Why.TheVariants as why
-use Rattle.journal_check.specs.Replaying.{AddSays, FixSays, IsAddedPin, IsStepTree, StepLeads, noncontrolling, one_each, refused}
+use Rattle.journal_check.specs.Replaying.{AddSays, FixSays, IsAddedPin, IsStepTree, StepLeads, one_each, refused}
 
 or_none : {A : Type 0} (o p : Option A) → None ≡ or_else o p → (o ≡ None) × (p ≡ None)
 or_none None p e = (refl, sym e)
@@ -48,39 +50,22 @@ grows_where net (step.Dead gate) e = tt
 may_grow : (net : Net) (s : Step) → IsAnswer net one_each s None → MayGrow net s
 may_grow net s a = grows_where net s (unless_none (has_room net one_each s) Full (or_none (fault_of net s a.cyclic) (unless (has_room net one_each s) Full) a.is).1)
 
--- ROOM FOR ONE STEP IS AS GOOD AS ROOM FOR MANY
-all_three : (a b c x : Bool) → a ≡ true → b ≡ true → c ≡ true → a && (b && (c && x)) ≡ x
-all_three true true true x e f g = refl
-all_three true true false x e f g = cc
-all_three true false c x e f g = cc
-all_three false b c x e f g = cc
+-- room for one step is as good as room for many
+pub one_answer : RoomsAgree → (net : Net) (room : Room) (s : Step) (r : Option EditRefusal) → IsUnspent room → IsAnswer net room s r → IsAnswer net one_each s r
+one_answer agree net room s r some a = agree net room one_each s r some (record { pins = omega arith; nodes = omega arith; steps = omega arith }) a
 
-both : (a b x : Bool) → a ≡ true → b ≡ true → a && (b && x) ≡ x
-both true true x e f = refl
-both true false x e f = cc
-both false b x e f = cc
+get_below : (xs : List ℕ) (p : ℕ) → p < length xs → (x : ℕ) × (slice_get xs p ≡ Some x)
+get_below [] p l = absurd (omega arith)
+get_below (x ∷ xs) zero l = (x, refl)
+get_below (x ∷ xs) (suc p) l = get_below xs p (omega arith)
 
-positive : (n : ℕ) → 0 < n → nat_lt 0 n ≡ true
-positive n l = grind (arith, nat_tests)
+control_case : (net : Net) (gate : ℕ) (c : Bool) (o : Option Node) → node_at net gate ≡ o → gate_control (kind_in o) ≡ Some c → IsLive net gate
+control_case net gate c None e k = cc
+control_case net gate c (Some n) e k = (n.kind, (n.drivers, e))
 
-same_room : (net : Net) (room : Room) (s : Step) → 0 < room.pins → 0 < room.nodes → 0 < room.steps → has_room net room s ≡ has_room net one_each s
-same_room net room (step.Add gate node) p n t = both (nat_lt 0 room.steps) (nat_lt 0 room.pins) (nat_lt (wire_count net) ceiling) (positive room.steps t) (positive room.pins p)
-same_room net room (step.NewNot node) p n t = all_three (nat_lt 0 room.steps) (nat_lt 0 room.pins) (nat_lt 0 room.nodes) (nat_lt (live_count net) ceiling) (positive room.steps t) (positive room.pins p) (positive room.nodes n)
-same_room net room (step.Fix gate position value) p n t = positive room.steps t
-same_room net room (step.Const gate position) p n t = positive room.steps t
-same_room net room (step.Same gate position) p n t = positive room.steps t
-same_room net room (step.NoPins gate) p n t = positive room.steps t
-same_room net room (step.OnePin gate) p n t = positive room.steps t
-same_room net room (step.Twice gate) p n t = positive room.steps t
-same_room net room (step.Twin gate other) p n t = positive room.steps t
-same_room net room (step.Dead gate) p n t = positive room.steps t
-
-pub rooms_agree : (net : Net) (room : Room) (s : Step) (r : Option EditRefusal) → 0 < room.pins → 0 < room.nodes → 0 < room.steps → IsAnswer net room s r → IsAnswer net one_each s r
-rooms_agree net room s r p n t a = record {
-  cyclic = a.cyclic;
-  tells = a.tells;
-  is = a.is ∙ ap (λ (b : Bool). or_else (fault_of net s a.cyclic) (unless b Full)) (same_room net room s p n t);
-}
+-- a gate that a value controls is live
+control_live : (net : Net) (gate : ℕ) (c : Bool) → control_of net gate ≡ Some c → IsLive net gate
+control_live net gate c k = control_case net gate c (node_at net gate) refl k
 
 pub err_edit : (net : Net) (s : Step) (tree : List Item) (e : EditRefusal) → IsAnswer net one_each s (Some e) → why.Edit e ≢ why.NoMemory → StepLeads net s tree (refused (why.Edit e))
 err_edit net s tree e a n = inl (e, (a, refl))
@@ -114,18 +99,18 @@ err_after net (step.Twice gate) tree w (Some fault) a p f n = absurd p
 err_after net (step.Twin gate other) tree w (Some fault) a p f n = absurd p
 err_after net (step.Dead gate) tree w (Some fault) a p f n = absurd p
 
-pub pin_there : (net : Net) (s : Step) (added : Option Fault) → IsAddedPin net s added → IfSome added (λ f. HasPin (stepped net s) f)
-pin_there net s None p = tt
-pin_there net (step.Add gate node) (Some fault) p = subst (λ (g : Fault). HasPin (stepped net (step.Add gate node)) g) (sym p.1.1) (node.0, last_reads net gate.0 node.0 p.0 p.1.0)
-pin_there net (step.Fix gate position value) (Some fault) p = absurd p
-pin_there net (step.NewNot node) (Some fault) p = absurd p
-pin_there net (step.Const gate position) (Some fault) p = absurd p
-pin_there net (step.Same gate position) (Some fault) p = absurd p
-pin_there net (step.NoPins gate) (Some fault) p = absurd p
-pin_there net (step.OnePin gate) (Some fault) p = absurd p
-pin_there net (step.Twice gate) (Some fault) p = absurd p
-pin_there net (step.Twin gate other) (Some fault) p = absurd p
-pin_there net (step.Dead gate) (Some fault) p = absurd p
+pub pin_there : AddedIsLast → (net : Net) (s : Step) (added : Option Fault) → IsAddedPin net s added → IfSome added (λ f. HasPin (stepped net s) f)
+pin_there last net s None p = tt
+pin_there last net (step.Add gate node) (Some fault) p = subst (λ (g : Fault). HasPin (stepped net (step.Add gate node)) g) (sym p.1.1) (node.0, last net gate.0 node.0 (control_live net gate.0 p.0 p.1.0))
+pin_there last net (step.Fix gate position value) (Some fault) p = absurd p
+pin_there last net (step.NewNot node) (Some fault) p = absurd p
+pin_there last net (step.Const gate position) (Some fault) p = absurd p
+pin_there last net (step.Same gate position) (Some fault) p = absurd p
+pin_there last net (step.NoPins gate) (Some fault) p = absurd p
+pin_there last net (step.OnePin gate) (Some fault) p = absurd p
+pin_there last net (step.Twice gate) (Some fault) p = absurd p
+pin_there last net (step.Twin gate other) (Some fault) p = absurd p
+pin_there last net (step.Dead gate) (Some fault) p = absurd p
 
 no_control : (o : Option Bool) → is_present o ≡ true → o ≡ None → ⊥
 no_control None p e = cc
@@ -148,11 +133,3 @@ pub accepted : (net : Net) (s : Step) (tree : List Item) (added : Option Fault) 
 accepted net s tree added applies a f p e t =
     let may = applies net one_each s a in
     record { applies = may; grows = may_grow net s a; justified = just net s tree added may f p e t }
-
-kind_case : (net : Net) (x : ℕ) (b : Bool) (o : Option Node) → node_at net x ≡ o → noncontrolling (kind_in o) ≡ Some b → IsLive net x
-kind_case net x b None e k = cc
-kind_case net x b (Some n) e k = (n.kind, (n.drivers, e))
-
--- a node whose kind some value doesn't control is live
-pub live_where : (net : Net) (x : ℕ) (b : Bool) → noncontrolling (kind_of net x) ≡ Some b → IsLive net x
-live_where net x b k = kind_case net x b (node_at net x) refl k

@@ -11,6 +11,7 @@ use Rattle.wire_edit.specs.declared.steps.Step.TheVariants as step
 use Rattle.wire_edit.specs.declared.room.Room.{Room}
 use Rattle.wire_edit.specs.declared.refusal.EditRefusal.{EditRefusal}
 use Rattle.wire_edit.specs.Refusals.{IsAnswer, room_after}
+use Rattle.wire_edit.specs.Rooms.{RoomsAgree}
 use Rattle.wire_edit.specs.Steps.{stepped}
 use Rattle.wire_edit.specs.Tried.{IsAt, Tried, start_of}
 use Rattle.journal_text.specs.Accepted.{IsAcceptedStep}
@@ -21,7 +22,7 @@ use Rattle.journal_check.specs.declared.refusal.Why.{Why}
 use Rattle.journal_check.specs.Benches.{IsEditing, IsIdle, IsReady, RecordSays, net_in, position_of}
 use Rattle.journal_check.specs.Replaying.{Leads, Makes, Position, editing, goes_on, one_each, refused}
 use Rattle.journal_check.specs.Within.{IsWithin}
-use Rattle.journal_check.proofs.MadeLaws.{rooms_agree}
+use Rattle.journal_check.proofs.MadeLaws.{one_answer}
 use Rattle.journal_check.proofs.WithinLaws.{nodes_bounded, stays_within, wires_bounded}
 
 pub idle_edits : (g : Circuit) → IsIdle g → IsEditing (Idle g)
@@ -31,8 +32,9 @@ pub ready_edits : (t : Tried) (left : ℕ) → IsReady t left → IsEditing (Try
 ready_edits t left r = record { bench = r; editing_at = refl }
 
 -- the answer to a step, as of room for one
-pub ready_answer : (t : Tried) (left : ℕ) (s : Step) (r : Option EditRefusal) → IsReady t left → 0 < left → IsAnswer (net_of t.graph) t.room s r → IsAnswer (net_of t.graph) one_each s r
-ready_answer t left s r ready some a = rooms_agree (net_of t.graph) t.room s r (omega (arith, ready.pins, some)) (omega (arith, ready.nodes, some)) (omega (arith, ready.steps, some)) a
+pub ready_answer : RoomsAgree → (t : Tried) (left : ℕ) (s : Step) (r : Option EditRefusal) → IsReady t left → 0 < left → IsAnswer (net_of t.graph) t.room s r → IsAnswer (net_of t.graph) one_each s r
+ready_answer agree t left s r ready some a =
+    one_answer agree (net_of t.graph) t.room s r (record { pins = omega (arith, ready.pins, some); nodes = omega (arith, ready.nodes, some); steps = omega (arith, ready.steps, some) }) a
 
 start_is : (t : Tried) → t.trail.entries ≡ [] → start_of t ≡ wiring t.graph
 start_is t e = ap (λ (es : List Entry). back_to (wiring t.graph) es) e

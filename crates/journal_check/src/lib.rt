@@ -8,6 +8,8 @@ mod laws;
 mod refusal;
 mod replaying;
 mod settling;
+#[cfg(test)]
+mod tests;
 mod trying;
 mod whole;
 

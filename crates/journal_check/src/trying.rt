@@ -11,7 +11,7 @@ use crate::refusal::Why;
 use gate_graph::Graph;
 use refutation::Tree;
 use std::alloc::Global;
-use wire_edit::{BeginRefusal, Room, Step, Trial, answers_apply};
+use wire_edit::{BeginRefusal, Room, Step, Trial, answers_agree, answers_apply, steps_grow};
 
 const LEAST_ROOM: usize = 1_024;
 
@@ -53,7 +53,9 @@ fn make(
     ensures makes { Makes (net_of trial.graph) step tree.now (net_in result.0) result.1 }
     ensures editing { IsEditing result.0 }
 {
+    answers_agree();
     answers_apply();
+    steps_grow();
     let mut trial = trial;
     trial.graph().well_formed();
     let before = fix_says(alloc, trial.graph(), step, tree);

@@ -16,6 +16,8 @@ mod reader;
 mod reading;
 mod record;
 mod recording;
+#[cfg(test)]
+mod tests;
 mod writing;
 
 pub use append::{Stop, append_entry};

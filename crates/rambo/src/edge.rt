@@ -1,35 +1,79 @@
 // The real files and standard output. Nothing is told of what they hold.
-ghost use Rattle.std.specs.Prelude.{◌≡◌, ◌≤◌, IfOk, length, None};
+ghost use Rattle.std.specs.Prelude.{◌≡◌, ◌≤◌, IfOk, length, None, Result, Err};
+ghost use Rattle.rm_base.specs.Causes.{HasCause};
 
 use rm_base::{OutsideFault, Shelf, Sink};
 use std::alloc::Global;
-use std::fs::OpenOptions;
-use std::io::{Read, Seek, SeekFrom, Write};
+use std::fs::{File, Metadata, OpenOptions, TryLockError};
+use std::io::{Error, ErrorKind, Read, Seek, SeekFrom, Write};
+use std::os::fd::AsRawFd;
+use std::os::unix::fs::MetadataExt;
 use std::rt::Files;
 use std::{fs, io};
 
-#[derive(Drop)]
-pub struct FileShelf<'a, R: Files> {
-    rt: &'a R,
-    alloc: Global,
-    faults: u64,
+// What tells a file from all others, whatever its names are.
+#[derive(Clone, Copy, PartialEq, Eq)]
+struct Node {
+    device: u64,
+    number: u64,
 }
 
-impl<'a, R: Files> FileShelf<'a, R> {
-    pub fn new(rt: &'a R, alloc: Global) -> Self {
-        FileShelf {
-            rt,
-            alloc,
-            faults: 0,
-        }
+// The file that was read last stays open, so that a pipe can be read piece by piece.
+#[derive(Drop)]
+struct Reading {
+    name: String,
+    file: File,
+    at: u64,
+}
+
+// A file that was created stays open, and all that is added goes to it.
+#[derive(Drop)]
+struct Created {
+    name: String,
+    file: File,
+}
+
+fn node_of(metadata: &Metadata) -> Node {
+    Node {
+        device: metadata.dev(),
+        number: metadata.ino(),
     }
 }
 
-fn piece<R: Files>(rt: &R, alloc: Global, name: &str, from: u64, most: usize) -> io::Result<Vec<u8>>
+// Opens a file, never as a standard stream that was closed when the program began.
+fn open<R: Files<File = File>>(rt: &R, how: &OpenOptions, name: &str) -> io::Result<File> {
+    let file = how.open(rt, name)?;
+    if file.as_raw_fd() > 2 {
+        return Ok(file);
+    }
+    file.try_clone()
+}
+
+// Opens a file to be read from this place on. A pipe can be read from its start alone.
+fn begin<R: Files<File = File>>(
+    rt: &R,
+    alloc: Global,
+    used: &mut Vec<Node>,
+    name: &str,
+    from: u64,
+) -> io::Result<Reading> {
+    let name = String::from_str(alloc, name)?;
+    let mut file = open(rt, OpenOptions::new().read(true), name.as_str())?;
+    used.push(node_of(&file.metadata()?))?;
+    if from > 0 {
+        file.seek(SeekFrom::Start(from))?;
+    }
+    Ok(Reading {
+        name,
+        file,
+        at: from,
+    })
+}
+
+// At most this many bytes from where the file stands.
+fn next_bytes(alloc: Global, file: &mut File, most: usize) -> io::Result<Vec<u8>>
     ensures { IfOk result (λ v. length v.items ≤ most) }
 {
-    let mut file = fs::open(rt, name)?;
-    file.seek(SeekFrom::Start(from))?;
     let mut bytes = Vec::new(alloc);
     let mut buffer = [0u8; 4096];
     for _ in 0..u64::MAX {
@@ -47,12 +91,89 @@ fn piece<R: Files>(rt: &R, alloc: Global, name: &str, from: u64, most: usize) ->
     Ok(bytes)
 }
 
-fn add<R: Files>(rt: &R, name: &str, bytes: &[u8]) -> io::Result<()> {
-    let mut file = OpenOptions::new().append(true).open(rt, name)?;
-    file.write_all(bytes)
+// A piece of the named file. The file stays open, and is opened anew only where the piece isn't the next one.
+fn piece<R: Files<File = File>>(
+    rt: &R,
+    alloc: Global,
+    reading: &mut Option<Reading>,
+    used: &mut Vec<Node>,
+    name: &str,
+    from: u64,
+    most: usize,
+) -> io::Result<Vec<u8>>
+    ensures { IfOk result (λ v. length v.items ≤ most) }
+{
+    let mut current = match reading.take() {
+        Some(open) if open.at == from && open.name.as_str() == name => open,
+        _ => begin(rt, alloc, used, name, from)?,
+    };
+    let bytes = next_bytes(alloc, &mut current.file, most)?;
+    current.at = current.at.saturating_add(bytes.len() as u64);
+    *reading = Some(current);
+    Ok(bytes)
 }
 
-impl<'a, R: Files> Shelf for FileShelf<'a, R> {
+// Whether standard output goes to this file, so that the summary would be written over it.
+fn is_output<R: Files<File = File>>(rt: &R, node: Node) -> bool {
+    match fs::metadata(rt, "/dev/stdout") {
+        Ok(metadata) => node_of(&metadata) == node,
+        Err(_) => false,
+    }
+}
+
+// Opens the named file and empties it, unless it was read or created in this run, is standard output, or is being written by
+// another run: that is known before anything is lost. A device or a pipe is taken as it is.
+fn emptied<R: Files<File = File>>(rt: &R, used: &[Node], name: &str) -> io::Result<(File, Node)> {
+    let file = open(rt, OpenOptions::new().write(true).create(true), name)?;
+    let metadata = file.metadata()?;
+    let node = node_of(&metadata);
+    if metadata.is_file() {
+        if used.contains(&node) || is_output(rt, node) {
+            return Err(Error::from(ErrorKind::ResourceBusy));
+        }
+        if let Err(TryLockError::WouldBlock) = file.try_lock() {
+            return Err(Error::from(ErrorKind::ResourceBusy));
+        }
+        file.set_len(0)?;
+    }
+    Ok((file, node))
+}
+
+// Adds bytes to the file that was created under this name.
+fn add(created: &mut Vec<Created>, name: &str, bytes: &[u8]) -> io::Result<()> {
+    for one in created.iter_mut() {
+        if one.name.as_str() == name {
+            return one.file.write_all(bytes);
+        }
+    }
+    Err(Error::from(ErrorKind::NotFound))
+}
+
+/// The real files. A file is read or created in a run, and not both, whatever names it has.
+#[derive(Drop)]
+pub struct FileShelf<'a, R: Files<File = File>> {
+    rt: &'a R,
+    alloc: Global,
+    faults: u64,
+    reading: Option<Reading>,
+    created: Vec<Created>,
+    used: Vec<Node>,
+}
+
+impl<'a, R: Files<File = File>> FileShelf<'a, R> {
+    pub fn new(rt: &'a R, alloc: Global) -> Self {
+        FileShelf {
+            rt,
+            alloc,
+            faults: 0,
+            reading: None,
+            created: Vec::new(alloc),
+            used: Vec::new(alloc),
+        }
+    }
+}
+
+impl<'a, R: Files<File = File>> Shelf for FileShelf<'a, R> {
     ghost files = { λ _. None };
 
     ghost faults = { λ s. s.faults };
@@ -63,18 +184,37 @@ impl<'a, R: Files> Shelf for FileShelf<'a, R> {
         from: u64,
         most: usize,
     ) -> Result<Option<Vec<u8>>, OutsideFault> {
-        match piece(self.rt, self.alloc, name, from, most) {
+        match piece(
+            self.rt,
+            self.alloc,
+            &mut self.reading,
+            &mut self.used,
+            name,
+            from,
+            most,
+        ) {
             Ok(bytes) => Ok(Some(bytes)),
-            Err(_) => {
+            Err(error) => {
+                if error.kind() == ErrorKind::OutOfMemory {
+                    return Err(OutsideFault::NoMemory);
+                }
                 self.faults = self.faults.saturating_add(1);
                 Err(OutsideFault::Failed)
             }
         }
     }
 
+    // All memory is taken before anything is changed.
     fn create(&mut self, name: &str) -> Result<(), OutsideFault> {
-        match fs::create(self.rt, name) {
-            Ok(_) => Ok(()),
+        let name = String::from_str(self.alloc, name)?;
+        self.created.reserve(1)?;
+        self.used.reserve(1)?;
+        match emptied(self.rt, self.used.as_slice(), name.as_str()) {
+            Ok((file, node)) => {
+                self.used.push(node)?;
+                self.created.push(Created { name, file })?;
+                Ok(())
+            }
             Err(_) => {
                 self.faults = self.faults.saturating_add(1);
                 Err(OutsideFault::Failed)
@@ -83,7 +223,7 @@ impl<'a, R: Files> Shelf for FileShelf<'a, R> {
     }
 
     fn append(&mut self, name: &str, bytes: &[u8]) -> Result<(), OutsideFault> {
-        match add(self.rt, name, bytes) {
+        match add(&mut self.created, name, bytes) {
             Ok(()) => Ok(()),
             Err(_) => {
                 self.faults = self.faults.saturating_add(1);
@@ -93,6 +233,7 @@ impl<'a, R: Files> Shelf for FileShelf<'a, R> {
     }
 }
 
+/// Standard output.
 #[derive(Drop)]
 pub struct StdoutSink<'a, R: Print> {
     rt: &'a R,

@@ -7,13 +7,14 @@ mod tests;
 
 use edge::{FileShelf, StdoutSink};
 use rambo_cli::run;
-use rm_base::OpenGate;
+use rm_base::{OpenGate, OutsideFault, Sink};
+use std::alloc::AllocError;
+use std::env;
 use std::io::ErrorKind;
 use std::process::ExitCode;
-use std::{env, io};
 
 // The words behind the program's name. Where one isn't text there are none, which are refused.
-fn words(rt: &HostRuntime) -> io::Result<Vec<String>> {
+fn words(rt: &HostRuntime) -> Result<Vec<String>, AllocError> {
     let mut words = Vec::new(rt.alloc());
     let args = match env::args(rt) {
         Ok(args) => args,
@@ -21,7 +22,7 @@ fn words(rt: &HostRuntime) -> io::Result<Vec<String>> {
             if error.kind() == ErrorKind::InvalidData {
                 return Ok(words);
             }
-            return Err(error);
+            return Err(AllocError);
         }
     };
     for word in args.skip(1) {
@@ -30,17 +31,27 @@ fn words(rt: &HostRuntime) -> io::Result<Vec<String>> {
     Ok(words)
 }
 
-fn main(rt: HostRuntime) -> io::Result<ExitCode> {
+// The status where there is no memory for the words.
+fn without_memory(rt: &HostRuntime) -> u8 {
+    match StdoutSink::new(rt).put(b"memory\n") {
+        Err(OutsideFault::Failed) => 3,
+        _ => 4,
+    }
+}
+
+fn main(rt: HostRuntime) -> ExitCode {
     let alloc = rt.alloc();
-    let words = words(&rt)?;
+    let Ok(words) = words(&rt) else {
+        return ExitCode::from(without_memory(&rt));
+    };
     let mut shelf = FileShelf::new(&rt, alloc);
     let mut sink = StdoutSink::new(&rt);
-    Ok(ExitCode::from(run(
+    ExitCode::from(run(
         &rt,
         alloc,
         words.as_slice(),
         &mut shelf,
         &mut sink,
         &OpenGate,
-    )))
+    ))
 }

@@ -1,11 +1,9 @@
 -- From the audit of a journal and an output to what `check` says of them.
-use Rattle.std.proofs.Common.{◌≡◌, ◌≢◌, ◌≤◌, ℕ, List, refl, sym, subst, inl, inr, Result, Ok, Err}
+use Rattle.std.proofs.Common.{◌≡◌, ◌≤◌, ℕ, refl, sym, subst, inl, inr, Result, Ok, Err}
 use Rattle.std.specs.Prelude.{Option, None, Some, IfErr, IfSome, IsSome}
 use Rattle.std.specs.Result.{IsErrAnd}
 use Rattle.rm_base.specs.Causes.{Rose}
 use Rattle.rm_base.specs.Files.{Files}
-use Rattle.rm_model.specs.Ranks.{first_without_rank}
-use Rattle.rm_model.specs.Value.{Equivalent}
 use Rattle.rm_model.specs.Words.{Word}
 use Rattle.rm_model.specs.declared.parts.Model.{Model}
 use Rattle.cover_decompose.specs.Count.{decomposed}
@@ -15,9 +13,7 @@ use Rattle.journal_audit.specs.declared.problem.AuditProblem.TheVariants as audi
 use Rattle.rambo_cli.specs.Composition.{PassedAuditsTell}
 use Rattle.rambo_cli.specs.Outcome.{Audited, HasPassed, Holds}
 use Rattle.rambo_cli.specs.Problems.{CheckCause, audit_problem}
-use Rattle.rambo_cli.specs.Written.{IsSaid, IsUsable, most_pins}
-use Rattle.rambo_cli.specs.declared.problem.Problem.{Problem}
-use Rattle.rambo_cli.specs.declared.problem.Problem.TheVariants.{Missing}
+use Rattle.rambo_cli.specs.Written.{IsSaid, IsUsable}
 
 -- an error that is handed on
 pub handed_on : {V E : Type 0} (r : Result V E) (e : E) (P : E → Type 0) → IsErrAnd r (λ q. q ≡ e) → P e → IfErr r P

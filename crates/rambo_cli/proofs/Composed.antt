@@ -1,5 +1,5 @@
 -- A net that keeps what is observed of a model's decomposition, and the text of its model.
-use Rattle.std.proofs.Common.{◌≡◌, ◌≤◌, ◌<◌, ◌+◌, ◌-◌, ℕ, zero, suc, Bool, false, List, [], ◌∷◌, map, length, refl, sym, ◌∙◌, ap, arith}
+use Rattle.std.proofs.Common.{◌≡◌, ◌<◌, ◌+◌, ◌-◌, ℕ, zero, suc, Bool, false, List, [], ◌∷◌, map, length, refl, sym, ◌∙◌, ap, arith}
 use Rattle.std.specs.Prelude.{Some, slice_get, unwrap_or}
 use Rattle.std.proofs.lemmas.Option.{slice_get_within}
 use Rattle.rm_model.specs.Words.{Word}

@@ -8,3 +8,4 @@ pub mod Rising
 pub mod Auditing
 pub mod Writing
 pub mod Wanting
+pub mod Limited

@@ -1,9 +1,8 @@
 -- What a read of one byte more than a text may have says of the file.
-use Rattle.std.proofs.Common.{◌≡◌, ◌≤◌, ◌<◌, ◌+◌, ℕ, List, take, length, refl, sym, ◌∙◌, ◌⊎◌, subst, ap, arith, inl, inr, Result, Ok, Err, length-take}
+use Rattle.std.proofs.Common.{◌≡◌, ◌≤◌, ◌<◌, ◌+◌, ℕ, List, take, length, refl, sym, subst, arith, inl, inr, Result, Ok, Err, length-take}
 use Rattle.std.specs.Prelude.{Option, None, Some, IfErr, IfOk, IfSome, IsSomeAnd}
-use Rattle.std.specs.Option.{option_map}
 use Rattle.std.proofs.lemmas.List.{take_all}
-use Rattle.rm_base.specs.Files.{Files, file_of, put_file}
+use Rattle.rm_base.specs.Files.{Files, file_of}
 use Rattle.rm_base.specs.declared.numbers.Place.{Place}
 use Rattle.rm_model.specs.Words.{Word}
 use Rattle.blif_format.specs.declared.refusal.FaultKind.{FaultKind}

@@ -1,5 +1,5 @@
 -- Sources and constants are no gates.
-use Rattle.std.proofs.Common.{◌≡◌, ◌<◌, ◌+◌, ℕ, zero, suc, Bool, false, refl, subst, arith}
+use Rattle.std.proofs.Common.{◌≡◌, ◌<◌, ◌+◌, ℕ, zero, suc, false, refl, subst, arith}
 use Rattle.gate_net.specs.declared.Kind.TheVariants.{Source}
 use Rattle.gate_net.specs.Net.{Net, node_at, IsWellFormed, plain_node, source_count}
 use Rattle.wire_edit.specs.Tests.{is_gate}

@@ -4,7 +4,6 @@ use Rattle.std.specs.Prelude.{Option, None, Some, IfSome, IsSome, IsSomeAnd}
 use Rattle.rm_base.specs.Causes.{Rose}
 use Rattle.rm_base.specs.Files.{Files}
 use Rattle.rm_base.specs.declared.numbers.Place.{Place}
-use Rattle.rm_model.specs.Words.{Word}
 use Rattle.blif_format.specs.declared.refusal.FaultKind.{FaultKind}
 use Rattle.blif_format.specs.declared.refusal.Quantity.{Quantity}
 use Rattle.blif_format.specs.declared.refusal.Quantity.TheVariants as quantity
@@ -14,9 +13,10 @@ use Rattle.journal_audit.specs.declared.problem.AuditProblem.TheVariants as audi
 use Rattle.journal_check.specs.declared.refusal.JournalRefusal.{JournalRefusal}
 use Rattle.journal_text.specs.declared.faults.JournalFault.{JournalFault}
 use Rattle.word_reading.specs.Words.{Asked, opt, check, demo}
+use Rattle.rambo_cli.specs.declared.work.Done.{Done}
 use Rattle.rambo_cli.specs.declared.problem.Problem.{Problem}
 use Rattle.rambo_cli.specs.declared.problem.Problem.TheVariants.{Words, Text, Limit, Missing, Fault, Journal, Record, Netlist, Memory}
-use Rattle.rambo_cli.specs.Problems.{IsCause, IsReported, audit_problem, status_of, line_of}
+use Rattle.rambo_cli.specs.Problems.{HasEnded, IsCause, IsReported, PutsUnlessFailed, audit_problem, done_text, status_of, line_of}
 use Rattle.rambo_cli.specs.Written.{HasFault, Exceeds}
 use Rattle.rambo_cli.specs.Outcome.{Audited, EndsFaulty, EndsOver, EndsRejected, EndsUnread, Finds, IsMissing, OfInput, Puts}
 
@@ -222,5 +222,41 @@ faulty_with Memory words files m n k l e h = absurd (omega (arith, e))
 pub faulty : (problem : Problem) (status : ℕ) (words : Option Asked) (files : Option Files) (m n : ℕ) (before after : Option (List ℕ)) (k l : ℕ) → IsReported problem status before after k l → IsCause words files m n problem → status ≡ 3 → EndsFaulty words files m n k l
 faulty problem status words files m n before after k l r h e = elim r [
   | inl told ↦ faulty_with problem words files m n k l (sym told.0 ∙ e) h
-  | inr other ↦ elim other [ inl failed ↦ inr (inl failed.1) | inr spent ↦ absurd (omega (arith, spent.0, e)) ]
+  | inr other ↦ elim other [ inl failed ↦ inr (inl failed.1.0) | inr spent ↦ absurd (omega (arith, spent.0, e)) ]
+]
+
+-- what is put with status 3
+line_with : (problem : Problem) (old new : Option (List ℕ)) (k l : ℕ) → status_of problem ≡ 3 → Puts old new (line_of problem) → PutsUnlessFailed old new k l
+line_with Words old new k l e put = absurd (omega (arith, e))
+line_with (Text kind place) old new k l e put = absurd (omega (arith, e))
+line_with (Limit q count) old new k l e put = absurd (omega (arith, e))
+line_with Missing old new k l e put = inl put
+line_with Fault old new k l e put = inl put
+line_with (Journal f) old new k l e put = absurd (omega (arith, e))
+line_with (Record r) old new k l e put = absurd (omega (arith, e))
+line_with (Netlist byte) old new k l e put = absurd (omega (arith, e))
+line_with Memory old new k l e put = absurd (omega (arith, e))
+
+pub reported_line : (problem : Problem) (status : ℕ) (old new : Option (List ℕ)) (k l : ℕ) → IsReported problem status old new k l → status ≡ 3 → PutsUnlessFailed old new k l
+reported_line problem status old new k l r e = elim r [
+  | inl told ↦ line_with problem old new k l (sym told.0 ∙ e) told.1
+  | inr other ↦ elim other [
+    | inl failed ↦ elim failed.1.1 [
+      | inl own ↦ inr (failed.1.0, (line_of problem, (inr (problem, refl), own)))
+      | inr memory ↦ inr (failed.1.0, (line_of Memory, (inr (Memory, refl), memory)))
+    ]
+    | inr spent ↦ absurd (omega (arith, spent.0, e))
+  ]
+]
+
+pub ended_line : (done : Done) (status : ℕ) (old new : Option (List ℕ)) (k l : ℕ) → HasEnded (done_text done) status old new k l → status ≡ 3 → PutsUnlessFailed old new k l
+ended_line done status old new k l h e = elim h [
+  | inl told ↦ absurd (omega (arith, told.0, e))
+  | inr other ↦ elim other [
+    | inl failed ↦ elim failed.1.1 [
+      | inl own ↦ inr (failed.1.0, (done_text done, (inl (done, refl), own)))
+      | inr memory ↦ inr (failed.1.0, (line_of Memory, (inr (Memory, refl), memory)))
+    ]
+    | inr spent ↦ absurd (omega (arith, spent.0, e))
+  ]
 ]

@@ -1,5 +1,5 @@
 -- Each fault of the written model has its record.
-use Rattle.std.proofs.Common.{◌≡◌, ℕ, zero, suc, ◌<◌, Bool, Option, Some, None, List, [], ◌∷◌, length, refl, sym, ◌∙◌, ap, subst}
+use Rattle.std.proofs.Common.{◌≡◌, ℕ, zero, suc, Bool, Some, List, [], ◌∷◌, refl, sym, ◌∙◌, ap, subst}
 use Rattle.std.specs.Prelude.{slice_get}
 use Rattle.rm_base.specs.declared.numbers.Fault.{Fault}
 use Rattle.rm_model.specs.declared.parts.Cover.{Cover}
@@ -14,7 +14,7 @@ use Rattle.journal_text.specs.declared.record.Record.{Record}
 use Rattle.journal_text.specs.declared.record.Record.TheVariants.{Step, Hit, Spent}
 use Rattle.journal_check.specs.Verdicts.{SettleAll, Settles}
 use Rattle.optimisation.specs.Tests.{AreSearched}
-use Rattle.rambo_cli.specs.Headline.{Answers, AreTested, IsTested}
+use Rattle.rambo_cli.specs.Headline.{Answers, AreTested}
 
 -- the record at a fault's place settles it
 settled_at : (net : Net) (budget : ℕ) (faults : List Fault) (records : List Record) → SettleAll net budget faults records → (j : ℕ) (fault : Fault) → slice_get faults j ≡ Some fault

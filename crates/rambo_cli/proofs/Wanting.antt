@@ -1,5 +1,5 @@
 -- A halt over a small model on a sure shelf is want of memory.
-use Rattle.std.proofs.Common.{◌≡◌, ℕ, ◌≤◌, ◌+◌, arith, refl}
+use Rattle.std.proofs.Common.{◌≡◌, ℕ, arith, refl}
 use Rattle.rm_base.specs.Causes.{Rose}
 use Rattle.optimisation.specs.declared.halt.Halt.{Halt}
 use Rattle.optimisation.specs.declared.halt.Halt.TheVariants as halt

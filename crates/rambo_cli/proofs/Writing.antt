@@ -10,18 +10,17 @@ use Rattle.rm_model.specs.declared.parts.Model.{Model}
 use Rattle.gate_net.specs.Net.{Net}
 use Rattle.blif_format.specs.Text.{text_of}
 use Rattle.cover_decompose.specs.Count.{decomposed}
-use Rattle.cover_decompose.specs.Decomposition.{net_of_model}
 use Rattle.graph_to_model.specs.NetModel.{model_of_net}
 use Rattle.graph_to_model.specs.Laws.{AreFew}
 use Rattle.journal_check.specs.Accepts.{IsAccepted}
 use Rattle.journal_text.specs.Text.{journal_text}
-use Rattle.optimisation.specs.Begun.{BeginsWhole, HasBegun}
+use Rattle.optimisation.specs.Begun.{BeginsWhole}
 use Rattle.optimisation.specs.Whole.{IsWhole}
 use Rattle.optimisation.specs.declared.optimised.Figures.{Figures}
 use Rattle.rambo_cli.specs.Composition.{IsDecomposed, RunsAreWritten}
 use Rattle.rambo_cli.specs.Files.{BeginsFile}
 use Rattle.rambo_cli.specs.Headline.{IsOptimisedInto}
-use Rattle.rambo_cli.specs.Outcome.{BeginsOutput, BeginsToWriteFor, HasWritten, IfTold}
+use Rattle.rambo_cli.specs.Outcome.{BeginsToWriteFor, HasWritten, IfTold}
 use Rattle.rambo_cli.specs.Written.{IsUsable}
 
 told : (P : Files → Files → Type 0) (f : Files → Files) (old new : Option Files) → new ≡ option_map f old → ((files : Files) → P files (f files)) → IfTold old new P
@@ -41,18 +40,18 @@ whole_begun m settings net figures old new output journal w =
     told (BeginsToWriteFor m output journal settings) (put_file journal text) old new w.written (λ files. inr (inl (text, (inr begun, refl))))
 
 -- what a whole run is written into
-optimised_into : (written : RunsAreWritten) (m : Model) (settings : Settings) (net : Net) (figures : Figures) (old new : Option Files) (journal : Word) (text : List ℕ) → IsUsable m → IsDecomposed m → AreFew net m
+optimised_into : (written : RunsAreWritten) (m : Model) (settings : Settings) (net : Net) (figures : Figures) (old new : Option Files) (journal : Word) (text : List ℕ) → IsUsable m → IsDecomposed m → AreFew net m → decomposed m ≤ 65536
     → (w : IsWhole m settings net figures old new journal) → text ≡ text_of (model_of_net m net) → IsOptimisedInto m settings figures (journal_text settings.budget (w.steps ++ w.verdicts)) text
-optimised_into written m settings net figures old new journal text usable parts few w e =
+optimised_into written m settings net figures old new journal text usable parts few most w e =
     subst (λ (t : List ℕ). IsOptimisedInto m settings figures (journal_text settings.budget (w.steps ++ w.verdicts)) t) (sym e)
-    (written m settings net w.steps w.verdicts figures usable.formed usable.ranked parts few w.over)
+    (written m settings net w.steps w.verdicts figures usable.formed usable.ranked parts few usable.limits most w.over)
 
 -- the whole journal, and the output as it was or a beginning of it
-pub output_begun : (written : RunsAreWritten) (m : Model) (settings : Settings) (net : Net) (figures : Figures) (old mid new : Option Files) (output journal : Word) (text : List ℕ) → IsUsable m → IsDecomposed m → AreFew net m
+pub output_begun : (written : RunsAreWritten) (m : Model) (settings : Settings) (net : Net) (figures : Figures) (old mid new : Option Files) (output journal : Word) (text : List ℕ) → IsUsable m → IsDecomposed m → AreFew net m → decomposed m ≤ 65536
     → IsWhole m settings net figures old mid journal → text ≡ text_of (model_of_net m net) → BeginsFile output text mid new → IfTold old new (BeginsToWriteFor m output journal settings)
-output_begun written m settings net figures old mid new output journal text usable parts few w e begun =
+output_begun written m settings net figures old mid new output journal text usable parts few most w e begun =
     let recorded : List ℕ = journal_text settings.budget (w.steps ++ w.verdicts) in
-    let result : IsOptimisedInto m settings figures recorded text = optimised_into written m settings net figures old mid journal text usable parts few w e in
+    let result : IsOptimisedInto m settings figures recorded text = optimised_into written m settings net figures old mid journal text usable parts few most w e in
     elim begun [
       | inl same ↦ told (BeginsToWriteFor m output journal settings) (put_file journal recorded) old new (same ∙ w.written)
           (λ files. inr (inr (record { figures = figures; recorded = recorded; written = text; result = result; files = inl refl })))
@@ -66,4 +65,4 @@ pub output_written : (written : RunsAreWritten) (m : Model) (settings : Settings
 output_written written m settings net figures old mid new output journal text usable parts few within w e done =
     let recorded : List ℕ = journal_text settings.budget (w.steps ++ w.verdicts) in
     told_then (HasWritten m output journal settings figures) (put_file journal recorded) (put_file output text) old mid new w.written done
-    (λ files. record { few = within; recorded = recorded; written = text; result = optimised_into written m settings net figures old mid journal text usable parts few w e; files = refl })
+    (λ files. record { few = within; recorded = recorded; written = text; result = optimised_into written m settings net figures old mid journal text usable parts few within w e; files = refl })

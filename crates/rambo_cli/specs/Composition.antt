@@ -1,5 +1,5 @@
 -- How the layers compose: from a run over a model to the text that is written for it.
-use Rattle.std.specs.Prelude.{◌≡◌, ◌++◌, ℕ, List, None}
+use Rattle.std.specs.Prelude.{◌≡◌, ◌≤◌, ◌++◌, ℕ, List, None}
 use Rattle.rm_base.specs.Files.{Files}
 use Rattle.rm_model.specs.Ranks.{first_without_rank}
 use Rattle.rm_model.specs.Words.{Word}
@@ -10,6 +10,7 @@ use Rattle.rm_model.specs.WellFormed.{IsWellFormed as IsModel}
 use Rattle.rm_model.specs.declared.parts.Model.{Model}
 use Rattle.gate_net.specs.Net.{Net, IsWellFormed, wire_count}
 use Rattle.blif_format.specs.Text.{text_of}
+use Rattle.blif_reader.specs.Limits.{IsWithinLimits}
 use Rattle.cover_decompose.specs.Decomposition.{net_of_model}
 use Rattle.cover_decompose.specs.Count.{decomposed}
 use Rattle.cover_decompose.specs.StandsFor.{StandsFor, HasPoints}
@@ -22,6 +23,7 @@ use Rattle.journal_text.specs.declared.record.Record.{Record}
 use Rattle.optimisation.specs.Whole.{IsRunOver}
 use Rattle.optimisation.specs.declared.optimised.Figures.{Figures}
 use Rattle.rambo_cli.specs.Headline.{IsOptimisedInto}
+use Rattle.rambo_cli.specs.Written.{most_pins}
 
 -- what holds of the decomposition of a model
 pub record IsDecomposed (m : Model) : Type 0 where
@@ -37,8 +39,8 @@ KeptNetsFit = (m : Model) (last : Net) → IsDecomposed m → Keeps (net_of_mode
 -- the journal and the text of the last net of a run over a model are what the headline says
 abbrev pub RunsAreWritten : Type 0
 RunsAreWritten =
-    (m : Model) (settings : Settings) (net : Net) (steps verdicts : List Record) (figures : Figures) → IsModel m → IsRanked m → IsDecomposed m → AreFew net m
-    → IsRunOver m settings net steps verdicts figures
+    (m : Model) (settings : Settings) (net : Net) (steps verdicts : List Record) (figures : Figures) → IsModel m → IsRanked m → IsDecomposed m → AreFew net m → IsWithinLimits m
+    → decomposed m ≤ most_pins → IsRunOver m settings net steps verdicts figures
     → IsOptimisedInto m settings figures (journal_text settings.budget (steps ++ verdicts)) (text_of (model_of_net m net))
 
 -- an output that passes the audit is the text of a model with the original's outputs and latch pins

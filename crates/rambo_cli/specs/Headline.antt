@@ -14,7 +14,6 @@ use Rattle.blif_lines.specs.Layout.{lines_of}
 use Rattle.blif_format.specs.Grammar.{Reads}
 use Rattle.blif_format.specs.Text.{text_of}
 use Rattle.blif_format.specs.FirstFault.{first_fault}
-use Rattle.blif_format.specs.Laws.{IsAtMostLimit}
 use Rattle.cover_decompose.specs.Count.{decomposed}
 use Rattle.cover_decompose.specs.Decomposition.{net_of_model}
 use Rattle.graph_to_model.specs.NetModel.{model_of_net}
@@ -70,7 +69,7 @@ pub record IsOptimisedInto (m : Model) (settings : Settings) (figures : Figures)
   pub spelled : output ≡ text_of (model_of_net m net)
   pub of_the_grammar : Reads (lines_of output) (model_of_net m net)
   pub acyclic : IsRanked (model_of_net m net)
-  pub faultless : IsAtMostLimit (first_fault output)
+  pub faultless : first_fault output ≡ None
   -- that for every assignment gives the original's outputs and latch pins
   pub same_function : Equivalent m (model_of_net m net)
   -- with no more gate-input wires than the decomposition

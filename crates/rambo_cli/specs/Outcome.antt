@@ -123,10 +123,6 @@ abbrev pub EndsFaulty : Option Asked → Option Files → ℕ → ℕ → ℕ �
 EndsFaulty words files shelf_before shelf_after sink_before sink_after =
     Rose shelf_before shelf_after ⊎ (Rose sink_before sink_after ⊎ IsMissing words files)
 
--- the line of a fault of the shelf is put, unless the sink has failed
-abbrev pub PutsUnlessFailed : Option (List ℕ) → Option (List ℕ) → ℕ → ℕ → Type 0
-PutsUnlessFailed before after sink_before sink_after = Puts before after shelf_line ⊎ Rose sink_before sink_after
-
 -- 4: the line is put, if there is memory for it
 abbrev pub EndsWithoutMemory : Option (List ℕ) → Option (List ℕ) → Type 0
 EndsWithoutMemory before after = Puts before after memory_line ⊎ (after ≡ before)

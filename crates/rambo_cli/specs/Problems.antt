@@ -1,8 +1,8 @@
 -- What keeps a run from ending with 0.
-use Rattle.std.specs.Prelude.{◌≡◌, ◌⊎◌, ◌++◌, ◌<◌, ℕ, List, Option, None, Some, IfSome, IsSome, IsSomeAnd}
+use Rattle.std.specs.Prelude.{◌≡◌, ◌⊎◌, ◌++◌, ◌<◌, ℕ, List, Option, None, Some, IfSome, IsSome, take}
 use Rattle.std.specs.Option.{option_map}
 use Rattle.rm_base.specs.Causes.{Rose}
-use Rattle.rm_base.specs.Files.{Files, file_of}
+use Rattle.rm_base.specs.Files.{Files}
 use Rattle.rm_base.specs.declared.outside.OutsideFault.{OutsideFault}
 use Rattle.rm_base.specs.declared.outside.OutsideFault.TheVariants.{Failed, NoMemory as OutsideNoMemory}
 use Rattle.rm_model.specs.Words.{Word}
@@ -79,16 +79,22 @@ line_of (Record r) = refusal_line r
 line_of (Netlist byte) = netlist_line byte
 line_of Memory = memory_line
 
--- the line is put and the status answered, or the sink failed, or memory ran out and nothing is put
+-- a beginning of the line is put
+abbrev pub BeginsLine : List ℕ → Option (List ℕ) → Option (List ℕ) → Type 0
+BeginsLine line old new = (k : ℕ) × (new ≡ option_map (λ w. w ++ take k line) old)
+
+-- the line is put and the status answered; or the sink failed, and a beginning of the line is put; or memory ran out and nothing is put
 abbrev pub IsPutWith : ℕ → ℕ → List ℕ → Option (List ℕ) → Option (List ℕ) → ℕ → ℕ → Type 0
 IsPutWith wanted status line old new before now =
-    ((status ≡ wanted) × (new ≡ option_map (λ w. w ++ line) old)) ⊎ (((status ≡ 3) × Rose before now) ⊎ ((status ≡ 4) × (new ≡ old)))
+    ((status ≡ wanted) × (new ≡ option_map (λ w. w ++ line) old))
+    ⊎ (((status ≡ 3) × (Rose before now × BeginsLine line old new)) ⊎ ((status ≡ 4) × (new ≡ old)))
 
--- the line of the problem is put and its status answered, or the sink failed, or memory ran out
+-- the line of the problem is put and its status answered; or the sink failed, at that line or at the one on memory; or memory ran out
 abbrev pub IsReported : Problem → ℕ → Option (List ℕ) → Option (List ℕ) → ℕ → ℕ → Type 0
 IsReported problem status old new before now =
     ((status ≡ status_of problem) × (new ≡ option_map (λ w. w ++ line_of problem) old))
-    ⊎ (((status ≡ 3) × Rose before now) ⊎ ((status ≡ 4) × ((new ≡ option_map (λ w. w ++ memory_line) old) ⊎ (new ≡ old))))
+    ⊎ (((status ≡ 3) × (Rose before now × (BeginsLine (line_of problem) old new ⊎ BeginsLine memory_line old new)))
+    ⊎ ((status ≡ 4) × ((new ≡ option_map (λ w. w ++ memory_line) old) ⊎ (new ≡ old))))
 
 -- a problem of the outside alone
 abbrev pub IsOutside : Problem → Type 0
@@ -163,8 +169,17 @@ abbrev pub done_text : Done → List ℕ
 done_text (Optimised figures) = summary_text figures
 done_text (Accepted count) = accepted_line count
 
--- the text is put, or the sink failed, or memory ran out
+-- the text is put; or the sink failed, at that text or at the line on memory; or memory ran out
 abbrev pub HasEnded : List ℕ → ℕ → Option (List ℕ) → Option (List ℕ) → ℕ → ℕ → Type 0
 HasEnded text status old new before now =
     ((status ≡ 0) × (new ≡ option_map (λ w. w ++ text) old))
-    ⊎ (((status ≡ 3) × Rose before now) ⊎ ((status ≡ 4) × ((new ≡ option_map (λ w. w ++ memory_line) old) ⊎ (new ≡ old))))
+    ⊎ (((status ≡ 3) × (Rose before now × (BeginsLine text old new ⊎ BeginsLine memory_line old new))) ⊎ ((status ≡ 4) × ((new ≡ option_map (λ w. w ++ memory_line) old) ⊎ (new ≡ old))))
+
+-- what a run may put: the text of what is done, or the line of what kept it from that
+abbrev pub MayPut : List ℕ → Type 0
+MayPut line = ((done : Done) × (line ≡ done_text done)) ⊎ ((problem : Problem) × (line ≡ line_of problem))
+
+-- the line of a fault of the shelf is put; or the sink has failed, and has a beginning of what a run may put behind what it had
+abbrev pub PutsUnlessFailed : Option (List ℕ) → Option (List ℕ) → ℕ → ℕ → Type 0
+PutsUnlessFailed old new before now =
+    (new ≡ option_map (λ w. w ++ shelf_line) old) ⊎ (Rose before now × ((line : List ℕ) × (MayPut line × BeginsLine line old new)))

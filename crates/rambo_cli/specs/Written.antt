@@ -12,6 +12,7 @@ use Rattle.blif_format.specs.declared.refusal.FaultKind.{FaultKind}
 use Rattle.blif_format.specs.declared.refusal.Quantity.{Quantity}
 use Rattle.blif_format.specs.declared.refusal.Quantity.TheVariants.{Text, Pins}
 use Rattle.blif_format.specs.declared.refusal.ReadRefusal.TheVariants.{Fault, Limit}
+use Rattle.blif_reader.specs.Limits.{IsWithinLimits}
 use Rattle.cover_decompose.specs.Count.{decomposed}
 
 -- how long a text may be
@@ -36,6 +37,7 @@ pub record IsUsable (m : Model) : Type 0 where
   pub covers : length m.covers < 2 ^ 32
   pub sources : length (source_names m) ≤ 1024
   pub observed : length (observed_names m) ≤ 4096
+  pub limits : IsWithinLimits m
   pub fits : decomposed m < 2 ^ 64
 
 -- the first fault of the text

@@ -2,8 +2,8 @@
 ghost use Rattle.std.specs.Prelude.{◌≡◌, ◌≤◌, map};
 ghost use Rattle.std.specs.String.{string_bytes};
 ghost use Rattle.word_reading.specs.Words.{asked};
-ghost use Rattle.rambo_cli.specs.Outcome.{EndsDone, EndsUnread, EndsRefused, EndsFaulty, PutsUnlessFailed, EndsWithoutMemory, EndsOver, EndsRejected, EndsSafely};
-ghost use Rattle.rambo_cli.specs.Problems.{IsReported, IsPutWith, HasEnded, done_text};
+ghost use Rattle.rambo_cli.specs.Outcome.{EndsDone, EndsUnread, EndsRefused, EndsFaulty, EndsWithoutMemory, EndsOver, EndsRejected, EndsSafely};
+ghost use Rattle.rambo_cli.specs.Problems.{IsReported, IsPutWith, HasEnded, PutsUnlessFailed, done_text};
 
 use crate::lines::{done_line, line};
 use crate::problem::Problem;
@@ -41,7 +41,8 @@ pub fn run<R: Threads + Sync, S: Shelf, O: Sink, G: Gate>(
     ensures refused { result ≡ 2 → EndsRefused (asked (map string_bytes words.now)) (O.written out.old) (O.written out.new) }
     ensures refused_files { result ≡ 2 → S.files shelf.new ≡ S.files shelf.old }
 
-    // 3: a count of faults rose, or a file that is to be read is missing in its turn.
+    // 3: a count of faults rose, or a file that is to be read is missing in its turn. The line is put, or a beginning of it or of
+    // what else was to be put, where standard output itself failed.
     ensures faulty { result ≡ 3 → EndsFaulty (asked (map string_bytes words.now)) (S.files shelf.old)
         (S.faults shelf.old) (S.faults shelf.new) (O.faults out.old) (O.faults out.new) }
     ensures faulty_line { result ≡ 3 → PutsUnlessFailed (O.written out.old) (O.written out.new)

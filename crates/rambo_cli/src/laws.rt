@@ -1,10 +1,11 @@
 //! How the layers compose.
 ghost use Rattle.rambo_cli.specs.Composition.{KeptNetsFit, PassedAuditsTell, RunsAreWritten};
 
+use blif_reader::texts_keep_limits;
 use blif_writer::{read_texts_are_faultless, written_texts_read};
 use cover_decompose::{decompositions_are_formed, decompositions_stand};
 use gate_net::values_exist;
-use graph_to_model::tidy_nets_have_models;
+use graph_to_model::{tidy_nets_have_models, tidy_nets_have_small_models};
 use journal_check::accepted_journals_tell;
 use model_faults::laws::tidy_nets_have_model_faults;
 
@@ -22,8 +23,10 @@ pub fn runs_are_written()
     values_exist();
     tidy_nets_have_models();
     tidy_nets_have_model_faults();
+    tidy_nets_have_small_models();
     written_texts_read();
     read_texts_are_faultless();
+    texts_keep_limits();
 }
 
 /// An output that passes the audit is the text of a model that gives the outputs and the latch pins of the original.

@@ -11,6 +11,8 @@ mod problem;
 mod reading;
 mod showing;
 mod summary;
+#[cfg(test)]
+mod tests;
 mod work;
 
 pub use command::run;

@@ -8,7 +8,7 @@ ghost use Rattle.rambo_cli.specs.Written.{IsSaid, IsUsable};
 
 use crate::problem::Problem;
 use blif_format::Quantity;
-use blif_reader::read_model;
+use blif_reader::{read_model, texts_keep_limits};
 use cover_decompose::wires_are_bounded;
 use rm_base::Shelf;
 use rm_model::{Model, ranks_exist};
@@ -41,6 +41,7 @@ fn short_model(alloc: Global, text: &[u8]) -> Result<Model, Problem>
 {
     ranks_exist();
     wires_are_bounded();
+    texts_keep_limits();
     match read_model(alloc, text) {
         Ok(model) => Ok(model),
         Err(refusal) => Err(Problem::from(refusal)),

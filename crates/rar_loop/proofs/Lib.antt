@@ -14,3 +14,4 @@ pub mod Looping
 pub mod Streaming
 pub mod RunLaws
 pub mod WireFaults
+pub mod Filtering

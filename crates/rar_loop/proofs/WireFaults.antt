@@ -21,19 +21,17 @@ use Rattle.gate_net.proofs.Valuations.{values_unique}
 use Rattle.wire_edit.specs.Changes.{with_new_not}
 use Rattle.candidate_wires.specs.declared.candidate.Candidate.{Candidate}
 use Rattle.candidate_wires.specs.Gains.{least_free, net_for, wire_for, with_candidate}
+use Rattle.rar_loop.specs.Rows.{stuck}
 use Rattle.rar_loop.specs.Trying.{MayAdd}
 use Rattle.rar_loop.proofs.NewNots.{live_apart, least_dead, not_there, not_other}
 use Rattle.rar_loop.proofs.Adding.{gate_of, node_of, last_same}
-
-abbrev pub stuck_pin : ℕ → ℕ → Bool → Fault
-stuck_pin gate position value = record { gate = record { 0 = gate }; position = position; value = value }
 
 last_there : (ds : List ℕ) (d : ℕ) → slice_get (ds ++ d ∷ []) (length ds) ≡ Some d
 last_there [] d = refl
 last_there (x ∷ ds) d = last_there ds d
 
 -- THE WIRE'S PIN
-module _ (net : Net) (y z p d : ℕ) (c : Bool) (a v f : ℕ → Bool) (j : IsJunction net y c) (reads : Reads net y p d) (run : IsRun net (stuck_pin y p c) a v f) (value : f z ≡ c) where
+module _ (net : Net) (y z p d : ℕ) (c : Bool) (a v f : ℕ → Bool) (j : IsJunction net y c) (reads : Reads net y p d) (run : IsRun net (stuck y p c) a v f) (value : f z ≡ c) where
   abbrev after : Net
   after = with_pin net y z
 
@@ -48,8 +46,8 @@ module _ (net : Net) (y z p d : ℕ) (c : Bool) (a v f : ℕ → Bool) (j : IsJu
 
   at_gate : f y ≡ c
   at_gate =
-      value_at net a f y j.0 (faulty_reads net (stuck_pin y p c) (λ b. b) f y) j.1.0 (run.faulty y)
-      ∙ ap (gate_value j.0 (a y)) (reads_there net (stuck_pin y p c) (λ b. b) f)
+      value_at net a f y j.0 (faulty_reads net (stuck y p c) (λ b. b) f y) j.1.0 (run.faulty y)
+      ∙ ap (gate_value j.0 (a y)) (reads_there net (stuck y p c) (λ b. b) f)
       ∙ controlled j.0 c (a y) (slice_set (map f ds) p c) p j.1.1 (set_there (map f ds) p (f d) c (map_at f ds p d reads))
 
   wired : node_value (node_at after y) (a y) (map f (drivers_of after y)) ≡ c
@@ -60,7 +58,7 @@ module _ (net : Net) (y z p d : ℕ) (c : Bool) (a v f : ℕ → Bool) (j : IsJu
   wired_good : AreGoodValues after a f
   wired_good x = elim (eqb_tells x y) [
     | inl t ↦ rw t.1 (at_gate ∙ sym wired)
-    | inr t ↦ run.faulty x ∙ ap (node_value (node_at net x) (a x)) (reads_elsewhere net (stuck_pin y p c) (λ b. b) f x t.1)
+    | inr t ↦ run.faulty x ∙ ap (node_value (node_at net x) (a x)) (reads_elsewhere net (stuck y p c) (λ b. b) f x t.1)
         ∙ sym (ap (λ o. node_value o (a x) (map f (drivers_in o))) (node_at-other net y (ds ++ z ∷ []) x t.1))
   ]
 
@@ -143,7 +141,7 @@ module _ (net : Net) (x : ℕ) (well : IsWellFormed net) (live : IsLive net x) w
 
 -- A CANDIDATE
 pub wire_detected :
-    OutsideIsEqual → (net : Net) (c : Candidate) (may : MayAdd net c) (p d : ℕ) (a w : ℕ → Bool) → IsWellFormed net → Reads net c.gate.0 p d → Detects net (stuck_pin c.gate.0 p may.1.control) a → AreGoodValues net a w
+    OutsideIsEqual → (net : Net) (c : Candidate) (may : MayAdd net c) (p d : ℕ) (a w : ℕ → Bool) → IsWellFormed net → Reads net c.gate.0 p d → Detects net (stuck c.gate.0 p may.1.control) a → AreGoodValues net a w
     → w c.node.0 ≡ (if c.fresh then not may.1.control else may.1.control) → Detects (with_candidate net c) (last_pin net c.gate.0 (not may.1.control)) a
 wire_detected law net c may p d a w well reads (v, (f, (run, (o, (obs, ne))))) good is = at c.fresh refl is
   where
@@ -157,7 +155,7 @@ wire_detected law net c may p d a w well reads (v, (f, (run, (o, (obs, ne))))) g
     x = c.node.0
 
     same : f x ≡ w x
-    same = sym (law net (stuck_pin y p control) well.acyclic a v f run x may.1.apart may.1.unreached) ∙ values_unique net well.acyclic a v w run.good good x
+    same = sym (law net (stuck y p control) well.acyclic a v f run x may.1.apart may.1.unreached) ∙ values_unique net well.acyclic a v w run.good good x
 
     at : (fresh : Bool) → c.fresh ≡ fresh → w x ≡ (if fresh then not control else control) → Detects (with_candidate net c) (last_pin net y (not control)) a
     at false e value =
@@ -172,7 +170,7 @@ wire_detected law net c may p d a w well reads (v, (f, (run, (o, (obs, ne))))) g
         let gate : IsLive net y = gate_of net c may in
         let v' : ℕ → Bool = with_not_value net x v in
         let f' : ℕ → Bool = with_not_value net x f in
-        let r : IsRun m (stuck_pin y p control) a v' f' = not_run net x well live (stuck_pin y p control) gate a v f run in
+        let r : IsRun m (stuck y p control) a v' f' = not_run net x well live (stuck y p control) gate a v f run in
         let high : f' n ≡ control = value_at_new net x well live f ∙ ap not (same ∙ value) ∙ not_not control in
         let is_junction : IsJunction m y control = (may.1.junction.0, ((may.1.junction.1.0.0, not_other net x y (live_apart net y gate) ∙ may.1.junction.1.0.1), may.1.junction.1.1)) in
         let still : Reads m y p d = ap (λ q. slice_get (drivers_in q) p) (not_other net x y (live_apart net y gate)) ∙ reads in

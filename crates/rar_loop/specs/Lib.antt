@@ -7,3 +7,4 @@ pub mod Ended
 pub mod Improving
 pub mod Rounds
 pub mod Rows
+pub mod Kept

@@ -7,8 +7,11 @@ mod laws;
 mod optimising;
 mod refuting;
 mod sweeping;
+#[cfg(test)]
+mod tests;
 mod tidying;
 mod trying;
+mod vectors;
 mod walking;
 
 pub use laws::{run_begins, run_goes_on, worked_rows};

@@ -4,13 +4,17 @@ ghost use Rattle.gate_net.specs.Values.{HasPin};
 ghost use Rattle.gate_graph.specs.Circuit.{net_of, pins_taken, live_nodes};
 ghost use Rattle.wire_edit.specs.Order.{IsTidy};
 ghost use Rattle.candidate_wires.specs.Candidates.{AreCandidatesOf};
+ghost use Rattle.rar_loop.specs.Kept.{AreFor};
+ghost use Rattle.rar_loop.specs.Trying.{IsAttempt, MayTry};
 ghost use Rattle.rar_loop.specs.Walking.{IsTargetWalk, IsWalk};
 
 use crate::trying::{Attempt, try_pair};
+use crate::vectors::Vectors;
 use candidate_wires::{Candidate, Pair, candidates, targets};
 use gate_graph::Graph;
 use implications::{Closed, Engine};
 use journal_text::Record;
+use refutation::laws::closed_has_all;
 use rm_base::{Fault, NoMemory};
 use std::alloc::Global;
 
@@ -25,8 +29,8 @@ pub(crate) enum Walk {
     Gained { graph: Graph, records: Vec<Record> },
 }
 
-// The candidates of a target; none where its fault clashes.
-fn candidates_of(
+/// The candidates of a target; none where its fault clashes.
+pub(crate) fn candidates_of(
     alloc: Global,
     engine: &mut Engine,
     graph: &Graph,
@@ -46,10 +50,37 @@ fn candidates_of(
     }
 }
 
+// Tries a pair; without a trial where one of the vectors detects the fault of the wire's pin.
+fn try_unless_detected(
+    alloc: Global,
+    engine: &mut Engine,
+    vectors: &mut Vectors,
+    graph: Graph,
+    pair: &Pair,
+    depth: u8,
+) -> Result<Attempt, NoMemory>
+    requires tidy { IsTidy (net_of graph) }
+    requires pair { MayTry (net_of graph) pair.now }
+    requires few { pins_taken graph + live_nodes graph ≤ 1048576 }
+    requires numbers { min (length (net_of graph).nodes + 1) 4294967295 ≤ engine.old.numbers }
+    requires vectors { AreFor vectors.old (net_of graph) }
+    requires depth { depth ≤ 2 }
+    ensures attempt { IfOk result (IsAttempt graph pair.now depth) }
+    ensures numbers { OnOk result (engine.new.numbers ≡ engine.old.numbers) }
+    ensures vectors { AreFor vectors.new (net_of graph) }
+{
+    closed_has_all();
+    if vectors.detect_wire(&graph, &pair.candidate) {
+        return Ok(Attempt::Failed { graph });
+    }
+    try_pair(alloc, engine, graph, pair, depth)
+}
+
 // Tries the pairs of one target, with so many tries left.
 fn walk_target(
     alloc: Global,
     engine: &mut Engine,
+    vectors: &mut Vectors,
     graph: Graph,
     target: Fault,
     depth: u8,
@@ -59,9 +90,11 @@ fn walk_target(
     requires pin { HasPin (net_of graph) target }
     requires few { pins_taken graph + live_nodes graph ≤ 1048576 }
     requires numbers { min (length (net_of graph).nodes + 1) 4294967295 ≤ engine.old.numbers }
+    requires vectors { AreFor vectors.old (net_of graph) }
     requires depth { depth ≤ 2 }
     ensures walk { IfOk result (IsTargetWalk graph target depth left.old left.new) }
     ensures numbers { OnOk result (engine.new.numbers ≡ engine.old.numbers) }
+    ensures vectors { AreFor vectors.new (net_of graph) }
 {
     graph.well_formed();
     let found = candidates_of(alloc, engine, &graph, &target)?;
@@ -75,9 +108,46 @@ fn walk_target(
             return Ok(Walk::Spent { graph, at: pair });
         }
         *left -= 1;
-        match try_pair(alloc, engine, graph, &pair, depth)? {
+        match try_unless_detected(alloc, engine, vectors, graph, &pair, depth)? {
             Attempt::Failed { graph: same } => graph = same,
             Attempt::Gained {
+                graph: better,
+                records,
+            } => {
+                return Ok(Walk::Gained {
+                    graph: better,
+                    records,
+                });
+            }
+        }
+    }
+    Ok(Walk::Done { graph })
+}
+
+// Tries the pairs of all targets, in order, until one gains.
+fn walk_targets(
+    alloc: Global,
+    engine: &mut Engine,
+    vectors: &mut Vectors,
+    graph: Graph,
+    depth: u8,
+    left: &mut u32,
+) -> Result<Walk, NoMemory>
+    requires tidy { IsTidy (net_of graph) }
+    requires few { pins_taken graph + live_nodes graph ≤ 1048576 }
+    requires numbers { min (length (net_of graph).nodes + 1) 4294967295 ≤ engine.old.numbers }
+    requires vectors { AreFor vectors.old (net_of graph) }
+    requires depth { depth ≤ 2 }
+    ensures walk { IfOk result (IsWalk graph depth left.old left.new) }
+{
+    let faults = targets(alloc, &graph)?;
+    let mut graph = graph;
+    for place in 0..faults.len() {
+        let target = faults[place];
+        match walk_target(alloc, engine, vectors, graph, target, depth, left)? {
+            Walk::Done { graph: same } => graph = same,
+            Walk::Spent { graph: same, at } => return Ok(Walk::Spent { graph: same, at }),
+            Walk::Gained {
                 graph: better,
                 records,
             } => {
@@ -104,23 +174,6 @@ pub(crate) fn walk_pairs(
     ensures walk { IfOk result (IsWalk graph depth left.old left.new) }
 {
     let mut engine = Engine::for_numbers(alloc, graph.node_bound().saturating_add(1))?;
-    let faults = targets(alloc, &graph)?;
-    let mut graph = graph;
-    for place in 0..faults.len() {
-        let target = faults[place];
-        match walk_target(alloc, &mut engine, graph, target, depth, left)? {
-            Walk::Done { graph: same } => graph = same,
-            Walk::Spent { graph: same, at } => return Ok(Walk::Spent { graph: same, at }),
-            Walk::Gained {
-                graph: better,
-                records,
-            } => {
-                return Ok(Walk::Gained {
-                    graph: better,
-                    records,
-                });
-            }
-        }
-    }
-    Ok(Walk::Done { graph })
+    let mut vectors = Vectors::drawn(alloc, &graph)?;
+    walk_targets(alloc, &mut engine, &mut vectors, graph, depth, left)
 }

@@ -20,6 +20,7 @@ use crate::watch::Watch;
 use gate_graph::Graph;
 use implications::{Closed, Engine};
 use refutation::{FactSet, Tree, TreeBuilder};
+use refutation_check::shortened;
 use rm_base::{Fault, NoMemory, NodeId};
 use std::alloc::Global;
 
@@ -161,10 +162,8 @@ fn refute_open(
     Ok(Closed::Clash(tree))
 }
 
-/// Refutes a stuck pin by learning to the depth. `Clash` comes exactly where no set of facts without opposed facts is
-/// closed at that depth, and its tree is made again from the start, as an `Open` keeps no lines; `Open` has the least
-/// such set. It looks for a clash at the smaller depths first. The engine's lines are then those of some call on the way.
-pub fn refute(
+// Refutes a stuck pin, with a tree that has all lines that were taken.
+fn refute_whole(
     alloc: Global,
     engine: &mut Engine,
     graph: &Graph,
@@ -186,5 +185,33 @@ pub fn refute(
             let answer = refute_open(alloc, engine, graph, fault, depth, facts)?;
             Ok(answer)
         }
+    }
+}
+
+/// Refutes a stuck pin by learning to the depth. `Clash` comes exactly where no set of facts without opposed facts is
+/// closed at that depth, and its tree is made again from the start, as an `Open` keeps no lines; what its ends don't rest
+/// on is left out of it. `Open` has the least such set. It looks for a clash at the smaller depths first. The engine's
+/// lines are then those of some call on the way.
+pub fn refute(
+    alloc: Global,
+    engine: &mut Engine,
+    graph: &Graph,
+    fault: &Fault,
+    depth: u8,
+) -> Result<Closed, NoMemory>
+    requires pin { HasPin (net_of graph.now) fault.now }
+    requires numbers { length (net_of graph.now).nodes ≤ engine.old.numbers }
+    requires depth { depth ≤ 2 }
+    ensures refuting { IfOk result (IsRefuting (net_of graph.now) fault.now depth) }
+    ensures exact { IfOk result (λ c. IsClash c ↔ LeadsToClash (net_of graph.now) fault.now depth none_held) }
+    ensures numbers { OnOk result (engine.new.numbers ≡ engine.old.numbers) }
+    ensures trail { OnOk result (length engine.new.trail ≡ length engine.old.trail) }
+{
+    match refute_whole(alloc, engine, graph, fault, depth)? {
+        Closed::Clash(tree) => {
+            let short = shortened(alloc, graph, fault, tree)?;
+            Ok(Closed::Clash(short))
+        }
+        Closed::Open(facts) => Ok(Closed::Open(facts)),
     }
 }

@@ -1,16 +1,20 @@
 //! The checker of refutation trees: a tree is accepted exactly where it is one, and else its first wrong item is named.
 #![tactic(auto)]
 
+mod account;
 mod branches;
 mod check;
 mod forward;
 pub mod laws;
+mod premises;
 mod reading;
 mod refusals;
 mod shape;
+mod shorten;
 #[cfg(test)]
 mod tests;
 mod trail;
 
 pub use check::check_tree;
 pub use refusals::CheckRefusal;
+pub use shorten::shortened;

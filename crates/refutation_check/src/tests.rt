@@ -4,7 +4,7 @@ ghost use Rattle.gate_net.specs.Net.{IsGateKind};
 ghost use Rattle.gate_net.specs.declared.Kind.TheVariants.{Not};
 ghost use Rattle.gate_graph.specs.Circuit.{live_nodes, pins_taken};
 
-use crate::{CheckRefusal, check_tree};
+use crate::{CheckRefusal, check_tree, shortened};
 use gate_graph::Graph;
 use gate_net::Kind;
 use refutation::{Form, Item, Line, Shape, Tree, TreeBuilder};
@@ -279,6 +279,64 @@ fn trees_on_four_gates(rt: HostRuntime) -> Result<(), Fail> {
     let graph = four_gates(rt.alloc())?.ok_or("gates")?;
     for at in 0..ON_FOUR_GATES.len() {
         let right = holds(rt.alloc(), &graph, &ON_FOUR_GATES[at])?;
+        assert!(rt; right, "at case {at}");
+    }
+    Ok(())
+}
+
+// A fault, a tree, and what is left of it.
+#[derive(Clone, Copy)]
+struct Shorter {
+    fault: (u32, u32, bool),
+    items: &'static [Item],
+    left: &'static [Item],
+}
+
+macro_rules! left {
+    ($fault:ident [$($word:ident $($number:literal)*),*] [$($kept:ident $($of:literal)*),*]) => {
+        Shorter {
+            fault: $fault,
+            items: &[$(item!($word $($number)*)),*],
+            left: &[$(item!($kept $($of)*)),*],
+        }
+    };
+}
+
+const SHORTER: [Shorter; 8] = [
+    // All lines that can be taken, and those behind the two opposed facts.
+    left!(NEW_PIN [a, s, o 2, o 3, o 4, o 5, o 6, o 7, o 8, q 2, g 6, q 6, g 7, q 7, g 8, q 8, i 9 0, clash 8]
+        [a, g 6, g 7, g 8, s, o 8, i 9 0, clash 8]),
+    left!(OLD_PIN [a, s, h 8, h 9, o 2, i 9 2, clash 2] [a, h 9, o 2, i 9 2, clash 2]),
+    // A split whose second branch doesn't rest on it, one whose first branch doesn't, and one on which both rest.
+    left!(NEW_PIN [a, g 6, g 7, g 8, s, o 8, i 9 0, zero 3, clash 8, clash 8] [a, g 6, g 7, g 8, s, o 8, i 9 0, clash 8]),
+    left!(NEW_PIN [one 5, a, g 6, g 7, g 8, s, o 8, i 9 0, clash 8, quiet] [a, g 6, g 7, g 8, s, o 8, i 9 0, clash 8]),
+    left!(OLD_PIN [one 2, quiet, s, h 8, h 9, o 2, i 9 2, clash 2] [one 2, quiet, h 9, o 2, i 9 2, clash 2]),
+    // What isn't accepted stays as it is.
+    left!(OLD_PIN [a, s, h 8, o 2, clash 2] [a, s, h 8, o 2, clash 2]),
+    left!(OLD_PIN [a, s, h 8, h 9, o 2, i 9 2, clash 2, g 99] [a, s, h 8, h 9, o 2, i 9 2, clash 2, g 99]),
+    left!(NEW_PIN [s, zero 3, h 8, here, untried] [s, zero 3, h 8, here, untried]),
+];
+
+// Whether that is left of the tree.
+fn is_left(alloc: Global, graph: &Graph, case: &Shorter) -> Result<bool, NoMemory> {
+    let fault = Fault {
+        gate: NodeId(case.fault.0),
+        position: case.fault.1,
+        value: case.fault.2,
+    };
+    let Some(_) = graph.driver(fault.gate, fault.position) else {
+        return Ok(false);
+    };
+    let tree = tree_of(alloc, case.items)?;
+    let short = shortened(alloc, graph, &fault, tree)?;
+    Ok(short.items() == case.left)
+}
+
+#[test]
+fn trees_are_shortened(rt: HostRuntime) -> Result<(), Fail> {
+    let graph = four_gates(rt.alloc())?.ok_or("gates")?;
+    for at in 0..SHORTER.len() {
+        let right = is_left(rt.alloc(), &graph, &SHORTER[at])?;
         assert!(rt; right, "at case {at}");
     }
     Ok(())

@@ -24,6 +24,15 @@ const SHARED: [Gate; 4] = [
     Gate::And(8, 5),
 ];
 
+// (a b + a c) d a, of the same. That the last pin is stuck at 1 is refuted by lines alone.
+const WIRE_ADDED: [Gate; 5] = [
+    Gate::And(2, 3),
+    Gate::And(2, 4),
+    Gate::Or(6, 7),
+    Gate::And(8, 5),
+    Gate::And(9, 2),
+];
+
 // (a b + a c) (a' d + a' e) f, of the sources a to f. If f stuck at 1 is detected, both sums are 1. Neither sum says by
 // itself which of its products is 1, so no line leads on. But each product of the first needs a, and then both products
 // of the second are 0: all justifications of the first sum clash.
@@ -230,6 +239,82 @@ fn each_needs_its_depth(rt: HostRuntime) -> Result<(), Fail> {
             let right = is_right(rt.alloc(), case, depth)?;
             assert!(rt; right, "gate {} at depth {depth}", case.fault.gate.0);
         }
+    }
+    Ok(())
+}
+
+const fn row_of<'a>(
+    sources: u32,
+    gates: &'a [Gate],
+    observed: u32,
+    fault: Fault,
+    from: u8,
+) -> Case<'a> {
+    Case {
+        sources,
+        gates,
+        observed,
+        fault,
+        from,
+    }
+}
+
+// How many items the refutation of the case has at the depth; None where there is none that the checker accepts.
+fn item_count(alloc: Global, case: &Case<'_>, depth: u8) -> Result<Option<usize>, NoMemory> {
+    if depth > 2 || case.sources > 1000 || case.gates.len() > 10000 {
+        return Ok(None);
+    }
+    let Some(graph) = wired(alloc, case.sources, case.gates, case.observed)? else {
+        return Ok(None);
+    };
+    let Some(_) = graph.driver(case.fault.gate, case.fault.position) else {
+        return Ok(None);
+    };
+    let mut engine = Engine::new(alloc, &graph)?;
+    let Closed::Clash(tree) = refute(alloc, &mut engine, &graph, &case.fault, depth)? else {
+        return Ok(None);
+    };
+    let accepted = is_accepted(alloc, &graph, &case.fault, &tree)?;
+    Ok(accepted.then_some(tree.items().len()))
+}
+
+// ABSORBED beside 98 gates that aren't reached from it.
+fn absorbed_beside() -> [Gate; 100] {
+    let mut gates = [Gate::Not(3); 100];
+    gates[0] = ABSORBED[0];
+    gates[1] = ABSORBED[1];
+    for at in 3..100 {
+        let before = at as u32 + 3;
+        gates[at] = if at % 2 == 0 {
+            Gate::And(before, 2)
+        } else {
+            Gate::Or(before, 3)
+        };
+    }
+    gates
+}
+
+#[test]
+fn trees_are_short(rt: HostRuntime) -> Result<(), Fail> {
+    let beside = absorbed_beside();
+    let cases = [
+        // The wire of x reads 1; gate 5 differs, x is equal, so x is 0.
+        (row_of(2, &ABSORBED, 5, fault(4, 0, false), 0), 5),
+        (row_of(2, &beside, 5, fault(4, 0, false), 0), 5),
+        // a is 0, and so are gates 6 to 9; gate 10 differs, gate 9 is equal, so it is 1.
+        (row_of(4, &WIRE_ADDED, 10, fault(10, 1, true), 0), 9),
+        // Both sums are 1 by five lines; then a split on a product of the first, and in each branch five lines and a clash.
+        (row_of(6, &ONE_DEEP, 16, fault(16, 1, true), 1), 19),
+        // P + Q is 1 by three lines; then a split on P, and in each branch two lines and such a split.
+        (row_of(11, &TWO_DEEP, 30, fault(30, 1, true), 2), 37),
+    ];
+    for (case, most) in &cases {
+        let count = item_count(rt.alloc(), case, case.from)?;
+        let small = match count {
+            Some(items) => items <= *most,
+            None => false,
+        };
+        assert!(rt; small, "gate {}", case.fault.gate.0);
     }
     Ok(())
 }

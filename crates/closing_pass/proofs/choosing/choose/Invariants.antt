@@ -1,4 +1,4 @@
-use Rattle.std.proofs.Common.{◌≤◌, ◌<◌, ◌-◌, ◌⊎◌, ◌≡◌, length}
+use Rattle.std.proofs.Common.{◌<◌, ◌-◌, ◌⊎◌, ◌≡◌, length}
 use Rattle.closing_pass.specs.Findings.{AreChosen}
 use Rattle.closing_pass.proofs.choosing.choose.Given as goal
 

@@ -1,4 +1,4 @@
-use Rattle.std.proofs.Common.{◌≡◌, ◌≤◌, ◌∙◌, ℕ, Bool, List, Some, slice_get, length, refl, sym, ap, subst, arith}
+use Rattle.std.proofs.Common.{◌∙◌, refl, sym, subst, arith}
 use Rattle.gate_graph.specs.Circuit.{Circuit, net_of}
 use Rattle.gate_net.specs.Net.{source_count}
 use Rattle.closing_pass.specs.Findings.{AreLong}

@@ -1,8 +1,5 @@
-use Rattle.std.proofs.Common.{◌≡◌, ◌≤◌, ◌+◌, ◌∙◌, List, [], Result, Ok, Err, sym, ap, subst, refl, arith}
-use Rattle.std.specs.Prelude.{OnErr}
+use Rattle.std.proofs.Common.{◌≤◌, ◌+◌, [], arith}
 use Rattle.gate_graph.specs.Circuit.{net_of}
-use Rattle.journal_text.specs.Runs.{HasAppended, HasAppendedPart, IsStopped, records_text, steps_of}
-use Rattle.journal_text.specs.declared.record.Record.{Record}
 use Rattle.closing_pass.specs.Going.{HasFixed, Logs}
 use Rattle.closing_pass.proofs.Recorded.{fix_accepted, fix_recorded, on_err}
 use Rattle.wire_edit.specs.Work.{work}

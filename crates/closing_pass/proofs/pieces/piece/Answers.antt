@@ -1,5 +1,4 @@
 use Rattle.gate_graph.specs.Circuit.{net_of}
-use Rattle.std.proofs.Common.{◌≡◌, ◌≤◌, length, arith}
 use Rattle.std.proofs.lemmas.Option.{slice_get-get_or}
 use Rattle.closing_pass.specs.Verdicts.{IsAnswer}
 use Rattle.closing_pass.proofs.InOrder.{zip_more}

@@ -1,7 +1,6 @@
 use Rattle.gate_graph.specs.Circuit.{net_of}
-use Rattle.gate_net.specs.Net.{Net}
 use Rattle.podem.specs.Searchers.{Serves}
-use Rattle.std.proofs.Common.{◌≡◌, length, take, ◌≤◌}
+use Rattle.std.proofs.Common.{length, take, ◌≤◌}
 use Rattle.closing_pass.specs.Verdicts.{AreVerdicts}
 use Rattle.closing_pass.proofs.pieces.piece.Given as goal
 

@@ -1,4 +1,4 @@
-use Rattle.std.proofs.Common.{◌≡◌, ◌≤◌, ◌+◌, Some, slice_get, length, refl, arith}
+use Rattle.std.proofs.Common.{◌≡◌, Some, slice_get, length, refl, arith}
 use Rattle.std.proofs.lemmas.Option.{slice_get_read}
 use Rattle.closing_pass.proofs.Recorded.{on_err}
 use Rattle.closing_pass.proofs.Verdicting.{recorded_more, recorded_part}

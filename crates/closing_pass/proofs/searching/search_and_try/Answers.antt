@@ -1,7 +1,5 @@
-use Rattle.std.proofs.Common.{◌≡◌, ◌≤◌, ◌<◌, ◌∙◌, ℕ, List, None, Option, length, sym, ap, subst, arith}
+use Rattle.std.proofs.Common.{◌≡◌, ℕ, None, length, subst, arith}
 use Rattle.gate_graph.specs.Circuit.{net_of}
-use Rattle.refutation.specs.declared.items.Item.{Item}
-use Rattle.rm_base.specs.declared.numbers.Fault.{Fault}
 use Rattle.closing_pass.specs.Searching.{IsSearched}
 use Rattle.closing_pass.specs.Trying.{HasTried}
 use Rattle.closing_pass.proofs.Tries.{come_tried}

@@ -1,4 +1,4 @@
-use Rattle.std.proofs.Common.{◌≤◌, ◌<◌, refl, arith}
+use Rattle.std.proofs.Common.{refl, arith}
 use Rattle.closing_pass.proofs.trying.first_lane.Goals as goal
 
 pub returns-in_default-clause-none : goal.returns-in_default-clause-none

@@ -1,4 +1,4 @@
-use Rattle.std.proofs.Common.{◌≡◌, ◌≤◌, ◌<◌, ◌+◌, ◌^◌, ◌∙◌, refl, Some, slice_get, length, arith}
+use Rattle.std.proofs.Common.{◌≡◌, ◌<◌, refl, Some, slice_get, length, arith}
 use Rattle.std.proofs.lemmas.Option.{slice_get_read, slice_get_within}
 use Rattle.closing_pass.proofs.Packing.{word_more}
 use Rattle.closing_pass.proofs.words.word_of.Goals as goal

@@ -1,5 +1,5 @@
-use Rattle.closing_pass.proofs.Packing.{words_packed, AreWordsOf}
-use Rattle.std.proofs.Common.{◌≡◌, ◌≤◌, ◌<◌, subst, arith}
+use Rattle.closing_pass.proofs.Packing.{words_packed}
+use Rattle.std.proofs.Common.{◌≡◌, arith}
 use Rattle.closing_pass.proofs.words.words_of.Goals as goal
 
 pub returns-clause-packed : goal.returns-clause-packed

@@ -1,4 +1,4 @@
-use Rattle.std.proofs.Common.{◌≡◌, Option, subst, ap, Err}
+use Rattle.std.proofs.Common.{Option, subst, ap, Err}
 use Rattle.std.specs.Prelude.{IfSome, IsSome}
 use Rattle.rm_base.specs.Files.{Files}
 use Rattle.journal_audit.specs.Audited.{IsPassed, IsProblem}

@@ -1,5 +1,3 @@
-use Rattle.std.proofs.Common.{◌≡◌}
-use Rattle.rm_model.specs.declared.parts.Model.{Model}
 use Rattle.rambo_cli.specs.Composition.{IsDecomposed}
 use Rattle.rambo_cli.proofs.Composed.{equivalent, fits}
 use Rattle.rambo_cli.proofs.laws.passed_audits_tell.Goals as goal

@@ -17,7 +17,7 @@ returns-in_err-replace-clause-safe g c =
       points = c.decompositions_stand.ensures.points c.args.model.now c.requires.usable.formed c.requires.usable.ranks;
       wires = c.decompositions_stand.ensures.wires c.args.model.now c.requires.usable.formed c.requires.usable.ranks;
     })
-    c.in_ok-text.ensures.few c.in_ok-run.ensures.whole (c.as_slice.ensures.value ∙ c.in_ok-text.ensures.text) c.in_err-replace.ensures.begun
+    c.in_ok-text.ensures.few c.in_ok-run.ensures.within c.in_ok-run.ensures.whole (c.as_slice.ensures.value ∙ c.in_ok-text.ensures.text) c.in_err-replace.ensures.begun
 
 pub returns-clause-done : goal.returns-clause-done
 returns-clause-done g c =
@@ -41,4 +41,4 @@ returns-clause-safe g c =
       points = c.decompositions_stand.ensures.points c.args.model.now c.requires.usable.formed c.requires.usable.ranks;
       wires = c.decompositions_stand.ensures.wires c.args.model.now c.requires.usable.formed c.requires.usable.ranks;
     })
-    c.in_ok-text.ensures.few c.in_ok-run.ensures.whole (c.as_slice.ensures.value ∙ c.in_ok-text.ensures.text) c.in_ok-replace.ensures.begun
+    c.in_ok-text.ensures.few c.in_ok-run.ensures.within c.in_ok-run.ensures.whole (c.as_slice.ensures.value ∙ c.in_ok-text.ensures.text) c.in_ok-replace.ensures.begun

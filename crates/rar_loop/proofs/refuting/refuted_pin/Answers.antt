@@ -8,11 +8,11 @@ use Rattle.rar_loop.specs.Swept.{IsLooked}
 use Rattle.rar_loop.proofs.Looking.{none_of, both_values, looked_none}
 use Rattle.rar_loop.proofs.refuting.refuted_pin.Goals as goal
 
-pub refuted-requires-clause-pin : goal.refuted-requires-clause-pin
-refuted-requires-clause-pin c = got (drivers_of (net_of c.args.graph.now) c.args.gate.0) c.args.position c.requires.pin
+pub refuted_unless_detected-requires-clause-pin : goal.refuted_unless_detected-requires-clause-pin
+refuted_unless_detected-requires-clause-pin c = got (drivers_of (net_of c.args.graph.now) c.args.gate.0) c.args.position c.requires.pin
 
-pub refuted-requires-2-clause-pin : goal.refuted-requires-2-clause-pin
-refuted-requires-2-clause-pin c = got (drivers_of (net_of c.args.graph.now) c.args.gate.0) c.args.position c.requires.pin
+pub refuted_unless_detected-requires-2-clause-pin : goal.refuted_unless_detected-requires-2-clause-pin
+refuted_unless_detected-requires-2-clause-pin c = got (drivers_of (net_of c.args.graph.now) c.args.gate.0) c.args.position c.requires.pin
 
 pub returns-clause-looked : goal.returns-clause-looked
 returns-clause-looked c =

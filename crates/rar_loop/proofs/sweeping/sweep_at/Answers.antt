@@ -25,8 +25,8 @@ returns-in-None-clause-looked c =
     let open_pins : IsOpenAtGate net c.args.gate.0 c.args.depth = subst (λ (o : Option (Fault × List Item)). IsLookedAtGate net c.args.gate.0 c.args.depth o) c.in-None.is here in
     (refl, open_pins)
 
-pub returns-in_ok-fix_and_tidy-in-Some-clause-looked : goal.returns-in_ok-fix_and_tidy-in-Some-clause-looked
-returns-in_ok-fix_and_tidy-in-Some-clause-looked c =
+pub returns-in_ok-vectors-in-Some-clause-looked : goal.returns-in_ok-vectors-in-Some-clause-looked
+returns-in_ok-vectors-in-Some-clause-looked c =
     let net : Net = net_of c.args.trial.now.graph in
     let formed : IsWellFormed net = subst (λ (v : Circuit). IsWellFormed (net_of v)) c.graph.ensures c.well_formed-2.ensures.net in
     c.in_ok-fix_and_tidy-in-Some.ensures.fewer (tidy_reads_none net formed c.requires.tidy)

@@ -1,5 +1,6 @@
 use Rattle.std.proofs.Common.{◌≡◌, ◌+◌}
 use Rattle.gate_graph.specs.Circuit.{net_of}
+use Rattle.rar_loop.specs.Kept.{AreFor}
 use Rattle.rar_loop.specs.Sizes.{IsSame}
 use Rattle.rar_loop.specs.Walking.{AreTried}
 use Rattle.rar_loop.proofs.walking.walk_target.Given as goal
@@ -10,4 +11,5 @@ invariant-loop-place l = record {
   tried : AreTried (net_of l.initial.graph) l.target l.found.items l.place;
   sum : l.left + l.place ≡ l.initial.left;
   numbers : l.engine.numbers ≡ l.initial.engine.numbers;
+  vectors : AreFor l.vectors (net_of l.initial.graph);
 }

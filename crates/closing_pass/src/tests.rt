@@ -1,0 +1,3 @@
+mod closings;
+mod meetings;
+mod nets;

@@ -1,0 +1,139 @@
+// Each call of the shelf failing in turn, and the first put of the sink.
+use super::running::{ends, hold, shelf, words};
+use super::texts::{
+    FOUR_GATES, ONE_GATE, ONE_GATE_JOURNAL, ONE_GATE_SUMMARY, WIRE_JOURNAL, WITH_A_WIRE,
+};
+use crate::run;
+use rm_base::{MemoryShelf, MemorySink, OpenGate};
+use std::test::Fail;
+
+// Whether the file holds so many bytes of the text, or, where none are given, what it held.
+fn begins(shelf: &MemoryShelf, name: &str, text: &str, count: Option<usize>) -> bool {
+    let Some(bytes) = shelf.file(name) else {
+        return false;
+    };
+    match count {
+        Some(count) => bytes.len() == count && text.as_bytes().starts_with(bytes),
+        None => bytes == b"old".as_slice(),
+    }
+}
+
+// The calls of `opt` on one gate: a read, the journal created, six lines, the output created, its text. A failing append adds
+// the first half of its bytes.
+#[test]
+fn calls_of_opt(rt: HostRuntime) -> Result<(), Fail> {
+    let rows = [
+        (1u64, None, None),
+        (2, None, None),
+        (3, Some(6usize), None),
+        (4, Some(18), None),
+        (5, Some(31), None),
+        (6, Some(44), None),
+        (7, Some(57), None),
+        (8, Some(66), None),
+        (9, Some(68), None),
+        (10, Some(68), Some(28usize)),
+    ];
+    for (call, journal, output) in rows {
+        let mut shelf = shelf(rt.alloc(), [ONE_GATE, "old", "old"], &[call])?;
+        assert!(rt;
+            ends(
+                &rt,
+                rt.alloc(),
+                "opt in out journal",
+                &mut shelf,
+                3,
+                "fault shelf\n"
+            )?
+        );
+        assert!(rt;
+            begins(&shelf, "journal", ONE_GATE_JOURNAL, journal),
+            "call {call}"
+        );
+        assert!(rt; begins(&shelf, "out", ONE_GATE, output), "call {call}");
+        assert!(rt; shelf.file("in") == Some(ONE_GATE.as_bytes()));
+    }
+    let mut shelf = shelf(rt.alloc(), [ONE_GATE, "old", "old"], &[11])?;
+    assert!(rt;
+        ends(
+            &rt,
+            rt.alloc(),
+            "opt in out journal",
+            &mut shelf,
+            0,
+            ONE_GATE_SUMMARY
+        )?
+    );
+    Ok(())
+}
+
+// Those of `check`: the input, the journal and its end, and the output.
+#[test]
+fn calls_of_check(rt: HostRuntime) -> Result<(), Fail> {
+    let texts = [FOUR_GATES, WITH_A_WIRE, WIRE_JOURNAL];
+    let rows = [
+        (1u64, 3u8, "fault shelf\n"),
+        (2, 3, "fault shelf\n"),
+        (3, 3, "fault shelf\n"),
+        (4, 3, "fault shelf\n"),
+        (5, 0, "accepted 19\n"),
+    ];
+    for (call, status, put) in rows {
+        let mut shelf = shelf(rt.alloc(), texts, &[call])?;
+        assert!(rt;
+            ends(
+                &rt,
+                rt.alloc(),
+                "check in journal out",
+                &mut shelf,
+                status,
+                put
+            )?
+        );
+        assert!(rt; hold(&shelf, texts));
+    }
+    Ok(())
+}
+
+// The first put fails: half of what it was handed is there.
+#[test]
+fn failing_puts(rt: HostRuntime) -> Result<(), Fail> {
+    let alloc = rt.alloc();
+    let rows = [
+        (
+            "opt in out journal",
+            "old",
+            "old",
+            "wires 2 2\ngates 1 1\nsteps 0 0",
+            ONE_GATE,
+            ONE_GATE_JOURNAL,
+        ),
+        (
+            "check in journal out",
+            ONE_GATE,
+            ONE_GATE_JOURNAL,
+            "accep",
+            ONE_GATE,
+            ONE_GATE_JOURNAL,
+        ),
+        ("check in journal out", "-", "-", "fault ", "-", "-"),
+        ("opt in out", "old", "old", "words r", "old", "old"),
+    ];
+    for (line, output, journal, put, output_after, journal_after) in rows {
+        let words = words(alloc, line)?;
+        let mut shelf = shelf(alloc, [ONE_GATE, output, journal], &[])?;
+        let mut sink = MemorySink::new(alloc, Vec::from_slice(alloc, &[1u64])?);
+        let status = run(
+            &rt,
+            alloc,
+            words.as_slice(),
+            &mut shelf,
+            &mut sink,
+            &OpenGate,
+        );
+        assert!(rt; status == 3);
+        assert!(rt; sink.written() == put.as_bytes());
+        assert!(rt; hold(&shelf, [ONE_GATE, output_after, journal_after]));
+    }
+    Ok(())
+}

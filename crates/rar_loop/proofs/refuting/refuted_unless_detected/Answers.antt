@@ -1,0 +1,7 @@
+use Rattle.gate_graph.specs.Circuit.{net_of}
+use Rattle.rar_loop.proofs.refuting.refuted_unless_detected.Goals as goal
+
+pub returns-then-detect-clause-looked : goal.returns-then-detect-clause-looked
+returns-then-detect-clause-looked c =
+    let found = c.detect.ensures.detected c.if-detect.true in
+    c.detected_faults_stay_open.ensures.sets (net_of c.args.graph.now) c.args.fault.now c.well_formed-2.ensures.net.acyclic c.requires.pin found.0 found.1 c.args.depth

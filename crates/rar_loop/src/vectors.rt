@@ -1,0 +1,175 @@
+//! Vectors that are kept for a net: a fault that one of them detects is never refuted, so it isn't asked.
+ghost use Rattle.std.specs.Prelude.{◌≡◌, ◌<◌, ℕ, Bool, IfOk, IsTrue, None, Some, length, replicate, slice_get};
+ghost use Rattle.gate_net.specs.Values.{Detects, HasPin};
+ghost use Rattle.gate_graph.specs.Circuit.{net_of};
+ghost use Rattle.fault_sim.specs.Words.{assignment, lane};
+ghost use Rattle.fault_sim.specs.LaneStates.{Fits, IsSimulated};
+ghost use Rattle.rar_loop.specs.Kept.{AreFor, HasKept, IsTurned, lanes_with, wanted};
+ghost use Rattle.rar_loop.specs.Trying.{IsNewPinOpen, MayAdd};
+
+use candidate_wires::{Candidate, control_of};
+use fault_sim::Lanes;
+use gate_graph::Graph;
+use gate_net::outside_is_equal;
+use refutation::detected::detected_faults_stay_open;
+use rm_base::{Fault, NoMemory, NodeId};
+use std::alloc::Global;
+use wire_edit::steps_keep;
+
+/// 64 drawn vectors, simulated for one net. For each gate that was asked they keep under which of them its first pin is
+/// detected at the controlling value: there the gate turns to its controlled value, and an observed node with it.
+#[derive(Drop)]
+pub(crate) struct Vectors {
+    lanes: Lanes,
+    turned: Vec<Option<u64>>,
+}
+
+// The next number (splitmix64: Steele, Lea and Flood 2014).
+fn draw(state: &mut u64) -> u64 {
+    *state = state.wrapping_add(0x9e37_79b9_7f4a_7c15);
+    let first = (*state ^ (*state >> 30)).wrapping_mul(0xbf58_476d_1ce4_e5b9);
+    let second = (first ^ (first >> 27)).wrapping_mul(0x94d0_49bb_1331_11eb);
+    second ^ (second >> 31)
+}
+
+// So many drawn words, the same each time.
+fn drawn_words(alloc: Global, count: usize) -> Result<Vec<u64>, NoMemory>
+    ensures { IfOk result (λ v. length v.items ≡ count) }
+{
+    let mut words = vec![in alloc; 0u64; count]?;
+    let mut state = 1u64;
+    for word in words.iter_mut() {
+        *word = draw(&mut state);
+    }
+    Ok(words)
+}
+
+// Whether the word has a lane.
+fn any(word: u64) -> bool
+    ensures { IsTrue result → (i : ℕ) × ((i < 64) × IsTrue (lane i word)) }
+{
+    if word == 0 {
+        return false;
+    }
+    true
+}
+
+// The lanes in which a word has the value.
+fn having(word: u64, value: bool) -> u64
+    ensures { result ≡ lanes_with value word }
+{
+    if value { word } else { word ^ u64::MAX }
+}
+
+// The value of the candidate's node with which its wire has the controlling value.
+fn value_for(candidate: &Candidate, control: bool) -> bool
+    ensures { result ≡ wanted candidate.now.fresh control }
+{
+    if candidate.fresh { !control } else { control }
+}
+
+// Nothing is kept of so many gates.
+fn none_kept(alloc: Global, count: usize) -> Result<Vec<Option<u64>>, NoMemory>
+    ensures { IfOk result (λ v. v.items ≡ replicate count None) }
+{
+    let mut turned = Vec::new(alloc);
+    turned.resize(count, None)?;
+    Ok(turned)
+}
+
+// What is kept of a gate.
+fn kept_of(turned: &[Option<u64>], gate: NodeId) -> Option<u64>
+    ensures { (word : ℕ) → result ≡ Some word → slice_get turned.now gate.0 ≡ Some (Some word) }
+{
+    match turned.get(gate.0 as usize) {
+        Some(kept) => *kept,
+        None => None,
+    }
+}
+
+// Keeps a gate's word.
+fn keep(turned: &mut Vec<Option<u64>>, gate: NodeId, word: u64)
+    ensures { HasKept turned.old.items turned.new.items gate.0 word }
+{
+    let number = gate.0 as usize;
+    if number < turned.len() {
+        turned[number] = Some(word);
+    }
+}
+
+// Under which vectors the gate's first pin is detected at the controlling value.
+fn turned_by(lanes: &mut Lanes, graph: &Graph, gate: NodeId) -> u64
+    requires fits { Fits lanes.old (net_of graph.now) }
+    requires simulated { IsSimulated lanes.old (net_of graph.now) }
+    ensures turned { (i : ℕ) → i < 64 → IsTrue (lane i result) → IsTurned (net_of graph.now) gate.0 (assignment lanes.old.words i) }
+    ensures same { lanes.new ≡ lanes.old }
+{
+    let Some(control) = control_of(graph, gate) else {
+        return 0;
+    };
+    let Some(_driver) = graph.driver(gate, 0) else {
+        return 0;
+    };
+    let fault = Fault {
+        gate,
+        position: 0,
+        value: control,
+    };
+    lanes.detect(graph, &fault)
+}
+
+impl Vectors {
+    /// Draws vectors and simulates them.
+    pub(crate) fn drawn(alloc: Global, graph: &Graph) -> Result<Vectors, NoMemory>
+        ensures { IfOk result (λ v. AreFor v (net_of graph.now)) }
+    {
+        let mut lanes = Lanes::new(alloc, graph)?;
+        let words = drawn_words(alloc, graph.source_count() as usize)?;
+        lanes.simulate64(graph, words.as_slice());
+        let turned = none_kept(alloc, graph.node_bound() as usize)?;
+        Ok(Vectors { lanes, turned })
+    }
+
+    /// Whether one of them detects the fault.
+    pub(crate) fn detect(&mut self, graph: &Graph, fault: &Fault) -> bool
+        requires pin { HasPin (net_of graph.now) fault.now }
+        requires vectors { AreFor self.old (net_of graph.now) }
+        ensures detected { IsTrue result → (a : ℕ → Bool) × Detects (net_of graph.now) fault.now a }
+        ensures vectors { AreFor self.new (net_of graph.now) }
+    {
+        any(self.lanes.detect(graph, fault))
+    }
+
+    // Under which of them the gate turns, found once for each gate.
+    fn turned_at(&mut self, graph: &Graph, gate: NodeId) -> u64
+        requires vectors { AreFor self.old (net_of graph.now) }
+        ensures turned { (i : ℕ) → i < 64 → IsTrue (lane i result) → IsTurned (net_of graph.now) gate.0 (assignment self.new.lanes.words i) }
+        ensures vectors { AreFor self.new (net_of graph.now) }
+    {
+        if let Some(word) = kept_of(self.turned.as_slice(), gate) {
+            return word;
+        }
+        let word = turned_by(&mut self.lanes, graph, gate);
+        keep(&mut self.turned, gate, word);
+        word
+    }
+
+    /// Whether one of them detects the fault at the noncontrolling value of the candidate's pin, with its wire in the net:
+    /// the wire has the controlling value, and the gate turns.
+    pub(crate) fn detect_wire(&mut self, graph: &Graph, candidate: &Candidate) -> bool
+        requires vectors { AreFor self.old (net_of graph.now) }
+        ensures stays { IsTrue result → MayAdd (net_of graph.now) candidate.now → (depth : ℕ) → IsNewPinOpen (net_of graph.now) candidate.now depth }
+        ensures vectors { AreFor self.new (net_of graph.now) }
+    {
+        graph.well_formed();
+        outside_is_equal();
+        steps_keep();
+        detected_faults_stay_open();
+        let Some(control) = control_of(graph, candidate.gate) else {
+            return false;
+        };
+        let turned = self.turned_at(graph, candidate.gate);
+        let word = self.lanes.value(candidate.node);
+        any(turned & having(word, value_for(candidate, control)))
+    }
+}

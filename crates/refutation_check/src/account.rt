@@ -1,0 +1,182 @@
+// What became of each item while a tree was read.
+ghost use Rattle.std.specs.Prelude.{◌≡◌, ◌≤◌, IfOk, OnOk, length};
+ghost use Rattle.gate_net.specs.Values.{HasPin};
+ghost use Rattle.gate_graph.specs.Circuit.{net_of};
+ghost use Rattle.refutation.specs.Sites.{IsSiteOf};
+
+use crate::premises::{Premise, Premises};
+use crate::trail::Trail;
+use gate_graph::Graph;
+use refutation::site::Site;
+use refutation::{Fact, Item, Line, conclude_marked};
+use rm_base::{Fault, NoMemory, NodeId};
+use std::alloc::Global;
+
+/// A split whose second branch is still to be read: what was split on, and what there was before it.
+#[derive(Clone, Copy)]
+pub(crate) struct OpenSplit {
+    pub(crate) node: NodeId,
+    pub(crate) first: bool,
+    facts: usize,
+    steps: usize,
+    premises: usize,
+}
+
+/// What an item came to. What it rests on begins at the mark.
+#[derive(Clone, Copy)]
+pub(crate) enum Step {
+    /// A line that gave a new fact.
+    Gave {
+        line: Line,
+        given: Premise,
+        mark: usize,
+    },
+    /// A split of which both branches follow.
+    Split {
+        node: NodeId,
+        first: bool,
+    },
+    /// The end of a branch, and the split whose second branch comes next.
+    End {
+        item: Item,
+        next: Option<OpenSplit>,
+        mark: usize,
+    },
+}
+
+/// What came of the items that were read.
+#[derive(Drop)]
+pub(crate) struct Account {
+    trail: Trail,
+    open: Vec<OpenSplit>,
+    steps: Vec<Step>,
+    pub(crate) premises: Premises,
+}
+
+impl Account {
+    /// Before the first item.
+    pub(crate) fn new(alloc: Global, graph: &Graph) -> Result<Account, NoMemory>
+        ensures { IfOk result (λ a. a.trail.numbers ≡ length (net_of graph.now).nodes) }
+    {
+        let trail = Trail::new(alloc, graph)?;
+        Ok(Account {
+            trail,
+            open: Vec::new(alloc),
+            steps: Vec::new(alloc),
+            premises: Premises::new(alloc),
+        })
+    }
+
+    /// How many items came to something.
+    pub(crate) fn len(&self) -> usize {
+        self.steps.len()
+    }
+
+    /// Takes the last step back.
+    pub(crate) fn pop(&mut self) -> Option<Step> {
+        self.steps.pop()
+    }
+
+    /// Takes back the split and what came after it.
+    pub(crate) fn cut(&mut self, split: OpenSplit) {
+        self.steps.truncate(split.steps);
+        self.premises.cut(split.premises);
+    }
+
+    // Holds the fact too.
+    fn hold(&mut self, node: NodeId, fact: Fact) -> Result<(), NoMemory>
+        ensures { OnOk result (self.new.trail.numbers ≡ self.old.trail.numbers) }
+    {
+        if (node.0 as usize) < self.trail.facts().len() {
+            self.trail.hold(node, fact)?;
+        }
+        Ok(())
+    }
+
+    // Reads a line; false where its condition isn't met.
+    fn read_line(
+        &mut self,
+        graph: &Graph,
+        fault: &Fault,
+        site: &Site,
+        line: Line,
+    ) -> Result<bool, NoMemory>
+        requires pin { HasPin (net_of graph.now) fault.now }
+        requires site { IsSiteOf (net_of graph.now) fault.now.gate.0 site.now }
+        requires numbers { self.old.trail.numbers ≡ length (net_of graph.now).nodes }
+        ensures { OnOk result (self.new.trail.numbers ≡ self.old.trail.numbers) }
+    {
+        let facts = self.trail.facts();
+        let Some((node, fact)) = conclude_marked(graph, fault, facts, &line, site) else {
+            return Ok(false);
+        };
+        if facts.holds(node, fact) {
+            return Ok(true);
+        }
+        let mark = self.premises.mark();
+        self.premises.ask_for_line(graph, fault, facts, &line)?;
+        let given = Premise { node, fact };
+        self.steps.push(Step::Gave { line, given, mark })?;
+        self.trail.hold(node, fact)?;
+        Ok(true)
+    }
+
+    // Goes into the first branch of a split.
+    fn split(&mut self, node: NodeId, first: bool) -> Result<(), NoMemory>
+        ensures { OnOk result (self.new.trail.numbers ≡ self.old.trail.numbers) }
+    {
+        let split = OpenSplit {
+            node,
+            first,
+            facts: self.trail.mark(),
+            steps: self.steps.len(),
+            premises: self.premises.mark(),
+        };
+        self.open.push(split)?;
+        self.steps.push(Step::Split { node, first })?;
+        self.hold(node, Fact::Good(first))
+    }
+
+    // Goes to the next branch after the end of one, whose premises begin at the mark.
+    fn end(&mut self, item: Item, mark: usize) -> Result<(), NoMemory>
+        ensures { OnOk result (self.new.trail.numbers ≡ self.old.trail.numbers) }
+    {
+        let next = self.open.pop();
+        self.steps.push(Step::End { item, next, mark })?;
+        let Some(split) = next else {
+            return Ok(());
+        };
+        self.trail.undo_to(split.facts.min(self.trail.mark()));
+        self.hold(split.node, Fact::Good(!split.first))
+    }
+
+    /// Reads an item; false where it is none of a closed tree, or a line whose condition isn't met.
+    pub(crate) fn read(
+        &mut self,
+        graph: &Graph,
+        fault: &Fault,
+        site: &Site,
+        item: Item,
+    ) -> Result<bool, NoMemory>
+        requires pin { HasPin (net_of graph.now) fault.now }
+        requires site { IsSiteOf (net_of graph.now) fault.now.gate.0 site.now }
+        requires numbers { self.old.trail.numbers ≡ length (net_of graph.now).nodes }
+        ensures { OnOk result (self.new.trail.numbers ≡ self.old.trail.numbers) }
+    {
+        let mark = self.premises.mark();
+        match item {
+            Item::Line(line) => return self.read_line(graph, fault, site, line),
+            Item::Split { node, first } => self.split(node, first)?,
+            Item::Clash(node) => {
+                self.premises.ask_for_clash(self.trail.facts(), node)?;
+                self.end(item, mark)?;
+            }
+            Item::Quiet => {
+                self.premises.ask_for_sources(graph, self.trail.facts())?;
+                self.end(item, mark)?;
+            }
+            Item::Here | Item::Untried => return Ok(false),
+        }
+        Ok(true)
+    }
+}
