@@ -15,14 +15,13 @@ use std::test::Fail;
 use std::thread::Threads;
 use wire_edit::first_rule;
 
-// A net, a budget, how many pins are fixed and other steps made, how the line of the fix begins, and all other lines.
+// A net, a budget, how many pins are fixed and other steps made, and the lines that come.
 #[derive(Clone, Copy)]
 struct Row {
     wiring: Wiring<'static>,
     budget: u32,
     fixed: u32,
     local: u64,
-    fix: &'static str,
     lines: &'static [&'static str],
 }
 
@@ -32,7 +31,6 @@ const ROWS: [Row; 8] = [
         budget: 256,
         fixed: 0,
         local: 0,
-        fix: "",
         lines: &[
             "hit 4 0 0 11\n",
             "hit 4 0 1 01\n",
@@ -46,7 +44,6 @@ const ROWS: [Row; 8] = [
         budget: 8,
         fixed: 0,
         local: 0,
-        fix: "",
         lines: &[
             "hit 4 0 0 11\n",
             "hit 4 0 1 01\n",
@@ -59,7 +56,6 @@ const ROWS: [Row; 8] = [
         budget: 1,
         fixed: 0,
         local: 0,
-        fix: "",
         lines: &[
             "spent 4 0 0 /2,1 @ ?\n",
             "spent 4 0 1 /2,0 @ ?\n",
@@ -72,7 +68,6 @@ const ROWS: [Row; 8] = [
         budget: 256,
         fixed: 0,
         local: 0,
-        fix: "",
         lines: &[
             "hit 6 0 0 1101\n",
             "hit 6 0 1 1001\n",
@@ -92,7 +87,6 @@ const ROWS: [Row; 8] = [
         budget: 3,
         fixed: 0,
         local: 0,
-        fix: "",
         lines: &[
             "hit 6 0 0 1101\n",
             "spent 6 0 1 /3,0 /4,0 /5,1 @ ? ? ?\n",
@@ -111,7 +105,6 @@ const ROWS: [Row; 8] = [
         budget: 3,
         fixed: 0,
         local: 0,
-        fix: "",
         lines: &[
             "hit 6 0 0 1101\n",
             "hit 6 0 1 0101\n",
@@ -136,8 +129,8 @@ const ROWS: [Row; 8] = [
         budget: 256,
         fixed: 1,
         local: 5,
-        fix: "fix 4 0 0 a ",
         lines: &[
+            "fix 4 0 0 h5 o2 i5,0 a !2\n",
             "const 4 0\n",
             "dead 4\n",
             "const 5 1\n",
@@ -151,8 +144,8 @@ const ROWS: [Row; 8] = [
         budget: 256,
         fixed: 1,
         local: 5,
-        fix: "fix 10 0 0 a ",
         lines: &[
+            "fix 10 0 0 h11 o2 i11,0 a !2\n",
             "const 10 0\n",
             "dead 10\n",
             "const 11 1\n",
@@ -235,30 +228,6 @@ fn close<R: Threads + Sync, G: Gate>(
     Ok(report)
 }
 
-// What follows the line of the fix, where there is one.
-fn after_fix<'a>(text: &'a [u8], fix: &str) -> Option<&'a [u8]> {
-    if fix.is_empty() {
-        return Some(text);
-    }
-    if !text.starts_with(fix.as_bytes()) {
-        return None;
-    }
-    for at in 0..text.len() {
-        if text[at] == b'\n' {
-            return Some(&text[at + 1..]);
-        }
-    }
-    None
-}
-
-// What the journal holds after the line of the fix.
-fn recorded<'a>(shelf: &'a MemoryShelf, fix: &str) -> Option<&'a [u8]> {
-    match shelf.file("journal") {
-        Some(text) => after_fix(text, fix),
-        None => None,
-    }
-}
-
 // The lines before the one of a number, and half of its own.
 fn cut_off(alloc: Global, lines: &[&str], number: usize) -> Result<Vec<u8>, NoMemory> {
     let mut text = Vec::new(alloc);
@@ -288,7 +257,7 @@ fn comes_out<R: Threads + Sync>(rt: &R, alloc: Global, row: &Row, workers: u8) -
         return Ok(false);
     };
     let wanted = cut_off(alloc, row.lines, row.lines.len())?;
-    let written = recorded(&shelf, row.fix) == Some(wanted.as_slice());
+    let written = shelf.file("journal") == Some(wanted.as_slice());
     Ok(written && report.fixed == row.fixed && report.local == row.local)
 }
 
@@ -309,13 +278,12 @@ fn stops_at<R: Threads + Sync>(
     row: &Row,
     number: usize,
 ) -> Result<bool, Fail> {
-    let before = if row.fix.is_empty() { 1u64 } else { 2u64 };
     let graph = tidy_net(alloc, &row.wiring)?;
-    let mut shelf = shelf(alloc, &[before.saturating_add(number as u64)])?;
+    let mut shelf = shelf(alloc, &[(number as u64).saturating_add(1)])?;
     let settings = settings(256, 1);
     let got = close(rt, alloc, graph, &settings, &OpenGate, &mut shelf);
     let wanted = cut_off(alloc, row.lines, number)?;
-    let written = recorded(&shelf, row.fix) == Some(wanted.as_slice());
+    let written = shelf.file("journal") == Some(wanted.as_slice());
     Ok(written && matches!(got, Err(Stop::Failed)))
 }
 
