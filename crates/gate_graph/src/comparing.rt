@@ -1,6 +1,6 @@
 //! A graph against a plain net.
-ghost use Rattle.std.specs.Prelude.{◌≡◌, true};
-ghost use Rattle.gate_graph.specs.Circuit.{net_of};
+ghost use Rattle.std.specs.Prelude.{◌≡◌, ◌≤◌, true};
+ghost use Rattle.gate_graph.specs.Circuit.{live_nodes, net_of};
 ghost use Rattle.gate_net.specs.Net.{IsLive};
 
 use crate::plain_net::PlainNet;
@@ -15,6 +15,16 @@ pub(crate) fn is_live(graph: &Graph, node: NodeId) -> bool
         Some(_) => true,
         None => false,
     }
+}
+
+pub(crate) fn few_nodes(graph: &Graph) -> bool
+    ensures { result ≡ true → live_nodes graph.now ≤ 20002 }
+{
+    graph.well_formed();
+    if graph.source_count() > 10000 {
+        return false;
+    }
+    graph.gate_count() <= 10000
 }
 
 fn numbers(alloc: Global, nodes: Inputs<'_>) -> Result<Vec<u32>, NoMemory> {

@@ -1,13 +1,12 @@
 //! Scripts of edits, with every list compared with a plain net.
-ghost use Rattle.std.specs.Prelude.{◌≡◌, ◌≢◌, ◌≤◌, ◌+◌, ◌*◌, length, IfOk};
-ghost use Rattle.gate_net.specs.Net.{IsGateKind};
-ghost use Rattle.gate_net.specs.declared.Kind.TheVariants.{Not};
-ghost use Rattle.gate_graph.specs.Circuit.{live_nodes, net_of, pins_taken, wiring};
+ghost use Rattle.std.specs.Prelude.{◌≤◌, ◌+◌, length, IfOk};
+ghost use Rattle.gate_graph.specs.Circuit.{pins_taken, wiring};
 ghost use Rattle.gate_graph.specs.Entries.{AreWithin, CanGoBack};
 
-use crate::comparing::{are_same, drivers, is_live, readers};
+use crate::comparing::{are_same, drivers, few_nodes, readers};
 use crate::draws::{Draw, Tally};
 use crate::plain_net::PlainNet;
+use crate::tests::{FOUR_GATES, Growth, grown};
 use crate::trying::try_edit;
 use crate::{Edit, Graph, Undos};
 use gate_net::Kind;
@@ -15,75 +14,43 @@ use rm_base::{NoMemory, NodeId};
 use std::alloc::Global;
 use std::test::Fail;
 
-// Adds a gate with two drivers to both, where these are live.
-fn add_gate(
-    graph: &mut Graph,
-    plain: &mut PlainNet,
-    kind: Kind,
-    first: NodeId,
-    second: NodeId,
-) -> Result<(), NoMemory>
-    requires kind { IsGateKind kind }
-    requires two { kind ≢ Not }
-    requires pins { pins_taken graph.old ≤ 100000 }
-    requires nodes { live_nodes graph.old ≤ 100000 }
-    ensures pins { pins_taken graph.new ≤ pins_taken graph.old + 2 }
-    ensures nodes { live_nodes graph.new ≤ live_nodes graph.old + 1 }
-{
-    if !is_live(graph, first) {
-        return Ok(());
-    }
-    if !is_live(graph, second) {
-        return Ok(());
-    }
-    let drivers = [first, second];
-    graph.add_gate(kind, &drivers)?;
-    plain.add_gate(kind, &drivers)
+// The net that a graph is compared with, the next draws, and how many edits were made.
+#[derive(Drop)]
+struct Script {
+    plain: PlainNet,
+    draw: Draw,
+    tally: Tally,
 }
 
-// Observes the node in both, where it is live.
-fn observe(graph: &mut Graph, plain: &mut PlainNet, node: NodeId) -> Result<(), NoMemory>
-    requires pins { pins_taken graph.old ≤ 100000 }
-    ensures pins { pins_taken graph.new ≤ pins_taken graph.old + 1 }
-    ensures nodes { live_nodes graph.new ≡ live_nodes graph.old }
-{
-    if !is_live(graph, node) {
-        return Ok(());
+// The plain net of four sources that grows so.
+fn grown_plain(alloc: Global, growths: &[Growth]) -> Result<PlainNet, NoMemory> {
+    let mut plain = PlainNet::new(alloc, 4)?;
+    for growth in growths {
+        match *growth {
+            Growth::And(_, first, second) => {
+                plain.add_gate(Kind::And, &[NodeId(first), NodeId(second)])?;
+            }
+            Growth::Or(_, first, second) => {
+                plain.add_gate(Kind::Or, &[NodeId(first), NodeId(second)])?;
+            }
+            Growth::Observed(node) => plain.append(0, node)?,
+        }
     }
-    graph.observe(node)?;
-    plain.append(0, node.0)
+    Ok(plain)
 }
 
-// Adds a gate of drawn drivers, and observes a drawn node.
-fn grow(graph: &mut Graph, plain: &mut PlainNet, draw: &mut Draw) -> Result<(), NoMemory>
-    requires pins { pins_taken graph.old ≤ 90000 }
-    requires nodes { live_nodes graph.old ≤ 90000 }
-    ensures pins { pins_taken graph.new ≤ pins_taken graph.old + 5 }
-    ensures nodes { live_nodes graph.new ≤ live_nodes graph.old + 2 }
-{
-    let bound = graph.node_bound();
-    add_gate(graph, plain, Kind::And, draw.node(bound), draw.node(bound))?;
-    add_gate(graph, plain, Kind::Or, draw.node(bound), draw.node(bound))?;
-    observe(graph, plain, draw.node(bound))
-}
-
-// Grows both nets so many times.
-fn grow_all(
-    graph: &mut Graph,
-    plain: &mut PlainNet,
-    draw: &mut Draw,
-    count: u32,
-) -> Result<(), NoMemory>
-    requires count { count ≤ 1000 }
-    requires pins { pins_taken graph.old ≤ 1000 }
-    requires nodes { live_nodes graph.old ≤ 1000 }
-    ensures pins { pins_taken graph.new ≤ pins_taken graph.old + 5 * count }
-    ensures nodes { live_nodes graph.new ≤ live_nodes graph.old + 2 * count }
-{
+// So many Ands and as many Ors of drawn drivers, with a drawn node observed after each of both.
+fn drawn_growths(alloc: Global, draw: &mut Draw, count: u32) -> Result<Vec<Growth>, NoMemory> {
+    let mut growths = Vec::new(alloc);
+    let mut bound = 6u32;
     for _ in 0..count {
-        grow(graph, plain, draw)?;
+        growths.push(Growth::And(bound, draw.node(bound).0, draw.node(bound).0))?;
+        let or = bound.saturating_add(1);
+        growths.push(Growth::Or(or, draw.node(bound).0, draw.node(bound).0))?;
+        growths.push(Growth::Observed(draw.node(bound).0))?;
+        bound = bound.saturating_add(2);
     }
-    Ok(())
+    Ok(growths)
 }
 
 // Makes one edit on both nets, where it may be made, and tells whether both nets are the same then.
@@ -91,25 +58,22 @@ fn step(
     alloc: Global,
     graph: &mut Graph,
     undos: &mut Undos,
-    plain: &mut PlainNet,
+    script: &mut Script,
     edit: &Edit,
-    tally: &mut Tally,
-) -> Result<bool, NoMemory>
+) -> Result<bool, Fail>
     requires back { CanGoBack (wiring graph.old) undos.old.entries }
     requires within { AreWithin (length graph.old.kinds) undos.old.entries }
     requires pins { pins_taken graph.old ≤ 100000 }
-    requires nodes { live_nodes graph.old ≤ 100000 }
     ensures back { CanGoBack (wiring graph.new) undos.new.entries }
     ensures within { AreWithin (length graph.new.kinds) undos.new.entries }
     ensures pins { pins_taken graph.new ≤ pins_taken graph.old + 1 }
-    ensures nodes { live_nodes graph.new ≤ live_nodes graph.old + 1 }
 {
     if !try_edit(alloc, graph, undos, edit)? {
         return Ok(true);
     }
-    tally.count(edit);
-    plain.edit(alloc, edit)?;
-    are_same(alloc, graph, plain)
+    script.tally.count(edit);
+    script.plain.edit(alloc, edit)?;
+    Ok(are_same(alloc, graph, &script.plain)?)
 }
 
 // Tries so many drawn edits, and tells whether both nets were the same after each.
@@ -117,43 +81,24 @@ fn run(
     alloc: Global,
     graph: &mut Graph,
     undos: &mut Undos,
-    plain: &mut PlainNet,
-    draw: &mut Draw,
-    tally: &mut Tally,
+    script: &mut Script,
     count: u32,
-) -> Result<bool, NoMemory>
+) -> Result<bool, Fail>
     requires count { count ≤ 10000 }
     requires back { CanGoBack (wiring graph.old) undos.old.entries }
     requires within { AreWithin (length graph.old.kinds) undos.old.entries }
     requires pins { pins_taken graph.old ≤ 50000 }
-    requires nodes { live_nodes graph.old ≤ 50000 }
     ensures back { CanGoBack (wiring graph.new) undos.new.entries }
     ensures within { AreWithin (length graph.new.kinds) undos.new.entries }
     ensures pins { pins_taken graph.new ≤ pins_taken graph.old + count }
-    ensures nodes { live_nodes graph.new ≤ live_nodes graph.old + count }
 {
     for _ in 0..count {
-        let edit = draw.edit(graph.node_bound());
-        if !step(alloc, graph, undos, plain, &edit, tally)? {
+        let edit = script.draw.edit(graph.node_bound());
+        if !step(alloc, graph, undos, script, &edit)? {
             return Ok(false);
         }
     }
     Ok(true)
-}
-
-// The net of four gates, in both.
-fn four_gates(alloc: Global) -> Result<(Graph, PlainNet), NoMemory>
-    ensures pins { IfOk result (λ r. pins_taken r.0 ≤ 100) }
-    ensures nodes { IfOk result (λ r. live_nodes r.0 ≤ 100) }
-{
-    let mut graph = Graph::new(alloc, 4)?;
-    let mut plain = PlainNet::new(alloc, 4)?;
-    add_gate(&mut graph, &mut plain, Kind::And, NodeId(2), NodeId(3))?;
-    add_gate(&mut graph, &mut plain, Kind::And, NodeId(2), NodeId(4))?;
-    add_gate(&mut graph, &mut plain, Kind::Or, NodeId(6), NodeId(7))?;
-    add_gate(&mut graph, &mut plain, Kind::And, NodeId(8), NodeId(5))?;
-    observe(&mut graph, &mut plain, NodeId(9))?;
-    Ok((graph, plain))
 }
 
 const TABLE: [Edit; 8] = [
@@ -188,22 +133,70 @@ fn make_table(
     alloc: Global,
     graph: &mut Graph,
     undos: &mut Undos,
-    plain: &mut PlainNet,
-    tally: &mut Tally,
-) -> Result<bool, NoMemory>
+    script: &mut Script,
+) -> Result<bool, Fail>
     requires back { CanGoBack (wiring graph.old) undos.old.entries }
     requires within { AreWithin (length graph.old.kinds) undos.old.entries }
-    requires pins { pins_taken graph.old ≤ 100 }
-    requires nodes { live_nodes graph.old ≤ 100 }
+    requires pins { pins_taken graph.old ≤ 2000 }
     ensures back { CanGoBack (wiring graph.new) undos.new.entries }
     ensures within { AreWithin (length graph.new.kinds) undos.new.entries }
 {
     for at in 0..TABLE.len() {
-        if !step(alloc, graph, undos, plain, &TABLE[at], tally)? {
+        if !step(alloc, graph, undos, script, &TABLE[at])? {
             return Ok(false);
         }
     }
     Ok(true)
+}
+
+// A graph, what undoes its edits, and the script that made these.
+struct Working {
+    graph: Graph,
+    undos: Undos,
+    script: Script,
+}
+
+// A net that grew so, in both forms.
+fn begun(alloc: Global, draw: Draw, growths: &[Growth]) -> Result<Working, Fail>
+    ensures back { IfOk result (λ r. CanGoBack (wiring r.graph) r.undos.entries) }
+    ensures within { IfOk result (λ r. AreWithin (length r.graph.kinds) r.undos.entries) }
+    ensures pins { IfOk result (λ r. pins_taken r.graph ≤ 2000) }
+{
+    let plain = grown_plain(alloc, growths)?;
+    let graph = grown(alloc, growths)?;
+    graph.leads_back();
+    Ok(Working {
+        graph,
+        undos: Undos::new(alloc),
+        script: Script {
+            plain,
+            draw,
+            tally: Tally::new(),
+        },
+    })
+}
+
+// The net of four gates after the edits of the table.
+fn edited(alloc: Global) -> Result<Working, Fail>
+    ensures back { IfOk result (λ r. CanGoBack (wiring r.graph) r.undos.entries) }
+    ensures within { IfOk result (λ r. AreWithin (length r.graph.kinds) r.undos.entries) }
+{
+    let Working {
+        mut graph,
+        mut undos,
+        mut script,
+    } = begun(alloc, Draw { state: 1 }, &FOUR_GATES)?;
+    if !make_table(alloc, &mut graph, &mut undos, &mut script)? {
+        return Err("another net".into());
+    }
+    if script.tally.sum() != 8 {
+        return Err("not all edits were made".into());
+    }
+    Ok(Working {
+        graph,
+        undos,
+        script,
+    })
 }
 
 // The drivers and the readers of each number after the edits of the table, by hand.
@@ -237,32 +230,31 @@ fn is_by_hand(alloc: Global, graph: &Graph) -> Result<bool, NoMemory> {
 #[test]
 fn edits_are_those_of_the_table(rt: HostRuntime) -> Result<(), Fail> {
     let alloc = rt.alloc();
-    let (mut graph, mut plain) = four_gates(alloc)?;
-    let before = plain.copy(alloc)?;
-    let mut tally = Tally::new();
-    let mut undos = Undos::new(alloc);
-    graph.leads_back();
-    assert!(rt; make_table(alloc, &mut graph, &mut undos, &mut plain, &mut tally)?);
-    assert_eq!(rt; tally.sum(), 8);
+    let Working {
+        mut graph,
+        mut undos,
+        script,
+    } = edited(alloc)?;
     assert!(rt; is_by_hand(alloc, &graph)?);
     assert_eq!(rt; graph.observed_count(), 1);
     assert!(rt; graph.is_observed(NodeId(3)));
     let copy = graph.copy(alloc)?;
     graph.undo(&mut undos);
+    let before = grown_plain(alloc, &FOUR_GATES)?;
     assert!(rt; are_same(alloc, &graph, &before)?);
     assert!(rt; is_by_hand(alloc, &copy)?);
-    assert!(rt; are_same(alloc, &copy, &plain)?);
+    assert!(rt; are_same(alloc, &copy, &script.plain)?);
     Ok(())
 }
 
 #[test]
 fn kept_edits_stay(rt: HostRuntime) -> Result<(), Fail> {
     let alloc = rt.alloc();
-    let (mut graph, mut plain) = four_gates(alloc)?;
-    let mut tally = Tally::new();
-    let mut undos = Undos::new(alloc);
-    graph.leads_back();
-    assert!(rt; make_table(alloc, &mut graph, &mut undos, &mut plain, &mut tally)?);
+    let Working {
+        mut graph,
+        mut undos,
+        script: _,
+    } = edited(alloc)?;
     assert!(rt; graph.is_fresh(0));
     graph.keep(&mut undos);
     assert!(rt; is_by_hand(alloc, &graph)?);
@@ -276,30 +268,43 @@ fn kept_edits_stay(rt: HostRuntime) -> Result<(), Fail> {
     Ok(())
 }
 
+// Tries so many drawn edits, then makes room, and tries as many more.
+fn run_twice(
+    alloc: Global,
+    graph: &mut Graph,
+    undos: &mut Undos,
+    script: &mut Script,
+) -> Result<bool, Fail>
+    requires back { CanGoBack (wiring graph.old) undos.old.entries }
+    requires within { AreWithin (length graph.old.kinds) undos.old.entries }
+    requires pins { pins_taken graph.old ≤ 2000 }
+    ensures back { CanGoBack (wiring graph.new) undos.new.entries }
+    ensures within { AreWithin (length graph.new.kinds) undos.new.entries }
+{
+    if !run(alloc, graph, undos, script, 500)? {
+        return Ok(false);
+    }
+    if !few_nodes(graph) {
+        return Err("too many nodes".into());
+    }
+    graph.reserve(100, 100)?;
+    run(alloc, graph, undos, script, 500)
+}
+
 #[test]
 fn undo_gives_all_back(rt: HostRuntime) -> Result<(), Fail> {
     let alloc = rt.alloc();
     let mut draw = Draw { state: 1 };
-    let mut tally = Tally::new();
-    let mut graph = Graph::new(alloc, 4)?;
-    let mut plain = PlainNet::new(alloc, 4)?;
-    grow_all(&mut graph, &mut plain, &mut draw, 12)?;
-    assert!(rt; are_same(alloc, &graph, &plain)?);
-    let before = plain.copy(alloc)?;
-    let mut undos = Undos::new(alloc);
-    graph.leads_back();
-    assert!(rt;
-        run(
-            alloc, &mut graph, &mut undos, &mut plain, &mut draw, &mut tally, 500
-        )?
-    );
-    graph.reserve(100, 100)?;
-    assert!(rt;
-        run(
-            alloc, &mut graph, &mut undos, &mut plain, &mut draw, &mut tally, 500
-        )?
-    );
-    assert!(rt; tally.least() >= 10);
+    let growths = drawn_growths(alloc, &mut draw, 12)?;
+    let Working {
+        mut graph,
+        mut undos,
+        mut script,
+    } = begun(alloc, draw, growths.as_slice())?;
+    let before = grown_plain(alloc, growths.as_slice())?;
+    assert!(rt; are_same(alloc, &graph, &before)?);
+    assert!(rt; run_twice(alloc, &mut graph, &mut undos, &mut script)?);
+    assert!(rt; script.tally.least() >= 10);
     graph.undo(&mut undos);
     assert!(rt; are_same(alloc, &graph, &before)?);
     assert_eq!(rt; graph.epoch(), 0);

@@ -1,6 +1,6 @@
 use Rattle.gate_graph.specs.Circuit.{net_of}
 use Rattle.gate_graph.proofs.KnownKinds.{two-live}
-use Rattle.gate_graph.proofs.tests.add_two.Goals as goal
+use Rattle.gate_graph.proofs.tests.add.Goals as goal
 
 pub add_gate-requires-clause-drivers : goal.add_gate-requires-clause-drivers
 add_gate-requires-clause-drivers c d h =
