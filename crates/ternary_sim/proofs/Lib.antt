@@ -5,3 +5,5 @@ pub mod Monotone
 pub mod Rewriting
 pub mod TrailMarks
 pub mod Beginnings
+pub mod Counts
+pub mod Watching

@@ -1,4 +1,5 @@
 pub mod Marks
 pub mod Sims
+pub mod Sheets
 pub mod Tracking
 pub mod Settling

@@ -5,6 +5,7 @@ mod beginning;
 mod marks;
 mod reading;
 mod settling;
+mod sheet;
 mod simulator;
 #[cfg(test)]
 mod tests;

@@ -18,12 +18,12 @@ use std::alloc::Global;
 use std::test::Fail;
 use ternary_sim::Sim;
 
-const SOURCES: u32 = 4;
+pub const SOURCES: u32 = 4;
 
-const GATES: u32 = 7;
+pub const GATES: u32 = 7;
 
 // With so many edges every search on four sources comes to an end.
-const ENOUGH: u32 = 32;
+pub const ENOUGH: u32 = 32;
 
 // A number below `below`, by a linear congruence.
 fn draw(state: &mut u64, below: u32) -> u32
@@ -62,7 +62,7 @@ fn add_drawn(
 }
 
 // A net of drawn gates, of which the last one and another node are observed.
-fn drawn(alloc: Global, seed: u64) -> Result<Option<Graph>, NoMemory> {
+pub fn drawn(alloc: Global, seed: u64) -> Result<Option<Graph>, NoMemory> {
     let mut state = seed;
     let mut graph = Graph::new(alloc, SOURCES)?;
     for at in 0..GATES {

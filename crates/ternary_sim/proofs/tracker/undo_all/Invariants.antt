@@ -1,0 +1,14 @@
+use Rattle.std.proofs.Common.{length, ◌≡◌}
+use Rattle.ternary_sim.proofs.tracker.undo_all.Given as goal
+use Rattle.ternary_sim.specs.Tracking.{AreInside, first_marks}
+
+abbrev pub invariant-loop-entry : goal.invariant-loop-entry
+invariant-loop-entry l = record {
+  first : first_marks l.sheet.marks l.trail.items ≡ first_marks l.initial.sheet.marks l.initial.trail.items;
+  inside : AreInside (length l.sheet.marks) l.trail.items;
+  size : length l.sheet.marks ≡ length l.initial.sheet.marks;
+  watched : l.sheet.watched ≡ l.initial.sheet.watched;
+}
+
+abbrev pub decreases-loop-entry : goal.decreases-loop-entry
+decreases-loop-entry l = length l.trail.items
