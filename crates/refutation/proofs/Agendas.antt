@@ -156,14 +156,9 @@ take_within marks queue count h = omega (arith, h.room, h.size)
 pub clear_less : (old new : List Bool) (d : ℕ) → IsSeen old d × (new ≡ slice_set old d false) → seen_count new < seen_count old
 clear_less old new d (seen, is) = rw is (omega (arith, count-clear old d seen))
 
--- what stands at a place doesn't hang on what is read past the end
-pub on_any : (s : List Bool) (d : ℕ) → d < length s → get_or s d true ≡ true → get_or s d false ≡ true
-on_any [] d h e = absurd (omega arith)
-on_any (b ∷ s) zero h e = e
-on_any (b ∷ s) (suc d) h e = on_any s d (omega arith) e
-
-pub all_off : (s : List Bool) → ((k : ℕ) → k < length s → get_or s k false ≡ false) → s ≡ replicate (length s) false
-all_off [] h = refl
-all_off (b ∷ s) h =
-    let first : b ≡ false = h zero (omega arith) in
-    rw first (ap (λ t. false ∷ t) (all_off s (λ k low. h (suc k) (omega arith))))
+-- a place that isn't marked
+pub not_seen : (s : List Bool) (d : ℕ) → d < length s → (IsSeen s d → ⊥) → slice_get s d ≡ Some false
+not_seen [] d h off = absurd (omega arith)
+not_seen (true ∷ s) zero h off = absurd (off refl)
+not_seen (false ∷ s) zero h off = refl
+not_seen (b ∷ s) (suc d) h off = not_seen s d (omega arith) off

@@ -1,12 +1,12 @@
 -- Marking the chain of a gate.
-use Rattle.std.proofs.Common.{Bool, List, arith, false, inl, inr, length, replicate, subst, sym, true, ℕ, ◌+◌, ◌<◌, ◌≡◌, ◌⊎◌}
+use Rattle.std.proofs.Common.{Bool, List, None, Some, [], arith, false, inl, inr, length, replicate, subst, sym, true, ℕ, ◌+◌, ◌<◌, ◌∷◌, ◌≡◌, ◌⊎◌}
 use Rattle.std.proofs.lemmas.Bool.Decides.{eqb_tells}
-use Rattle.std.specs.Prelude.{slice_set}
+use Rattle.std.specs.Prelude.{slice_get, slice_set}
 use Rattle.gate_graph.proofs.Marking.{seen_cases, seen_kept, seen_new}
 use Rattle.gate_graph.proofs.Searches.{none_seen}
 use Rattle.gate_graph.specs.Search.{IsSeen}
-use Rattle.gate_net.specs.Net.{IsLive, Net}
-use Rattle.gate_net.specs.Paths.{IsInChain}
+use Rattle.gate_net.specs.Net.{IsLive, Net, drivers_of}
+use Rattle.gate_net.specs.Paths.{IsInChain, Reaches, on, pin}
 use Rattle.refutation.proofs.Told.{kind_live}
 use Rattle.refutation.proofs.Walks.{Walks, walk_ends, walk_goes_on, walk_live, walk_starts}
 use Rattle.refutation.specs.Answers.{GoesOnTo}
@@ -57,3 +57,12 @@ module _ (net : Net) (gate : ℕ) (marks : List Bool) (at count : ℕ) (live : I
         | inr walk ↦ elim (eqb_tells at y) [ inl same ↦ at_marked y same.1 | inr ne ↦ absurd (walk_ends net gate y at count walk ne.1 ends chain) ]
       ];
     }
+
+-- a node without pins isn't reached
+no_pin : (ds : List ℕ) (p d : ℕ) → slice_get ds 0 ≡ None → slice_get ds p ≡ Some d → ⊥
+no_pin [] p d none e = cc
+no_pin (x ∷ ds) p d none e = cc
+
+pub unreached : (net : Net) (x y : ℕ) → slice_get (drivers_of net y) 0 ≡ None → Reaches net x y → ⊥
+unreached net x y none (pin p reads) = no_pin (drivers_of net y) p x none reads
+unreached net x y none (on {z = z} p path reads) = no_pin (drivers_of net y) p z none reads

@@ -96,9 +96,9 @@ pub walk_ends : (net : Net) (gate node at count : ℕ) → Walks net gate node a
 walk_ends net gate node at count w ne ends chain = elim (chain_cases w.chain ends chain.1) [ inl e ↦ ne (sym e) | inr among ↦ w.apart among ]
 
 -- no walk is longer than the net has numbers
-pub walk_short : (net : Net) (gate node at : ℕ) → IsAcyclic net → IsLive net gate → Walks net gate node at (length net.nodes) → ⊥
-walk_short net gate node at acyclic live w =
+pub walk_short : (net : Net) (gate node at count : ℕ) → IsAcyclic net → IsLive net gate → length net.nodes ≤ count → Walks net gate node at count → ⊥
+walk_short net gate node at count acyclic live long w =
     let few : length (at ∷ w.before) ≤ length net.nodes = length-le_from_distinct_below (at ∷ w.before) (length net.nodes) (chain_apart acyclic.0 acyclic.1 w.chain)
     (λ q e. kind_live net q (among_live live w.chain q (among_from_any (at ∷ w.before) q e))) in
-    let long : length w.before ≡ length net.nodes = w.long in
+    let same : length w.before ≡ count = w.long in
     omega arith

@@ -1,5 +1,5 @@
 -- What the faulty gate reaches, and its chain.
-use Rattle.std.specs.Prelude.{Bool, List, ℕ}
+use Rattle.std.specs.Prelude.{Bool, List, length, true, ℕ, ◌≡◌, ◌≤◌}
 use Rattle.gate_graph.specs.Search.{IsSeen}
 use Rattle.gate_net.specs.Net.{Net}
 use Rattle.gate_net.specs.Paths.{IsInChain}
@@ -19,3 +19,15 @@ pub record MarksChain (net : Net) (gate : ℕ) (marks : List Bool) : Type 0 wher
 pub record IsSiteOf (net : Net) (gate : ℕ) (site : SiteMarks) : Type 0 where
   pub reached : MarksReached net gate site.reached
   pub chained : MarksChain net gate site.chained
+
+-- a site whose halves are marked when they are first asked for
+pub record AskedMarks : Type 0 where
+  pub marks : SiteMarks
+  pub has_reached : Bool
+  pub has_chained : Bool
+
+-- there is room for the net, and what was asked for is marked for the gate
+pub record Serves (net : Net) (gate : ℕ) (s : AskedMarks) : Type 0 where
+  pub room : length net.nodes ≤ length s.marks.reached
+  pub reached : s.has_reached ≡ true → MarksReached net gate s.marks.reached
+  pub chained : s.has_chained ≡ true → MarksChain net gate s.marks.chained

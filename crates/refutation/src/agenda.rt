@@ -69,12 +69,29 @@ impl Agenda {
         })
     }
 
+    /// Below which bound the numbers are.
+    pub fn len(&self) -> usize
+        ensures { result ≡ length self.now }
+    {
+        self.marks.len()
+    }
+
     /// Whether a number is on.
     pub fn has(&self, node: NodeId) -> bool
         requires { node.0 < length self.now }
         ensures { IsTrue result ↔ IsSeen self.now node.0 }
     {
         self.marks[node.0 as usize]
+    }
+
+    /// Whether a number is on; none is beyond the bound.
+    pub fn is_on(&self, node: NodeId) -> bool
+        ensures { IsTrue result ↔ IsSeen self.now node.0 }
+    {
+        match self.marks.get(node.0 as usize) {
+            Some(mark) => *mark,
+            None => false,
+        }
     }
 
     /// Puts a number on.

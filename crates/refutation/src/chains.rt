@@ -6,7 +6,7 @@ ghost use Rattle.gate_graph.specs.Circuit.{net_of};
 ghost use Rattle.refutation.specs.Answers.{IsOnlyReaderFound, IsNextInChain};
 ghost use Rattle.refutation.specs.Sites.{MarksChain};
 
-use crate::reaching::unmark;
+use crate::agenda::Agenda;
 use gate_graph::Graph;
 use rm_base::NodeId;
 
@@ -60,18 +60,18 @@ pub fn is_in_chain(graph: &Graph, gate: NodeId, node: NodeId) -> bool
 }
 
 // Marks the nodes of the chain that begins with the gate, and no others.
-pub(crate) fn mark_chain(graph: &Graph, gate: NodeId, marks: &mut Vec<bool>)
+pub(crate) fn mark_chain(graph: &Graph, gate: NodeId, marks: &mut Agenda)
     requires gate { IsLive (net_of graph.now) gate.0 }
-    requires room { length (net_of graph.now).nodes ≤ length marks.old.items }
-    ensures marked { MarksChain (net_of graph.now) gate.0 marks.new.items }
-    ensures size { length marks.new.items ≡ length marks.old.items }
+    requires room { length (net_of graph.now).nodes ≤ length marks.old }
+    ensures marked { MarksChain (net_of graph.now) gate.0 marks.new }
+    ensures size { length marks.new ≡ length marks.old }
 {
     graph.well_formed();
-    unmark(marks);
-    let bound = graph.node_bound();
+    let bound = marks.len();
+    marks.clear();
     let mut at = gate;
     for _step in 0..bound {
-        marks[at.0 as usize] = true;
+        marks.add(at);
         let Some(next) = next_in_chain(graph, at) else {
             return;
         };

@@ -5,14 +5,16 @@ ghost use Rattle.gate_net.specs.Values.{HasPin};
 ghost use Rattle.gate_graph.specs.Circuit.{net_of};
 ghost use Rattle.refutation.specs.FactSets.{held_by};
 ghost use Rattle.refutation.specs.Answers.{IsAnswer, IsNearAnswer};
-ghost use Rattle.refutation.specs.Sites.{IsSiteOf};
+ghost use Rattle.refutation.specs.Sites.{IsSiteOf, Serves};
 
+use crate::asking::AskedSite;
 use crate::equal_lines::{
     line_differs_back, line_equal_forward, line_not_differs, line_not_equal, line_side,
 };
 use crate::held::FactSet;
 use crate::place_lines::{
-    line_act, line_chain, line_chain_marked, line_constant, line_out, line_out_marked, line_site,
+    line_act, line_chain, line_chain_asked, line_chain_marked, line_constant, line_out,
+    line_out_asked, line_out_marked, line_site,
 };
 use crate::reasoning::{Fact, Line};
 use crate::site::Site;
@@ -97,6 +99,28 @@ fn concluded_marked(
     }
 }
 
+// What a line gives, by marks of the faulty gate that are made when they are first asked for.
+fn concluded_asked(
+    graph: &Graph,
+    fault: &Fault,
+    facts: &FactSet,
+    line: &Line,
+    site: &mut AskedSite,
+) -> Option<(NodeId, Fact)>
+    requires gate { IsLive (net_of graph.now) fault.now.gate.0 }
+    requires facts { length (net_of graph.now).nodes ≤ length facts.now }
+    requires serves { Serves (net_of graph.now) fault.now.gate.0 site.old }
+    ensures answer { IsAnswer (net_of graph.now) fault.now (held_by facts.now) line.now result }
+    ensures serves { Serves (net_of graph.now) fault.now.gate.0 site.new }
+    ensures size { length site.new.marks.reached ≡ length site.old.marks.reached }
+{
+    match *line {
+        Line::Chain { node } => line_chain_asked(graph, fault, node, site),
+        Line::Out { node } => line_out_asked(graph, fault, node, site),
+        _ => concluded_near(graph, fault, facts, line),
+    }
+}
+
 /// The node and the fact that a line gives with these facts held, or None exactly where its condition isn't met. Only
 /// `Chain` and `Out` look at more than one gate.
 pub fn conclude(
@@ -133,4 +157,25 @@ pub fn conclude_marked(
 {
     graph.well_formed();
     concluded_marked(graph, fault, facts, line, site)
+}
+
+/// The same as `conclude`, by marks of the faulty gate that are made when a line first asks for them: each other line
+/// takes the time of one gate's pins.
+pub fn conclude_asked(
+    graph: &Graph,
+    fault: &Fault,
+    facts: &FactSet,
+    line: &Line,
+    site: &mut AskedSite,
+) -> Option<(NodeId, Fact)>
+    requires pin { HasPin (net_of graph.now) fault.now }
+    requires facts { length (net_of graph.now).nodes ≤ length facts.now }
+    requires serves { Serves (net_of graph.now) fault.now.gate.0 site.old }
+    ensures answer { IsAnswer (net_of graph.now) fault.now (held_by facts.now) line.now result }
+    ensures node { IfSome result (λ r. r.0.0 < length (net_of graph.now).nodes) }
+    ensures serves { Serves (net_of graph.now) fault.now.gate.0 site.new }
+    ensures size { length site.new.marks.reached ≡ length site.old.marks.reached }
+{
+    graph.well_formed();
+    concluded_asked(graph, fault, facts, line, site)
 }

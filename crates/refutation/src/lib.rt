@@ -2,6 +2,7 @@
 #![tactic(auto)]
 
 pub mod agenda;
+pub mod asking;
 pub mod chains;
 mod concluding;
 pub mod detected;
@@ -21,7 +22,7 @@ mod tests;
 mod trees;
 pub mod value_lines;
 
-pub use concluding::{conclude, conclude_marked};
+pub use concluding::{conclude, conclude_asked, conclude_marked};
 pub use held::{FactSet, NodeFacts};
 pub use items::{Form, Item, Shape};
 pub use reasoning::{Fact, Line};

@@ -4,8 +4,9 @@ ghost use Rattle.gate_net.specs.Net.{Net, IsLive};
 ghost use Rattle.gate_graph.specs.Circuit.{net_of};
 ghost use Rattle.refutation.specs.Facts.{Held};
 ghost use Rattle.refutation.specs.Answers.{IsAnswer};
-ghost use Rattle.refutation.specs.Sites.{IsSiteOf};
+ghost use Rattle.refutation.specs.Sites.{IsSiteOf, Serves};
 
+use crate::asking::AskedSite;
 use crate::chains::is_in_chain;
 use crate::reasoning::{Fact, Line};
 use crate::site::Site;
@@ -104,6 +105,49 @@ pub fn line_chain_marked(
     ensures { (held : Held) → IsAnswer (net_of graph.now) fault.now held (Line.Chain node) result }
 {
     if site.is_chained(node) {
+        Some((node, Fact::Differs))
+    } else {
+        None
+    }
+}
+
+/// The same as `line_out`, by the marks of the faulty gate, which are made when they are first asked for.
+pub fn line_out_asked(
+    graph: &Graph,
+    fault: &Fault,
+    node: NodeId,
+    site: &mut AskedSite,
+) -> Option<(NodeId, Fact)>
+    requires gate { IsLive (net_of graph.now) fault.now.gate.0 }
+    requires serves { Serves (net_of graph.now) fault.now.gate.0 site.old }
+    ensures answer { (held : Held) → IsAnswer (net_of graph.now) fault.now held (Line.Out node) result }
+    ensures serves { Serves (net_of graph.now) fault.now.gate.0 site.new }
+    ensures size { length site.new.marks.reached ≡ length site.old.marks.reached }
+{
+    let _kind = graph.kind(node)?;
+    if node.0 == fault.gate.0 {
+        return None;
+    }
+    if site.is_reached(graph, fault.gate, node) {
+        return None;
+    }
+    Some((node, Fact::Equal))
+}
+
+/// The same as `line_chain`, by the marks of the faulty gate, which are made when they are first asked for.
+pub fn line_chain_asked(
+    graph: &Graph,
+    fault: &Fault,
+    node: NodeId,
+    site: &mut AskedSite,
+) -> Option<(NodeId, Fact)>
+    requires gate { IsLive (net_of graph.now) fault.now.gate.0 }
+    requires serves { Serves (net_of graph.now) fault.now.gate.0 site.old }
+    ensures answer { (held : Held) → IsAnswer (net_of graph.now) fault.now held (Line.Chain node) result }
+    ensures serves { Serves (net_of graph.now) fault.now.gate.0 site.new }
+    ensures size { length site.new.marks.reached ≡ length site.old.marks.reached }
+{
+    if site.is_chained(graph, fault.gate, node) {
         Some((node, Fact::Differs))
     } else {
         None

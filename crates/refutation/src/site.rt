@@ -3,9 +3,10 @@ ghost use Rattle.std.specs.Prelude.{◌≡◌, ◌≤◌, ◌↔◌, IfOk, IsTru
 ghost use Rattle.gate_graph.specs.Circuit.{net_of};
 ghost use Rattle.gate_graph.specs.Search.{IsSeen};
 ghost use Rattle.gate_net.specs.Net.{IsLive};
-ghost use Rattle.refutation.specs.Sites.{IsSiteOf};
+ghost use Rattle.refutation.specs.Reaching.{MarksReached};
+ghost use Rattle.refutation.specs.Sites.{IsSiteOf, MarksChain};
 
-use crate::agenda::{Agenda, no_marks};
+use crate::agenda::Agenda;
 use crate::chains::mark_chain;
 use crate::reaching::mark_reached;
 use gate_graph::Graph;
@@ -17,9 +18,9 @@ use std::marker::Model;
 /// numbers below a bound, and serve one gate after another.
 #[derive(Drop)]
 pub struct Site {
-    reached: Vec<bool>,
-    chained: Vec<bool>,
-    agenda: Agenda,
+    reached: Agenda,
+    chained: Agenda,
+    waiting: Agenda,
 }
 
 impl Model for Site {
@@ -28,19 +29,9 @@ impl Model for Site {
 
     ghost Value = { SiteMarks };
 
-    ghost view = { λ s. record { reached = s.reached.items; chained = s.chained.items } };
+    ghost view = { λ s. record { reached = s.reached; chained = s.chained } };
 
-    ghost invariant = { λ s. (s.agenda ≡ replicate (length s.reached.items) false) × (length s.chained.items ≡ length s.reached.items) };
-}
-
-// Whether the node is marked.
-fn has_mark(marks: &[bool], node: NodeId) -> bool
-    ensures { IsTrue result ↔ IsSeen marks.now node.0 }
-{
-    match marks.get(node.0 as usize) {
-        Some(mark) => *mark,
-        None => false,
-    }
+    ghost invariant = { λ s. (s.waiting ≡ replicate (length s.reached) false) × (length s.chained ≡ length s.reached) };
 }
 
 impl Site {
@@ -48,39 +39,62 @@ impl Site {
     pub fn new(alloc: Global, numbers: u32) -> Result<Site, NoMemory>
         ensures { IfOk result (λ s. s ≡ record { reached = replicate numbers false; chained = replicate numbers false }) }
     {
-        let reached = no_marks(alloc, numbers)?;
-        let chained = no_marks(alloc, numbers)?;
-        let agenda = Agenda::new(alloc, numbers)?;
+        let reached = Agenda::new(alloc, numbers)?;
+        let chained = Agenda::new(alloc, numbers)?;
+        let waiting = Agenda::new(alloc, numbers)?;
         Ok(Site {
             reached,
             chained,
-            agenda,
+            waiting,
         })
     }
 
-    /// Marks what the gate reaches and its chain, in place of what was marked before. It takes the time of the node
-    /// numbers and of the pins that are reached.
+    /// Marks what the gate reaches, in place of what was marked so before. It takes the time of those marks and of the
+    /// pins that are reached.
+    pub fn mark_reached(&mut self, graph: &Graph, gate: NodeId)
+        requires gate { IsLive (net_of graph.now) gate.0 }
+        requires room { length (net_of graph.now).nodes ≤ length self.old.reached }
+        ensures marked { MarksReached (net_of graph.now) gate.0 self.new.reached }
+        ensures chained { self.new.chained ≡ self.old.chained }
+        ensures size { length self.new.reached ≡ length self.old.reached }
+    {
+        mark_reached(graph, gate, &mut self.reached, &mut self.waiting);
+    }
+
+    /// Marks the gate's chain, in place of what was marked so before. It takes the time of those marks and of the
+    /// readers of the chain.
+    pub fn mark_chain(&mut self, graph: &Graph, gate: NodeId)
+        requires gate { IsLive (net_of graph.now) gate.0 }
+        requires room { length (net_of graph.now).nodes ≤ length self.old.reached }
+        ensures marked { MarksChain (net_of graph.now) gate.0 self.new.chained }
+        ensures reached { self.new.reached ≡ self.old.reached }
+    {
+        mark_chain(graph, gate, &mut self.chained);
+    }
+
+    /// Marks what the gate reaches and its chain, in place of what was marked before. It takes the time of those marks
+    /// and of the pins that are reached.
     pub fn mark(&mut self, graph: &Graph, gate: NodeId)
         requires gate { IsLive (net_of graph.now) gate.0 }
         requires room { length (net_of graph.now).nodes ≤ length self.old.reached }
         ensures marked { IsSiteOf (net_of graph.now) gate.0 self.new }
         ensures size { length self.new.reached ≡ length self.old.reached }
     {
-        mark_reached(graph, gate, &mut self.reached, &mut self.agenda);
-        mark_chain(graph, gate, &mut self.chained);
+        self.mark_reached(graph, gate);
+        self.mark_chain(graph, gate);
     }
 
     /// Whether the gate reaches the node.
     pub fn is_reached(&self, node: NodeId) -> bool
         ensures { IsTrue result ↔ IsSeen self.now.reached node.0 }
     {
-        has_mark(self.reached.as_slice(), node)
+        self.reached.is_on(node)
     }
 
     /// Whether the node is in the gate's chain.
     pub fn is_chained(&self, node: NodeId) -> bool
         ensures { IsTrue result ↔ IsSeen self.now.chained node.0 }
     {
-        has_mark(self.chained.as_slice(), node)
+        self.chained.is_on(node)
     }
 }

@@ -1,4 +1,4 @@
-use Rattle.std.proofs.Common.{◌≡◌, length, refl, arith}
+use Rattle.std.proofs.Common.{◌≤◌, length, refl, arith}
 use Rattle.gate_graph.specs.Circuit.{net_of}
 use Rattle.refutation.proofs.Walks.{walk_starts, walk_live, walk_found, walk_ends, walk_goes_on, walk_short}
 use Rattle.refutation.proofs.chains.is_in_chain.Goals as goal
@@ -20,5 +20,5 @@ loop-step-preserved c = walk_goes_on (net_of c.args.graph.now) c.args.gate.0 c.a
 
 pub unreachable-requires : goal.unreachable-requires
 unreachable-requires c =
-    let e : c.loop-step._step ≡ length (net_of c.args.graph.now).nodes = omega (arith, c.loop-step-test.false, c.loop-step.auto._step-end, c.node_bound-bound.ensures) in
-    walk_short (net_of c.args.graph.now) c.args.gate.0 c.args.node.0 c.loop-step.at.0 c.well_formed-2.ensures.net.acyclic c.requires (rw e at c.loop-step.invariant)
+    let long : length (net_of c.args.graph.now).nodes ≤ c.loop-step._step = omega (arith, c.loop-step-test.false, c.loop-step.auto._step-end, c.node_bound-bound.ensures) in
+    walk_short (net_of c.args.graph.now) c.args.gate.0 c.args.node.0 c.loop-step.at.0 c.loop-step._step c.well_formed-2.ensures.net.acyclic c.requires long c.loop-step.invariant

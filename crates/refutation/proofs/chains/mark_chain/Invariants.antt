@@ -4,4 +4,4 @@ use Rattle.refutation.proofs.Sites.{Chaining}
 use Rattle.refutation.proofs.chains.mark_chain.Given as goal
 
 abbrev pub invariant-loop-step : goal.invariant-loop-step
-invariant-loop-step l = record { chaining : Chaining (net_of l.graph) l.fn.gate.0 l.marks.items l.at.0 l._step; size : length l.marks.items ≡ length l.fn.marks.items }
+invariant-loop-step l = record { chaining : Chaining (net_of l.graph) l.fn.gate.0 l.marks l.at.0 l._step; size : length l.marks ≡ length l.fn.marks }
