@@ -1,5 +1,5 @@
 -- A reading of a tree.
-use Rattle.std.specs.Prelude.{length, ℕ, ◌≡◌, ◌≢◌}
+use Rattle.std.specs.Prelude.{length, ℕ, ◌≢◌, ◌≤◌}
 use Rattle.gate_net.specs.Net.{Net}
 use Rattle.refutation.specs.declared.items.Form.{Form}
 use Rattle.refutation.specs.declared.items.Item.{Item}
@@ -14,7 +14,7 @@ use Rattle.rm_base.specs.declared.numbers.Fault.{Fault}
 -- what holds of a reading at any time
 pub record IsWalk (net : Net) (w : Walk) : Type 0 where
   pub climbs : IsClimbing w.branches
-  pub numbers : w.branches.trail.numbers ≡ length net.nodes
+  pub numbers : length net.nodes ≤ w.branches.trail.numbers
   pub sim : FitsIfKept w.sim net
 
 -- the item leads to what is left now

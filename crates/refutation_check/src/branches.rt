@@ -1,6 +1,5 @@
 // The branch that is read and those that are still to be read.
 ghost use Rattle.std.specs.Prelude.{◌≡◌, ◌<◌, ◌↔◌, ◌∷◌, [], false, true, not, suc, ℕ, IsTrue, IfErr, IfOk, OnOk, length};
-ghost use Rattle.gate_graph.specs.Circuit.{net_of};
 ghost use Rattle.refutation.specs.Facts.{none_held, with_fact};
 ghost use Rattle.refutation.specs.declared.reasoning.Fact.TheVariants.{Good};
 ghost use Rattle.refutation_check.specs.Notes.{held_of};
@@ -10,7 +9,6 @@ ghost use Rattle.refutation_check.specs.FirstRefusal.{IsEnd};
 
 use crate::refusals::CheckRefusal;
 use crate::trail::Trail;
-use gate_graph::Graph;
 use refutation::{Fact, Form};
 use rm_base::{NoMemory, NodeId};
 use std::alloc::Global;
@@ -33,18 +31,27 @@ pub(crate) struct Branches {
 }
 
 impl Branches {
-    /// One branch, without a fact.
-    pub(crate) fn new(alloc: Global, graph: &Graph) -> Result<Branches, NoMemory>
-        ensures climbs { IfOk result (λ b. IsClimbing b) }
-        ensures numbers { IfOk result (λ b. b.trail.numbers ≡ length (net_of graph.now).nodes) }
-        ensures left { IfOk result (λ b. left_of b ≡ trees none_held []) }
+    /// One branch, without a fact, for the node numbers below `numbers`.
+    pub(crate) fn new(alloc: Global, numbers: u32) -> Result<Branches, NoMemory>
+        ensures { IfOk result (λ b. b.trail.numbers ≡ numbers) }
     {
-        let trail = Trail::new(alloc, graph)?;
+        let trail = Trail::for_numbers(alloc, numbers)?;
         Ok(Branches {
             trail,
             pending: Vec::new(alloc),
             stopped: false,
         })
+    }
+
+    /// Goes back to one branch, without a fact, in the time of what is taken back.
+    pub(crate) fn begin(&mut self)
+        ensures climbs { IsClimbing self.new }
+        ensures numbers { self.new.trail.numbers ≡ self.old.trail.numbers }
+        ensures left { left_of self.new ≡ trees none_held [] }
+    {
+        self.trail.undo_to(0);
+        self.pending.clear();
+        self.stopped = false;
     }
 
     /// Whether nothing is left to be read.
@@ -59,7 +66,8 @@ impl Branches {
         requires climbs { IsClimbing self.old }
         requires open { self.old.stopped ≡ false }
         requires node { node.0 < self.old.trail.numbers }
-        ensures { OnOk result (Moves (goes_on (trees (with_fact (held_of self.old.trail.entries) node.0 fact) (others_of self.old.trail.entries self.old.pending.items))) self.old self.new) }
+        ensures moves { OnOk result (Moves (goes_on (trees (with_fact (held_of self.old.trail.entries) node.0 fact) (others_of self.old.trail.entries self.old.pending.items))) self.old self.new) }
+        ensures numbers { self.new.trail.numbers ≡ self.old.trail.numbers }
     {
         self.trail.hold(node, fact)?;
         Ok(())
@@ -70,7 +78,8 @@ impl Branches {
         requires climbs { IsClimbing self.old }
         requires open { self.old.stopped ≡ false }
         requires node { node.0 < self.old.trail.numbers }
-        ensures { OnOk result (Moves (goes_on (trees (with_fact (held_of self.old.trail.entries) node.0 (Good first)) (with_fact (held_of self.old.trail.entries) node.0 (Good (not first)) ∷ others_of self.old.trail.entries self.old.pending.items))) self.old self.new) }
+        ensures moves { OnOk result (Moves (goes_on (trees (with_fact (held_of self.old.trail.entries) node.0 (Good first)) (with_fact (held_of self.old.trail.entries) node.0 (Good (not first)) ∷ others_of self.old.trail.entries self.old.pending.items))) self.old self.new) }
+        ensures numbers { self.new.trail.numbers ≡ self.old.trail.numbers }
     {
         let mark = self.trail.mark();
         self.pending.push(Pending { mark, node, first })?;
@@ -84,6 +93,7 @@ impl Branches {
         requires open { self.old.stopped ≡ false }
         ensures ok { OnOk result (Moves (after_end form (others_of self.old.trail.entries self.old.pending.items) number) self.old self.new) }
         ensures err { IfErr result (λ r. Halts (after_end form (others_of self.old.trail.entries self.old.pending.items) number) r) }
+        ensures numbers { self.new.trail.numbers ≡ self.old.trail.numbers }
     {
         let Some(next) = self.pending.pop() else {
             if form == Form::Partial {
@@ -103,6 +113,7 @@ impl Branches {
         requires open { self.old.stopped ≡ false }
         ensures ok { OnOk result (Moves (after_here form (others_of self.old.trail.entries self.old.pending.items) number) self.old self.new) }
         ensures err { IfErr result (λ r. Halts (after_here form (others_of self.old.trail.entries self.old.pending.items) number) r) }
+        ensures numbers { self.new.trail.numbers ≡ self.old.trail.numbers }
     {
         match form {
             Form::Closed => Err(CheckRefusal::Shape { item: number }),
@@ -119,6 +130,7 @@ impl Branches {
         requires stopped { self.old.stopped ≡ true }
         ensures passed { result ≡ true → (k : ℕ) × ((left_of self.old ≡ untrieds (suc k)) × Moves (goes_on (untrieds k)) self.old self.new) }
         ensures none { result ≡ false → left_of self.old ≡ untrieds 0 }
+        ensures numbers { self.new.trail.numbers ≡ self.old.trail.numbers }
     {
         match self.pending.pop() {
             Some(_) => true,

@@ -4,6 +4,7 @@
 mod account;
 mod branches;
 mod check;
+mod checker;
 mod forward;
 pub mod laws;
 mod premises;
@@ -16,5 +17,6 @@ mod tests;
 mod trail;
 
 pub use check::check_tree;
+pub use checker::TreeChecker;
 pub use refusals::CheckRefusal;
 pub use shorten::shortened;

@@ -6,7 +6,7 @@ ghost use Rattle.gate_graph.specs.Circuit.{net_of};
 ghost use Rattle.refutation.specs.Branches.{HasNoGood};
 ghost use Rattle.refutation.specs.FactSets.{held_by};
 ghost use Rattle.refutation.specs.Facts.{AreOpposed, none_held};
-ghost use Rattle.refutation.specs.Sites.{IsSiteOf};
+ghost use Rattle.refutation.specs.Sites.{Serves};
 ghost use Rattle.rm_base.specs.declared.numbers.Fault.{Fault};
 ghost use Rattle.refutation.specs.declared.items.Item.TheVariants as item;
 ghost use Rattle.refutation_check.specs.Turns.{MaySplitIn, trees};
@@ -18,8 +18,8 @@ use crate::forward::is_quiet;
 use crate::refusals::CheckRefusal;
 use gate_graph::Graph;
 use gate_net::Kind;
-use refutation::site::Site;
-use refutation::{Fact, FactSet, Form, Item, Line, conclude_marked};
+use refutation::asking::AskedSite;
+use refutation::{Fact, FactSet, Form, Item, Line, conclude_asked};
 use rm_base::{Fault, NoMemory, NodeId};
 use std::alloc::Global;
 use ternary_sim::Sim;
@@ -75,16 +75,25 @@ fn may_split(graph: &Graph, facts: &FactSet, form: Form, node: NodeId) -> bool
 }
 
 impl Walk {
-    /// Before the first item.
-    pub(crate) fn new(alloc: Global, graph: &Graph) -> Result<Walk, NoMemory>
-        ensures walk { IfOk result (λ w. IsWalk (net_of graph.now) w) }
-        ensures left { IfOk result (λ w. left_of w.branches ≡ trees none_held []) }
+    /// Before the first item, for the node numbers below `numbers`.
+    pub(crate) fn new(alloc: Global, numbers: u32) -> Result<Walk, NoMemory>
+        ensures { IfOk result (λ w. w.branches.trail.numbers ≡ numbers) }
     {
-        let branches = Branches::new(alloc, graph)?;
+        let branches = Branches::new(alloc, numbers)?;
         Ok(Walk {
             branches,
             sim: None,
         })
+    }
+
+    /// Goes back to before the first item, on any net that there is room for.
+    pub(crate) fn begin(&mut self)
+        ensures walk { (net : Net) → length net.nodes ≤ self.old.branches.trail.numbers → IsWalk net self.new }
+        ensures numbers { self.new.branches.trail.numbers ≡ self.old.branches.trail.numbers }
+        ensures left { left_of self.new.branches ≡ trees none_held [] }
+    {
+        self.branches.begin();
+        self.sim = None;
     }
 
     // Reads a line.
@@ -92,20 +101,23 @@ impl Walk {
         &mut self,
         graph: &Graph,
         fault: &Fault,
-        site: &Site,
+        site: &mut AskedSite,
         form: Form,
         line: &Line,
         number: u64,
     ) -> Result<(), CheckRefusal>
         requires pin { HasPin (net_of graph.now) fault.now }
-        requires site { IsSiteOf (net_of graph.now) fault.now.gate.0 site.now }
+        requires site { Serves (net_of graph.now) fault.now.gate.0 site.old }
         requires walk { IsWalk (net_of graph.now) self.old }
         requires open { self.old.branches.stopped ≡ false }
         ensures ok { OnOk result (Goes (net_of graph.now) fault.now form number (item.Line line.now) self.old self.new) }
         ensures err { IfErr result (λ r. Stops (net_of graph.now) fault.now form number (item.Line line.now) self.old r) }
+        ensures numbers { self.new.branches.trail.numbers ≡ self.old.branches.trail.numbers }
+        ensures site { Serves (net_of graph.now) fault.now.gate.0 site.new }
+        ensures size { length site.new.marks.reached ≡ length site.old.marks.reached }
     {
         let facts = self.branches.trail.facts();
-        let Some((node, fact)) = conclude_marked(graph, fault, facts, line, site) else {
+        let Some((node, fact)) = conclude_asked(graph, fault, facts, line, site) else {
             return Err(CheckRefusal::BadLine { item: number });
         };
         self.branches.hold(node, fact)?;
@@ -125,6 +137,7 @@ impl Walk {
         requires open { self.old.branches.stopped ≡ false }
         ensures ok { (fault : Fault) → OnOk result (Goes (net_of graph.now) fault form number (item.Split node first) self.old self.new) }
         ensures err { (fault : Fault) → IfErr result (λ r. Stops (net_of graph.now) fault form number (item.Split node first) self.old r) }
+        ensures numbers { self.new.branches.trail.numbers ≡ self.old.branches.trail.numbers }
     {
         if !may_split(graph, self.branches.trail.facts(), form, node) {
             return Err(CheckRefusal::BadSplit { item: number });
@@ -139,6 +152,7 @@ impl Walk {
         requires open { self.old.branches.stopped ≡ false }
         ensures ok { (net : Net) (fault : Fault) → IsWalk net self.old → OnOk result (Goes net fault form number (item.Clash node) self.old self.new) }
         ensures err { (net : Net) (fault : Fault) → IfErr result (λ r. Stops net fault form number (item.Clash node) self.old r) }
+        ensures numbers { self.new.branches.trail.numbers ≡ self.old.branches.trail.numbers }
     {
         if !is_opposed(self.branches.trail.facts(), node) {
             return Err(CheckRefusal::NotClash { item: number });
@@ -161,6 +175,7 @@ impl Walk {
         requires open { self.old.branches.stopped ≡ false }
         ensures ok { OnOk result (Goes (net_of graph.now) fault.now form number item.Quiet self.old self.new) }
         ensures err { IfErr result (λ r. Stops (net_of graph.now) fault.now form number item.Quiet self.old r) }
+        ensures numbers { self.new.branches.trail.numbers ≡ self.old.branches.trail.numbers }
     {
         if !is_quiet(
             alloc,
@@ -181,17 +196,20 @@ impl Walk {
         alloc: Global,
         graph: &Graph,
         fault: &Fault,
-        site: &Site,
+        site: &mut AskedSite,
         form: Form,
         item: &Item,
         number: u64,
     ) -> Result<(), CheckRefusal>
         requires pin { HasPin (net_of graph.now) fault.now }
-        requires site { IsSiteOf (net_of graph.now) fault.now.gate.0 site.now }
+        requires site { Serves (net_of graph.now) fault.now.gate.0 site.old }
         requires walk { IsWalk (net_of graph.now) self.old }
         requires open { self.old.branches.stopped ≡ false }
         ensures ok { OnOk result (Goes (net_of graph.now) fault.now form number item.now self.old self.new) }
         ensures err { IfErr result (λ r. Stops (net_of graph.now) fault.now form number item.now self.old r) }
+        ensures numbers { self.new.branches.trail.numbers ≡ self.old.branches.trail.numbers }
+        ensures site { Serves (net_of graph.now) fault.now.gate.0 site.new }
+        ensures size { length site.new.marks.reached ≡ length site.old.marks.reached }
     {
         match *item {
             Item::Line(line) => self.read_line(graph, fault, site, form, &line, number),
@@ -203,22 +221,25 @@ impl Walk {
         }
     }
 
-    /// Reads item `number`, with the site of the fault marked.
+    /// Reads item `number`. The site of the fault is marked when a line first asks for it.
     pub(crate) fn read(
         &mut self,
         alloc: Global,
         graph: &Graph,
         fault: &Fault,
-        site: &Site,
+        site: &mut AskedSite,
         form: Form,
         item: &Item,
         number: u64,
     ) -> Result<(), CheckRefusal>
         requires pin { HasPin (net_of graph.now) fault.now }
-        requires site { IsSiteOf (net_of graph.now) fault.now.gate.0 site.now }
+        requires site { Serves (net_of graph.now) fault.now.gate.0 site.old }
         requires walk { IsWalk (net_of graph.now) self.old }
         ensures ok { OnOk result (Goes (net_of graph.now) fault.now form number item.now self.old self.new) }
         ensures err { IfErr result (λ r. Stops (net_of graph.now) fault.now form number item.now self.old r) }
+        ensures numbers { self.new.branches.trail.numbers ≡ self.old.branches.trail.numbers }
+        ensures site { Serves (net_of graph.now) fault.now.gate.0 site.new }
+        ensures size { length site.new.marks.reached ≡ length site.old.marks.reached }
     {
         if !self.branches.stopped {
             return self.read_open(alloc, graph, fault, site, form, item, number);

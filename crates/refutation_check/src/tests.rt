@@ -1,5 +1,5 @@
 //! Trees on two nets, each with what the checker answers.
-ghost use Rattle.std.specs.Prelude.{◌≡◌, ◌≢◌, ◌≤◌, ◌+◌, OnOk};
+ghost use Rattle.std.specs.Prelude.{◌≡◌, ◌≢◌, ◌≤◌, ◌+◌, IfOk, IfSome, OnOk};
 ghost use Rattle.gate_net.specs.Net.{IsGateKind};
 ghost use Rattle.gate_net.specs.declared.Kind.TheVariants.{Not};
 ghost use Rattle.gate_graph.specs.Circuit.{live_nodes, pins_taken};
@@ -77,7 +77,10 @@ fn one_gate(alloc: Global) -> Result<Option<Graph>, NoMemory> {
 }
 
 // Of the sources 2 to 5: 6 is And(2, 3), 7 is And(2, 4), 8 is Or(6, 7), 9 is And(8, 5, 2), which is observed.
-fn four_gates(alloc: Global) -> Result<Option<Graph>, NoMemory> {
+fn four_gates(alloc: Global) -> Result<Option<Graph>, NoMemory>
+    ensures pins { IfOk result (λ o. IfSome o (λ g. pins_taken g ≤ 500)) }
+    ensures nodes { IfOk result (λ o. IfSome o (λ g. live_nodes g ≤ 500)) }
+{
     let mut graph = Graph::new(alloc, 4)?;
     let six = add_gate(&mut graph, Kind::And, 2, 3)?;
     let seven = add_gate(&mut graph, Kind::And, 2, 4)?;
@@ -168,6 +171,8 @@ macro_rules! accepted {
         }
     };
 }
+
+mod keeping;
 
 // Pin 0 of the And of two.
 const STUCK_AT_0: (u32, u32, bool) = (4, 0, false);

@@ -59,7 +59,14 @@ impl Trail {
     pub(crate) fn new(alloc: Global, graph: &Graph) -> Result<Trail, NoMemory>
         ensures { IfOk result (λ t. t ≡ record { numbers = length (net_of graph.now).nodes; entries = [] }) }
     {
-        let facts = FactSet::new(alloc, graph)?;
+        Trail::for_numbers(alloc, graph.node_bound())
+    }
+
+    /// No fact, for the node numbers below `numbers`.
+    pub(crate) fn for_numbers(alloc: Global, numbers: u32) -> Result<Trail, NoMemory>
+        ensures { IfOk result (λ t. t ≡ record { numbers = numbers; entries = [] }) }
+    {
+        let facts = FactSet::for_numbers(alloc, numbers)?;
         let entries = Vec::new(alloc);
         Ok(Trail { facts, entries })
     }
@@ -84,6 +91,7 @@ impl Trail {
         requires { node.0 < self.old.numbers }
         ensures held { OnOk result (held_of self.new.entries ≡ with_fact (held_of self.old.entries) node.0 fact) }
         ensures more { OnOk result (HasMore self.old self.new) }
+        ensures numbers { self.new.numbers ≡ self.old.numbers }
     {
         if self.facts.holds(node, fact) {
             return Ok(());

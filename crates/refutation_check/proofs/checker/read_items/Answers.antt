@@ -1,19 +1,29 @@
-use Rattle.std.proofs.Common.{arith, false, sym, true, ◌∙◌, ◌≡◌}
+use Rattle.std.proofs.Common.{arith, false, refl, sym, true, ◌∙◌, ◌≡◌}
 use Rattle.std.proofs.lemmas.Result.{err_from_is_err_and}
 use Rattle.gate_graph.specs.Circuit.{net_of}
-use Rattle.refutation.proofs.Told.{gate_live}
 use Rattle.refutation.specs.declared.items.Item.TheVariants.{Line}
 use Rattle.refutation.specs.declared.reasoning.Line.TheVariants.{Act}
 use Rattle.refutation_check.proofs.Steps.{read_step, refused_after, refused_here, refused_step}
 use Rattle.refutation_check.specs.Standing.{left_of}
-use Rattle.refutation_check.proofs.check.read_items.Goals as goal
+use Rattle.refutation_check.proofs.checker.read_items.Goals as goal
 
-pub mark-requires-clause-gate : goal.mark-requires-clause-gate
-mark-requires-clause-gate c = gate_live (net_of c.args.graph.now) c.args.fault.now c.requires
+pub loop-item-init : goal.loop-item-init
+loop-item-init c = record {
+  walk = c.requires.walk;
+  site = c.requires.site;
+  numbers = refl;
+  size = refl;
+  number = refl;
+  read = λ rest. rw c.requires.left at rest;
+  refused = λ r rest. rw c.requires.left at rest;
+}
 
 pub loop-item-preserved : goal.loop-item-preserved
 loop-item-preserved c = record {
   walk = c.in_ok-read.ensures.ok.walk;
+  site = c.in_ok-read.ensures.site;
+  numbers = c.in_ok-read.ensures.numbers ∙ c.loop-item.invariant.numbers;
+  size = c.in_ok-read.ensures.size ∙ c.loop-item.invariant.size;
   number = omega arith;
   read = λ rest. c.loop-item.invariant.read (read_step _ _ _ c.args.items.now _ c.loop-item.item-index c.loop-item.number _ _ c.loop-item.invariant.number c.loop-item-test.true c.in_ok-read.ensures.ok rest);
   refused = λ r rest.
@@ -23,7 +33,7 @@ loop-item-preserved c = record {
 
 pub returns-in_err-read-clause-err : goal.returns-in_err-read-clause-err
 returns-in_err-read-clause-err c =
-    let p = err_from_is_err_and c.from_residual-in_err-read.result c.from_residual-in_err-read.ensures.1 in
+    let p = err_from_is_err_and c.from_residual.result c.from_residual.ensures.1 in
     rw (p.1, p.2)
     (λ ne.
     c.loop-item.invariant.refused c.in_err-read.field-0.0
