@@ -8,9 +8,8 @@ use crate::refusal::Why;
 use gate_graph::{Graph, pin_count};
 use gate_net::Kind;
 use refutation::{Form, Tree};
-use refutation_check::{CheckRefusal, check_tree};
-use rm_base::Fault;
-use std::alloc::Global;
+use refutation_check::{CheckRefusal, TreeChecker};
+use rm_base::{Fault, NoMemory};
 use wire_edit::Step;
 
 /// Why a tree isn't accepted.
@@ -28,18 +27,31 @@ pub(crate) fn why_tree(refusal: CheckRefusal) -> Why
 }
 
 // Whether a tree refutes a fault.
-fn tree_says(alloc: Global, graph: &Graph, fault: &Fault, tree: &Tree) -> Result<(), Why>
+fn tree_says(
+    checker: &mut TreeChecker,
+    graph: &Graph,
+    fault: &Fault,
+    tree: &Tree,
+) -> Result<(), Why>
     requires { HasPin (net_of graph.now) fault.now }
     ensures { TreeSays (net_of graph.now) fault.now tree.now result }
 {
-    match check_tree(alloc, graph, fault, tree, Form::Closed) {
+    if let Err(NoMemory) = checker.reserve(graph.node_bound()) {
+        return Err(Why::NoMemory);
+    }
+    match checker.check(graph, fault, tree, Form::Closed) {
         Ok(_shape) => Ok(()),
         Err(refusal) => Err(why_tree(refusal)),
     }
 }
 
 /// Whether the tree of a fix refutes its fault, where the pin exists.
-pub(crate) fn fix_says(alloc: Global, graph: &Graph, step: Step, tree: &Tree) -> Result<(), Why>
+pub(crate) fn fix_says(
+    checker: &mut TreeChecker,
+    graph: &Graph,
+    step: Step,
+    tree: &Tree,
+) -> Result<(), Why>
     ensures { FixSays (net_of graph.now) step tree.now result }
 {
     let Step::Fix {
@@ -58,7 +70,7 @@ pub(crate) fn fix_says(alloc: Global, graph: &Graph, step: Step, tree: &Tree) ->
         position,
         value,
     };
-    tree_says(alloc, graph, &fault, tree)
+    tree_says(checker, graph, &fault, tree)
 }
 
 // The value that doesn't control a kind.
@@ -90,7 +102,7 @@ pub(crate) fn added_pin(graph: &Graph, step: Step) -> Option<Fault>
 
 /// Whether the tree refutes the fault of an added pin.
 pub(crate) fn add_says(
-    alloc: Global,
+    checker: &mut TreeChecker,
     graph: &Graph,
     added: Option<Fault>,
     tree: &Tree,
@@ -99,7 +111,7 @@ pub(crate) fn add_says(
     ensures { AddSays (net_of graph.now) added tree.now result }
 {
     match added {
-        Some(fault) => tree_says(alloc, graph, &fault, tree),
+        Some(fault) => tree_says(checker, graph, &fault, tree),
         None => Ok(()),
     }
 }

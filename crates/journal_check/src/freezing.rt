@@ -10,6 +10,7 @@ use crate::refusal::Why;
 use crate::settling::Settling;
 use gate_graph::Graph;
 use journal_text::Record;
+use refutation_check::TreeChecker;
 use rm_base::{NoMemory, NodeId};
 use std::alloc::Global;
 use wire_edit::{Step, first_rule};
@@ -49,7 +50,7 @@ fn settling_of(alloc: Global, graph: &Graph) -> Result<Settling, Why>
 
 // One more verdict on a frozen net.
 fn next_verdict(
-    alloc: Global,
+    checker: &mut TreeChecker,
     graph: Graph,
     settling: Settling,
     given: &Record,
@@ -60,13 +61,14 @@ fn next_verdict(
     ensures says { RecordSays budget (position_of (Frozen graph settling)) given.now (position_of result.0) result.1 }
 {
     let mut settling = settling;
-    let answer = settling.settle(alloc, &graph, given, budget);
+    let answer = settling.settle(checker, &graph, given, budget);
     (Bench::Frozen { graph, settling }, answer)
 }
 
 // The first verdict, which freezes the net.
 fn first_verdict(
     alloc: Global,
+    checker: &mut TreeChecker,
     graph: Graph,
     given: &Record,
     budget: u32,
@@ -80,7 +82,7 @@ fn first_verdict(
         Ok(settling) => settling,
         Err(why) => return (Bench::Idle { graph }, Err(why)),
     };
-    if let Err(why) = settling.settle(alloc, &graph, given, budget) {
+    if let Err(why) = settling.settle(checker, &graph, given, budget) {
         return (Bench::Idle { graph }, Err(why));
     }
     (Bench::Frozen { graph, settling }, Ok(()))
@@ -89,6 +91,7 @@ fn first_verdict(
 /// Settles a fault of the net, which is frozen if it isn't yet.
 pub(crate) fn verdict(
     alloc: Global,
+    checker: &mut TreeChecker,
     bench: Bench,
     given: &Record,
     budget: u32,
@@ -99,9 +102,13 @@ pub(crate) fn verdict(
     ensures says { RecordSays budget (position_of bench) given.now (position_of result.0) result.1 }
 {
     match bench {
-        Bench::Idle { graph } => first_verdict(alloc, graph, given, budget),
-        Bench::Trying { trial, left: _ } => first_verdict(alloc, trial.commit(), given, budget),
-        Bench::Frozen { graph, settling } => next_verdict(alloc, graph, settling, given, budget),
+        Bench::Idle { graph } => first_verdict(alloc, checker, graph, given, budget),
+        Bench::Trying { trial, left: _ } => {
+            first_verdict(alloc, checker, trial.commit(), given, budget)
+        }
+        Bench::Frozen { graph, settling } => {
+            next_verdict(checker, graph, settling, given, budget)
+        }
     }
 }
 

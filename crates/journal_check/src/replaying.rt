@@ -19,6 +19,7 @@ use crate::trying::edit;
 use cover_decompose::{DecomposeRefusal, decompose, decompositions_stand};
 use gate_graph::Graph;
 use journal_text::Record;
+use refutation_check::TreeChecker;
 use rm_model::Model as Netlist;
 use std::alloc::Global;
 use std::marker::Model;
@@ -27,6 +28,7 @@ use std::marker::Model;
 #[derive(Drop)]
 pub struct Replay {
     alloc: Global,
+    checker: TreeChecker,
     // It is away only while a record is looked at.
     bench: Option<Bench>,
     budget: u32,
@@ -45,19 +47,25 @@ impl Model for Replay {
 }
 
 // What a record does to the graph.
-fn taken(alloc: Global, bench: Bench, given: &Record, budget: u32) -> (Bench, Result<(), Why>)
+fn taken(
+    alloc: Global,
+    checker: &mut TreeChecker,
+    bench: Bench,
+    given: &Record,
+    budget: u32,
+) -> (Bench, Result<(), Why>)
     requires bench { IsBench bench }
     requires tree { IsLocalTree given.now }
     ensures bench { IsBench result.0 }
     ensures says { RecordSays budget (position_of bench) given.now (position_of result.0) result.1 }
 {
     match given {
-        Record::Step { step, tree } => edit(alloc, bench, *step, tree),
+        Record::Step { step, tree } => edit(alloc, checker, bench, *step, tree),
         Record::Hit {
             fault: _,
             vector: _,
-        } => verdict(alloc, bench, given, budget),
-        Record::Spent { fault: _, tree: _ } => verdict(alloc, bench, given, budget),
+        } => verdict(alloc, checker, bench, given, budget),
+        Record::Spent { fault: _, tree: _ } => verdict(alloc, checker, bench, given, budget),
     }
 }
 
@@ -75,15 +83,17 @@ impl Replay {
     {
         decompositions_stand();
         let graph = decompose(alloc, model)?;
-        Ok(Replay::over(alloc, graph, budget))
+        let checker = TreeChecker::new(alloc, graph.node_bound())?;
+        Ok(Replay::over(alloc, checker, graph, budget))
     }
 
-    fn over(alloc: Global, graph: Graph, budget: u32) -> Replay
+    fn over(alloc: Global, checker: TreeChecker, graph: Graph, budget: u32) -> Replay
         requires { IsIdle graph }
         ensures { result ≡ record { position = editing (net_of graph); budget = budget; number = 1; refusal = None } }
     {
         Replay {
             alloc,
+            checker,
             bench: Some(Bench::Idle { graph }),
             budget,
             number: 1,
@@ -100,7 +110,7 @@ impl Replay {
         let Some(bench) = self.bench.take() else {
             unreachable!()
         };
-        let (bench, answer) = taken(self.alloc, bench, given, self.budget);
+        let (bench, answer) = taken(self.alloc, &mut self.checker, bench, given, self.budget);
         self.bench = Some(bench);
         answer
     }
@@ -142,6 +152,7 @@ impl Replay {
     {
         let Replay {
             alloc,
+            checker: _checker,
             bench,
             budget: _budget,
             number,

@@ -18,7 +18,7 @@ use fault_sim::Lanes;
 use gate_graph::{Graph, faults_of};
 use journal_text::Record;
 use refutation::{Form, Tree};
-use refutation_check::check_tree;
+use refutation_check::TreeChecker;
 use rm_base::{Fault, NoMemory, Vector};
 use std::alloc::Global;
 
@@ -65,11 +65,20 @@ fn detects(
 }
 
 // Whether the tree is that of a search of the fault that spent exactly its budget.
-fn spends(alloc: Global, graph: &Graph, fault: &Fault, tree: &Tree, budget: u32) -> Result<(), Why>
+fn spends(
+    checker: &mut TreeChecker,
+    graph: &Graph,
+    fault: &Fault,
+    tree: &Tree,
+    budget: u32,
+) -> Result<(), Why>
     requires { HasPin (net_of graph.now) fault.now }
     ensures { SpentSays (net_of graph.now) budget fault.now tree.now result }
 {
-    let shape = match check_tree(alloc, graph, fault, tree, Form::Partial) {
+    if let Err(NoMemory) = checker.reserve(graph.node_bound()) {
+        return Err(Why::NoMemory);
+    }
+    let shape = match checker.check(graph, fault, tree, Form::Partial) {
         Ok(shape) => shape,
         Err(refusal) => return Err(why_tree(refusal)),
     };
@@ -136,7 +145,7 @@ impl Settling {
     // Settles the next fault by the tree of a search.
     fn spent(
         &mut self,
-        alloc: Global,
+        checker: &mut TreeChecker,
         graph: &Graph,
         given: Fault,
         tree: &Tree,
@@ -147,7 +156,7 @@ impl Settling {
         ensures says { VerdictSays (net_of graph.now) budget (left_of self.old) (kept.Spent given tree.now) (left_of self.new) result }
     {
         let fault = self.expected(given)?;
-        spends(alloc, graph, &fault, tree, budget)?;
+        spends(checker, graph, &fault, tree, budget)?;
         self.settled += 1;
         Ok(())
     }
@@ -165,7 +174,7 @@ impl Settling {
     /// Settles the next fault by a record.
     pub(crate) fn settle(
         &mut self,
-        alloc: Global,
+        checker: &mut TreeChecker,
         graph: &Graph,
         given: &Record,
         budget: u32,
@@ -177,7 +186,7 @@ impl Settling {
         match given {
             Record::Step { step: _, tree: _ } => Err(self.late()),
             Record::Hit { fault, vector } => self.hit(graph, *fault, vector),
-            Record::Spent { fault, tree } => self.spent(alloc, graph, *fault, tree, budget),
+            Record::Spent { fault, tree } => self.spent(checker, graph, *fault, tree, budget),
         }
     }
 }

@@ -10,6 +10,7 @@ use crate::editing::{add_says, added_pin, fix_says};
 use crate::refusal::Why;
 use gate_graph::Graph;
 use refutation::Tree;
+use refutation_check::TreeChecker;
 use std::alloc::Global;
 use wire_edit::{BeginRefusal, Room, Step, Trial, answers_agree, answers_apply, steps_grow};
 
@@ -41,7 +42,7 @@ fn begun(alloc: Global, graph: Graph) -> Result<(Trial, usize), Graph>
 
 // Makes a step that its tree justifies and keeps it for good, or says why not.
 fn make(
-    alloc: Global,
+    checker: &mut TreeChecker,
     trial: Trial,
     left: usize,
     step: Step,
@@ -58,7 +59,7 @@ fn make(
     steps_grow();
     let mut trial = trial;
     trial.graph().well_formed();
-    let before = fix_says(alloc, trial.graph(), step, tree);
+    let before = fix_says(checker, trial.graph(), step, tree);
     let added = added_pin(trial.graph(), step);
     if let Err(refusal) = trial.apply(step) {
         return (Bench::Trying { trial, left }, Err(Why::Edit(refusal)));
@@ -67,7 +68,7 @@ fn make(
         let graph = trial.rollback();
         return (Bench::Idle { graph }, Err(why));
     }
-    if let Err(why) = add_says(alloc, trial.graph(), added, tree) {
+    if let Err(why) = add_says(checker, trial.graph(), added, tree) {
         let graph = trial.rollback();
         return (Bench::Idle { graph }, Err(why));
     }
@@ -77,32 +78,44 @@ fn make(
 }
 
 // Begins a trial for a step.
-fn begin_and_make(alloc: Global, graph: Graph, step: Step, tree: &Tree) -> (Bench, Result<(), Why>)
+fn begin_and_make(
+    alloc: Global,
+    checker: &mut TreeChecker,
+    graph: Graph,
+    step: Step,
+    tree: &Tree,
+) -> (Bench, Result<(), Why>)
     requires idle { IsIdle graph }
     requires tree { IsStepTree step tree.now }
     ensures makes { Makes (net_of graph) step tree.now (net_in result.0) result.1 }
     ensures editing { IsEditing result.0 }
 {
     match begun(alloc, graph) {
-        Ok((trial, left)) => make(alloc, trial, left, step, tree),
+        Ok((trial, left)) => make(checker, trial, left, step, tree),
         Err(graph) => (Bench::Idle { graph }, Err(Why::NoMemory)),
     }
 }
 
 /// Makes a step, where the net isn't frozen and the tree justifies it.
-pub(crate) fn edit(alloc: Global, bench: Bench, step: Step, tree: &Tree) -> (Bench, Result<(), Why>)
+pub(crate) fn edit(
+    alloc: Global,
+    checker: &mut TreeChecker,
+    bench: Bench,
+    step: Step,
+    tree: &Tree,
+) -> (Bench, Result<(), Why>)
     requires bench { IsBench bench }
     requires tree { IsStepTree step tree.now }
     ensures bench { IsBench result.0 }
     ensures says { (budget : ℕ) → RecordSays budget (position_of bench) (kept.Step step tree.now) (position_of result.0) result.1 }
 {
     match bench {
-        Bench::Idle { graph } => begin_and_make(alloc, graph, step, tree),
+        Bench::Idle { graph } => begin_and_make(alloc, checker, graph, step, tree),
         Bench::Trying { trial, left } => {
             if left == 0 {
-                return begin_and_make(alloc, trial.commit(), step, tree);
+                return begin_and_make(alloc, checker, trial.commit(), step, tree);
             }
-            make(alloc, trial, left, step, tree)
+            make(checker, trial, left, step, tree)
         }
         Bench::Frozen { graph, settling } => {
             let why = settling.late();
