@@ -34,7 +34,7 @@ module _ (net : Net) (gate at count : ℕ) (reached : List Bool) (ks : List Know
 
   -- no walk is longer than the net has numbers
   pub walked_short : count ≡ length net.nodes → ⊥
-  walked_short all = walk_short net gate (length net.nodes) at acyclic live (record { before = w.before; chain = w.chain; long = w.long ∙ all; apart = w.apart })
+  walked_short all = walk_short net gate (length net.nodes) at (length net.nodes) acyclic live (omega arith) (record { before = w.before; chain = w.chain; long = w.long ∙ all; apart = w.apart })
 
   module _ (more : List Candidate) (new : (held : Held) → AreKnown net held (length net.nodes) ks → AreAmong net held at (length net.nodes) more) where
     pub walked_more : (y : ℕ) → GoesOnTo net at y → IsWalked net gate y (count + 1) (slice_set reached y false) ks (cs ++ more)

@@ -142,7 +142,7 @@ module _ (net : Net) (fault : Fault) (old : List NodeFacts) (old_lines : List Li
   ]
 
 pub chain_short : (net : Net) (fault : Fault) (old : List NodeFacts) (old_lines : List Line) (old_trail : List (NodeId × Fact)) (facts : List NodeFacts) (lines : List Line) (trail : List (NodeId × Fact)) (at : ℕ) → IsAcyclic net → IsLive net fault.gate.0 → Chaining net fault old old_lines old_trail facts lines trail at (length net.nodes) → ⊥
-chain_short net fault old old_lines old_trail facts lines trail at acyclic live c = walk_short net fault.gate.0 (length net.nodes) at acyclic live c.long
+chain_short net fault old old_lines old_trail facts lines trail at acyclic live c = walk_short net fault.gate.0 (length net.nodes) at (length net.nodes) acyclic live (omega arith) c.long
 
 -- OUTSIDE
 pub outside_first : (net : Net) (fault : Fault) (facts : List NodeFacts) (lines : List Line) (trail : List (NodeId × Fact)) → Works net fault facts lines facts lines → Keeps facts trail facts trail → IsClashFree (held_by facts) → GivingOut net fault 0 facts lines trail facts lines trail
