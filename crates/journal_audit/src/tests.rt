@@ -145,74 +145,77 @@ fn changed_files_are_refused(rt: HostRuntime) -> Result<(), Fail> {
     Ok(())
 }
 
+const FIRST: Fault = Fault {
+    gate: NodeId(4),
+    position: 0,
+    value: false,
+};
+
+const CYCLE: EditRefusal = EditRefusal::Cycle {
+    from: NodeId(6),
+    to: NodeId(9),
+};
+
+const ONE_HIT_MORE: &str =
+    "rambo 1 256\nhit 4 0 0 11\nhit 4 0 1 01\nhit 4 1 0 11\nhit 4 1 1 10\nhit 4 1 1 10\nend\n";
+
+// The input, the journal, and the record that is refused with the reason.
+const REFUSED: [(&'static str, &'static str, u64, Why); 6] = [
+    (
+        ONE_GATE,
+        "rambo 1 256\nend\n",
+        1,
+        Why::FaultMissing { fault: FIRST },
+    ),
+    (
+        ONE_GATE,
+        "rambo 1 2\nspent 4 0 0 /2,1 @ ?\nend\n",
+        1,
+        Why::SpentShort {
+            edges: 1,
+            budget: 2,
+        },
+    ),
+    (ONE_GATE, ONE_HIT_MORE, 5, Why::RecordExtra),
+    (
+        ZERO_ROW,
+        "rambo 1 256\nend\n",
+        1,
+        Why::NotTidy { node: NodeId(2) },
+    ),
+    (
+        FOUR_GATES,
+        "rambo 1 256\nadd 6 9 .\nend\n",
+        1,
+        Why::Edit(CYCLE),
+    ),
+    (FOUR_GATES, "rambo 1 256\nadd 6 9 .\nx", 1, Why::Edit(CYCLE)),
+];
+
 #[test]
 fn other_journals_are_refused(rt: HostRuntime) -> Result<(), Fail> {
     let alloc = rt.alloc();
-    let first = Fault {
-        gate: NodeId(4),
-        position: 0,
-        value: false,
-    };
-    let extra = changed(alloc, ONE_GATE_JOURNAL, "end\n", "hit 4 1 1 10\nend\n")?;
-    let rows: [(&str, &str, Answer); 8] = [
-        (
-            ONE_GATE,
-            "rambo 1 256\nend\n",
-            refused(1, Why::FaultMissing { fault: first }),
-        ),
-        (
-            ONE_GATE,
-            "rambo 1 2\nspent 4 0 0 /2,1 @ ?\nend\n",
-            refused(
-                1,
-                Why::SpentShort {
-                    edges: 1,
-                    budget: 2,
-                },
-            ),
-        ),
-        (ONE_GATE, &extra, refused(5, Why::RecordExtra)),
-        (
-            ZERO_ROW,
-            "rambo 1 256\nend\n",
-            refused(1, Why::NotTidy { node: NodeId(2) }),
-        ),
-        (
-            FOUR_GATES,
-            "rambo 1 256\nadd 6 9 .\nend\n",
-            refused(
-                1,
-                Why::Edit(EditRefusal::Cycle {
-                    from: NodeId(6),
-                    to: NodeId(9),
-                }),
-            ),
-        ),
-        (
-            FOUR_GATES,
-            "rambo 1 256\nadd 6 9 .\nx",
-            refused(
-                1,
-                Why::Edit(EditRefusal::Cycle {
-                    from: NodeId(6),
-                    to: NodeId(9),
-                }),
-            ),
-        ),
-        (
-            FOUR_GATES,
-            "rambo 2 256\nend\n",
-            faulty(JournalFault::BadHeader { line: 1 }),
-        ),
-        (
-            FOUR_GATES,
-            "rambo 1 256\nfix 06 0 1 .\nend\n",
-            faulty(JournalFault::BadRecord { line: 2 }),
-        ),
-    ];
-    for (input, journal, wanted) in rows {
+    for (input, journal, number, why) in REFUSED {
         let got = answer(alloc, input, journal, "x")?;
-        assert_eq!(rt; got, wanted);
+        assert_eq!(rt; got, refused(number, why));
+    }
+    Ok(())
+}
+
+const FAULTY: [(&'static str, JournalFault); 2] = [
+    ("rambo 2 256\nend\n", JournalFault::BadHeader { line: 1 }),
+    (
+        "rambo 1 256\nfix 06 0 1 .\nend\n",
+        JournalFault::BadRecord { line: 2 },
+    ),
+];
+
+#[test]
+fn faulty_journals_are_refused(rt: HostRuntime) -> Result<(), Fail> {
+    let alloc = rt.alloc();
+    for (journal, fault) in FAULTY {
+        let got = answer(alloc, FOUR_GATES, journal, "x")?;
+        assert_eq!(rt; got, faulty(fault));
     }
     Ok(())
 }
