@@ -15,3 +15,4 @@ pub mod Streaming
 pub mod RunLaws
 pub mod WireFaults
 pub mod Filtering
+pub mod LiveNodes

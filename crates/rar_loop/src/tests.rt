@@ -1,6 +1,13 @@
 //! The addition loop, against rows that are worked out by hand.
+ghost use Rattle.std.specs.Prelude.{◌≤◌, ◌+◌, IfOk};
+ghost use Rattle.gate_graph.specs.Circuit.{live_nodes, pins_taken};
+
+mod demo;
 mod drawn;
+mod fresh;
 mod nets;
+mod pairs;
+mod wide;
 
 use self::nets::{Gate, wired};
 use crate::optimise;
@@ -23,20 +30,15 @@ struct End {
     text: Vec<u8>,
 }
 
-/// Runs the loop on the net of a table, at depth 1 with so many tries.
-fn looped(
-    alloc: Global,
-    sources: u32,
-    gates: &[Gate],
-    observed: &[u32],
-    tries: u32,
-) -> Result<End, Fail> {
-    let Some(graph) = wired(alloc, sources, gates, observed)? else {
-        return Err("drivers".into());
-    };
+/// Runs the loop on a net, at this depth with so many tries.
+fn optimised_at(alloc: Global, graph: Graph, depth: u8, tries: u32) -> Result<End, Fail>
+    requires few { pins_taken graph + live_nodes graph ≤ 1048576 }
+    requires depth { depth ≤ 2 }
+    ensures few { IfOk result (λ e. pins_taken e.graph + live_nodes e.graph ≤ pins_taken graph + live_nodes graph) }
+{
     let before = graph.wire_count();
     let settings = Settings {
-        depth: 1,
+        depth,
         budget: 256,
         tries,
         workers: 1,
@@ -57,6 +59,30 @@ fn looped(
         made,
         text,
     })
+}
+
+/// Runs the loop on a net, at depth 1 with so many tries.
+fn optimised(alloc: Global, graph: Graph, tries: u32) -> Result<End, Fail>
+    requires few { pins_taken graph + live_nodes graph ≤ 1048576 }
+    ensures few { IfOk result (λ e. pins_taken e.graph + live_nodes e.graph ≤ pins_taken graph + live_nodes graph) }
+{
+    optimised_at(alloc, graph, 1, tries)
+}
+
+/// Runs the loop on the net of a table, at depth 1 with so many tries.
+fn looped(
+    alloc: Global,
+    sources: u32,
+    gates: &[Gate],
+    observed: &[u32],
+    tries: u32,
+) -> Result<End, Fail>
+    ensures few { IfOk result (λ e. pins_taken e.graph + live_nodes e.graph ≤ 1048576) }
+{
+    let Some(graph) = wired(alloc, sources, gates, observed)? else {
+        return Err("drivers".into());
+    };
+    optimised(alloc, graph, tries)
 }
 
 // Of the sources 2 to 5: 6 is And(2, 3), 7 is And(2, 4), 8 is Or(6, 7), 9 is And(8, 5).

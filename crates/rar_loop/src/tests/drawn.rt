@@ -1,8 +1,8 @@
 // Drawn nets, before and after the loop, for all assignments of their six sources.
 ghost use Rattle.std.specs.Prelude.{◌<◌, ◌≤◌, IfOk, length};
 
-use super::looped;
 use super::nets::Gate;
+use super::{looped, made, settled};
 use fault_sim::Lanes;
 use gate_graph::Graph;
 use rm_base::NoMemory;
@@ -45,8 +45,8 @@ fn drawn_gate(state: &mut u64, nodes: u32) -> Gate
     }
 }
 
-// Gates whose drivers are constants, sources and gates before them.
-fn drawn_gates(alloc: Global, seed: u64) -> Result<Vec<Gate>, NoMemory> {
+/// Gates whose drivers are constants, sources and gates before them.
+pub fn drawn_gates(alloc: Global, seed: u64) -> Result<Vec<Gate>, NoMemory> {
     let mut state = seed;
     let mut gates = Vec::new(alloc);
     for at in 0..GATES {
@@ -67,6 +67,9 @@ fn gate_word(words: &[u64], gate: Gate) -> u64 {
     match gate {
         Gate::And(one, other) => word_at(words, one) & word_at(words, other),
         Gate::Or(one, other) => word_at(words, one) | word_at(words, other),
+        Gate::AndOfThree(one, other, third) => {
+            word_at(words, one) & word_at(words, other) & word_at(words, third)
+        }
         Gate::OrOfThree(one, other, third) => {
             word_at(words, one) | word_at(words, other) | word_at(words, third)
         }
@@ -118,6 +121,34 @@ fn wires_less(alloc: Global, seed: u64) -> Result<u32, Fail> {
         return Err("another function".into());
     }
     Ok(end.before.wrapping_sub(end.graph.wire_count()))
+}
+
+// Seed, tries, additions, fixes, other steps, and wires at the end.
+const ENDS: [(u64, u32, u64, u64, u64, u32); 12] = [
+    (2, 9, 0, 0, 16, 8),
+    (6, 31, 1, 3, 18, 8),
+    (8, 15, 0, 0, 21, 6),
+    (10, 12, 1, 1, 16, 8),
+    (18, 2, 1, 2, 18, 4),
+    (19, 2, 1, 1, 24, 3),
+    (21, 60, 3, 6, 20, 12),
+    (24, 17, 2, 2, 18, 8),
+    (27, 14, 3, 4, 26, 5),
+    (28, 14, 0, 1, 15, 7),
+    (36, 3, 1, 1, 25, 3),
+    (40, 2, 1, 3, 27, 3),
+];
+
+#[test]
+fn drawn_ends(rt: HostRuntime) -> Result<(), Fail> {
+    for (seed, tries, adds, fixes, local, wires) in ENDS {
+        let gates = drawn_gates(rt.alloc(), seed)?;
+        let end = looped(rt.alloc(), 6, gates.as_slice(), &[18, 20, 21], 100_000)?;
+        assert_eq!(rt; end.outcome, settled(tries));
+        assert_eq!(rt; end.made, made(adds, fixes, local));
+        assert_eq!(rt; end.graph.wire_count(), wires);
+    }
+    Ok(())
 }
 
 #[test]
