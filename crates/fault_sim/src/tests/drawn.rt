@@ -15,7 +15,7 @@ use std::test::Fail;
 use ternary_sim::Sim;
 
 // All vectors of six sources: bit k of the number of a lane is source k.
-const ALL: [u64; 6] = [
+pub(super) const ALL: [u64; 6] = [
     0xaaaaaaaaaaaaaaaa,
     0xcccccccccccccccc,
     0xf0f0f0f0f0f0f0f0,
@@ -24,7 +24,7 @@ const ALL: [u64; 6] = [
     0xffffffff00000000,
 ];
 
-const GATES: u32 = 12;
+pub(super) const GATES: u32 = 12;
 
 // A number below `below`, by a linear congruence.
 fn draw(state: &mut u64, below: u32) -> u32
@@ -62,18 +62,20 @@ fn add_drawn(
     }
 }
 
-// A net of six sources and drawn gates, of which the last one, the third last and another are observed.
-fn drawn(alloc: Global, seed: u64) -> Result<Option<Graph>, NoMemory> {
+// A net of so many sources and drawn gates, of which the last one, the third last and another are observed.
+pub(super) fn drawn_net(alloc: Global, sources: u32, seed: u64) -> Result<Option<Graph>, NoMemory>
+    requires { sources ≤ 8 }
+{
     let mut state = seed;
-    let mut graph = Graph::new(alloc, 6)?;
+    let mut graph = Graph::new(alloc, sources)?;
     for at in 0..GATES {
-        if !add_drawn(alloc, &mut graph, &mut state, 8 + at)? {
+        if !add_drawn(alloc, &mut graph, &mut state, 2 + sources + at)? {
             return Ok(None);
         }
     }
-    let last = observe(&mut graph, 7 + GATES)?;
-    let third = observe(&mut graph, 5 + GATES)?;
-    let any = observe(&mut graph, draw(&mut state, 8 + GATES))?;
+    let last = observe(&mut graph, 1 + sources + GATES)?;
+    let third = observe(&mut graph, sources + GATES - 1)?;
+    let any = observe(&mut graph, draw(&mut state, 2 + sources + GATES))?;
     if last && third && any {
         Ok(Some(graph))
     } else {
@@ -82,7 +84,7 @@ fn drawn(alloc: Global, seed: u64) -> Result<Option<Graph>, NoMemory> {
 }
 
 // Gives the sources the values of a vector.
-fn give(sim: &mut Sim, graph: &Graph, lane: u32)
+pub(super) fn give(sim: &mut Sim, graph: &Graph, lane: u32)
     requires { FitsSim sim.old (net_of graph.now) }
     ensures { FitsSim sim.new (net_of graph.now) }
 {
@@ -145,7 +147,7 @@ fn all_agree(alloc: Global, graph: &Graph, first: u32) -> Result<bool, NoMemory>
 #[test]
 fn drawn_nets(rt: HostRuntime) -> Result<(), Fail> {
     for seed in 1..51u64 {
-        let graph = drawn(rt.alloc(), seed)?.ok_or("gates")?;
+        let graph = drawn_net(rt.alloc(), 6, seed)?.ok_or("gates")?;
         let right = all_agree(rt.alloc(), &graph, (seed % 5) as u32)?;
         assert!(rt; right, "at seed {seed}");
     }

@@ -1,4 +1,4 @@
-use Rattle.std.proofs.Common.{arith, get_or, inl, inr, length, map, subst, ap, ℕ, Some, ◌<◌, ◌≡◌, ◌≢◌}
+use Rattle.std.proofs.Common.{arith, get_or, inl, inr, length, map, subst, ap, ℕ, ◌<◌, ◌≡◌, ◌≢◌}
 use Rattle.std.proofs.lemmas.Bool.Decides.{eqb_tells}
 use Rattle.std.specs.Prelude.{slice_get}
 use Rattle.gate_graph.specs.Circuit.{net_of}

@@ -1,0 +1,173 @@
+-- Blocks of vectors.
+use Rattle.std.proofs.Common.{IsTrue, List, length-append, None, Option, Some, [], ap, arith, false, get_or, inl, inr, length, refl, subst, suc, sym, true, zero, ℕ, ◌%◌, ◌*◌, ◌+◌, ◌++◌, ◌/◌, ◌<◌, ◌∙◌, ◌∷◌, ◌≡◌, ◌≤◌, ◌↔◌}
+use Rattle.std.proofs.lemmas.List.{length-map}
+use Rattle.std.proofs.lemmas.Option.{slice_get-get_or}
+use Rattle.std.specs.Prelude.{slice_get, slice_index, slice_index_or}
+use Rattle.gate_graph.specs.Order.{IsOrder}
+use Rattle.gate_net.specs.Net.{Net, source_count}
+use Rattle.gate_net.specs.Values.{Detects}
+use Rattle.rm_base.specs.declared.numbers.Fault.{Fault}
+use Rattle.fault_sim.proofs.Lists.{below_or}
+use Rattle.fault_sim.specs.BlockStates.{AreBlocks, AreGoodWords, ArePlaced, AreSimulated, IsBlock, IsFirstLane, IsFirstVector, IsSimulatedBlock, good_of, vector_of, words_at, words_of}
+use Rattle.fault_sim.specs.Pending.{HasRoom, IsFirstBit}
+use Rattle.fault_sim.specs.Simulating.{IsWithin}
+use Rattle.fault_sim.specs.Spreading.{AreLanes, IsRested, IsSized}
+use Rattle.fault_sim.specs.Words.{assignment, lane}
+use Rattle.fault_sim.specs.declared.blocks.Block.{Block}
+use Rattle.fault_sim.specs.declared.spread.Spread.{Spread}
+
+pub lanes_of : (order places good : List ℕ) (s : Spread) → ArePlaced order places s → IsBlock order (length places) good → AreLanes order places good s
+lanes_of order places good s placed block = record {
+  within = λ k x there. rw block.size (placed.within k x there);
+  others = block.others;
+  places_are = placed.places_are;
+  numbers = sym block.size;
+  sized = rw block.size placed.sized;
+  room = placed.room;
+}
+
+pub placed_again : (order places good : List ℕ) (s t : Spread) → ArePlaced order places s → IsBlock order (length places) good → AreLanes order places good t → IsRested t → ArePlaced order places t
+placed_again order places good s t placed block lanes rested = record {
+  within = placed.within;
+  places_are = placed.places_are;
+  sized = rw lanes.numbers lanes.sized;
+  room = lanes.room;
+  rested = rested;
+}
+
+pub first_lane_of : (net : Net) (fault : Fault) (words : List ℕ) (found : ℕ) (r : Option ℕ) → ((i : ℕ) → i < 64 → IsTrue (lane i found) ↔ Detects net fault (assignment words i)) → IsFirstBit found 0 r → IsFirstLane net fault words r
+first_lane_of net fault words found None tells first = missed
+  where
+    missed : (i : ℕ) → i < 64 → Detects net fault (assignment words i) → ⊥
+    missed i less detected =
+        let ever : lane i found ≡ true = (tells i less).1 detected in
+        let never : lane i found ≡ false = first i (omega arith) in
+        absurd (cc)
+first_lane_of net fault words found (Some b) tells first = (first.1.0, ((tells b first.1.0).0 first.1.1.0, before))
+  where
+    before : (j : ℕ) → j < b → Detects net fault (assignment words j) → ⊥
+    before j less detected =
+        let small : j < 64 = (let top = first.1.0 in omega arith) in
+        let ever : lane j found ≡ true = (tells j small).1 detected in
+        let never : lane j found ≡ false = first.1.1.1 j (omega arith) less in
+        absurd (cc)
+
+block_of : (n number : ℕ) → 64 * number ≤ n → n < 64 * number + 64 → n / 64 ≡ number
+block_of n number le less = omega arith
+
+lane_below : (n : ℕ) → n % 64 < 64
+lane_below n = omega arith
+
+module _ (net : Net) (fault : Fault) (words : List (List ℕ)) where
+  -- one block more has no vector that detects
+  pub missed_more : (number : ℕ) → ((n : ℕ) → n < 64 * number → Detects net fault (vector_of words n) → ⊥) → IsFirstLane net fault (words_at words number) None → (n : ℕ) → n < 64 * (number + 1) → Detects net fault (vector_of words n) → ⊥
+  missed_more number none here n less detected = elim (below_or n (64 * number)) [
+    | inl before ↦ none n before detected
+    | inr late ↦
+        let is : n / 64 ≡ number = block_of n number late (omega arith) in
+        here (n % 64) (lane_below n) (subst (λ b. Detects net fault (assignment (words_at words b) (n % 64))) is detected)
+  ]
+
+  pub found_first : (number i : ℕ) → number < length words → ((n : ℕ) → n < 64 * number → Detects net fault (vector_of words n) → ⊥) → IsFirstLane net fault (words_at words number) (Some i) → IsFirstVector net fault words (Some (64 * number + i))
+  found_first number i below none here = (let small = here.0 in omega arith, (detected, before))
+    where
+      block_is : (64 * number + i) / 64 ≡ number
+      block_is = let small = here.0 in omega arith
+
+      lane_is : (64 * number + i) % 64 ≡ i
+      lane_is = let small = here.0 in omega arith
+
+      detected : Detects net fault (vector_of words (64 * number + i))
+      detected =
+          subst (λ l. Detects net fault (assignment (words_at words ((64 * number + i) / 64)) l)) (sym lane_is)
+          (subst (λ b. Detects net fault (assignment (words_at words b) i)) (sym block_is) here.1.0)
+
+      before : (m : ℕ) → m < 64 * number + i → Detects net fault (vector_of words m) → ⊥
+      before m less hit = elim (below_or m (64 * number)) [
+        | inl early ↦ none m early hit
+        | inr late ↦
+            let small = here.0 in
+            let is : m / 64 ≡ number = block_of m number late (omega arith) in
+            let less' : m % 64 < i = omega arith in
+            here.1.1 (m % 64) less' (subst (λ b. Detects net fault (assignment (words_at words b) (m % 64))) is hit)
+      ]
+
+pub words_there : (blocks : List Block) (b : ℕ) (block : Block) → slice_get blocks b ≡ Some block → slice_index_or (words_of blocks) b [] ≡ block.words.items
+words_there [] b block e = absurd (cc)
+words_there (x ∷ blocks) zero block e = let same : x ≡ block = cc in ap (λ (y : Block). y.words.items) same
+words_there (x ∷ blocks) (suc b) block e = words_there blocks b block e
+
+pub block_read : (blocks : List Block) (b : ℕ) (block : Block) → b < length blocks → block ≡ get_or blocks b block → slice_get blocks b ≡ Some block
+block_read blocks b block less e = slice_get-get_or blocks b block less ∙ ap Some (sym e)
+
+pub good_there : (blocks : List Block) (b : ℕ) (block : Block) → slice_get blocks b ≡ Some block → slice_index_or (good_of blocks) b [] ≡ block.good.items
+good_there [] b block e = absurd (cc)
+good_there (x ∷ blocks) zero block e = let same : x ≡ block = cc in ap (λ (y : Block). y.good.items) same
+good_there (x ∷ blocks) (suc b) block e = good_there blocks b block e
+
+there_is : (blocks : List Block) (b : ℕ) → b < length blocks → (block : Block) × (slice_get blocks b ≡ Some block)
+there_is [] b less = absurd (omega arith)
+there_is (x ∷ blocks) zero less = (x, refl)
+there_is (x ∷ blocks) (suc b) less = there_is blocks b (omega arith)
+
+below_is : (blocks : List Block) (b : ℕ) (block : Block) → slice_get blocks b ≡ Some block → b < length blocks
+below_is [] b block e = absurd (cc)
+below_is (x ∷ blocks) zero block e = omega arith
+below_is (x ∷ blocks) (suc b) block e = let rest : b < length blocks = below_is blocks b block e in omega arith
+
+pub words_more : (blocks : List Block) (block : Block) → words_of (blocks ++ block ∷ []) ≡ words_of blocks ++ block.words.items ∷ []
+words_more [] block = refl
+words_more (x ∷ blocks) block = ap (λ (ws : List (List ℕ)). x.words.items ∷ ws) (words_more blocks block)
+
+pub each_more : (P : Block → Type 0) (blocks : List Block) (block : Block) → ((b : ℕ) (y : Block) → slice_get blocks b ≡ Some y → P y) → P block → (b : ℕ) (y : Block) → slice_get (blocks ++ block ∷ []) b ≡ Some y → P y
+each_more P [] block each here zero y e = let same : block ≡ y = cc in subst P same here
+each_more P [] block each here (suc b) y e = absurd (cc)
+each_more P (x ∷ blocks) block each here zero y e = each zero y e
+each_more P (x ∷ blocks) block each here (suc b) y e = each_more P blocks block (λ c z is. each (suc c) z is) here b y e
+
+module _ (net : Net) (order : List ℕ) (numbers : ℕ) (blocks : List Block) where
+  pub each_simulated : AreBlocks order numbers blocks → AreSimulated (record { words = words_of blocks; order = order; good = good_of blocks }) net → (b : ℕ) (block : Block) → slice_get blocks b ≡ Some block → IsSimulatedBlock net order numbers block
+  each_simulated are simulated b block there = record {
+    good = are b block there;
+    sources = ap length (sym (words_there blocks b block there)) ∙ simulated.sources b within;
+    values = subst (λ good. AreGoodWords net block.words.items good) (good_there blocks b block there) (subst (λ ws. AreGoodWords net ws (words_at (good_of blocks) b)) (words_there blocks b block there) (simulated.values b within));
+  }
+    where
+      within : b < length (words_of blocks)
+      within = rw (length-map blocks (λ (y : Block). y.words.items)) (below_is blocks b block there)
+
+  pub all_simulated : IsOrder net order → ((b : ℕ) (block : Block) → slice_get blocks b ≡ Some block → IsSimulatedBlock net order numbers block) → AreSimulated (record { words = words_of blocks; order = order; good = good_of blocks }) net
+  all_simulated ordered each = record { order = ordered; sources = sources; values = values }
+    where
+      block_at : (b : ℕ) → b < length (words_of blocks) → (block : Block) × (slice_get blocks b ≡ Some block)
+      block_at b less = there_is blocks b (rw (length-map blocks (λ (y : Block). y.words.items)) at less)
+
+      sources : (b : ℕ) → b < length (words_of blocks) → length (words_at (words_of blocks) b) ≡ source_count net
+      sources b less = let at = block_at b less in ap length (words_there blocks b at.0 at.1) ∙ (each b at.0 at.1).sources
+
+      values : (b : ℕ) → b < length (words_of blocks) → AreGoodWords net (words_at (words_of blocks) b) (words_at (good_of blocks) b)
+      values b less =
+          let at = block_at b less in
+          subst (λ good. AreGoodWords net (words_at (words_of blocks) b) good) (sym (good_there blocks b at.0 at.1))
+          (subst (λ ws. AreGoodWords net ws at.0.good.items) (sym (words_there blocks b at.0 at.1)) (each b at.0 at.1).values)
+
+pub placed_new : (order places : List ℕ) (s : Spread) (numbers : ℕ) → IsWithin order numbers → length places ≡ numbers → ((k x : ℕ) → slice_get order k ≡ Some x → slice_index places x ≡ k)
+    → IsSized numbers s → HasRoom s.pending.items (length order) → IsRested s → ArePlaced order places s
+placed_new order places s numbers within size placed sized room rested = record {
+  within = λ k x there. rw size (within k x there);
+  places_are = placed;
+  sized = rw size sized;
+  room = room;
+  rested = rested;
+}
+
+pub no_blocks : (order : List ℕ) (numbers : ℕ) → AreBlocks order numbers []
+no_blocks order numbers b block there = absurd (cc)
+
+-- one block more
+pub blocks_more : (order places : List ℕ) (s : Spread) (blocks : List Block) (block : Block) → ArePlaced order places s × (AreBlocks order (length places) blocks × (length blocks ≤ 67108864)) → IsBlock order (length places) block.good.items → length blocks < 67108864
+    → ArePlaced order places s × (AreBlocks order (length places) (blocks ++ block ∷ []) × (length (blocks ++ block ∷ []) ≤ 67108864))
+blocks_more order places s blocks block before good room = (before.0, (each_more (λ b. IsBlock order (length places) b.good.items) blocks block before.1.0 good, let size = length-append blocks (block ∷ []) in omega arith))
+
+pub lane_in : (net : Net) (fault : Fault) (blocks : List Block) (b : ℕ) (block : Block) (r : Option ℕ) → slice_get blocks b ≡ Some block → IsFirstLane net fault block.words.items r → IsFirstLane net fault (words_at (words_of blocks) b) r
+lane_in net fault blocks b block r there first = subst (λ ws. IsFirstLane net fault ws r) (sym (words_there blocks b block there)) first

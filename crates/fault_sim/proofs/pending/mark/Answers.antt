@@ -1,0 +1,6 @@
+use Rattle.std.proofs.lemmas.List.{get_or_read}
+use Rattle.fault_sim.proofs.PendingBits.{marked}
+use Rattle.fault_sim.proofs.pending.mark.Goals as goal
+
+pub returns : goal.returns
+returns c = rw c.with_bit.ensures (marked c.args.pending.now.items c.args.place c.index.result.now (get_or_read c.args.pending.now.items _ _ c.requires c.index.ensures 0) c.requires)

@@ -1,0 +1,188 @@
+// Blocks of 64 vectors, which are kept for a net.
+ghost use Rattle.std.specs.Prelude.{◌≡◌, ◌<◌, ◌≤◌, ◌++◌, ◌∷◌, [], ℕ, IfOk, None, OnErr, OnOk, Some, length, map, slice_get};
+ghost use Rattle.gate_net.specs.Net.{source_count};
+ghost use Rattle.gate_net.specs.Values.{HasPin};
+ghost use Rattle.gate_graph.specs.Circuit.{net_of};
+ghost use Rattle.gate_graph.specs.Order.{IsOrder};
+ghost use Rattle.fault_sim.specs.BlockStates.{ArePlaced, AreSimulated, IsFirstLane, IsFirstVector, IsSimulatedBlock, words_of};
+
+use crate::detecting::found_by;
+use crate::making::{places_of, zero_words};
+use crate::pending::first_bit;
+use crate::simulating::read_all;
+use crate::spread::{Spread, new_spread};
+use gate_graph::Graph;
+use rm_base::{Fault, NoMemory, NodeId};
+use std::alloc::Global;
+use std::marker::Model;
+
+/// The words of 64 vectors, and the good words of the nodes under them.
+#[derive(Debug, Drop)]
+pub struct Block {
+    pub(crate) words: Vec<u64>,
+    pub(crate) good: Vec<u64>,
+}
+
+// A block of these vectors, simulated.
+fn simulated(
+    alloc: Global,
+    graph: &Graph,
+    words: &[u64],
+    order: &[NodeId],
+    places: &[usize],
+    spread: &Spread,
+) -> Result<Block, NoMemory>
+    requires sources { length words.now ≡ source_count (net_of graph.now) }
+    requires order { IsOrder (net_of graph.now) (map (λ n. n.0) order.now) }
+    requires placed { ArePlaced (map (λ n. n.0) order.now) places.now spread.now }
+    ensures words { IfOk result (λ b. b.words.items ≡ words.now) }
+    ensures simulated { IfOk result (λ b. IsSimulatedBlock (net_of graph.now) (map (λ n. n.0) order.now) (length places.now) b) }
+{
+    let mut kept = zero_words(alloc, words.len())?;
+    kept.as_mut_slice().copy_from_slice(words);
+    let mut good = zero_words(alloc, places.len())?;
+    read_all(graph, words, order, &mut good, spread);
+    Ok(Block { words: kept, good })
+}
+
+// The first lane of a block whose vector detects the fault.
+fn first_in(
+    graph: &Graph,
+    fault: &Fault,
+    order: &[NodeId],
+    places: &[usize],
+    block: &Block,
+    spread: &mut Spread,
+) -> Option<usize>
+    requires pin { HasPin (net_of graph.now) fault.now }
+    requires order { IsOrder (net_of graph.now) (map (λ n. n.0) order.now) }
+    requires placed { ArePlaced (map (λ n. n.0) order.now) places.now spread.old }
+    requires block { IsSimulatedBlock (net_of graph.now) (map (λ n. n.0) order.now) (length places.now) block.now }
+    ensures first { IsFirstLane (net_of graph.now) fault.now block.now.words.items result }
+    ensures placed { ArePlaced (map (λ n. n.0) order.now) places.now spread.new }
+{
+    let found = found_by(
+        graph,
+        fault,
+        block.words.as_slice(),
+        order,
+        places,
+        block.good.as_slice(),
+        spread,
+    );
+    first_bit(found, 0)
+}
+
+// The first vector of the blocks that detects the fault.
+fn first_of(
+    graph: &Graph,
+    fault: &Fault,
+    order: &[NodeId],
+    places: &[usize],
+    blocks: &[Block],
+    spread: &mut Spread,
+) -> Option<usize>
+    requires pin { HasPin (net_of graph.now) fault.now }
+    requires order { IsOrder (net_of graph.now) (map (λ n. n.0) order.now) }
+    requires placed { ArePlaced (map (λ n. n.0) order.now) places.now spread.old }
+    requires blocks { (b : ℕ) (block : Block) → slice_get blocks.now b ≡ Some block → IsSimulatedBlock (net_of graph.now) (map (λ n. n.0) order.now) (length places.now) block }
+    requires few { length blocks.now ≤ 67108864 }
+    ensures first { IsFirstVector (net_of graph.now) fault.now (words_of blocks.now) result }
+    ensures placed { ArePlaced (map (λ n. n.0) order.now) places.now spread.new }
+{
+    for number in 0..blocks.len() {
+        if let Some(lane) = first_in(graph, fault, order, places, &blocks[number], spread) {
+            return Some(64 * number + lane);
+        }
+    }
+    None
+}
+
+/// Vectors that are kept for a graph, 64 to a block: vector n is lane n % 64 of block n / 64. Where a caller has fewer,
+/// one of them may stand in the other lanes too. Only `new` and `keep64` take memory.
+#[derive(Debug, Drop)]
+pub struct Blocks {
+    order: Vec<NodeId>,
+    places: Vec<usize>,
+    blocks: Vec<Block>,
+    spread: Spread,
+}
+
+impl Model for Blocks {
+    ghost use Rattle.fault_sim.specs.BlockStates.{BlockState};
+
+    ghost Value = { BlockState };
+
+    ghost use Rattle.std.specs.Prelude.{◌≤◌, length, map};
+    ghost use Rattle.fault_sim.specs.BlockStates.{AreBlocks, ArePlaced, good_of, words_of};
+
+    ghost view = { λ s. record { words = words_of s.blocks.items; order = map (λ n. n.0) s.order.items; good = good_of s.blocks.items } };
+
+    ghost invariant = { λ s. ArePlaced (map (λ n. n.0) s.order.items) s.places.items s.spread × (AreBlocks (map (λ n. n.0) s.order.items) (length s.places.items) s.blocks.items × (length s.blocks.items ≤ 67108864)) };
+}
+
+impl Blocks {
+    /// No vector is kept yet.
+    pub fn new(alloc: Global, graph: &Graph) -> Result<Blocks, NoMemory>
+        ensures none { IfOk result (λ s. s.words ≡ []) }
+        ensures simulated { IfOk result (λ s. AreSimulated s (net_of graph.now)) }
+    {
+        let order = graph.order(alloc)?;
+        let numbers = graph.node_bound() as usize;
+        let places = places_of(alloc, order.as_slice(), numbers)?;
+        let spread = new_spread(alloc, numbers, order.len())?;
+        let blocks = Vec::new(alloc);
+        Ok(Blocks {
+            order,
+            places,
+            blocks,
+            spread,
+        })
+    }
+
+    /// How many blocks are kept.
+    pub fn count(&self) -> usize
+        ensures { result ≡ length self.now.words }
+    {
+        self.blocks.len()
+    }
+
+    /// Keeps 64 vectors more: bit i of each source's word is vector i of the new block. It takes the time of the net.
+    pub fn keep64(&mut self, alloc: Global, graph: &Graph, words: &[u64]) -> Result<(), NoMemory>
+        requires simulated { AreSimulated self.old (net_of graph.now) }
+        requires sources { length words.now ≡ source_count (net_of graph.now) }
+        requires room { length self.old.words < 67108864 }
+        ensures words { OnOk result (self.new.words ≡ self.old.words ++ words.now ∷ []) }
+        ensures order { self.new.order ≡ self.old.order }
+        ensures failed { OnErr result (self.new ≡ self.old) }
+        ensures simulated { AreSimulated self.new (net_of graph.now) }
+    {
+        let block = simulated(
+            alloc,
+            graph,
+            words,
+            self.order.as_slice(),
+            self.places.as_slice(),
+            &self.spread,
+        )?;
+        self.blocks.push(block)?;
+        Ok(())
+    }
+
+    /// The first of all kept vectors that detects the fault: it looks no further than the block that has it.
+    pub fn detects_any(&mut self, graph: &Graph, fault: &Fault) -> Option<usize>
+        requires pin { HasPin (net_of graph.now) fault.now }
+        requires simulated { AreSimulated self.old (net_of graph.now) }
+        ensures first { IsFirstVector (net_of graph.now) fault.now self.old.words result }
+        ensures same { self.new ≡ self.old }
+    {
+        first_of(
+            graph,
+            fault,
+            self.order.as_slice(),
+            self.places.as_slice(),
+            self.blocks.as_slice(),
+            &mut self.spread,
+        )
+    }
+}
