@@ -1,5 +1,5 @@
 -- Replaying records one after another.
-use Rattle.std.proofs.Common.{◌≡◌, ℕ, zero, suc, ◌+◌, ◌^◌, ◌<◌, ◌≤◌, List, [], ◌∷◌, drop, length, Option, Some, None, Result, Ok, Err, IfOk, refl, ap, sym, subst, ◌∙◌, inl, inr, arith, add-one}
+use Rattle.std.proofs.Common.{◌≡◌, ◌≢◌, ℕ, zero, suc, ◌+◌, ◌^◌, ◌<◌, ◌≤◌, List, [], ◌∷◌, drop, length, Option, Some, None, Result, Ok, Err, IfErr, IsErrAnd, IfOk, refl, ap, sym, subst, ◌∙◌, inl, inr, arith, add-one}
 use Rattle.std.specs.Prelude.{slice_get, get_or}
 use Rattle.gate_net.specs.Net.{Net}
 use Rattle.journal_text.specs.declared.record.Record.{Record}
@@ -11,6 +11,7 @@ use Rattle.journal_check.specs.Laws.{ReplaysAccept}
 use Rattle.journal_check.specs.Standing.{Finishes, Standing, Steps}
 use Rattle.journal_check.specs.declared.refusal.JournalRefusal.{JournalRefusal}
 use Rattle.journal_check.specs.declared.refusal.Why.{Why}
+use Rattle.journal_check.specs.declared.refusal.Why.TheVariants as why
 use Rattle.journal_check.specs.Replaying.{IsRefusedAt, EndLeads, editing, next_number, settling, Leads, Position, Replays, goes_on, refused}
 
 -- what the records from one on lead to, all of them lead to
@@ -57,6 +58,17 @@ goes_next budget start records s t at r u e small v w =
         ),
       ),
     )
+
+-- a step that is refused where the loop stands
+pub stops : (budget : ℕ) (start : Position) (records : List Record) (s t : Standing) (at : ℕ) (r : Record) (e : JournalRefusal) → slice_get records at ≡ Some r → IsAt budget start records s at → Steps s.refusal s r t (Err e) → e.why ≢ why.NoMemory → IsRefusedAt budget start records 1 e.number e.why
+stops budget start records s t at r e got v w ne =
+    let on = subst (λ (o : Option JournalRefusal). Steps o s r t (Err e)) v.0 w in
+    refused_here budget start s.position records at e.number r e.why got v.1.1.1 (on.0 ∙ v.1.1.0) (subst (λ (b : ℕ). Leads b s.position r (refused e.why)) v.1.0 (on.1.1 ne).0)
+
+-- what holds of the error holds of the answer that hands it on
+pub handed_on : {V E : Type 0} (r : Result V E) (e : E) (P : E → Type 0) → IsErrAnd r (λ q. q ≡ e) → P e → IfErr r P
+handed_on (Ok x) e P h p = tt
+handed_on (Err q) e P h p = subst P (sym h) p
 
 drop_whole : (xs : List Record) (n : ℕ) → length xs ≤ n → drop n xs ≡ []
 drop_whole [] zero l = refl
