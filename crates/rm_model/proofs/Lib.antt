@@ -7,6 +7,7 @@ mod ModelLemmas
 mod NameLemmas
 mod NumberLemmas
 mod PlaceLemmas
+mod PlacedLemmas
 mod RankLaws
 mod RankedLaws
 mod RankingLemmas

@@ -166,7 +166,7 @@ fn values_in_order(
 }
 
 /// The values of the model's observed points, in order, where its sources have the values of the
-/// vector, in order. It takes time linear in the model.
+/// vector, in order. It takes time linear in the model, but for the look-ups of names.
 pub fn evaluate(alloc: Global, model: &Model, vector: &Vector) -> Result<Vector, RankFault>
     requires well_formed { IsWellFormed model.now }
     requires covers { length model.now.covers < 2 ^ 32 }

@@ -181,7 +181,8 @@ fn all_of(once: bool, tokens: bool, known: bool, formed: bool) -> bool
     once && tokens && known && formed
 }
 
-/// Whether a model is well formed, so that a text can have it. It takes time linear in the model.
+/// Whether a model is well formed, so that a text can have it. It takes time linear in the model,
+/// but for the look-ups of names.
 pub fn is_well_formed(alloc: Global, model: &Model) -> Result<bool, NoMemory>
     ensures { IfOk result (λ formed. IsTrue formed ↔ IsWellFormed model.now) }
 {

@@ -1,26 +1,31 @@
 // Names that are numbered in the order in which they are added.
-ghost use Rattle.std.specs.Prelude.{◌≡◌, ◌^◌, ◌<◌, [], ◌∷◌, ◌++◌, length, map, false, is_some, OnOk, IfSome, ◌||◌, List, ℕ};
+ghost use Rattle.std.specs.Prelude.{◌≡◌, ◌^◌, ◌<◌, [], ◌∷◌, ◌++◌, length, map, false, is_some, OnOk, OnErr, IfSome, ◌||◌, List, ℕ};
 ghost use Rattle.rm_model.specs.Value.{is_among};
 ghost use Rattle.rm_model.specs.Numbers.{place_of};
 ghost use Rattle.rm_model.specs.Words.{is_word};
 
-use indexmap::IndexSet;
 use rm_base::NoMemory;
 use std::alloc::Global;
+use std::collections::BTreeMap;
 use std::marker::Model;
 
-/// Names in the order in which they were added, each once, with a look-up by hash.
+/// Names in the order in which they were added, each once, with a look-up by their order as texts.
 #[derive(Drop)]
 pub struct NameTable<'a> {
-    names: IndexSet<&'a [u8]>,
+    names: Vec<&'a [u8]>,
+    places: BTreeMap<&'a [u8], usize>,
 }
 
 impl<'a> Model for NameTable<'a> {
-    ghost use Rattle.std.specs.Prelude.{List, ℕ, map};
+    ghost use Rattle.std.specs.Prelude.{List, ℕ};
 
     ghost Value = { List (List ℕ) };
 
-    ghost view = { λ a. map (λ k. k.now) a.names.keys };
+    ghost use Rattle.rm_model.specs.PlacedNames.{added_names, IsPlaced};
+
+    ghost view = { added_names };
+
+    ghost invariant = { IsPlaced };
 }
 
 impl<'a> NameTable<'a> {
@@ -29,8 +34,21 @@ impl<'a> NameTable<'a> {
         ensures { result ≡ [] }
     {
         NameTable {
-            names: IndexSet::new(alloc),
+            names: Vec::new(alloc),
+            places: BTreeMap::new(alloc),
         }
+    }
+
+    /// Adds a name that isn't there. Where there is no memory the table stays as it was.
+    pub fn push(&mut self, name: &'a [u8]) -> Result<(), NoMemory>
+        requires { is_among self.old name.now ≡ false }
+        ensures ok { OnOk result (self.new ≡ self.old ++ name.now ∷ []) }
+        ensures err { OnErr result (self.new ≡ self.old) }
+    {
+        self.names.reserve(1)?;
+        self.places.insert(name, self.names.len())?;
+        self.names.push(name)?;
+        Ok(())
     }
 
     /// Adds a name that isn't there.
@@ -38,8 +56,7 @@ impl<'a> NameTable<'a> {
         requires { is_among self.old name.now ≡ false }
         ensures ok { OnOk result (self.new ≡ self.old ++ name.now ∷ []) }
     {
-        self.names.insert(name)?;
-        Ok(())
+        self.push(name)
     }
 
     /// Adds a name that may be there already.
@@ -47,8 +64,10 @@ impl<'a> NameTable<'a> {
         ensures { OnOk result ((x : List ℕ)
             → is_among self.new x ≡ (is_among self.old x || is_word x name.now)) }
     {
-        self.names.insert(name)?;
-        Ok(())
+        if self.has(name) {
+            return Ok(());
+        }
+        self.push(name)
     }
 
     /// The name's number, from 0 in the order of adding; None where it isn't there.
@@ -56,13 +75,16 @@ impl<'a> NameTable<'a> {
         ensures place { result ≡ place_of self.now name.now }
         ensures within { IfSome result (λ k. k < length self.now) }
     {
-        self.names.get_index_of(name)
+        match self.places.get(name) {
+            Some(place) => Some(*place),
+            None => None,
+        }
     }
 
     /// Whether the name is there.
     pub fn has(&self, name: &[u8]) -> bool
         ensures { result ≡ is_among self.now name.now }
     {
-        self.names.contains(name)
+        self.places.contains_key(name)
     }
 }

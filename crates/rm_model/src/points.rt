@@ -111,7 +111,7 @@ pub fn push_controls(alloc: Global, out: &mut Vec<Name>, latches: &[Latch]) -> R
 
 /// The names that drive the model from outside, each once in a well-formed model: the inputs, the
 /// clocks that aren't inputs, and the latch outputs, each in order. It takes time linear in these
-/// lists.
+/// lists, but for the look-ups of names.
 pub fn sources(alloc: Global, model: &Model) -> Result<Vec<Name>, NoMemory>
     ensures { IfOk result (λ names. names.items ≡ source_names model.now) }
 {

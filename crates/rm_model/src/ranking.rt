@@ -85,7 +85,8 @@ pub fn search_covers(alloc: Global, covers: &[Cover]) -> Result<Search, NoMemory
 }
 
 /// The rank of each cover, in the order of the model: 0 where it reads sources alone, and otherwise
-/// one more than the greatest rank of the covers that it reads. It takes time linear in the model.
+/// one more than the greatest rank of the covers that it reads. It takes time linear in the model,
+/// but for the look-ups of names.
 pub fn rank(alloc: Global, model: &Model) -> Result<Vec<u32>, RankFault>
     requires well_formed { IsWellFormed model.now }
     requires covers { length model.now.covers < 2 ^ 32 }

@@ -1,8 +1,9 @@
-use Rattle.std.proofs.Common.{◌∙◌, ap, List}
+use Rattle.std.proofs.Common.{◌∙◌, ◌<◌, List, length, subst, sym}
 use Rattle.rm_model.specs.Words.{Word}
-use Rattle.rm_model.specs.Numbers.{place_of}
-use Rattle.rm_model.proofs.NumberLemmas.{position-place}
+use Rattle.rm_model.specs.PlacedNames.{added_names}
+use Rattle.rm_model.proofs.PlacedLemmas.{place-below}
 use Rattle.rm_model.proofs.name_table.NameTable.place.Goals as goal
 
-pub returns-clause-place : goal.returns-clause-place
-returns-clause-place c = c.get_index_of.ensures.index ∙ (position-place (λ k. k.now) c.self.inside.names.keys c.args.name.now ∙ ap (λ (l : List Word). place_of l c.args.name.now) c.self.view_is)
+pub returns-in-Some-clause-within : goal.returns-in-Some-clause-within
+returns-in-Some-clause-within c =
+    subst (λ (l : List Word). c.in-Some.place.now < length l) c.self.view_is (place-below (added_names c.self.inside) c.args.name.now c.in-Some.place.now (sym (c.in-Some.ensures.value ∙ c.self.invariant.at c.args.name.now)))

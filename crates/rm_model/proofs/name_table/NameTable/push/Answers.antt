@@ -1,0 +1,18 @@
+use Rattle.std.proofs.Common.{◌≡◌, ◌∷◌, [], ◌++◌, List, length, false, ap, sym, ◌∙◌, arith}
+use Rattle.std.specs.Borrow.{Bor}
+use Rattle.rm_model.specs.Words.{Word}
+use Rattle.rm_model.specs.Value.{is_among}
+use Rattle.rm_model.specs.Numbers.{place_of}
+use Rattle.rm_model.proofs.PlacedLemmas.{shown, placed-push}
+use Rattle.rm_model.proofs.name_table.NameTable.push.Goals as goal
+
+pub invariant_of-self-2 : goal.invariant_of-self-2
+invariant_of-self-2 c =
+    let items : c.push.new.self.items ≡ c.self.inside.names.items ++ c.args.name ∷ [] = c.in_ok-push.ensures.items ∙ ap (λ (l : List (Bor Word)). l ++ c.args.name ∷ []) c.reserve.ensures.items in
+    let new : is_among (shown c.self.inside.names.items) c.args.name.now ≡ false = ap (λ (l : List Word). is_among l c.args.name.now) c.self.view_is ∙ c.requires in
+    let count : c.len.result ≡ length c.self.inside.names.items = omega (arith, c.len.ensures, c.reserve.ensures.len, c.self.inside.names.ok.0) in
+    record {
+      at = λ x.
+          placed-push c.self.inside.names.items c.args.name c.self.inside.places c.insert.new.self c.len.result c.self.invariant.at new count c.in_ok-insert.ensures.updates x
+          ∙ ap (λ (l : List (Bor Word)). place_of (shown l) x) (sym items);
+    }
