@@ -117,7 +117,8 @@ fn made(alloc: Global, graph: &Graph, original: &Model) -> Result<Model, NoMemor
 }
 
 /// The model of a tidy net, with the names of the model that it was made of: its gates as covers by ascending number, and then copies and
-/// constants for the observed names that are left. It takes time linear in pins and names, but for the tries for a free prefix.
+/// constants for the observed names that are left. It takes time linear in pins and names, but for the
+/// look-ups of names and the tries for a free prefix.
 pub fn model_of(alloc: Global, graph: &Graph, original: &Model) -> Result<Model, ModelRefusal>
     requires formed { IsWellFormed original.now }
     requires fits { Fits (net_of graph.now) original.now }
