@@ -3,6 +3,7 @@ use Rattle.std.proofs.Common.{◌≡◌, ℕ, ◌≤◌, ◌+◌, List, [], ◌�
 use Rattle.std.specs.Prelude.{if◌then◌else◌, nat_lt}
 use Rattle.std.proofs.lemmas.Bool.{ltb-false}
 use Rattle.rm_base.specs.declared.numbers.Place.{Place}
+use Rattle.std.proofs.lemmas.List.{append-nil}
 use Rattle.rm_model.specs.Words.{Word, is_word}
 use Rattle.rm_model.specs.WellFormed.{is_distinct}
 use Rattle.blif_lines.specs.Layout.{Logical}
@@ -65,16 +66,12 @@ apart_more a b had u h f g k x e =
     (λ r w. ap (plays a had) (sym (word_is u.name x w)) ∙ g r)
     k
 
-nothing_behind : (xs : List Word) → xs ++ [] ≡ xs
-nothing_behind [] = refl
-nothing_behind (x ∷ xs) = ap (λ ys. x ∷ ys) (nothing_behind xs)
-
 distinct_more : (t : Role → Bool) (had : List Use) (u : Use) → is_distinct (names_in t had) ≡ true → (t u.role ≡ true → plays t had u.name ≡ false) → is_distinct (names_in t (had ++ u ∷ [])) ≡ true
 distinct_more t had u h f = ap is_distinct (names_more t had u) ∙ at (t u.role) refl
   where
     at : (b : Bool) → t u.role ≡ b → is_distinct (names_in t had ++ (if b then u.name ∷ [] else [])) ≡ true
     at true e = distinct_add (names_in t had) u.name h (names_among t had u.name ∙ f e)
-    at false e = ap is_distinct (nothing_behind (names_in t had)) ∙ h
+    at false e = ap is_distinct (append-nil (names_in t had)) ∙ h
 
 -- CLASHES
 never : true ≡ false → ⊥

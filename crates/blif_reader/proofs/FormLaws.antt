@@ -4,6 +4,7 @@ use Rattle.std.specs.Prelude.{if◌then◌else◌, codes, find, ◌⊎◌}
 use Rattle.std.specs.List.{cons_option, filter_map, flat_map, list_all}
 use Rattle.std.proofs.lemmas.List.Folds.{list_any-append, list_all-append}
 use Rattle.std.proofs.lemmas.List.Elements.{All-head, All-tail}
+use Rattle.std.proofs.lemmas.List.{append-nil}
 use Rattle.rm_model.specs.Words.{Word, is_word}
 use Rattle.rm_model.specs.Value.{is_among, source_names, control_of}
 use Rattle.rm_model.specs.WellFormed.{is_distinct, driven_names, used_names}
@@ -44,11 +45,7 @@ fit_names (l ∷ ls) h = ((All-head IsFitLatch l ls h).1, fit_names ls (All-tail
 
 inputs_alone : (cs : List Cover) → flat_map (λ (c : Cover). c.inputs ++ []) cs ≡ flat_map (λ (c : Cover). c.inputs) cs
 inputs_alone [] = refl
-inputs_alone (c ∷ cs) = ap (λ xs. xs ++ flat_map (λ (d : Cover). d.inputs ++ []) cs) (nothing_behind c.inputs) ∙ ap (λ xs. c.inputs ++ xs) (inputs_alone cs)
-  where
-    nothing_behind : (xs : List Word) → xs ++ [] ≡ xs
-    nothing_behind [] = refl
-    nothing_behind (x ∷ xs) = ap (λ ys. x ∷ ys) (nothing_behind xs)
+inputs_alone (c ∷ cs) = ap (λ xs. xs ++ flat_map (λ (d : Cover). d.inputs ++ []) cs) (append-nil c.inputs) ∙ ap (λ xs. c.inputs ++ xs) (inputs_alone cs)
 
 abbrev lines_in : List Logical → List Line
 lines_in ls = filter has_words (map words_in ls)
@@ -85,7 +82,7 @@ pub and_first : (a b : Bool) → (a && b) ≡ true → a ≡ true
 and_first true b e = refl
 and_first false b e = e
 
-and_second : (a b : Bool) → (a && b) ≡ true → b ≡ true
+pub and_second : (a b : Bool) → (a && b) ≡ true → b ≡ true
 and_second true b e = e
 and_second false b e = cc
 

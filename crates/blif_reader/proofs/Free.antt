@@ -79,6 +79,14 @@ free_by_name (e ∷ es) look d same =
     at true i here ih = let test : has_driver (look e.0) ≡ true = ap has_driver here ∙ i in rw (i, test) ih
     at false i here ih = let test : has_driver (look e.0) ≡ false = ap has_driver here ∙ i in rw (i, test) refl
 
+pub or_left : (a b : Bool) → (a || b) ≡ false → a ≡ false
+or_left true b e = e
+or_left false b e = refl
+
+pub or_right : (a b : Bool) → (a || b) ≡ false → b ≡ false
+or_right true b e = cc
+or_right false b e = e
+
 -- first uses have different names
 pub distinct_add : (xs : List Word) (x : Word) → is_distinct xs ≡ true → is_among xs x ≡ false → is_distinct (xs ++ x ∷ []) ≡ true
 distinct_add [] x d n = refl
@@ -88,14 +96,6 @@ distinct_add (y ∷ ys) x d n =
     let rest : is_among ys x ≡ false = or_right (is_word x y) (is_among ys x) n in
     let still : is_among (ys ++ x ∷ []) y ≡ false = among_more ys x y ∙ ap (λ b. b || is_word y x) new ∙ word_turned y x ∙ other in
     ap (λ b. not b && is_distinct (ys ++ x ∷ [])) still ∙ distinct_add ys x (and_last (not (is_among ys y)) (is_distinct ys) d) rest
-  where
-    or_left : (a b : Bool) → (a || b) ≡ false → a ≡ false
-    or_left true b e = e
-    or_left false b e = refl
-
-    or_right : (a b : Bool) → (a || b) ≡ false → b ≡ false
-    or_right true b e = cc
-    or_right false b e = e
 
 map_names : (fs : List (Word × Place)) (u : Use) → names_at (fs ++ (u.name, u.place) ∷ []) ≡ names_at fs ++ u.name ∷ []
 unfolding names_at

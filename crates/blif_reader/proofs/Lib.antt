@@ -1,7 +1,7 @@
 pub mod Compared
 pub mod Plays
 pub mod TallyLaws
-pub mod Maps
+pub mod PairLaws
 pub mod Free
 pub mod PartLaws
 pub mod LineLaws

@@ -2,6 +2,7 @@
 use Rattle.std.proofs.Common.{◌≡◌, List, [], ◌∷◌, ◌++◌, map, filter, Bool, true, false, inl, inr, refl, sym, ◌∙◌, ap, append_assoc, Option, None, Some}
 use Rattle.std.specs.Prelude.{if◌then◌else◌, codes}
 use Rattle.std.specs.List.{cons_option, filter_map, flat_map}
+use Rattle.std.proofs.lemmas.List.{append-nil}
 use Rattle.rm_model.specs.Words.{Word, is_word}
 use Rattle.blif_lines.specs.Layout.{Spot, Logical, words_in, has_words}
 use Rattle.blif_format.specs.Text.{Line}
@@ -25,19 +26,11 @@ abbrev pub all_uses : List Logical → List Use
 all_uses ls = flat_map (λ (l : Logical). uses_of l.tokens) ls
 
 pub line_uses : (said : Said) (ts : List Spot) → (after_line said ts).uses ≡ said.uses ++ uses_of ts
-line_uses said [] = sym (no_uses said.uses)
-  where
-    no_uses : (us : List Use) → us ++ [] ≡ us
-    no_uses [] = refl
-    no_uses (u ∷ us) = ap (λ vs. u ∷ vs) (no_uses us)
+line_uses said [] = sym (append-nil said.uses)
 line_uses said (s ∷ ss) = refl
 
 pub said_uses : (said : Said) (ls : List Logical) → (said_by said ls).uses ≡ said.uses ++ all_uses ls
-said_uses said [] = sym (no_uses said.uses)
-  where
-    no_uses : (us : List Use) → us ++ [] ≡ us
-    no_uses [] = refl
-    no_uses (u ∷ us) = ap (λ vs. u ∷ vs) (no_uses us)
+said_uses said [] = sym (append-nil said.uses)
 said_uses said (l ∷ ls) = said_uses (after_line said l.tokens) ls ∙ ap (λ us. us ++ all_uses ls) (line_uses said l.tokens) ∙ append_assoc said.uses (uses_of l.tokens) (all_uses ls)
 
 -- NAMES OF USES
@@ -90,7 +83,8 @@ extras_none : (ss : List Spot) → filter_map use_of (all_are Extra ss) ≡ []
 extras_none [] = refl
 extras_none (s ∷ ss) = extras_none ss
 
-model_none : (ss : List Spot) → filter_map use_of (parts_of Model ss) ≡ []
+-- the words of `.model` use no name
+pub model_none : (ss : List Spot) → filter_map use_of (parts_of Model ss) ≡ []
 model_none [] = refl
 model_none (s ∷ []) = refl
 model_none (s ∷ t ∷ ss) = extras_none ss
@@ -131,13 +125,9 @@ clockinput_list t (s ∷ ss) = names_cons t (record { role = ClockInput; name = 
     at true = refl
     at false = refl
 
-pub nothing_behind : (xs : List Word) → xs ++ [] ≡ xs
-nothing_behind [] = refl
-nothing_behind (x ∷ xs) = ap (λ ys. x ∷ ys) (nothing_behind xs)
-
 cover_list : (t : Role → Bool) (ss : List Spot) → names_in t (filter_map use_of (names_parts ss)) ≡ cover_picks t (spelled ss)
 cover_list t [] = refl
-cover_list t (s ∷ []) = names_cons t (record { role = CoverOutput; name = s.word; place = s.place }) [] ∙ nothing_behind (word_if (t CoverOutput) s.word)
+cover_list t (s ∷ []) = names_cons t (record { role = CoverOutput; name = s.word; place = s.place }) [] ∙ append-nil (word_if (t CoverOutput) s.word)
 cover_list t (s ∷ r ∷ ss) = names_cons t (record { role = CoverInput; name = s.word; place = s.place }) (filter_map use_of (names_parts (r ∷ ss))) ∙ ap (λ xs. word_if (t CoverInput) s.word ++ xs) (cover_list t (r ∷ ss))
 
 control_list : (t : Role → Bool) (s : Spot) (us : List Use) → us ≡ [] → names_in t (cons_option (use_of (Name Control, s)) us) ≡ control_if t s.word
@@ -145,7 +135,7 @@ control_list t s us n = at (is_word (codes "NIL") s.word) refl
   where
     at : (b : Bool) → is_word (codes "NIL") s.word ≡ b → names_in t (cons_option (use_of (Name Control, s)) us) ≡ control_if t s.word
     at true e = rw e (ap (names_in t) n)
-    at false e = rw e (names_cons t (record { role = Control; name = s.word; place = s.place }) us ∙ ap (λ vs. word_if (t Control) s.word ++ names_in t vs) n ∙ nothing_behind (word_if (t Control) s.word))
+    at false e = rw e (names_cons t (record { role = Control; name = s.word; place = s.place }) us ∙ ap (λ vs. word_if (t Control) s.word ++ names_in t vs) n ∙ append-nil (word_if (t Control) s.word))
 
 latch_two : (t : Role → Bool) (a b : Spot) (us : List Use) (ws : List Word) → names_in t us ≡ ws → names_in t (record { role = LatchInput; name = a.word; place = a.place } ∷ record { role = LatchOutput; name = b.word; place = b.place } ∷ us) ≡ word_if (t LatchInput) a.word ++ (word_if (t LatchOutput) b.word ++ ws)
 latch_two t a b us ws e =
@@ -154,9 +144,9 @@ latch_two t a b us ws e =
 
 latch_list : (t : Role → Bool) (ss : List Spot) → names_in t (filter_map use_of (parts_of Latch ss)) ≡ latch_picks t (spelled ss)
 latch_list t [] = refl
-latch_list t (a ∷ []) = names_cons t (record { role = LatchInput; name = a.word; place = a.place }) [] ∙ nothing_behind (word_if (t LatchInput) a.word)
-latch_list t (a ∷ b ∷ []) = latch_two t a b [] [] refl ∙ ap (λ xs. word_if (t LatchInput) a.word ++ xs) (nothing_behind (word_if (t LatchOutput) b.word))
-latch_list t (a ∷ b ∷ c ∷ []) = latch_two t a b [] [] refl ∙ ap (λ xs. word_if (t LatchInput) a.word ++ xs) (nothing_behind (word_if (t LatchOutput) b.word))
+latch_list t (a ∷ []) = names_cons t (record { role = LatchInput; name = a.word; place = a.place }) [] ∙ append-nil (word_if (t LatchInput) a.word)
+latch_list t (a ∷ b ∷ []) = latch_two t a b [] [] refl ∙ ap (λ xs. word_if (t LatchInput) a.word ++ xs) (append-nil (word_if (t LatchOutput) b.word))
+latch_list t (a ∷ b ∷ c ∷ []) = latch_two t a b [] [] refl ∙ ap (λ xs. word_if (t LatchInput) a.word ++ xs) (append-nil (word_if (t LatchOutput) b.word))
 latch_list t (a ∷ b ∷ c ∷ d ∷ []) = latch_two t a b (cons_option (use_of (Name Control, d)) []) (control_if t d.word) (control_list t d [] refl)
 latch_list t (a ∷ b ∷ c ∷ d ∷ e ∷ ss) = latch_two t a b (cons_option (use_of (Name Control, d)) (filter_map use_of (in_parts (Init ∷ []) (e ∷ ss)))) (control_if t d.word) (control_list t d (filter_map use_of (in_parts (Init ∷ []) (e ∷ ss))) (after ss))
   where

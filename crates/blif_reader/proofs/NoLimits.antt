@@ -23,7 +23,8 @@ use Rattle.blif_reader.specs.Limits.{is_short}
 use Rattle.blif_reader.proofs.Compared.{word_same}
 use Rattle.blif_reader.proofs.NameLaws.{all_uses, names_append}
 use Rattle.blif_reader.proofs.LineLaws.{command_word, uses_case}
-use Rattle.blif_reader.proofs.WordCounts.{and_left, and_right, kinds_among, kinds_length}
+use Rattle.blif_reader.proofs.FormLaws.{and_first, and_second}
+use Rattle.blif_reader.proofs.WordCounts.{kinds_among, kinds_length}
 
 abbrev pub every : Role → Bool
 every role = true
@@ -65,7 +66,7 @@ pub record AreFew (sources names : List Word) (us : List Use) : Type 0 where
   pub signals : list_all (is_among names) (names_in every us) ≡ true
 
 all_first : (p : Word → Bool) (test : Role → Bool) (us vs : List Use) → list_all p (names_in test (us ++ vs)) ≡ true → list_all p (names_in test us) ≡ true
-all_first p test us vs h = and_left (list_all p (names_in test us)) (list_all p (names_in test vs)) (sym (list_all-append p (names_in test us) (names_in test vs)) ∙ ap (list_all p) (sym (names_append test us vs)) ∙ h)
+all_first p test us vs h = and_first (list_all p (names_in test us)) (list_all p (names_in test vs)) (sym (list_all-append p (names_in test us) (names_in test vs)) ∙ ap (list_all p) (sym (names_append test us vs)) ∙ h)
 
 pub few_first : (sources names : List Word) (us vs : List Use) → AreFew sources names (us ++ vs) → AreFew sources names us
 few_first sources names us vs few = record {
@@ -85,8 +86,8 @@ module _ (sources names : List Word) (few_sources : length sources ≤ 1024) (fe
   -- the last name used is short
   last_short : (had : List Use) (u : Use) → list_all is_short (names_in every (had ++ u ∷ [])) ≡ true → is_short u.name ≡ true
   last_short had u h =
-      let last : list_all is_short (names_in every (u ∷ [])) ≡ true = and_right (list_all is_short (names_in every had)) (list_all is_short (names_in every (u ∷ []))) (sym (list_all-append is_short (names_in every had) (names_in every (u ∷ []))) ∙ ap (list_all is_short) (sym (names_append every had (u ∷ []))) ∙ h) in
-      and_left (is_short u.name) true last
+      let last : list_all is_short (names_in every (u ∷ [])) ≡ true = and_second (list_all is_short (names_in every had)) (list_all is_short (names_in every (u ∷ []))) (sym (list_all-append is_short (names_in every had) (names_in every (u ∷ []))) ∙ ap (list_all is_short) (sym (names_append every had (u ∷ []))) ∙ h) in
+      and_first (is_short u.name) true last
 
   use_fine : (had : List Use) (earlier : ℕ) (u : Use) → AreFew sources names (had ++ u ∷ []) → (is_cover_input u.role && nat_lt 65535 earlier) ≡ false → NoLimit (use_fault had earlier u)
   use_fine had earlier u few wide =

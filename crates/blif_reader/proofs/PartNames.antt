@@ -2,6 +2,7 @@
 use Rattle.std.proofs.Common.{◌≡◌, ◌≢◌, ℕ, List, [], ◌∷◌, ◌++◌, map, filter, Bool, true, false, inl, inr, refl, sym, ◌∙◌, ap, Option, None, Some}
 use Rattle.std.specs.Prelude.{if◌then◌else◌, codes, IfSome}
 use Rattle.std.specs.List.{cons_option, filter_map, flat_map}
+use Rattle.std.proofs.lemmas.List.{append-nil}
 use Rattle.rm_model.specs.Words.{Word}
 use Rattle.rm_model.specs.Value.{control_of}
 use Rattle.rm_model.specs.declared.parts.Timing.{Timing}
@@ -11,7 +12,7 @@ use Rattle.blif_format.specs.Text.{Line, control_word, timing_words, init_words,
 use Rattle.blif_format.specs.Grammar.{begins_with, words_after, words_of, names_lines}
 use Rattle.blif_format.specs.Uses.{Role, CoverInput, CoverOutput, LatchInput, LatchOutput, Control}
 use Rattle.blif_reader.proofs.Compared.{word_tells}
-use Rattle.blif_reader.proofs.NameLaws.{word_if, control_if, list_picks, cover_picks, latch_picks, nothing_behind}
+use Rattle.blif_reader.proofs.NameLaws.{word_if, control_if, list_picks, cover_picks, latch_picks}
 
 pub list_words : (x : Word) (ls : List Line) → flat_map (λ (ws : List Word). ws) (map words_after (filter (begins_with x) ls)) ≡ words_of x ls
 list_words x ls = go (filter (begins_with x) ls)
@@ -68,7 +69,7 @@ latch_words_in t l = at l.timing l.init
     none false = refl
 
     without : (b : Bool) → word_if (t LatchInput) l.input ++ word_if (t LatchOutput) l.output ≡ word_if (t LatchInput) l.input ++ (word_if (t LatchOutput) l.output ++ list_picks b [])
-    without b = ap (λ xs. word_if (t LatchInput) l.input ++ xs) (sym (nothing_behind (word_if (t LatchOutput) l.output)) ∙ ap (λ xs. word_if (t LatchOutput) l.output ++ xs) (none b))
+    without b = ap (λ xs. word_if (t LatchInput) l.input ++ xs) (sym (append-nil (word_if (t LatchOutput) l.output)) ∙ ap (λ xs. word_if (t LatchOutput) l.output ++ xs) (none b))
 
     at : (o : Option Timing) (i : Option ℕ) → IsName (elim o [ None ↦ None | Some u ↦ u.control ]) → latch_picks t ((l.input ∷ l.output ∷ timing_words o) ++ init_words i) ≡ word_if (t LatchInput) l.input ++ (word_if (t LatchOutput) l.output ++ list_picks (t Control) (cons_option (elim o [ None ↦ None | Some u ↦ u.control ]) []))
     at None None n = without (t Control)

@@ -19,7 +19,7 @@ use Rattle.blif_reader.proofs.GrammarLaws.{begins_dotted}
 use Rattle.blif_reader.proofs.NameLaws.{is_latch_input, is_control}
 use Rattle.blif_reader.proofs.Plays.{names_among, plays_source}
 use Rattle.blif_reader.proofs.CleanLaws.{IsClean}
-use Rattle.blif_reader.proofs.FormLaws.{NamesAre, sources_once, among_append, among_others, and_first}
+use Rattle.blif_reader.proofs.FormLaws.{NamesAre, sources_once, among_append, among_others, and_first, and_second}
 use Rattle.blif_reader.proofs.TokenLaws.{word_bytes, line_bytes}
 
 -- COVERS AND LITERALS
@@ -129,10 +129,6 @@ count_without x (y ∷ ys) e = at (is_word x y) refl (is_among ys x) refl (count
         by : (b : Bool) → is_among ys y ≡ b → 1 + distinct_count (without x ys) ≤ distinct_count ys → 1 + distinct_count (without x (y ∷ ys)) ≤ distinct_count (y ∷ ys)
         by true j less = let same : is_among (without x ys) y ≡ true = among_without x y ys h ∙ j in rw (h, same, j) less
         by false j less = let same : is_among (without x ys) y ≡ false = among_without x y ys h ∙ j in rw (h, same, j) (omega arith)
-
-and_second : (a b : Bool) → (a && b) ≡ true → b ≡ true
-and_second true b e = e
-and_second false b e = cc
 
 -- different names of a list are no more than its different names
 pub fewer : (xs ys : List Word) → is_distinct xs ≡ true → ((z : Word) → is_among xs z ≡ true → is_among ys z ≡ true) → length xs ≤ distinct_count ys

@@ -1,13 +1,11 @@
 -- A table of names stands for the uses that it has taken.
-use Rattle.std.proofs.Common.{◌≡◌, ℕ, ◌+◌, suc, List, [], ◌∷◌, ◌++◌, map, length, Bool, true, false, not, ◌&&◌, ◌||◌, inl, inr, refl, sym, ◌∙◌, ap, arith, Option, None, Some}
+use Rattle.std.proofs.Common.{◌≡◌, ℕ, ◌+◌, List, [], ◌∷◌, ◌++◌, map, length, Bool, true, false, not, ◌&&◌, ◌||◌, inl, inr, refl, sym, ◌∙◌, ap, arith, Option, None, Some}
 use Rattle.std.specs.Prelude.{if◌then◌else◌, is_some, nat_lt, ◌≤◌}
-use Rattle.std.specs.Borrow.{Bor}
 use Rattle.std.proofs.Common.{subst}
 use Rattle.std.proofs.lemmas.Bool.{ltb-false}
 use Rattle.blif_format.specs.declared.refusal.Quantity.{Quantity}
 use Rattle.blif_format.specs.declared.refusal.ReadRefusal.TheVariants.{Fault, Limit, NoMemory}
 use Rattle.blif_reader.specs.Meant.{IsRefusal}
-use Rattle.blif_reader.specs.Seen.{seen_entries}
 use Rattle.std.proofs.lemmas.List.Sums.{fold-append}
 use Rattle.rm_base.specs.declared.numbers.Place.{Place}
 use Rattle.rm_model.specs.Words.{Word, is_word}
@@ -284,7 +282,3 @@ keeps_limits f c role x earlier place e =
 
 pub length_after : (es : List (Word × Entry)) (x : Word) (e : Entry) → length (put_entry es x e) ≡ more_if (not (is_some (entry_of es x))) (length es)
 length_after es x e = length_put es x e
-
-pub length_seen : (es : List (Bor Word × Entry)) → length (seen_entries es) ≡ length es
-length_seen [] = refl
-length_seen (e ∷ es) = ap suc (length_seen es)

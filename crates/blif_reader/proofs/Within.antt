@@ -29,19 +29,19 @@ use Rattle.blif_reader.specs.Drafts.{IsFitLatch}
 use Rattle.blif_reader.proofs.Compared.{word_same, word_is}
 use Rattle.blif_reader.proofs.Plays.{names_among, names_more, plays_or, plays_same, plays_source}
 use Rattle.blif_reader.proofs.NameLaws.{is_latch_input, is_control, all_uses, said_uses}
-use Rattle.blif_reader.proofs.FormLaws.{NamesAre, names_are, among_append, among_others}
+use Rattle.blif_reader.proofs.FormLaws.{NamesAre, names_are, among_append, among_others, and_first, and_second}
 use Rattle.blif_reader.proofs.SizeLaws.{fewer, observed_length, observed_small, sources_small}
 use Rattle.blif_reader.proofs.CleanLaws.{IsClean, IsFree, clean_lines, free_use, not_limit, nothing_clean}
 use Rattle.blif_reader.proofs.UseWalk.{walked_lines}
 use Rattle.blif_reader.proofs.RowLaws.{first_none, second_none}
 use Rattle.blif_reader.proofs.KnownLaws.{first_goes, later_goes, dotted_goes}
-use Rattle.blif_reader.proofs.WordCounts.{and_left, and_right, both, among_has}
+use Rattle.blif_reader.proofs.WordCounts.{both, among_has}
 use Rattle.blif_reader.proofs.NoLimits.{NoLimit, AreFew, AreFitLines, IsFitLine, lines_in, spelled_length, every, text_fine, or_else_fine, fault_fine, none_fine, limit_never}
 
 -- words of a list have what all words of another have among which they are
 all_among : (p : Word → Bool) (xs ys : List Word) → list_all (is_among ys) xs ≡ true → list_all p ys ≡ true → list_all p xs ≡ true
 all_among p [] ys h k = refl
-all_among p (x ∷ xs) ys h k = both (p x) (list_all p xs) (among_has p x ys (and_left (is_among ys x) (list_all (is_among ys) xs) h) k) (all_among p xs ys (and_right (is_among ys x) (list_all (is_among ys) xs) h) k)
+all_among p (x ∷ xs) ys h k = both (p x) (list_all p xs) (among_has p x ys (and_first (is_among ys x) (list_all (is_among ys) xs) h) k) (all_among p xs ys (and_second (is_among ys x) (list_all (is_among ys) xs) h) k)
 
 among_each : (xs ys : List Word) → ((z : Word) → is_among xs z ≡ true → is_among ys z ≡ true) → list_all (is_among ys) xs ≡ true
 among_each [] ys h = refl
@@ -91,7 +91,7 @@ in_roles us z =
 plays_any : (t : Role → Bool) (us : List Use) (z : Word) → plays t us z ≡ true → plays every us z ≡ true
 plays_any t [] z e = cc
 plays_any t (u ∷ us) z e = or_case (t u.role && is_word u.name z) (plays t us z) e
-    (λ h. or_one (is_word u.name z) (plays every us z) (and_right (t u.role) (is_word u.name z) h))
+    (λ h. or_one (is_word u.name z) (plays every us z) (and_second (t u.role) (is_word u.name z) h))
     (λ h. or_two (is_word u.name z) (plays every us z) (plays_any t us z h))
 
 module _ (us : List Use) (m : CircuitModel) (n : NamesAre us m) where
@@ -195,7 +195,7 @@ module _ (us : List Use) (m : CircuitModel) (n : NamesAre us m) where
       (λ h. or_case (is_among (m.inputs ++ filter (λ x. not (is_among m.inputs x)) m.clocks) z) (is_among (map (λ (l : LatchPart). l.output) m.latches) z) (sym (among_append (m.inputs ++ filter (λ x. not (is_among m.inputs x)) m.clocks) (map (λ (l : LatchPart). l.output) m.latches) z) ∙ h)
       (λ k. or_case (is_among m.inputs z) (is_among (filter (λ x. not (is_among m.inputs x)) m.clocks) z) (sym (among_append m.inputs (filter (λ x. not (is_among m.inputs x)) m.clocks) z) ∙ k)
       (λ i. of is_input m.inputs n.inputs i)
-      (λ o. of is_clock m.clocks n.clocks (and_left (is_among m.clocks z) (not (is_among m.inputs z)) (sym (among_others m.inputs m.clocks z) ∙ o))))
+      (λ o. of is_clock m.clocks n.clocks (and_first (is_among m.clocks z) (not (is_among m.inputs z)) (sym (among_others m.inputs m.clocks z) ∙ o))))
       (λ k. of is_latch (map (λ (l : LatchPart). l.output) m.latches) n.latches k))
       (λ h. of is_cover (map (λ (c : Cover). c.output) m.covers) n.covers h)
     where
@@ -212,6 +212,14 @@ module _ (us : List Use) (m : CircuitModel) (n : NamesAre us m) where
   driven_few formed = fewer (driven_names m) (names_in every us) formed.driven_once (λ z e. names_among every us z ∙ driven_use z e)
 
 -- COVERS
+abbrev first_in : List (Line × List Line) → Line
+first_in [] = []
+first_in (x ∷ xs) = x.0
+
+abbrev rest_in : List (Line × List Line) → List (Line × List Line)
+rest_in [] = []
+rest_in (x ∷ xs) = xs
+
 pub fit_lines : (ls : List Line) (cs : List Cover) → names_lines ls ≡ map cover_words cs → All (λ (c : Cover). length c.inputs ≤ 65536) cs → AreFitLines ls
 fit_lines [] cs e few = tt
 fit_lines (l ∷ ls) cs e few = at (begins_with (codes ".names") l) refl (fit_lines ls)
@@ -220,14 +228,6 @@ fit_lines (l ∷ ls) cs e few = at (begins_with (codes ".names") l) refl (fit_li
     at false h ih = (λ t. let wrong : false ≡ true = sym h ∙ t in cc, ih cs (rw h at e) few)
     at true h ih = by cs (rw h at e) few
       where
-        first_in : List (Line × List Line) → Line
-        first_in [] = []
-        first_in (x ∷ xs) = x.0
-
-        rest_in : List (Line × List Line) → List (Line × List Line)
-        rest_in [] = []
-        rest_in (x ∷ xs) = xs
-
         by : (cs : List Cover) → (words_after l, before is_dotted_line ls) ∷ names_lines ls ≡ map cover_words cs → All (λ (c : Cover). length c.inputs ≤ 65536) cs → AreFitLines (l ∷ ls)
         by [] e few = cc
         by (c ∷ cs) e few =
@@ -380,14 +380,6 @@ covers_narrow [] [] e fit = All-nil (λ (c : Cover). length c.inputs ≤ 65536)
 covers_narrow [] (c ∷ cs) e fit = cc
 covers_narrow (l ∷ ls) cs e fit = at (begins_with (codes ".names") l) refl (covers_narrow ls)
   where
-    first_in : List (Line × List Line) → Line
-    first_in [] = []
-    first_in (x ∷ xs) = x.0
-
-    rest_in : List (Line × List Line) → List (Line × List Line)
-    rest_in [] = []
-    rest_in (x ∷ xs) = xs
-
     by : (cs : List Cover) → (words_after l, before is_dotted_line ls) ∷ names_lines ls ≡ map cover_words cs → length (words_after l) ≤ 65537 → ((cs : List Cover) → names_lines ls ≡ map cover_words cs → AreFitLines ls → All (λ (c : Cover). length c.inputs ≤ 65536) cs) → All (λ (c : Cover). length c.inputs ≤ 65536) cs
     by [] e few ih = cc
     by (c ∷ cs) e few ih =

@@ -1,31 +1,17 @@
 -- How many different words a list has.
-use Rattle.std.proofs.Common.{◌≡◌, ◌≤◌, ◌+◌, List, [], ◌∷◌, length, Bool, true, false, ◌&&◌, ◌||◌, refl, ◌∙◌, ap, arith}
+use Rattle.std.proofs.Common.{◌≡◌, ◌≤◌, ◌+◌, List, [], ◌∷◌, length, Bool, true, false, ◌&&◌, refl, ◌∙◌, ap, arith}
 use Rattle.std.specs.List.{list_all}
 use Rattle.rm_model.specs.Words.{Word, is_word}
 use Rattle.rm_model.specs.Value.{is_among}
 use Rattle.blif_format.specs.Uses.{distinct_count}
 use Rattle.blif_reader.proofs.Compared.{word_is}
+use Rattle.blif_reader.proofs.FormLaws.{and_first, and_second}
+use Rattle.blif_reader.proofs.Free.{or_left, or_right}
 use Rattle.blif_reader.proofs.SizeLaws.{without, among_without, count_without}
-
-pub and_left : (a b : Bool) → (a && b) ≡ true → a ≡ true
-and_left true b e = refl
-and_left false b e = e
-
-pub and_right : (a b : Bool) → (a && b) ≡ true → b ≡ true
-and_right true b e = e
-and_right false b e = cc
 
 pub both : (a b : Bool) → a ≡ true → b ≡ true → (a && b) ≡ true
 both true b e f = f
 both false b e f = e
-
-or_left : (a b : Bool) → (a || b) ≡ false → a ≡ false
-or_left true b e = e
-or_left false b e = refl
-
-or_right : (a b : Bool) → (a || b) ≡ false → b ≡ false
-or_right true b e = cc
-or_right false b e = e
 
 -- words that are among others stay so without a word that isn't one of them
 among_rest : (x : Word) (xs ys : List Word) → list_all (is_among ys) xs ≡ true → is_among xs x ≡ false → list_all (is_among (without x ys)) xs ≡ true
@@ -33,8 +19,8 @@ among_rest x [] ys h n = refl
 among_rest x (z ∷ zs) ys h n =
     let other : is_word x z ≡ false = or_left (is_word x z) (is_among zs x) n in
     both (is_among (without x ys) z) (list_all (is_among (without x ys)) zs)
-    (among_without x z ys other ∙ and_left (is_among ys z) (list_all (is_among ys) zs) h)
-    (among_rest x zs ys (and_right (is_among ys z) (list_all (is_among ys) zs) h) (or_right (is_word x z) (is_among zs x) n))
+    (among_without x z ys other ∙ and_first (is_among ys z) (list_all (is_among ys) zs) h)
+    (among_rest x zs ys (and_second (is_among ys z) (list_all (is_among ys) zs) h) (or_right (is_word x z) (is_among zs x) n))
 
 -- words that are among others are of no more kinds
 pub kinds_among : (xs ys : List Word) → list_all (is_among ys) xs ≡ true → distinct_count xs ≤ distinct_count ys
@@ -42,12 +28,12 @@ kinds_among [] ys h = omega arith
 kinds_among (x ∷ xs) ys h = at (is_among xs x) refl (kinds_among xs)
   where
     rest : list_all (is_among ys) xs ≡ true
-    rest = and_right (is_among ys x) (list_all (is_among ys) xs) h
+    rest = and_second (is_among ys x) (list_all (is_among ys) xs) h
 
     at : (b : Bool) → is_among xs x ≡ b → ((zs : List Word) → list_all (is_among zs) xs ≡ true → distinct_count xs ≤ distinct_count zs) → distinct_count (x ∷ xs) ≤ distinct_count ys
     at true e more = rw e (more ys rest)
     at false e more =
-        let less : 1 + distinct_count (without x ys) ≤ distinct_count ys = count_without x ys (and_left (is_among ys x) (list_all (is_among ys) xs) h) in
+        let less : 1 + distinct_count (without x ys) ≤ distinct_count ys = count_without x ys (and_first (is_among ys x) (list_all (is_among ys) xs) h) in
         let ih : distinct_count xs ≤ distinct_count (without x ys) = more (without x ys) (among_rest x xs ys rest e) in
         rw e (omega arith)
 
@@ -65,5 +51,5 @@ among_has p x [] i a = cc
 among_has p x (z ∷ zs) i a = at (is_word x z) refl (among_has p x zs)
   where
     at : (b : Bool) → is_word x z ≡ b → (is_among zs x ≡ true → list_all p zs ≡ true → p x ≡ true) → p x ≡ true
-    at true e rest = ap p (word_is x z e) ∙ and_left (p z) (list_all p zs) a
-    at false e rest = rest (rw e at i) (and_right (p z) (list_all p zs) a)
+    at true e rest = ap p (word_is x z e) ∙ and_first (p z) (list_all p zs) a
+    at false e rest = rest (rw e at i) (and_second (p z) (list_all p zs) a)

@@ -1,6 +1,6 @@
 pub mod Meant
 pub mod Tally
-pub mod Seen
+pub mod Paired
 pub mod Views
 pub mod Parts
 pub mod Said

@@ -3,6 +3,7 @@
 
 mod check;
 mod draft;
+mod entries;
 mod laws;
 mod model;
 mod names;

@@ -51,7 +51,8 @@ fn check_ranks(alloc: Global, model: &Model, places: &[Place]) -> Result<(), Rea
 }
 
 /// The model that a text says, or the text's first fault. Within the limits a text says a model exactly where it has no
-/// fault. It takes one pass over the text and time linear in it. The last clauses bound what is made of the model.
+/// fault. It takes one pass over the text and time linear in it, but for the look-ups of names. The last clauses bound what
+/// is made of the model.
 pub fn read_model(alloc: Global, text: &[u8]) -> Result<Model, ReadRefusal>
     requires { length text.now ≤ 16777216 }
     ensures model { IfOk result (λ m. Reads (lines_of text.now) m) }

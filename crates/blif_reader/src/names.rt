@@ -1,18 +1,17 @@
 // The names that a text has used so far, by first appearance, and as what each stands there.
-ghost use Rattle.std.specs.Prelude.{◌≡◌, ◌≤◌, ◌+◌, ◌^◌, ◌++◌, ◌∷◌, ◌&&◌, [], length, not, is_some, slice_get, List, OnOk, OnErr, IfErr, None, Some};
+ghost use Rattle.std.specs.Prelude.{◌≡◌, ◌≤◌, ◌+◌, ◌^◌, ◌++◌, ◌∷◌, ◌&&◌, [], length, not, is_some, slice_get, List, OnOk, IfErr, None, Some};
 ghost use Rattle.rm_model.specs.Words.{is_word};
 ghost use Rattle.blif_format.specs.Uses.{Use, is_source_role, is_observed_role};
 ghost use Rattle.blif_format.specs.FirstFault.{name_limit, use_fault, undriven_fault};
 ghost use Rattle.std.specs.Option.{option_map};
 ghost use Rattle.blif_reader.specs.Meant.{said_role, refusal_of, IsRefusal};
-ghost use Rattle.blif_reader.specs.Tally.{Tally, IsTally, flags_or_none, no_flags, has_source as some_source, has_driver as some_driver, is_driven_twice as driven_twice, is_listed_twice as listed_twice, with_role as flags_with, more_if, entry_of, put_entry, place_or, first_free, free_of, use_check, flags_check, inputs_check, counts_check};
-ghost use Rattle.blif_reader.specs.Seen.{seen_entries};
+ghost use Rattle.blif_reader.specs.Tally.{Tally, IsTally, flags_or_none, no_flags, has_source as some_source, has_driver as some_driver, is_driven_twice as driven_twice, is_listed_twice as listed_twice, with_role as flags_with, more_if, place_or, first_free, free_of, use_check, flags_check, inputs_check, counts_check};
 
+use crate::entries::Entries;
 use crate::refusals::{fault, limit};
 use crate::words::Role;
 use blif_format::{FaultKind, Quantity, ReadRefusal};
-use indexmap::IndexMap;
-use rm_base::{NoMemory, Place};
+use rm_base::Place;
 use std::alloc::Global;
 use std::marker::Model;
 
@@ -229,51 +228,19 @@ fn check_use(
     check_counts(counts, place)
 }
 
-fn entry_at(entries: &IndexMap<&[u8], Entry>, name: &[u8]) -> Option<Entry>
-    ensures { result ≡ entry_of (seen_entries entries.now.entries) name.now }
-{
-    match entries.get(name) {
-        Some(entry) => Some(*entry),
-        None => None,
-    }
-}
-
-fn put<'a>(
-    entries: &mut IndexMap<&'a [u8], Entry>,
-    name: &'a [u8],
-    entry: Entry,
-) -> Result<(), NoMemory>
-    ensures ok { OnOk result (seen_entries entries.new.entries ≡ put_entry (seen_entries entries.old.entries) name.now entry) }
-    ensures err { OnErr result (entries.new.entries ≡ entries.old.entries) }
-{
-    match entries.insert(name, entry) {
-        Ok(_) => Ok(()),
-        Err(_) => Err(NoMemory),
-    }
-}
-
 // The place of the name at an index, if it has no driver.
-fn free_place(entries: &IndexMap<&[u8], Entry>, index: usize) -> Option<Place>
-    ensures { result ≡ free_of (slice_get (seen_entries entries.now.entries) index) }
+fn free_place(entries: &Entries, index: usize) -> Option<Place>
+    ensures { result ≡ free_of (slice_get entries.now index) }
 {
-    let entry = entry_in(entries, index)?;
+    let entry = entries.at(index)?;
     if has_driver(entry.flags) {
         return None;
     }
     Some(entry.place)
 }
 
-fn entry_in(entries: &IndexMap<&[u8], Entry>, index: usize) -> Option<Entry>
-    ensures { result ≡ option_map (λ e. e.1) (slice_get (seen_entries entries.now.entries) index) }
-{
-    match entries.get_index(index) {
-        Some((_name, entry)) => Some(*entry),
-        None => None,
-    }
-}
-
-fn first_free_of(entries: &IndexMap<&[u8], Entry>) -> Option<Place>
-    ensures { result ≡ first_free (seen_entries entries.now.entries) }
+fn first_free_of(entries: &Entries) -> Option<Place>
+    ensures { result ≡ first_free entries.now }
 {
     let mut i = 0;
     while i < entries.len() {
@@ -289,7 +256,7 @@ fn first_free_of(entries: &IndexMap<&[u8], Entry>) -> Option<Place>
 /// The names of a text so far. Contracts see the table of names by first appearance.
 #[derive(Drop)]
 pub struct Names<'a> {
-    entries: IndexMap<&'a [u8], Entry>,
+    entries: Entries<'a>,
     sources: usize,
     observed: usize,
 }
@@ -311,7 +278,7 @@ impl<'a> Names<'a> {
         ensures { IsTally [] result }
     {
         Names {
-            entries: IndexMap::new(alloc),
+            entries: Entries::new(alloc),
             sources: 0,
             observed: 0,
         }
@@ -329,7 +296,7 @@ impl<'a> Names<'a> {
         ensures ok { (had : List Use) → IsTally had self.old → OnOk result ((use_fault had earlier (record { role = said_role role; name = name.now; place = place }) ≡ None) × IsTally (had ++ record { role = said_role role; name = name.now; place = place } ∷ []) self.new) }
         ensures err { (had : List Use) → IsTally had self.old → IfErr result (λ e. IsRefusal e (use_fault had earlier (record { role = said_role role; name = name.now; place = place }))) }
     {
-        let entry = entry_at(&self.entries, name);
+        let entry = self.entries.get(name);
         let flags = flags_of(entry);
         let counts = counts_with(self.sources, self.observed, self.entries.len(), role, entry);
         match check_use(flags, counts, role, name, earlier, place) {
@@ -340,7 +307,7 @@ impl<'a> Names<'a> {
             flags: with_role(flags, role),
             place: place_of(entry, place),
         };
-        match put(&mut self.entries, name, after) {
+        match self.entries.put(name, after) {
             Ok(()) => {
                 self.sources = counts.sources;
                 self.observed = counts.observed;

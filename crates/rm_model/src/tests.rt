@@ -9,6 +9,8 @@ use rm_base::{NoMemory, Vector};
 use std::alloc::Global;
 use std::test::Fail;
 
+mod tables;
+
 #[derive(Clone, Copy)]
 struct Gate<'a> {
     inputs: &'a [&'a str],
