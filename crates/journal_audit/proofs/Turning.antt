@@ -1,7 +1,8 @@
 -- Reading a journal piece by piece.
-use Rattle.std.proofs.Common.{◌≡◌, ◌≢◌, ℕ, zero, suc, ◌+◌, ◌^◌, ◌<◌, ◌≤◌, List, [], ◌∷◌, ◌++◌, length, take, drop, Option, Some, None, IfSome, Result, Ok, Err, IfOk, IfErr, refl, ap, sym, subst, ◌∙◌, arith, append_assoc}
+use Rattle.std.proofs.Common.{◌≡◌, ◌≢◌, ℕ, zero, suc, ◌+◌, ◌^◌, ◌<◌, ◌≤◌, List, [], ◌∷◌, ◌++◌, length, take, drop, Option, Some, None, IfSome, Result, Ok, Err, IfOk, IfErr, refl, ap, sym, subst, ◌∙◌, arith, append_assoc, Bool, true, false}
 use Rattle.std.proofs.lemmas.List.{append-nil, length-append}
 use Rattle.std.specs.Option.{option_map}
+use Rattle.std.specs.Prelude.{◌==◌}
 use Rattle.rm_base.specs.Files.{Files, file_of}
 use Rattle.rm_base.specs.Shelves.{GivesPiece}
 use Rattle.rm_model.specs.Words.{Word}
@@ -184,6 +185,13 @@ err_weaker (Err e) P Q f h = f e h
 pub ok_weaker : {V E : Type 0} (r : Result V E) (P Q : V → Type 0) → ((v : V) → P v → Q v) → IfOk r P → IfOk r Q
 ok_weaker (Ok x) P Q f h = f x h
 ok_weaker (Err e) P Q f h = tt
+
+-- bytes that aren't empty
+pub some_bytes : (xs : List ℕ) (b : Bool) → b ≡ (length xs == 0) → b ≡ false → 0 < length xs
+some_bytes [] b e f =
+    let never : true ≡ false → ⊥ = λ h. cc in
+    absurd (never (sym e ∙ f))
+some_bytes (x ∷ xs) b e f = omega arith
 
 pub no_bytes : (piece : List ℕ) → length piece ≡ 0 → piece ≡ []
 no_bytes [] e = refl

@@ -4,7 +4,7 @@ use Rattle.journal_audit.specs.Turns.{EndsWith, IsInside, IsJournalProblem, Turn
 use Rattle.journal_audit.specs.declared.problem.AuditProblem.{AuditProblem}
 use Rattle.journal_audit.specs.declared.reading.Turn.{Turn}
 use Rattle.journal_audit.proofs.Entering.{handed_on}
-use Rattle.journal_audit.proofs.Turning.{end_problem, err_weaker, goes_on, inside, no_bytes, ok_weaker, push_judged, too_long, turn_ends, turn_problem}
+use Rattle.journal_audit.proofs.Turning.{end_problem, err_weaker, goes_on, inside, no_bytes, ok_weaker, push_judged, some_bytes, too_long, turn_ends, turn_problem}
 use Rattle.journal_audit.proofs.reading.turned.Goals as goal
 
 pub returns-then-is_empty-clause-says : goal.returns-then-is_empty-clause-says
@@ -28,7 +28,7 @@ returns-then-is_empty-clause-inside c =
 
 pub returns-then-from-eq-MOST_BYTES-clause-problem : goal.returns-then-from-eq-MOST_BYTES-clause-problem
 returns-then-from-eq-MOST_BYTES-clause-problem c = λ files journal most some s gives.
-    let more : 0 < length c.args.piece.now = search rules in
+    let more = some_bytes c.args.piece.now c.is_empty.result c.is_empty.ensures c.if-is_empty.false in
     let limit : c.args.from ≡ 2 ^ 62 = search rules in
     subst (λ (r : Result Turn AuditProblem). IfErr r (λ p. IfSome files (λ told. IsJournalProblem c.args.model.now told journal p))) (sym c.too_long.ensures)
     (too_long files c.args.model.now journal c.args.from most c.args.reader.now c.args.stage c.args.piece.now some more limit s gives)
@@ -57,7 +57,7 @@ returns-in_err-stage-clause-inside c =
 pub returns-clause-says : goal.returns-clause-says
 returns-clause-says c = λ files journal most some s gives.
     let within : c.args.from + length c.args.piece.now ≤ 2 ^ 62 = search rules in
-    let more : 0 < length c.args.piece.now = search rules in
+    let more = some_bytes c.args.piece.now c.is_empty.result c.is_empty.ensures c.if-is_empty.false in
     goes_on files c.args.model.now journal c.args.from most c.args.reader.now c.judged.new.reader c.args.stage c.in_ok-stage.stage c.args.piece.now some more s gives
     (c.in_ok-stage.ensures.judged (s.text ++ c.args.piece.now) (push_judged c.cuts_agree.ensures c.args.model.now s.text c.args.piece.now c.args.reader.now c.push.new.self c.args.stage (omega (arith, within, s.size)) c.in_default.ensures.ok s.judged))
     c.in_ok-stage.ensures.none
