@@ -6,7 +6,6 @@ mod demo;
 mod drawn;
 mod fresh;
 mod nets;
-mod pairs;
 mod wide;
 
 use self::nets::{Gate, wired};
