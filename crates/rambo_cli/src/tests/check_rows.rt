@@ -14,13 +14,14 @@ fn changed(alloc: Global, text: &str, old: &str, new: &str) -> Result<String, Fa
     Ok(made)
 }
 
+const ACCEPTED: [(&str, &str, &str, &str); 2] = [
+    (FOUR_GATES, WITH_A_WIRE, WIRE_JOURNAL, "accepted 19\n"),
+    (ONE_GATE, ONE_GATE, ONE_GATE_JOURNAL, "accepted 4\n"),
+];
+
 #[test]
 fn accepted_journals(rt: HostRuntime) -> Result<(), Fail> {
-    let rows = [
-        (FOUR_GATES, WITH_A_WIRE, WIRE_JOURNAL, "accepted 19\n"),
-        (ONE_GATE, ONE_GATE, ONE_GATE_JOURNAL, "accepted 4\n"),
-    ];
-    for (input, output, journal, put) in rows {
+    for (input, output, journal, put) in ACCEPTED {
         assert!(rt;
             refuses(
                 &rt,
@@ -35,16 +36,17 @@ fn accepted_journals(rt: HostRuntime) -> Result<(), Fail> {
     Ok(())
 }
 
+const CHANGES: [(&str, &str, &str); 5] = [
+    ("add 9 2 a", "add 9 2 !0", "record 1 NotClash item 1"),
+    ("end\n", "", "line 21 Truncated"),
+    ("end\n", "end\nx\n", "line 22 AfterEnd"),
+    ("hit 8 0 0 1101", "hit 8 0 0 0101", "record 10 VectorMisses"),
+    ("rambo 1", "rambo 2", "line 1 BadHeader"),
+];
+
 #[test]
 fn changed_journals(rt: HostRuntime) -> Result<(), Fail> {
-    let rows = [
-        ("add 9 2 a", "add 9 2 !0", "record 1 NotClash item 1"),
-        ("end\n", "", "line 21 Truncated"),
-        ("end\n", "end\nx\n", "line 22 AfterEnd"),
-        ("hit 8 0 0 1101", "hit 8 0 0 0101", "record 10 VectorMisses"),
-        ("rambo 1", "rambo 2", "line 1 BadHeader"),
-    ];
-    for (old, new, why) in rows {
+    for (old, new, why) in CHANGES {
         let journal = changed(rt.alloc(), WIRE_JOURNAL, old, new)?;
         let put = format!(in rt.alloc(); "journal {why}\n")?;
         let texts = [FOUR_GATES, WITH_A_WIRE, &journal];
@@ -53,7 +55,7 @@ fn changed_journals(rt: HostRuntime) -> Result<(), Fail> {
     Ok(())
 }
 
-// Whether a journal with this behind its version is refused, and why.
+// Whether a journal of this text behind its first word is refused, and why.
 fn rejects<R: Threads + Sync>(
     rt: &R,
     alloc: Global,
@@ -61,47 +63,54 @@ fn rejects<R: Threads + Sync>(
     rest: &str,
     why: &str,
 ) -> Result<bool, Fail> {
-    let journal = format!(in alloc; "rambo 1 {rest}\n")?;
+    let journal = format!(in alloc; "rambo {rest}\n")?;
     let put = format!(in alloc; "journal {why}\n")?;
     let texts = [input, "old", &journal];
     refuses(rt, alloc, "check in journal out", texts, 6, &put)
 }
 
+const OTHERS: [(&str, &str, &str); 10] = [
+    (ONE_GATE, "1 256\nend", "record 1 FaultMissing 4 0 0"),
+    (
+        ONE_GATE,
+        "1 2\nspent 4 0 0 /2,1 @ ?\nend",
+        "record 1 SpentShort 1 2",
+    ),
+    (
+        ONE_GATE,
+        "1 256\nhit 4 0 0 11\nhit 4 0 1 01\nhit 4 1 0 11\nhit 4 1 1 10\nhit 4 1 1 10\nend",
+        "record 5 RecordExtra",
+    ),
+    (ZERO_ROW, "1 256\nend", "record 1 NotTidy 2"),
+    (FOUR_GATES, "1 256\nadd 6 9 .\nend", "record 1 Cycle"),
+    (FOUR_GATES, "1 256\nadd 6 9 .\nx", "record 1 Cycle"),
+    (FOUR_GATES, "2 256\nend", "line 1 BadHeader"),
+    (FOUR_GATES, "1 256\nfix 06 0 1 .\nend", "line 2 BadRecord"),
+    (
+        FOUR_GATES,
+        "1 256\ndead 4294967296\nend",
+        "line 2 BadRecord",
+    ),
+    (FOUR_GATES, "1 256\ndead 4294967295\nend", "record 1 NoNode"),
+];
+
 #[test]
 fn other_journals(rt: HostRuntime) -> Result<(), Fail> {
-    let rows = [
-        (ONE_GATE, "256\nend", "record 1 FaultMissing 4 0 0"),
-        (
-            ONE_GATE,
-            "2\nspent 4 0 0 /2,1 @ ?\nend",
-            "record 1 SpentShort 1 2",
-        ),
-        (
-            ONE_GATE,
-            "256\nhit 4 0 0 11\nhit 4 0 1 01\nhit 4 1 0 11\nhit 4 1 1 10\nhit 4 1 1 10\nend",
-            "record 5 RecordExtra",
-        ),
-        (ZERO_ROW, "256\nend", "record 1 NotTidy 2"),
-        (FOUR_GATES, "256\nadd 6 9 .\nend", "record 1 Cycle"),
-        (FOUR_GATES, "256\nadd 6 9 .\nx", "record 1 Cycle"),
-        (FOUR_GATES, "256\nfix 06 0 1 .\nend", "line 2 BadRecord"),
-        (FOUR_GATES, "256\ndead 4294967296\nend", "line 2 BadRecord"),
-        (FOUR_GATES, "256\ndead 4294967295\nend", "record 1 NoNode"),
-    ];
-    for (input, rest, why) in rows {
+    for (input, rest, why) in OTHERS {
         assert!(rt; rejects(&rt, rt.alloc(), input, rest, why)?);
     }
     Ok(())
 }
 
+const OUTPUTS: [(&str, &str, &str); 3] = [
+    (".model r3", ".model s3", "netlist 8\n"),
+    (".end\n", ".end", "netlist 92\n"),
+    (".end\n", ".end\n\n", "netlist 93\n"),
+];
+
 #[test]
 fn other_outputs(rt: HostRuntime) -> Result<(), Fail> {
-    let rows = [
-        (".model r3", ".model s3", "netlist 8\n"),
-        (".end\n", ".end", "netlist 92\n"),
-        (".end\n", ".end\n\n", "netlist 93\n"),
-    ];
-    for (old, new, put) in rows {
+    for (old, new, put) in OUTPUTS {
         let output = changed(rt.alloc(), WITH_A_WIRE, old, new)?;
         let texts = [FOUR_GATES, &output, WIRE_JOURNAL];
         assert!(rt; refuses(&rt, rt.alloc(), "check in journal out", texts, 6, put)?);
@@ -110,22 +119,23 @@ fn other_outputs(rt: HostRuntime) -> Result<(), Fail> {
 }
 
 // A file that is missing is one in its turn: after a fault of the journal, the output isn't looked for.
+const MISSING: [(&str, &str, &str, u8, &str); 5] = [
+    ("-", WITH_A_WIRE, WIRE_JOURNAL, 3u8, "fault shelf\n"),
+    (FOUR_GATES, WITH_A_WIRE, "-", 3, "fault shelf\n"),
+    (FOUR_GATES, "-", WIRE_JOURNAL, 3, "fault shelf\n"),
+    (
+        FOUR_GATES,
+        "-",
+        "rambo 1 256\nend\n",
+        6,
+        "journal record 1 FaultMissing 6 0 0\n",
+    ),
+    ("", "-", "-", 1, "text 1:1 NoModel\n"),
+];
+
 #[test]
 fn missing_files(rt: HostRuntime) -> Result<(), Fail> {
-    let rows = [
-        ("-", WITH_A_WIRE, WIRE_JOURNAL, 3u8, "fault shelf\n"),
-        (FOUR_GATES, WITH_A_WIRE, "-", 3, "fault shelf\n"),
-        (FOUR_GATES, "-", WIRE_JOURNAL, 3, "fault shelf\n"),
-        (
-            FOUR_GATES,
-            "-",
-            "rambo 1 256\nend\n",
-            6,
-            "journal record 1 FaultMissing 6 0 0\n",
-        ),
-        ("", "-", "-", 1, "text 1:1 NoModel\n"),
-    ];
-    for (input, output, journal, status, put) in rows {
+    for (input, output, journal, status, put) in MISSING {
         assert!(rt;
             refuses(
                 &rt,

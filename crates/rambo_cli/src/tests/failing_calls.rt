@@ -20,21 +20,22 @@ fn begins(shelf: &MemoryShelf, name: &str, text: &str, count: Option<usize>) -> 
 
 // The calls of `opt` on one gate: a read, the journal created, six lines, the output created, its text. A failing append adds
 // the first half of its bytes.
+const CALLS_OF_OPT: [(u64, Option<usize>, Option<usize>); 10] = [
+    (1u64, None, None),
+    (2, None, None),
+    (3, Some(6usize), None),
+    (4, Some(18), None),
+    (5, Some(31), None),
+    (6, Some(44), None),
+    (7, Some(57), None),
+    (8, Some(66), None),
+    (9, Some(68), None),
+    (10, Some(68), Some(28usize)),
+];
+
 #[test]
 fn calls_of_opt(rt: HostRuntime) -> Result<(), Fail> {
-    let rows = [
-        (1u64, None, None),
-        (2, None, None),
-        (3, Some(6usize), None),
-        (4, Some(18), None),
-        (5, Some(31), None),
-        (6, Some(44), None),
-        (7, Some(57), None),
-        (8, Some(66), None),
-        (9, Some(68), None),
-        (10, Some(68), Some(28usize)),
-    ];
-    for (call, journal, output) in rows {
+    for (call, journal, output) in CALLS_OF_OPT {
         let mut shelf = shelf(rt.alloc(), [ONE_GATE, "old", "old"], &[call])?;
         assert!(rt;
             ends(
@@ -68,17 +69,18 @@ fn calls_of_opt(rt: HostRuntime) -> Result<(), Fail> {
 }
 
 // Those of `check`: the input, the journal and its end, and the output.
+const CALLS_OF_CHECK: [(u64, u8, &str); 5] = [
+    (1u64, 3u8, "fault shelf\n"),
+    (2, 3, "fault shelf\n"),
+    (3, 3, "fault shelf\n"),
+    (4, 3, "fault shelf\n"),
+    (5, 0, "accepted 19\n"),
+];
+
 #[test]
 fn calls_of_check(rt: HostRuntime) -> Result<(), Fail> {
     let texts = [FOUR_GATES, WITH_A_WIRE, WIRE_JOURNAL];
-    let rows = [
-        (1u64, 3u8, "fault shelf\n"),
-        (2, 3, "fault shelf\n"),
-        (3, 3, "fault shelf\n"),
-        (4, 3, "fault shelf\n"),
-        (5, 0, "accepted 19\n"),
-    ];
-    for (call, status, put) in rows {
+    for (call, status, put) in CALLS_OF_CHECK {
         let mut shelf = shelf(rt.alloc(), texts, &[call])?;
         assert!(rt;
             ends(
@@ -95,33 +97,61 @@ fn calls_of_check(rt: HostRuntime) -> Result<(), Fail> {
     Ok(())
 }
 
+// A command, the files before it, what is put, and the files after it.
+#[derive(Clone, Copy)]
+struct Put {
+    line: &'static str,
+    before: [&'static str; 3],
+    put: &'static str,
+    after: [&'static str; 3],
+}
+
 // The first put fails: half of what it was handed is there.
+const PUTS: [Put; 6] = [
+    Put {
+        line: "opt in out journal",
+        before: [ONE_GATE, "old", "old"],
+        put: "wires 2 2\ngates 1 1\nsteps 0 0",
+        after: [ONE_GATE, ONE_GATE, ONE_GATE_JOURNAL],
+    },
+    Put {
+        line: "check in journal out",
+        before: [FOUR_GATES, WITH_A_WIRE, WIRE_JOURNAL],
+        put: "accept",
+        after: [FOUR_GATES, WITH_A_WIRE, WIRE_JOURNAL],
+    },
+    Put {
+        line: "check in journal out",
+        before: [ONE_GATE, ONE_GATE, ONE_GATE_JOURNAL],
+        put: "accep",
+        after: [ONE_GATE, ONE_GATE, ONE_GATE_JOURNAL],
+    },
+    Put {
+        line: "check in journal out",
+        before: [FOUR_GATES, "old", "rambo 2 256\nend\n"],
+        put: "journal line",
+        after: [FOUR_GATES, "old", "rambo 2 256\nend\n"],
+    },
+    Put {
+        line: "check in journal out",
+        before: [ONE_GATE, "-", "-"],
+        put: "fault ",
+        after: [ONE_GATE, "-", "-"],
+    },
+    Put {
+        line: "opt in out",
+        before: [ONE_GATE, "old", "old"],
+        put: "words r",
+        after: [ONE_GATE, "old", "old"],
+    },
+];
+
 #[test]
 fn failing_puts(rt: HostRuntime) -> Result<(), Fail> {
     let alloc = rt.alloc();
-    let rows = [
-        (
-            "opt in out journal",
-            "old",
-            "old",
-            "wires 2 2\ngates 1 1\nsteps 0 0",
-            ONE_GATE,
-            ONE_GATE_JOURNAL,
-        ),
-        (
-            "check in journal out",
-            ONE_GATE,
-            ONE_GATE_JOURNAL,
-            "accep",
-            ONE_GATE,
-            ONE_GATE_JOURNAL,
-        ),
-        ("check in journal out", "-", "-", "fault ", "-", "-"),
-        ("opt in out", "old", "old", "words r", "old", "old"),
-    ];
-    for (line, output, journal, put, output_after, journal_after) in rows {
-        let words = words(alloc, line)?;
-        let mut shelf = shelf(alloc, [ONE_GATE, output, journal], &[])?;
+    for row in PUTS {
+        let words = words(alloc, row.line)?;
+        let mut shelf = shelf(alloc, row.before, &[])?;
         let mut sink = MemorySink::new(alloc, Vec::from_slice(alloc, &[1u64])?);
         let status = run(
             &rt,
@@ -132,8 +162,8 @@ fn failing_puts(rt: HostRuntime) -> Result<(), Fail> {
             &OpenGate,
         );
         assert!(rt; status == 3);
-        assert!(rt; sink.written() == put.as_bytes());
-        assert!(rt; hold(&shelf, [ONE_GATE, output_after, journal_after]));
+        assert!(rt; sink.written() == row.put.as_bytes());
+        assert!(rt; hold(&shelf, row.after));
     }
     Ok(())
 }

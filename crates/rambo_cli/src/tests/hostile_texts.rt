@@ -1,5 +1,5 @@
 // Texts of strangers: every beginning of a journal, and long texts of one shape.
-use super::running::refuses;
+use super::running::{refuses, repeated};
 use super::texts::{FOUR_GATES, WIRE_JOURNAL, WITH_A_WIRE};
 use std::test::Fail;
 
@@ -20,13 +20,12 @@ fn beginnings_of_a_journal(rt: HostRuntime) -> Result<(), Fail> {
     Ok(())
 }
 
+// As long as a text may be.
 #[test]
 fn many_joins(rt: HostRuntime) -> Result<(), Fail> {
-    let mut text = String::new(rt.alloc());
-    for _ in 0..65_536u32 {
-        text.push_str("\\\n")?;
-    }
-    let put = "text 65536:1 OpenJoin\n";
+    let joins = repeated(rt.alloc(), "\\\n", 128)?;
+    let text = repeated(rt.alloc(), &joins, 65_536)?;
+    let put = "text 8388608:1 OpenJoin\n";
     assert!(rt;
         refuses(
             &rt,
@@ -42,11 +41,10 @@ fn many_joins(rt: HostRuntime) -> Result<(), Fail> {
 
 #[test]
 fn many_items(rt: HostRuntime) -> Result<(), Fail> {
-    let mut journal = String::from_str(rt.alloc(), "rambo 1 256\nfix 6 0 1")?;
-    for _ in 0..100_000u32 {
-        journal.push_str(" /2,1")?;
-    }
-    journal.push_str("\nend\n")?;
+    let alloc = rt.alloc();
+    let items = repeated(alloc, " /2,1", 1_000)?;
+    let items = repeated(alloc, &items, 1_000)?;
+    let journal = format!(in alloc; "rambo 1 256\nfix 6 0 1{items}\nend\n")?;
     let put = "journal record 1 BadSplit item 2\n";
     assert!(rt;
         refuses(

@@ -1,8 +1,8 @@
 // `opt` where it ends with 0: what it puts, the output and the journal.
-use super::running::{ended, ends, hold, shelf};
+use super::running::{ended, ends, hold, journal_of, shelf};
 use super::texts::{
-    ABSORBED, CONSTANT_ZERO, FOUR_GATES, MULTIPLEXER, MULTIPLEXER_LEFT, ONE_GATE, ONE_GATE_JOURNAL,
-    ONE_GATE_SUMMARY, WITH_A_WIRE, WITHOUT, ZERO_ROW,
+    ABSORBED, CONSTANT_ZERO, FOUR_GATES, MULTIPLEXER, MULTIPLEXER_LEFT, NO_GATES_SUMMARY, ONE_GATE,
+    ONE_GATE_JOURNAL, ONE_GATE_SUMMARY, WITH_A_WIRE, WITHOUT, ZERO_ROW,
 };
 use rm_base::MemoryShelf;
 use std::alloc::Global;
@@ -21,14 +21,6 @@ fn is_accepted<R: Threads + Sync>(
 ) -> Result<bool, Fail> {
     let (status, put) = ended(rt, alloc, "check in journal out", shelf)?;
     Ok(status == 0 && put.as_slice().starts_with(b"accepted "))
-}
-
-// The text of the journal, where it is one.
-fn journal_of(shelf: &MemoryShelf) -> &str {
-    match shelf.file("journal") {
-        Some(bytes) => std::str::from_utf8(bytes).unwrap_or("-"),
-        None => "-",
-    }
 }
 
 // Whether a run puts this summary and writes this output, and a journal that `check` accepts; and whether eight workers put and
@@ -56,94 +48,104 @@ fn optimises<R: Threads + Sync>(
     )
 }
 
+const FEW_GATES: [(&str, &str, &str); 7] = [
+    (ONE_GATE, ONE_GATE_SUMMARY, ONE_GATE),
+    (
+        ".model r1\n.inputs a b\n.outputs z\n.names a a z\n11 1\n.end\n",
+        "wires 2 0\ngates 1 0\nsteps 0 0 3\ntries 0 settled\nfaults 0 0\n",
+        ".model r1\n.inputs a b\n.outputs z\n.names a z\n1 1\n.end\n",
+    ),
+    (
+        ABSORBED,
+        "wires 4 0\ngates 2 0\nsteps 0 1 5\ntries 0 settled\nfaults 0 0\n",
+        ".model r2\n.inputs x y\n.outputs z\n.names x z\n1 1\n.end\n",
+    ),
+    (
+        FOUR_GATES,
+        "wires 8 5\ngates 4 2\nsteps 1 2 6\ntries 16 settled\nfaults 10 0\n",
+        WITH_A_WIRE,
+    ),
+    (
+        ".model r4\n.inputs a b c d\n.outputs k o\n.names a b c o\n11- 1\n1-1 1\n.names o d k\n11 1\n.end\n",
+        "wires 8 8\ngates 4 4\nsteps 0 0 0\ntries 24 settled\nfaults 16 0\n",
+        ".model r4\n.inputs a b c d\n.outputs k o\n.names a b n0_6\n11 1\n.names a c n0_7\n11 1\n.names n0_6 n0_7 o\n1- 1\n-1 1\n.names o d k\n11 1\n.end\n",
+    ),
+    (
+        ".model r5\n.inputs a b\n.outputs z\n.names a b z\n00 0\n.end\n",
+        "wires 5 5\ngates 4 4\nsteps 0 0 0\ntries 2 settled\nfaults 10 0\n",
+        ".model r5\n.inputs a b\n.outputs z\n.names a n0_4\n0 1\n.names b n0_5\n0 1\n.names n0_4 n0_5 n0_6\n11 1\n.names n0_6 z\n0 1\n.end\n",
+    ),
+    (
+        MULTIPLEXER,
+        "wires 10 7\ngates 5 4\nsteps 0 1 3\ntries 22 settled\nfaults 14 0\n",
+        MULTIPLEXER_LEFT,
+    ),
+];
+
 #[test]
 fn models_of_few_gates(rt: HostRuntime) -> Result<(), Fail> {
-    let rows = [
-        (ONE_GATE, ONE_GATE_SUMMARY, ONE_GATE),
-        (
-            ABSORBED,
-            "wires 4 0\ngates 2 0\nsteps 0 1 5\ntries 0 settled\nfaults 0 0\n",
-            ".model r2\n.inputs x y\n.outputs z\n.names x z\n1 1\n.end\n",
-        ),
-        (
-            FOUR_GATES,
-            "wires 8 5\ngates 4 2\nsteps 1 2 6\ntries 16 settled\nfaults 10 0\n",
-            WITH_A_WIRE,
-        ),
-        (
-            ".model r4\n.inputs a b c d\n.outputs k o\n.names a b c o\n11- 1\n1-1 1\n.names o d k\n11 1\n.end\n",
-            "wires 8 8\ngates 4 4\nsteps 0 0 0\ntries 24 settled\nfaults 16 0\n",
-            ".model r4\n.inputs a b c d\n.outputs k o\n.names a b n0_6\n11 1\n.names a c n0_7\n11 1\n.names n0_6 n0_7 o\n1- 1\n-1 1\n.names o d k\n11 1\n.end\n",
-        ),
-        (
-            ".model r5\n.inputs a b\n.outputs z\n.names a b z\n00 0\n.end\n",
-            "wires 5 5\ngates 4 4\nsteps 0 0 0\ntries 2 settled\nfaults 10 0\n",
-            ".model r5\n.inputs a b\n.outputs z\n.names a n0_4\n0 1\n.names b n0_5\n0 1\n.names n0_4 n0_5 n0_6\n11 1\n.names n0_6 z\n0 1\n.end\n",
-        ),
-        (
-            MULTIPLEXER,
-            "wires 10 7\ngates 5 4\nsteps 0 1 3\ntries 22 settled\nfaults 14 0\n",
-            MULTIPLEXER_LEFT,
-        ),
-    ];
-    for (input, put, output) in rows {
+    for (input, put, output) in FEW_GATES {
         assert!(rt; optimises(&rt, rt.alloc(), "opt in out journal", input, put, output)?);
     }
     Ok(())
 }
+
+const SOURCES: &str = ".model r7\n.inputs a\n.outputs a z\n.names a z\n1 1\n.end\n";
+
+const NO_GATES: [(&str, &str, &str); 5] = [
+    (
+        ".model r6\n.outputs z\n.names z\n.end\n",
+        NO_GATES_SUMMARY,
+        CONSTANT_ZERO,
+    ),
+    (
+        ".model r6\n.outputs z\n.names z\n1\n.end\n",
+        NO_GATES_SUMMARY,
+        ".model r6\n.inputs\n.outputs z\n.names z\n1\n.end\n",
+    ),
+    (
+        ZERO_ROW,
+        "wires 1 0\ngates 1 0\nsteps 0 0 2\ntries 0 settled\nfaults 0 0\n",
+        CONSTANT_ZERO,
+    ),
+    (SOURCES, NO_GATES_SUMMARY, SOURCES),
+    (
+        ".model r23\n.inputs a\n.clock a\n.outputs z\n.names a z\n1 1\n.end\n",
+        NO_GATES_SUMMARY,
+        ".model r23\n.inputs a\n.outputs z\n.clock a\n.names a z\n1 1\n.end\n",
+    ),
+];
 
 #[test]
 fn models_without_gates(rt: HostRuntime) -> Result<(), Fail> {
-    let none = "wires 0 0\ngates 0 0\nsteps 0 0 0\ntries 0 settled\nfaults 0 0\n";
-    let sources = ".model r7\n.inputs a\n.outputs a z\n.names a z\n1 1\n.end\n";
-    let rows = [
-        (
-            ".model r6\n.outputs z\n.names z\n.end\n",
-            none,
-            CONSTANT_ZERO,
-        ),
-        (
-            ".model r6\n.outputs z\n.names z\n1\n.end\n",
-            none,
-            ".model r6\n.inputs\n.outputs z\n.names z\n1\n.end\n",
-        ),
-        (
-            ZERO_ROW,
-            "wires 1 0\ngates 1 0\nsteps 0 0 2\ntries 0 settled\nfaults 0 0\n",
-            CONSTANT_ZERO,
-        ),
-        (sources, none, sources),
-        (
-            ".model r23\n.inputs a\n.clock a\n.outputs z\n.names a z\n1 1\n.end\n",
-            none,
-            ".model r23\n.inputs a\n.outputs z\n.clock a\n.names a z\n1 1\n.end\n",
-        ),
-    ];
-    for (input, put, output) in rows {
+    for (input, put, output) in NO_GATES {
         assert!(rt; optimises(&rt, rt.alloc(), "opt in out journal", input, put, output)?);
     }
     Ok(())
 }
 
+const LATCH: &str =
+    ".model r8\n.inputs d e clk\n.outputs q\n.latch nd q re g 2\n.latch q s\n.names clk e g\n11 1\n.names d s nd\n11 1\n.end\n";
+
+const LATCH_SUMMARY: &str = "wires 4 4\ngates 2 2\nsteps 0 0 0\ntries 0 settled\nfaults 8 0\n";
+
+const LATCHES: [(&str, &str, &str); 3] = [
+    (LATCH, LATCH_SUMMARY, LATCH),
+    (
+        ".model r8\n.inputs d e clk\n.outputs q\n.latch nd q re g 2\n.latch   q   s  0\n.names clk e g\n11 1\n.names d s nd\n11 1\n.end\n",
+        LATCH_SUMMARY,
+        ".model r8\n.inputs d e clk\n.outputs q\n.latch nd q re g 2\n.latch q s 0\n.names clk e g\n11 1\n.names d s nd\n11 1\n.end\n",
+    ),
+    (
+        "# made by hand \\\r\n.model r9\r\n.inputs a \\  \r\nb\r\n.outputs z\r\n.names a b z # and \\\r\n11 1\r\n",
+        ONE_GATE_SUMMARY,
+        ".model r9\n.inputs a b\n.outputs z\n.names a b z\n11 1\n.end\n",
+    ),
+];
+
 #[test]
 fn latches_and_layout(rt: HostRuntime) -> Result<(), Fail> {
-    let latches =
-        ".model r8\n.inputs d e clk\n.outputs q\n.latch nd q re g 2\n.latch q s\n.names clk e g\n11 1\n.names d s nd\n11 1\n.end\n";
-    let put = "wires 4 4\ngates 2 2\nsteps 0 0 0\ntries 0 settled\nfaults 8 0\n";
-    let rows = [
-        (latches, put, latches),
-        (
-            ".model r8\n.inputs d e clk\n.outputs q\n.latch nd q re g 2\n.latch   q   s  0\n.names clk e g\n11 1\n.names d s nd\n11 1\n.end\n",
-            put,
-            ".model r8\n.inputs d e clk\n.outputs q\n.latch nd q re g 2\n.latch q s 0\n.names clk e g\n11 1\n.names d s nd\n11 1\n.end\n",
-        ),
-        (
-            "# made by hand \\\r\n.model r9\r\n.inputs a \\  \r\nb\r\n.outputs z\r\n.names a b z # and \\\r\n11 1\r\n",
-            ONE_GATE_SUMMARY,
-            ".model r9\n.inputs a b\n.outputs z\n.names a b z\n11 1\n.end\n",
-        ),
-    ];
-    for (input, put, output) in rows {
+    for (input, put, output) in LATCHES {
         assert!(rt; optimises(&rt, rt.alloc(), "opt in out journal", input, put, output)?);
     }
     Ok(())
@@ -164,48 +166,62 @@ fn leaves<R: Threads + Sync>(
     Ok(ran && accepted && hold(&shelf, [FOUR_GATES, output, journal]))
 }
 
+const TRIES: [(&str, &str, &str); 4] = [
+    (
+        "opt in out journal --tries 0",
+        "wires 8 8\ngates 4 4\nsteps 0 0 0\ntries 0 spent\nfaults 16 0\n",
+        WITHOUT,
+    ),
+    (
+        "opt --tries=5 -- in out journal",
+        "wires 8 8\ngates 4 4\nsteps 0 0 0\ntries 5 spent\nfaults 16 0\n",
+        WITHOUT,
+    ),
+    (
+        "opt in out journal --tries 15",
+        "wires 8 5\ngates 4 2\nsteps 1 2 6\ntries 15 spent\nfaults 10 0\n",
+        WITH_A_WIRE,
+    ),
+    (
+        "opt in out --tries +0016 journal",
+        "wires 8 5\ngates 4 2\nsteps 1 2 6\ntries 16 settled\nfaults 10 0\n",
+        WITH_A_WIRE,
+    ),
+];
+
 #[test]
 fn tries_that_end(rt: HostRuntime) -> Result<(), Fail> {
-    let rows = [
-        (
-            "opt in out journal --tries 0",
-            "wires 8 8\ngates 4 4\nsteps 0 0 0\ntries 0 spent\nfaults 16 0\n",
-            WITHOUT,
-        ),
-        (
-            "opt --tries=5 -- in out journal",
-            "wires 8 8\ngates 4 4\nsteps 0 0 0\ntries 5 spent\nfaults 16 0\n",
-            WITHOUT,
-        ),
-        (
-            "opt in out journal --tries 15",
-            "wires 8 5\ngates 4 2\nsteps 1 2 6\ntries 15 spent\nfaults 10 0\n",
-            WITH_A_WIRE,
-        ),
-        (
-            "opt in out --tries +0016 journal",
-            "wires 8 5\ngates 4 2\nsteps 1 2 6\ntries 16 settled\nfaults 10 0\n",
-            WITH_A_WIRE,
-        ),
-    ];
-    for (line, put, output) in rows {
+    for (line, put, output) in TRIES {
         assert!(rt; leaves(&rt, rt.alloc(), line, put, output)?);
     }
     Ok(())
 }
 
+const SPENT_JOURNAL: &str =
+    "rambo 1 1\nspent 4 0 0 /2,1 @ ?\nspent 4 0 1 /2,0 @ ?\nspent 4 1 0 /3,1 @ ?\nspent 4 1 1 /3,0 @ ?\nend\n";
+
+const WHOLE_JOURNAL: &str =
+    "rambo 1 8\nhit 4 0 0 11\nhit 4 0 1 01\nhit 4 1 0 11\nhit 4 1 1 10\nend\n";
+
+const SPENT_SUMMARY: &str = "wires 2 2\ngates 1 1\nsteps 0 0 0\ntries 0 settled\nfaults 0 4\n";
+
+const BUDGETS: [(&str, &str, &str); 3] = [
+    ("opt in out journal", ONE_GATE_SUMMARY, ONE_GATE_JOURNAL),
+    (
+        "opt in out journal --budget 1",
+        SPENT_SUMMARY,
+        SPENT_JOURNAL,
+    ),
+    (
+        "opt --budget=8 -- in out journal",
+        ONE_GATE_SUMMARY,
+        WHOLE_JOURNAL,
+    ),
+];
+
 #[test]
 fn journals_of_one_gate(rt: HostRuntime) -> Result<(), Fail> {
-    let spent =
-        "rambo 1 1\nspent 4 0 0 /2,1 @ ?\nspent 4 0 1 /2,0 @ ?\nspent 4 1 0 /3,1 @ ?\nspent 4 1 1 /3,0 @ ?\nend\n";
-    let all = "rambo 1 8\nhit 4 0 0 11\nhit 4 0 1 01\nhit 4 1 0 11\nhit 4 1 1 10\nend\n";
-    let missed = "wires 2 2\ngates 1 1\nsteps 0 0 0\ntries 0 settled\nfaults 0 4\n";
-    let rows = [
-        ("opt in out journal", ONE_GATE_SUMMARY, ONE_GATE_JOURNAL),
-        ("opt in out journal --budget 1", missed, spent),
-        ("opt --budget=8 -- in out journal", ONE_GATE_SUMMARY, all),
-    ];
-    for (line, put, journal) in rows {
+    for (line, put, journal) in BUDGETS {
         let mut shelf = shelf_of(rt.alloc(), ONE_GATE)?;
         assert!(rt; ends(&rt, rt.alloc(), line, &mut shelf, 0, put)?);
         assert!(rt; hold(&shelf, [ONE_GATE, ONE_GATE, journal]));

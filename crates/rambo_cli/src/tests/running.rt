@@ -70,6 +70,23 @@ pub(crate) fn hold(shelf: &MemoryShelf, texts: [&str; 3]) -> bool {
     holds(shelf, "in", input) && holds(shelf, "out", output) && holds(shelf, "journal", journal)
 }
 
+// The text of the journal, where it is one.
+pub(crate) fn journal_of(shelf: &MemoryShelf) -> &str {
+    match shelf.file("journal") {
+        Some(bytes) => std::str::from_utf8(bytes).unwrap_or("-"),
+        None => "-",
+    }
+}
+
+// A part, so many times.
+pub(crate) fn repeated(alloc: Global, part: &str, count: u32) -> Result<String, Fail> {
+    let mut text = String::new(alloc);
+    for _ in 0..count {
+        text.push_str(part)?;
+    }
+    Ok(text)
+}
+
 // Whether a run over these files ends with this status, puts this text and changes no file.
 pub(crate) fn refuses<R: Threads + Sync>(
     rt: &R,

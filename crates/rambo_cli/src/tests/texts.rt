@@ -35,3 +35,7 @@ pub(crate) const CONSTANT_ZERO: &str = ".model r6\n.inputs\n.outputs z\n.names z
 
 // A constant whose only row ends in 0: one gate, which goes.
 pub(crate) const ZERO_ROW: &str = ".model r6\n.outputs z\n.names z\n0\n.end\n";
+
+// The summary where there is no gate before and none after.
+pub(crate) const NO_GATES_SUMMARY: &str =
+    "wires 0 0\ngates 0 0\nsteps 0 0 0\ntries 0 settled\nfaults 0 0\n";
