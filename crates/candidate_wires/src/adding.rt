@@ -12,14 +12,7 @@ use rm_base::{Fault, NodeId};
 pub fn least_free(graph: &Graph) -> NodeId
     ensures { result.0 ≡ least_free (net_of graph.now) }
 {
-    graph.well_formed();
-    let bound = graph.node_bound();
-    for number in 0..bound {
-        let Some(_kind) = graph.kind(NodeId(number)) else {
-            return NodeId(number);
-        };
-    }
-    NodeId(bound)
+    graph.least_free()
 }
 
 /// The fault at that value of the pin after a gate's pins, which an addition makes.

@@ -1,17 +1,19 @@
 -- Each graph's net is well formed.
-use Rattle.std.proofs.Common.{◌≡◌, ◌≢◌, ℕ, zero, suc, ◌+◌, ◌<◌, ◌≤◌, arith, List, [], ◌∷◌, map, Option, Some, None, refl, sym, ap, ◌∙◌}
+use Rattle.std.proofs.Common.{◌≡◌, ◌≢◌, ℕ, zero, suc, ◌+◌, ◌<◌, ◌≤◌, arith, List, [], ◌∷◌, length, map, Option, Some, None, inl, inr, refl, sym, ap, ◌∙◌}
 use Rattle.std.specs.Prelude.{slice_get, sum_by}
 use Rattle.std.proofs.lemmas.List.Sums.{sum_by-cons}
 use Rattle.std.specs.Option.{option_map}
-use Rattle.std.proofs.lemmas.Bool.{ne_eqb}
+use Rattle.std.proofs.lemmas.Bool.{cases_lt, ne_eqb}
+use Rattle.std.proofs.lemmas.List.{get_or_past}
 use Rattle.std.proofs.lemmas.Option.{slice_get-map}
 use Rattle.gate_net.specs.declared.Kind.{Kind}
 use Rattle.gate_net.specs.declared.Kind.TheVariants.{Source, Zero, One, And, Or, Not}
+use Rattle.gate_net.specs.Edits.{IsLeastFree}
 use Rattle.gate_net.specs.Net.{Net, Node, flatten_option, node_at, kind_in, kind_of, IsKind, count_in, source_in, source_count, IsWellFormed}
 use Rattle.pin_pool.specs.Pins.{list_of}
 use Rattle.pin_pool.specs.Rings.{AreRings, rings_of}
 use Rattle.gate_graph.specs.Wirings.{IsShaped, IsWired, kind_at}
-use Rattle.gate_graph.specs.Circuit.{Circuit, wiring, net_of, node_with, gate_pins, home}
+use Rattle.gate_graph.specs.Circuit.{Circuit, kinds_live, wiring, net_of, node_with, gate_pins, home}
 use Rattle.gate_graph.proofs.NetOf.{node_at-net, node-there, observed-net, nodes-trimmed, home-here}
 use Rattle.gate_graph.proofs.LeadOns.{kind-of}
 use Rattle.gate_graph.proofs.Pinned.{has-at, drivers-all}
@@ -34,6 +36,13 @@ kind-with (Some k) ds = refl
 -- the kinds of the net are those kept
 pub kind_of-net : (v : Circuit) (n : ℕ) → kind_of (net_of v) n ≡ kind_at v.kinds n
 kind_of-net v n = ap kind_in (node_at-net v n) ∙ kind-with (kind_at v.kinds n) _
+
+-- a number of no live node, below which all have one
+pub least-net : (v : Circuit) (n : ℕ) → kinds_live v.kinds n → (n < length v.kinds → kind_at v.kinds n ≡ None) → IsLeastFree (net_of v) n
+least-net v n live free = record {
+  free = dead-node v n (elim (cases_lt n (length v.kinds)) [ inl lt ↦ free lt | inr le ↦ get_or_past v.kinds n None le ]);
+  least = λ m lt. live-node v m (live m lt);
+}
 
 kind-known : (net : Net) (n : ℕ) (k : Kind) → IsKind net n k → kind_of net n ≡ Some k
 kind-known net n k is = ap kind_in is.1

@@ -1,11 +1,13 @@
 //! How much a graph has.
 ghost use Rattle.std.specs.Prelude.{◌≡◌, ◌+◌, ◌-◌, ◌<◌, ◌≤◌, length};
 ghost use Rattle.gate_graph.specs.Circuit.{net_of};
+ghost use Rattle.gate_net.specs.Edits.{IsLeastFree};
 ghost use Rattle.gate_net.specs.Net.{gate_count, source_count, wire_count};
 
-use crate::pins::{count_pins, first_sources, last_live};
+use crate::pins::{count_pins, first_sources, last_live, least_free};
 use crate::rings::look;
 use crate::state::Graph;
+use rm_base::NodeId;
 
 impl Graph {
     /// One more than the greatest number of a live node, in the time of the free numbers above it.
@@ -14,6 +16,15 @@ impl Graph {
     {
         self.tell();
         last_live(&self.kinds)
+    }
+
+    /// The least number that no live node has, which the next new Not takes, in the time of the live numbers between it
+    /// and a bound that the graph keeps.
+    pub fn least_free(&self) -> NodeId
+        ensures { IsLeastFree (net_of self.now) result.0 }
+    {
+        self.tell();
+        NodeId(least_free(&self.kinds, self.least))
     }
 
     /// How many sources there are, in the time of as many steps.

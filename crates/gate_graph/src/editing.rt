@@ -60,6 +60,7 @@ impl Graph {
         ensures edits { Edits self.old edit.now self.new }
         ensures undos { LeadOn self.old self.new undos.old.entries undos.new.entries }
         ensures entries { undos.new.spare + entries_for self.old edit.now ≡ undos.old.spare }
+        ensures together { length undos.new.entries + undos.new.spare ≡ length undos.old.entries + undos.old.spare }
         ensures held { HoldsOn self.old self.new undos.old.entries undos.new.entries }
         ensures left { undos.new.entries ≢ [] }
         ensures epoch { self.new.epoch ≡ self.old.epoch }
@@ -97,6 +98,7 @@ impl Graph {
         ensures numbers { length self.new.kinds ≡ length self.old.kinds }
         ensures uses { Uses self.old self.new 1 0 }
         ensures entry { undos.new.spare + 1 ≡ undos.old.spare }
+        ensures together { length undos.new.entries + undos.new.spare ≡ length undos.old.entries + undos.old.spare }
         ensures left { undos.new.entries ≢ [] }
     {
         look(&self.pool);
@@ -118,6 +120,7 @@ impl Graph {
         ensures numbers { length self.new.kinds ≡ length self.old.kinds }
         ensures uses { Uses self.old self.new 0 0 }
         ensures entry { undos.new.spare + 1 ≡ undos.old.spare }
+        ensures together { length undos.new.entries + undos.new.spare ≡ length undos.old.entries + undos.old.spare }
         ensures left { undos.new.entries ≢ [] }
     {
         let pin = self.pin_of(gate, position);
@@ -141,6 +144,7 @@ impl Graph {
         ensures numbers { length self.new.kinds ≡ length self.old.kinds }
         ensures uses { Uses self.old self.new 0 0 }
         ensures entry { undos.new.spare + 1 ≡ undos.old.spare }
+        ensures together { length undos.new.entries + undos.new.spare ≡ length undos.old.entries + undos.old.spare }
         ensures left { undos.new.entries ≢ [] }
     {
         let pin = self.pin_of(gate, position);
@@ -164,6 +168,7 @@ impl Graph {
         ensures numbers { length self.new.kinds ≡ length self.old.kinds }
         ensures uses { Uses self.old self.new 0 0 }
         ensures entry { undos.new.spare + 1 ≡ undos.old.spare }
+        ensures together { length undos.new.entries + undos.new.spare ≡ length undos.old.entries + undos.old.spare }
         ensures left { undos.new.entries ≢ [] }
     {
         look(&self.pool);
@@ -186,6 +191,7 @@ impl Graph {
         ensures numbers { length self.new.kinds ≡ length self.old.kinds }
         ensures uses { Uses self.old self.new 1 1 }
         ensures entry { undos.new.spare + 1 ≡ undos.old.spare }
+        ensures together { length undos.new.entries + undos.new.spare ≡ length undos.old.entries + undos.old.spare }
         ensures left { undos.new.entries ≢ [] }
     {
         look(&self.pool);
@@ -211,6 +217,7 @@ impl Graph {
         ensures numbers { length self.new.kinds ≡ length self.old.kinds }
         ensures uses { Frees self.old self.new }
         ensures entries { undos.new.spare + 1 + length (drivers_of (net_of self.old) gate.0) ≡ undos.old.spare }
+        ensures together { length undos.new.entries + undos.new.spare ≡ length undos.old.entries + undos.old.spare }
         ensures left { undos.new.entries ≢ [] }
     {
         look(&self.pool);

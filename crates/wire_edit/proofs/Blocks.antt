@@ -1,5 +1,5 @@
 -- Blocks of marks.
-use Rattle.std.proofs.Common.{◌≡◌, ℕ, zero, suc, ◌+◌, ◌*◌, ◌/◌, ◌<◌, ◌≤◌, Bool, true, false, inl, inr, List, [], ◌∷◌, length, sym, ◌∙◌, ap, arith}
+use Rattle.std.proofs.Common.{◌≡◌, ℕ, zero, suc, ◌+◌, ◌*◌, ◌/◌, ◌<◌, ◌≤◌, Bool, true, false, inl, inr, List, [], ◌∷◌, length, sym, ◌∙◌, ap, subst, arith}
 use Rattle.std.specs.Prelude.{set}
 use Rattle.std.proofs.lemmas.Bool.{both_ways, cases_eq, cases_lt}
 use Rattle.gate_net.proofs.Bools.{not_true}
@@ -81,3 +81,18 @@ all_blocked marks blocks count b few is are each all = record {
   few = omega (arith, few, is);
   few_blocks = omega (arith, few, are);
 }
+
+-- where every block has a mark
+pub block_all : (marks next blocks after : List Bool) → IsBlocked marks blocks → length next ≡ length marks → length after ≡ length blocks → ((k : ℕ) → k < length after → is_marked after k ≡ true) → IsBlocked next after
+block_all marks next blocks after b same long all = record {
+  has = λ k e.
+      let lt : k < length next = marked_within next k e in
+      all (k / 256) (block_within k (length after) (length next) lt (omega (arith, b.enough, same, long)));
+  enough = omega (arith, b.enough, same, long);
+  few = omega (arith, b.few, same);
+  few_blocks = omega (arith, b.few_blocks, long);
+}
+
+-- a mark is taken away
+pub block_unmarked : (marks next blocks : List Bool) (k : ℕ) → IsBlocked marks blocks → next ≡ set marks k false → IsBlocked next blocks
+block_unmarked marks next blocks k b e = subst (λ (bs : List Bool). IsBlocked bs blocks) (sym e) (block_cleared marks blocks k b)

@@ -37,3 +37,4 @@ pub mod FreePins
 pub mod Falling
 pub mod Unrefused
 pub mod LiveNodes
+pub mod GoingBack

@@ -90,7 +90,7 @@ step_takes net room (Twice gate) e = let o : _ × (_ × _) = only_steps room e i
 step_takes net room (Twin gate other) e = let o : _ × (_ × _) = only_steps room e in record { steps = o.0; pins = o.1.0; nodes = o.1.1 }
 step_takes net room (Dead gate) e = let o : _ × (_ × _) = only_steps room e in record { steps = o.0; pins = o.1.0; nodes = o.1.1 }
 
-entries_are : (v : Circuit) (change : Change) → entries_for v (edit_of change) ≡ 1 + pins_gone (net_of v) change
+pub entries_are : (v : Circuit) (change : Change) → entries_for v (edit_of change) ≡ 1 + pins_gone (net_of v) change
 entries_are v (append gate driver) = refl
 entries_are v (remove gate position) = refl
 entries_are v (fix gate position value) = refl

@@ -84,7 +84,7 @@ pub quiet_cleared : (net : Net) (marks next : List Bool) (x : ℕ) → IsQuiet n
 quiet_cleared net marks next x quiet none others k e = elim (cases_eq k x) [ inl is ↦ ap (rule_at net) is ∙ none | inr ne ↦ quiet k (others k e ne) ]
 
 -- THE BEGINNING
-tidy_rules : (net : Net) → IsTidy net → (x : ℕ) → rule_at net x ≡ None
+pub tidy_rules : (net : Net) → IsTidy net → (x : ℕ) → rule_at net x ≡ None
 tidy_rules net e x = elim (cases_lt x (length net.nodes)) [
   | inl lt ↦ from_none (rule_at net) 0 (length net.nodes) e x (omega arith) (omega (arith, lt))
   | inr above ↦ no_rule net x (not_true (is_gate net x) (λ g. let lt : x < length net.nodes = gate_below net x g in omega (arith, lt, above)))

@@ -1,12 +1,13 @@
 -- What holds of every trial.
-use Rattle.std.specs.Prelude.{◌≡◌, ◌≤◌, ◌+◌, ◌↔◌, ℕ, List, [], Bool, Option, IfSome, length, min}
-use Rattle.gate_net.specs.Net.{wire_count}
-use Rattle.gate_graph.specs.Circuit.{Circuit, wiring, net_of, free_pins, free_nodes}
-use Rattle.gate_graph.specs.Entries.{CanGoBack, AreWithin}
+use Rattle.std.specs.Prelude.{◌≡◌, ◌≤◌, ◌+◌, ◌↔◌, ℕ, List, [], Bool, true, Option, IfSome, length, min}
+use Rattle.gate_net.specs.Net.{wire_count, source_count, gate_count}
+use Rattle.gate_graph.specs.Circuit.{Circuit, wiring, net_of, free_pins, free_nodes, pins_taken}
+use Rattle.gate_graph.specs.Entries.{CanGoBack, AreWithin, back_to}
 use Rattle.gate_graph.specs.Trail.{Trail}
 use Rattle.wire_edit.specs.declared.room.Room.{Room}
 use Rattle.wire_edit.specs.declared.steps.Step.{Step}
 use Rattle.wire_edit.specs.Firsts.{ReadsNoConstant}
+use Rattle.wire_edit.specs.Order.{IsTidy}
 use Rattle.wire_edit.specs.Marked.{IsQuiet}
 
 -- the undos lead back; pins, nodes, entries and marks suffice for the room that is left; no rule applies at a gate that isn't to be looked at
@@ -20,8 +21,23 @@ pub record IsTrial (graph : Circuit) (trail : Trail) (room : Room) (marks : ℕ)
   pub agenda_suffices : marks ≤ length agenda
   pub quiet : IsQuiet (net_of graph) agenda
 
--- there is an entry exactly where a step was made; marks for drivers suffice as the others do; the gate that is known as plain reads no constant
-pub record IsReady (graph : Circuit) (trail : Trail) (steps : List Step) (marks seen : ℕ) (plain : Option ℕ) : Type 0 where
+-- for a graph at the start: the entries, pins, node numbers and marks suffice for the first room once all is undone, and its net is tidy where that is known
+pub record IsStart (start graph : Circuit) (trail : Trail) (first : Room) (marks : ℕ) (tidy : Bool) : Type 0 where
+  pub entries : first.steps + wire_count (net_of start) + first.pins ≤ trail.spare + length trail.entries
+  pub pins : first.pins + pins_taken start ≤ free_pins graph + pins_taken graph
+  pub nodes : first.nodes + (2 + source_count (net_of start) + gate_count (net_of start)) ≤ length graph.kinds
+  pub marks_suffice : min (length (net_of start).nodes + first.nodes) 4294967295 ≤ marks
+  pub is_tidy : tidy ≡ true → IsTidy (net_of start)
+
+-- each step took one of the first room and left an entry, and all of that room is there again at the start
+pub record GoesBack (graph : Circuit) (trail : Trail) (steps : List Step) (spare : ℕ) (first : Room) (marks : ℕ) (tidy : Bool) : Type 0 where
+  pub steps_left : spare + length steps ≡ first.steps
+  pub made : length steps ≤ length trail.entries
+  pub at_start : (start : Circuit) → wiring start ≡ back_to (wiring graph) trail.entries → IsStart start graph trail first marks tidy
+
+-- there is an entry exactly where a step was made; marks for drivers suffice as the others do; the gate that is known as plain reads no constant; the trial can go back
+pub record IsReady (graph : Circuit) (trail : Trail) (steps : List Step) (spare : ℕ) (marks seen : ℕ) (plain : Option ℕ) (first : Room) (tidy : Bool) : Type 0 where
   pub begun : (trail.entries ≡ []) ↔ (steps ≡ [])
   pub seen_suffices : marks ≤ seen
   pub plain_reads : IfSome plain (ReadsNoConstant (net_of graph))
+  pub goes_back : GoesBack graph trail steps spare first marks tidy

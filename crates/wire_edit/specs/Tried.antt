@@ -17,12 +17,13 @@ use Rattle.wire_edit.specs.Refusals.{room_after}
 use Rattle.wire_edit.specs.Order.{next_step, IsTidy}
 use Rattle.wire_edit.specs.Edited.{edit_of}
 
--- the graph, what undoes its steps, the steps, and the room that is left
+-- the graph, what undoes its steps, the steps, the room that is left, and the room at the start: the last `begin`, `settle`, `keep` or `take_back`
 pub record Tried : Type 0 where
   pub graph : Circuit
   pub trail : Trail
   pub steps : List Step
   pub room : Room
+  pub first : Room
 
 -- the pins and the readers in order at the beginning, to which the undos lead back
 abbrev pub start_of : Tried → Wiring

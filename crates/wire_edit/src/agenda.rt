@@ -1,5 +1,5 @@
 //! The gates that tidying has to look at.
-ghost use Rattle.std.specs.Prelude.{◌≡◌, ◌≢◌, ◌+◌, ◌<◌, ◌≤◌, ℕ, true, false, length, IfOk, MatchOption};
+ghost use Rattle.std.specs.Prelude.{◌≡◌, ◌≢◌, ◌+◌, ◌<◌, ◌≤◌, ℕ, true, false, length, set, IfOk, MatchOption};
 ghost use Rattle.wire_edit.specs.Marked.{is_marked, marks_left, KeepsMarks, IsFirstMark};
 
 use rm_base::NoMemory;
@@ -14,6 +14,8 @@ const BLOCK: usize = 256;
 pub(crate) struct Agenda {
     marks: Vec<bool>,
     blocks: Vec<bool>,
+    // Numbers that got a mark since `new` or the last call of `restart` or `clear_recent`, as far as there is room.
+    recent: Vec<u32>,
 }
 
 impl Model for Agenda {
@@ -41,6 +43,33 @@ fn first_mark(marks: &[bool], from: usize, end: usize) -> Option<usize>
     None
 }
 
+// Adds a number to a list, up to so many.
+fn note(list: &mut Vec<u32>, number: u32, most: usize) {
+    if list.len() < most {
+        let _pushed = list.push(number);
+    }
+}
+
+// Takes the mark of a number away, if it has a place.
+fn unmark(marks: &mut Vec<bool>, number: u32)
+    ensures { marks.new.items ≡ set marks.old.items number false }
+{
+    let place = number as usize;
+    if place < marks.len() {
+        marks[place] = false;
+    }
+}
+
+// Sets every mark.
+fn set_all(marks: &mut Vec<bool>)
+    ensures count { length marks.new.items ≡ length marks.old.items }
+    ensures all { (k : ℕ) → k < length marks.new.items → is_marked marks.new.items k ≡ true }
+{
+    for place in 0..marks.len() {
+        marks[place] = true;
+    }
+}
+
 impl Agenda {
     // All numbers below the count, each with a mark or none.
     pub(crate) fn new(alloc: Global, count: u32, marked: bool) -> Result<Agenda, NoMemory>
@@ -48,7 +77,13 @@ impl Agenda {
     {
         let marks = vec![in alloc; marked; count as usize]?;
         let blocks = vec![in alloc; marked; count as usize / BLOCK + 1]?;
-        Ok(Agenda { marks, blocks })
+        let mut recent = Vec::new(alloc);
+        recent.reserve(count as usize)?;
+        Ok(Agenda {
+            marks,
+            blocks,
+            recent,
+        })
     }
 
     // How many numbers have a place.
@@ -67,8 +102,12 @@ impl Agenda {
         if place >= self.marks.len() {
             return;
         }
+        if self.marks[place] {
+            return;
+        }
         self.marks[place] = true;
         self.blocks[place / BLOCK] = true;
+        note(&mut self.recent, number, self.marks.len());
     }
 
     // The least number with a mark. Marks are taken from blocks that turn out to have none.
@@ -85,6 +124,36 @@ impl Agenda {
             self.blocks[block] = false;
         }
         None
+    }
+
+    // Forgets which marks are recent, and tells whether there is none.
+    pub(crate) fn restart(&mut self) -> bool
+        ensures same { self.new ≡ self.old }
+        ensures none { result ≡ true → (k : ℕ) → is_marked self.new k ≡ false }
+    {
+        self.recent.clear();
+        match self.least() {
+            Some(_) => false,
+            None => true,
+        }
+    }
+
+    // Takes the recent marks away.
+    pub(crate) fn clear_recent(&mut self)
+        ensures count { length self.new ≡ length self.old }
+    {
+        while let Some(number) = self.recent.pop() {
+            unmark(&mut self.marks, number);
+        }
+    }
+
+    // Marks every number.
+    pub(crate) fn mark_all(&mut self)
+        ensures count { length self.new ≡ length self.old }
+        ensures all { (k : ℕ) → k < length self.new → is_marked self.new k ≡ true }
+    {
+        set_all(&mut self.marks);
+        set_all(&mut self.blocks);
     }
 
     // Takes a mark away.

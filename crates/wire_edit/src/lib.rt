@@ -1,6 +1,9 @@
 //! Steps of a net: additions, fixes and local rules, their refusals, and the tidying order.
 #![tactic(auto)]
 
+mod again;
+#[cfg(test)]
+mod again_tests;
 mod agenda;
 mod budget;
 mod counts;

@@ -1,5 +1,5 @@
 //! The steps that a trial has made.
-ghost use Rattle.std.specs.Prelude.{◌≡◌, ◌+◌, ◌≤◌, ◌<◌, ◌++◌, ◌∷◌, [], IfOk};
+ghost use Rattle.std.specs.Prelude.{◌≡◌, ◌+◌, ◌≤◌, ◌<◌, ◌++◌, ◌∷◌, [], IfOk, length};
 ghost use Rattle.wire_edit.specs.Tried.{StepList};
 
 use crate::steps::Step;
@@ -68,6 +68,14 @@ impl Made {
     pub(crate) fn clear(&mut self)
         ensures { self.new ≡ record { steps = []; spare = self.old.spare } }
     {
+        self.steps.clear();
+    }
+
+    // Forgets the steps, and gives their room back.
+    pub(crate) fn give_back(&mut self)
+        ensures { self.new ≡ record { steps = []; spare = self.old.spare + length self.old.steps } }
+    {
+        self.spare += self.steps.len();
         self.steps.clear();
     }
 }

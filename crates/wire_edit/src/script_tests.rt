@@ -36,8 +36,8 @@ fn step_of(number: u32) -> Step {
 }
 
 // How many steps of the script are made, with a step of the tidying order now and then.
-fn play(trial: &mut Trial, calls: u32) -> (u32, u32) {
-    let mut number = 7u32;
+pub(crate) fn play(trial: &mut Trial, seed: u32, calls: u32) -> (u32, u32) {
+    let mut number = seed;
     let mut made = 0u32;
     let mut refused = 0u32;
     for _ in 0..calls {
@@ -76,7 +76,7 @@ fn push_node(list: &mut Vec<u32>, graph: &Graph, node: NodeId) -> Result<(), NoM
 }
 
 // All that is told of a graph: pins, readers in order, observed places and the epoch.
-fn told(alloc: Global, graph: &Graph) -> Result<Vec<u32>, NoMemory> {
+pub(crate) fn told(alloc: Global, graph: &Graph) -> Result<Vec<u32>, NoMemory> {
     let mut list = Vec::new(alloc);
     for number in 0..graph.node_bound() {
         push_node(&mut list, graph, NodeId(number))?;
@@ -101,7 +101,7 @@ fn script_and_back(rt: HostRuntime) -> Result<(), Fail> {
         assert!(rt; false);
         return Ok(());
     };
-    let (made, refused) = play(&mut trial, 400);
+    let (made, refused) = play(&mut trial, 7, 400);
     assert!(rt; made > 10);
     assert!(rt; refused > 100);
     assert!(rt; trial.steps().len() > 10);
@@ -136,7 +136,7 @@ fn agree(trial: &mut Trial, seen: &mut Seen, steps: u32) -> bool {
 }
 
 // A trial of the four gates that begins as one of a tidy net.
-fn begun_tidy(alloc: Global) -> Option<Trial> {
+pub(crate) fn begun_tidy(alloc: Global) -> Option<Trial> {
     let graph = four_gates(alloc)?;
     if first_rule(&graph).is_some() {
         return None;

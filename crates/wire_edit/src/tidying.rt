@@ -26,6 +26,8 @@ pub(crate) fn carry_out(graph: &mut Graph, undos: &mut Undos, agenda: &mut Agend
     ensures edits { Edits graph.old (edit_of (change_of (net_of graph.old) step)) graph.new }
     ensures undos { LeadOn graph.old graph.new undos.old.entries undos.new.entries }
     ensures left { undos.new.entries ≢ [] }
+    ensures together { length undos.new.entries + undos.new.spare ≡ length undos.old.entries + undos.old.spare }
+    ensures numbers { length graph.new.kinds ≡ length graph.old.kinds }
     ensures spent { undos.new.spare + entries_for graph.old (edit_of (change_of (net_of graph.old) step)) ≡ undos.old.spare }
     ensures epoch { graph.new.epoch ≡ graph.old.epoch }
     ensures held { HoldsOn graph.old graph.new undos.old.entries undos.new.entries }

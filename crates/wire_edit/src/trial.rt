@@ -37,16 +37,19 @@ pub enum BeginRefusal {
 /// A graph, with the steps made since the trial began and what undoes them.
 #[derive(Drop)]
 pub struct Trial {
-    graph: Graph,
-    undos: Undos,
-    made: Made,
-    pins: usize,
-    nodes: usize,
+    pub(crate) graph: Graph,
+    pub(crate) undos: Undos,
+    pub(crate) made: Made,
+    pub(crate) pins: usize,
+    pub(crate) nodes: usize,
     marks: Marks,
-    agenda: Agenda,
+    pub(crate) agenda: Agenda,
     seen: Seen,
     // A gate that is known to read no constant.
-    plain: Option<u32>,
+    pub(crate) plain: Option<u32>,
+    // The room at the start, and whether the net was known to be tidy then.
+    pub(crate) first: Room,
+    pub(crate) tidy: bool,
 }
 
 impl Model for Trial {
@@ -59,11 +62,11 @@ impl Model for Trial {
 
     ghost coded = { Prim.hlevel (codes, pins_code) };
 
-    ghost view = { λ t. record { graph = t.graph; trail = t.undos; steps = t.made.steps; room = record { pins = t.pins; nodes = t.nodes; steps = t.made.spare } } };
+    ghost view = { λ t. record { graph = t.graph; trail = t.undos; steps = t.made.steps; room = record { pins = t.pins; nodes = t.nodes; steps = t.made.spare }; first = t.first } };
 
     ghost use Rattle.wire_edit.specs.Trials.{IsTrial, IsReady};
 
-    ghost invariant = { λ t. IsTrial t.graph t.undos (record { pins = t.pins; nodes = t.nodes; steps = t.made.spare }) t.marks t.agenda × IsReady t.graph t.undos t.made.steps t.marks t.seen t.plain };
+    ghost invariant = { λ t. IsTrial t.graph t.undos (record { pins = t.pins; nodes = t.nodes; steps = t.made.spare }) t.marks t.agenda × IsReady t.graph t.undos t.made.steps t.made.spare t.marks t.seen t.plain t.first t.tidy };
 }
 
 impl Trial {
@@ -75,6 +78,7 @@ impl Trial {
         ensures net { IfOk result (λ t. net_of t.graph ≡ net_of graph) }
         ensures steps { IfOk result (λ t. t.steps ≡ []) }
         ensures room { IfOk result (λ t. t.room ≡ room) }
+        ensures first { IfOk result (λ t. t.first ≡ room) }
         ensures refused { IfErr result (λ e. GivesBack e graph) }
         ensures begun { IfOk result (λ t. IsBegun graph t) }
         ensures held { IfOk result (λ t. (t.trail.entries ≡ []) × (pins_held t.graph ≡ pins_held graph)) }
@@ -82,17 +86,23 @@ impl Trial {
     {
         let mut graph = graph;
         match prepare(alloc, &mut graph, room, tidy) {
-            Ok((undos, made, marks, agenda, seen)) => Ok(Trial {
-                graph,
-                undos,
-                made,
-                pins: room.pins,
-                nodes: room.nodes,
-                marks,
-                agenda,
-                seen,
-                plain: None,
-            }),
+            Ok((undos, made, marks, agenda, seen)) => {
+                graph.well_formed();
+                same_wiring();
+                Ok(Trial {
+                    graph,
+                    undos,
+                    made,
+                    pins: room.pins,
+                    nodes: room.nodes,
+                    marks,
+                    agenda,
+                    seen,
+                    plain: None,
+                    first: room,
+                    tidy,
+                })
+            }
             Err(NoMemory) => Err(BeginRefusal::NoMemory { graph }),
         }
     }
@@ -107,6 +117,7 @@ impl Trial {
         ensures epoch { IfOk result (λ t. t.graph.epoch ≡ graph.epoch) }
         ensures steps { IfOk result (λ t. t.steps ≡ []) }
         ensures room { IfOk result (λ t. t.room ≡ room) }
+        ensures first { IfOk result (λ t. t.first ≡ room) }
         ensures refused { IfErr result (λ e. GivesBack e graph) }
         ensures begun { IfOk result (λ t. IsBegun graph t) }
         ensures held { IfOk result (λ t. (t.trail.entries ≡ []) × (pins_held t.graph ≡ pins_held graph)) }
@@ -123,6 +134,7 @@ impl Trial {
         ensures net { IfOk result (λ t. net_of t.graph ≡ net_of graph) }
         ensures steps { IfOk result (λ t. t.steps ≡ []) }
         ensures room { IfOk result (λ t. t.room ≡ room) }
+        ensures first { IfOk result (λ t. t.first ≡ room) }
         ensures refused { IfErr result (λ e. GivesBack e graph) }
         ensures begun { IfOk result (λ t. IsBegun graph t) }
         ensures held { IfOk result (λ t. (t.trail.entries ≡ []) × (pins_held t.graph ≡ pins_held graph)) }
@@ -151,6 +163,7 @@ impl Trial {
         ensures steps { self.new.steps ≡ self.old.steps ++ step ∷ [] }
         ensures room { self.new.room ≡ room_after self.old.room step }
         ensures start { start_of self.new ≡ start_of self.old }
+        ensures first { self.new.first ≡ self.old.first }
         ensures epoch { self.new.graph.epoch ≡ self.old.graph.epoch }
         ensures held { HoldsOn self.old.graph self.new.graph self.old.trail.entries self.new.trail.entries }
     {
@@ -182,6 +195,7 @@ impl Trial {
         ensures room { OnOk result (self.new.room ≡ room_after self.old.room step) }
         ensures refused { OnErr result (self.new ≡ self.old) }
         ensures start { start_of self.new ≡ start_of self.old }
+        ensures first { self.new.first ≡ self.old.first }
         ensures epoch { self.new.graph.epoch ≡ self.old.graph.epoch }
         ensures call { IsApplied self.old self.new step (refusal_in result) }
         ensures held { HoldsOn self.old.graph self.new.graph self.old.trail.entries self.new.trail.entries }
@@ -205,6 +219,7 @@ impl Trial {
         ensures tidies { Tidies self.old self.new result }
         ensures room { (step : StepValue) → result ≡ Ok (Some step) → 0 < self.old.room.steps }
         ensures start { start_of self.new ≡ start_of self.old }
+        ensures first { self.new.first ≡ self.old.first }
         ensures epoch { self.new.graph.epoch ≡ self.old.graph.epoch }
         ensures call { IsTidied self.old self.new result }
         ensures held { HoldsOn self.old.graph self.new.graph self.old.trail.entries self.new.trail.entries }
@@ -254,6 +269,8 @@ impl Trial {
             agenda: _agenda,
             seen: _seen,
             plain: _plain,
+            first: _first,
+            tidy: _tidy,
         } = self;
         graph.undo(&mut undos);
         same_wiring();
@@ -269,6 +286,7 @@ impl Trial {
         ensures entries { self.new.trail.entries ≡ [] }
         ensures steps { self.new.steps ≡ [] }
         ensures room { self.new.room ≡ self.old.room }
+        ensures first { self.new.first ≡ self.old.room }
         ensures same { self.old.steps ≡ [] → self.new.graph.epoch ≡ self.old.graph.epoch }
         ensures epoch { self.old.steps ≢ [] → self.new.graph.epoch ≡ min (self.old.graph.epoch + 1) (2 ^ 64 - 1) }
         ensures held { pins_held self.new.graph + length (held self.old.trail.entries) ≡ pins_held self.old.graph }
@@ -276,7 +294,15 @@ impl Trial {
     {
         self.graph.keep(&mut self.undos);
         self.graph.leads_back();
+        self.graph.well_formed();
+        same_wiring();
         self.made.clear();
+        self.tidy = self.agenda.restart();
+        self.first = Room {
+            pins: self.pins,
+            nodes: self.nodes,
+            steps: self.made.spare(),
+        };
     }
 
     /// Gives the graph as it is now. Its epoch rises where a step was made.
@@ -298,6 +324,8 @@ impl Trial {
             agenda: _agenda,
             seen: _seen,
             plain: _plain,
+            first: _first,
+            tidy: _tidy,
         } = self;
         graph.keep(&mut undos);
         graph

@@ -116,3 +116,6 @@ returns-clause-held c =
     let more = linked-more v.pool w.pool c.link_new-pin.ensures.nodes c.least_free-node.result 1 _ (ap (λ (r : Rings). r.inputs) c.link_new-pin.ensures.rings) (omega (arith, within, c.self.invariant.0.room)) (length-append (list_of v.pool.inputs c.least_free-node.result) (c.link_new-pin.result.0 ∷ [])) in
     let count = ap (λ (l : List Entry). length (held l)) c.push.ensures.entries in
     rw (← c.self.view_is) (holds-by v w c.args.undos.now.entries c.push.new.self.entries c.look.ensures.rings c.look-2.ensures.rings c.self.invariant.0 gw (omega (arith, count, more, c.link_new-pin.ensures.taken)))
+
+pub returns-clause-together : goal.returns-clause-together
+returns-clause-together c = omega (arith, ap length c.push.ensures.entries, c.push.ensures.spare)

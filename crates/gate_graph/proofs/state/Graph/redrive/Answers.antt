@@ -73,3 +73,6 @@ returns-clause-held c =
     let same = linked-same v.pool w.pool c.redrive_pin-slot.ensures.nodes (ap (λ (r : Rings). r.inputs) c.redrive_pin-slot.ensures.rings) in
     let count = ap (λ (l : List Entry). length (held l)) c.push.ensures.entries in
     rw (← c.self.view_is) (holds-by v w c.args.undos.now.entries c.push.new.self.entries rings c.look.ensures.rings c.self.invariant.0 gw (omega (arith, count, same, ap finset.len c.redrive_pin-slot.ensures.taken)))
+
+pub returns-clause-together : goal.returns-clause-together
+returns-clause-together c = omega (arith, ap length c.push.ensures.entries, c.push.ensures.spare)

@@ -67,3 +67,6 @@ returns-clause-held c =
     let less = linked-less v.pool w.pool c.unlink_pin-slot.ensures.nodes c.pin_of-pin.result.0 rings (ap (λ (r : Rings). r.inputs) c.unlink_pin-slot.ensures.rings) linked.0 in
     let count = ap (λ (l : List Entry). length (held l)) c.push.ensures.entries in
     rw (← c.self.view_is) (holds-by v w c.args.undos.now.entries c.push.new.self.entries rings c.look.ensures.rings c.self.invariant.0 gw (omega (arith, count, less, ap finset.len c.unlink_pin-slot.ensures.taken)))
+
+pub returns-clause-together : goal.returns-clause-together
+returns-clause-together c = omega (arith, ap length c.push.ensures.entries, c.push.ensures.spare)

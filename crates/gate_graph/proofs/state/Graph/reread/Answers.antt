@@ -71,3 +71,6 @@ returns-clause-held c =
     let same = linked-same v.pool w.pool c.move_fanouts-splice.ensures.nodes (ap (λ (r : Rings). r.inputs) c.move_fanouts-splice.ensures.rings) in
     let count = ap (λ (l : List Entry). length (held l)) c.push.ensures.entries in
     rw (← c.self.view_is) (holds-by v w c.args.undos.now.entries c.push.new.self.entries c.look.ensures.rings c.look-2.ensures.rings c.self.invariant.0 gw (omega (arith, count, same, ap finset.len c.move_fanouts-splice.ensures.taken)))
+
+pub returns-clause-together : goal.returns-clause-together
+returns-clause-together c = omega (arith, ap length c.push.ensures.entries, c.push.ensures.spare)

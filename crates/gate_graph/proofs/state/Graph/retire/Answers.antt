@@ -112,6 +112,7 @@ loop-pin-preserved c =
       live = i.live;
       epoch = i.epoch;
       same = i.same;
+      together = omega (arith, i.together, ap length c.push.ensures.entries, c.push.ensures.spare);
     }
 
 pub index-requires : goal.index-requires
@@ -261,6 +262,7 @@ loop-pin-init c =
       live = c.self.invariant.1.0;
       epoch = refl;
       same = refl;
+      together = refl;
     })
 
 pub returns-clause-uses : goal.returns-clause-uses
@@ -311,3 +313,6 @@ returns-clause-held c =
     let gu : IsGraph u = record { wired = a.wired; room = omega (arith, graph.room, ap length i.same, i.nodes, c.set_kind.ensures.len); few = omega (arith, graph.few, ap length i.same, c.set_kind.ensures.len) } in
     let count = ap (λ (l : List Entry). length (held l)) c.push-in-Some-index.ensures.entries in
     holds-by v u c.args.undos.now.entries c.push-in-Some-index.new.self.entries (subst (λ (x : Circuit). AreRings (rings_of x.pool)) c.self.view_is c.look.ensures.rings) i.emptied.rings graph gu (omega (arith, count, i.held_pins, ap finset.len i.taken))
+
+pub returns-clause-together : goal.returns-clause-together
+returns-clause-together c = omega (arith, ap length c.push-in-Some-index.ensures.entries, c.push-in-Some-index.ensures.spare, c.loop-pin.invariant.together)

@@ -19,6 +19,7 @@ invariant-loop-pin l = record {
   live : kinds_live l.self-inside.kinds.items l.self-inside.least;
   epoch : l.self-inside.epoch ≡ l.fn.self.epoch;
   same : l.self-inside.kinds.items ≡ l.fn.self.kinds;
+  together : length l.undos.entries + l.undos.spare ≡ length l.fn.undos.entries + l.fn.undos.spare;
 }
 
 abbrev pub decreases-loop-pin : goal.decreases-loop-pin

@@ -1,7 +1,8 @@
-use Rattle.std.proofs.Common.{List, Bool, true, subst, arith}
+use Rattle.std.proofs.Common.{◌<◌, List, Bool, true, length, subst, sym, ap, ◌∙◌, arith}
+use Rattle.std.proofs.lemmas.List.{get_or_read}
 use Rattle.std.specs.Prelude.{slice_set}
-use Rattle.wire_edit.specs.Marked.{KeepsMarks}
-use Rattle.wire_edit.proofs.Marking.{set_marked, set_count, set_keeps}
+use Rattle.wire_edit.specs.Marked.{is_marked, KeepsMarks}
+use Rattle.wire_edit.proofs.Marking.{marked_is, set_marked, set_count, set_keeps}
 use Rattle.wire_edit.proofs.Blocks.{block_set}
 use Rattle.wire_edit.proofs.agenda.Agenda.mark.Goals as goal
 
@@ -15,3 +16,9 @@ returns-clause-kept c =
 
 pub returns-clause-marked : goal.returns-clause-marked
 returns-clause-marked c = λ lt. set_marked c.self.inside.marks.items c.args.number true (omega (arith, lt, set_count c.self.inside.marks.items c.args.number true))
+
+pub returns-then-index-clause-marked : goal.returns-then-index-clause-marked
+returns-then-index-clause-marked c = λ lt.
+    let within : c.args.number < length c.self.inside.marks.items = omega (arith, c.if-place-len.false, c.len.ensures, c.self.inside.marks.ok.0) in
+    ap (λ (bs : List Bool). is_marked bs c.args.number) (sym c.self.view_is) ∙ sym (marked_is c.self.inside.marks.items c.args.number true within)
+    ∙ sym (get_or_read c.self.inside.marks.items c.args.number c.index.result.now within c.index.ensures true) ∙ c.if-index.true

@@ -1,12 +1,13 @@
 use Rattle.std.proofs.Common.{◌≡◌, ◌∙◌, ap, sym, subst, true}
 use Rattle.gate_graph.specs.Circuit.{net_of}
 use Rattle.wire_edit.specs.declared.room.Room.{Room}
-use Rattle.wire_edit.specs.Steps.{Applies, stepped}
+use Rattle.wire_edit.specs.Steps.{Applies, change_of, stepped}
 use Rattle.wire_edit.specs.Refusals.{has_room}
 use Rattle.wire_edit.specs.Tried.{Tried}
 use Rattle.wire_edit.specs.Trials.{IsTrial}
 use Rattle.wire_edit.proofs.TrialSteps.{step_can_edit, step_entries, step_net, step_trial}
 use Rattle.wire_edit.proofs.Trying.{not_empty, room_left}
+use Rattle.wire_edit.proofs.GoingBack.{step_back}
 use Rattle.wire_edit.proofs.trial.Trial.make.Goals as goal
 
 pub carry_out-requires-clause-can : goal.carry_out-requires-clause-can
@@ -36,6 +37,8 @@ invariant_of-self c =
         begun = (λ none. absurd (e.left none), λ none. absurd (not_empty i.made.steps c.args.step (sym c.push.ensures.steps ∙ none)));
         seen_suffices = c.self.invariant.1.seen_suffices;
         plain_reads = tt;
+        goes_back = step_back i.graph c.carry_out.new.graph i.undos c.carry_out.new.undos i.made.steps c.args.step (change_of (net_of i.graph) c.args.step) i.made.spare c.push.new.self.spare i.first i.marks i.tidy
+            c.push.new.self.steps c.push.ensures.steps c.self.invariant.1.goes_back e.edits e.undos e.together e.spent e.numbers c.push.ensures.spare;
       },
     )
 

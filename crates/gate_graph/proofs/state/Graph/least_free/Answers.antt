@@ -1,0 +1,16 @@
+use Rattle.std.proofs.Common.{◌≡◌, ◌<◌, Option, None, List, length, sym, ap, arith}
+use Rattle.gate_net.specs.declared.Kind.{Kind}
+use Rattle.gate_graph.specs.Wirings.{kind_at}
+use Rattle.gate_graph.specs.Circuit.{Circuit, IsGraph, kinds_live}
+use Rattle.gate_graph.proofs.Formed.{least-net}
+use Rattle.gate_graph.proofs.state.Graph.least_free.Goals as goal
+
+pub least_free-requires-clause-few : goal.least_free-requires-clause-few
+least_free-requires-clause-few c =
+    let g : IsGraph (record { kinds = c.self.inside.kinds.items; pool = c.self.inside.pool; epoch = c.self.inside.epoch }) = c.self.invariant.0 in
+    omega (arith, g.few, ap length c.deref.ensures.value)
+
+pub returns : goal.returns
+returns c =
+    let v : Circuit = record { kinds = c.self.inside.kinds.items; pool = c.self.inside.pool; epoch = c.self.inside.epoch } in
+    rw (← c.self.view_is) (least-net v c.least_free.result (rw c.deref.ensures.value at c.least_free.ensures.live) (rw c.deref.ensures.value at c.least_free.ensures.free))

@@ -1,0 +1,168 @@
+-- A trial goes back to its start, and starts again from where it is.
+use Rattle.std.proofs.Common.{◌≡◌, ℕ, zero, suc, ◌+◌, ◌-◌, ◌<◌, ◌≤◌, Bool, true, false, inl, inr, Option, Some, None, List, [], ◌∷◌, ◌++◌, length, refl, sym, ◌∙◌, ap, subst, arith, min, length-append}
+use Rattle.std.proofs.lemmas.Bool.{both_ways, cases_lt}
+use Rattle.std.specs.Prelude.{IfSome}
+use Rattle.std.specs.Cmp.{nat_cmp_total}
+use Rattle.std.specs.FinSet.{same_set, len, nat_cmp-IsAntisymmetric}
+use Rattle.gate_net.specs.declared.Kind.{Kind}
+use Rattle.gate_net.specs.Net.{Net, wire_count, source_count, gate_count}
+use Rattle.gate_net.proofs.Bools.{not_true}
+use Rattle.gate_graph.specs.Wirings.{Wiring, free_in}
+use Rattle.gate_graph.specs.Circuit.{Circuit, wiring, net_of, fanouts_of, free_pins, free_nodes, pins_taken, live_nodes, SameWiring}
+use Rattle.gate_graph.specs.Entries.{CanGoBack, AreWithin, LeadOn, back_to}
+use Rattle.gate_graph.specs.Changes.{Edits, entries_for}
+use Rattle.gate_graph.specs.Holds.{held}
+use Rattle.gate_graph.specs.Trail.{Trail}
+use Rattle.gate_graph.specs.declared.entries.Entry.{Entry}
+use Rattle.wire_edit.specs.declared.steps.Step.{Step}
+use Rattle.wire_edit.specs.declared.room.Room.{Room}
+use Rattle.wire_edit.specs.Tests.{is_gate}
+use Rattle.wire_edit.specs.Changes.{Change, append, remove, fix, readers, new_not, retire}
+use Rattle.wire_edit.specs.Order.{rule_at, IsTidy}
+use Rattle.wire_edit.specs.Edited.{edit_of}
+use Rattle.wire_edit.specs.Marked.{is_marked, IsQuiet}
+use Rattle.wire_edit.specs.Firsts.{ReadsNoConstant}
+use Rattle.wire_edit.specs.Tried.{StepList}
+use Rattle.wire_edit.specs.Trials.{IsTrial, IsReady, IsStart, GoesBack}
+use Rattle.wire_edit.proofs.Ordering.{gate_below}
+use Rattle.wire_edit.proofs.RuleAt.{no_rule}
+use Rattle.wire_edit.proofs.Trying.{tidy_rules, next_none}
+use Rattle.wire_edit.proofs.TrialSteps.{entries_are}
+
+-- GRAPHS WITH ONE WIRING
+same_taken : (v w : Circuit) → wiring v ≡ wiring w → pins_taken v ≡ pins_taken w
+same_taken v w e = ap len (same_set nat_cmp_total nat_cmp-IsAntisymmetric v.pool.taken w.pool.taken (λ q. ap (λ (x : Wiring). x.rings.taken q) e))
+
+free_within : (kinds : List (Option Kind)) → free_in kinds ≤ length kinds
+free_within [] = omega arith
+free_within (None ∷ kinds) = let rest : free_in kinds ≤ length kinds = free_within kinds in omega (arith, rest)
+free_within (Some k ∷ kinds) = let rest : free_in kinds ≤ length kinds = free_within kinds in omega (arith, rest)
+
+all_nodes : (w : Circuit) → live_nodes w + free_nodes w ≡ length w.kinds
+all_nodes w = omega (arith, free_within w.kinds)
+
+-- A START
+pub starts_here : SameWiring → (w : Circuit) (trail : Trail) (room : Room) (marks : ℕ) (agenda : List Bool) (tidy : Bool) → IsTrial w trail room marks agenda → trail.entries ≡ [] → live_nodes w ≡ 2 + source_count (net_of w) + gate_count (net_of w) → (tidy ≡ true → IsTidy (net_of w)) → GoesBack w trail [] room.steps room marks tidy
+starts_here same w trail room marks agenda tidy t none live known = record {
+  steps_left = omega arith;
+  made = omega arith;
+  at_start = λ v e.
+      let is : wiring v ≡ wiring w = e ∙ ap (λ (es : List Entry). back_to (wiring w) es) none in
+      let net : net_of v ≡ net_of w = (same v w is).0 in
+      let taken : pins_taken v ≡ pins_taken w = same_taken v w is in
+      record {
+        entries = omega (arith, t.entries, ap wire_count net);
+        pins = omega (arith, t.pins, taken);
+        nodes = omega (arith, t.nodes, live, all_nodes w, ap source_count net, ap gate_count net);
+        marks_suffice = omega (arith, t.marks_suffice, ap (λ (n : Net). length n.nodes) net);
+        is_tidy = λ b. subst IsTidy (sym net) (known b);
+      };
+}
+
+-- A STEP
+pub edited_sum : (v w : Circuit) (change : Change) → Edits v (edit_of change) w → free_pins w + pins_taken w ≡ free_pins v + pins_taken v
+edited_sum v w (append gate driver) e = omega (arith, e.1.1.pins_left, e.1.1.pins_more)
+edited_sum v w (remove gate position) e = omega (arith, e.1.1.pins_left, e.1.1.pins_more)
+edited_sum v w (fix gate position value) e = omega (arith, e.1.1.pins_left, e.1.1.pins_more)
+edited_sum v w (readers from to) e = omega (arith, e.1.1.pins_left, e.1.1.pins_more)
+edited_sum v w (new_not driver) e = omega (arith, e.1.pins_left, e.1.pins_more)
+edited_sum v w (retire gate) e = omega (arith, e.1.1.pins_left, e.1.1.pins_more)
+
+pub step_back : (v w : Circuit) (trail after : Trail) (steps : List Step) (step : Step) (change : Change) (spare left : ℕ) (first : Room) (marks : ℕ) (tidy : Bool) (next : List Step) → next ≡ steps ++ step ∷ [] → GoesBack v trail steps spare first marks tidy → Edits v (edit_of change) w → LeadOn v w trail.entries after.entries → length after.entries + after.spare ≡ length trail.entries + trail.spare → after.spare + entries_for v (edit_of change) ≡ trail.spare → length w.kinds ≡ length v.kinds → left + 1 ≡ spare → GoesBack w after next left first marks tidy
+step_back v w trail after steps step change spare left first marks tidy next are b edits lead together spent kinds one =
+    let longer : length next ≡ length steps + 1 = ap length are ∙ length-append steps (step ∷ []) in
+    let sum : free_pins w + pins_taken w ≡ free_pins v + pins_taken v = edited_sum v w change edits in
+    record {
+      steps_left = omega (arith, b.steps_left, longer, one);
+      made = omega (arith, b.made, longer, together, spent, entries_are v change);
+      at_start = λ start e.
+          let s : IsStart start v trail first marks tidy = b.at_start start (e ∙ lead.to) in
+          record {
+            entries = omega (arith, s.entries, together);
+            pins = omega (arith, s.pins, sum);
+            nodes = omega (arith, s.nodes, kinds);
+            marks_suffice = s.marks_suffice;
+            is_tidy = s.is_tidy;
+          };
+    }
+
+-- BACK AT THE START
+-- no rule applies at an unmarked number of a tidy net, and all numbers are marked of another
+pub quiet_back : (net : Net) (agenda : List Bool) → IsTidy net → IsQuiet net agenda
+quiet_back net agenda tidy x unmarked = tidy_rules net tidy x
+
+pub quiet_all : (net : Net) (agenda : List Bool) → length net.nodes ≤ length agenda → ((k : ℕ) → k < length agenda → is_marked agenda k ≡ true) → IsQuiet net agenda
+quiet_all net agenda le all x unmarked = elim (cases_lt x (length agenda)) [
+  | inl lt ↦ absurd (both_ways (is_marked agenda x) unmarked (all x lt))
+  | inr above ↦ no_rule net x (not_true (is_gate net x) (λ g. let lt : x < length net.nodes = gate_below net x g in omega (arith, lt, above, le)))
+]
+
+pub taken_back_trial : (v w : Circuit) (trail after : Trail) (steps : List Step) (spare : ℕ) (room first : Room) (marks : ℕ) (agenda next : List Bool) (tidy : Bool) → GoesBack v trail steps spare first marks tidy → IsTrial v trail room marks agenda → wiring w ≡ back_to (wiring v) trail.entries → CanGoBack (wiring w) [] → after.entries ≡ [] → after.spare ≡ trail.spare + length trail.entries → free_pins w + pins_taken w ≡ free_pins v + pins_taken v → length w.kinds ≡ length v.kinds → live_nodes w ≡ 2 + source_count (net_of w) + gate_count (net_of w) → length (net_of w).nodes ≤ 4294967295 → length next ≡ length agenda → (tidy ≡ false → (k : ℕ) → k < length next → is_marked next k ≡ true) → IsTrial w after first marks next
+taken_back_trial v w trail after steps spare room first marks agenda next tidy b t is back none given sum kinds live few long all =
+    let s : IsStart w v trail first marks tidy = b.at_start w is in
+    record {
+      back = subst (λ (es : List Entry). CanGoBack (wiring w) es) (sym none) back;
+      within = subst (λ (es : List Entry). AreWithin (length w.kinds) es) (sym none) tt;
+      entries = omega (arith, s.entries, given);
+      pins = omega (arith, s.pins, sum);
+      nodes = omega (arith, s.nodes, live, kinds, all_nodes w);
+      marks_suffice = s.marks_suffice;
+      agenda_suffices = omega (arith, t.agenda_suffices, long);
+      quiet = at tidy refl;
+    }
+  where
+    s : IsStart w v trail first marks tidy
+    s = b.at_start w is
+
+    at : (known : Bool) → tidy ≡ known → IsQuiet (net_of w) next
+    at true e = quiet_back (net_of w) next (s.is_tidy e)
+    at false e = quiet_all (net_of w) next (omega (arith, s.marks_suffice, t.agenda_suffices, long, few)) (all e)
+
+-- KEPT
+-- what holds of a trial holds after its steps are kept, with any room for steps that the entries suffice for
+pub kept_trial : (v w : Circuit) (trail after : Trail) (room : Room) (steps : ℕ) (marks : ℕ) (agenda : List Bool) → IsTrial v trail room marks agenda → net_of w ≡ net_of v → CanGoBack (wiring w) [] → after.entries ≡ [] → after.spare ≡ trail.spare + length trail.entries → steps ≤ room.steps + length trail.entries → free_pins v ≤ free_pins w → free_nodes w ≡ free_nodes v → IsTrial w after (record room { steps = steps }) marks agenda
+kept_trial v w trail after room steps marks agenda t net back none given within pins nodes = record {
+  back = subst (λ (es : List Entry). CanGoBack (wiring w) es) (sym none) back;
+  within = subst (λ (es : List Entry). AreWithin (length w.kinds) es) (sym none) tt;
+  entries = omega (arith, t.entries, ap wire_count net, given, within);
+  pins = omega (arith, t.pins, pins);
+  nodes = omega (arith, t.nodes, nodes);
+  marks_suffice = omega (arith, t.marks_suffice, ap (λ (n : Net). length n.nodes) net);
+  agenda_suffices = t.agenda_suffices;
+  quiet = subst (λ (n : Net). IsQuiet n agenda) (sym net) t.quiet;
+}
+
+-- WHAT HOLDS OF A TRIAL
+-- as a record of the lists of steps, so that each call tells it of its own
+abbrev Holds : Circuit → Trail → ℕ → ℕ → StepList → ℕ → ℕ → List Bool → Option ℕ → Room → Bool → Type 0
+Holds w trail pins nodes made marks seen agenda plain first tidy =
+    IsTrial w trail (record { pins = pins; nodes = nodes; steps = made.spare }) marks agenda × IsReady w trail made.steps made.spare marks seen plain first tidy
+
+new_holds : SameWiring → (w : Circuit) (trail : Trail) (room : Room) (marks seen : ℕ) (agenda : List Bool) (plain : Option ℕ) (tidy : Bool) → IsTrial w trail room marks agenda → trail.entries ≡ [] → marks ≤ seen → IfSome plain (ReadsNoConstant (net_of w)) → live_nodes w ≡ 2 + source_count (net_of w) + gate_count (net_of w) → (tidy ≡ true → IsTidy (net_of w)) → IsTrial w trail room marks agenda × IsReady w trail [] room.steps marks seen plain room tidy
+new_holds same w trail room marks seen agenda plain tidy t none suffices reads live known =
+    (t, record { begun = (λ _. refl, λ _. none); seen_suffices = suffices; plain_reads = reads; goes_back = starts_here same w trail room marks agenda tidy t none live known })
+
+pub over_holds : SameWiring → (v w : Circuit) (trail : Trail) (room : Room) (made : StepList) (marks seen : ℕ) (agenda : List Bool) (tidy : Bool) → IsTrial w trail room marks agenda → made ≡ record { steps = []; spare = room.steps } → trail.entries ≡ [] → marks ≤ seen → live_nodes w ≡ 2 + source_count (net_of w) + gate_count (net_of w) → net_of w ≡ net_of v → (tidy ≡ true → IsTidy (net_of v)) → Holds w trail room.pins room.nodes made marks seen agenda None room tidy
+over_holds same v w trail room made marks seen agenda tidy t is none suffices live net known =
+    subst (λ (m : StepList). Holds w trail room.pins room.nodes m marks seen agenda None room tidy) (sym is)
+    (new_holds same w trail room marks seen agenda None tidy t none suffices tt live (λ b. subst IsTidy (sym net) (known b)))
+
+pub back_holds : SameWiring → (v w : Circuit) (trail after : Trail) (steps : List Step) (spare : ℕ) (room first : Room) (marks seen : ℕ) (agenda next : List Bool) (plain : Option ℕ) (tidy : Bool) (made : StepList) → IsTrial v trail room marks agenda → IsReady v trail steps spare marks seen plain first tidy → wiring w ≡ back_to (wiring v) trail.entries → CanGoBack (wiring w) [] → after.entries ≡ [] → after.spare ≡ trail.spare + length trail.entries → free_pins w + pins_taken w ≡ free_pins v + pins_taken v → length w.kinds ≡ length v.kinds → live_nodes w ≡ 2 + source_count (net_of w) + gate_count (net_of w) → length (net_of w).nodes ≤ 4294967295 → length next ≡ length agenda → (tidy ≡ false → (k : ℕ) → k < length next → is_marked next k ≡ true) → made ≡ record { steps = []; spare = spare + length steps } → Holds w after first.pins first.nodes made marks seen next None first tidy
+back_holds same v w trail after steps spare room first marks seen agenda next plain tidy made t r is back none given sum kinds live few long all made_is =
+    subst (λ (m : StepList). Holds w after first.pins first.nodes m marks seen next None first tidy) (sym made_is)
+    (subst (λ (n : ℕ). Holds w after first.pins first.nodes (record { steps = []; spare = n }) marks seen next None first tidy) (sym r.goes_back.steps_left)
+    (new_holds same w after first marks seen next None tidy (taken_back_trial v w trail after steps spare room first marks agenda next tidy r.goes_back t is back none given sum kinds live few long all) none r.seen_suffices tt live
+    (λ b. (r.goes_back.at_start w is).is_tidy b)))
+
+pub kept_holds : SameWiring → (v w : Circuit) (trail after : Trail) (room first : Room) (marks seen : ℕ) (agenda next : List Bool) (plain : Option ℕ) (tidy known : Bool) (steps : List Step) (made : StepList) (left : ℕ) → IsTrial v trail room marks agenda → IsReady v trail steps room.steps marks seen plain first tidy → net_of w ≡ net_of v → CanGoBack (wiring w) [] → after.entries ≡ [] → after.spare ≡ trail.spare + length trail.entries → free_pins w ≡ free_pins v + length (held trail.entries) → free_nodes w ≡ free_nodes v → live_nodes w ≡ 2 + source_count (net_of w) + gate_count (net_of w) → next ≡ agenda → (known ≡ true → (k : ℕ) → is_marked next k ≡ false) → (n : ℕ) → n ≤ length steps → made ≡ record { steps = []; spare = room.steps + n } → left ≡ made.spare → Holds w after room.pins room.nodes made marks seen next plain (record { pins = room.pins; nodes = room.nodes; steps = left }) known
+kept_holds same v w trail after room first marks seen agenda next plain tidy known steps made left t r net back none given pins nodes live agenda_is unmarked n few made_is left_is =
+    subst (λ (m : StepList). Holds w after room.pins room.nodes m marks seen next plain (record { pins = room.pins; nodes = room.nodes; steps = left }) known) (sym made_is)
+    (subst (λ (l : ℕ). Holds w after room.pins room.nodes (record { steps = []; spare = room.steps + n }) marks seen next plain (record { pins = room.pins; nodes = room.nodes; steps = l }) known) (sym (left_is ∙ ap (λ (m : StepList). m.spare) made_is))
+    (subst (λ (bs : List Bool). Holds w after room.pins room.nodes (record { steps = []; spare = room.steps + n }) marks seen bs plain (record { pins = room.pins; nodes = room.nodes; steps = room.steps + n }) known) (sym agenda_is)
+    (new_holds same w after (record room { steps = room.steps + n }) marks seen agenda plain known
+    (kept_trial v w trail after room (room.steps + n) marks agenda t net back none given (omega (arith, few, r.goes_back.made)) (omega (arith, pins)) nodes)
+    none r.seen_suffices (reads plain r.plain_reads) live
+    (λ b. subst IsTidy (sym net) (next_none (net_of v) agenda t.quiet (λ k. ap (λ (bs : List Bool). is_marked bs k) (sym agenda_is) ∙ unmarked b k))))))
+  where
+    reads : (o : Option ℕ) → IfSome o (ReadsNoConstant (net_of v)) → IfSome o (ReadsNoConstant (net_of w))
+    reads o h = subst (λ (m : Net). IfSome o (ReadsNoConstant m)) (sym net) h

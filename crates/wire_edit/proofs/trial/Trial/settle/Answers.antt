@@ -1,0 +1,14 @@
+use Rattle.std.proofs.Common.{ℕ, [], length, ap, ◌∙◌, arith}
+use Rattle.wire_edit.specs.declared.room.Room.{Room}
+use Rattle.wire_edit.specs.Tried.{StepList}
+use Rattle.wire_edit.proofs.GoingBack.{kept_holds}
+use Rattle.wire_edit.proofs.trial.Trial.settle.Goals as goal
+
+pub invariant_of-self : goal.invariant_of-self
+invariant_of-self c =
+    let i = c.self.inside in
+    let room : Room = record { pins = i.pins; nodes = i.nodes; steps = i.made.spare } in
+    let e = c.keep.ensures in
+    kept_holds c.same_wiring.ensures i.graph c.keep.new.self i.undos c.keep.new.undos room i.first i.marks i.seen i.agenda c.restart-self-inside.new.self i.plain i.tidy c.restart-self-inside.result i.made.steps
+    c.clear.new.self c.spare.result c.self.invariant.0 c.self.invariant.1 e.net c.leads_back.ensures e.none e.spare e.free e.nodes c.well_formed-2.ensures.live c.restart-self-inside.ensures.same
+    c.restart-self-inside.ensures.none 0 (omega arith) (c.clear.ensures ∙ ap (λ (k : ℕ). let m : StepList = record { steps = []; spare = k } in m) (omega arith)) c.spare.ensures
