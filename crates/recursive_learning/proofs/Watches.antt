@@ -1,5 +1,5 @@
 -- What is known of gates while facts come.
-use Rattle.std.proofs.Common.{Bool, List, None, Option, Some, [], ap, append-nil, arith, false, get_or, inl, inr, length, length-set, refl, replicate, subst, suc, sym, true, zero, ℕ, ◌+◌, ◌<◌, ◌∙◌, ◌∷◌, ◌≡◌, ◌≤◌, ◌⊎◌}
+use Rattle.std.proofs.Common.{Bool, List, None, Option, Some, [], ap, append-nil, arith, false, get_or, inl, inr, length, length-set, refl, replicate, subst, suc, sym, true, zero, ℕ, ◌+◌, ◌<◌, ◌∙◌, ◌∷◌, ◌≡◌, ◌⊎◌}
 use Rattle.std.proofs.lemmas.Bool.{cases_lt}
 use Rattle.std.proofs.lemmas.Bool.Decides.{eqb_tells}
 use Rattle.std.proofs.lemmas.Option.{get_or_from_slice_get}
@@ -15,7 +15,7 @@ use Rattle.recursive_learning.proofs.Regions.{stays_idle}
 use Rattle.recursive_learning.proofs.Rounds.{junction_below}
 use Rattle.recursive_learning.specs.Gates.{HasTaught}
 use Rattle.recursive_learning.specs.Resting.{IsLonger, IsWatched, RestsState}
-use Rattle.recursive_learning.specs.Watching.{AgreeAround, Covers, HasNoneListed, HasRoom, IsAround, IsBlank, IsKnown, IsListedAt, IsWatching, LeavesList, Lengthens, ListsChanged, RestsOn, StaysTaught, StillLists}
+use Rattle.recursive_learning.specs.Watching.{AgreeAround, Covers, HasNoneListed, HasRoom, IsAround, IsBlank, IsKnown, IsListedAt, IsWatching, LeavesList, Lengthens, ListsChanged, ListsGoods, RestsOn, StaysTaught, StillLists}
 use Rattle.recursive_learning.specs.Working.{AreSettled}
 use Rattle.recursive_learning.specs.declared.resting.Entry.{Entry}
 use Rattle.recursive_learning.specs.declared.watch.Watch.{Watch}
@@ -124,18 +124,18 @@ known_taught net fault held w settled none known y = elim (known y) [
   | inr stays ↦ stays held (λ x fact e. e) settled (around_same net held y) (λ z watched. around_same net held z)
 ]
 
--- a number past the net's has nothing to teach
-pub stays_past : (net : Net) (fault : Fault) (held : Held) (entries : List Entry) (y : ℕ) → length net.nodes ≤ y → StaysTaught net fault held entries y
-stays_past net fault held entries y past = stays_idle net fault held entries y (λ c u few. let below : y < length net.nodes = junction_below net y c u.junction in absurd (omega arith))
+-- a gate whose good value isn't known has nothing to teach
+pub known_goods : (net : Net) (fault : Fault) (held : Held) (w : Watch) → ListsGoods net held w.listed → (y : ℕ) → IsKnown net fault held w y
+known_goods net fault held w goods y = elim (seen_or w.listed y) [
+  | inl seen ↦ inl seen
+  | inr none ↦ inr (stays_idle net fault held w.rests.entries y (λ c u few. none (goods y c (junction_below net y c u.junction) u.known)))
+]
 
-pub known_begun : (net : Net) (fault : Fault) (held : Held) (v w : Watch) → (v.all ≡ true → (y : ℕ) → y < length net.nodes → IsSeen w.listed y) → (v.all ≡ false → w.listed ≡ v.listed) → w.rests ≡ v.rests → IsWatching net fault held v → (y : ℕ) → IsKnown net fault held w y
-known_begun net fault held v w all same rests watching y = at v.all refl
+pub known_begun : (net : Net) (fault : Fault) (held : Held) (v w : Watch) → (v.all ≡ true → ListsGoods net held w.listed) → (v.all ≡ false → w.listed ≡ v.listed) → w.rests ≡ v.rests → IsWatching net fault held v → (y : ℕ) → IsKnown net fault held w y
+known_begun net fault held v w goods same rests watching y = at v.all refl
   where
     at : (b : Bool) → v.all ≡ b → IsKnown net fault held w y
-    at true is = elim (cases_lt y (length net.nodes)) [
-      | inl below ↦ inl (all is y below)
-      | inr past ↦ inr (stays_past net fault held w.rests.entries y past)
-    ]
+    at true is = known_goods net fault held w (goods is) y
     at false is = elim watching [
       | inl wrong ↦ let no' : true ≡ false = sym wrong ∙ is in cc
       | inr known ↦ elim (known y) [

@@ -13,7 +13,7 @@ use Rattle.recursive_learning.specs.declared.resting.Entry.{Entry}
 use Rattle.recursive_learning.specs.declared.watch.Watch.{Watch}
 use Rattle.refutation.specs.Closing.{IsWithin}
 use Rattle.refutation.specs.FactSets.{missing}
-use Rattle.refutation.specs.Facts.{Held, with_fact}
+use Rattle.refutation.specs.Facts.{Held, known_good, with_fact}
 use Rattle.refutation.specs.Learning.{LeadsToClash}
 use Rattle.refutation.specs.declared.held.NodeFacts.{NodeFacts}
 use Rattle.refutation.specs.declared.reasoning.Fact.{Fact}
@@ -39,6 +39,10 @@ IsKnown net fault held w y = IsSeen w.listed y ⊎ StaysTaught net fault held w.
 -- nothing is known; or each gate is listed or has nothing to teach
 abbrev pub IsWatching : Net → Fault → Held → Watch → Type 0
 IsWatching net fault held w = (w.all ≡ true) ⊎ ((y : ℕ) → IsKnown net fault held w y)
+
+-- each gate whose good value is known is listed
+abbrev pub ListsGoods : Net → Held → List Bool → Type 0
+ListsGoods net held listed = (y : ℕ) (b : Bool) → y < length net.nodes → known_good held y ≡ Some b → IsSeen listed y
 
 -- no gate is listed
 abbrev pub HasNoneListed : Watch → Type 0

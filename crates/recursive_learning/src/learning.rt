@@ -80,7 +80,7 @@ fn learn_one(
 {
     graph.well_formed();
     let _mark = engine.mark();
-    watch.begin(graph);
+    watch.begin(graph, facts);
     while let Some(gate) = watch.take() {
         if look_at(alloc, engine, graph, fault, facts, watch, taught, gate)? {
             return Ok(true);

@@ -4,13 +4,15 @@ ghost use Rattle.gate_net.specs.Net.{IsLive};
 ghost use Rattle.gate_graph.specs.Circuit.{net_of};
 ghost use Rattle.gate_graph.specs.Search.{IsSeen};
 ghost use Rattle.refutation.specs.Agendas.{IsTaken};
+ghost use Rattle.refutation.specs.FactSets.{held_by};
 ghost use Rattle.recursive_learning.specs.Resting.{IsWatched};
-ghost use Rattle.recursive_learning.specs.Watching.{HasNoneListed, HasRoom, IsAround, IsBlank, IsListedAt, LeavesList, ListsChanged, RestsOn, StillLists};
+ghost use Rattle.recursive_learning.specs.Watching.{HasNoneListed, HasRoom, IsAround, IsBlank, IsListedAt, LeavesList, ListsChanged, ListsGoods, RestsOn, StillLists};
 
 use crate::resting::Rests;
 use gate_graph::Graph;
-use refutation::Fact;
 use refutation::agenda::Agenda;
+use refutation::pins::{Aspect, known};
+use refutation::{Fact, FactSet};
 use rm_base::{NoMemory, NodeId};
 use std::alloc::Global;
 
@@ -30,6 +32,22 @@ pub struct WatchMark {
     count: usize,
 }
 
+// Lists the nodes whose good value is known, the least to come first.
+fn list_goods(graph: &Graph, facts: &FactSet, listed: &mut Agenda)
+    requires room { length (net_of graph.now).nodes ≤ length listed.old }
+    requires size { length (net_of graph.now).nodes ≤ length facts.now }
+    ensures goods { ListsGoods (net_of graph.now) (held_by facts.now) listed.new }
+    ensures size { length listed.new ≡ length listed.old }
+{
+    let bound = graph.node_bound();
+    for number in 0..bound {
+        let node = NodeId(bound - 1 - number);
+        if known(facts, Aspect::OfGood, node).is_some() {
+            listed.add(node);
+        }
+    }
+}
+
 impl Watch {
     /// Nothing is known, for node numbers below `numbers`.
     pub fn new(alloc: Global, numbers: u32) -> Result<Watch, NoMemory>
@@ -44,17 +62,18 @@ impl Watch {
         })
     }
 
-    /// Lists each gate, where nothing is known.
-    pub fn begin(&mut self, graph: &Graph)
-        requires { HasRoom (net_of graph.now) self.old }
+    /// Lists the gates whose good value is known, where nothing is known of any: no other has anything to teach.
+    pub fn begin(&mut self, graph: &Graph, facts: &FactSet)
+        requires room { HasRoom (net_of graph.now) self.old }
+        requires size { length (net_of graph.now).nodes ≤ length facts.now }
         ensures known { self.new.all ≡ false }
-        ensures all { self.old.all ≡ true → (y : ℕ) → y < length (net_of graph.now).nodes → IsSeen self.new.listed y }
+        ensures goods { self.old.all ≡ true → ListsGoods (net_of graph.now) (held_by facts.now) self.new.listed }
         ensures same { self.old.all ≡ false → self.new.listed ≡ self.old.listed }
         ensures rests { self.new.rests ≡ self.old.rests }
         ensures size { length self.new.listed ≡ length self.old.listed }
     {
         if self.all {
-            self.listed.add_all(graph.node_bound());
+            list_goods(graph, facts, &mut self.listed);
             self.all = false;
         }
     }

@@ -150,7 +150,7 @@ pub learn_one-loop-gate-init : goal.learn_one-loop-gate-init
 learn_one-loop-gate-init t c =
     record {
       learning = learning_none (net_of c.args.graph.now) c.args.fault.now 1 c.args.engine.now c.args.facts.now c.requires.settled;
-      known = known_begun (net_of c.args.graph.now) c.args.fault.now (held_by c.args.facts.now) c.args.watch.now c.begin.new.self c.begin.ensures.all c.begin.ensures.same c.begin.ensures.rests c.requires.watching;
+      known = known_begun (net_of c.args.graph.now) c.args.fault.now (held_by c.args.facts.now) c.args.watch.now c.begin.new.self c.begin.ensures.goods c.begin.ensures.same c.begin.ensures.rests c.requires.watching;
       all = c.begin.ensures.known;
       lengthens = lengthens_rests c.args.watch.now c.begin.new.self c.begin.ensures.rests c.begin.ensures.size;
     }
