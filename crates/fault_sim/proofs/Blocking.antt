@@ -1,18 +1,20 @@
 -- Blocks of vectors.
-use Rattle.std.proofs.Common.{IsTrue, List, length-append, None, Option, Some, [], ap, arith, false, get_or, inl, inr, length, refl, subst, suc, sym, true, zero, ℕ, ◌%◌, ◌*◌, ◌+◌, ◌++◌, ◌/◌, ◌<◌, ◌∙◌, ◌∷◌, ◌≡◌, ◌≤◌, ◌↔◌}
-use Rattle.std.proofs.lemmas.List.{length-map}
+use Rattle.std.proofs.Common.{IsTrue, List, length-append, None, Option, Some, [], ap, arith, false, get_or, inl, inr, length, map, refl, replicate, subst, suc, sym, true, zero, ℕ, ◌%◌, ◌*◌, ◌+◌, ◌++◌, ◌/◌, ◌<◌, ◌∙◌, ◌∷◌, ◌≡◌, ◌≤◌, ◌↔◌}
+use Rattle.std.proofs.lemmas.List.{length-map, length-replicate}
 use Rattle.std.proofs.lemmas.Option.{slice_get-get_or}
 use Rattle.std.specs.Prelude.{slice_get, slice_index, slice_index_or}
-use Rattle.gate_graph.specs.Order.{IsOrder}
-use Rattle.gate_net.specs.Net.{Net, source_count}
-use Rattle.gate_net.specs.Values.{Detects}
+use Rattle.fault_sim.specs.Ordered.{IsOrdered}
+use Rattle.gate_net.proofs.Places.{map_agree}
+use Rattle.gate_net.specs.Net.{Net, drivers_of, node_at, source_count}
+use Rattle.gate_net.specs.Values.{Detects, node_value}
 use Rattle.rm_base.specs.declared.numbers.Fault.{Fault}
-use Rattle.fault_sim.proofs.Lists.{below_or}
+use Rattle.fault_sim.proofs.LaneLaws.{lane_zero}
+use Rattle.fault_sim.proofs.Lists.{below_or, zero_words}
 use Rattle.fault_sim.specs.BlockStates.{AreBlocks, AreGoodWords, ArePlaced, AreSimulated, IsBlock, IsFirstLane, IsFirstVector, IsSimulatedBlock, good_of, vector_of, words_at, words_of}
 use Rattle.fault_sim.specs.Pending.{HasRoom, IsFirstBit}
 use Rattle.fault_sim.specs.Simulating.{IsWithin}
 use Rattle.fault_sim.specs.Spreading.{AreLanes, IsRested, IsSized}
-use Rattle.fault_sim.specs.Words.{assignment, lane}
+use Rattle.fault_sim.specs.Words.{assignment, lane, lane_values}
 use Rattle.fault_sim.specs.declared.blocks.Block.{Block}
 use Rattle.fault_sim.specs.declared.spread.Spread.{Spread}
 
@@ -136,7 +138,7 @@ module _ (net : Net) (order : List ℕ) (numbers : ℕ) (blocks : List Block) wh
       within : b < length (words_of blocks)
       within = rw (length-map blocks (λ (y : Block). y.words.items)) (below_is blocks b block there)
 
-  pub all_simulated : IsOrder net order → ((b : ℕ) (block : Block) → slice_get blocks b ≡ Some block → IsSimulatedBlock net order numbers block) → AreSimulated (record { words = words_of blocks; order = order; good = good_of blocks }) net
+  pub all_simulated : IsOrdered net order → ((b : ℕ) (block : Block) → slice_get blocks b ≡ Some block → IsSimulatedBlock net order numbers block) → AreSimulated (record { words = words_of blocks; order = order; good = good_of blocks }) net
   all_simulated ordered each = record { order = ordered; sources = sources; values = values }
     where
       block_at : (b : ℕ) → b < length (words_of blocks) → (block : Block) × (slice_get blocks b ≡ Some block)
@@ -171,3 +173,30 @@ blocks_more order places s blocks block before good room = (before.0, (each_more
 
 pub lane_in : (net : Net) (fault : Fault) (blocks : List Block) (b : ℕ) (block : Block) (r : Option ℕ) → slice_get blocks b ≡ Some block → IsFirstLane net fault block.words.items r → IsFirstLane net fault (words_at (words_of blocks) b) r
 lane_in net fault blocks b block r there first = subst (λ ws. IsFirstLane net fault ws r) (sym (words_there blocks b block there)) first
+
+pub placed_of : (order places good : List ℕ) (s : Spread) → AreLanes order places good s → IsRested s → ArePlaced order places s
+placed_of order places good s lanes rested = record {
+  within = λ k x there. rw lanes.numbers (lanes.within k x there);
+  places_are = lanes.places_are;
+  sized = rw lanes.numbers lanes.sized;
+  room = lanes.room;
+  rested = rested;
+}
+
+-- words of zeros are a block for any order
+pub zero_block : (order good : List ℕ) (numbers : ℕ) → good ≡ replicate numbers 0 → IsBlock order numbers good
+zero_block order good numbers zeros = record {
+  size = ap length zeros ∙ length-replicate numbers 0;
+  others = λ x none i h. ap (λ (xs : List ℕ). lane i (slice_index xs x)) zeros ∙ ap (lane i) (zero_words numbers x) ∙ lane_zero i;
+}
+
+-- words with zeros after them
+pub grown_word : (good : List ℕ) (n x : ℕ) → slice_index (good ++ replicate n 0) x ≡ slice_index good x
+grown_word [] n x = zero_words n x
+grown_word (w ∷ good) n zero = refl
+grown_word (w ∷ good) n (suc x) = grown_word good n x
+
+pub grown_good : (net : Net) (words good : List ℕ) (n : ℕ) → AreGoodWords net words good → AreGoodWords net words (good ++ replicate n 0)
+grown_good net words good n before i h x =
+    ap (lane i) (grown_word good n x) ∙ before i h x
+    ∙ ap (node_value (node_at net x) (assignment words i x)) (map_agree (lane_values good i) (lane_values (good ++ replicate n 0) i) (drivers_of net x) (λ p d reads. ap (lane i) (sym (grown_word good n d))))

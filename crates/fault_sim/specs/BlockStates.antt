@@ -1,6 +1,6 @@
 -- What a contract sees of blocks of 64 vectors.
 use Rattle.std.specs.Prelude.{Bool, List, None, Option, Some, [], length, map, slice_get, slice_index, slice_index_or, ℕ, ◌%◌, ◌*◌, ◌/◌, ◌<◌, ◌≡◌}
-use Rattle.gate_graph.specs.Order.{IsOrder}
+use Rattle.fault_sim.specs.Ordered.{IsOrdered}
 use Rattle.gate_net.specs.Net.{Net, source_count}
 use Rattle.gate_net.specs.Values.{AreGoodValues, Detects}
 use Rattle.rm_base.specs.declared.numbers.Fault.{Fault}
@@ -35,7 +35,7 @@ AreGoodWords net words good = (i : ℕ) → i < 64 → AreGoodValues net (assign
 
 -- the blocks are simulated on the net, and the order is one of it
 pub record AreSimulated (s : BlockState) (net : Net) : Type 0 where
-  pub order : IsOrder net s.order
+  pub order : IsOrdered net s.order
   pub sources : (b : ℕ) → b < length s.words → length (words_at s.words b) ≡ source_count net
   pub values : (b : ℕ) → b < length s.words → AreGoodWords net (words_at s.words b) (words_at s.good b)
 

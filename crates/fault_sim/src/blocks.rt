@@ -3,7 +3,7 @@ ghost use Rattle.std.specs.Prelude.{◌≡◌, ◌<◌, ◌≤◌, ◌++◌, ◌
 ghost use Rattle.gate_net.specs.Net.{source_count};
 ghost use Rattle.gate_net.specs.Values.{HasPin};
 ghost use Rattle.gate_graph.specs.Circuit.{net_of};
-ghost use Rattle.gate_graph.specs.Order.{IsOrder};
+ghost use Rattle.fault_sim.specs.Ordered.{IsOrdered};
 ghost use Rattle.fault_sim.specs.BlockStates.{ArePlaced, AreSimulated, IsFirstLane, IsFirstVector, IsSimulatedBlock, words_of};
 
 use crate::detecting::found_by;
@@ -33,7 +33,7 @@ fn simulated(
     spread: &Spread,
 ) -> Result<Block, NoMemory>
     requires sources { length words.now ≡ source_count (net_of graph.now) }
-    requires order { IsOrder (net_of graph.now) (map (λ n. n.0) order.now) }
+    requires order { IsOrdered (net_of graph.now) (map (λ n. n.0) order.now) }
     requires placed { ArePlaced (map (λ n. n.0) order.now) places.now spread.now }
     ensures words { IfOk result (λ b. b.words.items ≡ words.now) }
     ensures simulated { IfOk result (λ b. IsSimulatedBlock (net_of graph.now) (map (λ n. n.0) order.now) (length places.now) b) }
@@ -55,7 +55,7 @@ fn first_in(
     spread: &mut Spread,
 ) -> Option<usize>
     requires pin { HasPin (net_of graph.now) fault.now }
-    requires order { IsOrder (net_of graph.now) (map (λ n. n.0) order.now) }
+    requires order { IsOrdered (net_of graph.now) (map (λ n. n.0) order.now) }
     requires placed { ArePlaced (map (λ n. n.0) order.now) places.now spread.old }
     requires block { IsSimulatedBlock (net_of graph.now) (map (λ n. n.0) order.now) (length places.now) block.now }
     ensures first { IsFirstLane (net_of graph.now) fault.now block.now.words.items result }
@@ -83,7 +83,7 @@ fn first_of(
     spread: &mut Spread,
 ) -> Option<usize>
     requires pin { HasPin (net_of graph.now) fault.now }
-    requires order { IsOrder (net_of graph.now) (map (λ n. n.0) order.now) }
+    requires order { IsOrdered (net_of graph.now) (map (λ n. n.0) order.now) }
     requires placed { ArePlaced (map (λ n. n.0) order.now) places.now spread.old }
     requires blocks { (b : ℕ) (block : Block) → slice_get blocks.now b ≡ Some block → IsSimulatedBlock (net_of graph.now) (map (λ n. n.0) order.now) (length places.now) block }
     requires few { length blocks.now ≤ 67108864 }
