@@ -7,10 +7,14 @@ use Rattle.fault_sim.specs.LaneStates.{Fits, IsSimulated, LaneState}
 use Rattle.fault_sim.specs.Pending.{IsIdle, IsPending}
 use Rattle.fault_sim.specs.Words.{assignment, lane_values}
 
--- the nets have as many sources, and the same nodes but for these numbers
+-- the nets have the same nodes but for these numbers
+abbrev pub IsSameBut : Net → Net → List ℕ → Type 0
+IsSameBut before net changed = (x : ℕ) → ((k : ℕ) → slice_get changed k ≡ Some x → ⊥) → node_at net x ≡ node_at before x
+
+-- and as many sources
 pub record DiffersAmong (before net : Net) (changed : List ℕ) : Type 0 where
   pub sources : source_count net ≡ source_count before
-  pub others : (x : ℕ) → ((k : ℕ) → slice_get changed k ≡ Some x → ⊥) → node_at net x ≡ node_at before x
+  pub others : IsSameBut before net changed
 
 -- the lanes are simulated for a net that differs from this one among these numbers alone
 pub record CanFollow (s : LaneState) (net : Net) (changed : List ℕ) : Type 0 where
