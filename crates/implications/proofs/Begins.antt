@@ -191,6 +191,9 @@ at_fault_stays net fault facts facts' within a = (done_stays net fault facts fac
 pub on_chain_stays : (net : Net) (fault : Fault) (facts facts' : List NodeFacts) → IsWithin (held_by facts) (held_by facts') → AreDoneOnChain net fault facts → AreDoneOnChain net fault facts'
 on_chain_stays net fault facts facts' within b z = done_stays net fault facts facts' (Chain z) refl within (b z)
 
+pub outside_stays : (net : Net) (fault : Fault) (facts facts' : List NodeFacts) → IsWithin (held_by facts) (held_by facts') → AreDoneOutside net fault facts → AreDoneOutside net fault facts'
+outside_stays net fault facts facts' within d z = done_stays net fault facts facts' (Out z) refl within (d z)
+
 pub first_more : (net : Net) (fault : Fault) (held held' : Held) → IsWithin held held' → HasFirst net fault held → HasFirst net fault held'
 first_more net fault held held' within first l x fact e h = within x fact (first l x fact e (first_any net fault held' held l x fact e h))
 

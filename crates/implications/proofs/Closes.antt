@@ -1,5 +1,5 @@
 -- What closing comes to.
-use Rattle.std.proofs.Common.{Bool, List, None, Option, Some, [], ap, add-one, append_assoc, arith, drop, drop-cons, false, get_or, inl, inr, length, length-append, refl, subst, suc, sym, take, true, ℕ, ◌++◌, ◌+◌, ◌<◌, ◌∙◌, ◌∷◌, ◌≡◌, ◌≤◌}
+use Rattle.std.proofs.Common.{Bool, List, None, Option, Some, [], ap, add-one, append_assoc, arith, drop, drop-cons, false, get_or, inl, inr, length, length-append, map, refl, subst, suc, sym, take, true, ℕ, ◌++◌, ◌+◌, ◌<◌, ◌∙◌, ◌∷◌, ◌≡◌, ◌≤◌}
 use Rattle.std.specs.Prelude.{Err, IfOk, IsTrue, Ok, OnOk, Result, nat_eq, ◌↔◌}
 use Rattle.std.proofs.Math.ListN.{drop_of_length-le}
 use Rattle.std.proofs.Math.Seq.{take-append_seam}
@@ -8,9 +8,12 @@ use mathlib.Core.Path.{fun_ext}
 use Rattle.gate_graph.specs.Search.{IsSeen}
 use Rattle.gate_net.specs.Net.{Net}
 use Rattle.implications.proofs.Begins.{closed_all, closed_first, closed_settled, first_more}
+use Rattle.implications.proofs.BeginsOutside.{outside_led}
+use Rattle.implications.proofs.Leads.{items_append, leads_append}
 use Rattle.implications.proofs.Places.{place_live}
 use Rattle.implications.proofs.Steps.{becomes_is, free_more, more_held, pending_more}
-use Rattle.implications.specs.Outcomes.{IsClash, IsClashFrom, IsClosing, IsExtended, IsGrown, IsOpenFrom, clash_items}
+use Rattle.implications.specs.Outcomes.{IsClash, IsClashFrom, IsClashed, IsClosing, IsExtended, IsOpen, IsOpenFrom, clash_items}
+use Rattle.implications.specs.Outside.{AppendsOutside, AreOutside, LeadToOutside, line_item}
 use Rattle.implications.specs.Settled.{HasFirst}
 use Rattle.implications.specs.Trail.{IsLonger}
 use Rattle.implications.specs.Working.{Closes, Ending, IsPending, Touches, Works}
@@ -64,13 +67,13 @@ tree_closed net fault [] x held after e opposed = rw e at opposed
 tree_closed net fault (l ∷ lines) x held after (y, (fact, (concludes, rest))) opposed = (y, fact, concludes, tree_closed net fault lines x (with_fact held y fact) after rest opposed)
 
 -- one line more of those that are left
-pub tree_more : (lines : List Line) (i : ℕ) (r : Line) (tree : List Item) (x : NodeId) → i < length lines → tree ++ clash_items (drop i lines) x ≡ clash_items lines x → (tree ++ LineItem (get_or lines i r) ∷ []) ++ clash_items (drop (i + 1) lines) x ≡ clash_items lines x
-tree_more lines i r tree x low e =
+pub tree_more : (lines : List Line) (i : ℕ) (r : Line) (tree all : List Item) (x : NodeId) → i < length lines → tree ++ clash_items (drop i lines) x ≡ all → (tree ++ LineItem (get_or lines i r) ∷ []) ++ clash_items (drop (i + 1) lines) x ≡ all
+tree_more lines i r tree all x low e =
     append_assoc tree (LineItem (get_or lines i r) ∷ []) (clash_items (drop (i + 1) lines) x)
     ∙ ap (λ rest. tree ++ clash_items rest x) (sym (drop-cons lines i r low ∙ ap (λ n. get_or lines i r ∷ drop n lines) (sym (add-one i)))) ∙ e
 
-pub tree_ends : (lines : List Line) (i : ℕ) (tree : List Item) (x : NodeId) → length lines ≤ i → tree ++ clash_items (drop i lines) x ≡ clash_items lines x → tree ++ ClashItem x ∷ [] ≡ clash_items lines x
-tree_ends lines i tree x high e = ap (λ rest. tree ++ clash_items rest x) (sym (drop_of_length-le lines high)) ∙ e
+pub tree_ends : (lines : List Line) (i : ℕ) (tree all : List Item) (x : NodeId) → length lines ≤ i → tree ++ clash_items (drop i lines) x ≡ all → tree ++ ClashItem x ∷ [] ≡ all
+tree_ends lines i tree all x high e = ap (λ rest. tree ++ clash_items rest x) (sym (drop_of_length-le lines high)) ∙ e
 
 -- WHAT IS ANSWERED
 clash_at : (net : Net) (fault : Fault) (start : Held) (lines : List Line) (after : Held) (x : NodeId) (items : List Item) → LinesLead net fault start lines after → AreOpposed after x.0 → items ≡ clash_items lines x → IsClashFrom net fault start lines items
@@ -87,11 +90,13 @@ clash_at net fault start lines after x items leads opposed is = record {
 leads_first : (net : Net) (fault : Fault) (facts : List NodeFacts) (lines : List Line) → lines ≡ [] → LinesLead net fault (held_by facts) lines (held_by facts)
 leads_first net fault facts lines is = rw is refl
 
+closes_some : (net : Net) (fault : Fault) (facts : List NodeFacts) (o : Option NodeId) (x : NodeId) → o ≡ Some x → Closes net fault facts o → AreOpposed (held_by facts) x.0
+closes_some net fault facts None x e closes = cc
+closes_some net fault facts (Some y) x e closes = let same : y ≡ x = cc in subst (λ (n : NodeId). AreOpposed (held_by facts) n.0) same closes
+
 pub grown_clash : (net : Net) (fault : Fault) (start facts : List NodeFacts) (before lines : List Line) (o : Option NodeId) (x : NodeId) (items : List Item) → before ≡ [] → Works net fault start before facts lines → o ≡ Some x → Closes net fault facts o → items ≡ clash_items lines x → IsClashFrom net fault (held_by start) lines items
-grown_clash net fault start facts before lines None x items none works e closes is = cc
-grown_clash net fault start facts before lines (Some y) x items none works e closes is =
-    let same : y ≡ x = cc in
-    clash_at net fault (held_by start) lines (held_by facts) x items (works.goes_on (held_by start) (leads_first net fault start before none)) (subst (λ (n : NodeId). AreOpposed (held_by facts) n.0) same closes) is
+grown_clash net fault start facts before lines o x items none works e closes is =
+    clash_at net fault (held_by start) lines (held_by facts) x items (works.goes_on (held_by start) (leads_first net fault start before none)) (closes_some net fault facts o x e closes) is
 
 pub grown_open : (net : Net) (fault : Fault) (start facts : List NodeFacts) (before lines : List Line) (o : Option NodeId) → before ≡ [] → Works net fault start before facts lines → IsWithin (held_by start) (held_by facts) → length facts ≡ length start → length net.nodes ≤ length start → o ≡ None → Closes net fault facts o → IsOpenFrom net fault (held_by start) lines facts × (length net.nodes ≤ length facts)
 grown_open net fault start facts before lines None none works within same size e closes = (
@@ -100,33 +105,49 @@ grown_open net fault start facts before lines None none works within same size e
 )
 grown_open net fault start facts before lines (Some y) none works within same size e closes = cc
 
--- closing no facts
-none_is : (facts : List NodeFacts) → ((x : ℕ) (fact : Fact) → held_by facts x fact ≡ false) → held_by facts ≡ none_held
-none_is facts h = fun_ext (λ x. fun_ext (λ fact. h x fact))
+-- CLOSING NO FACTS
+-- lines that lead on from what isn't reached lead from no facts, with others before them
+pub leads_all : (net : Net) (fault : Fault) (first lines : List Line) (start after : Held) → LeadToOutside net fault first → AreOutside net fault start → LinesLead net fault start lines after → LinesLead net fault none_held (first ++ lines) after
+leads_all net fault first lines start after to outside leads =
+    leads_append net fault first lines none_held start after (to.leads start outside) leads
 
-pub none_free : (facts : List NodeFacts) → ((x : ℕ) (fact : Fact) → held_by facts x fact ≡ false) → IsClashFree (held_by facts)
-none_free facts h x opposed = none (subst (λ k. AreOpposed k x) (none_is facts h) opposed)
-  where
-    none : AreOpposed none_held x → ⊥
-    none o = elim o [ inl a ↦ let wrong : false ≡ true = a.0 in cc | inr p ↦ elim p [ inl a ↦ let wrong : false ≡ true = a.0 in cc | inr a ↦ let wrong : false ≡ true = a.0 in cc ] ]
+pub closing_open : (net : Net) (fault : Fault) (start facts : List NodeFacts) (before lines : List Line) (o : Option NodeId) → AreOutside net fault (held_by start) → before ≡ [] → Works net fault start before facts lines → IsWithin (held_by start) (held_by facts) → length facts ≡ length start → length start ≡ length net.nodes → o ≡ None → Closes net fault facts o → IsOpen net fault lines facts
+closing_open net fault start facts before lines o outside none works within same size e closes =
+    let all : length net.nodes ≤ length start = omega (arith, size) in
+    let from = grown_open net fault start facts before lines o none works within same all e closes in
+    let has = closed_has_all net fault (held_by facts) from.0.closed from.0.free in
+    let led = outside_led net fault (held_by start) outside in
+    record {
+      start = held_by start;
+      outside = outside;
+      open_from = from.0;
+      derivable = λ x fact. (λ there. (led.0 ++ lines, (held_by facts, (leads_append net fault led.0 lines none_held (held_by start) (held_by facts) led.1 from.0.leads, there))), has.0 x fact);
+      no_clash = has.1;
+      size = from.1;
+    }
 
-closing_none : (net : Net) (fault : Fault) (start : List NodeFacts) (lines : List Line) (c : Closed) → ((x : ℕ) (fact : Fact) → held_by start x fact ≡ false) → IsGrown net fault (held_by start) lines c → IsClosing net fault lines c × (IsClash c ↔ Clashes net fault)
-closing_none net fault start lines (Clash items) none h =
-    let from : IsClashFrom net fault none_held lines items = subst (λ k. IsClashFrom net fault k lines items) (none_is start none) h in
-    let clashes : Clashes net fault = (lines, (from.facts, (from.clash.leads, (from.node.0, from.clash.opposed)))) in
-    (record { clashes = clashes; accepted = (from.tree, (from.reads, from.closed)); clash_from = from }, (λ _. clashes, λ _. tt))
-closing_none net fault start lines (Open facts) none h =
-    let from : IsOpenFrom net fault none_held lines facts = subst (λ k. IsOpenFrom net fault k lines facts) (none_is start none) h.0 in
-    let has = closed_has_all net fault (held_by facts) from.closed from.free in
-    (record { open_from = from; derivable = λ x fact. (λ e. (lines, (held_by facts, (from.leads, e))), has.0 x fact); no_clash = has.1; size = h.1 }, (λ never. absurd never, λ clashes. absurd (has.1 clashes)))
+pub closing_clash : (net : Net) (fault : Fault) (start facts : List NodeFacts) (before lines : List Line) (o : Option NodeId) (x : NodeId) (none tree items : List Item) → AreOutside net fault (held_by start) → before ≡ [] → Works net fault start before facts lines → o ≡ Some x → Closes net fault facts o → none ≡ [] → AppendsOutside net fault none tree → items ≡ tree ++ clash_items lines x → IsClashed net fault lines items
+closing_clash net fault start facts before lines o x none tree items outside empty works e closes nothing (first, (appended, to)) is =
+    let leads = leads_all net fault first lines (held_by start) (held_by facts) to outside (works.goes_on (held_by start) (leads_first net fault start before empty)) in
+    let ends : items ≡ clash_items (first ++ lines) x = is ∙ ap (λ (t : List Item). t ++ clash_items lines x) (appended ∙ ap (λ (t : List Item). t ++ map line_item first) nothing) ∙ items_append first lines x in
+    let opposed : AreOpposed (held_by facts) x.0 = closes_some net fault facts o x e closes in
+    let all = clash_at net fault none_held (first ++ lines) (held_by facts) x items leads opposed ends in
+    record {
+      clashes = (first ++ lines, (held_by facts, (leads, (x.0, opposed))));
+      accepted = (all.tree, (all.reads, all.closed));
+      first = first;
+      outside = to;
+      clash_from = all;
+    }
 
-pub closing_ok : {E : Type 0} (net : Net) (fault : Fault) (start : List NodeFacts) (lines : List Line) (r : Result Closed E) → ((x : ℕ) (fact : Fact) → held_by start x fact ≡ false) → IfOk r (IsGrown net fault (held_by start) lines) → IfOk r (IsClosing net fault lines)
-closing_ok net fault start lines (Ok c) none h = (closing_none net fault start lines c none h).0
-closing_ok net fault start lines (Err e) none h = h
+-- a clash is answered exactly where there is one
+pub closing_exact : (net : Net) (fault : Fault) (lines : List Line) (c : Closed) → IsClosing net fault lines c → IsClash c ↔ Clashes net fault
+closing_exact net fault lines (Clash items) k = (λ _. k.clashes, λ _. tt)
+closing_exact net fault lines (Open facts) k = (λ never. absurd never, λ clashes. absurd (k.no_clash clashes))
 
-pub exact_ok : {E : Type 0} (net : Net) (fault : Fault) (start : List NodeFacts) (lines : List Line) (r : Result Closed E) → ((x : ℕ) (fact : Fact) → held_by start x fact ≡ false) → IfOk r (IsGrown net fault (held_by start) lines) → IfOk r (λ c. IsClash c ↔ Clashes net fault)
-exact_ok net fault start lines (Ok c) none h = (closing_none net fault start lines c none h).1
-exact_ok net fault start lines (Err e) none h = h
+pub exact_ok : {E : Type 0} (net : Net) (fault : Fault) (lines : List Line) (r : Result Closed E) → IfOk r (IsClosing net fault lines) → IfOk r (λ c. IsClash c ↔ Clashes net fault)
+exact_ok net fault lines (Ok c) h = closing_exact net fault lines c h
+exact_ok net fault lines (Err e) h = h
 
 -- A GOOD VALUE MORE
 -- neither good fact is held

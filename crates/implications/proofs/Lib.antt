@@ -1,11 +1,14 @@
 pub mod Begins
+pub mod BeginsOutside
 pub mod Closes
 pub mod CountRises
 pub mod Counted
 pub mod Counting
 pub mod DoneLines
 pub mod GateLines
+pub mod Leads
 pub mod Local
+pub mod Outside
 pub mod Places
 pub mod Pulling
 pub mod ReaderCounts
@@ -13,4 +16,5 @@ pub mod Rising
 pub mod SettledNodes
 pub mod Steps
 pub mod Sweeps
+pub mod Touching
 pub mod Trails

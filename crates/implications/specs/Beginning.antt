@@ -1,8 +1,9 @@
 -- The lines that ask for no facts.
-use Rattle.std.specs.Prelude.{List, None, Option, Some, length, ℕ, ◌<◌, ◌⊎◌}
+use Rattle.std.specs.Prelude.{Bool, List, None, Option, Some, length, ℕ, ◌<◌, ◌≡◌, ◌⊎◌}
 use Rattle.gate_net.specs.Net.{Net}
 use Rattle.implications.specs.Settled.{IsDone}
-use Rattle.implications.specs.Working.{Keeps, Works}
+use Rattle.implications.specs.Tallies.{AreTallied, TallyState}
+use Rattle.implications.specs.Working.{IsPending, Keeps, Works}
 use Rattle.refutation.proofs.Walks.{Walks}
 use Rattle.refutation.specs.Closing.{IsClashFree}
 use Rattle.refutation.specs.FactSets.{held_by}
@@ -45,3 +46,13 @@ pub record GivingOut (net : Net) (fault : Fault) (number : ℕ) (old : List Node
   pub keeps : Keeps old old_trail new new_trail
   pub free : IsClashFree (held_by new)
   pub done : (z : ℕ) → z < number → IsDone net fault new (Out (node_of z))
+
+-- where each node was on the agenda or settled, each still is
+abbrev pub StaysPending : Net → Fault → List NodeFacts → List Bool → List NodeFacts → List Bool → Type 0
+StaysPending net fault before agenda after agenda' = IsPending net fault before agenda → IsPending net fault after agenda'
+
+-- the tallies are those of the facts, and there is as much room as before
+pub record IsGoing (net : Net) (fault : Fault) (facts : List NodeFacts) (agenda : List Bool) (tallies : TallyState) (agenda' : List Bool) (tallies' : TallyState) : Type 0 where
+  pub tallied : AreTallied net (held_by facts) fault.position tallies'
+  pub size : length agenda' ≡ length agenda
+  pub room : length tallies'.counted ≡ length tallies.counted

@@ -1,5 +1,6 @@
 pub mod State
 pub mod Trail
+pub mod Outside
 pub mod Outcomes
 pub mod Laws
 pub mod Settled

@@ -1,6 +1,7 @@
 -- What closing a set of facts comes to.
-use Rattle.std.specs.Prelude.{IsTrue, List, None, Option, Some, [], length, ℕ, ◌≡◌, ◌∷◌, ◌↔◌, ◌≤◌}
+use Rattle.std.specs.Prelude.{IsTrue, List, None, Option, Some, [], length, ℕ, ◌++◌, ◌≡◌, ◌∷◌, ◌↔◌, ◌≤◌}
 use Rattle.gate_net.specs.Net.{Net}
+use Rattle.implications.specs.Outside.{AreOutside, LeadToOutside}
 use Rattle.implications.specs.declared.outcome.Closed.{Closed}
 use Rattle.implications.specs.declared.outcome.Closed.TheVariants.{Clash, Open}
 use Rattle.refutation.specs.Branches.{AreAccepted, Branch, IsClosed, items_of}
@@ -42,18 +43,22 @@ pub record IsClashFrom (net : Net) (fault : Fault) (start : Held) (lines : List 
   pub reads : items ≡ items_of tree
   pub closed : IsClosed net fault start tree
 
--- the facts are exactly the derivable ones, for each node number of the net, and no lines lead to a clash
+-- the facts are exactly the derivable ones, for each node number of the net, and no lines lead to a clash; the lines lead to them from what the faulty gate doesn't reach
 pub record IsOpen (net : Net) (fault : Fault) (lines : List Line) (facts : List NodeFacts) : Type 0 where
-  pub open_from : IsOpenFrom net fault none_held lines facts
+  pub start : Held
+  pub outside : AreOutside net fault start
+  pub open_from : IsOpenFrom net fault start lines facts
   pub derivable : (x : ℕ) (fact : Fact) → IsTrue (held_by facts x fact) ↔ IsDerivable net fault x fact
   pub no_clash : Clashes net fault → ⊥
   pub size : length net.nodes ≤ length facts
 
--- lines lead to a clash, and the items are an accepted closed tree: the lines ended by that clash
+-- lines lead to a clash, and the items are an accepted closed tree: lines to what the faulty gate doesn't reach, and these lines ended by that clash
 pub record IsClashed (net : Net) (fault : Fault) (lines : List Line) (items : List Item) : Type 0 where
   pub clashes : Clashes net fault
   pub accepted : AreAccepted net fault items
-  pub clash_from : IsClashFrom net fault none_held lines items
+  pub first : List Line
+  pub outside : LeadToOutside net fault first
+  pub clash_from : IsClashFrom net fault none_held (first ++ lines) items
 
 -- what `close` answers with these lines
 abbrev pub IsClosing : Net → Fault → List Line → Closed → Type 0

@@ -1,5 +1,5 @@
 // Closing a set of facts.
-ghost use Rattle.std.specs.Prelude.{◌≡◌, ◌≤◌, ◌↔◌, [], None, IfOk, OnOk, OnErr, length, replicate, false};
+ghost use Rattle.std.specs.Prelude.{◌≡◌, ◌≤◌, ◌↔◌, ◌++◌, [], None, IfOk, OnOk, OnErr, length, replicate, false};
 ghost use Rattle.gate_net.specs.Net.{IsLive};
 ghost use Rattle.gate_net.specs.Values.{HasPin};
 ghost use Rattle.gate_graph.specs.Circuit.{net_of};
@@ -7,12 +7,16 @@ ghost use Rattle.refutation.specs.Closing.{Clashes, IsClashFree};
 ghost use Rattle.refutation.specs.Facts.{known_good, with_fact};
 ghost use Rattle.refutation.specs.FactSets.{held_by};
 ghost use Rattle.refutation.specs.Sites.{IsSiteOf};
+ghost use Rattle.implications.specs.Beginning.{AreDoneOutside};
 ghost use Rattle.implications.specs.Outcomes.{IsClash, IsClosing, IsGrown, clash_items};
+ghost use Rattle.implications.specs.Outside.{AppendsOutside};
 ghost use Rattle.implications.specs.Settled.{IsReady};
+ghost use Rattle.implications.specs.Tallies.{AreTallied};
 ghost use Rattle.implications.specs.Trail.{IsLonger};
-ghost use Rattle.implications.specs.Working.{Closes, Keeps, Works};
+ghost use Rattle.implications.specs.Working.{Closes, IsPending, Keeps, Works};
 
-use crate::first_lines::give_first;
+use crate::beginning::{begin, write_outside};
+use crate::first_lines::{give_at_fault, give_on_chain, give_outside};
 use crate::log::{Log, start};
 use crate::outcome::Closed;
 use crate::settling::work_off;
@@ -25,8 +29,40 @@ use refutation::{Fact, FactSet, Item, Line, Tree, TreeBuilder};
 use rm_base::{Fault, NoMemory, NodeId};
 use std::alloc::Global;
 
-// Adds all to which lines lead, over an agenda with nothing on, or up to a clash, whose node is given.
+// Adds all to which lines lead, or up to a clash, whose node is given; what isn't reached is held already, and each node
+// is on the agenda or settled.
 fn add_all_lines(
+    graph: &Graph,
+    fault: &Fault,
+    facts: &mut FactSet,
+    log: &mut Log,
+    agenda: &mut Agenda,
+    tallies: &mut Tallies,
+) -> Result<Option<NodeId>, NoMemory>
+    requires ready { IsReady (net_of graph.now) fault.now facts.old }
+    requires free { IsClashFree (held_by facts.old) }
+    requires outside { AreDoneOutside (net_of graph.now) fault.now facts.old }
+    requires pending { IsPending (net_of graph.now) fault.now facts.old agenda.old }
+    requires agenda { length (net_of graph.now).nodes ≤ length agenda.old }
+    requires room { length (net_of graph.now).nodes ≤ length tallies.old.counted }
+    requires tallied { AreTallied (net_of graph.now) (held_by facts.old) fault.now.position tallies.old }
+    ensures works { OnOk result (Works (net_of graph.now) fault.now facts.old log.old.lines.items facts.new log.new.lines.items) }
+    ensures keeps { Keeps facts.old log.old.trail.items facts.new log.new.trail.items }
+    ensures closes { IfOk result (Closes (net_of graph.now) fault.now facts.new) }
+    ensures agenda { length agenda.new ≡ length agenda.old }
+    ensures room { length tallies.new.counted ≡ length tallies.old.counted }
+{
+    if let Some(clash) = give_at_fault(graph, fault, facts, log, agenda, tallies)? {
+        return Ok(Some(clash));
+    }
+    if let Some(clash) = give_on_chain(graph, fault, facts, log, agenda, tallies)? {
+        return Ok(Some(clash));
+    }
+    work_off(graph, fault, facts, log, agenda, tallies)
+}
+
+// The same from any facts, over an agenda on which all nodes are put.
+fn grow_all_lines(
     graph: &Graph,
     fault: &Fault,
     site: &Site,
@@ -47,23 +83,57 @@ fn add_all_lines(
     ensures agenda { length agenda.new ≡ length agenda.old }
     ensures room { length tallies.new.counted ≡ length tallies.old.counted }
 {
-    if let Some(clash) = give_first(graph, fault, site, facts, log)? {
+    if let Some(clash) = give_outside(graph, fault, site, facts, log, agenda, tallies)? {
         return Ok(Some(clash));
     }
     agenda.add_all(graph.node_bound());
-    work_off(graph, fault, facts, log, agenda, tallies)
+    add_all_lines(graph, fault, facts, log, agenda, tallies)
 }
 
-// The tree of the lines, ended by a clash.
-fn clash_tree(alloc: Global, lines: &[Line], node: NodeId) -> Result<Tree, NoMemory>
-    ensures { IfOk result (λ t. t ≡ clash_items lines.now node) }
+// The tree that was begun, with the lines, ended by a clash.
+fn end_tree(tree: TreeBuilder, lines: &[Line], node: NodeId) -> Result<Tree, NoMemory>
+    ensures { IfOk result (λ t. t ≡ tree ++ clash_items lines.now node) }
 {
-    let mut tree = TreeBuilder::new(alloc);
+    let mut tree = tree;
     for line in lines {
         tree.push(Item::Line(*line))?;
     }
     tree.push(Item::Clash(node))?;
     Ok(tree.finish())
+}
+
+// Closes no facts, and logs how, but for what the faulty gate doesn't reach.
+fn close_none(
+    alloc: Global,
+    graph: &Graph,
+    fault: &Fault,
+    site: &Site,
+    log: &mut Log,
+    agenda: &mut Agenda,
+    tallies: &mut Tallies,
+) -> Result<Closed, NoMemory>
+    requires pin { HasPin (net_of graph.now) fault.now }
+    requires site { IsSiteOf (net_of graph.now) fault.now.gate.0 site.now }
+    requires agenda { length (net_of graph.now).nodes ≤ length agenda.old }
+    requires room { length (net_of graph.now).nodes ≤ length tallies.old.counted }
+    requires uncounted { tallies.old.counted ≡ replicate (length tallies.old.counted) false }
+    requires lines { log.old.lines.items ≡ [] }
+    ensures closing { IfOk result (IsClosing (net_of graph.now) fault.now log.new.lines.items) }
+    ensures trail { IsLonger log.old.trail.items log.new.trail.items }
+    ensures agenda { length agenda.new ≡ length agenda.old }
+    ensures room { length tallies.new.counted ≡ length tallies.old.counted }
+{
+    graph.well_formed();
+    let mut held = begin(alloc, graph, fault, site, agenda)?;
+    match add_all_lines(graph, fault, &mut held, log, agenda, tallies)? {
+        Some(node) => {
+            let mut tree = TreeBuilder::new(alloc);
+            write_outside(graph, fault, site, &mut tree)?;
+            let closed = end_tree(tree, log.lines.as_slice(), node)?;
+            Ok(Closed::Clash(closed))
+        }
+        None => Ok(Closed::Open(held)),
+    }
 }
 
 // Closes the facts, and logs how.
@@ -89,8 +159,11 @@ fn close_facts(
     ensures agenda { length agenda.new ≡ length agenda.old }
     ensures room { length tallies.new.counted ≡ length tallies.old.counted }
 {
-    match add_all_lines(graph, fault, site, &mut facts, log, agenda, tallies)? {
-        Some(node) => Ok(Closed::Clash(clash_tree(alloc, log.lines.as_slice(), node)?)),
+    match grow_all_lines(graph, fault, site, &mut facts, log, agenda, tallies)? {
+        Some(node) => {
+            let tree = end_tree(TreeBuilder::new(alloc), log.lines.as_slice(), node)?;
+            Ok(Closed::Clash(tree))
+        }
         None => Ok(Closed::Open(facts)),
     }
 }
@@ -137,7 +210,9 @@ impl Engine {
         }
     }
 
-    /// Closes no facts under every line of reasoning about the fault.
+    /// Closes no facts under every line of reasoning about the fault. What the faulty gate doesn't reach is held to be
+    /// equal without a line: the engine's lines lead on from there, and `push_outside` gives the lines that lead there.
+    /// A tree has both.
     pub fn close(&mut self, graph: &Graph, fault: &Fault) -> Result<Closed, NoMemory>
         requires pin { HasPin (net_of graph.now) fault.now }
         requires numbers { length (net_of graph.now).nodes ≤ self.old.numbers }
@@ -147,11 +222,46 @@ impl Engine {
         ensures numbers { self.new.numbers ≡ self.old.numbers }
         ensures trail { self.new.trail ≡ self.old.trail }
     {
-        let Ok(facts) = FactSet::new(self.alloc, graph) else {
-            self.log.lines.clear();
-            return Err(NoMemory);
-        };
-        self.close_from(graph, fault, facts)
+        let mark = start(&mut self.log);
+        self.site.mark(graph, fault.gate);
+        let answer = close_none(
+            self.alloc,
+            graph,
+            fault,
+            &self.site,
+            &mut self.log,
+            &mut self.agenda,
+            &mut self.tallies,
+        );
+        self.log.trail.truncate(mark);
+        self.agenda.clear();
+        self.tallies.clear();
+        match answer {
+            Ok(closed) => Ok(closed),
+            Err(NoMemory) => {
+                self.log.lines.clear();
+                Err(NoMemory)
+            }
+        }
+    }
+
+    /// Appends the lines by which what the faulty gate doesn't reach is equal: those that `close` leaves out.
+    pub fn push_outside(
+        &mut self,
+        graph: &Graph,
+        fault: &Fault,
+        tree: &mut TreeBuilder,
+    ) -> Result<(), NoMemory>
+        requires pin { HasPin (net_of graph.now) fault.now }
+        requires numbers { length (net_of graph.now).nodes ≤ self.old.numbers }
+        ensures appends { OnOk result (AppendsOutside (net_of graph.now) fault.now tree.old tree.new) }
+        ensures lines { self.new.lines ≡ self.old.lines }
+        ensures numbers { self.new.numbers ≡ self.old.numbers }
+        ensures trail { self.new.trail ≡ self.old.trail }
+    {
+        graph.well_formed();
+        self.site.mark(graph, fault.gate);
+        write_outside(graph, fault, &self.site, tree)
     }
 
     /// Closes these facts and a good value of the node under every line of reasoning about the fault.

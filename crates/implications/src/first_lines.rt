@@ -5,35 +5,48 @@ ghost use Rattle.refutation.specs.Answers.{IsAnswer};
 ghost use Rattle.refutation.specs.Closing.{IsClashFree};
 ghost use Rattle.refutation.specs.FactSets.{held_by};
 ghost use Rattle.refutation.specs.Sites.{IsSiteOf};
-ghost use Rattle.implications.specs.Beginning.{Gives, AreDoneAtFault, AreDoneOnChain, AreDoneOutside};
-ghost use Rattle.implications.specs.Settled.{IsDone, IsReady, HasFirst, place_of};
+ghost use Rattle.implications.specs.Beginning.{Gives, AreDoneAtFault, AreDoneOnChain, AreDoneOutside, StaysPending};
+ghost use Rattle.implications.specs.Settled.{IsDone, IsReady, place_of};
+ghost use Rattle.implications.specs.Tallies.{AreTallied};
 ghost use Rattle.implications.specs.Working.{Works, Keeps};
 
 use crate::found::Found;
-use crate::log::{Log, hold};
+use crate::log::Log;
+use crate::settling::add_found;
+use crate::tallies::Tallies;
 use gate_graph::Graph;
+use refutation::agenda::Agenda;
 use refutation::chains::next_in_chain;
 use refutation::place_lines::{line_act, line_out_marked, line_site};
 use refutation::site::Site;
 use refutation::{Fact, FactSet, Line};
 use rm_base::{Fault, NoMemory, NodeId};
 
-// Holds what a line gives, whatever is held, and answers a clash that it makes.
+// Adds what a line gives, whatever is held, and answers a clash that it makes.
 fn give(
     graph: &Graph,
     fault: &Fault,
     facts: &mut FactSet,
     log: &mut Log,
+    agenda: &mut Agenda,
+    tallies: &mut Tallies,
     line: Line,
     given: Option<(NodeId, Fact)>,
 ) -> Result<Option<NodeId>, NoMemory>
     requires ready { IsReady (net_of graph.now) fault.now facts.old }
     requires free { IsClashFree (held_by facts.old) }
+    requires agenda { length (net_of graph.now).nodes ≤ length agenda.old }
+    requires room { length (net_of graph.now).nodes ≤ length tallies.old.counted }
+    requires tallied { AreTallied (net_of graph.now) (held_by facts.old) fault.now.position tallies.old }
     requires first { place_of line ≡ None }
     requires given { IsAnswer (net_of graph.now) fault.now (held_by facts.old) line given }
     ensures works { OnOk result (Works (net_of graph.now) fault.now facts.old log.old.lines.items facts.new log.new.lines.items) }
     ensures keeps { Keeps facts.old log.old.trail.items facts.new log.new.trail.items }
     ensures gives { IfOk result (Gives facts.new (IsDone (net_of graph.now) fault.now facts.new line)) }
+    ensures pending { OnOk result (StaysPending (net_of graph.now) fault.now facts.old agenda.old facts.new agenda.new) }
+    ensures tallied { OnOk result (AreTallied (net_of graph.now) (held_by facts.new) fault.now.position tallies.new) }
+    ensures size { length agenda.new ≡ length agenda.old }
+    ensures room { length tallies.new.counted ≡ length tallies.old.counted }
 {
     let Some((node, fact)) = given else {
         return Ok(None);
@@ -41,51 +54,70 @@ fn give(
     if facts.holds(node, fact) {
         return Ok(None);
     }
-    hold(facts, log, Found { line, node, fact })?;
-    if facts.is_opposed(node) {
+    let found = Found { line, node, fact };
+    if add_found(graph, fault, facts, log, agenda, tallies, found)? {
         return Ok(Some(node));
     }
     Ok(None)
 }
 
 // The lines of the stuck pin and of its gate.
-fn give_at_fault(
+pub(crate) fn give_at_fault(
     graph: &Graph,
     fault: &Fault,
     facts: &mut FactSet,
     log: &mut Log,
+    agenda: &mut Agenda,
+    tallies: &mut Tallies,
 ) -> Result<Option<NodeId>, NoMemory>
     requires ready { IsReady (net_of graph.now) fault.now facts.old }
     requires free { IsClashFree (held_by facts.old) }
+    requires agenda { length (net_of graph.now).nodes ≤ length agenda.old }
+    requires room { length (net_of graph.now).nodes ≤ length tallies.old.counted }
+    requires tallied { AreTallied (net_of graph.now) (held_by facts.old) fault.now.position tallies.old }
     ensures works { OnOk result (Works (net_of graph.now) fault.now facts.old log.old.lines.items facts.new log.new.lines.items) }
     ensures keeps { Keeps facts.old log.old.trail.items facts.new log.new.trail.items }
     ensures gives { IfOk result (Gives facts.new (AreDoneAtFault (net_of graph.now) fault.now facts.new)) }
+    ensures pending { OnOk result (StaysPending (net_of graph.now) fault.now facts.old agenda.old facts.new agenda.new) }
+    ensures tallied { OnOk result (AreTallied (net_of graph.now) (held_by facts.new) fault.now.position tallies.new) }
+    ensures size { length agenda.new ≡ length agenda.old }
+    ensures room { length tallies.new.counted ≡ length tallies.old.counted }
 {
     let given = line_act(graph, fault);
-    if let Some(clash) = give(graph, fault, facts, log, Line::Act, given)? {
+    if let Some(clash) = give(graph, fault, facts, log, agenda, tallies, Line::Act, given)? {
         return Ok(Some(clash));
     }
     let given = line_site(fault);
-    give(graph, fault, facts, log, Line::Site, given)
+    give(graph, fault, facts, log, agenda, tallies, Line::Site, given)
 }
 
 // The lines of the chain that begins with the faulty gate, in its order.
-fn give_on_chain(
+pub(crate) fn give_on_chain(
     graph: &Graph,
     fault: &Fault,
     facts: &mut FactSet,
     log: &mut Log,
+    agenda: &mut Agenda,
+    tallies: &mut Tallies,
 ) -> Result<Option<NodeId>, NoMemory>
     requires ready { IsReady (net_of graph.now) fault.now facts.old }
     requires free { IsClashFree (held_by facts.old) }
+    requires agenda { length (net_of graph.now).nodes ≤ length agenda.old }
+    requires room { length (net_of graph.now).nodes ≤ length tallies.old.counted }
+    requires tallied { AreTallied (net_of graph.now) (held_by facts.old) fault.now.position tallies.old }
     ensures works { OnOk result (Works (net_of graph.now) fault.now facts.old log.old.lines.items facts.new log.new.lines.items) }
     ensures keeps { Keeps facts.old log.old.trail.items facts.new log.new.trail.items }
     ensures gives { IfOk result (Gives facts.new (AreDoneOnChain (net_of graph.now) fault.now facts.new)) }
+    ensures pending { OnOk result (StaysPending (net_of graph.now) fault.now facts.old agenda.old facts.new agenda.new) }
+    ensures tallied { OnOk result (AreTallied (net_of graph.now) (held_by facts.new) fault.now.position tallies.new) }
+    ensures size { length agenda.new ≡ length agenda.old }
+    ensures room { length tallies.new.counted ≡ length tallies.old.counted }
 {
     let mut at = fault.gate;
     for _step in 0..graph.node_bound() {
+        let line = Line::Chain { node: at };
         let given = Some((at, Fact::Differs));
-        if let Some(clash) = give(graph, fault, facts, log, Line::Chain { node: at }, given)? {
+        if let Some(clash) = give(graph, fault, facts, log, agenda, tallies, line, given)? {
             return Ok(Some(clash));
         }
         let Some(next) = next_in_chain(graph, at) else {
@@ -97,50 +129,35 @@ fn give_on_chain(
 }
 
 // The lines of the nodes that the faulty gate doesn't reach.
-fn give_outside(
+pub(crate) fn give_outside(
     graph: &Graph,
     fault: &Fault,
     site: &Site,
     facts: &mut FactSet,
     log: &mut Log,
+    agenda: &mut Agenda,
+    tallies: &mut Tallies,
 ) -> Result<Option<NodeId>, NoMemory>
     requires ready { IsReady (net_of graph.now) fault.now facts.old }
     requires free { IsClashFree (held_by facts.old) }
     requires site { IsSiteOf (net_of graph.now) fault.now.gate.0 site.now }
+    requires agenda { length (net_of graph.now).nodes ≤ length agenda.old }
+    requires room { length (net_of graph.now).nodes ≤ length tallies.old.counted }
+    requires tallied { AreTallied (net_of graph.now) (held_by facts.old) fault.now.position tallies.old }
     ensures works { OnOk result (Works (net_of graph.now) fault.now facts.old log.old.lines.items facts.new log.new.lines.items) }
     ensures keeps { Keeps facts.old log.old.trail.items facts.new log.new.trail.items }
     ensures gives { IfOk result (Gives facts.new (AreDoneOutside (net_of graph.now) fault.now facts.new)) }
+    ensures tallied { OnOk result (AreTallied (net_of graph.now) (held_by facts.new) fault.now.position tallies.new) }
+    ensures size { length agenda.new ≡ length agenda.old }
+    ensures room { length tallies.new.counted ≡ length tallies.old.counted }
 {
     for number in 0..graph.node_bound() {
         let node = NodeId(number);
+        let line = Line::Out { node };
         let given = line_out_marked(graph, fault, node, site);
-        if let Some(clash) = give(graph, fault, facts, log, Line::Out { node }, given)? {
+        if let Some(clash) = give(graph, fault, facts, log, agenda, tallies, line, given)? {
             return Ok(Some(clash));
         }
     }
     Ok(None)
-}
-
-// All of them.
-pub(crate) fn give_first(
-    graph: &Graph,
-    fault: &Fault,
-    site: &Site,
-    facts: &mut FactSet,
-    log: &mut Log,
-) -> Result<Option<NodeId>, NoMemory>
-    requires ready { IsReady (net_of graph.now) fault.now facts.old }
-    requires free { IsClashFree (held_by facts.old) }
-    requires site { IsSiteOf (net_of graph.now) fault.now.gate.0 site.now }
-    ensures works { OnOk result (Works (net_of graph.now) fault.now facts.old log.old.lines.items facts.new log.new.lines.items) }
-    ensures keeps { Keeps facts.old log.old.trail.items facts.new log.new.trail.items }
-    ensures gives { IfOk result (Gives facts.new (HasFirst (net_of graph.now) fault.now (held_by facts.new))) }
-{
-    if let Some(clash) = give_at_fault(graph, fault, facts, log)? {
-        return Ok(Some(clash));
-    }
-    if let Some(clash) = give_on_chain(graph, fault, facts, log)? {
-        return Ok(Some(clash));
-    }
-    give_outside(graph, fault, site, facts, log)
 }

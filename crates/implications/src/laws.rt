@@ -1,5 +1,6 @@
 //! What holds of lines and of trails.
 ghost use Rattle.implications.specs.Laws.{LinesForce, ClashesForce, LinesAreLocal, FirstLinesAskNothing, TrailTells};
+ghost use Rattle.implications.specs.Outside.{OutsideIsSettled};
 
 /// A closed set without a clash that contains some facts contains all to which lines lead from them.
 pub fn lines_force()
@@ -16,4 +17,9 @@ pub fn trails_tell()
 pub fn lines_are_local()
     ensures local { LinesAreLocal }
     ensures first { FirstLinesAskNothing }
+{}
+
+/// By what the faulty gate doesn't reach alone, each node is settled but the constants, that gate and gates without pins.
+pub fn outside_is_settled()
+    ensures { OutsideIsSettled }
 {}

@@ -1,6 +1,7 @@
 //! The engine that closes a set of facts under every line of reasoning about a fault, exactly.
 #![tactic(auto)]
 
+mod beginning;
 mod closing;
 mod counts;
 mod done_lines;

@@ -1,8 +1,10 @@
 -- From no facts to an answer.
-use Rattle.std.proofs.Common.{List, [], append-nil, arith, suc, zero, ◌+◌, ◌-◌, map, subst, sym, true, false, ◌++◌, ◌∙◌, ◌∷◌, ◌≡◌, ◌≤◌, ◌↔◌, ℕ}
+use Rattle.std.proofs.Common.{List, [], ap, append-nil, arith, suc, zero, ◌+◌, ◌-◌, map, subst, sym, true, false, ◌++◌, ◌∙◌, ◌∷◌, ◌≡◌, ◌≤◌, ◌↔◌, ℕ}
 use Rattle.gate_net.specs.Net.{IsWellFormed, Net}
 use Rattle.gate_net.specs.Values.{HasPin}
+use Rattle.implications.specs.Beginning.{node_of}
 use Rattle.implications.specs.Outcomes.{IsClash, IsClashed, IsOpen}
+use Rattle.implications.specs.Outside.{AppendsOutside, LeadFromOutside}
 use Rattle.implications.specs.State.{EngineState}
 use Rattle.implications.specs.declared.outcome.Closed.{Closed}
 use Rattle.implications.specs.declared.outcome.Closed.TheVariants.{Clash, Open}
@@ -13,7 +15,7 @@ use Rattle.recursive_learning.proofs.Splits.{told_join}
 use Rattle.recursive_learning.proofs.Tells.{lines_lead}
 use Rattle.recursive_learning.specs.Answers.{IsRefuting}
 use Rattle.recursive_learning.specs.Least.{AreForced, IsLeastAt}
-use Rattle.recursive_learning.specs.Telling.{Ends, line_item}
+use Rattle.recursive_learning.specs.Telling.{Ends, Leads, line_item}
 use Rattle.recursive_learning.specs.Working.{AreSettled, IsLearned, Keeps}
 use Rattle.refutation.proofs.Closings.{leads_within, opposed_within}
 use Rattle.refutation.proofs.Depths.{closed_below, lines_of}
@@ -27,6 +29,7 @@ use Rattle.refutation.specs.Stack.{AcceptsAll}
 use Rattle.refutation.specs.declared.held.NodeFacts.{NodeFacts}
 use Rattle.refutation.specs.declared.items.Item.{Item}
 use Rattle.refutation.specs.declared.reasoning.Line.{Line}
+use Rattle.refutation.specs.declared.reasoning.Line.TheVariants.{Out}
 use Rattle.rm_base.specs.declared.numbers.Fault.{Fault}
 
 pub none_within : (s : Held) → IsWithin none_held s
@@ -37,21 +40,26 @@ pub ends_accepted : (net : Net) (fault : Fault) (items : List Item) → Ends net
 ends_accepted net fault items (pieces, (is, reads)) =
     (stack_reads net fault items).0 (subst (AcceptsAll net fault (none_held ∷ [])) (append-nil pieces ∙ sym is) (reads [] [] tt))
 
--- lines from no facts, and then a written branch
-pub written_accepted : (net : Net) (fault : Fault) (lines : List Line) (facts : Held) (middle items : List Item) → LinesLead net fault none_held lines facts → middle ≡ [] ++ map line_item lines → Ends net fault facts middle items → AreAccepted net fault items
-written_accepted net fault lines facts middle items leads is ends =
+-- lines to what isn't reached, lines from there, and then a written branch
+pub written_accepted : (net : Net) (fault : Fault) (lines : List Line) (facts : Held) (none first middle items : List Item) → none ≡ [] → AppendsOutside net fault none first → LeadFromOutside net fault lines facts → middle ≡ first ++ map line_item lines → Ends net fault facts middle items → AreAccepted net fault items
+written_accepted net fault lines facts none first middle items nothing (before, (appended, to)) from is ends =
     ends_accepted net fault items
-    (told_join net fault none_held [] ([] ++ map line_item lines) items facts facts true (lines_lead net fault lines none_held facts [] leads) (subst (λ (m : List Item). Ends net fault facts m items) is ends))
+    (told_join net fault none_held [] first items from.start facts true
+    (subst (λ (m : List Item). Leads net fault none_held [] from.start m) (sym (appended ∙ ap (λ (n : List Item). n ++ map line_item before) nothing)) (lines_lead net fault before none_held from.start [] (to.leads from.start from.outside)))
+    (told_join net fault from.start first (first ++ map line_item lines) items facts facts true (lines_lead net fault lines from.start facts first from.leads) (subst (λ (m : List Item). Ends net fault facts m items) is ends)))
 
 pub open_settled : (net : Net) (fault : Fault) (lines : List Line) (facts : List NodeFacts) → IsWellFormed net → HasPin net fault → IsOpen net fault lines facts → AreSettled net fault (held_by facts)
 open_settled net fault lines facts formed stuck o = record {
   closed = o.open_from.closed;
   free = o.open_from.free;
-  live = leads_live net fault formed stuck lines none_held (held_by facts) (λ x fact e. cc) o.open_from.leads;
+  live = leads_live net fault formed stuck lines o.start (held_by facts) (λ x fact e. ((o.outside x fact).0 e).0) o.open_from.leads;
 }
 
 pub open_forced : (net : Net) (fault : Fault) (lines : List Line) (facts : List NodeFacts) → IsOpen net fault lines facts → AreForced net fault 0 none_held (held_by facts)
-open_forced net fault lines facts o s within free closed = leads_within net fault s free closed lines none_held (held_by facts) (none_within s) o.open_from.leads
+open_forced net fault lines facts o s within free closed = leads_within net fault s free closed lines o.start (held_by facts) (λ x fact e. closed (Out (node_of x)) x fact ((o.outside x fact).0 e)) o.open_from.leads
+
+pub open_leads : (net : Net) (fault : Fault) (lines : List Line) (facts : List NodeFacts) → IsOpen net fault lines facts → LeadFromOutside net fault lines (held_by facts)
+open_leads net fault lines facts o = record { start = o.start; outside = o.outside; leads = o.open_from.leads }
 
 pub clashes_lead : (net : Net) (fault : Fault) (depth : ℕ) → Clashes net fault → LeadsToClash net fault depth none_held
 clashes_lead net fault depth (lines, (after, (leads, (x, opposed)))) s within free closed =

@@ -3,7 +3,7 @@ ghost use Rattle.std.specs.Prelude.{◌≡◌, ◌≤◌, ◌↔◌, IfOk, OnOk,
 ghost use Rattle.gate_net.specs.Values.{HasPin};
 ghost use Rattle.gate_graph.specs.Circuit.{net_of};
 ghost use Rattle.implications.specs.Outcomes.{IsClash};
-ghost use Rattle.refutation.specs.Closing.{LinesLead};
+ghost use Rattle.implications.specs.Outside.{LeadFromOutside};
 ghost use Rattle.refutation.specs.Branches.{AreAccepted};
 ghost use Rattle.refutation.specs.Facts.{none_held};
 ghost use Rattle.refutation.specs.FactSets.{held_by};
@@ -24,7 +24,8 @@ use refutation_check::shortened;
 use rm_base::{Fault, NoMemory, NodeId};
 use std::alloc::Global;
 
-// Writes the tree of closed facts to which these lines led, and which lead to a clash at the depth.
+// Writes the tree of closed facts to which these lines led from what the faulty gate doesn't reach, and which lead to a
+// clash at the depth.
 fn written(
     alloc: Global,
     engine: &mut Engine,
@@ -41,7 +42,7 @@ fn written(
     requires room { HasRoom (net_of graph.now) watch.old }
     requires blank { IsBlank watch.old }
     requires settled { AreSettled (net_of graph.now) fault.now (held_by facts) }
-    requires lines { LinesLead (net_of graph.now) fault.now none_held engine.old.lines (held_by facts) }
+    requires lines { LeadFromOutside (net_of graph.now) fault.now engine.old.lines (held_by facts) }
     requires clash { LeadsToClash (net_of graph.now) fault.now depth (held_by facts) }
     ensures accepted { IfOk result (λ t. AreAccepted (net_of graph.now) fault.now t) }
     ensures numbers { OnOk result (engine.new.numbers ≡ engine.old.numbers) }
@@ -50,6 +51,7 @@ fn written(
     let mut held = facts;
     let mark = engine.mark();
     let mut tree = TreeBuilder::new(alloc);
+    engine.push_outside(graph, fault, &mut tree)?;
     push_lines(&mut tree, engine.lines())?;
     write_from(
         alloc, engine, graph, fault, &mut held, watch, depth, taught, &mut tree,

@@ -8,7 +8,7 @@ use super::nets::{Gate, wired};
 use crate::{Closed, Engine};
 use gate_graph::{Graph, Marks};
 use refutation::pins::{Aspect, known};
-use refutation::{FactSet, conclude};
+use refutation::{FactSet, Item, Tree, TreeBuilder, conclude};
 use rm_base::{Fault, NoMemory, NodeId};
 use std::alloc::Global;
 use std::test::Fail;
@@ -164,12 +164,12 @@ fn are_known(facts: &FactSet, wanted: &[Known; 10]) -> bool {
     true
 }
 
-// Whether the engine's lines lead, one after another, from no facts to these.
+// Whether lines lead, one after another, from no facts to these.
 fn lead_to(
     alloc: Global,
-    engine: &Engine,
     graph: &Graph,
     fault: &Fault,
+    items: &[Item],
     facts: &FactSet,
 ) -> Result<bool, NoMemory> {
     let Some(_) = graph.driver(fault.gate, fault.position) else {
@@ -177,13 +177,36 @@ fn lead_to(
     };
     let mut marks = Marks::new(alloc, graph.node_bound())?;
     let mut led = FactSet::new(alloc, graph)?;
-    for line in engine.lines() {
+    for item in items {
+        let Item::Line(line) = item else {
+            return Ok(false);
+        };
         let Some((node, fact)) = conclude(graph, fault, &led, line, &mut marks) else {
             return Ok(false);
         };
         led.insert(node, fact);
     }
     Ok(is_same(&led, facts))
+}
+
+// The lines to what the faulty gate doesn't reach, and then those of the engine's last call.
+fn all_lines(
+    alloc: Global,
+    engine: &mut Engine,
+    graph: &Graph,
+    fault: &Fault,
+) -> Result<Option<Tree>, NoMemory>
+    requires { length (net_of graph.now).nodes ≤ engine.old.numbers }
+{
+    let Some(_) = graph.driver(fault.gate, fault.position) else {
+        return Ok(None);
+    };
+    let mut tree = TreeBuilder::new(alloc);
+    engine.push_outside(graph, fault, &mut tree)?;
+    for line in engine.lines() {
+        tree.push(Item::Line(*line))?;
+    }
+    Ok(Some(tree.finish()))
 }
 
 fn is_same(one: &FactSet, other: &FactSet) -> bool {
@@ -223,7 +246,10 @@ fn gives(alloc: Global, graph: &Graph, case: &Case) -> Result<bool, NoMemory> {
     let Some(Closed::Open(facts)) = close(&mut engine, graph, &case.fault)? else {
         return Ok(false);
     };
-    if !lead_to(alloc, &engine, graph, &case.fault, &facts)? {
+    let Some(tree) = all_lines(alloc, &mut engine, graph, &case.fault)? else {
+        return Ok(false);
+    };
+    if !lead_to(alloc, graph, &case.fault, tree.items(), &facts)? {
         return Ok(false);
     }
     Ok(are_known(&facts, &case.known))

@@ -78,6 +78,7 @@ fn gate_value(values: &[bool], fault: &Option<Fault>, node: u32, gate: Gate) -> 
             read(values, fault, node, 0, one) | read(values, fault, node, 1, other)
         }
         Gate::OrOfThree(_, _, _) => false,
+        Gate::Empty => true,
         Gate::Not(driver) => !read(values, fault, node, 0, driver),
     }
 }

@@ -9,13 +9,14 @@ use gate_net::Kind;
 use rm_base::{NoMemory, NodeId};
 use std::alloc::Global;
 
-/// A gate of a table: an And or an Or of all drivers, or a Not of the first.
+/// A gate of a table: an And or an Or of all drivers, or a Not of the first; `Empty` is an And without pins.
 #[derive(Clone, Copy)]
 pub enum Gate {
     And(u32, u32),
     Or(u32, u32),
     OrOfThree(u32, u32, u32),
     Not(u32),
+    Empty,
 }
 
 // Adds an And or an Or of two live drivers.
@@ -57,6 +58,17 @@ fn add_three(graph: &mut Graph, one: u32, other: u32, third: u32) -> Result<bool
     Ok(true)
 }
 
+// Adds an And without pins.
+fn add_empty(graph: &mut Graph) -> Result<bool, NoMemory>
+    requires pins { pins_taken graph.old ≤ 100000 }
+    requires nodes { live_nodes graph.old ≤ 100000 }
+    ensures pins { OnOk result (pins_taken graph.new ≤ pins_taken graph.old + 3) }
+    ensures nodes { OnOk result (live_nodes graph.new ≤ live_nodes graph.old + 1) }
+{
+    graph.add_gate(Kind::And, &[])?;
+    Ok(true)
+}
+
 // Adds a Not of a live driver.
 fn add_not(graph: &mut Graph, driver: u32) -> Result<bool, NoMemory>
     requires pins { pins_taken graph.old ≤ 100000 }
@@ -82,6 +94,7 @@ fn add_gate(graph: &mut Graph, gate: Gate) -> Result<bool, NoMemory>
         Gate::Or(one, other) => add_two(graph, Kind::Or, one, other),
         Gate::OrOfThree(one, other, third) => add_three(graph, one, other, third),
         Gate::Not(driver) => add_not(graph, driver),
+        Gate::Empty => add_empty(graph),
     }
 }
 

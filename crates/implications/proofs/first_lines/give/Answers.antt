@@ -1,7 +1,8 @@
-use Rattle.std.proofs.Common.{arith, length, ◌<◌}
+use Rattle.std.proofs.Common.{arith, length, sym, ◌<◌, ◌∙◌}
 use Rattle.gate_graph.specs.Circuit.{net_of}
 use Rattle.implications.proofs.Begins.{answer_some}
 use Rattle.implications.proofs.Steps.{works_hold}
+use Rattle.implications.proofs.Touching.{fresh_given, pending_touched}
 use Rattle.implications.proofs.first_lines.give.Goals as goal
 use Rattle.refutation.proofs.Below.{concludes_below}
 use Rattle.refutation.specs.FactSets.{held_by}
@@ -12,24 +13,25 @@ holds-requires c =
     concludes_below (net_of c.args.graph.now) c.args.fault.now (held_by c.args.facts.now) c.requires.ready.formed c.requires.ready.stuck c.args.line c.in-Some.node.0 c.in-Some.fact (answer_some (net_of c.args.graph.now) c.args.fault.now (held_by c.args.facts.now) c.args.line c.args.given (c.in-Some.node, c.in-Some.fact) c.in-Some.is c.requires.given) in
     omega (arith, c.requires.ready.size)
 
-pub hold-requires-clause-node : goal.hold-requires-clause-node
-hold-requires-clause-node c =
-    let below : c.in-Some.node.0 < length (net_of c.args.graph.now).nodes =
-    concludes_below (net_of c.args.graph.now) c.args.fault.now (held_by c.args.facts.now) c.requires.ready.formed c.requires.ready.stuck c.args.line c.in-Some.node.0 c.in-Some.fact (answer_some (net_of c.args.graph.now) c.args.fault.now (held_by c.args.facts.now) c.args.line c.args.given (c.in-Some.node, c.in-Some.fact) c.in-Some.is c.requires.given) in
-    omega (arith, c.requires.ready.size)
+pub add_found-requires-clause-fresh : goal.add_found-requires-clause-fresh
+add_found-requires-clause-fresh c =
+    fresh_given (net_of c.args.graph.now) c.args.fault.now c.args.facts.now c.args.line c.in-Some.node c.in-Some.fact c.requires.ready.formed c.requires.ready.stuck
+    (answer_some (net_of c.args.graph.now) c.args.fault.now (held_by c.args.facts.now) c.args.line c.args.given (c.in-Some.node, c.in-Some.fact) c.in-Some.is c.requires.given) (sym c.holds.ensures ∙ c.if-holds.false)
 
-pub is_opposed-requires : goal.is_opposed-requires
-is_opposed-requires c =
-    let below : c.in-Some.node.0 < length (net_of c.args.graph.now).nodes =
-    concludes_below (net_of c.args.graph.now) c.args.fault.now (held_by c.args.facts.now) c.requires.ready.formed c.requires.ready.stuck c.args.line c.in-Some.node.0 c.in-Some.fact (answer_some (net_of c.args.graph.now) c.args.fault.now (held_by c.args.facts.now) c.args.line c.args.given (c.in-Some.node, c.in-Some.fact) c.in-Some.is c.requires.given) in
-    omega (arith, c.requires.ready.size, c.hold.ensures.keeps.size)
+pub returns-then-branch-clause-works : goal.returns-then-branch-clause-works
+returns-then-branch-clause-works c =
+    works_hold (net_of c.args.graph.now) c.args.fault.now c.args.facts.now c.args.log.now.lines.items c.add_found.new.facts c.add_found.new.log.lines.items (record { line = c.args.line; node = c.in-Some.node; fact = c.in-Some.fact })
+    (answer_some (net_of c.args.graph.now) c.args.fault.now (held_by c.args.facts.now) c.args.line c.args.given (c.in-Some.node, c.in-Some.fact) c.in-Some.is c.requires.given) c.in_ok-add_found.ensures.holds
 
-pub returns-then-is_opposed-clause-works : goal.returns-then-is_opposed-clause-works
-returns-then-is_opposed-clause-works c =
-    works_hold (net_of c.args.graph.now) c.args.fault.now c.args.facts.now c.args.log.now.lines.items c.hold.new.facts c.hold.new.log.lines.items (record { line = c.args.line; node = c.in-Some.node; fact = c.in-Some.fact })
-    (answer_some (net_of c.args.graph.now) c.args.fault.now (held_by c.args.facts.now) c.args.line c.args.given (c.in-Some.node, c.in-Some.fact) c.in-Some.is c.requires.given) c.in_ok-hold.ensures.holds
+pub returns-then-branch-clause-pending : goal.returns-then-branch-clause-pending
+returns-then-branch-clause-pending c =
+    pending_touched (net_of c.args.graph.now) c.args.fault.now c.args.facts.now c.add_found.new.facts c.args.agenda.now c.add_found.new.agenda c.in-Some.node.0 c.in-Some.fact c.in_ok-add_found.ensures.holds.facts c.add_found.ensures.touches
 
 pub returns-clause-works : goal.returns-clause-works
 returns-clause-works c =
-    works_hold (net_of c.args.graph.now) c.args.fault.now c.args.facts.now c.args.log.now.lines.items c.hold.new.facts c.hold.new.log.lines.items (record { line = c.args.line; node = c.in-Some.node; fact = c.in-Some.fact })
-    (answer_some (net_of c.args.graph.now) c.args.fault.now (held_by c.args.facts.now) c.args.line c.args.given (c.in-Some.node, c.in-Some.fact) c.in-Some.is c.requires.given) c.in_ok-hold.ensures.holds
+    works_hold (net_of c.args.graph.now) c.args.fault.now c.args.facts.now c.args.log.now.lines.items c.add_found.new.facts c.add_found.new.log.lines.items (record { line = c.args.line; node = c.in-Some.node; fact = c.in-Some.fact })
+    (answer_some (net_of c.args.graph.now) c.args.fault.now (held_by c.args.facts.now) c.args.line c.args.given (c.in-Some.node, c.in-Some.fact) c.in-Some.is c.requires.given) c.in_ok-add_found.ensures.holds
+
+pub returns-clause-pending : goal.returns-clause-pending
+returns-clause-pending c =
+    pending_touched (net_of c.args.graph.now) c.args.fault.now c.args.facts.now c.add_found.new.facts c.args.agenda.now c.add_found.new.agenda c.in-Some.node.0 c.in-Some.fact c.in_ok-add_found.ensures.holds.facts c.add_found.ensures.touches

@@ -1,5 +1,7 @@
 use Rattle.gate_graph.specs.Circuit.{net_of}
+use Rattle.implications.proofs.Closes.{works_ok}
 use Rattle.implications.proofs.Steps.{keeps_join}
+use Rattle.implications.specs.Beginning.{StaysPending}
 use Rattle.implications.proofs.first_lines.give_at_fault.Goals as goal
 use Rattle.refutation.specs.FactSets.{held_by}
 
@@ -11,3 +13,8 @@ give-requires-2-clause-given c = c.line_site-given.ensures (net_of c.args.graph.
 
 pub returns-clause-keeps : goal.returns-clause-keeps
 returns-clause-keeps c = keeps_join c.args.facts.now c.args.log.now.trail.items c.give.new.facts c.give.new.log.trail.items c.give-2.new.facts c.give-2.new.log.trail.items c.give.ensures.keeps c.give-2.ensures.keeps
+
+pub returns-clause-pending : goal.returns-clause-pending
+returns-clause-pending c =
+    works_ok (StaysPending (net_of c.args.graph.now) c.args.fault.now c.give.new.facts c.give.new.agenda c.give-2.new.facts c.give-2.new.agenda) (StaysPending (net_of c.args.graph.now) c.args.fault.now c.args.facts.now c.args.agenda.now c.give-2.new.facts c.give-2.new.agenda) c.give-2.result
+    (λ after pending. after (c.in_ok-clash.ensures.pending pending)) c.give-2.ensures.pending

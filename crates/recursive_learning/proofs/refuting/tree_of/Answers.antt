@@ -1,8 +1,11 @@
 use Rattle.std.proofs.Common.{subst}
 use Rattle.gate_graph.specs.Circuit.{net_of}
 use Rattle.implications.specs.Outcomes.{IsClosing}
-use Rattle.recursive_learning.proofs.Refutes.{open_settled}
+use Rattle.recursive_learning.proofs.Refutes.{open_leads, open_settled}
 use Rattle.recursive_learning.proofs.refuting.tree_of.Goals as goal
 
 pub written-requires-clause-settled : goal.written-requires-clause-settled
 written-requires-clause-settled c = open_settled (net_of c.args.graph.now) c.args.fault.now c.close.new.self.lines c.in-Open.facts c.well_formed-2.ensures.net c.requires.pin (subst (IsClosing (net_of c.args.graph.now) c.args.fault.now c.close.new.self.lines) c.in-Open.is c.in_ok-tree.ensures.closing)
+
+pub written-requires-clause-lines : goal.written-requires-clause-lines
+written-requires-clause-lines c = open_leads (net_of c.args.graph.now) c.args.fault.now c.close.new.self.lines c.in-Open.facts (subst (IsClosing (net_of c.args.graph.now) c.args.fault.now c.close.new.self.lines) c.in-Open.is c.in_ok-tree.ensures.closing)

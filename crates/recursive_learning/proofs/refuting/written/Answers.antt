@@ -16,5 +16,5 @@ take_back-requires c =
 pub returns-clause-accepted : goal.returns-clause-accepted
 returns-clause-accepted c =
     rw c.finish.ensures
-    (written_accepted (net_of c.args.graph.now) c.args.fault.now c.args.engine.now.lines (held_by c.args.facts) c.push_lines.new.tree c.write_from.new.tree c.requires.lines
-    (c.in_ok-push_lines.ensures ∙ ap (λ (items : List Item). items ++ map line_item c.lines.result.now) c.new-tree.ensures ∙ ap (λ (lines : List Line). [] ++ map line_item lines) c.lines.ensures) c.in_ok-write_from.ensures.ends)
+    (written_accepted (net_of c.args.graph.now) c.args.fault.now c.args.engine.now.lines (held_by c.args.facts) c.new-tree.result c.push_outside.new.tree c.push_lines.new.tree c.write_from.new.tree c.new-tree.ensures c.in_ok-push_outside.ensures.appends c.requires.lines
+    (c.in_ok-push_lines.ensures ∙ ap (λ (lines : List Line). c.push_outside.new.tree ++ map line_item lines) (c.lines.ensures ∙ c.push_outside.ensures.lines)) c.in_ok-write_from.ensures.ends)

@@ -1,6 +1,0 @@
-use Rattle.std.proofs.Common.{drop, ◌++◌, ◌≡◌}
-use Rattle.implications.proofs.closing.clash_tree.Given as goal
-use Rattle.implications.specs.Outcomes.{clash_items}
-
-abbrev pub invariant-loop-line : goal.invariant-loop-line
-invariant-loop-line l = l.tree ++ clash_items (drop l.line-index l.lines) l.fn.node ≡ clash_items l.lines l.fn.node

@@ -1,0 +1,135 @@
+// What a close begins with: the nodes that the faulty gate doesn't reach are equal.
+ghost use Rattle.std.specs.Prelude.{◌≡◌, ◌+◌, ◌<◌, ◌≤◌, ◌↔◌, ℕ, List, IfOk, IsTrue, OnOk, length};
+ghost use Rattle.gate_graph.specs.Circuit.{net_of};
+ghost use Rattle.gate_graph.specs.Search.{IsSeen};
+ghost use Rattle.gate_net.specs.Values.{HasPin};
+ghost use Rattle.refutation.specs.FactSets.{held_by};
+ghost use Rattle.refutation.specs.Sites.{IsSiteOf};
+ghost use Rattle.implications.specs.Outside.{AppendsOutside, AreOutside, BeginsBelow, HoldsOutside, IsPinless, WritesBelow};
+ghost use Rattle.refutation.specs.declared.items.Item.{Item};
+ghost use Rattle.implications.specs.Working.{IsPending};
+
+use gate_graph::Graph;
+use refutation::agenda::Agenda;
+use refutation::pins::is_gate;
+use refutation::place_lines::line_out_marked;
+use refutation::site::Site;
+use refutation::{FactSet, Item, Line, TreeBuilder};
+use rm_base::{Fault, NoMemory, NodeId};
+use std::alloc::Global;
+
+// Whether the node is a gate without pins.
+fn is_pinless(graph: &Graph, node: NodeId) -> bool
+    ensures { IsTrue result ↔ IsPinless (net_of graph.now) node.0 }
+{
+    let Some(kind) = graph.kind(node) else {
+        return false;
+    };
+    if !is_gate(kind) {
+        return false;
+    }
+    graph.driver(node, 0).is_none()
+}
+
+// Puts the node on the agenda, where it is a gate without pins.
+fn list_pinless(graph: &Graph, agenda: &mut Agenda, node: NodeId)
+    requires node { node.0 < length agenda.old }
+    ensures listed { IsPinless (net_of graph.now) node.0 → IsSeen agenda.new node.0 }
+    ensures kept { (z : ℕ) → IsSeen agenda.old z → IsSeen agenda.new z }
+    ensures size { length agenda.new ≡ length agenda.old }
+{
+    if is_pinless(graph, node) {
+        agenda.add(node);
+    }
+}
+
+// Holds that the node is equal, where the faulty gate doesn't reach it.
+fn hold_outside(graph: &Graph, fault: &Fault, site: &Site, facts: &mut FactSet, node: NodeId)
+    requires site { IsSiteOf (net_of graph.now) fault.now.gate.0 site.now }
+    requires node { node.0 < length facts.old }
+    ensures { HoldsOutside (net_of graph.now) fault.now node.0 facts.old facts.new }
+{
+    let Some((outside, fact)) = line_out_marked(graph, fault, node, site) else {
+        return;
+    };
+    facts.insert(outside, fact);
+}
+
+// Holds that of all nodes, and puts the gates without pins on the agenda.
+fn hold_all_outside(
+    alloc: Global,
+    graph: &Graph,
+    fault: &Fault,
+    site: &Site,
+    agenda: &mut Agenda,
+) -> Result<FactSet, NoMemory>
+    requires site { IsSiteOf (net_of graph.now) fault.now.gate.0 site.now }
+    requires agenda { length (net_of graph.now).nodes ≤ length agenda.old }
+    ensures begins { IfOk result (λ facts. BeginsBelow (net_of graph.now) fault.now (length (net_of graph.now).nodes) facts agenda.new) }
+    ensures size { length agenda.new ≡ length agenda.old }
+{
+    let mut facts = FactSet::new(alloc, graph)?;
+    for number in 0..graph.node_bound() {
+        let node = NodeId(number);
+        hold_outside(graph, fault, site, &mut facts, node);
+        list_pinless(graph, agenda, node);
+    }
+    Ok(facts)
+}
+
+// The facts with which a close begins, and on the agenda each node that isn't settled by them.
+pub(crate) fn begin(
+    alloc: Global,
+    graph: &Graph,
+    fault: &Fault,
+    site: &Site,
+    agenda: &mut Agenda,
+) -> Result<FactSet, NoMemory>
+    requires pin { HasPin (net_of graph.now) fault.now }
+    requires site { IsSiteOf (net_of graph.now) fault.now.gate.0 site.now }
+    requires agenda { length (net_of graph.now).nodes ≤ length agenda.old }
+    ensures outside { IfOk result (λ facts. AreOutside (net_of graph.now) fault.now (held_by facts)) }
+    ensures pending { IfOk result (λ facts. IsPending (net_of graph.now) fault.now facts agenda.new) }
+    ensures facts { IfOk result (λ facts. length facts ≡ length (net_of graph.now).nodes) }
+    ensures size { length agenda.new ≡ length agenda.old }
+{
+    graph.well_formed();
+    let facts = hold_all_outside(alloc, graph, fault, site, agenda)?;
+    agenda.add(NodeId(0));
+    agenda.add(NodeId(1));
+    agenda.add(fault.gate);
+    Ok(facts)
+}
+
+// Appends the line of that node, where the faulty gate doesn't reach it.
+fn write_at(
+    graph: &Graph,
+    fault: &Fault,
+    site: &Site,
+    tree: &mut TreeBuilder,
+    node: NodeId,
+) -> Result<(), NoMemory>
+    requires site { IsSiteOf (net_of graph.now) fault.now.gate.0 site.now }
+    ensures { OnOk result ((before : List Item) → WritesBelow (net_of graph.now) fault.now node.0 before tree.old → WritesBelow (net_of graph.now) fault.now (node.0 + 1) before tree.new) }
+{
+    let Some((_outside, _fact)) = line_out_marked(graph, fault, node, site) else {
+        return Ok(());
+    };
+    tree.push(Item::Line(Line::Out { node }))
+}
+
+// Appends the lines to the facts with which a close begins.
+pub(crate) fn write_outside(
+    graph: &Graph,
+    fault: &Fault,
+    site: &Site,
+    tree: &mut TreeBuilder,
+) -> Result<(), NoMemory>
+    requires site { IsSiteOf (net_of graph.now) fault.now.gate.0 site.now }
+    ensures { OnOk result (AppendsOutside (net_of graph.now) fault.now tree.old tree.new) }
+{
+    for number in 0..graph.node_bound() {
+        write_at(graph, fault, site, tree, NodeId(number))?;
+    }
+    Ok(())
+}
