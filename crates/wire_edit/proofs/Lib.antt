@@ -36,4 +36,5 @@ pub mod Calling
 pub mod FreePins
 pub mod Falling
 pub mod Unrefused
+pub mod KnownPins
 pub mod LiveNodes
