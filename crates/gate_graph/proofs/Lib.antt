@@ -13,6 +13,7 @@ pub mod Searches
 pub mod Fresh
 pub mod NetOf
 pub mod Pinned
+pub mod PinsFrom
 pub mod Ranked
 pub mod LeadOns
 pub mod Appended

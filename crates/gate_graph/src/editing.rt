@@ -18,7 +18,7 @@ ghost use Rattle.gate_net.specs.declared.Kind.TheVariants.{One, Not};
 
 use crate::entries::{Entry, Undos};
 use crate::pins::{least_free, nth_pin};
-use crate::rings::{link_new, look, move_fanouts, redrive_pin, unlink_pin};
+use crate::rings::{link_new, look, move_fanouts, redrive_pin, unlink_at, unlink_pin};
 use crate::state::Graph;
 use crate::undoing::set_kind;
 use gate_net::Kind;
@@ -124,7 +124,7 @@ impl Graph {
         ensures left { undos.new.entries ≢ [] }
     {
         let pin = self.pin_of(gate, position);
-        let slot = unlink_pin(&mut self.pool, pin);
+        let slot = unlink_at(&mut self.pool, pin, gate.0, position);
         look(&self.pool);
         undos.push(Entry::Removed { pin, slot });
     }

@@ -1,5 +1,5 @@
 //! Pins of a gate.
-ghost use Rattle.std.specs.Prelude.{◌≡◌, ◌≢◌, ◌+◌, ◌<◌, ◌≤◌, ℕ, true, false, length, slice_get, Some, None, IfSome, [], ◌∷◌};
+ghost use Rattle.std.specs.Prelude.{◌≡◌, ◌≢◌, ◌+◌, ◌<◌, ◌≤◌, ℕ, true, false, length, slice_get, Some, None, IfSome, [], ◌∷◌, drop};
 ghost use Rattle.std.specs.Option.{option_map};
 ghost use Rattle.pin_pool.specs.Rings.{rings_of, IsLinked};
 ghost use Rattle.pin_pool.specs.Pins.{list_of};
@@ -27,14 +27,11 @@ pub(crate) fn nth_pin(pool: &Pool, gate: u32, position: u32) -> Option<PinNo>
     requires { gate < length pool.now.inputs }
     ensures { option_map (λ p. p.0) result ≡ slice_get (list_of pool.now.inputs gate) position }
 {
-    let mut left = position;
-    for pin in pool.inputs(gate) {
-        if left == 0 {
-            return Some(pin);
-        }
-        left -= 1;
+    let mut pins = pool.inputs_from(gate, position);
+    match pins.next() {
+        Some(pin) => Some(pin),
+        None => None,
     }
-    None
 }
 
 // The least number from `from` on of no live node.
@@ -67,6 +64,20 @@ pub(crate) fn pins_of_gate(pool: &Pool, gate: u32) -> PinIter<'_>
         return pool.inputs(1);
     }
     pool.inputs(gate)
+}
+
+// The same from a position on.
+pub(crate) fn pins_of_gate_from(pool: &Pool, gate: u32, position: u32) -> PinIter<'_>
+    requires one { 1 < length pool.now.inputs }
+    requires gate { gate < length pool.now.inputs }
+    requires none { list_of pool.now.inputs 1 ≡ [] }
+    ensures pins { result ≡ drop position (gate_pins pool.now gate) }
+    ensures few { length result ≤ 4294967295 }
+{
+    if gate == 0 {
+        return pool.inputs(1);
+    }
+    pool.inputs_from(gate, position)
 }
 
 // One more than the last number of a live node.

@@ -1,5 +1,5 @@
 //! Calls that read a graph.
-ghost use Rattle.std.specs.Prelude.{◌≡◌, ◌+◌, ◌<◌, ◌≤◌, ◌↔◌, [], Some, None, IsTrue, true, length, map, slice_get};
+ghost use Rattle.std.specs.Prelude.{◌≡◌, ◌+◌, ◌<◌, ◌≤◌, ◌↔◌, [], Some, None, IsTrue, true, drop, length, map, slice_get};
 ghost use Rattle.std.specs.Option.{option_map};
 ghost use Rattle.pin_pool.specs.Rings.{rings_of, AreRings, IsIn};
 ghost use Rattle.gate_graph.specs.Wirings.{kind_at};
@@ -8,7 +8,7 @@ ghost use Rattle.gate_net.specs.Net.{drivers_of, IsLive, IsObserved};
 
 use crate::driver_iter::Inputs;
 use crate::gate_iter::Readers;
-use crate::pins::{nth_pin, observes, pins_of_gate};
+use crate::pins::{nth_pin, observes, pins_of_gate, pins_of_gate_from};
 use crate::reader_iter::Fanouts;
 use crate::rings::look;
 use crate::state::Graph;
@@ -63,6 +63,21 @@ impl Graph {
     {
         look(&self.pool);
         let pins = pins_of_gate(&self.pool, node.0);
+        Inputs {
+            pins,
+            pool: &self.pool,
+        }
+    }
+
+    /// The drivers of a node, in pin order, from a position on. It takes the time of the pins passed over, which are few
+    /// near the place where an edit removed a pin, if that was the last change.
+    pub fn inputs_from(&self, node: NodeId, position: u32) -> Inputs<'_>
+        requires { IsLive (net_of self.now) node.0 }
+        ensures drivers { result ≡ drop position (drivers_of (net_of self.now) node.0) }
+        ensures few { length result ≤ 4294967295 }
+    {
+        look(&self.pool);
+        let pins = pins_of_gate_from(&self.pool, node.0, position);
         Inputs {
             pins,
             pool: &self.pool,

@@ -1,8 +1,9 @@
 //! Calls of the pool, by node number.
-ghost use Rattle.std.specs.Prelude.{◌≡◌, ◌≢◌, ◌+◌, ◌<◌, ◌≤◌, [], true, false, length, ℕ, map};
+ghost use Rattle.std.specs.Prelude.{◌≡◌, ◌≢◌, ◌+◌, ◌<◌, ◌≤◌, [], true, false, length, ℕ, map, Some, slice_get};
 ghost use Rattle.std.specs.FinSet as set;
 ghost use Rattle.pin_pool.specs.Ring.{has, without};
 ghost use Rattle.pin_pool.specs.Pins.{StandsIn, list_of};
+ghost use Rattle.gate_graph.specs.Circuit.{gate_pins};
 ghost use Rattle.gate_graph.specs.Filled.{IsFilled};
 ghost use Rattle.pin_pool.specs.Rings.{rings_of, linked, dropped, unlinked, relinked, redriven, restored, moved, moved_back, IsIn, IsOut, AreRings, Stood};
 
@@ -65,6 +66,19 @@ pub(crate) fn unlink_pin(pool: &mut Pool, pin: PinNo) -> Slot
 {
     look(pool);
     pool.unlink(pin)
+}
+
+// Does the same for the pin at a position of a gate, near which the next pins are found at once.
+pub(crate) fn unlink_at(pool: &mut Pool, pin: PinNo, gate: u32, position: u32) -> Slot
+    requires { Some pin.0 ≡ slice_get (gate_pins pool.old gate) position }
+    ensures rings { rings_of pool.new ≡ unlinked pin.0 (rings_of pool.old) }
+    ensures stood { Stood (rings_of pool.old) pin.0 result }
+    ensures spare { pool.new.spare ≡ pool.old.spare }
+    ensures nodes { length pool.new.inputs ≡ length pool.old.inputs }
+    ensures taken { pool.new.taken ≡ pool.old.taken }
+{
+    look(pool);
+    pool.unlink_at(pin, gate, position)
 }
 
 pub(crate) fn relink_pin(pool: &mut Pool, pin: PinNo, slot: Slot)

@@ -1,5 +1,5 @@
 //! The pool and its calls.
-ghost use Rattle.std.specs.Prelude.{◌≡◌, ◌≢◌, ◌<◌, ◌≤◌, ◌+◌, ◌↔◌, ℕ, true, false, length, IfOk, IsErr, OnErr, OnOk};
+ghost use Rattle.std.specs.Prelude.{Some, drop, slice_get, ◌≡◌, ◌≢◌, ◌<◌, ◌≤◌, ◌+◌, ◌↔◌, ℕ, true, false, length, IfOk, IsErr, OnErr, OnOk};
 ghost use Rattle.std.specs.FinSet as set;
 ghost use Rattle.pin_pool.specs.Ring.{has};
 ghost use Rattle.pin_pool.specs.Pins.{admitted};
@@ -7,6 +7,7 @@ ghost use Rattle.pin_pool.specs.Rings.{AreRings, CanMoveBack, CanRelink, CanRest
 ghost use Rattle.pin_pool.specs.declared.names.Slot.{Slot};
 ghost use Rattle.pin_pool.specs.declared.names.Splice.{Splice};
 
+use crate::finger::{Finger, skip};
 use crate::names::{Full, PinNo, Slot, Splice};
 use crate::pin_iter::PinIter;
 use crate::store::Store;
@@ -21,6 +22,8 @@ use std::marker::Model;
 #[derive(Drop)]
 pub struct Pool {
     store: Store,
+    // Where `unlink_at` took a pin out last.
+    finger: Option<Finger>,
 }
 
 impl Model for Pool {
@@ -31,11 +34,12 @@ impl Model for Pool {
     ghost coded = { pins_code };
 
     ghost use Rattle.pin_pool.specs.Places.{ArePaired};
+    ghost use Rattle.pin_pool.specs.Pointed.{IsPointed};
     ghost use Rattle.pin_pool.specs.Rings.{rings_of};
 
     ghost view = { λ p. p.store };
 
-    ghost invariant = { λ p. ArePaired (rings_of p.store) };
+    ghost invariant = { λ p. ArePaired (rings_of p.store) × IsPointed p.store p.finger };
 }
 
 impl Pool {
@@ -49,7 +53,10 @@ impl Pool {
     {
         let store = Store::new(alloc);
         store.look();
-        Pool { store }
+        Pool {
+            store,
+            finger: None,
+        }
     }
 
     /// A pool with the same lists and as many pins, in which the pins that aren't linked are free. It takes the
@@ -63,7 +70,10 @@ impl Pool {
     {
         let store = self.store.copy(alloc)?;
         store.look();
-        Ok(Pool { store })
+        Ok(Pool {
+            store,
+            finger: None,
+        })
     }
 
     /// How many pins may be taken before more room is reserved.
@@ -91,6 +101,7 @@ impl Pool {
         ensures refused { OnErr result (self.new ≡ self.old) }
         ensures valid { IsValid self.new }
     {
+        self.finger = None;
         let done = self.store.reserve(pins, nodes);
         self.store.look();
         done
@@ -108,6 +119,7 @@ impl Pool {
         ensures nodes { admitted self.new ≡ admitted self.old }
         ensures valid { IsValid self.new }
     {
+        self.finger = None;
         let pin = self.store.take();
         self.store.look();
         pin
@@ -123,6 +135,7 @@ impl Pool {
         ensures valid { IsValid self.new }
     {
         self.store.look();
+        self.finger = None;
         self.store.give_back(pin);
         self.store.look();
     }
@@ -141,6 +154,7 @@ impl Pool {
         ensures valid { IsValid self.new }
     {
         self.store.look();
+        self.finger = None;
         self.store.link(pin, gate, driver);
         self.store.look();
     }
@@ -159,8 +173,33 @@ impl Pool {
         ensures valid { IsValid self.new }
     {
         self.store.look();
+        self.finger = None;
         let slot = self.store.unlink(pin);
         self.store.look();
+        slot
+    }
+
+    /// Does what `unlink` does, for the pin at a position of a gate, and lets `inputs_from` begin there. It takes the
+    /// time of `unlink`.
+    pub fn unlink_at(&mut self, pin: PinNo, gate: u32, position: u32) -> Slot
+        requires { slice_get ((rings_of self.old).inputs gate) position ≡ Some pin.0 }
+        ensures rings { rings_of self.new ≡ unlinked pin.0 (rings_of self.old) }
+        ensures stood { Stood (rings_of self.old) pin.0 result }
+        ensures back { CanRelink self.new pin.0 result }
+        ensures others { (q : ℕ) → q ≢ pin.0 → IsLinked (rings_of self.old) q → IsLinked (rings_of self.new) q }
+        ensures taken { self.new.taken ≡ self.old.taken }
+        ensures spare { self.new.spare ≡ self.old.spare }
+        ensures nodes { admitted self.new ≡ admitted self.old }
+        ensures was_valid { IsValid self.old }
+        ensures valid { IsValid self.new }
+    {
+        let next = self.store.after(Finger {
+            gate,
+            position,
+            pin,
+        });
+        let slot = self.unlink(pin);
+        self.finger = next;
         slot
     }
 
@@ -177,6 +216,7 @@ impl Pool {
         ensures valid { IsValid self.new }
     {
         self.store.look();
+        self.finger = None;
         self.store.relink(pin, slot);
         self.store.look();
     }
@@ -196,6 +236,7 @@ impl Pool {
         ensures valid { IsValid self.new }
     {
         self.store.look();
+        self.finger = None;
         let slot = self.store.move_to_driver(pin, driver);
         self.store.look();
         slot
@@ -213,6 +254,7 @@ impl Pool {
         ensures valid { IsValid self.new }
     {
         self.store.look();
+        self.finger = None;
         self.store.restore_driver(pin, slot);
         self.store.look();
     }
@@ -231,6 +273,7 @@ impl Pool {
         ensures valid { IsValid self.new }
     {
         self.store.look();
+        self.finger = None;
         let splice = self.store.move_all(from, to);
         self.store.look();
         splice
@@ -248,6 +291,7 @@ impl Pool {
         ensures valid { IsValid self.new }
     {
         self.store.look();
+        self.finger = None;
         self.store.move_back(splice);
         self.store.look();
     }
@@ -261,6 +305,26 @@ impl Pool {
     {
         self.store.look();
         self.store.inputs(gate)
+    }
+
+    /// The pins whose gate is the node, in order, from a position on. It takes the time of the pins before it, or of
+    /// those since the position at which `unlink_at` took a pin out, if that was the last change.
+    pub fn inputs_from(&self, gate: u32, position: u32) -> PinIter<'_>
+        requires { gate < admitted self.now }
+        ensures list { result ≡ drop position ((rings_of self.now).inputs gate) }
+        ensures few { length result ≤ 4294967295 }
+        ensures valid { IsValid self.now }
+    {
+        self.store.look();
+        if let Some(finger) = self.finger {
+            if finger.gate == gate {
+                if finger.position <= position {
+                    let rest = self.store.inputs_from(finger);
+                    return skip(rest, position - finger.position);
+                }
+            }
+        }
+        skip(self.store.inputs(gate), position)
     }
 
     /// The pins whose driver is the node, in order.

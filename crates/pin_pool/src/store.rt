@@ -1,10 +1,12 @@
 //! The records of all pins, with the free ones among them.
-ghost use Rattle.std.specs.Prelude.{take, drop, ◌∷◌, ◌++◌, [], true, false, ◌≡◌, ◌≢◌, ◌<◌, ◌≤◌, ◌+◌, ◌-◌, ◌↔◌, ℕ, length, IfOk, IsErr, OnErr, OnOk};
+ghost use Rattle.std.specs.Prelude.{IfSome, Some, slice_get, take, drop, ◌∷◌, ◌++◌, [], true, false, ◌≡◌, ◌≢◌, ◌<◌, ◌≤◌, ◌+◌, ◌-◌, ◌↔◌, ℕ, length, IfOk, IsErr, OnErr, OnOk};
 ghost use Rattle.std.specs.FinSet as set;
 ghost use Rattle.pin_pool.specs.Ring.{has, without_pin};
 ghost use Rattle.pin_pool.specs.Pins.{list_of};
+ghost use Rattle.pin_pool.specs.Pointed.{IsThere};
 ghost use Rattle.pin_pool.specs.Places.{GrowsTo, HasDriver, HasPlace, IsFree, IsHeld, IsKept, IsPlace, code as code_of, moved_after, moved_last, named as name_of, put_at, with_list};
 
+use crate::finger::Finger;
 use crate::links::{Ends, NONE, Pin, Side, move_after, move_all, move_back, move_last};
 use crate::names::{Full, PinNo, Slot, Splice};
 use crate::pin_iter::PinIter;
@@ -254,6 +256,37 @@ impl Store {
             at: self.gates[gate as usize].first,
             left: self.pins.len(),
         }
+    }
+
+    // The inputs of a gate from a pin on.
+    pub(crate) fn inputs_from(&self, at: Finger) -> PinIter<'_>
+        requires { IsThere self.now at }
+        ensures list { result ≡ drop at.position (list_of self.now.inputs at.gate) }
+        ensures few { length result ≤ 4294967295 }
+    {
+        PinIter {
+            pins: &self.pins,
+            side: Side::Gate,
+            at: at.pin.0,
+            left: self.pins.len(),
+        }
+    }
+
+    // The place of a pin, once this one is taken out, of the pin after it.
+    pub(crate) fn after(&self, at: Finger) -> Option<Finger>
+        requires { IsThere self.now at }
+        ensures { IfSome result (λ f. (f.gate ≡ at.gate) × ((f.position ≡ at.position) × (slice_get (list_of self.now.inputs at.gate) (at.position + 1) ≡ Some f.pin.0))) }
+    {
+        let mut pins = self.inputs_from(at);
+        let _ = pins.next();
+        let Some(pin) = pins.next() else {
+            return None;
+        };
+        Some(Finger {
+            gate: at.gate,
+            position: at.position,
+            pin,
+        })
     }
 
     pub(crate) fn fanouts(&self, driver: u32) -> PinIter<'_>

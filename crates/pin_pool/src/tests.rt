@@ -1,5 +1,5 @@
 //! A script of calls, with every list compared after every call.
-ghost use Rattle.std.specs.Prelude.{◌≡◌, ◌≤◌, ◌<◌, ◌+◌, ℕ, IfSome};
+ghost use Rattle.std.specs.Prelude.{◌≡◌, ◌≤◌, ◌<◌, ◌+◌, ℕ, IfSome, Some, slice_get};
 ghost use Rattle.std.specs.FinSet as set;
 ghost use Rattle.pin_pool.specs.Pins.{admitted};
 ghost use Rattle.pin_pool.specs.Rings.{IsLinked, rings_of};
@@ -15,7 +15,7 @@ const NODES: u32 = 5;
 enum Step {
     // take, link
     Add(u32, u32),
-    // unlink, give_back
+    // unlink_at, give_back
     Drop(u32, u32),
     // unlink, reserve, relink
     Again(u32, u32, u32),
@@ -29,7 +29,7 @@ enum Step {
     Back(u32, u32, u32),
 }
 
-const SCRIPT: [Step; 46] = [
+const SCRIPT: [Step; 57] = [
     Step::Again(0, 0, 6),
     Step::Add(0, 1),
     Step::Add(0, 2),
@@ -76,6 +76,17 @@ const SCRIPT: [Step; 46] = [
     Step::Again(2, 1, 13),
     Step::Drop(2, 2),
     Step::Drop(2, 0),
+    Step::Add(4, 1),
+    Step::Add(4, 2),
+    Step::Add(4, 1),
+    Step::Drop(4, 1),
+    Step::Drop(4, 1),
+    Step::Drop(4, 0),
+    Step::Add(4, 3),
+    Step::Add(4, 0),
+    Step::Drop(4, 0),
+    Step::Drop(4, 1),
+    Step::Drop(4, 0),
 ];
 
 #[derive(Drop)]
@@ -84,8 +95,9 @@ struct Plain {
     fanouts: Lists,
 }
 
-fn equal(pins: PinIter<'_>, list: &[u32]) -> bool {
-    let mut at = 0;
+// Whether the pins are those of the list from a place on.
+fn equal(pins: PinIter<'_>, list: &[u32], from: usize) -> bool {
+    let mut at = from.min(list.len());
     for pin in pins {
         if at >= list.len() {
             return false;
@@ -103,11 +115,20 @@ fn same(pool: &Pool, plain: &Plain) -> bool
     requires { NODES ≤ admitted pool.now }
 {
     for node in 0..NODES {
-        if !equal(pool.inputs(node), plain.inputs.node(node)) {
+        if !equal(pool.inputs(node), plain.inputs.node(node), 0) {
             return false;
         }
-        if !equal(pool.fanouts(node), plain.fanouts.node(node)) {
+        if !equal(pool.fanouts(node), plain.fanouts.node(node), 0) {
             return false;
+        }
+        for from in 0..5 {
+            if !equal(
+                pool.inputs_from(node, from),
+                plain.inputs.node(node),
+                from as usize,
+            ) {
+                return false;
+            }
         }
     }
     true
@@ -116,16 +137,14 @@ fn same(pool: &Pool, plain: &Plain) -> bool
 // The pin at a position of a gate.
 fn input(pool: &Pool, gate: u32, position: u32) -> Option<PinNo>
     requires { gate < admitted pool.now }
-    ensures { IfSome result (λ pin. IsLinked (rings_of pool.now) pin.0) }
+    ensures there { IfSome result (λ pin. slice_get ((rings_of pool.now).inputs gate) position ≡ Some pin.0) }
+    ensures linked { IfSome result (λ pin. IsLinked (rings_of pool.now) pin.0) }
 {
-    let mut left = position;
-    for pin in pool.inputs(gate) {
-        if left == 0 {
-            return Some(pin);
-        }
-        left -= 1;
+    let mut pins = pool.inputs_from(gate, position);
+    match pins.next() {
+        Some(pin) => Some(pin),
+        None => None,
     }
-    None
 }
 
 fn add(pool: &mut Pool, plain: &mut Plain, gate: u32, driver: u32) -> Result<bool, AllocError>
@@ -155,7 +174,7 @@ fn drop_input(pool: &mut Pool, plain: &mut Plain, gate: u32, position: u32) -> b
         return false;
     };
     let spare = pool.spare();
-    let _slot = pool.unlink(pin);
+    let _slot = pool.unlink_at(pin, gate, position);
     plain.inputs.remove(pin.0);
     plain.fanouts.remove(pin.0);
     let unlinked = same(pool, plain);

@@ -1,7 +1,6 @@
 -- A trial goes back to its start, and starts again from where it is.
 use Rattle.std.proofs.Common.{◌≡◌, ℕ, zero, suc, ◌+◌, ◌-◌, ◌<◌, ◌≤◌, Bool, true, false, inl, inr, Option, Some, None, List, [], ◌∷◌, ◌++◌, length, refl, sym, ◌∙◌, ap, subst, arith, min, length-append}
 use Rattle.std.proofs.lemmas.Bool.{both_ways, cases_lt}
-use Rattle.std.specs.Prelude.{IfSome}
 use Rattle.std.specs.Cmp.{nat_cmp_total}
 use Rattle.std.specs.FinSet.{same_set, len, nat_cmp-IsAntisymmetric}
 use Rattle.gate_net.specs.declared.Kind.{Kind}
@@ -21,10 +20,12 @@ use Rattle.wire_edit.specs.Changes.{Change, append, remove, fix, readers, new_no
 use Rattle.wire_edit.specs.Order.{rule_at, IsTidy}
 use Rattle.wire_edit.specs.Edited.{edit_of}
 use Rattle.wire_edit.specs.Marked.{is_marked, IsQuiet}
-use Rattle.wire_edit.specs.Firsts.{ReadsNoConstant}
+use Rattle.wire_edit.specs.declared.kept.Kept.{Kept}
+use Rattle.wire_edit.specs.Known.{IsFresh, IsKept}
 use Rattle.wire_edit.specs.Tried.{StepList}
 use Rattle.wire_edit.specs.Trials.{IsTrial, IsReady, IsStart, GoesBack}
 use Rattle.wire_edit.proofs.Ordering.{gate_below}
+use Rattle.wire_edit.proofs.KnownPins.{fresh_kept}
 use Rattle.wire_edit.proofs.RuleAt.{no_rule}
 use Rattle.wire_edit.proofs.Trying.{tidy_rules, next_none}
 use Rattle.wire_edit.proofs.TrialSteps.{entries_are}
@@ -134,35 +135,33 @@ kept_trial v w trail after room steps marks agenda t net back none given within 
 
 -- WHAT HOLDS OF A TRIAL
 -- as a record of the lists of steps, so that each call tells it of its own
-abbrev Holds : Circuit → Trail → ℕ → ℕ → StepList → ℕ → ℕ → List Bool → Option ℕ → Room → Bool → Type 0
-Holds w trail pins nodes made marks seen agenda plain first tidy =
-    IsTrial w trail (record { pins = pins; nodes = nodes; steps = made.spare }) marks agenda × IsReady w trail made.steps made.spare marks seen plain first tidy
+abbrev Holds : Circuit → Trail → ℕ → ℕ → StepList → ℕ → ℕ → List Bool → Kept → Room → Bool → Type 0
+Holds w trail pins nodes made marks seen agenda kept first tidy =
+    IsTrial w trail (record { pins = pins; nodes = nodes; steps = made.spare }) marks agenda × IsReady w trail made.steps made.spare marks seen kept first tidy
 
-new_holds : SameWiring → (w : Circuit) (trail : Trail) (room : Room) (marks seen : ℕ) (agenda : List Bool) (plain : Option ℕ) (tidy : Bool) → IsTrial w trail room marks agenda → trail.entries ≡ [] → marks ≤ seen → IfSome plain (ReadsNoConstant (net_of w)) → live_nodes w ≡ 2 + source_count (net_of w) + gate_count (net_of w) → (tidy ≡ true → IsTidy (net_of w)) → IsTrial w trail room marks agenda × IsReady w trail [] room.steps marks seen plain room tidy
-new_holds same w trail room marks seen agenda plain tidy t none suffices reads live known =
-    (t, record { begun = (λ _. refl, λ _. none); seen_suffices = suffices; plain_reads = reads; goes_back = starts_here same w trail room marks agenda tidy t none live known })
+new_holds : SameWiring → (w : Circuit) (trail : Trail) (room : Room) (marks seen : ℕ) (agenda : List Bool) (kept : Kept) (tidy : Bool) → IsTrial w trail room marks agenda → trail.entries ≡ [] → marks ≤ seen → marks ≤ length kept.marks.items → IsKept (net_of w) kept → live_nodes w ≡ 2 + source_count (net_of w) + gate_count (net_of w) → (tidy ≡ true → IsTidy (net_of w)) → IsTrial w trail room marks agenda × IsReady w trail [] room.steps marks seen kept room tidy
+new_holds same w trail room marks seen agenda kept tidy t none suffices kept_suffices is_kept live known =
+    (t, record { begun = (λ _. refl, λ _. none); seen_suffices = suffices; kept_suffices = kept_suffices; known = is_kept; goes_back = starts_here same w trail room marks agenda tidy t none live known })
 
-pub over_holds : SameWiring → (v w : Circuit) (trail : Trail) (room : Room) (made : StepList) (marks seen : ℕ) (agenda : List Bool) (tidy : Bool) → IsTrial w trail room marks agenda → made ≡ record { steps = []; spare = room.steps } → trail.entries ≡ [] → marks ≤ seen → live_nodes w ≡ 2 + source_count (net_of w) + gate_count (net_of w) → net_of w ≡ net_of v → (tidy ≡ true → IsTidy (net_of v)) → Holds w trail room.pins room.nodes made marks seen agenda None room tidy
-over_holds same v w trail room made marks seen agenda tidy t is none suffices live net known =
-    subst (λ (m : StepList). Holds w trail room.pins room.nodes m marks seen agenda None room tidy) (sym is)
-    (new_holds same w trail room marks seen agenda None tidy t none suffices tt live (λ b. subst IsTidy (sym net) (known b)))
+pub over_holds : SameWiring → (v w : Circuit) (trail : Trail) (room : Room) (made : StepList) (marks seen : ℕ) (agenda : List Bool) (kept : Kept) (tidy : Bool) → IsTrial w trail room marks agenda → made ≡ record { steps = []; spare = room.steps } → trail.entries ≡ [] → marks ≤ seen → marks ≤ length kept.marks.items → IsFresh kept → live_nodes w ≡ 2 + source_count (net_of w) + gate_count (net_of w) → net_of w ≡ net_of v → (tidy ≡ true → IsTidy (net_of v)) → Holds w trail room.pins room.nodes made marks seen agenda kept room tidy
+over_holds same v w trail room made marks seen agenda kept tidy t is none suffices kept_suffices fresh live net known =
+    subst (λ (m : StepList). Holds w trail room.pins room.nodes m marks seen agenda kept room tidy) (sym is)
+    (new_holds same w trail room marks seen agenda kept tidy t none suffices kept_suffices (fresh_kept (net_of w) kept fresh) live (λ b. subst IsTidy (sym net) (known b)))
 
-pub back_holds : SameWiring → (v w : Circuit) (trail after : Trail) (steps : List Step) (spare : ℕ) (room first : Room) (marks seen : ℕ) (agenda next : List Bool) (plain : Option ℕ) (tidy : Bool) (made : StepList) → IsTrial v trail room marks agenda → IsReady v trail steps spare marks seen plain first tidy → wiring w ≡ back_to (wiring v) trail.entries → CanGoBack (wiring w) [] → after.entries ≡ [] → after.spare ≡ trail.spare + length trail.entries → free_pins w + pins_taken w ≡ free_pins v + pins_taken v → length w.kinds ≡ length v.kinds → live_nodes w ≡ 2 + source_count (net_of w) + gate_count (net_of w) → length (net_of w).nodes ≤ 4294967295 → length next ≡ length agenda → (tidy ≡ false → (k : ℕ) → k < length next → is_marked next k ≡ true) → made ≡ record { steps = []; spare = spare + length steps } → Holds w after first.pins first.nodes made marks seen next None first tidy
-back_holds same v w trail after steps spare room first marks seen agenda next plain tidy made t r is back none given sum kinds live few long all made_is =
-    subst (λ (m : StepList). Holds w after first.pins first.nodes m marks seen next None first tidy) (sym made_is)
-    (subst (λ (n : ℕ). Holds w after first.pins first.nodes (record { steps = []; spare = n }) marks seen next None first tidy) (sym r.goes_back.steps_left)
-    (new_holds same w after first marks seen next None tidy (taken_back_trial v w trail after steps spare room first marks agenda next tidy r.goes_back t is back none given sum kinds live few long all) none r.seen_suffices tt live
+pub back_holds : SameWiring → (v w : Circuit) (trail after : Trail) (steps : List Step) (spare : ℕ) (room first : Room) (marks seen : ℕ) (agenda next : List Bool) (kept forgotten : Kept) (tidy : Bool) (made : StepList) → IsTrial v trail room marks agenda → IsReady v trail steps spare marks seen kept first tidy → IsFresh forgotten → length forgotten.marks.items ≡ length kept.marks.items → wiring w ≡ back_to (wiring v) trail.entries → CanGoBack (wiring w) [] → after.entries ≡ [] → after.spare ≡ trail.spare + length trail.entries → free_pins w + pins_taken w ≡ free_pins v + pins_taken v → length w.kinds ≡ length v.kinds → live_nodes w ≡ 2 + source_count (net_of w) + gate_count (net_of w) → length (net_of w).nodes ≤ 4294967295 → length next ≡ length agenda → (tidy ≡ false → (k : ℕ) → k < length next → is_marked next k ≡ true) → made ≡ record { steps = []; spare = spare + length steps } → Holds w after first.pins first.nodes made marks seen next forgotten first tidy
+back_holds same v w trail after steps spare room first marks seen agenda next kept forgotten tidy made t r fresh size is back none given sum kinds live few long all made_is =
+    subst (λ (m : StepList). Holds w after first.pins first.nodes m marks seen next forgotten first tidy) (sym made_is)
+    (subst (λ (n : ℕ). Holds w after first.pins first.nodes (record { steps = []; spare = n }) marks seen next forgotten first tidy) (sym r.goes_back.steps_left)
+    (new_holds same w after first marks seen next forgotten tidy (taken_back_trial v w trail after steps spare room first marks agenda next tidy r.goes_back t is back none given sum kinds live few long all) none r.seen_suffices
+    (omega (arith, r.kept_suffices, size)) (fresh_kept (net_of w) forgotten fresh) live
     (λ b. (r.goes_back.at_start w is).is_tidy b)))
 
-pub kept_holds : SameWiring → (v w : Circuit) (trail after : Trail) (room first : Room) (marks seen : ℕ) (agenda next : List Bool) (plain : Option ℕ) (tidy known : Bool) (steps : List Step) (made : StepList) (left : ℕ) → IsTrial v trail room marks agenda → IsReady v trail steps room.steps marks seen plain first tidy → net_of w ≡ net_of v → CanGoBack (wiring w) [] → after.entries ≡ [] → after.spare ≡ trail.spare + length trail.entries → free_pins w ≡ free_pins v + length (held trail.entries) → free_nodes w ≡ free_nodes v → live_nodes w ≡ 2 + source_count (net_of w) + gate_count (net_of w) → next ≡ agenda → (known ≡ true → (k : ℕ) → is_marked next k ≡ false) → (n : ℕ) → n ≤ length steps → made ≡ record { steps = []; spare = room.steps + n } → left ≡ made.spare → Holds w after room.pins room.nodes made marks seen next plain (record { pins = room.pins; nodes = room.nodes; steps = left }) known
-kept_holds same v w trail after room first marks seen agenda next plain tidy known steps made left t r net back none given pins nodes live agenda_is unmarked n few made_is left_is =
-    subst (λ (m : StepList). Holds w after room.pins room.nodes m marks seen next plain (record { pins = room.pins; nodes = room.nodes; steps = left }) known) (sym made_is)
-    (subst (λ (l : ℕ). Holds w after room.pins room.nodes (record { steps = []; spare = room.steps + n }) marks seen next plain (record { pins = room.pins; nodes = room.nodes; steps = l }) known) (sym (left_is ∙ ap (λ (m : StepList). m.spare) made_is))
-    (subst (λ (bs : List Bool). Holds w after room.pins room.nodes (record { steps = []; spare = room.steps + n }) marks seen bs plain (record { pins = room.pins; nodes = room.nodes; steps = room.steps + n }) known) (sym agenda_is)
-    (new_holds same w after (record room { steps = room.steps + n }) marks seen agenda plain known
+pub kept_holds : SameWiring → (v w : Circuit) (trail after : Trail) (room first : Room) (marks seen : ℕ) (agenda next : List Bool) (kept : Kept) (tidy known : Bool) (steps : List Step) (made : StepList) (left : ℕ) → IsTrial v trail room marks agenda → IsReady v trail steps room.steps marks seen kept first tidy → net_of w ≡ net_of v → CanGoBack (wiring w) [] → after.entries ≡ [] → after.spare ≡ trail.spare + length trail.entries → free_pins w ≡ free_pins v + length (held trail.entries) → free_nodes w ≡ free_nodes v → live_nodes w ≡ 2 + source_count (net_of w) + gate_count (net_of w) → next ≡ agenda → (known ≡ true → (k : ℕ) → is_marked next k ≡ false) → (n : ℕ) → n ≤ length steps → made ≡ record { steps = []; spare = room.steps + n } → left ≡ made.spare → Holds w after room.pins room.nodes made marks seen next kept (record { pins = room.pins; nodes = room.nodes; steps = left }) known
+kept_holds same v w trail after room first marks seen agenda next kept tidy known steps made left t r net back none given pins nodes live agenda_is unmarked n few made_is left_is =
+    subst (λ (m : StepList). Holds w after room.pins room.nodes m marks seen next kept (record { pins = room.pins; nodes = room.nodes; steps = left }) known) (sym made_is)
+    (subst (λ (l : ℕ). Holds w after room.pins room.nodes (record { steps = []; spare = room.steps + n }) marks seen next kept (record { pins = room.pins; nodes = room.nodes; steps = l }) known) (sym (left_is ∙ ap (λ (m : StepList). m.spare) made_is))
+    (subst (λ (bs : List Bool). Holds w after room.pins room.nodes (record { steps = []; spare = room.steps + n }) marks seen bs kept (record { pins = room.pins; nodes = room.nodes; steps = room.steps + n }) known) (sym agenda_is)
+    (new_holds same w after (record room { steps = room.steps + n }) marks seen agenda kept known
     (kept_trial v w trail after room (room.steps + n) marks agenda t net back none given (omega (arith, few, r.goes_back.made)) (omega (arith, pins)) nodes)
-    none r.seen_suffices (reads plain r.plain_reads) live
+    none r.seen_suffices r.kept_suffices (subst (λ (m : Net). IsKept m kept) (sym net) r.known) live
     (λ b. subst IsTidy (sym net) (next_none (net_of v) agenda t.quiet (λ k. ap (λ (bs : List Bool). is_marked bs k) (sym agenda_is) ∙ unmarked b k))))))
-  where
-    reads : (o : Option ℕ) → IfSome o (ReadsNoConstant (net_of v)) → IfSome o (ReadsNoConstant (net_of w))
-    reads o h = subst (λ (m : Net). IfSome o (ReadsNoConstant m)) (sym net) h

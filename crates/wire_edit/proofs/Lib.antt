@@ -36,5 +36,6 @@ pub mod Calling
 pub mod FreePins
 pub mod Falling
 pub mod Unrefused
+pub mod KnownPins
 pub mod LiveNodes
 pub mod GoingBack

@@ -104,7 +104,7 @@ pub record NoRules (net : Net) (gate : ℕ) : Type 0 where
   pub no_twin : (other : ℕ) → rule_applies net (Twin (node gate) (node other)) ≡ false
   pub no_dead : rule_applies net (Dead (node gate)) ≡ false
 
-const_within : (net : Net) (gate p : ℕ) → rule_applies net (Const (node gate) p) ≡ true → p < length (drivers_of net gate)
+pub const_within : (net : Net) (gate p : ℕ) → rule_applies net (Const (node gate) p) ≡ true → p < length (drivers_of net gate)
 const_within net gate p e =
     let a : (is_gate net gate ≡ true) × _ = and_both (is_gate net gate) _ e in
     let b : (is_in_use net gate ≡ true) × _ = and_both (is_in_use net gate) _ a.1 in
@@ -161,32 +161,44 @@ rules_none net gate r =
     rest : {o p : Option Step} → o ≡ None → p ≡ None → or_else o p ≡ None
     rest {o} {p} e f = ap (λ o. or_else o p) e ∙ f
 
+-- the gate of a tidying step
+abbrev pub gate_of_step : Step → Option ℕ
+gate_of_step (Const gate position) = Some gate.0
+gate_of_step (Same gate position) = Some gate.0
+gate_of_step (NoPins gate) = Some gate.0
+gate_of_step (OnePin gate) = Some gate.0
+gate_of_step (Twice gate) = Some gate.0
+gate_of_step (Twin gate other) = Some gate.0
+gate_of_step (Dead gate) = Some gate.0
+gate_of_step _ = None
+
 -- the rule at a gate is one of its own and applies
 pub record IsRuleAt (net : Net) (gate : ℕ) (step : Step) : Type 0 where
   pub tidying : IsTidying step
   pub applies : rule_applies net step ≡ true
+  pub own : gate_of_step step ≡ Some gate
 
-rule_is : (net : Net) (gate : ℕ) (rule step : Step) → IsTidying rule → where_met net rule ≡ Some step → IsRuleAt net gate step
-rule_is net gate rule step t e =
+rule_is : (net : Net) (gate : ℕ) (rule step : Step) → IsTidying rule → gate_of_step rule ≡ Some gate → where_met net rule ≡ Some step → IsRuleAt net gate step
+rule_is net gate rule step t own e =
     let m : (rule_applies net rule ≡ true) × (rule ≡ step) = met_some net rule step e in
-    record { tidying = rw m.1 at t; applies = rw m.1 at m.0 }
+    record { tidying = rw m.1 at t; applies = rw m.1 at m.0; own = ap gate_of_step (sym m.1) ∙ own }
 
 pub some_rule : (net : Net) (gate : ℕ) (step : Step) → rule_at net gate ≡ Some step → IsRuleAt net gate step
 unfolding rule_at
 some_rule net gate step e = elim (or_some (first_from (consts net gate) 0 (length (drivers_of net gate))) _ step e) [
-  | inl here ↦ let k : (k : ℕ) × ((0 ≤ k) × (_ × ((consts net gate k ≡ Some step) × _))) = from_some (consts net gate) 0 (length (drivers_of net gate)) step here in rule_is net gate (Const (node gate) k.0) step tt k.1.1.1.0
+  | inl here ↦ let k : (k : ℕ) × ((0 ≤ k) × (_ × ((consts net gate k ≡ Some step) × _))) = from_some (consts net gate) 0 (length (drivers_of net gate)) step here in rule_is net gate (Const (node gate) k.0) step tt refl k.1.1.1.0
   | inr a ↦ elim (or_some (first_from (sames net gate) 0 (length (drivers_of net gate))) _ step a.1) [
-    | inl here ↦ let k : (k : ℕ) × ((0 ≤ k) × (_ × ((sames net gate k ≡ Some step) × _))) = from_some (sames net gate) 0 (length (drivers_of net gate)) step here in rule_is net gate (Same (node gate) k.0) step tt k.1.1.1.0
+    | inl here ↦ let k : (k : ℕ) × ((0 ≤ k) × (_ × ((sames net gate k ≡ Some step) × _))) = from_some (sames net gate) 0 (length (drivers_of net gate)) step here in rule_is net gate (Same (node gate) k.0) step tt refl k.1.1.1.0
     | inr b ↦ elim (or_some (where_met net (NoPins (node gate))) _ step b.1) [
-      | inl here ↦ rule_is net gate (NoPins (node gate)) step tt here
+      | inl here ↦ rule_is net gate (NoPins (node gate)) step tt refl here
       | inr c ↦ elim (or_some (where_met net (OnePin (node gate))) _ step c.1) [
-        | inl here ↦ rule_is net gate (OnePin (node gate)) step tt here
+        | inl here ↦ rule_is net gate (OnePin (node gate)) step tt refl here
         | inr d ↦ elim (or_some (where_met net (Twice (node gate))) _ step d.1) [
-          | inl here ↦ rule_is net gate (Twice (node gate)) step tt here
+          | inl here ↦ rule_is net gate (Twice (node gate)) step tt refl here
           | inr f ↦ elim (or_some (first_from (twins net gate) 0 gate) _ step f.1) [
-            | inl here ↦ let k : (k : ℕ) × ((0 ≤ k) × (_ × ((twins net gate k ≡ Some step) × _))) = from_some (twins net gate) 0 gate step here in rule_is net gate (Twin (node gate) (node k.0)) step tt k.1.1.1.0
+            | inl here ↦ let k : (k : ℕ) × ((0 ≤ k) × (_ × ((twins net gate k ≡ Some step) × _))) = from_some (twins net gate) 0 gate step here in rule_is net gate (Twin (node gate) (node k.0)) step tt refl k.1.1.1.0
             | inr g ↦ elim (or_some (where_met net (Dead (node gate))) _ step g.1) [
-              | inl here ↦ rule_is net gate (Dead (node gate)) step tt here
+              | inl here ↦ rule_is net gate (Dead (node gate)) step tt refl here
               | inr h ↦ cc
             ]
           ]

@@ -8,14 +8,11 @@ use Rattle.gate_net.proofs.Bools.{not_true}
 use Rattle.gate_graph.specs.Search.{AreBelow}
 use Rattle.wire_edit.specs.Tests.{is_among}
 use Rattle.wire_edit.specs.Marked.{is_marked}
+use Rattle.wire_edit.specs.Known.{MarksFirst}
 use Rattle.wire_edit.proofs.Marking.{set_marked, set_other_mark}
 use Rattle.wire_edit.proofs.Conditions.{driver_live}
 use Rattle.wire_edit.proofs.Ordering.{live_below}
 use Rattle.wire_edit.proofs.Walks.{next_place}
-
--- exactly the first drivers are marked
-abbrev pub MarksFirst : List ℕ → ℕ → List Bool → Type 0
-MarksFirst ds n marks = (x : ℕ) → is_marked marks x ≡ is_among x (take n ds)
 
 among_push : (x d : ℕ) (xs : List ℕ) → is_among x (xs ++ d ∷ []) ≡ (is_among x xs || nat_eq d x)
 among_push x d [] = or_false (nat_eq d x)

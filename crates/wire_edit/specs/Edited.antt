@@ -17,3 +17,7 @@ edit_of (retire gate) = Retire (node gate)
 abbrev pub IsNewNot : Change → Type 0
 IsNewNot (new_not driver) = Unit {0}
 IsNewNot _ = ⊥
+
+abbrev pub TakesOut : Change → Type 0
+TakesOut (remove gate position) = Unit {0}
+TakesOut _ = ⊥

@@ -2,7 +2,7 @@
 use Rattle.std.specs.Prelude.{◌≡◌, ℕ, ◌<◌, Bool, true, false, ◌&&◌, Option, Some, None}
 use Rattle.gate_net.specs.Net.{Net}
 use Rattle.wire_edit.specs.declared.steps.Step.{Step}
-use Rattle.wire_edit.specs.declared.steps.Step.TheVariants.{Same}
+use Rattle.wire_edit.specs.declared.steps.Step.TheVariants.{Const, Same}
 use Rattle.wire_edit.specs.Tests.{is_present, is_not, constant_at, driver_at}
 use Rattle.wire_edit.specs.Steps.{same_some}
 
@@ -18,9 +18,10 @@ reads_constant net gate position = is_present (constant_at net gate position)
 abbrev pub ReadsNoConstant : Net → ℕ → Type 0
 ReadsNoConstant net gate = (position : ℕ) → reads_constant net gate position ≡ false
 
--- the gate of a `Same` reads no constant
+-- the gate of a `Same` reads no constant, and that of a `Const` none before its position
 abbrev pub IsPlainAfter : Net → Step → Type 0
 IsPlainAfter net (Same gate position) = ReadsNoConstant net gate.0
+IsPlainAfter net (Const gate position) = (k : ℕ) → k < position → reads_constant net gate.0 k ≡ false
 IsPlainAfter net _ = Unit {0}
 
 -- a Not with the driver of that Not

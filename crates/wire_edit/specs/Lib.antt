@@ -17,3 +17,4 @@ pub mod Tidying
 pub mod Removals
 pub mod Rooms
 pub mod Sizes
+pub mod Known

@@ -1,12 +1,13 @@
 -- What holds of every trial.
-use Rattle.std.specs.Prelude.{◌≡◌, ◌≤◌, ◌+◌, ◌↔◌, ℕ, List, [], Bool, true, Option, IfSome, length, min}
+use Rattle.std.specs.Prelude.{◌≡◌, ◌≤◌, ◌+◌, ◌↔◌, ℕ, List, [], Bool, true, length, min}
 use Rattle.gate_net.specs.Net.{wire_count, source_count, gate_count}
 use Rattle.gate_graph.specs.Circuit.{Circuit, wiring, net_of, free_pins, free_nodes, pins_taken}
 use Rattle.gate_graph.specs.Entries.{CanGoBack, AreWithin, back_to}
 use Rattle.gate_graph.specs.Trail.{Trail}
 use Rattle.wire_edit.specs.declared.room.Room.{Room}
 use Rattle.wire_edit.specs.declared.steps.Step.{Step}
-use Rattle.wire_edit.specs.Firsts.{ReadsNoConstant}
+use Rattle.wire_edit.specs.declared.kept.Kept.{Kept}
+use Rattle.wire_edit.specs.Known.{IsKept}
 use Rattle.wire_edit.specs.Order.{IsTidy}
 use Rattle.wire_edit.specs.Marked.{IsQuiet}
 
@@ -35,9 +36,10 @@ pub record GoesBack (graph : Circuit) (trail : Trail) (steps : List Step) (spare
   pub made : length steps ≤ length trail.entries
   pub at_start : (start : Circuit) → wiring start ≡ back_to (wiring graph) trail.entries → IsStart start graph trail first marks tidy
 
--- there is an entry exactly where a step was made; marks for drivers suffice as the others do; the gate that is known as plain reads no constant; the trial can go back
-pub record IsReady (graph : Circuit) (trail : Trail) (steps : List Step) (spare : ℕ) (marks seen : ℕ) (plain : Option ℕ) (first : Room) (tidy : Bool) : Type 0 where
+-- there is an entry exactly where a step was made; marks for drivers suffice as the others do; what is known of a gate holds; the trial can go back
+pub record IsReady (graph : Circuit) (trail : Trail) (steps : List Step) (spare : ℕ) (marks seen : ℕ) (kept : Kept) (first : Room) (tidy : Bool) : Type 0 where
   pub begun : (trail.entries ≡ []) ↔ (steps ≡ [])
   pub seen_suffices : marks ≤ seen
-  pub plain_reads : IfSome plain (ReadsNoConstant (net_of graph))
+  pub kept_suffices : marks ≤ length kept.marks.items
+  pub known : IsKept (net_of graph) kept
   pub goes_back : GoesBack graph trail steps spare first marks tidy

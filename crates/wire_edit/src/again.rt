@@ -23,6 +23,8 @@ impl Trial {
         ensures first { self.new.first ≡ self.old.first }
         ensures held { pins_held self.new.graph + length (held self.old.trail.entries) ≡ pins_held self.old.graph }
     {
+        self.graph.well_formed();
+        self.kept.forget(&self.graph);
         self.graph.undo(&mut self.undos);
         self.graph.well_formed();
         self.graph.leads_back();
@@ -30,7 +32,6 @@ impl Trial {
         self.made.give_back();
         self.pins = self.first.pins;
         self.nodes = self.first.nodes;
-        self.plain = None;
         if self.tidy {
             self.agenda.clear_recent();
         } else {

@@ -9,6 +9,7 @@ mod budget;
 mod counts;
 mod edits;
 mod faults;
+mod kept;
 mod laws;
 mod looks;
 mod made;

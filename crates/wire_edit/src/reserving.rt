@@ -1,12 +1,14 @@
 //! What a trial reserves.
-ghost use Rattle.std.specs.Prelude.{◌≡◌, ◌≤◌, ◌+◌, [], true, IfOk, IfSome};
+ghost use Rattle.std.specs.Prelude.{◌≡◌, ◌≤◌, ◌+◌, [], true, length, IfOk, IfSome};
 ghost use Rattle.gate_graph.specs.Circuit.{wiring, net_of, pins_taken, live_nodes};
 ghost use Rattle.gate_graph.specs.Holds.{pins_held};
 ghost use Rattle.gate_graph.specs.Readers.{SameReaders};
 ghost use Rattle.wire_edit.specs.Order.{IsTidy};
+ghost use Rattle.wire_edit.specs.Known.{IsFresh};
 ghost use Rattle.wire_edit.specs.Trials.{IsTrial};
 
 use crate::agenda::Agenda;
+use crate::kept::Kept;
 use crate::made::Made;
 use crate::room::Room;
 use crate::seen::Seen;
@@ -40,7 +42,7 @@ pub(crate) fn prepare(
     graph: &mut Graph,
     room: Room,
     tidy: bool,
-) -> Result<(Undos, Made, Marks, Agenda, Seen), NoMemory>
+) -> Result<(Undos, Made, Marks, Agenda, Seen, Kept), NoMemory>
     requires pins { pins_taken graph.old + room.pins ≤ 4294967295 }
     requires nodes { live_nodes graph.old + room.nodes ≤ 4294967295 }
     requires tidy { tidy ≡ true → IsTidy (net_of graph.old) }
@@ -49,7 +51,7 @@ pub(crate) fn prepare(
     ensures epoch { graph.new.epoch ≡ graph.old.epoch }
     ensures held { pins_held graph.new ≡ pins_held graph.old }
     ensures readers { SameReaders graph.old graph.new }
-    ensures parts { IfOk result (λ p. IsTrial graph.new p.0 room p.2 p.3 × ((p.1 ≡ record { steps = []; spare = room.steps }) × ((p.0.entries ≡ []) × (p.2 ≤ p.4)))) }
+    ensures parts { IfOk result (λ p. IsTrial graph.new p.0 room p.2 p.3 × ((p.1 ≡ record { steps = []; spare = room.steps }) × ((p.0.entries ≡ []) × ((p.2 ≤ p.4) × ((p.2 ≤ length p.5.marks.items) × IsFresh p.5))))) }
 {
     let Some(entries) = entries_needed(room, graph.wire_count() as usize) else {
         return Err(NoMemory);
@@ -63,5 +65,6 @@ pub(crate) fn prepare(
     let marks = Marks::new(alloc, numbers)?;
     let agenda = Agenda::new(alloc, numbers, !tidy)?;
     let seen = Seen::new(alloc, numbers)?;
-    Ok((undos, made, marks, agenda, seen))
+    let kept = Kept::new(alloc, numbers)?;
+    Ok((undos, made, marks, agenda, seen, kept))
 }

@@ -1,12 +1,14 @@
 //! Which rule comes first at a gate, and which in a net.
-ghost use Rattle.std.specs.Prelude.{◌≡◌, ◌<◌, ◌≤◌, length, take, Some, None, true, false};
+ghost use Rattle.std.specs.Prelude.{◌≡◌, ◌<◌, ◌≤◌, length, take, Some, None, true, false, ℕ, IfSome};
 ghost use Rattle.gate_graph.specs.Circuit.{net_of};
 ghost use Rattle.gate_net.specs.Net.{drivers_of, IsLive};
 ghost use Rattle.wire_edit.specs.Tests.{is_gate, is_junction, is_not, is_in_use, is_repeated, is_among, driver_at};
-ghost use Rattle.wire_edit.specs.Firsts.{IsFirst, ReadsNoConstant, reads_constant, is_twin};
+ghost use Rattle.wire_edit.specs.Firsts.{IsFirst, reads_constant, is_twin};
 ghost use Rattle.wire_edit.specs.Order.{rule_at, next_step};
+ghost use Rattle.wire_edit.specs.Known.{IsKept};
 ghost use Rattle.wire_edit.specs.Marked.{IsQuietBelow};
 
+use crate::kept::Kept;
 use crate::looks::{is_constant, is_gate, is_in_use, is_live, is_not};
 use crate::seen::{Seen, first_repeated};
 use crate::steps::Step;
@@ -14,13 +16,15 @@ use gate_graph::Graph;
 use gate_net::Kind;
 use rm_base::NodeId;
 
-// The first pin that reads a constant.
-fn first_constant(graph: &Graph, gate: NodeId) -> Option<u32>
-    requires { IsLive (net_of graph.now) gate.0 }
+// The first pin that reads a constant, where none before a position does.
+pub(crate) fn constant_from(graph: &Graph, gate: NodeId, from: u32) -> Option<u32>
+    requires live { IsLive (net_of graph.now) gate.0 }
+    requires before { (k : ℕ) → k < from → reads_constant (net_of graph.now) gate.0 k ≡ false }
     ensures { IsFirst (reads_constant (net_of graph.now) gate.0) (length (drivers_of (net_of graph.now) gate.0)) result }
 {
-    let mut position = 0u32;
-    for driver in graph.inputs_of(gate) {
+    graph.well_formed();
+    let mut position = from;
+    for driver in graph.inputs_from(gate, from) {
         if is_constant(graph, driver) {
             return Some(position);
         }
@@ -132,32 +136,31 @@ fn rule_of_junction(graph: &Graph, gate: NodeId) -> Option<Step>
     }
 }
 
-// The first pin that reads a constant, which a gate known as plain doesn't have.
-fn constant_unless(graph: &Graph, gate: NodeId, plain: bool) -> Option<u32>
-    requires live { IsLive (net_of graph.now) gate.0 }
-    requires plain { plain ≡ true → ReadsNoConstant (net_of graph.now) gate.0 }
-    ensures { IsFirst (reads_constant (net_of graph.now) gate.0) (length (drivers_of (net_of graph.now) gate.0)) result }
-{
-    if plain {
-        return None;
-    }
-    first_constant(graph, gate)
-}
-
-// The rule that comes first at a gate, if the first repeated pin is this. A plain gate is known to read no constant.
-fn rule_with(graph: &Graph, gate: NodeId, repeated: Option<u32>, plain: bool) -> Option<Step>
+// The rule that comes first at a gate that isn't in use, or whose first pin that reads a constant is this.
+fn early_rule(graph: &Graph, gate: NodeId, constant: Option<u32>) -> Option<Step>
     requires kind { is_gate (net_of graph.now) gate.0 ≡ true }
-    requires repeated { IsFirst (is_repeated (drivers_of (net_of graph.now) gate.0)) (length (drivers_of (net_of graph.now) gate.0)) repeated }
-    requires plain { plain ≡ true → ReadsNoConstant (net_of graph.now) gate.0 }
-    requires quiet { IsQuietBelow (net_of graph.now) gate.0 }
-    ensures { result ≡ rule_at (net_of graph.now) gate.0 }
+    requires constant { IsFirst (reads_constant (net_of graph.now) gate.0) (length (drivers_of (net_of graph.now) gate.0)) constant }
+    ensures some { IfSome result (λ step. Some step ≡ rule_at (net_of graph.now) gate.0) }
+    ensures none { result ≡ None → (is_in_use (net_of graph.now) gate.0 ≡ true) × (constant ≡ None) }
 {
     if !is_in_use(graph, gate) {
         return Some(Step::Dead { gate });
     }
-    if let Some(position) = constant_unless(graph, gate, plain) {
-        return Some(Step::Const { gate, position });
+    match constant {
+        Some(position) => Some(Step::Const { gate, position }),
+        None => None,
     }
+}
+
+// The rule that comes first at a gate in use that reads no constant, if the first repeated pin is this.
+fn late_rule(graph: &Graph, gate: NodeId, repeated: Option<u32>) -> Option<Step>
+    requires kind { is_gate (net_of graph.now) gate.0 ≡ true }
+    requires used { is_in_use (net_of graph.now) gate.0 ≡ true }
+    requires none { IsFirst (reads_constant (net_of graph.now) gate.0) (length (drivers_of (net_of graph.now) gate.0)) None }
+    requires repeated { IsFirst (is_repeated (drivers_of (net_of graph.now) gate.0)) (length (drivers_of (net_of graph.now) gate.0)) repeated }
+    requires quiet { IsQuietBelow (net_of graph.now) gate.0 }
+    ensures { result ≡ rule_at (net_of graph.now) gate.0 }
+{
     if is_not(graph, gate) {
         return rule_of_not(graph, gate);
     }
@@ -168,9 +171,8 @@ fn rule_with(graph: &Graph, gate: NodeId, repeated: Option<u32>, plain: bool) ->
 }
 
 // The rule that comes first at a number below which no rule applies, by marks for drivers.
-pub(crate) fn rule_at(graph: &Graph, gate: NodeId, seen: &mut Seen, plain: bool) -> Option<Step>
+pub(crate) fn rule_at(graph: &Graph, gate: NodeId, seen: &mut Seen) -> Option<Step>
     requires seen { length (net_of graph.now).nodes ≤ seen.old }
-    requires plain { plain ≡ true → ReadsNoConstant (net_of graph.now) gate.0 }
     requires quiet { IsQuietBelow (net_of graph.now) gate.0 }
     ensures rule { result ≡ rule_at (net_of graph.now) gate.0 }
     ensures seen { seen.new ≡ seen.old }
@@ -178,8 +180,33 @@ pub(crate) fn rule_at(graph: &Graph, gate: NodeId, seen: &mut Seen, plain: bool)
     if !is_gate(graph, gate) {
         return None;
     }
+    let constant = constant_from(graph, gate, 0);
+    if let Some(step) = early_rule(graph, gate, constant) {
+        return Some(step);
+    }
     let repeated = first_repeated(graph, gate, seen);
-    rule_with(graph, gate, repeated, plain)
+    late_rule(graph, gate, repeated)
+}
+
+// The same at the gate of which pins are known, in the time of the others.
+pub(crate) fn rule_again(graph: &Graph, kept: &mut Kept) -> Option<Step>
+    requires marks { length (net_of graph.now).nodes ≤ length kept.old.marks.items }
+    requires kept { IsKept (net_of graph.now) kept.old }
+    requires quiet { IsQuietBelow (net_of graph.now) kept.old.gate.0 }
+    ensures rule { result ≡ rule_at (net_of graph.now) kept.old.gate.0 }
+    ensures kept { IsKept (net_of graph.now) kept.new }
+    ensures same { length kept.new.marks.items ≡ length kept.old.marks.items }
+{
+    let gate = kept.gate;
+    if !is_gate(graph, gate) {
+        return None;
+    }
+    let constant = kept.first_constant(graph);
+    if let Some(step) = early_rule(graph, gate, constant) {
+        return Some(step);
+    }
+    let repeated = kept.first_repeated(graph);
+    late_rule(graph, gate, repeated)
 }
 
 // The rule that comes first at a number below which no rule applies, without marks.
@@ -190,8 +217,12 @@ fn search_rule(graph: &Graph, gate: NodeId) -> Option<Step>
     if !is_gate(graph, gate) {
         return None;
     }
+    let constant = constant_from(graph, gate, 0);
+    if let Some(step) = early_rule(graph, gate, constant) {
+        return Some(step);
+    }
     let repeated = search_repeated(graph, gate);
-    rule_with(graph, gate, repeated, false)
+    late_rule(graph, gate, repeated)
 }
 
 /// The next step of the tidying order, or None where the net is tidy.
@@ -216,7 +247,7 @@ pub fn first_rule_by(graph: &Graph, seen: &mut Seen) -> Option<Step>
     ensures seen { seen.new ≡ seen.old }
 {
     for number in 0..graph.node_bound() {
-        if let Some(step) = rule_at(graph, NodeId(number), seen, false) {
+        if let Some(step) = rule_at(graph, NodeId(number), seen) {
             return Some(step);
         }
     }

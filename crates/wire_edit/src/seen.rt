@@ -1,11 +1,12 @@
 //! Marks by which a repeated driver is found.
-ghost use Rattle.std.specs.Prelude.{◌≡◌, ◌<◌, ◌≤◌, ℕ, true, length, take, unwrap_or, IfOk};
+ghost use Rattle.std.specs.Prelude.{◌≡◌, ◌<◌, ◌≤◌, ℕ, true, false, length, take, unwrap_or, IfOk};
 ghost use Rattle.gate_graph.specs.Circuit.{net_of};
 ghost use Rattle.gate_graph.specs.Search.{AreBelow};
 ghost use Rattle.gate_net.specs.Net.{drivers_of, IsLive};
 ghost use Rattle.wire_edit.specs.Tests.{is_among, is_repeated};
 ghost use Rattle.wire_edit.specs.Firsts.{IsFirst};
 ghost use Rattle.wire_edit.specs.Marked.{is_marked, IsBlank};
+ghost use Rattle.wire_edit.specs.Known.{MarksFirst};
 
 use gate_graph::{Graph, Inputs};
 use rm_base::{NoMemory, NodeId};
@@ -46,16 +47,23 @@ impl Seen {
     }
 }
 
-// Marks drivers up to the first that is marked already, and gives its position.
-fn mark_drivers(drivers: Inputs<'_>, marks: &mut [bool]) -> Option<u32>
-    requires few { length drivers ≤ 4294967295 }
-    requires within { AreBelow drivers (length marks.old) }
-    requires blank { IsBlank marks.old }
-    ensures first { IsFirst (is_repeated drivers.entry) (length drivers.entry) result }
-    ensures marked { (x : ℕ) → is_marked marks.new x ≡ true → is_among x (take (unwrap_or result 4294967295) drivers.entry) ≡ true }
+// Marks the drivers of a gate from a position on, up to the first that is marked already, and gives its position.
+pub(crate) fn mark_drivers(
+    graph: &Graph,
+    gate: NodeId,
+    marks: &mut [bool],
+    from: u32,
+) -> Option<u32>
+    requires live { IsLive (net_of graph.now) gate.0 }
+    requires room { length (net_of graph.now).nodes ≤ length marks.old }
+    requires before { (k : ℕ) → k < from → is_repeated (drivers_of (net_of graph.now) gate.0) k ≡ false }
+    requires marks { MarksFirst (drivers_of (net_of graph.now) gate.0) from marks.old }
+    ensures first { IsFirst (is_repeated (drivers_of (net_of graph.now) gate.0)) (length (drivers_of (net_of graph.now) gate.0)) result }
+    ensures marks { MarksFirst (drivers_of (net_of graph.now) gate.0) (unwrap_or result 4294967295) marks.new }
 {
-    let mut position = 0u32;
-    for driver in drivers {
+    graph.well_formed();
+    let mut position = from;
+    for driver in graph.inputs_from(gate, from) {
         let place = driver.0 as usize;
         if marks[place] {
             return Some(position);
@@ -67,7 +75,7 @@ fn mark_drivers(drivers: Inputs<'_>, marks: &mut [bool]) -> Option<u32>
 }
 
 // Takes the marks off the first drivers.
-fn unmark_drivers(drivers: Inputs<'_>, marks: &mut [bool], count: u32)
+pub(crate) fn unmark_drivers(drivers: Inputs<'_>, marks: &mut [bool], count: u32)
     requires within { AreBelow drivers (length marks.old) }
     requires marked { (x : ℕ) → is_marked marks.old x ≡ true → is_among x (take count drivers) ≡ true }
     ensures { IsBlank marks.new }
@@ -90,7 +98,7 @@ pub(crate) fn first_repeated(graph: &Graph, gate: NodeId, seen: &mut Seen) -> Op
     ensures seen { seen.new ≡ seen.old }
 {
     graph.well_formed();
-    let found = mark_drivers(graph.inputs_of(gate), &mut seen.marks);
+    let found = mark_drivers(graph, gate, &mut seen.marks, 0);
     unmark_drivers(
         graph.inputs_of(gate),
         &mut seen.marks,

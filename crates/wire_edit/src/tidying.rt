@@ -1,22 +1,23 @@
 //! What a trial does to its graph.
-ghost use Rattle.std.specs.Prelude.{◌≡◌, ◌≢◌, ◌≤◌, ◌+◌, [], Some, true, IfSome, length};
+ghost use Rattle.std.specs.Prelude.{◌≡◌, ◌≢◌, ◌≤◌, ◌+◌, [], Some, true, length};
 ghost use Rattle.gate_graph.specs.Holds.{HoldsOn};
 ghost use Rattle.gate_graph.specs.Circuit.{net_of};
 ghost use Rattle.gate_graph.specs.Changes.{CanEdit, Edits, entries_for};
 ghost use Rattle.gate_graph.specs.Entries.{LeadOn};
 ghost use Rattle.wire_edit.specs.Steps.{change_of};
-ghost use Rattle.wire_edit.specs.Order.{next_step};
-ghost use Rattle.wire_edit.specs.Edited.{edit_of};
-ghost use Rattle.wire_edit.specs.Firsts.{ReadsNoConstant};
-ghost use Rattle.wire_edit.specs.Marked.{KeepsMarks, IsQuiet, MarksTouched};
+ghost use Rattle.wire_edit.specs.Order.{next_step, rule_at};
+ghost use Rattle.wire_edit.specs.Edited.{edit_of, TakesOut};
+ghost use Rattle.wire_edit.specs.Known.{IsKept};
+ghost use Rattle.wire_edit.specs.Marked.{KeepsMarks, IsQuiet, IsQuietBelow, MarksTouched};
 
 use crate::agenda::Agenda;
 use crate::edits::edit_for;
-use crate::rules::rule_at;
+use crate::kept::Kept;
+use crate::rules::{rule_again, rule_at};
 use crate::seen::Seen;
 use crate::steps::Step;
 use crate::touch::{mark_after, mark_before};
-use gate_graph::{Graph, Undos};
+use gate_graph::{Edit, Graph, Undos};
 use rm_base::NodeId;
 
 // Makes a step's edit, and marks what it touches.
@@ -43,14 +44,34 @@ pub(crate) fn carry_out(graph: &mut Graph, undos: &mut Undos, agenda: &mut Agend
     mark_after(agenda, graph, &edit);
 }
 
-// Whether the number is the one that is known.
-fn is_known(known: Option<u32>, number: u32) -> bool
-    ensures { result ≡ true → known ≡ Some number }
+// Whether the step takes a pin out of its gate.
+pub(crate) fn removes(graph: &Graph, step: Step) -> bool
+    ensures { result ≡ true → TakesOut (change_of (net_of graph.now) step) }
 {
-    match known {
-        Some(other) => other == number,
-        None => false,
+    match edit_for(graph, step) {
+        Edit::Remove {
+            gate: _,
+            position: _,
+        } => true,
+        _ => false,
     }
+}
+
+// The rule that comes first at a number below which no rule applies.
+fn rule_known(graph: &Graph, gate: NodeId, seen: &mut Seen, kept: &mut Kept) -> Option<Step>
+    requires seen { length (net_of graph.now).nodes ≤ seen.old }
+    requires marks { length (net_of graph.now).nodes ≤ length kept.old.marks.items }
+    requires kept { IsKept (net_of graph.now) kept.old }
+    requires quiet { IsQuietBelow (net_of graph.now) gate.0 }
+    ensures rule { result ≡ rule_at (net_of graph.now) gate.0 }
+    ensures seen { seen.new ≡ seen.old }
+    ensures kept { IsKept (net_of graph.now) kept.new }
+    ensures same { length kept.new.marks.items ≡ length kept.old.marks.items }
+{
+    if kept.gate == gate {
+        return rule_again(graph, kept);
+    }
+    rule_at(graph, gate, seen)
 }
 
 // The next step of the tidying order. Marks are taken from gates without a rule.
@@ -58,18 +79,21 @@ pub(crate) fn next_rule(
     graph: &Graph,
     agenda: &mut Agenda,
     seen: &mut Seen,
-    plain: Option<u32>,
+    kept: &mut Kept,
 ) -> Option<Step>
     requires quiet { IsQuiet (net_of graph.now) agenda.old }
     requires seen { length (net_of graph.now).nodes ≤ seen.old }
-    requires plain { IfSome plain (ReadsNoConstant (net_of graph.now)) }
+    requires marks { length (net_of graph.now).nodes ≤ length kept.old.marks.items }
+    requires kept { IsKept (net_of graph.now) kept.old }
     ensures next { result ≡ next_step (net_of graph.now) }
     ensures quiet { IsQuiet (net_of graph.now) agenda.new }
     ensures count { length agenda.new ≡ length agenda.old }
     ensures seen { seen.new ≡ seen.old }
+    ensures kept { IsKept (net_of graph.now) kept.new }
+    ensures same { length kept.new.marks.items ≡ length kept.old.marks.items }
 {
     while let Some(number) = agenda.least() {
-        if let Some(step) = rule_at(graph, NodeId(number), seen, is_known(plain, number)) {
+        if let Some(step) = rule_known(graph, NodeId(number), seen, kept) {
             return Some(step);
         }
         agenda.clear(number);

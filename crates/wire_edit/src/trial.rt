@@ -16,13 +16,14 @@ ghost use Rattle.wire_edit.specs.declared.steps.Step.{Step as StepValue};
 use crate::agenda::Agenda;
 use crate::budget::{nodes_made, pins_made, room_for};
 use crate::faults::fault;
+use crate::kept::Kept;
 use crate::made::Made;
 use crate::refusal::EditRefusal;
 use crate::reserving::prepare;
 use crate::room::Room;
 use crate::seen::Seen;
 use crate::steps::Step;
-use crate::tidying::{carry_out, next_rule};
+use crate::tidying::{carry_out, next_rule, removes};
 use gate_graph::{Graph, Marks, Undos, same_wiring};
 use rm_base::NoMemory;
 use std::alloc::Global;
@@ -45,8 +46,7 @@ pub struct Trial {
     marks: Marks,
     pub(crate) agenda: Agenda,
     seen: Seen,
-    // A gate that is known to read no constant.
-    pub(crate) plain: Option<u32>,
+    pub(crate) kept: Kept,
     // The room at the start, and whether the net was known to be tidy then.
     pub(crate) first: Room,
     pub(crate) tidy: bool,
@@ -66,7 +66,7 @@ impl Model for Trial {
 
     ghost use Rattle.wire_edit.specs.Trials.{IsTrial, IsReady};
 
-    ghost invariant = { λ t. IsTrial t.graph t.undos (record { pins = t.pins; nodes = t.nodes; steps = t.made.spare }) t.marks t.agenda × IsReady t.graph t.undos t.made.steps t.made.spare t.marks t.seen t.plain t.first t.tidy };
+    ghost invariant = { λ t. IsTrial t.graph t.undos (record { pins = t.pins; nodes = t.nodes; steps = t.made.spare }) t.marks t.agenda × IsReady t.graph t.undos t.made.steps t.made.spare t.marks t.seen t.kept t.first t.tidy };
 }
 
 impl Trial {
@@ -86,7 +86,7 @@ impl Trial {
     {
         let mut graph = graph;
         match prepare(alloc, &mut graph, room, tidy) {
-            Ok((undos, made, marks, agenda, seen)) => {
+            Ok((undos, made, marks, agenda, seen, kept)) => {
                 graph.well_formed();
                 same_wiring();
                 Ok(Trial {
@@ -98,7 +98,7 @@ impl Trial {
                     marks,
                     agenda,
                     seen,
-                    plain: None,
+                    kept,
                     first: room,
                     tidy,
                 })
@@ -168,21 +168,23 @@ impl Trial {
         ensures held { HoldsOn self.old.graph self.new.graph self.old.trail.entries self.new.trail.entries }
     {
         self.graph.well_formed();
+        self.kept.ready_for(&self.graph, step);
         carry_out(&mut self.graph, &mut self.undos, &mut self.agenda, step);
         self.graph.well_formed();
         self.made.push(step);
         self.pins -= pins_made(step);
         self.nodes -= nodes_made(step);
-        self.plain = None;
     }
 
-    // Remembers that the gate of a `Same` reads no constant.
+    // Remembers how far the gate of a pin that was taken out reads no constant.
     fn remember(&mut self, step: Step)
         requires { IsPlainAfter (net_of self.old.graph) step }
         ensures { self.new ≡ self.old }
     {
-        if let Step::Same { gate, position: _ } = step {
-            self.plain = Some(gate.0);
+        match step {
+            Step::Const { gate, position } => self.kept.note(gate, Some(position)),
+            Step::Same { gate, position: _ } => self.kept.note(gate, None),
+            _ => {}
         }
     }
 
@@ -225,15 +227,23 @@ impl Trial {
         ensures held { HoldsOn self.old.graph self.new.graph self.old.trail.entries self.new.trail.entries }
     {
         self.graph.well_formed();
-        let next = next_rule(&self.graph, &mut self.agenda, &mut self.seen, self.plain);
+        let next = next_rule(
+            &self.graph,
+            &mut self.agenda,
+            &mut self.seen,
+            &mut self.kept,
+        );
         let Some(step) = next else {
             return Ok(None);
         };
         if self.made.spare() == 0 {
             return Err(EditRefusal::Full);
         }
+        let out = removes(&self.graph, step);
         self.make(step);
-        self.remember(step);
+        if out {
+            self.remember(step);
+        }
         Ok(Some(step))
     }
 
@@ -268,7 +278,7 @@ impl Trial {
             marks: _marks,
             agenda: _agenda,
             seen: _seen,
-            plain: _plain,
+            kept: _kept,
             first: _first,
             tidy: _tidy,
         } = self;
@@ -323,7 +333,7 @@ impl Trial {
             marks: _marks,
             agenda: _agenda,
             seen: _seen,
-            plain: _plain,
+            kept: _kept,
             first: _first,
             tidy: _tidy,
         } = self;

@@ -1,6 +1,10 @@
-use Rattle.pin_pool.proofs.ListLaws.{has-mid}
+use Rattle.std.proofs.Common.{◌∙◌, sym}
+use Rattle.pin_pool.proofs.Fingers.{first-there, has-there}
 use Rattle.pin_pool.proofs.tests.input.Goals as goal
 
-pub returns-then-left-eq0 : goal.returns-then-left-eq0
-returns-then-left-eq0 c =
-    (c.args.gate, rw (c.loop-pin.invariant.all, c.in-Some.ensures.steps) (has-mid _ _ c.in-Some.pin.0))
+pub returns-in-Some-clause-there : goal.returns-in-Some-clause-there
+returns-in-Some-clause-there c = first-there _ _ c.args.position c.in-Some.pin.0 (sym c.inputs_from-pins.ensures.list ∙ c.in-Some.ensures.steps)
+
+pub returns-in-Some-clause-linked : goal.returns-in-Some-clause-linked
+returns-in-Some-clause-linked c =
+    (c.args.gate, has-there _ c.args.position c.in-Some.pin.0 (first-there _ _ c.args.position c.in-Some.pin.0 (sym c.inputs_from-pins.ensures.list ∙ c.in-Some.ensures.steps)))

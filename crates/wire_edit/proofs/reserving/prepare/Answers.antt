@@ -11,5 +11,5 @@ returns-clause-parts c = (
       c.in_ok-undos.ensures.0 c.leads_back.ensures c.wire_count.ensures c.in-Some.ensures c.in_ok-undos.ensures.1 c.in_ok-reserve.ensures.pins c.in_ok-reserve.ensures.nodes
       (omega (arith, c.saturating_add-numbers.ensures, c.node_bound.ensures)) c.well_formed-2.ensures.nodes c.in_ok-agenda.ensures.0
       (begins_quiet (net_of c.args.graph.now) c.args.tidy c.saturating_add-numbers.result c.in_ok-agenda.agenda c.requires.tidy c.in_ok-agenda.ensures.1)),
-  (c.in_ok-made.ensures, (c.in_ok-undos.ensures.0, omega (arith, c.in_ok-marks.ensures, c.in_ok-seen.ensures))),
+  (c.in_ok-made.ensures, (c.in_ok-undos.ensures.0, (omega (arith, c.in_ok-marks.ensures, c.in_ok-seen.ensures), (omega (arith, c.in_ok-marks.ensures, c.in_ok-kept.ensures.1), c.in_ok-kept.ensures.0)))),
 )

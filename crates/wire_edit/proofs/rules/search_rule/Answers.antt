@@ -7,5 +7,8 @@ use Rattle.wire_edit.proofs.rules.search_rule.Goals as goal
 pub returns-then-not-is_gate : goal.returns-then-not-is_gate
 returns-then-not-is_gate c = sym (no_rule (net_of c.args.graph.now) c.args.gate.0 (sym c.is_gate.ensures ∙ c.if-not-is_gate.true))
 
+pub constant_from-constant-requires-clause-live : goal.constant_from-constant-requires-clause-live
+constant_from-constant-requires-clause-live c = gate_live (net_of c.args.graph.now) c.args.gate.0 (sym c.is_gate.ensures ∙ c.if-not-is_gate.false)
+
 pub search_repeated-repeated-requires : goal.search_repeated-repeated-requires
 search_repeated-repeated-requires c = gate_live (net_of c.args.graph.now) c.args.gate.0 (sym c.is_gate.ensures ∙ c.if-not-is_gate.false)

@@ -1,5 +1,6 @@
 use Rattle.std.proofs.Common.{◌≡◌, length}
 use Rattle.gate_graph.specs.Circuit.{net_of}
+use Rattle.wire_edit.specs.Known.{IsKept}
 use Rattle.wire_edit.specs.Marked.{IsQuiet, marks_left}
 use Rattle.wire_edit.proofs.tidying.next_rule.Given as goal
 
@@ -8,6 +9,8 @@ invariant-loop-number l = record {
   quiet : IsQuiet (net_of l.graph) l.agenda;
   count : length l.agenda ≡ length l.fn.agenda;
   seen : l.seen ≡ l.fn.seen;
+  kept : IsKept (net_of l.graph) l.kept;
+  same : length l.kept.marks.items ≡ length l.fn.kept.marks.items;
 }
 
 abbrev pub decreases-loop-number : goal.decreases-loop-number

@@ -3,22 +3,22 @@ use Rattle.pin_pool.proofs.RingsOf.{valid-of}
 use Rattle.pin_pool.proofs.pool_calls.Pool.move_to_driver.Goals as goal
 
 pub move_to_driver-slot-requires-clause-linked : goal.move_to_driver-slot-requires-clause-linked
-move_to_driver-slot-requires-clause-linked c = held-by c.self.inside.store c.args.pin.0 c.self.invariant (rw (← c.self.view_is) at c.requires.linked)
+move_to_driver-slot-requires-clause-linked c = held-by c.self.inside.store c.args.pin.0 c.self.invariant.0 (rw (← c.self.view_is) at c.requires.linked)
 
 pub invariant_of-self : goal.invariant_of-self
-invariant_of-self c = paired-redrive c.self.inside.store c.move_to_driver-slot.new.self c.args.pin.0 c.args.driver c.look.ensures c.self.invariant c.look-2.ensures (rw (← c.self.view_is) at c.requires.linked) (rw (← c.self.view_is) at c.requires.driver) c.move_to_driver-slot.ensures.lists
+invariant_of-self c = (paired-redrive c.self.inside.store c.move_to_driver-slot.new.self c.args.pin.0 c.args.driver c.look.ensures c.self.invariant.0 c.look-2.ensures (rw (← c.self.view_is) at c.requires.linked) (rw (← c.self.view_is) at c.requires.driver) c.move_to_driver-slot.ensures.lists, tt)
 
 pub returns-clause-rings : goal.returns-clause-rings
-returns-clause-rings c = rw (← c.self.view_is) (rings-redrive c.self.inside.store c.move_to_driver-slot.new.self c.args.pin.0 c.args.driver c.look.ensures c.self.invariant c.look-2.ensures (rw (← c.self.view_is) at c.requires.linked) (rw (← c.self.view_is) at c.requires.driver) c.move_to_driver-slot.ensures.lists)
+returns-clause-rings c = rw (← c.self.view_is) (rings-redrive c.self.inside.store c.move_to_driver-slot.new.self c.args.pin.0 c.args.driver c.look.ensures c.self.invariant.0 c.look-2.ensures (rw (← c.self.view_is) at c.requires.linked) (rw (← c.self.view_is) at c.requires.driver) c.move_to_driver-slot.ensures.lists)
 
 pub returns-clause-stood : goal.returns-clause-stood
-returns-clause-stood c = rw (← c.self.view_is) (stood-redrive c.self.inside.store c.move_to_driver-slot.new.self c.args.pin.0 c.args.driver c.look.ensures c.self.invariant c.look-2.ensures (rw (← c.self.view_is) at c.requires.linked) (rw (← c.self.view_is) at c.requires.driver) c.move_to_driver-slot.ensures.lists c.move_to_driver-slot.result c.move_to_driver-slot.ensures.in_gate c.move_to_driver-slot.ensures.in_driver)
+returns-clause-stood c = rw (← c.self.view_is) (stood-redrive c.self.inside.store c.move_to_driver-slot.new.self c.args.pin.0 c.args.driver c.look.ensures c.self.invariant.0 c.look-2.ensures (rw (← c.self.view_is) at c.requires.linked) (rw (← c.self.view_is) at c.requires.driver) c.move_to_driver-slot.ensures.lists c.move_to_driver-slot.result c.move_to_driver-slot.ensures.in_gate c.move_to_driver-slot.ensures.in_driver)
 
 pub returns-clause-back : goal.returns-clause-back
-returns-clause-back c = can-restore c.self.inside.store c.move_to_driver-slot.new.self c.args.pin.0 c.args.driver c.look.ensures c.self.invariant c.look-2.ensures (rw (← c.self.view_is) at c.requires.linked) (rw (← c.self.view_is) at c.requires.driver) c.move_to_driver-slot.ensures.lists c.move_to_driver-slot.result c.move_to_driver-slot.ensures.in_gate c.move_to_driver-slot.ensures.in_driver
+returns-clause-back c = can-restore c.self.inside.store c.move_to_driver-slot.new.self c.args.pin.0 c.args.driver c.look.ensures c.self.invariant.0 c.look-2.ensures (rw (← c.self.view_is) at c.requires.linked) (rw (← c.self.view_is) at c.requires.driver) c.move_to_driver-slot.ensures.lists c.move_to_driver-slot.result c.move_to_driver-slot.ensures.in_gate c.move_to_driver-slot.ensures.in_driver
 
 pub returns-clause-was_valid : goal.returns-clause-was_valid
-returns-clause-was_valid c = rw (← c.self.view_is) (valid-of _ c.look.ensures c.self.invariant)
+returns-clause-was_valid c = rw (← c.self.view_is) (valid-of _ c.look.ensures c.self.invariant.0)
 
 pub returns-clause-valid : goal.returns-clause-valid
-returns-clause-valid c = valid-redrive c.self.inside.store c.move_to_driver-slot.new.self c.args.pin.0 c.args.driver c.look.ensures c.self.invariant c.look-2.ensures (rw (← c.self.view_is) at c.requires.linked) (rw (← c.self.view_is) at c.requires.driver) c.move_to_driver-slot.ensures.lists
+returns-clause-valid c = valid-redrive c.self.inside.store c.move_to_driver-slot.new.self c.args.pin.0 c.args.driver c.look.ensures c.self.invariant.0 c.look-2.ensures (rw (← c.self.view_is) at c.requires.linked) (rw (← c.self.view_is) at c.requires.driver) c.move_to_driver-slot.ensures.lists

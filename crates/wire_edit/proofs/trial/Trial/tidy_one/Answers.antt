@@ -4,7 +4,7 @@ use Rattle.gate_graph.specs.Circuit.{net_of}
 use Rattle.wire_edit.specs.declared.room.Room.{Room}
 use Rattle.wire_edit.proofs.Ordering.{next_applies}
 use Rattle.wire_edit.specs.Firsts.{IsPlainAfter}
-use Rattle.wire_edit.proofs.NoConstants.{plain_after}
+use Rattle.wire_edit.proofs.KnownPins.{plain_after}
 use Rattle.wire_edit.proofs.Trying.{tidying_room}
 use Rattle.wire_edit.proofs.trial.Trial.tidy_one.Goals as goal
 
@@ -19,4 +19,4 @@ make-requires-clause-room c =
 
 pub remember-requires : goal.remember-requires
 remember-requires c =
-    subst (λ (n : Net). IsPlainAfter n c.in-Some.step) (sym c.make.ensures.net) (plain_after (net_of c.self.inside.graph) c.in-Some.step (sym c.next_rule-next.ensures.next ∙ c.in-Some.is))
+    subst (λ (n : Net). IsPlainAfter n c.in-Some.step) (sym c.make.ensures.net) (plain_after (net_of c.self.inside.graph) c.in-Some.step (sym c.next_rule-next.ensures.next ∙ c.in-Some.is) (c.removes-out.ensures c.if-out.true))
