@@ -30,7 +30,7 @@ use rm_base::{Fault, NoMemory, NodeId};
 use std::alloc::Global;
 
 // Adds all to which lines lead, or up to a clash, whose node is given; what isn't reached is held already, and each node
-// is on the agenda or settled.
+// is on the agenda or settled. The stuck pin's driver comes last here, and so its readers first on the agenda.
 fn add_all_lines(
     graph: &Graph,
     fault: &Fault,
@@ -52,10 +52,10 @@ fn add_all_lines(
     ensures agenda { length agenda.new ≡ length agenda.old }
     ensures room { length tallies.new.counted ≡ length tallies.old.counted }
 {
-    if let Some(clash) = give_at_fault(graph, fault, facts, log, agenda, tallies)? {
+    if let Some(clash) = give_on_chain(graph, fault, facts, log, agenda, tallies)? {
         return Ok(Some(clash));
     }
-    if let Some(clash) = give_on_chain(graph, fault, facts, log, agenda, tallies)? {
+    if let Some(clash) = give_at_fault(graph, fault, facts, log, agenda, tallies)? {
         return Ok(Some(clash));
     }
     work_off(graph, fault, facts, log, agenda, tallies)

@@ -2,6 +2,7 @@
 #![tactic(auto)]
 
 mod beginning;
+mod blocked_pin;
 mod closing;
 mod counts;
 mod done_lines;

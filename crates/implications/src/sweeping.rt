@@ -9,6 +9,7 @@ ghost use Rattle.implications.specs.Settled.{IsReady};
 ghost use Rattle.implications.specs.Tallies.{AreTallied};
 ghost use Rattle.implications.specs.Working.{IsPendingBut, Works, Keeps, Sweeps, work};
 
+use crate::blocked_pin::blocked_pin;
 use crate::log::Log;
 use crate::pin_line::{has_sweep, pin_line};
 use crate::settling::add_found;
@@ -92,7 +93,8 @@ fn sweep_pins(
 }
 
 /// Adds what follows at single pins where that is many facts, going over the pins of an And or an Or once; up to a
-/// clash, whose node is given. What it leaves `next_line` finds.
+/// clash, whose node is given. A pin that keeps a difference back is taken alone, before all others. What it leaves
+/// `next_line` finds.
 pub(crate) fn sweep(
     graph: &Graph,
     fault: &Fault,
@@ -123,6 +125,11 @@ pub(crate) fn sweep(
     let tally = tallies.of(graph, fault, facts, node);
     if !has_sweep(graph, fault, facts, &tally, node, c) {
         return Ok(None);
+    }
+    if let Some((position, driver)) = blocked_pin(graph, fault, facts, &tally, node, c) {
+        return sweep_pin(
+            graph, fault, facts, log, agenda, tallies, node, position, driver, c,
+        );
     }
     sweep_pins(graph, fault, facts, log, agenda, tallies, node, c)
 }
