@@ -38,3 +38,4 @@ pub mod Falling
 pub mod Unrefused
 pub mod KnownPins
 pub mod LiveNodes
+pub mod WideNets
