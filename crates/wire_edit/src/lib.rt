@@ -27,6 +27,8 @@ mod tests;
 mod tidying;
 mod touch;
 mod trial;
+#[cfg(test)]
+mod wide_tests;
 
 pub use laws::{
     answers_apply, order_tells, rollback_restores, room_suffices, steps_keep, tidying_ends,
