@@ -49,10 +49,10 @@ fn written(
     ensures trail { OnOk result (length engine.new.trail ≡ length engine.old.trail) }
 {
     let mut held = facts;
-    let mark = engine.mark();
     let mut tree = TreeBuilder::new(alloc);
     engine.push_outside(graph, fault, &mut tree)?;
     push_lines(&mut tree, engine.lines())?;
+    let mark = engine.mark();
     write_from(
         alloc, engine, graph, fault, &mut held, watch, depth, taught, &mut tree,
     )?;
