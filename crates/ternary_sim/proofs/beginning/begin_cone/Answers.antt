@@ -10,7 +10,7 @@ use Rattle.gate_graph.specs.Search.{IsSeen}
 use Rattle.refutation.proofs.Told.{kind_live}
 use Rattle.ternary_sim.proofs.Beginnings.{begun_first, get_or_there, next_below, next_touched}
 use Rattle.ternary_sim.proofs.beginning.begin_cone.Goals as goal
-use Rattle.ternary_sim.specs.Settling.{IsTouched}
+use Rattle.ternary_sim.specs.Regions.{IsTouched}
 
 pub loop-place-init : goal.loop-place-init
 loop-place-init c = record {
