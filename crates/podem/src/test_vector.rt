@@ -6,7 +6,7 @@ ghost use Rattle.gate_net.specs.Net.{source_count};
 ghost use Rattle.ternary_sim.specs.Marks.{good_at};
 ghost use Rattle.gate_net.specs.Forward.{MarksDetected};
 ghost use Rattle.ternary_sim.specs.Marks.{marking};
-ghost use Rattle.ternary_sim.specs.Tracking.{IsCurrent};
+ghost use Rattle.ternary_sim.specs.Regions.{IsCurrent};
 ghost use Rattle.gate_net.specs.Faults.{IsTest};
 ghost use Rattle.podem.specs.Verdicts.{IsVectorOf};
 
@@ -44,6 +44,7 @@ pub(crate) fn test_of(
     gate_net::values_exist();
     gate_net::faulty_values_exist();
     gate_net::readings_hold();
+    ternary_sim::laws::regions_decide();
     let vector = vector_of(alloc, graph, tracker)?;
     Ok(vector)
 }

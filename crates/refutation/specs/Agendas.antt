@@ -1,5 +1,5 @@
 -- Node numbers that are to be looked at, each at most once.
-use Rattle.std.specs.Prelude.{Bool, List, None, Option, Some, [], false, if◌then◌else◌, length, slice_index, slice_set, suc, true, ℕ, ◌+◌, ◌<◌, ◌∷◌, ◌≡◌}
+use Rattle.std.specs.Prelude.{Bool, List, None, Option, Some, [], false, if◌then◌else◌, length, slice_get, slice_index, slice_set, suc, true, ℕ, ◌+◌, ◌<◌, ◌∷◌, ◌≡◌}
 use Rattle.gate_graph.specs.Search.{IsSeen, unseen}
 use Rattle.rm_base.specs.declared.numbers.NodeId.{NodeId}
 
@@ -24,3 +24,9 @@ IsTaken old new (Some d) = IsSeen old d.0 × (new ≡ slice_set old d.0 false)
 -- the number is on it too
 abbrev pub is_on_too : List Bool → ℕ → List Bool
 is_on_too marks x = slice_set marks x true
+
+-- the list has exactly the marked numbers, each once
+pub record ListsMarked (marks : List Bool) (numbers : List ℕ) : Type 0 where
+  pub sound : (k z : ℕ) → slice_get numbers k ≡ Some z → IsSeen marks z
+  pub all : (z : ℕ) → IsSeen marks z → (k : ℕ) × (slice_get numbers k ≡ Some z)
+  pub once : (k l z : ℕ) → slice_get numbers k ≡ Some z → slice_get numbers l ≡ Some z → k ≡ l

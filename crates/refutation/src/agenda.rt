@@ -1,7 +1,7 @@
 //! The node numbers that are to be looked at.
 ghost use Rattle.std.specs.Prelude.{◌≡◌, ◌≢◌, ◌<◌, ◌≤◌, ◌↔◌, ℕ, Bool, List, IfOk, IsTrue, length, replicate, slice_get, slice_index, slice_set, suc, false, true, Some};
 ghost use Rattle.gate_graph.specs.Search.{IsSeen};
-ghost use Rattle.refutation.specs.Agendas.{IsAgenda, IsTaken};
+ghost use Rattle.refutation.specs.Agendas.{IsAgenda, IsTaken, ListsMarked};
 
 use rm_base::{NoMemory, NodeId};
 use std::alloc::Global;
@@ -92,6 +92,13 @@ impl Agenda {
             Some(mark) => *mark,
             None => false,
         }
+    }
+
+    /// The numbers that are on, in the order in which they were put on.
+    pub fn numbers(&self) -> &[u32]
+        ensures { ListsMarked self.now result.now }
+    {
+        &self.queue[..self.count]
     }
 
     /// Puts a number on.

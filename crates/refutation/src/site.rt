@@ -3,6 +3,7 @@ ghost use Rattle.std.specs.Prelude.{◌≡◌, ◌≤◌, ◌↔◌, IfOk, IsTru
 ghost use Rattle.gate_graph.specs.Circuit.{net_of};
 ghost use Rattle.gate_graph.specs.Search.{IsSeen};
 ghost use Rattle.gate_net.specs.Net.{IsLive};
+ghost use Rattle.refutation.specs.Agendas.{ListsMarked};
 ghost use Rattle.refutation.specs.Reaching.{MarksReached};
 ghost use Rattle.refutation.specs.Sites.{IsSiteOf, MarksChain};
 
@@ -82,6 +83,13 @@ impl Site {
     {
         self.mark_reached(graph, gate);
         self.mark_chain(graph, gate);
+    }
+
+    /// The numbers of the nodes that the gate reaches.
+    pub fn reached_numbers(&self) -> &[u32]
+        ensures { ListsMarked self.now.reached result.now }
+    {
+        self.reached.numbers()
     }
 
     /// Whether the gate reaches the node.

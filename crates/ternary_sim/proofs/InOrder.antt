@@ -29,7 +29,7 @@ pub record IsWalk (net : Net) (order : List ℕ) : Type 0 where
 not_dead : (net : Net) (x : ℕ) → IsLive net x → node_at net x ≢ None
 not_dead net x live dead = let is : node_at net x ≡ Some (record { kind = live.0; drivers = live.1.0 }) = live.1.1 in cc
 
-node_live : (net : Net) (x : ℕ) → node_at net x ≢ None → IsLive net x
+pub node_live : (net : Net) (x : ℕ) → node_at net x ≢ None → IsLive net x
 node_live net x live = at (node_at net x) refl
   where
     at : (o : Option Node) → node_at net x ≡ o → IsLive net x

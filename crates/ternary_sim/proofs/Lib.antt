@@ -7,3 +7,5 @@ pub mod TrailMarks
 pub mod Beginnings
 pub mod Counts
 pub mod Watching
+pub mod Wholes
+pub mod Spreading

@@ -2,8 +2,10 @@
 #![tactic(auto)]
 
 mod beginning;
+pub mod laws;
 mod marks;
 mod reading;
+mod region;
 mod settling;
 mod sheet;
 mod simulator;
@@ -13,5 +15,6 @@ mod tracker;
 mod trail;
 
 pub use marks::{NodeMarks, Reading};
+pub use region::Region;
 pub use simulator::Sim;
 pub use tracker::Tracker;

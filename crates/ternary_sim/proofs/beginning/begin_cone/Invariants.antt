@@ -1,15 +1,16 @@
-use Rattle.std.proofs.Common.{Bool, List, length, map, ℕ, ◌<◌, ◌≡◌}
-use Rattle.std.specs.Prelude.{Option}
+use Rattle.std.proofs.Common.{Bool, List, Some, length, map, ℕ, ◌+◌, ◌≡◌, ◌≤◌}
+use Rattle.std.specs.Prelude.{Option, slice_get}
 use Rattle.gate_graph.specs.Circuit.{net_of}
 use Rattle.gate_graph.specs.Search.{IsSeen}
 use Rattle.ternary_sim.proofs.beginning.begin_cone.Given as goal
-use Rattle.ternary_sim.specs.Settling.{HasBegun, IsTouched, plain_marks}
+use Rattle.ternary_sim.specs.Regions.{IsTouched}
+use Rattle.ternary_sim.specs.Settling.{HasBegun, plain_marks}
 use Rattle.ternary_sim.specs.Tracking.{AreInside, first_marks, marks_before}
 
-abbrev pub invariant-loop-number : goal.invariant-loop-number
-invariant-loop-number l = record {
+abbrev pub invariant-loop-place : goal.invariant-loop-place
+invariant-loop-place l = record {
   begun : (base : List (Option Bool)) → l.fn.sheet.marks ≡ map plain_marks base → HasBegun base l.sheet.marks l.agenda;
-  on : (x : ℕ) → x < l.number → IsTouched (net_of l.graph) l.fn.gate.0 x → IsSeen l.agenda x;
+  on : (k x : ℕ) → slice_get l.reached k ≡ Some x → l.count ≤ k + l.place → IsSeen l.agenda x;
   only : (x : ℕ) → IsSeen l.agenda x → IsTouched (net_of l.graph) l.fn.gate.0 x;
   before : marks_before l.sheet.marks l.trail.items ≡ marks_before l.fn.sheet.marks l.fn.trail.items;
   first : first_marks l.sheet.marks l.trail.items ≡ first_marks l.fn.sheet.marks l.fn.trail.items;

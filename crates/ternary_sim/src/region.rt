@@ -1,0 +1,141 @@
+//! The part of a net that a fault concerns, marked once for all readings of the fault.
+ghost use Rattle.std.specs.Prelude.{◌≡◌, ◌<◌, ◌≤◌, ◌↔◌, ℕ, IfOk, IsTrue, Some, false, length, replicate, slice_get};
+ghost use Rattle.gate_graph.specs.Circuit.{net_of};
+ghost use Rattle.gate_graph.specs.Search.{IsSeen};
+ghost use Rattle.gate_net.specs.Net.{IsLive, Reads};
+ghost use Rattle.refutation.specs.Agendas.{ListsMarked};
+ghost use Rattle.refutation.specs.Pins.{AreBelow};
+ghost use Rattle.refutation.specs.Reaching.{MarksReached};
+ghost use Rattle.ternary_sim.specs.Regions.{IsTouched, MarksMore, MarksRegion};
+
+use gate_graph::Graph;
+use refutation::agenda::Agenda;
+use refutation::following::gate_pins;
+use refutation::site::Site;
+use rm_base::{Fault, NoMemory, NodeId};
+use std::alloc::Global;
+use std::marker::Model;
+
+/// The nodes that a fault may change, and those from which a path leads to one of them. The marks are made once, for the
+/// node numbers below a bound, and serve one fault after another.
+#[derive(Drop)]
+pub struct Region {
+    marks: Agenda,
+    waiting: Agenda,
+}
+
+impl Model for Region {
+    ghost use Rattle.std.specs.Prelude.{Bool, List};
+
+    ghost Value = { List Bool };
+
+    ghost use Rattle.std.specs.Prelude.{◌≡◌, false, length, replicate};
+
+    ghost view = { λ r. r.marks };
+
+    ghost invariant = { λ r. r.waiting ≡ replicate (length r.marks) false };
+}
+
+// Marks a number, and lists it where it wasn't marked.
+fn mark_one(marks: &mut Agenda, waiting: &mut Agenda, node: NodeId)
+    requires marks { node.0 < length marks.old }
+    requires waiting { node.0 < length waiting.old }
+    ensures marked { MarksMore (λ z. z ≡ node.0) marks.old marks.new waiting.old waiting.new }
+    ensures size { length marks.new ≡ length marks.old }
+    ensures room { length waiting.new ≡ length waiting.old }
+{
+    if !marks.has(node) {
+        marks.add(node);
+        waiting.add(node);
+    }
+}
+
+// Marks the drivers of a node, and lists those that weren't marked.
+fn mark_drivers(graph: &Graph, node: NodeId, marks: &mut Agenda, waiting: &mut Agenda)
+    requires node { IsLive (net_of graph.now) node.0 }
+    requires marks { length (net_of graph.now).nodes ≤ length marks.old }
+    requires waiting { length (net_of graph.now).nodes ≤ length waiting.old }
+    ensures marked { MarksMore (λ z. (p : ℕ) × Reads (net_of graph.now) node.0 p z) marks.old marks.new waiting.old waiting.new }
+    ensures size { length marks.new ≡ length marks.old }
+    ensures room { length waiting.new ≡ length waiting.old }
+{
+    for driver in gate_pins(graph, node) {
+        mark_one(marks, waiting, driver);
+    }
+}
+
+// Marks the numbers of a list, and lists those that weren't marked.
+fn mark_all(numbers: &[u32], marks: &mut Agenda, waiting: &mut Agenda)
+    requires marks { AreBelow numbers.now (length marks.old) }
+    requires waiting { AreBelow numbers.now (length waiting.old) }
+    ensures marked { MarksMore (λ z. (k : ℕ) × (slice_get numbers.now k ≡ Some z)) marks.old marks.new waiting.old waiting.new }
+    ensures size { length marks.new ≡ length marks.old }
+    ensures room { length waiting.new ≡ length waiting.old }
+{
+    for number in numbers {
+        mark_one(marks, waiting, NodeId(*number));
+    }
+}
+
+// Marks the gate and what it reaches, and lists those that weren't marked.
+fn mark_touched(graph: &Graph, gate: NodeId, site: &Site, marks: &mut Agenda, waiting: &mut Agenda)
+    requires gate { IsLive (net_of graph.now) gate.0 }
+    requires site { MarksReached (net_of graph.now) gate.0 site.now.reached }
+    requires marks { length (net_of graph.now).nodes ≤ length marks.old }
+    requires waiting { length (net_of graph.now).nodes ≤ length waiting.old }
+    ensures marked { MarksMore (IsTouched (net_of graph.now) gate.0) marks.old marks.new waiting.old waiting.new }
+    ensures size { length marks.new ≡ length marks.old }
+    ensures room { length waiting.new ≡ length waiting.old }
+{
+    mark_one(marks, waiting, gate);
+    mark_all(site.reached_numbers(), marks, waiting);
+}
+
+// Marks what the fault concerns, over an agenda with nothing on. What was marked before is taken off by its list.
+fn mark_region(graph: &Graph, fault: &Fault, site: &Site, marks: &mut Agenda, waiting: &mut Agenda)
+    requires gate { IsLive (net_of graph.now) fault.now.gate.0 }
+    requires site { MarksReached (net_of graph.now) fault.now.gate.0 site.now.reached }
+    requires marks { length (net_of graph.now).nodes ≤ length marks.old }
+    requires waiting { length (net_of graph.now).nodes ≤ length waiting.old }
+    requires none { waiting.old ≡ replicate (length waiting.old) false }
+    ensures marked { MarksRegion (net_of graph.now) fault.now marks.new }
+    ensures size { length marks.new ≡ length marks.old }
+    ensures waiting { waiting.new ≡ waiting.old }
+{
+    marks.clear();
+    graph.well_formed();
+    mark_touched(graph, fault.gate, site, marks, waiting);
+    while let Some(node) = waiting.take() {
+        mark_drivers(graph, node, marks, waiting);
+    }
+}
+
+impl Region {
+    /// No marks, for node numbers below `numbers`.
+    pub fn new(alloc: Global, numbers: u32) -> Result<Region, NoMemory>
+        ensures { IfOk result (λ r. r ≡ replicate numbers false) }
+    {
+        let marks = Agenda::new(alloc, numbers)?;
+        let waiting = Agenda::new(alloc, numbers)?;
+        Ok(Region { marks, waiting })
+    }
+
+    /// Marks what the fault concerns, in place of what was marked before. The site is that of the fault's gate. It takes
+    /// the time of those marks and of the pins of the nodes that it marks.
+    pub fn mark(&mut self, graph: &Graph, fault: &Fault, site: &Site)
+        requires gate { IsLive (net_of graph.now) fault.now.gate.0 }
+        requires site { MarksReached (net_of graph.now) fault.now.gate.0 site.now.reached }
+        requires room { length (net_of graph.now).nodes ≤ length self.old }
+        ensures marked { MarksRegion (net_of graph.now) fault.now self.new }
+        ensures size { length self.new ≡ length self.old }
+    {
+        mark_region(graph, fault, site, &mut self.marks, &mut self.waiting);
+    }
+
+    /// Whether the fault concerns the node.
+    pub fn has(&self, node: NodeId) -> bool
+        ensures { IsTrue result ↔ IsSeen self.now node.0 }
+    {
+        self.marks.is_on(node)
+    }
+}
