@@ -9,3 +9,4 @@ pub mod Auditing
 pub mod Writing
 pub mod Wanting
 pub mod Limited
+pub mod Complete

@@ -1,5 +1,5 @@
 -- How a run ends that reports a problem.
-use Rattle.std.proofs.Common.{◌≡◌, ℕ, List, refl, sym, ◌∙◌, arith, inl, inr, ◌⊎◌, subst}
+use Rattle.std.proofs.Common.{◌≡◌, ℕ, Bool, List, refl, sym, ◌∙◌, arith, inl, inr, ◌⊎◌, subst}
 use Rattle.std.specs.Prelude.{Option, None, Some, IfSome, IsSome, IsSomeAnd}
 use Rattle.rm_base.specs.Causes.{Rose}
 use Rattle.rm_base.specs.Files.{Files}
@@ -16,7 +16,7 @@ use Rattle.word_reading.specs.Words.{Asked, opt, check, demo}
 use Rattle.rambo_cli.specs.declared.work.Done.{Done}
 use Rattle.rambo_cli.specs.declared.problem.Problem.{Problem}
 use Rattle.rambo_cli.specs.declared.problem.Problem.TheVariants.{Words, Text, Limit, Missing, Fault, Journal, Record, Netlist, Memory}
-use Rattle.rambo_cli.specs.Problems.{HasEnded, IsCause, IsReported, PutsUnlessFailed, audit_problem, done_text, status_of, line_of}
+use Rattle.rambo_cli.specs.Problems.{HasDone, HasEnded, IsCause, IsReported, KeepsFiles, MayPut, PutsUnlessFailed, audit_problem, done_text, status_of, line_of}
 use Rattle.rambo_cli.specs.Written.{HasFault, Exceeds}
 use Rattle.rambo_cli.specs.Outcome.{Audited, EndsFaulty, EndsOver, EndsRejected, EndsUnread, Finds, IsMissing, OfInput, Puts}
 
@@ -168,8 +168,8 @@ unread_with (Record r) words files m n before after e put h = absurd (omega (ari
 unread_with (Netlist byte) words files m n before after e put h = absurd (omega (arith, e))
 unread_with Memory words files m n before after e put h = absurd (omega (arith, e))
 
-pub unread : (problem : Problem) (status : ℕ) (words : Option Asked) (files : Option Files) (m n : ℕ) (before after : Option (List ℕ)) (k l : ℕ) → IsReported problem status before after k l → IsCause words files m n problem → status ≡ 1 → EndsUnread words files before after
-unread problem status words files m n before after k l r h e = elim r [
+pub unread : (w : Bool) (problem : Problem) (status : ℕ) (words : Option Asked) (files : Option Files) (m n : ℕ) (before after : Option (List ℕ)) (k l : ℕ) → IsReported w problem status before after k l → IsCause words files m n problem → status ≡ 1 → EndsUnread words files before after
+unread w problem status words files m n before after k l r h e = elim r [
   | inl told ↦ unread_with problem words files m n before after (sym told.0 ∙ e) told.1 h
   | inr other ↦ elim other [ inl failed ↦ absurd (omega (arith, failed.0, e)) | inr spent ↦ absurd (omega (arith, spent.0, e)) ]
 ]
@@ -185,8 +185,8 @@ over_with (Record r) words files m n before after e put h = absurd (omega (arith
 over_with (Netlist byte) words files m n before after e put h = absurd (omega (arith, e))
 over_with Memory words files m n before after e put h = absurd (omega (arith, e))
 
-pub over : (problem : Problem) (status : ℕ) (words : Option Asked) (files : Option Files) (m n : ℕ) (before after : Option (List ℕ)) (k l : ℕ) → IsReported problem status before after k l → IsCause words files m n problem → status ≡ 5 → EndsOver words files before after
-over problem status words files m n before after k l r h e = elim r [
+pub over : (w : Bool) (problem : Problem) (status : ℕ) (words : Option Asked) (files : Option Files) (m n : ℕ) (before after : Option (List ℕ)) (k l : ℕ) → IsReported w problem status before after k l → IsCause words files m n problem → status ≡ 5 → EndsOver words files before after
+over w problem status words files m n before after k l r h e = elim r [
   | inl told ↦ over_with problem words files m n before after (sym told.0 ∙ e) told.1 h
   | inr other ↦ elim other [ inl failed ↦ absurd (omega (arith, failed.0, e)) | inr spent ↦ absurd (omega (arith, spent.0, e)) ]
 ]
@@ -202,8 +202,8 @@ rejected_with (Record r) words files m n before after e put h = inr (inl (r, (pu
 rejected_with (Netlist byte) words files m n before after e put h = inr (inr (byte, (put, netlist_cause words files m n byte h)))
 rejected_with Memory words files m n before after e put h = absurd (omega (arith, e))
 
-pub rejected : (problem : Problem) (status : ℕ) (words : Option Asked) (files : Option Files) (m n : ℕ) (before after : Option (List ℕ)) (k l : ℕ) → IsReported problem status before after k l → IsCause words files m n problem → status ≡ 6 → EndsRejected words files before after
-rejected problem status words files m n before after k l r h e = elim r [
+pub rejected : (w : Bool) (problem : Problem) (status : ℕ) (words : Option Asked) (files : Option Files) (m n : ℕ) (before after : Option (List ℕ)) (k l : ℕ) → IsReported w problem status before after k l → IsCause words files m n problem → status ≡ 6 → EndsRejected words files before after
+rejected w problem status words files m n before after k l r h e = elim r [
   | inl told ↦ rejected_with problem words files m n before after (sym told.0 ∙ e) told.1 h
   | inr other ↦ elim other [ inl failed ↦ absurd (omega (arith, failed.0, e)) | inr spent ↦ absurd (omega (arith, spent.0, e)) ]
 ]
@@ -219,43 +219,55 @@ faulty_with (Record r) words files m n k l e h = absurd (omega (arith, e))
 faulty_with (Netlist byte) words files m n k l e h = absurd (omega (arith, e))
 faulty_with Memory words files m n k l e h = absurd (omega (arith, e))
 
-pub faulty : (problem : Problem) (status : ℕ) (words : Option Asked) (files : Option Files) (m n : ℕ) (before after : Option (List ℕ)) (k l : ℕ) → IsReported problem status before after k l → IsCause words files m n problem → status ≡ 3 → EndsFaulty words files m n k l
-faulty problem status words files m n before after k l r h e = elim r [
+pub faulty : (w : Bool) (problem : Problem) (status : ℕ) (words : Option Asked) (files : Option Files) (m n : ℕ) (before after : Option (List ℕ)) (k l : ℕ) → IsReported w problem status before after k l → IsCause words files m n problem → status ≡ 3 → EndsFaulty words files m n k l
+faulty w problem status words files m n before after k l r h e = elim r [
   | inl told ↦ faulty_with problem words files m n k l (sym told.0 ∙ e) h
   | inr other ↦ elim other [ inl failed ↦ inr (inl failed.1.0) | inr spent ↦ absurd (omega (arith, spent.0, e)) ]
 ]
 
--- what is put with status 3
-line_with : (problem : Problem) (old new : Option (List ℕ)) (k l : ℕ) → status_of problem ≡ 3 → Puts old new (line_of problem) → PutsUnlessFailed old new k l
-line_with Words old new k l e put = absurd (omega (arith, e))
-line_with (Text kind place) old new k l e put = absurd (omega (arith, e))
-line_with (Limit q count) old new k l e put = absurd (omega (arith, e))
-line_with Missing old new k l e put = inl put
-line_with Fault old new k l e put = inl put
-line_with (Journal f) old new k l e put = absurd (omega (arith, e))
-line_with (Record r) old new k l e put = absurd (omega (arith, e))
-line_with (Netlist byte) old new k l e put = absurd (omega (arith, e))
-line_with Memory old new k l e put = absurd (omega (arith, e))
+-- a cause of any words
+memory_cause : (words : Option Asked) (files : Option Files) (m n : ℕ) → IsCause words files m n Memory
+memory_cause None files m n = inr refl
+memory_cause (Some (opt input output journal settings)) files m n = tt
+memory_cause (Some (check input journal output)) files m n = inl tt
+memory_cause (Some (demo seed settings)) files m n = refl
 
-pub reported_line : (problem : Problem) (status : ℕ) (old new : Option (List ℕ)) (k l : ℕ) → IsReported problem status old new k l → status ≡ 3 → PutsUnlessFailed old new k l
-reported_line problem status old new k l r e = elim r [
-  | inl told ↦ line_with problem old new k l (sym told.0 ∙ e) told.1
+-- what is put with status 3
+line_with : (problem : Problem) (words : Option Asked) (files after : Option Files) (m n : ℕ) (old new : Option (List ℕ)) (k l : ℕ) → status_of problem ≡ 3 → Puts old new (line_of problem) → IsCause words files m n problem → KeepsFiles problem files after → PutsUnlessFailed words files after m n old new k l
+line_with Words words files after m n old new k l e put h kept = absurd (omega (arith, e))
+line_with (Text kind place) words files after m n old new k l e put h kept = absurd (omega (arith, e))
+line_with (Limit q count) words files after m n old new k l e put h kept = absurd (omega (arith, e))
+line_with Missing words files after m n old new k l e put h kept = inl (inr (missing_cause words files m n h, kept), put)
+line_with Fault words files after m n old new k l e put h kept = inl (inl (fault_cause words files m n h), put)
+line_with (Journal f) words files after m n old new k l e put h kept = absurd (omega (arith, e))
+line_with (Record r) words files after m n old new k l e put h kept = absurd (omega (arith, e))
+line_with (Netlist byte) words files after m n old new k l e put h kept = absurd (omega (arith, e))
+line_with Memory words files after m n old new k l e put h kept = absurd (omega (arith, e))
+
+memory_line_put : (words : Option Asked) (files after : Option Files) (m n : ℕ) → MayPut words files after m n (line_of Memory)
+memory_line_put words files after m n = inr (Memory, (memory_cause words files m n, (tt, refl)))
+
+pub reported_line : (w : Bool) (problem : Problem) (status : ℕ) (words : Option Asked) (files after : Option Files) (m n : ℕ) (old new : Option (List ℕ)) (k l : ℕ) → IsReported w problem status old new k l → IsCause words files m n problem → KeepsFiles problem files after → status ≡ 3
+    → PutsUnlessFailed words files after m n old new k l
+reported_line w problem status words files after m n old new k l r h kept e = elim r [
+  | inl told ↦ line_with problem words files after m n old new k l (sym told.0 ∙ e) told.1 h kept
   | inr other ↦ elim other [
     | inl failed ↦ elim failed.1.1 [
-      | inl own ↦ inr (failed.1.0, (line_of problem, (inr (problem, refl), own)))
-      | inr memory ↦ inr (failed.1.0, (line_of Memory, (inr (Memory, refl), memory)))
+      | inl own ↦ inr (failed.1.0, (line_of problem, (inr (problem, (h, (kept, refl))), own)))
+      | inr memory ↦ inr (failed.1.0, (line_of Memory, (memory_line_put words files after m n, memory)))
     ]
     | inr spent ↦ absurd (omega (arith, spent.0, e))
   ]
 ]
 
-pub ended_line : (done : Done) (status : ℕ) (old new : Option (List ℕ)) (k l : ℕ) → HasEnded (done_text done) status old new k l → status ≡ 3 → PutsUnlessFailed old new k l
-ended_line done status old new k l h e = elim h [
+pub ended_line : (w : Bool) (done : Done) (status : ℕ) (words : Option Asked) (files after : Option Files) (m n : ℕ) (old new : Option (List ℕ)) (k l : ℕ) → HasEnded w (done_text done) status old new k l → HasDone words files after done → status ≡ 3
+    → PutsUnlessFailed words files after m n old new k l
+ended_line w done status words files after m n old new k l h has e = elim h [
   | inl told ↦ absurd (omega (arith, told.0, e))
   | inr other ↦ elim other [
     | inl failed ↦ elim failed.1.1 [
-      | inl own ↦ inr (failed.1.0, (done_text done, (inl (done, refl), own)))
-      | inr memory ↦ inr (failed.1.0, (line_of Memory, (inr (Memory, refl), memory)))
+      | inl own ↦ inr (failed.1.0, (done_text done, (inl (done, (has, refl)), own)))
+      | inr memory ↦ inr (failed.1.0, (line_of Memory, (memory_line_put words files after m n, memory)))
     ]
     | inr spent ↦ absurd (omega (arith, spent.0, e))
   ]

@@ -6,3 +6,4 @@ pub mod Outcome
 pub mod Problems
 pub mod Files
 pub mod Composition
+pub mod Complete

@@ -1,5 +1,5 @@
 -- How a run ends, by its status.
-use Rattle.std.specs.Prelude.{◌≡◌, ◌≤◌, ◌⊎◌, ℕ, List, ◌++◌, take, Option, None, Some, IfSome, IsSomeAnd}
+use Rattle.std.specs.Prelude.{◌≡◌, ◌≤◌, ◌⊎◌, ℕ, Bool, List, ◌++◌, take, Option, None, Some, IfSome, IsSomeAnd, IsTrue}
 use Rattle.std.specs.Option.{option_map}
 use Rattle.rm_base.specs.Causes.{Rose}
 use Rattle.rm_base.specs.Files.{Files, file_of, put_file}
@@ -123,9 +123,9 @@ abbrev pub EndsFaulty : Option Asked → Option Files → ℕ → ℕ → ℕ �
 EndsFaulty words files shelf_before shelf_after sink_before sink_after =
     Rose shelf_before shelf_after ⊎ (Rose sink_before sink_after ⊎ IsMissing words files)
 
--- 4: the line is put, if there is memory for it
-abbrev pub EndsWithoutMemory : Option (List ℕ) → Option (List ℕ) → Type 0
-EndsWithoutMemory before after = Puts before after memory_line ⊎ (after ≡ before)
+-- 4: the line is put, unless the sink is one that may want memory, and has put nothing
+abbrev pub EndsWithoutMemory : Bool → Option (List ℕ) → Option (List ℕ) → Type 0
+EndsWithoutMemory may_want before after = Puts before after memory_line ⊎ (IsTrue may_want × (after ≡ before))
 
 -- what the audit of `check` found
 abbrev pub Finds : Option Asked → Option Files → AuditProblem → Type 0
@@ -173,3 +173,10 @@ EndsSafely (Some (opt input output journal settings)) old new = IfTold old new (
 EndsSafely (Some (check input journal output)) old new = new ≡ old
 EndsSafely (Some (demo seed settings)) old new = new ≡ old
 EndsSafely None old new = new ≡ old
+
+-- words that ask for nothing, or for a demonstration, need no file
+abbrev pub NeedNoFile : Option Asked → Type 0
+NeedNoFile (Some (opt input output journal settings)) = ⊥
+NeedNoFile (Some (check input journal output)) = ⊥
+NeedNoFile (Some (demo seed settings)) = Unit {0}
+NeedNoFile None = Unit {0}

@@ -1,5 +1,5 @@
 -- What keeps a run from ending with 0.
-use Rattle.std.specs.Prelude.{◌≡◌, ◌⊎◌, ◌++◌, ◌<◌, ℕ, List, Option, None, Some, IfSome, IsSome, take}
+use Rattle.std.specs.Prelude.{◌≡◌, ◌⊎◌, ◌++◌, ◌<◌, ℕ, Bool, List, Option, None, Some, IfSome, IsSome, IsTrue, take}
 use Rattle.std.specs.Option.{option_map}
 use Rattle.rm_base.specs.Causes.{Rose}
 use Rattle.rm_base.specs.Files.{Files}
@@ -21,7 +21,7 @@ use Rattle.word_reading.specs.declared.command.WordFault.{WordFault}
 use Rattle.word_reading.specs.declared.command.WordFault.TheVariants as word
 use Rattle.rambo_cli.specs.Written.{HasFault, Exceeds, most_pins}
 use Rattle.journal_audit.specs.Audited.{IsOfFiles}
-use Rattle.rambo_cli.specs.Outcome.{Audited, Holds, HasPassed, IfTold, IsAbsent, HasOptimised, HasShown}
+use Rattle.rambo_cli.specs.Outcome.{Audited, Holds, HasPassed, IfTold, IsAbsent, IsMissing, HasOptimised, HasShown}
 use Rattle.rambo_cli.specs.Summary.{summary_text}
 use Rattle.rambo_cli.specs.Lines.{accepted_line, fault_line, limit_line, words_line, shelf_line, memory_line}
 use Rattle.rambo_cli.specs.declared.work.Done.{Done}
@@ -83,18 +83,23 @@ line_of Memory = memory_line
 abbrev pub BeginsLine : List ℕ → Option (List ℕ) → Option (List ℕ) → Type 0
 BeginsLine line old new = (k : ℕ) × (new ≡ option_map (λ w. w ++ take k line) old)
 
--- the line is put and the status answered; or the sink failed, and a beginning of the line is put; or memory ran out and nothing is put
-abbrev pub IsPutWith : ℕ → ℕ → List ℕ → Option (List ℕ) → Option (List ℕ) → ℕ → ℕ → Type 0
-IsPutWith wanted status line old new before now =
-    ((status ≡ wanted) × (new ≡ option_map (λ w. w ++ line) old))
-    ⊎ (((status ≡ 3) × (Rose before now × BeginsLine line old new)) ⊎ ((status ≡ 4) × (new ≡ old)))
+-- a sink that may want memory has put nothing
+abbrev pub PutsNothing : Bool → Option (List ℕ) → Option (List ℕ) → Type 0
+PutsNothing may_want old new = IsTrue may_want × (new ≡ old)
 
--- the line of the problem is put and its status answered; or the sink failed, at that line or at the one on memory; or memory ran out
-abbrev pub IsReported : Problem → ℕ → Option (List ℕ) → Option (List ℕ) → ℕ → ℕ → Type 0
-IsReported problem status old new before now =
+-- the line is put and the status answered; or the sink failed, and a beginning of the line is put; or the sink wanted memory
+abbrev pub IsPutWith : Bool → ℕ → ℕ → List ℕ → Option (List ℕ) → Option (List ℕ) → ℕ → ℕ → Type 0
+IsPutWith may_want wanted status line old new before now =
+    ((status ≡ wanted) × (new ≡ option_map (λ w. w ++ line) old))
+    ⊎ (((status ≡ 3) × (Rose before now × BeginsLine line old new)) ⊎ ((status ≡ 4) × PutsNothing may_want old new))
+
+-- the line of the problem is put and its status answered; or the sink failed, at that line or at the one on memory; or memory ran
+-- out, which is put unless the sink wanted memory
+abbrev pub IsReported : Bool → Problem → ℕ → Option (List ℕ) → Option (List ℕ) → ℕ → ℕ → Type 0
+IsReported may_want problem status old new before now =
     ((status ≡ status_of problem) × (new ≡ option_map (λ w. w ++ line_of problem) old))
     ⊎ (((status ≡ 3) × (Rose before now × (BeginsLine (line_of problem) old new ⊎ BeginsLine memory_line old new)))
-    ⊎ ((status ≡ 4) × ((new ≡ option_map (λ w. w ++ memory_line) old) ⊎ (new ≡ old))))
+    ⊎ ((status ≡ 4) × ((new ≡ option_map (λ w. w ++ memory_line) old) ⊎ PutsNothing may_want old new)))
 
 -- a problem of the outside alone
 abbrev pub IsOutside : Problem → Type 0
@@ -169,17 +174,26 @@ abbrev pub done_text : Done → List ℕ
 done_text (Optimised figures) = summary_text figures
 done_text (Accepted count) = accepted_line count
 
--- the text is put; or the sink failed, at that text or at the line on memory; or memory ran out
-abbrev pub HasEnded : List ℕ → ℕ → Option (List ℕ) → Option (List ℕ) → ℕ → ℕ → Type 0
-HasEnded text status old new before now =
+-- the text is put; or the sink failed, at that text or at the line on memory; or memory ran out, which is put unless the sink wanted memory
+abbrev pub HasEnded : Bool → List ℕ → ℕ → Option (List ℕ) → Option (List ℕ) → ℕ → ℕ → Type 0
+HasEnded may_want text status old new before now =
     ((status ≡ 0) × (new ≡ option_map (λ w. w ++ text) old))
-    ⊎ (((status ≡ 3) × (Rose before now × (BeginsLine text old new ⊎ BeginsLine memory_line old new))) ⊎ ((status ≡ 4) × ((new ≡ option_map (λ w. w ++ memory_line) old) ⊎ (new ≡ old))))
+    ⊎ (((status ≡ 3) × (Rose before now × (BeginsLine text old new ⊎ BeginsLine memory_line old new)))
+    ⊎ ((status ≡ 4) × ((new ≡ option_map (λ w. w ++ memory_line) old) ⊎ PutsNothing may_want old new)))
 
--- what a run may put: the text of what is done, or the line of what kept it from that
-abbrev pub MayPut : List ℕ → Type 0
-MayPut line = ((done : Done) × (line ≡ done_text done)) ⊎ ((problem : Problem) × (line ≡ line_of problem))
+-- what a run puts: the text of what it has done, or the line of what kept it from that
+abbrev pub MayPut : Option Asked → Option Files → Option Files → ℕ → ℕ → List ℕ → Type 0
+MayPut words files after before now line =
+    ((done : Done) × (HasDone words files after done × (line ≡ done_text done)))
+    ⊎ ((problem : Problem) × (IsCause words files before now problem × (KeepsFiles problem files after × (line ≡ line_of problem))))
 
--- the line of a fault of the shelf is put; or the sink has failed, and has a beginning of what a run may put behind what it had
-abbrev pub PutsUnlessFailed : Option (List ℕ) → Option (List ℕ) → ℕ → ℕ → Type 0
-PutsUnlessFailed old new before now =
-    (new ≡ option_map (λ w. w ++ shelf_line) old) ⊎ (Rose before now × ((line : List ℕ) × (MayPut line × BeginsLine line old new)))
+-- a call of the shelf has failed, or a file is missing in its turn and none has changed
+abbrev pub ShelfFails : Option Asked → Option Files → Option Files → ℕ → ℕ → Type 0
+ShelfFails words files after before now = Rose before now ⊎ (IsMissing words files × (after ≡ files))
+
+-- the line of a fault of the shelf is put, which has failed; or the sink has failed, and has a beginning of what the run puts behind
+-- what it had
+abbrev pub PutsUnlessFailed : Option Asked → Option Files → Option Files → ℕ → ℕ → Option (List ℕ) → Option (List ℕ) → ℕ → ℕ → Type 0
+PutsUnlessFailed words files after shelf_before shelf_now old new before now =
+    (ShelfFails words files after shelf_before shelf_now × (new ≡ option_map (λ w. w ++ shelf_line) old))
+    ⊎ (Rose before now × ((line : List ℕ) × (MayPut words files after shelf_before shelf_now line × BeginsLine line old new)))

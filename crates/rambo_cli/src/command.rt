@@ -1,10 +1,13 @@
 //! The top call.
-ghost use Rattle.std.specs.Prelude.{◌≡◌, ◌≤◌, map};
+ghost use Rattle.std.specs.Prelude.{◌≡◌, ◌≤◌, ◌⊎◌, map};
 ghost use Rattle.std.specs.String.{string_bytes};
+ghost use Rattle.rm_base.specs.Causes.{Rose};
 ghost use Rattle.word_reading.specs.Words.{asked};
-ghost use Rattle.rambo_cli.specs.Outcome.{EndsDone, EndsUnread, EndsRefused, EndsFaulty, EndsWithoutMemory, EndsOver, EndsRejected, EndsSafely};
+ghost use Rattle.rambo_cli.specs.Complete.{IsGood, IsJudgeable};
+ghost use Rattle.rambo_cli.specs.Outcome.{EndsDone, EndsUnread, EndsRefused, EndsFaulty, EndsWithoutMemory, EndsOver, EndsRejected, EndsSafely, NeedNoFile};
 ghost use Rattle.rambo_cli.specs.Problems.{IsReported, IsPutWith, HasEnded, PutsUnlessFailed, done_text};
 
+use crate::laws::{good_runs_are_done, judged_runs_are_told};
 use crate::lines::{done_line, line};
 use crate::problem::Problem;
 use crate::work::{Done, work};
@@ -41,15 +44,15 @@ pub fn run<R: Threads + Sync, S: Shelf, O: Sink, G: Gate>(
     ensures refused { result ≡ 2 → EndsRefused (asked (map string_bytes words.now)) (O.written out.old) (O.written out.new) }
     ensures refused_files { result ≡ 2 → S.files shelf.new ≡ S.files shelf.old }
 
-    // 3: a count of faults rose, or a file that is to be read is missing in its turn. The line is put, or a beginning of it or of
-    // what else was to be put, where standard output itself failed.
+    // 3: a count of faults rose, or a file that is to be read is missing in its turn. The line is put; or, where standard output
+    // itself failed, a beginning of it, or of the one line or summary that a run over these files puts.
     ensures faulty { result ≡ 3 → EndsFaulty (asked (map string_bytes words.now)) (S.files shelf.old)
         (S.faults shelf.old) (S.faults shelf.new) (O.faults out.old) (O.faults out.new) }
-    ensures faulty_line { result ≡ 3 → PutsUnlessFailed (O.written out.old) (O.written out.new)
-        (O.faults out.old) (O.faults out.new) }
+    ensures faulty_line { result ≡ 3 → PutsUnlessFailed (asked (map string_bytes words.now)) (S.files shelf.old) (S.files shelf.new)
+        (S.faults shelf.old) (S.faults shelf.new) (O.written out.old) (O.written out.new) (O.faults out.old) (O.faults out.new) }
 
-    // 4: out of memory.
-    ensures memory { result ≡ 4 → EndsWithoutMemory (O.written out.old) (O.written out.new) }
+    // 4: out of memory. The line is put, unless the sink itself wanted memory.
+    ensures memory { result ≡ 4 → EndsWithoutMemory O.may_want (O.written out.old) (O.written out.new) }
 
     // 5: something of the input is over its limit, or the journal is, which is put, and no file has changed.
     ensures over { result ≡ 5 → EndsOver (asked (map string_bytes words.now)) (S.files shelf.old)
@@ -63,7 +66,21 @@ pub fn run<R: Threads + Sync, S: Shelf, O: Sink, G: Gate>(
 
     // Whatever the status is.
     ensures safe { EndsSafely (asked (map string_bytes words.now)) (S.files shelf.old) (S.files shelf.new) }
+    ensures untouched { NeedNoFile (asked (map string_bytes words.now)) → shelf.new ≡ shelf.old }
+
+    // Good words and files, and no fault of the shelf or of standard output: the command is done, or memory ran out.
+    ensures complete { IsGood (asked (map string_bytes words.now)) (S.files shelf.old)
+        → (Rose (S.faults shelf.old) (S.faults shelf.new) → ⊥) → (Rose (O.faults out.old) (O.faults out.new) → ⊥)
+        → (result ≡ 0) ⊎ (result ≡ 4) }
+
+    // A journal and an output that are there, over an input that can be optimised, and no such fault: they are accepted, or the
+    // first reason against them is put, or memory ran out.
+    ensures judged { IsJudgeable (asked (map string_bytes words.now)) (S.files shelf.old)
+        → (Rose (S.faults shelf.old) (S.faults shelf.new) → ⊥) → (Rose (O.faults out.old) (O.faults out.new) → ⊥)
+        → (result ≡ 0) ⊎ ((result ≡ 6) ⊎ (result ≡ 4)) }
 {
+    good_runs_are_done();
+    judged_runs_are_told();
     match work(rt, alloc, words, shelf, gate) {
         Ok(done) => finish(alloc, out, &done),
         Err(problem) => report(alloc, out, problem),
@@ -71,7 +88,7 @@ pub fn run<R: Threads + Sync, S: Shelf, O: Sink, G: Gate>(
 }
 
 fn put<O: Sink>(out: &mut O, line: &[u8], status: u8) -> u8
-    ensures put { IsPutWith status result line.now (O.written out.old) (O.written out.new) (O.faults out.old) (O.faults out.new) }
+    ensures put { IsPutWith O.may_want status result line.now (O.written out.old) (O.written out.new) (O.faults out.old) (O.faults out.new) }
     ensures later { O.faults out.old ≤ O.faults out.new }
 {
     match out.put(line) {
@@ -83,7 +100,7 @@ fn put<O: Sink>(out: &mut O, line: &[u8], status: u8) -> u8
 
 // Puts what a command has done.
 fn finish<O: Sink>(alloc: Global, out: &mut O, done: &Done) -> u8
-    ensures ended { HasEnded (done_text done.now) result (O.written out.old) (O.written out.new) (O.faults out.old) (O.faults out.new) }
+    ensures ended { HasEnded O.may_want (done_text done.now) result (O.written out.old) (O.written out.new) (O.faults out.old) (O.faults out.new) }
     ensures later { O.faults out.old ≤ O.faults out.new }
 {
     match done_line(alloc, done) {
@@ -94,7 +111,7 @@ fn finish<O: Sink>(alloc: Global, out: &mut O, done: &Done) -> u8
 
 // Puts what kept the run from ending with 0.
 fn report<O: Sink>(alloc: Global, out: &mut O, problem: Problem) -> u8
-    ensures reported { IsReported problem result (O.written out.old) (O.written out.new) (O.faults out.old) (O.faults out.new) }
+    ensures reported { IsReported O.may_want problem result (O.written out.old) (O.written out.new) (O.faults out.old) (O.faults out.new) }
     ensures later { O.faults out.old ≤ O.faults out.new }
 {
     match line(alloc, problem) {

@@ -1,11 +1,14 @@
 //! How the layers compose.
+ghost use Rattle.rambo_cli.specs.Complete.{GoodRunsAreDone, JudgedRunsAreTold};
 ghost use Rattle.rambo_cli.specs.Composition.{KeptNetsFit, PassedAuditsTell, RunsAreWritten};
 
+use blif_format::reads_once;
 use blif_reader::texts_keep_limits;
 use blif_writer::{read_texts_are_faultless, written_texts_read};
 use cover_decompose::{decompositions_are_formed, decompositions_stand};
 use gate_net::values_exist;
 use graph_to_model::{tidy_nets_have_models, tidy_nets_have_small_models};
+use journal_audit::problems_exclude;
 use journal_check::accepted_journals_tell;
 use model_faults::laws::tidy_nets_have_model_faults;
 
@@ -39,3 +42,16 @@ pub fn passed_audits_tell()
     accepted_journals_tell();
     tidy_nets_have_models();
 }
+
+/// Where words and files are good, nothing but the outside keeps a run from its end.
+pub fn good_runs_are_done()
+    ensures { GoodRunsAreDone }
+{
+    reads_once();
+    problems_exclude();
+}
+
+/// Where a journal and an output are there to be judged, nothing but the outside and what is found of them keeps a run from its end.
+pub fn judged_runs_are_told()
+    ensures { JudgedRunsAreTold }
+{}

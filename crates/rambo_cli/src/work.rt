@@ -2,7 +2,7 @@
 ghost use Rattle.std.specs.Prelude.{◌≡◌, ◌≤◌, IfErr, IfOk, map};
 ghost use Rattle.std.specs.String.{string_bytes};
 ghost use Rattle.word_reading.specs.Words.{asked};
-ghost use Rattle.rambo_cli.specs.Outcome.{EndsSafely};
+ghost use Rattle.rambo_cli.specs.Outcome.{EndsSafely, NeedNoFile};
 ghost use Rattle.rambo_cli.specs.Problems.{HasDone, IsCause, KeepsFiles};
 
 use crate::checking::check;
@@ -37,6 +37,7 @@ pub(crate) fn work<R: Threads + Sync, S: Shelf, G: Gate>(
     ensures cause { IfErr result (IsCause (asked (map string_bytes words.now)) (S.files shelf.old) (S.faults shelf.old) (S.faults shelf.new)) }
     ensures unchanged { IfErr result (λ problem. KeepsFiles problem (S.files shelf.old) (S.files shelf.new)) }
     ensures safe { EndsSafely (asked (map string_bytes words.now)) (S.files shelf.old) (S.files shelf.new) }
+    ensures untouched { NeedNoFile (asked (map string_bytes words.now)) → shelf.new ≡ shelf.old }
     ensures later { S.faults shelf.old ≤ S.faults shelf.new }
 {
     match read_words(alloc, words)? {

@@ -6,6 +6,7 @@ mod demo;
 mod drawn;
 mod fresh;
 mod nets;
+mod pairs;
 mod wide;
 
 use self::nets::{Gate, wired};
