@@ -32,6 +32,33 @@ fn draw(state: &mut u64) -> u64 {
     second ^ (second >> 31)
 }
 
+// Lanes in which a source is 0 or 1 as often; lanes in which an eighth or a thirty-second of the sources is 0, and the
+// lane in which none is; lanes in which as many are 1. In the last lane all are 0.
+const EVEN: u64 = 0x0000_ffff_ffff_ffff;
+
+const FEW_ZEROS: u64 = 0x000f_0000_0000_0000;
+
+const FEWER_ZEROS: u64 = 0x0070_0000_0000_0000;
+
+const ALL_ONES: u64 = 0x0080_0000_0000_0000;
+
+const FEW_ONES: u64 = 0x0f00_0000_0000_0000;
+
+const FEWER_ONES: u64 = 0x7000_0000_0000_0000;
+
+// The next word of a source. A wide gate is tested by vectors that give nearly all its pins one value, which even draws
+// seldom do.
+fn draw_word(state: &mut u64) -> u64 {
+    let even = draw(state);
+    let few = draw(state) & draw(state) & draw(state);
+    let fewer = few & draw(state) & draw(state);
+    let mostly_ones = ((few ^ u64::MAX) & FEW_ZEROS)
+        | ((fewer ^ u64::MAX) & FEWER_ZEROS)
+        | ALL_ONES;
+    let mostly_zeros = (few & FEW_ONES) | (fewer & FEWER_ONES);
+    (even & EVEN) | mostly_ones | mostly_zeros
+}
+
 // So many drawn words, the same each time.
 fn drawn_words(alloc: Global, count: usize) -> Result<Vec<u64>, NoMemory>
     ensures { IfOk result (λ v. length v.items ≡ count) }
@@ -39,7 +66,7 @@ fn drawn_words(alloc: Global, count: usize) -> Result<Vec<u64>, NoMemory>
     let mut words = vec![in alloc; 0u64; count]?;
     let mut state = 1u64;
     for word in words.iter_mut() {
-        *word = draw(&mut state);
+        *word = draw_word(&mut state);
     }
     Ok(words)
 }
