@@ -1,30 +1,26 @@
 -- A candidate's wire may be added, with or without its Not, and neither step is refused.
-use Rattle.std.proofs.Common.{◌≡◌, ◌≢◌, ℕ, zero, suc, ◌+◌, ◌-◌, ◌<◌, ◌≤◌, ◌⊎◌, inl, inr, Bool, true, false, not, Option, Some, None, List, [], ◌∷◌, ◌++◌, length, refl, sym, ◌∙◌, ap, subst, arith}
+use Rattle.std.proofs.Common.{◌≡◌, ℕ, zero, suc, ◌<◌, inl, inr, Bool, true, false, Option, Some, None, List, [], ◌∷◌, ◌++◌, length, refl, sym, ◌∙◌, ap, subst}
 use Rattle.std.specs.Prelude.{slice_get, nat_lt, ◌↔◌, if◌then◌else◌}
 use Rattle.std.proofs.lemmas.Bool.{lt-ltb, cases_eq}
 use Rattle.rm_base.specs.declared.numbers.Fault.{Fault}
 use Rattle.rm_base.specs.declared.numbers.NodeId.{NodeId}
 use Rattle.gate_net.specs.declared.Kind.{Kind}
 use Rattle.gate_net.specs.declared.Kind.TheVariants.{Source, Zero, One, And, Or, Not}
-use Rattle.gate_net.specs.Net.{Node, Net, node_at, kind_of, kind_in, drivers_in, drivers_of, Reads, IsKind, IsLive, IsWellFormed, wire_count}
-use Rattle.gate_net.specs.Values.{IsJunction, HasPin, controlling}
-use Rattle.gate_net.specs.Paths.{Reaches}
+use Rattle.gate_net.specs.Net.{Net, kind_in, drivers_in, drivers_of, Reads, IsLive, IsWellFormed, wire_count}
+use Rattle.gate_net.specs.Values.{IsJunction, controlling}
 use Rattle.gate_net.specs.Edits.{with_pin, last_pin}
 use Rattle.gate_net.proofs.Bools.{not_true}
 use Rattle.gate_net.proofs.Edited.{node_at-other, node_at-there}
-use Rattle.wire_edit.specs.declared.steps.Step.{Step}
 use Rattle.wire_edit.specs.declared.steps.Step.TheVariants.{Add, NewNot}
-use Rattle.wire_edit.specs.declared.refusal.EditRefusal.{EditRefusal}
 use Rattle.wire_edit.specs.declared.room.Room.{Room}
 use Rattle.wire_edit.specs.Changes.{with_new_not}
 use Rattle.wire_edit.specs.Tests.{is_live, is_junction, is_among, is_present, control_of, gate_control}
 use Rattle.wire_edit.specs.Steps.{Applies, stepped}
-use Rattle.wire_edit.specs.Refusals.{refusal_of, IsAnswer, ClosesCycle, live_count, ceiling}
+use Rattle.wire_edit.specs.Refusals.{refusal_of, ClosesCycle, live_count, ceiling}
 use Rattle.wire_edit.specs.Order.{node}
-use Rattle.wire_edit.proofs.Tested.{is_live_there, among_at, junction_gate, got, within}
+use Rattle.wire_edit.proofs.Tested.{is_live_there, among_at, junction_gate}
 use Rattle.wire_edit.proofs.Reading.{gate_live}
 use Rattle.candidate_wires.specs.declared.candidate.Candidate.{Candidate}
-use Rattle.candidate_wires.specs.Joining.{MayRead}
 use Rattle.candidate_wires.specs.Gains.{least_free, net_for, wire_for, with_candidate}
 use Rattle.rar_loop.specs.Trying.{MayAdd}
 use Rattle.rar_loop.proofs.NewNots.{live_apart, not_there, not_kind, not_drivers, not_live, not_reached, least_dead}

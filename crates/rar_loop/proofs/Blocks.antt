@@ -1,23 +1,16 @@
 -- Additions of lists of steps that are put together.
-use Rattle.std.proofs.Common.{◌≡◌, ℕ, zero, suc, ◌+◌, ◌<◌, ◌≤◌, Bool, true, false, Option, Some, None, List, [], ◌∷◌, ◌++◌, length, refl, sym, ◌∙◌, ap, subst, append_assoc, arith}
-use Rattle.std.specs.Prelude.{nat_eq, if◌then◌else◌}
+use Rattle.std.proofs.Common.{◌≡◌, ℕ, ◌+◌, Bool, true, false, Option, Some, None, List, [], ◌∷◌, ◌++◌, refl, sym, ◌∙◌, ap, subst, arith}
 use Rattle.rm_base.specs.declared.numbers.Fault.{Fault}
-use Rattle.rm_base.specs.declared.numbers.NodeId.{NodeId}
 use Rattle.gate_net.specs.Net.{Net}
-use Rattle.refutation.specs.declared.items.Item.{Item}
 use Rattle.wire_edit.specs.declared.steps.Step.{Step}
 use Rattle.wire_edit.specs.declared.steps.Step.TheVariants.{Add, Fix, NewNot, Const, Same, NoPins, OnePin, Twice, Twin, Dead}
 use Rattle.wire_edit.specs.Steps.{stepped}
-use Rattle.wire_edit.specs.Order.{node}
-use Rattle.candidate_wires.specs.declared.candidate.Candidate.{Candidate}
-use Rattle.candidate_wires.specs.declared.candidate.Pair.{Pair}
-use Rattle.candidate_wires.specs.Gains.{least_free, net_for, wire_for}
-use Rattle.candidate_wires.specs.Additions.{Addition, NewNode, additions_from, additions, first_fix, net_at_next, net_before, wire_of, net_after}
-use Rattle.candidate_wires.specs.Tries.{HasPlace, ArePlaces, AreTries, Improves, EachImproves}
+use Rattle.candidate_wires.specs.Additions.{Addition, NewNode, additions_from, additions, first_fix, net_at_next, net_after}
+use Rattle.candidate_wires.specs.Tries.{ArePlaces, EachImproves}
 use Rattle.journal_text.specs.declared.record.Record.{Record}
 use Rattle.journal_text.specs.declared.record.Record.TheVariants as record_of
 use Rattle.journal_text.specs.Runs.{AcceptedTo, steps_of}
-use Rattle.journal_text.specs.Runs.{IsRemoval, AreRemovals}
+use Rattle.journal_text.specs.Runs.{AreRemovals}
 use Rattle.rar_loop.specs.Trying.{IsClean}
 
 abbrev pub is_pending : Option NewNode → Bool

@@ -1,13 +1,13 @@
 -- A fix in a net without constant pins, and tidying, leave fewer wires.
-use Rattle.std.proofs.Common.{◌≡◌, ℕ, ◌+◌, ◌<◌, ◌≤◌, Some, refl, sym, subst, arith}
+use Rattle.std.proofs.Common.{◌≡◌, ◌+◌, ◌<◌, ◌≤◌, arith}
 use Rattle.rm_base.specs.declared.numbers.Fault.{Fault}
-use Rattle.gate_net.specs.Net.{Net, drivers_of, Reads, IsGate, IsWellFormed, wire_count}
+use Rattle.gate_net.specs.Net.{Net, drivers_of, IsGate, IsWellFormed, wire_count}
 use Rattle.gate_net.specs.Edits.{fixed}
 use Rattle.wire_edit.specs.declared.steps.Step.{Step}
 use Rattle.wire_edit.specs.declared.steps.Step.TheVariants.{Add, Fix, NewNot, Const, Same, NoPins, OnePin, Twice, Twin, Dead}
 use Rattle.wire_edit.specs.Laws.{IsTidying}
 use Rattle.wire_edit.specs.Steps.{Applies, stepped, change_of}
-use Rattle.wire_edit.specs.Order.{IsTidy, next_step}
+use Rattle.wire_edit.specs.Order.{IsTidy}
 use Rattle.wire_edit.specs.Work.{free_pins}
 use Rattle.wire_edit.proofs.Tested.{is_gate_there, within}
 use Rattle.wire_edit.proofs.Conditions.{applies_changes}

@@ -1,16 +1,16 @@
 -- What kept vectors tell of a candidate: with its wire in the net one of them detects the fault of the wire's pin, which then
 -- has a set of facts closed at every depth.
-use Rattle.std.proofs.Common.{◌≡◌, ℕ, zero, suc, ◌<◌, ◌^◌, ◌⊎◌, ◌&&◌, inl, inr, Bool, true, false, not, IsTrue, Option, Some, None, List, [], ◌∷◌, replicate, length, refl, sym, ◌∙◌, ap, subst, w64}
+use Rattle.std.proofs.Common.{◌≡◌, ℕ, zero, suc, ◌<◌, ◌^◌, ◌⊎◌, ◌&&◌, inl, inr, Bool, true, false, not, IsTrue, Option, Some, None, List, [], ◌∷◌, replicate, refl, sym, ◌∙◌, ap, subst, w64}
 use Rattle.std.specs.Int.{trailing_zeros}
-use Rattle.std.specs.Prelude.{bit_and, bit_xor, slice_get, slice_index, slice_set, if◌then◌else◌}
+use Rattle.std.specs.Prelude.{bit_and, slice_get, slice_index, slice_set, if◌then◌else◌}
 use Rattle.rm_base.specs.declared.numbers.NodeId.{NodeId}
-use Rattle.gate_net.specs.Net.{Net, drivers_of, Reads, IsWellFormed}
+use Rattle.gate_net.specs.Net.{Net, drivers_of, IsWellFormed}
 use Rattle.gate_net.specs.Values.{Detects, HasPin}
 use Rattle.gate_net.specs.Edits.{last_pin}
 use Rattle.gate_net.specs.Laws.{OutsideIsEqual}
 use Rattle.refutation.specs.Detected.{DetectedHaveOpenSets}
 use Rattle.fault_sim.specs.LaneStates.{Fits, IsSimulated, LaneState}
-use Rattle.fault_sim.specs.Words.{all_ones, assignment, lane, lane_values}
+use Rattle.fault_sim.specs.Words.{assignment, lane, lane_values}
 use Rattle.fault_sim.proofs.LaneLaws.{lane_and, lane_not, lane_zero}
 use Rattle.fault_sim.proofs.Seeing.{first_lane}
 use Rattle.wire_edit.specs.declared.steps.Step.TheVariants.{Add, NewNot}

@@ -1,5 +1,5 @@
 -- A tidy net has no pin that a constant drives, and no removal makes another pin free.
-use Rattle.std.proofs.Common.{◌≡◌, ◌≢◌, ℕ, zero, suc, ◌+◌, ◌-◌, ◌<◌, ◌≤◌, Bool, true, false, not, ◌&&◌, Option, Some, None, List, [], ◌∷◌, length, map, refl, sym, ◌∙◌, ap, arith}
+use Rattle.std.proofs.Common.{◌≡◌, ℕ, zero, suc, ◌+◌, ◌-◌, ◌<◌, ◌≤◌, Bool, true, false, not, Option, Some, None, List, [], ◌∷◌, length, map, refl, sym, ◌∙◌, ap, arith}
 use Rattle.std.specs.Prelude.{slice_get, slice_set, nat_lt, option_and_then, if◌then◌else◌}
 use Rattle.std.specs.List.{sum_by}
 use Rattle.std.proofs.lemmas.Bool.{and_from, ltb-true, ltb-false, lt-ltb}
@@ -7,9 +7,9 @@ use Rattle.std.proofs.lemmas.List.Sums.{sum_by-cons}
 use Rattle.rm_base.specs.declared.numbers.NodeId.{NodeId}
 use Rattle.gate_net.specs.declared.Kind.{Kind}
 use Rattle.gate_net.specs.declared.Kind.TheVariants.{Source, Zero, One, And, Or, Not}
-use Rattle.gate_net.specs.Net.{Node, Net, node_at, kind_in, drivers_in, drivers_of, flatten_option, Reads, IsKind, IsGate, IsGateKind, IsWellFormed, plain_node, source_count, wire_count}
+use Rattle.gate_net.specs.Net.{Node, Net, node_at, kind_in, drivers_in, drivers_of, flatten_option, Reads, IsGate, IsWellFormed, plain_node, source_count, wire_count}
 use Rattle.gate_net.specs.Values.{same_bool}
-use Rattle.gate_net.specs.Edits.{with_drivers, without, constant_node, constant_kind, redirected, node_redirected, with_readers_moved}
+use Rattle.gate_net.specs.Edits.{without, constant_node, node_redirected}
 use Rattle.wire_edit.specs.declared.steps.Step.{Step}
 use Rattle.wire_edit.specs.declared.steps.Step.TheVariants.{Add, Fix, NewNot, Const, Same, NoPins, OnePin, Twice, Twin, Dead}
 use Rattle.wire_edit.specs.Tests.{is_gate, is_in_use, is_present, constant_at, constant_of, control_of, kind_constant}

@@ -1,5 +1,5 @@
 -- Going on inside a trial, step by step.
-use Rattle.std.proofs.Common.{◌≡◌, ◌≢◌, ℕ, zero, suc, ◌+◌, ◌-◌, ◌<◌, ◌≤◌, Bool, true, false, Option, Some, None, List, [], ◌∷◌, ◌++◌, length, refl, sym, ◌∙◌, ap, subst, append_assoc, arith}
+use Rattle.std.proofs.Common.{◌≡◌, ℕ, ◌+◌, ◌-◌, ◌<◌, ◌≤◌, Bool, true, false, Option, Some, None, List, [], ◌∷◌, ◌++◌, length, refl, sym, ◌∙◌, ap, subst, append_assoc, arith}
 use Rattle.std.specs.Prelude.{Ok, Err, nat_lt, if◌then◌else◌}
 use Rattle.gate_net.specs.Values.{same_bool}
 use Rattle.gate_net.specs.Edits.{constant_node, fixed}
@@ -8,7 +8,7 @@ use Rattle.std.proofs.lemmas.Bool.{lt-ltb}
 use Rattle.std.proofs.lemmas.List.{append-nil, length-append}
 use Rattle.rm_base.specs.declared.numbers.Fault.{Fault}
 use Rattle.rm_base.specs.declared.numbers.NodeId.{NodeId}
-use Rattle.gate_net.specs.Net.{Net, drivers_of, Reads, IsGate, IsLive, IsWellFormed, wire_count, gate_count}
+use Rattle.gate_net.specs.Net.{Net, drivers_of, IsWellFormed, wire_count}
 use Rattle.gate_graph.specs.Circuit.{net_of}
 use Rattle.gate_graph.specs.Holds.{HoldsOn}
 use Rattle.refutation.specs.Branches.{AreAccepted}
@@ -17,7 +17,7 @@ use Rattle.wire_edit.specs.declared.steps.Step.{Step}
 use Rattle.wire_edit.specs.declared.steps.Step.TheVariants.{Add, Fix, NewNot, Const, Same, NoPins, OnePin, Twice, Twin, Dead}
 use Rattle.wire_edit.specs.declared.refusal.EditRefusal.{EditRefusal}
 use Rattle.wire_edit.specs.declared.room.Room.{Room}
-use Rattle.wire_edit.specs.Tests.{is_live, is_gate, control_of, constant_at}
+use Rattle.wire_edit.specs.Tests.{is_live, control_of, constant_at}
 use Rattle.wire_edit.specs.Steps.{Applies, stepped, change_of, constant_change}
 use Rattle.wire_edit.specs.Refusals.{refusal_of, room_after, IsAnswer}
 use Rattle.wire_edit.specs.Order.{next_step}
@@ -25,7 +25,7 @@ use Rattle.wire_edit.specs.Laws.{IsTidying}
 use Rattle.wire_edit.specs.Tried.{Tried, start_of, Tidies}
 use Rattle.wire_edit.specs.Work.{work, pins_made, RoomForTidying, RoomForFixes}
 use Rattle.wire_edit.proofs.Ordering.{next_applies}
-use Rattle.wire_edit.proofs.Tested.{gate_is, is_live_there}
+use Rattle.wire_edit.proofs.Tested.{is_live_there}
 use Rattle.wire_edit.proofs.Reading.{gate_live}
 use Rattle.wire_edit.proofs.Ending.{wires_grow}
 use Rattle.wire_edit.proofs.Budgets.{length_budget}
@@ -127,7 +127,7 @@ tallies_one t u r log new is some room holds =
 
 -- GOING ON
 pub goes_none : (t : Tried) (log : List Record) → Goes t t log log
-goes_none t log = record { logs = logs_none (net_of t.graph) log; no_larger = record { wires = omega arith; gates = omega arith; numbers = omega arith }; start = refl; epoch = refl; room = λ k le. le; tallies = tallies_none t log }
+goes_none t log = record { logs = logs_none (net_of t.graph) log; no_larger = record { wires = omega arith; gates = omega arith; numbers = omega arith }; start = refl; first = refl; epoch = refl; room = λ k le. le; tallies = tallies_none t log }
 
 pub goes_then : (t u v : Tried) (a b c : List Record) → Goes t u a b → Goes u v b c → Goes t v a c
 goes_then t u v a b c g h = record {
@@ -138,6 +138,7 @@ goes_then t u v a b c g h = record {
     numbers = omega (arith, g.no_larger.numbers, h.no_larger.numbers);
   };
   start = h.start ∙ g.start;
+  first = h.first ∙ g.first;
   epoch = h.epoch ∙ g.epoch;
   room = λ k le. h.room k (g.room k le);
   tallies = tallies_then t u v a b c g.tallies h.tallies;
@@ -146,12 +147,13 @@ goes_then t u v a b c g h = record {
 -- a removal was made and recorded
 pub goes_one :
     (t u : Tried) (step : Step) (tree : List Item) (log new : List Record) → IsWellFormed (net_of t.graph) → IsAcceptedStep (net_of t.graph) step tree → IsRemoval step
-    → net_of u.graph ≡ stepped (net_of t.graph) step → new ≡ log ++ record_of.Step step tree ∷ [] → start_of u ≡ start_of t → u.graph.epoch ≡ t.graph.epoch
+    → net_of u.graph ≡ stepped (net_of t.graph) step → new ≡ log ++ record_of.Step step tree ∷ [] → start_of u ≡ start_of t → u.first ≡ t.first → u.graph.epoch ≡ t.graph.epoch
     → ((k : ℕ) → work (net_of t.graph) + k ≤ t.room.steps → work (net_of u.graph) + k ≤ u.room.steps) → Tallies t u log new → Goes t u log new
-goes_one t u step tree log new well accepted removal net is start epoch room tallies = record {
+goes_one t u step tree log new well accepted removal net is start first epoch room tallies = record {
   logs = subst (λ (n : Net). Logs (net_of t.graph) n log new) (sym net) (logs_one (net_of t.graph) step tree log new accepted removal is);
   no_larger = subst (λ (n : Net). IsNoLarger (net_of t.graph) n) (sym net) (no_larger (net_of t.graph) step well accepted.applies removal);
   start = start;
+  first = first;
   epoch = epoch;
   room = room;
   tallies = tallies;
@@ -208,11 +210,11 @@ room_on room after step w k is le =
     omega (arith, le, e)
 
 pub tidied_step :
-    RoomForTidying → (t u : Tried) (step : Step) (log new : List Record) → IsWellFormed (net_of t.graph) → Tidies t u (Ok (Some step)) → start_of u ≡ start_of t → u.graph.epoch ≡ t.graph.epoch
+    RoomForTidying → (t u : Tried) (step : Step) (log new : List Record) → IsWellFormed (net_of t.graph) → Tidies t u (Ok (Some step)) → start_of u ≡ start_of t → u.first ≡ t.first → u.graph.epoch ≡ t.graph.epoch
     → new ≡ log ++ record_of.Step step [] ∷ [] → 0 < t.room.steps → HoldsOn t.graph u.graph t.trail.entries u.trail.entries → Goes t u log new
-tidied_step law t u step log new well made start epoch is some holds =
+tidied_step law t u step log new well made start first epoch is some holds =
     let n : IsTidying step × Applies (net_of t.graph) step = next_applies (net_of t.graph) step made.0 in
-    goes_one t u step [] log new well (record { applies = n.1; grows = tidying_grows (net_of t.graph) step n.0; justified = tidying_justified (net_of t.graph) step n.0 }) (tidying_removes step n.0) made.1.0 is start epoch
+    goes_one t u step [] log new well (record { applies = n.1; grows = tidying_grows (net_of t.graph) step n.0; justified = tidying_justified (net_of t.graph) step n.0 }) (tidying_removes step n.0) made.1.0 is start first epoch
     (λ k le.
     let r : (0 < t.room.steps) × (work (stepped (net_of t.graph) step) + k ≤ t.room.steps - 1) = law (net_of t.graph) step k t.room.steps well made.0 le in
     let w : work (net_of u.graph) ≡ work (stepped (net_of t.graph) step) = ap work made.1.0 in
@@ -232,13 +234,13 @@ never_full law t u why well le made = at (next_step (net_of t.graph)) refl
 -- FIXING
 pub fixed_step :
     RoomForFixes → (t u : Tried) (fault : Fault) (tree : List Item) (log new : List Record) → IsWellFormed (net_of t.graph) → HasFreePin (net_of t.graph) fault → AreAccepted (net_of t.graph) fault tree
-    → net_of u.graph ≡ fixed (net_of t.graph) fault → u.room ≡ room_after t.room (Fix fault.gate fault.position fault.value) → start_of u ≡ start_of t → u.graph.epoch ≡ t.graph.epoch
+    → net_of u.graph ≡ fixed (net_of t.graph) fault → u.room ≡ room_after t.room (Fix fault.gate fault.position fault.value) → start_of u ≡ start_of t → u.first ≡ t.first → u.graph.epoch ≡ t.graph.epoch
     → new ≡ log ++ record_of.Step (Fix fault.gate fault.position fault.value) tree ∷ [] → work (net_of t.graph) ≤ t.room.steps → HoldsOn t.graph u.graph t.trail.entries u.trail.entries → Goes t u log new
-fixed_step law t u fault tree log new well pin accepted net room start epoch is fits holds =
+fixed_step law t u fault tree log new well pin accepted net room start first' epoch is fits holds =
     let step : Step = Fix fault.gate fault.position fault.value in
     let applies : Applies (net_of t.graph) step = fix_applies (net_of t.graph) fault well pin in
     let first : (0 < t.room.steps) × (work (stepped (net_of t.graph) step) + 0 ≤ t.room.steps - 1) = law (net_of t.graph) step pin.0 0 t.room.steps well applies pin.1.0 pin.1.1 (omega (arith, fits)) in
-    goes_one t u step tree log new well (record { applies = applies; grows = tt; justified = accepted }) tt net is start epoch
+    goes_one t u step tree log new well (record { applies = applies; grows = tt; justified = accepted }) tt net is start first' epoch
     (λ k le.
     let r : (0 < t.room.steps) × (work (stepped (net_of t.graph) step) + k ≤ t.room.steps - 1) = law (net_of t.graph) step pin.0 k t.room.steps well applies pin.1.0 pin.1.1 le in
     let w : work (net_of u.graph) ≡ work (stepped (net_of t.graph) step) = ap work net in

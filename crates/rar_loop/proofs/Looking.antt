@@ -1,12 +1,10 @@
 -- Looking at pins one after another, and passes over gates.
-use Rattle.std.proofs.Common.{◌≡◌, ℕ, zero, suc, ◌+◌, ◌-◌, ◌*◌, ◌<◌, ◌≤◌, ◌⊎◌, inl, inr, Bool, true, false, ◌||◌, Option, Some, None, List, length, refl, sym, ◌∙◌, ap, subst, arith}
+use Rattle.std.proofs.Common.{◌≡◌, ℕ, ◌+◌, ◌-◌, ◌*◌, ◌<◌, ◌≤◌, ◌⊎◌, inl, inr, Bool, true, false, ◌||◌, Option, Some, None, List, length, refl, sym, ◌∙◌, ap, subst, arith}
 use Rattle.std.specs.Prelude.{slice_get, if◌then◌else◌}
 use Rattle.std.proofs.lemmas.Bool.{cases_eq}
 use Rattle.rm_base.specs.declared.numbers.Fault.{Fault}
-use Rattle.gate_net.specs.Net.{Net, Node, node_at, drivers_in, drivers_of, Reads, IsWellFormed, wire_count}
-use Rattle.gate_net.specs.Values.{HasPin}
+use Rattle.gate_net.specs.Net.{Net, Node, node_at, drivers_in, drivers_of, Reads, wire_count}
 use Rattle.refutation.specs.declared.items.Item.{Item}
-use Rattle.wire_edit.specs.Order.{IsTidy}
 use Rattle.wire_edit.proofs.Tested.{within, got}
 use Rattle.wire_edit.proofs.Ordering.{live_below}
 use Rattle.rar_loop.specs.Going.{HasFreePin, ReadsNoConstants}

@@ -1,13 +1,12 @@
 -- The addition loop from block to block.
-use Rattle.std.proofs.Common.{◌≡◌, ℕ, zero, suc, ◌+◌, ◌-◌, ◌*◌, ◌<◌, ◌≤◌, Bool, true, false, Some, List, [], ◌∷◌, ◌++◌, Vec, Global, length, refl, sym, ◌∙◌, ap, subst, append_assoc, arith}
-use Rattle.std.proofs.lemmas.List.{append-nil}
+use Rattle.std.proofs.Common.{◌≡◌, ℕ, suc, ◌+◌, ◌*◌, ◌≤◌, Bool, true, false, Some, List, [], ◌∷◌, ◌++◌, length, refl, sym, ◌∙◌, ap, subst, arith}
 use Rattle.gate_net.specs.Net.{Net, IsWellFormed, wire_count, source_count, gate_count}
 use Rattle.wire_edit.specs.declared.steps.Step.{Step}
 use Rattle.wire_edit.specs.declared.steps.Step.TheVariants.{Add, Fix, NewNot, Const, Same, NoPins, OnePin, Twice, Twin, Dead}
 use Rattle.candidate_wires.specs.declared.candidate.Pair.{Pair}
-use Rattle.candidate_wires.specs.Pairs.{ArePairsBefore, paired}
+use Rattle.candidate_wires.specs.Pairs.{ArePairsBefore}
 use Rattle.candidate_wires.specs.Additions.{Addition, additions}
-use Rattle.candidate_wires.specs.Tries.{NoneGains, AreTries, ArePlaces, EachImproves}
+use Rattle.candidate_wires.specs.Tries.{NoneGains, ArePlaces, EachImproves}
 use Rattle.journal_text.specs.declared.record.Record.{Record}
 use Rattle.journal_text.specs.Runs.{AcceptedTo, steps_of}
 use Rattle.gate_graph.specs.Circuit.{Circuit, net_of, pins_taken, live_nodes}

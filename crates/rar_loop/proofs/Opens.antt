@@ -1,23 +1,20 @@
 -- An open set excludes a clash by direct implication, so what was tried in vain doesn't gain.
-use Rattle.std.proofs.Common.{◌≡◌, ℕ, zero, suc, ◌<◌, ◌≤◌, ◌⊎◌, inl, inr, Bool, true, false, not, Option, Some, None, List, refl, sym, ◌∙◌, ap, subst, arith}
+use Rattle.std.proofs.Common.{◌≡◌, ℕ, zero, suc, ◌<◌, ◌≤◌, ◌⊎◌, inl, inr, Bool, not, Option, Some, None, List, refl, sym, ◌∙◌, ap, subst, arith}
 use Rattle.rm_base.specs.declared.numbers.Fault.{Fault}
 use Rattle.gate_net.specs.Net.{Net, wire_count}
-use Rattle.gate_net.specs.Values.{HasPin}
-use Rattle.gate_net.specs.Edits.{fixed, last_pin}
-use Rattle.refutation.specs.Closing.{Clashes, IsClashFree, IsClosedUnderLines}
+use Rattle.gate_net.specs.Edits.{last_pin}
+use Rattle.refutation.specs.Closing.{Clashes, IsClosedUnderLines}
 use Rattle.refutation.specs.Facts.{Held}
 use Rattle.refutation.specs.Learning.{IsClosedAt}
 use Rattle.refutation.specs.Laws.{ClosedHasAll}
 use Rattle.wire_edit.specs.declared.steps.Step.{Step}
-use Rattle.wire_edit.specs.Tests.{control_of}
 use Rattle.wire_edit.specs.Steps.{stepped}
-use Rattle.wire_edit.specs.Order.{IsTidy, next_step}
 use Rattle.candidate_wires.specs.declared.candidate.Pair.{Pair}
 use Rattle.candidate_wires.specs.Gains.{with_candidate, Gains, SomeClashes}
 use Rattle.candidate_wires.specs.Tidying.{TidiesTo, tidy, then}
 use Rattle.journal_text.specs.declared.record.Record.{Record}
 use Rattle.refutation.specs.Detected.{HasOpenSet}
-use Rattle.rar_loop.specs.Swept.{IsSwept, HasSwept}
+use Rattle.rar_loop.specs.Swept.{IsSwept}
 use Rattle.rar_loop.specs.Trying.{IsNewPinOpen, IsReplaced}
 
 closed_lines : (net : Net) (fault : Fault) (depth : ℕ) (held : Held) → IsClosedAt net fault depth held → IsClosedUnderLines net fault held

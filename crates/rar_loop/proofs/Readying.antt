@@ -1,5 +1,5 @@
 -- Room and sizes while a wire is added, and what its pin's fault comes to.
-use Rattle.std.proofs.Common.{◌≡◌, ℕ, zero, suc, ◌+◌, ◌-◌, ◌*◌, ◌<◌, ◌≤◌, ◌⊎◌, inl, inr, Bool, true, false, not, Option, Some, None, List, [], ◌∷◌, ◌++◌, length, refl, sym, ◌∙◌, ap, subst, arith}
+use Rattle.std.proofs.Common.{◌≡◌, ℕ, suc, ◌+◌, ◌-◌, ◌*◌, ◌<◌, ◌≤◌, Bool, true, false, not, Option, Some, None, List, [], ◌∷◌, ◌++◌, length, refl, sym, ◌∙◌, ap, subst, arith}
 use Rattle.std.specs.Prelude.{slice_get, min, max, if◌then◌else◌}
 use Rattle.std.specs.List.{sum_by}
 use Rattle.std.proofs.lemmas.List.Sums.{sum_by-cons}
@@ -7,17 +7,16 @@ use Rattle.rm_base.specs.declared.numbers.Fault.{Fault}
 use Rattle.rm_base.specs.declared.numbers.NodeId.{NodeId}
 use Rattle.gate_net.specs.declared.Kind.{Kind}
 use Rattle.gate_net.specs.declared.Kind.TheVariants.{Source, Zero, One, And, Or, Not}
-use Rattle.gate_net.specs.Net.{Node, Net, node_at, drivers_of, drivers_in, flatten_option, Reads, IsKind, IsLive, IsGate, IsWellFormed, wire_count, source_count, gate_count, count_in, source_in, gate_in}
+use Rattle.gate_net.specs.Net.{Node, Net, node_at, drivers_of, flatten_option, IsLive, IsGate, IsWellFormed, wire_count, source_count, gate_count, count_in, source_in, gate_in}
 use Rattle.gate_net.specs.Values.{HasPin}
 use Rattle.gate_net.specs.Edits.{with_pin, last_pin}
 use Rattle.gate_graph.specs.Circuit.{net_of}
 use Rattle.refutation.specs.Branches.{AreAccepted}
 use Rattle.refutation.specs.declared.items.Item.{Item}
-use Rattle.wire_edit.specs.declared.steps.Step.{Step}
 use Rattle.wire_edit.specs.declared.steps.Step.TheVariants.{Add, NewNot}
 use Rattle.wire_edit.specs.declared.refusal.EditRefusal.{EditRefusal}
 use Rattle.wire_edit.specs.Tests.{control_of, live_in}
-use Rattle.wire_edit.specs.Steps.{Applies, stepped, change_of}
+use Rattle.wire_edit.specs.Steps.{Applies, stepped}
 use Rattle.wire_edit.specs.Refusals.{refusal_of, room_after, IsAnswer, live_count, ceiling}
 use Rattle.wire_edit.specs.Order.{node}
 use Rattle.wire_edit.specs.Tried.{Tried}

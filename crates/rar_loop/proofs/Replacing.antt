@@ -1,17 +1,15 @@
 -- What a try that went through left.
-use Rattle.std.proofs.Common.{◌≡◌, ℕ, zero, suc, ◌+◌, ◌<◌, ◌≤◌, ◌⊎◌, inl, inr, Bool, true, false, not, Option, Some, None, List, [], ◌∷◌, ◌++◌, length, refl, sym, ◌∙◌, ap, subst, append_assoc, arith}
-use Rattle.std.specs.Prelude.{nat_eq, max, if◌then◌else◌}
+use Rattle.std.proofs.Common.{◌≡◌, ℕ, ◌+◌, ◌<◌, ◌≤◌, inl, inr, Bool, true, false, Some, None, List, [], ◌∷◌, ◌++◌, length, refl, sym, ◌∙◌, ap, subst, append_assoc, arith}
+use Rattle.std.specs.Prelude.{nat_eq, if◌then◌else◌}
 use Rattle.std.proofs.lemmas.Bool.{eq-eqb}
 use Rattle.rm_base.specs.declared.numbers.Fault.{Fault}
 use Rattle.rm_base.specs.declared.numbers.NodeId.{NodeId}
-use Rattle.gate_net.specs.Net.{Net, Reads, IsLive, IsGate, IsWellFormed, wire_count, source_count, gate_count}
-use Rattle.rar_loop.specs.declared.trying.Attempt.{Attempt}
-use Rattle.rar_loop.specs.declared.trying.Attempt.TheVariants.{Gained, Failed}
+use Rattle.gate_net.specs.Net.{Net, IsGate, IsWellFormed, wire_count, source_count, gate_count}
 use Rattle.gate_net.specs.Values.{HasPin}
 use Rattle.gate_net.specs.Edits.{fixed}
 use Rattle.std.specs.Cmp.{nat_cmp_total}
 use Rattle.std.specs.FinSet.{same_set, len, nat_cmp-IsAntisymmetric}
-use Rattle.gate_graph.specs.Circuit.{Circuit, wiring, net_of, fanouts_of, live_nodes, pins_taken}
+use Rattle.gate_graph.specs.Circuit.{Circuit, wiring, net_of, live_nodes}
 use Rattle.gate_graph.specs.Holds.{pins_held}
 use Rattle.wire_edit.specs.Refusals.{live_count}
 use Rattle.journal_text.specs.Accepted.{AcceptedStepsKeep}
@@ -22,28 +20,30 @@ use Rattle.wire_edit.specs.declared.steps.Step.{Step}
 use Rattle.wire_edit.specs.declared.steps.Step.TheVariants.{Add, Fix, NewNot}
 use Rattle.wire_edit.specs.Steps.{stepped}
 use Rattle.wire_edit.specs.Order.{IsTidy, node}
-use Rattle.wire_edit.specs.Tried.{IsAt}
+use Rattle.wire_edit.specs.Tried.{Tried, IsAt, start_of}
+use Rattle.wire_edit.specs.declared.room.Room.{Room}
+use Rattle.gate_graph.specs.Entries.{back_to}
+use Rattle.gate_graph.specs.declared.entries.Entry.{Entry}
 use Rattle.candidate_wires.specs.declared.candidate.Candidate.{Candidate}
 use Rattle.candidate_wires.specs.declared.candidate.Pair.{Pair}
 use Rattle.candidate_wires.specs.Tidying.{TidiesTo}
-use Rattle.candidate_wires.specs.Gains.{least_free, net_for, wire_for, with_candidate, Gains}
+use Rattle.candidate_wires.specs.Gains.{least_free, wire_for, with_candidate, Gains}
 use Rattle.candidate_wires.specs.Additions.{Addition, additions, additions_from, net_after}
 use Rattle.journal_text.specs.declared.record.Record.{Record}
 use Rattle.journal_text.specs.declared.record.Record.TheVariants as record_of
 use Rattle.journal_text.specs.Runs.{AcceptedTo, steps_of}
-use Rattle.refutation.specs.Detected.{HasOpenSet}
 use Rattle.rar_loop.specs.Swept.{HasSwept}
 use Rattle.rar_loop.specs.Going.{HasFreePin, HasFixed, Logs, IsNoLarger}
 use Rattle.journal_text.specs.Runs.{AreRemovals}
-use Rattle.rar_loop.specs.Sizes.{IsSame, IsWithin, most_steps}
-use Rattle.rar_loop.specs.Trying.{IsBetter, IsBack, IsAttempt, MayTry, HasAdded, HasReplaced, IsReplaced, IsGained, IsClean, IsNewPinOpen, adding_records, not_records}
+use Rattle.rar_loop.specs.Sizes.{IsSame, most_steps}
+use Rattle.rar_loop.specs.Trying.{IsBetter, IsBack, IsLent, MayTry, HasAdded, HasReplaced, IsReplaced, IsGained, IsClean}
 use Rattle.rar_loop.proofs.FreePins.{reader_gate, tidy_reads_none}
 use Rattle.rar_loop.proofs.GoingOn.{accepted_then, removals_then}
 use Rattle.rar_loop.proofs.Adding.{pin_stays}
 use Rattle.rar_loop.proofs.Sizing.{HasSize, added_gates, added_numbers, accepted_places, accepted_sources, within_by}
 use Rattle.rar_loop.proofs.Readying.{live_bound}
 use Rattle.rar_loop.proofs.Opens.{open_pin_fails, open_target_fails}
-use Rattle.rar_loop.proofs.Blocks.{removals_clean, removals_add_none, accepted_after, steps_then}
+use Rattle.rar_loop.proofs.Blocks.{removals_clean, removals_add_none, accepted_after}
 
 -- THE TARGET'S PIN
 pub target_pin : (net after : Net) (pair : Pair) → IsWellFormed net → MayTry net pair → after ≡ with_candidate net pair.candidate → HasPin after pair.fault
@@ -154,6 +154,22 @@ rolled_back graph back start is at at' live live' =
     let g : gate_count (net_of back) ≡ gate_count (net_of graph) = ap gate_count net in
     record { net = net; pins = ap len taken; nodes = omega (arith, live, live', s, g) }
 
-pub attempt_fails : (graph : Circuit) (pair : Pair) (depth : ℕ) (attempt : Attempt) → IsBack graph attempt → (Gains (net_of graph) pair → ⊥) → IsAttempt graph pair depth attempt
-attempt_fails graph pair depth (Failed back) same fails = (same, fails)
-attempt_fails graph pair depth (Gained better records) same fails = absurd same
+-- a trial that was taken back to where it was lent
+pub back_again : (t u : Tried) → IsLent t → IsSame t.graph u.graph → u.trail.entries ≡ [] → u.room ≡ t.first → u.first ≡ t.first → IsBack t u
+back_again t u lent same none room first =
+    let wires : wire_count (net_of u.graph) ≡ wire_count (net_of t.graph) = ap wire_count same.net in
+    let live : live_count (net_of u.graph) ≡ live_count (net_of t.graph) = ap live_count same.net in
+    record {
+      same = same;
+      lent = record {
+        entries = none;
+        room = room ∙ sym first;
+        pins = ap (λ (r : Room). r.pins) first ∙ lent.pins;
+        nodes = ap (λ (r : Room). r.nodes) first ∙ lent.nodes;
+        steps = omega (arith, ap (λ (r : Room). r.steps) first, lent.steps, wires, live);
+        few = omega (arith, lent.few, same.pins, same.nodes);
+      };
+    }
+
+pub at_start : (t : Tried) → t.trail.entries ≡ [] → wiring t.graph ≡ start_of t
+at_start t e = ap (λ (es : List Entry). back_to (wiring t.graph) es) (sym e)

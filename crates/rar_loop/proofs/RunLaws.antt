@@ -1,5 +1,5 @@
 -- Rounds put together.
-use Rattle.std.proofs.Common.{◌≡◌, ℕ, zero, suc, ◌+◌, ◌-◌, ◌<◌, ◌≤◌, ◌⊎◌, inl, inr, Bool, true, false, Option, Some, None, List, [], ◌∷◌, ◌++◌, length, map, take, refl, sym, ◌∙◌, ap, subst, append_assoc, arith}
+use Rattle.std.proofs.Common.{◌≡◌, ℕ, zero, suc, ◌+◌, ◌-◌, ◌<◌, ◌≤◌, inl, inr, true, false, Option, Some, None, List, [], ◌∷◌, ◌++◌, length, map, take, refl, sym, ◌∙◌, ap, subst, append_assoc, arith}
 use Rattle.std.specs.Prelude.{slice_get}
 use Rattle.std.proofs.lemmas.List.{length-append}
 use Rattle.rm_base.specs.declared.numbers.Fault.{Fault}
@@ -8,22 +8,18 @@ use Rattle.gate_net.specs.Net.{Net, IsWellFormed}
 use Rattle.wire_edit.specs.declared.steps.Step.{Step}
 use Rattle.wire_edit.specs.declared.steps.Step.TheVariants.{Add, Fix, NewNot, Const, Same, NoPins, OnePin, Twice, Twin, Dead}
 use Rattle.wire_edit.specs.Steps.{stepped}
-use Rattle.candidate_wires.specs.declared.candidate.Candidate.{Candidate}
 use Rattle.candidate_wires.specs.declared.candidate.Pair.{Pair}
 use Rattle.candidate_wires.specs.declared.candidate.Outcome.{Outcome}
 use Rattle.candidate_wires.specs.declared.candidate.Outcome.TheVariants.{Settled, TriesSpent}
-use Rattle.candidate_wires.specs.Candidates.{AreCandidatesOf}
-use Rattle.candidate_wires.specs.Pairs.{paired, targets_of, ArePairsOf, ArePairs, ArePairsBefore}
+use Rattle.candidate_wires.specs.Pairs.{paired, ArePairsOf, ArePairs, ArePairsBefore}
 use Rattle.candidate_wires.specs.Laws.{PairsAreOne}
 use Rattle.candidate_wires.specs.Additions.{Addition, NewNode, additions_from, additions, net_after}
 use Rattle.candidate_wires.specs.Tries.{ArePlaces, AreTries}
-use Rattle.journal_text.specs.declared.record.Record.{Record}
-use Rattle.journal_text.specs.declared.record.Record.TheVariants as record_of
-use Rattle.journal_text.specs.Runs.{AcceptedTo, AreRemovals, steps_of, none_made, counted, made_by}
+use Rattle.journal_text.specs.Runs.{AcceptedTo, steps_of, none_made, counted, made_by}
 use Rattle.rar_loop.specs.Swept.{IsSwept}
 use Rattle.rar_loop.specs.Trying.{IsClean}
-use Rattle.rar_loop.specs.Ended.{IsImproved, Ends}
-use Rattle.rar_loop.specs.Rounds.{AreFirstPairs, AreInVain, HasFix, HaveRounds, first, further, IsPaired, ArePaired, IsRun, tries_of, is_settled, RunBegins, RunGoesOn}
+use Rattle.rar_loop.specs.Ended.{Ends}
+use Rattle.rar_loop.specs.Rounds.{AreInVain, HasFix, HaveRounds, first, further, ArePaired, tries_of, is_settled, RunBegins, RunGoesOn}
 use Rattle.rar_loop.proofs.Blocks.{is_pending, fix_then, removals_clean, removals_add_none, accepted_after, steps_then}
 use Rattle.rar_loop.proofs.GoingOn.{accepted_then}
 use Rattle.rar_loop.proofs.Looping.{clean_then}

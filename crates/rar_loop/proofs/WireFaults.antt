@@ -1,16 +1,13 @@
 -- What a vector tells of a wire that isn't there yet: where the gate's change is observed and the wire would make it, the
 -- vector detects the fault at the noncontrolling value of the wire's pin.
-use Rattle.std.proofs.Common.{◌≡◌, ◌≢◌, ℕ, zero, suc, Bool, true, false, not, inl, inr, Option, Some, None, List, [], ◌∷◌, ◌++◌, length, map, refl, sym, ◌∙◌, ap, subst}
+use Rattle.std.proofs.Common.{◌≡◌, ◌≢◌, ℕ, Bool, true, false, not, inl, inr, Some, List, [], ◌∷◌, ◌++◌, length, map, refl, sym, ◌∙◌, ap, subst}
 use Rattle.std.specs.Prelude.{slice_get, slice_set, nat_eq, if◌then◌else◌}
 use Rattle.std.proofs.lemmas.Bool.Decides.{eqb_tells}
 use Rattle.std.proofs.lemmas.Bool.{eq-eqb}
 use Rattle.rm_base.specs.declared.numbers.Fault.{Fault}
-use Rattle.gate_net.specs.declared.Kind.{Kind}
-use Rattle.gate_net.specs.declared.Kind.TheVariants.{Not}
 use Rattle.gate_net.specs.Net.{Net, node_at, drivers_in, drivers_of, Reads, IsLive, IsObserved, IsWellFormed}
 use Rattle.gate_net.specs.Values.{AreGoodValues, AreFaultyValues, Detects, IsJunction, IsRun, faulty_reads, gate_value, node_value}
 use Rattle.gate_net.specs.Edits.{with_pin, last_pin}
-use Rattle.gate_net.specs.Paths.{Reaches}
 use Rattle.gate_net.specs.Laws.{OutsideIsEqual}
 use Rattle.gate_net.proofs.AlongPins.{reads_elsewhere, reads_there, value_at}
 use Rattle.gate_net.proofs.Bools.{not_not}
@@ -20,7 +17,7 @@ use Rattle.gate_net.proofs.Places.{map_agree, map_at, map_last_set, set_there}
 use Rattle.gate_net.proofs.Valuations.{values_unique}
 use Rattle.wire_edit.specs.Changes.{with_new_not}
 use Rattle.candidate_wires.specs.declared.candidate.Candidate.{Candidate}
-use Rattle.candidate_wires.specs.Gains.{least_free, net_for, wire_for, with_candidate}
+use Rattle.candidate_wires.specs.Gains.{least_free, net_for, with_candidate}
 use Rattle.rar_loop.specs.Rows.{stuck}
 use Rattle.rar_loop.specs.Trying.{MayAdd}
 use Rattle.rar_loop.proofs.NewNots.{live_apart, least_dead, not_there, not_other}

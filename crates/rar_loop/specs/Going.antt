@@ -1,7 +1,7 @@
 -- What fixes and tidying do inside a trial.
-use Rattle.std.specs.Prelude.{◌≡◌, ◌<◌, ◌≤◌, ◌+◌, ◌++◌, ◌∷◌, [], ℕ, List, length}
+use Rattle.std.specs.Prelude.{◌≡◌, ◌<◌, ◌≤◌, ◌+◌, ◌++◌, ◌∷◌, ℕ, List, length}
 use Rattle.rm_base.specs.declared.numbers.Fault.{Fault}
-use Rattle.gate_net.specs.Net.{Net, Reads, wire_count, gate_count, source_count}
+use Rattle.gate_net.specs.Net.{Net, Reads, wire_count, gate_count}
 use Rattle.gate_graph.specs.Circuit.{net_of}
 use Rattle.gate_graph.specs.Holds.{HoldsOn}
 use Rattle.wire_edit.specs.declared.steps.Step.TheVariants.{Fix}
@@ -35,6 +35,7 @@ pub record Goes (old new : Tried) (log log' : List Record) : Type 0 where
   pub logs : Logs (net_of old.graph) (net_of new.graph) log log'
   pub no_larger : IsNoLarger (net_of old.graph) (net_of new.graph)
   pub start : start_of new ≡ start_of old
+  pub first : new.first ≡ old.first
   pub epoch : new.graph.epoch ≡ old.graph.epoch
   pub room : (k : ℕ) → work (net_of old.graph) + k ≤ old.room.steps → work (net_of new.graph) + k ≤ new.room.steps
   pub tallies : Tallies old new log log'

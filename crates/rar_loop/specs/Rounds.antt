@@ -1,13 +1,10 @@
 -- The rounds of a run: its steps fall into prefixes, after each of which some first pairs of the net were tried in vain.
-use Rattle.std.specs.Prelude.{◌≡◌, ◌≤◌, ◌<◌, ◌+◌, ◌-◌, ◌++◌, ◌∷◌, ◌⊎◌, [], ℕ, List, Bool, true, false, Some, length, map, take}
-use Rattle.rm_base.specs.declared.numbers.Fault.{Fault}
+use Rattle.std.specs.Prelude.{◌≡◌, ◌≤◌, ◌<◌, ◌+◌, ◌-◌, ◌++◌, ◌∷◌, ◌⊎◌, [], ℕ, List, Bool, true, false, length}
 use Rattle.gate_net.specs.Net.{Net, IsWellFormed}
 use Rattle.wire_edit.specs.declared.steps.Step.{Step}
 use Rattle.wire_edit.specs.declared.steps.Step.TheVariants.{Fix}
 use Rattle.candidate_wires.specs.declared.candidate.Pair.{Pair}
-use Rattle.candidate_wires.specs.declared.candidate.Candidate.{Candidate}
-use Rattle.candidate_wires.specs.Candidates.{AreCandidatesOf}
-use Rattle.candidate_wires.specs.Pairs.{ArePairs, ArePairsOf, ArePairsBefore, IsPlaceOf, paired, targets_of}
+use Rattle.candidate_wires.specs.Pairs.{ArePairs, ArePairsBefore}
 use Rattle.candidate_wires.specs.Additions.{Addition, additions, net_after}
 use Rattle.candidate_wires.specs.Tries.{AreTries, NoneGains, HasPlace}
 use Rattle.candidate_wires.specs.declared.candidate.Outcome.{Outcome}

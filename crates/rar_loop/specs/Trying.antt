@@ -1,6 +1,5 @@
 -- What a try of a pair does.
-use Rattle.std.specs.Prelude.{◌≡◌, ◌<◌, ◌≤◌, ◌+◌, ◌++◌, ◌∷◌, [], ◌⊎◌, ℕ, Bool, true, false, not, List, Some, if◌then◌else◌, length, max}
-use Rattle.rm_base.specs.declared.numbers.Fault.{Fault}
+use Rattle.std.specs.Prelude.{◌≡◌, ◌<◌, ◌≤◌, ◌+◌, ◌*◌, ◌++◌, ◌∷◌, [], ◌⊎◌, ℕ, Bool, true, false, not, List, Some, if◌then◌else◌, length, max}
 use Rattle.gate_net.specs.Net.{Net, wire_count, gate_count}
 use Rattle.gate_net.specs.Values.{HasPin}
 use Rattle.gate_net.specs.Edits.{fixed, last_pin}
@@ -13,13 +12,13 @@ use Rattle.wire_edit.specs.declared.steps.Step.TheVariants.{Add, Fix, NewNot}
 use Rattle.candidate_wires.specs.declared.candidate.Candidate.{Candidate}
 use Rattle.candidate_wires.specs.declared.candidate.Pair.{Pair}
 use Rattle.candidate_wires.specs.Joining.{MayRead}
-use Rattle.candidate_wires.specs.Gains.{net_for, wire_for, with_candidate, Gains}
+use Rattle.candidate_wires.specs.Gains.{wire_for, with_candidate, Gains}
 use Rattle.candidate_wires.specs.Additions.{additions}
 use Rattle.candidate_wires.specs.Tidying.{TidiesTo}
 use Rattle.journal_text.specs.declared.record.Record.{Record}
 use Rattle.journal_text.specs.declared.record.Record.TheVariants as record_of
 use Rattle.journal_text.specs.Runs.{AcceptedTo, steps_of}
-use Rattle.gate_graph.specs.Circuit.{Circuit, net_of}
+use Rattle.gate_graph.specs.Circuit.{Circuit, net_of, pins_taken, live_nodes}
 use Rattle.wire_edit.specs.Refusals.{live_count, ceiling}
 use Rattle.wire_edit.specs.Tried.{Tried}
 use Rattle.wire_edit.specs.Work.{work}
@@ -97,14 +96,29 @@ pub record IsBetter (before : Circuit) (pair : Pair) (depth : ℕ) (records : Li
   pub within : IsWithin before graph
   pub few : length records ≤ most_steps
 
-abbrev pub IsBack : Circuit → Attempt → Type 0
-IsBack before (Gained graph records) = ⊥
-IsBack before (Failed graph) = IsSame before graph
+-- a trial at its start, with the room that one try takes at most
+pub record IsLent (t : Tried) : Type 0 where
+  pub entries : t.trail.entries ≡ []
+  pub room : t.room ≡ t.first
+  pub pins : t.first.pins ≡ 2
+  pub nodes : t.first.nodes ≡ 1
+  pub steps : t.first.steps ≡ 2 * wire_count (net_of t.graph) + 2 * live_count (net_of t.graph) + 16
+  pub few : pins_taken t.graph + live_nodes t.graph ≤ 1048576
 
--- fewer wires; or the graph as it was, on whose net the pair doesn't gain
-abbrev pub IsAttempt : Circuit → Pair → ℕ → Attempt → Type 0
-IsAttempt before pair depth (Gained graph records) = IsBetter before pair depth records.items graph
-IsAttempt before pair depth (Failed graph) = IsSame before graph × (Gains (net_of before) pair → ⊥)
+-- the graph is as it was, and the trial may be lent again
+pub record IsBack (before now : Tried) : Type 0 where
+  pub same : IsSame before.graph now.graph
+  pub lent : IsLent now
+
+-- the trial's graph has fewer wires, by one addition, which is kept
+pub record IsAhead (before : Tried) (pair : Pair) (depth : ℕ) (records : List Record) (now : Tried) : Type 0 where
+  pub better : IsBetter before.graph pair depth records now.graph
+  pub kept : now.trail.entries ≡ []
+
+-- fewer wires; or all as it was, and the pair doesn't gain on the net
+abbrev pub IsAttempt : Tried → Pair → ℕ → Tried → Attempt → Type 0
+IsAttempt before pair depth now (Gained records) = IsAhead before pair depth records.items now
+IsAttempt before pair depth now Failed = IsBack before now × (Gains (net_of before.graph) pair → ⊥)
 
 -- there is room for the work and for as much more, and the net is far below the ceiling
 pub record IsReadyToAdd (trial : Tried) (more : ℕ) : Type 0 where

@@ -10,8 +10,11 @@ use Rattle.candidate_wires.specs.Pairs.{ArePairs, ArePairsBefore, paired}
 use Rattle.candidate_wires.specs.Tries.{NoneGains}
 use Rattle.rar_loop.specs.declared.walking.Walk.{Walk}
 use Rattle.rar_loop.specs.declared.walking.Walk.TheVariants.{Done, Spent, Gained}
+use Rattle.rar_loop.specs.declared.walking.Tour.{Tour}
+use Rattle.rar_loop.specs.declared.walking.Tour.TheVariants as tour
 use Rattle.rar_loop.specs.Sizes.{IsSame}
-use Rattle.rar_loop.specs.Trying.{IsBetter}
+use Rattle.rar_loop.specs.Trying.{IsBetter, IsBack, IsAhead}
+use Rattle.wire_edit.specs.Tried.{Tried}
 
 -- some candidates of a target were tried in vain: the first so many
 pub record AreTried (net : Net) (target : Fault) (here : List Candidate) (count : ℕ) : Type 0 where
@@ -19,15 +22,24 @@ pub record AreTried (net : Net) (target : Fault) (here : List Candidate) (count 
   pub none : NoneGains net (map (paired target) (take count here))
 
 -- all candidates of the target were tried in vain; or the tries are used up at one of them; or one gained
-abbrev pub IsTargetWalk : Circuit → Fault → ℕ → ℕ → ℕ → Walk → Type 0
-IsTargetWalk before target depth left after (Done graph) =
-    IsSame before graph × ((here : List Candidate) × (AreTried (net_of before) target here (length here) × (after + length here ≡ left)))
-IsTargetWalk before target depth left after (Spent graph at) =
-    IsSame before graph × ((here : List Candidate) × ((place : ℕ) × (AreTried (net_of before) target here place × ((at.fault ≡ target) × ((slice_get here place ≡ Some at.candidate) × ((after ≡ 0) × (place ≡ left)))))))
-IsTargetWalk before target depth left after (Gained graph records) =
-    (here : List Candidate) × ((place : ℕ) × ((c : Candidate) × (AreTried (net_of before) target here place × ((slice_get here place ≡ Some c) × ((after + suc place ≡ left) × IsBetter before (paired target c) depth records.items graph)))))
+abbrev pub IsTargetTour : Tried → Fault → ℕ → ℕ → ℕ → Tried → Tour → Type 0
+IsTargetTour before target depth left after now tour.Done =
+    IsBack before now × ((here : List Candidate) × (AreTried (net_of before.graph) target here (length here) × (after + length here ≡ left)))
+IsTargetTour before target depth left after now (tour.Spent at) =
+    IsBack before now × ((here : List Candidate) × ((place : ℕ) × (AreTried (net_of before.graph) target here place × ((at.fault ≡ target) × ((slice_get here place ≡ Some at.candidate) × ((after ≡ 0) × (place ≡ left)))))))
+IsTargetTour before target depth left after now (tour.Gained records) =
+    (here : List Candidate) × ((place : ℕ) × ((c : Candidate) × (AreTried (net_of before.graph) target here place × ((slice_get here place ≡ Some c) × ((after + suc place ≡ left) × IsAhead before (paired target c) depth records.items now)))))
 
--- all pairs were tried in vain; or those before one at which the tries are used up, or before one that gained
+-- all pairs were tried in vain; or those before one at which the tries are used up, or before one that gained, on the graph of the trial
+abbrev pub IsTour : Tried → ℕ → ℕ → ℕ → Tried → Tour → Type 0
+IsTour before depth left after now tour.Done =
+    IsBack before now × ((pairs : List Pair) × (ArePairs (net_of before.graph) pairs × (NoneGains (net_of before.graph) pairs × (after + length pairs ≡ left))))
+IsTour before depth left after now (tour.Spent at) =
+    IsBack before now × ((pairs : List Pair) × (ArePairsBefore (net_of before.graph) at pairs × (NoneGains (net_of before.graph) pairs × ((after ≡ 0) × (length pairs ≡ left)))))
+IsTour before depth left after now (tour.Gained records) =
+    (pair : Pair) × ((pairs : List Pair) × (ArePairsBefore (net_of before.graph) pair pairs × (NoneGains (net_of before.graph) pairs × ((after + suc (length pairs) ≡ left) × IsAhead before pair depth records.items now))))
+
+-- all pairs were tried in vain; or those before one at which the tries are used up, or before one that gained, on the graph that is given
 abbrev pub IsWalk : Circuit → ℕ → ℕ → ℕ → Walk → Type 0
 IsWalk before depth left after (Done graph) =
     IsSame before graph × ((pairs : List Pair) × (ArePairs (net_of before) pairs × (NoneGains (net_of before) pairs × (after + length pairs ≡ left))))

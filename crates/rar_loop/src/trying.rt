@@ -2,13 +2,13 @@
 ghost use Rattle.std.specs.Prelude.{◌≡◌, ◌<◌, ◌≤◌, ◌+◌, [], IfOk, OnOk, Bool, IsTrue, not, Some, length, min};
 ghost use Rattle.gate_net.specs.Edits.{last_pin};
 ghost use Rattle.wire_edit.specs.Tests.{control_of};
-ghost use Rattle.gate_graph.specs.Circuit.{Circuit, net_of, pins_taken, live_nodes, wiring};
-ghost use Rattle.gate_net.specs.Net.{source_count, gate_count};
+ghost use Rattle.gate_graph.specs.Circuit.{net_of, live_nodes};
+ghost use Rattle.gate_net.specs.Net.{wire_count, source_count, gate_count};
 ghost use Rattle.wire_edit.specs.Order.{IsTidy};
-ghost use Rattle.wire_edit.specs.Tried.{start_of};
+ghost use Rattle.wire_edit.specs.Tried.{Tried, start_of};
 ghost use Rattle.candidate_wires.specs.Gains.{net_for, wire_for, with_candidate};
 ghost use Rattle.rar_loop.specs.Going.{Tallies};
-ghost use Rattle.rar_loop.specs.Trying.{MayAdd, MayTry, HasAdded, HasReplaced, IsAttempt, IsBack, IsReadyToAdd, not_records};
+ghost use Rattle.rar_loop.specs.Trying.{MayAdd, MayTry, HasAdded, HasReplaced, IsAttempt, IsBack, IsLent, IsReadyToAdd, not_records};
 
 use crate::fixing::fix_and_tidy;
 use crate::refuting::refuted;
@@ -21,15 +21,15 @@ use journal_text::{Record, accepted_steps_keep};
 use refutation::laws::closed_has_all;
 use rm_base::{Fault, NoMemory, NodeId};
 use std::alloc::Global;
-use wire_edit::{BeginRefusal, Room, Step, Trial, room_suffices, tidying_ends};
+use wire_edit::{Step, Trial, room_suffices, tidying_ends};
 
 /// What came of a try.
 #[derive(Drop)]
 pub(crate) enum Attempt {
     /// There are fewer wires, by these records.
-    Gained { graph: Graph, records: Vec<Record> },
+    Gained { records: Vec<Record> },
     /// The graph is as it was.
-    Failed { graph: Graph },
+    Failed,
 }
 
 // Makes the Not that a fresh candidate reads, and gives the node that is to be read.
@@ -51,6 +51,7 @@ fn wire_of(
     ensures pins { OnOk result (1 ≤ trial.new.room.pins) }
     ensures tallies { OnOk result (Tallies trial.old trial.new log.old.items log.new.items) }
     ensures start { start_of trial.new ≡ start_of trial.old }
+    ensures first { trial.new.first ≡ trial.old.first }
     ensures epoch { trial.new.graph.epoch ≡ trial.old.graph.epoch }
 {
     if !candidate.fresh {
@@ -102,6 +103,7 @@ fn add_wire(
     ensures tallies { IfOk result (λ added. IsTrue added → Tallies trial.old trial.new log.old.items log.new.items) }
     ensures numbers { OnOk result (engine.new.numbers ≡ engine.old.numbers) }
     ensures start { start_of trial.new ≡ start_of trial.old }
+    ensures first { trial.new.first ≡ trial.old.first }
     ensures epoch { trial.new.graph.epoch ≡ trial.old.graph.epoch }
 {
     trial.graph().well_formed();
@@ -148,6 +150,7 @@ fn replace(
     ensures replaced { IfOk result (HasReplaced (net_of trial.old.graph) pair.now depth log.new.items (net_of trial.new.graph)) }
     ensures numbers { OnOk result (engine.new.numbers ≡ engine.old.numbers) }
     ensures start { OnOk result (start_of trial.new ≡ start_of trial.old) }
+    ensures first { OnOk result (trial.new.first ≡ trial.old.first) }
     ensures epoch { OnOk result (trial.new.graph.epoch ≡ trial.old.graph.epoch) }
 {
     trial.graph().well_formed();
@@ -165,53 +168,47 @@ fn replace(
     }
 }
 
-// Rolls the trial back.
-fn given_back(trial: Trial) -> Attempt
-    ensures { (graph : Circuit) → wiring graph ≡ start_of trial → live_nodes graph ≡ 2 + source_count (net_of graph) + gate_count (net_of graph) → IsBack graph result }
+// Takes the trial back to where it was lent.
+fn give_back(trial: &mut Trial)
+    ensures { (lent : Tried) → IsLent lent → start_of trial.old ≡ start_of lent → trial.old.first ≡ lent.first → live_nodes lent.graph ≡ 2 + source_count (net_of lent.graph) + gate_count (net_of lent.graph) → IsBack lent trial.new }
 {
-    let graph = trial.rollback();
-    graph.well_formed();
-    Attempt::Failed { graph }
+    trial.take_back();
+    trial.graph().well_formed();
 }
 
-/// Tries a pair of a swept net.
+/// Tries a pair of a swept net, whose wires were counted. The trial is where it was, or its graph has fewer wires.
 pub(crate) fn try_pair(
     alloc: Global,
     engine: &mut Engine,
-    graph: Graph,
+    trial: &mut Trial,
+    wires: u32,
     pair: &Pair,
     depth: u8,
 ) -> Result<Attempt, NoMemory>
-    requires tidy { IsTidy (net_of graph) }
-    requires pair { MayTry (net_of graph) pair.now }
-    requires few { pins_taken graph + live_nodes graph ≤ 1048576 }
-    requires numbers { min (length (net_of graph).nodes + 1) 4294967295 ≤ engine.old.numbers }
+    requires tidy { IsTidy (net_of trial.old.graph) }
+    requires pair { MayTry (net_of trial.old.graph) pair.now }
+    requires lent { IsLent trial.old }
+    requires wires { wires ≡ wire_count (net_of trial.old.graph) }
+    requires numbers { min (length (net_of trial.old.graph).nodes + 1) 4294967295 ≤ engine.old.numbers }
     requires depth { depth ≤ 2 }
-    ensures attempt { IfOk result (IsAttempt graph pair.now depth) }
+    ensures attempt { IfOk result (IsAttempt trial.old pair.now depth trial.new) }
     ensures numbers { OnOk result (engine.new.numbers ≡ engine.old.numbers) }
 {
-    graph.well_formed();
+    trial.graph().well_formed();
     tidying_ends();
     closed_has_all();
     accepted_steps_keep();
-    let wires = graph.wire_count();
-    let room = Room::enough(&graph);
-    let mut trial = match Trial::begin_tidy(alloc, graph, room) {
-        Ok(trial) => trial,
-        Err(BeginRefusal::NoMemory { graph: _ }) => return Err(NoMemory),
-    };
     let mut log = Vec::new(alloc);
-    let refuted = replace(alloc, engine, &mut trial, &mut log, pair, depth)?;
+    let refuted = replace(alloc, engine, trial, &mut log, pair, depth)?;
     if !refuted {
-        return Ok(given_back(trial));
+        give_back(trial);
+        return Ok(Attempt::Failed);
     }
     if trial.graph().wire_count() < wires {
-        let better = trial.commit();
-        better.well_formed();
-        return Ok(Attempt::Gained {
-            graph: better,
-            records: log,
-        });
+        trial.keep();
+        trial.graph().well_formed();
+        return Ok(Attempt::Gained { records: log });
     }
-    Ok(given_back(trial))
+    give_back(trial);
+    Ok(Attempt::Failed)
 }

@@ -1,10 +1,6 @@
-use Rattle.std.proofs.Common.{◌≡◌, ◌+◌, ◌*◌, ◌≤◌, List, ap, sym, ◌∙◌, subst, arith}
-use Rattle.gate_net.specs.Net.{Net, wire_count}
+use Rattle.std.proofs.Common.{◌+◌, ◌≤◌, ap, ◌∙◌, arith}
 use Rattle.gate_graph.specs.Circuit.{net_of}
-use Rattle.wire_edit.specs.Refusals.{live_count}
-use Rattle.wire_edit.specs.Tried.{Tried}
 use Rattle.wire_edit.specs.Work.{work}
-use Rattle.rar_loop.specs.Going.{Goes}
 use Rattle.rar_loop.proofs.GoingOn.{tallies_then}
 use Rattle.rar_loop.proofs.Sizing.{held_back}
 use Rattle.rar_loop.proofs.Looping.{begun_first, room_first}

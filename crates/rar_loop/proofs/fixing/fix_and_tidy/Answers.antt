@@ -1,4 +1,4 @@
-use Rattle.std.proofs.Common.{◌≡◌, ℕ, ◌+◌, ◌≤◌, ◌<◌, sym, ◌∙◌, ap, subst, List, [], ◌∷◌, ◌++◌, append_assoc, arith}
+use Rattle.std.proofs.Common.{◌+◌, ◌≤◌, ◌∙◌, ap, subst, List, [], ◌∷◌, ◌++◌, append_assoc, arith}
 use Rattle.wire_edit.specs.declared.steps.Step.TheVariants.{Fix}
 use Rattle.journal_text.specs.declared.record.Record.{Record}
 use Rattle.journal_text.specs.declared.record.Record.TheVariants as record_of
@@ -20,7 +20,7 @@ pub tidy-requires : goal.tidy-requires
 tidy-requires c =
     let formed : IsWellFormed (net_of c.args.trial.now.graph) = subst (λ (v : Circuit). IsWellFormed (net_of v)) c.graph.ensures c.well_formed-2.ensures.net in
     let one : Goes c.args.trial.now c.apply.new.self c.args.log.now.items c.push.new.self.items =
-    fixed_step c.room_suffices.ensures.fixes c.args.trial.now c.apply.new.self c.args.fault c.args.tree c.args.log.now.items c.push.new.self.items formed c.requires.pin c.requires.tree c.in-Ok.ensures.net c.in-Ok.ensures.room c.in-Ok.ensures.start c.in-Ok.ensures.epoch c.in_ok-push.ensures.items c.requires.room c.apply.ensures.held in
+    fixed_step c.room_suffices.ensures.fixes c.args.trial.now c.apply.new.self c.args.fault c.args.tree c.args.log.now.items c.push.new.self.items formed c.requires.pin c.requires.tree c.in-Ok.ensures.net c.in-Ok.ensures.room c.in-Ok.ensures.start c.in-Ok.ensures.first c.in-Ok.ensures.epoch c.in_ok-push.ensures.items c.requires.room c.apply.ensures.held in
     let zero : work (net_of c.apply.new.self.graph) + 0 ≤ c.apply.new.self.room.steps = one.room 0 (omega (arith, c.requires.room)) in
     record { room = omega (arith, zero) }
 
@@ -28,7 +28,7 @@ pub returns-clause-goes : goal.returns-clause-goes
 returns-clause-goes c =
     let formed : IsWellFormed (net_of c.args.trial.now.graph) = subst (λ (v : Circuit). IsWellFormed (net_of v)) c.graph.ensures c.well_formed-2.ensures.net in
     let one : Goes c.args.trial.now c.apply.new.self c.args.log.now.items c.push.new.self.items =
-    fixed_step c.room_suffices.ensures.fixes c.args.trial.now c.apply.new.self c.args.fault c.args.tree c.args.log.now.items c.push.new.self.items formed c.requires.pin c.requires.tree c.in-Ok.ensures.net c.in-Ok.ensures.room c.in-Ok.ensures.start c.in-Ok.ensures.epoch c.in_ok-push.ensures.items c.requires.room c.apply.ensures.held in
+    fixed_step c.room_suffices.ensures.fixes c.args.trial.now c.apply.new.self c.args.fault c.args.tree c.args.log.now.items c.push.new.self.items formed c.requires.pin c.requires.tree c.in-Ok.ensures.net c.in-Ok.ensures.room c.in-Ok.ensures.start c.in-Ok.ensures.first c.in-Ok.ensures.epoch c.in_ok-push.ensures.items c.requires.room c.apply.ensures.held in
     goes_then c.args.trial.now c.apply.new.self c.tidy.new.trial c.args.log.now.items c.push.new.self.items c.tidy.new.log.items one c.in_ok-tidy.ensures.goes
 
 pub returns-clause-fewer : goal.returns-clause-fewer

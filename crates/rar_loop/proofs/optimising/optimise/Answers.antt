@@ -1,13 +1,8 @@
-use Rattle.std.proofs.Common.{◌≡◌, ◌≤◌, List, Result, Ok, Err, refl, subst, arith}
+use Rattle.std.proofs.Common.{◌≡◌, List, Result, Ok, Err, refl, subst, arith}
 use Rattle.std.specs.Prelude.{IfErr}
-use Rattle.rm_base.specs.declared.settings.Made.{Made}
-use Rattle.gate_net.specs.Net.{Net}
-use Rattle.gate_graph.specs.Circuit.{net_of}
-use Rattle.candidate_wires.specs.declared.candidate.Outcome.TheVariants.{Settled, TriesSpent}
 use Rattle.journal_text.specs.Runs.{HasAppended, HasAppendedPart, made_by, none_made, records_text, steps_of}
 use Rattle.journal_text.specs.declared.record.Record.{Record}
 use Rattle.rar_loop.specs.declared.walking.Walk.TheVariants.{Done, Spent, Gained}
-use Rattle.rar_loop.specs.Ended.{IsOptimised}
 use Rattle.rar_loop.specs.Walking.{IsWalk}
 use Rattle.rar_loop.proofs.Streaming.{streams_first, streams_more, streams_done, streams_spent, stopped_whole, stopped_more}
 use Rattle.rar_loop.proofs.optimising.optimise.Goals as goal

@@ -1,11 +1,9 @@
-use Rattle.std.proofs.Common.{◌≡◌, Bool, true, false, Option, Some, None, List}
-use Rattle.rm_base.specs.declared.numbers.Fault.{Fault}
+use Rattle.std.proofs.Common.{Bool, true, false}
 use Rattle.gate_net.specs.Net.{Net, drivers_of}
 use Rattle.gate_graph.specs.Circuit.{net_of}
 use Rattle.wire_edit.proofs.Tested.{got}
 use Rattle.refutation.specs.Detected.{HasOpenSet}
-use Rattle.rar_loop.specs.Swept.{IsLooked}
-use Rattle.rar_loop.proofs.Looking.{none_of, both_values, looked_none}
+use Rattle.rar_loop.proofs.Looking.{both_values, looked_none}
 use Rattle.rar_loop.proofs.refuting.refuted_pin.Goals as goal
 
 pub refuted_unless_detected-requires-clause-pin : goal.refuted_unless_detected-requires-clause-pin

@@ -1,4 +1,4 @@
-use Rattle.std.proofs.Common.{◌≡◌, ℕ, ◌+◌, ◌≤◌, ◌<◌, sym, ◌∙◌, ap, subst, arith}
+use Rattle.std.proofs.Common.{◌≡◌, ◌+◌, ◌≤◌, ◌<◌, sym, ap, subst, arith}
 use Rattle.std.specs.Prelude.{Some, None, Ok, Err}
 use Rattle.gate_net.specs.Net.{Net, IsWellFormed}
 use Rattle.gate_graph.specs.Circuit.{Circuit, net_of}
@@ -18,7 +18,7 @@ loop-step-preserved c =
     let formed : IsWellFormed (net_of c.loop-step.trial.graph) = subst (λ (v : Circuit). IsWellFormed (net_of v)) c.graph.ensures c.well_formed-in-loop-step.ensures.net in
     let some : 0 < c.loop-step.trial.room.steps = c.tidy_one.ensures.room c.in-Ok-Some.step (rw c.in-Ok-Some.field-0-is at c.in-Ok-Some.is) in
     let one : Goes c.loop-step.trial c.tidy_one.new.self c.loop-step.log.items c.push_local.new.log.items =
-    tidied_step c.room_suffices.ensures.tidying c.loop-step.trial c.tidy_one.new.self c.in-Ok-Some.step c.loop-step.log.items c.push_local.new.log.items formed made c.in-Ok-Some.ensures.start c.in-Ok-Some.ensures.epoch c.in_ok-push_local-in-Ok-Some.ensures some c.tidy_one.ensures.held in
+    tidied_step c.room_suffices.ensures.tidying c.loop-step.trial c.tidy_one.new.self c.in-Ok-Some.step c.loop-step.log.items c.push_local.new.log.items formed made c.in-Ok-Some.ensures.start c.in-Ok-Some.ensures.first c.in-Ok-Some.ensures.epoch c.in_ok-push_local-in-Ok-Some.ensures some c.tidy_one.ensures.held in
     let zero : work (net_of c.tidy_one.new.self.graph) + 0 ≤ c.tidy_one.new.self.room.steps = one.room 0 (omega (arith, c.loop-step.invariant.room)) in
     record {
       goes = goes_then c.args.trial.now c.loop-step.trial c.tidy_one.new.self c.args.log.now.items c.loop-step.log.items c.push_local.new.log.items c.loop-step.invariant.goes one;

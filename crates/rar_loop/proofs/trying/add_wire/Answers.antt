@@ -1,11 +1,9 @@
-use Rattle.std.proofs.Common.{◌≡◌, ◌<◌, ◌≤◌, Bool, not, Some, length, sym, ◌∙◌, ap, subst, arith}
-use Rattle.rm_base.specs.declared.numbers.Fault.{Fault}
+use Rattle.std.proofs.Common.{◌≡◌, ◌<◌, ◌≤◌, not, length, ◌∙◌, ap, subst, arith}
 use Rattle.gate_net.specs.Net.{Net, IsWellFormed, wire_count}
 use Rattle.wire_edit.specs.Refusals.{ceiling}
 use Rattle.gate_net.specs.Edits.{last_pin}
 use Rattle.gate_graph.specs.Circuit.{Circuit, net_of}
 use Rattle.wire_edit.specs.declared.steps.Step.TheVariants.{Add}
-use Rattle.wire_edit.specs.Tests.{control_of}
 use Rattle.wire_edit.specs.Steps.{Applies}
 use Rattle.candidate_wires.specs.Gains.{net_for, with_candidate}
 use Rattle.rar_loop.proofs.Readying.{ready_after_add, add_refused, add_here, net_added, fault_is, fault_pin, size_within, new_pin_open, has_added}

@@ -1,9 +1,9 @@
-use Rattle.std.proofs.Common.{◌<◌, [], List, ap, ◌∙◌, subst, arith}
+use Rattle.std.proofs.Common.{[], ap, ◌∙◌, subst, arith}
 use Rattle.gate_net.specs.Net.{IsWellFormed}
 use Rattle.gate_graph.specs.Circuit.{Circuit, net_of}
 use Rattle.rar_loop.proofs.Adding.{node_of}
 use Rattle.rar_loop.proofs.Readying.{ready_after_not}
-use Rattle.rar_loop.proofs.GoingOn.{tallies_none, tallies_one, room_steps}
+use Rattle.rar_loop.proofs.GoingOn.{tallies_one, room_steps}
 use Rattle.wire_edit.specs.declared.steps.Step.TheVariants.{NewNot}
 use Rattle.journal_text.specs.declared.record.Record.TheVariants as record_of
 use Rattle.rar_loop.proofs.trying.wire_of.Goals as goal

@@ -1,14 +1,14 @@
-use Rattle.std.proofs.Common.{◌≡◌, ◌+◌}
+use Rattle.std.proofs.Common.{◌≡◌}
 use Rattle.gate_graph.specs.Circuit.{net_of}
 use Rattle.rar_loop.specs.Kept.{AreFor}
-use Rattle.rar_loop.specs.Sizes.{IsSame}
+use Rattle.rar_loop.specs.Trying.{IsBack}
 use Rattle.rar_loop.proofs.Pairing.{Walked}
 use Rattle.rar_loop.proofs.walking.walk_targets.Given as goal
 
 abbrev pub invariant-loop-place : goal.invariant-loop-place
 invariant-loop-place l = record {
-  stays : IsSame l.initial.graph l.graph;
-  walked : Walked (net_of l.initial.graph) l.faults.items l.place l.initial.left l.left;
+  stays : IsBack l.initial.trial l.trial;
+  walked : Walked (net_of l.initial.trial.graph) l.faults.items l.place l.initial.left l.left;
   numbers : l.engine.numbers ≡ l.initial.engine.numbers;
-  vectors : AreFor l.vectors (net_of l.initial.graph);
+  vectors : AreFor l.vectors (net_of l.initial.trial.graph);
 }
