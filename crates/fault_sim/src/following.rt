@@ -27,13 +27,7 @@ fn clear_word(good: &mut Vec<u64>, number: usize)
 }
 
 // Makes a live node's place pending, and clears the word of a dead one.
-fn touch(
-    graph: &Graph,
-    node: NodeId,
-    places: &[usize],
-    good: &mut Vec<u64>,
-    pending: &mut Vec<u64>,
-)
+fn touch(graph: &Graph, node: NodeId, places: &[usize], good: &mut Vec<u64>, pending: &mut Vec<u64>)
     requires within { kind_of (net_of graph.now) node.0 ≢ None → node.0 < length places.now }
     requires room { kind_of (net_of graph.now) node.0 ≢ None → slice_index places.now node.0 / 64 < length pending.old.items }
     ensures live { kind_of (net_of graph.now) node.0 ≢ None → IsMarked pending.old.items pending.new.items (slice_index places.now node.0) }

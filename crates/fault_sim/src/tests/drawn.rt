@@ -1,5 +1,5 @@
 // Faults of fifty drawn nets under 64 vectors: one in five of each net, and one vector in eight against a reading.
-ghost use Rattle.std.specs.Prelude.{◌≡◌, ◌<◌, ◌≤◌, ◌+◌, OnOk};
+ghost use Rattle.std.specs.Prelude.{◌≡◌, ◌<◌, ◌≤◌, ◌+◌, IfOk, IfSome, OnOk};
 ghost use Rattle.gate_graph.specs.Circuit.{live_nodes, net_of, pins_taken};
 ghost use Rattle.fault_sim.specs.LaneStates.{Fits};
 ghost use Rattle.ternary_sim.specs.Sims.{Fits as FitsSim};
@@ -27,7 +27,7 @@ pub(super) const ALL: [u64; 6] = [
 pub(super) const GATES: u32 = 12;
 
 // A number below `below`, by a linear congruence.
-fn draw(state: &mut u64, below: u32) -> u32
+pub(super) fn draw(state: &mut u64, below: u32) -> u32
     requires { 0 < below }
     ensures { result < below }
 {
@@ -65,6 +65,7 @@ fn add_drawn(
 // A net of so many sources and drawn gates, of which the last one, the third last and another are observed.
 pub(super) fn drawn_net(alloc: Global, sources: u32, seed: u64) -> Result<Option<Graph>, NoMemory>
     requires { sources ≤ 8 }
+    ensures { IfOk result (λ o. IfSome o (λ g. pins_taken g ≤ 2000)) }
 {
     let mut state = seed;
     let mut graph = Graph::new(alloc, sources)?;
