@@ -37,7 +37,7 @@ fn draw(state: &mut u64, below: u32) -> u32
 }
 
 // Adds a gate whose drivers are below the bound.
-fn add_drawn(
+pub fn add_drawn(
     alloc: Global,
     graph: &mut Graph,
     state: &mut u64,

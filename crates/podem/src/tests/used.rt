@@ -10,7 +10,7 @@ use rm_base::{Fault, NoMemory, NodeId};
 use std::alloc::Global;
 use std::test::Fail;
 
-fn same_verdict(one: &Verdict, other: &Verdict) -> bool {
+pub fn same_verdict(one: &Verdict, other: &Verdict) -> bool {
     match (one, other) {
         (Verdict::Detected(one), Verdict::Detected(other)) => {
             same_bits(one.values(), other.values())
