@@ -155,11 +155,9 @@ fn is_exact(
 }
 
 // How many faults give exactly the derivable facts, and how many others.
-fn count_exact(alloc: Global) -> Result<(u32, u32), NoMemory> {
-    let Some(graph) = wired(alloc, 4, &PARTS, 8)? else {
-        return Ok((0, 0));
-    };
-    let mut engine = Engine::new(alloc, &graph)?;
+fn count_exact(alloc: Global, engine: &mut Engine, graph: &Graph) -> Result<(u32, u32), NoMemory>
+    requires { length (net_of graph.now).nodes ≤ engine.old.numbers }
+{
     let mut exact = 0u32;
     let mut other = 0u32;
     for number in 0..20u32 {
@@ -168,7 +166,7 @@ fn count_exact(alloc: Global) -> Result<(u32, u32), NoMemory> {
             position: number % 2,
             value: number % 4 < 2,
         };
-        match is_exact(alloc, &mut engine, &graph, &fault)? {
+        match is_exact(alloc, engine, graph, &fault)? {
             Some(true) => exact = exact.wrapping_add(1),
             Some(false) => other = other.wrapping_add(1),
             None => {}
@@ -177,11 +175,20 @@ fn count_exact(alloc: Global) -> Result<(u32, u32), NoMemory> {
     Ok((exact, other))
 }
 
+// The same of the net.
+fn count_parts(alloc: Global) -> Result<(u32, u32), NoMemory> {
+    let Some(graph) = wired(alloc, 4, &PARTS, 8)? else {
+        return Ok((0, 0));
+    };
+    let mut engine = Engine::new(alloc, &graph)?;
+    count_exact(alloc, &mut engine, &graph)
+}
+
 // Of the eight faults of the observed part seven don't clash: only the 1 stuck at 1 does. (c + d)' c is always 0, and of
 // the ten faults there four don't: (c + d)' and c stuck at 1 in the product, and c in the sum and the sum stuck at 0.
 #[test]
 fn closes_to_the_derivable_facts(rt: HostRuntime) -> Result<(), Fail> {
-    assert_eq!(rt; count_exact(rt.alloc())?, (11, 0));
+    assert_eq!(rt; count_parts(rt.alloc())?, (11, 0));
     Ok(())
 }
 
