@@ -251,6 +251,8 @@ impl<'a, R: Print> Sink for StdoutSink<'a, R> {
 
     ghost faults = { λ s. s.faults };
 
+    ghost may_want = { false };
+
     fn put(&mut self, bytes: &[u8]) -> Result<(), OutsideFault> {
         match self.rt.write_all(bytes) {
             Ok(()) => Ok(()),

@@ -5,7 +5,9 @@ use super::texts::{
 };
 use crate::run;
 use rm_base::{MemoryShelf, MemorySink, OpenGate};
+use std::alloc::Global;
 use std::test::Fail;
+use std::thread::Threads;
 
 // Whether the file holds so many bytes of the text, or, where none are given, what it held.
 fn begins(shelf: &MemoryShelf, name: &str, text: &str, count: Option<usize>) -> bool {
@@ -33,6 +35,16 @@ const CALLS_OF_OPT: [(u64, Option<usize>, Option<usize>); 10] = [
     (10, Some(68), Some(28usize)),
 ];
 
+// Whether a run, whose calls don't fail, writes both files whole.
+fn ends_whole<R: Threads + Sync>(
+    rt: &R,
+    alloc: Global,
+    shelf: &mut MemoryShelf,
+) -> Result<bool, Fail> {
+    let ran = ends(rt, alloc, "opt in out journal", shelf, 0, ONE_GATE_SUMMARY)?;
+    Ok(ran && hold(shelf, [ONE_GATE, ONE_GATE, ONE_GATE_JOURNAL]))
+}
+
 #[test]
 fn calls_of_opt(rt: HostRuntime) -> Result<(), Fail> {
     for (call, journal, output) in CALLS_OF_OPT {
@@ -53,28 +65,20 @@ fn calls_of_opt(rt: HostRuntime) -> Result<(), Fail> {
         );
         assert!(rt; begins(&shelf, "out", ONE_GATE, output), "call {call}");
         assert!(rt; shelf.file("in") == Some(ONE_GATE.as_bytes()));
+        assert!(rt; ends_whole(&rt, rt.alloc(), &mut shelf)?, "call {call}");
     }
     let mut shelf = shelf(rt.alloc(), [ONE_GATE, "old", "old"], &[11])?;
-    assert!(rt;
-        ends(
-            &rt,
-            rt.alloc(),
-            "opt in out journal",
-            &mut shelf,
-            0,
-            ONE_GATE_SUMMARY
-        )?
-    );
+    assert!(rt; ends_whole(&rt, rt.alloc(), &mut shelf)?);
     Ok(())
 }
 
-// Those of `check`: the input, the journal and its end, and the output.
+// Those of `check`: the input, the journal and its end, and the output. A second run has as many.
 const CALLS_OF_CHECK: [(u64, u8, &str); 5] = [
     (1u64, 3u8, "fault shelf\n"),
     (2, 3, "fault shelf\n"),
     (3, 3, "fault shelf\n"),
     (4, 3, "fault shelf\n"),
-    (5, 0, "accepted 19\n"),
+    (9, 0, "accepted 19\n"),
 ];
 
 #[test]
@@ -93,6 +97,16 @@ fn calls_of_check(rt: HostRuntime) -> Result<(), Fail> {
             )?
         );
         assert!(rt; hold(&shelf, texts));
+        assert!(rt;
+            ends(
+                &rt,
+                rt.alloc(),
+                "check in journal out",
+                &mut shelf,
+                0,
+                "accepted 19\n"
+            )?
+        );
     }
     Ok(())
 }

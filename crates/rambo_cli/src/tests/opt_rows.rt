@@ -24,7 +24,7 @@ fn is_accepted<R: Threads + Sync>(
 }
 
 // Whether a run puts this summary and writes this output, and a journal that `check` accepts; and whether eight workers put and
-// write the same.
+// write the same, and a second run over what the first one wrote.
 fn optimises<R: Threads + Sync>(
     rt: &R,
     alloc: Global,
@@ -36,16 +36,14 @@ fn optimises<R: Threads + Sync>(
     let mut one = shelf_of(alloc, input)?;
     let ran = ends(rt, alloc, line, &mut one, 0, put)?;
     let mut eight = shelf_of(alloc, input)?;
-    let line = format!(in alloc; "{line} --workers 8")?;
-    let ran_again = ends(rt, alloc, &line, &mut eight, 0, put)?;
+    let with_eight = format!(in alloc; "{line} --workers 8")?;
+    let ran_as_eight = ends(rt, alloc, &with_eight, &mut eight, 0, put)?;
     let accepted = is_accepted(rt, alloc, &mut one)?;
     let journal = journal_of(&one);
-    Ok(
-        ran && ran_again
-            && accepted
-            && hold(&one, [input, output, journal])
-            && hold(&eight, [input, output, journal]),
-    )
+    let same = hold(&one, [input, output, journal]) && hold(&eight, [input, output, journal]);
+    let ran_again = ends(rt, alloc, line, &mut one, 0, put)?;
+    let same_again = hold(&one, [input, output, journal_of(&eight)]);
+    Ok(ran && ran_as_eight && accepted && same && ran_again && same_again)
 }
 
 const FEW_GATES: [(&str, &str, &str); 7] = [
