@@ -130,7 +130,7 @@ const ROWS: [Row; 8] = [
         fixed: 1,
         local: 5,
         lines: &[
-            "fix 4 0 0 h5 o2 i5,0 a !2\n",
+            "fix 4 0 0 o2 h5 i5,0 a !2\n",
             "const 4 0\n",
             "dead 4\n",
             "const 5 1\n",
@@ -145,7 +145,7 @@ const ROWS: [Row; 8] = [
         fixed: 1,
         local: 5,
         lines: &[
-            "fix 10 0 0 h11 o2 i11,0 a !2\n",
+            "fix 10 0 0 o2 h11 i11,0 a !2\n",
             "const 10 0\n",
             "dead 10\n",
             "const 11 1\n",
