@@ -197,8 +197,7 @@ fn lengthen(
 }
 
 /// Vectors that are kept for a graph, 64 to a block: vector n is lane n % 64 of block n / 64. Where a caller has fewer,
-/// one of them may stand in the other lanes too. `new` and `keep64` take memory, and
-/// `follow` where it makes a new order.
+/// one of them may stand in the other lanes too. `new` and `keep64` take memory, and `follow` where it makes a new order.
 #[derive(Debug, Drop)]
 pub struct Blocks {
     order: Vec<NodeId>,
