@@ -1,5 +1,5 @@
 // The real files and standard output. Nothing is told of what they hold.
-ghost use Rattle.std.specs.Prelude.{◌≡◌, ◌≤◌, IfOk, length, None, Result, Err};
+ghost use Rattle.std.specs.Prelude.{false, ◌≡◌, ◌≤◌, IfOk, length, None, Result, Err};
 ghost use Rattle.rm_base.specs.Causes.{HasCause};
 
 use rm_base::{OutsideFault, Shelf, Sink};
