@@ -1,8 +1,10 @@
 -- Blocks of vectors.
-use Rattle.std.proofs.Common.{IsTrue, List, length-append, None, Option, Some, [], ap, arith, false, get_or, inl, inr, length, map, refl, replicate, subst, suc, sym, true, zero, ℕ, ◌%◌, ◌*◌, ◌+◌, ◌++◌, ◌/◌, ◌<◌, ◌∙◌, ◌∷◌, ◌≡◌, ◌≤◌, ◌↔◌}
+use Rattle.std.proofs.Common.{IsTrue, List, length-append, None, Option, Some, [], ap, arith, false, get_or, inl, inr, length, refl, replicate, subst, suc, sym, true, zero, ℕ, ◌%◌, ◌*◌, ◌+◌, ◌++◌, ◌-◌, ◌/◌, ◌<◌, ◌∙◌, ◌∷◌, ◌≡◌, ◌≢◌, ◌≤◌, ◌↔◌}
+use Rattle.std.proofs.lemmas.Bool.Decides.{eqb_tells}
 use Rattle.std.proofs.lemmas.List.{length-map, length-replicate}
 use Rattle.std.proofs.lemmas.Option.{slice_get-get_or}
-use Rattle.std.specs.Prelude.{slice_get, slice_index, slice_index_or}
+use Rattle.std.proofs.Math.Seq.{take-append_seam, take-length}
+use Rattle.std.specs.Prelude.{drop, slice_get, slice_index, slice_index_or, slice_set, take}
 use Rattle.fault_sim.specs.Ordered.{IsOrdered}
 use Rattle.gate_net.proofs.Places.{map_agree}
 use Rattle.gate_net.specs.Net.{Net, drivers_of, node_at, source_count}
@@ -11,6 +13,7 @@ use Rattle.rm_base.specs.declared.numbers.Fault.{Fault}
 use Rattle.fault_sim.proofs.LaneLaws.{lane_zero}
 use Rattle.fault_sim.proofs.Lists.{below_or, zero_words}
 use Rattle.fault_sim.specs.BlockStates.{AreBlocks, AreGoodWords, ArePlaced, AreSimulated, IsBlock, IsFirstLane, IsFirstVector, IsSimulatedBlock, good_of, vector_of, words_at, words_of}
+use Rattle.fault_sim.specs.Following.{AreFollowed, AreGrown, CanAllFollow, IsGrown, IsGrownOf, WasGoodBlock}
 use Rattle.fault_sim.specs.Pending.{HasRoom, IsFirstBit}
 use Rattle.fault_sim.specs.Simulating.{IsWithin}
 use Rattle.fault_sim.specs.Spreading.{AreLanes, IsRested, IsSized}
@@ -200,3 +203,118 @@ pub grown_good : (net : Net) (words good : List ℕ) (n : ℕ) → AreGoodWords 
 grown_good net words good n before i h x =
     ap (lane i) (grown_word good n x) ∙ before i h x
     ∙ ap (node_value (node_at net x) (assignment words i x)) (map_agree (lane_values good i) (lane_values (good ++ replicate n 0) i) (drivers_of net x) (λ p d reads. ap (lane i) (sym (grown_word good n d))))
+
+pub words_set : (blocks : List Block) (n : ℕ) (block block' : Block) → slice_get blocks n ≡ Some block → block'.words.items ≡ block.words.items → words_of (slice_set blocks n block') ≡ words_of blocks
+words_set [] n block block' there same = refl
+words_set (x ∷ blocks) zero block block' there same = let is : x ≡ block = cc in ap (λ (ws : List ℕ). ws ∷ words_of blocks) (same ∙ ap (λ (y : Block). y.words.items) (sym is))
+words_set (x ∷ blocks) (suc n) block block' there same = ap (λ (ws : List (List ℕ)). x.words.items ∷ ws) (words_set blocks n block block' there same)
+
+set_at : (blocks : List Block) (n : ℕ) (block block' : Block) → slice_get blocks n ≡ Some block → slice_get (slice_set blocks n block') n ≡ Some block'
+set_at [] n block block' there = absurd (cc)
+set_at (x ∷ blocks) zero block block' there = refl
+set_at (x ∷ blocks) (suc n) block block' there = set_at blocks n block block' there
+
+set_off : (blocks : List Block) (n b : ℕ) (block' : Block) → b ≢ n → slice_get (slice_set blocks n block') b ≡ slice_get blocks b
+set_off [] n b block' ne = refl
+set_off (x ∷ blocks) zero zero block' ne = absurd (ne refl)
+set_off (x ∷ blocks) zero (suc b) block' ne = refl
+set_off (x ∷ blocks) (suc n) zero block' ne = refl
+set_off (x ∷ blocks) (suc n) (suc b) block' ne = set_off blocks n b block' (λ same. ne (ap suc same))
+
+-- one block more follows
+pub followed_more : (net : Net) (order : List ℕ) (numbers : ℕ) (old blocks : List Block) (n : ℕ) (block block' : Block) → slice_get blocks n ≡ Some block → block'.words.items ≡ block.words.items → IsSimulatedBlock net order numbers block'
+    → AreFollowed net order numbers old blocks n → AreFollowed net order numbers old (slice_set blocks n block') (n + 1)
+followed_more net order numbers old blocks n block block' there same right so = record {
+  done = λ b y less at. elim (eqb_tells b n) [
+    | inl e ↦
+        let here : slice_get (slice_set blocks n block') b ≡ Some block' = ap (slice_get (slice_set blocks n block')) e.1 ∙ set_at blocks n block block' there in
+        let is : block' ≡ y = cc in
+        subst (λ z. IsSimulatedBlock net order numbers z) is right
+    | inr e ↦ let ne : b ≢ n = e.1 in so.done b y (omega arith) (sym (set_off blocks n b block' e.1) ∙ at)
+  ];
+  ahead = λ b more. set_off blocks n b block' (λ e. absurd (omega arith)) ∙ so.ahead b (omega arith);
+  words = words_set blocks n block block' there same ∙ so.words;
+}
+
+pub followed_none : (net : Net) (order : List ℕ) (numbers : ℕ) (old : List Block) → AreFollowed net order numbers old old 0
+followed_none net order numbers old = record { done = λ b y less at. absurd (omega arith); ahead = λ b more. refl; words = refl }
+
+-- the blocks that were simulated for the net of before
+pub blocks_were : (net : Net) (order changed : List ℕ) (numbers : ℕ) (blocks : List Block) → AreBlocks order numbers blocks → CanAllFollow (record { words = words_of blocks; order = order; good = good_of blocks }) net changed
+    → (b : ℕ) (block : Block) → slice_get blocks b ≡ Some block → WasGoodBlock net numbers changed block
+blocks_were net order changed numbers blocks are follows b block there =
+    let was = each_simulated follows.before order numbers blocks are follows.simulated b block there in
+    record { size = was.good.size; sources = was.sources ∙ sym follows.differs.sources; were = record { before = follows.before; values = was.values; differs = follows.differs } }
+
+take_more : (old : List Block) (n : ℕ) (x : Block) → slice_get old n ≡ Some x → take (n + 1) old ≡ take n old ++ x ∷ []
+take_more [] n x there = absurd (cc)
+take_more (y ∷ old) zero x there = let same : y ≡ x = cc in ap (λ (z : Block). z ∷ []) same
+take_more (y ∷ old) (suc n) x there = let next : suc n + 1 ≡ suc (n + 1) = omega arith in rw next (ap (λ (zs : List Block). y ∷ zs) (take_more old n x there))
+
+-- one block more has grown
+pub grown_more : (numbers : ℕ) (old blocks : List Block) (n : ℕ) (x y : Block) → slice_get old n ≡ Some x → IsGrown numbers x y → AreGrown numbers old blocks n → AreGrown numbers old (blocks ++ y ∷ []) (n + 1)
+grown_more numbers old blocks n x y there grown so = record {
+  words = words_more blocks y ∙ ap (λ (ws : List (List ℕ)). ws ++ y.words.items ∷ []) so.words ∙ ap (λ (w : List ℕ). words_of (take n old) ++ w ∷ []) grown.words
+      ∙ sym (words_more (take n old) x) ∙ ap words_of (sym (take_more old n x there));
+  each = each_more (IsGrownOf numbers old) blocks y so.each (record { number = n; from = x; there = there; grown = grown });
+}
+
+nothing_more : (xs : List ℕ) → xs ≡ xs ++ []
+nothing_more [] = refl
+nothing_more (x ∷ xs) = ap (λ (ys : List ℕ). x ∷ ys) (nothing_more xs)
+
+-- blocks that are long enough
+pub grown_same : (numbers : ℕ) (blocks : List Block) → ((b : ℕ) (block : Block) → slice_get blocks b ≡ Some block → length block.good.items ≡ numbers) → AreGrown numbers blocks blocks (length blocks)
+grown_same numbers blocks size = record {
+  words = ap words_of (sym (take-length blocks));
+  each = λ b block at.
+      let none : numbers - length block.good.items ≡ 0 = (let is = size b block at in omega (arith, is)) in
+      record {
+        number = b;
+        from = block;
+        there = at;
+        grown = record { words = refl; good = nothing_more block.good.items ∙ ap (λ (k : ℕ). block.good.items ++ replicate k 0) (sym none) };
+      };
+}
+
+grown_size : (numbers least : ℕ) (good : List ℕ) → least ≤ numbers → length good ≡ least → length (good ++ replicate (numbers - length good) 0) ≡ numbers
+grown_size numbers least good le size =
+    length-append good (replicate (numbers - length good) 0) ∙ ap (λ (k : ℕ). length good + k) (length-replicate (numbers - length good) 0) ∙ all
+  where
+    all : length good + (numbers - length good) ≡ numbers
+    all = omega (arith, le, size)
+
+-- blocks that have grown are still those of the net of before
+pub grown_were : (net : Net) (changed : List ℕ) (least numbers : ℕ) (old blocks : List Block) (n : ℕ) → least ≤ numbers → ((b : ℕ) (x : Block) → slice_get old b ≡ Some x → WasGoodBlock net least changed x) → AreGrown numbers old blocks n
+    → (b : ℕ) (block : Block) → slice_get blocks b ≡ Some block → WasGoodBlock net numbers changed block
+grown_were net changed least numbers old blocks n le each grown b block at =
+    let of = grown.each b block at in
+    let was = each of.number of.from of.there in
+    record {
+      size = ap length of.grown.good ∙ grown_size numbers least of.from.good.items le was.size;
+      sources = ap length of.grown.words ∙ was.sources;
+      were = record {
+        before = was.were.before;
+        values = subst (λ (good : List ℕ). AreGoodWords was.were.before block.words.items good) (sym of.grown.good)
+            (subst (λ (ws : List ℕ). AreGoodWords was.were.before ws (of.from.good.items ++ replicate (numbers - length of.from.good.items) 0)) (sym of.grown.words)
+            (grown_good was.were.before of.from.words.items of.from.good.items (numbers - length of.from.good.items) was.were.values));
+        differs = was.were.differs;
+      };
+    }
+
+-- blocks with the same words are as many
+pub as_many : (old blocks : List Block) → words_of blocks ≡ words_of old → length blocks ≡ length old
+as_many old blocks same = sym (length-map blocks (λ (y : Block). y.words.items)) ∙ ap length same ∙ length-map old (λ (y : Block). y.words.items)
+
+-- a list of blocks that was written over whole
+pub written : (len : ℕ) (old slice new : List Block) → len ≡ length old → slice ≡ old → length new ≡ length slice → take len (new ++ drop (length new) old) ≡ new
+written len old slice new is same count = subst (λ (k : ℕ). take k (new ++ drop (length new) old) ≡ new) (count ∙ ap length same ∙ sym is) (take-append_seam new (drop (length new) old))
+
+pub all_followed : (net : Net) (order : List ℕ) (numbers : ℕ) (slice new : List Block) → length new ≡ length slice → AreFollowed net order numbers slice new (length slice)
+    → (b : ℕ) (block : Block) → slice_get new b ≡ Some block → IsSimulatedBlock net order numbers block
+all_followed net order numbers slice new count so b block at = so.done b block (subst (λ (n : ℕ). b < n) count (below_is new b block at)) at
+
+pub blocks_followed : (net : Net) (order places : List ℕ) (s : Spread) (slice new : List Block) → ArePlaced order places s → length new ≡ length slice → length slice ≤ 67108864 → AreFollowed net order (length places) slice new (length slice)
+    → ArePlaced order places s × (AreBlocks order (length places) new × (length new ≤ 67108864))
+blocks_followed net order places s slice new placed count few so =
+    (placed, ((λ b block at. (all_followed net order (length places) slice new count so b block at).good), subst (λ (n : ℕ). n ≤ 67108864) (sym count) few))

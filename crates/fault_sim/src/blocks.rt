@@ -4,13 +4,17 @@ ghost use Rattle.gate_net.specs.Net.{source_count};
 ghost use Rattle.gate_net.specs.Values.{HasPin};
 ghost use Rattle.gate_graph.specs.Circuit.{net_of};
 ghost use Rattle.fault_sim.specs.Ordered.{IsOrdered};
+ghost use Rattle.fault_sim.specs.Following.{AreFollowed, AreGrown, CanAllFollow, IsGrown, WasGoodBlock};
 ghost use Rattle.fault_sim.specs.BlockStates.{ArePlaced, AreSimulated, IsFirstLane, IsFirstVector, IsSimulatedBlock, words_of};
 
 use crate::detecting::found_by;
-use crate::making::{places_of, zero_words};
+use crate::following::catch_up;
+use crate::listing::{Listing, listed};
+use crate::making::{grow_words, zero_words};
 use crate::pending::first_bit;
+use crate::placing::any_misplaced;
 use crate::simulating::read_all;
-use crate::spread::{Spread, new_spread};
+use crate::spread::Spread;
 use gate_graph::Graph;
 use rm_base::{Fault, NoMemory, NodeId};
 use std::alloc::Global;
@@ -98,8 +102,102 @@ fn first_of(
     None
 }
 
+// Makes a block good for a net that differs among these nodes.
+fn follow_block(
+    graph: &Graph,
+    block: &mut Block,
+    order: &[NodeId],
+    places: &[usize],
+    spread: &mut Spread,
+    changed: &[NodeId],
+)
+    requires order { IsOrdered (net_of graph.now) (map (λ n. n.0) order.now) }
+    requires placed { ArePlaced (map (λ n. n.0) order.now) places.now spread.old }
+    requires block { WasGoodBlock (net_of graph.now) (length places.now) (map (λ n. n.0) changed.now) block.old }
+    ensures words { block.new.words ≡ block.old.words }
+    ensures block { IsSimulatedBlock (net_of graph.now) (map (λ n. n.0) order.now) (length places.now) block.new }
+    ensures placed { ArePlaced (map (λ n. n.0) order.now) places.now spread.new }
+{
+    catch_up(
+        graph,
+        block.words.as_slice(),
+        order,
+        places,
+        &mut block.good,
+        spread,
+        changed,
+    );
+}
+
+// Makes all blocks good for a net that differs among these nodes.
+fn follow_all(
+    graph: &Graph,
+    blocks: &mut [Block],
+    order: &[NodeId],
+    places: &[usize],
+    spread: &mut Spread,
+    changed: &[NodeId],
+)
+    requires order { IsOrdered (net_of graph.now) (map (λ n. n.0) order.now) }
+    requires placed { ArePlaced (map (λ n. n.0) order.now) places.now spread.old }
+    requires blocks { (b : ℕ) (block : Block) → slice_get blocks.old b ≡ Some block → WasGoodBlock (net_of graph.now) (length places.now) (map (λ n. n.0) changed.now) block }
+    ensures followed { AreFollowed (net_of graph.now) (map (λ n. n.0) order.now) (length places.now) blocks.old blocks.new (length blocks.old) }
+    ensures count { length blocks.new ≡ length blocks.old }
+    ensures placed { ArePlaced (map (λ n. n.0) order.now) places.now spread.new }
+{
+    for block in blocks.iter_mut() {
+        follow_block(graph, block, order, places, spread, changed);
+    }
+}
+
+// A block of the same words, with zeros after the good ones.
+fn grown(alloc: Global, block: &Block, numbers: usize) -> Result<Block, NoMemory>
+    requires { length block.now.good.items ≤ numbers }
+    ensures { IfOk result (λ b. IsGrown numbers block.now b) }
+{
+    let mut words = zero_words(alloc, block.words.len())?;
+    words.as_mut_slice().copy_from_slice(block.words.as_slice());
+    let mut good = zero_words(alloc, block.good.len())?;
+    good.as_mut_slice().copy_from_slice(block.good.as_slice());
+    grow_words(&mut good, numbers)?;
+    Ok(Block { words, good })
+}
+
+// Blocks of the same words, with zeros after the good ones.
+fn all_grown(alloc: Global, blocks: &[Block], numbers: usize) -> Result<Vec<Block>, NoMemory>
+    requires { (b : ℕ) (block : Block) → slice_get blocks.now b ≡ Some block → length block.good.items ≤ numbers }
+    ensures { IfOk result (λ v. AreGrown numbers blocks.now v.items (length blocks.now)) }
+{
+    let mut longer = Vec::new(alloc);
+    for block in blocks {
+        let again = grown(alloc, block, numbers)?;
+        longer.push(again)?;
+    }
+    Ok(longer)
+}
+
+// Blocks of the same words for more numbers, where there are more.
+fn lengthen(
+    alloc: Global,
+    blocks: &mut Vec<Block>,
+    before: usize,
+    numbers: usize,
+) -> Result<(), NoMemory>
+    requires more { before ≤ numbers }
+    requires blocks { (b : ℕ) (block : Block) → slice_get blocks.old.items b ≡ Some block → length block.good.items ≡ before }
+    ensures grown { OnOk result (AreGrown numbers blocks.old.items blocks.new.items (length blocks.old.items)) }
+    ensures failed { OnErr result (blocks.new.items ≡ blocks.old.items) }
+{
+    if numbers == before {
+        return Ok(());
+    }
+    let longer = all_grown(alloc, blocks.as_slice(), numbers)?;
+    *blocks = longer;
+    Ok(())
+}
+
 /// Vectors that are kept for a graph, 64 to a block: vector n is lane n % 64 of block n / 64. Where a caller has fewer,
-/// one of them may stand in the other lanes too. Only `new` and `keep64` take memory.
+/// one of them may stand in the other lanes too. `new` and `keep64` take memory, and `follow` where it makes a new order.
 #[derive(Debug, Drop)]
 pub struct Blocks {
     order: Vec<NodeId>,
@@ -127,11 +225,13 @@ impl Blocks {
         ensures none { IfOk result (λ s. s.words ≡ []) }
         ensures simulated { IfOk result (λ s. AreSimulated s (net_of graph.now)) }
     {
-        let order = graph.order(alloc)?;
-        let numbers = graph.node_bound() as usize;
-        let places = places_of(alloc, order.as_slice(), numbers)?;
-        let spread = new_spread(alloc, numbers, order.len())?;
+        let listing = listed(alloc, graph, 0)?;
         let blocks = Vec::new(alloc);
+        let Listing {
+            order,
+            places,
+            spread,
+        } = listing;
         Ok(Blocks {
             order,
             places,
@@ -166,6 +266,78 @@ impl Blocks {
             &self.spread,
         )?;
         self.blocks.push(block)?;
+        Ok(())
+    }
+
+    /// Follows a graph that has changed since the vectors were kept, in these nodes alone, as `Lanes::follow` does: in each
+    /// block only what reaches from them is read again. The words of all blocks are copied where the graph has got more
+    /// node numbers than the blocks have room for. Where memory is wanting nothing is changed, and the call may be made
+    /// again.
+    pub fn follow(
+        &mut self,
+        alloc: Global,
+        graph: &Graph,
+        changed: &[NodeId],
+    ) -> Result<(), NoMemory>
+        requires follows { CanAllFollow self.old (net_of graph.now) (map (λ n. n.0) changed.now) }
+        ensures words { self.new.words ≡ self.old.words }
+        ensures simulated { OnOk result (AreSimulated self.new (net_of graph.now)) }
+        ensures failed { OnErr result (self.new ≡ self.old) }
+    {
+        if any_misplaced(
+            graph,
+            self.order.as_slice(),
+            self.places.as_slice(),
+            changed,
+        ) {
+            return self.follow_anew(alloc, graph, changed);
+        }
+        follow_all(
+            graph,
+            self.blocks.as_mut_slice(),
+            self.order.as_slice(),
+            self.places.as_slice(),
+            &mut self.spread,
+            changed,
+        );
+        Ok(())
+    }
+
+    // Follows the graph with a new order.
+    fn follow_anew(
+        &mut self,
+        alloc: Global,
+        graph: &Graph,
+        changed: &[NodeId],
+    ) -> Result<(), NoMemory>
+        requires follows { CanAllFollow self.old (net_of graph.now) (map (λ n. n.0) changed.now) }
+        ensures words { self.new.words ≡ self.old.words }
+        ensures simulated { OnOk result (AreSimulated self.new (net_of graph.now)) }
+        ensures failed { OnErr result (self.new ≡ self.old) }
+    {
+        let listing = listed(alloc, graph, self.places.len())?;
+        lengthen(
+            alloc,
+            &mut self.blocks,
+            self.places.len(),
+            listing.places.len(),
+        )?;
+        let Listing {
+            order,
+            places,
+            spread,
+        } = listing;
+        self.order = order;
+        self.places = places;
+        self.spread = spread;
+        follow_all(
+            graph,
+            self.blocks.as_mut_slice(),
+            self.order.as_slice(),
+            self.places.as_slice(),
+            &mut self.spread,
+            changed,
+        );
         Ok(())
     }
 

@@ -18,10 +18,14 @@ pub struct Listing {
     pub(crate) spread: Spread,
 }
 
-// Room for so many numbers, and for some that are taken later.
-fn with_spare(numbers: u32) -> usize
-    ensures { numbers ≤ result }
+// Room for so many numbers: what there was, or where that is too little more than is needed now.
+fn room_for(numbers: u32, least: usize) -> usize
+    ensures numbers { numbers ≤ result }
+    ensures least { least ≤ result }
 {
+    if numbers as usize <= least {
+        return least;
+    }
     numbers as usize + numbers as usize / 8 + 64
 }
 
@@ -32,7 +36,7 @@ pub(crate) fn listed(alloc: Global, graph: &Graph, least: usize) -> Result<Listi
     ensures numbers { IfOk result (λ l. least ≤ length l.places.items) }
 {
     let order = graph.order(alloc)?;
-    let numbers = with_spare(graph.node_bound()).max(least);
+    let numbers = room_for(graph.node_bound(), least);
     let places = places_of(alloc, order.as_slice(), numbers)?;
     let spread = new_spread(alloc, numbers, order.len())?;
     Ok(Listing {

@@ -18,9 +18,9 @@ places_of-requires-clause-below c k x there =
 
 pub returns-clause-placed : goal.returns-clause-placed
 returns-clause-placed c =
-    let within : IsWithin (numbers c.in_ok-order.order.items) c.max-numbers.result = (λ k x there.
+    let within : IsWithin (numbers c.in_ok-order.order.items) c.room_for-numbers.result = (λ k x there.
     let below : x < length (net_of c.args.graph.now).nodes = order_below (net_of c.args.graph.now) (numbers c.in_ok-order.order.items) c.in_ok-order.ensures k x there in
     omega (arith, below)) in
-    placed_new (numbers c.in_ok-order.order.items) c.in_ok-places.places.items c.in_ok-spread.spread c.max-numbers.result within c.in_ok-places.ensures.size (rw c.as_slice.ensures.value at c.in_ok-places.ensures.places) c.in_ok-spread.ensures.sized
+    placed_new (numbers c.in_ok-order.order.items) c.in_ok-places.places.items c.in_ok-spread.spread c.room_for-numbers.result within c.in_ok-places.ensures.size (rw c.as_slice.ensures.value at c.in_ok-places.ensures.places) c.in_ok-spread.ensures.sized
     (subst (HasRoom c.in_ok-spread.spread.pending.items) (c.len.ensures ∙ c.in_ok-order.order.ok.0 ∙ sym (length-map c.in_ok-order.order.items (λ (n : NodeId). n.0))) c.in_ok-spread.ensures.places)
     c.in_ok-spread.ensures.rested

@@ -1,7 +1,7 @@
 use Rattle.std.proofs.Common.{◌≡◌}
 use Rattle.gate_graph.specs.Circuit.{net_of}
 use Rattle.fault_sim.specs.LaneStates.{Fits, IsSimulated}
-use Rattle.fault_sim.proofs.tests.followed.agree.Given as goal
+use Rattle.fault_sim.proofs.tests.followed.lanes_agree.Given as goal
 
 abbrev pub invariant-loop-number : goal.invariant-loop-number
 invariant-loop-number l = record {
