@@ -109,7 +109,7 @@ TEXTS = [
     ("131,072 colliding names", lambda scale: colliding(131072 // scale - 1), 0, "wires 0 0", 3, ()),
     ("131,073 colliding names", lambda scale: colliding(131072), 5, "limit signals 131073", 3, ()),
     ("a chain of 131,000 covers", chain, 0, "wires 0 0", 3, ()),
-    ("one cover over repeated names", wide, 0, lambda scale: f"wires {65536 // scale} {min(1024, 65536 // scale)}", 60, FASTEST),
+    ("one cover over repeated names", wide, 0, lambda scale: f"wires {65536 // scale} {min(1024, 65536 // scale)}", 10, FASTEST),
     ("65,537 inputs of a cover", lambda scale: head("a") + b".names" + b" a" * 65537 + b" z\n", 5, "limit inputs 65537", 3, ()),
-    ("gates and constants", constants, 0, lambda scale: f"wires {3 * (10922 // scale) + 32768 // scale} ", 120, FASTEST),
+    ("gates and constants", constants, 0, lambda scale: f"wires {3 * (10922 // scale) + 32768 // scale} ", 30, FASTEST),
 ]
