@@ -9,7 +9,13 @@ use Rattle.rm_model.specs.Ranks.{ranks_of}
 use Rattle.rm_model.specs.declared.parts.Cover.{Cover}
 use Rattle.rm_model.specs.declared.parts.Model.{Model as CircuitModel}
 use Rattle.blif_lines.specs.Layout.{Spot, Logical, Flaw, BadByteAt, OpenJoinAt, layout}
-use Rattle.blif_format.specs.Uses.{Command, Model, End, Names, command_of, Role, CoverInput, Part, Title, Name, LatchType, Init, Extra, parts_of, least_words, Use, use_of, uses_of, is_source_role, is_observed_role, is_driver, wants_driver, drives_twice, lists_twice, stands_in, names_in, distinct_count}
+use Rattle.blif_format.specs.Uses.{command_of, parts_of, least_words, Use, use_of, uses_of, is_source_role, is_observed_role, is_driver, wants_driver, drives_twice, lists_twice, stands_in, names_in, distinct_count}
+use Rattle.blif_format.specs.declared.words.Command.{Command}
+use Rattle.blif_format.specs.declared.words.Command.TheVariants.{Model, End, Names}
+use Rattle.blif_format.specs.declared.words.Role.{Role}
+use Rattle.blif_format.specs.declared.words.Role.TheVariants.{CoverInput}
+use Rattle.blif_format.specs.declared.words.Part.{Part}
+use Rattle.blif_format.specs.declared.words.Part.TheVariants.{Title, Name, LatchType, Init, Extra}
 use Rattle.blif_format.specs.Unsupported.{unsupported_words}
 use Rattle.blif_format.specs.declared.refusal.FaultKind.{FaultKind}
 use Rattle.blif_format.specs.declared.refusal.FaultKind.TheVariants.{BadByte, OpenJoin, NoModel, Unsupported, UnknownCommand, MissingWord, ExtraWord, RowOutsideCover, RowLength, RowCharacter, MixedCover, BadLatchWord, DoubleDriven, DoubleOutput, AfterEnd, Undriven, NoRank}

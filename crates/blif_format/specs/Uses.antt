@@ -5,15 +5,12 @@ use Rattle.rm_base.specs.declared.numbers.Place.{Place}
 use Rattle.rm_model.specs.Words.{Word, is_word}
 use Rattle.rm_model.specs.Value.{is_among}
 use Rattle.blif_lines.specs.Layout.{Spot}
-
-pub data Command : Type 0 where
-  Model : Command
-  Inputs : Command
-  Outputs : Command
-  Clock : Command
-  Names : Command
-  Latch : Command
-  End : Command
+use Rattle.blif_format.specs.declared.words.Command.{Command}
+use Rattle.blif_format.specs.declared.words.Command.TheVariants.{Model, Inputs, Outputs, Clock, Names, Latch, End}
+use Rattle.blif_format.specs.declared.words.Role.{Role}
+use Rattle.blif_format.specs.declared.words.Role.TheVariants.{Input, ClockInput, Output, CoverInput, CoverOutput, LatchInput, LatchOutput, Control}
+use Rattle.blif_format.specs.declared.words.Part.{Part}
+use Rattle.blif_format.specs.declared.words.Part.TheVariants.{Title, Name, LatchType, Init, Extra}
 
 abbrev pub command_words : List (Word × Command)
 command_words =
@@ -26,25 +23,6 @@ command_in (e ∷ es) word = if is_word e.0 word then Some e.1 else command_in e
 
 abbrev pub command_of : Word → Option Command
 command_of word = command_in command_words word
-
--- as what a name stands in a text
-pub data Role : Type 0 where
-  Input : Role
-  ClockInput : Role
-  Output : Role
-  CoverInput : Role
-  CoverOutput : Role
-  LatchInput : Role
-  LatchOutput : Role
-  Control : Role
-
--- what a word behind a command has to be
-pub data Part : Type 0 where
-  Title : Part
-  Name : Role → Part
-  LatchType : Part
-  Init : Part
-  Extra : Part
 
 abbrev pub all_are : Part → List Spot → List (Part × Spot)
 all_are part spots = map (λ (s : Spot). (part, s)) spots

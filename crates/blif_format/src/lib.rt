@@ -4,7 +4,9 @@
 mod laws;
 mod refusal;
 mod rows;
+mod words;
 
 pub use laws::reads_once;
 pub use refusal::{FaultKind, Quantity, ReadRefusal};
 pub use rows::worked_rows;
+pub use words::{Command, Part, Role};

@@ -7,7 +7,9 @@ use Rattle.std.proofs.lemmas.List.{append-nil}
 use Rattle.rm_model.specs.Words.{Word, is_word}
 use Rattle.rm_model.specs.WellFormed.{is_distinct}
 use Rattle.blif_lines.specs.Layout.{Logical}
-use Rattle.blif_format.specs.Uses.{Role, Input, ClockInput, Output, CoverInput, CoverOutput, LatchInput, LatchOutput, Control, Use, is_source_role, is_observed_role, drives_twice, lists_twice, stands_in, names_in, distinct_count}
+use Rattle.blif_format.specs.Uses.{Use, is_source_role, is_observed_role, drives_twice, lists_twice, stands_in, names_in, distinct_count}
+use Rattle.blif_format.specs.declared.words.Role.{Role}
+use Rattle.blif_format.specs.declared.words.Role.TheVariants.{Input, ClockInput, Output, CoverInput, CoverOutput, LatchInput, LatchOutput, Control}
 use Rattle.blif_format.specs.FirstFault.{or_else, fault_if, limit_if, name_limit, is_cover_input, is_over, use_fault, Said, said_by, lines_fault}
 use Rattle.blif_format.specs.declared.refusal.FaultKind.TheVariants.{DoubleDriven, DoubleOutput}
 use Rattle.blif_format.specs.declared.refusal.Quantity.{Quantity}

@@ -5,7 +5,8 @@ use Rattle.rm_model.specs.Words.{Word}
 use Rattle.blif_lines.specs.Layout.{Spot}
 use Rattle.blif_format.specs.Text.{Line, latch_words, cover_words}
 use Rattle.blif_format.specs.Grammar.{before_end, begins_with, is_dotted, words_after, words_of, names_lines, is_command, follow, body_of}
-use Rattle.blif_format.specs.Uses.{Command, Model, Inputs, Outputs, Clock, Names, Latch, End}
+use Rattle.blif_format.specs.declared.words.Command.{Command}
+use Rattle.blif_format.specs.declared.words.Command.TheVariants.{Model, Inputs, Outputs, Clock, Names, Latch, End}
 use Rattle.blif_format.specs.FirstFault.{Said, OpenCover as SaidCover, after_line, with_row, is_dotted as dotted_word}
 use Rattle.blif_reader.specs.Rows.{cover_for, ends}
 use Rattle.blif_reader.specs.Drafts.{all_covers, is_open, Begins, Ends, CurrentIs, IsDraft, given_name, given_inputs, given_outputs, given_clocks, given_latches, given_covers, Changes, add_row, AddsRow}

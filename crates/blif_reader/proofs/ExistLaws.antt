@@ -17,7 +17,9 @@ use Rattle.rm_model.specs.declared.parts.Cover.{Cover}
 use Rattle.rm_model.specs.declared.parts.Latch.{Latch as LatchPart}
 use Rattle.blif_lines.specs.Layout.{Spot, Logical, words_in, has_words}
 use Rattle.blif_format.specs.Text.{Line, control_word, timing_words, init_words, latch_words, cover_words}
-use Rattle.blif_format.specs.Uses.{Command, Model, Inputs, Outputs, Clock, Names, Latch, End, command_of}
+use Rattle.blif_format.specs.Uses.{command_of}
+use Rattle.blif_format.specs.declared.words.Command.{Command}
+use Rattle.blif_format.specs.declared.words.Command.TheVariants.{Model, Inputs, Outputs, Clock, Names, Latch, End}
 use Rattle.blif_format.specs.FirstFault.{OpenCover as SaidCover, or_else, flaw_fault, row_fault, words_fault, Said, nothing_said, after_line, said_by, lines_fault, latch_types, init_values, is_literal, cover_names}
 use Rattle.blif_reader.specs.Rows.{cover_for}
 use Rattle.blif_reader.specs.Lines.{IsLatchLine, are_literals}

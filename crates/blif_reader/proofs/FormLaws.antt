@@ -14,7 +14,11 @@ use Rattle.rm_model.specs.declared.parts.Model.{Model}
 use Rattle.blif_lines.specs.Layout.{Logical, words_in, has_words}
 use Rattle.blif_format.specs.Text.{Line, latch_words, cover_words}
 use Rattle.blif_format.specs.Grammar.{begins_with, words_after, words_of, names_lines}
-use Rattle.blif_format.specs.Uses.{Command, Inputs, Outputs, Clock, Names, Latch as LatchLine, Role, Input, ClockInput, Output, CoverInput, CoverOutput, LatchInput, LatchOutput, Control, Use, is_driver, wants_driver, names_in}
+use Rattle.blif_format.specs.Uses.{Use, is_driver, wants_driver, names_in}
+use Rattle.blif_format.specs.declared.words.Command.{Command}
+use Rattle.blif_format.specs.declared.words.Command.TheVariants.{Inputs, Outputs, Clock, Names, Latch as LatchLine}
+use Rattle.blif_format.specs.declared.words.Role.{Role}
+use Rattle.blif_format.specs.declared.words.Role.TheVariants.{Input, ClockInput, Output, CoverInput, CoverOutput, LatchInput, LatchOutput, Control}
 use Rattle.blif_format.specs.FirstFault.{is_cover_input, is_undriven, undriven_fault, fault}
 use Rattle.blif_format.specs.declared.refusal.FaultKind.TheVariants.{Undriven}
 use Rattle.blif_format.specs.declared.refusal.ReadRefusal.{ReadRefusal}

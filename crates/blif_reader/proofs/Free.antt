@@ -7,7 +7,9 @@ use Rattle.rm_base.specs.declared.numbers.Place.{Place}
 use Rattle.rm_model.specs.Words.{Word, is_word}
 use Rattle.rm_model.specs.Value.{is_among}
 use Rattle.rm_model.specs.WellFormed.{is_distinct}
-use Rattle.blif_format.specs.Uses.{Role, Input, ClockInput, Output, CoverInput, CoverOutput, LatchInput, LatchOutput, Control, Use, is_driver, wants_driver, names_in}
+use Rattle.blif_format.specs.Uses.{Use, is_driver, wants_driver, names_in}
+use Rattle.blif_format.specs.declared.words.Role.{Role}
+use Rattle.blif_format.specs.declared.words.Role.TheVariants.{Input, ClockInput, Output, CoverInput, CoverOutput, LatchInput, LatchOutput, Control}
 use Rattle.blif_format.specs.FirstFault.{is_undriven, undriven_fault, fault}
 use Rattle.blif_format.specs.declared.refusal.FaultKind.TheVariants.{Undriven}
 use Rattle.blif_format.specs.declared.refusal.ReadRefusal.TheVariants.{Fault}

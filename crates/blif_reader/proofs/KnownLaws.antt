@@ -8,7 +8,11 @@ use Rattle.rm_model.specs.Value.{is_among}
 use Rattle.blif_lines.specs.Layout.{Spot}
 use Rattle.blif_format.specs.Text.{Line}
 use Rattle.blif_format.specs.Unsupported.{unsupported_words}
-use Rattle.blif_format.specs.Uses.{Command, Model, Inputs, Outputs, Clock, Names, Latch, End, command_of, parts_of, least_words, Use, use_of, Part, Title, Name, LatchType, Init, Extra}
+use Rattle.blif_format.specs.Uses.{command_of, parts_of, least_words, Use, use_of}
+use Rattle.blif_format.specs.declared.words.Command.{Command}
+use Rattle.blif_format.specs.declared.words.Command.TheVariants.{Model, Inputs, Outputs, Clock, Names, Latch, End}
+use Rattle.blif_format.specs.declared.words.Part.{Part}
+use Rattle.blif_format.specs.declared.words.Part.TheVariants.{Title, Name, LatchType, Init, Extra}
 use Rattle.blif_format.specs.FirstFault.{fault, fault_if, parts_fault, part_fault, command_fault, first_line_fault, dotted_fault, row_fault, row_fault_in, words_fault, Said, OpenCover as SaidCover, is_dotted, with_row, after_line, latch_types, init_values}
 use Rattle.blif_format.specs.declared.refusal.FaultKind.TheVariants.{BadLatchWord, MissingWord, ExtraWord, AfterEnd, NoModel, Unsupported, UnknownCommand, RowOutsideCover}
 use Rattle.blif_reader.specs.Rows.{cover_for, ends}

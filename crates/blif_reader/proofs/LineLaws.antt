@@ -5,7 +5,9 @@ use Rattle.std.specs.List.{filter_map}
 use Rattle.std.specs.Option.{option_map}
 use Rattle.rm_model.specs.Words.{Word, is_word}
 use Rattle.blif_lines.specs.Layout.{Spot}
-use Rattle.blif_format.specs.Uses.{Command, Model, Inputs, Outputs, Clock, Names, Latch, End, command_in, command_words, command_of, parts_of, Use, use_of, uses_of}
+use Rattle.blif_format.specs.Uses.{command_in, command_words, command_of, parts_of, Use, use_of, uses_of}
+use Rattle.blif_format.specs.declared.words.Command.{Command}
+use Rattle.blif_format.specs.declared.words.Command.TheVariants.{Model, Inputs, Outputs, Clock, Names, Latch, End}
 use Rattle.blif_format.specs.FirstFault.{command_fault, first_line_fault, Said, OpenCover as SaidCover, is_dotted, with_row, after_line, fault}
 use Rattle.blif_format.specs.declared.refusal.ReadRefusal.{ReadRefusal}
 use Rattle.blif_format.specs.declared.refusal.FaultKind.TheVariants.{NoModel}

@@ -65,13 +65,6 @@ first_fault_at (p ∷ ps) [] = refl
 first_fault_at (p ∷ ps) (None ∷ rs) = refl
 first_fault_at (p ∷ ps) (Some n ∷ rs) = first_fault_at ps rs ∙ sym (next_fault p ps (first_gap rs))
 
-pub no_gap : (ns : List ℕ) (rs : List (Option ℕ)) → map Some ns ≡ rs → position is_none rs ≡ None
-no_gap ns rs e = gap_position rs ∙ ap first_gap (sym e) ∙ go ns
-  where
-    go : (ns : List ℕ) → first_gap (map Some ns) ≡ None
-    go [] = refl
-    go (n ∷ ns) = ap (option_map (λ k. suc k)) (go ns)
-
 -- a cover's rows don't count for ranks
 abbrev strip : Cover → Cover
 strip c = record { inputs = c.inputs; output = c.output; on = true; rows = [] }

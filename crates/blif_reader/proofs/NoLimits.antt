@@ -11,7 +11,13 @@ use Rattle.blif_lines.specs.Layout.{Spot, Logical, Flaw, BadByteAt, OpenJoinAt, 
 use Rattle.blif_format.specs.Text.{Line}
 use Rattle.blif_format.specs.Grammar.{begins_with, words_after}
 use Rattle.blif_format.specs.Unsupported.{unsupported_words}
-use Rattle.blif_format.specs.Uses.{Command, Model, Inputs, Outputs, Clock, Names, Latch, End, command_of, Role, Input, ClockInput, Output, CoverInput, CoverOutput, LatchInput, LatchOutput, Control, Part, Title, Name, LatchType, Init, Extra, all_are, in_parts, names_parts, latch_parts, parts_of, least_words, Use, use_of, uses_of, is_source_role, is_observed_role, drives_twice, lists_twice, stands_in, names_in, distinct_count}
+use Rattle.blif_format.specs.Uses.{command_of, all_are, in_parts, names_parts, latch_parts, parts_of, least_words, Use, use_of, uses_of, is_source_role, is_observed_role, drives_twice, lists_twice, stands_in, names_in, distinct_count}
+use Rattle.blif_format.specs.declared.words.Command.{Command}
+use Rattle.blif_format.specs.declared.words.Command.TheVariants.{Model, Inputs, Outputs, Clock, Names, Latch, End}
+use Rattle.blif_format.specs.declared.words.Role.{Role}
+use Rattle.blif_format.specs.declared.words.Role.TheVariants.{Input, ClockInput, Output, CoverInput, CoverOutput, LatchInput, LatchOutput, Control}
+use Rattle.blif_format.specs.declared.words.Part.{Part}
+use Rattle.blif_format.specs.declared.words.Part.TheVariants.{Title, Name, LatchType, Init, Extra}
 use Rattle.blif_format.specs.FirstFault.{or_else, fault, fault_if, limit_if, name_limit, is_cover_input, is_over, use_fault, use_fault_if, latch_types, init_values, part_fault, parts_fault, OpenCover as SaidCover, is_ending, is_other_ending, ending_fault, next_column, is_literal, character_fault, extra_fault, rest_fault, row_fault, row_fault_in, Said, is_dotted, dotted_fault, command_fault, words_fault, after_line, nothing_said, flaw_fault, lines_fault}
 use Rattle.blif_format.specs.declared.refusal.FaultKind.{FaultKind}
 use Rattle.blif_format.specs.declared.refusal.FaultKind.TheVariants.{BadByte, OpenJoin, NoModel, Unsupported, UnknownCommand, MissingWord, ExtraWord, RowOutsideCover, RowLength, RowCharacter, MixedCover, BadLatchWord, DoubleDriven, DoubleOutput, AfterEnd}

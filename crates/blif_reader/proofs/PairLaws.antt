@@ -1,5 +1,5 @@
 -- Names and entries of one length, and the pairs of both.
-use Rattle.std.proofs.Common.{◌≡◌, ◌≢◌, ℕ, zero, suc, List, [], ◌∷◌, ◌++◌, length, Bool, true, false, cond, Option, Some, None, refl, sym, ap, arith}
+use Rattle.std.proofs.Common.{◌≡◌, ◌≢◌, ◌<◌, ℕ, zero, suc, List, [], ◌∷◌, ◌++◌, length, map, Bool, true, false, cond, Option, Some, None, refl, sym, ap, arith}
 use Rattle.std.specs.Prelude.{slice_get, slice_set}
 use Rattle.std.specs.List.{zip}
 use Rattle.std.specs.Option.{option_map}
@@ -39,17 +39,6 @@ pub new_name : (ns : List Word) (x : Word) → place_of ns x ≡ None → is_amo
 new_name [] x e = refl
 new_name (n ∷ ns) x e = let parts = no_place (is_word x n) (place_of ns x) e in rw (parts.0, new_name ns x parts.1) refl
 
-pub found_entry : (ns : List Word) (es : List Entry) (x : Word) (k : ℕ) (e : Entry) → length ns ≡ length es → place_of ns x ≡ Some k → slice_get es k ≡ Some e → entry_of (zip ns es) x ≡ Some e
-found_entry [] es x k e same p g = absurd cc
-found_entry (n ∷ ns) [] x k e same p g = absurd (apart (length ns) same)
-found_entry (n ∷ ns) (f ∷ es) x zero e same p g = let here = first_place (is_word x n) (place_of ns x) p in rw here g
-found_entry (n ∷ ns) (f ∷ es) x (suc k) e same p g = let rest = rest_place (is_word x n) (place_of ns x) k p in let fewer : length ns ≡ length es = less (length ns) (length es) same in rw rest.0 (found_entry ns es x k e fewer rest.1 g)
-
-pub missing_entry : (ns : List Word) (es : List Entry) (x : Word) → place_of ns x ≡ None → entry_of (zip ns es) x ≡ None
-missing_entry [] es x p = refl
-missing_entry (n ∷ ns) [] x p = refl
-missing_entry (n ∷ ns) (f ∷ es) x p = let parts = no_place (is_word x n) (place_of ns x) p in rw parts.0 (missing_entry ns es x parts.1)
-
 pub replaced_entry : (ns : List Word) (es : List Entry) (x : Word) (k : ℕ) (e : Entry) → length ns ≡ length es → place_of ns x ≡ Some k → zip ns (slice_set es k e) ≡ put_entry (zip ns es) x e
 replaced_entry [] es x k e same p = absurd cc
 replaced_entry (n ∷ ns) [] x k e same p = absurd (apart (length ns) same)
@@ -74,3 +63,24 @@ pair_count [] [] same = refl
 pair_count [] (f ∷ es) same = absurd (apart (length es) (sym same))
 pair_count (n ∷ ns) [] same = absurd (apart (length ns) same)
 pair_count (n ∷ ns) (f ∷ es) same = let fewer : length ns ≡ length es = less (length ns) (length es) same in ap suc (pair_count ns es fewer)
+
+-- the names of the pairs
+pub pair_names : (ns : List Word) (es : List Entry) → length ns ≡ length es → map (λ (p : Word × Entry). p.0) (zip ns es) ≡ ns
+pair_names [] es same = refl
+pair_names (n ∷ ns) [] same = absurd (apart (length ns) same)
+pair_names (n ∷ ns) (f ∷ es) same = let fewer : length ns ≡ length es = less (length ns) (length es) same in ap (λ (l : List Word). n ∷ l) (pair_names ns es fewer)
+
+pub place_bound : (ns : List Word) (x : Word) (k : ℕ) → place_of ns x ≡ Some k → k < length ns
+place_bound [] x k e = absurd cc
+place_bound (n ∷ ns) x zero e = omega arith
+place_bound (n ∷ ns) x (suc k) e = let rest = rest_place (is_word x n) (place_of ns x) k e in let lt = place_bound ns x k rest.1 in omega arith
+
+-- the entry at a name's place is the name's
+pub entry_placed : (es : List (Word × Entry)) (x : Word) (k : ℕ) → place_of (map (λ (p : Word × Entry). p.0) es) x ≡ Some k → option_map (λ (p : Word × Entry). p.1) (slice_get es k) ≡ entry_of es x
+entry_placed [] x k e = absurd cc
+entry_placed (p ∷ es) x zero e = let here = first_place (is_word x p.0) (place_of (map (λ (p : Word × Entry). p.0) es) x) e in rw here refl
+entry_placed (p ∷ es) x (suc k) e = let rest = rest_place (is_word x p.0) (place_of (map (λ (p : Word × Entry). p.0) es) x) k e in rw rest.0 (entry_placed es x k rest.1)
+
+pub entry_absent : (es : List (Word × Entry)) (x : Word) → place_of (map (λ (p : Word × Entry). p.0) es) x ≡ None → entry_of es x ≡ None
+entry_absent [] x e = refl
+entry_absent (p ∷ es) x e = let parts = no_place (is_word x p.0) (place_of (map (λ (p : Word × Entry). p.0) es) x) e in rw parts.0 (entry_absent es x parts.1)

@@ -9,7 +9,12 @@ use Rattle.blif_lines.specs.declared.line.Token.{Token}
 use Rattle.std.proofs.lemmas.Bool.Decides.{eqb_tells}
 use Rattle.std.proofs.lemmas.List.Elements.{filter_map-append}
 use Rattle.blif_lines.specs.Layout.{Spot}
-use Rattle.blif_format.specs.Uses.{Command, Model, Inputs, Outputs, Clock, Names, Latch, End, Input, ClockInput, Output, CoverInput, CoverOutput, LatchInput, LatchOutput, Control, Part, Title, Name, LatchType, Init, Extra, all_are, in_parts, names_parts, latch_parts, parts_of, Use, use_of}
+use Rattle.blif_format.specs.Uses.{all_are, in_parts, names_parts, latch_parts, parts_of, Use, use_of}
+use Rattle.blif_format.specs.declared.words.Command.{Command}
+use Rattle.blif_format.specs.declared.words.Command.TheVariants.{Model, Inputs, Outputs, Clock, Names, Latch, End}
+use Rattle.blif_format.specs.declared.words.Role.TheVariants.{Input, ClockInput, Output, CoverInput, CoverOutput, LatchInput, LatchOutput, Control}
+use Rattle.blif_format.specs.declared.words.Part.{Part}
+use Rattle.blif_format.specs.declared.words.Part.TheVariants.{Title, Name, LatchType, Init, Extra}
 use Rattle.blif_format.specs.FirstFault.{or_else, fault_if, part_fault, parts_fault, command_fault}
 use Rattle.blif_format.specs.Uses.{least_words}
 use Rattle.blif_format.specs.declared.refusal.FaultKind.TheVariants.{MissingWord}

@@ -10,7 +10,8 @@ use Rattle.rm_model.specs.declared.parts.Cover.{Cover}
 use Rattle.rm_model.specs.declared.parts.Latch.{Latch as LatchPart}
 use Rattle.blif_format.specs.Text.{Line, control_word, timing_words, init_words, latch_words, cover_words}
 use Rattle.blif_format.specs.Grammar.{begins_with, words_after, words_of, names_lines}
-use Rattle.blif_format.specs.Uses.{Role, CoverInput, CoverOutput, LatchInput, LatchOutput, Control}
+use Rattle.blif_format.specs.declared.words.Role.{Role}
+use Rattle.blif_format.specs.declared.words.Role.TheVariants.{CoverInput, CoverOutput, LatchInput, LatchOutput, Control}
 use Rattle.blif_reader.proofs.Compared.{word_tells}
 use Rattle.blif_reader.proofs.NameLaws.{word_if, control_if, list_picks, cover_picks, latch_picks}
 

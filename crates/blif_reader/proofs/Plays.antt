@@ -3,7 +3,9 @@ use Rattle.std.proofs.Common.{◌≡◌, ◌+◌, List, [], ◌∷◌, ◌++◌,
 use Rattle.std.specs.Prelude.{if◌then◌else◌}
 use Rattle.rm_model.specs.Words.{Word, is_word}
 use Rattle.rm_model.specs.Value.{is_among}
-use Rattle.blif_format.specs.Uses.{Role, Input, ClockInput, Output, CoverInput, CoverOutput, LatchInput, LatchOutput, Control, Use, is_source_role, is_driver, drives_twice, lists_twice, names_in, distinct_count}
+use Rattle.blif_format.specs.Uses.{Use, is_source_role, is_driver, drives_twice, lists_twice, names_in, distinct_count}
+use Rattle.blif_format.specs.declared.words.Role.{Role}
+use Rattle.blif_format.specs.declared.words.Role.TheVariants.{Input, ClockInput, Output, CoverInput, CoverOutput, LatchInput, LatchOutput, Control}
 use Rattle.blif_reader.specs.Tally.{plays, is_input, is_clock, is_latch, is_cover, is_output, flags_in, has_source, has_driver, is_driven_twice, is_listed_twice}
 use Rattle.blif_reader.proofs.Compared.{word_turned, among_more, word_is}
 

@@ -14,7 +14,8 @@ use Rattle.blif_lines.specs.Reading.{pending, spot_of, IsWithin, StandsFirst}
 use Rattle.blif_lines.specs.declared.line.Token.{Token}
 use Rattle.blif_format.specs.Text.{Line}
 use Rattle.blif_format.specs.Grammar.{names_lines, begins_with, words_after}
-use Rattle.blif_format.specs.Uses.{Command, command_of}
+use Rattle.blif_format.specs.Uses.{command_of}
+use Rattle.blif_format.specs.declared.words.Command.{Command}
 use Rattle.blif_format.specs.FirstFault.{Said, OpenCover as SaidCover, nothing_said, or_else, fault_if, flaw_fault, words_fault, after_line, lines_fault, said_by, cover_in, cover_names, row_fault}
 use Rattle.blif_format.specs.declared.refusal.FaultKind.TheVariants.{NoModel}
 use Rattle.blif_format.specs.declared.refusal.ReadRefusal.{ReadRefusal}

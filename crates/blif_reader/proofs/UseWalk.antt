@@ -5,7 +5,11 @@ use Rattle.std.specs.List.{cons_option, filter_map}
 use Rattle.std.proofs.lemmas.List.{append-nil}
 use Rattle.rm_model.specs.Words.{is_word}
 use Rattle.blif_lines.specs.Layout.{Spot, Logical}
-use Rattle.blif_format.specs.Uses.{Command, Model, command_of, Part, Title, Name, LatchType, Init, Extra, parts_of, least_words, Use, use_of, uses_of}
+use Rattle.blif_format.specs.Uses.{command_of, parts_of, least_words, Use, use_of, uses_of}
+use Rattle.blif_format.specs.declared.words.Command.{Command}
+use Rattle.blif_format.specs.declared.words.Command.TheVariants.{Model}
+use Rattle.blif_format.specs.declared.words.Part.{Part}
+use Rattle.blif_format.specs.declared.words.Part.TheVariants.{Title, Name, LatchType, Init, Extra}
 use Rattle.blif_format.specs.FirstFault.{or_else, fault_if, use_fault, use_fault_if, part_fault, parts_fault, command_fault, is_dotted, dotted_fault, row_fault_in, words_fault, Said, after_line, said_by, flaw_fault, lines_fault}
 use Rattle.blif_format.specs.declared.refusal.FaultKind.TheVariants.{MissingWord}
 use Rattle.blif_reader.proofs.Compared.{word_is}

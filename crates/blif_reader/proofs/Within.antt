@@ -16,7 +16,11 @@ use Rattle.rm_model.specs.declared.parts.Model.{Model as CircuitModel}
 use Rattle.blif_lines.specs.Layout.{Spot, Logical, layout, lines_of}
 use Rattle.blif_format.specs.Text.{Line, cover_words}
 use Rattle.blif_format.specs.Grammar.{Reads, begins_with, words_after, names_lines, before, is_dotted as is_dotted_line}
-use Rattle.blif_format.specs.Uses.{Model, Names, Title, command_of, names_parts, Role, Input, ClockInput, Output, CoverInput, CoverOutput, LatchInput, LatchOutput, Control, Use, is_source_role, names_in, distinct_count}
+use Rattle.blif_format.specs.Uses.{command_of, names_parts, Use, is_source_role, names_in, distinct_count}
+use Rattle.blif_format.specs.declared.words.Command.TheVariants.{Model, Names}
+use Rattle.blif_format.specs.declared.words.Role.{Role}
+use Rattle.blif_format.specs.declared.words.Role.TheVariants.{Input, ClockInput, Output, CoverInput, CoverOutput, LatchInput, LatchOutput, Control}
+use Rattle.blif_format.specs.declared.words.Part.TheVariants.{Title}
 use Rattle.blif_format.specs.FirstFault.{or_else, name_limit, fault_if, use_fault, parts_fault, command_fault, dotted_fault, row_fault_in, words_fault, flaw_fault, is_dotted, Said, after_line, is_cover_input, is_undriven, undriven_fault, nothing_said, said_by, lines_fault, cover_in, bare_model, first_unranked, rank_fault, first_fault}
 use Rattle.blif_format.specs.declared.refusal.FaultKind.TheVariants.{MissingWord, Undriven, NoRank}
 use Rattle.blif_format.specs.declared.refusal.Quantity.{Quantity}

@@ -9,7 +9,8 @@ use Rattle.rm_model.specs.declared.parts.Cover.{Cover}
 use Rattle.rm_model.specs.declared.parts.Model.{Model as CircuitModel}
 use Rattle.blif_format.specs.Text.{Line, on_word, latch_words, cover_words, row_words}
 use Rattle.blif_format.specs.Grammar.{before_end, begins_with, is_dotted, words_after, words_of, names_lines, follow, body_of}
-use Rattle.blif_format.specs.Uses.{Command, Model, Inputs, Outputs, Clock, Names, Latch as LatchLine, End}
+use Rattle.blif_format.specs.declared.words.Command.{Command}
+use Rattle.blif_format.specs.declared.words.Command.TheVariants.{Model, Inputs, Outputs, Clock, Names, Latch as LatchLine, End}
 use Rattle.blif_format.specs.FirstFault.{Said, OpenCover as SaidCover, with_row}
 use Rattle.blif_lines.specs.Layout.{Spot}
 use Rattle.blif_lines.specs.declared.line.Token.{Token}

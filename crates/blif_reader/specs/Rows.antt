@@ -4,7 +4,10 @@ use Rattle.rm_model.specs.Words.{Word}
 use Rattle.rm_base.specs.declared.numbers.Place.{Place}
 use Rattle.rm_model.specs.Value.{is_among}
 use Rattle.blif_lines.specs.Layout.{Spot}
-use Rattle.blif_format.specs.Uses.{Command, Names, End, Part, Title, Name, LatchType, Init, Extra}
+use Rattle.blif_format.specs.declared.words.Command.{Command}
+use Rattle.blif_format.specs.declared.words.Command.TheVariants.{Names, End}
+use Rattle.blif_format.specs.declared.words.Part.{Part}
+use Rattle.blif_format.specs.declared.words.Part.TheVariants.{Title, Name, LatchType, Init, Extra}
 use Rattle.blif_format.specs.FirstFault.{OpenCover, or_else, fault, fault_if, name_limit, latch_types, init_values, character_fault}
 use Rattle.blif_format.specs.declared.refusal.FaultKind.TheVariants.{RowLength, BadLatchWord, ExtraWord}
 use Rattle.blif_format.specs.declared.refusal.ReadRefusal.{ReadRefusal}

@@ -4,7 +4,9 @@ use Rattle.std.specs.List.{list_any}
 use Rattle.rm_base.specs.declared.numbers.Place.{Place}
 use Rattle.rm_model.specs.Words.{Word, is_word}
 use Rattle.rm_model.specs.Value.{is_among}
-use Rattle.blif_format.specs.Uses.{Role, Input, ClockInput, Output, CoverOutput, LatchOutput, Use, is_source_role, is_observed_role, names_in, distinct_count}
+use Rattle.blif_format.specs.Uses.{Use, is_source_role, is_observed_role, names_in, distinct_count}
+use Rattle.blif_format.specs.declared.words.Role.{Role}
+use Rattle.blif_format.specs.declared.words.Role.TheVariants.{Input, ClockInput, Output, CoverOutput, LatchOutput}
 use Rattle.blif_format.specs.FirstFault.{or_else, fault_if, limit_if, name_limit, is_cover_input, is_over}
 use Rattle.blif_format.specs.declared.refusal.FaultKind.TheVariants.{DoubleDriven, DoubleOutput}
 use Rattle.blif_format.specs.declared.refusal.Quantity.TheVariants.{Inputs, Sources, Observed, Signals}

@@ -7,7 +7,7 @@ ghost use Rattle.blif_lines.specs.Reading.{spot_of, IsWithin};
 ghost use Rattle.blif_format.specs.Text.{on_word};
 ghost use Rattle.blif_format.specs.Uses.{Use, use_of, parts_of, command_of as command_said};
 ghost use Rattle.blif_format.specs.FirstFault.{Said, part_fault, command_fault, ending_fault, character_fault, rest_fault, row_fault, or_else, extra_fault, last_word, nothing_said, dotted_fault, first_line_fault, row_fault_in, is_dotted, words_fault, after_line};
-ghost use Rattle.blif_reader.specs.Meant.{said_command, said_part, refusal_of, IsRefusal};
+ghost use Rattle.blif_reader.specs.Meant.{refusal_of, IsRefusal};
 ghost use Rattle.blif_reader.specs.Tally.{IsTally};
 ghost use Rattle.blif_reader.specs.Said.{said_ending, said_cover, IsSaid};
 ghost use Rattle.blif_format.specs.FirstFault.{is_literal as literal_byte};
@@ -18,10 +18,9 @@ use crate::names::{Names, check_length};
 use crate::refusals::fault;
 use crate::rows::{OpenCover, check_row, with_ending};
 use crate::words::{
-    Command, Part, Role, command_of, is_init, is_latch_type, is_text, is_unsupported, least_words,
-    part_at, word_of,
+    command_of, is_init, is_latch_type, is_text, is_unsupported, least_words, part_at, word_of,
 };
-use blif_format::{FaultKind, ReadRefusal};
+use blif_format::{Command, FaultKind, Part, ReadRefusal, Role};
 use blif_lines::Token;
 use rm_base::Place;
 use std::alloc::Global;
@@ -44,8 +43,8 @@ fn take_name<'a>(
 ) -> Result<(), ReadRefusal>
     requires word { IsWithin text.now token.now }
     requires small { earlier ≤ 2 ^ 32 }
-    ensures ok { (had : List Use) → IsTally had names.old → OnOk result ((part_fault had earlier (said_part (Part.Name role), spot_of text.now token.now) ≡ None) × IsTally (had ++ filter_map use_of ((said_part (Part.Name role), spot_of text.now token.now) ∷ [])) names.new) }
-    ensures err { (had : List Use) → IsTally had names.old → IfErr result (λ e. IsRefusal e (part_fault had earlier (said_part (Part.Name role), spot_of text.now token.now))) }
+    ensures ok { (had : List Use) → IsTally had names.old → OnOk result ((part_fault had earlier (Part.Name role, spot_of text.now token.now) ≡ None) × IsTally (had ++ filter_map use_of ((Part.Name role, spot_of text.now token.now) ∷ [])) names.new) }
+    ensures err { (had : List Use) → IsTally had names.old → IfErr result (λ e. IsRefusal e (part_fault had earlier (Part.Name role, spot_of text.now token.now))) }
 {
     let word = word_of(text, token);
     if role == Role::Control && is_text(word, "NIL") {
@@ -57,7 +56,7 @@ fn take_name<'a>(
 // A word that is no name.
 fn check_word(text: &[u8], part: Part, token: &Token) -> Result<(), ReadRefusal>
     requires { IsWithin text.now token.now }
-    ensures { refusal_of result ≡ word_fault (said_part part) (spot_of text.now token.now) }
+    ensures { refusal_of result ≡ word_fault part (spot_of text.now token.now) }
 {
     let word = word_of(text, token);
     match part {
@@ -90,8 +89,8 @@ fn take_part<'a>(
 ) -> Result<(), ReadRefusal>
     requires word { IsWithin text.now token.now }
     requires small { earlier ≤ 2 ^ 32 }
-    ensures ok { (had : List Use) → IsTally had names.old → OnOk result ((part_fault had earlier (said_part part, spot_of text.now token.now) ≡ None) × IsTally (had ++ filter_map use_of ((said_part part, spot_of text.now token.now) ∷ [])) names.new) }
-    ensures err { (had : List Use) → IsTally had names.old → IfErr result (λ e. IsRefusal e (part_fault had earlier (said_part part, spot_of text.now token.now))) }
+    ensures ok { (had : List Use) → IsTally had names.old → OnOk result ((part_fault had earlier (part, spot_of text.now token.now) ≡ None) × IsTally (had ++ filter_map use_of ((part, spot_of text.now token.now) ∷ [])) names.new) }
+    ensures err { (had : List Use) → IsTally had names.old → IfErr result (λ e. IsRefusal e (part_fault had earlier (part, spot_of text.now token.now))) }
 {
     match part {
         Part::Name(role) => take_name(names, text, role, earlier, token),
@@ -112,8 +111,8 @@ fn take_words<'a>(
 ) -> Result<(), ReadRefusal>
     requires words { All (IsWithin text.now) words.now }
     requires small { length words.now ≤ 2 ^ 32 }
-    ensures ok { (had : List Use) → IsTally had names.old → OnOk result ((command_fault had (spot_of text.now first.now) (said_command command) (map (spot_of text.now) words.now) ≡ None) × IsTally (had ++ filter_map use_of (parts_of (said_command command) (map (spot_of text.now) words.now))) names.new) }
-    ensures err { (had : List Use) → IsTally had names.old → IfErr result (λ e. IsRefusal e (command_fault had (spot_of text.now first.now) (said_command command) (map (spot_of text.now) words.now))) }
+    ensures ok { (had : List Use) → IsTally had names.old → OnOk result ((command_fault had (spot_of text.now first.now) command (map (spot_of text.now) words.now) ≡ None) × IsTally (had ++ filter_map use_of (parts_of command (map (spot_of text.now) words.now))) names.new) }
+    ensures err { (had : List Use) → IsTally had names.old → IfErr result (λ e. IsRefusal e (command_fault had (spot_of text.now first.now) command (map (spot_of text.now) words.now))) }
 {
     let count = words.len();
     for (i, token) in words.iter().enumerate() {
@@ -130,7 +129,7 @@ fn take_words<'a>(
 
 // The cover to which rows behind a command may belong, with so many words behind the command.
 fn cover_behind(command: Command, count: usize) -> Option<OpenCover>
-    ensures { option_map said_cover result ≡ cover_for (said_command command) count }
+    ensures { option_map said_cover result ≡ cover_for command count }
 {
     match command {
         Command::Names => Some(OpenCover {
@@ -142,7 +141,7 @@ fn cover_behind(command: Command, count: usize) -> Option<OpenCover>
 }
 
 fn is_end(command: Command) -> bool
-    ensures { result ≡ ends (said_command command) }
+    ensures { result ≡ ends command }
 {
     match command {
         Command::End => true,
@@ -179,9 +178,9 @@ fn take_command<'a>(
 ) -> Result<(), ReadRefusal>
     requires words { All (IsWithin text.now) rest.now }
     requires small { length rest.now ≤ 2 ^ 32 }
-    requires command { command_said (spot_of text.now first.now).word ≡ Some (said_command command) }
-    ensures ok { (said : Said) → IsSaid said checker.old → OnOk result ((command_fault said.uses (spot_of text.now first.now) (said_command command) (map (spot_of text.now) rest.now) ≡ None) × IsSaid (after_line said (spot_of text.now first.now ∷ map (spot_of text.now) rest.now)) checker.new) }
-    ensures err { (said : Said) → IsSaid said checker.old → IfErr result (λ e. IsRefusal e (command_fault said.uses (spot_of text.now first.now) (said_command command) (map (spot_of text.now) rest.now))) }
+    requires command { command_said (spot_of text.now first.now).word ≡ Some command }
+    ensures ok { (said : Said) → IsSaid said checker.old → OnOk result ((command_fault said.uses (spot_of text.now first.now) command (map (spot_of text.now) rest.now) ≡ None) × IsSaid (after_line said (spot_of text.now first.now ∷ map (spot_of text.now) rest.now)) checker.new) }
+    ensures err { (said : Said) → IsSaid said checker.old → IfErr result (λ e. IsRefusal e (command_fault said.uses (spot_of text.now first.now) command (map (spot_of text.now) rest.now))) }
 {
     match take_words(&mut checker.names, text, command, first, rest) {
         Ok(()) => {}
@@ -202,9 +201,9 @@ fn take_other<'a>(
 ) -> Result<(), ReadRefusal>
     requires words { All (IsWithin text.now) rest.now }
     requires small { length rest.now ≤ 2 ^ 32 }
-    requires command { command_said (spot_of text.now first.now).word ≡ Some (said_command command) }
-    ensures ok { (said : Said) → IsSaid said checker.old → OnOk result ((dotted_fault said.uses (spot_of text.now first.now) (map (spot_of text.now) rest.now) (Some (said_command command)) ≡ None) × IsSaid (after_line said (spot_of text.now first.now ∷ map (spot_of text.now) rest.now)) checker.new) }
-    ensures err { (said : Said) → IsSaid said checker.old → IfErr result (λ e. IsRefusal e (dotted_fault said.uses (spot_of text.now first.now) (map (spot_of text.now) rest.now) (Some (said_command command)))) }
+    requires command { command_said (spot_of text.now first.now).word ≡ Some command }
+    ensures ok { (said : Said) → IsSaid said checker.old → OnOk result ((dotted_fault said.uses (spot_of text.now first.now) (map (spot_of text.now) rest.now) (Some command) ≡ None) × IsSaid (after_line said (spot_of text.now first.now ∷ map (spot_of text.now) rest.now)) checker.new) }
+    ensures err { (said : Said) → IsSaid said checker.old → IfErr result (λ e. IsRefusal e (dotted_fault said.uses (spot_of text.now first.now) (map (spot_of text.now) rest.now) (Some command))) }
 {
     match command {
         Command::Model => fault(FaultKind::Unsupported, first.place),

@@ -5,11 +5,11 @@ ghost use Rattle.rm_model.specs.Value.{is_among};
 ghost use Rattle.blif_lines.specs.Reading.{spot_of, IsWithin};
 ghost use Rattle.blif_format.specs.Text.{Line, control_word, timing_words, init_words, latch_words, cover_words, row_words};
 ghost use Rattle.blif_format.specs.FirstFault.{Said, nothing_said, words_fault, after_line, OpenCover as SaidCover, row_fault, latch_types, init_values, is_literal as literal_bytes};
-ghost use Rattle.blif_reader.specs.Meant.{said_command};
 ghost use Rattle.blif_reader.specs.Drafts.{IsDraft, all_covers, model_in, Changes, IsKnown, RowsAre, CurrentIs, HasRow, AddsRow, IsFitLatch, last_token, inputs_in};
 ghost use Rattle.blif_reader.specs.Lines.{words_at, IsLatchLine, are_literals, init_part, timing_part};
 
-use crate::words::{Command, command_of, is_text, least_words, word_of};
+use crate::words::{command_of, is_text, least_words, word_of};
+use blif_format::Command;
 use blif_lines::Token;
 use rm_base::NoMemory;
 use rm_model::{Cover, Latch, LatchKind, Listed, Literal, Model, Name, Row, Timing};
@@ -153,14 +153,15 @@ pub fn cover_of(alloc: Global, text: &[u8], words: &[Token]) -> Result<Cover, No
     ensures on { IfOk result (λ c. c.on ≡ true) }
 {
     let last = words.len() - 1;
-    let mut inputs = Listed::new(alloc);
+    let mut inputs = Listed::from_vec(Vec::with_capacity(alloc, last)?);
     push_names(alloc, &mut inputs, text, &words[..last])?;
     let output = name_at(alloc, text, &words[last])?;
+    let rows = Vec::with_capacity(alloc, 1)?;
     Ok(Cover {
         inputs,
         output,
         on: true,
-        rows: Listed::new(alloc),
+        rows: Listed::from_vec(rows),
     })
 }
 
@@ -180,11 +181,11 @@ fn literal_of(b: u8) -> Literal
 pub fn row_of(alloc: Global, word: &[u8]) -> Result<Row, NoMemory>
     ensures { are_literals word.now ≡ true → IfOk result (λ row. map literal_byte row ≡ word.now) }
 {
-    let mut row = Listed::new(alloc);
+    let mut row = Vec::with_capacity(alloc, word.len())?;
     for b in word {
         row.push(literal_of(*b))?;
     }
-    Ok(row)
+    Ok(Listed::from_vec(row))
 }
 
 /// The model that the lines so far say, but for the end of the last cover.
@@ -222,7 +223,7 @@ fn add_known(
 ) -> Result<(), NoMemory>
     requires within { All (IsWithin text.now) words.now }
     requires closed { draft.old.current ≡ None }
-    ensures { IsKnown (said_command command) (words_at text.now words.now) → OnOk result (Changes (said_command command) (words_at text.now words.now) draft.old draft.new) }
+    ensures { IsKnown command (words_at text.now words.now) → OnOk result (Changes command (words_at text.now words.now) draft.old draft.new) }
 {
     if words.len() < least_words(command) {
         return Ok(());
@@ -256,7 +257,7 @@ pub fn add_command(
     words: &[Token],
 ) -> Result<(), NoMemory>
     requires within { All (IsWithin text.now) words.now }
-    ensures { IsKnown (said_command command) (words_at text.now words.now) → OnOk result (Changes (said_command command) (words_at text.now words.now) draft.old draft.new) }
+    ensures { IsKnown command (words_at text.now words.now) → OnOk result (Changes command (words_at text.now words.now) draft.old draft.new) }
 {
     close(draft)?;
     add_known(alloc, draft, text, command, words)

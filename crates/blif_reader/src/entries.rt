@@ -1,6 +1,8 @@
 // What each name of a text stands for so far, by first appearance.
-ghost use Rattle.std.specs.Prelude.{◌≡◌, [], length, slice_get, OnOk, OnErr};
+ghost use Rattle.std.specs.Prelude.{◌≡◌, [], length, map, slice_get, OnOk, OnErr};
 ghost use Rattle.std.specs.Option.{option_map};
+ghost use Rattle.rm_model.specs.Numbers.{place_of};
+ghost use Rattle.rm_model.specs.Words.{Word};
 ghost use Rattle.blif_reader.specs.Tally.{entry_of, put_entry};
 
 use crate::names::Entry;
@@ -47,12 +49,19 @@ impl<'a> Entries<'a> {
         self.entries.len()
     }
 
-    /// The entry under a name.
-    pub fn get(&self, name: &[u8]) -> Option<Entry>
-        ensures { result ≡ entry_of self.now name.now }
+    /// The place of a name by first appearance, None where it isn't there.
+    pub fn find(&self, name: &'a [u8]) -> Option<usize>
+        ensures { result ≡ place_of (map (λ e. e.0) self.now) name.now }
     {
-        match self.names.place(name) {
-            Some(place) => Some(self.entries[place]),
+        self.names.place(name)
+    }
+
+    /// The entry of the name that was found at a place.
+    pub fn get(&self, found: Option<usize>) -> Option<Entry>
+        ensures { (x : Word) → found ≡ place_of (map (λ e. e.0) self.now) x → result ≡ entry_of self.now x }
+    {
+        match found {
+            Some(place) => self.at(place),
             None => None,
         }
     }
@@ -67,12 +76,18 @@ impl<'a> Entries<'a> {
         None
     }
 
-    /// Puts an entry under a name: in its place, or at the end where the name isn't there.
-    pub fn put(&mut self, name: &'a [u8], entry: Entry) -> Result<(), NoMemory>
+    /// Puts an entry under a name, where that was found, or at the end where it isn't there.
+    pub fn put(
+        &mut self,
+        found: Option<usize>,
+        name: &'a [u8],
+        entry: Entry,
+    ) -> Result<(), NoMemory>
+        requires { found ≡ place_of (map (λ e. e.0) self.old) name.now }
         ensures ok { OnOk result (self.new ≡ put_entry self.old name.now entry) }
         ensures err { OnErr result (self.new ≡ self.old) }
     {
-        if let Some(place) = self.names.place(name) {
+        if let Some(place) = found {
             self.entries[place] = entry;
             return Ok(());
         }

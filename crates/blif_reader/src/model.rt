@@ -1,5 +1,5 @@
 // The model of a text.
-ghost use Rattle.std.specs.Prelude.{◌≡◌, ◌≤◌, ◌<◌, ◌*◌, ◌^◌, length, OnOk, IfOk, IfErr, None, Option, ℕ};
+ghost use Rattle.std.specs.Prelude.{◌≡◌, ◌≤◌, ◌<◌, ◌*◌, ◌+◌, ◌^◌, length, OnOk, IfOk, IfErr, None, Option, ℕ};
 ghost use Rattle.rm_model.specs.Ranks.{first_without_rank};
 ghost use Rattle.rm_model.specs.RankFaults.{IsRefused};
 ghost use Rattle.rm_model.specs.declared.ranking.RankFault.TheVariants.{NoRank};
@@ -13,10 +13,10 @@ ghost use Rattle.blif_reader.specs.Meant.{IsRefusal};
 ghost use Rattle.blif_reader.specs.Ranked.{fault_at, rank_found};
 
 use crate::draft::model_of;
-use crate::read::read_lines;
+use crate::read::{Lines, read_lines};
 use blif_format::{FaultKind, ReadRefusal};
 use rm_base::Place;
-use rm_model::{Model, RankFault, rank, ranks_exist, ranks_follow};
+use rm_model::{Model, RankFault, RankedModel, ranks_exist, ranks_follow};
 use std::alloc::Global;
 
 fn fault(kind: FaultKind, place: Place) -> ReadRefusal
@@ -36,24 +36,26 @@ fn rank_refusal(refused: RankFault, places: &[Place]) -> ReadRefusal
     }
 }
 
-fn check_ranks(alloc: Global, model: &Model, places: &[Place]) -> Result<(), ReadRefusal>
-    requires formed { IsWellFormed model.now }
-    requires few { length model.now.covers < 2 ^ 32 }
-    requires placed { length places.now ≡ length model.now.covers }
-    ensures ok { OnOk result (first_without_rank model.now ≡ None) }
-    ensures err { IfErr result (λ e. IsRefusal e (rank_found model.now places.now)) }
+// The model with its ranks.
+fn ranked(alloc: Global, model: Model, places: &[Place]) -> Result<RankedModel, ReadRefusal>
+    requires formed { IsWellFormed model }
+    requires few { length (source_names model) + length model.covers < 2 ^ 32 }
+    requires placed { length places.now ≡ length model.covers }
+    ensures same { IfOk result (λ r. r ≡ model) }
+    ensures ok { OnOk result (first_without_rank model ≡ None) }
+    ensures err { IfErr result (λ e. IsRefusal e (rank_found model places.now)) }
 {
     ranks_follow();
-    match rank(alloc, model) {
-        Ok(_) => return Ok(()),
-        Err(refused) => return Err(rank_refusal(refused, places)),
+    match RankedModel::new(alloc, model) {
+        Ok(ranked) => Ok(ranked),
+        Err(refused) => Err(rank_refusal(refused, places)),
     }
 }
 
 /// The model that a text says, or the text's first fault. Within the limits a text says a model exactly where it has no
-/// fault. It takes one pass over the text and time linear in it, but for the look-ups of names. The last clauses bound what
+/// fault. It takes one pass over the text and time linear in it, but for two look-ups of each name that stands in it. The last clauses bound what
 /// is made of the model.
-pub fn read_model(alloc: Global, text: &[u8]) -> Result<Model, ReadRefusal>
+pub fn read_model(alloc: Global, text: &[u8]) -> Result<RankedModel, ReadRefusal>
     requires { length text.now ≤ 16777216 }
     ensures model { IfOk result (λ m. Reads (lines_of text.now) m) }
     ensures faultless { IfOk result (λ _. first_fault text.now ≡ None) }
@@ -76,13 +78,15 @@ pub fn read_model(alloc: Global, text: &[u8]) -> Result<Model, ReadRefusal>
         Some(place) => return Err(fault(FaultKind::Undriven, place)),
         None => {}
     }
-    let model = match model_of(lines.draft) {
+    let Lines {
+        checker,
+        draft,
+        places,
+    } = lines;
+    drop(checker);
+    let model = match model_of(draft) {
         Ok(model) => model,
         Err(_) => return Err(ReadRefusal::NoMemory),
     };
-    match check_ranks(alloc, &model, lines.places.as_slice()) {
-        Ok(()) => {}
-        Err(refusal) => return Err(refusal),
-    }
-    Ok(model)
+    ranked(alloc, model, places.as_slice())
 }

@@ -4,13 +4,12 @@ ghost use Rattle.rm_model.specs.Words.{is_word};
 ghost use Rattle.blif_format.specs.Uses.{Use, is_source_role, is_observed_role};
 ghost use Rattle.blif_format.specs.FirstFault.{name_limit, use_fault, undriven_fault};
 ghost use Rattle.std.specs.Option.{option_map};
-ghost use Rattle.blif_reader.specs.Meant.{said_role, refusal_of, IsRefusal};
+ghost use Rattle.blif_reader.specs.Meant.{refusal_of, IsRefusal};
 ghost use Rattle.blif_reader.specs.Tally.{Tally, IsTally, flags_or_none, no_flags, has_source as some_source, has_driver as some_driver, is_driven_twice as driven_twice, is_listed_twice as listed_twice, with_role as flags_with, more_if, place_or, first_free, free_of, use_check, flags_check, inputs_check, counts_check};
 
 use crate::entries::Entries;
 use crate::refusals::{fault, limit};
-use crate::words::Role;
-use blif_format::{FaultKind, Quantity, ReadRefusal};
+use blif_format::{FaultKind, Quantity, ReadRefusal, Role};
 use rm_base::Place;
 use std::alloc::Global;
 use std::marker::Model;
@@ -33,7 +32,7 @@ pub struct Entry {
 }
 
 fn is_source(role: Role) -> bool
-    ensures { result ≡ is_source_role (said_role role) }
+    ensures { result ≡ is_source_role role }
 {
     match role {
         Role::Input | Role::ClockInput | Role::LatchOutput => true,
@@ -42,7 +41,7 @@ fn is_source(role: Role) -> bool
 }
 
 fn is_observed(role: Role) -> bool
-    ensures { result ≡ is_observed_role (said_role role) }
+    ensures { result ≡ is_observed_role role }
 {
     match role {
         Role::Output | Role::LatchInput | Role::Control => true,
@@ -79,7 +78,7 @@ fn has_driver(flags: Flags) -> bool
 
 /// Whether a name with these flags may not be driven in the role too.
 fn is_driven_twice(flags: Flags, role: Role) -> bool
-    ensures { result ≡ driven_twice flags (said_role role) }
+    ensures { result ≡ driven_twice flags role }
 {
     match role {
         Role::Input => flags.input || flags.latch || flags.cover,
@@ -90,7 +89,7 @@ fn is_driven_twice(flags: Flags, role: Role) -> bool
 }
 
 fn is_listed_twice(flags: Flags, role: Role) -> bool
-    ensures { result ≡ listed_twice flags (said_role role) }
+    ensures { result ≡ listed_twice flags role }
 {
     match role {
         Role::Output => flags.output,
@@ -99,7 +98,7 @@ fn is_listed_twice(flags: Flags, role: Role) -> bool
 }
 
 fn with_role(flags: Flags, role: Role) -> Flags
-    ensures { result ≡ flags_with flags (said_role role) }
+    ensures { result ≡ flags_with flags role }
 {
     let mut flags = flags;
     match role {
@@ -148,7 +147,7 @@ fn more(count: usize, is_more: bool) -> usize
 }
 
 fn is_new_source(role: Role, flags: Flags) -> bool
-    ensures { result ≡ (is_source_role (said_role role) && not (some_source flags)) }
+    ensures { result ≡ (is_source_role role && not (some_source flags)) }
 {
     is_source(role) && !has_source(flags)
 }
@@ -163,8 +162,8 @@ fn counts_with(
     requires sources { sources ≤ 2 ^ 32 }
     requires observed { observed ≤ 2 ^ 32 }
     requires names { names ≤ 2 ^ 32 }
-    ensures sources { result.sources ≡ more_if (is_source_role (said_role role) && not (some_source (flags_or_none entry))) sources }
-    ensures observed { result.observed ≡ more_if (is_observed_role (said_role role)) observed }
+    ensures sources { result.sources ≡ more_if (is_source_role role && not (some_source (flags_or_none entry))) sources }
+    ensures observed { result.observed ≡ more_if (is_observed_role role) observed }
     ensures signals { result.signals ≡ more_if (not (is_some entry)) names }
 {
     Counts {
@@ -191,7 +190,7 @@ fn check_counts(counts: Counts, place: Place) -> Result<(), ReadRefusal>
 
 fn check_inputs(role: Role, earlier: usize, place: Place) -> Result<(), ReadRefusal>
     requires { earlier ≤ 2 ^ 32 }
-    ensures { refusal_of result ≡ inputs_check (said_role role) earlier place }
+    ensures { refusal_of result ≡ inputs_check role earlier place }
 {
     if role == Role::CoverInput && earlier > 65_535 {
         return limit(Quantity::Inputs, earlier + 1, place);
@@ -200,7 +199,7 @@ fn check_inputs(role: Role, earlier: usize, place: Place) -> Result<(), ReadRefu
 }
 
 fn check_flags(flags: Flags, role: Role, place: Place) -> Result<(), ReadRefusal>
-    ensures { refusal_of result ≡ flags_check flags (said_role role) place }
+    ensures { refusal_of result ≡ flags_check flags role place }
 {
     if is_driven_twice(flags, role) {
         return fault(FaultKind::DoubleDriven, place);
@@ -220,7 +219,7 @@ fn check_use(
     place: Place,
 ) -> Result<(), ReadRefusal>
     requires { earlier ≤ 2 ^ 32 }
-    ensures { refusal_of result ≡ use_check flags counts (said_role role) name.now earlier place }
+    ensures { refusal_of result ≡ use_check flags counts role name.now earlier place }
 {
     check_flags(flags, role, place)?;
     check_length(name, place)?;
@@ -293,10 +292,11 @@ impl<'a> Names<'a> {
         place: Place,
     ) -> Result<(), ReadRefusal>
         requires { earlier ≤ 2 ^ 32 }
-        ensures ok { (had : List Use) → IsTally had self.old → OnOk result ((use_fault had earlier (record { role = said_role role; name = name.now; place = place }) ≡ None) × IsTally (had ++ record { role = said_role role; name = name.now; place = place } ∷ []) self.new) }
-        ensures err { (had : List Use) → IsTally had self.old → IfErr result (λ e. IsRefusal e (use_fault had earlier (record { role = said_role role; name = name.now; place = place }))) }
+        ensures ok { (had : List Use) → IsTally had self.old → OnOk result ((use_fault had earlier (record { role = role; name = name.now; place = place }) ≡ None) × IsTally (had ++ record { role = role; name = name.now; place = place } ∷ []) self.new) }
+        ensures err { (had : List Use) → IsTally had self.old → IfErr result (λ e. IsRefusal e (use_fault had earlier (record { role = role; name = name.now; place = place }))) }
     {
-        let entry = self.entries.get(name);
+        let found = self.entries.find(name);
+        let entry = self.entries.get(found);
         let flags = flags_of(entry);
         let counts = counts_with(self.sources, self.observed, self.entries.len(), role, entry);
         match check_use(flags, counts, role, name, earlier, place) {
@@ -307,7 +307,7 @@ impl<'a> Names<'a> {
             flags: with_role(flags, role),
             place: place_of(entry, place),
         };
-        match self.entries.put(name, after) {
+        match self.entries.put(found, name, after) {
             Ok(()) => {
                 self.sources = counts.sources;
                 self.observed = counts.observed;

@@ -2,50 +2,15 @@
 ghost use Rattle.std.specs.Prelude.{◌≡◌, ◌<◌, ◌≤◌, ◌^◌, ◌-◌, take, drop};
 ghost use Rattle.blif_lines.specs.Reading.{IsWithin};
 ghost use Rattle.std.specs.List.{list_any};
-ghost use Rattle.std.specs.Option.{option_map};
 ghost use Rattle.rm_model.specs.Words.{is_word};
 ghost use Rattle.rm_model.specs.Value.{is_among};
 ghost use Rattle.blif_format.specs.Uses.{command_of as command_said, least_words as words_wanted};
 ghost use Rattle.blif_format.specs.FirstFault.{latch_types, init_values};
-ghost use Rattle.blif_reader.specs.Meant.{said_command, said_part};
 ghost use Rattle.blif_reader.specs.Parts.{latch_part_at, part_in};
 ghost use Rattle.blif_format.specs.Unsupported.{unsupported_words};
 
+use blif_format::{Command, Part, Role};
 use blif_lines::Token;
-
-#[derive(Clone, Copy, Debug, PartialEq, Eq)]
-pub enum Command {
-    Model,
-    Inputs,
-    Outputs,
-    Clock,
-    Names,
-    Latch,
-    End,
-}
-
-/// As what a name stands in a text.
-#[derive(Clone, Copy, Debug, PartialEq, Eq)]
-pub enum Role {
-    Input,
-    ClockInput,
-    Output,
-    CoverInput,
-    CoverOutput,
-    LatchInput,
-    LatchOutput,
-    Control,
-}
-
-/// What a word behind a command has to be.
-#[derive(Clone, Copy, Debug, PartialEq, Eq)]
-pub enum Part {
-    Title,
-    Name(Role),
-    LatchType,
-    Init,
-    Extra,
-}
 
 pub fn word_of<'a>(text: &'a [u8], token: &Token) -> &'a [u8]
     requires { IsWithin text.now token.now }
@@ -61,7 +26,7 @@ pub fn is_text(word: &[u8], text: &str) -> bool
 }
 
 pub fn command_of(word: &[u8]) -> Option<Command>
-    ensures { option_map said_command result ≡ command_said word.now }
+    ensures { result ≡ command_said word.now }
 {
     if is_text(word, ".model") {
         return Some(Command::Model);
@@ -153,7 +118,7 @@ pub fn is_init(word: &[u8]) -> bool
 
 /// How many words a command has at the least.
 pub fn least_words(command: Command) -> usize
-    ensures { result ≡ words_wanted (said_command command) }
+    ensures { result ≡ words_wanted command }
 {
     match command {
         Command::Model | Command::Names => 1,
@@ -163,7 +128,7 @@ pub fn least_words(command: Command) -> usize
 }
 
 fn latch_part(count: usize, index: usize) -> Part
-    ensures { said_part result ≡ latch_part_at count index }
+    ensures { result ≡ latch_part_at count index }
 {
     match index {
         0 => Part::Name(Role::LatchInput),
@@ -185,7 +150,7 @@ fn latch_part(count: usize, index: usize) -> Part
 pub fn part_at(command: Command, count: usize, index: usize) -> Part
     requires small { count ≤ 2 ^ 32 }
     requires within { index < count }
-    ensures { said_part result ≡ part_in (said_command command) count index }
+    ensures { result ≡ part_in command count index }
 {
     match command {
         Command::Model => { if index == 0 { Part::Title } else { Part::Extra } }

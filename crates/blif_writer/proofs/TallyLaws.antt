@@ -12,7 +12,10 @@ use Rattle.rm_model.specs.declared.parts.Latch.{Latch}
 use Rattle.blif_lines.specs.Layout.{Spot}
 use Rattle.blif_format.specs.Text.{Line, control_word, init_words, latch_words, on_word, row_words, timing_words}
 use Rattle.blif_format.specs.Grammar.{begins_with, is_dotted, words_after, words_of}
-use Rattle.blif_format.specs.Uses.{Role, Input, ClockInput, Output, CoverInput, CoverOutput, LatchInput, LatchOutput, Control, Name, Use, all_are, in_parts, latch_parts, names_parts, use_of, uses_of}
+use Rattle.blif_format.specs.Uses.{Use, all_are, in_parts, latch_parts, names_parts, use_of, uses_of}
+use Rattle.blif_format.specs.declared.words.Role.{Role}
+use Rattle.blif_format.specs.declared.words.Role.TheVariants.{Input, ClockInput, Output, CoverInput, CoverOutput, LatchInput, LatchOutput, Control}
+use Rattle.blif_format.specs.declared.words.Part.TheVariants.{Name}
 use Rattle.blif_writer.proofs.BodyLaws.{Body, Done, EndLine, ListLine, LatchLine, NamesLine, RowLine, IsInputs, IsOutputs, IsClock, IsGoodLatch, ListWord, Open, Shut, Rows, head_of, tail_of}
 use Rattle.blif_writer.proofs.Counts.{IsSo, NotSo, count, count-append, one_if, told, word_eq}
 use Rattle.blif_writer.proofs.LineLaws.{if_false}

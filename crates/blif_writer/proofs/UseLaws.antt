@@ -6,7 +6,11 @@ use Rattle.rm_base.specs.declared.numbers.Place.{Place}
 use Rattle.rm_model.specs.Words.{Word, is_word}
 use Rattle.rm_model.specs.Value.{is_among}
 use Rattle.blif_lines.specs.Layout.{Spot}
-use Rattle.blif_format.specs.Uses.{Role, Input, ClockInput, Output, CoverInput, CoverOutput, LatchInput, LatchOutput, Control, Part, Title, Name, LatchType, Init, Extra, Use, use_of, drives_twice, lists_twice, stands_in, names_in, is_driver, is_source_role, is_observed_role, distinct_count}
+use Rattle.blif_format.specs.Uses.{Use, use_of, drives_twice, lists_twice, stands_in, names_in, is_driver, is_source_role, is_observed_role, distinct_count}
+use Rattle.blif_format.specs.declared.words.Role.{Role}
+use Rattle.blif_format.specs.declared.words.Role.TheVariants.{Input, ClockInput, Output, CoverInput, CoverOutput, LatchInput, LatchOutput, Control}
+use Rattle.blif_format.specs.declared.words.Part.{Part}
+use Rattle.blif_format.specs.declared.words.Part.TheVariants.{Title, Name, LatchType, Init, Extra}
 use Rattle.blif_format.specs.FirstFault.{or_else, fault_if, limit_if, use_fault, use_fault_if, is_cover_input, is_over, part_fault, parts_fault, latch_types, init_values}
 use Rattle.blif_format.specs.Laws.{IsAtMostLimit}
 use Rattle.blif_format.specs.declared.refusal.Quantity.{Quantity}

@@ -16,7 +16,13 @@ use Rattle.rm_model.specs.declared.parts.Cover.{Cover}
 use Rattle.rm_model.specs.declared.parts.Latch.{Latch}
 use Rattle.blif_lines.specs.Layout.{Spot}
 use Rattle.blif_format.specs.Text.{control_word, init_words, latch_words, on_word, row_words, timing_words}
-use Rattle.blif_format.specs.Uses.{Command, Inputs, Outputs, Clock, Names, Latch as LatchOf, Role, Input, ClockInput, Output, Part, Name, Use, all_are, in_parts, latch_parts, least_words, names_parts, parts_of, use_of, uses_of}
+use Rattle.blif_format.specs.Uses.{Use, all_are, in_parts, latch_parts, least_words, names_parts, parts_of, use_of, uses_of}
+use Rattle.blif_format.specs.declared.words.Command.{Command}
+use Rattle.blif_format.specs.declared.words.Command.TheVariants.{Inputs, Outputs, Clock, Names, Latch as LatchOf}
+use Rattle.blif_format.specs.declared.words.Role.{Role}
+use Rattle.blif_format.specs.declared.words.Role.TheVariants.{Input, ClockInput, Output}
+use Rattle.blif_format.specs.declared.words.Part.{Part}
+use Rattle.blif_format.specs.declared.words.Part.TheVariants.{Name}
 use Rattle.blif_format.specs.FirstFault.{OpenCover, Said, after_line, character_fault, command_fault, cover_after, ending_fault, init_values, is_dotted, is_ending, is_literal, is_other_ending, last_word, latch_types, or_else, next_column, rest_fault, row_fault, with_row, words_fault}
 use Rattle.blif_format.specs.declared.refusal.FaultKind.TheVariants.{MissingWord, MixedCover, RowCharacter, RowLength}
 use Rattle.blif_format.specs.declared.refusal.ReadRefusal.{ReadRefusal}

@@ -3,8 +3,8 @@ use Rattle.std.proofs.Common.{Bool, List, arith, false, inl, inr, subst, â„•, â—
 use Rattle.std.specs.Prelude.{slice_set}
 use Rattle.gate_net.specs.Net.{IsAcyclic, IsRanked, Net, Reads}
 use Rattle.gate_net.specs.Paths.{IsOnlyReader, Reaches, on, pin}
-use Rattle.refutation.proofs.Agendas.{seen_left, seen_stays}
 use Rattle.refutation.specs.Answers.{GoesOnTo}
+use Rattle.refutation.proofs.Public.{seen_left, seen_stays}
 use Rattle.refutation.specs.Reaching.{MarksReached}
 
 -- a path from a node with one reader goes on from that

@@ -8,8 +8,8 @@ use Rattle.gate_net.specs.Net.{IsLive, Net, Node, kind_in, kind_of, node_at}
 use Rattle.gate_net.specs.Values.{IsJunction, controlling, same_bool}
 use Rattle.gate_net.specs.declared.Kind.{Kind}
 use Rattle.gate_net.specs.declared.Kind.TheVariants.{And, Not, One, Or, Source, Zero}
-use Rattle.refutation.proofs.Told.{slice_get_below, some_is}
 use Rattle.refutation.specs.Facts.{Held}
+use Rattle.refutation.proofs.Public.{slice_get_below, some_is}
 use Rattle.wire_edit.specs.Tests.{control_of, gate_control}
 use Rattle.candidate_wires.specs.Candidates.{AreAmong, listed}
 use Rattle.candidate_wires.specs.Joining.{IsCandidateOf, MayRead}

@@ -7,8 +7,8 @@ use Rattle.std.specs.Option.{option_map}
 use Rattle.gate_graph.specs.Circuit.{Circuit, fanouts_of, net_of}
 use Rattle.gate_graph.specs.Readers.{ListReaders}
 use Rattle.gate_net.specs.Net.{Net, Reads}
-use Rattle.refutation.proofs.OnlyReaders.{map_found}
 use Rattle.refutation.specs.Facts.{Held}
+use Rattle.refutation.proofs.Public.{map_found}
 use Rattle.candidate_wires.proofs.Appending.{back_stands, front_stands, only_one, stands_either}
 use Rattle.candidate_wires.specs.Parts.{AreKnown, IsKnown, IsUsable}
 use Rattle.candidate_wires.specs.declared.known.Known.{Known}

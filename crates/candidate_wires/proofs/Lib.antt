@@ -11,3 +11,4 @@ pub mod OneChain
 pub mod OneTarget
 pub mod OneList
 pub mod OnePairs
+pub mod Public

@@ -1,13 +1,11 @@
 -- A walk along a chain that finds the candidates at its gates.
 use Rattle.std.proofs.Common.{Bool, List, [], arith, false, inl, inr, length, refl, ℕ, ◌++◌, ◌+◌, ◌<◌, ◌∙◌, ◌∷◌, ◌≡◌}
 use Rattle.std.specs.Prelude.{slice_set}
-use Rattle.gate_net.proofs.Spread.{Among}
 use Rattle.gate_net.specs.Net.{IsAcyclic, IsLive, Net}
-use Rattle.gate_net.specs.Paths.{ChainTo, next, start}
-use Rattle.refutation.proofs.Told.{kind_live}
-use Rattle.refutation.proofs.Walks.{walk_live, walk_short}
+use Rattle.gate_net.specs.Paths.{Among, ChainTo, next, start}
 use Rattle.refutation.specs.Answers.{GoesOnTo}
 use Rattle.refutation.specs.Facts.{Held}
+use Rattle.refutation.proofs.Public.{kind_live, walk_live, walk_short}
 use Rattle.refutation.specs.Reaching.{MarksReached}
 use Rattle.rm_base.specs.declared.numbers.Fault.{Fault}
 use Rattle.candidate_wires.proofs.ChainMarks.{next_marked}

@@ -52,11 +52,7 @@ fn has_no_not(graph: &Graph, node: NodeId) -> bool
 fn is_no_constant(kind: Kind) -> bool
     ensures { IsTrue result ↔ IsNoConstant kind }
 {
-    match kind {
-        Kind::Zero => false,
-        Kind::One => false,
-        _ => true,
-    }
+    kind.constant_value().is_none()
 }
 
 // What a look at the node tells; few nodes have a known good value, so that is asked first.

@@ -5,7 +5,6 @@ ghost use Rattle.wire_edit.specs.Tests.{control_of};
 ghost use Rattle.candidate_wires.specs.Pairs.{faults_from, targets_at, targets_of};
 
 use gate_graph::{Graph, pin_count};
-use gate_net::Kind;
 use rm_base::{Fault, NoMemory, NodeId};
 use std::alloc::Global;
 
@@ -13,11 +12,7 @@ use std::alloc::Global;
 pub fn control_of(graph: &Graph, gate: NodeId) -> Option<bool>
     ensures { result ≡ control_of (net_of graph.now) gate.0 }
 {
-    match graph.kind(gate) {
-        Some(Kind::And) => Some(false),
-        Some(Kind::Or) => Some(true),
-        _ => None,
-    }
+    graph.kind(gate)?.controlling_value()
 }
 
 // Adds the faults at a value of so many pins of a gate.

@@ -24,3 +24,4 @@ pub mod Bounded
 pub mod Building
 pub mod Fitting
 pub mod Whole
+pub mod Public

@@ -123,22 +123,6 @@ numbered m inputs observed w e f =
       points_within = subst (λ (i : ℕ). All (λ k. k < i) observed) (driven-length m) (all_index (λ k. k < length (driven_names m)) observed (signals_bound (driven_names m) (observed_names m) observed points));
     }
 
--- what the look-ups need
-in_list_all : {A : Type 0} (test : A → Bool) (xs : List A) → ((x : A) → In xs x → test x ≡ true) → list_all test xs ≡ true
-in_list_all test [] h = refl
-in_list_all test (x ∷ xs) h = rw (h x (inl refl), in_list_all test xs (λ y i. h y (inr i))) refl
-
-pub inputs_driven : (m : Model) → IsWellFormed m → list_all (λ (c : Cover). list_all (is_among (driven_names m)) c.inputs) m.covers ≡ true
-inputs_driven m w =
-    in_list_all (λ (c : Cover). list_all (is_among (driven_names m)) c.inputs) m.covers
-    (λ c i. in_list_all (is_among (driven_names m)) c.inputs
-    (λ x j. all_pass_in (is_among (driven_names m)) (used_names m) x w.all_driven
-    (in_left ((m.outputs ++ flat_map (λ (c : Cover). c.inputs) m.covers) ++ map (λ (l : Latch). l.input) m.latches) (filter_map control_of m.latches) x
-    (in_left (m.outputs ++ flat_map (λ (c : Cover). c.inputs) m.covers) (map (λ (l : Latch). l.input) m.latches) x (in_right m.outputs (flat_map (λ (c : Cover). c.inputs) m.covers) x (in_flat m.covers c x i j))))))
-
-pub observed_driven : (m : Model) → IsWellFormed m → list_all (is_among (driven_names m)) (observed_names m) ≡ true
-observed_driven m w = in_list_all (is_among (driven_names m)) (observed_names m) (λ x i. all_pass_in (is_among (driven_names m)) (used_names m) x w.all_driven (observed_is_used m x i))
-
 -- the order by rank
 unwrapped : (rs : List ℕ) → map (λ (r : Option ℕ). unwrap_or r 0) (map (λ r. Some r) rs) ≡ rs
 unwrapped [] = refl
@@ -247,7 +231,3 @@ wires_result m inputs ins observed places first count covers h ef ec at ei ev =
     ap (λ (l : List (List ℕ)). (covers_tally (replicate (first + count) false) l covers places).0) ei
     ∙ (ap (λ (l : List Cover). (covers_tally (replicate (first + count) false) inputs l places).0) ev
     ∙ tally_is m inputs observed places (first + count) h (omega arith) at)
-
-pub map_map : {A B C : Type 0} (f : A → B) (g : B → C) (xs : List A) → map g (map f xs) ≡ map (λ (x : A). g (f x)) xs
-map_map f g [] = refl
-map_map f g (x ∷ xs) = ap (λ (l : List _). g (f x) ∷ l) (map_map f g xs)

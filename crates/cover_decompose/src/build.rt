@@ -58,7 +58,7 @@ fn add_nodes(
 }
 
 // Observes the node of a signal.
-fn observe(graph: &mut Graph, plan: &Plan, observed: &[usize], at: usize) -> Result<(), NoMemory>
+fn observe(graph: &mut Graph, plan: &Plan, observed: &[u32], at: usize) -> Result<(), NoMemory>
     requires within { at < length observed.now }
     requires signals { All (λ k. k < length plan.now.nodes) observed.now }
     requires nodes { All (λ k. slice_index plan.now.nodes k < length plan.now.made) observed.now }
@@ -69,12 +69,12 @@ fn observe(graph: &mut Graph, plan: &Plan, observed: &[usize], at: usize) -> Res
     ensures built { OnOk result (IsBuilt graph.new plan.now.made (map (slice_index plan.now.nodes) (take (at + 1) observed.now))) }
     ensures pins { OnOk result (pins_taken graph.new ≤ 65536 + (at + 1)) }
 {
-    let node = plan.node(observed[at]);
+    let node = plan.node(observed[at] as usize);
     graph.observe(NodeId(node as u32))?;
     Ok(())
 }
 
-fn observe_all(graph: &mut Graph, plan: &Plan, observed: &[usize]) -> Result<(), NoMemory>
+fn observe_all(graph: &mut Graph, plan: &Plan, observed: &[u32]) -> Result<(), NoMemory>
     requires signals { All (λ k. k < length plan.now.nodes) observed.now }
     requires nodes { All (λ k. slice_index plan.now.nodes k < length plan.now.made) observed.now }
     requires small { length plan.now.made < 2 ^ 32 }
@@ -94,7 +94,7 @@ pub fn build(
     alloc: Global,
     sources: usize,
     plan: &Plan,
-    observed: &[usize],
+    observed: &[u32],
 ) -> Result<Graph, NoMemory>
     requires plan { IsBuildable plan.now.made sources }
     requires signals { All (λ k. k < length plan.now.nodes) observed.now }

@@ -51,7 +51,7 @@ fn literal_wires(seen: &mut [bool], signal: usize, literal: Literal) -> u64
     }
 }
 
-fn zero_wires(seen: &mut [bool], inputs: &[usize], row: &[Literal]) -> u64
+fn zero_wires(seen: &mut [bool], inputs: &[u32], row: &[Literal]) -> u64
     requires even { length row.now ≡ length inputs.now }
     requires within { All (λ k. k < length seen.old) inputs.now }
     requires fits { (zeros_tally seen.old inputs.now row.now).0 < 2 ^ 64 }
@@ -59,12 +59,12 @@ fn zero_wires(seen: &mut [bool], inputs: &[usize], row: &[Literal]) -> u64
 {
     let mut wires = 0;
     for (at, literal) in row.iter().enumerate() {
-        wires += literal_wires(seen, inputs[at], *literal);
+        wires += literal_wires(seen, inputs[at] as usize, *literal);
     }
     wires
 }
 
-fn row_wires(seen: &mut [bool], inputs: &[usize], row: &[Literal]) -> u64
+fn row_wires(seen: &mut [bool], inputs: &[u32], row: &[Literal]) -> u64
     requires even { length row.now ≡ length inputs.now }
     requires within { All (λ k. k < length seen.old) inputs.now }
     requires fits { (row_tally seen.old inputs.now row.now).0 < 2 ^ 64 }
@@ -74,7 +74,7 @@ fn row_wires(seen: &mut [bool], inputs: &[usize], row: &[Literal]) -> u64
     joined + zero_wires(seen, inputs, row)
 }
 
-fn rows_wires(seen: &mut [bool], inputs: &[usize], rows: &[Row]) -> u64
+fn rows_wires(seen: &mut [bool], inputs: &[u32], rows: &[Row]) -> u64
     requires even { All (λ r. length r ≡ length inputs.now) rows.now }
     requires within { All (λ k. k < length seen.old) inputs.now }
     requires fits { (rows_tally seen.old inputs.now rows.now).0 < 2 ^ 64 }
@@ -87,7 +87,7 @@ fn rows_wires(seen: &mut [bool], inputs: &[usize], rows: &[Row]) -> u64
     wires
 }
 
-fn cover_wires(seen: &mut [bool], inputs: &[usize], cover: &Cover) -> u64
+fn cover_wires(seen: &mut [bool], inputs: &[u32], cover: &Cover) -> u64
     requires even { All (λ r. length r ≡ length inputs.now) cover.now.rows }
     requires within { All (λ k. k < length seen.old) inputs.now }
     requires fits { (cover_tally seen.old inputs.now cover.now).0 < 2 ^ 64 }
@@ -100,7 +100,7 @@ fn cover_wires(seen: &mut [bool], inputs: &[usize], cover: &Cover) -> u64
 }
 
 // The wires of the cover at a place.
-fn wires_at(seen: &mut [bool], inputs: &[Vec<usize>], covers: &[Cover], place: usize) -> u64
+fn wires_at(seen: &mut [bool], inputs: &[Vec<u32>], covers: &[Cover], place: usize) -> u64
     requires place { place < length covers.now }
     requires even { AreEven covers.now (map (λ ks. ks.items) inputs.now) }
     requires within { All (λ ks. All (λ k. k < length seen.old) ks.items) inputs.now }
@@ -111,7 +111,7 @@ fn wires_at(seen: &mut [bool], inputs: &[Vec<usize>], covers: &[Cover], place: u
     cover_wires(seen, inputs[place].as_slice(), &covers[place])
 }
 
-fn sum_of_wires(seen: &mut [bool], inputs: &[Vec<usize>], covers: &[Cover], taken: &[usize]) -> u64
+fn sum_of_wires(seen: &mut [bool], inputs: &[Vec<u32>], covers: &[Cover], taken: &[usize]) -> u64
     requires places { All (λ i. i < length covers.now) taken.now }
     requires even { AreEven covers.now (map (λ ks. ks.items) inputs.now) }
     requires within { All (λ ks. All (λ k. k < length seen.old) ks.items) inputs.now }
@@ -129,7 +129,7 @@ fn sum_of_wires(seen: &mut [bool], inputs: &[Vec<usize>], covers: &[Cover], take
 pub fn wires(
     alloc: Global,
     signals: usize,
-    inputs: &[Vec<usize>],
+    inputs: &[Vec<u32>],
     covers: &[Cover],
     taken: &[usize],
 ) -> Result<u64, NoMemory>

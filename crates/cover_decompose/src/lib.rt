@@ -7,7 +7,6 @@ mod count;
 mod laws;
 mod listing;
 mod model_graph;
-mod names;
 mod needed;
 mod numbering;
 mod plan;

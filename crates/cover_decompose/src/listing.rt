@@ -5,10 +5,9 @@ ghost use Rattle.cover_decompose.specs.Decomposition.{last_state, net_of_model};
 ghost use Rattle.cover_decompose.specs.Needed.{taken};
 ghost use Rattle.rm_model.specs.Value.{source_names};
 
-use crate::numbering::Numbering;
 use crate::plan::Plan;
 use rm_base::NoMemory;
-use rm_model::Model;
+use rm_model::{Model, Numbering};
 use std::alloc::Global;
 
 /// Lists the nodes of a model's decomposition.
@@ -26,11 +25,11 @@ pub fn list_nodes(
     ensures observed { IfOk result (λ plan. map (slice_index plan.nodes) numbering.now.observed.items ≡ (net_of_model model.now).observed) }
     ensures signals { IfOk result (λ plan. length plan.nodes ≡ numbering.now.sources + length model.now.covers) }
 {
-    let mut plan = Plan::start(alloc, numbering.sources, model.covers.len())?;
+    let mut plan = Plan::start(alloc, numbering.sources as usize, model.covers.len())?;
     plan.covers(
         model.covers.items(),
         numbering.inputs.as_slice(),
-        numbering.sources,
+        numbering.sources as usize,
         places,
     )?;
     Ok(plan)

@@ -4,7 +4,7 @@ ghost use Rattle.cover_decompose.specs.Built.{IsBuilt, readers_in};
 ghost use Rattle.cover_decompose.specs.Chosen.{AtPlaces, IsNumbered};
 ghost use Rattle.cover_decompose.specs.Count.{decomposed};
 ghost use Rattle.cover_decompose.specs.Decomposition.{last_state, net_of_model};
-ghost use Rattle.cover_decompose.specs.Needed.{taken};
+ghost use Rattle.cover_decompose.specs.Needed.{covers_by_rank, taken};
 ghost use Rattle.cover_decompose.specs.Refusals.{IsRefused};
 ghost use Rattle.gate_graph.specs.Circuit.{fanouts_of, live_nodes, net_of, pins_taken};
 ghost use Rattle.gate_graph.specs.Holds.{pins_held};
@@ -15,10 +15,10 @@ ghost use Rattle.rm_model.specs.WellFormed.{IsWellFormed};
 use crate::build::build;
 use crate::laws::decompositions_stand;
 use crate::listing::list_nodes;
-use crate::numbering::{Numbering, cover_order, number, taken_places, wire_count};
+use crate::numbering::{cover_order, numbers_of, taken_places, wire_count};
 use gate_graph::Graph;
 use rm_base::NoMemory;
-use rm_model::Model;
+use rm_model::{Model, Numbering, RankedModel};
 use std::alloc::Global;
 
 /// The most wires that a decomposition may have.
@@ -64,15 +64,44 @@ fn graph_of(
     let plan = list_nodes(alloc, model, numbering, places)?;
     let graph = build(
         alloc,
-        numbering.sources,
+        numbering.sources as usize,
         &plan,
         numbering.observed.as_slice(),
     )?;
     Ok(graph)
 }
 
+// The graph of a model whose signals are numbered, over its covers in this order.
+fn numbered_graph(
+    alloc: Global,
+    model: &Model,
+    numbering: &Numbering,
+    order: &[usize],
+) -> Result<Graph, DecomposeRefusal>
+    requires formed { IsWellFormed model.now }
+    requires ranked { first_without_rank model.now ≡ None }
+    requires covers { length model.now.covers < 2 ^ 32 }
+    requires few_sources { length (source_names model.now) ≤ 1024 }
+    requires observed { length (observed_names model.now) ≤ 4096 }
+    requires fits { decomposed model.now < 2 ^ 64 }
+    requires numbered { IsNumbered model.now (map (λ ks. ks.items) numbering.now.inputs.items) numbering.now.observed.items }
+    requires sources { numbering.now.sources ≡ length (source_names model.now) }
+    requires order { AtPlaces model.now.covers order.now (covers_by_rank model.now) }
+    ensures built { IfOk result (λ g. IsBuilt g (last_state model.now).made (net_of_model model.now).observed) }
+    ensures within { OnOk result (decomposed model.now ≤ 65536) }
+    ensures refused { IfErr result (λ refusal. IsRefused model.now refusal) }
+{
+    let places = taken_places(alloc, model, numbering, order)?;
+    let pins = wire_count(alloc, model, numbering, places.as_slice())?;
+    if pins > MOST_PINS {
+        return Err(DecomposeRefusal::Limit { pins });
+    }
+    let graph = graph_of(alloc, model, numbering, places.as_slice())?;
+    Ok(graph)
+}
+
 /// Makes the graph of a model: its sources, and each needed cover as an Or of Ands of literals.
-pub fn decompose(alloc: Global, model: &Model) -> Result<Graph, DecomposeRefusal>
+pub fn decompose(alloc: Global, model: &RankedModel) -> Result<Graph, DecomposeRefusal>
     requires formed { IsWellFormed model.now }
     requires ranked { first_without_rank model.now ≡ None }
     requires covers { length model.now.covers < 2 ^ 32 }
@@ -90,13 +119,7 @@ pub fn decompose(alloc: Global, model: &Model) -> Result<Graph, DecomposeRefusal
     ensures refused { IfErr result (λ refusal. IsRefused model.now refusal) }
 {
     decompositions_stand();
-    let numbering = number(alloc, model)?;
     let order = cover_order(alloc, model)?;
-    let places = taken_places(alloc, model, &numbering, order.as_slice())?;
-    let pins = wire_count(alloc, model, &numbering, places.as_slice())?;
-    if pins > MOST_PINS {
-        return Err(DecomposeRefusal::Limit { pins });
-    }
-    let graph = graph_of(alloc, model, &numbering, places.as_slice())?;
+    let graph = numbered_graph(alloc, model.model(), numbers_of(model), order.as_slice())?;
     Ok(graph)
 }

@@ -167,7 +167,7 @@ impl Plan {
         Ok(())
     }
 
-    fn literals(&mut self, inputs: &[usize], row: &[Literal]) -> Result<Vec<usize>, NoMemory>
+    fn literals(&mut self, inputs: &[u32], row: &[Literal]) -> Result<Vec<usize>, NoMemory>
         requires even { length row.now ≡ length inputs.now }
         requires within { All (λ k. k < length self.old.nodes) inputs.now }
         ensures plan { OnOk result (self.new ≡ (literals_planned self.old inputs.now row.now).0) }
@@ -176,7 +176,7 @@ impl Plan {
     {
         let mut nodes = Vec::new(self.alloc);
         for (at, literal) in row.iter().enumerate() {
-            self.push_literal(&mut nodes, inputs[at], *literal)?;
+            self.push_literal(&mut nodes, inputs[at] as usize, *literal)?;
         }
         Ok(nodes)
     }
@@ -196,7 +196,7 @@ impl Plan {
         }
     }
 
-    fn term(&mut self, inputs: &[usize], row: &[Literal]) -> Result<usize, NoMemory>
+    fn term(&mut self, inputs: &[u32], row: &[Literal]) -> Result<usize, NoMemory>
         requires even { length row.now ≡ length inputs.now }
         requires within { All (λ k. k < length self.old.nodes) inputs.now }
         ensures plan { OnOk result (self.new ≡ (term_planned self.old inputs.now row.now).0) }
@@ -207,7 +207,7 @@ impl Plan {
         self.joined(Kind::And, 1, nodes)
     }
 
-    fn terms(&mut self, inputs: &[usize], rows: &[Row]) -> Result<Vec<usize>, NoMemory>
+    fn terms(&mut self, inputs: &[u32], rows: &[Row]) -> Result<Vec<usize>, NoMemory>
         requires even { All (λ r. length r ≡ length inputs.now) rows.now }
         requires within { All (λ k. k < length self.old.nodes) inputs.now }
         ensures plan { OnOk result (self.new ≡ (terms_planned self.old inputs.now rows.now).0) }
@@ -233,7 +233,7 @@ impl Plan {
         self.gate(Kind::Not, Vec::from_array(self.alloc, [node])?)
     }
 
-    fn sum(&mut self, inputs: &[usize], cover: &Cover) -> Result<usize, NoMemory>
+    fn sum(&mut self, inputs: &[u32], cover: &Cover) -> Result<usize, NoMemory>
         requires even { All (λ r. length r ≡ length inputs.now) cover.now.rows }
         requires within { All (λ k. k < length self.old.nodes) inputs.now }
         ensures plan { OnOk result (self.new ≡ (node_planned self.old inputs.now cover.now).0) }
@@ -246,7 +246,7 @@ impl Plan {
     }
 
     /// Makes the nodes of a cover whose output is the signal of that number.
-    pub fn cover(&mut self, inputs: &[usize], output: usize, cover: &Cover) -> Result<(), NoMemory>
+    pub fn cover(&mut self, inputs: &[u32], output: usize, cover: &Cover) -> Result<(), NoMemory>
         requires even { All (λ r. length r ≡ length inputs.now) cover.now.rows }
         requires within { All (λ k. k < length self.old.nodes) inputs.now }
         requires output { output < length self.old.nodes }
@@ -262,7 +262,7 @@ impl Plan {
     fn cover_at(
         &mut self,
         covers: &[Cover],
-        inputs: &[Vec<usize>],
+        inputs: &[Vec<u32>],
         first: usize,
         place: usize,
     ) -> Result<(), NoMemory>
@@ -284,7 +284,7 @@ impl Plan {
     pub fn covers(
         &mut self,
         covers: &[Cover],
-        inputs: &[Vec<usize>],
+        inputs: &[Vec<u32>],
         first: usize,
         places: &[usize],
     ) -> Result<(), NoMemory>

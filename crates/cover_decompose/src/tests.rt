@@ -8,22 +8,22 @@ use crate::{DecomposeRefusal, decompose, is_small, wires_are_bounded};
 use gate_graph::{Graph, Inputs};
 use gate_net::Kind;
 use rm_base::{NoMemory, NodeId};
-use rm_model::{Model, is_well_formed, rank, ranks_exist};
+use rm_model::{Model, RankedModel, is_well_formed, ranks_exist};
 use std::alloc::Global;
 use std::test::Fail;
 
 // The decomposition, where the model meets what it needs.
-fn decomposed(alloc: Global, model: &Model) -> Result<Option<Graph>, DecomposeRefusal> {
+fn decomposed(alloc: Global, model: Model) -> Result<Option<Graph>, DecomposeRefusal> {
     ranks_exist();
     wires_are_bounded();
-    if !is_well_formed(alloc, model)? {
+    if !is_well_formed(alloc, &model)? {
         return Ok(None);
     }
-    if !is_small(alloc, model)? {
+    if !is_small(alloc, &model)? || model.covers.len() > 1_000_000 {
         return Ok(None);
     }
-    match rank(alloc, model) {
-        Ok(_ranks) => Ok(Some(decompose(alloc, model)?)),
+    match RankedModel::new(alloc, model) {
+        Ok(ranked) => Ok(Some(decompose(alloc, &ranked)?)),
         Err(_) => Ok(None),
     }
 }
@@ -128,7 +128,7 @@ fn gives(
     for _ in inputs {
         first = first.saturating_add(1);
     }
-    match decomposed(alloc, &model)? {
+    match decomposed(alloc, model)? {
         Some(graph) => Ok(has_gates(&graph, first, gates, observed)),
         None => Ok(false),
     }
@@ -226,7 +226,7 @@ fn gates_are_those_by_hand(rt: HostRuntime) -> Result<(), Fail> {
 // The wires of the decomposition of a model with two covers of so many literals.
 fn wide_wires(alloc: Global, count: usize) -> Result<Option<u32>, DecomposeRefusal> {
     let model = wide_model(alloc, count)?;
-    match decomposed(alloc, &model)? {
+    match decomposed(alloc, model)? {
         Some(graph) => Ok(Some(graph.wire_count())),
         None => Ok(None),
     }

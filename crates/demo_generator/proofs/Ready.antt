@@ -141,7 +141,7 @@ pub ready : WiresAreBounded → ((m : Model) → is_distinct (driven_names m) �
 ready bounded ranks seed = record {
   formed = formed seed;
   ranked = ranks (model_of_seed seed) (ap is_distinct (driven seed) ∙ distinct 0 76 (omega arith)) (ranked seed);
-  covers = let size = count 60 0 seed in let few : 60 < 2 ^ 32 = lit< tt in omega arith;
+  covers = count 60 0 seed;
   sources = refl;
   observed = refl;
   fits = let most = bounded (model_of_seed seed) in let size = weight 60 0 seed in omega arith;

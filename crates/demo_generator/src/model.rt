@@ -1,5 +1,5 @@
 // The model of a seed.
-ghost use Rattle.std.specs.Prelude.{◌≡◌, ◌<◌, ◌^◌, IfOk, None, length};
+ghost use Rattle.std.specs.Prelude.{◌≡◌, ◌<◌, ◌+◌, ◌^◌, IfOk, None, length};
 ghost use Rattle.cover_decompose.specs.Count.{decomposed};
 ghost use Rattle.demo_generator.specs.Generator.{model_of_seed};
 ghost use Rattle.rm_model.specs.Ranks.{first_without_rank};
@@ -10,7 +10,7 @@ use crate::laws::demo_models_are_ready;
 use crate::names::signal_names;
 use crate::parts::draw_covers;
 use rm_base::NoMemory;
-use rm_model::{Listed, Model};
+use rm_model::{Listed, Model, RankFault, RankedModel};
 use std::alloc::Global;
 
 fn drawn_model(alloc: Global, seed: u64) -> Result<Model, NoMemory>
@@ -30,9 +30,23 @@ fn drawn_model(alloc: Global, seed: u64) -> Result<Model, NoMemory>
     })
 }
 
+// A model that has ranks, with them.
+fn ranked(alloc: Global, model: Model) -> Result<RankedModel, NoMemory>
+    requires formed { IsWellFormed model }
+    requires ranked { first_without_rank model ≡ None }
+    requires room { length (source_names model) + length model.covers < 2 ^ 32 }
+    ensures { IfOk result (λ m. m ≡ model) }
+{
+    match RankedModel::new(alloc, model) {
+        Ok(ranked) => Ok(ranked),
+        Err(RankFault::NoMemory) => Err(NoMemory),
+        Err(RankFault::NoRank { cover: _ }) => unreachable!(),
+    }
+}
+
 /// Draws the example of a seed: sixteen inputs, and sixty covers that each read three signals before them, of which
 /// the last eight are the outputs. One cover may read a signal twice.
-pub fn demo_model(alloc: Global, seed: u64) -> Result<Model, NoMemory>
+pub fn demo_model(alloc: Global, seed: u64) -> Result<RankedModel, NoMemory>
     ensures model { IfOk result (λ m. m ≡ model_of_seed seed) }
     ensures formed { IfOk result (λ m. IsWellFormed m) }
     ensures ranked { IfOk result (λ m. first_without_rank m ≡ None) }
@@ -42,5 +56,6 @@ pub fn demo_model(alloc: Global, seed: u64) -> Result<Model, NoMemory>
     ensures fits { IfOk result (λ m. decomposed m < 65536) }
 {
     demo_models_are_ready();
-    drawn_model(alloc, seed)
+    let model = drawn_model(alloc, seed)?;
+    ranked(alloc, model)
 }

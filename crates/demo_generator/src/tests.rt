@@ -22,7 +22,8 @@ fn first_draw(rt: HostRuntime) -> Result<(), Fail> {
 
 #[test]
 fn first_cover_reads_i6(rt: HostRuntime) -> Result<(), Fail> {
-    let model = demo_model(rt.alloc(), 1)?;
+    let ranked = demo_model(rt.alloc(), 1)?;
+    let model = ranked.model();
     let reads = match model.covers.items().first() {
         Some(cover) => is_of(cover, "i6", "t0"),
         None => false,

@@ -6,7 +6,7 @@ use Rattle.std.proofs.lemmas.Option.{slice_get-get_or}
 use Rattle.std.proofs.Math.Seq.{take-append_seam, take-length}
 use Rattle.std.specs.Prelude.{drop, slice_get, slice_index, slice_index_or, slice_set, take}
 use Rattle.fault_sim.specs.Ordered.{IsOrdered}
-use Rattle.gate_net.proofs.Places.{map_agree}
+use Rattle.gate_net.proofs.Public.{map_agree}
 use Rattle.gate_net.specs.Net.{Net, drivers_of, node_at, source_count}
 use Rattle.gate_net.specs.Values.{Detects, node_value}
 use Rattle.rm_base.specs.declared.numbers.Fault.{Fault}

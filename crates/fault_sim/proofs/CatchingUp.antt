@@ -3,10 +3,10 @@ use Rattle.std.proofs.Common.{Bool, List, None, Option, Some, ap, arith, false, 
 use Rattle.std.proofs.lemmas.Bool.Decides.{eqb_tells}
 use Rattle.std.proofs.lemmas.List.{get_or_past}
 use Rattle.std.specs.Prelude.{slice_get, slice_index, slice_set}
-use Rattle.gate_net.proofs.Places.{map_agree}
+use Rattle.gate_net.proofs.Public.{map_agree}
 use Rattle.gate_net.specs.Net.{IsWellFormed, Net, Node, Reads, drivers_in, drivers_of, kind_in, kind_of, node_at}
 use Rattle.gate_net.specs.Values.{node_value}
-use Rattle.refutation.proofs.Told.{slice_get_below}
+use Rattle.refutation.proofs.Public.{slice_get_below}
 use Rattle.fault_sim.proofs.LaneLaws.{lane_node, lane_zero, map_twice}
 use Rattle.fault_sim.proofs.Lists.{below_or, still_pending}
 use Rattle.fault_sim.proofs.ReadInOrder.{apart, driver_before, listed_or, reader_not_dead, set_elsewhere, set_here, unlisted_dead}
@@ -296,13 +296,6 @@ module _ (net : Net) (words order : List ℕ) (formed : IsWellFormed net) (order
     | inl at ↦ so.right at.0 x at.1 (so.read at.0 (rw all (slice_get_below order at.0 (λ none. let wrong : Some x ≡ None = sym at.1 ∙ none in cc)))) i h
     | inr none ↦ others x none i h ∙ sym (dead_value (node_at net x) (assignment words i x) (map (lane_values good i) (drivers_of net x)) (unlisted_dead net order ordered x none))
   ]
-
--- nothing is stamped: what is read is good
-pub unstamped_read : (net : Net) (words read good : List ℕ) (s : Spread) (x w : ℕ) → read ≡ good → IsUnstamped s
-    → w ≡ node_word (node_at net x) (assigned_word words x) (stuck_reads None (map (spread_word read s) (drivers_of net x)))
-    → w ≡ node_word (node_at net x) (assigned_word words x) (map (slice_index good) (drivers_of net x))
-unstamped_read net words read good s x w same unstamped e =
-    e ∙ ap (node_word (node_at net x) (assigned_word words x)) (ap (λ (xs : List ℕ). map (spread_word xs s) (drivers_of net x)) same ∙ map_agree (spread_word good s) (slice_index good) (drivers_of net x) (λ p d reads. unstamped_word good s unstamped d))
 
 -- the lanes where one word changes and places become pending
 pub lanes_again : (order places good : List ℕ) (s t : Spread) (p x w : ℕ) → slice_get order p ≡ Some x → AreLanes order places good s → length t.stamps.items ≡ length s.stamps.items → length t.faulty.items ≡ length s.faulty.items

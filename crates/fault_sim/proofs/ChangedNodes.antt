@@ -2,9 +2,8 @@
 use Rattle.std.proofs.Common.{Err, List, None, Ok, Option, Result, Some, [], ap, arith, inl, inr, length, map, refl, suc, sym, zero, ℕ, ◌<◌, ◌∙◌, ◌∷◌, ◌≡◌, ◌≢◌}
 use Rattle.std.proofs.lemmas.Bool.Decides.{eqb_tells}
 use Rattle.std.specs.Prelude.{IfOk, slice_get}
-use Rattle.gate_net.proofs.Edited.{node_at-other}
-use Rattle.gate_net.proofs.Moved.{node_at-moved}
 use Rattle.gate_net.specs.Edits.{DiffersAt, IsLeastFree, node_redirected, redirected, with_drivers, with_readers_moved}
+use Rattle.gate_net.proofs.Public.{node_at-moved, node_at-other}
 use Rattle.gate_net.specs.Net.{Net, Node, Reads, drivers_in, drivers_of, node_at}
 use Rattle.fault_sim.proofs.Lists.{below_or}
 use Rattle.fault_sim.specs.Following.{IsSameBut}

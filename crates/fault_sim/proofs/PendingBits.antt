@@ -6,7 +6,7 @@ use Rattle.std.proofs.lemmas.Nat.{pow-add}
 use Rattle.std.proofs.lemmas.Nat.Bits.{bit_at-pow_other, bit_at-pow_same, bit_at_above}
 use Rattle.std.specs.Int.{bit_at, trailing_zeros}
 use Rattle.std.specs.Prelude.{bit_and, bit_or, bit_xor, nat_eq, not, slice_index, slice_set}
-use Rattle.gate_net.proofs.Bools.{or_true}
+use Rattle.gate_net.proofs.Public.{or_true}
 use Rattle.fault_sim.proofs.LaneLaws.{lane_and, lane_not, lane_or, lane_zero}
 use Rattle.fault_sim.proofs.Lists.{below_or}
 use Rattle.fault_sim.proofs.ReadInOrder.{set_elsewhere, set_here}

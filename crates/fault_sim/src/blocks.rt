@@ -4,6 +4,7 @@ ghost use Rattle.gate_net.specs.Net.{source_count};
 ghost use Rattle.gate_net.specs.Values.{HasPin};
 ghost use Rattle.gate_graph.specs.Circuit.{net_of};
 ghost use Rattle.fault_sim.specs.Ordered.{IsOrdered};
+ghost use Rattle.fault_sim.specs.Simulating.{IsWithin};
 ghost use Rattle.fault_sim.specs.Following.{AreFollowed, AreGrown, CanAllFollow, IsGrown, WasGoodBlock};
 ghost use Rattle.fault_sim.specs.BlockStates.{ArePlaced, AreSimulated, IsFirstLane, IsFirstVector, IsSimulatedBlock, words_of};
 
@@ -34,18 +35,17 @@ fn simulated(
     words: &[u64],
     order: &[NodeId],
     places: &[usize],
-    spread: &Spread,
 ) -> Result<Block, NoMemory>
     requires sources { length words.now ≡ source_count (net_of graph.now) }
     requires order { IsOrdered (net_of graph.now) (map (λ n. n.0) order.now) }
-    requires placed { ArePlaced (map (λ n. n.0) order.now) places.now spread.now }
+    requires within { IsWithin (map (λ n. n.0) order.now) (length places.now) }
     ensures words { IfOk result (λ b. b.words.items ≡ words.now) }
     ensures simulated { IfOk result (λ b. IsSimulatedBlock (net_of graph.now) (map (λ n. n.0) order.now) (length places.now) b) }
 {
     let mut kept = zero_words(alloc, words.len())?;
     kept.as_mut_slice().copy_from_slice(words);
     let mut good = zero_words(alloc, places.len())?;
-    read_all(graph, words, order, &mut good, spread);
+    read_all(graph, words, order, &mut good);
     Ok(Block { words: kept, good })
 }
 
@@ -263,7 +263,6 @@ impl Blocks {
             words,
             self.order.as_slice(),
             self.places.as_slice(),
-            &self.spread,
         )?;
         self.blocks.push(block)?;
         Ok(())

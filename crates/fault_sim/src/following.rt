@@ -10,8 +10,8 @@ ghost use Rattle.fault_sim.specs.Simulating.{IsWithin};
 ghost use Rattle.fault_sim.specs.Spreading.{AreLanes, IsUnstamped};
 
 use crate::detecting::mark_after;
+use crate::good_reading::good_word;
 use crate::pending::{mark, next_pending, unmark};
-use crate::reading::read_word;
 use crate::spread::Spread;
 use gate_graph::Graph;
 use rm_base::NodeId;
@@ -91,7 +91,7 @@ fn reread_at(
     graph.well_formed();
     let node = order[place];
     let number = node.0 as usize;
-    let word = read_word(graph, words, good.as_slice(), spread, None, node);
+    let word = good_word(graph, words, good.as_slice(), node);
     unmark(&mut spread.pending, place);
     if word == good[number] {
         return;

@@ -12,10 +12,9 @@ use Rattle.gate_net.specs.Paths.{Reaches}
 use Rattle.gate_net.specs.Net.{IsLive}
 use Rattle.gate_net.specs.Values.{IsJunction}
 use Rattle.gate_graph.proofs.NetRanks.{pins_keep_acyclic}
+use Rattle.pin_pool.proofs.Public.{changed-other, changed-same, has-push, same-rings, without-absent, without-push}
 use Rattle.pin_pool.specs.Ring.{has}
 use Rattle.pin_pool.specs.Pins.{list_of}
-use Rattle.pin_pool.proofs.PoolLemmas.{has-push}
-use Rattle.pin_pool.proofs.RingLemmas.{without-absent, without-push}
 use Rattle.pin_pool.specs.Rings.{Rings, AreRings, AreOnce, rings_of, linked, dropped, changed, all_without, IsOut}
 use Rattle.gate_graph.specs.Wirings.{IsShaped, IsWired, kind_at}
 use Rattle.pin_pool.specs.declared.names.PinNo.{PinNo}
@@ -24,7 +23,6 @@ use Rattle.gate_graph.specs.declared.entries.Entry.TheVariants.{Appended}
 use Rattle.gate_graph.specs.Entries.{taken_back, LeadOn}
 use Rattle.gate_graph.proofs.LeadOns.{lead-on, back-rings, within-same, kind-of, live-in, not-not, not-source, not-constant}
 use Rattle.gate_graph.specs.Circuit.{Circuit, wiring, net_of, home}
-use Rattle.pin_pool.proofs.RingsOf.{changed-same, changed-other, same-rings}
 use Rattle.gate_graph.proofs.NetOf.{home-here, map-same, net-with, drivers-there, node-there}
 use Rattle.gate_graph.proofs.Ranked.{acyclic-net, wired-by}
 

@@ -6,7 +6,8 @@ use Rattle.pin_pool.specs.Rings.{rings_of, AreRings, IsLinked}
 use Rattle.gate_graph.specs.Circuit.{Circuit, net_of, pins_taken, free_pins, IsGraph}
 use Rattle.gate_graph.specs.Holds.{pins_held}
 use Rattle.gate_graph.specs.Readers.{SameReaders}
-use Rattle.gate_graph.proofs.HeldPins.{held-are, linked-same, taken-linked}
+use Rattle.gate_graph.proofs.HeldPins.{held-are, taken-linked}
+use Rattle.pin_pool.proofs.Public.{linked-same}
 use Rattle.gate_graph.proofs.Kept.{graph-kept, net-kept, readers-kept}
 
 module _ (v w : Circuit) (kinds : w.kinds ≡ v.kinds) (inputs : w.pool.inputs ≡ v.pool.inputs) (fanouts : w.pool.fanouts ≡ v.pool.fanouts) where

@@ -12,18 +12,18 @@ use Rattle.std.proofs.lemmas.List.Sums.{sum_by-cons}
 use Rattle.gate_net.specs.declared.Kind.{Kind}
 use Rattle.gate_net.specs.declared.Kind.TheVariants.{Source, Zero, One, And, Or, Not}
 use Rattle.gate_net.specs.Net.{Node, flatten_option, drivers_in, kind_in, count_in, source_in, gate_in, source_count, gate_count, wire_count}
+use Rattle.pin_pool.proofs.Public.{no-pins-from, pins-few, pins-more}
 use Rattle.pin_pool.specs.Ring.{has, IsApart}
 use Rattle.pin_pool.specs.Pins.{Pins, list_of}
 use Rattle.pin_pool.specs.Rings.{AreRings, rings_of}
-use Rattle.pin_pool.proofs.PoolLemmas.{has-append}
 use Rattle.gate_graph.specs.Wirings.{IsShaped, kind_at, free_in}
-use Rattle.gate_graph.specs.Circuit.{Circuit, wiring, net_of, gate_pins, home}
-use Rattle.gate_graph.specs.Totals.{pins_from, sum_kinds}
+use Rattle.gate_graph.specs.Circuit.{Circuit, IsGraph, wiring, net_of, gate_pins, home}
+use Rattle.pin_pool.specs.Totals.{pins_from}
+use Rattle.gate_graph.specs.Totals.{sum_kinds}
 use Rattle.gate_graph.proofs.NetOf.{observed-net}
 use Rattle.gate_graph.proofs.Pinned.{drivers-all}
 use Rattle.gate_graph.proofs.Formed.{kind_of-net, sources-net}
 use Rattle.gate_graph.proofs.Bounded.{bound-within}
-use Rattle.gate_graph.proofs.Numbers.{len-one_less}
 
 -- SOURCES
 pub sources-are : (v : Circuit) → IsShaped (wiring v) → (n : ℕ) → ((k : ℕ) → k < n → kind_at v.kinds (2 + k) ≡ Some Source) → kind_at v.kinds (2 + n) ≢ Some Source → n ≡ source_count (net_of v)
@@ -34,6 +34,20 @@ sources-are v s n all end = elim (cases_lt n s.sources) [
     | inr le ↦ omega (arith, sources-net v s)
   ]
 ]
+
+-- the last of so many is a source, and the next is none
+pub sources-ended : (v : Circuit) → IsShaped (wiring v) → (n : ℕ) → ((k : ℕ) → k + 1 ≡ n → kind_at v.kinds (2 + k) ≡ Some Source) → kind_at v.kinds (2 + n) ≢ Some Source → n ≡ source_count (net_of v)
+sources-ended v s n last end = elim (cases_lt n s.sources) [
+  | inl less ↦ absurd (end (s.first.source_is n less))
+  | inr ge ↦ elim (cases_lt s.sources n) [
+    | inl more ↦ by n refl more
+    | inr le ↦ omega (arith, sources-net v s)
+  ]
+]
+  where
+    by : (m : ℕ) → m ≡ n → s.sources < m → n ≡ source_count (net_of v)
+    by zero e more = absurd (omega arith)
+    by (suc k) e more = let at = s.first.only_source (2 + k) (last k (omega (arith, e))) in let wrong = at.1 in absurd (omega (arith, wrong))
 
 -- KINDS
 count-kind : (o : Option Node) (p : Option Kind) (f : Kind → ℕ) (rest : ℕ) (ks : List (Option Kind)) → kind_in o ≡ p → rest ≡ sum_kinds f ks → count_in o f + rest ≡ sum_kinds f (p ∷ ks)
@@ -92,18 +106,6 @@ numbers-are v s =
     omega (arith, sources, gates, all)
 
 -- PINS
-pub pins-more : (f : ℕ → List ℕ) (first n : ℕ) → pins_from f first (n + 1) ≡ pins_from f first n + length (f (first + n))
-pins-more f first zero = let e : first ≡ first + 0 = omega arith in rw (← e) (omega arith)
-pins-more f first (suc n) =
-    let e : suc first + n ≡ first + suc n = omega arith in
-    let rest : pins_from f (suc first) (n + 1) ≡ pins_from f (suc first) n + length (f (first + suc n)) = pins-more f (suc first) n ∙ ap (λ (k : ℕ). pins_from f (suc first) n + length (f k)) e in
-    let t : suc n + 1 ≡ suc (n + 1) = omega arith in
-    rw t (omega (arith, rest))
-
-pub no-pins-from : (f : ℕ → List ℕ) (first n : ℕ) → ((k m : ℕ) → m ≡ first + k → length (f m) ≡ 0) → pins_from f first n ≡ 0
-no-pins-from f first zero h = refl
-no-pins-from f first (suc n) h = omega (arith, h 0 first (omega arith), no-pins-from f (suc first) n (λ k m e. h (suc k) m (omega arith)))
-
 sum-pins : (xs : List (Option Node)) (f : ℕ → List ℕ) (first n : ℕ) → length xs ≤ n → ((k m : ℕ) → m ≡ first + k → length (f m) ≡ length (drivers_in (flatten_option (slice_get xs k)))) → sum_by (λ (o : Option Node). length (drivers_in o)) xs ≡ pins_from f first n
 sum-pins [] f first n le h = sym (no-pins-from f first n (λ k m e. h k m e))
 sum-pins (x ∷ xs) f first zero le h = absurd (omega arith)
@@ -116,55 +118,6 @@ pub wires-are : (v : Circuit) → IsShaped (wiring v) → wire_count (net_of v) 
 wires-are v s = sum-pins (net_of v).nodes (gate_pins v.pool) 0 (length v.kinds) (bound-within v) (λ k m e. (
     let is : m ≡ k = omega arith in
     ap (λ (n : ℕ). length (gate_pins v.pool n)) is ∙ sym (ap length (drivers-all v s k) ∙ length-map (gate_pins v.pool k) (home v.pool.fanouts))))
-
--- all pins of n gates
-abbrev pub listed_from : (ℕ → List ℕ) → ℕ → ℕ → List ℕ
-listed_from f first zero = []
-listed_from f first (suc n) = f first ++ listed_from f (suc first) n
-
-pub length-listed : (f : ℕ → List ℕ) (first n : ℕ) → length (listed_from f first n) ≡ pins_from f first n
-length-listed f first zero = refl
-length-listed f first (suc n) = length-append (f first) (listed_from f (suc first) n) ∙ ap (λ k. length (f first) + k) (length-listed f (suc first) n)
-
-pub in-listed : (f : ℕ → List ℕ) (first n q : ℕ) → has q (listed_from f first n) ≡ true → (m : ℕ) × ((first ≤ m) × (has q (f m) ≡ true))
-in-listed f first zero q h = cc
-in-listed f first (suc n) q h = elim (or_cases (has q (f first)) (has q (listed_from f (suc first) n)) (sym (has-append (f first) (listed_from f (suc first) n) q) ∙ h)) [
-  | inl here ↦ (first, (omega arith, here))
-  | inr later ↦ let rest = in-listed f (suc first) n q later in (rest.0, ((let le = rest.1.0 in omega (arith, le)), rest.1.1))
-]
-
-apart-append : (xs ys : List ℕ) → IsApart xs → IsApart ys → ((q : ℕ) → has q xs ≡ true → has q ys ≡ false) → IsApart (xs ++ ys)
-apart-append [] ys a b h = b
-apart-append (x ∷ xs) ys a b h = (
-  has-append xs ys x ∙ rw (a.0, h x (or_left _ _ (eq-eqb x x refl))) refl,
-  apart-append xs ys a.1 b (λ q k. h q (or_right _ _ k)),
-)
-
-apart-listed : (f : ℕ → List ℕ) → ((n : ℕ) → IsApart (f n)) → ((m n q : ℕ) → has q (f m) ≡ true → has q (f n) ≡ true → m ≡ n) → (first n : ℕ) → IsApart (listed_from f first n)
-apart-listed f each one first zero = tt
-apart-listed f each one first (suc n) = apart-append (f first) (listed_from f (suc first) n) (each first) (apart-listed f each one (suc first) n) (λ q h. false_from_ne_true _ (λ k. (
-    let at = in-listed f (suc first) n q k in
-    let is = one first at.0 q h at.1.1 in
-    let le = at.1.0 in omega (arith, is, le))))
-
--- numbers of a set, none twice, are no more than the set has
-pub within-set : (s : finset.FinSet nat_cmp) (xs : List ℕ) → IsApart xs → ((q : ℕ) → has q xs ≡ true → finset.contains s q ≡ true) → length xs ≤ finset.len s
-within-set s [] a h = omega arith
-within-set s (x ∷ xs) a h =
-    let there = h x (or_left _ _ (eq-eqb x x refl)) in
-    let less = len-one_less s x there in
-    let rest = within-set (finset.remove s x) xs a.1 (λ q k. (
-    let ne : q ≢ x = λ is. false≢true (sym a.0 ∙ ap (λ (r : ℕ). has r xs) (sym is) ∙ k) in
-    let read = contains-remove nat_cmp_total s x q in
-    let was = h q (or_right _ _ k) in
-    grind (arith, nat_tests, read, unsigned_tied q x, was, ne))) in
-    omega (arith, less, rest)
-
-pub pins-few : (v : Pins) → AreRings (rings_of v) → (first n : ℕ) → pins_from (λ m. list_of v.inputs m) first n ≤ finset.len v.taken
-pins-few v r first n =
-    let f : ℕ → List ℕ = λ m. list_of v.inputs m in
-    let all = within-set v.taken (listed_from f first n) (apart-listed f r.inputs.apart r.inputs.one first n) (λ q h. (let at = in-listed f first n q h in r.inputs.members at.0 q at.1.1)) in
-    omega (arith, all, length-listed f first n)
 
 pub same-pins : (v : Pins) (first n : ℕ) → 0 < first → pins_from (gate_pins v) first n ≡ pins_from (λ m. list_of v.inputs m) first n
 same-pins v first zero h = refl
@@ -200,3 +153,7 @@ pins-next v k ne =
 
 pub live-numbers : (v : Circuit) → IsShaped (wiring v) → 2 ≤ length v.kinds
 live-numbers v s = omega (arith, numbers-are v s)
+
+-- there is room for the observed places
+pub nodes-there : (v : Circuit) → IsGraph v → 0 < length v.pool.inputs
+nodes-there v g = omega (arith, live-numbers v g.wired.shape, g.room)

@@ -4,13 +4,13 @@ use Rattle.std.specs.Prelude.{slice_get, eqb}
 use Rattle.std.proofs.lemmas.Bool.{cases_eq, cases_Bool, cases_lt, lt-ltb, le-ltb, ne_eqb, eq-eqb, false≢true, false_from_ne_true, or_left, or_right, or_parts}
 use Rattle.std.proofs.lemmas.List.{map-append, length-map}
 use Rattle.gate_net.specs.Net.{drivers_of}
+use Rattle.pin_pool.proofs.Public.{changed-other, changed-same}
 use Rattle.pin_pool.specs.Ring.{has, without, IsApart}
 use Rattle.pin_pool.specs.Pins.{list_of}
 use Rattle.pin_pool.specs.Rings.{Rings, AreRings, rings_of, linked, moved, redriven, unlinked, all_without}
 use Rattle.gate_graph.specs.Wirings.{IsShaped, IsWired}
 use Rattle.gate_graph.specs.Circuit.{Circuit, wiring, net_of, fanouts_of, fans_in, gate_pins, home, reader, place_in, without_observed}
 use Rattle.gate_graph.specs.Readers.{LastReader, ReadersMove, ReaderMoves, lowered, lowered_by, is_place, without_place}
-use Rattle.pin_pool.proofs.RingsOf.{changed-same, changed-other}
 use Rattle.gate_graph.proofs.NetOf.{home-here}
 use Rattle.gate_graph.proofs.Pinned.{drivers-all, has-at}
 use Rattle.gate_graph.proofs.Appended.{pushed}

@@ -10,14 +10,13 @@ use Rattle.gate_net.specs.Net.{node_at}
 use Rattle.rm_base.specs.declared.numbers.NodeId.{NodeId}
 use Rattle.gate_net.specs.Net.{IsGateKind}
 use Rattle.gate_net.specs.Edits.{DiffersAt}
+use Rattle.pin_pool.proofs.Public.{changed-other, changed-same, has-push}
 use Rattle.pin_pool.specs.Ring.{has}
 use Rattle.pin_pool.specs.Pins.{Pins, list_of}
-use Rattle.pin_pool.proofs.PoolLemmas.{has-push}
 use Rattle.pin_pool.specs.Rings.{Rings, AreRings, rings_of, linked, changed}
 use Rattle.gate_graph.specs.Wirings.{IsShaped, IsWired, kind_at}
 use Rattle.gate_graph.specs.Filled.{IsFilled}
 use Rattle.gate_graph.specs.Circuit.{Circuit, wiring, net_of, fanouts_of, fans_in, node_with, gate_pins, home}
-use Rattle.pin_pool.proofs.RingsOf.{changed-same, changed-other}
 use Rattle.gate_graph.proofs.NetOf.{home-here, map-same, node_at-net, observed-net}
 use Rattle.gate_graph.proofs.Firsts.{first-changed, gate-no_first, none-no_first}
 use Rattle.gate_graph.specs.Spots.{places_from}

@@ -4,9 +4,9 @@ use Rattle.std.proofs.lemmas.Bool.{cases_eq}
 use Rattle.gate_net.specs.declared.Kind.{Kind}
 use Rattle.gate_net.specs.declared.Kind.TheVariants.{Source, Zero, One}
 use Rattle.gate_net.specs.Net.{IsGateKind}
+use Rattle.pin_pool.proofs.Public.{changed-other, changed-same}
 use Rattle.pin_pool.specs.Rings.{changed}
 use Rattle.gate_graph.specs.Wirings.{AreFirst}
-use Rattle.pin_pool.proofs.RingsOf.{changed-same, changed-other}
 
 -- no node, or a gate
 abbrev pub IsNoFirst : Option Kind → Type 0

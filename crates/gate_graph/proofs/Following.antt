@@ -6,11 +6,10 @@ use Rattle.std.proofs.lemmas.List.{get_or-set_same, get_or-set_other}
 use Rattle.std.proofs.lemmas.Option.{slice_get_within}
 use Rattle.rm_base.specs.declared.numbers.NodeId.{NodeId}
 use Rattle.gate_net.specs.declared.Kind.{Kind}
+use Rattle.pin_pool.proofs.Public.{has-append, length-apart}
 use Rattle.pin_pool.specs.Ring.{has, IsApart}
 use Rattle.pin_pool.specs.Pins.{list_of}
 use Rattle.pin_pool.specs.Rings.{AreRings, rings_of}
-use Rattle.pin_pool.proofs.PoolLemmas.{has-append}
-use Rattle.pin_pool.proofs.LinkLemmas.{length-apart}
 use Rattle.gate_graph.specs.Wirings.{IsShaped, IsWired, kind_at}
 use Rattle.gate_graph.specs.Circuit.{Circuit, wiring, net_of, gate_pins, home}
 use Rattle.gate_graph.specs.Order.{IsOrder, IsCounted, IsFollowed, IsFollowing, IsStarted, IsDriven, unseen_in}

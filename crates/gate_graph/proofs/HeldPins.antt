@@ -9,13 +9,11 @@ use Rattle.std.proofs.lemmas.Bool.Decides.{nat_tests}
 use Rattle.std.proofs.lemmas.List.{get_or_past, length-map}
 use Rattle.gate_net.specs.declared.Kind.{Kind}
 use Rattle.gate_net.specs.Net.{Net, wire_count}
+use Rattle.pin_pool.proofs.Public.{has-append, has-within, in-listed, len-one_less, length-listed, length-put_after, linked-less, linked-more, linked-over, linked-same, listed_from, no-pins-from, pins-at, pins-split, within-set}
 use Rattle.pin_pool.specs.Ring.{has, without, IsApart}
 use Rattle.pin_pool.specs.Pins.{Pins, list_of, put_after, put_behind}
 use Rattle.pin_pool.specs.declared.names.PinNo.{PinNo}
-use Rattle.pin_pool.proofs.PoolLemmas.{has-append}
 use Rattle.pin_pool.specs.Rings.{Rings, rings_of, AreRings, AreOnce, IsIn, IsLinked, changed, all_without}
-use Rattle.pin_pool.proofs.RingsOf.{changed-same, changed-other, has-within}
-use Rattle.pin_pool.proofs.RingLemmas.{without-absent}
 use Rattle.gate_graph.specs.declared.entries.Entry.{Entry}
 use Rattle.gate_graph.specs.declared.entries.Entry.TheVariants.{Appended, Removed, Redriven, Moved, Made, Retired}
 use Rattle.gate_graph.specs.Entries.{CanTakeBack, taken_back}
@@ -24,97 +22,25 @@ use Rattle.gate_graph.specs.Wirings.{Wiring, kind_at, wiring_of}
 use Rattle.gate_graph.specs.Circuit.{Circuit, wiring, net_of, gate_pins, home, pins_taken, IsGraph}
 use Rattle.gate_graph.specs.Holds.{held, held_by, pins_held, pins_made, HoldsOn}
 use Rattle.gate_graph.specs.Filled.{IsFilled}
-use Rattle.gate_graph.specs.Totals.{pins_from}
+use Rattle.pin_pool.specs.Totals.{pins_from, linked_pins}
 use Rattle.gate_graph.proofs.NetOf.{observed-net}
 use Rattle.gate_graph.proofs.Pinned.{dead-pins}
-use Rattle.gate_graph.proofs.Counted.{wires-are, wires-few, same-pins, no-pins-from, live-numbers, listed_from, length-listed, in-listed, within-set}
-use Rattle.gate_graph.proofs.Numbers.{len-one_less, len-less}
-
--- SUMS OF LENGTHS
-pins-split : (f : ℕ → List ℕ) (first n k : ℕ) → pins_from f first (n + k) ≡ pins_from f first n + pins_from f (first + n) k
-pins-split f first zero k = let e : first ≡ first + 0 = omega arith in let z : 0 + k ≡ k = omega arith in rw z (omega (arith, ap (λ m. pins_from f m k) e))
-pins-split f first (suc n) k =
-    let e : suc first + n ≡ first + suc n = omega arith in
-    let t : suc n + k ≡ suc (n + k) = omega arith in
-    rw t (omega (arith, pins-split f (suc first) n k, ap (λ m. pins_from f m k) e))
-
-pins-alike : (f g : ℕ → List ℕ) (first n : ℕ) → ((x : ℕ) → first ≤ x → length (g x) ≡ length (f x)) → pins_from g first n ≡ pins_from f first n
-pins-alike f g first zero h = refl
-pins-alike f g first (suc n) h = omega (arith, h first (omega arith), pins-alike f g (suc first) n (λ x le. h x (omega arith)))
-
-pins-at : (f g : ℕ → List ℕ) (m k first n : ℕ) → first ≤ m → m < first + n → length (g m) ≡ length (f m) + k → ((x : ℕ) → x ≢ m → length (g x) ≡ length (f x)) → pins_from g first n ≡ pins_from f first n + k
-pins-at f g m k first zero le lt at others = absurd (omega arith)
-pins-at f g m k first (suc n) le lt at others = elim (cases_eq first m) [
-  | inl is ↦
-      let here : length (g first) ≡ length (f first) + k = rw is at in
-      let rest = pins-alike f g (suc first) n (λ x less. others x (λ e. absurd (omega arith))) in
-      omega (arith, here, rest)
-  | inr ne ↦
-      let rest = pins-at f g m k (suc first) n (omega arith) (omega arith) at others in
-      omega (arith, rest, others first ne)
-]
-
-length-without : (p : ℕ) (xs : List ℕ) → has p xs ≡ true → length (without p xs) + 1 ≡ length xs
-length-without p [] h = cc
-length-without p (x ∷ xs) h = elim (cases_eq p x) [
-  | inl is ↦ rw (eq-eqb p x is) (omega arith)
-  | inr ne ↦
-      let later : has p xs ≡ true = rw (ne_eqb p x ne) at h in
-      rw (ne_eqb p x ne) (omega (arith, length-without p xs later))
-]
-
-length-put : (xs : List ℕ) (a p : ℕ) → length (put_behind xs a p) ≡ length xs + 1
-length-put [] a p = refl
-length-put (x ∷ xs) a p = elim (cases_eq x a) [
-  | inl is ↦ rw (eq-eqb x a is) (omega arith)
-  | inr ne ↦ rw (ne_eqb x a ne) (omega (arith, length-put xs a p))
-]
-
-pub length-put_after : (xs : List ℕ) (b : Option PinNo) (p : ℕ) → length (put_after xs b p) ≡ length xs + 1
-length-put_after xs None p = omega arith
-length-put_after xs (Some a) p = length-put xs a.0 p
+use Rattle.gate_graph.proofs.Counted.{wires-are, wires-few, same-pins, live-numbers}
 
 -- THE LINKED PINS OF A POOL
-abbrev pub linked_pins : Pins → ℕ
-linked_pins v = pins_from (λ m. list_of v.inputs m) 0 (length v.inputs)
-
--- whatever bound is taken
-pins-bound : (lists : List (List ℕ)) (n : ℕ) → length lists ≤ n → pins_from (λ m. list_of lists m) 0 n ≡ pins_from (λ m. list_of lists m) 0 (length lists)
-pins-bound lists n le =
-    let e : n ≡ length lists + (n - length lists) = omega arith in
-    let none = no-pins-from (λ m. list_of lists m) (0 + length lists) (n - length lists) (λ k m at. ap length (get_or_past lists m [] (omega arith))) in
-    ap (λ k. pins_from (λ m. list_of lists m) 0 k) e ∙ omega (arith, pins-split (λ m. list_of lists m) 0 (length lists) (n - length lists), none)
-
 module _ (v w : Pins) (size : length w.inputs ≡ length v.inputs) where
-  over : (f : ℕ → List ℕ) → (rings_of w).inputs ≡ f → linked_pins w ≡ pins_from f 0 (length v.inputs)
-  over f e = ap (λ n. pins_from (λ m. list_of w.inputs m) 0 n) size ∙ ap (λ (g : ℕ → List ℕ). pins_from g 0 (length v.inputs)) e
-
-  pub linked-same : (rings_of w).inputs ≡ (rings_of v).inputs → linked_pins w ≡ linked_pins v
-  linked-same e = over (rings_of v).inputs e
-
-  -- a list is longer
-  pub linked-more : (g k : ℕ) (xs : List ℕ) → (rings_of w).inputs ≡ changed (rings_of v).inputs g xs → g < length v.inputs → length xs ≡ length (list_of v.inputs g) + k → linked_pins w ≡ linked_pins v + k
-  linked-more g k xs e within long =
-      let f : ℕ → List ℕ = λ m. list_of v.inputs m in
-      over (changed f g xs) e ∙ pins-at f (changed f g xs) g k 0 (length v.inputs) (omega arith) (omega arith) (ap length (changed-same f g xs) ∙ long) (λ x ne. ap length (changed-other f g xs x ne))
-
-  -- a pin goes
-  pub linked-less : (p : ℕ) → AreRings (rings_of v) → (rings_of w).inputs ≡ all_without p (rings_of v).inputs → IsIn (rings_of v).inputs p → linked_pins w + 1 ≡ linked_pins v
-  linked-less p r e at =
-      let f : ℕ → List ℕ = λ m. list_of v.inputs m in
-      let others : (x : ℕ) → x ≢ at.0 → length (f x) ≡ length (all_without p f x) = λ x ne. ap length (sym (without-absent p (f x) (false_from_ne_true _ (λ h. ne (r.inputs.one x at.0 p h at.1))))) in
-      let here : length (f at.0) ≡ length (all_without p f at.0) + 1 = sym (length-without p (f at.0) at.1) in
-      sym (pins-at (all_without p f) f at.0 1 0 (length v.inputs) (omega arith) (let lt = has-within v.inputs at.0 p at.1 in omega (arith, lt)) here others ∙ ap (λ n. n + 1) (sym (over (all_without p f) e)))
-
   -- the pins of a new gate are made
   pub linked-filled : (n : ℕ) (ds : List ℕ) → IsFilled v w n ds → n < length v.inputs → list_of v.inputs n ≡ [] → linked_pins w ≡ linked_pins v + length ds
   linked-filled n ds i within none =
       let f : ℕ → List ℕ = λ m. list_of v.inputs m in
       let g : ℕ → List ℕ = λ m. list_of w.inputs m in
       let here : length (g n) ≡ length (f n) + length ds = omega (arith, ap length none, sym (length-map (list_of w.inputs n) (home w.fanouts)), ap length i.homes) in
-      over g refl ∙ pins-at f g n (length ds) 0 (length v.inputs) (omega arith) (omega arith) here (λ x ne. ap length (i.old_in x ne))
+      linked-over v w size g refl ∙ pins-at f g n (length ds) 0 (length v.inputs) (omega arith) (omega arith) here (λ x ne. ap length (i.old_in x ne))
 
 -- THE LINKED PINS OF A GRAPH
+pub observed-counted : (v : Circuit) → length (net_of v).observed ≡ length (list_of v.pool.inputs 0)
+observed-counted v = ap length (observed-net v) ∙ length-map (list_of v.pool.inputs 0) (home v.pool.fanouts)
+
 pub wires-all : (v : Circuit) → IsGraph v → wire_count (net_of v) + length (net_of v).observed ≡ linked_pins v.pool
 wires-all v g = by (length v.kinds) refl
   where

@@ -5,20 +5,18 @@ use Rattle.std.proofs.lemmas.Bool.{cases_eq, ne_eqb, eq-eqb, false≢true, or_pa
 use Rattle.std.proofs.lemmas.Bool.Decides.{eqb_tells, nat_tests}
 use Rattle.std.proofs.lemmas.List.{take-append-drop}
 use Rattle.gate_net.specs.declared.Kind.{Kind}
+use Rattle.pin_pool.proofs.Public.{changed-other, changed-same, has-append, has-put_after}
 use Rattle.pin_pool.specs.Ring.{has, without, IsApart}
 use Rattle.pin_pool.specs.Rings.{IsLoose}
 use Rattle.pin_pool.specs.Pins.{Pins, put_after}
 use Rattle.pin_pool.specs.declared.names.PinNo.{PinNo}
 use Rattle.pin_pool.specs.declared.names.Slot.{Slot}
-use Rattle.pin_pool.proofs.ListLaws.{has-put_after}
-use Rattle.pin_pool.proofs.PoolLemmas.{has-append}
 use Rattle.gate_graph.specs.declared.entries.Entry.{Entry}
 use Rattle.gate_graph.specs.declared.entries.Entry.TheVariants.{Appended, Removed, Redriven, Moved, Made, Retired}
 use Rattle.pin_pool.specs.Rings.{rings_of, returned, changed, all_without, IsOut}
 use Rattle.gate_graph.specs.Wirings.{Wiring, wiring_of, kind_at}
 use Rattle.gate_graph.specs.Entries.{CanTakeBack, taken_back, CanGoBack}
 use Rattle.gate_graph.specs.Holds.{held_by, held, IsHeld, AreHeld}
-use Rattle.pin_pool.proofs.RingsOf.{changed-same, changed-other}
 
 without-keeps : (p q : ℕ) (xs : List ℕ) → q ≢ p → has q (without p xs) ≡ has q xs
 without-keeps p q [] ne = refl

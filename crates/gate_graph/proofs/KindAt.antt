@@ -3,11 +3,11 @@ use Rattle.std.proofs.Common.{◌≡◌, ◌≢◌, ℕ, ◌+◌, ◌<◌, ◌�
 use Rattle.std.proofs.lemmas.Bool.{cases_eq, cases_lt}
 use Rattle.std.proofs.lemmas.List.{get_or_past}
 use Rattle.gate_net.specs.declared.Kind.{Kind}
+use Rattle.pin_pool.proofs.Public.{changed-other, changed-same}
 use Rattle.pin_pool.specs.Pins.{Pins}
 use Rattle.pin_pool.specs.Rings.{Rings, rings_of, changed}
 use Rattle.gate_graph.specs.Wirings.{Wiring, kind_at, wiring_of}
 use Rattle.gate_graph.specs.Circuit.{kinds_live}
-use Rattle.pin_pool.proofs.RingsOf.{changed-same, changed-other}
 
 pub kind-within : (kinds : List (Option Kind)) (n : ℕ) → kind_at kinds n ≢ None → n < length kinds
 kind-within kinds n live = elim (cases_lt n (length kinds)) [

@@ -34,5 +34,7 @@ pub mod Filling
 pub mod Counted
 pub mod HeldPins
 pub mod CopyGraph
+pub mod InUse
 pub mod Following
 pub mod FaultLists
+pub mod Public

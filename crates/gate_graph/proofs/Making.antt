@@ -5,6 +5,7 @@ use Rattle.gate_net.specs.declared.Kind.{Kind}
 use Rattle.gate_net.specs.declared.Kind.TheVariants.{Source, Zero, One, Not}
 use Rattle.gate_net.specs.Net.{node_at}
 use Rattle.gate_net.specs.Net.{IsLive}
+use Rattle.pin_pool.proofs.Public.{changed-other, changed-same}
 use Rattle.pin_pool.specs.Ring.{has}
 use Rattle.pin_pool.specs.Pins.{list_of}
 use Rattle.pin_pool.specs.declared.names.PinNo.{PinNo}
@@ -15,7 +16,6 @@ use Rattle.gate_graph.specs.Wirings.{free_in, Wiring, IsShaped, IsWired, kind_at
 use Rattle.gate_graph.specs.Entries.{CanTakeBack, LeadOn}
 use Rattle.gate_net.specs.Edits.{MakesGate}
 use Rattle.gate_graph.specs.Circuit.{Circuit, wiring, net_of, node_with, gate_pins, home, kinds_live}
-use Rattle.pin_pool.proofs.RingsOf.{changed-same, changed-other}
 use Rattle.gate_graph.proofs.NetOf.{home-here, map-same, node_at-net, observed-net}
 use Rattle.gate_graph.proofs.LeadOns.{lead-by, live-in, within-length}
 use Rattle.gate_graph.proofs.Firsts.{first-changed, gate-no_first, none-no_first}

@@ -9,6 +9,7 @@ use Rattle.std.proofs.lemmas.Bool.{cases_lt, cases_Bool, false≢true}
 use Rattle.gate_net.specs.declared.Kind.{Kind}
 use Rattle.gate_net.specs.declared.Kind.TheVariants.{Source}
 use Rattle.gate_graph.specs.Wirings.{kind_at, free_in, free_bit}
+use Rattle.pin_pool.proofs.Public.{len-one_less}
 use Rattle.gate_graph.proofs.Fresh.{first_kinds}
 
 pub free-within : (ks : List (Option Kind)) → free_in ks ≤ length ks
@@ -70,16 +71,6 @@ bit-none o e = ap free_bit e
 
 pub len-one_more : (s : finset.FinSet nat_cmp) (p : ℕ) → finset.contains s p ≡ false → finset.len (finset.insert s p) ≡ finset.len s + 1
 len-one_more s p out = len-insert nat_cmp_total s p ∙ ap (λ (b : Bool). cond b (finset.len s) (finset.len s + 1)) out
-
-pub len-one_less : (s : finset.FinSet nat_cmp) (p : ℕ) → finset.contains s p ≡ true → finset.len (finset.remove s p) + 1 ≡ finset.len s
-len-one_less s p in' =
-    let less : finset.len (finset.remove s p) ≡ finset.len s - 1 = len-remove nat_cmp_total s p ∙ ap (λ (b : Bool). cond b (finset.len s - 1) (finset.len s)) in' in
-    elim (cases_lt 0 (finset.len s)) [
-      | inl some ↦ omega (arith, less, some)
-      | inr none ↦
-          let empty : s ≡ finset.empty = empty_of_len s (omega (arith, none)) in
-          absurd (false≢true (sym (contains-empty nat_cmp p) ∙ ap (λ (t : finset.FinSet nat_cmp). finset.contains t p) (sym empty) ∙ in'))
-    ]
 
 pub len-less : (s : finset.FinSet nat_cmp) (p : ℕ) → finset.len (finset.remove s p) ≤ finset.len s
 len-less s p = elim (cases_Bool (finset.contains s p)) [

@@ -5,12 +5,12 @@ use Rattle.std.proofs.lemmas.List.{map-append}
 use Rattle.gate_net.specs.declared.Kind.{Kind}
 use Rattle.gate_net.specs.declared.Kind.TheVariants.{Source, Zero, Not}
 use Rattle.gate_net.specs.Net.{Net}
+use Rattle.pin_pool.proofs.Public.{changed-other, changed-same}
 use Rattle.pin_pool.specs.Ring.{has}
 use Rattle.pin_pool.specs.Pins.{list_of}
 use Rattle.pin_pool.specs.Rings.{Rings, AreRings, rings_of, linked}
 use Rattle.gate_graph.specs.Wirings.{Wiring, IsWired, kind_at}
 use Rattle.gate_graph.specs.Circuit.{Circuit, wiring, net_of, fanouts_of, node_with, gate_pins, home}
-use Rattle.pin_pool.proofs.RingsOf.{changed-same, changed-other}
 use Rattle.gate_graph.proofs.NetOf.{home-here, map-same, net-ext, node_at-net, nodes-trimmed, observed-net}
 use Rattle.gate_graph.specs.Readers.{SameReaders}
 use Rattle.gate_graph.proofs.Extended.{fans-observed}

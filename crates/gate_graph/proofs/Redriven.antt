@@ -10,6 +10,7 @@ use Rattle.gate_net.specs.Net.{IsLive}
 use Rattle.gate_net.specs.Paths.{Reaches}
 use Rattle.gate_graph.proofs.NetEdits.{node_at-other, node_at-there}
 use Rattle.gate_graph.proofs.NetRanks.{pins_keep_acyclic}
+use Rattle.pin_pool.proofs.Public.{back, same-rings, stands}
 use Rattle.pin_pool.specs.Ring.{has, IsApart}
 use Rattle.pin_pool.specs.Pins.{list_of, StandsIn, put_after}
 use Rattle.pin_pool.specs.declared.names.PinNo.{PinNo}
@@ -20,13 +21,11 @@ use Rattle.pin_pool.specs.Rings.{Rings, AreRings, Stood, rings_of, redriven, res
 use Rattle.gate_graph.specs.Wirings.{Wiring, IsShaped, IsWired, kind_at}
 use Rattle.gate_graph.specs.Entries.{CanTakeBack, LeadOn}
 use Rattle.gate_graph.specs.Circuit.{Circuit, wiring, net_of, gate_pins, home}
-use Rattle.pin_pool.proofs.RingsOf.{same-rings}
 use Rattle.gate_graph.proofs.NetOf.{home-here, map-same, net-with, drivers-there, node-there}
 use Rattle.gate_graph.proofs.LeadOns.{lead-rings, live-in}
 use Rattle.gate_graph.proofs.Pinned.{has-at}
 use Rattle.gate_graph.proofs.Ranked.{acyclic-net, wired-by, not-zero}
 use Rattle.gate_graph.proofs.Appended.{pushed, pushed-has, pushed-keeps, pushed-had, without-pushed}
-use Rattle.pin_pool.proofs.Undone.{stands, back}
 use Rattle.gate_graph.proofs.Removed.{out, had, keeps}
 
 some-kind : (o : Option Kind) → o ≢ None → (k : Kind) × (o ≡ Some k)

@@ -8,19 +8,17 @@ use Rattle.gate_net.specs.declared.Kind.TheVariants.{Not}
 use Rattle.gate_net.specs.Net.{drivers_of}
 use Rattle.gate_net.specs.Values.{IsJunction}
 use Rattle.gate_net.specs.Edits.{without as without_at, without_pin}
+use Rattle.pin_pool.proofs.Public.{back, has-without, same-rings, stands, without-absent}
 use Rattle.pin_pool.specs.Ring.{has, without, IsApart}
 use Rattle.pin_pool.specs.Pins.{list_of}
 use Rattle.pin_pool.specs.declared.names.PinNo.{PinNo}
 use Rattle.pin_pool.specs.declared.names.Slot.{Slot}
-use Rattle.pin_pool.proofs.RingLemmas.{has-without, without-absent}
-use Rattle.pin_pool.proofs.Undone.{stands, back}
 use Rattle.gate_graph.specs.declared.entries.Entry.{Entry}
 use Rattle.gate_graph.specs.declared.entries.Entry.TheVariants.{Removed}
 use Rattle.pin_pool.specs.Rings.{Rings, AreRings, AreOnce, Stood, rings_of, unlinked, relinked, all_without, IsOut}
 use Rattle.gate_graph.specs.Wirings.{Wiring, IsShaped, IsWired, kind_at}
 use Rattle.gate_graph.specs.Entries.{CanTakeBack, LeadOn}
 use Rattle.gate_graph.specs.Circuit.{Circuit, wiring, net_of, gate_pins, home}
-use Rattle.pin_pool.proofs.RingsOf.{same-rings}
 use Rattle.gate_graph.proofs.NetOf.{home-here, map-same, net-with, drivers-there}
 use Rattle.gate_graph.proofs.LeadOns.{lead-rings, kind-of, not-not, not-constant}
 use Rattle.gate_graph.proofs.Pinned.{has-at}

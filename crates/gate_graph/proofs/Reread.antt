@@ -11,10 +11,10 @@ use Rattle.gate_net.specs.Paths.{Reaches}
 use Rattle.gate_net.specs.Edits.{redirected, node_redirected, with_readers_moved}
 use Rattle.gate_graph.proofs.NetEdits.{node_at-moved}
 use Rattle.gate_graph.proofs.NetRanks.{moves_keep_acyclic}
+use Rattle.pin_pool.proofs.Public.{changed-other, changed-same, has-append, same-rings}
 use Rattle.pin_pool.specs.Ring.{has}
 use Rattle.pin_pool.specs.Pins.{list_of}
 use Rattle.pin_pool.specs.declared.names.Splice.{Splice}
-use Rattle.pin_pool.proofs.PoolLemmas.{has-append}
 use Rattle.gate_graph.specs.declared.entries.Entry.{Entry}
 use Rattle.gate_graph.specs.declared.entries.Entry.TheVariants.{Moved}
 use Rattle.pin_pool.specs.Rings.{Rings, AreRings, rings_of, moved, moved_back, changed}
@@ -22,7 +22,6 @@ use Rattle.gate_graph.specs.Wirings.{Wiring, IsShaped, IsWired, kind_at}
 use Rattle.gate_graph.specs.Entries.{CanTakeBack, LeadOn}
 use Rattle.gate_net.specs.Net.{trimmed, before_dead}
 use Rattle.gate_graph.specs.Circuit.{Circuit, wiring, net_of, node_in, node_with, gate_pins, home}
-use Rattle.pin_pool.proofs.RingsOf.{changed-same, changed-other, same-rings}
 use Rattle.gate_graph.proofs.NetOf.{home-here, net-ext, node_at-net, nodes-trimmed, observed-net}
 use Rattle.gate_graph.proofs.LeadOns.{lead-rings, live-in}
 use Rattle.gate_graph.proofs.Ranked.{acyclic-net, wired-by}

@@ -11,6 +11,7 @@ use Rattle.gate_net.specs.declared.Kind.TheVariants.{Source, Zero, One, And, Or,
 use Rattle.gate_net.specs.Net.{node_at, drivers_of}
 use Rattle.gate_net.specs.Net.{IsGate, IsGateKind}
 use Rattle.gate_net.specs.Edits.{IsUnread, DiffersAt}
+use Rattle.pin_pool.proofs.Public.{changed-other, changed-same}
 use Rattle.pin_pool.specs.Ring.{has, without}
 use Rattle.pin_pool.specs.Pins.{Pins, list_of}
 use Rattle.pin_pool.specs.declared.names.PinNo.{PinNo}
@@ -22,7 +23,6 @@ use Rattle.gate_graph.specs.Wirings.{Wiring, IsShaped, IsWired, AreFirst, kind_a
 use Rattle.gate_graph.specs.Entries.{LeadOn}
 use Rattle.gate_graph.specs.Circuit.{Circuit, wiring, net_of, fanouts_of, fans_in, node_with, gate_pins, home}
 use Rattle.gate_graph.specs.Emptied.{IsEmptied}
-use Rattle.pin_pool.proofs.RingsOf.{changed-same, changed-other}
 use Rattle.gate_graph.proofs.NetOf.{home-here, map-same, node_at-net, observed-net, drivers-there}
 use Rattle.gate_graph.proofs.LeadOns.{lead-by, lead-trans, within-length, kind-of}
 use Rattle.gate_graph.proofs.Firsts.{first-changed, gate-no_first, none-no_first}

@@ -6,6 +6,7 @@ use Rattle.gate_net.specs.Net.{Node, Net, trimmed}
 use Rattle.pin_pool.specs.Ring.{has}
 use Rattle.pin_pool.specs.Pins.{Pins, list_of}
 use Rattle.gate_graph.specs.Wirings.{kind_at, free_in, Wiring, wiring_of, IsWired}
+use Rattle.rm_base.specs.Numbers.{number_bound}
 
 -- the kinds by node number, the pins, and the epoch
 pub record Circuit : Type 0 where
@@ -76,7 +77,7 @@ fanouts_of v n = fans_in v.pool n
 pub record IsGraph (v : Circuit) : Type 0 where
   pub wired : IsWired (wiring v)
   pub room : length v.kinds ≤ length v.pool.inputs
-  pub few : length v.kinds ≤ 4294967295
+  pub few : length v.kinds ≤ number_bound
 
 -- the same node numbers are live as the same kinds, with the same pins: room, epoch and spare pins may differ
 abbrev pub kinds_live : List (Option Kind) → ℕ → Type 0

@@ -1,11 +1,10 @@
 //! How much a graph has.
 ghost use Rattle.std.specs.Prelude.{◌≡◌, ◌+◌, ◌-◌, ◌<◌, ◌≤◌, length};
-ghost use Rattle.gate_graph.specs.Circuit.{net_of};
+ghost use Rattle.gate_graph.specs.Circuit.{free_nodes, free_pins, live_nodes, net_of};
 ghost use Rattle.gate_net.specs.Edits.{IsLeastFree};
-ghost use Rattle.gate_net.specs.Net.{gate_count, source_count, wire_count};
+ghost use Rattle.gate_net.specs.Net.{IsLive, drivers_of, gate_count, source_count, wire_count};
 
-use crate::pins::{count_pins, first_sources, last_live, least_free};
-use crate::rings::look;
+use crate::pins::{are_sources, count_gate_pins, first_sources, last_live, least_free};
 use crate::state::Graph;
 use rm_base::NodeId;
 
@@ -27,15 +26,18 @@ impl Graph {
         NodeId(least_free(&self.kinds, self.least))
     }
 
-    /// How many sources there are, in the time of as many steps.
+    /// How many sources there are, in constant time.
     pub fn source_count(&self) -> u32
         ensures { result ≡ source_count (net_of self.now) }
     {
         self.tell();
+        if are_sources(&self.kinds, self.sources) {
+            return self.sources;
+        }
         first_sources(&self.kinds)
     }
 
-    /// How many gates there are, in the time of a step for each source.
+    /// How many gates there are, in constant time.
     pub fn gate_count(&self) -> u32
         ensures { result ≡ gate_count (net_of self.now) }
     {
@@ -44,16 +46,50 @@ impl Graph {
         self.kinds.len() as u32 - self.free - 2 - sources
     }
 
-    /// How many pins the gates have, in the time of a step for each number and each pin.
+    /// How many nodes there are, the two constants among them, in constant time.
+    pub fn live_count(&self) -> u32
+        ensures { result ≡ live_nodes self.now }
+    {
+        self.tell();
+        self.kinds.len() as u32 - self.free
+    }
+
+    /// How many pins the gates have, in constant time.
     pub fn wire_count(&self) -> u32
         ensures { result ≡ wire_count (net_of self.now) }
     {
-        look(&self.pool);
         self.tell();
-        let mut count = 0u32;
-        for node in 1..self.kinds.len() as u32 {
-            count += count_pins(&self.pool, node);
-        }
-        count
+        self.pool.linked_count() - self.pool.input_count(0)
+    }
+
+    /// How many places are observed, in constant time.
+    pub fn observed_count(&self) -> usize
+        ensures { result ≡ length (net_of self.now).observed }
+    {
+        self.tell();
+        self.pool.input_count(0) as usize
+    }
+
+    /// How many pins a live node has, in constant time.
+    pub fn input_count(&self, node: NodeId) -> u32
+        requires { IsLive (net_of self.now) node.0 }
+        ensures { result ≡ length (drivers_of (net_of self.now) node.0) }
+    {
+        self.tell();
+        count_gate_pins(&self.pool, node.0)
+    }
+
+    /// How many pins may be added before more room is reserved, in constant time.
+    pub fn free_pins(&self) -> usize
+        ensures { result ≡ free_pins self.now }
+    {
+        self.pool.spare()
+    }
+
+    /// How many nodes may be added before more room is reserved, in constant time.
+    pub fn free_nodes(&self) -> usize
+        ensures { result ≡ free_nodes self.now }
+    {
+        self.free as usize
     }
 }

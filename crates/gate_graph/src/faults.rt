@@ -1,7 +1,7 @@
 // The stuck-at faults of a graph.
 ghost use Rattle.std.specs.Prelude.{◌≡◌, ◌++◌, ◌∷◌, [], IfOk, OnOk, false, length, true};
 ghost use Rattle.std.specs.List.{AllByRecursion};
-ghost use Rattle.gate_net.specs.Net.{IsLive, drivers_of};
+ghost use Rattle.gate_net.specs.Net.{drivers_of};
 ghost use Rattle.gate_net.specs.Values.{HasPin};
 ghost use Rattle.gate_net.specs.Faults.{fault_at, faults_of, pin_faults};
 ghost use Rattle.gate_graph.specs.Circuit.{net_of};
@@ -9,18 +9,6 @@ ghost use Rattle.gate_graph.specs.Circuit.{net_of};
 use crate::state::Graph;
 use rm_base::{Fault, NoMemory, NodeId};
 use std::alloc::Global;
-
-// How many pins a live node has.
-fn live_pin_count(graph: &Graph, node: NodeId) -> u32
-    requires { IsLive (net_of graph.now) node.0 }
-    ensures { result ≡ length (drivers_of (net_of graph.now) node.0) }
-{
-    let mut count = 0u32;
-    for _driver in graph.inputs_of(node) {
-        count += 1;
-    }
-    count
-}
 
 // Adds the two faults of a pin.
 fn add_pin(gate: NodeId, position: u32, faults: &mut Vec<Fault>) -> Result<(), NoMemory>
@@ -46,7 +34,7 @@ fn add_faults(graph: &Graph, gate: NodeId, faults: &mut Vec<Fault>) -> Result<()
     let Some(_kind) = graph.kind(gate) else {
         return Ok(());
     };
-    let count = live_pin_count(graph, gate);
+    let count = graph.input_count(gate);
     for position in 0..count {
         add_pin(gate, position, faults)?;
     }
@@ -65,12 +53,12 @@ pub fn faults_of(alloc: Global, graph: &Graph) -> Result<Vec<Fault>, NoMemory>
     Ok(faults)
 }
 
-/// How many pins a node has, in the time of as many steps; none where it isn't live.
+/// How many pins a node has, in constant time; none where it isn't live.
 pub fn pin_count(graph: &Graph, node: NodeId) -> u32
     ensures { result ≡ length (drivers_of (net_of graph.now) node.0) }
 {
     match graph.kind(node) {
         None => 0,
-        Some(_kind) => live_pin_count(graph, node),
+        Some(_kind) => graph.input_count(node),
     }
 }

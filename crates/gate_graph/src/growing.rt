@@ -9,6 +9,7 @@ ghost use Rattle.gate_net.specs.declared.Kind.TheVariants.{Not};
 ghost use Rattle.pin_pool.specs.Ring.{has};
 ghost use Rattle.gate_graph.specs.Holds.{pins_held};
 ghost use Rattle.gate_graph.specs.Readers.{NewReaders, SameReaders};
+ghost use Rattle.rm_base.specs.Numbers.{number_bound};
 
 use crate::pins::least_free;
 use crate::rings::{link_all, link_new, look};
@@ -20,8 +21,8 @@ use rm_base::{NoMemory, NodeId};
 impl Graph {
     /// Makes the free room at least so many pins and nodes. It takes the time of the room that is made.
     pub fn reserve(&mut self, pins: usize, nodes: usize) -> Result<(), NoMemory>
-        requires pins { pins_taken self.old + pins ≤ 4294967295 }
-        requires nodes { live_nodes self.old + nodes ≤ 4294967295 }
+        requires pins { pins_taken self.old + pins ≤ number_bound }
+        requires nodes { live_nodes self.old + nodes ≤ number_bound }
         ensures pins { OnOk result (pins ≤ free_pins self.new) }
         ensures nodes { OnOk result (nodes ≤ free_nodes self.new) }
         ensures net { net_of self.new ≡ net_of self.old }
@@ -52,8 +53,8 @@ impl Graph {
         requires kind { IsGateKind kind }
         requires one { kind ≡ Not → length drivers.now ≡ 1 }
         requires drivers { (d : ℕ) → has d (map (λ n. n.0) drivers.now) ≡ true → IsLive (net_of self.old) d }
-        requires pins { pins_taken self.old + length drivers.now ≤ 4294967295 }
-        requires nodes { live_nodes self.old < 4294967295 }
+        requires pins { pins_taken self.old + length drivers.now ≤ number_bound }
+        requires nodes { live_nodes self.old < number_bound }
         ensures made { IfOk result (λ node. MakesGate (net_of self.old) (net_of self.new) kind (map (λ n. n.0) drivers.now) node.0) }
         ensures fanouts { IfOk result (λ node. NewReaders self.old self.new node.0 (map (λ n. n.0) drivers.now)) }
         ensures pins { OnOk result (pins_taken self.new ≡ pins_taken self.old + length drivers.now) }
@@ -97,7 +98,7 @@ impl Graph {
     /// Appends the node to the observed list.
     pub fn observe(&mut self, node: NodeId) -> Result<(), NoMemory>
         requires node { IsLive (net_of self.old) node.0 }
-        requires pins { pins_taken self.old < 4294967295 }
+        requires pins { pins_taken self.old < number_bound }
         ensures observed { OnOk result (net_of self.new ≡ record (net_of self.old) { observed = (net_of self.old).observed ++ node.0 ∷ [] }) }
         ensures refused { OnErr result (net_of self.new ≡ net_of self.old) }
         ensures fanouts { SameReaders self.old self.new }

@@ -7,6 +7,7 @@ ghost use Rattle.gate_graph.specs.Wirings.{kind_at};
 ghost use Rattle.gate_graph.specs.Circuit.{kinds_live, gate_pins, place_in, without_observed};
 ghost use Rattle.pin_pool.specs.Ring.{has};
 ghost use Rattle.gate_net.specs.declared.Kind.TheVariants.{Source};
+ghost use Rattle.rm_base.specs.Numbers.{number_bound};
 
 use crate::rings::look;
 use gate_net::Kind;
@@ -36,7 +37,7 @@ pub(crate) fn nth_pin(pool: &Pool, gate: u32, position: u32) -> Option<PinNo>
 
 // The least number from `from` on of no live node.
 pub(crate) fn least_free(kinds: &[Option<Kind>], from: u32) -> u32
-    requires few { length kinds.now ≤ 4294967295 }
+    requires few { length kinds.now ≤ number_bound }
     requires live { kinds_live kinds.now from }
     ensures live { kinds_live kinds.now result }
     ensures free { result < length kinds.now → kind_at kinds.now result ≡ None }
@@ -58,7 +59,7 @@ pub(crate) fn pins_of_gate(pool: &Pool, gate: u32) -> PinIter<'_>
     requires gate { gate < length pool.now.inputs }
     requires none { list_of pool.now.inputs 1 ≡ [] }
     ensures pins { result ≡ gate_pins pool.now gate }
-    ensures few { length result ≤ 4294967295 }
+    ensures few { length result ≤ number_bound }
 {
     if gate == 0 {
         return pool.inputs(1);
@@ -72,7 +73,7 @@ pub(crate) fn pins_of_gate_from(pool: &Pool, gate: u32, position: u32) -> PinIte
     requires gate { gate < length pool.now.inputs }
     requires none { list_of pool.now.inputs 1 ≡ [] }
     ensures pins { result ≡ drop position (gate_pins pool.now gate) }
-    ensures few { length result ≤ 4294967295 }
+    ensures few { length result ≤ number_bound }
 {
     if gate == 0 {
         return pool.inputs(1);
@@ -82,7 +83,7 @@ pub(crate) fn pins_of_gate_from(pool: &Pool, gate: u32, position: u32) -> PinIte
 
 // One more than the last number of a live node.
 pub(crate) fn last_live(kinds: &[Option<Kind>]) -> u32
-    requires few { length kinds.now ≤ 4294967295 }
+    requires few { length kinds.now ≤ number_bound }
     requires some { (n : ℕ) × (kind_at kinds.now n ≢ None) }
     ensures above { (m : ℕ) → result ≤ m → kind_at kinds.now m ≡ None }
     ensures last { (m : ℕ) → m + 1 ≡ result → kind_at kinds.now m ≢ None }
@@ -150,6 +151,19 @@ pub(crate) fn observes(pool: &Pool, node: u32) -> bool
     false
 }
 
+// Whether a node has a fanout.
+pub(crate) fn has_fanout(pool: &Pool, node: u32) -> bool
+    requires { node < length pool.now.inputs }
+    ensures none { result ≡ false → list_of pool.now.fanouts node ≡ [] }
+    ensures some { result ≡ true → (p : ℕ) × (has p (list_of pool.now.fanouts node) ≡ true) }
+{
+    let mut pins = pool.fanouts(node);
+    match pins.next() {
+        Some(_) => true,
+        None => false,
+    }
+}
+
 fn is_source(kind: Option<Kind>) -> bool
     ensures yes_is { result ≡ true → kind ≡ Some Source }
     ensures no_is { result ≡ false → kind ≢ Some Source }
@@ -160,9 +174,26 @@ fn is_source(kind: Option<Kind>) -> bool
     }
 }
 
+// Whether there are so many sources from number 2 on, and no more.
+pub(crate) fn are_sources(kinds: &[Option<Kind>], sources: u32) -> bool
+    ensures last { result ≡ true → (k : ℕ) → k + 1 ≡ sources → kind_at kinds.now (2 + k) ≡ Some Source }
+    ensures end { result ≡ true → kind_at kinds.now (2 + sources) ≢ Some Source }
+{
+    let Some(end) = sources.checked_add(2) else {
+        return false;
+    };
+    if is_source(stored_kind(kinds, end)) {
+        return false;
+    }
+    if sources == 0 {
+        return true;
+    }
+    is_source(stored_kind(kinds, end - 1))
+}
+
 // How many sources there are from number 2 on.
 pub(crate) fn first_sources(kinds: &[Option<Kind>]) -> u32
-    requires few { length kinds.now ≤ 4294967295 }
+    requires few { length kinds.now ≤ number_bound }
     ensures all { (k : ℕ) → k < result → kind_at kinds.now (2 + k) ≡ Some Source }
     ensures end { kind_at kinds.now (2 + result) ≢ Some Source }
     ensures few { result ≤ length kinds.now }
@@ -182,11 +213,7 @@ pub(crate) fn count_pins(pool: &Pool, gate: u32) -> u32
     requires { gate < length pool.now.inputs }
     ensures { result ≡ length (list_of pool.now.inputs gate) }
 {
-    let mut count = 0u32;
-    for _ in pool.inputs(gate) {
-        count += 1;
-    }
-    count
+    pool.input_count(gate)
 }
 
 // How many pins a gate has, where those of number 0 are the observed places.

@@ -1,15 +1,16 @@
 //! Calls that read a graph.
-ghost use Rattle.std.specs.Prelude.{◌≡◌, ◌+◌, ◌<◌, ◌≤◌, ◌↔◌, [], Some, None, IsTrue, true, drop, length, map, slice_get};
+ghost use Rattle.std.specs.Prelude.{◌≡◌, ◌+◌, ◌<◌, ◌≤◌, ◌↔◌, [], Some, None, IsTrue, true, false, drop, length, map, slice_get};
 ghost use Rattle.std.specs.Option.{option_map};
 ghost use Rattle.pin_pool.specs.Rings.{rings_of, AreRings, IsIn};
 ghost use Rattle.gate_graph.specs.Wirings.{kind_at};
 ghost use Rattle.gate_graph.specs.Circuit.{net_of, fanouts_of, IsGraph, gate_pins};
 ghost use Rattle.gate_net.specs.Net.{drivers_of, IsLive, IsObserved};
+ghost use Rattle.rm_base.specs.Numbers.{number_bound};
 
-use crate::driver_iter::Inputs;
-use crate::gate_iter::Readers;
-use crate::pins::{nth_pin, observes, pins_of_gate, pins_of_gate_from};
-use crate::reader_iter::Fanouts;
+use crate::fanout_iter::Fanouts;
+use crate::input_iter::Inputs;
+use crate::pins::{has_fanout, nth_pin, observes, pins_of_gate, pins_of_gate_from};
+use crate::reader_iter::Readers;
 use crate::rings::look;
 use crate::state::Graph;
 use pin_pool::PinNo;
@@ -59,7 +60,7 @@ impl Graph {
     pub fn inputs_of(&self, node: NodeId) -> Inputs<'_>
         requires { IsLive (net_of self.now) node.0 }
         ensures drivers { result ≡ drivers_of (net_of self.now) node.0 }
-        ensures few { length result ≤ 4294967295 }
+        ensures few { length result ≤ number_bound }
     {
         look(&self.pool);
         let pins = pins_of_gate(&self.pool, node.0);
@@ -74,7 +75,7 @@ impl Graph {
     pub fn inputs_from(&self, node: NodeId, position: u32) -> Inputs<'_>
         requires { IsLive (net_of self.now) node.0 }
         ensures drivers { result ≡ drop position (drivers_of (net_of self.now) node.0) }
-        ensures few { length result ≤ 4294967295 }
+        ensures few { length result ≤ number_bound }
     {
         look(&self.pool);
         let pins = pins_of_gate_from(&self.pool, node.0, position);
@@ -111,24 +112,13 @@ impl Graph {
     /// The observed nodes, in order.
     pub fn observed(&self) -> Inputs<'_>
         ensures observed { result ≡ (net_of self.now).observed }
-        ensures few { length result ≤ 4294967295 }
+        ensures few { length result ≤ number_bound }
     {
         self.tell();
         Inputs {
             pins: self.pool.inputs(0),
             pool: &self.pool,
         }
-    }
-
-    /// How many places are observed, in the time of as many steps.
-    pub fn observed_count(&self) -> usize
-        ensures { result ≡ length (net_of self.now).observed }
-    {
-        let mut count = 0usize;
-        for _ in self.observed() {
-            count += 1;
-        }
-        count
     }
 
     /// The node at an observed place, in the time of as many steps; `observed` gives all of them.
@@ -155,5 +145,16 @@ impl Graph {
             return false;
         }
         observes(&self.pool, node.0)
+    }
+
+    /// Whether some pin reads a live node or it is observed, in constant time.
+    pub fn is_in_use(&self, node: NodeId) -> bool
+        requires { IsLive (net_of self.now) node.0 }
+        ensures unread { result ≡ false → fanouts_of self.now node.0 ≡ [] }
+        ensures unobserved { result ≡ false → IsObserved (net_of self.now) node.0 → ⊥ }
+        ensures used { result ≡ true → fanouts_of self.now node.0 ≡ [] → IsObserved (net_of self.now) node.0 }
+    {
+        self.tell();
+        has_fanout(&self.pool, node.0)
     }
 }

@@ -6,6 +6,7 @@ ghost use Rattle.pin_pool.specs.Pins.{StandsIn, list_of};
 ghost use Rattle.gate_graph.specs.Circuit.{gate_pins};
 ghost use Rattle.gate_graph.specs.Filled.{IsFilled};
 ghost use Rattle.pin_pool.specs.Rings.{rings_of, linked, dropped, unlinked, relinked, redriven, restored, moved, moved_back, IsIn, IsOut, AreRings, Stood};
+ghost use Rattle.rm_base.specs.Numbers.{number_bound};
 
 use pin_pool::{PinNo, Pool, Slot, Splice};
 use rm_base::NodeId;
@@ -14,7 +15,7 @@ use rm_base::NodeId;
 pub(crate) fn look(pool: &Pool)
     ensures rings { AreRings (rings_of pool.now) }
     ensures nodes { length pool.now.fanouts ≡ length pool.now.inputs }
-    ensures few { set.len pool.now.taken + pool.now.spare ≤ 4294967295 }
+    ensures few { set.len pool.now.taken + pool.now.spare ≤ number_bound }
 {
     let _spare = pool.spare();
 }

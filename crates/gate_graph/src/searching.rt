@@ -5,7 +5,7 @@ ghost use Rattle.gate_graph.specs.Search.{AreBelow, IsSeen, Marked, MarksBack, u
 ghost use Rattle.gate_net.specs.Net.{IsLive};
 ghost use Rattle.gate_net.specs.Paths.{Reaches};
 
-use crate::driver_iter::Inputs;
+use crate::input_iter::Inputs;
 use crate::state::Graph;
 use rm_base::{NoMemory, NodeId};
 use std::alloc::Global;
@@ -36,6 +36,13 @@ impl Marks {
         let seen = vec![in alloc; false; numbers as usize]?;
         let queue = vec![in alloc; 0u32; numbers as usize]?;
         Ok(Marks { seen, queue })
+    }
+
+    /// Below which bound there are marks.
+    pub fn numbers(&self) -> usize
+        ensures { result ≡ self.now }
+    {
+        self.seen.len()
     }
 }
 

@@ -7,6 +7,7 @@ ghost use Rattle.gate_graph.specs.Holds.{pins_held};
 ghost use Rattle.gate_graph.specs.Readers.{ListReaders};
 ghost use Rattle.gate_graph.specs.Start.{first_net};
 ghost use Rattle.gate_net.specs.Net.{kind_of, source_count, gate_count, wire_count, IsWellFormed};
+ghost use Rattle.rm_base.specs.Numbers.{number_bound};
 
 use crate::pins::stored_kind;
 use crate::rings::look;
@@ -23,6 +24,8 @@ pub struct Graph {
     pub(crate) kinds: Vec<Option<Kind>>,
     pub(crate) free: u32,
     pub(crate) least: u32,
+    // How many sources `new` made, which the calls that count them look at again.
+    pub(crate) sources: u32,
     pub(crate) epoch: u64,
 }
 
@@ -71,6 +74,7 @@ impl Graph {
             kinds,
             free: 0,
             least: 0,
+            sources,
             epoch: 0,
         })
     }
@@ -86,7 +90,7 @@ impl Graph {
         ensures graph { IsGraph self.now }
         ensures rings { AreRings (rings_of self.now.pool) }
         ensures nodes { length self.now.pool.fanouts ≡ length self.now.pool.inputs }
-        ensures few { pins_taken self.now + free_pins self.now ≤ 4294967295 }
+        ensures few { pins_taken self.now + free_pins self.now ≤ number_bound }
     {
         look(&self.pool);
         let _kinds = &self.kinds;
@@ -112,12 +116,12 @@ impl Graph {
     /// Tells what holds of every graph.
     pub fn well_formed(&self)
         ensures net { IsWellFormed (net_of self.now) }
-        ensures nodes { length (net_of self.now).nodes ≤ 4294967295 }
+        ensures nodes { length (net_of self.now).nodes ≤ number_bound }
         ensures live { live_nodes self.now ≡ 2 + source_count (net_of self.now) + gate_count (net_of self.now) }
         ensures pins { wire_count (net_of self.now) + length (net_of self.now).observed ≤ pins_taken self.now }
         ensures held { wire_count (net_of self.now) + length (net_of self.now).observed + pins_held self.now ≡ pins_taken self.now }
-        ensures few { pins_taken self.now + free_pins self.now ≤ 4294967295 }
-        ensures room { live_nodes self.now + free_nodes self.now ≤ 4294967295 }
+        ensures few { pins_taken self.now + free_pins self.now ≤ number_bound }
+        ensures room { live_nodes self.now + free_nodes self.now ≤ number_bound }
     {
         self.tell();
     }

@@ -9,6 +9,7 @@ ghost use Rattle.gate_graph.specs.Holds.{held, pins_held, pins_made};
 ghost use Rattle.gate_graph.specs.declared.entries.Entry.{Entry};
 ghost use Rattle.gate_graph.specs.Circuit.{wiring, net_of, kinds_live, free_pins, free_nodes, pins_taken, live_nodes};
 ghost use Rattle.gate_graph.specs.Readers.{SameReaders};
+ghost use Rattle.rm_base.specs.Numbers.{number_bound};
 
 use crate::entries::{Entry, Undos};
 use crate::pins::stored_kind;
@@ -77,7 +78,7 @@ impl Graph {
 // How many numbers are free once one has another kind.
 fn count_free(free: u32, was: Option<Kind>, now: Option<Kind>) -> u32
     requires some { was ≡ None → 0 < free }
-    requires room { was ≢ None → free < 4294967295 }
+    requires room { was ≢ None → free < number_bound }
     ensures { result + free_bit was ≡ free + free_bit now }
 {
     match was {
@@ -95,7 +96,7 @@ fn count_free(free: u32, was: Option<Kind>, now: Option<Kind>) -> u32
 // A node gets a kind, or none.
 pub(crate) fn set_kind(kinds: &mut Vec<Option<Kind>>, free: &mut u32, node: u32, kind: Option<Kind>)
     requires node { node < length kinds.old.items }
-    requires few { length kinds.old.items ≤ 4294967295 }
+    requires few { length kinds.old.items ≤ number_bound }
     requires free { free.old ≡ free_in kinds.old.items }
     ensures kinds { (v : Pins) → wiring_of kinds.new.items v ≡ record (wiring_of kinds.old.items v) { kind = changed (wiring_of kinds.old.items v).kind node kind } }
     ensures len { length kinds.new.items ≡ length kinds.old.items }
@@ -119,7 +120,7 @@ pub(crate) fn take_back(
     requires within { IsWithin (length kinds.old.items) entry }
     requires room { length kinds.old.items ≤ length pool.old.inputs }
     requires live { kinds_live kinds.old.items least.old }
-    requires few { length kinds.old.items ≤ 4294967295 }
+    requires few { length kinds.old.items ≤ number_bound }
     requires free { free.old ≡ free_in kinds.old.items }
     ensures wiring { wiring_of kinds.new.items pool.new ≡ taken_back entry (wiring_of kinds.old.items pool.old) }
     ensures nodes { length pool.new.inputs ≡ length pool.old.inputs }

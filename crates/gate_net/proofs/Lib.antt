@@ -1,6 +1,7 @@
 pub mod Bools
 pub mod Places
 pub mod Junctions
+pub mod Constants
 pub mod AlongPins
 pub mod Spread
 pub mod Valuations
@@ -10,4 +11,6 @@ pub mod Added
 pub mod Ordered
 pub mod Moved
 pub mod Follows
+pub mod Stays
 pub mod Readings
+pub mod Public

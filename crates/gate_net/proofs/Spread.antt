@@ -6,7 +6,7 @@ use Rattle.gate_net.proofs.AlongPins.{along_pins, reads_elsewhere, reads_there}
 use Rattle.gate_net.proofs.Places.{map_agree, set_same}
 use Rattle.gate_net.specs.Laws.{ChainsDecide, IdlePinsChangeNothing, OutsideIsEqual}
 use Rattle.gate_net.specs.Net.{IsAcyclic, IsObserved, Net, Reads, drivers_of, node_at}
-use Rattle.gate_net.specs.Paths.{ChainTo, Reaches, next, on, pin, start}
+use Rattle.gate_net.specs.Paths.{Among, ChainTo, Reaches, next, on, pin, start}
 use Rattle.gate_net.specs.Values.{IsRun, SameObserved, faulty_reads, node_value}
 use Rattle.rm_base.specs.declared.numbers.Fault.{Fault}
 
@@ -36,11 +36,6 @@ module _ (net : Net) (fault : Fault) (a v f : ℕ → Bool) (run : IsRun net fau
     where
       step : (y : ℕ) → ((p x : ℕ) → Reads net y p x → x ≢ fault.gate.0 → (Reaches net fault.gate.0 x → ⊥) → v x ≡ f x) → y ≢ fault.gate.0 → (Reaches net fault.gate.0 y → ⊥) → v y ≡ f y
       step y h ne away = same_elsewhere y ne (λ p x reads. h p x reads (λ e. away (pin p (rw e at reads))) (λ path. away (on p path reads)))
-
--- the nodes of a list, by cases
-abbrev pub Among : List ℕ → ℕ → Type 0
-Among [] x = ⊥
-Among (y ∷ ys) x = (x ≡ y) ⊎ Among ys x
 
 pub among_cases : (ys : List ℕ) (x : ℕ) → Among ys x ⊎ (Among ys x → ⊥)
 among_cases [] x = inr (λ h. h)

@@ -1,18 +1,9 @@
 -- The gates of a net in order, its pin faults in order, and assignments by vectors.
 use Rattle.std.specs.Prelude.{◌≡◌, ℕ, zero, suc, ◌+◌, ◌-◌, Bool, true, false, List, [], ◌∷◌, ◌++◌, length, Option, Some, None, slice_get, slice_index_or, if◌then◌else◌}
 use Rattle.rm_base.specs.declared.numbers.Fault.{Fault}
-use Rattle.gate_net.specs.declared.Kind.{Kind}
-use Rattle.gate_net.specs.declared.Kind.TheVariants.{Source, Zero, One, And, Or, Not}
+pub use Rattle.gate_net.specs.Meaning.{is_gate_kind}
 use Rattle.gate_net.specs.Net.{Node, Net, drivers_in, source_count}
 use Rattle.gate_net.specs.Values.{Detects}
-
-abbrev pub is_gate_kind : Kind → Bool
-is_gate_kind Source = false
-is_gate_kind Zero = false
-is_gate_kind One = false
-is_gate_kind And = true
-is_gate_kind Or = true
-is_gate_kind Not = true
 
 abbrev pub before_gates : Option Node → ℕ → List ℕ → List ℕ
 before_gates None x xs = xs

@@ -1,68 +1,18 @@
--- What follows forward and backward at a gate, and forward reading.
-use Rattle.std.specs.List.{list_all, list_any}
+-- Forward reading.
+use Rattle.std.specs.List.{list_all}
 use Rattle.std.specs.Option.{option_map_or}
-use Rattle.std.specs.Prelude.{Bool, IsTrue, List, None, Option, Some, [], false, if◌then◌else◌, map, nat_eq, not, slice_get, suc, true, zero, ℕ, ◌&&◌, ◌||◌, ◌∷◌, ◌≡◌}
+use Rattle.std.specs.Prelude.{Bool, IsTrue, List, None, Option, Some, false, if◌then◌else◌, map, nat_eq, not, slice_get, ℕ, ◌||◌, ◌≡◌}
 use Rattle.gate_net.specs.Net.{IsAcyclic, IsKind, IsObserved, Net, Node, drivers_of, node_at}
 use Rattle.gate_net.specs.Values.{IsRun, faulty_reads, same_bool}
-use Rattle.gate_net.specs.declared.Kind.{Kind}
-use Rattle.gate_net.specs.declared.Kind.TheVariants.{And, Not, One, Or, Source, Zero}
+use Rattle.gate_net.specs.declared.Kind.TheVariants.{Source}
+pub use Rattle.gate_net.specs.Meaning.{all_but, first_known, is_known, junction_back, junction_follows, kind_forward, not_known, value_back, value_forward}
 use Rattle.rm_base.specs.declared.numbers.Fault.{Fault}
 
--- whether the value is known and is this
-abbrev pub is_known : Bool → Option Bool → Bool
-is_known b None = false
-is_known b (Some c) = same_bool b c
-
--- c where some pin is known to have it, and its opposite where all pins are known to have that
-abbrev pub junction_follows : Bool → List (Option Bool) → Option Bool
-junction_follows c os =
-    if list_any (is_known c) os then Some c else (if list_all (is_known (not c)) os then Some (not c) else None)
-
-abbrev pub not_known : Option Bool → Option Bool
-not_known None = None
-not_known (Some b) = Some (not b)
-
-abbrev pub first_known : List (Option Bool) → Option Bool
-first_known [] = None
-first_known (o ∷ os) = o
-
--- the value of a gate that follows from the known values of its pins
-abbrev pub value_forward : Kind → List (Option Bool) → Option Bool
-value_forward And os = junction_follows false os
-value_forward Or os = junction_follows true os
-value_forward Not os = not_known (first_known os)
-value_forward _ os = None
-
--- whether every element but that at q passes
-abbrev pub all_but : {A : Type 0} → (A → Bool) → ℕ → List A → Bool
-all_but test q [] = true
-all_but test zero (x ∷ xs) = list_all test xs
-all_but test (suc q) (x ∷ xs) = test x && all_but test q xs
-
-abbrev pub junction_back : Bool → Bool → List (Option Bool) → ℕ → Option Bool
-junction_back c value os q =
-    if same_bool value c then (if all_but (is_known (not c)) q os then Some c else None) else Some (not c)
-
--- the value at pin q that follows from that of the gate and the known values of the other pins
-abbrev pub value_back : Kind → Bool → List (Option Bool) → ℕ → Option Bool
-value_back And value os q = junction_back false value os q
-value_back Or value os q = junction_back true value os q
-value_back Not value os zero = Some (not value)
-value_back _ value os q = None
-
--- FORWARD READING
 -- what is known of each node's good value and faulty value, and which nodes are marked equal
 pub record Marking : Type 0 where
   pub good : ℕ → Option Bool
   pub faulty : ℕ → Option Bool
   pub equal : ℕ → Bool
-
--- what follows forward for a node; a source has what is known of it
-abbrev pub kind_forward : Kind → Option Bool → List (Option Bool) → Option Bool
-kind_forward Source known os = known
-kind_forward Zero known os = Some false
-kind_forward One known os = Some true
-kind_forward kind known os = value_forward kind os
 
 abbrev pub node_forward : Option Node → Option Bool → List (Option Bool) → Option Bool
 node_forward None known os = None

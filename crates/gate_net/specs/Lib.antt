@@ -1,3 +1,4 @@
+pub mod Meaning
 pub mod Net
 pub mod Values
 pub mod Paths

@@ -1,7 +1,8 @@
 -- A net of gates: live nodes by number, each with its kind and its drivers, and the observed nodes.
-use Rattle.std.specs.Prelude.{◌≡◌, ◌≢◌, ℕ, ◌+◌, ◌<◌, ◌≤◌, List, [], ◌∷◌, Option, Some, None, slice_get, length, sum_by}
+use Rattle.std.specs.Prelude.{◌≡◌, ◌≢◌, ℕ, ◌+◌, ◌<◌, ◌≤◌, List, [], ◌∷◌, Option, Some, None, slice_get, length, sum_by, if◌then◌else◌}
 use Rattle.gate_net.specs.declared.Kind.{Kind}
 use Rattle.gate_net.specs.declared.Kind.TheVariants.{Source, Zero, One, Not}
+pub use Rattle.gate_net.specs.Meaning.{IsGateKind, is_gate_kind}
 
 pub record Node : Type 0 where
   pub kind : Kind
@@ -50,12 +51,6 @@ IsKind net x kind = (drivers : List ℕ) × (node_at net x ≡ Some (record { ki
 abbrev pub IsLive : Net → ℕ → Type 0
 IsLive net x = (kind : Kind) × IsKind net x kind
 
-abbrev pub IsGateKind : Kind → Type 0
-IsGateKind Source = ⊥
-IsGateKind Zero = ⊥
-IsGateKind One = ⊥
-IsGateKind _ = Unit {0}
-
 abbrev pub IsGate : Net → ℕ → Type 0
 IsGate net x = (kind : Kind) × (IsKind net x kind × IsGateKind kind)
 
@@ -84,10 +79,7 @@ source_in Source = 1
 source_in _ = 0
 
 abbrev pub gate_in : Kind → ℕ
-gate_in Source = 0
-gate_in Zero = 0
-gate_in One = 0
-gate_in _ = 1
+gate_in kind = if is_gate_kind kind then 1 else 0
 
 -- how many sources the net has
 abbrev pub source_count : Net → ℕ

@@ -1,5 +1,5 @@
 -- Paths and chains of a net.
-use Rattle.std.specs.Prelude.{◌≡◌, ℕ, List, [], ◌∷◌}
+use Rattle.std.specs.Prelude.{◌≡◌, ◌⊎◌, ℕ, List, [], ◌∷◌}
 use Rattle.gate_net.specs.Net.{Net, Reads, IsObserved}
 
 -- a path of one or more pins leads from x to y
@@ -19,3 +19,8 @@ pub data ChainTo (net : Net) (gate : ℕ) : List ℕ → ℕ → Type 0 where
 
 abbrev pub IsInChain : Net → ℕ → ℕ → Type 0
 IsInChain net gate y = (before : List ℕ) × ChainTo net gate before y
+
+-- the node is in the list
+abbrev pub Among : List ℕ → ℕ → Type 0
+Among [] x = ⊥
+Among (y ∷ ys) x = (x ≡ y) ⊎ Among ys x

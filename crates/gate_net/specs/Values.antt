@@ -1,37 +1,9 @@
 -- The good and the faulty values of a net, and which assignments detect a fault.
-use Rattle.std.specs.Prelude.{◌≡◌, ◌≢◌, ℕ, List, [], ◌∷◌, map, Option, Some, None, Bool, true, false, not, nat_eq, slice_set, if◌then◌else◌}
+use Rattle.std.specs.Prelude.{◌≡◌, ◌≢◌, ℕ, List, map, Option, Some, None, Bool, false, nat_eq, slice_set, if◌then◌else◌}
 use Rattle.rm_base.specs.declared.numbers.Fault.{Fault}
 use Rattle.gate_net.specs.declared.Kind.{Kind}
-use Rattle.gate_net.specs.declared.Kind.TheVariants.{Source, Zero, One, And, Or, Not}
+pub use Rattle.gate_net.specs.Meaning.{controlling, gate_value, junction, not_first, same_bool}
 use Rattle.gate_net.specs.Net.{Node, Net, node_at, drivers_of, Reads, IsObserved, IsKind}
-
-abbrev pub same_bool : Bool → Bool → Bool
-same_bool true b = b
-same_bool false b = not b
-
--- c where some pin has it, and else its opposite
-abbrev pub junction : Bool → List Bool → Bool
-junction c [] = not c
-junction c (b ∷ bs) = if same_bool b c then c else junction c bs
-
-abbrev pub not_first : List Bool → Bool
-not_first [] = false
-not_first (b ∷ bs) = not b
-
--- the value of a node that reads these
-abbrev pub gate_value : Kind → Bool → List Bool → Bool
-gate_value Source assigned reads = assigned
-gate_value Zero assigned reads = false
-gate_value One assigned reads = true
-gate_value And assigned reads = junction false reads
-gate_value Or assigned reads = junction true reads
-gate_value Not assigned reads = not_first reads
-
--- the controlling value of an And or an Or
-abbrev pub controlling : Kind → Option Bool
-controlling And = Some false
-controlling Or = Some true
-controlling _ = None
 
 -- an And or an Or, with its controlling value
 abbrev pub IsJunction : Net → ℕ → Bool → Type 0

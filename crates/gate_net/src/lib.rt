@@ -4,6 +4,8 @@
 ghost use Rattle.gate_net.specs.Forward.{ReadingsHold, ReadingsAgree};
 ghost use Rattle.gate_net.specs.Laws.{ValuesExist, FaultyValuesExist, OutsideIsEqual, ChainsDecide, IdlePinsChangeNothing, FixesKeep, FixesKeepAcyclic, AddsKeep, PinsKeepAcyclic, MovesKeep, TwiceKeeps, MovesKeepAcyclic};
 
+mod meaning;
+
 /// What a node is.
 #[derive(Clone, Copy, Debug, PartialEq, Eq)]
 pub enum Kind {

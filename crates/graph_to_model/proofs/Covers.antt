@@ -11,7 +11,7 @@ use Rattle.rm_model.specs.declared.parts.Model.{Model}
 use Rattle.gate_net.specs.declared.Kind.{Kind}
 use Rattle.gate_net.specs.declared.Kind.TheVariants.{Source, Zero, One, And, Or, Not}
 use Rattle.gate_net.specs.Net.{Node, Net, node_at, flatten_option, IsGateKind, IsWellFormed as IsNet}
-use Rattle.cover_decompose.proofs.Members.{In, in_append, in_left, in_map, among_in, in_among}
+use Rattle.cover_decompose.proofs.Public.{among_in, In, in_among, in_append, in_left, in_map}
 use Rattle.graph_to_model.specs.Names.{node_name}
 use Rattle.rm_model.specs.declared.parts.Literal.TheVariants.{One as One1}
 use Rattle.graph_to_model.specs.NetModel.{cover_with, gate_cover_of, gate_cover, gate_covers, onto, copy_cover, copy_covers}

@@ -15,7 +15,7 @@ use Rattle.rm_model.specs.declared.parts.Model.{Model}
 use Rattle.gate_net.specs.declared.Kind.{Kind}
 use Rattle.gate_net.specs.declared.Kind.TheVariants.{Source, Zero, One, And, Or, Not}
 use Rattle.gate_net.specs.Net.{Node, Net, node_at, Reads, IsGateKind, source_count}
-use Rattle.cover_decompose.proofs.Members.{In, in_append, in_left, in_right, in_map, in_at, among_in, all_pass_in}
+use Rattle.cover_decompose.proofs.Public.{all_pass_in, among_in, In, in_append, in_at, in_left, in_map, in_right}
 use Rattle.std.specs.Fmt.{decimal}
 use Rattle.graph_to_model.specs.Names.{free_prefix, node_name}
 use Rattle.graph_to_model.specs.NetModel.{cover_with, model_of_net}

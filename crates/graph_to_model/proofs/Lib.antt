@@ -14,3 +14,4 @@ pub mod Making
 pub mod SetLemmas
 pub mod Steps
 pub mod Small
+pub mod Public

@@ -10,7 +10,7 @@ use Rattle.rm_model.specs.Value.{is_among, source_names, observed_names}
 use Rattle.rm_model.specs.declared.parts.Cover.{Cover}
 use Rattle.rm_model.specs.declared.parts.Model.{Model}
 use Rattle.gate_net.specs.Net.{Node, Net, node_at, drivers_of, drivers_in, flatten_option, IsWellFormed as IsNet}
-use Rattle.gate_graph.proofs.Bounded.{live-below}
+use Rattle.gate_graph.proofs.Public.{live-below}
 use Rattle.graph_to_model.specs.Names.{kept_names, prefix, least_free, observed_name, node_name, free_prefix}
 use Rattle.graph_to_model.specs.NetModel.{gate_cover_of, gate_cover, gate_covers, onto, copy_cover, copy_covers, model_of_net}
 use Rattle.graph_to_model.specs.Making.{place_in, word_at, name_by, named, AreFirstPlaces, AreNames, cover_by, covers_by, copy_by, copies_by, all_by}

@@ -11,7 +11,7 @@ use Rattle.rm_model.specs.Words.{Word}
 use Rattle.rm_model.specs.Value.{source_names, observed_names}
 use Rattle.rm_model.specs.declared.parts.Model.{Model}
 use Rattle.gate_net.specs.Net.{Net}
-use Rattle.cover_decompose.proofs.Members.{In, in_at, in_left, in_right, any_in}
+use Rattle.cover_decompose.proofs.Public.{any_in, In, in_at, in_left, in_right}
 use Rattle.graph_to_model.specs.Names.{kept_names, free_prefix, observed_name, node_name}
 use Rattle.graph_to_model.specs.Fits.{Fits}
 use Rattle.graph_to_model.proofs.Prefixes.{prefix_is_free}

@@ -11,7 +11,7 @@ use Rattle.rm_model.specs.declared.parts.Model.{Model}
 use Rattle.gate_net.specs.declared.Kind.{Kind}
 use Rattle.gate_net.specs.declared.Kind.TheVariants.{Source, Zero, One}
 use Rattle.gate_net.specs.Net.{Node, Net, node_at, IsGateKind, plain_node, source_count}
-use Rattle.cover_decompose.proofs.Members.{In, in_left, in_right, in_map, in_mapped}
+use Rattle.cover_decompose.proofs.Public.{In, in_left, in_map, in_mapped, in_right}
 use Rattle.graph_to_model.specs.Names.{node_name}
 use Rattle.graph_to_model.specs.NetModel.{gate_covers, copy_covers, model_of_net}
 use Rattle.graph_to_model.proofs.Named.{gates_told, gate_not_source, some_told}

@@ -11,7 +11,7 @@ use Rattle.gate_net.specs.declared.Kind.{Kind}
 use Rattle.gate_net.specs.declared.Kind.TheVariants.{Source, Zero, One, And, Or, Not}
 use Rattle.gate_net.specs.Net.{Node, Net, node_at, Reads, IsGateKind}
 use Rattle.wire_edit.specs.Tests.{is_gate}
-use Rattle.cover_decompose.proofs.Members.{In, in_right, in_map, in_mapped, in_at, in_any, word_refl, word_same}
+use Rattle.cover_decompose.proofs.Public.{In, in_any, in_at, in_map, in_mapped, in_right, word_refl, word_same}
 use Rattle.graph_to_model.specs.Names.{node_name}
 use Rattle.graph_to_model.specs.NetModel.{model_of_net}
 use Rattle.graph_to_model.proofs.Named.{source_name, gates_told}

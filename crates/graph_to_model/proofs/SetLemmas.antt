@@ -5,8 +5,7 @@ use Rattle.std.specs.List.{list_any}
 use Rattle.std.proofs.lemmas.List.{take_more}
 use Rattle.rm_model.specs.Words.{Word, is_word}
 use Rattle.rm_model.specs.Value.{is_among}
-use Rattle.cover_decompose.proofs.Members.{word_same}
-use Rattle.cover_decompose.proofs.TableLemmas.{among-map}
+use Rattle.cover_decompose.proofs.Public.{among-map, word_same}
 
 pub among-push : (xs : List Word) (y x : Word) → is_among (xs ++ y ∷ []) x ≡ (is_among xs x || is_word x y)
 among-push [] y x = swap (is_word x y)

@@ -14,7 +14,7 @@ use Rattle.rm_model.specs.declared.parts.Model.{Model}
 use Rattle.gate_net.specs.declared.Kind.{Kind}
 use Rattle.gate_net.specs.declared.Kind.TheVariants.{Source, Zero, One, And, Or, Not}
 use Rattle.gate_net.specs.Net.{Net, wire_count, IsGateKind}
-use Rattle.cover_decompose.proofs.Members.{In, in_append, in_at, all_from, among_in}
+use Rattle.cover_decompose.proofs.Public.{all_from, among_in, In, in_append, in_at}
 use Rattle.graph_to_model.specs.Laws.{IsSmall, IsNamed}
 use Rattle.graph_to_model.specs.Names.{kept_names, least_free, observed_name, node_name, free_prefix}
 use Rattle.graph_to_model.specs.NetModel.{cover_with, copy_cover, copy_covers, model_of_net}

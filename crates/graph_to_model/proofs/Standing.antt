@@ -10,13 +10,13 @@ use Rattle.rm_model.specs.Value.{source_names, observed_names, value_of, IsConsi
 use Rattle.rm_model.specs.declared.parts.Literal.TheVariants.{One as One1}
 use Rattle.rm_model.specs.declared.parts.Cover.{Cover}
 use Rattle.rm_model.specs.declared.parts.Model.{Model}
+use Rattle.gate_net.proofs.Public.{along_pins}
 use Rattle.gate_net.specs.declared.Kind.{Kind}
 use Rattle.gate_net.specs.declared.Kind.TheVariants.{Source, Zero, One, And, Or, Not}
 use Rattle.gate_net.specs.Net.{Net, node_at, Reads, IsGateKind, plain_node, source_count}
 use Rattle.gate_net.specs.Values.{AreGoodValues, gate_value}
-use Rattle.gate_net.proofs.AlongPins.{along_pins}
+use Rattle.cover_decompose.proofs.Public.{In, in_append, in_left, in_map, in_right}
 use Rattle.cover_decompose.specs.StandsFor.{StandsFor, SameAssignment}
-use Rattle.cover_decompose.proofs.Members.{In, in_left, in_right, in_map, in_append}
 use Rattle.graph_to_model.specs.Names.{node_name}
 use Rattle.graph_to_model.specs.NetModel.{cover_with, copy_cover, model_of_net}
 use Rattle.graph_to_model.proofs.Named.{source_name, stands_on_gate, some_told}

@@ -7,8 +7,8 @@ use Rattle.rm_model.specs.Words.{Word}
 use Rattle.rm_model.specs.declared.parts.Cover.{Cover}
 use Rattle.gate_net.specs.declared.Kind.{Kind}
 use Rattle.gate_net.specs.Net.{Node, Net, node_at, drivers_of, drivers_in, kind_of, kind_in, flatten_option, IsLive, IsWellFormed as IsNet}
-use Rattle.gate_graph.proofs.Bounded.{live-below}
-use Rattle.wire_edit.proofs.Walks.{next_place}
+use Rattle.gate_graph.proofs.Public.{live-below}
+use Rattle.wire_edit.proofs.Public.{next_place}
 use Rattle.graph_to_model.specs.NetModel.{gate_cover_of, onto}
 use Rattle.graph_to_model.specs.Making.{named, cover_by, covers_by}
 use Rattle.graph_to_model.proofs.Lists.{next_in}

@@ -14,4 +14,4 @@ mod prefix;
 mod tests;
 
 pub use laws::{tidy_nets_have_models, tidy_nets_have_small_models, worked_rows};
-pub use net_model::{ModelRefusal, model_of};
+pub use net_model::{ModelRefusal, model_of, model_of_tidy};

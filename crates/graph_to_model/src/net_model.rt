@@ -96,10 +96,17 @@ fn covers_of(alloc: Global, graph: &Graph, original: &Model) -> Result<Listed<Co
     Ok(Listed::from_vec(covers))
 }
 
-fn made(alloc: Global, graph: &Graph, original: &Model) -> Result<Model, NoMemory>
-    requires { Fits (net_of graph.now) original.now }
-    ensures { IfOk result (λ m. m ≡ model_of_net original.now (net_of graph.now)) }
+/// The model of a net, with the names of the model that it was made of: its gates as covers by ascending number, and then
+/// copies and constants for the observed names that are left. Where the net is tidy it stands for that model
+/// (`tidy_nets_have_models`); nothing looks whether it is. It takes time linear in pins and names, but for the look-ups of
+/// names and the tries for a free prefix.
+pub fn model_of_tidy(alloc: Global, graph: &Graph, original: &Model) -> Result<Model, NoMemory>
+    requires formed { IsWellFormed original.now }
+    requires fits { Fits (net_of graph.now) original.now }
+    ensures model { IfOk result (λ m. m ≡ model_of_net original.now (net_of graph.now)) }
+    ensures few { AreFew (net_of graph.now) original.now }
 {
+    graph.well_formed();
     let name = copy_name(alloc, &original.name)?;
     let inputs = copy_names(alloc, original.inputs.items())?;
     let clocks = copy_names(alloc, original.clocks.items())?;
@@ -116,9 +123,7 @@ fn made(alloc: Global, graph: &Graph, original: &Model) -> Result<Model, NoMemor
     })
 }
 
-/// The model of a tidy net, with the names of the model that it was made of: its gates as covers by ascending number, and then copies and
-/// constants for the observed names that are left. It takes time linear in pins and names, but for the
-/// look-ups of names and the tries for a free prefix.
+/// The same of a net that may not be tidy, which is looked for first.
 pub fn model_of(alloc: Global, graph: &Graph, original: &Model) -> Result<Model, ModelRefusal>
     requires formed { IsWellFormed original.now }
     requires fits { Fits (net_of graph.now) original.now }
@@ -133,6 +138,6 @@ pub fn model_of(alloc: Global, graph: &Graph, original: &Model) -> Result<Model,
             node: gate_of(step),
         });
     }
-    let model = made(alloc, graph, original)?;
+    let model = model_of_tidy(alloc, graph, original)?;
     Ok(model)
 }

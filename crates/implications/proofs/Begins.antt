@@ -8,14 +8,13 @@ use Rattle.implications.specs.Beginning.{AreDoneAtFault, AreDoneOnChain, AreDone
 use Rattle.implications.specs.Settled.{HasFirst, IsDone, IsSettled, place_of}
 use Rattle.implications.specs.Working.{Keeps, Works}
 use Rattle.implications.proofs.Steps.{keeps_join, works_join}
-use Rattle.refutation.proofs.Closings.{with_there}
-use Rattle.refutation.proofs.Told.{kind_live}
-use Rattle.refutation.proofs.Walks.{Walks, walk_ends, walk_goes_on, walk_live, walk_short, walk_starts}
 use Rattle.refutation.specs.Answers.{GoesOnTo, IsAnswer}
 use Rattle.refutation.specs.Closing.{IsClashFree, IsClosedUnderLines, IsWithin}
 use Rattle.refutation.specs.FactSets.{Becomes, held_by}
 use Rattle.refutation.specs.Facts.{AreOpposed, Held, with_fact}
+use Rattle.refutation.proofs.Public.{kind_live, walk_ends, walk_goes_on, walk_live, walk_short, walk_starts, with_there}
 use Rattle.refutation.specs.Lines.{Concludes}
+use Rattle.refutation.specs.Walks.{Walks}
 use Rattle.refutation.specs.declared.held.NodeFacts.{NodeFacts}
 use Rattle.refutation.specs.declared.reasoning.Fact.{Fact}
 use Rattle.refutation.specs.declared.reasoning.Fact.TheVariants.{Differs}

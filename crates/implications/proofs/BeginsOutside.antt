@@ -6,7 +6,7 @@ use Rattle.std.proofs.lemmas.List.{length-set}
 use Rattle.std.specs.Option.{is_some, option_map}
 use Rattle.std.specs.Prelude.{IsTrue, slice_get, slice_set, ◌⊎◌}
 use mathlib.Core.Path.{fun_ext}
-use Rattle.gate_graph.proofs.Marking.{seen_kept, seen_new}
+use Rattle.gate_graph.proofs.Public.{seen_kept, seen_new}
 use Rattle.gate_graph.specs.Search.{IsSeen}
 use Rattle.gate_net.specs.Net.{IsGateKind, IsLive, IsWellFormed, Net, drivers_of, kind_of}
 use Rattle.gate_net.specs.Values.{HasPin}
@@ -18,12 +18,11 @@ use Rattle.implications.specs.Beginning.{node_of}
 use Rattle.implications.specs.Outside.{AppendsOutside, AreOutside, BeginsBelow, HoldsOutside, IsPinless, LeadToOutside, WritesBelow, line_item}
 use Rattle.implications.specs.Settled.{IsSettled}
 use Rattle.implications.specs.Working.{IsPending}
-use Rattle.refutation.proofs.Closings.{with_cases, with_more, with_there}
-use Rattle.refutation.proofs.Told.{gate_live, kind_is, kind_live}
 use Rattle.refutation.specs.Answers.{IsAnswer}
 use Rattle.refutation.specs.Closing.{LinesLead}
 use Rattle.refutation.specs.FactSets.{Becomes, held_by}
 use Rattle.refutation.specs.Facts.{Held, none_held, with_fact}
+use Rattle.refutation.proofs.Public.{gate_live, kind_is, kind_live, with_cases, with_more, with_there}
 use Rattle.refutation.specs.Lines.{Concludes}
 use Rattle.refutation.specs.declared.held.NodeFacts.{NodeFacts}
 use Rattle.refutation.specs.declared.items.Item.{Item}

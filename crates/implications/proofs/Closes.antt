@@ -19,12 +19,11 @@ use Rattle.implications.specs.Trail.{IsLonger}
 use Rattle.implications.specs.Working.{Closes, Ending, IsPending, Touches, Works}
 use Rattle.implications.specs.declared.outcome.Closed.{Closed}
 use Rattle.implications.specs.declared.outcome.Closed.TheVariants.{Clash, Open}
-use Rattle.refutation.proofs.Closings.{closed_has_all}
-use Rattle.refutation.proofs.Told.{kind_live}
 use Rattle.refutation.specs.Branches.{Branch, IsClosed, clash, items_of, line}
 use Rattle.refutation.specs.Closing.{Clashes, IsClashFree, IsClosedUnderLines, IsWithin, LinesLead}
 use Rattle.refutation.specs.FactSets.{Becomes, held_by, missing}
 use Rattle.refutation.specs.Facts.{AreOpposed, Held, known_good, none_held, one_of, with_fact}
+use Rattle.refutation.proofs.Public.{closed_has_all, kind_live}
 use Rattle.refutation.specs.declared.held.NodeFacts.{NodeFacts}
 use Rattle.refutation.specs.declared.items.Item.{Item}
 use Rattle.refutation.specs.declared.items.Item.TheVariants.{Clash as ClashItem, Line as LineItem}
@@ -111,10 +110,9 @@ pub leads_all : (net : Net) (fault : Fault) (first lines : List Line) (start aft
 leads_all net fault first lines start after to outside leads =
     leads_append net fault first lines none_held start after (to.leads start outside) leads
 
-pub closing_open : (net : Net) (fault : Fault) (start facts : List NodeFacts) (before lines : List Line) (o : Option NodeId) → AreOutside net fault (held_by start) → before ≡ [] → Works net fault start before facts lines → IsWithin (held_by start) (held_by facts) → length facts ≡ length start → length start ≡ length net.nodes → o ≡ None → Closes net fault facts o → IsOpen net fault lines facts
+pub closing_open : (net : Net) (fault : Fault) (start facts : List NodeFacts) (before lines : List Line) (o : Option NodeId) → AreOutside net fault (held_by start) → before ≡ [] → Works net fault start before facts lines → IsWithin (held_by start) (held_by facts) → length facts ≡ length start → length net.nodes ≤ length start → o ≡ None → Closes net fault facts o → IsOpen net fault lines facts
 closing_open net fault start facts before lines o outside none works within same size e closes =
-    let all : length net.nodes ≤ length start = omega (arith, size) in
-    let from = grown_open net fault start facts before lines o none works within same all e closes in
+    let from = grown_open net fault start facts before lines o none works within same size e closes in
     let has = closed_has_all net fault (held_by facts) from.0.closed from.0.free in
     let led = outside_led net fault (held_by start) outside in
     record {

@@ -11,9 +11,9 @@ use Rattle.implications.specs.Pulls.{IsEqualPull, IsPull}
 use Rattle.implications.specs.Tallies.{IsTally, counting, is_passing}
 use Rattle.implications.specs.declared.counts.Count.{Count}
 use Rattle.implications.specs.declared.tallies.Tally.{Tally}
-use Rattle.refutation.proofs.Grows.{all_not_any}
 use Rattle.refutation.specs.Closing.{IsClashFree}
 use Rattle.refutation.specs.Facts.{Held, known_equal, known_faulty, known_good, one_of}
+use Rattle.refutation.proofs.Public.{all_not_any}
 use Rattle.refutation.specs.declared.reasoning.Fact.TheVariants.{Differs, Equal, Faulty, Good}
 
 some_is : {A : Type 0} {a b : A} → Some a ≡ Some b → a ≡ b

@@ -2,7 +2,7 @@
 use Rattle.std.proofs.Common.{Bool, List, None, Option, Some, ap, arith, false, inl, inr, length, map, refl, subst, sym, true, ℕ, ◌<◌, ◌∙◌, ◌≡◌, ◌≢◌}
 use Rattle.std.proofs.lemmas.Bool.Decides.{eqb_tells}
 use Rattle.std.specs.Prelude.{slice_get, slice_set}
-use Rattle.gate_net.proofs.Places.{map_at}
+use Rattle.gate_net.proofs.Public.{map_at}
 use Rattle.gate_net.specs.Net.{Net, drivers_of}
 use Rattle.implications.proofs.Counting.{none_at, one_at}
 use Rattle.implications.proofs.GateLines.{equal_held, good_not}
@@ -12,10 +12,10 @@ use Rattle.implications.specs.Sides.{IsOpenSide, IsSide}
 use Rattle.implications.specs.Tallies.{IsTally, counting}
 use Rattle.implications.specs.declared.counts.Count.{Count}
 use Rattle.implications.specs.declared.tallies.Tally.{Tally}
-use Rattle.refutation.proofs.Told.{drivers_below}
 use Rattle.refutation.specs.Closing.{IsClashFree}
 use Rattle.refutation.specs.FactSets.{held_by}
 use Rattle.refutation.specs.Facts.{Held, known_faulty}
+use Rattle.refutation.proofs.Public.{drivers_below}
 use Rattle.refutation.specs.Pins.{pins_of, stuck_of}
 use Rattle.refutation.specs.declared.held.NodeFacts.{NodeFacts}
 use Rattle.refutation.specs.declared.pins.Aspect.TheVariants.{OfFaulty}

@@ -4,9 +4,8 @@ use Rattle.std.proofs.lemmas.Bool.{eq-eqb, eqb-true}
 use Rattle.std.proofs.lemmas.Option.{slice_get_within}
 use Rattle.std.specs.List.{list_all}
 use Rattle.std.specs.Prelude.{IsTrue, nat_eq, slice_get}
-use Rattle.gate_net.proofs.Bools.{bool_cases, never_opposite}
-use Rattle.gate_net.proofs.Places.{map_at}
 use Rattle.gate_net.specs.Forward.{is_known, junction_back, value_back, value_forward}
+use Rattle.gate_net.proofs.Public.{bool_cases, map_at, never_opposite}
 use Rattle.gate_net.specs.Net.{IsGate, IsGateKind, IsKind, IsWellFormed, Net, Node, Reads, drivers_of}
 use Rattle.gate_net.specs.Values.{IsJunction, controlling, faulty_reads}
 use Rattle.gate_net.specs.declared.Kind.{Kind}
@@ -19,13 +18,10 @@ use Rattle.implications.specs.declared.gate_lines.Pulled.{Pulled}
 use Rattle.implications.specs.declared.gate_lines.Pulled.TheVariants.{Gate as GateNode, Pin as PinNode}
 use Rattle.implications.specs.declared.pulls.Pull.{Pull}
 use Rattle.implications.specs.declared.pulls.Pull.TheVariants.{Gate, Pin}
-use Rattle.refutation.proofs.Depths.{junction_kind, known_held}
-use Rattle.refutation.proofs.Known.{one_of_true}
-use Rattle.refutation.proofs.Looks.{pin_at}
-use Rattle.refutation.proofs.Told.{faulty_pins}
 use Rattle.refutation.specs.Closing.{IsClashFree}
 use Rattle.refutation.specs.FactSets.{held_by}
 use Rattle.refutation.specs.Facts.{Held, known_equal, known_faulty, known_good, one_of}
+use Rattle.refutation.proofs.Public.{faulty_pins, junction_kind, known_held, one_of_true, pin_at}
 use Rattle.refutation.specs.Lines.{IsStuckPin}
 use Rattle.refutation.specs.Pins.{pin_value, pins_of, stuck_of, with_stuck}
 use Rattle.refutation.specs.declared.held.NodeFacts.{NodeFacts}

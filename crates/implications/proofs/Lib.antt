@@ -1,3 +1,4 @@
+pub mod Bases
 pub mod Begins
 pub mod BeginsOutside
 pub mod Closes
@@ -18,3 +19,4 @@ pub mod Steps
 pub mod Sweeps
 pub mod Touching
 pub mod Trails
+pub mod Public

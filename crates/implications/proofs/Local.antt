@@ -3,7 +3,7 @@ use Rattle.std.proofs.Common.{None, Some, ap, false, map, refl, subst, sym, true
 use Rattle.std.specs.List.{list_all}
 use Rattle.std.specs.Prelude.{IsTrue, if◌then◌else◌, nat_eq, slice_set}
 use Rattle.gate_net.specs.Forward.{all_but, is_known, value_back, value_forward}
-use Rattle.gate_net.proofs.Places.{map_agree}
+use Rattle.gate_net.proofs.Public.{map_agree}
 use Rattle.gate_net.specs.Net.{Net, Reads, drivers_of}
 use Rattle.gate_net.specs.Values.{faulty_reads}
 use Rattle.implications.specs.Settled.{AgreeAt, place_of}

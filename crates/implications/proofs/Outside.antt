@@ -16,10 +16,10 @@ use Rattle.implications.proofs.Places.{driver_live}
 use Rattle.implications.specs.Beginning.{AreDoneOutside, node_of}
 use Rattle.implications.specs.Outside.{AreOutside, IsPinless, OutsideIsSettled}
 use Rattle.implications.specs.Settled.{IsSettled, place_of}
-use Rattle.refutation.proofs.Known.{all_known, one_of_true}
 use Rattle.refutation.specs.FactSets.{held_by}
 use Rattle.refutation.specs.Facts.{AreOpposed, Held, known_equal, known_faulty, known_good, none_held}
 use Rattle.refutation.specs.Closing.{IsClashFree}
+use Rattle.refutation.proofs.Public.{all_known, one_of_true}
 use Rattle.refutation.specs.Lines.{Concludes}
 use Rattle.refutation.specs.declared.held.NodeFacts.{NodeFacts}
 use Rattle.refutation.specs.declared.reasoning.Fact.{Fact}

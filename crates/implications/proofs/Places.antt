@@ -3,9 +3,8 @@ use Rattle.std.proofs.Common.{None, Option, Some, length, refl, ℕ, ◌<◌, �
 use Rattle.gate_net.specs.Net.{IsLive, IsWellFormed, Net, Node, Reads, node_at}
 use Rattle.gate_net.specs.Values.{HasPin}
 use Rattle.implications.specs.Settled.{place_of}
-use Rattle.refutation.proofs.Told.{gate_live, kind_live, reader_live}
-use Rattle.refutation.proofs.Walks.{chain_live}
 use Rattle.refutation.specs.Facts.{Held}
+use Rattle.refutation.proofs.Public.{chain_live, gate_live, kind_live, reader_live}
 use Rattle.refutation.specs.Lines.{Concludes}
 use Rattle.refutation.specs.declared.reasoning.Fact.{Fact}
 use Rattle.refutation.specs.declared.reasoning.Line.{Line}

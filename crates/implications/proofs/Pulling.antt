@@ -3,16 +3,14 @@ use Rattle.std.proofs.Common.{Bool, List, None, Option, Some, [], arith, false, 
 use Rattle.std.proofs.lemmas.Bool.{eq-eqb}
 use Rattle.std.specs.List.{list_all, list_any}
 use Rattle.std.specs.Prelude.{IsTrue, if◌then◌else◌, slice_get}
-use Rattle.gate_net.proofs.Bools.{and_both, or_either, same_bool_not, same_bool_refl}
-use Rattle.gate_net.proofs.Follows.{is_known_true}
 use Rattle.gate_net.specs.Forward.{all_but, is_known, junction_back, junction_follows}
+use Rattle.gate_net.proofs.Public.{and_both, is_known_true, or_either, same_bool_not, same_bool_refl}
 use Rattle.gate_net.specs.Values.{same_bool}
 use Rattle.implications.specs.Pulls.{IsEqualPull, IsPull}
 use Rattle.implications.specs.declared.pulls.Pull.TheVariants.{Gate, Pin}
-use Rattle.refutation.proofs.Grows.{all_not_any, is_known_some}
-use Rattle.refutation.proofs.Looks.{glance_all, glance_many, glance_not_all, glance_one}
+use Rattle.refutation.proofs.Public.{all_not_any, glance_all, glance_many, glance_not_all, glance_one, is_known_some}
 use Rattle.refutation.specs.Pins.{FailsAt, Glances}
-use Rattle.refutation.specs.declared.pins.Glance.{Glance}
+use Rattle.gate_looks.specs.declared.pins.Glance.{Glance}
 use mathlib.Core.Bool.{beq}
 
 -- KNOWN VALUES

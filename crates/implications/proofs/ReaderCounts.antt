@@ -6,14 +6,12 @@ use Rattle.std.specs.Prelude.{nat_eq, slice_get, slice_set}
 use Rattle.gate_graph.specs.Circuit.{Circuit, fanouts_of, net_of}
 use Rattle.gate_graph.specs.Readers.{ListReaders}
 use Rattle.gate_graph.specs.Search.{IsSeen}
-use Rattle.gate_net.proofs.Places.{map_at}
+use Rattle.gate_net.proofs.Public.{map_at}
 use Rattle.gate_net.specs.Net.{drivers_of}
-use Rattle.refutation.proofs.Agendas.{count-clear, seen_left, seen_stays}
 use Rattle.implications.proofs.CountRises.{counting-append}
 use Rattle.refutation.specs.Agendas.{seen_count}
+use Rattle.refutation.proofs.Public.{count-clear, gate_in, map_found, seen_left, seen_stays}
 use Rattle.implications.specs.Tallies.{counting}
-use Rattle.refutation.proofs.OnlyReaders.{map_found}
-use Rattle.refutation.proofs.Readers.{gate_in}
 use Rattle.rm_base.specs.declared.numbers.NodeId.{NodeId}
 
 -- PLACES OF ONE GATE

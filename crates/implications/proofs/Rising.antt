@@ -3,9 +3,9 @@ use Rattle.std.proofs.Common.{Bool, List, Some, [], ap, arith, false, length, le
 use Rattle.std.proofs.lemmas.Bool.{eq-eqb, ne_eqb}
 use Rattle.std.proofs.lemmas.Bool.Decides.{eqb_tells}
 use Rattle.std.specs.Prelude.{nat_eq, slice_get, slice_set}
-use Rattle.gate_graph.proofs.Marking.{seen_cases}
+use Rattle.gate_graph.proofs.Public.{seen_cases}
 use Rattle.gate_graph.specs.Search.{IsSeen}
-use Rattle.gate_net.proofs.Places.{set_other}
+use Rattle.gate_net.proofs.Public.{set_other}
 use Rattle.gate_net.specs.Net.{Net, drivers_of}
 use Rattle.implications.proofs.Counting.{count_few}
 use Rattle.implications.proofs.CountRises.{ComesToPass, counted_more, counting-append, counting_rises, counting_room, risen_more, risen_none}
@@ -13,8 +13,8 @@ use Rattle.implications.specs.Rises.{CanRise, IsRaised, RaisesAt, comes_to_pass,
 use Rattle.implications.specs.Tallies.{AreTallied, IsTally, TallyState, counting, is_passing}
 use Rattle.implications.specs.declared.tallies.Rise.{Rise}
 use Rattle.implications.specs.declared.tallies.Tally.{Tally}
-use Rattle.refutation.proofs.Known.{same_fact_true}
 use Rattle.refutation.specs.Facts.{Held, same_fact, with_fact}
+use Rattle.refutation.proofs.Public.{same_fact_true}
 use Rattle.refutation.specs.declared.reasoning.Fact.{Fact}
 use Rattle.refutation.specs.declared.reasoning.Fact.TheVariants.{Differs, Equal, Faulty, Good}
 use Rattle.rm_base.specs.declared.numbers.NodeId.{NodeId}

@@ -6,10 +6,9 @@ use Rattle.std.proofs.lemmas.Bool.Decides.{eqb_tells}
 use Rattle.std.proofs.lemmas.List.{drop-append-le}
 use Rattle.std.specs.Prelude.{IsTrue, nat_eq, replicate, slice_set, ◌↔◌}
 use mathlib.Core.Path.{fun_ext}
-use Rattle.gate_graph.proofs.Searches.{none_seen}
+use Rattle.gate_graph.proofs.Public.{none_seen}
 use Rattle.gate_graph.specs.Search.{IsSeen}
 use Rattle.gate_net.specs.Net.{Net, Reads, drivers_of}
-use Rattle.refutation.proofs.Agendas.{count_within, seen_stays}
 use Rattle.implications.proofs.Local.{line_local}
 use Rattle.implications.proofs.Trails.{trail_tells, without-append}
 use Rattle.refutation.specs.Agendas.{seen_count}
@@ -18,13 +17,10 @@ use Rattle.implications.specs.Tallies.{AreTallied, TallyState}
 use Rattle.implications.specs.Trail.{AreAdded, LeadsBack, without_all}
 use Rattle.implications.specs.Working.{Holds, IsPending, IsPendingBut, Keeps, Outcome, Settling, Stops, Sweeps, Touches, Works, work}
 use Rattle.implications.specs.declared.found.Found.{Found}
-use Rattle.refutation.proofs.Closings.{with_more}
-use Rattle.refutation.proofs.Depths.{find}
-use Rattle.refutation.proofs.Known.{same_fact_true}
-use Rattle.refutation.proofs.Told.{kind_live}
 use Rattle.refutation.specs.Closing.{IsClashFree, IsWithin, LinesLead}
 use Rattle.refutation.specs.FactSets.{Becomes, held_by, missing}
 use Rattle.refutation.specs.Facts.{AreOpposed, Held, same_fact, with_fact, without_fact}
+use Rattle.refutation.proofs.Public.{count_within, find, kind_live, same_fact_true, seen_stays, with_more}
 use Rattle.refutation.specs.Lines.{Concludes}
 use Rattle.refutation.specs.declared.held.NodeFacts.{NodeFacts}
 use Rattle.refutation.specs.declared.reasoning.Fact.{Fact}

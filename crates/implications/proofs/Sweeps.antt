@@ -1,16 +1,16 @@
 -- What follows at one pin of an And or an Or.
 use Rattle.std.proofs.Common.{Bool, List, None, Some, ap, arith, false, length, not, ℕ, ◌<◌, ◌∙◌, ◌≡◌}
-use Rattle.gate_net.proofs.Places.{map_at}
+use Rattle.gate_net.proofs.Public.{map_at}
 use Rattle.gate_net.specs.Net.{Net, Reads, drivers_of}
 use Rattle.gate_net.specs.Values.{IsJunction}
 use Rattle.implications.proofs.GateLines.{faulty_pin, good_pin, pin_read, side_fresh}
 use Rattle.implications.proofs.Pulling.{back_other}
 use Rattle.implications.specs.Settled.{IsFresh, IsReady}
 use Rattle.implications.specs.Sides.{IsOpenSide}
-use Rattle.refutation.proofs.Told.{drivers_below, kind_live}
 use Rattle.refutation.specs.Closing.{IsClashFree}
 use Rattle.refutation.specs.FactSets.{held_by}
 use Rattle.refutation.specs.Facts.{known_equal, known_faulty, known_good}
+use Rattle.refutation.proofs.Public.{drivers_below, kind_live}
 use Rattle.refutation.specs.Lines.{IsStuckPin}
 use Rattle.refutation.specs.Pins.{pins_of, stuck_of}
 use Rattle.refutation.specs.declared.held.NodeFacts.{NodeFacts}

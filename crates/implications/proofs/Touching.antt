@@ -8,9 +8,9 @@ use Rattle.implications.proofs.Steps.{pending_more}
 use Rattle.implications.specs.Beginning.{StaysPending}
 use Rattle.implications.specs.Settled.{IsFresh}
 use Rattle.implications.specs.Working.{Touches}
-use Rattle.refutation.proofs.Told.{kind_live}
 use Rattle.refutation.specs.FactSets.{Becomes, held_by}
 use Rattle.refutation.specs.Facts.{with_fact}
+use Rattle.refutation.proofs.Public.{kind_live}
 use Rattle.refutation.specs.Lines.{Concludes}
 use Rattle.refutation.specs.declared.held.NodeFacts.{NodeFacts}
 use Rattle.refutation.specs.declared.reasoning.Fact.{Fact}

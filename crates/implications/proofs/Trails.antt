@@ -7,10 +7,9 @@ use Rattle.std.specs.Prelude.{nat_eq}
 use mathlib.Core.Path.{fun_ext}
 use Rattle.implications.specs.Laws.{TrailTells}
 use Rattle.implications.specs.Trail.{IsAmong, LeadsBack, TakesBack, without_all}
-use Rattle.refutation.proofs.Closings.{same_fact_refl}
-use Rattle.refutation.proofs.Known.{same_fact_true}
 use Rattle.refutation.specs.FactSets.{Becomes, held_by, is_marked}
 use Rattle.refutation.specs.Facts.{Held, same_fact, without_fact}
+use Rattle.refutation.proofs.Public.{same_fact_refl, same_fact_true}
 use Rattle.refutation.specs.declared.held.NodeFacts.{NodeFacts}
 use Rattle.refutation.specs.declared.reasoning.Fact.{Fact}
 use Rattle.refutation.specs.declared.reasoning.Fact.TheVariants.{Differs, Equal, Faulty, Good}

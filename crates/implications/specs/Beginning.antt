@@ -4,10 +4,10 @@ use Rattle.gate_net.specs.Net.{Net}
 use Rattle.implications.specs.Settled.{IsDone}
 use Rattle.implications.specs.Tallies.{AreTallied, TallyState}
 use Rattle.implications.specs.Working.{IsPending, Keeps, Works}
-use Rattle.refutation.proofs.Walks.{Walks}
 use Rattle.refutation.specs.Closing.{IsClashFree}
 use Rattle.refutation.specs.FactSets.{held_by}
 use Rattle.refutation.specs.Facts.{AreOpposed}
+use Rattle.refutation.specs.Walks.{Walks}
 use Rattle.refutation.specs.declared.held.NodeFacts.{NodeFacts}
 use Rattle.refutation.specs.declared.reasoning.Fact.{Fact}
 use Rattle.refutation.specs.declared.reasoning.Line.{Line}

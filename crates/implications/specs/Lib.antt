@@ -11,3 +11,4 @@ pub mod Sides
 pub mod Tallies
 pub mod Counts
 pub mod Rises
+pub mod Bases

@@ -19,7 +19,7 @@ use rm_base::{Fault, NoMemory, NodeId};
 use std::alloc::Global;
 
 // Whether the node is a gate without pins.
-fn is_pinless(graph: &Graph, node: NodeId) -> bool
+pub(crate) fn is_pinless(graph: &Graph, node: NodeId) -> bool
     ensures { IsTrue result ↔ IsPinless (net_of graph.now) node.0 }
 {
     let Some(kind) = graph.kind(node) else {

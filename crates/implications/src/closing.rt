@@ -29,9 +29,9 @@ use refutation::{Fact, FactSet, Item, Line, Tree, TreeBuilder};
 use rm_base::{Fault, NoMemory, NodeId};
 use std::alloc::Global;
 
-// Adds all to which lines lead, or up to a clash, whose node is given; what isn't reached is held already, and each node
-// is on the agenda or settled. The stuck pin's driver comes last here, and so its readers first on the agenda.
-fn add_all_lines(
+/// Adds all to which lines lead, or up to a clash, whose node is given; what isn't reached is held already, and each node
+/// is on the agenda or settled. The stuck pin's driver comes last here, and so its readers first on the agenda.
+pub(crate) fn add_all_lines(
     graph: &Graph,
     fault: &Fault,
     facts: &mut FactSet,

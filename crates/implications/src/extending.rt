@@ -31,7 +31,7 @@ fn take_away(facts: &mut FactSet, node: NodeId, fact: Fact)
 }
 
 // Takes facts off the end of the trail, and out of the facts held, until it is that long.
-fn take_off(trail: &mut Vec<(NodeId, Fact)>, facts: &mut FactSet, mark: usize)
+pub(crate) fn take_off(trail: &mut Vec<(NodeId, Fact)>, facts: &mut FactSet, mark: usize)
     requires { mark ≤ length trail.old.items }
     ensures back { TakesBack trail.old.items facts.old trail.new.items facts.new }
     ensures long { length trail.new.items ≡ mark }

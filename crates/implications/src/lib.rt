@@ -1,6 +1,7 @@
 //! The engine that closes a set of facts under every line of reasoning about a fault, exactly.
 #![tactic(auto)]
 
+pub mod basis;
 mod beginning;
 mod blocked_pin;
 mod closing;
@@ -13,6 +14,7 @@ mod gate_lines;
 pub mod laws;
 mod log;
 mod next_line;
+mod opening;
 mod outcome;
 mod pin_line;
 mod pulls;

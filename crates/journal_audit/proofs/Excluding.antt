@@ -9,6 +9,7 @@ use Rattle.gate_net.specs.Net.{Net}
 use Rattle.blif_format.specs.Text.{text_of}
 use Rattle.cover_decompose.specs.Decomposition.{net_of_model}
 use Rattle.graph_to_model.specs.NetModel.{model_of_net}
+use Rattle.journal_text.proofs.Public.{lines_before}
 use Rattle.journal_text.specs.declared.record.Record.{Record}
 use Rattle.journal_text.specs.declared.record.Entry.{Entry}
 use Rattle.journal_text.specs.declared.record.Entry.TheVariants as entry
@@ -17,7 +18,6 @@ use Rattle.journal_text.specs.Faults.{IsJournal, opening, whole_lines}
 use Rattle.journal_text.specs.Laws.{LinesRead}
 use Rattle.journal_text.specs.Reading.{entry_of}
 use Rattle.journal_text.specs.Text.{AreEntries, IsEntry, entries_text, entry_line, journal_entries}
-use Rattle.journal_text.proofs.FaultLaws.{lines_before}
 use Rattle.journal_check.specs.Laws.{RecordsReplay, ReplaysAccept}
 use Rattle.journal_check.specs.Replaying.{Replays, editing}
 use Rattle.journal_check.specs.declared.refusal.JournalRefusal.{JournalRefusal}

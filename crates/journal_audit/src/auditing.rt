@@ -11,7 +11,6 @@ ghost use Rattle.gate_graph.specs.Circuit.{net_of};
 ghost use Rattle.graph_to_model.specs.Fits.{Fits};
 ghost use Rattle.graph_to_model.specs.Laws.{AreFew};
 ghost use Rattle.graph_to_model.specs.NetModel.{model_of_net};
-ghost use Rattle.wire_edit.specs.Order.{IsTidy};
 ghost use Rattle.journal_audit.specs.Audited.{ComparedSays, IsOfOutput, IsPassed, IsPlain, IsProblem};
 ghost use Rattle.journal_audit.specs.Turns.{IsLast};
 
@@ -20,25 +19,22 @@ use crate::problem::AuditProblem;
 use crate::reading::journal_net;
 use blif_writer::write_model;
 use gate_graph::Graph;
-use graph_to_model::{ModelRefusal, model_of};
+use graph_to_model::model_of_tidy;
 use journal_check::accepted_stand;
 use rm_base::{NoMemory, Shelf};
-use rm_model::Model;
+use rm_model::RankedModel;
 use std::alloc::Global;
 
 // The text of the model of the last net.
-fn text_of(alloc: Global, graph: &Graph, model: &Model) -> Result<Vec<u8>, NoMemory>
+fn text_of(alloc: Global, graph: &Graph, model: &RankedModel) -> Result<Vec<u8>, NoMemory>
     requires formed { IsWellFormed model.now }
     requires fits { Fits (net_of graph.now) model.now }
-    requires tidy { IsTidy (net_of graph.now) }
     ensures text { IfOk result (λ text. text.items ≡ model_text (model_of_net model.now (net_of graph.now))) }
     ensures few { OnOk result (AreFew (net_of graph.now) model.now) }
 {
-    match model_of(alloc, graph, model) {
-        Ok(made) => write_model(alloc, &made),
-        Err(ModelRefusal::NotTidy { node: _ }) => unreachable!(),
-        Err(ModelRefusal::NoMemory) => Err(NoMemory),
-    }
+    let made = model_of_tidy(alloc, graph, model.model())?;
+    let text = write_model(alloc, &made)?;
+    Ok(text)
 }
 
 // Whether the output is the text.
@@ -61,7 +57,7 @@ fn compared<S: Shelf>(shelf: &mut S, output: &str, text: &[u8]) -> Result<(), Au
 pub fn audit<S: Shelf>(
     alloc: Global,
     shelf: &mut S,
-    model: &Model,
+    model: &RankedModel,
     journal: &str,
     output: &str,
 ) -> Result<u64, AuditProblem>

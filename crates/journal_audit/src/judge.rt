@@ -22,7 +22,7 @@ use crate::stage::Stage;
 use cover_decompose::DecomposeRefusal;
 use journal_check::{JournalRefusal, Replay, Why, records_replay, replays_accept};
 use journal_text::{Entry, JournalFault, JournalReader, Record, cuts_agree};
-use rm_model::Model;
+use rm_model::RankedModel;
 use std::alloc::Global;
 
 // A refusal, or want of memory.
@@ -55,7 +55,7 @@ fn fault_problem(fault: JournalFault) -> AuditProblem
 }
 
 // The replay begins at the decomposition of the model.
-fn begun(alloc: Global, model: &Model, budget: u32) -> Result<Stage, AuditProblem>
+fn begun(alloc: Global, model: &RankedModel, budget: u32) -> Result<Stage, AuditProblem>
     requires formed { IsWellFormed model.now }
     requires ranked { first_without_rank model.now ≡ None }
     requires covers { length model.now.covers < 2 ^ 32 }
@@ -102,7 +102,12 @@ fn ended(replay: Replay, count: u64) -> Result<Stage, AuditProblem>
 }
 
 // One more entry.
-fn taken(alloc: Global, model: &Model, stage: Stage, entry: &Entry) -> Result<Stage, AuditProblem>
+fn taken(
+    alloc: Global,
+    model: &RankedModel,
+    stage: Stage,
+    entry: &Entry,
+) -> Result<Stage, AuditProblem>
     requires formed { IsWellFormed model.now }
     requires ranked { first_without_rank model.now ≡ None }
     requires covers { length model.now.covers < 2 ^ 32 }
@@ -131,7 +136,7 @@ fn taken(alloc: Global, model: &Model, stage: Stage, entry: &Entry) -> Result<St
 /// Judges all entries whose lines are whole.
 pub(crate) fn judged(
     alloc: Global,
-    model: &Model,
+    model: &RankedModel,
     reader: &mut JournalReader,
     stage: Stage,
 ) -> Result<Stage, AuditProblem>

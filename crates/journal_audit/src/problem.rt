@@ -6,6 +6,8 @@ ghost use Rattle.journal_audit.specs.declared.problem.AuditProblem.TheVariants.{
 use journal_check::JournalRefusal;
 use journal_text::JournalFault;
 use rm_base::{NoMemory, OutsideFault};
+use std::error::Error;
+use std::fmt;
 
 /// Why an audit isn't passed. Neither `Text` nor `Refused` carries want of memory.
 #[derive(Clone, Copy, Debug, PartialEq, Eq)]
@@ -26,6 +28,23 @@ pub enum AuditProblem {
     Netlist { byte: u64 },
     NoMemory,
 }
+
+impl fmt::Display for AuditProblem {
+    fn fmt<W: fmt::Write>(&self, f: &mut fmt::Formatter<W>) -> fmt::Result {
+        match self {
+            AuditProblem::Fault => f.write_str("a file couldn't be read"),
+            AuditProblem::NoJournal => f.write_str("there is no journal"),
+            AuditProblem::NoOutput => f.write_str("there is no output"),
+            AuditProblem::TooLong => f.write_str("the journal is too long"),
+            AuditProblem::Text { fault } => write!(f, "journal, {fault}"),
+            AuditProblem::Refused { refusal } => write!(f, "journal, {refusal}"),
+            AuditProblem::Netlist { byte } => write!(f, "the output differs at byte {byte}"),
+            AuditProblem::NoMemory => f.write_str("out of memory"),
+        }
+    }
+}
+
+impl Error for AuditProblem {}
 
 impl From<OutsideFault> for AuditProblem {
     ghost from_gives = { λ e p. p ≡ outside_problem e };

@@ -22,7 +22,7 @@ use crate::stage::Stage;
 use gate_graph::Graph;
 use journal_text::{JournalReader, cuts_agree};
 use rm_base::{NoMemory, Shelf};
-use rm_model::Model;
+use rm_model::RankedModel;
 use std::alloc::Global;
 
 const PIECE: usize = 65_536;
@@ -105,7 +105,7 @@ fn too_long() -> Result<Turn, AuditProblem>
 // One more piece of the journal, which begins at that place and is empty at the journal's end.
 fn turned(
     alloc: Global,
-    model: &Model,
+    model: &RankedModel,
     reader: &mut JournalReader,
     stage: Stage,
     from: u64,
@@ -143,7 +143,7 @@ fn turned(
 pub(crate) fn journal_net<S: Shelf>(
     alloc: Global,
     shelf: &mut S,
-    model: &Model,
+    model: &RankedModel,
     journal: &str,
 ) -> Result<(Graph, u64), AuditProblem>
     requires formed { IsWellFormed model.now }

@@ -53,13 +53,13 @@ fn audited(alloc: Global, input: &str, shelf: &mut MemoryShelf) -> Result<Answer
     let Ok(model) = read_model(alloc, input.as_bytes()) else {
         return Err("no model".into());
     };
-    if !is_well_formed(alloc, &model)? {
+    if !is_well_formed(alloc, model.model())? {
         return Err("not well formed".into());
     }
-    if !is_small(alloc, &model)? {
+    if !is_small(alloc, model.model())? {
         return Err("too large".into());
     }
-    let Ok(_ranks) = rank(alloc, &model) else {
+    let Ok(_ranks) = rank(alloc, model.model()) else {
         return Err("no rank".into());
     };
     let Ok(_graph) = decompose(alloc, &model) else {

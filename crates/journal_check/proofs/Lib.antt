@@ -10,4 +10,3 @@ pub mod OutcomeLaws
 pub mod FollowLaws
 pub mod WithinLaws
 pub mod DecompositionLaws
-pub mod RankLaws

@@ -67,11 +67,13 @@ room_left room (step.Dead gate) left p n t = (omega (arith, p), (omega (arith, n
 
 -- an accepted step is kept, and the trial goes on
 pub settled_ready : (t u v : Tried) (left : ℕ) (s : Step) (tree : List Item) → IsWellFormed (net_of t.graph) → IsReady t left → IsAcceptedStep (net_of t.graph) s tree
-    → HoldsOn t.graph u.graph t.trail.entries u.trail.entries → u.room ≡ room_after t.room s → net_of v.graph ≡ stepped (net_of t.graph) s → v.trail.entries ≡ [] → v.room ≡ u.room
+    → HoldsOn t.graph u.graph t.trail.entries u.trail.entries → u.room ≡ room_after t.room s → u.first ≡ t.first → net_of v.graph ≡ stepped (net_of t.graph) s → v.trail.entries ≡ [] → v.steps ≡ [] → v.room ≡ record u.room { steps = u.first.steps } → v.first ≡ v.room
     → pins_held v.graph + length (held u.trail.entries) ≡ pins_held u.graph → IsReady v (left - 1)
-settled_ready t u v left s tree well r accepted h room net entries same back =
+settled_ready t u v left s tree well r accepted h room first net entries none_made same starts back =
     let none : length (held t.trail.entries) ≡ 0 = no_pins_held t.trail.entries r.entries in
-    let after : v.room ≡ room_after t.room s = same ∙ room in
+    let pins : v.room.pins ≡ (room_after t.room s).pins = ap (λ (x : Room). x.pins) same ∙ ap (λ (x : Room). x.pins) room in
+    let nodes : v.room.nodes ≡ (room_after t.room s).nodes = ap (λ (x : Room). x.nodes) same ∙ ap (λ (x : Room). x.nodes) room in
+    let steps : v.room.steps ≡ t.first.steps = ap (λ (x : Room). x.steps) same ∙ ap (λ (x : Room). x.steps) first in
     let rooms = room_left t.room s left r.pins r.nodes r.steps in
     record {
       entries = entries;
@@ -79,17 +81,12 @@ settled_ready t u v left s tree well r accepted h room net entries same back =
         held = omega (arith, none, h, back, r.idle.held);
         within = subst IsWithin (sym net) (stays_within (net_of t.graph) s well accepted.applies accepted.grows r.idle.within);
       };
-      pins = subst (λ (x : Room). left - 1 ≤ x.pins) (sym after) rooms.0;
-      nodes = subst (λ (x : Room). left - 1 ≤ x.nodes) (sym after) rooms.1.0;
-      steps = subst (λ (x : Room). left - 1 ≤ x.steps) (sym after) rooms.1.1;
+      none_made = none_made;
+      pins = omega (arith, pins, rooms.0);
+      nodes = omega (arith, nodes, rooms.1.0);
+      steps = omega (arith, steps, r.first_steps);
+      first_steps = omega (arith, steps, r.first_steps, ap (λ (x : Room). x.steps) starts);
     }
-
--- a trial that is committed leaves its graph idle
-pub committed_idle : (t : Tried) (g : Circuit) (left : ℕ) → IsReady t left → net_of g ≡ net_of t.graph → pins_held g + length (held t.trail.entries) ≡ pins_held t.graph → IsIdle g
-committed_idle t g left r net back = record {
-  held = omega (arith, back, r.idle.held);
-  within = subst IsWithin (sym net) r.idle.within;
-}
 
 -- numbers suffice for that much room
 pub room_pins : (g : Circuit) (left : ℕ) → IsIdle g → wire_count (net_of g) + length (net_of g).observed + pins_held g ≡ pins_taken g → left ≤ 536870912 → pins_taken g + left ≤ 4294967295

@@ -9,14 +9,12 @@ use Rattle.gate_net.specs.Net.{Node, Net, IsGate, IsWellFormed, count_in, driver
 use Rattle.gate_net.specs.Edits.{constant_node, node_redirected, redirected, with_drivers, without}
 use Rattle.gate_net.specs.Values.{IsJunction, same_bool}
 use Rattle.wire_edit.specs.Changes.{Change, append, remove, fix, readers, new_not, retire, changed, CanChange}
+use Rattle.wire_edit.proofs.Public.{applies_changes, live_within, total_gone, total_least, total_map, total_with}
 use Rattle.wire_edit.specs.Refusals.{ceiling, live_count}
 use Rattle.wire_edit.specs.Steps.{Applies, change_of, constant_change, stepped}
 use Rattle.wire_edit.specs.Tests.{constant_at, control_of, live_in}
 use Rattle.wire_edit.specs.declared.steps.Step.{Step}
 use Rattle.wire_edit.specs.declared.steps.Step.TheVariants as step
-use Rattle.wire_edit.proofs.Conditions.{applies_changes}
-use Rattle.wire_edit.proofs.Totals.{total_gone, total_least, total_map, total_with}
-use Rattle.wire_edit.proofs.Totalling.{live_within}
 use Rattle.journal_text.specs.Accepted.{MayGrow}
 use Rattle.journal_check.specs.Within.{IsWithin, more_pins}
 

@@ -44,10 +44,12 @@ pub record IsIdle (g : Circuit) : Type 0 where
 -- the steps so far are kept for good, and there is room for so many more
 pub record IsReady (t : Tried) (left : ℕ) : Type 0 where
   pub entries : t.trail.entries ≡ []
+  pub none_made : t.steps ≡ []
   pub idle : IsIdle t.graph
   pub pins : left ≤ t.room.pins
   pub nodes : left ≤ t.room.nodes
   pub steps : left ≤ t.room.steps
+  pub first_steps : left ≤ t.first.steps
 
 abbrev pub IsBench : Bench → Type 0
 IsBench (Idle g) = IsIdle g

@@ -11,7 +11,8 @@ use Rattle.refutation_check.specs.FirstRefusal.{IsAcceptedAs, IsFirstRefusal}
 use Rattle.refutation_check.specs.declared.refusals.CheckRefusal.{CheckRefusal}
 use Rattle.refutation_check.specs.declared.refusals.CheckRefusal.TheVariants as check
 use Rattle.gate_net.specs.declared.Kind.{Kind}
-use Rattle.gate_net.specs.declared.Kind.TheVariants as kind
+use Rattle.gate_net.specs.Meaning.{controlling}
+use Rattle.std.specs.Option.{option_map}
 use Rattle.wire_edit.specs.declared.steps.Step.{Step}
 use Rattle.wire_edit.specs.declared.steps.Step.TheVariants as step
 use Rattle.wire_edit.specs.declared.room.Room.{Room}
@@ -173,9 +174,8 @@ why_of r = why.Tree r
 
 -- the value that doesn't control a kind
 abbrev pub noncontrolling : Option Kind → Option Bool
-noncontrolling (Some kind.And) = Some true
-noncontrolling (Some kind.Or) = Some false
-noncontrolling _ = None
+noncontrolling None = None
+noncontrolling (Some kind) = option_map not (controlling kind)
 
 -- a local step has no tree
 abbrev pub IsStepTree : Step → List Item → Type 0

@@ -77,11 +77,7 @@ pub(crate) fn fix_says(
 fn noncontrolling(kind: Option<Kind>) -> Option<bool>
     ensures { result ≡ noncontrolling kind }
 {
-    match kind {
-        Some(Kind::And) => Some(true),
-        Some(Kind::Or) => Some(false),
-        Some(Kind::Source) | Some(Kind::Zero) | Some(Kind::One) | Some(Kind::Not) | None => None,
-    }
+    kind?.noncontrolling_value()
 }
 
 /// The fault of the pin that a step adds: at the value that doesn't control its gate.

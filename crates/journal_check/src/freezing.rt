@@ -13,7 +13,7 @@ use journal_text::Record;
 use refutation_check::TreeChecker;
 use rm_base::{NoMemory, NodeId};
 use std::alloc::Global;
-use wire_edit::{Step, first_rule};
+use wire_edit::{Seen, Step, first_rule_by};
 
 // The gate at which a step is made.
 fn gate_of(step: Step) -> NodeId
@@ -37,7 +37,10 @@ fn gate_of(step: Step) -> NodeId
 fn settling_of(alloc: Global, graph: &Graph) -> Result<Settling, Why>
     ensures { Freezes (net_of graph.now) result }
 {
-    if let Some(step) = first_rule(graph) {
+    let Ok(mut seen) = Seen::new(alloc, graph.node_bound()) else {
+        return Err(Why::NoMemory);
+    };
+    if let Some(step) = first_rule_by(graph, &mut seen) {
         return Err(Why::NotTidy {
             node: gate_of(step),
         });

@@ -20,7 +20,7 @@ use cover_decompose::{DecomposeRefusal, decompose, decompositions_stand};
 use gate_graph::Graph;
 use journal_text::Record;
 use refutation_check::TreeChecker;
-use rm_model::Model as Netlist;
+use rm_model::RankedModel;
 use std::alloc::Global;
 use std::marker::Model;
 
@@ -71,7 +71,7 @@ fn taken(
 
 impl Replay {
     /// Before the first record, at the decomposition of the model.
-    pub fn new(alloc: Global, model: &Netlist, budget: u32) -> Result<Replay, DecomposeRefusal>
+    pub fn new(alloc: Global, model: &RankedModel, budget: u32) -> Result<Replay, DecomposeRefusal>
         requires formed { IsWellFormed model.now }
         requires ranked { first_without_rank model.now ≡ None }
         requires covers { length model.now.covers < 2 ^ 32 }

@@ -1,7 +1,5 @@
 //! Journals against what is worked out by hand.
-ghost use Rattle.std.specs.Prelude.{◌≡◌, ◌<◌, ◌^◌, None, length, true};
-ghost use Rattle.rm_model.specs.Ranks.{first_without_rank};
-ghost use Rattle.rm_model.specs.WellFormed.{IsWellFormed};
+ghost use Rattle.std.specs.Prelude.{◌≡◌, true};
 ghost use Rattle.journal_check.specs.Replaying.{IsLocalTree, IsStepTree};
 
 mod nets;
@@ -13,7 +11,7 @@ use crate::{JournalRefusal, Replay, replay};
 use cover_decompose::{decompose, is_small, wires_are_bounded};
 use journal_text::{Record, read_journal};
 use refutation::Tree;
-use rm_model::{Model, is_well_formed, rank};
+use rm_model::{RankedModel, is_well_formed};
 use std::alloc::Global;
 use std::test::Fail;
 use wire_edit::Step;
@@ -60,41 +58,31 @@ fn is_local(given: &Record) -> bool
     }
 }
 
-// One more record. After a refusal it asks again.
-fn stepped(replay: &mut Replay, given: &Record) -> Result<(), JournalRefusal> {
+// One more record, and whether it is refused. After a refusal it asks again.
+fn is_refused(replay: &mut Replay, given: &Record) -> Result<bool, Fail> {
     if !is_local(given) {
-        return Ok(());
+        return Err("a tree where none may be".into());
     }
     if let Err(_refusal) = replay.step(given) {
-        return replay.step(given);
+        return match replay.step(given) {
+            Ok(()) => Err("accepted after a refusal".into()),
+            Err(_again) => Ok(true),
+        };
     }
-    Ok(())
+    Ok(false)
 }
 
 // All records, and then the end. After a refusal the end is asked.
-fn replayed(replay: Replay, records: &[Record]) -> Result<(), JournalRefusal> {
+fn replayed(replay: Replay, records: &[Record]) -> Result<Result<(), JournalRefusal>, Fail> {
     let mut replay = replay;
     for given in records {
-        if let Err(_refusal) = stepped(&mut replay, given) {
+        if is_refused(&mut replay, given)? {
             break;
         }
     }
     match replay.finish() {
-        Ok(_graph) => Ok(()),
-        Err(refusal) => Err(refusal),
-    }
-}
-
-// Whether each cover has a rank.
-#[tactic(auto, using(crate::proofs::RankLaws::all_ranked))]
-fn has_ranks(alloc: Global, model: &Model) -> bool
-    requires formed { IsWellFormed model.now }
-    requires covers { length model.now.covers < 2 ^ 32 }
-    ensures { result ≡ true → first_without_rank model.now ≡ None }
-{
-    match rank(alloc, model) {
-        Ok(_ranks) => true,
-        Err(_fault) => false,
+        Ok(_graph) => Ok(Ok(())),
+        Err(refusal) => Ok(Err(refusal)),
     }
 }
 
@@ -113,9 +101,12 @@ fn answered(
     if !is_small(alloc, &model)? {
         return Err("too large".into());
     }
-    if !has_ranks(alloc, &model) {
-        return Err("no ranks".into());
+    if model.covers.len() > 1_000_000 {
+        return Err("too many covers".into());
     }
+    let Ok(model) = RankedModel::new(alloc, model) else {
+        return Err("no ranks".into());
+    };
     let Ok(_graph) = decompose(alloc, &model) else {
         return Err("too many pins".into());
     };
@@ -128,7 +119,7 @@ fn answered(
     let Ok(begun) = Replay::new(alloc, &model, budget) else {
         return Err("no replay".into());
     };
-    Ok(replayed(begun, records))
+    replayed(begun, records)
 }
 
 // What a journal over the net is answered, in words.

@@ -1,5 +1,5 @@
 // Steps made in a trial that is kept over many records.
-ghost use Rattle.std.specs.Prelude.{◌≡◌, ◌<◌, ℕ, IfErr, IfOk};
+ghost use Rattle.std.specs.Prelude.{◌≡◌, ◌<◌, ◌≤◌, ℕ, IfErr, IfOk, OnErr};
 ghost use Rattle.gate_graph.specs.Circuit.{net_of};
 ghost use Rattle.journal_text.specs.declared.record.Record.TheVariants as kept;
 ghost use Rattle.journal_check.specs.Benches.{IsBench, IsEditing, IsIdle, IsReady, RecordSays, net_in, position_of};
@@ -11,12 +11,32 @@ use crate::refusal::Why;
 use gate_graph::Graph;
 use refutation::Tree;
 use refutation_check::TreeChecker;
+use rm_base::NoMemory;
 use std::alloc::Global;
 use wire_edit::{BeginRefusal, Room, Step, Trial, answers_agree, answers_apply, steps_grow};
 
 const LEAST_ROOM: usize = 1_024;
 
 const MOST_ROOM: usize = 536_870_912;
+
+// As many steps as the graph has node numbers, within bounds.
+fn steps_for(graph: &Graph) -> usize
+    ensures some { 0 < result }
+    ensures few { result ≤ 536870912 }
+{
+    (graph.node_bound() as usize).clamp(LEAST_ROOM, MOST_ROOM)
+}
+
+// Room for so many steps, whatever each of them makes.
+fn room_for(steps: usize) -> Room
+    ensures { result ≡ record { pins = steps; nodes = steps; steps = steps } }
+{
+    Room {
+        pins: steps,
+        nodes: steps,
+        steps,
+    }
+}
 
 // A trial with room for as many steps as the net has nodes, or the graph where memory is wanting.
 fn begun(alloc: Global, graph: Graph) -> Result<(Trial, usize), Graph>
@@ -28,16 +48,25 @@ fn begun(alloc: Global, graph: Graph) -> Result<(Trial, usize), Graph>
     ensures back { IfErr result (λ g. net_of g ≡ net_of graph) }
 {
     graph.well_formed();
-    let left = (graph.node_bound() as usize).clamp(LEAST_ROOM, MOST_ROOM);
-    let room = Room {
-        pins: left,
-        nodes: left,
-        steps: left,
-    };
-    match Trial::begin(alloc, graph, room) {
+    let left = steps_for(&graph);
+    match Trial::begin(alloc, graph, room_for(left)) {
         Ok(trial) => Ok((trial, left)),
         Err(BeginRefusal::NoMemory { graph }) => Err(graph),
     }
+}
+
+// Gives a trial whose room is spent room for as many steps as at its beginning, which is mostly there already.
+fn renew(alloc: Global, trial: &mut Trial) -> Result<usize, NoMemory>
+    requires { IsReady trial.old 0 }
+    ensures ready { IfOk result (λ left. IsReady trial.new left) }
+    ensures room { IfOk result (λ left. 0 < left) }
+    ensures refused { OnErr result (IsReady trial.new 0) }
+    ensures net { net_of trial.new.graph ≡ net_of trial.old.graph }
+{
+    trial.graph().well_formed();
+    let left = steps_for(trial.graph());
+    trial.make_room(alloc, room_for(left))?;
+    Ok(left)
 }
 
 // Makes a step that its tree justifies and keeps it for good, or says why not.
@@ -72,7 +101,7 @@ fn make(
         let graph = trial.rollback();
         return (Bench::Idle { graph }, Err(why));
     }
-    trial.settle();
+    trial.keep();
     let left = left - 1;
     (Bench::Trying { trial, left }, Ok(()))
 }
@@ -96,6 +125,26 @@ fn begin_and_make(
     }
 }
 
+// Gives a trial room for a step.
+fn renew_and_make(
+    alloc: Global,
+    checker: &mut TreeChecker,
+    trial: Trial,
+    step: Step,
+    tree: &Tree,
+) -> (Bench, Result<(), Why>)
+    requires ready { IsReady trial 0 }
+    requires tree { IsStepTree step tree.now }
+    ensures makes { Makes (net_of trial.graph) step tree.now (net_in result.0) result.1 }
+    ensures editing { IsEditing result.0 }
+{
+    let mut trial = trial;
+    match renew(alloc, &mut trial) {
+        Ok(left) => make(checker, trial, left, step, tree),
+        Err(NoMemory) => (Bench::Trying { trial, left: 0 }, Err(Why::NoMemory)),
+    }
+}
+
 /// Makes a step, where the net isn't frozen and the tree justifies it.
 pub(crate) fn edit(
     alloc: Global,
@@ -113,7 +162,7 @@ pub(crate) fn edit(
         Bench::Idle { graph } => begin_and_make(alloc, checker, graph, step, tree),
         Bench::Trying { trial, left } => {
             if left == 0 {
-                return begin_and_make(alloc, checker, trial.commit(), step, tree);
+                return renew_and_make(alloc, checker, trial, step, tree);
             }
             make(checker, trial, left, step, tree)
         }

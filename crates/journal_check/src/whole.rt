@@ -18,13 +18,13 @@ use crate::replaying::Replay;
 use cover_decompose::DecomposeRefusal;
 use gate_graph::Graph;
 use journal_text::Record;
-use rm_model::Model;
+use rm_model::RankedModel;
 use std::alloc::Global;
 
 /// Replays all records from the decomposition of the model, and gives the last net where they are accepted.
 pub fn replay(
     alloc: Global,
-    model: &Model,
+    model: &RankedModel,
     budget: u32,
     records: &[Record],
 ) -> Result<Graph, JournalRefusal>

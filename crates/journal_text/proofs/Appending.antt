@@ -7,10 +7,10 @@ use Rattle.std.specs.Cmp.Lexicographic.{nat_list_cmp_total, slice_cmp}
 use Rattle.std.specs.FinMap.{get, insert, get-insert, same_map, gets, slice_cmp-IsAntisymmetric, nat_cmp-IsAntisymmetric}
 use Rattle.std.proofs.lemmas.List.{append-nil}
 use Rattle.rm_base.specs.Files.{Files, file_of, put_file, append_file}
+use Rattle.rm_base.proofs.Public.{append_file-put_file}
 use Rattle.rm_base.specs.Shelves.{IsAppended}
 use Rattle.rm_base.specs.declared.outside.OutsideFault.{OutsideFault}
 use Rattle.rm_base.specs.declared.outside.OutsideFault.TheVariants as outside
-use Rattle.rm_base.proofs.FileLaws.{append_file-put_file}
 use Rattle.journal_text.specs.declared.append.Stop.{Stop}
 use Rattle.journal_text.specs.declared.append.Stop.TheVariants as stop
 use Rattle.journal_text.specs.Appends.{IsRecorded, IsThere}

@@ -15,3 +15,4 @@ pub mod Appending
 pub mod Joined
 pub mod AcceptedRuns
 pub mod OneFault
+pub mod Public

@@ -10,6 +10,8 @@ use crate::record::Entry;
 use crate::writing::write_entry;
 use rm_base::{NoMemory as WantOfMemory, OutsideFault, Shelf};
 use std::alloc::Global;
+use std::error::Error;
+use std::fmt;
 
 /// Why an entry wasn't recorded.
 #[derive(Clone, Copy, Debug, PartialEq, Eq)]
@@ -19,6 +21,17 @@ pub enum Stop {
     /// Nothing was added.
     NoMemory,
 }
+
+impl fmt::Display for Stop {
+    fn fmt<W: fmt::Write>(&self, f: &mut fmt::Formatter<W>) -> fmt::Result {
+        match self {
+            Stop::Failed => f.write_str("the journal couldn't be written"),
+            Stop::NoMemory => f.write_str("out of memory"),
+        }
+    }
+}
+
+impl Error for Stop {}
 
 impl From<WantOfMemory> for Stop {
     ghost from_gives = { λ _ s. s ≡ stop.NoMemory };

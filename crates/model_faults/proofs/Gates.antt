@@ -11,15 +11,11 @@ use Rattle.rm_model.specs.declared.parts.Model.{Model}
 use Rattle.gate_net.specs.declared.Kind.{Kind}
 use Rattle.gate_net.specs.declared.Kind.TheVariants.{Source, Zero, One, And, Or, Not}
 use Rattle.gate_net.specs.Net.{Node, Net, node_at, drivers_of, IsGateKind}
-use Rattle.cover_decompose.proofs.Members.{In}
+use Rattle.cover_decompose.proofs.Public.{In}
+use Rattle.graph_to_model.proofs.Public.{all_from_start, AreFrom, copies, cover_made, cover_of, first_from, gates, had, in_gates, IsGateCover, IsWritable, one_pin_not, rest_from, some_told}
 use Rattle.graph_to_model.specs.Names.{node_name}
 use Rattle.graph_to_model.specs.NetModel.{cover_with, gate_cover, gate_covers, onto, copy_cover, copy_covers, model_of_net}
 use Rattle.graph_to_model.specs.Wires.{is_copy}
-use Rattle.graph_to_model.proofs.GateValues.{cover_of}
-use Rattle.graph_to_model.proofs.Named.{some_told}
-use Rattle.graph_to_model.proofs.Covers.{IsWritable, IsGateCover, AreFrom, rest_from, first_from, all_from_start, in_gates, cover_made}
-use Rattle.graph_to_model.proofs.Outputs.{gates, had, copies}
-use Rattle.graph_to_model.proofs.Formed.{one_pin_not}
 use Rattle.model_faults.specs.ModelFaults.{is_gate_cover, gate_covers_of}
 use Rattle.gate_net.specs.Faults.{is_gate_kind, before_gates, gates_from, gates_of}
 use Rattle.model_faults.proofs.Twisted.{map_length}

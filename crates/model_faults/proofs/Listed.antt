@@ -3,9 +3,8 @@ use Rattle.std.proofs.Common.{◌≡◌, ◌≤◌, ◌<◌, ◌+◌, ℕ, zero,
 use Rattle.std.specs.Prelude.{Option, None, Some, slice_get, if◌then◌else◌}
 use Rattle.rm_base.specs.declared.numbers.Fault.{Fault}
 use Rattle.gate_net.specs.Net.{Node, Net, node_at, drivers_in, drivers_of, flatten_option, IsGateKind, IsGate}
-use Rattle.cover_decompose.proofs.Members.{In, in_append, in_left, in_right, in_at}
-use Rattle.graph_to_model.proofs.Named.{some_told}
-use Rattle.graph_to_model.proofs.Covers.{AreFrom, rest_from, first_from, all_from_start}
+use Rattle.cover_decompose.proofs.Public.{In, in_append, in_at, in_left, in_right}
+use Rattle.graph_to_model.proofs.Public.{all_from_start, AreFrom, first_from, rest_from, some_told}
 use Rattle.gate_net.specs.Faults.{is_gate_kind, before_gates, gates_from, gates_of, fault_at, pin_faults, faults_from, faults_of}
 use Rattle.model_faults.specs.Laws.{IsListed, NetsListOnce}
 use Rattle.model_faults.proofs.Gates.{gate_kind, kind_gate}

@@ -11,13 +11,10 @@ use Rattle.rm_model.specs.declared.parts.Model.{Model}
 use Rattle.gate_net.specs.declared.Kind.TheVariants.{Source}
 use Rattle.gate_net.specs.Net.{Net, node_at, plain_node, source_count}
 use Rattle.gate_net.specs.Values.{Detects}
-use Rattle.cover_decompose.proofs.Members.{In, in_left, in_right, in_append, in_mapped, word_refl, word_same}
+use Rattle.cover_decompose.proofs.Public.{In, in_append, in_left, in_mapped, in_right, word_refl, word_same}
+use Rattle.graph_to_model.proofs.Public.{all_from_start, all_in_list, copies, copy_out, gates, had, in_copies, in_gates, IsCopyCover, IsGateCover, IsWritable, live_within, one_gate, output_names, place_below, some_told, source_name}
 use Rattle.graph_to_model.specs.Names.{node_name}
 use Rattle.graph_to_model.specs.NetModel.{model_of_net}
-use Rattle.graph_to_model.proofs.Named.{source_name, some_told}
-use Rattle.graph_to_model.proofs.Covers.{IsWritable, output_names, IsGateCover, IsCopyCover, in_gates, in_copies, all_from_start, copy_out, place_below, live_within}
-use Rattle.graph_to_model.proofs.Outputs.{gates, had, copies, one_gate}
-use Rattle.graph_to_model.proofs.Formed.{all_in_list}
 use Rattle.model_faults.specs.ModelFaults.{stuck_reads, IsFaultyValuation, Extends, DetectsIn}
 use Rattle.gate_net.specs.Faults.{fault_at, Gives}
 use Rattle.model_faults.proofs.Named.{Names, words_of}

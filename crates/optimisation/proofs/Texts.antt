@@ -5,13 +5,13 @@ use Rattle.std.specs.List.{flat_map}
 use Rattle.std.specs.Option.{option_map}
 use Rattle.std.specs.FinMap.{gets}
 use Rattle.rm_base.specs.Files.{Files, append_file, file_of, put_file}
+use Rattle.rm_base.proofs.Public.{append_file-put_file}
 use Rattle.rm_base.specs.Shelves.{IsCreated}
 use Rattle.rm_base.specs.declared.outside.OutsideFault.{OutsideFault}
 use Rattle.rm_base.specs.declared.outside.OutsideFault.TheVariants as outside
 use Rattle.journal_text.specs.Appends.{IsRecorded, IsThere}
 use Rattle.journal_text.specs.declared.append.Stop.{Stop}
 use Rattle.journal_text.specs.declared.append.Stop.TheVariants as stop
-use Rattle.rm_base.proofs.FileLaws.{append_file-put_file}
 use Rattle.journal_text.specs.Text.{entry_text, entries_text, journal_entries, journal_text}
 use Rattle.journal_text.specs.Runs.{HasAppended, HasAppendedPart, records_text}
 use Rattle.journal_text.specs.declared.record.Record.{Record}

@@ -2,6 +2,8 @@
 use cover_decompose::DecomposeRefusal;
 use journal_text::Stop;
 use rm_base::{NoMemory, OutsideFault};
+use std::error::Error;
+use std::fmt;
 
 /// Why a run over a model ended early.
 #[derive(Clone, Copy, Debug, PartialEq, Eq)]
@@ -12,6 +14,21 @@ pub enum Halt {
     Failed,
     NoMemory,
 }
+
+impl fmt::Display for Halt {
+    fn fmt<W: fmt::Write>(&self, f: &mut fmt::Formatter<W>) -> fmt::Result {
+        match self {
+            Halt::Limit { pins } => write!(
+                f,
+                "the decomposition has {pins} wires, which are too many"
+            ),
+            Halt::Failed => f.write_str("the journal couldn't be written"),
+            Halt::NoMemory => f.write_str("out of memory"),
+        }
+    }
+}
+
+impl Error for Halt {}
 
 impl From<DecomposeRefusal> for Halt {
     ghost use Rattle.std.specs.Prelude.{◌≡◌};

@@ -92,7 +92,7 @@ fn first_round<S: Shelf>(
 {
     graph.well_formed();
     run_begins();
-    let (graph, outcome, made) = optimise(alloc, graph, settings, shelf, journal)?;
+    let (graph, outcome, made) = optimise(alloc, graph, settings, shelf, journal, &[])?;
     Ok(Round {
         graph,
         made,
@@ -132,7 +132,7 @@ fn further_round<S: Shelf>(
         tries: settings.tries - tries,
         workers: settings.workers,
     };
-    let (graph, outcome, more) = optimise(alloc, graph, &left, shelf, journal)?;
+    let (graph, outcome, more) = optimise(alloc, graph, &left, shelf, journal, &[])?;
     Ok(Round {
         graph,
         made: sum_of(made, report.fixed, report.local, more),

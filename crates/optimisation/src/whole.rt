@@ -31,7 +31,7 @@ use gate_graph::Graph;
 use journal_text::{Entry, Stop, accepted_runs_keep, append_entry, texts_append};
 use podem::Verdict;
 use rm_base::{Gate, OutsideFault, Settings, Shelf};
-use rm_model::Model;
+use rm_model::RankedModel;
 use std::alloc::Global;
 use std::thread::Threads;
 
@@ -106,7 +106,7 @@ fn fill_journal<R: Threads + Sync, G: Gate, S: Shelf>(
 pub fn optimised_model<R: Threads + Sync, G: Gate, S: Shelf>(
     rt: &R,
     alloc: Global,
-    model: &Model,
+    model: &RankedModel,
     settings: &Settings,
     gate: &G,
     shelf: &mut S,

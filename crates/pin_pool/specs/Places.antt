@@ -7,6 +7,7 @@ use Rattle.pin_pool.specs.Pins.{Pins, list_of, StandsIn}
 use Rattle.pin_pool.specs.Rings.{Rings, IsIn}
 use Rattle.pin_pool.specs.declared.names.PinNo.{PinNo}
 use Rattle.pin_pool.specs.declared.names.Slot.{Slot}
+use Rattle.rm_base.specs.Numbers.{number_bound}
 
 -- some list has p
 abbrev pub IsListed : List (List ℕ) → ℕ → Type 0
@@ -30,21 +31,21 @@ with_list lists n xs = slice_set lists n xs
 
 -- a pin by its number, where the last number is none
 abbrev pub code : Option PinNo → ℕ
-code None = 4294967295
+code None = number_bound
 code (Some a) = a.0
 
 abbrev pub named : ℕ → Option PinNo
-named a = if a == 4294967295 then None else Some (record { 0 = a })
+named a = if a == number_bound then None else Some (record { 0 = a })
 
 -- p put just after a pin, or first
 abbrev pub put_at : List ℕ → Option PinNo → ℕ → List ℕ
-put_at xs a p = put 4294967295 xs (code a) p
+put_at xs a p = put number_bound xs (code a) p
 
 -- a slot has the node, and the pin just before p in its list
 pub record IsPlace (lists : List (List ℕ)) (p node : ℕ) (before : Option PinNo) : Type 0 where
   pub within : node < length lists
   pub stands : has p (list_of lists node) ≡ true
-  pub follows : before ≡ named (previous_from 4294967295 4294967295 (list_of lists node) p)
+  pub follows : before ≡ named (previous_from number_bound number_bound (list_of lists node) p)
 
 -- the lists with p moved to the end of one, and to a place in it
 abbrev pub moved_last : List (List ℕ) → ℕ → ℕ → List (List ℕ)
@@ -56,7 +57,7 @@ moved_after lists p n a = with_list (without_pin p lists) n (put_at (list_of (wi
 -- no pin stands twice in the lists, and each is taken
 pub record AreApart (lists : List (List ℕ)) (taken : set.FinSet nat_cmp) : Type 0 where
   pub apart : (n : ℕ) → n < length lists → IsApart (list_of lists n)
-  pub pins : (n : ℕ) → n < length lists → has 4294967295 (list_of lists n) ≡ false
+  pub pins : (n : ℕ) → n < length lists → has number_bound (list_of lists n) ≡ false
   pub one : (m n q : ℕ) → m < length lists → n < length lists → has q (list_of lists m) ≡ true → has q (list_of lists n) ≡ true → m ≡ n
   pub members : (n q : ℕ) → n < length lists → has q (list_of lists n) ≡ true → set.contains taken q ≡ true
 
@@ -65,7 +66,7 @@ pub record IsKept (v : Pins) : Type 0 where
   pub inputs : AreApart v.inputs v.taken
   pub fanouts : AreApart v.fanouts v.taken
   pub nodes : length v.fanouts ≡ length v.inputs
-  pub few : set.len v.taken + v.spare ≤ 4294967295
+  pub few : set.len v.taken + v.spare ≤ number_bound
 
 -- there are more pins and nodes, and no pin is taken, linked or moved
 pub record GrowsTo (old new : Pins) : Type 0 where

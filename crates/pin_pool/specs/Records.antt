@@ -9,6 +9,7 @@ use Rattle.pin_pool.specs.Pins.{Pins}
 use Rattle.pin_pool.specs.declared.links.Pin.{Pin}
 use Rattle.pin_pool.specs.declared.links.Ends.{Ends}
 use Rattle.pin_pool.specs.declared.links.Side.TheVariants.{Gate, Driver}
+use Rattle.rm_base.specs.Numbers.{number_bound}
 
 -- the numbers below n
 unfoldable pub all_below : ℕ → set.FinSet nat_cmp
@@ -20,8 +21,8 @@ abbrev pub NoneFree : List (List ℕ) → List ℕ → Type 0
 NoneFree lists free = (n q : ℕ) → n < length lists → has q (list_at lists n) ≡ true → has q free ≡ false
 
 pub record IsPool (pins : List Pin) (free : List ℕ) (room : ℕ) (gates drivers : List Ends) : Type 0 where
-  pub few : length pins ≤ 4294967295
-  pub few_nodes : length gates ≤ 4294967295
+  pub few : length pins ≤ number_bound
+  pub few_nodes : length gates ≤ number_bound
   pub nodes : length drivers ≡ length gates
   pub gate_lists : AreLists Gate pins gates
   pub driver_lists : AreLists Driver pins drivers

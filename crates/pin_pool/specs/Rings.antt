@@ -5,6 +5,7 @@ use Rattle.pin_pool.specs.Ring.{has, without, IsApart}
 use Rattle.pin_pool.specs.Pins.{Pins, admitted, list_of, put_after, before_in, StandsIn}
 use Rattle.pin_pool.specs.declared.names.Slot.{Slot}
 use Rattle.pin_pool.specs.declared.names.Splice.{Splice}
+use Rattle.rm_base.specs.Numbers.{number_bound}
 
 -- the inputs and the fanouts of each node number, and which pins are taken
 pub record Rings : Type 0 where
@@ -119,7 +120,7 @@ pub record Stood (r : Rings) (p : ℕ) (slot : Slot) : Type 0 where
 pub record IsValid (v : Pins) : Type 0 where
   pub rings : AreRings (rings_of v)
   pub nodes : length v.fanouts ≡ length v.inputs
-  pub few : set.len v.taken + v.spare ≤ 4294967295
+  pub few : set.len v.taken + v.spare ≤ number_bound
 
 -- p may be put where the slot says
 pub record CanRelink (v : Pins) (p : ℕ) (slot : Slot) : Type 0 where

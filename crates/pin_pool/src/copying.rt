@@ -6,6 +6,7 @@ ghost use Rattle.pin_pool.specs.Links.{AllWithin, AreLists, lists_of};
 ghost use Rattle.pin_pool.specs.Marks.{is_listed, is_marked, unmarked_from};
 ghost use Rattle.pin_pool.specs.Places.{IsListed};
 ghost use Rattle.pin_pool.specs.declared.links.Side.TheVariants.{Gate};
+ghost use Rattle.rm_base.specs.Numbers.{number_bound};
 
 use crate::links::{Ends, Pin, Side};
 use crate::pin_iter::PinIter;
@@ -42,7 +43,7 @@ fn mark_linked(pins: &[Pin], gates: &[Ends], marks: &mut [bool])
 
 // The numbers without a mark, with room for all.
 fn unmarked(alloc: Global, marks: &[bool]) -> Result<Vec<u32>, NoMemory>
-    requires { length marks.now ≤ 4294967295 }
+    requires { length marks.now ≤ number_bound }
     ensures numbers { IfOk result (λ v. v.items ≡ unmarked_from 0 marks.now) }
     ensures room { IfOk result (λ v. length marks.now ≤ vec_capacity v) }
 {

@@ -4,9 +4,12 @@ ghost use Rattle.std.specs.FinSet as set;
 ghost use Rattle.pin_pool.specs.Ring.{has};
 ghost use Rattle.pin_pool.specs.Pins.{admitted};
 ghost use Rattle.pin_pool.specs.Rings.{AreRings, CanMoveBack, CanRelink, CanRestore, IsLinked, IsLoose, IsValid, Rings, Stood, claimed, joined, moved, moved_back, no_rings, redriven, relinked, restored, returned, rings_of, unlinked};
+ghost use Rattle.pin_pool.specs.Totals.{linked_pins};
 ghost use Rattle.pin_pool.specs.declared.names.Slot.{Slot};
 ghost use Rattle.pin_pool.specs.declared.names.Splice.{Splice};
+ghost use Rattle.rm_base.specs.Numbers.{number_bound};
 
+use crate::counts::{count_in, count_out, widen};
 use crate::finger::{Finger, skip};
 use crate::names::{Full, PinNo, Slot, Splice};
 use crate::pin_iter::PinIter;
@@ -24,6 +27,9 @@ pub struct Pool {
     store: Store,
     // Where `unlink_at` took a pin out last.
     finger: Option<Finger>,
+    // How many inputs each node has, and how many all have.
+    counts: Vec<u32>,
+    linked: u32,
 }
 
 impl Model for Pool {
@@ -36,10 +42,11 @@ impl Model for Pool {
     ghost use Rattle.pin_pool.specs.Places.{ArePaired};
     ghost use Rattle.pin_pool.specs.Pointed.{IsPointed};
     ghost use Rattle.pin_pool.specs.Rings.{rings_of};
+    ghost use Rattle.pin_pool.specs.Totals.{IsCounted};
 
     ghost view = { λ p. p.store };
 
-    ghost invariant = { λ p. ArePaired (rings_of p.store) × IsPointed p.store p.finger };
+    ghost invariant = { λ p. ArePaired (rings_of p.store) × (IsPointed p.store p.finger × IsCounted p.store p.counts.items p.linked) };
 }
 
 impl Pool {
@@ -56,6 +63,8 @@ impl Pool {
         Pool {
             store,
             finger: None,
+            counts: Vec::new(alloc),
+            linked: 0,
         }
     }
 
@@ -70,9 +79,12 @@ impl Pool {
     {
         let store = self.store.copy(alloc)?;
         store.look();
+        let counts = Vec::from_slice(alloc, &self.counts)?;
         Ok(Pool {
             store,
             finger: None,
+            counts,
+            linked: self.linked,
         })
     }
 
@@ -87,8 +99,8 @@ impl Pool {
 
     /// Makes room for `pins` more pins, and admits the node numbers below `nodes`.
     pub fn reserve(&mut self, pins: usize, nodes: usize) -> Result<(), NoMemory>
-        requires pins { set.len self.old.taken + pins ≤ 4294967295 }
-        requires nodes { nodes ≤ 4294967295 }
+        requires pins { set.len self.old.taken + pins ≤ number_bound }
+        requires nodes { nodes ≤ number_bound }
         ensures spare { OnOk result (pins ≤ self.new.spare) }
         ensures more { self.old.spare ≤ self.new.spare }
         ensures nodes { OnOk result (nodes ≤ admitted self.new) }
@@ -101,7 +113,9 @@ impl Pool {
         ensures refused { OnErr result (self.new ≡ self.old) }
         ensures valid { IsValid self.new }
     {
+        self.store.look();
         self.finger = None;
+        widen(&mut self.counts, nodes)?;
         let done = self.store.reserve(pins, nodes);
         self.store.look();
         done
@@ -157,6 +171,7 @@ impl Pool {
         self.finger = None;
         self.store.link(pin, gate, driver);
         self.store.look();
+        count_in(&mut self.counts, &mut self.linked, gate);
     }
 
     /// Takes a pin out of both its lists, in constant time, and gives the place that it had. The pin stays taken.
@@ -176,6 +191,7 @@ impl Pool {
         self.finger = None;
         let slot = self.store.unlink(pin);
         self.store.look();
+        count_out(&mut self.counts, &mut self.linked, slot.gate);
         slot
     }
 
@@ -219,6 +235,7 @@ impl Pool {
         self.finger = None;
         self.store.relink(pin, slot);
         self.store.look();
+        count_in(&mut self.counts, &mut self.linked, slot.gate);
     }
 
     /// Makes a pin the last fanout of another driver, in constant time, and gives the place that it had.
@@ -300,7 +317,7 @@ impl Pool {
     pub fn inputs(&self, gate: u32) -> PinIter<'_>
         requires { gate < admitted self.now }
         ensures list { result ≡ (rings_of self.now).inputs gate }
-        ensures few { length result ≤ 4294967295 }
+        ensures few { length result ≤ number_bound }
         ensures valid { IsValid self.now }
     {
         self.store.look();
@@ -312,7 +329,7 @@ impl Pool {
     pub fn inputs_from(&self, gate: u32, position: u32) -> PinIter<'_>
         requires { gate < admitted self.now }
         ensures list { result ≡ drop position ((rings_of self.now).inputs gate) }
-        ensures few { length result ≤ 4294967295 }
+        ensures few { length result ≤ number_bound }
         ensures valid { IsValid self.now }
     {
         self.store.look();
@@ -327,11 +344,26 @@ impl Pool {
         skip(self.store.inputs(gate), position)
     }
 
+    /// How many pins have the node as their gate, in constant time.
+    pub fn input_count(&self, gate: u32) -> u32
+        requires { gate < admitted self.now }
+        ensures { result ≡ length ((rings_of self.now).inputs gate) }
+    {
+        self.counts[gate as usize]
+    }
+
+    /// How many pins are linked, in constant time.
+    pub fn linked_count(&self) -> u32
+        ensures { result ≡ linked_pins self.now }
+    {
+        self.linked
+    }
+
     /// The pins whose driver is the node, in order.
     pub fn fanouts(&self, driver: u32) -> PinIter<'_>
         requires { driver < admitted self.now }
         ensures list { result ≡ (rings_of self.now).fanouts driver }
-        ensures few { length result ≤ 4294967295 }
+        ensures few { length result ≤ number_bound }
         ensures valid { IsValid self.now }
     {
         self.store.look();

@@ -5,6 +5,7 @@ ghost use Rattle.pin_pool.specs.Ring.{has, without_pin};
 ghost use Rattle.pin_pool.specs.Pins.{list_of};
 ghost use Rattle.pin_pool.specs.Pointed.{IsThere};
 ghost use Rattle.pin_pool.specs.Places.{GrowsTo, HasDriver, HasPlace, IsFree, IsHeld, IsKept, IsPlace, code as code_of, moved_after, moved_last, named as name_of, put_at, with_list};
+ghost use Rattle.rm_base.specs.Numbers.{number_bound};
 
 use crate::finger::Finger;
 use crate::links::{Ends, NONE, Pin, Side, move_after, move_all, move_back, move_last};
@@ -69,11 +70,12 @@ impl Store {
     }
 
     pub(crate) fn reserve(&mut self, pins: usize, nodes: usize) -> Result<(), NoMemory>
-        requires pins { set.len self.old.taken + pins ≤ 4294967295 }
-        requires nodes { nodes ≤ 4294967295 }
+        requires pins { set.len self.old.taken + pins ≤ number_bound }
+        requires nodes { nodes ≤ number_bound }
         ensures spare { OnOk result (pins ≤ self.new.spare) }
         ensures more { self.old.spare ≤ self.new.spare }
         ensures nodes { OnOk result (nodes ≤ length self.new.inputs) }
+        ensures exact { OnOk result ((n : ℕ) → nodes ≤ n → length self.old.inputs ≤ n → length self.new.inputs ≤ n) }
         ensures grown { OnOk result (GrowsTo self.old self.new) }
         ensures refused { OnErr result (self.new ≡ self.old) }
     {
@@ -248,7 +250,7 @@ impl Store {
     pub(crate) fn inputs(&self, gate: u32) -> PinIter<'_>
         requires { gate < length self.now.inputs }
         ensures list { result ≡ list_of self.now.inputs gate }
-        ensures few { length result ≤ 4294967295 }
+        ensures few { length result ≤ number_bound }
     {
         PinIter {
             pins: &self.pins,
@@ -262,7 +264,7 @@ impl Store {
     pub(crate) fn inputs_from(&self, at: Finger) -> PinIter<'_>
         requires { IsThere self.now at }
         ensures list { result ≡ drop at.position (list_of self.now.inputs at.gate) }
-        ensures few { length result ≤ 4294967295 }
+        ensures few { length result ≤ number_bound }
     {
         PinIter {
             pins: &self.pins,
@@ -292,7 +294,7 @@ impl Store {
     pub(crate) fn fanouts(&self, driver: u32) -> PinIter<'_>
         requires { driver < length self.now.fanouts }
         ensures list { result ≡ list_of self.now.fanouts driver }
-        ensures few { length result ≤ 4294967295 }
+        ensures few { length result ≤ number_bound }
     {
         PinIter {
             pins: &self.pins,

@@ -4,10 +4,10 @@ use Rattle.std.specs.Prelude.{Option, None, Some}
 use Rattle.std.specs.Option.{option_map}
 use Rattle.std.proofs.lemmas.List.{take_all}
 use Rattle.rm_base.specs.Files.{Files, put_file, append_file}
+use Rattle.rm_base.proofs.Public.{append_file-put_file}
 use Rattle.rm_base.specs.Shelves.{IsAppended, IsCreated}
 use Rattle.rm_base.specs.declared.outside.OutsideFault.{OutsideFault}
 use Rattle.rm_base.specs.declared.outside.OutsideFault.TheVariants.{Failed, NoMemory}
-use Rattle.rm_base.proofs.FileLaws.{append_file-put_file}
 use Rattle.rambo_cli.specs.Files.{BeginsFile}
 
 appended : (name bytes : List ℕ) (old : Option Files) → option_map (append_file name bytes) (option_map (put_file name []) old) ≡ option_map (put_file name bytes) old

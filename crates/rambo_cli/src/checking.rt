@@ -11,11 +11,11 @@ use crate::reading::read_input;
 use cover_decompose::{DecomposeRefusal, decompose};
 use journal_audit::audit;
 use rm_base::Shelf;
-use rm_model::Model;
+use rm_model::RankedModel;
 use std::alloc::Global;
 
 // Whether the decomposition keeps the limit on wires.
-fn fits(alloc: Global, model: &Model) -> Result<(), Problem>
+fn fits(alloc: Global, model: &RankedModel) -> Result<(), Problem>
     requires usable { IsUsable model.now }
     ensures few { OnOk result (decomposed model.now ≤ 65536) }
     ensures cause { IfErr result (ModelCause model.now 0 0) }

@@ -6,7 +6,6 @@ ghost use Rattle.rm_base.specs.Files.{put_file};
 ghost use Rattle.rm_model.specs.WellFormed.{IsWellFormed};
 ghost use Rattle.blif_format.specs.Text.{text_of as model_text};
 ghost use Rattle.gate_graph.specs.Circuit.{net_of};
-ghost use Rattle.wire_edit.specs.Order.{IsTidy};
 ghost use Rattle.graph_to_model.specs.NetModel.{model_of_net};
 ghost use Rattle.graph_to_model.specs.Fits.{Fits};
 ghost use Rattle.graph_to_model.specs.Laws.{AreFew};
@@ -22,11 +21,11 @@ use crate::reading::read_input;
 use blif_writer::write_model;
 use cover_decompose::{decompositions_are_formed, decompositions_stand};
 use gate_graph::Graph;
-use graph_to_model::{ModelRefusal, model_of};
+use graph_to_model::model_of_tidy;
 use optimisation::{Figures, optimised_model};
 use rm_base::outside::{OutsideFault, Shelf};
 use rm_base::{Gate, NoMemory, Settings};
-use rm_model::Model;
+use rm_model::RankedModel;
 use std::alloc::Global;
 use std::thread::Threads;
 
@@ -39,18 +38,15 @@ pub(crate) struct Names<'a> {
 }
 
 // The text of the model of a net.
-fn text_of(alloc: Global, graph: &Graph, model: &Model) -> Result<Vec<u8>, NoMemory>
+fn text_of(alloc: Global, graph: &Graph, model: &RankedModel) -> Result<Vec<u8>, NoMemory>
     requires formed { IsWellFormed model.now }
     requires fits { Fits (net_of graph.now) model.now }
-    requires tidy { IsTidy (net_of graph.now) }
     ensures text { IfOk result (λ text. text.items ≡ model_text (model_of_net model.now (net_of graph.now))) }
     ensures few { OnOk result (AreFew (net_of graph.now) model.now) }
 {
-    match model_of(alloc, graph, model) {
-        Ok(made) => write_model(alloc, &made),
-        Err(ModelRefusal::NotTidy { node: _ }) => unreachable!(),
-        Err(ModelRefusal::NoMemory) => Err(NoMemory),
-    }
+    let made = model_of_tidy(alloc, graph, model.model())?;
+    let text = write_model(alloc, &made)?;
+    Ok(text)
 }
 
 // Writes the text in place of the output.
@@ -69,7 +65,7 @@ fn optimise_model<R: Threads + Sync, G: Gate, S: Shelf>(
     alloc: Global,
     shelf: &mut S,
     gate: &G,
-    model: &Model,
+    model: &RankedModel,
     output: &str,
     journal: &str,
     settings: &Settings,

@@ -11,7 +11,7 @@ use blif_format::Quantity;
 use blif_reader::{read_model, texts_keep_limits};
 use cover_decompose::wires_are_bounded;
 use rm_base::Shelf;
-use rm_model::{Model, ranks_exist};
+use rm_model::{RankedModel, ranks_exist};
 use std::alloc::Global;
 
 const MOST_BYTES: usize = 16_777_216;
@@ -33,7 +33,7 @@ fn bytes_of<S: Shelf>(shelf: &mut S, input: &str) -> Result<Vec<u8>, Problem>
 }
 
 // The model that a text of at most 16,777,216 bytes says.
-fn short_model(alloc: Global, text: &[u8]) -> Result<Model, Problem>
+fn short_model(alloc: Global, text: &[u8]) -> Result<RankedModel, Problem>
     requires { length text.now ≤ 16777216 }
     ensures said { IfOk result (λ model. IsSaid text.now model) }
     ensures usable { IfOk result IsUsable }
@@ -49,7 +49,7 @@ fn short_model(alloc: Global, text: &[u8]) -> Result<Model, Problem>
 }
 
 // The model that a text says.
-fn model_of_text(alloc: Global, text: &[u8]) -> Result<Model, Problem>
+fn model_of_text(alloc: Global, text: &[u8]) -> Result<RankedModel, Problem>
     ensures said { IfOk result (λ model. IsSaid text.now model) }
     ensures usable { IfOk result IsUsable }
     ensures cause { IfErr result (TextCause text.now) }
@@ -68,7 +68,7 @@ pub(crate) fn read_input<S: Shelf>(
     alloc: Global,
     shelf: &mut S,
     input: &str,
-) -> Result<Model, Problem>
+) -> Result<RankedModel, Problem>
     ensures said { IfOk result (λ model. IfSome (S.files shelf.old) (λ told. Holds told input.now (λ text. IsSaid text model))) }
     ensures usable { IfOk result IsUsable }
     ensures cause { IfErr result (ReadCause input.now (S.files shelf.old) (S.faults shelf.old) (S.faults shelf.new)) }

@@ -4,13 +4,13 @@ use Rattle.std.specs.Prelude.{slice_get, nat_lt, ◌↔◌, if◌then◌else◌}
 use Rattle.std.proofs.lemmas.Bool.{lt-ltb, cases_eq}
 use Rattle.rm_base.specs.declared.numbers.Fault.{Fault}
 use Rattle.rm_base.specs.declared.numbers.NodeId.{NodeId}
+use Rattle.gate_net.proofs.Public.{node_at-other, node_at-there, not_true}
 use Rattle.gate_net.specs.declared.Kind.{Kind}
 use Rattle.gate_net.specs.declared.Kind.TheVariants.{Source, Zero, One, And, Or, Not}
 use Rattle.gate_net.specs.Net.{Net, kind_in, drivers_in, drivers_of, Reads, IsLive, IsWellFormed, wire_count}
 use Rattle.gate_net.specs.Values.{IsJunction, controlling}
 use Rattle.gate_net.specs.Edits.{with_pin, last_pin}
-use Rattle.gate_net.proofs.Bools.{not_true}
-use Rattle.gate_net.proofs.Edited.{node_at-other, node_at-there}
+use Rattle.wire_edit.proofs.Public.{among_at, gate_live, is_live_there, junction_gate}
 use Rattle.wire_edit.specs.declared.steps.Step.TheVariants.{Add, NewNot}
 use Rattle.wire_edit.specs.declared.room.Room.{Room}
 use Rattle.wire_edit.specs.Changes.{with_new_not}
@@ -18,8 +18,6 @@ use Rattle.wire_edit.specs.Tests.{is_live, is_junction, is_among, is_present, co
 use Rattle.wire_edit.specs.Steps.{Applies, stepped}
 use Rattle.wire_edit.specs.Refusals.{refusal_of, ClosesCycle, live_count, ceiling}
 use Rattle.wire_edit.specs.Order.{node}
-use Rattle.wire_edit.proofs.Tested.{is_live_there, among_at, junction_gate}
-use Rattle.wire_edit.proofs.Reading.{gate_live}
 use Rattle.candidate_wires.specs.declared.candidate.Candidate.{Candidate}
 use Rattle.candidate_wires.specs.Gains.{least_free, net_for, wire_for, with_candidate}
 use Rattle.rar_loop.specs.Trying.{MayAdd}

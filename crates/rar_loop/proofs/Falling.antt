@@ -3,16 +3,13 @@ use Rattle.std.proofs.Common.{◌≡◌, ◌+◌, ◌<◌, ◌≤◌, arith}
 use Rattle.rm_base.specs.declared.numbers.Fault.{Fault}
 use Rattle.gate_net.specs.Net.{Net, drivers_of, IsGate, IsWellFormed, wire_count}
 use Rattle.gate_net.specs.Edits.{fixed}
+use Rattle.wire_edit.proofs.Public.{applies_changes, changes_keep_form, is_gate_there, next_applies, within}
 use Rattle.wire_edit.specs.declared.steps.Step.{Step}
 use Rattle.wire_edit.specs.declared.steps.Step.TheVariants.{Add, Fix, NewNot, Const, Same, NoPins, OnePin, Twice, Twin, Dead}
 use Rattle.wire_edit.specs.Laws.{IsTidying}
 use Rattle.wire_edit.specs.Steps.{Applies, stepped, change_of}
 use Rattle.wire_edit.specs.Order.{IsTidy}
 use Rattle.wire_edit.specs.Work.{free_pins}
-use Rattle.wire_edit.proofs.Tested.{is_gate_there, within}
-use Rattle.wire_edit.proofs.Conditions.{applies_changes}
-use Rattle.wire_edit.proofs.Formed.{changes_keep_form}
-use Rattle.wire_edit.proofs.Ordering.{next_applies}
 use Rattle.candidate_wires.specs.Tidying.{TidiesTo, tidy, then}
 use Rattle.rar_loop.specs.Going.{HasFreePin, ReadsNoConstants}
 use Rattle.journal_text.specs.Runs.{IsRemoval}

@@ -1,6 +1,6 @@
 -- What kept vectors tell of a candidate: with its wire in the net one of them detects the fault of the wire's pin, which then
 -- has a set of facts closed at every depth.
-use Rattle.std.proofs.Common.{◌≡◌, ℕ, zero, suc, ◌<◌, ◌^◌, ◌⊎◌, ◌&&◌, inl, inr, Bool, true, false, not, IsTrue, Option, Some, None, List, [], ◌∷◌, replicate, refl, sym, ◌∙◌, ap, subst, w64}
+use Rattle.std.proofs.Common.{◌≡◌, ◌≢◌, ◌≤◌, ◌++◌, length, arith, ℕ, zero, suc, ◌<◌, ◌^◌, ◌⊎◌, ◌&&◌, inl, inr, Bool, true, false, not, IsTrue, Option, Some, None, List, [], ◌∷◌, replicate, refl, sym, ◌∙◌, ap, subst, w64}
 use Rattle.std.specs.Int.{trailing_zeros}
 use Rattle.std.specs.Prelude.{bit_and, slice_get, slice_index, slice_set, if◌then◌else◌}
 use Rattle.rm_base.specs.declared.numbers.NodeId.{NodeId}
@@ -9,20 +9,23 @@ use Rattle.gate_net.specs.Values.{Detects, HasPin}
 use Rattle.gate_net.specs.Edits.{last_pin}
 use Rattle.gate_net.specs.Laws.{OutsideIsEqual}
 use Rattle.refutation.specs.Detected.{DetectedHaveOpenSets}
+use Rattle.std.proofs.lemmas.Bool.{cases_eq}
+use Rattle.std.proofs.lemmas.Option.{slice_get_within}
+use Rattle.fault_sim.specs.BlockStates.{AreSimulated, BlockState}
 use Rattle.fault_sim.specs.LaneStates.{Fits, IsSimulated, LaneState}
+use Rattle.fault_sim.proofs.Public.{first_lane, lane_and, lane_not, lane_zero}
 use Rattle.fault_sim.specs.Words.{assignment, lane, lane_values}
-use Rattle.fault_sim.proofs.LaneLaws.{lane_and, lane_not, lane_zero}
-use Rattle.fault_sim.proofs.Seeing.{first_lane}
+use Rattle.wire_edit.proofs.Public.{is_live_there}
 use Rattle.wire_edit.specs.declared.steps.Step.TheVariants.{Add, NewNot}
 use Rattle.wire_edit.specs.Laws.{StepsKeepForm}
 use Rattle.wire_edit.specs.Order.{node}
 use Rattle.wire_edit.specs.Steps.{stepped}
 use Rattle.wire_edit.specs.Tests.{control_of}
-use Rattle.wire_edit.proofs.Tested.{is_live_there}
 use Rattle.candidate_wires.specs.declared.candidate.Candidate.{Candidate}
 use Rattle.candidate_wires.specs.Gains.{net_for, wire_for, with_candidate}
 use Rattle.rar_loop.specs.declared.vectors.Vectors.{Vectors}
-use Rattle.rar_loop.specs.Kept.{AreFor, HasKept, IsTurned, lanes_with, wanted}
+use Rattle.rar_loop.specs.Changing.{numbers_of}
+use Rattle.rar_loop.specs.Kept.{AreAsked, AreFor, HasKept, IsTurned, lanes_with, wanted}
 use Rattle.rar_loop.specs.Rows.{stuck}
 use Rattle.rar_loop.specs.Trying.{IsNewPinOpen, MayAdd}
 use Rattle.rar_loop.proofs.Adding.{add_applies, control_is, new_pin_reads, node_of}
@@ -81,12 +84,75 @@ kept_more net words old new gate word turned here kept g w e i h t = elim (kept 
   | inr s ↦ turned g w s i h t
 ]
 
-pub for_more : (net : Net) (v w : Vectors) (gate word : ℕ) → AreFor v net → w.lanes ≡ v.lanes → ((i : ℕ) → i < 64 → IsTrue (lane i word) → IsTurned net gate (assignment v.lanes.words i)) → HasKept v.turned.items w.turned.items gate word → AreFor w net
-for_more net v w gate word for same here kept = record {
+pub for_more : (net : Net) (v w : Vectors) (gate word : ℕ) → AreFor v net → w.lanes ≡ v.lanes → w.found ≡ v.found → AreAsked w.turned.items w.asked.items → ((i : ℕ) → i < 64 → IsTrue (lane i word) → IsTurned net gate (assignment v.lanes.words i)) → HasKept v.turned.items w.turned.items gate word → AreFor w net
+for_more net v w gate word for same found listed here kept = record {
   fits = subst (λ (s : LaneState). Fits s net) (sym same) for.fits;
   simulated = subst (λ (s : LaneState). IsSimulated s net) (sym same) for.simulated;
   turned = subst (λ (s : LaneState). AreTurned net s.words w.turned.items) (sym same) (kept_more net v.lanes.words v.turned.items w.turned.items gate word for.turned here kept);
+  listed = listed;
+  found = subst (λ (s : BlockState). AreSimulated s net) (sym found) for.found;
 }
+
+-- WHAT IS FORGOTTEN
+asked_before : (ns : List NodeId) (n : NodeId) (y k : ℕ) → slice_get (numbers_of (ns ++ n ∷ [])) k ≡ Some y → y ≢ n.0 → (j : ℕ) × (slice_get (numbers_of ns) j ≡ Some y)
+asked_before [] n y zero f ne = let same : n.0 ≡ y = cc in absurd (ne (sym same))
+asked_before [] n y (suc k) f ne = cc
+asked_before (m ∷ ns) n y zero f ne = (0, f)
+asked_before (m ∷ ns) n y (suc k) f ne = let r : (j : ℕ) × (slice_get (numbers_of ns) j ≡ Some y) = asked_before ns n y k f ne in (suc r.0, r.1)
+
+-- a gate that was listed last is forgotten, and one that is still kept is listed before it
+pub asked_less : (turned : List (Option ℕ)) (asked rest : List NodeId) (gate : NodeId) → asked ≡ rest ++ gate ∷ [] → AreAsked turned asked → AreAsked (slice_set turned gate.0 None) rest
+asked_less turned asked rest gate is listed g w e = elim (set_either turned gate.0 g None (Some w) e) [
+  | inl s ↦ let none : ◌≡◌ {A = Option ℕ} None (Some w) = s.1 in cc
+  | inr old ↦
+      let at : (k : ℕ) × (slice_get (numbers_of asked) k ≡ Some g) = listed g w old in
+      let here : slice_get (numbers_of (rest ++ gate ∷ [])) at.0 ≡ Some g = subst (λ (ns : List NodeId). slice_get (numbers_of ns) at.0 ≡ Some g) is at.1 in
+      elim (cases_eq g gate.0) [
+        | inl same ↦ absurd (gone turned gate.0 g w same e)
+        | inr ne ↦ asked_before rest gate g at.0 here ne
+      ]
+]
+  where
+    gone : (xs : List (Option ℕ)) (p q v : ℕ) → q ≡ p → slice_get (slice_set xs p None) q ≡ Some (Some v) → ⊥
+    gone [] p q v same f = cc
+    gone (x ∷ xs) zero zero v same f = cc
+    gone (x ∷ xs) zero (suc q) v same f = cc
+    gone (x ∷ xs) (suc p) zero v same f = cc
+    gone (x ∷ xs) (suc p) (suc q) v same f = gone xs p q v (omega (arith, same)) f
+
+pub asked_past : (turned : List (Option ℕ)) (asked rest : List NodeId) (gate : NodeId) → asked ≡ rest ++ gate ∷ [] → length turned ≤ gate.0 → AreAsked turned asked → AreAsked turned rest
+asked_past turned asked rest gate is past listed g w e =
+    let lt : g < length turned = slice_get_within turned g (Some w) e in
+    let at : (k : ℕ) × (slice_get (numbers_of asked) k ≡ Some g) = listed g w e in
+    let here : slice_get (numbers_of (rest ++ gate ∷ [])) at.0 ≡ Some g = subst (λ (ns : List NodeId). slice_get (numbers_of ns) at.0 ≡ Some g) is at.1 in
+    asked_before rest gate g at.0 here (λ same. omega (arith, lt, past, same))
+
+pub asked_none : (turned : List (Option ℕ)) (asked : List NodeId) → asked ≡ [] → AreAsked turned asked → (gate word : ℕ) → slice_get turned gate ≡ Some (Some word) → ⊥
+asked_none turned asked none listed gate word e =
+    let at : (k : ℕ) × (slice_get (numbers_of asked) k ≡ Some gate) = listed gate word e in
+    let no : slice_get {X = ℕ} [] at.0 ≡ Some gate = subst (λ (ns : List NodeId). slice_get (numbers_of ns) at.0 ≡ Some gate) none at.1 in cc
+
+-- a gate's word that is kept is listed
+pub asked_more : (turned : List (Option ℕ)) (asked more : List NodeId) (gate : NodeId) (word : ℕ) → more ≡ asked ++ gate ∷ [] → AreAsked turned asked → AreAsked (slice_set turned gate.0 (Some word)) more
+asked_more turned asked more gate word is listed g w e = elim (set_either turned gate.0 g (Some word) (Some w) e) [
+  | inl s ↦ (length asked, subst (λ (ns : List NodeId). slice_get (numbers_of ns) (length asked) ≡ Some g) (sym is) (last asked ∙ ap Some (sym s.0)))
+  | inr old ↦ let at : (k : ℕ) × (slice_get (numbers_of asked) k ≡ Some g) = listed g w old in (at.0, subst (λ (ns : List NodeId). slice_get (numbers_of ns) at.0 ≡ Some g) (sym is) (front asked at.0 g at.1))
+]
+  where
+    last : (ns : List NodeId) → slice_get (numbers_of (ns ++ gate ∷ [])) (length ns) ≡ Some gate.0
+    last [] = refl
+    last (n ∷ ns) = last ns
+
+    front : (ns : List NodeId) (k y : ℕ) → slice_get (numbers_of ns) k ≡ Some y → slice_get (numbers_of (ns ++ gate ∷ [])) k ≡ Some y
+    front [] k y f = cc
+    front (n ∷ ns) zero y f = f
+    front (n ∷ ns) (suc k) y f = front ns k y f
+
+-- more places of which nothing is kept
+pub lengthened : (old : List (Option ℕ)) (n gate word : ℕ) → slice_get (old ++ replicate n None) gate ≡ Some (Some word) → slice_get old gate ≡ Some (Some word)
+lengthened [] n gate word e = absurd (none_kept n gate word e)
+lengthened (x ∷ old) n zero word e = e
+lengthened (x ∷ old) n (suc gate) word e = lengthened old n gate word e
 
 -- A CANDIDATE
 formed_with : StepsKeepForm → (net : Net) (c : Candidate) → IsWellFormed net → MayAdd net c → IsWellFormed (with_candidate net c)

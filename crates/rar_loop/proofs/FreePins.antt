@@ -10,6 +10,7 @@ use Rattle.gate_net.specs.declared.Kind.TheVariants.{Source, Zero, One, And, Or,
 use Rattle.gate_net.specs.Net.{Node, Net, node_at, kind_in, drivers_in, drivers_of, flatten_option, Reads, IsGate, IsWellFormed, plain_node, source_count, wire_count}
 use Rattle.gate_net.specs.Values.{same_bool}
 use Rattle.gate_net.specs.Edits.{without, constant_node, node_redirected}
+use Rattle.wire_edit.proofs.Public.{applies_changes, constant_apart, free_moved, free_set, free_without, got, is_gate_there, junction_kind, no_pins, tidy_refuses, total_gone, with_free}
 use Rattle.wire_edit.specs.declared.steps.Step.{Step}
 use Rattle.wire_edit.specs.declared.steps.Step.TheVariants.{Add, Fix, NewNot, Const, Same, NoPins, OnePin, Twice, Twin, Dead}
 use Rattle.wire_edit.specs.Tests.{is_gate, is_in_use, is_present, constant_at, constant_of, control_of, kind_constant}
@@ -17,13 +18,6 @@ use Rattle.wire_edit.specs.Changes.{Change, append, remove, fix, readers, new_no
 use Rattle.wire_edit.specs.Steps.{Applies, change_of, constant_change, stepped}
 use Rattle.wire_edit.specs.Order.{IsTidy, node}
 use Rattle.wire_edit.specs.Work.{one_if, free_in, free_pins}
-use Rattle.wire_edit.proofs.Tested.{is_gate_there, got}
-use Rattle.wire_edit.proofs.Conditions.{constant_apart, applies_changes, no_pins}
-use Rattle.wire_edit.proofs.Ordering.{tidy_refuses}
-use Rattle.wire_edit.proofs.Totals.{total_gone}
-use Rattle.wire_edit.proofs.Formed.{junction_kind}
-use Rattle.wire_edit.proofs.Working.{with_free}
-use Rattle.wire_edit.proofs.Counting.{free_without, free_set, free_moved}
 use Rattle.rar_loop.specs.Going.{ReadsNoConstants}
 use Rattle.journal_text.specs.Runs.{IsRemoval}
 

@@ -13,6 +13,7 @@ use Rattle.gate_graph.specs.Circuit.{net_of}
 use Rattle.gate_graph.specs.Holds.{HoldsOn}
 use Rattle.refutation.specs.Branches.{AreAccepted}
 use Rattle.refutation.specs.declared.items.Item.{Item}
+use Rattle.wire_edit.proofs.Public.{gate_live, is_live_there, length_budget, next_applies, nodes_of, wires_grow}
 use Rattle.wire_edit.specs.declared.steps.Step.{Step}
 use Rattle.wire_edit.specs.declared.steps.Step.TheVariants.{Add, Fix, NewNot, Const, Same, NoPins, OnePin, Twice, Twin, Dead}
 use Rattle.wire_edit.specs.declared.refusal.EditRefusal.{EditRefusal}
@@ -24,17 +25,11 @@ use Rattle.wire_edit.specs.Order.{next_step}
 use Rattle.wire_edit.specs.Laws.{IsTidying}
 use Rattle.wire_edit.specs.Tried.{Tried, start_of, Tidies}
 use Rattle.wire_edit.specs.Work.{work, pins_made, RoomForTidying, RoomForFixes}
-use Rattle.wire_edit.proofs.Ordering.{next_applies}
-use Rattle.wire_edit.proofs.Tested.{is_live_there}
-use Rattle.wire_edit.proofs.Reading.{gate_live}
-use Rattle.wire_edit.proofs.Ending.{wires_grow}
-use Rattle.wire_edit.proofs.Budgets.{length_budget}
-use Rattle.wire_edit.proofs.Editing.{nodes_of}
 use Rattle.journal_text.specs.declared.record.Record.{Record}
 use Rattle.journal_text.specs.declared.record.Record.TheVariants as record_of
 use Rattle.journal_text.specs.Accepted.{IsJustified, MayGrow, IsAcceptedStep}
 use Rattle.journal_text.specs.Runs.{AcceptedTo, steps_of}
-use Rattle.rar_loop.specs.Going.{Logs, IsNoLarger, Tallies, Goes, HasFreePin}
+use Rattle.rar_loop.specs.Going.{Logs, IsLeft, IsNoLarger, Tallies, Goes, HasFreePin}
 use Rattle.journal_text.specs.Runs.{IsRemoval, AreRemovals}
 use Rattle.rar_loop.proofs.Falling.{tidying_removes, fix_applies}
 use Rattle.rar_loop.proofs.Sizing.{no_gates}
@@ -125,9 +120,31 @@ tallies_one t u r log new is some room holds =
     let n : length new ≡ length log + 1 = ap (λ (rs : List Record). length rs) is ∙ length-append log (r ∷ []) in
     record { spent = omega (arith, n, some, room); holds = holds }
 
+-- WHAT IS LEFT OF THE ROOM
+pub left_then : (t u v : Tried) (p n q m : ℕ) → IsLeft t u p n → IsLeft u v q m → IsLeft t v (p + q) (n + m)
+left_then t u v p n q m a b = record { pins = omega (arith, a.pins, b.pins); nodes = omega (arith, a.nodes, b.nodes) }
+
+-- a removal takes no pins and no nodes of it
+room_kept : (room : Room) (step : Step) → IsRemoval step → ((room_after room step).pins ≡ room.pins) × ((room_after room step).nodes ≡ room.nodes)
+room_kept room (Add gate y) r = absurd r
+room_kept room (NewNot y) r = absurd r
+room_kept room (Fix gate position value) r = (refl, refl)
+room_kept room (Const gate position) r = (refl, refl)
+room_kept room (Same gate position) r = (refl, refl)
+room_kept room (NoPins gate) r = (refl, refl)
+room_kept room (OnePin gate) r = (refl, refl)
+room_kept room (Twice gate) r = (refl, refl)
+room_kept room (Twin gate other) r = (refl, refl)
+room_kept room (Dead gate) r = (refl, refl)
+
+left_one : (t u : Tried) (step : Step) → IsRemoval step → u.room ≡ room_after t.room step → IsLeft t u 0 0
+left_one t u step r is =
+    let k : ((room_after t.room step).pins ≡ t.room.pins) × ((room_after t.room step).nodes ≡ t.room.nodes) = room_kept t.room step r in
+    record { pins = omega (arith, k.0, ap (λ (m : Room). m.pins) is); nodes = omega (arith, k.1, ap (λ (m : Room). m.nodes) is) }
+
 -- GOING ON
 pub goes_none : (t : Tried) (log : List Record) → Goes t t log log
-goes_none t log = record { logs = logs_none (net_of t.graph) log; no_larger = record { wires = omega arith; gates = omega arith; numbers = omega arith }; start = refl; first = refl; epoch = refl; room = λ k le. le; tallies = tallies_none t log }
+goes_none t log = record { logs = logs_none (net_of t.graph) log; no_larger = record { wires = omega arith; gates = omega arith; numbers = omega arith }; start = refl; first = refl; epoch = refl; room = λ k le. le; tallies = tallies_none t log; left = record { pins = omega arith; nodes = omega arith } }
 
 pub goes_then : (t u v : Tried) (a b c : List Record) → Goes t u a b → Goes u v b c → Goes t v a c
 goes_then t u v a b c g h = record {
@@ -142,14 +159,15 @@ goes_then t u v a b c g h = record {
   epoch = h.epoch ∙ g.epoch;
   room = λ k le. h.room k (g.room k le);
   tallies = tallies_then t u v a b c g.tallies h.tallies;
+  left = left_then t u v 0 0 0 0 g.left h.left;
 }
 
 -- a removal was made and recorded
 pub goes_one :
     (t u : Tried) (step : Step) (tree : List Item) (log new : List Record) → IsWellFormed (net_of t.graph) → IsAcceptedStep (net_of t.graph) step tree → IsRemoval step
     → net_of u.graph ≡ stepped (net_of t.graph) step → new ≡ log ++ record_of.Step step tree ∷ [] → start_of u ≡ start_of t → u.first ≡ t.first → u.graph.epoch ≡ t.graph.epoch
-    → ((k : ℕ) → work (net_of t.graph) + k ≤ t.room.steps → work (net_of u.graph) + k ≤ u.room.steps) → Tallies t u log new → Goes t u log new
-goes_one t u step tree log new well accepted removal net is start first epoch room tallies = record {
+    → ((k : ℕ) → work (net_of t.graph) + k ≤ t.room.steps → work (net_of u.graph) + k ≤ u.room.steps) → Tallies t u log new → u.room ≡ room_after t.room step → Goes t u log new
+goes_one t u step tree log new well accepted removal net is start first epoch room tallies after = record {
   logs = subst (λ (n : Net). Logs (net_of t.graph) n log new) (sym net) (logs_one (net_of t.graph) step tree log new accepted removal is);
   no_larger = subst (λ (n : Net). IsNoLarger (net_of t.graph) n) (sym net) (no_larger (net_of t.graph) step well accepted.applies removal);
   start = start;
@@ -157,6 +175,7 @@ goes_one t u step tree log new well accepted removal net is start first epoch ro
   epoch = epoch;
   room = room;
   tallies = tallies;
+  left = left_one t u step removal after;
 }
 
 -- A FIX IS NOT REFUSED
@@ -221,6 +240,7 @@ tidied_step law t u step log new well made start first epoch is some holds =
     let here : work (stepped (net_of t.graph) step) + k ≤ u.room.steps = room_on t.room u.room step (work (stepped (net_of t.graph) step)) k made.1.1.1.1 r.1 in
     omega (arith, here, w))
     (tallies_one t u (record_of.Step step []) log new is some (ap (λ (r : Room). r.steps) made.1.1.1.1 ∙ room_steps t.room step) holds)
+    made.1.1.1.1
 
 pub never_full : RoomForTidying → (t u : Tried) (why : EditRefusal) → IsWellFormed (net_of t.graph) → work (net_of t.graph) ≤ t.room.steps → Tidies t u (Err why) → ⊥
 never_full law t u why well le made = at (next_step (net_of t.graph)) refl
@@ -247,6 +267,7 @@ fixed_step law t u fault tree log new well pin accepted net room start first' ep
     let here : work (stepped (net_of t.graph) step) + k ≤ u.room.steps = room_on t.room u.room step (work (stepped (net_of t.graph) step)) k room r.1 in
     omega (arith, here, w))
     (tallies_one t u (record_of.Step step tree) log new is first.0 (ap (λ (r : Room). r.steps) room ∙ room_steps t.room step) holds)
+    room
 
 pub fix_refused : RoomForFixes → (t : Tried) (fault : Fault) (why : EditRefusal) → IsWellFormed (net_of t.graph) → HasFreePin (net_of t.graph) fault → work (net_of t.graph) ≤ t.room.steps
     → IsAnswer (net_of t.graph) t.room (Fix fault.gate fault.position fault.value) (Some why) → ⊥

@@ -16,3 +16,5 @@ pub mod RunLaws
 pub mod WireFaults
 pub mod Filtering
 pub mod LiveNodes
+pub mod Spacing
+pub mod Noting

@@ -5,8 +5,7 @@ use Rattle.std.proofs.lemmas.Bool.{cases_eq}
 use Rattle.rm_base.specs.declared.numbers.Fault.{Fault}
 use Rattle.gate_net.specs.Net.{Net, Node, node_at, drivers_in, drivers_of, Reads, wire_count}
 use Rattle.refutation.specs.declared.items.Item.{Item}
-use Rattle.wire_edit.proofs.Tested.{within, got}
-use Rattle.wire_edit.proofs.Ordering.{live_below}
+use Rattle.wire_edit.proofs.Public.{got, live_below, within}
 use Rattle.rar_loop.specs.Going.{HasFreePin, ReadsNoConstants}
 use Rattle.refutation.specs.Detected.{HasOpenSet}
 use Rattle.rar_loop.specs.Swept.{IsSwept, IsLooked, IsRefutedAt, IsLookedAtPin, IsOpenAtGate, HasLookedAt, HasPassed, HasSwept}

@@ -19,7 +19,9 @@ use Rattle.wire_edit.specs.Work.{work, WorkIsBounded}
 use Rattle.rar_loop.specs.Going.{Goes, IsNoLarger}
 use Rattle.journal_text.specs.Runs.{AreRemovals}
 use Rattle.rar_loop.specs.Swept.{IsSwept, HasSwept}
-use Rattle.rar_loop.specs.Trying.{IsClean, IsGained}
+use Rattle.rar_loop.specs.Trying.{IsClean, IsGained, IsLent}
+use Rattle.wire_edit.specs.declared.room.Room.{Room}
+use Rattle.rar_loop.proofs.Replacing.{lent_again}
 use Rattle.rar_loop.specs.Improving.{HasBegun, HasImproved}
 use Rattle.rar_loop.proofs.GoingOn.{accepted_then, goes_then}
 use Rattle.rar_loop.proofs.Blocks.{removals_clean, removals_add_none, steps_then, places_then, improve_then, block_then}
@@ -70,16 +72,29 @@ improved_more net mid after depth records more tries pair pairs h before none g 
       are_tries = subst (λ (xs : List Addition). ArePlaces xs (tries + suc (length pairs))) (sym adds) (places_then (additions net (steps_of records)) (a ∷ []) tries (suc (length pairs)) h.are_tries place);
     }
 
-pub room_first : (t : Tried) (net : Net) → net_of t.graph ≡ net → WorkIsBounded → t.room.steps ≡ 2 * wire_count net + 2 * live_count net + 16 → work (net_of t.graph) ≤ t.room.steps
-room_first t net e law steps =
+pub room_first : (t : Tried) (net : Net) → net_of t.graph ≡ net → WorkIsBounded → IsWellFormed net → t.room.steps ≡ 2 * wire_count net + 2 * (2 + source_count net + gate_count net) + 16 → work (net_of t.graph) ≤ t.room.steps
+room_first t net e law well steps =
     let w : work (net_of t.graph) ≡ work net = ap work e in
     let b : work net ≤ 2 * wire_count net + 2 * live_count net = law net in
-    omega (arith, w, b, steps)
+    let l : live_count net ≤ 2 + (source_count net + gate_count net) = live_bound net well in
+    omega (arith, w, b, l, steps)
+
+-- the trial of the beginning may be lent
+pub lent_first :
+    AcceptedStepsKeep → (before : Circuit) (depth : ℕ) (t u v k : Tried) (l0 l1 l2 : List Record) → IsWellFormed (net_of before) → HasSize before → pins_taken before + live_nodes before ≤ 1048576
+    → net_of t.graph ≡ net_of before → t.first ≡ t.room → t.room.pins ≡ 2 * wire_count (net_of before) → t.room.nodes ≡ wire_count (net_of before) → t.room.steps ≡ 2 * wire_count (net_of before) + 2 * (2 + source_count (net_of before) + gate_count (net_of before)) + 16
+    → Goes t u l0 l1 → Goes u v l1 l2 → k.trail.entries ≡ [] → k.room ≡ record v.room { steps = v.first.steps } → k.first ≡ k.room → net_of k.graph ≡ net_of v.graph → HasBegun before depth k.graph l2 → IsLent k
+lent_first law before depth t u v k l0 l1 l2 well size enough e first pins nodes steps g h none room first' is begun =
+    let both : Goes t v l0 l2 = goes_then t u v l0 l1 l2 g h in
+    let less : IsNoLarger (net_of before) (net_of k.graph) = subst (λ (n : Net). IsNoLarger (net_of before) n) (sym is) (subst (λ (n : Net). IsNoLarger n (net_of v.graph)) e both.no_larger) in
+    let sources : source_count (net_of k.graph) ≡ source_count (net_of before) = accepted_sources law (net_of before) (net_of k.graph) l2 well begun.accepted in
+    let all : t.first.steps ≡ t.room.steps = ap (λ (r : Room). r.steps) first in
+    lent_again t v k 0 0 both.left both.first none room first' (omega (arith, less.wires, pins)) (omega (arith, less.wires, nodes)) (omega (arith, less.wires, less.gates, sources, steps, all)) (omega (arith, steps, all, size.live, size.pins, enough)) (omega (arith, begun.within.size, enough))
 
 -- the trial of the beginning: the graph, the trial at first, once tidied and once swept, and what it gives
 pub begun_first :
     AcceptedStepsKeep → (before : Circuit) (depth : ℕ) (t u v : Tried) (graph : Circuit) (l0 l1 l2 : List Record) → IsWellFormed (net_of before) → HasSize before → HasSize graph → pins_taken before + live_nodes before ≤ 1048576
-    → net_of t.graph ≡ net_of before → t.room.steps ≡ 2 * wire_count (net_of before) + 2 * live_count (net_of before) + 16 → l0 ≡ [] → Goes t u l0 l1 → Goes u v l1 l2
+    → net_of t.graph ≡ net_of before → t.room.steps ≡ 2 * wire_count (net_of before) + 2 * (2 + source_count (net_of before) + gate_count (net_of before)) + 16 → l0 ≡ [] → Goes t u l0 l1 → Goes u v l1 l2
     → IsTidy (net_of v.graph) → HasSwept (net_of u.graph) (net_of v.graph) depth → net_of graph ≡ net_of v.graph → pins_held graph ≡ pins_held before → HasBegun before depth graph l2
 begun_first law before depth t u v graph l0 l1 l2 well size size' enough e steps empty g h tidy swept is held =
     let net : Net = net_of before in
@@ -89,7 +104,6 @@ begun_first law before depth t u v graph l0 l1 l2 well size size' enough e steps
     let to : AcceptedTo (net_of t.graph) l2 (net_of v.graph) = subst (λ (rs : List Record). AcceptedTo (net_of t.graph) rs (net_of v.graph)) (sym all) both.logs.accepted in
     let accepted : AcceptedTo net l2 after = subst (λ (n : Net). AcceptedTo net l2 n) (sym is) (subst (λ (n : Net). AcceptedTo n l2 (net_of v.graph)) e to) in
     let less : IsNoLarger net after = subst (λ (n : Net). IsNoLarger net n) (sym is) (subst (λ (n : Net). IsNoLarger n (net_of v.graph)) e both.no_larger) in
-    let live : live_count net ≤ 2 + (source_count net + gate_count net) = live_bound net well in
     let none : length l0 ≡ 0 = ap (λ (rs : List Record). length rs) empty in
     record {
       accepted = accepted;
@@ -98,5 +112,5 @@ begun_first law before depth t u v graph l0 l1 l2 well size size' enough e steps
       tidy = subst IsTidy (sym is) tidy;
       swept = subst (λ (n : Net). IsSwept n depth) (sym is) swept.swept;
       within = within_by before graph size size' held (accepted_places net after l2 accepted) (accepted_sources law net after l2 well accepted) (omega (arith, less.wires, less.gates)) (omega (arith, less.numbers));
-      few = omega (arith, both.tallies.spent, none, steps, live, size.live, size.pins, enough);
+      few = omega (arith, both.tallies.spent, none, steps, size.live, size.pins, enough);
     }

@@ -1,5 +1,5 @@
 -- Targets, candidates and pairs, one after another.
-use Rattle.std.proofs.Common.{◌≡◌, ℕ, zero, suc, ◌+◌, ◌<◌, ◌≤◌, ◌⊎◌, inl, inr, Bool, not, Option, Some, None, List, [], ◌∷◌, ◌++◌, length, map, take, drop, refl, sym, ◌∙◌, ap, subst, append_assoc, add-one, get_or, arith}
+use Rattle.std.proofs.Common.{◌≡◌, ℕ, zero, suc, ◌+◌, ◌<◌, ◌≤◌, ◌⊎◌, inl, inr, Bool, not, Option, Some, None, List, Vec, Global, [], ◌∷◌, ◌++◌, length, map, take, drop, refl, sym, ◌∙◌, ap, subst, append_assoc, add-one, get_or, arith}
 use Rattle.std.specs.Prelude.{slice_get}
 use Rattle.std.proofs.lemmas.List.{append-nil}
 use Rattle.rm_base.specs.declared.numbers.Fault.{Fault}
@@ -7,8 +7,8 @@ use Rattle.gate_net.specs.Net.{Net, drivers_of, Reads}
 use Rattle.gate_net.specs.Values.{HasPin}
 use Rattle.gate_graph.specs.Circuit.{Circuit, net_of}
 use Rattle.refutation.specs.Facts.{Held}
+use Rattle.wire_edit.proofs.Public.{got}
 use Rattle.wire_edit.specs.Tests.{control_of}
-use Rattle.wire_edit.proofs.Tested.{got}
 use Rattle.candidate_wires.specs.declared.candidate.Candidate.{Candidate}
 use Rattle.candidate_wires.specs.declared.candidate.Pair.{Pair}
 use Rattle.candidate_wires.specs.Joining.{MayRead, IsCandidateOf}
@@ -19,12 +19,10 @@ use Rattle.candidate_wires.specs.Tries.{NoneGains}
 use Rattle.journal_text.specs.declared.record.Record.{Record}
 use Rattle.rar_loop.specs.Sizes.{IsSame}
 use Rattle.rar_loop.specs.Trying.{MayAdd, IsGained, IsBetter, IsLent, IsBack, IsAhead}
-use Rattle.rar_loop.specs.declared.walking.Walk.{Walk}
-use Rattle.rar_loop.specs.declared.walking.Walk.TheVariants.{Done, Spent, Gained}
 use Rattle.rar_loop.specs.declared.walking.Tour.{Tour}
 use Rattle.rar_loop.specs.declared.walking.Tour.TheVariants as tour
 use Rattle.wire_edit.specs.Tried.{Tried}
-use Rattle.rar_loop.specs.Walking.{AreTried, IsTargetTour, IsWalk}
+use Rattle.rar_loop.specs.Walking.{AreTried, IsTargetTour, IsTour, IsWalk}
 use Rattle.rar_loop.proofs.Sizing.{within_same, within_then}
 
 -- PLACES IN LISTS
@@ -158,7 +156,7 @@ pub back_then : (t u v : Tried) → IsBack t u → IsBack u v → IsBack t v
 back_then t u v a b = record { same = same_then t.graph u.graph v.graph a.same b.same; lent = b.lent }
 
 pub ahead_back : (t u v : Tried) (pair : Pair) (depth : ℕ) (records : List Record) → IsBack t u → IsAhead u pair depth records v → IsAhead t pair depth records v
-ahead_back t u v pair depth records back a = record { better = better_back t.graph u.graph v.graph pair depth records back.same a.better; kept = a.kept }
+ahead_back t u v pair depth records back a = record { better = better_back t.graph u.graph v.graph pair depth records back.same a.better; lent = a.lent }
 
 pub tour_back : (t u v : Tried) (target : Fault) (depth left after : ℕ) (end : Tour) → IsBack t u → IsTargetTour u target depth left after v end → IsTargetTour t target depth left after v end
 tour_back t u v target depth left after tour.Done back w =
@@ -168,14 +166,15 @@ tour_back t u v target depth left after (tour.Spent at) back w =
 tour_back t u v target depth left after (tour.Gained records) back w =
     (w.0, (w.1.0, (w.1.1.0, (subst (λ (n : Net). AreTried n target w.0 w.1.0) back.same.net w.1.1.1.0, (w.1.1.1.1.0, (w.1.1.1.1.1.0, ahead_back t u v (paired target w.1.1.0) depth records.items back w.1.1.1.1.1.1))))))
 
--- a walk of a graph that is the same
-pub walk_from : (u v : Circuit) (depth left after : ℕ) (w : Walk) → IsSame u v → IsWalk v depth left after w → IsWalk u depth left after w
-walk_from u v depth left after (Done graph) same w =
-    (same_then u v graph same w.0, subst (λ (n : Net). (pairs : List Pair) × (ArePairs n pairs × (NoneGains n pairs × (after + length pairs ≡ left)))) same.net w.1)
-walk_from u v depth left after (Spent graph at) same w =
-    (same_then u v graph same w.0, subst (λ (n : Net). (pairs : List Pair) × (ArePairsBefore n at pairs × (NoneGains n pairs × ((after ≡ 0) × (length pairs ≡ left))))) same.net w.1)
-walk_from u v depth left after (Gained graph records) same w =
-    (w.0, (w.1.0, (subst (λ (n : Net). ArePairsBefore n w.0 w.1.0) same.net w.1.1.0, (subst (λ (n : Net). NoneGains n w.1.0) same.net w.1.1.1.0, (w.1.1.1.1.0, better_back u v graph w.0 depth records.items same w.1.1.1.1.1)))))
+-- what a tour of a trial comes to on the graph that the trial gives, or on its graph where a pair gained
+pub walk_done : (t u : Tried) (graph : Circuit) (depth left after : ℕ) → IsSame u.graph graph → IsTour t depth left after u tour.Done → IsWalk t.graph depth left after graph tour.Done
+walk_done t u graph depth left after same w = (same_then t.graph u.graph graph w.0.same same, w.1)
+
+pub walk_spent : (t u : Tried) (graph : Circuit) (at : Pair) (depth left after : ℕ) → IsSame u.graph graph → IsTour t depth left after u (tour.Spent at) → IsWalk t.graph depth left after graph (tour.Spent at)
+walk_spent t u graph at depth left after same w = (same_then t.graph u.graph graph w.0.same same, w.1)
+
+pub walk_gained : (t u : Tried) (records : Vec Record Global) (depth left after : ℕ) → IsTour t depth left after u (tour.Gained records) → IsWalk t.graph depth left after u.graph (tour.Gained records)
+walk_gained t u records depth left after w = (w.0, (w.1.0, (w.1.1.0, (w.1.1.1.0, (w.1.1.1.1.0, w.1.1.1.1.1.better)))))
 
 -- PAIRS
 pub pairs_then : (net : Net) (ts : List Fault) (t : Fault) (ps : List Pair) (here : List Candidate) → ArePairsOf net ts ps → AreCandidatesOf net t here → ArePairsOf net (ts ++ t ∷ []) (ps ++ map (paired t) here)

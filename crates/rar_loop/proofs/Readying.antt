@@ -13,6 +13,7 @@ use Rattle.gate_net.specs.Edits.{with_pin, last_pin}
 use Rattle.gate_graph.specs.Circuit.{net_of}
 use Rattle.refutation.specs.Branches.{AreAccepted}
 use Rattle.refutation.specs.declared.items.Item.{Item}
+use Rattle.wire_edit.proofs.Public.{gate_is, is_live_there, junction_gate, total_with, wires_grow}
 use Rattle.wire_edit.specs.declared.steps.Step.TheVariants.{Add, NewNot}
 use Rattle.wire_edit.specs.declared.refusal.EditRefusal.{EditRefusal}
 use Rattle.wire_edit.specs.Tests.{control_of, live_in}
@@ -21,9 +22,6 @@ use Rattle.wire_edit.specs.Refusals.{refusal_of, room_after, IsAnswer, live_coun
 use Rattle.wire_edit.specs.Order.{node}
 use Rattle.wire_edit.specs.Tried.{Tried}
 use Rattle.wire_edit.specs.Work.{work, RoomForAdding, WorkIsBounded}
-use Rattle.wire_edit.proofs.Tested.{is_live_there, gate_is, junction_gate}
-use Rattle.wire_edit.proofs.Ending.{wires_grow}
-use Rattle.wire_edit.proofs.Totals.{total_with}
 use Rattle.candidate_wires.specs.declared.candidate.Candidate.{Candidate}
 use Rattle.candidate_wires.specs.Gains.{net_for, wire_for, with_candidate}
 use Rattle.journal_text.specs.declared.record.Record.{Record}
@@ -180,11 +178,11 @@ live_bound net well = at net.nodes refl
         let rest : sum_by live_in os ≤ sum_by (λ (o : Option Node). count_in o source_in) os + sum_by (λ (o : Option Node). count_in o gate_in) os = live_rest os (λ k n there. away k n (ap (λ (qs : List (Option Node)). slice_get qs (suc (suc k))) is ∙ there)) in
         omega (arith, l, m, e, f, s, s', g, g', rest)
 
-pub ready_first : (t : Tried) (net : Net) → net_of t.graph ≡ net → WorkIsBounded → IsWellFormed net → t.room.steps ≡ 2 * wire_count net + 2 * live_count net + 16 → wire_count net + (2 + source_count net + gate_count net) ≤ 1048576 → IsReadyToAdd t 16
+pub ready_first : (t : Tried) (net : Net) → net_of t.graph ≡ net → WorkIsBounded → IsWellFormed net → 2 * wire_count net + 2 * (2 + source_count net + gate_count net) + 16 ≤ t.room.steps → wire_count net + (2 + source_count net + gate_count net) ≤ 1048576 → IsReadyToAdd t 16
 ready_first t net e law well steps few =
     let w : work (net_of t.graph) ≡ work net = ap work e in
     let b : work net ≤ 2 * wire_count net + 2 * live_count net = law net in
     let wc : wire_count (net_of t.graph) ≡ wire_count net = ap wire_count e in
     let lc : live_count (net_of t.graph) ≡ live_count net = ap live_count e in
     let l : live_count net ≤ 2 + (source_count net + gate_count net) = live_bound net well in
-    record { steps = omega (arith, w, b, steps); wires = omega (arith, wc, few); nodes = omega (arith, lc, l, few) }
+    record { steps = omega (arith, w, b, l, steps); wires = omega (arith, wc, few); nodes = omega (arith, lc, l, few) }

@@ -1,15 +1,17 @@
 -- What a try that went through left.
-use Rattle.std.proofs.Common.{◌≡◌, ℕ, ◌+◌, ◌<◌, ◌≤◌, inl, inr, Bool, true, false, Some, None, List, [], ◌∷◌, ◌++◌, length, refl, sym, ◌∙◌, ap, subst, append_assoc, arith}
-use Rattle.std.specs.Prelude.{nat_eq, if◌then◌else◌}
+use Rattle.std.proofs.Common.{◌≡◌, ℕ, zero, suc, ◌+◌, ◌*◌, ◌<◌, ◌≤◌, inl, inr, Bool, true, false, Option, Some, None, List, [], ◌∷◌, ◌++◌, length, refl, sym, ◌∙◌, ap, subst, append_assoc, arith}
+use Rattle.std.specs.List.{sum_by}
+use Rattle.std.proofs.lemmas.List.Sums.{sum_by-cons}
+use Rattle.std.specs.Prelude.{nat_eq, slice_get, if◌then◌else◌}
 use Rattle.std.proofs.lemmas.Bool.{eq-eqb}
 use Rattle.rm_base.specs.declared.numbers.Fault.{Fault}
 use Rattle.rm_base.specs.declared.numbers.NodeId.{NodeId}
-use Rattle.gate_net.specs.Net.{Net, IsGate, IsWellFormed, wire_count, source_count, gate_count}
+use Rattle.gate_net.specs.Net.{Net, Node, IsGate, IsWellFormed, drivers_in, flatten_option, wire_count, source_count, gate_count}
 use Rattle.gate_net.specs.Values.{HasPin}
 use Rattle.gate_net.specs.Edits.{fixed}
 use Rattle.std.specs.Cmp.{nat_cmp_total}
 use Rattle.std.specs.FinSet.{same_set, len, nat_cmp-IsAntisymmetric}
-use Rattle.gate_graph.specs.Circuit.{Circuit, wiring, net_of, live_nodes}
+use Rattle.gate_graph.specs.Circuit.{Circuit, wiring, net_of, live_nodes, pins_taken}
 use Rattle.gate_graph.specs.Holds.{pins_held}
 use Rattle.wire_edit.specs.Refusals.{live_count}
 use Rattle.journal_text.specs.Accepted.{AcceptedStepsKeep}
@@ -33,7 +35,8 @@ use Rattle.journal_text.specs.declared.record.Record.{Record}
 use Rattle.journal_text.specs.declared.record.Record.TheVariants as record_of
 use Rattle.journal_text.specs.Runs.{AcceptedTo, steps_of}
 use Rattle.rar_loop.specs.Swept.{HasSwept}
-use Rattle.rar_loop.specs.Going.{HasFreePin, HasFixed, Logs, IsNoLarger}
+use Rattle.wire_edit.proofs.Public.{within}
+use Rattle.rar_loop.specs.Going.{HasFreePin, HasFixed, IsLeft, Logs, IsNoLarger}
 use Rattle.journal_text.specs.Runs.{AreRemovals}
 use Rattle.rar_loop.specs.Sizes.{IsSame, most_steps}
 use Rattle.rar_loop.specs.Trying.{IsBetter, IsBack, IsLent, MayTry, HasAdded, HasReplaced, IsReplaced, IsGained, IsClean}
@@ -158,18 +161,70 @@ rolled_back graph back start is at at' live live' =
 pub back_again : (t u : Tried) → IsLent t → IsSame t.graph u.graph → u.trail.entries ≡ [] → u.room ≡ t.first → u.first ≡ t.first → IsBack t u
 back_again t u lent same none room first =
     let wires : wire_count (net_of u.graph) ≡ wire_count (net_of t.graph) = ap wire_count same.net in
-    let live : live_count (net_of u.graph) ≡ live_count (net_of t.graph) = ap live_count same.net in
+    let sources : source_count (net_of u.graph) ≡ source_count (net_of t.graph) = ap source_count same.net in
+    let gates : gate_count (net_of u.graph) ≡ gate_count (net_of t.graph) = ap gate_count same.net in
     record {
       same = same;
       lent = record {
         entries = none;
         room = room ∙ sym first;
-        pins = ap (λ (r : Room). r.pins) first ∙ lent.pins;
-        nodes = ap (λ (r : Room). r.nodes) first ∙ lent.nodes;
-        steps = omega (arith, ap (λ (r : Room). r.steps) first, lent.steps, wires, live);
+        pins = omega (arith, ap (λ (r : Room). r.pins) first, lent.pins, wires);
+        nodes = omega (arith, ap (λ (r : Room). r.nodes) first, lent.nodes, wires);
+        steps = omega (arith, ap (λ (r : Room). r.steps) first, lent.steps, wires, sources, gates);
+        few_steps = omega (arith, ap (λ (r : Room). r.steps) first, lent.few_steps);
         few = omega (arith, lent.few, same.pins, same.nodes);
       };
     }
 
 pub at_start : (t : Tried) → t.trail.entries ≡ [] → wiring t.graph ≡ start_of t
 at_start t e = ap (λ (es : List Entry). back_to (wiring t.graph) es) (sym e)
+
+-- WHAT IS KEPT
+-- a trial that was kept may be lent again where its room suffices for the net as it is now
+pub lent_again : (t v k : Tried) (pins nodes : ℕ) → IsLeft t v pins nodes → v.first ≡ t.first → k.trail.entries ≡ [] → k.room ≡ record v.room { steps = v.first.steps } → k.first ≡ k.room
+    → 2 * wire_count (net_of k.graph) + pins ≤ t.room.pins → wire_count (net_of k.graph) + nodes ≤ t.room.nodes
+    → 2 * wire_count (net_of k.graph) + 2 * (2 + source_count (net_of k.graph) + gate_count (net_of k.graph)) + 16 ≤ t.first.steps → t.first.steps ≤ most_steps → pins_taken k.graph + live_nodes k.graph ≤ 1048576 → IsLent k
+lent_again t v k pins nodes left same none room first enough_pins enough_nodes enough_steps few_steps few =
+    let all : k.first ≡ record v.room { steps = v.first.steps } = first ∙ room in
+    let s : k.first.steps ≡ t.first.steps = ap (λ (r : Room). r.steps) all ∙ ap (λ (r : Room). r.steps) same in
+    record {
+      entries = none;
+      room = sym first;
+      pins = omega (arith, ap (λ (r : Room). r.pins) all, left.pins, enough_pins);
+      nodes = omega (arith, ap (λ (r : Room). r.nodes) all, left.nodes, enough_nodes);
+      steps = omega (arith, s, enough_steps);
+      few_steps = omega (arith, s, few_steps);
+      few = few;
+    }
+
+-- a net with a pin has a wire
+wire_at : (os : List (Option Node)) (x k d : ℕ) → slice_get (drivers_in (flatten_option (slice_get os x))) k ≡ Some d → 0 < sum_by (λ (o : Option Node). length (drivers_in o)) os
+wire_at [] x k d e = cc
+wire_at (o ∷ os) zero k d e =
+    let lt : k < length (drivers_in o) = within (drivers_in o) k d e in
+    let sum : sum_by (λ (q : Option Node). length (drivers_in q)) (o ∷ os) ≡ length (drivers_in o) + sum_by (λ (q : Option Node). length (drivers_in q)) os = sum_by-cons (λ (q : Option Node). length (drivers_in q)) o os in
+    omega (arith, lt, sum)
+wire_at (o ∷ os) (suc x) k d e =
+    let rest : 0 < sum_by (λ (q : Option Node). length (drivers_in q)) os = wire_at os x k d e in
+    let sum : sum_by (λ (q : Option Node). length (drivers_in q)) (o ∷ os) ≡ length (drivers_in o) + sum_by (λ (q : Option Node). length (drivers_in q)) os = sum_by-cons (λ (q : Option Node). length (drivers_in q)) o os in
+    omega (arith, rest, sum)
+
+pub some_wire : (net : Net) (fault : Fault) → HasPin net fault → 0 < wire_count net
+some_wire net fault pin = wire_at net.nodes fault.gate.0 fault.position pin.0 pin.1
+
+-- a try that gained leaves fewer wires and at most one more gate, for two pins and a node of the room
+pub lent_ahead :
+    AcceptedStepsKeep → (t v k : Tried) (pair : Pair) (depth : ℕ) (records : List Record) → IsWellFormed (net_of t.graph) → IsLent t → IsReplaced (net_of t.graph) pair depth records (net_of v.graph) → IsBetter t.graph pair depth records k.graph
+    → IsLeft t v 2 1 → v.first ≡ t.first → k.trail.entries ≡ [] → k.room ≡ record v.room { steps = v.first.steps } → k.first ≡ k.room → net_of k.graph ≡ net_of v.graph → IsLent k
+lent_ahead law t v k pair depth records well lent replaced better left same none room first is =
+    let gates : gate_count (net_of k.graph) ≤ gate_count (net_of t.graph) + 1 = subst (λ (n : Net). gate_count n ≤ gate_count (net_of t.graph) + 1) (sym is) replaced.gates in
+    let sources : source_count (net_of k.graph) ≡ source_count (net_of t.graph) = accepted_sources law (net_of t.graph) (net_of k.graph) records well better.gained.accepted in
+    let fewer : wire_count (net_of k.graph) < wire_count (net_of t.graph) = better.gained.fewer in
+    let at : t.room ≡ t.first = lent.room in
+    lent_again t v k 2 1 left same none room first (omega (arith, fewer, lent.pins, ap (λ (r : Room). r.pins) at)) (omega (arith, fewer, lent.nodes, ap (λ (r : Room). r.nodes) at)) (omega (arith, fewer, gates, sources, lent.steps)) lent.few_steps (omega (arith, better.within.size, lent.few))
+
+-- an added wire, a fix and tidying leave the sources
+pub added_sources : AcceptedStepsKeep → (net wired mid : Net) (c : Candidate) (depth : ℕ) (l0 l1 : List Record) → IsWellFormed net → HasAdded net c depth l0 true → wired ≡ with_candidate net c → Logs wired mid l0 l1 → source_count mid ≡ source_count net
+added_sources law net wired mid c depth l0 l1 well added e logs =
+    let to : AcceptedTo net l0 wired = subst (λ (w : Net). AcceptedTo net l0 w) (sym e) added.1.1 in
+    accepted_sources law net mid (l0 ++ logs.more) well (accepted_then net wired mid l0 logs.more to logs.accepted)

@@ -9,6 +9,7 @@ use Rattle.gate_net.specs.declared.Kind.TheVariants.{Not}
 use Rattle.gate_net.specs.Edits.{redriven, redirected, node_redirected}
 use Rattle.gate_graph.specs.Circuit.{Circuit, net_of, pins_taken, live_nodes}
 use Rattle.gate_graph.specs.Holds.{held, pins_held, HoldsOn}
+use Rattle.wire_edit.proofs.Public.{length_budget, nodes_of, total_least, total_map, total_trimmed}
 use Rattle.wire_edit.specs.declared.steps.Step.{Step}
 use Rattle.wire_edit.specs.declared.steps.Step.TheVariants.{Add, NewNot}
 use Rattle.wire_edit.specs.Changes.{Change, append, remove, fix, readers, new_not, retire, changed, with_least_free}
@@ -17,9 +18,6 @@ use Rattle.wire_edit.specs.Refusals.{live_count}
 use Rattle.wire_edit.specs.Order.{node}
 use Rattle.wire_edit.specs.Tests.{live_in}
 use Rattle.wire_edit.specs.Tried.{Tried}
-use Rattle.wire_edit.proofs.Editing.{nodes_of}
-use Rattle.wire_edit.proofs.Budgets.{length_budget}
-use Rattle.wire_edit.proofs.Totals.{total_trimmed, total_least, total_map}
 use Rattle.candidate_wires.specs.declared.candidate.Candidate.{Candidate}
 use Rattle.candidate_wires.specs.Gains.{net_for, with_candidate, wire_for}
 use Rattle.journal_text.specs.declared.record.Record.{Record}

@@ -12,7 +12,7 @@ use Rattle.journal_text.specs.declared.record.Record.{Record}
 use Rattle.journal_text.specs.Appends.{IsThere}
 use Rattle.journal_text.specs.Joining.{TextsAppend, RunsJoin}
 use Rattle.journal_text.specs.Runs.{steps_of, none_made, made_by, HasAppended, HasAppendedPart, IsStopped, records_text}
-use Rattle.rar_loop.specs.declared.walking.Walk.TheVariants.{Done, Spent, Gained}
+use Rattle.rar_loop.specs.declared.walking.Tour.TheVariants.{Done, Spent, Gained}
 use Rattle.rar_loop.specs.Sizes.{IsSame, IsWithin, most_steps}
 use Rattle.rar_loop.specs.Walking.{IsWalk}
 use Rattle.rar_loop.specs.Ended.{IsImproved, IsOptimised, AreFew}
@@ -45,7 +45,7 @@ streams_first before swept depth limit records made made' old now name b written
     }
 
 pub streams_more : TextsAppend → RunsJoin → (before mid : Circuit) (depth limit left left' : ℕ) (better : Circuit) (records : Vec Record Global) (made made' : Made) (old now now' : Option Files) (name : List ℕ) → Streams before depth limit left mid made old now name
-    → IsWalk mid depth left left' (Gained better records) → HasAppended now now' name (records_text records.items) → made' ≡ made_by made (steps_of records.items) → Streams before depth limit left' better made' old now' name
+    → IsWalk mid depth left left' better (Gained records) → HasAppended now now' name (records_text records.items) → made' ≡ made_by made (steps_of records.items) → Streams before depth limit left' better made' old now' name
 streams_more texts join before mid depth limit left left' better records made made' old now now' name o w written counts =
     let b = w.1.1.1.1.1 in
     let one : HasImproved (net_of before) depth (net_of better) (o.records ++ records.items) ((limit - left) + suc (length w.1.0)) =
@@ -87,7 +87,7 @@ streams_to : (before mid last : Circuit) (depth limit left : ℕ) (outcome : Out
 streams_to before mid last depth limit left outcome made old now name o i same =
     subst (λ (n : Net). IsOptimised (net_of before) n depth limit outcome made old now name) (sym same.net) (record { records = o.records; improved = i; written = o.written; counted = o.counts })
 
-pub streams_done : (before mid : Circuit) (depth limit left left' : ℕ) (last : Circuit) (made : Made) (old now : Option Files) (name : List ℕ) → Streams before depth limit left mid made old now name → IsWalk mid depth left left' (Done last)
+pub streams_done : (before mid : Circuit) (depth limit left left' : ℕ) (last : Circuit) (made : Made) (old now : Option Files) (name : List ℕ) → Streams before depth limit left mid made old now name → IsWalk mid depth left left' last Done
     → IsOptimised (net_of before) (net_of last) depth limit (Settled (limit - left')) made old now name
 streams_done before mid depth limit left left' last made old now name o w =
     streams_to before mid last depth limit left (Settled (limit - left')) made old now name o (record {
@@ -100,7 +100,7 @@ streams_done before mid depth limit left left' last made old now name o w =
       ends = record { pairs = w.1.0; all = w.1.1.0; none = w.1.1.1.0; counted = limit - left; are_tries = o.improved.are_tries; sum = omega (arith, o.left_within, w.1.1.1.1); within = omega arith };
     }) w.0
 
-pub streams_spent : (before mid : Circuit) (depth limit left left' : ℕ) (last : Circuit) (at : Pair) (made : Made) (old now : Option Files) (name : List ℕ) → Streams before depth limit left mid made old now name → IsWalk mid depth left left' (Spent last at)
+pub streams_spent : (before mid : Circuit) (depth limit left left' : ℕ) (last : Circuit) (at : Pair) (made : Made) (old now : Option Files) (name : List ℕ) → Streams before depth limit left mid made old now name → IsWalk mid depth left left' last (Spent at)
     → IsOptimised (net_of before) (net_of last) depth limit (TriesSpent limit at) made old now name
 streams_spent before mid depth limit left left' last at made old now name o w =
     streams_to before mid last depth limit left (TriesSpent limit at) made old now name o (record {
@@ -126,7 +126,7 @@ stopped_first before swept depth records old now name b part = record { records 
 pub stopped_whole : TextsAppend → (before mid : Circuit) (depth limit left : ℕ) (made : Made) (old now : Option Files) (name : List ℕ) → Streams before depth limit left mid made old now name → IsStopped (net_of before) old now name
 stopped_whole texts before mid depth limit left made old now name o = record { records = o.records; after = net_of mid; accepted = o.improved.accepted; written = texts.whole old now name (records_text o.records) o.written }
 
-pub stopped_more : TextsAppend → RunsJoin → (before mid : Circuit) (depth limit left left' : ℕ) (better : Circuit) (records : Vec Record Global) (made : Made) (old now now' : Option Files) (name : List ℕ) → Streams before depth limit left mid made old now name → IsWalk mid depth left left' (Gained better records)
+pub stopped_more : TextsAppend → RunsJoin → (before mid : Circuit) (depth limit left left' : ℕ) (better : Circuit) (records : Vec Record Global) (made : Made) (old now now' : Option Files) (name : List ℕ) → Streams before depth limit left mid made old now name → IsWalk mid depth left left' better (Gained records)
     → HasAppendedPart now now' name (records_text records.items) → IsStopped (net_of before) old now' name
 stopped_more texts join before mid depth limit left left' better records made old now now' name o w part = record {
   records = o.records ++ records.items;

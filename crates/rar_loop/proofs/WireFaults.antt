@@ -5,16 +5,11 @@ use Rattle.std.specs.Prelude.{slice_get, slice_set, nat_eq, if◌then◌else◌}
 use Rattle.std.proofs.lemmas.Bool.Decides.{eqb_tells}
 use Rattle.std.proofs.lemmas.Bool.{eq-eqb}
 use Rattle.rm_base.specs.declared.numbers.Fault.{Fault}
+use Rattle.gate_net.proofs.Public.{controlled, gate_more, map_agree, map_at, map_last_set, node_at-other, node_at-there, not_not, reads_elsewhere, reads_there, set_there, value_at, values_unique}
 use Rattle.gate_net.specs.Net.{Net, node_at, drivers_in, drivers_of, Reads, IsLive, IsObserved, IsWellFormed}
 use Rattle.gate_net.specs.Values.{AreGoodValues, AreFaultyValues, Detects, IsJunction, IsRun, faulty_reads, gate_value, node_value}
 use Rattle.gate_net.specs.Edits.{with_pin, last_pin}
 use Rattle.gate_net.specs.Laws.{OutsideIsEqual}
-use Rattle.gate_net.proofs.AlongPins.{reads_elsewhere, reads_there, value_at}
-use Rattle.gate_net.proofs.Bools.{not_not}
-use Rattle.gate_net.proofs.Edited.{node_at-other, node_at-there}
-use Rattle.gate_net.proofs.Junctions.{controlled, gate_more}
-use Rattle.gate_net.proofs.Places.{map_agree, map_at, map_last_set, set_there}
-use Rattle.gate_net.proofs.Valuations.{values_unique}
 use Rattle.wire_edit.specs.Changes.{with_new_not}
 use Rattle.candidate_wires.specs.declared.candidate.Candidate.{Candidate}
 use Rattle.candidate_wires.specs.Gains.{least_free, net_for, with_candidate}

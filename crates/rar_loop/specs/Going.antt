@@ -30,6 +30,11 @@ pub record Tallies (old new : Tried) (log log' : List Record) : Type 0 where
   pub spent : length log' + new.room.steps ≡ length log + old.room.steps
   pub holds : HoldsOn old.graph new.graph old.trail.entries new.trail.entries
 
+-- of the room for pins and nodes at most so much was taken
+pub record IsLeft (old new : Tried) (p n : ℕ) : Type 0 where
+  pub pins : old.room.pins ≤ new.room.pins + p
+  pub nodes : old.room.nodes ≤ new.room.nodes + n
+
 -- the trial went on by recorded removals, as far as its room allows
 pub record Goes (old new : Tried) (log log' : List Record) : Type 0 where
   pub logs : Logs (net_of old.graph) (net_of new.graph) log log'
@@ -39,6 +44,7 @@ pub record Goes (old new : Tried) (log log' : List Record) : Type 0 where
   pub epoch : new.graph.epoch ≡ old.graph.epoch
   pub room : (k : ℕ) → work (net_of old.graph) + k ≤ old.room.steps → work (net_of new.graph) + k ≤ new.room.steps
   pub tallies : Tallies old new log log'
+  pub left : IsLeft old new 0 0
 
 -- a pin that no constant drives
 abbrev pub HasFreePin : Net → Fault → Type 0

@@ -2,9 +2,12 @@
 use Rattle.std.specs.Prelude.{◌≡◌, ◌<◌, ◌⊎◌, ℕ, Bool, true, false, not, IsTrue, List, Option, Some, bit_xor, slice_get, if◌then◌else◌}
 use Rattle.gate_net.specs.Net.{Net}
 use Rattle.gate_net.specs.Values.{Detects, HasPin}
+use Rattle.fault_sim.specs.BlockStates.{AreSimulated}
 use Rattle.fault_sim.specs.LaneStates.{Fits, IsSimulated}
 use Rattle.fault_sim.specs.Words.{all_ones, assignment, lane}
 use Rattle.wire_edit.specs.Tests.{control_of}
+use Rattle.rm_base.specs.declared.numbers.NodeId.{NodeId}
+use Rattle.rar_loop.specs.Changing.{numbers_of}
 use Rattle.rar_loop.specs.Rows.{stuck}
 use Rattle.rar_loop.specs.declared.vectors.Vectors.{Vectors}
 
@@ -29,8 +32,14 @@ abbrev pub HasKept : List (Option ℕ) → List (Option ℕ) → ℕ → ℕ →
 HasKept old new gate word =
     (g : ℕ) (w : ℕ) → slice_get new g ≡ Some (Some w) → ((g ≡ gate) × (word ≡ w)) ⊎ (slice_get old g ≡ Some (Some w))
 
+-- a gate of which a word is kept is listed
+abbrev pub AreAsked : List (Option ℕ) → List NodeId → Type 0
+AreAsked turned asked = (gate word : ℕ) → slice_get turned gate ≡ Some (Some word) → (k : ℕ) × (slice_get (numbers_of asked) k ≡ Some gate)
+
 -- they are simulated for the net, and in the lanes that are kept of a gate it is turned
 pub record AreFor (v : Vectors) (net : Net) : Type 0 where
   pub fits : Fits v.lanes net
   pub simulated : IsSimulated v.lanes net
   pub turned : (gate word : ℕ) → slice_get v.turned.items gate ≡ Some (Some word) → (i : ℕ) → i < 64 → IsTrue (lane i word) → IsTurned net gate (assignment v.lanes.words i)
+  pub listed : AreAsked v.turned.items v.asked.items
+  pub found : AreSimulated v.found net

@@ -8,3 +8,5 @@ pub mod Improving
 pub mod Rounds
 pub mod Rows
 pub mod Kept
+pub mod Spaces
+pub mod Changing

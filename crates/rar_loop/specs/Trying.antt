@@ -1,6 +1,6 @@
 -- What a try of a pair does.
 use Rattle.std.specs.Prelude.{◌≡◌, ◌<◌, ◌≤◌, ◌+◌, ◌*◌, ◌++◌, ◌∷◌, [], ◌⊎◌, ℕ, Bool, true, false, not, List, Some, if◌then◌else◌, length, max}
-use Rattle.gate_net.specs.Net.{Net, wire_count, gate_count}
+use Rattle.gate_net.specs.Net.{Net, wire_count, source_count, gate_count}
 use Rattle.gate_net.specs.Values.{HasPin}
 use Rattle.gate_net.specs.Edits.{fixed, last_pin}
 use Rattle.refutation.specs.Facts.{Held}
@@ -96,13 +96,14 @@ pub record IsBetter (before : Circuit) (pair : Pair) (depth : ℕ) (records : Li
   pub within : IsWithin before graph
   pub few : length records ≤ most_steps
 
--- a trial at its start, with the room that one try takes at most
+-- a trial at its start, with room for tries that gain, of which each leaves fewer wires
 pub record IsLent (t : Tried) : Type 0 where
   pub entries : t.trail.entries ≡ []
   pub room : t.room ≡ t.first
-  pub pins : t.first.pins ≡ 2
-  pub nodes : t.first.nodes ≡ 1
-  pub steps : t.first.steps ≡ 2 * wire_count (net_of t.graph) + 2 * live_count (net_of t.graph) + 16
+  pub pins : 2 * wire_count (net_of t.graph) ≤ t.first.pins
+  pub nodes : wire_count (net_of t.graph) ≤ t.first.nodes
+  pub steps : 2 * wire_count (net_of t.graph) + 2 * (2 + source_count (net_of t.graph) + gate_count (net_of t.graph)) + 16 ≤ t.first.steps
+  pub few_steps : t.first.steps ≤ most_steps
   pub few : pins_taken t.graph + live_nodes t.graph ≤ 1048576
 
 -- the graph is as it was, and the trial may be lent again
@@ -110,10 +111,10 @@ pub record IsBack (before now : Tried) : Type 0 where
   pub same : IsSame before.graph now.graph
   pub lent : IsLent now
 
--- the trial's graph has fewer wires, by one addition, which is kept
+-- the trial's graph has fewer wires, by one addition, and the trial may be lent again
 pub record IsAhead (before : Tried) (pair : Pair) (depth : ℕ) (records : List Record) (now : Tried) : Type 0 where
   pub better : IsBetter before.graph pair depth records now.graph
-  pub kept : now.trail.entries ≡ []
+  pub lent : IsLent now
 
 -- fewer wires; or all as it was, and the pair doesn't gain on the net
 abbrev pub IsAttempt : Tried → Pair → ℕ → Tried → Attempt → Type 0

@@ -8,8 +8,6 @@ use Rattle.candidate_wires.specs.declared.candidate.Pair.{Pair}
 use Rattle.candidate_wires.specs.Candidates.{AreCandidatesOf}
 use Rattle.candidate_wires.specs.Pairs.{ArePairs, ArePairsBefore, paired}
 use Rattle.candidate_wires.specs.Tries.{NoneGains}
-use Rattle.rar_loop.specs.declared.walking.Walk.{Walk}
-use Rattle.rar_loop.specs.declared.walking.Walk.TheVariants.{Done, Spent, Gained}
 use Rattle.rar_loop.specs.declared.walking.Tour.{Tour}
 use Rattle.rar_loop.specs.declared.walking.Tour.TheVariants as tour
 use Rattle.rar_loop.specs.Sizes.{IsSame}
@@ -40,10 +38,10 @@ IsTour before depth left after now (tour.Gained records) =
     (pair : Pair) × ((pairs : List Pair) × (ArePairsBefore (net_of before.graph) pair pairs × (NoneGains (net_of before.graph) pairs × ((after + suc (length pairs) ≡ left) × IsAhead before pair depth records.items now))))
 
 -- all pairs were tried in vain; or those before one at which the tries are used up, or before one that gained, on the graph that is given
-abbrev pub IsWalk : Circuit → ℕ → ℕ → ℕ → Walk → Type 0
-IsWalk before depth left after (Done graph) =
+abbrev pub IsWalk : Circuit → ℕ → ℕ → ℕ → Circuit → Tour → Type 0
+IsWalk before depth left after graph tour.Done =
     IsSame before graph × ((pairs : List Pair) × (ArePairs (net_of before) pairs × (NoneGains (net_of before) pairs × (after + length pairs ≡ left))))
-IsWalk before depth left after (Spent graph at) =
+IsWalk before depth left after graph (tour.Spent at) =
     IsSame before graph × ((pairs : List Pair) × (ArePairsBefore (net_of before) at pairs × (NoneGains (net_of before) pairs × ((after ≡ 0) × (length pairs ≡ left)))))
-IsWalk before depth left after (Gained graph records) =
+IsWalk before depth left after graph (tour.Gained records) =
     (pair : Pair) × ((pairs : List Pair) × (ArePairsBefore (net_of before) pair pairs × (NoneGains (net_of before) pairs × ((after + suc (length pairs) ≡ left) × IsBetter before pair depth records.items graph))))

@@ -1,40 +1,79 @@
 //! The beginning of the addition loop: the net is tidied and swept.
-ghost use Rattle.std.specs.Prelude.{◌≤◌, ◌+◌, IfOk};
-ghost use Rattle.gate_graph.specs.Circuit.{pins_taken, live_nodes};
+ghost use Rattle.std.specs.Prelude.{◌≡◌, ◌≤◌, ◌+◌, ◌*◌, [], IfOk};
+ghost use Rattle.gate_graph.specs.Circuit.{net_of, pins_taken, live_nodes};
+ghost use Rattle.gate_graph.specs.Holds.{pins_held};
+ghost use Rattle.gate_net.specs.Net.{gate_count, source_count, wire_count};
 ghost use Rattle.rar_loop.specs.Improving.{HasBegun};
+ghost use Rattle.rar_loop.specs.Spaces.{IsReady};
 
+use crate::changes::Changed;
 use crate::sweeping::sweep;
 use crate::tidying::tidy;
+use crate::workspace::Workspace;
 use gate_graph::Graph;
-use implications::Engine;
 use journal_text::{Record, accepted_steps_keep};
 use rm_base::NoMemory;
 use std::alloc::Global;
 use wire_edit::{BeginRefusal, Room, Trial, tidying_ends};
 
-/// Tidies and sweeps, and gives the records of that.
+// Room for all tries on a graph and on what they leave: one that gains makes a Not and two pins at most, and leaves fewer
+// wires.
+fn whole_room(graph: &Graph) -> Room
+    requires { pins_taken graph.now + live_nodes graph.now ≤ 1048576 }
+    ensures pins { result.pins ≡ 2 * wire_count (net_of graph.now) }
+    ensures nodes { result.nodes ≡ wire_count (net_of graph.now) }
+    ensures steps { result.steps ≡ 2 * wire_count (net_of graph.now) + 2 * (2 + source_count (net_of graph.now) + gate_count (net_of graph.now)) + 16 }
+{
+    graph.well_formed();
+    let wires = graph.wire_count() as usize;
+    let nodes = 2 + graph.source_count() as usize + graph.gate_count() as usize;
+    Room {
+        pins: 2 * wires,
+        nodes: wires,
+        steps: 2 * wires + 2 * nodes + 16,
+    }
+}
+
+// A trial that goes on to the end of the loop.
+fn begin(alloc: Global, graph: Graph) -> Result<Trial, NoMemory>
+    requires { pins_taken graph + live_nodes graph ≤ 1048576 }
+    ensures net { IfOk result (λ t. net_of t.graph ≡ net_of graph) }
+    ensures pins { IfOk result (λ t. t.room.pins ≡ 2 * wire_count (net_of graph)) }
+    ensures nodes { IfOk result (λ t. t.room.nodes ≡ wire_count (net_of graph)) }
+    ensures steps { IfOk result (λ t. t.room.steps ≡ 2 * wire_count (net_of graph) + 2 * (2 + source_count (net_of graph) + gate_count (net_of graph)) + 16) }
+    ensures first { IfOk result (λ t. t.first ≡ t.room) }
+    ensures entries { IfOk result (λ t. t.trail.entries ≡ []) }
+    ensures held { IfOk result (λ t. pins_held t.graph ≡ pins_held graph) }
+{
+    graph.well_formed();
+    let room = whole_room(&graph);
+    match Trial::begin(alloc, graph, room) {
+        Ok(trial) => Ok(trial),
+        Err(BeginRefusal::NoMemory { graph: _ }) => Err(NoMemory),
+    }
+}
+
+/// Tidies and sweeps, and gives the records of that beside a workspace that is ready for tries.
 pub(crate) fn begun(
     alloc: Global,
     graph: Graph,
     depth: u8,
-) -> Result<(Graph, Vec<Record>), NoMemory>
+    found: &[Vec<u64>],
+) -> Result<(Workspace, Vec<Record>), NoMemory>
     requires few { pins_taken graph + live_nodes graph ≤ 1048576 }
     requires depth { depth ≤ 2 }
-    ensures { IfOk result (λ r. HasBegun graph depth r.0 r.1.items) }
+    ensures begun { IfOk result (λ r. HasBegun graph depth r.0.trial.graph r.1.items) }
+    ensures ready { IfOk result (λ r. IsReady r.0) }
 {
     tidying_ends();
     accepted_steps_keep();
     graph.well_formed();
-    let mut engine = Engine::for_numbers(alloc, graph.node_bound())?;
-    let room = Room::enough(&graph);
-    let mut trial = match Trial::begin(alloc, graph, room) {
-        Ok(trial) => trial,
-        Err(BeginRefusal::NoMemory { graph: _ }) => return Err(NoMemory),
-    };
+    let mut trial = begin(alloc, graph)?;
     let mut log = Vec::new(alloc);
-    tidy(alloc, &mut trial, &mut log)?;
-    sweep(alloc, &mut engine, &mut trial, &mut log, depth)?;
-    let swept = trial.commit();
-    swept.well_formed();
-    Ok((swept, log))
+    tidy(alloc, &mut trial, &mut log, &mut Changed::new(alloc))?;
+    let mut space = Workspace::over(alloc, trial, found)?;
+    sweep(alloc, &mut space, &mut log, depth)?;
+    space.trial.keep();
+    space.trial.graph().well_formed();
+    Ok((space, log))
 }

@@ -7,8 +7,10 @@ ghost use Rattle.refutation.specs.Branches.{AreAccepted};
 ghost use Rattle.wire_edit.specs.Order.{IsTidy};
 ghost use Rattle.wire_edit.specs.Work.{work};
 ghost use Rattle.candidate_wires.specs.Tidying.{TidiesTo};
+ghost use Rattle.rar_loop.specs.Changing.{NotesOn};
 ghost use Rattle.rar_loop.specs.Going.{Goes, HasFixed, HasFreePin, ReadsNoConstants};
 
+use crate::changes::Changed;
 use crate::tidying::tidy;
 use journal_text::Record;
 use refutation::Tree;
@@ -16,11 +18,13 @@ use rm_base::{Fault, NoMemory};
 use std::alloc::Global;
 use wire_edit::{Step, Trial, room_suffices, steps_keep, tidying_ends};
 
-/// Fixes the refuted pin, which no constant drives, and tidies. In a net without constant pins a wire goes.
+/// Fixes the refuted pin, which no constant drives, tidies, and notes what that changes. In a net without constant pins a
+/// wire goes.
 pub(crate) fn fix_and_tidy(
     alloc: Global,
     trial: &mut Trial,
     log: &mut Vec<Record>,
+    changed: &mut Changed,
     fault: Fault,
     tree: Tree,
 ) -> Result<(), NoMemory>
@@ -30,6 +34,7 @@ pub(crate) fn fix_and_tidy(
     ensures goes { OnOk result (Goes trial.old trial.new log.old.items log.new.items) }
     ensures order { OnOk result (TidiesTo (fixed (net_of trial.old.graph) fault) (net_of trial.new.graph)) }
     ensures tidy { OnOk result (IsTidy (net_of trial.new.graph)) }
+    ensures noted { OnOk result (NotesOn (net_of trial.old.graph) (net_of trial.new.graph) changed.old changed.new) }
     ensures fixed { OnOk result (HasFixed fault tree log.old.items log.new.items) }
     ensures fewer { ReadsNoConstants (net_of trial.old.graph) → OnOk result (wire_count (net_of trial.new.graph) < wire_count (net_of trial.old.graph)) }
 {
@@ -47,6 +52,7 @@ pub(crate) fn fix_and_tidy(
         Err(_refusal) => unreachable!(),
     }
     log.push(Record::Step { step, tree })?;
-    tidy(alloc, trial, log)?;
+    changed.note(trial.graph(), step)?;
+    tidy(alloc, trial, log, changed)?;
     Ok(())
 }

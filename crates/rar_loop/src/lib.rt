@@ -2,6 +2,7 @@
 #![tactic(auto)]
 
 mod beginning;
+mod changes;
 mod fixing;
 mod laws;
 mod optimising;
@@ -13,6 +14,7 @@ mod tidying;
 mod trying;
 mod vectors;
 mod walking;
+mod workspace;
 
 pub use laws::{run_begins, run_goes_on, worked_rows};
 pub use optimising::optimise;

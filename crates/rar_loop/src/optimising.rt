@@ -12,7 +12,8 @@ ghost use Rattle.rar_loop.specs.Swept.{IsSwept};
 ghost use Rattle.rar_loop.specs.Ended.{IsOptimised, AreFew};
 
 use crate::beginning::begun;
-use crate::walking::{Walk, walk_pairs};
+use crate::walking::{Tour, walk_pairs};
+use crate::workspace::finished;
 use candidate_wires::Outcome;
 use gate_graph::Graph;
 use journal_text::{
@@ -24,13 +25,15 @@ use std::alloc::Global;
 
 /// Removes wires, by sweeping and by adding others, until no pair gains or the tries of the settings are used up
 /// (redundancy addition and removal: Entrena and Cheng 1995). Each run of steps that is kept is recorded with its trees
-/// before the next is looked for. After a `Stop` the graph is dropped.
+/// before the next is looked for. Blocks of 64 vectors that were found before, each with a word for each source, save
+/// refutations; the results are the same with any. After a `Stop` the graph is dropped.
 pub fn optimise<S: Shelf>(
     alloc: Global,
     graph: Graph,
     settings: &Settings,
     shelf: &mut S,
     journal: &str,
+    found: &[Vec<u64>],
 ) -> Result<(Graph, Outcome, Made), Stop>
     requires few { pins_taken graph + live_nodes graph ≤ 1048576 }
     requires depth { settings.now.depth ≤ 2 }
@@ -57,28 +60,23 @@ pub fn optimise<S: Shelf>(
         fixes: 0,
         local: 0,
     };
-    let (swept, records) = begun(alloc, graph, settings.depth)?;
+    let (mut space, records) = begun(alloc, graph, settings.depth, found)?;
     append_records(alloc, shelf, journal, &records)?;
     count_records(&records, &mut made);
-    let mut graph = swept;
     let mut left = settings.tries;
     loop {
-        match walk_pairs(alloc, graph, settings.depth, &mut left)? {
-            Walk::Done { graph: last } => {
+        match walk_pairs(alloc, &mut space, settings.depth, &mut left)? {
+            Tour::Done => {
                 let tries = settings.tries - left;
-                return Ok((last, Outcome::Settled { tries }, made));
+                return Ok((finished(space), Outcome::Settled { tries }, made));
             }
-            Walk::Spent { graph: last, at } => {
+            Tour::Spent { at } => {
                 let tries = settings.tries;
-                return Ok((last, Outcome::TriesSpent { tries, at }, made));
+                return Ok((finished(space), Outcome::TriesSpent { tries, at }, made));
             }
-            Walk::Gained {
-                graph: better,
-                records,
-            } => {
+            Tour::Gained { records } => {
                 append_records(alloc, shelf, journal, &records)?;
                 count_records(&records, &mut made);
-                graph = better;
             }
         }
     }

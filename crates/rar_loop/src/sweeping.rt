@@ -5,44 +5,54 @@ ghost use Rattle.wire_edit.specs.Order.{IsTidy};
 ghost use Rattle.wire_edit.specs.Work.{work};
 ghost use Rattle.rar_loop.specs.Going.{Goes};
 ghost use Rattle.rar_loop.specs.Kept.{AreFor};
+ghost use Rattle.rar_loop.specs.Spaces.{AreAlike, TouchesOn};
 ghost use Rattle.rar_loop.specs.Swept.{HasLookedAt, HasPassed, HasSwept};
 
+use crate::changes::Changed;
 use crate::fixing::fix_and_tidy;
 use crate::refuting::refuted_at;
-use crate::vectors::Vectors;
-use implications::Engine;
-use journal_text::Record;
+use crate::workspace::Workspace;
+use journal_text::{Record, accepted_steps_keep};
 use rm_base::{NoMemory, NodeId};
 use std::alloc::Global;
-use wire_edit::Trial;
 
-// Fixes the first refuted pin of a gate, tidies and draws vectors for what is left; whether there was one.
+// Fixes the first refuted pin of a gate and tidies, which the vectors follow; whether there was one.
 fn sweep_at(
     alloc: Global,
-    engine: &mut Engine,
-    vectors: &mut Vectors,
-    trial: &mut Trial,
+    space: &mut Workspace,
     log: &mut Vec<Record>,
     gate: NodeId,
     depth: u8,
 ) -> Result<bool, NoMemory>
-    requires tidy { IsTidy (net_of trial.old.graph) }
-    requires room { work (net_of trial.old.graph) ≤ trial.old.room.steps }
-    requires numbers { length (net_of trial.old.graph).nodes ≤ engine.old.numbers }
-    requires vectors { AreFor vectors.old (net_of trial.old.graph) }
+    requires tidy { IsTidy (net_of space.old.trial.graph) }
+    requires room { work (net_of space.old.trial.graph) ≤ space.old.trial.room.steps }
+    requires numbers { length (net_of space.old.trial.graph).nodes ≤ space.old.engine.numbers }
+    requires vectors { AreFor space.old.vectors (net_of space.old.trial.graph) }
     requires depth { depth ≤ 2 }
-    ensures goes { OnOk result (Goes trial.old trial.new log.old.items log.new.items) }
-    ensures tidy { OnOk result (IsTidy (net_of trial.new.graph)) }
-    ensures looked { IfOk result (HasLookedAt (net_of trial.old.graph) (net_of trial.new.graph) gate.0 depth) }
-    ensures numbers { OnOk result (engine.new.numbers ≡ engine.old.numbers) }
-    ensures vectors { OnOk result (AreFor vectors.new (net_of trial.new.graph)) }
+    ensures goes { OnOk result (Goes space.old.trial space.new.trial log.old.items log.new.items) }
+    ensures tidy { OnOk result (IsTidy (net_of space.new.trial.graph)) }
+    ensures looked { IfOk result (HasLookedAt (net_of space.old.trial.graph) (net_of space.new.trial.graph) gate.0 depth) }
+    ensures alike { OnOk result (AreAlike space.old space.new) }
+    ensures touched { OnOk result (TouchesOn (net_of space.old.trial.graph) (net_of space.new.trial.graph) space.old.touched.items space.new.touched.items) }
+    ensures vectors { OnOk result (AreFor space.new.vectors (net_of space.new.trial.graph)) }
 {
-    trial.graph().well_formed();
-    match refuted_at(alloc, engine, vectors, trial.graph(), gate, depth)? {
+    accepted_steps_keep();
+    let graph = space.trial.graph();
+    graph.well_formed();
+    let found = refuted_at(
+        alloc,
+        &mut space.engine,
+        &mut space.vectors,
+        graph,
+        gate,
+        depth,
+    )?;
+    match found {
         None => Ok(false),
         Some((fault, tree)) => {
-            fix_and_tidy(alloc, trial, log, fault, tree)?;
-            *vectors = Vectors::drawn(alloc, trial.graph())?;
+            let mut changed = Changed::new(alloc);
+            fix_and_tidy(alloc, &mut space.trial, log, &mut changed, fault, tree)?;
+            space.follow(alloc, &changed)?;
             Ok(true)
         }
     }
@@ -65,25 +75,26 @@ fn either(one: bool, other: bool) -> bool
 // Goes through the gates once, and looks at each until no pin of it is refuted; whether a pin was fixed.
 fn pass(
     alloc: Global,
-    engine: &mut Engine,
-    trial: &mut Trial,
+    space: &mut Workspace,
     log: &mut Vec<Record>,
     depth: u8,
 ) -> Result<bool, NoMemory>
-    requires tidy { IsTidy (net_of trial.old.graph) }
-    requires room { work (net_of trial.old.graph) ≤ trial.old.room.steps }
-    requires numbers { length (net_of trial.old.graph).nodes ≤ engine.old.numbers }
+    requires tidy { IsTidy (net_of space.old.trial.graph) }
+    requires room { work (net_of space.old.trial.graph) ≤ space.old.trial.room.steps }
+    requires numbers { length (net_of space.old.trial.graph).nodes ≤ space.old.engine.numbers }
+    requires vectors { AreFor space.old.vectors (net_of space.old.trial.graph) }
     requires depth { depth ≤ 2 }
-    ensures goes { OnOk result (Goes trial.old trial.new log.old.items log.new.items) }
-    ensures tidy { OnOk result (IsTidy (net_of trial.new.graph)) }
-    ensures passed { IfOk result (HasPassed (net_of trial.old.graph) (net_of trial.new.graph) depth (length (net_of trial.new.graph).nodes)) }
-    ensures numbers { OnOk result (engine.new.numbers ≡ engine.old.numbers) }
+    ensures goes { OnOk result (Goes space.old.trial space.new.trial log.old.items log.new.items) }
+    ensures tidy { OnOk result (IsTidy (net_of space.new.trial.graph)) }
+    ensures passed { IfOk result (HasPassed (net_of space.old.trial.graph) (net_of space.new.trial.graph) depth (length (net_of space.new.trial.graph).nodes)) }
+    ensures alike { OnOk result (AreAlike space.old space.new) }
+    ensures touched { OnOk result (TouchesOn (net_of space.old.trial.graph) (net_of space.new.trial.graph) space.old.touched.items space.new.touched.items) }
+    ensures vectors { OnOk result (AreFor space.new.vectors (net_of space.new.trial.graph)) }
 {
-    let mut vectors = Vectors::drawn(alloc, trial.graph())?;
     let mut has_fixed = false;
     let mut gate = 0u32;
-    while gate < trial.graph().node_bound() {
-        let found = sweep_at(alloc, engine, &mut vectors, trial, log, NodeId(gate), depth)?;
+    while gate < space.trial.graph().node_bound() {
+        let found = sweep_at(alloc, space, log, NodeId(gate), depth)?;
         gate = next_gate(gate, found);
         has_fixed = either(has_fixed, found);
     }
@@ -93,22 +104,24 @@ fn pass(
 /// Fixes refuted pins in a tidy net until none is left.
 pub(crate) fn sweep(
     alloc: Global,
-    engine: &mut Engine,
-    trial: &mut Trial,
+    space: &mut Workspace,
     log: &mut Vec<Record>,
     depth: u8,
 ) -> Result<(), NoMemory>
-    requires tidy { IsTidy (net_of trial.old.graph) }
-    requires room { work (net_of trial.old.graph) ≤ trial.old.room.steps }
-    requires numbers { length (net_of trial.old.graph).nodes ≤ engine.old.numbers }
+    requires tidy { IsTidy (net_of space.old.trial.graph) }
+    requires room { work (net_of space.old.trial.graph) ≤ space.old.trial.room.steps }
+    requires numbers { length (net_of space.old.trial.graph).nodes ≤ space.old.engine.numbers }
+    requires vectors { AreFor space.old.vectors (net_of space.old.trial.graph) }
     requires depth { depth ≤ 2 }
-    ensures goes { OnOk result (Goes trial.old trial.new log.old.items log.new.items) }
-    ensures tidy { OnOk result (IsTidy (net_of trial.new.graph)) }
-    ensures swept { OnOk result (HasSwept (net_of trial.old.graph) (net_of trial.new.graph) depth) }
-    ensures numbers { OnOk result (engine.new.numbers ≡ engine.old.numbers) }
+    ensures goes { OnOk result (Goes space.old.trial space.new.trial log.old.items log.new.items) }
+    ensures tidy { OnOk result (IsTidy (net_of space.new.trial.graph)) }
+    ensures swept { OnOk result (HasSwept (net_of space.old.trial.graph) (net_of space.new.trial.graph) depth) }
+    ensures alike { OnOk result (AreAlike space.old space.new) }
+    ensures touched { OnOk result (TouchesOn (net_of space.old.trial.graph) (net_of space.new.trial.graph) space.old.touched.items space.new.touched.items) }
+    ensures vectors { OnOk result (AreFor space.new.vectors (net_of space.new.trial.graph)) }
 {
     loop {
-        let has_fixed = pass(alloc, engine, trial, log, depth)?;
+        let has_fixed = pass(alloc, space, log, depth)?;
         if !has_fixed {
             return Ok(());
         }

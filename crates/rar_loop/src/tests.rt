@@ -13,7 +13,7 @@ use self::nets::{Gate, wired};
 use crate::optimise;
 use crate::vectors::Vectors;
 use crate::walking::candidates_of;
-use candidate_wires::{Candidate, Outcome, Pair};
+use candidate_wires::{Candidate, Finder, Outcome, Pair};
 use gate_graph::Graph;
 use implications::Engine;
 use rm_base::{Fault, Made, NoMemory, NodeId, Settings, Shelf, SureShelf};
@@ -48,7 +48,8 @@ fn optimised_at(alloc: Global, graph: Graph, depth: u8, tries: u32) -> Result<En
     let Some(_) = shelf.file("journal") else {
         return Err("not created".into());
     };
-    let Ok((graph, outcome, made)) = optimise(alloc, graph, &settings, &mut shelf, "journal") else {
+    let Ok((graph, outcome, made)) = optimise(alloc, graph, &settings, &mut shelf, "journal", &[])
+    else {
         return Err("stopped".into());
     };
     let text = Vec::from_slice(alloc, shelf.file("journal").ok_or("no journal")?)?;
@@ -214,7 +215,8 @@ fn count_candidates(alloc: Global, graph: &Graph, target: &Fault) -> Result<usiz
         return Err("no pin".into());
     };
     let mut engine = Engine::new(alloc, graph)?;
-    Ok(candidates_of(alloc, &mut engine, graph, target)?.len())
+    let mut finder = Finder::new(alloc, graph.node_bound())?;
+    Ok(candidates_of(alloc, &mut engine, &mut finder, graph, target)?.len())
 }
 
 #[test]
@@ -245,7 +247,7 @@ const WIRES: [(u32, bool, u32, bool); 8] = [
 ];
 
 fn detect_new_pin(alloc: Global, graph: &Graph, candidate: Candidate) -> Result<bool, NoMemory> {
-    let mut vectors = Vectors::drawn(alloc, graph)?;
+    let mut vectors = Vectors::drawn(alloc, graph, &[])?;
     Ok(vectors.detect_wire(graph, &candidate))
 }
 

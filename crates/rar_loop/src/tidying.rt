@@ -5,8 +5,10 @@ ghost use Rattle.wire_edit.specs.Order.{IsTidy};
 ghost use Rattle.wire_edit.specs.Work.{work};
 ghost use Rattle.candidate_wires.specs.Tidying.{TidiesTo};
 ghost use Rattle.journal_text.specs.declared.record.Record.TheVariants as record_of;
+ghost use Rattle.rar_loop.specs.Changing.{NotesOn};
 ghost use Rattle.rar_loop.specs.Going.{Goes};
 
+use crate::changes::Changed;
 use journal_text::Record;
 use refutation::TreeBuilder;
 use rm_base::NoMemory;
@@ -22,19 +24,28 @@ pub(crate) fn push_local(alloc: Global, log: &mut Vec<Record>, step: Step) -> Re
     Ok(())
 }
 
-/// Makes every step of the tidying order.
-pub(crate) fn tidy(alloc: Global, trial: &mut Trial, log: &mut Vec<Record>) -> Result<(), NoMemory>
+/// Makes every step of the tidying order, and notes what they change.
+pub(crate) fn tidy(
+    alloc: Global,
+    trial: &mut Trial,
+    log: &mut Vec<Record>,
+    changed: &mut Changed,
+) -> Result<(), NoMemory>
     requires room { work (net_of trial.old.graph) ≤ trial.old.room.steps }
     ensures goes { OnOk result (Goes trial.old trial.new log.old.items log.new.items) }
     ensures order { OnOk result (TidiesTo (net_of trial.old.graph) (net_of trial.new.graph)) }
     ensures tidy { OnOk result (IsTidy (net_of trial.new.graph)) }
+    ensures noted { OnOk result (NotesOn (net_of trial.old.graph) (net_of trial.new.graph) changed.old changed.new) }
 {
     tidying_ends();
     room_suffices();
     loop {
         trial.graph().well_formed();
         match trial.tidy_one() {
-            Ok(Some(step)) => push_local(alloc, log, step)?,
+            Ok(Some(step)) => {
+                push_local(alloc, log, step)?;
+                changed.note(trial.graph(), step)?;
+            }
             Ok(None) => return Ok(()),
             Err(_refusal) => unreachable!(),
         }

@@ -1,5 +1,5 @@
 //! Trying one pair.
-ghost use Rattle.std.specs.Prelude.{◌≡◌, ◌<◌, ◌≤◌, ◌+◌, [], IfOk, OnOk, Bool, IsTrue, not, Some, length, min};
+ghost use Rattle.std.specs.Prelude.{◌≡◌, ◌<◌, ◌≤◌, ◌+◌, [], IfOk, OnOk, Bool, IsTrue, not, Some, length, min, if◌then◌else◌};
 ghost use Rattle.gate_net.specs.Edits.{last_pin};
 ghost use Rattle.wire_edit.specs.Tests.{control_of};
 ghost use Rattle.gate_graph.specs.Circuit.{net_of, live_nodes};
@@ -7,13 +7,18 @@ ghost use Rattle.gate_net.specs.Net.{wire_count, source_count, gate_count};
 ghost use Rattle.wire_edit.specs.Order.{IsTidy};
 ghost use Rattle.wire_edit.specs.Tried.{Tried, start_of};
 ghost use Rattle.candidate_wires.specs.Gains.{net_for, wire_for, with_candidate};
-ghost use Rattle.rar_loop.specs.Going.{Tallies};
+ghost use Rattle.rar_loop.specs.Going.{IsLeft, Tallies};
+ghost use Rattle.rar_loop.specs.Kept.{AreFor};
+ghost use Rattle.rar_loop.specs.Changing.{NotesOn};
+ghost use Rattle.rar_loop.specs.Spaces.{AreAlike, HasRoom, IsReady, TouchesOn};
 ghost use Rattle.rar_loop.specs.Trying.{MayAdd, MayTry, HasAdded, HasReplaced, IsAttempt, IsBack, IsLent, IsReadyToAdd, not_records};
 
+use crate::changes::Changed;
 use crate::fixing::fix_and_tidy;
 use crate::refuting::refuted;
 use crate::sweeping::sweep;
 use crate::tidying::push_local;
+use crate::workspace::Workspace;
 use candidate_wires::{Candidate, Pair, added_pin, control_of, least_free};
 use gate_graph::Graph;
 use implications::Engine;
@@ -37,6 +42,7 @@ fn wire_of(
     alloc: Global,
     trial: &mut Trial,
     log: &mut Vec<Record>,
+    changed: &mut Changed,
     candidate: &Candidate,
 ) -> Result<NodeId, NoMemory>
     requires candidate { MayAdd (net_of trial.old.graph) candidate.now }
@@ -49,6 +55,8 @@ fn wire_of(
     ensures log { OnOk result (log.new.items ≡ not_records candidate.now) }
     ensures ready { OnOk result (IsReadyToAdd trial.new 11) }
     ensures pins { OnOk result (1 ≤ trial.new.room.pins) }
+    ensures left { OnOk result (IsLeft trial.old trial.new 1 1) }
+    ensures noted { OnOk result (NotesOn (net_of trial.old.graph) (net_of trial.new.graph) changed.old changed.new) }
     ensures tallies { OnOk result (Tallies trial.old trial.new log.old.items log.new.items) }
     ensures start { start_of trial.new ≡ start_of trial.old }
     ensures first { trial.new.first ≡ trial.old.first }
@@ -68,6 +76,7 @@ fn wire_of(
         Err(_refusal) => unreachable!(),
     }
     push_local(alloc, log, step)?;
+    changed.note_made(made)?;
     Ok(made)
 }
 
@@ -87,6 +96,7 @@ fn add_wire(
     engine: &mut Engine,
     trial: &mut Trial,
     log: &mut Vec<Record>,
+    changed: &mut Changed,
     candidate: &Candidate,
     depth: u8,
 ) -> Result<bool, NoMemory>
@@ -101,6 +111,8 @@ fn add_wire(
     ensures added { IfOk result (HasAdded (net_of trial.old.graph) candidate.now depth log.new.items) }
     ensures ready { OnOk result (IsReadyToAdd trial.new 7) }
     ensures tallies { IfOk result (λ added. IsTrue added → Tallies trial.old trial.new log.old.items log.new.items) }
+    ensures left { OnOk result (IsLeft trial.old trial.new 2 1) }
+    ensures noted { OnOk result (NotesOn (net_of trial.old.graph) (net_of trial.new.graph) changed.old changed.new) }
     ensures numbers { OnOk result (engine.new.numbers ≡ engine.old.numbers) }
     ensures start { start_of trial.new ≡ start_of trial.old }
     ensures first { trial.new.first ≡ trial.old.first }
@@ -108,7 +120,7 @@ fn add_wire(
 {
     trial.graph().well_formed();
     room_suffices();
-    let node = wire_of(alloc, trial, log, candidate)?;
+    let node = wire_of(alloc, trial, log, changed, candidate)?;
     let wired = trial.graph();
     wired.well_formed();
     let fault = new_pin(wired, candidate.gate);
@@ -120,6 +132,7 @@ fn add_wire(
         Ok(()) => {}
         Err(_refusal) => unreachable!(),
     }
+    changed.note(trial.graph(), step)?;
     match refuted(alloc, engine, trial.graph(), &fault, depth)? {
         None => Ok(false),
         Some(tree) => {
@@ -132,37 +145,52 @@ fn add_wire(
 // Adds the wire, fixes the target, tidies and sweeps, as far as both faults are refuted; whether they are.
 fn replace(
     alloc: Global,
-    engine: &mut Engine,
-    trial: &mut Trial,
+    space: &mut Workspace,
     log: &mut Vec<Record>,
     pair: &Pair,
     depth: u8,
 ) -> Result<bool, NoMemory>
-    requires tidy { IsTidy (net_of trial.old.graph) }
-    requires pair { MayTry (net_of trial.old.graph) pair.now }
-    requires ready { IsReadyToAdd trial.old 16 }
-    requires room { 0 < trial.old.room.nodes }
-    requires pins { 2 ≤ trial.old.room.pins }
+    requires tidy { IsTidy (net_of space.old.trial.graph) }
+    requires pair { MayTry (net_of space.old.trial.graph) pair.now }
+    requires ready { IsReadyToAdd space.old.trial 16 }
+    requires room { 0 < space.old.trial.room.nodes }
+    requires pins { 2 ≤ space.old.trial.room.pins }
     requires none { log.old.items ≡ [] }
-    requires numbers { min (length (net_of trial.old.graph).nodes + 1) 4294967295 ≤ engine.old.numbers }
+    requires numbers { min (length (net_of space.old.trial.graph).nodes + 1) 4294967295 ≤ space.old.engine.numbers }
+    requires vectors { AreFor space.old.vectors (net_of space.old.trial.graph) }
     requires depth { depth ≤ 2 }
-    ensures tallies { IfOk result (λ replaced. IsTrue replaced → Tallies trial.old trial.new log.old.items log.new.items) }
-    ensures replaced { IfOk result (HasReplaced (net_of trial.old.graph) pair.now depth log.new.items (net_of trial.new.graph)) }
-    ensures numbers { OnOk result (engine.new.numbers ≡ engine.old.numbers) }
-    ensures start { OnOk result (start_of trial.new ≡ start_of trial.old) }
-    ensures first { OnOk result (trial.new.first ≡ trial.old.first) }
-    ensures epoch { OnOk result (trial.new.graph.epoch ≡ trial.old.graph.epoch) }
+    ensures tallies { IfOk result (λ replaced. IsTrue replaced → Tallies space.old.trial space.new.trial log.old.items log.new.items) }
+    ensures left { IfOk result (λ replaced. IsTrue replaced → IsLeft space.old.trial space.new.trial 2 1) }
+    ensures replaced { IfOk result (HasReplaced (net_of space.old.trial.graph) pair.now depth log.new.items (net_of space.new.trial.graph)) }
+    ensures alike { OnOk result (AreAlike space.old space.new) }
+    ensures vectors { IfOk result (λ replaced. AreFor space.new.vectors (if replaced then net_of space.new.trial.graph else net_of space.old.trial.graph)) }
+    ensures touched { IfOk result (λ replaced. IsTrue replaced → TouchesOn (net_of space.old.trial.graph) (net_of space.new.trial.graph) space.old.touched.items space.new.touched.items) }
+    ensures start { OnOk result (start_of space.new.trial ≡ start_of space.old.trial) }
+    ensures first { OnOk result (space.new.trial.first ≡ space.old.trial.first) }
+    ensures epoch { OnOk result (space.new.trial.graph.epoch ≡ space.old.trial.graph.epoch) }
 {
+    accepted_steps_keep();
+    let trial = &mut space.trial;
     trial.graph().well_formed();
-    let added = add_wire(alloc, engine, trial, log, &pair.candidate, depth)?;
+    let mut changed = Changed::new(alloc);
+    let added = add_wire(
+        alloc,
+        &mut space.engine,
+        trial,
+        log,
+        &mut changed,
+        &pair.candidate,
+        depth,
+    )?;
     if !added {
         return Ok(false);
     }
-    match refuted(alloc, engine, trial.graph(), &pair.fault, depth)? {
+    match refuted(alloc, &mut space.engine, trial.graph(), &pair.fault, depth)? {
         None => Ok(false),
         Some(tree) => {
-            fix_and_tidy(alloc, trial, log, pair.fault, tree)?;
-            sweep(alloc, engine, trial, log, depth)?;
+            fix_and_tidy(alloc, trial, log, &mut changed, pair.fault, tree)?;
+            space.follow(alloc, &changed)?;
+            sweep(alloc, space, log, depth)?;
             Ok(true)
         }
     }
@@ -179,36 +207,37 @@ fn give_back(trial: &mut Trial)
 /// Tries a pair of a swept net, whose wires were counted. The trial is where it was, or its graph has fewer wires.
 pub(crate) fn try_pair(
     alloc: Global,
-    engine: &mut Engine,
-    trial: &mut Trial,
+    space: &mut Workspace,
     wires: u32,
     pair: &Pair,
     depth: u8,
 ) -> Result<Attempt, NoMemory>
-    requires tidy { IsTidy (net_of trial.old.graph) }
-    requires pair { MayTry (net_of trial.old.graph) pair.now }
-    requires lent { IsLent trial.old }
-    requires wires { wires ≡ wire_count (net_of trial.old.graph) }
-    requires numbers { min (length (net_of trial.old.graph).nodes + 1) 4294967295 ≤ engine.old.numbers }
+    requires ready { IsReady space.old }
+    requires room { HasRoom space.old }
+    requires pair { MayTry (net_of space.old.trial.graph) pair.now }
+    requires wires { wires ≡ wire_count (net_of space.old.trial.graph) }
     requires depth { depth ≤ 2 }
-    ensures attempt { IfOk result (IsAttempt trial.old pair.now depth trial.new) }
-    ensures numbers { OnOk result (engine.new.numbers ≡ engine.old.numbers) }
+    ensures attempt { IfOk result (IsAttempt space.old.trial pair.now depth space.new.trial) }
+    ensures alike { OnOk result (AreAlike space.old space.new) }
+    ensures vectors { OnOk result (AreFor space.new.vectors (net_of space.new.trial.graph)) }
 {
-    trial.graph().well_formed();
+    space.trial.graph().well_formed();
     tidying_ends();
     closed_has_all();
     accepted_steps_keep();
     let mut log = Vec::new(alloc);
-    let refuted = replace(alloc, engine, trial, &mut log, pair, depth)?;
+    space.touched.clear();
+    let refuted = replace(alloc, space, &mut log, pair, depth)?;
     if !refuted {
-        give_back(trial);
+        give_back(&mut space.trial);
         return Ok(Attempt::Failed);
     }
-    if trial.graph().wire_count() < wires {
-        trial.keep();
-        trial.graph().well_formed();
+    if space.trial.graph().wire_count() < wires {
+        space.trial.keep();
+        space.trial.graph().well_formed();
         return Ok(Attempt::Gained { records: log });
     }
-    give_back(trial);
+    give_back(&mut space.trial);
+    space.follow_back(alloc)?;
     Ok(Attempt::Failed)
 }

@@ -1,14 +1,18 @@
 //! Vectors that are kept for a net: a fault that one of them detects is never refuted, so it isn't asked.
-ghost use Rattle.std.specs.Prelude.{◌≡◌, ◌<◌, ℕ, Bool, IfOk, IsTrue, None, Some, length, replicate, slice_get};
+ghost use Rattle.std.specs.Prelude.{◌≡◌, ◌<◌, ℕ, Bool, IfOk, OnOk, IsTrue, None, Some, length, replicate, slice_get};
+ghost use Rattle.gate_net.specs.Net.{Net};
 ghost use Rattle.gate_net.specs.Values.{Detects, HasPin};
 ghost use Rattle.gate_graph.specs.Circuit.{net_of};
 ghost use Rattle.fault_sim.specs.Words.{assignment, lane};
+ghost use Rattle.fault_sim.specs.BlockStates.{AreSimulated};
 ghost use Rattle.fault_sim.specs.LaneStates.{Fits, IsSimulated};
-ghost use Rattle.rar_loop.specs.Kept.{AreFor, HasKept, IsTurned, lanes_with, wanted};
+ghost use Rattle.fault_sim.specs.Following.{DiffersAmong};
+ghost use Rattle.rar_loop.specs.Changing.{numbers_of};
+ghost use Rattle.rar_loop.specs.Kept.{AreAsked, AreFor, HasKept, IsTurned, lanes_with, wanted};
 ghost use Rattle.rar_loop.specs.Trying.{IsNewPinOpen, MayAdd};
 
 use candidate_wires::{Candidate, control_of};
-use fault_sim::Lanes;
+use fault_sim::{Blocks, Lanes};
 use gate_graph::Graph;
 use gate_net::outside_is_equal;
 use refutation::detected::detected_faults_stay_open;
@@ -21,7 +25,11 @@ use wire_edit::steps_keep;
 #[derive(Drop)]
 pub(crate) struct Vectors {
     lanes: Lanes,
+    // Vectors that were found by searches, of which only those that detect a fault are asked.
+    found: Blocks,
     turned: Vec<Option<u64>>,
+    // The gates of which a word is kept.
+    asked: Vec<NodeId>,
 }
 
 // The next number (splitmix64: Steele, Lea and Flood 2014).
@@ -104,6 +112,30 @@ fn none_kept(alloc: Global, count: usize) -> Result<Vec<Option<u64>>, NoMemory>
     Ok(turned)
 }
 
+// At most so many blocks of 64 found vectors are kept.
+const MOST_FOUND: usize = 8;
+
+// Keeps blocks of found vectors that have a word for each source, up to so many.
+fn keep_all(
+    alloc: Global,
+    graph: &Graph,
+    found: &[Vec<u64>],
+    blocks: &mut Blocks,
+) -> Result<(), NoMemory>
+    requires simulated { AreSimulated blocks.old (net_of graph.now) }
+    ensures simulated { AreSimulated blocks.new (net_of graph.now) }
+{
+    let sources = graph.source_count() as usize;
+    for words in found {
+        if words.len() == sources {
+            if blocks.count() < MOST_FOUND {
+                blocks.keep64(alloc, graph, words.as_slice())?;
+            }
+        }
+    }
+    Ok(())
+}
+
 // What is kept of a gate.
 fn kept_of(turned: &[Option<u64>], gate: NodeId) -> Option<u64>
     ensures { (word : ℕ) → result ≡ Some word → slice_get turned.now gate.0 ≡ Some (Some word) }
@@ -114,14 +146,42 @@ fn kept_of(turned: &[Option<u64>], gate: NodeId) -> Option<u64>
     }
 }
 
-// Keeps a gate's word.
-fn keep(turned: &mut Vec<Option<u64>>, gate: NodeId, word: u64)
-    ensures { HasKept turned.old.items turned.new.items gate.0 word }
+// Keeps a gate's word, where there is room for it and its number.
+fn keep(turned: &mut Vec<Option<u64>>, asked: &mut Vec<NodeId>, gate: NodeId, word: u64)
+    ensures kept { HasKept turned.old.items turned.new.items gate.0 word }
+    ensures listed { AreAsked turned.old.items asked.old.items → AreAsked turned.new.items asked.new.items }
 {
     let number = gate.0 as usize;
-    if number < turned.len() {
-        turned[number] = Some(word);
+    if number >= turned.len() {
+        return;
     }
+    match asked.push(gate) {
+        Ok(()) => turned[number] = Some(word),
+        Err(_) => {}
+    }
+}
+
+// Forgets the words that are kept.
+fn forget(turned: &mut Vec<Option<u64>>, asked: &mut Vec<NodeId>)
+    requires listed { AreAsked turned.old.items asked.old.items }
+    ensures none { (gate word : ℕ) → slice_get turned.new.items gate ≡ Some (Some word) → ⊥ }
+{
+    while let Some(gate) = asked.pop() {
+        let number = gate.0 as usize;
+        if number < turned.len() {
+            turned[number] = None;
+        }
+    }
+}
+
+// Makes room for words of so many gates, of which nothing is kept.
+fn lengthen(turned: &mut Vec<Option<u64>>, count: usize) -> Result<(), NoMemory>
+    ensures { (gate word : ℕ) → slice_get turned.new.items gate ≡ Some (Some word) → slice_get turned.old.items gate ≡ Some (Some word) }
+{
+    if turned.len() < count {
+        turned.resize(count, None)?;
+    }
+    Ok(())
 }
 
 // Under which vectors the gate's first pin is detected at the controlling value.
@@ -146,15 +206,42 @@ fn turned_by(lanes: &mut Lanes, graph: &Graph, gate: NodeId) -> u64
 }
 
 impl Vectors {
-    /// Draws vectors and simulates them.
-    pub(crate) fn drawn(alloc: Global, graph: &Graph) -> Result<Vectors, NoMemory>
+    /// Draws vectors, and simulates them and those that were found, a word for each source.
+    pub(crate) fn drawn(
+        alloc: Global,
+        graph: &Graph,
+        found: &[Vec<u64>],
+    ) -> Result<Vectors, NoMemory>
         ensures { IfOk result (λ v. AreFor v (net_of graph.now)) }
     {
         let mut lanes = Lanes::new(alloc, graph)?;
         let words = drawn_words(alloc, graph.source_count() as usize)?;
         lanes.simulate64(graph, words.as_slice());
+        let mut blocks = Blocks::new(alloc, graph)?;
+        keep_all(alloc, graph, found, &mut blocks)?;
         let turned = none_kept(alloc, graph.node_bound() as usize)?;
-        Ok(Vectors { lanes, turned })
+        Ok(Vectors {
+            lanes,
+            found: blocks,
+            turned,
+            asked: Vec::new(alloc),
+        })
+    }
+
+    /// Follows a net that differs from the one that they are for among these nodes alone.
+    pub(crate) fn follow(
+        &mut self,
+        alloc: Global,
+        graph: &Graph,
+        changed: &[NodeId],
+    ) -> Result<(), NoMemory>
+        requires follows { (net : Net) × (AreFor self.old net × DiffersAmong net (net_of graph.now) (numbers_of changed.now)) }
+        ensures { OnOk result (AreFor self.new (net_of graph.now)) }
+    {
+        forget(&mut self.turned, &mut self.asked);
+        lengthen(&mut self.turned, graph.node_bound() as usize)?;
+        self.lanes.follow(alloc, graph, changed)?;
+        self.found.follow(alloc, graph, changed)
     }
 
     /// Whether one of them detects the fault.
@@ -164,7 +251,13 @@ impl Vectors {
         ensures detected { IsTrue result → (a : ℕ → Bool) × Detects (net_of graph.now) fault.now a }
         ensures vectors { AreFor self.new (net_of graph.now) }
     {
-        any(self.lanes.detect(graph, fault))
+        if any(self.lanes.detect(graph, fault)) {
+            return true;
+        }
+        match self.found.detects_any(graph, fault) {
+            Some(_vector) => true,
+            None => false,
+        }
     }
 
     // Under which of them the gate turns, found once for each gate.
@@ -177,7 +270,7 @@ impl Vectors {
             return word;
         }
         let word = turned_by(&mut self.lanes, graph, gate);
-        keep(&mut self.turned, gate, word);
+        keep(&mut self.turned, &mut self.asked, gate, word);
         word
     }
 

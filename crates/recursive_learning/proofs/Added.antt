@@ -1,16 +1,15 @@
 -- Adding a good value to settled facts.
 use Rattle.std.proofs.Common.{Bool, List, None, Option, Some, ap, false, inl, inr, not, refl, true, ℕ, ◌∙◌, ◌≡◌, ◌≢◌}
 use Rattle.std.specs.Prelude.{is_some}
-use Rattle.gate_net.proofs.Bools.{bool_cases}
+use Rattle.gate_net.proofs.Public.{bool_cases}
 use Rattle.gate_net.specs.Net.{IsLive, IsWellFormed, Net}
 use Rattle.gate_net.specs.Values.{HasPin}
 use Rattle.implications.specs.Outcomes.{IsExtended}
 use Rattle.recursive_learning.proofs.Live.{leads_live, with_live}
 use Rattle.recursive_learning.specs.Working.{AreSettled, IsLearned}
-use Rattle.refutation.proofs.Closings.{leads_within, opposed_within, with_more, with_there, with_within}
-use Rattle.refutation.proofs.Depths.{both_good, known_held}
 use Rattle.refutation.specs.FactSets.{held_by}
 use Rattle.refutation.specs.Facts.{Held, known_good, with_fact}
+use Rattle.refutation.proofs.Public.{both_good, known_held, leads_within, opposed_within, with_more, with_there, with_within}
 use Rattle.refutation.specs.declared.held.NodeFacts.{NodeFacts}
 use Rattle.refutation.specs.declared.reasoning.Fact.TheVariants.{Good}
 use Rattle.refutation.specs.declared.reasoning.Line.{Line}

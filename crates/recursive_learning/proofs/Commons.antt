@@ -9,11 +9,11 @@ use Rattle.recursive_learning.specs.Least.{IsLeastAt}
 use Rattle.recursive_learning.specs.Lessons.{AreCommon, AreFound, IsNothingNew}
 use Rattle.recursive_learning.specs.Working.{AreSettled}
 use Rattle.recursive_learning.specs.declared.lessons.Learned.{Learned}
-use Rattle.refutation.proofs.Depths.{known_held}
 use Rattle.refutation.specs.Closing.{IsClashFree, IsWithin}
 use Rattle.refutation.specs.FactSets.{held_by}
 use Rattle.refutation.specs.Facts.{Held, known_good, one_of, with_fact}
 use Rattle.refutation.specs.Learning.{AllHold, IsClosedAt, LeadsToClash}
+use Rattle.refutation.proofs.Public.{known_held}
 use Rattle.refutation.specs.declared.held.NodeFacts.{NodeFacts}
 use Rattle.refutation.specs.declared.reasoning.Fact.{Fact}
 use Rattle.refutation.specs.declared.reasoning.Fact.TheVariants.{Good}

@@ -6,10 +6,10 @@ use Rattle.implications.specs.State.{EngineState}
 use Rattle.recursive_learning.specs.Lessons.{AreNew, HoldsAll, IsGained}
 use Rattle.recursive_learning.specs.Working.{AreSettled, IsLearned, Keeps}
 use Rattle.recursive_learning.specs.declared.lessons.Learned.{Learned}
-use Rattle.refutation.proofs.Closings.{with_within}
 use Rattle.refutation.specs.Closing.{IsClashFree, IsClosedUnderLines, IsWithin}
 use Rattle.refutation.specs.FactSets.{held_by, missing}
 use Rattle.refutation.specs.Facts.{Held, known_good, with_fact}
+use Rattle.refutation.proofs.Public.{with_within}
 use Rattle.refutation.specs.declared.held.NodeFacts.{NodeFacts}
 use Rattle.refutation.specs.declared.reasoning.Fact.TheVariants.{Good}
 use Rattle.rm_base.specs.declared.numbers.Fault.{Fault}

@@ -1,8 +1,7 @@
 -- What the justifications of one gate teach, and what stays under more facts.
 use Rattle.std.proofs.Common.{not}
 use Rattle.recursive_learning.specs.Gates.{ClashesAreLearned, ClashesStay, OppositesClash, ValuesAreLearned}
-use Rattle.refutation.proofs.Closings.{with_within}
-use Rattle.refutation.proofs.Depths.{both_good, learned_in, one_may_in}
+use Rattle.refutation.proofs.Public.{both_good, learned_in, one_may_in, with_within}
 use Rattle.refutation.specs.declared.reasoning.Fact.TheVariants.{Good}
 
 pub clashes_are_learned : ClashesAreLearned

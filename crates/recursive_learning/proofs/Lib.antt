@@ -17,3 +17,4 @@ pub mod Regions
 pub mod Watches
 pub mod Turns
 pub mod Missing
+pub mod Servings

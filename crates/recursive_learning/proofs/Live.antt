@@ -3,11 +3,9 @@ use Rattle.std.proofs.Common.{List, None, Option, Some, [], inl, inr, refl, â—Œâ
 use Rattle.std.specs.Prelude.{IsTrue}
 use Rattle.gate_net.specs.Net.{IsLive, IsWellFormed, Net, Node, Reads, node_at}
 use Rattle.gate_net.specs.Values.{HasPin}
-use Rattle.refutation.proofs.Closings.{with_cases}
-use Rattle.refutation.proofs.Told.{gate_live}
-use Rattle.refutation.proofs.Walks.{chain_live}
 use Rattle.refutation.specs.Closing.{LinesLead}
 use Rattle.refutation.specs.Facts.{Held, with_fact}
+use Rattle.refutation.proofs.Public.{chain_live, gate_live, with_cases}
 use Rattle.refutation.specs.Lines.{Concludes}
 use Rattle.refutation.specs.declared.reasoning.Fact.{Fact}
 use Rattle.refutation.specs.declared.reasoning.Line.{Line}

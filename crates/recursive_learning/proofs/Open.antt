@@ -3,17 +3,15 @@ use Rattle.std.proofs.Common.{Bool, List, Option, Some, [], ap, false, inl, inr,
 use Rattle.std.specs.List.{list_any}
 use Rattle.std.specs.Prelude.{slice_get}
 use mathlib.Core.Bool.{beq}
-use Rattle.gate_net.proofs.Bools.{or_true}
-use Rattle.gate_net.proofs.Follows.{is_known_true}
 use Rattle.gate_net.specs.Forward.{is_known}
+use Rattle.gate_net.proofs.Public.{is_known_true, or_true}
 use Rattle.gate_net.specs.Net.{Net, drivers_of, kind_in, kind_of}
 use Rattle.gate_net.specs.Values.{controlling}
 use Rattle.gate_net.specs.declared.Kind.{Kind}
 use Rattle.recursive_learning.specs.Gates.{NoneGives}
-use Rattle.refutation.proofs.Depths.{find}
-use Rattle.refutation.proofs.Grows.{is_known_some}
 use Rattle.refutation.specs.Facts.{Held, known_good}
 use Rattle.refutation.specs.Learning.{IsUnjustified}
+use Rattle.refutation.proofs.Public.{find, is_known_some}
 
 any_there : (test : Option Bool → Bool) (k : ℕ → Option Bool) (ds : List ℕ) (p d : ℕ) → slice_get ds p ≡ Some d → test (k d) ≡ true → list_any test (map k ds) ≡ true
 any_there test k [] p d e is = cc

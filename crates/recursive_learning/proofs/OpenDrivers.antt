@@ -8,7 +8,7 @@ use Rattle.std.proofs.lemmas.Map.Made.{length-le_from_is_member}
 use Rattle.std.specs.Cmp.{nat_eq_equiv}
 use Rattle.std.specs.List.{IsDistinct, list_any}
 use Rattle.std.specs.Prelude.{is_some, nat_eq, slice_get}
-use Rattle.gate_net.proofs.Bools.{or_true}
+use Rattle.gate_net.proofs.Public.{or_true}
 use Rattle.gate_net.specs.Net.{Net, drivers_of}
 use Rattle.recursive_learning.specs.Gates.{AreJustifications}
 use Rattle.refutation.specs.Facts.{Held, known_good}

@@ -17,14 +17,12 @@ use Rattle.recursive_learning.specs.Answers.{IsRefuting}
 use Rattle.recursive_learning.specs.Least.{AreForced, IsLeastAt}
 use Rattle.recursive_learning.specs.Telling.{Ends, Leads, line_item}
 use Rattle.recursive_learning.specs.Working.{AreSettled, IsLearned, Keeps}
-use Rattle.refutation.proofs.Closings.{leads_within, opposed_within}
-use Rattle.refutation.proofs.Depths.{closed_below, lines_of}
-use Rattle.refutation.proofs.Stacks.{stack_reads}
 use Rattle.refutation.specs.Branches.{AreAccepted}
-use Rattle.refutation.specs.Closing.{Clashes, IsClashFree, IsWithin, LinesLead}
+use Rattle.refutation.specs.Closing.{Clashes, IsClashFree, IsWithin}
 use Rattle.refutation.specs.FactSets.{held_by}
 use Rattle.refutation.specs.Facts.{Held, none_held}
 use Rattle.refutation.specs.Learning.{IsClosedAt, LeadsToClash}
+use Rattle.refutation.proofs.Public.{closed_below, leads_within, lines_of, opposed_within, stack_reads}
 use Rattle.refutation.specs.Stack.{AcceptsAll}
 use Rattle.refutation.specs.declared.held.NodeFacts.{NodeFacts}
 use Rattle.refutation.specs.declared.items.Item.{Item}

@@ -2,7 +2,7 @@
 use Rattle.std.proofs.Common.{Bool, List, None, Option, Some, [], arith, false, ◌+◌, inl, inr, refl, subst, sym, true, ℕ, ◌<◌, ◌∙◌, ◌≡◌, ◌||◌}
 use Rattle.std.proofs.lemmas.Bool.{cases_lt}
 use Rattle.std.specs.Prelude.{IsTrue, slice_get}
-use Rattle.gate_net.proofs.Bools.{or_either, or_true}
+use Rattle.gate_net.proofs.Public.{or_either, or_true}
 use Rattle.gate_net.specs.Net.{Net}
 use Rattle.implications.specs.Laws.{FirstLinesAskNothing, LinesAreLocal}
 use Rattle.implications.specs.Settled.{AgreeAt, place_of}
@@ -15,10 +15,10 @@ use Rattle.recursive_learning.specs.Watching.{AgreeAround, Covers, HasRegion, Is
 use Rattle.recursive_learning.specs.Working.{AreSettled}
 use Rattle.recursive_learning.specs.declared.lessons.Learned.{Learned}
 use Rattle.recursive_learning.specs.declared.resting.Entry.{Entry}
-use Rattle.refutation.proofs.Closings.{with_there, with_within}
 use Rattle.refutation.specs.Closing.{IsClashFree, IsClosedUnderLines, IsWithin}
 use Rattle.refutation.specs.Facts.{AreOpposed, Held, known_good, with_fact}
 use Rattle.refutation.specs.Learning.{AllHold, HasFew, HasLearned, IsJustification, IsUnjustified, NoneContains}
+use Rattle.refutation.proofs.Public.{with_there, with_within}
 use Rattle.refutation.specs.Lines.{Concludes}
 use Rattle.refutation.specs.declared.reasoning.Fact.{Fact}
 use Rattle.refutation.specs.declared.reasoning.Fact.TheVariants.{Differs, Equal, Faulty, Good}

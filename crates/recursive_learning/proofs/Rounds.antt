@@ -13,13 +13,11 @@ use Rattle.recursive_learning.specs.Lessons.{AreFound, HoldsAll, IsGained, IsLes
 use Rattle.recursive_learning.specs.Working.{AreSettled, IsLearned, Keeps}
 use Rattle.recursive_learning.specs.declared.lessons.Learned.{Learned}
 use Rattle.recursive_learning.specs.declared.lessons.Round.TheVariants.{Gained}
-use Rattle.refutation.proofs.Closings.{with_there}
-use Rattle.refutation.proofs.Depths.{lines_of}
-use Rattle.refutation.proofs.Told.{kind_live}
 use Rattle.refutation.specs.Closing.{IsClashFree, IsWithin}
 use Rattle.refutation.specs.FactSets.{held_by}
 use Rattle.refutation.specs.Facts.{Held, known_good}
 use Rattle.refutation.specs.Learning.{HasFew, HasLearned, IsClosedAt, IsJustification, LeadsToClash}
+use Rattle.refutation.proofs.Public.{kind_live, lines_of, with_there}
 use Rattle.refutation.specs.declared.held.NodeFacts.{NodeFacts}
 use Rattle.refutation.specs.declared.reasoning.Fact.TheVariants.{Good}
 use Rattle.rm_base.specs.declared.numbers.Fault.{Fault}

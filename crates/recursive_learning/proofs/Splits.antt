@@ -3,8 +3,8 @@ use Rattle.std.proofs.Common.{Bool, List, None, Option, Some, [], ap, arith, fal
 use Rattle.std.specs.List.{list_all}
 use Rattle.std.specs.Prelude.{IsTrue, slice_get}
 use mathlib.Core.Bool.{beq}
-use Rattle.gate_net.proofs.Bools.{bool_cases}
 use Rattle.gate_net.specs.Forward.{is_known, value_forward}
+use Rattle.gate_net.proofs.Public.{bool_cases}
 use Rattle.gate_net.specs.Net.{IsKind, IsLive, Net, Reads, drivers_of}
 use Rattle.gate_net.specs.declared.Kind.{Kind}
 use Rattle.gate_net.specs.declared.Kind.TheVariants.{And, Not, One, Or, Source, Zero}
@@ -15,12 +15,10 @@ use Rattle.recursive_learning.specs.Telling.{Ends, IsTold, Leads, Writes, branch
 use Rattle.recursive_learning.specs.Working.{AreSettled}
 use Rattle.recursive_learning.specs.Writing.{CasesClash, HasCases, OppositeClashes}
 use Rattle.recursive_learning.specs.declared.lessons.Learned.{Learned}
-use Rattle.refutation.proofs.Closings.{with_within}
-use Rattle.refutation.proofs.Depths.{all_of, both_good, junction_kind, known_held}
-use Rattle.refutation.proofs.Grows.{all_not_any, good_stays, is_known_some}
 use Rattle.refutation.specs.Branches.{MaySplit}
 use Rattle.refutation.specs.Closing.{IsClashFree, IsWithin}
 use Rattle.refutation.specs.Facts.{Held, known_good, one_of, with_fact}
+use Rattle.refutation.proofs.Public.{all_not_any, all_of, both_good, good_stays, is_known_some, junction_kind, known_held, with_within}
 use Rattle.refutation.specs.declared.items.Item.{Item}
 use Rattle.refutation.specs.declared.items.Item.TheVariants.{Split}
 use Rattle.refutation.specs.declared.reasoning.Fact.TheVariants.{Good}

@@ -4,7 +4,6 @@ use Rattle.std.proofs.lemmas.Bool.{cases_lt}
 use Rattle.std.specs.Prelude.{slice_set}
 use Rattle.gate_graph.specs.Search.{IsSeen}
 use Rattle.gate_net.specs.Net.{Net}
-use Rattle.refutation.proofs.Agendas.{count-clear, count_within}
 use Rattle.refutation.specs.Agendas.{seen_count}
 use Rattle.implications.specs.State.{EngineState}
 use Rattle.recursive_learning.proofs.Gains.{keeps_join}
@@ -20,6 +19,7 @@ use Rattle.recursive_learning.specs.declared.lessons.Round.TheVariants.{Clash, G
 use Rattle.refutation.specs.FactSets.{held_by, missing}
 use Rattle.refutation.specs.Facts.{Held}
 use Rattle.refutation.specs.Learning.{IsClosedAt}
+use Rattle.refutation.proofs.Public.{count-clear, count_within}
 use Rattle.refutation.specs.declared.held.NodeFacts.{NodeFacts}
 use Rattle.rm_base.specs.declared.numbers.Fault.{Fault}
 

@@ -4,10 +4,9 @@ use Rattle.std.proofs.lemmas.Bool.{cases_lt}
 use Rattle.std.proofs.lemmas.Bool.Decides.{eqb_tells}
 use Rattle.std.proofs.lemmas.Option.{get_or_from_slice_get}
 use Rattle.std.specs.Prelude.{IsTrue, slice_get, slice_set}
-use Rattle.gate_graph.proofs.Searches.{none_seen}
+use Rattle.gate_graph.proofs.Public.{none_seen}
 use Rattle.gate_graph.specs.Search.{IsSeen}
 use Rattle.gate_net.specs.Net.{IsLive, Net, kind_in, kind_of}
-use Rattle.refutation.proofs.Agendas.{seen_stays}
 use Rattle.implications.specs.Settled.{AgreeAt}
 use Rattle.implications.specs.Trail.{IsAmong}
 use Rattle.recursive_learning.proofs.Indexes.{longer_join, watched_longer}
@@ -21,6 +20,7 @@ use Rattle.recursive_learning.specs.declared.resting.Entry.{Entry}
 use Rattle.recursive_learning.specs.declared.watch.Watch.{Watch}
 use Rattle.refutation.specs.Closing.{IsWithin}
 use Rattle.refutation.specs.Facts.{Held}
+use Rattle.refutation.proofs.Public.{seen_stays}
 use Rattle.refutation.specs.declared.reasoning.Fact.{Fact}
 use Rattle.rm_base.specs.declared.numbers.Fault.{Fault}
 use Rattle.rm_base.specs.declared.numbers.NodeId.{NodeId}

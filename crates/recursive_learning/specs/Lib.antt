@@ -9,3 +9,5 @@ pub mod Answers
 pub mod Resting
 pub mod Watching
 pub mod Detected
+pub mod Serving
+pub mod Bodies

@@ -44,6 +44,14 @@ IsWatching net fault held w = (w.all ≡ true) ⊎ ((y : ℕ) → IsKnown net fa
 abbrev pub ListsGoods : Net → Held → List Bool → Type 0
 ListsGoods net held listed = (y : ℕ) (b : Bool) → y < length net.nodes → known_good held y ≡ Some b → IsSeen listed y
 
+-- where the fact is a good value, its node is listed
+abbrev pub ListsGood : NodeId × Fact → List Bool → Type 0
+ListsGood a listed = (b : Bool) → a.1 ≡ Good b → a.0.0 < length listed → IsSeen listed a.0.0
+
+-- the node of each good value among the added facts is listed
+abbrev pub ListsAdded : List (NodeId × Fact) → List Bool → Type 0
+ListsAdded added listed = (k : ℕ) (a : NodeId × Fact) → slice_get added k ≡ Some a → ListsGood a listed
+
 -- no gate is listed
 abbrev pub HasNoneListed : Watch → Type 0
 HasNoneListed w = w.listed ≡ replicate (length w.listed) false

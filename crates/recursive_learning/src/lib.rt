@@ -2,12 +2,14 @@
 #![tactic(auto)]
 
 mod adding;
+mod bodies;
 pub mod detected;
 mod gates;
 pub mod laws;
 mod learning;
 mod lessons;
 mod ordering;
+pub mod refuter;
 mod refuting;
 mod resting;
 mod telling;

@@ -71,6 +71,7 @@ pub fn write_from(
     requires clash { LeadsToClash (net_of graph.now) fault.now depth (held_by facts.old) }
     ensures ends { OnOk result (Ends (net_of graph.now) fault.now (held_by facts.old) tree.old tree.new) }
     ensures keeps { OnOk result (Keeps engine.old engine.new facts.old facts.new) }
+    ensures leaves { OnOk result (LeavesList watch.old watch.new) }
 {
     if depth == 0 {
         return write(alloc, engine, graph, fault, facts, watch, depth, tree);

@@ -9,7 +9,7 @@ ghost use Rattle.refutation.specs.Facts.{none_held};
 ghost use Rattle.refutation.specs.FactSets.{held_by};
 ghost use Rattle.refutation.specs.Learning.{LeadsToClash};
 ghost use Rattle.recursive_learning.specs.Answers.{IsDeepened, IsRefuting};
-ghost use Rattle.recursive_learning.specs.Watching.{HasRoom, IsBlank, IsWatching, Lengthens};
+ghost use Rattle.recursive_learning.specs.Watching.{HasRoom, IsBlank, IsWatching, LeavesList, Lengthens};
 ghost use Rattle.recursive_learning.specs.Working.{AreSettled, Keeps};
 ghost use Rattle.recursive_learning.specs.Least.{AreForced};
 
@@ -34,29 +34,26 @@ fn written(
     watch: &mut Watch,
     depth: u8,
     taught: &[NodeId],
-    facts: FactSet,
+    facts: &mut FactSet,
 ) -> Result<Tree, NoMemory>
     requires pin { HasPin (net_of graph.now) fault.now }
     requires numbers { length (net_of graph.now).nodes ≤ engine.old.numbers }
-    requires size { length (net_of graph.now).nodes ≤ length facts }
+    requires size { length (net_of graph.now).nodes ≤ length facts.old }
     requires room { HasRoom (net_of graph.now) watch.old }
     requires blank { IsBlank watch.old }
-    requires settled { AreSettled (net_of graph.now) fault.now (held_by facts) }
-    requires lines { LeadFromOutside (net_of graph.now) fault.now engine.old.lines (held_by facts) }
-    requires clash { LeadsToClash (net_of graph.now) fault.now depth (held_by facts) }
+    requires settled { AreSettled (net_of graph.now) fault.now (held_by facts.old) }
+    requires lines { LeadFromOutside (net_of graph.now) fault.now engine.old.lines (held_by facts.old) }
+    requires clash { LeadsToClash (net_of graph.now) fault.now depth (held_by facts.old) }
     ensures accepted { IfOk result (λ t. AreAccepted (net_of graph.now) fault.now t) }
-    ensures numbers { OnOk result (engine.new.numbers ≡ engine.old.numbers) }
-    ensures trail { OnOk result (length engine.new.trail ≡ length engine.old.trail) }
+    ensures keeps { OnOk result (Keeps engine.old engine.new facts.old facts.new) }
+    ensures leaves { OnOk result (LeavesList watch.old watch.new) }
 {
-    let mut held = facts;
     let mut tree = TreeBuilder::new(alloc);
     engine.push_outside(graph, fault, &mut tree)?;
     push_lines(&mut tree, engine.lines())?;
-    let mark = engine.mark();
     write_from(
-        alloc, engine, graph, fault, &mut held, watch, depth, taught, &mut tree,
+        alloc, engine, graph, fault, facts, watch, depth, taught, &mut tree,
     )?;
-    engine.take_back(&mut held, mark);
     Ok(tree.finish())
 }
 
@@ -82,12 +79,18 @@ fn tree_of(
     graph.well_formed();
     match engine.close(graph, fault)? {
         Closed::Clash(tree) => Ok(tree),
-        Closed::Open(facts) => written(alloc, engine, graph, fault, watch, depth, taught, facts),
+        Closed::Open(facts) => {
+            let mut held = facts;
+            let mark = engine.mark();
+            let tree = written(alloc, engine, graph, fault, watch, depth, taught, &mut held)?;
+            engine.take_back(&mut held, mark);
+            Ok(tree)
+        }
     }
 }
 
-// Learns from closed facts to one depth after another; the first at which they lead to a clash.
-fn deepen(
+/// Learns from closed facts to one depth after another; the first at which they lead to a clash.
+pub(crate) fn deepen(
     alloc: Global,
     engine: &mut Engine,
     graph: &Graph,

@@ -140,6 +140,13 @@ impl Rests {
         }
     }
 
+    /// For how many node numbers.
+    pub fn numbers(&self) -> usize
+        ensures { result ≡ self.now.numbers }
+    {
+        self.last.len()
+    }
+
     /// How many entries there are, to come back to by `take_back`.
     pub fn count(&self) -> usize
         ensures { result ≡ length self.now.entries }

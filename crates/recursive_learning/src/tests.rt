@@ -2,3 +2,4 @@
 mod answers;
 mod drawn;
 mod nets;
+mod refuters;

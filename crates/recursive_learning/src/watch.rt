@@ -1,12 +1,12 @@
 //! Which gates are to be looked at.
-ghost use Rattle.std.specs.Prelude.{◌≡◌, ◌<◌, ◌≤◌, ℕ, [], IfOk, OnOk, false, length, replicate, suc, take, true, zero};
+ghost use Rattle.std.specs.Prelude.{◌≡◌, ◌<◌, ◌≤◌, ℕ, [], IfOk, IsTrue, OnOk, false, length, replicate, suc, take, true, zero};
 ghost use Rattle.gate_net.specs.Net.{IsLive};
 ghost use Rattle.gate_graph.specs.Circuit.{net_of};
 ghost use Rattle.gate_graph.specs.Search.{IsSeen};
 ghost use Rattle.refutation.specs.Agendas.{IsTaken};
 ghost use Rattle.refutation.specs.FactSets.{held_by};
 ghost use Rattle.recursive_learning.specs.Resting.{IsWatched};
-ghost use Rattle.recursive_learning.specs.Watching.{HasNoneListed, HasRoom, IsAround, IsBlank, IsListedAt, LeavesList, ListsChanged, ListsGoods, RestsOn, StillLists};
+ghost use Rattle.recursive_learning.specs.Watching.{HasNoneListed, HasRoom, IsAround, IsBlank, IsListedAt, LeavesList, ListsAdded, ListsChanged, ListsGood, ListsGoods, RestsOn, StillLists};
 
 use crate::resting::Rests;
 use gate_graph::Graph;
@@ -48,6 +48,30 @@ fn list_goods(graph: &Graph, facts: &FactSet, listed: &mut Agenda)
     }
 }
 
+// Lists the node of a good value.
+fn list_good(entry: (NodeId, Fact), listed: &mut Agenda)
+    ensures listed { ListsGood entry listed.new }
+    ensures kept { (y : ℕ) → IsSeen listed.old y → IsSeen listed.new y }
+    ensures size { length listed.new ≡ length listed.old }
+{
+    let (node, Fact::Good(_)) = entry else {
+        return;
+    };
+    if (node.0 as usize) < listed.len() {
+        listed.add(node);
+    }
+}
+
+// Lists the nodes whose good values are among added facts.
+fn list_added(added: &[(NodeId, Fact)], listed: &mut Agenda)
+    ensures goods { ListsAdded added.now listed.new }
+    ensures size { length listed.new ≡ length listed.old }
+{
+    for entry in added {
+        list_good(*entry, listed);
+    }
+}
+
 impl Watch {
     /// Nothing is known, for node numbers below `numbers`.
     pub fn new(alloc: Global, numbers: u32) -> Result<Watch, NoMemory>
@@ -76,6 +100,27 @@ impl Watch {
             list_goods(graph, facts, &mut self.listed);
             self.all = false;
         }
+    }
+
+    /// Whether there is room for the node numbers of the graph.
+    pub fn has_room(&self, graph: &Graph) -> bool
+        ensures { IsTrue result → HasRoom (net_of graph.now) self.now }
+    {
+        if self.rests.numbers() != self.listed.len() {
+            return false;
+        }
+        graph.node_bound() as usize <= self.listed.len()
+    }
+
+    /// Lists the nodes whose good values are among added facts, where nothing is known of any.
+    pub fn begin_added(&mut self, added: &[(NodeId, Fact)])
+        ensures known { self.new.all ≡ false }
+        ensures goods { ListsAdded added.now self.new.listed }
+        ensures rests { self.new.rests ≡ self.old.rests }
+        ensures size { length self.new.listed ≡ length self.old.listed }
+    {
+        list_added(added, &mut self.listed);
+        self.all = false;
     }
 
     /// Takes a gate off the list; None where there is none.

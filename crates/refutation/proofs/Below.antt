@@ -1,10 +1,9 @@
 -- The node of a fact that a line gives is live.
+use Rattle.gate_looks.proofs.Public.{driver_below, chain_live, gate_live, kind_live, live_below}
 use Rattle.std.proofs.Common.{IfSome, None, Option, Some, length, sym, ℕ, ◌<◌, ◌≡◌}
 use Rattle.std.specs.Prelude.{option_map, slice_get}
 use Rattle.gate_net.specs.Net.{IsWellFormed, Net, Reads, drivers_of}
 use Rattle.gate_net.specs.Values.{HasPin}
-use Rattle.refutation.proofs.Told.{gate_live, kind_live, live_below}
-use Rattle.refutation.proofs.Walks.{chain_live}
 use Rattle.refutation.specs.Answers.{IsAnswer}
 use Rattle.refutation.specs.Facts.{Held}
 use Rattle.refutation.specs.Lines.{Concludes}
@@ -13,9 +12,6 @@ use Rattle.refutation.specs.declared.reasoning.Line.{Line}
 use Rattle.refutation.specs.declared.reasoning.Line.TheVariants.{Act, Chain, Compare, Constant, DiffersBack, EqualForward, FaultyBack, FaultyForward, GoodBack, GoodForward, NotDiffers, NotEqual, Out, Side, Site, ToFaulty, ToGood}
 use Rattle.rm_base.specs.declared.numbers.Fault.{Fault}
 use Rattle.rm_base.specs.declared.numbers.NodeId.{NodeId}
-
-driver_below : (net : Net) → IsWellFormed net → (y p x : ℕ) → Reads net y p x → x < length net.nodes
-driver_below net formed y p x reads = live_below net x (formed.drivers_live y p x reads)
 
 pub concludes_below : (net : Net) (fault : Fault) (held : Held) → IsWellFormed net → HasPin net fault → (l : Line) (x : ℕ) (fact : Fact) → Concludes net fault held l x fact → x < length net.nodes
 concludes_below net fault held formed stuck Act x fact h = driver_below net formed fault.gate.0 fault.position x h.0
@@ -39,7 +35,3 @@ concludes_below net fault held formed stuck (NotEqual y) x fact h = driver_below
 pub answer_below : (net : Net) (fault : Fault) (held : Held) → IsWellFormed net → HasPin net fault → (l : Line) (o : Option (NodeId × Fact)) → IsAnswer net fault held l o → IfSome o (λ r. r.0.0 < length net.nodes)
 answer_below net fault held formed stuck l None h = tt
 answer_below net fault held formed stuck l (Some r) h = concludes_below net fault held formed stuck l r.0.0 r.1 h
-
-pub driver_within : (net : Net) → IsWellFormed net → (y q : ℕ) (o : Option NodeId) → option_map (λ n. n.0) o ≡ slice_get (drivers_of net y) q → IfSome o (λ d. d.0 < length net.nodes)
-driver_within net formed y q None e = tt
-driver_within net formed y q (Some d) e = driver_below net formed y q d.0 (sym e)

@@ -2,7 +2,7 @@
 use Rattle.std.proofs.Common.{Bool, List, Some, [], false, inl, inr, not, refl, true, ℕ, ◌&&◌, ◌∷◌, ◌≡◌, ◌⊎◌}
 use Rattle.std.proofs.lemmas.Bool.{eq-eqb, eqb-true}
 use Rattle.std.specs.Prelude.{IsTrue, nat_eq}
-use Rattle.gate_net.proofs.Bools.{and_both, or_either, or_true, same_bool_refl, same_bool_true}
+use Rattle.gate_net.proofs.Public.{and_both, or_either, or_true, same_bool_refl, same_bool_true}
 use Rattle.gate_net.specs.Net.{Net}
 use Rattle.gate_net.specs.Values.{same_bool}
 use Rattle.refutation.proofs.Grows.{line_grows}

@@ -2,15 +2,15 @@
 use Rattle.std.proofs.Common.{Bool, List, None, Option, Some, [], false, inl, inr, map, not, refl, suc, true, zero, ℕ, ◌∙◌, ◌∷◌, ◌≡◌, ◌⊎◌}
 use Rattle.std.specs.List.{list_all}
 use Rattle.std.specs.Prelude.{IsTrue, slice_get}
-use Rattle.gate_net.proofs.Bools.{and_both}
-use Rattle.gate_net.proofs.Follows.{is_known_true}
 use Rattle.gate_net.specs.Forward.{is_known, junction_follows, value_forward}
+use Rattle.gate_net.proofs.Public.{and_both, is_known_true}
 use Rattle.gate_net.specs.Net.{IsAcyclic, Net, Reads, drivers_of}
 use Rattle.gate_net.specs.Values.{IsRun, SameObserved, controlling}
 use Rattle.gate_net.specs.declared.Kind.{Kind}
 use Rattle.gate_net.specs.declared.Kind.TheVariants.{And, Not, One, Or, Source, Zero}
 use Rattle.refutation.proofs.Closings.{right_true, true_held, true_known, true_right, with_more, with_there, with_within}
-use Rattle.refutation.proofs.Grows.{Stays, all_not_any, both_and, good_stays, is_known_some, line_grows}
+use Rattle.gate_net.proofs.Public.{Stays, all_not_any, both_and, is_known_some}
+use Rattle.refutation.proofs.Grows.{good_stays, line_grows}
 use Rattle.refutation.proofs.Known.{one_of_true}
 use Rattle.refutation.proofs.LinesRight.{line_right}
 use Rattle.refutation.proofs.Partials.{found}

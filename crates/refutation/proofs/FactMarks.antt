@@ -3,7 +3,7 @@ use Rattle.std.proofs.Common.{Bool, List, [], ap, arith, false, get_or, inl, inr
 use Rattle.std.proofs.Math.Dec.{eqb-suc-suc, eqb-suc-zero, eqb-zero-suc}
 use Rattle.std.proofs.lemmas.Bool.Decides.{eqb_tells}
 use Rattle.std.specs.Prelude.{if◌then◌else◌, nat_eq, slice_set}
-use Rattle.gate_net.proofs.Bools.{and_both, or_either, or_true}
+use Rattle.gate_net.proofs.Public.{and_both, or_either, or_true}
 use Rattle.refutation.specs.FactSets.{Becomes, held_by, is_marked, marked, missing, unmarked}
 use Rattle.refutation.specs.Facts.{AreOpposed, Held, same_fact, with_fact, without_fact}
 use Rattle.refutation.specs.declared.held.NodeFacts.{NodeFacts}

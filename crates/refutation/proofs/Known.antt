@@ -3,9 +3,8 @@ use Rattle.std.proofs.Common.{Bool, List, Option, Some, [], ap, false, inl, inr,
 use Rattle.std.proofs.lemmas.Bool.Decides.{eqb_tells}
 use Rattle.std.specs.List.{list_all}
 use Rattle.std.specs.Prelude.{nat_eq, slice_get}
-use Rattle.gate_net.proofs.Bools.{and_both, or_either, same_bool_true}
-use Rattle.gate_net.proofs.Follows.{is_known_true}
 use Rattle.gate_net.specs.Forward.{all_but, is_known}
+use Rattle.gate_net.proofs.Public.{and_both, is_known_true, or_either, same_bool_true}
 use Rattle.refutation.specs.Facts.{AreTrueFacts, Held, IsTrueFact, known_equal, known_faulty, known_good, one_of, same_fact, with_fact}
 use Rattle.refutation.specs.declared.reasoning.Fact.{Fact}
 use Rattle.refutation.specs.declared.reasoning.Fact.TheVariants.{Differs, Equal, Faulty, Good}

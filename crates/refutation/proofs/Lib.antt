@@ -9,16 +9,9 @@ pub mod Closings
 pub mod Depths
 pub mod Searches
 pub mod FactMarks
-pub mod Looks
 pub mod Told
-pub mod Walks
-pub mod Yielding
-pub mod OnlyReaders
 pub mod Below
 pub mod OneFact
 pub mod NearLines
-pub mod Agendas
-pub mod Readers
-pub mod Reaches
-pub mod Sites
 pub mod TrueFacts
+pub mod Public

@@ -3,13 +3,8 @@ use Rattle.std.proofs.Common.{Bool, Some, [], ap, false, inl, inr, map, not, ref
 use Rattle.std.proofs.lemmas.Bool.Decides.{eqb_tells}
 use Rattle.std.specs.List.{list_all}
 use Rattle.std.specs.Prelude.{if◌then◌else◌, slice_get}
-use Rattle.gate_net.proofs.AlongPins.{reads_faulty, value_at}
-use Rattle.gate_net.proofs.Bools.{bool_cases, never_opposite, not_not, same_bool_false, same_bool_true}
-use Rattle.gate_net.proofs.Follows.{Approximates, approximates_map, approximates_set, value_back_right, value_forward_right}
-use Rattle.gate_net.proofs.Junctions.{controlled, first_is}
-use Rattle.gate_net.proofs.Places.{map_at}
-use Rattle.gate_net.proofs.Spread.{same_elsewhere, same_idle, same_observed, same_outside}
 use Rattle.gate_net.specs.Forward.{all_but, is_known, value_back, value_forward}
+use Rattle.gate_net.proofs.Public.{Approximates, approximates_map, approximates_set, bool_cases, controlled, first_is, map_at, never_opposite, not_not, reads_faulty, same_bool_false, same_bool_true, same_elsewhere, same_idle, same_observed, same_outside, value_at, value_back_right, value_forward_right}
 use Rattle.gate_net.specs.Net.{IsAcyclic, IsKind, Net, Reads, drivers_of}
 use Rattle.gate_net.specs.Paths.{IsInChain, start}
 use Rattle.gate_net.specs.Values.{IsRun, SameObserved, controlling, faulty_reads, same_bool}

@@ -1,9 +1,7 @@
 -- An accepted closed tree refutes its fault.
 use Rattle.std.proofs.Common.{Bool, false, inl, inr, map, not, sym, true, ℕ, ◌∙◌, ◌≡◌}
-use Rattle.gate_net.proofs.AlongPins.{value_at}
-use Rattle.gate_net.proofs.Bools.{bool_cases, never_opposite}
-use Rattle.gate_net.proofs.Readings.{readings_hold}
 use Rattle.gate_net.specs.Forward.{Completes}
+use Rattle.gate_net.proofs.Public.{bool_cases, never_opposite, readings_hold, value_at}
 use Rattle.gate_net.specs.Net.{IsAcyclic, Net, Reads, drivers_of}
 use Rattle.gate_net.specs.Values.{IsRun, SameObserved}
 use Rattle.gate_net.specs.declared.Kind.TheVariants.{Source}

@@ -1,6 +1,6 @@
 -- Open searches.
-use Rattle.gate_net.proofs.Readings.{readings_agree}
 use Rattle.gate_net.specs.Forward.{AgreeOn}
+use Rattle.gate_net.proofs.Public.{readings_agree}
 use Rattle.refutation.specs.Facts.{known_good}
 use Rattle.refutation.specs.Laws.{OpenSearchesWait}
 

@@ -1,7 +1,7 @@
 -- The facts that are true of good and faulty values.
 use Rattle.std.proofs.Common.{Bool, None, Some, ap, false, inl, inr, refl, suc, sym, true, zero, ℕ, ◌∙◌, ◌≡◌}
 use Rattle.std.specs.Prelude.{not}
-use Rattle.gate_net.proofs.Bools.{never_opposite, same_bool_refl, same_bool_true}
+use Rattle.gate_net.proofs.Public.{never_opposite, same_bool_refl, same_bool_true}
 use Rattle.gate_net.specs.Net.{IsAcyclic, Net}
 use Rattle.gate_net.specs.Values.{HasPin, IsRun, SameObserved, same_bool}
 use Rattle.refutation.specs.Closing.{IsClashFree, IsClosedUnderLines}

@@ -1,13 +1,13 @@
 -- The fact that a line gives, computed.
 use Rattle.std.specs.Prelude.{Bool, None, Option, Some, slice_get, ℕ}
+pub use Rattle.gate_looks.specs.Chains.{GoesOnTo}
 use Rattle.gate_net.specs.Forward.{value_back, value_forward}
-use Rattle.gate_net.specs.Net.{IsObserved, Net, drivers_of, kind_of}
-use Rattle.gate_net.specs.Paths.{IsOnlyReader}
+use Rattle.gate_net.specs.Net.{Net, drivers_of, kind_of}
 use Rattle.refutation.specs.Facts.{Held}
 use Rattle.refutation.specs.Lines.{Concludes}
 use Rattle.refutation.specs.Pins.{known_on, pins_of}
 use Rattle.refutation.specs.declared.pins.Aspect.{Aspect}
-use Rattle.refutation.specs.declared.pins.Stuck.{Stuck}
+use Rattle.gate_looks.specs.declared.pins.Stuck.{Stuck}
 use Rattle.refutation.specs.declared.reasoning.Fact.{Fact}
 use Rattle.refutation.specs.declared.reasoning.Line.{Line}
 use Rattle.refutation.specs.declared.reasoning.Line.TheVariants.{Chain, Out}
@@ -45,17 +45,3 @@ both_at net one other held y = bind (kind_of net y) (λ _. bind (known_on one he
 abbrev pub seen_pull : Option (NodeId × Bool) → Option (ℕ × Bool)
 seen_pull None = None
 seen_pull (Some r) = Some (r.0.0, r.1)
-
--- a chain goes on from the node to that one
-pub record GoesOnTo (net : Net) (x y : ℕ) : Type 0 where
-  pub unobserved : IsObserved net x → ⊥
-  pub only : IsOnlyReader net x y
-
-abbrev pub IsOnlyReaderFound : Net → ℕ → Option NodeId → Type 0
-IsOnlyReaderFound net x None = (y : ℕ) → IsOnlyReader net x y → ⊥
-IsOnlyReaderFound net x (Some y) = IsOnlyReader net x y.0
-
--- the node to which a chain goes on, or None exactly where it ends
-abbrev pub IsNextInChain : Net → ℕ → Option NodeId → Type 0
-IsNextInChain net x None = (y : ℕ) → GoesOnTo net x y → ⊥
-IsNextInChain net x (Some y) = GoesOnTo net x y.0

@@ -1,3 +1,6 @@
+pub use Rattle.gate_looks.specs.Agendas
+pub use Rattle.gate_looks.specs.Reaching
+pub use Rattle.gate_looks.specs.Walks
 pub mod Facts
 pub mod Lines
 pub mod Branches
@@ -9,7 +12,5 @@ pub mod Laws
 pub mod FactSets
 pub mod Pins
 pub mod Answers
-pub mod Agendas
-pub mod Reaching
 pub mod Sites
 pub mod Detected

@@ -1,8 +1,8 @@
 -- Partial trees that a search leaves: each split had to be made.
-use Rattle.std.specs.Prelude.{not, ℕ, ◌⊎◌}
+use Rattle.std.specs.Prelude.{not, ℕ}
 use Rattle.gate_net.specs.Forward.{IsForwardReading, Marking, MarksDetected, MarksQuiet}
 use Rattle.gate_net.specs.Net.{Net}
-use Rattle.gate_net.specs.Paths.{Reaches}
+pub use Rattle.gate_looks.specs.Reaching.{Matters}
 use Rattle.refutation.specs.Branches.{Branch, here, line, split}
 use Rattle.refutation.specs.Facts.{Held, known_good, with_fact}
 use Rattle.refutation.specs.Lines.{Concludes}
@@ -18,10 +18,6 @@ IsUndetectedYet net fault held = (m : Marking) × (IsForwardReading net fault (k
 abbrev pub IsOpenYet : Net → Fault → Held → Type 0
 IsOpenYet net fault held =
     (m : Marking) × (IsForwardReading net fault (known_good held) m × ((MarksDetected net m → ⊥) × (MarksQuiet net m → ⊥)))
-
--- a path leads from the node to the faulty gate, or to a node that the faulty gate reaches
-abbrev pub Matters : Net → Fault → ℕ → Type 0
-Matters net fault x = Reaches net x fault.gate.0 ⊎ ((y : ℕ) × (Reaches net x y × Reaches net fault.gate.0 y))
 
 -- each split of the tree had to be made, and its Here isn't detected
 abbrev pub IsOpenSearch : Net → Fault → Held → Branch → Type 0

@@ -1,50 +1,16 @@
 -- What is known of a gate's pins.
-use Rattle.std.specs.List.{list_any}
-use Rattle.std.specs.Prelude.{Bool, List, None, Option, Some, [], false, if◌then◌else◌, map, nat_eq, not, slice_get, slice_set, suc, ℕ, ◌<◌, ◌∷◌, ◌≡◌}
-use Rattle.gate_net.specs.Forward.{is_known}
+use Rattle.std.specs.Prelude.{Bool, List, Option, map, ℕ}
+pub use Rattle.gate_looks.specs.Pins.{AreBelow, FailsAt, Glances, failing, pin_value, stuck_of, with_stuck}
+use Rattle.gate_looks.specs.declared.pins.Stuck.{Stuck}
 use Rattle.refutation.specs.Facts.{Held, known_equal, known_faulty, known_good}
 use Rattle.refutation.specs.declared.pins.Aspect.{Aspect}
 use Rattle.refutation.specs.declared.pins.Aspect.TheVariants.{OfEqual, OfFaulty, OfGood}
-use Rattle.refutation.specs.declared.pins.Glance.{Glance}
-use Rattle.refutation.specs.declared.pins.Stuck.{Stuck}
-use Rattle.rm_base.specs.declared.numbers.Fault.{Fault}
 
 abbrev pub known_on : Aspect → Held → ℕ → Option Bool
 known_on OfGood held x = known_good held x
 known_on OfFaulty held x = known_faulty held x
 known_on OfEqual held x = known_equal held x
 
--- the values with one pin stuck
-abbrev pub with_stuck : Option Stuck → List (Option Bool) → List (Option Bool)
-with_stuck None os = os
-with_stuck (Some s) os = slice_set os s.position (Some s.value)
-
-abbrev pub pin_value : Option Stuck → ℕ → Option Bool → Option Bool
-pin_value None q o = o
-pin_value (Some s) q o = if nat_eq q s.position then Some s.value else o
-
--- the stuck pin, where the gate has it
-abbrev pub stuck_of : Fault → ℕ → Option Stuck
-stuck_of fault y = if nat_eq y fault.gate.0 then Some (record { position = fault.position; value = fault.value }) else None
-
 -- what is known of the pins with these drivers
 abbrev pub pins_of : Option Stuck → Aspect → Held → List ℕ → List (Option Bool)
 pins_of stuck aspect held ds = with_stuck stuck (map (known_on aspect held) ds)
-
--- how many fail the test
-abbrev pub failing : (Option Bool → Bool) → List (Option Bool) → ℕ
-failing test [] = 0
-failing test (o ∷ os) = if test o then failing test os else suc (failing test os)
-
-abbrev pub FailsAt : (Option Bool → Bool) → List (Option Bool) → ℕ → Type 0
-FailsAt test os k = (o : Option Bool) × ((slice_get os k ≡ Some o) × (test o ≡ false))
-
--- one look tells whether some pin has c, how many haven't its opposite, and one that hasn't
-pub record Glances (g : Glance) (c : Bool) (os : List (Option Bool)) : Type 0 where
-  pub any : g.any ≡ list_any (is_known c) os
-  pub rest : g.rest ≡ failing (is_known (not c)) os
-  pub at : 0 < g.rest → FailsAt (is_known (not c)) os g.at
-
--- each number is below the bound
-abbrev pub AreBelow : List ℕ → ℕ → Type 0
-AreBelow drivers n = (p x : ℕ) → slice_get drivers p ≡ Some x → x < n

@@ -7,7 +7,7 @@ ghost use Rattle.refutation.specs.Answers.{IsAnswer};
 use crate::following::{gate_pins, pin_driver};
 use crate::glances::{all_equal, others_equal};
 use crate::held::FactSet;
-use crate::pins::{Aspect, controlling, is_gate, is_stuck, known};
+use crate::pins::{Aspect, is_stuck, known};
 use crate::reasoning::{Fact, Line};
 use gate_graph::Graph;
 use gate_net::Kind;
@@ -24,7 +24,7 @@ pub fn line_equal_forward(
     ensures { IsAnswer (net_of graph.now) fault.now (held_by facts.now) (Line.EqualForward node) result }
 {
     let kind = graph.kind(node)?;
-    if !is_gate(kind) {
+    if !kind.is_gate() {
         return None;
     }
     let is_faulty = node.0 == fault.gate.0;
@@ -99,7 +99,7 @@ pub fn line_differs_back(
     ensures { IsAnswer (net_of graph.now) fault.now (held_by facts.now) (Line.DiffersBack node position) result }
 {
     let kind = graph.kind(node)?;
-    if !is_gate(kind) {
+    if !kind.is_gate() {
         return None;
     }
     if node.0 == fault.gate.0 {
@@ -128,7 +128,7 @@ pub fn line_side(
     ensures { IsAnswer (net_of graph.now) fault.now (held_by facts.now) (Line.Side node position) result }
 {
     let kind = graph.kind(node)?;
-    let value = controlling(kind)?;
+    let value = kind.controlling_value()?;
     let equal = known(facts, Aspect::OfEqual, node)?;
     if equal {
         return None;

@@ -1,18 +1,34 @@
-//! Looks at a gate's pins.
+//! Looks at a gate's pins by the facts that are held.
 ghost use Rattle.std.specs.Prelude.{◌≡◌, ◌≤◌, length, map, true};
 ghost use Rattle.std.specs.List.{list_all};
-ghost use Rattle.gate_net.specs.Forward.{value_forward, value_back, is_known, first_known, all_but};
+ghost use Rattle.gate_net.specs.Forward.{value_forward, value_back, is_known, all_but};
 ghost use Rattle.refutation.specs.Facts.{known_equal};
 ghost use Rattle.refutation.specs.FactSets.{held_by};
-ghost use Rattle.refutation.specs.Pins.{pins_of, Glances, AreBelow};
+ghost use Rattle.refutation.specs.Pins.{pins_of, Glances, AreBelow, known_on};
 
 use crate::held::FactSet;
-use crate::pins::{
-    Aspect, Glance, Stuck, at_pin, is_value, junction_back, junction_forward, known, opposite,
-    others_pass,
-};
+use crate::pins::{Aspect, Glance, Stuck, known, others_pass};
 use gate_graph::Inputs;
+use gate_looks::glances::Known;
 use gate_net::Kind;
+use rm_base::NodeId;
+
+// What the facts tell of one aspect of each node.
+#[derive(Clone, Copy)]
+struct Told<'a> {
+    facts: &'a FactSet,
+    aspect: Aspect,
+}
+
+impl<'a> Known for Told<'a> {
+    ghost knows = { λ t. known_on t.aspect (held_by t.facts.now) };
+
+    ghost bound = { λ t. length t.facts.now };
+
+    fn known(&self, node: NodeId) -> Option<bool> {
+        known(self.facts, self.aspect, node)
+    }
+}
 
 /// One look at a gate's pins.
 pub fn look(
@@ -26,38 +42,8 @@ pub fn look(
     requires few { length drivers ≤ 4294967295 }
     ensures { Glances result value (pins_of stuck aspect (held_by facts.now) drivers.entry) }
 {
-    let mut any = false;
-    let mut rest: usize = 0;
-    let mut at: usize = 0;
-    let mut q: usize = 0;
-    for driver in drivers {
-        let here = at_pin(stuck, q, known(facts, aspect, driver));
-        if is_value(here, value) {
-            any = true;
-        }
-        if !is_value(here, !value) {
-            rest += 1;
-            at = q;
-        }
-        q += 1;
-    }
-    Glance { any, rest, at }
-}
-
-fn first_pin(
-    mut drivers: Inputs<'_>,
-    stuck: Option<Stuck>,
-    facts: &FactSet,
-    aspect: Aspect,
-) -> Option<bool>
-    requires within { AreBelow drivers (length facts.now) }
-    requires few { length drivers ≤ 4294967295 }
-    ensures { result ≡ first_known (pins_of stuck aspect (held_by facts.now) drivers.entry) }
-{
-    match drivers.next() {
-        Some(driver) => at_pin(stuck, 0, known(facts, aspect, driver)),
-        None => None,
-    }
+    let told = Told { facts, aspect };
+    gate_looks::glances::look(drivers, stuck, &told, value)
 }
 
 /// The value of a gate that follows from its pins.
@@ -72,12 +58,8 @@ pub fn forward(
     requires few { length drivers ≤ 4294967295 }
     ensures { result ≡ value_forward kind (pins_of stuck aspect (held_by facts.now) drivers.entry) }
 {
-    match kind {
-        Kind::And => junction_forward(look(drivers, stuck, facts, aspect, false), false),
-        Kind::Or => junction_forward(look(drivers, stuck, facts, aspect, true), true),
-        Kind::Not => opposite(first_pin(drivers, stuck, facts, aspect)),
-        _ => None,
-    }
+    let told = Told { facts, aspect };
+    gate_looks::glances::forward(kind, drivers, stuck, &told)
 }
 
 /// The value at pin `q` that follows from those of the gate and the other pins.
@@ -94,12 +76,8 @@ pub fn back(
     requires few { length drivers ≤ 4294967295 }
     ensures { result ≡ value_back kind value (pins_of stuck aspect (held_by facts.now) drivers.entry) q }
 {
-    match kind {
-        Kind::And => junction_back(look(drivers, stuck, facts, aspect, false), false, value, q),
-        Kind::Or => junction_back(look(drivers, stuck, facts, aspect, true), true, value, q),
-        Kind::Not => { if q == 0 { Some(!value) } else { None } }
-        _ => None,
-    }
+    let told = Told { facts, aspect };
+    gate_looks::glances::back(kind, value, drivers, stuck, &told, q)
 }
 
 /// Whether all drivers are known to be equal.

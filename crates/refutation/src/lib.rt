@@ -1,9 +1,7 @@
 //! Facts, lines and trees: what refutes a fault, and why an accepted tree means that no assignment detects it.
 #![tactic(auto)]
 
-pub mod agenda;
 pub mod asking;
-pub mod chains;
 mod concluding;
 pub mod detected;
 pub mod equal_lines;
@@ -14,15 +12,14 @@ mod items;
 pub mod laws;
 pub mod pins;
 pub mod place_lines;
-mod reaching;
 mod reasoning;
-pub mod site;
 #[cfg(test)]
 mod tests;
 mod trees;
 pub mod value_lines;
 
 pub use concluding::{conclude, conclude_asked, conclude_marked};
+pub use gate_looks::{agenda, chains, site};
 pub use held::{FactSet, NodeFacts};
 pub use items::{Form, Item, Shape};
 pub use reasoning::{Fact, Line};

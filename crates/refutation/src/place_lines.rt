@@ -11,7 +11,6 @@ use crate::chains::is_in_chain;
 use crate::reasoning::{Fact, Line};
 use crate::site::Site;
 use gate_graph::{Graph, Marks};
-use gate_net::Kind;
 use rm_base::{Fault, NodeId};
 
 /// The driver of the stuck pin has the opposite value.
@@ -33,11 +32,9 @@ pub fn line_site(fault: &Fault) -> Option<(NodeId, Fact)>
 pub fn line_constant(graph: &Graph, fault: &Fault, node: NodeId) -> Option<(NodeId, Fact)>
     ensures { (held : Held) → IsAnswer (net_of graph.now) fault.now held (Line.Constant node) result }
 {
-    match graph.kind(node)? {
-        Kind::Zero => Some((node, Fact::Good(false))),
-        Kind::One => Some((node, Fact::Good(true))),
-        _ => None,
-    }
+    let kind = graph.kind(node)?;
+    let value = kind.constant_value()?;
+    Some((node, Fact::Good(value)))
 }
 
 /// A node that the faulty gate doesn't reach is equal. It searches back from the node.

@@ -1,79 +1,14 @@
 //! Each line once where it gives a fact and once where it doesn't, on a net of six gates.
-ghost use Rattle.std.specs.Prelude.{◌≡◌, ◌≢◌, ◌≤◌, ◌+◌, OnOk, length};
-ghost use Rattle.gate_net.specs.Net.{IsGateKind};
-ghost use Rattle.gate_net.specs.declared.Kind.TheVariants.{Not};
-ghost use Rattle.gate_graph.specs.Circuit.{live_nodes, pins_taken};
+ghost use Rattle.std.specs.Prelude.{◌≡◌, length};
 
 use crate::site::Site;
 use crate::{Fact, FactSet, Item, Line, TreeBuilder, conclude, conclude_marked};
 use gate_graph::{Graph, Marks};
-use gate_net::Kind;
-use rm_base::{Fault, NoMemory, NodeId};
+use rm_base::NodeId;
 use std::alloc::Global;
 use std::test::Fail;
-
-// Adds a gate of two live drivers.
-fn add_gate(graph: &mut Graph, kind: Kind, one: u32, other: u32) -> Result<bool, NoMemory>
-    requires kind { IsGateKind kind }
-    requires more { kind ≢ Not }
-    requires pins { pins_taken graph.old ≤ 1000 }
-    requires nodes { live_nodes graph.old ≤ 1000 }
-    ensures pins { OnOk result (pins_taken graph.new ≤ pins_taken graph.old + 2) }
-    ensures nodes { OnOk result (live_nodes graph.new ≤ live_nodes graph.old + 1) }
-{
-    let Some(_) = graph.kind(NodeId(one)) else {
-        return Ok(false);
-    };
-    let Some(_) = graph.kind(NodeId(other)) else {
-        return Ok(false);
-    };
-    graph.add_gate(kind, &[NodeId(one), NodeId(other)])?;
-    Ok(true)
-}
-
-// Adds a Not of a live driver.
-fn add_not(graph: &mut Graph, driver: u32) -> Result<bool, NoMemory>
-    requires pins { pins_taken graph.old ≤ 1000 }
-    requires nodes { live_nodes graph.old ≤ 1000 }
-    ensures pins { OnOk result (pins_taken graph.new ≤ pins_taken graph.old + 2) }
-    ensures nodes { OnOk result (live_nodes graph.new ≤ live_nodes graph.old + 1) }
-{
-    let Some(_) = graph.kind(NodeId(driver)) else {
-        return Ok(false);
-    };
-    graph.add_gate(Kind::Not, &[NodeId(driver)])?;
-    Ok(true)
-}
-
-// Observes a live node.
-fn observe(graph: &mut Graph, node: u32) -> Result<bool, NoMemory>
-    requires pins { pins_taken graph.old ≤ 1000 }
-    ensures pins { OnOk result (pins_taken graph.new ≤ pins_taken graph.old + 2) }
-    ensures nodes { OnOk result (live_nodes graph.new ≡ live_nodes graph.old) }
-{
-    let Some(_) = graph.kind(NodeId(node)) else {
-        return Ok(false);
-    };
-    graph.observe(NodeId(node))?;
-    Ok(true)
-}
-
-// Of the sources 2 to 5: 6 is And(2, 3), 7 is And(2, 4), 8 is Or(6, 7), 9 is And(8, 5), 10 is Not(9).
-fn wired(alloc: Global) -> Result<Option<Graph>, NoMemory> {
-    let mut graph = Graph::new(alloc, 4)?;
-    let six = add_gate(&mut graph, Kind::And, 2, 3)?;
-    let seven = add_gate(&mut graph, Kind::And, 2, 4)?;
-    let eight = add_gate(&mut graph, Kind::Or, 6, 7)?;
-    let nine = add_gate(&mut graph, Kind::And, 8, 5)?;
-    let ten = add_not(&mut graph, 9)?;
-    let made = six && seven && eight && nine && ten;
-    let seen = observe(&mut graph, 9)?;
-    if made && seen {
-        Ok(Some(graph))
-    } else {
-        Ok(None)
-    }
-}
+use test_nets::worked::FOUR_GATES_AND_NOT;
+use test_nets::{fault_at, wired};
 
 // Facts that are held, a line, and what it gives.
 #[derive(Clone, Copy)]
@@ -283,12 +218,6 @@ const CASES: [Case; 34] = [
     },
 ];
 
-const FAULT: Fault = Fault {
-    gate: NodeId(6),
-    position: 0,
-    value: true,
-};
-
 fn hold(facts: &mut FactSet, fact: (u32, Fact))
     ensures { length facts.new ≡ length facts.old }
 {
@@ -306,24 +235,22 @@ fn same(given: Option<(NodeId, Fact)>, wanted: Option<(u32, Fact)>) -> bool {
 }
 
 // Whether the line of the case gives what it should, by a search and by marks.
-fn holds(alloc: Global, graph: &Graph, case: &Case) -> Result<bool, NoMemory> {
-    let Some(_) = graph.driver(FAULT.gate, FAULT.position) else {
-        return Ok(false);
-    };
+fn holds(alloc: Global, graph: &Graph, case: &Case) -> Result<bool, Fail> {
+    let fault = fault_at(graph, 6, 0, true)?;
     let mut facts = FactSet::new(alloc, graph)?;
     let mut marks = Marks::new(alloc, graph.node_bound())?;
     hold(&mut facts, case.facts[0]);
     hold(&mut facts, case.facts[1]);
-    let given = conclude(graph, &FAULT, &facts, &case.line, &mut marks);
+    let given = conclude(graph, &fault, &facts, &case.line, &mut marks);
     let mut site = Site::new(alloc, graph.node_bound())?;
-    site.mark(graph, FAULT.gate);
-    let marked = conclude_marked(graph, &FAULT, &facts, &case.line, &site);
+    site.mark(graph, fault.gate);
+    let marked = conclude_marked(graph, &fault, &facts, &case.line, &site);
     Ok(same(given, case.gives) && same(marked, case.gives))
 }
 
 #[test]
 fn each_line_both_ways(rt: HostRuntime) -> Result<(), Fail> {
-    let graph = wired(rt.alloc())?.ok_or("gates")?;
+    let graph = wired(rt.alloc(), &FOUR_GATES_AND_NOT)?;
     for at in 0..CASES.len() {
         let right = holds(rt.alloc(), &graph, &CASES[at])?;
         assert!(rt; right, "at case {at}");

@@ -4,10 +4,10 @@ use Rattle.std.proofs.lemmas.Bool.Decides.{eqb_tells}
 use Rattle.std.specs.Prelude.{nat_eq}
 use Rattle.std.proofs.lemmas.List.{take-append-le}
 use mathlib.Core.Path.{fun_ext}
-use Rattle.gate_net.proofs.Bools.{and_both}
-use Rattle.refutation.proofs.Known.{same_fact_true}
+use Rattle.gate_net.proofs.Public.{and_both}
 use Rattle.refutation.specs.FactSets.{Becomes, held_by}
 use Rattle.refutation.specs.Facts.{Held, none_held, same_fact, with_fact, without_fact}
+use Rattle.refutation.proofs.Public.{same_fact_true}
 use Rattle.refutation.specs.declared.held.NodeFacts.{NodeFacts}
 use Rattle.refutation.specs.declared.reasoning.Fact.{Fact}
 use Rattle.refutation_check.specs.Notes.{AreNew, IsTrail, held_from, held_of}

@@ -54,17 +54,42 @@ pub(crate) struct Account {
 }
 
 impl Account {
-    /// Before the first item.
-    pub(crate) fn new(alloc: Global, graph: &Graph) -> Result<Account, NoMemory>
-        ensures { IfOk result (λ a. a.trail.numbers ≡ length (net_of graph.now).nodes) }
+    /// Before the first item, for node numbers below `numbers`.
+    pub(crate) fn new(alloc: Global, numbers: u32) -> Result<Account, NoMemory>
+        ensures { IfOk result (λ a. a.trail.numbers ≡ numbers) }
     {
-        let trail = Trail::new(alloc, graph)?;
+        let trail = Trail::for_numbers(alloc, numbers)?;
         Ok(Account {
             trail,
             open: Vec::new(alloc),
             steps: Vec::new(alloc),
             premises: Premises::new(alloc),
         })
+    }
+
+    /// Before the first item again, in the time of the facts that are held.
+    pub(crate) fn clear(&mut self)
+        ensures { self.new.trail.numbers ≡ self.old.trail.numbers }
+    {
+        self.trail.undo_to(0);
+        self.open.clear();
+        self.steps.clear();
+        self.premises.cut(0);
+    }
+
+    /// For how many node numbers.
+    pub(crate) fn numbers(&self) -> usize
+        ensures { result ≡ self.now.trail.numbers }
+    {
+        self.trail.facts().len()
+    }
+
+    /// Whether that is held on the node.
+    pub(crate) fn holds(&self, node: NodeId, fact: Fact) -> bool {
+        if node.0 as usize >= self.trail.facts().len() {
+            return false;
+        }
+        self.trail.facts().holds(node, fact)
     }
 
     /// How many items came to something.
@@ -103,7 +128,7 @@ impl Account {
     ) -> Result<bool, NoMemory>
         requires pin { HasPin (net_of graph.now) fault.now }
         requires site { IsSiteOf (net_of graph.now) fault.now.gate.0 site.now }
-        requires numbers { self.old.trail.numbers ≡ length (net_of graph.now).nodes }
+        requires numbers { length (net_of graph.now).nodes ≤ self.old.trail.numbers }
         ensures { OnOk result (self.new.trail.numbers ≡ self.old.trail.numbers) }
     {
         let facts = self.trail.facts();
@@ -160,7 +185,7 @@ impl Account {
     ) -> Result<bool, NoMemory>
         requires pin { HasPin (net_of graph.now) fault.now }
         requires site { IsSiteOf (net_of graph.now) fault.now.gate.0 site.now }
-        requires numbers { self.old.trail.numbers ≡ length (net_of graph.now).nodes }
+        requires numbers { length (net_of graph.now).nodes ≤ self.old.trail.numbers }
         ensures { OnOk result (self.new.trail.numbers ≡ self.old.trail.numbers) }
     {
         let mark = self.premises.mark();

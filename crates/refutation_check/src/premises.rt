@@ -4,7 +4,7 @@ ghost use Rattle.gate_graph.specs.Circuit.{net_of};
 
 use gate_graph::{Graph, Inputs};
 use refutation::following::{gate_pins, pin_driver};
-use refutation::pins::{Aspect, Stuck, at_pin, controlling, is_value, known, stuck_at};
+use refutation::pins::{Aspect, Stuck, at_pin, is_value, known, stuck_at};
 use refutation::{Fact, FactSet, Line};
 use rm_base::{Fault, NoMemory, NodeId};
 use std::alloc::Global;
@@ -171,7 +171,7 @@ impl Premises {
         let Some(kind) = graph.kind(node) else {
             return Ok(());
         };
-        let Some(value) = controlling(kind) else {
+        let Some(value) = kind.controlling_value() else {
             return self.ask_drivers(gate_pins(graph, node), stuck, None, facts, aspect);
         };
         if is_stuck_to(stuck, value) {
@@ -198,7 +198,7 @@ impl Premises {
         let Some(kind) = graph.kind(node) else {
             return Ok(());
         };
-        let Some(value) = controlling(kind) else {
+        let Some(value) = kind.controlling_value() else {
             return Ok(());
         };
         if !is_value(known_within(facts, aspect, node), value) {

@@ -45,13 +45,9 @@ fn is_opposed(facts: &FactSet, node: NodeId) -> bool
 fn may_split_kind(form: Form, kind: Kind) -> bool
     ensures { IsTrue result ↔ MaySplitKind form kind }
 {
-    match kind {
-        Kind::Source => true,
-        Kind::Zero | Kind::One => false,
-        Kind::And | Kind::Or | Kind::Not => match form {
-            Form::Closed => true,
-            Form::Partial => false,
-        },
+    match form {
+        Form::Closed => kind.constant_value().is_none(),
+        Form::Partial => kind == Kind::Source,
     }
 }
 

@@ -1,99 +1,12 @@
 //! Trees on two nets, each with what the checker answers.
-ghost use Rattle.std.specs.Prelude.{◌≡◌, ◌≢◌, ◌≤◌, ◌+◌, IfOk, IfSome, OnOk};
-ghost use Rattle.gate_net.specs.Net.{IsGateKind};
-ghost use Rattle.gate_net.specs.declared.Kind.TheVariants.{Not};
-ghost use Rattle.gate_graph.specs.Circuit.{live_nodes, pins_taken};
-
 use crate::{CheckRefusal, check_tree, shortened};
 use gate_graph::Graph;
-use gate_net::Kind;
 use refutation::{Form, Item, Line, Shape, Tree, TreeBuilder};
-use rm_base::{Fault, NoMemory, NodeId};
+use rm_base::{NoMemory, NodeId};
 use std::alloc::Global;
 use std::test::Fail;
-
-// Adds a gate of two live drivers.
-fn add_gate(graph: &mut Graph, kind: Kind, one: u32, other: u32) -> Result<bool, NoMemory>
-    requires kind { IsGateKind kind }
-    requires more { kind ≢ Not }
-    requires pins { pins_taken graph.old ≤ 1000 }
-    requires nodes { live_nodes graph.old ≤ 1000 }
-    ensures pins { OnOk result (pins_taken graph.new ≤ pins_taken graph.old + 3) }
-    ensures nodes { OnOk result (live_nodes graph.new ≤ live_nodes graph.old + 1) }
-{
-    let Some(_) = graph.kind(NodeId(one)) else {
-        return Ok(false);
-    };
-    let Some(_) = graph.kind(NodeId(other)) else {
-        return Ok(false);
-    };
-    graph.add_gate(kind, &[NodeId(one), NodeId(other)])?;
-    Ok(true)
-}
-
-// Adds an And of three live drivers.
-fn add_and(graph: &mut Graph, one: u32, other: u32, third: u32) -> Result<bool, NoMemory>
-    requires pins { pins_taken graph.old ≤ 1000 }
-    requires nodes { live_nodes graph.old ≤ 1000 }
-    ensures pins { OnOk result (pins_taken graph.new ≤ pins_taken graph.old + 3) }
-    ensures nodes { OnOk result (live_nodes graph.new ≤ live_nodes graph.old + 1) }
-{
-    let Some(_) = graph.kind(NodeId(one)) else {
-        return Ok(false);
-    };
-    let Some(_) = graph.kind(NodeId(other)) else {
-        return Ok(false);
-    };
-    let Some(_) = graph.kind(NodeId(third)) else {
-        return Ok(false);
-    };
-    graph.add_gate(Kind::And, &[NodeId(one), NodeId(other), NodeId(third)])?;
-    Ok(true)
-}
-
-// Observes a live node.
-fn observe(graph: &mut Graph, node: u32) -> Result<bool, NoMemory>
-    requires pins { pins_taken graph.old ≤ 1000 }
-    ensures pins { OnOk result (pins_taken graph.new ≤ pins_taken graph.old + 3) }
-    ensures nodes { OnOk result (live_nodes graph.new ≡ live_nodes graph.old) }
-{
-    let Some(_) = graph.kind(NodeId(node)) else {
-        return Ok(false);
-    };
-    graph.observe(NodeId(node))?;
-    Ok(true)
-}
-
-// Of the sources 2 and 3: 4 is And(2, 3), which is observed.
-fn one_gate(alloc: Global) -> Result<Option<Graph>, NoMemory> {
-    let mut graph = Graph::new(alloc, 2)?;
-    let four = add_gate(&mut graph, Kind::And, 2, 3)?;
-    let seen = observe(&mut graph, 4)?;
-    if four && seen {
-        Ok(Some(graph))
-    } else {
-        Ok(None)
-    }
-}
-
-// Of the sources 2 to 5: 6 is And(2, 3), 7 is And(2, 4), 8 is Or(6, 7), 9 is And(8, 5, 2), which is observed.
-fn four_gates(alloc: Global) -> Result<Option<Graph>, NoMemory>
-    ensures pins { IfOk result (λ o. IfSome o (λ g. pins_taken g ≤ 500)) }
-    ensures nodes { IfOk result (λ o. IfSome o (λ g. live_nodes g ≤ 500)) }
-{
-    let mut graph = Graph::new(alloc, 4)?;
-    let six = add_gate(&mut graph, Kind::And, 2, 3)?;
-    let seven = add_gate(&mut graph, Kind::And, 2, 4)?;
-    let eight = add_gate(&mut graph, Kind::Or, 6, 7)?;
-    let nine = add_and(&mut graph, 8, 5, 2)?;
-    let made = six && seven && eight && nine;
-    let seen = observe(&mut graph, 9)?;
-    if made && seen {
-        Ok(Some(graph))
-    } else {
-        Ok(None)
-    }
-}
+use test_nets::worked::{FOUR_GATES_AND_PIN, ONE_GATE};
+use test_nets::{fault_at, wired};
 
 // An item, written by its word.
 macro_rules! item {
@@ -256,22 +169,15 @@ fn tree_of(alloc: Global, items: &[Item]) -> Result<Tree, NoMemory> {
 }
 
 // Whether the checker answers as it should.
-fn holds(alloc: Global, graph: &Graph, case: &Case) -> Result<bool, NoMemory> {
-    let fault = Fault {
-        gate: NodeId(case.fault.0),
-        position: case.fault.1,
-        value: case.fault.2,
-    };
-    let Some(_) = graph.driver(fault.gate, fault.position) else {
-        return Ok(false);
-    };
+fn holds(alloc: Global, graph: &Graph, case: &Case) -> Result<bool, Fail> {
+    let fault = fault_at(graph, case.fault.0, case.fault.1, case.fault.2)?;
     let tree = tree_of(alloc, case.items)?;
     Ok(check_tree(alloc, graph, &fault, &tree, case.form) == case.answer)
 }
 
 #[test]
 fn trees_on_one_gate(rt: HostRuntime) -> Result<(), Fail> {
-    let graph = one_gate(rt.alloc())?.ok_or("gates")?;
+    let graph = wired(rt.alloc(), &ONE_GATE)?;
     for at in 0..ON_ONE_GATE.len() {
         let right = holds(rt.alloc(), &graph, &ON_ONE_GATE[at])?;
         assert!(rt; right, "at case {at}");
@@ -281,7 +187,7 @@ fn trees_on_one_gate(rt: HostRuntime) -> Result<(), Fail> {
 
 #[test]
 fn trees_on_four_gates(rt: HostRuntime) -> Result<(), Fail> {
-    let graph = four_gates(rt.alloc())?.ok_or("gates")?;
+    let graph = wired(rt.alloc(), &FOUR_GATES_AND_PIN)?;
     for at in 0..ON_FOUR_GATES.len() {
         let right = holds(rt.alloc(), &graph, &ON_FOUR_GATES[at])?;
         assert!(rt; right, "at case {at}");
@@ -323,15 +229,8 @@ const SHORTER: [Shorter; 8] = [
 ];
 
 // Whether that is left of the tree.
-fn is_left(alloc: Global, graph: &Graph, case: &Shorter) -> Result<bool, NoMemory> {
-    let fault = Fault {
-        gate: NodeId(case.fault.0),
-        position: case.fault.1,
-        value: case.fault.2,
-    };
-    let Some(_) = graph.driver(fault.gate, fault.position) else {
-        return Ok(false);
-    };
+fn is_left(alloc: Global, graph: &Graph, case: &Shorter) -> Result<bool, Fail> {
+    let fault = fault_at(graph, case.fault.0, case.fault.1, case.fault.2)?;
     let tree = tree_of(alloc, case.items)?;
     let short = shortened(alloc, graph, &fault, tree)?;
     Ok(short.items() == case.left)
@@ -339,7 +238,7 @@ fn is_left(alloc: Global, graph: &Graph, case: &Shorter) -> Result<bool, NoMemor
 
 #[test]
 fn trees_are_shortened(rt: HostRuntime) -> Result<(), Fail> {
-    let graph = four_gates(rt.alloc())?.ok_or("gates")?;
+    let graph = wired(rt.alloc(), &FOUR_GATES_AND_PIN)?;
     for at in 0..SHORTER.len() {
         let right = is_left(rt.alloc(), &graph, &SHORTER[at])?;
         assert!(rt; right, "at case {at}");
@@ -358,13 +257,8 @@ fn many_splits(alloc: Global, count: u32) -> Result<Tree, NoMemory> {
 
 #[test]
 fn a_source_is_split_once(rt: HostRuntime) -> Result<(), Fail> {
-    let graph = one_gate(rt.alloc())?.ok_or("gates")?;
-    let fault = Fault {
-        gate: NodeId(4),
-        position: 0,
-        value: false,
-    };
-    let _driver = graph.driver(fault.gate, fault.position).ok_or("pin")?;
+    let graph = wired(rt.alloc(), &ONE_GATE)?;
+    let fault = fault_at(&graph, 4, 0, false)?;
     let tree = many_splits(rt.alloc(), 1_000_000)?;
     let answer = check_tree(rt.alloc(), &graph, &fault, &tree, Form::Closed);
     assert!(rt; answer == Err(CheckRefusal::BadSplit { item: 2 }));

@@ -6,6 +6,7 @@ mod LookLemmas
 mod ModelLemmas
 mod NameLemmas
 mod NumberLemmas
+mod NumberingLemmas
 mod PlaceLemmas
 mod PlacedLemmas
 mod RankLaws

@@ -4,21 +4,37 @@ use Rattle.std.specs.Prelude.{is_some}
 use Rattle.std.specs.Borrow.{Bor}
 use Rattle.std.specs.BTreeMap.{BTreeMap, get_by, UpdatesBy}
 use Rattle.std.specs.Cmp.Lexicographic.{slice_cmp}
-use Rattle.std.specs.Ordering.{nat_cmp}
+use Rattle.std.specs.Cmp.{nat_cmp_is}
+use Rattle.std.specs.Ordering.{is_eq, nat_cmp, ordering_then}
+use Rattle.std.specs.declared.cmp.Ordering.{Ordering}
+use Rattle.std.specs.declared.cmp.Ordering.TheVariants.{Less, Equal, Greater}
 use Rattle.std.specs.Option.{option_map}
 use Rattle.std.proofs.lemmas.List.{length-map}
-use Rattle.std.proofs.lemmas.Map.Text.{btree_map_updates_str}
+use Rattle.std.proofs.lemmas.Map.Text.{is_eq-slice_cmp}
+use Rattle.rm_model.specs.PlacedNames.{key_order, name_hash}
 use Rattle.rm_model.specs.Words.{Word, is_word}
 use Rattle.rm_model.specs.Value.{is_among}
 use Rattle.rm_model.specs.Numbers.{place_of}
-use Rattle.rm_model.proofs.CoverLemmas.{same_word, is_word-same}
+use Rattle.rm_model.proofs.CoverLemmas.{not_true, same_word, is_word-same}
 
 -- the words that a list of references shows
 abbrev pub shown : List (Bor Word) → List Word
 shown ns = map (λ k. k.now) ns
 
-abbrev pub looked_up : BTreeMap (Bor Word) ℕ → Word → Option ℕ
-looked_up m x = get_by (λ k. slice_cmp nat_cmp x k.now) m
+abbrev pub looked_up : BTreeMap (ℕ × Bor Word) ℕ → Word → Option ℕ
+looked_up m x = get_by (key_order x) m
+
+nat_cmp-same : (n : ℕ) → nat_cmp n n ≡ Equal
+nat_cmp-same n = sym (nat_cmp_is n n Equal refl)
+
+equal_or_not : (x y : Word) (o : Ordering) → (x ≡ y → o ≡ Equal) → is_eq (ordering_then o (slice_cmp nat_cmp x y)) ≡ is_word x y
+equal_or_not x y Equal h = is_eq-slice_cmp x y
+equal_or_not x y Less h = sym (not_true (is_word x y) (λ e. let wrong : Less ≡ Equal = h (same_word x y e) in absurd cc))
+equal_or_not x y Greater h = sym (not_true (is_word x y) (λ e. let wrong : Greater ≡ Equal = h (same_word x y e) in absurd cc))
+
+-- a name's key is that of no other name
+key-tells : (k : Bor Word) (x : Word) → is_eq (key_order k.now (name_hash x, record k { now = x })) ≡ is_word k.now x
+key-tells k x = equal_or_not k.now x (nat_cmp (name_hash k.now) (name_hash x)) (λ e. ap (λ (z : Word). nat_cmp (name_hash z) (name_hash x)) e ∙ nat_cmp-same (name_hash x))
 
 word-sym : (x y : Word) → is_word x y ≡ is_word y x
 word-sym x y = go (is_word x y) refl (is_word y x) refl
@@ -52,14 +68,15 @@ shown-push [] k = refl
 shown-push (j ∷ ns) k = ap (λ (l : List Word). j.now ∷ l) (shown-push ns k)
 
 -- a new name goes to the end of the list, and its place into the map
-pub placed-push : (ns : List (Bor Word)) (k : Bor Word) (m n : BTreeMap (Bor Word) ℕ) (p : ℕ) → ((x : Word) → looked_up m x ≡ place_of (shown ns) x) → is_among (shown ns) k.now ≡ false → p ≡ length ns
-    → UpdatesBy (λ (a b : Bor Word). slice_cmp nat_cmp a.now b.now) (λ (a : Bor Word). slice_cmp nat_cmp k.now a.now) m n (Some p) → (x : Word) → looked_up n x ≡ place_of (shown (ns ++ k ∷ [])) x
+pub placed-push : (ns : List (Bor Word)) (k : Bor Word) (m n : BTreeMap (ℕ × Bor Word) ℕ) (p : ℕ) → ((x : Word) → looked_up m x ≡ place_of (shown ns) x) → is_among (shown ns) k.now ≡ false → p ≡ length ns
+    → UpdatesBy (λ (a b : ℕ × Bor Word). ordering_then (nat_cmp a.0 b.0) (slice_cmp nat_cmp a.1.now b.1.now)) (key_order k.now) m n (Some p) → (x : Word) → looked_up n x ≡ place_of (shown (ns ++ k ∷ [])) x
 placed-push ns k m n p was new end u x =
-    btree_map_updates_str k.now m n (Some p) u x
+    u.0 (name_hash x, record k { now = x })
+    ∙ (ap (λ (b : Bool). cond b (Some p) (looked_up m x)) (key-tells k x)
     ∙ (ap (λ (o : Option ℕ). cond (is_word k.now x) (Some p) o) (was x)
     ∙ (ap (λ (l : ℕ). cond (is_word k.now x) (Some l) (place_of (shown ns) x)) (end ∙ sym (length-map ns (λ (j : Bor Word). j.now)))
     ∙ (sym (place-push (shown ns) k.now x new)
-    ∙ ap (λ (l : List Word). place_of l x) (sym (shown-push ns k)))))
+    ∙ ap (λ (l : List Word). place_of l x) (sym (shown-push ns k))))))
 
 pub place-among : (xs : List Word) (x : Word) → is_some (place_of xs x) ≡ is_among xs x
 place-among [] x = refl

@@ -29,6 +29,11 @@ first-missing (Some n ∷ r) (x ∷ xs) (suc i) e lt none =
     let rest : map Some xs ≡ take i r = cc in
     position-step false (position_or_len is_none r) (length r) ∙ ap (option_map (λ k. suc k)) (first-missing r xs i rest (omega (arith, lt)) none)
 
+-- no rank is missing where all are there
+pub none-missing : (xs : List ℕ) → position is_none (map Some xs) ≡ None
+none-missing [] = refl
+none-missing (x ∷ xs) = position-step false (position_or_len is_none (map Some xs)) (length (map Some xs)) ∙ ap (option_map (λ k. suc k)) (none-missing xs)
+
 in-filter : (f : Word → Option ℕ) (xs : List Word) (p d : ℕ) → slice_get (filter_map f xs) p ≡ Some d → (x : Word) × (f x ≡ Some d)
 in-filter f [] p d e = absurd cc
 in-filter f (x ∷ xs) p d e = go (f x) refl p e (λ q. in-filter f xs q d)

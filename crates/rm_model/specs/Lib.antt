@@ -8,3 +8,5 @@ pub mod Search
 pub mod SearchView
 pub mod RankFaults
 pub mod Size
+pub mod Signals
+pub mod RankedInside

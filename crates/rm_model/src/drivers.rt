@@ -20,7 +20,11 @@ fn output_table<'a>(alloc: Global, covers: &'a [Cover]) -> Result<NameTable<'a>,
     Ok(table)
 }
 
-fn cover_drivers(alloc: Global, table: &NameTable, cover: &Cover) -> Result<Vec<u32>, NoMemory>
+fn cover_drivers<'a>(
+    alloc: Global,
+    table: &NameTable<'a>,
+    cover: &'a Cover,
+) -> Result<Vec<u32>, NoMemory>
     requires { length table.now < 2 ^ 32 }
     ensures { IfOk result (λ ds. ds.items ≡ filter_map (place_of table.now) cover.now.inputs) }
 {
@@ -33,10 +37,10 @@ fn cover_drivers(alloc: Global, table: &NameTable, cover: &Cover) -> Result<Vec<
     Ok(drivers)
 }
 
-fn all_drivers(
+fn all_drivers<'a>(
     alloc: Global,
-    table: &NameTable,
-    covers: &[Cover],
+    table: &NameTable<'a>,
+    covers: &'a [Cover],
 ) -> Result<Vec<Vec<u32>>, NoMemory>
     requires { length table.now < 2 ^ 32 }
     ensures { IfOk result (λ ds. map (λ d. d.items) ds.items

@@ -44,7 +44,7 @@ impl<'a> Known<'a> {
         Ok(())
     }
 
-    fn value(&self, name: &[u8]) -> bool
+    fn value(&self, name: &'a [u8]) -> bool
         requires known { is_among self.now.names name.now ≡ true }
         requires paired { length self.now.names ≡ length self.now.values.items }
         ensures { (v : Word → Bool) → map v self.now.names ≡ self.now.values.items
@@ -56,7 +56,7 @@ impl<'a> Known<'a> {
         }
     }
 
-    fn values_of(&self, alloc: Global, names: &[Name]) -> Result<Vec<bool>, NoMemory>
+    fn values_of(&self, alloc: Global, names: &'a [Name]) -> Result<Vec<bool>, NoMemory>
         requires known { All (λ x. is_among self.now.names x ≡ true) names.now }
         requires paired { length self.now.names ≡ length self.now.values.items }
         ensures length { IfOk result (λ values. length values.items ≡ length names.now) }

@@ -55,10 +55,15 @@ fn all_distinct(alloc: Global, names: &[Name]) -> Result<bool, NoMemory>
     Ok(true)
 }
 
-fn all_among(table: &NameTable, names: &[Name]) -> bool
+fn all_among<'a>(table: &NameTable<'a>, names: &'a [Name]) -> bool
     ensures { result ≡ list_all (is_among table.now) names.now }
 {
-    names.iter().all(|name| table.has(name.items()))
+    for name in names {
+        if !table.has(name.items()) {
+            return false;
+        }
+    }
+    true
 }
 
 fn push_outputs(alloc: Global, out: &mut Vec<Name>, covers: &[Cover]) -> Result<(), NoMemory>

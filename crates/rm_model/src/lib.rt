@@ -8,9 +8,11 @@ mod form;
 mod laws;
 mod list;
 mod name_table;
+mod numbering;
 mod parts;
 mod points;
 mod rank_search;
+mod ranked_model;
 mod ranking;
 mod value;
 
@@ -19,8 +21,10 @@ pub use form::is_well_formed;
 pub use laws::{one_valuation, ranks_exist, ranks_follow, tokens_are};
 pub use list::Listed;
 pub use name_table::NameTable;
+pub use numbering::Numbering;
 pub use parts::{Cover, Latch, LatchKind, Literal, Model, Name, Row, Timing};
 pub use points::{observed, sources};
+pub use ranked_model::RankedModel;
 pub use ranking::{RankFault, rank};
 pub use value::cover_value;
 

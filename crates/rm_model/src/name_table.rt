@@ -2,6 +2,7 @@
 ghost use Rattle.std.specs.Prelude.{◌≡◌, ◌^◌, ◌<◌, [], ◌∷◌, ◌++◌, length, map, false, is_some, OnOk, OnErr, IfSome, ◌||◌, List, ℕ};
 ghost use Rattle.rm_model.specs.Value.{is_among};
 ghost use Rattle.rm_model.specs.Numbers.{place_of};
+ghost use Rattle.rm_model.specs.PlacedNames.{mixed, name_hash};
 ghost use Rattle.rm_model.specs.Words.{is_word};
 
 use rm_base::NoMemory;
@@ -9,11 +10,31 @@ use std::alloc::Global;
 use std::collections::BTreeMap;
 use std::marker::Model;
 
-/// Names in the order in which they were added, each once, with a look-up by their order as texts.
+// A number by which most names are told apart at once.
+fn hash_of(name: &[u8]) -> u64
+    ensures { result ≡ name_hash name.now }
+{
+    let mut hash = 0u64;
+    for byte in name {
+        hash = mix(hash, *byte);
+    }
+    hash
+}
+
+fn mix(hash: u64, byte: u8) -> u64
+    ensures { result ≡ mixed hash byte }
+{
+    hash.wrapping_mul(6_364_136_223_846_793_005)
+        .wrapping_add(u64::from(byte))
+}
+
+/// Names in the order in which they were added, each once. They are looked up by a number made of their bytes, and where
+/// names share it, by their order as texts: so a look-up takes no more comparisons than the table's height, whatever the
+/// names are.
 #[derive(Drop)]
 pub struct NameTable<'a> {
     names: Vec<&'a [u8]>,
-    places: BTreeMap<&'a [u8], usize>,
+    places: BTreeMap<(u64, &'a [u8]), usize>,
 }
 
 impl<'a> Model for NameTable<'a> {
@@ -46,7 +67,7 @@ impl<'a> NameTable<'a> {
         ensures err { OnErr result (self.new ≡ self.old) }
     {
         self.names.reserve(1)?;
-        self.places.insert(name, self.names.len())?;
+        self.places.insert((hash_of(name), name), self.names.len())?;
         self.names.push(name)?;
         Ok(())
     }
@@ -71,20 +92,20 @@ impl<'a> NameTable<'a> {
     }
 
     /// The name's number, from 0 in the order of adding; None where it isn't there.
-    pub fn place(&self, name: &[u8]) -> Option<usize>
+    pub fn place(&self, name: &'a [u8]) -> Option<usize>
         ensures place { result ≡ place_of self.now name.now }
         ensures within { IfSome result (λ k. k < length self.now) }
     {
-        match self.places.get(name) {
+        match self.places.get(&(hash_of(name), name)) {
             Some(place) => Some(*place),
             None => None,
         }
     }
 
     /// Whether the name is there.
-    pub fn has(&self, name: &[u8]) -> bool
+    pub fn has(&self, name: &'a [u8]) -> bool
         ensures { result ≡ is_among self.now name.now }
     {
-        self.places.contains_key(name)
+        self.places.contains_key(&(hash_of(name), name))
     }
 }

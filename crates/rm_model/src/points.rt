@@ -37,11 +37,11 @@ pub fn table_of<'a>(alloc: Global, names: &'a [Name]) -> Result<NameTable<'a>, N
     Ok(table)
 }
 
-fn push_unknown(
+fn push_unknown<'a>(
     alloc: Global,
     out: &mut Vec<Name>,
-    known: &NameTable,
-    names: &[Name],
+    known: &NameTable<'a>,
+    names: &'a [Name],
 ) -> Result<(), NoMemory>
     ensures { OnOk result (out.new.items
         ≡ out.old.items ++ filter (λ x. not (among known.now x)) names.now) }
@@ -54,11 +54,11 @@ fn push_unknown(
     Ok(())
 }
 
-fn push_others(
+fn push_others<'a>(
     alloc: Global,
     out: &mut Vec<Name>,
-    inputs: &[Name],
-    names: &[Name],
+    inputs: &'a [Name],
+    names: &'a [Name],
 ) -> Result<(), NoMemory>
     ensures { OnOk result (out.new.items
         ≡ out.old.items ++ filter (λ x. not (among inputs.now x)) names.now) }

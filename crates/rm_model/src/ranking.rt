@@ -6,9 +6,12 @@ ghost use Rattle.rm_model.specs.declared.ranking.RankFault.TheVariants.{NoMemory
 ghost use Rattle.rm_model.specs.Search.{IsSound};
 ghost use Rattle.rm_model.specs.SearchView.{state_of};
 ghost use Rattle.rm_model.specs.Numbers.{drivers_of, IsFixed};
+ghost use Rattle.rm_model.specs.Signals.{AreNumbers};
+ghost use Rattle.rm_model.specs.Value.{source_names};
 ghost use Rattle.rm_model.specs.WellFormed.{is_distinct, IsWellFormed};
 
 use crate::drivers::drivers;
+use crate::numbering::{Numbering, covers_read};
 use crate::parts::{Cover, Model};
 use crate::rank_search::{Search, find_ranks};
 use rm_base::NoMemory;
@@ -95,5 +98,34 @@ pub fn rank(alloc: Global, model: &Model) -> Result<Vec<u32>, RankFault>
     ensures refused { IfErr result (λ fault. IsRefused (first_without_rank model.now) fault) }
 {
     let found = search_covers(alloc, model.covers.items())?;
+    all_ranks(alloc, found.ranks.as_slice())
+}
+
+// The search's result for the covers of a model whose signals are numbered.
+fn search_numbered(alloc: Global, model: &Model, numbering: &Numbering) -> Result<Search, NoMemory>
+    requires once { IsWellFormed model.now }
+    requires room { length model.now.covers < 2 ^ 32 }
+    requires numbers { AreNumbers model.now (map (λ ks. ks.items) numbering.now.inputs.items) numbering.now.observed.items }
+    requires sources { numbering.now.sources ≡ length (source_names model.now) }
+    ensures { IfOk result (λ s. IsFixed model.now.covers s.ranks.items) }
+{
+    let lists = covers_read(alloc, numbering.sources, numbering.inputs.as_slice())?;
+    find_ranks(alloc, lists.as_slice())
+}
+
+/// The ranks of a model's covers by the numbers of its signals, as `rank` gives them by names.
+pub fn rank_numbered(
+    alloc: Global,
+    model: &Model,
+    numbering: &Numbering,
+) -> Result<Vec<u32>, RankFault>
+    requires well_formed { IsWellFormed model.now }
+    requires covers { length model.now.covers < 2 ^ 32 }
+    requires numbers { AreNumbers model.now (map (λ ks. ks.items) numbering.now.inputs.items) numbering.now.observed.items }
+    requires sources { numbering.now.sources ≡ length (source_names model.now) }
+    ensures ranks { IfOk result (λ ranks. map Some ranks.items ≡ ranks_of model.now) }
+    ensures refused { IfErr result (λ fault. IsRefused (first_without_rank model.now) fault) }
+{
+    let found = search_numbered(alloc, model, numbering)?;
     all_ranks(alloc, found.ranks.as_slice())
 }

@@ -6,14 +6,12 @@ use Rattle.std.specs.List.{list_all}
 use Rattle.std.specs.Option.{option_map_or}
 use Rattle.std.specs.Prelude.{if◌then◌else◌, nat_eq, slice_get, slice_set}
 use Rattle.gate_graph.specs.Order.{IsOrder}
-use Rattle.gate_net.proofs.AlongPins.{reads_agree}
-use Rattle.gate_net.proofs.Bools.{or_true}
-use Rattle.gate_net.proofs.Places.{map_agree}
 use Rattle.gate_net.specs.Forward.{AgreeOn, IsForwardReading, Marking, both_known_same, equal_forward, is_idle, is_known, node_forward}
+use Rattle.gate_net.proofs.Public.{map_agree, or_true, reads_agree}
 use Rattle.gate_net.specs.Net.{IsLive, IsWellFormed, Net, Node, Reads, drivers_in, drivers_of, node_at}
 use Rattle.gate_net.specs.Values.{HasPin, faulty_reads}
-use Rattle.refutation.proofs.Told.{live_below, reader_live, slice_get_below}
-use Rattle.refutation.specs.Pins.{AreBelow}
+use Rattle.gate_looks.proofs.Public.{live_below, reader_live, slice_get_below}
+use Rattle.gate_looks.specs.Pins.{AreBelow}
 use Rattle.rm_base.specs.declared.numbers.Fault.{Fault}
 use Rattle.ternary_sim.specs.Marks.{IsReadAt, equal_at, faulty_at, good_at, mark_at, marking, no_marks}
 use Rattle.ternary_sim.specs.Sims.{AreRead, IsMarked}

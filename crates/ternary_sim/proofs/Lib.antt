@@ -9,3 +9,4 @@ pub mod Counts
 pub mod Watching
 pub mod Wholes
 pub mod Spreading
+pub mod Public

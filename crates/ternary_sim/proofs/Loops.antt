@@ -3,12 +3,13 @@ use Rattle.std.proofs.Common.{Bool, List, Option, Some, [], ap, append-nil, arit
 use Rattle.std.proofs.lemmas.List.{length-map}
 use Rattle.std.specs.List.{list_all}
 use Rattle.std.specs.Prelude.{slice_get, slice_set}
-use Rattle.gate_net.specs.Forward.{IsForwardReading, node_forward}
+use Rattle.gate_net.specs.Forward.{IsForwardReading, kind_forward, node_forward}
 use Rattle.gate_net.specs.Net.{IsKind, Net, drivers_of, node_at}
 use Rattle.gate_net.specs.Values.{HasPin}
-use Rattle.gate_net.specs.declared.Kind.TheVariants.{Source}
-use Rattle.refutation.proofs.OnlyReaders.{map_found}
-use Rattle.refutation.specs.Pins.{AreBelow}
+use Rattle.gate_net.specs.declared.Kind.{Kind}
+use Rattle.gate_net.specs.declared.Kind.TheVariants.{And, Not, One, Or, Source, Zero}
+use Rattle.gate_looks.proofs.Public.{map_found}
+use Rattle.gate_looks.specs.Pins.{AreBelow}
 use Rattle.rm_base.specs.declared.numbers.Fault.{Fault}
 use Rattle.rm_base.specs.declared.numbers.NodeId.{NodeId}
 use Rattle.rm_base.specs.declared.vectors.Value3.{Value3}
@@ -31,8 +32,20 @@ pub list_all_holds : (test : ℕ → Bool) (ds : List NodeId) → ((k : ℕ) (d 
 list_all_holds test [] h = refl
 list_all_holds test (d ∷ ds) h = rw (h 0 d refl, list_all_holds test ds (λ k x e. h (suc k) x e)) refl
 
-pub source_forward : (net : Net) (x : ℕ) (sources : List Value3) (os : List (Option Bool)) → IsKind net x Source → (v : Value3) → v ≡ get_or sources (x - 2) Unknown → seen v ≡ node_forward (node_at net x) (known_source sources x) os
-source_forward net x sources os is v e = rw is.1 (ap seen e)
+pub source_known : (x : ℕ) (sources : List Value3) (v : Value3) → v ≡ get_or sources (x - 2) Unknown → seen v ≡ known_source sources x
+source_known x sources v e = ap seen e
+
+-- what is known of a node itself counts at a source alone
+pub own_forward : (net : Net) (x : ℕ) (kind : Kind) (own known : Option Bool) (os : List (Option Bool)) → IsKind net x kind → (kind ≡ Source → own ≡ known) → kind_forward kind own os ≡ node_forward (node_at net x) known os
+own_forward net x kind own known os is h = rw is.1 (at kind own h)
+  where
+    at : (k : Kind) (o : Option Bool) → (k ≡ Source → o ≡ known) → kind_forward k o os ≡ kind_forward k known os
+    at Source o h = h refl
+    at Zero o h = refl
+    at One o h = refl
+    at And o h = refl
+    at Or o h = refl
+    at Not o h = refl
 
 pub order_at : (order : List NodeId) (i : ℕ) (r : NodeId) → i < length order → slice_get (map (λ n. n.0) order) i ≡ Some (get_or order i r).0
 order_at [] i r h = absurd (omega arith)

@@ -4,14 +4,13 @@ use Rattle.std.proofs.lemmas.Bool.{cases_lt}
 use Rattle.std.proofs.lemmas.Bool.Decides.{eqb_tells}
 use Rattle.std.proofs.lemmas.Option.{slice_get_within}
 use Rattle.std.specs.Prelude.{slice_get, slice_set}
-use Rattle.gate_graph.proofs.Marking.{seen_cases, seen_kept, seen_new, unseen-set}
-use Rattle.gate_graph.proofs.Searches.{none_seen}
+use Rattle.gate_graph.proofs.Public.{none_seen, seen_cases, seen_kept, seen_new, unseen-set}
 use Rattle.gate_graph.specs.Search.{IsSeen, unseen}
 use Rattle.gate_net.specs.Net.{IsLive, IsWellFormed, Net, Reads}
 use Rattle.gate_net.specs.Paths.{Reaches, on, pin}
-use Rattle.refutation.proofs.Agendas.{count-set, seen_left, seen_stays}
-use Rattle.refutation.specs.Agendas.{seen_count}
-use Rattle.refutation.specs.Reaching.{search_left}
+use Rattle.gate_looks.specs.Agendas.{seen_count}
+use Rattle.gate_looks.proofs.Public.{count-set, seen_left, seen_stays}
+use Rattle.gate_looks.specs.Reaching.{search_left}
 use Rattle.rm_base.specs.declared.numbers.Fault.{Fault}
 use Rattle.ternary_sim.proofs.Beginnings.{live_touched}
 use Rattle.ternary_sim.proofs.InOrder.{node_live}

@@ -6,7 +6,7 @@ use Rattle.std.specs.Prelude.{IsTrue, slice_get, ◌↔◌}
 use Rattle.gate_graph.specs.Search.{IsSeen}
 use Rattle.gate_net.specs.Forward.{MarksDetected, MarksQuiet}
 use Rattle.gate_net.specs.Net.{IsObserved, IsWellFormed, Net}
-use Rattle.refutation.proofs.Told.{live_below}
+use Rattle.gate_looks.proofs.Public.{live_below}
 use Rattle.ternary_sim.specs.Marks.{marking}
 use Rattle.ternary_sim.specs.Sheets.{AllEqual, SheetState, SomeDiffers, Watches}
 

@@ -3,14 +3,12 @@ use Rattle.std.proofs.Common.{Bool, List, None, Option, Some, [], ap, arith, inl
 use Rattle.std.proofs.lemmas.Bool.{ne_eqb}
 use Rattle.std.specs.List.{list_all}
 use Rattle.std.specs.Prelude.{if◌then◌else◌, nat_eq, slice_get}
-use Rattle.gate_net.proofs.AlongPins.{along_pins, reads_elsewhere}
-use Rattle.gate_net.proofs.Bools.{or_true, same_bool_refl}
-use Rattle.gate_net.proofs.Places.{map_agree}
 use Rattle.gate_net.specs.Forward.{AgreeOn, IsForwardReading, Marking, MarksDetected, MarksQuiet, both_known_different, both_known_same, is_idle, node_forward}
+use Rattle.gate_net.proofs.Public.{along_pins, map_agree, or_true, reads_elsewhere, same_bool_refl}
 use Rattle.gate_net.specs.Net.{IsAcyclic, Net, Reads, drivers_of, node_at}
 use Rattle.gate_net.specs.Paths.{Reaches, on, pin}
 use Rattle.gate_net.specs.Values.{faulty_reads}
-use Rattle.refutation.specs.OpenSearch.{Matters}
+use Rattle.gate_looks.specs.Reaching.{Matters}
 use Rattle.rm_base.specs.declared.numbers.Fault.{Fault}
 use Rattle.ternary_sim.proofs.InOrder.{read_agrees}
 use Rattle.ternary_sim.proofs.Rewriting.{same_marks}

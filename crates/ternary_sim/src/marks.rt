@@ -1,13 +1,14 @@
 // What forward reading says of a node, and of a gate's pins.
 ghost use Rattle.std.specs.Prelude.{◌≡◌, ◌<◌, ◌≤◌, length, map};
 ghost use Rattle.std.specs.List.{list_all};
-ghost use Rattle.gate_net.specs.Forward.{value_forward, first_known};
-ghost use Rattle.refutation.specs.Pins.{with_stuck, Glances, AreBelow};
+ghost use Rattle.gate_net.specs.Meaning.{kind_forward};
+ghost use Rattle.gate_looks.specs.Pins.{with_stuck, AreBelow};
 ghost use Rattle.ternary_sim.specs.Marks.{seen, equal_at, known_in};
 
 use gate_graph::Inputs;
+use gate_looks::glances::{Known, node_forward};
+use gate_looks::pins::Stuck;
 use gate_net::Kind;
-use refutation::pins::{Glance, Stuck, at_pin, is_value, junction_forward, opposite};
 use rm_base::NodeId;
 use rm_base::vectors::Value3;
 
@@ -47,66 +48,31 @@ pub(crate) fn shown_value(known: Option<bool>) -> Value3
     }
 }
 
-fn known_at(marks: &[NodeMarks], reading: Reading, node: NodeId) -> Option<bool>
-    requires { node.0 < length marks.now }
-    ensures { result ≡ known_in reading marks.now node.0 }
-{
-    let on = marks[node.0 as usize];
-    match reading {
-        Reading::OfGood => on.good,
-        Reading::OfFaulty => on.faulty,
-    }
+/// What marks tell of one of each node's two values.
+#[derive(Clone, Copy)]
+pub(crate) struct MarksOf<'a> {
+    pub marks: &'a [NodeMarks],
+    pub reading: Reading,
 }
 
-// One look at a gate's pins.
-fn look(
-    drivers: Inputs<'_>,
-    stuck: Option<Stuck>,
-    marks: &[NodeMarks],
-    reading: Reading,
-    value: bool,
-) -> Glance
-    requires within { AreBelow drivers (length marks.now) }
-    requires few { length drivers ≤ 4294967295 }
-    ensures { Glances result value (with_stuck stuck (map (known_in reading marks.now) drivers.entry)) }
-{
-    let mut any = false;
-    let mut rest: usize = 0;
-    let mut at: usize = 0;
-    let mut q: usize = 0;
-    for driver in drivers {
-        let here = at_pin(stuck, q, known_at(marks, reading, driver));
-        if is_value(here, value) {
-            any = true;
+impl<'a> Known for MarksOf<'a> {
+    ghost knows = { λ m. known_in m.reading m.marks.now };
+
+    ghost bound = { λ m. length m.marks.now };
+
+    fn known(&self, node: NodeId) -> Option<bool> {
+        let on = self.marks[node.0 as usize];
+        match self.reading {
+            Reading::OfGood => on.good,
+            Reading::OfFaulty => on.faulty,
         }
-        if !is_value(here, !value) {
-            rest += 1;
-            at = q;
-        }
-        q += 1;
-    }
-    Glance { any, rest, at }
-}
-
-fn first_pin(
-    mut drivers: Inputs<'_>,
-    stuck: Option<Stuck>,
-    marks: &[NodeMarks],
-    reading: Reading,
-) -> Option<bool>
-    requires within { AreBelow drivers (length marks.now) }
-    requires few { length drivers ≤ 4294967295 }
-    ensures { result ≡ first_known (with_stuck stuck (map (known_in reading marks.now) drivers.entry)) }
-{
-    match drivers.next() {
-        Some(driver) => at_pin(stuck, 0, known_at(marks, reading, driver)),
-        None => None,
     }
 }
 
-// The value of a gate that follows from its pins.
-pub(crate) fn forward(
+// The value of a node from those of its drivers; of a source, what is known of it.
+pub(crate) fn value_from(
     kind: Kind,
+    own: Option<bool>,
     drivers: Inputs<'_>,
     stuck: Option<Stuck>,
     marks: &[NodeMarks],
@@ -114,14 +80,10 @@ pub(crate) fn forward(
 ) -> Option<bool>
     requires within { AreBelow drivers (length marks.now) }
     requires few { length drivers ≤ 4294967295 }
-    ensures { result ≡ value_forward kind (with_stuck stuck (map (known_in reading marks.now) drivers.entry)) }
+    ensures { result ≡ kind_forward kind own (with_stuck stuck (map (known_in reading marks.now) drivers.entry)) }
 {
-    match kind {
-        Kind::And => junction_forward(look(drivers, stuck, marks, reading, false), false),
-        Kind::Or => junction_forward(look(drivers, stuck, marks, reading, true), true),
-        Kind::Not => opposite(first_pin(drivers, stuck, marks, reading)),
-        _ => None,
-    }
+    let known = MarksOf { marks, reading };
+    node_forward(kind, own, drivers, stuck, &known)
 }
 
 fn is_equal(marks: &[NodeMarks], node: NodeId) -> bool

@@ -1,22 +1,36 @@
 // Forward reading, node by node.
 ghost use Rattle.std.specs.Prelude.{◌≡◌, length, map};
-ghost use Rattle.gate_net.specs.Net.{IsLive, drivers_of, node_at, source_count};
+ghost use Rattle.gate_net.specs.Net.{IsKind, IsLive, drivers_of, node_at, source_count};
 ghost use Rattle.std.specs.Prelude.{nat_eq, if◌then◌else◌};
 ghost use Rattle.std.specs.List.{list_all};
 ghost use Rattle.gate_net.specs.Forward.{node_forward, is_idle, both_known_same};
+ghost use Rattle.gate_net.specs.declared.Kind.TheVariants.{Source};
 ghost use Rattle.gate_graph.specs.Circuit.{net_of};
-ghost use Rattle.refutation.specs.Pins.{AreBelow, with_stuck};
+ghost use Rattle.gate_looks.specs.Pins.{AreBelow, with_stuck};
 ghost use Rattle.ternary_sim.specs.Marks.{IsReadAt, marking, known_source, known_in, good_at, equal_at};
 ghost use Rattle.gate_graph.specs.Order.{IsOrder};
 ghost use Rattle.ternary_sim.specs.Sims.{IsMarked, AreRead};
 
-use crate::marks::{NodeMarks, Reading, all_equal, forward, known_value};
+use crate::marks::{NodeMarks, Reading, all_equal, known_value, value_from};
 use gate_graph::Graph;
+use gate_looks::drivers::gate_pins;
+use gate_looks::pins::{Stuck, is_value, stuck_at};
 use gate_net::Kind;
-use refutation::following::gate_pins;
-use refutation::pins::{Stuck, is_value, stuck_at};
 use rm_base::vectors::Value3;
 use rm_base::{Fault, NodeId};
+
+// What is known of a source.
+fn source_value(graph: &Graph, sources: &[Value3], kind: Kind, node: NodeId) -> Option<bool>
+    requires kind { IsKind (net_of graph.now) node.0 kind }
+    requires sources { length sources.now ≡ source_count (net_of graph.now) }
+    ensures { kind ≡ Source → result ≡ known_source sources.now node.0 }
+{
+    graph.well_formed();
+    match kind {
+        Kind::Source => known_value(sources[node.0 as usize - 2]),
+        _ => None,
+    }
+}
 
 // The value of a node from those of its drivers.
 fn node_value(
@@ -32,14 +46,9 @@ fn node_value(
     requires drivers { AreBelow (drivers_of (net_of graph.now) node.0) (length marks.now) }
     ensures { result ≡ node_forward (node_at (net_of graph.now) node.0) (known_source sources.now node.0) (with_stuck stuck (map (known_in reading marks.now) (drivers_of (net_of graph.now) node.0))) }
 {
-    graph.well_formed();
-    match graph.kind(node) {
-        Some(Kind::Source) => known_value(sources[node.0 as usize - 2]),
-        Some(Kind::Zero) => Some(false),
-        Some(Kind::One) => Some(true),
-        Some(kind) => forward(kind, gate_pins(graph, node), stuck, marks, reading),
-        None => None,
-    }
+    let kind = graph.kind(node)?;
+    let own = source_value(graph, sources, kind, node);
+    value_from(kind, own, gate_pins(graph, node), stuck, marks, reading)
 }
 
 // Whether the driver of the stuck pin is known to have the value that the pin is stuck at.

@@ -3,15 +3,15 @@ ghost use Rattle.std.specs.Prelude.{◌≡◌, ◌<◌, ◌≤◌, ◌↔◌, �
 ghost use Rattle.gate_graph.specs.Circuit.{net_of};
 ghost use Rattle.gate_graph.specs.Search.{IsSeen};
 ghost use Rattle.gate_net.specs.Net.{IsLive, Reads};
-ghost use Rattle.refutation.specs.Agendas.{ListsMarked};
-ghost use Rattle.refutation.specs.Pins.{AreBelow};
-ghost use Rattle.refutation.specs.Reaching.{MarksReached};
+ghost use Rattle.gate_looks.specs.Agendas.{ListsMarked};
+ghost use Rattle.gate_looks.specs.Pins.{AreBelow};
+ghost use Rattle.gate_looks.specs.Reaching.{MarksReached};
 ghost use Rattle.ternary_sim.specs.Regions.{IsTouched, MarksMore, MarksRegion};
 
 use gate_graph::Graph;
-use refutation::agenda::Agenda;
-use refutation::following::gate_pins;
-use refutation::site::Site;
+use gate_looks::agenda::Agenda;
+use gate_looks::drivers::gate_pins;
+use gate_looks::site::Site;
 use rm_base::{Fault, NoMemory, NodeId};
 use std::alloc::Global;
 use std::marker::Model;

@@ -1,9 +1,9 @@
 -- Lists of nodes without dead numbers at the end.
 use Rattle.std.proofs.Common.{◌≡◌, ◌≢◌, ℕ, zero, suc, ◌<◌, Option, Some, None, List, [], ◌∷◌, map, refl, sym, ◌∙◌, ap, arith}
 use Rattle.std.specs.Prelude.{slice_get, slice_set}
+use Rattle.gate_net.proofs.Public.{set_other, set_there}
 use Rattle.gate_net.specs.Net.{Node, flatten_option, before_dead, trimmed}
 use Rattle.gate_net.specs.Edits.{node_redirected}
-use Rattle.gate_net.proofs.Places.{set_other, set_there}
 use Rattle.wire_edit.specs.Changes.{with_least_free}
 
 tail_same : {A : Type 0} {x y : A} {xs ys : List A} → x ∷ xs ≡ y ∷ ys → xs ≡ ys

@@ -2,13 +2,13 @@
 use Rattle.std.proofs.Common.{◌≡◌, ◌≢◌, ℕ, zero, suc, ◌<◌, Bool, true, false, not, Option, Some, None, List, [], ◌∷◌, length, refl, sym, ◌∙◌, ap, arith}
 use Rattle.std.specs.Prelude.{slice_get, nat_eq, nat_lt, if◌then◌else◌, option_and_then}
 use Rattle.std.proofs.lemmas.Bool.{ltb-true}
+use Rattle.gate_net.proofs.Public.{and_both}
 use Rattle.gate_net.specs.declared.Kind.{Kind}
 use Rattle.gate_net.specs.declared.Kind.TheVariants.{Zero, One, Not}
 use Rattle.gate_net.specs.Net.{Node, Net, node_at, kind_in, drivers_of, Reads, IsKind, IsLive, IsGate, IsGateKind, IsAcyclic, IsRanked, HasConstants, IsWellFormed}
 use Rattle.gate_net.specs.Values.{same_bool, IsJunction}
 use Rattle.gate_net.specs.Paths.{Reaches, pin, on}
 use Rattle.gate_net.specs.Edits.{constant_node, constant_kind}
-use Rattle.gate_net.proofs.Bools.{and_both}
 use Rattle.wire_edit.specs.declared.steps.Step.{Step}
 use Rattle.wire_edit.specs.declared.steps.Step.TheVariants.{Add, Fix, NewNot, Const, Same, NoPins, OnePin, Twice, Twin, Dead}
 use Rattle.wire_edit.specs.Tests.{is_junction, is_not, is_gate, control_of, driver_at, constant_at, second_driver, is_in_use, is_repeated}

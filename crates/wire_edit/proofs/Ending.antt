@@ -3,11 +3,11 @@ use Rattle.std.proofs.Common.{◌≡◌, ℕ, ◌+◌, ◌<◌, ◌≤◌, Bool,
 use Rattle.std.specs.Prelude.{slice_get, nat_lt, nat_eq, if◌then◌else◌}
 use Rattle.std.proofs.lemmas.Bool.{ltb-true}
 use Rattle.rm_base.specs.declared.numbers.NodeId.{NodeId}
+use Rattle.gate_net.proofs.Public.{and_both}
 use Rattle.gate_net.specs.Net.{Net, drivers_of, Reads, IsKind, IsWellFormed, wire_count}
 use Rattle.gate_net.specs.declared.Kind.TheVariants.{Not}
 use Rattle.gate_net.specs.Values.{same_bool}
 use Rattle.gate_net.specs.Edits.{constant_node}
-use Rattle.gate_net.proofs.Bools.{and_both}
 use Rattle.wire_edit.specs.declared.steps.Step.{Step}
 use Rattle.wire_edit.specs.declared.steps.Step.TheVariants.{Add, Fix, NewNot, Const, Same, NoPins, OnePin, Twice, Twin, Dead}
 use Rattle.wire_edit.specs.Tests.{is_gate, is_junction, is_not, is_in_use, control_of, constant_at, driver_at, second_driver}

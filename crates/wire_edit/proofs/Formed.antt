@@ -2,17 +2,13 @@
 use Rattle.std.proofs.Common.{◌≡◌, ◌≢◌, ℕ, zero, suc, ◌+◌, ◌<◌, Bool, inl, inr, Some, None, List, [], ◌∷◌, ◌++◌, refl, sym, ◌∙◌, ap, arith}
 use Rattle.std.specs.Prelude.{slice_get, slice_set}
 use Rattle.std.proofs.lemmas.Bool.Decides.{eqb_tells}
+use Rattle.gate_net.proofs.Public.{fixes_keep_acyclic, last_cases, moves_keep_acyclic, node_at-other, node_at-there, pins_keep_acyclic, set_cases}
 use Rattle.gate_net.specs.declared.Kind.{Kind}
 use Rattle.gate_net.specs.declared.Kind.TheVariants.{Source, Zero, One, And, Or, Not}
 use Rattle.rm_base.specs.declared.numbers.Fault.{Fault}
 use Rattle.gate_net.specs.Net.{Node, Net, node_at, drivers_in, drivers_of, Reads, IsLive, IsGate, IsGateKind, IsAcyclic, IsWellFormed, source_in, source_count}
 use Rattle.gate_net.specs.Values.{controlling, IsJunction}
 use Rattle.gate_net.specs.Edits.{constant_node, constant_kind, without, without_pin, IsUnread, DiffersAt}
-use Rattle.gate_net.proofs.Edited.{node_at-other, node_at-there}
-use Rattle.gate_net.proofs.Places.{set_cases, last_cases}
-use Rattle.gate_net.proofs.Ordered.{pins_keep_acyclic}
-use Rattle.gate_net.proofs.Fixed.{fixes_keep_acyclic}
-use Rattle.gate_net.proofs.Moved.{moves_keep_acyclic}
 use Rattle.wire_edit.specs.Changes.{Change, append, remove, fix, readers, new_not, retire, changed, CanChange, with_new_not, without_node}
 use Rattle.wire_edit.proofs.Tested.{got}
 use Rattle.wire_edit.proofs.Totals.{total_least, total_gone}

@@ -3,9 +3,9 @@ use Rattle.std.proofs.Common.{◌≡◌, ℕ, zero, suc, ◌+◌, ◌-◌, ◌<�
 use Rattle.std.proofs.lemmas.Bool.{both_ways, cases_lt}
 use Rattle.std.specs.Cmp.{nat_cmp_total}
 use Rattle.std.specs.FinSet.{same_set, len, nat_cmp-IsAntisymmetric}
+use Rattle.gate_net.proofs.Public.{not_true}
 use Rattle.gate_net.specs.declared.Kind.{Kind}
 use Rattle.gate_net.specs.Net.{Net, wire_count, source_count, gate_count}
-use Rattle.gate_net.proofs.Bools.{not_true}
 use Rattle.gate_graph.specs.Wirings.{Wiring, free_in}
 use Rattle.gate_graph.specs.Circuit.{Circuit, wiring, net_of, fanouts_of, free_pins, free_nodes, pins_taken, live_nodes, SameWiring}
 use Rattle.gate_graph.specs.Entries.{CanGoBack, AreWithin, LeadOn, back_to}
@@ -23,7 +23,7 @@ use Rattle.wire_edit.specs.Marked.{is_marked, IsQuiet}
 use Rattle.wire_edit.specs.declared.kept.Kept.{Kept}
 use Rattle.wire_edit.specs.Known.{IsFresh, IsKept}
 use Rattle.wire_edit.specs.Tried.{StepList}
-use Rattle.wire_edit.specs.Trials.{IsTrial, IsReady, IsStart, GoesBack}
+use Rattle.wire_edit.specs.Trials.{HasEnough, IsReserved, IsTrial, IsReady, IsStart, GoesBack}
 use Rattle.wire_edit.proofs.Ordering.{gate_below}
 use Rattle.wire_edit.proofs.KnownPins.{fresh_kept}
 use Rattle.wire_edit.proofs.RuleAt.{no_rule}
@@ -165,3 +165,53 @@ kept_holds same v w trail after room first marks seen agenda next kept tidy know
     (kept_trial v w trail after room (room.steps + n) marks agenda t net back none given (omega (arith, few, r.goes_back.made)) (omega (arith, pins)) nodes)
     none r.seen_suffices r.kept_suffices (subst (λ (m : Net). IsKept m kept) (sym net) r.known) live
     (λ b. subst IsTidy (sym net) (next_none (net_of v) agenda t.quiet (λ k. ap (λ (bs : List Bool). is_marked bs k) (sym agenda_is) ∙ unmarked b k))))))
+
+-- MORE ROOM
+-- the graph may have got more room
+pub reserved_holds : SameWiring → (v w : Circuit) (trail : Trail) (pins nodes : ℕ) (made : StepList) (marks seen : ℕ) (agenda : List Bool) (kept : Kept) (first : Room) (tidy : Bool) → IsTrial v trail (record { pins = pins; nodes = nodes; steps = made.spare }) marks agenda → IsReady v trail made.steps made.spare marks seen kept first tidy → trail.entries ≡ [] → wiring w ≡ wiring v → IsReserved v w → Holds w trail pins nodes made marks seen agenda kept first tidy
+reserved_holds same v w trail pins nodes made marks seen agenda kept first tidy t r none e more = (
+  record {
+    back = subst (λ (x : Wiring). CanGoBack x trail.entries) (sym e) t.back;
+    within = subst (λ (es : List Entry). AreWithin (length w.kinds) es) (sym none) tt;
+    entries = omega (arith, t.entries, ap wire_count net);
+    pins = omega (arith, t.pins, more.pins);
+    nodes = omega (arith, t.nodes, more.nodes);
+    marks_suffice = omega (arith, t.marks_suffice, ap (λ (n : Net). length n.nodes) net);
+    agenda_suffices = t.agenda_suffices;
+    quiet = subst (λ (n : Net). IsQuiet n agenda) (sym net) t.quiet;
+  },
+  record {
+    begun = r.begun;
+    seen_suffices = r.seen_suffices;
+    kept_suffices = r.kept_suffices;
+    known = subst (λ (n : Net). IsKept n kept) (sym net) r.known;
+    goes_back = record {
+      steps_left = r.goes_back.steps_left;
+      made = r.goes_back.made;
+      at_start = λ start is.
+          let s : IsStart start v trail first marks tidy = r.goes_back.at_start start (is ∙ ap (λ (x : Wiring). back_to x trail.entries) e) in
+          record {
+            entries = s.entries;
+            pins = omega (arith, s.pins, more.pins, more.taken);
+            nodes = omega (arith, s.nodes, all_nodes v, all_nodes w, more.nodes, more.live);
+            marks_suffice = s.marks_suffice;
+            is_tidy = s.is_tidy;
+          };
+    };
+  },
+)
+  where
+    net : net_of w ≡ net_of v
+    net = (same w v e).0
+
+-- what is known of the start holds where no step was made
+pub known_here : (v : Circuit) (trail : Trail) (steps : List Step) (spare : ℕ) (first : Room) (marks : ℕ) (tidy : Bool) → GoesBack v trail steps spare first marks tidy → trail.entries ≡ [] → tidy ≡ true → IsTidy (net_of v)
+known_here v trail steps spare first marks tidy b none = (b.at_start v (ap (λ (es : List Entry). back_to (wiring v) es) (sym none))).is_tidy
+
+-- the room is there already
+pub offered_holds : SameWiring → (v : Circuit) (trail : Trail) (room was : Room) (made next : StepList) (marks seen : ℕ) (agenda : List Bool) (kept : Kept) (first : Room) (tidy : Bool) → IsTrial v trail was marks agenda → IsReady v trail made.steps made.spare marks seen kept first tidy → trail.entries ≡ [] → made.steps ≡ [] → next ≡ record { steps = made.steps; spare = room.steps } → HasEnough v trail.spare marks room → live_nodes v ≡ 2 + source_count (net_of v) + gate_count (net_of v) → Holds v trail room.pins room.nodes next marks seen agenda kept room tidy
+offered_holds same v trail room was made next marks seen agenda kept first tidy t r none no_steps is enough live =
+    subst (λ (m : StepList). Holds v trail room.pins room.nodes m marks seen agenda kept room tidy) (sym (is ∙ ap (λ (s : List Step). let m : StepList = record { steps = s; spare = room.steps } in m) no_steps))
+    (new_holds same v trail room marks seen agenda kept tidy
+    (record { back = t.back; within = t.within; entries = enough.entries; pins = enough.pins; nodes = enough.nodes; marks_suffice = enough.marks_suffice; agenda_suffices = t.agenda_suffices; quiet = t.quiet })
+    none r.seen_suffices r.kept_suffices r.known live (known_here v trail made.steps made.spare first marks tidy r.goes_back none))

@@ -3,6 +3,7 @@ use Rattle.std.proofs.Common.{◌≡◌, ◌≢◌, ℕ, zero, suc, ◌<◌, Boo
 use Rattle.std.specs.Prelude.{slice_get, nat_eq, nat_lt, if◌then◌else◌}
 use Rattle.std.proofs.lemmas.Bool.Decides.{eqb_tells}
 use Rattle.std.proofs.lemmas.Bool.{both_ways, or_cases}
+use Rattle.gate_net.proofs.Public.{adds_keep, along_pins, and_both, bool_cases, first_is, fixes_keep, junction_member, map_agree, map_at, map_pointwise, moves_keep, node_at-other, node_at-there, not_not, same_bool_false, same_bool_not, same_bool_refl, same_bool_true, value_at, values_unique}
 use Rattle.gate_net.specs.declared.Kind.{Kind}
 use Rattle.gate_net.specs.declared.Kind.TheVariants.{Source, Zero, One, And, Or, Not}
 use Rattle.rm_base.specs.declared.numbers.Fault.{Fault}
@@ -10,15 +11,6 @@ use Rattle.gate_net.specs.Net.{Node, Net, node_at, drivers_in, drivers_of, Reads
 use Rattle.gate_net.specs.Values.{same_bool, junction, gate_value, node_value, AreGoodValues, controlling, IsJunction}
 use Rattle.gate_net.specs.Edits.{with_drivers, with_pin, fixed, without, without_pin, constant_node, constant_kind, with_readers_moved, IsUnread, DiffersAt}
 use Rattle.gate_net.specs.Laws.{KeepsValues, KeepsPlaces}
-use Rattle.gate_net.proofs.Bools.{bool_cases, not_not, same_bool_refl, same_bool_not, same_bool_true, same_bool_false, and_both}
-use Rattle.gate_net.proofs.Places.{map_agree, map_at, map_pointwise}
-use Rattle.gate_net.proofs.Junctions.{junction_member, first_is}
-use Rattle.gate_net.proofs.AlongPins.{along_pins, value_at}
-use Rattle.gate_net.proofs.Valuations.{values_unique}
-use Rattle.gate_net.proofs.Edited.{node_at-other, node_at-there}
-use Rattle.gate_net.proofs.Fixed.{fixes_keep}
-use Rattle.gate_net.proofs.Added.{adds_keep}
-use Rattle.gate_net.proofs.Moved.{moves_keep}
 use Rattle.wire_edit.specs.declared.steps.Step.{Step}
 use Rattle.wire_edit.specs.declared.steps.Step.TheVariants.{Add, Fix, NewNot, Const, Same, NoPins, OnePin, Twice, Twin, Dead}
 use Rattle.wire_edit.specs.Tests.{is_present, is_junction, is_not, is_gate, control_of, driver_at, constant_at, second_driver, is_in_use, is_repeated}

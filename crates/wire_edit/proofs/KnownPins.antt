@@ -6,10 +6,10 @@ use Rattle.std.proofs.lemmas.List.{length-drop}
 use Rattle.std.proofs.lemmas.List.Sums.{sum_by-cons}
 use Rattle.std.proofs.lemmas.Option.{slice_get_past}
 use Rattle.rm_base.specs.declared.numbers.NodeId.{NodeId}
+use Rattle.gate_net.proofs.Public.{and_both}
 use Rattle.gate_net.specs.Net.{Node, Net, flatten_option, drivers_in, drivers_of, wire_count, IsGate}
 use Rattle.gate_net.specs.Edits.{constant_node, without, without_pin}
 use Rattle.gate_net.specs.Values.{same_bool}
-use Rattle.gate_net.proofs.Bools.{and_both}
 use Rattle.wire_edit.specs.declared.steps.Step.{Step}
 use Rattle.wire_edit.specs.declared.steps.Step.TheVariants.{Add, Fix, NewNot, Const, Same, NoPins, OnePin, Twice, Twin, Dead}
 use Rattle.wire_edit.specs.declared.kept.Kept.{Kept}

@@ -40,3 +40,4 @@ pub mod KnownPins
 pub mod LiveNodes
 pub mod GoingBack
 pub mod WideNets
+pub mod Public

@@ -2,13 +2,13 @@
 use Rattle.std.proofs.Common.{◌≡◌, ◌≢◌, ℕ, zero, suc, ◌+◌, ◌<◌, ◌≤◌, Bool, true, false, inl, inr, Option, Some, None, List, [], ◌∷◌, ◌++◌, length, refl, sym, ◌∙◌, ap, subst, arith}
 use Rattle.std.specs.Prelude.{slice_get}
 use Rattle.std.specs.List.{sum_by}
-use Rattle.std.proofs.lemmas.Bool.{cases_eq}
+use Rattle.std.proofs.lemmas.Bool.{cases_eq, cases_lt}
 use Rattle.std.proofs.lemmas.List.Sums.{sum_by-cons}
+use Rattle.gate_net.proofs.Public.{live_reader, node_at-other, node_at-there}
 use Rattle.gate_net.specs.declared.Kind.{Kind}
 use Rattle.gate_net.specs.declared.Kind.TheVariants.{Source, Zero, One, And, Or, Not}
 use Rattle.gate_net.specs.Net.{Node, Net, node_at, drivers_in, drivers_of, flatten_option, Reads, IsLive, IsWellFormed, plain_node, count_in, source_in, gate_in, source_count, gate_count}
-use Rattle.gate_net.specs.Edits.{with_pin}
-use Rattle.gate_net.proofs.Edited.{node_at-other, node_at-there, live_reader}
+use Rattle.gate_net.specs.Edits.{IsLeastFree, with_pin}
 use Rattle.wire_edit.specs.declared.steps.Step.{Step}
 use Rattle.wire_edit.specs.Tests.{live_in}
 use Rattle.wire_edit.specs.Steps.{stepped, change_of}
@@ -105,4 +105,14 @@ others_stay net gate driver y position x reads = elim (cases_eq y gate) [
       let n : (n : Node) × (node_at net y ≡ Some n) = live_reader (node_at net y) position x reads in
       subst (λ (k : ℕ). Reads (with_pin net k driver) y position x) is (ap (λ (xs : List ℕ). slice_get xs position) (pin_drivers net y driver n.0 n.1) ∙ kept_there (drivers_of net y) driver position x reads)
   | inr ne ↦ ap (λ o. slice_get (drivers_in o) position) (node_at-other net gate (drivers_of net gate ++ driver ∷ []) y ne) ∙ reads
+]
+
+-- there is one least free number
+pub least_one : (net : Net) (x y : ℕ) → IsLeastFree net x → IsLeastFree net y → x ≡ y
+least_one net x y a b = elim (cases_lt x y) [
+  | inl less ↦ absurd (b.least x less a.free)
+  | inr ge ↦ elim (cases_lt y x) [
+    | inl more ↦ absurd (a.least y more b.free)
+    | inr le ↦ omega (arith, ge, le)
+  ]
 ]

@@ -1,11 +1,11 @@
 -- A move of readers leaves the net well formed.
 use Rattle.std.proofs.Common.{◌≡◌, ◌≢◌, ℕ, inl, inr, Option, Some, None, List, [], ◌∷◌, map, refl, sym, ◌∙◌, ap}
 use Rattle.std.specs.Prelude.{slice_get}
+use Rattle.gate_net.proofs.Public.{drivers_redirected, node_at-moved, redirect_cases}
 use Rattle.gate_net.specs.declared.Kind.{Kind}
 use Rattle.gate_net.specs.declared.Kind.TheVariants.{Zero, One, Not}
 use Rattle.gate_net.specs.Net.{Node, Net, node_at, kind_in, drivers_in, drivers_of, IsKind, IsLive, IsAcyclic, IsWellFormed}
 use Rattle.gate_net.specs.Edits.{redirected, node_redirected, with_readers_moved}
-use Rattle.gate_net.proofs.Moved.{node_at-moved, drivers_redirected, redirect_cases}
 use Rattle.wire_edit.proofs.Totals.{total_map}
 use Rattle.wire_edit.proofs.Canonical.{canonical_map}
 use Rattle.wire_edit.proofs.Plain.{some_none, source_weight, KeepsPlain, plain_constants, plain_sources}

@@ -2,10 +2,9 @@
 use Rattle.std.proofs.Common.{◌≡◌, ℕ, zero, suc, ◌<◌, ◌≤◌, Bool, true, false, inl, inr, Option, Some, None, List, [], ◌∷◌, length, refl, sym, ◌∙◌, ap, arith}
 use Rattle.std.specs.Prelude.{slice_get, option_and_then}
 use Rattle.std.proofs.lemmas.Bool.{both_ways, and_from}
+use Rattle.gate_net.proofs.Public.{and_both, node_at-there, not_true}
 use Rattle.gate_net.specs.Net.{Net, drivers_in, drivers_of, IsGate}
 use Rattle.gate_net.specs.Edits.{without, without_pin}
-use Rattle.gate_net.proofs.Bools.{and_both, not_true}
-use Rattle.gate_net.proofs.Edited.{node_at-there}
 use Rattle.wire_edit.specs.declared.steps.Step.{Step}
 use Rattle.wire_edit.specs.declared.steps.Step.TheVariants.{Add, Fix, NewNot, Const, Same, NoPins, OnePin, Twice, Twin, Dead}
 use Rattle.rm_base.specs.declared.numbers.NodeId.{NodeId}

@@ -1,10 +1,10 @@
 -- What the calls that read a graph tell of its net.
-use Rattle.std.proofs.Common.{◌≡◌, ℕ, zero, suc, ◌<◌, ◌≤◌, Bool, true, false, ◌||◌, ◌&&◌, ◌↔◌, Option, Some, None, List, [], ◌∷◌, length, take, refl, sym, ◌∙◌, ap, arith}
+use Rattle.std.proofs.Common.{◌≡◌, ℕ, zero, suc, ◌<◌, ◌≤◌, Bool, true, false, ◌||◌, ◌&&◌, ◌↔◌, Option, Some, None, List, [], ◌∷◌, length, map, take, refl, sym, ◌∙◌, ap, arith}
 use Rattle.std.specs.Prelude.{not, nat_lt, slice_get, option_and_then}
-use Rattle.std.proofs.lemmas.Bool.{eq-eqb, and_from, both_ways, lt-ltb}
+use Rattle.std.proofs.lemmas.Bool.{eq-eqb, and_from, both_ways, lt-ltb, or_left, or_right}
+use Rattle.gate_net.proofs.Public.{and_both, not_true}
 use Rattle.gate_net.specs.Net.{Net, node_at, drivers_in, drivers_of, Reads, IsObserved, IsLive, IsGate, IsWellFormed}
-use Rattle.gate_net.proofs.Bools.{not_true, and_both}
-use Rattle.gate_graph.specs.Circuit.{Circuit, net_of}
+use Rattle.gate_graph.specs.Circuit.{Circuit, net_of, fanouts_of}
 use Rattle.gate_graph.specs.Readers.{ListReaders}
 use Rattle.wire_edit.specs.Tests.{is_live, is_present, is_gate, is_not, is_junction, constant_of, driver_at, is_read_in, is_in_use, is_among, is_some_among, is_repeated}
 use Rattle.wire_edit.specs.Firsts.{IsFirst, reads_constant, is_twin}
@@ -29,6 +29,18 @@ no_reader v x gates listed is none = not_true _ (λ e.
     let r : (y : ℕ) × ((p : ℕ) × Reads (net_of v) y p x) = read_at (net_of v).nodes x e in
     let k : (k : ℕ) × (slice_get (gates_of v x) k ≡ Some r.0) = gate_listed v listed x r.0 r.1.0 r.1.1 in
     no_gate k.0 r.0 (ap (λ (gs : List ℕ). slice_get gs k.0) (sym (sym is ∙ none)) ∙ k.1))
+
+-- a node is in use where it has a reader, and else where it is observed
+pub used_test : (v : Circuit) (x : ℕ) (b : Bool) → ListReaders v → (b ≡ false → fanouts_of v x ≡ []) → (b ≡ false → IsObserved (net_of v) x → ⊥) → (b ≡ true → fanouts_of v x ≡ [] → IsObserved (net_of v) x) → b ≡ is_in_use (net_of v) x
+used_test v x false listed unread unobserved used =
+    let read : is_read_in (net_of v).nodes x ≡ false = no_reader v x (gates_of v x) listed refl (ap (map (λ (place : ℕ × ℕ). place.0)) (unread refl)) in
+    let observed : is_among x (net_of v).observed ≡ false = not_true _ (λ e. unobserved refl (among_at x (net_of v).observed e)) in
+    rw (read, observed) refl
+used_test v x true listed unread unobserved used = by (fanouts_of v x) refl
+  where
+    by : (places : List (ℕ × ℕ)) → fanouts_of v x ≡ places → true ≡ is_in_use (net_of v) x
+    by [] e = let o : IsObserved (net_of v) x = used refl e in sym (or_right (is_read_in (net_of v).nodes x) _ (at_among x (net_of v).observed o.0 o.1))
+    by (place ∷ places) e = sym (or_left _ (is_among x (net_of v).observed) (first_reader v x (gates_of v x) _ _ listed refl (ap (map (λ (p : ℕ × ℕ). p.0)) e)))
 
 pub observed_test : (net : Net) (x : ℕ) (b : Bool) → ((b ≡ true) ↔ IsObserved net x) → b ≡ is_among x net.observed
 observed_test net x true h = let o : IsObserved net x = h.0 refl in sym (at_among x net.observed o.0 o.1)

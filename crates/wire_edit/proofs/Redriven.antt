@@ -3,12 +3,12 @@ use Rattle.std.proofs.Common.{◌≡◌, ◌≢◌, ℕ, ◌+◌, inl, inr, Some
 use Rattle.std.specs.Prelude.{slice_get}
 use Rattle.std.specs.List.{sum_by}
 use Rattle.std.proofs.lemmas.Bool.Decides.{eqb_tells}
+use Rattle.gate_net.proofs.Public.{flatten_some, node_at-other, node_at-there}
 use Rattle.gate_net.specs.declared.Kind.{Kind}
 use Rattle.gate_net.specs.declared.Kind.TheVariants.{Zero, One, Not}
 use Rattle.gate_net.specs.Net.{Node, Net, node_at, drivers_in, drivers_of, Reads, IsKind, IsGate, IsGateKind, IsAcyclic, IsWellFormed, plain_node, source_in, source_count}
 use Rattle.gate_net.specs.Edits.{with_drivers}
 use Rattle.wire_edit.proofs.Conditions.{same_kind}
-use Rattle.gate_net.proofs.Edited.{node_at-other, node_at-there, flatten_some}
 use Rattle.wire_edit.proofs.Totals.{total_with}
 use Rattle.wire_edit.proofs.Canonical.{canonical_set}
 use Rattle.wire_edit.proofs.Plain.{some_none, source_weight, gate_weight, KeepsPlain, plain_constants, plain_sources}

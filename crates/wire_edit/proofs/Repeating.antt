@@ -3,8 +3,8 @@ use Rattle.std.proofs.Common.{◌≡◌, ◌≢◌, ℕ, zero, suc, ◌+◌, ◌
 use Rattle.std.specs.Prelude.{slice_get, set, nat_eq}
 use Rattle.std.proofs.lemmas.Bool.{cases_eq, eq-eqb, ne_eqb}
 use Rattle.rm_base.specs.declared.numbers.NodeId.{NodeId}
+use Rattle.gate_net.proofs.Public.{not_true}
 use Rattle.gate_net.specs.Net.{Net, drivers_of, IsWellFormed}
-use Rattle.gate_net.proofs.Bools.{not_true}
 use Rattle.gate_graph.specs.Search.{AreBelow}
 use Rattle.wire_edit.specs.Tests.{is_among}
 use Rattle.wire_edit.specs.Marked.{is_marked}

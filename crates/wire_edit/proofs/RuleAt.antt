@@ -1,8 +1,8 @@
 -- Which rule comes first at a gate.
 use Rattle.std.proofs.Common.{◌≡◌, ℕ, zero, suc, ◌+◌, ◌<◌, ◌≤◌, Bool, true, false, not, ◌&&◌, inl, inr, Option, Some, None, length, refl, sym, ◌∙◌, ap, arith}
 use Rattle.std.proofs.lemmas.Bool.{lt-ltb, cases_eq, and_from, eq-eqb, ne_eqb}
+use Rattle.gate_net.proofs.Public.{and_both, not_true}
 use Rattle.gate_net.specs.Net.{Net, drivers_of}
-use Rattle.gate_net.proofs.Bools.{and_both, not_true}
 use Rattle.wire_edit.specs.declared.steps.Step.{Step}
 use Rattle.wire_edit.specs.declared.steps.Step.TheVariants.{Const, Same, NoPins, OnePin, Twice, Twin, Dead}
 use Rattle.wire_edit.specs.Tests.{is_gate, is_junction, is_not, is_in_use, driver_at, is_repeated}

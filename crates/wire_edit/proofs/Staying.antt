@@ -3,14 +3,11 @@ use Rattle.std.proofs.Common.{◌≡◌, ◌≢◌, ℕ, zero, suc, ◌<◌, Boo
 use Rattle.std.specs.Prelude.{slice_get, slice_set, nat_lt, nat_eq, option_and_then}
 use Rattle.std.proofs.lemmas.Bool.{both_ways, and_from, and_left, cases_lt, eq-eqb}
 use Rattle.std.proofs.lemmas.Bool.Decides.{eqb_tells}
+use Rattle.gate_net.proofs.Public.{and_both, drivers_redirected, node_at-moved, node_at-other, node_at-there, not_true, redirect_cases, set_cases, set_other}
 use Rattle.gate_net.specs.declared.Kind.TheVariants.{Not}
 use Rattle.gate_net.specs.Net.{Net, node_at, kind_in, kind_of, drivers_in, drivers_of, Reads, IsObserved, IsLive, IsGate, IsWellFormed}
 use Rattle.gate_net.specs.Values.{IsJunction}
 use Rattle.gate_net.specs.Edits.{with_drivers, with_pin, without, without_pin, constant_node, redirected, with_readers_moved, IsUnread}
-use Rattle.gate_net.proofs.Bools.{and_both, not_true}
-use Rattle.gate_net.proofs.Edited.{node_at-other, node_at-there}
-use Rattle.gate_net.proofs.Places.{set_other, set_cases}
-use Rattle.gate_net.proofs.Moved.{node_at-moved, drivers_redirected, redirect_cases}
 use Rattle.wire_edit.specs.declared.steps.Step.TheVariants.{Const, Same, NoPins, OnePin, Twice, Twin, Dead}
 use Rattle.wire_edit.specs.Tests.{is_present, gate_control, is_not_kind, kind_constant, is_junction, is_not, is_gate, is_in_use, constant_of, constant_at, driver_at, is_repeated}
 use Rattle.wire_edit.specs.Changes.{Change, append, remove, fix, readers, new_not, retire, changed, CanChange, with_new_not, without_node}

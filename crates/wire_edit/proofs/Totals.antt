@@ -3,9 +3,9 @@ use Rattle.std.proofs.Common.{◌≡◌, ℕ, zero, suc, ◌+◌, Option, Some, 
 use Rattle.std.specs.Prelude.{slice_get, slice_set}
 use Rattle.std.specs.List.{sum_by}
 use Rattle.std.proofs.lemmas.List.Sums.{sum_by-cons}
+use Rattle.gate_net.proofs.Public.{flatten_some}
 use Rattle.gate_net.specs.Net.{Node, Net, node_at, before_dead, trimmed}
 use Rattle.gate_net.specs.Edits.{with_drivers}
-use Rattle.gate_net.proofs.Edited.{flatten_some}
 use Rattle.wire_edit.specs.Changes.{with_least_free}
 
 pub total_set : (f : Option Node → ℕ) (os : List (Option Node)) (x : ℕ) (o p : Option Node) → slice_get os x ≡ Some o → sum_by f (slice_set os x p) + f o ≡ sum_by f os + f p

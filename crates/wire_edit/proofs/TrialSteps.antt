@@ -2,10 +2,10 @@
 use Rattle.std.proofs.Common.{◌≡◌, ℕ, ◌+◌, ◌-◌, ◌<◌, ◌≤◌, Bool, true, false, inl, inr, Option, Some, None, List, length, refl, sym, ap, subst, arith}
 use Rattle.std.specs.Prelude.{nat_lt, if◌then◌else◌}
 use Rattle.std.proofs.lemmas.Bool.{both_ways, cases_lt, ltb-true}
+use Rattle.gate_net.proofs.Public.{and_both, not_true}
 use Rattle.gate_net.specs.Net.{Net, IsWellFormed, wire_count}
 use Rattle.gate_net.specs.Values.{same_bool}
 use Rattle.gate_net.specs.Edits.{constant_node}
-use Rattle.gate_net.proofs.Bools.{and_both, not_true}
 use Rattle.gate_graph.specs.Circuit.{Circuit, net_of, free_pins, free_nodes}
 use Rattle.gate_graph.specs.Entries.{LeadOn}
 use Rattle.gate_graph.specs.Changes.{CanEdit, Edits, entries_for}

@@ -1,8 +1,8 @@
 -- What the calls of a trial rest on.
 use Rattle.std.proofs.Common.{◌≡◌, ◌≢◌, ℕ, ◌+◌, ◌-◌, ◌<◌, ◌≤◌, Bool, true, false, inl, inr, Some, None, List, [], ◌∷◌, ◌++◌, length, refl, sym, ◌∙◌, ap, subst, arith, min}
 use Rattle.std.proofs.lemmas.Bool.{cases_eq, cases_lt, both_ways, lt-ltb}
+use Rattle.gate_net.proofs.Public.{not_true}
 use Rattle.gate_net.specs.Net.{Net, IsWellFormed, wire_count}
-use Rattle.gate_net.proofs.Bools.{not_true}
 use Rattle.gate_graph.specs.Circuit.{Circuit, wiring, net_of, free_pins, free_nodes}
 use Rattle.gate_graph.specs.Entries.{CanGoBack, AreWithin}
 use Rattle.gate_graph.specs.Changes.{Edits}

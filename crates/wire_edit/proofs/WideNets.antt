@@ -1,7 +1,7 @@
 -- Nodes of a list.
 use Rattle.std.proofs.Common.{List, get_or, refl, Some, [], ap, arith, eqb-true, inl, inr, length, map, suc, sym, true, zero, ℕ, ◌<◌, ◌∷◌, ◌≡◌}
 use Rattle.std.specs.Prelude.{slice_get}
-use Rattle.gate_net.proofs.Bools.{or_either}
+use Rattle.gate_net.proofs.Public.{or_either}
 use Rattle.pin_pool.specs.Ring.{has}
 use Rattle.rm_base.specs.declared.numbers.NodeId.{NodeId}
 

@@ -5,14 +5,11 @@ use Rattle.std.specs.List.{sum_by}
 use Rattle.std.proofs.lemmas.Bool.{and_from}
 use Rattle.std.proofs.lemmas.Bool.Decides.{eqb_tells}
 use Rattle.std.proofs.lemmas.List.Sums.{sum_by-cons}
+use Rattle.gate_net.proofs.Public.{and_both, drivers_redirected, last_cases, node_at-moved, node_at-other, node_at-there, not_true, redirect_cases, set_cases}
 use Rattle.gate_net.specs.declared.Kind.{Kind}
 use Rattle.gate_net.specs.declared.Kind.TheVariants.{Source, Zero, One, And, Or, Not}
 use Rattle.gate_net.specs.Net.{Node, Net, node_at, kind_in, kind_of, drivers_in, drivers_of, flatten_option, Reads, IsObserved, IsLive, IsGate, IsGateKind, IsWellFormed, count_in, gate_in, wire_count, gate_count}
 use Rattle.gate_net.specs.Edits.{with_drivers, with_pin, without, without_pin, constant_node, redirected, node_redirected, with_readers_moved, IsUnread}
-use Rattle.gate_net.proofs.Bools.{and_both, not_true}
-use Rattle.gate_net.proofs.Edited.{node_at-other, node_at-there}
-use Rattle.gate_net.proofs.Places.{set_cases, last_cases}
-use Rattle.gate_net.proofs.Moved.{node_at-moved, drivers_redirected, redirect_cases}
 use Rattle.wire_edit.specs.Tests.{is_present, gate_control, is_not_kind, is_gate, is_in_use, live_in}
 use Rattle.wire_edit.specs.Changes.{append, remove, fix, readers, retire, changed, CanChange, with_new_not, without_node}
 use Rattle.wire_edit.specs.Refusals.{live_count}

@@ -5,6 +5,7 @@ use Rattle.wire_edit.specs.Work.{one_if}
 use Rattle.wire_edit.specs.Order.{rule_at}
 use Rattle.wire_edit.specs.Changes.{Change}
 use Rattle.wire_edit.specs.Touched.{IsTouched}
+use Rattle.rm_base.specs.Numbers.{number_bound}
 
 abbrev pub is_marked : List Bool → ℕ → Bool
 is_marked [] k = false
@@ -45,5 +46,5 @@ IsFirstMark marks from end (Some x) = (from ≤ x) × ((x < end) × ((is_marked 
 pub record IsBlocked (marks blocks : List Bool) : Type 0 where
   pub has : (k : ℕ) → is_marked marks k ≡ true → is_marked blocks (k / 256) ≡ true
   pub enough : length marks < 256 * length blocks
-  pub few : length marks ≤ 4294967295
+  pub few : length marks ≤ number_bound
   pub few_blocks : length blocks ≤ 16777216

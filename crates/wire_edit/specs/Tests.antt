@@ -1,7 +1,8 @@
 -- Tests of the nodes of a net.
 use Rattle.std.specs.Prelude.{ℕ, Bool, true, false, ◌||◌, Option, Some, None, List, [], ◌∷◌, option_and_then, slice_get, take, nat_eq}
 use Rattle.gate_net.specs.declared.Kind.{Kind}
-use Rattle.gate_net.specs.declared.Kind.TheVariants.{Zero, One, And, Or, Not}
+use Rattle.gate_net.specs.declared.Kind.TheVariants.{Not}
+use Rattle.gate_net.specs.Meaning.{constant_value, controlling}
 use Rattle.gate_net.specs.Net.{Node, Net, node_at, kind_of, drivers_in, drivers_of}
 
 abbrev pub is_present : {A : Type 0} → Option A → Bool
@@ -12,9 +13,8 @@ abbrev pub is_live : Net → ℕ → Bool
 is_live net x = is_present (node_at net x)
 
 abbrev pub gate_control : Option Kind → Option Bool
-gate_control (Some And) = Some false
-gate_control (Some Or) = Some true
-gate_control _ = None
+gate_control None = None
+gate_control (Some kind) = controlling kind
 
 -- the controlling value of an And or an Or
 abbrev pub control_of : Net → ℕ → Option Bool
@@ -35,9 +35,8 @@ abbrev pub is_gate : Net → ℕ → Bool
 is_gate net x = is_junction net x || is_not net x
 
 abbrev pub kind_constant : Option Kind → Option Bool
-kind_constant (Some Zero) = Some false
-kind_constant (Some One) = Some true
-kind_constant _ = None
+kind_constant None = None
+kind_constant (Some kind) = constant_value kind
 
 -- the value of a constant
 abbrev pub constant_of : Net → ℕ → Option Bool

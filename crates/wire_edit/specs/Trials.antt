@@ -1,7 +1,7 @@
 -- What holds of every trial.
 use Rattle.std.specs.Prelude.{◌≡◌, ◌≤◌, ◌+◌, ◌↔◌, ℕ, List, [], Bool, true, length, min}
 use Rattle.gate_net.specs.Net.{wire_count, source_count, gate_count}
-use Rattle.gate_graph.specs.Circuit.{Circuit, wiring, net_of, free_pins, free_nodes, pins_taken}
+use Rattle.gate_graph.specs.Circuit.{Circuit, wiring, net_of, free_pins, free_nodes, pins_taken, live_nodes}
 use Rattle.gate_graph.specs.Entries.{CanGoBack, AreWithin, back_to}
 use Rattle.gate_graph.specs.Trail.{Trail}
 use Rattle.wire_edit.specs.declared.room.Room.{Room}
@@ -10,6 +10,7 @@ use Rattle.wire_edit.specs.declared.kept.Kept.{Kept}
 use Rattle.wire_edit.specs.Known.{IsKept}
 use Rattle.wire_edit.specs.Order.{IsTidy}
 use Rattle.wire_edit.specs.Marked.{IsQuiet}
+use Rattle.rm_base.specs.Numbers.{number_bound}
 
 -- the undos lead back; pins, nodes, entries and marks suffice for the room that is left; no rule applies at a gate that isn't to be looked at
 pub record IsTrial (graph : Circuit) (trail : Trail) (room : Room) (marks : ℕ) (agenda : List Bool) : Type 0 where
@@ -18,7 +19,7 @@ pub record IsTrial (graph : Circuit) (trail : Trail) (room : Room) (marks : ℕ)
   pub entries : room.steps + wire_count (net_of graph) + room.pins ≤ trail.spare
   pub pins : room.pins ≤ free_pins graph
   pub nodes : room.nodes ≤ free_nodes graph
-  pub marks_suffice : min (length (net_of graph).nodes + room.nodes) 4294967295 ≤ marks
+  pub marks_suffice : min (length (net_of graph).nodes + room.nodes) number_bound ≤ marks
   pub agenda_suffices : marks ≤ length agenda
   pub quiet : IsQuiet (net_of graph) agenda
 
@@ -27,7 +28,7 @@ pub record IsStart (start graph : Circuit) (trail : Trail) (first : Room) (marks
   pub entries : first.steps + wire_count (net_of start) + first.pins ≤ trail.spare + length trail.entries
   pub pins : first.pins + pins_taken start ≤ free_pins graph + pins_taken graph
   pub nodes : first.nodes + (2 + source_count (net_of start) + gate_count (net_of start)) ≤ length graph.kinds
-  pub marks_suffice : min (length (net_of start).nodes + first.nodes) 4294967295 ≤ marks
+  pub marks_suffice : min (length (net_of start).nodes + first.nodes) number_bound ≤ marks
   pub is_tidy : tidy ≡ true → IsTidy (net_of start)
 
 -- each step took one of the first room and left an entry, and all of that room is there again at the start
@@ -43,3 +44,17 @@ pub record IsReady (graph : Circuit) (trail : Trail) (steps : List Step) (spare 
   pub kept_suffices : marks ≤ length kept.marks.items
   pub known : IsKept (net_of graph) kept
   pub goes_back : GoesBack graph trail steps spare first marks tidy
+
+-- the same graph, with no less room
+pub record IsReserved (old new : Circuit) : Type 0 where
+  pub pins : free_pins old ≤ free_pins new
+  pub nodes : free_nodes old ≤ free_nodes new
+  pub taken : pins_taken new ≡ pins_taken old
+  pub live : live_nodes new ≡ live_nodes old
+
+-- pins, nodes, entries and marks suffice for the room
+pub record HasEnough (graph : Circuit) (spare marks : ℕ) (room : Room) : Type 0 where
+  pub entries : room.steps + wire_count (net_of graph) + room.pins ≤ spare
+  pub pins : room.pins ≤ free_pins graph
+  pub nodes : room.nodes ≤ free_nodes graph
+  pub marks_suffice : min (length (net_of graph).nodes + room.nodes) number_bound ≤ marks

@@ -17,7 +17,7 @@ use Rattle.wire_edit.specs.Refusals.{room_after}
 use Rattle.wire_edit.specs.Order.{next_step, IsTidy}
 use Rattle.wire_edit.specs.Edited.{edit_of}
 
--- the graph, what undoes its steps, the steps, the room that is left, and the room at the start: the last `begin`, `settle`, `keep` or `take_back`
+-- the graph, what undoes its steps, the steps, the room that is left, and the room at the start: the last `begin`, `keep`, `take_back` or `make_room`
 pub record Tried : Type 0 where
   pub graph : Circuit
   pub trail : Trail
@@ -32,6 +32,15 @@ start_of t = back_to (wiring t.graph) t.trail.entries
 -- the graph has the net and the order of readers of that wiring
 abbrev pub IsAt : Circuit → Wiring → Type 0
 IsAt w start = (v : Circuit) → wiring v ≡ start → (net_of w ≡ net_of v) × ((n : ℕ) → fanouts_of w n ≡ fanouts_of v n)
+
+-- the same graph and the same start, where there may be more room
+pub record StaysAt (old new : Tried) : Type 0 where
+  pub is_wired : wiring new.graph ≡ wiring old.graph
+  pub net : net_of new.graph ≡ net_of old.graph
+  pub readers : (n : ℕ) → fanouts_of new.graph n ≡ fanouts_of old.graph n
+  pub start : start_of new ≡ start_of old
+  pub epoch : new.graph.epoch ≡ old.graph.epoch
+  pub held : pins_held new.graph ≡ pins_held old.graph
 
 -- the refusal, if it is one
 abbrev pub refusal_in : {T : Type 0} → Result T EditRefusal → Option EditRefusal

@@ -41,15 +41,8 @@ fn plays_alike(
 
 // Whether a trial that is lent and one that has just begun are the same before and after a script. Then the first is taken
 // back.
-fn round(
-    alloc: Global,
-    lent: &mut Trial,
-    fresh: Option<Trial>,
-    seed: u32,
-) -> Result<bool, NoMemory> {
-    let Some(mut fresh) = fresh else {
-        return Ok(false);
-    };
+fn round(alloc: Global, lent: &mut Trial, begun: Trial, seed: u32) -> Result<bool, NoMemory> {
+    let mut fresh = begun;
     let before = same(alloc, lent, &fresh)?;
     let after = plays_alike(alloc, lent, &mut fresh, seed)?;
     lent.take_back();
@@ -59,17 +52,16 @@ fn round(
 #[test]
 fn a_thousand_trials(rt: HostRuntime) -> Result<(), Fail> {
     let alloc = rt.alloc();
-    let Some(mut lent) = begun_tidy(alloc) else {
-        return Err("no trial".into());
-    };
+    let mut lent = begun_tidy(alloc)?;
     for seed in 0..1_000u32 {
-        assert!(rt; round(alloc, &mut lent, begun_tidy(alloc), seed)?);
+        let fresh = begun_tidy(alloc)?;
+        assert!(rt; round(alloc, &mut lent, fresh, seed)?);
     }
     Ok(())
 }
 
 // Fixes the first pin of a gate and keeps that, tidied first or not.
-fn fixed_and_kept(alloc: Global, gate: u32, tidied: bool) -> Option<Trial> {
+fn fixed_and_kept(alloc: Global, gate: u32, tidied: bool) -> Result<Trial, Fail> {
     let mut trial = begun_tidy(alloc)?;
     let fix = Step::Fix {
         gate: NodeId(gate),
@@ -77,7 +69,7 @@ fn fixed_and_kept(alloc: Global, gate: u32, tidied: bool) -> Option<Trial> {
         value: true,
     };
     if trial.apply(fix).is_err() {
-        return None;
+        return Err("no fix".into());
     }
     if tidied {
         for _ in 0..10u32 {
@@ -85,19 +77,18 @@ fn fixed_and_kept(alloc: Global, gate: u32, tidied: bool) -> Option<Trial> {
         }
     }
     trial.keep();
-    Some(trial)
+    Ok(trial)
 }
 
 // After a fix is kept, each trial that is taken back finds what a new one finds.
-fn goes_on(alloc: Global, gate: u32, tidied: bool) -> Result<bool, NoMemory> {
-    let Some(mut lent) = fixed_and_kept(alloc, gate, tidied) else {
-        return Ok(false);
-    };
+fn goes_on(alloc: Global, gate: u32, tidied: bool) -> Result<bool, Fail> {
+    let mut lent = fixed_and_kept(alloc, gate, tidied)?;
     if lent.room().steps != 40 {
         return Ok(false);
     }
     for seed in 0..50u32 {
-        if !round(alloc, &mut lent, fixed_and_kept(alloc, gate, tidied), seed)? {
+        let fresh = fixed_and_kept(alloc, gate, tidied)?;
+        if !round(alloc, &mut lent, fresh, seed)? {
             return Ok(false);
         }
     }

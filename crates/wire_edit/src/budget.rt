@@ -1,8 +1,7 @@
 //! What steps take of a room.
-ghost use Rattle.std.specs.Prelude.{◌≡◌, ◌<◌, ◌≤◌};
+ghost use Rattle.std.specs.Prelude.{◌≡◌};
 ghost use Rattle.gate_graph.specs.Circuit.{net_of};
-ghost use Rattle.gate_net.specs.Net.{wire_count};
-ghost use Rattle.wire_edit.specs.Refusals.{ceiling, has_room, live_count, nodes_made};
+ghost use Rattle.wire_edit.specs.Refusals.{has_room, nodes_made};
 ghost use Rattle.wire_edit.specs.Work.{pins_made};
 
 use crate::counts::{few_nodes, few_wires};
@@ -31,11 +30,8 @@ pub(crate) fn nodes_made(step: Step) -> usize
     }
 }
 
-// Whether there is room for a step, in a net that has at most so many wires and, where the number is
-// below the ceiling, so many live nodes.
-pub(crate) fn room_for(graph: &Graph, room: Room, step: Step, wires: usize, nodes: usize) -> bool
-    requires wires { wire_count (net_of graph.now) ≤ wires }
-    requires nodes { nodes < ceiling → live_count (net_of graph.now) ≤ nodes }
+// Whether there is room for a step.
+pub(crate) fn room_for(graph: &Graph, room: Room, step: Step) -> bool
     ensures { result ≡ has_room (net_of graph.now) room step }
 {
     if room.steps == 0 {
@@ -46,7 +42,7 @@ pub(crate) fn room_for(graph: &Graph, room: Room, step: Step, wires: usize, node
             if room.pins == 0 {
                 return false;
             }
-            few_wires(graph, wires)
+            few_wires(graph)
         }
         Step::NewNot { node: _ } => {
             if room.pins == 0 {
@@ -55,7 +51,7 @@ pub(crate) fn room_for(graph: &Graph, room: Room, step: Step, wires: usize, node
             if room.nodes == 0 {
                 return false;
             }
-            few_nodes(graph, nodes)
+            few_nodes(graph)
         }
         _ => true,
     }

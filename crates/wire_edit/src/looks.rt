@@ -2,8 +2,8 @@
 ghost use Rattle.std.specs.Prelude.{◌≡◌, ◌<◌, length, nat_lt, slice_get, Some, None, true, false};
 ghost use Rattle.std.specs.Option.{option_map};
 ghost use Rattle.gate_graph.specs.Circuit.{net_of};
-ghost use Rattle.gate_net.specs.Net.{drivers_of, IsLive};
-ghost use Rattle.wire_edit.specs.Tests.{is_present, is_live, is_gate, is_junction, is_not, control_of, constant_of, driver_at, second_driver, is_in_use, is_read_in, is_among};
+ghost use Rattle.gate_net.specs.Net.{drivers_of};
+ghost use Rattle.wire_edit.specs.Tests.{is_present, is_live, is_gate, is_junction, is_not, control_of, constant_of, driver_at, second_driver, is_in_use, is_among};
 
 use gate_graph::Graph;
 use gate_net::Kind;
@@ -20,11 +20,7 @@ pub(crate) fn is_live(graph: &Graph, node: NodeId) -> bool
 pub(crate) fn control_of(graph: &Graph, node: NodeId) -> Option<bool>
     ensures { result ≡ control_of (net_of graph.now) node.0 }
 {
-    match graph.kind(node) {
-        Some(Kind::And) => Some(false),
-        Some(Kind::Or) => Some(true),
-        _ => None,
-    }
+    graph.kind(node)?.controlling_value()
 }
 
 // Whether the node is an And or an Or.
@@ -38,10 +34,7 @@ pub(crate) fn is_junction(graph: &Graph, node: NodeId) -> bool
 pub(crate) fn is_not(graph: &Graph, node: NodeId) -> bool
     ensures { result ≡ is_not (net_of graph.now) node.0 }
 {
-    match graph.kind(node) {
-        Some(Kind::Not) => true,
-        _ => false,
-    }
+    graph.kind(node) == Some(Kind::Not)
 }
 
 // Whether the node is a gate.
@@ -55,11 +48,7 @@ pub(crate) fn is_gate(graph: &Graph, node: NodeId) -> bool
 pub(crate) fn constant_of(graph: &Graph, node: NodeId) -> Option<bool>
     ensures { result ≡ constant_of (net_of graph.now) node.0 }
 {
-    match graph.kind(node) {
-        Some(Kind::Zero) => Some(false),
-        Some(Kind::One) => Some(true),
-        _ => None,
-    }
+    graph.kind(node)?.constant_value()
 }
 
 // Whether the node is a constant.
@@ -79,27 +68,16 @@ pub(crate) fn second_driver(graph: &Graph, gate: NodeId) -> Option<NodeId>
     }
 }
 
-// Whether some pin reads the node.
-fn is_read(graph: &Graph, node: NodeId) -> bool
-    requires { IsLive (net_of graph.now) node.0 }
-    ensures { result ≡ is_read_in (net_of graph.now).nodes node.0 }
-{
-    graph.readers_listed();
-    for _ in graph.readers_of(node) {
-        return true;
-    }
-    false
-}
-
 // Whether some pin reads the node or it is observed.
 pub(crate) fn is_in_use(graph: &Graph, node: NodeId) -> bool
     ensures { result ≡ is_in_use (net_of graph.now) node.0 }
 {
     graph.well_formed();
+    graph.readers_listed();
     if !is_live(graph, node) {
         return false;
     }
-    is_read(graph, node) || graph.is_observed(node)
+    graph.is_in_use(node)
 }
 
 // Whether the node drives a pin of the gate.

@@ -1,5 +1,5 @@
 //! The steps that a trial has made.
-ghost use Rattle.std.specs.Prelude.{◌≡◌, ◌+◌, ◌≤◌, ◌<◌, ◌++◌, ◌∷◌, [], IfOk, length};
+ghost use Rattle.std.specs.Prelude.{◌≡◌, ◌+◌, ◌≤◌, ◌<◌, ◌++◌, ◌∷◌, [], IfOk, length, true, false};
 ghost use Rattle.wire_edit.specs.Tried.{StepList};
 
 use crate::steps::Step;
@@ -64,11 +64,16 @@ impl Made {
         self.spare
     }
 
-    // Forgets the steps. The room for more stays.
-    pub(crate) fn clear(&mut self)
-        ensures { self.new ≡ record { steps = []; spare = self.old.spare } }
+    // Gives room for so many more steps, where the list has it, and tells whether it has.
+    pub(crate) fn offer(&mut self, steps: usize) -> bool
+        ensures given { result ≡ true → self.new ≡ record { steps = self.old.steps; spare = steps } }
+        ensures refused { result ≡ false → self.new ≡ self.old }
     {
-        self.steps.clear();
+        if steps > self.steps.capacity() - self.steps.len() {
+            return false;
+        }
+        self.spare = steps;
+        true
     }
 
     // Forgets the steps, and gives their room back.

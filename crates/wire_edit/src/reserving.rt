@@ -5,7 +5,8 @@ ghost use Rattle.gate_graph.specs.Holds.{pins_held};
 ghost use Rattle.gate_graph.specs.Readers.{SameReaders};
 ghost use Rattle.wire_edit.specs.Order.{IsTidy};
 ghost use Rattle.wire_edit.specs.Known.{IsFresh};
-ghost use Rattle.wire_edit.specs.Trials.{IsTrial};
+ghost use Rattle.wire_edit.specs.Trials.{IsTrial, IsReserved, HasEnough};
+ghost use Rattle.rm_base.specs.Numbers.{number_bound};
 
 use crate::agenda::Agenda;
 use crate::kept::Kept;
@@ -36,6 +37,25 @@ fn new_undos(alloc: Global, entries: usize) -> Result<Undos, NoMemory>
     }
 }
 
+// Whether the room is there already.
+pub(crate) fn is_enough(graph: &Graph, undos: &Undos, marks: &Marks, room: Room) -> bool
+    ensures { result ≡ true → HasEnough graph.now undos.now.spare marks.now room }
+{
+    let Some(entries) = entries_needed(room, graph.wire_count() as usize) else {
+        return false;
+    };
+    if undos.spare() < entries {
+        return false;
+    }
+    if graph.free_pins() < room.pins {
+        return false;
+    }
+    if graph.free_nodes() < room.nodes {
+        return false;
+    }
+    (graph.node_bound() as usize).saturating_add(room.nodes) <= marks.numbers()
+}
+
 // Reserves all that a trial takes. In a tidy net no gate is to be looked at.
 pub(crate) fn prepare(
     alloc: Global,
@@ -43,14 +63,15 @@ pub(crate) fn prepare(
     room: Room,
     tidy: bool,
 ) -> Result<(Undos, Made, Marks, Agenda, Seen, Kept), NoMemory>
-    requires pins { pins_taken graph.old + room.pins ≤ 4294967295 }
-    requires nodes { live_nodes graph.old + room.nodes ≤ 4294967295 }
+    requires pins { pins_taken graph.old + room.pins ≤ number_bound }
+    requires nodes { live_nodes graph.old + room.nodes ≤ number_bound }
     requires tidy { tidy ≡ true → IsTidy (net_of graph.old) }
     ensures wiring { wiring graph.new ≡ wiring graph.old }
     ensures net { net_of graph.new ≡ net_of graph.old }
     ensures epoch { graph.new.epoch ≡ graph.old.epoch }
     ensures held { pins_held graph.new ≡ pins_held graph.old }
     ensures readers { SameReaders graph.old graph.new }
+    ensures reserved { IsReserved graph.old graph.new }
     ensures parts { IfOk result (λ p. IsTrial graph.new p.0 room p.2 p.3 × ((p.1 ≡ record { steps = []; spare = room.steps }) × ((p.0.entries ≡ []) × ((p.2 ≤ p.4) × ((p.2 ≤ length p.5.marks.items) × IsFresh p.5))))) }
 {
     let Some(entries) = entries_needed(room, graph.wire_count() as usize) else {

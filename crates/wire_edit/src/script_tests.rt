@@ -1,12 +1,14 @@
 //! A script of calls on a trial, and what is left after a rollback.
 use crate::looks::is_live;
-use crate::tests::{begun, four_gates};
+use crate::tests::{begun, trial_of};
 use crate::{Room, Seen, Step, Trial, first_rule, first_rule_by};
 use gate_graph::Graph;
 use rm_base::{NoMemory, NodeId};
 use std::alloc::Global;
 use std::process::Abort;
 use std::test::Fail;
+use test_nets::wired;
+use test_nets::worked::FOUR_GATES;
 
 // The next number of a fixed sequence.
 fn drawn(number: u32) -> u32 {
@@ -92,15 +94,9 @@ pub(crate) fn told(alloc: Global, graph: &Graph) -> Result<Vec<u32>, NoMemory> {
 #[test]
 fn script_and_back(rt: HostRuntime) -> Result<(), Fail> {
     let alloc = rt.alloc();
-    let Some(graph) = four_gates(alloc) else {
-        assert!(rt; false);
-        return Ok(());
-    };
+    let graph = wired(alloc, &FOUR_GATES)?;
     let before = told(alloc, &graph)?;
-    let Some(mut trial) = begun(alloc, Some(graph), 10) else {
-        assert!(rt; false);
-        return Ok(());
-    };
+    let mut trial = begun(alloc, graph, 10)?;
     let (made, refused) = play(&mut trial, 7, 400);
     assert!(rt; made > 10);
     assert!(rt; refused > 100);
@@ -136,10 +132,10 @@ fn agree(trial: &mut Trial, seen: &mut Seen, steps: u32) -> bool {
 }
 
 // A trial of the four gates that begins as one of a tidy net.
-pub(crate) fn begun_tidy(alloc: Global) -> Option<Trial> {
-    let graph = four_gates(alloc)?;
+pub(crate) fn begun_tidy(alloc: Global) -> Result<Trial, Fail> {
+    let graph = wired(alloc, &FOUR_GATES)?;
     if first_rule(&graph).is_some() {
-        return None;
+        return Err("not tidy".into());
     }
     let room = Room {
         pins: 2,
@@ -147,17 +143,14 @@ pub(crate) fn begun_tidy(alloc: Global) -> Option<Trial> {
         steps: 40,
     };
     match Trial::begin_tidy(alloc, graph, room) {
-        Ok(trial) => Some(trial),
-        Err(_) => None,
+        Ok(trial) => Ok(trial),
+        Err(_) => Err("no trial".into()),
     }
 }
 
 // Fixes the first pin of each gate, and compares the searches from there on.
-fn fixed_and_tidied(rt: &impl Abort, alloc: Global, begun: Option<Trial>) -> Result<(), Fail> {
-    let Some(mut trial) = begun else {
-        assert!(rt; false);
-        return Ok(());
-    };
+fn fixed_and_tidied(rt: &impl Abort, alloc: Global, begun: Trial) -> Result<(), Fail> {
+    let mut trial = begun;
     let mut seen = Seen::new(alloc, 64)?;
     for number in 6..10 {
         let fix = Step::Fix {
@@ -176,18 +169,15 @@ fn fixed_and_tidied(rt: &impl Abort, alloc: Global, begun: Option<Trial>) -> Res
 #[test]
 fn searches_agree(rt: HostRuntime) -> Result<(), Fail> {
     let alloc = rt.alloc();
-    fixed_and_tidied(&rt, alloc, begun(alloc, four_gates(alloc), 10))?;
-    fixed_and_tidied(&rt, alloc, begun_tidy(alloc))?;
+    fixed_and_tidied(&rt, alloc, trial_of(alloc, &FOUR_GATES, 10)?)?;
+    fixed_and_tidied(&rt, alloc, begun_tidy(alloc)?)?;
     Ok(())
 }
 
 #[test]
 fn nothing_made(rt: HostRuntime) -> Result<(), Fail> {
     let alloc = rt.alloc();
-    let Some(mut trial) = begun(alloc, four_gates(alloc), 10) else {
-        assert!(rt; false);
-        return Ok(());
-    };
+    let mut trial = trial_of(alloc, &FOUR_GATES, 10)?;
     assert!(rt; trial.apply(Step::Dead { gate: NodeId(6) }).is_err());
     assert_eq!(rt; trial.tidy_one(), Ok(None));
     assert_eq!(rt; trial.commit().epoch(), 0);

@@ -7,6 +7,7 @@ ghost use Rattle.wire_edit.specs.Tests.{is_among, is_repeated};
 ghost use Rattle.wire_edit.specs.Firsts.{IsFirst};
 ghost use Rattle.wire_edit.specs.Marked.{is_marked, IsBlank};
 ghost use Rattle.wire_edit.specs.Known.{MarksFirst};
+ghost use Rattle.rm_base.specs.Numbers.{number_bound};
 
 use gate_graph::{Graph, Inputs};
 use rm_base::{NoMemory, NodeId};
@@ -59,7 +60,7 @@ pub(crate) fn mark_drivers(
     requires before { (k : ℕ) → k < from → is_repeated (drivers_of (net_of graph.now) gate.0) k ≡ false }
     requires marks { MarksFirst (drivers_of (net_of graph.now) gate.0) from marks.old }
     ensures first { IsFirst (is_repeated (drivers_of (net_of graph.now) gate.0)) (length (drivers_of (net_of graph.now) gate.0)) result }
-    ensures marks { MarksFirst (drivers_of (net_of graph.now) gate.0) (unwrap_or result 4294967295) marks.new }
+    ensures marks { MarksFirst (drivers_of (net_of graph.now) gate.0) (unwrap_or result number_bound) marks.new }
 {
     graph.well_formed();
     let mut position = from;

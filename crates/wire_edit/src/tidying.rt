@@ -9,6 +9,7 @@ ghost use Rattle.wire_edit.specs.Order.{next_step, rule_at};
 ghost use Rattle.wire_edit.specs.Edited.{edit_of, TakesOut};
 ghost use Rattle.wire_edit.specs.Known.{IsKept};
 ghost use Rattle.wire_edit.specs.Marked.{KeepsMarks, IsQuiet, IsQuietBelow, MarksTouched};
+ghost use Rattle.rm_base.specs.Numbers.{number_bound};
 
 use crate::agenda::Agenda;
 use crate::edits::edit_for;
@@ -32,7 +33,7 @@ pub(crate) fn carry_out(graph: &mut Graph, undos: &mut Undos, agenda: &mut Agend
     ensures spent { undos.new.spare + entries_for graph.old (edit_of (change_of (net_of graph.old) step)) ≡ undos.old.spare }
     ensures epoch { graph.new.epoch ≡ graph.old.epoch }
     ensures held { HoldsOn graph.old graph.new undos.old.entries undos.new.entries }
-    ensures few { length (net_of graph.new).nodes ≤ 4294967295 }
+    ensures few { length (net_of graph.new).nodes ≤ number_bound }
     ensures marks { KeepsMarks agenda.old agenda.new }
     ensures touched { MarksTouched (net_of graph.old) (change_of (net_of graph.old) step) agenda.new }
 {

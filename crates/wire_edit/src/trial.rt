@@ -12,6 +12,7 @@ ghost use Rattle.wire_edit.specs.Firsts.{IsPlainAfter};
 ghost use Rattle.wire_edit.specs.Tried.{start_of, IsAt, GivesBack, refusal_in, Tidies};
 ghost use Rattle.wire_edit.specs.Calls.{IsBegun, IsApplied, IsTidied, IsRolledBack};
 ghost use Rattle.wire_edit.specs.declared.steps.Step.{Step as StepValue};
+ghost use Rattle.rm_base.specs.Numbers.{number_bound};
 
 use crate::agenda::Agenda;
 use crate::budget::{nodes_made, pins_made, room_for};
@@ -43,9 +44,9 @@ pub struct Trial {
     pub(crate) made: Made,
     pub(crate) pins: usize,
     pub(crate) nodes: usize,
-    marks: Marks,
+    pub(crate) marks: Marks,
     pub(crate) agenda: Agenda,
-    seen: Seen,
+    pub(crate) seen: Seen,
     pub(crate) kept: Kept,
     // The room at the start, and whether the net was known to be tidy then.
     pub(crate) first: Room,
@@ -72,8 +73,8 @@ impl Model for Trial {
 impl Trial {
     // Takes the graph over and reserves all that the room's steps take.
     fn over(alloc: Global, graph: Graph, room: Room, tidy: bool) -> Result<Trial, BeginRefusal>
-        requires pins { pins_taken graph + room.pins ≤ 4294967295 }
-        requires nodes { live_nodes graph + room.nodes ≤ 4294967295 }
+        requires pins { pins_taken graph + room.pins ≤ number_bound }
+        requires nodes { live_nodes graph + room.nodes ≤ number_bound }
         requires tidy { tidy ≡ true → IsTidy (net_of graph) }
         ensures net { IfOk result (λ t. net_of t.graph ≡ net_of graph) }
         ensures steps { IfOk result (λ t. t.steps ≡ []) }
@@ -110,8 +111,8 @@ impl Trial {
     /// Takes the graph over and reserves all that the room's steps take: no later call takes memory. The first
     /// `tidy_one` looks at every gate.
     pub fn begin(alloc: Global, graph: Graph, room: Room) -> Result<Trial, BeginRefusal>
-        requires pins { pins_taken graph + room.pins ≤ 4294967295 }
-        requires nodes { live_nodes graph + room.nodes ≤ 4294967295 }
+        requires pins { pins_taken graph + room.pins ≤ number_bound }
+        requires nodes { live_nodes graph + room.nodes ≤ number_bound }
         ensures net { IfOk result (λ t. net_of t.graph ≡ net_of graph) }
         ensures start { IfOk result (λ t. start_of t ≡ wiring graph) }
         ensures epoch { IfOk result (λ t. t.graph.epoch ≡ graph.epoch) }
@@ -128,8 +129,8 @@ impl Trial {
 
     /// Begins a trial of a tidy net, in which `tidy_one` looks only at gates that the steps touch.
     pub fn begin_tidy(alloc: Global, graph: Graph, room: Room) -> Result<Trial, BeginRefusal>
-        requires pins { pins_taken graph + room.pins ≤ 4294967295 }
-        requires nodes { live_nodes graph + room.nodes ≤ 4294967295 }
+        requires pins { pins_taken graph + room.pins ≤ number_bound }
+        requires nodes { live_nodes graph + room.nodes ≤ number_bound }
         requires tidy { IsTidy (net_of graph) }
         ensures net { IfOk result (λ t. net_of t.graph ≡ net_of graph) }
         ensures steps { IfOk result (λ t. t.steps ≡ []) }
@@ -206,10 +207,7 @@ impl Trial {
         if let Some(refusal) = fault(&self.graph, step, &mut self.marks) {
             return Err(refusal);
         }
-        let room = self.room();
-        let wires = self.undos.spare();
-        let nodes = self.agenda.count();
-        if !room_for(&self.graph, room, step, wires, nodes) {
+        if !room_for(&self.graph, self.room(), step) {
             return Err(EditRefusal::Full);
         }
         self.make(step);
@@ -285,34 +283,6 @@ impl Trial {
         graph.undo(&mut undos);
         same_wiring();
         graph
-    }
-
-    /// Keeps the steps so far for good, and goes on from there with the room that is left: a rollback gives the graph as
-    /// it is now. It takes the time of those steps, and no memory.
-    pub fn settle(&mut self)
-        ensures net { net_of self.new.graph ≡ net_of self.old.graph }
-        ensures readers { (n : ℕ) → fanouts_of self.new.graph n ≡ fanouts_of self.old.graph n }
-        ensures start { start_of self.new ≡ wiring self.new.graph }
-        ensures entries { self.new.trail.entries ≡ [] }
-        ensures steps { self.new.steps ≡ [] }
-        ensures room { self.new.room ≡ self.old.room }
-        ensures first { self.new.first ≡ self.old.room }
-        ensures same { self.old.steps ≡ [] → self.new.graph.epoch ≡ self.old.graph.epoch }
-        ensures epoch { self.old.steps ≢ [] → self.new.graph.epoch ≡ min (self.old.graph.epoch + 1) (2 ^ 64 - 1) }
-        ensures held { pins_held self.new.graph + length (held self.old.trail.entries) ≡ pins_held self.old.graph }
-        ensures tidy { IsTidy (net_of self.old.graph) → IsTidy (net_of self.new.graph) }
-    {
-        self.graph.keep(&mut self.undos);
-        self.graph.leads_back();
-        self.graph.well_formed();
-        same_wiring();
-        self.made.clear();
-        self.tidy = self.agenda.restart();
-        self.first = Room {
-            pins: self.pins,
-            nodes: self.nodes,
-            steps: self.made.spare(),
-        };
     }
 
     /// Gives the graph as it is now. Its epoch rises where a step was made.

@@ -1,13 +1,11 @@
 // Faults of fifty drawn nets under 64 vectors: one in five of each net, and one vector in eight against a reading.
-ghost use Rattle.std.specs.Prelude.{◌≡◌, ◌<◌, ◌≤◌, ◌+◌, IfOk, IfSome, OnOk};
+ghost use Rattle.std.specs.Prelude.{◌+◌, ◌<◌, ◌≤◌, IfOk};
 ghost use Rattle.gate_graph.specs.Circuit.{live_nodes, net_of, pins_taken};
 ghost use Rattle.fault_sim.specs.LaneStates.{Fits};
 ghost use Rattle.ternary_sim.specs.Sims.{Fits as FitsSim};
 
-use super::nets::{add, observe};
 use crate::Lanes;
 use gate_graph::Graph;
-use gate_net::Kind;
 use rm_base::vectors::Value3;
 use rm_base::{Fault, NoMemory, NodeId, SourceNo};
 use std::alloc::Global;
@@ -26,62 +24,18 @@ pub(super) const ALL: [u64; 6] = [
 
 pub(super) const GATES: u32 = 12;
 
-// A number below `below`, by a linear congruence.
-pub(super) fn draw(state: &mut u64, below: u32) -> u32
-    requires { 0 < below }
-    ensures { result < below }
-{
-    *state = (*state)
-        .wrapping_mul(6364136223846793005)
-        .wrapping_add(1442695040888963407);
-    ((*state >> 33) % below as u64) as u32
-}
-
-// Adds a gate whose drivers are below the bound.
-fn add_drawn(
-    alloc: Global,
-    graph: &mut Graph,
-    state: &mut u64,
-    bound: u32,
-) -> Result<bool, NoMemory>
-    requires bound { 0 < bound }
-    requires pins { pins_taken graph.old ≤ 100000 }
-    requires nodes { live_nodes graph.old ≤ 100000 }
-    ensures pins { OnOk result (pins_taken graph.new ≤ pins_taken graph.old + 100) }
-    ensures nodes { OnOk result (live_nodes graph.new ≤ live_nodes graph.old + 1) }
-{
-    let one = draw(state, bound);
-    let other = draw(state, bound);
-    let third = draw(state, bound);
-    match draw(state, 5) {
-        0 => add(alloc, graph, Kind::And, &[one, other]),
-        1 => add(alloc, graph, Kind::And, &[one, other, third]),
-        2 => add(alloc, graph, Kind::Or, &[one, other]),
-        3 => add(alloc, graph, Kind::Or, &[one, other, third]),
-        _ => add(alloc, graph, Kind::Not, &[one]),
-    }
-}
-
 // A net of so many sources and drawn gates, of which the last one, the third last and another are observed.
-pub(super) fn drawn_net(alloc: Global, sources: u32, seed: u64) -> Result<Option<Graph>, NoMemory>
+pub(super) fn drawn_net(alloc: Global, sources: u32, seed: u64) -> Result<Graph, Fail>
     requires { sources ≤ 8 }
-    ensures { IfOk result (λ o. IfSome o (λ g. pins_taken g ≤ 2000)) }
+    ensures { IfOk result (λ g. pins_taken g + live_nodes g ≤ 300000) }
 {
-    let mut state = seed;
-    let mut graph = Graph::new(alloc, sources)?;
-    for at in 0..GATES {
-        if !add_drawn(alloc, &mut graph, &mut state, 2 + sources + at)? {
-            return Ok(None);
-        }
-    }
-    let last = observe(&mut graph, 1 + sources + GATES)?;
-    let third = observe(&mut graph, sources + GATES - 1)?;
-    let any = observe(&mut graph, draw(&mut state, 2 + sources + GATES))?;
-    if last && third && any {
-        Ok(Some(graph))
-    } else {
-        Ok(None)
-    }
+    test_nets::drawn_net(
+        alloc,
+        sources,
+        GATES,
+        &[1 + sources + GATES, sources + GATES - 1],
+        seed,
+    )
 }
 
 // Gives the sources the values of a vector.
@@ -148,7 +102,7 @@ fn all_agree(alloc: Global, graph: &Graph, first: u32) -> Result<bool, NoMemory>
 #[test]
 fn drawn_nets(rt: HostRuntime) -> Result<(), Fail> {
     for seed in 1..51u64 {
-        let graph = drawn_net(rt.alloc(), 6, seed)?.ok_or("gates")?;
+        let graph = drawn_net(rt.alloc(), 6, seed)?;
         let right = all_agree(rt.alloc(), &graph, (seed % 5) as u32)?;
         assert!(rt; right, "at seed {seed}");
     }

@@ -8,13 +8,13 @@ ghost use Rattle.fault_sim.specs.BlockStates.{AreSimulated};
 ghost use Rattle.fault_sim.specs.Following.{CanAllFollow, CanFollow, IsSameBut};
 ghost use Rattle.fault_sim.specs.LaneStates.{Fits, IsSimulated};
 
-use super::drawn::{ALL, GATES, draw, drawn_net};
-use super::trying::{few_nodes, may_edit, reserve_undos};
+use super::drawn::{ALL, GATES, drawn_net};
 use crate::{Blocks, Lanes, changed_by};
 use gate_graph::{Edit, Graph, Undos, same_wiring};
 use rm_base::{Fault, NoMemory, NodeId};
 use std::alloc::Global;
 use std::test::Fail;
+use test_nets::{Draws, few_nodes, may_edit, reserve_undos};
 
 // One vector, in all lanes.
 const ONE: [u64; 6] = [u64::MAX, 0, u64::MAX, 0, 0, u64::MAX];
@@ -235,7 +235,7 @@ fn step(
     requires fits { Fits lanes.old (net_of graph.old) }
     requires simulated { IsSimulated lanes.old (net_of graph.old) }
     requires blocks { AreSimulated blocks.old (net_of graph.old) }
-    requires pins { pins_taken graph.old ≤ 100000 }
+    requires pins { pins_taken graph.old ≤ 1000000 }
     ensures fits { IfOk result (λ b. b ≡ true → Fits lanes.new (net_of graph.new)) }
     ensures simulated { IfOk result (λ b. b ≡ true → IsSimulated lanes.new (net_of graph.new)) }
     ensures blocks { IfOk result (λ b. b ≡ true → AreSimulated blocks.new (net_of graph.new)) }
@@ -275,11 +275,11 @@ fn step(
 }
 
 // A drawn edit of the first numbers.
-fn drawn_edit(state: &mut u64) -> Edit {
-    let gate = NodeId(8 + draw(state, GATES));
-    let driver = NodeId(draw(state, 8 + GATES));
-    let position = draw(state, 3);
-    match draw(state, 9) {
+fn drawn_edit(draws: &mut Draws) -> Edit {
+    let gate = NodeId(8 + draws.below(GATES));
+    let driver = NodeId(draws.below(8 + GATES));
+    let position = draws.below(3);
+    match draws.below(9) {
         0 | 1 => Edit::Append { gate, driver },
         2 => Edit::Remove { gate, position },
         3 | 4 => Edit::Redrive {
@@ -303,7 +303,7 @@ fn drawn_edit(state: &mut u64) -> Edit {
 
 // Whether lanes and blocks agree with new ones through twenty edits of a net.
 fn follows(alloc: Global, graph: &mut Graph, seed: u64) -> Result<bool, NoMemory>
-    requires { pins_taken graph.old ≤ 2000 }
+    requires { pins_taken graph.old ≤ 300000 }
 {
     let mut lanes = Lanes::new(alloc, graph)?;
     if graph.source_count() as usize != ALL.len() {
@@ -311,9 +311,9 @@ fn follows(alloc: Global, graph: &mut Graph, seed: u64) -> Result<bool, NoMemory
     }
     lanes.simulate64(graph, &ALL);
     let mut blocks = two_blocks(alloc, graph)?;
-    let mut state = seed;
+    let mut draws = Draws::new(seed);
     for number in 0..20u32 {
-        let edit = drawn_edit(&mut state);
+        let edit = drawn_edit(&mut draws);
         if !step(
             alloc,
             graph,
@@ -331,7 +331,7 @@ fn follows(alloc: Global, graph: &mut Graph, seed: u64) -> Result<bool, NoMemory
 #[test]
 fn edited_nets(rt: HostRuntime) -> Result<(), Fail> {
     for seed in 1..51u64 {
-        let mut graph = drawn_net(rt.alloc(), 6, seed)?.ok_or("gates")?;
+        let mut graph = drawn_net(rt.alloc(), 6, seed)?;
         let right = follows(rt.alloc(), &mut graph, seed)?;
         assert!(rt; right, "at seed {seed}");
     }

@@ -1,56 +1,29 @@
 // Faults on nets of every form of gate, with the lanes worked by hand.
-use super::nets::{Made, wired};
 use crate::Lanes;
 use gate_graph::Graph;
-use gate_net::Kind;
-use rm_base::{Fault, NoMemory, NodeId};
 use std::alloc::Global;
 use std::test::Fail;
+use test_nets::{Gate, Wiring, fault_at, wired};
 
 // Of the sources 2 and 3.
-const FORMS: [Made<'static>; 9] = [
-    Made {
-        kind: Kind::And,
-        drivers: &[],
-    },
-    Made {
-        kind: Kind::Or,
-        drivers: &[],
-    },
-    // 6 is source 2, and 7 is source 3.
-    Made {
-        kind: Kind::And,
-        drivers: &[2, 4],
-    },
-    Made {
-        kind: Kind::Or,
-        drivers: &[3, 5],
-    },
-    Made {
-        kind: Kind::And,
-        drivers: &[6, 1],
-    },
-    Made {
-        kind: Kind::Or,
-        drivers: &[7, 0],
-    },
-    // 10 differs from 6 where 3 is 0, and nothing reads 12.
-    Made {
-        kind: Kind::Or,
-        drivers: &[6, 3],
-    },
-    Made {
-        kind: Kind::Not,
-        drivers: &[10],
-    },
-    Made {
-        kind: Kind::And,
-        drivers: &[11, 2],
-    },
-];
-
-// 8 is observed twice.
-const SEEN: [u32; 5] = [8, 9, 8, 11, 6];
+const FORMS: Wiring<'static> = Wiring {
+    sources: 2,
+    gates: &[
+        Gate::And(&[]),
+        Gate::Or(&[]),
+        // 6 is source 2, and 7 is source 3.
+        Gate::And(&[2, 4]),
+        Gate::Or(&[3, 5]),
+        Gate::And(&[6, 1]),
+        Gate::Or(&[7, 0]),
+        // 10 differs from 6 where 3 is 0, and nothing reads 12.
+        Gate::Or(&[6, 3]),
+        Gate::Not(10),
+        Gate::And(&[11, 2]),
+    ],
+    // 8 is observed twice.
+    observed: &[8, 9, 8, 11, 6],
+};
 
 const TWO: [u64; 2] = [0b1010, 0b1100];
 
@@ -85,16 +58,14 @@ const ROWS: [Row; 16] = [
 ];
 
 // An And of source 2, nine times over, and source 3, and an Or of the same.
-const WIDE: [Made<'static>; 2] = [
-    Made {
-        kind: Kind::And,
-        drivers: &[2, 2, 2, 2, 2, 2, 2, 2, 2, 3],
-    },
-    Made {
-        kind: Kind::Or,
-        drivers: &[2, 2, 2, 2, 2, 2, 2, 2, 2, 3],
-    },
-];
+const WIDE: Wiring<'static> = Wiring {
+    sources: 2,
+    gates: &[
+        Gate::And(&[2, 2, 2, 2, 2, 2, 2, 2, 2, 3]),
+        Gate::Or(&[2, 2, 2, 2, 2, 2, 2, 2, 2, 3]),
+    ],
+    observed: &[4, 5],
+};
 
 const WIDE_ROWS: [Row; 6] = [
     ((4, 9, true), 0b0010),
@@ -105,41 +76,39 @@ const WIDE_ROWS: [Row; 6] = [
     ((5, 4, true), ALL - 0b1110),
 ];
 
-// The first row that answers otherwise.
-fn first_wrong(alloc: Global, graph: &Graph, rows: &[Row]) -> Result<Option<usize>, NoMemory> {
-    for at in 0..rows.len() {
-        let (pin, wanted) = rows[at];
-        let fault = Fault {
-            gate: NodeId(pin.0),
-            position: pin.1,
-            value: pin.2,
-        };
-        let Some(_) = graph.driver(fault.gate, fault.position) else {
-            return Ok(Some(at));
-        };
-        if graph.source_count() as usize != TWO.len() {
-            return Ok(Some(at));
-        }
-        let mut lanes = Lanes::new(alloc, graph)?;
-        if lanes.detect64(graph, &fault, &TWO) != wanted {
-            return Ok(Some(at));
-        }
+// The lanes that detect the fault of a row.
+fn found(alloc: Global, graph: &Graph, row: &Row) -> Result<u64, Fail> {
+    let pin = row.0;
+    let fault = fault_at(graph, pin.0, pin.1, pin.2)?;
+    if graph.source_count() as usize != TWO.len() {
+        return Err("other sources".into());
     }
-    Ok(None)
+    let mut lanes = Lanes::new(alloc, graph)?;
+    Ok(lanes.detect64(graph, &fault, &TWO))
 }
 
 #[test]
 fn every_form_of_gate(rt: HostRuntime) -> Result<(), Fail> {
-    let graph = wired(rt.alloc(), 2, &FORMS, &SEEN)?.ok_or("gates")?;
-    let wrong = first_wrong(rt.alloc(), &graph, &ROWS)?;
-    assert_eq!(rt; wrong, None);
+    let graph = wired(rt.alloc(), &FORMS)?;
+    for at in 0..ROWS.len() {
+        assert_eq!(rt;
+            found(rt.alloc(), &graph, &ROWS[at])?,
+            ROWS[at].1,
+            "at row {at}"
+        );
+    }
     Ok(())
 }
 
 #[test]
 fn wide_gates(rt: HostRuntime) -> Result<(), Fail> {
-    let graph = wired(rt.alloc(), 2, &WIDE, &[4, 5])?.ok_or("gates")?;
-    let wrong = first_wrong(rt.alloc(), &graph, &WIDE_ROWS)?;
-    assert_eq!(rt; wrong, None);
+    let graph = wired(rt.alloc(), &WIDE)?;
+    for at in 0..WIDE_ROWS.len() {
+        assert_eq!(rt;
+            found(rt.alloc(), &graph, &WIDE_ROWS[at])?,
+            WIDE_ROWS[at].1,
+            "at row {at}"
+        );
+    }
     Ok(())
 }

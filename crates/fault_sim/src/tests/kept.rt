@@ -1,6 +1,5 @@
 // First vectors of four blocks, against a reading of each vector in turn.
-ghost use Rattle.std.specs.Prelude.{◌<◌, ◌+◌, IfOk, IfSome, OnOk, length};
-ghost use Rattle.gate_net.specs.Net.{source_count};
+ghost use Rattle.std.specs.Prelude.{◌<◌, IfOk, OnOk};
 ghost use Rattle.gate_net.specs.Values.{HasPin};
 ghost use Rattle.gate_graph.specs.Circuit.{net_of};
 ghost use Rattle.fault_sim.specs.BlockStates.{AreSimulated};
@@ -9,7 +8,7 @@ ghost use Rattle.ternary_sim.specs.Sims.{Fits as FitsSim};
 use super::drawn::{ALL, GATES, drawn_net, give};
 use crate::Blocks;
 use gate_graph::Graph;
-use rm_base::{Fault, NoMemory, NodeId};
+use rm_base::{Fault, NodeId};
 use std::alloc::Global;
 use std::test::Fail;
 use ternary_sim::Sim;
@@ -18,35 +17,35 @@ use ternary_sim::Sim;
 const HIGH: [[u64; 2]; 4] = [[0, 0], [u64::MAX, 0], [0, u64::MAX], [u64::MAX, u64::MAX]];
 
 // Keeps the 64 vectors whose numbers have these high bits.
-fn keep(alloc: Global, graph: &Graph, blocks: &mut Blocks, high: [u64; 2]) -> Result<bool, NoMemory>
+fn keep(alloc: Global, graph: &Graph, blocks: &mut Blocks, high: [u64; 2]) -> Result<(), Fail>
     requires simulated { AreSimulated blocks.old (net_of graph.now) }
-    requires room { length blocks.old.words < 100 }
     ensures simulated { OnOk result (AreSimulated blocks.new (net_of graph.now)) }
-    ensures more { OnOk result (length blocks.new.words < length blocks.old.words + 2) }
 {
     let words = [
         ALL[0], ALL[1], ALL[2], ALL[3], ALL[4], ALL[5], high[0], high[1],
     ];
     if graph.source_count() as usize != words.len() {
-        return Ok(false);
+        return Err("other sources".into());
+    }
+    if blocks.count() > 100 {
+        return Err("many blocks".into());
     }
     blocks.keep64(alloc, graph, &words)?;
-    Ok(true)
+    Ok(())
 }
 
 // All vectors of eight sources, in order.
-fn all_kept(alloc: Global, graph: &Graph) -> Result<Option<Blocks>, NoMemory>
-    ensures { IfOk result (λ o. IfSome o (λ blocks. AreSimulated blocks (net_of graph.now))) }
+fn all_kept(alloc: Global, graph: &Graph) -> Result<Blocks, Fail>
+    ensures { IfOk result (λ blocks. AreSimulated blocks (net_of graph.now)) }
 {
     let mut blocks = Blocks::new(alloc, graph)?;
-    let first = keep(alloc, graph, &mut blocks, HIGH[0])?;
-    let second = keep(alloc, graph, &mut blocks, HIGH[1])?;
-    let third = keep(alloc, graph, &mut blocks, HIGH[2])?;
-    let fourth = keep(alloc, graph, &mut blocks, HIGH[3])?;
-    if first && second && third && fourth && blocks.count() == 4 {
-        return Ok(Some(blocks));
+    for block in 0..HIGH.len() {
+        keep(alloc, graph, &mut blocks, HIGH[block])?;
     }
-    Ok(None)
+    if blocks.count() != 4 {
+        return Err("other blocks".into());
+    }
+    Ok(blocks)
 }
 
 // The first of the 256 vectors that a reading finds to detect the fault.
@@ -79,12 +78,10 @@ fn agree(blocks: &mut Blocks, sim: &mut Sim, graph: &Graph, fault: &Fault) -> bo
 }
 
 // Whether they agree on every seventh fault of a net from that one on.
-fn all_agree(alloc: Global, graph: &Graph, first: u32) -> Result<bool, NoMemory>
+fn all_agree(alloc: Global, graph: &Graph, first: u32) -> Result<bool, Fail>
     requires { first < 7 }
 {
-    let Some(mut blocks) = all_kept(alloc, graph)? else {
-        return Ok(false);
-    };
+    let mut blocks = all_kept(alloc, graph)?;
     let mut sim = Sim::new(alloc, graph)?;
     for seventh in 0..6 * GATES / 7 {
         let number = 7 * seventh + first;
@@ -103,7 +100,7 @@ fn all_agree(alloc: Global, graph: &Graph, first: u32) -> Result<bool, NoMemory>
 #[test]
 fn first_of_four_blocks(rt: HostRuntime) -> Result<(), Fail> {
     for seed in 1..21u64 {
-        let graph = drawn_net(rt.alloc(), 8, seed)?.ok_or("gates")?;
+        let graph = drawn_net(rt.alloc(), 8, seed)?;
         let right = all_agree(rt.alloc(), &graph, (seed % 7) as u32)?;
         assert!(rt; right, "at seed {seed}");
     }

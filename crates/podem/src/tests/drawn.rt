@@ -1,15 +1,12 @@
 // Every fault of fifty drawn nets at every budget up to one that is enough, against all assignments, and every tree before
 // the checker.
-ghost use Rattle.std.specs.Prelude.{◌≡◌, ◌<◌, ◌≤◌, ◌+◌, OnOk};
-ghost use Rattle.gate_graph.specs.Circuit.{live_nodes, net_of, pins_taken};
+ghost use Rattle.gate_graph.specs.Circuit.{net_of};
 ghost use Rattle.gate_net.specs.Values.{HasPin};
 ghost use Rattle.podem.specs.Searchers.{Serves};
 ghost use Rattle.ternary_sim.specs.Sims.{Fits};
 
-use super::nets::{add, observe};
 use crate::{Searcher, Verdict};
 use gate_graph::Graph;
-use gate_net::Kind;
 use refutation::{Form, Tree};
 use refutation_check::check_tree;
 use rm_base::vectors::Value3;
@@ -17,6 +14,7 @@ use rm_base::{Fault, NoMemory, NodeId, SourceNo};
 use std::alloc::Global;
 use std::test::Fail;
 use ternary_sim::Sim;
+use test_nets::drawn_net;
 
 pub const SOURCES: u32 = 4;
 
@@ -25,58 +23,9 @@ pub const GATES: u32 = 7;
 // With so many edges every search on four sources comes to an end.
 pub const ENOUGH: u32 = 32;
 
-// A number below `below`, by a linear congruence.
-fn draw(state: &mut u64, below: u32) -> u32
-    requires { 0 < below }
-    ensures { result < below }
-{
-    *state = (*state)
-        .wrapping_mul(6364136223846793005)
-        .wrapping_add(1442695040888963407);
-    ((*state >> 33) % below as u64) as u32
-}
-
-// Adds a gate whose drivers are below the bound.
-pub fn add_drawn(
-    alloc: Global,
-    graph: &mut Graph,
-    state: &mut u64,
-    bound: u32,
-) -> Result<bool, NoMemory>
-    requires bound { 0 < bound }
-    requires pins { pins_taken graph.old ≤ 100000 }
-    requires nodes { live_nodes graph.old ≤ 100000 }
-    ensures pins { OnOk result (pins_taken graph.new ≤ pins_taken graph.old + 100) }
-    ensures nodes { OnOk result (live_nodes graph.new ≤ live_nodes graph.old + 1) }
-{
-    let one = draw(state, bound);
-    let other = draw(state, bound);
-    let third = draw(state, bound);
-    match draw(state, 5) {
-        0 => add(alloc, graph, Kind::And, &[one, other]),
-        1 => add(alloc, graph, Kind::And, &[one, other, third]),
-        2 => add(alloc, graph, Kind::Or, &[one, other]),
-        3 => add(alloc, graph, Kind::Or, &[one, other, third]),
-        _ => add(alloc, graph, Kind::Not, &[one]),
-    }
-}
-
 // A net of drawn gates, of which the last one and another node are observed.
-pub fn drawn(alloc: Global, seed: u64) -> Result<Option<Graph>, NoMemory> {
-    let mut state = seed;
-    let mut graph = Graph::new(alloc, SOURCES)?;
-    for at in 0..GATES {
-        if !add_drawn(alloc, &mut graph, &mut state, 2 + SOURCES + at)? {
-            return Ok(None);
-        }
-    }
-    let last = observe(&mut graph, 1 + SOURCES + GATES)?;
-    let any = observe(&mut graph, draw(&mut state, 2 + SOURCES + GATES))?;
-    if last && any {
-        Ok(Some(graph))
-    } else {
-        Ok(None)
-    }
+pub fn drawn(alloc: Global, seed: u64) -> Result<Graph, Fail> {
+    drawn_net(alloc, SOURCES, GATES, &[1 + SOURCES + GATES], seed)
 }
 
 // Whether one assignment detects the fault.
@@ -211,7 +160,7 @@ fn net_is_right(alloc: Global, graph: &Graph) -> Result<bool, NoMemory> {
 #[test]
 fn drawn_nets(rt: HostRuntime) -> Result<(), Fail> {
     for seed in 1..51u64 {
-        let graph = drawn(rt.alloc(), seed)?.ok_or("gates")?;
+        let graph = drawn(rt.alloc(), seed)?;
         let right = net_is_right(rt.alloc(), &graph)?;
         assert!(rt; right, "at seed {seed}");
     }

@@ -60,7 +60,7 @@ fn same_on(alloc: Global, graph: &Graph) -> Result<bool, NoMemory> {
 #[test]
 fn a_used_searcher_is_as_a_fresh_one(rt: HostRuntime) -> Result<(), Fail> {
     for seed in 1..21u64 {
-        let graph = drawn(rt.alloc(), seed)?.ok_or("gates")?;
+        let graph = drawn(rt.alloc(), seed)?;
         let same = same_on(rt.alloc(), &graph)?;
         assert!(rt; same, "at seed {seed}");
     }

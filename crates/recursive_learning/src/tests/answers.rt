@@ -122,8 +122,13 @@ const FAR: [Gate; 20] = [
     Gate::And(31, 12),
 ];
 
-// Whether the checker accepts the tree.
-fn is_accepted(alloc: Global, graph: &Graph, fault: &Fault, tree: &Tree) -> Result<bool, NoMemory>
+/// Whether the checker accepts the tree.
+pub fn is_accepted(
+    alloc: Global,
+    graph: &Graph,
+    fault: &Fault,
+    tree: &Tree,
+) -> Result<bool, NoMemory>
     requires { HasPin (net_of graph.now) fault.now }
 {
     match check_tree(alloc, graph, fault, tree, Form::Closed) {

@@ -8,7 +8,7 @@ use rm_base::{Fault, NoMemory, NodeId};
 use std::alloc::Global;
 use std::test::Fail;
 
-const GATES: usize = 8;
+pub const GATES: usize = 8;
 
 // A number below `below`, and the next state.
 fn drawn(state: u64, below: u64) -> (u64, u32) {
@@ -42,7 +42,7 @@ fn drawn_gate(state: u64, number: u32) -> (u64, Gate) {
     (state, gate)
 }
 
-fn drawn_net(seed: u64) -> [Gate; GATES] {
+pub fn drawn_net(seed: u64) -> [Gate; GATES] {
     let mut state = seed;
     let mut gates = [Gate::Not(2); GATES];
     for at in 0..GATES {

@@ -1,12 +1,13 @@
 // One checker over many faults, on two nets and on a net that changes, against a fresh one each time.
-use super::{Case, ON_FOUR_GATES, ON_ONE_GATE, add_gate, four_gates, observe, one_gate, tree_of};
+use super::{Case, ON_FOUR_GATES, ON_ONE_GATE, tree_of};
 use crate::{CheckRefusal, TreeChecker, check_tree};
 use gate_graph::Graph;
-use gate_net::Kind;
 use refutation::{Form, Item, Line, Shape};
-use rm_base::{Fault, NoMemory, NodeId};
+use rm_base::NodeId;
 use std::alloc::Global;
 use std::test::Fail;
+use test_nets::worked::{FOUR_GATES_AND_PIN, ONE_GATE};
+use test_nets::{Gate, build, fault_at, wired};
 
 // Whether a checker that served other trees answers as it should, and as a fresh one does.
 fn keeps(
@@ -14,15 +15,8 @@ fn keeps(
     checker: &mut TreeChecker,
     graph: &Graph,
     case: &Case,
-) -> Result<bool, NoMemory> {
-    let fault = Fault {
-        gate: NodeId(case.fault.0),
-        position: case.fault.1,
-        value: case.fault.2,
-    };
-    let Some(_) = graph.driver(fault.gate, fault.position) else {
-        return Ok(false);
-    };
+) -> Result<bool, Fail> {
+    let fault = fault_at(graph, case.fault.0, case.fault.1, case.fault.2)?;
     let tree = tree_of(alloc, case.items)?;
     checker.reserve(graph.node_bound())?;
     let kept = checker.check(graph, &fault, &tree, case.form);
@@ -32,8 +26,8 @@ fn keeps(
 
 #[test]
 fn one_checker_serves_two_nets(rt: HostRuntime) -> Result<(), Fail> {
-    let one = one_gate(rt.alloc())?.ok_or("gates")?;
-    let four = four_gates(rt.alloc())?.ok_or("gates")?;
+    let one = wired(rt.alloc(), &ONE_GATE)?;
+    let four = wired(rt.alloc(), &FOUR_GATES_AND_PIN)?;
     let mut checker = TreeChecker::new(rt.alloc(), 0)?;
     for at in 0..ON_ONE_GATE.len() {
         let first = keeps(rt.alloc(), &mut checker, &one, &ON_ONE_GATE[at])?;
@@ -85,35 +79,39 @@ const OBSERVED: [Case; 4] = [
     refused!(AT_SIX Closed [a, one 2, quiet, quiet] BadSplit 2),
 ];
 
-// The place of the first case of which the checker answers otherwise.
-fn first_wrong(
+// Whether the checker answers each case as it should.
+fn keeps_all(
     alloc: Global,
     checker: &mut TreeChecker,
     graph: &Graph,
     cases: &[Case],
-) -> Result<Option<usize>, NoMemory> {
-    for at in 0..cases.len() {
-        if !keeps(alloc, checker, graph, &cases[at])? {
-            return Ok(Some(at));
+) -> Result<bool, Fail> {
+    for case in cases {
+        if !keeps(alloc, checker, graph, case)? {
+            return Ok(false);
         }
     }
-    Ok(None)
+    Ok(true)
 }
 
 #[test]
 fn one_checker_serves_a_net_that_changes(rt: HostRuntime) -> Result<(), Fail> {
-    let mut graph = four_gates(rt.alloc())?.ok_or("gates")?;
+    let mut net = build(rt.alloc(), &FOUR_GATES_AND_PIN)?;
     let mut checker = TreeChecker::new(rt.alloc(), 10)?;
-    let wrong = first_wrong(rt.alloc(), &mut checker, &graph, &BEFORE)?;
-    assert!(rt; wrong == None, "before");
-    let made = add_gate(&mut graph, Kind::And, 6, 5)?;
-    assert!(rt; made, "gate 10");
-    let wrong = first_wrong(rt.alloc(), &mut checker, &graph, &WITH_TEN)?;
-    assert!(rt; wrong == None, "with gate 10");
-    let eight = observe(&mut graph, 8)?;
-    let ten = observe(&mut graph, 10)?;
-    assert!(rt; eight && ten, "observed");
-    let wrong = first_wrong(rt.alloc(), &mut checker, &graph, &OBSERVED)?;
-    assert!(rt; wrong == None, "observed");
+    assert!(rt;
+        keeps_all(rt.alloc(), &mut checker, net.graph(), &BEFORE)?,
+        "before"
+    );
+    net.add(Gate::And(&[6, 5]))?;
+    assert!(rt;
+        keeps_all(rt.alloc(), &mut checker, net.graph(), &WITH_TEN)?,
+        "with gate 10"
+    );
+    net.observe(8)?;
+    net.observe(10)?;
+    assert!(rt;
+        keeps_all(rt.alloc(), &mut checker, net.graph(), &OBSERVED)?,
+        "observed"
+    );
     Ok(())
 }

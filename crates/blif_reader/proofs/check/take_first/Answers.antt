@@ -2,7 +2,7 @@ use Rattle.std.proofs.Common.{◌∙◌, sym, ap, map}
 use Rattle.std.specs.Prelude.{codes}
 use Rattle.rm_model.specs.Words.{Word, is_word}
 use Rattle.blif_lines.specs.Reading.{spot_of}
-use Rattle.blif_format.specs.Uses.{Model}
+use Rattle.blif_format.specs.declared.words.Command.TheVariants.{Model}
 use Rattle.blif_format.specs.FirstFault.{first_line_fault, command_fault}
 use Rattle.blif_reader.proofs.LineLaws.{first_is, on_ok, if_err}
 use Rattle.blif_reader.proofs.check.take_first.Goals as goal

@@ -4,4 +4,4 @@ use Rattle.blif_reader.specs.Lines.{are_literals}
 use Rattle.blif_reader.proofs.draft.row_of.Given as goal
 
 abbrev pub invariant-loop-b : goal.invariant-loop-b
-invariant-loop-b l = are_literals l.word ≡ true → map literal_byte l.row ≡ take l.b-index l.word
+invariant-loop-b l = are_literals l.word ≡ true → map literal_byte l.row.items ≡ take l.b-index l.word

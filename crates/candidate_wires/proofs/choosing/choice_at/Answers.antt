@@ -1,7 +1,7 @@
 use Rattle.std.proofs.Common.{Bool, ap, false, refl, subst, sym, true, ◌∙◌, ◌≡◌}
 use Rattle.std.specs.Prelude.{not}
 use Rattle.gate_net.specs.Values.{same_bool}
-use Rattle.refutation.proofs.Told.{beq_same, some_is}
+use Rattle.refutation.proofs.Public.{beq_same, some_is}
 use Rattle.candidate_wires.proofs.Choices.{junction_one, not_false, not_true}
 use Rattle.candidate_wires.proofs.choosing.choice_at.Goals as goal
 

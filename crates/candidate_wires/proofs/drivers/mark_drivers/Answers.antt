@@ -1,10 +1,9 @@
 use Rattle.std.proofs.Common.{Some, [], ap, arith, false, inl, inr, length, length-set, map, refl, replicate, sym, ◌++◌, ◌<◌, ◌∙◌, ◌∷◌, ◌≡◌}
 use Rattle.std.proofs.lemmas.List.{length-replicate, map-append}
-use Rattle.gate_graph.proofs.Marking.{seen_cases, seen_kept, seen_new}
-use Rattle.gate_graph.proofs.Searches.{none_seen}
 use Rattle.gate_graph.specs.Circuit.{net_of}
+use Rattle.gate_graph.proofs.Public.{none_seen, seen_cases, seen_kept, seen_new}
 use Rattle.gate_net.specs.Net.{drivers_of}
-use Rattle.refutation.proofs.Yielding.{yielded_at, yielded_more}
+use Rattle.refutation.proofs.Public.{yielded_at, yielded_more}
 use Rattle.rm_base.specs.declared.numbers.NodeId.{NodeId}
 use Rattle.candidate_wires.proofs.Appending.{back_stands, front_stands, only_one, stands_either, whole}
 use Rattle.candidate_wires.proofs.drivers.mark_drivers.Goals as goal

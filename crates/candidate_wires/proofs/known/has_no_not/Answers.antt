@@ -2,7 +2,7 @@ use Rattle.std.proofs.Common.{Some, false, inl, inr, map, refl, true, ◌≡◌,
 use Rattle.std.proofs.lemmas.List.{map-append}
 use Rattle.std.specs.Prelude.{slice_get}
 use Rattle.gate_graph.specs.Circuit.{fanouts_of}
-use Rattle.refutation.proofs.Yielding.{yielded_at, yielded_more}
+use Rattle.refutation.proofs.Public.{yielded_at, yielded_more}
 use Rattle.rm_base.specs.declared.numbers.NodeId.{NodeId}
 use Rattle.candidate_wires.proofs.Appending.{only_one, stands_either, whole}
 use Rattle.candidate_wires.proofs.KnownNodes.{reader_reads, reads_listed}

@@ -1,7 +1,7 @@
 use Rattle.std.proofs.Common.{refl, sym, ◌∙◌}
 use Rattle.gate_graph.specs.Circuit.{net_of}
 use Rattle.gate_net.specs.Net.{IsKind}
-use Rattle.refutation.proofs.Told.{kind_is}
+use Rattle.refutation.proofs.Public.{kind_is}
 use Rattle.candidate_wires.proofs.Choices.{option_true}
 use Rattle.candidate_wires.proofs.known.known_at.Goals as goal
 

@@ -1,9 +1,8 @@
 use Rattle.std.proofs.Common.{ap, arith, false, length, length-set, refl, replicate, sym, ◌∙◌, ◌≡◌}
 use Rattle.std.proofs.lemmas.List.{length-replicate}
 use Rattle.gate_graph.specs.Circuit.{net_of}
-use Rattle.refutation.proofs.Agendas.{none_marked}
-use Rattle.refutation.proofs.Reaches.{reached_live, search_ends, search_first, search_less, search_more}
 use Rattle.candidate_wires.proofs.reaching.mark_reached.Goals as goal
+use Rattle.refutation.proofs.Public.{none_marked, reached_live, search_ends, search_first, search_less, search_more}
 use Rattle.refutation.specs.Reaching.{MarksReaders}
 
 pub loop-node-init : goal.loop-node-init

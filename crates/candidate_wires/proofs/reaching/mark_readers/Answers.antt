@@ -1,13 +1,10 @@
 use Rattle.std.proofs.Common.{ap, arith, false, inl, inr, length, length-set, subst, sym, true, ◌<◌, ◌∙◌}
-use Rattle.gate_graph.proofs.Marking.{seen_kept, seen_new}
 use Rattle.gate_graph.specs.Circuit.{net_of}
+use Rattle.gate_graph.proofs.Public.{seen_kept, seen_new}
 use Rattle.gate_graph.specs.Search.{IsSeen}
-use Rattle.refutation.proofs.Reaches.{marks_all, marks_new}
-use Rattle.refutation.proofs.Readers.{all_came, next_below, next_reads}
+use Rattle.refutation.proofs.Public.{all_came, last_of, marks_all, marks_new, next_below, next_reads, yielded_more}
 use Rattle.candidate_wires.proofs.StampLists.{has_not, not_seen}
 use Rattle.candidate_wires.proofs.reaching.mark_readers.Goals as goal
-use Rattle.refutation.proofs.OnlyReaders.{last_of}
-use Rattle.refutation.proofs.Yielding.{yielded_more}
 use Rattle.rm_base.specs.declared.numbers.NodeId.{NodeId}
 
 pub set-requires : goal.set-requires

@@ -1,6 +1,6 @@
 use Rattle.std.proofs.Common.{List, ap, map, ℕ, ◌++◌, ◌∙◌, ◌∷◌, [], ◌≡◌}
 use Rattle.gate_graph.specs.Circuit.{fanouts_of}
-use Rattle.refutation.proofs.Yielding.{yielded_more}
+use Rattle.refutation.proofs.Public.{yielded_more}
 use Rattle.rm_base.specs.declared.numbers.NodeId.{NodeId}
 use Rattle.fault_sim.proofs.ListedReaders.{reads_listed}
 use Rattle.fault_sim.proofs.Lists.{whole}

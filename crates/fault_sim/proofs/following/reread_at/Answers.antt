@@ -2,11 +2,11 @@ use Rattle.std.proofs.Common.{List, None, Some, arith, get_or, length, map, refl
 use Rattle.std.proofs.lemmas.List.{get_or_read}
 use Rattle.std.specs.Prelude.{slice_get, slice_index}
 use Rattle.gate_graph.specs.Circuit.{net_of}
-use Rattle.refutation.proofs.Told.{slice_get_below}
+use Rattle.refutation.proofs.Public.{slice_get_below}
 use Rattle.rm_base.specs.declared.numbers.NodeId.{NodeId}
-use Rattle.fault_sim.proofs.CatchingUp.{again_changed, again_kept, lanes_again, unstamped_read}
+use Rattle.fault_sim.proofs.CatchingUp.{again_changed, again_kept, lanes_again}
 use Rattle.fault_sim.proofs.Lists.{number_at}
-use Rattle.fault_sim.proofs.ReadInOrder.{drivers_within, reader_not_dead}
+use Rattle.fault_sim.proofs.ReadInOrder.{drivers_within, good_read, reader_not_dead}
 use Rattle.fault_sim.proofs.following.reread_at.Goals as goal
 
 abbrev zero_node : NodeId
@@ -15,8 +15,8 @@ zero_node = record { 0 = 0 }
 abbrev numbers : List NodeId → List ℕ
 numbers order = map (λ (n : NodeId). n.0) order
 
-pub read_word-word-requires-clause-drivers : goal.read_word-word-requires-clause-drivers
-read_word-word-requires-clause-drivers c =
+pub good_word-word-requires-clause-drivers : goal.good_word-word-requires-clause-drivers
+good_word-word-requires-clause-drivers c =
     rw c.as_slice.ensures.value
     (drivers_within (net_of c.args.graph.now) (numbers c.args.order.now) c.well_formed-2.ensures.net c.requires.order (length c.args.good.now.items) c.requires.lanes.within c.args.place _ (number_at c.args.order.now c.args.place zero_node c.requires.place))
 
@@ -33,9 +33,9 @@ index_mut-requires c =
 pub returns-then-word-index-clause-rereading : goal.returns-then-word-index-clause-rereading
 returns-then-word-index-clause-rereading c =
     let here = number_at c.args.order.now c.args.place zero_node c.requires.place in
-    again_kept (net_of c.args.graph.now) c.args.words.now (numbers c.args.order.now) c.well_formed-2.ensures.net c.requires.order c.args.good.now.items c.args.spread.now.pending.items c.unmark.new.pending.items c.args.place _ c.read_word-word.result
+    again_kept (net_of c.args.graph.now) c.args.words.now (numbers c.args.order.now) c.well_formed-2.ensures.net c.requires.order c.args.good.now.items c.args.spread.now.pending.items c.unmark.new.pending.items c.args.place _ c.good_word-word.result
     here c.unmark.ensures
-    (unstamped_read (net_of c.args.graph.now) c.args.words.now c.as_slice.result.now c.args.good.now.items c.args.spread.now _ c.read_word-word.result c.as_slice.ensures.value c.requires.unstamped c.read_word-word.ensures)
+    (good_read (net_of c.args.graph.now) c.args.words.now c.as_slice.result.now c.args.good.now.items _ c.good_word-word.result c.as_slice.ensures.value c.good_word-word.ensures)
     (c.if-word-index.true ∙ get_or_read c.args.good.now.items _ _ (c.requires.lanes.within c.args.place _ here) c.index.ensures 0) c.requires.rereading
 
 pub mark_after-requires-clause-room : goal.mark_after-requires-clause-room
@@ -50,10 +50,10 @@ pub returns-clause-rereading : goal.returns-clause-rereading
 returns-clause-rereading c =
     let here = number_at c.args.order.now c.args.place zero_node c.requires.place in
     again_changed (net_of c.args.graph.now) c.args.words.now (numbers c.args.order.now) c.well_formed-2.ensures.net c.requires.order c.args.places.now c.args.good.now.items c.args.spread.now.pending.items c.unmark.new.pending.items c.mark_after.new.pending.items
-    c.args.place _ c.read_word-word.result c.requires.lanes.places_are (c.requires.lanes.within c.args.place _ here) here c.unmark.ensures c.mark_after.ensures
-    (unstamped_read (net_of c.args.graph.now) c.args.words.now c.as_slice.result.now c.args.good.now.items c.args.spread.now _ c.read_word-word.result c.as_slice.ensures.value c.requires.unstamped c.read_word-word.ensures) c.requires.rereading
+    c.args.place _ c.good_word-word.result c.requires.lanes.places_are (c.requires.lanes.within c.args.place _ here) here c.unmark.ensures c.mark_after.ensures
+    (good_read (net_of c.args.graph.now) c.args.words.now c.as_slice.result.now c.args.good.now.items _ c.good_word-word.result c.as_slice.ensures.value c.good_word-word.ensures) c.requires.rereading
 
 pub returns-clause-lanes : goal.returns-clause-lanes
 returns-clause-lanes c =
     lanes_again (numbers c.args.order.now) c.args.places.now c.args.good.now.items c.args.spread.now (record { stamp = c.args.spread.now.stamp; stamps = c.args.spread.now.stamps; faulty = c.args.spread.now.faulty; pending = c.mark_after.new.pending }) c.args.place
-    _ c.read_word-word.result (number_at c.args.order.now c.args.place zero_node c.requires.place) c.requires.lanes refl refl (c.mark_after.ensures.size ∙ c.unmark.ensures.size)
+    _ c.good_word-word.result (number_at c.args.order.now c.args.place zero_node c.requires.place) c.requires.lanes refl refl (c.mark_after.ensures.size ∙ c.unmark.ensures.size)

@@ -2,7 +2,7 @@ use Rattle.std.proofs.Common.{ℕ, ◌<◌}
 use Rattle.std.specs.Prelude.{slice_index}
 use Rattle.gate_graph.specs.Circuit.{net_of}
 use Rattle.gate_net.specs.Net.{drivers_of}
-use Rattle.refutation.proofs.Yielding.{yielded_more}
+use Rattle.refutation.proofs.Public.{yielded_more}
 use Rattle.fault_sim.proofs.Lists.{each_of_more, whole}
 use Rattle.fault_sim.proofs.placing.any_driver_late.Goals as goal
 

@@ -4,7 +4,7 @@ use Rattle.std.proofs.lemmas.List.{length-map}
 use Rattle.std.specs.Prelude.{slice_get}
 use Rattle.gate_graph.specs.Circuit.{net_of}
 use Rattle.gate_net.specs.Net.{kind_of}
-use Rattle.refutation.proofs.Told.{slice_get_below}
+use Rattle.refutation.proofs.Public.{slice_get_below}
 use Rattle.rm_base.specs.declared.numbers.NodeId.{NodeId}
 use Rattle.fault_sim.proofs.Lists.{number_at}
 use Rattle.fault_sim.specs.Following.{Stands}

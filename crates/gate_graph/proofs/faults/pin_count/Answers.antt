@@ -6,5 +6,5 @@ use Rattle.gate_graph.proofs.faults.pin_count.Goals as goal
 pub returns-in-None : goal.returns-in-None
 returns-in-None c = sym (no_pins (net_of c.args.graph.now) c.args.node.0 (sym c.kind.ensures ∙ c.in-None.is))
 
-pub live_pin_count-requires : goal.live_pin_count-requires
-live_pin_count-requires c = live_kind (net_of c.args.graph.now) c.args.node.0 _ (sym c.kind.ensures ∙ c.in-Some.is)
+pub input_count-requires : goal.input_count-requires
+input_count-requires c = live_kind (net_of c.args.graph.now) c.args.node.0 _ (sym c.kind.ensures ∙ c.in-Some.is)

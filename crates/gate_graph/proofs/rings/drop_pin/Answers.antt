@@ -2,7 +2,7 @@ use Rattle.std.proofs.Common.{arith, ap, ◌∙◌}
 use Rattle.std.specs.FinSet as finset
 use Rattle.std.specs.Ordering.{nat_cmp}
 use Rattle.pin_pool.specs.Rings.{returned}
-use Rattle.gate_graph.proofs.Numbers.{len-one_less}
+use Rattle.pin_pool.proofs.Public.{len-one_less}
 use Rattle.gate_graph.proofs.rings.drop_pin.Goals as goal
 
 pub returns-clause-rings : goal.returns-clause-rings

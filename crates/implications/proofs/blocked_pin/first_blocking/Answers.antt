@@ -1,7 +1,7 @@
 use Rattle.std.proofs.Common.{Some, length, ◌≡◌}
 use Rattle.std.specs.Prelude.{slice_get}
 use Rattle.implications.proofs.blocked_pin.first_blocking.Goals as goal
-use Rattle.refutation.proofs.Yielding.{yielded_at}
+use Rattle.refutation.proofs.Public.{yielded_at}
 
 pub is_blocking-requires : goal.is_blocking-requires
 is_blocking-requires c = c.requires.within _ _ (yielded_at (λ d. d.0) c.args.drivers c.loop-driver.yielded c.in-Some.driver _ _ c.loop-driver.invariant.all c.in-Some.ensures.steps)

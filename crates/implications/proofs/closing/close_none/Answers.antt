@@ -1,4 +1,4 @@
-use Rattle.std.proofs.Common.{ap, ◌++◌, ◌∙◌}
+use Rattle.std.proofs.Common.{ap, arith, length, ◌++◌, ◌∙◌, ◌≤◌}
 use Rattle.gate_graph.specs.Circuit.{net_of}
 use Rattle.implications.proofs.Closes.{closing_clash, closing_open}
 use Rattle.implications.proofs.closing.close_none.Goals as goal
@@ -12,4 +12,5 @@ returns-in_ok-closed-in-Some-clause-closing c =
 
 pub returns-in-None-clause-closing : goal.returns-in-None-clause-closing
 returns-in-None-clause-closing c =
-    closing_open (net_of c.args.graph.now) c.args.fault.now c.in_ok-held.held c.add_all_lines.new.facts c.args.log.now.lines.items c.add_all_lines.new.log.lines.items c.in_ok-node.field-0 c.in_ok-held.ensures.outside c.requires.lines c.in_ok-node.ensures.works c.add_all_lines.ensures.keeps.more c.add_all_lines.ensures.keeps.size c.in_ok-held.ensures.facts c.in-None.is c.in_ok-node.ensures.closes
+    let room : length (net_of c.args.graph.now).nodes ≤ length c.in_ok-held.held = omega (arith, c.in_ok-held.ensures.facts) in
+    closing_open (net_of c.args.graph.now) c.args.fault.now c.in_ok-held.held c.add_all_lines.new.facts c.args.log.now.lines.items c.add_all_lines.new.log.lines.items c.in_ok-node.field-0 c.in_ok-held.ensures.outside c.requires.lines c.in_ok-node.ensures.works c.add_all_lines.ensures.keeps.more c.add_all_lines.ensures.keeps.size room c.in-None.is c.in_ok-node.ensures.closes

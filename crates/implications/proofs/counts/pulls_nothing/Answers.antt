@@ -3,7 +3,7 @@ use Rattle.std.proofs.lemmas.Bool.{eqb-true, ltb-true}
 use Rattle.implications.proofs.Counted.{count_full, count_met, count_open, count_two}
 use Rattle.implications.proofs.Pulling.{other_one}
 use Rattle.implications.proofs.counts.pulls_nothing.Goals as goal
-use Rattle.refutation.proofs.Looks.{never_other}
+use Rattle.refutation.proofs.Public.{never_other}
 
 pub returns-then-count-eq0 : goal.returns-then-count-eq0
 returns-then-count-eq0 c e os h = count_open c.args.count c.args.c os c.args.known h c.in-None.is c.if-count-eq0.true (ltb-true c.args.count.passing c.args.count.pins e)

@@ -4,8 +4,8 @@ use Rattle.implications.proofs.Begins.{answer_some}
 use Rattle.implications.proofs.Steps.{works_hold}
 use Rattle.implications.proofs.Touching.{fresh_given, pending_touched}
 use Rattle.implications.proofs.first_lines.give.Goals as goal
-use Rattle.refutation.proofs.Below.{concludes_below}
 use Rattle.refutation.specs.FactSets.{held_by}
+use Rattle.refutation.proofs.Public.{concludes_below}
 
 pub holds-requires : goal.holds-requires
 holds-requires c =

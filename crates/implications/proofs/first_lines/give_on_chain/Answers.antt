@@ -4,8 +4,7 @@ use Rattle.implications.proofs.Begins.{chain_short, chaining_ends, chaining_firs
 use Rattle.implications.proofs.Steps.{keeps_join, keeps_none, works_none}
 use Rattle.implications.proofs.first_lines.give_on_chain.Goals as goal
 use Rattle.implications.specs.Settled.{IsDone}
-use Rattle.refutation.proofs.Told.{gate_live}
-use Rattle.refutation.proofs.Walks.{walk_live}
+use Rattle.refutation.proofs.Public.{gate_live, walk_live}
 use Rattle.refutation.specs.declared.reasoning.Line.TheVariants.{Chain}
 
 pub loop-step-init : goal.loop-step-init

@@ -1,5 +1,5 @@
 use Rattle.implications.proofs.laws.lines_force.Goals as goal
-use Rattle.refutation.proofs.Closings.{leads_within, opposed_within}
+use Rattle.refutation.proofs.Public.{leads_within, opposed_within}
 
 pub returns-clause-lead : goal.returns-clause-lead
 returns-clause-lead c net fault start after lines leads s within free closed = leads_within net fault s free closed lines start after within leads

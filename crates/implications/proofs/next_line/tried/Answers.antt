@@ -3,8 +3,8 @@ use Rattle.gate_graph.specs.Circuit.{net_of}
 use Rattle.implications.proofs.Begins.{answer_some}
 use Rattle.implications.proofs.Places.{concludes_live}
 use Rattle.implications.proofs.next_line.tried.Goals as goal
-use Rattle.refutation.proofs.Below.{concludes_below}
 use Rattle.refutation.specs.FactSets.{held_by}
+use Rattle.refutation.proofs.Public.{concludes_below}
 use Rattle.refutation.specs.Lines.{Concludes}
 
 pub holds-requires : goal.holds-requires

@@ -1,6 +1,6 @@
 use Rattle.std.proofs.Common.{false, refl, sym, true, ◌∙◌, ◌≡◌}
 use Rattle.gate_graph.specs.Circuit.{net_of}
-use Rattle.gate_net.proofs.Follows.{is_known_true}
+use Rattle.gate_net.proofs.Public.{is_known_true}
 use Rattle.implications.proofs.Sweeps.{driver_below, faulty_awaited, gate_below, good_awaited, side_awaited}
 use Rattle.implications.proofs.pin_line.pin_line.Goals as goal
 

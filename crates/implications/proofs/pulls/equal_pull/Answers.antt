@@ -1,5 +1,5 @@
 use Rattle.std.proofs.Common.{false, sym, true, ◌∙◌}
-use Rattle.gate_net.proofs.Follows.{is_known_true}
+use Rattle.gate_net.proofs.Public.{is_known_true}
 use Rattle.implications.proofs.Pulling.{equal_all, equal_any, equal_known, equal_many, equal_one, equal_open, not_known_false}
 use Rattle.implications.proofs.pulls.equal_pull.Goals as goal
 

@@ -1,8 +1,8 @@
 use Rattle.std.proofs.Common.{Some, ap, sym, ◌∙◌}
-use Rattle.gate_net.proofs.Follows.{is_known_true}
+use Rattle.gate_net.proofs.Public.{is_known_true}
 use Rattle.implications.proofs.Pulling.{not_known_false, other_one, pull_known, pull_many, pull_one, pull_other, pull_unknown}
 use Rattle.implications.proofs.pulls.junction_pull.Goals as goal
-use Rattle.refutation.proofs.Looks.{never_other}
+use Rattle.refutation.proofs.Public.{never_other}
 
 pub returns-then-is_value : goal.returns-then-is_value
 returns-then-is_value c os h =

@@ -1,6 +1,6 @@
 use Rattle.std.proofs.Common.{ap, arith, false, length, length-set, ℕ, ◌<◌, ◌∙◌, ◌≡◌, ◌≤◌}
 use Rattle.gate_graph.specs.Circuit.{net_of}
-use Rattle.refutation.proofs.Agendas.{clear_less}
+use Rattle.refutation.proofs.Public.{clear_less}
 use Rattle.implications.proofs.Steps.{all_settled, keeps_join, outcome_none, work_take, works_join}
 use Rattle.implications.proofs.settling.work_off.Goals as goal
 use Rattle.implications.specs.Working.{work}

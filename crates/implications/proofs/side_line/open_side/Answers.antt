@@ -4,8 +4,8 @@ use Rattle.std.proofs.lemmas.Option.{slice_get_within}
 use Rattle.std.specs.Prelude.{slice_get}
 use Rattle.implications.proofs.side_line.open_side.Goals as goal
 use Rattle.implications.specs.Sides.{IsOpenPin}
-use Rattle.refutation.proofs.Yielding.{yielded_all, yielded_at, yielded_below, yielded_more}
 use Rattle.refutation.specs.FactSets.{held_by}
+use Rattle.refutation.proofs.Public.{yielded_all, yielded_at, yielded_below, yielded_more}
 
 pub is_open-requires : goal.is_open-requires
 is_open-requires c = c.requires.within _ _ (yielded_at (λ d. d.0) c.args.drivers c.loop-driver.yielded c.in-Some.driver _ _ c.loop-driver.invariant.all c.in-Some.ensures.steps)

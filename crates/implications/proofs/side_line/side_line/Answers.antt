@@ -1,6 +1,6 @@
 use Rattle.std.proofs.Common.{None, Some, false, not, subst, sym, ◌∙◌, ◌≢◌}
 use Rattle.gate_graph.specs.Circuit.{net_of}
-use Rattle.gate_net.proofs.Follows.{is_known_true}
+use Rattle.gate_net.proofs.Public.{is_known_true}
 use Rattle.implications.proofs.GateLines.{side_done, side_fresh, side_none}
 use Rattle.implications.proofs.Pulling.{not_known_false}
 use Rattle.implications.proofs.side_line.side_line.Goals as goal

@@ -4,7 +4,7 @@ use Rattle.gate_graph.specs.Circuit.{net_of}
 use Rattle.gate_net.specs.Net.{drivers_of}
 use Rattle.implications.proofs.Steps.{keeps_join, settling_join, stops_join, sweeps_none, sweeps_some}
 use Rattle.implications.proofs.sweeping.sweep_pins.Goals as goal
-use Rattle.refutation.proofs.Yielding.{yielded_at, yielded_more}
+use Rattle.refutation.proofs.Public.{yielded_at, yielded_more}
 use Rattle.rm_base.specs.declared.numbers.NodeId.{NodeId}
 
 pub sweep_pin-requires-clause-ready : goal.sweep_pin-requires-clause-ready

@@ -1,17 +1,14 @@
 use Rattle.std.proofs.Common.{[], ap, arith, inl, inr, length, length-set, map, refl, subst, true, ◌<◌, ◌∙◌, ◌∷◌}
 use Rattle.std.proofs.lemmas.List.{map-append}
-use Rattle.gate_graph.proofs.Marking.{seen_kept, seen_new}
 use Rattle.gate_graph.specs.Circuit.{net_of}
+use Rattle.gate_graph.proofs.Public.{seen_kept, seen_new}
 use Rattle.gate_graph.specs.Search.{IsSeen}
 use Rattle.implications.proofs.ReaderCounts.{all_counted, next_counted}
 use Rattle.implications.proofs.Rising.{all_tallied, next_can_rise, raises_more, raises_none}
 use Rattle.implications.proofs.tallies.touch.Goals as goal
 use Rattle.implications.specs.Rises.{rise_by}
-use Rattle.refutation.proofs.OnlyReaders.{last_of}
-use Rattle.refutation.proofs.Readers.{all_came, next_below}
-use Rattle.refutation.proofs.Told.{kind_live}
-use Rattle.refutation.proofs.Yielding.{yielded_more}
 use Rattle.refutation.specs.FactSets.{held_by}
+use Rattle.refutation.proofs.Public.{all_came, kind_live, last_of, next_below, yielded_more}
 use Rattle.rm_base.specs.declared.numbers.NodeId.{NodeId}
 
 pub rise_by-rise-requires : goal.rise_by-rise-requires

@@ -49,7 +49,7 @@ accepts c =
     let after : net_of c.graph-4.result.now ≡ stepped net c.args.step = ap net_of c.graph-4.ensures ∙ c.in_default.ensures.net in
     let says = subst (λ (n : Net). AddSays n c.added_pin-added.result c.args.tree.now (Ok tt)) after c.in_default-add_says.ensures in (
       accepted net c.args.step c.args.tree.now c.added_pin-added.result c.answers_apply.ensures answer (subst (λ (g : Circuit). FixSays (net_of g) c.args.step c.args.tree.now (Ok tt)) c.graph-2.ensures c.in_default-before.ensures) added says c.requires.tree,
-      c.settle.ensures.net ∙ c.in_default.ensures.net,
+      c.keep.ensures.net ∙ c.in_default.ensures.net,
     )
 
 pub returns-clause-makes : goal.returns-clause-makes
@@ -58,5 +58,5 @@ returns-clause-makes c = accepts c
 pub returns-clause-editing : goal.returns-clause-editing
 returns-clause-editing c =
     let a = accepts c in
-    ready_edits c.settle.new.self (c.args.left - 1)
-    (settled_ready c.args.trial c.apply.new.self c.settle.new.self c.args.left c.args.step c.args.tree.now (subst IsWellFormed (ap net_of c.graph.ensures) c.well_formed-2.ensures.net) c.requires.ready a.0 c.in_default.ensures.held c.in_default.ensures.room a.1 c.settle.ensures.entries c.settle.ensures.room c.settle.ensures.held)
+    ready_edits c.keep.new.self (c.args.left - 1)
+    (settled_ready c.args.trial c.apply.new.self c.keep.new.self c.args.left c.args.step c.args.tree.now (subst IsWellFormed (ap net_of c.graph.ensures) c.well_formed-2.ensures.net) c.requires.ready a.0 c.in_default.ensures.held c.in_default.ensures.room c.in_default.ensures.first a.1 c.keep.ensures.entries c.keep.ensures.steps c.keep.ensures.room c.keep.ensures.first c.keep.ensures.held)

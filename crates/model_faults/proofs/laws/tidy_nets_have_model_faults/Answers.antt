@@ -2,9 +2,8 @@ use Rattle.std.specs.Prelude.{List}
 use Rattle.std.proofs.Common.{ℕ, ◌<◌, subst}
 use Rattle.std.proofs.lemmas.Option.{slice_get_within}
 use Rattle.rm_model.specs.declared.parts.Cover.{Cover}
-use Rattle.cover_decompose.proofs.Members.{In, in_at}
-use Rattle.graph_to_model.proofs.TidyFacts.{lean}
-use Rattle.graph_to_model.proofs.Covers.{IsWritable, place_below}
+use Rattle.cover_decompose.proofs.Public.{In, in_at}
+use Rattle.graph_to_model.proofs.Public.{IsWritable, lean, place_below}
 use Rattle.model_faults.proofs.Gates.{gates_same, gate_pins, gate_covers_are}
 use Rattle.gate_net.specs.Faults.{gates_of}
 use Rattle.model_faults.proofs.Listed.{pin_listed, list_once}

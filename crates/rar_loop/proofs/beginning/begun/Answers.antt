@@ -1,23 +1,53 @@
-use Rattle.std.proofs.Common.{◌+◌, ◌≤◌, ap, ◌∙◌, arith}
+use Rattle.std.proofs.Common.{◌≡◌, ◌+◌, ◌≤◌, sym, ap, subst, arith}
 use Rattle.gate_graph.specs.Circuit.{net_of}
 use Rattle.wire_edit.specs.Work.{work}
+use Rattle.wire_edit.specs.Tried.{Tried}
+use Rattle.rar_loop.specs.Going.{Goes}
+use Rattle.rar_loop.specs.Swept.{HasSwept}
+use Rattle.rar_loop.specs.Spaces.{IsSized}
+use Rattle.rar_loop.specs.Improving.{HasBegun}
+use Rattle.rar_loop.proofs.Spacing.{sized_still}
+use Rattle.rar_loop.specs.Kept.{AreFor}
 use Rattle.rar_loop.proofs.GoingOn.{tallies_then}
-use Rattle.rar_loop.proofs.Sizing.{held_back}
-use Rattle.rar_loop.proofs.Looping.{begun_first, room_first}
+use Rattle.rar_loop.proofs.Sizing.{HasSize, held_back}
+use Rattle.rar_loop.proofs.Looping.{begun_first, lent_first, room_first}
 use Rattle.rar_loop.proofs.beginning.begun.Goals as goal
 
 pub tidy-requires : goal.tidy-requires
-tidy-requires c = record { room = room_first c.in-Ok.trial (net_of c.args.graph) c.in-Ok.ensures.net c.tidying_ends.ensures.bounded (ap (λ r. r.steps) c.in-Ok.ensures.room ∙ c.enough-room.ensures.steps) }
+tidy-requires c = record { room = room_first c.in_ok-trial.trial (net_of c.args.graph) c.in_ok-trial.ensures.net c.tidying_ends.ensures.bounded c.well_formed-2.ensures.net c.in_ok-trial.ensures.steps }
 
 pub sweep-requires-clause-room : goal.sweep-requires-clause-room
 sweep-requires-clause-room c =
-    let first : work (net_of c.in-Ok.trial.graph) ≤ c.in-Ok.trial.room.steps = room_first c.in-Ok.trial (net_of c.args.graph) c.in-Ok.ensures.net c.tidying_ends.ensures.bounded (ap (λ r. r.steps) c.in-Ok.ensures.room ∙ c.enough-room.ensures.steps) in
+    let first : work (net_of c.in_ok-trial.trial.graph) ≤ c.in_ok-trial.trial.room.steps = room_first c.in_ok-trial.trial (net_of c.args.graph) c.in_ok-trial.ensures.net c.tidying_ends.ensures.bounded c.well_formed-2.ensures.net c.in_ok-trial.ensures.steps in
     let zero : work (net_of c.tidy.new.trial.graph) + 0 ≤ c.tidy.new.trial.room.steps = c.in_ok-tidy.ensures.goes.room 0 (omega (arith, first)) in
-    omega (arith, zero)
+    let w : work (net_of c.in_ok-space.space.trial.graph) ≡ work (net_of c.tidy.new.trial.graph) = ap (λ (t : Tried). work (net_of t.graph)) c.in_ok-space.ensures.trial in
+    let r : c.in_ok-space.space.trial.room.steps ≡ c.tidy.new.trial.room.steps = ap (λ (t : Tried). t.room.steps) c.in_ok-space.ensures.trial in
+    omega (arith, zero, w, r)
 
-pub returns : goal.returns
-returns c =
-    begun_first c.accepted_steps_keep.ensures c.args.graph c.args.depth c.in-Ok.trial c.tidy.new.trial c.sweep.new.trial c.commit-swept.result c.new-log.result.items c.tidy.new.log.items c.sweep.new.log.items c.well_formed-2.ensures.net
-    (record { live = c.well_formed-2.ensures.live; pins = c.well_formed-2.ensures.held }) (record { live = c.well_formed-3.ensures.live; pins = c.well_formed-3.ensures.held }) c.requires.few
-    c.in-Ok.ensures.net (ap (λ r. r.steps) c.in-Ok.ensures.room ∙ c.enough-room.ensures.steps) c.new-log.ensures.items c.in_ok-tidy.ensures.goes c.in_ok-sweep.ensures.goes c.in_ok-sweep.ensures.tidy c.in_ok-sweep.ensures.swept c.commit-swept.ensures.net
-    (held_back c.args.graph c.in-Ok.trial c.sweep.new.trial c.commit-swept.result c.in-Ok.ensures.held.1 c.in-Ok.ensures.held.0 (tallies_then c.in-Ok.trial c.tidy.new.trial c.sweep.new.trial c.new-log.result.items c.tidy.new.log.items c.sweep.new.log.items c.in_ok-tidy.ensures.goes.tallies c.in_ok-sweep.ensures.goes.tallies).holds c.commit-swept.ensures.held)
+pub returns-clause-begun : goal.returns-clause-begun
+returns-clause-begun c =
+    let second : Goes c.tidy.new.trial c.sweep.new.space.trial c.tidy.new.log.items c.sweep.new.log.items = subst (λ (t : Tried). Goes t c.sweep.new.space.trial c.tidy.new.log.items c.sweep.new.log.items) c.in_ok-space.ensures.trial c.in_ok-sweep.ensures.goes in
+    let swept : HasSwept (net_of c.tidy.new.trial.graph) (net_of c.sweep.new.space.trial.graph) c.args.depth = subst (λ (t : Tried). HasSwept (net_of t.graph) (net_of c.sweep.new.space.trial.graph) c.args.depth) c.in_ok-space.ensures.trial c.in_ok-sweep.ensures.swept in
+    begun_first c.accepted_steps_keep.ensures c.args.graph c.args.depth c.in_ok-trial.trial c.tidy.new.trial c.sweep.new.space.trial c.keep.new.self.graph c.new-log.result.items c.tidy.new.log.items c.sweep.new.log.items c.well_formed-2.ensures.net
+    (record { live = c.well_formed-2.ensures.live; pins = c.well_formed-2.ensures.held }) (subst HasSize c.graph.ensures (record { live = c.well_formed-3.ensures.live; pins = c.well_formed-3.ensures.held })) c.requires.few
+    c.in_ok-trial.ensures.net c.in_ok-trial.ensures.steps c.new-log.ensures.items c.in_ok-tidy.ensures.goes second c.in_ok-sweep.ensures.tidy swept c.keep.ensures.net
+    (held_back c.args.graph c.in_ok-trial.trial c.sweep.new.space.trial c.keep.new.self.graph c.in_ok-trial.ensures.held c.in_ok-trial.ensures.entries (tallies_then c.in_ok-trial.trial c.tidy.new.trial c.sweep.new.space.trial c.new-log.result.items c.tidy.new.log.items c.sweep.new.log.items c.in_ok-tidy.ensures.goes.tallies second.tallies).holds c.keep.ensures.held)
+
+pub returns-clause-ready : goal.returns-clause-ready
+returns-clause-ready c =
+    let second : Goes c.tidy.new.trial c.sweep.new.space.trial c.tidy.new.log.items c.sweep.new.log.items = subst (λ (t : Tried). Goes t c.sweep.new.space.trial c.tidy.new.log.items c.sweep.new.log.items) c.in_ok-space.ensures.trial c.in_ok-sweep.ensures.goes in
+    let swept : HasSwept (net_of c.tidy.new.trial.graph) (net_of c.sweep.new.space.trial.graph) c.args.depth = subst (λ (t : Tried). HasSwept (net_of t.graph) (net_of c.sweep.new.space.trial.graph) c.args.depth) c.in_ok-space.ensures.trial c.in_ok-sweep.ensures.swept in
+    let begun : HasBegun c.args.graph c.args.depth c.keep.new.self.graph c.sweep.new.log.items =
+    begun_first c.accepted_steps_keep.ensures c.args.graph c.args.depth c.in_ok-trial.trial c.tidy.new.trial c.sweep.new.space.trial c.keep.new.self.graph c.new-log.result.items c.tidy.new.log.items c.sweep.new.log.items c.well_formed-2.ensures.net
+    (record { live = c.well_formed-2.ensures.live; pins = c.well_formed-2.ensures.held }) (subst HasSize c.graph.ensures (record { live = c.well_formed-3.ensures.live; pins = c.well_formed-3.ensures.held })) c.requires.few
+    c.in_ok-trial.ensures.net c.in_ok-trial.ensures.steps c.new-log.ensures.items c.in_ok-tidy.ensures.goes second c.in_ok-sweep.ensures.tidy swept c.keep.ensures.net
+    (held_back c.args.graph c.in_ok-trial.trial c.sweep.new.space.trial c.keep.new.self.graph c.in_ok-trial.ensures.held c.in_ok-trial.ensures.entries (tallies_then c.in_ok-trial.trial c.tidy.new.trial c.sweep.new.space.trial c.new-log.result.items c.tidy.new.log.items c.sweep.new.log.items c.in_ok-tidy.ensures.goes.tallies second.tallies).holds c.keep.ensures.held) in
+    let sized : IsSized c.sweep.new.space = sized_still c.in_ok-space.space c.sweep.new.space c.in_ok-space.ensures.sized c.in_ok-sweep.ensures.alike in
+    record {
+      tidy = c.keep.ensures.tidy c.in_ok-sweep.ensures.tidy;
+      lent = lent_first c.accepted_steps_keep.ensures c.args.graph c.args.depth c.in_ok-trial.trial c.tidy.new.trial c.sweep.new.space.trial c.keep.new.self c.new-log.result.items c.tidy.new.log.items c.sweep.new.log.items c.well_formed-2.ensures.net
+          (record { live = c.well_formed-2.ensures.live; pins = c.well_formed-2.ensures.held }) c.requires.few c.in_ok-trial.ensures.net c.in_ok-trial.ensures.first c.in_ok-trial.ensures.pins c.in_ok-trial.ensures.nodes c.in_ok-trial.ensures.steps
+          c.in_ok-tidy.ensures.goes second c.keep.ensures.entries c.keep.ensures.room c.keep.ensures.first c.keep.ensures.net begun;
+      sized = record { engine = sized.engine; finder = sized.finder };
+      vectors = subst (AreFor c.sweep.new.space.vectors) (sym c.keep.ensures.net) c.in_ok-sweep.ensures.vectors;
+    }

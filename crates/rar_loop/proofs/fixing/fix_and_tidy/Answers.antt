@@ -6,8 +6,9 @@ use Rattle.gate_net.specs.Net.{Net, IsWellFormed}
 use Rattle.gate_graph.specs.Circuit.{Circuit, net_of}
 use Rattle.wire_edit.specs.Work.{work}
 use Rattle.candidate_wires.specs.Tidying.{TidiesTo}
+use Rattle.rar_loop.specs.Changing.{HasNoted, NotesOn}
 use Rattle.rar_loop.specs.Going.{Goes}
-use Rattle.rar_loop.proofs.Falling.{fix_falls}
+use Rattle.rar_loop.proofs.Falling.{fix_applies, fix_falls}
 use Rattle.rar_loop.proofs.GoingOn.{goes_then, fixed_step, fix_refused}
 use Rattle.rar_loop.proofs.fixing.fix_and_tidy.Goals as goal
 
@@ -45,3 +46,10 @@ returns-clause-fixed c =
       are = more.added ∙ ap (λ (xs : List Record). xs ++ more.more) c.in_ok-push.ensures.items ∙ append_assoc c.args.log.now.items (record_of.Step (Fix c.args.fault.gate c.args.fault.position c.args.fault.value) c.args.tree ∷ []) more.more;
       removals = more.removals;
     }
+
+pub returns-clause-noted : goal.returns-clause-noted
+returns-clause-noted c = λ before noted.
+    let formed : IsWellFormed (net_of c.args.trial.now.graph) = subst (λ (v : Circuit). IsWellFormed (net_of v)) c.graph.ensures c.well_formed-2.ensures.net in
+    let fix : NotesOn (net_of c.args.trial.now.graph) (net_of c.apply.new.self.graph) c.args.changed.now c.note.new.self =
+    subst (λ (v : Circuit). HasNoted (Fix c.args.fault.gate c.args.fault.position c.args.fault.value) v c.args.changed.now c.note.new.self) c.graph-2.ensures c.in_ok-note.ensures c.args.trial.now.graph formed (fix_applies (net_of c.args.trial.now.graph) c.args.fault formed c.requires.pin) (λ none. none) c.in-Ok.ensures.readers in
+    c.in_ok-tidy.ensures.noted before (fix before noted)

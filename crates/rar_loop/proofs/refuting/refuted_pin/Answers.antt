@@ -1,7 +1,7 @@
 use Rattle.std.proofs.Common.{Bool, true, false}
 use Rattle.gate_net.specs.Net.{Net, drivers_of}
 use Rattle.gate_graph.specs.Circuit.{net_of}
-use Rattle.wire_edit.proofs.Tested.{got}
+use Rattle.wire_edit.proofs.Public.{got}
 use Rattle.refutation.specs.Detected.{HasOpenSet}
 use Rattle.rar_loop.proofs.Looking.{both_values, looked_none}
 use Rattle.rar_loop.proofs.refuting.refuted_pin.Goals as goal

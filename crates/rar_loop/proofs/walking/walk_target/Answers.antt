@@ -6,20 +6,20 @@ use Rattle.candidate_wires.specs.declared.candidate.Pair.{Pair}
 use Rattle.candidate_wires.specs.Candidates.{AreCandidatesOf}
 use Rattle.candidate_wires.specs.Gains.{Gains}
 use Rattle.candidate_wires.specs.Pairs.{paired}
-use Rattle.rar_loop.specs.Kept.{AreFor}
 use Rattle.rar_loop.specs.Trying.{MayTry, IsAttempt, IsAhead, IsBack}
 use Rattle.rar_loop.proofs.Pairing.{index_is, candidates_may, tried_more, tried_none, back_none, back_then, ahead_back}
+use Rattle.rar_loop.proofs.Spacing.{alike_then, ready_still, room_still}
 use Rattle.rar_loop.proofs.walking.walk_target.Goals as goal
 
 pub loop-place-init : goal.loop-place-init
 loop-place-init c =
-    let t = c.args.trial.now in
+    let t = c.args.space.now.trial in
     record {
-      stays = back_none t c.requires.lent;
-      tried = tried_none (net_of t.graph) c.args.target c.in_ok-found.found.items (subst (λ (v : Circuit). AreCandidatesOf (net_of v) c.args.target c.in_ok-found.found.items) c.graph-2.ensures c.in_ok-found.ensures.candidates);
+      stays = back_none t c.requires.ready.lent;
+      tried = tried_none (net_of t.graph) c.args.target c.in_ok-found.found.items (subst (λ (v : Circuit). AreCandidatesOf (net_of v) c.args.target c.in_ok-found.found.items) c.graph-graph.ensures c.in_ok-found.ensures.candidates);
       sum = omega arith;
-      numbers = refl;
-      vectors = c.requires.vectors;
+      alike = record { engine = c.candidates_of.ensures.numbers; finder = c.candidates_of.ensures.marks; numbers = refl };
+      vectors = c.requires.ready.vectors;
     }
 
 pub try_unless_detected-requires-clause-pair : goal.try_unless_detected-requires-clause-pair
@@ -28,7 +28,7 @@ try_unless_detected-requires-clause-pair c =
     let lt : c.loop-place.place < length c.in_ok-found.found.items = omega (arith, c.loop-place-test.true, c.len-place-end.ensures, c.in_ok-found.found.ok.0) in
     let at : slice_get c.in_ok-found.found.items c.loop-place.place ≡ Some c.index.result.now = index_is c.in_ok-found.found.items c.loop-place.place c.index.result.now lt c.index.ensures in
     subst (λ (n : Net). MayTry n (paired c.args.target c.index.result.now)) (sym inv.stays.same.net)
-    (record { pin = c.requires.pin; wire = candidates_may (net_of c.args.trial.now.graph) c.args.target c.in_ok-found.found.items inv.tried.candidates c.loop-place.place c.index.result.now at })
+    (record { pin = c.requires.pin; wire = candidates_may (net_of c.args.space.now.trial.graph) c.args.target c.in_ok-found.found.items inv.tried.candidates c.loop-place.place c.index.result.now at })
 
 pub try_unless_detected-requires-clause-wires : goal.try_unless_detected-requires-clause-wires
 try_unless_detected-requires-clause-wires c = c.requires.wires ∙ ap wire_count (sym c.loop-place.invariant.stays.same.net)
@@ -39,8 +39,8 @@ returns-in-Gained-clause-tour c =
     let pair : Pair = paired c.args.target c.index.result.now in
     let lt : c.loop-place.place < length c.in_ok-found.found.items = omega (arith, c.loop-place-test.true, c.len-place-end.ensures, c.in_ok-found.found.ok.0) in
     let at : slice_get c.in_ok-found.found.items c.loop-place.place ≡ Some c.index.result.now = index_is c.in_ok-found.found.items c.loop-place.place c.index.result.now lt c.index.ensures in
-    let gained : IsAhead c.loop-place.trial pair c.args.depth c.in-Gained.records.items c.try_unless_detected.new.trial = subst (IsAttempt c.loop-place.trial pair c.args.depth c.try_unless_detected.new.trial) c.in-Gained.is c.in_ok-try_unless_detected.ensures.attempt in
-    (c.in_ok-found.found.items, (c.loop-place.place, (c.index.result.now, (inv.tried, (at, (omega (arith, inv.sum, c.if-left-eq0.false), ahead_back c.args.trial.now c.loop-place.trial c.try_unless_detected.new.trial pair c.args.depth c.in-Gained.records.items inv.stays gained))))))
+    let gained : IsAhead c.loop-place.space.trial pair c.args.depth c.in-Gained.records.items c.try_unless_detected.new.space.trial = subst (IsAttempt c.loop-place.space.trial pair c.args.depth c.try_unless_detected.new.space.trial) c.in-Gained.is c.in_ok-try_unless_detected.ensures.attempt in
+    (c.in_ok-found.found.items, (c.loop-place.place, (c.index.result.now, (inv.tried, (at, (omega (arith, inv.sum, c.if-left-eq0.false), ahead_back c.args.space.now.trial c.loop-place.space.trial c.try_unless_detected.new.space.trial pair c.args.depth c.in-Gained.records.items inv.stays gained))))))
 
 pub loop-place-preserved : goal.loop-place-preserved
 loop-place-preserved c =
@@ -48,19 +48,24 @@ loop-place-preserved c =
     let pair : Pair = paired c.args.target c.index.result.now in
     let lt : c.loop-place.place < length c.in_ok-found.found.items = omega (arith, c.loop-place-test.true, c.len-place-end.ensures, c.in_ok-found.found.ok.0) in
     let at : slice_get c.in_ok-found.found.items c.loop-place.place ≡ Some c.index.result.now = index_is c.in_ok-found.found.items c.loop-place.place c.index.result.now lt c.index.ensures in
-    let failed : IsBack c.loop-place.trial c.try_unless_detected.new.trial × (Gains (net_of c.loop-place.trial.graph) pair → ⊥) = subst (IsAttempt c.loop-place.trial pair c.args.depth c.try_unless_detected.new.trial) c.in-Failed.is c.in_ok-try_unless_detected.ensures.attempt in
+    let failed : IsBack c.loop-place.space.trial c.try_unless_detected.new.space.trial × (Gains (net_of c.loop-place.space.trial.graph) pair → ⊥) = subst (IsAttempt c.loop-place.space.trial pair c.args.depth c.try_unless_detected.new.space.trial) c.in-Failed.is c.in_ok-try_unless_detected.ensures.attempt in
     record {
-      stays = back_then c.args.trial.now c.loop-place.trial c.try_unless_detected.new.trial inv.stays failed.0;
-      tried = tried_more (net_of c.args.trial.now.graph) c.args.target c.in_ok-found.found.items c.loop-place.place c.index.result.now inv.tried at (subst (λ (n : Net). Gains n pair → ⊥) inv.stays.same.net failed.1);
+      stays = back_then c.args.space.now.trial c.loop-place.space.trial c.try_unless_detected.new.space.trial inv.stays failed.0;
+      tried = tried_more (net_of c.args.space.now.trial.graph) c.args.target c.in_ok-found.found.items c.loop-place.place c.index.result.now inv.tried at (subst (λ (n : Net). Gains n pair → ⊥) inv.stays.same.net failed.1);
       sum = omega (arith, inv.sum, c.if-left-eq0.false);
-      numbers = c.in_ok-try_unless_detected.ensures.numbers ∙ inv.numbers;
-      vectors = subst (AreFor c.try_unless_detected.new.vectors) inv.stays.same.net c.try_unless_detected.ensures.vectors;
+      alike = alike_then c.args.space.now c.loop-place.space c.try_unless_detected.new.space inv.alike c.in_ok-try_unless_detected.ensures.alike;
+      vectors = c.in_ok-try_unless_detected.ensures.vectors;
     }
 
 pub candidates_of-requires-clause-numbers : goal.candidates_of-requires-clause-numbers
 candidates_of-requires-clause-numbers c =
-    let most : length (net_of c.args.trial.now.graph).nodes ≤ 4294967295 = subst (λ (v : Circuit). length (net_of v).nodes ≤ 4294967295) c.graph.ensures c.well_formed-2.ensures.nodes in
-    omega (arith, c.requires.numbers, most, ap (λ (v : Circuit). length (net_of v).nodes) c.graph-2.ensures)
+    let most : length (net_of c.graph-graph.result.now).nodes ≤ 4294967295 = c.well_formed-2.ensures.nodes in
+    omega (arith, c.requires.room, c.requires.ready.sized.engine, most, ap (λ (v : Circuit). length (net_of v).nodes) c.graph-graph.ensures)
+
+pub candidates_of-requires-clause-marks : goal.candidates_of-requires-clause-marks
+candidates_of-requires-clause-marks c =
+    let most : length (net_of c.graph-graph.result.now).nodes ≤ 4294967295 = c.well_formed-2.ensures.nodes in
+    omega (arith, c.requires.room, c.requires.ready.sized.finder, most, ap (λ (v : Circuit). length (net_of v).nodes) c.graph-graph.ensures)
 
 pub returns-then-left-eq0-clause-tour : goal.returns-then-left-eq0-clause-tour
 returns-then-left-eq0-clause-tour c =
@@ -69,5 +74,12 @@ returns-then-left-eq0-clause-tour c =
     let at : slice_get c.in_ok-found.found.items c.loop-place.place ≡ Some c.index.result.now = index_is c.in_ok-found.found.items c.loop-place.place c.index.result.now lt c.index.ensures in
     (inv.stays, (c.in_ok-found.found.items, (c.loop-place.place, (inv.tried, (refl, (at, (c.if-left-eq0.true, omega (arith, inv.sum, c.if-left-eq0.true))))))))
 
-pub try_unless_detected-requires-clause-vectors : goal.try_unless_detected-requires-clause-vectors
-try_unless_detected-requires-clause-vectors c = subst (AreFor c.loop-place.vectors) (sym c.loop-place.invariant.stays.same.net) c.loop-place.invariant.vectors
+pub try_unless_detected-requires-clause-ready : goal.try_unless_detected-requires-clause-ready
+try_unless_detected-requires-clause-ready c =
+    let inv = c.loop-place.invariant in
+    ready_still c.args.space.now c.loop-place.space c.requires.ready inv.stays inv.alike inv.vectors
+
+pub try_unless_detected-requires-clause-room : goal.try_unless_detected-requires-clause-room
+try_unless_detected-requires-clause-room c =
+    let inv = c.loop-place.invariant in
+    room_still c.args.space.now c.loop-place.space c.requires.room inv.stays inv.alike

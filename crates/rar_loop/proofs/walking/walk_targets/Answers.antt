@@ -5,20 +5,20 @@ use Rattle.gate_net.specs.Net.{Net, wire_count}
 use Rattle.gate_net.specs.Values.{HasPin}
 use Rattle.gate_graph.specs.Circuit.{Circuit, net_of}
 use Rattle.candidate_wires.specs.Pairs.{paired, targets_of}
-use Rattle.rar_loop.specs.Kept.{AreFor}
 use Rattle.rar_loop.specs.declared.walking.Tour.TheVariants.{Done, Spent, Gained}
 use Rattle.rar_loop.specs.Walking.{IsTargetTour}
 use Rattle.rar_loop.proofs.Pairing.{WalkedTo, tour_back, index_is, walked_none, walked_more, walked_to, walked_all, targets_pin, back_none}
+use Rattle.rar_loop.proofs.Spacing.{alike_none, alike_then, ready_ahead, ready_still, room_still}
 use Rattle.rar_loop.proofs.walking.walk_targets.Goals as goal
 
 pub loop-place-init : goal.loop-place-init
 loop-place-init c =
-    let t = c.args.trial.now in
-    record { stays = back_none t c.requires.lent; walked = walked_none (net_of t.graph) c.in_ok-faults.faults.items c.args.left.now; numbers = refl; vectors = c.requires.vectors }
+    let t = c.args.space.now.trial in
+    record { stays = back_none t c.requires.ready.lent; walked = walked_none (net_of t.graph) c.in_ok-faults.faults.items c.args.left.now; alike = alike_none c.args.space.now; vectors = c.requires.ready.vectors }
 
 pub walk_target-requires-clause-pin : goal.walk_target-requires-clause-pin
 walk_target-requires-clause-pin c =
-    let net : Net = net_of c.args.trial.now.graph in
+    let net : Net = net_of c.args.space.now.trial.graph in
     let t : Fault = c.index-target.result.now in
     let lt : c.loop-place.place < length c.in_ok-faults.faults.items = omega (arith, c.loop-place-test.true, c.len-place-end.ensures, c.in_ok-faults.faults.ok.0) in
     let at : slice_get c.in_ok-faults.faults.items c.loop-place.place ≡ Some t = index_is c.in_ok-faults.faults.items c.loop-place.place t lt c.index-target.ensures in
@@ -30,54 +30,70 @@ walk_target-requires-clause-wires c = c.requires.wires ∙ ap wire_count (sym c.
 
 pub returns-in-Spent : goal.returns-in-Spent
 returns-in-Spent c =
-    let net : Net = net_of c.args.trial.now.graph in
+    let net : Net = net_of c.args.space.now.trial.graph in
     let t : Fault = c.index-target.result.now in
     let inv = c.loop-place.invariant in
     let lt : c.loop-place.place < length c.in_ok-faults.faults.items = omega (arith, c.loop-place-test.true, c.len-place-end.ensures, c.in_ok-faults.faults.ok.0) in
     let at : slice_get c.in_ok-faults.faults.items c.loop-place.place ≡ Some t = index_is c.in_ok-faults.faults.items c.loop-place.place t lt c.index-target.ensures in
     let are : c.in_ok-faults.faults.items ≡ targets_of net = c.in_ok-faults.ensures ∙ ap (λ (v : Circuit). targets_of (net_of v)) c.graph.ensures in
-    let tw : IsTargetTour c.loop-place.trial t c.args.depth c.loop-place.left c.walk_target.new.left c.walk_target.new.trial (Spent c.in-Spent.at) = subst (IsTargetTour c.loop-place.trial t c.args.depth c.loop-place.left c.walk_target.new.left c.walk_target.new.trial) c.in-Spent.is c.in_ok-walk_target.ensures.tour in
-    let here : IsTargetTour c.args.trial.now t c.args.depth c.loop-place.left c.walk_target.new.left c.walk_target.new.trial (Spent c.in-Spent.at) = tour_back c.args.trial.now c.loop-place.trial c.walk_target.new.trial t c.args.depth c.loop-place.left c.walk_target.new.left (Spent c.in-Spent.at) inv.stays tw in
+    let tw : IsTargetTour c.loop-place.space.trial t c.args.depth c.loop-place.left c.walk_target.new.left c.walk_target.new.space.trial (Spent c.in-Spent.at) = subst (IsTargetTour c.loop-place.space.trial t c.args.depth c.loop-place.left c.walk_target.new.left c.walk_target.new.space.trial) c.in-Spent.is c.in_ok-walk_target.ensures.tour in
+    let here : IsTargetTour c.args.space.now.trial t c.args.depth c.loop-place.left c.walk_target.new.left c.walk_target.new.space.trial (Spent c.in-Spent.at) = tour_back c.args.space.now.trial c.loop-place.space.trial c.walk_target.new.space.trial t c.args.depth c.loop-place.left c.walk_target.new.left (Spent c.in-Spent.at) inv.stays tw in
     let to : WalkedTo net c.in-Spent.at (length inv.walked.pairs + here.1.1.0) =
     walked_to net c.in_ok-faults.faults.items c.loop-place.place c.args.left.now c.loop-place.left t here.1.0 here.1.1.0 c.in-Spent.at are inv.walked at here.1.1.1.0 here.1.1.1.1.0 here.1.1.1.1.1.0 (length inv.walked.pairs + here.1.1.0) (omega (arith, inv.walked.sum)) in
-    record { tour = (here.0, (to.pairs, (to.before, (to.none, (here.1.1.1.1.1.1.0, omega (arith, to.count, inv.walked.sum, here.1.1.1.1.1.1.1)))))) }
+    record {
+      tour = (here.0, (to.pairs, (to.before, (to.none, (here.1.1.1.1.1.1.0, omega (arith, to.count, inv.walked.sum, here.1.1.1.1.1.1.1))))));
+      ready = ready_still c.args.space.now c.walk_target.new.space c.requires.ready here.0 (alike_then c.args.space.now c.loop-place.space c.walk_target.new.space inv.alike c.in_ok-walk_target.ensures.alike) c.in_ok-walk_target.ensures.vectors;
+    }
 
 pub returns-in-Gained : goal.returns-in-Gained
 returns-in-Gained c =
-    let net : Net = net_of c.args.trial.now.graph in
+    let net : Net = net_of c.args.space.now.trial.graph in
     let t : Fault = c.index-target.result.now in
     let inv = c.loop-place.invariant in
     let lt : c.loop-place.place < length c.in_ok-faults.faults.items = omega (arith, c.loop-place-test.true, c.len-place-end.ensures, c.in_ok-faults.faults.ok.0) in
     let at : slice_get c.in_ok-faults.faults.items c.loop-place.place ≡ Some t = index_is c.in_ok-faults.faults.items c.loop-place.place t lt c.index-target.ensures in
     let are : c.in_ok-faults.faults.items ≡ targets_of net = c.in_ok-faults.ensures ∙ ap (λ (v : Circuit). targets_of (net_of v)) c.graph.ensures in
-    let tw : IsTargetTour c.loop-place.trial t c.args.depth c.loop-place.left c.walk_target.new.left c.walk_target.new.trial (Gained c.in-Gained.records) = subst (IsTargetTour c.loop-place.trial t c.args.depth c.loop-place.left c.walk_target.new.left c.walk_target.new.trial) c.in-Gained.is c.in_ok-walk_target.ensures.tour in
-    let here : IsTargetTour c.args.trial.now t c.args.depth c.loop-place.left c.walk_target.new.left c.walk_target.new.trial (Gained c.in-Gained.records) = tour_back c.args.trial.now c.loop-place.trial c.walk_target.new.trial t c.args.depth c.loop-place.left c.walk_target.new.left (Gained c.in-Gained.records) inv.stays tw in
+    let tw : IsTargetTour c.loop-place.space.trial t c.args.depth c.loop-place.left c.walk_target.new.left c.walk_target.new.space.trial (Gained c.in-Gained.records) = subst (IsTargetTour c.loop-place.space.trial t c.args.depth c.loop-place.left c.walk_target.new.left c.walk_target.new.space.trial) c.in-Gained.is c.in_ok-walk_target.ensures.tour in
+    let here : IsTargetTour c.args.space.now.trial t c.args.depth c.loop-place.left c.walk_target.new.left c.walk_target.new.space.trial (Gained c.in-Gained.records) = tour_back c.args.space.now.trial c.loop-place.space.trial c.walk_target.new.space.trial t c.args.depth c.loop-place.left c.walk_target.new.left (Gained c.in-Gained.records) inv.stays tw in
     let to : WalkedTo net (paired t here.1.1.0) (length inv.walked.pairs + here.1.0) =
     walked_to net c.in_ok-faults.faults.items c.loop-place.place c.args.left.now c.loop-place.left t here.0 here.1.0 (paired t here.1.1.0) are inv.walked at here.1.1.1.0 refl here.1.1.1.1.0 (length inv.walked.pairs + here.1.0) (omega (arith, inv.walked.sum)) in
-    record { tour = (paired t here.1.1.0, (to.pairs, (to.before, (to.none, (omega (arith, to.count, inv.walked.sum, here.1.1.1.1.1.0), here.1.1.1.1.1.1))))) }
+    record {
+      tour = (paired t here.1.1.0, (to.pairs, (to.before, (to.none, (omega (arith, to.count, inv.walked.sum, here.1.1.1.1.1.0), here.1.1.1.1.1.1)))));
+      ready = ready_ahead c.args.space.now c.walk_target.new.space (paired t here.1.1.0) c.args.depth c.in-Gained.records.items c.requires.ready here.1.1.1.1.1.1 (alike_then c.args.space.now c.loop-place.space c.walk_target.new.space inv.alike c.in_ok-walk_target.ensures.alike) c.in_ok-walk_target.ensures.vectors;
+    }
 
 pub loop-place-preserved : goal.loop-place-preserved
 loop-place-preserved c =
-    let net : Net = net_of c.args.trial.now.graph in
+    let net : Net = net_of c.args.space.now.trial.graph in
     let t : Fault = c.index-target.result.now in
     let inv = c.loop-place.invariant in
     let lt : c.loop-place.place < length c.in_ok-faults.faults.items = omega (arith, c.loop-place-test.true, c.len-place-end.ensures, c.in_ok-faults.faults.ok.0) in
     let at : slice_get c.in_ok-faults.faults.items c.loop-place.place ≡ Some t = index_is c.in_ok-faults.faults.items c.loop-place.place t lt c.index-target.ensures in
-    let tw : IsTargetTour c.loop-place.trial t c.args.depth c.loop-place.left c.walk_target.new.left c.walk_target.new.trial Done = subst (IsTargetTour c.loop-place.trial t c.args.depth c.loop-place.left c.walk_target.new.left c.walk_target.new.trial) c.in-Done.is c.in_ok-walk_target.ensures.tour in
-    let here : IsTargetTour c.args.trial.now t c.args.depth c.loop-place.left c.walk_target.new.left c.walk_target.new.trial Done = tour_back c.args.trial.now c.loop-place.trial c.walk_target.new.trial t c.args.depth c.loop-place.left c.walk_target.new.left Done inv.stays tw in
+    let tw : IsTargetTour c.loop-place.space.trial t c.args.depth c.loop-place.left c.walk_target.new.left c.walk_target.new.space.trial Done = subst (IsTargetTour c.loop-place.space.trial t c.args.depth c.loop-place.left c.walk_target.new.left c.walk_target.new.space.trial) c.in-Done.is c.in_ok-walk_target.ensures.tour in
+    let here : IsTargetTour c.args.space.now.trial t c.args.depth c.loop-place.left c.walk_target.new.left c.walk_target.new.space.trial Done = tour_back c.args.space.now.trial c.loop-place.space.trial c.walk_target.new.space.trial t c.args.depth c.loop-place.left c.walk_target.new.left Done inv.stays tw in
     record {
       stays = here.0;
       walked = walked_more net c.in_ok-faults.faults.items c.loop-place.place c.args.left.now c.loop-place.left c.walk_target.new.left t here.1.0 inv.walked at here.1.1.0 here.1.1.1;
-      numbers = c.in_ok-walk_target.ensures.numbers ∙ inv.numbers;
-      vectors = subst (AreFor c.walk_target.new.vectors) inv.stays.same.net c.walk_target.ensures.vectors;
+      alike = alike_then c.args.space.now c.loop-place.space c.walk_target.new.space inv.alike c.in_ok-walk_target.ensures.alike;
+      vectors = c.in_ok-walk_target.ensures.vectors;
     }
 
-pub walk_target-requires-clause-vectors : goal.walk_target-requires-clause-vectors
-walk_target-requires-clause-vectors c = subst (AreFor c.loop-place.vectors) (sym c.loop-place.invariant.stays.same.net) c.loop-place.invariant.vectors
+pub walk_target-requires-clause-ready : goal.walk_target-requires-clause-ready
+walk_target-requires-clause-ready c =
+    let inv = c.loop-place.invariant in
+    ready_still c.args.space.now c.loop-place.space c.requires.ready inv.stays inv.alike inv.vectors
+
+pub walk_target-requires-clause-room : goal.walk_target-requires-clause-room
+walk_target-requires-clause-room c =
+    let inv = c.loop-place.invariant in
+    room_still c.args.space.now c.loop-place.space c.requires.room inv.stays inv.alike
 
 pub returns : goal.returns
 returns c =
-    let net : Net = net_of c.args.trial.now.graph in
+    let net : Net = net_of c.args.space.now.trial.graph in
     let inv = c.loop-place.invariant in
     let are : c.in_ok-faults.faults.items ≡ targets_of net = c.in_ok-faults.ensures ∙ ap (λ (v : Circuit). targets_of (net_of v)) c.graph.ensures in
-    record { tour = (inv.stays, walked_all net c.in_ok-faults.faults.items c.loop-place.place c.args.left.now c.loop-place.left are (omega (arith, c.loop-place-test.false, c.len-place-end.ensures, c.in_ok-faults.faults.ok.0)) inv.walked) }
+    record {
+      tour = (inv.stays, walked_all net c.in_ok-faults.faults.items c.loop-place.place c.args.left.now c.loop-place.left are (omega (arith, c.loop-place-test.false, c.len-place-end.ensures, c.in_ok-faults.faults.ok.0)) inv.walked);
+      ready = ready_still c.args.space.now c.loop-place.space c.requires.ready inv.stays inv.alike inv.vectors;
+    }

@@ -1,14 +1,14 @@
-use Rattle.std.proofs.Common.{◌≡◌}
 use Rattle.gate_graph.specs.Circuit.{net_of}
 use Rattle.rar_loop.specs.Kept.{AreFor}
+use Rattle.rar_loop.specs.Spaces.{AreAlike}
 use Rattle.rar_loop.specs.Trying.{IsBack}
 use Rattle.rar_loop.proofs.Pairing.{Walked}
 use Rattle.rar_loop.proofs.walking.walk_targets.Given as goal
 
 abbrev pub invariant-loop-place : goal.invariant-loop-place
 invariant-loop-place l = record {
-  stays : IsBack l.initial.trial l.trial;
-  walked : Walked (net_of l.initial.trial.graph) l.faults.items l.place l.initial.left l.left;
-  numbers : l.engine.numbers ≡ l.initial.engine.numbers;
-  vectors : AreFor l.vectors (net_of l.initial.trial.graph);
+  stays : IsBack l.initial.space.trial l.space.trial;
+  walked : Walked (net_of l.initial.space.trial.graph) l.faults.items l.place l.initial.left l.left;
+  alike : AreAlike l.initial.space l.space;
+  vectors : AreFor l.space.vectors (net_of l.space.trial.graph);
 }

@@ -4,9 +4,9 @@ use Rattle.std.specs.Prelude.{is_some, nat_eq}
 use Rattle.std.proofs.lemmas.List.{length-map, map-append}
 use Rattle.gate_graph.specs.Circuit.{net_of}
 use Rattle.gate_net.specs.Net.{Reads, drivers_of}
-use Rattle.refutation.proofs.Yielding.{yielded_at, yielded_more}
 use Rattle.refutation.specs.FactSets.{held_by}
 use Rattle.refutation.specs.Facts.{known_good}
+use Rattle.refutation.proofs.Public.{yielded_at, yielded_more}
 use Rattle.recursive_learning.proofs.OpenDrivers.{OpenTo, all_yielded, known_skip, listed_map, not_some, open_all, open_none, open_push, open_skip, too_many}
 use Rattle.rm_base.specs.declared.numbers.NodeId.{NodeId}
 use Rattle.recursive_learning.proofs.gates.open_drivers.Goals as goal

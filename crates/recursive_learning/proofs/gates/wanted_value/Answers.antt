@@ -1,8 +1,8 @@
 use Rattle.std.proofs.Common.{Some, ap, subst, sym, ◌∙◌}
 use Rattle.gate_graph.specs.Circuit.{net_of}
 use Rattle.recursive_learning.specs.Gates.{NoneGives}
-use Rattle.refutation.proofs.Told.{kind_is}
 use Rattle.refutation.specs.FactSets.{held_by}
+use Rattle.refutation.proofs.Public.{kind_is}
 use Rattle.recursive_learning.proofs.Open.{beq_same, none_gives, same_value, some_gives}
 use Rattle.recursive_learning.proofs.gates.wanted_value.Goals as goal
 

@@ -5,8 +5,7 @@ use Rattle.std.specs.Option.{MatchOption}
 use Rattle.std.specs.Prelude.{slice_get}
 use Rattle.gate_graph.specs.Circuit.{net_of}
 use Rattle.gate_graph.specs.Search.{IsSeen}
-use Rattle.refutation.proofs.Agendas.{none_marked}
-use Rattle.implications.proofs.Trails.{trail_tells}
+use Rattle.implications.proofs.Public.{trail_tells}
 use Rattle.implications.specs.Trail.{AreAdded, LeadsBack}
 use Rattle.recursive_learning.proofs.Commons.{common_clash, common_open, found_all, found_none}
 use Rattle.recursive_learning.proofs.Gains.{keeps_join}
@@ -30,6 +29,7 @@ use Rattle.refutation.specs.Closing.{IsWithin}
 use Rattle.refutation.specs.FactSets.{held_by, missing}
 use Rattle.refutation.specs.Facts.{with_fact}
 use Rattle.refutation.specs.Learning.{HasFew, LeadsToClash}
+use Rattle.refutation.proofs.Public.{none_marked}
 use Rattle.refutation.specs.declared.held.NodeFacts.{NodeFacts}
 use Rattle.refutation.specs.declared.reasoning.Fact.TheVariants.{Good}
 use Rattle.rm_base.specs.declared.numbers.NodeId.{NodeId}

@@ -1,5 +1,5 @@
 use Rattle.std.proofs.Common.{arith, false, length, true, ◌≡◌, ◌≤◌}
-use Rattle.implications.proofs.Trails.{held_past}
+use Rattle.implications.proofs.Public.{held_past}
 use Rattle.refutation.specs.FactSets.{held_by}
 use Rattle.refutation.specs.declared.reasoning.Fact.TheVariants.{Good}
 use Rattle.recursive_learning.proofs.lessons.is_good.Goals as goal

@@ -1,5 +1,5 @@
 use Rattle.std.proofs.Common.{arith, get_or, length, ◌≡◌}
-use Rattle.refutation.proofs.Agendas.{read_is}
+use Rattle.refutation.proofs.Public.{read_is}
 use Rattle.recursive_learning.proofs.Indexes.{index_push, watched_push}
 use Rattle.recursive_learning.proofs.resting.push_entry.Goals as goal
 

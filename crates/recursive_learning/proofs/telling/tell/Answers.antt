@@ -3,9 +3,9 @@ use Rattle.gate_graph.specs.Circuit.{net_of}
 use Rattle.implications.specs.Outcomes.{IsExtended, IsOpenFrom}
 use Rattle.recursive_learning.proofs.Tells.{told_clash, told_open}
 use Rattle.recursive_learning.specs.Telling.{Ends, IsTold}
-use Rattle.refutation.proofs.Closings.{with_there}
 use Rattle.refutation.specs.FactSets.{held_by}
 use Rattle.refutation.specs.Facts.{with_fact}
+use Rattle.refutation.proofs.Public.{with_there}
 use Rattle.refutation.specs.declared.items.Item.{Item}
 use Rattle.refutation.specs.declared.reasoning.Fact.TheVariants.{Good}
 use Rattle.recursive_learning.proofs.telling.tell.Goals as goal

@@ -16,10 +16,10 @@ use Rattle.recursive_learning.specs.Lessons.{IsLesson, Teaches}
 use Rattle.recursive_learning.specs.Telling.{Ends, IsTold}
 use Rattle.recursive_learning.specs.Working.{AreSettled, Keeps}
 use Rattle.recursive_learning.specs.Writing.{IsWritten}
-use Rattle.refutation.proofs.Depths.{known_held}
 use Rattle.refutation.specs.FactSets.{held_by, missing}
 use Rattle.refutation.specs.Facts.{known_good, with_fact}
 use Rattle.refutation.specs.Learning.{LeadsToClash}
+use Rattle.refutation.proofs.Public.{known_held}
 use Rattle.refutation.specs.declared.held.NodeFacts.{NodeFacts}
 use Rattle.refutation.specs.declared.items.Item.{Item}
 use Rattle.refutation.specs.declared.items.Item.TheVariants.{Split}

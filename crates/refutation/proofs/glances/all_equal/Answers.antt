@@ -1,6 +1,6 @@
+use Rattle.gate_looks.proofs.Public.{glance_all, glance_not_all}
 use Rattle.std.proofs.Common.{inl, inr, ◌∙◌, sym}
 use Rattle.std.proofs.lemmas.Bool.Decides.{eqb_tells}
-use Rattle.refutation.proofs.Looks.{glance_all, glance_not_all}
 use Rattle.refutation.proofs.glances.all_equal.Goals as goal
 
 pub returns : goal.returns

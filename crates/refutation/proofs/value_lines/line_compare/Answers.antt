@@ -1,8 +1,9 @@
+use Rattle.gate_looks.proofs.Public.{beq_same}
 use Rattle.gate_graph.specs.Circuit.{net_of}
 use Rattle.std.proofs.Common.{refl, sym, ◌∙◌}
 use Rattle.refutation.specs.FactSets.{held_by}
 use Rattle.refutation.specs.declared.pins.Aspect.TheVariants.{OfGood, OfFaulty}
-use Rattle.refutation.proofs.Told.{both_some, beq_same}
+use Rattle.refutation.proofs.Told.{both_some}
 use Rattle.refutation.proofs.value_lines.line_compare.Goals as goal
 
 pub returns-then-good-faulty : goal.returns-then-good-faulty

@@ -1,9 +1,10 @@
+use Rattle.gate_looks.proofs.Public.{beq_same}
 use Rattle.gate_graph.specs.Circuit.{net_of}
 use Rattle.std.proofs.Common.{refl, ap}
 use Rattle.refutation.specs.FactSets.{held_by}
 use Rattle.refutation.specs.declared.reasoning.Fact.TheVariants.{Faulty as FaultyFact}
 use Rattle.refutation.specs.declared.pins.Aspect.TheVariants.{OfGood, OfEqual}
-use Rattle.refutation.proofs.Told.{both_some, beq_same}
+use Rattle.refutation.proofs.Told.{both_some}
 use Rattle.refutation.proofs.value_lines.line_to_faulty.Goals as goal
 
 pub returns : goal.returns

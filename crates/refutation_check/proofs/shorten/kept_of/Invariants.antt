@@ -1,8 +1,8 @@
-use Rattle.std.proofs.Common.{length, ◌≡◌}
+use Rattle.std.proofs.Common.{length, ◌≤◌}
 use Rattle.gate_graph.specs.Circuit.{net_of}
 use Rattle.refutation_check.proofs.shorten.kept_of.Given as goal
 
 abbrev pub invariant-loop-item : goal.invariant-loop-item
 invariant-loop-item l = record {
-  numbers : l.account.trail.numbers ≡ length (net_of l.graph).nodes;
+  numbers : length (net_of l.graph).nodes ≤ l.account.trail.numbers;
 }

@@ -3,11 +3,10 @@ use Rattle.std.proofs.lemmas.Bool.{cases_lt}
 use Rattle.std.proofs.lemmas.List.{length-replicate}
 use Rattle.std.proofs.lemmas.Option.{slice_get_within}
 use Rattle.std.specs.Prelude.{slice_get, slice_set}
-use Rattle.gate_graph.proofs.Marking.{seen_cases, seen_kept, seen_new}
-use Rattle.gate_graph.proofs.Searches.{none_seen}
 use Rattle.gate_graph.specs.Circuit.{net_of}
+use Rattle.gate_graph.proofs.Public.{none_seen, seen_cases, seen_kept, seen_new}
 use Rattle.gate_graph.specs.Search.{IsSeen}
-use Rattle.refutation.proofs.Told.{kind_live}
+use Rattle.gate_looks.proofs.Public.{kind_live}
 use Rattle.ternary_sim.proofs.Beginnings.{begun_first, get_or_there, next_below, next_touched}
 use Rattle.ternary_sim.proofs.beginning.begin_cone.Goals as goal
 use Rattle.ternary_sim.specs.Regions.{IsTouched}

@@ -1,7 +1,7 @@
 use Rattle.std.proofs.Common.{◌<◌, ◌∙◌, length-set, List, ℕ, map, subst, get_or, sym, arith}
 use Rattle.rm_base.specs.declared.numbers.NodeId.{NodeId}
 use Rattle.gate_graph.specs.Circuit.{net_of}
-use Rattle.refutation.specs.Pins.{AreBelow}
+use Rattle.gate_looks.specs.Pins.{AreBelow}
 use Rattle.gate_net.specs.Net.{drivers_of}
 use Rattle.std.proofs.Common.{length}
 use Rattle.ternary_sim.specs.declared.marks.NodeMarks.{NodeMarks}

@@ -1,7 +1,6 @@
 use Rattle.std.proofs.Common.{arith, length, ◌<◌}
 use Rattle.gate_graph.specs.Circuit.{net_of}
-use Rattle.refutation.proofs.Reaches.{reached_live}
-use Rattle.refutation.proofs.Told.{kind_live}
+use Rattle.gate_looks.proofs.Public.{kind_live, reached_live}
 use Rattle.ternary_sim.proofs.region.mark_touched.Goals as goal
 
 pub mark_all-requires-clause-marks : goal.mark_all-requires-clause-marks

@@ -6,7 +6,7 @@ use Rattle.fault_sim.proofs.tests.followed.follows.Given as goal
 
 abbrev pub invariant-loop-number : goal.invariant-loop-number
 invariant-loop-number l = record {
-  pins : pins_taken l.graph ≤ 2000 + l.number;
+  pins : pins_taken l.graph ≤ 300000 + l.number;
   fits : Fits l.lanes (net_of l.graph);
   simulated : IsSimulated l.lanes (net_of l.graph);
   blocks : AreSimulated l.blocks (net_of l.graph);

@@ -4,7 +4,8 @@ use Rattle.gate_graph.proofs.Appended.{appends}
 use Rattle.gate_graph.proofs.LeadOns.{kind-of, live-in, not-constant}
 use Rattle.gate_graph.proofs.Fanned.{last-reader, count-there}
 use Rattle.gate_graph.proofs.KindAt.{kind-within}
-use Rattle.gate_graph.proofs.HeldPins.{holds-by, linked-more}
+use Rattle.gate_graph.proofs.HeldPins.{holds-by}
+use Rattle.pin_pool.proofs.Public.{linked-more}
 use Rattle.gate_graph.specs.Holds.{held}
 use Rattle.gate_graph.specs.declared.entries.Entry.{Entry}
 use Rattle.std.specs.FinSet as finset

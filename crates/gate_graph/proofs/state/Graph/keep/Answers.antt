@@ -6,11 +6,12 @@ use Rattle.gate_graph.specs.Circuit.{Circuit, IsGraph}
 use Rattle.gate_graph.proofs.Kept.{graph-kept, net-kept, readers-kept}
 use Rattle.gate_graph.proofs.Holding.{are-held, held-step, held-here, held-count}
 use Rattle.std.specs.FinSet as finset
-use Rattle.gate_graph.proofs.Numbers.{len-one_less}
+use Rattle.pin_pool.proofs.Public.{len-one_less}
 use Rattle.std.proofs.Common.{length, [], ◌≡◌}
 use Rattle.gate_graph.specs.Holds.{held}
 use Rattle.gate_graph.specs.declared.entries.Entry.{Entry}
-use Rattle.gate_graph.proofs.HeldPins.{held-are, linked-same}
+use Rattle.gate_graph.proofs.HeldPins.{held-are}
+use Rattle.pin_pool.proofs.Public.{linked-same}
 use Rattle.gate_graph.proofs.state.Graph.keep.Goals as goal
 
 pub loop-entry-init : goal.loop-entry-init

@@ -3,7 +3,8 @@ use Rattle.gate_graph.specs.Circuit.{Circuit}
 use Rattle.gate_graph.proofs.Observing.{observes, observed-readers}
 use Rattle.gate_graph.proofs.LeadOns.{live-in}
 use Rattle.gate_graph.proofs.KindAt.{kind-within}
-use Rattle.gate_graph.proofs.HeldPins.{held-by, linked-more}
+use Rattle.gate_graph.proofs.HeldPins.{held-by}
+use Rattle.pin_pool.proofs.Public.{linked-more}
 use Rattle.std.proofs.Common.{List, ℕ, ◌∷◌, [], ◌++◌, length-append, ap}
 use Rattle.pin_pool.specs.Rings.{Rings}
 use Rattle.pin_pool.specs.Pins.{list_of}

@@ -8,7 +8,8 @@ use Rattle.gate_graph.proofs.KindAt.{kind-within, wired-set, live-next}
 use Rattle.gate_graph.specs.Wirings.{kind_at}
 use Rattle.gate_graph.specs.Circuit.{kinds_live}
 use Rattle.gate_graph.proofs.Numbers.{bit-none}
-use Rattle.gate_graph.proofs.HeldPins.{holds-by, linked-more}
+use Rattle.gate_graph.proofs.HeldPins.{holds-by}
+use Rattle.pin_pool.proofs.Public.{linked-more}
 use Rattle.gate_graph.specs.Holds.{held}
 use Rattle.gate_graph.specs.declared.entries.Entry.{Entry}
 use Rattle.std.specs.FinSet as finset

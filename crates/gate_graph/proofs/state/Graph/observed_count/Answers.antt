@@ -1,10 +1,17 @@
-use Rattle.std.proofs.Common.{map, length, length-append, ap, ◌∙◌, arith}
-use Rattle.std.proofs.lemmas.List.{length-map}
-use Rattle.rm_base.specs.declared.numbers.NodeId.{NodeId}
+use Rattle.std.proofs.Common.{◌∙◌, sym}
+use Rattle.gate_graph.specs.Circuit.{Circuit, IsGraph}
+use Rattle.gate_graph.proofs.Counted.{nodes-there}
+use Rattle.gate_graph.proofs.HeldPins.{observed-counted}
 use Rattle.gate_graph.proofs.state.Graph.observed_count.Goals as goal
 
-pub overflow_add-count : goal.overflow_add-count
-overflow_add-count c =
-    let i = c.loop.invariant in
-    let all = ap length i.all ∙ length-append (map (λ (n : NodeId). n.0) c.loop.yielded) c.loop.iterator' in
-    omega (arith, i.count, all, length-map c.loop.yielded (λ (n : NodeId). n.0), ap length c.in-Some.ensures.steps, c.observed-items.ensures.few, ap length c.observed-items.ensures.observed)
+pub input_count-requires : goal.input_count-requires
+input_count-requires c =
+    let v : Circuit = record { kinds = c.self.inside.kinds.items; pool = c.self.inside.pool; epoch = c.self.inside.epoch } in
+    let g : IsGraph v = c.self.invariant.0 in
+    nodes-there v g
+
+pub returns : goal.returns
+returns c =
+    let v : Circuit = record { kinds = c.self.inside.kinds.items; pool = c.self.inside.pool; epoch = c.self.inside.epoch } in
+    let g : IsGraph v = c.self.invariant.0 in
+    rw (← c.self.view_is) (c.input_count.ensures ∙ sym (observed-counted v))

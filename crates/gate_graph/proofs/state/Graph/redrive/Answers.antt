@@ -10,7 +10,8 @@ use Rattle.gate_graph.proofs.Ranked.{not-zero}
 use Rattle.gate_graph.proofs.Fanned.{reader-moves}
 use Rattle.gate_graph.proofs.LeadOns.{live-in}
 use Rattle.gate_graph.proofs.KindAt.{kind-within}
-use Rattle.gate_graph.proofs.HeldPins.{holds-by, linked-same}
+use Rattle.gate_graph.proofs.HeldPins.{holds-by}
+use Rattle.pin_pool.proofs.Public.{linked-same}
 use Rattle.std.proofs.Common.{List, length}
 use Rattle.gate_graph.specs.Holds.{held}
 use Rattle.gate_graph.specs.declared.entries.Entry.{Entry}

@@ -8,7 +8,8 @@ use Rattle.pin_pool.specs.Pins.{list_of}
 use Rattle.gate_graph.specs.Circuit.{gate_pins}
 use Rattle.gate_graph.proofs.Ranked.{not-zero}
 use Rattle.gate_graph.proofs.Fanned.{reader-goes}
-use Rattle.gate_graph.proofs.HeldPins.{holds-by, linked-less}
+use Rattle.gate_graph.proofs.HeldPins.{holds-by}
+use Rattle.pin_pool.proofs.Public.{linked-less}
 use Rattle.std.proofs.Common.{List, length}
 use Rattle.gate_graph.specs.Holds.{held}
 use Rattle.gate_graph.specs.declared.entries.Entry.{Entry}

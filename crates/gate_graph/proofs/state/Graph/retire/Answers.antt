@@ -11,7 +11,8 @@ use Rattle.gate_graph.proofs.Pinned.{has-at, map-none}
 use Rattle.gate_graph.proofs.Retiring.{emptied-start, emptied-step, retires, retire-count, gate-goes, gate-not_zero, none-first, some-first}
 use Rattle.std.specs.FinSet as finset
 use Rattle.gate_graph.proofs.Numbers.{bit-some}
-use Rattle.gate_graph.proofs.HeldPins.{holds-by, linked-less}
+use Rattle.gate_graph.proofs.HeldPins.{holds-by}
+use Rattle.pin_pool.proofs.Public.{linked-less}
 use Rattle.gate_graph.specs.Holds.{held}
 use Rattle.gate_graph.specs.declared.entries.Entry.{Entry}
 use Rattle.pin_pool.specs.Rings.{Rings}

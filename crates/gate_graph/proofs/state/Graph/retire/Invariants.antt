@@ -4,7 +4,7 @@ use Rattle.gate_graph.specs.Wirings.{free_in}
 use Rattle.gate_graph.specs.Circuit.{Circuit, kinds_live}
 use Rattle.gate_graph.specs.Emptied.{IsEmptied}
 use Rattle.gate_graph.specs.Holds.{held}
-use Rattle.gate_graph.proofs.HeldPins.{linked_pins}
+use Rattle.pin_pool.specs.Totals.{linked_pins}
 use Rattle.gate_graph.proofs.state.Graph.retire.Given as goal
 
 abbrev pub invariant-loop-pin : goal.invariant-loop-pin

@@ -2,7 +2,7 @@ use Rattle.std.proofs.Common.{ℕ}
 use Rattle.gate_graph.specs.Circuit.{net_of}
 use Rattle.gate_net.specs.Net.{IsLive}
 use Rattle.implications.proofs.tests.nets.add_not.Goals as goal
-use Rattle.refutation.proofs.Told.{each_of_one, live_from}
+use Rattle.refutation.proofs.Public.{each_of_one, live_from}
 
 pub add_gate-requires-clause-drivers : goal.add_gate-requires-clause-drivers
 add_gate-requires-clause-drivers c d e =

@@ -12,13 +12,16 @@ pub invariant_of-self : goal.invariant_of-self
 invariant_of-self c =
     let e = c.unlink-slot.ensures in (
       c.self-2.invariant.0,
-      pointed-after c.self.inside.store c.self-2.inside.store c.args.pin.0 c.args.gate c.args.position c.after-next.result
-          (subst (λ (v : Pins). IsApart (list_of v.inputs c.args.gate)) (sym c.self.view_is) (e.was_valid.rings.inputs.apart c.args.gate))
-          (rw (← c.self.view_is) at c.requires)
-          (ap (λ (v : Pins). list_of v.inputs c.args.gate) c.self-2.view_is
-          ∙ ap (λ (r : Rings). r.inputs c.args.gate) e.rings
-          ∙ ap (λ (v : Pins). without c.args.pin.0 (list_of v.inputs c.args.gate)) (sym c.self.view_is))
-          c.after-next.ensures,
+      (
+        pointed-after c.self.inside.store c.self-2.inside.store c.args.pin.0 c.args.gate c.args.position c.after-next.result
+            (subst (λ (v : Pins). IsApart (list_of v.inputs c.args.gate)) (sym c.self.view_is) (e.was_valid.rings.inputs.apart c.args.gate))
+            (rw (← c.self.view_is) at c.requires)
+            (ap (λ (v : Pins). list_of v.inputs c.args.gate) c.self-2.view_is
+            ∙ ap (λ (r : Rings). r.inputs c.args.gate) e.rings
+            ∙ ap (λ (v : Pins). without c.args.pin.0 (list_of v.inputs c.args.gate)) (sym c.self.view_is))
+            c.after-next.ensures,
+        c.self-2.invariant.1.1,
+      ),
     )
 
 pub returns-clause-others : goal.returns-clause-others

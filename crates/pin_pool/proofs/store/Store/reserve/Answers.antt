@@ -1,4 +1,4 @@
-use Rattle.std.proofs.Common.{ℕ, List, [], ◌-◌, ◌++◌, length, replicate, vec_len, arith, ap, ◌∙◌, length-append}
+use Rattle.std.proofs.Common.{ℕ, List, [], ◌-◌, ◌≤◌, ◌++◌, length, replicate, vec_len, arith, ap, ◌∙◌, length-append}
 use Rattle.std.proofs.lemmas.List.{length-replicate}
 use Rattle.pin_pool.specs.Links.{lists_of, numbers}
 use Rattle.pin_pool.specs.declared.links.Side.TheVariants.{Gate}
@@ -58,3 +58,13 @@ returns-clause-grown c =
     let free = c.in-Ok.ensures.free ∙ ap (λ n. inside.free.items ++ numbers n k) inside.pins.ok.0 in
     rw (← c.self.view_is, c.in-Ok.ensures.pins, free, c.in-Ok.ensures.gates, c.in-Ok.ensures.drivers)
     (grows-more inside.pins.items inside.free.items _ inside.gates.items inside.drivers.items k m c.self.invariant)
+
+pub returns-clause-exact : goal.returns-clause-exact
+returns-clause-exact c n nodes old =
+    let inside = c.self.inside in
+    let k = c.saturating_sub-more.result in
+    let m = c.max-nodes.result - vec_len inside.gates in
+    let lists = lists-more Gate inside.pins.items inside.gates.items k m c.self.invariant.gate_lists in
+    let before : length (lists_of Gate inside.pins.items inside.gates.items) ≤ n = rw (← c.self.view_is) at old in
+    rw (c.in-Ok.ensures.pins, c.in-Ok.ensures.gates, lists)
+    (omega (arith, length-append (lists_of Gate inside.pins.items inside.gates.items) (replicate m []), length-replicate {A = List ℕ} m [], c.self.invariant.gate_lists.sizes, c.max-nodes.ensures, c.len-2.ensures, inside.gates.ok.0, nodes, before))

@@ -1,9 +1,9 @@
 use Rattle.std.proofs.Common.{eqb-true, false, inl, inr, subst, sym, true, ℕ, ◌||◌, ◌≡◌}
 use Rattle.std.specs.Prelude.{eqb}
 use Rattle.gate_graph.specs.Circuit.{net_of}
-use Rattle.gate_net.proofs.Bools.{or_either}
+use Rattle.gate_net.proofs.Public.{or_either}
 use Rattle.gate_net.specs.Net.{IsLive}
-use Rattle.refutation.proofs.Told.{each_of_two, live_from}
+use Rattle.refutation.proofs.Public.{each_of_two, live_from}
 use Rattle.rar_loop.proofs.tests.nets.add_three.Goals as goal
 
 each_of_three : (P : ℕ → Type 0) (one other third d : ℕ) → P one → P other → P third → (eqb d one || (eqb d other || (eqb d third || false))) ≡ true → P d

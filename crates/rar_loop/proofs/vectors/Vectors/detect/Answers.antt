@@ -1,7 +1,16 @@
+use Rattle.std.proofs.Common.{ℕ, Option, Some, subst}
+use Rattle.gate_graph.specs.Circuit.{net_of}
+use Rattle.fault_sim.specs.BlockStates.{IsFirstVector, vector_of}
 use Rattle.fault_sim.specs.Words.{assignment}
 use Rattle.rar_loop.proofs.vectors.Vectors.detect.Goals as goal
 
-pub returns-clause-detected : goal.returns-clause-detected
-returns-clause-detected c = λ some.
-    let lane = c.any.ensures some in
+pub returns-then-any-clause-detected : goal.returns-then-any-clause-detected
+returns-then-any-clause-detected c = λ some.
+    let lane = c.any.ensures c.if-any.true in
     (assignment c.args.self.now.lanes.words lane.0, (c.detect.ensures.detects lane.0 lane.1.0).0 lane.1.1)
+
+pub returns-in-Some-clause-detected : goal.returns-in-Some-clause-detected
+returns-in-Some-clause-detected c = λ some.
+    let first : IsFirstVector (net_of c.args.graph.now) c.args.fault.now c.args.self.now.found.words (Some c.in-Some._vector) =
+    subst (λ (o : Option ℕ). IsFirstVector (net_of c.args.graph.now) c.args.fault.now c.args.self.now.found.words o) c.in-Some.is c.detects_any.ensures.first in
+    (vector_of c.args.self.now.found.words c.in-Some._vector, first.1.0)

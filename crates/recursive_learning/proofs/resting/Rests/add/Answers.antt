@@ -1,5 +1,5 @@
 use Rattle.std.proofs.Common.{get_or, ◌∙◌, ◌≡◌}
-use Rattle.refutation.proofs.Agendas.{read_is}
+use Rattle.refutation.proofs.Public.{read_is}
 use Rattle.recursive_learning.proofs.Indexes.{watched_last}
 use Rattle.recursive_learning.proofs.resting.Rests.add.Goals as goal
 

@@ -1,8 +1,8 @@
 use Rattle.std.proofs.Common.{ap, arith, get_or, length, length-set, refl, subst, suc, true, ◌-◌, ◌<◌, ◌∙◌, ◌≡◌, ◌≤◌, ℕ}
 use Rattle.std.specs.Prelude.{slice_index}
-use Rattle.gate_graph.proofs.Marking.{seen_kept, seen_new}
+use Rattle.gate_graph.proofs.Public.{seen_kept, seen_new}
 use Rattle.gate_graph.specs.Search.{IsSeen}
-use Rattle.refutation.proofs.Agendas.{read_is}
+use Rattle.refutation.proofs.Public.{read_is}
 use Rattle.recursive_learning.proofs.Indexes.{SeesFrom, entry_read, entry_within, last_itself, sees_first, sees_next}
 use Rattle.recursive_learning.proofs.resting.Rests.list_at.Goals as goal
 use Rattle.recursive_learning.specs.Resting.{IsLast, RestsState}

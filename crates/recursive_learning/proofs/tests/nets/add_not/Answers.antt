@@ -1,7 +1,7 @@
 use Rattle.std.proofs.Common.{ℕ}
 use Rattle.gate_net.specs.Net.{IsLive}
 use Rattle.gate_graph.specs.Circuit.{net_of}
-use Rattle.refutation.proofs.Told.{live_from, each_of_one}
+use Rattle.refutation.proofs.Public.{each_of_one, live_from}
 use Rattle.recursive_learning.proofs.tests.nets.add_not.Goals as goal
 
 pub add_gate-requires-clause-drivers : goal.add_gate-requires-clause-drivers

@@ -1,5 +1,5 @@
 use Rattle.gate_graph.specs.Circuit.{net_of}
-use Rattle.refutation.proofs.Told.{live_from}
+use Rattle.refutation.proofs.Public.{live_from}
 use Rattle.recursive_learning.proofs.tests.nets.observe.Goals as goal
 
 pub observe-requires-clause-node : goal.observe-requires-clause-node

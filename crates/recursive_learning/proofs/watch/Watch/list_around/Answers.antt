@@ -1,10 +1,8 @@
 use Rattle.std.proofs.Common.{ap, arith, inl, inr, length, subst, sym, ◌<◌, ◌∙◌}
 use Rattle.gate_graph.specs.Circuit.{net_of}
-use Rattle.refutation.proofs.Readers.{all_came, next_below}
+use Rattle.refutation.proofs.Public.{all_came, last_of, next_below, yielded_more}
 use Rattle.recursive_learning.proofs.Watches.{listed_still, room_still, still_join}
 use Rattle.recursive_learning.specs.Watching.{HasRoom, IsListedAt}
-use Rattle.refutation.proofs.OnlyReaders.{last_of}
-use Rattle.refutation.proofs.Yielding.{yielded_more}
 use Rattle.rm_base.specs.declared.numbers.NodeId.{NodeId}
 use Rattle.recursive_learning.proofs.watch.Watch.list_around.Goals as goal
 

@@ -1,12 +1,10 @@
 use Rattle.std.proofs.Common.{ap, arith, inl, inr, length, subst, sym, ◌<◌, ◌∙◌, ℕ}
 use Rattle.gate_graph.specs.Circuit.{net_of}
-use Rattle.refutation.proofs.Readers.{all_came, next_below}
+use Rattle.refutation.proofs.Public.{all_came, last_of, next_below, yielded_more}
 use Rattle.recursive_learning.proofs.Watches.{leaves_more, room_leaves}
 use Rattle.recursive_learning.proofs.Indexes.{watched_longer}
 use Rattle.recursive_learning.specs.Watching.{HasRoom}
 use Rattle.recursive_learning.specs.Resting.{IsWatched}
-use Rattle.refutation.proofs.OnlyReaders.{last_of}
-use Rattle.refutation.proofs.Yielding.{yielded_more}
 use Rattle.rm_base.specs.declared.numbers.NodeId.{NodeId}
 use Rattle.recursive_learning.proofs.watch.Watch.rest_around.Goals as goal
 

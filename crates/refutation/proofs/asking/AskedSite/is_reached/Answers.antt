@@ -1,6 +1,6 @@
+use Rattle.gate_looks.proofs.Public.{unreached}
 use Rattle.std.proofs.Common.{sym}
 use Rattle.gate_graph.specs.Circuit.{net_of}
-use Rattle.refutation.proofs.Sites.{unreached}
 use Rattle.refutation.proofs.asking.AskedSite.is_reached.Goals as goal
 
 pub returns-in_default-clause-reached : goal.returns-in_default-clause-reached

@@ -1,5 +1,9 @@
-use Rattle.std.proofs.Common.{◌∙◌, ap, List}
+use Rattle.std.proofs.Common.{◌≡◌, ◌∙◌, ℕ, ap, subst, List}
 use Rattle.std.specs.Prelude.{is_some}
+use Rattle.std.specs.Borrow.{Bor}
+use Rattle.std.specs.BTreeMap.{get_by}
+use Rattle.std.specs.Cmp.Lexicographic.{slice_cmp}
+use Rattle.std.specs.Ordering.{nat_cmp, ordering_then}
 use Rattle.rm_model.specs.Words.{Word}
 use Rattle.rm_model.specs.Value.{is_among}
 use Rattle.rm_model.specs.PlacedNames.{added_names}
@@ -7,4 +11,6 @@ use Rattle.rm_model.proofs.PlacedLemmas.{place-among}
 use Rattle.rm_model.proofs.name_table.NameTable.has.Goals as goal
 
 pub returns : goal.returns
-returns c = c.contains_key.ensures ∙ (ap is_some (c.self.invariant.at c.args.name.now) ∙ (place-among (added_names c.self.inside) c.args.name.now ∙ ap (λ (l : List Word). is_among l c.args.name.now) c.self.view_is))
+returns c =
+    subst (λ (h : ℕ). c.contains_key.result ≡ is_some (get_by (λ (a : ℕ × Bor Word). ordering_then (nat_cmp h a.0) (slice_cmp nat_cmp c.args.name.now a.1.now)) c.self.inside.places)) c.hash_of.ensures c.contains_key.ensures
+    ∙ (ap is_some (c.self.invariant.at c.args.name.now) ∙ (place-among (added_names c.self.inside) c.args.name.now ∙ ap (λ (l : List Word). is_among l c.args.name.now) c.self.view_is))

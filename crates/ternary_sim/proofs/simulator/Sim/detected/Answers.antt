@@ -3,8 +3,7 @@ use Rattle.std.specs.Prelude.{slice_get}
 use Rattle.rm_base.specs.declared.numbers.NodeId.{NodeId}
 use Rattle.gate_net.specs.Forward.{both_known_different}
 use Rattle.gate_graph.specs.Circuit.{net_of}
-use Rattle.refutation.proofs.OnlyReaders.{last_of}
-use Rattle.refutation.proofs.Yielding.{yielded_at, yielded_more}
+use Rattle.gate_looks.proofs.Public.{last_of, yielded_at, yielded_more}
 use Rattle.ternary_sim.specs.Marks.{good_at, faulty_at}
 use Rattle.ternary_sim.proofs.Loops.{whole, each_yielded}
 use Rattle.ternary_sim.proofs.simulator.Sim.detected.Goals as goal

@@ -2,8 +2,7 @@ use Rattle.std.proofs.Common.{◌≡◌, ◌∙◌, ℕ, ap, inl, inr, length, r
 use Rattle.std.specs.Prelude.{slice_get}
 use Rattle.rm_base.specs.declared.numbers.NodeId.{NodeId}
 use Rattle.gate_graph.specs.Circuit.{net_of}
-use Rattle.refutation.proofs.OnlyReaders.{last_of}
-use Rattle.refutation.proofs.Yielding.{yielded_at, yielded_more}
+use Rattle.gate_looks.proofs.Public.{last_of, yielded_at, yielded_more}
 use Rattle.ternary_sim.specs.Marks.{equal_at}
 use Rattle.ternary_sim.proofs.Loops.{whole, each_yielded}
 use Rattle.ternary_sim.proofs.simulator.Sim.quiet.Goals as goal

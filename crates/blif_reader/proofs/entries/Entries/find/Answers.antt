@@ -1,0 +1,12 @@
+use Rattle.std.proofs.Common.{List, ap, map, sym, ◌∙◌}
+use Rattle.rm_model.specs.Words.{Word}
+use Rattle.rm_model.specs.Numbers.{place_of}
+use Rattle.blif_reader.specs.declared.names.Entry.{Entry}
+use Rattle.blif_reader.proofs.PairLaws.{pair_names}
+use Rattle.blif_reader.proofs.entries.Entries.find.Goals as goal
+
+pub returns : goal.returns
+returns c =
+    c.place.ensures.place
+    ∙ (ap (λ (l : List Word). place_of l c.args.name.now) (sym (pair_names c.self.inside.names c.self.inside.entries.items c.self.invariant.same))
+    ∙ ap (λ (l : List (Word × Entry)). place_of (map (λ (p : Word × Entry). p.0) l) c.args.name.now) c.self.view_is)

@@ -1,6 +1,0 @@
-use Rattle.gate_graph.specs.Circuit.{net_of}
-use Rattle.gate_graph.proofs.KnownKinds.{kind-known}
-use Rattle.gate_graph.proofs.comparing.is_live.Goals as goal
-
-pub returns-in-Some : goal.returns-in-Some
-returns-in-Some c e = (_, kind-known (net_of c.args.graph.now) c.args.node.0 _ c.kind.result c.kind.ensures c.in-Some.is)

@@ -1,6 +1,0 @@
-use Rattle.std.proofs.Common.{◌≡◌}
-use Rattle.gate_graph.specs.Circuit.{fanouts_of}
-use Rattle.gate_graph.proofs.trying.is_unread.Given as goal
-
-abbrev pub invariant-loop : goal.invariant-loop
-invariant-loop l = l.iterator' ≡ fanouts_of l.graph l.fn.node.0

@@ -1,0 +1,10 @@
+pub mod Told
+pub mod Looks
+pub mod Walks
+pub mod Yielding
+pub mod OnlyReaders
+pub mod Agendas
+pub mod Readers
+pub mod Reaches
+pub mod Sites
+pub mod Public

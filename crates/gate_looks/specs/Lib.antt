@@ -1,0 +1,6 @@
+pub mod Agendas
+pub mod Pins
+pub mod Reaching
+pub mod Chains
+pub mod Walks
+pub mod Sites

@@ -1,0 +1,10 @@
+//! Looks at gates: what follows from what is known of their pins, what they reach, and the nodes that are to be looked at.
+#![tactic(auto)]
+
+pub mod agenda;
+pub mod chains;
+pub mod drivers;
+pub mod glances;
+pub mod pins;
+mod reaching;
+pub mod site;

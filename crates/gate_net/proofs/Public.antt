@@ -1,0 +1,39 @@
+-- What this crate proves of its definitions, for the proofs of the crates above. They import nothing of its proofs but through this file.
+
+-- A pin that is added keeps the values.
+pub use Rattle.gate_net.proofs.Added.{adds_keep}
+-- Induction along the pins of an acyclic net, and what nodes read.
+pub use Rattle.gate_net.proofs.AlongPins.{along_pins, reads_agree, reads_elsewhere, reads_faulty, reads_there}
+pub use Rattle.gate_net.proofs.AlongPins.{value_at}
+-- Tests and values.
+pub use Rattle.gate_net.proofs.Bools.{and_both, bool_cases, never_opposite, not_not, not_true, or_either, or_true}
+pub use Rattle.gate_net.proofs.Bools.{same_bool_false, same_bool_not, same_bool_refl, same_bool_true}
+-- The kinds of the constants.
+pub use Rattle.gate_net.proofs.Constants.{constant_is}
+-- Nodes after an edit.
+pub use Rattle.gate_net.proofs.Edited.{flatten_some, live_reader, node_at-other, node_at-there}
+-- A pin that reads a constant instead keeps the values and the order.
+pub use Rattle.gate_net.proofs.Fixed.{fixes_keep, fixes_keep_acyclic}
+-- What follows forward and backward at a gate is right.
+pub use Rattle.gate_net.proofs.Follows.{Approximates, approximates_map, approximates_set, is_known_true}
+pub use Rattle.gate_net.proofs.Follows.{value_back_right, value_forward_right}
+-- The values of gates.
+pub use Rattle.gate_net.proofs.Junctions.{controlled, first_is, gate_more, junction_member}
+-- Readers that move keep the values and the order.
+pub use Rattle.gate_net.proofs.Moved.{drivers_redirected, moves_keep, moves_keep_acyclic, node_at-moved}
+pub use Rattle.gate_net.proofs.Moved.{redirect_cases}
+-- New ranks after an edit.
+pub use Rattle.gate_net.proofs.Ordered.{after_right, after_there, after_upward, is_after, pins_keep_acyclic}
+-- What stands at a place of a list.
+pub use Rattle.gate_net.proofs.Places.{last_cases, map_agree, map_at, map_last_set, map_pointwise, map_set, set_cases}
+pub use Rattle.gate_net.proofs.Places.{set_other, set_there}
+-- Forward reading is right, and there is only one.
+pub use Rattle.gate_net.proofs.Readings.{both_known, readings_agree, readings_hold}
+-- How far a fault changes values.
+pub use Rattle.gate_net.proofs.Spread.{chain_reader, chain_start, same_elsewhere, same_idle, same_observed}
+pub use Rattle.gate_net.proofs.Spread.{same_outside}
+-- What follows at a gate still follows where more is known.
+pub use Rattle.gate_net.proofs.Stays.{AllStay, Stays, all_but_stays, all_not_any, all_stay, back_stays, both_and}
+pub use Rattle.gate_net.proofs.Stays.{forward_stays, is_known_some, is_known_stays, kind_stays, reads_stay, stay_map}
+-- There is one valuation, and only one.
+pub use Rattle.gate_net.proofs.Valuations.{values_unique}

@@ -1,0 +1,12 @@
+use Rattle.std.proofs.Common.{Some, length, ℕ, ◌<◌, ◌≡◌}
+use Rattle.std.specs.Prelude.{slice_get}
+use Rattle.gate_graph.specs.Search.{IsSeen}
+use Rattle.implications.proofs.basis.list_all.Given as goal
+use Rattle.rm_base.specs.declared.numbers.NodeId.{NodeId}
+
+abbrev pub invariant-loop-node : goal.invariant-loop-node
+invariant-loop-node l = record {
+  all : (k : ℕ) (n : NodeId) → k < l.node-index → slice_get l.nodes k ≡ Some n → IsSeen l.agenda n.0;
+  kept : (z : ℕ) → IsSeen l.initial.agenda z → IsSeen l.agenda z;
+  size : length l.agenda ≡ length l.initial.agenda;
+}

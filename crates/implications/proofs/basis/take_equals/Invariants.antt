@@ -1,0 +1,6 @@
+use Rattle.implications.proofs.Bases.{AmongFirst}
+use Rattle.implications.proofs.basis.take_equals.Given as goal
+use Rattle.implications.specs.Bases.{TakesEquals}
+
+abbrev pub invariant-loop-number : goal.invariant-loop-number
+invariant-loop-number l = TakesEquals (AmongFirst l.numbers l.number-index) l.initial.facts l.initial.taken l.facts l.taken

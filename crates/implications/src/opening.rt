@@ -1,0 +1,154 @@
+// Closing in place, and coming to rest again.
+ghost use Rattle.std.specs.Prelude.{◌≡◌, ◌≤◌, List, [], IfOk, IsTrue, OnErr, false, length, replicate};
+ghost use Rattle.gate_graph.specs.Circuit.{net_of};
+ghost use Rattle.gate_net.specs.Net.{Net};
+ghost use Rattle.gate_net.specs.Values.{HasPin};
+ghost use Rattle.refutation.specs.FactSets.{held_by};
+ghost use Rattle.refutation.specs.declared.held.NodeFacts.{NodeFacts};
+ghost use Rattle.refutation.specs.Reaching.{MarksReached};
+ghost use Rattle.implications.specs.Bases.{ArePinless, ComesToRest, HasRoom, IsBegun, IsFor, IsOpened, IsRest};
+ghost use Rattle.implications.specs.Outside.{AreOutside};
+ghost use Rattle.implications.specs.Working.{IsPending};
+
+use crate::basis::{Basis, list_all, put_back, take_equal, take_equals};
+use crate::closing::add_all_lines;
+use crate::extending::take_off;
+use crate::log::{Log, start};
+use crate::state::Engine;
+use crate::tallies::Tallies;
+use gate_graph::Graph;
+use refutation::agenda::Agenda;
+use refutation::site::Site;
+use refutation::{Fact, FactSet};
+use rm_base::{Fault, NoMemory, NodeId};
+
+// Takes back what was added, and holds again that the taken nodes are equal: that takes the time of both lists, and no
+// memory.
+fn come_to_rest(trail: &mut Vec<(NodeId, Fact)>, facts: &mut FactSet, taken: &mut Agenda)
+    requires { length taken.old ≤ length facts.old }
+    ensures rest { (net : Net) → ComesToRest net trail.old.items taken.old facts.old → IsRest net (held_by facts.new) }
+    ensures size { length facts.new ≡ length facts.old }
+    ensures trail { trail.new.items ≡ [] }
+    ensures taken { taken.new ≡ replicate (length taken.old) false }
+{
+    take_off(trail, facts, 0);
+    put_back(facts, taken);
+}
+
+// From rest to what the faulty gate doesn't reach.
+fn take_reached(graph: &Graph, fault: &Fault, site: &Site, facts: &mut FactSet, taken: &mut Agenda)
+    requires pin { HasPin (net_of graph.now) fault.now }
+    requires site { MarksReached (net_of graph.now) fault.now.gate.0 site.now.reached }
+    requires facts { length (net_of graph.now).nodes ≤ length facts.old }
+    requires taken { length (net_of graph.now).nodes ≤ length taken.old }
+    requires rest { IsRest (net_of graph.now) (held_by facts.old) }
+    requires none { taken.old ≡ replicate (length taken.old) false }
+    ensures begun { IsBegun (net_of graph.now) fault.now facts.new taken.new }
+    ensures size { length facts.new ≡ length facts.old }
+    ensures room { length taken.new ≡ length taken.old }
+{
+    graph.well_formed();
+    take_equal(facts, taken, fault.gate);
+    take_equals(site.reached_numbers(), facts, taken);
+}
+
+// Puts each node on the agenda that isn't settled by what the faulty gate doesn't reach.
+fn list_unsettled(graph: &Graph, fault: &Fault, pinless: &[NodeId], agenda: &mut Agenda)
+    requires pin { HasPin (net_of graph.now) fault.now }
+    requires pinless { ArePinless (net_of graph.now) pinless.now }
+    requires agenda { length (net_of graph.now).nodes ≤ length agenda.old }
+    ensures pending { (facts : List NodeFacts) → AreOutside (net_of graph.now) fault.now (held_by facts) → IsPending (net_of graph.now) fault.now facts agenda.new }
+    ensures size { length agenda.new ≡ length agenda.old }
+{
+    graph.well_formed();
+    list_all(pinless, agenda);
+    agenda.add(NodeId(0));
+    agenda.add(NodeId(1));
+    agenda.add(fault.gate);
+}
+
+// Closes what the faulty gate doesn't reach, in place.
+fn open_begun(
+    graph: &Graph,
+    fault: &Fault,
+    basis: &mut Basis,
+    log: &mut Log,
+    agenda: &mut Agenda,
+    tallies: &mut Tallies,
+) -> Result<Option<NodeId>, NoMemory>
+    requires pin { HasPin (net_of graph.now) fault.now }
+    requires room { HasRoom (net_of graph.now) basis.old }
+    requires begun { IsBegun (net_of graph.now) fault.now basis.old.facts basis.old.taken }
+    requires pinless { ArePinless (net_of graph.now) basis.old.pinless.items }
+    requires lines { log.old.lines.items ≡ [] }
+    requires trail { log.old.trail.items ≡ [] }
+    requires agenda { length (net_of graph.now).nodes ≤ length agenda.old }
+    requires tallies { length (net_of graph.now).nodes ≤ length tallies.old.counted }
+    requires uncounted { tallies.old.counted ≡ replicate (length tallies.old.counted) false }
+    ensures opened { IfOk result (IsOpened (net_of graph.now) fault.now log.new.lines.items basis.new.facts) }
+    ensures rest { ComesToRest (net_of graph.now) log.new.trail.items basis.new.taken basis.new.facts }
+    ensures room { HasRoom (net_of graph.now) basis.new }
+    ensures pinless { basis.new.pinless ≡ basis.old.pinless }
+    ensures agenda { length agenda.new ≡ length agenda.old }
+    ensures tallies { length tallies.new.counted ≡ length tallies.old.counted }
+{
+    graph.well_formed();
+    list_unsettled(graph, fault, &basis.pinless, agenda);
+    add_all_lines(graph, fault, &mut basis.facts, log, agenda, tallies)
+}
+
+impl Engine {
+    /// Whether there is room for the node numbers of the graph.
+    pub fn has_room(&self, graph: &Graph) -> bool
+        ensures { IsTrue result → length (net_of graph.now).nodes ≤ self.now.numbers }
+    {
+        graph.node_bound() as usize <= self.agenda.len()
+    }
+
+    /// No fact is on the trail any more; those that are held stay.
+    pub fn forget(&mut self)
+        ensures numbers { self.new.numbers ≡ self.old.numbers }
+        ensures trail { self.new.trail ≡ [] }
+    {
+        self.log.trail.clear();
+    }
+
+    /// Closes no facts under every line of reasoning about the fault, in place; the node of a clash is answered. It comes to
+    /// rest first. What the faulty gate doesn't reach is held to be equal without a line, and the facts that lines lead to
+    /// stand on the trail. It takes the time of what the faulty gate reaches and of what follows from there.
+    pub fn open(
+        &mut self,
+        graph: &Graph,
+        fault: &Fault,
+        basis: &mut Basis,
+    ) -> Result<Option<NodeId>, NoMemory>
+        requires pin { HasPin (net_of graph.now) fault.now }
+        requires serves { IsFor (net_of graph.now) self.old basis.old }
+        ensures opened { IfOk result (IsOpened (net_of graph.now) fault.now self.new.lines basis.new.facts) }
+        ensures serves { IsFor (net_of graph.now) self.new basis.new }
+        ensures refused { OnErr result (self.new.lines ≡ []) }
+    {
+        graph.well_formed();
+        let _mark = start(&mut self.log);
+        come_to_rest(&mut self.log.trail, &mut basis.facts, &mut basis.taken);
+        self.site.mark_reached(graph, fault.gate);
+        take_reached(graph, fault, &self.site, &mut basis.facts, &mut basis.taken);
+        let answer = open_begun(
+            graph,
+            fault,
+            basis,
+            &mut self.log,
+            &mut self.agenda,
+            &mut self.tallies,
+        );
+        self.agenda.clear();
+        self.tallies.clear();
+        match answer {
+            Ok(found) => Ok(found),
+            Err(NoMemory) => {
+                self.log.lines.clear();
+                Err(NoMemory)
+            }
+        }
+    }
+}

@@ -1,0 +1,16 @@
+-- What this crate proves of its definitions, for the proofs of the crates above. They import nothing of its proofs but through this file.
+
+-- What links spell, once one is written.
+pub use Rattle.pin_pool.proofs.LinkLemmas.{length-apart}
+-- Lists of pins once a pin is put in or taken out.
+pub use Rattle.pin_pool.proofs.ListLaws.{has-put_after}
+-- What a pool keeps, call by call.
+pub use Rattle.pin_pool.proofs.PoolLemmas.{has-append, has-push}
+-- What comes before and after each number, once a number is put in or taken out.
+pub use Rattle.pin_pool.proofs.RingLemmas.{has-without, without-absent, without-push}
+-- The pool's lists as functions of the node number.
+pub use Rattle.pin_pool.proofs.RingsOf.{changed-other, changed-same, has-within, same-rings}
+-- What a call did is undone.
+pub use Rattle.pin_pool.proofs.Undone.{back, stands}
+-- Sums of the lengths of lists, and how many pins are linked.
+pub use Rattle.pin_pool.proofs.Totalled.{in-listed, length-listed, length-put_after, len-one_less, linked-less, linked-more, linked-over, linked-same, listed_from, no-pins-from, pins-at, pins-bound, pins-few, pins-more, pins-split, within-set}

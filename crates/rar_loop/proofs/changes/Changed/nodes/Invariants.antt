@@ -1,0 +1,11 @@
+use Rattle.std.proofs.Common.{◌≡◌, ◌<◌, ℕ, Some}
+use Rattle.std.specs.Prelude.{slice_get}
+use Rattle.gate_net.specs.Net.{Reads}
+use Rattle.gate_graph.specs.Circuit.{net_of}
+use Rattle.rar_loop.specs.Changing.{IsUnlisted, numbers_of}
+use Rattle.rar_loop.proofs.changes.Changed.nodes.Given as goal
+
+abbrev pub invariant-loop-place : goal.invariant-loop-place
+invariant-loop-place l = record {
+  listed : (y : ℕ) → IsUnlisted (numbers_of l.nodes.items) y → IsUnlisted (numbers_of l.self.gates.items) y × ((j driver : ℕ) → j < l.place → slice_get (numbers_of l.self.homes.items) j ≡ Some driver → (position : ℕ) → Reads (net_of l.graph) y position driver → ⊥);
+}

@@ -1,0 +1,264 @@
+//! Refuting fault after fault, on a net that may change between them.
+ghost use Rattle.std.specs.Prelude.{◌≡◌, ◌≤◌, ◌↔◌, IfOk, IsSome, IsTrue, OnOk, length};
+ghost use Rattle.gate_net.specs.Net.{Net};
+ghost use Rattle.gate_net.specs.Values.{HasPin};
+ghost use Rattle.gate_graph.specs.Circuit.{net_of};
+ghost use Rattle.implications.specs.Bases.{IsFor};
+ghost use Rattle.refutation.specs.Branches.{AreAccepted};
+ghost use Rattle.refutation.specs.Closing.{Clashes};
+ghost use Rattle.refutation.specs.Facts.{none_held};
+ghost use Rattle.refutation.specs.FactSets.{held_by};
+ghost use Rattle.refutation.specs.Learning.{LeadsToClash};
+ghost use Rattle.recursive_learning.specs.Bodies.{IsBody};
+ghost use Rattle.recursive_learning.specs.Serving.{AreGoodsAdded, HasAllRoom, IsLevel, IsMade, IsRefuted, IsServing, IsShut};
+ghost use Rattle.recursive_learning.specs.Watching.{HasRoom};
+
+use crate::bodies::{clash_body, learned_body, whole_tree};
+use crate::refuting::deepen;
+use crate::watch::Watch;
+use gate_graph::Graph;
+use implications::Engine;
+use implications::basis::Basis;
+use refutation::{Fact, FactSet, Tree};
+use refutation_check::Shortener;
+use rm_base::{Fault, NoMemory, NodeId};
+use std::alloc::Global;
+
+/// Refutes stuck pins of one net after another, in the time of what the faults touch. It is fitted to a net by `fit`, and
+/// serves it until the net changes.
+#[derive(Drop)]
+pub struct Refuter {
+    alloc: Global,
+    engine: Engine,
+    basis: Basis,
+    watch: Watch,
+    taught: Vec<NodeId>,
+    shortener: Shortener,
+}
+
+// Learns from no facts to the depth; the first depth at which they lead to a clash.
+fn learn_to(
+    alloc: Global,
+    engine: &mut Engine,
+    graph: &Graph,
+    fault: &Fault,
+    basis: &mut Basis,
+    watch: &mut Watch,
+    taught: &mut Vec<NodeId>,
+    depth: u8,
+) -> Result<Option<u8>, NoMemory>
+    requires pin { HasPin (net_of graph.now) fault.now }
+    requires serves { IsFor (net_of graph.now) engine.old basis.old }
+    requires room { HasRoom (net_of graph.now) watch.old }
+    requires depth { depth ≤ 2 }
+    ensures level { IfOk result (IsLevel (net_of graph.now) fault.now depth basis.new.facts) }
+    ensures serves { OnOk result (IsFor (net_of graph.now) engine.new basis.new) }
+    ensures room { OnOk result (HasRoom (net_of graph.now) watch.new) }
+{
+    graph.well_formed();
+    if let Some(_node) = engine.open(graph, fault, basis)? {
+        return Ok(Some(0));
+    }
+    watch.forget();
+    watch.begin_added(engine.added(0));
+    deepen(
+        alloc,
+        engine,
+        graph,
+        fault,
+        &mut basis.facts,
+        watch,
+        taught,
+        depth,
+    )
+}
+
+// The items of a fault that leads to a clash at the depth, from what the faulty gate doesn't reach.
+fn body_at(
+    alloc: Global,
+    engine: &mut Engine,
+    graph: &Graph,
+    fault: &Fault,
+    basis: &mut Basis,
+    watch: &mut Watch,
+    level: u8,
+    taught: &[NodeId],
+) -> Result<Tree, NoMemory>
+    requires pin { HasPin (net_of graph.now) fault.now }
+    requires serves { IsFor (net_of graph.now) engine.old basis.old }
+    requires room { HasRoom (net_of graph.now) watch.old }
+    requires clash { LeadsToClash (net_of graph.now) fault.now level none_held }
+    ensures body { IfOk result (IsBody (net_of graph.now) fault.now) }
+    ensures serves { OnOk result (IsFor (net_of graph.now) engine.new basis.new) }
+    ensures room { OnOk result (HasRoom (net_of graph.now) watch.new) }
+{
+    graph.well_formed();
+    watch.forget();
+    if let Some(node) = engine.open(graph, fault, basis)? {
+        return clash_body(alloc, engine, graph, fault, node);
+    }
+    learned_body(
+        alloc,
+        engine,
+        graph,
+        fault,
+        watch,
+        level,
+        taught,
+        &mut basis.facts,
+    )
+}
+
+// The tree of these items, with as few lines as they rest on; with all where the checker doesn't accept that.
+fn tree_of(
+    alloc: Global,
+    engine: &mut Engine,
+    graph: &Graph,
+    fault: &Fault,
+    shortener: &mut Shortener,
+    body: &Tree,
+) -> Result<Tree, NoMemory>
+    requires pin { HasPin (net_of graph.now) fault.now }
+    requires numbers { length (net_of graph.now).nodes ≤ engine.old.numbers }
+    requires room { length (net_of graph.now).nodes ≤ shortener.old }
+    requires body { IsBody (net_of graph.now) fault.now body.now }
+    ensures accepted { IfOk result (λ t. AreAccepted (net_of graph.now) fault.now t) }
+    ensures numbers { engine.new.numbers ≡ engine.old.numbers }
+    ensures trail { engine.new.trail ≡ engine.old.trail }
+    ensures room { shortener.new ≡ shortener.old }
+{
+    if let Some(short) = shortener.tree(graph, fault, body.items())? {
+        return Ok(short);
+    }
+    whole_tree(alloc, engine, graph, fault, body)
+}
+
+impl Refuter {
+    /// For node numbers below `numbers`; it is to be fitted to a net.
+    pub fn new(alloc: Global, numbers: u32) -> Result<Refuter, NoMemory>
+        ensures { IfOk result (IsMade numbers) }
+    {
+        Ok(Refuter {
+            alloc,
+            engine: Engine::for_numbers(alloc, numbers)?,
+            basis: Basis::new(alloc, numbers)?,
+            watch: Watch::new(alloc, numbers)?,
+            taught: Vec::new(alloc),
+            shortener: Shortener::new(alloc, numbers)?,
+        })
+    }
+
+    // Whether there is room for the node numbers of the graph.
+    fn has_room(&self, graph: &Graph) -> bool
+        ensures { IsTrue result → HasAllRoom (net_of graph.now) self.now }
+    {
+        if !self.engine.has_room(graph) {
+            return false;
+        }
+        if !self.shortener.has_room(graph) {
+            return false;
+        }
+        self.basis.has_room(graph) && self.watch.has_room(graph)
+    }
+
+    // Makes room for the node numbers of the graph, where there is too little.
+    fn make_room(&mut self, graph: &Graph) -> Result<(), NoMemory>
+        ensures { OnOk result (HasAllRoom (net_of graph.now) self.new) }
+    {
+        if self.has_room(graph) {
+            return Ok(());
+        }
+        let more = Refuter::new(self.alloc, graph.node_bound())?;
+        *self = more;
+        Ok(())
+    }
+
+    /// Fits it to the net of the graph, which it serves from then on until that changes. It makes more room where there is
+    /// too little, and goes over the whole net. After want of memory, here or in another call, it is to be fitted again.
+    pub fn fit(&mut self, graph: &Graph) -> Result<(), NoMemory>
+        ensures serves { OnOk result (IsServing (net_of graph.now) self.new) }
+    {
+        self.make_room(graph)?;
+        self.engine.forget();
+        self.basis.fit(self.alloc, graph)?;
+        Ok(())
+    }
+
+    /// Closes no facts under every line of reasoning about the fault; whether that is a clash. Where it isn't, `facts` are
+    /// all to which lines lead.
+    pub fn close(&mut self, graph: &Graph, fault: &Fault) -> Result<bool, NoMemory>
+        requires pin { HasPin (net_of graph.now) fault.now }
+        requires serves { IsServing (net_of graph.now) self.old }
+        ensures shut { IfOk result (IsShut (net_of graph.now) fault.now self.new.basis.facts) }
+        ensures exact { IfOk result (λ clash. IsTrue clash ↔ Clashes (net_of graph.now) fault.now) }
+        ensures serves { OnOk result (IsServing (net_of graph.now) self.new) }
+    {
+        Ok(self.engine.open(graph, fault, &mut self.basis)?.is_some())
+    }
+
+    /// Refutes a stuck pin by learning to the depth. A tree comes exactly where no set of facts without opposed facts is
+    /// closed at that depth; what its ends don't rest on is left out of it. Else `facts` are the least such set. It looks for
+    /// a clash at the smaller depths first.
+    pub fn refute(
+        &mut self,
+        graph: &Graph,
+        fault: &Fault,
+        depth: u8,
+    ) -> Result<Option<Tree>, NoMemory>
+        requires pin { HasPin (net_of graph.now) fault.now }
+        requires serves { IsServing (net_of graph.now) self.old }
+        requires depth { depth ≤ 2 }
+        ensures refuted { IfOk result (IsRefuted (net_of graph.now) fault.now depth self.new.basis.facts) }
+        ensures exact { IfOk result (λ t. IsSome t ↔ LeadsToClash (net_of graph.now) fault.now depth none_held) }
+        ensures serves { OnOk result (IsServing (net_of graph.now) self.new) }
+    {
+        self.taught.clear();
+        let found = learn_to(
+            self.alloc,
+            &mut self.engine,
+            graph,
+            fault,
+            &mut self.basis,
+            &mut self.watch,
+            &mut self.taught,
+            depth,
+        )?;
+        let Some(level) = found else {
+            return Ok(None);
+        };
+        let body = body_at(
+            self.alloc,
+            &mut self.engine,
+            graph,
+            fault,
+            &mut self.basis,
+            &mut self.watch,
+            level,
+            &self.taught,
+        )?;
+        let tree = tree_of(
+            self.alloc,
+            &mut self.engine,
+            graph,
+            fault,
+            &mut self.shortener,
+            &body,
+        )?;
+        Ok(Some(tree))
+    }
+
+    /// The facts that the last call left: where it found no clash, they are closed as it says.
+    pub fn facts(&self) -> &FactSet
+        ensures { result.now ≡ self.now.basis.facts }
+    {
+        &self.basis.facts
+    }
+
+    /// The facts that lines led to and that were learned, in order; each good value that is held is among them.
+    pub fn added(&self) -> &[(NodeId, Fact)]
+        ensures added { result.now ≡ self.now.engine.trail }
+        ensures goods { (net : Net) → IsServing net self.now → AreGoodsAdded (held_by self.now.basis.facts) result.now }
+    {
+        self.engine.added(0)
+    }
+}

@@ -1,0 +1,5 @@
+use Rattle.std.proofs.Common.{◌≡◌}
+use Rattle.refutation_check.proofs.shortening.read_all.Given as goal
+
+abbrev pub invariant-loop-item : goal.invariant-loop-item
+invariant-loop-item l = record { numbers : l.account.trail.numbers ≡ l.initial.account.trail.numbers }

@@ -1,0 +1,258 @@
+// Making tree after tree of the items that were written for them.
+ghost use Rattle.std.specs.Prelude.{◌≡◌, ◌≤◌, IfOk, IfSome, IsTrue, OnOk, length};
+ghost use Rattle.gate_net.specs.Values.{HasPin};
+ghost use Rattle.gate_graph.specs.Circuit.{net_of};
+ghost use Rattle.refutation.specs.Branches.{AreAccepted};
+ghost use Rattle.refutation.specs.Sites.{IsSiteOf};
+
+use crate::account::Account;
+use crate::checker::TreeChecker;
+use crate::kept::Kept;
+use crate::refusals::CheckRefusal;
+use gate_graph::Graph;
+use refutation::following::gate_pins;
+use refutation::site::Site;
+use refutation::{Fact, Form, Item, Line, Tree};
+use rm_base::{Fault, NoMemory, NodeId};
+use std::alloc::Global;
+use std::marker::Model;
+
+/// Makes trees of items that were written for them, one after another, on graphs that may change between them, for the
+/// node numbers below a bound. It keeps its room.
+#[derive(Drop)]
+pub struct Shortener {
+    alloc: Global,
+    numbers: u32,
+    site: Site,
+    account: Account,
+    kept: Kept,
+    checker: TreeChecker,
+}
+
+impl Model for Shortener {
+    ghost use Rattle.std.specs.Prelude.{◌≡◌, ℕ, length};
+
+    ghost Value = { ℕ };
+
+    ghost view = { λ s. s.numbers };
+
+    ghost invariant = { λ s. (length s.site.reached ≡ s.numbers) × (s.checker ≡ s.numbers) };
+}
+
+// The node whose facts, with its drivers', the line's condition asks for.
+fn place_of(line: Line) -> Option<NodeId> {
+    match line {
+        Line::Act | Line::Site | Line::Chain { .. } | Line::Out { .. } => None,
+        Line::Constant { .. } => None,
+        Line::GoodForward { node } | Line::FaultyForward { node } | Line::Compare { node } => {
+            Some(node)
+        }
+        Line::ToFaulty { node } | Line::ToGood { node } | Line::EqualForward { node } => Some(node),
+        Line::NotDiffers { node } | Line::NotEqual { node } => Some(node),
+        Line::GoodBack { node, .. } | Line::FaultyBack { node, .. } => Some(node),
+        Line::DiffersBack { node, .. } | Line::Side { node, .. } => Some(node),
+    }
+}
+
+// Reads that the node is equal, where the faulty gate doesn't reach it and that wasn't read.
+fn ask_at(
+    graph: &Graph,
+    fault: &Fault,
+    site: &Site,
+    account: &mut Account,
+    node: NodeId,
+) -> Result<(), NoMemory>
+    requires pin { HasPin (net_of graph.now) fault.now }
+    requires site { IsSiteOf (net_of graph.now) fault.now.gate.0 site.now }
+    requires numbers { length (net_of graph.now).nodes ≤ account.old.trail.numbers }
+    ensures { OnOk result (account.new.trail.numbers ≡ account.old.trail.numbers) }
+{
+    if account.holds(node, Fact::Equal) {
+        return Ok(());
+    }
+    let _is_outside = account.read(graph, fault, site, Item::Line(Line::Out { node }))?;
+    Ok(())
+}
+
+// Reads so what isn't reached of a node and its drivers.
+fn ask_around(
+    graph: &Graph,
+    fault: &Fault,
+    site: &Site,
+    account: &mut Account,
+    node: NodeId,
+) -> Result<(), NoMemory>
+    requires pin { HasPin (net_of graph.now) fault.now }
+    requires site { IsSiteOf (net_of graph.now) fault.now.gate.0 site.now }
+    requires numbers { length (net_of graph.now).nodes ≤ account.old.trail.numbers }
+    ensures { OnOk result (account.new.trail.numbers ≡ account.old.trail.numbers) }
+{
+    let Some(_kind) = graph.kind(node) else {
+        return Ok(());
+    };
+    ask_at(graph, fault, site, account, node)?;
+    for driver in gate_pins(graph, node) {
+        ask_at(graph, fault, site, account, driver)?;
+    }
+    Ok(())
+}
+
+// Reads so what an item may rest on.
+fn ask_for(
+    graph: &Graph,
+    fault: &Fault,
+    site: &Site,
+    account: &mut Account,
+    item: Item,
+) -> Result<(), NoMemory>
+    requires pin { HasPin (net_of graph.now) fault.now }
+    requires site { IsSiteOf (net_of graph.now) fault.now.gate.0 site.now }
+    requires numbers { length (net_of graph.now).nodes ≤ account.old.trail.numbers }
+    ensures { OnOk result (account.new.trail.numbers ≡ account.old.trail.numbers) }
+{
+    match item {
+        Item::Line(line) => match place_of(line) {
+            Some(node) => ask_around(graph, fault, site, account, node),
+            None => Ok(()),
+        },
+        Item::Clash(node) => ask_at(graph, fault, site, account, node),
+        Item::Split { .. } | Item::Quiet | Item::Here | Item::Untried => Ok(()),
+    }
+}
+
+// Reads so what the items may rest on.
+fn ask_for_all(
+    graph: &Graph,
+    fault: &Fault,
+    site: &Site,
+    account: &mut Account,
+    items: &[Item],
+) -> Result<(), NoMemory>
+    requires pin { HasPin (net_of graph.now) fault.now }
+    requires site { IsSiteOf (net_of graph.now) fault.now.gate.0 site.now }
+    requires numbers { length (net_of graph.now).nodes ≤ account.old.trail.numbers }
+    ensures { OnOk result (account.new.trail.numbers ≡ account.old.trail.numbers) }
+{
+    for item in items {
+        ask_for(graph, fault, site, account, *item)?;
+    }
+    Ok(())
+}
+
+// Reads the items; false where one isn't of a closed tree, or a line's condition isn't met.
+fn read_all(
+    graph: &Graph,
+    fault: &Fault,
+    site: &Site,
+    account: &mut Account,
+    items: &[Item],
+) -> Result<bool, NoMemory>
+    requires pin { HasPin (net_of graph.now) fault.now }
+    requires site { IsSiteOf (net_of graph.now) fault.now.gate.0 site.now }
+    requires numbers { length (net_of graph.now).nodes ≤ account.old.trail.numbers }
+{
+    for item in items {
+        if !account.read(graph, fault, site, *item)? {
+            return Ok(false);
+        }
+    }
+    Ok(true)
+}
+
+// What the ends of the items that were read rest on.
+fn keep_all(account: &mut Account, kept: &mut Kept) -> Result<(), NoMemory> {
+    for _ in 0..account.len() {
+        if let Some(step) = account.pop() {
+            kept.go_back(account, step)?;
+        }
+    }
+    Ok(())
+}
+
+// What is left of the items where what nothing rests on is left out, behind lines by which nodes that aren't reached are
+// equal; None where some item is none of a closed tree.
+fn left_of(
+    alloc: Global,
+    graph: &Graph,
+    fault: &Fault,
+    site: &Site,
+    account: &mut Account,
+    kept: &mut Kept,
+    items: &[Item],
+) -> Result<Option<Tree>, NoMemory>
+    requires pin { HasPin (net_of graph.now) fault.now }
+    requires site { IsSiteOf (net_of graph.now) fault.now.gate.0 site.now }
+    requires numbers { length (net_of graph.now).nodes ≤ account.old.trail.numbers }
+{
+    account.clear();
+    kept.clear();
+    ask_for_all(graph, fault, site, account, items)?;
+    if !read_all(graph, fault, site, account, items)? {
+        return Ok(None);
+    }
+    keep_all(account, kept)?;
+    let tree = kept.tree(alloc)?;
+    Ok(Some(tree))
+}
+
+impl Shortener {
+    /// For the node numbers below `numbers`.
+    pub fn new(alloc: Global, numbers: u32) -> Result<Shortener, NoMemory>
+        ensures { IfOk result (λ s. s ≡ numbers) }
+    {
+        Ok(Shortener {
+            alloc,
+            numbers,
+            site: Site::new(alloc, numbers)?,
+            account: Account::new(alloc, numbers)?,
+            kept: Kept::new(alloc, numbers)?,
+            checker: TreeChecker::new(alloc, numbers)?,
+        })
+    }
+
+    /// Whether there is room for the node numbers of the graph.
+    pub fn has_room(&self, graph: &Graph) -> bool
+        ensures { IsTrue result → length (net_of graph.now).nodes ≤ self.now }
+    {
+        graph.node_bound() <= self.numbers
+    }
+
+    /// A tree of these items, which lead from what the faulty gate doesn't reach: the lines that lead there are put before
+    /// them, but for those that nothing rests on, and lines and splits that the ends don't rest on are left out. What is
+    /// left is put before the checker: None where that isn't accepted as closed. It takes the time of the items and of what
+    /// the faulty gate reaches.
+    pub fn tree(
+        &mut self,
+        graph: &Graph,
+        fault: &Fault,
+        items: &[Item],
+    ) -> Result<Option<Tree>, NoMemory>
+        requires pin { HasPin (net_of graph.now) fault.now }
+        requires room { length (net_of graph.now).nodes ≤ self.old }
+        ensures accepted { IfOk result (λ t. IfSome t (AreAccepted (net_of graph.now) fault.now)) }
+        ensures room { self.new ≡ self.old }
+    {
+        graph.well_formed();
+        if self.account.numbers() < graph.node_bound() as usize {
+            self.account = Account::new(self.alloc, self.numbers)?;
+        }
+        self.site.mark(graph, fault.gate);
+        let Some(short) = left_of(
+            self.alloc,
+            graph,
+            fault,
+            &self.site,
+            &mut self.account,
+            &mut self.kept,
+            items,
+        )?
+        else {
+            return Ok(None);
+        };
+        match self.checker.check(graph, fault, &short, Form::Closed) {
+            Ok(_) => Ok(Some(short)),
+            Err(CheckRefusal::NoMemory) => Err(NoMemory),
+            Err(_) => Ok(None),
+        }
+    }
+}

@@ -1,0 +1,32 @@
+-- What this crate proves of its definitions, for the proofs of the crates above. They import nothing of its proofs but through this file.
+
+-- What a change takes of wires, nodes and numbers.
+pub use Rattle.wire_edit.proofs.Budgets.{length_budget}
+-- Lists of nodes without dead numbers at the end.
+pub use Rattle.wire_edit.proofs.Canonical.{below_is_live, least-there, least_free, least_is_free}
+-- A step that may be made makes a change that may be made.
+pub use Rattle.wire_edit.proofs.Conditions.{applies_changes, constant_apart, no_pins}
+-- Counts of numbers that pass a test, and of free pins.
+pub use Rattle.wire_edit.proofs.Counting.{free_moved, free_set, free_without}
+-- An edit of a graph makes the change of its net.
+pub use Rattle.wire_edit.proofs.Editing.{nodes_of}
+-- Tidying ends.
+pub use Rattle.wire_edit.proofs.Ending.{wires_grow}
+-- A change keeps the net well formed.
+pub use Rattle.wire_edit.proofs.Formed.{changes_keep_form, free_unread, junction_kind, new_differs}
+-- What the next step tells.
+pub use Rattle.wire_edit.proofs.Ordering.{live_below, next_applies, tidy_refuses}
+-- Sources and constants stay as they are.
+pub use Rattle.wire_edit.proofs.Plain.{some_none}
+-- What the calls that read a graph tell of its net.
+pub use Rattle.wire_edit.proofs.Reading.{gate_live}
+-- What the tests of nodes tell.
+pub use Rattle.wire_edit.proofs.Tested.{among_at, gate_is, got, is_gate_there, is_live_there, junction_gate, within}
+-- Sums over the numbers of a net.
+pub use Rattle.wire_edit.proofs.Totalling.{live_within}
+-- Sums over the nodes of a net.
+pub use Rattle.wire_edit.proofs.Totals.{total_gone, total_least, total_map, total_trimmed, total_with}
+-- Walks along lists.
+pub use Rattle.wire_edit.proofs.Walks.{march, next_place}
+-- Each tidying step lowers the work that is left.
+pub use Rattle.wire_edit.proofs.Working.{with_free}
