@@ -2,6 +2,7 @@ pub mod KindOf
 pub mod TargetLists
 pub mod Appending
 pub mod KnownNodes
+pub mod InOrder
 pub mod Choices
 pub mod StampLists
 pub mod ChainMarks

@@ -7,4 +7,5 @@ pub mod Additions
 pub mod Tries
 pub mod Laws
 pub mod Stamped
+pub mod Added
 pub mod Parts

@@ -1,11 +1,15 @@
 -- Parts of the list of candidates.
-use Rattle.std.specs.Prelude.{Bool, IsTrue, List, None, Option, Some, slice_get, true, ℕ, ◌<◌, ◌≡◌, ◌↔◌}
+use Rattle.std.specs.Prelude.{Bool, IsTrue, List, None, Option, Some, slice_get, true, ℕ, ◌<◌, ◌≡◌, ◌≤◌, ◌↔◌}
 use Rattle.gate_graph.specs.Search.{IsSeen}
 use Rattle.gate_net.specs.Net.{IsKind, Net, Reads}
 use Rattle.gate_net.specs.declared.Kind.{Kind}
 use Rattle.refutation.specs.Branches.{IsNoConstant}
 use Rattle.refutation.specs.Facts.{Held, known_equal, known_good}
+use Rattle.refutation.specs.declared.reasoning.Fact.{Fact}
+use Rattle.refutation.specs.declared.reasoning.Fact.TheVariants.{Good}
+use Rattle.rm_base.specs.declared.numbers.NodeId.{NodeId}
 use Rattle.candidate_wires.specs.Joining.{HasNoNot}
+use Rattle.candidate_wires.specs.Added.{IsListed}
 use Rattle.candidate_wires.specs.declared.known.Known.{Known}
 
 -- the node is a source or a gate that is known to be equal, and its good value is known
@@ -29,6 +33,26 @@ pub record AreKnown (net : Net) (held : Held) (n : ℕ) (ks : List Known) : Type
   pub each : (m : ℕ) (k : Known) → slice_get ks m ≡ Some k → (k.node.0 < n) × IsKnown net held k
   pub all : (x : ℕ) (value : Bool) → x < n → IsUsable net held x value → (m : ℕ) × ((k : Known) × ((slice_get ks m ≡ Some k) × (k.node.0 ≡ x)))
   pub sorted : (l m : ℕ) (k j : Known) → l < m → slice_get ks l ≡ Some k → slice_get ks m ≡ Some j → k.node.0 < j.node.0
+
+-- the numbers don't fall
+abbrev pub IsAscending : List ℕ → Type 0
+IsAscending numbers = (j k x y : ℕ) → j ≤ k → slice_get numbers j ≡ Some x → slice_get numbers k ≡ Some y → x ≤ y
+
+-- the number is in the list
+abbrev pub IsInList : List ℕ → ℕ → Type 0
+IsInList numbers x = (k : ℕ) × (slice_get numbers k ≡ Some x)
+
+-- each usable node is in the list
+abbrev pub HasUsable : Net → Held → List ℕ → Type 0
+HasUsable net held numbers = (x : ℕ) (value : Bool) → IsUsable net held x value → IsInList numbers x
+
+-- no node from the one number up to the other is usable
+abbrev pub HasNoneFrom : Net → Held → ℕ → ℕ → Type 0
+HasNoneFrom net held from to = (x : ℕ) (value : Bool) → from ≤ x → x < to → IsUsable net held x value → ⊥
+
+-- the nodes of the good values among facts are in the list
+abbrev pub HasGoods : List (NodeId × Fact) → List ℕ → Type 0
+HasGoods facts numbers = (x : ℕ) (value : Bool) → IsListed facts x (Good value) → IsInList numbers x
 
 -- exactly the drivers of the gate are marked
 abbrev pub MarksDrivers : Net → ℕ → List Bool → Type 0

@@ -3,17 +3,20 @@ ghost use Rattle.std.specs.Prelude.{◌≡◌, ◌≤◌, IfOk, length};
 ghost use Rattle.gate_net.specs.Values.{HasPin};
 ghost use Rattle.gate_graph.specs.Circuit.{net_of};
 ghost use Rattle.refutation.specs.FactSets.{held_by};
+ghost use Rattle.refutation.specs.Facts.{Held};
+ghost use Rattle.candidate_wires.specs.Added.{HasAllGoods};
 ghost use Rattle.candidate_wires.specs.Candidates.{AreCandidates};
+ghost use Rattle.candidate_wires.specs.Parts.{AreKnown};
 
 use crate::candidate::Candidate;
-use crate::known::known_nodes;
+use crate::known::{Known, known_among, known_nodes};
 use crate::listing::along_chain;
 use crate::reaching::mark_reached;
 use crate::stamps::Stamps;
 use gate_graph::Graph;
-use refutation::FactSet;
 use refutation::agenda::Agenda;
-use rm_base::{Fault, NoMemory};
+use refutation::{Fact, FactSet};
+use rm_base::{Fault, NoMemory, NodeId};
 use std::alloc::Global;
 use std::marker::Model;
 
@@ -50,6 +53,30 @@ impl Finder {
         })
     }
 
+    // The candidates of the fault by the known nodes.
+    fn candidates_by(
+        &mut self,
+        alloc: Global,
+        graph: &Graph,
+        fault: &Fault,
+        sources: &[Known],
+    ) -> Result<Vec<Candidate>, NoMemory>
+        requires pin { HasPin (net_of graph.now) fault.now }
+        requires numbers { length (net_of graph.now).nodes ≤ self.old }
+        ensures found { IfOk result (λ found. (held : Held) → AreKnown (net_of graph.now) held (length (net_of graph.now).nodes) sources.now → AreCandidates (net_of graph.now) fault.now held found.items) }
+        ensures numbers { self.new ≡ self.old }
+    {
+        mark_reached(graph, fault.gate, &mut self.reached, &mut self.agenda);
+        along_chain(
+            alloc,
+            graph,
+            fault,
+            &mut self.reached,
+            &mut self.driving,
+            sources,
+        )
+    }
+
     /// The candidates of the fault by these facts, in order. It takes one look at the facts of each node number; all
     /// else takes the time of the known nodes' readers, of what the fault's gate reaches, of the pins of the gates of its
     /// chain, and of a test for each of these gates and each known node.
@@ -67,14 +94,27 @@ impl Finder {
         ensures numbers { self.new ≡ self.old }
     {
         let sources = known_nodes(alloc, graph, facts)?;
-        mark_reached(graph, fault.gate, &mut self.reached, &mut self.agenda);
-        along_chain(
-            alloc,
-            graph,
-            fault,
-            &mut self.reached,
-            &mut self.driving,
-            sources.as_slice(),
-        )
+        self.candidates_by(alloc, graph, fault, sources.as_slice())
+    }
+
+    /// The same, without a look at the facts of each node: `added` has each good value that is held, in any order, as
+    /// what closing has added does.
+    pub fn candidates_among(
+        &mut self,
+        alloc: Global,
+        graph: &Graph,
+        fault: &Fault,
+        facts: &FactSet,
+        added: &[(NodeId, Fact)],
+    ) -> Result<Vec<Candidate>, NoMemory>
+        requires pin { HasPin (net_of graph.now) fault.now }
+        requires facts { length (net_of graph.now).nodes ≤ length facts.now }
+        requires added { HasAllGoods (held_by facts.now) added.now }
+        requires numbers { length (net_of graph.now).nodes ≤ self.old }
+        ensures found { IfOk result (λ found. AreCandidates (net_of graph.now) fault.now (held_by facts.now) found.items) }
+        ensures numbers { self.new ≡ self.old }
+    {
+        let sources = known_among(alloc, graph, facts, added)?;
+        self.candidates_by(alloc, graph, fault, sources.as_slice())
     }
 }

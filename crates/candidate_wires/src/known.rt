@@ -1,17 +1,19 @@
 // The nodes that may be the source of a new wire.
-ghost use Rattle.std.specs.Prelude.{◌≡◌, ◌<◌, ◌≤◌, ◌↔◌, IfOk, IsTrue, length};
+ghost use Rattle.std.specs.Prelude.{◌≡◌, ◌<◌, ◌≤◌, ◌↔◌, ◌⊎◌, Bool, IfOk, IsTrue, OnOk, length};
 ghost use Rattle.gate_net.specs.Net.{IsKind, IsLive};
 ghost use Rattle.gate_net.specs.declared.Kind.TheVariants.{Not};
 ghost use Rattle.gate_graph.specs.Circuit.{net_of};
 ghost use Rattle.refutation.specs.Branches.{IsNoConstant};
 ghost use Rattle.refutation.specs.FactSets.{held_by};
+ghost use Rattle.refutation.specs.declared.reasoning.Fact.TheVariants.{Good};
 ghost use Rattle.candidate_wires.specs.Joining.{HasNoNot};
-ghost use Rattle.candidate_wires.specs.Parts.{AreKnown, IsLook};
+ghost use Rattle.candidate_wires.specs.Added.{HasAllGoods};
+ghost use Rattle.candidate_wires.specs.Parts.{AreKnown, HasGoods, HasNoneFrom, HasUsable, IsAscending, IsLook};
 
 use gate_graph::Graph;
 use gate_net::Kind;
-use refutation::FactSet;
 use refutation::pins::{Aspect, known};
+use refutation::{Fact, FactSet};
 use rm_base::{NoMemory, NodeId};
 use std::alloc::Global;
 
@@ -93,4 +95,102 @@ pub(crate) fn known_nodes(
         nodes.push(found)?;
     }
     Ok(nodes)
+}
+
+fn is_good(fact: Fact) -> bool
+    ensures { (value : Bool) → fact ≡ Good value → IsTrue result }
+{
+    match fact {
+        Fact::Good(_) => true,
+        _ => false,
+    }
+}
+
+// The numbers of the nodes of which a good value is among the facts.
+fn good_numbers(alloc: Global, added: &[(NodeId, Fact)]) -> Result<Vec<u32>, NoMemory>
+    ensures { IfOk result (λ v. HasGoods added.now v.items) }
+{
+    let mut numbers = Vec::new(alloc);
+    for entry in added {
+        let (node, fact) = *entry;
+        if !is_good(fact) {
+            continue;
+        }
+        numbers.push(node.0)?;
+    }
+    Ok(numbers)
+}
+
+// The same, in ascending order.
+fn ascending(alloc: Global, added: &[(NodeId, Fact)]) -> Result<Vec<u32>, NoMemory>
+    ensures goods { IfOk result (λ v. HasGoods added.now v.items) }
+    ensures order { IfOk result (λ v. IsAscending v.items) }
+{
+    let mut numbers = good_numbers(alloc, added)?;
+    numbers.sort_unstable();
+    Ok(numbers)
+}
+
+// Looks at a node beyond those that were looked at.
+fn look_on(
+    graph: &Graph,
+    facts: &FactSet,
+    number: u32,
+    next: &mut u32,
+    nodes: &mut Vec<Known>,
+) -> Result<(), NoMemory>
+    requires facts { length (net_of graph.now).nodes ≤ length facts.now }
+    requires next { next.old ≤ length (net_of graph.now).nodes }
+    ensures known { OnOk result (AreKnown (net_of graph.now) (held_by facts.now) next.old nodes.old.items → (number < length (net_of graph.now).nodes → HasNoneFrom (net_of graph.now) (held_by facts.now) next.old number) → AreKnown (net_of graph.now) (held_by facts.now) next.new nodes.new.items) }
+    ensures seen { OnOk result ((number < next.new) ⊎ (length (net_of graph.now).nodes ≤ number)) }
+    ensures grows { OnOk result (next.old ≤ next.new) }
+    ensures bound { OnOk result (next.new ≤ length (net_of graph.now).nodes) }
+{
+    if number < *next {
+        return Ok(());
+    }
+    if number >= graph.node_bound() {
+        return Ok(());
+    }
+    *next = number + 1;
+    let Some(found) = known_at(graph, facts, NodeId(number)) else {
+        return Ok(());
+    };
+    nodes.push(found)?;
+    Ok(())
+}
+
+// The known nodes among ascending numbers, of which there is each usable one.
+fn known_in_order(
+    alloc: Global,
+    graph: &Graph,
+    facts: &FactSet,
+    numbers: &[u32],
+) -> Result<Vec<Known>, NoMemory>
+    requires facts { length (net_of graph.now).nodes ≤ length facts.now }
+    requires order { IsAscending numbers.now }
+    requires all { HasUsable (net_of graph.now) (held_by facts.now) numbers.now }
+    ensures { IfOk result (λ v. AreKnown (net_of graph.now) (held_by facts.now) (length (net_of graph.now).nodes) v.items) }
+{
+    let mut nodes = Vec::new(alloc);
+    let mut next = 0u32;
+    for number in numbers {
+        look_on(graph, facts, *number, &mut next, &mut nodes)?;
+    }
+    Ok(nodes)
+}
+
+// The known nodes, in ascending order, by a list that has each good value that is held.
+pub(crate) fn known_among(
+    alloc: Global,
+    graph: &Graph,
+    facts: &FactSet,
+    added: &[(NodeId, Fact)],
+) -> Result<Vec<Known>, NoMemory>
+    requires facts { length (net_of graph.now).nodes ≤ length facts.now }
+    requires added { HasAllGoods (held_by facts.now) added.now }
+    ensures { IfOk result (λ v. AreKnown (net_of graph.now) (held_by facts.now) (length (net_of graph.now).nodes) v.items) }
+{
+    let numbers = ascending(alloc, added)?;
+    known_in_order(alloc, graph, facts, numbers.as_slice())
 }

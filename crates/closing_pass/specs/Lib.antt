@@ -1,5 +1,6 @@
 pub mod Verdicts
 pub mod Findings
+pub mod Blocks
 pub mod Trying
 pub mod Searching
 pub mod Passing

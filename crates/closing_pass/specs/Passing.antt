@@ -1,8 +1,9 @@
 -- A pass through the faults of a net.
-use Rattle.std.specs.Prelude.{ℕ}
+use Rattle.std.specs.Prelude.{ℕ, Bool, List}
 use Rattle.gate_net.specs.Net.{Net}
 use Rattle.closing_pass.specs.declared.passing.Passed.{Passed}
 use Rattle.closing_pass.specs.declared.passing.Passed.TheVariants.{Closed, Refuted}
+use Rattle.closing_pass.specs.Blocks.{AreKept}
 use Rattle.closing_pass.specs.Findings.{IsRefuted}
 use Rattle.closing_pass.specs.Reports.{AreClosed}
 
@@ -10,3 +11,8 @@ use Rattle.closing_pass.specs.Reports.{AreClosed}
 abbrev pub IsPassed : Net → ℕ → Passed → Type 0
 IsPassed net budget (Closed verdicts) = AreClosed net budget verdicts.items
 IsPassed net budget (Refuted fault tree) = IsRefuted net (fault, tree)
+
+-- where every fault is closed, its vectors are among the kept ones
+abbrev pub AreKeptOf : List (List Bool) → Passed → Type 0
+AreKeptOf kept (Closed verdicts) = AreKept kept verdicts.items
+AreKeptOf kept (Refuted fault tree) = Unit {0}

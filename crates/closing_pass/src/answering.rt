@@ -1,38 +1,104 @@
-// The verdict of one fault: what refutes it by learning, and else the answer of a search.
-ghost use Rattle.std.specs.Prelude.{◌≡◌, ◌<◌, ◌≤◌, ℕ, IfOk, OnOk, length};
+// The verdicts of faults: what refutes them by learning, and else the answers of searches.
+ghost use Rattle.std.specs.Prelude.{◌≡◌, ◌<◌, ◌≤◌, ℕ, IfOk, OnOk};
 ghost use Rattle.gate_net.specs.Net.{Net};
 ghost use Rattle.gate_net.specs.Values.{HasPin};
 ghost use Rattle.gate_graph.specs.Circuit.{net_of};
 ghost use Rattle.podem.specs.Searchers.{Serves};
-ghost use Rattle.closing_pass.specs.Verdicts.{IsAnswer};
+ghost use Rattle.recursive_learning.specs.Serving.{IsServing};
+ghost use Rattle.closing_pass.specs.Verdicts.{AreVerdicts, HavePins, IsAnswer};
 
 use gate_graph::Graph;
-use implications::{Closed, Engine};
 use podem::{Searcher, Verdict};
-use recursive_learning::refute;
+use recursive_learning::refuter::Refuter;
 use rm_base::{Fault, NoMemory, Settings};
 use std::alloc::Global;
 
-/// The verdict of the fault: it is refuted at the depth of the settings, and else searched with their budget.
-pub(crate) fn answer(
-    alloc: Global,
+// The verdict of the fault: it is refuted at the depth of the settings, and else searched with their budget.
+fn answer(
     graph: &Graph,
     fault: &Fault,
     settings: &Settings,
-    engine: &mut Engine,
+    refuter: &mut Refuter,
     searcher: &mut Searcher,
 ) -> Result<Verdict, NoMemory>
     requires pin { HasPin (net_of graph.now) fault.now }
     requires depth { settings.now.depth ≤ 2 }
     requires budget { 0 < settings.now.budget }
-    requires numbers { length (net_of graph.now).nodes ≤ engine.old.numbers }
-    requires serves { Serves searcher.old (net_of graph.now) }
+    requires refutes { IsServing (net_of graph.now) refuter.old }
+    requires searches { Serves searcher.old (net_of graph.now) }
     ensures answer { IfOk result (IsAnswer (net_of graph.now) settings.now.budget fault.now) }
-    ensures numbers { OnOk result (engine.new.numbers ≡ engine.old.numbers) }
-    ensures serves { OnOk result ((net : Net) → Serves searcher.old net → Serves searcher.new net) }
+    ensures refutes { OnOk result (IsServing (net_of graph.now) refuter.new) }
+    ensures searches { OnOk result ((net : Net) → Serves searcher.old net → Serves searcher.new net) }
 {
-    match refute(alloc, engine, graph, fault, settings.depth)? {
-        Closed::Clash(tree) => Ok(Verdict::Refuted(tree)),
-        Closed::Open(_facts) => searcher.search(graph, fault, settings.budget),
+    match refuter.refute(graph, fault, settings.depth)? {
+        Some(tree) => Ok(Verdict::Refuted(tree)),
+        None => searcher.search(graph, fault, settings.budget),
     }
+}
+
+// A refuter that is fitted to the graph.
+fn fitted(alloc: Global, graph: &Graph) -> Result<Refuter, NoMemory>
+    ensures { IfOk result (IsServing (net_of graph.now)) }
+{
+    let mut refuter = Refuter::new(alloc, graph.node_bound())?;
+    refuter.fit(graph)?;
+    Ok(refuter)
+}
+
+// The verdicts of the faults, in order.
+fn answer_each(
+    alloc: Global,
+    graph: &Graph,
+    faults: &[Fault],
+    settings: &Settings,
+    refuter: &mut Refuter,
+    searcher: &mut Searcher,
+) -> Result<Vec<Verdict>, NoMemory>
+    requires pins { HavePins (net_of graph.now) faults.now }
+    requires depth { settings.now.depth ≤ 2 }
+    requires budget { 0 < settings.now.budget }
+    requires refutes { IsServing (net_of graph.now) refuter.old }
+    requires searches { Serves searcher.old (net_of graph.now) }
+    ensures { IfOk result (λ v. AreVerdicts (net_of graph.now) settings.now.budget faults.now v.items) }
+{
+    let mut verdicts = Vec::with_capacity(alloc, faults.len())?;
+    for fault in faults {
+        let verdict = answer(graph, fault, settings, refuter, searcher)?;
+        verdicts.push(verdict)?;
+    }
+    Ok(verdicts)
+}
+
+// The same, by a refuter that is made for them.
+fn answer_all(
+    alloc: Global,
+    graph: &Graph,
+    faults: &[Fault],
+    settings: &Settings,
+    searcher: &mut Searcher,
+) -> Result<Vec<Verdict>, NoMemory>
+    requires pins { HavePins (net_of graph.now) faults.now }
+    requires depth { settings.now.depth ≤ 2 }
+    requires budget { 0 < settings.now.budget }
+    requires searches { Serves searcher.old (net_of graph.now) }
+    ensures { IfOk result (λ v. AreVerdicts (net_of graph.now) settings.now.budget faults.now v.items) }
+{
+    let mut refuter = fitted(alloc, graph)?;
+    answer_each(alloc, graph, faults, settings, &mut refuter, searcher)
+}
+
+/// The verdicts of the faults, in order, by one refuter and one searcher.
+pub(crate) fn answers(
+    alloc: Global,
+    graph: &Graph,
+    faults: &[Fault],
+    settings: &Settings,
+) -> Result<Vec<Verdict>, NoMemory>
+    requires pins { HavePins (net_of graph.now) faults.now }
+    requires depth { settings.now.depth ≤ 2 }
+    requires budget { 0 < settings.now.budget }
+    ensures { IfOk result (λ v. AreVerdicts (net_of graph.now) settings.now.budget faults.now v.items) }
+{
+    let mut searcher = Searcher::new(alloc, graph)?;
+    answer_all(alloc, graph, faults, settings, &mut searcher)
 }

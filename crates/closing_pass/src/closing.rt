@@ -1,5 +1,5 @@
 // The closing pass.
-ghost use Rattle.std.specs.Prelude.{◌≡◌, ◌≤◌, ◌<◌, ◌+◌, ◌^◌, Err, IfOk, OnErr, OnOk};
+ghost use Rattle.std.specs.Prelude.{◌≡◌, ◌≤◌, ◌<◌, ◌+◌, ◌^◌, Err, IfOk, OnErr, OnOk, map};
 ghost use Rattle.gate_graph.specs.Circuit.{live_nodes, net_of, pins_taken};
 ghost use Rattle.gate_net.specs.Net.{wire_count};
 ghost use Rattle.gate_net.specs.Values.{HasPin};
@@ -11,12 +11,14 @@ ghost use Rattle.refutation.specs.Branches.{AreAccepted};
 ghost use Rattle.rm_base.specs.Causes.{Rose};
 ghost use Rattle.wire_edit.specs.Order.{IsTidy};
 ghost use Rattle.wire_edit.specs.Work.{work};
+ghost use Rattle.closing_pass.specs.Blocks.{HaveVectors};
 ghost use Rattle.closing_pass.specs.Closing.{HasRecordedFix, Went};
 ghost use Rattle.closing_pass.specs.Reports.{AreClosed, HasClosed, IsNoFuller};
 
 use crate::fixing::fix_and_tidy;
 use crate::passing::{Passed, pass};
 use crate::report::Report;
+use crate::words::blocks_of;
 use gate_graph::Graph;
 use journal_text::{
     Stop, accepted_runs_are_writable, accepted_runs_keep, append_records, count_records, runs_join,
@@ -82,6 +84,7 @@ fn close_all<R: Threads + Sync, G: Gate, S: Shelf>(
     requires there { IsThere (S.files shelf.old) journal.now }
     ensures closed { IfOk result (λ r. HasClosed (net_of trial.old.graph) (net_of trial.new.graph) r (S.files shelf.old) (S.files shelf.new) journal.now) }
     ensures verdicts { IfOk result (λ r. AreClosed (net_of trial.new.graph) settings.now.budget r.verdicts.items) }
+    ensures found { IfOk result (λ r. HaveVectors (map (λ b. b.items) r.found.items) r.verdicts.items) }
     ensures went { OnOk result (Went trial.old trial.new) }
     ensures tidy { OnOk result (IsTidy (net_of trial.new.graph)) }
     ensures local { IfOk result (λ r. r.local ≤ 2 ^ 45) }
@@ -101,10 +104,13 @@ fn close_all<R: Threads + Sync, G: Gate, S: Shelf>(
     loop {
         match pass(rt, alloc, trial.graph(), settings, gate, &mut kept)? {
             Passed::Closed(verdicts) => {
+                let sources = trial.graph().source_count();
+                let found = blocks_of(alloc, kept.as_slice(), sources)?;
                 return Ok(Report {
                     fixed: made.fixes as u32,
                     local: made.local,
                     verdicts,
+                    found,
                 });
             }
             Passed::Refuted { fault, tree } => {
@@ -134,6 +140,7 @@ pub fn close_faults<R: Threads + Sync, G: Gate, S: Shelf>(
     requires there { IsThere (S.files shelf.old) journal.now }
     ensures closed { IfOk result (λ r. HasClosed (net_of graph) (net_of r.0) r.1 (S.files shelf.old) (S.files shelf.new) journal.now) }
     ensures verdicts { IfOk result (λ r. AreClosed (net_of r.0) settings.now.budget r.1.verdicts.items) }
+    ensures found { IfOk result (λ r. HaveVectors (map (λ b. b.items) r.1.found.items) r.1.verdicts.items) }
     ensures tidy { IfOk result (λ r. IsTidy (net_of r.0)) }
     ensures keeps { IfOk result (λ r. Keeps (net_of graph) (net_of r.0)) }
     ensures no_fuller { IfOk result (λ r. IsNoFuller graph r.0) }

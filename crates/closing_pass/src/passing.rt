@@ -3,7 +3,7 @@ ghost use Rattle.std.specs.Prelude.{◌≡◌, ◌≤◌, ◌<◌, IfOk, OnOk, l
 ghost use Rattle.gate_graph.specs.Circuit.{net_of};
 ghost use Rattle.gate_net.specs.Net.{source_count};
 ghost use Rattle.closing_pass.specs.Findings.{AreLong};
-ghost use Rattle.closing_pass.specs.Passing.{IsPassed};
+ghost use Rattle.closing_pass.specs.Passing.{AreKeptOf, IsPassed};
 ghost use Rattle.closing_pass.specs.declared.finding.Finding.TheVariants.{Open};
 
 use crate::finding::Finding;
@@ -53,6 +53,7 @@ pub(crate) fn pass<R: Threads + Sync, G: Gate>(
     requires workers { (0 < settings.now.workers) × (settings.now.workers ≤ 64) }
     requires long { AreLong kept.old.items (source_count (net_of graph.now)) }
     ensures passed { IfOk result (IsPassed (net_of graph.now) settings.now.budget) }
+    ensures kept { IfOk result (AreKeptOf kept.new.items) }
     ensures long { OnOk result (AreLong kept.new.items (source_count (net_of graph.now))) }
 {
     let all = faults_of(alloc, graph)?;

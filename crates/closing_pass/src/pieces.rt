@@ -5,10 +5,9 @@ ghost use Rattle.gate_net.specs.Net.{Net};
 ghost use Rattle.gate_graph.specs.Circuit.{net_of};
 ghost use Rattle.closing_pass.specs.Verdicts.{AreVerdicts, HavePins};
 
-use crate::answering::answer;
+use crate::answering::answers;
 use gate_graph::Graph;
-use implications::Engine;
-use podem::{Searcher, Verdict};
+use podem::Verdict;
 use rm_base::{Fault, Gate, NoMemory, Settings};
 use std::alloc::Global;
 use std::thread::{Threads, join};
@@ -28,14 +27,7 @@ fn piece<G: Gate>(
     ensures { IfOk result (λ v. AreVerdicts (net_of graph.now) settings.now.budget faults.now v.items) }
 {
     gate.pass(number);
-    let mut engine = Engine::new(alloc, graph)?;
-    let mut searcher = Searcher::new(alloc, graph)?;
-    let mut verdicts = Vec::with_capacity(alloc, faults.len())?;
-    for fault in faults {
-        let verdict = answer(alloc, graph, fault, settings, &mut engine, &mut searcher)?;
-        verdicts.push(verdict)?;
-    }
-    Ok(verdicts)
+    answers(alloc, graph, faults, settings)
 }
 
 // The verdicts of these and then of those.

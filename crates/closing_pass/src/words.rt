@@ -1,6 +1,7 @@
 // Vectors as words: a word for each source, with a bit for each vector.
-ghost use Rattle.std.specs.Prelude.{◌≡◌, ◌≤◌, ◌<◌, ◌^◌, ℕ, Bool, List, IfOk, Some, bit_or, false, if◌then◌else◌, length, slice_get, slice_index_or};
+ghost use Rattle.std.specs.Prelude.{◌≡◌, ◌≤◌, ◌<◌, ◌^◌, ℕ, Bool, List, IfOk, Some, bit_or, false, if◌then◌else◌, length, map, slice_get, slice_index_or};
 ghost use Rattle.fault_sim.specs.Words.{lane};
+ghost use Rattle.closing_pass.specs.Blocks.{AreBlocksOf};
 ghost use Rattle.closing_pass.specs.Findings.{AreLong, ArePacked};
 
 use rm_base::{NoMemory, SourceNo, Vector};
@@ -45,4 +46,23 @@ pub(crate) fn words_of(
         words.push(word_of(vectors, SourceNo(source), sources))?;
     }
     Ok(words)
+}
+
+/// Blocks of words for all vectors, in order.
+pub(crate) fn blocks_of(
+    alloc: Global,
+    vectors: &[Vector],
+    sources: u32,
+) -> Result<Vec<Vec<u64>>, NoMemory>
+    requires long { AreLong vectors.now sources }
+    ensures { IfOk result (λ b. AreBlocksOf vectors.now (map (λ w. w.items) b.items)) }
+{
+    let mut blocks = Vec::new(alloc);
+    let mut rest = vectors;
+    while rest.len() > 0 {
+        let (block, others) = rest.split_at(rest.len().min(64));
+        blocks.push(words_of(alloc, block, sources)?)?;
+        rest = others;
+    }
+    Ok(blocks)
 }

@@ -132,7 +132,8 @@ fn further_round<S: Shelf>(
         tries: settings.tries - tries,
         workers: settings.workers,
     };
-    let (graph, outcome, more) = optimise(alloc, graph, &left, shelf, journal, &[])?;
+    let found = report.found.as_slice();
+    let (graph, outcome, more) = optimise(alloc, graph, &left, shelf, journal, found)?;
     Ok(Round {
         graph,
         made: sum_of(made, report.fixed, report.local, more),

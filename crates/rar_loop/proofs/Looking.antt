@@ -7,7 +7,10 @@ use Rattle.gate_net.specs.Net.{Net, Node, node_at, drivers_in, drivers_of, Reads
 use Rattle.refutation.specs.declared.items.Item.{Item}
 use Rattle.wire_edit.proofs.Public.{got, live_below, within}
 use Rattle.rar_loop.specs.Going.{HasFreePin, ReadsNoConstants}
+use Rattle.recursive_learning.specs.Serving.{IsRefuted}
 use Rattle.refutation.specs.Detected.{HasOpenSet}
+use Rattle.refutation.specs.FactSets.{held_by}
+use Rattle.refutation.specs.declared.held.NodeFacts.{NodeFacts}
 use Rattle.rar_loop.specs.Swept.{IsSwept, IsLooked, IsRefutedAt, IsLookedAtPin, IsOpenAtGate, HasLookedAt, HasPassed, HasSwept}
 
 pub none_of : {A : Type 0} (o : Option A) → ((x : A) → o ≡ Some x → ⊥) → o ≡ None
@@ -20,6 +23,11 @@ both_values P f t false = f
 
 pub looked_none : (net : Net) (fault : Fault) (depth : ℕ) (o : Option (List Item)) → ((x : List Item) → o ≡ Some x → ⊥) → IsLooked net fault depth o → HasOpenSet net fault depth
 looked_none net fault depth o h looked = subst (λ (q : Option (List Item)). IsLooked net fault depth q) (none_of o h) looked
+
+-- what refuting answers, without the facts that it leaves
+pub looked_of : (net : Net) (fault : Fault) (depth : ℕ) (facts : List NodeFacts) (o : Option (List Item)) → IsRefuted net fault depth facts o → IsLooked net fault depth o
+looked_of net fault depth facts None (least, long) = (held_by facts, (least.free, least.closed))
+looked_of net fault depth facts (Some tree) (clash, accepted) = accepted
 
 -- PINS OF A GATE
 -- the pins before a position

@@ -1,5 +1,6 @@
 -- The addition loop from block to block.
 use Rattle.std.proofs.Common.{◌≡◌, ℕ, suc, ◌+◌, ◌*◌, ◌≤◌, Bool, true, false, Some, List, [], ◌∷◌, ◌++◌, length, refl, sym, ◌∙◌, ap, subst, arith}
+use Rattle.std.specs.Prelude.{Err, IfOk, IsErrAnd, Ok, Result}
 use Rattle.gate_net.specs.Net.{Net, IsWellFormed, wire_count, source_count, gate_count}
 use Rattle.wire_edit.specs.declared.steps.Step.{Step}
 use Rattle.wire_edit.specs.declared.steps.Step.TheVariants.{Add, Fix, NewNot, Const, Same, NoPins, OnePin, Twice, Twin, Dead}
@@ -27,6 +28,11 @@ use Rattle.rar_loop.proofs.GoingOn.{accepted_then, goes_then}
 use Rattle.rar_loop.proofs.Blocks.{removals_clean, removals_add_none, steps_then, places_then, improve_then, block_then}
 use Rattle.rar_loop.proofs.Readying.{live_bound}
 use Rattle.rar_loop.proofs.Sizing.{HasSize, accepted_places, accepted_sources, within_by}
+
+-- what holds of a value holds of an error
+pub err_ok : {V E : Type 0} (r : Result V E) (P : E → Type 0) (Q : V → Type 0) → IsErrAnd r P → IfOk r Q
+err_ok (Ok x) P Q h = absurd h
+err_ok (Err e) P Q h = tt
 
 pub clean_then : (pending : Bool) (xs ys : List Step) → IsClean pending xs → IsClean false ys → IsClean pending (xs ++ ys)
 clean_then true [] ys a b = cc

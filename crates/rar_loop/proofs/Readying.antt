@@ -86,13 +86,6 @@ pub fault_pin : (net after : Net) (c : Candidate) (may : MayAdd net c) (fault : 
 fault_pin net after c may fault e is =
     subst (λ (w : Net). HasPin w fault) (sym e) (subst (λ (f : Fault). HasPin (with_candidate net c) f) (sym is) (wire_for net c, new_pin_reads net c may))
 
-pub size_within : (net after : Net) (c : Candidate) (numbers : ℕ) → after ≡ with_candidate net c → length net.nodes ≤ 4294967295 → live_count net + 1 ≤ 4294967295 → min (length net.nodes + 1) 4294967295 ≤ numbers → length after.nodes ≤ numbers
-size_within net after c numbers e most few fits =
-    let a : length after.nodes ≡ length (with_candidate net c).nodes = ap (λ (w : Net). length w.nodes) e in
-    let b : length (with_candidate net c).nodes ≤ max (length net.nodes) (live_count net + 1) = added_numbers net c in
-    let d : length (with_candidate net c).nodes ≤ length net.nodes + 1 = added_one net c in
-    omega (arith, a, b, d, most, few, fits)
-
 pub new_pin_open : (net after : Net) (c : Candidate) (may : MayAdd net c) (fault : Fault) (depth : ℕ) (o : Option (List Item)) → after ≡ with_candidate net c → fault ≡ last_pin net c.gate.0 (not may.1.control) → o ≡ None → IsLooked after fault depth o → IsNewPinOpen net c depth
 new_pin_open net after c may fault depth o e is none looked =
     let a : HasOpenSet after fault depth = subst (λ (q : Option (List Item)). IsLooked after fault depth q) none looked in

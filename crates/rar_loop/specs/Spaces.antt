@@ -1,24 +1,22 @@
 -- A workspace of the addition loop.
-use Rattle.std.specs.Prelude.{◌≡◌, ◌+◌, ◌≤◌, List, length, min}
+use Rattle.std.specs.Prelude.{◌≡◌, ◌≤◌, List, length}
 use Rattle.rm_base.specs.declared.numbers.NodeId.{NodeId}
 use Rattle.gate_net.specs.Net.{Net, source_count}
 use Rattle.fault_sim.specs.Following.{DiffersAmong}
 use Rattle.gate_graph.specs.Circuit.{net_of}
 use Rattle.wire_edit.specs.Order.{IsTidy}
+use Rattle.recursive_learning.specs.Serving.{IsServing}
+use Rattle.rar_loop.specs.declared.closer.Closer.{Closer}
 use Rattle.rar_loop.specs.declared.changes.Changed.{Changed}
 use Rattle.rar_loop.specs.Changing.{AreNoted, numbers_of}
 use Rattle.rar_loop.specs.Kept.{AreFor}
 use Rattle.rar_loop.specs.Trying.{IsLent}
 use Rattle.rar_loop.specs.declared.workspace.Workspace.{Workspace}
 
--- the engine and the finder have so many numbers
-pub record IsSized (space : Workspace) : Type 0 where
-  pub engine : space.engine.numbers ≡ space.numbers
-  pub finder : space.finder ≡ space.numbers
-
--- the numbers of the net have room, and one more
-abbrev pub HasRoom : Workspace → Type 0
-HasRoom space = min (length (net_of space.trial.graph).nodes + 1) 4294967295 ≤ space.numbers
+-- the closer was fitted to the net
+pub record IsFitted (net : Net) (c : Closer) : Type 0 where
+  pub refuter : IsServing net c.refuter
+  pub finder : length net.nodes ≤ c.finder
 
 -- what differed from an earlier net among the nodes that were touched before differs from it among those touched now
 abbrev pub TouchesOn : Net → Net → List NodeId → List NodeId → Type 0
@@ -31,15 +29,8 @@ pub record CanFollow (space : Workspace) (changed : Changed) : Type 0 where
   pub noted : AreNoted before (net_of space.trial.graph) changed
   pub sources : source_count (net_of space.trial.graph) ≡ source_count before
 
--- both have as many numbers
-pub record AreAlike (old new : Workspace) : Type 0 where
-  pub engine : new.engine.numbers ≡ old.engine.numbers
-  pub finder : new.finder ≡ old.finder
-  pub numbers : new.numbers ≡ old.numbers
-
 -- a trial at the start of a tidy net, and all else fits it
 pub record IsReady (space : Workspace) : Type 0 where
   pub tidy : IsTidy (net_of space.trial.graph)
   pub lent : IsLent space.trial
-  pub sized : IsSized space
   pub vectors : AreFor space.vectors (net_of space.trial.graph)

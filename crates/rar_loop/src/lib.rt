@@ -3,6 +3,7 @@
 
 mod beginning;
 mod changes;
+mod closer;
 mod fixing;
 mod laws;
 mod optimising;

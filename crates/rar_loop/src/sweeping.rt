@@ -3,9 +3,10 @@ ghost use Rattle.std.specs.Prelude.{◌≡◌, ◌<◌, ◌≤◌, ◌+◌, ◌|
 ghost use Rattle.gate_graph.specs.Circuit.{net_of};
 ghost use Rattle.wire_edit.specs.Order.{IsTidy};
 ghost use Rattle.wire_edit.specs.Work.{work};
+ghost use Rattle.recursive_learning.specs.Serving.{IsServing};
 ghost use Rattle.rar_loop.specs.Going.{Goes};
 ghost use Rattle.rar_loop.specs.Kept.{AreFor};
-ghost use Rattle.rar_loop.specs.Spaces.{AreAlike, TouchesOn};
+ghost use Rattle.rar_loop.specs.Spaces.{TouchesOn};
 ghost use Rattle.rar_loop.specs.Swept.{HasLookedAt, HasPassed, HasSwept};
 
 use crate::changes::Changed;
@@ -26,33 +27,27 @@ fn sweep_at(
 ) -> Result<bool, NoMemory>
     requires tidy { IsTidy (net_of space.old.trial.graph) }
     requires room { work (net_of space.old.trial.graph) ≤ space.old.trial.room.steps }
-    requires numbers { length (net_of space.old.trial.graph).nodes ≤ space.old.engine.numbers }
+    requires serves { IsServing (net_of space.old.trial.graph) space.old.refuter }
     requires vectors { AreFor space.old.vectors (net_of space.old.trial.graph) }
     requires depth { depth ≤ 2 }
     ensures goes { OnOk result (Goes space.old.trial space.new.trial log.old.items log.new.items) }
     ensures tidy { OnOk result (IsTidy (net_of space.new.trial.graph)) }
     ensures looked { IfOk result (HasLookedAt (net_of space.old.trial.graph) (net_of space.new.trial.graph) gate.0 depth) }
-    ensures alike { OnOk result (AreAlike space.old space.new) }
+    ensures serves { OnOk result (IsServing (net_of space.new.trial.graph) space.new.refuter) }
     ensures touched { OnOk result (TouchesOn (net_of space.old.trial.graph) (net_of space.new.trial.graph) space.old.touched.items space.new.touched.items) }
     ensures vectors { OnOk result (AreFor space.new.vectors (net_of space.new.trial.graph)) }
 {
     accepted_steps_keep();
     let graph = space.trial.graph();
     graph.well_formed();
-    let found = refuted_at(
-        alloc,
-        &mut space.engine,
-        &mut space.vectors,
-        graph,
-        gate,
-        depth,
-    )?;
+    let found = refuted_at(&mut space.refuter, &mut space.vectors, graph, gate, depth)?;
     match found {
         None => Ok(false),
         Some((fault, tree)) => {
             let mut changed = Changed::new(alloc);
             fix_and_tidy(alloc, &mut space.trial, log, &mut changed, fault, tree)?;
             space.follow(alloc, &changed)?;
+            space.refuter.fit(space.trial.graph())?;
             Ok(true)
         }
     }
@@ -81,13 +76,13 @@ fn pass(
 ) -> Result<bool, NoMemory>
     requires tidy { IsTidy (net_of space.old.trial.graph) }
     requires room { work (net_of space.old.trial.graph) ≤ space.old.trial.room.steps }
-    requires numbers { length (net_of space.old.trial.graph).nodes ≤ space.old.engine.numbers }
+    requires serves { IsServing (net_of space.old.trial.graph) space.old.refuter }
     requires vectors { AreFor space.old.vectors (net_of space.old.trial.graph) }
     requires depth { depth ≤ 2 }
     ensures goes { OnOk result (Goes space.old.trial space.new.trial log.old.items log.new.items) }
     ensures tidy { OnOk result (IsTidy (net_of space.new.trial.graph)) }
     ensures passed { IfOk result (HasPassed (net_of space.old.trial.graph) (net_of space.new.trial.graph) depth (length (net_of space.new.trial.graph).nodes)) }
-    ensures alike { OnOk result (AreAlike space.old space.new) }
+    ensures serves { OnOk result (IsServing (net_of space.new.trial.graph) space.new.refuter) }
     ensures touched { OnOk result (TouchesOn (net_of space.old.trial.graph) (net_of space.new.trial.graph) space.old.touched.items space.new.touched.items) }
     ensures vectors { OnOk result (AreFor space.new.vectors (net_of space.new.trial.graph)) }
 {
@@ -110,13 +105,13 @@ pub(crate) fn sweep(
 ) -> Result<(), NoMemory>
     requires tidy { IsTidy (net_of space.old.trial.graph) }
     requires room { work (net_of space.old.trial.graph) ≤ space.old.trial.room.steps }
-    requires numbers { length (net_of space.old.trial.graph).nodes ≤ space.old.engine.numbers }
+    requires serves { IsServing (net_of space.old.trial.graph) space.old.refuter }
     requires vectors { AreFor space.old.vectors (net_of space.old.trial.graph) }
     requires depth { depth ≤ 2 }
     ensures goes { OnOk result (Goes space.old.trial space.new.trial log.old.items log.new.items) }
     ensures tidy { OnOk result (IsTidy (net_of space.new.trial.graph)) }
     ensures swept { OnOk result (HasSwept (net_of space.old.trial.graph) (net_of space.new.trial.graph) depth) }
-    ensures alike { OnOk result (AreAlike space.old space.new) }
+    ensures serves { OnOk result (IsServing (net_of space.new.trial.graph) space.new.refuter) }
     ensures touched { OnOk result (TouchesOn (net_of space.old.trial.graph) (net_of space.new.trial.graph) space.old.touched.items space.new.touched.items) }
     ensures vectors { OnOk result (AreFor space.new.vectors (net_of space.new.trial.graph)) }
 {

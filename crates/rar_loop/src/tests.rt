@@ -10,12 +10,11 @@ mod pairs;
 mod wide;
 
 use self::nets::{Gate, wired};
+use crate::closer::Closer;
 use crate::optimise;
 use crate::vectors::Vectors;
-use crate::walking::candidates_of;
-use candidate_wires::{Candidate, Finder, Outcome, Pair};
+use candidate_wires::{Candidate, Outcome, Pair};
 use gate_graph::Graph;
-use implications::Engine;
 use rm_base::{Fault, Made, NoMemory, NodeId, Settings, Shelf, SureShelf};
 use std::alloc::Global;
 use std::test::Fail;
@@ -214,9 +213,9 @@ fn count_candidates(alloc: Global, graph: &Graph, target: &Fault) -> Result<usiz
     let Some(_) = graph.driver(target.gate, target.position) else {
         return Err("no pin".into());
     };
-    let mut engine = Engine::new(alloc, graph)?;
-    let mut finder = Finder::new(alloc, graph.node_bound())?;
-    Ok(candidates_of(alloc, &mut engine, &mut finder, graph, target)?.len())
+    let mut closer = Closer::new(alloc, graph)?;
+    closer.fit(alloc, graph)?;
+    Ok(closer.candidates_of(alloc, graph, target)?.len())
 }
 
 #[test]

@@ -1,5 +1,5 @@
 //! Trying one pair.
-ghost use Rattle.std.specs.Prelude.{◌≡◌, ◌<◌, ◌≤◌, ◌+◌, [], IfOk, OnOk, Bool, IsTrue, not, Some, length, min, if◌then◌else◌};
+ghost use Rattle.std.specs.Prelude.{◌≡◌, ◌<◌, ◌≤◌, ◌+◌, [], IfOk, OnOk, Bool, IsTrue, not, Some, if◌then◌else◌};
 ghost use Rattle.gate_net.specs.Edits.{last_pin};
 ghost use Rattle.wire_edit.specs.Tests.{control_of};
 ghost use Rattle.gate_graph.specs.Circuit.{net_of, live_nodes};
@@ -7,10 +7,11 @@ ghost use Rattle.gate_net.specs.Net.{wire_count, source_count, gate_count};
 ghost use Rattle.wire_edit.specs.Order.{IsTidy};
 ghost use Rattle.wire_edit.specs.Tried.{Tried, start_of};
 ghost use Rattle.candidate_wires.specs.Gains.{net_for, wire_for, with_candidate};
+ghost use Rattle.recursive_learning.specs.Serving.{IsServing};
 ghost use Rattle.rar_loop.specs.Going.{IsLeft, Tallies};
 ghost use Rattle.rar_loop.specs.Kept.{AreFor};
 ghost use Rattle.rar_loop.specs.Changing.{NotesOn};
-ghost use Rattle.rar_loop.specs.Spaces.{AreAlike, HasRoom, IsReady, TouchesOn};
+ghost use Rattle.rar_loop.specs.Spaces.{IsReady, TouchesOn};
 ghost use Rattle.rar_loop.specs.Trying.{MayAdd, MayTry, HasAdded, HasReplaced, IsAttempt, IsBack, IsLent, IsReadyToAdd, not_records};
 
 use crate::changes::Changed;
@@ -21,8 +22,8 @@ use crate::tidying::push_local;
 use crate::workspace::Workspace;
 use candidate_wires::{Candidate, Pair, added_pin, control_of, least_free};
 use gate_graph::Graph;
-use implications::Engine;
 use journal_text::{Record, accepted_steps_keep};
+use recursive_learning::refuter::Refuter;
 use refutation::laws::closed_has_all;
 use rm_base::{Fault, NoMemory, NodeId};
 use std::alloc::Global;
@@ -93,7 +94,7 @@ fn new_pin(graph: &Graph, gate: NodeId) -> Fault
 // Adds the candidate's wire, where its fault is then refuted; whether it is.
 fn add_wire(
     alloc: Global,
-    engine: &mut Engine,
+    refuter: &mut Refuter,
     trial: &mut Trial,
     log: &mut Vec<Record>,
     changed: &mut Changed,
@@ -105,7 +106,6 @@ fn add_wire(
     requires room { 0 < trial.old.room.nodes }
     requires pins { 2 ≤ trial.old.room.pins }
     requires none { log.old.items ≡ [] }
-    requires numbers { min (length (net_of trial.old.graph).nodes + 1) 4294967295 ≤ engine.old.numbers }
     requires depth { depth ≤ 2 }
     ensures net { OnOk result (net_of trial.new.graph ≡ with_candidate (net_of trial.old.graph) candidate.now) }
     ensures added { IfOk result (HasAdded (net_of trial.old.graph) candidate.now depth log.new.items) }
@@ -113,7 +113,7 @@ fn add_wire(
     ensures tallies { IfOk result (λ added. IsTrue added → Tallies trial.old trial.new log.old.items log.new.items) }
     ensures left { OnOk result (IsLeft trial.old trial.new 2 1) }
     ensures noted { OnOk result (NotesOn (net_of trial.old.graph) (net_of trial.new.graph) changed.old changed.new) }
-    ensures numbers { OnOk result (engine.new.numbers ≡ engine.old.numbers) }
+    ensures serves { OnOk result (IsServing (net_of trial.new.graph) refuter.new) }
     ensures start { start_of trial.new ≡ start_of trial.old }
     ensures first { trial.new.first ≡ trial.old.first }
     ensures epoch { trial.new.graph.epoch ≡ trial.old.graph.epoch }
@@ -133,7 +133,8 @@ fn add_wire(
         Err(_refusal) => unreachable!(),
     }
     changed.note(trial.graph(), step)?;
-    match refuted(alloc, engine, trial.graph(), &fault, depth)? {
+    refuter.fit(trial.graph())?;
+    match refuted(refuter, trial.graph(), &fault, depth)? {
         None => Ok(false),
         Some(tree) => {
             log.push(Record::Step { step, tree })?;
@@ -156,13 +157,11 @@ fn replace(
     requires room { 0 < space.old.trial.room.nodes }
     requires pins { 2 ≤ space.old.trial.room.pins }
     requires none { log.old.items ≡ [] }
-    requires numbers { min (length (net_of space.old.trial.graph).nodes + 1) 4294967295 ≤ space.old.engine.numbers }
     requires vectors { AreFor space.old.vectors (net_of space.old.trial.graph) }
     requires depth { depth ≤ 2 }
     ensures tallies { IfOk result (λ replaced. IsTrue replaced → Tallies space.old.trial space.new.trial log.old.items log.new.items) }
     ensures left { IfOk result (λ replaced. IsTrue replaced → IsLeft space.old.trial space.new.trial 2 1) }
     ensures replaced { IfOk result (HasReplaced (net_of space.old.trial.graph) pair.now depth log.new.items (net_of space.new.trial.graph)) }
-    ensures alike { OnOk result (AreAlike space.old space.new) }
     ensures vectors { IfOk result (λ replaced. AreFor space.new.vectors (if replaced then net_of space.new.trial.graph else net_of space.old.trial.graph)) }
     ensures touched { IfOk result (λ replaced. IsTrue replaced → TouchesOn (net_of space.old.trial.graph) (net_of space.new.trial.graph) space.old.touched.items space.new.touched.items) }
     ensures start { OnOk result (start_of space.new.trial ≡ start_of space.old.trial) }
@@ -175,7 +174,7 @@ fn replace(
     let mut changed = Changed::new(alloc);
     let added = add_wire(
         alloc,
-        &mut space.engine,
+        &mut space.refuter,
         trial,
         log,
         &mut changed,
@@ -185,11 +184,12 @@ fn replace(
     if !added {
         return Ok(false);
     }
-    match refuted(alloc, &mut space.engine, trial.graph(), &pair.fault, depth)? {
+    match refuted(&mut space.refuter, trial.graph(), &pair.fault, depth)? {
         None => Ok(false),
         Some(tree) => {
             fix_and_tidy(alloc, trial, log, &mut changed, pair.fault, tree)?;
             space.follow(alloc, &changed)?;
+            space.refuter.fit(space.trial.graph())?;
             sweep(alloc, space, log, depth)?;
             Ok(true)
         }
@@ -213,12 +213,10 @@ pub(crate) fn try_pair(
     depth: u8,
 ) -> Result<Attempt, NoMemory>
     requires ready { IsReady space.old }
-    requires room { HasRoom space.old }
     requires pair { MayTry (net_of space.old.trial.graph) pair.now }
     requires wires { wires ≡ wire_count (net_of space.old.trial.graph) }
     requires depth { depth ≤ 2 }
     ensures attempt { IfOk result (IsAttempt space.old.trial pair.now depth space.new.trial) }
-    ensures alike { OnOk result (AreAlike space.old space.new) }
     ensures vectors { OnOk result (AreFor space.new.vectors (net_of space.new.trial.graph)) }
 {
     space.trial.graph().well_formed();

@@ -1,19 +1,17 @@
 //! Going through the pairs of a net.
-ghost use Rattle.std.specs.Prelude.{◌≡◌, ◌≤◌, IfOk, OnOk, length};
+ghost use Rattle.std.specs.Prelude.{◌≡◌, ◌≤◌, IfOk, OnOk};
 ghost use Rattle.gate_net.specs.Net.{wire_count};
 ghost use Rattle.gate_net.specs.Values.{HasPin};
 ghost use Rattle.gate_graph.specs.Circuit.{net_of};
-ghost use Rattle.candidate_wires.specs.Candidates.{AreCandidatesOf};
 ghost use Rattle.rar_loop.specs.Kept.{AreFor};
-ghost use Rattle.rar_loop.specs.Spaces.{AreAlike, HasRoom, IsReady};
+ghost use Rattle.rar_loop.specs.Spaces.{IsFitted, IsReady};
 ghost use Rattle.rar_loop.specs.Trying.{IsAttempt, MayTry};
 ghost use Rattle.rar_loop.specs.Walking.{IsTargetTour, IsTour};
 
+use crate::closer::Closer;
 use crate::trying::{Attempt, try_pair};
 use crate::workspace::Workspace;
-use candidate_wires::{Candidate, Finder, Pair, targets};
-use gate_graph::Graph;
-use implications::{Closed, Engine};
+use candidate_wires::{Pair, targets};
 use journal_text::Record;
 use refutation::laws::closed_has_all;
 use rm_base::{Fault, NoMemory};
@@ -30,30 +28,6 @@ pub(crate) enum Tour {
     Gained { records: Vec<Record> },
 }
 
-/// The candidates of a target; none where its fault clashes.
-pub(crate) fn candidates_of(
-    alloc: Global,
-    engine: &mut Engine,
-    finder: &mut Finder,
-    graph: &Graph,
-    target: &Fault,
-) -> Result<Vec<Candidate>, NoMemory>
-    requires pin { HasPin (net_of graph.now) target.now }
-    requires numbers { length (net_of graph.now).nodes ≤ engine.old.numbers }
-    requires marks { length (net_of graph.now).nodes ≤ finder.old }
-    ensures candidates { IfOk result (λ found. AreCandidatesOf (net_of graph.now) target.now found.items) }
-    ensures numbers { engine.new.numbers ≡ engine.old.numbers }
-    ensures marks { finder.new ≡ finder.old }
-{
-    match engine.close(graph, target)? {
-        Closed::Clash(_tree) => Ok(Vec::new(alloc)),
-        Closed::Open(facts) => {
-            let found = finder.candidates(alloc, graph, target, &facts)?;
-            Ok(found)
-        }
-    }
-}
-
 // Tries a pair, unless one of the vectors detects the fault of the wire's pin.
 fn try_unless_detected(
     alloc: Global,
@@ -63,12 +37,10 @@ fn try_unless_detected(
     depth: u8,
 ) -> Result<Attempt, NoMemory>
     requires ready { IsReady space.old }
-    requires room { HasRoom space.old }
     requires pair { MayTry (net_of space.old.trial.graph) pair.now }
     requires wires { wires ≡ wire_count (net_of space.old.trial.graph) }
     requires depth { depth ≤ 2 }
     ensures attempt { IfOk result (IsAttempt space.old.trial pair.now depth space.new.trial) }
-    ensures alike { OnOk result (AreAlike space.old space.new) }
     ensures vectors { OnOk result (AreFor space.new.vectors (net_of space.new.trial.graph)) }
 {
     closed_has_all();
@@ -83,23 +55,23 @@ fn try_unless_detected(
 fn walk_target(
     alloc: Global,
     space: &mut Workspace,
+    closer: &mut Closer,
     wires: u32,
     target: Fault,
     depth: u8,
     left: &mut u32,
 ) -> Result<Tour, NoMemory>
     requires ready { IsReady space.old }
-    requires room { HasRoom space.old }
+    requires fitted { IsFitted (net_of space.old.trial.graph) closer.old }
     requires pin { HasPin (net_of space.old.trial.graph) target }
     requires wires { wires ≡ wire_count (net_of space.old.trial.graph) }
     requires depth { depth ≤ 2 }
     ensures tour { IfOk result (IsTargetTour space.old.trial target depth left.old left.new space.new.trial) }
-    ensures alike { OnOk result (AreAlike space.old space.new) }
+    ensures fitted { OnOk result (IsFitted (net_of space.old.trial.graph) closer.new) }
     ensures vectors { OnOk result (AreFor space.new.vectors (net_of space.new.trial.graph)) }
 {
     let graph = space.trial.graph();
-    graph.well_formed();
-    let found = candidates_of(alloc, &mut space.engine, &mut space.finder, graph, &target)?;
+    let found = closer.candidates_of(alloc, graph, &target)?;
     for place in 0..found.len() {
         let pair = Pair {
             fault: target,
@@ -121,12 +93,13 @@ fn walk_target(
 fn walk_targets(
     alloc: Global,
     space: &mut Workspace,
+    closer: &mut Closer,
     wires: u32,
     depth: u8,
     left: &mut u32,
 ) -> Result<Tour, NoMemory>
     requires ready { IsReady space.old }
-    requires room { HasRoom space.old }
+    requires fitted { IsFitted (net_of space.old.trial.graph) closer.old }
     requires wires { wires ≡ wire_count (net_of space.old.trial.graph) }
     requires depth { depth ≤ 2 }
     ensures tour { IfOk result (IsTour space.old.trial depth left.old left.new space.new.trial) }
@@ -135,7 +108,7 @@ fn walk_targets(
     let faults = targets(alloc, space.trial.graph())?;
     for place in 0..faults.len() {
         let target = faults[place];
-        match walk_target(alloc, space, wires, target, depth, left)? {
+        match walk_target(alloc, space, closer, wires, target, depth, left)? {
             Tour::Done => {}
             Tour::Spent { at } => return Ok(Tour::Spent { at }),
             Tour::Gained { records } => return Ok(Tour::Gained { records }),
@@ -148,6 +121,7 @@ fn walk_targets(
 pub(crate) fn walk_pairs(
     alloc: Global,
     space: &mut Workspace,
+    closer: &mut Closer,
     depth: u8,
     left: &mut u32,
 ) -> Result<Tour, NoMemory>
@@ -156,7 +130,7 @@ pub(crate) fn walk_pairs(
     ensures tour { IfOk result (IsTour space.old.trial depth left.old left.new space.new.trial) }
     ensures ready { OnOk result (IsReady space.new) }
 {
-    space.make_room(alloc)?;
+    closer.fit(alloc, space.trial.graph())?;
     let wires = space.trial.graph().wire_count();
-    walk_targets(alloc, space, wires, depth, left)
+    walk_targets(alloc, space, closer, wires, depth, left)
 }

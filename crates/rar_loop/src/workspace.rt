@@ -4,38 +4,37 @@ ghost use Rattle.gate_graph.specs.Circuit.{net_of};
 ghost use Rattle.gate_net.specs.Net.{Net, source_count};
 ghost use Rattle.wire_edit.specs.Order.{IsTidy};
 ghost use Rattle.fault_sim.specs.Following.{DiffersAmong};
+ghost use Rattle.recursive_learning.specs.Serving.{IsServing};
 ghost use Rattle.rar_loop.specs.Changing.{AreNoted, numbers_of};
 ghost use Rattle.rar_loop.specs.Kept.{AreFor};
 ghost use Rattle.rar_loop.specs.Sizes.{IsSame};
-ghost use Rattle.rar_loop.specs.Spaces.{AreAlike, CanFollow, HasRoom, IsSized, TouchesOn};
+ghost use Rattle.rar_loop.specs.Spaces.{CanFollow, TouchesOn};
 
 use crate::changes::Changed;
 use crate::vectors::Vectors;
-use candidate_wires::Finder;
 use gate_graph::Graph;
-use implications::Engine;
+use recursive_learning::refuter::Refuter;
 use rm_base::{NoMemory, NodeId};
 use std::alloc::Global;
 use wire_edit::Trial;
 
-/// A trial, and what finds its candidates, closes its faults and detects them. All of it goes on from try to try and from
-/// net to net, so that nothing of the net's size is made for one of them.
+/// A trial, and what refutes and detects its faults. All of it goes on from try to try and from net to net.
 #[derive(Drop)]
 pub(crate) struct Workspace {
     pub(crate) trial: Trial,
-    pub(crate) engine: Engine,
-    pub(crate) finder: Finder,
+    pub(crate) refuter: Refuter,
     pub(crate) vectors: Vectors,
     // Nodes that the vectors followed since the list was cleared.
     pub(crate) touched: Vec<NodeId>,
-    pub(crate) numbers: u32,
 }
 
-// Room for so many node numbers, and some more.
-fn with_spare(numbers: u32) -> u32
-    ensures { numbers ≤ result }
+// A refuter that is fitted to the graph.
+fn fitted(alloc: Global, graph: &Graph) -> Result<Refuter, NoMemory>
+    ensures { IfOk result (IsServing (net_of graph.now)) }
 {
-    numbers.saturating_add(numbers / 8)
+    let mut refuter = Refuter::new(alloc, graph.node_bound())?;
+    refuter.fit(graph)?;
+    Ok(refuter)
 }
 
 impl Workspace {
@@ -46,22 +45,16 @@ impl Workspace {
         found: &[Vec<u64>],
     ) -> Result<Workspace, NoMemory>
         ensures trial { IfOk result (λ s. s.trial ≡ trial) }
-        ensures sized { IfOk result (λ s. IsSized s) }
-        ensures room { IfOk result (λ s. HasRoom s) }
+        ensures serves { IfOk result (λ s. IsServing (net_of trial.graph) s.refuter) }
         ensures vectors { IfOk result (λ s. AreFor s.vectors (net_of trial.graph)) }
     {
-        let graph = trial.graph();
-        let numbers = with_spare(graph.node_bound().saturating_add(1));
-        let engine = Engine::for_numbers(alloc, numbers)?;
-        let finder = Finder::new(alloc, numbers)?;
-        let vectors = Vectors::drawn(alloc, graph, found)?;
+        let vectors = Vectors::drawn(alloc, trial.graph(), found)?;
+        let refuter = fitted(alloc, trial.graph())?;
         Ok(Workspace {
             trial,
-            engine,
-            finder,
+            refuter,
             vectors,
             touched: Vec::new(alloc),
-            numbers,
         })
     }
 
@@ -70,7 +63,6 @@ impl Workspace {
         requires tidy { IsTidy (net_of self.old.trial.graph) }
         requires follows { CanFollow self.old changed.now }
         ensures trial { self.new.trial ≡ self.old.trial }
-        ensures alike { AreAlike self.old self.new }
         ensures vectors { OnOk result (AreFor self.new.vectors (net_of self.new.trial.graph)) }
         ensures touched { OnOk result ((net : Net) → AreNoted net (net_of self.old.trial.graph) changed.now → source_count (net_of self.old.trial.graph) ≡ source_count net → TouchesOn net (net_of self.old.trial.graph) self.old.touched.items self.new.touched.items) }
     {
@@ -86,30 +78,10 @@ impl Workspace {
     pub(crate) fn follow_back(&mut self, alloc: Global) -> Result<(), NoMemory>
         requires follows { (net : Net) × (AreFor self.old.vectors net × DiffersAmong (net_of self.old.trial.graph) net (numbers_of self.old.touched.items)) }
         ensures trial { self.new.trial ≡ self.old.trial }
-        ensures alike { AreAlike self.old self.new }
         ensures vectors { OnOk result (AreFor self.new.vectors (net_of self.new.trial.graph)) }
     {
         self.vectors
             .follow(alloc, self.trial.graph(), self.touched.as_slice())
-    }
-
-    /// Makes room for the numbers of the net and one more.
-    pub(crate) fn make_room(&mut self, alloc: Global) -> Result<(), NoMemory>
-        requires sized { IsSized self.old }
-        ensures trial { self.new.trial ≡ self.old.trial }
-        ensures vectors { self.new.vectors ≡ self.old.vectors }
-        ensures sized { OnOk result (IsSized self.new) }
-        ensures room { OnOk result (HasRoom self.new) }
-    {
-        let needed = self.trial.graph().node_bound().saturating_add(1);
-        if needed <= self.numbers {
-            return Ok(());
-        }
-        let numbers = with_spare(needed);
-        self.engine = Engine::for_numbers(alloc, numbers)?;
-        self.finder = Finder::new(alloc, numbers)?;
-        self.numbers = numbers;
-        Ok(())
     }
 }
 
@@ -120,11 +92,9 @@ pub(crate) fn finished(space: Workspace) -> Graph
 {
     let Workspace {
         trial,
-        engine: _engine,
-        finder: _finder,
+        refuter: _refuter,
         vectors: _vectors,
         touched: _touched,
-        numbers: _numbers,
     } = space;
     trial.graph().well_formed();
     let graph = trial.commit();

@@ -2,6 +2,8 @@ use Rattle.std.proofs.Common.{◌∙◌, refl, sym, subst, arith}
 use Rattle.gate_graph.specs.Circuit.{Circuit, net_of}
 use Rattle.gate_net.specs.Net.{source_count}
 use Rattle.closing_pass.specs.Findings.{AreLong}
+use Rattle.closing_pass.specs.Passing.{AreKeptOf}
+use Rattle.closing_pass.proofs.BlockLaws.{blocks_have_all}
 use Rattle.closing_pass.proofs.Recorded.{gone_closed, gone_then, on_err, stopped_later}
 use Rattle.closing_pass.proofs.Sizes.{went_then}
 use Rattle.closing_pass.proofs.closing.close_all.Goals as goal
@@ -11,7 +13,7 @@ pass-requires-clause-long g c κs within = subst (λ (v : Circuit). AreLong c.lo
 
 pub returns-in-Closed-clause-closed : goal.returns-in-Closed-clause-closed
 returns-in-Closed-clause-closed g c =
-    gone_closed c.runs_join.ensures (net_of c.args.trial.now.graph) (net_of c.loop-kept.trial.graph) c.loop-kept.made (record { fixed = c.loop-kept.made.fixes; local = c.loop-kept.made.local; verdicts = c.in-Closed.verdicts }) (g.S.Shelf.files c.args.shelf.now) (g.S.Shelf.files c.loop-kept.shelf) c.args.journal.now
+    gone_closed c.runs_join.ensures (net_of c.args.trial.now.graph) (net_of c.loop-kept.trial.graph) c.loop-kept.made (record { fixed = c.loop-kept.made.fixes; local = c.loop-kept.made.local; verdicts = c.in-Closed.verdicts; found = c.in_ok-found-in-Closed.found }) (g.S.Shelf.files c.args.shelf.now) (g.S.Shelf.files c.loop-kept.shelf) c.args.journal.now
     c.loop-kept.invariant.gone refl refl
 
 pub loop-kept-preserved : goal.loop-kept-preserved
@@ -32,3 +34,7 @@ pub returns-in_err-record_fix-in-Refuted-clause-stopped : goal.returns-in_err-re
 returns-in_err-record_fix-in-Refuted-clause-stopped g c =
     on_err c.from_residual-in_err-record_fix-in-Refuted.result (stopped_later c.texts_append.ensures c.runs_join.ensures (net_of c.args.trial.now.graph) (net_of c.loop-kept.trial.graph) c.loop-kept.made (g.S.Shelf.files c.args.shelf.now) (g.S.Shelf.files c.loop-kept.shelf) (g.S.Shelf.files c.record_fix.new.shelf) c.args.journal.now
     c.loop-kept.invariant.gone c.in_err-record_fix-in-Refuted.ensures.stopped)
+
+pub returns-in-Closed-clause-found : goal.returns-in-Closed-clause-found
+returns-in-Closed-clause-found g c =
+    blocks_have_all c.pass.new.kept.items _ c.in-Closed.verdicts.items (rw c.as_slice.ensures.value at c.in_ok-found-in-Closed.ensures) (subst (AreKeptOf c.pass.new.kept.items) c.in-Closed.is c.in_ok-verdicts.ensures.kept)

@@ -7,6 +7,7 @@ use Rattle.closing_pass.specs.declared.finding.Finding.{Finding}
 use Rattle.closing_pass.specs.Findings.{AreVerdictsOf, HasCome, IsNumbered}
 use Rattle.closing_pass.specs.Trying.{HasTried}
 use Rattle.closing_pass.specs.Verdicts.{HavePins}
+use Rattle.closing_pass.proofs.BlockLaws.{verdicts_kept}
 use Rattle.closing_pass.proofs.LastOnes.{closed_is, numbered}
 use Rattle.closing_pass.proofs.Standing.{from_recursion}
 use Rattle.closing_pass.proofs.Taking.{come_first}
@@ -42,3 +43,6 @@ returns-clause-passed g c =
     let of : AreVerdictsOf c.loop-next.kept.items (faults_of (net_of c.args.graph.now)) c.loop-next.found.items c.in_ok-verdicts.verdicts.items =
     subst (λ (fs : List Fault). AreVerdictsOf c.loop-next.kept.items fs c.loop-next.found.items c.in_ok-verdicts.verdicts.items) all (rw c.as_slice-2.ensures.value at c.in_ok-verdicts.ensures) in
     closed_is (net_of c.args.graph.now) c.args.settings.now.budget c.loop-next.kept.items c.loop-next.found.items c.loop-next.next c.in_ok-verdicts.verdicts.items come of
+
+pub returns-clause-kept : goal.returns-clause-kept
+returns-clause-kept g c = verdicts_kept c.loop-next.kept.items c.as_slice-faults.result.now c.loop-next.found.items c.in_ok-verdicts.verdicts.items (rw c.as_slice-2.ensures.value at c.in_ok-verdicts.ensures)

@@ -4,13 +4,11 @@ use Rattle.wire_edit.specs.Work.{work}
 use Rattle.wire_edit.specs.Tried.{Tried}
 use Rattle.rar_loop.specs.Going.{Goes}
 use Rattle.rar_loop.specs.Swept.{HasSwept}
-use Rattle.rar_loop.specs.Spaces.{IsSized}
 use Rattle.rar_loop.specs.Improving.{HasBegun}
-use Rattle.rar_loop.proofs.Spacing.{sized_still}
 use Rattle.rar_loop.specs.Kept.{AreFor}
 use Rattle.rar_loop.proofs.GoingOn.{tallies_then}
 use Rattle.rar_loop.proofs.Sizing.{HasSize, held_back}
-use Rattle.rar_loop.proofs.Looping.{begun_first, lent_first, room_first}
+use Rattle.rar_loop.proofs.Looping.{begun_first, err_ok, lent_first, room_first}
 use Rattle.rar_loop.proofs.beginning.begun.Goals as goal
 
 pub tidy-requires : goal.tidy-requires
@@ -42,12 +40,16 @@ returns-clause-ready c =
     (record { live = c.well_formed-2.ensures.live; pins = c.well_formed-2.ensures.held }) (subst HasSize c.graph.ensures (record { live = c.well_formed-3.ensures.live; pins = c.well_formed-3.ensures.held })) c.requires.few
     c.in_ok-trial.ensures.net c.in_ok-trial.ensures.steps c.new-log.ensures.items c.in_ok-tidy.ensures.goes second c.in_ok-sweep.ensures.tidy swept c.keep.ensures.net
     (held_back c.args.graph c.in_ok-trial.trial c.sweep.new.space.trial c.keep.new.self.graph c.in_ok-trial.ensures.held c.in_ok-trial.ensures.entries (tallies_then c.in_ok-trial.trial c.tidy.new.trial c.sweep.new.space.trial c.new-log.result.items c.tidy.new.log.items c.sweep.new.log.items c.in_ok-tidy.ensures.goes.tallies second.tallies).holds c.keep.ensures.held) in
-    let sized : IsSized c.sweep.new.space = sized_still c.in_ok-space.space c.sweep.new.space c.in_ok-space.ensures.sized c.in_ok-sweep.ensures.alike in
     record {
       tidy = c.keep.ensures.tidy c.in_ok-sweep.ensures.tidy;
       lent = lent_first c.accepted_steps_keep.ensures c.args.graph c.args.depth c.in_ok-trial.trial c.tidy.new.trial c.sweep.new.space.trial c.keep.new.self c.new-log.result.items c.tidy.new.log.items c.sweep.new.log.items c.well_formed-2.ensures.net
           (record { live = c.well_formed-2.ensures.live; pins = c.well_formed-2.ensures.held }) c.requires.few c.in_ok-trial.ensures.net c.in_ok-trial.ensures.first c.in_ok-trial.ensures.pins c.in_ok-trial.ensures.nodes c.in_ok-trial.ensures.steps
           c.in_ok-tidy.ensures.goes second c.keep.ensures.entries c.keep.ensures.room c.keep.ensures.first c.keep.ensures.net begun;
-      sized = record { engine = sized.engine; finder = sized.finder };
       vectors = subst (AreFor c.sweep.new.space.vectors) (sym c.keep.ensures.net) c.in_ok-sweep.ensures.vectors;
     }
+
+pub returns-in_err-sweep-clause-begun : goal.returns-in_err-sweep-clause-begun
+returns-in_err-sweep-clause-begun c = err_ok c.from_residual-in_err-sweep.result _ _ c.from_residual-in_err-sweep.ensures.1
+
+pub returns-in_err-sweep-clause-ready : goal.returns-in_err-sweep-clause-ready
+returns-in_err-sweep-clause-ready c = err_ok c.from_residual-in_err-sweep.result _ _ c.from_residual-in_err-sweep.ensures.1

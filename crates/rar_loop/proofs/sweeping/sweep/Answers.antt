@@ -4,7 +4,6 @@ use Rattle.wire_edit.specs.Work.{work}
 use Rattle.rar_loop.specs.Swept.{HasPassed}
 use Rattle.rar_loop.proofs.GoingOn.{goes_then}
 use Rattle.rar_loop.proofs.Looking.{pays_more, swept_last}
-use Rattle.rar_loop.proofs.Spacing.{alike_then}
 use Rattle.rar_loop.proofs.sweeping.sweep.Goals as goal
 
 pub returns-then-not-has_fixed-clause-goes : goal.returns-then-not-has_fixed-clause-goes
@@ -30,13 +29,10 @@ loop-has_fixed-preserved c =
       tidy = c.in_ok-has_fixed.ensures.tidy;
       pays = pays_more (net_of c.args.space.now.trial.graph) (net_of c.loop-has_fixed.space.trial.graph) (net_of c.pass.new.space.trial.graph) c.args.depth (length (net_of c.pass.new.space.trial.graph).nodes) inv.pays passed;
       touched = λ before d. c.in_ok-has_fixed.ensures.touched before (inv.touched before d);
-      alike = alike_then c.args.space.now c.loop-has_fixed.space c.pass.new.space inv.alike c.in_ok-has_fixed.ensures.alike;
+      serves = c.in_ok-has_fixed.ensures.serves;
       vectors = c.in_ok-has_fixed.ensures.vectors;
       room = omega (arith, zero);
     }
 
 pub returns-then-not-has_fixed-clause-touched : goal.returns-then-not-has_fixed-clause-touched
 returns-then-not-has_fixed-clause-touched c = λ before d. c.in_ok-has_fixed.ensures.touched before (c.loop-has_fixed.invariant.touched before d)
-
-pub returns-then-not-has_fixed-clause-alike : goal.returns-then-not-has_fixed-clause-alike
-returns-then-not-has_fixed-clause-alike c = alike_then c.args.space.now c.loop-has_fixed.space c.pass.new.space c.loop-has_fixed.invariant.alike c.in_ok-has_fixed.ensures.alike

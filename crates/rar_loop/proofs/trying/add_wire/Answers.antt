@@ -7,7 +7,7 @@ use Rattle.wire_edit.specs.declared.steps.Step.TheVariants.{Add}
 use Rattle.wire_edit.specs.Steps.{Applies}
 use Rattle.candidate_wires.specs.Gains.{net_for, with_candidate}
 use Rattle.rar_loop.specs.Changing.{HasNoted, NotesOn}
-use Rattle.rar_loop.proofs.Readying.{ready_after_add, add_refused, add_here, net_added, fault_is, fault_pin, size_within, new_pin_open, has_added}
+use Rattle.rar_loop.proofs.Readying.{ready_after_add, add_refused, add_here, net_added, fault_is, fault_pin, new_pin_open, has_added}
 use Rattle.rar_loop.proofs.GoingOn.{tallies_one, tallies_then, room_steps}
 use Rattle.journal_text.specs.declared.record.Record.TheVariants as record_of
 use Rattle.rar_loop.proofs.trying.add_wire.Goals as goal
@@ -24,23 +24,16 @@ refuted-requires-clause-pin c =
     let net : Net = net_of c.args.trial.now.graph in
     let wired : net_of c.graph-wired.result.now ≡ net_for net c.args.candidate.now = ap (λ (v : Circuit). net_of v) c.graph-wired.ensures ∙ c.in_ok-node.ensures.net in
     let is : c.new_pin-fault.result ≡ last_pin net c.args.candidate.now.gate.0 (not c.requires.candidate.1.control) = fault_is net (net_of c.graph-wired.result.now) c.args.candidate.now c.requires.candidate c.new_pin-fault.result wired c.new_pin-fault.ensures in
-    let after : net_of c.graph-3.result.now ≡ with_candidate net c.args.candidate.now = ap (λ (v : Circuit). net_of v) c.graph-3.ensures ∙ net_added net (net_of c.wire_of.new.trial.graph) (net_of c.apply.new.self.graph) c.args.candidate.now c.in_ok-node.node c.in_ok-node.ensures.net c.in_ok-node.ensures.node c.in-Ok.ensures.net in
-    fault_pin net (net_of c.graph-3.result.now) c.args.candidate.now c.requires.candidate c.new_pin-fault.result after is
-
-pub refuted-requires-clause-numbers : goal.refuted-requires-clause-numbers
-refuted-requires-clause-numbers c =
-    let net : Net = net_of c.args.trial.now.graph in
-    let after : net_of c.graph-3.result.now ≡ with_candidate net c.args.candidate.now = ap (λ (v : Circuit). net_of v) c.graph-3.ensures ∙ net_added net (net_of c.wire_of.new.trial.graph) (net_of c.apply.new.self.graph) c.args.candidate.now c.in_ok-node.node c.in_ok-node.ensures.net c.in_ok-node.ensures.node c.in-Ok.ensures.net in
-    let most : length net.nodes ≤ 4294967295 = subst (λ (v : Circuit). length (net_of v).nodes ≤ 4294967295) c.graph.ensures c.well_formed-2.ensures.nodes in
-    size_within net (net_of c.graph-3.result.now) c.args.candidate.now c.args.engine.now.numbers after most (omega (arith, c.requires.ready.nodes)) c.requires.numbers
+    let after : net_of c.graph-4.result.now ≡ with_candidate net c.args.candidate.now = ap (λ (v : Circuit). net_of v) c.graph-4.ensures ∙ net_added net (net_of c.wire_of.new.trial.graph) (net_of c.apply.new.self.graph) c.args.candidate.now c.in_ok-node.node c.in_ok-node.ensures.net c.in_ok-node.ensures.node c.in-Ok.ensures.net in
+    fault_pin net (net_of c.graph-4.result.now) c.args.candidate.now c.requires.candidate c.new_pin-fault.result after is
 
 pub returns-in-None-clause-added : goal.returns-in-None-clause-added
 returns-in-None-clause-added c =
     let net : Net = net_of c.args.trial.now.graph in
     let wired : net_of c.graph-wired.result.now ≡ net_for net c.args.candidate.now = ap (λ (v : Circuit). net_of v) c.graph-wired.ensures ∙ c.in_ok-node.ensures.net in
     let is : c.new_pin-fault.result ≡ last_pin net c.args.candidate.now.gate.0 (not c.requires.candidate.1.control) = fault_is net (net_of c.graph-wired.result.now) c.args.candidate.now c.requires.candidate c.new_pin-fault.result wired c.new_pin-fault.ensures in
-    let after : net_of c.graph-3.result.now ≡ with_candidate net c.args.candidate.now = ap (λ (v : Circuit). net_of v) c.graph-3.ensures ∙ net_added net (net_of c.wire_of.new.trial.graph) (net_of c.apply.new.self.graph) c.args.candidate.now c.in_ok-node.node c.in_ok-node.ensures.net c.in_ok-node.ensures.node c.in-Ok.ensures.net in
-    new_pin_open net (net_of c.graph-3.result.now) c.args.candidate.now c.requires.candidate c.new_pin-fault.result c.args.depth c.in_ok-refuted.field-0 after is c.in-None.is c.in_ok-refuted.ensures.looked
+    let after : net_of c.graph-4.result.now ≡ with_candidate net c.args.candidate.now = ap (λ (v : Circuit). net_of v) c.graph-4.ensures ∙ net_added net (net_of c.wire_of.new.trial.graph) (net_of c.apply.new.self.graph) c.args.candidate.now c.in_ok-node.node c.in_ok-node.ensures.net c.in_ok-node.ensures.node c.in-Ok.ensures.net in
+    new_pin_open net (net_of c.graph-4.result.now) c.args.candidate.now c.requires.candidate c.new_pin-fault.result c.args.depth c.in_ok-refuted.field-0 after is c.in-None.is c.in_ok-refuted.ensures.looked
 
 pub returns-in-None-clause-ready : goal.returns-in-None-clause-ready
 returns-in-None-clause-ready c =
@@ -55,9 +48,9 @@ returns-in_ok-push-in-Some-clause-added c =
     let formed : IsWellFormed net = subst (λ (v : Circuit). IsWellFormed (net_of v)) c.graph.ensures c.well_formed-2.ensures.net in
     let wired : net_of c.graph-wired.result.now ≡ net_for net c.args.candidate.now = ap (λ (v : Circuit). net_of v) c.graph-wired.ensures ∙ c.in_ok-node.ensures.net in
     let is : c.new_pin-fault.result ≡ last_pin net c.args.candidate.now.gate.0 (not c.requires.candidate.1.control) = fault_is net (net_of c.graph-wired.result.now) c.args.candidate.now c.requires.candidate c.new_pin-fault.result wired c.new_pin-fault.ensures in
-    let after : net_of c.graph-3.result.now ≡ with_candidate net c.args.candidate.now = ap (λ (v : Circuit). net_of v) c.graph-3.ensures ∙ net_added net (net_of c.wire_of.new.trial.graph) (net_of c.apply.new.self.graph) c.args.candidate.now c.in_ok-node.node c.in_ok-node.ensures.net c.in_ok-node.ensures.node c.in-Ok.ensures.net in
+    let after : net_of c.graph-4.result.now ≡ with_candidate net c.args.candidate.now = ap (λ (v : Circuit). net_of v) c.graph-4.ensures ∙ net_added net (net_of c.wire_of.new.trial.graph) (net_of c.apply.new.self.graph) c.args.candidate.now c.in_ok-node.node c.in_ok-node.ensures.net c.in_ok-node.ensures.node c.in-Ok.ensures.net in
     let few : wire_count (net_for net c.args.candidate.now) < ceiling = omega (arith, c.in_ok-node.ensures.ready.wires, ap wire_count c.in_ok-node.ensures.net) in
-    has_added net (net_of c.graph-3.result.now) c.args.candidate.now c.requires.candidate c.in_ok-node.node c.new_pin-fault.result c.args.depth c.in_ok-refuted.field-0 c.in-Some.tree c.wire_of.new.log.items c.push.new.self.items formed (omega (arith, c.requires.ready.nodes)) few after is c.in-Some.is c.in_ok-refuted.ensures.looked c.in_ok-node.ensures.node c.in_ok-node.ensures.log c.in_ok-push-in-Some.ensures.items
+    has_added net (net_of c.graph-4.result.now) c.args.candidate.now c.requires.candidate c.in_ok-node.node c.new_pin-fault.result c.args.depth c.in_ok-refuted.field-0 c.in-Some.tree c.wire_of.new.log.items c.push.new.self.items formed (omega (arith, c.requires.ready.nodes)) few after is c.in-Some.is c.in_ok-refuted.ensures.looked c.in_ok-node.ensures.node c.in_ok-node.ensures.log c.in_ok-push-in-Some.ensures.items
 
 pub returns-in_ok-push-in-Some-clause-ready : goal.returns-in_ok-push-in-Some-clause-ready
 returns-in_ok-push-in-Some-clause-ready c =

@@ -4,7 +4,6 @@ use Rattle.gate_graph.specs.Circuit.{Circuit, net_of}
 use Rattle.candidate_wires.specs.Gains.{with_candidate}
 use Rattle.wire_edit.specs.Tried.{Tried}
 use Rattle.rar_loop.specs.Trying.{HasAdded}
-use Rattle.rar_loop.proofs.Readying.{size_within}
 use Rattle.rar_loop.proofs.Replacing.{added_sources, target_pin, target_free, replaced_whole}
 use Rattle.wire_edit.specs.Work.{work}
 use Rattle.rar_loop.specs.Going.{Goes, Tallies}
@@ -20,26 +19,11 @@ refuted-requires-clause-pin c =
     let after : net_of c.graph-2.result.now ≡ with_candidate net c.args.pair.now.candidate = ap (λ (v : Circuit). net_of v) c.graph-2.ensures ∙ c.in_ok-added.ensures.net in
     target_pin net (net_of c.graph-2.result.now) c.args.pair.now formed c.requires.pair after
 
-pub refuted-requires-clause-numbers : goal.refuted-requires-clause-numbers
-refuted-requires-clause-numbers c =
-    let net : Net = net_of c.args.space.now.trial.graph in
-    let after : net_of c.graph-2.result.now ≡ with_candidate net c.args.pair.now.candidate = ap (λ (v : Circuit). net_of v) c.graph-2.ensures ∙ c.in_ok-added.ensures.net in
-    let most : length net.nodes ≤ 4294967295 = subst (λ (v : Circuit). length (net_of v).nodes ≤ 4294967295) c.graph.ensures c.well_formed-2.ensures.nodes in
-    let le : length (net_of c.graph-2.result.now).nodes ≤ c.args.space.now.engine.numbers = size_within net (net_of c.graph-2.result.now) c.args.pair.now.candidate c.args.space.now.engine.numbers after most (omega (arith, c.requires.ready.nodes)) c.requires.numbers in
-    omega (arith, le, c.in_ok-added.ensures.numbers)
-
 pub fix_and_tidy-requires-clause-pin : goal.fix_and_tidy-requires-clause-pin
 fix_and_tidy-requires-clause-pin c =
     let net : Net = net_of c.args.space.now.trial.graph in
     let formed : IsWellFormed net = subst (λ (v : Circuit). IsWellFormed (net_of v)) c.graph.ensures c.well_formed-2.ensures.net in
     target_free net (net_of c.add_wire.new.trial.graph) c.args.pair.now formed c.requires.tidy c.requires.pair c.in_ok-added.ensures.net
-
-pub sweep-requires-clause-numbers : goal.sweep-requires-clause-numbers
-sweep-requires-clause-numbers c =
-    let net : Net = net_of c.args.space.now.trial.graph in
-    let most : length net.nodes ≤ 4294967295 = subst (λ (v : Circuit). length (net_of v).nodes ≤ 4294967295) c.graph.ensures c.well_formed-2.ensures.nodes in
-    let le : length (net_of c.add_wire.new.trial.graph).nodes ≤ c.args.space.now.engine.numbers = size_within net (net_of c.add_wire.new.trial.graph) c.args.pair.now.candidate c.args.space.now.engine.numbers c.in_ok-added.ensures.net most (omega (arith, c.requires.ready.nodes)) c.requires.numbers in
-    omega (arith, le, c.in_ok-fix_and_tidy-in-Some.ensures.goes.no_larger.numbers, c.in_ok-added.ensures.numbers, c.in_ok-refuted.ensures.numbers, c.follow.ensures.alike.engine, ap (λ (t : Tried). length (net_of t.graph).nodes) c.follow.ensures.trial)
 
 pub returns-clause-replaced : goal.returns-clause-replaced
 returns-clause-replaced c =

@@ -32,9 +32,6 @@ replace-requires-clause-room c = omega (arith, ap (λ r. r.nodes) c.requires.rea
 pub replace-requires-clause-pins : goal.replace-requires-clause-pins
 replace-requires-clause-pins c = omega (arith, ap (λ r. r.pins) c.requires.ready.lent.room, c.requires.ready.lent.pins, some_wire (net_of c.args.space.now.trial.graph) c.args.pair.now.fault c.requires.pair.pin)
 
-pub replace-requires-clause-numbers : goal.replace-requires-clause-numbers
-replace-requires-clause-numbers c = omega (arith, c.requires.room, c.requires.ready.sized.engine)
-
 pub returns-then-not-refuted-clause-attempt : goal.returns-then-not-refuted-clause-attempt
 returns-then-not-refuted-clause-attempt c =
     let t = c.args.space.now.trial in

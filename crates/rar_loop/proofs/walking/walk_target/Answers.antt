@@ -8,7 +8,7 @@ use Rattle.candidate_wires.specs.Gains.{Gains}
 use Rattle.candidate_wires.specs.Pairs.{paired}
 use Rattle.rar_loop.specs.Trying.{MayTry, IsAttempt, IsAhead, IsBack}
 use Rattle.rar_loop.proofs.Pairing.{index_is, candidates_may, tried_more, tried_none, back_none, back_then, ahead_back}
-use Rattle.rar_loop.proofs.Spacing.{alike_then, ready_still, room_still}
+use Rattle.rar_loop.proofs.Spacing.{ready_still}
 use Rattle.rar_loop.proofs.walking.walk_target.Goals as goal
 
 pub loop-place-init : goal.loop-place-init
@@ -18,7 +18,6 @@ loop-place-init c =
       stays = back_none t c.requires.ready.lent;
       tried = tried_none (net_of t.graph) c.args.target c.in_ok-found.found.items (subst (λ (v : Circuit). AreCandidatesOf (net_of v) c.args.target c.in_ok-found.found.items) c.graph-graph.ensures c.in_ok-found.ensures.candidates);
       sum = omega arith;
-      alike = record { engine = c.candidates_of.ensures.numbers; finder = c.candidates_of.ensures.marks; numbers = refl };
       vectors = c.requires.ready.vectors;
     }
 
@@ -53,19 +52,8 @@ loop-place-preserved c =
       stays = back_then c.args.space.now.trial c.loop-place.space.trial c.try_unless_detected.new.space.trial inv.stays failed.0;
       tried = tried_more (net_of c.args.space.now.trial.graph) c.args.target c.in_ok-found.found.items c.loop-place.place c.index.result.now inv.tried at (subst (λ (n : Net). Gains n pair → ⊥) inv.stays.same.net failed.1);
       sum = omega (arith, inv.sum, c.if-left-eq0.false);
-      alike = alike_then c.args.space.now c.loop-place.space c.try_unless_detected.new.space inv.alike c.in_ok-try_unless_detected.ensures.alike;
       vectors = c.in_ok-try_unless_detected.ensures.vectors;
     }
-
-pub candidates_of-requires-clause-numbers : goal.candidates_of-requires-clause-numbers
-candidates_of-requires-clause-numbers c =
-    let most : length (net_of c.graph-graph.result.now).nodes ≤ 4294967295 = c.well_formed-2.ensures.nodes in
-    omega (arith, c.requires.room, c.requires.ready.sized.engine, most, ap (λ (v : Circuit). length (net_of v).nodes) c.graph-graph.ensures)
-
-pub candidates_of-requires-clause-marks : goal.candidates_of-requires-clause-marks
-candidates_of-requires-clause-marks c =
-    let most : length (net_of c.graph-graph.result.now).nodes ≤ 4294967295 = c.well_formed-2.ensures.nodes in
-    omega (arith, c.requires.room, c.requires.ready.sized.finder, most, ap (λ (v : Circuit). length (net_of v).nodes) c.graph-graph.ensures)
 
 pub returns-then-left-eq0-clause-tour : goal.returns-then-left-eq0-clause-tour
 returns-then-left-eq0-clause-tour c =
@@ -77,9 +65,4 @@ returns-then-left-eq0-clause-tour c =
 pub try_unless_detected-requires-clause-ready : goal.try_unless_detected-requires-clause-ready
 try_unless_detected-requires-clause-ready c =
     let inv = c.loop-place.invariant in
-    ready_still c.args.space.now c.loop-place.space c.requires.ready inv.stays inv.alike inv.vectors
-
-pub try_unless_detected-requires-clause-room : goal.try_unless_detected-requires-clause-room
-try_unless_detected-requires-clause-room c =
-    let inv = c.loop-place.invariant in
-    room_still c.args.space.now c.loop-place.space c.requires.room inv.stays inv.alike
+    ready_still c.args.space.now c.loop-place.space c.requires.ready inv.stays inv.vectors

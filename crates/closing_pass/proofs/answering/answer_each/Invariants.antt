@@ -1,12 +1,13 @@
 use Rattle.gate_graph.specs.Circuit.{net_of}
 use Rattle.podem.specs.Searchers.{Serves}
-use Rattle.std.proofs.Common.{length, take, ◌≤◌}
+use Rattle.std.proofs.Common.{take}
+use Rattle.recursive_learning.specs.Serving.{IsServing}
 use Rattle.closing_pass.specs.Verdicts.{AreVerdicts}
-use Rattle.closing_pass.proofs.pieces.piece.Given as goal
+use Rattle.closing_pass.proofs.answering.answer_each.Given as goal
 
 abbrev pub invariant-loop-fault : goal.invariant-loop-fault
-invariant-loop-fault g l = record {
+invariant-loop-fault l = record {
   verdicts : AreVerdicts (net_of l.graph) l.settings.budget (take l.fault-index l.faults) l.verdicts.items;
-  numbers : length (net_of l.graph).nodes ≤ l.engine.numbers;
-  serves : Serves l.searcher (net_of l.graph);
+  refutes : IsServing (net_of l.graph) l.refuter;
+  searches : Serves l.searcher (net_of l.graph);
 }

@@ -2,15 +2,15 @@ use Rattle.gate_graph.specs.Circuit.{net_of}
 use Rattle.std.proofs.lemmas.Option.{slice_get-get_or}
 use Rattle.closing_pass.specs.Verdicts.{IsAnswer}
 use Rattle.closing_pass.proofs.InOrder.{zip_more}
-use Rattle.closing_pass.proofs.pieces.piece.Goals as goal
+use Rattle.closing_pass.proofs.answering.answer_each.Goals as goal
 
 pub loop-fault-preserved : goal.loop-fault-preserved
-loop-fault-preserved g c = record {
+loop-fault-preserved c = record {
   verdicts =
       rw c.in_ok-push.ensures.items (zip_more (IsAnswer (net_of c.args.graph.now) c.args.settings.now.budget) c.args.faults.now c.loop-fault.verdicts.items c.loop-fault.fault-index _ c.in_ok-verdict.verdict c.loop-fault-test.true c.loop-fault.invariant.verdicts c.in_ok-verdict.ensures.answer);
-  numbers = rw c.in_ok-verdict.ensures.numbers c.loop-fault.invariant.numbers;
-  serves = c.in_ok-verdict.ensures.serves (net_of c.args.graph.now) c.loop-fault.invariant.serves;
+  refutes = c.in_ok-verdict.ensures.refutes;
+  searches = c.in_ok-verdict.ensures.searches (net_of c.args.graph.now) c.loop-fault.invariant.searches;
 }
 
 pub answer-requires-clause-pin : goal.answer-requires-clause-pin
-answer-requires-clause-pin g c = c.requires.pins c.loop-fault.fault-index _ (slice_get-get_or c.args.faults.now c.loop-fault.fault-index _ c.loop-fault-test.true)
+answer-requires-clause-pin c = c.requires.pins c.loop-fault.fault-index _ (slice_get-get_or c.args.faults.now c.loop-fault.fault-index _ c.loop-fault-test.true)

@@ -1,0 +1,73 @@
+-- Blocks of kept vectors.
+use Rattle.std.proofs.Common.{◌≡◌, ℕ, zero, suc, ◌+◌, ◌-◌, ◌<◌, ◌≤◌, ◌⊎◌, inl, inr, Bool, Some, List, [], ◌∷◌, ◌++◌, length, map, min, take, drop, refl, sym, ◌∙◌, ap, subst, append_assoc, arith}
+use Rattle.std.specs.Prelude.{slice_get}
+use Rattle.std.proofs.Math.Nat.{min_comm}
+use Rattle.std.proofs.lemmas.List.{drop_min, map-append, take_min}
+use Rattle.podem.specs.declared.verdict.Verdict.{Verdict}
+use Rattle.podem.specs.declared.verdict.Verdict.TheVariants as verdict
+use Rattle.rm_base.specs.declared.numbers.Fault.{Fault}
+use Rattle.closing_pass.specs.Blocks.{AreBlocksOf, AreKept, HaveVector, HaveVectors}
+use Rattle.closing_pass.specs.Findings.{AreLong, ArePacked, AreVerdictsOf, IsVerdictOf}
+use Rattle.closing_pass.specs.declared.finding.Finding.{Finding}
+use Rattle.closing_pass.specs.declared.finding.Finding.TheVariants.{Detected, Open, Spent}
+use Rattle.closing_pass.proofs.Standing.{stands_dropped, stands_taken, taken_stands}
+use Rattle.closing_pass.proofs.Tries.{lt_or_le}
+
+-- with one more block
+pub block_more : {A : Type 0} (f : A → List ℕ) (vectors rest : List (List Bool)) (done : List A) (words : A)
+    → ((more : List (List ℕ)) → AreBlocksOf rest more → AreBlocksOf vectors (map f done ++ more)) → ArePacked (take 64 rest) (f words)
+    → (more : List (List ℕ)) → AreBlocksOf (drop 64 rest) more → AreBlocksOf vectors (map f (done ++ words ∷ []) ++ more)
+block_more f vectors rest done words h packed more are =
+    let e : map f (done ++ words ∷ []) ++ more ≡ map f done ++ (f words ∷ more) = ap (λ (l : List (List ℕ)). l ++ more) (map-append f done (words ∷ [])) ∙ append_assoc (map f done) (f words ∷ []) more in
+    subst (AreBlocksOf vectors) (sym e) (h (f words ∷ more) (packed, are))
+
+-- at most 64 of them
+pub take_most : (rest : List (List Bool)) → take (min (length rest) 64) rest ≡ take 64 rest
+take_most rest = ap (λ (n : ℕ). take n rest) (min_comm (length rest) 64) ∙ take_min 64 rest
+
+pub drop_most : (rest : List (List Bool)) → drop (min (length rest) 64) rest ≡ drop 64 rest
+drop_most rest = ap (λ (n : ℕ). drop n rest) (min_comm (length rest) 64) ∙ drop_min 64 rest
+
+pub none_left : (rest : List (List Bool)) → length rest ≡ 0 → rest ≡ []
+none_left [] e = refl
+none_left (v ∷ rest) e = absurd (omega (arith, e))
+
+-- what is left has as many values a vector
+pub long_rest : (rest : List (List Bool)) (n sources : ℕ) → AreLong rest sources → AreLong (drop n rest) sources
+long_rest rest n sources long k v is = long (n + k) v (sym (stands_dropped rest n k) ∙ is)
+
+pub long_block : (rest : List (List Bool)) (n sources : ℕ) → AreLong rest sources → AreLong (take n rest) sources
+long_block rest n sources long k v is = long k v (stands_taken rest n k v is)
+
+-- each vector is in a lane of a block
+pub blocks_have : (vectors : List (List Bool)) (blocks : List (List ℕ)) → AreBlocksOf vectors blocks → (n : ℕ) (v : List Bool) → slice_get vectors n ≡ Some v → HaveVector blocks v
+blocks_have vectors [] none n v is = absurd (no_more vectors none n v is)
+  where
+    no_more : (vs : List (List Bool)) → vs ≡ [] → (k : ℕ) (u : List Bool) → slice_get vs k ≡ Some u → ⊥
+    no_more [] e k u there = absurd (cc)
+    no_more (w ∷ vs) e k u there = absurd (cc)
+blocks_have vectors (words ∷ blocks) (packed, are) n v is = at (lt_or_le n 64) (λ k there. blocks_have (drop 64 vectors) blocks are k v there)
+  where
+    later : HaveVector blocks v → HaveVector (words ∷ blocks) v
+    later (k, i, (ws, (there, same))) = (suc k, i, (ws, (there, same)))
+
+    at : (n < 64) ⊎ (64 ≤ n) → ((k : ℕ) → slice_get (drop 64 vectors) k ≡ Some v → HaveVector blocks v) → HaveVector (words ∷ blocks) v
+    at (inl lt) rest = (0, n, (words, (refl, packed n v (taken_stands vectors 64 n lt ∙ is))))
+    at (inr le) rest = let e : 64 + (n - 64) ≡ n = omega (arith, le) in later (rest (n - 64) (stands_dropped vectors 64 (n - 64) ∙ ap (slice_get vectors) e ∙ is))
+
+-- the verdicts' vectors are kept
+pub verdicts_kept : (kept : List (List Bool)) (faults : List Fault) (found : List Finding) (verdicts : List (Fault × Verdict)) → AreVerdictsOf kept faults found verdicts → AreKept kept verdicts
+verdicts_kept kept faults found verdicts are j fault vector is =
+    let f : (finding : Finding) × ((slice_get found j ≡ Some finding) × IsVerdictOf kept finding (verdict.Detected vector)) = are.verdicts_are j (fault, verdict.Detected vector) is in
+    at f.0 f.1.1
+  where
+    at : (finding : Finding) → IsVerdictOf kept finding (verdict.Detected vector) → (k : ℕ) × (slice_get kept k ≡ Some vector)
+    at Open h = absurd h
+    at (Detected number) there = (number, there)
+    at (Spent tree) h = absurd h
+
+-- and so the blocks have them
+pub blocks_have_all : (kept : List (List Bool)) (blocks : List (List ℕ)) (verdicts : List (Fault × Verdict)) → AreBlocksOf kept blocks → AreKept kept verdicts → HaveVectors blocks verdicts
+blocks_have_all kept blocks verdicts are all j fault vector is =
+    let k : (n : ℕ) × (slice_get kept n ≡ Some vector) = all j fault vector is in
+    blocks_have kept blocks are k.0 vector k.1
