@@ -209,13 +209,22 @@ fn no_wire_is_added(rt: HostRuntime) -> Result<(), Fail> {
 // Where 5 reads 2 and And(2, 3), its second pin can't be told from a constant 1.
 const TWICE: [Gate; 2] = [Gate::And(2, 3), Gate::And(4, 2)];
 
-fn count_candidates(alloc: Global, graph: &Graph, target: &Fault) -> Result<usize, Fail> {
+fn count_by(
+    alloc: Global,
+    closer: &mut Closer,
+    graph: &Graph,
+    target: &Fault,
+) -> Result<usize, Fail> {
     let Some(_) = graph.driver(target.gate, target.position) else {
         return Err("no pin".into());
     };
-    let mut closer = Closer::new(alloc, graph)?;
     closer.fit(alloc, graph)?;
     Ok(closer.candidates_of(alloc, graph, target)?.len())
+}
+
+fn count_candidates(alloc: Global, graph: &Graph, target: &Fault) -> Result<usize, Fail> {
+    let mut closer = Closer::new(alloc, graph)?;
+    count_by(alloc, &mut closer, graph, target)
 }
 
 #[test]
