@@ -1,9 +1,9 @@
 -- From the audit of a journal and an output to what `check` says of them.
-use Rattle.std.proofs.Common.{◌≡◌, ◌≤◌, ℕ, refl, sym, subst, inl, inr, Result, Ok, Err}
-use Rattle.std.specs.Prelude.{Option, None, Some, IfErr, IfSome, IsSome}
+use Rattle.std.proofs.Common.{◌≡◌, ◌≤◌, ℕ, List, refl, sym, subst, inl, inr, arith, Result, Ok, Err}
+use Rattle.std.specs.Prelude.{Option, None, Some, IfErr, IfSome, IsSome, IsSomeAnd}
 use Rattle.std.specs.Result.{IsErrAnd}
 use Rattle.rm_base.specs.Causes.{Rose}
-use Rattle.rm_base.specs.Files.{Files}
+use Rattle.rm_base.specs.Files.{Files, file_of}
 use Rattle.rm_model.specs.Words.{Word}
 use Rattle.rm_model.specs.declared.parts.Model.{Model}
 use Rattle.cover_decompose.specs.Count.{decomposed}
@@ -12,8 +12,10 @@ use Rattle.journal_audit.specs.declared.problem.AuditProblem.{AuditProblem}
 use Rattle.journal_audit.specs.declared.problem.AuditProblem.TheVariants as audit
 use Rattle.rambo_cli.specs.Composition.{PassedAuditsTell}
 use Rattle.rambo_cli.specs.Outcome.{Audited, HasPassed, Holds}
-use Rattle.rambo_cli.specs.Problems.{CheckCause, audit_problem}
-use Rattle.rambo_cli.specs.Written.{IsSaid, IsUsable}
+use Rattle.rambo_cli.specs.Problems.{CheckCause, ModelCause, ReadCause, audit_problem}
+use Rattle.rambo_cli.specs.Written.{Exceeds, IsSaid, IsUsable}
+use Rattle.rambo_cli.specs.declared.problem.Problem.{Problem}
+use Rattle.rambo_cli.specs.declared.problem.Problem.TheVariants.{Fault, Journal, Limit, Memory, Missing, Netlist, Record, Text, Words}
 
 -- an error that is handed on
 pub handed_on : {V E : Type 0} (r : Result V E) (e : E) (P : E → Type 0) → IsErrAnd r (λ q. q ≡ e) → P e → IfErr r P
@@ -43,3 +45,20 @@ pub audit_passed : (tell : PassedAuditsTell) (m : Model) (input journal output :
     → IfSome files (λ told. IsPassed m told journal output count) → IfSome files (HasPassed input journal output count)
 audit_passed tell m input journal output count None usable said few passed = tt
 audit_passed tell m input journal output count (Some told) usable said few passed = (m, (said, (few, (passed, tell m told journal output count usable.formed usable.ranked usable.ranks passed))))
+
+-- a model that was read and has too many pins is why its text isn't decomposed
+pub too_many : (m : Model) (input : Word) (files : Option Files) (before now : ℕ) (problem : Problem) → IfSome files (λ told. Holds told input (λ text. IsSaid text m)) → ModelCause m 0 0 problem → ReadCause input files before now problem
+too_many m input None before now (Limit quantity count) said cause = tt
+too_many m input (Some told) before now (Limit quantity count) said (named, (counted, many)) = at (file_of told input) said
+  where
+    at : (text : Option (List ℕ)) → IsSomeAnd text (λ t. IsSaid t m) → IsSomeAnd text (λ t. Exceeds t quantity count)
+    at None none = absurd none
+    at (Some text) is = inr (inr (record { short = is.short; model = m; faultless = is.faultless; reads = is.reads; many = many; named = named; counted = counted }))
+too_many m input files before now Memory said cause = tt
+too_many m input files before now Fault said cause = absurd (omega (arith, cause))
+too_many m input files before now Words said cause = absurd cause
+too_many m input files before now (Text kind place) said cause = absurd cause
+too_many m input files before now Missing said cause = absurd cause
+too_many m input files before now (Journal fault) said cause = absurd cause
+too_many m input files before now (Record refusal) said cause = absurd cause
+too_many m input files before now (Netlist byte) said cause = absurd cause

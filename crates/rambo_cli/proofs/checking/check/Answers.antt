@@ -1,9 +1,9 @@
-use Rattle.std.proofs.Common.{Option, subst, ap, Err}
+use Rattle.std.proofs.Common.{Option, subst, ap, Err, inl}
 use Rattle.std.specs.Prelude.{IfSome, IsSome}
 use Rattle.rm_base.specs.Files.{Files}
 use Rattle.journal_audit.specs.Audited.{IsPassed, IsProblem}
 use Rattle.rambo_cli.specs.Problems.{CheckCause, audit_problem}
-use Rattle.rambo_cli.proofs.Auditing.{audit_cause, audit_passed, handed_on}
+use Rattle.rambo_cli.proofs.Auditing.{audit_cause, audit_passed, handed_on, too_many}
 use Rattle.rambo_cli.proofs.Rising.{risen_after}
 use Rattle.rambo_cli.proofs.checking.check.Goals as goal
 
@@ -22,3 +22,9 @@ pub returns-clause-passed : goal.returns-clause-passed
 returns-clause-passed g c =
     audit_passed c.passed_audits_tell.ensures c.in_ok-model.model c.args.input.now c.args.journal.now c.args.output.now c.in_ok-count.count (g.S.Shelf.files c.args.shelf.now) c.in_ok-model.ensures.usable c.in_ok-model.ensures.said c.in_ok-fits.ensures.few
     (subst (λ (o : Option Files). IfSome o (λ told. IsPassed c.in_ok-model.model told c.args.journal.now c.args.output.now c.in_ok-count.count)) c.in_ok-model.ensures.files c.in_ok-count.ensures.passed)
+
+pub returns-in_err-fits-clause-cause : goal.returns-in_err-fits-clause-cause
+returns-in_err-fits-clause-cause g c =
+    let problem = c.in_err-fits.field-0.0 in
+    handed_on c.from_residual-in_err-fits.result problem (CheckCause c.args.input.now c.args.journal.now c.args.output.now (g.S.Shelf.files c.args.shelf.now) (g.S.Shelf.faults c.args.shelf.now) (g.S.Shelf.faults c.read_input.new.shelf)) c.from_residual-in_err-fits.ensures.1
+    (inl (too_many c.in_ok-model.model c.args.input.now (g.S.Shelf.files c.args.shelf.now) (g.S.Shelf.faults c.args.shelf.now) (g.S.Shelf.faults c.read_input.new.shelf) problem c.in_ok-model.ensures.said c.in_err-fits.ensures.cause))
