@@ -135,11 +135,13 @@ fn ascending(alloc: Global, added: &[(NodeId, Fact)]) -> Result<Vec<u32>, NoMemo
 fn look_on(
     graph: &Graph,
     facts: &FactSet,
+    bound: u32,
     number: u32,
     next: &mut u32,
     nodes: &mut Vec<Known>,
 ) -> Result<(), NoMemory>
     requires facts { length (net_of graph.now).nodes ≤ length facts.now }
+    requires bound { bound ≡ length (net_of graph.now).nodes }
     requires next { next.old ≤ length (net_of graph.now).nodes }
     ensures known { OnOk result (AreKnown (net_of graph.now) (held_by facts.now) next.old nodes.old.items → (number < length (net_of graph.now).nodes → HasNoneFrom (net_of graph.now) (held_by facts.now) next.old number) → AreKnown (net_of graph.now) (held_by facts.now) next.new nodes.new.items) }
     ensures seen { OnOk result ((number < next.new) ⊎ (length (net_of graph.now).nodes ≤ number)) }
@@ -149,7 +151,7 @@ fn look_on(
     if number < *next {
         return Ok(());
     }
-    if number >= graph.node_bound() {
+    if number >= bound {
         return Ok(());
     }
     *next = number + 1;
@@ -174,8 +176,9 @@ fn known_in_order(
 {
     let mut nodes = Vec::new(alloc);
     let mut next = 0u32;
+    let bound = graph.node_bound();
     for number in numbers {
-        look_on(graph, facts, *number, &mut next, &mut nodes)?;
+        look_on(graph, facts, bound, *number, &mut next, &mut nodes)?;
     }
     Ok(nodes)
 }
