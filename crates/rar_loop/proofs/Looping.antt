@@ -22,7 +22,7 @@ use Rattle.journal_text.specs.Runs.{AreRemovals}
 use Rattle.rar_loop.specs.Swept.{IsSwept, HasSwept}
 use Rattle.rar_loop.specs.Trying.{IsClean, IsGained, IsLent}
 use Rattle.wire_edit.specs.declared.room.Room.{Room}
-use Rattle.rar_loop.proofs.Replacing.{lent_again}
+use Rattle.rar_loop.specs.Sizes.{IsSame}
 use Rattle.rar_loop.specs.Improving.{HasBegun, HasImproved}
 use Rattle.rar_loop.proofs.GoingOn.{accepted_then, goes_then}
 use Rattle.rar_loop.proofs.Blocks.{removals_clean, removals_add_none, steps_then, places_then, improve_then, block_then}
@@ -85,17 +85,33 @@ room_first t net e law well steps =
     let l : live_count net ≤ 2 + (source_count net + gate_count net) = live_bound net well in
     omega (arith, w, b, l, steps)
 
--- the trial of the beginning may be lent
-pub lent_first :
-    AcceptedStepsKeep → (before : Circuit) (depth : ℕ) (t u v k : Tried) (l0 l1 l2 : List Record) → IsWellFormed (net_of before) → HasSize before → pins_taken before + live_nodes before ≤ 1048576
-    → net_of t.graph ≡ net_of before → t.first ≡ t.room → t.room.pins ≡ 2 * wire_count (net_of before) → t.room.nodes ≡ wire_count (net_of before) → t.room.steps ≡ 2 * wire_count (net_of before) + 2 * (2 + source_count (net_of before) + gate_count (net_of before)) + 16
-    → Goes t u l0 l1 → Goes u v l1 l2 → k.trail.entries ≡ [] → k.room ≡ record v.room { steps = v.first.steps } → k.first ≡ k.room → net_of k.graph ≡ net_of v.graph → HasBegun before depth k.graph l2 → IsLent k
-lent_first law before depth t u v k l0 l1 l2 well size enough e first pins nodes steps g h none room first' is begun =
-    let both : Goes t v l0 l2 = goes_then t u v l0 l1 l2 g h in
-    let less : IsNoLarger (net_of before) (net_of k.graph) = subst (λ (n : Net). IsNoLarger (net_of before) n) (sym is) (subst (λ (n : Net). IsNoLarger n (net_of v.graph)) e both.no_larger) in
-    let sources : source_count (net_of k.graph) ≡ source_count (net_of before) = accepted_sources law (net_of before) (net_of k.graph) l2 well begun.accepted in
-    let all : t.first.steps ≡ t.room.steps = ap (λ (r : Room). r.steps) first in
-    lent_again t v k 0 0 both.left both.first none room first' (omega (arith, less.wires, pins)) (omega (arith, less.wires, nodes)) (omega (arith, less.wires, less.gates, sources, steps, all)) (omega (arith, steps, all, size.live, size.pins, enough)) (omega (arith, begun.within.size, enough))
+-- the same net in as many pins: as many are held
+pub held_still : (before graph : Circuit) → HasSize before → HasSize graph → IsSame before graph → pins_held graph ≡ pins_held before
+held_still before graph size size' same =
+    let w : wire_count (net_of graph) ≡ wire_count (net_of before) = ap wire_count same.net in
+    let o : length (net_of graph).observed ≡ length (net_of before).observed = ap (λ (n : Net). length n.observed) same.net in
+    omega (arith, w, o, size.pins, size'.pins, same.pins)
+
+-- a trial that has just begun may be lent
+pub lent_anew :
+    (graph : Circuit) (t : Tried) → HasSize t.graph → net_of t.graph ≡ net_of graph → t.room.pins ≡ 2 * wire_count (net_of graph) → t.room.nodes ≡ wire_count (net_of graph) → t.room.steps ≡ 2 * wire_count (net_of graph) + 2 * (2 + source_count (net_of graph) + gate_count (net_of graph)) + 16
+    → t.first ≡ t.room → t.trail.entries ≡ [] → pins_taken t.graph + live_nodes t.graph ≤ 1048576 → IsLent t
+lent_anew graph t size is pins nodes steps first none few =
+    let w : wire_count (net_of t.graph) ≡ wire_count (net_of graph) = ap wire_count is in
+    let s : source_count (net_of t.graph) ≡ source_count (net_of graph) = ap source_count is in
+    let k : gate_count (net_of t.graph) ≡ gate_count (net_of graph) = ap gate_count is in
+    let p : t.first.pins ≡ t.room.pins = ap (λ (r : Room). r.pins) first in
+    let n : t.first.nodes ≡ t.room.nodes = ap (λ (r : Room). r.nodes) first in
+    let m : t.first.steps ≡ t.room.steps = ap (λ (r : Room). r.steps) first in
+    record {
+      entries = none;
+      room = sym first;
+      pins = omega (arith, w, p, pins);
+      nodes = omega (arith, w, n, nodes);
+      steps = omega (arith, w, s, k, m, steps);
+      few_steps = omega (arith, w, s, k, m, steps, size.live, size.pins, few);
+      few = few;
+    }
 
 -- the trial of the beginning: the graph, the trial at first, once tidied and once swept, and what it gives
 pub begun_first :

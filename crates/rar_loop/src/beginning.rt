@@ -9,7 +9,7 @@ ghost use Rattle.rar_loop.specs.Spaces.{IsReady};
 use crate::changes::Changed;
 use crate::sweeping::sweep;
 use crate::tidying::tidy;
-use crate::workspace::Workspace;
+use crate::workspace::{Workspace, finished};
 use gate_graph::Graph;
 use journal_text::{Record, accepted_steps_keep};
 use rm_base::NoMemory;
@@ -53,6 +53,27 @@ fn begin(alloc: Global, graph: Graph) -> Result<Trial, NoMemory>
     }
 }
 
+// A trial for removals alone: nothing is made in it, so that the numbers of the net stay close together.
+fn begin_removals(alloc: Global, graph: Graph) -> Result<Trial, NoMemory>
+    requires { pins_taken graph + live_nodes graph ≤ 1048576 }
+    ensures net { IfOk result (λ t. net_of t.graph ≡ net_of graph) }
+    ensures steps { IfOk result (λ t. t.room.steps ≡ 2 * wire_count (net_of graph) + 2 * (2 + source_count (net_of graph) + gate_count (net_of graph)) + 16) }
+    ensures entries { IfOk result (λ t. t.trail.entries ≡ []) }
+    ensures held { IfOk result (λ t. pins_held t.graph ≡ pins_held graph) }
+{
+    graph.well_formed();
+    let steps = whole_room(&graph).steps;
+    let room = Room {
+        pins: 0,
+        nodes: 0,
+        steps,
+    };
+    match Trial::begin(alloc, graph, room) {
+        Ok(trial) => Ok(trial),
+        Err(BeginRefusal::NoMemory { graph: _ }) => Err(NoMemory),
+    }
+}
+
 /// Tidies and sweeps, and gives the records of that beside a workspace that is ready for tries.
 pub(crate) fn begun(
     alloc: Global,
@@ -68,12 +89,17 @@ pub(crate) fn begun(
     tidying_ends();
     accepted_steps_keep();
     graph.well_formed();
-    let mut trial = begin(alloc, graph)?;
+    let mut trial = begin_removals(alloc, graph)?;
     let mut log = Vec::new(alloc);
     tidy(alloc, &mut trial, &mut log, &mut Changed::new(alloc))?;
     let mut space = Workspace::over(alloc, trial, found)?;
     sweep(alloc, &mut space, &mut log, depth)?;
     space.trial.keep();
     space.trial.graph().well_formed();
-    Ok((space, log))
+    let swept = finished(space);
+    swept.well_formed();
+    let lent = begin(alloc, swept)?;
+    lent.graph().well_formed();
+    let ready = Workspace::over(alloc, lent, found)?;
+    Ok((ready, log))
 }
