@@ -7,5 +7,4 @@ pub mod Additions
 pub mod Tries
 pub mod Laws
 pub mod Stamped
-pub mod Added
 pub mod Parts

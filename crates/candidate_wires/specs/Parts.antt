@@ -9,7 +9,7 @@ use Rattle.refutation.specs.declared.reasoning.Fact.{Fact}
 use Rattle.refutation.specs.declared.reasoning.Fact.TheVariants.{Good}
 use Rattle.rm_base.specs.declared.numbers.NodeId.{NodeId}
 use Rattle.candidate_wires.specs.Joining.{HasNoNot}
-use Rattle.candidate_wires.specs.Added.{IsListed}
+use Rattle.refutation.specs.FactLists.{IsAmong}
 use Rattle.candidate_wires.specs.declared.known.Known.{Known}
 
 -- the node is a source or a gate that is known to be equal, and its good value is known
@@ -52,7 +52,7 @@ HasNoneFrom net held from to = (x : ℕ) (value : Bool) → from ≤ x → x < t
 
 -- the nodes of the good values among facts are in the list
 abbrev pub HasGoods : List (NodeId × Fact) → List ℕ → Type 0
-HasGoods facts numbers = (x : ℕ) (value : Bool) → IsListed facts x (Good value) → IsInList numbers x
+HasGoods facts numbers = (x : ℕ) (value : Bool) → IsAmong facts x (Good value) → IsInList numbers x
 
 -- exactly the drivers of the gate are marked
 abbrev pub MarksDrivers : Net → ℕ → List Bool → Type 0

@@ -4,7 +4,7 @@ ghost use Rattle.gate_net.specs.Values.{HasPin};
 ghost use Rattle.gate_graph.specs.Circuit.{net_of};
 ghost use Rattle.refutation.specs.FactSets.{held_by};
 ghost use Rattle.refutation.specs.Facts.{Held};
-ghost use Rattle.candidate_wires.specs.Added.{HasAllGoods};
+ghost use Rattle.refutation.specs.FactLists.{HasAllGoods};
 ghost use Rattle.candidate_wires.specs.Candidates.{AreCandidates};
 ghost use Rattle.candidate_wires.specs.Parts.{AreKnown};
 

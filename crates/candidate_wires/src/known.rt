@@ -7,7 +7,7 @@ ghost use Rattle.refutation.specs.Branches.{IsNoConstant};
 ghost use Rattle.refutation.specs.FactSets.{held_by};
 ghost use Rattle.refutation.specs.declared.reasoning.Fact.TheVariants.{Good};
 ghost use Rattle.candidate_wires.specs.Joining.{HasNoNot};
-ghost use Rattle.candidate_wires.specs.Added.{HasAllGoods};
+ghost use Rattle.refutation.specs.FactLists.{HasAllGoods};
 ghost use Rattle.candidate_wires.specs.Parts.{AreKnown, HasGoods, HasNoneFrom, HasUsable, IsAscending, IsLook};
 
 use gate_graph::Graph;

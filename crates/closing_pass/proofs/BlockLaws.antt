@@ -49,10 +49,10 @@ blocks_have vectors [] none n v is = absurd (no_more vectors none n v is)
 blocks_have vectors (words ∷ blocks) (packed, are) n v is = at (lt_or_le n 64) (λ k there. blocks_have (drop 64 vectors) blocks are k v there)
   where
     later : HaveVector blocks v → HaveVector (words ∷ blocks) v
-    later (k, i, (ws, (there, same))) = (suc k, i, (ws, (there, same)))
+    later (k, i, (lane, (ws, (there, same)))) = (suc k, i, (lane, (ws, (there, same))))
 
     at : (n < 64) ⊎ (64 ≤ n) → ((k : ℕ) → slice_get (drop 64 vectors) k ≡ Some v → HaveVector blocks v) → HaveVector (words ∷ blocks) v
-    at (inl lt) rest = (0, n, (words, (refl, packed n v (taken_stands vectors 64 n lt ∙ is))))
+    at (inl lt) rest = (0, n, (lt, (words, (refl, packed n v (taken_stands vectors 64 n lt ∙ is)))))
     at (inr le) rest = let e : 64 + (n - 64) ≡ n = omega (arith, le) in later (rest (n - 64) (stands_dropped vectors 64 (n - 64) ∙ ap (slice_get vectors) e ∙ is))
 
 -- the verdicts' vectors are kept

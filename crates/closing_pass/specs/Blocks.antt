@@ -1,5 +1,5 @@
 -- Kept vectors as blocks of words, 64 vectors to a block.
-use Rattle.std.specs.Prelude.{◌≡◌, ◌∷◌, [], ℕ, Bool, List, Some, drop, slice_get, take}
+use Rattle.std.specs.Prelude.{◌≡◌, ◌<◌, ◌∷◌, [], ℕ, Bool, List, Some, drop, slice_get, take}
 use Rattle.fault_sim.specs.Words.{assignment}
 use Rattle.gate_net.specs.Faults.{assigned}
 use Rattle.podem.specs.declared.verdict.Verdict.{Verdict}
@@ -12,9 +12,9 @@ abbrev pub AreBlocksOf : List (List Bool) → List (List ℕ) → Type 0
 AreBlocksOf vectors [] = vectors ≡ []
 AreBlocksOf vectors (words ∷ blocks) = ArePacked (take 64 vectors) words × AreBlocksOf (drop 64 vectors) blocks
 
--- a lane of one of the blocks says what the vector says
+-- one of the 64 lanes of a block says what the vector says
 abbrev pub HaveVector : List (List ℕ) → List Bool → Type 0
-HaveVector blocks vector = (k i : ℕ) × ((words : List ℕ) × ((slice_get blocks k ≡ Some words) × ((x : ℕ) → assignment words i x ≡ assigned vector x)))
+HaveVector blocks vector = (k i : ℕ) × ((i < 64) × ((words : List ℕ) × ((slice_get blocks k ≡ Some words) × ((x : ℕ) → assignment words i x ≡ assigned vector x))))
 
 -- each vector of a verdict is among the kept ones
 abbrev pub AreKept : List (List Bool) → List (Fault × Verdict) → Type 0

@@ -36,15 +36,6 @@ fn answer(
     }
 }
 
-// A refuter that is fitted to the graph.
-fn fitted(alloc: Global, graph: &Graph) -> Result<Refuter, NoMemory>
-    ensures { IfOk result (IsServing (net_of graph.now)) }
-{
-    let mut refuter = Refuter::new(alloc, graph.node_bound())?;
-    refuter.fit(graph)?;
-    Ok(refuter)
-}
-
 // The verdicts of the faults, in order.
 fn answer_each(
     alloc: Global,
@@ -83,7 +74,7 @@ fn answer_all(
     requires searches { Serves searcher.old (net_of graph.now) }
     ensures { IfOk result (λ v. AreVerdicts (net_of graph.now) settings.now.budget faults.now v.items) }
 {
-    let mut refuter = fitted(alloc, graph)?;
+    let mut refuter = Refuter::for_graph(alloc, graph)?;
     answer_each(alloc, graph, faults, settings, &mut refuter, searcher)
 }
 

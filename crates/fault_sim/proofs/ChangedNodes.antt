@@ -6,7 +6,7 @@ use Rattle.gate_net.specs.Edits.{DiffersAt, IsLeastFree, node_redirected, redire
 use Rattle.gate_net.proofs.Public.{node_at-moved, node_at-other}
 use Rattle.gate_net.specs.Net.{Net, Node, Reads, drivers_in, drivers_of, node_at}
 use Rattle.fault_sim.proofs.Lists.{below_or}
-use Rattle.fault_sim.specs.Following.{IsSameBut}
+use Rattle.gate_net.specs.Edits.{IsSameBut}
 
 not_one : (xs : List ℕ) (gate x : ℕ) → xs ≡ gate ∷ [] → ((k : ℕ) → slice_get xs k ≡ Some x → ⊥) → x ≢ gate
 not_one xs gate x one none same = none 0 (ap (λ (ys : List ℕ). slice_get ys 0) one ∙ ap Some (sym same))

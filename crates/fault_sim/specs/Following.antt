@@ -1,5 +1,6 @@
 -- Words that follow a net that changes.
 use Rattle.std.specs.Prelude.{List, None, Some, length, map, replicate, slice_get, slice_index, take, ℕ, ◌++◌, ◌-◌, ◌<◌, ◌≡◌, ◌≢◌, ◌≤◌, ◌⊎◌}
+use Rattle.gate_net.specs.Edits.{IsSameBut}
 use Rattle.gate_net.specs.Net.{Net, Reads, drivers_of, node_at, source_count}
 use Rattle.gate_net.specs.Values.{node_value}
 use Rattle.fault_sim.specs.BlockStates.{AreGoodWords, AreSimulated, BlockState, IsSimulatedBlock, words_of}
@@ -8,11 +9,7 @@ use Rattle.fault_sim.specs.Pending.{IsIdle, IsPending}
 use Rattle.fault_sim.specs.Words.{assignment, lane_values}
 use Rattle.fault_sim.specs.declared.blocks.Block.{Block}
 
--- the nets have the same nodes but for these numbers
-abbrev pub IsSameBut : Net → Net → List ℕ → Type 0
-IsSameBut before net changed = (x : ℕ) → ((k : ℕ) → slice_get changed k ≡ Some x → ⊥) → node_at net x ≡ node_at before x
-
--- and as many sources
+-- the nets have as many sources, and the same nodes but for these numbers
 pub record DiffersAmong (before net : Net) (changed : List ℕ) : Type 0 where
   pub sources : source_count net ≡ source_count before
   pub others : IsSameBut before net changed

@@ -4,7 +4,7 @@ ghost use Rattle.gate_graph.specs.Changes.{CanEdit, Edits};
 ghost use Rattle.gate_graph.specs.Circuit.{Circuit, net_of};
 ghost use Rattle.gate_net.specs.Edits.{IsLeastFree};
 ghost use Rattle.gate_net.specs.Net.{IsLive, Reads};
-ghost use Rattle.fault_sim.specs.Following.{IsSameBut};
+ghost use Rattle.gate_net.specs.Edits.{IsSameBut};
 
 use gate_graph::{Edit, Graph};
 use rm_base::{NoMemory, NodeId};

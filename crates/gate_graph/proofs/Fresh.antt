@@ -6,7 +6,7 @@ use Rattle.gate_net.specs.declared.Kind.TheVariants.{Source, Zero, One, Not}
 use Rattle.pin_pool.specs.Pins.{Pins}
 use Rattle.pin_pool.specs.Rings.{Rings, rings_of, no_rings}
 use Rattle.gate_graph.specs.Wirings.{Wiring, kind_at, wiring_of, AreFirst, IsShaped, IsWired}
-use Rattle.gate_graph.specs.Circuit.{Circuit, IsGraph, wiring, net_of, kinds_live}
+use Rattle.gate_graph.specs.Circuit.{Circuit, IsGraph, wiring, net_of, kinds_live, kinds_dead}
 use Rattle.gate_graph.specs.declared.entries.Entry.{Entry}
 use Rattle.gate_graph.specs.Entries.{LeadOn}
 use Rattle.gate_graph.specs.Readers.{SameReaders}
@@ -115,20 +115,22 @@ wiring-grown v w n e r =
     λ i. record { kind = λ m. kinds m i; rings = r i }
 
 -- what growing comes to
-pub record Grows (v w : Circuit) (least : ℕ) : Type 0 where
+pub record Grows (v w : Circuit) (least bound : ℕ) : Type 0 where
   pub graph : IsGraph w
   pub live : kinds_live w.kinds least
+  pub dead : kinds_dead w.kinds bound
   pub wiring_is : wiring w ≡ wiring v
   pub net : net_of w ≡ net_of v
   pub readers : SameReaders v w
   pub undos : (es : List Entry) → LeadOn v w es es
 
-pub grows : (v w : Circuit) (n least : ℕ) → IsGraph v → kinds_live v.kinds least → w.kinds ≡ v.kinds ++ replicate n None → rings_of w.pool ≡ rings_of v.pool → length w.kinds ≤ length w.pool.inputs → length w.kinds ≤ 4294967295 → Grows v w least
-grows v w n least g live e r room few =
+pub grows : (v w : Circuit) (n least bound : ℕ) → IsGraph v → kinds_live v.kinds least → kinds_dead v.kinds bound → w.kinds ≡ v.kinds ++ replicate n None → rings_of w.pool ≡ rings_of v.pool → length w.kinds ≤ length w.pool.inputs → length w.kinds ≤ 4294967295 → Grows v w least bound
+grows v w n least bound g live dead e r room few =
     let same = wiring-grown v w n e r in
     record {
       graph = record { wired = subst (λ (x : Wiring). IsWired x) (sym same) g.wired; room = room; few = few };
       live = λ m h none. live m h (ap (λ (x : Wiring). x.kind m) (sym same) ∙ none);
+      dead = λ m h. ap (λ (x : Wiring). x.kind m) same ∙ dead m h;
       wiring_is = same;
       net = (same-wiring w v same).0;
       readers = (same-wiring w v same).1;

@@ -1,25 +1,24 @@
 -- How many pins are linked, and how many are held beside them.
-use Rattle.std.proofs.Common.{◌≡◌, ◌≢◌, ℕ, zero, suc, ◌+◌, ◌-◌, ◌<◌, ◌≤◌, true, false, Bool, inl, inr, List, [], ◌∷◌, ◌++◌, length, map, refl, sym, ap, ◌∙◌, arith, length-append, Some, None, Option}
+use Rattle.std.proofs.Common.{◌≡◌, ◌≢◌, ℕ, zero, suc, ◌+◌, ◌-◌, ◌<◌, ◌≤◌, true, inl, inr, List, [], ◌∷◌, length, refl, sym, ap, ◌∙◌, arith, length-append, None, Option}
 use Rattle.std.specs.FinSet as finset
 use Rattle.std.specs.Ordering.{nat_cmp}
 use Rattle.std.specs.Cmp.{nat_cmp_total, unsigned_tied}
 use Rattle.std.specs.FinSet.{contains-remove, same_set, nat_cmp-IsAntisymmetric, contains-empty, len-empty}
-use Rattle.std.proofs.lemmas.Bool.{cases_Bool, cases_eq, cases_lt, ne_eqb, eq-eqb, false≢true, false_from_ne_true, or_left, or_right, or_cases}
+use Rattle.std.proofs.lemmas.Bool.{cases_Bool, cases_eq, false≢true, false_from_ne_true, or_left, or_right}
 use Rattle.std.proofs.lemmas.Bool.Decides.{nat_tests}
 use Rattle.std.proofs.lemmas.List.{get_or_past, length-map}
 use Rattle.gate_net.specs.declared.Kind.{Kind}
 use Rattle.gate_net.specs.Net.{Net, wire_count}
-use Rattle.pin_pool.proofs.Public.{has-append, has-within, in-listed, len-one_less, length-listed, length-put_after, linked-less, linked-more, linked-over, linked-same, listed_from, no-pins-from, pins-at, pins-split, within-set}
-use Rattle.pin_pool.specs.Ring.{has, without, IsApart}
-use Rattle.pin_pool.specs.Pins.{Pins, list_of, put_after, put_behind}
-use Rattle.pin_pool.specs.declared.names.PinNo.{PinNo}
-use Rattle.pin_pool.specs.Rings.{Rings, rings_of, AreRings, AreOnce, IsIn, IsLinked, changed, all_without}
+use Rattle.pin_pool.proofs.Public.{has-append, has-within, len-one_less, length-listed, length-put_after, linked-less, linked-more, linked-over, linked-same, listed_from, no-pins-from, pins-at, pins-split}
+use Rattle.pin_pool.specs.Ring.{has}
+use Rattle.pin_pool.specs.Pins.{Pins, list_of}
+use Rattle.pin_pool.specs.Rings.{rings_of, AreRings, IsLinked}
 use Rattle.gate_graph.specs.declared.entries.Entry.{Entry}
 use Rattle.gate_graph.specs.declared.entries.Entry.TheVariants.{Appended, Removed, Redriven, Moved, Made, Retired}
 use Rattle.gate_graph.specs.Entries.{CanTakeBack, taken_back}
 use Rattle.gate_graph.proofs.KindAt.{kind-within}
-use Rattle.gate_graph.specs.Wirings.{Wiring, kind_at, wiring_of}
-use Rattle.gate_graph.specs.Circuit.{Circuit, wiring, net_of, gate_pins, home, pins_taken, IsGraph}
+use Rattle.gate_graph.specs.Wirings.{Wiring, wiring_of}
+use Rattle.gate_graph.specs.Circuit.{Circuit, net_of, gate_pins, home, pins_taken, IsGraph}
 use Rattle.gate_graph.specs.Holds.{held, held_by, pins_held, pins_made, HoldsOn}
 use Rattle.gate_graph.specs.Filled.{IsFilled}
 use Rattle.pin_pool.specs.Totals.{pins_from, linked_pins}

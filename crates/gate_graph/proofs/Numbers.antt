@@ -1,14 +1,15 @@
 -- Free numbers, and how many pins are taken.
-use Rattle.std.proofs.Common.{◌≡◌, ◌≢◌, ℕ, zero, suc, ◌+◌, ◌-◌, ◌<◌, ◌≤◌, Bool, true, false, cond, List, [], ◌∷◌, ◌++◌, length, replicate, set, Option, Some, None, refl, sym, ap, ◌∙◌, arith, inl, inr}
+use Rattle.std.proofs.Common.{◌≡◌, ◌≢◌, ℕ, zero, suc, ◌+◌, ◌-◌, ◌<◌, ◌≤◌, Bool, false, cond, List, [], ◌∷◌, ◌++◌, length, replicate, set, Option, Some, None, refl, sym, ap, ◌∙◌, arith, inl, inr}
 use Rattle.std.specs.FinSet as finset
 use Rattle.std.specs.Ordering.{nat_cmp}
 use Rattle.std.specs.Cmp.{nat_cmp_total}
-use Rattle.std.specs.FinSet.{len-insert, len-remove, empty_of_len, contains-empty}
-use Rattle.std.proofs.lemmas.List.{length-replicate}
-use Rattle.std.proofs.lemmas.Bool.{cases_lt, cases_Bool, false≢true}
+use Rattle.std.specs.FinSet.{len-insert, len-remove}
+use Rattle.std.proofs.lemmas.List.{length-replicate, get_or_past}
+use Rattle.std.proofs.lemmas.Bool.{cases_Bool}
 use Rattle.gate_net.specs.declared.Kind.{Kind}
 use Rattle.gate_net.specs.declared.Kind.TheVariants.{Source}
 use Rattle.gate_graph.specs.Wirings.{kind_at, free_in, free_bit}
+use Rattle.gate_graph.specs.Circuit.{kinds_dead}
 use Rattle.pin_pool.proofs.Public.{len-one_less}
 use Rattle.gate_graph.proofs.Fresh.{first_kinds}
 
@@ -60,6 +61,11 @@ no-free (suc n) = no-free n
 
 pub free-first : (ks : List (Option Kind)) (s : ℕ) → ks ≡ first_kinds s → 0 ≡ free_in ks
 free-first ks s e = sym (ap free_in e ∙ no-free s)
+
+pub dead-first : (ks : List (Option Kind)) (s : ℕ) → ks ≡ first_kinds s → kinds_dead ks (s + 2)
+dead-first ks s e m le =
+    let all : length ks ≡ s + 2 = ap length e ∙ (let count : length (first_kinds s) ≡ s + 2 = omega (arith, length-replicate s (Some Source)) in count) in
+    get_or_past ks m None (omega (arith, all, le))
 
 pub live-first : (ks : List (Option Kind)) (s : ℕ) → ks ≡ first_kinds s → length ks - free_in ks ≡ s + 2
 live-first ks s e =

@@ -1,5 +1,5 @@
 -- Pins from a position on.
-use Rattle.std.proofs.Common.{◌≡◌, ◌≢◌, ℕ, zero, suc, Some, None, inl, inr, List, [], ◌∷◌, drop, length, true, eqb, sym}
+use Rattle.std.proofs.Common.{◌≡◌, ℕ, zero, suc, Some, None, inl, inr, List, [], ◌∷◌, drop, true, eqb, sym}
 use Rattle.std.specs.Prelude.{slice_get}
 use Rattle.std.proofs.lemmas.Bool.{cases_eq, ne_eqb, or_right}
 use Rattle.pin_pool.specs.Ring.{has}

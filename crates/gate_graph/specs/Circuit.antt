@@ -83,6 +83,10 @@ pub record IsGraph (v : Circuit) : Type 0 where
 abbrev pub kinds_live : List (Option Kind) → ℕ → Type 0
 kinds_live kinds n = (m : ℕ) → m < n → kind_at kinds m ≢ None
 
+-- no number from a bound on has a kind
+abbrev pub kinds_dead : List (Option Kind) → ℕ → Type 0
+kinds_dead kinds n = (m : ℕ) → n ≤ m → kind_at kinds m ≡ None
+
 -- how many pins may be added, and how many nodes, before more room is reserved
 abbrev pub free_pins : Circuit → ℕ
 free_pins v = v.pool.spare

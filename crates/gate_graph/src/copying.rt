@@ -29,6 +29,7 @@ impl Graph {
             kinds,
             free: self.free,
             least: self.least,
+            bound: self.bound,
             sources: self.sources,
             epoch: self.epoch,
         })

@@ -9,12 +9,12 @@ use crate::state::Graph;
 use rm_base::NodeId;
 
 impl Graph {
-    /// One more than the greatest number of a live node, in the time of the free numbers above it.
+    /// One more than the greatest number of a live node, in constant time.
     pub fn node_bound(&self) -> u32
         ensures { result ≡ length (net_of self.now).nodes }
     {
         self.tell();
-        last_live(&self.kinds)
+        last_live(&self.kinds, self.bound)
     }
 
     /// The least number that no live node has, which the next new Not takes, in the time of the live numbers between it

@@ -198,7 +198,13 @@ impl Graph {
         let node = least_free(&self.kinds, self.least);
         let pin = link_new(&mut self.pool, node, driver.0);
         look(&self.pool);
-        set_kind(&mut self.kinds, &mut self.free, node, Some(Kind::Not));
+        set_kind(
+            &mut self.kinds,
+            &mut self.free,
+            &mut self.bound,
+            node,
+            Some(Kind::Not),
+        );
         self.least = node + 1;
         undos.push(Entry::Made { node, pin });
         node
@@ -228,7 +234,13 @@ impl Graph {
         }
         match self.kinds[gate.0 as usize] {
             Some(kind) => {
-                set_kind(&mut self.kinds, &mut self.free, gate.0, None);
+                set_kind(
+                    &mut self.kinds,
+                    &mut self.free,
+                    &mut self.bound,
+                    gate.0,
+                    None,
+                );
                 self.least = self.least.min(gate.0);
                 undos.push(Entry::Retired { node: gate.0, kind });
             }

@@ -90,7 +90,13 @@ impl Graph {
         look(&self.pool);
         let node = least_free(&self.kinds, self.least);
         link_all(&mut self.pool, node, drivers);
-        set_kind(&mut self.kinds, &mut self.free, node, Some(kind));
+        set_kind(
+            &mut self.kinds,
+            &mut self.free,
+            &mut self.bound,
+            node,
+            Some(kind),
+        );
         self.least = node + 1;
         node
     }

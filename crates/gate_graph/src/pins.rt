@@ -4,7 +4,7 @@ ghost use Rattle.std.specs.Option.{option_map};
 ghost use Rattle.pin_pool.specs.Rings.{rings_of, IsLinked};
 ghost use Rattle.pin_pool.specs.Pins.{list_of};
 ghost use Rattle.gate_graph.specs.Wirings.{kind_at};
-ghost use Rattle.gate_graph.specs.Circuit.{kinds_live, gate_pins, place_in, without_observed};
+ghost use Rattle.gate_graph.specs.Circuit.{kinds_live, kinds_dead, gate_pins, place_in, without_observed};
 ghost use Rattle.pin_pool.specs.Ring.{has};
 ghost use Rattle.gate_net.specs.declared.Kind.TheVariants.{Source};
 ghost use Rattle.rm_base.specs.Numbers.{number_bound};
@@ -81,23 +81,21 @@ pub(crate) fn pins_of_gate_from(pool: &Pool, gate: u32, position: u32) -> PinIte
     pool.inputs_from(gate, position)
 }
 
-// One more than the last number of a live node.
-pub(crate) fn last_live(kinds: &[Option<Kind>]) -> u32
-    requires few { length kinds.now ≤ number_bound }
-    requires some { (n : ℕ) × (kind_at kinds.now n ≢ None) }
-    ensures above { (m : ℕ) → result ≤ m → kind_at kinds.now m ≡ None }
+// One more than the last number of a live node, 0 if there is none, where no number from `from` on is live.
+pub(crate) fn last_live(kinds: &[Option<Kind>], from: u32) -> u32
+    requires { kinds_dead kinds.now from }
+    ensures above { kinds_dead kinds.now result }
     ensures last { (m : ℕ) → m + 1 ≡ result → kind_at kinds.now m ≢ None }
-    ensures some { 0 < result }
 {
-    let mut bound = kinds.len() as u32;
+    let mut bound = from;
     while bound > 0 {
-        match kinds[(bound - 1) as usize] {
+        match stored_kind(kinds, bound - 1) {
             Some(_) => return bound,
             None => {}
         }
         bound -= 1;
     }
-    unreachable!()
+    0
 }
 
 // The place of a pin among those of its gate.

@@ -24,6 +24,7 @@ pub struct Graph {
     pub(crate) kinds: Vec<Option<Kind>>,
     pub(crate) free: u32,
     pub(crate) least: u32,
+    pub(crate) bound: u32,
     // How many sources `new` made, which the calls that count them look at again.
     pub(crate) sources: u32,
     pub(crate) epoch: u64,
@@ -41,11 +42,11 @@ impl Model for Graph {
 
     ghost use Rattle.std.specs.Prelude.{◌≡◌, ◌≤◌, length};
     ghost use Rattle.gate_graph.specs.Wirings.{free_in};
-    ghost use Rattle.gate_graph.specs.Circuit.{kinds_live, IsGraph};
+    ghost use Rattle.gate_graph.specs.Circuit.{kinds_live, kinds_dead, IsGraph};
 
     ghost view = { λ g. record { kinds = g.kinds.items; pool = g.pool; epoch = g.epoch } };
 
-    ghost invariant = { λ g. (let v : Circuit = record { kinds = g.kinds.items; pool = g.pool; epoch = g.epoch } in IsGraph v) × (kinds_live g.kinds.items g.least × (g.free ≡ free_in g.kinds.items)) };
+    ghost invariant = { λ g. (let v : Circuit = record { kinds = g.kinds.items; pool = g.pool; epoch = g.epoch } in IsGraph v) × (kinds_live g.kinds.items g.least × (kinds_dead g.kinds.items g.bound × (g.free ≡ free_in g.kinds.items))) };
 }
 
 impl Graph {
@@ -74,6 +75,7 @@ impl Graph {
             kinds,
             free: 0,
             least: 0,
+            bound: count as u32,
             sources,
             epoch: 0,
         })

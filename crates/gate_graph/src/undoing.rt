@@ -1,5 +1,5 @@
 //! Undoing and keeping changes.
-ghost use Rattle.std.specs.Prelude.{◌≡◌, ◌≢◌, ◌+◌, ◌<◌, ◌≤◌, [], length, Some, None, min, ◌^◌, ◌-◌, ◌∷◌};
+ghost use Rattle.std.specs.Prelude.{◌≡◌, ◌≢◌, ◌+◌, ◌<◌, ◌≤◌, [], length, ℕ, Some, None, min, ◌^◌, ◌-◌, ◌∷◌};
 ghost use Rattle.std.specs.FinSet as set;
 ghost use Rattle.pin_pool.specs.Pins.{Pins};
 ghost use Rattle.pin_pool.specs.Rings.{AreRings, changed, rings_of};
@@ -7,12 +7,12 @@ ghost use Rattle.gate_graph.specs.Wirings.{wiring_of, kind_at, free_in, free_bit
 ghost use Rattle.gate_graph.specs.Entries.{CanGoBack, AreWithin, back_to, taken_back, CanTakeBack, IsWithin};
 ghost use Rattle.gate_graph.specs.Holds.{held, pins_held, pins_made};
 ghost use Rattle.gate_graph.specs.declared.entries.Entry.{Entry};
-ghost use Rattle.gate_graph.specs.Circuit.{wiring, net_of, kinds_live, free_pins, free_nodes, pins_taken, live_nodes};
+ghost use Rattle.gate_graph.specs.Circuit.{wiring, net_of, kinds_live, kinds_dead, free_pins, free_nodes, pins_taken, live_nodes};
 ghost use Rattle.gate_graph.specs.Readers.{SameReaders};
 ghost use Rattle.rm_base.specs.Numbers.{number_bound};
 
 use crate::entries::{Entry, Undos};
-use crate::pins::stored_kind;
+use crate::pins::{last_live, stored_kind};
 use crate::rings::{drop_pin, look, move_fanouts_back, relink_pin, restore_pin};
 use crate::state::Graph;
 use gate_net::Kind;
@@ -40,6 +40,7 @@ impl Graph {
                 &mut self.kinds,
                 &mut self.free,
                 &mut self.least,
+                &mut self.bound,
                 entry,
             );
         }
@@ -93,19 +94,41 @@ fn count_free(free: u32, was: Option<Kind>, now: Option<Kind>) -> u32
     }
 }
 
+// The bound on the numbers of live nodes once a node has that kind.
+fn bound_with(kinds: &[Option<Kind>], bound: u32, node: u32, kind: Option<Kind>) -> u32
+    requires node { node < number_bound }
+    requires kind { kind_at kinds.now node ≡ kind }
+    requires others { (m : ℕ) → bound ≤ m → m ≢ node → kind_at kinds.now m ≡ None }
+    ensures { kinds_dead kinds.now result }
+{
+    match kind {
+        Some(_) => bound.max(node + 1),
+        None => last_live(kinds, bound),
+    }
+}
+
 // A node gets a kind, or none.
-pub(crate) fn set_kind(kinds: &mut Vec<Option<Kind>>, free: &mut u32, node: u32, kind: Option<Kind>)
+pub(crate) fn set_kind(
+    kinds: &mut Vec<Option<Kind>>,
+    free: &mut u32,
+    bound: &mut u32,
+    node: u32,
+    kind: Option<Kind>,
+)
     requires node { node < length kinds.old.items }
     requires few { length kinds.old.items ≤ number_bound }
     requires free { free.old ≡ free_in kinds.old.items }
+    requires dead { kinds_dead kinds.old.items bound.old }
     ensures kinds { (v : Pins) → wiring_of kinds.new.items v ≡ record (wiring_of kinds.old.items v) { kind = changed (wiring_of kinds.old.items v).kind node kind } }
     ensures len { length kinds.new.items ≡ length kinds.old.items }
     ensures count { free_in kinds.new.items + free_bit (kind_at kinds.old.items node) ≡ free_in kinds.old.items + free_bit kind }
     ensures free { free.new ≡ free_in kinds.new.items }
+    ensures dead { kinds_dead kinds.new.items bound.new }
 {
     let was = stored_kind(kinds, node);
     *free = count_free(*free, was, kind);
     kinds[node as usize] = kind;
+    *bound = bound_with(kinds, *bound, node, kind);
 }
 
 // Takes one entry back.
@@ -114,18 +137,21 @@ pub(crate) fn take_back(
     kinds: &mut Vec<Option<Kind>>,
     free: &mut u32,
     least: &mut u32,
+    bound: &mut u32,
     entry: Entry,
 )
     requires can { CanTakeBack (wiring_of kinds.old.items pool.old) entry }
     requires within { IsWithin (length kinds.old.items) entry }
     requires room { length kinds.old.items ≤ length pool.old.inputs }
     requires live { kinds_live kinds.old.items least.old }
+    requires dead { kinds_dead kinds.old.items bound.old }
     requires few { length kinds.old.items ≤ number_bound }
     requires free { free.old ≡ free_in kinds.old.items }
     ensures wiring { wiring_of kinds.new.items pool.new ≡ taken_back entry (wiring_of kinds.old.items pool.old) }
     ensures nodes { length pool.new.inputs ≡ length pool.old.inputs }
     ensures kinds { length kinds.new.items ≡ length kinds.old.items }
     ensures live { kinds_live kinds.new.items least.new }
+    ensures dead { kinds_dead kinds.new.items bound.new }
     ensures spare { pool.old.spare ≤ pool.new.spare }
     ensures free { free.new ≡ free_in kinds.new.items }
     ensures taken { set.len pool.new.taken ≤ set.len pool.old.taken }
@@ -141,11 +167,11 @@ pub(crate) fn take_back(
         Entry::Moved { splice } => move_fanouts_back(pool, splice),
         Entry::Made { node, pin } => {
             drop_pin(pool, pin);
-            set_kind(kinds, free, node, None);
+            set_kind(kinds, free, bound, node, None);
             if node < *least {
                 *least = node;
             }
         }
-        Entry::Retired { node, kind } => set_kind(kinds, free, node, Some(kind)),
+        Entry::Retired { node, kind } => set_kind(kinds, free, bound, node, Some(kind)),
     }
 }

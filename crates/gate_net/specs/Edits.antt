@@ -1,5 +1,5 @@
 -- Changes of a net.
-use Rattle.std.specs.Prelude.{◌≡◌, ◌≢◌, ℕ, zero, suc, ◌<◌, List, [], ◌∷◌, ◌++◌, map, Option, Some, None, Bool, nat_eq, length, slice_set, if◌then◌else◌}
+use Rattle.std.specs.Prelude.{◌≡◌, ◌≢◌, ℕ, zero, suc, ◌<◌, List, [], ◌∷◌, ◌++◌, map, Option, Some, None, Bool, nat_eq, length, slice_get, slice_set, if◌then◌else◌}
 use Rattle.rm_base.specs.declared.numbers.Fault.{Fault}
 use Rattle.gate_net.specs.declared.Kind.{Kind}
 use Rattle.gate_net.specs.declared.Kind.TheVariants.{Zero, One}
@@ -69,6 +69,10 @@ pub record IsUnread (net : Net) (gate : ℕ) : Type 0 where
 pub record DiffersAt (net after : Net) (gate : ℕ) : Type 0 where
   pub others : (y : ℕ) → y ≢ gate → node_at after y ≡ node_at net y
   pub observed : after.observed ≡ net.observed
+
+-- the nets have the same nodes but for these numbers
+abbrev pub IsSameBut : Net → Net → List ℕ → Type 0
+IsSameBut before net changed = (x : ℕ) → ((k : ℕ) → slice_get changed k ≡ Some x → ⊥) → node_at net x ≡ node_at before x
 
 -- a gate of that kind and with these drivers takes the least free number
 pub record MakesGate (net after : Net) (kind : Kind) (drivers : List ℕ) (node : ℕ) : Type 0 where

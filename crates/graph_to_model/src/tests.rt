@@ -1,12 +1,14 @@
-//! Covers of gates, prefixes and copies on small lists of names.
+//! Covers of gates, prefixes and copies on small lists of names, and a net that has no model.
 use crate::copies::copies;
 use crate::driven_names::driven;
 use crate::gates::gate_cover;
 use crate::places::first_places;
 use crate::prefix::free_prefix;
+use crate::{ModelRefusal, model_of};
+use cover_decompose::{decompose, decompositions_stand, is_small, wires_are_bounded};
 use gate_net::Kind;
-use rm_base::NoMemory;
-use rm_model::{Cover, Listed, Literal, Name};
+use rm_base::{NoMemory, NodeId};
+use rm_model::{Cover, Listed, Literal, Model, Name, RankedModel, is_well_formed};
 use std::alloc::Global;
 use std::process::Abort;
 use std::test::Fail;
@@ -146,5 +148,56 @@ fn copies_in_order(rt: HostRuntime) -> Result<(), Fail> {
         assert!(rt; at < wanted.len());
         assert_eq!(rt; text.as_slice(), wanted[at].as_bytes());
     }
+    Ok(())
+}
+
+// One output, whose cover has the row `0` of no inputs.
+fn constant(alloc: Global) -> Result<Model, NoMemory> {
+    let mut rows = Listed::new(alloc);
+    rows.push(Listed::new(alloc))?;
+    let mut covers = Listed::new(alloc);
+    covers.push(Cover {
+        inputs: Listed::new(alloc),
+        output: name(alloc, "z")?,
+        on: false,
+        rows,
+    })?;
+    Ok(Model {
+        name: name(alloc, "r6")?,
+        inputs: Listed::new(alloc),
+        clocks: Listed::new(alloc),
+        outputs: Listed::from_vec(names(alloc, &["z"])?),
+        latches: Listed::new(alloc),
+        covers,
+    })
+}
+
+// Why the decomposition of a model has no model, where it can be made.
+fn refusal_of(alloc: Global, model: Model) -> Result<Option<ModelRefusal>, Fail> {
+    decompositions_stand();
+    wires_are_bounded();
+    if !is_well_formed(alloc, &model)? {
+        return Err("not well formed".into());
+    }
+    if !is_small(alloc, &model)? || model.covers.len() > 1_000_000 {
+        return Err("not small".into());
+    }
+    let Ok(ranked) = RankedModel::new(alloc, model) else {
+        return Err("not ranked".into());
+    };
+    let Ok(graph) = decompose(alloc, &ranked) else {
+        return Err("not decomposed".into());
+    };
+    match model_of(alloc, &graph, ranked.model()) {
+        Ok(_) => Ok(None),
+        Err(refusal) => Ok(Some(refusal)),
+    }
+}
+
+#[test]
+fn the_first_gate_that_is_not_tidy(rt: HostRuntime) -> Result<(), Fail> {
+    let alloc = rt.alloc();
+    let refusal = refusal_of(alloc, constant(alloc)?)?;
+    assert_eq!(rt; refusal, Some(ModelRefusal::NotTidy { node: NodeId(2) }));
     Ok(())
 }

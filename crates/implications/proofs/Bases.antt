@@ -116,7 +116,7 @@ fits_pinless net number facts nodes end f = record {
 }
 
 -- TAKING EQUALS AWAY
-without_left : (held : Held) (x : ℕ) (fact : Fact) (y : ℕ) (other : Fact) → IsTrue (without_fact held x fact y other) → IsTrue (held y other) × ((other ≡ fact) × (y ≡ x) → ⊥)
+pub without_left : (held : Held) (x : ℕ) (fact : Fact) (y : ℕ) (other : Fact) → IsTrue (without_fact held x fact y other) → IsTrue (held y other) × ((other ≡ fact) × (y ≡ x) → ⊥)
 without_left held x fact y other e = at (nat_eq y x && same_fact other fact) (held y other) refl refl e
   where
     at : (b c : Bool) → (nat_eq y x && same_fact other fact) ≡ b → held y other ≡ c → (not b && c) ≡ true → IsTrue (held y other) × ((other ≡ fact) × (y ≡ x) → ⊥)
@@ -124,7 +124,7 @@ without_left held x fact y other e = at (nat_eq y x && same_fact other fact) (he
     at false false is there e = cc
     at false true is there e = (there, λ same. let wrong : (nat_eq y x && same_fact other fact) ≡ true = rw (same.0, same.1, eq-eqb x x refl, same_fact_refl fact) refl in cc)
 
-without_stays : (held : Held) (x : ℕ) (fact : Fact) (y : ℕ) (other : Fact) → IsTrue (held y other) → ((other ≡ fact) × (y ≡ x) → ⊥) → IsTrue (without_fact held x fact y other)
+pub without_stays : (held : Held) (x : ℕ) (fact : Fact) (y : ℕ) (other : Fact) → IsTrue (held y other) → ((other ≡ fact) × (y ≡ x) → ⊥) → IsTrue (without_fact held x fact y other)
 without_stays held x fact y other there ne = at (nat_eq y x) (same_fact other fact) refl refl
   where
     at : (b c : Bool) → nat_eq y x ≡ b → same_fact other fact ≡ c → without_fact held x fact y other ≡ true

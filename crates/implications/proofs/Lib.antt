@@ -13,6 +13,7 @@ pub mod Outside
 pub mod Places
 pub mod Pulling
 pub mod ReaderCounts
+pub mod Refitting
 pub mod Rising
 pub mod SettledNodes
 pub mod Steps

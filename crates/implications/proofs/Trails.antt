@@ -6,7 +6,8 @@ use Rattle.std.proofs.lemmas.List.{drop-append-le}
 use Rattle.std.specs.Prelude.{nat_eq}
 use mathlib.Core.Path.{fun_ext}
 use Rattle.implications.specs.Laws.{TrailTells}
-use Rattle.implications.specs.Trail.{IsAmong, LeadsBack, TakesBack, without_all}
+use Rattle.refutation.specs.FactLists.{IsAmong}
+use Rattle.implications.specs.Trail.{LeadsBack, TakesBack, without_all}
 use Rattle.refutation.specs.FactSets.{Becomes, held_by, is_marked}
 use Rattle.refutation.specs.Facts.{Held, same_fact, without_fact}
 use Rattle.refutation.proofs.Public.{same_fact_refl, same_fact_true}

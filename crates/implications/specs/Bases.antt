@@ -36,6 +36,11 @@ pub record FitsBelow (net : Net) (number : ℕ) (facts : List NodeFacts) (nodes 
   pub all : (y : ℕ) → y < number → IsPinless net y → IsListed nodes y
   pub below : (k : ℕ) (n : NodeId) → slice_get nodes k ≡ Some n → n.0 < number
 
+-- the node is equal exactly where it is live, and all else is held as before
+pub record IsRefitted (net : Net) (node : ℕ) (before after : List NodeFacts) : Type 0 where
+  pub here : IsTrue (held_by after node Equal) ↔ IsLive net node
+  pub others : (x : ℕ) (fact : Fact) → ((x ≡ node) × (fact ≡ Equal) → ⊥) → IsTrue (held_by after x fact) ↔ IsTrue (held_by before x fact)
+
 -- the number is in the list
 abbrev pub IsAmongNumbers : List ℕ → ℕ → Type 0
 IsAmongNumbers numbers z = (k : ℕ) × (slice_get numbers k ≡ Some z)
@@ -60,6 +65,12 @@ pub record HasRoom (net : Net) (b : Basis) : Type 0 where
   pub nodes : length net.nodes ≤ b.numbers
   pub facts : length b.facts ≡ b.numbers
   pub taken : length b.taken ≡ b.numbers
+
+-- it has room for as many node numbers
+pub record IsOfSize (before after : Basis) : Type 0 where
+  pub numbers : after.numbers ≡ before.numbers
+  pub facts : length after.facts ≡ length before.facts
+  pub taken : length after.taken ≡ length before.taken
 
 -- at rest for the net
 pub record IsFitted (net : Net) (b : Basis) : Type 0 where

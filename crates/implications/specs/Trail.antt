@@ -1,5 +1,6 @@
 -- Facts that were added one after another, and taking them back.
 use Rattle.std.specs.Prelude.{IsTrue, List, Some, [], drop, false, length, slice_get, ℕ, ◌≡◌, ◌≤◌, ◌++◌, ◌∷◌, ◌⊎◌}
+use Rattle.refutation.specs.FactLists.{IsAmong}
 use Rattle.refutation.specs.FactSets.{held_by}
 use Rattle.refutation.specs.Facts.{Held, without_fact}
 use Rattle.refutation.specs.declared.held.NodeFacts.{NodeFacts}
@@ -10,10 +11,6 @@ use Rattle.rm_base.specs.declared.numbers.NodeId.{NodeId}
 abbrev pub without_all : List (NodeId × Fact) → Held → Held
 without_all [] held = held
 without_all (a ∷ added) held = without_fact (without_all added held) a.0.0 a.1
-
--- the fact on the node is in the list
-abbrev pub IsAmong : List (NodeId × Fact) → ℕ → Fact → Type 0
-IsAmong added x fact = (k : ℕ) × ((a : NodeId × Fact) × ((slice_get added k ≡ Some a) × ((a.0.0 ≡ x) × (a.1 ≡ fact))))
 
 -- taking back what was added after the mark leads from the facts now to those at the start
 pub record LeadsBack (trail : List (NodeId × Fact)) (mark : ℕ) (now start : List NodeFacts) : Type 0 where

@@ -9,6 +9,7 @@ mod counts;
 mod done_lines;
 mod extending;
 mod first_lines;
+mod following;
 mod found;
 mod gate_lines;
 pub mod laws;

@@ -6,7 +6,7 @@ ghost use Rattle.gate_net.specs.Values.{HasPin};
 ghost use Rattle.refutation.specs.FactSets.{held_by};
 ghost use Rattle.refutation.specs.declared.held.NodeFacts.{NodeFacts};
 ghost use Rattle.refutation.specs.Reaching.{MarksReached};
-ghost use Rattle.implications.specs.Bases.{ArePinless, ComesToRest, HasRoom, IsBegun, IsFor, IsOpened, IsRest};
+ghost use Rattle.implications.specs.Bases.{ArePinless, ComesToRest, HasRoom, IsBegun, IsFitted, IsFor, IsOfSize, IsOpened, IsRest};
 ghost use Rattle.implications.specs.Outside.{AreOutside};
 ghost use Rattle.implications.specs.Working.{IsPending};
 
@@ -111,6 +111,17 @@ impl Engine {
         ensures trail { self.new.trail ≡ [] }
     {
         self.log.trail.clear();
+    }
+
+    /// Comes to rest with the basis: what was added is taken back, in the time of that.
+    pub fn rest(&mut self, basis: &mut Basis)
+        requires serves { (net : Net) × IsFor net self.old basis.old }
+        ensures fitted { (net : Net) → IsFor net self.old basis.old → IsFitted net basis.new × HasRoom net basis.new }
+        ensures sizes { IsOfSize basis.old basis.new }
+        ensures numbers { self.new.numbers ≡ self.old.numbers }
+        ensures trail { self.new.trail ≡ [] }
+    {
+        come_to_rest(&mut self.log.trail, &mut basis.facts, &mut basis.taken);
     }
 
     /// Closes no facts under every line of reasoning about the fault, in place; the node of a clash is answered. It comes to

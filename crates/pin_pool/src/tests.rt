@@ -313,3 +313,17 @@ fn script(rt: HostRuntime) -> Result<(), Fail> {
     assert_eq!(rt; pool.take(), Err(Full));
     Ok(())
 }
+
+// Room for one pin of two nodes: what is spare is taken, and one more isn't given.
+#[test]
+fn one_pin_more_than_is_spare(rt: HostRuntime) -> Result<(), Fail> {
+    let mut pool = Pool::new(rt.alloc());
+    pool.reserve(1, 2)?;
+    let spare = pool.spare();
+    assert!(rt; spare >= 1, "{spare} spare");
+    for at in 0..spare {
+        assert!(rt; pool.take().is_ok(), "pin {at}");
+    }
+    assert_eq!(rt; pool.take(), Err(Full));
+    Ok(())
+}

@@ -1,5 +1,5 @@
 -- A candidate's wire may be added, with or without its Not, and neither step is refused.
-use Rattle.std.proofs.Common.{◌≡◌, ℕ, zero, suc, ◌<◌, inl, inr, Bool, true, false, Option, Some, None, List, [], ◌∷◌, ◌++◌, length, refl, sym, ◌∙◌, ap, subst}
+use Rattle.std.proofs.Common.{◌≡◌, ◌≢◌, ℕ, zero, suc, ◌<◌, inl, inr, Bool, true, false, Option, Some, None, List, [], ◌∷◌, ◌++◌, length, refl, sym, ◌∙◌, ap, subst}
 use Rattle.std.specs.Prelude.{slice_get, nat_lt, ◌↔◌, if◌then◌else◌}
 use Rattle.std.proofs.lemmas.Bool.{lt-ltb, cases_eq}
 use Rattle.rm_base.specs.declared.numbers.Fault.{Fault}
@@ -7,9 +7,9 @@ use Rattle.rm_base.specs.declared.numbers.NodeId.{NodeId}
 use Rattle.gate_net.proofs.Public.{node_at-other, node_at-there, not_true}
 use Rattle.gate_net.specs.declared.Kind.{Kind}
 use Rattle.gate_net.specs.declared.Kind.TheVariants.{Source, Zero, One, And, Or, Not}
-use Rattle.gate_net.specs.Net.{Net, kind_in, drivers_in, drivers_of, Reads, IsLive, IsWellFormed, wire_count}
+use Rattle.gate_net.specs.Net.{Net, node_at, kind_in, drivers_in, drivers_of, Reads, IsLive, IsWellFormed, wire_count}
 use Rattle.gate_net.specs.Values.{IsJunction, controlling}
-use Rattle.gate_net.specs.Edits.{with_pin, last_pin}
+use Rattle.gate_net.specs.Edits.{IsSameBut, with_pin, last_pin}
 use Rattle.wire_edit.proofs.Public.{among_at, gate_live, is_live_there, junction_gate}
 use Rattle.wire_edit.specs.declared.steps.Step.TheVariants.{Add, NewNot}
 use Rattle.wire_edit.specs.declared.room.Room.{Room}
@@ -20,8 +20,9 @@ use Rattle.wire_edit.specs.Refusals.{refusal_of, ClosesCycle, live_count, ceilin
 use Rattle.wire_edit.specs.Order.{node}
 use Rattle.candidate_wires.specs.declared.candidate.Candidate.{Candidate}
 use Rattle.candidate_wires.specs.Gains.{least_free, net_for, wire_for, with_candidate}
+use Rattle.rar_loop.specs.Changing.{numbers_of}
 use Rattle.rar_loop.specs.Trying.{MayAdd}
-use Rattle.rar_loop.proofs.NewNots.{live_apart, not_there, not_kind, not_drivers, not_live, not_reached, least_dead}
+use Rattle.rar_loop.proofs.NewNots.{live_apart, not_other, not_there, not_kind, not_drivers, not_live, not_reached, least_dead}
 
 -- KINDS
 kind_control : (kind : Kind) → gate_control (Some kind) ≡ controlling kind
@@ -170,3 +171,14 @@ pin_stays net c may y p x live reads = elim (cases_eq y c.gate.0) [
 -- the new pin's fault, by the net with or without the Not
 pub last_same : (net : Net) (c : Candidate) → MayAdd net c → (b : Bool) → last_pin (net_for net c) c.gate.0 b ≡ last_pin net c.gate.0 b
 last_same net c may b = ap (λ (xs : List ℕ). let f : Fault = record { gate = record { 0 = c.gate.0 }; position = length xs; value = b } in f) (drivers_same net c may c.gate.0 (gate_of net c may))
+
+-- THE NODES THAT A WIRE CHANGES
+pub wire_changes : (net : Net) (c : Candidate) (made : NodeId) (nodes : List NodeId) → nodes ≡ c.gate ∷ made ∷ [] → made.0 ≡ least_free net → IsSameBut net (with_candidate net c) (numbers_of nodes)
+wire_changes net c made nodes is free x none =
+    let gate : x ≢ c.gate.0 = λ e. none 0 (ap (λ (ns : List NodeId). slice_get (numbers_of ns) 0) is ∙ ap Some (sym e)) in
+    let not : x ≢ least_free net = λ e. none 1 (ap (λ (ns : List NodeId). slice_get (numbers_of ns) 1) is ∙ ap Some (free ∙ sym e)) in
+    node_at-other (net_for net c) c.gate.0 (drivers_of (net_for net c) c.gate.0 ++ wire_for net c ∷ []) x gate ∙ made_other c.fresh not
+  where
+    made_other : (fresh : Bool) → x ≢ least_free net → node_at (if fresh then with_new_not net c.node.0 else net) x ≡ node_at net x
+    made_other true ne = not_other net c.node.0 x ne
+    made_other false ne = refl

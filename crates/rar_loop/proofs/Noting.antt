@@ -6,7 +6,7 @@ use Rattle.std.proofs.lemmas.Bool.Decides.{eqb_tells}
 use Rattle.std.proofs.lemmas.Option.{slice_get-map}
 use Rattle.rm_base.specs.declared.numbers.NodeId.{NodeId}
 use Rattle.gate_net.proofs.Public.{drivers_redirected, node_at-moved, node_at-other}
-use Rattle.gate_net.specs.Edits.{DiffersAt, constant_node, node_redirected, redirected, with_drivers, with_readers_moved}
+use Rattle.gate_net.specs.Edits.{DiffersAt, IsSameBut, constant_node, node_redirected, redirected, with_drivers, with_readers_moved}
 use Rattle.gate_net.specs.Net.{IsWellFormed, Net, source_count, Node, Reads, drivers_in, drivers_of, node_at}
 use Rattle.gate_net.specs.Values.{same_bool}
 use Rattle.gate_graph.specs.Changes.{Edits}
@@ -286,3 +286,13 @@ pub within_numbers : (nodes : List NodeId) (k x : ℕ) → slice_get (numbers_of
 within_numbers [] k x e = cc
 within_numbers (n ∷ nodes) zero x e = omega arith
 within_numbers (n ∷ nodes) (suc k) x e = let lt : k < length nodes = within_numbers nodes k x e in omega (arith, lt)
+
+-- what differs from a first net among some nodes, and from there among others, differs among both
+pub same_through : (served before net : Net) (added nodes all : List NodeId) → IsSameBut before served (numbers_of added) → IsSameBut before net (numbers_of nodes) → all ≡ nodes ++ added → IsSameBut served net (numbers_of all)
+same_through served before net added nodes all near far is x none =
+    let split = unlisted_append nodes added x (subst (λ (ns : List NodeId). IsUnlisted (numbers_of ns) x) is none) in
+    far x split.0 ∙ sym (near x split.1)
+
+pub same_back : (now graph net : Net) (nodes all : List NodeId) → graph ≡ now → all ≡ nodes → IsSameBut now net (numbers_of nodes) → IsSameBut net graph (numbers_of all)
+same_back now graph net nodes all is same other x none =
+    ap (λ (n : Net). node_at n x) is ∙ sym (other x (subst (λ (ns : List NodeId). IsUnlisted (numbers_of ns) x) same none))

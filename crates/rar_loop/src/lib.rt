@@ -2,8 +2,8 @@
 #![tactic(auto)]
 
 mod beginning;
+mod candidates;
 mod changes;
-mod closer;
 mod fixing;
 mod laws;
 mod optimising;

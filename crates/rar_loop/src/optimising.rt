@@ -12,7 +12,6 @@ ghost use Rattle.rar_loop.specs.Swept.{IsSwept};
 ghost use Rattle.rar_loop.specs.Ended.{IsOptimised, AreFew};
 
 use crate::beginning::begun;
-use crate::closer::Closer;
 use crate::walking::{Tour, walk_pairs};
 use crate::workspace::finished;
 use candidate_wires::Outcome;
@@ -64,10 +63,9 @@ pub fn optimise<S: Shelf>(
     let (mut space, records) = begun(alloc, graph, settings.depth, found)?;
     append_records(alloc, shelf, journal, &records)?;
     count_records(&records, &mut made);
-    let mut closer = Closer::new(alloc, space.trial.graph())?;
     let mut left = settings.tries;
     loop {
-        match walk_pairs(alloc, &mut space, &mut closer, settings.depth, &mut left)? {
+        match walk_pairs(alloc, &mut space, settings.depth, &mut left)? {
             Tour::Done => {
                 let tries = settings.tries - left;
                 return Ok((finished(space), Outcome::Settled { tries }, made));

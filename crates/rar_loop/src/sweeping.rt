@@ -3,10 +3,8 @@ ghost use Rattle.std.specs.Prelude.{◌≡◌, ◌<◌, ◌≤◌, ◌+◌, ◌|
 ghost use Rattle.gate_graph.specs.Circuit.{net_of};
 ghost use Rattle.wire_edit.specs.Order.{IsTidy};
 ghost use Rattle.wire_edit.specs.Work.{work};
-ghost use Rattle.recursive_learning.specs.Serving.{IsServing};
 ghost use Rattle.rar_loop.specs.Going.{Goes};
-ghost use Rattle.rar_loop.specs.Kept.{AreFor};
-ghost use Rattle.rar_loop.specs.Spaces.{TouchesOn};
+ghost use Rattle.rar_loop.specs.Spaces.{HasToolsFor, TouchesOn};
 ghost use Rattle.rar_loop.specs.Swept.{HasLookedAt, HasPassed, HasSwept};
 
 use crate::changes::Changed;
@@ -27,15 +25,13 @@ fn sweep_at(
 ) -> Result<bool, NoMemory>
     requires tidy { IsTidy (net_of space.old.trial.graph) }
     requires room { work (net_of space.old.trial.graph) ≤ space.old.trial.room.steps }
-    requires serves { IsServing (net_of space.old.trial.graph) space.old.refuter }
-    requires vectors { AreFor space.old.vectors (net_of space.old.trial.graph) }
+    requires tools { HasToolsFor (net_of space.old.trial.graph) space.old }
     requires depth { depth ≤ 2 }
     ensures goes { OnOk result (Goes space.old.trial space.new.trial log.old.items log.new.items) }
     ensures tidy { OnOk result (IsTidy (net_of space.new.trial.graph)) }
     ensures looked { IfOk result (HasLookedAt (net_of space.old.trial.graph) (net_of space.new.trial.graph) gate.0 depth) }
-    ensures serves { OnOk result (IsServing (net_of space.new.trial.graph) space.new.refuter) }
     ensures touched { OnOk result (TouchesOn (net_of space.old.trial.graph) (net_of space.new.trial.graph) space.old.touched.items space.new.touched.items) }
-    ensures vectors { OnOk result (AreFor space.new.vectors (net_of space.new.trial.graph)) }
+    ensures tools { OnOk result (HasToolsFor (net_of space.new.trial.graph) space.new) }
 {
     accepted_steps_keep();
     let graph = space.trial.graph();
@@ -46,8 +42,7 @@ fn sweep_at(
         Some((fault, tree)) => {
             let mut changed = Changed::new(alloc);
             fix_and_tidy(alloc, &mut space.trial, log, &mut changed, fault, tree)?;
-            space.follow(alloc, &changed)?;
-            space.refuter.fit(space.trial.graph())?;
+            space.follow(alloc, &changed, &[])?;
             Ok(true)
         }
     }
@@ -76,15 +71,13 @@ fn pass(
 ) -> Result<bool, NoMemory>
     requires tidy { IsTidy (net_of space.old.trial.graph) }
     requires room { work (net_of space.old.trial.graph) ≤ space.old.trial.room.steps }
-    requires serves { IsServing (net_of space.old.trial.graph) space.old.refuter }
-    requires vectors { AreFor space.old.vectors (net_of space.old.trial.graph) }
+    requires tools { HasToolsFor (net_of space.old.trial.graph) space.old }
     requires depth { depth ≤ 2 }
     ensures goes { OnOk result (Goes space.old.trial space.new.trial log.old.items log.new.items) }
     ensures tidy { OnOk result (IsTidy (net_of space.new.trial.graph)) }
     ensures passed { IfOk result (HasPassed (net_of space.old.trial.graph) (net_of space.new.trial.graph) depth (length (net_of space.new.trial.graph).nodes)) }
-    ensures serves { OnOk result (IsServing (net_of space.new.trial.graph) space.new.refuter) }
     ensures touched { OnOk result (TouchesOn (net_of space.old.trial.graph) (net_of space.new.trial.graph) space.old.touched.items space.new.touched.items) }
-    ensures vectors { OnOk result (AreFor space.new.vectors (net_of space.new.trial.graph)) }
+    ensures tools { OnOk result (HasToolsFor (net_of space.new.trial.graph) space.new) }
 {
     let mut has_fixed = false;
     let mut gate = 0u32;
@@ -105,15 +98,13 @@ pub(crate) fn sweep(
 ) -> Result<(), NoMemory>
     requires tidy { IsTidy (net_of space.old.trial.graph) }
     requires room { work (net_of space.old.trial.graph) ≤ space.old.trial.room.steps }
-    requires serves { IsServing (net_of space.old.trial.graph) space.old.refuter }
-    requires vectors { AreFor space.old.vectors (net_of space.old.trial.graph) }
+    requires tools { HasToolsFor (net_of space.old.trial.graph) space.old }
     requires depth { depth ≤ 2 }
     ensures goes { OnOk result (Goes space.old.trial space.new.trial log.old.items log.new.items) }
     ensures tidy { OnOk result (IsTidy (net_of space.new.trial.graph)) }
     ensures swept { OnOk result (HasSwept (net_of space.old.trial.graph) (net_of space.new.trial.graph) depth) }
-    ensures serves { OnOk result (IsServing (net_of space.new.trial.graph) space.new.refuter) }
     ensures touched { OnOk result (TouchesOn (net_of space.old.trial.graph) (net_of space.new.trial.graph) space.old.touched.items space.new.touched.items) }
-    ensures vectors { OnOk result (AreFor space.new.vectors (net_of space.new.trial.graph)) }
+    ensures tools { OnOk result (HasToolsFor (net_of space.new.trial.graph) space.new) }
 {
     loop {
         let has_fixed = pass(alloc, space, log, depth)?;

@@ -10,11 +10,12 @@ mod pairs;
 mod wide;
 
 use self::nets::{Gate, wired};
-use crate::closer::Closer;
+use crate::candidates::candidates_of;
 use crate::optimise;
 use crate::vectors::Vectors;
-use candidate_wires::{Candidate, Outcome, Pair};
+use candidate_wires::{Candidate, Finder, Outcome, Pair};
 use gate_graph::Graph;
+use recursive_learning::refuter::Refuter;
 use rm_base::{Fault, Made, NoMemory, NodeId, Settings, Shelf, SureShelf};
 use std::alloc::Global;
 use std::test::Fail;
@@ -209,22 +210,13 @@ fn no_wire_is_added(rt: HostRuntime) -> Result<(), Fail> {
 // Where 5 reads 2 and And(2, 3), its second pin can't be told from a constant 1.
 const TWICE: [Gate; 2] = [Gate::And(2, 3), Gate::And(4, 2)];
 
-fn count_by(
-    alloc: Global,
-    closer: &mut Closer,
-    graph: &Graph,
-    target: &Fault,
-) -> Result<usize, Fail> {
+fn count_candidates(alloc: Global, graph: &Graph, target: &Fault) -> Result<usize, Fail> {
     let Some(_) = graph.driver(target.gate, target.position) else {
         return Err("no pin".into());
     };
-    closer.fit(alloc, graph)?;
-    Ok(closer.candidates_of(alloc, graph, target)?.len())
-}
-
-fn count_candidates(alloc: Global, graph: &Graph, target: &Fault) -> Result<usize, Fail> {
-    let mut closer = Closer::new(alloc, graph)?;
-    count_by(alloc, &mut closer, graph, target)
+    let mut refuter = Refuter::for_graph(alloc, graph)?;
+    let mut finder = Finder::new(alloc, graph.node_bound())?;
+    Ok(candidates_of(alloc, &mut refuter, &mut finder, graph, target)?.len())
 }
 
 #[test]

@@ -1,6 +1,6 @@
 //! Trying one pair.
 ghost use Rattle.std.specs.Prelude.{◌≡◌, ◌<◌, ◌≤◌, ◌+◌, [], IfOk, OnOk, Bool, IsTrue, not, Some, if◌then◌else◌};
-ghost use Rattle.gate_net.specs.Edits.{last_pin};
+ghost use Rattle.gate_net.specs.Edits.{IsSameBut, last_pin};
 ghost use Rattle.wire_edit.specs.Tests.{control_of};
 ghost use Rattle.gate_graph.specs.Circuit.{net_of, live_nodes};
 ghost use Rattle.gate_net.specs.Net.{wire_count, source_count, gate_count};
@@ -10,8 +10,8 @@ ghost use Rattle.candidate_wires.specs.Gains.{net_for, wire_for, with_candidate}
 ghost use Rattle.recursive_learning.specs.Serving.{IsServing};
 ghost use Rattle.rar_loop.specs.Going.{IsLeft, Tallies};
 ghost use Rattle.rar_loop.specs.Kept.{AreFor};
-ghost use Rattle.rar_loop.specs.Changing.{NotesOn};
-ghost use Rattle.rar_loop.specs.Spaces.{IsReady, TouchesOn};
+ghost use Rattle.rar_loop.specs.Changing.{NotesOn, numbers_of};
+ghost use Rattle.rar_loop.specs.Spaces.{HasToolsFor, IsReady, TouchesOn};
 ghost use Rattle.rar_loop.specs.Trying.{MayAdd, MayTry, HasAdded, HasReplaced, IsAttempt, IsBack, IsLent, IsReadyToAdd, not_records};
 
 use crate::changes::Changed;
@@ -91,7 +91,21 @@ fn new_pin(graph: &Graph, gate: NodeId) -> Fault
     }
 }
 
-// Adds the candidate's wire, where its fault is then refuted; whether it is.
+// The nodes that the candidate's wire may change: the gate, and the number that a fresh Not takes.
+fn changed_nodes(
+    alloc: Global,
+    graph: &Graph,
+    candidate: &Candidate,
+) -> Result<Vec<NodeId>, NoMemory>
+    ensures { IfOk result (λ nodes. IsSameBut (net_of graph.now) (with_candidate (net_of graph.now) candidate.now) (numbers_of nodes.items)) }
+{
+    let mut nodes = Vec::new(alloc);
+    nodes.push(candidate.gate)?;
+    nodes.push(least_free(graph))?;
+    Ok(nodes)
+}
+
+// Adds the candidate's wire, which the refuter follows, where its fault is then refuted; whether it is.
 fn add_wire(
     alloc: Global,
     refuter: &mut Refuter,
@@ -99,6 +113,7 @@ fn add_wire(
     log: &mut Vec<Record>,
     changed: &mut Changed,
     candidate: &Candidate,
+    added: &[NodeId],
     depth: u8,
 ) -> Result<bool, NoMemory>
     requires candidate { MayAdd (net_of trial.old.graph) candidate.now }
@@ -106,6 +121,8 @@ fn add_wire(
     requires room { 0 < trial.old.room.nodes }
     requires pins { 2 ≤ trial.old.room.pins }
     requires none { log.old.items ≡ [] }
+    requires serves { IsServing (net_of trial.old.graph) refuter.old }
+    requires changes { IsSameBut (net_of trial.old.graph) (with_candidate (net_of trial.old.graph) candidate.now) (numbers_of added.now) }
     requires depth { depth ≤ 2 }
     ensures net { OnOk result (net_of trial.new.graph ≡ with_candidate (net_of trial.old.graph) candidate.now) }
     ensures added { IfOk result (HasAdded (net_of trial.old.graph) candidate.now depth log.new.items) }
@@ -133,7 +150,7 @@ fn add_wire(
         Err(_refusal) => unreachable!(),
     }
     changed.note(trial.graph(), step)?;
-    refuter.fit(trial.graph())?;
+    refuter.follow(trial.graph(), added)?;
     match refuted(refuter, trial.graph(), &fault, depth)? {
         None => Ok(false),
         Some(tree) => {
@@ -149,6 +166,7 @@ fn replace(
     space: &mut Workspace,
     log: &mut Vec<Record>,
     pair: &Pair,
+    added: &[NodeId],
     depth: u8,
 ) -> Result<bool, NoMemory>
     requires tidy { IsTidy (net_of space.old.trial.graph) }
@@ -157,12 +175,14 @@ fn replace(
     requires room { 0 < space.old.trial.room.nodes }
     requires pins { 2 ≤ space.old.trial.room.pins }
     requires none { log.old.items ≡ [] }
-    requires vectors { AreFor space.old.vectors (net_of space.old.trial.graph) }
+    requires tools { HasToolsFor (net_of space.old.trial.graph) space.old }
+    requires changes { IsSameBut (net_of space.old.trial.graph) (with_candidate (net_of space.old.trial.graph) pair.now.candidate) (numbers_of added.now) }
     requires depth { depth ≤ 2 }
     ensures tallies { IfOk result (λ replaced. IsTrue replaced → Tallies space.old.trial space.new.trial log.old.items log.new.items) }
     ensures left { IfOk result (λ replaced. IsTrue replaced → IsLeft space.old.trial space.new.trial 2 1) }
     ensures replaced { IfOk result (HasReplaced (net_of space.old.trial.graph) pair.now depth log.new.items (net_of space.new.trial.graph)) }
     ensures vectors { IfOk result (λ replaced. AreFor space.new.vectors (if replaced then net_of space.new.trial.graph else net_of space.old.trial.graph)) }
+    ensures serves { IfOk result (λ replaced. IsServing (if replaced then net_of space.new.trial.graph else with_candidate (net_of space.old.trial.graph) pair.now.candidate) space.new.refuter) }
     ensures touched { IfOk result (λ replaced. IsTrue replaced → TouchesOn (net_of space.old.trial.graph) (net_of space.new.trial.graph) space.old.touched.items space.new.touched.items) }
     ensures start { OnOk result (start_of space.new.trial ≡ start_of space.old.trial) }
     ensures first { OnOk result (space.new.trial.first ≡ space.old.trial.first) }
@@ -172,24 +192,24 @@ fn replace(
     let trial = &mut space.trial;
     trial.graph().well_formed();
     let mut changed = Changed::new(alloc);
-    let added = add_wire(
+    let has_added = add_wire(
         alloc,
         &mut space.refuter,
         trial,
         log,
         &mut changed,
         &pair.candidate,
+        added,
         depth,
     )?;
-    if !added {
+    if !has_added {
         return Ok(false);
     }
     match refuted(&mut space.refuter, trial.graph(), &pair.fault, depth)? {
         None => Ok(false),
         Some(tree) => {
             fix_and_tidy(alloc, trial, log, &mut changed, pair.fault, tree)?;
-            space.follow(alloc, &changed)?;
-            space.refuter.fit(space.trial.graph())?;
+            space.follow(alloc, &changed, added)?;
             sweep(alloc, space, log, depth)?;
             Ok(true)
         }
@@ -217,7 +237,7 @@ pub(crate) fn try_pair(
     requires wires { wires ≡ wire_count (net_of space.old.trial.graph) }
     requires depth { depth ≤ 2 }
     ensures attempt { IfOk result (IsAttempt space.old.trial pair.now depth space.new.trial) }
-    ensures vectors { OnOk result (AreFor space.new.vectors (net_of space.new.trial.graph)) }
+    ensures tools { OnOk result (HasToolsFor (net_of space.new.trial.graph) space.new) }
 {
     space.trial.graph().well_formed();
     tidying_ends();
@@ -225,9 +245,11 @@ pub(crate) fn try_pair(
     accepted_steps_keep();
     let mut log = Vec::new(alloc);
     space.touched.clear();
-    let refuted = replace(alloc, space, &mut log, pair, depth)?;
+    let added = changed_nodes(alloc, space.trial.graph(), &pair.candidate)?;
+    let refuted = replace(alloc, space, &mut log, pair, added.as_slice(), depth)?;
     if !refuted {
         give_back(&mut space.trial);
+        space.refuter.follow(space.trial.graph(), added.as_slice())?;
         return Ok(Attempt::Failed);
     }
     if space.trial.graph().wire_count() < wires {

@@ -1,17 +1,16 @@
 //! Going through the pairs of a net.
-ghost use Rattle.std.specs.Prelude.{◌≡◌, ◌≤◌, IfOk, OnOk};
+ghost use Rattle.std.specs.Prelude.{◌≡◌, ◌≤◌, IfOk, OnOk, length};
 ghost use Rattle.gate_net.specs.Net.{wire_count};
 ghost use Rattle.gate_net.specs.Values.{HasPin};
 ghost use Rattle.gate_graph.specs.Circuit.{net_of};
-ghost use Rattle.rar_loop.specs.Kept.{AreFor};
-ghost use Rattle.rar_loop.specs.Spaces.{IsFitted, IsReady};
+ghost use Rattle.rar_loop.specs.Spaces.{HasToolsFor, IsReady};
 ghost use Rattle.rar_loop.specs.Trying.{IsAttempt, MayTry};
 ghost use Rattle.rar_loop.specs.Walking.{IsTargetTour, IsTour};
 
-use crate::closer::Closer;
+use crate::candidates::candidates_of;
 use crate::trying::{Attempt, try_pair};
 use crate::workspace::Workspace;
-use candidate_wires::{Pair, targets};
+use candidate_wires::{Finder, Pair, targets};
 use journal_text::Record;
 use refutation::laws::closed_has_all;
 use rm_base::{Fault, NoMemory};
@@ -41,7 +40,7 @@ fn try_unless_detected(
     requires wires { wires ≡ wire_count (net_of space.old.trial.graph) }
     requires depth { depth ≤ 2 }
     ensures attempt { IfOk result (IsAttempt space.old.trial pair.now depth space.new.trial) }
-    ensures vectors { OnOk result (AreFor space.new.vectors (net_of space.new.trial.graph)) }
+    ensures tools { OnOk result (HasToolsFor (net_of space.new.trial.graph) space.new) }
 {
     closed_has_all();
     let graph = space.trial.graph();
@@ -55,23 +54,23 @@ fn try_unless_detected(
 fn walk_target(
     alloc: Global,
     space: &mut Workspace,
-    closer: &mut Closer,
+    finder: &mut Finder,
     wires: u32,
     target: Fault,
     depth: u8,
     left: &mut u32,
 ) -> Result<Tour, NoMemory>
     requires ready { IsReady space.old }
-    requires fitted { IsFitted (net_of space.old.trial.graph) closer.old }
+    requires numbers { length (net_of space.old.trial.graph).nodes ≤ finder.old }
     requires pin { HasPin (net_of space.old.trial.graph) target }
     requires wires { wires ≡ wire_count (net_of space.old.trial.graph) }
     requires depth { depth ≤ 2 }
     ensures tour { IfOk result (IsTargetTour space.old.trial target depth left.old left.new space.new.trial) }
-    ensures fitted { OnOk result (IsFitted (net_of space.old.trial.graph) closer.new) }
-    ensures vectors { OnOk result (AreFor space.new.vectors (net_of space.new.trial.graph)) }
+    ensures numbers { finder.new ≡ finder.old }
+    ensures tools { OnOk result (HasToolsFor (net_of space.new.trial.graph) space.new) }
 {
     let graph = space.trial.graph();
-    let found = closer.candidates_of(alloc, graph, &target)?;
+    let found = candidates_of(alloc, &mut space.refuter, finder, graph, &target)?;
     for place in 0..found.len() {
         let pair = Pair {
             fault: target,
@@ -93,13 +92,13 @@ fn walk_target(
 fn walk_targets(
     alloc: Global,
     space: &mut Workspace,
-    closer: &mut Closer,
+    finder: &mut Finder,
     wires: u32,
     depth: u8,
     left: &mut u32,
 ) -> Result<Tour, NoMemory>
     requires ready { IsReady space.old }
-    requires fitted { IsFitted (net_of space.old.trial.graph) closer.old }
+    requires numbers { length (net_of space.old.trial.graph).nodes ≤ finder.old }
     requires wires { wires ≡ wire_count (net_of space.old.trial.graph) }
     requires depth { depth ≤ 2 }
     ensures tour { IfOk result (IsTour space.old.trial depth left.old left.new space.new.trial) }
@@ -108,7 +107,7 @@ fn walk_targets(
     let faults = targets(alloc, space.trial.graph())?;
     for place in 0..faults.len() {
         let target = faults[place];
-        match walk_target(alloc, space, closer, wires, target, depth, left)? {
+        match walk_target(alloc, space, finder, wires, target, depth, left)? {
             Tour::Done => {}
             Tour::Spent { at } => return Ok(Tour::Spent { at }),
             Tour::Gained { records } => return Ok(Tour::Gained { records }),
@@ -121,7 +120,6 @@ fn walk_targets(
 pub(crate) fn walk_pairs(
     alloc: Global,
     space: &mut Workspace,
-    closer: &mut Closer,
     depth: u8,
     left: &mut u32,
 ) -> Result<Tour, NoMemory>
@@ -130,7 +128,7 @@ pub(crate) fn walk_pairs(
     ensures tour { IfOk result (IsTour space.old.trial depth left.old left.new space.new.trial) }
     ensures ready { OnOk result (IsReady space.new) }
 {
-    closer.fit(alloc, space.trial.graph())?;
+    let mut finder = Finder::new(alloc, space.trial.graph().node_bound())?;
     let wires = space.trial.graph().wire_count();
-    walk_targets(alloc, space, closer, wires, depth, left)
+    walk_targets(alloc, space, &mut finder, wires, depth, left)
 }

@@ -3,12 +3,9 @@ ghost use Rattle.std.specs.Prelude.{◌≡◌, ◌≤◌, [], IfOk, OnOk};
 ghost use Rattle.gate_graph.specs.Circuit.{net_of};
 ghost use Rattle.gate_net.specs.Net.{Net, source_count};
 ghost use Rattle.wire_edit.specs.Order.{IsTidy};
-ghost use Rattle.fault_sim.specs.Following.{DiffersAmong};
-ghost use Rattle.recursive_learning.specs.Serving.{IsServing};
-ghost use Rattle.rar_loop.specs.Changing.{AreNoted, numbers_of};
-ghost use Rattle.rar_loop.specs.Kept.{AreFor};
+ghost use Rattle.rar_loop.specs.Changing.{AreNoted};
 ghost use Rattle.rar_loop.specs.Sizes.{IsSame};
-ghost use Rattle.rar_loop.specs.Spaces.{CanFollow, TouchesOn};
+ghost use Rattle.rar_loop.specs.Spaces.{CanFollow, CanReturn, HasToolsFor, TouchesOn};
 
 use crate::changes::Changed;
 use crate::vectors::Vectors;
@@ -24,17 +21,8 @@ pub(crate) struct Workspace {
     pub(crate) trial: Trial,
     pub(crate) refuter: Refuter,
     pub(crate) vectors: Vectors,
-    // Nodes that the vectors followed since the list was cleared.
+    // Nodes that vectors and refuter followed since the list was cleared.
     pub(crate) touched: Vec<NodeId>,
-}
-
-// A refuter that is fitted to the graph.
-fn fitted(alloc: Global, graph: &Graph) -> Result<Refuter, NoMemory>
-    ensures { IfOk result (IsServing (net_of graph.now)) }
-{
-    let mut refuter = Refuter::new(alloc, graph.node_bound())?;
-    refuter.fit(graph)?;
-    Ok(refuter)
 }
 
 impl Workspace {
@@ -45,11 +33,10 @@ impl Workspace {
         found: &[Vec<u64>],
     ) -> Result<Workspace, NoMemory>
         ensures trial { IfOk result (λ s. s.trial ≡ trial) }
-        ensures serves { IfOk result (λ s. IsServing (net_of trial.graph) s.refuter) }
-        ensures vectors { IfOk result (λ s. AreFor s.vectors (net_of trial.graph)) }
+        ensures tools { IfOk result (HasToolsFor (net_of trial.graph)) }
     {
         let vectors = Vectors::drawn(alloc, trial.graph(), found)?;
-        let refuter = fitted(alloc, trial.graph())?;
+        let refuter = Refuter::for_graph(alloc, trial.graph())?;
         Ok(Workspace {
             trial,
             refuter,
@@ -58,30 +45,39 @@ impl Workspace {
         })
     }
 
-    /// Lets the vectors follow what is noted of the way to a tidy net.
-    pub(crate) fn follow(&mut self, alloc: Global, changed: &Changed) -> Result<(), NoMemory>
+    /// Lets the vectors follow what is noted of the way to a tidy net, and the refuter that and the added nodes.
+    pub(crate) fn follow(
+        &mut self,
+        alloc: Global,
+        changed: &Changed,
+        added: &[NodeId],
+    ) -> Result<(), NoMemory>
         requires tidy { IsTidy (net_of self.old.trial.graph) }
-        requires follows { CanFollow self.old changed.now }
+        requires follows { CanFollow self.old changed.now added.now }
         ensures trial { self.new.trial ≡ self.old.trial }
-        ensures vectors { OnOk result (AreFor self.new.vectors (net_of self.new.trial.graph)) }
+        ensures tools { OnOk result (HasToolsFor (net_of self.new.trial.graph) self.new) }
         ensures touched { OnOk result ((net : Net) → AreNoted net (net_of self.old.trial.graph) changed.now → source_count (net_of self.old.trial.graph) ≡ source_count net → TouchesOn net (net_of self.old.trial.graph) self.old.touched.items self.new.touched.items) }
     {
         let graph = self.trial.graph();
         graph.well_formed();
-        let nodes = changed.nodes(alloc, graph)?;
+        let mut nodes = changed.nodes(alloc, graph)?;
         self.vectors.follow(alloc, graph, nodes.as_slice())?;
         self.touched.extend_from_slice(nodes.as_slice())?;
+        nodes.extend_from_slice(added)?;
+        self.refuter.follow(graph, nodes.as_slice())?;
         Ok(())
     }
 
-    /// Lets the vectors follow the trial back to where the list of touched nodes was cleared.
+    /// Lets both follow the trial back to where the list of touched nodes was cleared.
     pub(crate) fn follow_back(&mut self, alloc: Global) -> Result<(), NoMemory>
-        requires follows { (net : Net) × (AreFor self.old.vectors net × DiffersAmong (net_of self.old.trial.graph) net (numbers_of self.old.touched.items)) }
+        requires { CanReturn self.old }
         ensures trial { self.new.trial ≡ self.old.trial }
-        ensures vectors { OnOk result (AreFor self.new.vectors (net_of self.new.trial.graph)) }
+        ensures tools { OnOk result (HasToolsFor (net_of self.new.trial.graph) self.new) }
     {
-        self.vectors
-            .follow(alloc, self.trial.graph(), self.touched.as_slice())
+        let graph = self.trial.graph();
+        self.vectors.follow(alloc, graph, self.touched.as_slice())?;
+        self.refuter.follow(graph, self.touched.as_slice())?;
+        Ok(())
     }
 }
 

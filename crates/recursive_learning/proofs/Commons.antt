@@ -3,7 +3,7 @@ use Rattle.std.proofs.Common.{Bool, List, None, Some, [], arith, false, inl, inr
 use Rattle.std.proofs.lemmas.Bool.{cases_lt}
 use Rattle.std.specs.Prelude.{IsTrue, slice_get}
 use Rattle.gate_net.specs.Net.{Net}
-use Rattle.implications.specs.Trail.{IsAmong}
+use Rattle.refutation.specs.FactLists.{IsAmong}
 use Rattle.recursive_learning.specs.Common.{Meets}
 use Rattle.recursive_learning.specs.Least.{IsLeastAt}
 use Rattle.recursive_learning.specs.Lessons.{AreCommon, AreFound, IsNothingNew}

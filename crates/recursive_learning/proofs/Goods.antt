@@ -2,7 +2,7 @@
 use Rattle.std.proofs.Common.{Bool, List, Some, [], ap, get_or, length, take, ◌+◌, ◌<◌, inl, inr, refl, suc, sym, zero, ℕ, ◌++◌, ◌∙◌, ◌∷◌, ◌≡◌, ◌≢◌, ◌⊎◌}
 use Rattle.std.proofs.lemmas.List.{take_more}
 use Rattle.std.specs.Prelude.{slice_get}
-use Rattle.implications.specs.Trail.{IsAmong}
+use Rattle.refutation.specs.FactLists.{IsAmong}
 use Rattle.recursive_learning.specs.Common.{AreGoodsOf, AreHeldAmong, IsAmongGoods}
 use Rattle.recursive_learning.specs.declared.lessons.Learned.{Learned}
 use Rattle.refutation.specs.Facts.{Held, known_good}

@@ -8,13 +8,14 @@ use Rattle.implications.specs.Bases.{ComesToRest, HasRoom as BasisRoom, IsClashF
 use Rattle.implications.specs.Outside.{AppendsOutside, LeadFromOutside}
 use Rattle.implications.specs.State.{EngineState}
 use Rattle.implications.specs.declared.basis.Basis.{Basis}
+use Rattle.refutation.specs.FactLists.{HasAllGoods}
 use Rattle.recursive_learning.proofs.Refutes.{clash_at_deeper, clash_of_all, clashes_lead, ends_accepted, least_of_all, open_forced}
 use Rattle.recursive_learning.proofs.Tells.{lines_lead, told_clash}
 use Rattle.recursive_learning.proofs.Watches.{known_goods}
 use Rattle.recursive_learning.proofs.Splits.{told_join}
 use Rattle.recursive_learning.specs.Bodies.{IsBody}
 use Rattle.recursive_learning.specs.Answers.{IsDeepened}
-use Rattle.recursive_learning.specs.Serving.{AreGoodsAdded, IsLevel}
+use Rattle.recursive_learning.specs.Serving.{IsLevel}
 use Rattle.recursive_learning.specs.Telling.{Ends, Leads, line_item}
 use Rattle.recursive_learning.specs.Watching.{IsWatching, ListsAdded, ListsGoods}
 use Rattle.recursive_learning.specs.Working.{Keeps}
@@ -64,7 +65,7 @@ fitted_serves net e b numbers trail room fitted = record {
 }
 
 -- each good value that is held was added
-pub goods_added : (net : Net) (e : EngineState) (b : Basis) → IsFor net e b → AreGoodsAdded (held_by b.facts) e.trail
+pub goods_added : (net : Net) (e : EngineState) (b : Basis) → IsFor net e b → HasAllGoods (held_by b.facts) e.trail
 goods_added net e b f y v held = elim ((trail_tells e.trail 0 b.facts f.rest.start f.rest.leads).all y (Good v) held) [
   | inl before ↦ let wrong : Good v ≡ Fact.Equal = ((f.rest.rest y (Good v)).0 (inl before)).1 in cc
   | inr among ↦ among

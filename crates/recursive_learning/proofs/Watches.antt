@@ -8,7 +8,7 @@ use Rattle.gate_graph.proofs.Public.{none_seen}
 use Rattle.gate_graph.specs.Search.{IsSeen}
 use Rattle.gate_net.specs.Net.{IsLive, Net, kind_in, kind_of}
 use Rattle.implications.specs.Settled.{AgreeAt}
-use Rattle.implications.specs.Trail.{IsAmong}
+use Rattle.refutation.specs.FactLists.{IsAmong}
 use Rattle.recursive_learning.proofs.Indexes.{longer_join, watched_longer}
 use Rattle.recursive_learning.proofs.Regions.{stays_idle}
 use Rattle.recursive_learning.proofs.Rounds.{junction_below}

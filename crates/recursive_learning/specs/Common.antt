@@ -1,6 +1,6 @@
 -- Good values among facts.
 use Rattle.std.specs.Prelude.{Bool, List, Some, false, slice_get, true, ℕ, ◌≡◌, ◌≢◌}
-use Rattle.implications.specs.Trail.{IsAmong}
+use Rattle.refutation.specs.FactLists.{IsAmong}
 use Rattle.recursive_learning.specs.declared.lessons.Learned.{Learned}
 use Rattle.refutation.specs.Facts.{Held, known_good}
 use Rattle.refutation.specs.declared.reasoning.Fact.{Fact}

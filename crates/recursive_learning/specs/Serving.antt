@@ -3,7 +3,6 @@ use Rattle.std.specs.Prelude.{Bool, IsTrue, List, None, Option, Some, false, len
 use Rattle.gate_net.specs.Net.{Net}
 use Rattle.implications.specs.Bases.{HasRoom as BasisRoom, IsFor}
 use Rattle.implications.specs.Outcomes.{IsOpen}
-use Rattle.implications.specs.Trail.{IsAmong}
 use Rattle.recursive_learning.specs.Answers.{IsRefuting}
 use Rattle.recursive_learning.specs.Watching.{HasRoom}
 use Rattle.recursive_learning.specs.declared.refuter.Refuter.{Refuter}
@@ -56,7 +55,3 @@ IsRefuted net fault depth facts (Some items) = IsRefuting net fault depth (Clash
 abbrev pub IsLevel : Net → Fault → ℕ → List NodeFacts → Option ℕ → Type 0
 IsLevel net fault depth facts None = IsRefuting net fault depth (Open facts)
 IsLevel net fault depth facts (Some level) = (level ≤ depth) × LeadsToClash net fault level none_held
-
--- each good value that is held is among the added facts
-abbrev pub AreGoodsAdded : Held → List (NodeId × Fact) → Type 0
-AreGoodsAdded held added = (x : ℕ) (b : Bool) → IsTrue (held x (Good b)) → IsAmong added x (Good b)

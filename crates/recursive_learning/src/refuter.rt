@@ -1,5 +1,6 @@
 //! Refuting fault after fault, on a net that may change between them.
-ghost use Rattle.std.specs.Prelude.{◌≡◌, ◌≤◌, ◌↔◌, IfOk, IsSome, IsTrue, OnOk, length};
+ghost use Rattle.std.specs.Prelude.{◌≡◌, ◌≤◌, ◌↔◌, IfOk, IsSome, IsTrue, OnOk, length, map};
+ghost use Rattle.gate_net.specs.Edits.{IsSameBut};
 ghost use Rattle.gate_net.specs.Net.{Net};
 ghost use Rattle.gate_net.specs.Values.{HasPin};
 ghost use Rattle.gate_graph.specs.Circuit.{net_of};
@@ -7,10 +8,11 @@ ghost use Rattle.implications.specs.Bases.{IsFor};
 ghost use Rattle.refutation.specs.Branches.{AreAccepted};
 ghost use Rattle.refutation.specs.Closing.{Clashes};
 ghost use Rattle.refutation.specs.Facts.{none_held};
+ghost use Rattle.refutation.specs.FactLists.{HasAllGoods};
 ghost use Rattle.refutation.specs.FactSets.{held_by};
 ghost use Rattle.refutation.specs.Learning.{LeadsToClash};
 ghost use Rattle.recursive_learning.specs.Bodies.{IsBody};
-ghost use Rattle.recursive_learning.specs.Serving.{AreGoodsAdded, HasAllRoom, IsLevel, IsMade, IsRefuted, IsServing, IsShut};
+ghost use Rattle.recursive_learning.specs.Serving.{HasAllRoom, IsLevel, IsMade, IsRefuted, IsServing, IsShut};
 ghost use Rattle.recursive_learning.specs.Watching.{HasRoom};
 
 use crate::bodies::{clash_body, learned_body, whole_tree};
@@ -25,7 +27,7 @@ use rm_base::{Fault, NoMemory, NodeId};
 use std::alloc::Global;
 
 /// Refutes stuck pins of one net after another, in the time of what the faults touch. It is fitted to a net by `fit`, and
-/// serves it until the net changes.
+/// serves it until that changes, which `follow` tells it.
 #[derive(Drop)]
 pub struct Refuter {
     alloc: Global,
@@ -148,6 +150,15 @@ impl Refuter {
         })
     }
 
+    /// One that is fitted to the net of the graph.
+    pub fn for_graph(alloc: Global, graph: &Graph) -> Result<Refuter, NoMemory>
+        ensures { IfOk result (IsServing (net_of graph.now)) }
+    {
+        let mut refuter = Refuter::new(alloc, graph.node_bound())?;
+        refuter.fit(graph)?;
+        Ok(refuter)
+    }
+
     // Whether there is room for the node numbers of the graph.
     fn has_room(&self, graph: &Graph) -> bool
         ensures { IsTrue result → HasAllRoom (net_of graph.now) self.now }
@@ -181,6 +192,20 @@ impl Refuter {
         self.make_room(graph)?;
         self.engine.forget();
         self.basis.fit(self.alloc, graph)?;
+        Ok(())
+    }
+
+    /// Fits it to the net of the graph, which differs at these nodes alone from the one that it serves. It takes the time of
+    /// these nodes and of what the last call led to; where there is too little room, it goes over the whole net as `fit` does.
+    pub fn follow(&mut self, graph: &Graph, nodes: &[NodeId]) -> Result<(), NoMemory>
+        requires before { (before : Net) × (IsServing before self.old × IsSameBut before (net_of graph.now) (map (λ n. n.0) nodes.now)) }
+        ensures serves { OnOk result (IsServing (net_of graph.now) self.new) }
+    {
+        if !self.has_room(graph) {
+            return self.fit(graph);
+        }
+        self.engine.rest(&mut self.basis);
+        self.basis.follow(self.alloc, graph, nodes)?;
         Ok(())
     }
 
@@ -257,7 +282,7 @@ impl Refuter {
     /// The facts that lines led to and that were learned, in order; each good value that is held is among them.
     pub fn added(&self) -> &[(NodeId, Fact)]
         ensures added { result.now ≡ self.now.engine.trail }
-        ensures goods { (net : Net) → IsServing net self.now → AreGoodsAdded (held_by self.now.basis.facts) result.now }
+        ensures goods { (net : Net) → IsServing net self.now → HasAllGoods (held_by self.now.basis.facts) result.now }
     {
         self.engine.added(0)
     }

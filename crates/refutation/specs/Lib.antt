@@ -10,6 +10,7 @@ pub mod Learning
 pub mod OpenSearch
 pub mod Laws
 pub mod FactSets
+pub mod FactLists
 pub mod Pins
 pub mod Answers
 pub mod Sites

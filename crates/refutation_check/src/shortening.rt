@@ -10,7 +10,7 @@ use crate::checker::TreeChecker;
 use crate::kept::Kept;
 use crate::refusals::CheckRefusal;
 use gate_graph::Graph;
-use refutation::following::gate_pins;
+use refutation::following::{gate_pins, pin_driver};
 use refutation::site::Site;
 use refutation::{Fact, Form, Item, Line, Tree};
 use rm_base::{Fault, NoMemory, NodeId};
@@ -37,21 +37,6 @@ impl Model for Shortener {
     ghost view = { λ s. s.numbers };
 
     ghost invariant = { λ s. (length s.site.reached ≡ s.numbers) × (s.checker ≡ s.numbers) };
-}
-
-// The node whose facts, with its drivers', the line's condition asks for.
-fn place_of(line: Line) -> Option<NodeId> {
-    match line {
-        Line::Act | Line::Site | Line::Chain { .. } | Line::Out { .. } => None,
-        Line::Constant { .. } => None,
-        Line::GoodForward { node } | Line::FaultyForward { node } | Line::Compare { node } => {
-            Some(node)
-        }
-        Line::ToFaulty { node } | Line::ToGood { node } | Line::EqualForward { node } => Some(node),
-        Line::NotDiffers { node } | Line::NotEqual { node } => Some(node),
-        Line::GoodBack { node, .. } | Line::FaultyBack { node, .. } => Some(node),
-        Line::DiffersBack { node, .. } | Line::Side { node, .. } => Some(node),
-    }
 }
 
 // Reads that the node is equal, where the faulty gate doesn't reach it and that wasn't read.
@@ -97,6 +82,37 @@ fn ask_around(
     Ok(())
 }
 
+// Reads so the nodes of which the line's condition asks whether they are equal.
+fn ask_for_line(
+    graph: &Graph,
+    fault: &Fault,
+    site: &Site,
+    account: &mut Account,
+    line: Line,
+) -> Result<(), NoMemory>
+    requires pin { HasPin (net_of graph.now) fault.now }
+    requires site { IsSiteOf (net_of graph.now) fault.now.gate.0 site.now }
+    requires numbers { length (net_of graph.now).nodes ≤ account.old.trail.numbers }
+    ensures { OnOk result (account.new.trail.numbers ≡ account.old.trail.numbers) }
+{
+    match line {
+        Line::ToFaulty { node } | Line::ToGood { node } | Line::NotEqual { node } => {
+            ask_at(graph, fault, site, account, node)
+        }
+        Line::EqualForward { node } | Line::DiffersBack { node, .. } => {
+            ask_around(graph, fault, site, account, node)
+        }
+        Line::Side { node, position } => match pin_driver(graph, node, position) {
+            Some(driver) => ask_at(graph, fault, site, account, driver),
+            None => Ok(()),
+        },
+        Line::Act | Line::Site | Line::Chain { .. } | Line::Out { .. } => Ok(()),
+        Line::Constant { .. } | Line::GoodForward { .. } | Line::GoodBack { .. } => Ok(()),
+        Line::FaultyForward { .. } | Line::FaultyBack { .. } => Ok(()),
+        Line::Compare { .. } | Line::NotDiffers { .. } => Ok(()),
+    }
+}
+
 // Reads so what an item may rest on.
 fn ask_for(
     graph: &Graph,
@@ -111,10 +127,7 @@ fn ask_for(
     ensures { OnOk result (account.new.trail.numbers ≡ account.old.trail.numbers) }
 {
     match item {
-        Item::Line(line) => match place_of(line) {
-            Some(node) => ask_around(graph, fault, site, account, node),
-            None => Ok(()),
-        },
+        Item::Line(line) => ask_for_line(graph, fault, site, account, line),
         Item::Clash(node) => ask_at(graph, fault, site, account, node),
         Item::Split { .. } | Item::Quiet | Item::Here | Item::Untried => Ok(()),
     }

@@ -5,7 +5,8 @@ ghost use Rattle.gate_graph.specs.Changes.{CanEdit, Edits, entries_for};
 ghost use Rattle.gate_graph.specs.Circuit.{Circuit, net_of, pins_taken, wiring};
 ghost use Rattle.gate_graph.specs.Entries.{CanGoBack};
 ghost use Rattle.fault_sim.specs.BlockStates.{AreSimulated};
-ghost use Rattle.fault_sim.specs.Following.{CanAllFollow, CanFollow, IsSameBut};
+ghost use Rattle.gate_net.specs.Edits.{IsSameBut};
+ghost use Rattle.fault_sim.specs.Following.{CanAllFollow, CanFollow};
 ghost use Rattle.fault_sim.specs.LaneStates.{Fits, IsSimulated};
 
 use super::drawn::{ALL, GATES, drawn_net};

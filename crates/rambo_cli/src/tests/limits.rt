@@ -77,6 +77,13 @@ fn most_names(rt: HostRuntime) -> Result<(), Fail> {
     let text = format!(in alloc; ".model m\n.inputs a\n.outputs a\n{covers}.end\n")?;
     let left = ".model m\n.inputs a\n.outputs a\n.end\n";
     assert!(rt; taken(&rt, alloc, &text, left)?);
+    Ok(())
+}
+
+#[test]
+fn one_name_more(rt: HostRuntime) -> Result<(), Fail> {
+    let alloc = rt.alloc();
+    let covers = numbered(alloc, ".names k", "\n", 131_071)?;
     let text = format!(in alloc; ".model m\n.inputs a\n.outputs a\n{covers}.names more\n.end\n")?;
     assert!(rt; limited(&rt, alloc, &text, "limit signals 131073\n")?);
     Ok(())

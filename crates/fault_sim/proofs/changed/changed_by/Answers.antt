@@ -7,7 +7,7 @@ use Rattle.gate_net.specs.Edits.{DiffersAt}
 use Rattle.gate_net.specs.Net.{Reads}
 use Rattle.rm_base.specs.declared.numbers.NodeId.{NodeId}
 use Rattle.fault_sim.proofs.ChangedNodes.{drivers_changed, if_ok, least_same, one_changed, readers_changed}
-use Rattle.fault_sim.specs.Following.{IsSameBut}
+use Rattle.gate_net.specs.Edits.{IsSameBut}
 use Rattle.fault_sim.proofs.changed.changed_by.Goals as goal
 
 abbrev numbers : List NodeId → List ℕ

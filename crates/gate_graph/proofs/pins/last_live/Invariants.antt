@@ -1,12 +1,8 @@
-use Rattle.std.proofs.Common.{◌≡◌, ℕ, ◌≤◌, length, None}
-use Rattle.gate_graph.specs.Wirings.{kind_at}
+use Rattle.gate_graph.specs.Circuit.{kinds_dead}
 use Rattle.gate_graph.proofs.pins.last_live.Given as goal
 
 abbrev pub invariant-loop-bound : goal.invariant-loop-bound
-invariant-loop-bound l = record {
-  within : l.bound ≤ length l.kinds;
-  dead : (m : ℕ) → l.bound ≤ m → kind_at l.kinds m ≡ None;
-}
+invariant-loop-bound l = kinds_dead l.kinds l.bound
 
 abbrev pub decreases-loop-bound : goal.decreases-loop-bound
 decreases-loop-bound l = l.bound

@@ -8,6 +8,7 @@ use Rattle.rar_loop.specs.Going.{Goes}
 use Rattle.rar_loop.specs.Swept.{HasSwept}
 use Rattle.rar_loop.specs.Improving.{HasBegun}
 use Rattle.rar_loop.specs.Kept.{AreFor}
+use Rattle.rar_loop.specs.Spaces.{HasToolsFor}
 use Rattle.rar_loop.proofs.GoingOn.{tallies_then}
 use Rattle.rar_loop.proofs.Sizing.{HasSize, held_back}
 use Rattle.rar_loop.specs.Trying.{IsLent}
@@ -70,7 +71,7 @@ returns-clause-ready c =
     record {
       tidy = subst (λ (t : Tried). IsTidy (net_of t.graph)) (sym c.in_ok-ready.ensures.trial) (subst IsTidy (sym is) c.in_ok-sweep.ensures.tidy);
       lent = subst IsLent (sym c.in_ok-ready.ensures.trial) lent;
-      vectors = subst (λ (t : Tried). AreFor c.in_ok-ready.ready.vectors (net_of t.graph)) (sym c.in_ok-ready.ensures.trial) c.in_ok-ready.ensures.vectors;
+      tools = subst (λ (t : Tried). HasToolsFor (net_of t.graph) c.in_ok-ready.ready) (sym c.in_ok-ready.ensures.trial) c.in_ok-ready.ensures.tools;
     }
 
 pub returns-in_err-sweep-clause-begun : goal.returns-in_err-sweep-clause-begun

@@ -29,8 +29,7 @@ loop-has_fixed-preserved c =
       tidy = c.in_ok-has_fixed.ensures.tidy;
       pays = pays_more (net_of c.args.space.now.trial.graph) (net_of c.loop-has_fixed.space.trial.graph) (net_of c.pass.new.space.trial.graph) c.args.depth (length (net_of c.pass.new.space.trial.graph).nodes) inv.pays passed;
       touched = λ before d. c.in_ok-has_fixed.ensures.touched before (inv.touched before d);
-      serves = c.in_ok-has_fixed.ensures.serves;
-      vectors = c.in_ok-has_fixed.ensures.vectors;
+      tools = c.in_ok-has_fixed.ensures.tools;
       room = omega (arith, zero);
     }
 

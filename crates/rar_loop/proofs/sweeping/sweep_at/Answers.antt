@@ -6,6 +6,7 @@ use Rattle.refutation.specs.declared.items.Item.{Item}
 use Rattle.rar_loop.specs.Swept.{IsLookedAtGate, IsOpenAtGate, IsRefutedAt}
 use Rattle.wire_edit.specs.Tried.{Tried}
 use Rattle.rar_loop.specs.Spaces.{TouchesOn}
+use Rattle.recursive_learning.specs.Serving.{IsServing}
 use Rattle.rar_loop.specs.Kept.{AreFor}
 use Rattle.rar_loop.proofs.FreePins.{tidy_reads_none}
 use Rattle.rar_loop.proofs.Sizing.{accepted_sources}
@@ -29,8 +30,8 @@ returns-in-None-clause-looked c =
     let open_pins : IsOpenAtGate net c.args.gate.0 c.args.depth = subst (λ (o : Option (Fault × List Item)). IsLookedAtGate net c.args.gate.0 c.args.depth o) c.in-None.is here in
     (refl, open_pins)
 
-pub returns-in_ok-fit-in-Some-clause-looked : goal.returns-in_ok-fit-in-Some-clause-looked
-returns-in_ok-fit-in-Some-clause-looked c =
+pub returns-in_ok-follow-in-Some-clause-looked : goal.returns-in_ok-follow-in-Some-clause-looked
+returns-in_ok-follow-in-Some-clause-looked c =
     let net : Net = net_of c.args.space.now.trial.graph in
     let formed : IsWellFormed net = subst (λ (v : Circuit). IsWellFormed (net_of v)) c.graph-graph.ensures c.well_formed-2.ensures.net in
     subst (λ (u : Tried). wire_count (net_of u.graph) < wire_count net) (sym c.follow.ensures.trial) (c.in_ok-fix_and_tidy-in-Some.ensures.fewer (tidy_reads_none net formed c.requires.tidy))
@@ -45,10 +46,13 @@ follow-requires-clause-follows c =
       vectors = subst (λ (v : Circuit). AreFor c.refuted_at.new.vectors (net_of v)) c.graph-graph.ensures c.in_ok-found.ensures.vectors;
       noted = c.in_ok-fix_and_tidy-in-Some.ensures.noted net (c.new-changed.ensures net);
       sources = accepted_sources c.accepted_steps_keep.ensures net (net_of c.fix_and_tidy.new.trial.graph) logs.more formed logs.accepted;
+      served = net;
+      refuter = subst (λ (v : Circuit). IsServing (net_of v) c.refuted_at.new.refuter) c.graph-graph.ensures c.in_ok-found.ensures.serves;
+      near = λ x none. refl;
     }
 
-pub returns-in_ok-fit-in-Some-clause-touched : goal.returns-in_ok-fit-in-Some-clause-touched
-returns-in_ok-fit-in-Some-clause-touched c =
+pub returns-in_ok-follow-in-Some-clause-touched : goal.returns-in_ok-follow-in-Some-clause-touched
+returns-in_ok-follow-in-Some-clause-touched c =
     let net : Net = net_of c.args.space.now.trial.graph in
     let formed : IsWellFormed net = subst (λ (v : Circuit). IsWellFormed (net_of v)) c.graph-graph.ensures c.well_formed-2.ensures.net in
     let logs = c.in_ok-fix_and_tidy-in-Some.ensures.goes.logs in

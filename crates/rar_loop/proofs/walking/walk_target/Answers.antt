@@ -6,6 +6,7 @@ use Rattle.candidate_wires.specs.declared.candidate.Pair.{Pair}
 use Rattle.candidate_wires.specs.Candidates.{AreCandidatesOf}
 use Rattle.candidate_wires.specs.Gains.{Gains}
 use Rattle.candidate_wires.specs.Pairs.{paired}
+use Rattle.recursive_learning.specs.Serving.{IsServing}
 use Rattle.rar_loop.specs.Trying.{MayTry, IsAttempt, IsAhead, IsBack}
 use Rattle.rar_loop.proofs.Pairing.{index_is, candidates_may, tried_more, tried_none, back_none, back_then, ahead_back}
 use Rattle.rar_loop.proofs.Spacing.{ready_still}
@@ -18,7 +19,7 @@ loop-place-init c =
       stays = back_none t c.requires.ready.lent;
       tried = tried_none (net_of t.graph) c.args.target c.in_ok-found.found.items (subst (λ (v : Circuit). AreCandidatesOf (net_of v) c.args.target c.in_ok-found.found.items) c.graph-graph.ensures c.in_ok-found.ensures.candidates);
       sum = omega arith;
-      vectors = c.requires.ready.vectors;
+      tools = record { vectors = c.requires.ready.tools.vectors; refuter = subst (λ (v : Circuit). IsServing (net_of v) c.candidates_of.new.refuter) c.graph-graph.ensures c.in_ok-found.ensures.serves };
     }
 
 pub try_unless_detected-requires-clause-pair : goal.try_unless_detected-requires-clause-pair
@@ -52,7 +53,7 @@ loop-place-preserved c =
       stays = back_then c.args.space.now.trial c.loop-place.space.trial c.try_unless_detected.new.space.trial inv.stays failed.0;
       tried = tried_more (net_of c.args.space.now.trial.graph) c.args.target c.in_ok-found.found.items c.loop-place.place c.index.result.now inv.tried at (subst (λ (n : Net). Gains n pair → ⊥) inv.stays.same.net failed.1);
       sum = omega (arith, inv.sum, c.if-left-eq0.false);
-      vectors = c.in_ok-try_unless_detected.ensures.vectors;
+      tools = c.in_ok-try_unless_detected.ensures.tools;
     }
 
 pub returns-then-left-eq0-clause-tour : goal.returns-then-left-eq0-clause-tour
@@ -65,4 +66,4 @@ returns-then-left-eq0-clause-tour c =
 pub try_unless_detected-requires-clause-ready : goal.try_unless_detected-requires-clause-ready
 try_unless_detected-requires-clause-ready c =
     let inv = c.loop-place.invariant in
-    ready_still c.args.space.now c.loop-place.space c.requires.ready inv.stays inv.vectors
+    ready_still c.args.space.now c.loop-place.space c.requires.ready inv.stays inv.tools

@@ -1,6 +1,6 @@
 use Rattle.std.proofs.Common.{◌≡◌, ◌+◌}
 use Rattle.gate_graph.specs.Circuit.{net_of}
-use Rattle.rar_loop.specs.Kept.{AreFor}
+use Rattle.rar_loop.specs.Spaces.{HasToolsFor}
 use Rattle.rar_loop.specs.Trying.{IsBack}
 use Rattle.rar_loop.specs.Walking.{AreTried}
 use Rattle.rar_loop.proofs.walking.walk_target.Given as goal
@@ -10,5 +10,5 @@ invariant-loop-place l = record {
   stays : IsBack l.initial.space.trial l.space.trial;
   tried : AreTried (net_of l.initial.space.trial.graph) l.target l.found.items l.place;
   sum : l.left + l.place ≡ l.initial.left;
-  vectors : AreFor l.space.vectors (net_of l.space.trial.graph);
+  tools : HasToolsFor (net_of l.space.trial.graph) l.space;
 }

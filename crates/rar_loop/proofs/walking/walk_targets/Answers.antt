@@ -6,7 +6,6 @@ use Rattle.gate_net.specs.Values.{HasPin}
 use Rattle.gate_graph.specs.Circuit.{Circuit, net_of}
 use Rattle.candidate_wires.specs.Pairs.{paired, targets_of}
 use Rattle.rar_loop.specs.declared.walking.Tour.TheVariants.{Done, Spent, Gained}
-use Rattle.rar_loop.specs.Spaces.{IsFitted}
 use Rattle.rar_loop.specs.Walking.{IsTargetTour}
 use Rattle.rar_loop.proofs.Pairing.{WalkedTo, tour_back, index_is, walked_none, walked_more, walked_to, walked_all, targets_pin, back_none}
 use Rattle.rar_loop.proofs.Spacing.{ready_ahead, ready_still}
@@ -15,7 +14,7 @@ use Rattle.rar_loop.proofs.walking.walk_targets.Goals as goal
 pub loop-place-init : goal.loop-place-init
 loop-place-init c =
     let t = c.args.space.now.trial in
-    record { stays = back_none t c.requires.ready.lent; walked = walked_none (net_of t.graph) c.in_ok-faults.faults.items c.args.left.now; fitted = c.requires.fitted; vectors = c.requires.ready.vectors }
+    record { stays = back_none t c.requires.ready.lent; walked = walked_none (net_of t.graph) c.in_ok-faults.faults.items c.args.left.now; numbers = refl; tools = c.requires.ready.tools }
 
 pub walk_target-requires-clause-pin : goal.walk_target-requires-clause-pin
 walk_target-requires-clause-pin c =
@@ -43,7 +42,7 @@ returns-in-Spent c =
     walked_to net c.in_ok-faults.faults.items c.loop-place.place c.args.left.now c.loop-place.left t here.1.0 here.1.1.0 c.in-Spent.at are inv.walked at here.1.1.1.0 here.1.1.1.1.0 here.1.1.1.1.1.0 (length inv.walked.pairs + here.1.1.0) (omega (arith, inv.walked.sum)) in
     record {
       tour = (here.0, (to.pairs, (to.before, (to.none, (here.1.1.1.1.1.1.0, omega (arith, to.count, inv.walked.sum, here.1.1.1.1.1.1.1))))));
-      ready = ready_still c.args.space.now c.walk_target.new.space c.requires.ready here.0 c.in_ok-walk_target.ensures.vectors;
+      ready = ready_still c.args.space.now c.walk_target.new.space c.requires.ready here.0 c.in_ok-walk_target.ensures.tools;
     }
 
 pub returns-in-Gained : goal.returns-in-Gained
@@ -60,7 +59,7 @@ returns-in-Gained c =
     walked_to net c.in_ok-faults.faults.items c.loop-place.place c.args.left.now c.loop-place.left t here.0 here.1.0 (paired t here.1.1.0) are inv.walked at here.1.1.1.0 refl here.1.1.1.1.0 (length inv.walked.pairs + here.1.0) (omega (arith, inv.walked.sum)) in
     record {
       tour = (paired t here.1.1.0, (to.pairs, (to.before, (to.none, (omega (arith, to.count, inv.walked.sum, here.1.1.1.1.1.0), here.1.1.1.1.1.1)))));
-      ready = ready_ahead c.args.space.now c.walk_target.new.space (paired t here.1.1.0) c.args.depth c.in-Gained.records.items here.1.1.1.1.1.1 c.in_ok-walk_target.ensures.vectors;
+      ready = ready_ahead c.args.space.now c.walk_target.new.space (paired t here.1.1.0) c.args.depth c.in-Gained.records.items here.1.1.1.1.1.1 c.in_ok-walk_target.ensures.tools;
     }
 
 pub loop-place-preserved : goal.loop-place-preserved
@@ -75,14 +74,14 @@ loop-place-preserved c =
     record {
       stays = here.0;
       walked = walked_more net c.in_ok-faults.faults.items c.loop-place.place c.args.left.now c.loop-place.left c.walk_target.new.left t here.1.0 inv.walked at here.1.1.0 here.1.1.1;
-      fitted = subst (λ (n : Net). IsFitted n c.walk_target.new.closer) (inv.stays.same.net ∙ sym here.0.same.net) c.in_ok-walk_target.ensures.fitted;
-      vectors = c.in_ok-walk_target.ensures.vectors;
+      numbers = c.walk_target.ensures.numbers ∙ inv.numbers;
+      tools = c.in_ok-walk_target.ensures.tools;
     }
 
 pub walk_target-requires-clause-ready : goal.walk_target-requires-clause-ready
 walk_target-requires-clause-ready c =
     let inv = c.loop-place.invariant in
-    ready_still c.args.space.now c.loop-place.space c.requires.ready inv.stays inv.vectors
+    ready_still c.args.space.now c.loop-place.space c.requires.ready inv.stays inv.tools
 
 pub returns : goal.returns
 returns c =
@@ -91,5 +90,10 @@ returns c =
     let are : c.in_ok-faults.faults.items ≡ targets_of net = c.in_ok-faults.ensures ∙ ap (λ (v : Circuit). targets_of (net_of v)) c.graph.ensures in
     record {
       tour = (inv.stays, walked_all net c.in_ok-faults.faults.items c.loop-place.place c.args.left.now c.loop-place.left are (omega (arith, c.loop-place-test.false, c.len-place-end.ensures, c.in_ok-faults.faults.ok.0)) inv.walked);
-      ready = ready_still c.args.space.now c.loop-place.space c.requires.ready inv.stays inv.vectors;
+      ready = ready_still c.args.space.now c.loop-place.space c.requires.ready inv.stays inv.tools;
     }
+
+pub walk_target-requires-clause-numbers : goal.walk_target-requires-clause-numbers
+walk_target-requires-clause-numbers c =
+    let inv = c.loop-place.invariant in
+    omega (arith, c.requires.numbers, inv.numbers, ap (λ (n : Net). length n.nodes) inv.stays.same.net)

@@ -1,6 +1,6 @@
+use Rattle.std.proofs.Common.{◌≡◌}
 use Rattle.gate_graph.specs.Circuit.{net_of}
-use Rattle.rar_loop.specs.Kept.{AreFor}
-use Rattle.rar_loop.specs.Spaces.{IsFitted}
+use Rattle.rar_loop.specs.Spaces.{HasToolsFor}
 use Rattle.rar_loop.specs.Trying.{IsBack}
 use Rattle.rar_loop.proofs.Pairing.{Walked}
 use Rattle.rar_loop.proofs.walking.walk_targets.Given as goal
@@ -9,6 +9,6 @@ abbrev pub invariant-loop-place : goal.invariant-loop-place
 invariant-loop-place l = record {
   stays : IsBack l.initial.space.trial l.space.trial;
   walked : Walked (net_of l.initial.space.trial.graph) l.faults.items l.place l.initial.left l.left;
-  fitted : IsFitted (net_of l.space.trial.graph) l.closer;
-  vectors : AreFor l.space.vectors (net_of l.space.trial.graph);
+  numbers : l.finder ≡ l.initial.finder;
+  tools : HasToolsFor (net_of l.space.trial.graph) l.space;
 }

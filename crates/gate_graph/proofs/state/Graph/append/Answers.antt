@@ -8,10 +8,9 @@ use Rattle.gate_graph.proofs.HeldPins.{holds-by}
 use Rattle.pin_pool.proofs.Public.{linked-more}
 use Rattle.gate_graph.specs.Holds.{held}
 use Rattle.gate_graph.specs.declared.entries.Entry.{Entry}
-use Rattle.std.specs.FinSet as finset
 use Rattle.pin_pool.specs.Rings.{Rings}
 use Rattle.gate_graph.specs.Circuit.{IsGraph}
-use Rattle.std.proofs.Common.{List, ℕ, ◌∷◌, [], ◌++◌, length, length-append, ap}
+use Rattle.std.proofs.Common.{List, ◌∷◌, [], length, length-append, ap}
 use Rattle.pin_pool.specs.Pins.{list_of}
 use Rattle.gate_graph.proofs.state.Graph.append.Goals as goal
 

@@ -1,4 +1,4 @@
-use Rattle.std.proofs.Common.{ap, ◌≡◌, ◌∙◌, sym, arith, List, Option, subst}
+use Rattle.std.proofs.Common.{ap, ◌≡◌, ◌∙◌, sym, List, Option, subst}
 use Rattle.gate_net.specs.declared.Kind.{Kind}
 use Rattle.pin_pool.specs.Rings.{rings_of, AreRings}
 use Rattle.gate_graph.specs.Wirings.{free_in, kind_at}
@@ -14,7 +14,7 @@ invariant_of-result c =
     let kinds : w.kinds ≡ v.kinds = c.in_ok-kinds.ensures.items ∙ c.deref.ensures.value in
     let e = c.in_ok-pool.ensures in (
       copied-graph v w kinds e.inputs e.fanouts c.self.invariant.0,
-      (λ m h none. c.self.invariant.1.0 m h (ap (λ (ks : List (Option Kind)). kind_at ks m) (sym kinds) ∙ none), c.self.invariant.1.1 ∙ ap free_in (sym kinds)),
+      (λ m h none. c.self.invariant.1.0 m h (ap (λ (ks : List (Option Kind)). kind_at ks m) (sym kinds) ∙ none), ((λ m h. ap (λ (ks : List (Option Kind)). kind_at ks m) kinds ∙ c.self.invariant.1.1.0 m h), c.self.invariant.1.1.1 ∙ ap free_in (sym kinds))),
     )
 
 pub returns-clause-net : goal.returns-clause-net

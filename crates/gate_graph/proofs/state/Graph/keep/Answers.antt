@@ -7,7 +7,7 @@ use Rattle.gate_graph.proofs.Kept.{graph-kept, net-kept, readers-kept}
 use Rattle.gate_graph.proofs.Holding.{are-held, held-step, held-here, held-count}
 use Rattle.std.specs.FinSet as finset
 use Rattle.pin_pool.proofs.Public.{len-one_less}
-use Rattle.std.proofs.Common.{length, [], ◌≡◌}
+use Rattle.std.proofs.Common.{length, ◌≡◌}
 use Rattle.gate_graph.specs.Holds.{held}
 use Rattle.gate_graph.specs.declared.entries.Entry.{Entry}
 use Rattle.gate_graph.proofs.HeldPins.{held-are}
@@ -28,6 +28,7 @@ loop-entry-init c =
       places = refl;
       epoch = refl;
       least = refl;
+      bound = refl;
     })
 
 pub give_back-requires : goal.give_back-requires
@@ -50,6 +51,7 @@ loop-entry-preserved-in-Removed c =
       places = omega (arith, i.places, c.in-Some.ensures.1, ap (λ (l : List Entry). length l) c.in-Some.ensures.0);
       epoch = i.epoch;
       least = i.least;
+      bound = i.bound;
     }
 
 pub invariant_of-self : goal.invariant_of-self
@@ -58,7 +60,7 @@ invariant_of-self c =
     let graph : IsGraph c.args.self.now = rw c.self.view_is at c.self.invariant.0 in
     let kinds : c.loop-entry.self-inside.kinds.items ≡ c.self.inside.kinds.items = i.kinds ∙ sym (ap (λ (u : Circuit). u.kinds) c.self.view_is) in (
       graph-kept _ c.args.self.now i.kinds i.inputs i.fanouts i.nodes graph,
-      (λ m h none. c.self.invariant.1.0 m (omega (arith, h, i.least)) (ap (λ (ks : List (Option Kind)). kind_at ks m) (sym kinds) ∙ none), i.free ∙ c.self.invariant.1.1 ∙ ap free_in (sym kinds)),
+      (λ m h none. c.self.invariant.1.0 m (omega (arith, h, i.least)) (ap (λ (ks : List (Option Kind)). kind_at ks m) (sym kinds) ∙ none), ((λ m h. ap (λ (ks : List (Option Kind)). kind_at ks m) kinds ∙ c.self.invariant.1.1.0 m (omega (arith, h, i.bound))), i.free ∙ c.self.invariant.1.1.1 ∙ ap free_in (sym kinds))),
     )
 
 pub returns-clause-net : goal.returns-clause-net

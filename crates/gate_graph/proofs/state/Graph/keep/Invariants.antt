@@ -18,6 +18,7 @@ invariant-loop-entry l = record {
   places : l.undos.spare + length l.undos.entries ≡ l.fn.undos.spare + length l.fn.undos.entries;
   epoch : l.self-inside.epoch ≡ l.fn.self.epoch;
   least : l.self-inside.least ≡ l.initial.self-inside.least;
+  bound : l.self-inside.bound ≡ l.initial.self-inside.bound;
 }
 
 abbrev pub decreases-loop-entry : goal.decreases-loop-entry

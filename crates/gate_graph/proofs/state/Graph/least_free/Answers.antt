@@ -1,7 +1,5 @@
-use Rattle.std.proofs.Common.{◌≡◌, ◌<◌, Option, None, List, length, sym, ap, arith}
-use Rattle.gate_net.specs.declared.Kind.{Kind}
-use Rattle.gate_graph.specs.Wirings.{kind_at}
-use Rattle.gate_graph.specs.Circuit.{Circuit, IsGraph, kinds_live}
+use Rattle.std.proofs.Common.{length, ap, arith}
+use Rattle.gate_graph.specs.Circuit.{Circuit, IsGraph}
 use Rattle.gate_graph.proofs.Formed.{least-net}
 use Rattle.gate_graph.proofs.state.Graph.least_free.Goals as goal
 

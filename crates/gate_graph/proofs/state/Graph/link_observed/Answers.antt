@@ -5,7 +5,7 @@ use Rattle.gate_graph.proofs.LeadOns.{live-in}
 use Rattle.gate_graph.proofs.KindAt.{kind-within}
 use Rattle.gate_graph.proofs.HeldPins.{held-by}
 use Rattle.pin_pool.proofs.Public.{linked-more}
-use Rattle.std.proofs.Common.{List, ℕ, ◌∷◌, [], ◌++◌, length-append, ap}
+use Rattle.std.proofs.Common.{◌∷◌, [], length-append, ap}
 use Rattle.pin_pool.specs.Rings.{Rings}
 use Rattle.pin_pool.specs.Pins.{list_of}
 use Rattle.gate_graph.specs.Circuit.{IsGraph}

@@ -7,10 +7,10 @@ pub overflow_sub-result : goal.overflow_sub-result
 overflow_sub-result c =
     let v : Circuit = record { kinds = c.self.inside.kinds.items; pool = c.self.inside.pool; epoch = c.self.inside.epoch } in
     let g : IsGraph v = c.self.invariant.0 in
-    omega (arith, free-within v.kinds, c.self.invariant.1.1, c.len.ensures, c.self.inside.kinds.ok.0, g.few)
+    omega (arith, free-within v.kinds, c.self.invariant.1.1.1, c.len.ensures, c.self.inside.kinds.ok.0, g.few)
 
 pub returns : goal.returns
 returns c =
     let v : Circuit = record { kinds = c.self.inside.kinds.items; pool = c.self.inside.pool; epoch = c.self.inside.epoch } in
     let g : IsGraph v = c.self.invariant.0 in
-    rw (← c.self.view_is) (omega (arith, free-within v.kinds, c.self.invariant.1.1, c.len.ensures, c.self.inside.kinds.ok.0, g.few))
+    rw (← c.self.view_is) (omega (arith, free-within v.kinds, c.self.invariant.1.1.1, c.len.ensures, c.self.inside.kinds.ok.0, g.few))

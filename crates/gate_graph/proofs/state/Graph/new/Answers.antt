@@ -3,7 +3,7 @@ use Rattle.std.proofs.lemmas.Grind.{common_steps}
 use Rattle.std.specs.Ordering.{nat_cmp}
 use Rattle.std.specs.FinSet as finset
 use Rattle.gate_graph.proofs.Fresh.{kinds-new, graph-new}
-use Rattle.gate_graph.proofs.Numbers.{free-first, live-first}
+use Rattle.gate_graph.proofs.Numbers.{free-first, live-first, dead-first}
 use Rattle.gate_graph.proofs.Started.{net-started, fanouts-started}
 use Rattle.gate_graph.proofs.HeldPins.{none-taken}
 use Rattle.gate_graph.proofs.state.Graph.new.Goals as goal
@@ -23,7 +23,7 @@ pub invariant_of-result : goal.invariant_of-result
 invariant_of-result c = (
   graph-new _ c.reserve.new.self c.args.sources (kinds-new c.resize.new.self.items (c.args.sources + 2) c.args.sources (grind (arith, common_steps, c.in-Ok-resize.ensures.items, c.new-kinds.ensures.items)) (omega arith))
       (c.reserve.ensures.rings ∙ c.new-pool.ensures.rings) (omega (arith, c.in-Ok.ensures.nodes)) c.requires,
-  (λ m h. absurd (omega arith), free-first _ c.args.sources (kinds-new c.resize.new.self.items (c.args.sources + 2) c.args.sources (grind (arith, common_steps, c.in-Ok-resize.ensures.items, c.new-kinds.ensures.items)) (omega arith))),
+  (λ m h. absurd (omega arith), (dead-first _ c.args.sources (kinds-new c.resize.new.self.items (c.args.sources + 2) c.args.sources (grind (arith, common_steps, c.in-Ok-resize.ensures.items, c.new-kinds.ensures.items)) (omega arith)), free-first _ c.args.sources (kinds-new c.resize.new.self.items (c.args.sources + 2) c.args.sources (grind (arith, common_steps, c.in-Ok-resize.ensures.items, c.new-kinds.ensures.items)) (omega arith)))),
 )
 
 pub returns-clause-pins : goal.returns-clause-pins

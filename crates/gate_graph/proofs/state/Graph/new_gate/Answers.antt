@@ -70,7 +70,7 @@ invariant_of-self c =
     let w : Circuit = record { kinds = c.set_kind.new.kinds.items; pool = c.link_all.new.pool; epoch = i.epoch } in
     let a = fills v w c.least_free-node.result c.args.kind (map (λ (n : NodeId). n.0) c.args.drivers.now) c.look.ensures.rings g.wired free c.link_all.ensures.filled (λ m. ap (λ (x : Wiring). x.kind m) (c.set_kind.ensures.kinds i.pool)) drivers (λ is. length-map c.args.drivers.now (λ (n : NodeId). n.0) ∙ c.requires.one is) c.requires.kind in (
       record { wired = a.wired; room = omega (arith, g.room, c.link_all.ensures.nodes, c.set_kind.ensures.len); few = omega (arith, g.few, c.set_kind.ensures.len) },
-      (live-next i.kinds.items c.set_kind.new.kinds.items i.pool c.least_free-node.result _ c.set_kind.ensures.kinds least (λ e. cc), c.set_kind.ensures.free),
+      (live-next i.kinds.items c.set_kind.new.kinds.items i.pool c.least_free-node.result _ c.set_kind.ensures.kinds least (λ e. cc), (c.set_kind.ensures.dead, c.set_kind.ensures.free)),
     )
 
 pub returns-clause-made : goal.returns-clause-made

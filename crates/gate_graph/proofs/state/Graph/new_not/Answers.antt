@@ -12,10 +12,9 @@ use Rattle.gate_graph.proofs.HeldPins.{holds-by}
 use Rattle.pin_pool.proofs.Public.{linked-more}
 use Rattle.gate_graph.specs.Holds.{held}
 use Rattle.gate_graph.specs.declared.entries.Entry.{Entry}
-use Rattle.std.specs.FinSet as finset
 use Rattle.pin_pool.specs.Rings.{Rings}
 use Rattle.gate_graph.specs.Circuit.{IsGraph}
-use Rattle.std.proofs.Common.{List, ◌∷◌, [], ◌++◌, length-append}
+use Rattle.std.proofs.Common.{List, ◌∷◌, [], length-append}
 use Rattle.pin_pool.specs.Pins.{list_of}
 use Rattle.gate_graph.proofs.state.Graph.new_not.Goals as goal
 
@@ -41,7 +40,7 @@ invariant_of-self c =
     let within : c.least_free-node.result < length i.kinds.items = free-found i.kinds.items c.least_free-node.result (rw (← c.self.view_is) at c.requires.nodes) least in
     let free : kind_at i.kinds.items c.least_free-node.result ≡ None = (rw c.deref.ensures.value at c.least_free-node.ensures.free) within in
     let a = makes v w c.least_free-node.result c.args.driver.0 c.link_new-pin.result c.link_new-pin.ensures.rings c.look.ensures.rings c.look-2.ensures.rings c.self.invariant.0.wired free least (wired-set i.kinds.items c.set_kind.new.kinds.items i.pool c.link_new-pin.new.pool _ _ _ c.set_kind.ensures.kinds c.link_new-pin.ensures.rings) c.link_new-pin.ensures.fresh (rw (← c.self.view_is) at c.requires.driver) c.set_kind.ensures.len in
-    (record { wired = a.wired; room = omega (arith, c.self.invariant.0.room, c.link_new-pin.ensures.nodes, c.set_kind.ensures.len); few = omega (arith, c.self.invariant.0.few, c.set_kind.ensures.len) }, (live-next i.kinds.items c.set_kind.new.kinds.items i.pool c.least_free-node.result _ c.set_kind.ensures.kinds least (λ e. cc), c.set_kind.ensures.free))
+    (record { wired = a.wired; room = omega (arith, c.self.invariant.0.room, c.link_new-pin.ensures.nodes, c.set_kind.ensures.len); few = omega (arith, c.self.invariant.0.few, c.set_kind.ensures.len) }, (live-next i.kinds.items c.set_kind.new.kinds.items i.pool c.least_free-node.result _ c.set_kind.ensures.kinds least (λ e. cc), (c.set_kind.ensures.dead, c.set_kind.ensures.free)))
 
 pub returns-clause-net : goal.returns-clause-net
 returns-clause-net c =

@@ -16,14 +16,14 @@ invariant_of-self-in_default-resize c =
     let v : Circuit = record { kinds = i.kinds.items; pool = i.pool; epoch = i.epoch } in
     let w : Circuit = record { kinds = c.resize.new.self.items; pool = c.reserve.new.self; epoch = i.epoch } in
     let graph : IsGraph v = c.self.invariant.0 in
-    let free = c.self.invariant.1.1 in
+    let free = c.self.invariant.1.1.1 in
     let room = rw (← c.self.view_is) at c.requires.nodes in
     let missing = c.saturating_sub-missing.ensures in
     let items : c.resize.new.self.items ≡ i.kinds.items ++ replicate 0 None = c.in_default-resize.ensures.items ∙ sym (append-nil i.kinds.items) in
     let count = ap length items ∙ length-append i.kinds.items (replicate 0 None) ∙ ap (λ n. length i.kinds.items + n) (length-replicate {A = Option Kind} 0 None) in
     let now = ap free_in items ∙ free-more i.kinds.items 0 in
-    let a = grows v w 0 i.least graph c.self.invariant.1.0 items c.reserve.ensures.rings (omega (arith, count, c.in-Ok.ensures.nodes, c.len.ensures, i.kinds.ok.0, graph.room, missing)) (omega (arith, count, graph.few, room, free, missing, free-within i.kinds.items)) in
-    (a.graph, (a.live, omega (arith, now, free)))
+    let a = grows v w 0 i.least i.bound graph c.self.invariant.1.0 c.self.invariant.1.1.0 items c.reserve.ensures.rings (omega (arith, count, c.in-Ok.ensures.nodes, c.len.ensures, i.kinds.ok.0, graph.room, missing)) (omega (arith, count, graph.few, room, free, missing, free-within i.kinds.items)) in
+    (a.graph, (a.live, (a.dead, omega (arith, now, free))))
 
 pub returns-in_default-resize-clause-net : goal.returns-in_default-resize-clause-net
 returns-in_default-resize-clause-net c =
@@ -31,13 +31,13 @@ returns-in_default-resize-clause-net c =
     let v : Circuit = record { kinds = i.kinds.items; pool = i.pool; epoch = i.epoch } in
     let w : Circuit = record { kinds = c.resize.new.self.items; pool = c.reserve.new.self; epoch = i.epoch } in
     let graph : IsGraph v = c.self.invariant.0 in
-    let free = c.self.invariant.1.1 in
+    let free = c.self.invariant.1.1.1 in
     let room = rw (← c.self.view_is) at c.requires.nodes in
     let missing = c.saturating_sub-missing.ensures in
     let items : c.resize.new.self.items ≡ i.kinds.items ++ replicate 0 None = c.in_default-resize.ensures.items ∙ sym (append-nil i.kinds.items) in
     let count = ap length items ∙ length-append i.kinds.items (replicate 0 None) ∙ ap (λ n. length i.kinds.items + n) (length-replicate {A = Option Kind} 0 None) in
     let now = ap free_in items ∙ free-more i.kinds.items 0 in
-    let a = grows v w 0 i.least graph c.self.invariant.1.0 items c.reserve.ensures.rings (omega (arith, count, c.in-Ok.ensures.nodes, c.len.ensures, i.kinds.ok.0, graph.room, missing)) (omega (arith, count, graph.few, room, free, missing, free-within i.kinds.items)) in
+    let a = grows v w 0 i.least i.bound graph c.self.invariant.1.0 c.self.invariant.1.1.0 items c.reserve.ensures.rings (omega (arith, count, c.in-Ok.ensures.nodes, c.len.ensures, i.kinds.ok.0, graph.room, missing)) (omega (arith, count, graph.few, room, free, missing, free-within i.kinds.items)) in
     rw (← c.self.view_is) a.net
 
 pub returns-in_default-resize-clause-fanouts : goal.returns-in_default-resize-clause-fanouts
@@ -46,13 +46,13 @@ returns-in_default-resize-clause-fanouts c =
     let v : Circuit = record { kinds = i.kinds.items; pool = i.pool; epoch = i.epoch } in
     let w : Circuit = record { kinds = c.resize.new.self.items; pool = c.reserve.new.self; epoch = i.epoch } in
     let graph : IsGraph v = c.self.invariant.0 in
-    let free = c.self.invariant.1.1 in
+    let free = c.self.invariant.1.1.1 in
     let room = rw (← c.self.view_is) at c.requires.nodes in
     let missing = c.saturating_sub-missing.ensures in
     let items : c.resize.new.self.items ≡ i.kinds.items ++ replicate 0 None = c.in_default-resize.ensures.items ∙ sym (append-nil i.kinds.items) in
     let count = ap length items ∙ length-append i.kinds.items (replicate 0 None) ∙ ap (λ n. length i.kinds.items + n) (length-replicate {A = Option Kind} 0 None) in
     let now = ap free_in items ∙ free-more i.kinds.items 0 in
-    let a = grows v w 0 i.least graph c.self.invariant.1.0 items c.reserve.ensures.rings (omega (arith, count, c.in-Ok.ensures.nodes, c.len.ensures, i.kinds.ok.0, graph.room, missing)) (omega (arith, count, graph.few, room, free, missing, free-within i.kinds.items)) in
+    let a = grows v w 0 i.least i.bound graph c.self.invariant.1.0 c.self.invariant.1.1.0 items c.reserve.ensures.rings (omega (arith, count, c.in-Ok.ensures.nodes, c.len.ensures, i.kinds.ok.0, graph.room, missing)) (omega (arith, count, graph.few, room, free, missing, free-within i.kinds.items)) in
     rw (← c.self.view_is) a.readers
 
 pub returns-in_default-resize-clause-wiring : goal.returns-in_default-resize-clause-wiring
@@ -61,13 +61,13 @@ returns-in_default-resize-clause-wiring c =
     let v : Circuit = record { kinds = i.kinds.items; pool = i.pool; epoch = i.epoch } in
     let w : Circuit = record { kinds = c.resize.new.self.items; pool = c.reserve.new.self; epoch = i.epoch } in
     let graph : IsGraph v = c.self.invariant.0 in
-    let free = c.self.invariant.1.1 in
+    let free = c.self.invariant.1.1.1 in
     let room = rw (← c.self.view_is) at c.requires.nodes in
     let missing = c.saturating_sub-missing.ensures in
     let items : c.resize.new.self.items ≡ i.kinds.items ++ replicate 0 None = c.in_default-resize.ensures.items ∙ sym (append-nil i.kinds.items) in
     let count = ap length items ∙ length-append i.kinds.items (replicate 0 None) ∙ ap (λ n. length i.kinds.items + n) (length-replicate {A = Option Kind} 0 None) in
     let now = ap free_in items ∙ free-more i.kinds.items 0 in
-    let a = grows v w 0 i.least graph c.self.invariant.1.0 items c.reserve.ensures.rings (omega (arith, count, c.in-Ok.ensures.nodes, c.len.ensures, i.kinds.ok.0, graph.room, missing)) (omega (arith, count, graph.few, room, free, missing, free-within i.kinds.items)) in
+    let a = grows v w 0 i.least i.bound graph c.self.invariant.1.0 c.self.invariant.1.1.0 items c.reserve.ensures.rings (omega (arith, count, c.in-Ok.ensures.nodes, c.len.ensures, i.kinds.ok.0, graph.room, missing)) (omega (arith, count, graph.few, room, free, missing, free-within i.kinds.items)) in
     rw (← c.self.view_is) a.wiring_is
 
 pub returns-in_default-resize-clause-undos : goal.returns-in_default-resize-clause-undos
@@ -76,13 +76,13 @@ returns-in_default-resize-clause-undos c =
     let v : Circuit = record { kinds = i.kinds.items; pool = i.pool; epoch = i.epoch } in
     let w : Circuit = record { kinds = c.resize.new.self.items; pool = c.reserve.new.self; epoch = i.epoch } in
     let graph : IsGraph v = c.self.invariant.0 in
-    let free = c.self.invariant.1.1 in
+    let free = c.self.invariant.1.1.1 in
     let room = rw (← c.self.view_is) at c.requires.nodes in
     let missing = c.saturating_sub-missing.ensures in
     let items : c.resize.new.self.items ≡ i.kinds.items ++ replicate 0 None = c.in_default-resize.ensures.items ∙ sym (append-nil i.kinds.items) in
     let count = ap length items ∙ length-append i.kinds.items (replicate 0 None) ∙ ap (λ n. length i.kinds.items + n) (length-replicate {A = Option Kind} 0 None) in
     let now = ap free_in items ∙ free-more i.kinds.items 0 in
-    let a = grows v w 0 i.least graph c.self.invariant.1.0 items c.reserve.ensures.rings (omega (arith, count, c.in-Ok.ensures.nodes, c.len.ensures, i.kinds.ok.0, graph.room, missing)) (omega (arith, count, graph.few, room, free, missing, free-within i.kinds.items)) in
+    let a = grows v w 0 i.least i.bound graph c.self.invariant.1.0 c.self.invariant.1.1.0 items c.reserve.ensures.rings (omega (arith, count, c.in-Ok.ensures.nodes, c.len.ensures, i.kinds.ok.0, graph.room, missing)) (omega (arith, count, graph.few, room, free, missing, free-within i.kinds.items)) in
     rw (← c.self.view_is) a.undos
 
 pub returns-in_default-resize-clause-kept_nodes : goal.returns-in_default-resize-clause-kept_nodes
@@ -91,13 +91,13 @@ returns-in_default-resize-clause-kept_nodes c =
     let v : Circuit = record { kinds = i.kinds.items; pool = i.pool; epoch = i.epoch } in
     let w : Circuit = record { kinds = c.resize.new.self.items; pool = c.reserve.new.self; epoch = i.epoch } in
     let graph : IsGraph v = c.self.invariant.0 in
-    let free = c.self.invariant.1.1 in
+    let free = c.self.invariant.1.1.1 in
     let room = rw (← c.self.view_is) at c.requires.nodes in
     let missing = c.saturating_sub-missing.ensures in
     let items : c.resize.new.self.items ≡ i.kinds.items ++ replicate 0 None = c.in_default-resize.ensures.items ∙ sym (append-nil i.kinds.items) in
     let count = ap length items ∙ length-append i.kinds.items (replicate 0 None) ∙ ap (λ n. length i.kinds.items + n) (length-replicate {A = Option Kind} 0 None) in
     let now = ap free_in items ∙ free-more i.kinds.items 0 in
-    let a = grows v w 0 i.least graph c.self.invariant.1.0 items c.reserve.ensures.rings (omega (arith, count, c.in-Ok.ensures.nodes, c.len.ensures, i.kinds.ok.0, graph.room, missing)) (omega (arith, count, graph.few, room, free, missing, free-within i.kinds.items)) in
+    let a = grows v w 0 i.least i.bound graph c.self.invariant.1.0 c.self.invariant.1.1.0 items c.reserve.ensures.rings (omega (arith, count, c.in-Ok.ensures.nodes, c.len.ensures, i.kinds.ok.0, graph.room, missing)) (omega (arith, count, graph.few, room, free, missing, free-within i.kinds.items)) in
     rw (← c.self.view_is) (omega (arith, now))
 
 pub returns-in_default-resize-clause-live : goal.returns-in_default-resize-clause-live
@@ -106,13 +106,13 @@ returns-in_default-resize-clause-live c =
     let v : Circuit = record { kinds = i.kinds.items; pool = i.pool; epoch = i.epoch } in
     let w : Circuit = record { kinds = c.resize.new.self.items; pool = c.reserve.new.self; epoch = i.epoch } in
     let graph : IsGraph v = c.self.invariant.0 in
-    let free = c.self.invariant.1.1 in
+    let free = c.self.invariant.1.1.1 in
     let room = rw (← c.self.view_is) at c.requires.nodes in
     let missing = c.saturating_sub-missing.ensures in
     let items : c.resize.new.self.items ≡ i.kinds.items ++ replicate 0 None = c.in_default-resize.ensures.items ∙ sym (append-nil i.kinds.items) in
     let count = ap length items ∙ length-append i.kinds.items (replicate 0 None) ∙ ap (λ n. length i.kinds.items + n) (length-replicate {A = Option Kind} 0 None) in
     let now = ap free_in items ∙ free-more i.kinds.items 0 in
-    let a = grows v w 0 i.least graph c.self.invariant.1.0 items c.reserve.ensures.rings (omega (arith, count, c.in-Ok.ensures.nodes, c.len.ensures, i.kinds.ok.0, graph.room, missing)) (omega (arith, count, graph.few, room, free, missing, free-within i.kinds.items)) in
+    let a = grows v w 0 i.least i.bound graph c.self.invariant.1.0 c.self.invariant.1.1.0 items c.reserve.ensures.rings (omega (arith, count, c.in-Ok.ensures.nodes, c.len.ensures, i.kinds.ok.0, graph.room, missing)) (omega (arith, count, graph.few, room, free, missing, free-within i.kinds.items)) in
     rw (← c.self.view_is) (omega (arith, now, count))
 
 pub invariant_of-self-2 : goal.invariant_of-self-2
@@ -121,14 +121,14 @@ invariant_of-self-2 c =
     let v : Circuit = record { kinds = i.kinds.items; pool = i.pool; epoch = i.epoch } in
     let w : Circuit = record { kinds = c.resize.new.self.items; pool = c.reserve.new.self; epoch = i.epoch } in
     let graph : IsGraph v = c.self.invariant.0 in
-    let free = c.self.invariant.1.1 in
+    let free = c.self.invariant.1.1.1 in
     let room = rw (← c.self.view_is) at c.requires.nodes in
     let missing = c.saturating_sub-missing.ensures in
     let items : c.resize.new.self.items ≡ i.kinds.items ++ replicate c.saturating_sub-missing.result None = grind (arith, common_steps, c.in-Ok-resize.ensures.items) in
     let count = ap length items ∙ length-append i.kinds.items (replicate c.saturating_sub-missing.result None) ∙ ap (λ n. length i.kinds.items + n) (length-replicate {A = Option Kind} c.saturating_sub-missing.result None) in
     let now = ap free_in items ∙ free-more i.kinds.items c.saturating_sub-missing.result in
-    let a = grows v w c.saturating_sub-missing.result i.least graph c.self.invariant.1.0 items c.reserve.ensures.rings (omega (arith, count, c.in-Ok.ensures.nodes, c.len.ensures, i.kinds.ok.0, graph.room, missing)) (omega (arith, count, graph.few, room, free, missing, free-within i.kinds.items)) in
-    (a.graph, (a.live, omega (arith, now, free)))
+    let a = grows v w c.saturating_sub-missing.result i.least i.bound graph c.self.invariant.1.0 c.self.invariant.1.1.0 items c.reserve.ensures.rings (omega (arith, count, c.in-Ok.ensures.nodes, c.len.ensures, i.kinds.ok.0, graph.room, missing)) (omega (arith, count, graph.few, room, free, missing, free-within i.kinds.items)) in
+    (a.graph, (a.live, (a.dead, omega (arith, now, free))))
 
 pub returns-clause-net : goal.returns-clause-net
 returns-clause-net c =
@@ -136,13 +136,13 @@ returns-clause-net c =
     let v : Circuit = record { kinds = i.kinds.items; pool = i.pool; epoch = i.epoch } in
     let w : Circuit = record { kinds = c.resize.new.self.items; pool = c.reserve.new.self; epoch = i.epoch } in
     let graph : IsGraph v = c.self.invariant.0 in
-    let free = c.self.invariant.1.1 in
+    let free = c.self.invariant.1.1.1 in
     let room = rw (← c.self.view_is) at c.requires.nodes in
     let missing = c.saturating_sub-missing.ensures in
     let items : c.resize.new.self.items ≡ i.kinds.items ++ replicate c.saturating_sub-missing.result None = grind (arith, common_steps, c.in-Ok-resize.ensures.items) in
     let count = ap length items ∙ length-append i.kinds.items (replicate c.saturating_sub-missing.result None) ∙ ap (λ n. length i.kinds.items + n) (length-replicate {A = Option Kind} c.saturating_sub-missing.result None) in
     let now = ap free_in items ∙ free-more i.kinds.items c.saturating_sub-missing.result in
-    let a = grows v w c.saturating_sub-missing.result i.least graph c.self.invariant.1.0 items c.reserve.ensures.rings (omega (arith, count, c.in-Ok.ensures.nodes, c.len.ensures, i.kinds.ok.0, graph.room, missing)) (omega (arith, count, graph.few, room, free, missing, free-within i.kinds.items)) in
+    let a = grows v w c.saturating_sub-missing.result i.least i.bound graph c.self.invariant.1.0 c.self.invariant.1.1.0 items c.reserve.ensures.rings (omega (arith, count, c.in-Ok.ensures.nodes, c.len.ensures, i.kinds.ok.0, graph.room, missing)) (omega (arith, count, graph.few, room, free, missing, free-within i.kinds.items)) in
     rw (← c.self.view_is) a.net
 
 pub returns-clause-fanouts : goal.returns-clause-fanouts
@@ -151,13 +151,13 @@ returns-clause-fanouts c =
     let v : Circuit = record { kinds = i.kinds.items; pool = i.pool; epoch = i.epoch } in
     let w : Circuit = record { kinds = c.resize.new.self.items; pool = c.reserve.new.self; epoch = i.epoch } in
     let graph : IsGraph v = c.self.invariant.0 in
-    let free = c.self.invariant.1.1 in
+    let free = c.self.invariant.1.1.1 in
     let room = rw (← c.self.view_is) at c.requires.nodes in
     let missing = c.saturating_sub-missing.ensures in
     let items : c.resize.new.self.items ≡ i.kinds.items ++ replicate c.saturating_sub-missing.result None = grind (arith, common_steps, c.in-Ok-resize.ensures.items) in
     let count = ap length items ∙ length-append i.kinds.items (replicate c.saturating_sub-missing.result None) ∙ ap (λ n. length i.kinds.items + n) (length-replicate {A = Option Kind} c.saturating_sub-missing.result None) in
     let now = ap free_in items ∙ free-more i.kinds.items c.saturating_sub-missing.result in
-    let a = grows v w c.saturating_sub-missing.result i.least graph c.self.invariant.1.0 items c.reserve.ensures.rings (omega (arith, count, c.in-Ok.ensures.nodes, c.len.ensures, i.kinds.ok.0, graph.room, missing)) (omega (arith, count, graph.few, room, free, missing, free-within i.kinds.items)) in
+    let a = grows v w c.saturating_sub-missing.result i.least i.bound graph c.self.invariant.1.0 c.self.invariant.1.1.0 items c.reserve.ensures.rings (omega (arith, count, c.in-Ok.ensures.nodes, c.len.ensures, i.kinds.ok.0, graph.room, missing)) (omega (arith, count, graph.few, room, free, missing, free-within i.kinds.items)) in
     rw (← c.self.view_is) a.readers
 
 pub returns-clause-wiring : goal.returns-clause-wiring
@@ -166,13 +166,13 @@ returns-clause-wiring c =
     let v : Circuit = record { kinds = i.kinds.items; pool = i.pool; epoch = i.epoch } in
     let w : Circuit = record { kinds = c.resize.new.self.items; pool = c.reserve.new.self; epoch = i.epoch } in
     let graph : IsGraph v = c.self.invariant.0 in
-    let free = c.self.invariant.1.1 in
+    let free = c.self.invariant.1.1.1 in
     let room = rw (← c.self.view_is) at c.requires.nodes in
     let missing = c.saturating_sub-missing.ensures in
     let items : c.resize.new.self.items ≡ i.kinds.items ++ replicate c.saturating_sub-missing.result None = grind (arith, common_steps, c.in-Ok-resize.ensures.items) in
     let count = ap length items ∙ length-append i.kinds.items (replicate c.saturating_sub-missing.result None) ∙ ap (λ n. length i.kinds.items + n) (length-replicate {A = Option Kind} c.saturating_sub-missing.result None) in
     let now = ap free_in items ∙ free-more i.kinds.items c.saturating_sub-missing.result in
-    let a = grows v w c.saturating_sub-missing.result i.least graph c.self.invariant.1.0 items c.reserve.ensures.rings (omega (arith, count, c.in-Ok.ensures.nodes, c.len.ensures, i.kinds.ok.0, graph.room, missing)) (omega (arith, count, graph.few, room, free, missing, free-within i.kinds.items)) in
+    let a = grows v w c.saturating_sub-missing.result i.least i.bound graph c.self.invariant.1.0 c.self.invariant.1.1.0 items c.reserve.ensures.rings (omega (arith, count, c.in-Ok.ensures.nodes, c.len.ensures, i.kinds.ok.0, graph.room, missing)) (omega (arith, count, graph.few, room, free, missing, free-within i.kinds.items)) in
     rw (← c.self.view_is) a.wiring_is
 
 pub returns-clause-undos : goal.returns-clause-undos
@@ -181,13 +181,13 @@ returns-clause-undos c =
     let v : Circuit = record { kinds = i.kinds.items; pool = i.pool; epoch = i.epoch } in
     let w : Circuit = record { kinds = c.resize.new.self.items; pool = c.reserve.new.self; epoch = i.epoch } in
     let graph : IsGraph v = c.self.invariant.0 in
-    let free = c.self.invariant.1.1 in
+    let free = c.self.invariant.1.1.1 in
     let room = rw (← c.self.view_is) at c.requires.nodes in
     let missing = c.saturating_sub-missing.ensures in
     let items : c.resize.new.self.items ≡ i.kinds.items ++ replicate c.saturating_sub-missing.result None = grind (arith, common_steps, c.in-Ok-resize.ensures.items) in
     let count = ap length items ∙ length-append i.kinds.items (replicate c.saturating_sub-missing.result None) ∙ ap (λ n. length i.kinds.items + n) (length-replicate {A = Option Kind} c.saturating_sub-missing.result None) in
     let now = ap free_in items ∙ free-more i.kinds.items c.saturating_sub-missing.result in
-    let a = grows v w c.saturating_sub-missing.result i.least graph c.self.invariant.1.0 items c.reserve.ensures.rings (omega (arith, count, c.in-Ok.ensures.nodes, c.len.ensures, i.kinds.ok.0, graph.room, missing)) (omega (arith, count, graph.few, room, free, missing, free-within i.kinds.items)) in
+    let a = grows v w c.saturating_sub-missing.result i.least i.bound graph c.self.invariant.1.0 c.self.invariant.1.1.0 items c.reserve.ensures.rings (omega (arith, count, c.in-Ok.ensures.nodes, c.len.ensures, i.kinds.ok.0, graph.room, missing)) (omega (arith, count, graph.few, room, free, missing, free-within i.kinds.items)) in
     rw (← c.self.view_is) a.undos
 
 pub returns-clause-kept_nodes : goal.returns-clause-kept_nodes
@@ -196,13 +196,13 @@ returns-clause-kept_nodes c =
     let v : Circuit = record { kinds = i.kinds.items; pool = i.pool; epoch = i.epoch } in
     let w : Circuit = record { kinds = c.resize.new.self.items; pool = c.reserve.new.self; epoch = i.epoch } in
     let graph : IsGraph v = c.self.invariant.0 in
-    let free = c.self.invariant.1.1 in
+    let free = c.self.invariant.1.1.1 in
     let room = rw (← c.self.view_is) at c.requires.nodes in
     let missing = c.saturating_sub-missing.ensures in
     let items : c.resize.new.self.items ≡ i.kinds.items ++ replicate c.saturating_sub-missing.result None = grind (arith, common_steps, c.in-Ok-resize.ensures.items) in
     let count = ap length items ∙ length-append i.kinds.items (replicate c.saturating_sub-missing.result None) ∙ ap (λ n. length i.kinds.items + n) (length-replicate {A = Option Kind} c.saturating_sub-missing.result None) in
     let now = ap free_in items ∙ free-more i.kinds.items c.saturating_sub-missing.result in
-    let a = grows v w c.saturating_sub-missing.result i.least graph c.self.invariant.1.0 items c.reserve.ensures.rings (omega (arith, count, c.in-Ok.ensures.nodes, c.len.ensures, i.kinds.ok.0, graph.room, missing)) (omega (arith, count, graph.few, room, free, missing, free-within i.kinds.items)) in
+    let a = grows v w c.saturating_sub-missing.result i.least i.bound graph c.self.invariant.1.0 c.self.invariant.1.1.0 items c.reserve.ensures.rings (omega (arith, count, c.in-Ok.ensures.nodes, c.len.ensures, i.kinds.ok.0, graph.room, missing)) (omega (arith, count, graph.few, room, free, missing, free-within i.kinds.items)) in
     rw (← c.self.view_is) (omega (arith, now))
 
 pub returns-clause-live : goal.returns-clause-live
@@ -211,13 +211,13 @@ returns-clause-live c =
     let v : Circuit = record { kinds = i.kinds.items; pool = i.pool; epoch = i.epoch } in
     let w : Circuit = record { kinds = c.resize.new.self.items; pool = c.reserve.new.self; epoch = i.epoch } in
     let graph : IsGraph v = c.self.invariant.0 in
-    let free = c.self.invariant.1.1 in
+    let free = c.self.invariant.1.1.1 in
     let room = rw (← c.self.view_is) at c.requires.nodes in
     let missing = c.saturating_sub-missing.ensures in
     let items : c.resize.new.self.items ≡ i.kinds.items ++ replicate c.saturating_sub-missing.result None = grind (arith, common_steps, c.in-Ok-resize.ensures.items) in
     let count = ap length items ∙ length-append i.kinds.items (replicate c.saturating_sub-missing.result None) ∙ ap (λ n. length i.kinds.items + n) (length-replicate {A = Option Kind} c.saturating_sub-missing.result None) in
     let now = ap free_in items ∙ free-more i.kinds.items c.saturating_sub-missing.result in
-    let a = grows v w c.saturating_sub-missing.result i.least graph c.self.invariant.1.0 items c.reserve.ensures.rings (omega (arith, count, c.in-Ok.ensures.nodes, c.len.ensures, i.kinds.ok.0, graph.room, missing)) (omega (arith, count, graph.few, room, free, missing, free-within i.kinds.items)) in
+    let a = grows v w c.saturating_sub-missing.result i.least i.bound graph c.self.invariant.1.0 c.self.invariant.1.1.0 items c.reserve.ensures.rings (omega (arith, count, c.in-Ok.ensures.nodes, c.len.ensures, i.kinds.ok.0, graph.room, missing)) (omega (arith, count, graph.few, room, free, missing, free-within i.kinds.items)) in
     rw (← c.self.view_is) (omega (arith, now, count, free-within i.kinds.items))
 
 pub returns-clause-nodes : goal.returns-clause-nodes
@@ -226,13 +226,13 @@ returns-clause-nodes c =
     let v : Circuit = record { kinds = i.kinds.items; pool = i.pool; epoch = i.epoch } in
     let w : Circuit = record { kinds = c.resize.new.self.items; pool = c.reserve.new.self; epoch = i.epoch } in
     let graph : IsGraph v = c.self.invariant.0 in
-    let free = c.self.invariant.1.1 in
+    let free = c.self.invariant.1.1.1 in
     let room = rw (← c.self.view_is) at c.requires.nodes in
     let missing = c.saturating_sub-missing.ensures in
     let items : c.resize.new.self.items ≡ i.kinds.items ++ replicate c.saturating_sub-missing.result None = grind (arith, common_steps, c.in-Ok-resize.ensures.items) in
     let count = ap length items ∙ length-append i.kinds.items (replicate c.saturating_sub-missing.result None) ∙ ap (λ n. length i.kinds.items + n) (length-replicate {A = Option Kind} c.saturating_sub-missing.result None) in
     let now = ap free_in items ∙ free-more i.kinds.items c.saturating_sub-missing.result in
-    let a = grows v w c.saturating_sub-missing.result i.least graph c.self.invariant.1.0 items c.reserve.ensures.rings (omega (arith, count, c.in-Ok.ensures.nodes, c.len.ensures, i.kinds.ok.0, graph.room, missing)) (omega (arith, count, graph.few, room, free, missing, free-within i.kinds.items)) in
+    let a = grows v w c.saturating_sub-missing.result i.least i.bound graph c.self.invariant.1.0 c.self.invariant.1.1.0 items c.reserve.ensures.rings (omega (arith, count, c.in-Ok.ensures.nodes, c.len.ensures, i.kinds.ok.0, graph.room, missing)) (omega (arith, count, graph.few, room, free, missing, free-within i.kinds.items)) in
     omega (arith, now, missing, free)
 
 pub returns-in_default-resize-clause-held : goal.returns-in_default-resize-clause-held

@@ -111,6 +111,7 @@ loop-pin-preserved c =
       taken = c.unlink_pin-slot.ensures.taken ∙ i.taken;
       free = i.free;
       live = i.live;
+      dead = i.dead;
       epoch = i.epoch;
       same = i.same;
       together = omega (arith, i.together, ap length c.push.ensures.entries, c.push.ensures.spare);
@@ -183,7 +184,7 @@ invariant_of-self c =
     let u : Circuit = record { kinds = c.set_kind.new.kinds.items; pool = w.pool; epoch = w.epoch } in
     let a = retires v w u g c.in-Some-index.kind c.args.undos.now.entries c.loop-pin.undos.entries (subst (λ (x : Circuit). AreRings (rings_of x.pool)) c.self.view_is c.look.ensures.rings) graph.wired i.emptied none c.requires.gate (kind ∙ c.in-Some-index.is) c.requires.unread (c.set_kind.ensures.kinds w.pool) c.set_kind.ensures.len in (
       record { wired = a.wired; room = omega (arith, graph.room, ap length i.same, i.nodes, c.set_kind.ensures.len); few = omega (arith, graph.few, ap length i.same, c.set_kind.ensures.len) },
-      (live-set w.kinds u.kinds w.pool g _ c.loop-pin.self-inside.least c.min-self-inside.result c.set_kind.ensures.kinds i.live (omega (arith, c.min-self-inside.ensures)) (inl (omega (arith, c.min-self-inside.ensures))), c.set_kind.ensures.free),
+      (live-set w.kinds u.kinds w.pool g _ c.loop-pin.self-inside.least c.min-self-inside.result c.set_kind.ensures.kinds i.live (omega (arith, c.min-self-inside.ensures)) (inl (omega (arith, c.min-self-inside.ensures))), (c.set_kind.ensures.dead, c.set_kind.ensures.free)),
     )
 
 pub returns-clause-net : goal.returns-clause-net
@@ -259,8 +260,9 @@ loop-pin-init c =
       nodes = refl;
       spare = refl;
       taken = refl;
-      free = c.self.invariant.1.1;
+      free = c.self.invariant.1.1.1;
       live = c.self.invariant.1.0;
+      dead = c.self.invariant.1.1.0;
       epoch = refl;
       same = refl;
       together = refl;

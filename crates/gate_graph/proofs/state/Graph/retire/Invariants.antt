@@ -1,7 +1,7 @@
 use Rattle.std.proofs.Common.{◌≡◌, ◌+◌, length}
 use Rattle.pin_pool.specs.Pins.{list_of}
 use Rattle.gate_graph.specs.Wirings.{free_in}
-use Rattle.gate_graph.specs.Circuit.{Circuit, kinds_live}
+use Rattle.gate_graph.specs.Circuit.{Circuit, kinds_live, kinds_dead}
 use Rattle.gate_graph.specs.Emptied.{IsEmptied}
 use Rattle.gate_graph.specs.Holds.{held}
 use Rattle.pin_pool.specs.Totals.{linked_pins}
@@ -17,6 +17,7 @@ invariant-loop-pin l = record {
   taken : l.self-inside.pool.taken ≡ l.fn.self.pool.taken;
   free : l.self-inside.free ≡ free_in l.self-inside.kinds.items;
   live : kinds_live l.self-inside.kinds.items l.self-inside.least;
+  dead : kinds_dead l.self-inside.kinds.items l.self-inside.bound;
   epoch : l.self-inside.epoch ≡ l.fn.self.epoch;
   same : l.self-inside.kinds.items ≡ l.fn.self.kinds;
   together : length l.undos.entries + l.undos.spare ≡ length l.fn.undos.entries + l.fn.undos.spare;

@@ -1,4 +1,4 @@
-use Rattle.std.proofs.Common.{rules, arith, ap, ◌≡◌, subst, List, [], length}
+use Rattle.std.proofs.Common.{rules, arith, ap, ◌≡◌, subst, List, length}
 use Rattle.gate_graph.specs.Holds.{held}
 use Rattle.gate_graph.specs.Wirings.{wiring_of}
 use Rattle.gate_graph.specs.Circuit.{Circuit, IsGraph}
@@ -14,6 +14,7 @@ loop-entry-preserved c = record {
   same = search rules;
   room = search rules;
   live = search rules;
+  dead = search rules;
   few = search rules;
   free = search rules;
   spare = search rules;

@@ -2,7 +2,7 @@ use Rattle.std.proofs.Common.{◌+◌, ◌≡◌, ◌≤◌, length}
 use Rattle.gate_graph.specs.Wirings.{wiring_of, free_in}
 use Rattle.std.specs.FinSet as set
 use Rattle.gate_graph.specs.Entries.{CanGoBack, AreWithin, back_to}
-use Rattle.gate_graph.specs.Circuit.{wiring, kinds_live}
+use Rattle.gate_graph.specs.Circuit.{wiring, kinds_live, kinds_dead}
 use Rattle.gate_graph.proofs.HeldPins.{IsUndoing}
 use Rattle.gate_graph.proofs.state.Graph.undo.Given as goal
 
@@ -13,6 +13,7 @@ invariant-loop-entry l = record {
   same : back_to (wiring_of l.self-inside.kinds.items l.self-inside.pool) l.undos.entries ≡ back_to (wiring l.fn.self) l.fn.undos.entries;
   room : length l.self-inside.kinds.items ≤ length l.self-inside.pool.inputs;
   live : kinds_live l.self-inside.kinds.items l.self-inside.least;
+  dead : kinds_dead l.self-inside.kinds.items l.self-inside.bound;
   few : length l.self-inside.kinds.items ≤ 4294967295;
   free : l.self-inside.free ≡ free_in l.self-inside.kinds.items;
   spare : l.fn.self.pool.spare ≤ l.self-inside.pool.spare;

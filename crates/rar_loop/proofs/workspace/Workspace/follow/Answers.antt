@@ -6,7 +6,7 @@ use Rattle.fault_sim.specs.Following.{DiffersAmong}
 use Rattle.rar_loop.specs.Changing.{AreNoted, IsUnlisted, numbers_of}
 use Rattle.rar_loop.specs.Going.{ReadsNoConstants}
 use Rattle.rar_loop.proofs.FreePins.{tidy_reads_none}
-use Rattle.rar_loop.proofs.Noting.{differs_listed, touches_then}
+use Rattle.rar_loop.proofs.Noting.{differs_listed, same_through, touches_then}
 use Rattle.rar_loop.proofs.workspace.Workspace.follow.Goals as goal
 
 pub follow-requires : goal.follow-requires
@@ -28,3 +28,13 @@ returns-clause-touched c = λ first noted sources.
     differs_listed first net c.args.changed.now c.in_ok-nodes.nodes.items none sources noted
     (subst (λ (n : Net). (y : ℕ) → IsUnlisted (numbers_of c.in_ok-nodes.nodes.items) y → IsUnlisted (numbers_of c.args.changed.now.gates.items) y × ((position driver : ℕ) → Reads n y position driver → IsUnlisted (numbers_of c.args.changed.now.homes.items) driver)) same c.in_ok-nodes.ensures) in
     touches_then first net c.args.self.now.touched.items c.in_ok-nodes.nodes.items c.extend_from_slice.new.self.items (c.in_ok-extend_from_slice.ensures.items ∙ ap (λ (ns : List NodeId). c.args.self.now.touched.items ++ ns) c.as_slice-2.ensures.value) differs
+
+pub follow-requires-2 : goal.follow-requires-2
+follow-requires-2 c =
+    let net : Net = net_of c.graph-graph.result.now in
+    let same : net ≡ net_of c.args.self.now.trial.graph = ap (λ (v : Circuit). net_of v) c.graph-graph.ensures in
+    let none : ReadsNoConstants net = subst ReadsNoConstants (sym same) (tidy_reads_none (net_of c.args.self.now.trial.graph) (subst IsWellFormed same c.well_formed-2.ensures.net) c.requires.tidy) in
+    let f = c.requires.follows in
+    let differs : DiffersAmong f.before net (numbers_of c.in_ok-nodes.nodes.items) =
+    differs_listed f.before net c.args.changed.now c.in_ok-nodes.nodes.items none (ap source_count same ∙ f.sources) (subst (λ (n : Net). AreNoted f.before n c.args.changed.now) (sym same) f.noted) c.in_ok-nodes.ensures in
+    record { before = (f.served, (f.refuter, same_through f.served f.before net c.args.added.now c.in_ok-nodes.nodes.items c.as_slice-3.result.now f.near differs.others (c.as_slice-3.ensures.value ∙ c.in_ok-extend_from_slice-2.ensures.items))) }

@@ -1,11 +1,11 @@
 use Rattle.std.proofs.Common.{Bool, List, false, inl, inr, subst, sym, true}
 use Rattle.gate_graph.specs.Circuit.{net_of}
-use Rattle.candidate_wires.specs.Added.{HasAllGoods}
+use Rattle.refutation.specs.FactLists.{HasAllGoods}
 use Rattle.candidate_wires.specs.Candidates.{AreDerivable}
 use Rattle.recursive_learning.specs.Serving.{IsShut}
 use Rattle.refutation.specs.FactSets.{held_by}
 use Rattle.refutation.specs.declared.held.NodeFacts.{NodeFacts}
-use Rattle.rar_loop.proofs.closer.Closer.candidates_of.Goals as goal
+use Rattle.rar_loop.proofs.candidates.candidates_of.Goals as goal
 
 pub returns-then-clashes-clause-candidates : goal.returns-then-clashes-clause-candidates
 returns-then-clashes-clause-candidates c =
