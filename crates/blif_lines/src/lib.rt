@@ -9,5 +9,3 @@ mod scan;
 pub use line::{LineFault, LogicalLine, Token};
 pub use reader::LineReader;
 
-#[cfg(test)]
-mod tests;

@@ -12,8 +12,6 @@ mod listing;
 mod reaching;
 mod stamps;
 mod targeting;
-#[cfg(test)]
-mod tests;
 
 pub use adding::{added_pin, least_free};
 pub use candidate::{Candidate, Outcome, Pair};

@@ -15,8 +15,6 @@ mod pieces;
 mod recording;
 mod report;
 mod searching;
-#[cfg(test)]
-mod tests;
 mod tidying;
 mod trying;
 mod verdicts;

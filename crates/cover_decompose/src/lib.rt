@@ -10,10 +10,6 @@ mod model_graph;
 mod needed;
 mod numbering;
 mod plan;
-#[cfg(test)]
-mod rows;
-#[cfg(test)]
-mod tests;
 
 pub use bounds::is_small;
 pub use laws::{

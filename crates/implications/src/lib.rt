@@ -25,8 +25,6 @@ mod state;
 mod sweeping;
 mod tallied_lines;
 mod tallies;
-#[cfg(test)]
-mod tests;
 
 pub use outcome::Closed;
 pub use state::Engine;

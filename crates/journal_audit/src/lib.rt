@@ -9,8 +9,6 @@ mod lines;
 mod problem;
 mod reading;
 mod stage;
-#[cfg(test)]
-mod tests;
 
 pub use auditing::audit;
 pub use laws::problems_exclude;

@@ -8,8 +8,6 @@ mod laws;
 mod refusal;
 mod replaying;
 mod settling;
-#[cfg(test)]
-mod tests;
 mod trying;
 mod whole;
 

@@ -16,8 +16,6 @@ mod reader;
 mod reading;
 mod record;
 mod recording;
-#[cfg(test)]
-mod tests;
 mod writing;
 
 pub use append::{Stop, append_entry};

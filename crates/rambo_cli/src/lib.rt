@@ -11,8 +11,6 @@ mod problem;
 mod reading;
 mod showing;
 mod summary;
-#[cfg(test)]
-mod tests;
 mod work;
 
 pub use command::run;

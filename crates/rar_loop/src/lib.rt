@@ -9,8 +9,6 @@ mod laws;
 mod optimising;
 mod refuting;
 mod sweeping;
-#[cfg(test)]
-mod tests;
 mod tidying;
 mod trying;
 mod vectors;

@@ -13,8 +13,6 @@ pub mod refuter;
 mod refuting;
 mod resting;
 mod telling;
-#[cfg(test)]
-mod tests;
 mod turning;
 mod watch;
 mod writing;

@@ -13,8 +13,6 @@ pub mod laws;
 pub mod pins;
 pub mod place_lines;
 mod reasoning;
-#[cfg(test)]
-mod tests;
 mod trees;
 pub mod value_lines;
 

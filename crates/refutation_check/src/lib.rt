@@ -14,8 +14,6 @@ mod refusals;
 mod shape;
 mod shorten;
 mod shortening;
-#[cfg(test)]
-mod tests;
 mod trail;
 
 pub use check::check_tree;

@@ -28,5 +28,3 @@ pub use ranked_model::RankedModel;
 pub use ranking::{RankFault, rank};
 pub use value::cover_value;
 
-#[cfg(test)]
-mod tests;

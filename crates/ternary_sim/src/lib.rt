@@ -9,8 +9,6 @@ mod region;
 mod settling;
 mod sheet;
 mod simulator;
-#[cfg(test)]
-mod tests;
 mod tracker;
 mod trail;
 

@@ -2,8 +2,6 @@
 #![tactic(auto)]
 
 mod again;
-#[cfg(test)]
-mod again_tests;
 mod agenda;
 mod budget;
 mod counts;
@@ -17,18 +15,12 @@ mod refusal;
 mod reserving;
 mod room;
 mod rules;
-#[cfg(test)]
-mod script_tests;
 mod seen;
 mod step_laws;
 mod steps;
-#[cfg(test)]
-mod tests;
 mod tidying;
 mod touch;
 mod trial;
-#[cfg(test)]
-mod wide_tests;
 
 pub use laws::{
     answers_apply, order_tells, rollback_restores, room_suffices, steps_keep, tidying_ends,

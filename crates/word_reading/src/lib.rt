@@ -4,8 +4,6 @@
 mod command;
 mod program;
 mod reading;
-#[cfg(test)]
-mod tests;
 
 pub use command::{Command, WordFault};
 pub use reading::read_words;

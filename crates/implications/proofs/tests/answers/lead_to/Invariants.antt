@@ -1,6 +1,0 @@
-use Rattle.std.proofs.Common.{length, ◌≤◌}
-use Rattle.gate_graph.specs.Circuit.{net_of}
-use Rattle.implications.proofs.tests.answers.lead_to.Given as goal
-
-abbrev pub invariant-loop-item : goal.invariant-loop-item
-invariant-loop-item l = record { facts : length (net_of l.graph).nodes ≤ length l.led; marks : length (net_of l.graph).nodes ≤ l.marks }

@@ -1,6 +1,0 @@
-use Rattle.std.proofs.Common.{length, ◌≤◌}
-use Rattle.gate_graph.specs.Circuit.{net_of}
-use Rattle.implications.proofs.tests.parts.derivable.Given as goal
-
-abbrev pub invariant-loop-round : goal.invariant-loop-round
-invariant-loop-round l = record { facts : length (net_of l.graph).nodes ≤ length l.facts; marks : length (net_of l.graph).nodes ≤ l.marks }

@@ -1,4 +1,0 @@
-use Rattle.pin_pool.proofs.tests.unlink_and_relink.Goals as goal
-
-pub relink-requires : goal.relink-requires
-relink-requires c = c.reserve.ensures.relinks _ _ c.unlink-slot.ensures.back

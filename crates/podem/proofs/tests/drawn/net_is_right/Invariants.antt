@@ -1,6 +1,0 @@
-use Rattle.gate_graph.specs.Circuit.{net_of}
-use Rattle.podem.specs.Searchers.{Serves}
-use Rattle.podem.proofs.tests.drawn.net_is_right.Given as goal
-
-abbrev pub invariant-loop-number : goal.invariant-loop-number
-invariant-loop-number l = Serves l.searcher (net_of l.graph)

@@ -1,0 +1,13 @@
+//! Tests of the calls that reason on faults: trees and their checker, the engine, learning, and the search for vectors.
+#![tactic(auto)]
+
+#[cfg(test)]
+mod engine;
+#[cfg(test)]
+mod learning;
+#[cfg(test)]
+mod searches;
+#[cfg(test)]
+mod tree_checks;
+#[cfg(test)]
+mod trees;

@@ -1,0 +1,196 @@
+//! Searches on three nets, each with its verdict; the verdicts are those of an independent slow program.
+mod beside;
+mod drawn;
+mod used;
+
+use podem::{Searcher, Verdict};
+use gate_graph::Graph;
+use refutation::Item;
+use rm_base::NodeId;
+use std::alloc::Global;
+use std::test::Fail;
+use test_nets::worked::{ABSORBED, FOUR_GATES, ONE_GATE, ONE_GATE_TWICE};
+use test_nets::{fault_at, wired};
+
+#[derive(Clone, Copy)]
+enum Answer {
+    Detected(&'static [bool]),
+    Refuted(&'static [Item]),
+    Spent(&'static [Item]),
+}
+
+// A fault, the budget, and the verdict.
+#[derive(Clone, Copy)]
+struct Case {
+    fault: (u32, u32, bool),
+    budget: u32,
+    answer: Answer,
+}
+
+macro_rules! item {
+    (zero $x:literal) => {
+        Item::Split { node: NodeId($x), first: false }
+    };
+    (one $x:literal) => {
+        Item::Split { node: NodeId($x), first: true }
+    };
+    (quiet) => {
+        Item::Quiet
+    };
+    (here) => {
+        Item::Here
+    };
+    (untried) => {
+        Item::Untried
+    };
+}
+
+macro_rules! hit {
+    ($gate:literal $position:literal $value:literal $budget:literal [$($bit:literal)*]) => {
+        Case {
+            fault: ($gate, $position, $value),
+            budget: $budget,
+            answer: Answer::Detected(&[$($bit),*]),
+        }
+    };
+}
+
+macro_rules! tree {
+    ($form:ident $gate:literal $position:literal $value:literal $budget:literal [$($word:ident $($number:literal)*),*]) => {
+        Case {
+            fault: ($gate, $position, $value),
+            budget: $budget,
+            answer: Answer::$form(&[$(item!($word $($number)*)),*]),
+        }
+    };
+}
+
+const ON_ONE_GATE: [Case; 9] = [
+    hit!(4 0 false 256 [true true]),
+    hit!(4 0 true 256 [false true]),
+    hit!(4 1 false 256 [true true]),
+    hit!(4 1 true 256 [true false]),
+    hit!(4 0 false 8 [true true]),
+    tree!(Spent 4 0 false 1 [one 2, here, untried]),
+    tree!(Spent 4 0 true 1 [zero 2, here, untried]),
+    tree!(Spent 4 1 false 1 [one 3, here, untried]),
+    tree!(Spent 4 1 true 1 [zero 3, here, untried]),
+];
+
+const ON_TWO_GATES: [Case; 11] = [
+    // At the budget's end a Here stands for a quiet end, but where no branch is left the fault is refuted.
+    tree!(Spent 4 1 false 1 [one 3, here, untried]),
+    tree!(Spent 4 1 false 2 [one 3, one 2, here, untried, untried]),
+    tree!(Spent 4 1 false 3 [one 3, one 2, quiet, here, untried]),
+    tree!(Refuted 4 1 false 4 [one 3, one 2, quiet, quiet, quiet]),
+    tree!(Refuted 4 0 false 2 [one 2, quiet, quiet]),
+    tree!(Refuted 5 1 false 256 [one 2, quiet, quiet]),
+    // A detection comes before the budget's end.
+    hit!(5 0 true 1 [false false]),
+    hit!(4 0 true 2 [false true]),
+    hit!(5 0 false 256 [true false]),
+    hit!(5 1 true 256 [false false]),
+    tree!(Refuted 4 1 true 4 [zero 3, one 2, quiet, quiet, quiet]),
+];
+
+const ON_FOUR_GATES: [Case; 20] = [
+    // Every fault of the net.
+    hit!(6 0 false 256 [true true false true]),
+    hit!(6 0 true 256 [false true false true]),
+    hit!(6 1 false 256 [true true false true]),
+    hit!(6 1 true 256 [true false false true]),
+    hit!(7 0 false 256 [true false true true]),
+    hit!(7 0 true 256 [false false true true]),
+    hit!(7 1 false 256 [true false true true]),
+    hit!(7 1 true 256 [true false false true]),
+    hit!(8 0 false 256 [true true false true]),
+    hit!(8 0 true 256 [false false false true]),
+    hit!(8 1 false 256 [true false true true]),
+    hit!(8 1 true 256 [false false false true]),
+    hit!(9 0 false 256 [true true false true]),
+    hit!(9 0 true 256 [false false false true]),
+    hit!(9 1 false 256 [true true false true]),
+    hit!(9 1 true 256 [true true false false]),
+    // As many edges as are needed, and one less.
+    hit!(6 0 true 3 [false true false true]),
+    tree!(Spent 6 0 true 2 [zero 2, one 3, here, untried, untried]),
+    tree!(Spent 7 0 false 3 [one 2, one 4, zero 3, here, untried, untried, untried]),
+    hit!(8 0 true 2 [false false false true]),
+];
+
+fn same_items(one: &[Item], other: &[Item]) -> bool {
+    if one.len() != other.len() {
+        return false;
+    }
+    for i in 0..one.len() {
+        if one[i] != other[i] {
+            return false;
+        }
+    }
+    true
+}
+
+fn same_bits(one: &[bool], other: &[bool]) -> bool {
+    if one.len() != other.len() {
+        return false;
+    }
+    for i in 0..one.len() {
+        if one[i] != other[i] {
+            return false;
+        }
+    }
+    true
+}
+
+fn agrees(verdict: &Verdict, answer: Answer) -> bool {
+    match (verdict, answer) {
+        (Verdict::Detected(vector), Answer::Detected(bits)) => same_bits(vector.values(), bits),
+        (Verdict::Refuted(tree), Answer::Refuted(items)) => same_items(tree.items(), items),
+        (Verdict::Spent(tree), Answer::Spent(items)) => same_items(tree.items(), items),
+        _ => false,
+    }
+}
+
+// Whether one searcher gives each verdict in turn.
+fn holds(alloc: Global, graph: &Graph, cases: &[Case]) -> Result<bool, Fail> {
+    let mut searcher = Searcher::new(alloc, graph)?;
+    for case in cases {
+        let fault = fault_at(graph, case.fault.0, case.fault.1, case.fault.2)?;
+        if case.budget == 0 {
+            return Err("no budget".into());
+        }
+        let verdict = searcher.search(graph, &fault, case.budget)?;
+        if !agrees(&verdict, case.answer) {
+            return Ok(false);
+        }
+    }
+    Ok(true)
+}
+
+#[test]
+fn searches_on_one_gate(rt: HostRuntime) -> Result<(), Fail> {
+    let graph = wired(rt.alloc(), &ONE_GATE)?;
+    assert!(rt; holds(rt.alloc(), &graph, &ON_ONE_GATE)?);
+    Ok(())
+}
+
+#[test]
+fn searches_on_a_place_observed_twice(rt: HostRuntime) -> Result<(), Fail> {
+    let graph = wired(rt.alloc(), &ONE_GATE_TWICE)?;
+    assert!(rt; holds(rt.alloc(), &graph, &ON_ONE_GATE)?);
+    Ok(())
+}
+
+#[test]
+fn searches_on_two_gates(rt: HostRuntime) -> Result<(), Fail> {
+    let graph = wired(rt.alloc(), &ABSORBED)?;
+    assert!(rt; holds(rt.alloc(), &graph, &ON_TWO_GATES)?);
+    Ok(())
+}
+
+#[test]
+fn searches_on_four_gates(rt: HostRuntime) -> Result<(), Fail> {
+    let graph = wired(rt.alloc(), &FOUR_GATES)?;
+    assert!(rt; holds(rt.alloc(), &graph, &ON_FOUR_GATES)?);
+    Ok(())
+}

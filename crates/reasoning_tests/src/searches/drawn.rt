@@ -1,0 +1,168 @@
+// Every fault of fifty drawn nets at every budget up to one that is enough, against all assignments, and every tree before
+// the checker.
+ghost use Rattle.gate_graph.specs.Circuit.{net_of};
+ghost use Rattle.gate_net.specs.Values.{HasPin};
+ghost use Rattle.podem.specs.Searchers.{Serves};
+ghost use Rattle.ternary_sim.specs.Sims.{Fits};
+
+use podem::{Searcher, Verdict};
+use gate_graph::Graph;
+use refutation::{Form, Tree};
+use refutation_check::check_tree;
+use rm_base::vectors::Value3;
+use rm_base::{Fault, NoMemory, NodeId, SourceNo};
+use std::alloc::Global;
+use std::test::Fail;
+use ternary_sim::Sim;
+use test_nets::drawn_net;
+
+pub const SOURCES: u32 = 4;
+
+pub const GATES: u32 = 7;
+
+// With so many edges every search on four sources comes to an end.
+pub const ENOUGH: u32 = 32;
+
+// A net of drawn gates, of which the last one and another node are observed.
+pub fn drawn(alloc: Global, seed: u64) -> Result<Graph, Fail> {
+    drawn_net(alloc, SOURCES, GATES, &[1 + SOURCES + GATES], seed)
+}
+
+// Whether one assignment detects the fault.
+fn detects(sim: &mut Sim, graph: &Graph, fault: &Fault, assignment: u32) -> bool
+    requires pin { HasPin (net_of graph.now) fault.now }
+    requires fits { Fits sim.old (net_of graph.now) }
+    ensures { Fits sim.new (net_of graph.now) }
+{
+    for source in 0..graph.source_count() {
+        let value = if assignment.wrapping_shr(source) & 1 == 1 {
+            Value3::One
+        } else {
+            Value3::Zero
+        };
+        sim.set(SourceNo(source), value);
+    }
+    sim.run_fault(graph, fault);
+    sim.detected(graph)
+}
+
+// Whether some assignment detects the fault.
+fn some_detects(alloc: Global, graph: &Graph, fault: &Fault) -> Result<bool, NoMemory>
+    requires { HasPin (net_of graph.now) fault.now }
+{
+    let mut sim = Sim::new(alloc, graph)?;
+    for assignment in 0..16u32 {
+        if detects(&mut sim, graph, fault, assignment) {
+            return Ok(true);
+        }
+    }
+    Ok(false)
+}
+
+// The assignment of a vector, as a number.
+fn number_of(bits: &[bool]) -> u32 {
+    let mut number = 0u32;
+    let mut place = 0u32;
+    for bit in bits {
+        if *bit {
+            number |= 1u32.wrapping_shl(place);
+        }
+        place = place.wrapping_add(1);
+    }
+    number
+}
+
+// How many edges the checker counts in a tree that it accepts.
+fn edges_of(alloc: Global, graph: &Graph, fault: &Fault, tree: &Tree, form: Form) -> Option<u64>
+    requires { HasPin (net_of graph.now) fault.now }
+{
+    match check_tree(alloc, graph, fault, tree, form) {
+        Ok(shape) => Some(shape.edges),
+        Err(_) => None,
+    }
+}
+
+// Whether a verdict is right: a vector that detects, a tree that is accepted where no assignment does, or one of as
+// many edges as were allowed, fewer than are always enough.
+fn is_right(
+    alloc: Global,
+    graph: &Graph,
+    fault: &Fault,
+    budget: u32,
+    verdict: &Verdict,
+) -> Result<bool, NoMemory>
+    requires { HasPin (net_of graph.now) fault.now }
+{
+    match verdict {
+        Verdict::Detected(vector) => {
+            let mut sim = Sim::new(alloc, graph)?;
+            Ok(detects(&mut sim, graph, fault, number_of(vector.values())))
+        }
+        Verdict::Refuted(tree) => {
+            let closed = edges_of(alloc, graph, fault, tree, Form::Closed).is_some();
+            Ok(closed && !some_detects(alloc, graph, fault)?)
+        }
+        Verdict::Spent(tree) => {
+            let edges = edges_of(alloc, graph, fault, tree, Form::Partial);
+            Ok(edges == Some(budget as u64) && budget < ENOUGH)
+        }
+    }
+}
+
+fn is_spent(verdict: &Verdict) -> bool {
+    match verdict {
+        Verdict::Spent(_) => true,
+        _ => false,
+    }
+}
+
+// Whether a fault has a right verdict at every budget up to one at which the search isn't spent.
+fn all_right(
+    alloc: Global,
+    searcher: &mut Searcher,
+    graph: &Graph,
+    fault: &Fault,
+) -> Result<bool, NoMemory>
+    requires { Serves searcher.old (net_of graph.now) }
+    ensures { Serves searcher.new (net_of graph.now) }
+{
+    let Some(_) = graph.driver(fault.gate, fault.position) else {
+        return Ok(true);
+    };
+    for budget in 1..ENOUGH + 1 {
+        let verdict = searcher.search(graph, fault, budget)?;
+        if !is_right(alloc, graph, fault, budget, &verdict)? {
+            return Ok(false);
+        }
+        if !is_spent(&verdict) {
+            return Ok(true);
+        }
+    }
+    Ok(false)
+}
+
+// Whether all faults of a net have right verdicts.
+fn net_is_right(alloc: Global, graph: &Graph) -> Result<bool, NoMemory> {
+    let mut searcher = Searcher::new(alloc, graph)?;
+    for number in 0..6 * GATES {
+        let fault = Fault {
+            gate: NodeId(2 + SOURCES + number / 6),
+            position: number % 3,
+            value: number % 6 < 3,
+        };
+        if !all_right(alloc, &mut searcher, graph, &fault)? {
+            return Ok(false);
+        }
+    }
+    Ok(true)
+}
+
+#[test]
+fn drawn_nets(rt: HostRuntime) -> Result<(), Fail> {
+    for seed in 1..51u64 {
+        let graph = drawn(rt.alloc(), seed)?;
+        let right = net_is_right(rt.alloc(), &graph)?;
+        assert!(rt; right, "at seed {seed}");
+    }
+    Ok(())
+}

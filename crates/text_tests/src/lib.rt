@@ -1,0 +1,17 @@
+//! Tests of the calls from text to model and back: devices, words, lines, models and their decomposition.
+#![tactic(auto)]
+
+#[cfg(test)]
+mod cover_rows;
+#[cfg(test)]
+mod covers;
+#[cfg(test)]
+mod devices;
+#[cfg(test)]
+mod lines;
+#[cfg(test)]
+mod models;
+#[cfg(test)]
+mod words;
+#[cfg(test)]
+mod writing;
