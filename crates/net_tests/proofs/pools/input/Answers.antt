@@ -1,5 +1,5 @@
 use Rattle.std.proofs.Common.{◌∙◌, sym}
-use Rattle.pin_pool.proofs.Fingers.{first-there, has-there}
+use Rattle.net_tests.proofs.PinLists.{first-there, has-there}
 use Rattle.net_tests.proofs.pools.input.Goals as goal
 
 pub returns-in-Some-clause-there : goal.returns-in-Some-clause-there
