@@ -1,7 +1,6 @@
 pub mod InOrder
 pub mod Standing
 pub mod Tries
-pub mod NextOnes
 pub mod Taking
 pub mod LastOnes
 pub mod Packing
@@ -11,6 +10,5 @@ pub mod GoingOn
 pub mod Recorded
 pub mod Sizes
 pub mod PinFaults
-pub mod LiveNodes
 pub mod Sourced
 pub mod Verdicting

@@ -11,7 +11,6 @@ pub mod Rank
 pub mod Pins
 pub mod Lists
 pub mod Making
-pub mod SetLemmas
 pub mod Steps
 pub mod Small
 pub mod Public

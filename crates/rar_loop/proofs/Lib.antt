@@ -15,6 +15,5 @@ pub mod Streaming
 pub mod RunLaws
 pub mod WireFaults
 pub mod Filtering
-pub mod LiveNodes
 pub mod Spacing
 pub mod Noting

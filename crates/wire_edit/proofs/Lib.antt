@@ -39,5 +39,4 @@ pub mod Unrefused
 pub mod KnownPins
 pub mod LiveNodes
 pub mod GoingBack
-pub mod WideNets
 pub mod Public
