@@ -4,12 +4,11 @@ ghost use Rattle.rm_model.specs.Words.{Word};
 ghost use Rattle.gate_graph.specs.Circuit.{net_of};
 ghost use Rattle.graph_to_model.specs.Making.{all_by, copies_by, copy_by};
 
-use crate::copying::copy_name;
 use crate::driven_names::driven;
 use crate::gates::{cover_with, even_row, gate_covers};
 use gate_graph::Graph;
 use rm_base::NoMemory;
-use rm_model::{Cover, Literal, Name, NameTable};
+use rm_model::{Cover, Literal, Name, NameTable, copy_name};
 use std::alloc::Global;
 
 fn copy_cover(alloc: Global, node: usize, name: &Name, names: &[Name]) -> Result<Cover, NoMemory>

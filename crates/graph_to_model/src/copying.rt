@@ -2,14 +2,8 @@
 ghost use Rattle.std.specs.Prelude.{◌≡◌, ◌++◌, IfOk, OnOk};
 
 use rm_base::NoMemory;
-use rm_model::{Latch, Listed, Name, Timing};
+use rm_model::{Latch, Listed, Name, Timing, copy_name};
 use std::alloc::Global;
-
-pub fn copy_name(alloc: Global, name: &Name) -> Result<Name, NoMemory>
-    ensures { IfOk result (λ copy. copy ≡ name.now) }
-{
-    Ok(Listed::from_vec(Vec::from_slice(alloc, name.items())?))
-}
 
 pub fn copy_names(alloc: Global, names: &[Name]) -> Result<Listed<Name>, NoMemory>
     ensures { IfOk result (λ copies. copies ≡ names.now) }

@@ -6,11 +6,10 @@ ghost use Rattle.gate_net.specs.Net.{IsLive, drivers_of, node_at};
 ghost use Rattle.graph_to_model.specs.NetModel.{cover_with as cover_of, gate_cover_of, onto, row_per_pin};
 ghost use Rattle.graph_to_model.specs.Making.{cover_by, covers_by, named};
 
-use crate::copying::copy_name;
 use gate_graph::Graph;
 use gate_net::Kind;
 use rm_base::{NoMemory, NodeId};
-use rm_model::{Cover, Listed, Literal, Name, Row};
+use rm_model::{Cover, Listed, Literal, Name, Row, copy_name};
 use std::alloc::Global;
 
 pub fn cover_with(inputs: Vec<Name>, output: Name, on: bool, rows: Vec<Row>) -> Cover

@@ -6,13 +6,12 @@ ghost use Rattle.rm_model.specs.Value.{observed_names, source_names};
 ghost use Rattle.graph_to_model.specs.Fits.{Fits};
 ghost use Rattle.graph_to_model.specs.Making.{AreNames, name_by, named, word_at};
 
-use crate::copying::copy_name;
 use crate::places::first_places;
 use crate::prefix::free_prefix;
 use gate_graph::Graph;
 use itoa::Buffer;
 use rm_base::NoMemory;
-use rm_model::{Listed, Model, Name};
+use rm_model::{Listed, Model, Name, copy_name};
 use std::alloc::Global;
 
 fn source_name(alloc: Global, node: usize, sources: &[Name]) -> Result<Name, NoMemory>
