@@ -1,10 +1,10 @@
 -- The words of a latch and of a cover tell the latch and the cover.
-use Rattle.std.proofs.Common.{◌≡◌, ◌≢◌, ◌≤◌, ℕ, zero, suc, ◌+◌, Bool, true, false, List, [], ◌∷◌, ◌++◌, map, length, Option, None, Some, refl, sym, ◌∙◌, ap, arith, subst, All}
+use Rattle.std.proofs.Common.{◌≡◌, ◌≢◌, ℕ, ◌+◌, Bool, true, false, List, [], ◌∷◌, ◌++◌, map, Option, None, Some, refl, sym, ◌∙◌, ap, arith, All}
 use Rattle.std.specs.Prelude.{codes, IfSome}
 use Rattle.std.proofs.lemmas.List.Elements.{All-head, All-tail}
 use Rattle.rm_model.specs.Words.{Word, literal_byte, kind_word}
 use Rattle.rm_model.specs.Value.{control_of}
-use Rattle.rm_model.specs.WellFormed.{IsWellFormed, IsWellFormedCover}
+use Rattle.rm_model.specs.WellFormed.{IsWellFormedCover}
 use Rattle.rm_model.specs.declared.parts.Literal.{Literal}
 use Rattle.rm_model.specs.declared.parts.Literal.TheVariants.{Zero, One, Any}
 use Rattle.rm_model.specs.declared.parts.LatchKind.{LatchKind}
@@ -14,7 +14,6 @@ use Rattle.rm_model.specs.declared.parts.Latch.{Latch}
 use Rattle.rm_model.specs.declared.parts.Cover.{Cover}
 use Rattle.rm_model.specs.declared.parts.Model.{Model}
 use Rattle.blif_format.specs.Text.{Line, control_word, timing_words, init_words, latch_words, on_word, row_words, cover_words}
-use Rattle.blif_format.specs.Grammar.{Reads}
 use Rattle.blif_format.specs.Laws.{ReadsOnce}
 
 -- LATCHES
@@ -48,7 +47,7 @@ kind_told As Ah e = absurd (omega (arith, (two_told 97 115 97 104 e).1))
 kind_told As Al e = absurd (omega (arith, (two_told 97 115 97 108 e).1))
 kind_told As As e = refl
 
-abbrev IsName : Option Word → Type 0
+abbrev pub IsName : Option Word → Type 0
 IsName o = IfSome o (λ x. x ≢ codes "NIL")
 
 control_told : (o p : Option Word) → IsName o → IsName p → control_word o ≡ control_word p → o ≡ p
@@ -69,7 +68,7 @@ init_told n k e = let s : 48 + n ≡ 48 + k = cc in omega (arith, s)
 abbrev rest_words : Option Timing → Option ℕ → List Word
 rest_words t i = timing_words t ++ init_words i
 
-abbrev timing_control : Option Timing → Option Word
+abbrev pub timing_control : Option Timing → Option Word
 timing_control None = None
 timing_control (Some t) = t.control
 

@@ -1,10 +1,10 @@
 -- What is cut from a line whose front is known.
-use Rattle.std.proofs.Common.{◌≡◌, ◌≢◌, ℕ, zero, suc, ◌<◌, ◌≤◌, ◌+◌, List, [], ◌∷◌, ◌++◌, length, map, Bool, true, false, not, ◌&&◌, ◌||◌, refl, sym, ◌∙◌, ap, subst, Option, None, Some, append_assoc}
-use Rattle.std.specs.Prelude.{◌==◌, nat_lt, if◌then◌else◌}
+use Rattle.std.proofs.Common.{◌≡◌, ◌+◌, List, [], ◌∷◌, ◌++◌, Bool, true, false, ◌&&◌, ◌||◌, refl, sym, ◌∙◌, ap, Option, None, Some, append_assoc}
+use Rattle.std.specs.Prelude.{◌==◌, if◌then◌else◌}
 use Rattle.std.specs.List.{list_all}
-use Rattle.blif_lines.specs.Layout.{Mark, Spot, Flaw, BadByteAt, is_blank, is_control, joint, before_joint, runs, onto_first, spots, tokens_in, ends_token, first_bad}
-use Rattle.blif_lines.specs.Cuts.{is_blank_byte, is_word_byte, is_control_byte, kept, kept_at, Cut, cut_of, with_spot}
-use Rattle.blif_lines.proofs.Bytes.{word_not_blank, blank_no_slash, control_no_slash, control_no_blank, control_is, word_no_control}
+use Rattle.blif_lines.specs.Layout.{Mark, Spot, Flaw, BadByteAt, is_blank, is_control, joint, before_joint, runs, spots, tokens_in, ends_token, first_bad}
+use Rattle.blif_lines.specs.Cuts.{is_word_byte, is_control_byte, kept, kept_at, cut_of, with_spot}
+use Rattle.blif_lines.proofs.Bytes.{and_true, blank_no_slash, control_is, control_no_blank, control_no_slash, word_no_control, word_not_blank}
 
 abbrev pub AreWord : List Mark → Type 0
 AreWord [] = Unit {0}
@@ -22,10 +22,6 @@ blanks_no_joint (m ∷ ms) e = at (is_blank m) (list_all is_blank ms) refl refl
     at true true is all = rw (all, blank_no_slash m.byte is) refl
     at true false is all = let wrong : false ≡ true = rw (is, all) at e in cc
     at false b is all = let wrong : false ≡ true = rw is at e in cc
-
-and_true : (a : Bool) → (a && true) ≡ a
-and_true true = refl
-and_true false = refl
 
 and_false : (a : Bool) → (a && false) ≡ false
 and_false true = refl

@@ -5,6 +5,7 @@ use Rattle.std.specs.Option.{option_map}
 use Rattle.std.specs.List.{list_any}
 use Rattle.std.proofs.lemmas.Bool.Decides.{eqb_tells}
 use Rattle.std.proofs.lemmas.List.Elements.{All-nil, All-cons, All-append}
+use Rattle.blif_reader.proofs.TokenLaws.{spelled}
 use Rattle.rm_model.specs.Words.{Word, is_word, literal_byte, kind_word}
 use Rattle.rm_model.specs.Value.{is_among}
 use Rattle.rm_model.specs.WellFormed.{IsWellFormedCover}
@@ -26,8 +27,8 @@ use Rattle.blif_reader.specs.Lines.{IsLatchLine, are_literals}
 use Rattle.blif_reader.specs.Drafts.{opt_list, all_covers, RowsAre, CurrentIs, IsFitLatch, IsDraft, given_name, given_inputs, given_outputs, given_clocks, given_latches, given_covers, Changes, IsKnown, AddsRow}
 use Rattle.blif_reader.specs.declared.draft.Draft.{Draft}
 use Rattle.blif_reader.proofs.Compared.{word_tells}
-use Rattle.blif_reader.proofs.RowLaws.{first_none, second_none, IsRow, last_spot, inputs_before, row_spots, has_row, adds_row, current_rows}
-use Rattle.blif_reader.proofs.ShapeLaws.{map_append, new_cover, new_words, new_open}
+use Rattle.blif_reader.proofs.RowLaws.{IsRow, adds_row, current_rows, first_none, has_row, inputs_before, last_spot, map_append, row_spots, second_none}
+use Rattle.blif_reader.proofs.ShapeLaws.{new_cover, new_words, new_open}
 use Rattle.blif_reader.proofs.KnownLaws.{command_added, row_added}
 
 -- LATCHES
@@ -233,10 +234,6 @@ adds s ss d o are none = at d.current refl
         adds_row s ss o c (cover_with s ss c) d (record d { current = option_map (cover_with s ss) d.current })
         (has_row o s ss (inputs_before s.word ss) (is_word (codes "1") (last_spot s ss).word) c (cover_with s ss c) (map literal_from (inputs_before s.word ss)) r rows (literals_are (inputs_before s.word ss) r.literals) refl refl refl refl)
         e (ap (λ (x : Option Cover). record d { current = option_map (cover_with s ss) x }) e)
-
--- LINES
-abbrev spelled : List Spot → List Word
-spelled ss = map (λ (s : Spot). s.word) ss
 
 line_exists : (said : Said) (lines : List Line) (d : Draft) (s : Spot) (ss : List Spot) → IsDraft said lines d → words_fault said (s ∷ ss) ≡ None → (e : Draft) × IsDraft (after_line said (s ∷ ss)) (lines ++ (s.word ∷ spelled ss) ∷ []) e
 line_exists said lines d s ss is none = at (command_of s.word) refl

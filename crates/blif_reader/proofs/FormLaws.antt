@@ -5,6 +5,7 @@ use Rattle.std.specs.List.{cons_option, filter_map, flat_map, list_all}
 use Rattle.std.proofs.lemmas.List.Folds.{list_any-append, list_all-append}
 use Rattle.std.proofs.lemmas.List.Elements.{All-head, All-tail}
 use Rattle.std.proofs.lemmas.List.{append-nil}
+use Rattle.blif_reader.proofs.TokenLaws.{false_true}
 use Rattle.rm_model.specs.Words.{Word, is_word}
 use Rattle.rm_model.specs.Value.{is_among, source_names, control_of}
 use Rattle.rm_model.specs.WellFormed.{is_distinct, driven_names, used_names}
@@ -51,7 +52,7 @@ inputs_alone : (cs : List Cover) → flat_map (λ (c : Cover). c.inputs ++ []) c
 inputs_alone [] = refl
 inputs_alone (c ∷ cs) = ap (λ xs. xs ++ flat_map (λ (d : Cover). d.inputs ++ []) cs) (append-nil c.inputs) ∙ ap (λ xs. c.inputs ++ xs) (inputs_alone cs)
 
-abbrev lines_in : List Logical → List Line
+abbrev pub lines_in : List Logical → List Line
 lines_in ls = filter has_words (map words_in ls)
 
 by_list : (t : Role → Bool) (k : Command) (ls : List Logical) → flat_map (line_picks t) (lines_in ls) ≡ flat_map (picks t k) (map words_after (filter (begins_with (word_for k)) (lines_in ls))) → names_in t (all_uses ls) ≡ flat_map (picks t k) (map words_after (filter (begins_with (word_for k)) (lines_in ls)))
@@ -74,10 +75,6 @@ names_are ls m inputs outputs clocks latches covers fit = record {
 
     by_cover : (t : Role → Bool) → flat_map (line_picks t) (lines_in ls) ≡ flat_map (cover_picks t) (map words_after (filter (begins_with (codes ".names")) (lines_in ls))) → names_in t (all_uses ls) ≡ flat_map (λ (c : Cover). list_picks (t CoverInput) c.inputs ++ (if t CoverOutput then c.output ∷ [] else [])) m.covers
     by_cover t e = uses_list t ls ∙ e ∙ names_words (cover_picks t) (lines_in ls) ∙ ap (flat_map (λ (x : Line × List Line). cover_picks t x.0)) covers ∙ cover_names_in t m.covers
-
--- NAMES THAT ARE DRIVEN ONCE
-false_true : false ≡ true → ⊥
-false_true e = cc
 
 pub among_append : (xs ys : List Word) (x : Word) → is_among (xs ++ ys) x ≡ (is_among xs x || is_among ys x)
 among_append xs ys x = list_any-append (is_word x) xs ys

@@ -1,6 +1,7 @@
 -- What one more line adds to what the grammar reads of lines.
 use Rattle.std.proofs.Common.{◌≡◌, List, [], ◌∷◌, ◌++◌, map, filter, Bool, true, false, ◌&&◌, ◌||◌, inl, inr, refl, sym, ◌∙◌, ap, append_assoc}
 use Rattle.std.specs.Prelude.{if◌then◌else◌, codes}
+use Rattle.blif_reader.proofs.TokenLaws.{or_one}
 use Rattle.rm_model.specs.Words.{Word}
 use Rattle.blif_format.specs.Text.{Line}
 use Rattle.blif_format.specs.Grammar.{before, begins_with, is_dotted, words_after, words_of, names_lines, is_command, follow}
@@ -66,10 +67,6 @@ open_dotted c d (l ∷ ls) h = at (is_dotted l) refl (open_dotted c d ls)
     at : (t : Bool) → is_dotted l ≡ t → (has_dotted ls ≡ true → is_open c ls ≡ is_open d ls) → is_open c (l ∷ ls) ≡ is_open d (l ∷ ls)
     at true e ih = rw e refl
     at false e ih = rw e (ih (rw e at h))
-
-or_one : (a b : Bool) → (a || b) ≡ false → a ≡ false
-or_one true b e = e
-or_one false b e = refl
 
 or_two : (a b : Bool) → (a || b) ≡ false → b ≡ false
 or_two true b e = cc

@@ -3,6 +3,7 @@ use Rattle.std.proofs.Common.{◌≡◌, List, [], ◌∷◌, ◌++◌, map, fil
 use Rattle.std.specs.Prelude.{if◌then◌else◌, codes}
 use Rattle.std.specs.List.{cons_option, filter_map, flat_map}
 use Rattle.std.proofs.lemmas.List.{append-nil}
+use Rattle.blif_reader.proofs.TokenLaws.{spelled}
 use Rattle.rm_model.specs.Words.{Word, is_word}
 use Rattle.blif_lines.specs.Layout.{Spot, Logical, words_in, has_words}
 use Rattle.blif_format.specs.Text.{Line}
@@ -80,9 +81,6 @@ picks t Clock ws = list_picks (t ClockInput) ws
 picks t Names ws = cover_picks t ws
 picks t Latch ws = latch_picks t ws
 picks t End ws = []
-
-abbrev spelled : List Spot → List Word
-spelled ss = map (λ (s : Spot). s.word) ss
 
 extras_none : (ss : List Spot) → filter_map use_of (all_are Extra ss) ≡ []
 extras_none [] = refl

@@ -1,5 +1,5 @@
 -- Lines whose names and covers are within the limits exceed none.
-use Rattle.std.proofs.Common.{◌≡◌, ◌≤◌, ◌+◌, ℕ, suc, List, [], ◌∷◌, ◌++◌, map, filter, length, Bool, true, false, not, ◌&&◌, refl, sym, ◌∙◌, ap, subst, arith, append_assoc, length-append, Option, None, Some}
+use Rattle.std.proofs.Common.{◌≡◌, ◌≤◌, ◌+◌, ℕ, suc, List, [], ◌∷◌, ◌++◌, map, length, Bool, true, false, not, ◌&&◌, refl, sym, ◌∙◌, ap, subst, arith, append_assoc, length-append, Option, None, Some}
 use Rattle.std.specs.Prelude.{if◌then◌else◌, nat_lt, codes, ◌==◌}
 use Rattle.std.specs.List.{cons_option, filter_map, list_all}
 use Rattle.std.proofs.lemmas.Bool.{le-ltb}
@@ -7,7 +7,7 @@ use Rattle.std.proofs.lemmas.List.Folds.{list_all-append}
 use Rattle.rm_base.specs.declared.numbers.Place.{Place}
 use Rattle.rm_model.specs.Words.{Word, is_word}
 use Rattle.rm_model.specs.Value.{is_among}
-use Rattle.blif_lines.specs.Layout.{Spot, Logical, Flaw, BadByteAt, OpenJoinAt, words_in, has_words}
+use Rattle.blif_lines.specs.Layout.{Spot, Logical, Flaw, BadByteAt, OpenJoinAt}
 use Rattle.blif_format.specs.Text.{Line}
 use Rattle.blif_format.specs.Grammar.{begins_with, words_after}
 use Rattle.blif_format.specs.Unsupported.{unsupported_words}
@@ -29,7 +29,7 @@ use Rattle.blif_reader.specs.Limits.{is_short}
 use Rattle.blif_reader.proofs.Compared.{word_same}
 use Rattle.blif_reader.proofs.NameLaws.{all_uses, names_append}
 use Rattle.blif_reader.proofs.LineLaws.{command_word, uses_case}
-use Rattle.blif_reader.proofs.FormLaws.{and_first, and_second}
+use Rattle.blif_reader.proofs.FormLaws.{and_first, and_second, lines_in}
 use Rattle.blif_reader.proofs.WordCounts.{kinds_among, kinds_length}
 
 abbrev pub every : Role → Bool
@@ -284,9 +284,6 @@ IsFitLine l = begins_with (codes ".names") l ≡ true → length (words_after l)
 abbrev pub AreFitLines : List Line → Type 0
 AreFitLines [] = Unit {0}
 AreFitLines (l ∷ ls) = IsFitLine l × AreFitLines ls
-
-abbrev pub lines_in : List Logical → List Line
-lines_in ls = filter has_words (map words_in ls)
 
 pub spelled_length : (ss : List Spot) → length (map (λ (s : Spot). s.word) ss) ≡ length ss
 spelled_length [] = refl

@@ -1,8 +1,9 @@
 -- The names of a model's parts, by the words of its lines.
-use Rattle.std.proofs.Common.{◌≡◌, ◌≢◌, ℕ, List, [], ◌∷◌, ◌++◌, map, filter, Bool, true, false, inl, inr, refl, sym, ◌∙◌, ap, Option, None, Some}
-use Rattle.std.specs.Prelude.{if◌then◌else◌, codes, IfSome}
+use Rattle.std.proofs.Common.{◌≡◌, ℕ, List, [], ◌∷◌, ◌++◌, map, filter, Bool, true, false, inl, inr, refl, sym, ◌∙◌, ap, Option, None, Some}
+use Rattle.std.specs.Prelude.{if◌then◌else◌, codes}
 use Rattle.std.specs.List.{cons_option, filter_map, flat_map}
 use Rattle.std.proofs.lemmas.List.{append-nil}
+use Rattle.blif_format.proofs.Public.{IsName}
 use Rattle.rm_model.specs.Words.{Word}
 use Rattle.rm_model.specs.Value.{control_of}
 use Rattle.rm_model.specs.declared.parts.Timing.{Timing}
@@ -50,9 +51,6 @@ last_picks t (x ∷ z ∷ zs) y = ap (λ xs. word_if (t CoverInput) x ++ xs) (la
 pub cover_names_in : (t : Role → Bool) (cs : List Cover) → flat_map (λ (x : Line × List Line). cover_picks t x.0) (map cover_words cs) ≡ flat_map (λ (c : Cover). list_picks (t CoverInput) c.inputs ++ word_if (t CoverOutput) c.output) cs
 cover_names_in t [] = refl
 cover_names_in t (c ∷ cs) = ap (λ xs. xs ++ flat_map (λ (x : Line × List Line). cover_picks t x.0) (map cover_words cs)) (last_picks t c.inputs c.output) ∙ ap (λ xs. (list_picks (t CoverInput) c.inputs ++ word_if (t CoverOutput) c.output) ++ xs) (cover_names_in t cs)
-
-abbrev pub IsName : Option Word → Type 0
-IsName o = IfSome o (λ x. x ≢ codes "NIL")
 
 control_words : (t : Role → Bool) (o : Option Word) → IsName o → control_if t (control_word o) ≡ list_picks (t Control) (cons_option o [])
 control_words t None n = at (t Control)

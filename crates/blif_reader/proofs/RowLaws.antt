@@ -148,7 +148,7 @@ on_same false false e = refl
 on_same true false e = let h : true ≡ false = ap (λ (w : Word). is_word (codes "1") w) e in cc
 on_same false true e = let h : false ≡ true = ap (λ (w : Word). is_word (codes "1") w) e in cc
 
-map_append : {A B : Type 0} (f : A → B) (xs ys : List A) → map f (xs ++ ys) ≡ map f xs ++ map f ys
+pub map_append : {A B : Type 0} (f : A → B) (xs ys : List A) → map f (xs ++ ys) ≡ map f xs ++ map f ys
 map_append f [] ys = refl
 map_append f (x ∷ xs) ys = ap (λ zs. f x ∷ zs) (map_append f xs ys)
 

@@ -11,15 +11,11 @@ use Rattle.blif_format.specs.declared.words.Command.{Command}
 use Rattle.blif_format.specs.declared.words.Command.TheVariants.{Names, Latch}
 use Rattle.blif_reader.specs.Drafts.{opt_list, all_covers, ending_of, RowsAre, CurrentIs, IsFitLatch, Changes}
 use Rattle.blif_reader.specs.declared.draft.Draft.{Draft}
-use Rattle.blif_reader.proofs.RowLaws.{all_front}
+use Rattle.blif_reader.proofs.RowLaws.{all_front, map_append}
 
 nothing : {A : Type 0} (xs : List A) → xs ≡ xs ++ []
 nothing [] = refl
 nothing (x ∷ xs) = ap (λ ys. x ∷ ys) (nothing xs)
-
-pub map_append : {A B : Type 0} (f : A → B) (xs ys : List A) → map f (xs ++ ys) ≡ map f xs ++ map f ys
-map_append f [] ys = refl
-map_append f (x ∷ xs) ys = ap (λ zs. f x ∷ zs) (map_append f xs ys)
 
 closed_now : (o : Option Cover) → o ≡ None → CurrentIs None o
 closed_now o e = subst (CurrentIs None) (sym e) tt

@@ -21,10 +21,10 @@ is_plain m = not (m.byte == 35)
 abbrev is_run : List Mark → Bool
 is_run r = list_all is_word_byte (bytes_of r) && not (ends_in_backslash (bytes_of r))
 
-false_true : false ≡ true → ⊥
+pub false_true : false ≡ true → ⊥
 false_true e = cc
 
-or_one : (a b : Bool) → (a || b) ≡ false → a ≡ false
+pub or_one : (a b : Bool) → (a || b) ≡ false → a ≡ false
 or_one true b e = e
 or_one false b e = refl
 
@@ -32,7 +32,7 @@ or_two : (a b : Bool) → (a || b) ≡ false → b ≡ false
 or_two true b e = absurd (false_true (sym e))
 or_two false b e = e
 
-and_one : (a b : Bool) → (a && b) ≡ true → a ≡ true
+pub and_one : (a b : Bool) → (a && b) ≡ true → a ≡ true
 and_one true b e = refl
 and_one false b e = e
 
@@ -101,7 +101,7 @@ good_runs (m ∷ ms) p e = at (is_blank m) refl (good_runs ms (and_two (is_plain
         rw h (onto_runs m (runs ms) (word_byte m.byte h control (and_one (is_plain m) (list_all is_plain ms) p)) (λ f. no_slash (m.byte == 92) (ends_token ms) (empty_ends ms f) (or_two (is_control m) ((m.byte == 92) && ends_token ms) sound)) rs)
 
 -- TOKENS
-abbrev spelled : List Spot → List Word
+abbrev pub spelled : List Spot → List Word
 spelled ss = map (λ (s : Spot). s.word) ss
 
 runs_tokens : (rs : List (List Mark)) → AreRuns rs → list_all is_token (spelled (spots rs)) ≡ true

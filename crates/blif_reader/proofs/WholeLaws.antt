@@ -26,12 +26,7 @@ use Rattle.blif_reader.proofs.RowLaws.{first_none, second_none}
 use Rattle.blif_reader.proofs.CleanLaws.{IsClean, nothing_clean, clean_lines}
 use Rattle.blif_reader.proofs.NameLaws.{is_latch_input, is_control, all_uses, said_uses, uses_list, line_picks, picks_if, list_picks, cover_picks, latch_picks, picks}
 use Rattle.blif_reader.proofs.FormLaws.{NamesAre, names_are, driven_once, used_driven}
-use Rattle.blif_reader.proofs.TokenLaws.{AreTokens, layout_tokens}
-
--- NAMES THAT ARE WORDS OF THE TEXT
-and_one : (a b : Bool) → (a && b) ≡ true → a ≡ true
-and_one true b e = refl
-and_one false b e = e
+use Rattle.blif_reader.proofs.TokenLaws.{AreTokens, and_one, layout_tokens}
 
 and_two : (a b : Bool) → (a && b) ≡ true → b ≡ true
 and_two true b e = e

@@ -33,14 +33,14 @@ use Rattle.blif_reader.specs.Drafts.{IsFitLatch}
 use Rattle.blif_reader.proofs.Compared.{word_same, word_is}
 use Rattle.blif_reader.proofs.Plays.{names_among, names_more, plays_or, plays_same, plays_source}
 use Rattle.blif_reader.proofs.NameLaws.{is_latch_input, is_control, all_uses, said_uses}
-use Rattle.blif_reader.proofs.FormLaws.{NamesAre, names_are, among_append, among_others, and_first, and_second}
+use Rattle.blif_reader.proofs.FormLaws.{NamesAre, among_append, among_others, and_first, and_second, lines_in, names_are}
 use Rattle.blif_reader.proofs.SizeLaws.{fewer, observed_length, observed_small, sources_small}
 use Rattle.blif_reader.proofs.CleanLaws.{IsClean, IsFree, clean_lines, free_use, not_limit, nothing_clean}
 use Rattle.blif_reader.proofs.UseWalk.{walked_lines}
 use Rattle.blif_reader.proofs.RowLaws.{first_none, second_none}
 use Rattle.blif_reader.proofs.KnownLaws.{first_goes, later_goes, dotted_goes}
 use Rattle.blif_reader.proofs.WordCounts.{both, among_has}
-use Rattle.blif_reader.proofs.NoLimits.{NoLimit, AreFew, AreFitLines, IsFitLine, lines_in, spelled_length, every, text_fine, or_else_fine, fault_fine, none_fine, limit_never}
+use Rattle.blif_reader.proofs.NoLimits.{NoLimit, AreFew, AreFitLines, IsFitLine, spelled_length, every, text_fine, or_else_fine, fault_fine, none_fine, limit_never}
 
 -- words of a list have what all words of another have among which they are
 all_among : (p : Word → Bool) (xs ys : List Word) → list_all (is_among ys) xs ≡ true → list_all p ys ≡ true → list_all p xs ≡ true

@@ -2,6 +2,7 @@
 use Rattle.std.proofs.Common.{◌≡◌, ◌+◌, ℕ, Bool, true, false, List, [], ◌∷◌, ◌++◌, map, filter, refl, ap, sym, subst, ◌∙◌, arith}
 use Rattle.std.specs.Prelude.{IfSome, codes, if◌then◌else◌, Option, None, Some}
 use Rattle.std.specs.List.{cons_option, filter_map, flat_map}
+use Rattle.blif_format.proofs.Public.{timing_control}
 use Rattle.rm_model.specs.Words.{Word, is_word, kind_word, literal_byte}
 use Rattle.rm_model.specs.Value.{control_of}
 use Rattle.rm_model.specs.declared.parts.Literal.{Literal}
@@ -108,10 +109,6 @@ names_uses test x (s ∷ t ∷ ss) (a ∷ xs) y e =
 abbrev latch_tally : (Role → Bool) → Word → Word → Word → Option Word → ℕ
 latch_tally test x input output control =
     part (test LatchInput) (one_if (is_word x input)) + (part (test LatchOutput) (one_if (is_word x output)) + part (test Control) (count x (cons_option control [])))
-
-abbrev pub timing_control : Option Timing → Option Word
-timing_control None = None
-timing_control (Some t) = t.control
 
 control_use : (test : Role → Bool) (x : Word) (s : Spot) (control : Option Word) (more : List Use) → s.word ≡ control_word control → IfSome control (λ w. w ≡ codes "NIL" → ⊥) → tally test x (cons_option (use_of (Name Control, s)) more) ≡ part (test Control) (count x (cons_option control [])) + tally test x more
 control_use test x s None more e good = rw e (omega (arith, part-zero (test Control)))

@@ -1,17 +1,18 @@
 -- What a removal leaves no larger, and what a fix in a tidy net takes.
-use Rattle.std.proofs.Common.{◌≡◌, ℕ, zero, suc, ◌+◌, ◌<◌, ◌≤◌, Bool, true, false, Option, Some, None, List, [], ◌∷◌, length, map, refl, arith}
-use Rattle.std.specs.Prelude.{slice_get, slice_set, if◌then◌else◌}
+use Rattle.std.proofs.Common.{◌≡◌, ℕ, zero, suc, ◌+◌, ◌<◌, ◌≤◌, Option, Some, None, List, [], ◌∷◌, length, map, refl, arith}
+use Rattle.std.specs.Prelude.{slice_get, slice_set}
 use Rattle.std.specs.List.{sum_by}
 use Rattle.std.proofs.lemmas.List.Sums.{sum_by-cons}
 use Rattle.rm_base.specs.declared.numbers.Fault.{Fault}
-use Rattle.gate_net.specs.Net.{Node, Net, before_dead, drivers_of, flatten_option, node_at, trimmed, IsWellFormed, count_in, gate_in, gate_count, wire_count}
-use Rattle.gate_net.specs.Values.{HasPin, same_bool}
+use Rattle.gate_net.specs.Net.{Node, Net, before_dead, drivers_of, flatten_option, node_at, trimmed, IsWellFormed, gate_count, wire_count}
+use Rattle.gate_net.specs.Values.{HasPin}
 use Rattle.gate_net.specs.Edits.{constant_node, fixed, node_redirected, redirected, redriven, with_drivers, without}
+use Rattle.wire_edit.proofs.Public.{MakesNone, constant_makes, gate_weight}
 use Rattle.wire_edit.specs.declared.steps.Step.{Step}
 use Rattle.wire_edit.specs.declared.steps.Step.TheVariants.{Add, Fix, NewNot, Const, Same, NoPins, OnePin, Twice, Twin, Dead}
 use Rattle.wire_edit.specs.Changes.{Change, append, remove, fix, readers, new_not, retire, changed}
 use Rattle.wire_edit.specs.Laws.{IsTidying, StepsKeepSources}
-use Rattle.wire_edit.specs.Steps.{Applies, stepped, change_of, constant_change}
+use Rattle.wire_edit.specs.Steps.{Applies, stepped, change_of}
 use Rattle.wire_edit.specs.Order.{IsTidy}
 use Rattle.wire_edit.specs.Removals.{AllAreFree, FixesTakeOne, FreeFixesApply, HasFreePin, IsRemoval, RemovalsFreeNone, TidyReadsNone}
 use Rattle.wire_edit.specs.Tests.{constant_at, control_of}
@@ -56,10 +57,6 @@ made_none (OnePin gate) r = (tt, refl)
 made_none (Twice gate) r = (tt, refl)
 made_none (Twin gate other) r = (tt, refl)
 made_none (Dead gate) r = (tt, refl)
-
--- GATES
-abbrev gate_weight : Option Node → ℕ
-gate_weight o = count_in o gate_in
 
 abbrev gates_in : List (Option Node) → ℕ
 gates_in os = sum_by gate_weight os
@@ -109,12 +106,6 @@ with_gates net gate ds = lower_at net.nodes gate (redriven ds (node_at net gate)
     same None = omega arith
     same (Some n) = omega arith
 
--- the change makes no pin
-abbrev MakesNone : Change → Type 0
-MakesNone (append gate driver) = ⊥
-MakesNone (new_not driver) = ⊥
-MakesNone _ = Unit {0}
-
 change_gates : (net : Net) (change : Change) → MakesNone change → gate_count (changed net change) ≤ gate_count net
 change_gates net (append gate driver) none = absurd none
 change_gates net (new_not driver) none = absurd none
@@ -125,15 +116,6 @@ change_gates net (retire gate) none =
     let a : gates_in (trimmed (slice_set net.nodes gate None)) ≤ gates_in (slice_set net.nodes gate None) = trimmed_gates (slice_set net.nodes gate None) in
     let b : gates_in (slice_set net.nodes gate None) ≤ gates_in net.nodes = lower_at net.nodes gate None (omega arith) in
     omega (arith, a, b)
-
-constant_makes : (gate p : ℕ) (control constant : Option Bool) → MakesNone (constant_change gate p control constant)
-constant_makes gate p control None = tt
-constant_makes gate p None (Some b) = tt
-constant_makes gate p (Some c) (Some b) = at (same_bool b c)
-  where
-    at : (t : Bool) → MakesNone (if t then readers gate (constant_node c) else remove gate p)
-    at true = tt
-    at false = tt
 
 removal_makes : (net : Net) (step : Step) → runs.IsRemoval step → MakesNone (change_of net step)
 removal_makes net (Add gate y) r = absurd r

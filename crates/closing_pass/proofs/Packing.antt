@@ -2,9 +2,10 @@
 use Rattle.std.proofs.Common.{◌≡◌, ◌≢◌, ℕ, zero, suc, ◌+◌, ◌-◌, ◌<◌, ◌≤◌, ◌^◌, inl, inr, Bool, true, false, Some, List, [], ◌∷◌, ◌++◌, length, get_or, max, refl, sym, ◌∙◌, ap, subst, arith}
 use Rattle.std.specs.Prelude.{bit_or, if◌then◌else◌, nat_eq, slice_get, slice_index, slice_index_or}
 use Rattle.std.specs.Int.{bit_at}
-use Rattle.std.proofs.lemmas.Nat.Bits.{bit_at-lt, bit_at-pow_same, bit_at-pow_other, bit_at-zero, bit_at_or}
+use Rattle.std.proofs.lemmas.Nat.Bits.{bit_at-lt, bit_at-pow_same, bit_at-pow_other, bit_at_or}
 use Rattle.std.proofs.lemmas.List.{length-append}
 use Rattle.std.proofs.lemmas.Option.{get_or_from_slice_get, slice_get-get_or}
+use Rattle.fault_sim.proofs.Public.{lane_zero}
 use Rattle.fault_sim.specs.Words.{lane}
 use Rattle.closing_pass.specs.Findings.{AreLong, ArePacked}
 use Rattle.closing_pass.specs.Trying.{AreInLanes}
@@ -31,9 +32,6 @@ lane_set_other : (w k i : ℕ) → i ≢ k → lane i (bit_or w (2 ^ k)) ≡ lan
 lane_set_other w k i ne =
     let bit : bit_at (bit_or w (2 ^ k)) i ≡ bit_at w i = bit_at_or w (2 ^ k) i ∙ ap (λ (n : ℕ). max (bit_at w i) n) (bit_at-pow_other k i ne) ∙ none_more (bit_at w i) (bit_at-lt w i) in
     ap (λ (n : ℕ). nat_eq n 1) bit
-
-lane_zero : (i : ℕ) → lane i 0 ≡ false
-lane_zero i = ap (λ (n : ℕ). nat_eq n 1) (bit_at-zero i)
 
 -- the first bits are the values of a source in the first vectors, and all others are 0
 pub record IsWordOf (vectors : List (List Bool)) (source place word : ℕ) : Type 0 where

@@ -4,8 +4,10 @@ use Rattle.std.specs.Prelude.{replicate, slice_get, slice_set}
 use Rattle.std.proofs.lemmas.List.{length-append}
 use Rattle.std.specs.List.{AllZip}
 use Rattle.std.proofs.lemmas.Option.{slice_get_read, slice_get_within}
+use Rattle.gate_net.proofs.Public.{set_there}
 use Rattle.gate_net.specs.Net.{Net, source_count}
 use Rattle.gate_net.specs.Values.{HasPin}
+use Rattle.journal_text.proofs.Public.{some_is}
 use Rattle.podem.specs.declared.verdict.Verdict.{Verdict}
 use Rattle.podem.specs.declared.verdict.Verdict.TheVariants as verdict
 use Rattle.refutation.specs.declared.items.Item.{Item}
@@ -16,8 +18,8 @@ use Rattle.closing_pass.specs.declared.choosing.Chosen.{Chosen}
 use Rattle.closing_pass.specs.Findings.{AreChosen, AreClosedBefore, AreFound, AreLong, AreTried, HasCome, Holds, IsRefuted}
 use Rattle.closing_pass.specs.Searching.{HasTaken, tree_in}
 use Rattle.closing_pass.specs.Verdicts.{HavePins, IsAnswer}
-use Rattle.closing_pass.proofs.Standing.{length-set, one_stands, pushed_stands, some_is, stands_below, stands_pushed, stands_still, stood, replicated, zip_here, zip_next}
-use Rattle.closing_pass.proofs.Tries.{lt_or_le, set_other, set_there}
+use Rattle.closing_pass.proofs.Standing.{length-set, one_stands, pushed_stands, stands_below, stands_pushed, stands_still, stood, replicated, zip_here, zip_next}
+use Rattle.closing_pass.proofs.Tries.{lt_or_le, set_other}
 
 pub same_or_not : (j k : ℕ) → (j ≡ k) ⊎ (j ≢ k)
 same_or_not j k = elim (lt_or_le j k) [

@@ -3,16 +3,18 @@ use Rattle.std.proofs.Common.{◌≡◌, ◌≢◌, ℕ, zero, suc, ◌+◌, ◌
 use Rattle.std.specs.Prelude.{slice_get, slice_set}
 use Rattle.std.proofs.lemmas.Option.{slice_get_within}
 use mathlib.Core.Path.{fun_ext}
+use Rattle.gate_net.proofs.Public.{set_there}
 use Rattle.gate_net.specs.Faults.{assigned}
 use Rattle.gate_net.specs.Net.{Net, source_count}
 use Rattle.gate_net.specs.Values.{Detects}
 use Rattle.fault_sim.specs.Words.{assignment}
+use Rattle.journal_text.proofs.Public.{some_is}
 use Rattle.rm_base.specs.declared.numbers.Fault.{Fault}
 use Rattle.closing_pass.specs.declared.finding.Finding.{Finding}
 use Rattle.closing_pass.specs.declared.finding.Finding.TheVariants.{Detected, Open}
 use Rattle.closing_pass.specs.Findings.{AreLong, HasCome, Holds, IsSought}
 use Rattle.closing_pass.specs.Trying.{AreInLanes, HasTried, HasTriedBefore, HasTriedOn, IsHit, IsMissed, IsTriedAt}
-use Rattle.closing_pass.proofs.Standing.{one_stands, some_is, stands_below}
+use Rattle.closing_pass.proofs.Standing.{one_stands, stands_below}
 
 -- whether a number comes before another
 pub lt_or_le : (k n : ℕ) → (k < n) ⊎ (n ≤ k)
@@ -23,12 +25,6 @@ lt_or_le (suc k) (suc n) = elim (lt_or_le k n) [
   | inl lt ↦ inl (omega (arith, lt))
   | inr le ↦ inr (omega (arith, le))
 ]
-
--- PLACES OF A LIST
-pub set_there : {A : Type 0} (xs : List A) (p : ℕ) (a b : A) → slice_get xs p ≡ Some a → slice_get (slice_set xs p b) p ≡ Some b
-set_there [] p a b e = cc
-set_there (x ∷ xs) zero a b e = refl
-set_there (x ∷ xs) (suc p) a b e = set_there xs p a b e
 
 pub set_other : {A : Type 0} (xs : List A) (p q : ℕ) (a : A) → q ≢ p → slice_get (slice_set xs p a) q ≡ slice_get xs q
 set_other [] p q a ne = refl

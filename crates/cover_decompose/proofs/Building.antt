@@ -5,6 +5,7 @@ use Rattle.std.specs.Option.{option_map}
 use Rattle.std.proofs.lemmas.Bool.{cases_lt}
 use Rattle.std.proofs.lemmas.Option.{slice_get-map}
 use Rattle.std.proofs.lemmas.List.Sums.{sum_by_push}
+use Rattle.cover_decompose.proofs.WellFormed.{all_live}
 use Rattle.gate_net.specs.Edits.{MakesGate}
 use Rattle.gate_net.specs.Net.{Node, Net, node_at, flatten_option, before_dead, trimmed}
 use Rattle.gate_graph.specs.Circuit.{Circuit, net_of, pins_taken, live_nodes}
@@ -37,10 +38,6 @@ trimmed_same (x ∷ xs) [] h = by_head x (h 0) (trimmed_same xs [] (λ k. h (suc
     by_head None e t = ap (λ (l : List (Option Node)). before_dead None l) t
     by_head (Some n) e t = absurd cc
 trimmed_same (x ∷ xs) (y ∷ ys) h = rw (h 0, trimmed_same xs ys (λ k. h (suc k))) refl
-
-all_live : (xs : List Node) → trimmed (map (λ n. Some n) xs) ≡ map (λ n. Some n) xs
-all_live [] = refl
-all_live (x ∷ xs) = ap (λ (ys : List (Option Node)). Some x ∷ ys) (all_live xs)
 
 node_there : (made : List Node) (x : ℕ) (n : Node) → slice_get made x ≡ Some n → flatten_option (slice_get (map (λ n. Some n) made) x) ≡ Some n
 node_there made x n e = ap (λ (o : Option (Option Node)). flatten_option o) (slice_get-map (λ (n : Node). Some n) made x ∙ ap (λ (o : Option Node). option_map (λ (n : Node). Some n) o) e)

@@ -21,7 +21,7 @@ use Rattle.cover_decompose.proofs.Sums.{sum-total, total}
 use Rattle.cover_decompose.proofs.WellFormed.{is_live, wires_made}
 use Rattle.cover_decompose.proofs.Wires.{AreEven, covers_counts}
 
-length-mapped : {A B : Type 0} (f : A → B) (xs : List A) → length (map f xs) ≡ length xs
+pub length-mapped : {A B : Type 0} (f : A → B) (xs : List A) → length (map f xs) ≡ length xs
 length-mapped f [] = refl
 length-mapped f (x ∷ xs) = ap (λ (n : ℕ). suc n) (length-mapped f xs)
 

@@ -4,6 +4,7 @@ use Rattle.std.specs.Prelude.{All, Some, Option, replicate, slice_get, sum_by, �
 use Rattle.std.specs.List.{AllByRecursion}
 use Rattle.std.proofs.lemmas.Bool.Decides.{eqb_tells}
 use Rattle.std.proofs.lemmas.List.Sums.{sum_by-take-le}
+use Rattle.cover_decompose.proofs.WellFormed.{gate_at}
 use Rattle.gate_net.specs.declared.Kind.{Kind}
 use Rattle.gate_net.specs.declared.Kind.TheVariants.{Source, Zero, One, And, Or, Not}
 use Rattle.gate_net.specs.Net.{Node, Net, node_at, plain_node, IsGateKind, IsLive}
@@ -20,11 +21,6 @@ use Rattle.cover_decompose.proofs.Sums.{sum-total, total, total-append}
 -- the wires of nodes
 abbrev pub wires_of : List Node → ℕ
 wires_of made = sum_by (λ (n : Node). length n.drivers) made
-
-gate_at : (gates : List Node) (k : ℕ) (n : Node) → AllByRecursion IsGateNode gates → slice_get gates k ≡ Some n → IsGateNode n
-gate_at [] k n h e = absurd cc
-gate_at (g ∷ gates) zero n h e = let is : g ≡ n = cc in let P : Node → Type 0 = λ k. IsGateNode k in subst P is h.0
-gate_at (g ∷ gates) (suc k) n h e = gate_at gates k n h.1 e
 
 many_gates : (gates : List Node) → AllByRecursion IsGateNode gates → length gates ≤ total (λ (n : Node). length n.drivers) gates
 many_gates [] h = omega arith

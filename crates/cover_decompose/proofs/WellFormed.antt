@@ -46,7 +46,7 @@ start_placed sources zero n e = inl (refl, kind_same (plain Zero) n cc)
 start_placed sources (suc zero) n e = inr (inl (refl, kind_same (plain One) n cc))
 start_placed sources (suc (suc x)) n e = let r = get_replicate sources x (plain Source) n e in inr (inr (inl ((omega arith, let lt : x < sources = r.1 in omega arith), ap (λ (k : Node). k.kind) r.0)))
 
-gate_at : (gates : List Node) (k : ℕ) (n : Node) → AllByRecursion IsGateNode gates → slice_get gates k ≡ Some n → IsGateNode n
+pub gate_at : (gates : List Node) (k : ℕ) (n : Node) → AllByRecursion IsGateNode gates → slice_get gates k ≡ Some n → IsGateNode n
 gate_at [] k n h e = absurd cc
 gate_at (g ∷ gates) zero n h e = let is : g ≡ n = cc in let P : Node → Type 0 = λ k. IsGateNode k in subst P is h.0
 gate_at (g ∷ gates) (suc k) n h e = gate_at gates k n h.1 e
@@ -56,7 +56,7 @@ below_at y [] p x h e = absurd cc
 below_at y (z ∷ xs) zero x h e = let is : z ≡ x = cc in let lt : z < y = h.0 in omega arith
 below_at y (z ∷ xs) (suc p) x h e = below_at y xs p x h.1 e
 
-all_live : (xs : List Node) → trimmed (map (λ n. Some n) xs) ≡ map (λ n. Some n) xs
+pub all_live : (xs : List Node) → trimmed (map (λ n. Some n) xs) ≡ map (λ n. Some n) xs
 all_live [] = refl
 all_live (x ∷ xs) = ap (λ (ys : List (Option Node)). Some x ∷ ys) (all_live xs)
 

@@ -10,7 +10,7 @@ use Rattle.rm_model.specs.declared.parts.Model.{Model}
 use Rattle.cover_decompose.specs.Built.{IsBuildable, IsBuilt, readers_in}
 use Rattle.cover_decompose.specs.Count.{decomposed}
 use Rattle.cover_decompose.specs.Decomposition.{last_state, net_of_model}
-use Rattle.cover_decompose.proofs.Counted.{observed_count}
+use Rattle.cover_decompose.proofs.Counted.{length-mapped, observed_count}
 use Rattle.cover_decompose.proofs.Fitting.{few_nodes}
 use Rattle.cover_decompose.proofs.Sums.{sum-total}
 use Rattle.cover_decompose.proofs.WellFormed.{made, wires_made}
@@ -41,10 +41,6 @@ pub observed_below : (m : Model) (nodes observed : List ℕ) (listed : List Node
 observed_below m nodes observed listed el e =
     subst (λ (l : List Node). All (λ k. slice_index nodes k < length l) observed) (sym el)
     (each_below (slice_index nodes) (last_state m).node_of (length (last_state m).made) observed (observed_names m) e (made m).nodes)
-
-length-mapped : {A B : Type 0} (f : A → B) (xs : List A) → length (map f xs) ≡ length xs
-length-mapped f [] = refl
-length-mapped f (x ∷ xs) = ap (λ (n : ℕ). suc n) (length-mapped f xs)
 
 pub observed_few : (m : Model) (nodes observed : List ℕ) → map (slice_index nodes) observed ≡ (net_of_model m).observed → length observed ≡ length (observed_names m)
 observed_few m nodes observed e = sym (length-mapped (slice_index nodes) observed) ∙ (ap (λ (l : List ℕ). length l) e ∙ observed_count m)

@@ -1,10 +1,10 @@
 -- Which nodes an edit changes.
-use Rattle.std.proofs.Common.{Err, List, None, Ok, Option, Result, Some, [], ap, arith, inl, inr, length, map, refl, suc, sym, zero, ℕ, ◌<◌, ◌∙◌, ◌∷◌, ◌≡◌, ◌≢◌}
+use Rattle.std.proofs.Common.{Err, List, None, Ok, Option, Result, Some, [], ap, arith, inl, inr, map, refl, suc, sym, ℕ, ◌∙◌, ◌∷◌, ◌≡◌, ◌≢◌}
 use Rattle.std.proofs.lemmas.Bool.Decides.{eqb_tells}
 use Rattle.std.specs.Prelude.{IfOk, slice_get}
 use Rattle.gate_net.specs.Edits.{DiffersAt, IsLeastFree, node_redirected, redirected, with_drivers, with_readers_moved}
 use Rattle.gate_net.proofs.Public.{node_at-moved, node_at-other}
-use Rattle.gate_net.specs.Net.{Net, Node, Reads, drivers_in, drivers_of, node_at}
+use Rattle.gate_net.specs.Net.{Net, Node, Reads, drivers_in, node_at}
 use Rattle.fault_sim.proofs.Lists.{below_or}
 use Rattle.gate_net.specs.Edits.{IsSameBut}
 
@@ -17,7 +17,7 @@ drivers_changed net after gate drivers xs e one x none = ap (λ (n : Net). node_
 pub one_changed : (net after : Net) (gate : ℕ) (xs : List ℕ) → DiffersAt net after gate → xs ≡ gate ∷ [] → IsSameBut net after xs
 one_changed net after gate xs differs one x none = differs.others x (not_one xs gate x one none)
 
-unread_same : (from to : ℕ) (ds : List ℕ) → ((p : ℕ) → slice_get ds p ≡ Some from → ⊥) → map (redirected from to) ds ≡ ds
+pub unread_same : (from to : ℕ) (ds : List ℕ) → ((p : ℕ) → slice_get ds p ≡ Some from → ⊥) → map (redirected from to) ds ≡ ds
 unread_same from to [] none = refl
 unread_same from to (d ∷ ds) none = elim (eqb_tells d from) [
   | inl same ↦ absurd (none 0 (ap Some same.1))

@@ -4,3 +4,4 @@
 pub use Rattle.fault_sim.proofs.LaneLaws.{lane_and, lane_not, lane_zero}
 -- Lanes in which an observed node differs.
 pub use Rattle.fault_sim.proofs.Seeing.{first_lane}
+pub use Rattle.fault_sim.proofs.ChangedNodes.{unread_same}

@@ -12,7 +12,7 @@ use Rattle.gate_net.specs.Paths.{Reaches}
 use Rattle.gate_net.specs.Net.{IsLive}
 use Rattle.gate_net.specs.Values.{IsJunction}
 use Rattle.gate_graph.proofs.NetRanks.{pins_keep_acyclic}
-use Rattle.pin_pool.proofs.Public.{changed-other, changed-same, has-push, same-rings, without-absent, without-push}
+use Rattle.pin_pool.proofs.Public.{changed-back, changed-other, changed-same, has-push, same-rings, without-absent, without-push}
 use Rattle.pin_pool.specs.Ring.{has}
 use Rattle.pin_pool.specs.Pins.{list_of}
 use Rattle.pin_pool.specs.Rings.{Rings, AreRings, AreOnce, rings_of, linked, dropped, changed, all_without, IsOut}
@@ -54,12 +54,6 @@ pub without-pushed : (f : ℕ → List ℕ) (g p : ℕ) → IsOut f p → all_wi
 without-pushed f g p out = fun_ext (λ n. elim (cases_eq n g) [
   | inl e ↦ rw (e, changed-same f g (f g ++ p ∷ [])) (without-push p (f g) (out g))
   | inr ne ↦ rw (changed-other f g (f g ++ p ∷ []) n ne) (without-absent p (f n) (out n))
-])
-
-pub changed-back : {A : Type 0} (f : ℕ → A) (n : ℕ) (x : A) → changed (changed f n x) n (f n) ≡ f
-changed-back f n x = fun_ext (λ m. elim (cases_eq m n) [
-  | inl e ↦ rw (e, changed-same (changed f n x) n (f n)) refl
-  | inr ne ↦ rw (changed-other (changed f n x) n (f n) m ne, changed-other f n x m ne) refl
 ])
 
 -- a pin that isn't taken is in no list

@@ -9,7 +9,7 @@ use Rattle.std.specs.List.{AllByRecursion}
 use Rattle.gate_net.specs.Values.{HasPin}
 use Rattle.gate_net.specs.Faults.{fault_at, pin_faults, faults_from, faults_of}
 
-get_below : (xs : List ℕ) (p : ℕ) → p < length xs → (x : ℕ) × (slice_get xs p ≡ Some x)
+pub get_below : (xs : List ℕ) (p : ℕ) → p < length xs → (x : ℕ) × (slice_get xs p ≡ Some x)
 get_below [] p l = absurd (omega arith)
 get_below (x ∷ xs) zero l = (x, refl)
 get_below (x ∷ xs) (suc p) l = get_below xs p (omega arith)

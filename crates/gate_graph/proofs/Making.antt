@@ -5,7 +5,7 @@ use Rattle.gate_net.specs.declared.Kind.{Kind}
 use Rattle.gate_net.specs.declared.Kind.TheVariants.{Source, Zero, One, Not}
 use Rattle.gate_net.specs.Net.{node_at}
 use Rattle.gate_net.specs.Net.{IsLive}
-use Rattle.pin_pool.proofs.Public.{changed-other, changed-same}
+use Rattle.pin_pool.proofs.Public.{changed-back, changed-other, changed-same}
 use Rattle.pin_pool.specs.Ring.{has}
 use Rattle.pin_pool.specs.Pins.{list_of}
 use Rattle.pin_pool.specs.declared.names.PinNo.{PinNo}
@@ -21,7 +21,7 @@ use Rattle.gate_graph.proofs.LeadOns.{lead-by, live-in, within-length}
 use Rattle.gate_graph.proofs.Firsts.{first-changed, gate-no_first, none-no_first}
 use Rattle.gate_graph.proofs.Pinned.{dead-pins}
 use Rattle.gate_graph.proofs.Numbers.{has-free}
-use Rattle.gate_graph.proofs.Appended.{pushed, pushed-has, pushed-keeps, pushed-had, fresh-out, dropped-linked, changed-back}
+use Rattle.gate_graph.proofs.Appended.{pushed, pushed-has, pushed-keeps, pushed-had, fresh-out, dropped-linked}
 
 pub free-found : (kinds : List (Option Kind)) (n : ℕ) → 0 < free_in kinds → kinds_live kinds n → n < length kinds
 free-found kinds n some live = elim (cases_lt n (length kinds)) [

@@ -2,7 +2,7 @@
 use Rattle.std.proofs.Common.{◌≡◌, ◌≢◌, ℕ, zero, suc, List, [], ◌∷◌, map, Option, Some, None, refl, ap}
 use Rattle.std.specs.Prelude.{slice_get, slice_set}
 use Rattle.gate_net.specs.Net.{Node, Net, node_at, flatten_option, drivers_in}
-use Rattle.gate_net.specs.Edits.{with_drivers, redirected, node_redirected, with_readers_moved}
+use Rattle.gate_net.specs.Edits.{with_drivers, redirected, node_redirected}
 
 set-other : {A : Type 0} (xs : List A) (p q : ℕ) (a : A) → (q ≡ p → ⊥) → slice_get (slice_set xs p a) q ≡ slice_get xs q
 set-other [] p q a ne = refl
@@ -25,15 +25,6 @@ node_at-other net gate drivers x ne = ap flatten_option (set-other net.nodes gat
 
 pub node_at-there : (net : Net) (gate : ℕ) (drivers : List ℕ) (n : Node) → node_at net gate ≡ Some n → node_at (with_drivers net gate drivers) gate ≡ Some (record n { drivers = drivers })
 node_at-there net gate drivers n e = rw e (ap flatten_option (set-there net.nodes gate (Some n) (Some (record n { drivers = drivers })) (flatten-some (slice_get net.nodes gate) n e)))
-
-flatten-map : (from to : ℕ) (os : List (Option Node)) (x : ℕ) → flatten_option (slice_get (map (node_redirected from to) os) x) ≡ node_redirected from to (flatten_option (slice_get os x))
-flatten-map from to [] x = refl
-flatten-map from to (None ∷ os) zero = refl
-flatten-map from to (Some n ∷ os) zero = refl
-flatten-map from to (o ∷ os) (suc x) = flatten-map from to os x
-
-pub node_at-moved : (net : Net) (from to x : ℕ) → node_at (with_readers_moved net from to) x ≡ node_redirected from to (node_at net x)
-node_at-moved net from to x = flatten-map from to net.nodes x
 
 pub drivers-redirected : (from to : ℕ) (o : Option Node) → drivers_in (node_redirected from to o) ≡ map (redirected from to) (drivers_in o)
 drivers-redirected from to None = refl

@@ -1,26 +1,12 @@
 -- New ranks after a change of a net.
-use Rattle.std.proofs.Common.{◌≡◌, ℕ, zero, suc, ◌<◌, ◌≤◌, ◌+◌, List, [], ◌∷◌, ◌++◌, map, Some, Bool, true, false, ◌||◌, ◌⊎◌, inl, inr, refl, ap, arith}
-use Rattle.std.specs.Prelude.{slice_get, nat_eq, if◌then◌else◌}
-use Rattle.std.specs.List.{list_any}
-use Rattle.std.proofs.lemmas.Bool.{eq-eqb, eqb-true}
+use Rattle.std.proofs.Common.{◌≡◌, ℕ, suc, ◌<◌, ◌+◌, [], ◌∷◌, ◌++◌, map, Some, Bool, true, false, ◌||◌, ◌⊎◌, inl, inr, refl, arith}
+use Rattle.std.specs.Prelude.{slice_get, if◌then◌else◌}
 use Rattle.std.proofs.lemmas.Bool.Decides.{eqb_tells}
-use Rattle.gate_net.specs.Net.{Net, node_at, drivers_of, Reads, IsAcyclic, IsRanked}
-use Rattle.gate_net.specs.Paths.{Reaches, pin, on}
+use Rattle.gate_net.proofs.Public.{IsUpward, LeadsIn, after_right, after_there, after_upward, is_after, last_cases, node_at-moved, redirect_cases}
+use Rattle.gate_net.specs.Net.{Net, node_at, drivers_of, Reads, IsAcyclic}
 use Rattle.gate_net.specs.Edits.{with_pin, redirected, with_readers_moved}
 use Rattle.gate_net.specs.Laws.{PinsKeepAcyclic, MovesKeepAcyclic}
-use Rattle.gate_graph.proofs.NetEdits.{node_at-other, node_at-there, node_at-moved, drivers-redirected}
-
-or_either : (b c : Bool) → (b || c) ≡ true → (b ≡ true) ⊎ (c ≡ true)
-or_either true c e = inl refl
-or_either false c e = inr e
-
--- a set of nodes that holds, with each node, all its readers
-abbrev pub IsUpward : Net → (ℕ → Bool) → Type 0
-IsUpward net test = (y p x : ℕ) → Reads net y p x → test x ≡ true → test y ≡ true
-
--- each pin is one of before, or leads into the set from outside
-abbrev pub LeadsIn : Net → Net → (ℕ → Bool) → ℕ → Type 0
-LeadsIn net after test u = (y p x : ℕ) → Reads after y p x → ((q : ℕ) × Reads net y q x) ⊎ ((x ≡ u) × (test y ≡ true))
+use Rattle.gate_graph.proofs.NetEdits.{node_at-other, node_at-there, drivers-redirected}
 
 module _ (net after : Net) (acyclic : IsAcyclic net) (test : ℕ → Bool) (upward : IsUpward net test) (u : ℕ) (outside : test u ≡ false) (leads : LeadsIn net after test u) where
   abbrev lifted : ℕ → ℕ
@@ -44,68 +30,13 @@ module _ (net after : Net) (acyclic : IsAcyclic net) (test : ℕ → Bool) (upwa
   pub acyclic_lifted : IsAcyclic after
   acyclic_lifted = (lifted, λ y p x reads. elim (leads y p x reads) [ inl old ↦ old_edge y old.0 x old.1 | inr new ↦ new_edge y x new.0 new.1 ])
 
--- whether a node is the gate or reached from it, looking back n pins
-abbrev pub is_after : ℕ → Net → ℕ → ℕ → Bool
-is_after zero net gate y = nat_eq y gate
-is_after (suc n) net gate y = nat_eq y gate || list_any (is_after n net gate) (drivers_of net y)
-
 pub or_true : (b : Bool) → (b || true) ≡ true
 or_true true = refl
 or_true false = refl
 
-any_at : (test : ℕ → Bool) (ds : List ℕ) → list_any test ds ≡ true → (p : ℕ) × ((x : ℕ) × ((slice_get ds p ≡ Some x) × (test x ≡ true)))
-any_at test [] e = cc
-any_at test (d ∷ ds) e = elim (or_either (test d) (list_any test ds) e) [
-  | inl here ↦ (0, (d, (refl, here)))
-  | inr later ↦ let rest : (p : ℕ) × ((x : ℕ) × ((slice_get ds p ≡ Some x) × (test x ≡ true))) = any_at test ds later in (suc rest.0, (rest.1.0, rest.1.1))
-]
-
-pub at_any : (test : ℕ → Bool) (ds : List ℕ) (p x : ℕ) → slice_get ds p ≡ Some x → test x ≡ true → list_any test ds ≡ true
-at_any test [] p x there e = cc
-at_any test (d ∷ ds) zero x there e = let is : d ≡ x = cc in rw (is, e) refl
-at_any test (d ∷ ds) (suc p) x there e = rw (at_any test ds p x there e) (or_true (test d))
-
-pub after_right : (net : Net) (gate n y : ℕ) → is_after n net gate y ≡ true → (y ≡ gate) ⊎ Reaches net gate y
-after_right net gate zero y e = inl (eqb-true y gate e)
-after_right net gate (suc n) y e = elim (or_either (nat_eq y gate) (list_any (is_after n net gate) (drivers_of net y)) e) [
-  | inl here ↦ inl (eqb-true y gate here)
-  | inr later ↦
-      let found : (p : ℕ) × ((x : ℕ) × (Reads net y p x × (is_after n net gate x ≡ true))) = any_at (is_after n net gate) (drivers_of net y) later in
-      inr (elim (after_right net gate n found.1.0 found.1.1.1) [ inl is ↦ pin found.0 (rw is at found.1.1.0) | inr path ↦ on found.0 path found.1.1.0 ])
-]
-
-pub after_there : (net : Net) (gate n : ℕ) → is_after n net gate gate ≡ true
-after_there net gate zero = eq-eqb gate gate refl
-after_there net gate (suc n) = rw (eq-eqb gate gate refl) refl
-
--- looking back further than the ranks tells the same
-after_more : (net : Net) (rank : ℕ → ℕ) → IsRanked net rank → (gate n m y : ℕ) → rank y ≤ n → is_after m net gate y ≡ true → is_after n net gate y ≡ true
-after_more net rank ranked gate n zero y h e = rw (eqb-true y gate e) (after_there net gate n)
-after_more net rank ranked gate n (suc m) y h e = elim (or_either (nat_eq y gate) (list_any (is_after m net gate) (drivers_of net y)) e) [
-  | inl here ↦ rw (eqb-true y gate here) (after_there net gate n)
-  | inr later ↦ further n h (any_at (is_after m net gate) (drivers_of net y) later) (λ x k below e. after_more net rank ranked gate k m x below e)
-]
-  where
-    further : (n : ℕ) → rank y ≤ n → (found : (p : ℕ) × ((x : ℕ) × (Reads net y p x × (is_after m net gate x ≡ true)))) → ((x k : ℕ) → rank x ≤ k → is_after m net gate x ≡ true → is_after k net gate x ≡ true) → is_after n net gate y ≡ true
-    further zero h found ih = let below : rank found.1.0 < rank y = ranked y found.0 found.1.0 found.1.1.0 in absurd (omega arith)
-    further (suc n) h found ih =
-        let below : rank found.1.0 < rank y = ranked y found.0 found.1.0 found.1.1.0 in
-        rw (at_any (is_after n net gate) (drivers_of net y) found.0 found.1.0 found.1.1.0 (ih found.1.0 n (omega arith) found.1.1.1)) (or_true (nat_eq y gate))
-
-pub after_upward : (net : Net) (acyclic : IsAcyclic net) (gate : ℕ) → IsUpward net (λ y. is_after (acyclic.0 y) net gate y)
-after_upward net acyclic gate y p x reads e =
-    let step : is_after (suc (acyclic.0 x)) net gate y ≡ true = rw (at_any (is_after (acyclic.0 x) net gate) (drivers_of net y) p x reads e) (or_true (nat_eq y gate)) in
-    after_more net acyclic.0 acyclic.1 gate (acyclic.0 y) (suc (acyclic.0 x)) y (omega arith) step
-
 pub not_after : (b : Bool) → (b ≡ true → ⊥) → b ≡ false
 not_after true h = absurd (h refl)
 not_after false h = refl
-
-last_cases : (ds : List ℕ) (d p x : ℕ) → slice_get (ds ++ d ∷ []) p ≡ Some x → (slice_get ds p ≡ Some x) ⊎ (x ≡ d)
-last_cases [] d zero x e = inr cc
-last_cases [] d (suc p) x e = inl e
-last_cases (y ∷ ds) d zero x e = inl e
-last_cases (y ∷ ds) d (suc p) x e = last_cases ds d p x e
 
 pub pins_keep_acyclic : PinsKeepAcyclic
 pins_keep_acyclic net gate driver acyclic live ne apart =
@@ -124,14 +55,6 @@ pins_keep_acyclic net gate driver acyclic live ne apart =
             | inr is ↦ inr (is, rw t.1 (after_there net gate (acyclic.0 gate)))
           ]
     ]
-
-redirect_cases : (from to : ℕ) (ds : List ℕ) (p x : ℕ) → slice_get (map (redirected from to) ds) p ≡ Some x → (slice_get ds p ≡ Some x) ⊎ ((x ≡ to) × (slice_get ds p ≡ Some from))
-redirect_cases from to [] p x e = inl e
-redirect_cases from to (d ∷ ds) zero x e = elim (eqb_tells d from) [
-  | inl t ↦ let e' : Some to ≡ Some x = rw t.0 at e in inr (cc, ap Some t.1)
-  | inr t ↦ let e' : Some d ≡ Some x = rw t.0 at e in inl e'
-]
-redirect_cases from to (d ∷ ds) (suc p) x e = redirect_cases from to ds p x e
 
 pub moves_keep_acyclic : MovesKeepAcyclic
 moves_keep_acyclic net from to acyclic ne apart =

@@ -3,7 +3,7 @@ use Rattle.std.proofs.Common.{◌≡◌, ◌≢◌, ℕ, ◌+◌, ◌<◌, true,
 use Rattle.std.specs.Prelude.{slice_get}
 use Rattle.std.specs.Option.{option_map}
 use mathlib.Core.Path.{fun_ext}
-use Rattle.std.proofs.lemmas.Bool.{cases_eq, ne_eqb, eq-eqb, false≢true, false_from_ne_true}
+use Rattle.std.proofs.lemmas.Bool.{cases_eq, ne_eqb, false≢true, false_from_ne_true}
 use Rattle.std.proofs.lemmas.Option.{slice_get-map}
 use Rattle.std.proofs.lemmas.List.{length-map}
 use Rattle.gate_net.specs.declared.Kind.{Kind}
@@ -11,8 +11,8 @@ use Rattle.gate_net.specs.declared.Kind.TheVariants.{Source, Zero, One, And, Or,
 use Rattle.gate_net.specs.Net.{node_at, drivers_of}
 use Rattle.gate_net.specs.Net.{IsGate, IsGateKind}
 use Rattle.gate_net.specs.Edits.{IsUnread, DiffersAt}
-use Rattle.pin_pool.proofs.Public.{changed-other, changed-same}
-use Rattle.pin_pool.specs.Ring.{has, without}
+use Rattle.pin_pool.proofs.Public.{changed-back, changed-other, changed-same, length-without}
+use Rattle.pin_pool.specs.Ring.{has}
 use Rattle.pin_pool.specs.Pins.{Pins, list_of}
 use Rattle.pin_pool.specs.declared.names.PinNo.{PinNo}
 use Rattle.pin_pool.specs.declared.names.Slot.{Slot}
@@ -30,17 +30,7 @@ use Rattle.gate_graph.specs.Readers.{GateGoes}
 use Rattle.gate_graph.proofs.Extended.{fans-stripped, fans-none}
 use Rattle.gate_graph.proofs.Ranked.{reads-by, some-at}
 use Rattle.gate_graph.proofs.KindAt.{kind-within}
-use Rattle.gate_graph.proofs.Appended.{changed-back}
 use Rattle.gate_graph.proofs.Removed.{had, keeps, elsewhere, back-removed}
-
-length-without : (p : ℕ) (xs : List ℕ) → has p xs ≡ true → length (without p xs) + 1 ≡ length xs
-length-without p [] h = cc
-length-without p (x ∷ xs) h = elim (cases_eq p x) [
-  | inl is ↦ rw (eq-eqb p x is) (omega arith)
-  | inr ne ↦
-      let later : has p xs ≡ true = rw (ne_eqb p x ne) at h in
-      rw (ne_eqb p x ne) (omega (arith, length-without p xs later))
-]
 
 -- before any pin goes
 pub emptied-start : (v : Circuit) (g : ℕ) (es : List Entry) → AreRings (rings_of v.pool) → IsWired (wiring v) → IsEmptied v v g es es

@@ -20,15 +20,15 @@ pub use Rattle.gate_net.proofs.Follows.{value_back_right, value_forward_right}
 -- The values of gates.
 pub use Rattle.gate_net.proofs.Junctions.{controlled, first_is, gate_more, junction_member}
 -- Readers that move keep the values and the order.
-pub use Rattle.gate_net.proofs.Moved.{drivers_redirected, moves_keep, moves_keep_acyclic, node_at-moved}
+pub use Rattle.gate_net.proofs.Moved.{drivers_redirected, flatten-map, moves_keep, moves_keep_acyclic, node_at-moved, redirect_cases}
 pub use Rattle.gate_net.proofs.Moved.{redirect_cases}
 -- New ranks after an edit.
-pub use Rattle.gate_net.proofs.Ordered.{after_right, after_there, after_upward, is_after, pins_keep_acyclic}
+pub use Rattle.gate_net.proofs.Ordered.{IsUpward, LeadsIn, after_more, after_right, after_there, after_upward, is_after, pins_keep_acyclic}
 -- What stands at a place of a list.
-pub use Rattle.gate_net.proofs.Places.{last_cases, map_agree, map_at, map_last_set, map_pointwise, map_set, set_cases}
+pub use Rattle.gate_net.proofs.Places.{any_at, at_any, last_cases, map_agree, map_at, map_last_set, map_pointwise, map_set, set_cases, set_there}
 pub use Rattle.gate_net.proofs.Places.{set_other, set_there}
 -- Forward reading is right, and there is only one.
-pub use Rattle.gate_net.proofs.Readings.{both_known, readings_agree, readings_hold}
+pub use Rattle.gate_net.proofs.Readings.{both_known, list_all_agree, readings_agree, readings_hold}
 -- How far a fault changes values.
 pub use Rattle.gate_net.proofs.Spread.{chain_reader, chain_start, same_elsewhere, same_idle, same_observed}
 pub use Rattle.gate_net.proofs.Spread.{same_outside}

@@ -79,7 +79,7 @@ pub readings_hold : ReadingsHold
 readings_hold net fault acyclic known m reading a v f completes run = reading_right net fault a v f run acyclic known completes m reading
 
 -- ONLY ONE
-list_all_agree : (test other : ℕ → Bool) (ds : List ℕ) → ((p x : ℕ) → slice_get ds p ≡ Some x → test x ≡ other x) → list_all test ds ≡ list_all other ds
+pub list_all_agree : (test other : ℕ → Bool) (ds : List ℕ) → ((p x : ℕ) → slice_get ds p ≡ Some x → test x ≡ other x) → list_all test ds ≡ list_all other ds
 list_all_agree test other [] h = refl
 list_all_agree test other (d ∷ ds) h =
     let first : test d ≡ other d = h 0 d refl in

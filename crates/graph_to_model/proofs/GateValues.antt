@@ -4,6 +4,7 @@ use Rattle.std.specs.Prelude.{if◌then◌else◌, replicate, Some, nat_le}
 use Rattle.std.proofs.lemmas.Bool.{ne_eqb}
 use Rattle.std.proofs.lemmas.List.Elements.{All-cons, All-nil, All-head, All-tail}
 use Rattle.std.specs.List.{list_any}
+use Rattle.graph_to_model.proofs.Named.{some_told}
 use Rattle.rm_model.specs.Words.{Word}
 use Rattle.rm_model.specs.Value.{row_matches, value_of, value_of_rows}
 use Rattle.rm_model.specs.WellFormed.{IsWellFormedCover}
@@ -17,9 +18,6 @@ use Rattle.gate_net.specs.Net.{IsGateKind}
 use Rattle.gate_net.specs.Values.{junction, not_first, gate_value}
 use Rattle.graph_to_model.specs.NetModel.{row_per_pin, gate_cover_of}
 use Rattle.graph_to_model.specs.Wires.{is_copy}
-
-some_told : {A : Type 0} (a b : A) → Some a ≡ Some b → a ≡ b
-some_told a b e = cc
 
 -- a row of 1s matches where all are 1
 pub ones_match : (bs : List Bool) → row_matches (replicate (length bs) One) bs ≡ junction false bs

@@ -1,17 +1,13 @@
 -- The free prefix begins no kept name.
-use Rattle.std.proofs.Common.{◌≡◌, ◌≢◌, ◌≤◌, ◌<◌, ◌+◌, ◌^◌, ℕ, zero, suc, Bool, true, false, not, ◌&&◌, ◌||◌, List, [], ◌∷◌, ◌++◌, length, refl, sym, ◌∙◌, ap, arith, append_assoc, nat_eq, inl, inr, ◌%◌}
+use Rattle.std.proofs.Common.{◌≡◌, ◌≢◌, ◌≤◌, ◌<◌, ◌+◌, ◌^◌, ℕ, zero, suc, Bool, true, false, not, ◌||◌, List, [], ◌∷◌, ◌++◌, length, refl, sym, ◌∙◌, ap, arith, append_assoc, nat_eq, inl, inr, ◌%◌}
 use Rattle.std.specs.Prelude.{if◌then◌else◌}
 use Rattle.std.specs.Fmt.{decimal}
 use Rattle.std.specs.List.{list_any, starts_with}
 use Rattle.std.proofs.lemmas.Fmt.{decimal_by_steps, decimal_injective}
 use Rattle.std.proofs.lemmas.Bool.Decides.{eqb_tells}
+use Rattle.gate_net.proofs.Public.{and_both, not_not}
 use Rattle.rm_model.specs.Words.{Word}
 use Rattle.graph_to_model.specs.Names.{prefix, is_free, least_free}
-
-and_both : (b c : Bool) → (b && c) ≡ true → (b ≡ true) × (c ≡ true)
-and_both true true e = (refl, refl)
-and_both true false e = cc
-and_both false c e = cc
 
 -- what begins with a text is that text and more
 pub begins : (p x : Word) → starts_with nat_eq x p ≡ true → (y : Word) × (x ≡ p ++ y)
@@ -97,10 +93,6 @@ any-without : (f g : Word → Bool) (xs : List Word) → ((x : Word) → f x ≡
 unfolding without_first
 any-without f g [] h = refl
 any-without f g (x ∷ xs) h = any_step f g x xs (f x) (h x) (any-without f g xs h)
-
-not_not : (b : Bool) → not (not b) ≡ b
-not_not true = refl
-not_not false = refl
 
 fewer : (tries t : ℕ) (xs : List Word) → length xs ≤ suc tries → list_any (begins_at t) xs ≡ true → length (without_first (begins_at t) xs) ≤ tries
 fewer tries t xs few e = let less : suc (length (without_first (begins_at t) xs)) ≡ length xs = one_less (begins_at t) xs e in omega arith

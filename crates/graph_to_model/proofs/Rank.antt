@@ -2,6 +2,7 @@
 use Rattle.std.proofs.Common.{◌≡◌, ◌≢◌, ◌≤◌, ◌<◌, ◌+◌, ◌^◌, ℕ, zero, suc, Bool, true, false, ◌&&◌, List, [], ◌∷◌, ◌++◌, length, refl, sym, ◌∙◌, ap, arith, subst, ◌⊎◌, inl, inr, All, max}
 use Rattle.std.specs.Prelude.{Option, None, Some, if◌then◌else◌}
 use Rattle.std.proofs.lemmas.Bool.Decides.{eqb_tells}
+use Rattle.rm_model.proofs.Public.{both}
 use Rattle.rm_model.specs.Words.{Word, is_word}
 use Rattle.rm_model.specs.Value.{source_names, observed_names, is_cover_output, IsRanked}
 use Rattle.rm_model.specs.WellFormed.{is_distinct}
@@ -23,10 +24,6 @@ apart : (xs ys : List Word) (x : Word) → is_distinct (xs ++ ys) ≡ true → I
 apart [] ys x e i j = i
 apart (y ∷ xs) ys x e (inl same) j = distinct_head y (xs ++ ys) e (subst (In (xs ++ ys)) (sym same) (in_right xs ys x j))
 apart (y ∷ xs) ys x e (inr i) j = apart xs ys x (distinct_tail y (xs ++ ys) e) i j
-
-both : (a b : Bool) → (a && b) ≡ true → (a ≡ true) × (b ≡ true)
-both true b e = (refl, e)
-both false b e = absurd cc
 
 gate_node : (o : Option Node) (net : Net) (n : ℕ) → node_at net n ≡ o → is_gate net n ≡ true → IsGateNumber net n
 gate_node None net n at e = let bad : false ≡ true = rw at at e in absurd cc

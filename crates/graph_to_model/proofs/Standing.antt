@@ -5,6 +5,7 @@ use Rattle.std.proofs.lemmas.Option.{slice_get_within}
 use Rattle.std.proofs.lemmas.Bool.{eq-eqb}
 use Rattle.std.proofs.lemmas.Bool.Decides.{eqb_tells}
 use Rattle.std.proofs.lemmas.List.Elements.{All-head, All-tail}
+use Rattle.graph_to_model.proofs.Pins.{map_words}
 use Rattle.rm_model.specs.Words.{Word}
 use Rattle.rm_model.specs.Value.{source_names, observed_names, value_of, IsConsistent}
 use Rattle.rm_model.specs.declared.parts.Literal.TheVariants.{One as One1}
@@ -24,7 +25,7 @@ use Rattle.graph_to_model.proofs.Covers.{IsWritable, output_names, in_copies, co
 use Rattle.graph_to_model.proofs.Outputs.{gates, had, copies, cover_number}
 use Rattle.graph_to_model.proofs.Formed.{HasName, IsGateNumber, cover_at, driver_named, live_named, one_pin_not}
 
-all_at : {X : Type 0} (P : X → Type 0) (xs : List X) (x : X) → All P xs → In xs x → P x
+pub all_at : {X : Type 0} (P : X → Type 0) (xs : List X) (x : X) → All P xs → In xs x → P x
 all_at P [] x h i = absurd i
 all_at P (y ∷ xs) x h (inl e) = subst P e (All-head P y xs h)
 all_at P (y ∷ xs) x h (inr i) = all_at P xs x (All-tail P y xs h) i
@@ -43,10 +44,6 @@ map_agree v w (d ∷ ds) h =
 map_length : {A : Type 0} (f : A → Bool) (ds : List A) → length (map f ds) ≡ length ds
 map_length f [] = refl
 map_length f (d ∷ ds) = ap suc (map_length f ds)
-
-map_words : (f : ℕ → Word) (ds : List ℕ) → length (map f ds) ≡ length ds
-map_words f [] = refl
-map_words f (d ∷ ds) = ap suc (map_words f ds)
 
 -- lists agree where they agree at each place
 same_lists : (xs ys : List Bool) → length xs ≡ length ys → ((k : ℕ) (b : Bool) → slice_get ys k ≡ Some b → slice_get xs k ≡ Some b) → xs ≡ ys

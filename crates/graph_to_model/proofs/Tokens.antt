@@ -5,6 +5,8 @@ use Rattle.std.specs.Fmt.{decimal}
 use Rattle.std.specs.List.{list_all}
 use Rattle.std.proofs.lemmas.Fmt.{decimal_by_steps}
 use Rattle.std.proofs.lemmas.Bool.{lt-ltb, ne_eqb}
+use Rattle.graph_to_model.proofs.Covers.{and_true}
+use Rattle.rm_model.proofs.Public.{both}
 use Rattle.rm_model.specs.Words.{Word}
 use Rattle.rm_model.specs.WellFormed.{is_word_byte, ends_in_backslash, is_token}
 use Rattle.rm_model.specs.declared.parts.Model.{Model}
@@ -17,14 +19,6 @@ is_plain b = is_word_byte b && not (nat_eq b 92)
 plain_digit : (d : ℕ) → d < 10 → is_plain (48 + d) ≡ true
 plain_digit d h =
     rw (lt-ltb 32 (48 + d) (omega arith), ne_eqb (48 + d) 35 (λ (e : 48 + d ≡ 35). let f : ⊥ = omega arith in f), ne_eqb (48 + d) 127 (λ (e : 48 + d ≡ 127). let f : ⊥ = omega arith in f), ne_eqb (48 + d) 92 (λ (e : 48 + d ≡ 92). let f : ⊥ = omega arith in f)) refl
-
-and_true : (a b : Bool) → a ≡ true → b ≡ true → (a && b) ≡ true
-and_true true b e f = f
-and_true false b e f = absurd cc
-
-both : (a b : Bool) → (a && b) ≡ true → (a ≡ true) × (b ≡ true)
-both true b e = (refl, e)
-both false b e = absurd cc
 
 all-append : (xs ys : Word) → list_all is_plain xs ≡ true → list_all is_plain ys ≡ true → list_all is_plain (xs ++ ys) ≡ true
 all-append [] ys h k = k

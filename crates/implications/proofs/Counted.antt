@@ -13,11 +13,8 @@ use Rattle.implications.specs.declared.counts.Count.{Count}
 use Rattle.implications.specs.declared.tallies.Tally.{Tally}
 use Rattle.refutation.specs.Closing.{IsClashFree}
 use Rattle.refutation.specs.Facts.{Held, known_equal, known_faulty, known_good, one_of}
-use Rattle.refutation.proofs.Public.{all_not_any}
+use Rattle.refutation.proofs.Public.{all_not_any, some_is}
 use Rattle.refutation.specs.declared.reasoning.Fact.TheVariants.{Differs, Equal, Faulty, Good}
-
-some_is : {A : Type 0} {a b : A} → Some a ≡ Some b → a ≡ b
-some_is e = cc
 
 -- AN AND OR AN OR
 module _ (n : Count) (c : Bool) (os : List (Option Bool)) (known : Option Bool) (h : IsCount n c os) where

@@ -5,9 +5,7 @@ use Rattle.std.specs.Prelude.{slice_get, slice_set}
 use Rattle.gate_net.specs.Forward.{all_but}
 use Rattle.implications.specs.Counts.{one_if}
 use Rattle.implications.specs.Tallies.{counting}
-
-some_is : {A : Type 0} {a b : A} → Some a ≡ Some b → a ≡ b
-some_is e = cc
+use Rattle.refutation.proofs.Public.{some_is}
 
 pub counting_cons : {A : Type 0} (test : A → Bool) (x : A) (xs : List A) → counting test (x ∷ xs) ≡ one_if (test x) + counting test xs
 counting_cons test x xs = at (test x) refl

@@ -21,7 +21,7 @@ use Rattle.implications.specs.declared.pulls.Pull.TheVariants.{Gate, Pin}
 use Rattle.refutation.specs.Closing.{IsClashFree}
 use Rattle.refutation.specs.FactSets.{held_by}
 use Rattle.refutation.specs.Facts.{Held, known_equal, known_faulty, known_good, one_of}
-use Rattle.refutation.proofs.Public.{faulty_pins, junction_kind, known_held, one_of_true, pin_at}
+use Rattle.refutation.proofs.Public.{faulty_pins, junction_kind, known_held, one_of_true, pin_at, some_is}
 use Rattle.refutation.specs.Lines.{IsStuckPin}
 use Rattle.refutation.specs.Pins.{pin_value, pins_of, stuck_of, with_stuck}
 use Rattle.refutation.specs.declared.held.NodeFacts.{NodeFacts}
@@ -30,10 +30,6 @@ use Rattle.refutation.specs.declared.reasoning.Fact.TheVariants.{Differs, Equal,
 use Rattle.refutation.specs.declared.reasoning.Line.TheVariants.{DiffersBack, EqualForward, FaultyBack, FaultyForward, GoodBack, GoodForward, Side}
 use Rattle.rm_base.specs.declared.numbers.Fault.{Fault}
 use Rattle.rm_base.specs.declared.numbers.NodeId.{NodeId}
-
--- WHAT IS KNOWN AND WHAT IS HELD
-some_is : {A : Type 0} {a b : A} → Some a ≡ Some b → a ≡ b
-some_is e = cc
 
 abbrev if_of : Bool → Bool → Bool → Bool
 if_of t u true = u

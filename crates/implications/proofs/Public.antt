@@ -4,3 +4,4 @@
 pub use Rattle.implications.proofs.Trails.{held_past, trail_tells}
 -- Coming to rest.
 pub use Rattle.implications.proofs.Bases.{none_seen_in, rest_comes}
+pub use Rattle.implications.proofs.Places.{concludes_live, driver_live}

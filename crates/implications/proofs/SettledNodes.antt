@@ -11,6 +11,7 @@ use Rattle.implications.proofs.Places.{place_live}
 use Rattle.implications.specs.Pulls.{AreDoneEqual, AreDoneFaulty, AreDoneGood, AreDoneNot, AreDoneSide, AreDoneValues, Finds}
 use Rattle.implications.specs.Settled.{IsDone, IsNext, IsSettled}
 use Rattle.implications.specs.declared.found.Found.{Found}
+use Rattle.refutation.proofs.Public.{some_is}
 use Rattle.refutation.specs.FactSets.{held_by}
 use Rattle.refutation.specs.Facts.{Held}
 use Rattle.refutation.specs.Lines.{Concludes}
@@ -18,9 +19,6 @@ use Rattle.refutation.specs.declared.held.NodeFacts.{NodeFacts}
 use Rattle.refutation.specs.declared.reasoning.Line.TheVariants.{Act, Chain, Compare, Constant, DiffersBack, EqualForward, FaultyBack, FaultyForward, GoodBack, GoodForward, NotDiffers, NotEqual, Out, Side, Site, ToFaulty, ToGood}
 use Rattle.rm_base.specs.declared.numbers.Fault.{Fault}
 use Rattle.rm_base.specs.declared.numbers.NodeId.{NodeId}
-
-some_is : {A : Type 0} {a b : A} → Some a ≡ Some b → a ≡ b
-some_is e = cc
 
 same_id : (z y : NodeId) → Some z.0 ≡ Some y.0 → z ≡ y
 same_id z y e = ap (λ (n : ℕ). let id : NodeId = record { 0 = n } in id) (some_is e)

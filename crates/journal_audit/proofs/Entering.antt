@@ -1,6 +1,5 @@
 -- One more entry of a text that is judged so far.
-use Rattle.std.proofs.Common.{◌≡◌, ◌≢◌, ℕ, ◌^◌, ◌≤◌, true, List, ◌++◌, length, Some, Result, Ok, Err, IfErr, sym, subst, inl, inr, arith}
-use Rattle.std.specs.Prelude.{IsErrAnd}
+use Rattle.std.proofs.Common.{◌≡◌, ◌≢◌, ℕ, ◌^◌, ◌≤◌, true, List, ◌++◌, length, Some, Result, Ok, Err, sym, subst, inl, inr, arith}
 use Rattle.rm_model.specs.declared.parts.Model.{Model}
 use Rattle.journal_text.specs.declared.record.Record.{Record}
 use Rattle.journal_text.specs.declared.record.Entry.{Entry}
@@ -44,11 +43,6 @@ problem_case cuts m text more old new stage e problem j next (inr (r, (is, h))) 
 
 pub entry_problem : CutsAgree → (m : Model) (text more : List ℕ) (old new : Pending) (stage : Stage) (e : Entry) (problem : AuditProblem) → IsJudged m text old stage → NextGives old new (Ok (Some e)) → Says m stage e (Err problem) → IsTextProblem m (text ++ more) problem
 entry_problem cuts m text more old new stage e problem j next says = problem_case cuts m text more old new stage e problem j next (says j.budget j.records old.awaited j.is next.comes_there)
-
--- an error that is handed on
-pub handed_on : {V E : Type 0} (r : Result V E) (e : E) (P : E → Type 0) → IsErrAnd r (λ q. q ≡ e) → P e → IfErr r P
-handed_on (Ok x) e P h p = tt
-handed_on (Err q) e P h p = subst P (sym h) p
 
 fault_case : (m : Model) (text : List ℕ) (f : JournalFault) → (f ≢ fault.NoMemory → IsFaultyText m text f) → IsTextProblem m text (fault_problem f)
 fault_case m text (fault.BadHeader n) h = h (λ e. cc)

@@ -9,28 +9,20 @@ use Rattle.gate_net.specs.Net.{Net}
 use Rattle.blif_format.specs.Text.{text_of}
 use Rattle.cover_decompose.specs.Decomposition.{net_of_model}
 use Rattle.graph_to_model.specs.NetModel.{model_of_net}
-use Rattle.journal_text.proofs.Public.{lines_before}
+use Rattle.journal_text.proofs.Public.{kept, line_one, lines_before, record_is}
 use Rattle.journal_text.specs.declared.record.Record.{Record}
 use Rattle.journal_text.specs.declared.record.Entry.{Entry}
 use Rattle.journal_text.specs.declared.record.Entry.TheVariants as entry
 use Rattle.journal_text.specs.Cutting.{JournalsAreOne}
 use Rattle.journal_text.specs.Faults.{IsJournal, opening, whole_lines}
 use Rattle.journal_text.specs.Laws.{LinesRead}
-use Rattle.journal_text.specs.Reading.{entry_of}
-use Rattle.journal_text.specs.Text.{AreEntries, IsEntry, entries_text, entry_line, journal_entries}
+use Rattle.journal_text.specs.Text.{AreEntries, entries_text, entry_line, journal_entries}
 use Rattle.journal_check.specs.Laws.{RecordsReplay, ReplaysAccept}
 use Rattle.journal_check.specs.Replaying.{Replays, editing}
 use Rattle.journal_check.specs.declared.refusal.JournalRefusal.{JournalRefusal}
 use Rattle.journal_audit.specs.Audited.{HasAccepted, ProblemsExclude}
 use Rattle.journal_audit.specs.Judging.{BeginsWith, IsAcceptedText, IsRefusedText}
 use Rattle.journal_audit.specs.declared.problem.AuditProblem.TheVariants.{Fault, Netlist, NoJournal, NoMemory, NoOutput, Refused, Text, TooLong}
-
--- ENTRIES WITH WHICH A TEXT BEGINS
-some_entry : (d e : Entry) → Some d ≡ Some e → d ≡ e
-some_entry d e f = cc
-
-line_one : LinesRead → (d e : Entry) → IsEntry d → IsEntry e → entry_line d ≡ entry_line e → d ≡ e
-line_one laws d e v w f = some_entry d e (sym (laws.reads d v) ∙ ap entry_of f ∙ laws.reads e w)
 
 word_head : (x y : List ℕ) (xs ys : List (List ℕ)) → x ∷ xs ≡ y ∷ ys → x ≡ y
 word_head x y xs ys e = cc
@@ -59,12 +51,6 @@ journal_begins laws text es b rs begins j =
     ap whole_lines (j.is ∙ sym (append-nil (entries_text (journal_entries b rs)))) ∙ lines_before laws (journal_entries b rs) [] j.valid ∙ append-nil (map entry_line (journal_entries b rs)) in
     let lines : whole_lines text ≡ map entry_line es ++ whole_lines begins.rest = ap whole_lines begins.is ∙ lines_before laws es begins.rest begins.valid in
     entries_begin laws es (journal_entries b rs) (whole_lines begins.rest) begins.valid j.valid (sym lines ∙ whole)
-
-abbrev kept : List Record → List Entry
-kept rs = map (λ (r : Record). entry.Record r) rs
-
-record_is : (r q : Record) → entry.Record r ≡ entry.Record q → r ≡ q
-record_is r q e = cc
 
 header_is : (b c : ℕ) → entry.Header b ≡ entry.Header c → b ≡ c
 header_is b c e = cc

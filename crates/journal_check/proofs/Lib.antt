@@ -10,3 +10,4 @@ pub mod OutcomeLaws
 pub mod FollowLaws
 pub mod WithinLaws
 pub mod DecompositionLaws
+pub mod Public

@@ -1,7 +1,7 @@
 -- Steps of a journal, as they are made.
-use Rattle.std.proofs.Common.{◌≡◌, ◌≢◌, ℕ, zero, suc, ◌<◌, Bool, true, false, Option, Some, None, Ok, Err, IfSome, List, [], ◌∷◌, length, refl, ap, sym, subst, inl, inr, arith, nat_lt}
+use Rattle.std.proofs.Common.{◌≡◌, ◌≢◌, ℕ, ◌<◌, Bool, true, false, Option, Some, None, Ok, Err, IfSome, List, refl, ap, sym, subst, inl, inr, arith, nat_lt}
 use Rattle.std.proofs.lemmas.Bool.Decides.{nat_tests}
-use Rattle.std.specs.Prelude.{slice_get}
+use Rattle.gate_graph.proofs.Public.{get_below}
 use Rattle.rm_base.specs.declared.numbers.Fault.{Fault}
 use Rattle.gate_net.specs.Net.{Node, Net, IsLive, drivers_of, kind_in, node_at, wire_count}
 use Rattle.gate_net.specs.Values.{HasPin}
@@ -53,11 +53,6 @@ may_grow net s a = grows_where net s (unless_none (has_room net one_each s) Full
 -- room for one step is as good as room for many
 pub one_answer : RoomsAgree → (net : Net) (room : Room) (s : Step) (r : Option EditRefusal) → IsUnspent room → IsAnswer net room s r → IsAnswer net one_each s r
 one_answer agree net room s r some a = agree net room one_each s r some (record { pins = omega arith; nodes = omega arith; steps = omega arith }) a
-
-get_below : (xs : List ℕ) (p : ℕ) → p < length xs → (x : ℕ) × (slice_get xs p ≡ Some x)
-get_below [] p l = absurd (omega arith)
-get_below (x ∷ xs) zero l = (x, refl)
-get_below (x ∷ xs) (suc p) l = get_below xs p (omega arith)
 
 control_case : (net : Net) (gate : ℕ) (c : Bool) (o : Option Node) → node_at net gate ≡ o → gate_control (kind_in o) ≡ Some c → IsLive net gate
 control_case net gate c None e k = cc

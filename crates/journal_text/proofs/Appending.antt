@@ -1,12 +1,12 @@
 -- Texts appended to a file, one after another.
-use Rattle.std.proofs.Common.{◌≡◌, ◌≢◌, ℕ, zero, suc, ◌+◌, Option, Some, None, List, [], ◌∷◌, ◌++◌, take, length, Bool, true, false, nat_cmp, is_eq, cond, refl, sym, ◌∙◌, ap, subst, append_assoc, rules, arith}
+use Rattle.std.proofs.Common.{◌≡◌, ℕ, zero, suc, ◌+◌, Option, Some, None, List, [], ◌∷◌, ◌++◌, take, length, Bool, true, false, nat_cmp, is_eq, cond, refl, sym, ◌∙◌, ap, subst, append_assoc, rules}
 use Rattle.std.specs.Prelude.{unwrap_or, Ok, Err, Result, OnErr}
 use Rattle.std.specs.Option.{option_map}
 use Rattle.std.specs.Cmp.{Equal-is}
 use Rattle.std.specs.Cmp.Lexicographic.{nat_list_cmp_total, slice_cmp}
-use Rattle.std.specs.FinMap.{get, insert, get-insert, same_map, gets, slice_cmp-IsAntisymmetric, nat_cmp-IsAntisymmetric}
+use Rattle.std.specs.FinMap.{get, get-insert, same_map, gets, slice_cmp-IsAntisymmetric, nat_cmp-IsAntisymmetric}
 use Rattle.std.proofs.lemmas.List.{append-nil}
-use Rattle.rm_base.specs.Files.{Files, file_of, put_file, append_file}
+use Rattle.rm_base.specs.Files.{Files, put_file, append_file}
 use Rattle.rm_base.proofs.Public.{append_file-put_file}
 use Rattle.rm_base.specs.Shelves.{IsAppended}
 use Rattle.rm_base.specs.declared.outside.OutsideFault.{OutsideFault}
@@ -51,7 +51,7 @@ there_then (Some f) new name text there e =
     let some : get (append_file name text f) name ≡ Some (unwrap_or (get f name) [] ++ text) = grind (gets, rules) in
     subst (λ (o : Option Files). IsThere o name) (sym e) (λ none. cc (some, none))
 
-take_zero : (xs : List ℕ) → take 0 xs ≡ []
+pub take_zero : (xs : List ℕ) → take 0 xs ≡ []
 take_zero [] = refl
 take_zero (x ∷ xs) = refl
 

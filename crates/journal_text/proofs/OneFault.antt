@@ -1,5 +1,5 @@
 -- A text has one fault at most, and where it has none it is a journal.
-use Rattle.std.proofs.Common.{◌≡◌, ◌≢◌, ℕ, zero, suc, ◌+◌, List, [], ◌∷◌, ◌++◌, map, length, Option, Some, None, Result, Ok, Err, refl, ap, sym, subst, ◌∙◌, ◌⊎◌, inl, inr, arith, append_assoc}
+use Rattle.std.proofs.Common.{◌≡◌, ◌≢◌, ℕ, suc, ◌+◌, List, [], ◌∷◌, ◌++◌, map, length, Option, Some, None, Result, Ok, Err, refl, ap, sym, subst, ◌∙◌, ◌⊎◌, inl, inr, append_assoc}
 use Rattle.std.specs.Prelude.{IfOk, IfErr}
 use Rattle.std.proofs.lemmas.List.{append-nil, map-append}
 use Rattle.journal_text.specs.declared.record.Record.{Record}
@@ -9,17 +9,14 @@ use Rattle.journal_text.specs.declared.faults.JournalFault.{JournalFault}
 use Rattle.journal_text.specs.declared.faults.JournalFault.TheVariants as fault
 use Rattle.journal_text.specs.Pieces.{Word, behind, joined, pieces}
 use Rattle.journal_text.specs.Reading.{entry_of}
-use Rattle.journal_text.specs.Text.{IsEntry, AreEntries, entry_line, entry_text, entries_text, journal_entries}
-use Rattle.journal_text.specs.Faults.{IsFault, IsJournal, IsBadHeader, IsBadRecord, IsTruncated, HasMore, IsNoHeader, IsNoRecord, Opens, opening, but_last, last_of, whole_lines, rest_of}
+use Rattle.journal_text.specs.Text.{IsEntry, AreEntries, entry_line, entries_text, journal_entries}
+use Rattle.journal_text.specs.Faults.{IsFault, IsJournal, IsBadRecord, HasMore, IsNoHeader, IsNoRecord, Opens, opening, but_last, last_of, whole_lines, rest_of}
 use Rattle.journal_text.specs.Laws.{LinesRead}
 use Rattle.journal_text.specs.Cutting.{FaultsAreOne, JournalsAreOne}
-use Rattle.journal_text.proofs.OneLaws.{head_is, tail_is, line_one}
+use Rattle.journal_text.proofs.OneLaws.{head_is, kept, line_one, tail_is}
 use Rattle.journal_text.proofs.PieceLaws.{pieces_join, pieces_some}
 use Rattle.journal_text.proofs.LetterLaws.{some_is}
 use Rattle.journal_text.proofs.StreamLaws.{all_append}
-
-abbrev kept : List Record → List Entry
-kept rs = map (λ (r : Record). entry.Record r) rs
 
 abbrev lines_of : List Record → List Word
 lines_of rs = map entry_line (kept rs)

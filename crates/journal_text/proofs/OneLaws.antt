@@ -1,6 +1,6 @@
 -- A text is the journal of one budget and one list of records at most, and has no fault then.
-use Rattle.std.proofs.Common.{◌≡◌, ◌≢◌, ℕ, ◌+◌, List, [], ◌∷◌, ◌++◌, map, length, Option, Some, None, refl, ap, sym, subst, ◌∙◌, ◌⊎◌, inl, inr}
-use Rattle.std.proofs.lemmas.List.{append-nil, map-append}
+use Rattle.std.proofs.Common.{◌≡◌, ◌≢◌, ℕ, ◌+◌, List, [], ◌∷◌, ◌++◌, map, Some, refl, ap, sym, ◌∙◌, ◌⊎◌, inl, inr}
+use Rattle.std.proofs.lemmas.List.{append-nil}
 use Rattle.journal_text.specs.declared.record.Record.{Record}
 use Rattle.journal_text.specs.declared.record.Entry.{Entry}
 use Rattle.journal_text.specs.declared.record.Entry.TheVariants as entry
@@ -9,7 +9,7 @@ use Rattle.journal_text.specs.declared.faults.JournalFault.TheVariants as fault
 use Rattle.journal_text.specs.Pieces.{Word}
 use Rattle.journal_text.specs.Reading.{entry_of}
 use Rattle.journal_text.specs.Text.{IsEntry, AreEntries, entry_line, entries_text, journal_entries}
-use Rattle.journal_text.specs.Faults.{IsFault, IsJournal, IsBadHeader, IsBadRecord, IsTruncated, HasMore, IsNoRecord, Opens, opening, whole_lines, rest_of}
+use Rattle.journal_text.specs.Faults.{IsFault, IsJournal, IsBadHeader, HasMore, IsNoRecord, Opens, whole_lines, rest_of}
 use Rattle.journal_text.specs.Laws.{LinesRead}
 use Rattle.journal_text.proofs.FaultLaws.{lines_before, rest_before}
 
@@ -19,7 +19,7 @@ head_is x y xs ys e = cc
 pub tail_is : {A : Type 0} (x y : A) (xs ys : List A) → x ∷ xs ≡ y ∷ ys → xs ≡ ys
 tail_is x y xs ys e = cc
 
-some_entry : (d e : Entry) → Some d ≡ Some e → d ≡ e
+pub some_entry : (d e : Entry) → Some d ≡ Some e → d ≡ e
 some_entry d e f = cc
 
 pub line_one : LinesRead → (d e : Entry) → IsEntry d → IsEntry e → entry_line d ≡ entry_line e → d ≡ e
@@ -41,10 +41,10 @@ lines_of laws text b rs j =
 rest_is : LinesRead → (text : List ℕ) (b : ℕ) (rs : List Record) → IsJournal text b rs → rest_of text ≡ []
 rest_is laws text b rs j = ap rest_of (j.is ∙ sym (append-nil (entries_text (journal_entries b rs)))) ∙ rest_before laws (journal_entries b rs) [] j.valid
 
-abbrev kept : List Record → List Entry
+abbrev pub kept : List Record → List Entry
 kept rs = map (λ (r : Record). entry.Record r) rs
 
-record_is : (r q : Record) → entry.Record r ≡ entry.Record q → r ≡ q
+pub record_is : (r q : Record) → entry.Record r ≡ entry.Record q → r ≡ q
 record_is r q e = cc
 
 records_one : (rs qs : List Record) → kept rs ++ entry.End ∷ [] ≡ kept qs ++ entry.End ∷ [] → rs ≡ qs

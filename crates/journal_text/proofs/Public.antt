@@ -2,3 +2,6 @@
 
 -- Texts by their lines.
 pub use Rattle.journal_text.proofs.FaultLaws.{lines_before}
+pub use Rattle.journal_text.proofs.OneLaws.{kept, line_one, record_is, some_entry}
+pub use Rattle.journal_text.proofs.LetterLaws.{some_is}
+pub use Rattle.journal_text.proofs.Appending.{take_zero}

@@ -1,9 +1,8 @@
 -- A vector detects a gate's fault in the net exactly where it detects that of its cover in the model.
-use Rattle.std.proofs.Common.{◌≡◌, ◌≢◌, ◌<◌, ◌+◌, ◌^◌, ℕ, zero, suc, Bool, true, false, List, [], ◌∷◌, map, length, refl, sym, ◌∙◌, ap, arith, subst, ◌⊎◌, inl, inr, nat_eq, All}
+use Rattle.std.proofs.Common.{◌≡◌, ◌≢◌, ◌<◌, ◌+◌, ◌^◌, ℕ, zero, suc, Bool, true, false, List, [], ◌∷◌, map, length, refl, sym, ◌∙◌, ap, arith, subst, ◌⊎◌, inl, inr, nat_eq}
 use Rattle.std.specs.Prelude.{Some, slice_get, slice_set, if◌then◌else◌}
 use Rattle.std.proofs.lemmas.Option.{slice_get_within}
 use Rattle.std.proofs.lemmas.Bool.Decides.{eqb_tells}
-use Rattle.std.proofs.lemmas.List.Elements.{All-head, All-tail}
 use Rattle.rm_model.specs.Words.{Word, is_word}
 use Rattle.rm_model.specs.Value.{source_names, observed_names, value_of, IsConsistent}
 use Rattle.rm_model.specs.declared.parts.Cover.{Cover}
@@ -12,18 +11,13 @@ use Rattle.gate_net.specs.declared.Kind.TheVariants.{Source}
 use Rattle.gate_net.specs.Net.{Net, node_at, plain_node, source_count}
 use Rattle.gate_net.specs.Values.{Detects}
 use Rattle.cover_decompose.proofs.Public.{In, in_append, in_left, in_mapped, in_right, word_refl, word_same}
-use Rattle.graph_to_model.proofs.Public.{all_from_start, all_in_list, copies, copy_out, gates, had, in_copies, in_gates, IsCopyCover, IsGateCover, IsWritable, live_within, one_gate, output_names, place_below, some_told, source_name}
+use Rattle.graph_to_model.proofs.Public.{IsCopyCover, IsGateCover, IsWritable, all_at, all_from_start, all_in_list, copies, copy_out, gates, had, in_copies, in_gates, live_within, one_gate, output_names, place_below, some_told, source_name}
 use Rattle.graph_to_model.specs.Names.{node_name}
 use Rattle.graph_to_model.specs.NetModel.{model_of_net}
 use Rattle.model_faults.specs.ModelFaults.{stuck_reads, IsFaultyValuation, Extends, DetectsIn}
 use Rattle.gate_net.specs.Faults.{fault_at, Gives}
 use Rattle.model_faults.proofs.Named.{Names, words_of}
 use Rattle.model_faults.proofs.Twisted.{NetValues, WordValues, word_values, nodes_of, net_values, observed_value}
-
-all_at : {X : Type 0} (P : X → Type 0) (xs : List X) (x : X) → All P xs → In xs x → P x
-all_at P [] x h i = absurd i
-all_at P (y ∷ xs) x h (inl e) = subst P e (All-head P y xs h)
-all_at P (y ∷ xs) x h (inr i) = all_at P xs x (All-tail P y xs h) i
 
 set_length : (bs : List Bool) (p : ℕ) (b : Bool) → length (slice_set bs p b) ≡ length bs
 set_length [] p b = refl

@@ -1,9 +1,9 @@
 -- The text of a journal, and what appending makes of the file.
-use Rattle.std.proofs.Common.{◌≡◌, ℕ, zero, suc, ◌+◌, List, [], ◌∷◌, ◌++◌, take, map, length, Option, Some, None, Result, Ok, Err, ◌⊎◌, inl, inr, refl, sym, ◌∙◌, ap, subst, arith, rules, append_assoc}
+use Rattle.std.proofs.Common.{◌≡◌, ℕ, zero, suc, ◌+◌, List, [], ◌∷◌, ◌++◌, take, map, length, Option, Some, None, Result, Err, ◌⊎◌, inl, inr, refl, sym, ◌∙◌, ap, subst, arith, rules, append_assoc}
 use Rattle.std.proofs.lemmas.List.{append-nil}
-use Rattle.std.specs.List.{flat_map}
 use Rattle.std.specs.Option.{option_map}
 use Rattle.std.specs.FinMap.{gets}
+use Rattle.journal_text.proofs.Public.{take_zero}
 use Rattle.rm_base.specs.Files.{Files, append_file, file_of, put_file}
 use Rattle.rm_base.proofs.Public.{append_file-put_file}
 use Rattle.rm_base.specs.Shelves.{IsCreated}
@@ -12,8 +12,8 @@ use Rattle.rm_base.specs.declared.outside.OutsideFault.TheVariants as outside
 use Rattle.journal_text.specs.Appends.{IsRecorded, IsThere}
 use Rattle.journal_text.specs.declared.append.Stop.{Stop}
 use Rattle.journal_text.specs.declared.append.Stop.TheVariants as stop
-use Rattle.journal_text.specs.Text.{entry_text, entries_text, journal_entries, journal_text}
-use Rattle.journal_text.specs.Runs.{HasAppended, HasAppendedPart, records_text}
+use Rattle.journal_text.specs.Text.{entry_text, entries_text, journal_text}
+use Rattle.journal_text.specs.Runs.{HasAppended, records_text}
 use Rattle.journal_text.specs.declared.record.Record.{Record}
 use Rattle.journal_text.specs.declared.record.Entry.{Entry}
 use Rattle.journal_text.specs.declared.record.Entry.TheVariants as entry
@@ -45,10 +45,6 @@ take_front [] b k = let e : k ≡ 0 + k = omega arith in ap (λ (n : ℕ). take 
 take_front (x ∷ a) b k =
     let e : suc (length a + k) ≡ suc (length a) + k = omega arith in
     ap (λ (xs : List ℕ). x ∷ xs) (take_front a b k) ∙ ap (λ (n : ℕ). take n (x ∷ (a ++ b))) e
-
-take_zero : (xs : List ℕ) → take 0 xs ≡ []
-take_zero [] = refl
-take_zero (x ∷ xs) = refl
 
 take_nil : (k : ℕ) → take {A = ℕ} k [] ≡ []
 take_nil zero = refl

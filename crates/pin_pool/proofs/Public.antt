@@ -11,6 +11,6 @@ pub use Rattle.pin_pool.proofs.RingLemmas.{has-without, without-absent, without-
 -- The pool's lists as functions of the node number.
 pub use Rattle.pin_pool.proofs.RingsOf.{changed-other, changed-same, has-within, same-rings}
 -- What a call did is undone.
-pub use Rattle.pin_pool.proofs.Undone.{back, stands}
+pub use Rattle.pin_pool.proofs.Undone.{back, changed-back, stands}
 -- Sums of the lengths of lists, and how many pins are linked.
-pub use Rattle.pin_pool.proofs.Totalled.{in-listed, length-listed, length-put_after, len-one_less, linked-less, linked-more, linked-over, linked-same, listed_from, no-pins-from, pins-at, pins-bound, pins-few, pins-more, pins-split, within-set}
+pub use Rattle.pin_pool.proofs.Totalled.{in-listed, len-one_less, length-listed, length-put_after, length-without, linked-less, linked-more, linked-over, linked-same, listed_from, no-pins-from, pins-at, pins-bound, pins-few, pins-more, pins-split, within-set}

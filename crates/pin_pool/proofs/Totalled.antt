@@ -10,7 +10,7 @@ use Rattle.std.proofs.lemmas.List.{get_or_past}
 use Rattle.pin_pool.specs.Ring.{has, without, IsApart}
 use Rattle.pin_pool.specs.Pins.{Pins, list_of, put_after, put_behind}
 use Rattle.pin_pool.specs.declared.names.PinNo.{PinNo}
-use Rattle.pin_pool.specs.Rings.{Rings, rings_of, AreRings, IsIn, IsValid, changed, all_without}
+use Rattle.pin_pool.specs.Rings.{rings_of, AreRings, IsIn, IsValid, changed, all_without}
 use Rattle.pin_pool.specs.Totals.{pins_from, linked_pins, count_at, IsCounted}
 use Rattle.pin_pool.proofs.PoolLemmas.{has-append}
 use Rattle.pin_pool.proofs.RingLemmas.{without-absent}
@@ -52,7 +52,7 @@ pins-at f g m k first (suc n) le lt at others = elim (cases_eq first m) [
       omega (arith, rest, others first ne)
 ]
 
-length-without : (p : ℕ) (xs : List ℕ) → has p xs ≡ true → length (without p xs) + 1 ≡ length xs
+pub length-without : (p : ℕ) (xs : List ℕ) → has p xs ≡ true → length (without p xs) + 1 ≡ length xs
 length-without p [] h = cc
 length-without p (x ∷ xs) h = elim (cases_eq p x) [
   | inl is ↦ rw (eq-eqb p x is) (omega arith)

@@ -37,7 +37,7 @@ without-pushed f g p out = fun_ext (λ n. elim (cases_eq n g) [
   | inr ne ↦ rw (changed-other f g (f g ++ p ∷ []) n ne) (without-absent p (f n) (out n))
 ])
 
-changed-back : {A : Type 0} (f : ℕ → A) (n : ℕ) (x : A) → changed (changed f n x) n (f n) ≡ f
+pub changed-back : {A : Type 0} (f : ℕ → A) (n : ℕ) (x : A) → changed (changed f n x) n (f n) ≡ f
 changed-back f n x = fun_ext (λ m. elim (cases_eq m n) [
   | inl e ↦ rw (e, changed-same (changed f n x) n (f n)) refl
   | inr ne ↦ rw (changed-other (changed f n x) n (f n) m ne, changed-other f n x m ne) refl

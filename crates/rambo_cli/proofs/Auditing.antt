@@ -1,7 +1,6 @@
 -- From the audit of a journal and an output to what `check` says of them.
-use Rattle.std.proofs.Common.{◌≡◌, ◌≤◌, ℕ, List, refl, sym, subst, inl, inr, arith, Result, Ok, Err}
-use Rattle.std.specs.Prelude.{Option, None, Some, IfErr, IfSome, IsSome, IsSomeAnd}
-use Rattle.std.specs.Result.{IsErrAnd}
+use Rattle.std.proofs.Common.{◌≡◌, ◌≤◌, ℕ, List, refl, inl, inr, arith}
+use Rattle.std.specs.Prelude.{Option, None, Some, IfSome, IsSome, IsSomeAnd}
 use Rattle.rm_base.specs.Causes.{Rose}
 use Rattle.rm_base.specs.Files.{Files, file_of}
 use Rattle.rm_model.specs.Words.{Word}
@@ -16,11 +15,6 @@ use Rattle.rambo_cli.specs.Problems.{CheckCause, ModelCause, ReadCause, audit_pr
 use Rattle.rambo_cli.specs.Written.{Exceeds, IsSaid, IsUsable}
 use Rattle.rambo_cli.specs.declared.problem.Problem.{Problem}
 use Rattle.rambo_cli.specs.declared.problem.Problem.TheVariants.{Fault, Journal, Limit, Memory, Missing, Netlist, Record, Text, Words}
-
--- an error that is handed on
-pub handed_on : {V E : Type 0} (r : Result V E) (e : E) (P : E → Type 0) → IsErrAnd r (λ q. q ≡ e) → P e → IfErr r P
-handed_on (Ok x) e P h p = tt
-handed_on (Err q) e P h p = subst P (sym h) p
 
 audited : (found : AuditProblem) (m : Model) (input journal output : Word) (files : Option Files) → IfSome files (λ told. Holds told input (λ text. IsSaid text m)) → decomposed m ≤ 65536
     → IfSome files (λ told. IsProblem m told journal output found) → IfSome files (Audited input journal output found)

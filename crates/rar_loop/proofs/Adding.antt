@@ -1,5 +1,5 @@
 -- A candidate's wire may be added, with or without its Not, and neither step is refused.
-use Rattle.std.proofs.Common.{◌≡◌, ◌≢◌, ℕ, zero, suc, ◌<◌, inl, inr, Bool, true, false, Option, Some, None, List, [], ◌∷◌, ◌++◌, length, refl, sym, ◌∙◌, ap, subst}
+use Rattle.std.proofs.Common.{◌≡◌, ◌≢◌, ℕ, ◌<◌, inl, inr, Bool, true, false, Option, Some, None, List, [], ◌∷◌, ◌++◌, length, refl, sym, ◌∙◌, ap, subst}
 use Rattle.std.specs.Prelude.{slice_get, nat_lt, ◌↔◌, if◌then◌else◌}
 use Rattle.std.proofs.lemmas.Bool.{lt-ltb, cases_eq}
 use Rattle.rm_base.specs.declared.numbers.Fault.{Fault}
@@ -10,7 +10,7 @@ use Rattle.gate_net.specs.declared.Kind.TheVariants.{Source, Zero, One, And, Or,
 use Rattle.gate_net.specs.Net.{Net, node_at, kind_in, drivers_in, drivers_of, Reads, IsLive, IsWellFormed, wire_count}
 use Rattle.gate_net.specs.Values.{IsJunction, controlling}
 use Rattle.gate_net.specs.Edits.{IsSameBut, with_pin, last_pin}
-use Rattle.wire_edit.proofs.Public.{among_at, gate_live, is_live_there, junction_gate}
+use Rattle.wire_edit.proofs.Public.{among_at, gate_live, is_live_there, junction_gate, kept_there, last_there, not_closing}
 use Rattle.wire_edit.specs.declared.steps.Step.TheVariants.{Add, NewNot}
 use Rattle.wire_edit.specs.declared.room.Room.{Room}
 use Rattle.wire_edit.specs.Changes.{with_new_not}
@@ -110,9 +110,6 @@ not_made net room x cyclic live steps pins nodes few =
     let f : nat_lt (live_count net) ceiling ≡ true = lt-ltb (live_count net) ceiling few in
     rw (a, b, d, e, f) refl
 
-not_closing : (net : Net) (gate x : NodeId) (cyclic : Bool) → Applies net (Add gate x) → (cyclic ≡ true) ↔ ClosesCycle net (Add gate x) → cyclic ≡ false
-not_closing net gate x cyclic applies tells = not_true cyclic (λ e. elim (tells.0 e) [ inl same ↦ applies.1.1.0 same | inr path ↦ applies.1.1.1.0 path ])
-
 pub add_made : (net : Net) (room : Room) (gate x : NodeId) (cyclic : Bool) → Applies net (Add gate x) → (cyclic ≡ true) ↔ ClosesCycle net (Add gate x) → 0 < room.steps → 0 < room.pins → wire_count net < ceiling → refusal_of net room (Add gate x) cyclic ≡ None
 add_made net room gate x cyclic applies tells steps pins few =
     let a : is_live net gate.0 ≡ true = is_live_there net gate.0 (gate_live net gate.0 (junction_gate net gate.0 applies.0)) in
@@ -127,16 +124,6 @@ add_made net room gate x cyclic applies tells steps pins few =
 
 pub none_refused : {A : Type 0} (o : Option A) (x : A) → Some x ≡ o → o ≡ None → ⊥
 none_refused {A = A} o x e none = let wrong : ◌≡◌ {A = Option A} (Some x) None = e ∙ none in cc
-
--- PINS WITH THE WIRE
-last_there : (ds : List ℕ) (d : ℕ) → slice_get (ds ++ d ∷ []) (length ds) ≡ Some d
-last_there [] d = refl
-last_there (x ∷ ds) d = last_there ds d
-
-kept_there : (ds : List ℕ) (d p x : ℕ) → slice_get ds p ≡ Some x → slice_get (ds ++ d ∷ []) p ≡ Some x
-kept_there [] d p x e = cc
-kept_there (y ∷ ds) d zero x e = e
-kept_there (y ∷ ds) d (suc p) x e = kept_there ds d p x e
 
 pin_drivers : (net : Net) (gate d : ℕ) → IsLive net gate → drivers_of (with_pin net gate d) gate ≡ drivers_of net gate ++ d ∷ []
 pin_drivers net gate d live = ap drivers_in (node_at-there net gate (drivers_of net gate ++ d ∷ []) (record { kind = live.0; drivers = live.1.0 }) live.1.1)

@@ -13,7 +13,7 @@ use Rattle.gate_graph.specs.Circuit.{net_of}
 use Rattle.gate_graph.specs.Holds.{HoldsOn}
 use Rattle.refutation.specs.Branches.{AreAccepted}
 use Rattle.refutation.specs.declared.items.Item.{Item}
-use Rattle.wire_edit.proofs.Public.{gate_live, is_live_there, length_budget, next_applies, nodes_of, wires_grow}
+use Rattle.wire_edit.proofs.Public.{fix_applies, gate_live, is_live_there, length_budget, next_applies, nodes_of, tidying_removes, wires_grow}
 use Rattle.wire_edit.specs.declared.steps.Step.{Step}
 use Rattle.wire_edit.specs.declared.steps.Step.TheVariants.{Add, Fix, NewNot, Const, Same, NoPins, OnePin, Twice, Twin, Dead}
 use Rattle.wire_edit.specs.declared.refusal.EditRefusal.{EditRefusal}
@@ -31,7 +31,6 @@ use Rattle.journal_text.specs.Accepted.{IsJustified, MayGrow, IsAcceptedStep}
 use Rattle.journal_text.specs.Runs.{AcceptedTo, steps_of}
 use Rattle.rar_loop.specs.Going.{Logs, IsLeft, IsNoLarger, Tallies, Goes, HasFreePin}
 use Rattle.journal_text.specs.Runs.{IsRemoval, AreRemovals}
-use Rattle.rar_loop.proofs.Falling.{tidying_removes, fix_applies}
 use Rattle.rar_loop.proofs.Sizing.{no_gates}
 
 -- LISTS OF RECORDS

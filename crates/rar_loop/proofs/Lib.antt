@@ -1,4 +1,3 @@
-pub mod FreePins
 pub mod Falling
 pub mod Sizing
 pub mod GoingOn

@@ -1,13 +1,14 @@
 -- Which nodes a step changes.
-use Rattle.std.proofs.Common.{◌≡◌, ◌≢◌, ◌<◌, ◌≤◌, ℕ, zero, suc, inl, inr, Bool, Option, Some, None, true, false, List, [], ◌∷◌, ◌++◌, length, map, refl, sym, ◌∙◌, ap, subst, get_or, Result, Ok, Err, arith}
-use Rattle.std.specs.Prelude.{OnOk, nat_eq, slice_get, if◌then◌else◌, not}
+use Rattle.std.proofs.Common.{◌≡◌, ◌≢◌, ◌<◌, ℕ, zero, suc, inl, inr, Bool, Option, Some, None, true, false, List, [], ◌∷◌, ◌++◌, length, map, refl, sym, ◌∙◌, ap, subst, get_or, Result, Ok, Err, arith}
+use Rattle.std.specs.Prelude.{OnOk, slice_get, if◌then◌else◌, not}
 use Rattle.std.specs.Option.{option_map, option_and_then}
 use Rattle.std.proofs.lemmas.Bool.Decides.{eqb_tells}
 use Rattle.std.proofs.lemmas.Option.{slice_get-map}
+use Rattle.fault_sim.proofs.Public.{unread_same}
 use Rattle.rm_base.specs.declared.numbers.NodeId.{NodeId}
 use Rattle.gate_net.proofs.Public.{drivers_redirected, node_at-moved, node_at-other}
 use Rattle.gate_net.specs.Edits.{DiffersAt, IsSameBut, constant_node, node_redirected, redirected, with_drivers, with_readers_moved}
-use Rattle.gate_net.specs.Net.{IsWellFormed, Net, source_count, Node, Reads, drivers_in, drivers_of, node_at}
+use Rattle.gate_net.specs.Net.{Net, source_count, Node, Reads, drivers_in, drivers_of, node_at}
 use Rattle.gate_net.specs.Values.{same_bool}
 use Rattle.gate_graph.specs.Changes.{Edits}
 use Rattle.gate_graph.specs.Circuit.{Circuit, net_of}
@@ -15,13 +16,13 @@ use Rattle.wire_edit.proofs.Public.{applies_changes}
 use Rattle.wire_edit.specs.Changes.{Change, append, remove, fix, readers, new_not, retire}
 use Rattle.wire_edit.specs.Edited.{edit_of, IsNewNot}
 use Rattle.wire_edit.specs.Laws.{IsTidying}
-use Rattle.wire_edit.specs.Steps.{Applies, change_of, constant_change, empty_node, or_zero}
+use Rattle.wire_edit.specs.Steps.{change_of, constant_change, empty_node, or_zero}
 use Rattle.wire_edit.specs.Tests.{constant_at, control_of, driver_at, second_driver}
 use Rattle.wire_edit.specs.declared.steps.Step.{Step}
 use Rattle.wire_edit.specs.declared.steps.Step.TheVariants.{Add, Fix, NewNot, Const, Same, NoPins, OnePin, Twice, Twin, Dead}
 use Rattle.fault_sim.specs.Following.{DiffersAmong}
 use Rattle.rar_loop.specs.declared.changes.Changed.{Changed}
-use Rattle.rar_loop.specs.Changing.{AreNoted, HasListed, HasNoted, IsNoted, IsUnlisted, NotesOn, ReadsNone, numbers_of}
+use Rattle.rar_loop.specs.Changing.{AreNoted, HasListed, HasNoted, IsNoted, IsUnlisted, NotesOn, numbers_of}
 use Rattle.rar_loop.specs.Going.{ReadsNoConstants}
 use Rattle.rar_loop.specs.Spaces.{TouchesOn}
 
@@ -57,13 +58,6 @@ pub noted_on : (before net after : Net) (gates homes gates' homes' : List ℕ) �
 noted_on before net after gates homes gates' homes' more_gates more_homes one noted x unlisted none =
     let same : node_at after x ≡ node_at net x = one x unlisted none in
     same ∙ noted x (more_gates x unlisted) (λ p d reads. (let r = none p d (reads_still net after x p d same reads) in (r.0, more_homes d r.1)))
-
-unread_same : (from to : ℕ) (ds : List ℕ) → ((p : ℕ) → slice_get ds p ≡ Some from → ⊥) → map (redirected from to) ds ≡ ds
-unread_same from to [] none = refl
-unread_same from to (d ∷ ds) none = elim (eqb_tells d from) [
-  | inl same ↦ absurd (none 0 (ap Some same.1))
-  | inr other ↦ let rest : map (redirected from to) ds ≡ ds = unread_same from to ds (λ p e. none (suc p) e) in rw (other.0, rest) refl
-]
 
 redirected_there : (from to : ℕ) → redirected from to from ≡ to
 redirected_there from to = elim (eqb_tells from from) [ inl t ↦ rw t.0 refl | inr t ↦ absurd (t.1 refl) ]

@@ -1,5 +1,5 @@
 -- An open set excludes a clash by direct implication, so what was tried in vain doesn't gain.
-use Rattle.std.proofs.Common.{◌≡◌, ℕ, zero, suc, ◌<◌, ◌≤◌, ◌⊎◌, inl, inr, Bool, not, Option, Some, None, List, refl, sym, ◌∙◌, ap, subst, arith}
+use Rattle.std.proofs.Common.{◌≡◌, ℕ, zero, suc, ◌<◌, ◌≤◌, ◌⊎◌, inl, inr, Bool, not, Option, Some, List, sym, ◌∙◌, ap, subst, arith}
 use Rattle.rm_base.specs.declared.numbers.Fault.{Fault}
 use Rattle.gate_net.specs.Net.{Net, wire_count}
 use Rattle.gate_net.specs.Edits.{last_pin}
@@ -7,11 +7,9 @@ use Rattle.refutation.specs.Closing.{Clashes, IsClosedUnderLines}
 use Rattle.refutation.specs.Facts.{Held}
 use Rattle.refutation.specs.Learning.{IsClosedAt}
 use Rattle.refutation.specs.Laws.{ClosedHasAll}
-use Rattle.wire_edit.specs.declared.steps.Step.{Step}
-use Rattle.wire_edit.specs.Steps.{stepped}
+use Rattle.wire_edit.proofs.Public.{tidies_to_one}
 use Rattle.candidate_wires.specs.declared.candidate.Pair.{Pair}
 use Rattle.candidate_wires.specs.Gains.{with_candidate, Gains, SomeClashes}
-use Rattle.candidate_wires.specs.Tidying.{TidiesTo, tidy, then}
 use Rattle.journal_text.specs.declared.record.Record.{Record}
 use Rattle.refutation.specs.Detected.{HasOpenSet}
 use Rattle.rar_loop.specs.Swept.{IsSwept}
@@ -23,16 +21,6 @@ closed_lines net fault (suc depth) held c = c.0
 
 pub open_excludes : ClosedHasAll → (net : Net) (fault : Fault) (depth : ℕ) → HasOpenSet net fault depth → Clashes net fault → ⊥
 open_excludes law net fault depth (held, (free, closed)) clash = (law net fault held (closed_lines net fault depth held closed) free).1 clash
-
--- the tidying order leads to one net
-pub tidies_to_one : {net a b : Net} → TidiesTo net a → TidiesTo net b → a ≡ b
-tidies_to_one (tidy s) (tidy t) = refl
-tidies_to_one (tidy s) (then step next more) = let e : ◌≡◌ {A = Option Step} None (Some step) = sym s ∙ next in cc
-tidies_to_one (then step next more) (tidy t) = let e : ◌≡◌ {A = Option Step} None (Some step) = sym t ∙ next in cc
-tidies_to_one {net} {a} {b} (then step next more) (then other next' more') =
-    let same : ◌≡◌ {A = Option Step} (Some step) (Some other) = sym next ∙ next' in
-    let is : step ≡ other = cc in
-    tidies_to_one more (subst (λ (s : Step). TidiesTo (stepped net s) b) (sym is) more')
 
 pub open_pin_fails : ClosedHasAll → (net : Net) (pair : Pair) (depth : ℕ) → IsNewPinOpen net pair.candidate depth → Gains net pair → ⊥
 open_pin_fails law net pair depth (c, (is, open_set)) gains =

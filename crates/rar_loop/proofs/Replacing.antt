@@ -35,12 +35,11 @@ use Rattle.journal_text.specs.declared.record.Record.{Record}
 use Rattle.journal_text.specs.declared.record.Record.TheVariants as record_of
 use Rattle.journal_text.specs.Runs.{AcceptedTo, steps_of}
 use Rattle.rar_loop.specs.Swept.{HasSwept}
-use Rattle.wire_edit.proofs.Public.{within}
+use Rattle.wire_edit.proofs.Public.{reader_gate, tidy_reads_none, within}
 use Rattle.rar_loop.specs.Going.{HasFreePin, HasFixed, IsLeft, Logs, IsNoLarger}
 use Rattle.journal_text.specs.Runs.{AreRemovals}
 use Rattle.rar_loop.specs.Sizes.{IsSame, most_steps}
 use Rattle.rar_loop.specs.Trying.{IsBetter, IsBack, IsLent, MayTry, HasAdded, HasReplaced, IsReplaced, IsGained, IsClean}
-use Rattle.rar_loop.proofs.FreePins.{reader_gate, tidy_reads_none}
 use Rattle.rar_loop.proofs.GoingOn.{accepted_then, removals_then}
 use Rattle.rar_loop.proofs.Adding.{pin_stays}
 use Rattle.rar_loop.proofs.Sizing.{HasSize, added_gates, added_numbers, accepted_places, accepted_sources, within_by}

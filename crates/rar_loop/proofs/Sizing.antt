@@ -4,12 +4,12 @@ use Rattle.std.specs.Prelude.{slice_get, slice_set, max, if◌then◌else◌}
 use Rattle.std.specs.List.{sum_by}
 use Rattle.std.proofs.lemmas.List.Sums.{sum_by-cons}
 use Rattle.rm_base.specs.declared.numbers.NodeId.{NodeId}
-use Rattle.gate_net.specs.Net.{Node, Net, node_at, flatten_option, IsWellFormed, count_in, gate_in, gate_count, source_count, wire_count, trimmed}
+use Rattle.gate_net.specs.Net.{Node, Net, node_at, flatten_option, IsWellFormed, gate_count, source_count, wire_count, trimmed}
 use Rattle.gate_net.specs.declared.Kind.TheVariants.{Not}
 use Rattle.gate_net.specs.Edits.{redriven, redirected, node_redirected}
 use Rattle.gate_graph.specs.Circuit.{Circuit, net_of, pins_taken, live_nodes}
 use Rattle.gate_graph.specs.Holds.{held, pins_held, HoldsOn}
-use Rattle.wire_edit.proofs.Public.{length_budget, nodes_of, total_least, total_map, total_trimmed}
+use Rattle.wire_edit.proofs.Public.{gate_weight, length_budget, nodes_of, total_least, total_map, total_trimmed}
 use Rattle.wire_edit.specs.declared.steps.Step.{Step}
 use Rattle.wire_edit.specs.declared.steps.Step.TheVariants.{Add, NewNot}
 use Rattle.wire_edit.specs.Changes.{Change, append, remove, fix, readers, new_not, retire, changed, with_least_free}
@@ -25,10 +25,6 @@ use Rattle.journal_text.specs.declared.record.Record.TheVariants as record_of
 use Rattle.journal_text.specs.Runs.{AcceptedTo}
 use Rattle.journal_text.specs.Accepted.{AcceptedStepsKeep}
 use Rattle.rar_loop.specs.Sizes.{IsSame, IsWithin}
-
--- SUMS OVER NODES
-abbrev gate_weight : Option Node → ℕ
-gate_weight o = count_in o gate_in
 
 set_keeps : (f : Option Node → ℕ) (ds : List ℕ) → ((o : Option Node) → f (redriven ds o) ≡ f o) → (os : List (Option Node)) (x : ℕ) → sum_by f (slice_set os x (redriven ds (flatten_option (slice_get os x)))) ≡ sum_by f os
 set_keeps f ds same [] x = refl

@@ -10,6 +10,7 @@ use Rattle.gate_net.specs.Net.{Net, node_at, drivers_in, drivers_of, Reads, IsLi
 use Rattle.gate_net.specs.Values.{AreGoodValues, AreFaultyValues, Detects, IsJunction, IsRun, faulty_reads, gate_value, node_value}
 use Rattle.gate_net.specs.Edits.{with_pin, last_pin}
 use Rattle.gate_net.specs.Laws.{OutsideIsEqual}
+use Rattle.wire_edit.proofs.Public.{last_there}
 use Rattle.wire_edit.specs.Changes.{with_new_not}
 use Rattle.candidate_wires.specs.declared.candidate.Candidate.{Candidate}
 use Rattle.candidate_wires.specs.Gains.{least_free, net_for, with_candidate}
@@ -17,10 +18,6 @@ use Rattle.rar_loop.specs.Rows.{stuck}
 use Rattle.rar_loop.specs.Trying.{MayAdd}
 use Rattle.rar_loop.proofs.NewNots.{live_apart, least_dead, not_there, not_other}
 use Rattle.rar_loop.proofs.Adding.{gate_of, node_of, last_same}
-
-last_there : (ds : List ℕ) (d : ℕ) → slice_get (ds ++ d ∷ []) (length ds) ≡ Some d
-last_there [] d = refl
-last_there (x ∷ ds) d = last_there ds d
 
 -- THE WIRE'S PIN
 module _ (net : Net) (y z p d : ℕ) (c : Bool) (a v f : ℕ → Bool) (j : IsJunction net y c) (reads : Reads net y p d) (run : IsRun net (stuck y p c) a v f) (value : f z ≡ c) where

@@ -18,20 +18,17 @@ use Rattle.recursive_learning.specs.Least.{AreForced, IsLeastAt}
 use Rattle.recursive_learning.specs.Telling.{Ends, Leads, line_item}
 use Rattle.recursive_learning.specs.Working.{AreSettled, IsLearned, Keeps}
 use Rattle.refutation.specs.Branches.{AreAccepted}
-use Rattle.refutation.specs.Closing.{Clashes, IsClashFree, IsWithin}
+use Rattle.refutation.specs.Closing.{Clashes, IsClashFree}
 use Rattle.refutation.specs.FactSets.{held_by}
 use Rattle.refutation.specs.Facts.{Held, none_held}
 use Rattle.refutation.specs.Learning.{IsClosedAt, LeadsToClash}
-use Rattle.refutation.proofs.Public.{closed_below, leads_within, lines_of, opposed_within, stack_reads}
+use Rattle.refutation.proofs.Public.{closed_below, leads_within, lines_of, none_within, opposed_within, stack_reads}
 use Rattle.refutation.specs.Stack.{AcceptsAll}
 use Rattle.refutation.specs.declared.held.NodeFacts.{NodeFacts}
 use Rattle.refutation.specs.declared.items.Item.{Item}
 use Rattle.refutation.specs.declared.reasoning.Line.{Line}
 use Rattle.refutation.specs.declared.reasoning.Line.TheVariants.{Out}
 use Rattle.rm_base.specs.declared.numbers.Fault.{Fault}
-
-pub none_within : (s : Held) → IsWithin none_held s
-none_within s x fact e = cc
 
 -- items that end the branch without facts are accepted
 pub ends_accepted : (net : Net) (fault : Fault) (items : List Item) → Ends net fault none_held [] items → AreAccepted net fault items

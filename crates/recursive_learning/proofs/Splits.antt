@@ -26,10 +26,6 @@ use Rattle.refutation.specs.declared.reasoning.Line.TheVariants.{Constant, GoodF
 use Rattle.rm_base.specs.declared.numbers.Fault.{Fault}
 use Rattle.rm_base.specs.declared.numbers.NodeId.{NodeId}
 
-pub not_not : (b : Bool) → not (not b) ≡ b
-not_not true = refl
-not_not false = refl
-
 none_held_of : (a b : Bool) → one_of a b ≡ None → ((a ≡ true) × (b ≡ true) → ⊥) → (a ≡ false) × (b ≡ false)
 none_held_of true true e free = absurd (free (refl, refl))
 none_held_of true false e free = cc

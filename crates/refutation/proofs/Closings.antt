@@ -55,7 +55,7 @@ leads_within net fault s free closed (l ∷ lines) held after within (x, (fact, 
     leads_within net fault s free closed lines (with_fact held x fact) after
     (with_within held s x fact within (closed l x fact (line_grows net fault held s within free l x fact concludes))) rest
 
-none_within : (s : Held) → IsWithin none_held s
+pub none_within : (s : Held) → IsWithin none_held s
 none_within s x fact e = cc
 
 pub closed_has_all : ClosedHasAll

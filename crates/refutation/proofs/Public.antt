@@ -6,7 +6,7 @@ pub use Rattle.gate_looks.proofs.Public.{read_is, seen_left, seen_stays}
 -- The node of a fact that a line gives is live.
 pub use Rattle.refutation.proofs.Below.{concludes_below}
 -- A closed set has all to which lines lead.
-pub use Rattle.refutation.proofs.Closings.{closed_has_all, leads_within, opposed_within, same_fact_refl, with_cases}
+pub use Rattle.refutation.proofs.Closings.{closed_has_all, leads_within, none_within, opposed_within, same_fact_refl, with_cases}
 pub use Rattle.refutation.proofs.Closings.{with_more, with_there, with_within}
 -- Sets that are closed at a depth of learning.
 pub use Rattle.refutation.proofs.Depths.{all_of, both_good, closed_below, find, junction_kind, known_held, learned_in}
@@ -30,7 +30,7 @@ pub use Rattle.gate_looks.proofs.Public.{all_came, gate_in, next_below, next_rea
 pub use Rattle.refutation.proofs.Stacks.{stack_reads}
 -- What the calls of a graph and of the facts tell.
 pub use Rattle.gate_looks.proofs.Public.{beq_same, drivers_below, each_of_one, each_of_two, gate_live}
-pub use Rattle.refutation.proofs.Told.{faulty_pins}
+pub use Rattle.refutation.proofs.Told.{faulty_pins, some_is}
 pub use Rattle.gate_looks.proofs.Public.{kind_is, kind_live, live_below, live_from, reader_live, slice_get_below}
 pub use Rattle.refutation.proofs.Told.{some_is}
 -- A walk along the chain of a gate.

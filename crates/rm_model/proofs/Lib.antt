@@ -14,3 +14,4 @@ mod RankedLaws
 mod RankingLemmas
 mod SearchLemmas
 mod ValuationLaws
+pub mod Public

@@ -48,7 +48,7 @@ abbrev pub high : (Word → ℕ) → List Cover → ℕ
 high rank [] = 0
 high rank (c ∷ cs) = max (suc (rank c.output)) (high rank cs)
 
-below-high : (rank : Word → ℕ) (cs : List Cover) (k : ℕ) (c : Cover) → slice_get cs k ≡ Some c → rank c.output < high rank cs
+pub below-high : (rank : Word → ℕ) (cs : List Cover) (k : ℕ) (c : Cover) → slice_get cs k ≡ Some c → rank c.output < high rank cs
 below-high rank [] k c e = absurd cc
 below-high rank (d ∷ cs) zero c e = let is : d ≡ c = cc in subst (λ (c : Cover). rank c.output < high rank (d ∷ cs)) is (omega arith)
 below-high rank (d ∷ cs) (suc k) c e = omega (arith, below-high rank cs k c e)

@@ -1,5 +1,5 @@
 -- Forward reading node by node in an order.
-use Rattle.std.proofs.Common.{Bool, List, None, Option, Some, [], ap, arith, false, get_or-set_other, get_or-set_same, inl, inr, length, map, refl, suc, sym, true, ℕ, ◌+◌, ◌<◌, ◌||◌, ◌∙◌, ◌∷◌, ◌≡◌, ◌≢◌, ◌≤◌}
+use Rattle.std.proofs.Common.{Bool, List, None, Option, Some, ap, arith, false, get_or-set_other, get_or-set_same, inl, inr, length, map, refl, sym, true, ℕ, ◌+◌, ◌<◌, ◌||◌, ◌∙◌, ◌≡◌, ◌≢◌, ◌≤◌}
 use Rattle.std.proofs.lemmas.Bool.{ne_eqb}
 use Rattle.std.proofs.lemmas.Bool.Decides.{eqb_tells}
 use Rattle.std.specs.List.{list_all}
@@ -7,7 +7,7 @@ use Rattle.std.specs.Option.{option_map_or}
 use Rattle.std.specs.Prelude.{if◌then◌else◌, nat_eq, slice_get, slice_set}
 use Rattle.gate_graph.specs.Order.{IsOrder}
 use Rattle.gate_net.specs.Forward.{AgreeOn, IsForwardReading, Marking, both_known_same, equal_forward, is_idle, is_known, node_forward}
-use Rattle.gate_net.proofs.Public.{map_agree, or_true, reads_agree}
+use Rattle.gate_net.proofs.Public.{list_all_agree, map_agree, or_true, reads_agree}
 use Rattle.gate_net.specs.Net.{IsLive, IsWellFormed, Net, Node, Reads, drivers_in, drivers_of, node_at}
 use Rattle.gate_net.specs.Values.{HasPin, faulty_reads}
 use Rattle.gate_looks.proofs.Public.{live_below, reader_live, slice_get_below}
@@ -49,13 +49,6 @@ order_below net order given k x e = live_below net x (given.live k x e)
 abbrev pub AgreeOnDrivers : Net → Marking → Marking → ℕ → Type 0
 AgreeOnDrivers net m n x = (p d : ℕ) → Reads net x p d → AgreeOn m n d
 
-list_all_agree : (test other : ℕ → Bool) (ds : List ℕ) → ((p x : ℕ) → slice_get ds p ≡ Some x → test x ≡ other x) → list_all test ds ≡ list_all other ds
-list_all_agree test other [] h = refl
-list_all_agree test other (d ∷ ds) h =
-    let first : test d ≡ other d = h 0 d refl in
-    let rest : list_all test ds ≡ list_all other ds = list_all_agree test other ds (λ p x e. h (suc p) x e) in
-    rw (first, rest) refl
-
 idle_agree : (net : Net) (fault : Fault) (m n : Marking) → AgreeOnDrivers net m n fault.gate.0 → is_idle net fault m.good ≡ is_idle net fault n.good
 idle_agree net fault m n h = at (slice_get (drivers_of net fault.gate.0) fault.position) refl
   where
@@ -83,7 +76,7 @@ mark_same marks x r h = get_or-set_same marks x r no_marks h
 pub mark_other : (marks : List NodeMarks) (x y : ℕ) (r : NodeMarks) → y ≢ x → mark_at (slice_set marks x r) y ≡ mark_at marks y
 mark_other marks x y r ne = get_or-set_other marks x y r no_marks ne
 
-agree_other : (marks : List NodeMarks) (x y : ℕ) (r : NodeMarks) → y ≢ x → AgreeOn (marking marks) (marking (slice_set marks x r)) y
+pub agree_other : (marks : List NodeMarks) (x y : ℕ) (r : NodeMarks) → y ≢ x → AgreeOn (marking marks) (marking (slice_set marks x r)) y
 agree_other marks x y r ne =
     let same : mark_at marks y ≡ mark_at (slice_set marks x r) y = sym (mark_other marks x y r ne) in
     record { good = ap (λ (m : NodeMarks). m.good) same; faulty = ap (λ (m : NodeMarks). m.faulty) same; equal = ap (λ (m : NodeMarks). m.equal) same }

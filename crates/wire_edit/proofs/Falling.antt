@@ -1,13 +1,13 @@
 -- The tidying order to its end, and a fix before it.
 use Rattle.std.proofs.Common.{◌≡◌, ℕ, zero, suc, ◌+◌, ◌<◌, ◌≤◌, Option, Some, None, refl, sym, ◌∙◌, subst, arith}
 use Rattle.rm_base.specs.declared.numbers.Fault.{Fault}
-use Rattle.gate_net.specs.Net.{Net, drivers_of, Reads, IsGate, IsWellFormed, source_count, wire_count}
+use Rattle.gate_net.specs.Net.{Net, drivers_of, IsGate, IsWellFormed, source_count, wire_count}
 use Rattle.gate_net.specs.Edits.{fixed}
 use Rattle.wire_edit.specs.declared.steps.Step.{Step}
 use Rattle.wire_edit.specs.declared.steps.Step.TheVariants.{Add, Fix, NewNot, Const, Same, NoPins, OnePin, Twice, Twin, Dead}
 use Rattle.wire_edit.specs.Laws.{IsTidying}
 use Rattle.wire_edit.specs.Steps.{Applies, stepped, change_of}
-use Rattle.wire_edit.specs.Order.{IsTidy, next_step}
+use Rattle.wire_edit.specs.Order.{next_step}
 use Rattle.wire_edit.specs.Work.{free_pins, pins_made, work, FixesPin}
 use Rattle.wire_edit.specs.Tidying.{TidiesTo, tidy, then, IsTidiedNet}
 use Rattle.wire_edit.specs.Removals.{IsRemoval, HasFreePin, ReadsNoConstants}
@@ -43,7 +43,7 @@ removal_pins (Twice gate) t = refl
 removal_pins (Twin gate other) t = refl
 removal_pins (Dead gate) t = refl
 
-step_formed : (net : Net) (step : Step) → IsWellFormed net → Applies net step → IsWellFormed (stepped net step)
+pub step_formed : (net : Net) (step : Step) → IsWellFormed net → Applies net step → IsWellFormed (stepped net step)
 step_formed net step well applies = changes_keep_form net (change_of net step) well (applies_changes net step well applies)
 
 -- what holds after one step of the order, and after the rest, holds after all

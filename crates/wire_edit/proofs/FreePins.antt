@@ -1,5 +1,5 @@
 -- A tidy net has no pin that a constant drives, and no removal makes another pin free.
-use Rattle.std.proofs.Common.{◌≡◌, ◌≢◌, ℕ, zero, suc, ◌+◌, ◌-◌, ◌<◌, ◌≤◌, Bool, true, false, not, ◌&&◌, Option, Some, None, List, [], ◌∷◌, length, map, refl, sym, ◌∙◌, ap, arith}
+use Rattle.std.proofs.Common.{◌≡◌, ℕ, zero, suc, ◌+◌, ◌-◌, ◌<◌, ◌≤◌, Bool, true, false, not, Option, Some, None, List, [], ◌∷◌, length, map, refl, sym, ◌∙◌, ap, arith}
 use Rattle.std.specs.Prelude.{slice_get, slice_set, nat_lt, option_and_then, if◌then◌else◌}
 use Rattle.std.specs.List.{sum_by}
 use Rattle.std.proofs.lemmas.Bool.{and_from, ltb-true, ltb-false, lt-ltb}
@@ -7,9 +7,9 @@ use Rattle.std.proofs.lemmas.List.Sums.{sum_by-cons}
 use Rattle.rm_base.specs.declared.numbers.NodeId.{NodeId}
 use Rattle.gate_net.specs.declared.Kind.{Kind}
 use Rattle.gate_net.specs.declared.Kind.TheVariants.{Source, Zero, One, And, Or, Not}
-use Rattle.gate_net.specs.Net.{Node, Net, node_at, kind_in, drivers_in, drivers_of, flatten_option, Reads, IsKind, IsGate, IsGateKind, IsWellFormed, plain_node, source_count, wire_count}
+use Rattle.gate_net.specs.Net.{Node, Net, node_at, kind_in, drivers_in, drivers_of, flatten_option, Reads, IsGate, IsWellFormed, plain_node, source_count, wire_count}
 use Rattle.gate_net.specs.Values.{same_bool}
-use Rattle.gate_net.specs.Edits.{with_drivers, without, constant_node, constant_kind, redirected, node_redirected, with_readers_moved}
+use Rattle.gate_net.specs.Edits.{without, constant_node, node_redirected}
 use Rattle.wire_edit.specs.declared.steps.Step.{Step}
 use Rattle.wire_edit.specs.declared.steps.Step.TheVariants.{Add, Fix, NewNot, Const, Same, NoPins, OnePin, Twice, Twin, Dead}
 use Rattle.wire_edit.specs.Tests.{is_gate, is_in_use, is_present, constant_at, constant_of, control_of, kind_constant}
@@ -18,11 +18,11 @@ use Rattle.wire_edit.specs.Steps.{Applies, change_of, constant_change, stepped}
 use Rattle.wire_edit.specs.Order.{IsTidy, node}
 use Rattle.wire_edit.specs.Work.{one_if, free_in, free_pins}
 use Rattle.wire_edit.proofs.Tested.{is_gate_there, got}
-use Rattle.wire_edit.proofs.Conditions.{constant_apart, applies_changes, no_pins}
+use Rattle.wire_edit.proofs.Conditions.{applies_changes, no_pins}
 use Rattle.wire_edit.proofs.Ordering.{tidy_refuses}
 use Rattle.wire_edit.proofs.Totals.{total_gone}
 use Rattle.wire_edit.proofs.Formed.{junction_kind}
-use Rattle.wire_edit.proofs.Working.{with_free}
+use Rattle.wire_edit.proofs.Working.{above_constants, constant_bound, with_free}
 use Rattle.wire_edit.proofs.Counting.{free_without, free_set, free_moved}
 use Rattle.wire_edit.specs.Removals.{IsRemoval, ReadsNoConstants}
 
@@ -50,11 +50,11 @@ reader_gate net well y p x reads = at (node_at net y) refl
     at None is = absurd (none_reads (ap (λ o. slice_get (drivers_in o) p) (sym is) ∙ reads))
     at (Some n) is = gate n.kind n.drivers is
 
-constant_node_is : (net : Net) → IsWellFormed net → (b : Bool) → constant_of net (constant_node b) ≡ Some b
+pub constant_node_is : (net : Net) → IsWellFormed net → (b : Bool) → constant_of net (constant_node b) ≡ Some b
 constant_node_is net well true = ap (λ o. kind_constant (kind_in o)) well.constants.one_is
 constant_node_is net well false = ap (λ o. kind_constant (kind_in o)) well.constants.zero_is
 
-below_two : (x : ℕ) → x ≤ 1 → (b : Bool) × (x ≡ constant_node b)
+pub below_two : (x : ℕ) → x ≤ 1 → (b : Bool) × (x ≡ constant_node b)
 below_two zero le = (false, refl)
 below_two (suc zero) le = (true, refl)
 below_two (suc (suc n)) le = absurd (omega (arith, le))
@@ -81,14 +81,14 @@ tidy_reads_none net well tidy y p x reads = at (nat_lt 1 x) refl
         let c : (b : Bool) × (x ≡ constant_node b) = below_two x le in
         absurd (clash c.0 c.1 (is_in_use net y) refl)
 
-free_all : (ds : List ℕ) → ((p x : ℕ) → slice_get ds p ≡ Some x → 1 < x) → free_in ds ≡ length ds
+pub free_all : (ds : List ℕ) → ((p x : ℕ) → slice_get ds p ≡ Some x → 1 < x) → free_in ds ≡ length ds
 free_all [] h = refl
 free_all (d ∷ ds) h =
     let first : nat_lt 1 d ≡ true = lt-ltb 1 d (h 0 d refl) in
     let rest : free_in ds ≡ length ds = free_all ds (λ p x e. h (suc p) x e) in
     rw (first, rest) (omega arith)
 
-sum_same : (f g : Option Node → ℕ) (os : List (Option Node)) → ((k : ℕ) (o : Option Node) → slice_get os k ≡ Some o → f o ≡ g o) → sum_by f os ≡ sum_by g os
+pub sum_same : (f g : Option Node → ℕ) (os : List (Option Node)) → ((k : ℕ) (o : Option Node) → slice_get os k ≡ Some o → f o ≡ g o) → sum_by f os ≡ sum_by g os
 sum_same f g [] h = refl
 sum_same f g (o ∷ os) h =
     let here : f o ≡ g o = h 0 o refl in
@@ -106,13 +106,7 @@ all_free net h = sum_same (λ o. free_in (drivers_in o)) (λ o. length (drivers_
         let same : drivers_of net k ≡ drivers_in o = ap (λ q. drivers_in (flatten_option q)) there in
         free_all (drivers_in o) (λ p x e. h k p x (ap (λ ds. slice_get ds p) same ∙ e))
 
--- CHANGES
-above_constants : (net : Net) → IsWellFormed net → (gate : ℕ) → IsGate net gate → 1 < gate
-above_constants net well zero g = absurd (constant_apart net well.constants 0 g false refl)
-above_constants net well (suc zero) g = absurd (constant_apart net well.constants 1 g true refl)
-above_constants net well (suc (suc n)) g = omega arith
-
-moved_free : (from to : ℕ) → 1 < from → (os : List (Option Node)) → sum_by (λ (o : Option Node). free_in (drivers_in o)) (map (node_redirected from to) os) ≤ sum_by (λ (o : Option Node). free_in (drivers_in o)) os
+pub moved_free : (from to : ℕ) → 1 < from → (os : List (Option Node)) → sum_by (λ (o : Option Node). free_in (drivers_in o)) (map (node_redirected from to) os) ≤ sum_by (λ (o : Option Node). free_in (drivers_in o)) os
 moved_free from to lt [] = omega arith
 moved_free from to lt (o ∷ os) =
     let w : Option Node → ℕ = λ (q : Option Node). free_in (drivers_in q) in
@@ -126,17 +120,13 @@ moved_free from to lt (o ∷ os) =
     one None = omega arith
     one (Some n) = free_moved from to n.drivers lt
 
-constant_bound : (b : Bool) → one_if (nat_lt 1 (constant_node b)) ≡ 0
-constant_bound true = refl
-constant_bound false = refl
-
 -- the change makes no pin
-abbrev MakesNone : Change → Type 0
+abbrev pub MakesNone : Change → Type 0
 MakesNone (append gate driver) = ⊥
 MakesNone (new_not driver) = ⊥
 MakesNone _ = Unit {0}
 
-change_frees : (net : Net) → IsWellFormed net → (change : Change) → CanChange net change → MakesNone change → free_pins (changed net change) ≤ free_pins net
+pub change_frees : (net : Net) → IsWellFormed net → (change : Change) → CanChange net change → MakesNone change → free_pins (changed net change) ≤ free_pins net
 change_frees net well (append gate driver) can none = absurd none
 change_frees net well (new_not driver) can none = absurd none
 change_frees net well (remove gate p) (j, lt) none =
@@ -153,7 +143,7 @@ change_frees net well (retire gate) (g, unread) none =
     let a : free_pins (changed net (retire gate)) + free_in g.1.0.0 ≡ free_pins net = total_gone (λ (o : Option Node). free_in (drivers_in o)) refl net gate (record { kind = g.0; drivers = g.1.0.0 }) g.1.0.1 in
     omega arith
 
-constant_makes : (gate p : ℕ) (control constant : Option Bool) → MakesNone (constant_change gate p control constant)
+pub constant_makes : (gate p : ℕ) (control constant : Option Bool) → MakesNone (constant_change gate p control constant)
 constant_makes gate p control None = tt
 constant_makes gate p None (Some b) = tt
 constant_makes gate p (Some c) (Some b) = at (same_bool b c)
@@ -162,7 +152,7 @@ constant_makes gate p (Some c) (Some b) = at (same_bool b c)
     at true = tt
     at false = tt
 
-removal_makes : (net : Net) (step : Step) → IsRemoval step → MakesNone (change_of net step)
+pub removal_makes : (net : Net) (step : Step) → IsRemoval step → MakesNone (change_of net step)
 removal_makes net (Add gate y) r = absurd r
 removal_makes net (Fix gate position value) r = tt
 removal_makes net (NewNot y) r = absurd r

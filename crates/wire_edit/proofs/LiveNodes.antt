@@ -1,5 +1,5 @@
 -- How many nodes live, and how a step makes more numbers and pins.
-use Rattle.std.proofs.Common.{◌≡◌, ◌≢◌, ℕ, zero, suc, ◌+◌, ◌<◌, ◌≤◌, Bool, true, false, inl, inr, Option, Some, None, List, [], ◌∷◌, ◌++◌, length, refl, sym, ◌∙◌, ap, subst, arith}
+use Rattle.std.proofs.Common.{◌≡◌, ◌≢◌, ℕ, zero, suc, ◌+◌, ◌≤◌, inl, inr, Option, Some, None, List, [], ◌∷◌, ◌++◌, length, refl, sym, ◌∙◌, ap, subst, arith}
 use Rattle.std.specs.Prelude.{slice_get}
 use Rattle.std.specs.List.{sum_by}
 use Rattle.std.proofs.lemmas.Bool.{cases_eq, cases_lt}
@@ -83,11 +83,11 @@ live_counted net well = at net.nodes refl
         omega (arith, two_then live_in a b os, two_then sources_in a b os, two_then gates_in a b os, la, lb, sa, sb, ga, gb, rest)
 
 -- A NEW PIN
-last_there : (ds : List ℕ) (d : ℕ) → slice_get (ds ++ d ∷ []) (length ds) ≡ Some d
+pub last_there : (ds : List ℕ) (d : ℕ) → slice_get (ds ++ d ∷ []) (length ds) ≡ Some d
 last_there [] d = refl
 last_there (x ∷ ds) d = last_there ds d
 
-kept_there : (ds : List ℕ) (d p x : ℕ) → slice_get ds p ≡ Some x → slice_get (ds ++ d ∷ []) p ≡ Some x
+pub kept_there : (ds : List ℕ) (d p x : ℕ) → slice_get ds p ≡ Some x → slice_get (ds ++ d ∷ []) p ≡ Some x
 kept_there [] d p x e = cc
 kept_there (y ∷ ds) d zero x e = e
 kept_there (y ∷ ds) d (suc p) x e = kept_there ds d p x e

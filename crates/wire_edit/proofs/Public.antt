@@ -29,4 +29,8 @@ pub use Rattle.wire_edit.proofs.Totals.{total_gone, total_least, total_map, tota
 -- Walks along lists.
 pub use Rattle.wire_edit.proofs.Walks.{march, next_place}
 -- Each tidying step lowers the work that is left.
-pub use Rattle.wire_edit.proofs.Working.{with_free}
+pub use Rattle.wire_edit.proofs.Working.{above_constants, constant_bound, gate_weight, with_free}
+pub use Rattle.wire_edit.proofs.FreePins.{MakesNone, all_free, below_two, change_frees, constant_makes, constant_node_is, fix_frees, free_all, moved_free, reader_gate, removal_frees, removal_makes, sum_same, tidy_reads_none}
+pub use Rattle.wire_edit.proofs.Falling.{fix_applies, step_formed, tidies_to_one, tidying_removes}
+pub use Rattle.wire_edit.proofs.LiveNodes.{kept_there, last_there}
+pub use Rattle.wire_edit.proofs.Unrefused.{not_closing}

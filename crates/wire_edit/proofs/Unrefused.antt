@@ -1,5 +1,5 @@
 -- A step that applies and has room isn't refused.
-use Rattle.std.proofs.Common.{◌≡◌, ℕ, ◌+◌, ◌<◌, ◌≤◌, Bool, true, false, not, ◌&&◌, inl, inr, Option, Some, None, length, refl, sym, ◌∙◌, ap, subst, arith}
+use Rattle.std.proofs.Common.{◌≡◌, ℕ, ◌<◌, ◌≤◌, Bool, true, false, inl, inr, Option, Some, None, length, refl, sym, ◌∙◌, ap, arith}
 use Rattle.std.specs.Prelude.{nat_lt, slice_get, ◌↔◌}
 use Rattle.std.proofs.lemmas.Bool.{lt-ltb}
 use Rattle.rm_base.specs.declared.numbers.NodeId.{NodeId}
@@ -18,7 +18,7 @@ use Rattle.wire_edit.specs.Rooms.{IsUnspent}
 use Rattle.wire_edit.proofs.Tested.{present, is_live_there, constant_read, junction_gate, not_gate, repeated_at, within}
 use Rattle.wire_edit.proofs.Reading.{gate_live}
 
-not_closing : (net : Net) (gate x : NodeId) (cyclic : Bool) → Applies net (Add gate x) → (cyclic ≡ true) ↔ ClosesCycle net (Add gate x) → cyclic ≡ false
+pub not_closing : (net : Net) (gate x : NodeId) (cyclic : Bool) → Applies net (Add gate x) → (cyclic ≡ true) ↔ ClosesCycle net (Add gate x) → cyclic ≡ false
 not_closing net gate x cyclic applies tells = not_true cyclic (λ e. elim (tells.0 e) [ inl same ↦ applies.1.1.0 same | inr path ↦ applies.1.1.1.0 path ])
 
 lives : (net : Net) (gate : NodeId) → is_gate net gate.0 ≡ true → is_live net gate.0 ≡ true

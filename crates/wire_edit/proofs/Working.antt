@@ -29,7 +29,7 @@ free_weight o = free_in (drivers_in o)
 abbrev wire_weight : Option Node → ℕ
 wire_weight o = length (drivers_in o)
 
-abbrev gate_weight : Option Node → ℕ
+abbrev pub gate_weight : Option Node → ℕ
 gate_weight o = count_in o gate_in
 
 sum_mono : (f g : Option Node → ℕ) → ((o : Option Node) → f o ≤ g o) → (os : List (Option Node)) → sum_by f os ≤ sum_by g os
@@ -193,7 +193,7 @@ fix_wires net gate p value (g, lt) =
     let l : _ ≡ _ = length_set (drivers_of net gate) p (constant_node value) in
     omega arith
 
-constant_bound : (b : Bool) → one_if (nat_lt 1 (constant_node b)) ≡ 0
+pub constant_bound : (b : Bool) → one_if (nat_lt 1 (constant_node b)) ≡ 0
 constant_bound true = refl
 constant_bound false = refl
 
@@ -230,7 +230,7 @@ append_raises net gate driver (j, rest) =
     new x q k there = elim (last_cases (drivers_of net gate) driver q x there) [ inl before ↦ inl (q, before) | inr is ↦ inr is ]
 
 -- A MOVE OF READERS
-above_constants : (net : Net) → IsWellFormed net → (gate : ℕ) → IsGate net gate → 1 < gate
+pub above_constants : (net : Net) → IsWellFormed net → (gate : ℕ) → IsGate net gate → 1 < gate
 above_constants net well zero g = absurd (constant_apart net well.constants 0 g false refl)
 above_constants net well (suc zero) g = absurd (constant_apart net well.constants 1 g true refl)
 above_constants net well (suc (suc n)) g = omega arith

@@ -78,7 +78,7 @@ top = (built program).top
 abbrev stopped_walk : Text → List Text → Walk
 stopped_walk name ws = record { held = nothing_held; waiting = idle; position = 1; is_trailing = false; stopped = Some (name, ws) }
 
-append_one : {X : Type 0} (xs : List X) (y : X) (ys : List X) → (xs ++ y ∷ []) ++ ys ≡ xs ++ y ∷ ys
+pub append_one : {X : Type 0} (xs : List X) (y : X) (ys : List X) → (xs ++ y ∷ []) ++ ys ≡ xs ++ y ∷ ys
 append_one [] y ys = refl
 append_one (x ∷ xs) y ys = ap (λ zs. x ∷ zs) (append_one xs y ys)
 

@@ -88,10 +88,6 @@ use_taken a v rows next plain none e =
 
 -- ---- parts
 
-pub append_one : {X : Type 0} (xs : List X) (y : X) (ys : List X) → (xs ++ y ∷ []) ++ ys ≡ xs ++ y ∷ ys
-append_one [] y ys = refl
-append_one (x ∷ xs) y ys = ap (λ zs. x ∷ zs) (append_one xs y ys)
-
 pub names-append : (ps qs : List Part) → names (ps ++ qs) ≡ names ps ++ names qs
 unfolding names
 names-append [] qs = refl

@@ -3,8 +3,8 @@ use Rattle.gate_graph.specs.Circuit.{net_of}
 use Rattle.journal_audit.specs.Audited.{IsProblem}
 use Rattle.journal_audit.specs.declared.problem.AuditProblem.{AuditProblem}
 use Rattle.journal_audit.proofs.Concluding.{compared_problem, last_fits}
-use Rattle.journal_audit.proofs.Entering.{handed_on}
 use Rattle.journal_audit.proofs.auditing.audit.Goals as goal
+use Rattle.journal_check.proofs.Public.{handed_on}
 
 pub text_of-requires-clause-fits : goal.text_of-requires-clause-fits
 text_of-requires-clause-fits g c =

@@ -1,11 +1,11 @@
-use Rattle.std.proofs.Common.{rules, ◌≡◌, ◌<◌, ◌≤◌, ◌+◌, ◌++◌, ◌^◌, [], IfErr, IfSome, Result, length, subst, sym, arith}
+use Rattle.std.proofs.Common.{rules, ◌≡◌, ◌≤◌, ◌+◌, ◌++◌, ◌^◌, [], IfErr, IfSome, Result, length, subst, sym, arith}
 use Rattle.journal_audit.specs.Judging.{IsTextProblem}
 use Rattle.journal_audit.specs.Turns.{EndsWith, IsInside, IsJournalProblem, TurnSays}
 use Rattle.journal_audit.specs.declared.problem.AuditProblem.{AuditProblem}
 use Rattle.journal_audit.specs.declared.reading.Turn.{Turn}
-use Rattle.journal_audit.proofs.Entering.{handed_on}
 use Rattle.journal_audit.proofs.Turning.{end_problem, err_weaker, goes_on, inside, no_bytes, ok_weaker, push_judged, some_bytes, too_long, turn_ends, turn_problem}
 use Rattle.journal_audit.proofs.reading.turned.Goals as goal
+use Rattle.journal_check.proofs.Public.{handed_on}
 
 pub returns-then-is_empty-clause-says : goal.returns-then-is_empty-clause-says
 returns-then-is_empty-clause-says c = λ files journal most some s gives.

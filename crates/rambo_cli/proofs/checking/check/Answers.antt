@@ -1,9 +1,10 @@
 use Rattle.std.proofs.Common.{Option, subst, ap, Err, inl}
 use Rattle.std.specs.Prelude.{IfSome, IsSome}
+use Rattle.journal_check.proofs.Public.{handed_on}
 use Rattle.rm_base.specs.Files.{Files}
 use Rattle.journal_audit.specs.Audited.{IsPassed, IsProblem}
 use Rattle.rambo_cli.specs.Problems.{CheckCause, audit_problem}
-use Rattle.rambo_cli.proofs.Auditing.{audit_cause, audit_passed, handed_on, too_many}
+use Rattle.rambo_cli.proofs.Auditing.{audit_cause, audit_passed, too_many}
 use Rattle.rambo_cli.proofs.Rising.{risen_after}
 use Rattle.rambo_cli.proofs.checking.check.Goals as goal
 

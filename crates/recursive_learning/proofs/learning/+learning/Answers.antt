@@ -5,11 +5,10 @@ use Rattle.std.specs.Option.{MatchOption}
 use Rattle.std.specs.Prelude.{slice_get}
 use Rattle.gate_graph.specs.Circuit.{net_of}
 use Rattle.gate_graph.specs.Search.{IsSeen}
-use Rattle.implications.proofs.Public.{trail_tells}
+use Rattle.implications.proofs.Public.{driver_live, trail_tells}
 use Rattle.implications.specs.Trail.{AreAdded, LeadsBack}
 use Rattle.recursive_learning.proofs.Commons.{common_clash, common_open, found_all, found_none}
 use Rattle.recursive_learning.proofs.Gains.{keeps_join}
-use Rattle.recursive_learning.proofs.Live.{driver_live}
 use Rattle.recursive_learning.proofs.Missing.{missing_within}
 use Rattle.recursive_learning.proofs.Refutes.{clash_at_deeper}
 use Rattle.recursive_learning.proofs.Regions.{covered_more, region_of, region_stays, stays_idle}

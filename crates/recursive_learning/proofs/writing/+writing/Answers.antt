@@ -3,12 +3,13 @@ use Rattle.std.proofs.lemmas.List.{length-map}
 use Rattle.std.proofs.lemmas.Option.{slice_get-get_or}
 use Rattle.std.specs.Prelude.{slice_get}
 use Rattle.gate_graph.specs.Circuit.{net_of}
+use Rattle.gate_net.proofs.Public.{not_not}
+use Rattle.implications.proofs.Public.{driver_live}
 use Rattle.implications.specs.Trail.{LeadsBack}
 use Rattle.recursive_learning.proofs.Gains.{keeps_join}
 use Rattle.recursive_learning.proofs.Learns.{clashes_stay}
-use Rattle.recursive_learning.proofs.Live.{driver_live}
 use Rattle.recursive_learning.proofs.Rounds.{taken_back}
-use Rattle.recursive_learning.proofs.Splits.{beq_other, lesson_cases, lesson_opposite, may_split, no_driver, not_not, opposite_cases, place_less, split_told, told_ends}
+use Rattle.recursive_learning.proofs.Splits.{beq_other, lesson_cases, lesson_opposite, may_split, no_driver, opposite_cases, place_less, split_told, told_ends}
 use Rattle.recursive_learning.proofs.Vecs.{driver_at}
 use Rattle.recursive_learning.proofs.Watches.{blank_leaves, leaves_join, leaves_none, room_leaves}
 use Rattle.recursive_learning.proofs.Writes.{cases_more, going_ends, going_more, goods_more, pass_fewer, pass_more}

@@ -5,9 +5,9 @@ use Rattle.gate_graph.specs.Circuit.{Circuit, net_of}
 use Rattle.fault_sim.specs.Following.{DiffersAmong}
 use Rattle.rar_loop.specs.Changing.{AreNoted, IsUnlisted, numbers_of}
 use Rattle.rar_loop.specs.Going.{ReadsNoConstants}
-use Rattle.rar_loop.proofs.FreePins.{tidy_reads_none}
 use Rattle.rar_loop.proofs.Noting.{differs_listed, same_through, touches_then}
 use Rattle.rar_loop.proofs.workspace.Workspace.follow.Goals as goal
+use Rattle.wire_edit.proofs.Public.{tidy_reads_none}
 
 pub follow-requires : goal.follow-requires
 follow-requires c =

@@ -1,0 +1,2 @@
+-- What this crate proves of its definitions, for the proofs of the crates above. They import nothing of its proofs but through this file.
+pub use Rattle.journal_check.proofs.LoopLaws.{handed_on}
