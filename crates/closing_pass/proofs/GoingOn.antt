@@ -1,6 +1,6 @@
 -- Going on inside a trial, step by step.
 use Rattle.std.proofs.Common.{◌≡◌, ℕ, ◌+◌, ◌-◌, ◌<◌, ◌≤◌, true, Option, Some, None, List, [], ◌∷◌, ◌++◌, length, refl, sym, ◌∙◌, ap, subst, append_assoc, arith}
-use Rattle.std.specs.Prelude.{Ok, Err, nat_lt}
+use Rattle.std.specs.Prelude.{Ok, nat_lt}
 use Rattle.std.proofs.lemmas.Bool.{lt-ltb}
 use Rattle.std.proofs.lemmas.List.{append-nil, length-append}
 use Rattle.rm_base.specs.declared.numbers.Fault.{Fault}
@@ -10,15 +10,14 @@ use Rattle.gate_graph.specs.Circuit.{net_of}
 use Rattle.gate_graph.specs.Holds.{HoldsOn, held, pins_held}
 use Rattle.refutation.specs.Branches.{AreAccepted}
 use Rattle.refutation.specs.declared.items.Item.{Item}
+use Rattle.wire_edit.proofs.Public.{room_on}
 use Rattle.wire_edit.specs.declared.steps.Step.{Step}
 use Rattle.wire_edit.specs.declared.steps.Step.TheVariants.{Add, Fix, NewNot, Const, Same, NoPins, OnePin, Twice, Twin, Dead}
 use Rattle.wire_edit.specs.declared.refusal.EditRefusal.{EditRefusal}
-use Rattle.wire_edit.specs.declared.room.Room.{Room}
 use Rattle.wire_edit.specs.Steps.{Applies, stepped}
 use Rattle.wire_edit.specs.Refusals.{room_after, IsAnswer}
 use Rattle.wire_edit.specs.Removals.{FreeFixesApply, HasFreePin}
 use Rattle.wire_edit.specs.Rooms.{ApplicableIsMade}
-use Rattle.wire_edit.specs.Order.{next_step}
 use Rattle.wire_edit.specs.Laws.{IsTidying, NextApplies}
 use Rattle.wire_edit.specs.Tried.{Tried, Tidies}
 use Rattle.wire_edit.specs.Work.{work, RoomForTidying, RoomForFixes, TidyingEnds, FixesEnd}
@@ -108,18 +107,6 @@ goes_one laws t u step tree log new well accepted removal falls net is holds roo
 }
 
 -- TIDYING
-room_steps : (room : Room) (step : Step) → (room_after room step).steps ≡ room.steps - 1
-room_steps room (Add gate y) = refl
-room_steps room (NewNot y) = refl
-room_steps room (Fix gate position value) = refl
-room_steps room (Const gate position) = refl
-room_steps room (Same gate position) = refl
-room_steps room (NoPins gate) = refl
-room_steps room (OnePin gate) = refl
-room_steps room (Twice gate) = refl
-room_steps room (Twin gate other) = refl
-room_steps room (Dead gate) = refl
-
 tidying_justified : (net : Net) (step : Step) → IsTidying step → IsJustified net step [] × MayGrow net step
 tidying_justified net (Add gate y) t = absurd t
 tidying_justified net (Fix gate position value) t = absurd t
@@ -131,11 +118,6 @@ tidying_justified net (OnePin gate) t = (refl, tt)
 tidying_justified net (Twice gate) t = (refl, tt)
 tidying_justified net (Twin gate other) t = (refl, tt)
 tidying_justified net (Dead gate) t = (refl, tt)
-
-pub room_on : (room after : Room) (step : Step) (w k : ℕ) → after ≡ room_after room step → w + k ≤ room.steps - 1 → w + k ≤ after.steps
-room_on room after step w k is le =
-    let e : after.steps ≡ room.steps - 1 = ap (λ (r : Room). r.steps) is ∙ room_steps room step in
-    omega (arith, le, e)
 
 pub tidied_step :
     RemovalLaws → NextApplies → RoomForTidying → TidyingEnds → (t u : Tried) (step : Step) (log new : List Record) → IsWellFormed (net_of t.graph) → Tidies t u (Ok (Some step)) → HoldsOn t.graph u.graph t.trail.entries u.trail.entries
@@ -152,15 +134,6 @@ tidied_step laws next law ends t u step log new well made holds is =
           omega (arith, here, w)),
       local_one step [] log new n.0 is,
     )
-
-pub never_full : RoomForTidying → (t u : Tried) (why : EditRefusal) → IsWellFormed (net_of t.graph) → work (net_of t.graph) ≤ t.room.steps → Tidies t u (Err why) → ⊥
-never_full law t u why well le made = at (next_step (net_of t.graph)) refl
-  where
-    at : (o : Option Step) → next_step (net_of t.graph) ≡ o → ⊥
-    at None e = made.1.0 e
-    at (Some step) e =
-        let r : (0 < t.room.steps) × (work (stepped (net_of t.graph) step) + 0 ≤ t.room.steps - 1) = law (net_of t.graph) step 0 t.room.steps well e (omega (arith, le)) in
-        omega (arith, r.0, made.1.1.0)
 
 -- FIXING
 pub fixed_step :

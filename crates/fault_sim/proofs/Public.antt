@@ -4,4 +4,5 @@
 pub use Rattle.fault_sim.proofs.LaneLaws.{lane_and, lane_not, lane_zero}
 -- Lanes in which an observed node differs.
 pub use Rattle.fault_sim.proofs.Seeing.{first_lane}
+-- Which nodes an edit changes.
 pub use Rattle.fault_sim.proofs.ChangedNodes.{unread_same}

@@ -8,4 +8,5 @@ pub use Rattle.gate_graph.proofs.KnownKinds.{kind-known}
 pub use Rattle.gate_graph.proofs.Marking.{is_at, seen_cases, seen_kept, seen_new, unseen-set}
 -- A search back along the pins.
 pub use Rattle.gate_graph.proofs.Searches.{none_seen, unseen-replicate}
+-- The faults of a net, pin by pin and node by node.
 pub use Rattle.gate_graph.proofs.FaultLists.{get_below}

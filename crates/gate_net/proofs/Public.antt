@@ -21,7 +21,6 @@ pub use Rattle.gate_net.proofs.Follows.{value_back_right, value_forward_right}
 pub use Rattle.gate_net.proofs.Junctions.{controlled, first_is, gate_more, junction_member}
 -- Readers that move keep the values and the order.
 pub use Rattle.gate_net.proofs.Moved.{drivers_redirected, flatten-map, moves_keep, moves_keep_acyclic, node_at-moved, redirect_cases}
-pub use Rattle.gate_net.proofs.Moved.{redirect_cases}
 -- New ranks after an edit.
 pub use Rattle.gate_net.proofs.Ordered.{IsUpward, LeadsIn, after_more, after_right, after_there, after_upward, is_after, pins_keep_acyclic}
 -- What stands at a place of a list.

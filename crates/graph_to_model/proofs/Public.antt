@@ -17,4 +17,5 @@ pub use Rattle.graph_to_model.proofs.Outputs.{copies, cover_number, driven_are, 
 pub use Rattle.graph_to_model.proofs.Outputs.{observed_driven, one_gate}
 -- What a tidy net is free of.
 pub use Rattle.graph_to_model.proofs.TidyFacts.{kind_is, lean}
+-- The net stands for its model.
 pub use Rattle.graph_to_model.proofs.Standing.{all_at}

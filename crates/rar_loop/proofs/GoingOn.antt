@@ -1,6 +1,6 @@
 -- Going on inside a trial, step by step.
 use Rattle.std.proofs.Common.{◌≡◌, ℕ, ◌+◌, ◌-◌, ◌<◌, ◌≤◌, Bool, true, false, Option, Some, None, List, [], ◌∷◌, ◌++◌, length, refl, sym, ◌∙◌, ap, subst, append_assoc, arith}
-use Rattle.std.specs.Prelude.{Ok, Err, nat_lt, if◌then◌else◌}
+use Rattle.std.specs.Prelude.{Ok, nat_lt, if◌then◌else◌}
 use Rattle.gate_net.specs.Values.{same_bool}
 use Rattle.gate_net.specs.Edits.{constant_node, fixed}
 use Rattle.wire_edit.specs.Changes.{remove, readers}
@@ -13,7 +13,7 @@ use Rattle.gate_graph.specs.Circuit.{net_of}
 use Rattle.gate_graph.specs.Holds.{HoldsOn}
 use Rattle.refutation.specs.Branches.{AreAccepted}
 use Rattle.refutation.specs.declared.items.Item.{Item}
-use Rattle.wire_edit.proofs.Public.{fix_applies, gate_live, is_live_there, length_budget, next_applies, nodes_of, tidying_removes, wires_grow}
+use Rattle.wire_edit.proofs.Public.{fix_applies, gate_live, is_live_there, length_budget, next_applies, nodes_of, room_on, room_steps, tidying_removes, wires_grow}
 use Rattle.wire_edit.specs.declared.steps.Step.{Step}
 use Rattle.wire_edit.specs.declared.steps.Step.TheVariants.{Add, Fix, NewNot, Const, Same, NoPins, OnePin, Twice, Twin, Dead}
 use Rattle.wire_edit.specs.declared.refusal.EditRefusal.{EditRefusal}
@@ -21,7 +21,6 @@ use Rattle.wire_edit.specs.declared.room.Room.{Room}
 use Rattle.wire_edit.specs.Tests.{is_live, control_of, constant_at}
 use Rattle.wire_edit.specs.Steps.{Applies, stepped, change_of, constant_change}
 use Rattle.wire_edit.specs.Refusals.{refusal_of, room_after, IsAnswer}
-use Rattle.wire_edit.specs.Order.{next_step}
 use Rattle.wire_edit.specs.Laws.{IsTidying}
 use Rattle.wire_edit.specs.Tried.{Tried, start_of, Tidies}
 use Rattle.wire_edit.specs.Work.{work, pins_made, RoomForTidying, RoomForFixes}
@@ -186,18 +185,6 @@ fix_made net room gate p value cyclic (g, lt) some =
     rw (live, g, pin, left) refl
 
 -- TIDYING
-pub room_steps : (room : Room) (step : Step) → (room_after room step).steps ≡ room.steps - 1
-room_steps room (Add gate y) = refl
-room_steps room (NewNot y) = refl
-room_steps room (Fix gate position value) = refl
-room_steps room (Const gate position) = refl
-room_steps room (Same gate position) = refl
-room_steps room (NoPins gate) = refl
-room_steps room (OnePin gate) = refl
-room_steps room (Twice gate) = refl
-room_steps room (Twin gate other) = refl
-room_steps room (Dead gate) = refl
-
 tidying_justified : (net : Net) (step : Step) → IsTidying step → IsJustified net step []
 tidying_justified net (Add gate y) t = absurd t
 tidying_justified net (Fix gate position value) t = absurd t
@@ -222,11 +209,6 @@ tidying_grows net (Twice gate) t = tt
 tidying_grows net (Twin gate other) t = tt
 tidying_grows net (Dead gate) t = tt
 
-pub room_on : (room after : Room) (step : Step) (w k : ℕ) → after ≡ room_after room step → w + k ≤ room.steps - 1 → w + k ≤ after.steps
-room_on room after step w k is le =
-    let e : after.steps ≡ room.steps - 1 = ap (λ (r : Room). r.steps) is ∙ room_steps room step in
-    omega (arith, le, e)
-
 pub tidied_step :
     RoomForTidying → (t u : Tried) (step : Step) (log new : List Record) → IsWellFormed (net_of t.graph) → Tidies t u (Ok (Some step)) → start_of u ≡ start_of t → u.first ≡ t.first → u.graph.epoch ≡ t.graph.epoch
     → new ≡ log ++ record_of.Step step [] ∷ [] → 0 < t.room.steps → HoldsOn t.graph u.graph t.trail.entries u.trail.entries → Goes t u log new
@@ -240,15 +222,6 @@ tidied_step law t u step log new well made start first epoch is some holds =
     omega (arith, here, w))
     (tallies_one t u (record_of.Step step []) log new is some (ap (λ (r : Room). r.steps) made.1.1.1.1 ∙ room_steps t.room step) holds)
     made.1.1.1.1
-
-pub never_full : RoomForTidying → (t u : Tried) (why : EditRefusal) → IsWellFormed (net_of t.graph) → work (net_of t.graph) ≤ t.room.steps → Tidies t u (Err why) → ⊥
-never_full law t u why well le made = at (next_step (net_of t.graph)) refl
-  where
-    at : (o : Option Step) → next_step (net_of t.graph) ≡ o → ⊥
-    at None e = made.1.0 e
-    at (Some step) e =
-        let r : (0 < t.room.steps) × (work (stepped (net_of t.graph) step) + 0 ≤ t.room.steps - 1) = law (net_of t.graph) step 0 t.room.steps well e (omega (arith, le)) in
-        omega (arith, r.0, made.1.1.0)
 
 -- FIXING
 pub fixed_step :

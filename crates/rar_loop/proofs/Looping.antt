@@ -2,6 +2,7 @@
 use Rattle.std.proofs.Common.{◌≡◌, ℕ, suc, ◌+◌, ◌*◌, ◌≤◌, Bool, true, false, Some, List, [], ◌∷◌, ◌++◌, length, refl, sym, ◌∙◌, ap, subst, arith}
 use Rattle.std.specs.Prelude.{Err, IfOk, IsErrAnd, Ok, Result}
 use Rattle.gate_net.specs.Net.{Net, IsWellFormed, wire_count, source_count, gate_count}
+use Rattle.wire_edit.proofs.Public.{live_bound}
 use Rattle.wire_edit.specs.declared.steps.Step.{Step}
 use Rattle.wire_edit.specs.declared.steps.Step.TheVariants.{Add, Fix, NewNot, Const, Same, NoPins, OnePin, Twice, Twin, Dead}
 use Rattle.candidate_wires.specs.declared.candidate.Pair.{Pair}
@@ -26,7 +27,6 @@ use Rattle.rar_loop.specs.Sizes.{IsSame}
 use Rattle.rar_loop.specs.Improving.{HasBegun, HasImproved}
 use Rattle.rar_loop.proofs.GoingOn.{accepted_then, goes_then}
 use Rattle.rar_loop.proofs.Blocks.{removals_clean, removals_add_none, steps_then, places_then, improve_then, block_then}
-use Rattle.rar_loop.proofs.Readying.{live_bound}
 use Rattle.rar_loop.proofs.Sizing.{HasSize, accepted_places, accepted_sources, within_by}
 
 -- what holds of a value holds of an error

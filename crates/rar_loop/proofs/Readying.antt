@@ -1,19 +1,15 @@
 -- Room and sizes while a wire is added, and what its pin's fault comes to.
-use Rattle.std.proofs.Common.{◌≡◌, ℕ, suc, ◌+◌, ◌-◌, ◌*◌, ◌<◌, ◌≤◌, Bool, true, false, not, Option, Some, None, List, [], ◌∷◌, ◌++◌, length, refl, sym, ◌∙◌, ap, subst, arith}
-use Rattle.std.specs.Prelude.{slice_get, min, max, if◌then◌else◌}
-use Rattle.std.specs.List.{sum_by}
-use Rattle.std.proofs.lemmas.List.Sums.{sum_by-cons}
+use Rattle.std.proofs.Common.{◌≡◌, ℕ, ◌+◌, ◌-◌, ◌*◌, ◌<◌, ◌≤◌, Bool, true, false, not, Option, Some, None, List, [], ◌∷◌, ◌++◌, refl, sym, ◌∙◌, ap, subst, arith}
+use Rattle.std.specs.Prelude.{if◌then◌else◌}
 use Rattle.rm_base.specs.declared.numbers.Fault.{Fault}
 use Rattle.rm_base.specs.declared.numbers.NodeId.{NodeId}
-use Rattle.gate_net.specs.declared.Kind.{Kind}
-use Rattle.gate_net.specs.declared.Kind.TheVariants.{Source, Zero, One, And, Or, Not}
-use Rattle.gate_net.specs.Net.{Node, Net, node_at, drivers_of, flatten_option, IsLive, IsGate, IsWellFormed, wire_count, source_count, gate_count, count_in, source_in, gate_in}
+use Rattle.gate_net.specs.Net.{Net, drivers_of, IsLive, IsGate, IsWellFormed, wire_count, source_count, gate_count}
 use Rattle.gate_net.specs.Values.{HasPin}
 use Rattle.gate_net.specs.Edits.{with_pin, last_pin}
 use Rattle.gate_graph.specs.Circuit.{net_of}
 use Rattle.refutation.specs.Branches.{AreAccepted}
 use Rattle.refutation.specs.declared.items.Item.{Item}
-use Rattle.wire_edit.proofs.Public.{gate_is, is_live_there, junction_gate, total_with, wires_grow}
+use Rattle.wire_edit.proofs.Public.{gate_is, is_live_there, junction_gate, live_bound, room_on, total_with, wires_grow}
 use Rattle.wire_edit.specs.declared.steps.Step.TheVariants.{Add, NewNot}
 use Rattle.wire_edit.specs.declared.refusal.EditRefusal.{EditRefusal}
 use Rattle.wire_edit.specs.Tests.{control_of, live_in}
@@ -31,9 +27,7 @@ use Rattle.journal_text.specs.Runs.{AcceptedTo}
 use Rattle.refutation.specs.Detected.{HasOpenSet}
 use Rattle.rar_loop.specs.Swept.{IsLooked}
 use Rattle.rar_loop.specs.Trying.{MayAdd, IsNewPinOpen, IsReadyToAdd, HasAdded, adding_records, not_records}
-use Rattle.rar_loop.proofs.GoingOn.{room_on}
 use Rattle.rar_loop.proofs.NewNots.{live_more}
-use Rattle.rar_loop.proofs.Sizing.{added_numbers, added_one}
 use Rattle.rar_loop.proofs.Adding.{add_applies, add_made, none_refused, control_same, control_is, new_pin_reads, last_same, node_of}
 
 -- ROOM
@@ -116,60 +110,6 @@ has_added net after c may n fault depth o tree log records well nodes wires e is
     let d : AreAccepted (with_candidate net c) (last_pin net c.gate.0 (not may.1.control)) tree = subst (λ (f : Fault). AreAccepted (with_candidate net c) f tree) is b in
     let same : records ≡ adding_records net c tree = are ∙ ap (λ (xs : List Record). xs ++ record_of.Step (Add c.gate n) tree ∷ []) notes ∙ ap (λ (m : NodeId). not_records c ++ record_of.Step (Add c.gate m) tree ∷ []) (ap node wire) in
     (tree, (same, subst (λ (rs : List Record). AcceptedTo net rs (with_candidate net c)) (sym same) (accepted_adding net c tree well may nodes wires d)))
-
--- AT THE BEGINNING
-live_one : (o : Option Node) → live_in o ≤ 1
-live_one None = omega arith
-live_one (Some n) = omega arith
-
-kind_live : (k : Kind) → (k ≡ Zero → ⊥) → (k ≡ One → ⊥) → 1 ≤ source_in k + gate_in k
-kind_live Source z o = omega arith
-kind_live Zero z o = absurd (z refl)
-kind_live One z o = absurd (o refl)
-kind_live And z o = omega arith
-kind_live Or z o = omega arith
-kind_live Not z o = omega arith
-
--- of nodes none of which is a constant
-live_rest : (os : List (Option Node)) → ((k : ℕ) (n : Node) → slice_get os k ≡ Some (Some n) → (n.kind ≡ Zero → ⊥) × (n.kind ≡ One → ⊥))
-    → sum_by live_in os ≤ sum_by (λ (o : Option Node). count_in o source_in) os + sum_by (λ (o : Option Node). count_in o gate_in) os
-live_rest [] h = omega arith
-live_rest (o ∷ os) h =
-    let rest : sum_by live_in os ≤ sum_by (λ (q : Option Node). count_in q source_in) os + sum_by (λ (q : Option Node). count_in q gate_in) os = live_rest os (λ k n e. h (suc k) n e) in
-    let a : sum_by live_in (o ∷ os) ≡ live_in o + sum_by live_in os = sum_by-cons live_in o os in
-    let b : sum_by (λ (q : Option Node). count_in q source_in) (o ∷ os) ≡ count_in o source_in + sum_by (λ (q : Option Node). count_in q source_in) os = sum_by-cons (λ (q : Option Node). count_in q source_in) o os in
-    let d : sum_by (λ (q : Option Node). count_in q gate_in) (o ∷ os) ≡ count_in o gate_in + sum_by (λ (q : Option Node). count_in q gate_in) os = sum_by-cons (λ (q : Option Node). count_in q gate_in) o os in
-    let here : live_in o ≤ count_in o source_in + count_in o gate_in = one o (λ n e. h 0 n (ap Some e)) in
-    omega (arith, rest, a, b, d, here)
-  where
-    one : (q : Option Node) → ((n : Node) → q ≡ Some n → (n.kind ≡ Zero → ⊥) × (n.kind ≡ One → ⊥)) → live_in q ≤ count_in q source_in + count_in q gate_in
-    one None g = omega arith
-    one (Some n) g = kind_live n.kind (g n refl).0 (g n refl).1
-
-pub live_bound : (net : Net) → IsWellFormed net → live_count net ≤ 2 + (source_count net + gate_count net)
-live_bound net well = at net.nodes refl
-  where
-    away : (k : ℕ) (n : Node) → slice_get net.nodes (suc (suc k)) ≡ Some (Some n) → (n.kind ≡ Zero → ⊥) × (n.kind ≡ One → ⊥)
-    away k n e =
-        let there : node_at net (suc (suc k)) ≡ Some n = ap flatten_option e in (
-          (λ z. let x : suc (suc k) ≡ 0 = well.only_zero (suc (suc k)) (n.drivers, there ∙ ap (λ (kind : Kind). let m : Node = record { kind = kind; drivers = n.drivers } in Some m) z) in omega (arith, x)),
-          (λ o. let x : suc (suc k) ≡ 1 = well.only_one (suc (suc k)) (n.drivers, there ∙ ap (λ (kind : Kind). let m : Node = record { kind = kind; drivers = n.drivers } in Some m) o) in omega (arith, x)),
-        )
-
-    at : (os : List (Option Node)) → net.nodes ≡ os → sum_by live_in os ≤ 2 + (sum_by (λ (o : Option Node). count_in o source_in) os + sum_by (λ (o : Option Node). count_in o gate_in) os)
-    at [] is = omega arith
-    at (a ∷ []) is = let l : live_in a ≤ 1 = live_one a in let e : sum_by live_in (a ∷ []) ≡ live_in a + 0 = sum_by-cons live_in a [] in omega (arith, l, e)
-    at (a ∷ b ∷ os) is =
-        let l : live_in a ≤ 1 = live_one a in
-        let m : live_in b ≤ 1 = live_one b in
-        let e : sum_by live_in (a ∷ b ∷ os) ≡ live_in a + sum_by live_in (b ∷ os) = sum_by-cons live_in a (b ∷ os) in
-        let f : sum_by live_in (b ∷ os) ≡ live_in b + sum_by live_in os = sum_by-cons live_in b os in
-        let s : sum_by (λ (o : Option Node). count_in o source_in) (a ∷ b ∷ os) ≡ count_in a source_in + sum_by (λ (o : Option Node). count_in o source_in) (b ∷ os) = sum_by-cons (λ (o : Option Node). count_in o source_in) a (b ∷ os) in
-        let s' : sum_by (λ (o : Option Node). count_in o source_in) (b ∷ os) ≡ count_in b source_in + sum_by (λ (o : Option Node). count_in o source_in) os = sum_by-cons (λ (o : Option Node). count_in o source_in) b os in
-        let g : sum_by (λ (o : Option Node). count_in o gate_in) (a ∷ b ∷ os) ≡ count_in a gate_in + sum_by (λ (o : Option Node). count_in o gate_in) (b ∷ os) = sum_by-cons (λ (o : Option Node). count_in o gate_in) a (b ∷ os) in
-        let g' : sum_by (λ (o : Option Node). count_in o gate_in) (b ∷ os) ≡ count_in b gate_in + sum_by (λ (o : Option Node). count_in o gate_in) os = sum_by-cons (λ (o : Option Node). count_in o gate_in) b os in
-        let rest : sum_by live_in os ≤ sum_by (λ (o : Option Node). count_in o source_in) os + sum_by (λ (o : Option Node). count_in o gate_in) os = live_rest os (λ k n there. away k n (ap (λ (qs : List (Option Node)). slice_get qs (suc (suc k))) is ∙ there)) in
-        omega (arith, l, m, e, f, s, s', g, g', rest)
 
 pub ready_first : (t : Tried) (net : Net) → net_of t.graph ≡ net → WorkIsBounded → IsWellFormed net → 2 * wire_count net + 2 * (2 + source_count net + gate_count net) + 16 ≤ t.room.steps → wire_count net + (2 + source_count net + gate_count net) ≤ 1048576 → IsReadyToAdd t 16
 ready_first t net e law well steps few =

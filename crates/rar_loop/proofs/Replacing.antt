@@ -35,7 +35,7 @@ use Rattle.journal_text.specs.declared.record.Record.{Record}
 use Rattle.journal_text.specs.declared.record.Record.TheVariants as record_of
 use Rattle.journal_text.specs.Runs.{AcceptedTo, steps_of}
 use Rattle.rar_loop.specs.Swept.{HasSwept}
-use Rattle.wire_edit.proofs.Public.{reader_gate, tidy_reads_none, within}
+use Rattle.wire_edit.proofs.Public.{live_bound, reader_gate, tidy_reads_none, within}
 use Rattle.rar_loop.specs.Going.{HasFreePin, HasFixed, IsLeft, Logs, IsNoLarger}
 use Rattle.journal_text.specs.Runs.{AreRemovals}
 use Rattle.rar_loop.specs.Sizes.{IsSame, most_steps}
@@ -43,7 +43,6 @@ use Rattle.rar_loop.specs.Trying.{IsBetter, IsBack, IsLent, MayTry, HasAdded, Ha
 use Rattle.rar_loop.proofs.GoingOn.{accepted_then, removals_then}
 use Rattle.rar_loop.proofs.Adding.{pin_stays}
 use Rattle.rar_loop.proofs.Sizing.{HasSize, added_gates, added_numbers, accepted_places, accepted_sources, within_by}
-use Rattle.rar_loop.proofs.Readying.{live_bound}
 use Rattle.rar_loop.proofs.Opens.{open_pin_fails, open_target_fails}
 use Rattle.rar_loop.proofs.Blocks.{removals_clean, removals_add_none, accepted_after}
 

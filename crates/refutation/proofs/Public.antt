@@ -30,9 +30,9 @@ pub use Rattle.gate_looks.proofs.Public.{all_came, gate_in, next_below, next_rea
 pub use Rattle.refutation.proofs.Stacks.{stack_reads}
 -- What the calls of a graph and of the facts tell.
 pub use Rattle.gate_looks.proofs.Public.{beq_same, drivers_below, each_of_one, each_of_two, gate_live}
+-- What the calls of a graph and of the facts tell.
 pub use Rattle.refutation.proofs.Told.{faulty_pins, some_is}
 pub use Rattle.gate_looks.proofs.Public.{kind_is, kind_live, live_below, live_from, reader_live, slice_get_below}
-pub use Rattle.refutation.proofs.Told.{some_is}
 -- A walk along the chain of a gate.
 pub use Rattle.gate_looks.proofs.Public.{chain_live, walk_ends, walk_goes_on, walk_live, walk_short}
 pub use Rattle.gate_looks.proofs.Public.{walk_starts}

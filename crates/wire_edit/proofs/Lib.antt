@@ -40,3 +40,5 @@ pub mod KnownPins
 pub mod LiveNodes
 pub mod GoingBack
 pub mod Public
+pub mod LiveCounts
+pub mod RoomLeft

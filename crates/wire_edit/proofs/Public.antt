@@ -30,7 +30,15 @@ pub use Rattle.wire_edit.proofs.Totals.{total_gone, total_least, total_map, tota
 pub use Rattle.wire_edit.proofs.Walks.{march, next_place}
 -- Each tidying step lowers the work that is left.
 pub use Rattle.wire_edit.proofs.Working.{above_constants, constant_bound, gate_weight, with_free}
+-- A tidy net has no pin that a constant drives, and no removal makes another pin free.
 pub use Rattle.wire_edit.proofs.FreePins.{MakesNone, all_free, below_two, change_frees, constant_makes, constant_node_is, fix_frees, free_all, moved_free, reader_gate, removal_frees, removal_makes, sum_same, tidy_reads_none}
+-- The tidying order to its end, and a fix before it.
 pub use Rattle.wire_edit.proofs.Falling.{fix_applies, step_formed, tidies_to_one, tidying_removes}
+-- How many nodes live, and how a step makes more numbers and pins.
 pub use Rattle.wire_edit.proofs.LiveNodes.{kept_there, last_there}
+-- A step that applies and has room isn't refused.
 pub use Rattle.wire_edit.proofs.Unrefused.{not_closing}
+-- A well-formed net has no live nodes but the two constants, the sources and the gates.
+pub use Rattle.wire_edit.proofs.LiveCounts.{live_bound}
+-- The room that a step leaves, and that tidying never lacks any.
+pub use Rattle.wire_edit.proofs.RoomLeft.{never_full, room_on, room_steps}

@@ -2,11 +2,12 @@ use Rattle.std.proofs.Common.{◌+◌, ◌≤◌, subst, arith}
 use Rattle.std.specs.Prelude.{Some, Ok, Err}
 use Rattle.gate_net.specs.Net.{IsWellFormed}
 use Rattle.gate_graph.specs.Circuit.{Circuit, net_of}
+use Rattle.wire_edit.proofs.Public.{never_full}
 use Rattle.wire_edit.specs.Work.{work}
 use Rattle.wire_edit.specs.Tried.{Tidies}
 use Rattle.closing_pass.specs.Going.{AddsLocal, Goes}
 use Rattle.closing_pass.proofs.Falling.{RemovalLaws}
-use Rattle.closing_pass.proofs.GoingOn.{goes_none, goes_then, local_none, local_then, tidied_step, never_full}
+use Rattle.closing_pass.proofs.GoingOn.{goes_none, goes_then, local_none, local_then, tidied_step}
 use Rattle.closing_pass.proofs.tidying.tidy.Goals as goal
 
 pub loop-step-init : goal.loop-step-init

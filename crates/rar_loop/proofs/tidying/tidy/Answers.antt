@@ -7,11 +7,11 @@ use Rattle.wire_edit.specs.Tried.{Tried, Tidies}
 use Rattle.candidate_wires.specs.Tidying.{TidiesTo, tidy, then}
 use Rattle.rar_loop.specs.Changing.{HasNoted, NotesOn}
 use Rattle.rar_loop.specs.Going.{Goes}
-use Rattle.wire_edit.proofs.Public.{next_applies}
+use Rattle.wire_edit.proofs.Public.{never_full, next_applies}
 use Rattle.wire_edit.specs.Laws.{IsTidying}
 use Rattle.wire_edit.specs.Steps.{Applies}
 use Rattle.rar_loop.proofs.Noting.{tidying_no_not}
-use Rattle.rar_loop.proofs.GoingOn.{goes_none, goes_then, tidied_step, never_full}
+use Rattle.rar_loop.proofs.GoingOn.{goes_none, goes_then, tidied_step}
 use Rattle.rar_loop.proofs.tidying.tidy.Goals as goal
 
 pub loop-step-init : goal.loop-step-init

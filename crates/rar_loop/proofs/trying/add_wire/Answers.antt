@@ -1,5 +1,6 @@
-use Rattle.std.proofs.Common.{◌≡◌, ◌<◌, ◌≤◌, not, length, ◌∙◌, ap, subst, arith}
+use Rattle.std.proofs.Common.{◌≡◌, ◌<◌, not, ◌∙◌, ap, subst, arith}
 use Rattle.gate_net.specs.Net.{Net, IsWellFormed, wire_count}
+use Rattle.wire_edit.proofs.Public.{room_steps}
 use Rattle.wire_edit.specs.Refusals.{ceiling}
 use Rattle.gate_net.specs.Edits.{last_pin}
 use Rattle.gate_graph.specs.Circuit.{Circuit, net_of}
@@ -8,7 +9,7 @@ use Rattle.wire_edit.specs.Steps.{Applies}
 use Rattle.candidate_wires.specs.Gains.{net_for, with_candidate}
 use Rattle.rar_loop.specs.Changing.{HasNoted, NotesOn}
 use Rattle.rar_loop.proofs.Readying.{ready_after_add, add_refused, add_here, net_added, fault_is, fault_pin, new_pin_open, has_added}
-use Rattle.rar_loop.proofs.GoingOn.{tallies_one, tallies_then, room_steps}
+use Rattle.rar_loop.proofs.GoingOn.{tallies_one, tallies_then}
 use Rattle.journal_text.specs.declared.record.Record.TheVariants as record_of
 use Rattle.rar_loop.proofs.trying.add_wire.Goals as goal
 

@@ -2,13 +2,13 @@ use Rattle.std.proofs.Common.{◌≡◌, ℕ, sym, [], ap, ◌∙◌, subst, ari
 use Rattle.gate_net.specs.Net.{Net, IsWellFormed}
 use Rattle.gate_net.specs.Edits.{DiffersAt}
 use Rattle.wire_edit.specs.Changes.{with_new_not}
-use Rattle.wire_edit.proofs.Public.{least_free as first_free, new_differs}
+use Rattle.wire_edit.proofs.Public.{least_free as first_free, new_differs, room_steps}
 use Rattle.candidate_wires.specs.Gains.{least_free}
 use Rattle.rar_loop.proofs.NewNots.{least_same}
 use Rattle.gate_graph.specs.Circuit.{Circuit, net_of}
 use Rattle.rar_loop.proofs.Adding.{node_of}
 use Rattle.rar_loop.proofs.Readying.{ready_after_not}
-use Rattle.rar_loop.proofs.GoingOn.{tallies_one, room_steps}
+use Rattle.rar_loop.proofs.GoingOn.{tallies_one}
 use Rattle.wire_edit.specs.declared.steps.Step.TheVariants.{NewNot}
 use Rattle.journal_text.specs.declared.record.Record.TheVariants as record_of
 use Rattle.rar_loop.proofs.trying.wire_of.Goals as goal
