@@ -8,4 +8,3 @@ mod scan;
 
 pub use line::{LineFault, LogicalLine, Token};
 pub use reader::LineReader;
-

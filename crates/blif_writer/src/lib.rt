@@ -8,4 +8,3 @@ mod write;
 
 pub use laws::{read_texts_are_faultless, written_texts_read};
 pub use write::write_model;
-

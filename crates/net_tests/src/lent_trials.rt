@@ -1,9 +1,9 @@
 //! Many trials on one workspace, each compared with a fresh one.
 use crate::trial_scripts::{begun_tidy, play, told};
-use wire_edit::{Step, Trial};
 use rm_base::{NoMemory, NodeId};
 use std::alloc::Global;
 use std::test::Fail;
+use wire_edit::{Step, Trial};
 
 // Whether two trials have the same graph, steps and room.
 fn same(alloc: Global, one: &Trial, other: &Trial) -> Result<bool, NoMemory> {

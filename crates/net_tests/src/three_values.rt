@@ -2,12 +2,12 @@
 ghost use Rattle.gate_net.specs.Net.{Net};
 ghost use Rattle.ternary_sim.specs.Sims.{Fits};
 
-use ternary_sim::Sim;
 use gate_graph::Graph;
 use rm_base::vectors::Value3;
 use rm_base::{NodeId, SourceNo};
 use std::alloc::Global;
 use std::test::Fail;
+use ternary_sim::Sim;
 use test_nets::worked::{ABSORBED, FOUR_GATES_AND_NOT, ONE_GATE};
 use test_nets::{fault_at, wired};
 

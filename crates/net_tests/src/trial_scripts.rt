@@ -1,13 +1,13 @@
 //! A script of calls on a trial, and what is left after a rollback.
 use crate::trials::{begun, trial_of};
-use wire_edit::{Room, Seen, Step, Trial, first_rule, first_rule_by};
 use gate_graph::Graph;
 use rm_base::{NoMemory, NodeId};
 use std::alloc::Global;
 use std::process::Abort;
 use std::test::Fail;
-use test_nets::{is_live, wired};
 use test_nets::worked::FOUR_GATES;
+use test_nets::{is_live, wired};
+use wire_edit::{Room, Seen, Step, Trial, first_rule, first_rule_by};
 
 // The next number of a fixed sequence.
 fn drawn(number: u32) -> u32 {

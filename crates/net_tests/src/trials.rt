@@ -2,13 +2,13 @@
 ghost use Rattle.std.specs.Prelude.{◌≤◌, ◌+◌};
 ghost use Rattle.gate_graph.specs.Circuit.{live_nodes, pins_taken};
 
-use wire_edit::{EditRefusal, Room, Rule, Step, Trial, first_rule};
 use gate_graph::Graph;
 use rm_base::NodeId;
 use std::alloc::Global;
 use std::test::Fail;
 use test_nets::worked::{BUFFER, FOUR_GATES};
 use test_nets::{Wiring, is_live, wired};
+use wire_edit::{EditRefusal, Room, Rule, Step, Trial, first_rule};
 
 // A trial of the graph with room for so many pins.
 pub(crate) fn begun(alloc: Global, graph: Graph, pins: usize) -> Result<Trial, Fail>

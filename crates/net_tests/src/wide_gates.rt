@@ -1,9 +1,9 @@
 //! Tidying of wide gates, whose time shows in the limit of a test.
-use wire_edit::{Room, Trial};
 use rm_base::NoMemory;
 use std::alloc::Global;
 use std::test::Fail;
 use test_nets::{Gate, Wiring, wired};
+use wire_edit::{Room, Trial};
 
 // Numbers of which each comes again after so many.
 fn in_turn(alloc: Global, count: u32, names: u32) -> Result<Vec<u32>, NoMemory> {

@@ -1,11 +1,9 @@
 // Tests of ranks, sources, observed points and values.
-use rm_model::evaluation::evaluate;
-use rm_model::form::is_well_formed;
-use rm_model::list::Listed;
-use rm_model::parts::{Cover, Latch, LatchKind, Literal, Model, Name, Row, Timing};
-use rm_model::points::{observed, sources};
-use rm_model::ranking::{RankFault, rank};
 use rm_base::{NoMemory, Vector};
+use rm_model::{
+    Cover, Latch, LatchKind, Listed, Literal, Model, Name, RankFault, Row, Timing, evaluate,
+    is_well_formed, observed, rank, sources,
+};
 use std::alloc::Global;
 use std::test::Fail;
 

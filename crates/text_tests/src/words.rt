@@ -1,7 +1,7 @@
-use word_reading::{Command, WordFault, read_words};
 use rm_base::Settings;
 use std::alloc::Global;
 use std::test::Fail;
+use word_reading::{Command, WordFault, read_words};
 
 // A line of words parted by blanks; `~` stands for the empty word.
 fn words(alloc: Global, line: &str) -> Result<Vec<String>, Fail> {

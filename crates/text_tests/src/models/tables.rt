@@ -1,6 +1,6 @@
 // Tests of numbered names.
-use rm_model::name_table::NameTable;
 use rm_base::NoMemory;
+use rm_model::NameTable;
 use std::alloc::Global;
 use std::process::Abort;
 use std::test::Fail;
