@@ -2,6 +2,7 @@
 ghost use Rattle.std.specs.Prelude.{◌<◌};
 ghost use Rattle.journal_text.specs.Text.{IsWritable};
 
+use crate::worked::FOUR_GATES_JOURNAL;
 use journal_text::{
     Entry, JournalFault, JournalReader, Record, Stop, append_entry, append_hit, append_spent,
     append_step, read_journal, write_entry,
@@ -11,9 +12,6 @@ use rm_base::{Fault, MemoryShelf, NodeId};
 use std::alloc::Global;
 use std::test::Fail;
 use wire_edit::Step;
-
-const WORKED: &str =
-    "rambo 1 256\nadd 9 2 a g6 g7 g8 s o8 i9,0 !8\nfix 6 0 1 a s h8 h9 o2 i9,2 !2\nconst 6 0\none 6\ndead 6\nfix 7 0 1 a h9 o2 i9,2 !2\nconst 7 0\none 7\ndead 7\nhit 8 0 0 1101\nhit 8 0 1 1001\nhit 8 1 0 1011\nhit 8 1 1 1001\nhit 9 0 0 1101\nhit 9 0 1 1001\nhit 9 1 0 1101\nhit 9 1 1 1100\nhit 9 2 0 1101\nhit 9 2 1 0101\nend\n";
 
 // What a reader gives of a text that is pushed in pieces of one length: the lines of the entries, how many there are,
 // and the fault, if there is one.
@@ -72,12 +70,12 @@ fn read_by(alloc: Global, text: &[u8], size: usize) -> Result<Given, Fail>
 fn worked_journal_in_pieces_of_every_length(rt: HostRuntime) -> Result<(), Fail> {
     let alloc = rt.alloc();
     for size in 1..302usize {
-        let given = read_by(alloc, WORKED.as_bytes(), size)?;
-        assert_eq!(rt; given.text.as_slice(), WORKED.as_bytes());
+        let given = read_by(alloc, FOUR_GATES_JOURNAL.as_bytes(), size)?;
+        assert_eq!(rt; given.text.as_slice(), FOUR_GATES_JOURNAL.as_bytes());
         assert_eq!(rt; given.count, 21);
         assert_eq!(rt; given.fault, None);
     }
-    let (budget, records) = read_journal(alloc, WORKED.as_bytes())?;
+    let (budget, records) = read_journal(alloc, FOUR_GATES_JOURNAL.as_bytes())?;
     assert_eq!(rt; budget, 256);
     assert_eq!(rt; records.len(), 19);
     Ok(())
@@ -93,168 +91,195 @@ fn fault_of(alloc: Global, text: &[u8]) -> Result<Option<JournalFault>, Fail> {
     Ok(whole)
 }
 
-#[test]
-fn headers(rt: HostRuntime) -> Result<(), Fail> {
-    let alloc = rt.alloc();
-    for line in [
-        "",
-        "rambo",
-        "rambo 1",
-        "rambo 1 ",
-        "rambo 1 0",
-        "rambo 1 1048577",
-        "rambo 1 0256",
-        "rambo 1 -1",
-        "rambo 1 256 1",
-        "rambo 2 256",
-        "rambo 01 256",
-        "rambo  1 256",
-        "rambo\t1 256",
-        " rambo 1 256",
-        "rambo 1 256 ",
-        "rambo 1 256\r",
-        "Rambo 1 256",
-        "end",
-        "dead 6",
-    ] {
-        let text = format!(in alloc; "{line}\nend\n")?;
+// Each of the words between these parts makes the fault.
+fn all_fail(
+    alloc: Global,
+    before: &str,
+    words: &[&str],
+    after: &str,
+    wanted: JournalFault,
+) -> Result<(), Fail> {
+    for word in words {
+        let text = format!(in alloc; "{before}{word}{after}")?;
         let fault = fault_of(alloc, text.as_bytes())?;
-        assert_eq!(rt; fault, Some(JournalFault::BadHeader { line: 1 }), "{line}");
-    }
-    for budget in [1, 1_048_576u32] {
-        let text = format!(in alloc; "rambo 1 {budget}\nend\n")?;
-        assert_eq!(rt; fault_of(alloc, text.as_bytes())?, None);
+        if fault != Some(wanted) {
+            return Err(text.into());
+        }
     }
     Ok(())
 }
+
+// No headers.
+const NO_HEADERS: [&'static str; 19] = [
+    "",
+    "rambo",
+    "rambo 1",
+    "rambo 1 ",
+    "rambo 1 0",
+    "rambo 1 1048577",
+    "rambo 1 0256",
+    "rambo 1 -1",
+    "rambo 1 256 1",
+    "rambo 2 256",
+    "rambo 01 256",
+    "rambo  1 256",
+    "rambo\t1 256",
+    " rambo 1 256",
+    "rambo 1 256 ",
+    "rambo 1 256\r",
+    "Rambo 1 256",
+    "end",
+    "dead 6",
+];
+
+#[test]
+fn headers(rt: HostRuntime) -> Result<(), Fail> {
+    let wanted = JournalFault::BadHeader { line: 1 };
+    all_fail(rt.alloc(), "", &NO_HEADERS, "\nend\n", wanted)
+}
+
+#[test]
+fn least_and_greatest_budget(rt: HostRuntime) -> Result<(), Fail> {
+    assert_eq!(rt; fault_of(rt.alloc(), b"rambo 1 1\nend\n")?, None);
+    assert_eq!(rt; fault_of(rt.alloc(), b"rambo 1 1048576\nend\n")?, None);
+    Ok(())
+}
+
+// No records.
+const NO_RECORDS: [&'static str; 42] = [
+    "",
+    " ",
+    "dead",
+    "dead 06",
+    "dead 00",
+    "dead 4294967296",
+    "dead 18446744073709551622",
+    "dead 6 7",
+    "dead 6 ",
+    "dead 6\r",
+    "dead +6",
+    "dead 6a",
+    " dead 6",
+    "dead  6",
+    "dead\t6",
+    "Dead 6",
+    "deads 6",
+    "rambo 1 256",
+    "end 1",
+    "end ",
+    " end",
+    "not",
+    "not 5 6",
+    "const 6",
+    "const 6 0 0",
+    "twin 7",
+    "add 9 2",
+    "add 9 2 ",
+    "add 9 a",
+    "add 9 02 a",
+    "fix 6 0 1",
+    "fix 6 0 2 .",
+    "fix 6 0 01 .",
+    "fix 6 0 a .",
+    "fix 6 00 1 .",
+    "spent 8 0 1",
+    "spent 8 0 1  @",
+    "hit 8 0 0",
+    "hit 8 0 0 ",
+    "hit 8 0 0 102",
+    "hit 8 0 0 1 1",
+    "hit 8 0 2 1",
+];
 
 #[test]
 fn damaged_records(rt: HostRuntime) -> Result<(), Fail> {
-    let alloc = rt.alloc();
-    for line in [
-        "",
-        " ",
-        "dead",
-        "dead 06",
-        "dead 00",
-        "dead 4294967296",
-        "dead 18446744073709551622",
-        "dead 6 7",
-        "dead 6 ",
-        "dead 6\r",
-        "dead +6",
-        "dead 6a",
-        " dead 6",
-        "dead  6",
-        "dead\t6",
-        "Dead 6",
-        "deads 6",
-        "rambo 1 256",
-        "end 1",
-        "end ",
-        " end",
-        "not",
-        "not 5 6",
-        "const 6",
-        "const 6 0 0",
-        "twin 7",
-        "add 9 2",
-        "add 9 2 ",
-        "add 9 a",
-        "add 9 02 a",
-        "fix 6 0 1",
-        "fix 6 0 2 .",
-        "fix 6 0 01 .",
-        "fix 6 0 a .",
-        "fix 6 00 1 .",
-        "spent 8 0 1",
-        "spent 8 0 1  @",
-        "hit 8 0 0",
-        "hit 8 0 0 ",
-        "hit 8 0 0 102",
-        "hit 8 0 0 1 1",
-        "hit 8 0 2 1",
-    ] {
-        let text = format!(in alloc; "rambo 1 256\ntwice 6\n{line}\nend\n")?;
-        let fault = fault_of(alloc, text.as_bytes())?;
-        assert_eq!(rt; fault, Some(JournalFault::BadRecord { line: 3 }), "{line}");
-    }
-    Ok(())
+    let wanted = JournalFault::BadRecord { line: 3 };
+    all_fail(
+        rt.alloc(),
+        "rambo 1 256\ntwice 6\n",
+        &NO_RECORDS,
+        "\nend\n",
+        wanted,
+    )
 }
+
+// No items.
+const NO_ITEMS: [&'static str; 34] = [
+    "x",
+    "A",
+    "6",
+    ",",
+    "aa",
+    "a1",
+    "s0",
+    ".0",
+    "@1",
+    "?1",
+    "g",
+    "g06",
+    "g4294967296",
+    "g6,1",
+    "g6,",
+    "g,6",
+    "g-6",
+    "i9",
+    "i9,",
+    "i9,00",
+    "i9,0,1",
+    "i,0",
+    "i9 ,0",
+    "b7",
+    "c7,01",
+    "d",
+    "/2",
+    "/2,2",
+    "/2,01",
+    "/02,1",
+    "/2,1,",
+    "!",
+    "!2,0",
+    "!02",
+];
 
 #[test]
 fn damaged_items(rt: HostRuntime) -> Result<(), Fail> {
-    let alloc = rt.alloc();
-    for word in [
-        "x",
-        "A",
-        "6",
-        ",",
-        "aa",
-        "a1",
-        "s0",
-        ".0",
-        "@1",
-        "?1",
-        "g",
-        "g06",
-        "g4294967296",
-        "g6,1",
-        "g6,",
-        "g,6",
-        "g-6",
-        "i9",
-        "i9,",
-        "i9,00",
-        "i9,0,1",
-        "i,0",
-        "i9 ,0",
-        "b7",
-        "c7,01",
-        "d",
-        "/2",
-        "/2,2",
-        "/2,01",
-        "/02,1",
-        "/2,1,",
-        "!",
-        "!2,0",
-        "!02",
-    ] {
-        let text = format!(in alloc; "rambo 1 256\nadd 9 2 a {word} !8\nend\n")?;
-        let fault = fault_of(alloc, text.as_bytes())?;
-        assert_eq!(rt; fault, Some(JournalFault::BadRecord { line: 2 }), "{word}");
+    let wanted = JournalFault::BadRecord { line: 2 };
+    all_fail(
+        rt.alloc(),
+        "rambo 1 256\nadd 9 2 a ",
+        &NO_ITEMS,
+        " !8\nend\n",
+        wanted,
+    )
+}
+
+#[test]
+fn texts_cut_off(rt: HostRuntime) -> Result<(), Fail> {
+    let mut line = 1u64;
+    for length in 0..FOUR_GATES_JOURNAL.len() {
+        let text = &FOUR_GATES_JOURNAL.as_bytes()[..length];
+        if text.ends_with(b"\n") {
+            line = line.saturating_add(1);
+        }
+        let fault = fault_of(rt.alloc(), text)?;
+        assert_eq!(rt; fault, Some(JournalFault::Truncated { line }));
     }
     Ok(())
 }
 
+const LONGER: [(&'static str, u64); 5] = [
+    ("rambo 1 256\nend\n\n", 3),
+    ("rambo 1 256\nend\nend\n", 3),
+    ("rambo 1 256\nend\ndead 6\n", 3),
+    ("rambo 1 256\nend\nx", 3),
+    ("rambo 1 256\ndead 6\nend\n\0", 4),
+];
+
 #[test]
-fn texts_cut_off_and_longer(rt: HostRuntime) -> Result<(), Fail> {
-    let alloc = rt.alloc();
-    let mut lines = 0u64;
-    for length in 0..WORKED.len() {
-        let fault = fault_of(alloc, &WORKED.as_bytes()[..length])?;
-        if length > 0 && WORKED.as_bytes()[length - 1] == b'\n' {
-            lines = lines.saturating_add(1);
-        }
-        assert_eq!(rt;
-            fault,
-            Some(JournalFault::Truncated {
-                line: lines.saturating_add(1)
-            })
-        );
-    }
-    for (text, line) in [
-        ("rambo 1 256\nend\n\n", 3u64),
-        ("rambo 1 256\nend\nend\n", 3),
-        ("rambo 1 256\nend\ndead 6\n", 3),
-        ("rambo 1 256\nend\nx", 3),
-        ("rambo 1 256\ndead 6\nend\n\0", 4),
-    ] {
-        assert_eq!(rt;
-            fault_of(alloc, text.as_bytes())?,
-            Some(JournalFault::AfterEnd { line })
-        );
+fn longer_texts(rt: HostRuntime) -> Result<(), Fail> {
+    for (text, line) in LONGER {
+        let fault = fault_of(rt.alloc(), text.as_bytes())?;
+        assert_eq!(rt; fault, Some(JournalFault::AfterEnd { line }));
     }
     Ok(())
 }
@@ -277,65 +302,94 @@ fn step_of(alloc: Global, line: &str) -> Result<Option<Step>, Fail> {
     Ok(Some(step))
 }
 
+const SIX: NodeId = NodeId(6);
+
+const LAST: NodeId = NodeId(4_294_967_295);
+
+const STEPS: [(&'static str, Step); 11] = [
+    (
+        "add 6 4294967295 .",
+        Step::Add {
+            gate: SIX,
+            node: LAST,
+        },
+    ),
+    (
+        "fix 6 10 0 .",
+        Step::Fix {
+            gate: SIX,
+            position: 10,
+            value: false,
+        },
+    ),
+    (
+        "fix 6 4294967295 1 .",
+        Step::Fix {
+            gate: SIX,
+            position: 4_294_967_295,
+            value: true,
+        },
+    ),
+    ("not 6", Step::NewNot { node: SIX }),
+    (
+        "const 6 0",
+        Step::Const {
+            gate: SIX,
+            position: 0,
+        },
+    ),
+    (
+        "same 6 7",
+        Step::Same {
+            gate: SIX,
+            position: 7,
+        },
+    ),
+    ("none 6", Step::NoPins { gate: SIX }),
+    ("one 6", Step::OnePin { gate: SIX }),
+    ("twice 6", Step::Twice { gate: SIX }),
+    (
+        "twin 6 4294967295",
+        Step::Twin {
+            gate: SIX,
+            other: LAST,
+        },
+    ),
+    ("dead 6", Step::Dead { gate: SIX }),
+];
+
 #[test]
 fn steps_of_all_kinds(rt: HostRuntime) -> Result<(), Fail> {
-    let alloc = rt.alloc();
-    let (gate, node) = (NodeId(6), NodeId(4_294_967_295));
-    let rows = [
-        ("add 6 4294967295 .", Step::Add { gate, node }),
-        (
-            "fix 6 10 0 .",
-            Step::Fix {
-                gate,
-                position: 10,
-                value: false,
-            },
-        ),
-        (
-            "fix 6 4294967295 1 .",
-            Step::Fix {
-                gate,
-                position: 4_294_967_295,
-                value: true,
-            },
-        ),
-        ("not 6", Step::NewNot { node: gate }),
-        ("const 6 0", Step::Const { gate, position: 0 }),
-        ("same 6 7", Step::Same { gate, position: 7 }),
-        ("none 6", Step::NoPins { gate }),
-        ("one 6", Step::OnePin { gate }),
-        ("twice 6", Step::Twice { gate }),
-        ("twin 6 4294967295", Step::Twin { gate, other: node }),
-        ("dead 6", Step::Dead { gate }),
-    ];
-    for (line, step) in rows {
-        assert_eq!(rt; step_of(alloc, line)?, Some(step));
+    for (line, step) in STEPS {
+        assert_eq!(rt; step_of(rt.alloc(), line)?, Some(step));
     }
     Ok(())
 }
 
+const EIGHT: Fault = Fault {
+    gate: NodeId(8),
+    position: 1,
+    value: true,
+};
+
 #[test]
-fn verdicts_of_all_kinds(rt: HostRuntime) -> Result<(), Fail> {
-    let alloc = rt.alloc();
-    let fault = Fault {
-        gate: NodeId(8),
-        position: 1,
-        value: true,
-    };
-    let Some(Entry::Record(Record::Hit { fault: hit, vector })) = entry_of(alloc, "hit 8 1 1 0110")?
-    else {
+fn a_hit(rt: HostRuntime) -> Result<(), Fail> {
+    let entry = entry_of(rt.alloc(), "hit 8 1 1 0110")?;
+    let Some(Entry::Record(Record::Hit { fault, vector })) = entry else {
         return Err("no hit".into());
     };
-    assert_eq!(rt; hit, fault);
+    assert_eq!(rt; fault, EIGHT);
     assert_eq!(rt; vector.values(), [false, true, true, false].as_slice());
-    let Some(Entry::Record(Record::Spent { fault: spent, tree })) = entry_of(
-        alloc,
-        "spent 8 1 1 /2,1 @ ?",
-    )?
-    else {
+    Ok(())
+}
+
+#[test]
+fn a_search_that_is_spent(rt: HostRuntime) -> Result<(), Fail> {
+    let entry = entry_of(rt.alloc(), "spent 8 1 1 /2,1 @ ?")?;
+    let Some(Entry::Record(Record::Spent { fault, tree })) = entry else {
         return Err("no spent".into());
     };
-    assert_eq!(rt; spent, fault);
+    assert_eq!(rt; fault, EIGHT);
     let items = [
         Item::Split {
             node: NodeId(2),
@@ -357,40 +411,85 @@ fn item_of(alloc: Global, word: &str) -> Result<Option<Item>, Fail> {
     Ok(tree.items().first().copied())
 }
 
+const SEVEN: NodeId = NodeId(7);
+
+const LINES: [(&'static str, Line); 17] = [
+    ("a", Line::Act),
+    ("s", Line::Site),
+    ("h7", Line::Chain { node: SEVEN }),
+    ("o7", Line::Out { node: SEVEN }),
+    ("k7", Line::Constant { node: SEVEN }),
+    ("g7", Line::GoodForward { node: SEVEN }),
+    ("f7", Line::FaultyForward { node: SEVEN }),
+    (
+        "b7,3",
+        Line::GoodBack {
+            node: SEVEN,
+            position: 3,
+        },
+    ),
+    (
+        "c7,3",
+        Line::FaultyBack {
+            node: SEVEN,
+            position: 3,
+        },
+    ),
+    ("p7", Line::Compare { node: SEVEN }),
+    ("q7", Line::ToFaulty { node: SEVEN }),
+    ("r7", Line::ToGood { node: SEVEN }),
+    ("e7", Line::EqualForward { node: SEVEN }),
+    ("n7", Line::NotDiffers { node: SEVEN }),
+    ("w7", Line::NotEqual { node: SEVEN }),
+    (
+        "d7,3",
+        Line::DiffersBack {
+            node: SEVEN,
+            position: 3,
+        },
+    ),
+    (
+        "i7,3",
+        Line::Side {
+            node: SEVEN,
+            position: 3,
+        },
+    ),
+];
+
+#[test]
+fn lines_of_all_kinds(rt: HostRuntime) -> Result<(), Fail> {
+    for (word, line) in LINES {
+        assert_eq!(rt; item_of(rt.alloc(), word)?, Some(Item::Line(line)));
+    }
+    Ok(())
+}
+
+const ITEMS: [(&'static str, Item); 6] = [
+    (
+        "/7,0",
+        Item::Split {
+            node: SEVEN,
+            first: false,
+        },
+    ),
+    (
+        "/7,1",
+        Item::Split {
+            node: SEVEN,
+            first: true,
+        },
+    ),
+    ("!7", Item::Clash(SEVEN)),
+    (".", Item::Quiet),
+    ("@", Item::Here),
+    ("?", Item::Untried),
+];
+
 #[test]
 fn items_of_all_kinds(rt: HostRuntime) -> Result<(), Fail> {
-    let alloc = rt.alloc();
-    let (node, position) = (NodeId(7), 3);
-    for (word, line) in [
-        ("a", Line::Act),
-        ("s", Line::Site),
-        ("h7", Line::Chain { node }),
-        ("o7", Line::Out { node }),
-        ("k7", Line::Constant { node }),
-        ("g7", Line::GoodForward { node }),
-        ("f7", Line::FaultyForward { node }),
-        ("b7,3", Line::GoodBack { node, position }),
-        ("c7,3", Line::FaultyBack { node, position }),
-        ("p7", Line::Compare { node }),
-        ("q7", Line::ToFaulty { node }),
-        ("r7", Line::ToGood { node }),
-        ("e7", Line::EqualForward { node }),
-        ("n7", Line::NotDiffers { node }),
-        ("w7", Line::NotEqual { node }),
-        ("d7,3", Line::DiffersBack { node, position }),
-        ("i7,3", Line::Side { node, position }),
-    ] {
-        assert_eq!(rt; item_of(alloc, word)?, Some(Item::Line(line)));
-    }
-    for (word, item) in [
-        ("/7,0", Item::Split { node, first: false }),
-        ("/7,1", Item::Split { node, first: true }),
-        ("!7", Item::Clash(node)),
-        (".", Item::Quiet),
-        ("@", Item::Here),
-        ("?", Item::Untried),
-    ] {
-        assert_eq!(rt; item_of(alloc, word)?, Some(item));
+    for (word, item) in ITEMS {
+        assert_eq!(rt; item_of(rt.alloc(), word)?, Some(item));
     }
     Ok(())
 }

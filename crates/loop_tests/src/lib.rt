@@ -13,3 +13,5 @@ mod journals;
 mod replays;
 #[cfg(test)]
 mod wires;
+#[cfg(test)]
+mod worked;

@@ -2,16 +2,13 @@
 ghost use Rattle.std.specs.Prelude.{◌≡◌, true};
 ghost use Rattle.journal_check.specs.Replaying.{IsLocalTree, IsStepTree};
 
-mod nets;
 mod texts;
 
-use self::nets::{FOUR_GATES, Net, model};
-use self::texts::{ACCEPTED, CHANGES, FIRST_RECORDS, FOUR_GATES_JOURNAL, SHORT_JOURNALS};
+use self::texts::{ACCEPTED, CHANGES, FIRST_RECORDS, SHORT_JOURNALS};
+use crate::worked::{FOUR_GATES, FOUR_GATES_JOURNAL, changed, read};
 use journal_check::{JournalRefusal, Replay, replay};
-use cover_decompose::{decompose, is_small, wires_are_bounded};
 use journal_text::{Record, read_journal};
 use refutation::Tree;
-use rm_model::{RankedModel, is_well_formed};
 use std::alloc::Global;
 use std::test::Fail;
 use wire_edit::Step;
@@ -86,30 +83,14 @@ fn replayed(replay: Replay, records: &[Record]) -> Result<Result<(), JournalRefu
     }
 }
 
-// What the records over the net are answered.
+// What the records over the net of a model are answered.
 fn answered(
     alloc: Global,
-    net: Net<'_>,
+    text: &str,
     budget: u32,
     records: &[Record],
 ) -> Result<Result<(), JournalRefusal>, Fail> {
-    wires_are_bounded();
-    let model = model(alloc, net)?;
-    if !is_well_formed(alloc, &model)? {
-        return Err("not well formed".into());
-    }
-    if !is_small(alloc, &model)? {
-        return Err("too large".into());
-    }
-    if model.covers.len() > 1_000_000 {
-        return Err("too many covers".into());
-    }
-    let Ok(model) = RankedModel::new(alloc, model) else {
-        return Err("no ranks".into());
-    };
-    let Ok(_graph) = decompose(alloc, &model) else {
-        return Err("too many pins".into());
-    };
+    let model = read(alloc, text)?;
     if records.is_empty() {
         return Ok(match replay(alloc, &model, budget, &[]) {
             Ok(_graph) => Ok(()),
@@ -122,8 +103,8 @@ fn answered(
     replayed(begun, records)
 }
 
-// What a journal over the net is answered, in words.
-fn said(alloc: Global, net: Net<'_>, text: &str) -> Result<String, Fail> {
+// What a journal over the net of a model is answered, in words.
+fn said(alloc: Global, net: &str, text: &str) -> Result<String, Fail> {
     let (budget, records) = match read_journal(alloc, text.as_bytes()) {
         Ok(read) => read,
         Err(fault) => return Ok(format!(in alloc; "{fault:?}")?),
@@ -134,22 +115,13 @@ fn said(alloc: Global, net: Net<'_>, text: &str) -> Result<String, Fail> {
     }
 }
 
-fn agrees(alloc: Global, net: Net<'_>, text: &str, wanted: &str) -> Result<(), Fail> {
+fn agrees(alloc: Global, net: &str, text: &str, wanted: &str) -> Result<(), Fail> {
     let got = said(alloc, net, text)?;
     if got.as_str() == wanted {
         Ok(())
     } else {
         Err(got.into())
     }
-}
-
-// The text with a part replaced.
-fn changed(alloc: Global, text: &str, old: &str, new: &str) -> Result<String, Fail> {
-    let at = text.find(old).ok_or("no such part")?;
-    let mut made = String::from_str(alloc, &text[..at])?;
-    made.push_str(new)?;
-    made.push_str(&text[at + old.len()..])?;
-    Ok(made)
 }
 
 // Each kind of record is accepted somewhere among these.

@@ -1,18 +1,22 @@
 // Drawn nets, before and after the loop, for all assignments of their six sources.
-ghost use Rattle.std.specs.Prelude.{◌<◌, ◌≤◌, IfOk, length};
+ghost use Rattle.std.specs.Prelude.{◌<◌, ◌≤◌, ◌+◌, IfOk};
+ghost use Rattle.gate_graph.specs.Circuit.{live_nodes, pins_taken};
 
-use super::nets::Gate;
-use super::{looped, made, settled};
+use super::{made, optimised, settled};
 use fault_sim::Lanes;
 use gate_graph::Graph;
-use rm_base::NoMemory;
 use std::alloc::Global;
 use std::test::Fail;
+use test_nets::{Draws, Gate, NetBuilder};
 
 const GATES: u32 = 14;
 
-// Bit k of the number of an assignment is the source k.
-const ALL: [u64; 6] = [
+const OBSERVED: [u32; 3] = [18, 20, 21];
+
+// The words of the constants and the sources: bit k of the number of an assignment is the source k.
+const FIRST: [u64; 8] = [
+    0,
+    u64::MAX,
     0xaaaa_aaaa_aaaa_aaaa,
     0xcccc_cccc_cccc_cccc,
     0xf0f0_f0f0_f0f0_f0f0,
@@ -21,39 +25,11 @@ const ALL: [u64; 6] = [
     0xffff_ffff_0000_0000,
 ];
 
-// A number below `below`, by a linear congruence.
-fn draw(state: &mut u64, below: u32) -> u32
-    requires { 0 < below }
-    ensures { result < below }
-{
-    *state = (*state)
-        .wrapping_mul(6364136223846793005)
-        .wrapping_add(1442695040888963407);
-    ((*state >> 33) % below as u64) as u32
-}
-
-fn drawn_gate(state: &mut u64, nodes: u32) -> Gate
-    requires { 0 < nodes }
-{
-    let kind = draw(state, 5);
-    let one = draw(state, nodes);
-    let other = draw(state, nodes);
-    match kind {
-        0 | 1 => Gate::And(one, other),
-        2 | 3 => Gate::Or(one, other),
-        _ => Gate::Not(one),
-    }
-}
-
-/// Gates whose drivers are constants, sources and gates before them.
-pub fn drawn_gates(alloc: Global, seed: u64) -> Result<Vec<Gate>, NoMemory> {
-    let mut state = seed;
-    let mut gates = Vec::new(alloc);
-    for at in 0..GATES {
-        let gate = drawn_gate(&mut state, 8 + at);
-        gates.push(gate)?;
-    }
-    Ok(gates)
+/// A drawn net, and the words of its nodes as they were drawn.
+#[derive(Drop)]
+pub struct DrawnNet {
+    pub graph: Graph,
+    words: Vec<u64>,
 }
 
 fn word_at(words: &[u64], node: u32) -> u64 {
@@ -63,43 +39,58 @@ fn word_at(words: &[u64], node: u32) -> u64 {
     }
 }
 
-fn gate_word(words: &[u64], gate: Gate) -> u64 {
-    match gate {
-        Gate::And(one, other) => word_at(words, one) & word_at(words, other),
-        Gate::Or(one, other) => word_at(words, one) | word_at(words, other),
-        Gate::AndOfThree(one, other, third) => {
-            word_at(words, one) & word_at(words, other) & word_at(words, third)
+// Adds a gate whose drivers are below the bound; its word.
+fn add_gate(net: &mut NetBuilder, draws: &mut Draws, words: &[u64], bound: u32) -> Result<u64, Fail>
+    requires { 0 < bound }
+{
+    let kind = draws.below(5);
+    let one = draws.below(bound);
+    let other = draws.below(bound);
+    let word = word_at(words, one);
+    match kind {
+        0 | 1 => {
+            net.add(Gate::And(&[one, other]))?;
+            Ok(word & word_at(words, other))
         }
-        Gate::OrOfThree(one, other, third) => {
-            word_at(words, one) | word_at(words, other) | word_at(words, third)
+        2 | 3 => {
+            net.add(Gate::Or(&[one, other]))?;
+            Ok(word | word_at(words, other))
         }
-        Gate::Not(driver) => word_at(words, driver) ^ u64::MAX,
+        _ => {
+            net.add(Gate::Not(one))?;
+            Ok(word ^ u64::MAX)
+        }
     }
 }
 
-// The words of all nodes, by the table.
-fn words_of(alloc: Global, gates: &[Gate]) -> Result<Vec<u64>, NoMemory> {
-    let mut words = Vec::new(alloc);
-    words.push(0)?;
-    words.push(u64::MAX)?;
-    for word in ALL {
+/// A net whose gates read constants, sources and gates before them.
+pub fn drawn(alloc: Global, seed: u64) -> Result<DrawnNet, Fail>
+    ensures few { IfOk result (λ d. pins_taken d.graph + live_nodes d.graph ≤ 300000) }
+{
+    let mut draws = Draws::new(seed);
+    let mut net = NetBuilder::new(alloc, 6)?;
+    let mut words = Vec::from_slice(alloc, &FIRST)?;
+    for at in 0..GATES {
+        let word = add_gate(&mut net, &mut draws, words.as_slice(), 8 + at)?;
         words.push(word)?;
     }
-    for gate in gates {
-        let word = gate_word(words.as_slice(), *gate);
-        words.push(word)?;
+    for node in OBSERVED {
+        net.observe(node)?;
     }
-    Ok(words)
+    Ok(DrawnNet {
+        graph: net.finish(),
+        words,
+    })
 }
 
 // The words of the observed nodes, by simulation.
-fn observed_words(alloc: Global, graph: &Graph) -> Result<Vec<u64>, NoMemory> {
+fn observed_words(alloc: Global, graph: &Graph) -> Result<Vec<u64>, Fail> {
     let mut found = Vec::new(alloc);
     let mut lanes = Lanes::new(alloc, graph)?;
-    if graph.source_count() as usize != ALL.len() {
-        return Ok(found);
+    if graph.source_count() != 6 {
+        return Err("other sources".into());
     }
-    lanes.simulate64(graph, &ALL);
+    lanes.simulate64(graph, &FIRST[2..]);
     for node in graph.observed() {
         found.push(lanes.value(node))?;
     }
@@ -108,14 +99,10 @@ fn observed_words(alloc: Global, graph: &Graph) -> Result<Vec<u64>, NoMemory> {
 
 // How many wires the loop takes away from the net of a seed.
 fn wires_less(alloc: Global, seed: u64) -> Result<u32, Fail> {
-    let gates = drawn_gates(alloc, seed)?;
-    let words = words_of(alloc, gates.as_slice())?;
-    let observed = [18, 20, 21];
-    let mut wanted = Vec::new(alloc);
-    for node in observed {
-        wanted.push(word_at(words.as_slice(), node))?;
-    }
-    let end = looped(alloc, 6, gates.as_slice(), &observed, 100_000)?;
+    let net = drawn(alloc, seed)?;
+    let words = net.words.as_slice();
+    let wanted = [word_at(words, 18), word_at(words, 20), word_at(words, 21)];
+    let end = optimised(alloc, net.graph, 100_000)?;
     let found = observed_words(alloc, &end.graph)?;
     if found.as_slice() != wanted.as_slice() {
         return Err("another function".into());
@@ -142,8 +129,8 @@ const ENDS: [(u64, u32, u64, u64, u64, u32); 12] = [
 #[test]
 fn drawn_ends(rt: HostRuntime) -> Result<(), Fail> {
     for (seed, tries, adds, fixes, local, wires) in ENDS {
-        let gates = drawn_gates(rt.alloc(), seed)?;
-        let end = looped(rt.alloc(), 6, gates.as_slice(), &[18, 20, 21], 100_000)?;
+        let net = drawn(rt.alloc(), seed)?;
+        let end = optimised(rt.alloc(), net.graph, 100_000)?;
         assert_eq!(rt; end.outcome, settled(tries));
         assert_eq!(rt; end.made, made(adds, fixes, local));
         assert_eq!(rt; end.graph.wire_count(), wires);

@@ -3,18 +3,17 @@
 ghost use Rattle.std.specs.Prelude.{◌≤◌, ◌+◌};
 ghost use Rattle.gate_graph.specs.Circuit.{live_nodes, pins_taken};
 
-use super::drawn::drawn_gates;
-use super::nets::{Gate, wired};
-use super::{End, FOUR_GATES, looped};
-use candidate_wires::{
-    Candidate, Pair, added_pin, candidates, control_of, least_free, pin_count, targets,
-};
-use gate_graph::Graph;
+use super::drawn::drawn;
+use super::optimised;
+use candidate_wires::{Candidate, Pair, added_pin, candidates, control_of, least_free, targets};
+use gate_graph::{Graph, faults_of};
 use implications::{Closed, Engine};
 use recursive_learning::refute;
 use rm_base::{Fault, NodeId};
 use std::alloc::Global;
 use std::test::Fail;
+use test_nets::wired;
+use test_nets::worked::FOUR_GATES;
 use wire_edit::{Room, Step, Trial};
 
 // Whether the fault is refuted at depth 1.
@@ -29,41 +28,12 @@ fn is_refuted(alloc: Global, graph: &Graph, fault: &Fault) -> Result<bool, Fail>
     }
 }
 
-// A refuted fault of the pin, if there is one.
-fn refuted_of(
-    alloc: Global,
-    graph: &Graph,
-    gate: NodeId,
-    position: u32,
-) -> Result<Option<Fault>, Fail> {
-    for value in [false, true] {
-        let fault = Fault {
-            gate,
-            position,
-            value,
-        };
-        if is_refuted(alloc, graph, &fault)? {
-            return Ok(Some(fault));
-        }
-    }
-    Ok(None)
-}
-
-fn refuted_at(alloc: Global, graph: &Graph, gate: NodeId) -> Result<Option<Fault>, Fail> {
-    for position in 0..pin_count(graph, gate) {
-        let found = refuted_of(alloc, graph, gate, position)?;
-        if found.is_some() {
-            return Ok(found);
-        }
-    }
-    Ok(None)
-}
-
+// The first refuted fault, if there is one.
 fn refuted_in(alloc: Global, graph: &Graph) -> Result<Option<Fault>, Fail> {
-    for number in 0..graph.node_bound() {
-        let found = refuted_at(alloc, graph, NodeId(number))?;
-        if found.is_some() {
-            return Ok(found);
+    let faults = faults_of(alloc, graph)?;
+    for fault in faults.as_slice() {
+        if is_refuted(alloc, graph, fault)? {
+            return Ok(Some(*fault));
         }
     }
     Ok(None)
@@ -226,21 +196,15 @@ fn tally(alloc: Global, graph: &Graph) -> Result<(usize, u32), Fail>
 // With node 2 at the last gate, each of the two pins that read it elsewhere can be fixed, and the sweep fixes the other one.
 #[test]
 fn pairs_that_pay(rt: HostRuntime) -> Result<(), Fail> {
-    let graph = wired(rt.alloc(), 4, &FOUR_GATES, &[9])?.ok_or("drivers")?;
+    let graph = wired(rt.alloc(), &FOUR_GATES)?;
     assert_eq!(rt; tally(rt.alloc(), &graph)?, (58, 2));
     Ok(())
 }
 
 fn settled_tally(alloc: Global, seed: u64) -> Result<(usize, u32), Fail> {
-    let gates = drawn_gates(alloc, seed)?;
-    let End {
-        before: _,
-        graph,
-        outcome: _,
-        made: _,
-        text: _,
-    } = looped(alloc, 6, gates.as_slice(), &[18, 20, 21], 100_000)?;
-    tally(alloc, &graph)
+    let net = drawn(alloc, seed)?;
+    let end = optimised(alloc, net.graph, 100_000)?;
+    tally(alloc, &end.graph)
 }
 
 // Seeds of drawn nets, and the pairs of each settled net.

@@ -1,53 +1,61 @@
 // Gates of many pins: more than learning looks at, and more than 64.
-ghost use Rattle.std.specs.Prelude.{◌≡◌, ◌≢◌, ◌≤◌, ◌+◌, IfOk};
-ghost use Rattle.gate_net.specs.Net.{IsGateKind};
-ghost use Rattle.gate_net.specs.declared.Kind.TheVariants.{Not};
+ghost use Rattle.std.specs.Prelude.{◌≤◌, ◌+◌, IfOk};
 ghost use Rattle.gate_graph.specs.Circuit.{live_nodes, pins_taken};
 
-use super::nets::{add_two, add_wide, observe};
 use super::{fault, made, optimised, settled, spent, wire};
 use gate_graph::Graph;
-use gate_net::Kind;
 use std::alloc::Global;
 use std::test::Fail;
+use test_nets::{Gate, NetBuilder};
+
+// What the terms are; their sum is of the other kind.
+#[derive(Clone, Copy)]
+enum Form {
+    Ands,
+    Ors,
+}
+
+fn term<'a>(form: Form, drivers: &'a [u32]) -> Gate<'a> {
+    match form {
+        Form::Ands => Gate::And(drivers),
+        Form::Ors => Gate::Or(drivers),
+    }
+}
+
+fn sum<'a>(form: Form, drivers: &'a [u32]) -> Gate<'a> {
+    match form {
+        Form::Ands => Gate::Or(drivers),
+        Form::Ors => Gate::And(drivers),
+    }
+}
 
 // So many terms of the source 2 and a source of their own, their sum, and a gate of the sum and of a last source. With
 // Ands as terms and an Or as sum this is (a b1 + a b2 + ..) d.
-fn wide(alloc: Global, count: u32, term: Kind, sum: Kind) -> Result<Graph, Fail>
-    requires term { IsGateKind term }
-    requires terms { term ≢ Not }
-    requires sum { IsGateKind sum }
-    requires sums { sum ≢ Not }
-    ensures few { IfOk result (λ g. pins_taken g + live_nodes g ≤ 1048576) }
+fn wide(alloc: Global, count: u32, form: Form) -> Result<Graph, Fail>
+    ensures few { IfOk result (λ g. pins_taken g + live_nodes g ≤ 300000) }
 {
     if count > 100 {
         return Err("too many terms".into());
     }
-    let mut graph = Graph::new(alloc, count + 2)?;
+    let mut net = NetBuilder::new(alloc, count + 2)?;
+    let mut terms = Vec::new(alloc);
     for number in 0..count {
-        if !add_two(&mut graph, term, 2, 3 + number)? {
-            return Err("no such source".into());
-        }
+        let gate = net.add(term(form, &[2, 3 + number]))?;
+        terms.push(gate.0)?;
     }
-    let last = 2 * count + 4;
-    add_wide(alloc, &mut graph, sum, count + 4, last)?;
-    if !add_two(&mut graph, term, last, count + 3)? {
-        return Err("no sum".into());
-    }
-    if !observe(&mut graph, last + 1)? {
-        return Err("no last gate".into());
-    }
-    Ok(graph)
+    let all = net.add(sum(form, terms.as_slice()))?;
+    let last = net.add(term(form, &[all.0, count + 3]))?;
+    net.observe(last.0)?;
+    Ok(net.finish())
 }
 
 // For each number of terms m: 3 m + 2 wires become m + 3, since the source is added at the last gate and goes from each
 // term. That pair comes at place m + 4, and m (m + 3) more are tried in vain.
 const WIDE: [(u32, u32, u32, u32); 3] = [(2, 16, 8, 5), (9, 121, 29, 12), (20, 484, 62, 23)];
 
-fn row_ends(alloc: Global, row: (u32, u32, u32, u32), graph: Graph) -> Result<bool, Fail>
-    requires few { pins_taken graph + live_nodes graph ≤ 1048576 }
-{
+fn row_ends(alloc: Global, row: (u32, u32, u32, u32), form: Form) -> Result<bool, Fail> {
     let (terms, tries, before, after) = row;
+    let graph = wide(alloc, terms, form)?;
     let end = optimised(alloc, graph, 10_000)?;
     let terms = terms as u64;
     Ok(
@@ -62,10 +70,8 @@ fn row_ends(alloc: Global, row: (u32, u32, u32, u32), graph: Graph) -> Result<bo
 fn a_wire_for_many_terms(rt: HostRuntime) -> Result<(), Fail> {
     let alloc = rt.alloc();
     for row in WIDE {
-        let ands = wide(alloc, row.0, Kind::And, Kind::Or)?;
-        assert!(rt; row_ends(alloc, row, ands)?);
-        let ors = wide(alloc, row.0, Kind::Or, Kind::And)?;
-        assert!(rt; row_ends(alloc, row, ors)?);
+        assert!(rt; row_ends(alloc, row, Form::Ands)?);
+        assert!(rt; row_ends(alloc, row, Form::Ors)?);
     }
     Ok(())
 }
@@ -75,13 +81,13 @@ fn a_wire_for_many_terms(rt: HostRuntime) -> Result<(), Fail> {
 #[test]
 fn its_place_among_the_tries(rt: HostRuntime) -> Result<(), Fail> {
     let alloc = rt.alloc();
-    let graph = wide(alloc, 9, Kind::And, Kind::Or)?;
+    let graph = wide(alloc, 9, Form::Ands)?;
     let end = optimised(alloc, graph, 12)?;
     assert_eq!(rt;
         end.outcome,
         spent(12, fault(13, 0, true), wire(2, false, 23))
     );
-    let graph = wide(alloc, 9, Kind::Or, Kind::And)?;
+    let graph = wide(alloc, 9, Form::Ors)?;
     let end = optimised(alloc, graph, 12)?;
     assert_eq!(rt;
         end.outcome,
@@ -93,7 +99,7 @@ fn its_place_among_the_tries(rt: HostRuntime) -> Result<(), Fail> {
 #[test]
 fn more_than_64_terms(rt: HostRuntime) -> Result<(), Fail> {
     let alloc = rt.alloc();
-    let graph = wide(alloc, 65, Kind::And, Kind::Or)?;
+    let graph = wide(alloc, 65, Form::Ands)?;
     let end = optimised(alloc, graph, 69)?;
     assert_eq!(rt;
         end.outcome,

@@ -3,15 +3,17 @@ ghost use Rattle.std.specs.Prelude.{◌≡◌, ◌≤◌, ◌<◌, IfOk, length}
 ghost use Rattle.gate_graph.specs.Circuit.{net_of};
 ghost use Rattle.closing_pass.specs.Verdicts.{HavePins};
 
-use super::nets::{FOUR_GATES, wired};
+use super::settings;
 use closing_pass::batch;
 use gate_graph::{Graph, faults_of};
 use podem::Verdict;
-use rm_base::{Fault, Gate, Settings};
+use rm_base::{Fault, Gate};
 use std::alloc::Global;
 use std::sync::atomic::{AtomicU64, Ordering};
 use std::test::Fail;
 use std::thread::Threads;
+use test_nets::wired;
+use test_nets::worked::FOUR_GATES;
 
 // The first faults of the graph, so many and at most 64.
 fn first_faults(alloc: Global, graph: &Graph, most: usize) -> Result<Vec<Fault>, Fail>
@@ -21,19 +23,6 @@ fn first_faults(alloc: Global, graph: &Graph, most: usize) -> Result<Vec<Fault>,
     let mut faults = faults_of(alloc, graph)?;
     faults.truncate(most.min(64));
     Ok(faults)
-}
-
-fn settings(workers: u8) -> Settings
-    ensures depth { result.depth ≡ 1 }
-    ensures budget { result.budget ≡ 256 }
-    ensures workers { result.workers ≡ workers }
-{
-    Settings {
-        depth: 1,
-        budget: 256,
-        tries: 0,
-        workers,
-    }
 }
 
 // A gate at which pieces 0 and 1 look for each other.
@@ -87,7 +76,7 @@ fn two_pieces_meet(rt: HostRuntime) -> Result<(), Fail> {
         rt.alloc(),
         &graph,
         faults.as_slice(),
-        &settings(2),
+        &settings(256, 2),
         &gate,
     )?;
     assert_eq!(rt; verdicts.len(), 16);
@@ -125,7 +114,7 @@ fn passed<R: Threads + Sync>(
         alloc,
         graph,
         faults.as_slice(),
-        &settings(workers),
+        &settings(256, workers),
         &gate,
     )?;
     if verdicts.len() == most {

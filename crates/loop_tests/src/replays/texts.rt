@@ -1,11 +1,16 @@
 // Journals, parts of them, and what they are answered.
-use super::nets::{BLOCKED, FOUR_GATES, NOTS, Net, ONE_GATE, WIRE, ZERO_ROW};
+use crate::worked::{FOUR_GATES, FOUR_GATES_JOURNAL, ONE_GATE, ONE_GATE_JOURNAL, ZERO_ROW};
 
-pub const FOUR_GATES_JOURNAL: &str =
-    "rambo 1 256\nadd 9 2 a g6 g7 g8 s o8 i9,0 !8\nfix 6 0 1 a s h8 h9 o2 i9,2 !2\nconst 6 0\none 6\ndead 6\nfix 7 0 1 a h9 o2 i9,2 !2\nconst 7 0\none 7\ndead 7\nhit 8 0 0 1101\nhit 8 0 1 1001\nhit 8 1 0 1011\nhit 8 1 1 1001\nhit 9 0 0 1101\nhit 9 0 1 1001\nhit 9 1 0 1101\nhit 9 1 1 1100\nhit 9 2 0 1101\nhit 9 2 1 0101\nend\n";
+// 2 is observed.
+const WIRE: &str = ".model m\n.inputs a\n.outputs z\n.names a z\n1 1\n.end\n";
 
-const FOUR_HITS: &str =
-    "rambo 1 256\nhit 4 0 0 11\nhit 4 0 1 01\nhit 4 1 0 11\nhit 4 1 1 10\nend\n";
+// 3 and 4 are Nots of 2, and 5 is a Not of 4; all three are observed.
+const NOTS: &str =
+    ".model m\n.inputs a\n.outputs z y w\n.names a z\n0 1\n.names a y\n1 0\n.names y w\n0 1\n.end\n";
+
+// 3 is And(2, 2), and 4 is And(3, 0), which is observed.
+const BLOCKED: &str =
+    ".model m\n.inputs a\n.outputs k\n.names a a o\n11 1\n.names z\n.names o z k\n11 1\n.end\n";
 
 const FOUR_SPENT: &str =
     "rambo 1 1\nspent 4 0 0 /2,1 @ ?\nspent 4 0 1 /2,0 @ ?\nspent 4 1 0 /3,1 @ ?\nspent 4 1 1 /3,0 @ ?\nend\n";
@@ -16,10 +21,10 @@ const NOTS_JOURNAL: &str =
 const BLOCKED_JOURNAL: &str =
     "rambo 1 8\nsame 3 1\nfix 3 0 1 h4 o0 i4,1 k0 !0\nconst 3 0\nnone 3\ndead 3\nconst 4 0\nconst 4 0\ndead 4\nend\n";
 
-pub const ACCEPTED: [(Net<'static>, &'static str, &'static str); 7] = [
+pub const ACCEPTED: [(&'static str, &'static str, &'static str); 7] = [
     (WIRE, "rambo 1 1\nend\n", "accepted 0"),
     (FOUR_GATES, FOUR_GATES_JOURNAL, "accepted 19"),
-    (ONE_GATE, FOUR_HITS, "accepted 4"),
+    (ONE_GATE, ONE_GATE_JOURNAL, "accepted 4"),
     (ONE_GATE, FOUR_SPENT, "accepted 4"),
     (NOTS, NOTS_JOURNAL, "accepted 8"),
     (BLOCKED, BLOCKED_JOURNAL, "accepted 8"),
@@ -123,7 +128,7 @@ pub const FIRST_RECORDS: [(&'static str, &'static str); 26] = [
     ("spent 6 0 0 /6,0 @ ?", "1 Tree(BadSplit { item: 1 })"),
 ];
 
-pub const SHORT_JOURNALS: [(Net<'static>, &'static str, &'static str); 8] = [
+pub const SHORT_JOURNALS: [(&'static str, &'static str, &'static str); 8] = [
     (
         ONE_GATE,
         "",

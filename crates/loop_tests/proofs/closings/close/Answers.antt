@@ -1,7 +1,7 @@
 use Rattle.std.proofs.Common.{◌≡◌, ℕ, Some, None, List, ap, sym, ◌∙◌}
 use Rattle.std.specs.Option.{option_copied}
 use Rattle.gate_graph.specs.Circuit.{net_of}
-use Rattle.loop_tests.proofs.closings.closings.close.Goals as goal
+use Rattle.loop_tests.proofs.closings.close.Goals as goal
 
 some_none : (x : List ℕ) → Some x ≡ None → ⊥
 some_none x e = absurd (cc)
