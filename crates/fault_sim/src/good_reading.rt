@@ -12,6 +12,7 @@ use gate_net::Kind;
 use refutation::following::gate_pins;
 use rm_base::NodeId;
 
+#[inline(always)]
 fn good_at(good: &[u64], node: NodeId) -> u64
     requires { node.0 < length good.now }
     ensures { result ≡ slice_index good.now node.0 }
@@ -20,6 +21,7 @@ fn good_at(good: &[u64], node: NodeId) -> u64
 }
 
 // What an And or an Or has.
+#[inline(always)]
 fn good_junction(drivers: Inputs<'_>, good: &[u64], is_and: bool) -> u64
     requires within { AreBelow drivers (length good.now) }
     ensures { result ≡ fold (join_word is_and) (word_of is_and) (map (slice_index good.now) drivers.entry) }
@@ -32,6 +34,7 @@ fn good_junction(drivers: Inputs<'_>, good: &[u64], is_and: bool) -> u64
 }
 
 // What a Not has.
+#[inline(always)]
 fn good_opposite(mut drivers: Inputs<'_>, good: &[u64]) -> u64
     requires within { AreBelow drivers (length good.now) }
     ensures { result ≡ not_word (map (slice_index good.now) drivers.entry) }
@@ -43,6 +46,7 @@ fn good_opposite(mut drivers: Inputs<'_>, good: &[u64]) -> u64
 }
 
 // What a gate has.
+#[inline(always)]
 fn good_gate(kind: Kind, drivers: Inputs<'_>, good: &[u64]) -> u64
     requires within { AreBelow drivers (length good.now) }
     ensures { result ≡ pins_word kind (map (slice_index good.now) drivers.entry) }
@@ -56,6 +60,7 @@ fn good_gate(kind: Kind, drivers: Inputs<'_>, good: &[u64]) -> u64
 }
 
 // The good word of a node from those of its drivers.
+#[inline(always)]
 pub(crate) fn good_word(graph: &Graph, words: &[u64], good: &[u64], node: NodeId) -> u64
     requires sources { length words.now ≡ source_count (net_of graph.now) }
     requires drivers { AreBelow (drivers_of (net_of graph.now) node.0) (length good.now) }
