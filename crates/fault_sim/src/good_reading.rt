@@ -4,7 +4,7 @@ ghost use Rattle.std.specs.List.{fold};
 ghost use Rattle.gate_net.specs.Net.{drivers_of, node_at, source_count};
 ghost use Rattle.gate_graph.specs.Circuit.{net_of};
 ghost use Rattle.refutation.specs.Pins.{AreBelow};
-ghost use Rattle.fault_sim.specs.Words.{assigned_word, join_word, node_word, not_word, pins_word, word_of};
+ghost use Rattle.fault_sim.specs.Words.{assigned_word, join_word, node_word, not_word, word_of};
 
 use crate::reading::join;
 use gate_graph::{Graph, Inputs};
@@ -45,20 +45,6 @@ fn good_opposite(mut drivers: Inputs<'_>, good: &[u64]) -> u64
     }
 }
 
-// What a gate has.
-#[inline(always)]
-fn good_gate(kind: Kind, drivers: Inputs<'_>, good: &[u64]) -> u64
-    requires within { AreBelow drivers (length good.now) }
-    ensures { result ≡ pins_word kind (map (slice_index good.now) drivers.entry) }
-{
-    match kind {
-        Kind::And => good_junction(drivers, good, true),
-        Kind::Or => good_junction(drivers, good, false),
-        Kind::Not => good_opposite(drivers, good),
-        _ => 0,
-    }
-}
-
 // The good word of a node from those of its drivers.
 #[inline(always)]
 pub(crate) fn good_word(graph: &Graph, words: &[u64], good: &[u64], node: NodeId) -> u64
@@ -71,7 +57,9 @@ pub(crate) fn good_word(graph: &Graph, words: &[u64], good: &[u64], node: NodeId
         Some(Kind::Source) => words[node.0 as usize - 2],
         Some(Kind::Zero) => 0,
         Some(Kind::One) => u64::MAX,
-        Some(kind) => good_gate(kind, gate_pins(graph, node), good),
+        Some(Kind::And) => good_junction(gate_pins(graph, node), good, true),
+        Some(Kind::Or) => good_junction(gate_pins(graph, node), good, false),
+        Some(Kind::Not) => good_opposite(gate_pins(graph, node), good),
         None => 0,
     }
 }
