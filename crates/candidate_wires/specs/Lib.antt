@@ -1,7 +1,6 @@
 pub mod Joining
 pub mod Candidates
 pub mod Pairs
-pub mod Tidying
 pub mod Gains
 pub mod Additions
 pub mod Tries

@@ -9,7 +9,7 @@ use Rattle.wire_edit.specs.Laws.{IsTidying}
 use Rattle.wire_edit.specs.Steps.{Applies, stepped}
 use Rattle.wire_edit.specs.Order.{IsTidy}
 use Rattle.wire_edit.specs.Work.{free_pins}
-use Rattle.candidate_wires.specs.Tidying.{TidiesTo, tidy, then}
+use Rattle.wire_edit.specs.Tidying.{TidiesTo, tidy, then}
 use Rattle.rar_loop.specs.Going.{HasFreePin, ReadsNoConstants}
 
 -- tidying makes no more pins free, and ends in a tidy net

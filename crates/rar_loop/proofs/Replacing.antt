@@ -28,7 +28,7 @@ use Rattle.gate_graph.specs.Entries.{back_to}
 use Rattle.gate_graph.specs.declared.entries.Entry.{Entry}
 use Rattle.candidate_wires.specs.declared.candidate.Candidate.{Candidate}
 use Rattle.candidate_wires.specs.declared.candidate.Pair.{Pair}
-use Rattle.candidate_wires.specs.Tidying.{TidiesTo}
+use Rattle.wire_edit.specs.Tidying.{TidiesTo}
 use Rattle.candidate_wires.specs.Gains.{least_free, wire_for, with_candidate, Gains}
 use Rattle.candidate_wires.specs.Additions.{Addition, additions, additions_from, net_after}
 use Rattle.journal_text.specs.declared.record.Record.{Record}

@@ -14,7 +14,7 @@ use Rattle.candidate_wires.specs.declared.candidate.Pair.{Pair}
 use Rattle.candidate_wires.specs.Joining.{MayRead}
 use Rattle.candidate_wires.specs.Gains.{wire_for, with_candidate, Gains}
 use Rattle.candidate_wires.specs.Additions.{additions}
-use Rattle.candidate_wires.specs.Tidying.{TidiesTo}
+use Rattle.wire_edit.specs.Tidying.{TidiesTo}
 use Rattle.journal_text.specs.declared.record.Record.{Record}
 use Rattle.journal_text.specs.declared.record.Record.TheVariants as record_of
 use Rattle.journal_text.specs.Runs.{AcceptedTo, steps_of}

@@ -6,7 +6,7 @@ ghost use Rattle.gate_net.specs.Net.{wire_count};
 ghost use Rattle.refutation.specs.Branches.{AreAccepted};
 ghost use Rattle.wire_edit.specs.Order.{IsTidy};
 ghost use Rattle.wire_edit.specs.Work.{work};
-ghost use Rattle.candidate_wires.specs.Tidying.{TidiesTo};
+ghost use Rattle.wire_edit.specs.Tidying.{TidiesTo};
 ghost use Rattle.rar_loop.specs.Changing.{NotesOn};
 ghost use Rattle.rar_loop.specs.Going.{Goes, HasFixed, HasFreePin, ReadsNoConstants};
 

@@ -3,7 +3,7 @@ ghost use Rattle.std.specs.Prelude.{◌≡◌, ◌≤◌, ◌++◌, ◌∷◌, [
 ghost use Rattle.gate_graph.specs.Circuit.{net_of};
 ghost use Rattle.wire_edit.specs.Order.{IsTidy};
 ghost use Rattle.wire_edit.specs.Work.{work};
-ghost use Rattle.candidate_wires.specs.Tidying.{TidiesTo};
+ghost use Rattle.wire_edit.specs.Tidying.{TidiesTo};
 ghost use Rattle.journal_text.specs.declared.record.Record.TheVariants as record_of;
 ghost use Rattle.rar_loop.specs.Changing.{NotesOn};
 ghost use Rattle.rar_loop.specs.Going.{Goes};

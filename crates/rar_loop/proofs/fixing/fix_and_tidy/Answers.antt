@@ -6,7 +6,7 @@ use Rattle.journal_text.specs.declared.record.Record.TheVariants as record_of
 use Rattle.gate_net.specs.Net.{Net, IsWellFormed}
 use Rattle.gate_graph.specs.Circuit.{Circuit, net_of}
 use Rattle.wire_edit.specs.Work.{work}
-use Rattle.candidate_wires.specs.Tidying.{TidiesTo}
+use Rattle.wire_edit.specs.Tidying.{TidiesTo}
 use Rattle.rar_loop.specs.Changing.{HasNoted, NotesOn}
 use Rattle.rar_loop.specs.Going.{Goes}
 use Rattle.rar_loop.proofs.Falling.{fix_falls}

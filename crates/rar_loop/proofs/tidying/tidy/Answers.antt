@@ -4,7 +4,7 @@ use Rattle.gate_net.specs.Net.{Net, IsWellFormed}
 use Rattle.gate_graph.specs.Circuit.{Circuit, net_of}
 use Rattle.wire_edit.specs.Work.{work}
 use Rattle.wire_edit.specs.Tried.{Tried, Tidies}
-use Rattle.candidate_wires.specs.Tidying.{TidiesTo, tidy, then}
+use Rattle.wire_edit.specs.Tidying.{TidiesTo, tidy, then}
 use Rattle.rar_loop.specs.Changing.{HasNoted, NotesOn}
 use Rattle.rar_loop.specs.Going.{Goes}
 use Rattle.wire_edit.proofs.Public.{never_full, next_applies}
