@@ -1,5 +1,5 @@
 -- What a draft of a model has of the lines so far.
-use Rattle.std.specs.Prelude.{◌≡◌, ◌≢◌, ◌<◌, ◌≤◌, Bool, true, false, List, [], ◌∷◌, ◌++◌, map, filter, length, is_some, codes, All, IfSome, Option, None, Some, if◌then◌else◌}
+use Rattle.std.specs.Prelude.{◌≡◌, ◌≢◌, ◌<◌, ◌≤◌, ℕ, Bool, true, false, List, [], ◌∷◌, ◌++◌, map, filter, length, is_some, codes, All, IfSome, Option, None, Some, if◌then◌else◌}
 use Rattle.rm_model.specs.Words.{Word}
 use Rattle.rm_model.specs.declared.parts.Literal.{Literal}
 use Rattle.rm_model.specs.Value.{control_of}
@@ -11,10 +11,11 @@ use Rattle.blif_format.specs.Text.{Line, on_word, latch_words, cover_words, row_
 use Rattle.blif_format.specs.Grammar.{before_end, begins_with, is_dotted, words_after, words_of, names_lines, follow, body_of}
 use Rattle.blif_format.specs.declared.words.Command.{Command}
 use Rattle.blif_format.specs.declared.words.Command.TheVariants.{Model, Inputs, Outputs, Clock, Names, Latch as LatchLine, End}
-use Rattle.blif_format.specs.FirstFault.{Said, OpenCover as SaidCover, with_row}
+use Rattle.blif_format.specs.FirstFault.{Said, after_line, row_fault, OpenCover as SaidCover, with_row}
 use Rattle.blif_lines.specs.Layout.{Spot}
+use Rattle.blif_lines.specs.Reading.{spot_of}
 use Rattle.blif_lines.specs.declared.line.Token.{Token}
-use Rattle.blif_reader.specs.Lines.{IsLatchLine}
+use Rattle.blif_reader.specs.Lines.{words_at, spots_at, line_at, IsLatchLine}
 use Rattle.blif_reader.specs.Rows.{cover_for}
 use Rattle.blif_reader.specs.declared.draft.Draft.{Draft}
 
@@ -73,6 +74,10 @@ pub record IsDraft (said : Said) (lines : List Line) (d : Draft) : Type 0 where
   pub current : CurrentIs said.cover d.current
   pub shaped : IsShaped d
 
+-- the draft has one line more than these lines
+abbrev pub HasLine : Said → List Line → List ℕ → Token → List Token → Draft → Type 0
+HasLine said lines text first rest d = IsDraft (after_line said (line_at text first rest)) (lines ++ words_at text (first ∷ rest) ∷ []) d
+
 -- what a command gives to the parts of the model
 abbrev pub given_name : Command → List Word → Word → Word
 given_name Model (w ∷ ws) name = w
@@ -129,6 +134,10 @@ last_token t (u ∷ us) = u
 abbrev pub inputs_in : Word → List Token → Word
 inputs_in word [] = []
 inputs_in word (t ∷ ts) = word
+
+-- the line is a row without fault of the cover
+abbrev pub FitsCover : List ℕ → Token → List Token → SaidCover → Type 0
+FitsCover text first rest o = row_fault o (spot_of text first) (spots_at text rest) ≡ None
 
 -- the cover with one more row
 pub record HasRow (s : Spot) (ss : List Spot) (o : SaidCover) (c d : Cover) : Type 0 where

@@ -14,6 +14,7 @@ use Rattle.blif_reader.specs.Said.{IsSaid}
 use Rattle.blif_reader.specs.Drafts.{IsDraft}
 use Rattle.blif_reader.specs.declared.check.Checker.{Checker}
 use Rattle.blif_reader.specs.declared.draft.Draft.{Draft}
+use Rattle.blif_reader.specs.declared.read.Lines.{Lines}
 
 -- a cover by the words of its `.names` alone
 abbrev pub bare_cover : Line × List Line → Cover
@@ -32,6 +33,10 @@ pub record Progress (text : List ℕ) (rest : List Logical) (c : Checker) (d : D
   pub covers_are : map (λ (e : Place × Cover). e.1) named ≡ map bare_cover (names_lines lines)
   pub checked : IsSaid said c
   pub drafted : IsDraft said lines d
+
+-- all lines but the rest are taken
+abbrev pub AreReadTo : List ℕ → List Logical → Lines → Type 0
+AreReadTo text rest lines = Progress text rest lines.checker lines.draft lines.places.items
 
 -- what is known at the end of the text
 pub record IsRead (text : List ℕ) (said : Said) (c : Checker) (d : Draft) (places : List Place) : Type 0 where

@@ -1,13 +1,15 @@
 -- A table of the names that are used so far, and what it stands for.
 use Rattle.std.specs.Prelude.{◌≡◌, ◌+◌, ℕ, Bool, true, false, not, ◌&&◌, ◌||◌, nat_lt, is_some, List, [], ◌∷◌, ◌++◌, map, length, fold, Option, None, Some, if◌then◌else◌}
-use Rattle.std.specs.List.{list_any}
+use Rattle.std.specs.List.{filter_map, list_any}
 use Rattle.rm_base.specs.declared.numbers.Place.{Place}
 use Rattle.rm_model.specs.Words.{Word, is_word}
 use Rattle.rm_model.specs.Value.{is_among}
-use Rattle.blif_format.specs.Uses.{Use, is_source_role, is_observed_role, names_in, distinct_count}
+use Rattle.blif_lines.specs.Layout.{Spot}
+use Rattle.blif_format.specs.Uses.{Use, use_of, is_source_role, is_observed_role, names_in, distinct_count}
+use Rattle.blif_format.specs.declared.words.Part.{Part}
 use Rattle.blif_format.specs.declared.words.Role.{Role}
 use Rattle.blif_format.specs.declared.words.Role.TheVariants.{Input, ClockInput, Output, CoverOutput, LatchOutput}
-use Rattle.blif_format.specs.FirstFault.{or_else, fault_if, limit_if, name_limit, is_cover_input, is_over}
+use Rattle.blif_format.specs.FirstFault.{or_else, use_fault, fault_if, limit_if, name_limit, is_cover_input, is_over}
 use Rattle.blif_format.specs.declared.refusal.FaultKind.TheVariants.{DoubleDriven, DoubleOutput}
 use Rattle.blif_format.specs.declared.refusal.Quantity.TheVariants.{Inputs, Sources, Observed, Signals}
 use Rattle.blif_format.specs.declared.refusal.ReadRefusal.{ReadRefusal}
@@ -174,3 +176,13 @@ pub record IsTally (uses : List Use) (t : Tally) : Type 0 where
   pub signals : length t.entries ≡ distinct_count (names_in any_role uses)
   pub sources : t.sources ≡ distinct_count (names_in is_source_role uses)
   pub observed : t.observed ≡ length (names_in is_observed_role uses)
+
+-- the use has no fault after those before it, and the table stands for it too
+pub record TakesUse (had : List Use) (earlier : ℕ) (this : Use) (t : Tally) : Type 0 where
+  pub faultless : use_fault had earlier this ≡ None
+  pub tallied : IsTally (had ++ this ∷ []) t
+
+-- the parts of a line have no fault, and the table stands for their uses too
+pub record TakesParts (had : List Use) (parts : List (Part × Spot)) (fault : Option ReadRefusal) (t : Tally) : Type 0 where
+  pub faultless : fault ≡ None
+  pub tallied : IsTally (had ++ filter_map use_of parts) t

@@ -7,9 +7,10 @@ ghost use Rattle.blif_lines.specs.Reading.{spot_of, IsWithin};
 ghost use Rattle.blif_format.specs.Text.{on_word};
 ghost use Rattle.blif_format.specs.Uses.{Use, use_of, parts_of, command_of as command_said};
 ghost use Rattle.blif_format.specs.FirstFault.{Said, part_fault, command_fault, ending_fault, character_fault, rest_fault, row_fault, or_else, extra_fault, last_word, nothing_said, dotted_fault, first_line_fault, row_fault_in, is_dotted, words_fault, after_line};
+ghost use Rattle.blif_reader.specs.Lines.{line_at, spots_at, dotted_line_fault};
 ghost use Rattle.blif_reader.specs.Meant.{refusal_of, IsRefusal};
-ghost use Rattle.blif_reader.specs.Tally.{IsTally};
-ghost use Rattle.blif_reader.specs.Said.{said_ending, said_cover, IsSaid};
+ghost use Rattle.blif_reader.specs.Tally.{IsTally, TakesParts};
+ghost use Rattle.blif_reader.specs.Said.{said_ending, said_cover, IsSaid, Passes};
 ghost use Rattle.blif_format.specs.FirstFault.{is_literal as literal_byte};
 ghost use Rattle.blif_reader.specs.Rows.{columns_on, inputs_fault, word_fault, cover_for, ends, with_last};
 ghost use Rattle.std.specs.Option.{option_map};
@@ -43,7 +44,7 @@ fn take_name<'a>(
 ) -> Result<(), ReadRefusal>
     requires word { IsWithin text.now token.now }
     requires small { earlier ≤ 2 ^ 32 }
-    ensures ok { (had : List Use) → IsTally had names.old → OnOk result ((part_fault had earlier (Part.Name role, spot_of text.now token.now) ≡ None) × IsTally (had ++ filter_map use_of ((Part.Name role, spot_of text.now token.now) ∷ [])) names.new) }
+    ensures ok { (had : List Use) → IsTally had names.old → OnOk result (TakesParts had ((Part.Name role, spot_of text.now token.now) ∷ []) (part_fault had earlier (Part.Name role, spot_of text.now token.now)) names.new) }
     ensures err { (had : List Use) → IsTally had names.old → IfErr result (λ e. IsRefusal e (part_fault had earlier (Part.Name role, spot_of text.now token.now))) }
 {
     let word = word_of(text, token);
@@ -89,7 +90,7 @@ fn take_part<'a>(
 ) -> Result<(), ReadRefusal>
     requires word { IsWithin text.now token.now }
     requires small { earlier ≤ 2 ^ 32 }
-    ensures ok { (had : List Use) → IsTally had names.old → OnOk result ((part_fault had earlier (part, spot_of text.now token.now) ≡ None) × IsTally (had ++ filter_map use_of ((part, spot_of text.now token.now) ∷ [])) names.new) }
+    ensures ok { (had : List Use) → IsTally had names.old → OnOk result (TakesParts had ((part, spot_of text.now token.now) ∷ []) (part_fault had earlier (part, spot_of text.now token.now)) names.new) }
     ensures err { (had : List Use) → IsTally had names.old → IfErr result (λ e. IsRefusal e (part_fault had earlier (part, spot_of text.now token.now))) }
 {
     match part {
@@ -111,8 +112,8 @@ fn take_words<'a>(
 ) -> Result<(), ReadRefusal>
     requires words { All (IsWithin text.now) words.now }
     requires small { length words.now ≤ 2 ^ 32 }
-    ensures ok { (had : List Use) → IsTally had names.old → OnOk result ((command_fault had (spot_of text.now first.now) command (map (spot_of text.now) words.now) ≡ None) × IsTally (had ++ filter_map use_of (parts_of command (map (spot_of text.now) words.now))) names.new) }
-    ensures err { (had : List Use) → IsTally had names.old → IfErr result (λ e. IsRefusal e (command_fault had (spot_of text.now first.now) command (map (spot_of text.now) words.now))) }
+    ensures ok { (had : List Use) → IsTally had names.old → OnOk result (TakesParts had (parts_of command (spots_at text.now words.now)) (command_fault had (spot_of text.now first.now) command (spots_at text.now words.now)) names.new) }
+    ensures err { (had : List Use) → IsTally had names.old → IfErr result (λ e. IsRefusal e (command_fault had (spot_of text.now first.now) command (spots_at text.now words.now))) }
 {
     let count = words.len();
     for (i, token) in words.iter().enumerate() {
@@ -179,8 +180,8 @@ fn take_command<'a>(
     requires words { All (IsWithin text.now) rest.now }
     requires small { length rest.now ≤ 2 ^ 32 }
     requires command { command_said (spot_of text.now first.now).word ≡ Some command }
-    ensures ok { (said : Said) → IsSaid said checker.old → OnOk result ((command_fault said.uses (spot_of text.now first.now) command (map (spot_of text.now) rest.now) ≡ None) × IsSaid (after_line said (spot_of text.now first.now ∷ map (spot_of text.now) rest.now)) checker.new) }
-    ensures err { (said : Said) → IsSaid said checker.old → IfErr result (λ e. IsRefusal e (command_fault said.uses (spot_of text.now first.now) command (map (spot_of text.now) rest.now))) }
+    ensures ok { (said : Said) → IsSaid said checker.old → OnOk result (Passes said (line_at text.now first.now rest.now) (command_fault said.uses (spot_of text.now first.now) command (spots_at text.now rest.now)) checker.new) }
+    ensures err { (said : Said) → IsSaid said checker.old → IfErr result (λ e. IsRefusal e (command_fault said.uses (spot_of text.now first.now) command (spots_at text.now rest.now))) }
 {
     match take_words(&mut checker.names, text, command, first, rest) {
         Ok(()) => {}
@@ -202,8 +203,8 @@ fn take_other<'a>(
     requires words { All (IsWithin text.now) rest.now }
     requires small { length rest.now ≤ 2 ^ 32 }
     requires command { command_said (spot_of text.now first.now).word ≡ Some command }
-    ensures ok { (said : Said) → IsSaid said checker.old → OnOk result ((dotted_fault said.uses (spot_of text.now first.now) (map (spot_of text.now) rest.now) (Some command) ≡ None) × IsSaid (after_line said (spot_of text.now first.now ∷ map (spot_of text.now) rest.now)) checker.new) }
-    ensures err { (said : Said) → IsSaid said checker.old → IfErr result (λ e. IsRefusal e (dotted_fault said.uses (spot_of text.now first.now) (map (spot_of text.now) rest.now) (Some command))) }
+    ensures ok { (said : Said) → IsSaid said checker.old → OnOk result (Passes said (line_at text.now first.now rest.now) (dotted_fault said.uses (spot_of text.now first.now) (spots_at text.now rest.now) (Some command)) checker.new) }
+    ensures err { (said : Said) → IsSaid said checker.old → IfErr result (λ e. IsRefusal e (dotted_fault said.uses (spot_of text.now first.now) (spots_at text.now rest.now) (Some command))) }
 {
     match command {
         Command::Model => fault(FaultKind::Unsupported, first.place),
@@ -225,8 +226,8 @@ fn take_dotted<'a>(
     requires word { IsWithin text.now first.now }
     requires words { All (IsWithin text.now) rest.now }
     requires small { length rest.now ≤ 2 ^ 32 }
-    ensures ok { (said : Said) → IsSaid said checker.old → OnOk result ((dotted_fault said.uses (spot_of text.now first.now) (map (spot_of text.now) rest.now) (command_said (spot_of text.now first.now).word) ≡ None) × IsSaid (after_line said (spot_of text.now first.now ∷ map (spot_of text.now) rest.now)) checker.new) }
-    ensures err { (said : Said) → IsSaid said checker.old → IfErr result (λ e. IsRefusal e (dotted_fault said.uses (spot_of text.now first.now) (map (spot_of text.now) rest.now) (command_said (spot_of text.now first.now).word))) }
+    ensures ok { (said : Said) → IsSaid said checker.old → OnOk result (Passes said (line_at text.now first.now rest.now) (dotted_line_fault said.uses text.now first.now rest.now) checker.new) }
+    ensures err { (said : Said) → IsSaid said checker.old → IfErr result (λ e. IsRefusal e (dotted_line_fault said.uses text.now first.now rest.now)) }
 {
     let word = word_of(text, first);
     match command_of(word) {
@@ -250,8 +251,8 @@ fn take_first<'a>(
     requires word { IsWithin text.now first.now }
     requires words { All (IsWithin text.now) rest.now }
     requires small { length rest.now ≤ 2 ^ 32 }
-    ensures ok { (said : Said) → IsSaid said checker.old → OnOk result ((first_line_fault (spot_of text.now first.now) (map (spot_of text.now) rest.now) ≡ None) × IsSaid (after_line said (spot_of text.now first.now ∷ map (spot_of text.now) rest.now)) checker.new) }
-    ensures err { (said : Said) → IsSaid said checker.old → IfErr result (λ e. IsRefusal e (first_line_fault (spot_of text.now first.now) (map (spot_of text.now) rest.now))) }
+    ensures ok { (said : Said) → IsSaid said checker.old → OnOk result (Passes said (line_at text.now first.now rest.now) (first_line_fault (spot_of text.now first.now) (spots_at text.now rest.now)) checker.new) }
+    ensures err { (said : Said) → IsSaid said checker.old → IfErr result (λ e. IsRefusal e (first_line_fault (spot_of text.now first.now) (spots_at text.now rest.now))) }
 {
     if !is_text(word_of(text, first), ".model") {
         return fault(FaultKind::NoModel, first.place);
@@ -270,8 +271,8 @@ fn take_row<'a>(
     requires small { length text.now ≤ 2 ^ 24 }
     requires began { checker.old.began ≡ true }
     requires row { is_dotted (spot_of text.now first.now).word ≡ false }
-    ensures ok { (said : Said) → IsSaid said checker.old → OnOk result ((row_fault_in said.cover (spot_of text.now first.now) (map (spot_of text.now) rest.now) ≡ None) × IsSaid (after_line said (spot_of text.now first.now ∷ map (spot_of text.now) rest.now)) checker.new) }
-    ensures err { (said : Said) → IsSaid said checker.old → IfErr result (λ e. IsRefusal e (row_fault_in said.cover (spot_of text.now first.now) (map (spot_of text.now) rest.now))) }
+    ensures ok { (said : Said) → IsSaid said checker.old → OnOk result (Passes said (line_at text.now first.now rest.now) (row_fault_in said.cover (spot_of text.now first.now) (spots_at text.now rest.now)) checker.new) }
+    ensures err { (said : Said) → IsSaid said checker.old → IfErr result (λ e. IsRefusal e (row_fault_in said.cover (spot_of text.now first.now) (spots_at text.now rest.now))) }
 {
     match checker.cover {
         None => fault(FaultKind::RowOutsideCover, first.place),
@@ -306,8 +307,8 @@ pub fn take_line<'a>(
     requires words { All (IsWithin text.now) rest.now }
     requires many { length rest.now ≤ 2 ^ 32 }
     requires small { length text.now ≤ 2 ^ 24 }
-    ensures ok { (said : Said) → IsSaid said checker.old → OnOk result ((words_fault said (spot_of text.now first.now ∷ map (spot_of text.now) rest.now) ≡ None) × IsSaid (after_line said (spot_of text.now first.now ∷ map (spot_of text.now) rest.now)) checker.new) }
-    ensures err { (said : Said) → IsSaid said checker.old → IfErr result (λ e. IsRefusal e (words_fault said (spot_of text.now first.now ∷ map (spot_of text.now) rest.now))) }
+    ensures ok { (said : Said) → IsSaid said checker.old → OnOk result (Passes said (line_at text.now first.now rest.now) (words_fault said (line_at text.now first.now rest.now)) checker.new) }
+    ensures err { (said : Said) → IsSaid said checker.old → IfErr result (λ e. IsRefusal e (words_fault said (line_at text.now first.now rest.now))) }
 {
     if checker.ended {
         return fault(FaultKind::AfterEnd, first.place);

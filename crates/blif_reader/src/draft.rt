@@ -5,8 +5,8 @@ ghost use Rattle.rm_model.specs.Value.{is_among};
 ghost use Rattle.blif_lines.specs.Reading.{spot_of, IsWithin};
 ghost use Rattle.blif_format.specs.Text.{Line, control_word, timing_words, init_words, latch_words, cover_words, row_words};
 ghost use Rattle.blif_format.specs.FirstFault.{Said, nothing_said, words_fault, after_line, OpenCover as SaidCover, row_fault, latch_types, init_values, is_literal as literal_bytes};
-ghost use Rattle.blif_reader.specs.Drafts.{IsDraft, all_covers, model_in, Changes, IsKnown, RowsAre, CurrentIs, HasRow, AddsRow, IsFitLatch, last_token, inputs_in};
-ghost use Rattle.blif_reader.specs.Lines.{words_at, IsLatchLine, are_literals, init_part, timing_part};
+ghost use Rattle.blif_reader.specs.Drafts.{IsDraft, HasLine, FitsCover, all_covers, model_in, Changes, IsKnown, RowsAre, CurrentIs, HasRow, AddsRow, IsFitLatch, last_token, inputs_in};
+ghost use Rattle.blif_reader.specs.Lines.{words_at, spots_at, line_at, IsLatchLine, are_literals, init_part, timing_part};
 
 use crate::words::{command_of, is_text, least_words, word_of};
 use blif_format::Command;
@@ -295,7 +295,7 @@ fn with_row(
 ) -> Result<Cover, NoMemory>
     requires first { IsWithin text.now first.now }
     requires rest { All (IsWithin text.now) rest.now }
-    ensures { (o : SaidCover) → RowsAre o cover → row_fault o (spot_of text.now first.now) (map (spot_of text.now) rest.now) ≡ None → IfOk result (λ c. HasRow (spot_of text.now first.now) (map (spot_of text.now) rest.now) o cover c) }
+    ensures { (o : SaidCover) → RowsAre o cover → FitsCover text.now first.now rest.now o → IfOk result (λ c. HasRow (spot_of text.now first.now) (spots_at text.now rest.now) o cover c) }
 {
     let on = last_of(text, first, rest);
     let row = row_of(alloc, inputs_of(text, first, rest))?;
@@ -315,7 +315,7 @@ pub fn add_row(
 ) -> Result<(), NoMemory>
     requires first { IsWithin text.now first.now }
     requires rest { All (IsWithin text.now) rest.now }
-    ensures { (o : SaidCover) → CurrentIs (Some o) draft.old.current → row_fault o (spot_of text.now first.now) (map (spot_of text.now) rest.now) ≡ None → OnOk result (AddsRow (spot_of text.now first.now) (map (spot_of text.now) rest.now) o draft.old draft.new) }
+    ensures { (o : SaidCover) → CurrentIs (Some o) draft.old.current → FitsCover text.now first.now rest.now o → OnOk result (AddsRow (spot_of text.now first.now) (spots_at text.now rest.now) o draft.old draft.new) }
 {
     match draft.current.take() {
         None => Ok(()),
@@ -337,7 +337,7 @@ pub fn add_line(
 ) -> Result<(), NoMemory>
     requires first { IsWithin text.now first.now }
     requires rest { All (IsWithin text.now) rest.now }
-    ensures { (said : Said) (lines : List Line) → IsDraft said lines draft.old → words_fault said (spot_of text.now first.now ∷ map (spot_of text.now) rest.now) ≡ None → OnOk result (IsDraft (after_line said (spot_of text.now first.now ∷ map (spot_of text.now) rest.now)) (lines ++ ((spot_of text.now first.now).word ∷ words_at text.now rest.now) ∷ []) draft.new) }
+    ensures { (said : Said) (lines : List Line) → IsDraft said lines draft.old → words_fault said (line_at text.now first.now rest.now) ≡ None → OnOk result (HasLine said lines text.now first.now rest.now draft.new) }
 {
     match command_of(word_of(text, first)) {
         Some(command) => add_command(alloc, draft, text, command, rest),

@@ -5,7 +5,7 @@ ghost use Rattle.blif_format.specs.Uses.{Use, is_source_role, is_observed_role};
 ghost use Rattle.blif_format.specs.FirstFault.{name_limit, use_fault, undriven_fault};
 ghost use Rattle.std.specs.Option.{option_map};
 ghost use Rattle.blif_reader.specs.Meant.{refusal_of, IsRefusal};
-ghost use Rattle.blif_reader.specs.Tally.{Tally, IsTally, flags_or_none, no_flags, has_source as some_source, has_driver as some_driver, is_driven_twice as driven_twice, is_listed_twice as listed_twice, with_role as flags_with, more_if, place_or, first_free, free_of, use_check, flags_check, inputs_check, counts_check};
+ghost use Rattle.blif_reader.specs.Tally.{Tally, IsTally, TakesUse, flags_or_none, no_flags, has_source as some_source, has_driver as some_driver, is_driven_twice as driven_twice, is_listed_twice as listed_twice, with_role as flags_with, more_if, place_or, first_free, free_of, use_check, flags_check, inputs_check, counts_check};
 
 use crate::entries::Entries;
 use crate::refusals::{fault, limit};
@@ -292,7 +292,7 @@ impl<'a> Names<'a> {
         place: Place,
     ) -> Result<(), ReadRefusal>
         requires { earlier ≤ 2 ^ 32 }
-        ensures ok { (had : List Use) → IsTally had self.old → OnOk result ((use_fault had earlier (record { role = role; name = name.now; place = place }) ≡ None) × IsTally (had ++ record { role = role; name = name.now; place = place } ∷ []) self.new) }
+        ensures ok { (had : List Use) → IsTally had self.old → OnOk result (TakesUse had earlier (record { role = role; name = name.now; place = place }) self.new) }
         ensures err { (had : List Use) → IsTally had self.old → IfErr result (λ e. IsRefusal e (use_fault had earlier (record { role = role; name = name.now; place = place }))) }
     {
         let found = self.entries.find(name);

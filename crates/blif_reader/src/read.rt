@@ -1,11 +1,11 @@
 // The reader of a text's lines.
 ghost use Rattle.std.specs.Prelude.{◌≡◌, ◌≢◌, ◌≤◌, ◌^◌, ◌∷◌, [], length, map, not, List, OnOk, IfOk, IfErr, All, None, Some, IfSome};
 ghost use Rattle.blif_lines.specs.Layout.{Logical, layout, lines_of};
-ghost use Rattle.blif_lines.specs.Reading.{spot_of, IsWithin, pending, Gives};
+ghost use Rattle.blif_lines.specs.Reading.{spot_of, IsWithin, pending, Gives, GivesLine};
 ghost use Rattle.blif_format.specs.FirstFault.{Said, nothing_said, said_by, lines_fault, fault_if};
 ghost use Rattle.blif_format.specs.declared.refusal.FaultKind.TheVariants.{NoModel};
 ghost use Rattle.blif_reader.specs.Meant.{IsRefusal};
-ghost use Rattle.blif_reader.specs.Progress.{Progress, IsRead, places_with};
+ghost use Rattle.blif_reader.specs.Progress.{AreReadTo, IsRead, places_with};
 
 use crate::check::{Checker, take_line};
 use crate::draft::{Draft, add_line, new_draft};
@@ -49,8 +49,8 @@ fn take_tokens<'a>(
     requires words { All (IsWithin text.now) rest.now }
     requires many { length rest.now ≤ 2 ^ 32 }
     requires small { length text.now ≤ 2 ^ 24 }
-    ensures ok { (ls ms : List Logical) → Progress text.now ls lines.old.checker lines.old.draft lines.old.places.items → pending ls ≡ record { tokens = spot_of text.now first.now ∷ map (spot_of text.now) rest.now; flaw = None } ∷ ms → OnOk result (Progress text.now ms lines.new.checker lines.new.draft lines.new.places.items) }
-    ensures err { (ls ms : List Logical) → Progress text.now ls lines.old.checker lines.old.draft lines.old.places.items → pending ls ≡ record { tokens = spot_of text.now first.now ∷ map (spot_of text.now) rest.now; flaw = None } ∷ ms → IfErr result (λ e. IsRefusal e (lines_fault nothing_said (layout text.now))) }
+    ensures ok { (ls ms : List Logical) → AreReadTo text.now ls lines.old → GivesLine text.now ls ms (Some (first.now ∷ rest.now)) → OnOk result (AreReadTo text.now ms lines.new) }
+    ensures err { (ls ms : List Logical) → AreReadTo text.now ls lines.old → GivesLine text.now ls ms (Some (first.now ∷ rest.now)) → IfErr result (λ e. IsRefusal e (lines_fault nothing_said (layout text.now))) }
 {
     match take_line(&mut lines.checker, text, first, rest) {
         Ok(()) => {}
@@ -74,8 +74,8 @@ fn take_all<'a>(
     requires some { tokens.now ≢ [] }
     requires many { length tokens.now ≤ 2 ^ 32 }
     requires small { length text.now ≤ 2 ^ 24 }
-    ensures ok { (ls ms : List Logical) → Progress text.now ls lines.old.checker lines.old.draft lines.old.places.items → pending ls ≡ record { tokens = map (spot_of text.now) tokens.now; flaw = None } ∷ ms → OnOk result (Progress text.now ms lines.new.checker lines.new.draft lines.new.places.items) }
-    ensures err { (ls ms : List Logical) → Progress text.now ls lines.old.checker lines.old.draft lines.old.places.items → pending ls ≡ record { tokens = map (spot_of text.now) tokens.now; flaw = None } ∷ ms → IfErr result (λ e. IsRefusal e (lines_fault nothing_said (layout text.now))) }
+    ensures ok { (ls ms : List Logical) → AreReadTo text.now ls lines.old → GivesLine text.now ls ms (Some tokens.now) → OnOk result (AreReadTo text.now ms lines.new) }
+    ensures err { (ls ms : List Logical) → AreReadTo text.now ls lines.old → GivesLine text.now ls ms (Some tokens.now) → IfErr result (λ e. IsRefusal e (lines_fault nothing_said (layout text.now))) }
 {
     match tokens.split_first() {
         Some((first, rest)) => take_tokens(alloc, lines, text, first, rest),

@@ -9,4 +9,4 @@ returns-in-Err-clause-err c ls ms p is = progress_fault c.args.text.now ls ms c.
 pub returns-clause-ok : goal.returns-clause-ok
 returns-clause-ok c ls ms p is =
     let t = c.in-Ok.ensures.ok p.said p.checked in
-    on_ok c.push_place.result _ (Progress c.args.text.now ms c.take_line.new.checker c.add_line.new.draft c.push_place.new.places.items) (λ far. progress_step c.args.text.now ls ms c.args.lines.now.checker c.take_line.new.checker c.args.lines.now.draft c.add_line.new.draft c.args.lines.now.places.items c.push_place.new.places.items c.args.first.now c.args.rest.now p is t.0 t.1 (c.in-Ok-add_line.ensures p.said p.lines p.drafted t.0) far) c.push_place.ensures.ok
+    on_ok c.push_place.result _ (Progress c.args.text.now ms c.take_line.new.checker c.add_line.new.draft c.push_place.new.places.items) (λ far. progress_step c.args.text.now ls ms c.args.lines.now.checker c.take_line.new.checker c.args.lines.now.draft c.add_line.new.draft c.args.lines.now.places.items c.push_place.new.places.items c.args.first.now c.args.rest.now p is t.faultless t.taken (c.in-Ok-add_line.ensures p.said p.lines p.drafted t.faultless) far) c.push_place.ensures.ok

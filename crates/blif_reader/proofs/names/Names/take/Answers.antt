@@ -28,4 +28,5 @@ invariant_of-self c =
 
 pub returns-in-Ok-put-clause-ok : goal.returns-in-Ok-put-clause-ok
 returns-in-Ok-put-clause-ok c had is =
-    accepts_use had (tally c.self.inside) (record { entries = c.put.new.self; sources = c.counts_with-counts.result.sources; observed = c.counts_with-counts.result.observed }) c.args.earlier (record { role = c.args.role; name = c.args.name.now; place = c.args.place }) c.get-entry.result c.flags_of-flags.result c.with_role.result c.place_of.result c.counts_with-counts.result (subst (IsTally had) (sym c.self.view_is) is) (c.get-entry.ensures c.args.name.now c.find-found.ensures) c.flags_of-flags.ensures c.counts_with-counts.ensures.sources c.counts_with-counts.ensures.observed (c.counts_with-counts.ensures.signals ∙ ap (λ (n : ℕ). more_if (not (is_some c.get-entry.result)) n) c.len.ensures) c.in-Ok.ensures c.with_role.ensures c.place_of.ensures c.in-Ok-put.ensures.ok refl refl
+    let t = accepts_use had (tally c.self.inside) (record { entries = c.put.new.self; sources = c.counts_with-counts.result.sources; observed = c.counts_with-counts.result.observed }) c.args.earlier (record { role = c.args.role; name = c.args.name.now; place = c.args.place }) c.get-entry.result c.flags_of-flags.result c.with_role.result c.place_of.result c.counts_with-counts.result (subst (IsTally had) (sym c.self.view_is) is) (c.get-entry.ensures c.args.name.now c.find-found.ensures) c.flags_of-flags.ensures c.counts_with-counts.ensures.sources c.counts_with-counts.ensures.observed (c.counts_with-counts.ensures.signals ∙ ap (λ (n : ℕ). more_if (not (is_some c.get-entry.result)) n) c.len.ensures) c.in-Ok.ensures c.with_role.ensures c.place_of.ensures c.in-Ok-put.ensures.ok refl refl in
+    record { faultless = t.0; tallied = t.1 }
