@@ -1,5 +1,5 @@
 -- What each item of a tree leads to, and where it is refused.
-use Rattle.std.specs.Prelude.{List, [], length, not, suc, ℕ, ◌∷◌, ◌≡◌, ◌⊎◌}
+use Rattle.std.specs.Prelude.{Bool, List, [], length, not, suc, ℕ, ◌∷◌, ◌≡◌, ◌⊎◌}
 use Rattle.gate_net.specs.Net.{Net}
 use Rattle.refutation.specs.Branches.{MaySplit, SplitsSource}
 use Rattle.refutation.specs.Facts.{AreOpposed, Held, with_fact}
@@ -44,13 +44,17 @@ abbrev pub after_here : Form → List Held → ℕ → Turn
 after_here Closed others n = refused (Shape n)
 after_here Partial others n = goes_on (untrieds (length others))
 
+-- after a Split come both branches, the one with the first value at once
+abbrev pub after_split : Held → List Held → ℕ → Bool → Turn
+after_split held others x first = goes_on (trees (with_fact held x (Good first)) (with_fact held x (Good (not first)) ∷ others))
+
 -- what item n leads to
 abbrev pub TurnsTo : Net → Fault → Form → ℕ → Left → Item → Turn → Type 0
 TurnsTo net fault form n (trees held others) (Line l) turn =
     ((x : ℕ) × ((fact : Fact) × (Concludes net fault held l x fact × (turn ≡ goes_on (trees (with_fact held x fact) others)))))
     ⊎ (((x : ℕ) (fact : Fact) → Concludes net fault held l x fact → ⊥) × (turn ≡ refused (BadLine n)))
 TurnsTo net fault form n (trees held others) (Split x first) turn =
-    Decides (MaySplitIn form net held x.0) (goes_on (trees (with_fact held x.0 (Good first)) (with_fact held x.0 (Good (not first)) ∷ others))) (refused (BadSplit n)) turn
+    Decides (MaySplitIn form net held x.0) (after_split held others x.0 first) (refused (BadSplit n)) turn
 TurnsTo net fault form n (trees held others) (Clash x) turn = Decides (AreOpposed held x.0) (after_end form others n) (refused (NotClash n)) turn
 TurnsTo net fault form n (trees held others) Quiet turn = Decides (IsQuiet net fault held) (after_end form others n) (refused (NotQuiet n)) turn
 TurnsTo net fault form n (trees held others) Here turn = turn ≡ after_here form others n

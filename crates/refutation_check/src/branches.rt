@@ -4,7 +4,7 @@ ghost use Rattle.refutation.specs.Facts.{none_held, with_fact};
 ghost use Rattle.refutation.specs.declared.reasoning.Fact.TheVariants.{Good};
 ghost use Rattle.refutation_check.specs.Notes.{held_of};
 ghost use Rattle.refutation_check.specs.Standing.{Halts, IsClimbing, Moves, left_of, others_of};
-ghost use Rattle.refutation_check.specs.Turns.{after_end, after_here, goes_on, trees, untrieds};
+ghost use Rattle.refutation_check.specs.Turns.{after_end, after_here, after_split, goes_on, trees, untrieds};
 ghost use Rattle.refutation_check.specs.FirstRefusal.{IsEnd};
 
 use crate::refusals::CheckRefusal;
@@ -78,7 +78,7 @@ impl Branches {
         requires climbs { IsClimbing self.old }
         requires open { self.old.stopped ≡ false }
         requires node { node.0 < self.old.trail.numbers }
-        ensures moves { OnOk result (Moves (goes_on (trees (with_fact (held_of self.old.trail.entries) node.0 (Good first)) (with_fact (held_of self.old.trail.entries) node.0 (Good (not first)) ∷ others_of self.old.trail.entries self.old.pending.items))) self.old self.new) }
+        ensures moves { OnOk result (Moves (after_split (held_of self.old.trail.entries) (others_of self.old.trail.entries self.old.pending.items) node.0 first) self.old self.new) }
         ensures numbers { self.new.trail.numbers ≡ self.old.trail.numbers }
     {
         let mark = self.trail.mark();
