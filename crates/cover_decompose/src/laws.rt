@@ -1,18 +1,17 @@
 // Laws of the definitions, each the contract of a function that does nothing.
-ghost use Rattle.std.specs.Prelude.{◌≡◌, ◌≢◌, ◌+◌, ◌<◌, ◌≤◌, ◌↔◌, ◌⊎◌, ℕ, [], ◌∷◌, Option, None, Some, Contains, length, slice_get, true};
+ghost use Rattle.std.specs.Prelude.{◌≡◌, ◌≢◌, ◌+◌, ◌<◌, ◌≤◌, ◌↔◌, ℕ, [], ◌∷◌, Option, None, Some, Contains, length, slice_get};
 ghost use Rattle.gate_net.specs.Net.{IsGate, IsWellFormed as IsWellFormedNet, node_at, wire_count};
 ghost use Rattle.rm_model.specs.Ranks.{first_without_rank};
-ghost use Rattle.rm_model.specs.Value.{is_among, source_names};
+ghost use Rattle.rm_model.specs.Value.{source_names};
 ghost use Rattle.rm_model.specs.WellFormed.{IsWellFormed};
 ghost use Rattle.rm_model.specs.declared.parts.Cover.{Cover};
 ghost use Rattle.cover_decompose.specs.Bounds.{WiresAreBounded};
-ghost use Rattle.cover_decompose.specs.Needed.{IsNeeded, taken};
+ghost use Rattle.cover_decompose.specs.Needed.{IsNeeded, ReadsBefore, taken};
 ghost use Rattle.cover_decompose.specs.Decomposition.{net_of_model};
 ghost use Rattle.cover_decompose.specs.Count.{decomposed};
 ghost use Rattle.cover_decompose.specs.StandsFor.{HasPoints, StandsFor};
 ghost use Rattle.cover_decompose.specs.Rows.{r2, r3, r5, mux, constant, dashed, net_with, and_gate, or_gate, not_gate};
 ghost use Rattle.rm_model.specs.declared.parts.Model.{Model};
-ghost use Rattle.rm_model.specs.Words.{Word};
 
 use rm_model::ranks_follow;
 
@@ -53,7 +52,7 @@ pub fn decompositions_are_formed()
 /// The covers taken are those whose output is needed, and each reads sources and the outputs of covers before it.
 pub fn needed_covers_are_taken()
     ensures taken { (m : Model) (c : Cover) → IsWellFormed m → first_without_rank m ≡ None → Contains (taken m) c ↔ (Contains m.covers c × IsNeeded m c.output) }
-    ensures order { (m : Model) (j : ℕ) (d : Cover) (x : Word) → IsWellFormed m → first_without_rank m ≡ None → slice_get (taken m) j ≡ Some d → is_among d.inputs x ≡ true → (is_among (source_names m) x ≡ true) ⊎ ((i : ℕ) × ((c : Cover) × ((slice_get (taken m) i ≡ Some c) × ((c.output ≡ x) × (i < j))))) }
+    ensures order { (m : Model) (j : ℕ) (d : Cover) → IsWellFormed m → first_without_rank m ≡ None → slice_get (taken m) j ≡ Some d → ReadsBefore m j d }
 {
     ranks_follow();
 }
