@@ -1,15 +1,19 @@
 -- Parts of the list of candidates.
-use Rattle.std.specs.Prelude.{Bool, IsTrue, List, None, Option, Some, slice_get, true, ℕ, ◌<◌, ◌≡◌, ◌≤◌, ◌↔◌}
+use Rattle.std.specs.Prelude.{Bool, IsTrue, List, None, Option, Some, length, slice_get, true, ℕ, ◌++◌, ◌<◌, ◌≡◌, ◌≤◌, ◌↔◌}
 use Rattle.gate_graph.specs.Search.{IsSeen}
 use Rattle.gate_net.specs.Net.{IsKind, Net, Reads}
+use Rattle.gate_net.specs.Values.{IsJunction}
 use Rattle.gate_net.specs.declared.Kind.{Kind}
 use Rattle.refutation.specs.Branches.{IsNoConstant}
 use Rattle.refutation.specs.Facts.{Held, known_equal, known_good}
+use Rattle.refutation.specs.Reaching.{MarksReached}
 use Rattle.refutation.specs.declared.reasoning.Fact.{Fact}
 use Rattle.refutation.specs.declared.reasoning.Fact.TheVariants.{Good}
 use Rattle.rm_base.specs.declared.numbers.NodeId.{NodeId}
+use Rattle.candidate_wires.specs.Candidates.{AreAmong}
 use Rattle.candidate_wires.specs.Joining.{HasNoNot}
 use Rattle.refutation.specs.FactLists.{IsAmong}
+use Rattle.candidate_wires.specs.declared.candidate.Candidate.{Candidate}
 use Rattle.candidate_wires.specs.declared.known.Known.{Known}
 
 -- the node is a source or a gate that is known to be equal, and its good value is known
@@ -50,6 +54,10 @@ HasUsable net held numbers = (x : ℕ) (value : Bool) → IsUsable net held x va
 abbrev pub HasNoneFrom : Net → Held → ℕ → ℕ → Type 0
 HasNoneFrom net held from to = (x : ℕ) (value : Bool) → from ≤ x → x < to → IsUsable net held x value → ⊥
 
+-- the usable nodes below the one number become those below the other, if none was left out before this number
+abbrev pub KeepsKnown : Net → Held → ℕ → ℕ → List Known → ℕ → List Known → Type 0
+KeepsKnown net held number from ks to js = AreKnown net held from ks → (number < length net.nodes → HasNoneFrom net held from number) → AreKnown net held to js
+
 -- the nodes of the good values among facts are in the list
 abbrev pub HasGoods : List (NodeId × Fact) → List ℕ → Type 0
 HasGoods facts numbers = (x : ℕ) (value : Bool) → IsAmong facts x (Good value) → IsInList numbers x
@@ -57,3 +65,16 @@ HasGoods facts numbers = (x : ℕ) (value : Bool) → IsAmong facts x (Good valu
 -- exactly the drivers of the gate are marked
 abbrev pub MarksDrivers : Net → ℕ → List Bool → Type 0
 MarksDrivers net y driving = (x : ℕ) → IsSeen driving x ↔ ((p : ℕ) × Reads net y p x)
+
+-- the candidates at gate y are added, whatever facts make these the usable nodes
+pub record AddsAt (net : Net) (y : ℕ) (sources : List Known) (old new : List Candidate) : Type 0 where
+  pub more : List Candidate
+  pub added : new ≡ old ++ more
+  pub among : (held : Held) → AreKnown net held (length net.nodes) sources → AreAmong net held y (length net.nodes) more
+
+-- and so in any net in which the gate has that controlling value and these marks
+pub record AddsChoices (y : ℕ) (control : Bool) (reached driving : List Bool) (sources : List Known) (old new : List Candidate) : Type 0 where
+  pub more : List Candidate
+  pub added : new ≡ old ++ more
+  pub among : (net : Net) (held : Held)
+      → IsJunction net y control → MarksReached net y reached → MarksDrivers net y driving → AreKnown net held (length net.nodes) sources → AreAmong net held y (length net.nodes) more

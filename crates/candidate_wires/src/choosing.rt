@@ -1,13 +1,11 @@
 // The candidates at one gate.
-ghost use Rattle.std.specs.Prelude.{◌≡◌, ◌++◌, List, OnOk, length};
+ghost use Rattle.std.specs.Prelude.{OnOk};
 ghost use Rattle.gate_net.specs.Net.{Net};
 ghost use Rattle.gate_net.specs.Values.{IsJunction};
 ghost use Rattle.refutation.specs.Facts.{Held};
 ghost use Rattle.refutation.specs.Reaching.{MarksReached};
-ghost use Rattle.candidate_wires.specs.Candidates.{AreAmong};
 ghost use Rattle.candidate_wires.specs.Joining.{IsCandidateOf};
-ghost use Rattle.candidate_wires.specs.Parts.{AreKnown, IsKnown, MarksDrivers};
-ghost use Rattle.candidate_wires.specs.declared.candidate.Candidate.{Candidate as CandidateValue};
+ghost use Rattle.candidate_wires.specs.Parts.{AddsChoices, IsKnown, MarksDrivers};
 
 use crate::candidate::Candidate;
 use crate::known::Known;
@@ -60,7 +58,7 @@ pub(crate) fn add_choices(
     sources: &[Known],
     found: &mut Vec<Candidate>,
 ) -> Result<(), NoMemory>
-    ensures { OnOk result ((more : List CandidateValue) × ((found.new.items ≡ found.old.items ++ more) × ((net : Net) (held : Held) → IsJunction net gate.0 control → MarksReached net gate.0 reached.now → MarksDrivers net gate.0 driving.now → AreKnown net held (length net.nodes) sources.now → AreAmong net held gate.0 (length net.nodes) more))) }
+    ensures { OnOk result (AddsChoices gate.0 control reached.now driving.now sources.now found.old.items found.new.items) }
 {
     for source in sources {
         let chosen = choice_at(gate, control, reached, driving, *source);

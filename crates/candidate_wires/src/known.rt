@@ -8,7 +8,7 @@ ghost use Rattle.refutation.specs.FactSets.{held_by};
 ghost use Rattle.refutation.specs.declared.reasoning.Fact.TheVariants.{Good};
 ghost use Rattle.candidate_wires.specs.Joining.{HasNoNot};
 ghost use Rattle.refutation.specs.FactLists.{HasAllGoods};
-ghost use Rattle.candidate_wires.specs.Parts.{AreKnown, HasGoods, HasNoneFrom, HasUsable, IsAscending, IsLook};
+ghost use Rattle.candidate_wires.specs.Parts.{AreKnown, HasGoods, HasUsable, IsAscending, IsLook, KeepsKnown};
 
 use gate_graph::Graph;
 use gate_net::Kind;
@@ -143,7 +143,7 @@ fn look_on(
     requires facts { length (net_of graph.now).nodes ≤ length facts.now }
     requires bound { bound ≡ length (net_of graph.now).nodes }
     requires next { next.old ≤ length (net_of graph.now).nodes }
-    ensures known { OnOk result (AreKnown (net_of graph.now) (held_by facts.now) next.old nodes.old.items → (number < length (net_of graph.now).nodes → HasNoneFrom (net_of graph.now) (held_by facts.now) next.old number) → AreKnown (net_of graph.now) (held_by facts.now) next.new nodes.new.items) }
+    ensures known { OnOk result (KeepsKnown (net_of graph.now) (held_by facts.now) number next.old nodes.old.items next.new nodes.new.items) }
     ensures seen { OnOk result ((number < next.new) ⊎ (length (net_of graph.now).nodes ≤ number)) }
     ensures grows { OnOk result (next.old ≤ next.new) }
     ensures bound { OnOk result (next.new ≤ length (net_of graph.now).nodes) }

@@ -1,14 +1,13 @@
 // The candidates of a fault.
-ghost use Rattle.std.specs.Prelude.{◌≡◌, ◌≤◌, ◌++◌, List, IfOk, OnOk, length};
+ghost use Rattle.std.specs.Prelude.{◌≡◌, ◌≤◌, IfOk, OnOk, length};
 ghost use Rattle.gate_net.specs.Net.{IsLive};
 ghost use Rattle.gate_net.specs.Values.{HasPin};
 ghost use Rattle.gate_graph.specs.Circuit.{net_of};
 ghost use Rattle.refutation.specs.Facts.{Held};
 ghost use Rattle.refutation.specs.FactSets.{held_by};
 ghost use Rattle.refutation.specs.Reaching.{MarksReached};
-ghost use Rattle.candidate_wires.specs.Candidates.{AreAmong, AreCandidates};
-ghost use Rattle.candidate_wires.specs.Parts.{AreKnown};
-ghost use Rattle.candidate_wires.specs.declared.candidate.Candidate.{Candidate as CandidateValue};
+ghost use Rattle.candidate_wires.specs.Candidates.{AreCandidates};
+ghost use Rattle.candidate_wires.specs.Parts.{AddsAt, AreKnown};
 
 use crate::candidate::Candidate;
 use crate::choosing::add_choices;
@@ -34,7 +33,7 @@ fn add_at(
 ) -> Result<(), NoMemory>
     requires reached { MarksReached (net_of graph.now) at.0 reached.now }
     requires room { length (net_of graph.now).nodes ≤ length driving.old }
-    ensures more { OnOk result ((more : List CandidateValue) × ((found.new.items ≡ found.old.items ++ more) × ((held : Held) → AreKnown (net_of graph.now) held (length (net_of graph.now).nodes) sources.now → AreAmong (net_of graph.now) held at.0 (length (net_of graph.now).nodes) more))) }
+    ensures more { OnOk result (AddsAt (net_of graph.now) at.0 sources.now found.old.items found.new.items) }
     ensures room { length driving.new ≡ length driving.old }
 {
     let Some(control) = control_of(graph, at) else {

@@ -33,10 +33,8 @@ loop-source-preserved c = (
 )
 
 pub returns : goal.returns
-returns c = (
-  c.loop-source.invariant.0,
-  (
-    c.loop-source.invariant.1.0,
-    λ net held junction reached driving known. chosen_all net held c.args.gate.0 c.args.sources.now known c.loop-source.source-index c.loop-source.invariant.0 (omega arith) (c.loop-source.invariant.1.1 net held junction reached driving known),
-  ),
-)
+returns c = record {
+  more = c.loop-source.invariant.0;
+  added = c.loop-source.invariant.1.0;
+  among = λ net held junction reached driving known. chosen_all net held c.args.gate.0 c.args.sources.now known c.loop-source.source-index c.loop-source.invariant.0 (omega arith) (c.loop-source.invariant.1.1 net held junction reached driving known);
+}

@@ -13,8 +13,8 @@ next_in_chain-requires c = walked_live (net_of c.args.graph.now) c.args.fault.no
 pub returns-in_default-clause-found : goal.returns-in_default-clause-found
 returns-in_default-clause-found c =
     let more = c.in_ok-add_at.ensures.more in
-    rw more.1.0
-    (walked_ends (net_of c.args.graph.now) c.args.fault.now.gate.0 c.loop-step.at.0 c.loop-step._step c.loop-step.reached c.args.sources.now c.loop-step.found.items c.well_formed-2.ensures.net.acyclic c.requires.gate c.loop-step.invariant.walked more.0 more.1.1 c.args.fault.now refl c.in_default.ensures)
+    rw more.added
+    (walked_ends (net_of c.args.graph.now) c.args.fault.now.gate.0 c.loop-step.at.0 c.loop-step._step c.loop-step.reached c.args.sources.now c.loop-step.found.items c.well_formed-2.ensures.net.acyclic c.requires.gate c.loop-step.invariant.walked more.more more.among c.args.fault.now refl c.in_default.ensures)
 
 pub unset-requires : goal.unset-requires
 unset-requires c =
@@ -26,8 +26,8 @@ pub loop-step-preserved : goal.loop-step-preserved
 loop-step-preserved c =
     let more = c.in_ok-add_at.ensures.more in
     record {
-      walked = rw (c.unset.ensures, more.1.0)
-          (walked_more (net_of c.args.graph.now) c.args.fault.now.gate.0 c.loop-step.at.0 c.loop-step._step c.loop-step.reached c.args.sources.now c.loop-step.found.items c.well_formed-2.ensures.net.acyclic c.requires.gate c.loop-step.invariant.walked more.0 more.1.1 c.in-Some.next.0 c.in-Some.ensures);
+      walked = rw (c.unset.ensures, more.added)
+          (walked_more (net_of c.args.graph.now) c.args.fault.now.gate.0 c.loop-step.at.0 c.loop-step._step c.loop-step.reached c.args.sources.now c.loop-step.found.items c.well_formed-2.ensures.net.acyclic c.requires.gate c.loop-step.invariant.walked more.more more.among c.in-Some.next.0 c.in-Some.ensures);
       marks = ap (λ bs. length bs) c.unset.ensures ∙ length-set c.loop-step.reached c.in-Some.next.0 false ∙ c.loop-step.invariant.marks;
       room = c.in_ok-add_at.ensures.room ∙ c.loop-step.invariant.room;
     }
