@@ -1,12 +1,11 @@
 // The first fault of the words of a line, after those before it.
-ghost use Rattle.std.specs.Prelude.{◌≡◌, ◌≢◌, ◌≤◌, ◌<◌, ◌+◌, ◌-◌, ◌^◌, ◌++◌, ◌∷◌, ◌||◌, [], length, map, take, drop, false, true, List, ℕ, OnOk, IfOk, IfErr, All, None, Some};
-ghost use Rattle.std.specs.List.{filter_map};
+ghost use Rattle.std.specs.Prelude.{◌≡◌, ◌≢◌, ◌≤◌, ◌<◌, ◌-◌, ◌^◌, ◌∷◌, ◌||◌, [], length, take, drop, false, true, List, ℕ, OnOk, IfOk, IfErr, All, None, Some};
 ghost use Rattle.rm_model.specs.Words.{Word, is_word};
 ghost use Rattle.blif_lines.specs.Layout.{Spot};
 ghost use Rattle.blif_lines.specs.Reading.{spot_of, IsWithin};
 ghost use Rattle.blif_format.specs.Text.{on_word};
-ghost use Rattle.blif_format.specs.Uses.{Use, use_of, parts_of, command_of as command_said};
-ghost use Rattle.blif_format.specs.FirstFault.{Said, part_fault, command_fault, ending_fault, character_fault, rest_fault, row_fault, or_else, extra_fault, last_word, nothing_said, dotted_fault, first_line_fault, row_fault_in, is_dotted, words_fault, after_line};
+ghost use Rattle.blif_format.specs.Uses.{Use, parts_of, command_of as command_said};
+ghost use Rattle.blif_format.specs.FirstFault.{Said, part_fault, command_fault, ending_fault, character_fault, rest_fault, row_fault, or_else, extra_fault, last_word, nothing_said, dotted_fault, first_line_fault, row_fault_in, is_dotted, words_fault};
 ghost use Rattle.blif_reader.specs.Lines.{line_at, spots_at, dotted_line_fault};
 ghost use Rattle.blif_reader.specs.Meant.{refusal_of, IsRefusal};
 ghost use Rattle.blif_reader.specs.Tally.{IsTally, TakesParts};

@@ -1,5 +1,5 @@
 // The names that a text has used so far, by first appearance, and as what each stands there.
-ghost use Rattle.std.specs.Prelude.{◌≡◌, ◌≤◌, ◌+◌, ◌^◌, ◌++◌, ◌∷◌, ◌&&◌, [], length, not, is_some, slice_get, List, OnOk, IfErr, None, Some};
+ghost use Rattle.std.specs.Prelude.{◌≡◌, ◌≤◌, ◌+◌, ◌^◌, ◌&&◌, [], length, not, is_some, slice_get, List, OnOk, IfErr, None, Some};
 ghost use Rattle.rm_model.specs.Words.{is_word};
 ghost use Rattle.blif_format.specs.Uses.{Use, is_source_role, is_observed_role};
 ghost use Rattle.blif_format.specs.FirstFault.{name_limit, use_fault, undriven_fault};

@@ -1,7 +1,7 @@
 // The reader of a text's lines.
-ghost use Rattle.std.specs.Prelude.{◌≡◌, ◌≢◌, ◌≤◌, ◌^◌, ◌∷◌, [], length, map, not, List, OnOk, IfOk, IfErr, All, None, Some, IfSome};
+ghost use Rattle.std.specs.Prelude.{◌≡◌, ◌≢◌, ◌≤◌, ◌^◌, ◌∷◌, [], length, not, List, OnOk, IfOk, IfErr, All, None, Some, IfSome};
 ghost use Rattle.blif_lines.specs.Layout.{Logical, layout, lines_of};
-ghost use Rattle.blif_lines.specs.Reading.{spot_of, IsWithin, pending, Gives, GivesLine};
+ghost use Rattle.blif_lines.specs.Reading.{IsWithin, pending, Gives, GivesLine};
 ghost use Rattle.blif_format.specs.FirstFault.{Said, nothing_said, said_by, lines_fault, fault_if};
 ghost use Rattle.blif_format.specs.declared.refusal.FaultKind.TheVariants.{NoModel};
 ghost use Rattle.blif_reader.specs.Meant.{IsRefusal};

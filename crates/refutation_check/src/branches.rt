@@ -1,5 +1,5 @@
 // The branch that is read and those that are still to be read.
-ghost use Rattle.std.specs.Prelude.{◌≡◌, ◌<◌, ◌↔◌, ◌∷◌, [], false, true, not, suc, ℕ, IsTrue, IfErr, IfOk, OnOk, length};
+ghost use Rattle.std.specs.Prelude.{◌≡◌, ◌<◌, ◌↔◌, [], false, true, suc, ℕ, IsTrue, IfErr, IfOk, OnOk, length};
 ghost use Rattle.refutation.specs.Facts.{none_held, with_fact};
 ghost use Rattle.refutation.specs.declared.reasoning.Fact.TheVariants.{Good};
 ghost use Rattle.refutation_check.specs.Notes.{held_of};
