@@ -1,10 +1,11 @@
 -- What was learned from a gate.
-use Rattle.std.specs.Prelude.{Bool, IsTrue, List, None, Option, Some, [], false, length, map, slice_get, suc, true, ℕ, ◌<◌, ◌≡◌, ◌⊎◌}
+use Rattle.std.specs.Prelude.{Bool, IsTrue, List, None, Option, Some, [], false, length, map, slice_get, suc, true, ℕ, ◌+◌, ◌<◌, ◌≡◌, ◌⊎◌}
 use Rattle.gate_net.specs.Net.{IsLive, Net}
 use Rattle.recursive_learning.specs.Common.{IsAmongGoods}
 use Rattle.recursive_learning.specs.Gates.{AllClash, AllLead, AreJustifications, HasTaught}
 use Rattle.recursive_learning.specs.Least.{AreForced}
 use Rattle.recursive_learning.specs.Working.{AreSettled}
+use Rattle.recursive_learning.specs.declared.lessons.Common.{Common}
 use Rattle.recursive_learning.specs.declared.lessons.Learned.{Learned}
 use Rattle.recursive_learning.specs.declared.lessons.Lesson.{Lesson}
 use Rattle.recursive_learning.specs.declared.lessons.Round.{Round}
@@ -49,6 +50,12 @@ pub record AreCommon (net : Net) (fault : Fault) (depth : ℕ) (held : Held) (c 
   pub all : IsTrue found → (x : ℕ) (b : Bool)
       → ((k d : ℕ) → k < n → slice_get ds k ≡ Some d → (LeadsToClash net fault depth (with_fact held d (Good c)) → ⊥) → AllHold (IsClosedAt net fault depth) (with_fact held d (Good c)) x (Good b))
       → IsTrue (held x (Good b)) ⊎ IsAmongGoods goods x b
+
+-- what was in common before is so with driver d too, wherever it is the next one
+abbrev pub MeetsOneMore : Net → Fault → ℕ → Held → Bool → ℕ → Common → Common → Type 0
+MeetsOneMore net fault depth held c d before after =
+    (ds : List ℕ) (n : ℕ) → slice_get ds n ≡ Some d → AreCommon net fault depth held c ds n before.found before.goods.items
+    → AreCommon net fault depth held c ds (n + 1) after.found after.goods.items
 
 -- some driver doesn't clash, and what all those that don't lead to is held already
 pub record IsNothingNew (net : Net) (fault : Fault) (depth : ℕ) (held : Held) (c : Bool) (ds : List ℕ) : Type 0 where

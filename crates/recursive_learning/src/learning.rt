@@ -1,11 +1,11 @@
 // Learning from the justifications of gates, in place.
-ghost use Rattle.std.specs.Prelude.{◌≡◌, ◌≢◌, ◌+◌, ◌<◌, ◌≤◌, ◌⊎◌, ℕ, List, [], IfOk, None, OnOk, Some, false, length, map, slice_get, suc, true};
+ghost use Rattle.std.specs.Prelude.{◌≡◌, ◌≢◌, ◌<◌, ◌≤◌, ◌⊎◌, ℕ, [], IfOk, None, OnOk, Some, false, length, map, suc, true};
 ghost use Rattle.gate_net.specs.Net.{IsLive};
 ghost use Rattle.gate_net.specs.Values.{HasPin};
 ghost use Rattle.gate_graph.specs.Circuit.{net_of};
 ghost use Rattle.refutation.specs.Facts.{known_good, with_fact};
 ghost use Rattle.refutation.specs.FactSets.{held_by};
-ghost use Rattle.recursive_learning.specs.Lessons.{AreCommon, AreFound, AreOpen, HasLooked, IsOne, IsRound, Teaches};
+ghost use Rattle.recursive_learning.specs.Lessons.{AreFound, AreOpen, HasLooked, IsOne, IsRound, MeetsOneMore, Teaches};
 ghost use Rattle.recursive_learning.specs.Watching.{HasNoneListed, HasRegion, HasRoom, IsCovered, IsKnown, IsWatching, LeavesList, Lengthens, StaysTaught, looks_left};
 ghost use Rattle.recursive_learning.specs.Working.{AreSettled, IsLearned, Keeps};
 ghost use Rattle.recursive_learning.specs.declared.lessons.Round.TheVariants.{Clash, Gained, Quiet};
@@ -390,7 +390,7 @@ fn one_more(
     requires gate { gate.0 < watch.old.rests.numbers }
     requires node { IsLive (net_of graph.now) driver.0 }
     requires unknown { known_good (held_by facts.old) driver.0 ≡ None }
-    ensures common { IfOk result (λ r. (ds : List ℕ) (n : ℕ) → slice_get ds n ≡ Some driver.0 → AreCommon (net_of graph.now) fault.now depth (held_by facts.old) value ds n before.found before.goods.items → AreCommon (net_of graph.now) fault.now depth (held_by facts.old) value ds (n + 1) r.found r.goods.items) }
+    ensures common { IfOk result (MeetsOneMore (net_of graph.now) fault.now depth (held_by facts.old) value driver.0 before) }
     ensures same { IfOk result (λ _. facts.new ≡ facts.old) }
     ensures keeps { IfOk result (λ _. Keeps engine.old engine.new facts.old facts.new) }
     ensures leaves { OnOk result (LeavesList watch.old watch.new) }

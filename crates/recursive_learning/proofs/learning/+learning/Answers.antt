@@ -18,7 +18,7 @@ use Rattle.recursive_learning.proofs.Vecs.{driver_at, empty_is, full_is, map_som
 use Rattle.recursive_learning.proofs.Watches.{known_begun, known_longer, known_more, known_same, known_still, known_taken, known_taught, leaves_join, lengthens_join, lengthens_rests, lengthens_taken, none_leaves, region_covers, room_leaves, room_longer, room_still, watching_known, watching_leaves, watching_more}
 use Rattle.recursive_learning.specs.Gates.{AreJustifications, HasTaught}
 use Rattle.recursive_learning.specs.Least.{IsLeastAt}
-use Rattle.recursive_learning.specs.Lessons.{AreCommon, AreFound, HasLooked, IsGained, IsLesson, IsOne, IsRound, Teaches}
+use Rattle.recursive_learning.specs.Lessons.{AreCommon, AreFound, HasLooked, IsGained, IsLesson, IsOne, IsRound, MeetsOneMore, Teaches}
 use Rattle.recursive_learning.specs.Watching.{HasRegion, IsCovered, Lengthens, StaysTaught, looks_left}
 use Rattle.recursive_learning.specs.Working.{IsLearned}
 use Rattle.recursive_learning.specs.declared.lessons.Learned.{Learned}
@@ -47,7 +47,7 @@ pub in_common-returns-then-is_empty-clause-found : goal.in_common-returns-then-i
 in_common-returns-then-is_empty-clause-found t c =
     let same : c.loop-driver.facts ≡ c.args.facts.now = c.loop-driver.invariant.same in
     let common : AreCommon (net_of c.args.graph.now) c.args.fault.now c.args.depth (held_by c.args.facts.now) c.args.value (map (λ n. n.0) c.args.drivers.now) (c.loop-driver.driver-index + 1) c.in_ok-common.common.found c.in_ok-common.common.goods.items =
-    subst (λ (f : List NodeFacts). (ds : List ℕ) (n : ℕ) → slice_get ds n ≡ Some (get_or c.args.drivers.now c.loop-driver.driver-index (record { 0 = 0 })).0 → AreCommon (net_of c.args.graph.now) c.args.fault.now c.args.depth (held_by f) c.args.value ds n c.loop-driver.common.found c.loop-driver.common.goods.items → AreCommon (net_of c.args.graph.now) c.args.fault.now c.args.depth (held_by f) c.args.value ds (n + 1) c.in_ok-common.common.found c.in_ok-common.common.goods.items) same c.in_ok-common.ensures.common (map (λ n. n.0) c.args.drivers.now) c.loop-driver.driver-index (driver_at c.args.drivers.now c.loop-driver.driver-index (record { 0 = 0 }) (omega arith)) c.loop-driver.invariant.common in
+    subst (λ (f : List NodeFacts). MeetsOneMore (net_of c.args.graph.now) c.args.fault.now c.args.depth (held_by f) c.args.value (get_or c.args.drivers.now c.loop-driver.driver-index (record { 0 = 0 })).0 c.loop-driver.common c.in_ok-common.common) same c.in_ok-common.ensures.common (map (λ n. n.0) c.args.drivers.now) c.loop-driver.driver-index (driver_at c.args.drivers.now c.loop-driver.driver-index (record { 0 = 0 }) (omega arith)) c.loop-driver.invariant.common in
     found_none (net_of c.args.graph.now) c.args.fault.now c.args.depth (held_by c.args.facts.now) c.args.value (map (λ n. n.0) c.args.drivers.now) (c.loop-driver.driver-index + 1) c.in_ok-common.common.found c.in_ok-common.common.goods.items common c.if-common.true (empty_is c.in_ok-common.common.goods c.if-is_empty.ensures)
 
 pub in_common-returns-then-is_empty-clause-keeps : goal.in_common-returns-then-is_empty-clause-keeps
@@ -58,7 +58,7 @@ pub in_common-returns-then-is_empty-clause-region : goal.in_common-returns-then-
 in_common-returns-then-is_empty-clause-region t c some none zero unknown =
     let same : c.loop-driver.facts ≡ c.args.facts.now = c.loop-driver.invariant.same in
     let common : AreCommon (net_of c.args.graph.now) c.args.fault.now c.args.depth (held_by c.args.facts.now) c.args.value (map (λ n. n.0) c.args.drivers.now) (c.loop-driver.driver-index + 1) c.in_ok-common.common.found c.in_ok-common.common.goods.items =
-    subst (λ (f : List NodeFacts). (ds : List ℕ) (n : ℕ) → slice_get ds n ≡ Some (get_or c.args.drivers.now c.loop-driver.driver-index (record { 0 = 0 })).0 → AreCommon (net_of c.args.graph.now) c.args.fault.now c.args.depth (held_by f) c.args.value ds n c.loop-driver.common.found c.loop-driver.common.goods.items → AreCommon (net_of c.args.graph.now) c.args.fault.now c.args.depth (held_by f) c.args.value ds (n + 1) c.in_ok-common.common.found c.in_ok-common.common.goods.items) same c.in_ok-common.ensures.common (map (λ n. n.0) c.args.drivers.now) c.loop-driver.driver-index (driver_at c.args.drivers.now c.loop-driver.driver-index (record { 0 = 0 }) (omega arith)) c.loop-driver.invariant.common in
+    subst (λ (f : List NodeFacts). MeetsOneMore (net_of c.args.graph.now) c.args.fault.now c.args.depth (held_by f) c.args.value (get_or c.args.drivers.now c.loop-driver.driver-index (record { 0 = 0 })).0 c.loop-driver.common c.in_ok-common.common) same c.in_ok-common.ensures.common (map (λ n. n.0) c.args.drivers.now) c.loop-driver.driver-index (driver_at c.args.drivers.now c.loop-driver.driver-index (record { 0 = 0 }) (omega arith)) c.loop-driver.invariant.common in
     let covered : (k d : ℕ) → k < c.loop-driver.driver-index + 1 → slice_get (map (λ n. n.0) c.args.drivers.now) k ≡ Some d → IsCovered (net_of c.args.graph.now) c.args.fault.now (held_by c.args.facts.now) c.args.value d c.one_more.new.watch.rests.entries c.args.gate.0 =
     covered_more (net_of c.args.graph.now) c.args.fault.now (held_by c.args.facts.now) c.args.value (map (λ n. n.0) c.args.drivers.now) c.loop-driver.driver-index (get_or c.args.drivers.now c.loop-driver.driver-index (record { 0 = 0 })).0 c.loop-driver.watch.rests.entries c.one_more.new.watch.rests.entries c.args.gate.0 c.in_ok-common.ensures.leaves.longer (c.loop-driver.invariant.covered zero unknown) (driver_at c.args.drivers.now c.loop-driver.driver-index (record { 0 = 0 }) (omega arith))
     (subst (λ (f : List NodeFacts). IsCovered (net_of c.args.graph.now) c.args.fault.now (held_by f) c.args.value (get_or c.args.drivers.now c.loop-driver.driver-index (record { 0 = 0 })).0 c.one_more.new.watch.rests.entries c.args.gate.0) same (c.in_ok-common.ensures.covered zero (c.loop-driver.invariant.leaves.all ∙ unknown))) in
@@ -68,7 +68,7 @@ pub in_common-loop-driver-preserved : goal.in_common-loop-driver-preserved
 in_common-loop-driver-preserved t c =
     let same : c.loop-driver.facts ≡ c.args.facts.now = c.loop-driver.invariant.same in
     let common : AreCommon (net_of c.args.graph.now) c.args.fault.now c.args.depth (held_by c.args.facts.now) c.args.value (map (λ n. n.0) c.args.drivers.now) (c.loop-driver.driver-index + 1) c.in_ok-common.common.found c.in_ok-common.common.goods.items =
-    subst (λ (f : List NodeFacts). (ds : List ℕ) (n : ℕ) → slice_get ds n ≡ Some (get_or c.args.drivers.now c.loop-driver.driver-index (record { 0 = 0 })).0 → AreCommon (net_of c.args.graph.now) c.args.fault.now c.args.depth (held_by f) c.args.value ds n c.loop-driver.common.found c.loop-driver.common.goods.items → AreCommon (net_of c.args.graph.now) c.args.fault.now c.args.depth (held_by f) c.args.value ds (n + 1) c.in_ok-common.common.found c.in_ok-common.common.goods.items) same c.in_ok-common.ensures.common (map (λ n. n.0) c.args.drivers.now) c.loop-driver.driver-index (driver_at c.args.drivers.now c.loop-driver.driver-index (record { 0 = 0 }) (omega arith)) c.loop-driver.invariant.common in
+    subst (λ (f : List NodeFacts). MeetsOneMore (net_of c.args.graph.now) c.args.fault.now c.args.depth (held_by f) c.args.value (get_or c.args.drivers.now c.loop-driver.driver-index (record { 0 = 0 })).0 c.loop-driver.common c.in_ok-common.common) same c.in_ok-common.ensures.common (map (λ n. n.0) c.args.drivers.now) c.loop-driver.driver-index (driver_at c.args.drivers.now c.loop-driver.driver-index (record { 0 = 0 }) (omega arith)) c.loop-driver.invariant.common in
     record {
       keeps = keeps_join c.args.engine.now c.loop-driver.engine c.one_more.new.engine c.args.facts.now c.loop-driver.facts c.one_more.new.facts c.loop-driver.invariant.keeps c.in_ok-common.ensures.keeps;
       same = c.in_ok-common.ensures.same ∙ same;
