@@ -1,6 +1,7 @@
 -- Reading a journal piece by piece.
 use Rattle.std.specs.Prelude.{◌≡◌, ◌≢◌, ◌⊎◌, ℕ, ◌<◌, ◌^◌, List, ◌++◌, length, take, Option, Some, None, IfSome}
 use Rattle.rm_base.specs.Files.{Files, file_of}
+use Rattle.rm_base.specs.Shelves.{GivesPiece}
 use Rattle.rm_model.specs.Words.{Word}
 use Rattle.rm_model.specs.declared.parts.Model.{Model}
 use Rattle.gate_net.specs.Net.{Net}
@@ -35,6 +36,12 @@ pub record IsReadSoFar (files : Option Files) (m : Model) (journal : Word) (from
 abbrev pub IsRead : Model → ℕ → Pending → Stage → Type 0
 IsRead m from p stage = (text : List ℕ) × ((length text ≡ from) × (IsJudged m text p stage × GivesNone p))
 
+-- after what was read and judged, the shelf gives this piece of at most so many bytes
+pub record GivesNext (files : Option Files) (m : Model) (journal : Word) (from most : ℕ) (p : Pending) (stage : Stage) (piece : List ℕ) : Type 0 where
+  pub some : 0 < most
+  pub so_far : IsReadSoFar files m journal from p stage
+  pub gives : GivesPiece files journal from most (Some piece)
+
 -- the net is the last one of an accepted journal
 pub record IsLast (m : Model) (last : Net) : Type 0 where
   pub budget : ℕ
@@ -61,6 +68,10 @@ IsJournalProblem m files journal (Text f) = JournalIs files journal (λ text. Is
 IsJournalProblem m files journal (Refused r) = JournalIs files journal (λ text. IsTextProblem m text (Refused r))
 IsJournalProblem m files journal NoOutput = ⊥
 IsJournalProblem m files journal (Netlist byte) = ⊥
+
+-- and so it is where the shelf tells its files
+abbrev pub IsToldProblem : Option Files → Model → Word → AuditProblem → Type 0
+IsToldProblem files m journal problem = IfSome files (λ told. IsJournalProblem m told journal problem)
 
 -- the whole text is accepted
 abbrev pub EndsWith : Model → List ℕ → Turn → Type 0

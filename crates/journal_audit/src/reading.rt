@@ -14,7 +14,7 @@ ghost use Rattle.gate_graph.specs.Circuit.{net_of};
 ghost use Rattle.journal_text.specs.Streams.{GivesNone};
 ghost use Rattle.journal_audit.specs.Judging.{IsTextProblem};
 ghost use Rattle.journal_audit.specs.Stages.{IsJudged};
-ghost use Rattle.journal_audit.specs.Turns.{EndsAccepted, EndsWith, IsInside, IsJournalProblem, IsOfJournal, IsOutside, IsRead, IsReadSoFar, TurnSays};
+ghost use Rattle.journal_audit.specs.Turns.{EndsAccepted, EndsWith, GivesNext, IsInside, IsOfJournal, IsOutside, IsRead, IsToldProblem, TurnSays};
 
 use crate::judge::judged;
 use crate::problem::AuditProblem;
@@ -120,8 +120,8 @@ fn turned(
     requires read { IsRead model.now from reader.old stage }
     requires within { from < 4611686018427387904 → from + length piece.now ≤ 4611686018427387904 }
     requires most { from ≤ 4611686018427387904 }
-    ensures says { (files : Option FilesValue) (journal : Word) (most : ℕ) → 0 < most → IsReadSoFar files model.now journal from reader.old stage → GivesPiece files journal from most (Some piece.now) → IfOk result (TurnSays files model.now journal from reader.new) }
-    ensures problem { (files : Option FilesValue) (journal : Word) (most : ℕ) → 0 < most → IsReadSoFar files model.now journal from reader.old stage → GivesPiece files journal from most (Some piece.now) → IfErr result (λ problem. IfSome files (λ told. IsJournalProblem model.now told journal problem)) }
+    ensures says { (files : Option FilesValue) (journal : Word) (most : ℕ) → GivesNext files model.now journal from most reader.old stage piece.now → IfOk result (TurnSays files model.now journal from reader.new) }
+    ensures problem { (files : Option FilesValue) (journal : Word) (most : ℕ) → GivesNext files model.now journal from most reader.old stage piece.now → IfErr result (IsToldProblem files model.now journal) }
     ensures inside { IfErr result IsInside }
 {
     cuts_agree();
@@ -153,7 +153,7 @@ pub(crate) fn journal_net<S: Shelf>(
     requires observed { length (observed_names model.now) ≤ 4096 }
     requires few { decomposed model.now ≤ 65536 }
     ensures accepted { IfOk result (λ p. EndsAccepted (S.files shelf.old) model.now journal.now (net_of p.0) p.1) }
-    ensures problem { IfErr result (λ problem. IfSome (S.files shelf.old) (λ told. IsJournalProblem model.now told journal.now problem)) }
+    ensures problem { IfErr result (IsToldProblem (S.files shelf.old) model.now journal.now) }
     ensures told { result ≡ Err AuditProblem.NoJournal → IsSome (S.files shelf.old) }
     ensures fault { result ≡ Err AuditProblem.Fault → Rose (S.faults shelf.old) (S.faults shelf.new) }
     ensures plain { IfErr result IsOfJournal }

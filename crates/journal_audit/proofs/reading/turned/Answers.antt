@@ -8,14 +8,20 @@ use Rattle.journal_audit.proofs.reading.turned.Goals as goal
 use Rattle.journal_check.proofs.Public.{handed_on}
 
 pub returns-then-is_empty-clause-says : goal.returns-then-is_empty-clause-says
-returns-then-is_empty-clause-says c = λ files journal most some s gives.
+returns-then-is_empty-clause-says c = λ files journal most next.
+    let some = next.some in
+    let s = next.so_far in
+    let gives = next.gives in
     let none : length c.args.piece.now ≡ 0 = search rules in
     ok_weaker c.last.result (EndsWith c.args.model.now s.text) (TurnSays files c.args.model.now journal c.args.from c.args.reader.now)
     (λ t e. turn_ends files c.args.model.now journal c.args.from most c.args.reader.now c.args.reader.now c.args.stage c.args.piece.now t some (no_bytes c.args.piece.now none) s gives e)
     (c.last.ensures.ends c.args.model.now s.text s.judged)
 
 pub returns-then-is_empty-clause-problem : goal.returns-then-is_empty-clause-problem
-returns-then-is_empty-clause-problem c = λ files journal most some s gives.
+returns-then-is_empty-clause-problem c = λ files journal most next.
+    let some = next.some in
+    let s = next.so_far in
+    let gives = next.gives in
     let none : length c.args.piece.now ≡ 0 = search rules in
     err_weaker c.last.result (λ (p : AuditProblem). IsTextProblem c.args.model.now s.text p) (λ (p : AuditProblem). IfSome files (λ told. IsJournalProblem c.args.model.now told journal p))
     (λ p h. end_problem files c.args.model.now journal c.args.from most c.args.reader.now c.args.stage c.args.piece.now p some (no_bytes c.args.piece.now none) s gives h)
@@ -27,7 +33,10 @@ returns-then-is_empty-clause-inside c =
     err_weaker c.last.result (λ (p : AuditProblem). IsTextProblem c.args.model.now read.0 p) IsInside (λ p h. inside c.args.model.now read.0 p h) (c.last.ensures.problem c.args.model.now read.0 read.1.1.0)
 
 pub returns-then-from-eq-MOST_BYTES-clause-problem : goal.returns-then-from-eq-MOST_BYTES-clause-problem
-returns-then-from-eq-MOST_BYTES-clause-problem c = λ files journal most some s gives.
+returns-then-from-eq-MOST_BYTES-clause-problem c = λ files journal most next.
+    let some = next.some in
+    let s = next.so_far in
+    let gives = next.gives in
     let more = some_bytes c.args.piece.now c.is_empty.result c.is_empty.ensures c.if-is_empty.false in
     let limit : c.args.from ≡ 2 ^ 62 = search rules in
     subst (λ (r : Result Turn AuditProblem). IfErr r (λ p. IfSome files (λ told. IsJournalProblem c.args.model.now told journal p))) (sym c.too_long.ensures)
@@ -40,7 +49,10 @@ judged-requires-clause-judged c =
     (read.0 ++ c.args.piece.now, push_judged c.cuts_agree.ensures c.args.model.now read.0 c.args.piece.now c.args.reader.now c.push.new.self c.args.stage (omega (arith, within, read.1.0)) c.in_default.ensures.ok read.1.1.0)
 
 pub returns-in_err-stage-clause-problem : goal.returns-in_err-stage-clause-problem
-returns-in_err-stage-clause-problem c = λ files journal most some s gives.
+returns-in_err-stage-clause-problem c = λ files journal most next.
+    let some = next.some in
+    let s = next.so_far in
+    let gives = next.gives in
     let within : c.args.from + length c.args.piece.now ≤ 2 ^ 62 = search rules in
     handed_on c.from_residual.result c.in_err-stage.field-0.0 (λ (p : AuditProblem). IfSome files (λ told. IsJournalProblem c.args.model.now told journal p)) c.from_residual.ensures.1
     (turn_problem files c.args.model.now journal c.args.from most c.args.reader.now c.args.stage c.args.piece.now c.in_err-stage.field-0.0 some s gives
@@ -55,7 +67,10 @@ returns-in_err-stage-clause-inside c =
     (c.in_err-stage.ensures.problem (read.0 ++ c.args.piece.now) [] (push_judged c.cuts_agree.ensures c.args.model.now read.0 c.args.piece.now c.args.reader.now c.push.new.self c.args.stage (omega (arith, within, read.1.0)) c.in_default.ensures.ok read.1.1.0)))
 
 pub returns-clause-says : goal.returns-clause-says
-returns-clause-says c = λ files journal most some s gives.
+returns-clause-says c = λ files journal most next.
+    let some = next.some in
+    let s = next.so_far in
+    let gives = next.gives in
     let within : c.args.from + length c.args.piece.now ≤ 2 ^ 62 = search rules in
     let more = some_bytes c.args.piece.now c.is_empty.result c.is_empty.ensures c.if-is_empty.false in
     goes_on files c.args.model.now journal c.args.from most c.args.reader.now c.judged.new.reader c.args.stage c.in_ok-stage.stage c.args.piece.now some more s gives
