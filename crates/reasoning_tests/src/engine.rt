@@ -1,5 +1,5 @@
 //! The engine on nets whose answers were worked out by hand, and against all assignments on small drawn nets.
 mod answers;
 mod drawn;
-mod nets;
+mod extending;
 mod parts;

@@ -2,7 +2,11 @@
 #![tactic(auto)]
 
 #[cfg(test)]
+mod assignments;
+#[cfg(test)]
 mod engine;
+#[cfg(test)]
+mod facts;
 #[cfg(test)]
 mod learning;
 #[cfg(test)]

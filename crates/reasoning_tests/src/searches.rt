@@ -1,10 +1,13 @@
 //! Searches on three nets, each with its verdict; the verdicts are those of an independent slow program.
+ghost use Rattle.gate_graph.specs.Circuit.{net_of};
+ghost use Rattle.podem.specs.Searchers.{Serves};
+
 mod beside;
 mod drawn;
 mod used;
 
-use podem::{Searcher, Verdict};
 use gate_graph::Graph;
+use podem::{Searcher, Verdict};
 use refutation::Item;
 use rm_base::NodeId;
 use std::alloc::Global;
@@ -118,53 +121,43 @@ const ON_FOUR_GATES: [Case; 20] = [
     hit!(8 0 true 2 [false false false true]),
 ];
 
-fn same_items(one: &[Item], other: &[Item]) -> bool {
-    if one.len() != other.len() {
-        return false;
-    }
-    for i in 0..one.len() {
-        if one[i] != other[i] {
-            return false;
-        }
-    }
-    true
-}
-
-fn same_bits(one: &[bool], other: &[bool]) -> bool {
-    if one.len() != other.len() {
-        return false;
-    }
-    for i in 0..one.len() {
-        if one[i] != other[i] {
-            return false;
-        }
-    }
-    true
-}
-
 fn agrees(verdict: &Verdict, answer: Answer) -> bool {
     match (verdict, answer) {
-        (Verdict::Detected(vector), Answer::Detected(bits)) => same_bits(vector.values(), bits),
-        (Verdict::Refuted(tree), Answer::Refuted(items)) => same_items(tree.items(), items),
-        (Verdict::Spent(tree), Answer::Spent(items)) => same_items(tree.items(), items),
+        (Verdict::Detected(vector), Answer::Detected(bits)) => vector.values() == bits,
+        (Verdict::Refuted(tree), Answer::Refuted(items)) => tree.items() == items,
+        (Verdict::Spent(tree), Answer::Spent(items)) => tree.items() == items,
         _ => false,
     }
 }
 
+// Whether a search gives the verdict.
+fn gives(searcher: &mut Searcher, graph: &Graph, case: &Case) -> Result<bool, Fail>
+    requires { Serves searcher.old (net_of graph.now) }
+    ensures { Serves searcher.new (net_of graph.now) }
+{
+    let fault = fault_at(graph, case.fault.0, case.fault.1, case.fault.2)?;
+    if case.budget == 0 {
+        return Err("no budget".into());
+    }
+    let verdict = searcher.search(graph, &fault, case.budget)?;
+    Ok(agrees(&verdict, case.answer))
+}
+
 // Whether one searcher gives each verdict in turn.
-fn holds(alloc: Global, graph: &Graph, cases: &[Case]) -> Result<bool, Fail> {
-    let mut searcher = Searcher::new(alloc, graph)?;
+fn gives_all(searcher: &mut Searcher, graph: &Graph, cases: &[Case]) -> Result<bool, Fail>
+    requires { Serves searcher.old (net_of graph.now) }
+{
     for case in cases {
-        let fault = fault_at(graph, case.fault.0, case.fault.1, case.fault.2)?;
-        if case.budget == 0 {
-            return Err("no budget".into());
-        }
-        let verdict = searcher.search(graph, &fault, case.budget)?;
-        if !agrees(&verdict, case.answer) {
+        if !gives(searcher, graph, case)? {
             return Ok(false);
         }
     }
     Ok(true)
+}
+
+fn holds(alloc: Global, graph: &Graph, cases: &[Case]) -> Result<bool, Fail> {
+    let mut searcher = Searcher::new(alloc, graph)?;
+    gives_all(&mut searcher, graph, cases)
 }
 
 #[test]

@@ -1,7 +1,7 @@
 //! Trees on two nets, each with what the checker answers.
-use refutation_check::{CheckRefusal, check_tree, shortened};
 use gate_graph::Graph;
 use refutation::{Form, Item, Line, Shape, Tree, TreeBuilder};
+use refutation_check::{CheckRefusal, check_tree, shortened};
 use rm_base::{NoMemory, NodeId};
 use std::alloc::Global;
 use std::test::Fail;
@@ -175,23 +175,27 @@ fn holds(alloc: Global, graph: &Graph, case: &Case) -> Result<bool, Fail> {
     Ok(check_tree(alloc, graph, &fault, &tree, case.form) == case.answer)
 }
 
+// The first case that the checker doesn't answer as it should.
+fn first_wrong(alloc: Global, graph: &Graph, cases: &[Case]) -> Result<Option<usize>, Fail> {
+    for at in 0..cases.len() {
+        if !holds(alloc, graph, &cases[at])? {
+            return Ok(Some(at));
+        }
+    }
+    Ok(None)
+}
+
 #[test]
 fn trees_on_one_gate(rt: HostRuntime) -> Result<(), Fail> {
     let graph = wired(rt.alloc(), &ONE_GATE)?;
-    for at in 0..ON_ONE_GATE.len() {
-        let right = holds(rt.alloc(), &graph, &ON_ONE_GATE[at])?;
-        assert!(rt; right, "at case {at}");
-    }
+    assert_eq!(rt; first_wrong(rt.alloc(), &graph, &ON_ONE_GATE)?, None);
     Ok(())
 }
 
 #[test]
 fn trees_on_four_gates(rt: HostRuntime) -> Result<(), Fail> {
     let graph = wired(rt.alloc(), &FOUR_GATES_AND_PIN)?;
-    for at in 0..ON_FOUR_GATES.len() {
-        let right = holds(rt.alloc(), &graph, &ON_FOUR_GATES[at])?;
-        assert!(rt; right, "at case {at}");
-    }
+    assert_eq!(rt; first_wrong(rt.alloc(), &graph, &ON_FOUR_GATES)?, None);
     Ok(())
 }
 
@@ -236,13 +240,20 @@ fn is_left(alloc: Global, graph: &Graph, case: &Shorter) -> Result<bool, Fail> {
     Ok(short.items() == case.left)
 }
 
+// The first tree of which something else is left.
+fn first_longer(alloc: Global, graph: &Graph, cases: &[Shorter]) -> Result<Option<usize>, Fail> {
+    for at in 0..cases.len() {
+        if !is_left(alloc, graph, &cases[at])? {
+            return Ok(Some(at));
+        }
+    }
+    Ok(None)
+}
+
 #[test]
 fn trees_are_shortened(rt: HostRuntime) -> Result<(), Fail> {
     let graph = wired(rt.alloc(), &FOUR_GATES_AND_PIN)?;
-    for at in 0..SHORTER.len() {
-        let right = is_left(rt.alloc(), &graph, &SHORTER[at])?;
-        assert!(rt; right, "at case {at}");
-    }
+    assert_eq!(rt; first_longer(rt.alloc(), &graph, &SHORTER)?, None);
     Ok(())
 }
 

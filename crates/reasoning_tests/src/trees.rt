@@ -1,9 +1,9 @@
 //! Each line once where it gives a fact and once where it doesn't, on a net of six gates.
 ghost use Rattle.std.specs.Prelude.{◌≡◌, length};
 
+use gate_graph::{Graph, Marks};
 use refutation::site::Site;
 use refutation::{Fact, FactSet, Item, Line, TreeBuilder, conclude, conclude_marked};
-use gate_graph::{Graph, Marks};
 use rm_base::NodeId;
 use std::alloc::Global;
 use std::test::Fail;

@@ -3,42 +3,28 @@ ghost use Rattle.std.specs.Prelude.{◌≡◌, ◌≤◌, length};
 ghost use Rattle.gate_graph.specs.Circuit.{net_of};
 ghost use Rattle.gate_net.specs.Values.{HasPin};
 
-use super::nets::{Gate, wired};
-use implications::{Closed, Engine};
+use crate::facts::hold_same;
 use gate_graph::{Graph, Marks};
+use implications::{Closed, Engine};
 use refutation::{Fact, FactSet, Line, conclude};
-use rm_base::{Fault, NoMemory, NodeId};
+use rm_base::{Fault, NodeId};
 use std::alloc::Global;
 use std::test::Fail;
+use test_nets::{Gate, Wiring, fault_at, wired};
 
 // a 1 + b, of the sources a and b, where the 1 is a gate without pins; and apart from that (c + d)' c, of c and d.
-const PARTS: [Gate; 6] = [
-    Gate::Empty,
-    Gate::And(2, 6),
-    Gate::Or(7, 3),
-    Gate::Or(4, 5),
-    Gate::Not(9),
-    Gate::And(10, 4),
-];
-
-// The nodes of the part with c and d.
-const APART: [u32; 5] = [4, 5, 9, 10, 11];
-
-// The gate's pin that reads a is stuck at 1.
-const STUCK: Fault = Fault {
-    gate: NodeId(7),
-    position: 0,
-    value: true,
+const PARTS: Wiring<'static> = Wiring {
+    sources: 4,
+    gates: &[
+        Gate::And(&[]),
+        Gate::And(&[2, 6]),
+        Gate::Or(&[7, 3]),
+        Gate::Or(&[4, 5]),
+        Gate::Not(9),
+        Gate::And(&[10, 4]),
+    ],
+    observed: &[8],
 };
-
-const FACTS: [Fact; 6] = [
-    Fact::Good(false),
-    Fact::Good(true),
-    Fact::Faulty(false),
-    Fact::Faulty(true),
-    Fact::Equal,
-    Fact::Differs,
-];
 
 // Each line that names the node, or the pin at the position, and those that name none.
 fn lines_at(node: NodeId, position: u32) -> [Line; 17] {
@@ -106,7 +92,7 @@ fn add_everywhere(graph: &Graph, fault: &Fault, facts: &mut FactSet, marks: &mut
 }
 
 // All facts to which lines lead, by trying each line over and over.
-fn derivable(alloc: Global, graph: &Graph, fault: &Fault) -> Result<FactSet, NoMemory>
+fn derivable(alloc: Global, graph: &Graph, fault: &Fault) -> Result<FactSet, Fail>
     requires pin { HasPin (net_of graph.now) fault.now }
 {
     let mut facts = FactSet::new(alloc, graph)?;
@@ -119,28 +105,13 @@ fn derivable(alloc: Global, graph: &Graph, fault: &Fault) -> Result<FactSet, NoM
     Ok(facts)
 }
 
-// Whether two sets hold the same of each node.
-fn are_same(one: &FactSet, other: &FactSet, bound: u32) -> bool {
-    for number in 0..bound {
-        if (number as usize) >= one.len() || (number as usize) >= other.len() {
-            return false;
-        }
-        for fact in FACTS {
-            if one.holds(NodeId(number), fact) != other.holds(NodeId(number), fact) {
-                return false;
-            }
-        }
-    }
-    true
-}
-
 // Whether closing gives exactly the derivable facts; None where there is no such pin, or they clash.
 fn is_exact(
     alloc: Global,
     engine: &mut Engine,
     graph: &Graph,
     fault: &Fault,
-) -> Result<Option<bool>, NoMemory>
+) -> Result<Option<bool>, Fail>
     requires { length (net_of graph.now).nodes ≤ engine.old.numbers }
     ensures { engine.new.numbers ≡ engine.old.numbers }
 {
@@ -151,13 +122,12 @@ fn is_exact(
         return Ok(None);
     };
     let all = derivable(alloc, graph, fault)?;
-    Ok(Some(are_same(&facts, &all, graph.node_bound())))
+    Ok(Some(hold_same(&facts, &all, graph.node_bound())))
 }
 
 // How many faults give exactly the derivable facts, and how many others.
-fn count_exact(alloc: Global, engine: &mut Engine, graph: &Graph) -> Result<(u32, u32), NoMemory>
-    requires { length (net_of graph.now).nodes ≤ engine.old.numbers }
-{
+fn count_exact(alloc: Global, graph: &Graph) -> Result<(u32, u32), Fail> {
+    let mut engine = Engine::new(alloc, graph)?;
     let mut exact = 0u32;
     let mut other = 0u32;
     for number in 0..20u32 {
@@ -166,7 +136,7 @@ fn count_exact(alloc: Global, engine: &mut Engine, graph: &Graph) -> Result<(u32
             position: number % 2,
             value: number % 4 < 2,
         };
-        match is_exact(alloc, engine, graph, &fault)? {
+        match is_exact(alloc, &mut engine, graph, &fault)? {
             Some(true) => exact = exact.wrapping_add(1),
             Some(false) => other = other.wrapping_add(1),
             None => {}
@@ -175,20 +145,12 @@ fn count_exact(alloc: Global, engine: &mut Engine, graph: &Graph) -> Result<(u32
     Ok((exact, other))
 }
 
-// The same of the net.
-fn count_parts(alloc: Global) -> Result<(u32, u32), NoMemory> {
-    let Some(graph) = wired(alloc, 4, &PARTS, 8)? else {
-        return Ok((0, 0));
-    };
-    let mut engine = Engine::new(alloc, &graph)?;
-    count_exact(alloc, &mut engine, &graph)
-}
-
 // Of the eight faults of the observed part seven don't clash: only the 1 stuck at 1 does. (c + d)' c is always 0, and of
 // the ten faults there four don't: (c + d)' and c stuck at 1 in the product, and c in the sum and the sum stuck at 0.
 #[test]
 fn closes_to_the_derivable_facts(rt: HostRuntime) -> Result<(), Fail> {
-    assert_eq!(rt; count_parts(rt.alloc())?, (11, 0));
+    let graph = wired(rt.alloc(), &PARTS)?;
+    assert_eq!(rt; count_exact(rt.alloc(), &graph)?, (11, 0));
     Ok(())
 }
 
@@ -213,36 +175,25 @@ fn named(line: &Line) -> Option<NodeId> {
     }
 }
 
-// How many of the lines name a node of the part.
+// How many of the lines name a node of the part with c and d.
 fn count_apart(lines: &[Line]) -> u32 {
     let mut count = 0u32;
     for line in lines {
-        for node in APART {
-            if named(line) == Some(NodeId(node)) {
-                count = count.wrapping_add(1);
-            }
+        if let Some(NodeId(4 | 5 | 9 | 10 | 11)) = named(line) {
+            count = count.wrapping_add(1);
         }
     }
     count
 }
 
-// How many lines closing the fault takes, and how many of them name a node of the part.
-fn count_lines(alloc: Global) -> Result<(usize, u32), NoMemory> {
-    let Some(graph) = wired(alloc, 4, &PARTS, 8)? else {
-        return Ok((0, 0));
-    };
-    let mut engine = Engine::new(alloc, &graph)?;
-    let Some(_) = graph.driver(STUCK.gate, STUCK.position) else {
-        return Ok((0, 0));
-    };
-    let _closed = engine.close(&graph, &STUCK)?;
-    Ok((engine.lines().len(), count_apart(engine.lines())))
-}
-
+// The pin of the first product that reads a is stuck at 1.
 #[test]
 fn leaves_the_other_part_alone(rt: HostRuntime) -> Result<(), Fail> {
-    let (lines, apart) = count_lines(rt.alloc())?;
-    assert!(rt; lines > 0);
-    assert_eq!(rt; apart, 0);
+    let graph = wired(rt.alloc(), &PARTS)?;
+    let fault = fault_at(&graph, 7, 0, true)?;
+    let mut engine = Engine::new(rt.alloc(), &graph)?;
+    let _closed = engine.close(&graph, &fault)?;
+    assert!(rt; engine.lines().len() > 0);
+    assert_eq!(rt; count_apart(engine.lines()), 0);
     Ok(())
 }

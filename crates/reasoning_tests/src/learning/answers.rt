@@ -1,325 +1,311 @@
 // Nets whose answers were worked out by hand.
 ghost use Rattle.std.specs.Prelude.{◌≤◌};
-ghost use Rattle.gate_net.specs.Values.{HasPin};
 ghost use Rattle.gate_graph.specs.Circuit.{net_of};
+ghost use Rattle.gate_net.specs.Values.{HasPin};
 
-use super::nets::{Gate, wired};
-use recursive_learning::refute;
 use gate_graph::Graph;
 use implications::{Closed, Engine};
+use recursive_learning::refute;
 use refutation::{Form, Tree};
-use refutation_check::{CheckRefusal, check_tree};
-use rm_base::{Fault, NoMemory, NodeId};
+use refutation_check::check_tree;
+use rm_base::{Fault, NodeId};
 use std::alloc::Global;
 use std::test::Fail;
+use test_nets::worked::{ABSORBED, FOUR_GATES};
+use test_nets::{Gate, NetBuilder, Wiring, build, fault_at, wired};
 
-// x + x y, of the sources x and y. That the first pin of x y is stuck at 0 is refuted by lines alone.
-const ABSORBED: [Gate; 2] = [Gate::And(2, 3), Gate::Or(2, 4)];
-
-// (a b + a c) d, of the sources a, b, c and d. The assignment 0101 detects that the first pin of a b is stuck at 1.
-const SHARED: [Gate; 4] = [
-    Gate::And(2, 3),
-    Gate::And(2, 4),
-    Gate::Or(6, 7),
-    Gate::And(8, 5),
-];
-
-// (a b + a c) d a, of the same. That the last pin is stuck at 1 is refuted by lines alone.
-const WIRE_ADDED: [Gate; 5] = [
-    Gate::And(2, 3),
-    Gate::And(2, 4),
-    Gate::Or(6, 7),
-    Gate::And(8, 5),
-    Gate::And(9, 2),
-];
+// (a b + a c) d a, of the sources a, b, c and d. That the last pin is stuck at 1 is refuted by lines alone.
+const WIRE_ADDED: Wiring<'static> = Wiring {
+    sources: 4,
+    gates: &[
+        Gate::And(&[2, 3]),
+        Gate::And(&[2, 4]),
+        Gate::Or(&[6, 7]),
+        Gate::And(&[8, 5]),
+        Gate::And(&[9, 2]),
+    ],
+    observed: &[10],
+};
 
 // (a b + a c) (a' d + a' e) f, of the sources a to f. If f stuck at 1 is detected, both sums are 1. Neither sum says by
 // itself which of its products is 1, so no line leads on. But each product of the first needs a, and then both products
 // of the second are 0: all justifications of the first sum clash.
-const ONE_DEEP: [Gate; 9] = [
-    Gate::Not(2),
-    Gate::And(2, 3),
-    Gate::And(2, 4),
-    Gate::And(8, 5),
-    Gate::And(8, 6),
-    Gate::Or(9, 10),
-    Gate::Or(11, 12),
-    Gate::And(13, 14),
-    Gate::And(15, 7),
-];
+const ONE_DEEP: Wiring<'static> = Wiring {
+    sources: 6,
+    gates: &[
+        Gate::Not(2),
+        Gate::And(&[2, 3]),
+        Gate::And(&[2, 4]),
+        Gate::And(&[8, 5]),
+        Gate::And(&[8, 6]),
+        Gate::Or(&[9, 10]),
+        Gate::Or(&[11, 12]),
+        Gate::And(&[13, 14]),
+        Gate::And(&[15, 7]),
+    ],
+    observed: &[16],
+};
 
 // (P + Q) f, where P is (a b + a c) (a' d + a' e), and Q is the same of five other sources. If f stuck at 1 is
 // detected, P or Q is 1. Either alone clashes only where its own sums are looked into, as above, and the two share no
 // node, so with justifications that lines close nothing is learned; with justifications that are closed at depth 1,
 // both clash.
-const TWO_DEEP: [Gate; 18] = [
-    Gate::Not(2),
-    Gate::And(2, 3),
-    Gate::And(2, 4),
-    Gate::And(13, 5),
-    Gate::And(13, 6),
-    Gate::Or(14, 15),
-    Gate::Or(16, 17),
-    Gate::And(18, 19),
-    Gate::Not(7),
-    Gate::And(7, 8),
-    Gate::And(7, 9),
-    Gate::And(21, 10),
-    Gate::And(21, 11),
-    Gate::Or(22, 23),
-    Gate::Or(24, 25),
-    Gate::And(26, 27),
-    Gate::Or(20, 28),
-    Gate::And(29, 12),
-];
+const TWO_DEEP: Wiring<'static> = Wiring {
+    sources: 11,
+    gates: &[
+        Gate::Not(2),
+        Gate::And(&[2, 3]),
+        Gate::And(&[2, 4]),
+        Gate::And(&[13, 5]),
+        Gate::And(&[13, 6]),
+        Gate::Or(&[14, 15]),
+        Gate::Or(&[16, 17]),
+        Gate::And(&[18, 19]),
+        Gate::Not(7),
+        Gate::And(&[7, 8]),
+        Gate::And(&[7, 9]),
+        Gate::And(&[21, 10]),
+        Gate::And(&[21, 11]),
+        Gate::Or(&[22, 23]),
+        Gate::Or(&[24, 25]),
+        Gate::And(&[26, 27]),
+        Gate::Or(&[20, 28]),
+        Gate::And(&[29, 12]),
+    ],
+    observed: &[30],
+};
 
 // S f where S is (a b + a c) (a' + y) (a' + z), and y is p q + p r, and z is p' s + p' u. If f stuck at 1 is detected,
 // all three are 1. Each justification of the first gives a, and from that y and z, without a clash: a is learned. Only
 // then do all justifications of y clash.
-const LEARNS: [Gate; 16] = [
-    Gate::And(2, 3),
-    Gate::And(2, 4),
-    Gate::Or(11, 12),
-    Gate::Not(5),
-    Gate::And(5, 6),
-    Gate::And(5, 7),
-    Gate::Or(15, 16),
-    Gate::And(14, 8),
-    Gate::And(14, 9),
-    Gate::Or(18, 19),
-    Gate::Not(2),
-    Gate::Or(21, 17),
-    Gate::Or(21, 20),
-    Gate::And(13, 22),
-    Gate::And(24, 23),
-    Gate::And(25, 10),
-];
+const LEARNS: Wiring<'static> = Wiring {
+    sources: 9,
+    gates: &[
+        Gate::And(&[2, 3]),
+        Gate::And(&[2, 4]),
+        Gate::Or(&[11, 12]),
+        Gate::Not(5),
+        Gate::And(&[5, 6]),
+        Gate::And(&[5, 7]),
+        Gate::Or(&[15, 16]),
+        Gate::And(&[14, 8]),
+        Gate::And(&[14, 9]),
+        Gate::Or(&[18, 19]),
+        Gate::Not(2),
+        Gate::Or(&[21, 17]),
+        Gate::Or(&[21, 20]),
+        Gate::And(&[13, 22]),
+        Gate::And(&[24, 23]),
+        Gate::And(&[25, 10]),
+    ],
+    observed: &[26],
+};
 
 // (a + b) ((e a + e b)' + P) (e p + e q) f, where P is (h i + h j) (h' k + h' l). If f stuck at 1 is detected, all three
 // are 1. At first neither a + b nor the second one teaches anything: e isn't known, so neither a nor b leads to e a + e b.
 // The third one, which comes last, teaches e. Only then do both a and b lead to e a + e b, and so to P, which clashes at
 // depth 1: the two sums have to be looked at again for a fact that is on none of their drivers.
-const FAR: [Gate; 20] = [
-    Gate::Or(2, 3),
-    Gate::And(4, 2),
-    Gate::And(4, 3),
-    Gate::Or(14, 15),
-    Gate::Not(16),
-    Gate::Not(7),
-    Gate::And(7, 8),
-    Gate::And(7, 9),
-    Gate::And(18, 10),
-    Gate::And(18, 11),
-    Gate::Or(19, 20),
-    Gate::Or(21, 22),
-    Gate::And(23, 24),
-    Gate::Or(17, 25),
-    Gate::And(4, 5),
-    Gate::And(4, 6),
-    Gate::Or(27, 28),
-    Gate::And(13, 26),
-    Gate::And(30, 29),
-    Gate::And(31, 12),
-];
+const FAR: Wiring<'static> = Wiring {
+    sources: 11,
+    gates: &[
+        Gate::Or(&[2, 3]),
+        Gate::And(&[4, 2]),
+        Gate::And(&[4, 3]),
+        Gate::Or(&[14, 15]),
+        Gate::Not(16),
+        Gate::Not(7),
+        Gate::And(&[7, 8]),
+        Gate::And(&[7, 9]),
+        Gate::And(&[18, 10]),
+        Gate::And(&[18, 11]),
+        Gate::Or(&[19, 20]),
+        Gate::Or(&[21, 22]),
+        Gate::And(&[23, 24]),
+        Gate::Or(&[17, 25]),
+        Gate::And(&[4, 5]),
+        Gate::And(&[4, 6]),
+        Gate::Or(&[27, 28]),
+        Gate::And(&[13, 26]),
+        Gate::And(&[30, 29]),
+        Gate::And(&[31, 12]),
+    ],
+    observed: &[32],
+};
 
-/// Whether the checker accepts the tree.
-pub fn is_accepted(
-    alloc: Global,
-    graph: &Graph,
-    fault: &Fault,
-    tree: &Tree,
-) -> Result<bool, NoMemory>
+/// Fails where the checker doesn't accept the tree.
+pub fn accept(alloc: Global, graph: &Graph, fault: &Fault, tree: &Tree) -> Result<(), Fail>
     requires { HasPin (net_of graph.now) fault.now }
 {
     match check_tree(alloc, graph, fault, tree, Form::Closed) {
-        Ok(_) => Ok(true),
-        Err(CheckRefusal::NoMemory) => Err(NoMemory),
-        Err(_) => Ok(false),
+        Ok(_) => Ok(()),
+        Err(_) => Err("not accepted".into()),
     }
 }
 
-/// Whether the fault is refuted at the depth; None where the net has no such pin, or where the checker doesn't accept the
-/// refutation.
-pub fn is_refuted(
+/// How many items the refutation of the fault has at the depth; None where it isn't refuted.
+pub fn item_count(
     alloc: Global,
     graph: &Graph,
     fault: &Fault,
     depth: u8,
-) -> Result<Option<bool>, NoMemory>
-    requires { depth ≤ 2 }
+) -> Result<Option<usize>, Fail>
+    requires pin { HasPin (net_of graph.now) fault.now }
+    requires depth { depth ≤ 2 }
 {
-    let Some(_) = graph.driver(fault.gate, fault.position) else {
-        return Ok(None);
-    };
     let mut engine = Engine::new(alloc, graph)?;
     match refute(alloc, &mut engine, graph, fault, depth)? {
         Closed::Clash(tree) => {
-            let accepted = is_accepted(alloc, graph, fault, &tree)?;
-            Ok(accepted.then_some(true))
+            accept(alloc, graph, fault, &tree)?;
+            Ok(Some(tree.items().len()))
         }
-        Closed::Open(_) => Ok(Some(false)),
+        Closed::Open(_) => Ok(None),
     }
 }
 
 // A net, a fault of it, and the least depth at which it is refuted.
 #[derive(Clone, Copy)]
-struct Case<'a> {
-    sources: u32,
-    gates: &'a [Gate],
-    observed: u32,
-    fault: Fault,
+struct Case {
+    wiring: Wiring<'static>,
+    fault: (u32, u32, bool),
     from: u8,
 }
 
-const fn fault(gate: u32, position: u32, value: bool) -> Fault {
-    Fault {
-        gate: NodeId(gate),
-        position,
-        value,
-    }
-}
+const CASES: [Case; 6] = [
+    // That the first pin of a b is stuck at 0 is refuted by lines alone.
+    Case {
+        wiring: ABSORBED,
+        fault: (4, 0, false),
+        from: 0,
+    },
+    // The assignment 0101 detects that the first pin of a b is stuck at 1.
+    Case {
+        wiring: FOUR_GATES,
+        fault: (6, 0, true),
+        from: 3,
+    },
+    Case {
+        wiring: ONE_DEEP,
+        fault: (16, 1, true),
+        from: 1,
+    },
+    Case {
+        wiring: TWO_DEEP,
+        fault: (30, 1, true),
+        from: 2,
+    },
+    Case {
+        wiring: LEARNS,
+        fault: (26, 1, true),
+        from: 1,
+    },
+    Case {
+        wiring: FAR,
+        fault: (32, 1, true),
+        from: 1,
+    },
+];
 
-// Whether the case has its answer at the depth.
-fn is_right(alloc: Global, case: &Case<'_>, depth: u8) -> Result<bool, NoMemory>
-    requires { depth ≤ 2 }
-{
-    if case.sources > 1000 || case.gates.len() > 10000 {
-        return Ok(false);
+// Whether the fault is refuted from the depth on.
+fn is_right(alloc: Global, case: &Case) -> Result<bool, Fail> {
+    let graph = wired(alloc, &case.wiring)?;
+    let fault = fault_at(&graph, case.fault.0, case.fault.1, case.fault.2)?;
+    for depth in 0..3u8 {
+        let refuted = item_count(alloc, &graph, &fault, depth)?.is_some();
+        if refuted != (depth >= case.from) {
+            return Ok(false);
+        }
     }
-    let Some(graph) = wired(alloc, case.sources, case.gates, case.observed)? else {
-        return Ok(false);
-    };
-    let answer = is_refuted(alloc, &graph, &case.fault, depth)?;
-    Ok(answer == Some(depth >= case.from))
+    Ok(true)
 }
 
 #[test]
 fn each_needs_its_depth(rt: HostRuntime) -> Result<(), Fail> {
-    let cases = [
-        Case {
-            sources: 2,
-            gates: &ABSORBED,
-            observed: 5,
-            fault: fault(4, 0, false),
-            from: 0,
-        },
-        Case {
-            sources: 4,
-            gates: &SHARED,
-            observed: 9,
-            fault: fault(6, 0, true),
-            from: 3,
-        },
-        Case {
-            sources: 6,
-            gates: &ONE_DEEP,
-            observed: 16,
-            fault: fault(16, 1, true),
-            from: 1,
-        },
-        Case {
-            sources: 11,
-            gates: &TWO_DEEP,
-            observed: 30,
-            fault: fault(30, 1, true),
-            from: 2,
-        },
-        Case {
-            sources: 9,
-            gates: &LEARNS,
-            observed: 26,
-            fault: fault(26, 1, true),
-            from: 1,
-        },
-        Case {
-            sources: 11,
-            gates: &FAR,
-            observed: 32,
-            fault: fault(32, 1, true),
-            from: 1,
-        },
-    ];
-    for case in &cases {
-        for depth in 0..3u8 {
-            let right = is_right(rt.alloc(), case, depth)?;
-            assert!(rt; right, "gate {} at depth {depth}", case.fault.gate.0);
-        }
+    for at in 0..CASES.len() {
+        let right = is_right(rt.alloc(), &CASES[at])?;
+        assert!(rt; right, "at case {at}");
     }
     Ok(())
 }
 
-const fn row_of<'a>(
-    sources: u32,
-    gates: &'a [Gate],
-    observed: u32,
-    fault: Fault,
-    from: u8,
-) -> Case<'a> {
-    Case {
-        sources,
-        gates,
-        observed,
-        fault,
-        from,
-    }
+// A net, a fault that is refuted at the depth, and how many items are enough for that.
+#[derive(Clone, Copy)]
+struct Short {
+    wiring: Wiring<'static>,
+    fault: (u32, u32, bool),
+    depth: u8,
+    most: usize,
 }
 
-// How many items the refutation of the case has at the depth; None where there is none that the checker accepts.
-fn item_count(alloc: Global, case: &Case<'_>, depth: u8) -> Result<Option<usize>, NoMemory> {
-    if depth > 2 || case.sources > 1000 || case.gates.len() > 10000 {
-        return Ok(None);
-    }
-    let Some(graph) = wired(alloc, case.sources, case.gates, case.observed)? else {
-        return Ok(None);
-    };
-    let Some(_) = graph.driver(case.fault.gate, case.fault.position) else {
-        return Ok(None);
-    };
-    let mut engine = Engine::new(alloc, &graph)?;
-    let Closed::Clash(tree) = refute(alloc, &mut engine, &graph, &case.fault, depth)? else {
-        return Ok(None);
-    };
-    let accepted = is_accepted(alloc, &graph, &case.fault, &tree)?;
-    Ok(accepted.then_some(tree.items().len()))
-}
+const SHORT: [Short; 4] = [
+    // The wire of x reads 1; gate 5 differs, x is equal, so x is 0.
+    Short {
+        wiring: ABSORBED,
+        fault: (4, 0, false),
+        depth: 0,
+        most: 5,
+    },
+    // a is 0, and so are gates 6 to 9; gate 10 differs, gate 9 is equal, so it is 1.
+    Short {
+        wiring: WIRE_ADDED,
+        fault: (10, 1, true),
+        depth: 0,
+        most: 9,
+    },
+    // Both sums are 1 by five lines; then a split on a product of the first, and in each branch five lines and a clash.
+    Short {
+        wiring: ONE_DEEP,
+        fault: (16, 1, true),
+        depth: 1,
+        most: 19,
+    },
+    // P + Q is 1 by three lines; then a split on P, and in each branch two lines and such a split.
+    Short {
+        wiring: TWO_DEEP,
+        fault: (30, 1, true),
+        depth: 2,
+        most: 37,
+    },
+];
 
-// ABSORBED beside 98 gates that aren't reached from it.
-fn absorbed_beside() -> [Gate; 100] {
-    let mut gates = [Gate::Not(3); 100];
-    gates[0] = ABSORBED[0];
-    gates[1] = ABSORBED[1];
-    for at in 3..100 {
-        let before = at as u32 + 3;
-        gates[at] = if at % 2 == 0 {
-            Gate::And(before, 2)
-        } else {
-            Gate::Or(before, 3)
-        };
+fn is_short(alloc: Global, graph: &Graph, case: &Short) -> Result<bool, Fail> {
+    if case.depth > 2 {
+        return Err("too deep".into());
     }
-    gates
+    let fault = fault_at(graph, case.fault.0, case.fault.1, case.fault.2)?;
+    match item_count(alloc, graph, &fault, case.depth)? {
+        Some(items) => Ok(items <= case.most),
+        None => Ok(false),
+    }
 }
 
 #[test]
 fn trees_are_short(rt: HostRuntime) -> Result<(), Fail> {
-    let beside = absorbed_beside();
-    let cases = [
-        // The wire of x reads 1; gate 5 differs, x is equal, so x is 0.
-        (row_of(2, &ABSORBED, 5, fault(4, 0, false), 0), 5),
-        (row_of(2, &beside, 5, fault(4, 0, false), 0), 5),
-        // a is 0, and so are gates 6 to 9; gate 10 differs, gate 9 is equal, so it is 1.
-        (row_of(4, &WIRE_ADDED, 10, fault(10, 1, true), 0), 9),
-        // Both sums are 1 by five lines; then a split on a product of the first, and in each branch five lines and a clash.
-        (row_of(6, &ONE_DEEP, 16, fault(16, 1, true), 1), 19),
-        // P + Q is 1 by three lines; then a split on P, and in each branch two lines and such a split.
-        (row_of(11, &TWO_DEEP, 30, fault(30, 1, true), 2), 37),
-    ];
-    for (case, most) in &cases {
-        let count = item_count(rt.alloc(), case, case.from)?;
-        let small = match count {
-            Some(items) => items <= *most,
-            None => false,
-        };
-        assert!(rt; small, "gate {}", case.fault.gate.0);
+    for at in 0..SHORT.len() {
+        let graph = wired(rt.alloc(), &SHORT[at].wiring)?;
+        let short = is_short(rt.alloc(), &graph, &SHORT[at])?;
+        assert!(rt; short, "at case {at}");
     }
+    Ok(())
+}
+
+// Adds a gate that reads a source and the gate before it.
+fn add_link(net: &mut NetBuilder, before: u32) -> Result<NodeId, Fail> {
+    if before % 2 == 0 {
+        net.add(Gate::Or(&[before, 3]))
+    } else {
+        net.add(Gate::And(&[before, 2]))
+    }
+}
+
+// The first net beside 98 gates that aren't reached from it.
+#[test]
+fn a_tree_is_short_beside_more_gates(rt: HostRuntime) -> Result<(), Fail> {
+    let mut net = build(rt.alloc(), &ABSORBED)?;
+    net.add(Gate::Not(3))?;
+    for before in 6..103u32 {
+        add_link(&mut net, before)?;
+    }
+    let short = is_short(rt.alloc(), &net.finish(), &SHORT[0])?;
+    assert!(rt; short);
     Ok(())
 }

@@ -1,44 +1,49 @@
 // One refuter over many faults, depths and nets, against a fresh refutation of each.
 ghost use Rattle.std.specs.Prelude.{◌≤◌, OnOk};
-ghost use Rattle.gate_net.specs.Values.{HasPin};
 ghost use Rattle.gate_graph.specs.Circuit.{net_of};
+ghost use Rattle.gate_net.specs.Values.{HasPin};
 ghost use Rattle.recursive_learning.specs.Serving.{IsServing};
 
-use super::answers::is_accepted;
-use super::drawn::{GATES, drawn_net};
-use super::nets::wired;
-use recursive_learning::refute;
-use recursive_learning::refuter::Refuter;
+use super::answers::accept;
+use super::drawn::{GATES, drawn};
+use crate::facts::hold_same;
 use gate_graph::Graph;
 use implications::{Closed, Engine};
-use refutation::{Fact, FactSet};
+use recursive_learning::refute;
+use recursive_learning::refuter::Refuter;
+use refutation::{FactSet, Tree};
 use rm_base::{Fault, NoMemory, NodeId};
 use std::alloc::Global;
 use std::test::Fail;
 
-// Whether both hold the same facts on the nodes below the bound.
-fn hold_same(one: &FactSet, other: &FactSet, bound: u32) -> bool {
-    for number in 0..bound {
-        if number as usize >= one.len() || number as usize >= other.len() {
-            return false;
+// What a fresh refutation answers.
+fn refuted_anew(alloc: Global, graph: &Graph, fault: &Fault, depth: u8) -> Result<Closed, NoMemory>
+    requires pin { HasPin (net_of graph.now) fault.now }
+    requires depth { depth ≤ 2 }
+{
+    let mut engine = Engine::new(alloc, graph)?;
+    refute(alloc, &mut engine, graph, fault, depth)
+}
+
+// Whether a tree that is accepted, or these facts, are what a fresh refutation answers too.
+fn is_same(
+    alloc: Global,
+    graph: &Graph,
+    fault: &Fault,
+    fresh: &Closed,
+    answer: &Option<Tree>,
+    held: &FactSet,
+) -> Result<bool, Fail>
+    requires { HasPin (net_of graph.now) fault.now }
+{
+    match (fresh, answer) {
+        (Closed::Clash(_), Some(tree)) => {
+            accept(alloc, graph, fault, tree)?;
+            Ok(true)
         }
-        let node = NodeId(number);
-        for value in [false, true] {
-            if one.holds(node, Fact::Good(value)) != other.holds(node, Fact::Good(value)) {
-                return false;
-            }
-            if one.holds(node, Fact::Faulty(value)) != other.holds(node, Fact::Faulty(value)) {
-                return false;
-            }
-        }
-        if one.holds(node, Fact::Equal) != other.holds(node, Fact::Equal) {
-            return false;
-        }
-        if one.holds(node, Fact::Differs) != other.holds(node, Fact::Differs) {
-            return false;
-        }
+        (Closed::Open(facts), None) => Ok(hold_same(facts, held, graph.node_bound())),
+        _ => Ok(false),
     }
-    true
 }
 
 // Whether the refuter answers what a fresh refutation does.
@@ -48,24 +53,15 @@ fn agrees(
     graph: &Graph,
     fault: &Fault,
     depth: u8,
-) -> Result<bool, NoMemory>
+) -> Result<bool, Fail>
     requires pin { HasPin (net_of graph.now) fault.now }
     requires serves { IsServing (net_of graph.now) refuter.old }
     requires depth { depth ≤ 2 }
     ensures { OnOk result (IsServing (net_of graph.now) refuter.new) }
 {
-    let mut engine = Engine::new(alloc, graph)?;
-    let fresh = refute(alloc, &mut engine, graph, fault, depth)?;
+    let fresh = refuted_anew(alloc, graph, fault, depth)?;
     let answer = refuter.refute(graph, fault, depth)?;
-    match fresh {
-        Closed::Clash(_) => match answer {
-            Some(tree) => is_accepted(alloc, graph, fault, &tree),
-            None => Ok(false),
-        },
-        Closed::Open(facts) => {
-            Ok(answer.is_none() && hold_same(&facts, refuter.facts(), graph.node_bound()))
-        }
-    }
+    is_same(alloc, graph, fault, &fresh, &answer, refuter.facts())
 }
 
 // The same at each depth, and what closing answers is what refuting at depth 0 does.
@@ -74,7 +70,7 @@ fn agrees_at_all(
     refuter: &mut Refuter,
     graph: &Graph,
     fault: &Fault,
-) -> Result<bool, NoMemory>
+) -> Result<bool, Fail>
     requires serves { IsServing (net_of graph.now) refuter.old }
     ensures { OnOk result (IsServing (net_of graph.now) refuter.new) }
 {
@@ -89,11 +85,10 @@ fn agrees_at_all(
     Ok(deep && none && one && clash == refuted)
 }
 
-// Whether the refuter answers so of all faults of the net that it is fitted to.
-fn agrees_on_graph(alloc: Global, refuter: &mut Refuter, graph: &Graph) -> Result<bool, NoMemory>
-    requires serves { IsServing (net_of graph.now) refuter.old }
-{
-    for at in 0..GATES as u32 * 4 {
+// Whether the refuter answers so of all faults of a net, to which it is fitted first.
+fn agrees_on_graph(alloc: Global, refuter: &mut Refuter, graph: &Graph) -> Result<bool, Fail> {
+    refuter.fit(graph)?;
+    for at in 0..4 * GATES {
         let fault = Fault {
             gate: NodeId(at / 4 + 6),
             position: at / 2 % 2,
@@ -106,22 +101,28 @@ fn agrees_on_graph(alloc: Global, refuter: &mut Refuter, graph: &Graph) -> Resul
     Ok(true)
 }
 
-// The same of a drawn net, to which it is fitted first.
-fn agrees_on_net(alloc: Global, refuter: &mut Refuter, seed: u64) -> Result<bool, NoMemory> {
-    let gates = drawn_net(seed);
-    let Some(graph) = wired(alloc, 4, &gates, 5 + GATES as u32)? else {
-        return Ok(false);
-    };
-    refuter.fit(&graph)?;
+fn agrees_on_net(alloc: Global, refuter: &mut Refuter, seed: u64) -> Result<bool, Fail> {
+    let graph = drawn(alloc, seed)?;
     agrees_on_graph(alloc, refuter, &graph)
+}
+
+// The first seed on whose net it doesn't.
+fn first_wrong(alloc: Global, refuter: &mut Refuter) -> Result<Option<u64>, Fail> {
+    for seed in 1..41u64 {
+        if !agrees_on_net(alloc, refuter, seed)? {
+            return Ok(Some(seed));
+        }
+    }
+    Ok(None)
+}
+
+fn first_wrong_of_one(alloc: Global) -> Result<Option<u64>, Fail> {
+    let mut refuter = Refuter::new(alloc, 3)?;
+    first_wrong(alloc, &mut refuter)
 }
 
 #[test]
 fn one_for_many_nets(rt: HostRuntime) -> Result<(), Fail> {
-    let mut refuter = Refuter::new(rt.alloc(), 3)?;
-    for seed in 1..41u64 {
-        let same = agrees_on_net(rt.alloc(), &mut refuter, seed)?;
-        assert!(rt; same, "at seed {seed}");
-    }
+    assert_eq!(rt; first_wrong_of_one(rt.alloc())?, None);
     Ok(())
 }

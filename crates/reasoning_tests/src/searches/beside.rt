@@ -5,8 +5,8 @@ ghost use Rattle.podem.specs.Searchers.{Serves};
 
 use super::drawn::{ENOUGH, GATES, SOURCES};
 use super::used::same_verdict;
-use podem::{Searcher, search};
 use gate_graph::Graph;
+use podem::{Searcher, search};
 use rm_base::{Fault, NoMemory, NodeId};
 use std::alloc::Global;
 use std::test::Fail;
@@ -80,20 +80,31 @@ fn same_at(
 }
 
 // Whether all faults of the drawn gates have, each after one of the chain.
-fn same_on(alloc: Global, graph: &Graph, alone: &Graph) -> Result<bool, Fail> {
-    let mut searcher = Searcher::new(alloc, graph)?;
+fn all_same(
+    alloc: Global,
+    searcher: &mut Searcher,
+    graph: &Graph,
+    alone: &Graph,
+) -> Result<bool, Fail>
+    requires { Serves searcher.old (net_of graph.now) }
+{
     for number in 0..6 * GATES {
         let fault = Fault {
             gate: NodeId(2 + SOURCES + number / 6),
             position: number % 3,
             value: number % 6 < 3,
         };
-        search_chain(&mut searcher, graph, number)?;
-        if !same_at(alloc, &mut searcher, graph, alone, &fault)? {
+        search_chain(searcher, graph, number)?;
+        if !same_at(alloc, searcher, graph, alone, &fault)? {
             return Ok(false);
         }
     }
     Ok(true)
+}
+
+fn same_on(alloc: Global, graph: &Graph, alone: &Graph) -> Result<bool, Fail> {
+    let mut searcher = Searcher::new(alloc, graph)?;
+    all_same(alloc, &mut searcher, graph, alone)
 }
 
 #[test]

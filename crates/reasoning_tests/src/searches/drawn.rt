@@ -3,14 +3,13 @@
 ghost use Rattle.gate_graph.specs.Circuit.{net_of};
 ghost use Rattle.gate_net.specs.Values.{HasPin};
 ghost use Rattle.podem.specs.Searchers.{Serves};
-ghost use Rattle.ternary_sim.specs.Sims.{Fits};
 
-use podem::{Searcher, Verdict};
+use crate::assignments::{detects, some_detects};
 use gate_graph::Graph;
+use podem::{Searcher, Verdict};
 use refutation::{Form, Tree};
 use refutation_check::check_tree;
-use rm_base::vectors::Value3;
-use rm_base::{Fault, NoMemory, NodeId, SourceNo};
+use rm_base::{Fault, NoMemory, NodeId};
 use std::alloc::Global;
 use std::test::Fail;
 use ternary_sim::Sim;
@@ -26,37 +25,6 @@ pub const ENOUGH: u32 = 32;
 // A net of drawn gates, of which the last one and another node are observed.
 pub fn drawn(alloc: Global, seed: u64) -> Result<Graph, Fail> {
     drawn_net(alloc, SOURCES, GATES, &[1 + SOURCES + GATES], seed)
-}
-
-// Whether one assignment detects the fault.
-fn detects(sim: &mut Sim, graph: &Graph, fault: &Fault, assignment: u32) -> bool
-    requires pin { HasPin (net_of graph.now) fault.now }
-    requires fits { Fits sim.old (net_of graph.now) }
-    ensures { Fits sim.new (net_of graph.now) }
-{
-    for source in 0..graph.source_count() {
-        let value = if assignment.wrapping_shr(source) & 1 == 1 {
-            Value3::One
-        } else {
-            Value3::Zero
-        };
-        sim.set(SourceNo(source), value);
-    }
-    sim.run_fault(graph, fault);
-    sim.detected(graph)
-}
-
-// Whether some assignment detects the fault.
-fn some_detects(alloc: Global, graph: &Graph, fault: &Fault) -> Result<bool, NoMemory>
-    requires { HasPin (net_of graph.now) fault.now }
-{
-    let mut sim = Sim::new(alloc, graph)?;
-    for assignment in 0..16u32 {
-        if detects(&mut sim, graph, fault, assignment) {
-            return Ok(true);
-        }
-    }
-    Ok(false)
 }
 
 // The assignment of a vector, as a number.
@@ -142,19 +110,25 @@ fn all_right(
 }
 
 // Whether all faults of a net have right verdicts.
-fn net_is_right(alloc: Global, graph: &Graph) -> Result<bool, NoMemory> {
-    let mut searcher = Searcher::new(alloc, graph)?;
+fn faults_are_right(alloc: Global, searcher: &mut Searcher, graph: &Graph) -> Result<bool, NoMemory>
+    requires { Serves searcher.old (net_of graph.now) }
+{
     for number in 0..6 * GATES {
         let fault = Fault {
             gate: NodeId(2 + SOURCES + number / 6),
             position: number % 3,
             value: number % 6 < 3,
         };
-        if !all_right(alloc, &mut searcher, graph, &fault)? {
+        if !all_right(alloc, searcher, graph, &fault)? {
             return Ok(false);
         }
     }
     Ok(true)
+}
+
+fn net_is_right(alloc: Global, graph: &Graph) -> Result<bool, NoMemory> {
+    let mut searcher = Searcher::new(alloc, graph)?;
+    faults_are_right(alloc, &mut searcher, graph)
 }
 
 #[test]

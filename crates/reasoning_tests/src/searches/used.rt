@@ -3,20 +3,17 @@ ghost use Rattle.gate_graph.specs.Circuit.{net_of};
 ghost use Rattle.podem.specs.Searchers.{Serves};
 
 use super::drawn::{ENOUGH, GATES, SOURCES, drawn};
-use super::{same_bits, same_items};
-use podem::{Searcher, Verdict, search};
 use gate_graph::Graph;
+use podem::{Searcher, Verdict, search};
 use rm_base::{Fault, NoMemory, NodeId};
 use std::alloc::Global;
 use std::test::Fail;
 
 pub fn same_verdict(one: &Verdict, other: &Verdict) -> bool {
     match (one, other) {
-        (Verdict::Detected(one), Verdict::Detected(other)) => {
-            same_bits(one.values(), other.values())
-        }
-        (Verdict::Refuted(one), Verdict::Refuted(other)) => same_items(one.items(), other.items()),
-        (Verdict::Spent(one), Verdict::Spent(other)) => same_items(one.items(), other.items()),
+        (Verdict::Detected(one), Verdict::Detected(other)) => { one.values() == other.values() }
+        (Verdict::Refuted(one), Verdict::Refuted(other)) => one.items() == other.items(),
+        (Verdict::Spent(one), Verdict::Spent(other)) => one.items() == other.items(),
         _ => false,
     }
 }
@@ -42,19 +39,25 @@ fn same_at(
 }
 
 // Whether both give all faults of a net the same.
-fn same_on(alloc: Global, graph: &Graph) -> Result<bool, NoMemory> {
-    let mut searcher = Searcher::new(alloc, graph)?;
+fn all_same(alloc: Global, searcher: &mut Searcher, graph: &Graph) -> Result<bool, NoMemory>
+    requires { Serves searcher.old (net_of graph.now) }
+{
     for number in 0..6 * GATES {
         let fault = Fault {
             gate: NodeId(2 + SOURCES + number / 6),
             position: number % 3,
             value: number % 6 < 3,
         };
-        if !same_at(alloc, &mut searcher, graph, &fault)? {
+        if !same_at(alloc, searcher, graph, &fault)? {
             return Ok(false);
         }
     }
     Ok(true)
+}
+
+fn same_on(alloc: Global, graph: &Graph) -> Result<bool, NoMemory> {
+    let mut searcher = Searcher::new(alloc, graph)?;
+    all_same(alloc, &mut searcher, graph)
 }
 
 #[test]

@@ -1,13 +1,13 @@
 // One checker over many faults, on two nets and on a net that changes, against a fresh one each time.
 use super::{Case, ON_FOUR_GATES, ON_ONE_GATE, tree_of};
-use refutation_check::{CheckRefusal, TreeChecker, check_tree};
 use gate_graph::Graph;
 use refutation::{Form, Item, Line, Shape};
+use refutation_check::{CheckRefusal, TreeChecker, check_tree};
 use rm_base::NodeId;
 use std::alloc::Global;
 use std::test::Fail;
 use test_nets::worked::{FOUR_GATES_AND_PIN, ONE_GATE};
-use test_nets::{Gate, build, fault_at, wired};
+use test_nets::{Gate, NetBuilder, build, fault_at, wired};
 
 // Whether a checker that served other trees answers as it should, and as a fresh one does.
 fn keeps(
@@ -24,19 +24,51 @@ fn keeps(
     Ok(kept == case.answer && fresh == case.answer)
 }
 
+// Whether the checker answers each case as it should.
+fn keeps_all(
+    alloc: Global,
+    checker: &mut TreeChecker,
+    graph: &Graph,
+    cases: &[Case],
+) -> Result<bool, Fail> {
+    for case in cases {
+        if !keeps(alloc, checker, graph, case)? {
+            return Ok(false);
+        }
+    }
+    Ok(true)
+}
+
+// The same of cases on one net, each followed by all on another.
+fn serves_both(
+    alloc: Global,
+    checker: &mut TreeChecker,
+    one: &Graph,
+    other: &Graph,
+    on_one: &[Case],
+    on_other: &[Case],
+) -> Result<bool, Fail> {
+    for case in on_one {
+        if !keeps(alloc, checker, one, case)? {
+            return Ok(false);
+        }
+        if !keeps_all(alloc, checker, other, on_other)? {
+            return Ok(false);
+        }
+    }
+    Ok(true)
+}
+
+fn serves_two(alloc: Global, one: &Graph, four: &Graph) -> Result<bool, Fail> {
+    let mut checker = TreeChecker::new(alloc, 0)?;
+    serves_both(alloc, &mut checker, one, four, &ON_ONE_GATE, &ON_FOUR_GATES)
+}
+
 #[test]
 fn one_checker_serves_two_nets(rt: HostRuntime) -> Result<(), Fail> {
     let one = wired(rt.alloc(), &ONE_GATE)?;
     let four = wired(rt.alloc(), &FOUR_GATES_AND_PIN)?;
-    let mut checker = TreeChecker::new(rt.alloc(), 0)?;
-    for at in 0..ON_ONE_GATE.len() {
-        let first = keeps(rt.alloc(), &mut checker, &one, &ON_ONE_GATE[at])?;
-        assert!(rt; first, "at case {at}");
-        for next in 0..ON_FOUR_GATES.len() {
-            let second = keeps(rt.alloc(), &mut checker, &four, &ON_FOUR_GATES[next])?;
-            assert!(rt; second, "at case {at}, then {next}");
-        }
-    }
+    assert!(rt; serves_two(rt.alloc(), &one, &four)?);
     Ok(())
 }
 
@@ -79,39 +111,34 @@ const OBSERVED: [Case; 4] = [
     refused!(AT_SIX Closed [a, one 2, quiet, quiet] BadSplit 2),
 ];
 
-// Whether the checker answers each case as it should.
-fn keeps_all(
+// Fails where the checker doesn't answer as it should while the net changes.
+fn serve_changing(
     alloc: Global,
     checker: &mut TreeChecker,
-    graph: &Graph,
-    cases: &[Case],
-) -> Result<bool, Fail> {
-    for case in cases {
-        if !keeps(alloc, checker, graph, case)? {
-            return Ok(false);
-        }
+    net: &mut NetBuilder,
+) -> Result<(), Fail> {
+    if !keeps_all(alloc, checker, net.graph(), &BEFORE)? {
+        return Err("before".into());
     }
-    Ok(true)
+    net.add(Gate::And(&[6, 5]))?;
+    if !keeps_all(alloc, checker, net.graph(), &WITH_TEN)? {
+        return Err("with gate 10".into());
+    }
+    net.observe(8)?;
+    net.observe(10)?;
+    if !keeps_all(alloc, checker, net.graph(), &OBSERVED)? {
+        return Err("observed".into());
+    }
+    Ok(())
+}
+
+fn serve_with_one(alloc: Global, net: &mut NetBuilder) -> Result<(), Fail> {
+    let mut checker = TreeChecker::new(alloc, 10)?;
+    serve_changing(alloc, &mut checker, net)
 }
 
 #[test]
 fn one_checker_serves_a_net_that_changes(rt: HostRuntime) -> Result<(), Fail> {
     let mut net = build(rt.alloc(), &FOUR_GATES_AND_PIN)?;
-    let mut checker = TreeChecker::new(rt.alloc(), 10)?;
-    assert!(rt;
-        keeps_all(rt.alloc(), &mut checker, net.graph(), &BEFORE)?,
-        "before"
-    );
-    net.add(Gate::And(&[6, 5]))?;
-    assert!(rt;
-        keeps_all(rt.alloc(), &mut checker, net.graph(), &WITH_TEN)?,
-        "with gate 10"
-    );
-    net.observe(8)?;
-    net.observe(10)?;
-    assert!(rt;
-        keeps_all(rt.alloc(), &mut checker, net.graph(), &OBSERVED)?,
-        "observed"
-    );
-    Ok(())
+    serve_with_one(rt.alloc(), &mut net)
 }

@@ -1,5 +1,5 @@
 use Rattle.gate_graph.specs.Circuit.{net_of}
-use Rattle.reasoning_tests.proofs.searches.holds.Given as goal
+use Rattle.reasoning_tests.proofs.searches.gives_all.Given as goal
 use Rattle.podem.specs.Searchers.{Serves}
 
 abbrev pub invariant-loop-case : goal.invariant-loop-case

@@ -1,6 +1,0 @@
-use Rattle.gate_graph.specs.Circuit.{net_of}
-use Rattle.refutation.proofs.Public.{live_from}
-use Rattle.reasoning_tests.proofs.learning.nets.observe.Goals as goal
-
-pub observe-requires-clause-node : goal.observe-requires-clause-node
-observe-requires-clause-node c = live_from (net_of c.args.graph.now) c.args.node c.kind.result _ c.kind.ensures c.in-Some.is

@@ -1,9 +1,0 @@
-use Rattle.std.proofs.Common.{◌*◌, ◌+◌, ◌≤◌}
-use Rattle.gate_graph.specs.Circuit.{live_nodes, pins_taken}
-use Rattle.reasoning_tests.proofs.learning.nets.wired.Given as goal
-
-abbrev pub invariant-loop-gate : goal.invariant-loop-gate
-invariant-loop-gate l = record {
-  pins : pins_taken l.graph ≤ 2 * l.gate-index;
-  nodes : live_nodes l.graph ≤ l.fn.sources + 2 + l.gate-index;
-}

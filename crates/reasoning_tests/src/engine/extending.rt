@@ -1,0 +1,98 @@
+// Facts that grow by a good value, in a copy and in place.
+ghost use Rattle.std.specs.Prelude.{◌≡◌, ◌≤◌, length};
+ghost use Rattle.gate_graph.specs.Circuit.{net_of};
+ghost use Rattle.gate_net.specs.Values.{HasPin};
+ghost use Rattle.refutation.specs.Closing.{IsClashFree, IsClosedUnderLines};
+ghost use Rattle.refutation.specs.FactSets.{held_by};
+
+use crate::facts::hold_same;
+use gate_graph::Graph;
+use implications::{Closed, Engine};
+use refutation::FactSet;
+use refutation::pins::{Aspect, known};
+use rm_base::{Fault, NodeId};
+use std::alloc::Global;
+use std::test::Fail;
+use test_nets::worked::FOUR_GATES;
+use test_nets::{fault_at, wired};
+
+const THIRD: NodeId = NodeId(4);
+
+// What is known of the third source after growing facts that don't tell its good value by its being 1.
+fn grown(
+    engine: &mut Engine,
+    graph: &Graph,
+    facts: &FactSet,
+    fault: &Fault,
+) -> Result<Option<bool>, Fail>
+    requires pin { HasPin (net_of graph.now) fault.now }
+    requires numbers { length (net_of graph.now).nodes ≤ engine.old.numbers }
+    requires size { length (net_of graph.now).nodes ≤ length facts.now }
+    requires free { IsClashFree (held_by facts.now) }
+    ensures { engine.new.numbers ≡ engine.old.numbers }
+{
+    let Some(_) = graph.kind(THIRD) else {
+        return Err("no such node".into());
+    };
+    if known(facts, Aspect::OfGood, THIRD).is_some() {
+        return Err("known before".into());
+    }
+    let Closed::Open(more) = engine.grow(graph, fault, facts, THIRD, true)? else {
+        return Err("a clash".into());
+    };
+    if more.len() <= 4 {
+        return Err("too few nodes".into());
+    }
+    Ok(known(&more, Aspect::OfFaulty, THIRD))
+}
+
+// The same by extending them in place, where taking that back gives the facts before.
+fn extended(
+    alloc: Global,
+    engine: &mut Engine,
+    graph: &Graph,
+    facts: &mut FactSet,
+    fault: &Fault,
+) -> Result<Option<bool>, Fail>
+    requires pin { HasPin (net_of graph.now) fault.now }
+    requires numbers { length (net_of graph.now).nodes ≤ engine.old.numbers }
+    requires size { length (net_of graph.now).nodes ≤ length facts.old }
+    requires closed { IsClosedUnderLines (net_of graph.now) fault.now (held_by facts.old) }
+    requires free { IsClashFree (held_by facts.old) }
+{
+    let Some(_) = graph.kind(THIRD) else {
+        return Err("no such node".into());
+    };
+    if known(facts, Aspect::OfGood, THIRD).is_some() {
+        return Err("known before".into());
+    }
+    let before = facts.copy(alloc)?;
+    let mark = engine.mark();
+    let clash = engine.extend(graph, fault, facts, THIRD, true)?;
+    let now = known(facts, Aspect::OfFaulty, THIRD);
+    engine.take_back(facts, mark);
+    if clash.is_some() {
+        return Err("a clash".into());
+    }
+    if facts.len() != before.len() {
+        return Err("another size".into());
+    }
+    if !hold_same(facts, &before, graph.node_bound()) {
+        return Err("not taken back".into());
+    }
+    Ok(now)
+}
+
+#[test]
+fn grows_and_takes_back(rt: HostRuntime) -> Result<(), Fail> {
+    let graph = wired(rt.alloc(), &FOUR_GATES)?;
+    let fault = fault_at(&graph, 6, 0, true)?;
+    let mut engine = Engine::new(rt.alloc(), &graph)?;
+    let Closed::Open(mut facts) = engine.close(&graph, &fault)? else {
+        return Err("a clash".into());
+    };
+    let one = grown(&mut engine, &graph, &facts, &fault)?;
+    let other = extended(rt.alloc(), &mut engine, &graph, &mut facts, &fault)?;
+    assert_eq!(rt; (one, other), (Some(true), Some(true)));
+    Ok(())
+}
