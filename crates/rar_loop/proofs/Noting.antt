@@ -22,7 +22,7 @@ use Rattle.wire_edit.specs.declared.steps.Step.{Step}
 use Rattle.wire_edit.specs.declared.steps.Step.TheVariants.{Add, Fix, NewNot, Const, Same, NoPins, OnePin, Twice, Twin, Dead}
 use Rattle.fault_sim.specs.Following.{DiffersAmong}
 use Rattle.rar_loop.specs.declared.changes.Changed.{Changed}
-use Rattle.rar_loop.specs.Changing.{AreNoted, HasListed, HasNoted, IsNoted, IsUnlisted, NotesOn, numbers_of}
+use Rattle.rar_loop.specs.Changing.{AreNoted, HasListed, HasNoted, IsNoted, IsUnlisted, ListsNoted, NotesOn, numbers_of}
 use Rattle.rar_loop.specs.Going.{ReadsNoConstants}
 use Rattle.rar_loop.specs.Spaces.{TouchesOn}
 
@@ -187,7 +187,7 @@ notes_made net after gate old new listed homes differs before noted =
 
 -- the nodes that are listed for a tidy net, and the way back
 pub differs_listed : (before net : Net) (changed : Changed) (nodes : List NodeId) → ReadsNoConstants net → source_count net ≡ source_count before → AreNoted before net changed
-    → ((y : ℕ) → IsUnlisted (numbers_of nodes) y → IsUnlisted (numbers_of changed.gates.items) y × ((position driver : ℕ) → Reads net y position driver → IsUnlisted (numbers_of changed.homes.items) driver)) → DiffersAmong before net (numbers_of nodes)
+    → ListsNoted net changed nodes → DiffersAmong before net (numbers_of nodes)
 differs_listed before net changed nodes none sources noted listed = record {
   sources = sources;
   others = λ x u. noted x (listed x u).0 (λ p d reads. (none x p d reads, (listed x u).1 p d reads));

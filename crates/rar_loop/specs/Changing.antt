@@ -30,6 +30,12 @@ IsNoted before net gates homes = (x : ℕ) → IsUnlisted gates x → ReadsNone 
 abbrev pub AreNoted : Net → Net → Changed → Type 0
 AreNoted before net changed = IsNoted before net (numbers_of changed.gates.items) (numbers_of changed.homes.items)
 
+-- a node that isn't among these is no noted gate, and reads none of the nodes to which readers moved
+abbrev pub ListsNoted : Net → Changed → List NodeId → Type 0
+ListsNoted net changed nodes =
+    (y : ℕ) → IsUnlisted (numbers_of nodes) y
+    → IsUnlisted (numbers_of changed.gates.items) y × ((position driver : ℕ) → Reads net y position driver → IsUnlisted (numbers_of changed.homes.items) driver)
+
 -- what was noted of changes is noted now
 abbrev pub NotesOn : Net → Net → Changed → Changed → Type 0
 NotesOn net after old new = (before : Net) → AreNoted before net old → AreNoted before after new

@@ -17,6 +17,10 @@ use Rattle.rar_loop.specs.declared.workspace.Workspace.{Workspace}
 abbrev pub TouchesOn : Net → Net → List NodeId → List NodeId → Type 0
 TouchesOn net after old new = (before : Net) → DiffersAmong before net (numbers_of old) → DiffersAmong before after (numbers_of new)
 
+-- and so from any net with as many sources from which the changes to this one are noted
+abbrev pub TouchesNoted : Net → Changed → List NodeId → List NodeId → Type 0
+TouchesNoted after changed old new = (net : Net) → AreNoted net after changed → source_count after ≡ source_count net → TouchesOn net after old new
+
 -- what detects and refutes faults is for this net
 pub record HasToolsFor (net : Net) (space : Workspace) : Type 0 where
   pub vectors : AreFor space.vectors net

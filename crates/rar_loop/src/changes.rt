@@ -4,7 +4,7 @@ ghost use Rattle.gate_graph.specs.Circuit.{net_of};
 ghost use Rattle.gate_net.specs.Edits.{DiffersAt};
 ghost use Rattle.gate_net.specs.Net.{IsLive, Net, Reads};
 ghost use Rattle.wire_edit.specs.Tests.{second_driver};
-ghost use Rattle.rar_loop.specs.Changing.{AreNoted, HasListed, HasNoted, IsUnlisted, NotesOn, numbers_of};
+ghost use Rattle.rar_loop.specs.Changing.{AreNoted, HasListed, HasNoted, IsUnlisted, ListsNoted, NotesOn, numbers_of};
 
 use gate_graph::Graph;
 use rm_base::{NoMemory, NodeId};
@@ -122,7 +122,7 @@ impl Changed {
 
     /// The nodes that are noted, and what reads those to which readers moved.
     pub(crate) fn nodes(&self, alloc: Global, graph: &Graph) -> Result<Vec<NodeId>, NoMemory>
-        ensures { IfOk result (λ ns. (y : ℕ) → IsUnlisted (numbers_of ns.items) y → IsUnlisted (numbers_of self.now.gates.items) y × ((position driver : ℕ) → Reads (net_of graph.now) y position driver → IsUnlisted (numbers_of self.now.homes.items) driver)) }
+        ensures { IfOk result (λ ns. ListsNoted (net_of graph.now) self.now ns.items) }
     {
         let mut nodes = Vec::from_slice(alloc, self.gates.as_slice())?;
         for place in 0..self.homes.len() {

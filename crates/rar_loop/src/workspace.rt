@@ -1,11 +1,9 @@
 //! What the addition loop works on, and what it works with.
 ghost use Rattle.std.specs.Prelude.{◌≡◌, ◌≤◌, [], IfOk, OnOk};
 ghost use Rattle.gate_graph.specs.Circuit.{net_of};
-ghost use Rattle.gate_net.specs.Net.{Net, source_count};
 ghost use Rattle.wire_edit.specs.Order.{IsTidy};
-ghost use Rattle.rar_loop.specs.Changing.{AreNoted};
 ghost use Rattle.rar_loop.specs.Sizes.{IsSame};
-ghost use Rattle.rar_loop.specs.Spaces.{CanFollow, CanReturn, HasToolsFor, TouchesOn};
+ghost use Rattle.rar_loop.specs.Spaces.{CanFollow, CanReturn, HasToolsFor, TouchesNoted};
 
 use crate::changes::Changed;
 use crate::vectors::Vectors;
@@ -56,7 +54,7 @@ impl Workspace {
         requires follows { CanFollow self.old changed.now added.now }
         ensures trial { self.new.trial ≡ self.old.trial }
         ensures tools { OnOk result (HasToolsFor (net_of self.new.trial.graph) self.new) }
-        ensures touched { OnOk result ((net : Net) → AreNoted net (net_of self.old.trial.graph) changed.now → source_count (net_of self.old.trial.graph) ≡ source_count net → TouchesOn net (net_of self.old.trial.graph) self.old.touched.items self.new.touched.items) }
+        ensures touched { OnOk result (TouchesNoted (net_of self.old.trial.graph) changed.now self.old.touched.items self.new.touched.items) }
     {
         let graph = self.trial.graph();
         graph.well_formed();

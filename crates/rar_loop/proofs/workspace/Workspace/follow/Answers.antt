@@ -3,7 +3,7 @@ use Rattle.rm_base.specs.declared.numbers.NodeId.{NodeId}
 use Rattle.gate_net.specs.Net.{IsWellFormed, Net, Reads, source_count}
 use Rattle.gate_graph.specs.Circuit.{Circuit, net_of}
 use Rattle.fault_sim.specs.Following.{DiffersAmong}
-use Rattle.rar_loop.specs.Changing.{AreNoted, IsUnlisted, numbers_of}
+use Rattle.rar_loop.specs.Changing.{AreNoted, ListsNoted, numbers_of}
 use Rattle.rar_loop.specs.Going.{ReadsNoConstants}
 use Rattle.rar_loop.proofs.Noting.{differs_listed, same_through, touches_then}
 use Rattle.rar_loop.proofs.workspace.Workspace.follow.Goals as goal
@@ -26,7 +26,7 @@ returns-clause-touched c = λ first noted sources.
     let none : ReadsNoConstants net = tidy_reads_none net (subst IsWellFormed same c.well_formed-2.ensures.net) c.requires.tidy in
     let differs : DiffersAmong first net (numbers_of c.in_ok-nodes.nodes.items) =
     differs_listed first net c.args.changed.now c.in_ok-nodes.nodes.items none sources noted
-    (subst (λ (n : Net). (y : ℕ) → IsUnlisted (numbers_of c.in_ok-nodes.nodes.items) y → IsUnlisted (numbers_of c.args.changed.now.gates.items) y × ((position driver : ℕ) → Reads n y position driver → IsUnlisted (numbers_of c.args.changed.now.homes.items) driver)) same c.in_ok-nodes.ensures) in
+    (subst (λ (n : Net). ListsNoted n c.args.changed.now c.in_ok-nodes.nodes.items) same c.in_ok-nodes.ensures) in
     touches_then first net c.args.self.now.touched.items c.in_ok-nodes.nodes.items c.extend_from_slice.new.self.items (c.in_ok-extend_from_slice.ensures.items ∙ ap (λ (ns : List NodeId). c.args.self.now.touched.items ++ ns) c.as_slice-2.ensures.value) differs
 
 pub follow-requires-2 : goal.follow-requires-2
