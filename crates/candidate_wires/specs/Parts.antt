@@ -9,8 +9,9 @@ use Rattle.refutation.specs.Facts.{Held, known_equal, known_good}
 use Rattle.refutation.specs.Reaching.{MarksReached}
 use Rattle.refutation.specs.declared.reasoning.Fact.{Fact}
 use Rattle.refutation.specs.declared.reasoning.Fact.TheVariants.{Good}
+use Rattle.rm_base.specs.declared.numbers.Fault.{Fault}
 use Rattle.rm_base.specs.declared.numbers.NodeId.{NodeId}
-use Rattle.candidate_wires.specs.Candidates.{AreAmong}
+use Rattle.candidate_wires.specs.Candidates.{AreAmong, AreCandidates}
 use Rattle.candidate_wires.specs.Joining.{HasNoNot}
 use Rattle.refutation.specs.FactLists.{IsAmong}
 use Rattle.candidate_wires.specs.declared.candidate.Candidate.{Candidate}
@@ -78,3 +79,7 @@ pub record AddsChoices (y : ℕ) (control : Bool) (reached driving : List Bool) 
   pub added : new ≡ old ++ more
   pub among : (net : Net) (held : Held)
       → IsJunction net y control → MarksReached net y reached → MarksDrivers net y driving → AreKnown net held (length net.nodes) sources → AreAmong net held y (length net.nodes) more
+
+-- the candidates of whatever facts hold, where these are the sources that are known
+abbrev pub AreFoundAmong : Net → Fault → List Known → List Candidate → Type 0
+AreFoundAmong net fault sources cs = (held : Held) → AreKnown net held (length net.nodes) sources → AreCandidates net fault held cs

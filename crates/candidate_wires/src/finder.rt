@@ -1,22 +1,20 @@
 //! Candidates of one fault after another.
 ghost use Rattle.std.specs.Prelude.{◌≡◌, ◌≤◌, IfOk, length};
-ghost use Rattle.gate_net.specs.Values.{HasPin};
 ghost use Rattle.gate_graph.specs.Circuit.{net_of};
 ghost use Rattle.refutation.specs.FactSets.{held_by};
-ghost use Rattle.refutation.specs.Facts.{Held};
 ghost use Rattle.refutation.specs.FactLists.{HasAllGoods};
 ghost use Rattle.candidate_wires.specs.Candidates.{AreCandidates};
-ghost use Rattle.candidate_wires.specs.Parts.{AreKnown};
+ghost use Rattle.candidate_wires.specs.Parts.{AreFoundAmong};
 
 use crate::candidate::Candidate;
 use crate::known::{Known, known_among, known_nodes};
 use crate::listing::along_chain;
 use crate::reaching::mark_reached;
 use crate::stamps::Stamps;
-use gate_graph::Graph;
+use gate_graph::Question;
 use refutation::agenda::Agenda;
 use refutation::{Fact, FactSet};
-use rm_base::{Fault, NoMemory, NodeId};
+use rm_base::{NoMemory, NodeId};
 use std::alloc::Global;
 use std::marker::Model;
 
@@ -57,20 +55,22 @@ impl Finder {
     fn candidates_by(
         &mut self,
         alloc: Global,
-        graph: &Graph,
-        fault: &Fault,
+        question: &Question<'_>,
         sources: &[Known],
     ) -> Result<Vec<Candidate>, NoMemory>
-        requires pin { HasPin (net_of graph.now) fault.now }
-        requires numbers { length (net_of graph.now).nodes ≤ self.old }
-        ensures found { IfOk result (λ found. (held : Held) → AreKnown (net_of graph.now) held (length (net_of graph.now).nodes) sources.now → AreCandidates (net_of graph.now) fault.now held found.items) }
+        requires numbers { length (net_of question.now.graph.now).nodes ≤ self.old }
+        ensures found { IfOk result (λ found. AreFoundAmong (net_of question.now.graph.now) question.now.fault sources.now found.items) }
         ensures numbers { self.new ≡ self.old }
     {
-        mark_reached(graph, fault.gate, &mut self.reached, &mut self.agenda);
+        mark_reached(
+            question.graph,
+            question.fault.gate,
+            &mut self.reached,
+            &mut self.agenda,
+        );
         along_chain(
             alloc,
-            graph,
-            fault,
+            question,
             &mut self.reached,
             &mut self.driving,
             sources,
@@ -83,18 +83,16 @@ impl Finder {
     pub fn candidates(
         &mut self,
         alloc: Global,
-        graph: &Graph,
-        fault: &Fault,
+        question: &Question<'_>,
         facts: &FactSet,
     ) -> Result<Vec<Candidate>, NoMemory>
-        requires pin { HasPin (net_of graph.now) fault.now }
-        requires facts { length (net_of graph.now).nodes ≤ length facts.now }
-        requires numbers { length (net_of graph.now).nodes ≤ self.old }
-        ensures found { IfOk result (λ found. AreCandidates (net_of graph.now) fault.now (held_by facts.now) found.items) }
+        requires facts { length (net_of question.now.graph.now).nodes ≤ length facts.now }
+        requires numbers { length (net_of question.now.graph.now).nodes ≤ self.old }
+        ensures found { IfOk result (λ found. AreCandidates (net_of question.now.graph.now) question.now.fault (held_by facts.now) found.items) }
         ensures numbers { self.new ≡ self.old }
     {
-        let sources = known_nodes(alloc, graph, facts)?;
-        self.candidates_by(alloc, graph, fault, sources.as_slice())
+        let sources = known_nodes(alloc, question.graph, facts)?;
+        self.candidates_by(alloc, question, sources.as_slice())
     }
 
     /// The same, without a look at the facts of each node: `added` has each good value that is held, in any order, as
@@ -102,19 +100,17 @@ impl Finder {
     pub fn candidates_among(
         &mut self,
         alloc: Global,
-        graph: &Graph,
-        fault: &Fault,
+        question: &Question<'_>,
         facts: &FactSet,
         added: &[(NodeId, Fact)],
     ) -> Result<Vec<Candidate>, NoMemory>
-        requires pin { HasPin (net_of graph.now) fault.now }
-        requires facts { length (net_of graph.now).nodes ≤ length facts.now }
+        requires facts { length (net_of question.now.graph.now).nodes ≤ length facts.now }
         requires added { HasAllGoods (held_by facts.now) added.now }
-        requires numbers { length (net_of graph.now).nodes ≤ self.old }
-        ensures found { IfOk result (λ found. AreCandidates (net_of graph.now) fault.now (held_by facts.now) found.items) }
+        requires numbers { length (net_of question.now.graph.now).nodes ≤ self.old }
+        ensures found { IfOk result (λ found. AreCandidates (net_of question.now.graph.now) question.now.fault (held_by facts.now) found.items) }
         ensures numbers { self.new ≡ self.old }
     {
-        let sources = known_among(alloc, graph, facts, added)?;
-        self.candidates_by(alloc, graph, fault, sources.as_slice())
+        let sources = known_among(alloc, question.graph, facts, added)?;
+        self.candidates_by(alloc, question, sources.as_slice())
     }
 }

@@ -1,13 +1,11 @@
 // The candidates of a fault.
 ghost use Rattle.std.specs.Prelude.{◌≡◌, ◌≤◌, IfOk, OnOk, length};
 ghost use Rattle.gate_net.specs.Net.{IsLive};
-ghost use Rattle.gate_net.specs.Values.{HasPin};
 ghost use Rattle.gate_graph.specs.Circuit.{net_of};
-ghost use Rattle.refutation.specs.Facts.{Held};
 ghost use Rattle.refutation.specs.FactSets.{held_by};
 ghost use Rattle.refutation.specs.Reaching.{MarksReached};
 ghost use Rattle.candidate_wires.specs.Candidates.{AreCandidates};
-ghost use Rattle.candidate_wires.specs.Parts.{AddsAt, AreKnown};
+ghost use Rattle.candidate_wires.specs.Parts.{AddsAt, AreFoundAmong};
 
 use crate::candidate::Candidate;
 use crate::choosing::add_choices;
@@ -16,10 +14,10 @@ use crate::finder::Finder;
 use crate::known::Known;
 use crate::stamps::Stamps;
 use crate::targeting::control_of;
-use gate_graph::Graph;
+use gate_graph::{Graph, Question};
 use refutation::FactSet;
 use refutation::chains::next_in_chain;
-use rm_base::{Fault, NoMemory, NodeId};
+use rm_base::{NoMemory, NodeId};
 use std::alloc::Global;
 
 // Adds the candidates at a node.
@@ -47,26 +45,25 @@ fn add_at(
 // the same but itself.
 pub(crate) fn along_chain(
     alloc: Global,
-    graph: &Graph,
-    fault: &Fault,
+    question: &Question<'_>,
     reached: &mut Stamps,
     driving: &mut Stamps,
     sources: &[Known],
 ) -> Result<Vec<Candidate>, NoMemory>
-    requires gate { IsLive (net_of graph.now) fault.now.gate.0 }
-    requires reached { MarksReached (net_of graph.now) fault.now.gate.0 reached.old }
-    requires marks { length (net_of graph.now).nodes ≤ length reached.old }
-    requires room { length (net_of graph.now).nodes ≤ length driving.old }
-    ensures found { IfOk result (λ found. (held : Held) → AreKnown (net_of graph.now) held (length (net_of graph.now).nodes) sources.now → AreCandidates (net_of graph.now) fault.now held found.items) }
+    requires gate { IsLive (net_of question.now.graph.now) question.now.fault.gate.0 }
+    requires reached { MarksReached (net_of question.now.graph.now) question.now.fault.gate.0 reached.old }
+    requires marks { length (net_of question.now.graph.now).nodes ≤ length reached.old }
+    requires room { length (net_of question.now.graph.now).nodes ≤ length driving.old }
+    ensures found { IfOk result (λ found. AreFoundAmong (net_of question.now.graph.now) question.now.fault sources.now found.items) }
     ensures marks { length reached.new ≡ length reached.old }
     ensures room { length driving.new ≡ length driving.old }
 {
-    graph.well_formed();
+    question.graph.well_formed();
     let mut found = Vec::new(alloc);
-    let mut at = fault.gate;
-    for _step in 0..graph.node_bound() {
-        add_at(graph, at, reached, driving, sources, &mut found)?;
-        let Some(next) = next_in_chain(graph, at) else {
+    let mut at = question.fault.gate;
+    for _step in 0..question.graph.node_bound() {
+        add_at(question.graph, at, reached, driving, sources, &mut found)?;
+        let Some(next) = next_in_chain(question.graph, at) else {
             return Ok(found);
         };
         reached.unset(next);
@@ -78,14 +75,12 @@ pub(crate) fn along_chain(
 /// The candidates of the fault by these facts, in order, as a `Finder` that is made for this one call finds them.
 pub fn candidates(
     alloc: Global,
-    graph: &Graph,
-    fault: &Fault,
+    question: &Question<'_>,
     facts: &FactSet,
 ) -> Result<Vec<Candidate>, NoMemory>
-    requires pin { HasPin (net_of graph.now) fault.now }
-    requires facts { length (net_of graph.now).nodes ≤ length facts.now }
-    ensures { IfOk result (λ found. AreCandidates (net_of graph.now) fault.now (held_by facts.now) found.items) }
+    requires facts { length (net_of question.now.graph.now).nodes ≤ length facts.now }
+    ensures { IfOk result (λ found. AreCandidates (net_of question.now.graph.now) question.now.fault (held_by facts.now) found.items) }
 {
-    let mut finder = Finder::new(alloc, graph.node_bound())?;
-    finder.candidates(alloc, graph, fault, facts)
+    let mut finder = Finder::new(alloc, question.graph.node_bound())?;
+    finder.candidates(alloc, question, facts)
 }

@@ -1,13 +1,12 @@
 // The verdicts of faults: what refutes them by learning, and else the answers of searches.
 ghost use Rattle.std.specs.Prelude.{◌≡◌, ◌<◌, ◌≤◌, ℕ, IfOk, OnOk};
 ghost use Rattle.gate_net.specs.Net.{Net};
-ghost use Rattle.gate_net.specs.Values.{HasPin};
 ghost use Rattle.gate_graph.specs.Circuit.{net_of};
 ghost use Rattle.podem.specs.Searchers.{Serves};
 ghost use Rattle.recursive_learning.specs.Serving.{IsServing};
 ghost use Rattle.closing_pass.specs.Verdicts.{AreVerdicts, HavePins, IsAnswer};
 
-use gate_graph::Graph;
+use gate_graph::{Graph, Question};
 use podem::{Searcher, Verdict};
 use recursive_learning::refuter::Refuter;
 use rm_base::{Fault, NoMemory, Settings};
@@ -15,24 +14,22 @@ use std::alloc::Global;
 
 // The verdict of the fault: it is refuted at the depth of the settings, and else searched with their budget.
 fn answer(
-    graph: &Graph,
-    fault: &Fault,
+    question: &Question<'_>,
     settings: &Settings,
     refuter: &mut Refuter,
     searcher: &mut Searcher,
 ) -> Result<Verdict, NoMemory>
-    requires pin { HasPin (net_of graph.now) fault.now }
     requires depth { settings.now.depth ≤ 2 }
     requires budget { 0 < settings.now.budget }
-    requires refutes { IsServing (net_of graph.now) refuter.old }
-    requires searches { Serves searcher.old (net_of graph.now) }
-    ensures answer { IfOk result (IsAnswer (net_of graph.now) settings.now.budget fault.now) }
-    ensures refutes { OnOk result (IsServing (net_of graph.now) refuter.new) }
+    requires refutes { IsServing (net_of question.now.graph.now) refuter.old }
+    requires searches { Serves searcher.old (net_of question.now.graph.now) }
+    ensures answer { IfOk result (IsAnswer (net_of question.now.graph.now) settings.now.budget question.now.fault) }
+    ensures refutes { OnOk result (IsServing (net_of question.now.graph.now) refuter.new) }
     ensures searches { OnOk result ((net : Net) → Serves searcher.old net → Serves searcher.new net) }
 {
-    match refuter.refute(graph, fault, settings.depth)? {
+    match refuter.refute(question, settings.depth)? {
         Some(tree) => Ok(Verdict::Refuted(tree)),
-        None => searcher.search(graph, fault, settings.budget),
+        None => searcher.search(question, settings.budget),
     }
 }
 
@@ -54,7 +51,11 @@ fn answer_each(
 {
     let mut verdicts = Vec::with_capacity(alloc, faults.len())?;
     for fault in faults {
-        let verdict = answer(graph, fault, settings, refuter, searcher)?;
+        let question = Question {
+            graph,
+            fault: *fault,
+        };
+        let verdict = answer(&question, settings, refuter, searcher)?;
         verdicts.push(verdict)?;
     }
     Ok(verdicts)

@@ -4,7 +4,7 @@ ghost use Rattle.fault_sim.specs.LaneStates.{Fits, IsSimulated};
 ghost use Rattle.fault_sim.specs.Words.{assignment};
 ghost use Rattle.gate_graph.specs.Circuit.{net_of};
 ghost use Rattle.gate_net.specs.Net.{Net, source_count};
-ghost use Rattle.gate_net.specs.Values.{Detects, HasPin};
+ghost use Rattle.gate_net.specs.Values.{Detects};
 ghost use Rattle.closing_pass.specs.Findings.{AreLong};
 ghost use Rattle.closing_pass.specs.Trying.{AreInLanes, HasTried, HasTriedOn};
 ghost use Rattle.closing_pass.specs.Verdicts.{HavePins};
@@ -12,21 +12,20 @@ ghost use Rattle.closing_pass.specs.Verdicts.{HavePins};
 use crate::finding::{Finding, is_sought};
 use crate::words::words_of;
 use fault_sim::Lanes;
-use gate_graph::Graph;
+use gate_graph::{Graph, Question};
 use rm_base::{Fault, NoMemory, Vector};
 use std::alloc::Global;
 
 // The first of so many lanes whose vector detects the fault.
-fn first_lane(graph: &Graph, fault: &Fault, lanes: &mut Lanes, count: usize) -> Option<usize>
-    requires pin { HasPin (net_of graph.now) fault.now }
-    requires fits { Fits lanes.old (net_of graph.now) }
-    requires simulated { IsSimulated lanes.old (net_of graph.now) }
+fn first_lane(question: &Question<'_>, lanes: &mut Lanes, count: usize) -> Option<usize>
+    requires fits { Fits lanes.old (net_of question.now.graph.now) }
+    requires simulated { IsSimulated lanes.old (net_of question.now.graph.now) }
     requires few { count ≤ 64 }
-    ensures first { IfSome result (λ i. (i < count) × Detects (net_of graph.now) fault.now (assignment lanes.old.words i)) }
-    ensures none { IsNone result → (i : ℕ) → i < count → Detects (net_of graph.now) fault.now (assignment lanes.old.words i) → ⊥ }
+    ensures first { IfSome result (λ i. (i < count) × Detects (net_of question.now.graph.now) question.now.fault (assignment lanes.old.words i)) }
+    ensures none { IsNone result → (i : ℕ) → i < count → Detects (net_of question.now.graph.now) question.now.fault (assignment lanes.old.words i) → ⊥ }
     ensures same { lanes.new ≡ lanes.old }
 {
-    let Some(lane) = lanes.first_detecting(graph, fault) else {
+    let Some(lane) = lanes.first_detecting(question) else {
         return None;
     };
     if (lane as usize) < count {
@@ -38,8 +37,7 @@ fn first_lane(graph: &Graph, fault: &Fault, lanes: &mut Lanes, count: usize) -> 
 
 // Tries the kept vectors in the lanes, which are so many from the first on, on the fault at a place.
 fn try_on(
-    graph: &Graph,
-    fault: &Fault,
+    question: &Question<'_>,
     kept: &[Vector],
     lanes: &mut Lanes,
     found: &mut Vec<Finding>,
@@ -47,21 +45,20 @@ fn try_on(
     first: usize,
     count: usize,
 )
-    requires pin { HasPin (net_of graph.now) fault.now }
-    requires fits { Fits lanes.old (net_of graph.now) }
-    requires simulated { IsSimulated lanes.old (net_of graph.now) }
+    requires fits { Fits lanes.old (net_of question.now.graph.now) }
+    requires simulated { IsSimulated lanes.old (net_of question.now.graph.now) }
     requires few { count ≤ 64 }
     requires numbers { first + count ≤ length kept.now }
-    requires long { AreLong kept.now (source_count (net_of graph.now)) }
+    requires long { AreLong kept.now (source_count (net_of question.now.graph.now)) }
     requires packed { AreInLanes kept.now first count lanes.old.words }
     requires place { place < length found.old.items }
-    ensures tried { HasTriedOn (net_of graph.now) kept.now first (first + count) fault.now place found.old.items found.new.items }
+    ensures tried { HasTriedOn (net_of question.now.graph.now) kept.now first (first + count) question.now.fault place found.old.items found.new.items }
     ensures same { lanes.new ≡ lanes.old }
 {
     if !is_sought(&found[place]) {
         return;
     }
-    if let Some(lane) = first_lane(graph, fault, lanes, count) {
+    if let Some(lane) = first_lane(question, lanes, count) {
         found[place] = Finding::Detected(first + lane);
     }
 }
@@ -88,16 +85,11 @@ fn try_on_each(
     ensures same { lanes.new ≡ lanes.old }
 {
     for place in 0..faults.len() {
-        try_on(
+        let question = Question {
             graph,
-            &faults[place],
-            kept,
-            lanes,
-            found,
-            place,
-            first,
-            count,
-        );
+            fault: faults[place],
+        };
+        try_on(&question, kept, lanes, found, place, first, count);
     }
 }
 

@@ -7,6 +7,7 @@ use Rattle.gate_net.specs.Net.{Node, Net, drivers_in}
 use Rattle.gate_graph.specs.Circuit.{Circuit, net_of, fanouts_of, pins_taken, live_nodes}
 use Rattle.gate_graph.specs.Spots.{places_from}
 use Rattle.cover_decompose.specs.Decomposition.{plain}
+use Rattle.cover_decompose.specs.Limits.{most_pins}
 
 -- the readers of a node among nodes that are numbered from y on: by gate, and by position within one
 abbrev pub readers_from : ℕ → List (Option Node) → ℕ → List (ℕ × ℕ)
@@ -40,4 +41,4 @@ pub record IsBuildable (made : List Node) (sources : ℕ) : Type 0 where
   pub are_gates : AllByRecursion IsGateNode gates
   pub below : (y : ℕ) (n : Node) → slice_get made y ≡ Some n → AllBelow y n.drivers
   pub few_sources : sources ≤ 1024
-  pub few_wires : sum_by (λ (n : Node). length n.drivers) made ≤ 65536
+  pub few_wires : sum_by (λ (n : Node). length n.drivers) made ≤ most_pins

@@ -1,3 +1,4 @@
+pub mod Limits
 pub mod Needed
 pub mod Decomposition
 pub mod Count

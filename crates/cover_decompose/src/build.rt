@@ -3,6 +3,7 @@ ghost use Rattle.std.specs.Prelude.{◌≡◌, ◌<◌, ◌≤◌, ◌+◌, ◌^
 ghost use Rattle.cover_decompose.specs.Built.{IsBuildable, IsBuilt};
 ghost use Rattle.gate_graph.specs.Circuit.{pins_taken};
 ghost use Rattle.cover_decompose.specs.PlanView.{node_of_plan};
+ghost use Rattle.cover_decompose.specs.Limits.{most_pins};
 
 use crate::plan::{Plan, PlanNode};
 use gate_graph::Graph;
@@ -65,9 +66,9 @@ fn observe(graph: &mut Graph, plan: &Plan, observed: &[u32], at: usize) -> Resul
     requires small { length plan.now.made < 2 ^ 32 }
     requires few { length observed.now ≤ 4096 }
     requires built { IsBuilt graph.old plan.now.made (map (slice_index plan.now.nodes) (take at observed.now)) }
-    requires pins { pins_taken graph.old ≤ 65536 + at }
+    requires pins { pins_taken graph.old ≤ most_pins + at }
     ensures built { OnOk result (IsBuilt graph.new plan.now.made (map (slice_index plan.now.nodes) (take (at + 1) observed.now))) }
-    ensures pins { OnOk result (pins_taken graph.new ≤ 65536 + (at + 1)) }
+    ensures pins { OnOk result (pins_taken graph.new ≤ most_pins + (at + 1)) }
 {
     let node = plan.node(observed[at] as usize);
     graph.observe(NodeId(node as u32))?;
@@ -80,7 +81,7 @@ fn observe_all(graph: &mut Graph, plan: &Plan, observed: &[u32]) -> Result<(), N
     requires small { length plan.now.made < 2 ^ 32 }
     requires few { length observed.now ≤ 4096 }
     requires built { IsBuilt graph.old plan.now.made [] }
-    requires pins { pins_taken graph.old ≤ 65536 }
+    requires pins { pins_taken graph.old ≤ most_pins }
     ensures { OnOk result (IsBuilt graph.new plan.now.made (map (slice_index plan.now.nodes) observed.now)) }
 {
     for at in 0..observed.len() {

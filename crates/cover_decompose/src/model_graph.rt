@@ -11,6 +11,7 @@ ghost use Rattle.gate_graph.specs.Holds.{pins_held};
 ghost use Rattle.rm_model.specs.Ranks.{first_without_rank};
 ghost use Rattle.rm_model.specs.Value.{observed_names, source_names};
 ghost use Rattle.rm_model.specs.WellFormed.{IsWellFormed};
+ghost use Rattle.cover_decompose.specs.Limits.{most_pins};
 
 use crate::build::build;
 use crate::laws::decompositions_stand;
@@ -57,7 +58,7 @@ fn graph_of(
     requires few_observed { length (observed_names model.now) ≤ 4096 }
     requires covers { length model.now.covers < 2 ^ 32 }
     requires places { AtPlaces model.now.covers places.now (taken model.now) }
-    requires few_pins { decomposed model.now ≤ 65536 }
+    requires few_pins { decomposed model.now ≤ most_pins }
     ensures { IfOk result (λ g. IsBuilt g (last_state model.now).made (net_of_model model.now).observed) }
 {
     decompositions_stand();
@@ -88,7 +89,7 @@ fn numbered_graph(
     requires sources { numbering.now.sources ≡ length (source_names model.now) }
     requires order { AtPlaces model.now.covers order.now (covers_by_rank model.now) }
     ensures built { IfOk result (λ g. IsBuilt g (last_state model.now).made (net_of_model model.now).observed) }
-    ensures within { OnOk result (decomposed model.now ≤ 65536) }
+    ensures within { OnOk result (decomposed model.now ≤ most_pins) }
     ensures refused { IfErr result (λ refusal. IsRefused model.now refusal) }
 {
     let places = taken_places(alloc, model, numbering, order)?;
@@ -115,7 +116,7 @@ pub fn decompose(alloc: Global, model: &RankedModel) -> Result<Graph, DecomposeR
     ensures nodes { IfOk result (λ g. live_nodes g ≡ length (net_of_model model.now).nodes) }
     ensures few { IfOk result (λ g. live_nodes g ≤ 66562) }
     ensures epoch { IfOk result (λ g. g.epoch ≡ 0) }
-    ensures within { OnOk result (decomposed model.now ≤ 65536) }
+    ensures within { OnOk result (decomposed model.now ≤ most_pins) }
     ensures refused { IfErr result (λ refusal. IsRefused model.now refusal) }
 {
     decompositions_stand();

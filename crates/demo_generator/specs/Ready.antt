@@ -6,6 +6,7 @@ use Rattle.rm_model.specs.WellFormed.{IsWellFormed}
 use Rattle.rm_model.specs.declared.parts.Model.{Model}
 use Rattle.cover_decompose.specs.Count.{decomposed}
 use Rattle.demo_generator.specs.Generator.{model_of_seed}
+use Rattle.cover_decompose.specs.Limits.{most_pins}
 
 pub record IsReady (m : Model) : Type 0 where
   pub formed : IsWellFormed m
@@ -13,7 +14,7 @@ pub record IsReady (m : Model) : Type 0 where
   pub covers : length m.covers ≡ 60
   pub sources : length (source_names m) ≡ 16
   pub observed : length (observed_names m) ≡ 8
-  pub fits : decomposed m < 65536
+  pub fits : decomposed m < most_pins
 
 -- each drawn model is
 abbrev pub AreReady : Type 0

@@ -5,6 +5,7 @@ ghost use Rattle.demo_generator.specs.Generator.{model_of_seed};
 ghost use Rattle.rm_model.specs.Ranks.{first_without_rank};
 ghost use Rattle.rm_model.specs.Value.{observed_names, source_names};
 ghost use Rattle.rm_model.specs.WellFormed.{IsWellFormed};
+ghost use Rattle.cover_decompose.specs.Limits.{most_pins};
 
 use crate::laws::demo_models_are_ready;
 use crate::names::signal_names;
@@ -53,7 +54,7 @@ pub fn demo_model(alloc: Global, seed: u64) -> Result<RankedModel, NoMemory>
     ensures covers { IfOk result (λ m. length m.covers < 2 ^ 32) }
     ensures sources { IfOk result (λ m. length (source_names m) ≡ 16) }
     ensures observed { IfOk result (λ m. length (observed_names m) ≡ 8) }
-    ensures fits { IfOk result (λ m. decomposed m < 65536) }
+    ensures fits { IfOk result (λ m. decomposed m < most_pins) }
 {
     demo_models_are_ready();
     let model = drawn_model(alloc, seed)?;

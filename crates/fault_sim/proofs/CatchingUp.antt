@@ -1,5 +1,5 @@
 -- Words that follow a net that changes.
-use Rattle.std.proofs.Common.{Bool, List, None, Option, Some, ap, arith, false, inl, inr, length, length-set, map, refl, subst, sym, true, ℕ, ◌+◌, ◌/◌, ◌<◌, ◌∙◌, ◌≡◌, ◌≢◌, ◌≤◌, ◌⊎◌}
+use Rattle.std.proofs.Common.{Bool, List, None, Option, Some, ap, arith, false, inl, inr, length, length-set, map, refl, subst, sym, true, ℕ, ◌+◌, ◌<◌, ◌∙◌, ◌≡◌, ◌≢◌, ◌≤◌, ◌⊎◌}
 use Rattle.std.proofs.lemmas.Bool.Decides.{eqb_tells}
 use Rattle.std.proofs.lemmas.List.{get_or_past}
 use Rattle.std.specs.Prelude.{slice_get, slice_index, slice_set}
@@ -10,13 +10,13 @@ use Rattle.refutation.proofs.Public.{slice_get_below}
 use Rattle.fault_sim.proofs.LaneLaws.{lane_node, lane_zero, map_twice}
 use Rattle.fault_sim.proofs.Lists.{below_or, still_pending}
 use Rattle.fault_sim.proofs.ReadInOrder.{apart, driver_before, listed_or, reader_not_dead, set_elsewhere, set_here, unlisted_dead}
-use Rattle.fault_sim.proofs.Spreads.{clash, still_idle, unstamped_word}
-use Rattle.fault_sim.specs.BlockStates.{AreGoodWords, ArePlaced, IsBlock}
+use Rattle.fault_sim.proofs.Spreads.{clash, still_idle}
+use Rattle.fault_sim.specs.BlockStates.{AreGoodWords, ArePlaced}
 use Rattle.fault_sim.specs.Following.{AreTouched, DiffersAmong, IsRereading, IsRightAt, Stands, WereGood}
 use Rattle.fault_sim.specs.Ordered.{IsOrdered}
-use Rattle.fault_sim.specs.Pending.{HasRoom, IsIdle, IsMarked, IsPending, IsUnmarked, is_pending}
+use Rattle.fault_sim.specs.Pending.{IsIdle, IsMarked, IsPending, IsUnmarked, is_pending}
 use Rattle.fault_sim.specs.Simulating.{AreNoOthers, IsWithin}
-use Rattle.fault_sim.specs.Spreading.{AreLanes, IsRested, IsSized, IsUnstamped, MarksReaders, spread_word, stuck_reads}
+use Rattle.fault_sim.specs.Spreading.{AreLanes, IsRested, IsUnstamped, MarksReaders}
 use Rattle.fault_sim.specs.Words.{assigned_word, assignment, lane, lane_values, node_word}
 use Rattle.fault_sim.specs.declared.spread.Spread.{Spread}
 

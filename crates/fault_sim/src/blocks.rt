@@ -1,7 +1,6 @@
 // Blocks of 64 vectors, which are kept for a net.
 ghost use Rattle.std.specs.Prelude.{◌≡◌, ◌<◌, ◌≤◌, ◌++◌, ◌∷◌, [], ℕ, IfOk, None, OnErr, OnOk, Some, length, map, slice_get};
 ghost use Rattle.gate_net.specs.Net.{source_count};
-ghost use Rattle.gate_net.specs.Values.{HasPin};
 ghost use Rattle.gate_graph.specs.Circuit.{net_of};
 ghost use Rattle.fault_sim.specs.Ordered.{IsOrdered};
 ghost use Rattle.fault_sim.specs.Simulating.{IsWithin};
@@ -16,8 +15,8 @@ use crate::pending::first_bit;
 use crate::placing::any_misplaced;
 use crate::simulating::read_all;
 use crate::spread::Spread;
-use gate_graph::Graph;
-use rm_base::{Fault, NoMemory, NodeId};
+use gate_graph::{Graph, Question};
+use rm_base::{NoMemory, NodeId};
 use std::alloc::Global;
 use std::marker::Model;
 
@@ -51,23 +50,20 @@ fn simulated(
 
 // The first lane of a block whose vector detects the fault.
 fn first_in(
-    graph: &Graph,
-    fault: &Fault,
+    question: &Question<'_>,
     order: &[NodeId],
     places: &[usize],
     block: &Block,
     spread: &mut Spread,
 ) -> Option<usize>
-    requires pin { HasPin (net_of graph.now) fault.now }
-    requires order { IsOrdered (net_of graph.now) (map (λ n. n.0) order.now) }
+    requires order { IsOrdered (net_of question.now.graph.now) (map (λ n. n.0) order.now) }
     requires placed { ArePlaced (map (λ n. n.0) order.now) places.now spread.old }
-    requires block { IsSimulatedBlock (net_of graph.now) (map (λ n. n.0) order.now) (length places.now) block.now }
-    ensures first { IsFirstLane (net_of graph.now) fault.now block.now.words.items result }
+    requires block { IsSimulatedBlock (net_of question.now.graph.now) (map (λ n. n.0) order.now) (length places.now) block.now }
+    ensures first { IsFirstLane (net_of question.now.graph.now) question.now.fault block.now.words.items result }
     ensures placed { ArePlaced (map (λ n. n.0) order.now) places.now spread.new }
 {
     let found = found_by(
-        graph,
-        fault,
+        question,
         block.words.as_slice(),
         order,
         places,
@@ -79,23 +75,21 @@ fn first_in(
 
 // The first vector of the blocks that detects the fault.
 fn first_of(
-    graph: &Graph,
-    fault: &Fault,
+    question: &Question<'_>,
     order: &[NodeId],
     places: &[usize],
     blocks: &[Block],
     spread: &mut Spread,
 ) -> Option<usize>
-    requires pin { HasPin (net_of graph.now) fault.now }
-    requires order { IsOrdered (net_of graph.now) (map (λ n. n.0) order.now) }
+    requires order { IsOrdered (net_of question.now.graph.now) (map (λ n. n.0) order.now) }
     requires placed { ArePlaced (map (λ n. n.0) order.now) places.now spread.old }
-    requires blocks { (b : ℕ) (block : Block) → slice_get blocks.now b ≡ Some block → IsSimulatedBlock (net_of graph.now) (map (λ n. n.0) order.now) (length places.now) block }
+    requires blocks { (b : ℕ) (block : Block) → slice_get blocks.now b ≡ Some block → IsSimulatedBlock (net_of question.now.graph.now) (map (λ n. n.0) order.now) (length places.now) block }
     requires few { length blocks.now ≤ 67108864 }
-    ensures first { IsFirstVector (net_of graph.now) fault.now (words_of blocks.now) result }
+    ensures first { IsFirstVector (net_of question.now.graph.now) question.now.fault (words_of blocks.now) result }
     ensures placed { ArePlaced (map (λ n. n.0) order.now) places.now spread.new }
 {
     for number in 0..blocks.len() {
-        if let Some(lane) = first_in(graph, fault, order, places, &blocks[number], spread) {
+        if let Some(lane) = first_in(question, order, places, &blocks[number], spread) {
             return Some(64 * number + lane);
         }
     }
@@ -341,15 +335,13 @@ impl Blocks {
     }
 
     /// The first of all kept vectors that detects the fault: it looks no further than the block that has it.
-    pub fn detects_any(&mut self, graph: &Graph, fault: &Fault) -> Option<usize>
-        requires pin { HasPin (net_of graph.now) fault.now }
-        requires simulated { AreSimulated self.old (net_of graph.now) }
-        ensures first { IsFirstVector (net_of graph.now) fault.now self.old.words result }
+    pub fn detects_any(&mut self, question: &Question<'_>) -> Option<usize>
+        requires simulated { AreSimulated self.old (net_of question.now.graph.now) }
+        ensures first { IsFirstVector (net_of question.now.graph.now) question.now.fault self.old.words result }
         ensures same { self.new ≡ self.old }
     {
         first_of(
-            graph,
-            fault,
+            question,
             self.order.as_slice(),
             self.places.as_slice(),
             self.blocks.as_slice(),

@@ -8,6 +8,7 @@ pub mod Holds
 pub mod Filled
 pub mod Start
 pub mod Spots
+pub mod Questions
 pub mod Readers
 pub mod Search
 pub mod Totals

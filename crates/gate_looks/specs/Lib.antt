@@ -4,3 +4,4 @@ pub mod Reaching
 pub mod Chains
 pub mod Walks
 pub mod Sites
+pub mod Laws

@@ -4,6 +4,7 @@ ghost use Rattle.std.specs.Option.{option_map};
 ghost use Rattle.gate_net.specs.Net.{kind_of, drivers_of};
 ghost use Rattle.gate_graph.specs.Circuit.{net_of};
 ghost use Rattle.gate_looks.specs.Pins.{AreBelow};
+ghost use Rattle.rm_base.specs.Numbers.{number_bound};
 
 use gate_graph::{Graph, Inputs};
 use rm_base::NodeId;
@@ -13,7 +14,7 @@ pub fn gate_pins(graph: &Graph, node: NodeId) -> Inputs<'_>
     requires { kind_of (net_of graph.now) node.0 ≢ None }
     ensures drivers { result ≡ drivers_of (net_of graph.now) node.0 }
     ensures within { AreBelow (drivers_of (net_of graph.now) node.0) (length (net_of graph.now).nodes) }
-    ensures few { length (drivers_of (net_of graph.now) node.0) ≤ 4294967295 }
+    ensures few { length (drivers_of (net_of graph.now) node.0) ≤ number_bound }
     ensures bound { node.0 < length (net_of graph.now).nodes }
 {
     graph.well_formed();

@@ -2,6 +2,7 @@
 ghost use Rattle.std.specs.Prelude.{◌≡◌, ◌<◌, ◌≤◌, Bool, Option, length, map, ℕ};
 ghost use Rattle.gate_net.specs.Meaning.{kind_forward, value_forward, value_back, first_known};
 ghost use Rattle.gate_looks.specs.Pins.{with_stuck, Glances, AreBelow};
+ghost use Rattle.rm_base.specs.Numbers.{number_bound};
 
 use crate::pins::{Glance, Stuck, at_pin, is_value, junction_back, junction_forward, opposite};
 use gate_graph::Inputs;
@@ -25,7 +26,7 @@ pub trait Known {
 /// One look at a gate's pins.
 pub fn look<K: Known>(drivers: Inputs<'_>, stuck: Option<Stuck>, known: &K, value: bool) -> Glance
     requires within { AreBelow drivers (K.bound known.now) }
-    requires few { length drivers ≤ 4294967295 }
+    requires few { length drivers ≤ number_bound }
     ensures { Glances result value (with_stuck stuck (map (K.knows known.now) drivers.entry)) }
 {
     let mut any = false;
@@ -48,7 +49,7 @@ pub fn look<K: Known>(drivers: Inputs<'_>, stuck: Option<Stuck>, known: &K, valu
 
 fn first_pin<K: Known>(mut drivers: Inputs<'_>, stuck: Option<Stuck>, known: &K) -> Option<bool>
     requires within { AreBelow drivers (K.bound known.now) }
-    requires few { length drivers ≤ 4294967295 }
+    requires few { length drivers ≤ number_bound }
     ensures { result ≡ first_known (with_stuck stuck (map (K.knows known.now) drivers.entry)) }
 {
     match drivers.next() {
@@ -65,7 +66,7 @@ pub fn forward<K: Known>(
     known: &K,
 ) -> Option<bool>
     requires within { AreBelow drivers (K.bound known.now) }
-    requires few { length drivers ≤ 4294967295 }
+    requires few { length drivers ≤ number_bound }
     ensures { result ≡ value_forward kind (with_stuck stuck (map (K.knows known.now) drivers.entry)) }
 {
     match kind {
@@ -85,7 +86,7 @@ pub fn node_forward<K: Known>(
     known: &K,
 ) -> Option<bool>
     requires within { AreBelow drivers (K.bound known.now) }
-    requires few { length drivers ≤ 4294967295 }
+    requires few { length drivers ≤ number_bound }
     ensures { result ≡ kind_forward kind own (with_stuck stuck (map (K.knows known.now) drivers.entry)) }
 {
     match kind {
@@ -106,7 +107,7 @@ pub fn back<K: Known>(
     q: usize,
 ) -> Option<bool>
     requires within { AreBelow drivers (K.bound known.now) }
-    requires few { length drivers ≤ 4294967295 }
+    requires few { length drivers ≤ number_bound }
     ensures { result ≡ value_back kind value (with_stuck stuck (map (K.knows known.now) drivers.entry)) q }
 {
     match kind {

@@ -5,6 +5,7 @@ pub mod agenda;
 pub mod chains;
 pub mod drivers;
 pub mod glances;
+pub mod laws;
 pub mod pins;
 mod reaching;
 pub mod site;

@@ -1,6 +1,6 @@
 -- Coming to rest, and beginning from there.
-use Rattle.std.proofs.Common.{Bool, List, None, Option, Some, [], ap, arith, drop, false, get_or, inl, inr, length, length-append, not, refl, replicate, subst, suc, sym, true, zero, ℕ, ◌&&◌, ◌++◌, ◌+◌, ◌<◌, ◌∙◌, ◌∷◌, ◌≡◌, ◌≢◌, ◌≤◌, ◌↔◌}
-use Rattle.std.proofs.lemmas.Bool.{cases_lt, eq-eqb, eqb-true, ne_eqb}
+use Rattle.std.proofs.Common.{Bool, List, None, Option, Some, [], ap, arith, false, inl, inr, length, not, refl, replicate, subst, suc, sym, true, zero, ℕ, ◌&&◌, ◌++◌, ◌+◌, ◌<◌, ◌∙◌, ◌∷◌, ◌≡◌, ◌≤◌, ◌↔◌}
+use Rattle.std.proofs.lemmas.Bool.{cases_lt, eq-eqb, eqb-true}
 use Rattle.std.proofs.lemmas.Bool.Decides.{eqb_tells}
 use Rattle.std.proofs.lemmas.List.{length-set}
 use Rattle.std.proofs.lemmas.Option.{slice_get_within}
@@ -24,7 +24,7 @@ use Rattle.refutation.specs.Closing.{IsWithin, LinesLead}
 use Rattle.refutation.specs.FactSets.{Becomes, held_by}
 use Rattle.refutation.specs.Facts.{Held, none_held, same_fact, with_fact, without_fact}
 use Rattle.refutation.specs.Reaching.{MarksReached}
-use Rattle.refutation.proofs.Public.{kind_is, kind_live, last_of, same_fact_refl, same_fact_true, seen_left, seen_stays, with_cases, with_more, with_there}
+use Rattle.refutation.proofs.Public.{kind_is, kind_live, same_fact_refl, same_fact_true, seen_left, seen_stays, with_cases, with_more, with_there}
 use Rattle.refutation.specs.declared.held.NodeFacts.{NodeFacts}
 use Rattle.refutation.specs.declared.reasoning.Fact.{Fact}
 use Rattle.refutation.specs.declared.reasoning.Fact.TheVariants.{Equal}

@@ -1,22 +1,19 @@
 -- Going over the node numbers for what the faulty gate doesn't reach.
-use Rattle.std.proofs.Common.{Bool, List, None, Option, Some, [], ap, append-nil, append_assoc, arith, false, inl, inr, length, map, not, refl, subst, suc, sym, true, zero, ℕ, ◌++◌, ◌+◌, ◌<◌, ◌∙◌, ◌∷◌, ◌≡◌, ◌≢◌, ◌≤◌, ◌↔◌}
+use Rattle.std.proofs.Common.{Bool, List, None, Option, Some, [], ap, append-nil, append_assoc, arith, false, inl, inr, length, map, not, refl, subst, suc, sym, true, zero, ℕ, ◌++◌, ◌+◌, ◌<◌, ◌∙◌, ◌∷◌, ◌≡◌, ◌≤◌, ◌↔◌}
 use Rattle.std.proofs.lemmas.Bool.{cases_lt}
-use Rattle.std.proofs.lemmas.Bool.Decides.{eqb_tells}
 use Rattle.std.proofs.lemmas.List.{length-set}
 use Rattle.std.specs.Option.{is_some, option_map}
 use Rattle.std.specs.Prelude.{IsTrue, slice_get, slice_set, ◌⊎◌}
-use mathlib.Core.Path.{fun_ext}
 use Rattle.gate_graph.proofs.Public.{seen_kept, seen_new}
 use Rattle.gate_graph.specs.Search.{IsSeen}
-use Rattle.gate_net.specs.Net.{IsGateKind, IsLive, IsWellFormed, Net, drivers_of, kind_of}
+use Rattle.gate_net.specs.Net.{IsGateKind, IsWellFormed, Net, drivers_of, kind_of}
 use Rattle.gate_net.specs.Values.{HasPin}
 use Rattle.gate_net.specs.declared.Kind.{Kind}
 use Rattle.gate_net.specs.declared.Kind.TheVariants.{One, Zero}
 use Rattle.implications.proofs.Leads.{leads_append}
 use Rattle.implications.proofs.Outside.{outside_same, outside_settled}
 use Rattle.implications.specs.Beginning.{node_of}
-use Rattle.implications.specs.Outside.{AppendsOutside, AreOutside, BeginsBelow, HoldsOutside, IsPinless, LeadToOutside, WritesBelow, line_item}
-use Rattle.implications.specs.Settled.{IsSettled}
+use Rattle.implications.specs.Outside.{AppendsOutside, AreOutside, BeginsBelow, HoldsOutside, IsPinless, WritesBelow, line_item}
 use Rattle.implications.specs.Working.{IsPending}
 use Rattle.refutation.specs.Answers.{IsAnswer}
 use Rattle.refutation.specs.Closing.{LinesLead}

@@ -4,7 +4,6 @@ use Rattle.std.specs.Prelude.{Err, IfOk, IsTrue, Ok, OnOk, Result, nat_eq, â—Œâ†
 use Rattle.std.proofs.Math.ListN.{drop_of_length-le}
 use Rattle.std.proofs.Math.Seq.{take-append_seam}
 use Rattle.std.proofs.lemmas.Bool.{cases_lt, eq-eqb}
-use mathlib.Core.Path.{fun_ext}
 use Rattle.gate_graph.specs.Search.{IsSeen}
 use Rattle.gate_net.specs.Net.{Net}
 use Rattle.implications.proofs.Begins.{closed_all, closed_first, closed_settled, first_more}

@@ -10,7 +10,7 @@ use Rattle.gate_net.specs.Net.{IsGate, IsGateKind, IsKind, IsWellFormed, Net, No
 use Rattle.gate_net.specs.Values.{IsJunction, controlling, faulty_reads}
 use Rattle.gate_net.specs.declared.Kind.{Kind}
 use Rattle.gate_net.specs.declared.Kind.TheVariants.{And, Not, One, Or, Source, Zero}
-use Rattle.implications.proofs.Places.{driver_live}
+use Rattle.refutation.proofs.Public.{driver_live, faulty_pins, junction_kind, known_held, one_of_true, pin_at, some_is}
 use Rattle.implications.specs.Pulls.{AreDoneEqual, AreDoneFaulty, AreDoneGood, AreDoneSide, IsEqualPull, IsPlaced, IsPull, IsPulled, SomePin}
 use Rattle.implications.specs.Settled.{IsDone, IsFresh}
 use Rattle.implications.specs.Sides.{IsOpenPin, IsOpenSide, IsSide}
@@ -21,7 +21,6 @@ use Rattle.implications.specs.declared.pulls.Pull.TheVariants.{Gate, Pin}
 use Rattle.refutation.specs.Closing.{IsClashFree}
 use Rattle.refutation.specs.FactSets.{held_by}
 use Rattle.refutation.specs.Facts.{Held, known_equal, known_faulty, known_good, one_of}
-use Rattle.refutation.proofs.Public.{faulty_pins, junction_kind, known_held, one_of_true, pin_at, some_is}
 use Rattle.refutation.specs.Lines.{IsStuckPin}
 use Rattle.refutation.specs.Pins.{pin_value, pins_of, stuck_of, with_stuck}
 use Rattle.refutation.specs.declared.held.NodeFacts.{NodeFacts}

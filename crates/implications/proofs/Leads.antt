@@ -1,5 +1,5 @@
 -- Lines that lead on from where others lead.
-use Rattle.std.proofs.Common.{List, [], ap, map, refl, sym, ◌++◌, ◌∷◌, ◌≡◌}
+use Rattle.std.proofs.Common.{List, [], ap, map, refl, ◌++◌, ◌∷◌, ◌≡◌}
 use Rattle.gate_net.specs.Net.{Net}
 use Rattle.implications.specs.Outcomes.{clash_items}
 use Rattle.implications.specs.Outside.{line_item}

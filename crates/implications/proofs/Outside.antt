@@ -1,33 +1,28 @@
 -- The nodes that the faulty gate doesn't reach, and what their being equal settles.
-use Rattle.std.proofs.Common.{Bool, List, None, Option, Some, [], ap, append-nil, append_assoc, arith, false, inl, inr, length, map, refl, subst, suc, sym, true, zero, ℕ, ◌++◌, ◌+◌, ◌<◌, ◌∙◌, ◌∷◌, ◌≡◌, ◌≢◌, ◌≤◌, ◌↔◌}
-use Rattle.std.proofs.lemmas.Bool.{cases_lt, ne_eqb}
-use Rattle.std.proofs.lemmas.Bool.Decides.{eqb_tells}
+use Rattle.std.proofs.Common.{Bool, List, None, Option, Some, [], false, inl, inr, map, refl, subst, sym, true, ℕ, ◌∷◌, ◌≡◌, ◌≢◌}
+use Rattle.std.proofs.lemmas.Bool.{ne_eqb}
 use Rattle.std.specs.List.{list_all, list_any}
-use Rattle.std.specs.Prelude.{IsTrue, if◌then◌else◌, nat_eq, slice_get, slice_set, ◌⊎◌}
+use Rattle.std.specs.Prelude.{IsTrue, if◌then◌else◌, ◌⊎◌}
 use mathlib.Core.Path.{fun_ext}
-use Rattle.gate_graph.specs.Search.{IsSeen}
 use Rattle.gate_net.specs.Forward.{is_known, value_forward}
-use Rattle.gate_net.specs.Net.{IsGate, IsGateKind, IsKind, IsLive, IsWellFormed, Net, Reads, drivers_of}
+use Rattle.gate_net.specs.Net.{IsGateKind, IsKind, IsWellFormed, Net, drivers_of}
 use Rattle.gate_net.specs.Paths.{Reaches, on, pin}
 use Rattle.gate_net.specs.Values.{faulty_reads}
 use Rattle.gate_net.specs.declared.Kind.{Kind}
 use Rattle.gate_net.specs.declared.Kind.TheVariants.{And, Not, One, Or, Source, Zero}
-use Rattle.implications.proofs.Places.{driver_live}
+use Rattle.refutation.proofs.Public.{all_known, driver_live, one_of_true}
 use Rattle.implications.specs.Beginning.{AreDoneOutside, node_of}
 use Rattle.implications.specs.Outside.{AreOutside, IsPinless, OutsideIsSettled}
-use Rattle.implications.specs.Settled.{IsSettled, place_of}
+use Rattle.implications.specs.Settled.{IsSettled}
 use Rattle.refutation.specs.FactSets.{held_by}
-use Rattle.refutation.specs.Facts.{AreOpposed, Held, known_equal, known_faulty, known_good, none_held}
+use Rattle.refutation.specs.Facts.{Held, known_equal, known_faulty, known_good, none_held}
 use Rattle.refutation.specs.Closing.{IsClashFree}
-use Rattle.refutation.proofs.Public.{all_known, one_of_true}
 use Rattle.refutation.specs.Lines.{Concludes}
 use Rattle.refutation.specs.declared.held.NodeFacts.{NodeFacts}
 use Rattle.refutation.specs.declared.reasoning.Fact.{Fact}
 use Rattle.refutation.specs.declared.reasoning.Fact.TheVariants.{Differs, Equal, Faulty, Good}
-use Rattle.refutation.specs.declared.reasoning.Line.{Line}
 use Rattle.refutation.specs.declared.reasoning.Line.TheVariants.{Act, Chain, Compare, Constant, DiffersBack, EqualForward, FaultyBack, FaultyForward, GoodBack, GoodForward, NotDiffers, NotEqual, Out, Side, Site, ToFaulty, ToGood}
 use Rattle.rm_base.specs.declared.numbers.Fault.{Fault}
-use Rattle.rm_base.specs.declared.numbers.NodeId.{NodeId}
 
 -- ONE SET
 pub same_bools : (b c : Bool) → (b ≡ true → c ≡ true) → (c ≡ true → b ≡ true) → b ≡ c

@@ -1,48 +1,14 @@
 -- The node of a fact that a line gives, and the node of a line's place, are live.
-use Rattle.std.proofs.Common.{None, Option, Some, length, refl, ℕ, ◌<◌, ◌≡◌, ◌≢◌}
-use Rattle.gate_net.specs.Net.{IsLive, IsWellFormed, Net, Node, Reads, node_at}
-use Rattle.gate_net.specs.Values.{HasPin}
+use Rattle.std.proofs.Common.{Some, ℕ, ◌≡◌}
+use Rattle.gate_net.specs.Net.{IsLive, Net}
 use Rattle.implications.specs.Settled.{place_of}
 use Rattle.refutation.specs.Facts.{Held}
-use Rattle.refutation.proofs.Public.{chain_live, gate_live, kind_live, reader_live}
+use Rattle.refutation.proofs.Public.{reader_live}
 use Rattle.refutation.specs.Lines.{Concludes}
 use Rattle.refutation.specs.declared.reasoning.Fact.{Fact}
 use Rattle.refutation.specs.declared.reasoning.Line.{Line}
 use Rattle.refutation.specs.declared.reasoning.Line.TheVariants.{Act, Chain, Compare, Constant, DiffersBack, EqualForward, FaultyBack, FaultyForward, GoodBack, GoodForward, NotDiffers, NotEqual, Out, Side, Site, ToFaulty, ToGood}
 use Rattle.rm_base.specs.declared.numbers.Fault.{Fault}
-
-pub node_live : (net : Net) (x : ℕ) → node_at net x ≢ None → IsLive net x
-node_live net x live = at (node_at net x) refl
-  where
-    at : (o : Option Node) → node_at net x ≡ o → IsLive net x
-    at None is = absurd (live is)
-    at (Some n) is = (n.kind, (n.drivers, is))
-
-pub driver_live : (net : Net) → IsWellFormed net → (y p x : ℕ) → Reads net y p x → IsLive net x
-driver_live net formed y p x reads = node_live net x (formed.drivers_live y p x reads)
-
-pub reader_below : (net : Net) (y p x : ℕ) → Reads net y p x → y < length net.nodes
-reader_below net y p x reads = kind_live net y (reader_live net y p x reads)
-
--- a line's fact is on a live node
-pub concludes_live : (net : Net) (fault : Fault) (held : Held) → IsWellFormed net → HasPin net fault → (l : Line) (x : ℕ) (fact : Fact) → Concludes net fault held l x fact → IsLive net x
-concludes_live net fault held formed stuck Act x fact h = driver_live net formed fault.gate.0 fault.position x h.0
-concludes_live net fault held formed stuck Site x fact h = rw h.0 (gate_live net fault stuck)
-concludes_live net fault held formed stuck (Chain y) x fact h = rw h.1 (chain_live (gate_live net fault stuck) h.0.1)
-concludes_live net fault held formed stuck (Out y) x fact h = h.0
-concludes_live net fault held formed stuck (GoodForward y) x fact h = (h.0, h.2)
-concludes_live net fault held formed stuck (GoodBack y q) x fact h = driver_live net formed y.0 q x h.6
-concludes_live net fault held formed stuck (Compare y) x fact h = h.0
-concludes_live net fault held formed stuck (EqualForward y) x fact h = (h.0.0, h.0.1.0)
-concludes_live net fault held formed stuck (DiffersBack y q) x fact h = driver_live net formed y.0 q x h.4
-concludes_live net fault held formed stuck (Side y q) x fact h = driver_live net formed y.0 q x h.7
-concludes_live net fault held formed stuck (Constant y) x fact h = (_, h.1)
-concludes_live net fault held formed stuck (FaultyForward y) x fact h = (h.0, h.2)
-concludes_live net fault held formed stuck (FaultyBack y q) x fact h = driver_live net formed y.0 q x h.7
-concludes_live net fault held formed stuck (ToFaulty y) x fact h = h.0
-concludes_live net fault held formed stuck (ToGood y) x fact h = h.0
-concludes_live net fault held formed stuck (NotDiffers y) x fact h = (_, h.1)
-concludes_live net fault held formed stuck (NotEqual y) x fact h = driver_live net formed y.0 0 x h.3
 
 -- no line has its place at a dead node
 pub place_live : (net : Net) (fault : Fault) (held : Held) (l : Line) (x y : ℕ) (fact : Fact) → place_of l ≡ Some y → Concludes net fault held l x fact → IsLive net y

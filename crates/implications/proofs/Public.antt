@@ -4,5 +4,3 @@
 pub use Rattle.implications.proofs.Trails.{held_past, trail_tells}
 -- Coming to rest.
 pub use Rattle.implications.proofs.Bases.{none_seen_in, rest_comes}
--- The node of a fact that a line gives, and the node of a line's place, are live.
-pub use Rattle.implications.proofs.Places.{concludes_live, driver_live}

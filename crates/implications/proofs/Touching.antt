@@ -1,16 +1,15 @@
 -- A fact that is added, with its node and its readers put on the agenda.
-use Rattle.std.proofs.Common.{Bool, List, None, Option, Some, inl, inr, subst, sym, ℕ, ◌≡◌}
+use Rattle.std.proofs.Common.{Bool, List, inl, inr, subst, sym, ℕ, ◌≡◌}
 use Rattle.gate_graph.specs.Search.{IsSeen}
 use Rattle.gate_net.specs.Net.{IsWellFormed, Net}
 use Rattle.gate_net.specs.Values.{HasPin}
-use Rattle.implications.proofs.Places.{concludes_live}
+use Rattle.refutation.proofs.Public.{concludes_live}
 use Rattle.implications.proofs.Steps.{pending_more}
 use Rattle.implications.specs.Beginning.{StaysPending}
 use Rattle.implications.specs.Settled.{IsFresh}
 use Rattle.implications.specs.Working.{Touches}
 use Rattle.refutation.specs.FactSets.{Becomes, held_by}
 use Rattle.refutation.specs.Facts.{with_fact}
-use Rattle.refutation.proofs.Public.{kind_live}
 use Rattle.refutation.specs.Lines.{Concludes}
 use Rattle.refutation.specs.declared.held.NodeFacts.{NodeFacts}
 use Rattle.refutation.specs.declared.reasoning.Fact.{Fact}

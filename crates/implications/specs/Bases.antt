@@ -1,5 +1,5 @@
 -- What closing in place begins with, and comes back to.
-use Rattle.std.specs.Prelude.{Bool, IsTrue, List, None, Option, Some, [], false, length, replicate, slice_get, ℕ, ◌<◌, ◌≡◌, ◌≤◌, ◌↔◌, ◌⊎◌}
+use Rattle.std.specs.Prelude.{Bool, IsTrue, List, None, Option, Some, false, length, replicate, slice_get, ℕ, ◌<◌, ◌≡◌, ◌≤◌, ◌↔◌, ◌⊎◌}
 use Rattle.gate_graph.specs.Search.{IsSeen}
 use Rattle.gate_net.specs.Net.{IsLive, Net}
 use Rattle.implications.specs.Outcomes.{IsClashAt, IsOpen}

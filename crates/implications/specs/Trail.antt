@@ -1,5 +1,5 @@
 -- Facts that were added one after another, and taking them back.
-use Rattle.std.specs.Prelude.{IsTrue, List, Some, [], drop, false, length, slice_get, ℕ, ◌≡◌, ◌≤◌, ◌++◌, ◌∷◌, ◌⊎◌}
+use Rattle.std.specs.Prelude.{IsTrue, List, [], drop, false, length, ℕ, ◌≡◌, ◌≤◌, ◌++◌, ◌∷◌, ◌⊎◌}
 use Rattle.refutation.specs.FactLists.{IsAmong}
 use Rattle.refutation.specs.FactSets.{held_by}
 use Rattle.refutation.specs.Facts.{Held, without_fact}

@@ -2,20 +2,19 @@
 ghost use Rattle.std.specs.Prelude.{◌≡◌, ◌+◌, ◌<◌, ◌≤◌, ◌↔◌, ℕ, List, IfOk, IsTrue, OnOk, length};
 ghost use Rattle.gate_graph.specs.Circuit.{net_of};
 ghost use Rattle.gate_graph.specs.Search.{IsSeen};
-ghost use Rattle.gate_net.specs.Values.{HasPin};
 ghost use Rattle.refutation.specs.FactSets.{held_by};
 ghost use Rattle.refutation.specs.Sites.{IsSiteOf};
 ghost use Rattle.implications.specs.Outside.{AppendsOutside, AreOutside, BeginsBelow, HoldsOutside, IsPinless, WritesBelow};
 ghost use Rattle.refutation.specs.declared.items.Item.{Item};
 ghost use Rattle.implications.specs.Working.{IsPending};
 
-use gate_graph::Graph;
+use gate_graph::{Graph, Question};
 use refutation::agenda::Agenda;
 use refutation::pins::is_gate;
 use refutation::place_lines::line_out_marked;
 use refutation::site::Site;
 use refutation::{FactSet, Item, Line, TreeBuilder};
-use rm_base::{Fault, NoMemory, NodeId};
+use rm_base::{NoMemory, NodeId};
 use std::alloc::Global;
 
 // Whether the node is a gate without pins.
@@ -44,12 +43,12 @@ fn list_pinless(graph: &Graph, agenda: &mut Agenda, node: NodeId)
 }
 
 // Holds that the node is equal, where the faulty gate doesn't reach it.
-fn hold_outside(graph: &Graph, fault: &Fault, site: &Site, facts: &mut FactSet, node: NodeId)
-    requires site { IsSiteOf (net_of graph.now) fault.now.gate.0 site.now }
+fn hold_outside(question: &Question<'_>, site: &Site, facts: &mut FactSet, node: NodeId)
+    requires site { IsSiteOf (net_of question.now.graph.now) question.now.fault.gate.0 site.now }
     requires node { node.0 < length facts.old }
-    ensures { HoldsOutside (net_of graph.now) fault.now node.0 facts.old facts.new }
+    ensures { HoldsOutside (net_of question.now.graph.now) question.now.fault node.0 facts.old facts.new }
 {
-    let Some((outside, fact)) = line_out_marked(graph, fault, node, site) else {
+    let Some((outside, fact)) = line_out_marked(question, node, site) else {
         return;
     };
     facts.insert(outside, fact);
@@ -58,21 +57,20 @@ fn hold_outside(graph: &Graph, fault: &Fault, site: &Site, facts: &mut FactSet, 
 // Holds that of all nodes, and puts the gates without pins on the agenda.
 fn hold_all_outside(
     alloc: Global,
-    graph: &Graph,
-    fault: &Fault,
+    question: &Question<'_>,
     site: &Site,
     agenda: &mut Agenda,
 ) -> Result<FactSet, NoMemory>
-    requires site { IsSiteOf (net_of graph.now) fault.now.gate.0 site.now }
-    requires agenda { length (net_of graph.now).nodes ≤ length agenda.old }
-    ensures begins { IfOk result (λ facts. BeginsBelow (net_of graph.now) fault.now (length (net_of graph.now).nodes) facts agenda.new) }
+    requires site { IsSiteOf (net_of question.now.graph.now) question.now.fault.gate.0 site.now }
+    requires agenda { length (net_of question.now.graph.now).nodes ≤ length agenda.old }
+    ensures begins { IfOk result (λ facts. BeginsBelow (net_of question.now.graph.now) question.now.fault (length (net_of question.now.graph.now).nodes) facts agenda.new) }
     ensures size { length agenda.new ≡ length agenda.old }
 {
-    let mut facts = FactSet::new(alloc, graph)?;
-    for number in 0..graph.node_bound() {
+    let mut facts = FactSet::new(alloc, question.graph)?;
+    for number in 0..question.graph.node_bound() {
         let node = NodeId(number);
-        hold_outside(graph, fault, site, &mut facts, node);
-        list_pinless(graph, agenda, node);
+        hold_outside(question, site, &mut facts, node);
+        list_pinless(question.graph, agenda, node);
     }
     Ok(facts)
 }
@@ -80,39 +78,36 @@ fn hold_all_outside(
 // The facts with which a close begins, and on the agenda each node that isn't settled by them.
 pub(crate) fn begin(
     alloc: Global,
-    graph: &Graph,
-    fault: &Fault,
+    question: &Question<'_>,
     site: &Site,
     agenda: &mut Agenda,
 ) -> Result<FactSet, NoMemory>
-    requires pin { HasPin (net_of graph.now) fault.now }
-    requires site { IsSiteOf (net_of graph.now) fault.now.gate.0 site.now }
-    requires agenda { length (net_of graph.now).nodes ≤ length agenda.old }
-    ensures outside { IfOk result (λ facts. AreOutside (net_of graph.now) fault.now (held_by facts)) }
-    ensures pending { IfOk result (λ facts. IsPending (net_of graph.now) fault.now facts agenda.new) }
-    ensures facts { IfOk result (λ facts. length facts ≡ length (net_of graph.now).nodes) }
+    requires site { IsSiteOf (net_of question.now.graph.now) question.now.fault.gate.0 site.now }
+    requires agenda { length (net_of question.now.graph.now).nodes ≤ length agenda.old }
+    ensures outside { IfOk result (λ facts. AreOutside (net_of question.now.graph.now) question.now.fault (held_by facts)) }
+    ensures pending { IfOk result (λ facts. IsPending (net_of question.now.graph.now) question.now.fault facts agenda.new) }
+    ensures facts { IfOk result (λ facts. length facts ≡ length (net_of question.now.graph.now).nodes) }
     ensures size { length agenda.new ≡ length agenda.old }
 {
-    graph.well_formed();
-    let facts = hold_all_outside(alloc, graph, fault, site, agenda)?;
+    question.graph.well_formed();
+    let facts = hold_all_outside(alloc, question, site, agenda)?;
     agenda.add(NodeId(0));
     agenda.add(NodeId(1));
-    agenda.add(fault.gate);
+    agenda.add(question.fault.gate);
     Ok(facts)
 }
 
 // Appends the line of that node, where the faulty gate doesn't reach it.
 fn write_at(
-    graph: &Graph,
-    fault: &Fault,
+    question: &Question<'_>,
     site: &Site,
     tree: &mut TreeBuilder,
     node: NodeId,
 ) -> Result<(), NoMemory>
-    requires site { IsSiteOf (net_of graph.now) fault.now.gate.0 site.now }
-    ensures { OnOk result ((before : List Item) → WritesBelow (net_of graph.now) fault.now node.0 before tree.old → WritesBelow (net_of graph.now) fault.now (node.0 + 1) before tree.new) }
+    requires site { IsSiteOf (net_of question.now.graph.now) question.now.fault.gate.0 site.now }
+    ensures { OnOk result ((before : List Item) → WritesBelow (net_of question.now.graph.now) question.now.fault node.0 before tree.old → WritesBelow (net_of question.now.graph.now) question.now.fault (node.0 + 1) before tree.new) }
 {
-    let Some((_outside, _fact)) = line_out_marked(graph, fault, node, site) else {
+    let Some((_outside, _fact)) = line_out_marked(question, node, site) else {
         return Ok(());
     };
     tree.push(Item::Line(Line::Out { node }))
@@ -120,16 +115,15 @@ fn write_at(
 
 // Appends the lines to the facts with which a close begins.
 pub(crate) fn write_outside(
-    graph: &Graph,
-    fault: &Fault,
+    question: &Question<'_>,
     site: &Site,
     tree: &mut TreeBuilder,
 ) -> Result<(), NoMemory>
-    requires site { IsSiteOf (net_of graph.now) fault.now.gate.0 site.now }
-    ensures { OnOk result (AppendsOutside (net_of graph.now) fault.now tree.old tree.new) }
+    requires site { IsSiteOf (net_of question.now.graph.now) question.now.fault.gate.0 site.now }
+    ensures { OnOk result (AppendsOutside (net_of question.now.graph.now) question.now.fault tree.old tree.new) }
 {
-    for number in 0..graph.node_bound() {
-        write_at(graph, fault, site, tree, NodeId(number))?;
+    for number in 0..question.graph.node_bound() {
+        write_at(question, site, tree, NodeId(number))?;
     }
     Ok(())
 }

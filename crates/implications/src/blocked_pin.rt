@@ -5,9 +5,10 @@ ghost use Rattle.gate_net.specs.Net.{Reads};
 ghost use Rattle.gate_net.specs.Values.{IsJunction};
 ghost use Rattle.implications.specs.Settled.{IsReady};
 ghost use Rattle.refutation.specs.Pins.{AreBelow};
+ghost use Rattle.rm_base.specs.Numbers.{number_bound};
 
 use crate::tallies::Tally;
-use gate_graph::{Graph, Inputs};
+use gate_graph::{Inputs, Question};
 use refutation::FactSet;
 use refutation::following::gate_pins;
 use refutation::pins::{Aspect, is_stuck, is_value, known};
@@ -32,7 +33,7 @@ fn first_blocking(
     value: bool,
 ) -> Option<(u32, NodeId)>
     requires within { AreBelow drivers (length facts.now) }
-    requires few { length drivers ≤ 4294967295 }
+    requires few { length drivers ≤ number_bound }
     ensures { IfSome result (λ p. slice_get drivers.entry p.0 ≡ Some p.1.0) }
 {
     let mut position = 0u32;
@@ -48,16 +49,15 @@ fn first_blocking(
 /// The first pin but the stuck one whose driver is equal and has the controlling value, where the gate differs: at such
 /// a pin a line gives the opposite value.
 pub(crate) fn blocked_pin(
-    graph: &Graph,
-    fault: &Fault,
+    question: &Question<'_>,
     facts: &FactSet,
     tally: &Tally,
     node: NodeId,
     c: bool,
 ) -> Option<(u32, NodeId)>
-    requires ready { IsReady (net_of graph.now) fault.now facts.now }
-    requires kind { IsJunction (net_of graph.now) node.0 c }
-    ensures { IfSome result (λ p. Reads (net_of graph.now) node.0 p.0 p.1.0) }
+    requires ready { IsReady (net_of question.now.graph.now) question.now.fault facts.now }
+    requires kind { IsJunction (net_of question.now.graph.now) node.0 c }
+    ensures { IfSome result (λ p. Reads (net_of question.now.graph.now) node.0 p.0 p.1.0) }
 {
     if !is_value(known(facts, Aspect::OfEqual, node), false) {
         return None;
@@ -66,5 +66,11 @@ pub(crate) fn blocked_pin(
     if passing == 0 {
         return None;
     }
-    first_blocking(gate_pins(graph, node), fault, facts, node, c)
+    first_blocking(
+        gate_pins(question.graph, node),
+        &question.fault,
+        facts,
+        node,
+        c,
+    )
 }

@@ -1,7 +1,6 @@
 // Closing a set of facts.
 ghost use Rattle.std.specs.Prelude.{◌≡◌, ◌≤◌, ◌↔◌, ◌++◌, [], None, IfOk, OnOk, OnErr, length, replicate, false};
 ghost use Rattle.gate_net.specs.Net.{IsLive};
-ghost use Rattle.gate_net.specs.Values.{HasPin};
 ghost use Rattle.gate_graph.specs.Circuit.{net_of};
 ghost use Rattle.refutation.specs.Closing.{Clashes, IsClashFree};
 ghost use Rattle.refutation.specs.Facts.{known_good, with_fact};
@@ -22,72 +21,70 @@ use crate::outcome::Closed;
 use crate::settling::work_off;
 use crate::state::Engine;
 use crate::tallies::Tallies;
-use gate_graph::Graph;
+use gate_graph::Question;
 use refutation::agenda::Agenda;
 use refutation::site::Site;
 use refutation::{Fact, FactSet, Item, Line, Tree, TreeBuilder};
-use rm_base::{Fault, NoMemory, NodeId};
+use rm_base::{NoMemory, NodeId};
 use std::alloc::Global;
 
 /// Adds all to which lines lead, or up to a clash, whose node is given; what isn't reached is held already, and each node
 /// is on the agenda or settled. The stuck pin's driver comes last here, and so its readers first on the agenda.
 pub(crate) fn add_all_lines(
-    graph: &Graph,
-    fault: &Fault,
+    question: &Question<'_>,
     facts: &mut FactSet,
     log: &mut Log,
     agenda: &mut Agenda,
     tallies: &mut Tallies,
 ) -> Result<Option<NodeId>, NoMemory>
-    requires ready { IsReady (net_of graph.now) fault.now facts.old }
+    requires ready { IsReady (net_of question.now.graph.now) question.now.fault facts.old }
     requires free { IsClashFree (held_by facts.old) }
-    requires outside { AreDoneOutside (net_of graph.now) fault.now facts.old }
-    requires pending { IsPending (net_of graph.now) fault.now facts.old agenda.old }
-    requires agenda { length (net_of graph.now).nodes ≤ length agenda.old }
-    requires room { length (net_of graph.now).nodes ≤ length tallies.old.counted }
-    requires tallied { AreTallied (net_of graph.now) (held_by facts.old) fault.now.position tallies.old }
-    ensures works { OnOk result (Works (net_of graph.now) fault.now facts.old log.old.lines.items facts.new log.new.lines.items) }
+    requires outside { AreDoneOutside (net_of question.now.graph.now) question.now.fault facts.old }
+    requires pending { IsPending (net_of question.now.graph.now) question.now.fault facts.old agenda.old }
+    requires agenda { length (net_of question.now.graph.now).nodes ≤ length agenda.old }
+    requires room { length (net_of question.now.graph.now).nodes ≤ length tallies.old.counted }
+    requires tallied { AreTallied (net_of question.now.graph.now) (held_by facts.old) question.now.fault.position tallies.old }
+    ensures works { OnOk result (Works (net_of question.now.graph.now) question.now.fault facts.old log.old.lines.items facts.new log.new.lines.items) }
     ensures keeps { Keeps facts.old log.old.trail.items facts.new log.new.trail.items }
-    ensures closes { IfOk result (Closes (net_of graph.now) fault.now facts.new) }
+    ensures closes { IfOk result (Closes (net_of question.now.graph.now) question.now.fault facts.new) }
     ensures agenda { length agenda.new ≡ length agenda.old }
     ensures room { length tallies.new.counted ≡ length tallies.old.counted }
 {
-    if let Some(clash) = give_on_chain(graph, fault, facts, log, agenda, tallies)? {
+    if let Some(clash) = give_on_chain(question, facts, log, agenda, tallies)? {
         return Ok(Some(clash));
     }
-    if let Some(clash) = give_at_fault(graph, fault, facts, log, agenda, tallies)? {
+    if let Some(clash) = give_at_fault(question, facts, log, agenda, tallies)? {
         return Ok(Some(clash));
     }
-    work_off(graph, fault, facts, log, agenda, tallies)
+    work_off(question, facts, log, agenda, tallies)
 }
 
 // The same from any facts, over an agenda on which all nodes are put.
 fn grow_all_lines(
-    graph: &Graph,
-    fault: &Fault,
+    question: &Question<'_>,
     site: &Site,
     facts: &mut FactSet,
     log: &mut Log,
     agenda: &mut Agenda,
     tallies: &mut Tallies,
 ) -> Result<Option<NodeId>, NoMemory>
-    requires ready { IsReady (net_of graph.now) fault.now facts.old }
+    requires ready { IsReady (net_of question.now.graph.now) question.now.fault facts.old }
     requires free { IsClashFree (held_by facts.old) }
-    requires site { IsSiteOf (net_of graph.now) fault.now.gate.0 site.now }
-    requires agenda { length (net_of graph.now).nodes ≤ length agenda.old }
-    requires room { length (net_of graph.now).nodes ≤ length tallies.old.counted }
+    requires site { IsSiteOf (net_of question.now.graph.now) question.now.fault.gate.0 site.now }
+    requires agenda { length (net_of question.now.graph.now).nodes ≤ length agenda.old }
+    requires room { length (net_of question.now.graph.now).nodes ≤ length tallies.old.counted }
     requires uncounted { tallies.old.counted ≡ replicate (length tallies.old.counted) false }
-    ensures works { OnOk result (Works (net_of graph.now) fault.now facts.old log.old.lines.items facts.new log.new.lines.items) }
+    ensures works { OnOk result (Works (net_of question.now.graph.now) question.now.fault facts.old log.old.lines.items facts.new log.new.lines.items) }
     ensures keeps { Keeps facts.old log.old.trail.items facts.new log.new.trail.items }
-    ensures closes { IfOk result (Closes (net_of graph.now) fault.now facts.new) }
+    ensures closes { IfOk result (Closes (net_of question.now.graph.now) question.now.fault facts.new) }
     ensures agenda { length agenda.new ≡ length agenda.old }
     ensures room { length tallies.new.counted ≡ length tallies.old.counted }
 {
-    if let Some(clash) = give_outside(graph, fault, site, facts, log, agenda, tallies)? {
+    if let Some(clash) = give_outside(question, site, facts, log, agenda, tallies)? {
         return Ok(Some(clash));
     }
-    agenda.add_all(graph.node_bound());
-    add_all_lines(graph, fault, facts, log, agenda, tallies)
+    agenda.add_all(question.graph.node_bound());
+    add_all_lines(question, facts, log, agenda, tallies)
 }
 
 // The tree that was begun, with the lines, ended by a clash.
@@ -105,30 +102,28 @@ fn end_tree(tree: TreeBuilder, lines: &[Line], node: NodeId) -> Result<Tree, NoM
 // Closes no facts, and logs how, but for what the faulty gate doesn't reach.
 fn close_none(
     alloc: Global,
-    graph: &Graph,
-    fault: &Fault,
+    question: &Question<'_>,
     site: &Site,
     log: &mut Log,
     agenda: &mut Agenda,
     tallies: &mut Tallies,
 ) -> Result<Closed, NoMemory>
-    requires pin { HasPin (net_of graph.now) fault.now }
-    requires site { IsSiteOf (net_of graph.now) fault.now.gate.0 site.now }
-    requires agenda { length (net_of graph.now).nodes ≤ length agenda.old }
-    requires room { length (net_of graph.now).nodes ≤ length tallies.old.counted }
+    requires site { IsSiteOf (net_of question.now.graph.now) question.now.fault.gate.0 site.now }
+    requires agenda { length (net_of question.now.graph.now).nodes ≤ length agenda.old }
+    requires room { length (net_of question.now.graph.now).nodes ≤ length tallies.old.counted }
     requires uncounted { tallies.old.counted ≡ replicate (length tallies.old.counted) false }
     requires lines { log.old.lines.items ≡ [] }
-    ensures closing { IfOk result (IsClosing (net_of graph.now) fault.now log.new.lines.items) }
+    ensures closing { IfOk result (IsClosing (net_of question.now.graph.now) question.now.fault log.new.lines.items) }
     ensures trail { IsLonger log.old.trail.items log.new.trail.items }
     ensures agenda { length agenda.new ≡ length agenda.old }
     ensures room { length tallies.new.counted ≡ length tallies.old.counted }
 {
-    graph.well_formed();
-    let mut held = begin(alloc, graph, fault, site, agenda)?;
-    match add_all_lines(graph, fault, &mut held, log, agenda, tallies)? {
+    question.graph.well_formed();
+    let mut held = begin(alloc, question, site, agenda)?;
+    match add_all_lines(question, &mut held, log, agenda, tallies)? {
         Some(node) => {
             let mut tree = TreeBuilder::new(alloc);
-            write_outside(graph, fault, site, &mut tree)?;
+            write_outside(question, site, &mut tree)?;
             let closed = end_tree(tree, log.lines.as_slice(), node)?;
             Ok(Closed::Clash(closed))
         }
@@ -139,27 +134,26 @@ fn close_none(
 // Closes the facts, and logs how.
 fn close_facts(
     alloc: Global,
-    graph: &Graph,
-    fault: &Fault,
+    question: &Question<'_>,
     mut facts: FactSet,
     log: &mut Log,
     agenda: &mut Agenda,
     tallies: &mut Tallies,
     site: &Site,
 ) -> Result<Closed, NoMemory>
-    requires ready { IsReady (net_of graph.now) fault.now facts }
+    requires ready { IsReady (net_of question.now.graph.now) question.now.fault facts }
     requires free { IsClashFree (held_by facts) }
-    requires site { IsSiteOf (net_of graph.now) fault.now.gate.0 site.now }
-    requires agenda { length (net_of graph.now).nodes ≤ length agenda.old }
-    requires room { length (net_of graph.now).nodes ≤ length tallies.old.counted }
+    requires site { IsSiteOf (net_of question.now.graph.now) question.now.fault.gate.0 site.now }
+    requires agenda { length (net_of question.now.graph.now).nodes ≤ length agenda.old }
+    requires room { length (net_of question.now.graph.now).nodes ≤ length tallies.old.counted }
     requires uncounted { tallies.old.counted ≡ replicate (length tallies.old.counted) false }
     requires lines { log.old.lines.items ≡ [] }
-    ensures grown { IfOk result (IsGrown (net_of graph.now) fault.now (held_by facts) log.new.lines.items) }
+    ensures grown { IfOk result (IsGrown (net_of question.now.graph.now) question.now.fault (held_by facts) log.new.lines.items) }
     ensures trail { IsLonger log.old.trail.items log.new.trail.items }
     ensures agenda { length agenda.new ≡ length agenda.old }
     ensures room { length tallies.new.counted ≡ length tallies.old.counted }
 {
-    match grow_all_lines(graph, fault, site, &mut facts, log, agenda, tallies)? {
+    match grow_all_lines(question, site, &mut facts, log, agenda, tallies)? {
         Some(node) => {
             let tree = end_tree(TreeBuilder::new(alloc), log.lines.as_slice(), node)?;
             Ok(Closed::Clash(tree))
@@ -170,28 +164,21 @@ fn close_facts(
 
 impl Engine {
     // Closes the facts.
-    fn close_from(
-        &mut self,
-        graph: &Graph,
-        fault: &Fault,
-        facts: FactSet,
-    ) -> Result<Closed, NoMemory>
-        requires pin { HasPin (net_of graph.now) fault.now }
-        requires numbers { length (net_of graph.now).nodes ≤ self.old.numbers }
-        requires size { length (net_of graph.now).nodes ≤ length facts }
+    fn close_from(&mut self, question: &Question<'_>, facts: FactSet) -> Result<Closed, NoMemory>
+        requires numbers { length (net_of question.now.graph.now).nodes ≤ self.old.numbers }
+        requires size { length (net_of question.now.graph.now).nodes ≤ length facts }
         requires free { IsClashFree (held_by facts) }
-        ensures grown { IfOk result (IsGrown (net_of graph.now) fault.now (held_by facts) self.new.lines) }
+        ensures grown { IfOk result (IsGrown (net_of question.now.graph.now) question.now.fault (held_by facts) self.new.lines) }
         ensures refused { OnErr result (self.new.lines ≡ []) }
         ensures numbers { self.new.numbers ≡ self.old.numbers }
         ensures trail { self.new.trail ≡ self.old.trail }
     {
-        graph.well_formed();
+        question.graph.well_formed();
         let mark = start(&mut self.log);
-        self.site.mark(graph, fault.gate);
+        self.site.mark(question.graph, question.fault.gate);
         let answer = close_facts(
             self.alloc,
-            graph,
-            fault,
+            question,
             facts,
             &mut self.log,
             &mut self.agenda,
@@ -213,21 +200,19 @@ impl Engine {
     /// Closes no facts under every line of reasoning about the fault. What the faulty gate doesn't reach is held to be
     /// equal without a line: the engine's lines lead on from there, and `push_outside` gives the lines that lead there.
     /// A tree has both.
-    pub fn close(&mut self, graph: &Graph, fault: &Fault) -> Result<Closed, NoMemory>
-        requires pin { HasPin (net_of graph.now) fault.now }
-        requires numbers { length (net_of graph.now).nodes ≤ self.old.numbers }
-        ensures closing { IfOk result (IsClosing (net_of graph.now) fault.now self.new.lines) }
-        ensures exact { IfOk result (λ c. IsClash c ↔ Clashes (net_of graph.now) fault.now) }
+    pub fn close(&mut self, question: &Question<'_>) -> Result<Closed, NoMemory>
+        requires numbers { length (net_of question.now.graph.now).nodes ≤ self.old.numbers }
+        ensures closing { IfOk result (IsClosing (net_of question.now.graph.now) question.now.fault self.new.lines) }
+        ensures exact { IfOk result (λ c. IsClash c ↔ Clashes (net_of question.now.graph.now) question.now.fault) }
         ensures refused { OnErr result (self.new.lines ≡ []) }
         ensures numbers { self.new.numbers ≡ self.old.numbers }
         ensures trail { self.new.trail ≡ self.old.trail }
     {
         let mark = start(&mut self.log);
-        self.site.mark(graph, fault.gate);
+        self.site.mark(question.graph, question.fault.gate);
         let answer = close_none(
             self.alloc,
-            graph,
-            fault,
+            question,
             &self.site,
             &mut self.log,
             &mut self.agenda,
@@ -248,38 +233,34 @@ impl Engine {
     /// Appends the lines by which what the faulty gate doesn't reach is equal: those that `close` leaves out.
     pub fn push_outside(
         &mut self,
-        graph: &Graph,
-        fault: &Fault,
+        question: &Question<'_>,
         tree: &mut TreeBuilder,
     ) -> Result<(), NoMemory>
-        requires pin { HasPin (net_of graph.now) fault.now }
-        requires numbers { length (net_of graph.now).nodes ≤ self.old.numbers }
-        ensures appends { OnOk result (AppendsOutside (net_of graph.now) fault.now tree.old tree.new) }
+        requires numbers { length (net_of question.now.graph.now).nodes ≤ self.old.numbers }
+        ensures appends { OnOk result (AppendsOutside (net_of question.now.graph.now) question.now.fault tree.old tree.new) }
         ensures lines { self.new.lines ≡ self.old.lines }
         ensures numbers { self.new.numbers ≡ self.old.numbers }
         ensures trail { self.new.trail ≡ self.old.trail }
     {
-        graph.well_formed();
-        self.site.mark(graph, fault.gate);
-        write_outside(graph, fault, &self.site, tree)
+        question.graph.well_formed();
+        self.site.mark(question.graph, question.fault.gate);
+        write_outside(question, &self.site, tree)
     }
 
     /// Closes these facts and a good value of the node under every line of reasoning about the fault.
     pub fn grow(
         &mut self,
-        graph: &Graph,
-        fault: &Fault,
+        question: &Question<'_>,
         facts: &FactSet,
         node: NodeId,
         value: bool,
     ) -> Result<Closed, NoMemory>
-        requires pin { HasPin (net_of graph.now) fault.now }
-        requires numbers { length (net_of graph.now).nodes ≤ self.old.numbers }
-        requires size { length (net_of graph.now).nodes ≤ length facts.now }
+        requires numbers { length (net_of question.now.graph.now).nodes ≤ self.old.numbers }
+        requires size { length (net_of question.now.graph.now).nodes ≤ length facts.now }
         requires free { IsClashFree (held_by facts.now) }
-        requires node { IsLive (net_of graph.now) node.0 }
+        requires node { IsLive (net_of question.now.graph.now) node.0 }
         requires unknown { known_good (held_by facts.now) node.0 ≡ None }
-        ensures grown { IfOk result (IsGrown (net_of graph.now) fault.now (with_fact (held_by facts.now) node.0 (Fact.Good value)) self.new.lines) }
+        ensures grown { IfOk result (IsGrown (net_of question.now.graph.now) question.now.fault (with_fact (held_by facts.now) node.0 (Fact.Good value)) self.new.lines) }
         ensures refused { OnErr result (self.new.lines ≡ []) }
         ensures numbers { self.new.numbers ≡ self.old.numbers }
         ensures trail { self.new.trail ≡ self.old.trail }
@@ -289,6 +270,6 @@ impl Engine {
             return Err(NoMemory);
         };
         more.insert(node, Fact::Good(value));
-        self.close_from(graph, fault, more)
+        self.close_from(question, more)
     }
 }

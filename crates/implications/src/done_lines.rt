@@ -17,47 +17,45 @@ use crate::counts::{
 };
 use crate::side_line::is_open_side;
 use crate::tallies::Tally;
-use gate_graph::Graph;
+use gate_graph::Question;
 use refutation::FactSet;
 use refutation::pins::{Aspect, is_value, known};
-use rm_base::{Fault, NodeId};
+use rm_base::NodeId;
 
 // The count of the pins' faulty values for the controlling value.
 pub(crate) fn faulty_count(
-    graph: &Graph,
-    fault: &Fault,
+    question: &Question<'_>,
     facts: &FactSet,
     tally: &Tally,
     node: NodeId,
     c: bool,
 ) -> Count
-    requires ready { IsReady (net_of graph.now) fault.now facts.now }
+    requires ready { IsReady (net_of question.now.graph.now) question.now.fault facts.now }
     requires free { IsClashFree (held_by facts.now) }
-    requires tally { IsTally (held_by facts.now) fault.now.position (drivers_of (net_of graph.now) node.0) tally.now }
-    ensures { IsCount result c (pins_of (stuck_of fault.now node.0) OfFaulty (held_by facts.now) (drivers_of (net_of graph.now) node.0)) }
+    requires tally { IsTally (held_by facts.now) question.now.fault.position (drivers_of (net_of question.now.graph.now) node.0) tally.now }
+    ensures { IsCount result c (pins_of (stuck_of question.now.fault node.0) OfFaulty (held_by facts.now) (drivers_of (net_of question.now.graph.now) node.0)) }
 {
     let count = count_for(c, tally.faulty_0, tally.faulty_1, tally.pins);
-    if node.0 != fault.gate.0 {
+    if node.0 != question.fault.gate.0 {
         return count;
     }
     let driven = known(facts, Aspect::OfFaulty, tally.at);
-    with_stuck_pin(count, c, driven, fault.value)
+    with_stuck_pin(count, c, driven, question.fault.value)
 }
 
 // Whether the lines on good values have nothing more to give.
 pub(crate) fn good_is_done(
-    graph: &Graph,
-    fault: &Fault,
+    question: &Question<'_>,
     facts: &FactSet,
     tally: &Tally,
     node: NodeId,
     c: bool,
 ) -> bool
-    requires ready { IsReady (net_of graph.now) fault.now facts.now }
+    requires ready { IsReady (net_of question.now.graph.now) question.now.fault facts.now }
     requires free { IsClashFree (held_by facts.now) }
-    requires kind { IsJunction (net_of graph.now) node.0 c }
-    requires tally { IsTally (held_by facts.now) fault.now.position (drivers_of (net_of graph.now) node.0) tally.now }
-    ensures { result ≡ true → AreDoneGood (net_of graph.now) fault.now facts.now node }
+    requires kind { IsJunction (net_of question.now.graph.now) node.0 c }
+    requires tally { IsTally (held_by facts.now) question.now.fault.position (drivers_of (net_of question.now.graph.now) node.0) tally.now }
+    ensures { result ≡ true → AreDoneGood (net_of question.now.graph.now) question.now.fault facts.now node }
 {
     let count = count_for(c, tally.good_0, tally.good_1, tally.pins);
     pulls_nothing(count, c, known(facts, Aspect::OfGood, node))
@@ -65,39 +63,37 @@ pub(crate) fn good_is_done(
 
 // Whether the lines on faulty values have nothing more to give.
 pub(crate) fn faulty_is_done(
-    graph: &Graph,
-    fault: &Fault,
+    question: &Question<'_>,
     facts: &FactSet,
     tally: &Tally,
     node: NodeId,
     c: bool,
 ) -> bool
-    requires ready { IsReady (net_of graph.now) fault.now facts.now }
+    requires ready { IsReady (net_of question.now.graph.now) question.now.fault facts.now }
     requires free { IsClashFree (held_by facts.now) }
-    requires kind { IsJunction (net_of graph.now) node.0 c }
-    requires tally { IsTally (held_by facts.now) fault.now.position (drivers_of (net_of graph.now) node.0) tally.now }
-    ensures { result ≡ true → AreDoneFaulty (net_of graph.now) fault.now facts.now node }
+    requires kind { IsJunction (net_of question.now.graph.now) node.0 c }
+    requires tally { IsTally (held_by facts.now) question.now.fault.position (drivers_of (net_of question.now.graph.now) node.0) tally.now }
+    ensures { result ≡ true → AreDoneFaulty (net_of question.now.graph.now) question.now.fault facts.now node }
 {
-    let count = faulty_count(graph, fault, facts, tally, node, c);
+    let count = faulty_count(question, facts, tally, node, c);
     pulls_nothing(count, c, known(facts, Aspect::OfFaulty, node))
 }
 
 // Whether the lines by which the gate is equal, or a driver of it differs, have nothing more to give.
 pub(crate) fn equal_is_done(
-    graph: &Graph,
-    fault: &Fault,
+    question: &Question<'_>,
     facts: &FactSet,
     tally: &Tally,
     node: NodeId,
     c: bool,
 ) -> bool
-    requires ready { IsReady (net_of graph.now) fault.now facts.now }
+    requires ready { IsReady (net_of question.now.graph.now) question.now.fault facts.now }
     requires free { IsClashFree (held_by facts.now) }
-    requires kind { IsJunction (net_of graph.now) node.0 c }
-    requires tally { IsTally (held_by facts.now) fault.now.position (drivers_of (net_of graph.now) node.0) tally.now }
-    ensures { result ≡ true → AreDoneEqual (net_of graph.now) fault.now facts.now node }
+    requires kind { IsJunction (net_of question.now.graph.now) node.0 c }
+    requires tally { IsTally (held_by facts.now) question.now.fault.position (drivers_of (net_of question.now.graph.now) node.0) tally.now }
+    ensures { result ≡ true → AreDoneEqual (net_of question.now.graph.now) question.now.fault facts.now node }
 {
-    if node.0 == fault.gate.0 {
+    if node.0 == question.fault.gate.0 {
         return true;
     }
     let count = count_for(false, tally.differs, tally.equal, tally.pins);
@@ -106,18 +102,17 @@ pub(crate) fn equal_is_done(
 
 // Whether the line on equal drivers has nothing more to give: each passes, but for the stuck pin's.
 pub(crate) fn sides_are_done(
-    graph: &Graph,
-    fault: &Fault,
+    question: &Question<'_>,
     facts: &FactSet,
     tally: &Tally,
     node: NodeId,
     c: bool,
 ) -> bool
-    requires ready { IsReady (net_of graph.now) fault.now facts.now }
+    requires ready { IsReady (net_of question.now.graph.now) question.now.fault facts.now }
     requires free { IsClashFree (held_by facts.now) }
-    requires kind { IsJunction (net_of graph.now) node.0 c }
-    requires tally { IsTally (held_by facts.now) fault.now.position (drivers_of (net_of graph.now) node.0) tally.now }
-    ensures { result ≡ true → AreDoneSide (net_of graph.now) fault.now facts.now node }
+    requires kind { IsJunction (net_of question.now.graph.now) node.0 c }
+    requires tally { IsTally (held_by facts.now) question.now.fault.position (drivers_of (net_of question.now.graph.now) node.0) tally.now }
+    ensures { result ≡ true → AreDoneSide (net_of question.now.graph.now) question.now.fault facts.now node }
 {
     if !is_value(known(facts, Aspect::OfEqual, node), false) {
         return true;
@@ -129,7 +124,7 @@ pub(crate) fn sides_are_done(
     if open > 1 {
         return false;
     }
-    if node.0 != fault.gate.0 {
+    if node.0 != question.fault.gate.0 {
         return false;
     }
     is_open_side(facts, tally.at, !c)

@@ -1,7 +1,6 @@
 // Extending a closed set of facts in place, and taking that back.
 ghost use Rattle.std.specs.Prelude.{◌≡◌, ◌<◌, ◌≤◌, ℕ, List, [], None, IfOk, OnErr, drop, false, length, replicate};
 ghost use Rattle.gate_net.specs.Net.{IsLive};
-ghost use Rattle.gate_net.specs.Values.{HasPin};
 ghost use Rattle.gate_graph.specs.Circuit.{net_of};
 ghost use Rattle.refutation.specs.Closing.{IsClashFree, IsClosedUnderLines, IsWithin};
 ghost use Rattle.refutation.specs.Facts.{known_good, with_fact, without_fact};
@@ -16,10 +15,10 @@ use crate::log::{Log, start};
 use crate::settling::work_off;
 use crate::state::Engine;
 use crate::tallies::{Tallies, touch};
-use gate_graph::Graph;
+use gate_graph::Question;
 use refutation::agenda::Agenda;
 use refutation::{Fact, FactSet};
-use rm_base::{Fault, NoMemory, NodeId};
+use rm_base::{NoMemory, NodeId};
 
 // Holds the fact no longer, where there is such a node number.
 fn take_away(facts: &mut FactSet, node: NodeId, fact: Fact)
@@ -46,8 +45,7 @@ pub(crate) fn take_off(trail: &mut Vec<(NodeId, Fact)>, facts: &mut FactSet, mar
 
 // Adds a good value of the node, and what follows from it, over an agenda with nothing on.
 fn add_good(
-    graph: &Graph,
-    fault: &Fault,
+    question: &Question<'_>,
     facts: &mut FactSet,
     log: &mut Log,
     agenda: &mut Agenda,
@@ -55,16 +53,16 @@ fn add_good(
     node: NodeId,
     value: bool,
 ) -> Result<Option<NodeId>, NoMemory>
-    requires ready { IsReady (net_of graph.now) fault.now facts.old }
-    requires agenda { length (net_of graph.now).nodes ≤ length agenda.old }
-    requires room { length (net_of graph.now).nodes ≤ length tallies.old.counted }
+    requires ready { IsReady (net_of question.now.graph.now) question.now.fault facts.old }
+    requires agenda { length (net_of question.now.graph.now).nodes ≤ length agenda.old }
+    requires room { length (net_of question.now.graph.now).nodes ≤ length tallies.old.counted }
     requires uncounted { tallies.old.counted ≡ replicate (length tallies.old.counted) false }
-    requires closed { IsClosedUnderLines (net_of graph.now) fault.now (held_by facts.old) }
+    requires closed { IsClosedUnderLines (net_of question.now.graph.now) question.now.fault (held_by facts.old) }
     requires free { IsClashFree (held_by facts.old) }
-    requires node { IsLive (net_of graph.now) node.0 }
+    requires node { IsLive (net_of question.now.graph.now) node.0 }
     requires unknown { known_good (held_by facts.old) node.0 ≡ None }
     requires lines { log.old.lines.items ≡ [] }
-    ensures extended { IfOk result (IsExtended (net_of graph.now) fault.now (with_fact (held_by facts.old) node.0 (Fact.Good value)) log.new.lines.items facts.new) }
+    ensures extended { IfOk result (IsExtended (net_of question.now.graph.now) question.now.fault (with_fact (held_by facts.old) node.0 (Fact.Good value)) log.new.lines.items facts.new) }
     ensures fewer { IfOk result (λ _. missing facts.new < missing facts.old) }
     ensures keeps { Keeps facts.old log.old.trail.items facts.new log.new.trail.items }
     ensures agenda { length agenda.new ≡ length agenda.old }
@@ -72,9 +70,9 @@ fn add_good(
 {
     let fact = Fact::Good(value);
     log.trail.push((node, fact))?;
-    touch(graph, fault, facts, agenda, tallies, node, fact);
+    touch(question, facts, agenda, tallies, node, fact);
     facts.insert(node, fact);
-    work_off(graph, fault, facts, log, agenda, tallies)
+    work_off(question, facts, log, agenda, tallies)
 }
 
 impl Engine {
@@ -84,20 +82,18 @@ impl Engine {
     /// takes it away.
     pub fn extend(
         &mut self,
-        graph: &Graph,
-        fault: &Fault,
+        question: &Question<'_>,
         facts: &mut FactSet,
         node: NodeId,
         value: bool,
     ) -> Result<Option<NodeId>, NoMemory>
-        requires pin { HasPin (net_of graph.now) fault.now }
-        requires numbers { length (net_of graph.now).nodes ≤ self.old.numbers }
-        requires size { length (net_of graph.now).nodes ≤ length facts.old }
-        requires closed { IsClosedUnderLines (net_of graph.now) fault.now (held_by facts.old) }
+        requires numbers { length (net_of question.now.graph.now).nodes ≤ self.old.numbers }
+        requires size { length (net_of question.now.graph.now).nodes ≤ length facts.old }
+        requires closed { IsClosedUnderLines (net_of question.now.graph.now) question.now.fault (held_by facts.old) }
         requires free { IsClashFree (held_by facts.old) }
-        requires node { IsLive (net_of graph.now) node.0 }
+        requires node { IsLive (net_of question.now.graph.now) node.0 }
         requires unknown { known_good (held_by facts.old) node.0 ≡ None }
-        ensures extended { IfOk result (IsExtended (net_of graph.now) fault.now (with_fact (held_by facts.old) node.0 (Fact.Good value)) self.new.lines facts.new) }
+        ensures extended { IfOk result (IsExtended (net_of question.now.graph.now) question.now.fault (with_fact (held_by facts.old) node.0 (Fact.Good value)) self.new.lines facts.new) }
         ensures fewer { IfOk result (λ _. missing facts.new < missing facts.old) }
         ensures more { IsWithin (held_by facts.old) (held_by facts.new) }
         ensures size { length facts.new ≡ length facts.old }
@@ -107,11 +103,10 @@ impl Engine {
         ensures refused { OnErr result (self.new.lines ≡ []) }
         ensures numbers { self.new.numbers ≡ self.old.numbers }
     {
-        graph.well_formed();
+        question.graph.well_formed();
         let _mark = start(&mut self.log);
         let answer = add_good(
-            graph,
-            fault,
+            question,
             facts,
             &mut self.log,
             &mut self.agenda,

@@ -14,18 +14,17 @@ use crate::found::Found;
 use crate::log::Log;
 use crate::settling::add_found;
 use crate::tallies::Tallies;
-use gate_graph::Graph;
+use gate_graph::Question;
 use refutation::agenda::Agenda;
 use refutation::chains::next_in_chain;
 use refutation::place_lines::{line_act, line_out_marked, line_site};
 use refutation::site::Site;
 use refutation::{Fact, FactSet, Line};
-use rm_base::{Fault, NoMemory, NodeId};
+use rm_base::{NoMemory, NodeId};
 
 // Adds what a line gives, whatever is held, and answers a clash that it makes.
 fn give(
-    graph: &Graph,
-    fault: &Fault,
+    question: &Question<'_>,
     facts: &mut FactSet,
     log: &mut Log,
     agenda: &mut Agenda,
@@ -33,18 +32,18 @@ fn give(
     line: Line,
     given: Option<(NodeId, Fact)>,
 ) -> Result<Option<NodeId>, NoMemory>
-    requires ready { IsReady (net_of graph.now) fault.now facts.old }
+    requires ready { IsReady (net_of question.now.graph.now) question.now.fault facts.old }
     requires free { IsClashFree (held_by facts.old) }
-    requires agenda { length (net_of graph.now).nodes ≤ length agenda.old }
-    requires room { length (net_of graph.now).nodes ≤ length tallies.old.counted }
-    requires tallied { AreTallied (net_of graph.now) (held_by facts.old) fault.now.position tallies.old }
+    requires agenda { length (net_of question.now.graph.now).nodes ≤ length agenda.old }
+    requires room { length (net_of question.now.graph.now).nodes ≤ length tallies.old.counted }
+    requires tallied { AreTallied (net_of question.now.graph.now) (held_by facts.old) question.now.fault.position tallies.old }
     requires first { place_of line ≡ None }
-    requires given { IsAnswer (net_of graph.now) fault.now (held_by facts.old) line given }
-    ensures works { OnOk result (Works (net_of graph.now) fault.now facts.old log.old.lines.items facts.new log.new.lines.items) }
+    requires given { IsAnswer (net_of question.now.graph.now) question.now.fault (held_by facts.old) line given }
+    ensures works { OnOk result (Works (net_of question.now.graph.now) question.now.fault facts.old log.old.lines.items facts.new log.new.lines.items) }
     ensures keeps { Keeps facts.old log.old.trail.items facts.new log.new.trail.items }
-    ensures gives { IfOk result (Gives facts.new (IsDone (net_of graph.now) fault.now facts.new line)) }
-    ensures pending { OnOk result (StaysPending (net_of graph.now) fault.now facts.old agenda.old facts.new agenda.new) }
-    ensures tallied { OnOk result (AreTallied (net_of graph.now) (held_by facts.new) fault.now.position tallies.new) }
+    ensures gives { IfOk result (Gives facts.new (IsDone (net_of question.now.graph.now) question.now.fault facts.new line)) }
+    ensures pending { OnOk result (StaysPending (net_of question.now.graph.now) question.now.fault facts.old agenda.old facts.new agenda.new) }
+    ensures tallied { OnOk result (AreTallied (net_of question.now.graph.now) (held_by facts.new) question.now.fault.position tallies.new) }
     ensures size { length agenda.new ≡ length agenda.old }
     ensures room { length tallies.new.counted ≡ length tallies.old.counted }
 {
@@ -55,7 +54,7 @@ fn give(
         return Ok(None);
     }
     let found = Found { line, node, fact };
-    if add_found(graph, fault, facts, log, agenda, tallies, found)? {
+    if add_found(question, facts, log, agenda, tallies, found)? {
         return Ok(Some(node));
     }
     Ok(None)
@@ -63,64 +62,62 @@ fn give(
 
 // The lines of the stuck pin and of its gate.
 pub(crate) fn give_at_fault(
-    graph: &Graph,
-    fault: &Fault,
+    question: &Question<'_>,
     facts: &mut FactSet,
     log: &mut Log,
     agenda: &mut Agenda,
     tallies: &mut Tallies,
 ) -> Result<Option<NodeId>, NoMemory>
-    requires ready { IsReady (net_of graph.now) fault.now facts.old }
+    requires ready { IsReady (net_of question.now.graph.now) question.now.fault facts.old }
     requires free { IsClashFree (held_by facts.old) }
-    requires agenda { length (net_of graph.now).nodes ≤ length agenda.old }
-    requires room { length (net_of graph.now).nodes ≤ length tallies.old.counted }
-    requires tallied { AreTallied (net_of graph.now) (held_by facts.old) fault.now.position tallies.old }
-    ensures works { OnOk result (Works (net_of graph.now) fault.now facts.old log.old.lines.items facts.new log.new.lines.items) }
+    requires agenda { length (net_of question.now.graph.now).nodes ≤ length agenda.old }
+    requires room { length (net_of question.now.graph.now).nodes ≤ length tallies.old.counted }
+    requires tallied { AreTallied (net_of question.now.graph.now) (held_by facts.old) question.now.fault.position tallies.old }
+    ensures works { OnOk result (Works (net_of question.now.graph.now) question.now.fault facts.old log.old.lines.items facts.new log.new.lines.items) }
     ensures keeps { Keeps facts.old log.old.trail.items facts.new log.new.trail.items }
-    ensures gives { IfOk result (Gives facts.new (AreDoneAtFault (net_of graph.now) fault.now facts.new)) }
-    ensures pending { OnOk result (StaysPending (net_of graph.now) fault.now facts.old agenda.old facts.new agenda.new) }
-    ensures tallied { OnOk result (AreTallied (net_of graph.now) (held_by facts.new) fault.now.position tallies.new) }
+    ensures gives { IfOk result (Gives facts.new (AreDoneAtFault (net_of question.now.graph.now) question.now.fault facts.new)) }
+    ensures pending { OnOk result (StaysPending (net_of question.now.graph.now) question.now.fault facts.old agenda.old facts.new agenda.new) }
+    ensures tallied { OnOk result (AreTallied (net_of question.now.graph.now) (held_by facts.new) question.now.fault.position tallies.new) }
     ensures size { length agenda.new ≡ length agenda.old }
     ensures room { length tallies.new.counted ≡ length tallies.old.counted }
 {
-    let given = line_act(graph, fault);
-    if let Some(clash) = give(graph, fault, facts, log, agenda, tallies, Line::Act, given)? {
+    let given = line_act(question);
+    if let Some(clash) = give(question, facts, log, agenda, tallies, Line::Act, given)? {
         return Ok(Some(clash));
     }
-    let given = line_site(fault);
-    give(graph, fault, facts, log, agenda, tallies, Line::Site, given)
+    let given = line_site(&question.fault);
+    give(question, facts, log, agenda, tallies, Line::Site, given)
 }
 
 // The lines of the chain that begins with the faulty gate, in its order.
 pub(crate) fn give_on_chain(
-    graph: &Graph,
-    fault: &Fault,
+    question: &Question<'_>,
     facts: &mut FactSet,
     log: &mut Log,
     agenda: &mut Agenda,
     tallies: &mut Tallies,
 ) -> Result<Option<NodeId>, NoMemory>
-    requires ready { IsReady (net_of graph.now) fault.now facts.old }
+    requires ready { IsReady (net_of question.now.graph.now) question.now.fault facts.old }
     requires free { IsClashFree (held_by facts.old) }
-    requires agenda { length (net_of graph.now).nodes ≤ length agenda.old }
-    requires room { length (net_of graph.now).nodes ≤ length tallies.old.counted }
-    requires tallied { AreTallied (net_of graph.now) (held_by facts.old) fault.now.position tallies.old }
-    ensures works { OnOk result (Works (net_of graph.now) fault.now facts.old log.old.lines.items facts.new log.new.lines.items) }
+    requires agenda { length (net_of question.now.graph.now).nodes ≤ length agenda.old }
+    requires room { length (net_of question.now.graph.now).nodes ≤ length tallies.old.counted }
+    requires tallied { AreTallied (net_of question.now.graph.now) (held_by facts.old) question.now.fault.position tallies.old }
+    ensures works { OnOk result (Works (net_of question.now.graph.now) question.now.fault facts.old log.old.lines.items facts.new log.new.lines.items) }
     ensures keeps { Keeps facts.old log.old.trail.items facts.new log.new.trail.items }
-    ensures gives { IfOk result (Gives facts.new (AreDoneOnChain (net_of graph.now) fault.now facts.new)) }
-    ensures pending { OnOk result (StaysPending (net_of graph.now) fault.now facts.old agenda.old facts.new agenda.new) }
-    ensures tallied { OnOk result (AreTallied (net_of graph.now) (held_by facts.new) fault.now.position tallies.new) }
+    ensures gives { IfOk result (Gives facts.new (AreDoneOnChain (net_of question.now.graph.now) question.now.fault facts.new)) }
+    ensures pending { OnOk result (StaysPending (net_of question.now.graph.now) question.now.fault facts.old agenda.old facts.new agenda.new) }
+    ensures tallied { OnOk result (AreTallied (net_of question.now.graph.now) (held_by facts.new) question.now.fault.position tallies.new) }
     ensures size { length agenda.new ≡ length agenda.old }
     ensures room { length tallies.new.counted ≡ length tallies.old.counted }
 {
-    let mut at = fault.gate;
-    for _step in 0..graph.node_bound() {
+    let mut at = question.fault.gate;
+    for _step in 0..question.graph.node_bound() {
         let line = Line::Chain { node: at };
         let given = Some((at, Fact::Differs));
-        if let Some(clash) = give(graph, fault, facts, log, agenda, tallies, line, given)? {
+        if let Some(clash) = give(question, facts, log, agenda, tallies, line, given)? {
             return Ok(Some(clash));
         }
-        let Some(next) = next_in_chain(graph, at) else {
+        let Some(next) = next_in_chain(question.graph, at) else {
             return Ok(None);
         };
         at = next;
@@ -130,32 +127,31 @@ pub(crate) fn give_on_chain(
 
 // The lines of the nodes that the faulty gate doesn't reach.
 pub(crate) fn give_outside(
-    graph: &Graph,
-    fault: &Fault,
+    question: &Question<'_>,
     site: &Site,
     facts: &mut FactSet,
     log: &mut Log,
     agenda: &mut Agenda,
     tallies: &mut Tallies,
 ) -> Result<Option<NodeId>, NoMemory>
-    requires ready { IsReady (net_of graph.now) fault.now facts.old }
+    requires ready { IsReady (net_of question.now.graph.now) question.now.fault facts.old }
     requires free { IsClashFree (held_by facts.old) }
-    requires site { IsSiteOf (net_of graph.now) fault.now.gate.0 site.now }
-    requires agenda { length (net_of graph.now).nodes ≤ length agenda.old }
-    requires room { length (net_of graph.now).nodes ≤ length tallies.old.counted }
-    requires tallied { AreTallied (net_of graph.now) (held_by facts.old) fault.now.position tallies.old }
-    ensures works { OnOk result (Works (net_of graph.now) fault.now facts.old log.old.lines.items facts.new log.new.lines.items) }
+    requires site { IsSiteOf (net_of question.now.graph.now) question.now.fault.gate.0 site.now }
+    requires agenda { length (net_of question.now.graph.now).nodes ≤ length agenda.old }
+    requires room { length (net_of question.now.graph.now).nodes ≤ length tallies.old.counted }
+    requires tallied { AreTallied (net_of question.now.graph.now) (held_by facts.old) question.now.fault.position tallies.old }
+    ensures works { OnOk result (Works (net_of question.now.graph.now) question.now.fault facts.old log.old.lines.items facts.new log.new.lines.items) }
     ensures keeps { Keeps facts.old log.old.trail.items facts.new log.new.trail.items }
-    ensures gives { IfOk result (Gives facts.new (AreDoneOutside (net_of graph.now) fault.now facts.new)) }
-    ensures tallied { OnOk result (AreTallied (net_of graph.now) (held_by facts.new) fault.now.position tallies.new) }
+    ensures gives { IfOk result (Gives facts.new (AreDoneOutside (net_of question.now.graph.now) question.now.fault facts.new)) }
+    ensures tallied { OnOk result (AreTallied (net_of question.now.graph.now) (held_by facts.new) question.now.fault.position tallies.new) }
     ensures size { length agenda.new ≡ length agenda.old }
     ensures room { length tallies.new.counted ≡ length tallies.old.counted }
 {
-    for number in 0..graph.node_bound() {
+    for number in 0..question.graph.node_bound() {
         let node = NodeId(number);
         let line = Line::Out { node };
-        let given = line_out_marked(graph, fault, node, site);
-        if let Some(clash) = give(graph, fault, facts, log, agenda, tallies, line, given)? {
+        let given = line_out_marked(question, node, site);
+        if let Some(clash) = give(question, facts, log, agenda, tallies, line, given)? {
             return Ok(Some(clash));
         }
     }

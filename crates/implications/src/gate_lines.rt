@@ -12,12 +12,12 @@ ghost use Rattle.implications.specs.Settled.{IsReady};
 
 use crate::found::Found;
 use crate::pulls::{Pull, equal_pull, junction_pull};
-use gate_graph::Graph;
+use gate_graph::{Graph, Question};
 use refutation::following::gate_pins;
 use refutation::glances::look;
 use refutation::pins::{Aspect, Stuck, known, stuck_at};
 use refutation::{Fact, FactSet, Line};
-use rm_base::{Fault, NodeId};
+use rm_base::NodeId;
 
 /// What follows at a gate: something of the gate itself, or of the driver of the pin at a position.
 #[derive(Clone, Copy, Debug)]
@@ -74,18 +74,17 @@ fn pull_equal(graph: &Graph, facts: &FactSet, node: NodeId) -> Option<Pulled>
 
 // The lines on good values at an And or an Or with that controlling value.
 pub(crate) fn good_line(
-    graph: &Graph,
-    fault: &Fault,
+    question: &Question<'_>,
     facts: &FactSet,
     node: NodeId,
     c: bool,
 ) -> Option<Found>
-    requires ready { IsReady (net_of graph.now) fault.now facts.now }
+    requires ready { IsReady (net_of question.now.graph.now) question.now.fault facts.now }
     requires free { IsClashFree (held_by facts.now) }
-    requires kind { IsJunction (net_of graph.now) node.0 c }
-    ensures { Finds (net_of graph.now) fault.now facts.now (AreDoneGood (net_of graph.now) fault.now facts.now node) result }
+    requires kind { IsJunction (net_of question.now.graph.now) node.0 c }
+    ensures { Finds (net_of question.now.graph.now) question.now.fault facts.now (AreDoneGood (net_of question.now.graph.now) question.now.fault facts.now node) result }
 {
-    match pull_value(graph, None, facts, Aspect::OfGood, node, c)? {
+    match pull_value(question.graph, None, facts, Aspect::OfGood, node, c)? {
         Pulled::Gate(value) => Some(Found {
             line: Line::GoodForward { node },
             node,
@@ -101,20 +100,19 @@ pub(crate) fn good_line(
 
 // The lines on faulty values at an And or an Or with that controlling value.
 pub(crate) fn faulty_line(
-    graph: &Graph,
-    fault: &Fault,
+    question: &Question<'_>,
     facts: &FactSet,
     node: NodeId,
     c: bool,
 ) -> Option<Found>
-    requires ready { IsReady (net_of graph.now) fault.now facts.now }
+    requires ready { IsReady (net_of question.now.graph.now) question.now.fault facts.now }
     requires free { IsClashFree (held_by facts.now) }
-    requires kind { IsJunction (net_of graph.now) node.0 c }
-    ensures { Finds (net_of graph.now) fault.now facts.now (AreDoneFaulty (net_of graph.now) fault.now facts.now node) result }
+    requires kind { IsJunction (net_of question.now.graph.now) node.0 c }
+    ensures { Finds (net_of question.now.graph.now) question.now.fault facts.now (AreDoneFaulty (net_of question.now.graph.now) question.now.fault facts.now node) result }
 {
     match pull_value(
-        graph,
-        stuck_at(fault, node),
+        question.graph,
+        stuck_at(&question.fault, node),
         facts,
         Aspect::OfFaulty,
         node,
@@ -134,21 +132,16 @@ pub(crate) fn faulty_line(
 }
 
 // The lines by which a gate is equal, or a driver of it differs.
-pub(crate) fn equal_line(
-    graph: &Graph,
-    fault: &Fault,
-    facts: &FactSet,
-    node: NodeId,
-) -> Option<Found>
-    requires ready { IsReady (net_of graph.now) fault.now facts.now }
+pub(crate) fn equal_line(question: &Question<'_>, facts: &FactSet, node: NodeId) -> Option<Found>
+    requires ready { IsReady (net_of question.now.graph.now) question.now.fault facts.now }
     requires free { IsClashFree (held_by facts.now) }
-    requires kind { IsGate (net_of graph.now) node.0 }
-    ensures { Finds (net_of graph.now) fault.now facts.now (AreDoneEqual (net_of graph.now) fault.now facts.now node) result }
+    requires kind { IsGate (net_of question.now.graph.now) node.0 }
+    ensures { Finds (net_of question.now.graph.now) question.now.fault facts.now (AreDoneEqual (net_of question.now.graph.now) question.now.fault facts.now node) result }
 {
-    if node.0 == fault.gate.0 {
+    if node.0 == question.fault.gate.0 {
         return None;
     }
-    match pull_equal(graph, facts, node)? {
+    match pull_equal(question.graph, facts, node)? {
         Pulled::Gate(_) => Some(Found {
             line: Line::EqualForward { node },
             node,

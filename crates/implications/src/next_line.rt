@@ -16,7 +16,7 @@ use crate::found::Found;
 use crate::gate_lines::equal_line;
 use crate::tallied_lines::tallied_line;
 use crate::tallies::Tallies;
-use gate_graph::Graph;
+use gate_graph::Question;
 use gate_net::Kind;
 use refutation::equal_lines::{line_not_differs, line_not_equal};
 use refutation::place_lines::line_constant;
@@ -25,19 +25,18 @@ use refutation::value_lines::{
     line_to_faulty, line_to_good,
 };
 use refutation::{Fact, FactSet, Line};
-use rm_base::{Fault, NodeId};
+use rm_base::NodeId;
 
 // What a line gives, where it isn't held yet.
 fn tried(
-    graph: &Graph,
-    fault: &Fault,
+    question: &Question<'_>,
     facts: &FactSet,
     line: Line,
     given: Option<(NodeId, Fact)>,
 ) -> Option<Found>
-    requires ready { IsReady (net_of graph.now) fault.now facts.now }
-    requires given { IsAnswer (net_of graph.now) fault.now (held_by facts.now) line given }
-    ensures { IsTried (net_of graph.now) fault.now facts.now line result }
+    requires ready { IsReady (net_of question.now.graph.now) question.now.fault facts.now }
+    requires given { IsAnswer (net_of question.now.graph.now) question.now.fault (held_by facts.now) line given }
+    ensures { IsTried (net_of question.now.graph.now) question.now.fault facts.now line result }
 {
     let (node, fact) = given?;
     if facts.holds(node, fact) {
@@ -47,159 +46,140 @@ fn tried(
 }
 
 // The lines on one node's own values.
-pub(crate) fn value_line(
-    graph: &Graph,
-    fault: &Fault,
-    facts: &FactSet,
-    node: NodeId,
-) -> Option<Found>
-    requires ready { IsReady (net_of graph.now) fault.now facts.now }
-    ensures { Finds (net_of graph.now) fault.now facts.now (AreDoneValues (net_of graph.now) fault.now facts.now node) result }
+pub(crate) fn value_line(question: &Question<'_>, facts: &FactSet, node: NodeId) -> Option<Found>
+    requires ready { IsReady (net_of question.now.graph.now) question.now.fault facts.now }
+    ensures { Finds (net_of question.now.graph.now) question.now.fault facts.now (AreDoneValues (net_of question.now.graph.now) question.now.fault facts.now node) result }
 {
-    let given = line_compare(graph, fault, facts, node);
-    if let Some(found) = tried(graph, fault, facts, Line::Compare { node }, given) {
+    let given = line_compare(question, facts, node);
+    if let Some(found) = tried(question, facts, Line::Compare { node }, given) {
         return Some(found);
     }
-    let given = line_to_faulty(graph, fault, facts, node);
-    if let Some(found) = tried(graph, fault, facts, Line::ToFaulty { node }, given) {
+    let given = line_to_faulty(question, facts, node);
+    if let Some(found) = tried(question, facts, Line::ToFaulty { node }, given) {
         return Some(found);
     }
-    let given = line_to_good(graph, fault, facts, node);
-    tried(graph, fault, facts, Line::ToGood { node }, given)
+    let given = line_to_good(question, facts, node);
+    tried(question, facts, Line::ToGood { node }, given)
 }
 
 // The lines at an And or an Or with that controlling value.
 fn junction_line(
-    graph: &Graph,
-    fault: &Fault,
+    question: &Question<'_>,
     facts: &FactSet,
     tallies: &mut Tallies,
     node: NodeId,
     c: bool,
 ) -> Option<Found>
-    requires ready { IsReady (net_of graph.now) fault.now facts.now }
+    requires ready { IsReady (net_of question.now.graph.now) question.now.fault facts.now }
     requires free { IsClashFree (held_by facts.now) }
-    requires room { length (net_of graph.now).nodes ≤ length tallies.old.counted }
-    requires tallied { AreTallied (net_of graph.now) (held_by facts.now) fault.now.position tallies.old }
-    requires kind { IsJunction (net_of graph.now) node.0 c }
-    ensures next { IsNext (net_of graph.now) fault.now facts.now node.0 result }
-    ensures tallied { AreTallied (net_of graph.now) (held_by facts.now) fault.now.position tallies.new }
+    requires room { length (net_of question.now.graph.now).nodes ≤ length tallies.old.counted }
+    requires tallied { AreTallied (net_of question.now.graph.now) (held_by facts.now) question.now.fault.position tallies.old }
+    requires kind { IsJunction (net_of question.now.graph.now) node.0 c }
+    ensures next { IsNext (net_of question.now.graph.now) question.now.fault facts.now node.0 result }
+    ensures tallied { AreTallied (net_of question.now.graph.now) (held_by facts.now) question.now.fault.position tallies.new }
     ensures room { length tallies.new.counted ≡ length tallies.old.counted }
 {
-    let tally = tallies.of(graph, fault, facts, node);
-    tallied_line(graph, fault, facts, &tally, node, c)
+    let tally = tallies.of(question, facts, node);
+    tallied_line(question, facts, &tally, node, c)
 }
 
 // The lines on the good value at a Not.
-fn not_good_line(graph: &Graph, fault: &Fault, facts: &FactSet, node: NodeId) -> Option<Found>
-    requires ready { IsReady (net_of graph.now) fault.now facts.now }
-    requires kind { IsKind (net_of graph.now) node.0 Not }
-    ensures { Finds (net_of graph.now) fault.now facts.now (AreDoneGood (net_of graph.now) fault.now facts.now node) result }
+fn not_good_line(question: &Question<'_>, facts: &FactSet, node: NodeId) -> Option<Found>
+    requires ready { IsReady (net_of question.now.graph.now) question.now.fault facts.now }
+    requires kind { IsKind (net_of question.now.graph.now) node.0 Not }
+    ensures { Finds (net_of question.now.graph.now) question.now.fault facts.now (AreDoneGood (net_of question.now.graph.now) question.now.fault facts.now node) result }
 {
-    let given = line_good_forward(graph, fault, facts, node);
-    if let Some(found) = tried(graph, fault, facts, Line::GoodForward { node }, given) {
+    let given = line_good_forward(question, facts, node);
+    if let Some(found) = tried(question, facts, Line::GoodForward { node }, given) {
         return Some(found);
     }
     let position = 0;
-    let given = line_good_back(graph, fault, facts, node, position);
-    tried(
-        graph,
-        fault,
-        facts,
-        Line::GoodBack { node, position },
-        given,
-    )
+    let given = line_good_back(question, facts, node, position);
+    tried(question, facts, Line::GoodBack { node, position }, given)
 }
 
 // The lines on the faulty value at a Not.
-fn not_faulty_line(graph: &Graph, fault: &Fault, facts: &FactSet, node: NodeId) -> Option<Found>
-    requires ready { IsReady (net_of graph.now) fault.now facts.now }
-    requires kind { IsKind (net_of graph.now) node.0 Not }
-    ensures { Finds (net_of graph.now) fault.now facts.now (AreDoneFaulty (net_of graph.now) fault.now facts.now node) result }
+fn not_faulty_line(question: &Question<'_>, facts: &FactSet, node: NodeId) -> Option<Found>
+    requires ready { IsReady (net_of question.now.graph.now) question.now.fault facts.now }
+    requires kind { IsKind (net_of question.now.graph.now) node.0 Not }
+    ensures { Finds (net_of question.now.graph.now) question.now.fault facts.now (AreDoneFaulty (net_of question.now.graph.now) question.now.fault facts.now node) result }
 {
-    let given = line_faulty_forward(graph, fault, facts, node);
-    if let Some(found) = tried(graph, fault, facts, Line::FaultyForward { node }, given) {
+    let given = line_faulty_forward(question, facts, node);
+    if let Some(found) = tried(question, facts, Line::FaultyForward { node }, given) {
         return Some(found);
     }
     let position = 0;
-    let given = line_faulty_back(graph, fault, facts, node, position);
-    tried(
-        graph,
-        fault,
-        facts,
-        Line::FaultyBack { node, position },
-        given,
-    )
+    let given = line_faulty_back(question, facts, node, position);
+    tried(question, facts, Line::FaultyBack { node, position }, given)
 }
 
 // The lines by which a Not and its driver differ or are equal together.
-fn not_equal_line(graph: &Graph, fault: &Fault, facts: &FactSet, node: NodeId) -> Option<Found>
-    requires ready { IsReady (net_of graph.now) fault.now facts.now }
-    ensures { Finds (net_of graph.now) fault.now facts.now (AreDoneNot (net_of graph.now) fault.now facts.now node) result }
+fn not_equal_line(question: &Question<'_>, facts: &FactSet, node: NodeId) -> Option<Found>
+    requires ready { IsReady (net_of question.now.graph.now) question.now.fault facts.now }
+    ensures { Finds (net_of question.now.graph.now) question.now.fault facts.now (AreDoneNot (net_of question.now.graph.now) question.now.fault facts.now node) result }
 {
-    let given = line_not_differs(graph, fault, facts, node);
-    if let Some(found) = tried(graph, fault, facts, Line::NotDiffers { node }, given) {
+    let given = line_not_differs(question, facts, node);
+    if let Some(found) = tried(question, facts, Line::NotDiffers { node }, given) {
         return Some(found);
     }
-    let given = line_not_equal(graph, fault, facts, node);
-    tried(graph, fault, facts, Line::NotEqual { node }, given)
+    let given = line_not_equal(question, facts, node);
+    tried(question, facts, Line::NotEqual { node }, given)
 }
 
 // The lines at a Not.
-fn not_line(graph: &Graph, fault: &Fault, facts: &FactSet, node: NodeId) -> Option<Found>
-    requires ready { IsReady (net_of graph.now) fault.now facts.now }
+fn not_line(question: &Question<'_>, facts: &FactSet, node: NodeId) -> Option<Found>
+    requires ready { IsReady (net_of question.now.graph.now) question.now.fault facts.now }
     requires free { IsClashFree (held_by facts.now) }
-    requires kind { IsKind (net_of graph.now) node.0 Not }
-    ensures { IsNext (net_of graph.now) fault.now facts.now node.0 result }
+    requires kind { IsKind (net_of question.now.graph.now) node.0 Not }
+    ensures { IsNext (net_of question.now.graph.now) question.now.fault facts.now node.0 result }
 {
-    if let Some(found) = value_line(graph, fault, facts, node) {
+    if let Some(found) = value_line(question, facts, node) {
         return Some(found);
     }
-    if let Some(found) = not_good_line(graph, fault, facts, node) {
+    if let Some(found) = not_good_line(question, facts, node) {
         return Some(found);
     }
-    if let Some(found) = not_faulty_line(graph, fault, facts, node) {
+    if let Some(found) = not_faulty_line(question, facts, node) {
         return Some(found);
     }
-    if let Some(found) = equal_line(graph, fault, facts, node) {
+    if let Some(found) = equal_line(question, facts, node) {
         return Some(found);
     }
-    not_equal_line(graph, fault, facts, node)
+    not_equal_line(question, facts, node)
 }
 
 // The lines at a constant or a source.
-fn plain_line(graph: &Graph, fault: &Fault, facts: &FactSet, node: NodeId) -> Option<Found>
-    requires ready { IsReady (net_of graph.now) fault.now facts.now }
-    requires kind { (kind : Kind) × (IsKind (net_of graph.now) node.0 kind × (IsGateKind kind → ⊥)) }
-    ensures { IsNext (net_of graph.now) fault.now facts.now node.0 result }
+fn plain_line(question: &Question<'_>, facts: &FactSet, node: NodeId) -> Option<Found>
+    requires ready { IsReady (net_of question.now.graph.now) question.now.fault facts.now }
+    requires kind { (kind : Kind) × (IsKind (net_of question.now.graph.now) node.0 kind × (IsGateKind kind → ⊥)) }
+    ensures { IsNext (net_of question.now.graph.now) question.now.fault facts.now node.0 result }
 {
-    if let Some(found) = value_line(graph, fault, facts, node) {
+    if let Some(found) = value_line(question, facts, node) {
         return Some(found);
     }
-    let given = line_constant(graph, fault, node);
-    tried(graph, fault, facts, Line::Constant { node }, given)
+    let given = line_constant(question, node);
+    tried(question, facts, Line::Constant { node }, given)
 }
 
 // What a line at the node gives that isn't held, or None exactly where the node is settled.
 pub(crate) fn next_line(
-    graph: &Graph,
-    fault: &Fault,
+    question: &Question<'_>,
     facts: &FactSet,
     tallies: &mut Tallies,
     node: NodeId,
 ) -> Option<Found>
-    requires ready { IsReady (net_of graph.now) fault.now facts.now }
+    requires ready { IsReady (net_of question.now.graph.now) question.now.fault facts.now }
     requires free { IsClashFree (held_by facts.now) }
-    requires room { length (net_of graph.now).nodes ≤ length tallies.old.counted }
-    requires tallied { AreTallied (net_of graph.now) (held_by facts.now) fault.now.position tallies.old }
-    ensures next { IsNext (net_of graph.now) fault.now facts.now node.0 result }
-    ensures tallied { AreTallied (net_of graph.now) (held_by facts.now) fault.now.position tallies.new }
+    requires room { length (net_of question.now.graph.now).nodes ≤ length tallies.old.counted }
+    requires tallied { AreTallied (net_of question.now.graph.now) (held_by facts.now) question.now.fault.position tallies.old }
+    ensures next { IsNext (net_of question.now.graph.now) question.now.fault facts.now node.0 result }
+    ensures tallied { AreTallied (net_of question.now.graph.now) (held_by facts.now) question.now.fault.position tallies.new }
     ensures room { length tallies.new.counted ≡ length tallies.old.counted }
 {
-    match graph.kind(node)? {
-        Kind::And => junction_line(graph, fault, facts, tallies, node, false),
-        Kind::Or => junction_line(graph, fault, facts, tallies, node, true),
-        Kind::Not => not_line(graph, fault, facts, node),
-        _ => plain_line(graph, fault, facts, node),
+    match question.graph.kind(node)? {
+        Kind::And => junction_line(question, facts, tallies, node, false),
+        Kind::Or => junction_line(question, facts, tallies, node, true),
+        Kind::Not => not_line(question, facts, node),
+        _ => plain_line(question, facts, node),
     }
 }

@@ -2,7 +2,6 @@
 ghost use Rattle.std.specs.Prelude.{◌≡◌, ◌≤◌, List, [], IfOk, IsTrue, OnErr, false, length, replicate};
 ghost use Rattle.gate_graph.specs.Circuit.{net_of};
 ghost use Rattle.gate_net.specs.Net.{Net};
-ghost use Rattle.gate_net.specs.Values.{HasPin};
 ghost use Rattle.refutation.specs.FactSets.{held_by};
 ghost use Rattle.refutation.specs.declared.held.NodeFacts.{NodeFacts};
 ghost use Rattle.refutation.specs.Reaching.{MarksReached};
@@ -16,11 +15,11 @@ use crate::extending::take_off;
 use crate::log::{Log, start};
 use crate::state::Engine;
 use crate::tallies::Tallies;
-use gate_graph::Graph;
+use gate_graph::{Graph, Question};
 use refutation::agenda::Agenda;
 use refutation::site::Site;
 use refutation::{Fact, FactSet};
-use rm_base::{Fault, NoMemory, NodeId};
+use rm_base::{NoMemory, NodeId};
 
 // Takes back what was added, and holds again that the taken nodes are equal: that takes the time of both lists, and no
 // memory.
@@ -36,65 +35,61 @@ fn come_to_rest(trail: &mut Vec<(NodeId, Fact)>, facts: &mut FactSet, taken: &mu
 }
 
 // From rest to what the faulty gate doesn't reach.
-fn take_reached(graph: &Graph, fault: &Fault, site: &Site, facts: &mut FactSet, taken: &mut Agenda)
-    requires pin { HasPin (net_of graph.now) fault.now }
-    requires site { MarksReached (net_of graph.now) fault.now.gate.0 site.now.reached }
-    requires facts { length (net_of graph.now).nodes ≤ length facts.old }
-    requires taken { length (net_of graph.now).nodes ≤ length taken.old }
-    requires rest { IsRest (net_of graph.now) (held_by facts.old) }
+fn take_reached(question: &Question<'_>, site: &Site, facts: &mut FactSet, taken: &mut Agenda)
+    requires site { MarksReached (net_of question.now.graph.now) question.now.fault.gate.0 site.now.reached }
+    requires facts { length (net_of question.now.graph.now).nodes ≤ length facts.old }
+    requires taken { length (net_of question.now.graph.now).nodes ≤ length taken.old }
+    requires rest { IsRest (net_of question.now.graph.now) (held_by facts.old) }
     requires none { taken.old ≡ replicate (length taken.old) false }
-    ensures begun { IsBegun (net_of graph.now) fault.now facts.new taken.new }
+    ensures begun { IsBegun (net_of question.now.graph.now) question.now.fault facts.new taken.new }
     ensures size { length facts.new ≡ length facts.old }
     ensures room { length taken.new ≡ length taken.old }
 {
-    graph.well_formed();
-    take_equal(facts, taken, fault.gate);
+    question.graph.well_formed();
+    take_equal(facts, taken, question.fault.gate);
     take_equals(site.reached_numbers(), facts, taken);
 }
 
 // Puts each node on the agenda that isn't settled by what the faulty gate doesn't reach.
-fn list_unsettled(graph: &Graph, fault: &Fault, pinless: &[NodeId], agenda: &mut Agenda)
-    requires pin { HasPin (net_of graph.now) fault.now }
-    requires pinless { ArePinless (net_of graph.now) pinless.now }
-    requires agenda { length (net_of graph.now).nodes ≤ length agenda.old }
-    ensures pending { (facts : List NodeFacts) → AreOutside (net_of graph.now) fault.now (held_by facts) → IsPending (net_of graph.now) fault.now facts agenda.new }
+fn list_unsettled(question: &Question<'_>, pinless: &[NodeId], agenda: &mut Agenda)
+    requires pinless { ArePinless (net_of question.now.graph.now) pinless.now }
+    requires agenda { length (net_of question.now.graph.now).nodes ≤ length agenda.old }
+    ensures pending { (facts : List NodeFacts) → AreOutside (net_of question.now.graph.now) question.now.fault (held_by facts) → IsPending (net_of question.now.graph.now) question.now.fault facts agenda.new }
     ensures size { length agenda.new ≡ length agenda.old }
 {
-    graph.well_formed();
+    question.graph.well_formed();
     list_all(pinless, agenda);
     agenda.add(NodeId(0));
     agenda.add(NodeId(1));
-    agenda.add(fault.gate);
+    agenda.add(question.fault.gate);
 }
 
 // Closes what the faulty gate doesn't reach, in place.
 fn open_begun(
-    graph: &Graph,
-    fault: &Fault,
+    question: &Question<'_>,
     basis: &mut Basis,
     log: &mut Log,
     agenda: &mut Agenda,
     tallies: &mut Tallies,
 ) -> Result<Option<NodeId>, NoMemory>
-    requires pin { HasPin (net_of graph.now) fault.now }
-    requires room { HasRoom (net_of graph.now) basis.old }
-    requires begun { IsBegun (net_of graph.now) fault.now basis.old.facts basis.old.taken }
-    requires pinless { ArePinless (net_of graph.now) basis.old.pinless.items }
+    requires room { HasRoom (net_of question.now.graph.now) basis.old }
+    requires begun { IsBegun (net_of question.now.graph.now) question.now.fault basis.old.facts basis.old.taken }
+    requires pinless { ArePinless (net_of question.now.graph.now) basis.old.pinless.items }
     requires lines { log.old.lines.items ≡ [] }
     requires trail { log.old.trail.items ≡ [] }
-    requires agenda { length (net_of graph.now).nodes ≤ length agenda.old }
-    requires tallies { length (net_of graph.now).nodes ≤ length tallies.old.counted }
+    requires agenda { length (net_of question.now.graph.now).nodes ≤ length agenda.old }
+    requires tallies { length (net_of question.now.graph.now).nodes ≤ length tallies.old.counted }
     requires uncounted { tallies.old.counted ≡ replicate (length tallies.old.counted) false }
-    ensures opened { IfOk result (IsOpened (net_of graph.now) fault.now log.new.lines.items basis.new.facts) }
-    ensures rest { ComesToRest (net_of graph.now) log.new.trail.items basis.new.taken basis.new.facts }
-    ensures room { HasRoom (net_of graph.now) basis.new }
+    ensures opened { IfOk result (IsOpened (net_of question.now.graph.now) question.now.fault log.new.lines.items basis.new.facts) }
+    ensures rest { ComesToRest (net_of question.now.graph.now) log.new.trail.items basis.new.taken basis.new.facts }
+    ensures room { HasRoom (net_of question.now.graph.now) basis.new }
     ensures pinless { basis.new.pinless ≡ basis.old.pinless }
     ensures agenda { length agenda.new ≡ length agenda.old }
     ensures tallies { length tallies.new.counted ≡ length tallies.old.counted }
 {
-    graph.well_formed();
-    list_unsettled(graph, fault, &basis.pinless, agenda);
-    add_all_lines(graph, fault, &mut basis.facts, log, agenda, tallies)
+    question.graph.well_formed();
+    list_unsettled(question, &basis.pinless, agenda);
+    add_all_lines(question, &mut basis.facts, log, agenda, tallies)
 }
 
 impl Engine {
@@ -129,24 +124,21 @@ impl Engine {
     /// stand on the trail. It takes the time of what the faulty gate reaches and of what follows from there.
     pub fn open(
         &mut self,
-        graph: &Graph,
-        fault: &Fault,
+        question: &Question<'_>,
         basis: &mut Basis,
     ) -> Result<Option<NodeId>, NoMemory>
-        requires pin { HasPin (net_of graph.now) fault.now }
-        requires serves { IsFor (net_of graph.now) self.old basis.old }
-        ensures opened { IfOk result (IsOpened (net_of graph.now) fault.now self.new.lines basis.new.facts) }
-        ensures serves { IsFor (net_of graph.now) self.new basis.new }
+        requires serves { IsFor (net_of question.now.graph.now) self.old basis.old }
+        ensures opened { IfOk result (IsOpened (net_of question.now.graph.now) question.now.fault self.new.lines basis.new.facts) }
+        ensures serves { IsFor (net_of question.now.graph.now) self.new basis.new }
         ensures refused { OnErr result (self.new.lines ≡ []) }
     {
-        graph.well_formed();
+        question.graph.well_formed();
         let _mark = start(&mut self.log);
         come_to_rest(&mut self.log.trail, &mut basis.facts, &mut basis.taken);
-        self.site.mark_reached(graph, fault.gate);
-        take_reached(graph, fault, &self.site, &mut basis.facts, &mut basis.taken);
+        self.site.mark_reached(question.graph, question.fault.gate);
+        take_reached(question, &self.site, &mut basis.facts, &mut basis.taken);
         let answer = open_begun(
-            graph,
-            fault,
+            question,
             basis,
             &mut self.log,
             &mut self.agenda,

@@ -14,10 +14,10 @@ use crate::done_lines::{faulty_count, sides_are_done};
 use crate::found::Found;
 use crate::side_line::is_open_side;
 use crate::tallies::Tally;
-use gate_graph::Graph;
+use gate_graph::Question;
 use refutation::pins::{Aspect, is_stuck, is_value, known};
 use refutation::{Fact, FactSet, Line};
-use rm_base::{Fault, NodeId};
+use rm_base::NodeId;
 
 // Whether the gate is known to have the value, and nothing is known of the driver.
 fn is_awaited(facts: &FactSet, aspect: Aspect, node: NodeId, driver: NodeId, value: bool) -> bool
@@ -34,19 +34,18 @@ fn is_awaited(facts: &FactSet, aspect: Aspect, node: NodeId, driver: NodeId, val
 /// What follows at the pin from what is known of the gate alone, where it isn't held: the opposite of the controlling
 /// value where the gate has it, or where the gate differs and the driver is equal.
 pub(crate) fn pin_line(
-    graph: &Graph,
-    fault: &Fault,
+    question: &Question<'_>,
     facts: &FactSet,
     node: NodeId,
     position: u32,
     driver: NodeId,
     c: bool,
 ) -> Option<Found>
-    requires ready { IsReady (net_of graph.now) fault.now facts.now }
+    requires ready { IsReady (net_of question.now.graph.now) question.now.fault facts.now }
     requires free { IsClashFree (held_by facts.now) }
-    requires kind { IsJunction (net_of graph.now) node.0 c }
-    requires reads { Reads (net_of graph.now) node.0 position driver.0 }
-    ensures { IfSome result (IsFresh (net_of graph.now) fault.now facts.now) }
+    requires kind { IsJunction (net_of question.now.graph.now) node.0 c }
+    requires reads { Reads (net_of question.now.graph.now) node.0 position driver.0 }
+    ensures { IfSome result (IsFresh (net_of question.now.graph.now) question.now.fault facts.now) }
 {
     let value = !c;
     if is_awaited(facts, Aspect::OfGood, node, driver, value) {
@@ -56,7 +55,7 @@ pub(crate) fn pin_line(
             fact: Fact::Good(value),
         });
     }
-    if is_stuck(fault, node, position) {
+    if is_stuck(&question.fault, node, position) {
         return None;
     }
     if is_awaited(facts, Aspect::OfFaulty, node, driver, value) {
@@ -82,17 +81,16 @@ pub(crate) fn pin_line(
 /// Whether a look at each pin alone may give something: the gate is known to have the opposite of the controlling value
 /// and not all pins are, or it differs and its equal drivers aren't all known to have that opposite.
 pub(crate) fn has_sweep(
-    graph: &Graph,
-    fault: &Fault,
+    question: &Question<'_>,
     facts: &FactSet,
     tally: &Tally,
     node: NodeId,
     c: bool,
 ) -> bool
-    requires ready { IsReady (net_of graph.now) fault.now facts.now }
+    requires ready { IsReady (net_of question.now.graph.now) question.now.fault facts.now }
     requires free { IsClashFree (held_by facts.now) }
-    requires kind { IsJunction (net_of graph.now) node.0 c }
-    requires tally { IsTally (held_by facts.now) fault.now.position (drivers_of (net_of graph.now) node.0) tally.now }
+    requires kind { IsJunction (net_of question.now.graph.now) node.0 c }
+    requires tally { IsTally (held_by facts.now) question.now.fault.position (drivers_of (net_of question.now.graph.now) node.0) tally.now }
 {
     if is_value(known(facts, Aspect::OfGood, node), !c) {
         let count = count_for(c, tally.good_0, tally.good_1, tally.pins);
@@ -101,10 +99,10 @@ pub(crate) fn has_sweep(
         }
     }
     if is_value(known(facts, Aspect::OfFaulty, node), !c) {
-        let count = faulty_count(graph, fault, facts, tally, node, c);
+        let count = faulty_count(question, facts, tally, node, c);
         if count.passing < count.pins {
             return true;
         }
     }
-    !sides_are_done(graph, fault, facts, tally, node, c)
+    !sides_are_done(question, facts, tally, node, c)
 }

@@ -9,9 +9,10 @@ ghost use Rattle.refutation.specs.Pins.{AreBelow};
 ghost use Rattle.implications.specs.Pulls.{AreDoneSide, Finds};
 ghost use Rattle.implications.specs.Sides.{IsOpenPin, IsOpenSide, IsSide};
 ghost use Rattle.implications.specs.Settled.{IsReady};
+ghost use Rattle.rm_base.specs.Numbers.{number_bound};
 
 use crate::found::Found;
-use gate_graph::{Graph, Inputs};
+use gate_graph::{Inputs, Question};
 use refutation::following::gate_pins;
 use refutation::pins::{Aspect, is_stuck, is_value, known};
 use refutation::{Fact, FactSet, Line};
@@ -55,7 +56,7 @@ fn open_side(
     value: bool,
 ) -> Option<(u32, NodeId)>
     requires within { AreBelow drivers (length facts.now) }
-    requires few { length drivers ≤ 4294967295 }
+    requires few { length drivers ≤ number_bound }
     ensures { IsSide drivers.entry fault.now (held_by facts.now) node.0 value result }
 {
     let mut position = 0u32;
@@ -70,21 +71,26 @@ fn open_side(
 
 // The line on the equal drivers of an And or an Or that differs.
 pub(crate) fn side_line(
-    graph: &Graph,
-    fault: &Fault,
+    question: &Question<'_>,
     facts: &FactSet,
     node: NodeId,
     c: bool,
 ) -> Option<Found>
-    requires ready { IsReady (net_of graph.now) fault.now facts.now }
+    requires ready { IsReady (net_of question.now.graph.now) question.now.fault facts.now }
     requires free { IsClashFree (held_by facts.now) }
-    requires kind { IsJunction (net_of graph.now) node.0 c }
-    ensures { Finds (net_of graph.now) fault.now facts.now (AreDoneSide (net_of graph.now) fault.now facts.now node) result }
+    requires kind { IsJunction (net_of question.now.graph.now) node.0 c }
+    ensures { Finds (net_of question.now.graph.now) question.now.fault facts.now (AreDoneSide (net_of question.now.graph.now) question.now.fault facts.now node) result }
 {
     if !is_value(known(facts, Aspect::OfEqual, node), false) {
         return None;
     }
-    let (position, driver) = open_side(gate_pins(graph, node), fault, facts, node, !c)?;
+    let (position, driver) = open_side(
+        gate_pins(question.graph, node),
+        &question.fault,
+        facts,
+        node,
+        !c,
+    )?;
     Some(Found {
         line: Line::Side { node, position },
         node: driver,

@@ -14,17 +14,16 @@ use crate::log::Log;
 use crate::pin_line::{has_sweep, pin_line};
 use crate::settling::add_found;
 use crate::tallies::Tallies;
-use gate_graph::Graph;
+use gate_graph::Question;
 use refutation::FactSet;
 use refutation::agenda::Agenda;
 use refutation::following::gate_pins;
 use refutation::pins::controlling;
-use rm_base::{Fault, NoMemory, NodeId};
+use rm_base::{NoMemory, NodeId};
 
 // Adds what follows at one pin, or up to a clash, whose node is given.
 fn sweep_pin(
-    graph: &Graph,
-    fault: &Fault,
+    question: &Question<'_>,
     facts: &mut FactSet,
     log: &mut Log,
     agenda: &mut Agenda,
@@ -34,22 +33,22 @@ fn sweep_pin(
     driver: NodeId,
     c: bool,
 ) -> Result<Option<NodeId>, NoMemory>
-    requires ready { IsReady (net_of graph.now) fault.now facts.old }
-    requires agenda { length (net_of graph.now).nodes ≤ length agenda.old }
-    requires room { length (net_of graph.now).nodes ≤ length tallies.old.counted }
-    requires tallied { AreTallied (net_of graph.now) (held_by facts.old) fault.now.position tallies.old }
-    requires pending { IsPendingBut (net_of graph.now) fault.now facts.old agenda.old node.0 }
+    requires ready { IsReady (net_of question.now.graph.now) question.now.fault facts.old }
+    requires agenda { length (net_of question.now.graph.now).nodes ≤ length agenda.old }
+    requires room { length (net_of question.now.graph.now).nodes ≤ length tallies.old.counted }
+    requires tallied { AreTallied (net_of question.now.graph.now) (held_by facts.old) question.now.fault.position tallies.old }
+    requires pending { IsPendingBut (net_of question.now.graph.now) question.now.fault facts.old agenda.old node.0 }
     requires free { IsClashFree (held_by facts.old) }
-    requires kind { IsJunction (net_of graph.now) node.0 c }
-    requires reads { Reads (net_of graph.now) node.0 position driver.0 }
-    ensures sweeps { IfOk result (Sweeps (net_of graph.now) fault.now facts.old log.old.lines.items log.old.trail.items agenda.old facts.new log.new.lines.items log.new.trail.items agenda.new node.0) }
+    requires kind { IsJunction (net_of question.now.graph.now) node.0 c }
+    requires reads { Reads (net_of question.now.graph.now) node.0 position driver.0 }
+    ensures sweeps { IfOk result (Sweeps (net_of question.now.graph.now) question.now.fault facts.old log.old.lines.items log.old.trail.items agenda.old facts.new log.new.lines.items log.new.trail.items agenda.new node.0) }
     ensures keeps { Keeps facts.old log.old.trail.items facts.new log.new.trail.items }
-    ensures tallied { OnOk result (AreTallied (net_of graph.now) (held_by facts.new) fault.now.position tallies.new) }
+    ensures tallied { OnOk result (AreTallied (net_of question.now.graph.now) (held_by facts.new) question.now.fault.position tallies.new) }
     ensures size { length agenda.new ≡ length agenda.old }
     ensures room { length tallies.new.counted ≡ length tallies.old.counted }
 {
-    while let Some(found) = pin_line(graph, fault, facts, node, position, driver, c) {
-        if add_found(graph, fault, facts, log, agenda, tallies, found)? {
+    while let Some(found) = pin_line(question, facts, node, position, driver, c) {
+        if add_found(question, facts, log, agenda, tallies, found)? {
             return Ok(Some(found.node));
         }
     }
@@ -58,8 +57,7 @@ fn sweep_pin(
 
 // Adds what follows at each pin, or up to a clash, whose node is given.
 fn sweep_pins(
-    graph: &Graph,
-    fault: &Fault,
+    question: &Question<'_>,
     facts: &mut FactSet,
     log: &mut Log,
     agenda: &mut Agenda,
@@ -67,23 +65,23 @@ fn sweep_pins(
     node: NodeId,
     c: bool,
 ) -> Result<Option<NodeId>, NoMemory>
-    requires ready { IsReady (net_of graph.now) fault.now facts.old }
-    requires agenda { length (net_of graph.now).nodes ≤ length agenda.old }
-    requires room { length (net_of graph.now).nodes ≤ length tallies.old.counted }
-    requires tallied { AreTallied (net_of graph.now) (held_by facts.old) fault.now.position tallies.old }
-    requires pending { IsPendingBut (net_of graph.now) fault.now facts.old agenda.old node.0 }
+    requires ready { IsReady (net_of question.now.graph.now) question.now.fault facts.old }
+    requires agenda { length (net_of question.now.graph.now).nodes ≤ length agenda.old }
+    requires room { length (net_of question.now.graph.now).nodes ≤ length tallies.old.counted }
+    requires tallied { AreTallied (net_of question.now.graph.now) (held_by facts.old) question.now.fault.position tallies.old }
+    requires pending { IsPendingBut (net_of question.now.graph.now) question.now.fault facts.old agenda.old node.0 }
     requires free { IsClashFree (held_by facts.old) }
-    requires kind { IsJunction (net_of graph.now) node.0 c }
-    ensures sweeps { IfOk result (Sweeps (net_of graph.now) fault.now facts.old log.old.lines.items log.old.trail.items agenda.old facts.new log.new.lines.items log.new.trail.items agenda.new node.0) }
+    requires kind { IsJunction (net_of question.now.graph.now) node.0 c }
+    ensures sweeps { IfOk result (Sweeps (net_of question.now.graph.now) question.now.fault facts.old log.old.lines.items log.old.trail.items agenda.old facts.new log.new.lines.items log.new.trail.items agenda.new node.0) }
     ensures keeps { Keeps facts.old log.old.trail.items facts.new log.new.trail.items }
-    ensures tallied { OnOk result (AreTallied (net_of graph.now) (held_by facts.new) fault.now.position tallies.new) }
+    ensures tallied { OnOk result (AreTallied (net_of question.now.graph.now) (held_by facts.new) question.now.fault.position tallies.new) }
     ensures size { length agenda.new ≡ length agenda.old }
     ensures room { length tallies.new.counted ≡ length tallies.old.counted }
 {
     let mut position = 0u32;
-    for driver in gate_pins(graph, node) {
+    for driver in gate_pins(question.graph, node) {
         if let Some(clash) = sweep_pin(
-            graph, fault, facts, log, agenda, tallies, node, position, driver, c,
+            question, facts, log, agenda, tallies, node, position, driver, c,
         )? {
             return Ok(Some(clash));
         }
@@ -96,40 +94,39 @@ fn sweep_pins(
 /// clash, whose node is given. A pin that keeps a difference back is taken alone, before all others. What it leaves
 /// `next_line` finds.
 pub(crate) fn sweep(
-    graph: &Graph,
-    fault: &Fault,
+    question: &Question<'_>,
     facts: &mut FactSet,
     log: &mut Log,
     agenda: &mut Agenda,
     tallies: &mut Tallies,
     node: NodeId,
 ) -> Result<Option<NodeId>, NoMemory>
-    requires ready { IsReady (net_of graph.now) fault.now facts.old }
-    requires agenda { length (net_of graph.now).nodes ≤ length agenda.old }
-    requires room { length (net_of graph.now).nodes ≤ length tallies.old.counted }
-    requires tallied { AreTallied (net_of graph.now) (held_by facts.old) fault.now.position tallies.old }
-    requires pending { IsPendingBut (net_of graph.now) fault.now facts.old agenda.old node.0 }
+    requires ready { IsReady (net_of question.now.graph.now) question.now.fault facts.old }
+    requires agenda { length (net_of question.now.graph.now).nodes ≤ length agenda.old }
+    requires room { length (net_of question.now.graph.now).nodes ≤ length tallies.old.counted }
+    requires tallied { AreTallied (net_of question.now.graph.now) (held_by facts.old) question.now.fault.position tallies.old }
+    requires pending { IsPendingBut (net_of question.now.graph.now) question.now.fault facts.old agenda.old node.0 }
     requires free { IsClashFree (held_by facts.old) }
-    ensures sweeps { IfOk result (Sweeps (net_of graph.now) fault.now facts.old log.old.lines.items log.old.trail.items agenda.old facts.new log.new.lines.items log.new.trail.items agenda.new node.0) }
+    ensures sweeps { IfOk result (Sweeps (net_of question.now.graph.now) question.now.fault facts.old log.old.lines.items log.old.trail.items agenda.old facts.new log.new.lines.items log.new.trail.items agenda.new node.0) }
     ensures keeps { Keeps facts.old log.old.trail.items facts.new log.new.trail.items }
-    ensures tallied { OnOk result (AreTallied (net_of graph.now) (held_by facts.new) fault.now.position tallies.new) }
+    ensures tallied { OnOk result (AreTallied (net_of question.now.graph.now) (held_by facts.new) question.now.fault.position tallies.new) }
     ensures size { length agenda.new ≡ length agenda.old }
     ensures room { length tallies.new.counted ≡ length tallies.old.counted }
 {
-    let Some(kind) = graph.kind(node) else {
+    let Some(kind) = question.graph.kind(node) else {
         return Ok(None);
     };
     let Some(c) = controlling(kind) else {
         return Ok(None);
     };
-    let tally = tallies.of(graph, fault, facts, node);
-    if !has_sweep(graph, fault, facts, &tally, node, c) {
+    let tally = tallies.of(question, facts, node);
+    if !has_sweep(question, facts, &tally, node, c) {
         return Ok(None);
     }
-    if let Some((position, driver)) = blocked_pin(graph, fault, facts, &tally, node, c) {
+    if let Some((position, driver)) = blocked_pin(question, facts, &tally, node, c) {
         return sweep_pin(
-            graph, fault, facts, log, agenda, tallies, node, position, driver, c,
+            question, facts, log, agenda, tallies, node, position, driver, c,
         );
     }
-    sweep_pins(graph, fault, facts, log, agenda, tallies, node, c)
+    sweep_pins(question, facts, log, agenda, tallies, node, c)
 }

@@ -10,12 +10,13 @@ ghost use Rattle.implications.specs.Rises.{CanRise, IsRaised, RaisesAt, risen, r
 ghost use Rattle.implications.specs.Tallies.{AreTallied, IsTally};
 ghost use Rattle.implications.specs.Working.{Touches};
 ghost use Rattle.implications.specs.declared.tallies.Tally.{Tally};
+ghost use Rattle.rm_base.specs.Numbers.{number_bound};
 
-use gate_graph::{Graph, Inputs};
+use gate_graph::{Inputs, Question};
 use refutation::agenda::Agenda;
 use refutation::following::gate_pins;
 use refutation::{Fact, FactSet};
-use rm_base::{Fault, NoMemory, NodeId};
+use rm_base::{NoMemory, NodeId};
 use std::alloc::Global;
 use std::marker::Model;
 
@@ -87,7 +88,7 @@ fn no_tallies(alloc: Global, numbers: u32) -> Result<Vec<Tally>, NoMemory>
 
 // A count that is one more where it rises.
 fn risen(count: u32, rises: bool) -> u32
-    requires { rises ≡ true → count < 4294967295 }
+    requires { rises ≡ true → count < number_bound }
     ensures { result ≡ risen rises count 1 }
 {
     if rises { count + 1 } else { count }
@@ -190,7 +191,7 @@ fn driver_at(tally: Tally, position: u32, driver: NodeId) -> NodeId
 // The tally with one pin more, that has that driver.
 fn with_driver(tally: Tally, position: u32, facts: &FactSet, driver: NodeId) -> Tally
     requires driver { driver.0 < length facts.now }
-    requires room { tally.pins < 4294967295 }
+    requires room { tally.pins < number_bound }
     requires counted { (ds : List ℕ) × IsTally (held_by facts.now) position ds tally }
     ensures { (ds : List ℕ) → IsTally (held_by facts.now) position ds tally → IsTally (held_by facts.now) position (ds ++ driver.0 ∷ []) result }
 {
@@ -206,7 +207,7 @@ fn with_driver(tally: Tally, position: u32, facts: &FactSet, driver: NodeId) -> 
 // The tally of a gate with these drivers.
 fn count_pins(drivers: Inputs<'_>, position: u32, facts: &FactSet) -> Tally
     requires within { AreBelow drivers (length facts.now) }
-    requires few { length drivers ≤ 4294967295 }
+    requires few { length drivers ≤ number_bound }
     ensures { IsTally (held_by facts.now) position drivers.entry result }
 {
     let mut tally = no_pins();
@@ -258,19 +259,23 @@ impl Tallies {
     }
 
     /// The tally of a node, which is counted where it wasn't yet.
-    pub fn of(&mut self, graph: &Graph, fault: &Fault, facts: &FactSet, node: NodeId) -> Tally
-        requires node { IsLive (net_of graph.now) node.0 }
-        requires size { length (net_of graph.now).nodes ≤ length facts.now }
-        requires room { length (net_of graph.now).nodes ≤ length self.old.counted }
-        requires tallied { AreTallied (net_of graph.now) (held_by facts.now) fault.now.position self.old }
-        ensures tally { IsTally (held_by facts.now) fault.now.position (drivers_of (net_of graph.now) node.0) result }
-        ensures tallied { AreTallied (net_of graph.now) (held_by facts.now) fault.now.position self.new }
+    pub fn of(&mut self, question: &Question<'_>, facts: &FactSet, node: NodeId) -> Tally
+        requires node { IsLive (net_of question.now.graph.now) node.0 }
+        requires size { length (net_of question.now.graph.now).nodes ≤ length facts.now }
+        requires room { length (net_of question.now.graph.now).nodes ≤ length self.old.counted }
+        requires tallied { AreTallied (net_of question.now.graph.now) (held_by facts.now) question.now.fault.position self.old }
+        ensures tally { IsTally (held_by facts.now) question.now.fault.position (drivers_of (net_of question.now.graph.now) node.0) result }
+        ensures tallied { AreTallied (net_of question.now.graph.now) (held_by facts.now) question.now.fault.position self.new }
         ensures room { length self.new.counted ≡ length self.old.counted }
     {
         if self.counted.has(node) {
             return self.tallies[node.0 as usize];
         }
-        let tally = count_pins(gate_pins(graph, node), fault.position, facts);
+        let tally = count_pins(
+            gate_pins(question.graph, node),
+            question.fault.position,
+            facts,
+        );
         self.counted.add(node);
         self.tallies[node.0 as usize] = tally;
         tally
@@ -298,28 +303,27 @@ impl Tallies {
 
 /// Puts a node on which a fact comes to be held on the agenda, with its readers, whose tallies rise.
 pub(crate) fn touch(
-    graph: &Graph,
-    fault: &Fault,
+    question: &Question<'_>,
     facts: &FactSet,
     agenda: &mut Agenda,
     tallies: &mut Tallies,
     node: NodeId,
     fact: Fact,
 )
-    requires node { IsLive (net_of graph.now) node.0 }
+    requires node { IsLive (net_of question.now.graph.now) node.0 }
     requires new { held_by facts.now node.0 fact ≡ false }
-    requires size { length (net_of graph.now).nodes ≤ length facts.now }
-    requires agenda { length (net_of graph.now).nodes ≤ length agenda.old }
-    requires room { length (net_of graph.now).nodes ≤ length tallies.old.counted }
-    requires tallied { AreTallied (net_of graph.now) (held_by facts.now) fault.now.position tallies.old }
-    ensures touches { Touches (net_of graph.now) agenda.old agenda.new node.0 }
-    ensures tallied { AreTallied (net_of graph.now) (with_fact (held_by facts.now) node.0 fact) fault.now.position tallies.new }
+    requires size { length (net_of question.now.graph.now).nodes ≤ length facts.now }
+    requires agenda { length (net_of question.now.graph.now).nodes ≤ length agenda.old }
+    requires room { length (net_of question.now.graph.now).nodes ≤ length tallies.old.counted }
+    requires tallied { AreTallied (net_of question.now.graph.now) (held_by facts.now) question.now.fault.position tallies.old }
+    ensures touches { Touches (net_of question.now.graph.now) agenda.old agenda.new node.0 }
+    ensures tallied { AreTallied (net_of question.now.graph.now) (with_fact (held_by facts.now) node.0 fact) question.now.fault.position tallies.new }
     ensures room { length tallies.new.counted ≡ length tallies.old.counted }
 {
     let rise = rise_by(facts, node, fact);
-    graph.readers_listed();
+    question.graph.readers_listed();
     agenda.add(node);
-    for reader in graph.readers_of(node) {
+    for reader in question.graph.readers_of(node) {
         agenda.add(reader);
         tallies.raise(reader, rise);
     }

@@ -13,6 +13,7 @@ ghost use Rattle.graph_to_model.specs.Laws.{AreFew};
 ghost use Rattle.graph_to_model.specs.NetModel.{model_of_net};
 ghost use Rattle.journal_audit.specs.Audited.{ComparedSays, IsOfOutput, IsPassed, IsPlain, IsProblem};
 ghost use Rattle.journal_audit.specs.Turns.{IsLast};
+ghost use Rattle.cover_decompose.specs.Limits.{most_pins};
 
 use crate::compare::difference;
 use crate::problem::AuditProblem;
@@ -66,7 +67,7 @@ pub fn audit<S: Shelf>(
     requires covers { length model.now.covers < 2 ^ 32 }
     requires sources { length (source_names model.now) ≤ 1024 }
     requires observed { length (observed_names model.now) ≤ 4096 }
-    requires few { decomposed model.now ≤ 65536 }
+    requires few { decomposed model.now ≤ most_pins }
     ensures passed { IfOk result (λ count. IfSome (S.files shelf.old) (λ told. IsPassed model.now told journal.now output.now count)) }
     ensures problem { IfErr result (λ problem. IfSome (S.files shelf.old) (λ told. IsProblem model.now told journal.now output.now problem)) }
     ensures no_journal { result ≡ Err AuditProblem.NoJournal → IsSome (S.files shelf.old) }

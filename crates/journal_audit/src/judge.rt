@@ -16,6 +16,7 @@ ghost use Rattle.journal_audit.specs.Judging.{IsTextProblem};
 ghost use Rattle.journal_audit.specs.Problems.{fault_problem as problem_of_fault, refusal_problem as problem_of_refusal};
 ghost use Rattle.journal_audit.specs.Stages.{IsJudged, IsReplayed, StageIs, TakenSays};
 ghost use Rattle.journal_audit.specs.declared.problem.AuditProblem.TheVariants.{NoMemory as Wanting};
+ghost use Rattle.cover_decompose.specs.Limits.{most_pins};
 
 use crate::problem::AuditProblem;
 use crate::stage::Stage;
@@ -61,7 +62,7 @@ fn begun(alloc: Global, model: &RankedModel, budget: u32) -> Result<Stage, Audit
     requires covers { length model.now.covers < 2 ^ 32 }
     requires sources { length (source_names model.now) ≤ 1024 }
     requires observed { length (observed_names model.now) ≤ 4096 }
-    requires few { decomposed model.now ≤ 65536 }
+    requires few { decomposed model.now ≤ most_pins }
     ensures stage { IfOk result (λ stage. StageIs model.now budget [] awaited.Record stage) }
     ensures memory { IfErr result (λ problem. problem ≡ Wanting) }
 {
@@ -113,7 +114,7 @@ fn taken(
     requires covers { length model.now.covers < 2 ^ 32 }
     requires sources { length (source_names model.now) ≤ 1024 }
     requires observed { length (observed_names model.now) ≤ 4096 }
-    requires few { decomposed model.now ≤ 65536 }
+    requires few { decomposed model.now ≤ most_pins }
     requires valid { IsEntry entry.now }
     requires stage { (budget : ℕ) × ((records : List RecordValue) × ((a : AwaitedValue) × (StageIs model.now budget records a stage × ((comes a entry.now ≡ true) × (length records ≤ 2 ^ 62))))) }
     ensures { (budget : ℕ) (records : List RecordValue) (a : AwaitedValue) → StageIs model.now budget records a stage → comes a entry.now ≡ true → TakenSays model.now budget records entry.now result }
@@ -145,7 +146,7 @@ pub(crate) fn judged(
     requires covers { length model.now.covers < 2 ^ 32 }
     requires sources { length (source_names model.now) ≤ 1024 }
     requires observed { length (observed_names model.now) ≤ 4096 }
-    requires few { decomposed model.now ≤ 65536 }
+    requires few { decomposed model.now ≤ most_pins }
     requires judged { (text : List ℕ) × IsJudged model.now text reader.old stage }
     ensures judged { (text : List ℕ) → IsJudged model.now text reader.old stage → IfOk result (λ after. IsJudged model.now text reader.new after) }
     ensures none { OnOk result (GivesNone reader.new) }

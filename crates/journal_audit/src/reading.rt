@@ -15,6 +15,7 @@ ghost use Rattle.journal_text.specs.Streams.{GivesNone};
 ghost use Rattle.journal_audit.specs.Judging.{IsTextProblem};
 ghost use Rattle.journal_audit.specs.Stages.{IsJudged};
 ghost use Rattle.journal_audit.specs.Turns.{EndsAccepted, EndsWith, GivesNext, IsInside, IsOfJournal, IsOutside, IsRead, IsToldProblem, TurnSays};
+ghost use Rattle.cover_decompose.specs.Limits.{most_pins};
 
 use crate::judge::judged;
 use crate::problem::AuditProblem;
@@ -116,7 +117,7 @@ fn turned(
     requires covers { length model.now.covers < 2 ^ 32 }
     requires sources { length (source_names model.now) ≤ 1024 }
     requires observed { length (observed_names model.now) ≤ 4096 }
-    requires few { decomposed model.now ≤ 65536 }
+    requires few { decomposed model.now ≤ most_pins }
     requires read { IsRead model.now from reader.old stage }
     requires within { from < 4611686018427387904 → from + length piece.now ≤ 4611686018427387904 }
     requires most { from ≤ 4611686018427387904 }
@@ -151,7 +152,7 @@ pub(crate) fn journal_net<S: Shelf>(
     requires covers { length model.now.covers < 2 ^ 32 }
     requires sources { length (source_names model.now) ≤ 1024 }
     requires observed { length (observed_names model.now) ≤ 4096 }
-    requires few { decomposed model.now ≤ 65536 }
+    requires few { decomposed model.now ≤ most_pins }
     ensures accepted { IfOk result (λ p. EndsAccepted (S.files shelf.old) model.now journal.now (net_of p.0) p.1) }
     ensures problem { IfErr result (IsToldProblem (S.files shelf.old) model.now journal.now) }
     ensures told { result ≡ Err AuditProblem.NoJournal → IsSome (S.files shelf.old) }

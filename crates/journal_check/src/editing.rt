@@ -5,7 +5,7 @@ ghost use Rattle.gate_net.specs.Values.{HasPin};
 ghost use Rattle.journal_check.specs.Replaying.{AddSays, FixSays, IsAddedPin, TreeSays, noncontrolling, why_of};
 
 use crate::refusal::Why;
-use gate_graph::{Graph, pin_count};
+use gate_graph::{Graph, Question, pin_count};
 use gate_net::Kind;
 use refutation::{Form, Tree};
 use refutation_check::{CheckRefusal, TreeChecker};
@@ -27,19 +27,13 @@ pub(crate) fn why_tree(refusal: CheckRefusal) -> Why
 }
 
 // Whether a tree refutes a fault.
-fn tree_says(
-    checker: &mut TreeChecker,
-    graph: &Graph,
-    fault: &Fault,
-    tree: &Tree,
-) -> Result<(), Why>
-    requires { HasPin (net_of graph.now) fault.now }
-    ensures { TreeSays (net_of graph.now) fault.now tree.now result }
+fn tree_says(checker: &mut TreeChecker, question: &Question<'_>, tree: &Tree) -> Result<(), Why>
+    ensures { TreeSays (net_of question.now.graph.now) question.now.fault tree.now result }
 {
-    if let Err(NoMemory) = checker.reserve(graph.node_bound()) {
+    if let Err(NoMemory) = checker.reserve(question.graph.node_bound()) {
         return Err(Why::NoMemory);
     }
-    match checker.check(graph, fault, tree, Form::Closed) {
+    match checker.check(question, tree, Form::Closed) {
         Ok(_shape) => Ok(()),
         Err(refusal) => Err(why_tree(refusal)),
     }
@@ -70,7 +64,7 @@ pub(crate) fn fix_says(
         position,
         value,
     };
-    tree_says(checker, graph, &fault, tree)
+    tree_says(checker, &Question { graph, fault }, tree)
 }
 
 // The value that doesn't control a kind.
@@ -107,7 +101,7 @@ pub(crate) fn add_says(
     ensures { AddSays (net_of graph.now) added tree.now result }
 {
     match added {
-        Some(fault) => tree_says(checker, graph, &fault, tree),
+        Some(fault) => tree_says(checker, &Question { graph, fault }, tree),
         None => Ok(()),
     }
 }

@@ -2,7 +2,6 @@
 ghost use Rattle.std.specs.Prelude.{◌≡◌, ◌↔◌, IsTrue, IfOk, List, ℕ, length, map};
 ghost use Rattle.gate_graph.specs.Circuit.{net_of};
 ghost use Rattle.gate_net.specs.Net.{Net, source_count};
-ghost use Rattle.gate_net.specs.Values.{HasPin};
 ghost use Rattle.gate_net.specs.Faults.{IsTest, faults_of};
 ghost use Rattle.fault_sim.specs.LaneStates.{Fits};
 ghost use Rattle.journal_text.specs.declared.record.Record.TheVariants as kept;
@@ -15,7 +14,7 @@ ghost use Rattle.journal_check.specs.Vectors.{bit_word};
 use crate::editing::why_tree;
 use crate::refusal::Why;
 use fault_sim::Lanes;
-use gate_graph::{Graph, faults_of};
+use gate_graph::{Graph, Question, faults_of};
 use journal_text::Record;
 use refutation::{Form, Tree};
 use refutation_check::TreeChecker;
@@ -45,40 +44,36 @@ fn fill(words: &mut Vec<u64>, vector: &[bool])
 fn detects(
     lanes: &mut Lanes,
     words: &mut Vec<u64>,
-    graph: &Graph,
-    fault: &Fault,
+    question: &Question<'_>,
     vector: &Vector,
 ) -> bool
-    requires pin { HasPin (net_of graph.now) fault.now }
-    requires fits { Fits lanes.old (net_of graph.now) }
-    requires words { length words.old.items ≡ source_count (net_of graph.now) }
-    ensures hit { IsTrue result ↔ IsTest (net_of graph.now) fault.now vector.now }
-    ensures fits { Fits lanes.new (net_of graph.now) }
-    ensures words { length words.new.items ≡ source_count (net_of graph.now) }
+    requires fits { Fits lanes.old (net_of question.now.graph.now) }
+    requires words { length words.old.items ≡ source_count (net_of question.now.graph.now) }
+    ensures hit { IsTrue result ↔ IsTest (net_of question.now.graph.now) question.now.fault vector.now }
+    ensures fits { Fits lanes.new (net_of question.now.graph.now) }
+    ensures words { length words.new.items ≡ source_count (net_of question.now.graph.now) }
 {
     if vector.len() != words.len() {
         return false;
     }
     fill(words, vector.values());
-    let found = lanes.detect64(graph, fault, words.as_slice());
+    let found = lanes.detect64(question, words.as_slice());
     found & 1 == 1
 }
 
 // Whether the tree is that of a search of the fault that spent exactly its budget.
 fn spends(
     checker: &mut TreeChecker,
-    graph: &Graph,
-    fault: &Fault,
+    question: &Question<'_>,
     tree: &Tree,
     budget: u32,
 ) -> Result<(), Why>
-    requires { HasPin (net_of graph.now) fault.now }
-    ensures { SpentSays (net_of graph.now) budget fault.now tree.now result }
+    ensures { SpentSays (net_of question.now.graph.now) budget question.now.fault tree.now result }
 {
-    if let Err(NoMemory) = checker.reserve(graph.node_bound()) {
+    if let Err(NoMemory) = checker.reserve(question.graph.node_bound()) {
         return Err(Why::NoMemory);
     }
-    let shape = match checker.check(graph, fault, tree, Form::Partial) {
+    let shape = match checker.check(question, tree, Form::Partial) {
         Ok(shape) => shape,
         Err(refusal) => return Err(why_tree(refusal)),
     };
@@ -135,7 +130,8 @@ impl Settling {
         ensures says { (budget : ℕ) → VerdictSays (net_of graph.now) budget (left_of self.old) (kept.Hit given vector.now) (left_of self.new) result }
     {
         let fault = self.expected(given)?;
-        if !detects(&mut self.lanes, &mut self.words, graph, &fault, vector) {
+        let question = Question { graph, fault };
+        if !detects(&mut self.lanes, &mut self.words, &question, vector) {
             return Err(Why::VectorMisses);
         }
         self.settled += 1;
@@ -156,7 +152,7 @@ impl Settling {
         ensures says { VerdictSays (net_of graph.now) budget (left_of self.old) (kept.Spent given tree.now) (left_of self.new) result }
     {
         let fault = self.expected(given)?;
-        spends(checker, graph, &fault, tree, budget)?;
+        spends(checker, &Question { graph, fault }, tree, budget)?;
         self.settled += 1;
         Ok(())
     }

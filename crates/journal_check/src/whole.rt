@@ -11,6 +11,7 @@ ghost use Rattle.cover_decompose.specs.StandsFor.{HasPoints, StandsFor};
 ghost use Rattle.journal_check.specs.Accepts.{IsAccepted};
 ghost use Rattle.journal_check.specs.Replaying.{IsLocalTree, IsRefusedAt, editing};
 ghost use Rattle.journal_check.specs.declared.refusal.Why.TheVariants as why;
+ghost use Rattle.cover_decompose.specs.Limits.{most_pins};
 
 use crate::laws::{accepted_stand, replays_accept};
 use crate::refusal::{JournalRefusal, Why};
@@ -33,7 +34,7 @@ pub fn replay(
     requires covers { length model.now.covers < 2 ^ 32 }
     requires sources { length (source_names model.now) ≤ 1024 }
     requires observed { length (observed_names model.now) ≤ 4096 }
-    requires few { decomposed model.now ≤ 65536 }
+    requires few { decomposed model.now ≤ most_pins }
     requires trees { AllByRecursion IsLocalTree records.now }
     ensures accepted { IfOk result (λ g. IsAccepted model.now budget records.now (net_of g)) }
     ensures stands { IfOk result (λ g. StandsFor (net_of g) model.now × HasPoints (net_of g) model.now) }

@@ -1,5 +1,6 @@
 //! The candidates of a fault, against a list written by hand.
 use candidate_wires::{Candidate, candidates};
+use gate_graph::Question;
 use refutation::{Fact, FactSet};
 use rm_base::{Fault, NodeId};
 use std::alloc::Global;
@@ -39,7 +40,11 @@ fn found(alloc: Global, more: (u32, bool, bool)) -> Result<Vec<Candidate>, Fail>
     if facts.len() < graph.node_bound() as usize {
         return Err("too few facts".into());
     }
-    Ok(candidates(alloc, &graph, &fault, &facts)?)
+    let question = Question {
+        graph: &graph,
+        fault,
+    };
+    Ok(candidates(alloc, &question, &facts)?)
 }
 
 fn wire(node: u32, fresh: bool, gate: u32) -> Candidate {

@@ -5,7 +5,7 @@ mod forms;
 mod kept;
 
 use fault_sim::Lanes;
-use gate_graph::Graph;
+use gate_graph::{Graph, Question};
 use rm_base::{Fault, NodeId};
 use std::alloc::Global;
 use std::test::Fail;
@@ -28,10 +28,14 @@ fn ask(alloc: Global, graph: &Graph, fault: &Fault, words: &[u64]) -> Result<Ans
     if graph.source_count() as usize != words.len() {
         return Err("other sources".into());
     }
+    let question = Question {
+        graph,
+        fault: *fault,
+    };
     let mut lanes = Lanes::new(alloc, graph)?;
-    let found = lanes.detect64(graph, fault, words);
-    let again = lanes.detect(graph, fault);
-    let first = lanes.first_detecting(graph, fault);
+    let found = lanes.detect64(&question, words);
+    let again = lanes.detect(&question);
+    let first = lanes.first_detecting(&question);
     let nine = lanes.value(NodeId(9));
     Ok(Answers {
         found,

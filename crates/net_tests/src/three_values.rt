@@ -2,7 +2,7 @@
 ghost use Rattle.gate_net.specs.Net.{Net};
 ghost use Rattle.ternary_sim.specs.Sims.{Fits};
 
-use gate_graph::Graph;
+use gate_graph::{Graph, Question};
 use rm_base::vectors::Value3;
 use rm_base::{NodeId, SourceNo};
 use std::alloc::Global;
@@ -143,7 +143,7 @@ fn holds(alloc: Global, graph: &Graph, pin: (u32, u32, bool), case: &Case) -> Re
     set(&mut sim, 1, case.sources[1]);
     set(&mut sim, 2, case.sources[2]);
     set(&mut sim, 3, case.sources[3]);
-    sim.run_fault(graph, &fault);
+    sim.run_fault(&Question { graph, fault });
     let ends = sim.detected(graph) == case.detected && sim.quiet(graph) == case.quiet;
     Ok(
         ends && reads(&sim, case.reads[0])

@@ -13,6 +13,7 @@ ghost use Rattle.optimisation.specs.Ended.{HasEnded};
 ghost use Rattle.optimisation.specs.Ran.{AreBounded, HasGoneOn, HasRecorded, sum_of};
 ghost use Rattle.closing_pass.specs.Reports.{made_in};
 ghost use Rattle.optimisation.specs.Ranges.{AreSettings};
+ghost use Rattle.cover_decompose.specs.Limits.{most_pins};
 
 use candidate_wires::Outcome;
 use closing_pass::{Report, close_faults};
@@ -80,7 +81,7 @@ fn first_round<S: Shelf>(
     journal: &str,
 ) -> Result<Round, Stop>
     requires few { pins_taken graph + live_nodes graph ≤ 1048576 }
-    requires wires { wire_count (net_of graph) ≤ 65536 }
+    requires wires { wire_count (net_of graph) ≤ most_pins }
     requires settings { AreSettings settings.now }
     requires there { IsThere (S.files shelf.old) journal.now }
     ensures ran { IfOk result (λ r. HasRecorded (net_of graph) settings.now r (S.files shelf.old) (S.files shelf.new) journal.now) }
@@ -153,7 +154,7 @@ pub(crate) fn go_rounds<R: Threads + Sync, G: Gate, S: Shelf>(
     journal: &str,
 ) -> Result<Rounds, Stop>
     requires few { pins_taken graph + live_nodes graph ≤ 1048576 }
-    requires wires { wire_count (net_of graph) ≤ 65536 }
+    requires wires { wire_count (net_of graph) ≤ most_pins }
     requires settings { AreSettings settings.now }
     requires there { IsThere (S.files shelf.old) journal.now }
     ensures ended { IfOk result (λ r. HasEnded (net_of graph) settings.now r (S.files shelf.old) (S.files shelf.new) journal.now) }

@@ -21,6 +21,7 @@ ghost use Rattle.optimisation.specs.Tests.{hits_among, spents_among};
 ghost use Rattle.optimisation.specs.Whole.{IsWhole};
 ghost use Rattle.optimisation.specs.declared.halt.Halt.TheVariants as halt;
 ghost use Rattle.closing_pass.specs.Recording.{verdict_records};
+ghost use Rattle.cover_decompose.specs.Limits.{most_pins};
 
 use crate::halt::Halt;
 use crate::optimised::{Figures, Optimised};
@@ -83,7 +84,7 @@ fn fill_journal<R: Threads + Sync, G: Gate, S: Shelf>(
     journal: &str,
 ) -> Result<Rounds, Stop>
     requires few { pins_taken graph + live_nodes graph ≤ 1048576 }
-    requires wires { wire_count (net_of graph) ≤ 65536 }
+    requires wires { wire_count (net_of graph) ≤ most_pins }
     requires settings { AreSettings settings.now }
     requires there { IsThere (S.files shelf.old) journal.now }
     ensures filled { IfOk result (λ r. IsFilled (net_of graph) settings.now r (S.files shelf.old) (S.files shelf.new) journal.now) }
@@ -120,8 +121,8 @@ pub fn optimised_model<R: Threads + Sync, G: Gate, S: Shelf>(
     requires fits { decomposed model.now < 2 ^ 64 }
     requires settings { AreSettings settings.now }
     ensures whole { IfOk result (λ o. IsWhole model.now settings.now (net_of o.graph) o.figures (S.files shelf.old) (S.files shelf.new) journal.now) }
-    ensures within { OnOk result (decomposed model.now ≤ 65536) }
-    ensures over { (pins : ℕ) → result ≡ Err (halt.Limit pins) → (pins ≡ decomposed model.now) × ((65536 < decomposed model.now) × (S.files shelf.new ≡ S.files shelf.old)) }
+    ensures within { OnOk result (decomposed model.now ≤ most_pins) }
+    ensures over { (pins : ℕ) → result ≡ Err (halt.Limit pins) → (pins ≡ decomposed model.now) × ((most_pins < decomposed model.now) × (S.files shelf.new ≡ S.files shelf.old)) }
     ensures begun { IfErr result (λ _. HasBegun model.now settings.now.budget journal.now (S.files shelf.old) (S.files shelf.new)) }
     ensures failed { result ≡ Err halt.Failed → Rose (S.faults shelf.old) (S.faults shelf.new) }
     ensures later { S.faults shelf.old ≤ S.faults shelf.new }

@@ -1,5 +1,5 @@
 -- What a search for a test answers.
-use Rattle.std.specs.Prelude.{Bool, List, Some, false, length, slice_get, slice_index_or, true, ℕ, ◌+◌, ◌-◌, ◌<◌, ◌≡◌}
+use Rattle.std.specs.Prelude.{Bool, List, Some, length, slice_get, true, ℕ, ◌+◌, ◌<◌, ◌≡◌}
 use Rattle.gate_net.specs.Forward.{is_known}
 use Rattle.gate_net.specs.Net.{Net, source_count}
 use Rattle.gate_net.specs.Faults.{IsTest}

@@ -10,8 +10,8 @@ ghost use Rattle.ternary_sim.specs.Regions.{IsCurrent};
 ghost use Rattle.gate_net.specs.Faults.{IsTest};
 ghost use Rattle.podem.specs.Verdicts.{IsVectorOf};
 
-use gate_graph::Graph;
-use rm_base::{Fault, NoMemory, NodeId, SourceNo, Vector};
+use gate_graph::{Graph, Question};
+use rm_base::{NoMemory, NodeId, SourceNo, Vector};
 use std::alloc::Global;
 use ternary_sim::Tracker;
 
@@ -32,19 +32,18 @@ fn vector_of(alloc: Global, graph: &Graph, tracker: &Tracker) -> Result<Vector, 
 /// The vector of known sources with which some observed node has known and different values; the others are 0.
 pub(crate) fn test_of(
     alloc: Global,
-    graph: &Graph,
-    fault: &Fault,
+    question: &Question<'_>,
     tracker: &Tracker,
 ) -> Result<Vector, NoMemory>
-    requires current { IsCurrent (net_of graph.now) fault.now tracker.now.now }
-    requires detected { MarksDetected (net_of graph.now) (marking tracker.now.now) }
-    ensures { IfOk result (λ v. IsTest (net_of graph.now) fault.now v) }
+    requires current { IsCurrent (net_of question.now.graph.now) question.now.fault tracker.now.now }
+    requires detected { MarksDetected (net_of question.now.graph.now) (marking tracker.now.now) }
+    ensures { IfOk result (λ v. IsTest (net_of question.now.graph.now) question.now.fault v) }
 {
-    graph.well_formed();
+    question.graph.well_formed();
     gate_net::values_exist();
     gate_net::faulty_values_exist();
     gate_net::readings_hold();
     ternary_sim::laws::regions_decide();
-    let vector = vector_of(alloc, graph, tracker)?;
+    let vector = vector_of(alloc, question.graph, tracker)?;
     Ok(vector)
 }

@@ -14,14 +14,11 @@ use Rattle.blif_format.specs.declared.refusal.Quantity.TheVariants.{Text, Pins}
 use Rattle.blif_format.specs.declared.refusal.ReadRefusal.TheVariants.{Fault, Limit}
 use Rattle.blif_reader.specs.Limits.{IsWithinLimits}
 use Rattle.cover_decompose.specs.Count.{decomposed}
+pub use Rattle.cover_decompose.specs.Limits.{most_pins}
 
 -- how long a text may be
 abbrev pub most_bytes : ℕ
 most_bytes = 16777216
-
--- how many wires a decomposition may have
-abbrev pub most_pins : ℕ
-most_pins = 65536
 
 -- the text has no fault and says the model
 pub record IsSaid (text : List ℕ) (model : Model) : Type 0 where

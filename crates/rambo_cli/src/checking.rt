@@ -4,6 +4,7 @@ ghost use Rattle.cover_decompose.specs.Count.{decomposed};
 ghost use Rattle.rambo_cli.specs.Outcome.{HasPassed};
 ghost use Rattle.rambo_cli.specs.Problems.{CheckCause, ModelCause};
 ghost use Rattle.rambo_cli.specs.Written.{IsUsable};
+ghost use Rattle.cover_decompose.specs.Limits.{most_pins};
 
 use crate::laws::passed_audits_tell;
 use crate::problem::Problem;
@@ -17,7 +18,7 @@ use std::alloc::Global;
 // Whether the decomposition keeps the limit on wires.
 fn fits(alloc: Global, model: &RankedModel) -> Result<(), Problem>
     requires usable { IsUsable model.now }
-    ensures few { OnOk result (decomposed model.now ≤ 65536) }
+    ensures few { OnOk result (decomposed model.now ≤ most_pins) }
     ensures cause { IfErr result (ModelCause model.now 0 0) }
 {
     match decompose(alloc, model) {

@@ -1,6 +1,6 @@
 -- The addition loop from block to block.
 use Rattle.std.proofs.Common.{◌≡◌, ℕ, suc, ◌+◌, ◌*◌, ◌≤◌, Bool, true, false, Some, List, [], ◌∷◌, ◌++◌, length, refl, sym, ◌∙◌, ap, subst, arith}
-use Rattle.std.specs.Prelude.{Err, IfOk, IsErrAnd, Ok, Result}
+use Rattle.std.specs.Prelude.{Err, IfErr, IfOk, IsErrAnd, Ok, Result}
 use Rattle.gate_net.specs.Net.{Net, IsWellFormed, wire_count, source_count, gate_count}
 use Rattle.wire_edit.proofs.Public.{live_bound}
 use Rattle.wire_edit.specs.declared.steps.Step.{Step}
@@ -9,6 +9,8 @@ use Rattle.candidate_wires.specs.declared.candidate.Pair.{Pair}
 use Rattle.candidate_wires.specs.Pairs.{ArePairsBefore}
 use Rattle.candidate_wires.specs.Additions.{Addition, additions}
 use Rattle.candidate_wires.specs.Tries.{NoneGains, ArePlaces, EachImproves}
+use Rattle.journal_text.specs.declared.append.Stop.{Stop}
+use Rattle.journal_text.specs.declared.append.Stop.TheVariants as stop
 use Rattle.journal_text.specs.declared.record.Record.{Record}
 use Rattle.journal_text.specs.Runs.{AcceptedTo, steps_of}
 use Rattle.gate_graph.specs.Circuit.{Circuit, net_of, pins_taken, live_nodes}
@@ -33,6 +35,16 @@ use Rattle.rar_loop.proofs.Sizing.{HasSize, accepted_places, accepted_sources, w
 pub err_ok : {V E : Type 0} (r : Result V E) (P : E → Type 0) (Q : V → Type 0) → IsErrAnd r P → IfOk r Q
 err_ok (Ok x) P Q h = absurd h
 err_ok (Err e) P Q h = tt
+
+-- where it is that error, what is said of an error is that
+pub err_of : {V : Type 0} (r : Result V Stop) (e : Stop) → IsErrAnd r (λ q. q ≡ e) → r ≡ Err stop.Failed → e ≡ stop.Failed
+err_of (Ok x) e P same = cc
+err_of (Err q) e P same = let is : q ≡ stop.Failed = cc in sym P ∙ is
+
+-- what holds of each error
+pub if_err : {V E : Type 0} (r : Result V E) (P : E → Type 0) → ((e : E) → P e) → IfErr r P
+if_err (Ok x) P h = tt
+if_err (Err e) P h = h e
 
 pub clean_then : (pending : Bool) (xs ys : List Step) → IsClean pending xs → IsClean false ys → IsClean pending (xs ++ ys)
 clean_then true [] ys a b = cc

@@ -1,5 +1,5 @@
 -- Targets, candidates and pairs, one after another.
-use Rattle.std.proofs.Common.{◌≡◌, ℕ, zero, suc, ◌+◌, ◌<◌, ◌≤◌, ◌⊎◌, inl, inr, Bool, not, Option, Some, None, List, Vec, Global, [], ◌∷◌, ◌++◌, length, map, take, drop, refl, sym, ◌∙◌, ap, subst, append_assoc, add-one, get_or, arith}
+use Rattle.std.proofs.Common.{◌≡◌, ℕ, zero, suc, ◌+◌, ◌<◌, ◌≤◌, ◌⊎◌, inl, inr, Bool, not, Option, Some, None, List, [], ◌∷◌, ◌++◌, length, map, take, drop, refl, sym, ◌∙◌, ap, subst, append_assoc, add-one, get_or, arith}
 use Rattle.std.specs.Prelude.{slice_get}
 use Rattle.std.proofs.lemmas.List.{append-nil}
 use Rattle.rm_base.specs.declared.numbers.Fault.{Fault}
@@ -166,15 +166,11 @@ tour_back t u v target depth left after (tour.Spent at) back w =
 tour_back t u v target depth left after (tour.Gained records) back w =
     (w.0, (w.1.0, (w.1.1.0, (subst (λ (n : Net). AreTried n target w.0 w.1.0) back.same.net w.1.1.1.0, (w.1.1.1.1.0, (w.1.1.1.1.1.0, ahead_back t u v (paired target w.1.1.0) depth records.items back w.1.1.1.1.1.1))))))
 
--- what a tour of a trial comes to on the graph that the trial gives, or on its graph where a pair gained
-pub walk_done : (t u : Tried) (graph : Circuit) (depth left after : ℕ) → IsSame u.graph graph → IsTour t depth left after u tour.Done → IsWalk t.graph depth left after graph tour.Done
-walk_done t u graph depth left after same w = (same_then t.graph u.graph graph w.0.same same, w.1)
-
-pub walk_spent : (t u : Tried) (graph : Circuit) (at : Pair) (depth left after : ℕ) → IsSame u.graph graph → IsTour t depth left after u (tour.Spent at) → IsWalk t.graph depth left after graph (tour.Spent at)
-walk_spent t u graph at depth left after same w = (same_then t.graph u.graph graph w.0.same same, w.1)
-
-pub walk_gained : (t u : Tried) (records : Vec Record Global) (depth left after : ℕ) → IsTour t depth left after u (tour.Gained records) → IsWalk t.graph depth left after u.graph (tour.Gained records)
-walk_gained t u records depth left after w = (w.0, (w.1.0, (w.1.1.0, (w.1.1.1.0, (w.1.1.1.1.0, w.1.1.1.1.1.better)))))
+-- what a tour of a trial comes to on its graph
+pub walk_here : (t u : Tried) (depth left after : ℕ) (end : Tour) → IsTour t depth left after u end → IsWalk t.graph depth left after u.graph end
+walk_here t u depth left after tour.Done w = (w.0.same, w.1)
+walk_here t u depth left after (tour.Spent at) w = (w.0.same, w.1)
+walk_here t u depth left after (tour.Gained records) w = (w.0, (w.1.0, (w.1.1.0, (w.1.1.1.0, (w.1.1.1.1.0, w.1.1.1.1.1.better)))))
 
 -- PAIRS
 pub pairs_then : (net : Net) (ts : List Fault) (t : Fault) (ps : List Pair) (here : List Candidate) → ArePairsOf net ts ps → AreCandidatesOf net t here → ArePairsOf net (ts ++ t ∷ []) (ps ++ map (paired t) here)

@@ -1,5 +1,5 @@
 -- The addition loop with its journal.
-use Rattle.std.proofs.Common.{◌≡◌, ℕ, suc, ◌+◌, ◌-◌, ◌*◌, ◌≤◌, Option, List, [], ◌++◌, Vec, Global, length, refl, sym, ◌∙◌, ap, subst, arith}
+use Rattle.std.proofs.Common.{◌≡◌, ℕ, suc, ◌+◌, ◌-◌, ◌≤◌, Option, List, [], ◌++◌, Vec, Global, length, refl, sym, ◌∙◌, ap, subst, arith}
 use Rattle.std.proofs.lemmas.List.{length-append}
 use Rattle.rm_base.specs.Files.{Files}
 use Rattle.rm_base.specs.declared.settings.Made.{Made}
@@ -13,25 +13,15 @@ use Rattle.journal_text.specs.Appends.{IsThere}
 use Rattle.journal_text.specs.Joining.{TextsAppend, RunsJoin}
 use Rattle.journal_text.specs.Runs.{steps_of, none_made, made_by, HasAppended, HasAppendedPart, IsStopped, records_text}
 use Rattle.rar_loop.specs.declared.walking.Tour.TheVariants.{Done, Spent, Gained}
-use Rattle.rar_loop.specs.Sizes.{IsSame, IsWithin, most_steps}
+use Rattle.rar_loop.specs.Sizes.{IsSame}
 use Rattle.rar_loop.specs.Walking.{IsWalk}
 use Rattle.rar_loop.specs.Ended.{IsImproved, IsOptimised, AreFew}
-use Rattle.rar_loop.specs.Improving.{HasBegun, HasImproved}
+use Rattle.rar_loop.specs.Improving.{HasBegun, HasImproved, IsThrough, IsUnderWay}
 use Rattle.rar_loop.proofs.Looping.{improved_first, improved_more}
 use Rattle.rar_loop.proofs.Sizing.{within_same, within_then}
 
--- the records so far, which the journal has and the counts count; the graph takes no more than at first, and so many tries are left
-pub record Streams (before : Circuit) (depth limit left : ℕ) (mid : Circuit) (made : Made) (old now : Option Files) (name : List ℕ) : Type 0 where
-  pub records : List Record
-  pub improved : HasImproved (net_of before) depth (net_of mid) records (limit - left)
-  pub written : HasAppended old now name (records_text records)
-  pub counts : made ≡ made_by none_made (steps_of records)
-  pub within : IsWithin before mid
-  pub left_within : left ≤ limit
-  pub few : length records + wire_count (net_of mid) * most_steps ≤ (wire_count (net_of before) + 1) * most_steps
-
 pub streams_first : (before swept : Circuit) (depth limit : ℕ) (records : List Record) (made made' : Made) (old now : Option Files) (name : List ℕ) → HasBegun before depth swept records → HasAppended old now name (records_text records) → made ≡ none_made → made' ≡ made_by made (steps_of records)
-    → Streams before depth limit limit swept made' old now name
+    → IsUnderWay before depth limit limit swept made' old now name
 streams_first before swept depth limit records made made' old now name b written none counts =
     let zero_left : limit - limit ≡ 0 = omega arith in
     record {
@@ -44,8 +34,8 @@ streams_first before swept depth limit records made made' old now name b written
       few = omega (arith, b.few, b.fewer);
     }
 
-pub streams_more : TextsAppend → RunsJoin → (before mid : Circuit) (depth limit left left' : ℕ) (better : Circuit) (records : Vec Record Global) (made made' : Made) (old now now' : Option Files) (name : List ℕ) → Streams before depth limit left mid made old now name
-    → IsWalk mid depth left left' better (Gained records) → HasAppended now now' name (records_text records.items) → made' ≡ made_by made (steps_of records.items) → Streams before depth limit left' better made' old now' name
+pub streams_more : TextsAppend → RunsJoin → (before mid : Circuit) (depth limit left left' : ℕ) (better : Circuit) (records : Vec Record Global) (made made' : Made) (old now now' : Option Files) (name : List ℕ) → IsUnderWay before depth limit left mid made old now name
+    → IsWalk mid depth left left' better (Gained records) → HasAppended now now' name (records_text records.items) → made' ≡ made_by made (steps_of records.items) → IsUnderWay before depth limit left' better made' old now' name
 streams_more texts join before mid depth limit left left' better records made made' old now now' name o w written counts =
     let b = w.1.1.1.1.1 in
     let one : HasImproved (net_of before) depth (net_of better) (o.records ++ records.items) ((limit - left) + suc (length w.1.0)) =
@@ -69,26 +59,28 @@ pub record IsMost (m : Made) (n : ℕ) : Type 0 where
   pub fixes : m.fixes ≤ n
   pub local : m.local ≤ n
 
-pub streams_most : RunsJoin → (before mid : Circuit) (depth limit left : ℕ) (made : Made) (old now : Option Files) (name : List ℕ) → (o : Streams before depth limit left mid made old now name) → IsMost made (length o.records)
+pub streams_most : RunsJoin → (before mid : Circuit) (depth limit left : ℕ) (made : Made) (old now : Option Files) (name : List ℕ) → (o : IsUnderWay before depth limit left mid made old now name) → IsMost made (length o.records)
 streams_most join before mid depth limit left made old now name o =
     let sum : (made_by none_made (steps_of o.records)).adds + (made_by none_made (steps_of o.records)).fixes + (made_by none_made (steps_of o.records)).local ≡ 0 + 0 + 0 + length (steps_of o.records) = join.counts none_made (steps_of o.records) in
     let each : length (steps_of o.records) ≡ length o.records = join.each (net_of before) (net_of mid) o.records o.improved.accepted in
     subst (λ (m : Made). IsMost m (length o.records)) (sym o.counts) (record { adds = omega (arith, sum, each); fixes = omega (arith, sum, each); local = omega (arith, sum, each) })
 
 -- and all are far from the end of their type
-pub streams_few : RunsJoin → (before mid : Circuit) (depth limit left : ℕ) (made : Made) (old now : Option Files) (name : List ℕ) → wire_count (net_of before) ≤ 1048576 → Streams before depth limit left mid made old now name → AreFew made
+pub streams_few : RunsJoin → (before mid : Circuit) (depth limit left : ℕ) (made : Made) (old now : Option Files) (name : List ℕ) → wire_count (net_of before) ≤ 1048576 → IsUnderWay before depth limit left mid made old now name → AreFew made
 streams_few join before mid depth limit left made old now name le o =
     let m : IsMost made (length o.records) = streams_most join before mid depth limit left made old now name o in
     record { adds = omega (arith, m.adds, o.few, le); fixes = omega (arith, m.fixes, o.few, le); local = omega (arith, m.local, o.few, le) }
 
 -- AT THE END
-streams_to : (before mid last : Circuit) (depth limit left : ℕ) (outcome : Outcome) (made : Made) (old now : Option Files) (name : List ℕ) → (o : Streams before depth limit left mid made old now name)
-    → IsImproved (net_of before) depth limit o.records (net_of mid) outcome → IsSame mid last → IsOptimised (net_of before) (net_of last) depth limit outcome made old now name
-streams_to before mid last depth limit left outcome made old now name o i same =
-    subst (λ (n : Net). IsOptimised (net_of before) n depth limit outcome made old now name) (sym same.net) (record { records = o.records; improved = i; written = o.written; counted = o.counts })
+streams_to : (before mid last : Circuit) (depth limit left : ℕ) (outcome : Outcome) (made : Made) (old now : Option Files) (name : List ℕ) → (o : IsUnderWay before depth limit left mid made old now name)
+    → IsImproved (net_of before) depth limit o.records (net_of mid) outcome → IsSame mid last → IsThrough before depth limit last outcome made old now name
+streams_to before mid last depth limit left outcome made old now name o i same = record {
+  optimised = subst (λ (n : Net). IsOptimised (net_of before) n depth limit outcome made old now name) (sym same.net) (record { records = o.records; improved = i; written = o.written; counted = o.counts });
+  within = within_then before mid last o.within (within_same mid last same);
+}
 
-pub streams_done : (before mid : Circuit) (depth limit left left' : ℕ) (last : Circuit) (made : Made) (old now : Option Files) (name : List ℕ) → Streams before depth limit left mid made old now name → IsWalk mid depth left left' last Done
-    → IsOptimised (net_of before) (net_of last) depth limit (Settled (limit - left')) made old now name
+pub streams_done : (before mid : Circuit) (depth limit left left' : ℕ) (last : Circuit) (made : Made) (old now : Option Files) (name : List ℕ) → IsUnderWay before depth limit left mid made old now name → IsWalk mid depth left left' last Done
+    → IsThrough before depth limit last (Settled (limit - left')) made old now name
 streams_done before mid depth limit left left' last made old now name o w =
     streams_to before mid last depth limit left (Settled (limit - left')) made old now name o (record {
       accepted = o.improved.accepted;
@@ -100,8 +92,8 @@ streams_done before mid depth limit left left' last made old now name o w =
       ends = record { pairs = w.1.0; all = w.1.1.0; none = w.1.1.1.0; counted = limit - left; are_tries = o.improved.are_tries; sum = omega (arith, o.left_within, w.1.1.1.1); within = omega arith };
     }) w.0
 
-pub streams_spent : (before mid : Circuit) (depth limit left left' : ℕ) (last : Circuit) (at : Pair) (made : Made) (old now : Option Files) (name : List ℕ) → Streams before depth limit left mid made old now name → IsWalk mid depth left left' last (Spent at)
-    → IsOptimised (net_of before) (net_of last) depth limit (TriesSpent limit at) made old now name
+pub streams_spent : (before mid : Circuit) (depth limit left left' : ℕ) (last : Circuit) (at : Pair) (made : Made) (old now : Option Files) (name : List ℕ) → IsUnderWay before depth limit left mid made old now name → IsWalk mid depth left left' last (Spent at)
+    → IsThrough before depth limit last (TriesSpent limit at) made old now name
 streams_spent before mid depth limit left left' last at made old now name o w =
     streams_to before mid last depth limit left (TriesSpent limit at) made old now name o (record {
       accepted = o.improved.accepted;
@@ -113,8 +105,12 @@ streams_spent before mid depth limit left left' last at made old now name o w =
       ends = record { pairs = w.1.0; before = w.1.1.0; none = w.1.1.1.0; counted = limit - left; are_tries = o.improved.are_tries; sum = omega (arith, o.left_within, w.1.1.1.1.1); used_up = refl };
     }) w.0
 
-pub streams_within : (before mid last : Circuit) (depth limit left : ℕ) (made : Made) (old now : Option Files) (name : List ℕ) → Streams before depth limit left mid made old now name → IsSame mid last → IsWithin before last
-streams_within before mid last depth limit left made old now name o same = within_then before mid last o.within (within_same mid last same)
+-- the same of a graph that is given in place of the last
+pub through_same : (before last given : Circuit) (depth limit : ℕ) (outcome : Outcome) (made : Made) (old now : Option Files) (name : List ℕ) → IsThrough before depth limit last outcome made old now name → IsSame last given → IsThrough before depth limit given outcome made old now name
+through_same before last given depth limit outcome made old now name t same = record {
+  optimised = subst (λ (n : Net). IsOptimised (net_of before) n depth limit outcome made old now name) (sym same.net) t.optimised;
+  within = within_then before last given t.within (within_same last given same);
+}
 
 -- WHERE IT STOPS
 pub stopped_none : TextsAppend → (net : Net) (old : Option Files) (name : List ℕ) → IsThere old name → IsStopped net old old name
@@ -123,10 +119,10 @@ stopped_none texts net old name there = record { records = []; after = net; acce
 pub stopped_first : (before swept : Circuit) (depth : ℕ) (records : List Record) (old now : Option Files) (name : List ℕ) → HasBegun before depth swept records → HasAppendedPart old now name (records_text records) → IsStopped (net_of before) old now name
 stopped_first before swept depth records old now name b part = record { records = records; after = net_of swept; accepted = b.accepted; written = part }
 
-pub stopped_whole : TextsAppend → (before mid : Circuit) (depth limit left : ℕ) (made : Made) (old now : Option Files) (name : List ℕ) → Streams before depth limit left mid made old now name → IsStopped (net_of before) old now name
+pub stopped_whole : TextsAppend → (before mid : Circuit) (depth limit left : ℕ) (made : Made) (old now : Option Files) (name : List ℕ) → IsUnderWay before depth limit left mid made old now name → IsStopped (net_of before) old now name
 stopped_whole texts before mid depth limit left made old now name o = record { records = o.records; after = net_of mid; accepted = o.improved.accepted; written = texts.whole old now name (records_text o.records) o.written }
 
-pub stopped_more : TextsAppend → RunsJoin → (before mid : Circuit) (depth limit left left' : ℕ) (better : Circuit) (records : Vec Record Global) (made : Made) (old now now' : Option Files) (name : List ℕ) → Streams before depth limit left mid made old now name → IsWalk mid depth left left' better (Gained records)
+pub stopped_more : TextsAppend → RunsJoin → (before mid : Circuit) (depth limit left left' : ℕ) (better : Circuit) (records : Vec Record Global) (made : Made) (old now now' : Option Files) (name : List ℕ) → IsUnderWay before depth limit left mid made old now name → IsWalk mid depth left left' better (Gained records)
     → HasAppendedPart now now' name (records_text records.items) → IsStopped (net_of before) old now' name
 stopped_more texts join before mid depth limit left left' better records made old now now' name o w part = record {
   records = o.records ++ records.items;

@@ -1,27 +1,105 @@
 //! The addition loop, each run of steps that is kept recorded at once.
-ghost use Rattle.std.specs.Prelude.{◌≡◌, ◌≤◌, ◌+◌, Err, IfOk, IfErr};
+ghost use Rattle.std.specs.Prelude.{◌≡◌, ◌≤◌, ◌+◌, Err, IfOk, IfErr, OnOk};
 ghost use Rattle.rm_base.specs.Causes.{Rose};
 ghost use Rattle.gate_net.specs.Net.{wire_count};
-ghost use Rattle.gate_graph.specs.Circuit.{net_of, pins_taken, live_nodes};
+ghost use Rattle.gate_graph.specs.Circuit.{Circuit, net_of, pins_taken, live_nodes};
 ghost use Rattle.wire_edit.specs.Order.{IsTidy};
 ghost use Rattle.journal_text.specs.Accepted.{Keeps};
 ghost use Rattle.journal_text.specs.Appends.{IsThere};
 ghost use Rattle.journal_text.specs.Runs.{IsStopped};
 ghost use Rattle.rar_loop.specs.Sizes.{IsWithin};
+ghost use Rattle.rar_loop.specs.Spaces.{IsReady};
 ghost use Rattle.rar_loop.specs.Swept.{IsSwept};
 ghost use Rattle.rar_loop.specs.Ended.{IsOptimised, AreFew};
+ghost use Rattle.rar_loop.specs.Improving.{ComesThrough, HasBegun, IsHere, StopsFrom, SweepComesThrough};
 
 use crate::beginning::begun;
 use crate::walking::{Tour, walk_pairs};
-use crate::workspace::finished;
+use crate::workspace::{Workspace, finished};
 use candidate_wires::Outcome;
 use gate_graph::Graph;
 use journal_text::{
-    Stop, accepted_runs_are_writable, accepted_runs_keep, append_records, count_records, runs_join,
-    texts_append,
+    Record, Stop, accepted_runs_are_writable, accepted_runs_keep, append_records, count_records,
+    runs_join, texts_append,
 };
 use rm_base::{Made, Settings, Shelf};
 use std::alloc::Global;
+
+// Tries pairs from a swept net on, and records each run of steps that is kept.
+fn improve<S: Shelf>(
+    alloc: Global,
+    space: &mut Workspace,
+    settings: &Settings,
+    shelf: &mut S,
+    journal: &str,
+    made: &mut Made,
+) -> Result<Outcome, Stop>
+    requires ready { IsReady space.old }
+    requires depth { settings.now.depth ≤ 2 }
+    requires there { IsThere (S.files shelf.old) journal.now }
+    requires under_way { IsHere settings.now.depth settings.now.tries space.old.trial.graph made.old (S.files shelf.old) journal.now }
+    ensures through { IfOk result (λ outcome. ComesThrough settings.now.depth settings.now.tries space.old.trial.graph made.old (S.files shelf.old) space.new.trial.graph outcome made.new (S.files shelf.new) journal.now) }
+    ensures ready { OnOk result (IsReady space.new) }
+    ensures made { OnOk result (AreFew made.new) }
+    ensures stopped { IfErr result (λ _. StopsFrom settings.now.depth settings.now.tries space.old.trial.graph made.old (S.files shelf.old) (S.files shelf.new) journal.now) }
+    ensures there { IsThere (S.files shelf.new) journal.now }
+    ensures failed { result ≡ Err Stop.Failed → Rose (S.faults shelf.old) (S.faults shelf.new) }
+    ensures later { S.faults shelf.old ≤ S.faults shelf.new }
+{
+    accepted_runs_are_writable();
+    texts_append();
+    runs_join();
+    let mut left = settings.tries;
+    loop {
+        match walk_pairs(alloc, space, settings.depth, &mut left)? {
+            Tour::Done => {
+                let tries = settings.tries - left;
+                return Ok(Outcome::Settled { tries });
+            }
+            Tour::Spent { at } => {
+                let tries = settings.tries;
+                return Ok(Outcome::TriesSpent { tries, at });
+            }
+            Tour::Gained { records } => {
+                append_records(alloc, shelf, journal, &records)?;
+                count_records(&records, made);
+            }
+        }
+    }
+}
+
+// The same, once the records of the sweep are recorded.
+fn improve_swept<S: Shelf>(
+    alloc: Global,
+    space: &mut Workspace,
+    records: &[Record],
+    settings: &Settings,
+    shelf: &mut S,
+    journal: &str,
+) -> Result<(Outcome, Made), Stop>
+    requires ready { IsReady space.old }
+    requires depth { settings.now.depth ≤ 2 }
+    requires there { IsThere (S.files shelf.old) journal.now }
+    requires begun { (before : Circuit) × ((wire_count (net_of before) ≤ 1048576) × HasBegun before settings.now.depth space.old.trial.graph records.now) }
+    ensures through { IfOk result (λ r. SweepComesThrough settings.now.depth settings.now.tries space.old.trial.graph records.now (S.files shelf.old) space.new.trial.graph r.0 r.1 (S.files shelf.new) journal.now) }
+    ensures ready { OnOk result (IsReady space.new) }
+    ensures made { IfOk result (λ r. AreFew r.1) }
+    ensures stopped { IfErr result (λ _. (before : Circuit) → HasBegun before settings.now.depth space.old.trial.graph records.now → IsStopped (net_of before) (S.files shelf.old) (S.files shelf.new) journal.now) }
+    ensures there { IsThere (S.files shelf.new) journal.now }
+    ensures failed { result ≡ Err Stop.Failed → Rose (S.faults shelf.old) (S.faults shelf.new) }
+    ensures later { S.faults shelf.old ≤ S.faults shelf.new }
+{
+    accepted_runs_are_writable();
+    let mut made = Made {
+        adds: 0,
+        fixes: 0,
+        local: 0,
+    };
+    append_records(alloc, shelf, journal, records)?;
+    count_records(records, &mut made);
+    let outcome = improve(alloc, space, settings, shelf, journal, &mut made)?;
+    Ok((outcome, made))
+}
 
 /// Removes wires, by sweeping and by adding others, until no pair gains or the tries of the settings are used up
 /// (redundancy addition and removal: Entrena and Cheng 1995). Each run of steps that is kept is recorded with its trees
@@ -52,32 +130,8 @@ pub fn optimise<S: Shelf>(
 {
     graph.well_formed();
     accepted_runs_keep();
-    accepted_runs_are_writable();
     texts_append();
-    runs_join();
-    let mut made = Made {
-        adds: 0,
-        fixes: 0,
-        local: 0,
-    };
     let (mut space, records) = begun(alloc, graph, settings.depth, found)?;
-    append_records(alloc, shelf, journal, &records)?;
-    count_records(&records, &mut made);
-    let mut left = settings.tries;
-    loop {
-        match walk_pairs(alloc, &mut space, settings.depth, &mut left)? {
-            Tour::Done => {
-                let tries = settings.tries - left;
-                return Ok((finished(space), Outcome::Settled { tries }, made));
-            }
-            Tour::Spent { at } => {
-                let tries = settings.tries;
-                return Ok((finished(space), Outcome::TriesSpent { tries, at }, made));
-            }
-            Tour::Gained { records } => {
-                append_records(alloc, shelf, journal, &records)?;
-                count_records(&records, &mut made);
-            }
-        }
-    }
+    let (outcome, made) = improve_swept(alloc, &mut space, &records, settings, shelf, journal)?;
+    Ok((finished(space), outcome, made))
 }

@@ -6,6 +6,7 @@ ghost use Rattle.wire_edit.specs.Work.{work};
 ghost use Rattle.rar_loop.specs.Going.{Goes};
 ghost use Rattle.rar_loop.specs.Spaces.{HasToolsFor, TouchesOn};
 ghost use Rattle.rar_loop.specs.Swept.{HasLookedAt, HasPassed, HasSwept};
+ghost use Rattle.rm_base.specs.Numbers.{number_bound};
 
 use crate::changes::Changed;
 use crate::fixing::fix_and_tidy;
@@ -50,7 +51,7 @@ fn sweep_at(
 
 // The gate to look at next: the same one, where a pin of it was fixed.
 fn next_gate(gate: u32, found: bool) -> u32
-    requires { gate < 4294967295 }
+    requires { gate < number_bound }
     ensures { result ≡ (if found then gate else gate + 1) }
 {
     if found { gate } else { gate + 1 }

@@ -21,7 +21,7 @@ use crate::sweeping::sweep;
 use crate::tidying::push_local;
 use crate::workspace::Workspace;
 use candidate_wires::{Candidate, Pair, added_pin, control_of, least_free};
-use gate_graph::Graph;
+use gate_graph::{Graph, Question};
 use journal_text::{Record, accepted_steps_keep};
 use recursive_learning::refuter::Refuter;
 use refutation::laws::closed_has_all;
@@ -151,7 +151,11 @@ fn add_wire(
     }
     changed.note(trial.graph(), step)?;
     refuter.follow(trial.graph(), added)?;
-    match refuted(refuter, trial.graph(), &fault, depth)? {
+    let question = Question {
+        graph: trial.graph(),
+        fault,
+    };
+    match refuted(refuter, &question, depth)? {
         None => Ok(false),
         Some(tree) => {
             log.push(Record::Step { step, tree })?;
@@ -205,7 +209,11 @@ fn replace(
     if !has_added {
         return Ok(false);
     }
-    match refuted(&mut space.refuter, trial.graph(), &pair.fault, depth)? {
+    let question = Question {
+        graph: trial.graph(),
+        fault: pair.fault,
+    };
+    match refuted(&mut space.refuter, &question, depth)? {
         None => Ok(false),
         Some(tree) => {
             fix_and_tidy(alloc, trial, log, &mut changed, pair.fault, tree)?;

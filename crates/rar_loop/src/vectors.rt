@@ -1,7 +1,7 @@
 //! Vectors that are kept for a net: a fault that one of them detects is never refuted, so it isn't asked.
 ghost use Rattle.std.specs.Prelude.{◌≡◌, ◌<◌, ℕ, Bool, IfOk, OnOk, IsTrue, None, Some, length, replicate, slice_get};
 ghost use Rattle.gate_net.specs.Net.{Net};
-ghost use Rattle.gate_net.specs.Values.{Detects, HasPin};
+ghost use Rattle.gate_net.specs.Values.{Detects};
 ghost use Rattle.gate_graph.specs.Circuit.{net_of};
 ghost use Rattle.fault_sim.specs.Words.{assignment, lane};
 ghost use Rattle.fault_sim.specs.BlockStates.{AreSimulated};
@@ -13,7 +13,7 @@ ghost use Rattle.rar_loop.specs.Trying.{IsNewPinOpen, MayAdd};
 
 use candidate_wires::{Candidate, control_of};
 use fault_sim::{Blocks, Lanes};
-use gate_graph::Graph;
+use gate_graph::{Graph, Question};
 use gate_net::outside_is_equal;
 use refutation::detected::detected_faults_stay_open;
 use rm_base::{Fault, NoMemory, NodeId};
@@ -202,7 +202,7 @@ fn turned_by(lanes: &mut Lanes, graph: &Graph, gate: NodeId) -> u64
         position: 0,
         value: control,
     };
-    lanes.detect(graph, &fault)
+    lanes.detect(&Question { graph, fault })
 }
 
 impl Vectors {
@@ -245,16 +245,15 @@ impl Vectors {
     }
 
     /// Whether one of them detects the fault.
-    pub(crate) fn detect(&mut self, graph: &Graph, fault: &Fault) -> bool
-        requires pin { HasPin (net_of graph.now) fault.now }
-        requires vectors { AreFor self.old (net_of graph.now) }
-        ensures detected { IsTrue result → (a : ℕ → Bool) × Detects (net_of graph.now) fault.now a }
-        ensures vectors { AreFor self.new (net_of graph.now) }
+    pub(crate) fn detect(&mut self, question: &Question<'_>) -> bool
+        requires vectors { AreFor self.old (net_of question.now.graph.now) }
+        ensures detected { IsTrue result → (a : ℕ → Bool) × Detects (net_of question.now.graph.now) question.now.fault a }
+        ensures vectors { AreFor self.new (net_of question.now.graph.now) }
     {
-        if any(self.lanes.detect(graph, fault)) {
+        if any(self.lanes.detect(question)) {
             return true;
         }
-        match self.found.detects_any(graph, fault) {
+        match self.found.detects_any(question) {
             Some(_vector) => true,
             None => false,
         }

@@ -11,6 +11,7 @@ use crate::candidates::candidates_of;
 use crate::trying::{Attempt, try_pair};
 use crate::workspace::Workspace;
 use candidate_wires::{Finder, Pair, targets};
+use gate_graph::Question;
 use journal_text::Record;
 use refutation::laws::closed_has_all;
 use rm_base::{Fault, NoMemory};
@@ -69,8 +70,11 @@ fn walk_target(
     ensures numbers { finder.new ≡ finder.old }
     ensures tools { OnOk result (HasToolsFor (net_of space.new.trial.graph) space.new) }
 {
-    let graph = space.trial.graph();
-    let found = candidates_of(alloc, &mut space.refuter, finder, graph, &target)?;
+    let question = Question {
+        graph: space.trial.graph(),
+        fault: target,
+    };
+    let found = candidates_of(alloc, &mut space.refuter, finder, &question)?;
     for place in 0..found.len() {
         let pair = Pair {
             fault: target,

@@ -2,6 +2,8 @@
 ghost use Rattle.std.specs.Prelude.{◌≡◌, ◌≤◌, [], IfOk, OnOk};
 ghost use Rattle.gate_graph.specs.Circuit.{net_of};
 ghost use Rattle.wire_edit.specs.Order.{IsTidy};
+ghost use Rattle.recursive_learning.specs.Serving.{IsServing};
+ghost use Rattle.rar_loop.specs.Kept.{AreFor};
 ghost use Rattle.rar_loop.specs.Sizes.{IsSame};
 ghost use Rattle.rar_loop.specs.Spaces.{CanFollow, CanReturn, HasToolsFor, TouchesNoted};
 
@@ -23,6 +25,20 @@ pub(crate) struct Workspace {
     pub(crate) touched: Vec<NodeId>,
 }
 
+// What detects and refutes the faults of a graph.
+fn tools_for(
+    alloc: Global,
+    graph: &Graph,
+    found: &[Vec<u64>],
+) -> Result<(Vectors, Refuter), NoMemory>
+    ensures vectors { IfOk result (λ r. AreFor r.0 (net_of graph.now)) }
+    ensures refuter { IfOk result (λ r. IsServing (net_of graph.now) r.1) }
+{
+    let vectors = Vectors::drawn(alloc, graph, found)?;
+    let refuter = Refuter::for_graph(alloc, graph)?;
+    Ok((vectors, refuter))
+}
+
 impl Workspace {
     /// A workspace over the trial, with vectors that were found, a word for each source.
     pub(crate) fn over(
@@ -33,8 +49,7 @@ impl Workspace {
         ensures trial { IfOk result (λ s. s.trial ≡ trial) }
         ensures tools { IfOk result (HasToolsFor (net_of trial.graph)) }
     {
-        let vectors = Vectors::drawn(alloc, trial.graph(), found)?;
-        let refuter = Refuter::for_graph(alloc, trial.graph())?;
+        let (vectors, refuter) = tools_for(alloc, trial.graph(), found)?;
         Ok(Workspace {
             trial,
             refuter,

@@ -6,7 +6,7 @@ mod beside;
 mod drawn;
 mod used;
 
-use gate_graph::Graph;
+use gate_graph::{Graph, Question};
 use podem::{Searcher, Verdict};
 use refutation::Item;
 use rm_base::NodeId;
@@ -139,7 +139,7 @@ fn gives(searcher: &mut Searcher, graph: &Graph, case: &Case) -> Result<bool, Fa
     if case.budget == 0 {
         return Err("no budget".into());
     }
-    let verdict = searcher.search(graph, &fault, case.budget)?;
+    let verdict = searcher.search(&Question { graph, fault }, case.budget)?;
     Ok(agrees(&verdict, case.answer))
 }
 

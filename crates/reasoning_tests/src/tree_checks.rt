@@ -1,5 +1,5 @@
 //! Trees on two nets, each with what the checker answers.
-use gate_graph::Graph;
+use gate_graph::{Graph, Question};
 use refutation::{Form, Item, Line, Shape, Tree, TreeBuilder};
 use refutation_check::{CheckRefusal, check_tree, shortened};
 use rm_base::{NoMemory, NodeId};
@@ -172,7 +172,7 @@ fn tree_of(alloc: Global, items: &[Item]) -> Result<Tree, NoMemory> {
 fn holds(alloc: Global, graph: &Graph, case: &Case) -> Result<bool, Fail> {
     let fault = fault_at(graph, case.fault.0, case.fault.1, case.fault.2)?;
     let tree = tree_of(alloc, case.items)?;
-    Ok(check_tree(alloc, graph, &fault, &tree, case.form) == case.answer)
+    Ok(check_tree(alloc, &Question { graph, fault }, &tree, case.form) == case.answer)
 }
 
 // The first case that the checker doesn't answer as it should.
@@ -236,7 +236,7 @@ const SHORTER: [Shorter; 8] = [
 fn is_left(alloc: Global, graph: &Graph, case: &Shorter) -> Result<bool, Fail> {
     let fault = fault_at(graph, case.fault.0, case.fault.1, case.fault.2)?;
     let tree = tree_of(alloc, case.items)?;
-    let short = shortened(alloc, graph, &fault, tree)?;
+    let short = shortened(alloc, &Question { graph, fault }, tree)?;
     Ok(short.items() == case.left)
 }
 
@@ -271,7 +271,11 @@ fn a_source_is_split_once(rt: HostRuntime) -> Result<(), Fail> {
     let graph = wired(rt.alloc(), &ONE_GATE)?;
     let fault = fault_at(&graph, 4, 0, false)?;
     let tree = many_splits(rt.alloc(), 1_000_000)?;
-    let answer = check_tree(rt.alloc(), &graph, &fault, &tree, Form::Closed);
+    let question = Question {
+        graph: &graph,
+        fault,
+    };
+    let answer = check_tree(rt.alloc(), &question, &tree, Form::Closed);
     assert!(rt; answer == Err(CheckRefusal::BadSplit { item: 2 }));
     Ok(())
 }

@@ -1,7 +1,7 @@
 //! Each line once where it gives a fact and once where it doesn't, on a net of six gates.
 ghost use Rattle.std.specs.Prelude.{◌≡◌, length};
 
-use gate_graph::{Graph, Marks};
+use gate_graph::{Graph, Marks, Question};
 use refutation::site::Site;
 use refutation::{Fact, FactSet, Item, Line, TreeBuilder, conclude, conclude_marked};
 use rm_base::NodeId;
@@ -237,14 +237,15 @@ fn same(given: Option<(NodeId, Fact)>, wanted: Option<(u32, Fact)>) -> bool {
 // Whether the line of the case gives what it should, by a search and by marks.
 fn holds(alloc: Global, graph: &Graph, case: &Case) -> Result<bool, Fail> {
     let fault = fault_at(graph, 6, 0, true)?;
+    let question = Question { graph, fault };
     let mut facts = FactSet::new(alloc, graph)?;
     let mut marks = Marks::new(alloc, graph.node_bound())?;
     hold(&mut facts, case.facts[0]);
     hold(&mut facts, case.facts[1]);
-    let given = conclude(graph, &fault, &facts, &case.line, &mut marks);
+    let given = conclude(&question, &facts, &case.line, &mut marks);
     let mut site = Site::new(alloc, graph.node_bound())?;
     site.mark(graph, fault.gate);
-    let marked = conclude_marked(graph, &fault, &facts, &case.line, &site);
+    let marked = conclude_marked(&question, &facts, &case.line, &site);
     Ok(same(given, case.gives) && same(marked, case.gives))
 }
 

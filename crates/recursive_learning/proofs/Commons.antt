@@ -8,7 +8,7 @@ use Rattle.recursive_learning.specs.Common.{Meets}
 use Rattle.recursive_learning.specs.Least.{IsLeastAt}
 use Rattle.recursive_learning.specs.Lessons.{AreCommon, AreFound, IsNothingNew}
 use Rattle.recursive_learning.specs.Working.{AreSettled}
-use Rattle.recursive_learning.specs.declared.lessons.Learned.{Learned}
+use Rattle.recursive_learning.specs.declared.lessons.GoodValue.{GoodValue}
 use Rattle.refutation.specs.Closing.{IsClashFree, IsWithin}
 use Rattle.refutation.specs.FactSets.{held_by}
 use Rattle.refutation.specs.Facts.{Held, known_good, one_of, with_fact}
@@ -63,7 +63,7 @@ module _ (net : Net) (fault : Fault) (depth : ℕ) (held : Held) (c : Bool) (ds 
   }
 
   -- one more, which clashes
-  pub common_clash : (n : ℕ) (found : Bool) (goods : List Learned) (d : ℕ) → AreCommon net fault depth held c ds n found goods → slice_get ds n ≡ Some d → Clashes d → AreCommon net fault depth held c ds (n + 1) found goods
+  pub common_clash : (n : ℕ) (found : Bool) (goods : List GoodValue) (d : ℕ) → AreCommon net fault depth held c ds n found goods → slice_get ds n ≡ Some d → Clashes d → AreCommon net fault depth held c ds (n + 1) found goods
   common_clash n found goods d common there clashes = record {
     clash = λ none k d' less at. elim (cases_lt k n) [
       | inl lt ↦ common.clash none k d' lt at
@@ -92,7 +92,7 @@ module _ (net : Net) (fault : Fault) (depth : ℕ) (held : Held) (c : Bool) (ds 
     known_now x b all = held_known (held_by facts) x b least.free (all (held_by facts) least.within least.free least.closed)
 
     -- one more, which doesn't clash
-    pub common_open : (found : Bool) (goods goods' : List Learned) → AreCommon net fault depth held c ds n found goods → Meets found goods added (held_by facts) goods' → AreCommon net fault depth held c ds (n + 1) true goods'
+    pub common_open : (found : Bool) (goods goods' : List GoodValue) → AreCommon net fault depth held c ds n found goods → Meets found goods added (held_by facts) goods' → AreCommon net fault depth held c ds (n + 1) true goods'
     common_open true goods goods' common meets = record {
       clash = λ e. cc;
       one = λ e. (n, (d, (omega arith, (there, no_clash))));
@@ -121,12 +121,12 @@ module _ (net : Net) (fault : Fault) (depth : ℕ) (held : Held) (c : Bool) (ds 
           elim (alls x (Good b) (known_held (held_by facts) x b known)) [ inl is ↦ inl is | inr among ↦ inr (meets.all x b among known) ];
     }
 
-  nothing_new : (n : ℕ) (goods : List Learned) → AreCommon net fault depth held c ds n true goods → goods ≡ [] → IsNothingNew net fault depth held c ds
+  nothing_new : (n : ℕ) (goods : List GoodValue) → AreCommon net fault depth held c ds n true goods → goods ≡ [] → IsNothingNew net fault depth held c ds
   nothing_new n goods common none = record {
     one = let one = common.one refl in (one.0, (one.1.0, one.1.1.1));
     all = λ x b given. elim (common.all refl x b (λ k d less at. given k d at)) [
       | inl is ↦ is
-      | inr among ↦ let at : slice_get goods among.0 ≡ Some among.1.0 = among.1.1.0 in let wrong : slice_get {X = Learned} [] among.0 ≡ Some among.1.0 = rw none at at in cc
+      | inr among ↦ let at : slice_get goods among.0 ≡ Some among.1.0 = among.1.1.0 in let wrong : slice_get {X = GoodValue} [] among.0 ≡ Some among.1.0 = rw none at at in cc
     ];
   }
 
@@ -136,7 +136,7 @@ module _ (net : Net) (fault : Fault) (depth : ℕ) (held : Held) (c : Bool) (ds 
   below (x ∷ xs) (suc k) d e = let rest : k < length xs = below xs k d e in omega arith
 
   -- all have been looked at
-  pub found_all : (n : ℕ) (found : Bool) (goods : List Learned) → AreCommon net fault depth held c ds n found goods → length ds ≤ n → AreFound net fault depth held c ds found goods
+  pub found_all : (n : ℕ) (found : Bool) (goods : List GoodValue) → AreCommon net fault depth held c ds n found goods → length ds ≤ n → AreFound net fault depth held c ds found goods
   found_all n found goods common end = (
     λ none k d at. common.clash none k d (let less : k < length ds = below ds k d at in omega arith) at,
     (
@@ -146,11 +146,11 @@ module _ (net : Net) (fault : Fault) (depth : ℕ) (held : Held) (c : Bool) (ds 
   )
 
   -- nothing is left in common
-  pub found_none : (n : ℕ) (found : Bool) (goods : List Learned) → AreCommon net fault depth held c ds n found goods → found ≡ true → goods ≡ [] → AreFound net fault depth held c ds found goods
+  pub found_none : (n : ℕ) (found : Bool) (goods : List GoodValue) → AreCommon net fault depth held c ds n found goods → found ≡ true → goods ≡ [] → AreFound net fault depth held c ds found goods
   found_none n found goods common some none = (
     λ isn't. let wrong : true ≡ false = sym some ∙ isn't in cc,
     (
       λ e f. nothing_new n goods (subst (λ (f : Bool). AreCommon net fault depth held c ds n f goods) some common) none,
-      λ e. record { new = common.new; lead = λ j g among. let wrong : slice_get {X = Learned} [] j ≡ Some g = rw none at among in cc },
+      λ e. record { new = common.new; lead = λ j g among. let wrong : slice_get {X = GoodValue} [] j ≡ Some g = rw none at among in cc },
     ),
   )

@@ -5,7 +5,7 @@ use Rattle.gate_net.specs.Net.{Net}
 use Rattle.implications.specs.State.{EngineState}
 use Rattle.recursive_learning.specs.Lessons.{AreNew, HoldsAll, IsGained}
 use Rattle.recursive_learning.specs.Working.{AreSettled, IsLearned, Keeps}
-use Rattle.recursive_learning.specs.declared.lessons.Learned.{Learned}
+use Rattle.recursive_learning.specs.declared.lessons.GoodValue.{GoodValue}
 use Rattle.refutation.specs.Closing.{IsClashFree, IsClosedUnderLines, IsWithin}
 use Rattle.refutation.specs.FactSets.{held_by, missing}
 use Rattle.refutation.specs.Facts.{Held, known_good, with_fact}
@@ -26,14 +26,14 @@ keeps_join a b c f g h one two = record {
 }
 
 -- the first values have been added
-pub record Gaining (net : Net) (fault : Fault) (goods : List Learned) (index : ℕ) (before after : EngineState) (start now : List NodeFacts) : Type 0 where
+pub record Gaining (net : Net) (fault : Fault) (goods : List GoodValue) (index : ℕ) (before after : EngineState) (start now : List NodeFacts) : Type 0 where
   pub keeps : Keeps before after start now
   pub settled : AreSettled net fault (held_by now)
   pub forced : (s : Held) → IsWithin (held_by start) s → IsClashFree s → IsClosedUnderLines net fault s → HoldsAll s goods → IsWithin (held_by now) s
   pub begin : index ≡ 0 → now ≡ start
   pub fewer : 0 < index → missing now < missing start
 
-pub gaining_none : (net : Net) (fault : Fault) (goods : List Learned) (e : EngineState) (start : List NodeFacts) → AreSettled net fault (held_by start) → Gaining net fault goods 0 e e start start
+pub gaining_none : (net : Net) (fault : Fault) (goods : List GoodValue) (e : EngineState) (start : List NodeFacts) → AreSettled net fault (held_by start) → Gaining net fault goods 0 e e start start
 gaining_none net fault goods e start settled = record {
   keeps = keeps_none e start;
   settled = settled;
@@ -42,7 +42,7 @@ gaining_none net fault goods e start settled = record {
   fewer = λ z. absurd (omega arith);
 }
 
-pub gaining_more : (net : Net) (fault : Fault) (goods : List Learned) (index : ℕ) (before middle after : EngineState) (start now then : List NodeFacts) (g : Learned) → Gaining net fault goods index before middle start now → AreNew net (held_by start) goods → slice_get goods index ≡ Some g
+pub gaining_more : (net : Net) (fault : Fault) (goods : List GoodValue) (index : ℕ) (before middle after : EngineState) (start now then : List NodeFacts) (g : GoodValue) → Gaining net fault goods index before middle start now → AreNew net (held_by start) goods → slice_get goods index ≡ Some g
     → IsLearned net fault 0 (with_fact (held_by now) g.node.0 (Good g.value)) false (held_by then) → Keeps middle after now then
     → missing then ≤ missing now → (known_good (held_by now) g.node.0 ≡ None → missing then < missing now) → Gaining net fault goods (index + 1) before after start then
 gaining_more net fault goods index before middle after start now then g gaining new there learned keeps less fewer = record {
@@ -60,10 +60,10 @@ gaining_more net fault goods index before middle after start now then g gaining 
         subst (λ (f : List NodeFacts). missing then < missing f) same first
     at (suc n) is = let more : missing now < missing start = gaining.fewer (omega arith) in omega arith
 
-pub gaining_clash : (net : Net) (fault : Fault) (goods : List Learned) (index : ℕ) (before middle : EngineState) (start now then : List NodeFacts) (g : Learned) → Gaining net fault goods index before middle start now → slice_get goods index ≡ Some g
+pub gaining_clash : (net : Net) (fault : Fault) (goods : List GoodValue) (index : ℕ) (before middle : EngineState) (start now then : List NodeFacts) (g : GoodValue) → Gaining net fault goods index before middle start now → slice_get goods index ≡ Some g
     → IsLearned net fault 0 (with_fact (held_by now) g.node.0 (Good g.value)) true (held_by then) → IsGained net fault goods start true then
 gaining_clash net fault goods index before middle start now then g gaining there clash s within free closed all =
     clash s (with_within (held_by now) s g.node.0 (Good g.value) (gaining.forced s within free closed all) (all index g there)) free closed
 
-pub gained : (net : Net) (fault : Fault) (goods : List Learned) (index : ℕ) (before after : EngineState) (start now : List NodeFacts) → Gaining net fault goods index before after start now → 0 < index → IsGained net fault goods start false now
+pub gained : (net : Net) (fault : Fault) (goods : List GoodValue) (index : ℕ) (before after : EngineState) (start now : List NodeFacts) → Gaining net fault goods index before after start now → 0 < index → IsGained net fault goods start false now
 gained net fault goods index before after start now g some = (g.settled, (g.forced, g.fewer some))

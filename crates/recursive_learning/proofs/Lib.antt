@@ -18,3 +18,4 @@ pub mod Watches
 pub mod Turns
 pub mod Missing
 pub mod Servings
+pub mod Holdings

@@ -3,10 +3,9 @@ use Rattle.std.proofs.Common.{List, None, Option, Some, [], inl, inr, refl, â—Œâ
 use Rattle.std.specs.Prelude.{IsTrue}
 use Rattle.gate_net.specs.Net.{IsLive, IsWellFormed, Net, Node, node_at}
 use Rattle.gate_net.specs.Values.{HasPin}
-use Rattle.implications.proofs.Public.{concludes_live}
+use Rattle.refutation.proofs.Public.{concludes_live, with_cases}
 use Rattle.refutation.specs.Closing.{LinesLead}
 use Rattle.refutation.specs.Facts.{Held, with_fact}
-use Rattle.refutation.proofs.Public.{with_cases}
 use Rattle.refutation.specs.declared.reasoning.Fact.{Fact}
 use Rattle.refutation.specs.declared.reasoning.Line.{Line}
 use Rattle.rm_base.specs.declared.numbers.Fault.{Fault}

@@ -1,5 +1,5 @@
 -- From no facts to an answer.
-use Rattle.std.proofs.Common.{List, [], ap, append-nil, arith, suc, zero, ◌+◌, ◌-◌, map, subst, sym, true, false, ◌++◌, ◌∙◌, ◌∷◌, ◌≡◌, ◌≤◌, ◌↔◌, ℕ}
+use Rattle.std.proofs.Common.{List, [], ap, arith, suc, zero, ◌+◌, ◌-◌, map, subst, sym, true, false, ◌++◌, ◌∙◌, ◌≡◌, ◌≤◌, ◌↔◌, ℕ}
 use Rattle.gate_net.specs.Net.{IsWellFormed, Net}
 use Rattle.gate_net.specs.Values.{HasPin}
 use Rattle.implications.specs.Beginning.{node_of}
@@ -22,8 +22,7 @@ use Rattle.refutation.specs.Closing.{Clashes, IsClashFree}
 use Rattle.refutation.specs.FactSets.{held_by}
 use Rattle.refutation.specs.Facts.{Held, none_held}
 use Rattle.refutation.specs.Learning.{IsClosedAt, LeadsToClash}
-use Rattle.refutation.proofs.Public.{closed_below, leads_within, lines_of, none_within, opposed_within, stack_reads}
-use Rattle.refutation.specs.Stack.{AcceptsAll}
+use Rattle.refutation.proofs.Public.{closed_below, closed_reads, leads_within, lines_of, none_within, opposed_within}
 use Rattle.refutation.specs.declared.held.NodeFacts.{NodeFacts}
 use Rattle.refutation.specs.declared.items.Item.{Item}
 use Rattle.refutation.specs.declared.reasoning.Line.{Line}
@@ -33,7 +32,7 @@ use Rattle.rm_base.specs.declared.numbers.Fault.{Fault}
 -- items that end the branch without facts are accepted
 pub ends_accepted : (net : Net) (fault : Fault) (items : List Item) → Ends net fault none_held [] items → AreAccepted net fault items
 ends_accepted net fault items (pieces, (is, reads)) =
-    (stack_reads net fault items).0 (subst (AcceptsAll net fault (none_held ∷ [])) (append-nil pieces ∙ sym is) (reads [] [] tt))
+    (closed_reads net fault items).0 (rw is (reads []))
 
 -- lines to what isn't reached, lines from there, and then a written branch
 pub written_accepted : (net : Net) (fault : Fault) (lines : List Line) (facts : Held) (none first middle items : List Item) → none ≡ [] → AppendsOutside net fault none first → LeadFromOutside net fault lines facts → middle ≡ first ++ map line_item lines → Ends net fault facts middle items → AreAccepted net fault items

@@ -13,7 +13,7 @@ use Rattle.recursive_learning.specs.Lessons.{AreCommon}
 use Rattle.recursive_learning.specs.Resting.{IsLonger, IsWatched}
 use Rattle.recursive_learning.specs.Watching.{AgreeAround, Covers, HasRegion, IsCovered, StaysTaught}
 use Rattle.recursive_learning.specs.Working.{AreSettled}
-use Rattle.recursive_learning.specs.declared.lessons.Learned.{Learned}
+use Rattle.recursive_learning.specs.declared.lessons.GoodValue.{GoodValue}
 use Rattle.recursive_learning.specs.declared.resting.Entry.{Entry}
 use Rattle.refutation.specs.Closing.{IsClashFree, IsClosedUnderLines, IsWithin}
 use Rattle.refutation.specs.Facts.{AreOpposed, Held, known_good, with_fact}
@@ -160,7 +160,7 @@ module _ (local : LinesAreLocal) (first : FirstLinesAskNothing) (net : Net) (fau
           | inr among ↦ absurd (none_among among.0 among.1.0 among.1.1.0)
         ])
       where
-        none_among : (k : ℕ) (g : Learned) → slice_get {X = Learned} [] k ≡ Some g → ⊥
+        none_among : (k : ℕ) (g : GoodValue) → slice_get {X = GoodValue} [] k ≡ Some g → ⊥
         none_among k g e = cc
 
     pub region_learned : HasLearned net Below more y c
@@ -193,7 +193,7 @@ covered_more net fault held c ds n d xs ys y longer before there here k e less a
     same_place : (ds : List ℕ) (k d e : ℕ) → slice_get ds k ≡ Some d → slice_get ds k ≡ Some e → d ≡ e
     same_place ds k d e one other = cc
 
-pub region_of : (net : Net) (fault : Fault) (depth : ℕ) (held : Held) (c : Bool) (ds : List ℕ) (n : ℕ) (found : Bool) (goods : List Learned) (entries : List Entry) (y : ℕ) → AreCommon net fault depth held c ds n found goods → found ≡ true → goods ≡ [] → depth ≡ 0 → ((k d : ℕ) → k < n → slice_get ds k ≡ Some d → IsCovered net fault held c d entries y) → HasRegion net fault held c ds entries y
+pub region_of : (net : Net) (fault : Fault) (depth : ℕ) (held : Held) (c : Bool) (ds : List ℕ) (n : ℕ) (found : Bool) (goods : List GoodValue) (entries : List Entry) (y : ℕ) → AreCommon net fault depth held c ds n found goods → found ≡ true → goods ≡ [] → depth ≡ 0 → ((k d : ℕ) → k < n → slice_get ds k ≡ Some d → IsCovered net fault held c d entries y) → HasRegion net fault held c ds entries y
 region_of net fault depth held c ds n found goods entries y common some none zero covered = record {
   count = n;
   common = subst (λ (d : ℕ). AreCommon net fault d held c ds n true []) zero (subst (λ (f : Bool). AreCommon net fault depth held c ds n f []) some (subst (AreCommon net fault depth held c ds n found) none common));

@@ -1,7 +1,6 @@
 -- A refuter that serves a net from call to call.
 use Rattle.std.proofs.Common.{Bool, List, None, Option, Some, [], ap, arith, inl, inr, length, map, subst, sym, true, ℕ, ◌++◌, ◌∙◌, ◌∷◌, ◌≡◌, ◌≤◌}
 use Rattle.std.specs.Prelude.{Err, IfOk, Ok, OnOk, Result}
-use Rattle.gate_graph.specs.Search.{IsSeen}
 use Rattle.gate_net.specs.Net.{Net}
 use Rattle.implications.proofs.Public.{none_seen_in, rest_comes, trail_tells}
 use Rattle.implications.specs.Bases.{ComesToRest, HasRoom as BasisRoom, IsClashFound, IsFitted, IsFor, IsOpened}
@@ -11,20 +10,16 @@ use Rattle.implications.specs.declared.basis.Basis.{Basis}
 use Rattle.refutation.specs.FactLists.{HasAllGoods}
 use Rattle.recursive_learning.proofs.Refutes.{clash_at_deeper, clash_of_all, clashes_lead, ends_accepted, least_of_all, open_forced}
 use Rattle.recursive_learning.proofs.Tells.{lines_lead, told_clash}
-use Rattle.recursive_learning.proofs.Watches.{known_goods}
 use Rattle.recursive_learning.proofs.Splits.{told_join}
 use Rattle.recursive_learning.specs.Bodies.{IsBody}
 use Rattle.recursive_learning.specs.Answers.{IsDeepened}
 use Rattle.recursive_learning.specs.Serving.{IsLevel}
 use Rattle.recursive_learning.specs.Telling.{Ends, Leads, line_item}
-use Rattle.recursive_learning.specs.Watching.{IsWatching, ListsAdded, ListsGoods}
 use Rattle.recursive_learning.specs.Working.{Keeps}
-use Rattle.recursive_learning.specs.declared.watch.Watch.{Watch}
 use Rattle.refutation.specs.Branches.{AreAccepted}
 use Rattle.refutation.specs.FactSets.{held_by}
 use Rattle.refutation.specs.Facts.{Held, none_held}
 use Rattle.refutation.specs.Learning.{LeadsToClash}
-use Rattle.refutation.proofs.Public.{known_held}
 use Rattle.refutation.specs.declared.held.NodeFacts.{NodeFacts}
 use Rattle.refutation.specs.declared.items.Item.{Item}
 use Rattle.refutation.specs.declared.items.Item.TheVariants.{Clash as ClashItem}
@@ -70,15 +65,6 @@ goods_added net e b f y v held = elim ((trail_tells e.trail 0 b.facts f.rest.sta
   | inl before ↦ let wrong : Good v ≡ Fact.Equal = ((f.rest.rest y (Good v)).0 (inl before)).1 in cc
   | inr among ↦ among
 ]
-
-pub goods_listed : (net : Net) (e : EngineState) (b : Basis) (listed : List Bool) → IsFor net e b → ListsAdded e.trail listed → length net.nodes ≤ length listed → ListsGoods net (held_by b.facts) listed
-goods_listed net e b listed f lists room y v low known =
-    let among = goods_added net e b f y v (known_held (held_by b.facts) y v known) in
-    let place : among.1.0.0.0 ≡ y = among.1.1.1.0 in
-    subst (IsSeen listed) place (lists among.0 among.1.0 among.1.1.0 v among.1.1.1.1 (omega (arith, place, low, room)))
-
-pub goods_watched : (net : Net) (fault : Fault) (e : EngineState) (b : Basis) (w : Watch) → IsFor net e b → ListsAdded e.trail w.listed → length net.nodes ≤ length w.listed → IsWatching net fault (held_by b.facts) w
-goods_watched net fault e b w f lists room = inr (known_goods net fault (held_by b.facts) w (goods_listed net e b w.listed f lists room))
 
 -- OPENED WITHOUT A CLASH
 pub opened_none : (net : Net) (fault : Fault) (lines : List Line) (facts : List NodeFacts) (o : Option NodeId) → o ≡ None → IsOpened net fault lines facts o → IsOpened net fault lines facts None

@@ -14,11 +14,12 @@ use Rattle.recursive_learning.specs.Lessons.{IsLesson}
 use Rattle.recursive_learning.specs.Telling.{Ends, IsTold, Leads, Writes, branch, none}
 use Rattle.recursive_learning.specs.Working.{AreSettled}
 use Rattle.recursive_learning.specs.Writing.{CasesClash, HasCases, OppositeClashes}
-use Rattle.recursive_learning.specs.declared.lessons.Learned.{Learned}
+use Rattle.recursive_learning.specs.declared.lessons.GoodValue.{GoodValue}
 use Rattle.refutation.specs.Branches.{MaySplit}
 use Rattle.refutation.specs.Closing.{IsClashFree, IsWithin}
 use Rattle.refutation.specs.Facts.{Held, known_good, one_of, with_fact}
 use Rattle.refutation.proofs.Public.{all_not_any, all_of, both_good, good_stays, is_known_some, junction_kind, known_held, with_within}
+use Rattle.refutation.specs.Stack.{Due, tree}
 use Rattle.refutation.specs.declared.items.Item.{Item}
 use Rattle.refutation.specs.declared.items.Item.TheVariants.{Split}
 use Rattle.refutation.specs.declared.reasoning.Fact.TheVariants.{Good}
@@ -47,14 +48,14 @@ may_split net fault held x settled live unknown = at live.0 live.1
     at Or is = ((Or, (is, tt)), without)
     at Not is = ((Not, (is, tt)), without)
 
-abbrev two : Held → Held → List Held → List Held
-two one other below = one ∷ other ∷ below
+abbrev two : Held → Held → List Due → List Due
+two one other below = tree one ∷ tree other ∷ below
 
 split_writes : (net : Net) (fault : Fault) (held : Held) (x : NodeId) (first : Bool) (before : List Item) → MaySplit net held x.0 → Writes net fault (branch held) before (two (with_fact held x.0 (Good first)) (with_fact held x.0 (Good (not first)))) (before ++ Split x first ∷ [])
-split_writes net fault held x first before may = (Split x first ∷ [], (refl, λ below rest h. (may, h)))
+split_writes net fault held x first before may = (Split x first ∷ [], (refl, λ below. (may, refl)))
 
 first_ends : (net : Net) (fault : Fault) (one other : Held) (before after : List Item) → Ends net fault one before after → Writes net fault (two one other) before (branch other) after
-first_ends net fault one other before after (pieces, (is, reads)) = (pieces, (is, λ below rest h. reads (other ∷ below) rest h))
+first_ends net fault one other before after (pieces, (is, reads)) = (pieces, (is, λ below. reads (tree other ∷ below)))
 
 -- a split whose first branch has ended
 pub split_told : (net : Net) (fault : Fault) (held : Held) (x : NodeId) (first : Bool) (before middle after : List Item) (ended : Bool) (now : Held) → MaySplit net held x.0 → Ends net fault (with_fact held x.0 (Good first)) (before ++ Split x first ∷ []) middle → IsTold net fault (with_fact held x.0 (Good (not first))) middle ended now after → IsTold net fault held before ended now after
@@ -93,7 +94,7 @@ cases_grow net held more c ds fault within free cases = record {
   reads = cases.reads;
 }
 
-pub cases_of : (net : Net) (fault : Fault) (depth : ℕ) (held : Held) (y : ℕ) (c : Bool) (ds : List ℕ) (found : Bool) (goods : List Learned) → IsLesson net fault depth held y c ds found goods → HasCases net held c ds
+pub cases_of : (net : Net) (fault : Fault) (depth : ℕ) (held : Held) (y : ℕ) (c : Bool) (ds : List ℕ) (found : Bool) (goods : List GoodValue) → IsLesson net fault depth held y c ds found goods → HasCases net held c ds
 cases_of net fault depth held y c ds found goods l = record {
   gate = y;
   junction = l.unjustified.junction;
@@ -110,14 +111,14 @@ cases_of net fault depth held y c ds found goods l = record {
     ]
 
 -- a lesson of clashes: each driver taken for the value clashes, also with more facts
-pub lesson_cases : (net : Net) (fault : Fault) (depth : ℕ) (held : Held) (y : ℕ) (c : Bool) (ds : List ℕ) (found : Bool) (goods : List Learned) → IsLesson net fault depth held y c ds found goods → found ≡ false → CasesClash net fault depth held c ds
+pub lesson_cases : (net : Net) (fault : Fault) (depth : ℕ) (held : Held) (y : ℕ) (c : Bool) (ds : List ℕ) (found : Bool) (goods : List GoodValue) → IsLesson net fault depth held y c ds found goods → found ≡ false → CasesClash net fault depth held c ds
 lesson_cases net fault depth held y c ds found goods l none = record {
   cases = cases_of net fault depth held y c ds found goods l;
   clash = λ k d there more within is s contains. l.clash none d (l.drivers.each k d there) s (λ x fact e. contains x fact (with_within held more d (Good c) within is x fact e));
 }
 
 -- a lesson of values: each driver and the opposite clash, also with more facts
-pub lesson_opposite : (net : Net) (fault : Fault) (depth : ℕ) (held now : Held) (y : ℕ) (c : Bool) (ds : List ℕ) (found : Bool) (goods : List Learned) (j : ℕ) (g : Learned) → IsLesson net fault depth held y c ds found goods → found ≡ true → slice_get goods j ≡ Some g → IsWithin held now → IsClashFree now → OppositeClashes net fault depth now c ds g.node.0 g.value
+pub lesson_opposite : (net : Net) (fault : Fault) (depth : ℕ) (held now : Held) (y : ℕ) (c : Bool) (ds : List ℕ) (found : Bool) (goods : List GoodValue) (j : ℕ) (g : GoodValue) → IsLesson net fault depth held y c ds found goods → found ≡ true → slice_get goods j ≡ Some g → IsWithin held now → IsClashFree now → OppositeClashes net fault depth now c ds g.node.0 g.value
 lesson_opposite net fault depth held now y c ds found goods j g l some at inside free = record {
   cases = cases_grow net held now c ds fault inside free (cases_of net fault depth held y c ds found goods l);
   clash = λ k d there more within is isn't s contains free' closed.

@@ -165,16 +165,17 @@ room_longer net v w l room = record {
 }
 
 pub lengthens_leaves : (v w : Watch) → LeavesList v w → Lengthens v w
-lengthens_leaves v w l = record { size = ap length l.listed; numbers = l.numbers; longer = l.longer }
+lengthens_leaves v w l = record { size = ap length l.listed; numbers = l.numbers; longer = l.longer; first = l.first }
 
 pub lengthens_still : (v w : Watch) → StillLists v w → Lengthens v w
-lengthens_still v w s = record { size = s.size; numbers = ap (λ (r : RestsState). r.numbers) s.rests; longer = ([], sym (append-nil v.rests.entries ∙ ap (λ (r : RestsState). r.entries) (sym s.rests))) }
+lengthens_still v w s = record { size = s.size; numbers = ap (λ (r : RestsState). r.numbers) s.rests; longer = ([], sym (append-nil v.rests.entries ∙ ap (λ (r : RestsState). r.entries) (sym s.rests))); first = s.first }
 
 pub lengthens_join : (u v w : Watch) → Lengthens u v → Lengthens v w → Lengthens u w
 lengthens_join u v w one two = record {
   size = two.size ∙ one.size;
   numbers = two.numbers ∙ one.numbers;
   longer = longer_join u.rests.entries v.rests.entries w.rests.entries one.longer two.longer;
+  first = two.first ∙ one.first;
 }
 
 pub leaves_join : (u v w : Watch) → LeavesList u v → LeavesList v w → LeavesList u w
@@ -183,18 +184,20 @@ leaves_join u v w one two = record {
   listed = two.listed ∙ one.listed;
   numbers = two.numbers ∙ one.numbers;
   longer = longer_join u.rests.entries v.rests.entries w.rests.entries one.longer two.longer;
+  first = two.first ∙ one.first;
 }
 
 pub leaves_none : (w : Watch) → LeavesList w w
-leaves_none w = record { all = refl; listed = refl; numbers = refl; longer = ([], sym (append-nil w.rests.entries)) }
+leaves_none w = record { all = refl; listed = refl; numbers = refl; longer = ([], sym (append-nil w.rests.entries)); first = refl }
 
 -- one more entry
-pub leaves_more : (u v : Watch) (rests : RestsState) → LeavesList u v → rests.numbers ≡ v.rests.numbers → IsLonger v.rests.entries rests.entries → LeavesList u (record { all = v.all; listed = v.listed; rests = rests })
+pub leaves_more : (u v : Watch) (rests : RestsState) → LeavesList u v → rests.numbers ≡ v.rests.numbers → IsLonger v.rests.entries rests.entries → LeavesList u (record v { rests = rests })
 leaves_more u v rests one numbers longer = record {
   all = one.all;
   listed = one.listed;
   numbers = numbers ∙ one.numbers;
   longer = longer_join u.rests.entries v.rests.entries rests.entries one.longer longer;
+  first = one.first;
 }
 
 pub room_leaves : (net : Net) (v w : Watch) → LeavesList v w → HasRoom net v → HasRoom net w
@@ -210,7 +213,7 @@ pub none_leaves : (v w : Watch) → w.listed ≡ v.listed → HasNoneListed v �
 none_leaves v w same none = same ∙ none ∙ ap (λ (s : List Bool). replicate (length s) false) (sym same)
 
 pub still_none : (w : Watch) → StillLists w w
-still_none w = record { all = refl; rests = refl; size = refl; kept = λ y seen. seen }
+still_none w = record { all = refl; rests = refl; size = refl; kept = λ y seen. seen; first = refl }
 
 pub still_join : (u v w : Watch) → StillLists u v → StillLists v w → StillLists u w
 still_join u v w one two = record {
@@ -218,6 +221,7 @@ still_join u v w one two = record {
   rests = two.rests ∙ one.rests;
   size = two.size ∙ one.size;
   kept = λ y seen. two.kept y (one.kept y seen);
+  first = two.first ∙ one.first;
 }
 
 pub listed_still : (v w : Watch) (z : ℕ) → StillLists v w → IsListedAt v z → IsListedAt w z
@@ -266,15 +270,16 @@ pub known_same : (net : Net) (fault : Fault) (held : Held) (v w : Watch) (y : �
 known_same net fault held v w y same rests (inl seen) = inl (rw same seen)
 known_same net fault held v w y same rests (inr stays) = inr (rw rests stays)
 
-pub lengthens_rests : (v w : Watch) → w.rests ≡ v.rests → length w.listed ≡ length v.listed → Lengthens v w
-lengthens_rests v w rests size = record {
+pub lengthens_rests : (v w : Watch) → w.rests ≡ v.rests → length w.listed ≡ length v.listed → w.first ≡ v.first → Lengthens v w
+lengthens_rests v w rests size first = record {
   size = size;
   numbers = ap (λ (r : RestsState). r.numbers) rests;
   longer = ([], sym (append-nil v.rests.entries ∙ ap (λ (r : RestsState). r.entries) (sym rests)));
+  first = first;
 }
 
-pub lengthens_taken : (v w : Watch) (d : ℕ) → w.listed ≡ slice_set v.listed d false → w.rests ≡ v.rests → Lengthens v w
-lengthens_taken v w d is rests = lengthens_rests v w rests (ap length is ∙ length-set v.listed d false)
+pub lengthens_taken : (v w : Watch) (d : ℕ) → w.listed ≡ slice_set v.listed d false → w.rests ≡ v.rests → w.first ≡ v.first → Lengthens v w
+lengthens_taken v w d is rests first = lengthens_rests v w rests (ap length is ∙ length-set v.listed d false) first
 
 pub lengthens_none : (w : Watch) → Lengthens w w
 lengthens_none w = lengthens_leaves w w (leaves_none w)

@@ -1,17 +1,18 @@
 -- Writing what the gates teach, one after another.
-use Rattle.std.proofs.Common.{Bool, List, None, Some, arith, false, inl, inr, length, refl, subst, suc, sym, true, zero, ℕ, ◌+◌, ◌<◌, ◌≡◌, ◌≤◌, ◌⊎◌}
+use Rattle.std.proofs.Common.{Bool, List, None, Some, arith, false, inl, inr, length, refl, subst, suc, sym, true, zero, ℕ, ◌+◌, ◌<◌, ◌∙◌, ◌≡◌, ◌≤◌}
 use Rattle.std.proofs.lemmas.Bool.{cases_lt}
 use Rattle.std.specs.Prelude.{IsTrue, not, slice_get}
 use Rattle.gate_net.specs.Net.{Net}
+use Rattle.implications.specs.Bases.{IsListed}
 use Rattle.implications.specs.State.{EngineState}
 use Rattle.recursive_learning.proofs.Gains.{keeps_join, keeps_none}
-use Rattle.recursive_learning.proofs.Rounds.{junction_below}
+use Rattle.recursive_learning.proofs.Holdings.{IsBefore, before_all, before_next, before_none, taught_each}
 use Rattle.recursive_learning.proofs.Splits.{told_join}
 use Rattle.recursive_learning.proofs.Tells.{writes_join, writes_none}
 use Rattle.recursive_learning.specs.Gates.{HasTaught}
 use Rattle.recursive_learning.specs.Telling.{Ends, IsTold, Leads, branch}
 use Rattle.recursive_learning.specs.Working.{AreSettled, Keeps}
-use Rattle.recursive_learning.specs.Writing.{IsWritten}
+use Rattle.recursive_learning.specs.Writing.{IsPassed, IsWritten}
 use Rattle.refutation.specs.FactSets.{held_by, missing}
 use Rattle.refutation.specs.Facts.{known_good}
 use Rattle.refutation.specs.Learning.{LeadsToClash}
@@ -19,6 +20,7 @@ use Rattle.refutation.specs.declared.held.NodeFacts.{NodeFacts}
 use Rattle.refutation.specs.declared.items.Item.{Item}
 use Rattle.refutation.specs.declared.reasoning.Fact.TheVariants.{Good}
 use Rattle.rm_base.specs.declared.numbers.Fault.{Fault}
+use Rattle.rm_base.specs.declared.numbers.NodeId.{NodeId}
 
 -- the branch has gone on to these facts
 pub record Going (net : Net) (fault : Fault) (before after : EngineState) (start now : List NodeFacts) (items then : List Item) : Type 0 where
@@ -48,42 +50,37 @@ going_written net fault depth y a b c start now next items middle after g keeps 
 going_written net fault depth y a b c start now next items middle after g keeps (inr (told, fewer)) = going_more net fault a b c start now next items middle after g keeps told
 
 -- A PASS
-pub record PassWriting (net : Net) (fault : Fault) (depth number : ℕ) (before after : EngineState) (start now : List NodeFacts) (items then : List Item) : Type 0 where
+pub record PassWriting (net : Net) (fault : Fault) (depth : ℕ) (gates : List NodeId) (n : ℕ) (before after : EngineState) (start now : List NodeFacts) (items then : List Item) : Type 0 where
   pub going : Going net fault before after start now items then
-  pub state : ((now ≡ start) × ((y : ℕ) → y < number → HasTaught net fault depth (held_by start) y)) ⊎ (missing now < missing start)
+  pub passed : IsPassed net fault depth (IsBefore gates n) start now
 
-pub pass_none : (net : Net) (fault : Fault) (depth : ℕ) (e : EngineState) (start : List NodeFacts) (items : List Item) → AreSettled net fault (held_by start) → PassWriting net fault depth 0 e e start start items items
-pass_none net fault depth e start items settled = record { going = going_none net fault e start items settled; state = inl (refl, λ y less. absurd (omega arith)) }
+pub pass_none : (net : Net) (fault : Fault) (depth : ℕ) (gates : List NodeId) (e : EngineState) (start : List NodeFacts) (items : List Item) → AreSettled net fault (held_by start) → PassWriting net fault depth gates 0 e e start start items items
+pass_none net fault depth gates e start items settled = record { going = going_none net fault e start items settled; passed = inl (refl, before_none gates (HasTaught net fault depth (held_by start))) }
 
-pub pass_more : (net : Net) (fault : Fault) (depth number : ℕ) (a b c : EngineState) (start now next : List NodeFacts) (items middle after : List Item) → PassWriting net fault depth number a b start now items middle → Keeps b c now next → IsWritten net fault depth number now middle false next after → PassWriting net fault depth (number + 1) a c start next items after
-pass_more net fault depth number a b c start now next items middle after p keeps (inl (same, (still, taught))) =
-    subst (λ (f : List NodeFacts). PassWriting net fault depth (number + 1) a c start f items after) (sym same)
-    (subst (λ (is : List Item). PassWriting net fault depth (number + 1) a c start now items is) (sym still) (record {
-      going = record { keeps = keeps_join a b c start now now p.going.keeps (subst (λ (f : List NodeFacts). Keeps b c now f) same keeps); settled = p.going.settled; leads = p.going.leads };
-      state = elim p.state [
-        | inl quiet ↦ inl (
-          quiet.0,
-          λ y less. elim (cases_lt y number) [
-            | inl lt ↦ quiet.1 y lt
-            | inr ge ↦ let is : number ≡ y = omega arith in subst (λ (f : List NodeFacts). HasTaught net fault depth (held_by f) y) quiet.0 (subst (HasTaught net fault depth (held_by now)) is taught)
-          ],
-        )
-        | inr less ↦ inr less
-      ];
-    }))
-pass_more net fault depth number a b c start now next items middle after p keeps (inr (told, fewer)) = record {
+pub pass_more : (net : Net) (fault : Fault) (depth : ℕ) (gates : List NodeId) (n : ℕ) (g : NodeId) (a b c : EngineState) (start now next : List NodeFacts) (items middle after : List Item) → slice_get gates n ≡ Some g → PassWriting net fault depth gates n a b start now items middle → Keeps b c now next → IsWritten net fault depth g.0 now middle false next after → PassWriting net fault depth gates (n + 1) a c start next items after
+pass_more net fault depth gates n g a b c start now next items middle after there p keeps (inl (same, (still, taught))) = record {
+  going = going_written net fault depth g.0 a b c start now next items middle after p.going keeps (inl (same, (still, taught)));
+  passed = elim p.passed [
+    | inl quiet ↦ inl (same ∙ quiet.0, before_next gates n g (HasTaught net fault depth (held_by start)) there quiet.1 (subst (λ (f : List NodeFacts). HasTaught net fault depth (held_by f) g.0) quiet.0 taught))
+    | inr less ↦ inr (subst (λ (f : List NodeFacts). missing f < missing start) (sym same) less)
+  ];
+}
+pass_more net fault depth gates n g a b c start now next items middle after there p keeps (inr (told, fewer)) = record {
   going = going_more net fault a b c start now next items middle after p.going keeps told;
-  state = inr (elim p.state [
+  passed = inr (elim p.passed [
     | inl quiet ↦ subst (λ (f : List NodeFacts). missing next < missing f) quiet.0 fewer
     | inr less ↦ let one : missing now < missing start = less in let other : missing next < missing now = fewer in omega arith
   ]);
 }
 
-pub pass_fewer : (net : Net) (fault : Fault) (depth number : ℕ) (a b : EngineState) (start now : List NodeFacts) (items then : List Item) → length net.nodes ≤ number → PassWriting net fault depth number a b start now items then → AreSettled net fault (held_by start) → LeadsToClash net fault (suc depth) (held_by start) → missing now < missing start
-pass_fewer net fault depth number a b start now items then end p settled clash = elim p.state [
-  | inl quiet ↦ absurd (clash (held_by start) (λ x fact e. e) settled.free (settled.closed, λ y c unjustified few. quiet.1 y (let below : y < length net.nodes = junction_below net y c unjustified.junction in omega arith) c unjustified few))
-  | inr less ↦ less
-]
+pub pass_all : (net : Net) (fault : Fault) (depth : ℕ) (gates : List NodeId) (n : ℕ) (start now : List NodeFacts) → length gates ≤ n → IsPassed net fault depth (IsBefore gates n) start now → IsPassed net fault depth (IsListed gates) start now
+pass_all net fault depth gates n start now all (inl quiet) = inl (quiet.0, λ y there. quiet.1 y (before_all gates n all y there))
+pass_all net fault depth gates n start now all (inr less) = inr less
+
+-- where the facts lead to a clash, some gate whose good value is held teaches something
+pub pass_fewer : (net : Net) (fault : Fault) (depth : ℕ) (gates : ℕ → Type 0) (start now : List NodeFacts) → ((x : ℕ) (value : Bool) → IsTrue (held_by start x (Good value)) → gates x) → IsPassed net fault depth gates start now → AreSettled net fault (held_by start) → LeadsToClash net fault (suc depth) (held_by start) → missing now < missing start
+pass_fewer net fault depth gates start now all (inl quiet) settled clash = absurd (clash (held_by start) (λ x fact e. e) settled.free (settled.closed, taught_each net fault depth (held_by start) gates all quiet.1))
+pass_fewer net fault depth gates start now all (inr less) settled clash = less
 
 -- VALUES
 pub record GoodsWriting (net : Net) (fault : Fault) (index : ℕ) (before after : EngineState) (start now : List NodeFacts) (items then : List Item) : Type 0 where

@@ -11,3 +11,4 @@ pub mod Watching
 pub mod Detected
 pub mod Serving
 pub mod Bodies
+pub mod Holding

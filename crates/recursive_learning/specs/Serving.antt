@@ -1,5 +1,5 @@
 -- A refuter that serves one net after another.
-use Rattle.std.specs.Prelude.{Bool, IsTrue, List, None, Option, Some, false, length, true, ℕ, ◌≡◌, ◌≤◌}
+use Rattle.std.specs.Prelude.{Bool, List, None, Option, Some, false, length, true, ℕ, ◌≡◌, ◌≤◌}
 use Rattle.gate_net.specs.Net.{Net}
 use Rattle.implications.specs.Bases.{HasRoom as BasisRoom, IsFor}
 use Rattle.implications.specs.Outcomes.{IsOpen}
@@ -8,15 +8,12 @@ use Rattle.recursive_learning.specs.Watching.{HasRoom}
 use Rattle.recursive_learning.specs.declared.refuter.Refuter.{Refuter}
 use Rattle.implications.specs.declared.outcome.Closed.TheVariants.{Clash, Open}
 use Rattle.refutation.specs.Closing.{Clashes}
-use Rattle.refutation.specs.Facts.{Held, none_held}
+use Rattle.refutation.specs.Facts.{none_held}
 use Rattle.refutation.specs.Learning.{LeadsToClash}
 use Rattle.refutation.specs.declared.held.NodeFacts.{NodeFacts}
 use Rattle.refutation.specs.declared.items.Item.{Item}
-use Rattle.refutation.specs.declared.reasoning.Fact.{Fact}
-use Rattle.refutation.specs.declared.reasoning.Fact.TheVariants.{Good}
 use Rattle.refutation.specs.declared.reasoning.Line.{Line}
 use Rattle.rm_base.specs.declared.numbers.Fault.{Fault}
-use Rattle.rm_base.specs.declared.numbers.NodeId.{NodeId}
 
 -- the refuter was made for so many node numbers
 pub record IsMade (numbers : ℕ) (r : Refuter) : Type 0 where

@@ -3,7 +3,8 @@ use Rattle.std.specs.Prelude.{Bool, List, false, true, ◌++◌, ◌∷◌, ◌�
 use Rattle.gate_net.specs.Net.{Net}
 use Rattle.recursive_learning.specs.Working.{AreSettled}
 use Rattle.refutation.specs.Facts.{Held}
-use Rattle.refutation.specs.Stack.{AcceptsAll}
+use Rattle.refutation.specs.Stack.{AreRead, Due, tree}
+use Rattle.refutation.specs.declared.items.Form.TheVariants.{Closed}
 use Rattle.refutation.specs.declared.items.Item.{Item}
 use Rattle.refutation.specs.declared.items.Item.TheVariants.{Line}
 use Rattle.refutation.specs.declared.reasoning.Line.{Line as OneLine}
@@ -12,16 +13,16 @@ use Rattle.rm_base.specs.declared.numbers.Fault.{Fault}
 abbrev pub line_item : OneLine → Item
 line_item l = Line l
 
--- where what follows is accepted with that stack of branches, it is accepted after the new items with the stack before them
-abbrev pub Writes : Net → Fault → (List Held → List Held) → List Item → (List Held → List Held) → List Item → Type 0
-Writes net fault stack before others after =
-    (pieces : List Item) × ((after ≡ before ++ pieces) × ((below : List Held) (rest : List Item) → AcceptsAll net fault (others below) rest → AcceptsAll net fault (stack below) (pieces ++ rest)))
+-- the new items are read, and lead from the one to the other, whatever is left below
+abbrev pub Writes : Net → Fault → (List Due → List Due) → List Item → (List Due → List Due) → List Item → Type 0
+Writes net fault left before then after =
+    (pieces : List Item) × ((after ≡ before ++ pieces) × ((below : List Due) → AreRead net fault Closed (left below) pieces (then below)))
 
 -- one branch with these facts comes first
-abbrev pub branch : Held → List Held → List Held
-branch held below = held ∷ below
+abbrev pub branch : Held → List Due → List Due
+branch held below = tree held ∷ below
 
-abbrev pub none : List Held → List Held
+abbrev pub none : List Due → List Due
 none below = below
 
 -- the items end a branch with these facts

@@ -1,5 +1,5 @@
 -- Which gates are to be looked at, and what is known of the others.
-use Rattle.std.specs.Prelude.{Bool, List, [], false, length, replicate, slice_get, Some, true, ℕ, ◌<◌, ◌≡◌, ◌≤◌, ◌⊎◌, suc, ◌*◌, ◌+◌}
+use Rattle.std.specs.Prelude.{Bool, List, [], false, length, map, replicate, slice_get, Some, true, ℕ, ◌<◌, ◌≡◌, ◌≤◌, ◌⊎◌, suc, ◌*◌, ◌+◌}
 use Rattle.gate_graph.specs.Search.{IsSeen}
 use Rattle.gate_net.specs.Net.{IsLive, Net, Reads}
 use Rattle.refutation.specs.Agendas.{seen_count}
@@ -9,6 +9,7 @@ use Rattle.recursive_learning.specs.Least.{IsLeastAt}
 use Rattle.recursive_learning.specs.Lessons.{AreCommon}
 use Rattle.recursive_learning.specs.Resting.{IsLonger, IsWatched}
 use Rattle.recursive_learning.specs.Working.{AreSettled}
+use Rattle.recursive_learning.specs.declared.lessons.Common.{Common}
 use Rattle.recursive_learning.specs.declared.resting.Entry.{Entry}
 use Rattle.recursive_learning.specs.declared.watch.Watch.{Watch}
 use Rattle.refutation.specs.Closing.{IsWithin}
@@ -36,6 +37,10 @@ StaysTaught net fault held entries y =
 abbrev pub IsKnown : Net → Fault → Held → Watch → ℕ → Type 0
 IsKnown net fault held w y = IsSeen w.listed y ⊎ StaysTaught net fault held w.rests.entries y
 
+-- what is known of a gate stays known
+abbrev pub StaysKnown : Net → Fault → Held → Watch → Held → Watch → Type 0
+StaysKnown net fault held w more w' = (y : ℕ) → IsKnown net fault held w y → IsKnown net fault more w' y
+
 -- nothing is known; or each gate is listed or has nothing to teach
 abbrev pub IsWatching : Net → Fault → Held → Watch → Type 0
 IsWatching net fault held w = (w.all ≡ true) ⊎ ((y : ℕ) → IsKnown net fault held w y)
@@ -43,14 +48,6 @@ IsWatching net fault held w = (w.all ≡ true) ⊎ ((y : ℕ) → IsKnown net fa
 -- each gate whose good value is known is listed
 abbrev pub ListsGoods : Net → Held → List Bool → Type 0
 ListsGoods net held listed = (y : ℕ) (b : Bool) → y < length net.nodes → known_good held y ≡ Some b → IsSeen listed y
-
--- where the fact is a good value, its node is listed
-abbrev pub ListsGood : NodeId × Fact → List Bool → Type 0
-ListsGood a listed = (b : Bool) → a.1 ≡ Good b → a.0.0 < length listed → IsSeen listed a.0.0
-
--- the node of each good value among the added facts is listed
-abbrev pub ListsAdded : List (NodeId × Fact) → List Bool → Type 0
-ListsAdded added listed = (k : ℕ) (a : NodeId × Fact) → slice_get added k ≡ Some a → ListsGood a listed
 
 -- no gate is listed
 abbrev pub HasNoneListed : Watch → Type 0
@@ -71,6 +68,7 @@ pub record Lengthens (old new : Watch) : Type 0 where
   pub size : length new.listed ≡ length old.listed
   pub numbers : new.rests.numbers ≡ old.rests.numbers
   pub longer : IsLonger old.rests.entries new.rests.entries
+  pub first : new.first ≡ old.first
 
 -- and what is listed stays
 pub record LeavesList (old new : Watch) : Type 0 where
@@ -78,6 +76,7 @@ pub record LeavesList (old new : Watch) : Type 0 where
   pub listed : new.listed ≡ old.listed
   pub numbers : new.rests.numbers ≡ old.rests.numbers
   pub longer : IsLonger old.rests.entries new.rests.entries
+  pub first : new.first ≡ old.first
 
 -- more may be listed
 pub record StillLists (old new : Watch) : Type 0 where
@@ -85,6 +84,7 @@ pub record StillLists (old new : Watch) : Type 0 where
   pub rests : new.rests ≡ old.rests
   pub size : length new.listed ≡ length old.listed
   pub kept : (y : ℕ) → IsSeen old.listed y → IsSeen new.listed y
+  pub first : new.first ≡ old.first
 
 -- the place is the node or one of its readers
 abbrev pub IsAround : Net → ℕ → ℕ → Type 0
@@ -120,6 +120,11 @@ pub record HasRegion (net : Net) (fault : Fault) (held : Held) (c : Bool) (ds : 
   pub count : ℕ
   pub common : AreCommon net fault 0 held c ds count true []
   pub covered : (k d : ℕ) → k < count → slice_get ds k ≡ Some d → IsCovered net fault held c d entries y
+
+-- where a gate of unknown drivers teaches nothing at depth 0, and something is known of the others, its region is noted
+abbrev pub NotesRegion : Net → Fault → Held → Bool → List NodeId → ℕ → Common → Bool → List Entry → ℕ → Type 0
+NotesRegion net fault held c drivers depth met all entries y =
+    met.found ≡ true → met.goods.items ≡ [] → depth ≡ 0 → all ≡ false → HasRegion net fault held c (map (λ (n : NodeId). n.0) drivers) entries y
 
 -- how many looks at gates are left at most
 abbrev pub looks_left : List NodeFacts → List Bool → ℕ

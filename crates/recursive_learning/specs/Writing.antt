@@ -42,3 +42,7 @@ IsWritten net fault depth y old before true new after = Ends net fault (held_by 
 IsWritten net fault depth y old before false new after =
     ((new ≡ old) × ((after ≡ before) × HasTaught net fault depth (held_by old) y))
     ⊎ ((Leads net fault (held_by old) before (held_by new) after × AreSettled net fault (held_by new)) × (missing new < missing old))
+
+-- none of the gates teaches anything; or there are more facts
+abbrev pub IsPassed : Net → Fault → ℕ → (ℕ → Type 0) → List NodeFacts → List NodeFacts → Type 0
+IsPassed net fault depth gates start now = ((now ≡ start) × ((y : ℕ) → gates y → HasTaught net fault depth (held_by start) y)) ⊎ (missing now < missing start)

@@ -1,6 +1,5 @@
 // Trees that lead on from what the faulty gate doesn't reach, and the lines that lead there.
 ghost use Rattle.std.specs.Prelude.{◌≡◌, ◌≤◌, ◌++◌, List, IfOk, OnOk, length};
-ghost use Rattle.gate_net.specs.Values.{HasPin};
 ghost use Rattle.gate_graph.specs.Circuit.{net_of};
 ghost use Rattle.implications.specs.Bases.{IsClashFound};
 ghost use Rattle.implications.specs.Outside.{LeadFromOutside};
@@ -9,47 +8,44 @@ ghost use Rattle.refutation.specs.FactSets.{held_by};
 ghost use Rattle.refutation.specs.Learning.{LeadsToClash};
 ghost use Rattle.refutation.specs.declared.held.NodeFacts.{NodeFacts};
 ghost use Rattle.recursive_learning.specs.Bodies.{IsBody};
+ghost use Rattle.recursive_learning.specs.Holding.{HasGoods};
 ghost use Rattle.recursive_learning.specs.Watching.{HasRoom, IsBlank, LeavesList};
 ghost use Rattle.recursive_learning.specs.Working.{AreSettled, Keeps};
 
 use crate::ordering::write_from;
 use crate::telling::push_lines;
 use crate::watch::Watch;
-use gate_graph::Graph;
+use gate_graph::Question;
 use implications::Engine;
 use refutation::{FactSet, Item, Tree, TreeBuilder};
-use rm_base::{Fault, NoMemory, NodeId};
+use rm_base::{NoMemory, NodeId};
 use std::alloc::Global;
 
 /// The items of closed facts to which the engine's lines led from what the faulty gate doesn't reach, and which lead to a
 /// clash at the depth.
 pub(crate) fn learned_body(
-    alloc: Global,
     engine: &mut Engine,
-    graph: &Graph,
-    fault: &Fault,
+    question: &Question<'_>,
     watch: &mut Watch,
     depth: u8,
-    taught: &[NodeId],
+    gates: &[NodeId],
     facts: &mut FactSet,
 ) -> Result<Tree, NoMemory>
-    requires pin { HasPin (net_of graph.now) fault.now }
-    requires numbers { length (net_of graph.now).nodes ≤ engine.old.numbers }
-    requires size { length (net_of graph.now).nodes ≤ length facts.old }
-    requires room { HasRoom (net_of graph.now) watch.old }
+    requires numbers { length (net_of question.now.graph.now).nodes ≤ engine.old.numbers }
+    requires size { length (net_of question.now.graph.now).nodes ≤ length facts.old }
+    requires room { HasRoom (net_of question.now.graph.now) watch.old }
+    requires goods { HasGoods watch.old engine.old facts.old }
     requires blank { IsBlank watch.old }
-    requires settled { AreSettled (net_of graph.now) fault.now (held_by facts.old) }
-    requires lines { LeadFromOutside (net_of graph.now) fault.now engine.old.lines (held_by facts.old) }
-    requires clash { LeadsToClash (net_of graph.now) fault.now depth (held_by facts.old) }
-    ensures body { IfOk result (IsBody (net_of graph.now) fault.now) }
+    requires settled { AreSettled (net_of question.now.graph.now) question.now.fault (held_by facts.old) }
+    requires lines { LeadFromOutside (net_of question.now.graph.now) question.now.fault engine.old.lines (held_by facts.old) }
+    requires clash { LeadsToClash (net_of question.now.graph.now) question.now.fault depth (held_by facts.old) }
+    ensures body { IfOk result (IsBody (net_of question.now.graph.now) question.now.fault) }
     ensures keeps { OnOk result (Keeps engine.old engine.new facts.old facts.new) }
     ensures leaves { OnOk result (LeavesList watch.old watch.new) }
 {
-    let mut tree = TreeBuilder::new(alloc);
+    let mut tree = TreeBuilder::new(watch.alloc());
     push_lines(&mut tree, engine.lines())?;
-    write_from(
-        alloc, engine, graph, fault, facts, watch, depth, taught, &mut tree,
-    )?;
+    write_from(engine, question, facts, watch, depth, gates, &mut tree)?;
     Ok(tree.finish())
 }
 
@@ -57,12 +53,11 @@ pub(crate) fn learned_body(
 pub(crate) fn clash_body(
     alloc: Global,
     engine: &Engine,
-    graph: &Graph,
-    fault: &Fault,
+    question: &Question<'_>,
     node: NodeId,
 ) -> Result<Tree, NoMemory>
-    requires clash { (facts : List NodeFacts) × IsClashFound (net_of graph.now) fault.now engine.now.lines facts node.0 }
-    ensures { IfOk result (IsBody (net_of graph.now) fault.now) }
+    requires clash { (facts : List NodeFacts) × IsClashFound (net_of question.now.graph.now) question.now.fault engine.now.lines facts node.0 }
+    ensures { IfOk result (IsBody (net_of question.now.graph.now) question.now.fault) }
 {
     let mut tree = TreeBuilder::new(alloc);
     push_lines(&mut tree, engine.lines())?;
@@ -84,19 +79,17 @@ fn push_items(tree: &mut TreeBuilder, items: &[Item]) -> Result<(), NoMemory>
 pub(crate) fn whole_tree(
     alloc: Global,
     engine: &mut Engine,
-    graph: &Graph,
-    fault: &Fault,
+    question: &Question<'_>,
     body: &Tree,
 ) -> Result<Tree, NoMemory>
-    requires pin { HasPin (net_of graph.now) fault.now }
-    requires numbers { length (net_of graph.now).nodes ≤ engine.old.numbers }
-    requires body { IsBody (net_of graph.now) fault.now body.now }
-    ensures accepted { IfOk result (λ t. AreAccepted (net_of graph.now) fault.now t) }
+    requires numbers { length (net_of question.now.graph.now).nodes ≤ engine.old.numbers }
+    requires body { IsBody (net_of question.now.graph.now) question.now.fault body.now }
+    ensures accepted { IfOk result (λ t. AreAccepted (net_of question.now.graph.now) question.now.fault t) }
     ensures numbers { engine.new.numbers ≡ engine.old.numbers }
     ensures trail { engine.new.trail ≡ engine.old.trail }
 {
     let mut tree = TreeBuilder::new(alloc);
-    engine.push_outside(graph, fault, &mut tree)?;
+    engine.push_outside(question, &mut tree)?;
     push_items(&mut tree, body.items())?;
     Ok(tree.finish())
 }

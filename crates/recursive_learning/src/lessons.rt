@@ -10,7 +10,7 @@ use std::alloc::Global;
 
 /// A good value of a node.
 #[derive(Clone, Copy, Debug, PartialEq, Eq)]
-pub struct Learned {
+pub struct GoodValue {
     pub node: NodeId,
     pub value: bool,
 }
@@ -30,7 +30,14 @@ pub enum Round {
 #[derive(Debug, Drop)]
 pub struct Common {
     pub found: bool,
-    pub goods: Vec<Learned>,
+    pub goods: Vec<GoodValue>,
+}
+
+/// The good value that a gate has, and the open drivers of which one has to give it.
+#[derive(Clone, Copy)]
+pub struct Choice<'a> {
+    pub value: bool,
+    pub drivers: &'a [NodeId],
 }
 
 /// What a gate teaches: the value that one of its open drivers has, and what all of them lead to; nothing was found
@@ -40,7 +47,7 @@ pub struct Lesson {
     pub value: bool,
     pub drivers: Vec<NodeId>,
     pub found: bool,
-    pub goods: Vec<Learned>,
+    pub goods: Vec<GoodValue>,
 }
 
 // Whether the node is known to have that good value.
@@ -61,7 +68,7 @@ fn goods_among(
     alloc: Global,
     added: &[(NodeId, Fact)],
     facts: &FactSet,
-) -> Result<Vec<Learned>, NoMemory>
+) -> Result<Vec<GoodValue>, NoMemory>
     ensures { IfOk result (λ v. AreGoodsOf added.now (held_by facts.now) v.items) }
 {
     let mut goods = Vec::new(alloc);
@@ -70,7 +77,7 @@ fn goods_among(
             continue;
         };
         if is_good(facts, entry.0, value) {
-            goods.push(Learned {
+            goods.push(GoodValue {
                 node: entry.0,
                 value,
             })?;
@@ -80,7 +87,11 @@ fn goods_among(
 }
 
 // Those of the values that are held.
-fn held_among(alloc: Global, goods: &[Learned], facts: &FactSet) -> Result<Vec<Learned>, NoMemory>
+fn held_among(
+    alloc: Global,
+    goods: &[GoodValue],
+    facts: &FactSet,
+) -> Result<Vec<GoodValue>, NoMemory>
     ensures { IfOk result (λ v. AreHeldAmong goods.now (held_by facts.now) v.items) }
 {
     let mut kept = Vec::new(alloc);

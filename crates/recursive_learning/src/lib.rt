@@ -5,6 +5,7 @@ mod adding;
 mod bodies;
 pub mod detected;
 mod gates;
+mod good_nodes;
 pub mod laws;
 mod learning;
 mod lessons;

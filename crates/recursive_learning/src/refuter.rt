@@ -2,7 +2,6 @@
 ghost use Rattle.std.specs.Prelude.{◌≡◌, ◌≤◌, ◌↔◌, IfOk, IsSome, IsTrue, OnOk, length, map};
 ghost use Rattle.gate_net.specs.Edits.{IsSameBut};
 ghost use Rattle.gate_net.specs.Net.{Net};
-ghost use Rattle.gate_net.specs.Values.{HasPin};
 ghost use Rattle.gate_graph.specs.Circuit.{net_of};
 ghost use Rattle.implications.specs.Bases.{IsFor};
 ghost use Rattle.refutation.specs.Branches.{AreAccepted};
@@ -18,12 +17,12 @@ ghost use Rattle.recursive_learning.specs.Watching.{HasRoom};
 use crate::bodies::{clash_body, learned_body, whole_tree};
 use crate::refuting::deepen;
 use crate::watch::Watch;
-use gate_graph::Graph;
+use gate_graph::{Graph, Question};
 use implications::Engine;
 use implications::basis::Basis;
 use refutation::{Fact, FactSet, Tree};
 use refutation_check::Shortener;
-use rm_base::{Fault, NoMemory, NodeId};
+use rm_base::{NoMemory, NodeId};
 use std::alloc::Global;
 
 /// Refutes stuck pins of one net after another, in the time of what the faults touch. It is fitted to a net by `fit`, and
@@ -34,105 +33,76 @@ pub struct Refuter {
     engine: Engine,
     basis: Basis,
     watch: Watch,
-    taught: Vec<NodeId>,
     shortener: Shortener,
 }
 
 // Learns from no facts to the depth; the first depth at which they lead to a clash.
 fn learn_to(
-    alloc: Global,
     engine: &mut Engine,
-    graph: &Graph,
-    fault: &Fault,
+    question: &Question<'_>,
     basis: &mut Basis,
     watch: &mut Watch,
-    taught: &mut Vec<NodeId>,
     depth: u8,
 ) -> Result<Option<u8>, NoMemory>
-    requires pin { HasPin (net_of graph.now) fault.now }
-    requires serves { IsFor (net_of graph.now) engine.old basis.old }
-    requires room { HasRoom (net_of graph.now) watch.old }
+    requires serves { IsFor (net_of question.now.graph.now) engine.old basis.old }
+    requires room { HasRoom (net_of question.now.graph.now) watch.old }
     requires depth { depth ≤ 2 }
-    ensures level { IfOk result (IsLevel (net_of graph.now) fault.now depth basis.new.facts) }
-    ensures serves { OnOk result (IsFor (net_of graph.now) engine.new basis.new) }
-    ensures room { OnOk result (HasRoom (net_of graph.now) watch.new) }
+    ensures level { IfOk result (IsLevel (net_of question.now.graph.now) question.now.fault depth basis.new.facts) }
+    ensures serves { OnOk result (IsFor (net_of question.now.graph.now) engine.new basis.new) }
+    ensures room { OnOk result (HasRoom (net_of question.now.graph.now) watch.new) }
 {
-    graph.well_formed();
-    if let Some(_node) = engine.open(graph, fault, basis)? {
+    question.graph.well_formed();
+    if let Some(_node) = engine.open(question, basis)? {
         return Ok(Some(0));
     }
     watch.forget();
-    watch.begin_added(engine.added(0));
-    deepen(
-        alloc,
-        engine,
-        graph,
-        fault,
-        &mut basis.facts,
-        watch,
-        taught,
-        depth,
-    )
+    deepen(engine, question, &mut basis.facts, watch, depth)
 }
 
 // The items of a fault that leads to a clash at the depth, from what the faulty gate doesn't reach.
 fn body_at(
-    alloc: Global,
     engine: &mut Engine,
-    graph: &Graph,
-    fault: &Fault,
+    question: &Question<'_>,
     basis: &mut Basis,
     watch: &mut Watch,
     level: u8,
-    taught: &[NodeId],
 ) -> Result<Tree, NoMemory>
-    requires pin { HasPin (net_of graph.now) fault.now }
-    requires serves { IsFor (net_of graph.now) engine.old basis.old }
-    requires room { HasRoom (net_of graph.now) watch.old }
-    requires clash { LeadsToClash (net_of graph.now) fault.now level none_held }
-    ensures body { IfOk result (IsBody (net_of graph.now) fault.now) }
-    ensures serves { OnOk result (IsFor (net_of graph.now) engine.new basis.new) }
-    ensures room { OnOk result (HasRoom (net_of graph.now) watch.new) }
+    requires serves { IsFor (net_of question.now.graph.now) engine.old basis.old }
+    requires room { HasRoom (net_of question.now.graph.now) watch.old }
+    requires clash { LeadsToClash (net_of question.now.graph.now) question.now.fault level none_held }
+    ensures body { IfOk result (IsBody (net_of question.now.graph.now) question.now.fault) }
+    ensures serves { OnOk result (IsFor (net_of question.now.graph.now) engine.new basis.new) }
+    ensures room { OnOk result (HasRoom (net_of question.now.graph.now) watch.new) }
 {
-    graph.well_formed();
+    question.graph.well_formed();
+    let gates = watch.give_taught();
     watch.forget();
-    if let Some(node) = engine.open(graph, fault, basis)? {
-        return clash_body(alloc, engine, graph, fault, node);
+    if let Some(node) = engine.open(question, basis)? {
+        return clash_body(watch.alloc(), engine, question, node);
     }
-    learned_body(
-        alloc,
-        engine,
-        graph,
-        fault,
-        watch,
-        level,
-        taught,
-        &mut basis.facts,
-    )
+    learned_body(engine, question, watch, level, &gates, &mut basis.facts)
 }
 
 // The tree of these items, with as few lines as they rest on; with all where the checker doesn't accept that.
 fn tree_of(
     alloc: Global,
     engine: &mut Engine,
-    graph: &Graph,
-    fault: &Fault,
+    question: &Question<'_>,
     shortener: &mut Shortener,
     body: &Tree,
 ) -> Result<Tree, NoMemory>
-    requires pin { HasPin (net_of graph.now) fault.now }
-    requires numbers { length (net_of graph.now).nodes ≤ engine.old.numbers }
-    requires room { length (net_of graph.now).nodes ≤ shortener.old }
-    requires body { IsBody (net_of graph.now) fault.now body.now }
-    ensures accepted { IfOk result (λ t. AreAccepted (net_of graph.now) fault.now t) }
+    requires numbers { length (net_of question.now.graph.now).nodes ≤ engine.old.numbers }
+    requires room { length (net_of question.now.graph.now).nodes ≤ shortener.old }
+    requires body { IsBody (net_of question.now.graph.now) question.now.fault body.now }
+    ensures accepted { IfOk result (λ t. AreAccepted (net_of question.now.graph.now) question.now.fault t) }
     ensures numbers { engine.new.numbers ≡ engine.old.numbers }
     ensures trail { engine.new.trail ≡ engine.old.trail }
     ensures room { shortener.new ≡ shortener.old }
 {
-    if let Some(short) = shortener.tree(graph, fault, body.items())? {
+    if let Some(short) = shortener.tree(question, body.items())? {
         return Ok(short);
     }
-    whole_tree(alloc, engine, graph, fault, body)
+    whole_tree(alloc, engine, question, body)
 }
 
 impl Refuter {
@@ -145,7 +115,6 @@ impl Refuter {
             engine: Engine::for_numbers(alloc, numbers)?,
             basis: Basis::new(alloc, numbers)?,
             watch: Watch::new(alloc, numbers)?,
-            taught: Vec::new(alloc),
             shortener: Shortener::new(alloc, numbers)?,
         })
     }
@@ -211,61 +180,46 @@ impl Refuter {
 
     /// Closes no facts under every line of reasoning about the fault; whether that is a clash. Where it isn't, `facts` are
     /// all to which lines lead.
-    pub fn close(&mut self, graph: &Graph, fault: &Fault) -> Result<bool, NoMemory>
-        requires pin { HasPin (net_of graph.now) fault.now }
-        requires serves { IsServing (net_of graph.now) self.old }
-        ensures shut { IfOk result (IsShut (net_of graph.now) fault.now self.new.basis.facts) }
-        ensures exact { IfOk result (λ clash. IsTrue clash ↔ Clashes (net_of graph.now) fault.now) }
-        ensures serves { OnOk result (IsServing (net_of graph.now) self.new) }
+    pub fn close(&mut self, question: &Question<'_>) -> Result<bool, NoMemory>
+        requires serves { IsServing (net_of question.now.graph.now) self.old }
+        ensures shut { IfOk result (IsShut (net_of question.now.graph.now) question.now.fault self.new.basis.facts) }
+        ensures exact { IfOk result (λ clash. IsTrue clash ↔ Clashes (net_of question.now.graph.now) question.now.fault) }
+        ensures serves { OnOk result (IsServing (net_of question.now.graph.now) self.new) }
     {
-        Ok(self.engine.open(graph, fault, &mut self.basis)?.is_some())
+        Ok(self.engine.open(question, &mut self.basis)?.is_some())
     }
 
     /// Refutes a stuck pin by learning to the depth. A tree comes exactly where no set of facts without opposed facts is
     /// closed at that depth; what its ends don't rest on is left out of it. Else `facts` are the least such set. It looks for
     /// a clash at the smaller depths first.
-    pub fn refute(
-        &mut self,
-        graph: &Graph,
-        fault: &Fault,
-        depth: u8,
-    ) -> Result<Option<Tree>, NoMemory>
-        requires pin { HasPin (net_of graph.now) fault.now }
-        requires serves { IsServing (net_of graph.now) self.old }
+    pub fn refute(&mut self, question: &Question<'_>, depth: u8) -> Result<Option<Tree>, NoMemory>
+        requires serves { IsServing (net_of question.now.graph.now) self.old }
         requires depth { depth ≤ 2 }
-        ensures refuted { IfOk result (IsRefuted (net_of graph.now) fault.now depth self.new.basis.facts) }
-        ensures exact { IfOk result (λ t. IsSome t ↔ LeadsToClash (net_of graph.now) fault.now depth none_held) }
-        ensures serves { OnOk result (IsServing (net_of graph.now) self.new) }
+        ensures refuted { IfOk result (IsRefuted (net_of question.now.graph.now) question.now.fault depth self.new.basis.facts) }
+        ensures exact { IfOk result (λ t. IsSome t ↔ LeadsToClash (net_of question.now.graph.now) question.now.fault depth none_held) }
+        ensures serves { OnOk result (IsServing (net_of question.now.graph.now) self.new) }
     {
-        self.taught.clear();
         let found = learn_to(
-            self.alloc,
             &mut self.engine,
-            graph,
-            fault,
+            question,
             &mut self.basis,
             &mut self.watch,
-            &mut self.taught,
             depth,
         )?;
         let Some(level) = found else {
             return Ok(None);
         };
         let body = body_at(
-            self.alloc,
             &mut self.engine,
-            graph,
-            fault,
+            question,
             &mut self.basis,
             &mut self.watch,
             level,
-            &self.taught,
         )?;
         let tree = tree_of(
             self.alloc,
             &mut self.engine,
-            graph,
-            fault,
+            question,
             &mut self.shortener,
             &body,
         )?;

@@ -1,6 +1,5 @@
 // Refuting a fault.
 ghost use Rattle.std.specs.Prelude.{◌≡◌, ◌≤◌, ◌↔◌, IfOk, OnOk, length};
-ghost use Rattle.gate_net.specs.Values.{HasPin};
 ghost use Rattle.gate_graph.specs.Circuit.{net_of};
 ghost use Rattle.implications.specs.Outcomes.{IsClash};
 ghost use Rattle.implications.specs.Outside.{LeadFromOutside};
@@ -9,6 +8,7 @@ ghost use Rattle.refutation.specs.Facts.{none_held};
 ghost use Rattle.refutation.specs.FactSets.{held_by};
 ghost use Rattle.refutation.specs.Learning.{LeadsToClash};
 ghost use Rattle.recursive_learning.specs.Answers.{IsDeepened, IsRefuting};
+ghost use Rattle.recursive_learning.specs.Holding.{HasGoods};
 ghost use Rattle.recursive_learning.specs.Watching.{HasRoom, IsBlank, IsWatching, LeavesList, Lengthens};
 ghost use Rattle.recursive_learning.specs.Working.{AreSettled, Keeps};
 ghost use Rattle.recursive_learning.specs.Least.{AreForced};
@@ -17,72 +17,65 @@ use crate::learning::learn;
 use crate::ordering::write_from;
 use crate::telling::push_lines;
 use crate::watch::Watch;
-use gate_graph::Graph;
+use gate_graph::Question;
 use implications::{Closed, Engine};
 use refutation::{FactSet, Tree, TreeBuilder};
 use refutation_check::shortened;
-use rm_base::{Fault, NoMemory, NodeId};
+use rm_base::{NoMemory, NodeId};
 use std::alloc::Global;
 
 // Writes the tree of closed facts to which these lines led from what the faulty gate doesn't reach, and which lead to a
 // clash at the depth.
 fn written(
-    alloc: Global,
     engine: &mut Engine,
-    graph: &Graph,
-    fault: &Fault,
+    question: &Question<'_>,
     watch: &mut Watch,
     depth: u8,
-    taught: &[NodeId],
+    gates: &[NodeId],
     facts: &mut FactSet,
 ) -> Result<Tree, NoMemory>
-    requires pin { HasPin (net_of graph.now) fault.now }
-    requires numbers { length (net_of graph.now).nodes ≤ engine.old.numbers }
-    requires size { length (net_of graph.now).nodes ≤ length facts.old }
-    requires room { HasRoom (net_of graph.now) watch.old }
+    requires numbers { length (net_of question.now.graph.now).nodes ≤ engine.old.numbers }
+    requires size { length (net_of question.now.graph.now).nodes ≤ length facts.old }
+    requires room { HasRoom (net_of question.now.graph.now) watch.old }
+    requires goods { HasGoods watch.old engine.old facts.old }
     requires blank { IsBlank watch.old }
-    requires settled { AreSettled (net_of graph.now) fault.now (held_by facts.old) }
-    requires lines { LeadFromOutside (net_of graph.now) fault.now engine.old.lines (held_by facts.old) }
-    requires clash { LeadsToClash (net_of graph.now) fault.now depth (held_by facts.old) }
-    ensures accepted { IfOk result (λ t. AreAccepted (net_of graph.now) fault.now t) }
+    requires settled { AreSettled (net_of question.now.graph.now) question.now.fault (held_by facts.old) }
+    requires lines { LeadFromOutside (net_of question.now.graph.now) question.now.fault engine.old.lines (held_by facts.old) }
+    requires clash { LeadsToClash (net_of question.now.graph.now) question.now.fault depth (held_by facts.old) }
+    ensures accepted { IfOk result (λ t. AreAccepted (net_of question.now.graph.now) question.now.fault t) }
     ensures keeps { OnOk result (Keeps engine.old engine.new facts.old facts.new) }
     ensures leaves { OnOk result (LeavesList watch.old watch.new) }
 {
-    let mut tree = TreeBuilder::new(alloc);
-    engine.push_outside(graph, fault, &mut tree)?;
+    let mut tree = TreeBuilder::new(watch.alloc());
+    engine.push_outside(question, &mut tree)?;
     push_lines(&mut tree, engine.lines())?;
-    write_from(
-        alloc, engine, graph, fault, facts, watch, depth, taught, &mut tree,
-    )?;
+    write_from(engine, question, facts, watch, depth, gates, &mut tree)?;
     Ok(tree.finish())
 }
 
 // Writes the tree of a fault that leads to a clash at the depth.
 fn tree_of(
-    alloc: Global,
     engine: &mut Engine,
-    graph: &Graph,
-    fault: &Fault,
+    question: &Question<'_>,
     watch: &mut Watch,
     depth: u8,
-    taught: &[NodeId],
+    gates: &[NodeId],
 ) -> Result<Tree, NoMemory>
-    requires pin { HasPin (net_of graph.now) fault.now }
-    requires numbers { length (net_of graph.now).nodes ≤ engine.old.numbers }
-    requires room { HasRoom (net_of graph.now) watch.old }
-    requires blank { IsBlank watch.old }
-    requires clash { LeadsToClash (net_of graph.now) fault.now depth none_held }
-    ensures accepted { IfOk result (λ t. AreAccepted (net_of graph.now) fault.now t) }
+    requires numbers { length (net_of question.now.graph.now).nodes ≤ engine.old.numbers }
+    requires room { HasRoom (net_of question.now.graph.now) watch.old }
+    requires clash { LeadsToClash (net_of question.now.graph.now) question.now.fault depth none_held }
+    ensures accepted { IfOk result (λ t. AreAccepted (net_of question.now.graph.now) question.now.fault t) }
     ensures numbers { OnOk result (engine.new.numbers ≡ engine.old.numbers) }
     ensures trail { OnOk result (length engine.new.trail ≡ length engine.old.trail) }
 {
-    graph.well_formed();
-    match engine.close(graph, fault)? {
+    question.graph.well_formed();
+    match engine.close(question)? {
         Closed::Clash(tree) => Ok(tree),
         Closed::Open(facts) => {
+            watch.begin_with(question.graph, &facts)?;
             let mut held = facts;
             let mark = engine.mark();
-            let tree = written(alloc, engine, graph, fault, watch, depth, taught, &mut held)?;
+            let tree = written(engine, question, watch, depth, gates, &mut held)?;
             engine.take_back(&mut held, mark);
             Ok(tree)
         }
@@ -91,29 +84,26 @@ fn tree_of(
 
 /// Learns from closed facts to one depth after another; the first at which they lead to a clash.
 pub(crate) fn deepen(
-    alloc: Global,
     engine: &mut Engine,
-    graph: &Graph,
-    fault: &Fault,
+    question: &Question<'_>,
     facts: &mut FactSet,
     watch: &mut Watch,
-    taught: &mut Vec<NodeId>,
     depth: u8,
 ) -> Result<Option<u8>, NoMemory>
-    requires pin { HasPin (net_of graph.now) fault.now }
-    requires numbers { length (net_of graph.now).nodes ≤ engine.old.numbers }
-    requires size { length (net_of graph.now).nodes ≤ length facts.old }
-    requires settled { AreSettled (net_of graph.now) fault.now (held_by facts.old) }
-    requires room { HasRoom (net_of graph.now) watch.old }
-    requires watching { IsWatching (net_of graph.now) fault.now (held_by facts.old) watch.old }
+    requires numbers { length (net_of question.now.graph.now).nodes ≤ engine.old.numbers }
+    requires size { length (net_of question.now.graph.now).nodes ≤ length facts.old }
+    requires settled { AreSettled (net_of question.now.graph.now) question.now.fault (held_by facts.old) }
+    requires room { HasRoom (net_of question.now.graph.now) watch.old }
+    requires goods { HasGoods watch.old engine.old facts.old }
+    requires watching { IsWatching (net_of question.now.graph.now) question.now.fault (held_by facts.old) watch.old }
     requires depth { depth ≤ 2 }
-    ensures deepened { IfOk result (λ level. IsDeepened (net_of graph.now) fault.now depth (held_by facts.old) level (held_by facts.new)) }
+    ensures deepened { IfOk result (λ level. IsDeepened (net_of question.now.graph.now) question.now.fault depth (held_by facts.old) level (held_by facts.new)) }
     ensures keeps { IfOk result (λ _. Keeps engine.old engine.new facts.old facts.new) }
     ensures lengthens { OnOk result (Lengthens watch.old watch.new) }
 {
     let _mark = engine.mark();
     for level in 0..depth {
-        if learn(alloc, engine, graph, fault, facts, watch, taught, level + 1)? {
+        if learn(engine, question, facts, watch, level + 1)? {
             return Ok(Some(level + 1));
         }
     }
@@ -124,18 +114,16 @@ pub(crate) fn deepen(
 fn refute_open(
     alloc: Global,
     engine: &mut Engine,
-    graph: &Graph,
-    fault: &Fault,
+    question: &Question<'_>,
     depth: u8,
     facts: FactSet,
 ) -> Result<Closed, NoMemory>
-    requires pin { HasPin (net_of graph.now) fault.now }
-    requires numbers { length (net_of graph.now).nodes ≤ engine.old.numbers }
-    requires size { length (net_of graph.now).nodes ≤ length facts }
-    requires settled { AreSettled (net_of graph.now) fault.now (held_by facts) }
-    requires forced { AreForced (net_of graph.now) fault.now 0 none_held (held_by facts) }
+    requires numbers { length (net_of question.now.graph.now).nodes ≤ engine.old.numbers }
+    requires size { length (net_of question.now.graph.now).nodes ≤ length facts }
+    requires settled { AreSettled (net_of question.now.graph.now) question.now.fault (held_by facts) }
+    requires forced { AreForced (net_of question.now.graph.now) question.now.fault 0 none_held (held_by facts) }
     requires depth { depth ≤ 2 }
-    ensures refuting { IfOk result (IsRefuting (net_of graph.now) fault.now depth) }
+    ensures refuting { IfOk result (IsRefuting (net_of question.now.graph.now) question.now.fault depth) }
     ensures numbers { OnOk result (engine.new.numbers ≡ engine.old.numbers) }
     ensures trail { OnOk result (length engine.new.trail ≡ length engine.old.trail) }
 {
@@ -144,26 +132,17 @@ fn refute_open(
     }
     let mut held = facts;
     let mut nothing = FactSet::for_numbers(alloc, 0)?;
-    let mut taught = Vec::new(alloc);
-    let mut watch = Watch::new(alloc, graph.node_bound())?;
+    let mut watch = Watch::new(alloc, question.graph.node_bound())?;
+    watch.begin_with(question.graph, &held)?;
     let mark = engine.mark();
-    let clash = deepen(
-        alloc,
-        engine,
-        graph,
-        fault,
-        &mut held,
-        &mut watch,
-        &mut taught,
-        depth,
-    )?;
+    let clash = deepen(engine, question, &mut held, &mut watch, depth)?;
     // What was learned stays: the trail is cut without it.
     engine.take_back(&mut nothing, mark);
     let Some(level) = clash else {
         return Ok(Closed::Open(held));
     };
-    watch.forget();
-    let tree = tree_of(alloc, engine, graph, fault, &mut watch, level, &taught)?;
+    let gates = watch.give_taught();
+    let tree = tree_of(engine, question, &mut watch, level, &gates)?;
     Ok(Closed::Clash(tree))
 }
 
@@ -171,23 +150,21 @@ fn refute_open(
 fn refute_whole(
     alloc: Global,
     engine: &mut Engine,
-    graph: &Graph,
-    fault: &Fault,
+    question: &Question<'_>,
     depth: u8,
 ) -> Result<Closed, NoMemory>
-    requires pin { HasPin (net_of graph.now) fault.now }
-    requires numbers { length (net_of graph.now).nodes ≤ engine.old.numbers }
+    requires numbers { length (net_of question.now.graph.now).nodes ≤ engine.old.numbers }
     requires depth { depth ≤ 2 }
-    ensures refuting { IfOk result (IsRefuting (net_of graph.now) fault.now depth) }
-    ensures exact { IfOk result (λ c. IsClash c ↔ LeadsToClash (net_of graph.now) fault.now depth none_held) }
+    ensures refuting { IfOk result (IsRefuting (net_of question.now.graph.now) question.now.fault depth) }
+    ensures exact { IfOk result (λ c. IsClash c ↔ LeadsToClash (net_of question.now.graph.now) question.now.fault depth none_held) }
     ensures numbers { OnOk result (engine.new.numbers ≡ engine.old.numbers) }
     ensures trail { OnOk result (length engine.new.trail ≡ length engine.old.trail) }
 {
-    graph.well_formed();
-    match engine.close(graph, fault)? {
+    question.graph.well_formed();
+    match engine.close(question)? {
         Closed::Clash(tree) => Ok(Closed::Clash(tree)),
         Closed::Open(facts) => {
-            let answer = refute_open(alloc, engine, graph, fault, depth, facts)?;
+            let answer = refute_open(alloc, engine, question, depth, facts)?;
             Ok(answer)
         }
     }
@@ -200,21 +177,19 @@ fn refute_whole(
 pub fn refute(
     alloc: Global,
     engine: &mut Engine,
-    graph: &Graph,
-    fault: &Fault,
+    question: &Question<'_>,
     depth: u8,
 ) -> Result<Closed, NoMemory>
-    requires pin { HasPin (net_of graph.now) fault.now }
-    requires numbers { length (net_of graph.now).nodes ≤ engine.old.numbers }
+    requires numbers { length (net_of question.now.graph.now).nodes ≤ engine.old.numbers }
     requires depth { depth ≤ 2 }
-    ensures refuting { IfOk result (IsRefuting (net_of graph.now) fault.now depth) }
-    ensures exact { IfOk result (λ c. IsClash c ↔ LeadsToClash (net_of graph.now) fault.now depth none_held) }
+    ensures refuting { IfOk result (IsRefuting (net_of question.now.graph.now) question.now.fault depth) }
+    ensures exact { IfOk result (λ c. IsClash c ↔ LeadsToClash (net_of question.now.graph.now) question.now.fault depth none_held) }
     ensures numbers { OnOk result (engine.new.numbers ≡ engine.old.numbers) }
     ensures trail { OnOk result (length engine.new.trail ≡ length engine.old.trail) }
 {
-    match refute_whole(alloc, engine, graph, fault, depth)? {
+    match refute_whole(alloc, engine, question, depth)? {
         Closed::Clash(tree) => {
-            let short = shortened(alloc, graph, fault, tree)?;
+            let short = shortened(alloc, question, tree)?;
             Ok(Closed::Clash(short))
         }
         Closed::Open(facts) => Ok(Closed::Open(facts)),

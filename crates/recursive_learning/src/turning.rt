@@ -1,5 +1,5 @@
-// Going round the gates.
-ghost use Rattle.std.specs.Prelude.{◌≡◌, ◌≢◌, ◌+◌, ◌<◌, false, true};
+// What looks at gates come to.
+ghost use Rattle.std.specs.Prelude.{◌≡◌, ◌≢◌, false, true};
 ghost use Rattle.recursive_learning.specs.declared.lessons.Round.TheVariants.{Clash, Gained, Quiet};
 
 use crate::lessons::Round;
@@ -15,23 +15,13 @@ pub fn is_clash(round: Round) -> bool
     }
 }
 
-/// For how many gates nothing was taught, after one more.
-pub fn quiet_after(round: Round, quiet: u32) -> u32
-    requires { quiet < 4294967295 }
-    ensures quiet { round ≡ Quiet → result ≡ quiet + 1 }
-    ensures gained { round ≡ Gained → result ≡ 0 }
+/// What looks came to together with one more, where none led to a clash.
+pub fn together(before: Round, round: Round) -> Round
+    ensures quiet { before ≡ Quiet → result ≡ round }
+    ensures gained { before ≡ Gained → result ≡ Gained }
 {
-    match round {
-        Round::Quiet => quiet + 1,
-        Round::Gained | Round::Clash => 0,
+    match before {
+        Round::Quiet => round,
+        Round::Gained | Round::Clash => before,
     }
-}
-
-/// The number after that one, where 0 follows the last.
-pub fn next_number(number: u32, bound: u32) -> u32
-    requires { number < bound }
-    ensures next { number + 1 < bound → result ≡ number + 1 }
-    ensures first { number + 1 ≡ bound → result ≡ 0 }
-{
-    if number + 1 < bound { number + 1 } else { 0 }
 }

@@ -1,28 +1,35 @@
 //! Which gates are to be looked at.
-ghost use Rattle.std.specs.Prelude.{◌≡◌, ◌<◌, ◌≤◌, ℕ, [], IfOk, IsTrue, OnOk, false, length, replicate, suc, take, true, zero};
+ghost use Rattle.std.specs.Prelude.{◌≡◌, ◌<◌, ◌≤◌, ℕ, [], IfOk, IsTrue, List, OnOk, false, length, replicate, suc, take, true, zero};
 ghost use Rattle.gate_net.specs.Net.{IsLive};
 ghost use Rattle.gate_graph.specs.Circuit.{net_of};
 ghost use Rattle.gate_graph.specs.Search.{IsSeen};
 ghost use Rattle.refutation.specs.Agendas.{IsTaken};
 ghost use Rattle.refutation.specs.FactSets.{held_by};
+ghost use Rattle.recursive_learning.specs.Holding.{ListsNodes, NamesAll, NamesKnown};
 ghost use Rattle.recursive_learning.specs.Resting.{IsWatched};
-ghost use Rattle.recursive_learning.specs.Watching.{HasNoneListed, HasRoom, IsAround, IsBlank, IsListedAt, LeavesList, ListsAdded, ListsChanged, ListsGood, ListsGoods, RestsOn, StillLists};
+ghost use Rattle.recursive_learning.specs.Watching.{HasNoneListed, HasRoom, IsAround, IsBlank, IsListedAt, LeavesList, ListsChanged, RestsOn, StillLists};
 
+use crate::good_nodes::{list_nodes, push_added, push_known};
 use crate::resting::Rests;
 use gate_graph::Graph;
 use refutation::agenda::Agenda;
-use refutation::pins::{Aspect, known};
 use refutation::{Fact, FactSet};
 use rm_base::{NoMemory, NodeId};
 use std::alloc::Global;
+use std::mem;
 
 /// The gates that are to be looked at, and the places on which what is known of the others rests. Where `all` is set,
-/// nothing is known of any gate.
+/// nothing is known of any gate. `first` has the nodes whose good values are held without being among the facts that the
+/// engine added. The gates that taught something are noted in order, for the writer to begin with; no contract speaks of
+/// them.
 #[derive(Drop)]
 pub struct Watch {
+    alloc: Global,
     all: bool,
     listed: Agenda,
     rests: Rests,
+    first: Vec<NodeId>,
+    taught: Vec<NodeId>,
 }
 
 /// What to come back to by `take_back`.
@@ -30,46 +37,7 @@ pub struct Watch {
 pub struct WatchMark {
     all: bool,
     count: usize,
-}
-
-// Lists the nodes whose good value is known, the least to come first.
-fn list_goods(graph: &Graph, facts: &FactSet, listed: &mut Agenda)
-    requires room { length (net_of graph.now).nodes ≤ length listed.old }
-    requires size { length (net_of graph.now).nodes ≤ length facts.now }
-    ensures goods { ListsGoods (net_of graph.now) (held_by facts.now) listed.new }
-    ensures size { length listed.new ≡ length listed.old }
-{
-    let bound = graph.node_bound();
-    for number in 0..bound {
-        let node = NodeId(bound - 1 - number);
-        if known(facts, Aspect::OfGood, node).is_some() {
-            listed.add(node);
-        }
-    }
-}
-
-// Lists the node of a good value.
-fn list_good(entry: (NodeId, Fact), listed: &mut Agenda)
-    ensures listed { ListsGood entry listed.new }
-    ensures kept { (y : ℕ) → IsSeen listed.old y → IsSeen listed.new y }
-    ensures size { length listed.new ≡ length listed.old }
-{
-    let (node, Fact::Good(_)) = entry else {
-        return;
-    };
-    if (node.0 as usize) < listed.len() {
-        listed.add(node);
-    }
-}
-
-// Lists the nodes whose good values are among added facts.
-fn list_added(added: &[(NodeId, Fact)], listed: &mut Agenda)
-    ensures goods { ListsAdded added.now listed.new }
-    ensures size { length listed.new ≡ length listed.old }
-{
-    for entry in added {
-        list_good(*entry, listed);
-    }
+    taught: usize,
 }
 
 impl Watch {
@@ -80,26 +48,61 @@ impl Watch {
         ensures listed { IfOk result (λ w. length w.listed ≡ numbers) }
     {
         Ok(Watch {
+            alloc,
             all: true,
             listed: Agenda::new(alloc, numbers)?,
             rests: Rests::new(alloc, numbers)?,
+            first: Vec::new(alloc),
+            taught: Vec::new(alloc),
         })
     }
 
-    /// Lists the gates whose good value is known, where nothing is known of any: no other has anything to teach.
-    pub fn begin(&mut self, graph: &Graph, facts: &FactSet)
-        requires room { HasRoom (net_of graph.now) self.old }
-        requires size { length (net_of graph.now).nodes ≤ length facts.now }
-        ensures known { self.new.all ≡ false }
-        ensures goods { self.old.all ≡ true → ListsGoods (net_of graph.now) (held_by facts.now) self.new.listed }
-        ensures same { self.old.all ≡ false → self.new.listed ≡ self.old.listed }
+    /// Where it takes its memory.
+    pub fn alloc(&self) -> Global {
+        self.alloc
+    }
+
+    /// Notes that the gate taught something.
+    pub fn note_taught(&mut self, gate: NodeId) -> Result<(), NoMemory>
+        ensures { LeavesList self.old self.new }
+    {
+        self.taught.push(gate)?;
+        Ok(())
+    }
+
+    /// The gates that taught something, in order; none is noted then.
+    pub fn give_taught(&mut self) -> Vec<NodeId>
+        ensures { LeavesList self.old self.new }
+    {
+        mem::replace(&mut self.taught, Vec::new(self.alloc))
+    }
+
+    /// The nodes whose good values may be held: those that it began with, and those of good values among added facts.
+    pub fn good_nodes(&self, added: &[(NodeId, Fact)]) -> Result<Vec<NodeId>, NoMemory>
+        ensures { IfOk result (λ v. NamesAll self.now added.now v.items) }
+    {
+        let mut nodes = Vec::new(self.alloc);
+        nodes.extend_from_slice(&self.first)?;
+        push_added(added, &mut nodes)?;
+        Ok(nodes)
+    }
+
+    /// Lists the gates whose good values may be held, where nothing is known of any: no other has anything to teach.
+    pub fn begin(&mut self, added: &[(NodeId, Fact)]) -> Result<(), NoMemory>
+        ensures known { OnOk result (self.new.all ≡ false) }
+        ensures goods { OnOk result (self.old.all ≡ true → (nodes : List NodeId) × (NamesAll self.old added.now nodes × ListsNodes nodes self.new.listed)) }
+        ensures same { OnOk result (self.old.all ≡ false → self.new.listed ≡ self.old.listed) }
         ensures rests { self.new.rests ≡ self.old.rests }
+        ensures first { self.new.first ≡ self.old.first }
         ensures size { length self.new.listed ≡ length self.old.listed }
     {
-        if self.all {
-            list_goods(graph, facts, &mut self.listed);
-            self.all = false;
+        if !self.all {
+            return Ok(());
         }
+        let nodes = self.good_nodes(added)?;
+        list_nodes(&nodes, &mut self.listed);
+        self.all = false;
+        Ok(())
     }
 
     /// Whether there is room for the node numbers of the graph.
@@ -112,22 +115,12 @@ impl Watch {
         graph.node_bound() as usize <= self.listed.len()
     }
 
-    /// Lists the nodes whose good values are among added facts, where nothing is known of any.
-    pub fn begin_added(&mut self, added: &[(NodeId, Fact)])
-        ensures known { self.new.all ≡ false }
-        ensures goods { ListsAdded added.now self.new.listed }
-        ensures rests { self.new.rests ≡ self.old.rests }
-        ensures size { length self.new.listed ≡ length self.old.listed }
-    {
-        list_added(added, &mut self.listed);
-        self.all = false;
-    }
-
     /// Takes a gate off the list; None where there is none.
     pub fn take(&mut self) -> Option<NodeId>
         ensures taken { IsTaken self.old.listed self.new.listed result }
         ensures all { self.new.all ≡ self.old.all }
         ensures rests { self.new.rests ≡ self.old.rests }
+        ensures first { self.new.first ≡ self.old.first }
     {
         self.listed.take()
     }
@@ -248,6 +241,7 @@ impl Watch {
         WatchMark {
             all: self.all,
             count: self.rests.count(),
+            taught: self.taught.len(),
         }
     }
 
@@ -258,20 +252,37 @@ impl Watch {
         ensures listed { self.new.listed ≡ replicate (length self.old.listed) false }
         ensures entries { self.new.rests.entries ≡ take mark.count self.old.rests.entries }
         ensures numbers { self.new.rests.numbers ≡ self.old.rests.numbers }
+        ensures first { self.new.first ≡ self.old.first }
     {
         self.all = mark.all;
         self.listed.clear();
         self.rests.take_back(mark.count);
+        self.taught.truncate(mark.taught);
     }
 
-    /// Forgets what is known.
+    /// Forgets what is known, and which gates taught something.
     pub fn forget(&mut self)
         ensures blank { IsBlank self.new }
         ensures size { length self.new.listed ≡ length self.old.listed }
         ensures numbers { self.new.rests.numbers ≡ self.old.rests.numbers }
+        ensures first { self.new.first ≡ self.old.first }
     {
         self.all = true;
         self.listed.clear();
         self.rests.take_back(0);
+        self.taught.clear();
+    }
+
+    /// Forgets what is known, and begins with the good values that are known. It goes over the whole net.
+    pub fn begin_with(&mut self, graph: &Graph, facts: &FactSet) -> Result<(), NoMemory>
+        requires { length (net_of graph.now).nodes ≤ length facts.now }
+        ensures blank { OnOk result (IsBlank self.new) }
+        ensures size { length self.new.listed ≡ length self.old.listed }
+        ensures numbers { self.new.rests.numbers ≡ self.old.rests.numbers }
+        ensures first { OnOk result (NamesKnown (net_of graph.now) (held_by facts.now) self.new.first.items) }
+    {
+        self.forget();
+        self.first.clear();
+        push_known(graph, facts, &mut self.first)
     }
 }

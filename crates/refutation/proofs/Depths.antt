@@ -13,7 +13,6 @@ use Rattle.gate_net.proofs.Public.{Stays, all_not_any, both_and, is_known_some}
 use Rattle.refutation.proofs.Grows.{good_stays, line_grows}
 use Rattle.refutation.proofs.Known.{one_of_true}
 use Rattle.refutation.proofs.LinesRight.{line_right}
-use Rattle.refutation.proofs.Partials.{found}
 use Rattle.refutation.proofs.Refuting.{never_opposed}
 use Rattle.refutation.specs.Closing.{IsClashFree, IsClosedUnderLines, IsWithin, both_hold}
 use Rattle.refutation.specs.Facts.{AreOpposed, Held, known_good, with_fact}

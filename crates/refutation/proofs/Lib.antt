@@ -1,6 +1,7 @@
 pub mod Known
 pub mod LinesRight
 pub mod Refuting
+pub mod Readings
 pub mod Stacks
 pub mod Partials
 pub mod Edges
@@ -10,6 +11,8 @@ pub mod Depths
 pub mod Searches
 pub mod FactMarks
 pub mod Told
+pub mod Live
+pub mod ItemsTell
 pub mod Below
 pub mod OneFact
 pub mod NearLines

@@ -4,6 +4,7 @@
 pub use Rattle.gate_looks.proofs.Public.{clear_less, count-clear, count-set, count_within, none_marked, not_seen}
 pub use Rattle.gate_looks.proofs.Public.{read_is, seen_left, seen_stays}
 -- The node of a fact that a line gives is live.
+pub use Rattle.refutation.proofs.Live.{concludes_live, driver_live, node_live}
 pub use Rattle.refutation.proofs.Below.{concludes_below}
 -- A closed set has all to which lines lead.
 pub use Rattle.refutation.proofs.Closings.{closed_has_all, leads_within, none_within, opposed_within, same_fact_refl, with_cases}
@@ -26,8 +27,10 @@ pub use Rattle.gate_looks.proofs.Public.{MarksSome, marks_all, marks_new, reache
 pub use Rattle.gate_looks.proofs.Public.{search_less, search_more}
 -- Going over the gates that read a node, and the only one that does.
 pub use Rattle.gate_looks.proofs.Public.{all_came, gate_in, next_below, next_reads}
--- Reading a closed tree with a stack.
-pub use Rattle.refutation.proofs.Stacks.{stack_reads}
+-- Reading items one after another.
+pub use Rattle.refutation.proofs.Readings.{reads_first, reads_join}
+-- Reading a closed tree.
+pub use Rattle.refutation.proofs.Stacks.{closed_reads}
 -- What the calls of a graph and of the facts tell.
 pub use Rattle.gate_looks.proofs.Public.{beq_same, drivers_below, each_of_one, each_of_two, gate_live}
 -- What the calls of a graph and of the facts tell.

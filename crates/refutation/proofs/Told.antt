@@ -1,22 +1,19 @@
 -- What the calls of a graph and of the facts tell.
 use Rattle.gate_looks.proofs.Public.{stuck_reads}
 use Rattle.gate_looks.proofs.Public.{kind_is, kind_told}
-use Rattle.std.proofs.Common.{Bool, List, None, Option, Some, [], ap, arith, eqb, false, inl, inr, length, refl, subst, suc, sym, true, zero, ℕ, ◌<◌, ◌||◌, ◌∙◌, ◌∷◌, ◌≡◌, ◌≢◌}
-use Rattle.std.proofs.lemmas.Bool.{eqb-true}
+use Rattle.std.proofs.Common.{Bool, None, Option, Some, ap, refl, sym, ℕ, ◌∙◌, ◌≡◌}
 use Rattle.std.specs.Prelude.{slice_get}
 use Rattle.gate_net.specs.Forward.{value_back, value_forward}
-use Rattle.gate_net.proofs.Public.{or_either}
-use Rattle.gate_net.specs.Net.{IsKind, IsLive, IsWellFormed, Net, Node, Reads, drivers_in, drivers_of, flatten_option, kind_in, kind_of, node_at}
-use Rattle.gate_net.specs.Values.{HasPin, faulty_reads, same_bool}
+use Rattle.gate_net.specs.Net.{IsKind, Net, Reads, drivers_of, kind_of}
+use Rattle.gate_net.specs.Values.{faulty_reads}
 use Rattle.gate_net.specs.declared.Kind.{Kind}
 use Rattle.refutation.specs.Answers.{backward_at, bind, both_at, forward_at}
 use Rattle.refutation.specs.Facts.{Held, known_faulty}
-use Rattle.refutation.specs.Pins.{AreBelow, known_on, pins_of, stuck_of}
+use Rattle.refutation.specs.Pins.{known_on, pins_of, stuck_of}
 use Rattle.refutation.specs.declared.pins.Aspect.{Aspect}
 use Rattle.refutation.specs.declared.pins.Aspect.TheVariants.{OfFaulty}
 use Rattle.gate_looks.specs.declared.pins.Stuck.{Stuck}
 use Rattle.rm_base.specs.declared.numbers.Fault.{Fault}
-use mathlib.Core.Bool.{beq}
 
 pub bind_some : {A B : Type 0} (o : Option A) (f : A → Option B) (b : B) → Some b ≡ bind o f → (a : A) × ((o ≡ Some a) × (Some b ≡ f a))
 bind_some None f b e = cc

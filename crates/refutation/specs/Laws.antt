@@ -1,16 +1,18 @@
 -- Laws of lines, trees and closed sets of facts.
-use Rattle.std.specs.Prelude.{Bool, IsTrue, List, [], suc, ℕ, ◌*◌, ◌+◌, ◌-◌, ◌^◌, ◌∷◌, ◌≡◌, ◌≤◌}
-use Rattle.gate_net.specs.Net.{HasSources, IsAcyclic, Net, Reads, source_count}
-use Rattle.gate_net.specs.Values.{Detects, IsRun, IsUndetected, SameObserved}
+use Rattle.std.specs.Prelude.{Bool, IsTrue, List, Some, suc, ℕ, ◌*◌, ◌+◌, ◌-◌, ◌^◌, ◌≡◌, ◌≤◌}
+use Rattle.gate_net.specs.Net.{HasSources, IsAcyclic, IsLive, IsWellFormed, Net, Reads, source_count}
+use Rattle.gate_net.specs.Values.{Detects, HasPin, IsRun, IsUndetected, SameObserved}
 use Rattle.refutation.specs.Branches.{AreAccepted, AreAcceptedPartial, Branch, IsPartial, edges, items_of, split}
 use Rattle.refutation.specs.Closing.{Clashes, IsClashFree, IsClosedUnderLines, IsDerivable, IsWithin, both_hold}
-use Rattle.refutation.specs.Facts.{AreTrueFacts, Held, none_held, with_fact}
+use Rattle.refutation.specs.Facts.{AreTrueFacts, Held, known_good, none_held, with_fact}
 use Rattle.refutation.specs.Learning.{IsClosedAt, LeadsToClash}
 use Rattle.refutation.specs.Lines.{Concludes, IsQuiet}
 use Rattle.refutation.specs.OpenSearch.{IsOpenSearch}
-use Rattle.refutation.specs.Stack.{AcceptsAll, AcceptsPartial, splits_among, untrieds_among}
+use Rattle.refutation.specs.Stack.{AreReadToEnd, IsAcceptedAs, splits_among, untrieds_among}
+use Rattle.refutation.specs.declared.items.Form.{Form}
 use Rattle.refutation.specs.declared.items.Item.{Item}
 use Rattle.refutation.specs.declared.reasoning.Fact.{Fact}
+use Rattle.refutation.specs.declared.reasoning.Fact.TheVariants.{Good}
 use Rattle.refutation.specs.declared.reasoning.Line.{Line}
 use Rattle.rm_base.specs.declared.numbers.Fault.{Fault}
 use Rattle.rm_base.specs.declared.numbers.NodeId.{NodeId}
@@ -28,19 +30,12 @@ TreesRefute =
     (net : Net) (fault : Fault) (driver : ℕ) (items : List Item) → IsAcyclic net → Reads net fault.gate.0 fault.position driver
     → AreAccepted net fault items → IsUndetected net fault
 
--- reading with a stack accepts exactly the items of accepted closed trees
-abbrev pub StackReads : Type 0
-StackReads =
-    (net : Net) (fault : Fault) (items : List Item) →
-    (AcceptsAll net fault (none_held ∷ []) items → AreAccepted net fault items)
-    × (AreAccepted net fault items → AcceptsAll net fault (none_held ∷ []) items)
-
--- and exactly the items of accepted partial trees
-abbrev pub PartialReads : Type 0
-PartialReads =
-    (net : Net) (fault : Fault) (items : List Item) →
-    (AcceptsPartial net fault (none_held ∷ []) items → AreAcceptedPartial net fault items)
-    × (AreAcceptedPartial net fault items → AcceptsPartial net fault (none_held ∷ []) items)
+-- the items are read to the end of a tree exactly where the tree is accepted
+abbrev pub ReadingsAccept : Type 0
+ReadingsAccept =
+    (net : Net) (fault : Fault) (form : Form) (items : List Item) →
+    (AreReadToEnd net fault form items → IsAcceptedAs form net fault items)
+    × (IsAcceptedAs form net fault items → AreReadToEnd net fault form items)
 
 -- the edges of a tree are counted by its items
 abbrev pub EdgesAreCounted : Type 0
@@ -96,3 +91,16 @@ abbrev pub OpenSearchesWait : Type 0
 OpenSearchesWait =
     (net : Net) (fault : Fault) (held : Held) (x : NodeId) (first : Bool) (t u : Branch) → IsAcyclic net
     → IsOpenSearch net fault held (split x first t u) → IsQuiet net fault held → ⊥
+
+-- a line's fact is on a live node
+abbrev pub LinesAreLive : Type 0
+LinesAreLive =
+    (net : Net) (fault : Fault) (held : Held) → IsWellFormed net → HasPin net fault → (l : Line) (x : ℕ) (fact : Fact) → Concludes net fault held l x fact → IsLive net x
+
+-- a good value that is known is held
+abbrev pub KnownIsHeld : Type 0
+KnownIsHeld = (held : Held) (x : ℕ) (value : Bool) → known_good held x ≡ Some value → IsTrue (held x (Good value))
+
+-- the items of a tree tell the tree, so that accepted items are those of one tree only
+abbrev pub ItemsTellTree : Type 0
+ItemsTellTree = (t u : Branch) → items_of t ≡ items_of u → t ≡ u

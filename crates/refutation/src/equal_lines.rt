@@ -9,29 +9,28 @@ use crate::glances::{all_equal, others_equal};
 use crate::held::FactSet;
 use crate::pins::{Aspect, is_stuck, known};
 use crate::reasoning::{Fact, Line};
-use gate_graph::Graph;
+use gate_graph::Question;
 use gate_net::Kind;
-use rm_base::{Fault, NodeId};
+use rm_base::NodeId;
 
 /// A gate other than the faulty one is equal where all its drivers are.
 pub fn line_equal_forward(
-    graph: &Graph,
-    fault: &Fault,
+    question: &Question<'_>,
     facts: &FactSet,
     node: NodeId,
 ) -> Option<(NodeId, Fact)>
-    requires { length (net_of graph.now).nodes ≤ length facts.now }
-    ensures { IsAnswer (net_of graph.now) fault.now (held_by facts.now) (Line.EqualForward node) result }
+    requires { length (net_of question.now.graph.now).nodes ≤ length facts.now }
+    ensures { IsAnswer (net_of question.now.graph.now) question.now.fault (held_by facts.now) (Line.EqualForward node) result }
 {
-    let kind = graph.kind(node)?;
+    let kind = question.graph.kind(node)?;
     if !kind.is_gate() {
         return None;
     }
-    let is_faulty = node.0 == fault.gate.0;
+    let is_faulty = node.0 == question.fault.gate.0;
     if is_faulty {
         return None;
     }
-    if !all_equal(gate_pins(graph, node), facts) {
+    if !all_equal(gate_pins(question.graph, node), facts) {
         return None;
     }
     Some((node, Fact::Equal))
@@ -39,22 +38,21 @@ pub fn line_equal_forward(
 
 /// A Not other than the faulty gate differs where its driver does.
 pub fn line_not_differs(
-    graph: &Graph,
-    fault: &Fault,
+    question: &Question<'_>,
     facts: &FactSet,
     node: NodeId,
 ) -> Option<(NodeId, Fact)>
-    requires { length (net_of graph.now).nodes ≤ length facts.now }
-    ensures { IsAnswer (net_of graph.now) fault.now (held_by facts.now) (Line.NotDiffers node) result }
+    requires { length (net_of question.now.graph.now).nodes ≤ length facts.now }
+    ensures { IsAnswer (net_of question.now.graph.now) question.now.fault (held_by facts.now) (Line.NotDiffers node) result }
 {
-    let kind = graph.kind(node)?;
+    let kind = question.graph.kind(node)?;
     if kind != Kind::Not {
         return None;
     }
-    if node.0 == fault.gate.0 {
+    if node.0 == question.fault.gate.0 {
         return None;
     }
-    let driver = pin_driver(graph, node, 0)?;
+    let driver = pin_driver(question.graph, node, 0)?;
     let equal = known(facts, Aspect::OfEqual, driver)?;
     if equal {
         return None;
@@ -64,53 +62,51 @@ pub fn line_not_differs(
 
 /// The driver of a Not other than the faulty gate is equal where the Not is.
 pub fn line_not_equal(
-    graph: &Graph,
-    fault: &Fault,
+    question: &Question<'_>,
     facts: &FactSet,
     node: NodeId,
 ) -> Option<(NodeId, Fact)>
-    requires { length (net_of graph.now).nodes ≤ length facts.now }
-    ensures { IsAnswer (net_of graph.now) fault.now (held_by facts.now) (Line.NotEqual node) result }
+    requires { length (net_of question.now.graph.now).nodes ≤ length facts.now }
+    ensures { IsAnswer (net_of question.now.graph.now) question.now.fault (held_by facts.now) (Line.NotEqual node) result }
 {
-    let kind = graph.kind(node)?;
+    let kind = question.graph.kind(node)?;
     if kind != Kind::Not {
         return None;
     }
-    if node.0 == fault.gate.0 {
+    if node.0 == question.fault.gate.0 {
         return None;
     }
     let equal = known(facts, Aspect::OfEqual, node)?;
     if !equal {
         return None;
     }
-    let driver = pin_driver(graph, node, 0)?;
+    let driver = pin_driver(question.graph, node, 0)?;
     Some((driver, Fact::Equal))
 }
 
 /// A pin's driver differs where the gate does and the drivers of all other pins are equal.
 pub fn line_differs_back(
-    graph: &Graph,
-    fault: &Fault,
+    question: &Question<'_>,
     facts: &FactSet,
     node: NodeId,
     position: u32,
 ) -> Option<(NodeId, Fact)>
-    requires { length (net_of graph.now).nodes ≤ length facts.now }
-    ensures { IsAnswer (net_of graph.now) fault.now (held_by facts.now) (Line.DiffersBack node position) result }
+    requires { length (net_of question.now.graph.now).nodes ≤ length facts.now }
+    ensures { IsAnswer (net_of question.now.graph.now) question.now.fault (held_by facts.now) (Line.DiffersBack node position) result }
 {
-    let kind = graph.kind(node)?;
+    let kind = question.graph.kind(node)?;
     if !kind.is_gate() {
         return None;
     }
-    if node.0 == fault.gate.0 {
+    if node.0 == question.fault.gate.0 {
         return None;
     }
     let equal = known(facts, Aspect::OfEqual, node)?;
     if equal {
         return None;
     }
-    let driver = pin_driver(graph, node, position)?;
-    if !others_equal(gate_pins(graph, node), facts, position as usize) {
+    let driver = pin_driver(question.graph, node, position)?;
+    if !others_equal(gate_pins(question.graph, node), facts, position as usize) {
         return None;
     }
     Some((driver, Fact::Differs))
@@ -118,25 +114,24 @@ pub fn line_differs_back(
 
 /// An equal driver of an And or Or that differs has the noncontrolling value.
 pub fn line_side(
-    graph: &Graph,
-    fault: &Fault,
+    question: &Question<'_>,
     facts: &FactSet,
     node: NodeId,
     position: u32,
 ) -> Option<(NodeId, Fact)>
-    requires { length (net_of graph.now).nodes ≤ length facts.now }
-    ensures { IsAnswer (net_of graph.now) fault.now (held_by facts.now) (Line.Side node position) result }
+    requires { length (net_of question.now.graph.now).nodes ≤ length facts.now }
+    ensures { IsAnswer (net_of question.now.graph.now) question.now.fault (held_by facts.now) (Line.Side node position) result }
 {
-    let kind = graph.kind(node)?;
+    let kind = question.graph.kind(node)?;
     let value = kind.controlling_value()?;
     let equal = known(facts, Aspect::OfEqual, node)?;
     if equal {
         return None;
     }
-    if is_stuck(fault, node, position) {
+    if is_stuck(&question.fault, node, position) {
         return None;
     }
-    let driver = pin_driver(graph, node, position)?;
+    let driver = pin_driver(question.graph, node, position)?;
     let same = known(facts, Aspect::OfEqual, driver)?;
     if !same {
         return None;

@@ -5,6 +5,7 @@ ghost use Rattle.gate_net.specs.Forward.{value_forward, value_back, is_known, al
 ghost use Rattle.refutation.specs.Facts.{known_equal};
 ghost use Rattle.refutation.specs.FactSets.{held_by};
 ghost use Rattle.refutation.specs.Pins.{pins_of, Glances, AreBelow, known_on};
+ghost use Rattle.rm_base.specs.Numbers.{number_bound};
 
 use crate::held::FactSet;
 use crate::pins::{Aspect, Glance, Stuck, known, others_pass};
@@ -39,7 +40,7 @@ pub fn look(
     value: bool,
 ) -> Glance
     requires within { AreBelow drivers (length facts.now) }
-    requires few { length drivers ≤ 4294967295 }
+    requires few { length drivers ≤ number_bound }
     ensures { Glances result value (pins_of stuck aspect (held_by facts.now) drivers.entry) }
 {
     let told = Told { facts, aspect };
@@ -55,7 +56,7 @@ pub fn forward(
     aspect: Aspect,
 ) -> Option<bool>
     requires within { AreBelow drivers (length facts.now) }
-    requires few { length drivers ≤ 4294967295 }
+    requires few { length drivers ≤ number_bound }
     ensures { result ≡ value_forward kind (pins_of stuck aspect (held_by facts.now) drivers.entry) }
 {
     let told = Told { facts, aspect };
@@ -73,7 +74,7 @@ pub fn back(
     q: usize,
 ) -> Option<bool>
     requires within { AreBelow drivers (length facts.now) }
-    requires few { length drivers ≤ 4294967295 }
+    requires few { length drivers ≤ number_bound }
     ensures { result ≡ value_back kind value (pins_of stuck aspect (held_by facts.now) drivers.entry) q }
 {
     let told = Told { facts, aspect };
@@ -83,7 +84,7 @@ pub fn back(
 /// Whether all drivers are known to be equal.
 pub fn all_equal(drivers: Inputs<'_>, facts: &FactSet) -> bool
     requires within { AreBelow drivers (length facts.now) }
-    requires few { length drivers ≤ 4294967295 }
+    requires few { length drivers ≤ number_bound }
     ensures { result ≡ list_all (is_known true) (map (known_equal (held_by facts.now)) drivers.entry) }
 {
     look(drivers, None, facts, Aspect::OfEqual, false).rest == 0
@@ -92,7 +93,7 @@ pub fn all_equal(drivers: Inputs<'_>, facts: &FactSet) -> bool
 /// Whether the drivers of all pins but `q` are known to be equal.
 pub fn others_equal(drivers: Inputs<'_>, facts: &FactSet, q: usize) -> bool
     requires within { AreBelow drivers (length facts.now) }
-    requires few { length drivers ≤ 4294967295 }
+    requires few { length drivers ≤ number_bound }
     ensures { result ≡ all_but (is_known true) q (map (known_equal (held_by facts.now)) drivers.entry) }
 {
     others_pass(look(drivers, None, facts, Aspect::OfEqual, false), q)

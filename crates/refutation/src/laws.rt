@@ -1,5 +1,5 @@
 //! What holds of every line, every tree and every closed set of facts.
-ghost use Rattle.refutation.specs.Laws.{LinesHold, TreesRefute, StackReads, PartialReads, EdgesAreCounted, PartialsAreSmall, UntriedsAreFew, LinesGiveOne, LinesGrow, ClosedHasAll, DetectedNeverClashes, ClosedMeet, ClosedBelow, OpenSearchesWait};
+ghost use Rattle.refutation.specs.Laws.{LinesHold, TreesRefute, ReadingsAccept, EdgesAreCounted, PartialsAreSmall, UntriedsAreFew, LinesGiveOne, LinesGrow, ClosedHasAll, DetectedNeverClashes, ClosedMeet, ClosedBelow, OpenSearchesWait, LinesAreLive, KnownIsHeld, ItemsTellTree};
 
 /// Each line keeps the truth of the held facts, wherever some observed node differs.
 pub fn lines_hold()
@@ -11,10 +11,9 @@ pub fn trees_refute()
     ensures { TreesRefute }
 {}
 
-/// Reading with a stack accepts exactly the items of accepted trees.
-pub fn stack_reads()
-    ensures closed { StackReads }
-    ensures partial { PartialReads }
+/// The items of a tree are read to its end exactly where it is accepted.
+pub fn readings_accept()
+    ensures { ReadingsAccept }
 {}
 
 /// A tree's edges can be counted over its items, and a partial tree has few.
@@ -53,4 +52,19 @@ pub fn closed_sets_meet()
 /// At a split of an open search, forward reading isn't quiet.
 pub fn open_searches_wait()
     ensures { OpenSearchesWait }
+{}
+
+/// A line's fact is on a live node.
+pub fn lines_are_live()
+    ensures { LinesAreLive }
+{}
+
+/// A good value that is known of a node is held there.
+pub fn known_is_held()
+    ensures { KnownIsHeld }
+{}
+
+/// The items of a tree tell the tree.
+pub fn items_tell_tree()
+    ensures { ItemsTellTree }
 {}

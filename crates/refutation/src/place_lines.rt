@@ -10,15 +10,17 @@ use crate::asking::AskedSite;
 use crate::chains::is_in_chain;
 use crate::reasoning::{Fact, Line};
 use crate::site::Site;
-use gate_graph::{Graph, Marks};
+use gate_graph::{Marks, Question};
 use rm_base::{Fault, NodeId};
 
 /// The driver of the stuck pin has the opposite value.
-pub fn line_act(graph: &Graph, fault: &Fault) -> Option<(NodeId, Fact)>
-    ensures { (held : Held) → IsAnswer (net_of graph.now) fault.now held Line.Act result }
+pub fn line_act(question: &Question<'_>) -> Option<(NodeId, Fact)>
+    ensures { (held : Held) → IsAnswer (net_of question.now.graph.now) question.now.fault held Line.Act result }
 {
-    let driver = graph.driver(fault.gate, fault.position)?;
-    Some((driver, Fact::Good(!fault.value)))
+    let driver = question
+        .graph
+        .driver(question.fault.gate, question.fault.position)?;
+    Some((driver, Fact::Good(!question.fault.value)))
 }
 
 /// The faulty gate differs.
@@ -29,42 +31,37 @@ pub fn line_site(fault: &Fault) -> Option<(NodeId, Fact)>
 }
 
 /// A constant has its value.
-pub fn line_constant(graph: &Graph, fault: &Fault, node: NodeId) -> Option<(NodeId, Fact)>
-    ensures { (held : Held) → IsAnswer (net_of graph.now) fault.now held (Line.Constant node) result }
+pub fn line_constant(question: &Question<'_>, node: NodeId) -> Option<(NodeId, Fact)>
+    ensures { (held : Held) → IsAnswer (net_of question.now.graph.now) question.now.fault held (Line.Constant node) result }
 {
-    let kind = graph.kind(node)?;
+    let kind = question.graph.kind(node)?;
     let value = kind.constant_value()?;
     Some((node, Fact::Good(value)))
 }
 
 /// A node that the faulty gate doesn't reach is equal. It searches back from the node.
-pub fn line_out(
-    graph: &Graph,
-    fault: &Fault,
-    node: NodeId,
-    marks: &mut Marks,
-) -> Option<(NodeId, Fact)>
-    requires gate { IsLive (net_of graph.now) fault.now.gate.0 }
-    requires marks { length (net_of graph.now).nodes ≤ marks.old }
-    ensures answer { (held : Held) → IsAnswer (net_of graph.now) fault.now held (Line.Out node) result }
+pub fn line_out(question: &Question<'_>, node: NodeId, marks: &mut Marks) -> Option<(NodeId, Fact)>
+    requires gate { IsLive (net_of question.now.graph.now) question.now.fault.gate.0 }
+    requires marks { length (net_of question.now.graph.now).nodes ≤ marks.old }
+    ensures answer { (held : Held) → IsAnswer (net_of question.now.graph.now) question.now.fault held (Line.Out node) result }
     ensures marks { marks.new ≡ marks.old }
 {
-    let _kind = graph.kind(node)?;
-    if node.0 == fault.gate.0 {
+    let _kind = question.graph.kind(node)?;
+    if node.0 == question.fault.gate.0 {
         return None;
     }
-    if graph.reaches(fault.gate, node, marks) {
+    if question.graph.reaches(question.fault.gate, node, marks) {
         return None;
     }
     Some((node, Fact::Equal))
 }
 
 /// A node of the chain differs. It walks along the chain.
-pub fn line_chain(graph: &Graph, fault: &Fault, node: NodeId) -> Option<(NodeId, Fact)>
-    requires gate { IsLive (net_of graph.now) fault.now.gate.0 }
-    ensures { (held : Held) → IsAnswer (net_of graph.now) fault.now held (Line.Chain node) result }
+pub fn line_chain(question: &Question<'_>, node: NodeId) -> Option<(NodeId, Fact)>
+    requires gate { IsLive (net_of question.now.graph.now) question.now.fault.gate.0 }
+    ensures { (held : Held) → IsAnswer (net_of question.now.graph.now) question.now.fault held (Line.Chain node) result }
 {
-    if is_in_chain(graph, fault.gate, node) {
+    if is_in_chain(question.graph, question.fault.gate, node) {
         Some((node, Fact::Differs))
     } else {
         None
@@ -72,17 +69,12 @@ pub fn line_chain(graph: &Graph, fault: &Fault, node: NodeId) -> Option<(NodeId,
 }
 
 /// The same as `line_out`, by the marks of the faulty gate.
-pub fn line_out_marked(
-    graph: &Graph,
-    fault: &Fault,
-    node: NodeId,
-    site: &Site,
-) -> Option<(NodeId, Fact)>
-    requires { IsSiteOf (net_of graph.now) fault.now.gate.0 site.now }
-    ensures { (held : Held) → IsAnswer (net_of graph.now) fault.now held (Line.Out node) result }
+pub fn line_out_marked(question: &Question<'_>, node: NodeId, site: &Site) -> Option<(NodeId, Fact)>
+    requires { IsSiteOf (net_of question.now.graph.now) question.now.fault.gate.0 site.now }
+    ensures { (held : Held) → IsAnswer (net_of question.now.graph.now) question.now.fault held (Line.Out node) result }
 {
-    let _kind = graph.kind(node)?;
-    if node.0 == fault.gate.0 {
+    let _kind = question.graph.kind(node)?;
+    if node.0 == question.fault.gate.0 {
         return None;
     }
     if site.is_reached(node) {
@@ -93,13 +85,12 @@ pub fn line_out_marked(
 
 /// The same as `line_chain`, by the marks of the faulty gate.
 pub fn line_chain_marked(
-    graph: &Graph,
-    fault: &Fault,
+    question: &Question<'_>,
     node: NodeId,
     site: &Site,
 ) -> Option<(NodeId, Fact)>
-    requires { IsSiteOf (net_of graph.now) fault.now.gate.0 site.now }
-    ensures { (held : Held) → IsAnswer (net_of graph.now) fault.now held (Line.Chain node) result }
+    requires { IsSiteOf (net_of question.now.graph.now) question.now.fault.gate.0 site.now }
+    ensures { (held : Held) → IsAnswer (net_of question.now.graph.now) question.now.fault held (Line.Chain node) result }
 {
     if site.is_chained(node) {
         Some((node, Fact::Differs))
@@ -110,22 +101,21 @@ pub fn line_chain_marked(
 
 /// The same as `line_out`, by the marks of the faulty gate, which are made when they are first asked for.
 pub fn line_out_asked(
-    graph: &Graph,
-    fault: &Fault,
+    question: &Question<'_>,
     node: NodeId,
     site: &mut AskedSite,
 ) -> Option<(NodeId, Fact)>
-    requires gate { IsLive (net_of graph.now) fault.now.gate.0 }
-    requires serves { Serves (net_of graph.now) fault.now.gate.0 site.old }
-    ensures answer { (held : Held) → IsAnswer (net_of graph.now) fault.now held (Line.Out node) result }
-    ensures serves { Serves (net_of graph.now) fault.now.gate.0 site.new }
+    requires gate { IsLive (net_of question.now.graph.now) question.now.fault.gate.0 }
+    requires serves { Serves (net_of question.now.graph.now) question.now.fault.gate.0 site.old }
+    ensures answer { (held : Held) → IsAnswer (net_of question.now.graph.now) question.now.fault held (Line.Out node) result }
+    ensures serves { Serves (net_of question.now.graph.now) question.now.fault.gate.0 site.new }
     ensures size { length site.new.marks.reached ≡ length site.old.marks.reached }
 {
-    let _kind = graph.kind(node)?;
-    if node.0 == fault.gate.0 {
+    let _kind = question.graph.kind(node)?;
+    if node.0 == question.fault.gate.0 {
         return None;
     }
-    if site.is_reached(graph, fault.gate, node) {
+    if site.is_reached(question.graph, question.fault.gate, node) {
         return None;
     }
     Some((node, Fact::Equal))
@@ -133,18 +123,17 @@ pub fn line_out_asked(
 
 /// The same as `line_chain`, by the marks of the faulty gate, which are made when they are first asked for.
 pub fn line_chain_asked(
-    graph: &Graph,
-    fault: &Fault,
+    question: &Question<'_>,
     node: NodeId,
     site: &mut AskedSite,
 ) -> Option<(NodeId, Fact)>
-    requires gate { IsLive (net_of graph.now) fault.now.gate.0 }
-    requires serves { Serves (net_of graph.now) fault.now.gate.0 site.old }
-    ensures answer { (held : Held) → IsAnswer (net_of graph.now) fault.now held (Line.Chain node) result }
-    ensures serves { Serves (net_of graph.now) fault.now.gate.0 site.new }
+    requires gate { IsLive (net_of question.now.graph.now) question.now.fault.gate.0 }
+    requires serves { Serves (net_of question.now.graph.now) question.now.fault.gate.0 site.old }
+    ensures answer { (held : Held) → IsAnswer (net_of question.now.graph.now) question.now.fault held (Line.Chain node) result }
+    ensures serves { Serves (net_of question.now.graph.now) question.now.fault.gate.0 site.new }
     ensures size { length site.new.marks.reached ≡ length site.old.marks.reached }
 {
-    if site.is_chained(graph, fault.gate, node) {
+    if site.is_chained(question.graph, question.fault.gate, node) {
         Some((node, Fact::Differs))
     } else {
         None

@@ -4,6 +4,5 @@ pub mod Quiets
 pub mod Splits
 pub mod Turnings
 pub mod Steps
-pub mod Accepts
 pub mod OneRefusal
 pub mod Sizes

@@ -7,13 +7,13 @@ use Rattle.gate_net.specs.declared.Kind.TheVariants.{Source}
 use Rattle.refutation.specs.Branches.{HasNoGood, IsNoConstant}
 use Rattle.refutation.specs.FactSets.{held_by}
 use Rattle.refutation.specs.Facts.{AreOpposed, Held}
+use Rattle.refutation.specs.Stack.{MaySplitIn}
 use Rattle.refutation.specs.declared.held.NodeFacts.{NodeFacts}
 use Rattle.refutation.specs.declared.items.Form.{Form}
 use Rattle.refutation.specs.declared.items.Form.TheVariants.{Closed, Partial}
 use Rattle.refutation.specs.declared.reasoning.Fact.{Fact}
 use Rattle.refutation_check.proofs.Quiets.{live_within}
 use Rattle.refutation_check.specs.Standing.{MaySplitKind}
-use Rattle.refutation_check.specs.Turns.{MaySplitIn}
 
 -- no fact is held beyond the marks
 none_beyond : (marks : List NodeFacts) (x : ℕ) (fact : Fact) → length marks ≤ x → held_by marks x fact ≡ false

@@ -1,40 +1,40 @@
--- Whether the items of a tree are read to its end, and else the first refusal.
-use Rattle.std.specs.Prelude.{List, [], suc, zero, ℕ, ◌∷◌, ◌≡◌, ◌⊎◌}
+-- The first refusal of a tree.
+use Rattle.std.specs.Prelude.{List, [], length, suc, ℕ, ◌++◌, ◌∷◌, ◌≡◌, ◌≢◌, ◌⊎◌}
 use Rattle.gate_net.specs.Net.{Net}
-use Rattle.refutation.specs.Branches.{AreAccepted, AreAcceptedPartial}
-use Rattle.refutation.specs.Facts.{none_held}
+use Rattle.refutation.specs.Facts.{AreOpposed, none_held}
+use Rattle.refutation.specs.Lines.{IsQuiet}
+pub use Rattle.refutation.specs.Stack.{IsAcceptedAs}
+use Rattle.refutation.specs.Stack.{AreRead, Due, tree}
 use Rattle.refutation.specs.declared.items.Form.{Form}
-use Rattle.refutation.specs.declared.items.Form.TheVariants.{Closed, Partial}
 use Rattle.refutation.specs.declared.items.Item.{Item}
-use Rattle.refutation_check.specs.Turns.{Left, TurnsTo, goes_on, refused, trees, untrieds}
+use Rattle.refutation.specs.declared.items.Item.TheVariants.{Clash, Line, Quiet, Split}
 use Rattle.refutation_check.specs.declared.refusals.CheckRefusal.{CheckRefusal}
-use Rattle.refutation_check.specs.declared.refusals.CheckRefusal.TheVariants.{Shape}
+use Rattle.refutation_check.specs.declared.refusals.CheckRefusal.TheVariants.{BadLine, BadSplit, NotClash, NotQuiet, Shape}
 use Rattle.rm_base.specs.declared.numbers.Fault.{Fault}
 
--- the tree is accepted in that form
-abbrev pub IsAcceptedAs : Form → Net → Fault → List Item → Type 0
-IsAcceptedAs Closed net fault items = AreAccepted net fault items
-IsAcceptedAs Partial net fault items = AreAcceptedPartial net fault items
+-- the one where the condition holds, and the other where it doesn't
+abbrev pub Decides : Type 0 → CheckRefusal → CheckRefusal → CheckRefusal → Type 0
+Decides P met unmet r = (P × (r ≡ met)) ⊎ ((P → ⊥) × (r ≡ unmet))
 
--- nothing is left to be read
-abbrev pub IsEnd : Left → Type 0
-IsEnd (untrieds zero) = Unit {0}
-IsEnd (untrieds (suc k)) = ⊥
-IsEnd (trees held others) = ⊥
+-- how item n is refused where it isn't read: for its condition, or for the shape of the tree where that is met
+abbrev pub IsRefusalOf : Net → Fault → ℕ → List Due → Item → CheckRefusal → Type 0
+IsRefusalOf net fault n (tree held ∷ left) (Line l) r = r ≡ BadLine n
+IsRefusalOf net fault n (tree held ∷ left) (Split x first) r = r ≡ BadSplit n
+IsRefusalOf net fault n (tree held ∷ left) (Clash x) r = Decides (AreOpposed held x.0) (Shape n) (NotClash n) r
+IsRefusalOf net fault n (tree held ∷ left) Quiet r = Decides (IsQuiet net fault held) (Shape n) (NotQuiet n) r
+IsRefusalOf net fault n left i r = r ≡ Shape n
 
--- the items, from number n on, are read to the end of the tree
-abbrev pub AreRead : Net → Fault → Form → ℕ → Left → List Item → Type 0
-AreRead net fault form n left [] = IsEnd left
-AreRead net fault form n left (i ∷ items) =
-    (next : Left) × (TurnsTo net fault form n left i (goes_on next) × AreRead net fault form (suc n) next items)
+-- the first of these items, which is item n, isn't read, or there is none and something is left to be read
+abbrev pub IsRefused : Net → Fault → Form → ℕ → List Due → List Item → CheckRefusal → Type 0
+IsRefused net fault form n left [] r = (left ≢ []) × (r ≡ Shape n)
+IsRefused net fault form n left (i ∷ items) r =
+    ((next : List Due) → AreRead net fault form left (i ∷ []) next → ⊥) × IsRefusalOf net fault n left i r
 
--- one of them is refused so, or the place after the last one, and none before it
-abbrev pub AreRefused : Net → Fault → Form → ℕ → Left → List Item → CheckRefusal → Type 0
-AreRefused net fault form n left [] r = (IsEnd left → ⊥) × (r ≡ Shape n)
-AreRefused net fault form n left (i ∷ items) r =
-    TurnsTo net fault form n left i (refused r)
-    ⊎ ((next : Left) × (TurnsTo net fault form n left i (goes_on next) × AreRefused net fault form (suc n) next items r))
-
--- the first refusal of a tree, its items counted from 1
-abbrev pub IsFirstRefusal : Net → Fault → Form → List Item → CheckRefusal → Type 0
-IsFirstRefusal net fault form items r = AreRefused net fault form 1 (trees none_held []) items r
+-- the first refusal of a tree, its items counted from 1: those before are read, and what follows is refused
+pub record IsFirstRefusal (net : Net) (fault : Fault) (form : Form) (items : List Item) (r : CheckRefusal) : Type 0 where
+  pub before : List Item
+  pub rest : List Item
+  pub left : List Due
+  pub items_are : items ≡ before ++ rest
+  pub read : AreRead net fault form (tree none_held ∷ []) before left
+  pub refused : IsRefused net fault form (suc (length before)) left rest r

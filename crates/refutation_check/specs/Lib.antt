@@ -1,4 +1,3 @@
-pub mod Turns
 pub mod FirstRefusal
 pub mod Shapes
 pub mod Notes

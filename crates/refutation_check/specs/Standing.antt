@@ -1,32 +1,34 @@
 -- Which branches are left while a tree is read.
-use Rattle.std.specs.Prelude.{Bool, List, [], false, length, not, take, true, ℕ, ◌++◌, ◌<◌, ◌∷◌, ◌≡◌, ◌≢◌, ◌≤◌}
+use Rattle.std.specs.Prelude.{Bool, List, [], false, length, not, take, true, ℕ, ◌++◌, ◌<◌, ◌∷◌, ◌≡◌, ◌≤◌}
 use Rattle.gate_net.specs.declared.Kind.{Kind}
 use Rattle.gate_net.specs.declared.Kind.TheVariants.{Source}
 use Rattle.refutation.specs.Branches.{IsNoConstant}
 use Rattle.refutation.specs.Facts.{Held, with_fact}
+use Rattle.refutation.specs.Stack.{Due, tree, untried_for}
 use Rattle.refutation.specs.declared.items.Form.{Form}
 use Rattle.refutation.specs.declared.items.Form.TheVariants.{Closed, Partial}
 use Rattle.refutation.specs.declared.reasoning.Fact.TheVariants.{Good}
 use Rattle.refutation_check.specs.Notes.{held_of}
-use Rattle.refutation_check.specs.Turns.{Left, Turn, goes_on, refused, trees, untrieds}
 use Rattle.refutation_check.specs.declared.branches.Branches.{Branches}
 use Rattle.refutation_check.specs.declared.branches.Pending.{Pending}
-use Rattle.refutation_check.specs.declared.refusals.CheckRefusal.{CheckRefusal}
-use Rattle.refutation_check.specs.declared.refusals.CheckRefusal.TheVariants.{NoMemory}
 use Rattle.refutation_check.specs.declared.trail.Entry.{Entry}
 
--- the facts of the second branches that are still to be read, the last one first
-abbrev pub others_of : List Entry → List Pending → List Held
+-- the second branches that are still to be read, the last one first
+abbrev pub others_of : List Entry → List Pending → List Due
 others_of entries [] = []
 others_of entries (p ∷ pending) =
-    others_of entries pending ++ with_fact (held_of (take p.mark entries)) p.node.0 (Good (not p.first)) ∷ []
+    others_of entries pending ++ tree (with_fact (held_of (take p.mark entries)) p.node.0 (Good (not p.first))) ∷ []
 
-abbrev pub left_in : Bool → List Entry → List Pending → Left
-left_in true entries pending = untrieds (length pending)
-left_in false entries pending = trees (held_of entries) (others_of entries pending)
+abbrev pub left_in : Bool → List Entry → List Pending → List Due
+left_in true entries pending = untried_for (others_of entries pending)
+left_in false entries pending = tree (held_of entries) ∷ others_of entries pending
+
+-- what is left after a split: both branches, the one with the first value at once
+abbrev pub split_left : Held → List Due → ℕ → Bool → List Due
+split_left held others x first = tree (with_fact held x (Good first)) ∷ tree (with_fact held x (Good (not first))) ∷ others
 
 -- what is left to be read
-abbrev pub left_of : Branches → Left
+abbrev pub left_of : Branches → List Due
 left_of b = left_in b.stopped b.trail.entries b.pending.items
 
 -- the marks go up from the first number to the last, on nodes below a bound
@@ -38,15 +40,11 @@ Climb numbers low (p ∷ pending) high = (p.node.0 < numbers) × ((low ≤ p.mar
 abbrev pub IsClimbing : Branches → Type 0
 IsClimbing b = Climb b.trail.numbers 0 b.pending.items (length b.trail.entries)
 
--- the turn goes on to what is left now
-pub record Moves (turn : Turn) (old new : Branches) : Type 0 where
+-- this is left to be read now
+pub record Moves (left : List Due) (old new : Branches) : Type 0 where
   pub climbs : IsClimbing new
   pub numbers : new.trail.numbers ≡ old.trail.numbers
-  pub turn_is : turn ≡ goes_on (left_of new)
-
--- the turn is this refusal, but for want of memory
-abbrev pub Halts : Turn → CheckRefusal → Type 0
-Halts turn r = r ≢ NoMemory → turn ≡ refused r
+  pub left_is : left ≡ left_of new
 
 -- a tree of the form may split on nodes of the kind
 abbrev pub MaySplitKind : Form → Kind → Type 0

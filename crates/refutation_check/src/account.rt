@@ -1,15 +1,14 @@
 // What became of each item while a tree was read.
 ghost use Rattle.std.specs.Prelude.{◌≡◌, ◌≤◌, IfOk, OnOk, length};
-ghost use Rattle.gate_net.specs.Values.{HasPin};
 ghost use Rattle.gate_graph.specs.Circuit.{net_of};
 ghost use Rattle.refutation.specs.Sites.{IsSiteOf};
 
 use crate::premises::{Premise, Premises};
 use crate::trail::Trail;
-use gate_graph::Graph;
+use gate_graph::Question;
 use refutation::site::Site;
 use refutation::{Fact, Item, Line, conclude_marked};
-use rm_base::{Fault, NoMemory, NodeId};
+use rm_base::{NoMemory, NodeId};
 use std::alloc::Global;
 
 /// A split whose second branch is still to be read: what was split on, and what there was before it.
@@ -121,25 +120,23 @@ impl Account {
     // Reads a line; false where its condition isn't met.
     fn read_line(
         &mut self,
-        graph: &Graph,
-        fault: &Fault,
+        question: &Question<'_>,
         site: &Site,
         line: Line,
     ) -> Result<bool, NoMemory>
-        requires pin { HasPin (net_of graph.now) fault.now }
-        requires site { IsSiteOf (net_of graph.now) fault.now.gate.0 site.now }
-        requires numbers { length (net_of graph.now).nodes ≤ self.old.trail.numbers }
+        requires site { IsSiteOf (net_of question.now.graph.now) question.now.fault.gate.0 site.now }
+        requires numbers { length (net_of question.now.graph.now).nodes ≤ self.old.trail.numbers }
         ensures { OnOk result (self.new.trail.numbers ≡ self.old.trail.numbers) }
     {
         let facts = self.trail.facts();
-        let Some((node, fact)) = conclude_marked(graph, fault, facts, &line, site) else {
+        let Some((node, fact)) = conclude_marked(question, facts, &line, site) else {
             return Ok(false);
         };
         if facts.holds(node, fact) {
             return Ok(true);
         }
         let mark = self.premises.mark();
-        self.premises.ask_for_line(graph, fault, facts, &line)?;
+        self.premises.ask_for_line(question, facts, &line)?;
         let given = Premise { node, fact };
         self.steps.push(Step::Gave { line, given, mark })?;
         self.trail.hold(node, fact)?;
@@ -178,26 +175,25 @@ impl Account {
     /// Reads an item; false where it is none of a closed tree, or a line whose condition isn't met.
     pub(crate) fn read(
         &mut self,
-        graph: &Graph,
-        fault: &Fault,
+        question: &Question<'_>,
         site: &Site,
         item: Item,
     ) -> Result<bool, NoMemory>
-        requires pin { HasPin (net_of graph.now) fault.now }
-        requires site { IsSiteOf (net_of graph.now) fault.now.gate.0 site.now }
-        requires numbers { length (net_of graph.now).nodes ≤ self.old.trail.numbers }
+        requires site { IsSiteOf (net_of question.now.graph.now) question.now.fault.gate.0 site.now }
+        requires numbers { length (net_of question.now.graph.now).nodes ≤ self.old.trail.numbers }
         ensures { OnOk result (self.new.trail.numbers ≡ self.old.trail.numbers) }
     {
         let mark = self.premises.mark();
         match item {
-            Item::Line(line) => return self.read_line(graph, fault, site, line),
+            Item::Line(line) => return self.read_line(question, site, line),
             Item::Split { node, first } => self.split(node, first)?,
             Item::Clash(node) => {
                 self.premises.ask_for_clash(self.trail.facts(), node)?;
                 self.end(item, mark)?;
             }
             Item::Quiet => {
-                self.premises.ask_for_sources(graph, self.trail.facts())?;
+                self.premises
+                    .ask_for_sources(question.graph, self.trail.facts())?;
                 self.end(item, mark)?;
             }
             Item::Here | Item::Untried => return Ok(false),

@@ -1,11 +1,12 @@
 // The branch that is read and those that are still to be read.
-ghost use Rattle.std.specs.Prelude.{◌≡◌, ◌<◌, ◌↔◌, [], false, true, suc, ℕ, IsTrue, IfErr, IfOk, OnOk, length};
+ghost use Rattle.std.specs.Prelude.{◌≡◌, ◌≢◌, ◌<◌, ◌∷◌, ◌↔◌, [], List, false, not, true, IsTrue, IfErr, IfOk, OnOk};
 ghost use Rattle.refutation.specs.Facts.{none_held, with_fact};
+ghost use Rattle.refutation.specs.Stack.{Due, MayEnd, no_tree, tree, untried_for};
+ghost use Rattle.refutation.specs.declared.items.Form.TheVariants.{Partial};
 ghost use Rattle.refutation.specs.declared.reasoning.Fact.TheVariants.{Good};
 ghost use Rattle.refutation_check.specs.Notes.{held_of};
-ghost use Rattle.refutation_check.specs.Standing.{Halts, IsClimbing, Moves, left_of, others_of};
-ghost use Rattle.refutation_check.specs.Turns.{after_end, after_here, after_split, goes_on, trees, untrieds};
-ghost use Rattle.refutation_check.specs.FirstRefusal.{IsEnd};
+ghost use Rattle.refutation_check.specs.Standing.{IsClimbing, Moves, left_of, others_of, split_left};
+ghost use Rattle.refutation_check.specs.declared.refusals.CheckRefusal.TheVariants as refusal;
 
 use crate::refusals::CheckRefusal;
 use crate::trail::Trail;
@@ -47,7 +48,7 @@ impl Branches {
     pub(crate) fn begin(&mut self)
         ensures climbs { IsClimbing self.new }
         ensures numbers { self.new.trail.numbers ≡ self.old.trail.numbers }
-        ensures left { left_of self.new ≡ trees none_held [] }
+        ensures left { left_of self.new ≡ tree none_held ∷ [] }
     {
         self.trail.undo_to(0);
         self.pending.clear();
@@ -56,7 +57,7 @@ impl Branches {
 
     /// Whether nothing is left to be read.
     pub(crate) fn is_end(&self) -> bool
-        ensures { IsTrue result ↔ IsEnd (left_of self.now) }
+        ensures { IsTrue result ↔ (left_of self.now ≡ []) }
     {
         self.stopped && self.pending.is_empty()
     }
@@ -66,7 +67,7 @@ impl Branches {
         requires climbs { IsClimbing self.old }
         requires open { self.old.stopped ≡ false }
         requires node { node.0 < self.old.trail.numbers }
-        ensures moves { OnOk result (Moves (goes_on (trees (with_fact (held_of self.old.trail.entries) node.0 fact) (others_of self.old.trail.entries self.old.pending.items))) self.old self.new) }
+        ensures moves { OnOk result (Moves (tree (with_fact (held_of self.old.trail.entries) node.0 fact) ∷ others_of self.old.trail.entries self.old.pending.items) self.old self.new) }
         ensures numbers { self.new.trail.numbers ≡ self.old.trail.numbers }
     {
         self.trail.hold(node, fact)?;
@@ -78,7 +79,7 @@ impl Branches {
         requires climbs { IsClimbing self.old }
         requires open { self.old.stopped ≡ false }
         requires node { node.0 < self.old.trail.numbers }
-        ensures moves { OnOk result (Moves (after_split (held_of self.old.trail.entries) (others_of self.old.trail.entries self.old.pending.items) node.0 first) self.old self.new) }
+        ensures moves { OnOk result (Moves (split_left (held_of self.old.trail.entries) (others_of self.old.trail.entries self.old.pending.items) node.0 first) self.old self.new) }
         ensures numbers { self.new.trail.numbers ≡ self.old.trail.numbers }
     {
         let mark = self.trail.mark();
@@ -91,8 +92,8 @@ impl Branches {
     pub(crate) fn end(&mut self, form: Form, number: u64) -> Result<(), CheckRefusal>
         requires climbs { IsClimbing self.old }
         requires open { self.old.stopped ≡ false }
-        ensures ok { OnOk result (Moves (after_end form (others_of self.old.trail.entries self.old.pending.items) number) self.old self.new) }
-        ensures err { IfErr result (λ r. Halts (after_end form (others_of self.old.trail.entries self.old.pending.items) number) r) }
+        ensures ok { OnOk result (MayEnd form (others_of self.old.trail.entries self.old.pending.items) × Moves (others_of self.old.trail.entries self.old.pending.items) self.old self.new) }
+        ensures err { IfErr result (λ r. r ≢ refusal.NoMemory → (MayEnd form (others_of self.old.trail.entries self.old.pending.items) → ⊥) × (r ≡ refusal.Shape number)) }
         ensures numbers { self.new.trail.numbers ≡ self.old.trail.numbers }
     {
         let Some(next) = self.pending.pop() else {
@@ -111,8 +112,8 @@ impl Branches {
     pub(crate) fn stop(&mut self, form: Form, number: u64) -> Result<(), CheckRefusal>
         requires climbs { IsClimbing self.old }
         requires open { self.old.stopped ≡ false }
-        ensures ok { OnOk result (Moves (after_here form (others_of self.old.trail.entries self.old.pending.items) number) self.old self.new) }
-        ensures err { IfErr result (λ r. Halts (after_here form (others_of self.old.trail.entries self.old.pending.items) number) r) }
+        ensures ok { OnOk result ((form ≡ Partial) × Moves (untried_for (others_of self.old.trail.entries self.old.pending.items)) self.old self.new) }
+        ensures err { IfErr result (λ r. (form ≢ Partial) × (r ≡ refusal.Shape number)) }
         ensures numbers { self.new.trail.numbers ≡ self.old.trail.numbers }
     {
         match form {
@@ -128,8 +129,8 @@ impl Branches {
     pub(crate) fn pass(&mut self) -> bool
         requires climbs { IsClimbing self.old }
         requires stopped { self.old.stopped ≡ true }
-        ensures passed { result ≡ true → (k : ℕ) × ((left_of self.old ≡ untrieds (suc k)) × Moves (goes_on (untrieds k)) self.old self.new) }
-        ensures none { result ≡ false → left_of self.old ≡ untrieds 0 }
+        ensures passed { result ≡ true → (left : List Due) × ((left_of self.old ≡ no_tree ∷ left) × Moves left self.old self.new) }
+        ensures none { result ≡ false → left_of self.old ≡ [] }
         ensures numbers { self.new.trail.numbers ≡ self.old.trail.numbers }
     {
         match self.pending.pop() {

@@ -1,6 +1,6 @@
 // Checking one tree.
 ghost use Rattle.std.specs.Prelude.{◌≡◌, ◌≢◌, ◌⊎◌, IfErr, IfOk, IsErrOf, IsOkUnless, OnOk};
-ghost use Rattle.gate_net.specs.Values.{HasPin, IsUndetected};
+ghost use Rattle.gate_net.specs.Values.{IsUndetected};
 ghost use Rattle.gate_graph.specs.Circuit.{net_of};
 ghost use Rattle.refutation.specs.declared.items.Form.TheVariants.{Closed};
 ghost use Rattle.refutation_check.specs.FirstRefusal.{IsAcceptedAs, IsFirstRefusal};
@@ -10,9 +10,8 @@ ghost use Rattle.refutation_check.specs.declared.refusals.CheckRefusal.TheVarian
 
 use crate::checker::TreeChecker;
 use crate::refusals::CheckRefusal;
-use gate_graph::Graph;
+use gate_graph::Question;
 use refutation::{Form, Shape, Tree};
-use rm_base::Fault;
 use std::alloc::Global;
 
 /// Checks a tree: Ok exactly where it is accepted in the form, with its shape, and else the first refusal. It reads the
@@ -21,19 +20,17 @@ use std::alloc::Global;
 /// a `TreeChecker` keeps it.
 pub fn check_tree(
     alloc: Global,
-    graph: &Graph,
-    fault: &Fault,
+    question: &Question<'_>,
     tree: &Tree,
     form: Form,
 ) -> Result<Shape, CheckRefusal>
-    requires { HasPin (net_of graph.now) fault.now }
-    ensures accepted { OnOk result (IsAcceptedAs form (net_of graph.now) fault.now tree.now) }
-    ensures complete { IsAcceptedAs form (net_of graph.now) fault.now tree.now → IsOkUnless result refusal.NoMemory }
+    ensures accepted { OnOk result (IsAcceptedAs form (net_of question.now.graph.now) question.now.fault tree.now) }
+    ensures complete { IsAcceptedAs form (net_of question.now.graph.now) question.now.fault tree.now → IsOkUnless result refusal.NoMemory }
     ensures shape { IfOk result (λ s. IsShapeOf tree.now s) }
-    ensures refused { IfErr result (λ r. r ≢ refusal.NoMemory → IsFirstRefusal (net_of graph.now) fault.now form tree.now r) }
-    ensures first { (r : CheckRefusal) → IsFirstRefusal (net_of graph.now) fault.now form tree.now r → IsErrOf result r ⊎ IsErrOf result refusal.NoMemory }
-    ensures undetected { form ≡ Closed → OnOk result (IsUndetected (net_of graph.now) fault.now) }
+    ensures refused { IfErr result (λ r. r ≢ refusal.NoMemory → IsFirstRefusal (net_of question.now.graph.now) question.now.fault form tree.now r) }
+    ensures first { (r : CheckRefusal) → IsFirstRefusal (net_of question.now.graph.now) question.now.fault form tree.now r → IsErrOf result r ⊎ IsErrOf result refusal.NoMemory }
+    ensures undetected { form ≡ Closed → OnOk result (IsUndetected (net_of question.now.graph.now) question.now.fault) }
 {
-    let mut checker = TreeChecker::new(alloc, graph.node_bound())?;
-    checker.check(graph, fault, tree, form)
+    let mut checker = TreeChecker::new(alloc, question.graph.node_bound())?;
+    checker.check(question, tree, form)
 }

@@ -1,27 +1,27 @@
 // A checker that serves tree after tree.
 ghost use Rattle.std.specs.Prelude.{◌≡◌, ◌≢◌, ◌≤◌, ◌⊎◌, ◌∷◌, [], IfErr, IfOk, IsErrOf, IsOkUnless, OnErr, OnOk, length};
-ghost use Rattle.gate_net.specs.Values.{HasPin, IsUndetected};
+ghost use Rattle.gate_net.specs.Values.{IsUndetected};
 ghost use Rattle.gate_graph.specs.Circuit.{net_of};
 ghost use Rattle.refutation.specs.Facts.{none_held};
 ghost use Rattle.refutation.specs.Sites.{Serves};
+ghost use Rattle.refutation.specs.Stack.{AreReadToEnd, tree};
 ghost use Rattle.refutation.specs.declared.items.Form.TheVariants.{Closed};
-ghost use Rattle.refutation_check.specs.FirstRefusal.{AreRead, IsAcceptedAs, IsFirstRefusal};
+ghost use Rattle.refutation_check.specs.FirstRefusal.{IsAcceptedAs, IsFirstRefusal};
 ghost use Rattle.refutation_check.specs.Shapes.{IsShapeOf};
 ghost use Rattle.refutation_check.specs.Standing.{left_of};
-ghost use Rattle.refutation_check.specs.Turns.{trees};
 ghost use Rattle.refutation_check.specs.Walks.{IsWalk};
 ghost use Rattle.refutation_check.specs.declared.refusals.CheckRefusal.{CheckRefusal};
 ghost use Rattle.refutation_check.specs.declared.refusals.CheckRefusal.TheVariants as refusal;
 
-use crate::laws::{readings_accept, refusals_agree};
+use crate::laws::refusals_agree;
 use crate::reading::Walk;
 use crate::refusals::CheckRefusal;
 use crate::shape::shape_of;
-use gate_graph::Graph;
+use gate_graph::Question;
 use refutation::asking::AskedSite;
-use refutation::laws::{edges_are_few, trees_refute};
+use refutation::laws::{edges_are_few, readings_accept, trees_refute};
 use refutation::{Form, Item, Shape, Tree};
-use rm_base::{Fault, NoMemory};
+use rm_base::NoMemory;
 use std::alloc::Global;
 use std::marker::Model;
 
@@ -49,26 +49,24 @@ impl Model for TreeChecker {
 // Reads the items to the end of the tree, or finds the first that is refused.
 fn read_items(
     alloc: Global,
-    graph: &Graph,
-    fault: &Fault,
+    question: &Question<'_>,
     items: &[Item],
     form: Form,
     site: &mut AskedSite,
     walk: &mut Walk,
 ) -> Result<(), CheckRefusal>
-    requires pin { HasPin (net_of graph.now) fault.now }
-    requires site { Serves (net_of graph.now) fault.now.gate.0 site.old }
-    requires walk { IsWalk (net_of graph.now) walk.old }
-    requires left { left_of walk.old.branches ≡ trees none_held [] }
-    ensures ok { OnOk result (AreRead (net_of graph.now) fault.now form 1 (trees none_held []) items.now) }
-    ensures err { IfErr result (λ r. r ≢ refusal.NoMemory → IsFirstRefusal (net_of graph.now) fault.now form items.now r) }
+    requires site { Serves (net_of question.now.graph.now) question.now.fault.gate.0 site.old }
+    requires walk { IsWalk (net_of question.now.graph.now) walk.old }
+    requires left { left_of walk.old.branches ≡ tree none_held ∷ [] }
+    ensures ok { OnOk result (AreReadToEnd (net_of question.now.graph.now) question.now.fault form items.now) }
+    ensures err { IfErr result (λ r. r ≢ refusal.NoMemory → IsFirstRefusal (net_of question.now.graph.now) question.now.fault form items.now r) }
     ensures numbers { walk.new.branches.trail.numbers ≡ walk.old.branches.trail.numbers }
     ensures size { length site.new.marks.reached ≡ length site.old.marks.reached }
 {
     let mut number = 0u64;
     for item in items {
         number += 1;
-        walk.read(alloc, graph, fault, site, form, item, number)?;
+        walk.read(alloc, question, site, form, item, number)?;
     }
     if walk.branches.is_end() {
         return Ok(());
@@ -107,23 +105,20 @@ impl TreeChecker {
     // Reads the items from a state in which nothing of an earlier tree is left.
     fn read(
         &mut self,
-        graph: &Graph,
-        fault: &Fault,
+        question: &Question<'_>,
         items: &[Item],
         form: Form,
     ) -> Result<(), CheckRefusal>
-        requires pin { HasPin (net_of graph.now) fault.now }
-        requires room { length (net_of graph.now).nodes ≤ self.old }
-        ensures ok { OnOk result (AreRead (net_of graph.now) fault.now form 1 (trees none_held []) items.now) }
-        ensures err { IfErr result (λ r. r ≢ refusal.NoMemory → IsFirstRefusal (net_of graph.now) fault.now form items.now r) }
+        requires room { length (net_of question.now.graph.now).nodes ≤ self.old }
+        ensures ok { OnOk result (AreReadToEnd (net_of question.now.graph.now) question.now.fault form items.now) }
+        ensures err { IfErr result (λ r. r ≢ refusal.NoMemory → IsFirstRefusal (net_of question.now.graph.now) question.now.fault form items.now r) }
         ensures room { self.new ≡ self.old }
     {
         self.walk.begin();
         self.site.forget();
         read_items(
             self.alloc,
-            graph,
-            fault,
+            question,
             items,
             form,
             &mut self.site,
@@ -136,28 +131,26 @@ impl TreeChecker {
     /// reading.
     pub fn check(
         &mut self,
-        graph: &Graph,
-        fault: &Fault,
+        question: &Question<'_>,
         tree: &Tree,
         form: Form,
     ) -> Result<Shape, CheckRefusal>
-        requires pin { HasPin (net_of graph.now) fault.now }
-        requires room { length (net_of graph.now).nodes ≤ self.old }
-        ensures accepted { OnOk result (IsAcceptedAs form (net_of graph.now) fault.now tree.now) }
-        ensures complete { IsAcceptedAs form (net_of graph.now) fault.now tree.now → IsOkUnless result refusal.NoMemory }
+        requires room { length (net_of question.now.graph.now).nodes ≤ self.old }
+        ensures accepted { OnOk result (IsAcceptedAs form (net_of question.now.graph.now) question.now.fault tree.now) }
+        ensures complete { IsAcceptedAs form (net_of question.now.graph.now) question.now.fault tree.now → IsOkUnless result refusal.NoMemory }
         ensures shape { IfOk result (λ s. IsShapeOf tree.now s) }
-        ensures refused { IfErr result (λ r. r ≢ refusal.NoMemory → IsFirstRefusal (net_of graph.now) fault.now form tree.now r) }
-        ensures first { (r : CheckRefusal) → IsFirstRefusal (net_of graph.now) fault.now form tree.now r → IsErrOf result r ⊎ IsErrOf result refusal.NoMemory }
-        ensures undetected { form ≡ Closed → OnOk result (IsUndetected (net_of graph.now) fault.now) }
+        ensures refused { IfErr result (λ r. r ≢ refusal.NoMemory → IsFirstRefusal (net_of question.now.graph.now) question.now.fault form tree.now r) }
+        ensures first { (r : CheckRefusal) → IsFirstRefusal (net_of question.now.graph.now) question.now.fault form tree.now r → IsErrOf result r ⊎ IsErrOf result refusal.NoMemory }
+        ensures undetected { form ≡ Closed → OnOk result (IsUndetected (net_of question.now.graph.now) question.now.fault) }
         ensures room { self.new ≡ self.old }
     {
-        graph.well_formed();
+        question.graph.well_formed();
         trees_refute();
         edges_are_few();
         readings_accept();
         refusals_agree();
         let items = tree.items();
-        self.read(graph, fault, items, form)?;
+        self.read(question, items, form)?;
         Ok(shape_of(items, form))
     }
 }

@@ -2,7 +2,6 @@
 ghost use Rattle.std.specs.Prelude.{◌≡◌, ◌<◌, ◌≤◌, ◌↔◌, ◌+◌, ℕ, IfOk, IsTrue, length, slice_index_or};
 ghost use Rattle.rm_base.specs.declared.vectors.Value3.TheVariants.{Unknown};
 ghost use Rattle.gate_net.specs.Net.{source_count};
-ghost use Rattle.gate_net.specs.Values.{HasPin};
 ghost use Rattle.gate_graph.specs.Circuit.{net_of};
 ghost use Rattle.refutation.specs.FactSets.{held_by};
 ghost use Rattle.refutation.specs.Facts.{known_good};
@@ -11,10 +10,10 @@ ghost use Rattle.ternary_sim.specs.Marks.{seen};
 ghost use Rattle.ternary_sim.specs.Sims.{Fits};
 ghost use Rattle.refutation_check.specs.Kept.{FitsIfKept};
 
-use gate_graph::Graph;
+use gate_graph::{Graph, Question};
 use refutation::{Fact, FactSet};
 use rm_base::vectors::Value3;
-use rm_base::{Fault, NoMemory, NodeId, SourceNo};
+use rm_base::{NoMemory, NodeId, SourceNo};
 use std::alloc::Global;
 use ternary_sim::Sim;
 
@@ -60,23 +59,21 @@ fn kept_or_new(alloc: Global, graph: &Graph, kept: &mut Option<Sim>) -> Result<S
 /// made when it is first needed, and kept.
 pub(crate) fn is_quiet(
     alloc: Global,
-    graph: &Graph,
-    fault: &Fault,
+    question: &Question<'_>,
     facts: &FactSet,
     kept: &mut Option<Sim>,
 ) -> Result<bool, NoMemory>
-    requires pin { HasPin (net_of graph.now) fault.now }
-    requires facts { length (net_of graph.now).nodes ≤ length facts.now }
-    requires fits { FitsIfKept kept.old (net_of graph.now) }
-    ensures quiet { IfOk result (λ yes. IsTrue yes ↔ IsQuiet (net_of graph.now) fault.now (held_by facts.now)) }
-    ensures fits { IfOk result (λ _. FitsIfKept kept.new (net_of graph.now)) }
+    requires facts { length (net_of question.now.graph.now).nodes ≤ length facts.now }
+    requires fits { FitsIfKept kept.old (net_of question.now.graph.now) }
+    ensures quiet { IfOk result (λ yes. IsTrue yes ↔ IsQuiet (net_of question.now.graph.now) question.now.fault (held_by facts.now)) }
+    ensures fits { IfOk result (λ _. FitsIfKept kept.new (net_of question.now.graph.now)) }
 {
-    graph.well_formed();
+    question.graph.well_formed();
     gate_net::readings_agree();
-    let mut sim = kept_or_new(alloc, graph, kept)?;
-    set_sources(graph, facts, &mut sim);
-    sim.run_fault(graph, fault);
-    let quiet = sim.quiet(graph);
+    let mut sim = kept_or_new(alloc, question.graph, kept)?;
+    set_sources(question.graph, facts, &mut sim);
+    sim.run_fault(question);
+    let quiet = sim.quiet(question.graph);
     *kept = Some(sim);
     Ok(quiet)
 }

@@ -1,14 +1,7 @@
 //! What holds of every tree: it is accepted or has one first refusal, never both.
-ghost use Rattle.refutation_check.specs.Laws.{AcceptedAreNotRefused, ReadingsAccept, RefusalsAgree};
+ghost use Rattle.refutation_check.specs.Laws.{AcceptedAreNotRefused, RefusalsAgree};
 
-use refutation::laws::{lines_give_one, stack_reads};
-
-/// The items of a tree are read to its end exactly where it is accepted.
-pub fn readings_accept()
-    ensures { ReadingsAccept }
-{
-    stack_reads();
-}
+use refutation::laws::{lines_give_one, readings_accept};
 
 /// A tree has one first refusal at most, and none where it is accepted.
 pub fn refusals_agree()

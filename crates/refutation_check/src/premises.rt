@@ -2,11 +2,11 @@
 ghost use Rattle.std.specs.Prelude.{◌≡◌};
 ghost use Rattle.gate_graph.specs.Circuit.{net_of};
 
-use gate_graph::{Graph, Inputs};
+use gate_graph::{Graph, Inputs, Question};
 use refutation::following::{gate_pins, pin_driver};
 use refutation::pins::{Aspect, Stuck, at_pin, is_value, known, stuck_at};
 use refutation::{Fact, FactSet, Line};
-use rm_base::{Fault, NoMemory, NodeId};
+use rm_base::{NoMemory, NodeId};
 use std::alloc::Global;
 
 /// A fact of a node.
@@ -250,8 +250,7 @@ impl Premises {
     /// What a line rests on whose condition these facts meet.
     pub(crate) fn ask_for_line(
         &mut self,
-        graph: &Graph,
-        fault: &Fault,
+        question: &Question<'_>,
         facts: &FactSet,
         line: &Line,
     ) -> Result<(), NoMemory> {
@@ -259,18 +258,25 @@ impl Premises {
             Line::Act | Line::Site | Line::Chain { .. } | Line::Out { .. } => Ok(()),
             Line::Constant { .. } => Ok(()),
             Line::GoodForward { node } => {
-                self.ask_forward(graph, None, facts, Aspect::OfGood, node)
+                self.ask_forward(question.graph, None, facts, Aspect::OfGood, node)
             }
             Line::FaultyForward { node } => {
-                let stuck = stuck_at(fault, node);
-                self.ask_forward(graph, stuck, facts, Aspect::OfFaulty, node)
+                let stuck = stuck_at(&question.fault, node);
+                self.ask_forward(question.graph, stuck, facts, Aspect::OfFaulty, node)
             }
             Line::GoodBack { node, position } => {
-                self.ask_back(graph, None, facts, Aspect::OfGood, node, position)
+                self.ask_back(question.graph, None, facts, Aspect::OfGood, node, position)
             }
             Line::FaultyBack { node, position } => {
-                let stuck = stuck_at(fault, node);
-                self.ask_back(graph, stuck, facts, Aspect::OfFaulty, node, position)
+                let stuck = stuck_at(&question.fault, node);
+                self.ask_back(
+                    question.graph,
+                    stuck,
+                    facts,
+                    Aspect::OfFaulty,
+                    node,
+                    position,
+                )
             }
             Line::Compare { node } => {
                 self.ask_both(facts, Aspect::OfGood, Aspect::OfFaulty, node)
@@ -278,16 +284,16 @@ impl Premises {
             Line::ToFaulty { node } => self.ask_both(facts, Aspect::OfGood, Aspect::OfEqual, node),
             Line::ToGood { node } => self.ask_both(facts, Aspect::OfFaulty, Aspect::OfEqual, node),
             Line::EqualForward { node } | Line::NotDiffers { node } => {
-                self.ask_equals(graph, None, facts, node)
+                self.ask_equals(question.graph, None, facts, node)
             }
             Line::NotEqual { node } => self.ask(facts, Aspect::OfEqual, node),
             Line::DiffersBack { node, position } => {
                 self.ask(facts, Aspect::OfEqual, node)?;
-                self.ask_equals(graph, Some(position), facts, node)
+                self.ask_equals(question.graph, Some(position), facts, node)
             }
             Line::Side { node, position } => {
                 self.ask(facts, Aspect::OfEqual, node)?;
-                self.ask_equal_at(graph, facts, node, position)
+                self.ask_equal_at(question.graph, facts, node, position)
             }
         }
     }

@@ -1,22 +1,21 @@
 // Reading a tree item by item.
-ghost use Rattle.std.specs.Prelude.{◌≡◌, ◌<◌, ◌≤◌, ◌↔◌, [], IfErr, IfOk, IsTrue, OnOk, false, length};
+ghost use Rattle.std.specs.Prelude.{◌≡◌, ◌<◌, ◌≤◌, ◌∷◌, ◌↔◌, [], IfErr, IfOk, IsTrue, OnOk, false, length};
 ghost use Rattle.gate_net.specs.Net.{Net};
-ghost use Rattle.gate_net.specs.Values.{HasPin};
 ghost use Rattle.gate_graph.specs.Circuit.{net_of};
 ghost use Rattle.refutation.specs.Branches.{HasNoGood};
 ghost use Rattle.refutation.specs.FactSets.{held_by};
 ghost use Rattle.refutation.specs.Facts.{AreOpposed, none_held};
 ghost use Rattle.refutation.specs.Sites.{Serves};
+ghost use Rattle.refutation.specs.Stack.{MaySplitIn, tree};
 ghost use Rattle.rm_base.specs.declared.numbers.Fault.{Fault};
 ghost use Rattle.refutation.specs.declared.items.Item.TheVariants as item;
-ghost use Rattle.refutation_check.specs.Turns.{MaySplitIn, trees};
 ghost use Rattle.refutation_check.specs.Standing.{IsClimbing, MaySplitKind, left_of};
 ghost use Rattle.refutation_check.specs.Walks.{Goes, IsWalk, Stops};
 
 use crate::branches::Branches;
 use crate::forward::is_quiet;
 use crate::refusals::CheckRefusal;
-use gate_graph::Graph;
+use gate_graph::{Graph, Question};
 use gate_net::Kind;
 use refutation::asking::AskedSite;
 use refutation::{Fact, FactSet, Form, Item, Line, conclude_asked};
@@ -86,7 +85,7 @@ impl Walk {
     pub(crate) fn begin(&mut self)
         ensures walk { (net : Net) → length net.nodes ≤ self.old.branches.trail.numbers → IsWalk net self.new }
         ensures numbers { self.new.branches.trail.numbers ≡ self.old.branches.trail.numbers }
-        ensures left { left_of self.new.branches ≡ trees none_held [] }
+        ensures left { left_of self.new.branches ≡ tree none_held ∷ [] }
     {
         self.branches.begin();
         self.sim = None;
@@ -95,25 +94,23 @@ impl Walk {
     // Reads a line.
     fn read_line(
         &mut self,
-        graph: &Graph,
-        fault: &Fault,
+        question: &Question<'_>,
         site: &mut AskedSite,
         form: Form,
         line: &Line,
         number: u64,
     ) -> Result<(), CheckRefusal>
-        requires pin { HasPin (net_of graph.now) fault.now }
-        requires site { Serves (net_of graph.now) fault.now.gate.0 site.old }
-        requires walk { IsWalk (net_of graph.now) self.old }
+        requires site { Serves (net_of question.now.graph.now) question.now.fault.gate.0 site.old }
+        requires walk { IsWalk (net_of question.now.graph.now) self.old }
         requires open { self.old.branches.stopped ≡ false }
-        ensures ok { OnOk result (Goes (net_of graph.now) fault.now form number (item.Line line.now) self.old self.new) }
-        ensures err { IfErr result (λ r. Stops (net_of graph.now) fault.now form number (item.Line line.now) self.old r) }
+        ensures ok { OnOk result (Goes (net_of question.now.graph.now) question.now.fault form (item.Line line.now) self.old self.new) }
+        ensures err { IfErr result (λ r. Stops (net_of question.now.graph.now) question.now.fault form number (item.Line line.now) self.old r) }
         ensures numbers { self.new.branches.trail.numbers ≡ self.old.branches.trail.numbers }
-        ensures site { Serves (net_of graph.now) fault.now.gate.0 site.new }
+        ensures site { Serves (net_of question.now.graph.now) question.now.fault.gate.0 site.new }
         ensures size { length site.new.marks.reached ≡ length site.old.marks.reached }
     {
         let facts = self.branches.trail.facts();
-        let Some((node, fact)) = conclude_asked(graph, fault, facts, line, site) else {
+        let Some((node, fact)) = conclude_asked(question, facts, line, site) else {
             return Err(CheckRefusal::BadLine { item: number });
         };
         self.branches.hold(node, fact)?;
@@ -131,7 +128,7 @@ impl Walk {
     ) -> Result<(), CheckRefusal>
         requires walk { IsWalk (net_of graph.now) self.old }
         requires open { self.old.branches.stopped ≡ false }
-        ensures ok { (fault : Fault) → OnOk result (Goes (net_of graph.now) fault form number (item.Split node first) self.old self.new) }
+        ensures ok { (fault : Fault) → OnOk result (Goes (net_of graph.now) fault form (item.Split node first) self.old self.new) }
         ensures err { (fault : Fault) → IfErr result (λ r. Stops (net_of graph.now) fault form number (item.Split node first) self.old r) }
         ensures numbers { self.new.branches.trail.numbers ≡ self.old.branches.trail.numbers }
     {
@@ -146,7 +143,7 @@ impl Walk {
     fn read_clash(&mut self, form: Form, node: NodeId, number: u64) -> Result<(), CheckRefusal>
         requires climbs { IsClimbing self.old.branches }
         requires open { self.old.branches.stopped ≡ false }
-        ensures ok { (net : Net) (fault : Fault) → IsWalk net self.old → OnOk result (Goes net fault form number (item.Clash node) self.old self.new) }
+        ensures ok { (net : Net) (fault : Fault) → IsWalk net self.old → OnOk result (Goes net fault form (item.Clash node) self.old self.new) }
         ensures err { (net : Net) (fault : Fault) → IfErr result (λ r. Stops net fault form number (item.Clash node) self.old r) }
         ensures numbers { self.new.branches.trail.numbers ≡ self.old.branches.trail.numbers }
     {
@@ -161,25 +158,17 @@ impl Walk {
     fn read_quiet(
         &mut self,
         alloc: Global,
-        graph: &Graph,
-        fault: &Fault,
+        question: &Question<'_>,
         form: Form,
         number: u64,
     ) -> Result<(), CheckRefusal>
-        requires pin { HasPin (net_of graph.now) fault.now }
-        requires walk { IsWalk (net_of graph.now) self.old }
+        requires walk { IsWalk (net_of question.now.graph.now) self.old }
         requires open { self.old.branches.stopped ≡ false }
-        ensures ok { OnOk result (Goes (net_of graph.now) fault.now form number item.Quiet self.old self.new) }
-        ensures err { IfErr result (λ r. Stops (net_of graph.now) fault.now form number item.Quiet self.old r) }
+        ensures ok { OnOk result (Goes (net_of question.now.graph.now) question.now.fault form item.Quiet self.old self.new) }
+        ensures err { IfErr result (λ r. Stops (net_of question.now.graph.now) question.now.fault form number item.Quiet self.old r) }
         ensures numbers { self.new.branches.trail.numbers ≡ self.old.branches.trail.numbers }
     {
-        if !is_quiet(
-            alloc,
-            graph,
-            fault,
-            self.branches.trail.facts(),
-            &mut self.sim,
-        )? {
+        if !is_quiet(alloc, question, self.branches.trail.facts(), &mut self.sim)? {
             return Err(CheckRefusal::NotQuiet { item: number });
         }
         self.branches.end(form, number)?;
@@ -190,28 +179,32 @@ impl Walk {
     fn read_open(
         &mut self,
         alloc: Global,
-        graph: &Graph,
-        fault: &Fault,
+        question: &Question<'_>,
         site: &mut AskedSite,
         form: Form,
         item: &Item,
         number: u64,
     ) -> Result<(), CheckRefusal>
-        requires pin { HasPin (net_of graph.now) fault.now }
-        requires site { Serves (net_of graph.now) fault.now.gate.0 site.old }
-        requires walk { IsWalk (net_of graph.now) self.old }
+        requires site { Serves (net_of question.now.graph.now) question.now.fault.gate.0 site.old }
+        requires walk { IsWalk (net_of question.now.graph.now) self.old }
         requires open { self.old.branches.stopped ≡ false }
-        ensures ok { OnOk result (Goes (net_of graph.now) fault.now form number item.now self.old self.new) }
-        ensures err { IfErr result (λ r. Stops (net_of graph.now) fault.now form number item.now self.old r) }
+        ensures ok { OnOk result (Goes (net_of question.now.graph.now) question.now.fault form item.now self.old self.new) }
+        ensures err { IfErr result (λ r. Stops (net_of question.now.graph.now) question.now.fault form number item.now self.old r) }
         ensures numbers { self.new.branches.trail.numbers ≡ self.old.branches.trail.numbers }
-        ensures site { Serves (net_of graph.now) fault.now.gate.0 site.new }
+        ensures site { Serves (net_of question.now.graph.now) question.now.fault.gate.0 site.new }
         ensures size { length site.new.marks.reached ≡ length site.old.marks.reached }
     {
         match *item {
-            Item::Line(line) => self.read_line(graph, fault, site, form, &line, number),
-            Item::Split { node, first } => self.read_split(graph, form, node, first, number),
+            Item::Line(line) => self.read_line(question, site, form, &line, number),
+            Item::Split { node, first } => self.read_split(
+                question.graph,
+                form,
+                node,
+                first,
+                number,
+            ),
             Item::Clash(node) => self.read_clash(form, node, number),
-            Item::Quiet => self.read_quiet(alloc, graph, fault, form, number),
+            Item::Quiet => self.read_quiet(alloc, question, form, number),
             Item::Here => self.branches.stop(form, number),
             Item::Untried => Err(CheckRefusal::Shape { item: number }),
         }
@@ -221,24 +214,22 @@ impl Walk {
     pub(crate) fn read(
         &mut self,
         alloc: Global,
-        graph: &Graph,
-        fault: &Fault,
+        question: &Question<'_>,
         site: &mut AskedSite,
         form: Form,
         item: &Item,
         number: u64,
     ) -> Result<(), CheckRefusal>
-        requires pin { HasPin (net_of graph.now) fault.now }
-        requires site { Serves (net_of graph.now) fault.now.gate.0 site.old }
-        requires walk { IsWalk (net_of graph.now) self.old }
-        ensures ok { OnOk result (Goes (net_of graph.now) fault.now form number item.now self.old self.new) }
-        ensures err { IfErr result (λ r. Stops (net_of graph.now) fault.now form number item.now self.old r) }
+        requires site { Serves (net_of question.now.graph.now) question.now.fault.gate.0 site.old }
+        requires walk { IsWalk (net_of question.now.graph.now) self.old }
+        ensures ok { OnOk result (Goes (net_of question.now.graph.now) question.now.fault form item.now self.old self.new) }
+        ensures err { IfErr result (λ r. Stops (net_of question.now.graph.now) question.now.fault form number item.now self.old r) }
         ensures numbers { self.new.branches.trail.numbers ≡ self.old.branches.trail.numbers }
-        ensures site { Serves (net_of graph.now) fault.now.gate.0 site.new }
+        ensures site { Serves (net_of question.now.graph.now) question.now.fault.gate.0 site.new }
         ensures size { length site.new.marks.reached ≡ length site.old.marks.reached }
     {
         if !self.branches.stopped {
-            return self.read_open(alloc, graph, fault, site, form, item, number);
+            return self.read_open(alloc, question, site, form, item, number);
         }
         if *item == Item::Untried && self.branches.pass() {
             return Ok(());

@@ -1,6 +1,5 @@
 // Making tree after tree of the items that were written for them.
 ghost use Rattle.std.specs.Prelude.{◌≡◌, ◌≤◌, IfOk, IfSome, IsTrue, OnOk, length};
-ghost use Rattle.gate_net.specs.Values.{HasPin};
 ghost use Rattle.gate_graph.specs.Circuit.{net_of};
 ghost use Rattle.refutation.specs.Branches.{AreAccepted};
 ghost use Rattle.refutation.specs.Sites.{IsSiteOf};
@@ -9,11 +8,11 @@ use crate::account::Account;
 use crate::checker::TreeChecker;
 use crate::kept::Kept;
 use crate::refusals::CheckRefusal;
-use gate_graph::Graph;
+use gate_graph::{Graph, Question};
 use refutation::following::{gate_pins, pin_driver};
 use refutation::site::Site;
 use refutation::{Fact, Form, Item, Line, Tree};
-use rm_base::{Fault, NoMemory, NodeId};
+use rm_base::{NoMemory, NodeId};
 use std::alloc::Global;
 use std::marker::Model;
 
@@ -41,69 +40,63 @@ impl Model for Shortener {
 
 // Reads that the node is equal, where the faulty gate doesn't reach it and that wasn't read.
 fn ask_at(
-    graph: &Graph,
-    fault: &Fault,
+    question: &Question<'_>,
     site: &Site,
     account: &mut Account,
     node: NodeId,
 ) -> Result<(), NoMemory>
-    requires pin { HasPin (net_of graph.now) fault.now }
-    requires site { IsSiteOf (net_of graph.now) fault.now.gate.0 site.now }
-    requires numbers { length (net_of graph.now).nodes ≤ account.old.trail.numbers }
+    requires site { IsSiteOf (net_of question.now.graph.now) question.now.fault.gate.0 site.now }
+    requires numbers { length (net_of question.now.graph.now).nodes ≤ account.old.trail.numbers }
     ensures { OnOk result (account.new.trail.numbers ≡ account.old.trail.numbers) }
 {
     if account.holds(node, Fact::Equal) {
         return Ok(());
     }
-    let _is_outside = account.read(graph, fault, site, Item::Line(Line::Out { node }))?;
+    let _is_outside = account.read(question, site, Item::Line(Line::Out { node }))?;
     Ok(())
 }
 
 // Reads so what isn't reached of a node and its drivers.
 fn ask_around(
-    graph: &Graph,
-    fault: &Fault,
+    question: &Question<'_>,
     site: &Site,
     account: &mut Account,
     node: NodeId,
 ) -> Result<(), NoMemory>
-    requires pin { HasPin (net_of graph.now) fault.now }
-    requires site { IsSiteOf (net_of graph.now) fault.now.gate.0 site.now }
-    requires numbers { length (net_of graph.now).nodes ≤ account.old.trail.numbers }
+    requires site { IsSiteOf (net_of question.now.graph.now) question.now.fault.gate.0 site.now }
+    requires numbers { length (net_of question.now.graph.now).nodes ≤ account.old.trail.numbers }
     ensures { OnOk result (account.new.trail.numbers ≡ account.old.trail.numbers) }
 {
-    let Some(_kind) = graph.kind(node) else {
+    let Some(_kind) = question.graph.kind(node) else {
         return Ok(());
     };
-    ask_at(graph, fault, site, account, node)?;
-    for driver in gate_pins(graph, node) {
-        ask_at(graph, fault, site, account, driver)?;
+    ask_at(question, site, account, node)?;
+    for driver in gate_pins(question.graph, node) {
+        ask_at(question, site, account, driver)?;
     }
     Ok(())
 }
 
 // Reads so the nodes of which the line's condition asks whether they are equal.
 fn ask_for_line(
-    graph: &Graph,
-    fault: &Fault,
+    question: &Question<'_>,
     site: &Site,
     account: &mut Account,
     line: Line,
 ) -> Result<(), NoMemory>
-    requires pin { HasPin (net_of graph.now) fault.now }
-    requires site { IsSiteOf (net_of graph.now) fault.now.gate.0 site.now }
-    requires numbers { length (net_of graph.now).nodes ≤ account.old.trail.numbers }
+    requires site { IsSiteOf (net_of question.now.graph.now) question.now.fault.gate.0 site.now }
+    requires numbers { length (net_of question.now.graph.now).nodes ≤ account.old.trail.numbers }
     ensures { OnOk result (account.new.trail.numbers ≡ account.old.trail.numbers) }
 {
     match line {
         Line::ToFaulty { node } | Line::ToGood { node } | Line::NotEqual { node } => {
-            ask_at(graph, fault, site, account, node)
+            ask_at(question, site, account, node)
         }
         Line::EqualForward { node } | Line::DiffersBack { node, .. } => {
-            ask_around(graph, fault, site, account, node)
+            ask_around(question, site, account, node)
         }
-        Line::Side { node, position } => match pin_driver(graph, node, position) {
-            Some(driver) => ask_at(graph, fault, site, account, driver),
+        Line::Side { node, position } => match pin_driver(question.graph, node, position) {
+            Some(driver) => ask_at(question, site, account, driver),
             None => Ok(()),
         },
         Line::Act | Line::Site | Line::Chain { .. } | Line::Out { .. } => Ok(()),
@@ -115,57 +108,51 @@ fn ask_for_line(
 
 // Reads so what an item may rest on.
 fn ask_for(
-    graph: &Graph,
-    fault: &Fault,
+    question: &Question<'_>,
     site: &Site,
     account: &mut Account,
     item: Item,
 ) -> Result<(), NoMemory>
-    requires pin { HasPin (net_of graph.now) fault.now }
-    requires site { IsSiteOf (net_of graph.now) fault.now.gate.0 site.now }
-    requires numbers { length (net_of graph.now).nodes ≤ account.old.trail.numbers }
+    requires site { IsSiteOf (net_of question.now.graph.now) question.now.fault.gate.0 site.now }
+    requires numbers { length (net_of question.now.graph.now).nodes ≤ account.old.trail.numbers }
     ensures { OnOk result (account.new.trail.numbers ≡ account.old.trail.numbers) }
 {
     match item {
-        Item::Line(line) => ask_for_line(graph, fault, site, account, line),
-        Item::Clash(node) => ask_at(graph, fault, site, account, node),
+        Item::Line(line) => ask_for_line(question, site, account, line),
+        Item::Clash(node) => ask_at(question, site, account, node),
         Item::Split { .. } | Item::Quiet | Item::Here | Item::Untried => Ok(()),
     }
 }
 
 // Reads so what the items may rest on.
 fn ask_for_all(
-    graph: &Graph,
-    fault: &Fault,
+    question: &Question<'_>,
     site: &Site,
     account: &mut Account,
     items: &[Item],
 ) -> Result<(), NoMemory>
-    requires pin { HasPin (net_of graph.now) fault.now }
-    requires site { IsSiteOf (net_of graph.now) fault.now.gate.0 site.now }
-    requires numbers { length (net_of graph.now).nodes ≤ account.old.trail.numbers }
+    requires site { IsSiteOf (net_of question.now.graph.now) question.now.fault.gate.0 site.now }
+    requires numbers { length (net_of question.now.graph.now).nodes ≤ account.old.trail.numbers }
     ensures { OnOk result (account.new.trail.numbers ≡ account.old.trail.numbers) }
 {
     for item in items {
-        ask_for(graph, fault, site, account, *item)?;
+        ask_for(question, site, account, *item)?;
     }
     Ok(())
 }
 
 // Reads the items; false where one isn't of a closed tree, or a line's condition isn't met.
 fn read_all(
-    graph: &Graph,
-    fault: &Fault,
+    question: &Question<'_>,
     site: &Site,
     account: &mut Account,
     items: &[Item],
 ) -> Result<bool, NoMemory>
-    requires pin { HasPin (net_of graph.now) fault.now }
-    requires site { IsSiteOf (net_of graph.now) fault.now.gate.0 site.now }
-    requires numbers { length (net_of graph.now).nodes ≤ account.old.trail.numbers }
+    requires site { IsSiteOf (net_of question.now.graph.now) question.now.fault.gate.0 site.now }
+    requires numbers { length (net_of question.now.graph.now).nodes ≤ account.old.trail.numbers }
 {
     for item in items {
-        if !account.read(graph, fault, site, *item)? {
+        if !account.read(question, site, *item)? {
             return Ok(false);
         }
     }
@@ -186,21 +173,19 @@ fn keep_all(account: &mut Account, kept: &mut Kept) -> Result<(), NoMemory> {
 // equal; None where some item is none of a closed tree.
 fn left_of(
     alloc: Global,
-    graph: &Graph,
-    fault: &Fault,
+    question: &Question<'_>,
     site: &Site,
     account: &mut Account,
     kept: &mut Kept,
     items: &[Item],
 ) -> Result<Option<Tree>, NoMemory>
-    requires pin { HasPin (net_of graph.now) fault.now }
-    requires site { IsSiteOf (net_of graph.now) fault.now.gate.0 site.now }
-    requires numbers { length (net_of graph.now).nodes ≤ account.old.trail.numbers }
+    requires site { IsSiteOf (net_of question.now.graph.now) question.now.fault.gate.0 site.now }
+    requires numbers { length (net_of question.now.graph.now).nodes ≤ account.old.trail.numbers }
 {
     account.clear();
     kept.clear();
-    ask_for_all(graph, fault, site, account, items)?;
-    if !read_all(graph, fault, site, account, items)? {
+    ask_for_all(question, site, account, items)?;
+    if !read_all(question, site, account, items)? {
         return Ok(None);
     }
     keep_all(account, kept)?;
@@ -236,24 +221,21 @@ impl Shortener {
     /// the faulty gate reaches.
     pub fn tree(
         &mut self,
-        graph: &Graph,
-        fault: &Fault,
+        question: &Question<'_>,
         items: &[Item],
     ) -> Result<Option<Tree>, NoMemory>
-        requires pin { HasPin (net_of graph.now) fault.now }
-        requires room { length (net_of graph.now).nodes ≤ self.old }
-        ensures accepted { IfOk result (λ t. IfSome t (AreAccepted (net_of graph.now) fault.now)) }
+        requires room { length (net_of question.now.graph.now).nodes ≤ self.old }
+        ensures accepted { IfOk result (λ t. IfSome t (AreAccepted (net_of question.now.graph.now) question.now.fault)) }
         ensures room { self.new ≡ self.old }
     {
-        graph.well_formed();
-        if self.account.numbers() < graph.node_bound() as usize {
+        question.graph.well_formed();
+        if self.account.numbers() < question.graph.node_bound() as usize {
             self.account = Account::new(self.alloc, self.numbers)?;
         }
-        self.site.mark(graph, fault.gate);
+        self.site.mark(question.graph, question.fault.gate);
         let Some(short) = left_of(
             self.alloc,
-            graph,
-            fault,
+            question,
             &self.site,
             &mut self.account,
             &mut self.kept,
@@ -262,7 +244,7 @@ impl Shortener {
         else {
             return Ok(None);
         };
-        match self.checker.check(graph, fault, &short, Form::Closed) {
+        match self.checker.check(question, &short, Form::Closed) {
             Ok(_) => Ok(Some(short)),
             Err(CheckRefusal::NoMemory) => Err(NoMemory),
             Err(_) => Ok(None),

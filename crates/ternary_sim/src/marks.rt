@@ -4,6 +4,7 @@ ghost use Rattle.std.specs.List.{list_all};
 ghost use Rattle.gate_net.specs.Meaning.{kind_forward};
 ghost use Rattle.gate_looks.specs.Pins.{with_stuck, AreBelow};
 ghost use Rattle.ternary_sim.specs.Marks.{seen, equal_at, known_in};
+ghost use Rattle.rm_base.specs.Numbers.{number_bound};
 
 use gate_graph::Inputs;
 use gate_looks::glances::{Known, node_forward};
@@ -79,7 +80,7 @@ pub(crate) fn value_from(
     reading: Reading,
 ) -> Option<bool>
     requires within { AreBelow drivers (length marks.now) }
-    requires few { length drivers ≤ 4294967295 }
+    requires few { length drivers ≤ number_bound }
     ensures { result ≡ kind_forward kind own (with_stuck stuck (map (known_in reading marks.now) drivers.entry)) }
 {
     let known = MarksOf { marks, reading };

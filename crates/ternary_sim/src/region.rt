@@ -8,11 +8,11 @@ ghost use Rattle.gate_looks.specs.Pins.{AreBelow};
 ghost use Rattle.gate_looks.specs.Reaching.{MarksReached};
 ghost use Rattle.ternary_sim.specs.Regions.{IsTouched, MarksMore, MarksRegion};
 
-use gate_graph::Graph;
+use gate_graph::{Graph, Question};
 use gate_looks::agenda::Agenda;
 use gate_looks::drivers::gate_pins;
 use gate_looks::site::Site;
-use rm_base::{Fault, NoMemory, NodeId};
+use rm_base::{NoMemory, NodeId};
 use std::alloc::Global;
 use std::marker::Model;
 
@@ -92,21 +92,21 @@ fn mark_touched(graph: &Graph, gate: NodeId, site: &Site, marks: &mut Agenda, wa
 }
 
 // Marks what the fault concerns, over an agenda with nothing on. What was marked before is taken off by its list.
-fn mark_region(graph: &Graph, fault: &Fault, site: &Site, marks: &mut Agenda, waiting: &mut Agenda)
-    requires gate { IsLive (net_of graph.now) fault.now.gate.0 }
-    requires site { MarksReached (net_of graph.now) fault.now.gate.0 site.now.reached }
-    requires marks { length (net_of graph.now).nodes ≤ length marks.old }
-    requires waiting { length (net_of graph.now).nodes ≤ length waiting.old }
+fn mark_region(question: &Question<'_>, site: &Site, marks: &mut Agenda, waiting: &mut Agenda)
+    requires gate { IsLive (net_of question.now.graph.now) question.now.fault.gate.0 }
+    requires site { MarksReached (net_of question.now.graph.now) question.now.fault.gate.0 site.now.reached }
+    requires marks { length (net_of question.now.graph.now).nodes ≤ length marks.old }
+    requires waiting { length (net_of question.now.graph.now).nodes ≤ length waiting.old }
     requires none { waiting.old ≡ replicate (length waiting.old) false }
-    ensures marked { MarksRegion (net_of graph.now) fault.now marks.new }
+    ensures marked { MarksRegion (net_of question.now.graph.now) question.now.fault marks.new }
     ensures size { length marks.new ≡ length marks.old }
     ensures waiting { waiting.new ≡ waiting.old }
 {
     marks.clear();
-    graph.well_formed();
-    mark_touched(graph, fault.gate, site, marks, waiting);
+    question.graph.well_formed();
+    mark_touched(question.graph, question.fault.gate, site, marks, waiting);
     while let Some(node) = waiting.take() {
-        mark_drivers(graph, node, marks, waiting);
+        mark_drivers(question.graph, node, marks, waiting);
     }
 }
 
@@ -122,14 +122,14 @@ impl Region {
 
     /// Marks what the fault concerns, in place of what was marked before. The site is that of the fault's gate. It takes
     /// the time of those marks and of the pins of the nodes that it marks.
-    pub fn mark(&mut self, graph: &Graph, fault: &Fault, site: &Site)
-        requires gate { IsLive (net_of graph.now) fault.now.gate.0 }
-        requires site { MarksReached (net_of graph.now) fault.now.gate.0 site.now.reached }
-        requires room { length (net_of graph.now).nodes ≤ length self.old }
-        ensures marked { MarksRegion (net_of graph.now) fault.now self.new }
+    pub fn mark(&mut self, question: &Question<'_>, site: &Site)
+        requires gate { IsLive (net_of question.now.graph.now) question.now.fault.gate.0 }
+        requires site { MarksReached (net_of question.now.graph.now) question.now.fault.gate.0 site.now.reached }
+        requires room { length (net_of question.now.graph.now).nodes ≤ length self.old }
+        ensures marked { MarksRegion (net_of question.now.graph.now) question.now.fault self.new }
         ensures size { length self.new ≡ length self.old }
     {
-        mark_region(graph, fault, site, &mut self.marks, &mut self.waiting);
+        mark_region(question, site, &mut self.marks, &mut self.waiting);
     }
 
     /// Whether the fault concerns the node.

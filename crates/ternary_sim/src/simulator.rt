@@ -2,7 +2,7 @@
 ghost use Rattle.std.specs.Prelude.{◌≡◌, ◌<◌, ◌↔◌, ℕ, Bool, IfOk, IsTrue, length, map, replicate, slice_set};
 ghost use Rattle.rm_base.specs.declared.vectors.Value3.TheVariants.{Unknown};
 ghost use Rattle.gate_net.specs.Net.{Net, source_count};
-ghost use Rattle.gate_net.specs.Values.{HasPin, IsRun};
+ghost use Rattle.gate_net.specs.Values.{IsRun};
 ghost use Rattle.gate_net.specs.Forward.{Completes, IsForwardReading, IsTrueAt, MarksDetected, MarksQuiet, both_known_different};
 ghost use Rattle.gate_graph.specs.Circuit.{net_of};
 ghost use Rattle.gate_looks.specs.Pins.{AreBelow};
@@ -11,10 +11,10 @@ ghost use Rattle.ternary_sim.specs.Sims.{Fits};
 
 use crate::marks::{NodeMarks, shown_value};
 use crate::reading::read_all;
-use gate_graph::Graph;
+use gate_graph::{Graph, Question};
 use gate_net::readings_hold;
 use rm_base::vectors::Value3;
-use rm_base::{Fault, NoMemory, NodeId, SourceNo};
+use rm_base::{NoMemory, NodeId, SourceNo};
 use std::alloc::Global;
 use std::marker::Model;
 
@@ -94,20 +94,19 @@ impl Sim {
 
     /// Reads forward from the sources, with the fault and without it. What it then knows holds for every assignment that
     /// gives the set sources their values. It takes no memory, and looks at each pin a few times.
-    pub fn run_fault(&mut self, graph: &Graph, fault: &Fault)
-        requires pin { HasPin (net_of graph.now) fault.now }
-        requires fits { Fits self.old (net_of graph.now) }
-        ensures reading { IsForwardReading (net_of graph.now) fault.now (known_source self.new.sources) (marking self.new.marks) }
+    pub fn run_fault(&mut self, question: &Question<'_>)
+        requires fits { Fits self.old (net_of question.now.graph.now) }
+        ensures reading { IsForwardReading (net_of question.now.graph.now) question.now.fault (known_source self.new.sources) (marking self.new.marks) }
         ensures sources { self.new.sources ≡ self.old.sources }
         ensures order { self.new.order ≡ self.old.order }
         ensures fits { (net : Net) → Fits self.old net → Fits self.new net }
-        ensures sound { (a v f : ℕ → Bool) → Completes (net_of graph.now) (known_source self.new.sources) a → IsRun (net_of graph.now) fault.now a v f → (x : ℕ) → IsTrueAt (marking self.new.marks) v f x }
+        ensures sound { (a v f : ℕ → Bool) → Completes (net_of question.now.graph.now) (known_source self.new.sources) a → IsRun (net_of question.now.graph.now) question.now.fault a v f → (x : ℕ) → IsTrueAt (marking self.new.marks) v f x }
     {
-        graph.well_formed();
+        question.graph.well_formed();
         readings_hold();
         read_all(
-            graph,
-            fault,
+            question.graph,
+            &question.fault,
             self.sources.as_slice(),
             self.order.as_slice(),
             &mut self.marks,

@@ -6,7 +6,7 @@ ghost use Rattle.gate_graph.specs.Circuit.{live_nodes, pins_taken};
 use super::drawn::drawn;
 use super::optimised;
 use candidate_wires::{Candidate, Pair, added_pin, candidates, control_of, least_free, targets};
-use gate_graph::{Graph, faults_of};
+use gate_graph::{Graph, Question, faults_of};
 use implications::{Closed, Engine};
 use recursive_learning::refute;
 use rm_base::{Fault, NodeId};
@@ -21,8 +21,12 @@ fn is_refuted(alloc: Global, graph: &Graph, fault: &Fault) -> Result<bool, Fail>
     let Some(_) = graph.driver(fault.gate, fault.position) else {
         return Err("no pin".into());
     };
+    let question = Question {
+        graph,
+        fault: *fault,
+    };
     let mut engine = Engine::new(alloc, graph)?;
-    match refute(alloc, &mut engine, graph, fault, 1)? {
+    match refute(alloc, &mut engine, &question, 1)? {
         Closed::Clash(_tree) => Ok(true),
         Closed::Open(_facts) => Ok(false),
     }
@@ -156,11 +160,12 @@ fn push_pairs(
     let Some(_) = graph.driver(fault.gate, fault.position) else {
         return Err("no pin".into());
     };
+    let question = Question { graph, fault };
     let mut engine = Engine::new(alloc, graph)?;
-    let Closed::Open(facts) = engine.close(graph, &fault)? else {
+    let Closed::Open(facts) = engine.close(&question)? else {
         return Ok(());
     };
-    let found = candidates(alloc, graph, &fault, &facts)?;
+    let found = candidates(alloc, &question, &facts)?;
     for candidate in found.as_slice() {
         pairs.push(Pair {
             fault,

@@ -5,7 +5,7 @@ ghost use Rattle.fault_sim.specs.LaneStates.{Fits};
 ghost use Rattle.ternary_sim.specs.Sims.{Fits as FitsSim};
 
 use fault_sim::Lanes;
-use gate_graph::Graph;
+use gate_graph::{Graph, Question};
 use rm_base::vectors::Value3;
 use rm_base::{Fault, NoMemory, NodeId, SourceNo};
 use std::alloc::Global;
@@ -67,11 +67,15 @@ fn agree(lanes: &mut Lanes, sim: &mut Sim, graph: &Graph, fault: &Fault, first: 
     if graph.source_count() as usize != ALL.len() {
         return false;
     }
-    let found = lanes.detect64(graph, fault, &ALL);
+    let question = Question {
+        graph,
+        fault: *fault,
+    };
+    let found = lanes.detect64(&question, &ALL);
     for eighth in 0..8u32 {
         let lane = 8 * eighth + first;
         give(sim, graph, lane);
-        sim.run_fault(graph, fault);
+        sim.run_fault(&question);
         if sim.detected(graph) != (found.wrapping_shr(lane) & 1 == 1) {
             return false;
         }

@@ -11,7 +11,7 @@ ghost use Rattle.fault_sim.specs.LaneStates.{Fits, IsSimulated};
 
 use super::drawn::{ALL, GATES, drawn_net};
 use fault_sim::{Blocks, Lanes, changed_by};
-use gate_graph::{Edit, Graph, Undos, same_wiring};
+use gate_graph::{Edit, Graph, Question, Undos, same_wiring};
 use rm_base::{Fault, NoMemory, NodeId};
 use std::alloc::Global;
 use std::test::Fail;
@@ -42,7 +42,11 @@ fn same_lanes(one: &mut Lanes, other: &mut Lanes, graph: &Graph, fault: &Fault) 
     let Some(_) = graph.driver(fault.gate, fault.position) else {
         return true;
     };
-    one.detect(graph, fault) == other.detect(graph, fault)
+    let question = Question {
+        graph,
+        fault: *fault,
+    };
+    one.detect(&question) == other.detect(&question)
 }
 
 // Blocks of one vector in all lanes, and of all vectors.
@@ -66,7 +70,11 @@ fn same_vectors(one: &mut Blocks, other: &mut Blocks, graph: &Graph, fault: &Fau
     let Some(_) = graph.driver(fault.gate, fault.position) else {
         return true;
     };
-    one.detects_any(graph, fault) == other.detects_any(graph, fault)
+    let question = Question {
+        graph,
+        fault: *fault,
+    };
+    one.detects_any(&question) == other.detects_any(&question)
 }
 
 // A fault of the first numbers.

@@ -1,6 +1,6 @@
 // Faults on nets of every form of gate, with the lanes worked by hand.
 use fault_sim::Lanes;
-use gate_graph::Graph;
+use gate_graph::{Graph, Question};
 use std::alloc::Global;
 use std::test::Fail;
 use test_nets::{Gate, Wiring, fault_at, wired};
@@ -84,7 +84,7 @@ fn found(alloc: Global, graph: &Graph, row: &Row) -> Result<u64, Fail> {
         return Err("other sources".into());
     }
     let mut lanes = Lanes::new(alloc, graph)?;
-    Ok(lanes.detect64(graph, &fault, &TWO))
+    Ok(lanes.detect64(&Question { graph, fault }, &TWO))
 }
 
 #[test]

@@ -1,13 +1,12 @@
 // First vectors of four blocks, against a reading of each vector in turn.
 ghost use Rattle.std.specs.Prelude.{◌<◌, IfOk, OnOk};
-ghost use Rattle.gate_net.specs.Values.{HasPin};
 ghost use Rattle.gate_graph.specs.Circuit.{net_of};
 ghost use Rattle.fault_sim.specs.BlockStates.{AreSimulated};
 ghost use Rattle.ternary_sim.specs.Sims.{Fits as FitsSim};
 
 use super::drawn::{ALL, GATES, drawn_net, give};
 use fault_sim::Blocks;
-use gate_graph::Graph;
+use gate_graph::{Graph, Question};
 use rm_base::{Fault, NodeId};
 use std::alloc::Global;
 use std::test::Fail;
@@ -49,15 +48,14 @@ fn all_kept(alloc: Global, graph: &Graph) -> Result<Blocks, Fail>
 }
 
 // The first of the 256 vectors that a reading finds to detect the fault.
-fn first_read(sim: &mut Sim, graph: &Graph, fault: &Fault) -> Option<usize>
-    requires pin { HasPin (net_of graph.now) fault.now }
-    requires sim { FitsSim sim.old (net_of graph.now) }
-    ensures sim { FitsSim sim.new (net_of graph.now) }
+fn first_read(sim: &mut Sim, question: &Question<'_>) -> Option<usize>
+    requires sim { FitsSim sim.old (net_of question.now.graph.now) }
+    ensures sim { FitsSim sim.new (net_of question.now.graph.now) }
 {
     for number in 0..256u32 {
-        give(sim, graph, number);
-        sim.run_fault(graph, fault);
-        if sim.detected(graph) {
+        give(sim, question.graph, number);
+        sim.run_fault(question);
+        if sim.detected(question.graph) {
             return Some(number as usize);
         }
     }
@@ -74,7 +72,11 @@ fn agree(blocks: &mut Blocks, sim: &mut Sim, graph: &Graph, fault: &Fault) -> bo
     let Some(_) = graph.driver(fault.gate, fault.position) else {
         return true;
     };
-    blocks.detects_any(graph, fault) == first_read(sim, graph, fault)
+    let question = Question {
+        graph,
+        fault: *fault,
+    };
+    blocks.detects_any(&question) == first_read(sim, &question)
 }
 
 // Whether they agree on every seventh fault of a net from that one on.

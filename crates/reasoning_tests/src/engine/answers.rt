@@ -1,14 +1,13 @@
 // Answers that were worked out by hand.
 ghost use Rattle.std.specs.Prelude.{◌≤◌, length};
 ghost use Rattle.gate_graph.specs.Circuit.{net_of};
-ghost use Rattle.gate_net.specs.Values.{HasPin};
 
 use crate::facts::hold_same;
-use gate_graph::{Graph, Marks};
+use gate_graph::{Graph, Marks, Question};
 use implications::{Closed, Engine};
 use refutation::pins::{Aspect, known};
 use refutation::{FactSet, Item, Tree, TreeBuilder, conclude};
-use rm_base::{Fault, NodeId};
+use rm_base::NodeId;
 use std::alloc::Global;
 use std::test::Fail;
 use test_nets::worked::{ABSORBED, FOUR_GATES};
@@ -72,8 +71,12 @@ fn clashes(
 ) -> Result<bool, Fail> {
     let graph = wired(alloc, wiring)?;
     let fault = fault_at(&graph, gate, position, value)?;
+    let question = Question {
+        graph: &graph,
+        fault,
+    };
     let mut engine = Engine::new(alloc, &graph)?;
-    match engine.close(&graph, &fault)? {
+    match engine.close(&question)? {
         Closed::Clash(_) => Ok(true),
         Closed::Open(_) => Ok(false),
     }
@@ -109,34 +112,30 @@ fn are_known(facts: &FactSet, wanted: &[Known; 10]) -> bool {
 // Whether lines lead, one after another, from no facts to these.
 fn lead_to(
     alloc: Global,
-    graph: &Graph,
-    fault: &Fault,
+    question: &Question<'_>,
     items: &[Item],
     facts: &FactSet,
-) -> Result<bool, Fail>
-    requires { HasPin (net_of graph.now) fault.now }
-{
-    let mut marks = Marks::new(alloc, graph.node_bound())?;
-    let mut led = FactSet::new(alloc, graph)?;
+) -> Result<bool, Fail> {
+    let mut marks = Marks::new(alloc, question.graph.node_bound())?;
+    let mut led = FactSet::new(alloc, question.graph)?;
     for item in items {
         let Item::Line(line) = item else {
             return Ok(false);
         };
-        let Some((node, fact)) = conclude(graph, fault, &led, line, &mut marks) else {
+        let Some((node, fact)) = conclude(question, &led, line, &mut marks) else {
             return Ok(false);
         };
         led.insert(node, fact);
     }
-    Ok(led.len() == facts.len() && hold_same(&led, facts, graph.node_bound()))
+    Ok(led.len() == facts.len() && hold_same(&led, facts, question.graph.node_bound()))
 }
 
 // The lines to what the faulty gate doesn't reach, and then those of the engine's last call.
-fn all_lines(alloc: Global, engine: &mut Engine, graph: &Graph, fault: &Fault) -> Result<Tree, Fail>
-    requires pin { HasPin (net_of graph.now) fault.now }
-    requires numbers { length (net_of graph.now).nodes ≤ engine.old.numbers }
+fn all_lines(alloc: Global, engine: &mut Engine, question: &Question<'_>) -> Result<Tree, Fail>
+    requires { length (net_of question.now.graph.now).nodes ≤ engine.old.numbers }
 {
     let mut tree = TreeBuilder::new(alloc);
-    engine.push_outside(graph, fault, &mut tree)?;
+    engine.push_outside(question, &mut tree)?;
     for line in engine.lines() {
         tree.push(Item::Line(*line))?;
     }
@@ -148,11 +147,12 @@ fn gives(alloc: Global, engine: &mut Engine, graph: &Graph, case: &Case) -> Resu
     requires { length (net_of graph.now).nodes ≤ engine.old.numbers }
 {
     let fault = fault_at(graph, case.fault.0, case.fault.1, case.fault.2)?;
-    let Closed::Open(facts) = engine.close(graph, &fault)? else {
+    let question = Question { graph, fault };
+    let Closed::Open(facts) = engine.close(&question)? else {
         return Ok(false);
     };
-    let tree = all_lines(alloc, engine, graph, &fault)?;
-    if !lead_to(alloc, graph, &fault, tree.items(), &facts)? {
+    let tree = all_lines(alloc, engine, &question)?;
+    if !lead_to(alloc, &question, tree.items(), &facts)? {
         return Ok(false);
     }
     Ok(are_known(&facts, &case.known))
@@ -165,7 +165,7 @@ fn is_right(alloc: Global, graph: &Graph, case: &Case) -> Result<bool, Fail> {
     if !engine.lines().is_empty() {
         return Ok(false);
     }
-    let _first = engine.close(graph, &fault)?;
+    let _first = engine.close(&Question { graph, fault })?;
     gives(alloc, &mut engine, graph, case)
 }
 

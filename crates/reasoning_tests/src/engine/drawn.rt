@@ -3,7 +3,7 @@ ghost use Rattle.std.specs.Prelude.{◌≡◌, ◌<◌, ◌≤◌, length};
 ghost use Rattle.gate_graph.specs.Circuit.{net_of};
 
 use crate::assignments::some_detects;
-use gate_graph::Graph;
+use gate_graph::{Graph, Question};
 use implications::{Closed, Engine};
 use rm_base::{Fault, NodeId};
 use std::alloc::Global;
@@ -61,12 +61,16 @@ fn count_fault(
     let Some(_) = graph.driver(fault.gate, fault.position) else {
         return Ok(());
     };
+    let question = Question {
+        graph,
+        fault: *fault,
+    };
     count.faults = count.faults.wrapping_add(1);
-    let Closed::Clash(_) = engine.close(graph, fault)? else {
+    let Closed::Clash(_) = engine.close(&question)? else {
         return Ok(());
     };
     count.clashes = count.clashes.wrapping_add(1);
-    if some_detects(alloc, graph, fault)? {
+    if some_detects(alloc, &question)? {
         count.wrong = count.wrong.wrapping_add(1);
     }
     Ok(())

@@ -1,16 +1,15 @@
 // Facts that grow by a good value, in a copy and in place.
 ghost use Rattle.std.specs.Prelude.{◌≡◌, ◌≤◌, length};
 ghost use Rattle.gate_graph.specs.Circuit.{net_of};
-ghost use Rattle.gate_net.specs.Values.{HasPin};
 ghost use Rattle.refutation.specs.Closing.{IsClashFree, IsClosedUnderLines};
 ghost use Rattle.refutation.specs.FactSets.{held_by};
 
 use crate::facts::hold_same;
-use gate_graph::Graph;
+use gate_graph::Question;
 use implications::{Closed, Engine};
 use refutation::FactSet;
 use refutation::pins::{Aspect, known};
-use rm_base::{Fault, NodeId};
+use rm_base::NodeId;
 use std::alloc::Global;
 use std::test::Fail;
 use test_nets::worked::FOUR_GATES;
@@ -21,23 +20,21 @@ const THIRD: NodeId = NodeId(4);
 // What is known of the third source after growing facts that don't tell its good value by its being 1.
 fn grown(
     engine: &mut Engine,
-    graph: &Graph,
+    question: &Question<'_>,
     facts: &FactSet,
-    fault: &Fault,
 ) -> Result<Option<bool>, Fail>
-    requires pin { HasPin (net_of graph.now) fault.now }
-    requires numbers { length (net_of graph.now).nodes ≤ engine.old.numbers }
-    requires size { length (net_of graph.now).nodes ≤ length facts.now }
+    requires numbers { length (net_of question.now.graph.now).nodes ≤ engine.old.numbers }
+    requires size { length (net_of question.now.graph.now).nodes ≤ length facts.now }
     requires free { IsClashFree (held_by facts.now) }
     ensures { engine.new.numbers ≡ engine.old.numbers }
 {
-    let Some(_) = graph.kind(THIRD) else {
+    let Some(_) = question.graph.kind(THIRD) else {
         return Err("no such node".into());
     };
     if known(facts, Aspect::OfGood, THIRD).is_some() {
         return Err("known before".into());
     }
-    let Closed::Open(more) = engine.grow(graph, fault, facts, THIRD, true)? else {
+    let Closed::Open(more) = engine.grow(question, facts, THIRD, true)? else {
         return Err("a clash".into());
     };
     if more.len() <= 4 {
@@ -50,17 +47,15 @@ fn grown(
 fn extended(
     alloc: Global,
     engine: &mut Engine,
-    graph: &Graph,
+    question: &Question<'_>,
     facts: &mut FactSet,
-    fault: &Fault,
 ) -> Result<Option<bool>, Fail>
-    requires pin { HasPin (net_of graph.now) fault.now }
-    requires numbers { length (net_of graph.now).nodes ≤ engine.old.numbers }
-    requires size { length (net_of graph.now).nodes ≤ length facts.old }
-    requires closed { IsClosedUnderLines (net_of graph.now) fault.now (held_by facts.old) }
+    requires numbers { length (net_of question.now.graph.now).nodes ≤ engine.old.numbers }
+    requires size { length (net_of question.now.graph.now).nodes ≤ length facts.old }
+    requires closed { IsClosedUnderLines (net_of question.now.graph.now) question.now.fault (held_by facts.old) }
     requires free { IsClashFree (held_by facts.old) }
 {
-    let Some(_) = graph.kind(THIRD) else {
+    let Some(_) = question.graph.kind(THIRD) else {
         return Err("no such node".into());
     };
     if known(facts, Aspect::OfGood, THIRD).is_some() {
@@ -68,7 +63,7 @@ fn extended(
     }
     let before = facts.copy(alloc)?;
     let mark = engine.mark();
-    let clash = engine.extend(graph, fault, facts, THIRD, true)?;
+    let clash = engine.extend(question, facts, THIRD, true)?;
     let now = known(facts, Aspect::OfFaulty, THIRD);
     engine.take_back(facts, mark);
     if clash.is_some() {
@@ -77,7 +72,7 @@ fn extended(
     if facts.len() != before.len() {
         return Err("another size".into());
     }
-    if !hold_same(facts, &before, graph.node_bound()) {
+    if !hold_same(facts, &before, question.graph.node_bound()) {
         return Err("not taken back".into());
     }
     Ok(now)
@@ -87,12 +82,16 @@ fn extended(
 fn grows_and_takes_back(rt: HostRuntime) -> Result<(), Fail> {
     let graph = wired(rt.alloc(), &FOUR_GATES)?;
     let fault = fault_at(&graph, 6, 0, true)?;
+    let question = Question {
+        graph: &graph,
+        fault,
+    };
     let mut engine = Engine::new(rt.alloc(), &graph)?;
-    let Closed::Open(mut facts) = engine.close(&graph, &fault)? else {
+    let Closed::Open(mut facts) = engine.close(&question)? else {
         return Err("a clash".into());
     };
-    let one = grown(&mut engine, &graph, &facts, &fault)?;
-    let other = extended(rt.alloc(), &mut engine, &graph, &mut facts, &fault)?;
+    let one = grown(&mut engine, &question, &facts)?;
+    let other = extended(rt.alloc(), &mut engine, &question, &mut facts)?;
     assert_eq!(rt; (one, other), (Some(true), Some(true)));
     Ok(())
 }

@@ -1,10 +1,9 @@
 // A net with a part that the fault doesn't touch.
 ghost use Rattle.std.specs.Prelude.{◌≡◌, ◌≤◌, length};
 ghost use Rattle.gate_graph.specs.Circuit.{net_of};
-ghost use Rattle.gate_net.specs.Values.{HasPin};
 
 use crate::facts::hold_same;
-use gate_graph::{Graph, Marks};
+use gate_graph::{Graph, Marks, Question};
 use implications::{Closed, Engine};
 use refutation::{Fact, FactSet, Line, conclude};
 use rm_base::{Fault, NodeId};
@@ -51,22 +50,20 @@ fn lines_at(node: NodeId, position: u32) -> [Line; 17] {
 
 // Adds what these lines give; whether that is more than there was.
 fn add_at(
-    graph: &Graph,
-    fault: &Fault,
+    question: &Question<'_>,
     facts: &mut FactSet,
     marks: &mut Marks,
     node: NodeId,
     position: u32,
 ) -> bool
-    requires pin { HasPin (net_of graph.now) fault.now }
-    requires facts { length (net_of graph.now).nodes ≤ length facts.old }
-    requires marks { length (net_of graph.now).nodes ≤ marks.old }
+    requires facts { length (net_of question.now.graph.now).nodes ≤ length facts.old }
+    requires marks { length (net_of question.now.graph.now).nodes ≤ marks.old }
     ensures facts { length facts.new ≡ length facts.old }
     ensures marks { marks.new ≡ marks.old }
 {
     let mut more = false;
     for line in lines_at(node, position) {
-        if let Some((on, fact)) = conclude(graph, fault, facts, &line, marks) {
+        if let Some((on, fact)) = conclude(question, facts, &line, marks) {
             more = more || !facts.holds(on, fact);
             facts.insert(on, fact);
         }
@@ -75,30 +72,27 @@ fn add_at(
 }
 
 // The same at all nodes.
-fn add_everywhere(graph: &Graph, fault: &Fault, facts: &mut FactSet, marks: &mut Marks) -> bool
-    requires pin { HasPin (net_of graph.now) fault.now }
-    requires facts { length (net_of graph.now).nodes ≤ length facts.old }
-    requires marks { length (net_of graph.now).nodes ≤ marks.old }
+fn add_everywhere(question: &Question<'_>, facts: &mut FactSet, marks: &mut Marks) -> bool
+    requires facts { length (net_of question.now.graph.now).nodes ≤ length facts.old }
+    requires marks { length (net_of question.now.graph.now).nodes ≤ marks.old }
     ensures facts { length facts.new ≡ length facts.old }
     ensures marks { marks.new ≡ marks.old }
 {
     let mut more = false;
-    for number in 0..graph.node_bound() {
-        let first = add_at(graph, fault, facts, marks, NodeId(number), 0);
-        let second = add_at(graph, fault, facts, marks, NodeId(number), 1);
+    for number in 0..question.graph.node_bound() {
+        let first = add_at(question, facts, marks, NodeId(number), 0);
+        let second = add_at(question, facts, marks, NodeId(number), 1);
         more = more || first || second;
     }
     more
 }
 
 // All facts to which lines lead, by trying each line over and over.
-fn derivable(alloc: Global, graph: &Graph, fault: &Fault) -> Result<FactSet, Fail>
-    requires pin { HasPin (net_of graph.now) fault.now }
-{
-    let mut facts = FactSet::new(alloc, graph)?;
-    let mut marks = Marks::new(alloc, graph.node_bound())?;
+fn derivable(alloc: Global, question: &Question<'_>) -> Result<FactSet, Fail> {
+    let mut facts = FactSet::new(alloc, question.graph)?;
+    let mut marks = Marks::new(alloc, question.graph.node_bound())?;
     for _round in 0..100u32 {
-        if !add_everywhere(graph, fault, &mut facts, &mut marks) {
+        if !add_everywhere(question, &mut facts, &mut marks) {
             break;
         }
     }
@@ -118,10 +112,14 @@ fn is_exact(
     let Some(_) = graph.driver(fault.gate, fault.position) else {
         return Ok(None);
     };
-    let Closed::Open(facts) = engine.close(graph, fault)? else {
+    let question = Question {
+        graph,
+        fault: *fault,
+    };
+    let Closed::Open(facts) = engine.close(&question)? else {
         return Ok(None);
     };
-    let all = derivable(alloc, graph, fault)?;
+    let all = derivable(alloc, &question)?;
     Ok(Some(hold_same(&facts, &all, graph.node_bound())))
 }
 
@@ -191,8 +189,12 @@ fn count_apart(lines: &[Line]) -> u32 {
 fn leaves_the_other_part_alone(rt: HostRuntime) -> Result<(), Fail> {
     let graph = wired(rt.alloc(), &PARTS)?;
     let fault = fault_at(&graph, 7, 0, true)?;
+    let question = Question {
+        graph: &graph,
+        fault,
+    };
     let mut engine = Engine::new(rt.alloc(), &graph)?;
-    let _closed = engine.close(&graph, &fault)?;
+    let _closed = engine.close(&question)?;
     assert!(rt; engine.lines().len() > 0);
     assert_eq!(rt; count_apart(engine.lines()), 0);
     Ok(())

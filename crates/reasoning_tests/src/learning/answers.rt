@@ -1,14 +1,13 @@
 // Nets whose answers were worked out by hand.
 ghost use Rattle.std.specs.Prelude.{◌≤◌};
 ghost use Rattle.gate_graph.specs.Circuit.{net_of};
-ghost use Rattle.gate_net.specs.Values.{HasPin};
 
-use gate_graph::Graph;
+use gate_graph::{Graph, Question};
 use implications::{Closed, Engine};
 use recursive_learning::refute;
 use refutation::{Form, Tree};
 use refutation_check::check_tree;
-use rm_base::{Fault, NodeId};
+use rm_base::NodeId;
 use std::alloc::Global;
 use std::test::Fail;
 use test_nets::worked::{ABSORBED, FOUR_GATES};
@@ -133,29 +132,21 @@ const FAR: Wiring<'static> = Wiring {
 };
 
 /// Fails where the checker doesn't accept the tree.
-pub fn accept(alloc: Global, graph: &Graph, fault: &Fault, tree: &Tree) -> Result<(), Fail>
-    requires { HasPin (net_of graph.now) fault.now }
-{
-    match check_tree(alloc, graph, fault, tree, Form::Closed) {
+pub fn accept(alloc: Global, question: &Question<'_>, tree: &Tree) -> Result<(), Fail> {
+    match check_tree(alloc, question, tree, Form::Closed) {
         Ok(_) => Ok(()),
         Err(_) => Err("not accepted".into()),
     }
 }
 
 /// How many items the refutation of the fault has at the depth; None where it isn't refuted.
-pub fn item_count(
-    alloc: Global,
-    graph: &Graph,
-    fault: &Fault,
-    depth: u8,
-) -> Result<Option<usize>, Fail>
-    requires pin { HasPin (net_of graph.now) fault.now }
-    requires depth { depth ≤ 2 }
+pub fn item_count(alloc: Global, question: &Question<'_>, depth: u8) -> Result<Option<usize>, Fail>
+    requires { depth ≤ 2 }
 {
-    let mut engine = Engine::new(alloc, graph)?;
-    match refute(alloc, &mut engine, graph, fault, depth)? {
+    let mut engine = Engine::new(alloc, question.graph)?;
+    match refute(alloc, &mut engine, question, depth)? {
         Closed::Clash(tree) => {
-            accept(alloc, graph, fault, &tree)?;
+            accept(alloc, question, &tree)?;
             Ok(Some(tree.items().len()))
         }
         Closed::Open(_) => Ok(None),
@@ -209,8 +200,12 @@ const CASES: [Case; 6] = [
 fn is_right(alloc: Global, case: &Case) -> Result<bool, Fail> {
     let graph = wired(alloc, &case.wiring)?;
     let fault = fault_at(&graph, case.fault.0, case.fault.1, case.fault.2)?;
+    let question = Question {
+        graph: &graph,
+        fault,
+    };
     for depth in 0..3u8 {
-        let refuted = item_count(alloc, &graph, &fault, depth)?.is_some();
+        let refuted = item_count(alloc, &question, depth)?.is_some();
         if refuted != (depth >= case.from) {
             return Ok(false);
         }
@@ -272,7 +267,7 @@ fn is_short(alloc: Global, graph: &Graph, case: &Short) -> Result<bool, Fail> {
         return Err("too deep".into());
     }
     let fault = fault_at(graph, case.fault.0, case.fault.1, case.fault.2)?;
-    match item_count(alloc, graph, &fault, case.depth)? {
+    match item_count(alloc, &Question { graph, fault }, case.depth)? {
         Some(items) => Ok(items <= case.most),
         None => Ok(false),
     }

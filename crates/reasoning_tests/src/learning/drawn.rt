@@ -3,7 +3,7 @@ ghost use Rattle.std.specs.Prelude.{◌≤◌};
 
 use super::answers::item_count;
 use crate::assignments::some_detects;
-use gate_graph::Graph;
+use gate_graph::{Graph, Question};
 use rm_base::{Fault, NodeId};
 use std::alloc::Global;
 use std::test::Fail;
@@ -43,10 +43,14 @@ fn is_sound(alloc: Global, graph: &Graph, fault: &Fault) -> Result<bool, Fail> {
     let Some(_) = graph.driver(fault.gate, fault.position) else {
         return Ok(true);
     };
-    let detected = some_detects(alloc, graph, fault)?;
+    let question = Question {
+        graph,
+        fault: *fault,
+    };
+    let detected = some_detects(alloc, &question)?;
     let mut before = false;
     for depth in 0..3u8 {
-        let refuted = item_count(alloc, graph, fault, depth)?.is_some();
+        let refuted = item_count(alloc, &question, depth)?.is_some();
         if detected && refuted {
             return Ok(false);
         }

@@ -1,13 +1,12 @@
 // One refuter over many faults, depths and nets, against a fresh refutation of each.
 ghost use Rattle.std.specs.Prelude.{◌≤◌, OnOk};
 ghost use Rattle.gate_graph.specs.Circuit.{net_of};
-ghost use Rattle.gate_net.specs.Values.{HasPin};
 ghost use Rattle.recursive_learning.specs.Serving.{IsServing};
 
 use super::answers::accept;
 use super::drawn::{GATES, drawn};
 use crate::facts::hold_same;
-use gate_graph::Graph;
+use gate_graph::{Graph, Question};
 use implications::{Closed, Engine};
 use recursive_learning::refute;
 use recursive_learning::refuter::Refuter;
@@ -17,31 +16,27 @@ use std::alloc::Global;
 use std::test::Fail;
 
 // What a fresh refutation answers.
-fn refuted_anew(alloc: Global, graph: &Graph, fault: &Fault, depth: u8) -> Result<Closed, NoMemory>
-    requires pin { HasPin (net_of graph.now) fault.now }
-    requires depth { depth ≤ 2 }
+fn refuted_anew(alloc: Global, question: &Question<'_>, depth: u8) -> Result<Closed, NoMemory>
+    requires { depth ≤ 2 }
 {
-    let mut engine = Engine::new(alloc, graph)?;
-    refute(alloc, &mut engine, graph, fault, depth)
+    let mut engine = Engine::new(alloc, question.graph)?;
+    refute(alloc, &mut engine, question, depth)
 }
 
 // Whether a tree that is accepted, or these facts, are what a fresh refutation answers too.
 fn is_same(
     alloc: Global,
-    graph: &Graph,
-    fault: &Fault,
+    question: &Question<'_>,
     fresh: &Closed,
     answer: &Option<Tree>,
     held: &FactSet,
-) -> Result<bool, Fail>
-    requires { HasPin (net_of graph.now) fault.now }
-{
+) -> Result<bool, Fail> {
     match (fresh, answer) {
         (Closed::Clash(_), Some(tree)) => {
-            accept(alloc, graph, fault, tree)?;
+            accept(alloc, question, tree)?;
             Ok(true)
         }
-        (Closed::Open(facts), None) => Ok(hold_same(facts, held, graph.node_bound())),
+        (Closed::Open(facts), None) => Ok(hold_same(facts, held, question.graph.node_bound())),
         _ => Ok(false),
     }
 }
@@ -50,18 +45,16 @@ fn is_same(
 fn agrees(
     alloc: Global,
     refuter: &mut Refuter,
-    graph: &Graph,
-    fault: &Fault,
+    question: &Question<'_>,
     depth: u8,
 ) -> Result<bool, Fail>
-    requires pin { HasPin (net_of graph.now) fault.now }
-    requires serves { IsServing (net_of graph.now) refuter.old }
+    requires serves { IsServing (net_of question.now.graph.now) refuter.old }
     requires depth { depth ≤ 2 }
-    ensures { OnOk result (IsServing (net_of graph.now) refuter.new) }
+    ensures { OnOk result (IsServing (net_of question.now.graph.now) refuter.new) }
 {
-    let fresh = refuted_anew(alloc, graph, fault, depth)?;
-    let answer = refuter.refute(graph, fault, depth)?;
-    is_same(alloc, graph, fault, &fresh, &answer, refuter.facts())
+    let fresh = refuted_anew(alloc, question, depth)?;
+    let answer = refuter.refute(question, depth)?;
+    is_same(alloc, question, &fresh, &answer, refuter.facts())
 }
 
 // The same at each depth, and what closing answers is what refuting at depth 0 does.
@@ -77,11 +70,15 @@ fn agrees_at_all(
     let Some(_) = graph.driver(fault.gate, fault.position) else {
         return Ok(true);
     };
-    let deep = agrees(alloc, refuter, graph, fault, 2)?;
-    let none = agrees(alloc, refuter, graph, fault, 0)?;
-    let one = agrees(alloc, refuter, graph, fault, 1)?;
-    let clash = refuter.close(graph, fault)?;
-    let refuted = refuter.refute(graph, fault, 0)?.is_some();
+    let question = Question {
+        graph,
+        fault: *fault,
+    };
+    let deep = agrees(alloc, refuter, &question, 2)?;
+    let none = agrees(alloc, refuter, &question, 0)?;
+    let one = agrees(alloc, refuter, &question, 1)?;
+    let clash = refuter.close(&question)?;
+    let refuted = refuter.refute(&question, 0)?.is_some();
     Ok(deep && none && one && clash == refuted)
 }
 

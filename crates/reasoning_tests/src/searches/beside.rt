@@ -5,7 +5,7 @@ ghost use Rattle.podem.specs.Searchers.{Serves};
 
 use super::drawn::{ENOUGH, GATES, SOURCES};
 use super::used::same_verdict;
-use gate_graph::Graph;
+use gate_graph::{Graph, Question};
 use podem::{Searcher, search};
 use rm_base::{Fault, NoMemory, NodeId};
 use std::alloc::Global;
@@ -51,7 +51,7 @@ fn search_chain(searcher: &mut Searcher, graph: &Graph, number: u32) -> Result<(
 {
     let gate = 2 + SOURCES + GATES + number % MORE;
     let fault = fault_at(graph, gate, number % 2, number % 3 == 0)?;
-    searcher.search(graph, &fault, 3)?;
+    searcher.search(&Question { graph, fault }, 3)?;
     Ok(())
 }
 
@@ -72,10 +72,18 @@ fn same_at(
     let Some(_) = alone.driver(fault.gate, fault.position) else {
         return Ok(false);
     };
-    let few = searcher.search(graph, fault, 3)?;
-    let all = searcher.search(graph, fault, ENOUGH)?;
-    let few_alone = search(alloc, alone, fault, 3)?;
-    let all_alone = search(alloc, alone, fault, ENOUGH)?;
+    let beside = Question {
+        graph,
+        fault: *fault,
+    };
+    let few = searcher.search(&beside, 3)?;
+    let all = searcher.search(&beside, ENOUGH)?;
+    let apart = Question {
+        graph: alone,
+        fault: *fault,
+    };
+    let few_alone = search(alloc, &apart, 3)?;
+    let all_alone = search(alloc, &apart, ENOUGH)?;
     Ok(same_verdict(&few, &few_alone) && same_verdict(&all, &all_alone))
 }
 

@@ -1,11 +1,10 @@
 // Every fault of fifty drawn nets at every budget up to one that is enough, against all assignments, and every tree before
 // the checker.
 ghost use Rattle.gate_graph.specs.Circuit.{net_of};
-ghost use Rattle.gate_net.specs.Values.{HasPin};
 ghost use Rattle.podem.specs.Searchers.{Serves};
 
 use crate::assignments::{detects, some_detects};
-use gate_graph::Graph;
+use gate_graph::{Graph, Question};
 use podem::{Searcher, Verdict};
 use refutation::{Form, Tree};
 use refutation_check::check_tree;
@@ -41,10 +40,8 @@ fn number_of(bits: &[bool]) -> u32 {
 }
 
 // How many edges the checker counts in a tree that it accepts.
-fn edges_of(alloc: Global, graph: &Graph, fault: &Fault, tree: &Tree, form: Form) -> Option<u64>
-    requires { HasPin (net_of graph.now) fault.now }
-{
-    match check_tree(alloc, graph, fault, tree, form) {
+fn edges_of(alloc: Global, question: &Question<'_>, tree: &Tree, form: Form) -> Option<u64> {
+    match check_tree(alloc, question, tree, form) {
         Ok(shape) => Some(shape.edges),
         Err(_) => None,
     }
@@ -54,24 +51,21 @@ fn edges_of(alloc: Global, graph: &Graph, fault: &Fault, tree: &Tree, form: Form
 // many edges as were allowed, fewer than are always enough.
 fn is_right(
     alloc: Global,
-    graph: &Graph,
-    fault: &Fault,
+    question: &Question<'_>,
     budget: u32,
     verdict: &Verdict,
-) -> Result<bool, NoMemory>
-    requires { HasPin (net_of graph.now) fault.now }
-{
+) -> Result<bool, NoMemory> {
     match verdict {
         Verdict::Detected(vector) => {
-            let mut sim = Sim::new(alloc, graph)?;
-            Ok(detects(&mut sim, graph, fault, number_of(vector.values())))
+            let mut sim = Sim::new(alloc, question.graph)?;
+            Ok(detects(&mut sim, question, number_of(vector.values())))
         }
         Verdict::Refuted(tree) => {
-            let closed = edges_of(alloc, graph, fault, tree, Form::Closed).is_some();
-            Ok(closed && !some_detects(alloc, graph, fault)?)
+            let closed = edges_of(alloc, question, tree, Form::Closed).is_some();
+            Ok(closed && !some_detects(alloc, question)?)
         }
         Verdict::Spent(tree) => {
-            let edges = edges_of(alloc, graph, fault, tree, Form::Partial);
+            let edges = edges_of(alloc, question, tree, Form::Partial);
             Ok(edges == Some(budget as u64) && budget < ENOUGH)
         }
     }
@@ -97,9 +91,13 @@ fn all_right(
     let Some(_) = graph.driver(fault.gate, fault.position) else {
         return Ok(true);
     };
+    let question = Question {
+        graph,
+        fault: *fault,
+    };
     for budget in 1..ENOUGH + 1 {
-        let verdict = searcher.search(graph, fault, budget)?;
-        if !is_right(alloc, graph, fault, budget, &verdict)? {
+        let verdict = searcher.search(&question, budget)?;
+        if !is_right(alloc, &question, budget, &verdict)? {
             return Ok(false);
         }
         if !is_spent(&verdict) {

@@ -3,7 +3,7 @@ ghost use Rattle.gate_graph.specs.Circuit.{net_of};
 ghost use Rattle.podem.specs.Searchers.{Serves};
 
 use super::drawn::{ENOUGH, GATES, SOURCES, drawn};
-use gate_graph::Graph;
+use gate_graph::{Graph, Question};
 use podem::{Searcher, Verdict, search};
 use rm_base::{Fault, NoMemory, NodeId};
 use std::alloc::Global;
@@ -31,10 +31,14 @@ fn same_at(
     let Some(_) = graph.driver(fault.gate, fault.position) else {
         return Ok(true);
     };
-    let few = searcher.search(graph, fault, 3)?;
-    let all = searcher.search(graph, fault, ENOUGH)?;
-    let fresh_few = search(alloc, graph, fault, 3)?;
-    let fresh_all = search(alloc, graph, fault, ENOUGH)?;
+    let question = Question {
+        graph,
+        fault: *fault,
+    };
+    let few = searcher.search(&question, 3)?;
+    let all = searcher.search(&question, ENOUGH)?;
+    let fresh_few = search(alloc, &question, 3)?;
+    let fresh_all = search(alloc, &question, ENOUGH)?;
     Ok(same_verdict(&few, &fresh_few) && same_verdict(&all, &fresh_all))
 }
 

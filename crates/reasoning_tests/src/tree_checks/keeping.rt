@@ -1,6 +1,6 @@
 // One checker over many faults, on two nets and on a net that changes, against a fresh one each time.
 use super::{Case, ON_FOUR_GATES, ON_ONE_GATE, tree_of};
-use gate_graph::Graph;
+use gate_graph::{Graph, Question};
 use refutation::{Form, Item, Line, Shape};
 use refutation_check::{CheckRefusal, TreeChecker, check_tree};
 use rm_base::NodeId;
@@ -17,10 +17,11 @@ fn keeps(
     case: &Case,
 ) -> Result<bool, Fail> {
     let fault = fault_at(graph, case.fault.0, case.fault.1, case.fault.2)?;
+    let question = Question { graph, fault };
     let tree = tree_of(alloc, case.items)?;
     checker.reserve(graph.node_bound())?;
-    let kept = checker.check(graph, &fault, &tree, case.form);
-    let fresh = check_tree(alloc, graph, &fault, &tree, case.form);
+    let kept = checker.check(&question, &tree, case.form);
+    let fresh = check_tree(alloc, &question, &tree, case.form);
     Ok(kept == case.answer && fresh == case.answer)
 }
 

@@ -12,5 +12,5 @@ loop-fault-preserved c = record {
   searches = c.in_ok-verdict.ensures.searches (net_of c.args.graph.now) c.loop-fault.invariant.searches;
 }
 
-pub answer-requires-clause-pin : goal.answer-requires-clause-pin
-answer-requires-clause-pin c = c.requires.pins c.loop-fault.fault-index _ (slice_get-get_or c.args.faults.now c.loop-fault.fault-index _ c.loop-fault-test.true)
+pub invariant_of-question : goal.invariant_of-question
+invariant_of-question c = record { pin = c.requires.pins c.loop-fault.fault-index _ (slice_get-get_or c.args.faults.now c.loop-fault.fault-index _ c.loop-fault-test.true) }

@@ -6,8 +6,8 @@ use Rattle.closing_pass.specs.Trying.{AreInLanes}
 use Rattle.closing_pass.proofs.Tries.{tried_more, tried_all}
 use Rattle.closing_pass.proofs.trying.try_on_each.Goals as goal
 
-pub try_on-requires-clause-pin : goal.try_on-requires-clause-pin
-try_on-requires-clause-pin c = c.requires.pins c.loop-place.place _ (slice_get-get_or c.args.faults.now c.loop-place.place _ c.loop-place-test.true)
+pub invariant_of-question : goal.invariant_of-question
+invariant_of-question c = record { pin = c.requires.pins c.loop-place.place _ (slice_get-get_or c.args.faults.now c.loop-place.place _ c.loop-place-test.true) }
 
 pub try_on-requires-clause-packed : goal.try_on-requires-clause-packed
 try_on-requires-clause-packed c = subst (λ (s : LaneState). AreInLanes c.args.kept.now c.args.first c.args.count s.words) (sym c.loop-place.invariant.same) c.requires.packed

@@ -12,14 +12,14 @@ first_in-requires-clause-block c = c.requires.blocks c.loop-number.number _ (blo
 pub returns-in-Some-clause-first : goal.returns-in-Some-clause-first
 returns-in-Some-clause-first c =
     let size : length (words_of c.args.blocks.now) ≡ length c.args.blocks.now = length-map c.args.blocks.now (λ (b : Block). b.words.items) in
-    found_first (net_of c.args.graph.now) c.args.fault.now (words_of c.args.blocks.now) c.loop-number.number c.in-Some.lane (let less = c.loop-number-test.true in omega arith) c.loop-number.invariant.none
-    (lane_in (net_of c.args.graph.now) c.args.fault.now c.args.blocks.now c.loop-number.number _ (Some c.in-Some.lane) (block_read c.args.blocks.now c.loop-number.number c.index-blocks-number.result c.loop-number-test.true c.index-blocks-number.is) c.in-Some.ensures.first)
+    found_first (net_of c.args.question.now.graph.now) c.args.question.now.fault (words_of c.args.blocks.now) c.loop-number.number c.in-Some.lane (let less = c.loop-number-test.true in omega arith) c.loop-number.invariant.none
+    (lane_in (net_of c.args.question.now.graph.now) c.args.question.now.fault c.args.blocks.now c.loop-number.number _ (Some c.in-Some.lane) (block_read c.args.blocks.now c.loop-number.number c.index-blocks-number.result c.loop-number-test.true c.index-blocks-number.is) c.in-Some.ensures.first)
 
 pub loop-number-preserved : goal.loop-number-preserved
 loop-number-preserved c = record {
   placed = c.in_default.ensures.placed;
-  none = missed_more (net_of c.args.graph.now) c.args.fault.now (words_of c.args.blocks.now) c.loop-number.number c.loop-number.invariant.none
-      (lane_in (net_of c.args.graph.now) c.args.fault.now c.args.blocks.now c.loop-number.number _ None (block_read c.args.blocks.now c.loop-number.number c.index-blocks-number.result c.loop-number-test.true c.index-blocks-number.is) c.in_default.ensures.first);
+  none = missed_more (net_of c.args.question.now.graph.now) c.args.question.now.fault (words_of c.args.blocks.now) c.loop-number.number c.loop-number.invariant.none
+      (lane_in (net_of c.args.question.now.graph.now) c.args.question.now.fault c.args.blocks.now c.loop-number.number _ None (block_read c.args.blocks.now c.loop-number.number c.index-blocks-number.result c.loop-number-test.true c.index-blocks-number.is) c.in_default.ensures.first);
 }
 
 pub returns-clause-first : goal.returns-clause-first

@@ -7,5 +7,5 @@ use Rattle.fault_sim.proofs.blocks.first_of.Given as goal
 abbrev pub invariant-loop-number : goal.invariant-loop-number
 invariant-loop-number l = record {
   placed : ArePlaced (map (λ n. n.0) l.order) l.places l.spread;
-  none : (n : ℕ) → n < 64 * l.number → Detects (net_of l.graph) l.fault (vector_of (words_of l.blocks) n) → ⊥;
+  none : (n : ℕ) → n < 64 * l.number → Detects (net_of l.question.graph.now) l.question.fault (vector_of (words_of l.blocks) n) → ⊥;
 }

@@ -1,12 +1,9 @@
-use Rattle.std.proofs.Common.{List, ap, length, length-set, map, subst, sym, ℕ, ◌<◌, ◌∙◌}
+use Rattle.std.proofs.Common.{ap, length, length-set, subst, sym, ℕ, ◌<◌, ◌∙◌}
 use Rattle.gate_graph.specs.Circuit.{net_of}
-use Rattle.rm_base.specs.declared.numbers.NodeId.{NodeId}
 use Rattle.fault_sim.proofs.Blocking.{block_read, followed_more}
 use Rattle.fault_sim.specs.declared.blocks.Block.{Block}
+use Rattle.fault_sim.proofs.Numbers.{numbers}
 use Rattle.fault_sim.proofs.blocks.follow_all.Goals as goal
-
-abbrev numbers : List NodeId → List ℕ
-numbers order = map (λ (n : NodeId). n.0) order
 
 pub loop-block-preserved : goal.loop-block-preserved
 loop-block-preserved c = record {

@@ -1,17 +1,14 @@
-use Rattle.std.proofs.Common.{List, Some, [], map, subst, ℕ, ◌∷◌, ◌≡◌}
+use Rattle.std.proofs.Common.{Some, [], subst, ℕ, ◌∷◌, ◌≡◌}
 use Rattle.std.specs.Prelude.{slice_get}
 use Rattle.gate_graph.specs.Changes.{Edits}
 use Rattle.gate_graph.specs.Circuit.{Circuit, net_of}
 use Rattle.gate_graph.specs.declared.editing.Edit.{Edit}
 use Rattle.gate_net.specs.Edits.{DiffersAt}
 use Rattle.gate_net.specs.Net.{Reads}
-use Rattle.rm_base.specs.declared.numbers.NodeId.{NodeId}
 use Rattle.fault_sim.proofs.ChangedNodes.{drivers_changed, if_ok, least_same, one_changed, readers_changed}
 use Rattle.gate_net.specs.Edits.{IsSameBut}
+use Rattle.fault_sim.proofs.Numbers.{numbers}
 use Rattle.fault_sim.proofs.changed.changed_by.Goals as goal
-
-abbrev numbers : List NodeId → List ℕ
-numbers nodes = map (λ (n : NodeId). n.0) nodes
 
 pub returns-in-Append : goal.returns-in-Append
 returns-in-Append c =

@@ -1,4 +1,4 @@
-use Rattle.std.proofs.Common.{◌-◌, ◌<◌, ◌≡◌, ◌≢◌, ◌≤◌, None, length, ℕ}
+use Rattle.std.proofs.Common.{◌-◌, ◌<◌, ◌≢◌, ◌≤◌, None, length, ℕ}
 use Rattle.gate_graph.specs.Circuit.{net_of}
 use Rattle.gate_net.specs.Net.{kind_of}
 use Rattle.fault_sim.proofs.changed.first_free.Given as goal

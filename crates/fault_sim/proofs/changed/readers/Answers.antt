@@ -1,4 +1,4 @@
-use Rattle.std.proofs.Common.{List, ap, map, ℕ, ◌++◌, ◌∙◌, ◌∷◌, [], ◌≡◌}
+use Rattle.std.proofs.Common.{List, ap, map, ◌++◌, ◌∙◌, ◌∷◌, []}
 use Rattle.gate_graph.specs.Circuit.{fanouts_of}
 use Rattle.refutation.proofs.Public.{yielded_more}
 use Rattle.rm_base.specs.declared.numbers.NodeId.{NodeId}

@@ -1,14 +1,12 @@
-use Rattle.std.proofs.Common.{List, arith, inl, inr, length, map, subst, sym, ℕ, ◌≡◌}
+use Rattle.std.proofs.Common.{arith, inl, inr, length, subst, sym, ℕ, ◌≡◌}
 use Rattle.std.proofs.lemmas.List.{length-map}
 use Rattle.gate_graph.specs.Circuit.{net_of}
 use Rattle.rm_base.specs.declared.numbers.NodeId.{NodeId}
 use Rattle.fault_sim.proofs.Detection.{detects}
 use Rattle.fault_sim.proofs.Lists.{below_or}
 use Rattle.fault_sim.specs.Spreading.{IsSpread}
+use Rattle.fault_sim.proofs.Numbers.{numbers}
 use Rattle.fault_sim.proofs.detecting.found_by.Goals as goal
-
-abbrev numbers : List NodeId → List ℕ
-numbers order = map (λ (n : NodeId). n.0) order
 
 pub rest-requires-clause-idle : goal.rest-requires-clause-idle
 rest-requires-clause-idle c k =
@@ -17,7 +15,7 @@ rest-requires-clause-idle c k =
 
 pub returns-clause-detects : goal.returns-clause-detects
 returns-clause-detects c i h =
-    let P : ℕ → Type 0 = λ n. IsSpread (net_of c.args.graph.now) c.args.fault.now c.args.words.now (numbers c.args.order.now) c.args.good.now c.spread_fault-found.new.spread n c.spread_fault-found.result in
-    detects (net_of c.args.graph.now) c.args.fault.now c.args.words.now (numbers c.args.order.now) c.args.places.now c.args.good.now c.well_formed-2.ensures.net c.requires.order
+    let P : ℕ → Type 0 = λ n. IsSpread (net_of c.args.question.now.graph.now) c.args.question.now.fault c.args.words.now (numbers c.args.order.now) c.args.good.now c.spread_fault-found.new.spread n c.spread_fault-found.result in
+    detects (net_of c.args.question.now.graph.now) c.args.question.now.fault c.args.words.now (numbers c.args.order.now) c.args.places.now c.args.good.now c.well_formed-2.ensures.net c.requires.order
     c.values_exist.ensures c.faulty_values_exist.ensures c.requires.values c.spread_fault-found.new.spread c.spread_fault-found.result c.spread_fault-found.ensures.lanes
     (subst P (sym (length-map c.args.order.now (λ (n : NodeId). n.0))) c.spread_fault-found.ensures.spread) i h

@@ -1,13 +1,11 @@
-use Rattle.std.proofs.Common.{List, length, map, refl, sym, ℕ, ◌∙◌, ◌≡◌}
+use Rattle.std.proofs.Common.{length, refl, sym, ◌∙◌}
 use Rattle.std.proofs.lemmas.List.{length-map}
 use Rattle.gate_graph.specs.Circuit.{net_of}
 use Rattle.rm_base.specs.declared.numbers.NodeId.{NodeId}
 use Rattle.fault_sim.proofs.Blocking.{placed_again}
 use Rattle.fault_sim.proofs.CatchingUp.{all_right, begin, lanes_touched, others_false, rests}
+use Rattle.fault_sim.proofs.Numbers.{numbers}
 use Rattle.fault_sim.proofs.following.catch_up.Goals as goal
-
-abbrev numbers : List NodeId → List ℕ
-numbers order = map (λ (n : NodeId). n.0) order
 
 pub reread-requires-clause-lanes : goal.reread-requires-clause-lanes
 reread-requires-clause-lanes c =

@@ -1,11 +1,8 @@
-use Rattle.std.proofs.Common.{List, map, ℕ, length}
+use Rattle.std.proofs.Common.{length}
 use Rattle.gate_graph.specs.Circuit.{net_of}
-use Rattle.rm_base.specs.declared.numbers.NodeId.{NodeId}
 use Rattle.fault_sim.proofs.CatchingUp.{skip_to}
+use Rattle.fault_sim.proofs.Numbers.{numbers}
 use Rattle.fault_sim.proofs.following.reread.Goals as goal
-
-abbrev numbers : List NodeId → List ℕ
-numbers order = map (λ (n : NodeId). n.0) order
 
 pub reread_at-requires-clause-rereading : goal.reread_at-requires-clause-rereading
 reread_at-requires-clause-rereading c =

@@ -1,19 +1,13 @@
-use Rattle.std.proofs.Common.{List, None, Some, arith, get_or, length, map, refl, sym, ℕ, ◌+◌, ◌/◌, ◌<◌, ◌∙◌, ◌≡◌}
+use Rattle.std.proofs.Common.{None, Some, arith, get_or, length, refl, sym, ◌+◌, ◌/◌, ◌<◌, ◌∙◌, ◌≡◌}
 use Rattle.std.proofs.lemmas.List.{get_or_read}
-use Rattle.std.specs.Prelude.{slice_get, slice_index}
+use Rattle.std.specs.Prelude.{slice_index}
 use Rattle.gate_graph.specs.Circuit.{net_of}
 use Rattle.refutation.proofs.Public.{slice_get_below}
-use Rattle.rm_base.specs.declared.numbers.NodeId.{NodeId}
 use Rattle.fault_sim.proofs.CatchingUp.{again_changed, again_kept, lanes_again}
 use Rattle.fault_sim.proofs.Lists.{number_at}
 use Rattle.fault_sim.proofs.ReadInOrder.{drivers_within, good_read, reader_not_dead}
+use Rattle.fault_sim.proofs.Numbers.{numbers, zero_node}
 use Rattle.fault_sim.proofs.following.reread_at.Goals as goal
-
-abbrev zero_node : NodeId
-zero_node = record { 0 = 0 }
-
-abbrev numbers : List NodeId → List ℕ
-numbers order = map (λ (n : NodeId). n.0) order
 
 pub good_word-word-requires-clause-drivers : goal.good_word-word-requires-clause-drivers
 good_word-word-requires-clause-drivers c =

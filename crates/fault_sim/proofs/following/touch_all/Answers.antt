@@ -1,17 +1,11 @@
-use Rattle.std.proofs.Common.{List, arith, get_or, length, map, refl, subst, ℕ, ◌<◌, ◌∙◌, ◌≡◌}
+use Rattle.std.proofs.Common.{arith, get_or, length, refl, subst, ℕ, ◌<◌, ◌∙◌, ◌≡◌}
 use Rattle.std.specs.Prelude.{slice_index}
 use Rattle.gate_graph.specs.Circuit.{net_of}
-use Rattle.rm_base.specs.declared.numbers.NodeId.{NodeId}
 use Rattle.fault_sim.proofs.CatchingUp.{place_below, place_within, touched_more, touched_none}
 use Rattle.fault_sim.proofs.Lists.{number_at}
 use Rattle.fault_sim.specs.Following.{AreTouched}
+use Rattle.fault_sim.proofs.Numbers.{numbers, zero_node}
 use Rattle.fault_sim.proofs.following.touch_all.Goals as goal
-
-abbrev zero_node : NodeId
-zero_node = record { 0 = 0 }
-
-abbrev numbers : List NodeId → List ℕ
-numbers order = map (λ (n : NodeId). n.0) order
 
 pub touch-requires-clause-within : goal.touch-requires-clause-within
 touch-requires-clause-within c live = place_within (net_of c.args.graph.now) (numbers c.args.order.now) c.args.places.now c.requires.order c.requires.within _ live

@@ -3,7 +3,6 @@ use Rattle.std.proofs.Math.Seq.{take-length}
 use Rattle.std.proofs.lemmas.List.{length-map}
 use Rattle.std.specs.List.{fold}
 use Rattle.std.specs.Prelude.{slice_get, slice_index}
-use Rattle.rm_base.specs.declared.numbers.NodeId.{NodeId}
 use Rattle.gate_net.proofs.Public.{map_at}
 use Rattle.refutation.proofs.Public.{yielded_all, yielded_at, yielded_more}
 use Rattle.fault_sim.proofs.Lists.{fold_take}

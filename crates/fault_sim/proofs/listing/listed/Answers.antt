@@ -1,4 +1,4 @@
-use Rattle.std.proofs.Common.{List, arith, length, map, subst, sym, ℕ, ◌<◌, ◌∙◌, ◌≡◌, ◌≤◌}
+use Rattle.std.proofs.Common.{arith, length, subst, sym, ◌<◌, ◌∙◌}
 use Rattle.std.proofs.lemmas.List.{length-map}
 use Rattle.gate_graph.specs.Circuit.{net_of}
 use Rattle.rm_base.specs.declared.numbers.NodeId.{NodeId}
@@ -6,10 +6,8 @@ use Rattle.fault_sim.proofs.Blocking.{placed_new}
 use Rattle.fault_sim.proofs.ReadInOrder.{order_below}
 use Rattle.fault_sim.specs.Pending.{HasRoom}
 use Rattle.fault_sim.specs.Simulating.{IsWithin}
+use Rattle.fault_sim.proofs.Numbers.{numbers}
 use Rattle.fault_sim.proofs.listing.listed.Goals as goal
-
-abbrev numbers : List NodeId → List ℕ
-numbers order = map (λ (n : NodeId). n.0) order
 
 pub places_of-requires-clause-below : goal.places_of-requires-clause-below
 places_of-requires-clause-below c k x there =

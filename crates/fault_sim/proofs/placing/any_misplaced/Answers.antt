@@ -1,4 +1,4 @@
-use Rattle.std.proofs.Common.{List, None, Some, ap, arith, get_or, inl, inr, length, map, subst, sym, ℕ, ◌<◌, ◌∙◌, ◌≡◌, ◌≢◌}
+use Rattle.std.proofs.Common.{None, Some, ap, arith, get_or, inl, inr, length, subst, sym, ℕ, ◌<◌, ◌∙◌, ◌≡◌, ◌≢◌}
 use Rattle.std.proofs.lemmas.Bool.Decides.{eqb_tells}
 use Rattle.std.proofs.lemmas.List.{length-map}
 use Rattle.std.specs.Prelude.{slice_get}
@@ -8,13 +8,8 @@ use Rattle.refutation.proofs.Public.{slice_get_below}
 use Rattle.rm_base.specs.declared.numbers.NodeId.{NodeId}
 use Rattle.fault_sim.proofs.Lists.{number_at}
 use Rattle.fault_sim.specs.Following.{Stands}
+use Rattle.fault_sim.proofs.Numbers.{numbers, zero_node}
 use Rattle.fault_sim.proofs.placing.any_misplaced.Goals as goal
-
-abbrev zero_node : NodeId
-zero_node = record { 0 = 0 }
-
-abbrev numbers : List NodeId → List ℕ
-numbers order = map (λ (n : NodeId). n.0) order
 
 pub loop-node-preserved : goal.loop-node-preserved
 loop-node-preserved c k y less there =

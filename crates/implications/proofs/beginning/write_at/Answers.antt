@@ -8,11 +8,11 @@ use Rattle.refutation.specs.declared.reasoning.Line.TheVariants.{Out}
 
 pub returns-in_default : goal.returns-in_default
 returns-in_default c before w =
-    writes_skip (net_of c.args.graph.now) c.args.fault.now c.args.node.0 before c.args.tree.now w
-    (answer_never (net_of c.args.graph.now) c.args.fault.now none_held (Out c.args.node) c.line_out_marked.result c.in_default.is (c.line_out_marked.ensures none_held))
+    writes_skip (net_of c.args.question.now.graph.now) c.args.question.now.fault c.args.node.0 before c.args.tree.now w
+    (answer_never (net_of c.args.question.now.graph.now) c.args.question.now.fault none_held (Out c.args.node) c.line_out_marked.result c.in_default.is (c.line_out_marked.ensures none_held))
 
 pub returns : goal.returns
 returns c =
     works_ok _ _ c.push.result (λ is before w.
-    writes_more (net_of c.args.graph.now) c.args.fault.now c.args.node.0 before c.args.tree.now c.push.new.self c.in-Some._outside.0 c.in-Some._fact w
-    (answer_some (net_of c.args.graph.now) c.args.fault.now none_held (Out c.args.node) c.line_out_marked.result (c.in-Some._outside, c.in-Some._fact) c.in-Some.is (c.line_out_marked.ensures none_held)) is) c.push.ensures.ok
+    writes_more (net_of c.args.question.now.graph.now) c.args.question.now.fault c.args.node.0 before c.args.tree.now c.push.new.self c.in-Some._outside.0 c.in-Some._fact w
+    (answer_some (net_of c.args.question.now.graph.now) c.args.question.now.fault none_held (Out c.args.node) c.line_out_marked.result (c.in-Some._outside, c.in-Some._fact) c.in-Some.is (c.line_out_marked.ensures none_held)) is) c.push.ensures.ok

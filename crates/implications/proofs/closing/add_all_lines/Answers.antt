@@ -21,9 +21,9 @@ work_off-requires-clause-pending c = c.in_ok-clash-2.ensures.pending (c.in_ok-cl
 
 pub returns-clause-closes : goal.returns-clause-closes
 returns-clause-closes c =
-    let one = gives_none c.give_on_chain.new.facts (AreDoneOnChain (net_of c.args.graph.now) c.args.fault.now c.give_on_chain.new.facts) c.in_ok-clash.field-0 c.in_default.is c.in_ok-clash.ensures.gives in
-    let two = gives_none c.give_at_fault.new.facts (AreDoneAtFault (net_of c.args.graph.now) c.args.fault.now c.give_at_fault.new.facts) c.in_ok-clash-2.field-0 c.in_default-2.is c.in_ok-clash-2.ensures.gives in
-    closes_ok (net_of c.args.graph.now) c.args.fault.now c.give_at_fault.new.facts c.work_off.new.facts c.work_off.result
-    (has_first (net_of c.args.graph.now) c.args.fault.now c.give_at_fault.new.facts two.1 (on_chain_stays (net_of c.args.graph.now) c.args.fault.now c.give_on_chain.new.facts c.give_at_fault.new.facts c.give_at_fault.ensures.keeps.more one.1)
-    (outside_stays (net_of c.args.graph.now) c.args.fault.now c.args.facts.now c.give_at_fault.new.facts (λ x fact e. c.give_at_fault.ensures.keeps.more x fact (c.give_on_chain.ensures.keeps.more x fact e)) c.requires.outside))
+    let one = gives_none c.give_on_chain.new.facts (AreDoneOnChain (net_of c.args.question.now.graph.now) c.args.question.now.fault c.give_on_chain.new.facts) c.in_ok-clash.field-0 c.in_default.is c.in_ok-clash.ensures.gives in
+    let two = gives_none c.give_at_fault.new.facts (AreDoneAtFault (net_of c.args.question.now.graph.now) c.args.question.now.fault c.give_at_fault.new.facts) c.in_ok-clash-2.field-0 c.in_default-2.is c.in_ok-clash-2.ensures.gives in
+    closes_ok (net_of c.args.question.now.graph.now) c.args.question.now.fault c.give_at_fault.new.facts c.work_off.new.facts c.work_off.result
+    (has_first (net_of c.args.question.now.graph.now) c.args.question.now.fault c.give_at_fault.new.facts two.1 (on_chain_stays (net_of c.args.question.now.graph.now) c.args.question.now.fault c.give_on_chain.new.facts c.give_at_fault.new.facts c.give_at_fault.ensures.keeps.more one.1)
+    (outside_stays (net_of c.args.question.now.graph.now) c.args.question.now.fault c.args.facts.now c.give_at_fault.new.facts (λ x fact e. c.give_at_fault.ensures.keeps.more x fact (c.give_on_chain.ensures.keeps.more x fact e)) c.requires.outside))
     c.work_off.ensures.keeps.more c.work_off.ensures.ending

@@ -9,24 +9,24 @@ pub touch-requires-clause-new : goal.touch-requires-clause-new
 touch-requires-clause-new c = unknown_good c.args.facts.now c.args.node.0 c.args.value c.requires.free c.requires.unknown
 
 pub touch-requires-clause-tallied : goal.touch-requires-clause-tallied
-touch-requires-clause-tallied c = tallied_none (net_of c.args.graph.now) (held_by c.args.facts.now) c.args.fault.now.position c.args.tallies.now c.requires.uncounted
+touch-requires-clause-tallied c = tallied_none (net_of c.args.question.now.graph.now) (held_by c.args.facts.now) c.args.question.now.fault.position c.args.tallies.now c.requires.uncounted
 
 pub work_off-requires-clause-tallied : goal.work_off-requires-clause-tallied
-work_off-requires-clause-tallied c = tallied_by (net_of c.args.graph.now) c.args.facts.now c.insert.new.self c.args.node.0 (Good c.args.value) c.args.fault.now.position c.touch.new.tallies c.insert.ensures.facts c.touch.ensures.tallied
+work_off-requires-clause-tallied c = tallied_by (net_of c.args.question.now.graph.now) c.args.facts.now c.insert.new.self c.args.node.0 (Good c.args.value) c.args.question.now.fault.position c.touch.new.tallies c.insert.ensures.facts c.touch.ensures.tallied
 
 pub work_off-requires-clause-pending : goal.work_off-requires-clause-pending
-work_off-requires-clause-pending c = good_pending (net_of c.args.graph.now) c.args.fault.now c.args.facts.now c.insert.new.self c.args.agenda.now c.touch.new.agenda c.args.node.0 (Good c.args.value) c.requires.closed c.insert.ensures.facts c.touch.ensures.touches
+work_off-requires-clause-pending c = good_pending (net_of c.args.question.now.graph.now) c.args.question.now.fault c.args.facts.now c.insert.new.self c.args.agenda.now c.touch.new.agenda c.args.node.0 (Good c.args.value) c.requires.closed c.insert.ensures.facts c.touch.ensures.touches
 
 pub work_off-requires-clause-free : goal.work_off-requires-clause-free
 work_off-requires-clause-free c = good_free c.args.facts.now c.insert.new.self c.args.node.0 c.args.value c.requires.free c.requires.unknown c.insert.ensures.facts
 
 pub returns-clause-extended : goal.returns-clause-extended
 returns-clause-extended c =
-    extended_ok (net_of c.args.graph.now) c.args.fault.now c.args.facts.now c.insert.new.self c.work_off.new.facts c.args.log.now.lines.items c.work_off.new.log.lines.items c.args.node.0 (Good c.args.value) c.work_off.result c.requires.lines c.requires.closed c.insert.ensures.facts c.work_off.ensures.works c.work_off.ensures.keeps.more c.work_off.ensures.ending
+    extended_ok (net_of c.args.question.now.graph.now) c.args.question.now.fault c.args.facts.now c.insert.new.self c.work_off.new.facts c.args.log.now.lines.items c.work_off.new.log.lines.items c.args.node.0 (Good c.args.value) c.work_off.result c.requires.lines c.requires.closed c.insert.ensures.facts c.work_off.ensures.works c.work_off.ensures.keeps.more c.work_off.ensures.ending
 
 pub returns-clause-fewer : goal.returns-clause-fewer
 returns-clause-fewer c =
-    fewer_ok (net_of c.args.graph.now) c.args.fault.now c.args.facts.now c.insert.new.self c.work_off.new.facts c.args.log.now.lines.items c.work_off.new.log.lines.items c.work_off.result (c.insert.ensures.missing (unknown_good c.args.facts.now c.args.node.0 c.args.value c.requires.free c.requires.unknown)) c.work_off.ensures.works
+    fewer_ok (net_of c.args.question.now.graph.now) c.args.question.now.fault c.args.facts.now c.insert.new.self c.work_off.new.facts c.args.log.now.lines.items c.work_off.new.log.lines.items c.work_off.result (c.insert.ensures.missing (unknown_good c.args.facts.now c.args.node.0 c.args.value c.requires.free c.requires.unknown)) c.work_off.ensures.works
 
 pub returns-clause-keeps : goal.returns-clause-keeps
 returns-clause-keeps c =

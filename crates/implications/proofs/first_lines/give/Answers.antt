@@ -9,29 +9,29 @@ use Rattle.refutation.proofs.Public.{concludes_below}
 
 pub holds-requires : goal.holds-requires
 holds-requires c =
-    let below : c.in-Some.node.0 < length (net_of c.args.graph.now).nodes =
-    concludes_below (net_of c.args.graph.now) c.args.fault.now (held_by c.args.facts.now) c.requires.ready.formed c.requires.ready.stuck c.args.line c.in-Some.node.0 c.in-Some.fact (answer_some (net_of c.args.graph.now) c.args.fault.now (held_by c.args.facts.now) c.args.line c.args.given (c.in-Some.node, c.in-Some.fact) c.in-Some.is c.requires.given) in
+    let below : c.in-Some.node.0 < length (net_of c.args.question.now.graph.now).nodes =
+    concludes_below (net_of c.args.question.now.graph.now) c.args.question.now.fault (held_by c.args.facts.now) c.requires.ready.formed c.requires.ready.stuck c.args.line c.in-Some.node.0 c.in-Some.fact (answer_some (net_of c.args.question.now.graph.now) c.args.question.now.fault (held_by c.args.facts.now) c.args.line c.args.given (c.in-Some.node, c.in-Some.fact) c.in-Some.is c.requires.given) in
     omega (arith, c.requires.ready.size)
 
 pub add_found-requires-clause-fresh : goal.add_found-requires-clause-fresh
 add_found-requires-clause-fresh c =
-    fresh_given (net_of c.args.graph.now) c.args.fault.now c.args.facts.now c.args.line c.in-Some.node c.in-Some.fact c.requires.ready.formed c.requires.ready.stuck
-    (answer_some (net_of c.args.graph.now) c.args.fault.now (held_by c.args.facts.now) c.args.line c.args.given (c.in-Some.node, c.in-Some.fact) c.in-Some.is c.requires.given) (sym c.holds.ensures ∙ c.if-holds.false)
+    fresh_given (net_of c.args.question.now.graph.now) c.args.question.now.fault c.args.facts.now c.args.line c.in-Some.node c.in-Some.fact c.requires.ready.formed c.requires.ready.stuck
+    (answer_some (net_of c.args.question.now.graph.now) c.args.question.now.fault (held_by c.args.facts.now) c.args.line c.args.given (c.in-Some.node, c.in-Some.fact) c.in-Some.is c.requires.given) (sym c.holds.ensures ∙ c.if-holds.false)
 
 pub returns-then-branch-clause-works : goal.returns-then-branch-clause-works
 returns-then-branch-clause-works c =
-    works_hold (net_of c.args.graph.now) c.args.fault.now c.args.facts.now c.args.log.now.lines.items c.add_found.new.facts c.add_found.new.log.lines.items (record { line = c.args.line; node = c.in-Some.node; fact = c.in-Some.fact })
-    (answer_some (net_of c.args.graph.now) c.args.fault.now (held_by c.args.facts.now) c.args.line c.args.given (c.in-Some.node, c.in-Some.fact) c.in-Some.is c.requires.given) c.in_ok-add_found.ensures.holds
+    works_hold (net_of c.args.question.now.graph.now) c.args.question.now.fault c.args.facts.now c.args.log.now.lines.items c.add_found.new.facts c.add_found.new.log.lines.items (record { line = c.args.line; node = c.in-Some.node; fact = c.in-Some.fact })
+    (answer_some (net_of c.args.question.now.graph.now) c.args.question.now.fault (held_by c.args.facts.now) c.args.line c.args.given (c.in-Some.node, c.in-Some.fact) c.in-Some.is c.requires.given) c.in_ok-add_found.ensures.holds
 
 pub returns-then-branch-clause-pending : goal.returns-then-branch-clause-pending
 returns-then-branch-clause-pending c =
-    pending_touched (net_of c.args.graph.now) c.args.fault.now c.args.facts.now c.add_found.new.facts c.args.agenda.now c.add_found.new.agenda c.in-Some.node.0 c.in-Some.fact c.in_ok-add_found.ensures.holds.facts c.add_found.ensures.touches
+    pending_touched (net_of c.args.question.now.graph.now) c.args.question.now.fault c.args.facts.now c.add_found.new.facts c.args.agenda.now c.add_found.new.agenda c.in-Some.node.0 c.in-Some.fact c.in_ok-add_found.ensures.holds.facts c.add_found.ensures.touches
 
 pub returns-clause-works : goal.returns-clause-works
 returns-clause-works c =
-    works_hold (net_of c.args.graph.now) c.args.fault.now c.args.facts.now c.args.log.now.lines.items c.add_found.new.facts c.add_found.new.log.lines.items (record { line = c.args.line; node = c.in-Some.node; fact = c.in-Some.fact })
-    (answer_some (net_of c.args.graph.now) c.args.fault.now (held_by c.args.facts.now) c.args.line c.args.given (c.in-Some.node, c.in-Some.fact) c.in-Some.is c.requires.given) c.in_ok-add_found.ensures.holds
+    works_hold (net_of c.args.question.now.graph.now) c.args.question.now.fault c.args.facts.now c.args.log.now.lines.items c.add_found.new.facts c.add_found.new.log.lines.items (record { line = c.args.line; node = c.in-Some.node; fact = c.in-Some.fact })
+    (answer_some (net_of c.args.question.now.graph.now) c.args.question.now.fault (held_by c.args.facts.now) c.args.line c.args.given (c.in-Some.node, c.in-Some.fact) c.in-Some.is c.requires.given) c.in_ok-add_found.ensures.holds
 
 pub returns-clause-pending : goal.returns-clause-pending
 returns-clause-pending c =
-    pending_touched (net_of c.args.graph.now) c.args.fault.now c.args.facts.now c.add_found.new.facts c.args.agenda.now c.add_found.new.agenda c.in-Some.node.0 c.in-Some.fact c.in_ok-add_found.ensures.holds.facts c.add_found.ensures.touches
+    pending_touched (net_of c.args.question.now.graph.now) c.args.question.now.fault c.args.facts.now c.add_found.new.facts c.args.agenda.now c.add_found.new.agenda c.in-Some.node.0 c.in-Some.fact c.in_ok-add_found.ensures.holds.facts c.add_found.ensures.touches

@@ -9,12 +9,12 @@ pub give-requires-clause-given : goal.give-requires-clause-given
 give-requires-clause-given c = c.line_act-given.ensures (held_by c.args.facts.now)
 
 pub give-requires-2-clause-given : goal.give-requires-2-clause-given
-give-requires-2-clause-given c = c.line_site-given.ensures (net_of c.args.graph.now) (held_by c.give.new.facts)
+give-requires-2-clause-given c = c.line_site-given.ensures (net_of c.args.question.now.graph.now) (held_by c.give.new.facts)
 
 pub returns-clause-keeps : goal.returns-clause-keeps
 returns-clause-keeps c = keeps_join c.args.facts.now c.args.log.now.trail.items c.give.new.facts c.give.new.log.trail.items c.give-2.new.facts c.give-2.new.log.trail.items c.give.ensures.keeps c.give-2.ensures.keeps
 
 pub returns-clause-pending : goal.returns-clause-pending
 returns-clause-pending c =
-    works_ok (StaysPending (net_of c.args.graph.now) c.args.fault.now c.give.new.facts c.give.new.agenda c.give-2.new.facts c.give-2.new.agenda) (StaysPending (net_of c.args.graph.now) c.args.fault.now c.args.facts.now c.args.agenda.now c.give-2.new.facts c.give-2.new.agenda) c.give-2.result
+    works_ok (StaysPending (net_of c.args.question.now.graph.now) c.args.question.now.fault c.give.new.facts c.give.new.agenda c.give-2.new.facts c.give-2.new.agenda) (StaysPending (net_of c.args.question.now.graph.now) c.args.question.now.fault c.args.facts.now c.args.agenda.now c.give-2.new.facts c.give-2.new.agenda) c.give-2.result
     (λ after pending. after (c.in_ok-clash.ensures.pending pending)) c.give-2.ensures.pending

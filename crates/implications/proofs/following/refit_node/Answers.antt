@@ -1,4 +1,4 @@
-use Rattle.std.proofs.Common.{arith, length, sym, ◌∙◌, ◌≤◌}
+use Rattle.std.proofs.Common.{arith}
 use Rattle.gate_graph.specs.Circuit.{net_of}
 use Rattle.implications.proofs.Refitting.{is_dead, is_there, refits_dead, refits_live, refits_past}
 use Rattle.implications.proofs.following.refit_node.Goals as goal

@@ -10,5 +10,5 @@ tried-requires-clause-given c = c.line_constant-given.ensures (held_by c.args.fa
 
 pub returns : goal.returns
 returns c =
-    next_of (net_of c.args.graph.now) c.args.fault.now c.args.facts.now c.args.node.0 (IsDone (net_of c.args.graph.now) c.args.fault.now c.args.facts.now (Constant c.args.node)) c.tried.result
-    (λ last. settled_plain (net_of c.args.graph.now) c.args.fault.now c.args.facts.now c.args.node c.in_default.ensures c.requires.kind.0 c.requires.kind.1.0 c.requires.kind.1.1 last) c.tried.ensures
+    next_of (net_of c.args.question.now.graph.now) c.args.question.now.fault c.args.facts.now c.args.node.0 (IsDone (net_of c.args.question.now.graph.now) c.args.question.now.fault c.args.facts.now (Constant c.args.node)) c.tried.result
+    (λ last. settled_plain (net_of c.args.question.now.graph.now) c.args.question.now.fault c.args.facts.now c.args.node c.in_default.ensures c.requires.kind.0 c.requires.kind.1.0 c.requires.kind.1.1 last) c.tried.ensures

@@ -9,12 +9,12 @@ pub add_all_lines-requires-clause-pending : goal.add_all_lines-requires-clause-p
 add_all_lines-requires-clause-pending c = c.list_unsettled.ensures.pending c.args.basis.now.facts c.requires.begun.outside
 
 pub add_all_lines-requires-clause-tallied : goal.add_all_lines-requires-clause-tallied
-add_all_lines-requires-clause-tallied c = tallied_none (net_of c.args.graph.now) (held_by c.args.basis.now.facts) c.args.fault.now.position c.args.tallies.now c.requires.uncounted
+add_all_lines-requires-clause-tallied c = tallied_none (net_of c.args.question.now.graph.now) (held_by c.args.basis.now.facts) c.args.question.now.fault.position c.args.tallies.now c.requires.uncounted
 
 pub returns-clause-opened : goal.returns-clause-opened
 returns-clause-opened c =
-    let room : length (net_of c.args.graph.now).nodes ≤ length c.args.basis.now.facts = omega (arith, c.requires.room.nodes, c.requires.room.facts) in
-    opened_ok (net_of c.args.graph.now) c.args.fault.now c.args.basis.now.facts c.add_all_lines.new.facts c.args.log.now.lines.items c.add_all_lines.new.log.lines.items c.add_all_lines.result c.requires.begun.outside c.requires.lines c.add_all_lines.ensures.works c.add_all_lines.ensures.keeps.more c.add_all_lines.ensures.keeps.size room c.add_all_lines.ensures.closes
+    let room : length (net_of c.args.question.now.graph.now).nodes ≤ length c.args.basis.now.facts = omega (arith, c.requires.room.nodes, c.requires.room.facts) in
+    opened_ok (net_of c.args.question.now.graph.now) c.args.question.now.fault c.args.basis.now.facts c.add_all_lines.new.facts c.args.log.now.lines.items c.add_all_lines.new.log.lines.items c.add_all_lines.result c.requires.begun.outside c.requires.lines c.add_all_lines.ensures.works c.add_all_lines.ensures.keeps.more c.add_all_lines.ensures.keeps.size room c.add_all_lines.ensures.closes
 
 pub returns-clause-rest : goal.returns-clause-rest
 returns-clause-rest c = record {

@@ -23,11 +23,11 @@ loop-node-smaller c =
 
 pub loop-node-preserved : goal.loop-node-preserved
 loop-node-preserved c =
-    let outcome = outcome_none (net_of c.args.graph.now) c.args.fault.now c.settle.new.facts c.settle.new.agenda c.in_ok-clash.field-0 c.in-None.is c.in_ok-clash.ensures.outcome in
+    let outcome = outcome_none (net_of c.args.question.now.graph.now) c.args.question.now.fault c.settle.new.facts c.settle.new.agenda c.in_ok-clash.field-0 c.in-None.is c.in_ok-clash.ensures.outcome in
     let same : length c.take.new.self ≡ length c.loop-node.agenda = ap (λ xs. length xs) c.in-Some.ensures.1 ∙ length-set c.loop-node.agenda c.in-Some.node.0 false in
     record {
       state = record {
-        works = works_join (net_of c.args.graph.now) c.args.fault.now c.args.facts.now c.args.log.now.lines.items c.loop-node.facts c.loop-node.log.lines.items c.settle.new.facts c.settle.new.log.lines.items c.loop-node.invariant.state.works c.in_ok-clash.ensures.works;
+        works = works_join (net_of c.args.question.now.graph.now) c.args.question.now.fault c.args.facts.now c.args.log.now.lines.items c.loop-node.facts c.loop-node.log.lines.items c.settle.new.facts c.settle.new.log.lines.items c.loop-node.invariant.state.works c.in_ok-clash.ensures.works;
         keeps = keeps_join c.args.facts.now c.args.log.now.trail.items c.loop-node.facts c.loop-node.log.trail.items c.settle.new.facts c.settle.new.log.trail.items c.loop-node.invariant.state.keeps c.settle.ensures.keeps;
         pending = outcome.0;
         free = outcome.1;
@@ -38,7 +38,7 @@ loop-node-preserved c =
     }
 
 pub returns-clause-ending : goal.returns-clause-ending
-returns-clause-ending c = (all_settled (net_of c.args.graph.now) c.args.fault.now c.loop-node.facts c.loop-node.agenda c.loop-node.invariant.state.pending c.in_default.ensures.1, c.loop-node.invariant.state.free)
+returns-clause-ending c = (all_settled (net_of c.args.question.now.graph.now) c.args.question.now.fault c.loop-node.facts c.loop-node.agenda c.loop-node.invariant.state.pending c.in_default.ensures.1, c.loop-node.invariant.state.free)
 
 pub returns-in_err-clash-clause-room : goal.returns-in_err-clash-clause-room
 returns-in_err-clash-clause-room c = c.settle.ensures.room ∙ c.loop-node.invariant.room

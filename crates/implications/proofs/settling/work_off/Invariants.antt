@@ -7,8 +7,8 @@ use Rattle.refutation.specs.FactSets.{held_by}
 
 abbrev pub invariant-loop-node : goal.invariant-loop-node
 invariant-loop-node l = record {
-  state : Running (net_of l.graph) l.fault l.initial.facts l.initial.log.lines.items l.initial.log.trail.items l.initial.agenda l.facts l.log.lines.items l.log.trail.items l.agenda;
-  tallied : AreTallied (net_of l.graph) (held_by l.facts) l.fault.position l.tallies;
+  state : Running (net_of l.question.graph.now) l.question.fault l.initial.facts l.initial.log.lines.items l.initial.log.trail.items l.initial.agenda l.facts l.log.lines.items l.log.trail.items l.agenda;
+  tallied : AreTallied (net_of l.question.graph.now) (held_by l.facts) l.question.fault.position l.tallies;
   room : length l.tallies.counted ≡ length l.initial.tallies.counted;
 }
 

@@ -6,11 +6,11 @@ use Rattle.refutation.specs.Detected.{HasOpenSet}
 use Rattle.rar_loop.proofs.Looking.{both_values, looked_none}
 use Rattle.rar_loop.proofs.refuting.refuted_pin.Goals as goal
 
-pub refuted_unless_detected-requires-clause-pin : goal.refuted_unless_detected-requires-clause-pin
-refuted_unless_detected-requires-clause-pin c = got (drivers_of (net_of c.args.graph.now) c.args.gate.0) c.args.position c.requires.pin
+pub invariant_of-question : goal.invariant_of-question
+invariant_of-question c = record { pin = got (drivers_of (net_of c.args.graph.now) c.args.gate.0) c.args.position c.requires.pin }
 
-pub refuted_unless_detected-requires-2-clause-pin : goal.refuted_unless_detected-requires-2-clause-pin
-refuted_unless_detected-requires-2-clause-pin c = got (drivers_of (net_of c.args.graph.now) c.args.gate.0) c.args.position c.requires.pin
+pub invariant_of-question-2 : goal.invariant_of-question-2
+invariant_of-question-2 c = record { pin = got (drivers_of (net_of c.args.graph.now) c.args.gate.0) c.args.position c.requires.pin }
 
 pub returns-clause-looked : goal.returns-clause-looked
 returns-clause-looked c =

@@ -4,4 +4,4 @@ use Rattle.rar_loop.proofs.refuting.refuted_unless_detected.Goals as goal
 pub returns-then-detect-clause-looked : goal.returns-then-detect-clause-looked
 returns-then-detect-clause-looked c =
     let found = c.detect.ensures.detected c.if-detect.true in
-    c.detected_faults_stay_open.ensures.sets (net_of c.args.graph.now) c.args.fault.now c.well_formed-2.ensures.net.acyclic c.requires.pin found.0 found.1 c.args.depth
+    c.detected_faults_stay_open.ensures.sets (net_of c.args.question.now.graph.now) c.args.question.now.fault c.well_formed-2.ensures.net.acyclic c.args.question.now.pin found.0 found.1 c.args.depth

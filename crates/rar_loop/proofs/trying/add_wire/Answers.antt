@@ -20,13 +20,13 @@ unreachable-requires c =
     let applies : Applies (net_of c.wire_of.new.trial.graph) (Add c.args.candidate.now.gate c.in_ok-node.node) = add_here net (net_of c.wire_of.new.trial.graph) c.args.candidate.now c.in_ok-node.node formed c.requires.candidate c.in_ok-node.ensures.net c.in_ok-node.ensures.node in
     add_refused c.wire_of.new.trial c.args.candidate.now.gate c.in_ok-node.node c.in-Err._refusal applies c.in_ok-node.ensures.ready c.in_ok-node.ensures.pins c.in-Err.ensures.answer
 
-pub refuted-requires-clause-pin : goal.refuted-requires-clause-pin
-refuted-requires-clause-pin c =
+pub invariant_of-question : goal.invariant_of-question
+invariant_of-question c =
     let net : Net = net_of c.args.trial.now.graph in
     let wired : net_of c.graph-wired.result.now ≡ net_for net c.args.candidate.now = ap (λ (v : Circuit). net_of v) c.graph-wired.ensures ∙ c.in_ok-node.ensures.net in
     let is : c.new_pin-fault.result ≡ last_pin net c.args.candidate.now.gate.0 (not c.requires.candidate.1.control) = fault_is net (net_of c.graph-wired.result.now) c.args.candidate.now c.requires.candidate c.new_pin-fault.result wired c.new_pin-fault.ensures in
     let after : net_of c.graph-4.result.now ≡ with_candidate net c.args.candidate.now = ap (λ (v : Circuit). net_of v) c.graph-4.ensures ∙ net_added net (net_of c.wire_of.new.trial.graph) (net_of c.apply.new.self.graph) c.args.candidate.now c.in_ok-node.node c.in_ok-node.ensures.net c.in_ok-node.ensures.node c.in-Ok.ensures.net in
-    fault_pin net (net_of c.graph-4.result.now) c.args.candidate.now c.requires.candidate c.new_pin-fault.result after is
+    record { pin = fault_pin net (net_of c.graph-4.result.now) c.args.candidate.now c.requires.candidate c.new_pin-fault.result after is }
 
 pub returns-in-None-clause-added : goal.returns-in-None-clause-added
 returns-in-None-clause-added c =

@@ -13,12 +13,12 @@ use Rattle.rar_loop.specs.Swept.{HasSwept}
 use Rattle.rar_loop.proofs.GoingOn.{left_then, tallies_then}
 use Rattle.rar_loop.proofs.trying.replace.Goals as goal
 
-pub refuted-requires-clause-pin : goal.refuted-requires-clause-pin
-refuted-requires-clause-pin c =
+pub invariant_of-question : goal.invariant_of-question
+invariant_of-question c =
     let net : Net = net_of c.args.space.now.trial.graph in
     let formed : IsWellFormed net = subst (λ (v : Circuit). IsWellFormed (net_of v)) c.graph.ensures c.well_formed-2.ensures.net in
     let after : net_of c.graph-2.result.now ≡ with_candidate net c.args.pair.now.candidate = ap (λ (v : Circuit). net_of v) c.graph-2.ensures ∙ c.in_ok-has_added.ensures.net in
-    target_pin net (net_of c.graph-2.result.now) c.args.pair.now formed c.requires.pair after
+    record { pin = target_pin net (net_of c.graph-2.result.now) c.args.pair.now formed c.requires.pair after }
 
 pub fix_and_tidy-requires-clause-pin : goal.fix_and_tidy-requires-clause-pin
 fix_and_tidy-requires-clause-pin c =

@@ -1,4 +1,4 @@
-use Rattle.std.proofs.Common.{◌≡◌, ◌<◌, ◌≤◌, Some, length, refl, sym, ◌∙◌, ap, subst, arith}
+use Rattle.std.proofs.Common.{◌≡◌, ◌<◌, Some, length, refl, sym, ◌∙◌, ap, subst, arith}
 use Rattle.std.specs.Prelude.{slice_get}
 use Rattle.gate_net.specs.Net.{Net, wire_count}
 use Rattle.gate_graph.specs.Circuit.{Circuit, net_of}
@@ -17,9 +17,9 @@ loop-place-init c =
     let t = c.args.space.now.trial in
     record {
       stays = back_none t c.requires.ready.lent;
-      tried = tried_none (net_of t.graph) c.args.target c.in_ok-found.found.items (subst (λ (v : Circuit). AreCandidatesOf (net_of v) c.args.target c.in_ok-found.found.items) c.graph-graph.ensures c.in_ok-found.ensures.candidates);
+      tried = tried_none (net_of t.graph) c.args.target c.in_ok-found.found.items (subst (λ (v : Circuit). AreCandidatesOf (net_of v) c.args.target c.in_ok-found.found.items) c.graph.ensures c.in_ok-found.ensures.candidates);
       sum = omega arith;
-      tools = record { vectors = c.requires.ready.tools.vectors; refuter = subst (λ (v : Circuit). IsServing (net_of v) c.candidates_of.new.refuter) c.graph-graph.ensures c.in_ok-found.ensures.serves };
+      tools = record { vectors = c.requires.ready.tools.vectors; refuter = subst (λ (v : Circuit). IsServing (net_of v) c.candidates_of.new.refuter) c.graph.ensures c.in_ok-found.ensures.serves };
     }
 
 pub try_unless_detected-requires-clause-pair : goal.try_unless_detected-requires-clause-pair

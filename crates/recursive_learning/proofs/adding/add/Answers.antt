@@ -9,5 +9,5 @@ use Rattle.recursive_learning.proofs.adding.add.Goals as goal
 
 pub returns-clause-learned : goal.returns-clause-learned
 returns-clause-learned c =
-    subst (λ b. IsLearned (net_of c.args.graph.now) c.args.fault.now 0 (with_fact (held_by c.args.facts.now) c.args.node.0 (Good c.args.value)) b (held_by c.extend.new.facts)) (sym c.is_some.ensures)
-    (added_is (net_of c.args.graph.now) c.args.fault.now (held_by c.args.facts.now) c.args.node.0 c.args.value c.extend.new.self.lines c.extend.new.facts c.in_ok-clash.clash c.well_formed-2.ensures.net c.requires.pin c.requires.settled c.requires.node c.in_ok-clash.ensures.extended)
+    subst (λ b. IsLearned (net_of c.args.question.now.graph.now) c.args.question.now.fault 0 (with_fact (held_by c.args.facts.now) c.args.node.0 (Good c.args.value)) b (held_by c.extend.new.facts)) (sym c.is_some.ensures)
+    (added_is (net_of c.args.question.now.graph.now) c.args.question.now.fault (held_by c.args.facts.now) c.args.node.0 c.args.value c.extend.new.self.lines c.extend.new.facts c.in_ok-clash.clash c.well_formed-2.ensures.net c.args.question.now.pin c.requires.settled c.requires.node c.in_ok-clash.ensures.extended)

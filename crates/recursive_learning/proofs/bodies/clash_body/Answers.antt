@@ -8,5 +8,5 @@ use Rattle.refutation.specs.declared.reasoning.Line.{Line}
 pub returns : goal.returns
 returns c =
     rw c.finish.ensures
-    (clash_is (net_of c.args.graph.now) c.args.fault.now c.args.engine.now.lines c.requires.clash.0 c.args.node c.new-tree.result c.push_lines.new.tree c.push.new.self c.new-tree.ensures c.requires.clash.1
+    (clash_is (net_of c.args.question.now.graph.now) c.args.question.now.fault c.args.engine.now.lines c.requires.clash.0 c.args.node c.new-tree.result c.push_lines.new.tree c.push.new.self c.new-tree.ensures c.requires.clash.1
     (c.in_ok-push_lines.ensures ∙ ap (λ (lines : List Line). c.new-tree.result ++ map line_item lines) c.lines.ensures) c.in_ok-push.ensures.ok)

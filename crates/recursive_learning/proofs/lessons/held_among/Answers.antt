@@ -1,11 +1,11 @@
 use Rattle.std.proofs.Common.{arith, false, get_or, take}
 use Rattle.recursive_learning.proofs.Goods.{kept_next, kept_push, kept_skip}
-use Rattle.recursive_learning.specs.declared.lessons.Learned.{Learned}
+use Rattle.recursive_learning.specs.declared.lessons.GoodValue.{GoodValue}
 use Rattle.refutation.specs.FactSets.{held_by}
 use Rattle.recursive_learning.proofs.lessons.held_among.Goals as goal
 use Rattle.recursive_learning.proofs.lessons.held_among.Goals.{then-is_good+in_ok-push, else-is_good}
 
-abbrev zero : Learned
+abbrev zero : GoodValue
 zero = record { node = record { 0 = 0 }; value = false }
 
 pub loop-good-preserved : goal.loop-good-preserved

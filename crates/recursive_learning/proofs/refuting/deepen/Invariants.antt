@@ -6,7 +6,7 @@ use Rattle.recursive_learning.proofs.refuting.deepen.Given as goal
 
 abbrev pub invariant-loop-level : goal.invariant-loop-level
 invariant-loop-level l = record {
-  deepening : Deepening (net_of l.graph) l.fault l.level l.initial.engine l.engine l.initial.facts l.facts;
-  watching : IsWatching (net_of l.graph) l.fault (held_by l.facts) l.watch;
+  deepening : Deepening (net_of l.question.graph.now) l.question.fault l.level l.initial.engine l.engine l.initial.facts l.facts;
+  watching : IsWatching (net_of l.question.graph.now) l.question.fault (held_by l.facts) l.watch;
   lengthens : Lengthens l.fn.watch l.watch;
 }

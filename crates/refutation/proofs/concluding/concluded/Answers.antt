@@ -11,4 +11,4 @@ returns-in-Out-clause-answer c = rw c.in-Out.is (c.line_out.ensures.answer (held
 
 pub returns-in_default-clause-answer : goal.returns-in_default-clause-answer
 returns-in_default-clause-answer c =
-    near_answer (net_of c.args.graph.now) c.args.fault.now (held_by c.args.facts.now) c.args.line.now c.concluded_near.result c.in_default.not-Chain c.in_default.not-Out c.concluded_near.ensures
+    near_answer (net_of c.args.question.now.graph.now) c.args.question.now.fault (held_by c.args.facts.now) c.args.line.now c.concluded_near.result c.in_default.not-Chain c.in_default.not-Out c.concluded_near.ensures

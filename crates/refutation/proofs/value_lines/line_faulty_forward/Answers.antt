@@ -8,5 +8,5 @@ use Rattle.refutation.proofs.value_lines.line_faulty_forward.Goals as goal
 
 pub returns : goal.returns
 returns c =
-    let h = forward_some (net_of c.args.graph.now) (stuck_of c.args.fault.now c.args.node.0) OfFaulty (held_by c.args.facts.now) c.args.node.0 c.in_ok-value.value (rw c.stuck_at.ensures at c.in_ok-value.ensures) in
+    let h = forward_some (net_of c.args.question.now.graph.now) (stuck_of c.args.question.now.fault c.args.node.0) OfFaulty (held_by c.args.facts.now) c.args.node.0 c.in_ok-value.value (rw c.stuck_at.ensures at c.in_ok-value.ensures) in
     (h.0, c.in_ok-value.value, h.1.0, rw faulty_pins at h.1.1, refl, refl)

@@ -9,5 +9,5 @@ use Rattle.refutation.proofs.value_lines.line_to_faulty.Goals as goal
 
 pub returns : goal.returns
 returns c =
-    let h = both_some (net_of c.args.graph.now) OfGood OfEqual (held_by c.args.facts.now) c.args.node.0 (c.in_ok-value.value, c.in_ok-value.equal) c.in_ok-value.ensures in
+    let h = both_some (net_of c.args.question.now.graph.now) OfGood OfEqual (held_by c.args.facts.now) c.args.node.0 (c.in_ok-value.value, c.in_ok-value.equal) c.in_ok-value.ensures in
     (h.0, c.in_ok-value.value, c.in_ok-value.equal, h.1.0, h.1.1, refl, ap FaultyFact (beq_same c.in_ok-value.equal c.in_ok-value.value))

@@ -3,7 +3,7 @@ use Rattle.std.proofs.lemmas.Result.{err_from_is_err_and}
 use Rattle.gate_graph.specs.Circuit.{net_of}
 use Rattle.refutation.specs.declared.items.Item.TheVariants.{Line}
 use Rattle.refutation.specs.declared.reasoning.Line.TheVariants.{Act}
-use Rattle.refutation_check.proofs.Steps.{read_step, refused_after, refused_here, refused_step}
+use Rattle.refutation_check.proofs.Steps.{read_step, refused_after, refused_here}
 use Rattle.refutation_check.specs.Standing.{left_of}
 use Rattle.refutation_check.proofs.checker.read_items.Goals as goal
 
@@ -14,8 +14,7 @@ loop-item-init c = record {
   numbers = refl;
   size = refl;
   number = refl;
-  read = λ rest. rw c.requires.left at rest;
-  refused = λ r rest. rw c.requires.left at rest;
+  read = sym c.requires.left;
 }
 
 pub loop-item-preserved : goal.loop-item-preserved
@@ -25,10 +24,7 @@ loop-item-preserved c = record {
   numbers = c.in_ok-read.ensures.numbers ∙ c.loop-item.invariant.numbers;
   size = c.in_ok-read.ensures.size ∙ c.loop-item.invariant.size;
   number = omega arith;
-  read = λ rest. c.loop-item.invariant.read (read_step _ _ _ c.args.items.now _ c.loop-item.item-index c.loop-item.number _ _ c.loop-item.invariant.number c.loop-item-test.true c.in_ok-read.ensures.ok rest);
-  refused = λ r rest.
-      c.loop-item.invariant.refused r
-      (refused_step _ _ _ c.args.items.now _ c.loop-item.item-index c.loop-item.number _ _ r c.loop-item.invariant.number c.loop-item-test.true c.in_ok-read.ensures.ok rest);
+  read = read_step (net_of c.args.question.now.graph.now) c.args.question.now.fault c.args.form c.args.items.now (Line Act) c.loop-item.item-index (left_of c.loop-item.walk.branches) (left_of c.read.new.self.branches) c.loop-item-test.true c.loop-item.invariant.read c.in_ok-read.ensures.ok.read;
 }
 
 pub returns-in_err-read-clause-err : goal.returns-in_err-read-clause-err
@@ -36,12 +32,10 @@ returns-in_err-read-clause-err c =
     let p = err_from_is_err_and c.from_residual.result c.from_residual.ensures.1 in
     rw (p.1, p.2)
     (λ ne.
-    c.loop-item.invariant.refused c.in_err-read.field-0.0
-    (refused_here (net_of c.args.graph.now) c.args.fault.now c.args.form c.args.items.now (Line Act) c.loop-item.item-index c.loop-item.number (left_of c.loop-item.walk.branches) c.in_err-read.field-0.0 c.loop-item.invariant.number
-    c.loop-item-test.true (c.in_err-read.ensures.err ne)))
+    refused_here (net_of c.args.question.now.graph.now) c.args.question.now.fault c.args.form c.args.items.now (Line Act) c.loop-item.item-index c.loop-item.number (left_of c.loop-item.walk.branches) c.in_err-read.field-0.0 c.loop-item.invariant.number
+    c.loop-item-test.true c.loop-item.invariant.read (c.in_err-read.ensures.err ne))
 
 pub returns-clause-err : goal.returns-clause-err
 returns-clause-err c ne =
-    c.loop-item.invariant.refused _
-    (refused_after (net_of c.args.graph.now) c.args.fault.now c.args.form c.args.items.now c.loop-item.item-index c.loop-item.number (left_of c.loop-item.walk.branches) c.loop-item.invariant.number (omega arith)
-    (λ end. let wrong : false ≡ true = sym c.if-is_end.false ∙ c.is_end.ensures.1 end in cc))
+    refused_after (net_of c.args.question.now.graph.now) c.args.question.now.fault c.args.form c.args.items.now c.loop-item.item-index c.loop-item.number (left_of c.loop-item.walk.branches) c.loop-item.invariant.number (omega arith) (omega arith) c.loop-item.invariant.read
+    (λ end. let wrong : false ≡ true = sym c.if-is_end.false ∙ c.is_end.ensures.1 end in cc)

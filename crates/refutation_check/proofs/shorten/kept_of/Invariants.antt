@@ -4,5 +4,5 @@ use Rattle.refutation_check.proofs.shorten.kept_of.Given as goal
 
 abbrev pub invariant-loop-item : goal.invariant-loop-item
 invariant-loop-item l = record {
-  numbers : length (net_of l.graph).nodes ≤ l.account.trail.numbers;
+  numbers : length (net_of l.question.graph.now).nodes ≤ l.account.trail.numbers;
 }

@@ -6,7 +6,7 @@ use Rattle.ternary_sim.proofs.region.mark_region.Given as goal
 
 abbrev pub invariant-loop-node : goal.invariant-loop-node
 invariant-loop-node l = record {
-  spread : Spreads (net_of l.graph) l.fault l.marks l.waiting;
+  spread : Spreads (net_of l.question.graph.now) l.question.fault l.marks l.waiting;
   size : length l.marks ≡ length l.initial.marks;
   room : length l.waiting ≡ length l.initial.waiting;
 }

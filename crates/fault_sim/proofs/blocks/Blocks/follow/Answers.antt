@@ -1,14 +1,11 @@
-use Rattle.std.proofs.Common.{List, length, map, subst, sym, ℕ, ◌≤◌}
+use Rattle.std.proofs.Common.{List, length, subst, sym, ◌≤◌}
 use Rattle.gate_graph.specs.Circuit.{net_of}
-use Rattle.rm_base.specs.declared.numbers.NodeId.{NodeId}
 use Rattle.fault_sim.proofs.Blocking.{all_followed, all_simulated, blocks_followed, blocks_were, written}
 use Rattle.fault_sim.proofs.CatchingUp.{still_ordered}
 use Rattle.fault_sim.specs.BlockStates.{AreBlocks, ArePlaced, AreSimulated, good_of, words_of}
 use Rattle.fault_sim.specs.declared.blocks.Block.{Block}
+use Rattle.fault_sim.proofs.Numbers.{numbers}
 use Rattle.fault_sim.proofs.blocks.Blocks.follow.Goals as goal
-
-abbrev numbers : List NodeId → List ℕ
-numbers order = map (λ (n : NodeId). n.0) order
 
 pub follow_all-requires-clause-order : goal.follow_all-requires-clause-order
 follow_all-requires-clause-order c =

@@ -1,15 +1,12 @@
-use Rattle.std.proofs.Common.{List, length, map, subst, sym, ℕ, ◌∙◌, ◌≤◌}
+use Rattle.std.proofs.Common.{List, length, subst, sym, ℕ, ◌∙◌, ◌≤◌}
 use Rattle.gate_graph.specs.Circuit.{net_of}
-use Rattle.rm_base.specs.declared.numbers.NodeId.{NodeId}
 use Rattle.std.proofs.Math.Seq.{take-length}
 use Rattle.fault_sim.proofs.Blocking.{all_followed, all_simulated, as_many, blocks_followed, blocks_were, grown_were, written}
 use Rattle.fault_sim.proofs.ReadInOrder.{order_is}
 use Rattle.fault_sim.specs.BlockStates.{AreBlocks, ArePlaced, AreSimulated, good_of, words_of}
 use Rattle.fault_sim.specs.declared.blocks.Block.{Block}
+use Rattle.fault_sim.proofs.Numbers.{numbers}
 use Rattle.fault_sim.proofs.blocks.Blocks.follow_anew.Goals as goal
-
-abbrev numbers : List NodeId → List ℕ
-numbers order = map (λ (n : NodeId). n.0) order
 
 pub follow_all-requires-clause-order : goal.follow_all-requires-clause-order
 follow_all-requires-clause-order c = rw c.as_slice.ensures.value (order_is (net_of c.args.graph.now) (numbers c.in_ok-listing.listing.order.items) c.in_ok-listing.ensures.order)

@@ -1,11 +1,8 @@
-use Rattle.std.proofs.Common.{List, ap, arith, length, map, subst, sym, ℕ, ◌≡◌}
-use Rattle.rm_base.specs.declared.numbers.NodeId.{NodeId}
+use Rattle.std.proofs.Common.{ap, arith, length, subst, sym, ◌≡◌}
 use Rattle.fault_sim.proofs.Blocking.{no_blocks}
 use Rattle.fault_sim.specs.BlockStates.{AreBlocks}
+use Rattle.fault_sim.proofs.Numbers.{numbers}
 use Rattle.fault_sim.proofs.blocks.Blocks.new.Goals as goal
-
-abbrev numbers : List NodeId → List ℕ
-numbers order = map (λ (n : NodeId). n.0) order
 
 pub invariant_of-result : goal.invariant_of-result
 invariant_of-result c = (

@@ -1,13 +1,9 @@
-use Rattle.std.proofs.Common.{List, map, sym, ℕ, ◌∙◌}
+use Rattle.std.proofs.Common.{sym, ◌∙◌}
 use Rattle.gate_graph.specs.Circuit.{net_of}
-use Rattle.rm_base.specs.declared.numbers.NodeId.{NodeId}
 use Rattle.fault_sim.proofs.Blocking.{lanes_of}
 use Rattle.fault_sim.proofs.CatchingUp.{still_ordered}
-use Rattle.fault_sim.specs.Ordered.{IsOrdered}
+use Rattle.fault_sim.proofs.Numbers.{numbers}
 use Rattle.fault_sim.proofs.lanes.Lanes.follow.Goals as goal
-
-abbrev numbers : List NodeId → List ℕ
-numbers order = map (λ (n : NodeId). n.0) order
 
 pub catch_up-requires-clause-order : goal.catch_up-requires-clause-order
 catch_up-requires-clause-order c =

@@ -1,12 +1,8 @@
-use Rattle.std.proofs.Common.{List, map, ℕ}
 use Rattle.gate_graph.specs.Circuit.{net_of}
-use Rattle.rm_base.specs.declared.numbers.NodeId.{NodeId}
 use Rattle.fault_sim.proofs.Blocking.{grown_good, lanes_of}
 use Rattle.fault_sim.proofs.ReadInOrder.{order_is}
+use Rattle.fault_sim.proofs.Numbers.{numbers}
 use Rattle.fault_sim.proofs.lanes.Lanes.follow_anew.Goals as goal
-
-abbrev numbers : List NodeId → List ℕ
-numbers order = map (λ (n : NodeId). n.0) order
 
 pub catch_up-requires-clause-order : goal.catch_up-requires-clause-order
 catch_up-requires-clause-order c = rw c.as_slice-2.ensures.value (order_is (net_of c.args.graph.now) (numbers c.in_ok-listing.listing.order.items) c.in_ok-listing.ensures.order)

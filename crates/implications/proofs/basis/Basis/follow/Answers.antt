@@ -1,9 +1,8 @@
-use Rattle.std.proofs.Common.{List, subst, sym}
+use Rattle.std.proofs.Common.{subst, sym}
 use Rattle.gate_graph.specs.Circuit.{net_of}
 use Rattle.implications.proofs.Refitting.{pinless_all}
 use Rattle.implications.proofs.basis.Basis.follow.Goals as goal
 use Rattle.implications.specs.Bases.{ArePinless}
-use Rattle.rm_base.specs.declared.numbers.NodeId.{NodeId}
 
 pub returns-clause-fitted : goal.returns-clause-fitted
 returns-clause-fitted c =

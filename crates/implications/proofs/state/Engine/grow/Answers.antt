@@ -10,5 +10,5 @@ use Rattle.refutation.specs.declared.reasoning.Fact.TheVariants.{Good}
 
 pub returns-clause-grown : goal.returns-clause-grown
 returns-clause-grown c =
-    subst (λ h. IfOk c.close_from.result (IsGrown (net_of c.args.graph.now) c.args.fault.now h c.close_from.new.self.lines))
+    subst (λ h. IfOk c.close_from.result (IsGrown (net_of c.args.question.now.graph.now) c.args.question.now.fault h c.close_from.new.self.lines))
     (becomes_is c.in-Ok.more c.insert.new.self c.args.node.0 (Good c.args.value) c.insert.ensures.facts ∙ ap (λ facts. with_fact (held_by facts) c.args.node.0 (Good c.args.value)) c.in-Ok.ensures) c.close_from.ensures.grown

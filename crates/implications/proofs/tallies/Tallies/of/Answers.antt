@@ -6,8 +6,8 @@ use Rattle.implications.specs.Tallies.{AreTallied, TallyState}
 use Rattle.refutation.specs.FactSets.{held_by}
 
 pub returns-clause-tallied : goal.returns-clause-tallied
-returns-clause-tallied c = tallied_more (net_of c.args.graph.now) (held_by c.args.facts.now) c.args.fault.now.position c.self.inside.counted c.add.new.self c.self.inside.tallies.items c.args.node.0 c.count_pins-tally.result
-    (subst (λ (s : TallyState). AreTallied (net_of c.args.graph.now) (held_by c.args.facts.now) c.args.fault.now.position s) (sym c.self.view_is) c.requires.tallied)
+returns-clause-tallied c = tallied_more (net_of c.args.question.now.graph.now) (held_by c.args.facts.now) c.args.question.now.fault.position c.self.inside.counted c.add.new.self c.self.inside.tallies.items c.args.node.0 c.count_pins-tally.result
+    (subst (λ (s : TallyState). AreTallied (net_of c.args.question.now.graph.now) (held_by c.args.facts.now) c.args.question.now.fault.position s) (sym c.self.view_is) c.requires.tallied)
     c.add.ensures
     (let size = ap (λ (s : TallyState). length s.counted) c.self.view_is in omega (arith, c.self.invariant, size, c.requires.room, c.gate_pins.ensures.bound))
     (rw c.gate_pins.ensures.drivers at c.count_pins-tally.ensures)

@@ -9,6 +9,6 @@ returns-clause-trial c = refl
 
 pub returns-clause-tools : goal.returns-clause-tools
 returns-clause-tools c = record {
-  vectors = subst (λ (v : Circuit). AreFor c.in_ok-vectors.vectors (net_of v)) c.graph.ensures c.in_ok-vectors.ensures;
-  refuter = subst (λ (v : Circuit). IsServing (net_of v) c.in_ok-refuter.refuter) c.graph-2.ensures c.in_ok-refuter.ensures;
+  vectors = subst (λ (v : Circuit). AreFor c.in_ok-vectors.vectors (net_of v)) c.graph.ensures c.in_ok-vectors.ensures.vectors;
+  refuter = subst (λ (v : Circuit). IsServing (net_of v) c.in_ok-vectors.refuter) c.graph.ensures c.in_ok-vectors.ensures.refuter;
 }

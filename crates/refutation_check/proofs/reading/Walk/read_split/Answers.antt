@@ -6,7 +6,7 @@ use Rattle.refutation_check.proofs.reading.Walk.read_split.Goals as goal
 
 pub returns-then-not-may_split-clause-err : goal.returns-then-not-may_split-clause-err
 returns-then-not-may_split-clause-err c fault ne =
-    bad_split _ fault _ _ c.args.self.now.branches _ c.args.node c.args.first c.requires.«open» c.facts.ensures.held
+    bad_split _ fault _ c.args.self.now.branches _ _ c.args.node c.args.first c.requires.«open» c.facts.ensures.held
     (λ may. let wrong : false ≡ true = sym c.if-not-may_split.true ∙ c.may_split.ensures.1 may in cc)
 
 pub split-requires-clause-node : goal.split-requires-clause-node
