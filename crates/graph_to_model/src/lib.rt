@@ -10,8 +10,6 @@ mod naming;
 mod net_model;
 mod places;
 mod prefix;
-#[cfg(test)]
-mod tests;
 
 pub use laws::{tidy_nets_have_models, tidy_nets_have_small_models, worked_rows};
 pub use net_model::{ModelRefusal, model_of, model_of_tidy};

@@ -10,3 +10,4 @@ mod running;
 mod step_rows;
 mod texts;
 mod workers;
+mod written_rows;

@@ -12,6 +12,8 @@ mod lines;
 #[cfg(test)]
 mod models;
 #[cfg(test)]
+mod untidy_nets;
+#[cfg(test)]
 mod words;
 #[cfg(test)]
 mod writing;

@@ -7,7 +7,7 @@ use Rattle.gate_graph.specs.Circuit.{net_of}
 use Rattle.cover_decompose.specs.Decomposition.{net_of_model}
 use Rattle.rm_model.specs.Ranks.{first_without_rank}
 use Rattle.graph_to_model.specs.Fits.{Fits}
-use Rattle.graph_to_model.proofs.tests.refusal_of.Goals as goal
+use Rattle.text_tests.proofs.untidy_nets.refusal_of.Goals as goal
 
 pub decompose-requires-clause-formed : goal.decompose-requires-clause-formed
 decompose-requires-clause-formed c =
