@@ -2,7 +2,7 @@
 use Rattle.std.proofs.Common.{◌≡◌, ◌≢◌, ℕ, ◌+◌, Bool, true, false, List, [], ◌∷◌, ◌++◌, map, Option, None, Some, refl, sym, ◌∙◌, ap, arith, All}
 use Rattle.std.specs.Prelude.{codes, IfSome}
 use Rattle.std.proofs.lemmas.List.Elements.{All-head, All-tail}
-use Rattle.rm_model.specs.Words.{Word, literal_byte, kind_word}
+use Rattle.rm_model.specs.Words.{literal_byte, kind_word}
 use Rattle.rm_model.specs.Value.{control_of}
 use Rattle.rm_model.specs.WellFormed.{IsWellFormedCover}
 use Rattle.rm_model.specs.declared.parts.Literal.{Literal}
@@ -15,6 +15,7 @@ use Rattle.rm_model.specs.declared.parts.Cover.{Cover}
 use Rattle.rm_model.specs.declared.parts.Model.{Model}
 use Rattle.blif_format.specs.Text.{Line, control_word, timing_words, init_words, latch_words, on_word, row_words, cover_words}
 use Rattle.blif_format.specs.Laws.{ReadsOnce}
+use Rattle.rm_base.specs.Words.{Word}
 
 -- LATCHES
 two_told : (a b c d : ℕ) → a ∷ b ∷ [] ≡ c ∷ d ∷ [] → (a ≡ c) × (b ≡ d)

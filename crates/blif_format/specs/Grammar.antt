@@ -1,11 +1,12 @@
 -- The grammar: which model the logical lines of a text say.
 use Rattle.std.specs.Prelude.{◌≡◌, ◌⊎◌, ◌==◌, ℕ, Bool, true, false, not, ◌&&◌, ◌||◌, List, [], ◌∷◌, ◌++◌, map, filter, codes, if◌then◌else◌}
 use Rattle.std.specs.List.{flat_map}
-use Rattle.rm_model.specs.Words.{Word, is_word}
+use Rattle.rm_model.specs.Words.{is_word}
 use Rattle.rm_model.specs.Value.{IsRanked}
 use Rattle.rm_model.specs.WellFormed.{IsWellFormed}
 use Rattle.rm_model.specs.declared.parts.Model.{Model}
 use Rattle.blif_format.specs.Text.{Line, cover_words, latch_words}
+use Rattle.rm_base.specs.Words.{Word}
 
 -- what stands before the first line that passes the test
 abbrev pub before : (Line → Bool) → List Line → List Line

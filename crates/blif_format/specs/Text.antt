@@ -1,12 +1,13 @@
 -- The written text of a model.
 use Rattle.std.specs.Prelude.{ℕ, ◌+◌, Bool, List, [], ◌∷◌, ◌++◌, map, codes, if◌then◌else◌, Option, None, Some}
 use Rattle.std.specs.List.{flat_map}
-use Rattle.rm_model.specs.Words.{Word, literal_byte, kind_word}
+use Rattle.rm_model.specs.Words.{literal_byte, kind_word}
 use Rattle.rm_model.specs.declared.parts.Literal.{Literal}
 use Rattle.rm_model.specs.declared.parts.Cover.{Cover}
 use Rattle.rm_model.specs.declared.parts.Timing.{Timing}
 use Rattle.rm_model.specs.declared.parts.Latch.{Latch}
 use Rattle.rm_model.specs.declared.parts.Model.{Model}
+use Rattle.rm_base.specs.Words.{Word}
 
 -- a line is its words
 abbrev pub Line : Type 0

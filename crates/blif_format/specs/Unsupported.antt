@@ -1,6 +1,6 @@
 -- Words of other dialects and uses of the format, which are refused by name.
 use Rattle.std.specs.Prelude.{List, [], ◌∷◌, codes}
-use Rattle.rm_model.specs.Words.{Word}
+use Rattle.rm_base.specs.Words.{Word}
 
 abbrev pub unsupported_words : List Word
 unsupported_words =

@@ -3,7 +3,10 @@ use Rattle.std.proofs.Common.{◌≡◌, ℕ, ◌<◌, ◌≤◌, Bool, true, fa
 use Rattle.std.specs.Prelude.{◌==◌, nat_lt, ◌⊎◌}
 use Rattle.std.proofs.lemmas.Bool.Decides.{eqb_tells}
 use Rattle.std.proofs.lemmas.Bool.{ltb-true, ltb-false, le-ltb}
-use Rattle.blif_lines.specs.Cuts.{is_blank_byte, is_word_byte, is_control_byte, is_inner}
+use Rattle.std.proofs.Math.Bool.{and-true, or-false, or-true}
+use Rattle.blif_lines.specs.Cuts.{is_blank_byte, is_control_byte, is_inner}
+use Rattle.rm_base.proofs.Public.{and_first, and_second, false_from_not}
+use Rattle.rm_base.specs.Words.{is_word_byte}
 
 clash : {A : Type 0} → false ≡ true → A
 clash e = cc
@@ -63,20 +66,8 @@ word_is_inner b w = not_LF b (word_inner b w)
 pub blank_is_inner : (b : ℕ) → is_blank_byte b ≡ true → is_inner b ≡ true
 blank_is_inner b w = not_LF b (blank_inner b w)
 
-and_first : (a b : Bool) → (a && b) ≡ true → a ≡ true
-and_first true b e = refl
-and_first false b e = e
-
-and_second : (a b : Bool) → (a && b) ≡ true → b ≡ true
-and_second true b e = e
-and_second false b e = clash e
-
-not_true : (a : Bool) → not a ≡ true → a ≡ false
-not_true true e = clash e
-not_true false e = refl
-
 pub control_no_blank : (b : ℕ) → is_control_byte b ≡ true → is_blank_byte b ≡ false
-control_no_blank b w = not_true (is_blank_byte b) (and_first (not (is_blank_byte b)) _ w)
+control_no_blank b w = false_from_not (is_blank_byte b) (and_first (not (is_blank_byte b)) _ w)
 
 -- the test of layout, which knows no LF
 pub control_is : (b : ℕ) → is_control_byte b ≡ true → (not (is_blank_byte b) && (nat_lt b 32 || (b == 127))) ≡ true
@@ -86,22 +77,10 @@ pub word_no_control : (b : ℕ) → is_word_byte b ≡ true → (not (is_blank_b
 word_no_control b w =
     let large : nat_lt 32 b ≡ true = and_first (nat_lt 32 b) _ w in
     let rest : (not (b == 35) && not (b == 127)) ≡ true = and_second (nat_lt 32 b) _ w in
-    let other : (b == 127) ≡ false = not_true (b == 127) (and_second (not (b == 35)) _ rest) in
+    let other : (b == 127) ≡ false = false_from_not (b == 127) (and_second (not (b == 35)) _ rest) in
     let more : 32 < b = ltb-true 32 b large in
     let low : nat_lt b 32 ≡ false = le-ltb b 32 (omega arith) in
     rw (word_not_blank b w, low, other) refl
-
-or_last : (a : Bool) → (a || true) ≡ true
-or_last true = refl
-or_last false = refl
-
-pub and_true : (a : Bool) → (a && true) ≡ a
-and_true true = refl
-and_true false = refl
-
-or_none : (a : Bool) → (a || false) ≡ a
-or_none true = refl
-or_none false = refl
 
 -- what is neither of a word nor a control byte
 pub boundary : (b : ℕ) → is_word_byte b ≡ false → is_control_byte b ≡ false → (is_blank_byte b ≡ true) ⊎ (((b == 10) || (b == 35)) ≡ true)
@@ -113,11 +92,11 @@ boundary b w c = at (is_blank_byte b) (b == 10) refl refl
     at false false e f = elim (eqb_tells b 35) [
       | inl t ↦ inr (rw (f, t.0) refl)
       | inr t ↦ elim (eqb_tells b 127) [
-        | inl u ↦ let wrong : (nat_lt b 32 || true) ≡ false = rw (e, f, u.0) at c in clash (sym wrong ∙ or_last (nat_lt b 32))
+        | inl u ↦ let wrong : (nat_lt b 32 || true) ≡ false = rw (e, f, u.0) at c in clash (sym wrong ∙ or-true (nat_lt b 32))
         | inr u ↦
-            let large : nat_lt 32 b ≡ false = sym (and_true (nat_lt 32 b)) ∙ rw (t.0, u.0) at w in
+            let large : nat_lt 32 b ≡ false = sym (and-true (nat_lt 32 b)) ∙ rw (t.0, u.0) at w in
             let most : b ≤ 32 = ltb-false 32 b large in
-            let low : nat_lt b 32 ≡ false = sym (or_none (nat_lt b 32)) ∙ rw (e, f, u.0) at c in
+            let low : nat_lt b 32 ≡ false = sym (or-false (nat_lt b 32)) ∙ rw (e, f, u.0) at c in
             let least : 32 ≤ b = ltb-false b 32 low in
             let is : 32 ≡ b = omega arith in
             clash (sym (subst (λ (n : ℕ). is_blank_byte n ≡ false) (sym is) e))

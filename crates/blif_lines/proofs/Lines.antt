@@ -2,9 +2,11 @@
 use Rattle.std.proofs.Common.{◌≡◌, ◌+◌, List, [], ◌∷◌, ◌++◌, Bool, true, false, ◌&&◌, ◌||◌, refl, sym, ◌∙◌, ap, Option, None, Some, append_assoc}
 use Rattle.std.specs.Prelude.{◌==◌, if◌then◌else◌}
 use Rattle.std.specs.List.{list_all}
+use Rattle.std.proofs.Math.Bool.{and-false, and-true}
 use Rattle.blif_lines.specs.Layout.{Mark, Spot, Flaw, BadByteAt, is_blank, is_control, joint, before_joint, runs, spots, tokens_in, ends_token, first_bad}
-use Rattle.blif_lines.specs.Cuts.{is_word_byte, is_control_byte, kept, kept_at, cut_of, with_spot}
-use Rattle.blif_lines.proofs.Bytes.{and_true, blank_no_slash, control_is, control_no_blank, control_no_slash, word_no_control, word_not_blank}
+use Rattle.blif_lines.specs.Cuts.{is_control_byte, kept, kept_at, cut_of, with_spot}
+use Rattle.blif_lines.proofs.Bytes.{blank_no_slash, control_is, control_no_blank, control_no_slash, word_no_control, word_not_blank}
+use Rattle.rm_base.specs.Words.{is_word_byte}
 
 abbrev pub AreWord : List Mark → Type 0
 AreWord [] = Unit {0}
@@ -23,13 +25,9 @@ blanks_no_joint (m ∷ ms) e = at (is_blank m) (list_all is_blank ms) refl refl
     at true false is all = let wrong : false ≡ true = rw (is, all) at e in cc
     at false b is all = let wrong : false ≡ true = rw is at e in cc
 
-and_false : (a : Bool) → (a && false) ≡ false
-and_false true = refl
-and_false false = refl
-
 pub not_all : (ws c : List Mark) → list_all is_blank c ≡ false → list_all is_blank (ws ++ c) ≡ false
 not_all [] c e = e
-not_all (w ∷ ws) c e = rw (not_all ws c e) (and_false (is_blank w))
+not_all (w ∷ ws) c e = rw (not_all ws c e) (and-false (is_blank w))
 
 -- a line that doesn't end in blanks alone keeps its front
 pub joint_behind : (ws c : List Mark) → list_all is_blank c ≡ false → joint (ws ++ c) ≡ joint c
@@ -57,7 +55,7 @@ keeps ws x c solid other = at (list_all is_blank c) (joint c) refl refl
     at : (b : Bool) (j : Option Mark) → list_all is_blank c ≡ b → joint c ≡ j → IsKept (ws ++ x ∷ c) c (ws ++ x ∷ [])
     at true j all is =
         let none : joint c ≡ None = blanks_no_joint c all in
-        let slash : (x.byte == 92) ≡ false = sym (and_true (x.byte == 92)) ∙ rw all at other in
+        let slash : (x.byte == 92) ≡ false = sym (and-true (x.byte == 92)) ∙ rw all at other in
         let now : joint (ws ++ x ∷ c) ≡ None = here ∙ rw (all, slash) refl in
         record {
           joint_is = now ∙ sym none;
@@ -110,10 +108,10 @@ tokens_word (w ∷ ws) x d s all solid e is = rw (runs_word (w ∷ ws) x d all s
 -- no byte of a token's inside is bad
 pub bad_behind : (ws : List Mark) (x : Mark) (d : List Mark) → AreWord ws → is_blank x ≡ false → first_bad (ws ++ x ∷ d) ≡ first_bad (x ∷ d)
 bad_behind [] x d all solid = refl
-bad_behind (w ∷ []) x d all solid = rw (word_no_control w.byte all.0, solid, and_false (w.byte == 92)) refl
+bad_behind (w ∷ []) x d all solid = rw (word_no_control w.byte all.0, solid, and-false (w.byte == 92)) refl
 bad_behind (w ∷ v ∷ ws) x d all solid =
     let ends : ends_token (v ∷ (ws ++ x ∷ d)) ≡ false = word_not_blank v.byte all.1.0 in
-    let fine : (is_control w || ((w.byte == 92) && ends_token (v ∷ (ws ++ x ∷ d)))) ≡ false = ap (λ (t : Bool). t || ((w.byte == 92) && ends_token (v ∷ (ws ++ x ∷ d)))) (word_no_control w.byte all.0) ∙ ap (λ (t : Bool). (w.byte == 92) && t) ends ∙ and_false (w.byte == 92) in
+    let fine : (is_control w || ((w.byte == 92) && ends_token (v ∷ (ws ++ x ∷ d)))) ≡ false = ap (λ (t : Bool). t || ((w.byte == 92) && ends_token (v ∷ (ws ++ x ∷ d)))) (word_no_control w.byte all.0) ∙ ap (λ (t : Bool). (w.byte == 92) && t) ends ∙ and-false (w.byte == 92) in
     ap (λ (t : Bool). if t then Some (BadByteAt w.place) else first_bad (v ∷ (ws ++ x ∷ d))) fine ∙ bad_behind (v ∷ ws) x d all.1 solid
 
 cut_is : (line c ws : List Mark) (ts : List Spot) (f : Option Flaw) → IsKept line c ws → tokens_in (ws ++ kept c) ≡ ts → first_bad (ws ++ kept c) ≡ f → cut_of line ≡ record { tokens = ts; flaw = f; joint = joint c }

@@ -13,9 +13,6 @@ front test (b ∷ bs) = if test b then suc (front test bs) else 0
 abbrev pub is_blank_byte : ℕ → Bool
 is_blank_byte b = (b == 32) || ((b == 9) || (b == 13))
 
-abbrev pub is_word_byte : ℕ → Bool
-is_word_byte b = nat_lt 32 b && (not (b == 35) && not (b == 127))
-
 abbrev pub is_control_byte : ℕ → Bool
 is_control_byte b = not (is_blank_byte b) && (not (b == 10) && (nat_lt b 32 || (b == 127)))
 

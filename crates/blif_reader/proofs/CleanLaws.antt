@@ -4,10 +4,11 @@ use Rattle.std.specs.Prelude.{if◌then◌else◌, nat_lt}
 use Rattle.std.proofs.lemmas.Bool.{ltb-false}
 use Rattle.rm_base.specs.declared.numbers.Place.{Place}
 use Rattle.std.proofs.lemmas.List.{append-nil}
-use Rattle.rm_model.specs.Words.{Word, is_word}
+use Rattle.std.proofs.Math.Bool.{or-false, or_assoc}
+use Rattle.rm_model.specs.Words.{is_word}
 use Rattle.rm_model.specs.WellFormed.{is_distinct}
 use Rattle.blif_lines.specs.Layout.{Logical}
-use Rattle.blif_format.specs.Uses.{Use, is_source_role, is_observed_role, drives_twice, lists_twice, stands_in, names_in, distinct_count}
+use Rattle.blif_format.specs.Uses.{Use, is_source_role, is_observed_role, drives_twice, lists_twice, stands_in, names_in, distinct_count, is_clock, is_input, is_output}
 use Rattle.blif_format.specs.declared.words.Role.{Role}
 use Rattle.blif_format.specs.declared.words.Role.TheVariants.{Input, ClockInput, Output, CoverInput, CoverOutput, LatchInput, LatchOutput, Control}
 use Rattle.blif_format.specs.FirstFault.{or_else, fault_if, limit_if, name_limit, is_cover_input, is_over, use_fault, Said, said_by, lines_fault}
@@ -15,12 +16,13 @@ use Rattle.blif_format.specs.declared.refusal.FaultKind.TheVariants.{DoubleDrive
 use Rattle.blif_format.specs.declared.refusal.Quantity.{Quantity}
 use Rattle.blif_format.specs.declared.refusal.Quantity.TheVariants.{Name as NameLength, Inputs, Sources, Observed, Signals}
 use Rattle.blif_format.specs.declared.refusal.ReadRefusal.{ReadRefusal}
-use Rattle.blif_reader.specs.Tally.{plays, is_input, is_clock, is_latch, is_cover, is_output}
-use Rattle.blif_reader.proofs.Compared.{or_false, or_assoc, word_is}
+use Rattle.blif_reader.specs.Tally.{plays, is_latch, is_cover}
 use Rattle.blif_reader.proofs.Free.{distinct_add}
 use Rattle.blif_reader.proofs.Plays.{names_among, names_more}
 use Rattle.blif_reader.proofs.UseWalk.{walked_lines}
 use Rattle.blif_reader.proofs.RowLaws.{first_none, second_none, not_fault}
+use Rattle.rm_base.specs.Words.{Word}
+use Rattle.rm_model.proofs.Public.{same_word}
 
 -- no name stands in both roles
 abbrev pub Apart : (Role → Bool) → (Role → Bool) → List Use → Type 0
@@ -46,7 +48,7 @@ nothing_clean = record { inputs = refl; clocks = refl; latches = refl; covers = 
 
 -- ONE MORE USE
 plays_more : (t : Role → Bool) (had : List Use) (u : Use) (x : Word) → plays t (had ++ u ∷ []) x ≡ (plays t had x || (t u.role && is_word u.name x))
-plays_more t [] u x = or_false (t u.role && is_word u.name x)
+plays_more t [] u x = or-false (t u.role && is_word u.name x)
 plays_more t (v ∷ vs) u x = ap (λ b. (t v.role && is_word v.name x) || b) (plays_more t vs u x) ∙ sym (or_assoc (t v.role && is_word v.name x) (plays t vs x) (t u.role && is_word u.name x))
 
 stay_apart : (pa ar w pb br : Bool) → (pa || (ar && w)) ≡ true → (pa ≡ true → pb ≡ false) → (ar ≡ true → w ≡ true → pb ≡ false) → (br ≡ true → w ≡ true → pa ≡ false) → (ar ≡ true → br ≡ false) → (pb || (br && w)) ≡ false
@@ -64,8 +66,8 @@ apart_more : (a b : Role → Bool) (had : List Use) (u : Use) → Apart a b had 
 apart_more a b had u h f g k x e =
     plays_more b had u x
     ∙ stay_apart (plays a had x) (a u.role) (is_word u.name x) (plays b had x) (b u.role) (sym (plays_more a had u x) ∙ e) (h x)
-    (λ r w. ap (plays b had) (sym (word_is u.name x w)) ∙ f r)
-    (λ r w. ap (plays a had) (sym (word_is u.name x w)) ∙ g r)
+    (λ r w. ap (plays b had) (sym (same_word u.name x w)) ∙ f r)
+    (λ r w. ap (plays a had) (sym (same_word u.name x w)) ∙ g r)
     k
 
 distinct_more : (t : Role → Bool) (had : List Use) (u : Use) → is_distinct (names_in t had) ≡ true → (t u.role ≡ true → plays t had u.name ≡ false) → is_distinct (names_in t (had ++ u ∷ [])) ≡ true

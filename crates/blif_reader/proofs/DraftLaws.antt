@@ -1,7 +1,6 @@
 -- A draft goes on with the lines.
 use Rattle.std.proofs.Common.{◌≡◌, ℕ, List, [], ◌∷◌, ◌++◌, map, filter, length, Bool, true, false, ◌||◌, inl, inr, refl, sym, ◌∙◌, ap, subst, Option, None, Some}
 use Rattle.std.specs.Prelude.{if◌then◌else◌, codes, is_some}
-use Rattle.rm_model.specs.Words.{Word}
 use Rattle.blif_lines.specs.Layout.{Spot}
 use Rattle.blif_format.specs.Text.{Line, latch_words, cover_words}
 use Rattle.blif_format.specs.Grammar.{before_end, begins_with, is_dotted, words_after, words_of, names_lines, is_command, follow, body_of}
@@ -14,6 +13,7 @@ use Rattle.blif_reader.specs.declared.draft.Draft.{Draft}
 use Rattle.blif_reader.proofs.Compared.{word_tells}
 use Rattle.blif_reader.proofs.LineLaws.{word_for}
 use Rattle.blif_reader.proofs.GrammarLaws.{words_more, lines_more, names_more, names_row, follow_more, open_more, before_more}
+use Rattle.rm_base.specs.Words.{Word}
 
 abbrev pub is_model : Command → Bool
 is_model Model = true

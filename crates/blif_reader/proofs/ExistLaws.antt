@@ -5,8 +5,9 @@ use Rattle.std.specs.Option.{option_map}
 use Rattle.std.specs.List.{list_any}
 use Rattle.std.proofs.lemmas.Bool.Decides.{eqb_tells}
 use Rattle.std.proofs.lemmas.List.Elements.{All-nil, All-cons, All-append}
+use Rattle.std.proofs.lemmas.List.{map-append}
 use Rattle.blif_reader.proofs.TokenLaws.{spelled}
-use Rattle.rm_model.specs.Words.{Word, is_word, literal_byte, kind_word}
+use Rattle.rm_model.specs.Words.{is_word, literal_byte, kind_word}
 use Rattle.rm_model.specs.Value.{is_among}
 use Rattle.rm_model.specs.WellFormed.{IsWellFormedCover}
 use Rattle.rm_model.specs.declared.parts.Literal.{Literal}
@@ -27,9 +28,10 @@ use Rattle.blif_reader.specs.Lines.{IsLatchLine, are_literals}
 use Rattle.blif_reader.specs.Drafts.{opt_list, all_covers, RowsAre, CurrentIs, IsFitLatch, IsDraft, given_name, given_inputs, given_outputs, given_clocks, given_latches, given_covers, Changes, IsKnown, AddsRow}
 use Rattle.blif_reader.specs.declared.draft.Draft.{Draft}
 use Rattle.blif_reader.proofs.Compared.{word_tells}
-use Rattle.blif_reader.proofs.RowLaws.{IsRow, adds_row, current_rows, first_none, has_row, inputs_before, last_spot, map_append, row_spots, second_none}
+use Rattle.blif_reader.proofs.RowLaws.{IsRow, adds_row, current_rows, first_none, has_row, inputs_before, last_spot, row_spots, second_none}
 use Rattle.blif_reader.proofs.ShapeLaws.{new_cover, new_words, new_open}
 use Rattle.blif_reader.proofs.KnownLaws.{command_added, row_added}
+use Rattle.rm_base.specs.Words.{Word}
 
 -- LATCHES
 abbrev kind_from : Word → LatchKind
@@ -189,8 +191,8 @@ changes k ws d h = by (is_given k ws h)
       inputs = refl;
       outputs = refl;
       clocks = refl;
-      latches = map_append latch_words d.latches (latches_from k ws) ∙ ap (λ (xs : List (List Word)). map latch_words d.latches ++ xs) g.latches;
-      covers = map_append cover_words (all_covers d) (opt_list (cover_from k ws)) ∙ ap (λ (xs : List (Line × List Line)). map cover_words (all_covers d) ++ xs) g.covers;
+      latches = map-append latch_words d.latches (latches_from k ws) ∙ ap (λ (xs : List (List Word)). map latch_words d.latches ++ xs) g.latches;
+      covers = map-append cover_words (all_covers d) (opt_list (cover_from k ws)) ∙ ap (λ (xs : List (Line × List Line)). map cover_words (all_covers d) ++ xs) g.covers;
       current = g.current;
       shaped = λ s. record { covers = All-append IsWellFormedCover (all_covers d) (opt_list (cover_from k ws)) s.covers g.formed; latches = All-append IsFitLatch d.latches (latches_from k ws) s.latches g.fit };
     }

@@ -5,8 +5,9 @@ use Rattle.std.specs.List.{cons_option, filter_map, flat_map, list_all}
 use Rattle.std.proofs.lemmas.List.Folds.{list_any-append, list_all-append}
 use Rattle.std.proofs.lemmas.List.Elements.{All-head, All-tail}
 use Rattle.std.proofs.lemmas.List.{append-nil}
+use Rattle.std.proofs.Math.Bool.{or-false}
 use Rattle.blif_reader.proofs.TokenLaws.{false_true}
-use Rattle.rm_model.specs.Words.{Word, is_word}
+use Rattle.rm_model.specs.Words.{is_word}
 use Rattle.rm_model.specs.Value.{is_among, source_names, control_of}
 use Rattle.rm_model.specs.WellFormed.{is_distinct, driven_names, used_names}
 use Rattle.rm_model.specs.declared.parts.Cover.{Cover}
@@ -15,7 +16,7 @@ use Rattle.rm_model.specs.declared.parts.Model.{Model}
 use Rattle.blif_lines.specs.Layout.{Logical, words_in, has_words}
 use Rattle.blif_format.specs.Text.{Line, latch_words, cover_words}
 use Rattle.blif_format.specs.Grammar.{begins_with, words_after, words_of, names_lines}
-use Rattle.blif_format.specs.Uses.{Use, is_driver, wants_driver, names_in}
+use Rattle.blif_format.specs.Uses.{Use, is_driver, wants_driver, names_in, is_clock, is_input, is_output}
 use Rattle.blif_format.specs.declared.words.Command.{Command}
 use Rattle.blif_format.specs.declared.words.Command.TheVariants.{Inputs, Outputs, Clock, Names, Latch as LatchLine}
 use Rattle.blif_format.specs.declared.words.Role.{Role}
@@ -23,14 +24,17 @@ use Rattle.blif_format.specs.declared.words.Role.TheVariants.{Input, ClockInput,
 use Rattle.blif_format.specs.FirstFault.{is_cover_input, is_undriven, undriven_fault, fault}
 use Rattle.blif_format.specs.declared.refusal.FaultKind.TheVariants.{Undriven}
 use Rattle.blif_format.specs.declared.refusal.ReadRefusal.{ReadRefusal}
-use Rattle.blif_reader.specs.Tally.{plays, is_input, is_clock, is_latch, is_cover, is_output}
+use Rattle.blif_reader.specs.Tally.{plays, is_latch, is_cover}
 use Rattle.blif_reader.specs.Drafts.{IsFitLatch}
-use Rattle.blif_reader.proofs.Compared.{word_tells, word_same, or_false}
+use Rattle.blif_reader.proofs.Compared.{word_tells}
 use Rattle.blif_reader.proofs.Plays.{names_among, plays_driver}
 use Rattle.blif_reader.proofs.LineLaws.{word_for}
 use Rattle.blif_reader.proofs.CleanLaws.{IsClean, Apart}
 use Rattle.blif_reader.proofs.PartNames.{list_words, names_words, cover_names_in, latch_names_in, AreNames, singles, options}
 use Rattle.blif_reader.proofs.NameLaws.{is_latch_input, is_control, all_uses, uses_list, only_lines, only_input, only_clock, only_output, only_cover, only_cover_input, only_latch, only_latch_input, only_control, line_picks, list_picks, cover_picks, latch_picks, picks}
+use Rattle.rm_base.proofs.Public.{and_first, and_second}
+use Rattle.rm_base.specs.Words.{Word}
+use Rattle.rm_model.proofs.Public.{is_word-same}
 
 -- THE NAMES OF THE MODEL
 -- the names that are used in each role are those of the model's parts
@@ -79,21 +83,13 @@ names_are ls m inputs outputs clocks latches covers fit = record {
 pub among_append : (xs ys : List Word) (x : Word) → is_among (xs ++ ys) x ≡ (is_among xs x || is_among ys x)
 among_append xs ys x = list_any-append (is_word x) xs ys
 
-pub and_first : (a b : Bool) → (a && b) ≡ true → a ≡ true
-and_first true b e = refl
-and_first false b e = e
-
-pub and_second : (a b : Bool) → (a && b) ≡ true → b ≡ true
-and_second true b e = e
-and_second false b e = cc
-
 pub distinct_both : (xs ys : List Word) → is_distinct xs ≡ true → is_distinct ys ≡ true → ((x : Word) → is_among xs x ≡ true → is_among ys x ≡ false) → is_distinct (xs ++ ys) ≡ true
 distinct_both [] ys h k apart = k
 distinct_both (z ∷ zs) ys h k apart =
     let first : not (is_among zs z) ≡ true = and_first (not (is_among zs z)) (is_distinct zs) h in
     let more : is_distinct (zs ++ ys) ≡ true = distinct_both zs ys (and_second (not (is_among zs z)) (is_distinct zs) h) k (λ x e. apart x (ap (λ b. is_word x z || b) e ∙ or_last (is_word x z))) in
-    let other : is_among ys z ≡ false = apart z (ap (λ b. b || is_among zs z) (word_same z)) in
-    ap (λ b. not b && is_distinct (zs ++ ys)) (among_append zs ys z ∙ ap (λ b. is_among zs z || b) other ∙ or_false (is_among zs z)) ∙ ap (λ b. b && is_distinct (zs ++ ys)) first ∙ more
+    let other : is_among ys z ≡ false = apart z (ap (λ b. b || is_among zs z) (is_word-same z)) in
+    ap (λ b. not b && is_distinct (zs ++ ys)) (among_append zs ys z ∙ ap (λ b. is_among zs z || b) other ∙ or-false (is_among zs z)) ∙ ap (λ b. b && is_distinct (zs ++ ys)) first ∙ more
   where
     or_last : (a : Bool) → (a || true) ≡ true
     or_last true = refl

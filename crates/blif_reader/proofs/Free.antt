@@ -3,8 +3,9 @@ use Rattle.std.proofs.Common.{◌≡◌, ℕ, ◌+◌, ◌≤◌, zero, suc, Lis
 use Rattle.std.specs.Prelude.{if◌then◌else◌, slice_get, find, fold}
 use Rattle.std.specs.Option.{option_map}
 use Rattle.std.proofs.lemmas.List.{drop_all}
+use Rattle.std.proofs.Math.Bool.{or-true}
 use Rattle.rm_base.specs.declared.numbers.Place.{Place}
-use Rattle.rm_model.specs.Words.{Word, is_word}
+use Rattle.rm_model.specs.Words.{is_word}
 use Rattle.rm_model.specs.Value.{is_among}
 use Rattle.rm_model.specs.WellFormed.{is_distinct}
 use Rattle.blif_format.specs.Uses.{Use, is_driver, wants_driver, names_in}
@@ -16,8 +17,11 @@ use Rattle.blif_format.specs.declared.refusal.ReadRefusal.TheVariants.{Fault}
 use Rattle.blif_reader.specs.declared.names.Flags.{Flags}
 use Rattle.blif_reader.specs.declared.names.Entry.{Entry}
 use Rattle.blif_reader.specs.Tally.{Tally, entry_of, flags_at, flags_or_none, has_driver, free_of, first_free, plays, flags_in, with_first, first_of, IsTally}
-use Rattle.blif_reader.proofs.Compared.{or_true, word_tells, word_same, word_turned, among_more, word_is}
+use Rattle.blif_reader.proofs.Compared.{word_tells, word_turned, among_more}
 use Rattle.blif_reader.proofs.Plays.{plays_driver, names_among}
+use Rattle.rm_base.proofs.Public.{and_second, neither_first, neither_second}
+use Rattle.rm_base.specs.Words.{Word}
+use Rattle.rm_model.proofs.Public.{is_word-same, same_word}
 
 pub free_here : (es : List (Word × Entry)) (i : ℕ) (p : Place) → Some p ≡ free_of (slice_get es i) → first_free (drop i es) ≡ Some p
 free_here [] i p h = let wrong : Some p ≡ None = h in cc
@@ -56,10 +60,6 @@ not_first : (a b : Bool) → (not a && b) ≡ true → a ≡ false
 not_first true b e = cc
 not_first false b e = refl
 
-and_last : (a b : Bool) → (a && b) ≡ true → b ≡ true
-and_last true b e = e
-and_last false b e = cc
-
 key_names : List (Word × Entry) → List Word
 key_names es = map (λ (e : Word × Entry). e.0) es
 
@@ -67,37 +67,29 @@ free_by_name : (es : List (Word × Entry)) (look : Word → Flags) → is_distin
 unfolding first_place key_names
 free_by_name [] look d same = refl
 free_by_name (e ∷ es) look d same =
-    let here : look e.0 ≡ e.1.flags = same e.0 (ap (λ b. b || is_among (key_names es) e.0) (word_same e.0)) ∙ ap (λ (b : Bool). flags_or_none (if b then Some e.1 else entry_of es e.0)) (word_same e.0) in
+    let here : look e.0 ≡ e.1.flags = same e.0 (ap (λ b. b || is_among (key_names es) e.0) (is_word-same e.0)) ∙ ap (λ (b : Bool). flags_or_none (if b then Some e.1 else entry_of es e.0)) (is_word-same e.0) in
     let new : is_among (key_names es) e.0 ≡ false = not_first (is_among (key_names es) e.0) (is_distinct (key_names es)) d in
-    at (has_driver e.1.flags) refl here (free_by_name es look (and_last (not (is_among (key_names es) e.0)) (is_distinct (key_names es)) d) (λ y h. later y h new))
+    at (has_driver e.1.flags) refl here (free_by_name es look (and_second (not (is_among (key_names es) e.0)) (is_distinct (key_names es)) d) (λ y h. later y h new))
   where
     later : (y : Word) → is_among (key_names es) y ≡ true → is_among (key_names es) e.0 ≡ false → look y ≡ flags_at es y
     later y h new = elim (word_tells y e.0) [
       | inl s ↦ let wrong : true ≡ false = sym h ∙ ap (is_among (key_names es)) s.1 ∙ new in cc
-      | inr s ↦ same y (ap (λ b. is_word y e.0 || b) h ∙ or_true (is_word y e.0)) ∙ ap (λ (b : Bool). flags_or_none (if b then Some e.1 else entry_of es y)) s.0
+      | inr s ↦ same y (ap (λ b. is_word y e.0 || b) h ∙ or-true (is_word y e.0)) ∙ ap (λ (b : Bool). flags_or_none (if b then Some e.1 else entry_of es y)) s.0
     ]
 
     at : (t : Bool) → has_driver e.1.flags ≡ t → look e.0 ≡ e.1.flags → first_free es ≡ first_place (λ y. not (has_driver (look y))) (map first_of es) → first_free (e ∷ es) ≡ first_place (λ y. not (has_driver (look y))) (map first_of (e ∷ es))
     at true i here ih = let test : has_driver (look e.0) ≡ true = ap has_driver here ∙ i in rw (i, test) ih
     at false i here ih = let test : has_driver (look e.0) ≡ false = ap has_driver here ∙ i in rw (i, test) refl
 
-pub or_left : (a b : Bool) → (a || b) ≡ false → a ≡ false
-or_left true b e = e
-or_left false b e = refl
-
-pub or_right : (a b : Bool) → (a || b) ≡ false → b ≡ false
-or_right true b e = cc
-or_right false b e = e
-
 -- first uses have different names
 pub distinct_add : (xs : List Word) (x : Word) → is_distinct xs ≡ true → is_among xs x ≡ false → is_distinct (xs ++ x ∷ []) ≡ true
 distinct_add [] x d n = refl
 distinct_add (y ∷ ys) x d n =
     let new : is_among ys y ≡ false = not_first (is_among ys y) (is_distinct ys) d in
-    let other : is_word x y ≡ false = or_left (is_word x y) (is_among ys x) n in
-    let rest : is_among ys x ≡ false = or_right (is_word x y) (is_among ys x) n in
+    let other : is_word x y ≡ false = neither_first (is_word x y) (is_among ys x) n in
+    let rest : is_among ys x ≡ false = neither_second (is_word x y) (is_among ys x) n in
     let still : is_among (ys ++ x ∷ []) y ≡ false = among_more ys x y ∙ ap (λ b. b || is_word y x) new ∙ word_turned y x ∙ other in
-    ap (λ b. not b && is_distinct (ys ++ x ∷ [])) still ∙ distinct_add ys x (and_last (not (is_among ys y)) (is_distinct ys) d) rest
+    ap (λ b. not b && is_distinct (ys ++ x ∷ [])) still ∙ distinct_add ys x (and_second (not (is_among ys y)) (is_distinct ys) d) rest
 
 map_names : (fs : List (Word × Place)) (u : Use) → names_at (fs ++ (u.name, u.place) ∷ []) ≡ names_at fs ++ u.name ∷ []
 unfolding names_at
@@ -133,7 +125,7 @@ place_among q (f ∷ fs) x a h = at (q f.0) (is_word x f.0) refl refl (place_amo
   where
     at : (t w : Bool) → q f.0 ≡ t → is_word x f.0 ≡ w → (is_among (names_at fs) x ≡ true → q x ≡ true → (p : Place) × (first_place q fs ≡ Some p)) → (p : Place) × (first_place q (f ∷ fs) ≡ Some p)
     at true w i j ih = (f.1, rw i refl)
-    at false true i j ih = let same : x ≡ f.0 = word_is x f.0 j in let wrong : true ≡ false = sym h ∙ ap q same ∙ i in cc
+    at false true i j ih = let same : x ≡ f.0 = same_word x f.0 j in let wrong : true ≡ false = sym h ∙ ap q same ∙ i in cc
     at false false i j ih = let r = ih (rw j at a) h in (r.0, rw i r.1)
 
 or_same : (a b : Option Place) → (p : Place) → a ≡ Some p → or_place a b ≡ a
@@ -176,8 +168,8 @@ wants_case : (r : Role) → wants_driver r ≡ not (is_driver r)
 wants_case r = elim r as (λ r. wants_driver r ≡ not (is_driver r)) [ Input ↦ refl | ClockInput ↦ refl | Output ↦ refl | CoverInput ↦ refl | CoverOutput ↦ refl | LatchInput ↦ refl | LatchOutput ↦ refl | Control ↦ refl ]
 
 plays_in : (test : Role → Bool) (pre : List Use) (u : Use) (us : List Use) → test u.role ≡ true → plays test (pre ++ u ∷ us) u.name ≡ true
-plays_in test [] u us h = ap (λ b. (b && is_word u.name u.name) || plays test us u.name) h ∙ ap (λ b. b || plays test us u.name) (word_same u.name)
-plays_in test (v ∷ vs) u us h = ap (λ b. (test v.role && is_word v.name u.name) || b) (plays_in test vs u us h) ∙ or_true (test v.role && is_word v.name u.name)
+plays_in test [] u us h = ap (λ b. (b && is_word u.name u.name) || plays test us u.name) h ∙ ap (λ b. b || plays test us u.name) (is_word-same u.name)
+plays_in test (v ∷ vs) u us h = ap (λ b. (test v.role && is_word v.name u.name) || b) (plays_in test vs u us h) ∙ or-true (test v.role && is_word v.name u.name)
 
 abbrev free_name : List Use → Word → Bool
 free_name all y = not (has_driver (flags_in all y))

@@ -1,12 +1,12 @@
 -- What one more line adds to what the grammar reads of lines.
 use Rattle.std.proofs.Common.{◌≡◌, List, [], ◌∷◌, ◌++◌, map, filter, Bool, true, false, ◌&&◌, ◌||◌, inl, inr, refl, sym, ◌∙◌, ap, append_assoc}
 use Rattle.std.specs.Prelude.{if◌then◌else◌, codes}
-use Rattle.blif_reader.proofs.TokenLaws.{or_one}
-use Rattle.rm_model.specs.Words.{Word}
 use Rattle.blif_format.specs.Text.{Line}
 use Rattle.blif_format.specs.Grammar.{before, begins_with, is_dotted, words_after, words_of, names_lines, is_command, follow}
 use Rattle.blif_reader.specs.Drafts.{is_open, add_row}
 use Rattle.blif_reader.proofs.Compared.{word_tells}
+use Rattle.rm_base.proofs.Public.{neither_first, neither_second}
+use Rattle.rm_base.specs.Words.{Word}
 
 pub words_more : (x : Word) (ls : List Line) (l : Line) → words_of x (ls ++ l ∷ []) ≡ words_of x ls ++ (if begins_with x l then words_after l else [])
 words_more x [] l = at (begins_with x l) refl
@@ -68,23 +68,19 @@ open_dotted c d (l ∷ ls) h = at (is_dotted l) refl (open_dotted c d ls)
     at true e ih = rw e refl
     at false e ih = rw e (ih (rw e at h))
 
-or_two : (a b : Bool) → (a || b) ≡ false → b ≡ false
-or_two true b e = cc
-or_two false b e = e
-
 plain_before : (ls : List Line) (r : Line) → is_dotted r ≡ false → has_dotted ls ≡ false → before is_dotted (ls ++ r ∷ []) ≡ before is_dotted ls ++ r ∷ []
 plain_before [] r e h = rw e refl
 plain_before (l ∷ ls) r e h =
-    let here : is_dotted l ≡ false = or_one (is_dotted l) (has_dotted ls) h in
-    rw here (ap (λ (xs : List Line). l ∷ xs) (plain_before ls r e (or_two (is_dotted l) (has_dotted ls) h)))
+    let here : is_dotted l ≡ false = neither_first (is_dotted l) (has_dotted ls) h in
+    rw here (ap (λ (xs : List Line). l ∷ xs) (plain_before ls r e (neither_second (is_dotted l) (has_dotted ls) h)))
 
 plain_names : (ls : List Line) → has_dotted ls ≡ false → names_lines ls ≡ []
 plain_names [] h = refl
-plain_names (l ∷ ls) h = let here : begins_with (codes ".names") l ≡ false = begins_dotted l (or_one (is_dotted l) (has_dotted ls) h) in rw here (plain_names ls (or_two (is_dotted l) (has_dotted ls) h))
+plain_names (l ∷ ls) h = let here : begins_with (codes ".names") l ≡ false = begins_dotted l (neither_first (is_dotted l) (has_dotted ls) h) in rw here (plain_names ls (neither_second (is_dotted l) (has_dotted ls) h))
 
 plain_more : (ls : List Line) (r : Line) → is_dotted r ≡ false → has_dotted ls ≡ false → has_dotted (ls ++ r ∷ []) ≡ false
 plain_more [] r e h = rw e refl
-plain_more (l ∷ ls) r e h = let here : is_dotted l ≡ false = or_one (is_dotted l) (has_dotted ls) h in rw here (plain_more ls r e (or_two (is_dotted l) (has_dotted ls) h))
+plain_more (l ∷ ls) r e h = let here : is_dotted l ≡ false = neither_first (is_dotted l) (has_dotted ls) h in rw here (plain_more ls r e (neither_second (is_dotted l) (has_dotted ls) h))
 
 dotted_before : (ls : List Line) (r : Line) → has_dotted ls ≡ true → before is_dotted (ls ++ r ∷ []) ≡ before is_dotted ls
 dotted_before [] r h = cc

@@ -3,7 +3,8 @@ use Rattle.std.proofs.Common.{◌≡◌, ℕ, ◌<◌, ◌+◌, List, [], ◌∷
 use Rattle.std.specs.Prelude.{if◌then◌else◌, codes, nat_lt}
 use Rattle.std.specs.Option.{option_map}
 use Rattle.std.specs.List.{filter_map}
-use Rattle.rm_model.specs.Words.{Word, is_word}
+use Rattle.std.proofs.lemmas.List.{length-map}
+use Rattle.rm_model.specs.Words.{is_word}
 use Rattle.rm_model.specs.Value.{is_among}
 use Rattle.blif_lines.specs.Layout.{Spot}
 use Rattle.blif_format.specs.Text.{Line}
@@ -18,17 +19,18 @@ use Rattle.blif_format.specs.declared.refusal.FaultKind.TheVariants.{BadLatchWor
 use Rattle.blif_reader.specs.Rows.{cover_for, ends}
 use Rattle.blif_reader.specs.Drafts.{IsDraft, Changes, IsKnown, CurrentIs, AddsRow}
 use Rattle.blif_reader.specs.declared.draft.Draft.{Draft}
-use Rattle.blif_reader.proofs.Compared.{word_is}
-use Rattle.blif_reader.proofs.PartLaws.{length_map}
 use Rattle.blif_reader.proofs.LineLaws.{word_for, command_word, after_ended, after_cover}
-use Rattle.blif_reader.proofs.RowLaws.{first_none, second_none, not_fault, not_not}
+use Rattle.blif_reader.proofs.RowLaws.{first_none, second_none, not_fault}
 use Rattle.blif_reader.proofs.DraftLaws.{is_model, command_body, command_end, command_first, row_line}
+use Rattle.rm_base.proofs.Public.{true_from_not}
+use Rattle.rm_base.specs.Words.{Word}
+use Rattle.rm_model.proofs.Public.{same_word}
 
 abbrev spelled : List Spot → List Word
 spelled ss = map (λ (t : Spot). t.word) ss
 
 bad_word : (names : List Word) (w : Word) (s : Spot) → fault_if (not (is_among names w)) BadLatchWord s.place ≡ None → is_among names w ≡ true
-bad_word names w s e = not_not (is_among names w) (not_fault (not (is_among names w)) BadLatchWord s.place e)
+bad_word names w s e = true_from_not (is_among names w) (not_fault (not (is_among names w)) BadLatchWord s.place e)
 
 abbrev Fine : Part → Spot → Type 0
 Fine LatchType s = is_among latch_types s.word ≡ true
@@ -145,7 +147,7 @@ command_added said lines d e s ss k is none h ch = at said.began refl
     w = command_word s.word k h
 
     long : (after_line said (s ∷ ss)).cover ≡ cover_for k (length (spelled ss))
-    long = after_cover said k s ss h ∙ ap (λ (n : ℕ). cover_for k n) (sym (length_map (λ (t : Spot). t.word) ss))
+    long = after_cover said k s ss h ∙ ap (λ (n : ℕ). cover_for k n) (sym (length-map ss (λ (t : Spot). t.word)))
 
     by_end : (t : Bool) → ends k ≡ t → said.began ≡ true → is_model k ≡ false → IsKnown k (spelled ss) → IsDraft (after_line said (s ∷ ss)) (lines ++ (s.word ∷ spelled ss) ∷ []) e
     by_end false f b m known = command_body said lines d e s ss k (spelled ss) is b (goes_on said s ss none) m f w (after_ended said k s ss h) long (ch known)
@@ -169,12 +171,12 @@ command_added said lines d e s ss k is none h ch = at said.began refl
         by_end (ends k) refl b g.0 (known_of said.uses s k ss g.1)
     at false b =
         let f = first_goes said s ss none b in
-        let same : k ≡ Model = model_is k (sym (word_is (codes ".model") s.word f.0)) in
+        let same : k ≡ Model = model_is k (sym (same_word (codes ".model") s.word f.0)) in
         let known : IsKnown Model (spelled ss) = known_of [] s Model ss f.1 in
         let one = one_word (spelled ss) known in
         let c : Changes Model (spelled ss) d e = subst (λ (j : Command). Changes j (spelled ss) d e) same (ch (subst (λ (j : Command). IsKnown j (spelled ss)) (sym same) known)) in
         subst (λ (ws : List Word). IsDraft (after_line said (s ∷ ss)) (lines ++ (s.word ∷ ws) ∷ []) e) (sym one.1)
-        (command_first said lines d e s ss one.0 is b (goes_on said s ss none) (sym (word_is (codes ".model") s.word f.0)) (after_ended said k s ss h ∙ ap (λ (j : Command). said.ended || ends j) same) (after_cover said k s ss h ∙ ap (λ (j : Command). cover_for j (length ss)) same) (subst (λ (ws : List Word). Changes Model ws d e) one.1 c))
+        (command_first said lines d e s ss one.0 is b (goes_on said s ss none) (sym (same_word (codes ".model") s.word f.0)) (after_ended said k s ss h ∙ ap (λ (j : Command). said.ended || ends j) same) (after_cover said k s ss h ∙ ap (λ (j : Command). cover_for j (length ss)) same) (subst (λ (ws : List Word). Changes Model ws d e) one.1 c))
 
 -- a row's line
 pub row_added : (said : Said) (lines : List Line) (d e : Draft) (s : Spot) (ss : List Spot) → IsDraft said lines d → words_fault said (s ∷ ss) ≡ None → command_of s.word ≡ None → ((o : SaidCover) → CurrentIs (Some o) d.current → row_fault o s ss ≡ None → AddsRow s ss o d e) → IsDraft (after_line said (s ∷ ss)) (lines ++ (s.word ∷ spelled ss) ∷ []) e
@@ -183,7 +185,7 @@ row_added said lines d e s ss is none h add = at said.began refl
     at : (t : Bool) → said.began ≡ t → IsDraft (after_line said (s ∷ ss)) (lines ++ (s.word ∷ spelled ss) ∷ []) e
     at false b =
         let f = first_goes said s ss none b in
-        let wrong : command_of s.word ≡ Some Model = ap command_of (sym (word_is (codes ".model") s.word f.0)) in
+        let wrong : command_of s.word ≡ Some Model = ap command_of (sym (same_word (codes ".model") s.word f.0)) in
         let bad : None ≡ Some Model = sym h ∙ wrong in cc
     at true b = by (is_dotted s.word) refl (later_goes said s ss none b)
       where
@@ -202,7 +204,7 @@ row_added said lines d e s ss is none h add = at said.began refl
             ended = ap (λ (t : Bool). t || is_word (codes ".end") s.word) (goes_on said s ss none) ∙ not_end (is_word (codes ".end") s.word) refl
               where
                 not_end : (t : Bool) → is_word (codes ".end") s.word ≡ t → (false || is_word (codes ".end") s.word) ≡ false
-                not_end true j = let wrong : true ≡ false = ap is_dotted (word_is (codes ".end") s.word j) ∙ i in cc
+                not_end true j = let wrong : true ≡ false = ap is_dotted (same_word (codes ".end") s.word j) ∙ i in cc
                 not_end false j = j
 
             over : (o : Option SaidCover) → said.cover ≡ o → row_fault_in said.cover s ss ≡ None → IsDraft (after_line said (s ∷ ss)) (lines ++ (s.word ∷ spelled ss) ∷ []) e

@@ -1,6 +1,5 @@
 -- The words of a latch.
 use Rattle.std.proofs.Common.{◌≡◌, ◌≢◌, ℕ, ◌<◌, ◌≤◌, List, [], ◌∷◌, ◌++◌, length, get_or, true, refl, arith, None, Some}
-use Rattle.rm_model.specs.Words.{Word}
 use Rattle.rm_model.specs.Value.{is_among}
 use Rattle.rm_model.specs.declared.parts.Timing.{Timing}
 use Rattle.blif_lines.specs.Reading.{spot_of}
@@ -8,6 +7,7 @@ use Rattle.blif_lines.specs.declared.line.Token.{Token}
 use Rattle.blif_format.specs.Text.{timing_words, init_words}
 use Rattle.blif_format.specs.FirstFault.{latch_types, init_values}
 use Rattle.blif_reader.specs.Lines.{words_at, IsLatchLine, init_part, timing_part}
+use Rattle.rm_base.specs.Words.{Word}
 
 abbrev pub word_at : List ℕ → Token → Word
 word_at text t = (spot_of text t).word

@@ -3,7 +3,7 @@ use Rattle.std.proofs.Common.{◌≡◌, ℕ, ◌-◌, List, [], ◌∷◌, ◌+
 use Rattle.std.specs.Prelude.{if◌then◌else◌, OnOk, IfErr, codes}
 use Rattle.std.specs.List.{filter_map}
 use Rattle.std.specs.Option.{option_map}
-use Rattle.rm_model.specs.Words.{Word, is_word}
+use Rattle.rm_model.specs.Words.{is_word}
 use Rattle.blif_lines.specs.Layout.{Spot}
 use Rattle.blif_format.specs.Uses.{command_in, command_words, command_of, parts_of, Use, use_of, uses_of}
 use Rattle.blif_format.specs.declared.words.Command.{Command}
@@ -17,6 +17,7 @@ use Rattle.blif_reader.specs.Rows.{cover_for, ends}
 use Rattle.blif_reader.specs.Said.{said_cover, IsSaid}
 use Rattle.blif_reader.specs.declared.check.Checker.{Checker}
 use Rattle.blif_reader.proofs.Compared.{word_tells}
+use Rattle.rm_base.specs.Words.{Word}
 
 abbrev pub word_for : Command → Word
 word_for Model = codes ".model"

@@ -4,7 +4,7 @@ use Rattle.std.specs.Prelude.{◌⊎◌, if◌then◌else◌, codes, position, r
 use Rattle.std.specs.List.{cons_option, filter_map, position_or_len}
 use Rattle.std.specs.Option.{option_map}
 use Rattle.rm_base.specs.declared.numbers.Place.{Place}
-use Rattle.rm_model.specs.Words.{Word, is_word}
+use Rattle.rm_model.specs.Words.{is_word}
 use Rattle.rm_model.specs.Value.{IsRanked, source_names, observed_names}
 use Rattle.rm_model.specs.WellFormed.{driven_names, is_distinct, IsWellFormed}
 use Rattle.rm_model.specs.Ranks.{cover_of, rank_above, rank_by, ranks_below, ranks_of, highest, first_without_rank}
@@ -13,6 +13,7 @@ use Rattle.rm_model.specs.declared.parts.Model.{Model}
 use Rattle.std.proofs.Common.{◌<◌, ◌≤◌, ◌+◌, ◌*◌, arith}
 use Rattle.std.specs.Prelude.{is_none}
 use Rattle.std.proofs.lemmas.Bool.{lt-ltb, le-ltb, ltb-true, ltb-false}
+use Rattle.std.proofs.lemmas.List.{length-map}
 use Rattle.blif_lines.specs.Layout.{Spot, Logical, words_in, has_words, layout, lines_of}
 use Rattle.blif_format.specs.Text.{cover_words}
 use Rattle.blif_format.specs.Grammar.{before, is_dotted, names_lines, before_end, Reads}
@@ -33,6 +34,8 @@ use Rattle.blif_reader.proofs.ExistLaws.{draft_exists}
 use Rattle.blif_reader.proofs.TokenLaws.{line_bytes, text_size}
 use Rattle.blif_reader.proofs.SizeLaws.{sources_small, observed_small, covers_small, weight_small}
 use Rattle.blif_reader.proofs.WholeLaws.{IsSound, sound, well_formed}
+use Rattle.rm_base.proofs.Public.{map_pointwise}
+use Rattle.rm_base.specs.Words.{Word}
 
 -- the first place without rank
 abbrev first_gap : List (Option ℕ) → Option ℕ
@@ -82,12 +85,8 @@ cover_strip : (cs : List Cover) (x : Word) → cover_of (map strip cs) x ≡ cov
 cover_strip [] x = refl
 cover_strip (c ∷ cs) x = ap (λ (o : Option ℕ). if is_word x c.output then Some 0 else option_map (λ k. suc k) o) (cover_strip cs x)
 
-map_same : {A B : Type 0} (f g : A → B) → ((a : A) → f a ≡ g a) → (xs : List A) → map f xs ≡ map g xs
-map_same f g e [] = refl
-map_same f g e (x ∷ xs) = ap (λ y. y ∷ map f xs) (e x) ∙ ap (λ ys. g x ∷ ys) (map_same f g e xs)
-
 rank_strip : (m : Model) (ranks : List (Option ℕ)) (c : Cover) → rank_by (bare_model (map strip m.covers)) ranks (strip c) ≡ rank_by m ranks c
-rank_strip m ranks c = ap highest (map_same (λ (x : Word). rank_above ranks (cover_of (map strip m.covers) x)) (λ (x : Word). rank_above ranks (cover_of m.covers x)) (λ x. ap (rank_above ranks) (cover_strip m.covers x)) c.inputs)
+rank_strip m ranks c = ap highest (map_pointwise (λ (x : Word). rank_above ranks (cover_of (map strip m.covers) x)) (λ (x : Word). rank_above ranks (cover_of m.covers x)) (λ x. ap (rank_above ranks) (cover_strip m.covers x)) c.inputs)
 
 map_strip : (m : Model) (ranks : List (Option ℕ)) (cs : List Cover) → map (rank_by (bare_model (map strip m.covers)) ranks) (map strip cs) ≡ map (rank_by m ranks) cs
 map_strip m ranks [] = refl
@@ -160,19 +159,15 @@ began_is text said c d places r e = r.checked.began ∙ e
 pub is_formed : (text : List ℕ) (c : Checker) (d : Draft) (places : List Place) → IsRead text (said_by nothing_said (layout text)) c d places → lines_fault nothing_said (layout text) ≡ None → undriven_fault (said_by nothing_said (layout text)).uses ≡ None → (said_by nothing_said (layout text)).began ≡ true → IsWellFormed (model_in d)
 is_formed text c d places r none driven began = well_formed text (said_by nothing_said (layout text)) d none driven began r.drafted
 
-map_length : {A B : Type 0} (f : A → B) (xs : List A) → length (map f xs) ≡ length xs
-map_length f [] = refl
-map_length f (x ∷ xs) = ap suc (map_length f xs)
-
 -- each cover has a place
 pub are_placed : (text : List ℕ) (said : Said) (c : Checker) (d : Draft) (places : List Place) → IsRead text said c d places → length places ≡ length (model_in d).covers
 are_placed text said c d places r =
     ap length (sym r.places_are)
-    ∙ map_length (λ (e : Place × Cover). e.0) (filter_map cover_in (layout text))
-    ∙ sym (map_length (λ (e : Place × Cover). e.1) (filter_map cover_in (layout text)))
+    ∙ length-map (filter_map cover_in (layout text)) (λ (e : Place × Cover). e.0)
+    ∙ sym (length-map (filter_map cover_in (layout text)) (λ (e : Place × Cover). e.1))
     ∙ ap length (r.covers_are ∙ ap (map bare_cover) r.drafted.covers)
-    ∙ map_length bare_cover (map cover_words (all_covers d))
-    ∙ map_length cover_words (all_covers d)
+    ∙ length-map (map cover_words (all_covers d)) bare_cover
+    ∙ length-map (all_covers d) cover_words
 
 pub few_covers : (text : List ℕ) (said : Said) (d : Draft) → IsDraft said (lines_of text) d → length (all_covers d) ≤ length text
 few_covers text said d is =
@@ -222,7 +217,7 @@ no_rank_missing : (text : List ℕ) (d : Draft) → names_lines (lines_of text) 
 no_rank_missing text d covers long none =
     let same : map (λ (e : Place × Cover). e.1) (filter_map cover_in (layout text)) ≡ map strip (all_covers d) = covers_in_lines (layout text) ∙ ap (map bare_cover) covers ∙ bare_strip (all_covers d) in
     let places : length (map (λ (e : Place × Cover). e.0) (filter_map cover_in (layout text))) ≡ length (all_covers d) =
-    map_length (λ (e : Place × Cover). e.0) (filter_map cover_in (layout text)) ∙ sym (map_length (λ (e : Place × Cover). e.1) (filter_map cover_in (layout text))) ∙ ap length same ∙ length_strip (all_covers d) in
+    length-map (filter_map cover_in (layout text)) (λ (e : Place × Cover). e.0) ∙ sym (length-map (filter_map cover_in (layout text)) (λ (e : Place × Cover). e.1)) ∙ ap length same ∙ length_strip (all_covers d) in
     let found : first_unranked (map (λ (e : Place × Cover). e.0) (filter_map cover_in (layout text))) (ranks_of (model_in d)) ≡ None =
     ap (first_unranked (map (λ (e : Place × Cover). e.0) (filter_map cover_in (layout text)))) (sym (ranks_strip (model_in d)) ∙ ap (λ (cs : List Cover). ranks_of (bare_model cs)) (sym same)) ∙ none in
     gap_position (ranks_of (model_in d)) ∙ no_unranked (map (λ (e : Place × Cover). e.0) (filter_map cover_in (layout text))) (ranks_of (model_in d)) (omega arith) found

@@ -5,7 +5,7 @@ use Rattle.std.specs.List.{cons_option, filter_map, list_all}
 use Rattle.std.proofs.lemmas.Bool.{le-ltb}
 use Rattle.std.proofs.lemmas.List.Folds.{list_all-append}
 use Rattle.rm_base.specs.declared.numbers.Place.{Place}
-use Rattle.rm_model.specs.Words.{Word, is_word}
+use Rattle.rm_model.specs.Words.{is_word}
 use Rattle.rm_model.specs.Value.{is_among}
 use Rattle.blif_lines.specs.Layout.{Spot, Logical, Flaw, BadByteAt, OpenJoinAt}
 use Rattle.blif_format.specs.Text.{Line}
@@ -26,11 +26,13 @@ use Rattle.blif_format.specs.declared.refusal.Quantity.TheVariants.{Name as Name
 use Rattle.blif_format.specs.declared.refusal.ReadRefusal.{ReadRefusal}
 use Rattle.blif_format.specs.declared.refusal.ReadRefusal.TheVariants.{Limit}
 use Rattle.blif_reader.specs.Limits.{is_short}
-use Rattle.blif_reader.proofs.Compared.{word_same}
 use Rattle.blif_reader.proofs.NameLaws.{all_uses, names_append}
 use Rattle.blif_reader.proofs.LineLaws.{command_word, uses_case}
-use Rattle.blif_reader.proofs.FormLaws.{and_first, and_second, lines_in}
+use Rattle.blif_reader.proofs.FormLaws.{lines_in}
 use Rattle.blif_reader.proofs.WordCounts.{kinds_among, kinds_length}
+use Rattle.rm_base.proofs.Public.{and_first, and_second, false_from_not}
+use Rattle.rm_base.specs.Words.{Word}
+use Rattle.rm_model.proofs.Public.{is_word-same}
 
 abbrev pub every : Role → Bool
 every role = true
@@ -84,10 +86,6 @@ few_first sources names us vs few = record {
   signals = all_first (is_among names) every us vs few.signals;
 }
 
-not_not : (b : Bool) → not b ≡ true → b ≡ false
-not_not true e = cc
-not_not false e = refl
-
 module _ (sources names : List Word) (few_sources : length sources ≤ 1024) (few_names : length names ≤ 131072) where
   -- the last name used is short
   last_short : (had : List Use) (u : Use) → list_all is_short (names_in every (had ++ u ∷ [])) ≡ true → is_short u.name ≡ true
@@ -109,7 +107,7 @@ module _ (sources names : List Word) (few_sources : length sources ≤ 1024) (fe
       let n3 : n ≤ 131072 = omega arith in
       or_else_fine (fault_if (stands_in drives_twice had u) DoubleDriven u.place) _ (fault_if_fine (stands_in drives_twice had u) DoubleDriven u.place)
       (or_else_fine (fault_if (stands_in lists_twice had u) DoubleOutput u.place) _ (fault_if_fine (stands_in lists_twice had u) DoubleOutput u.place)
-      (or_else_fine (name_limit u.name u.place) _ (limit_if_fine (nat_lt 1024 (length u.name)) NameLength (length u.name) u.place (not_not (nat_lt 1024 (length u.name)) (last_short had u few.short)))
+      (or_else_fine (name_limit u.name u.place) _ (limit_if_fine (nat_lt 1024 (length u.name)) NameLength (length u.name) u.place (false_from_not (nat_lt 1024 (length u.name)) (last_short had u few.short)))
       (or_else_fine (limit_if (is_cover_input u.role && nat_lt 65535 earlier) InputCount (earlier + 1) u.place) _ (limit_if_fine (is_cover_input u.role && nat_lt 65535 earlier) InputCount (earlier + 1) u.place wide)
       (or_else_fine (limit_if (is_over 1024 s) Sources s u.place) _ (limit_if_fine (is_over 1024 s) Sources s u.place (le-ltb 1024 s s3))
       (or_else_fine (limit_if (is_over 4096 o) Observed o u.place) (limit_if (is_over 131072 n) Signals n u.place) (limit_if_fine (is_over 4096 o) Observed o u.place (le-ltb 4096 o few.observed))
@@ -301,7 +299,7 @@ module _ (sources names : List Word) (few_sources : length sources ≤ 1024) (fe
   dotted_fine had s ss (Some Outputs) h few fit = known_fine had s ss Outputs h few tt
   dotted_fine had s ss (Some Clock) h few fit = known_fine had s ss Clock h few tt
   dotted_fine had s ss (Some Names) h few fit =
-      let most : length (map (λ (t : Spot). t.word) ss) ≤ 65537 = fit (ap (is_word (codes ".names")) (command_word s.word Names h) ∙ word_same (codes ".names")) in
+      let most : length (map (λ (t : Spot). t.word) ss) ≤ 65537 = fit (ap (is_word (codes ".names")) (command_word s.word Names h) ∙ is_word-same (codes ".names")) in
       known_fine had s ss Names h few (subst (λ (n : ℕ). n ≤ 65537) (spelled_length ss) most)
   dotted_fine had s ss (Some Latch) h few fit = known_fine had s ss Latch h few tt
   dotted_fine had s ss (Some End) h few fit = known_fine had s ss End h few tt

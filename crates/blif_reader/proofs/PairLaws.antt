@@ -3,11 +3,12 @@ use Rattle.std.proofs.Common.{◌≡◌, ◌≢◌, ◌<◌, ℕ, zero, suc, Lis
 use Rattle.std.specs.Prelude.{slice_get, slice_set}
 use Rattle.std.specs.List.{zip}
 use Rattle.std.specs.Option.{option_map}
-use Rattle.rm_model.specs.Words.{Word, is_word}
+use Rattle.rm_model.specs.Words.{is_word}
 use Rattle.rm_model.specs.Value.{is_among}
 use Rattle.rm_model.specs.Numbers.{place_of}
 use Rattle.blif_reader.specs.declared.names.Entry.{Entry}
 use Rattle.blif_reader.specs.Tally.{entry_of, put_entry}
+use Rattle.rm_base.specs.Words.{Word}
 
 less : (j k : ℕ) → suc j ≡ suc k → j ≡ k
 less j k e = omega (arith, e)

@@ -3,7 +3,7 @@ use Rattle.std.proofs.Common.{◌≡◌, ℕ, zero, suc, ◌+◌, ◌≤◌, ◌
 use Rattle.std.specs.Prelude.{if◌then◌else◌, slice_get, ◌==◌, nat_lt}
 use Rattle.std.specs.List.{filter_map}
 use Rattle.std.proofs.Common.{get_or, subst}
-use Rattle.std.proofs.lemmas.List.{drop_all}
+use Rattle.std.proofs.lemmas.List.{drop_all, length-map}
 use Rattle.blif_lines.specs.Reading.{spot_of}
 use Rattle.blif_lines.specs.declared.line.Token.{Token}
 use Rattle.std.proofs.lemmas.Bool.Decides.{eqb_tells}
@@ -22,6 +22,7 @@ use Rattle.blif_format.specs.declared.refusal.ReadRefusal.{ReadRefusal}
 use Rattle.blif_format.specs.declared.refusal.ReadRefusal.TheVariants.{Fault, Limit, NoMemory}
 use Rattle.blif_reader.specs.Meant.{IsRefusal}
 use Rattle.blif_reader.specs.Parts.{latch_part_at, part_in}
+use Rattle.rm_base.proofs.Public.{take_one_more}
 
 some_is : (t s : Spot) → Some t ≡ Some s → t ≡ s
 some_is t s h = cc
@@ -106,14 +107,6 @@ drop_here {A = A} xs i x h = go xs i h ∙ ap (λ n. x ∷ drop n xs) (sym (add-
     go (y ∷ ys) zero h = let same : y ≡ x = cc in ap (λ z. z ∷ ys) same
     go (y ∷ ys) (suc i) h = go ys i h
 
-pub take_here : {A : Type 0} (xs : List A) (i : ℕ) (x : A) → slice_get xs i ≡ Some x → take (i + 1) xs ≡ take i xs ++ x ∷ []
-take_here {A = A} xs i x h = ap (λ n. take n xs) (add-one i) ∙ go xs i h
-  where
-    go : (xs : List A) (i : ℕ) → slice_get xs i ≡ Some x → take (suc i) xs ≡ take i xs ++ x ∷ []
-    go [] i h = cc
-    go (y ∷ ys) zero h = let same : y ≡ x = cc in ap (λ z. z ∷ []) same
-    go (y ∷ ys) (suc i) h = ap (λ zs. y ∷ zs) (go ys i h)
-
 is_first : (e : ReadRefusal) (f g : Option ReadRefusal) → ((r : ReadRefusal) → f ≡ Some r → g ≡ Some r) → IsRefusal e f → IsRefusal e g
 is_first NoMemory f g h r = tt
 is_first (Fault kind place) f g h r = h (Fault kind place) r
@@ -134,7 +127,7 @@ words_go had had' k ss i part s same at is none =
     let there : slice_get (parts_of k ss) i ≡ Some (part, s) = part_at k ss i s at ∙ ap (λ (p : Part). Some (p, s)) (sym is) in
     let rest : drop i (parts_of k ss) ≡ (part, s) ∷ drop (i + 1) (parts_of k ss) = drop_here (parts_of k ss) i (part, s) there in
     let more : had ++ filter_map use_of (take (i + 1) (parts_of k ss)) ≡ (had ++ filter_map use_of (take i (parts_of k ss))) ++ filter_map use_of ((part, s) ∷ []) =
-    ap (λ ps. had ++ filter_map use_of ps) (take_here (parts_of k ss) i (part, s) there) ∙ ap (λ us. had ++ us) (filter_map-append use_of (take i (parts_of k ss)) ((part, s) ∷ [])) ∙ sym (append_assoc had (filter_map use_of (take i (parts_of k ss))) (filter_map use_of ((part, s) ∷ []))) in (
+    ap (λ ps. had ++ filter_map use_of ps) (take_one_more (parts_of k ss) i (part, s) there) ∙ ap (λ us. had ++ us) (filter_map-append use_of (take i (parts_of k ss)) ((part, s) ∷ [])) ∙ sym (append_assoc had (filter_map use_of (take i (parts_of k ss))) (filter_map use_of ((part, s) ∷ []))) in (
       sym more,
       same
           ∙ ap (parts_fault (had ++ filter_map use_of (take i (parts_of k ss))) i) rest
@@ -176,12 +169,8 @@ map_at f [] i d h = absurd (omega arith)
 map_at f (x ∷ xs) zero d h = refl
 map_at f (x ∷ xs) (suc i) d h = map_at f xs i d (omega arith)
 
-pub length_map : {A B : Type 0} (f : A → B) (xs : List A) → length (map f xs) ≡ length xs
-length_map f [] = refl
-length_map f (x ∷ xs) = ap suc (length_map f xs)
-
 pub part_there : (k : Command) (text : List ℕ) (words : List Token) (i : ℕ) (part : Part) → part ≡ part_in k (length words) i → part ≡ part_in k (length (map (spot_of text) words)) i
-part_there k text words i part e = e ∙ ap (λ (n : ℕ). part_in k n i) (sym (length_map (spot_of text) words))
+part_there k text words i part e = e ∙ ap (λ (n : ℕ). part_in k n i) (sym (length-map words (spot_of text)))
 
 pub words_end : (had : List Use) (first : Spot) (k : Command) (ss : List Spot) (i : ℕ) → parts_fault had 0 (parts_of k ss) ≡ parts_fault (had ++ filter_map use_of (take i (parts_of k ss))) i (drop i (parts_of k ss)) → length ss ≤ i → command_fault had first k ss ≡ fault_if (nat_lt (length ss) (least_words k)) MissingWord first.place
 words_end had first k ss i same h =

@@ -4,7 +4,6 @@ use Rattle.std.specs.Prelude.{if◌then◌else◌, codes}
 use Rattle.std.specs.List.{cons_option, filter_map, flat_map}
 use Rattle.std.proofs.lemmas.List.{append-nil}
 use Rattle.blif_format.proofs.Public.{IsName}
-use Rattle.rm_model.specs.Words.{Word}
 use Rattle.rm_model.specs.Value.{control_of}
 use Rattle.rm_model.specs.declared.parts.Timing.{Timing}
 use Rattle.rm_model.specs.declared.parts.Cover.{Cover}
@@ -15,6 +14,7 @@ use Rattle.blif_format.specs.declared.words.Role.{Role}
 use Rattle.blif_format.specs.declared.words.Role.TheVariants.{CoverInput, CoverOutput, LatchInput, LatchOutput, Control}
 use Rattle.blif_reader.proofs.Compared.{word_tells}
 use Rattle.blif_reader.proofs.NameLaws.{word_if, control_if, list_picks, cover_picks, latch_picks}
+use Rattle.rm_base.specs.Words.{Word}
 
 pub list_words : (x : Word) (ls : List Line) → flat_map (λ (ws : List Word). ws) (map words_after (filter (begins_with x) ls)) ≡ words_of x ls
 list_words x ls = go (filter (begins_with x) ls)

@@ -1,13 +1,15 @@
 -- As what a name stands in some uses.
 use Rattle.std.proofs.Common.{◌≡◌, ◌+◌, List, [], ◌∷◌, ◌++◌, Bool, true, false, ◌&&◌, ◌||◌, refl, ◌∙◌, ap, arith}
 use Rattle.std.specs.Prelude.{if◌then◌else◌}
-use Rattle.rm_model.specs.Words.{Word, is_word}
+use Rattle.rm_model.specs.Words.{is_word}
 use Rattle.rm_model.specs.Value.{is_among}
-use Rattle.blif_format.specs.Uses.{Use, is_source_role, is_driver, drives_twice, lists_twice, names_in, distinct_count}
+use Rattle.blif_format.specs.Uses.{Use, is_source_role, is_driver, drives_twice, lists_twice, names_in, distinct_count, is_clock, is_input, is_output}
 use Rattle.blif_format.specs.declared.words.Role.{Role}
 use Rattle.blif_format.specs.declared.words.Role.TheVariants.{Input, ClockInput, Output, CoverInput, CoverOutput, LatchInput, LatchOutput, Control}
-use Rattle.blif_reader.specs.Tally.{plays, is_input, is_clock, is_latch, is_cover, is_output, flags_in, has_source, has_driver, is_driven_twice, is_listed_twice}
-use Rattle.blif_reader.proofs.Compared.{word_turned, among_more, word_is}
+use Rattle.blif_reader.specs.Tally.{plays, is_latch, is_cover, flags_in, has_source, has_driver, is_driven_twice, is_listed_twice}
+use Rattle.blif_reader.proofs.Compared.{word_turned, among_more}
+use Rattle.rm_base.specs.Words.{Word}
+use Rattle.rm_model.proofs.Public.{same_word}
 
 or_shuffle : (p q w a b : Bool) → (((p || q) && w) || (a || b)) ≡ (((p && w) || a) || ((q && w) || b))
 or_shuffle true q true a b = refl
@@ -112,7 +114,7 @@ distinct_more (y ∷ ys) x = at (is_among ys y) (is_word x y) refl refl (distinc
     before b w e f = among_more ys x y ∙ ap (λ t. t || is_word y x) e ∙ ap (λ t. b || t) (word_turned y x ∙ f)
 
     same_among : is_word x y ≡ true → is_among ys y ≡ true → is_among ys x ≡ true
-    same_among f e = let same : x ≡ y = word_is x y f in ap (is_among ys) same ∙ e
+    same_among f e = let same : x ≡ y = same_word x y f in ap (is_among ys) same ∙ e
 
     at : (b w : Bool) → is_among ys y ≡ b → is_word x y ≡ w → distinct_count (ys ++ x ∷ []) ≡ (if is_among ys x then distinct_count ys else distinct_count ys + 1) → distinct_count ((y ∷ ys) ++ x ∷ []) ≡ (if is_among (y ∷ ys) x then distinct_count (y ∷ ys) else distinct_count (y ∷ ys) + 1)
     at true true e f ih = rw (before true true e f, e, f) (ih ∙ rw (same_among f e) refl)
@@ -120,7 +122,7 @@ distinct_more (y ∷ ys) x = at (is_among ys y) (is_word x y) refl refl (distinc
     at false true e f ih = rw (before false true e f, e, f) (ih ∙ rw (others e f) (omega arith))
       where
         others : is_among ys y ≡ false → is_word x y ≡ true → is_among ys x ≡ false
-        others e f = let same : x ≡ y = word_is x y f in ap (is_among ys) same ∙ e
+        others e f = let same : x ≡ y = same_word x y f in ap (is_among ys) same ∙ e
     at false false e f ih = rw (before false false e f, e, f) (at_last (is_among ys x) refl ih)
       where
         at_last : (t : Bool) → is_among ys x ≡ t → distinct_count (ys ++ x ∷ []) ≡ (if is_among ys x then distinct_count ys else distinct_count ys + 1) → 1 + distinct_count (ys ++ x ∷ []) ≡ (if is_among ys x then 1 + distinct_count ys else (1 + distinct_count ys) + 1)

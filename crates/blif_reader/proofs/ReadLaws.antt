@@ -1,13 +1,13 @@
 -- How reading goes on.
 use Rattle.std.proofs.Common.{◌≡◌, ◌<◌, ◌≤◌, ◌+◌, ◌-◌, ◌^◌, arith, take, drop, All, ℕ, suc, List, [], ◌∷◌, ◌++◌, map, filter, length, Bool, true, false, not, refl, sym, ◌∙◌, ap, subst, append_assoc, Option, None, Some, Result, Ok, Err}
 use Rattle.std.specs.Prelude.{if◌then◌else◌, codes, OnOk, min}
-use Rattle.std.proofs.lemmas.List.{length-take}
+use Rattle.std.proofs.lemmas.List.{append-nil, length-take, map-append}
 use Rattle.std.proofs.Common.{length-drop}
 use Rattle.std.proofs.lemmas.List.Elements.{All-head, All-tail}
 use Rattle.std.specs.List.{filter_map, cons_option}
 use Rattle.rm_base.specs.declared.numbers.Place.{Place}
 use Rattle.rm_base.specs.declared.numbers.NoMemory.{NoMemory as Want}
-use Rattle.rm_model.specs.Words.{Word, is_word}
+use Rattle.rm_model.specs.Words.{is_word}
 use Rattle.rm_model.specs.declared.parts.Cover.{Cover}
 use Rattle.blif_lines.specs.Layout.{Spot, Flaw, Logical, layout, lines_of, words_in, has_words}
 use Rattle.blif_lines.specs.Reading.{pending, spot_of, IsWithin, StandsFirst}
@@ -29,6 +29,7 @@ use Rattle.blif_reader.specs.declared.check.Checker.{Checker}
 use Rattle.blif_reader.specs.declared.draft.Draft.{Draft}
 use Rattle.blif_reader.proofs.KnownLaws.{command_added, row_added}
 use Rattle.blif_reader.proofs.TokenLaws.{word_bytes, line_bytes, text_size}
+use Rattle.rm_base.specs.Words.{Word}
 
 pub words_same : (text : List ℕ) (ws : List Token) → map (λ (t : Spot). t.word) (map (spot_of text) ws) ≡ words_at text ws
 words_same text [] = refl
@@ -100,10 +101,6 @@ bare_other (k ∷ ks) l e = at (begins_with (codes ".names") k) refl (bare_other
     at true i ih = rw i (ap (λ (cs : List Cover). cover_names (words_after k) ∷ cs) ih)
     at false i ih = rw i ih
 
-map_more : {A B : Type 0} (f : A → B) (xs : List A) (y : A) → map f (xs ++ y ∷ []) ≡ map f xs ++ f y ∷ []
-map_more f [] y = refl
-map_more f (x ∷ xs) y = ap (λ zs. f x ∷ zs) (map_more f xs y)
-
 abbrev line_of : List ℕ → Token → List Token → Logical
 line_of text first rest = record { tokens = spot_of text first ∷ map (spot_of text) rest; flaw = None }
 
@@ -142,12 +139,12 @@ progress_step text ls ms c c' d d' places places' first rest p e none said draft
           ∙ ap (λ (ws : List Word). p.named ++ (first.place, cover_names ws) ∷ filter_map cover_in ms) (words_same text rest)
           ∙ sym (append_assoc p.named ((first.place, cover_names (words_at text rest)) ∷ []) (filter_map cover_in ms));
       places_are =
-          map_more (λ (x : Place × Cover). x.0) p.named (first.place, cover_names (words_at text rest))
+          map-append (λ (x : Place × Cover). x.0) p.named ((first.place, cover_names (words_at text rest)) ∷ [])
           ∙ ap (λ (ps : List Place). ps ++ first.place ∷ []) p.places_are
           ∙ ap (λ (t : Bool). if t then places ++ first.place ∷ [] else places) (sym i)
           ∙ sym far;
       covers_are =
-          map_more (λ (x : Place × Cover). x.1) p.named (first.place, cover_names (words_at text rest))
+          map-append (λ (x : Place × Cover). x.1) p.named ((first.place, cover_names (words_at text rest)) ∷ [])
           ∙ ap (λ (cs : List Cover). cs ++ cover_names (words_at text rest) ∷ []) p.covers_are
           ∙ sym (bare_names p.lines ((spot_of text first).word ∷ words_at text rest) i);
       checked = said;
@@ -213,15 +210,11 @@ given_line text other tokens line ls ms e f g =
 pub progress_start : (text : List ℕ) (c : Checker) (d : Draft) → IsSaid nothing_said c → IsDraft nothing_said [] d → Progress text (layout text) c d []
 progress_start text c d said drafted = record { said = nothing_said; lines = []; named = []; faults = refl; uses = refl; words = refl; covers = refl; places_are = refl; covers_are = refl; checked = said; drafted = drafted }
 
-pub append_end : {A : Type 0} (xs : List A) → xs ++ [] ≡ xs
-append_end [] = refl
-append_end (x ∷ xs) = ap (λ ys. x ∷ ys) (append_end xs)
-
 pub progress_end : (text : List ℕ) (ls : List Logical) (c : Checker) (d : Draft) (places : List Place) → Progress text ls c d places → pending ls ≡ [] → IsRead text (said_by nothing_said (layout text)) c d places
 progress_end text ls c d places p e =
     let said : said_by nothing_said (layout text) ≡ p.said = p.uses ∙ pending_said p.said ls ∙ ap (said_by p.said) e in
-    let words : lines_of text ≡ p.lines = p.words ∙ ap (λ (xs : List Line). p.lines ++ xs) (pending_words ls ∙ ap (λ (ns : List Logical). filter has_words (map words_in ns)) e) ∙ append_end p.lines in
-    let covers : filter_map cover_in (layout text) ≡ p.named = p.covers ∙ ap (λ (xs : List (Place × Cover)). p.named ++ xs) (pending_covers ls ∙ ap (filter_map cover_in) e) ∙ append_end p.named in
+    let words : lines_of text ≡ p.lines = p.words ∙ ap (λ (xs : List Line). p.lines ++ xs) (pending_words ls ∙ ap (λ (ns : List Logical). filter has_words (map words_in ns)) e) ∙ append-nil p.lines in
+    let covers : filter_map cover_in (layout text) ≡ p.named = p.covers ∙ ap (λ (xs : List (Place × Cover)). p.named ++ xs) (pending_covers ls ∙ ap (filter_map cover_in) e) ∙ append-nil p.named in
     record {
       uses = refl;
       checked = subst (λ (s : Said). IsSaid s c) (sym said) p.checked;

@@ -5,12 +5,12 @@ use Rattle.std.proofs.lemmas.Bool.Decides.{eqb_tells}
 use Rattle.std.proofs.lemmas.Bool.{eqb-true}
 use Rattle.std.specs.Prelude.{All}
 use Rattle.std.proofs.lemmas.List.Elements.{All-nil, All-cons, All-head, All-tail, All-same, All-push}
+use Rattle.std.proofs.lemmas.List.{length-map, map-append}
 use Rattle.rm_model.specs.WellFormed.{IsWellFormedCover}
-use Rattle.blif_reader.proofs.PartLaws.{length_map}
 use Rattle.blif_lines.specs.Reading.{spot_of}
 use Rattle.blif_lines.specs.declared.line.Token.{Token}
 use Rattle.rm_base.specs.declared.numbers.Place.{Place}
-use Rattle.rm_model.specs.Words.{Word, is_word, literal_byte}
+use Rattle.rm_model.specs.Words.{is_word, literal_byte}
 use Rattle.rm_model.specs.declared.parts.Literal.{Literal}
 use Rattle.rm_model.specs.declared.parts.Cover.{Cover}
 use Rattle.blif_lines.specs.Layout.{Spot}
@@ -22,7 +22,10 @@ use Rattle.blif_format.specs.declared.refusal.ReadRefusal.{ReadRefusal}
 use Rattle.blif_reader.specs.Lines.{are_literals}
 use Rattle.blif_reader.specs.Drafts.{opt_list, all_covers, ending_of, RowsAre, CurrentIs, HasRow, AddsRow, IsShaped, add_row, last_token, inputs_in}
 use Rattle.blif_reader.specs.declared.draft.Draft.{Draft}
-use Rattle.blif_reader.proofs.Compared.{word_tells, word_is}
+use Rattle.blif_reader.proofs.Compared.{word_tells}
+use Rattle.rm_base.proofs.Public.{true_from_not}
+use Rattle.rm_base.specs.Words.{Word}
+use Rattle.rm_model.proofs.Public.{same_word}
 
 pub first_none : (a b : Option ReadRefusal) → or_else a b ≡ None → a ≡ None
 first_none None b e = refl
@@ -69,11 +72,7 @@ ending_passes first s e = record { word = word; same = same first (not_fault (is
 
     same : (o : Option Word) → is_other_ending o s.word ≡ false → (v : Word) → o ≡ Some v → v ≡ s.word
     same None h v e = cc
-    same (Some x) h v e = let is : x ≡ v = cc in sym is ∙ word_is x s.word (not_not (is_word x s.word) h)
-      where
-        not_not : (t : Bool) → not t ≡ false → t ≡ true
-        not_not true h = refl
-        not_not false h = cc
+    same (Some x) h v e = let is : x ≡ v = cc in sym is ∙ same_word x s.word (true_from_not (is_word x s.word) h)
 
 -- the words of a row that passes, by its input part and its ending
 pub record IsRow (o : SaidCover) (s : Spot) (ss : List Spot) (input : Word) (on : Bool) : Type 0 where
@@ -107,10 +106,6 @@ row_two o s t on e some long literals none =
       same = λ v h. l.same v h ∙ w;
     }
 
-pub not_not : (t : Bool) → not t ≡ false → t ≡ true
-not_not true h = refl
-not_not false h = cc
-
 -- the last word of a row, and its input part
 abbrev pub last_spot : Spot → List Spot → Spot
 last_spot s [] = s
@@ -128,7 +123,7 @@ row_spots o s ss on e none = at (o.inputs == 0) refl ss e none
     at true z (t ∷ ts) e none = let n : or_else (ending_fault o.ending s) (extra_fault (t ∷ ts)) ≡ None = rw z at none in let wrong : extra_fault (t ∷ ts) ≡ None = second_none (ending_fault o.ending s) (extra_fault (t ∷ ts)) n in cc
     at false z ss e none =
         let n : or_else (fault_if (not (length s.word == o.inputs)) RowLength s.place) (or_else (character_fault s.place s.word) (rest_fault o.ending s.place ss)) ≡ None = rw z at none in
-        let long : (length s.word == o.inputs) ≡ true = not_not (length s.word == o.inputs) (not_fault (not (length s.word == o.inputs)) RowLength s.place (first_none (fault_if (not (length s.word == o.inputs)) RowLength s.place) (or_else (character_fault s.place s.word) (rest_fault o.ending s.place ss)) n)) in
+        let long : (length s.word == o.inputs) ≡ true = true_from_not (length s.word == o.inputs) (not_fault (not (length s.word == o.inputs)) RowLength s.place (first_none (fault_if (not (length s.word == o.inputs)) RowLength s.place) (or_else (character_fault s.place s.word) (rest_fault o.ending s.place ss)) n)) in
         let m : or_else (character_fault s.place s.word) (rest_fault o.ending s.place ss) ≡ None = second_none (fault_if (not (length s.word == o.inputs)) RowLength s.place) (or_else (character_fault s.place s.word) (rest_fault o.ending s.place ss)) n in
         let literals : are_literals s.word ≡ true = all_literal s.place s.word (first_none (character_fault s.place s.word) (rest_fault o.ending s.place ss) m) in
         two ss e long literals (second_none (character_fault s.place s.word) (rest_fault o.ending s.place ss) m)
@@ -148,10 +143,6 @@ on_same false false e = refl
 on_same true false e = let h : true ≡ false = ap (λ (w : Word). is_word (codes "1") w) e in cc
 on_same false true e = let h : false ≡ true = ap (λ (w : Word). is_word (codes "1") w) e in cc
 
-pub map_append : {A B : Type 0} (f : A → B) (xs ys : List A) → map f (xs ++ ys) ≡ map f xs ++ map f ys
-map_append f [] ys = refl
-map_append f (x ∷ xs) ys = ap (λ zs. f x ∷ zs) (map_append f xs ys)
-
 the_row : (o : SaidCover) (row : List Literal) (input : Word) (on : Bool) → map literal_byte row ≡ input → length input ≡ o.inputs → row_words on row ≡ (if o.inputs == 0 then on_word on ∷ [] else input ∷ on_word on ∷ [])
 the_row o [] [] on e long = ap (λ (n : ℕ). if n == 0 then on_word on ∷ [] else [] ∷ on_word on ∷ []) long
 the_row o [] (b ∷ bs) on e long = cc
@@ -167,7 +158,7 @@ has_row o s ss input on c d row r are made ins out onn rows = record {
   rows =
       ap (λ (b : Bool). map (row_words b) d.rows) onn
       ∙ ap (map (row_words on)) rows
-      ∙ map_append (row_words on) c.rows (row ∷ [])
+      ∙ map-append (row_words on) c.rows (row ∷ [])
       ∙ ap (λ (l : Line). map (row_words on) c.rows ++ l ∷ []) (the_row o row input on made r.long ∙ sym r.words)
       ∙ ap (λ (ls : List Line). ls ++ (s.word ∷ map (λ (t : Spot). t.word) ss) ∷ []) (before c.rows are.ending);
   still = record { inputs = same_inputs o.ending refl ∙ are.inputs ∙ ap length (sym ins); ending = ending o.ending refl };
@@ -179,7 +170,7 @@ has_row o s ss input on c d row r are made ins out onn rows = record {
     some_row (q ∷ qs) r e = cc
 
     row_long : length row ≡ length d.inputs
-    row_long = sym (length_map literal_byte row) ∙ ap length made ∙ r.long ∙ are.inputs ∙ ap length (sym ins)
+    row_long = sym (length-map row literal_byte) ∙ ap length made ∙ r.long ∙ are.inputs ∙ ap length (sym ins)
 
     lengths : All (λ (q : List Literal). length q ≡ length c.inputs) c.rows → All (λ (q : List Literal). length q ≡ length d.inputs) d.rows
     lengths h = All-same (λ (q : List Literal). length q ≡ length d.inputs) d.rows (c.rows ++ row ∷ []) rows (All-push (λ (q : List Literal). length q ≡ length d.inputs) c.rows row (subst (λ (xs : List Word). All (λ (q : List Literal). length q ≡ length xs) c.rows) (sym ins) h) row_long)
@@ -228,10 +219,10 @@ adds_row s ss o c d before after h is e =
       rest = e ∙ ap (λ (x : Option Cover). record before { current = x }) (sym now);
       covers =
           ap (λ (x : Draft). map cover_words (all_covers x)) e
-          ∙ map_append cover_words before.covers (d ∷ [])
+          ∙ map-append cover_words before.covers (d ∷ [])
           ∙ ap (λ (x : Line × List Line). map cover_words before.covers ++ x ∷ []) words
           ∙ sym (add_last (s.word ∷ map (λ (t : Spot). t.word) ss) (map cover_words before.covers) (cover_words c))
-          ∙ ap (add_row (s.word ∷ map (λ (t : Spot). t.word) ss)) (sym (map_append cover_words before.covers (c ∷ [])) ∙ ap (λ (x : Option Cover). map cover_words (before.covers ++ opt_list x)) (sym is));
+          ∙ ap (add_row (s.word ∷ map (λ (t : Spot). t.word) ss)) (sym (map-append cover_words before.covers (c ∷ [])) ∙ ap (λ (x : Option Cover). map cover_words (before.covers ++ opt_list x)) (sym is));
       current = subst (CurrentIs (Some (with_row (s ∷ ss) o))) (sym now) h.still;
       shaped = λ f. subst IsShaped (sym e) (record {
         covers = formed (subst (λ (x : Option Cover). All IsWellFormedCover (before.covers ++ opt_list x)) is f.covers);

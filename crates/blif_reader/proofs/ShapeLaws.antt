@@ -1,7 +1,7 @@
 -- What a command adds to a draft whose last cover takes no more rows.
 use Rattle.std.proofs.Common.{◌≡◌, ◌+◌, ◌-◌, List, [], ◌∷◌, ◌++◌, map, length, refl, sym, ◌∙◌, ap, subst, arith, true, Option, None, Some, All, length-append}
 use Rattle.std.proofs.lemmas.List.Elements.{All-nil, All-push}
-use Rattle.rm_model.specs.Words.{Word}
+use Rattle.std.proofs.lemmas.List.{map-append}
 use Rattle.rm_model.specs.WellFormed.{IsWellFormedCover}
 use Rattle.rm_model.specs.declared.parts.Literal.{Literal}
 use Rattle.rm_model.specs.declared.parts.Cover.{Cover}
@@ -11,7 +11,8 @@ use Rattle.blif_format.specs.declared.words.Command.{Command}
 use Rattle.blif_format.specs.declared.words.Command.TheVariants.{Names, Latch}
 use Rattle.blif_reader.specs.Drafts.{opt_list, all_covers, ending_of, RowsAre, CurrentIs, IsFitLatch, Changes}
 use Rattle.blif_reader.specs.declared.draft.Draft.{Draft}
-use Rattle.blif_reader.proofs.RowLaws.{all_front, map_append}
+use Rattle.blif_reader.proofs.RowLaws.{all_front}
+use Rattle.rm_base.specs.Words.{Word}
 
 nothing : {A : Type 0} (xs : List A) → xs ≡ xs ++ []
 nothing [] = refl
@@ -42,7 +43,7 @@ adds_cover k ws d c is closed names rows on = subst (λ (j : Command). Changes j
   clocks = nothing d.clocks;
   latches = nothing (map latch_words d.latches);
   covers =
-      map_append cover_words d.covers (c ∷ [])
+      map-append cover_words d.covers (c ∷ [])
       ∙ ap (λ (x : Line × List Line). map cover_words d.covers ++ x ∷ []) (new_words c ws names rows)
       ∙ ap (λ (cs : List Cover). map cover_words cs ++ (ws, []) ∷ []) (nothing d.covers)
       ∙ ap (λ (o : Option Cover). map cover_words (d.covers ++ opt_list o) ++ (ws, []) ∷ []) (sym closed);
@@ -60,7 +61,7 @@ adds_latch k ws d l ls is closed more words fit = subst (λ (j : Command). Chang
   inputs = nothing d.inputs;
   outputs = nothing d.outputs;
   clocks = nothing d.clocks;
-  latches = map_append latch_words d.latches (l ∷ []) ∙ ap (λ (x : List Word). map latch_words d.latches ++ x ∷ []) words;
+  latches = map-append latch_words d.latches (l ∷ []) ∙ ap (λ (x : List Word). map latch_words d.latches ++ x ∷ []) words;
   covers = nothing (map cover_words (all_covers d));
   current = closed_now d.current closed;
   shaped = λ h. record { covers = h.covers; latches = All-push IsFitLatch d.latches l h.latches fit };

@@ -2,7 +2,7 @@
 use Rattle.std.proofs.Common.{◌≡◌, ◌≤◌, ◌+◌, ◌*◌, ℕ, suc, List, [], ◌∷◌, ◌++◌, map, filter, length, Bool, true, false, not, ◌&&◌, ◌||◌, inl, inr, refl, sym, ◌∙◌, ap, subst, arith, length-append}
 use Rattle.std.specs.Prelude.{if◌then◌else◌, codes}
 use Rattle.std.specs.List.{filter_map}
-use Rattle.rm_model.specs.Words.{Word, is_word, literal_byte}
+use Rattle.rm_model.specs.Words.{is_word, literal_byte}
 use Rattle.rm_model.specs.Value.{is_among, source_names, observed_names, control_of}
 use Rattle.rm_model.specs.WellFormed.{is_distinct}
 use Rattle.rm_model.specs.declared.parts.Literal.{Literal}
@@ -11,18 +11,21 @@ use Rattle.rm_model.specs.declared.parts.Latch.{Latch as LatchPart}
 use Rattle.rm_model.specs.declared.parts.Model.{Model as CircuitModel}
 use Rattle.blif_format.specs.Text.{Line, row_words, cover_words}
 use Rattle.blif_format.specs.Grammar.{before, begins_with, is_dotted, names_lines}
-use Rattle.blif_format.specs.Uses.{Use, is_source_role, is_observed_role, names_in, distinct_count}
+use Rattle.blif_format.specs.Uses.{Use, is_source_role, is_observed_role, names_in, distinct_count, is_clock, is_input, is_output}
 use Rattle.blif_format.specs.declared.words.Role.{Role}
 use Rattle.blif_format.specs.declared.words.Role.TheVariants.{Input, ClockInput, Output, CoverInput, CoverOutput, LatchInput, LatchOutput, Control}
 use Rattle.rm_model.specs.Size.{rows_weight, covers_weight}
-use Rattle.blif_reader.specs.Tally.{plays, is_input, is_clock, is_latch, is_output}
-use Rattle.blif_reader.proofs.Compared.{word_tells, word_same, word_turned, word_is}
+use Rattle.blif_reader.specs.Tally.{plays, is_latch}
+use Rattle.blif_reader.proofs.Compared.{word_tells, word_turned}
 use Rattle.blif_reader.proofs.GrammarLaws.{begins_dotted}
 use Rattle.blif_reader.proofs.NameLaws.{is_latch_input, is_control}
 use Rattle.blif_reader.proofs.Plays.{names_among, plays_source}
 use Rattle.blif_reader.proofs.CleanLaws.{IsClean}
-use Rattle.blif_reader.proofs.FormLaws.{NamesAre, sources_once, among_append, among_others, and_first, and_second}
+use Rattle.blif_reader.proofs.FormLaws.{NamesAre, sources_once, among_append, among_others}
 use Rattle.blif_reader.proofs.TokenLaws.{word_bytes, line_bytes}
+use Rattle.rm_base.proofs.Public.{and_first, and_second}
+use Rattle.rm_base.specs.Words.{Word}
+use Rattle.rm_model.proofs.Public.{is_word-same, same_word}
 
 -- COVERS AND LITERALS
 -- each line that a `.names` begins, and its rows
@@ -32,7 +35,7 @@ cover_bytes (x ∷ xs) = 6 + line_bytes x.1 + cover_bytes xs
 
 names_bytes : (l : Line) → begins_with (codes ".names") l ≡ true → 6 ≤ word_bytes l
 names_bytes [] e = cc
-names_bytes (w ∷ ws) e = let same : codes ".names" ≡ w = word_is (codes ".names") w e in let six : length w ≡ 6 = ap length (sym same) in omega arith
+names_bytes (w ∷ ws) e = let same : codes ".names" ≡ w = same_word (codes ".names") w e in let six : length w ≡ 6 = ap length (sym same) in omega arith
 
 -- rows up to the next command, and the covers behind
 lines_size : (ls : List Line) → line_bytes (before is_dotted ls) + cover_bytes (names_lines ls) ≤ line_bytes ls
@@ -96,7 +99,7 @@ among_without x y (z ∷ zs) e = at (is_word x z) refl (among_without x y zs e)
   where
     at : (t : Bool) → is_word x z ≡ t → is_among (without x zs) y ≡ is_among zs y → is_among (without x (z ∷ zs)) y ≡ (is_word y z || is_among zs y)
     at true h ih =
-        let same : x ≡ z = word_is x z h in
+        let same : x ≡ z = same_word x z h in
         let other : is_word y z ≡ false = ap (is_word y) (sym same) ∙ word_turned y x ∙ e in
         rw h (rw other ih)
     at false h ih = rw h (ap (λ b. is_word y z || b) ih)
@@ -123,8 +126,8 @@ count_without x [] e = cc
 count_without x (y ∷ ys) e = at (is_word x y) refl (is_among ys x) refl (count_without x ys)
   where
     at : (t : Bool) → is_word x y ≡ t → (b : Bool) → is_among ys x ≡ b → (is_among ys x ≡ true → 1 + distinct_count (without x ys) ≤ distinct_count ys) → 1 + distinct_count (without x (y ∷ ys)) ≤ distinct_count (y ∷ ys)
-    at true h true i ih = let less : 1 + distinct_count (without x ys) ≤ distinct_count ys = ih i in let same : is_among ys y ≡ true = ap (is_among ys) (sym (word_is x y h)) ∙ i in rw (h, same) less
-    at true h false i ih = let kept : distinct_count (without x ys) ≡ distinct_count ys = count_absent x ys i in let same : is_among ys y ≡ false = ap (is_among ys) (sym (word_is x y h)) ∙ i in rw (h, same) (omega arith)
+    at true h true i ih = let less : 1 + distinct_count (without x ys) ≤ distinct_count ys = ih i in let same : is_among ys y ≡ true = ap (is_among ys) (sym (same_word x y h)) ∙ i in rw (h, same) less
+    at true h false i ih = let kept : distinct_count (without x ys) ≡ distinct_count ys = count_absent x ys i in let same : is_among ys y ≡ false = ap (is_among ys) (sym (same_word x y h)) ∙ i in rw (h, same) (omega arith)
     at false h false i ih = let wrong : false ≡ true = sym i ∙ rw h at e in cc
     at false h true i ih = by (is_among ys y) refl (ih i)
       where
@@ -136,7 +139,7 @@ count_without x (y ∷ ys) e = at (is_word x y) refl (is_among ys x) refl (count
 pub fewer : (xs ys : List Word) → is_distinct xs ≡ true → ((z : Word) → is_among xs z ≡ true → is_among ys z ≡ true) → length xs ≤ distinct_count ys
 fewer [] ys h k = omega arith
 fewer (x ∷ xs) ys h k =
-    let more : 1 + distinct_count (without x ys) ≤ distinct_count ys = count_without x ys (k x (ap (λ b. b || is_among xs x) (word_same x))) in
+    let more : 1 + distinct_count (without x ys) ≤ distinct_count ys = count_without x ys (k x (ap (λ b. b || is_among xs x) (is_word-same x))) in
     let rest : length xs ≤ distinct_count (without x ys) = fewer xs (without x ys) (and_second (not (is_among xs x)) (is_distinct xs) h) (λ z e. among_without x z ys (other z e) ∙ k z (ap (λ b. is_word z x || b) e ∙ or_last (is_word z x))) in omega arith
   where
     or_last : (a : Bool) → (a || true) ≡ true

@@ -7,10 +7,11 @@ use Rattle.blif_format.specs.declared.refusal.Quantity.{Quantity}
 use Rattle.blif_format.specs.declared.refusal.ReadRefusal.TheVariants.{Fault, Limit, NoMemory}
 use Rattle.blif_reader.specs.Meant.{IsRefusal}
 use Rattle.std.proofs.lemmas.List.Sums.{fold-append}
+use Rattle.std.proofs.Math.Bool.{and-false, or-false, or-true, or_assoc}
 use Rattle.rm_base.specs.declared.numbers.Place.{Place}
-use Rattle.rm_model.specs.Words.{Word, is_word}
+use Rattle.rm_model.specs.Words.{is_word}
 use Rattle.rm_model.specs.Value.{is_among}
-use Rattle.blif_format.specs.Uses.{Use, is_source_role, is_observed_role, drives_twice, names_in, distinct_count}
+use Rattle.blif_format.specs.Uses.{Use, is_source_role, is_observed_role, drives_twice, names_in, distinct_count, is_clock, is_input, is_output}
 use Rattle.blif_format.specs.declared.words.Role.{Role}
 use Rattle.blif_format.specs.declared.words.Role.TheVariants.{Input, ClockInput, Output, CoverInput, CoverOutput, LatchInput, LatchOutput, Control}
 use Rattle.blif_format.specs.FirstFault.{or_else, fault_if, limit_if, name_limit, is_over, use_fault}
@@ -20,13 +21,15 @@ use Rattle.blif_format.specs.declared.refusal.ReadRefusal.{ReadRefusal}
 use Rattle.blif_reader.specs.declared.names.Flags.{Flags}
 use Rattle.blif_reader.specs.declared.names.Entry.{Entry}
 use Rattle.blif_reader.specs.declared.names.Counts.{Counts}
-use Rattle.blif_reader.specs.Tally.{Tally, entry_of, flags_at, flags_or_none, has_source, is_driven_twice, is_listed_twice, with_role, put_entry, more_if, sources_after, observed_after, signals_after, place_or, with_use, use_check, flags_check, inputs_check, counts_check, counts_after, tally_fault, plays, is_input, is_clock, is_latch, is_cover, is_output, flags_in, any_role, with_first, firsts, first_of, IsTally}
-use Rattle.blif_reader.proofs.Compared.{or_true, or_false, or_assoc, word_tells, word_same, word_turned, among_more, word_is}
+use Rattle.blif_reader.specs.Tally.{Tally, entry_of, flags_at, flags_or_none, has_source, is_driven_twice, is_listed_twice, with_role, put_entry, more_if, sources_after, observed_after, signals_after, place_or, with_use, use_check, flags_check, inputs_check, counts_check, counts_after, tally_fault, plays, is_latch, is_cover, flags_in, any_role, with_first, firsts, first_of, IsTally}
+use Rattle.blif_reader.proofs.Compared.{word_tells, word_turned, among_more}
 use Rattle.blif_reader.proofs.Plays.{plays_source, driven_is, listed_is, names_among, names_more, distinct_more}
+use Rattle.rm_base.specs.Words.{Word}
+use Rattle.rm_model.proofs.Public.{is_word-same, same_word}
 
 -- what is looked up after an entry is put
 pub entry_same : (es : List (Word × Entry)) (x : Word) (e : Entry) → entry_of (put_entry es x e) x ≡ Some e
-entry_same [] x e = rw (word_same x) refl
+entry_same [] x e = rw (is_word-same x) refl
 entry_same (f ∷ fs) x e = at (is_word x f.0) refl (entry_same fs x e)
   where
     at : (t : Bool) → is_word x f.0 ≡ t → entry_of (put_entry fs x e) x ≡ Some e → entry_of (put_entry (f ∷ fs) x e) x ≡ Some e
@@ -39,7 +42,7 @@ entry_other (f ∷ fs) x y e other = at (is_word x f.0) refl (entry_other fs x y
   where
     at : (t : Bool) → is_word x f.0 ≡ t → entry_of (put_entry fs x e) y ≡ entry_of fs y → entry_of (put_entry (f ∷ fs) x e) y ≡ entry_of (f ∷ fs) y
     at true i ih =
-        let same : x ≡ f.0 = word_is x f.0 i in
+        let same : x ≡ f.0 = same_word x f.0 i in
         let not_here : is_word y f.0 ≡ false = ap (is_word y) (sym same) ∙ word_turned y x ∙ other in
         rw i (rw not_here refl)
     at false i ih = rw i (ap (λ o. if is_word y f.0 then Some f.1 else o) ih)
@@ -55,7 +58,7 @@ or_flags f role b = record {
 }
 
 plays_more : (test : Role → Bool) (had : List Use) (u : Use) (y : Word) → plays test (had ++ u ∷ []) y ≡ (plays test had y || (test u.role && is_word u.name y))
-plays_more test [] u y = or_false (test u.role && is_word u.name y)
+plays_more test [] u y = or-false (test u.role && is_word u.name y)
 plays_more test (v ∷ vs) u y = ap (λ b. (test v.role && is_word v.name y) || b) (plays_more test vs u y) ∙ sym (or_assoc (test v.role && is_word v.name y) (plays test vs y) (test u.role && is_word u.name y))
 
 flags_more : (had : List Use) (u : Use) (y : Word) → flags_in (had ++ u ∷ []) y ≡ or_flags (flags_in had y) u.role (is_word u.name y)
@@ -70,24 +73,20 @@ flags_more had u y =
 
 flags_with : (f : Flags) (role : Role) → or_flags f role true ≡ with_role f role
 unfolding or_flags
-flags_with f Input = rw (or_true f.input, or_false f.clock, or_false f.latch, or_false f.cover, or_false f.output) refl
-flags_with f ClockInput = rw (or_false f.input, or_true f.clock, or_false f.latch, or_false f.cover, or_false f.output) refl
-flags_with f Output = rw (or_false f.input, or_false f.clock, or_false f.latch, or_false f.cover, or_true f.output) refl
-flags_with f CoverInput = rw (or_false f.input, or_false f.clock, or_false f.latch, or_false f.cover, or_false f.output) refl
-flags_with f CoverOutput = rw (or_false f.input, or_false f.clock, or_false f.latch, or_true f.cover, or_false f.output) refl
-flags_with f LatchInput = rw (or_false f.input, or_false f.clock, or_false f.latch, or_false f.cover, or_false f.output) refl
-flags_with f LatchOutput = rw (or_false f.input, or_false f.clock, or_true f.latch, or_false f.cover, or_false f.output) refl
-flags_with f Control = rw (or_false f.input, or_false f.clock, or_false f.latch, or_false f.cover, or_false f.output) refl
-
-and_none : (a : Bool) → (a && false) ≡ false
-and_none true = refl
-and_none false = refl
+flags_with f Input = rw (or-true f.input, or-false f.clock, or-false f.latch, or-false f.cover, or-false f.output) refl
+flags_with f ClockInput = rw (or-false f.input, or-true f.clock, or-false f.latch, or-false f.cover, or-false f.output) refl
+flags_with f Output = rw (or-false f.input, or-false f.clock, or-false f.latch, or-false f.cover, or-true f.output) refl
+flags_with f CoverInput = rw (or-false f.input, or-false f.clock, or-false f.latch, or-false f.cover, or-false f.output) refl
+flags_with f CoverOutput = rw (or-false f.input, or-false f.clock, or-false f.latch, or-true f.cover, or-false f.output) refl
+flags_with f LatchInput = rw (or-false f.input, or-false f.clock, or-false f.latch, or-false f.cover, or-false f.output) refl
+flags_with f LatchOutput = rw (or-false f.input, or-false f.clock, or-true f.latch, or-false f.cover, or-false f.output) refl
+flags_with f Control = rw (or-false f.input, or-false f.clock, or-false f.latch, or-false f.cover, or-false f.output) refl
 
 flags_same : (f : Flags) (role : Role) → or_flags f role false ≡ f
 unfolding or_flags
 flags_same f role =
-    rw (and_none (is_input role), and_none (is_clock role), and_none (is_latch role), and_none (is_cover role), and_none (is_output role))
-    (rw (or_false f.input, or_false f.clock, or_false f.latch, or_false f.cover, or_false f.output) refl)
+    rw (and-false (is_input role), and-false (is_clock role), and-false (is_latch role), and-false (is_cover role), and-false (is_output role))
+    (rw (or-false f.input, or-false f.clock, or-false f.latch, or-false f.cover, or-false f.output) refl)
 
 flags_step : (had : List Use) (t : Tally) (u : Use) → IsTally had t → (y : Word) → flags_at (with_use t u).entries y ≡ flags_in (had ++ u ∷ []) y
 flags_step had t u is y = elim (word_tells u.name y) [
@@ -96,7 +95,7 @@ flags_step had t u is y = elim (word_tells u.name y) [
       ∙ ap flags_or_none (entry_same t.entries u.name (record { flags = with_role (flags_at t.entries u.name) u.role; place = place_or (entry_of t.entries u.name) u.place }))
       ∙ ap (λ f. with_role f u.role) (is.flags u.name)
       ∙ sym (flags_with (flags_in had u.name) u.role)
-      ∙ ap (λ b. or_flags (flags_in had u.name) u.role b) (sym (word_same u.name))
+      ∙ ap (λ b. or_flags (flags_in had u.name) u.role b) (sym (is_word-same u.name))
       ∙ sym (flags_more had u u.name)
       ∙ ap (λ z. flags_in (had ++ u ∷ []) z) s.1
   | inr s ↦
@@ -115,13 +114,13 @@ known_step had t u is y =
       | inl s ↦
           ap (λ z. is_some (entry_of (with_use t u).entries z)) (sym s.1)
           ∙ ap is_some (entry_same t.entries u.name (record { flags = with_role (flags_at t.entries u.name) u.role; place = place_or (entry_of t.entries u.name) u.place }))
-          ∙ sym (or_true (is_among (names_in any_role had) y))
+          ∙ sym (or-true (is_among (names_in any_role had) y))
           ∙ ap (λ b. is_among (names_in any_role had) y || b) (sym (word_turned y u.name ∙ s.0))
           ∙ sym more
       | inr s ↦
           ap is_some (entry_other t.entries u.name y (record { flags = with_role (flags_at t.entries u.name) u.role; place = place_or (entry_of t.entries u.name) u.place }) s.0)
           ∙ is.known y
-          ∙ sym (or_false (is_among (names_in any_role had) y))
+          ∙ sym (or-false (is_among (names_in any_role had) y))
           ∙ ap (λ b. is_among (names_in any_role had) y || b) (sym (word_turned y u.name ∙ s.0))
           ∙ sym more
     ]

@@ -5,10 +5,11 @@ use Rattle.std.specs.List.{list_all}
 use Rattle.std.proofs.lemmas.Bool.{lt-ltb, ltb-false}
 use Rattle.std.proofs.lemmas.Bool.Decides.{eqb_tells}
 use Rattle.rm_base.specs.declared.numbers.Place.{Place}
-use Rattle.rm_model.specs.Words.{Word}
-use Rattle.rm_model.specs.WellFormed.{is_token, is_word_byte, ends_in_backslash}
+use Rattle.rm_model.specs.WellFormed.{is_token, ends_in_backslash}
 use Rattle.blif_lines.specs.Layout.{Mark, Spot, Flaw, BadByteAt, OpenJoinAt, Logical, is_blank, is_control, onto_first, runs, spots, tokens_in, ends_token, first_bad, joint, before_joint, without_comment, physical_lines, marked, behind, earlier, with_line, logical_lines, layout, words_in, has_words, lines_of}
 use Rattle.blif_format.specs.Text.{Line}
+use Rattle.rm_base.proofs.Public.{and_first, and_second, neither_first, neither_second}
+use Rattle.rm_base.specs.Words.{Word, is_word_byte}
 
 -- RUNS OF BYTES
 abbrev bytes_of : List Mark → List ℕ
@@ -24,28 +25,12 @@ is_run r = list_all is_word_byte (bytes_of r) && not (ends_in_backslash (bytes_o
 pub false_true : false ≡ true → ⊥
 false_true e = cc
 
-pub or_one : (a b : Bool) → (a || b) ≡ false → a ≡ false
-or_one true b e = e
-or_one false b e = refl
-
-or_two : (a b : Bool) → (a || b) ≡ false → b ≡ false
-or_two true b e = absurd (false_true (sym e))
-or_two false b e = e
-
-pub and_one : (a b : Bool) → (a && b) ≡ true → a ≡ true
-and_one true b e = refl
-and_one false b e = e
-
-and_two : (a b : Bool) → (a && b) ≡ true → b ≡ true
-and_two true b e = e
-and_two false b e = absurd (false_true e)
-
 -- a byte that is neither blank, nor control, nor `#`
 word_byte : (b : ℕ) → ((b == 32) || ((b == 9) || (b == 13))) ≡ false → (nat_lt b 32 || (b == 127)) ≡ false → not (b == 35) ≡ true → is_word_byte b ≡ true
 word_byte b blank control plain =
-    let most : 32 ≤ b = ltb-false b 32 (or_one (nat_lt b 32) (b == 127) control) in
-    let other : (b == 127) ≡ false = or_two (nat_lt b 32) (b == 127) control in
-    let more : nat_lt 32 b ≡ true = lt-ltb 32 b (not_32 most (or_one (b == 32) ((b == 9) || (b == 13)) blank)) in
+    let most : 32 ≤ b = ltb-false b 32 (neither_first (nat_lt b 32) (b == 127) control) in
+    let other : (b == 127) ≡ false = neither_second (nat_lt b 32) (b == 127) control in
+    let more : nat_lt 32 b ≡ true = lt-ltb 32 b (not_32 most (neither_first (b == 32) ((b == 9) || (b == 13)) blank)) in
     ap (λ t. t && (not (b == 35) && not (b == 127))) more ∙ ap (λ t. t && not (b == 127)) plain ∙ ap not other
   where
     not_32 : 32 ≤ b → (b == 32) ≡ false → 32 + 1 ≤ b
@@ -87,7 +72,7 @@ bad_first m ms e = at (is_control m || ((m.byte == 92) && ends_token ms)) refl
 
 good_runs : (ms : List Mark) → list_all is_plain ms ≡ true → first_bad ms ≡ None → AreRuns (runs ms)
 good_runs [] p e = (refl, tt)
-good_runs (m ∷ ms) p e = at (is_blank m) refl (good_runs ms (and_two (is_plain m) (list_all is_plain ms) p) (bad_first m ms e).1)
+good_runs (m ∷ ms) p e = at (is_blank m) refl (good_runs ms (and_second (is_plain m) (list_all is_plain ms) p) (bad_first m ms e).1)
   where
     no_slash : (s t : Bool) → t ≡ true → (s && t) ≡ false → s ≡ false
     no_slash true t h e = absurd (false_true (sym e ∙ h))
@@ -97,8 +82,8 @@ good_runs (m ∷ ms) p e = at (is_blank m) refl (good_runs ms (and_two (is_plain
     at true h rs = rw h (refl, rs)
     at false h rs =
         let sound : (is_control m || ((m.byte == 92) && ends_token ms)) ≡ false = (bad_first m ms e).0 in
-        let control : (nat_lt m.byte 32 || (m.byte == 127)) ≡ false = ap (λ t. not t && (nat_lt m.byte 32 || (m.byte == 127))) (sym h) ∙ or_one (is_control m) ((m.byte == 92) && ends_token ms) sound in
-        rw h (onto_runs m (runs ms) (word_byte m.byte h control (and_one (is_plain m) (list_all is_plain ms) p)) (λ f. no_slash (m.byte == 92) (ends_token ms) (empty_ends ms f) (or_two (is_control m) ((m.byte == 92) && ends_token ms) sound)) rs)
+        let control : (nat_lt m.byte 32 || (m.byte == 127)) ≡ false = ap (λ t. not t && (nat_lt m.byte 32 || (m.byte == 127))) (sym h) ∙ neither_first (is_control m) ((m.byte == 92) && ends_token ms) sound in
+        rw h (onto_runs m (runs ms) (word_byte m.byte h control (and_first (is_plain m) (list_all is_plain ms) p)) (λ f. no_slash (m.byte == 92) (ends_token ms) (empty_ends ms f) (neither_second (is_control m) ((m.byte == 92) && ends_token ms) sound)) rs)
 
 -- TOKENS
 abbrev pub spelled : List Spot → List Word
@@ -122,11 +107,11 @@ uncommented (m ∷ ms) = at (m.byte == 35) refl (uncommented ms)
 
 before_plain : (ms : List Mark) → list_all is_plain ms ≡ true → list_all is_plain (before_joint ms) ≡ true
 before_plain [] p = refl
-before_plain (m ∷ ms) p = at (list_all is_blank ms) refl (before_plain ms (and_two (is_plain m) (list_all is_plain ms) p))
+before_plain (m ∷ ms) p = at (list_all is_blank ms) refl (before_plain ms (and_second (is_plain m) (list_all is_plain ms) p))
   where
     at : (t : Bool) → list_all is_blank ms ≡ t → list_all is_plain (before_joint ms) ≡ true → list_all is_plain (before_joint (m ∷ ms)) ≡ true
     at true h ih = rw h refl
-    at false h ih = rw h (ap (λ t. t && list_all is_plain (before_joint ms)) (and_one (is_plain m) (list_all is_plain ms) p) ∙ ih)
+    at false h ih = rw h (ap (λ t. t && list_all is_plain (before_joint ms)) (and_first (is_plain m) (list_all is_plain ms) p) ∙ ih)
 
 -- the words of each line without flaw
 abbrev pub AreTokens : List Logical → Type 0
@@ -139,7 +124,7 @@ no_earlier (Some f) b e = cc
 
 words_both : (ss ts : List Spot) → list_all is_token (spelled ss) ≡ true → list_all is_token (spelled ts) ≡ true → list_all is_token (spelled (ss ++ ts)) ≡ true
 words_both [] ts h k = k
-words_both (s ∷ ss) ts h k = ap (λ t. t && list_all is_token (spelled (ss ++ ts))) (and_one (is_token s.word) (list_all is_token (spelled ss)) h) ∙ words_both ss ts (and_two (is_token s.word) (list_all is_token (spelled ss)) h) k
+words_both (s ∷ ss) ts h k = ap (λ t. t && list_all is_token (spelled (ss ++ ts))) (and_first (is_token s.word) (list_all is_token (spelled ss)) h) ∙ words_both ss ts (and_second (is_token s.word) (list_all is_token (spelled ss)) h) k
 
 with_tokens : (line : List Mark) (o : Option Mark) (ls : List Logical) → list_all is_plain line ≡ true → AreTokens ls → AreTokens (with_line line o ls)
 with_tokens line None ls p h = (λ e. line_tokens line p e, h)

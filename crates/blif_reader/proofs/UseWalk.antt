@@ -12,11 +12,11 @@ use Rattle.blif_format.specs.declared.words.Part.{Part}
 use Rattle.blif_format.specs.declared.words.Part.TheVariants.{Title, Name, LatchType, Init, Extra}
 use Rattle.blif_format.specs.FirstFault.{or_else, fault_if, use_fault, use_fault_if, part_fault, parts_fault, command_fault, is_dotted, dotted_fault, row_fault_in, words_fault, Said, after_line, said_by, flaw_fault, lines_fault}
 use Rattle.blif_format.specs.declared.refusal.FaultKind.TheVariants.{MissingWord}
-use Rattle.blif_reader.proofs.Compared.{word_is}
 use Rattle.blif_reader.proofs.LineLaws.{command_word, uses_case}
 use Rattle.blif_reader.proofs.NameLaws.{model_none}
 use Rattle.blif_reader.proofs.RowLaws.{first_none, second_none}
 use Rattle.blif_reader.proofs.KnownLaws.{first_goes, later_goes, dotted_goes, dotted_case}
+use Rattle.rm_model.proofs.Public.{same_word}
 
 module _ (P : List Use → Type 0) (more : (had : List Use) (earlier : ℕ) (u : Use) → use_fault had earlier u ≡ None → P had → P (had ++ u ∷ [])) where
   part_use : (had : List Use) (earlier : ℕ) (p : Part × Spot) → part_fault had earlier p ≡ None → use_fault_if had earlier (use_of p) ≡ None
@@ -56,7 +56,7 @@ module _ (P : List Use → Type 0) (more : (had : List Use) (earlier : ℕ) (u :
       without (Some k) n = cc
 
       is_model_word : (k : Command) → command_of s.word ≡ Some k → is_word (codes ".model") s.word ≡ true → k ≡ Model
-      is_model_word k h m = some_same k Model (sym h ∙ ap command_of (sym (word_is (codes ".model") s.word m)))
+      is_model_word k h m = some_same k Model (sym h ∙ ap command_of (sym (same_word (codes ".model") s.word m)))
         where
           some_same : (a b : Command) → Some a ≡ Some b → a ≡ b
           some_same a b e = cc

@@ -4,7 +4,7 @@ use Rattle.std.specs.Prelude.{if◌then◌else◌, codes, IfSome}
 use Rattle.std.specs.List.{filter_map, flat_map, list_all}
 use Rattle.std.proofs.lemmas.List.Folds.{list_all-append}
 use Rattle.std.proofs.lemmas.List.Elements.{All-weaker}
-use Rattle.rm_model.specs.Words.{Word, is_word}
+use Rattle.rm_model.specs.Words.{is_word}
 use Rattle.rm_model.specs.Value.{is_among, source_names, control_of}
 use Rattle.rm_model.specs.WellFormed.{is_token, driven_names, used_names, names_of, is_distinct, IsWellFormed}
 use Rattle.rm_model.specs.declared.parts.Cover.{Cover}
@@ -12,25 +12,23 @@ use Rattle.rm_model.specs.declared.parts.Latch.{Latch as LatchPart}
 use Rattle.rm_model.specs.declared.parts.Model.{Model as CircuitModel}
 use Rattle.blif_lines.specs.Layout.{Flaw, BadByteAt, OpenJoinAt, Logical, words_in, has_words, layout, lines_of}
 use Rattle.blif_format.specs.Text.{Line}
-use Rattle.blif_format.specs.Uses.{command_of, names_in}
+use Rattle.blif_format.specs.Uses.{command_of, is_clock, is_input, is_output, names_in}
 use Rattle.blif_format.specs.declared.words.Command.{Command}
 use Rattle.blif_format.specs.declared.words.Command.TheVariants.{Model, Inputs, Outputs, Clock, Names, Latch, End}
 use Rattle.blif_format.specs.declared.words.Role.{Role}
 use Rattle.blif_format.specs.declared.words.Role.TheVariants.{Input, ClockInput, Output, CoverInput, CoverOutput, LatchInput, LatchOutput, Control}
 use Rattle.blif_format.specs.FirstFault.{or_else, fault, flaw_fault, words_fault, Said, nothing_said, after_line, said_by, lines_fault, is_cover_input, undriven_fault}
 use Rattle.blif_format.specs.declared.refusal.FaultKind.TheVariants.{BadByte, OpenJoin}
-use Rattle.blif_reader.specs.Tally.{is_input, is_clock, is_latch, is_cover, is_output}
+use Rattle.blif_reader.specs.Tally.{is_latch, is_cover}
 use Rattle.blif_reader.specs.Drafts.{Begins, IsFitLatch, IsDraft, model_in}
 use Rattle.blif_reader.specs.declared.draft.Draft.{Draft}
 use Rattle.blif_reader.proofs.RowLaws.{first_none, second_none}
 use Rattle.blif_reader.proofs.CleanLaws.{IsClean, nothing_clean, clean_lines}
 use Rattle.blif_reader.proofs.NameLaws.{is_latch_input, is_control, all_uses, said_uses, uses_list, line_picks, picks_if, list_picks, cover_picks, latch_picks, picks}
 use Rattle.blif_reader.proofs.FormLaws.{NamesAre, names_are, driven_once, used_driven}
-use Rattle.blif_reader.proofs.TokenLaws.{AreTokens, and_one, layout_tokens}
-
-and_two : (a b : Bool) → (a && b) ≡ true → b ≡ true
-and_two true b e = e
-and_two false b e = cc
+use Rattle.blif_reader.proofs.TokenLaws.{AreTokens, layout_tokens}
+use Rattle.rm_base.proofs.Public.{and_first, and_second}
+use Rattle.rm_base.specs.Words.{Word}
 
 module _ (p : Word → Bool) where
   all_both : (xs ys : List Word) → list_all p xs ≡ true → list_all p ys ≡ true → list_all p (xs ++ ys) ≡ true
@@ -45,10 +43,10 @@ module _ (p : Word → Bool) where
   all_list false ws h = refl
 
   head_of : (w : Word) (ws : List Word) → list_all p (w ∷ ws) ≡ true → p w ≡ true
-  head_of w ws h = and_one (p w) (list_all p ws) h
+  head_of w ws h = and_first (p w) (list_all p ws) h
 
   tail_of : (w : Word) (ws : List Word) → list_all p (w ∷ ws) ≡ true → list_all p ws ≡ true
-  tail_of w ws h = and_two (p w) (list_all p ws) h
+  tail_of w ws h = and_second (p w) (list_all p ws) h
 
   all_cover : (t : Role → Bool) (ws : List Word) → list_all p ws ≡ true → list_all p (cover_picks t ws) ≡ true
   all_cover t [] h = refl
@@ -89,7 +87,7 @@ module _ (p : Word → Bool) where
 
   all_lines : (t : Role → Bool) (ls : List Line) → list_all (list_all p) ls ≡ true → list_all p (flat_map (line_picks t) ls) ≡ true
   all_lines t [] h = refl
-  all_lines t (l ∷ ls) h = all_both (line_picks t l) (flat_map (line_picks t) ls) (all_line t l (and_one (list_all p l) (list_all (list_all p) ls) h)) (all_lines t ls (and_two (list_all p l) (list_all (list_all p) ls) h))
+  all_lines t (l ∷ ls) h = all_both (line_picks t l) (flat_map (line_picks t) ls) (all_line t l (and_first (list_all p l) (list_all (list_all p) ls) h)) (all_lines t ls (and_second (list_all p l) (list_all (list_all p) ls) h))
 
   all_others : (taken xs : List Word) → list_all p xs ≡ true → list_all p (filter (λ x. not (is_among taken x)) xs) ≡ true
   all_others taken [] h = refl
@@ -102,7 +100,7 @@ module _ (p : Word → Bool) where
   title_all : (name : Word) (body : List Line) (ls : List Line) → ls ≡ (codes ".model" ∷ name ∷ []) ∷ body → list_all (list_all p) ls ≡ true → p name ≡ true
   title_all name body ls e h =
       let whole : list_all (list_all p) ((codes ".model" ∷ name ∷ []) ∷ body) ≡ true = ap (list_all (list_all p)) (sym e) ∙ h in
-      head_of name [] (tail_of (codes ".model") (name ∷ []) (and_one (list_all p (codes ".model" ∷ name ∷ [])) (list_all (list_all p) body) whole))
+      head_of name [] (tail_of (codes ".model") (name ∷ []) (and_first (list_all p (codes ".model" ∷ name ∷ [])) (list_all (list_all p) body) whole))
 
   -- every name of the model is a word of the lines
   pub all_names : (ls : List Logical) (m : CircuitModel) → NamesAre (all_uses ls) m → p m.name ≡ true → list_all (list_all p) (filter has_words (map words_in ls)) ≡ true → list_all p (names_of m) ≡ true

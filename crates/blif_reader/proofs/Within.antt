@@ -2,11 +2,11 @@
 use Rattle.std.proofs.Common.{◌≡◌, ◌≤◌, ◌+◌, ℕ, List, [], ◌∷◌, ◌++◌, map, filter, length, Bool, true, false, not, ◌&&◌, ◌||◌, All, refl, sym, ◌∙◌, ap, subst, arith, length-append, Option, None, Some}
 use Rattle.std.specs.Prelude.{if◌then◌else◌, nat_lt, codes, find, IfSome, ◌≢◌}
 use Rattle.std.specs.List.{filter_map, flat_map, list_all}
-use Rattle.std.proofs.lemmas.Bool.{ltb-false}
+use Rattle.std.proofs.lemmas.Bool.{ltb-false, or_left, or_right}
 use Rattle.std.proofs.lemmas.List.Folds.{list_all-append}
 use Rattle.std.proofs.lemmas.List.Elements.{All-head, All-tail, All-cons, All-nil}
 use Rattle.rm_base.specs.declared.numbers.Place.{Place}
-use Rattle.rm_model.specs.Words.{Word, is_word}
+use Rattle.rm_model.specs.Words.{is_word}
 use Rattle.rm_model.specs.Value.{is_among, source_names, control_of}
 use Rattle.rm_model.specs.WellFormed.{driven_names, used_names, IsWellFormed}
 use Rattle.rm_model.specs.Ranks.{ranks_of}
@@ -16,7 +16,7 @@ use Rattle.rm_model.specs.declared.parts.Model.{Model as CircuitModel}
 use Rattle.blif_lines.specs.Layout.{Spot, Logical, layout, lines_of}
 use Rattle.blif_format.specs.Text.{Line, cover_words}
 use Rattle.blif_format.specs.Grammar.{Reads, begins_with, words_after, names_lines, before, is_dotted as is_dotted_line}
-use Rattle.blif_format.specs.Uses.{command_of, names_parts, Use, is_source_role, names_in, distinct_count}
+use Rattle.blif_format.specs.Uses.{command_of, names_parts, Use, is_source_role, names_in, distinct_count, is_clock, is_input, is_output}
 use Rattle.blif_format.specs.declared.words.Command.TheVariants.{Model, Names}
 use Rattle.blif_format.specs.declared.words.Role.{Role}
 use Rattle.blif_format.specs.declared.words.Role.TheVariants.{Input, ClockInput, Output, CoverInput, CoverOutput, LatchInput, LatchOutput, Control}
@@ -28,40 +28,34 @@ use Rattle.blif_format.specs.declared.refusal.Quantity.TheVariants.{Name as Name
 use Rattle.blif_format.specs.declared.refusal.ReadRefusal.{ReadRefusal}
 use Rattle.blif_format.specs.declared.refusal.ReadRefusal.TheVariants.{Fault, Limit}
 use Rattle.blif_reader.specs.Limits.{is_short, IsWithinLimits}
-use Rattle.blif_reader.specs.Tally.{plays, is_input, is_clock, is_latch, is_cover, is_output}
+use Rattle.blif_reader.specs.Tally.{plays, is_latch, is_cover}
 use Rattle.blif_reader.specs.Drafts.{IsFitLatch}
-use Rattle.blif_reader.proofs.Compared.{word_same, word_is}
 use Rattle.blif_reader.proofs.Plays.{names_among, names_more, plays_or, plays_same, plays_source}
 use Rattle.blif_reader.proofs.NameLaws.{is_latch_input, is_control, all_uses, said_uses}
-use Rattle.blif_reader.proofs.FormLaws.{NamesAre, among_append, among_others, and_first, and_second, lines_in, names_are}
+use Rattle.blif_reader.proofs.FormLaws.{NamesAre, among_append, among_others, lines_in, names_are}
 use Rattle.blif_reader.proofs.SizeLaws.{fewer, observed_length, observed_small, sources_small}
 use Rattle.blif_reader.proofs.CleanLaws.{IsClean, IsFree, clean_lines, free_use, not_limit, nothing_clean}
 use Rattle.blif_reader.proofs.UseWalk.{walked_lines}
 use Rattle.blif_reader.proofs.RowLaws.{first_none, second_none}
 use Rattle.blif_reader.proofs.KnownLaws.{first_goes, later_goes, dotted_goes}
-use Rattle.blif_reader.proofs.WordCounts.{both, among_has}
+use Rattle.blif_reader.proofs.WordCounts.{among_has}
 use Rattle.blif_reader.proofs.NoLimits.{NoLimit, AreFew, AreFitLines, IsFitLine, spelled_length, every, text_fine, or_else_fine, fault_fine, none_fine, limit_never}
+use Rattle.rm_base.proofs.Public.{and_first, and_second, both_and}
+use Rattle.rm_base.specs.Words.{Word}
+use Rattle.rm_model.proofs.Public.{is_word-same, same_word}
 
 -- words of a list have what all words of another have among which they are
 all_among : (p : Word → Bool) (xs ys : List Word) → list_all (is_among ys) xs ≡ true → list_all p ys ≡ true → list_all p xs ≡ true
 all_among p [] ys h k = refl
-all_among p (x ∷ xs) ys h k = both (p x) (list_all p xs) (among_has p x ys (and_first (is_among ys x) (list_all (is_among ys) xs) h) k) (all_among p xs ys (and_second (is_among ys x) (list_all (is_among ys) xs) h) k)
+all_among p (x ∷ xs) ys h k = both_and (p x) (list_all p xs) (among_has p x ys (and_first (is_among ys x) (list_all (is_among ys) xs) h) k) (all_among p xs ys (and_second (is_among ys x) (list_all (is_among ys) xs) h) k)
 
 among_each : (xs ys : List Word) → ((z : Word) → is_among xs z ≡ true → is_among ys z ≡ true) → list_all (is_among ys) xs ≡ true
 among_each [] ys h = refl
-among_each (x ∷ xs) ys h = both (is_among ys x) (list_all (is_among ys) xs) (h x (ap (λ b. b || is_among xs x) (word_same x))) (among_each xs ys (λ z e. h z (ap (λ b. is_word z x || b) e ∙ last (is_word z x))))
+among_each (x ∷ xs) ys h = both_and (is_among ys x) (list_all (is_among ys) xs) (h x (ap (λ b. b || is_among xs x) (is_word-same x))) (among_each xs ys (λ z e. h z (ap (λ b. is_word z x || b) e ∙ last (is_word z x))))
   where
     last : (b : Bool) → (b || true) ≡ true
     last true = refl
     last false = refl
-
-or_one : (a b : Bool) → a ≡ true → (a || b) ≡ true
-or_one true b e = refl
-or_one false b e = cc
-
-or_two : (a b : Bool) → b ≡ true → (a || b) ≡ true
-or_two true b e = refl
-or_two false b e = e
 
 or_case : {C : Type 0} (a b : Bool) → (a || b) ≡ true → (a ≡ true → C) → (b ≡ true → C) → C
 or_case true b e f g = f refl
@@ -95,8 +89,8 @@ in_roles us z =
 plays_any : (t : Role → Bool) (us : List Use) (z : Word) → plays t us z ≡ true → plays every us z ≡ true
 plays_any t [] z e = cc
 plays_any t (u ∷ us) z e = or_case (t u.role && is_word u.name z) (plays t us z) e
-    (λ h. or_one (is_word u.name z) (plays every us z) (and_second (t u.role) (is_word u.name z) h))
-    (λ h. or_two (is_word u.name z) (plays every us z) (plays_any t us z h))
+    (λ h. or_left (is_word u.name z) (plays every us z) (and_second (t u.role) (is_word u.name z) h))
+    (λ h. or_right (is_word u.name z) (plays every us z) (plays_any t us z h))
 
 module _ (us : List Use) (m : CircuitModel) (n : NamesAre us m) where
   -- a name of a part is used in its role
@@ -107,13 +101,13 @@ module _ (us : List Use) (m : CircuitModel) (n : NamesAre us m) where
   input_source : (z : Word) → is_among m.inputs z ≡ true → is_among (source_names m) z ≡ true
   input_source z e =
       among_append (m.inputs ++ filter (λ x. not (is_among m.inputs x)) m.clocks) (map (λ (l : LatchPart). l.output) m.latches) z
-      ∙ or_one (is_among (m.inputs ++ filter (λ x. not (is_among m.inputs x)) m.clocks) z) (is_among (map (λ (l : LatchPart). l.output) m.latches) z)
-      (among_append m.inputs (filter (λ x. not (is_among m.inputs x)) m.clocks) z ∙ or_one (is_among m.inputs z) (is_among (filter (λ x. not (is_among m.inputs x)) m.clocks) z) e)
+      ∙ or_left (is_among (m.inputs ++ filter (λ x. not (is_among m.inputs x)) m.clocks) z) (is_among (map (λ (l : LatchPart). l.output) m.latches) z)
+      (among_append m.inputs (filter (λ x. not (is_among m.inputs x)) m.clocks) z ∙ or_left (is_among m.inputs z) (is_among (filter (λ x. not (is_among m.inputs x)) m.clocks) z) e)
 
   clock_source : (z : Word) → is_among m.clocks z ≡ true → is_among (source_names m) z ≡ true
   clock_source z e =
       among_append (m.inputs ++ filter (λ x. not (is_among m.inputs x)) m.clocks) (map (λ (l : LatchPart). l.output) m.latches) z
-      ∙ or_one (is_among (m.inputs ++ filter (λ x. not (is_among m.inputs x)) m.clocks) z) (is_among (map (λ (l : LatchPart). l.output) m.latches) z)
+      ∙ or_left (is_among (m.inputs ++ filter (λ x. not (is_among m.inputs x)) m.clocks) z) (is_among (map (λ (l : LatchPart). l.output) m.latches) z)
       (among_append m.inputs (filter (λ x. not (is_among m.inputs x)) m.clocks) z
       ∙ ap (λ b. is_among m.inputs z || b) (among_others m.inputs m.clocks z)
       ∙ at (is_among m.inputs z) (is_among m.clocks z) e)
@@ -126,7 +120,7 @@ module _ (us : List Use) (m : CircuitModel) (n : NamesAre us m) where
   latch_source : (z : Word) → is_among (map (λ (l : LatchPart). l.output) m.latches) z ≡ true → is_among (source_names m) z ≡ true
   latch_source z e =
       among_append (m.inputs ++ filter (λ x. not (is_among m.inputs x)) m.clocks) (map (λ (l : LatchPart). l.output) m.latches) z
-      ∙ or_two (is_among (m.inputs ++ filter (λ x. not (is_among m.inputs x)) m.clocks) z) (is_among (map (λ (l : LatchPart). l.output) m.latches) z) e
+      ∙ or_right (is_among (m.inputs ++ filter (λ x. not (is_among m.inputs x)) m.clocks) z) (is_among (map (λ (l : LatchPart). l.output) m.latches) z) e
 
   source_use : (z : Word) → plays is_source_role us z ≡ true → is_among (source_names m) z ≡ true
   source_use z e = or_case (plays is_input us z) (plays is_clock us z || plays is_latch us z) (sym (plays_source us z) ∙ e)
@@ -136,10 +130,10 @@ module _ (us : List Use) (m : CircuitModel) (n : NamesAre us m) where
       (λ k. latch_source z (plays_part is_latch (map (λ (l : LatchPart). l.output) m.latches) n.latches z ∙ k)))
 
   source_driven : (z : Word) → is_among (source_names m) z ≡ true → is_among (driven_names m) z ≡ true
-  source_driven z e = among_append (source_names m) (map (λ (c : Cover). c.output) m.covers) z ∙ or_one (is_among (source_names m) z) (is_among (map (λ (c : Cover). c.output) m.covers) z) e
+  source_driven z e = among_append (source_names m) (map (λ (c : Cover). c.output) m.covers) z ∙ or_left (is_among (source_names m) z) (is_among (map (λ (c : Cover). c.output) m.covers) z) e
 
   cover_driven : (z : Word) → is_among (map (λ (c : Cover). c.output) m.covers) z ≡ true → is_among (driven_names m) z ≡ true
-  cover_driven z e = among_append (source_names m) (map (λ (c : Cover). c.output) m.covers) z ∙ or_two (is_among (source_names m) z) (is_among (map (λ (c : Cover). c.output) m.covers) z) e
+  cover_driven z e = among_append (source_names m) (map (λ (c : Cover). c.output) m.covers) z ∙ or_right (is_among (source_names m) z) (is_among (map (λ (c : Cover). c.output) m.covers) z) e
 
   -- a name that the model uses is driven
   module _ (formed : IsWellFormed m) where
@@ -156,16 +150,16 @@ module _ (us : List Use) (m : CircuitModel) (n : NamesAre us m) where
     controls = filter_map control_of m.latches
 
     output_driven : (z : Word) → is_among m.outputs z ≡ true → is_among (driven_names m) z ≡ true
-    output_driven z e = used z (among_append ((m.outputs ++ cover_inputs) ++ latch_inputs) controls z ∙ or_one _ (is_among controls z) (among_append (m.outputs ++ cover_inputs) latch_inputs z ∙ or_one _ (is_among latch_inputs z) (among_append m.outputs cover_inputs z ∙ or_one (is_among m.outputs z) (is_among cover_inputs z) e)))
+    output_driven z e = used z (among_append ((m.outputs ++ cover_inputs) ++ latch_inputs) controls z ∙ or_left _ (is_among controls z) (among_append (m.outputs ++ cover_inputs) latch_inputs z ∙ or_left _ (is_among latch_inputs z) (among_append m.outputs cover_inputs z ∙ or_left (is_among m.outputs z) (is_among cover_inputs z) e)))
 
     cover_input_driven : (z : Word) → is_among cover_inputs z ≡ true → is_among (driven_names m) z ≡ true
-    cover_input_driven z e = used z (among_append ((m.outputs ++ cover_inputs) ++ latch_inputs) controls z ∙ or_one _ (is_among controls z) (among_append (m.outputs ++ cover_inputs) latch_inputs z ∙ or_one _ (is_among latch_inputs z) (among_append m.outputs cover_inputs z ∙ or_two (is_among m.outputs z) (is_among cover_inputs z) e)))
+    cover_input_driven z e = used z (among_append ((m.outputs ++ cover_inputs) ++ latch_inputs) controls z ∙ or_left _ (is_among controls z) (among_append (m.outputs ++ cover_inputs) latch_inputs z ∙ or_left _ (is_among latch_inputs z) (among_append m.outputs cover_inputs z ∙ or_right (is_among m.outputs z) (is_among cover_inputs z) e)))
 
     latch_input_driven : (z : Word) → is_among latch_inputs z ≡ true → is_among (driven_names m) z ≡ true
-    latch_input_driven z e = used z (among_append ((m.outputs ++ cover_inputs) ++ latch_inputs) controls z ∙ or_one _ (is_among controls z) (among_append (m.outputs ++ cover_inputs) latch_inputs z ∙ or_two (is_among (m.outputs ++ cover_inputs) z) (is_among latch_inputs z) e))
+    latch_input_driven z e = used z (among_append ((m.outputs ++ cover_inputs) ++ latch_inputs) controls z ∙ or_left _ (is_among controls z) (among_append (m.outputs ++ cover_inputs) latch_inputs z ∙ or_right (is_among (m.outputs ++ cover_inputs) z) (is_among latch_inputs z) e))
 
     control_driven : (z : Word) → is_among controls z ≡ true → is_among (driven_names m) z ≡ true
-    control_driven z e = used z (among_append ((m.outputs ++ cover_inputs) ++ latch_inputs) controls z ∙ or_two (is_among ((m.outputs ++ cover_inputs) ++ latch_inputs) z) (is_among controls z) e)
+    control_driven z e = used z (among_append ((m.outputs ++ cover_inputs) ++ latch_inputs) controls z ∙ or_right (is_among ((m.outputs ++ cover_inputs) ++ latch_inputs) z) (is_among controls z) e)
 
     use_driven : (z : Word) → plays every us z ≡ true → is_among (driven_names m) z ≡ true
     use_driven z e = or_case (plays is_input us z) _ (sym (in_roles us z) ∙ e)
@@ -291,7 +285,7 @@ one_more had earlier u none c = by (free_use had earlier u none)
   where
     by : IsFree had earlier u → AreCounted (had ++ u ∷ [])
     by f = record {
-      short = ap (list_all is_short) (names_more every had u) ∙ list_all-append is_short (names_in every had) (u.name ∷ []) ∙ both (list_all is_short (names_in every had)) (is_short u.name && true) c.short (both (is_short u.name) true (ap not f.short) refl);
+      short = ap (list_all is_short) (names_more every had u) ∙ list_all-append is_short (names_in every had) (u.name ∷ []) ∙ both_and (list_all is_short (names_in every had)) (is_short u.name && true) c.short (both_and (is_short u.name) true (ap not f.short) refl);
       signals = f.signals;
     }
 
@@ -345,11 +339,11 @@ line_narrow : (said : Said) (s : Spot) (ss : List Spot) → words_fault said (s 
 line_narrow said s ss none named = at said.began refl
   where
     is : codes ".names" ≡ s.word
-    is = word_is (codes ".names") s.word named
+    is = same_word (codes ".names") s.word named
 
     at : (t : Bool) → said.began ≡ t → length (map (λ (t : Spot). t.word) ss) ≤ 65537
     at false b =
-        let model : codes ".model" ≡ s.word = word_is (codes ".model") s.word (first_goes said s ss none b).0 in
+        let model : codes ".model" ≡ s.word = same_word (codes ".model") s.word (first_goes said s ss none b).0 in
         let wrong : Some Model ≡ Some Names = ap command_of (model ∙ sym is) in absurd (differ wrong)
       where
         differ : Some Model ≡ Some Names → ⊥

@@ -1,26 +1,22 @@
 -- How many different words a list has.
-use Rattle.std.proofs.Common.{◌≡◌, ◌≤◌, ◌+◌, List, [], ◌∷◌, length, Bool, true, false, ◌&&◌, refl, ◌∙◌, ap, arith}
+use Rattle.std.proofs.Common.{◌≡◌, ◌≤◌, ◌+◌, List, [], ◌∷◌, length, Bool, true, false, refl, ◌∙◌, ap, arith}
 use Rattle.std.specs.List.{list_all}
-use Rattle.rm_model.specs.Words.{Word, is_word}
+use Rattle.rm_model.specs.Words.{is_word}
 use Rattle.rm_model.specs.Value.{is_among}
 use Rattle.blif_format.specs.Uses.{distinct_count}
-use Rattle.blif_reader.proofs.Compared.{word_is}
-use Rattle.blif_reader.proofs.FormLaws.{and_first, and_second}
-use Rattle.blif_reader.proofs.Free.{or_left, or_right}
 use Rattle.blif_reader.proofs.SizeLaws.{without, among_without, count_without}
-
-pub both : (a b : Bool) → a ≡ true → b ≡ true → (a && b) ≡ true
-both true b e f = f
-both false b e f = e
+use Rattle.rm_base.proofs.Public.{and_first, and_second, both_and, neither_first, neither_second}
+use Rattle.rm_base.specs.Words.{Word}
+use Rattle.rm_model.proofs.Public.{same_word}
 
 -- words that are among others stay so without a word that isn't one of them
 among_rest : (x : Word) (xs ys : List Word) → list_all (is_among ys) xs ≡ true → is_among xs x ≡ false → list_all (is_among (without x ys)) xs ≡ true
 among_rest x [] ys h n = refl
 among_rest x (z ∷ zs) ys h n =
-    let other : is_word x z ≡ false = or_left (is_word x z) (is_among zs x) n in
-    both (is_among (without x ys) z) (list_all (is_among (without x ys)) zs)
+    let other : is_word x z ≡ false = neither_first (is_word x z) (is_among zs x) n in
+    both_and (is_among (without x ys) z) (list_all (is_among (without x ys)) zs)
     (among_without x z ys other ∙ and_first (is_among ys z) (list_all (is_among ys) zs) h)
-    (among_rest x zs ys (and_second (is_among ys z) (list_all (is_among ys) zs) h) (or_right (is_word x z) (is_among zs x) n))
+    (among_rest x zs ys (and_second (is_among ys z) (list_all (is_among ys) zs) h) (neither_second (is_word x z) (is_among zs x) n))
 
 -- words that are among others are of no more kinds
 pub kinds_among : (xs ys : List Word) → list_all (is_among ys) xs ≡ true → distinct_count xs ≤ distinct_count ys
@@ -51,5 +47,5 @@ among_has p x [] i a = cc
 among_has p x (z ∷ zs) i a = at (is_word x z) refl (among_has p x zs)
   where
     at : (b : Bool) → is_word x z ≡ b → (is_among zs x ≡ true → list_all p zs ≡ true → p x ≡ true) → p x ≡ true
-    at true e rest = ap p (word_is x z e) ∙ and_first (p z) (list_all p zs) a
+    at true e rest = ap p (same_word x z e) ∙ and_first (p z) (list_all p zs) a
     at false e rest = rest (rw e at i) (and_second (p z) (list_all p zs) a)

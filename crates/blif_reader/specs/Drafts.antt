@@ -1,6 +1,5 @@
 -- What a draft of a model has of the lines so far.
 use Rattle.std.specs.Prelude.{◌≡◌, ◌≢◌, ◌<◌, ◌≤◌, ℕ, Bool, true, false, List, [], ◌∷◌, ◌++◌, map, filter, length, is_some, codes, All, IfSome, Option, None, Some, if◌then◌else◌}
-use Rattle.rm_model.specs.Words.{Word}
 use Rattle.rm_model.specs.declared.parts.Literal.{Literal}
 use Rattle.rm_model.specs.Value.{control_of}
 use Rattle.rm_model.specs.WellFormed.{IsWellFormedCover}
@@ -18,6 +17,7 @@ use Rattle.blif_lines.specs.declared.line.Token.{Token}
 use Rattle.blif_reader.specs.Lines.{words_at, spots_at, line_at, IsLatchLine}
 use Rattle.blif_reader.specs.Rows.{cover_for}
 use Rattle.blif_reader.specs.declared.draft.Draft.{Draft}
+use Rattle.rm_base.specs.Words.{Word}
 
 abbrev pub opt_list : {A : Type 0} → Option A → List A
 opt_list None = []

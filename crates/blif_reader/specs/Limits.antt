@@ -1,11 +1,11 @@
 -- The limits on what a model holds, which are those on a text.
 use Rattle.std.specs.Prelude.{◌≡◌, ◌≤◌, true, Bool, not, nat_lt, length, All}
 use Rattle.std.specs.List.{list_all}
-use Rattle.rm_model.specs.Words.{Word}
 use Rattle.rm_model.specs.Value.{source_names, observed_names}
 use Rattle.rm_model.specs.WellFormed.{driven_names}
 use Rattle.rm_model.specs.declared.parts.Cover.{Cover}
 use Rattle.rm_model.specs.declared.parts.Model.{Model}
+use Rattle.rm_base.specs.Words.{Word}
 
 -- a name of at most 1,024 bytes
 abbrev pub is_short : Word → Bool

@@ -1,7 +1,6 @@
 -- Words of lines, as the model takes them.
 use Rattle.std.specs.Prelude.{◌≡◌, ℕ, Bool, true, List, [], ◌∷◌, map, Option}
 use Rattle.std.specs.List.{list_all}
-use Rattle.rm_model.specs.Words.{Word}
 use Rattle.rm_model.specs.Value.{is_among}
 use Rattle.blif_lines.specs.Layout.{Spot}
 use Rattle.blif_lines.specs.Reading.{spot_of}
@@ -9,6 +8,7 @@ use Rattle.blif_lines.specs.declared.line.Token.{Token}
 use Rattle.blif_format.specs.Uses.{Use, command_of}
 use Rattle.blif_format.specs.declared.refusal.ReadRefusal.{ReadRefusal}
 use Rattle.blif_format.specs.FirstFault.{dotted_fault, latch_types, init_values, is_literal}
+use Rattle.rm_base.specs.Words.{Word}
 
 abbrev pub words_at : List ℕ → List Token → List Word
 words_at text words = map (λ (t : Token). (spot_of text t).word) words

@@ -1,9 +1,9 @@
 -- Names and their entries as one list of pairs.
 use Rattle.std.specs.Prelude.{◌≡◌, List, length}
 use Rattle.std.specs.List.{zip}
-use Rattle.rm_model.specs.Words.{Word}
 use Rattle.blif_reader.specs.declared.names.Entry.{Entry}
 use Rattle.blif_reader.specs.declared.entries.Entries.TheInside.{Inside}
+use Rattle.rm_base.specs.Words.{Word}
 
 abbrev pub pairs : Inside → List (Word × Entry)
 pairs t = zip t.names t.entries.items

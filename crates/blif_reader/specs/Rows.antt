@@ -1,6 +1,5 @@
 -- Parts of the first fault of a line.
 use Rattle.std.specs.Prelude.{◌+◌, ◌-◌, ◌==◌, ℕ, Bool, true, false, not, length, Option, None, Some}
-use Rattle.rm_model.specs.Words.{Word}
 use Rattle.rm_base.specs.declared.numbers.Place.{Place}
 use Rattle.rm_model.specs.Value.{is_among}
 use Rattle.blif_lines.specs.Layout.{Spot}
@@ -11,6 +10,7 @@ use Rattle.blif_format.specs.declared.words.Part.TheVariants.{Title, Name, Latch
 use Rattle.blif_format.specs.FirstFault.{OpenCover, or_else, fault, fault_if, name_limit, latch_types, init_values, character_fault}
 use Rattle.blif_format.specs.declared.refusal.FaultKind.TheVariants.{RowLength, BadLatchWord, ExtraWord}
 use Rattle.blif_format.specs.declared.refusal.ReadRefusal.{ReadRefusal}
+use Rattle.rm_base.specs.Words.{Word}
 
 abbrev pub columns_on : Place → ℕ → Place
 columns_on place i = record place { column = place.column + i }

@@ -1,7 +1,6 @@
 -- What a checker has of the lines so far.
 use Rattle.std.specs.Prelude.{◌≡◌, Bool, List, Option, None}
 use Rattle.std.specs.Option.{option_map}
-use Rattle.rm_model.specs.Words.{Word}
 use Rattle.blif_format.specs.Text.{on_word}
 use Rattle.blif_lines.specs.Layout.{Spot}
 use Rattle.blif_format.specs.FirstFault.{Said, after_line, OpenCover as SaidCover}
@@ -9,6 +8,7 @@ use Rattle.blif_format.specs.declared.refusal.ReadRefusal.{ReadRefusal}
 use Rattle.blif_reader.specs.Tally.{IsTally}
 use Rattle.blif_reader.specs.declared.rows.OpenCover.{OpenCover}
 use Rattle.blif_reader.specs.declared.check.Checker.{Checker}
+use Rattle.rm_base.specs.Words.{Word}
 
 abbrev pub said_ending : Option Bool → Option Word
 said_ending ending = option_map on_word ending

@@ -2,10 +2,10 @@
 use Rattle.std.specs.Prelude.{◌≡◌, ◌+◌, ℕ, Bool, true, false, not, ◌&&◌, ◌||◌, nat_lt, is_some, List, [], ◌∷◌, ◌++◌, map, length, fold, Option, None, Some, if◌then◌else◌}
 use Rattle.std.specs.List.{filter_map, list_any}
 use Rattle.rm_base.specs.declared.numbers.Place.{Place}
-use Rattle.rm_model.specs.Words.{Word, is_word}
+use Rattle.rm_model.specs.Words.{is_word}
 use Rattle.rm_model.specs.Value.{is_among}
 use Rattle.blif_lines.specs.Layout.{Spot}
-use Rattle.blif_format.specs.Uses.{Use, use_of, is_source_role, is_observed_role, names_in, distinct_count}
+use Rattle.blif_format.specs.Uses.{Use, use_of, is_source_role, is_observed_role, names_in, distinct_count, is_clock, is_input, is_output}
 use Rattle.blif_format.specs.declared.words.Part.{Part}
 use Rattle.blif_format.specs.declared.words.Role.{Role}
 use Rattle.blif_format.specs.declared.words.Role.TheVariants.{Input, ClockInput, Output, CoverOutput, LatchOutput}
@@ -16,6 +16,7 @@ use Rattle.blif_format.specs.declared.refusal.ReadRefusal.{ReadRefusal}
 use Rattle.blif_reader.specs.declared.names.Flags.{Flags}
 use Rattle.blif_reader.specs.declared.names.Entry.{Entry}
 use Rattle.blif_reader.specs.declared.names.Counts.{Counts}
+use Rattle.rm_base.specs.Words.{Word}
 
 -- each name with its entry, by first appearance
 pub record Tally : Type 0 where
@@ -116,14 +117,6 @@ tally_fault t earlier this = use_check (flags_at t.entries this.name) (counts_af
 abbrev pub plays : (Role → Bool) → List Use → Word → Bool
 plays test uses x = list_any (λ (u : Use). test u.role && is_word u.name x) uses
 
-abbrev pub is_input : Role → Bool
-is_input Input = true
-is_input role = false
-
-abbrev pub is_clock : Role → Bool
-is_clock ClockInput = true
-is_clock role = false
-
 abbrev pub is_latch : Role → Bool
 is_latch LatchOutput = true
 is_latch role = false
@@ -131,10 +124,6 @@ is_latch role = false
 abbrev pub is_cover : Role → Bool
 is_cover CoverOutput = true
 is_cover role = false
-
-abbrev pub is_output : Role → Bool
-is_output Output = true
-is_output role = false
 
 abbrev pub flags_in : List Use → Word → Flags
 flags_in uses x = record {

@@ -1,6 +1,7 @@
 // The first fault of the words of a line, after those before it.
 ghost use Rattle.std.specs.Prelude.{◌≡◌, ◌≢◌, ◌≤◌, ◌<◌, ◌-◌, ◌^◌, ◌∷◌, ◌||◌, [], length, take, drop, false, true, List, ℕ, OnOk, IfOk, IfErr, All, None, Some};
-ghost use Rattle.rm_model.specs.Words.{Word, is_word};
+ghost use Rattle.rm_model.specs.Words.{is_word};
+ghost use Rattle.rm_base.specs.Words.{Word};
 ghost use Rattle.blif_lines.specs.Layout.{Spot};
 ghost use Rattle.blif_lines.specs.Reading.{spot_of, IsWithin};
 ghost use Rattle.blif_format.specs.Text.{on_word};

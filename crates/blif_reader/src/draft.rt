@@ -1,6 +1,7 @@
 // The model that the lines so far say.
 ghost use Rattle.std.specs.Prelude.{◌≡◌, ◌≢◌, ◌≤◌, ◌<◌, ◌+◌, ◌-◌, ◌^◌, ◌++◌, ◌∷◌, [], length, map, true, List, ℕ, OnOk, OnErr, IfOk, IfSome, All, None, Some, codes};
-ghost use Rattle.rm_model.specs.Words.{Word, is_word, kind_word, literal_byte};
+ghost use Rattle.rm_model.specs.Words.{is_word, kind_word, literal_byte};
+ghost use Rattle.rm_base.specs.Words.{Word};
 ghost use Rattle.rm_model.specs.Value.{is_among};
 ghost use Rattle.blif_lines.specs.Reading.{spot_of, IsWithin};
 ghost use Rattle.blif_format.specs.Text.{Line, control_word, timing_words, init_words, latch_words, cover_words, row_words};

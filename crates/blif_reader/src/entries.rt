@@ -2,7 +2,7 @@
 ghost use Rattle.std.specs.Prelude.{◌≡◌, [], length, map, slice_get, OnOk, OnErr};
 ghost use Rattle.std.specs.Option.{option_map};
 ghost use Rattle.rm_model.specs.Numbers.{place_of};
-ghost use Rattle.rm_model.specs.Words.{Word};
+ghost use Rattle.rm_base.specs.Words.{Word};
 ghost use Rattle.blif_reader.specs.Tally.{entry_of, put_entry};
 
 use crate::names::Entry;
@@ -20,7 +20,7 @@ pub struct Entries<'a> {
 
 impl<'a> Model for Entries<'a> {
     ghost use Rattle.std.specs.Prelude.{List};
-    ghost use Rattle.rm_model.specs.Words.{Word};
+    ghost use Rattle.rm_base.specs.Words.{Word};
     ghost use Rattle.blif_reader.specs.declared.names.Entry.{Entry};
 
     ghost Value = { List (Word × Entry) };

@@ -2,7 +2,8 @@
 use Rattle.std.proofs.Common.{◌≡◌, Bool, true, false, List, [], ◌∷◌, ◌++◌, map, filter, refl, ap, sym, subst, ◌∙◌, inl, inr}
 use Rattle.std.specs.Prelude.{◌⊎◌, ◌&&◌, ◌||◌, ◌≤◌, All, IfSome, codes, length}
 use Rattle.std.proofs.lemmas.List.Elements.{All-head, All-tail}
-use Rattle.rm_model.specs.Words.{Word, is_word}
+use Rattle.std.proofs.lemmas.Bool.{and_parts}
+use Rattle.rm_model.specs.Words.{is_word}
 use Rattle.rm_model.specs.Value.{control_of}
 use Rattle.rm_model.specs.WellFormed.{IsWellFormedCover}
 use Rattle.rm_model.specs.declared.parts.Literal.{Literal}
@@ -11,10 +12,13 @@ use Rattle.rm_model.specs.declared.parts.Latch.{Latch}
 use Rattle.blif_lines.specs.Layout.{Spot}
 use Rattle.blif_format.specs.Text.{Line, cover_words, latch_words, row_words}
 use Rattle.blif_format.specs.Grammar.{before, before_end, begins_with, follow, is_command, is_dotted, names_lines, words_after}
-use Rattle.blif_writer.proofs.Counts.{IsSo, NotSo, and_parts, told, word_eq}
+use Rattle.blif_writer.proofs.Counts.{IsSo, NotSo, told}
 use Rattle.blif_writer.proofs.LineLaws.{if_false}
 use Rattle.blif_writer.proofs.ReadLaws.{not_first}
 use Rattle.blif_writer.proofs.SpotLaws.{words}
+use Rattle.rm_base.proofs.Public.{tail_same}
+use Rattle.rm_base.specs.Words.{Word}
+use Rattle.rm_model.proofs.Public.{same_word}
 
 -- the rows that a cover has still to come
 pub data Open : Type 0 where
@@ -64,9 +68,6 @@ pub record IsLeft (p : Open) (lines : List Line) (ls : List Latch) (cs : List Co
 pub head_of : {A : Type 0} {x y : A} {xs ys : List A} → x ∷ xs ≡ y ∷ ys → x ≡ y
 head_of e = cc
 
-pub tail_of : {A : Type 0} {x y : A} {xs ys : List A} → x ∷ xs ≡ y ∷ ys → xs ≡ ys
-tail_of e = cc
-
 -- a line that begins no row ends the rows
 shut_by_dot : (p : Open) (w : Word) (ws : Line) (lines : List Line) → is_dotted (w ∷ ws) ≡ true → RowsAre p ((w ∷ ws) ∷ lines) → NoRowsLeft p
 shut_by_dot Shut w ws lines dot h = tt
@@ -79,8 +80,8 @@ rows_at_end (Rows c []) h = refl
 rows_at_end (Rows c (r ∷ rs)) h = cc (h.0)
 
 pub ending_tail : (l : Line) (lines : List Line) → (l ∷ lines ≡ l ∷ before_end lines) ⊎ (l ∷ lines ≡ (l ∷ before_end lines) ++ (codes ".end" ∷ []) ∷ []) → (lines ≡ before_end lines) ⊎ (lines ≡ before_end lines ++ (codes ".end" ∷ []) ∷ [])
-ending_tail l lines (inl e) = inl (tail_of e)
-ending_tail l lines (inr e) = inr (tail_of e)
+ending_tail l lines (inl e) = inl (tail_same e)
+ending_tail l lines (inr e) = inr (tail_same e)
 
 -- the line in front, and what is known of those behind it
 record IsAhead (p : Open) (w : Word) (ws : Line) (lines : List Line) (ls : List Latch) (cs : List Cover) : Type 0 where
@@ -110,7 +111,7 @@ latch_line : (p : Open) (s : Spot) (ss : List Spot) (ts : List (List Spot)) (ls 
 latch_line p s ss ts [] cs e h goes = absurd (cc (h.latches))
 latch_line p s ss ts (l ∷ ls) cs e h goes =
     LatchLine p s ss ts l ls cs e (head_of (h.latches)) (All-head IsGoodLatch l ls h.good_latches) h.rows
-    (goes Shut ls cs (record { ending = h.ending; commands = h.commands; rows = tt; latches = tail_of (h.latches); covers = h.covers; good_latches = All-tail IsGoodLatch l ls h.good_latches; good_covers = h.good_covers }))
+    (goes Shut ls cs (record { ending = h.ending; commands = h.commands; rows = tt; latches = tail_same (h.latches); covers = h.covers; good_latches = All-tail IsGoodLatch l ls h.good_latches; good_covers = h.good_covers }))
 
 names_line : (p : Open) (s : Spot) (ss : List Spot) (ts : List (List Spot)) (ls : List Latch) (cs : List Cover) → s.word ≡ codes ".names" → IsAhead p (codes ".names") (words ss) (map words ts) ls cs → Goes ts → Body p ((s ∷ ss) ∷ ts) ls cs
 names_line p s ss ts ls [] e h goes = absurd (cc (h.covers))
@@ -118,7 +119,7 @@ names_line p s ss ts ls (c ∷ cs) e h goes =
     let here : (words ss, before is_dotted (map words ts)) ≡ cover_words c = head_of (h.covers) in
     let good = All-head IsWellFormedCover c cs h.good_covers in
     NamesLine p s ss ts ls c cs e (ap (λ (q : Line × List Line). q.0) here) h.rows
-    (goes (Rows c c.rows) ls cs (record { ending = h.ending; commands = h.commands; rows = (ap (λ (q : Line × List Line). q.1) here, good.row_lengths); latches = h.latches; covers = tail_of (h.covers); good_latches = h.good_latches; good_covers = All-tail IsWellFormedCover c cs h.good_covers }))
+    (goes (Rows c c.rows) ls cs (record { ending = h.ending; commands = h.commands; rows = (ap (λ (q : Line × List Line). q.1) here, good.row_lengths); latches = h.latches; covers = tail_same (h.covers); good_latches = h.good_latches; good_covers = All-tail IsWellFormedCover c cs h.good_covers }))
 
 -- the command of a line
 data Which (w : Word) : Type 0 where
@@ -132,14 +133,14 @@ or_cases false b e = inr e
 
 which : (w : Word) (ws : Line) → is_command (w ∷ ws) ≡ true → Which w
 which w ws e = elim (or_cases (is_word (codes ".inputs") w) _ e) [
-  | inl t ↦ OfList (IsInputs (sym (word_eq (codes ".inputs") w t)))
+  | inl t ↦ OfList (IsInputs (sym (same_word (codes ".inputs") w t)))
   | inr f ↦ elim (or_cases (is_word (codes ".outputs") w) _ f) [
-    | inl t ↦ OfList (IsOutputs (sym (word_eq (codes ".outputs") w t)))
+    | inl t ↦ OfList (IsOutputs (sym (same_word (codes ".outputs") w t)))
     | inr g ↦ elim (or_cases (is_word (codes ".clock") w) _ g) [
-      | inl t ↦ OfList (IsClock (sym (word_eq (codes ".clock") w t)))
+      | inl t ↦ OfList (IsClock (sym (same_word (codes ".clock") w t)))
       | inr h ↦ elim (or_cases (is_word (codes ".latch") w) _ h) [
-        | inl t ↦ OfLatch (sym (word_eq (codes ".latch") w t))
-        | inr t ↦ OfNames (sym (word_eq (codes ".names") w t))
+        | inl t ↦ OfLatch (sym (same_word (codes ".latch") w t))
+        | inr t ↦ OfNames (sym (same_word (codes ".names") w t))
       ]
     ]
   ]
@@ -173,7 +174,7 @@ row_line (Rows c (r ∷ rs)) s ss ts ls cs dot h step goes =
     (goes (Rows c rs) ls cs (record {
       ending = ending_tail line lines (subst (λ (x : List Line). (line ∷ lines ≡ x) ⊎ (line ∷ lines ≡ x ++ (codes ".end" ∷ []) ∷ [])) step h.ending);
       commands = commands;
-      rows = (tail_of rows, All-tail lengths r rs h.rows.1);
+      rows = (tail_same rows, All-tail lengths r rs h.rows.1);
       latches = ap (map words_after) (sym (if_false (line ∷ filter (begins_with (codes ".latch")) lines) (filter (begins_with (codes ".latch")) lines) latch)) ∙ h.latches;
       covers = sym (if_false ((words_after line, before is_dotted lines) ∷ names_lines lines) (names_lines lines) names) ∙ h.covers;
       good_latches = h.good_latches;
@@ -207,7 +208,7 @@ body_from ((s ∷ ss) ∷ ts) p ls cs h =
     let line = words (s ∷ ss) in
     elim (told (is_word (codes ".end") s.word)) [
       | IsSo t ↦
-          let e = sym (word_eq (codes ".end") s.word t) in
+          let e = sym (same_word (codes ".end") s.word t) in
           end_line p s ss ts ls cs e (subst (λ (x : Word). IsLeft p ((x ∷ words ss) ∷ lines) ls cs) e h)
       | NotSo n ↦
           let step : before_end (line ∷ lines) ≡ line ∷ before_end lines = if_false [] (line ∷ before_end lines) n in

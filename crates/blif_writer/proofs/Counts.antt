@@ -1,22 +1,20 @@
 -- How often a word stands in a list of words.
 use Rattle.std.proofs.Common.{◌≡◌, ◌+◌, ◌≤◌, ℕ, Bool, true, false, not, List, [], ◌∷◌, ◌++◌, filter, refl, ap, sym, ◌∙◌, arith}
-use Rattle.std.specs.Prelude.{◌&&◌, ◌||◌}
+use Rattle.std.specs.Prelude.{◌||◌}
 use Rattle.std.specs.List.{list_all}
 use Rattle.std.proofs.lemmas.Slice.Eq.{bytes_eq-Decides}
-use Rattle.rm_model.specs.Words.{Word, is_word}
+use Rattle.std.proofs.lemmas.Bool.{and_parts}
+use Rattle.rm_model.specs.Words.{is_word}
 use Rattle.rm_model.specs.Value.{is_among}
 use Rattle.rm_model.specs.WellFormed.{is_distinct}
-
-abbrev pub one_if : Bool → ℕ
-one_if true = 1
-one_if false = 0
+use Rattle.rm_base.proofs.Public.{false_from_not}
+use Rattle.rm_base.specs.Numbers.{one_if}
+use Rattle.rm_base.specs.Words.{Word}
+use Rattle.rm_model.proofs.Public.{same_word}
 
 abbrev pub count : Word → List Word → ℕ
 count x [] = 0
 count x (y ∷ ys) = one_if (is_word x y) + count x ys
-
-pub word_eq : (x y : Word) → is_word x y ≡ true → x ≡ y
-word_eq x y e = (bytes_eq-Decides x y).0 e
 
 pub eq_word : (x y : Word) → x ≡ y → is_word x y ≡ true
 eq_word x y e = (bytes_eq-Decides x y).1 e
@@ -31,7 +29,7 @@ told true = IsSo refl
 told false = NotSo refl
 
 pub other_way : (x y : Word) → is_word x y ≡ false → is_word y x ≡ false
-other_way x y e = elim (told (is_word y x)) [ IsSo t ↦ absurd (different (sym (eq_word x y (sym (word_eq y x t))) ∙ e)) | NotSo t ↦ t ]
+other_way x y e = elim (told (is_word y x)) [ IsSo t ↦ absurd (different (sym (eq_word x y (sym (same_word y x t))) ∙ e)) | NotSo t ↦ t ]
   where
     different : true ≡ false → ⊥
     different h = cc
@@ -43,14 +41,6 @@ count-append x (y ∷ ys) zs = omega (arith, count-append x ys zs)
 pub or_parts : (a b : Bool) → a || b ≡ false → (a ≡ false) × (b ≡ false)
 or_parts true b e = absurd cc
 or_parts false b e = (refl, e)
-
-pub and_parts : (a b : Bool) → a && b ≡ true → (a ≡ true) × (b ≡ true)
-and_parts true b e = (refl, e)
-and_parts false b e = absurd cc
-
-pub not_true : (a : Bool) → not a ≡ true → a ≡ false
-not_true true e = cc
-not_true false e = refl
 
 pub count_absent : (x : Word) (ys : List Word) → is_among ys x ≡ false → count x ys ≡ 0
 count_absent x [] e = refl
@@ -79,7 +69,7 @@ distinct_count (y ∷ ys) e x =
     let h = and_parts (not (is_among ys y)) (is_distinct ys) e in
     let rest : count x ys ≤ 1 = distinct_count ys h.1 x in
     elim (told (is_word x y)) [
-      | IsSo t ↦ let none : count x ys ≡ 0 = count_absent x ys (ap (λ z. is_among ys z) (word_eq x y t) ∙ not_true (is_among ys y) h.0) in rw t (omega arith)
+      | IsSo t ↦ let none : count x ys ≡ 0 = count_absent x ys (ap (λ z. is_among ys z) (same_word x y t) ∙ false_from_not (is_among ys y) h.0) in rw t (omega arith)
       | NotSo t ↦ rw t (omega arith)
     ]
 
@@ -91,7 +81,7 @@ count_fresh x olds (y ∷ ys) e =
     elim (told (is_among olds y)) [
       | IsSo t ↦
           let other : is_word x y ≡ false = elim (told (is_word x y)) [
-            | IsSo s ↦ let some : 1 ≤ count x olds = count_present x olds (ap (is_among olds) (word_eq x y s) ∙ t) in absurd (omega arith)
+            | IsSo s ↦ let some : 1 ≤ count x olds = count_present x olds (ap (is_among olds) (same_word x y s) ∙ t) in absurd (omega arith)
             | NotSo s ↦ s
           ] in rw (t, other) (omega arith)
       | NotSo t ↦ rw t (ap (λ n. one_if (is_word x y) + n) rest)
@@ -109,7 +99,7 @@ all_count test x [] e h = absurd (omega arith)
 all_count test x (y ∷ ys) e h =
     let a = and_parts (test y) (list_all test ys) e in
     elim (told (is_word x y)) [
-      | IsSo t ↦ ap test (word_eq x y t) ∙ a.0
+      | IsSo t ↦ ap test (same_word x y t) ∙ a.0
       | NotSo t ↦ let more : 1 ≤ count x ys = less (is_word x y) (count x ys) t h in all_count test x ys a.1 more
     ]
   where

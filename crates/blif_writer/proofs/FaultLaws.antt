@@ -1,11 +1,10 @@
 -- A text whose lines say a model has no fault but a limit.
-use Rattle.std.proofs.Common.{◌≡◌, ◌+◌, ◌<◌, ◌≤◌, ℕ, Bool, true, false, not, cond, List, [], ◌∷◌, ◌++◌, map, filter, length, refl, ap, sym, subst, ◌∙◌, append_assoc, append-nil, arith}
+use Rattle.std.proofs.Common.{◌≡◌, ◌+◌, ◌<◌, ◌≤◌, ℕ, Bool, true, false, not, List, [], ◌∷◌, ◌++◌, map, filter, length, refl, ap, sym, subst, ◌∙◌, append_assoc, append-nil, arith}
 use Rattle.std.specs.Prelude.{◌↔◌, All, codes, find, is_none, nat_lt, Option, None, Some}
 use Rattle.std.specs.List.{cons_option, filter_map, flat_map, list_any, position_or_len}
 use Rattle.std.proofs.lemmas.List.Elements.{All-map}
-use Rattle.std.proofs.lemmas.Bool.Decides.{nat_tests}
 use Rattle.rm_base.specs.declared.numbers.Place.{Place}
-use Rattle.rm_model.specs.Words.{Word, is_word}
+use Rattle.rm_model.specs.Words.{is_word}
 use Rattle.rm_model.specs.Value.{IsRanked, control_of, is_among, is_cover_output as drives, source_names}
 use Rattle.rm_model.specs.WellFormed.{IsWellFormed, driven_names, is_distinct, used_names}
 use Rattle.rm_model.specs.Ranks.{first_without_rank, ranks_of}
@@ -15,19 +14,23 @@ use Rattle.rm_model.specs.declared.parts.Model.{Model}
 use Rattle.blif_lines.specs.Layout.{Spot, layout}
 use Rattle.blif_format.specs.Text.{Line}
 use Rattle.blif_format.specs.Grammar.{Reads, words_of}
-use Rattle.blif_format.specs.Uses.{Use, is_driver, names_in, uses_of, wants_driver}
+use Rattle.blif_format.specs.Uses.{Use, is_clock, is_driver, is_input, is_output, names_in, uses_of, wants_driver}
 use Rattle.blif_format.specs.declared.words.Role.{Role}
 use Rattle.blif_format.specs.declared.words.Role.TheVariants.{Input, ClockInput, Output, CoverInput, CoverOutput, LatchInput, LatchOutput, Control}
 use Rattle.blif_format.specs.FirstFault.{Said, after_line, bare_model, cover_in, cover_names, first_unranked, is_undriven, lines_fault, nothing_said, rank_fault, said_by, undriven_fault}
 use Rattle.blif_format.specs.Laws.{ReadTextsAreFaultless}
 use Rattle.blif_format.specs.declared.refusal.Quantity.TheVariants.{Name as NameLength}
-use Rattle.blif_writer.proofs.BodyLaws.{Body, Done, EndLine, ListLine, LatchLine, NamesLine, RowLine, IsInputs, IsOutputs, IsClock, IsLeft, ListWord, Open, Shut, Rows, body_from, ending_tail, head_of, tail_of}
-use Rattle.blif_writer.proofs.Counts.{IsSo, NotSo, all_count, and_parts, count, count-append, count_absent, count_fresh, count_fresh_least, count_present, distinct_count, eq_word, one_if, present_count, told}
+use Rattle.blif_writer.proofs.BodyLaws.{Body, Done, EndLine, ListLine, LatchLine, NamesLine, RowLine, IsInputs, IsOutputs, IsClock, IsLeft, ListWord, Open, Shut, Rows, body_from, ending_tail, head_of}
+use Rattle.blif_writer.proofs.Counts.{IsSo, NotSo, all_count, count, count-append, count_absent, count_fresh, count_fresh_least, count_present, distinct_count, eq_word, present_count, told}
 use Rattle.blif_writer.proofs.LineLaws.{and_false, if_false}
 use Rattle.blif_writer.proofs.SpotLaws.{cover_at, covers-spots, lines-spots, lines_fault-spots, said_after, said_by-spots, spots_fault, spots_in, words}
 use Rattle.blif_writer.proofs.TallyLaws.{body_agrees, no_more, part, peel, row_word, uses, with_word}
-use Rattle.blif_writer.proofs.UseLaws.{IsClear, IsFine, is_clock, is_cover_output, is_input, is_latch_output, is_output, limit_fine, no_refusal, one, or_else_fine, tally, tally-append}
+use Rattle.blif_writer.proofs.UseLaws.{IsClear, IsFine, is_cover_output, is_latch_output, limit_fine, no_refusal, one, or_else_fine, tally, tally-append}
 use Rattle.blif_writer.proofs.WalkLaws.{IsRowWord, body_goes, row_word_is}
+use Rattle.rm_base.proofs.Public.{tail_same}
+use Rattle.rm_base.specs.Numbers.{one_if}
+use Rattle.rm_base.specs.Words.{Word}
+use Rattle.rm_model.proofs.Public.{distinct-right, position-none}
 
 -- COUNTS
 
@@ -176,19 +179,6 @@ all_ranked (p ∷ ps) [] h = refl
 all_ranked (p ∷ ps) (None ∷ ranks) h = absurd (omega arith)
 all_ranked (p ∷ ps) (Some n ∷ ranks) h = all_ranked ps ranks (omega arith)
 
-position-none : (n k : ℕ) → cond (nat_lt n k) (Some n) None ≡ None → k ≤ n
-position-none n k e = elim (told (nat_lt n k)) [
-  | IsSo t ↦ absurd (some (nat_lt n k) t e)
-  | NotSo t ↦ grind (arith, nat_tests)
-]
-  where
-    some : (b : Bool) → b ≡ true → cond b (Some n) None ≡ None → ⊥
-    some b t e = let f : Some n ≡ None = rw t at e in cc
-
-distinct_right : (xs ys : List Word) → is_distinct (xs ++ ys) ≡ true → is_distinct ys ≡ true
-distinct_right [] ys e = e
-distinct_right (x ∷ xs) ys e = distinct_right xs ys (and_parts (not (is_among (xs ++ ys) x)) (is_distinct (xs ++ ys)) e).1
-
 bare_outputs : (cs : List Cover) → map (λ (c : Cover). c.output) (map bare cs) ≡ map (λ (c : Cover). c.output) cs
 bare_outputs [] = refl
 bare_outputs (c ∷ cs) = ap (λ xs. c.output ∷ xs) (bare_outputs cs)
@@ -200,7 +190,7 @@ RanksExist = (m : Model) → is_distinct (driven_names m) ≡ true → (IsRanked
 no_unranked : RanksExist → (m : Model) (found : List (Place × Cover)) → IsWellFormed m → IsRanked m → map (λ (e : Place × Cover). e.1) found ≡ map bare m.covers → rank_fault found ≡ None
 no_unranked exist m found good ranked e =
     let under = bare_model (map bare m.covers) in
-    let distinct : is_distinct (driven_names under) ≡ true = ap is_distinct (bare_outputs m.covers) ∙ distinct_right (source_names m) (map (λ (c : Cover). c.output) m.covers) good.driven_once in
+    let distinct : is_distinct (driven_names under) ≡ true = ap is_distinct (bare_outputs m.covers) ∙ distinct-right (source_names m) (map (λ (c : Cover). c.output) m.covers) good.driven_once in
     let none : first_without_rank under ≡ None = (exist under distinct).0 (bare_ranked m ranked) in
     ap (λ (cs : List Cover). first_unranked (map (λ (e : Place × Cover). e.0) found) (ranks_of (bare_model cs))) e
     ∙ all_ranked (map (λ (e : Place × Cover). e.0) found) (ranks_of under) (position-none (position_or_len is_none (ranks_of under)) (length (ranks_of under)) none)
@@ -240,7 +230,7 @@ text_of_spots m ([] ∷ ts) h = absurd (cc (head_of h.first.1))
 text_of_spots m ((s ∷ ss) ∷ ts) h =
     let line : words (s ∷ ss) ≡ codes ".model" ∷ m.name ∷ [] = head_of h.first.1 in
     let word : s.word ≡ codes ".model" = head_of line in
-    let name = peel ss m.name [] (tail_of line) in
+    let name = peel ss m.name [] (tail_same line) in
     let alone : ss ≡ name.first ∷ [] = name.whole ∙ ap (λ (r : List Spot). name.first ∷ r) (no_more name.rest name.words_left) in
     let reads : Reads ((codes ".model" ∷ m.name ∷ []) ∷ map words ts) m = subst (λ (l : Line). Reads (l ∷ map words ts) m) line h in
     let body = body_from ts Shut m.latches m.covers (left_behind m (map words ts) reads) in

@@ -3,16 +3,14 @@ use Rattle.std.proofs.Common.{◌≡◌, ◌==◌, ◌+◌, ℕ, Bool, true, fal
 use Rattle.std.specs.Prelude.{◌&&◌, ◌||◌, nat_lt, if◌then◌else◌, None, Some}
 use Rattle.std.specs.List.{list_all}
 use Rattle.std.proofs.lemmas.Bool.Decides.{nat_tests}
+use Rattle.std.proofs.lemmas.Bool.{and_parts}
 use Rattle.rm_base.specs.declared.numbers.Place.{Place}
-use Rattle.rm_model.specs.Words.{Word}
-use Rattle.rm_model.specs.WellFormed.{is_word_byte, ends_in_backslash, is_token}
+use Rattle.rm_model.specs.WellFormed.{ends_in_backslash, is_token}
 use Rattle.blif_lines.specs.Layout.{Mark, Spot, Logical, behind, marked, onto_first, physical_lines, without_comment, is_blank, joint, runs, spots, is_control, BadByteAt, first_bad, single, logical_lines, with_line, layout_from, layout, words_in, has_words, lines_of}
 use Rattle.blif_format.specs.Text.{Line, spelled, text_of_lines}
 use Rattle.blif_format.specs.Laws.{AreFlawless}
-
-pub both : (a b : Bool) → a && b ≡ true → (a ≡ true) × (b ≡ true)
-both true b e = (refl, e)
-both false b e = absurd cc
+use Rattle.rm_base.proofs.Public.{false_from_not}
+use Rattle.rm_base.specs.Words.{Word, is_word_byte}
 
 pub and_true : {a b : Bool} → a ≡ true → b ≡ true → a && b ≡ true
 and_true p q = rw (p, q) refl
@@ -23,10 +21,6 @@ or_false p q = rw (p, q) refl
 pub and_false : (a : Bool) → a && false ≡ false
 and_false true = refl
 and_false false = refl
-
-pub not_true : (a : Bool) → not a ≡ true → a ≡ false
-not_true true e = cc
-not_true false e = refl
 
 pub if_false : {A : Type 0} {test : Bool} (x y : A) → test ≡ false → (if test then x else y) ≡ y
 if_false x y e = rw e refl
@@ -78,7 +72,7 @@ AreWordBytes (b ∷ bs) = IsWordByte b × AreWordBytes bs
 
 word_bytes : (w : Word) → list_all is_word_byte w ≡ true → AreWordBytes w
 word_bytes [] e = tt
-word_bytes (b ∷ bs) e = let h = both (is_word_byte b) (list_all is_word_byte bs) e in (word_byte b h.0, word_bytes bs h.1)
+word_bytes (b ∷ bs) e = let h = and_parts (is_word_byte b) (list_all is_word_byte bs) e in (word_byte b h.0, word_bytes bs h.1)
 
 no_space : (w : Word) → AreWordBytes w → NoneOf is_space w
 no_space [] h = tt
@@ -119,9 +113,9 @@ record IsToken (w : Word) : Type 0 where
 token_parts : (w : Word) → is_token w ≡ true → IsToken w
 token_parts [] e = absurd cc
 token_parts (b ∷ bs) e =
-    let h = both (list_all is_word_byte (b ∷ bs)) (not (ends_in_backslash (b ∷ bs))) e in
+    let h = and_parts (list_all is_word_byte (b ∷ bs)) (not (ends_in_backslash (b ∷ bs))) e in
     let bytes = word_bytes (b ∷ bs) h.0 in
-    record { bytes = bytes; ends = word_ends b bs bytes (not_true _ h.1); open_end = not_true _ h.1 }
+    record { bytes = bytes; ends = word_ends b bs bytes (false_from_not _ h.1); open_end = false_from_not _ h.1 }
 
 abbrev AreTokens : Line → Type 0
 AreTokens [] = Unit {0}
@@ -129,7 +123,7 @@ AreTokens (w ∷ ws) = IsToken w × AreTokens ws
 
 tokens_parts : (l : Line) → list_all is_token l ≡ true → AreTokens l
 tokens_parts [] e = tt
-tokens_parts (w ∷ ws) e = let h = both (is_token w) (list_all is_token ws) e in (token_parts w h.0, tokens_parts ws h.1)
+tokens_parts (w ∷ ws) e = let h = and_parts (is_token w) (list_all is_token ws) e in (token_parts w h.0, tokens_parts ws h.1)
 
 none_in_spelled : (test : ℕ → Bool) → ((w : Word) → AreWordBytes w → NoneOf test w) → test 32 ≡ false → (l : Line) → AreTokens l → NoneOf test (spelled l)
 none_in_spelled test each blank [] h = tt
@@ -164,15 +158,15 @@ comment-whole s p (b ∷ bs) h =
 is_dark : (s : ℕ) (p : Place) (a : List ℕ) → ends_well a ≡ true → list_all is_blank (marked s p a) ≡ false
 is_dark s p [] e = absurd cc
 is_dark s p (b ∷ []) e =
-    let h = both (not (is_space b)) (not (b == 92)) e in
-    rw (not_true (is_space b) h.0) refl
+    let h = and_parts (not (is_space b)) (not (b == 92)) e in
+    rw (false_from_not (is_space b) h.0) refl
 is_dark s p (b ∷ c ∷ cs) e = rw (is_dark (s + 1) (behind b p) (c ∷ cs) e) (and_false (is_space b))
 
 no_joint : (s : ℕ) (p : Place) (a : List ℕ) → ends_well a ≡ true → joint (marked s p a) ≡ None
 no_joint s p [] e = absurd cc
 no_joint s p (b ∷ []) e =
-    let h = both (not (is_space b)) (not (b == 92)) e in
-    if_false (Some (mark s p b)) None (not_true (b == 92) h.1)
+    let h = and_parts (not (is_space b)) (not (b == 92)) e in
+    if_false (Some (mark s p b)) None (false_from_not (b == 92) h.1)
 no_joint s p (b ∷ c ∷ cs) e =
     let more = marked (s + 1) (behind b p) (c ∷ cs) in
     if_false (if b == 92 then Some (mark s p b) else None) (joint more) (is_dark (s + 1) (behind b p) (c ∷ cs) e) ∙ no_joint (s + 1) (behind b p) (c ∷ cs) e
@@ -242,7 +236,7 @@ lines_from : (s : ℕ) (p : Place) (ls : List Line) → list_all is_token_line l
 lines_from s p [] e = record { flawless = tt; words = refl }
 lines_from s p ([] ∷ ls) e = absurd cc
 lines_from s p ((w ∷ ws) ∷ ls) e =
-    let h = both (is_token_line (w ∷ ws)) (list_all is_token_line ls) e in
+    let h = and_parts (is_token_line (w ∷ ws)) (list_all is_token_line ls) e in
     let tokens = tokens_parts (w ∷ ws) h.0 in
     let line = spelled (w ∷ ws) in
     let rest = lines_from (start_behind s line + 1) (behind 10 (place_behind p line)) ls h.1 in
@@ -256,7 +250,7 @@ lines_from s p ((w ∷ ws) ∷ ls) e =
 filter-lines : (ls : List Line) → list_all is_token_line ls ≡ true → filter has_words ls ≡ ls
 filter-lines [] e = refl
 filter-lines ([] ∷ ls) e = absurd cc
-filter-lines ((w ∷ ws) ∷ ls) e = ap (λ ms. (w ∷ ws) ∷ ms) (filter-lines ls (both (is_token_line (w ∷ ws)) (list_all is_token_line ls) e).1)
+filter-lines ((w ∷ ws) ∷ ls) e = ap (λ ms. (w ∷ ws) ∷ ms) (filter-lines ls (and_parts (is_token_line (w ∷ ws)) (list_all is_token_line ls) e).1)
 
 pub lines_flawless : (ls : List Line) → list_all is_token_line ls ≡ true → AreFlawless (layout (text_of_lines ls))
 lines_flawless ls e = (lines_from 0 (record { line = 1; column = 1 }) ls e).flawless

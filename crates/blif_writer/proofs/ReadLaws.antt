@@ -4,7 +4,6 @@ use Rattle.std.specs.Prelude.{◌&&◌, codes}
 use Rattle.std.specs.List.{flat_map}
 use Rattle.std.proofs.lemmas.List.Elements.{filter-append}
 use Rattle.std.proofs.lemmas.Bool.Decides.{nat_tests}
-use Rattle.rm_model.specs.Words.{Word}
 use Rattle.rm_model.specs.Value.{IsRanked}
 use Rattle.rm_model.specs.WellFormed.{IsWellFormed}
 use Rattle.rm_model.specs.declared.parts.Literal.{Literal}
@@ -15,6 +14,7 @@ use Rattle.rm_model.specs.declared.parts.Model.{Model}
 use Rattle.blif_format.specs.Text.{Line, clock_lines, cover_lines, cover_words, latch_words, model_lines, row_words}
 use Rattle.blif_format.specs.Grammar.{Reads, before, before_end, begins_with, body_of, follow, is_command, is_dotted, names_lines, words_after, words_of}
 use Rattle.blif_writer.proofs.LineLaws.{if_false}
+use Rattle.rm_base.specs.Words.{Word}
 
 -- TESTS OF LINES
 

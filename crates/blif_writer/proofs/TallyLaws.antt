@@ -3,7 +3,7 @@ use Rattle.std.proofs.Common.{◌≡◌, ◌+◌, ℕ, Bool, true, false, List, 
 use Rattle.std.specs.Prelude.{IfSome, codes, if◌then◌else◌, Option, None, Some}
 use Rattle.std.specs.List.{cons_option, filter_map, flat_map}
 use Rattle.blif_format.proofs.Public.{timing_control}
-use Rattle.rm_model.specs.Words.{Word, is_word, kind_word, literal_byte}
+use Rattle.rm_model.specs.Words.{is_word, kind_word, literal_byte}
 use Rattle.rm_model.specs.Value.{control_of}
 use Rattle.rm_model.specs.declared.parts.Literal.{Literal}
 use Rattle.rm_model.specs.declared.parts.Literal.TheVariants.{Zero, One, Any}
@@ -17,12 +17,16 @@ use Rattle.blif_format.specs.Uses.{Use, all_are, in_parts, latch_parts, names_pa
 use Rattle.blif_format.specs.declared.words.Role.{Role}
 use Rattle.blif_format.specs.declared.words.Role.TheVariants.{Input, ClockInput, Output, CoverInput, CoverOutput, LatchInput, LatchOutput, Control}
 use Rattle.blif_format.specs.declared.words.Part.TheVariants.{Name}
-use Rattle.blif_writer.proofs.BodyLaws.{Body, Done, EndLine, ListLine, LatchLine, NamesLine, RowLine, IsInputs, IsOutputs, IsClock, IsGoodLatch, ListWord, Open, Shut, Rows, head_of, tail_of}
-use Rattle.blif_writer.proofs.Counts.{IsSo, NotSo, count, count-append, one_if, told, word_eq}
+use Rattle.blif_writer.proofs.BodyLaws.{Body, Done, EndLine, ListLine, LatchLine, NamesLine, RowLine, IsInputs, IsOutputs, IsClock, IsGoodLatch, ListWord, Open, Shut, Rows, head_of}
+use Rattle.blif_writer.proofs.Counts.{IsSo, NotSo, count, count-append, told}
 use Rattle.blif_writer.proofs.LineLaws.{if_false}
 use Rattle.blif_writer.proofs.ReadLaws.{not_first, row_undotted}
 use Rattle.blif_writer.proofs.SpotLaws.{words}
 use Rattle.blif_writer.proofs.UseLaws.{tally, tally-append}
+use Rattle.rm_base.proofs.Public.{tail_same}
+use Rattle.rm_base.specs.Numbers.{one_if}
+use Rattle.rm_base.specs.Words.{Word}
+use Rattle.rm_model.proofs.Public.{same_word}
 
 -- a number that counts under a test
 abbrev pub part : Bool → ℕ → ℕ
@@ -78,7 +82,7 @@ pub record Peeled (ss : List Spot) (a : Word) (others : List Word) : Type 0 wher
 
 pub peel : (ss : List Spot) (a : Word) (others : List Word) → words ss ≡ a ∷ others → Peeled ss a others
 peel [] a others e = absurd (cc (e))
-peel (s ∷ ss) a others e = record { first = s; rest = ss; whole = refl; word = head_of e; words_left = tail_of e }
+peel (s ∷ ss) a others e = record { first = s; rest = ss; whole = refl; word = head_of e; words_left = tail_same e }
 
 pub no_more : (ss : List Spot) → words ss ≡ [] → ss ≡ []
 no_more [] e = refl
@@ -97,12 +101,12 @@ names_uses : (test : Role → Bool) (x : Word) (ss : List Spot) (xs : List Word)
 names_uses test x [] [] y e = absurd (cc (e))
 names_uses test x [] (a ∷ xs) y e = absurd (cc (e))
 names_uses test x (s ∷ []) [] y e = let same : s.word ≡ y = head_of e in rw same (omega (arith, part-zero (test CoverInput)))
-names_uses test x (s ∷ []) (a ∷ []) y e = absurd (cc (tail_of e))
-names_uses test x (s ∷ []) (a ∷ b ∷ xs) y e = absurd (cc (tail_of e))
-names_uses test x (s ∷ t ∷ ss) [] y e = absurd (cc (tail_of e))
+names_uses test x (s ∷ []) (a ∷ []) y e = absurd (cc (tail_same e))
+names_uses test x (s ∷ []) (a ∷ b ∷ xs) y e = absurd (cc (tail_same e))
+names_uses test x (s ∷ t ∷ ss) [] y e = absurd (cc (tail_same e))
 names_uses test x (s ∷ t ∷ ss) (a ∷ xs) y e =
     let same : s.word ≡ a = head_of e in
-    let rest = names_uses test x (t ∷ ss) xs y (tail_of e) in
+    let rest = names_uses test x (t ∷ ss) xs y (tail_same e) in
     rw same (omega (arith, rest, part-cons (test CoverInput) x a xs))
 
 -- the uses of a latch's words
@@ -113,7 +117,7 @@ latch_tally test x input output control =
 control_use : (test : Role → Bool) (x : Word) (s : Spot) (control : Option Word) (more : List Use) → s.word ≡ control_word control → IfSome control (λ w. w ≡ codes "NIL" → ⊥) → tally test x (cons_option (use_of (Name Control, s)) more) ≡ part (test Control) (count x (cons_option control [])) + tally test x more
 control_use test x s None more e good = rw e (omega (arith, part-zero (test Control)))
 control_use test x s (Some w) more e good =
-    let other : is_word (codes "NIL") w ≡ false = elim (told (is_word (codes "NIL") w)) [ IsSo t ↦ absurd (good (sym (word_eq (codes "NIL") w t))) | NotSo t ↦ t ] in
+    let other : is_word (codes "NIL") w ≡ false = elim (told (is_word (codes "NIL") w)) [ IsSo t ↦ absurd (good (sym (same_word (codes "NIL") w t))) | NotSo t ↦ t ] in
     rw (e, other) (omega (arith, part-cons (test Control) x w [], part-zero (test Control)))
 
 abbrev uses_by_latch : List Spot → List Use

@@ -1,13 +1,13 @@
 -- The lines that are written for a well-formed model have words, and each word is a token.
-use Rattle.std.proofs.Common.{◌≡◌, ◌==◌, ◌+◌, ◌≤◌, ℕ, Bool, true, false, not, List, [], ◌∷◌, ◌++◌, map, filter, refl, ap, sym, subst, ◌∙◌, arith}
+use Rattle.std.proofs.Common.{◌≡◌, ◌==◌, ◌+◌, ◌≤◌, ℕ, Bool, true, false, not, List, [], ◌∷◌, ◌++◌, map, filter, refl, ap, subst, arith}
 use Rattle.std.specs.Prelude.{All, IfSome, codes, Option, None, Some}
 use Rattle.std.specs.List.{cons_option, flat_map, list_all, filter_map}
 use Rattle.std.proofs.lemmas.List.Elements.{All-head, All-tail}
-use Rattle.std.proofs.lemmas.List.Folds.{list_all-append}
 use Rattle.std.proofs.lemmas.Bool.Decides.{nat_tests}
-use Rattle.rm_model.specs.Words.{Word, literal_byte, kind_word}
+use Rattle.std.proofs.lemmas.Bool.{and_parts}
+use Rattle.rm_model.specs.Words.{literal_byte, kind_word}
 use Rattle.rm_model.specs.Value.{is_among, control_of, source_names}
-use Rattle.rm_model.specs.WellFormed.{IsWellFormed, driven_names, used_names, is_token, is_word_byte, ends_in_backslash}
+use Rattle.rm_model.specs.WellFormed.{IsWellFormed, driven_names, used_names, is_token, ends_in_backslash}
 use Rattle.rm_model.specs.declared.parts.Literal.{Literal}
 use Rattle.rm_model.specs.declared.parts.Literal.TheVariants.{Zero, One, Any}
 use Rattle.rm_model.specs.declared.parts.LatchKind.{LatchKind}
@@ -17,13 +17,9 @@ use Rattle.rm_model.specs.declared.parts.Cover.{Cover}
 use Rattle.rm_model.specs.declared.parts.Latch.{Latch}
 use Rattle.rm_model.specs.declared.parts.Model.{Model}
 use Rattle.blif_format.specs.Text.{clock_lines, control_word, cover_lines, init_words, latch_words, model_lines, on_word, row_words, timing_words}
-use Rattle.blif_writer.proofs.LineLaws.{and_true, both, is_token_line}
-
-all_parts : {A : Type 0} (test : A → Bool) (xs ys : List A) → list_all test (xs ++ ys) ≡ true → (list_all test xs ≡ true) × (list_all test ys ≡ true)
-all_parts test xs ys e = both (list_all test xs) (list_all test ys) (sym (list_all-append test xs ys) ∙ e)
-
-all_together : {A : Type 0} (test : A → Bool) (xs ys : List A) → list_all test xs ≡ true → list_all test ys ≡ true → list_all test (xs ++ ys) ≡ true
-all_together test xs ys p q = list_all-append test xs ys ∙ and_true p q
+use Rattle.blif_writer.proofs.LineLaws.{and_true, is_token_line}
+use Rattle.rm_base.proofs.Public.{list_all-parts, list_all-join}
+use Rattle.rm_base.specs.Words.{Word, is_word_byte}
 
 -- LATCHES
 
@@ -48,7 +44,7 @@ IsTokenIf (Some w) = is_token w ≡ true
 
 option_parts : (o : Option Word) (xs : List Word) → list_all is_token (cons_option o xs) ≡ true → IsTokenIf o × (list_all is_token xs ≡ true)
 option_parts None xs e = (tt, e)
-option_parts (Some w) xs e = both (is_token w) (list_all is_token xs) e
+option_parts (Some w) xs e = and_parts (is_token w) (list_all is_token xs) e
 
 control_token : (c : Option Word) → IsTokenIf c → is_token (control_word c) ≡ true
 control_token None h = refl
@@ -69,13 +65,13 @@ same_control (Some t) input output init = refl
 latch_tokens : (l : Latch) → is_token l.input ≡ true → is_token l.output ≡ true → IsTokenIf (control_of l) → IfSome l.init (λ n. n ≤ 3) → list_all is_token (latch_words l) ≡ true
 latch_tokens l input output control init =
     let timing = timing_tokens l.timing (subst IsTokenIf (same_control l.timing l.input l.output l.init) control) in
-    and_true input (and_true output (all_together is_token (timing_words l.timing) (init_words l.init) timing (init_tokens l.init init)))
+    and_true input (and_true output (list_all-join is_token (timing_words l.timing) (init_words l.init) timing (init_tokens l.init init)))
 
 latches_tokens : (ls : List Latch) → list_all is_token (map (λ (l : Latch). l.input) ls) ≡ true → list_all is_token (map (λ (l : Latch). l.output) ls) ≡ true → list_all is_token (filter_map control_of ls) ≡ true → All (λ (l : Latch). IfSome l.init (λ n. n ≤ 3)) ls → list_all is_token_line (map (λ l. codes ".latch" ∷ latch_words l) ls) ≡ true
 latches_tokens [] inputs outputs controls inits = refl
 latches_tokens (l ∷ ls) inputs outputs controls inits =
-    let i = both (is_token l.input) (list_all is_token (map (λ (l : Latch). l.input) ls)) inputs in
-    let o = both (is_token l.output) (list_all is_token (map (λ (l : Latch). l.output) ls)) outputs in
+    let i = and_parts (is_token l.input) (list_all is_token (map (λ (l : Latch). l.input) ls)) inputs in
+    let o = and_parts (is_token l.output) (list_all is_token (map (λ (l : Latch). l.output) ls)) outputs in
     let c = option_parts (control_of l) (filter_map control_of ls) controls in
     and_true (latch_tokens l i.0 o.0 c.0 (All-head (λ (l : Latch). IfSome l.init (λ n. n ≤ 3)) l ls inits))
     (latches_tokens ls i.1 o.1 c.1 (All-tail (λ (l : Latch). IfSome l.init (λ n. n ≤ 3)) l ls inits))
@@ -111,10 +107,10 @@ rows_tokens on (r ∷ rs) = and_true (row_tokens on r) (rows_tokens on rs)
 covers_tokens : (cs : List Cover) → list_all is_token (flat_map (λ (c : Cover). c.inputs) cs) ≡ true → list_all is_token (map (λ (c : Cover). c.output) cs) ≡ true → list_all is_token_line (flat_map cover_lines cs) ≡ true
 covers_tokens [] inputs outputs = refl
 covers_tokens (c ∷ cs) inputs outputs =
-    let i = all_parts is_token c.inputs (flat_map (λ (c : Cover). c.inputs) cs) inputs in
-    let o = both (is_token c.output) (list_all is_token (map (λ (c : Cover). c.output) cs)) outputs in
-    let names = all_together is_token c.inputs (c.output ∷ []) i.0 (and_true o.0 refl) in
-    all_together is_token_line (cover_lines c) (flat_map cover_lines cs) (and_true names (rows_tokens c.on c.rows)) (covers_tokens cs i.1 o.1)
+    let i = list_all-parts is_token c.inputs (flat_map (λ (c : Cover). c.inputs) cs) inputs in
+    let o = and_parts (is_token c.output) (list_all is_token (map (λ (c : Cover). c.output) cs)) outputs in
+    let names = list_all-join is_token c.inputs (c.output ∷ []) i.0 (and_true o.0 refl) in
+    list_all-join is_token_line (cover_lines c) (flat_map cover_lines cs) (and_true names (rows_tokens c.on c.rows)) (covers_tokens cs i.1 o.1)
 
 -- THE WHOLE LIST
 
@@ -130,23 +126,23 @@ model_lines_tokens m good =
     let controls = filter_map control_of m.latches in
     let cover_inputs = flat_map (λ (c : Cover). c.inputs) m.covers in
     let cover_outputs = map (λ (c : Cover). c.output) m.covers in
-    let all = all_parts is_token (m.name ∷ driven_names m) (m.clocks ++ used_names m) good.tokens in
-    let named = both (is_token m.name) (list_all is_token (driven_names m)) all.0 in
-    let driven = all_parts is_token (source_names m) cover_outputs named.1 in
-    let sources = all_parts is_token (m.inputs ++ fresh) latch_outputs driven.0 in
-    let inputs = all_parts is_token m.inputs fresh sources.0 in
-    let clocked = all_parts is_token m.clocks (used_names m) all.1 in
-    let used = all_parts is_token ((m.outputs ++ cover_inputs) ++ latch_inputs) controls clocked.1 in
-    let read = all_parts is_token (m.outputs ++ cover_inputs) latch_inputs used.0 in
-    let outputs = all_parts is_token m.outputs cover_inputs read.0 in
+    let all = list_all-parts is_token (m.name ∷ driven_names m) (m.clocks ++ used_names m) good.tokens in
+    let named = and_parts (is_token m.name) (list_all is_token (driven_names m)) all.0 in
+    let driven = list_all-parts is_token (source_names m) cover_outputs named.1 in
+    let sources = list_all-parts is_token (m.inputs ++ fresh) latch_outputs driven.0 in
+    let inputs = list_all-parts is_token m.inputs fresh sources.0 in
+    let clocked = list_all-parts is_token m.clocks (used_names m) all.1 in
+    let used = list_all-parts is_token ((m.outputs ++ cover_inputs) ++ latch_inputs) controls clocked.1 in
+    let read = list_all-parts is_token (m.outputs ++ cover_inputs) latch_inputs used.0 in
+    let outputs = list_all-parts is_token m.outputs cover_inputs read.0 in
     let head = (codes ".model" ∷ m.name ∷ []) ∷ (codes ".inputs" ∷ m.inputs) ∷ (codes ".outputs" ∷ m.outputs) ∷ [] in
     let latches = map (λ (l : Latch). codes ".latch" ∷ latch_words l) m.latches in
     let covers = flat_map cover_lines m.covers in
     let first : list_all is_token_line head ≡ true = and_true (and_true named.0 refl) (and_true inputs.0 (and_true outputs.0 refl)) in
-    all_together is_token_line (((head ++ clock_lines m.clocks) ++ latches) ++ covers) ((codes ".end" ∷ []) ∷ [])
-    (all_together is_token_line ((head ++ clock_lines m.clocks) ++ latches) covers
-    (all_together is_token_line (head ++ clock_lines m.clocks) latches
-    (all_together is_token_line head (clock_lines m.clocks) first (clocks_tokens m.clocks clocked.0))
+    list_all-join is_token_line (((head ++ clock_lines m.clocks) ++ latches) ++ covers) ((codes ".end" ∷ []) ∷ [])
+    (list_all-join is_token_line ((head ++ clock_lines m.clocks) ++ latches) covers
+    (list_all-join is_token_line (head ++ clock_lines m.clocks) latches
+    (list_all-join is_token_line head (clock_lines m.clocks) first (clocks_tokens m.clocks clocked.0))
     (latches_tokens m.latches read.1 sources.1 used.1 good.inits))
     (covers_tokens m.covers outputs.1 driven.1))
     refl

@@ -3,10 +3,10 @@ use Rattle.std.proofs.Common.{◌≡◌, ◌+◌, ◌≤◌, ℕ, Bool, true, fa
 use Rattle.std.specs.Prelude.{◌&&◌, Option, None, Some, length, nat_lt, if◌then◌else◌}
 use Rattle.std.specs.List.{cons_option, filter_map, list_any}
 use Rattle.rm_base.specs.declared.numbers.Place.{Place}
-use Rattle.rm_model.specs.Words.{Word, is_word}
+use Rattle.rm_model.specs.Words.{is_word}
 use Rattle.rm_model.specs.Value.{is_among}
 use Rattle.blif_lines.specs.Layout.{Spot}
-use Rattle.blif_format.specs.Uses.{Use, use_of, drives_twice, lists_twice, stands_in, names_in, is_driver, is_source_role, is_observed_role, distinct_count}
+use Rattle.blif_format.specs.Uses.{Use, use_of, drives_twice, lists_twice, stands_in, names_in, is_driver, is_source_role, is_observed_role, distinct_count, is_clock, is_input, is_output}
 use Rattle.blif_format.specs.declared.words.Role.{Role}
 use Rattle.blif_format.specs.declared.words.Role.TheVariants.{Input, ClockInput, Output, CoverInput, CoverOutput, LatchInput, LatchOutput, Control}
 use Rattle.blif_format.specs.declared.words.Part.{Part}
@@ -18,7 +18,9 @@ use Rattle.blif_format.specs.declared.refusal.FaultKind.{FaultKind}
 use Rattle.blif_format.specs.declared.refusal.FaultKind.TheVariants.{DoubleDriven, DoubleOutput}
 use Rattle.blif_format.specs.declared.refusal.Quantity.TheVariants.{Name as NameLength, Inputs, Sources, Observed, Signals}
 use Rattle.blif_format.specs.declared.refusal.ReadRefusal.{ReadRefusal}
-use Rattle.blif_writer.proofs.Counts.{IsSo, NotSo, eq_word, one_if, other_way, told}
+use Rattle.blif_writer.proofs.Counts.{IsSo, NotSo, eq_word, other_way, told}
+use Rattle.rm_base.specs.Numbers.{one_if}
+use Rattle.rm_base.specs.Words.{Word}
 
 -- TALLIES
 
@@ -34,14 +36,6 @@ pub tally-append : (test : Role → Bool) (x : Word) (us vs : List Use) → tall
 tally-append test x [] vs = omega arith
 tally-append test x (u ∷ us) vs = omega (arith, tally-append test x us vs)
 
-abbrev pub is_input : Role → Bool
-is_input Input = true
-is_input role = false
-
-abbrev pub is_clock : Role → Bool
-is_clock ClockInput = true
-is_clock role = false
-
 abbrev pub is_latch_output : Role → Bool
 is_latch_output LatchOutput = true
 is_latch_output role = false
@@ -49,10 +43,6 @@ is_latch_output role = false
 abbrev pub is_cover_output : Role → Bool
 is_cover_output CoverOutput = true
 is_cover_output role = false
-
-abbrev pub is_output : Role → Bool
-is_output Output = true
-is_output role = false
 
 -- a name that is nowhere used in such a role
 none_stand : (test : Role → Bool) (x : Word) (us : List Use) → tally test x us ≡ 0 → list_any (λ (u : Use). test u.role && is_word u.name x) us ≡ false

@@ -5,7 +5,7 @@ use Rattle.std.specs.List.{filter_map}
 use Rattle.std.specs.Option.{option_map}
 use Rattle.std.proofs.lemmas.Bool.Decides.{nat_tests}
 use Rattle.rm_base.specs.declared.numbers.Place.{Place}
-use Rattle.rm_model.specs.Words.{Word, is_word, kind_word, literal_byte}
+use Rattle.rm_model.specs.Words.{is_word, kind_word, literal_byte}
 use Rattle.rm_model.specs.Value.{is_among}
 use Rattle.rm_model.specs.declared.parts.Literal.{Literal}
 use Rattle.rm_model.specs.declared.parts.Literal.TheVariants.{Zero, One, Any}
@@ -26,11 +26,13 @@ use Rattle.blif_format.specs.declared.words.Part.TheVariants.{Name}
 use Rattle.blif_format.specs.FirstFault.{OpenCover, Said, after_line, character_fault, command_fault, cover_after, ending_fault, init_values, is_dotted, is_ending, is_literal, is_other_ending, last_word, latch_types, or_else, next_column, rest_fault, row_fault, with_row, words_fault}
 use Rattle.blif_format.specs.declared.refusal.FaultKind.TheVariants.{MissingWord, MixedCover, RowCharacter, RowLength}
 use Rattle.blif_format.specs.declared.refusal.ReadRefusal.{ReadRefusal}
-use Rattle.blif_writer.proofs.BodyLaws.{Body, Done, EndLine, ListLine, LatchLine, NamesLine, RowLine, IsInputs, IsOutputs, IsClock, IsGoodLatch, ListWord, Open, Shut, Rows, head_of, tail_of}
+use Rattle.blif_writer.proofs.BodyLaws.{Body, Done, EndLine, ListLine, LatchLine, NamesLine, RowLine, IsInputs, IsOutputs, IsClock, IsGoodLatch, ListWord, Open, Shut, Rows, head_of}
 use Rattle.blif_writer.proofs.Counts.{eq_word}
 use Rattle.blif_writer.proofs.SpotLaws.{spots_fault, words}
 use Rattle.blif_writer.proofs.TallyLaws.{no_more, peel, row_first, row_uses, row_word, uses, with_word}
 use Rattle.blif_writer.proofs.UseLaws.{AreFineParts, IsClear, IsFine, no_fault, no_refusal, or_else_fine, parts_are_fine}
+use Rattle.rm_base.proofs.Public.{tail_same}
+use Rattle.rm_base.specs.Words.{Word}
 
 -- after some lines: the cover to which a row may belong, and the names used
 abbrev pub saying : Option OpenCover → List Use → Said
@@ -143,12 +145,12 @@ eq_test m n e = grind (arith, nat_tests)
 row_is_fine : (on : Bool) (r : List Literal) (n : ℕ) (ending : Option Word) (s : Spot) (ss : List Spot) → words (s ∷ ss) ≡ row_words on r → length r ≡ n → (ending ≡ None) ⊎ (ending ≡ Some (on_word on)) → IsFine (row_fault (record { inputs = n; ending = ending }) s ss)
 row_is_fine on [] n ending s ss e size told =
     let none : (n == 0) ≡ true = grind (arith, nat_tests) in
-    let alone : ss ≡ [] = no_more ss (tail_of e) in
+    let alone : ss ≡ [] = no_more ss (tail_same e) in
     rw (none, alone) (or_else_fine (ending_fine ending on s (head_of e) told) no_refusal)
 row_is_fine on (l ∷ ls) n ending s ss e size told =
     let some : (n == 0) ≡ false = grind (arith, nat_tests) in
     let word : s.word ≡ map literal_byte (l ∷ ls) = head_of e in
-    let last = peel ss (on_word on) [] (tail_of e) in
+    let last = peel ss (on_word on) [] (tail_same e) in
     let two : ss ≡ last.first ∷ [] = last.whole ∙ ap (λ (r : List Spot). last.first ∷ r) (no_more last.rest last.words_left) in
     let long : length s.word ≡ n = ap length word ∙ (length-literals (l ∷ ls) ∙ size) in
     let characters : IsFine (character_fault s.place s.word) = subst (λ (w : Word). IsFine (character_fault s.place w)) (sym word) (characters_fine s.place (l ∷ ls)) in
@@ -183,9 +185,9 @@ after_row cover had s ss on r e =
     (ap (λ us. had ++ us) (row_uses s ss on r e) ∙ append-nil had)
 
 last_of_row : (on : Bool) (r : List Literal) (s : Spot) (ss : List Spot) → words (s ∷ ss) ≡ row_words on r → last_word (s ∷ ss) ≡ Some (on_word on)
-last_of_row on [] s ss e = let alone : ss ≡ [] = no_more ss (tail_of e) in let word : s.word ≡ on_word on = head_of e in rw alone (ap Some word)
+last_of_row on [] s ss e = let alone : ss ≡ [] = no_more ss (tail_same e) in let word : s.word ≡ on_word on = head_of e in rw alone (ap Some word)
 last_of_row on (l ∷ ls) s ss e =
-    let last = peel ss (on_word on) [] (tail_of e) in
+    let last = peel ss (on_word on) [] (tail_same e) in
     let two : ss ≡ last.first ∷ [] = last.whole ∙ ap (λ (r : List Spot). last.first ∷ r) (no_more last.rest last.words_left) in
     rw two (ap Some last.word)
 

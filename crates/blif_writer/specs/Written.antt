@@ -1,12 +1,12 @@
 -- The parts of a written text.
 use Rattle.std.specs.Prelude.{ℕ, Bool, List, [], ◌∷◌, ◌++◌, codes}
 use Rattle.std.specs.List.{flat_map}
-use Rattle.rm_model.specs.Words.{Word}
 use Rattle.rm_model.specs.declared.parts.Literal.{Literal}
 use Rattle.rm_model.specs.declared.parts.Cover.{Cover}
 use Rattle.rm_model.specs.declared.parts.Latch.{Latch}
 use Rattle.rm_model.specs.declared.parts.Model.{Model}
 use Rattle.blif_format.specs.Text.{Line, clock_lines, latch_words, row_words, spelled, text_of_lines}
+use Rattle.rm_base.specs.Words.{Word}
 
 -- each word behind a blank
 abbrev pub behind_blanks : List Word → List ℕ

@@ -9,13 +9,13 @@ use Rattle.gate_net.specs.Values.{IsJunction, controlling, same_bool}
 use Rattle.gate_net.specs.declared.Kind.{Kind}
 use Rattle.gate_net.specs.declared.Kind.TheVariants.{And, Not, One, Or, Source, Zero}
 use Rattle.refutation.specs.Facts.{Held}
-use Rattle.refutation.proofs.Public.{slice_get_below, some_is}
 use Rattle.wire_edit.specs.Tests.{control_of, gate_control}
 use Rattle.candidate_wires.specs.Candidates.{AreAmong, listed}
 use Rattle.candidate_wires.specs.Joining.{IsCandidateOf, MayRead}
 use Rattle.candidate_wires.specs.Parts.{AreKnown, IsUsable}
 use Rattle.candidate_wires.specs.declared.candidate.Candidate.{Candidate}
 use Rattle.candidate_wires.specs.declared.known.Known.{Known}
+use Rattle.rm_base.proofs.Public.{slice_get_below, some_same}
 
 pub usable_of : (net : Net) (held : Held) (y x : ℕ) (fresh : Bool) → (m : MayRead net held y x fresh) → IsUsable net held x m.value
 usable_of net held y x fresh m = record { kind = m.kind; is_kind = m.is_kind; no_constant = m.no_constant; equal = m.equal; known = m.known }
@@ -23,7 +23,7 @@ usable_of net held y x fresh m = record { kind = m.kind; is_kind = m.is_kind; no
 pub junction_one : (net : Net) (y : ℕ) (b c : Bool) → IsJunction net y b → IsJunction net y c → b ≡ c
 junction_one net y b c (kind, ((ds, is), control)) (kind', ((ds', is'), control')) =
     let kinds : Some kind ≡ Some kind' = sym (ap kind_in is) ∙ ap kind_in is' in
-    some_is (sym control ∙ ap controlling (some_is kinds) ∙ control')
+    some_same (sym control ∙ ap controlling (some_same kinds) ∙ control')
 
 gate_control_is : (kind : Kind) → gate_control (Some kind) ≡ controlling kind
 gate_control_is And = refl
@@ -87,7 +87,7 @@ module _ (net : Net) (held : Held) (y : ℕ) (ks : List Known) (known : AreKnown
           | inr rest ↦ elim (eqb_tells found.0 j) [
             | inl t ↦
                 let same : Some found.1.0 ≡ Some k = sym found.1.1.0 ∙ ap (slice_get ks) t.1 ∙ there in
-                let same_number : found.1.0.node.0 ≡ k.node.0 = ap (λ (q : Known). q.node.0) (some_is same) in
+                let same_number : found.1.0.node.0 ≡ k.node.0 = ap (λ (q : Known). q.node.0) (some_same same) in
                 absurd (omega (arith, same_number, number, less))
             | inr t ↦
                 let ne : found.0 ≢ j = t.1 in
@@ -109,7 +109,7 @@ module _ (net : Net) (held : Held) (y : ℕ) (ks : List Known) (known : AreKnown
       before = λ m q less e. elim (eqb_tells m j) [
         | inl t ↦
             let same : Some q ≡ Some k = sym e ∙ ap (slice_get ks) t.1 ∙ there in
-            let number : q.node.0 ≡ k.node.0 = ap (λ (z : Known). z.node.0) (some_is same) in
+            let number : q.node.0 ≡ k.node.0 = ap (λ (z : Known). z.node.0) (some_same same) in
             omega (arith, number)
         | inr t ↦
             let ne : m ≢ j = t.1 in
@@ -128,14 +128,6 @@ module _ (net : Net) (held : Held) (y : ℕ) (ks : List Known) (known : AreKnown
       let under : found.1.0.node.0 < old.next = old.before found.0 found.1.0 (omega (arith, below, all)) found.1.1.0 in
       let number : found.1.0.node.0 ≡ x = found.1.1.1 in
       absurd (omega (arith, under, number, low)))
-
-pub not_true : (b : Bool) → not b ≡ true → b ≡ false
-not_true true e = cc
-not_true false e = refl
-
-pub not_false : (b : Bool) → not b ≡ false → b ≡ true
-not_false true e = refl
-not_false false e = cc
 
 pub option_true : (o : Option Bool) → false ≡ not (option_eq beq o (Some true)) → o ≡ Some true
 option_true None e = cc

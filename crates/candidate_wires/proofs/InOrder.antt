@@ -12,8 +12,8 @@ use Rattle.refutation.specs.declared.reasoning.Fact.{Fact}
 use Rattle.refutation.specs.declared.reasoning.Fact.TheVariants.{Good}
 use Rattle.rm_base.specs.declared.numbers.NodeId.{NodeId}
 use Rattle.candidate_wires.specs.Parts.{AreKnown, HasGoods, HasNoneFrom, HasUsable, IsAscending, IsInList, IsUsable}
-use Rattle.candidate_wires.proofs.Appending.{back_stands, front_stands}
 use Rattle.candidate_wires.specs.declared.known.Known.{Known}
+use Rattle.rm_base.proofs.Public.{back_stands, front_stands}
 
 -- the nodes of the good values among the first facts are in the list
 abbrev pub AreGoodsIn : List (NodeId × Fact) → ℕ → List ℕ → Type 0

@@ -1,17 +1,12 @@
 -- Nodes that are known.
-use Rattle.std.proofs.Common.{Bool, List, Some, [], ap, arith, inl, inr, length, map, refl, subst, sym, ℕ, ◌++◌, ◌+◌, ◌<◌, ◌∙◌, ◌∷◌, ◌≡◌, ◌≢◌}
+use Rattle.std.proofs.Common.{Bool, List, [], ap, arith, inl, inr, length, refl, subst, sym, ℕ, ◌++◌, ◌+◌, ◌<◌, ◌∙◌, ◌∷◌, ◌≡◌, ◌≢◌}
 use Rattle.std.proofs.lemmas.Bool.Decides.{eqb_tells}
-use Rattle.std.specs.Prelude.{slice_get}
-use Rattle.std.proofs.lemmas.Option.{slice_get-map}
-use Rattle.std.specs.Option.{option_map}
-use Rattle.gate_graph.specs.Circuit.{Circuit, fanouts_of, net_of}
-use Rattle.gate_graph.specs.Readers.{ListReaders}
-use Rattle.gate_net.specs.Net.{Net, Reads}
+use Rattle.gate_net.specs.Net.{Net}
 use Rattle.refutation.specs.Facts.{Held}
-use Rattle.refutation.proofs.Public.{map_found}
-use Rattle.candidate_wires.proofs.Appending.{back_stands, front_stands, only_one, stands_either}
+use Rattle.candidate_wires.proofs.Appending.{only_one, stands_either}
 use Rattle.candidate_wires.specs.Parts.{AreKnown, IsKnown, IsUsable}
 use Rattle.candidate_wires.specs.declared.known.Known.{Known}
+use Rattle.rm_base.proofs.Public.{back_stands, front_stands}
 
 pub known_first : (net : Net) (held : Held) → AreKnown net held 0 []
 known_first net held = record { each = λ m k e. absurd (cc); all = λ x value less usable. absurd (omega arith); sorted = λ l m k j less e f. absurd (cc) }
@@ -49,15 +44,3 @@ known_more net held n ks k known number is = record {
         ]
   ];
 }
-
--- what is listed as a reader reads the node
-pub reader_reads : (v : Circuit) (n : ℕ) → ListReaders v → (k z : ℕ) → slice_get (map (λ place. place.0) (fanouts_of v n)) k ≡ Some z → (p : ℕ) × Reads (net_of v) z p n
-reader_reads v n listed k z e =
-    let found : (place : ℕ × ℕ) × ((slice_get (fanouts_of v n) k ≡ Some place) × (place.0 ≡ z)) = map_found (λ (place : ℕ × ℕ). place.0) (fanouts_of v n) k z e in
-    (found.0.1, subst (λ y. Reads (net_of v) y found.0.1 n) found.1.1 (listed.reads n k found.0 found.1.0))
-
--- what reads the node is listed
-pub reads_listed : (v : Circuit) (n : ℕ) → ListReaders v → (z p : ℕ) → Reads (net_of v) z p n → (k : ℕ) × (slice_get (map (λ place. place.0) (fanouts_of v n)) k ≡ Some z)
-reads_listed v n listed z p reads =
-    let there : (k : ℕ) × (slice_get (fanouts_of v n) k ≡ Some (z, p)) = listed.all n (z, p) reads in
-    (there.0, slice_get-map (λ (place : ℕ × ℕ). place.0) (fanouts_of v n) there.0 ∙ ap (option_map (λ (place : ℕ × ℕ). place.0)) there.1)

@@ -6,7 +6,6 @@ use Rattle.gate_net.specs.Net.{IsAcyclic, IsRanked, Net}
 use Rattle.gate_net.specs.Paths.{Among, ChainTo, next, start}
 use Rattle.gate_net.specs.Values.{same_bool}
 use Rattle.refutation.specs.Facts.{Held}
-use Rattle.refutation.proofs.Public.{some_is}
 use Rattle.refutation.specs.declared.reasoning.Fact.{Fact}
 use Rattle.rm_base.specs.declared.numbers.Fault.{Fault as FaultValue}
 use Rattle.candidate_wires.proofs.Appending.{only_one, stands_either}
@@ -16,11 +15,12 @@ use Rattle.candidate_wires.proofs.OneChain.{whole_one}
 use Rattle.candidate_wires.specs.Candidates.{AreAlong, AreAmong, AreCandidates, AreCandidatesOf, AreDerivable, IsWholeChain, listed}
 use Rattle.candidate_wires.specs.Joining.{IsCandidateOf, MayRead}
 use Rattle.candidate_wires.specs.declared.candidate.Candidate.{Candidate}
+use Rattle.rm_base.proofs.Public.{some_same}
 
 -- a node is a candidate of a gate in one way at most
 fresh_one : (net : Net) (held : Held) (y x : ℕ) (a b : Bool) → MayRead net held y x a → MayRead net held y x b → a ≡ b
 fresh_one net held y x a b one other =
-    let value : one.value ≡ other.value = some_is (sym one.known ∙ other.known) in
+    let value : one.value ≡ other.value = some_same (sym one.known ∙ other.known) in
     let control : one.control ≡ other.control = junction_one net y one.control other.control one.junction other.junction in
     one.as_fresh ∙ ap (λ (v : Bool). not (same_bool v one.control)) value ∙ ap (λ (v : Bool). not (same_bool other.value v)) control ∙ sym other.as_fresh
 

@@ -16,7 +16,7 @@ use Rattle.wire_edit.specs.declared.steps.Step.TheVariants.{Add, Fix, NewNot, Co
 use Rattle.wire_edit.specs.declared.refusal.EditRefusal.{EditRefusal}
 use Rattle.wire_edit.specs.Steps.{Applies, stepped}
 use Rattle.wire_edit.specs.Refusals.{room_after, IsAnswer}
-use Rattle.wire_edit.specs.Removals.{FreeFixesApply, HasFreePin}
+use Rattle.wire_edit.specs.Removals.{FreeFixesApply, HasFreePin, IsRemoval}
 use Rattle.wire_edit.specs.Rooms.{ApplicableIsMade}
 use Rattle.wire_edit.specs.Laws.{IsTidying, NextApplies}
 use Rattle.wire_edit.specs.Tried.{Tried, Tidies}
@@ -24,16 +24,10 @@ use Rattle.wire_edit.specs.Work.{work, RoomForTidying, RoomForFixes, TidyingEnds
 use Rattle.journal_text.specs.declared.record.Record.{Record}
 use Rattle.journal_text.specs.declared.record.Record.TheVariants as kept
 use Rattle.journal_text.specs.Accepted.{IsJustified, IsAcceptedStep, MayGrow}
-use Rattle.journal_text.specs.Runs.{AcceptedTo, AreRemovals, IsRemoval, steps_of}
+use Rattle.journal_text.specs.Runs.{AreRemovals, steps_of}
 use Rattle.closing_pass.specs.Going.{AddsLocal, AreTidying, Goes, IsNoLarger, Logs}
 use Rattle.closing_pass.proofs.Falling.{RemovalLaws, no_larger, no_larger_same, no_larger_then, tidying_removes}
-
--- LISTS OF RECORDS
-pub accepted_then : (net mid after : Net) (first second : List Record) → AcceptedTo net first mid → AcceptedTo mid second after → AcceptedTo net (first ++ second) after
-accepted_then net mid after [] second a b = subst (λ (n : Net). AcceptedTo n second after) a b
-accepted_then net mid after (kept.Step step tree ∷ first) second a b = (a.0, accepted_then (stepped net step) mid after first second a.1 b)
-accepted_then net mid after (kept.Hit fault vector ∷ first) second a b = absurd a
-accepted_then net mid after (kept.Spent fault tree ∷ first) second a b = absurd a
+use Rattle.journal_text.proofs.Public.{accepted_then}
 
 pub removals_then : (first second : List Record) → AreRemovals (steps_of first) → AreRemovals (steps_of second) → AreRemovals (steps_of (first ++ second))
 removals_then [] second a b = b

@@ -13,7 +13,8 @@ use Rattle.closing_pass.specs.declared.finding.Finding.TheVariants.{Detected, Op
 use Rattle.closing_pass.specs.Findings.{AreVerdictsOf, HasCome, Holds, IsNumbered, IsSought, IsVerdictOf}
 use Rattle.closing_pass.specs.Reports.{AreClosed, IsClosing, fault_in}
 use Rattle.std.proofs.lemmas.List.{length-append}
-use Rattle.closing_pass.proofs.Standing.{by_recursion, mapped_is, one_stands, pushed_stands, stands_below, stands_pushed, stands_still}
+use Rattle.closing_pass.proofs.Standing.{by_recursion, mapped_is}
+use Rattle.rm_base.proofs.Public.{front_stands, last_stands, one_stands, pushed_stands, stands_below}
 
 -- once a pass has come to the end, each finding has its vector
 pub numbered : (net : Net) (budget : ℕ) (kept : List (List Bool)) (tried : ℕ) (faults : List Fault) (found : List Finding) (next : ℕ) → HasCome net budget kept tried faults found next → length faults ≤ next → (j : ℕ) (finding : Finding) → slice_get found j ≡ Some finding → IsNumbered (length kept) finding
@@ -78,5 +79,5 @@ verdicts_more kept faults done finding verdicts fault v of there is = record {
     faults_at j entry (inr (last, same)) = rw (last, same) there
 
     verdicts_at : (j : ℕ) (entry : Fault × Verdict) → (slice_get verdicts j ≡ Some entry) ⊎ ((j ≡ length verdicts) × (entry ≡ (fault, v))) → (f : Finding) × ((slice_get (done ++ finding ∷ []) j ≡ Some f) × IsVerdictOf kept f entry.1)
-    verdicts_at j entry (inl old) = let f = of.verdicts_are j entry old in (f.0, (stands_still done (finding ∷ []) j f.0 f.1.0, f.1.1))
-    verdicts_at j entry (inr (last, same)) = (finding, (rw (last, of.size) (stands_pushed done finding), rw same is))
+    verdicts_at j entry (inl old) = let f = of.verdicts_are j entry old in (f.0, (front_stands done (finding ∷ []) j f.0 f.1.0, f.1.1))
+    verdicts_at j entry (inr (last, same)) = (finding, (rw (last, of.size) (last_stands done finding), rw same is))

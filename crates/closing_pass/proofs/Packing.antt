@@ -5,13 +5,13 @@ use Rattle.std.specs.Int.{bit_at}
 use Rattle.std.proofs.lemmas.Nat.Bits.{bit_at-lt, bit_at-pow_same, bit_at-pow_other, bit_at_or}
 use Rattle.std.proofs.lemmas.List.{length-append}
 use Rattle.std.proofs.lemmas.Option.{get_or_from_slice_get, slice_get-get_or}
+use Rattle.std.proofs.lemmas.Bool.{cases_eq}
 use Rattle.fault_sim.proofs.Public.{lane_zero}
 use Rattle.fault_sim.specs.Words.{lane}
 use Rattle.closing_pass.specs.Findings.{AreLong, ArePacked}
 use Rattle.closing_pass.specs.Trying.{AreInLanes}
-use Rattle.closing_pass.proofs.Standing.{pushed_stands, stands_below}
-use Rattle.closing_pass.proofs.Taking.{same_or_not}
 use Rattle.closing_pass.proofs.Tries.{lt_or_le}
+use Rattle.rm_base.proofs.Public.{pushed_stands, stands_below}
 
 one_more : (b : ℕ) → b < 2 → max b 1 ≡ 1
 one_more zero lt = refl
@@ -46,7 +46,7 @@ value_at v u source b e is = let same : v ≡ u = cc in subst (λ (w : List Bool
 
 pub word_one : (vectors : List (List Bool)) (source place word : ℕ) (v : List Bool) → IsWordOf vectors source place word → slice_get vectors place ≡ Some v → slice_get v source ≡ Some true → IsWordOf vectors source (place + 1) (bit_or word (2 ^ place))
 word_one vectors source place word v of there is = record {
-  lanes = λ i u lt us. elim (same_or_not i place) [
+  lanes = λ i u lt us. elim (cases_eq i place) [
     | inl same ↦ rw same (lane_set_same word place ∙ sym (value_at v u source true (sym there ∙ rw same at us) is))
     | inr ne ↦ lane_set_other word place i ne ∙ of.lanes i u (below i lt ne) us
   ];

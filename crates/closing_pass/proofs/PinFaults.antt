@@ -1,25 +1,21 @@
 -- Each fault of a net is of one of its pins.
-use Rattle.std.proofs.Common.{◌≡◌, ℕ, zero, suc, ◌+◌, ◌<◌, Option, Some, List, [], ◌∷◌, ◌++◌, length, refl, ◌∙◌, ap, arith}
+use Rattle.std.proofs.Common.{◌≡◌, ℕ, zero, suc, ◌+◌, Option, Some, List, [], ◌∷◌, ◌++◌, length, refl, ◌∙◌, ap, arith}
 use Rattle.std.specs.Prelude.{slice_get}
 use Rattle.std.specs.List.{AllByRecursion}
 use Rattle.rm_base.specs.declared.numbers.Fault.{Fault}
 use Rattle.gate_net.specs.Faults.{faults_from, faults_of, pin_faults}
 use Rattle.gate_net.specs.Net.{Net, Node, drivers_in, drivers_of, flatten_option}
 use Rattle.gate_net.specs.Values.{HasPin}
+use Rattle.rm_base.proofs.Public.{stands_below}
 
 all_append : (P : Fault → Type 0) (xs ys : List Fault) → AllByRecursion P xs → AllByRecursion P ys → AllByRecursion P (xs ++ ys)
 all_append P [] ys v w = w
 all_append P (x ∷ xs) ys v w = (v.0, all_append P xs ys v.1 w)
 
-got : (xs : List ℕ) (k : ℕ) → k < length xs → (x : ℕ) × (slice_get xs k ≡ Some x)
-got [] k lt = absurd (omega arith)
-got (y ∷ ys) zero lt = (y, refl)
-got (y ∷ ys) (suc k) lt = got ys k (omega arith)
-
 pins_there : (net : Net) (g p c : ℕ) → p + c ≡ length (drivers_of net g) → AllByRecursion (HasPin net) (pin_faults g p c)
 pins_there net g p zero e = tt
 pins_there net g p (suc c) e =
-    let there : (x : ℕ) × (slice_get (drivers_of net g) p ≡ Some x) = got (drivers_of net g) p (omega (arith, e)) in
+    let there : (x : ℕ) × (slice_get (drivers_of net g) p ≡ Some x) = stands_below (drivers_of net g) p (omega (arith, e)) in
     (there, (there, pins_there net g (suc p) c (omega (arith, e))))
 
 -- the nodes from one number on, as the net has them

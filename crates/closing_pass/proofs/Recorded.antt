@@ -1,6 +1,5 @@
 -- Recording a fix after another.
 use Rattle.std.proofs.Common.{◌≡◌, ℕ, suc, ◌+◌, ◌<◌, ◌≤◌, Option, List, [], ◌∷◌, ◌++◌, length, refl, sym, ◌∙◌, ap, subst, arith}
-use Rattle.std.specs.Prelude.{Err, Ok, OnErr, Result}
 use Rattle.std.proofs.lemmas.List.{length-append}
 use Rattle.gate_net.specs.Net.{Net, wire_count}
 use Rattle.refutation.specs.declared.items.Item.{Item}
@@ -13,12 +12,13 @@ use Rattle.wire_edit.specs.declared.steps.Step.{Step}
 use Rattle.wire_edit.specs.declared.steps.Step.TheVariants.{Add, Fix, NewNot, Const, Same, NoPins, OnePin, Twice, Twin, Dead}
 use Rattle.journal_text.specs.Appends.{IsThere}
 use Rattle.journal_text.specs.Joining.{RunsJoin, TextsAppend}
-use Rattle.journal_text.specs.Runs.{AcceptedTo, AreRemovals, HasAppended, HasAppendedPart, IsRemoval, IsStopped, counted, made_by, none_made, records_text, steps_of}
+use Rattle.journal_text.specs.Runs.{AcceptedTo, AreRemovals, HasAppended, HasAppendedPart, IsStopped, counted, made_by, none_made, records_text, steps_of}
 use Rattle.journal_text.specs.declared.record.Record.{Record}
 use Rattle.closing_pass.specs.Closing.{HasGone, HasRecordedFix}
 use Rattle.closing_pass.specs.Going.{AreTidying, HasFixed, Logs}
 use Rattle.closing_pass.specs.Reports.{HasClosed, IsRemovedTo, made_in}
 use Rattle.closing_pass.specs.declared.report.Report.{Report}
+use Rattle.wire_edit.specs.Removals.{IsRemoval}
 
 -- COUNTS
 tidying_counts : (m : Made) (s : Step) → IsTidying s → (counted m s).fixes ≡ m.fixes
@@ -137,7 +137,3 @@ stopped_later texts runs net mid made old files new journal g s = record {
   accepted = runs.accepted net mid s.after g.records s.records g.steps.accepted s.accepted;
   written = subst (HasAppendedPart old new journal) (sym (runs.text g.records s.records)) (texts.part old files new journal (records_text g.records) (records_text s.records) g.written s.written);
 }
-
-pub on_err : {V E P : Type 0} (r : Result V E) → P → OnErr r P
-on_err (Ok x) p = tt
-on_err (Err e) p = p

@@ -1,12 +1,12 @@
 -- A tidy net with a pin has a source, so what closes its faults can be recorded.
-use Rattle.std.proofs.Common.{◌≡◌, ◌≢◌, ℕ, zero, suc, ◌+◌, ◌-◌, ◌<◌, ◌≤◌, Bool, true, false, not, ◌||◌, Option, Some, None, List, [], ◌∷◌, length, map, refl, sym, ◌∙◌, ap, arith}
+use Rattle.std.proofs.Common.{◌≡◌, ◌≢◌, ℕ, zero, suc, ◌+◌, ◌<◌, ◌≤◌, Bool, true, false, not, ◌||◌, Option, Some, None, List, [], ◌∷◌, length, map, refl, sym, ◌∙◌, ap, arith}
 use Rattle.std.specs.Prelude.{nat_eq, slice_get}
 use Rattle.std.proofs.lemmas.Bool.{and_from}
 use Rattle.rm_base.specs.declared.numbers.Fault.{Fault}
 use Rattle.gate_net.specs.declared.Kind.{Kind}
 use Rattle.gate_net.specs.declared.Kind.TheVariants.{Source, Zero, One, And, Or, Not}
 use Rattle.gate_net.specs.Faults.{faults_of}
-use Rattle.gate_net.specs.Net.{Net, Node, drivers_in, drivers_of, kind_in, node_at, plain_node, Reads, IsGate, IsGateKind, IsRanked, IsWellFormed, source_count}
+use Rattle.gate_net.specs.Net.{Net, Node, drivers_in, drivers_of, kind_in, node_at, Reads, IsGate, IsGateKind, IsRanked, IsWellFormed, source_count}
 use Rattle.std.proofs.lemmas.Option.{slice_get-map}
 use Rattle.std.specs.Option.{option_map}
 use Rattle.gate_net.specs.Values.{HasPin}
@@ -22,6 +22,7 @@ use Rattle.closing_pass.specs.Recording.{AreRecordable, IsRecordable}
 use Rattle.closing_pass.specs.Reports.{AreClosed, IsClosing, fault_in}
 use Rattle.closing_pass.proofs.PinFaults.{pins_all}
 use Rattle.closing_pass.proofs.Standing.{by_recursion, from_recursion}
+use Rattle.wire_edit.proofs.Public.{reader_gate}
 
 -- a node that is no constant is a gate, where there is no source
 gate_of : (net : Net) → IsWellFormed net → source_count net ≡ 0 → (x : ℕ) → 1 < x → node_at net x ≢ None → IsGate net x
@@ -38,31 +39,6 @@ gate_of net well none x lt there = at (node_at net x) refl
     at : (o : Option Node) → node_at net x ≡ o → IsGate net x
     at None is = absurd (there is)
     at (Some n) is = kinds n.kind n.drivers is
-
--- a node with a pin is a gate
-reader_gate : (net : Net) → IsWellFormed net → (y p x : ℕ) → Reads net y p x → IsGate net y
-reader_gate net well y p x reads = at (node_at net y) refl
-  where
-    none_reads : slice_get {X = ℕ} [] p ≡ Some x → ⊥
-    none_reads e = cc
-
-    bare : (kind : Kind) → node_at net y ≡ plain_node kind → ⊥
-    bare kind is = none_reads (ap (λ (o : Option Node). slice_get (drivers_in o) p) (sym is) ∙ reads)
-
-    gate : (kind : Kind) (ds : List ℕ) → node_at net y ≡ Some (record { kind = kind; drivers = ds }) → IsGate net y
-    gate Source ds is =
-        let s : (2 ≤ y) × (y < 2 + source_count net) = well.sources.only y (ds, is) in
-        let same : 2 + (y - 2) ≡ y = omega (arith, s.0) in
-        absurd (bare Source (rw same at (well.sources.first (y - 2) (omega (arith, s.0, s.1)))))
-    gate Zero ds is = let e : y ≡ 0 = well.only_zero y (ds, is) in absurd (bare Zero (ap (node_at net) e ∙ well.constants.zero_is))
-    gate One ds is = let e : y ≡ 1 = well.only_one y (ds, is) in absurd (bare One (ap (node_at net) e ∙ well.constants.one_is))
-    gate And ds is = (And, ((ds, is), tt))
-    gate Or ds is = (Or, ((ds, is), tt))
-    gate Not ds is = (Not, ((ds, is), tt))
-
-    at : (o : Option Node) → node_at net y ≡ o → IsGate net y
-    at None is = absurd (none_reads (ap (λ o. slice_get (drivers_in o) p) (sym is) ∙ reads))
-    at (Some n) is = gate n.kind n.drivers is
 
 -- a gate of a tidy net has a pin
 has_pin : TidyMeans → (net : Net) → IsWellFormed net → IsTidy net → (y : ℕ) → IsGate net y → (x : ℕ) × Reads net y 0 x

@@ -1,40 +1,10 @@
 -- What stands at a place of a list.
-use Rattle.std.proofs.Common.{◌≡◌, ℕ, zero, suc, ◌+◌, ◌<◌, ◌≤◌, ◌⊎◌, inl, inr, Some, List, [], ◌∷◌, ◌++◌, length, map, take, drop, replicate, refl, sym, ◌∙◌, ap, subst, append_assoc, arith}
+use Rattle.std.proofs.Common.{◌≡◌, ℕ, zero, suc, ◌+◌, ◌<◌, ◌≤◌, Some, List, [], ◌∷◌, ◌++◌, length, map, take, drop, replicate, refl, sym, ◌∙◌, ap, subst, append_assoc, arith}
 use Rattle.std.specs.Prelude.{slice_get, slice_set}
 use Rattle.std.specs.List.{AllByRecursion, AllZip}
 use Rattle.std.proofs.lemmas.List.{append-nil}
 use Rattle.std.proofs.lemmas.Option.{slice_get_within}
-use Rattle.journal_text.proofs.Public.{some_is}
-
--- what stands at one place is one thing
-pub one_stands : {A : Type 0} (xs : List A) (k : ℕ) (x y : A) → slice_get xs k ≡ Some x → slice_get xs k ≡ Some y → x ≡ y
-one_stands xs k x y e f = some_is x y (sym e ∙ f)
-
--- something stands at each place below the length
-pub stands_below : {A : Type 0} (xs : List A) (k : ℕ) → k < length xs → (x : A) × (slice_get xs k ≡ Some x)
-stands_below [] k lt = absurd (omega (arith, lt))
-stands_below (x ∷ xs) zero lt = (x, refl)
-stands_below (x ∷ xs) (suc k) lt = stands_below xs k (omega (arith, lt))
-
--- what was pushed stands last
-pub stands_pushed : {A : Type 0} (xs : List A) (x : A) → slice_get (xs ++ x ∷ []) (length xs) ≡ Some x
-stands_pushed [] x = refl
-stands_pushed (y ∷ xs) x = stands_pushed xs x
-
-pub stands_still : {A : Type 0} (xs ys : List A) (k : ℕ) (x : A) → slice_get xs k ≡ Some x → slice_get (xs ++ ys) k ≡ Some x
-stands_still [] ys k x e = absurd (cc)
-stands_still (y ∷ xs) ys zero x e = e
-stands_still (y ∷ xs) ys (suc k) x e = stands_still xs ys k x e
-
--- what stands after a push stood before, or is what was pushed
-pub pushed_stands : {A : Type 0} (xs : List A) (y : A) (k : ℕ) (x : A) → slice_get (xs ++ y ∷ []) k ≡ Some x → (slice_get xs k ≡ Some x) ⊎ ((k ≡ length xs) × (x ≡ y))
-pushed_stands [] y zero x e = inr (refl, sym (some_is y x e))
-pushed_stands [] y (suc k) x e = absurd (cc)
-pushed_stands (z ∷ xs) y zero x e = inl e
-pushed_stands (z ∷ xs) y (suc k) x e = elim (pushed_stands xs y k x e) [
-  | inl old ↦ inl old
-  | inr new ↦ inr (ap suc new.0, new.1)
-]
+use Rattle.rm_base.proofs.Public.{some_is}
 
 pub stood : {A : Type 0} (xs ys : List A) (k : ℕ) (x : A) → k < length xs → slice_get (xs ++ ys) k ≡ Some x → slice_get xs k ≡ Some x
 stood [] ys k x lt e = absurd (omega (arith, lt))

@@ -1,13 +1,12 @@
 -- Taking the verdicts of a batch, one after another.
-use Rattle.std.proofs.Common.{◌≡◌, ◌≢◌, ℕ, zero, suc, ◌+◌, ◌<◌, ◌≤◌, ◌⊎◌, inl, inr, Bool, Some, None, List, [], ◌∷◌, ◌++◌, length, drop, get_or, refl, sym, ◌∙◌, ap, subst, arith}
+use Rattle.std.proofs.Common.{◌≡◌, ◌≢◌, ℕ, zero, suc, ◌+◌, ◌<◌, ◌≤◌, inl, inr, Bool, Some, None, List, [], ◌∷◌, ◌++◌, length, drop, get_or, refl, sym, ◌∙◌, ap, subst, arith}
 use Rattle.std.specs.Prelude.{replicate, slice_get, slice_set}
 use Rattle.std.proofs.lemmas.List.{length-append}
 use Rattle.std.specs.List.{AllZip}
 use Rattle.std.proofs.lemmas.Option.{slice_get_read, slice_get_within}
-use Rattle.gate_net.proofs.Public.{set_there}
+use Rattle.std.proofs.lemmas.Bool.{cases_eq}
 use Rattle.gate_net.specs.Net.{Net, source_count}
 use Rattle.gate_net.specs.Values.{HasPin}
-use Rattle.journal_text.proofs.Public.{some_is}
 use Rattle.podem.specs.declared.verdict.Verdict.{Verdict}
 use Rattle.podem.specs.declared.verdict.Verdict.TheVariants as verdict
 use Rattle.refutation.specs.declared.items.Item.{Item}
@@ -18,17 +17,9 @@ use Rattle.closing_pass.specs.declared.choosing.Chosen.{Chosen}
 use Rattle.closing_pass.specs.Findings.{AreChosen, AreClosedBefore, AreFound, AreLong, AreTried, HasCome, Holds, IsRefuted}
 use Rattle.closing_pass.specs.Searching.{HasTaken, tree_in}
 use Rattle.closing_pass.specs.Verdicts.{HavePins, IsAnswer}
-use Rattle.closing_pass.proofs.Standing.{length-set, one_stands, pushed_stands, stands_below, stands_pushed, stands_still, stood, replicated, zip_here, zip_next}
+use Rattle.closing_pass.proofs.Standing.{length-set, stood, replicated, zip_here, zip_next}
 use Rattle.closing_pass.proofs.Tries.{lt_or_le, set_other}
-
-pub same_or_not : (j k : ℕ) → (j ≡ k) ⊎ (j ≢ k)
-same_or_not j k = elim (lt_or_le j k) [
-  | inl lt ↦ inr (λ e. absurd (omega (arith, lt, e)))
-  | inr le ↦ elim (lt_or_le k j) [
-    | inl lt ↦ inr (λ e. absurd (omega (arith, lt, e)))
-    | inr ge ↦ inl (omega (arith, le, ge))
-  ]
-]
+use Rattle.rm_base.proofs.Public.{front_stands, last_stands, one_stands, pushed_stands, set_there, some_is, stands_below}
 
 -- so many of the verdicts were taken, from the findings as they were
 pub record IsTaking (net : Net) (budget tried : ℕ) (kept : List (List Bool)) (faults : List Fault) (old found : List Finding) (places : List ℕ) (at : ℕ) : Type 0 where
@@ -92,7 +83,7 @@ taking_set net budget tried kept kept' faults old found found' places at place f
     elsewhere j ne = ap (λ (xs : List Finding). slice_get xs j) is ∙ set_other found place j finding ne
 
     hold : (j : ℕ) (g : Fault) (f : Finding) → slice_get faults j ≡ Some g → slice_get found' j ≡ Some f → Holds net budget kept' g f
-    hold j g f gs fs = elim (same_or_not j place) [
+    hold j g f gs fs = elim (cases_eq j place) [
       | inl same ↦
           let gf : fault ≡ g = one_stands faults place fault g there (rw same at gs) in
           let ff : finding ≡ f = one_stands found' place finding f now_is (rw same at fs) in
@@ -101,13 +92,13 @@ taking_set net budget tried kept kept' faults old found found' places at place f
     ]
 
     tried_now : AreTried net kept' tried faults found'
-    tried_now j g f gs fs sought k v less at' d = elim (same_or_not j place) [
+    tried_now j g f gs fs sought k v less at' d = elim (cases_eq j place) [
       | inl same ↦ t.before j g Open gs (rw same was) tt k v less (e.was k v less at') d
       | inr ne ↦ t.trials j g f gs (sym (elsewhere j ne) ∙ fs) sought k v less (e.was k v less at') d
     ]
 
     opens : (j : ℕ) → slice_get found' j ≡ Some Open → slice_get old j ≡ Some Open
-    opens j os = elim (same_or_not j place) [
+    opens j os = elim (cases_eq j place) [
       | inl same ↦ rw same was
       | inr ne ↦ t.opens j (sym (elsewhere j ne) ∙ os)
     ]
@@ -116,7 +107,7 @@ taking_set net budget tried kept kept' faults old found found' places at place f
     shut_at j same os = shut (one_stands found' place finding Open now_is (rw same at os))
 
     done : (i p : ℕ) → i < at + 1 → slice_get places i ≡ Some p → slice_get found' p ≡ Some Open → ⊥
-    done i p less ps os = elim (same_or_not p place) [
+    done i p less ps os = elim (cases_eq p place) [
       | inl same ↦ shut_at p same os
       | inr ne ↦ elim (lt_or_le i at) [
         | inl l ↦ t.done i p l ps (sym (elsewhere p ne) ∙ os)
@@ -129,7 +120,7 @@ extends_same tried kept kept' e = record { stays = λ k v is. rw e is; was = λ 
 
 extends_push : (tried : ℕ) (kept kept' : List (List Bool)) (v : List Bool) → tried ≤ length kept → kept' ≡ kept ++ v ∷ [] → Extends tried kept kept'
 extends_push tried kept kept' v le e = record {
-  stays = λ k u is. rw e (stands_still kept (v ∷ []) k u is);
+  stays = λ k u is. rw e (front_stands kept (v ∷ []) k u is);
   was = λ k u lt is. stood kept (v ∷ []) k u (omega (arith, lt, le)) (rw e at is);
 }
 
@@ -143,7 +134,7 @@ taking_more net budget tried kept kept' faults old found found' places at place 
     taking_set net budget tried kept kept' faults old found found' places at place fault (Spent tree) t here there was (extends_same tried kept kept' same) (rw same t.long) (rw same t.more) (a.holds, a.decided) (λ e. absurd (cc)) is
 taking_more net budget tried kept kept' faults old found found' places at place fault (verdict.Detected vector) t here there was a none (pushed, is) =
     taking_set net budget tried kept kept' faults old found found' places at place fault (Detected (length kept)) t here there was (extends_push tried kept kept' vector t.more pushed) long
-    (let l = length-append kept (vector ∷ []) in rw pushed (omega (arith, l, t.more))) (vector, (rw pushed (stands_pushed kept vector), a.holds)) (λ e. absurd (cc)) is
+    (let l = length-append kept (vector ∷ []) in rw pushed (omega (arith, l, t.more))) (vector, (rw pushed (last_stands kept vector), a.holds)) (λ e. absurd (cc)) is
   where
     long : AreLong kept' (source_count net)
     long k u us = elim (pushed_stands kept vector k u (rw pushed at us)) [

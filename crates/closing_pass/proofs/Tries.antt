@@ -3,18 +3,16 @@ use Rattle.std.proofs.Common.{◌≡◌, ◌≢◌, ℕ, zero, suc, ◌+◌, ◌
 use Rattle.std.specs.Prelude.{slice_get, slice_set}
 use Rattle.std.proofs.lemmas.Option.{slice_get_within}
 use mathlib.Core.Path.{fun_ext}
-use Rattle.gate_net.proofs.Public.{set_there}
 use Rattle.gate_net.specs.Faults.{assigned}
 use Rattle.gate_net.specs.Net.{Net, source_count}
 use Rattle.gate_net.specs.Values.{Detects}
 use Rattle.fault_sim.specs.Words.{assignment}
-use Rattle.journal_text.proofs.Public.{some_is}
 use Rattle.rm_base.specs.declared.numbers.Fault.{Fault}
 use Rattle.closing_pass.specs.declared.finding.Finding.{Finding}
 use Rattle.closing_pass.specs.declared.finding.Finding.TheVariants.{Detected, Open}
 use Rattle.closing_pass.specs.Findings.{AreLong, HasCome, Holds, IsSought}
 use Rattle.closing_pass.specs.Trying.{AreInLanes, HasTried, HasTriedBefore, HasTriedOn, IsHit, IsMissed, IsTriedAt}
-use Rattle.closing_pass.proofs.Standing.{one_stands, stands_below}
+use Rattle.rm_base.proofs.Public.{one_stands, set_there, some_is, stands_below}
 
 -- whether a number comes before another
 pub lt_or_le : (k n : ℕ) → (k < n) ⊎ (n ≤ k)

@@ -2,7 +2,6 @@
 use Rattle.std.proofs.Common.{◌≡◌, ℕ, zero, suc, ◌+◌, Option, Some, List, [], ◌∷◌, ◌++◌, take, drop, refl, sym, ◌∙◌, ap, subst, append_assoc, arith}
 use Rattle.std.specs.Prelude.{slice_get}
 use Rattle.std.proofs.lemmas.List.{append-nil}
-use Rattle.journal_text.proofs.Public.{some_is}
 use Rattle.journal_text.specs.Joining.{RunsJoin, TextsAppend}
 use Rattle.journal_text.specs.Runs.{HasAppended, HasAppendedPart, records_text}
 use Rattle.journal_text.specs.declared.record.Record.{Record}
@@ -10,6 +9,7 @@ use Rattle.podem.specs.declared.verdict.Verdict.{Verdict}
 use Rattle.rm_base.specs.Files.{Files}
 use Rattle.rm_base.specs.declared.numbers.Fault.{Fault}
 use Rattle.closing_pass.specs.Recording.{verdict_record, verdict_records}
+use Rattle.rm_base.proofs.Public.{some_is}
 
 records_more : (verdicts : List (Fault × Verdict)) (i : ℕ) (e : Fault × Verdict) → slice_get verdicts i ≡ Some e → verdict_records (take (i + 1) verdicts) ≡ verdict_records (take i verdicts) ++ verdict_record e
 records_more [] i e is = absurd (cc)

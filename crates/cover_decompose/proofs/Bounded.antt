@@ -4,7 +4,6 @@ use Rattle.std.specs.Prelude.{if◌then◌else◌, sum_by, Option, unwrap_or}
 use Rattle.std.specs.List.{flat_map, zip}
 use Rattle.std.proofs.lemmas.List.Sums.{sum_by-cons, sum_by-append}
 use Rattle.std.proofs.lemmas.Bool.Decides.{eqb_tells}
-use Rattle.rm_model.specs.Words.{Word}
 use Rattle.rm_model.specs.Value.{is_among, observed_names}
 use Rattle.rm_model.specs.Ranks.{ranks_of}
 use Rattle.rm_model.specs.declared.parts.Literal.{Literal}
@@ -15,6 +14,7 @@ use Rattle.cover_decompose.specs.Needed.{taken, ranked_covers, of_rank, of_ranks
 use Rattle.cover_decompose.specs.Count.{literal_count, joining, cover_wires, zero_names, cover_zero_names, new_count, decomposed}
 use Rattle.rm_model.specs.Size.{rows_weight, covers_weight}
 use Rattle.cover_decompose.specs.Bounds.{WiresAreBounded}
+use Rattle.rm_base.specs.Words.{Word}
 
 abbrev weight : Cover → ℕ
 weight c = rows_weight c.rows + 1

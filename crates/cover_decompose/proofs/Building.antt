@@ -12,7 +12,8 @@ use Rattle.gate_graph.specs.Circuit.{Circuit, net_of, pins_taken, live_nodes}
 use Rattle.gate_graph.specs.Readers.{NewReaders, SameReaders}
 use Rattle.gate_graph.specs.Spots.{places_from}
 use Rattle.cover_decompose.specs.Built.{IsBuilt, readers_from}
-use Rattle.cover_decompose.proofs.Places.{get_seam, length-push}
+use Rattle.cover_decompose.proofs.Places.{length-push}
+use Rattle.rm_base.proofs.Public.{seam_stands}
 
 -- a list without dead numbers at its end follows from what is at each number
 dead_or_live : (xs : List (Option Node)) → trimmed xs ≡ [] → (k : ℕ) → flatten_option (slice_get xs k) ≡ None
@@ -108,7 +109,7 @@ next_built v w made n number h canonical makes readers pins live epoch = record 
     ]
 
     seam : flatten_option (slice_get (map (λ n. Some n) (made ++ n ∷ [])) number) ≡ Some n
-    seam = ap (λ (i : ℕ). flatten_option (slice_get (map (λ n. Some n) (made ++ n ∷ [])) i)) is_next ∙ node_there (made ++ n ∷ []) (length made) n (get_seam made n [])
+    seam = ap (λ (i : ℕ). flatten_option (slice_get (map (λ n. Some n) (made ++ n ∷ [])) i)) is_next ∙ node_there (made ++ n ∷ []) (length made) n (seam_stands made n [])
 
     at : (k : ℕ) → node_at (net_of w) k ≡ flatten_option (slice_get (map (λ n. Some n) (made ++ n ∷ [])) k)
     at k = by_case (same_or_not k number)

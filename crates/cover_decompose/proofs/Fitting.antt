@@ -1,9 +1,10 @@
 -- What a graph needs for its next gate and its next observed node, and what it is at first.
-use Rattle.std.proofs.Common.{◌≡◌, ◌<◌, ◌≤◌, ◌+◌, ℕ, zero, suc, Bool, true, List, [], ◌∷◌, ◌++◌, length, map, take, refl, sym, ap, subst, ◌∙◌, ◌⊎◌, inl, inr, arith, add-one}
+use Rattle.std.proofs.Common.{◌≡◌, ◌<◌, ◌≤◌, ◌+◌, ℕ, zero, suc, Bool, true, List, [], ◌∷◌, ◌++◌, length, map, take, refl, sym, ap, subst, ◌∙◌, ◌⊎◌, inl, inr, arith}
 use Rattle.std.specs.Prelude.{All, Some, Option, replicate, slice_get, sum_by, ◌||◌}
 use Rattle.std.specs.List.{AllByRecursion}
 use Rattle.std.proofs.lemmas.Bool.Decides.{eqb_tells}
 use Rattle.std.proofs.lemmas.List.Sums.{sum_by-take-le}
+use Rattle.std.proofs.lemmas.Option.{slice_get_within}
 use Rattle.cover_decompose.proofs.WellFormed.{gate_at}
 use Rattle.gate_net.specs.declared.Kind.{Kind}
 use Rattle.gate_net.specs.declared.Kind.TheVariants.{Source, Zero, One, And, Or, Not}
@@ -17,6 +18,7 @@ use Rattle.cover_decompose.proofs.Building.{live_below}
 use Rattle.cover_decompose.proofs.Places.{get_parts}
 use Rattle.cover_decompose.proofs.PlanSteps.{length-many}
 use Rattle.cover_decompose.proofs.Sums.{sum-total, total, total-append}
+use Rattle.rm_base.proofs.Public.{take_one_more}
 
 -- the wires of nodes
 abbrev pub wires_of : List Node → ℕ
@@ -58,24 +60,11 @@ has_below n (x ∷ xs) d h e =
       | inr other ↦ has_below n xs d h.1 (ap (λ (b : Bool). b || has d xs) (sym other.0) ∙ e)
     ]
 
-pub take_push : {A : Type 0} (xs : List A) (k : ℕ) (x : A) → slice_get xs k ≡ Some x → take (k + 1) xs ≡ take k xs ++ x ∷ []
-take_push xs k x e = rw add-one (each xs k x e)
-  where
-    each : {A : Type 0} (xs : List A) (k : ℕ) (x : A) → slice_get xs k ≡ Some x → take (suc k) xs ≡ take k xs ++ x ∷ []
-    each [] k x e = absurd cc
-    each (y ∷ xs) zero x e = let is : y ≡ x = cc in ap (λ (z : _). z ∷ []) is
-    each (y ∷ xs) (suc k) x e = ap (λ (l : List _). y ∷ l) (each xs k x e)
-
 take-length : {A : Type 0} (xs : List A) (k : ℕ) → k ≤ length xs → length (take k xs) ≡ k
 take-length [] zero le = refl
 take-length [] (suc k) le = absurd (omega arith)
 take-length (x ∷ xs) zero le = refl
 take-length (x ∷ xs) (suc k) le = ap (λ (n : ℕ). suc n) (take-length xs k (omega arith))
-
-within : {A : Type 0} (xs : List A) (k : ℕ) (x : A) → slice_get xs k ≡ Some x → k < length xs
-within [] k x e = absurd cc
-within (y ∷ xs) zero x e = omega arith
-within (y ∷ xs) (suc k) x e = let lt = within xs k x e in omega arith
 
 pub record NextFits (v : Circuit) (n : Node) : Type 0 where
   pub small : All (λ d. d < 4294967296) n.drivers
@@ -93,11 +82,11 @@ node_live v made observed x h lt =
 pub next_fits : (v : Circuit) (made : List Node) (sources at : ℕ) (n : Node) → IsBuildable made sources → 2 + sources ≤ at → slice_get made at ≡ Some n → IsBuilt v (take at made) [] → NextFits v n
 next_fits v made sources at n b le e h =
     let few : length made ≤ 66562 = few_nodes made sources b in
-    let lt : at < length made = within made at n e in
+    let lt : at < length made = slice_get_within made at n e in
     let below : AllBelow at n.drivers = b.below at n e in
     let gate : IsGateNode n = by_place (get_parts (plain Zero ∷ plain One ∷ replicate sources (plain Source)) b.gates at n (ap (λ (l : List Node). slice_get l at) (sym b.made_is) ∙ e)) in
     let length_is : length (take at made) ≡ at = take-length made at (omega arith) in
-    let sum_is : wires_of (take (at + 1) made) ≡ wires_of (take at made) + length n.drivers = ap wires_of (take_push made at n e) ∙ more (take at made) n in
+    let sum_is : wires_of (take (at + 1) made) ≡ wires_of (take at made) + length n.drivers = ap wires_of (take_one_more made at n e) ∙ more (take at made) n in
     let most : wires_of (take (at + 1) made) ≤ wires_of made = sum_by-take-le (λ (n : Node). length n.drivers) made (at + 1) in
     let few_wires : wires_of made ≤ 65536 = b.few_wires in
     let pins_are : pins_taken v ≡ wires_of (take at made) + 0 = h.pins in
@@ -115,7 +104,7 @@ next_fits v made sources at n b le e h =
     more xs y = sum-total (λ (n : Node). length n.drivers) (xs ++ y ∷ []) ∙ (total-append (λ (n : Node). length n.drivers) xs (y ∷ []) ∙ (let e : wires_of xs ≡ total (λ (n : Node). length n.drivers) xs = sum-total (λ (n : Node). length n.drivers) xs in omega arith))
 
     by_place : (slice_get (plain Zero ∷ plain One ∷ replicate sources (plain Source)) at ≡ Some n) ⊎ ((j : ℕ) × ((at ≡ length (plain Zero ∷ plain One ∷ replicate sources (plain Source)) + j) × (slice_get b.gates j ≡ Some n))) → IsGateNode n
-    by_place (inl s) = absurd (let low : at < length (plain Zero ∷ plain One ∷ replicate sources (plain Source)) = within (plain Zero ∷ plain One ∷ replicate sources (plain Source)) at n s in let first : length (plain Zero ∷ plain One ∷ replicate sources (plain Source)) ≡ 2 + sources = start_length sources in omega arith)
+    by_place (inl s) = absurd (let low : at < length (plain Zero ∷ plain One ∷ replicate sources (plain Source)) = slice_get_within (plain Zero ∷ plain One ∷ replicate sources (plain Source)) at n s in let first : length (plain Zero ∷ plain One ∷ replicate sources (plain Source)) ≡ 2 + sources = start_length sources in omega arith)
     by_place (inr g) = gate_at b.gates g.0 n b.are_gates g.1.1
 
     kind_by : (one other : Kind) → one ≡ other → IsGateKind other → IsGateKind one
@@ -165,4 +154,4 @@ map_both f [] ys = refl
 map_both f (x ∷ xs) ys = ap (λ (l : List ℕ). f x ∷ l) (map_both f xs ys)
 
 pub map_push : (f : ℕ → ℕ) (xs : List ℕ) (k x : ℕ) → slice_get xs k ≡ Some x → map f (take (k + 1) xs) ≡ map f (take k xs) ++ f x ∷ []
-map_push f xs k x e = ap (λ (l : List ℕ). map f l) (take_push xs k x e) ∙ map_both f (take k xs) (x ∷ [])
+map_push f xs k x e = ap (λ (l : List ℕ). map f l) (take_one_more xs k x e) ∙ map_both f (take k xs) (x ∷ [])

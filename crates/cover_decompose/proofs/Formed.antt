@@ -2,7 +2,7 @@
 use Rattle.std.proofs.Common.{◌≡◌, ◌<◌, ◌≤◌, ◌+◌, ℕ, zero, suc, Bool, true, false, cond, List, [], ◌∷◌, ◌++◌, length, refl, ap, subst, ◌∙◌, ◌⊎◌, inl, inr, arith, append_assoc}
 use Rattle.std.specs.Prelude.{Some, None, Option, slice_get}
 use Rattle.std.specs.List.{AllByRecursion}
-use Rattle.rm_model.specs.Words.{Word, is_word}
+use Rattle.rm_model.specs.Words.{is_word}
 use Rattle.rm_model.specs.declared.parts.Literal.{Literal}
 use Rattle.rm_model.specs.declared.parts.Literal.TheVariants.{Zero, One, Any}
 use Rattle.rm_model.specs.declared.parts.Cover.{Cover}
@@ -12,6 +12,7 @@ use Rattle.gate_net.specs.Net.{Node}
 use Rattle.cover_decompose.specs.Decomposition.{State, with_gate, with_not, literals, joined, term, terms, closed, cover_node, with_cover, with_covers}
 use Rattle.cover_decompose.specs.Built.{AllBelow, IsGateNode}
 use Rattle.cover_decompose.proofs.Places.{get_parts, length-push}
+use Rattle.rm_base.specs.Words.{Word}
 
 -- gates after the first nodes, each over nodes made before it; each signal and each Not is at a node made
 pub record IsMade (first : List Node) (s : State) : Type 0 where

@@ -2,7 +2,7 @@
 use Rattle.std.proofs.Common.{◌≡◌, ◌+◌, ℕ, zero, suc, Bool, true, false, cond, List, [], ◌∷◌, ◌++◌, length, map, get_or, refl, sym, ap, subst, ◌∙◌}
 use Rattle.std.specs.Prelude.{Some, None, Option, replicate, slice_index}
 use Rattle.std.specs.Option.{option_map}
-use Rattle.rm_model.specs.Words.{Word, is_word}
+use Rattle.rm_model.specs.Words.{is_word}
 use Rattle.rm_model.specs.Value.{observed_names, source_names}
 use Rattle.rm_model.specs.WellFormed.{driven_names}
 use Rattle.rm_model.specs.declared.parts.Cover.{Cover}
@@ -15,6 +15,7 @@ use Rattle.cover_decompose.specs.Signals.{signal_of}
 use Rattle.cover_decompose.proofs.Matching.{Matches, covers_match}
 use Rattle.cover_decompose.proofs.NumberingLemmas.{driven-length}
 use Rattle.cover_decompose.proofs.PlanSteps.{length-many, length-numbers}
+use Rattle.rm_base.specs.Words.{Word}
 
 zeros : (n k : ℕ) → ◌≡◌ {A = ℕ} (get_or (replicate n 0) k 0) 0
 zeros zero k = refl

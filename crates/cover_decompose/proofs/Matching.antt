@@ -4,7 +4,7 @@ use Rattle.std.specs.Prelude.{Some, None, Option, slice_get, slice_index}
 use Rattle.std.specs.Option.{option_map}
 use Rattle.std.proofs.lemmas.List.{get_or-set_same, get_or-set_other}
 use Rattle.std.proofs.Math.ListN.{length-set}
-use Rattle.rm_model.specs.Words.{Word, is_word}
+use Rattle.rm_model.specs.Words.{is_word}
 use Rattle.rm_model.specs.declared.parts.Literal.{Literal}
 use Rattle.rm_model.specs.declared.parts.Literal.TheVariants.{Zero, One, Any}
 use Rattle.rm_model.specs.declared.parts.Cover.{Cover}
@@ -15,7 +15,8 @@ use Rattle.cover_decompose.specs.Decomposition.{State, with_entry, with_gate, wi
 use Rattle.cover_decompose.specs.Plan.{Planned, gate_planned, not_planned, not_of, literals_planned, joined_planned, term_planned, terms_planned, closed_planned, node_planned, cover_planned, one_planned, covers_planned}
 use Rattle.cover_decompose.specs.Chosen.{AreNumbered, AtPlaces, Signals}
 use Rattle.cover_decompose.specs.Signals.{signal_of}
-use Rattle.cover_decompose.proofs.Members.{word_refl, word_same}
+use Rattle.rm_base.specs.Words.{Word}
+use Rattle.rm_model.proofs.Public.{is_word-same, same_word}
 
 -- the name at a signal's place
 pub signal_at : (names : List Word) (x : Word) (k : ℕ) → signal_of names x ≡ Some k → slice_get names k ≡ Some x
@@ -23,7 +24,7 @@ signal_at [] x k e = absurd cc
 signal_at (y ∷ ys) x k e = by_test (is_word x y) refl (signal_of ys x) (signal_at ys x) e
   where
     by_test : (b : Bool) → is_word x y ≡ b → (o : Option ℕ) → ((j : ℕ) → o ≡ Some j → slice_get ys j ≡ Some x) → cond b (Some 0) (option_map (λ k. suc k) o) ≡ Some k → slice_get (y ∷ ys) k ≡ Some x
-    by_test true same o next e = let is : 0 ≡ k = cc in let name : y ≡ x = sym (word_same x y same) in rw (← is) (ap (λ (z : Word). Some z) name)
+    by_test true same o next e = let is : 0 ≡ k = cc in let name : y ≡ x = sym (same_word x y same) in rw (← is) (ap (λ (z : Word). Some z) name)
     by_test false same None next e = absurd cc
     by_test false same (Some j) next e = let is : suc j ≡ k = cc in rw (← is) (next j refl)
 
@@ -69,12 +70,12 @@ module _ (names : List Word) where
     where
       by_test : (b : Bool) → is_word y x ≡ b → get_or (set xs k v) j d ≡ cond b v (f y)
       by_test true same =
-          let name : y ≡ x = word_same y x same in
+          let name : y ≡ x = same_word y x same in
           let there : signal_of names x ≡ Some j = ap (λ (z : Word). signal_of names z) (sym name) ∙ e in
           let is : j ≡ k = cc in
           rw is (get_or-set_same xs k v d lt)
       by_test false same =
-          let ne : j ≢ k = (λ is. let name : y ≡ x = same_signal names y x j e (at ∙ ap (λ (n : ℕ). Some n) (sym is)) in let here : is_word y x ≡ true = ap (λ (z : Word). is_word y z) (sym name) ∙ word_refl y in let bad : true ≡ false = sym here ∙ same in cc) in
+          let ne : j ≢ k = (λ is. let name : y ≡ x = same_signal names y x j e (at ∙ ap (λ (n : ℕ). Some n) (sym is)) in let here : is_word y x ≡ true = ap (λ (z : Word). is_word y z) (sym name) ∙ is_word-same y in let bad : true ≡ false = sym here ∙ same in cc) in
           get_or-set_other xs k j v d ne ∙ h y j e
 
   not_matches : (p : Planned) (s : State) (x : Word) (k : ℕ) (o : Option ℕ) → Matches p s → signal_of names x ≡ Some k → Matches (not_planned p k o).0 (with_not s x o).0 × ((not_planned p k o).1 ≡ (with_not s x o).1)

@@ -1,98 +1,15 @@
 -- Elements of a list, and names among names.
-use Rattle.std.proofs.Common.{◌≡◌, ◌<◌, ◌+◌, ℕ, zero, suc, Bool, true, false, cond, List, [], ◌∷◌, ◌++◌, length, map, get_or, refl, sym, ap, ◌∙◌, ◌⊎◌, inl, inr, arith}
-use Rattle.std.specs.Prelude.{◌||◌, ◌&&◌, Some, None, position, slice_get, filter, Contains}
-use Rattle.std.specs.List.{list_any, list_all, AllByRecursion, position_from}
-use Rattle.std.proofs.lemmas.Iterator.Adapters.{position_from-zero}
-use Rattle.std.proofs.lemmas.Slice.Eq.{bytes_eq-Decides}
-use Rattle.rm_model.specs.Words.{Word, is_word}
+use Rattle.std.proofs.Common.{◌≡◌, Bool, true, false, List, [], ◌∷◌, refl, sym, ◌⊎◌, inl, inr}
+use Rattle.std.specs.Prelude.{◌||◌}
+use Rattle.rm_model.specs.Words.{is_word}
 use Rattle.rm_model.specs.Value.{is_among}
-
-abbrev pub In : {A : Type 0} → List A → A → Type 0
-In [] y = ⊥
-In (x ∷ xs) y = (x ≡ y) ⊎ In xs y
-
-pub in_append : {A : Type 0} (xs ys : List A) (y : A) → In (xs ++ ys) y → In xs y ⊎ In ys y
-in_append [] ys y h = inr h
-in_append (x ∷ xs) ys y (inl e) = inl (inl e)
-in_append (x ∷ xs) ys y (inr h) = elim (in_append xs ys y h) [ inl a ↦ inl (inr a) | inr b ↦ inr b ]
-
-pub in_left : {A : Type 0} (xs ys : List A) (y : A) → In xs y → In (xs ++ ys) y
-in_left [] ys y h = absurd h
-in_left (x ∷ xs) ys y (inl e) = inl e
-in_left (x ∷ xs) ys y (inr h) = inr (in_left xs ys y h)
-
-pub in_right : {A : Type 0} (xs ys : List A) (y : A) → In ys y → In (xs ++ ys) y
-in_right [] ys y h = h
-in_right (x ∷ xs) ys y h = inr (in_right xs ys y h)
-
-pub in_filter : {A : Type 0} (test : A → Bool) (xs : List A) (y : A) → In (filter test xs) y → In xs y × (test y ≡ true)
-in_filter test [] y h = absurd h
-in_filter test (x ∷ xs) y h = by_test (test x) refl (in_filter test xs y) h
-  where
-    by_test : (b : Bool) → test x ≡ b → (In (filter test xs) y → In xs y × (test y ≡ true)) → In (cond b (x ∷ filter test xs) (filter test xs)) y → ((x ≡ y) ⊎ In xs y) × (test y ≡ true)
-    by_test true is next (inl e) = (inl e, ap test (sym e) ∙ is)
-    by_test true is next (inr h) = let r = next h in (inr r.0, r.1)
-    by_test false is next h = let r = next h in (inr r.0, r.1)
-
-pub in_filtered : {A : Type 0} (test : A → Bool) (xs : List A) (y : A) → In xs y → test y ≡ true → In (filter test xs) y
-in_filtered test [] y h t = absurd h
-in_filtered test (x ∷ xs) y h t = by_test (test x) refl (λ m. in_filtered test xs y m t) h
-  where
-    by_test : (b : Bool) → test x ≡ b → (In xs y → In (filter test xs) y) → (x ≡ y) ⊎ In xs y → In (cond b (x ∷ filter test xs) (filter test xs)) y
-    by_test true is next (inl e) = inl e
-    by_test true is next (inr h) = inr (next h)
-    by_test false is next (inl e) = let bad : true ≡ false = sym t ∙ (ap test (sym e) ∙ is) in absurd cc
-    by_test false is next (inr h) = next h
-
-pub in_map : {A B : Type 0} (f : A → B) (xs : List A) (y : B) → In (map f xs) y → (x : A) × (In xs x × (f x ≡ y))
-in_map f [] y h = absurd h
-in_map f (x ∷ xs) y (inl e) = (x, (inl refl, e))
-in_map f (x ∷ xs) y (inr h) = let r = in_map f xs y h in (r.0, (inr r.1.0, r.1.1))
-
-pub in_mapped : {A B : Type 0} (f : A → B) (xs : List A) (x : A) → In xs x → In (map f xs) (f x)
-in_mapped f [] x h = absurd h
-in_mapped f (y ∷ xs) x (inl e) = inl (ap f e)
-in_mapped f (y ∷ xs) x (inr h) = inr (in_mapped f xs x h)
-
-pub in_at : {A : Type 0} (xs : List A) (k : ℕ) (x : A) → slice_get xs k ≡ Some x → In xs x
-in_at [] k x e = absurd cc
-in_at (y ∷ xs) zero x e = inl cc
-in_at (y ∷ xs) (suc k) x e = inr (in_at xs k x e)
-
-pub in_contains : {A : Type 0} (xs : List A) (x : A) → In xs x → Contains xs x
-in_contains [] x h = absurd h
-in_contains (y ∷ xs) x (inl e) = (0, omega arith, e)
-in_contains (y ∷ xs) x (inr h) = let r = in_contains xs x h in (suc r.0, omega (arith, r.1), r.2)
-
-pub in_contained : {A : Type 0} (xs : List A) (x : A) (k : ℕ) → k < length xs → get_or xs k x ≡ x → In xs x
-in_contained [] x k lt e = absurd (omega arith)
-in_contained (y ∷ xs) x zero lt e = inl e
-in_contained (y ∷ xs) x (suc k) lt e = inr (in_contained xs x k (omega arith) e)
-
-pub all_in : {A : Type 0} (P : A → Type 0) (xs : List A) (x : A) → AllByRecursion P xs → In xs x → P x
-all_in P [] x h m = absurd m
-all_in P (y ∷ xs) x h (inl e) = let Q : _ → Type 0 = P in rw (← e) h.0
-all_in P (y ∷ xs) x h (inr m) = all_in P xs x h.1 m
-
-pub all_from : {A : Type 0} (P : A → Type 0) (xs : List A) → ((x : A) → In xs x → P x) → AllByRecursion P xs
-all_from P [] h = tt
-all_from P (x ∷ xs) h = (h x (inl refl), all_from P xs (λ y m. h y (inr m)))
-
--- P at each place
-pub all_by_index : {A : Type 0} (P : A → Type 0) (xs : List A) → ((k : ℕ) (d : A) → k < length xs → P (get_or xs k d)) → AllByRecursion P xs
-all_by_index P [] h = tt
-all_by_index P (x ∷ xs) h = (h 0 x (omega arith), all_by_index P xs (λ k d lt. h (suc k) d (omega arith)))
-
--- names
-pub word_refl : (x : Word) → is_word x x ≡ true
-word_refl x = (bytes_eq-Decides x x).1 refl
-
-pub word_same : (x y : Word) → is_word x y ≡ true → x ≡ y
-word_same x y e = (bytes_eq-Decides x y).0 e
+use Rattle.rm_base.specs.Members.{In}
+use Rattle.rm_base.specs.Words.{Word}
+use Rattle.rm_model.proofs.Public.{is_word-same, same_word}
 
 pub among_in : (xs : List Word) (x : Word) → In xs x → is_among xs x ≡ true
 among_in [] x h = absurd h
-among_in (y ∷ xs) x (inl e) = let same : is_word x y ≡ true = rw e (word_refl x) in rw same refl
+among_in (y ∷ xs) x (inl e) = let same : is_word x y ≡ true = rw e (is_word-same x) in rw same refl
 among_in (y ∷ xs) x (inr h) = let rest : is_among xs x ≡ true = among_in xs x h in by_test (is_word x y) rest
   where
     by_test : (b : Bool) → is_among xs x ≡ true → (b || is_among xs x) ≡ true
@@ -104,50 +21,5 @@ in_among [] x e = absurd cc
 in_among (y ∷ xs) x e = by_test (is_word x y) refl (in_among xs x) e
   where
     by_test : (b : Bool) → is_word x y ≡ b → (is_among xs x ≡ true → In xs x) → (b || is_among xs x) ≡ true → (y ≡ x) ⊎ In xs x
-    by_test true same next e = inl (sym (word_same x y same))
+    by_test true same next e = inl (sym (same_word x y same))
     by_test false same next e = inr (next e)
-
-pub or_left : (a b : Bool) → a ≡ true → (a || b) ≡ true
-or_left a b e = rw e refl
-
-pub or_right : (a b : Bool) → b ≡ true → (a || b) ≡ true
-or_right true b e = refl
-or_right false b e = e
-
-pub or_cases : (a b : Bool) → (a || b) ≡ true → (a ≡ true) ⊎ (b ≡ true)
-or_cases true b e = inl refl
-or_cases false b e = inr e
-
-pub any_in : {A : Type 0} (test : A → Bool) (xs : List A) (x : A) → In xs x → test x ≡ true → list_any test xs ≡ true
-any_in test [] x h t = absurd h
-any_in test (y ∷ xs) x (inl e) t = or_left (test y) (list_any test xs) (ap test e ∙ t)
-any_in test (y ∷ xs) x (inr h) t = or_right (test y) (list_any test xs) (any_in test xs x h t)
-
-pub in_any : {A : Type 0} (test : A → Bool) (xs : List A) → list_any test xs ≡ true → (x : A) × (In xs x × (test x ≡ true))
-in_any test [] e = absurd cc
-in_any test (y ∷ xs) e =
-    elim (or_cases (test y) (list_any test xs) e) [
-      | inl t ↦ (y, (inl refl, t))
-      | inr t ↦ let r = in_any test xs t in (r.0, (inr r.1.0, r.1.1))
-    ]
-
-pub all_pass_in : {A : Type 0} (test : A → Bool) (xs : List A) (x : A) → list_all test xs ≡ true → In xs x → test x ≡ true
-all_pass_in test [] x e h = absurd h
-all_pass_in test (y ∷ xs) x e h = by_test (test y) refl (all_pass_in test xs x) e h
-  where
-    by_test : (b : Bool) → test y ≡ b → (list_all test xs ≡ true → In xs x → test x ≡ true) → (b && list_all test xs) ≡ true → (y ≡ x) ⊎ In xs x → test x ≡ true
-    by_test true t next e (inl same) = ap test (sym same) ∙ t
-    by_test true t next e (inr h) = next e h
-    by_test false t next e h = absurd cc
-
--- where no place is found, no element passes
-none_from : {A : Type 0} (test : A → Bool) (i : ℕ) (xs : List A) → position_from test i xs ≡ None → AllByRecursion (λ x. test x ≡ false) xs
-none_from test i [] e = tt
-none_from test i (x ∷ xs) e = by_test (test x) refl (none_from test (i + 1) xs) e
-  where
-    by_test : (b : Bool) → test x ≡ b → (position_from test (i + 1) xs ≡ None → AllByRecursion (λ y. test y ≡ false) xs) → cond b (Some i) (position_from test (i + 1) xs) ≡ None → (test x ≡ false) × AllByRecursion (λ y. test y ≡ false) xs
-    by_test true is next e = absurd cc
-    by_test false is next e = (is, next e)
-
-pub none_found : {A : Type 0} (test : A → Bool) (xs : List A) → position test xs ≡ None → AllByRecursion (λ x. test x ≡ false) xs
-none_found test xs e = none_from test 0 xs (sym (position_from-zero test xs) ∙ e)

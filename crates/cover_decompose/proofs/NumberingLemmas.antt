@@ -6,7 +6,7 @@ use Rattle.std.specs.List.{AllByRecursion, filter_map, flat_map, list_all, zip}
 use Rattle.std.proofs.lemmas.Option.{slice_get-map}
 use Rattle.std.proofs.Math.ListN.{length-set}
 use Rattle.rm_model.specs.Ranks.{rank_at, ranks_of}
-use Rattle.rm_model.specs.Words.{Word, is_word}
+use Rattle.rm_model.specs.Words.{is_word}
 use Rattle.rm_model.specs.Value.{control_of, is_among, observed_names, source_names}
 use Rattle.rm_model.specs.WellFormed.{IsWellFormed, IsWellFormedCover, driven_names, is_distinct, used_names}
 use Rattle.rm_model.specs.declared.parts.Cover.{Cover}
@@ -20,21 +20,24 @@ use Rattle.cover_decompose.specs.Signals.{signal_of}
 use Rattle.cover_decompose.specs.Tally.{AreEven, covers_tally}
 use Rattle.cover_decompose.proofs.Choosing.{Marked, Pairs, covers_tally_match, needed_match, placed_pairs, ranks_places, set_marks}
 use Rattle.cover_decompose.proofs.Matching.{signal_within, signals_from}
-use Rattle.cover_decompose.proofs.Members.{In, all_by_index, all_pass_in, among_in, in_at, in_left, in_right, word_refl, word_same}
+use Rattle.cover_decompose.proofs.Members.{among_in}
 use Rattle.cover_decompose.proofs.Places.{get_right}
 use Rattle.cover_decompose.proofs.Points.{distinct_rest}
 use Rattle.cover_decompose.proofs.Ranked.{in_flat, observed_is_used}
 use Rattle.cover_decompose.proofs.Sums.{sum-total}
+use Rattle.rm_base.proofs.Public.{all_by_index, in_at}
+use Rattle.rm_base.specs.Words.{Word}
+use Rattle.rm_model.proofs.Public.{is_word-same, same_word}
 
 -- among distinct names a name's number is its place
 pub signal_exact : (names : List Word) (k : ℕ) (x : Word) → is_distinct names ≡ true → slice_get names k ≡ Some x → signal_of names x ≡ Some k
 signal_exact [] k x d e = absurd cc
-signal_exact (y ∷ ys) zero x d e = let is : y ≡ x = cc in let same : is_word x y ≡ true = ap (λ (z : Word). is_word x z) is ∙ word_refl x in rw same refl
+signal_exact (y ∷ ys) zero x d e = let is : y ≡ x = cc in let same : is_word x y ≡ true = ap (λ (z : Word). is_word x z) is ∙ is_word-same x in rw same refl
 signal_exact (y ∷ ys) (suc k) x d e = by_test (is_word x y) refl (distinct_rest y ys d).0 (signal_exact ys k x (distinct_rest y ys d).1 e)
   where
     by_test : (b : Bool) → is_word x y ≡ b → is_among ys y ≡ false → signal_of ys x ≡ Some k → cond b (Some 0) (option_map (λ k. suc k) (signal_of ys x)) ≡ Some (suc k)
     by_test true same out rest =
-        let there : is_among ys y ≡ true = ap (λ (z : Word). is_among ys z) (sym (word_same x y same)) ∙ among_in ys x (in_at ys k x e) in
+        let there : is_among ys y ≡ true = ap (λ (z : Word). is_among ys z) (sym (same_word x y same)) ∙ among_in ys x (in_at ys k x e) in
         let bad : true ≡ false = sym there ∙ out in absurd cc
     by_test false same out rest = ap (λ (o : Option ℕ). option_map (λ k. suc k) o) rest
 

@@ -3,11 +3,16 @@ use Rattle.std.proofs.Common.{◌≡◌, ◌<◌, ◌≤◌, ◌+◌, ℕ, zero,
 use Rattle.std.specs.Prelude.{◌==◌, filter}
 use Rattle.std.specs.List.{list_any, AllByRecursion}
 use Rattle.std.proofs.lemmas.Bool.Decides.{eqb_tells}
-use Rattle.rm_model.specs.Words.{Word, is_word}
+use Rattle.std.proofs.lemmas.Bool.{or_cases, or_left, or_right}
+use Rattle.rm_model.specs.Words.{is_word}
 use Rattle.rm_model.specs.Value.{is_among}
 use Rattle.rm_model.specs.declared.parts.Cover.{Cover}
 use Rattle.cover_decompose.specs.Needed.{of_rank, of_ranks, is_needed, needed_of}
-use Rattle.cover_decompose.proofs.Members.{In, in_append, in_filter, in_filtered, in_left, in_map, in_mapped, in_right, all_from, all_in, among_in, or_cases, or_left, or_right, word_refl, word_same}
+use Rattle.cover_decompose.proofs.Members.{among_in}
+use Rattle.rm_base.proofs.Public.{all_from_members, all_in, in_append, in_filter, in_filtered, in_left, in_map, in_mapped, in_right}
+use Rattle.rm_base.specs.Members.{In}
+use Rattle.rm_base.specs.Words.{Word}
+use Rattle.rm_model.proofs.Public.{is_word-same, same_word}
 
 abbrev pub outputs_onto : List Word → List Cover → List Word
 outputs_onto done [] = done
@@ -45,7 +50,7 @@ onto_keeps done (c ∷ cs) x h = onto_keeps (c.output ∷ done) cs x (among_one_
 pub onto_outputs : (done : List Word) (cs : List Cover) (c : Cover) → In cs c → is_among (outputs_onto done cs) c.output ≡ true
 onto_outputs done [] c h = absurd h
 onto_outputs done (d ∷ cs) c (inl e) =
-    onto_keeps (d.output ∷ done) cs c.output (or_left (is_word c.output d.output) (is_among done c.output) (let same : d.output ≡ c.output = ap (λ (k : Cover). k.output) e in rw same (word_refl c.output)))
+    onto_keeps (d.output ∷ done) cs c.output (or_left (is_word c.output d.output) (is_among done c.output) (let same : d.output ≡ c.output = ap (λ (k : Cover). k.output) e in rw same (is_word-same c.output)))
 onto_outputs done (d ∷ cs) c (inr h) = onto_outputs (d.output ∷ done) cs c h
 
 reading_append : (done : List Word) (cs ds : List Cover) → Reading done cs → Reading (outputs_onto done cs) ds → Reading done (cs ++ ds)
@@ -101,7 +106,7 @@ pub record Lower (first : List Word) (ranked : List (ℕ × Cover)) (n : ℕ) (d
 
 reading_rank : (sources : List Word) (ranked : List (ℕ × Cover)) (n : ℕ) (done : List Word) → ReadsLower sources ranked → Lower sources ranked n done → (c : Cover) → In (of_rank ranked n) c → AreAmong done c.inputs
 reading_rank sources ranked n done lower l c h =
-    all_from (λ x. is_among done x ≡ true) c.inputs
+    all_from_members (λ x. is_among done x ≡ true) c.inputs
     (λ x m. elim (lower n c (of_rank-in ranked n c h) x m) [
       | inl s ↦ l.sources x s
       | inr r ↦ let there : is_among done r.1.0.output ≡ true = l.outputs r.0 r.1.0 r.1.1.0 r.1.1.1.0 in rw (← r.1.1.1.1) there
@@ -139,7 +144,7 @@ needed_here observed c later x h =
     or_right (is_among observed x) (list_any (λ (d : Cover). is_among d.inputs x) (c ∷ later)) (or_left (is_among c.inputs x) (list_any (λ (d : Cover). is_among d.inputs x) later) h)
 
 among_cases : (y : Word) (xs : List Word) (x : Word) → is_among (y ∷ xs) x ≡ true → (x ≡ y) ⊎ (is_among xs x ≡ true)
-among_cases y xs x h = elim (or_cases (is_word x y) (is_among xs x) h) [ inl a ↦ inl (word_same x y a) | inr b ↦ inr b ]
+among_cases y xs x h = elim (or_cases (is_word x y) (is_among xs x) h) [ inl a ↦ inl (same_word x y a) | inr b ↦ inr b ]
 
 -- where the cover isn't needed, its output isn't kept
 keeps_without : (observed full kept : List Word) (c : Cover) (later : List Cover) → is_needed observed later c.output ≡ false → Keeps observed full later kept → Keeps observed (c.output ∷ full) later kept
@@ -152,7 +157,7 @@ keeps_without observed full kept c later unneeded h x e need =
 keeps_with : (observed full kept : List Word) (c : Cover) (later : List Cover) → Keeps observed full (c ∷ later) kept → Keeps observed (c.output ∷ full) later (c.output ∷ kept)
 keeps_with observed full kept c later h x e need =
     elim (among_cases c.output full x e) [
-      | inl same ↦ let here : is_word x c.output ≡ true = rw same (word_refl c.output) in or_left (is_word x c.output) (is_among kept x) here
+      | inl same ↦ let here : is_word x c.output ≡ true = rw same (is_word-same c.output) in or_left (is_word x c.output) (is_among kept x) here
       | inr there ↦ or_right (is_word x c.output) (is_among kept x) (h x there (needed_later observed c later x need))
     ]
 
@@ -162,7 +167,7 @@ reading_needed observed full kept [] r h = tt
 reading_needed observed full kept (c ∷ cs) r h = by_need (is_needed observed (needed_of observed cs) c.output) refl (λ more. reading_needed observed (c.output ∷ full) more cs r.1) h
   where
     inputs_kept : Keeps observed full (c ∷ needed_of observed cs) kept → AreAmong kept c.inputs
-    inputs_kept h = all_from (λ x. is_among kept x ≡ true) c.inputs (λ x m. h x (all_in (λ y. is_among full y ≡ true) c.inputs x r.0 m) (needed_here observed c (needed_of observed cs) x (among_in c.inputs x m)))
+    inputs_kept h = all_from_members (λ x. is_among kept x ≡ true) c.inputs (λ x m. h x (all_in (λ y. is_among full y ≡ true) c.inputs x r.0 m) (needed_here observed c (needed_of observed cs) x (among_in c.inputs x m)))
 
     by_need : (b : Bool) → is_needed observed (needed_of observed cs) c.output ≡ b → ((more : List Word) → Keeps observed (c.output ∷ full) (needed_of observed cs) more → Reading more (needed_of observed cs))
         → Keeps observed full (cond b (c ∷ needed_of observed cs) (needed_of observed cs)) kept → Reading kept (cond b (c ∷ needed_of observed cs) (needed_of observed cs))

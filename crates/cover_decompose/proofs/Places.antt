@@ -2,15 +2,6 @@
 use Rattle.std.proofs.Common.{◌≡◌, ◌+◌, ℕ, zero, suc, List, [], ◌∷◌, ◌++◌, length, refl, ap, arith, ◌⊎◌, inl, inr}
 use Rattle.std.specs.Prelude.{Some, slice_get}
 
-pub get_left : {A : Type 0} (xs ys : List A) (k : ℕ) (x : A) → slice_get xs k ≡ Some x → slice_get (xs ++ ys) k ≡ Some x
-get_left [] ys k x e = absurd cc
-get_left (y ∷ xs) ys zero x e = e
-get_left (y ∷ xs) ys (suc k) x e = get_left xs ys k x e
-
-pub get_seam : {A : Type 0} (xs : List A) (y : A) (ys : List A) → slice_get (xs ++ y ∷ ys) (length xs) ≡ Some y
-get_seam [] y ys = refl
-get_seam (x ∷ xs) y ys = get_seam xs y ys
-
 -- an element of two lists is at its place in the first, or that much further in the second
 pub get_parts : {A : Type 0} (xs ys : List A) (k : ℕ) (x : A) → slice_get (xs ++ ys) k ≡ Some x → (slice_get xs k ≡ Some x) ⊎ ((j : ℕ) × ((k ≡ length xs + j) × (slice_get ys j ≡ Some x)))
 get_parts [] ys k x e = inr (k, (omega arith, e))

@@ -6,12 +6,7 @@ use Rattle.gate_net.specs.Net.{Node}
 use Rattle.rm_model.specs.declared.parts.Cover.{Cover}
 use Rattle.rm_model.specs.declared.parts.Literal.{Literal}
 use Rattle.cover_decompose.specs.Plan.{Planned, counting, cover_planned, covers_planned, one_planned, literal_planned, literals_planned, term_planned, terms_planned}
-
-pub drop_past : {A : Type 0} (xs : List A) (n : ℕ) → length xs ≤ n → drop n xs ≡ []
-drop_past [] zero le = refl
-drop_past [] (suc n) le = refl
-drop_past (x ∷ xs) zero le = absurd (omega arith)
-drop_past (x ∷ xs) (suc n) le = drop_past xs n (omega arith)
+use Rattle.rm_base.proofs.Public.{drop_end}
 
 pub drop_at : {A : Type 0} (xs : List A) (n : ℕ) (x : A) → n < length xs → x ≡ get_or xs n x → drop n xs ≡ x ∷ drop (n + 1) xs
 drop_at xs n x lt e = drop-cons xs n x lt ∙ (ap (λ (y : _). y ∷ drop (suc n) xs) (sym e) ∙ rw add-one refl)
@@ -43,7 +38,7 @@ literals_step p inputs row q r done more i k l h lt lr ek el er em kept =
 
 pub literals_end : (p : Planned) (inputs : List ℕ) (row : List Literal) (q : Planned) (done : List ℕ) (i : ℕ) → LiteralsLeft p inputs row q done i → length row ≤ i → (q ≡ (literals_planned p inputs row).0) × (done ≡ (literals_planned p inputs row).1)
 literals_end p inputs row q done i h le =
-    let none : drop i row ≡ [] = drop_past row i le in
+    let none : drop i row ≡ [] = drop_end row i le in
     let left : literals_planned q (drop i inputs) (drop i row) ≡ (q, []) = rw none (no_literals q (drop i inputs)) in
     (sym (h.plan ∙ ap (λ (t : Planned × List ℕ). t.0) left), sym (h.nodes ∙ (ap (λ (t : Planned × List ℕ). done ++ t.1) left ∙ append_nothing done)))
   where
@@ -73,7 +68,7 @@ terms_step p inputs rows q r done more i n row h lr el er en em kept =
 
 pub terms_end : (p : Planned) (inputs : List ℕ) (rows : List (List Literal)) (q : Planned) (done : List ℕ) (i : ℕ) → TermsLeft p inputs rows q done i → length rows ≤ i → (q ≡ (terms_planned p inputs rows).0) × (done ≡ (terms_planned p inputs rows).1)
 terms_end p inputs rows q done i h le =
-    let none : drop i rows ≡ [] = drop_past rows i le in
+    let none : drop i rows ≡ [] = drop_end rows i le in
     let left : terms_planned q inputs (drop i rows) ≡ (q, []) = rw none refl in
     (sym (h.plan ∙ ap (λ (t : Planned × List ℕ). t.0) left), sym (h.nodes ∙ (ap (λ (t : Planned × List ℕ). done ++ t.1) left ∙ append_nothing done)))
   where
@@ -112,7 +107,7 @@ covers_step p covers inputs first places q r i k h lt e er kept =
     record { plan = h.plan ∙ rw (d, er) refl; kept = kept ∙ h.kept }
 
 pub covers_end : (p : Planned) (covers : List Cover) (inputs : List (List ℕ)) (first : ℕ) (places : List ℕ) (q : Planned) (i : ℕ) → CoversLeft p covers inputs first places q i → length places ≤ i → q ≡ covers_planned p covers inputs first places
-covers_end p covers inputs first places q i h le = let none : drop i places ≡ [] = drop_past places i le in sym (h.plan ∙ rw none refl)
+covers_end p covers inputs first places q i h le = let none : drop i places ≡ [] = drop_end places i le in sym (h.plan ∙ rw none refl)
 
 pub planned_there : (p : Planned) (covers : List Cover) (inputs : List (List ℕ)) (first k : ℕ) (c : Cover) (ks : List ℕ) → slice_get covers k ≡ Some c → slice_get inputs k ≡ Some ks → one_planned p (slice_get covers k) (slice_get inputs k) (first + k) ≡ cover_planned p ks (first + k) c
 planned_there p covers inputs first k c ks e f = rw (e, f) refl

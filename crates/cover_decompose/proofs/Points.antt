@@ -4,7 +4,8 @@ use Rattle.std.specs.Prelude.{Some, None, Option, slice_get, ◌&&◌}
 use Rattle.std.specs.Option.{option_map}
 use Rattle.std.specs.List.{list_any}
 use Rattle.std.proofs.lemmas.Option.{slice_get-map}
-use Rattle.rm_model.specs.Words.{Word, is_word}
+use Rattle.std.proofs.lemmas.Bool.{or_cases}
+use Rattle.rm_model.specs.Words.{is_word}
 use Rattle.rm_model.specs.Value.{is_among, source_names, observed_names}
 use Rattle.rm_model.specs.WellFormed.{is_distinct}
 use Rattle.rm_model.specs.declared.parts.Cover.{Cover}
@@ -16,9 +17,13 @@ use Rattle.gate_net.specs.declared.Kind.TheVariants.{And, Or}
 use Rattle.cover_decompose.specs.Needed.{is_needed, needed_of, taken, IsNeeded, observed, read}
 use Rattle.cover_decompose.specs.Decomposition.{State, cover_node, closed, joined, last_state, literals, net_of_model, source_node, start, term, terms, with_cover, with_covers, with_not}
 use Rattle.cover_decompose.specs.StandsFor.{HasPoints}
-use Rattle.cover_decompose.proofs.Members.{In, all_in, among_in, in_among, in_any, in_at, in_contained, in_contains, in_left, in_mapped, in_right, or_cases, word_refl, word_same}
+use Rattle.cover_decompose.proofs.Members.{among_in, in_among}
 use Rattle.cover_decompose.proofs.Order.{Reading, outputs_onto}
 use Rattle.cover_decompose.proofs.Ranked.{IsRankable, observed_there, taken_in, taken_reading}
+use Rattle.rm_base.proofs.Public.{all_in, in_any, in_at, in_contained, in_contains, in_mapped, in_right}
+use Rattle.rm_base.specs.Members.{In}
+use Rattle.rm_base.specs.Words.{Word}
+use Rattle.rm_model.proofs.Public.{distinct-left, distinct-right, is_word-same, same_word}
 
 pub distinct_rest : (x : Word) (xs : List Word) → is_distinct (x ∷ xs) ≡ true → (is_among xs x ≡ false) × (is_distinct xs ≡ true)
 distinct_rest x xs e = by_test (is_among xs x) e
@@ -35,18 +40,6 @@ distinct_parts (y ∷ xs) ys x e (inl same) k =
     let there : is_among (xs ++ ys) y ≡ true = ap (λ (z : Word). is_among (xs ++ ys) z) same ∙ among_in (xs ++ ys) x (in_right xs ys x k) in
     let bad : true ≡ false = sym there ∙ d.0 in absurd cc
 distinct_parts (y ∷ xs) ys x e (inr h) k = distinct_parts xs ys x (distinct_rest y (xs ++ ys) e).1 h k
-
-distinct_right : (xs ys : List Word) → is_distinct (xs ++ ys) ≡ true → is_distinct ys ≡ true
-distinct_right [] ys e = e
-distinct_right (x ∷ xs) ys e = distinct_right xs ys (distinct_rest x (xs ++ ys) e).1
-
-pub distinct_left : (xs ys : List Word) → is_distinct (xs ++ ys) ≡ true → is_distinct xs ≡ true
-distinct_left [] ys e = refl
-distinct_left (x ∷ xs) ys e = by_test (is_among xs x) refl (distinct_rest x (xs ++ ys) e).0 (distinct_left xs ys (distinct_rest x (xs ++ ys) e).1)
-  where
-    by_test : (b : Bool) → is_among xs x ≡ b → is_among (xs ++ ys) x ≡ false → is_distinct xs ≡ true → (not b && is_distinct xs) ≡ true
-    by_test true is out rest = let bad : true ≡ false = sym (among_in (xs ++ ys) x (in_left xs ys x (in_among xs x is))) ∙ out in absurd cc
-    by_test false is out rest = rest
 
 outputs_differ : (cs : List Cover) (c d : Cover) → is_distinct (map (λ (c : Cover). c.output) cs) ≡ true → In cs c → In cs d → c.output ≡ d.output → c ≡ d
 outputs_differ [] c d e h k same = absurd h
@@ -67,7 +60,7 @@ onto_cases : (done : List Word) (cs : List Cover) (x : Word) → is_among (outpu
 onto_cases done [] x e = inl e
 onto_cases done (c ∷ cs) x e =
     elim (onto_cases (c.output ∷ done) cs x e) [
-      | inl a ↦ elim (or_cases (is_word x c.output) (is_among done x) a) [ inl same ↦ inr (c, (inl refl, sym (word_same x c.output same))) | inr b ↦ inl b ]
+      | inl a ↦ elim (or_cases (is_word x c.output) (is_among done x) a) [ inl same ↦ inr (c, (inl refl, sym (same_word x c.output same))) | inr b ↦ inl b ]
       | inr d ↦ inr (d.0, (inr d.1.0, d.1.1))
     ]
 
@@ -77,7 +70,7 @@ reading_there done [] c x r h i = absurd h
 reading_there done (b ∷ cs) c x r (inl same) i = inl (all_in (λ y. is_among done y ≡ true) b.inputs x r.0 (let P : Cover → Type 0 = λ y. In y.inputs x in subst P (sym same) i))
 reading_there done (b ∷ cs) c x r (inr h) i =
     elim (reading_there (b.output ∷ done) cs c x r.1 h i) [
-      | inl a ↦ elim (or_cases (is_word x b.output) (is_among done x) a) [ inl same ↦ inr (b, (inl refl, sym (word_same x b.output same))) | inr k ↦ inl k ]
+      | inl a ↦ elim (or_cases (is_word x b.output) (is_among done x) a) [ inl same ↦ inr (b, (inl refl, sym (same_word x b.output same))) | inr k ↦ inl k ]
       | inr d ↦ inr (d.0, (inr d.1.0, d.1.1))
     ]
 
@@ -115,17 +108,17 @@ other_kept s [] x h = refl
 other_kept s (c ∷ cs) x h = other_kept (with_cover s c) cs x (λ d i. h d (inr i)) ∙ by_test (is_word x c.output) refl
   where
     by_test : (b : Bool) → is_word x c.output ≡ b → cond b (cover_node s c).1 ((cover_node s c).0.node_of x) ≡ s.node_of x
-    by_test true same = absurd (h c (inl refl) (sym (word_same x c.output same)))
+    by_test true same = absurd (h c (inl refl) (sym (same_word x c.output same)))
     by_test false same = ap (λ (f : Word → ℕ). f x) (cover_nodes s c)
 
 source_at : (n : ℕ) (xs : List Word) (k : ℕ) (x : Word) → is_distinct xs ≡ true → slice_get xs k ≡ Some x → source_node n xs x ≡ n + k
 source_at n [] k x e h = absurd cc
-source_at n (y ∷ xs) zero x e h = let is : y ≡ x = cc in let same : is_word x y ≡ true = ap (λ (z : Word). is_word x z) is ∙ word_refl x in rw same (omega arith)
+source_at n (y ∷ xs) zero x e h = let is : y ≡ x = cc in let same : is_word x y ≡ true = ap (λ (z : Word). is_word x z) is ∙ is_word-same x in rw same (omega arith)
 source_at n (y ∷ xs) (suc k) x e h = by_test (is_word x y) refl (distinct_rest y xs e).0 (source_at (suc n) xs k x (distinct_rest y xs e).1 h)
   where
     by_test : (b : Bool) → is_word x y ≡ b → is_among xs y ≡ false → source_node (suc n) xs x ≡ suc n + k → cond b n (source_node (suc n) xs x) ≡ n + suc k
     by_test true same out rest =
-        let there : is_among xs y ≡ true = ap (λ (z : Word). is_among xs z) (sym (word_same x y same)) ∙ among_in xs x (in_at xs k x h) in
+        let there : is_among xs y ≡ true = ap (λ (z : Word). is_among xs z) (sym (same_word x y same)) ∙ among_in xs x (in_at xs k x h) in
         let bad : true ≡ false = sym there ∙ out in absurd cc
     by_test false same out rest = omega arith
 
@@ -134,7 +127,7 @@ module _ (m : Model) (h : IsRankable m) where
   not_source c i s = distinct_parts (source_names m) (map (λ (c : Cover). c.output) m.covers) c.output h.formed.driven_once s (in_mapped (λ (c : Cover). c.output) m.covers c i)
 
   pub same_cover : (c d : Cover) → In m.covers c → In m.covers d → c.output ≡ d.output → c ≡ d
-  same_cover c d i j e = outputs_differ m.covers c d (distinct_right (source_names m) (map (λ (c : Cover). c.output) m.covers) h.formed.driven_once) i j e
+  same_cover c d i j e = outputs_differ m.covers c d (distinct-right (source_names m) (map (λ (c : Cover). c.output) m.covers) h.formed.driven_once) i j e
 
   -- a cover whose output is there is taken
   pub taken_there : (c : Cover) (x : Word) → In m.covers c → c.output ≡ x → (is_among (source_names m) x ≡ true) ⊎ ((d : Cover) × (In (taken m) d × (d.output ≡ x))) → In (taken m) c
@@ -173,5 +166,5 @@ module _ (m : Model) (h : IsRankable m) where
     own = λ i k x a b.
         slice_get-map (last_state m).node_of (observed_names m) i ∙ (ap (λ (o : Option Word). option_map (last_state m).node_of o) a ∙ ap (λ (n : ℕ). Some n)
         (other_kept (start m) (taken m) x (λ c t e. not_source c (taken_in m h c t) (let P : Word → Type 0 = λ y. In (source_names m) y in subst P (sym e) (in_at (source_names m) k x b)))
-        ∙ source_at 2 (source_names m) k x (distinct_left (source_names m) (map (λ (c : Cover). c.output) m.covers) h.formed.driven_once) b));
+        ∙ source_at 2 (source_names m) k x (distinct-left (source_names m) (map (λ (c : Cover). c.output) m.covers) h.formed.driven_once) b));
   }

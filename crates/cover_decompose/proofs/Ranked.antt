@@ -3,7 +3,7 @@ use Rattle.std.proofs.Common.{◌≡◌, ◌<◌, ◌≤◌, ℕ, zero, suc, Boo
 use Rattle.std.specs.Prelude.{Some, None, Option, is_none, max, unwrap_or, slice_get}
 use Rattle.std.specs.Option.{option_map}
 use Rattle.std.specs.List.{AllByRecursion, zip, flat_map, filter_map}
-use Rattle.rm_model.specs.Words.{Word, is_word}
+use Rattle.rm_model.specs.Words.{is_word}
 use Rattle.rm_model.specs.Value.{is_among, source_names, observed_names, control_of}
 use Rattle.rm_model.specs.Ranks.{cover_of, higher, highest, rank_at, rank_above, rank_by, ranks_of, AreRanks, first_without_rank}
 use Rattle.rm_model.specs.WellFormed.{IsWellFormed, driven_names, used_names}
@@ -11,11 +11,12 @@ use Rattle.rm_model.specs.declared.parts.Latch.{Latch}
 use Rattle.rm_model.specs.declared.parts.Cover.{Cover}
 use Rattle.rm_model.specs.declared.parts.Model.{Model}
 use Rattle.cover_decompose.specs.Needed.{ranked_covers, covers_by_rank, is_needed, needed_of, taken}
-use Rattle.cover_decompose.proofs.Members.{In, in_append, in_at, in_left, in_map, in_mapped, in_right, in_among, among_in, all_in, all_pass_in, none_found, word_same, word_refl}
+use Rattle.cover_decompose.proofs.Members.{in_among, among_in}
 use Rattle.cover_decompose.proofs.Order.{ReadsLower, Reading, in-of_ranks, observed_kept, of_ranks-in, onto_keeps, onto_outputs, outputs_onto, reading_needed, reading_ranks}
-
-some_is : {n k : ℕ} → Some n ≡ Some k → n ≡ k
-some_is e = cc
+use Rattle.rm_base.proofs.Public.{all_in, all_pass_in, in_append, in_at, in_left, in_map, in_mapped, in_right, none_found, place_of_member, some_same}
+use Rattle.rm_base.specs.Members.{In}
+use Rattle.rm_base.specs.Words.{Word}
+use Rattle.rm_model.proofs.Public.{is_word-same, same_word}
 
 present : (r : Option ℕ) → is_none r ≡ false → (n : ℕ) × (r ≡ Some n)
 present None e = absurd cc
@@ -29,17 +30,17 @@ highest_at_least (Some i ∷ rs) r n h e = by_rest (highest rs) (highest_at_leas
   where
     by_rest : (o : Option ℕ) → ((n : ℕ) → In rs r → o ≡ Some n → (k : ℕ) × ((r ≡ Some k) × (k ≤ n))) → (Some i ≡ r) ⊎ In rs r → higher (Some i) o ≡ Some n → (k : ℕ) × ((r ≡ Some k) × (k ≤ n))
     by_rest None next h e = absurd cc
-    by_rest (Some j) next (inl same) e = let is : max i j ≡ n = some_is e in (i, (sym same, omega arith))
-    by_rest (Some j) next (inr m) e = let is : max i j ≡ n = some_is e in let rest = next j m refl in (rest.0, (rest.1.0, let le : rest.0 ≤ j = rest.1.1 in omega arith))
+    by_rest (Some j) next (inl same) e = let is : max i j ≡ n = some_same e in (i, (sym same, omega arith))
+    by_rest (Some j) next (inr m) e = let is : max i j ≡ n = some_same e in let rest = next j m refl in (rest.0, (rest.1.0, let le : rest.0 ≤ j = rest.1.1 in omega arith))
 
 cover_of-is : (cs : List Cover) (x : Word) (k : ℕ) → cover_of cs x ≡ Some k → (d : Cover) × ((slice_get cs k ≡ Some d) × (d.output ≡ x))
 cover_of-is [] x k e = absurd cc
 cover_of-is (c ∷ cs) x k e = by_test (is_word x c.output) refl (cover_of cs x) (cover_of-is cs x) e
   where
     by_test : (b : Bool) → is_word x c.output ≡ b → (o : Option ℕ) → ((k : ℕ) → o ≡ Some k → (d : Cover) × ((slice_get cs k ≡ Some d) × (d.output ≡ x))) → cond b (Some 0) (option_map (λ k. suc k) o) ≡ Some k → (d : Cover) × ((slice_get (c ∷ cs) k ≡ Some d) × (d.output ≡ x))
-    by_test true same o next e = let is : 0 ≡ k = some_is e in rw (← is) (c, (refl, sym (word_same x c.output same)))
+    by_test true same o next e = let is : 0 ≡ k = some_same e in rw (← is) (c, (refl, sym (same_word x c.output same)))
     by_test false same None next e = absurd cc
-    by_test false same (Some j) next e = let is : suc j ≡ k = some_is e in let r = next j refl in rw (← is) (r.0, (r.1.0, r.1.1))
+    by_test false same (Some j) next e = let is : suc j ≡ k = some_same e in let r = next j refl in rw (← is) (r.0, (r.1.0, r.1.1))
 
 is_cover : (cs : List Cover) (d : Cover) → In cs d → (k : ℕ) × (cover_of cs d.output ≡ Some k)
 is_cover [] d h = absurd h
@@ -48,14 +49,9 @@ is_cover (c ∷ cs) d h = by_test (is_word d.output c.output) refl (is_cover cs 
     by_test : (b : Bool) → is_word d.output c.output ≡ b → (In cs d → (k : ℕ) × (cover_of cs d.output ≡ Some k)) → (c ≡ d) ⊎ In cs d → (k : ℕ) × (cond b (Some 0) (option_map (λ k. suc k) (cover_of cs d.output)) ≡ Some k)
     by_test true same next h = (0, refl)
     by_test false same next (inl e) =
-        let here : is_word d.output c.output ≡ true = ap (λ (y : Cover). is_word d.output y.output) e ∙ word_refl d.output in
+        let here : is_word d.output c.output ≡ true = ap (λ (y : Cover). is_word d.output y.output) e ∙ is_word-same d.output in
         let bad : true ≡ false = sym here ∙ same in absurd cc
     by_test false same next (inr m) = let r = next m in (suc r.0, ap (λ (o : Option ℕ). option_map (λ k. suc k) o) r.1)
-
-place_of : {A : Type 0} (xs : List A) (x : A) → In xs x → (k : ℕ) × (slice_get xs k ≡ Some x)
-place_of [] x h = absurd h
-place_of (y ∷ xs) x (inl e) = (0, ap (λ (z : _). Some z) e)
-place_of (y ∷ xs) x (inr h) = let r = place_of xs x h in (suc r.0, r.1)
 
 rank_at-map : (f : Cover → Option ℕ) (cs : List Cover) (k : ℕ) (d : Cover) → slice_get cs k ≡ Some d → rank_at (map f cs) k ≡ f d
 rank_at-map f [] k d e = absurd cc
@@ -163,7 +159,7 @@ module _ (m : Model) (h : IsRankable m) where
         where
           less : (o : Option ℕ) (b : ℕ) → option_map (λ n. suc n) o ≡ Some b → (j : ℕ) × ((o ≡ Some j) × (suc j ≡ b))
           less None b e = absurd cc
-          less (Some j) b e = (j, (refl, some_is e))
+          less (Some j) b e = (j, (refl, some_same e))
 
   pub covers_reading : Reading (source_names m) (covers_by_rank m)
   covers_reading = reading_ranks (source_names m) (ranked_covers m) 0 (length m.covers) (source_names m) reads_lower (record { sources = λ x e. e; outputs = λ k d i lt. absurd (omega arith) })
@@ -178,7 +174,7 @@ module _ (m : Model) (h : IsRankable m) where
 
   pub by_rank_in : (c : Cover) → In m.covers c → In (covers_by_rank m) c
   by_rank_in c i =
-      let k = place_of m.covers c i in
+      let k = place_of_member m.covers c i in
       let there = present (rank_by m (ranks_of m) c) (all_in (λ r. is_none r ≡ false) (map (rank_by m (ranks_of m)) m.covers) (rank_by m (ranks_of m) c) none_missing (in_mapped (rank_by m (ranks_of m)) m.covers c i)) in
       let lt : there.0 < length m.covers = h.small k.0 there.0 (rank_there k.0 c k.1 ∙ there.1) in
       in-of_ranks (ranked_covers m) 0 (length m.covers) there.0 c (is_ranked there.0 c i there.1) (omega arith) (omega arith)

@@ -1,7 +1,7 @@
 -- The constants and the sources, and what they are worth.
 use Rattle.std.proofs.Common.{◌≡◌, ◌<◌, ◌+◌, ℕ, zero, suc, Bool, true, false, cond, List, [], ◌∷◌, ◌++◌, length, refl, sym, ap, subst, ◌∙◌, arith}
 use Rattle.std.specs.Prelude.{Some, slice_get, replicate, ◌||◌}
-use Rattle.rm_model.specs.Words.{Word, is_word}
+use Rattle.rm_model.specs.Words.{is_word}
 use Rattle.rm_model.specs.Value.{is_among, source_names}
 use Rattle.rm_model.specs.declared.parts.Model.{Model}
 use Rattle.gate_net.specs.declared.Kind.TheVariants.{Source, Zero, One}
@@ -10,8 +10,9 @@ use Rattle.cover_decompose.specs.Built.{AllBelow}
 use Rattle.cover_decompose.specs.Decomposition.{plain, start, source_node}
 use Rattle.cover_decompose.specs.StandsFor.{SameAssignment}
 use Rattle.cover_decompose.proofs.Formed.{IsMade}
-use Rattle.cover_decompose.proofs.Members.{word_same}
 use Rattle.cover_decompose.proofs.Values.{Meets, KnownAmong, NotsKnown}
+use Rattle.rm_base.specs.Words.{Word}
+use Rattle.rm_model.proofs.Public.{same_word}
 
 pub length-replicate_nodes : (n : ℕ) (x : Node) → length (replicate n x) ≡ n
 length-replicate_nodes zero x = refl
@@ -33,7 +34,7 @@ source_place n [] x e = absurd cc
 source_place n (y ∷ xs) x e = by_test (is_word x y) refl (source_place (suc n) xs x) e
   where
     by_test : (b : Bool) → is_word x y ≡ b → (is_among xs x ≡ true → (k : ℕ) × ((source_node (suc n) xs x ≡ suc n + k) × (slice_get xs k ≡ Some x))) → (b || is_among xs x) ≡ true → (k : ℕ) × ((cond b n (source_node (suc n) xs x) ≡ n + k) × (slice_get (y ∷ xs) k ≡ Some x))
-    by_test true same next e = (0, (omega arith, ap (λ (z : Word). Some z) (sym (word_same x y same))))
+    by_test true same next e = (0, (omega arith, ap (λ (z : Word). Some z) (sym (same_word x y same))))
     by_test false same next e = let r = next e in (suc r.0, (let is : source_node (suc n) xs x ≡ suc n + r.0 = r.1.0 in omega arith, r.1.1))
 
 pub source_bound : (n : ℕ) (xs : List Word) (x : Word) → 0 < n → source_node n xs x < n + length xs

@@ -1,13 +1,10 @@
 -- Names in a table, by their places.
-use Rattle.std.proofs.Common.{◌≡◌, Bool, true, false, List, [], ◌∷◌, map, refl, ap}
+use Rattle.std.proofs.Common.{◌≡◌, Bool, List, [], ◌∷◌, map, refl, ap}
 use Rattle.std.specs.Prelude.{◌||◌}
 use Rattle.std.specs.List.{list_any}
-use Rattle.rm_model.specs.Words.{Word, is_word}
+use Rattle.rm_model.specs.Words.{is_word}
 use Rattle.rm_model.specs.Value.{is_among}
-
-pub not_true : (b : Bool) → (b ≡ true → ⊥) → b ≡ false
-not_true true h = absurd (h refl)
-not_true false h = refl
+use Rattle.rm_base.specs.Words.{Word}
 
 pub among-map : {K : Type 0} (name : K → Word) (ks : List K) (x : Word) → list_any (λ k. is_word x (name k)) ks ≡ is_among (map name ks) x
 among-map name [] x = refl

@@ -3,7 +3,7 @@ use Rattle.std.proofs.Common.{◌≡◌, ℕ, Bool, true, false, cond, not, List
 use Rattle.std.specs.Prelude.{Option, None, Some, ◌&&◌, ◌||◌, slice_get}
 use Rattle.std.specs.List.{list_all, list_any, AllByRecursion}
 use Rattle.std.proofs.lemmas.Slice.Eq.{bytes_eq-Decides}
-use Rattle.rm_model.specs.Words.{Word, is_word}
+use Rattle.rm_model.specs.Words.{is_word}
 use Rattle.rm_model.specs.Value.{row_matches, value_of, value_of_rows}
 use Rattle.rm_model.specs.declared.parts.Literal.{Literal}
 use Rattle.rm_model.specs.declared.parts.Literal.TheVariants.{Zero, One, Any}
@@ -14,10 +14,11 @@ use Rattle.gate_net.specs.Net.{Node}
 use Rattle.gate_net.specs.Values.{gate_value}
 use Rattle.cover_decompose.specs.Decomposition.{State, with_entry, with_not, literals, joined, term, terms, closed, cover_node, with_cover, with_covers}
 use Rattle.cover_decompose.proofs.Joins.{junction-and, junction-or, and-true, or-false}
-use Rattle.cover_decompose.proofs.Places.{get_left, get_seam}
-use Rattle.cover_decompose.proofs.Members.{word_same}
 use Rattle.cover_decompose.proofs.Order.{Reading, AreAmong, outputs_onto}
 use Rattle.rm_model.specs.Value.{is_among}
+use Rattle.rm_base.proofs.Public.{front_stands, seam_stands}
+use Rattle.rm_base.specs.Words.{Word}
+use Rattle.rm_model.proofs.Public.{same_word}
 
 module _ (val a : ℕ → Bool) (v : Word → Bool) where
   -- each node made is worth its function of what it reads
@@ -39,7 +40,7 @@ module _ (val a : ℕ → Bool) (v : Word → Bool) where
     pub nots : NotsKnown t.not_of
 
   pub front_meets : (made : List Node) (n : Node) → Meets (made ++ n ∷ []) → Meets made × (val (length made) ≡ gate_value n.kind (a (length made)) (map val n.drivers))
-  front_meets made n h = ((λ x k e. h x k (get_left made (n ∷ []) x k e)), h (length made) n (get_seam made n []))
+  front_meets made n h = ((λ x k e. h x k (front_stands made (n ∷ []) x k e)), h (length made) n (seam_stands made n []))
 
   not_entry : (not_of : Word → Option ℕ) (x : Word) (n : ℕ) → val n ≡ not (v x) → NotsKnown not_of → NotsKnown (with_entry not_of x (Some n))
   not_entry not_of x n made nots y k e = by_test (is_word y x) refl e
@@ -201,7 +202,7 @@ module _ (val a : ℕ → Bool) (v : Word → Bool) where
   one_more before node_of done y n e h here x m = by_test (is_word x y) refl m
     where
       by_test : (b : Bool) → is_word x y ≡ b → (b || is_among done x) ≡ true → val (cond b n (node_of x)) ≡ v x
-      by_test true same m = rw (word_same x y same) here
+      by_test true same m = rw (same_word x y same) here
       by_test false same m = ap (λ (f : Word → ℕ). val (f x)) e ∙ h x m
 
   pub covers-value : (s : State) (cs : List Cover) (done : List Word) → val 0 ≡ false → val 1 ≡ true → KnownAmong s.node_of done → NotsKnown s.not_of → Reading done cs → AllByRecursion Fits cs → Meets (with_covers s cs).made → KnownAmong (with_covers s cs).node_of (outputs_onto done cs)

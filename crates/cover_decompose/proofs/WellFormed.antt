@@ -4,7 +4,6 @@ use Rattle.std.specs.Prelude.{Some, None, Option, slice_get, replicate, sum_by}
 use Rattle.std.specs.Option.{option_map}
 use Rattle.std.specs.List.{AllByRecursion}
 use Rattle.std.proofs.lemmas.Option.{slice_get-map, slice_get_within}
-use Rattle.rm_model.specs.Words.{Word}
 use Rattle.rm_model.specs.Value.{source_names, observed_names}
 use Rattle.rm_model.specs.declared.parts.Model.{Model}
 use Rattle.gate_net.specs.declared.Kind.{Kind}
@@ -14,10 +13,12 @@ use Rattle.cover_decompose.specs.Built.{AllBelow, IsGateNode}
 use Rattle.cover_decompose.specs.Needed.{taken}
 use Rattle.cover_decompose.specs.Decomposition.{plain, start, last_state, net_of_model}
 use Rattle.cover_decompose.proofs.Formed.{IsMade, covers_made}
-use Rattle.cover_decompose.proofs.Places.{get_left, get_parts}
+use Rattle.cover_decompose.proofs.Places.{get_parts}
 use Rattle.cover_decompose.proofs.Stands.{node_there}
 use Rattle.cover_decompose.proofs.Started.{get_replicate, replicate_there, start-length, start-made}
 use Rattle.cover_decompose.proofs.Sums.{sum-total, total, total-append, total-map}
+use Rattle.rm_base.proofs.Public.{front_stands}
+use Rattle.rm_base.specs.Words.{Word}
 
 there_node : (made : List Node) (observed : List ℕ) (x : ℕ) (n : Node) → node_at (record { nodes = map (λ n. Some n) made; observed = observed }) x ≡ Some n → slice_get made x ≡ Some n
 there_node made observed x n e = by_node (slice_get made x) (sym (ap (λ (o : Option (Option Node)). flatten_option o) (slice_get-map (λ (n : Node). Some n) made x)) ∙ e)
@@ -97,7 +98,7 @@ module _ (m : Model) where
       of_net ∙ (parts ∙ omega arith)
 
   at_start : (x : ℕ) (n : Node) → slice_get (start m).made x ≡ Some n → node_at (net_of_model m) x ≡ Some n
-  at_start x n e = node_there (last_state m).made (net_of_model m).observed x n (ap (λ (ns : List Node). slice_get ns x) made.made_is ∙ get_left (start m).made made.gates x n e)
+  at_start x n e = node_there (last_state m).made (net_of_model m).observed x n (ap (λ (ns : List Node). slice_get ns x) made.made_is ∙ front_stands (start m).made made.gates x n e)
 
   by_kind : (x : ℕ) (kind : Kind) → IsKind (net_of_model m) x kind → (n : Node) × ((slice_get (last_state m).made x ≡ Some n) × (n.kind ≡ kind))
   by_kind x kind k = (record { kind = kind; drivers = k.0 }, (there_node (last_state m).made (net_of_model m).observed x (record { kind = kind; drivers = k.0 }) k.1, refl))

@@ -1,19 +1,20 @@
 -- The graph of a model's plan is the model's.
 use Rattle.std.proofs.Common.{◌≡◌, ◌<◌, ◌≤◌, ◌+◌, ℕ, zero, suc, List, [], ◌∷◌, length, map, refl, sym, ap, subst, ◌∙◌, arith}
 use Rattle.std.specs.Prelude.{All, Some, slice_index, sum_by}
+use Rattle.std.proofs.lemmas.List.{length-map}
 use Rattle.gate_net.specs.Net.{Net, Node, wire_count}
 use Rattle.gate_graph.specs.Circuit.{Circuit, net_of, fanouts_of, pins_taken, live_nodes}
 use Rattle.gate_graph.specs.Holds.{pins_held}
-use Rattle.rm_model.specs.Words.{Word}
 use Rattle.rm_model.specs.Value.{observed_names, source_names}
 use Rattle.rm_model.specs.declared.parts.Model.{Model}
 use Rattle.cover_decompose.specs.Built.{IsBuildable, IsBuilt, readers_in}
 use Rattle.cover_decompose.specs.Count.{decomposed}
 use Rattle.cover_decompose.specs.Decomposition.{last_state, net_of_model}
-use Rattle.cover_decompose.proofs.Counted.{length-mapped, observed_count}
+use Rattle.cover_decompose.proofs.Counted.{observed_count}
 use Rattle.cover_decompose.proofs.Fitting.{few_nodes}
 use Rattle.cover_decompose.proofs.Sums.{sum-total}
 use Rattle.cover_decompose.proofs.WellFormed.{made, wires_made}
+use Rattle.rm_base.specs.Words.{Word}
 
 pub wires_sum : (m : Model) → wire_count (net_of_model m) ≡ decomposed m → sum_by (λ (n : Node). length n.drivers) (last_state m).made ≡ decomposed m
 wires_sum m e = sum-total (λ (n : Node). length n.drivers) (last_state m).made ∙ (sym (wires_made m) ∙ e)
@@ -43,7 +44,7 @@ observed_below m nodes observed listed el e =
     (each_below (slice_index nodes) (last_state m).node_of (length (last_state m).made) observed (observed_names m) e (made m).nodes)
 
 pub observed_few : (m : Model) (nodes observed : List ℕ) → map (slice_index nodes) observed ≡ (net_of_model m).observed → length observed ≡ length (observed_names m)
-observed_few m nodes observed e = sym (length-mapped (slice_index nodes) observed) ∙ (ap (λ (l : List ℕ). length l) e ∙ observed_count m)
+observed_few m nodes observed e = sym (length-map observed (slice_index nodes)) ∙ (ap (λ (l : List ℕ). length l) e ∙ observed_count m)
 
 pub record IsWhole (m : Model) (g : Circuit) : Type 0 where
   pub net : net_of g ≡ net_of_model m
@@ -69,7 +70,7 @@ whole m g wires h = record {
   fanouts = h.readers;
   pins = taken m g wires h;
   held = none_held m g h.net wires (taken m g wires h);
-  nodes = h.nodes ∙ sym (length-mapped (λ (n : Node). Some n) (last_state m).made);
+  nodes = h.nodes ∙ sym (length-map (last_state m).made (λ (n : Node). Some n));
   epoch = h.epoch;
 }
 

@@ -2,7 +2,7 @@
 use Rattle.std.proofs.Common.{◌≡◌, ◌+◌, ℕ, suc, Bool, true, false, cond, List, [], ◌∷◌, ◌++◌, length, refl, sym, ap, subst, ◌∙◌, arith}
 use Rattle.std.specs.Prelude.{Some, None, Option, is_some, ◌||◌, sum_by}
 use Rattle.std.specs.List.{AllByRecursion, flat_map}
-use Rattle.rm_model.specs.Words.{Word, is_word}
+use Rattle.rm_model.specs.Words.{is_word}
 use Rattle.rm_model.specs.Value.{is_among}
 use Rattle.rm_model.specs.declared.parts.Literal.{Literal}
 use Rattle.rm_model.specs.declared.parts.Literal.TheVariants.{Zero, One, Any}
@@ -13,6 +13,7 @@ use Rattle.gate_net.specs.Net.{Node}
 use Rattle.cover_decompose.specs.Decomposition.{State, with_entry, with_gate, with_not, literals, joined, term, terms, closed, cover_node, with_cover, with_covers}
 use Rattle.cover_decompose.specs.Count.{literal_count, joining, cover_wires, zero_names, cover_zero_names, new_count}
 use Rattle.cover_decompose.proofs.Sums.{total, total-append, sum-total}
+use Rattle.rm_base.specs.Words.{Word}
 
 abbrev pub wires : State → ℕ
 wires s = total (λ (n : Node). length n.drivers) s.made

@@ -1,12 +1,12 @@
 -- A model whose signals have numbers, and the places of the covers that are taken.
 use Rattle.std.specs.Prelude.{◌≡◌, ◌<◌, ◌+◌, ℕ, All, List, [], ◌∷◌, Some, length, slice_get}
-use Rattle.rm_model.specs.Words.{Word}
 use Rattle.rm_model.specs.Value.{observed_names, source_names}
 use Rattle.rm_model.specs.WellFormed.{driven_names}
 use Rattle.rm_model.specs.declared.parts.Cover.{Cover}
 use Rattle.rm_model.specs.declared.parts.Model.{Model}
 use Rattle.cover_decompose.specs.Signals.{signal_of}
 use Rattle.cover_decompose.specs.Tally.{AreEven}
+use Rattle.rm_base.specs.Words.{Word}
 
 -- these are the numbers of the names
 abbrev pub Signals : List Word → List Word → List ℕ → Type 0

@@ -1,13 +1,13 @@
 -- The number of wires of a decomposition, summed over the needed covers.
 use Rattle.std.specs.Prelude.{ℕ, zero, suc, ◌+◌, Bool, true, false, List, [], ◌∷◌, length, sum_by, if◌then◌else◌}
 use Rattle.std.specs.List.{flat_map}
-use Rattle.rm_model.specs.Words.{Word}
 use Rattle.rm_model.specs.Value.{is_among}
 use Rattle.rm_model.specs.declared.parts.Literal.{Literal}
 use Rattle.rm_model.specs.declared.parts.Literal.TheVariants.{Zero, One, Any}
 use Rattle.rm_model.specs.declared.parts.Cover.{Cover}
 use Rattle.rm_model.specs.declared.parts.Model.{Model}
 use Rattle.cover_decompose.specs.Needed.{taken}
+use Rattle.rm_base.specs.Words.{Word}
 
 abbrev pub is_read : Literal → Bool
 is_read Any = false

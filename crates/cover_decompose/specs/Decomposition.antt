@@ -1,6 +1,6 @@
 -- The net of a model: each needed cover is an Or of Ands of literals, closed by a Not where its rows end in 0.
 use Rattle.std.specs.Prelude.{ℕ, suc, Bool, true, false, List, [], ◌∷◌, ◌++◌, map, length, replicate, if◌then◌else◌, Option, None, Some}
-use Rattle.rm_model.specs.Words.{Word, is_word}
+use Rattle.rm_model.specs.Words.{is_word}
 use Rattle.rm_model.specs.Value.{source_names, observed_names}
 use Rattle.rm_model.specs.declared.parts.Literal.{Literal}
 use Rattle.rm_model.specs.declared.parts.Literal.TheVariants.{Zero, One, Any}
@@ -11,6 +11,7 @@ use Rattle.gate_net.specs.declared.Kind.TheVariants.{Source, And, Or, Not}
 use Rattle.gate_net.specs.declared.Kind.TheVariants as kind
 use Rattle.gate_net.specs.Net.{Node, Net}
 use Rattle.cover_decompose.specs.Needed.{taken}
+use Rattle.rm_base.specs.Words.{Word}
 
 -- what is made so far: the nodes by number, the node of each signal, and the Not of each signal that was read as 0
 pub record State : Type 0 where

@@ -1,6 +1,5 @@
 -- Models that are worked out by hand, and the gates of their nets.
 use Rattle.std.specs.Prelude.{ℕ, true, false, List, [], ◌∷◌, ◌++◌, Some, codes, map}
-use Rattle.rm_model.specs.Words.{Word}
 use Rattle.rm_model.specs.declared.parts.Literal.{Literal}
 use Rattle.rm_model.specs.declared.parts.Literal.TheVariants.{Zero, One, Any}
 use Rattle.rm_model.specs.declared.parts.Cover.{Cover}
@@ -8,6 +7,7 @@ use Rattle.rm_model.specs.declared.parts.Model.{Model}
 use Rattle.gate_net.specs.declared.Kind.TheVariants.{And, Or, Not}
 use Rattle.gate_net.specs.Net.{Node, Net}
 use Rattle.cover_decompose.specs.Decomposition.{start}
+use Rattle.rm_base.specs.Words.{Word}
 
 abbrev pub model_with : Word → List Word → List Word → List Cover → Model
 model_with name inputs outputs covers = record { name = name; inputs = inputs; clocks = []; outputs = outputs; latches = []; covers = covers }

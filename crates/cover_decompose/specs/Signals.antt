@@ -1,7 +1,7 @@
 -- Signals by number: the place of a name among the driven names.
 use Rattle.std.specs.Prelude.{◌≡◌, ℕ, List, map, Option, Some}
 use Rattle.rm_model.specs.Numbers.{place_of}
-use Rattle.rm_model.specs.Words.{Word}
+use Rattle.rm_base.specs.Words.{Word}
 
 -- a signal is the place of its name
 abbrev pub signal_of : List Word → Word → Option ℕ

@@ -1,10 +1,10 @@
 -- When a net stands for a model.
 use Rattle.std.specs.Prelude.{◌≡◌, ℕ, ◌+◌, Bool, map, length, Some, slice_get}
-use Rattle.rm_model.specs.Words.{Word}
 use Rattle.rm_model.specs.Value.{source_names, observed_names, IsConsistent}
 use Rattle.rm_model.specs.declared.parts.Model.{Model}
 use Rattle.gate_net.specs.Net.{Net, source_count}
 use Rattle.gate_net.specs.Values.{AreGoodValues}
+use Rattle.rm_base.specs.Words.{Word}
 
 -- each source has the same boolean at its node and at its name
 abbrev pub SameAssignment : Model → (ℕ → Bool) → (Word → Bool) → Type 0

@@ -1,5 +1,5 @@
 -- One draw more, one cover more.
-use Rattle.std.proofs.Common.{◌≡◌, ◌∙◌, ◌+◌, ◌*◌, ℕ, zero, suc, refl, sym, ap, List, [], ◌∷◌, ◌++◌, map, arith}
+use Rattle.std.proofs.Common.{◌≡◌, ◌∙◌, ◌+◌, ◌*◌, ℕ, zero, suc, refl, sym, ap, [], ◌∷◌, ◌++◌, arith}
 use Rattle.demo_generator.specs.Draws.{after, answer, drawn, next_state}
 use Rattle.demo_generator.specs.Generator.{cover_at, covers_from, numbers_from}
 
@@ -22,10 +22,6 @@ drawn-suc (suc n) k x = ap (λ xs. answer k (next_state x) ∷ xs) (drawn-suc n 
 
 pub drawn-more : (n k x : ℕ) → drawn (n + 1) k x ≡ drawn n k x ++ answer k (after (n + 1) x) ∷ []
 drawn-more n k x = ap (λ i. drawn i k x) (more_is n) ∙ drawn-suc n k x ∙ ap (λ s. drawn n k x ++ answer k s ∷ []) (sym (after-more n x))
-
-pub map-more : {X Y : Type 0} (f : X → Y) (xs : List X) (x : X) → map f (xs ++ x ∷ []) ≡ map f xs ++ f x ∷ []
-map-more f [] x = refl
-map-more f (y ∷ ys) x = ap (λ zs. f y ∷ zs) (map-more f ys x)
 
 numbers-suc : (first n : ℕ) → numbers_from first (suc n) ≡ numbers_from first n ++ (first + n) ∷ []
 numbers-suc first zero = let e : first + zero ≡ first = omega arith in rw e refl

@@ -5,7 +5,6 @@ use Rattle.std.specs.List.{All, AllByRecursion, flat_map, list_all}
 use Rattle.std.proofs.lemmas.List.Elements.{All-from_recursion}
 use Rattle.std.proofs.lemmas.List.Folds.{list_all-append}
 use Rattle.std.proofs.lemmas.List.{append-nil}
-use Rattle.rm_model.specs.Words.{Word}
 use Rattle.rm_model.specs.Size.{covers_weight}
 use Rattle.rm_model.specs.Ranks.{first_without_rank}
 use Rattle.rm_model.specs.Value.{IsRanked, control_of, is_among, is_cover_output}
@@ -19,6 +18,7 @@ use Rattle.demo_generator.specs.Draws.{after, answer, drawn, next_state}
 use Rattle.demo_generator.specs.Generator.{cover_at, covers_from, literal, model_of_seed, numbers_from, signal}
 use Rattle.demo_generator.specs.Ready.{AreReady}
 use Rattle.demo_generator.proofs.Signals.{all_of, among, distinct, number_of, number_of-signal, signal_is_token}
+use Rattle.rm_base.specs.Words.{Word}
 
 -- ---- the covers
 

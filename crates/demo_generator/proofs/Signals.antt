@@ -4,26 +4,24 @@ use Rattle.std.specs.Prelude.{if◌then◌else◌, nat_lt}
 use Rattle.std.specs.List.{list_all}
 use Rattle.std.specs.Fmt.{decimal, digits}
 use Rattle.std.specs.Str.Parse.{digits_value}
-use Rattle.std.proofs.lemmas.Bool.{ltb-false}
+use Rattle.std.proofs.lemmas.Bool.{and_parts, ltb-false}
 use Rattle.std.proofs.lemmas.Bool.Decides.{Decides-eqb}
 use Rattle.std.proofs.lemmas.Fmt.{decimal_is_IsNumeral}
 use Rattle.std.proofs.lemmas.Slice.Eq.{bytes_eq-Decides}
-use Rattle.rm_model.specs.Words.{Word, is_word}
+use Rattle.std.proofs.Math.Bool.{or-true}
+use Rattle.rm_model.specs.Words.{is_word}
 use Rattle.rm_model.specs.Value.{is_among}
 use Rattle.rm_model.specs.WellFormed.{is_distinct, is_token}
 use Rattle.demo_generator.specs.Generator.{numbers_from, signal}
-
-both : (a b : Bool) → (a && b) ≡ true → (a ≡ true) × (b ≡ true)
-both true b e = (refl, e)
-both false b e = cc
+use Rattle.rm_base.specs.Words.{Word}
 
 -- what holds of each number of a run
 at_number : (p : ℕ → Bool) (first n k : ℕ) → list_all p (numbers_from first n) ≡ true → first ≤ k → k < first + n → p k ≡ true
 at_number p first zero k all low high = absurd (omega arith)
-at_number p first (suc n) k all low high = go (first == k) refl (at_number p (first + 1) n k (both (p first) (list_all p (numbers_from (first + 1) n)) all).1)
+at_number p first (suc n) k all low high = go (first == k) refl (at_number p (first + 1) n k (and_parts (p first) (list_all p (numbers_from (first + 1) n)) all).1)
   where
     go : (t : Bool) → (first == k) ≡ t → (first + 1 ≤ k → k < first + 1 + n → p k ≡ true) → p k ≡ true
-    go true e later = ap p (sym ((Decides-eqb first k).0 e)) ∙ (both (p first) (list_all p (numbers_from (first + 1) n)) all).0
+    go true e later = ap p (sym ((Decides-eqb first k).0 e)) ∙ (and_parts (p first) (list_all p (numbers_from (first + 1) n)) all).0
     go false e later =
         let ne : first ≡ k → ⊥ = λ q. let bad = (Decides-eqb first k).1 q in cc in
         later (omega arith) (omega arith)
@@ -71,10 +69,6 @@ pub distinct : (first n : ℕ) → first + n ≤ 76 → is_distinct (map signal 
 distinct first zero le = refl
 distinct first (suc n) le = ap₂ (λ a b. not a && b) (earlier (first + 1) n first (omega arith) (omega arith)) (distinct (first + 1) n (omega arith))
 
-or_true : (a : Bool) → (a || true) ≡ true
-or_true true = refl
-or_true false = refl
-
 pub among : (first n k : ℕ) → first ≤ k → k < first + n → is_among (map signal (numbers_from first n)) (signal k) ≡ true
 among first zero k low high = absurd (omega arith)
 among first (suc n) k low high = go (first == k) refl (among (first + 1) n k)
@@ -83,7 +77,7 @@ among first (suc n) k low high = go (first == k) refl (among (first + 1) n k)
     go true e later = ap (λ b. b || is_among (map signal (numbers_from (first + 1) n)) (signal k)) ((bytes_eq-Decides (signal k) (signal first)).1 (ap signal (sym ((Decides-eqb first k).0 e))))
     go false e later =
         let ne : first ≡ k → ⊥ = λ q. let bad = (Decides-eqb first k).1 q in cc in
-        ap (λ b. is_word (signal k) (signal first) || b) (later (omega arith) (omega arith)) ∙ or_true (is_word (signal k) (signal first))
+        ap (λ b. is_word (signal k) (signal first) || b) (later (omega arith) (omega arith)) ∙ or-true (is_word (signal k) (signal first))
 
 pub all_of : (p : Word → Bool) → ((k : ℕ) → k < 76 → p (signal k) ≡ true) → (first n : ℕ) → first + n ≤ 76 → list_all p (map signal (numbers_from first n)) ≡ true
 all_of p each first zero le = refl

@@ -1,11 +1,12 @@
 -- What one turn of a loop adds.
 use Rattle.std.proofs.Common.{◌≡◌, ◌∙◌, ◌+◌, ◌-◌, ◌*◌, ◌≤◌, ℕ, true, sym, ap, ap₂, List, [], ◌∷◌, ◌++◌, map, arith}
-use Rattle.rm_model.specs.Words.{Word}
+use Rattle.std.proofs.lemmas.List.{map-append}
 use Rattle.rm_model.specs.declared.parts.Cover.{Cover}
 use Rattle.rm_model.specs.declared.parts.Literal.{Literal}
 use Rattle.demo_generator.specs.Draws.{after, answer, drawn, next_state}
 use Rattle.demo_generator.specs.Generator.{cover_at, covers_from, numbers_from, row_at, signal}
-use Rattle.demo_generator.proofs.Drawing.{after-add, after-more, covers-more, drawn-more, map-more, numbers-more}
+use Rattle.demo_generator.proofs.Drawing.{after-add, after-more, covers-more, drawn-more, numbers-more}
+use Rattle.rm_base.specs.Words.{Word}
 
 module _ {Y : Type 0} (f : ℕ → Y) (n k x : ℕ) where
   pub state_more : (s t : ℕ) → s ≡ after n x → t ≡ next_state s → t ≡ after (n + 1) x
@@ -15,14 +16,14 @@ module _ {Y : Type 0} (f : ℕ → Y) (n k x : ℕ) where
       → ys ≡ map f (drawn n k x) → zs ≡ ys ++ item ∷ [] → zs ≡ map f (drawn (n + 1) k x)
   drawn_one s t v item ys zs e step answers is ys-is zs-is =
       let last : item ≡ f (answer k (after (n + 1) x)) = is ∙ ap f (answers ∙ ap (answer k) (state_more s t e step)) in
-      zs-is ∙ ap₂ (λ a b. a ++ b ∷ []) ys-is last ∙ sym (map-more f (drawn n k x) (answer k (after (n + 1) x))) ∙ ap (map f) (sym (drawn-more n k x))
+      zs-is ∙ ap₂ (λ a b. a ++ b ∷ []) ys-is last ∙ sym (map-append f (drawn n k x) ((answer k (after (n + 1) x)) ∷ [])) ∙ ap (map f) (sym (drawn-more n k x))
 
 pub named_one : (first number : ℕ) (item : Word) (ys zs : List Word) → first ≤ number → ys ≡ map signal (numbers_from first (number - first)) → item ≡ signal number
     → zs ≡ ys ++ item ∷ [] → zs ≡ map signal (numbers_from first (number + 1 - first))
 named_one first number item ys zs le ys-is is zs-is =
     let more : number + 1 - first ≡ number - first + 1 = omega arith in
     let last : first + (number - first) ≡ number = omega arith in
-    zs-is ∙ ap₂ (λ a b. a ++ b ∷ []) ys-is (is ∙ ap signal (sym last)) ∙ sym (map-more signal (numbers_from first (number - first)) (first + (number - first)))
+    zs-is ∙ ap₂ (λ a b. a ++ b ∷ []) ys-is (is ∙ ap signal (sym last)) ∙ sym (map-append signal (numbers_from first (number - first)) ((first + (number - first)) ∷ []))
     ∙ ap (map signal) (sym (ap (numbers_from first) more ∙ numbers-more first (number - first)))
 
 abbrev made : List Word → Word → List (List Literal) → Cover

@@ -1,12 +1,12 @@
 -- The model of a seed: sixteen inputs, and sixty covers of three drawn inputs and two drawn rows each.
 use Rattle.std.specs.Prelude.{◌+◌, ◌-◌, ℕ, zero, suc, true, List, [], ◌∷◌, ◌++◌, map, codes, nat_lt, if◌then◌else◌}
 use Rattle.std.specs.Fmt.{decimal}
-use Rattle.rm_model.specs.Words.{Word}
 use Rattle.rm_model.specs.declared.parts.Literal.{Literal}
 use Rattle.rm_model.specs.declared.parts.Literal.TheVariants.{Zero, One, Any}
 use Rattle.rm_model.specs.declared.parts.Cover.{Cover}
 use Rattle.rm_model.specs.declared.parts.Model.{Model}
 use Rattle.demo_generator.specs.Draws.{after, drawn}
+use Rattle.rm_base.specs.Words.{Word}
 
 -- the signals by number: the inputs i0 to i15, and from 16 on the covers t0 to t59
 abbrev pub signal : ℕ → Word

@@ -6,7 +6,6 @@ use Rattle.std.proofs.lemmas.Option.{slice_get-get_or}
 use Rattle.std.proofs.Math.Seq.{take-append_seam, take-length}
 use Rattle.std.specs.Prelude.{drop, slice_get, slice_index, slice_index_or, slice_set, take}
 use Rattle.fault_sim.specs.Ordered.{IsOrdered}
-use Rattle.gate_net.proofs.Public.{map_agree}
 use Rattle.gate_net.specs.Net.{Net, drivers_of, node_at, source_count}
 use Rattle.gate_net.specs.Values.{Detects, node_value}
 use Rattle.rm_base.specs.declared.numbers.Fault.{Fault}
@@ -20,6 +19,7 @@ use Rattle.fault_sim.specs.Spreading.{AreLanes, IsRested, IsSized}
 use Rattle.fault_sim.specs.Words.{assignment, lane, lane_values}
 use Rattle.fault_sim.specs.declared.blocks.Block.{Block}
 use Rattle.fault_sim.specs.declared.spread.Spread.{Spread}
+use Rattle.rm_base.proofs.Public.{map_agree}
 
 pub lanes_of : (order places good : List ℕ) (s : Spread) → ArePlaced order places s → IsBlock order (length places) good → AreLanes order places good s
 lanes_of order places good s placed block = record {

@@ -3,13 +3,11 @@ use Rattle.std.proofs.Common.{Bool, List, None, Option, Some, ap, arith, false, 
 use Rattle.std.proofs.lemmas.Bool.Decides.{eqb_tells}
 use Rattle.std.proofs.lemmas.List.{get_or_past}
 use Rattle.std.specs.Prelude.{slice_get, slice_index, slice_set}
-use Rattle.gate_net.proofs.Public.{map_agree}
 use Rattle.gate_net.specs.Net.{IsWellFormed, Net, Node, Reads, drivers_in, drivers_of, kind_in, kind_of, node_at}
 use Rattle.gate_net.specs.Values.{node_value}
-use Rattle.refutation.proofs.Public.{slice_get_below}
 use Rattle.fault_sim.proofs.LaneLaws.{lane_node, lane_zero, map_twice}
 use Rattle.fault_sim.proofs.Lists.{below_or, still_pending}
-use Rattle.fault_sim.proofs.ReadInOrder.{apart, driver_before, listed_or, reader_not_dead, set_elsewhere, set_here, unlisted_dead}
+use Rattle.fault_sim.proofs.ReadInOrder.{apart, driver_before, reader_not_dead, set_elsewhere, set_here, unlisted_dead}
 use Rattle.fault_sim.proofs.Spreads.{clash, still_idle}
 use Rattle.fault_sim.specs.BlockStates.{AreGoodWords, ArePlaced}
 use Rattle.fault_sim.specs.Following.{AreTouched, DiffersAmong, IsRereading, IsRightAt, Stands, WereGood}
@@ -19,6 +17,7 @@ use Rattle.fault_sim.specs.Simulating.{AreNoOthers, IsWithin}
 use Rattle.fault_sim.specs.Spreading.{AreLanes, IsRested, IsUnstamped, MarksReaders}
 use Rattle.fault_sim.specs.Words.{assigned_word, assignment, lane, lane_values, node_word}
 use Rattle.fault_sim.specs.declared.spread.Spread.{Spread}
+use Rattle.rm_base.proofs.Public.{map_agree, slice_get_below, stands_or_not}
 
 pub live_kind : (net : Net) (x : ℕ) → node_at net x ≢ None → kind_of net x ≢ None
 live_kind net x live = at (node_at net x) refl
@@ -36,13 +35,13 @@ pub still_ordered : (before net : Net) (order places changed : List ℕ) → IsO
 still_ordered before net order places changed ordered placed differs stand = record { all = all; once = ordered.once; before = earlier }
   where
     all : (x : ℕ) → node_at net x ≢ None → (k : ℕ) × (slice_get order k ≡ Some x)
-    all x live = elim (listed_or changed x) [
+    all x live = elim (stands_or_not changed x) [
       | inl at ↦ (slice_index places x, (stand at.0 x at.1 (live_kind net x live)).placed)
       | inr none ↦ ordered.all x (λ dead. live (differs.others x none ∙ dead))
     ]
 
     earlier : (k l x y p : ℕ) → slice_get order k ≡ Some x → slice_get order l ≡ Some y → Reads net y p x → k < l
-    earlier k l x y p there there' reads = elim (listed_or changed y) [
+    earlier k l x y p there there' reads = elim (stands_or_not changed y) [
       | inl at ↦
           let less : slice_index places x < slice_index places y = (stand at.0 y at.1 (live_kind net y (reader_not_dead net y p x reads))).before p x reads in
           let here : slice_index places x ≡ k = placed k x there in
@@ -152,7 +151,7 @@ module _ (net : Net) (words order places changed old good pending : List ℕ) (n
   below k x there = rw all (slice_get_below changed k (λ none. let wrong : Some x ≡ None = sym there ∙ none in cc))
 
   dead_false : (x : ℕ) → node_at net x ≡ None → (i : ℕ) → i < 64 → lane_values good i x ≡ false
-  dead_false x is i h = elim (listed_or changed x) [
+  dead_false x is i h = elim (stands_or_not changed x) [
     | inl at ↦ ap (lane i) (touched.dead at.0 x (below at.0 x at.1) at.1 is) ∙ lane_zero i
     | inr none ↦ elim (touched.words x) [
       | inl same ↦
@@ -181,7 +180,7 @@ module _ (net : Net) (words order places changed old good pending : List ℕ) (n
           (λ p d reads. elim (touched.words d) [ inl e ↦ ap (lane i) (sym e) | inr zero ↦ absurd (formed.drivers_live x p d reads zero.0) ]))
 
       right : (k x : ℕ) → slice_get order k ≡ Some x → IsIdle pending k → IsRightAt net words good x
-      right k x there idle = elim (listed_or changed x) [
+      right k x there idle = elim (stands_or_not changed x) [
         | inl at ↦ by_node at.0 at.1 (node_at net x) refl
         | inr none ↦ elim (touched.words x) [ inl same ↦ same_right x (were.differs.others x none) same | inr zero ↦ dead_right x zero.0 ]
       ]
@@ -292,7 +291,7 @@ module _ (net : Net) (words order : List ℕ) (formed : IsWellFormed net) (order
               (λ q d reads. ap (lane i) (sym (set_elsewhere good x d w (unread q d reads)))))
 
   pub all_right : (good pending : List ℕ) (n : ℕ) → n ≡ length order → AreNoOthers order good → IsRereading net words order good pending n → AreGoodWords net words good
-  all_right good pending n all others so i h x = elim (listed_or order x) [
+  all_right good pending n all others so i h x = elim (stands_or_not order x) [
     | inl at ↦ so.right at.0 x at.1 (so.read at.0 (rw all (slice_get_below order at.0 (λ none. let wrong : Some x ≡ None = sym at.1 ∙ none in cc)))) i h
     | inr none ↦ others x none i h ∙ sym (dead_value (node_at net x) (assignment words i x) (map (lane_values good i) (drivers_of net x)) (unlisted_dead net order ordered x none))
   ]

@@ -1,30 +1,18 @@
 -- Bits of the pending places.
-use Rattle.std.proofs.Common.{Bool, List, None, Some, ap, arith, false, inl, inr, length, length-set, refl, sym, true, w64, ℕ, ◌%◌, ◌&&◌, ◌+◌, ◌-◌, ◌/◌, ◌<◌, ◌^◌, ◌||◌, ◌∙◌, ◌≡◌, ◌≢◌, ◌≤◌}
+use Rattle.std.proofs.Common.{Bool, List, None, Some, ap, arith, false, inl, inr, length, length-set, sym, true, w64, ℕ, ◌%◌, ◌&&◌, ◌+◌, ◌-◌, ◌/◌, ◌<◌, ◌^◌, ◌||◌, ◌∙◌, ◌≡◌, ◌≢◌, ◌≤◌}
 use Rattle.std.proofs.Math.Nat.{div-div-eq-div-mul, div-le_self}
 use Rattle.std.proofs.lemmas.Bool.Decides.{eqb_tells}
 use Rattle.std.proofs.lemmas.Nat.{pow-add}
 use Rattle.std.proofs.lemmas.Nat.Bits.{bit_at-pow_other, bit_at-pow_same, bit_at_above}
 use Rattle.std.specs.Int.{bit_at, trailing_zeros}
 use Rattle.std.specs.Prelude.{bit_and, bit_or, bit_xor, nat_eq, not, slice_index, slice_set}
-use Rattle.gate_net.proofs.Public.{or_true}
+use Rattle.std.proofs.Math.Bool.{and-false, and-true, or-false, or-true}
 use Rattle.fault_sim.proofs.LaneLaws.{lane_and, lane_not, lane_or, lane_zero}
 use Rattle.fault_sim.proofs.Lists.{below_or}
 use Rattle.fault_sim.proofs.ReadInOrder.{set_elsewhere, set_here}
 use Rattle.fault_sim.proofs.Seeing.{first_lane}
 use Rattle.fault_sim.specs.Pending.{IsFirstBit, IsMarked, IsUnmarked, is_pending}
 use Rattle.fault_sim.specs.Words.{all_ones, lane}
-
-and_false : (b : Bool) → (b && false) ≡ false
-and_false true = refl
-and_false false = refl
-
-and_true : (b : Bool) → (b && true) ≡ b
-and_true true = refl
-and_true false = refl
-
-or_false : (b : Bool) → (b || false) ≡ b
-or_false true = refl
-or_false false = refl
 
 lane_pow_same : (k : ℕ) → lane k (2 ^ k) ≡ true
 lane_pow_same k = ap (λ (n : ℕ). nat_eq n 1) (bit_at-pow_same k)
@@ -33,16 +21,16 @@ lane_pow_other : (k i : ℕ) → i ≢ k → lane i (2 ^ k) ≡ false
 lane_pow_other k i ne = ap (λ (n : ℕ). nat_eq n 1) (bit_at-pow_other k i ne)
 
 with_same : (w k : ℕ) → lane k (bit_or w (2 ^ k)) ≡ true
-with_same w k = lane_or k w (2 ^ k) ∙ ap (λ (b : Bool). lane k w || b) (lane_pow_same k) ∙ or_true (lane k w)
+with_same w k = lane_or k w (2 ^ k) ∙ ap (λ (b : Bool). lane k w || b) (lane_pow_same k) ∙ or-true (lane k w)
 
 with_other : (w k i : ℕ) → i ≢ k → lane i (bit_or w (2 ^ k)) ≡ lane i w
-with_other w k i ne = lane_or i w (2 ^ k) ∙ ap (λ (b : Bool). lane i w || b) (lane_pow_other k i ne) ∙ or_false (lane i w)
+with_other w k i ne = lane_or i w (2 ^ k) ∙ ap (λ (b : Bool). lane i w || b) (lane_pow_other k i ne) ∙ or-false (lane i w)
 
 without_same : (w k : ℕ) → k < 64 → lane k (bit_and w (bit_xor (2 ^ k) all_ones)) ≡ false
-without_same w k h = lane_and k w (bit_xor (2 ^ k) all_ones) ∙ ap (λ (b : Bool). lane k w && b) (lane_not k (2 ^ k) h ∙ ap not (lane_pow_same k)) ∙ and_false (lane k w)
+without_same w k h = lane_and k w (bit_xor (2 ^ k) all_ones) ∙ ap (λ (b : Bool). lane k w && b) (lane_not k (2 ^ k) h ∙ ap not (lane_pow_same k)) ∙ and-false (lane k w)
 
 without_other : (w k i : ℕ) → i < 64 → i ≢ k → lane i (bit_and w (bit_xor (2 ^ k) all_ones)) ≡ lane i w
-without_other w k i h ne = lane_and i w (bit_xor (2 ^ k) all_ones) ∙ ap (λ (b : Bool). lane i w && b) (lane_not i (2 ^ k) h ∙ ap not (lane_pow_other k i ne)) ∙ and_true (lane i w)
+without_other w k i h ne = lane_and i w (bit_xor (2 ^ k) all_ones) ∙ ap (λ (b : Bool). lane i w && b) (lane_not i (2 ^ k) h ∙ ap not (lane_pow_other k i ne)) ∙ and-true (lane i w)
 
 same_place : (k p : ℕ) → k / 64 ≡ p / 64 → k % 64 ≡ p % 64 → k ≡ p
 same_place k p e f = omega arith

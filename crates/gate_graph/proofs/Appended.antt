@@ -11,7 +11,6 @@ use Rattle.gate_net.specs.Edits.{with_pin}
 use Rattle.gate_net.specs.Paths.{Reaches}
 use Rattle.gate_net.specs.Net.{IsLive}
 use Rattle.gate_net.specs.Values.{IsJunction}
-use Rattle.gate_graph.proofs.NetRanks.{pins_keep_acyclic}
 use Rattle.pin_pool.proofs.Public.{changed-back, changed-other, changed-same, has-push, same-rings, without-absent, without-push}
 use Rattle.pin_pool.specs.Ring.{has}
 use Rattle.pin_pool.specs.Pins.{list_of}
@@ -25,6 +24,7 @@ use Rattle.gate_graph.proofs.LeadOns.{lead-on, back-rings, within-same, kind-of,
 use Rattle.gate_graph.specs.Circuit.{Circuit, wiring, net_of, home}
 use Rattle.gate_graph.proofs.NetOf.{home-here, map-same, net-with, drivers-there, node-there}
 use Rattle.gate_graph.proofs.Ranked.{acyclic-net, wired-by}
+use Rattle.gate_net.proofs.Public.{pins_keep_acyclic}
 
 -- a pin at the end of one list
 abbrev pub pushed : (ℕ → List ℕ) → ℕ → ℕ → ℕ → List ℕ

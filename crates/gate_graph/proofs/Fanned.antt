@@ -4,7 +4,7 @@ use Rattle.std.specs.Prelude.{slice_get, eqb}
 use Rattle.std.proofs.lemmas.Bool.{cases_eq, cases_Bool, cases_lt, lt-ltb, le-ltb, ne_eqb, eq-eqb, false≢true, false_from_ne_true, or_left, or_right, or_parts}
 use Rattle.std.proofs.lemmas.List.{map-append, length-map}
 use Rattle.gate_net.specs.Net.{drivers_of}
-use Rattle.pin_pool.proofs.Public.{changed-other, changed-same}
+use Rattle.pin_pool.proofs.Public.{changed-other, changed-same, has-there}
 use Rattle.pin_pool.specs.Ring.{has, without, IsApart}
 use Rattle.pin_pool.specs.Pins.{list_of}
 use Rattle.pin_pool.specs.Rings.{Rings, AreRings, rings_of, linked, moved, redriven, unlinked, all_without}
@@ -12,7 +12,7 @@ use Rattle.gate_graph.specs.Wirings.{IsShaped, IsWired}
 use Rattle.gate_graph.specs.Circuit.{Circuit, wiring, net_of, fanouts_of, fans_in, gate_pins, home, reader, place_in, without_observed}
 use Rattle.gate_graph.specs.Readers.{LastReader, ReadersMove, ReaderMoves, lowered, lowered_by, is_place, without_place}
 use Rattle.gate_graph.proofs.NetOf.{home-here}
-use Rattle.gate_graph.proofs.Pinned.{drivers-all, has-at}
+use Rattle.gate_graph.proofs.Pinned.{drivers-all}
 use Rattle.gate_graph.proofs.Appended.{pushed}
 use Rattle.gate_graph.proofs.SameWired.{home-same}
 use Rattle.gate_graph.proofs.Removed.{had, keeps, elsewhere}
@@ -103,7 +103,7 @@ module _ (v : Circuit) (p g k : ℕ) (rv : AreRings (rings_of v.pool)) (ww : IsW
   obs = list_of v.pool.inputs 0
 
   in-gate : has p (list_of v.pool.inputs g) ≡ true
-  in-gate = has-at (list_of v.pool.inputs g) k p at
+  in-gate = has-there (list_of v.pool.inputs g) k p at
 
   unseen : has p obs ≡ false
   unseen = false_from_ne_true _ (λ h. ne (rv.inputs.one g 0 p in-gate h))
@@ -198,7 +198,7 @@ place-without (x ∷ xs) zero p q a at h ne =
     let is : x ≡ p = cc in
     rw (eq-eqb p x (sym is), ne_eqb q x (λ s. ne (s ∙ is))) (sym (lowered-zero (place_in xs q)))
 place-without (x ∷ xs) (suc k) p q a at h ne =
-    let far : p ≢ x = λ is. false≢true (sym a.0 ∙ ap (λ (r : ℕ). has r xs) (sym is) ∙ has-at xs k p at) in
+    let far : p ≢ x = λ is. false≢true (sym a.0 ∙ ap (λ (r : ℕ). has r xs) (sym is) ∙ has-there xs k p at) in
     elim (cases_eq q x) [
       | inl is ↦ rw (ne_eqb p x far, eq-eqb q x is) (sym (lowered-first k))
       | inr other ↦
@@ -219,7 +219,7 @@ module _ (v w : Circuit) (p g k : ℕ) (e : rings_of w.pool ≡ unlinked p (ring
   less-out n = ap (λ (r : Rings). r.fanouts n) e
 
   in-gate' : has p (old_in g) ≡ true
-  in-gate' = has-at (old_in g) k p at
+  in-gate' = has-there (old_in g) k p at
 
   reader-lowered : (n q : ℕ) → has q (list_of v.pool.fanouts n) ≡ true → q ≢ p → reader w.pool q ≡ lowered g k (reader v.pool q)
   reader-lowered n q h other =

@@ -8,11 +8,7 @@ use Rattle.gate_net.specs.Net.{Node, Net, IsLive, drivers_in, drivers_of, flatte
 use Rattle.std.specs.List.{AllByRecursion}
 use Rattle.gate_net.specs.Values.{HasPin}
 use Rattle.gate_net.specs.Faults.{fault_at, pin_faults, faults_from, faults_of}
-
-pub get_below : (xs : List ℕ) (p : ℕ) → p < length xs → (x : ℕ) × (slice_get xs p ≡ Some x)
-get_below [] p l = absurd (omega arith)
-get_below (x ∷ xs) zero l = (x, refl)
-get_below (x ∷ xs) (suc p) l = get_below xs p (omega arith)
+use Rattle.rm_base.proofs.Public.{all_append, stands_below}
 
 pub pins_step : (g p c : ℕ) → p < c → pin_faults g p (c - p) ≡ fault_at g p false ∷ fault_at g p true ∷ pin_faults g (p + 1) (c - (p + 1))
 pins_step g p c l =
@@ -66,15 +62,11 @@ drop_all (x ∷ xs) (suc n) l = drop_all xs n (omega arith)
 pub whole : (net : Net) (n : ℕ) (faults : List Fault) → length net.nodes ≤ n → faults ++ faults_from n (drop n net.nodes) ≡ faults_of net → faults ≡ faults_of net
 whole net n faults l e = sym (append-nil faults) ∙ ap (λ (os : List (Option Node)). faults ++ faults_from n os) (sym (drop_all net.nodes n l)) ∙ e
 
-all_append : {A : Type 0} (P : A → Type 0) (xs ys : List A) → AllByRecursion P xs → AllByRecursion P ys → AllByRecursion P (xs ++ ys)
-all_append P [] ys v w = w
-all_append P (x ∷ xs) ys v w = (v.0, all_append P xs ys v.1 w)
-
 -- each fault of a pin has that pin
 pins_there : (net : Net) (g p c : ℕ) → p + c ≡ length (drivers_of net g) → AllByRecursion (HasPin net) (pin_faults g p c)
 pins_there net g p zero e = tt
 pins_there net g p (suc c) e =
-    let there = get_below (drivers_of net g) p (omega (arith, e)) in
+    let there = stands_below (drivers_of net g) p (omega (arith, e)) in
     (there, (there, pins_there net g (suc p) c (omega (arith, e))))
 
 drop_get : (xs : List (Option Node)) (n : ℕ) (o : Option Node) (os : List (Option Node)) → drop n xs ≡ o ∷ os → (slice_get xs n ≡ Some o) × (drop (suc n) xs ≡ os)

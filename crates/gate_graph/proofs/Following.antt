@@ -2,11 +2,11 @@
 use Rattle.std.proofs.Common.{◌≡◌, ◌≢◌, ℕ, zero, suc, ◌+◌, ◌-◌, ◌<◌, ◌≤◌, true, false, ◌⊎◌, inl, inr, List, [], ◌∷◌, ◌++◌, length, map, get_or, Option, Some, None, refl, sym, ap, ◌∙◌, subst, arith, append-nil}
 use Rattle.std.specs.Prelude.{slice_get, slice_index, slice_set}
 use Rattle.std.proofs.lemmas.Bool.{cases_eq, cases_lt, cases_Bool, ne_eqb, eq-eqb, false≢true, false_from_ne_true, or_left, or_right, or_cases, or_parts}
-use Rattle.std.proofs.lemmas.List.{get_or-set_same, get_or-set_other}
+use Rattle.std.proofs.lemmas.List.{get_or-set_same, get_or-set_other, length_push}
 use Rattle.std.proofs.lemmas.Option.{slice_get_within}
 use Rattle.rm_base.specs.declared.numbers.NodeId.{NodeId}
 use Rattle.gate_net.specs.declared.Kind.{Kind}
-use Rattle.pin_pool.proofs.Public.{has-append, length-apart}
+use Rattle.pin_pool.proofs.Public.{has-append, has-there, length-apart}
 use Rattle.pin_pool.specs.Ring.{has, IsApart}
 use Rattle.pin_pool.specs.Pins.{list_of}
 use Rattle.pin_pool.specs.Rings.{AreRings, rings_of}
@@ -14,11 +14,10 @@ use Rattle.gate_graph.specs.Wirings.{IsShaped, IsWired, kind_at}
 use Rattle.gate_graph.specs.Circuit.{Circuit, wiring, net_of, gate_pins, home}
 use Rattle.gate_graph.specs.Order.{IsOrder, IsCounted, IsFollowed, IsFollowing, IsStarted, IsDriven, unseen_in}
 use Rattle.gate_graph.proofs.NetOf.{home-here}
-use Rattle.gate_graph.proofs.Pinned.{has-at}
 use Rattle.gate_graph.proofs.Ranked.{some-at, read-by}
 use Rattle.gate_graph.proofs.KindAt.{kind-within}
 use Rattle.gate_graph.proofs.Formed.{live-node, dead-node}
-use Rattle.gate_graph.proofs.Marking.{append_left, append_last}
+use Rattle.rm_base.proofs.Public.{front_stands, last_stands}
 
 -- LISTS
 push-cases : (xs : List ℕ) (d p y : ℕ) → slice_get (xs ++ d ∷ []) p ≡ Some y → (slice_get xs p ≡ Some y) ⊎ ((p ≡ length xs) × (y ≡ d))
@@ -26,9 +25,6 @@ push-cases [] d zero y e = inr (refl, cc)
 push-cases [] d (suc p) y e = inl e
 push-cases (x ∷ xs) d zero y e = inl e
 push-cases (x ∷ xs) d (suc p) y e = elim (push-cases xs d p y e) [ inl old ↦ inl old | inr new ↦ inr (ap suc new.0, new.1) ]
-
-at-below : (xs : List ℕ) (k x : ℕ) → slice_get xs k ≡ Some x → k < length xs
-at-below xs k x e = slice_get_within xs k x e
 
 has-beside : (seen : List ℕ) (p q : ℕ) → q ≢ p → has q (seen ++ p ∷ []) ≡ has q seen
 has-beside [] p q ne = rw (ne_eqb q p ne) refl
@@ -191,26 +187,26 @@ module _ (v : Circuit) (r : AreRings (rings_of v.pool)) (s : IsShaped (wiring v)
       ];
       counts = counts-now;
       listed = λ h l zero'. elim (cases_eq h g) [
-        | inl is ↦ (length xs, append_last xs g ∙ ap (λ (n : ℕ). Some n) (sym is))
-        | inr ne' ↦ let old = i.listed h l (sym (at-other h ne') ∙ zero') in (old.0, append_left xs g old.0 h old.1)
+        | inl is ↦ (length xs, last_stands xs g ∙ ap (λ (n : ℕ). Some n) (sym is))
+        | inr ne' ↦ let old = i.listed h l (sym (at-other h ne') ∙ zero') in (old.0, front_stands xs (g ∷ []) old.0 h old.1)
       ];
       ready = λ k h e. elim (push-cases xs g k h e) [
         | inl old ↦ (let ne' : h ≢ g = λ is. unlisted k (old ∙ ap (λ (n : ℕ). Some n) is) in at-other h ne' ∙ i.ready k h old)
         | inr new ↦ rw new.1 (omega (arith, at-gate, one))
       ];
       before = λ k h q e inside. elim (push-cases xs g k h e) [
-        | inl old ↦ let by = i.before k h q old inside in (by.0, (by.1.0, append_left xs g by.0 _ by.1.1))
+        | inl old ↦ let by = i.before k h q old inside in (by.0, (by.1.0, front_stands xs (g ∷ []) by.0 _ by.1.1))
         | inr new ↦
             let own' : has q (gate_pins v.pool g) ≡ true = ap (λ (n : ℕ). has q (gate_pins v.pool n)) (sym new.1) ∙ inside in
             let none : unseen_in (seen ++ p ∷ []) (gate_pins v.pool g) ≡ 0 = omega (arith, counts-now g gate-live, at-gate, one) in
             let by = from q (unseen-none (seen ++ p ∷ []) (gate_pins v.pool g) q none own') in
-            (by.0, ((let h' = by.1.0 in let k' = new.0 in omega (arith, h', k')), append_left xs g by.0 _ by.1.1))
+            (by.0, ((let h' = by.1.0 in let k' = new.0 in omega (arith, h', k')), front_stands xs (g ∷ []) by.0 _ by.1.1))
       ];
     }
 
 -- ONE NODE'S READERS
 driven-more : (v : Circuit) (xs : List ℕ) (g end p : ℕ) → IsDriven v xs end p → IsDriven v (xs ++ g ∷ []) end p
-driven-more v xs g end p by = (by.0, (by.1.0, append_left xs g by.0 _ by.1.1))
+driven-more v xs g end p by = (by.0, (by.1.0, front_stands xs (g ∷ []) by.0 _ by.1.1))
 
 pub following-start : (v : Circuit) (left xs : List ℕ) (next node : ℕ) → IsFollowed v left xs next → slice_get xs next ≡ Some node → IsFollowing v left xs next node []
 following-start v left xs next node f here = record {
@@ -226,7 +222,7 @@ pub following-end : (v : Circuit) (left xs : List ℕ) (next node : ℕ) (ys : L
 following-end v left xs next node ys r f e = record {
   seen = f.seen ++ ys;
   counted = f.counted;
-  room = omega (arith, at-below xs next node f.here);
+  room = omega (arith, slice_get_within xs next node f.here);
   from = λ p h. elim (or_cases (has p f.seen) (has p ys) (sym (has-append f.seen ys p) ∙ h)) [
     | inl old ↦ let by = f.from p old in (by.0, ((let less = by.1.0 in omega (arith, less)), by.1.1))
     | inr new ↦ (next, (omega arith, f.here ∙ ap (λ (n : ℕ). Some n) (sym (f.ours p new))))
@@ -282,7 +278,7 @@ module _ (v : Circuit) (left xs : List ℕ) (next node : ℕ) (ys : List ℕ) (r
 
   driven-now : (q : ℕ) → has q ((f.seen ++ ys) ++ p ∷ []) ≡ true → IsDriven v xs (length xs) q
   driven-now q h =
-      let inside = at-below xs next node f.here in
+      let inside = slice_get_within xs next node f.here in
       elim (or_cases (has q f.seen) (has q (ys ++ p ∷ [])) (sym (has-append f.seen (ys ++ p ∷ []) q) ∙ ap (has q) (sym more-seen) ∙ h)) [
         | inl old ↦ let by = f.from q old in (by.0, ((let less = by.1.0 in omega (arith, less, inside)), by.1.1))
         | inr new ↦ (next, (inside, f.here ∙ ap (λ (n : ℕ). Some n) (sym (ours-now q new))))
@@ -312,12 +308,12 @@ module _ (v : Circuit) (left xs : List ℕ) (next node : ℕ) (ys : List ℕ) (r
   following-last nz one = record {
     seen = f.seen;
     counted = subst (λ (l : List ℕ). IsCounted v (slice_set left g (slice_index left g - 1)) (xs ++ g ∷ []) l) more-seen (counted-last v r s left xs (f.seen ++ ys) f.counted p g at fresh nz one driven-now);
-    here = append_left xs g next node f.here;
+    here = front_stands xs (g ∷ []) next node f.here;
     from = λ q h. driven-more v xs g next q (f.from q h);
     ours = ours-now;
     done = λ k x q h e inside. elim (push-cases xs g k x e) [
       | inl old ↦ f.done k x q h old inside
-      | inr new ↦ (let less = at-below xs next node f.here in let is = new.0 in absurd (omega (arith, h, less, is)))
+      | inr new ↦ (let less = slice_get_within xs next node f.here in let is = new.0 in absurd (omega (arith, h, less, is)))
     ];
   }
 
@@ -358,10 +354,6 @@ index-last [] x g e = rw e refl
 index-last (y ∷ left) x zero e = absurd (omega arith)
 index-last (y ∷ left) x (suc g) e = index-last left x g (omega arith)
 
-length-push : (left : List ℕ) (x : ℕ) → length (left ++ x ∷ []) ≡ length left + 1
-length-push [] x = refl
-length-push (y ∷ left) x = omega (arith, length-push left x)
-
 module _ (v : Circuit) (left xs : List ℕ) (n x : ℕ) (i : IsStarted v left xs n) (is : x ≡ length (gate_pins v.pool n)) where
   index-now : (g : ℕ) → g < n + 1 → slice_index (left ++ x ∷ []) g ≡ length (gate_pins v.pool g)
   index-now g h = elim (cases_eq g n) [
@@ -371,7 +363,7 @@ module _ (v : Circuit) (left xs : List ℕ) (n x : ℕ) (i : IsStarted v left xs
 
   pub started-other : (kind_at v.kinds n ≡ None) ⊎ (x ≢ 0) → IsStarted v (left ++ x ∷ []) xs (n + 1)
   started-other or = record {
-    sizes = length-push left x ∙ ap (λ k. k + 1) i.sizes;
+    sizes = length_push left x ∙ ap (λ k. k + 1) i.sizes;
     within = λ k y e. omega (arith, i.within k y e);
     live = i.live;
     once = i.once;
@@ -388,7 +380,7 @@ module _ (v : Circuit) (left xs : List ℕ) (n x : ℕ) (i : IsStarted v left xs
 
   pub started-ready : kind_at v.kinds n ≢ None → x ≡ 0 → IsStarted v (left ++ x ∷ []) (xs ++ n ∷ []) (n + 1)
   started-ready alive none = record {
-    sizes = length-push left x ∙ ap (λ k. k + 1) i.sizes;
+    sizes = length_push left x ∙ ap (λ k. k + 1) i.sizes;
     within = λ k y e. elim (push-cases xs n k y e) [ inl old ↦ omega (arith, i.within k y old) | inr new ↦ (let same = new.1 in omega (arith, same)) ];
     live = λ k y e. elim (push-cases xs n k y e) [ inl old ↦ i.live k y old | inr new ↦ rw new.1 alive ];
     once = λ k l y e f. elim (push-cases xs n k y e) [
@@ -403,8 +395,8 @@ module _ (v : Circuit) (left xs : List ℕ) (n x : ℕ) (i : IsStarted v left xs
     ];
     counts = index-now;
     listed = λ g h l zero'. elim (cases_eq g n) [
-      | inl here ↦ (length xs, append_last xs n ∙ ap (λ (m : ℕ). Some m) (sym here))
-      | inr ne ↦ let low : g < n = omega arith in let old = i.listed g low l (i.counts g low ∙ sym (index-now g h) ∙ zero') in (old.0, append_left xs n old.0 g old.1)
+      | inl here ↦ (length xs, last_stands xs n ∙ ap (λ (m : ℕ). Some m) (sym here))
+      | inr ne ↦ let low : g < n = omega arith in let old = i.listed g low l (i.counts g low ∙ sym (index-now g h) ∙ zero') in (old.0, front_stands xs (n ∷ []) old.0 g old.1)
     ];
     ready = λ k g e. elim (push-cases xs n k g e) [
       | inl old ↦ (let low = i.within k g old in index-push left x g (omega (arith, low, i.sizes)) ∙ i.ready k g old)
@@ -456,7 +448,7 @@ all-listed v left xs r w f (suc n) g h live = elim (cases_eq (slice_index left g
       let by = w.shape.driven g p inside in
       let less = w.ranked g by.0 p nz inside by.1 in
       let at = all-listed v left xs r w f n by.0 (omega (arith, less, h)) (w.shape.drivers_live by.0 p by.1) in
-      absurd (false≢true (sym found.1.1 ∙ f.done at.0 by.0 p (at-below xs at.0 by.0 at.1) at.1 by.1))
+      absurd (false≢true (sym found.1.1 ∙ f.done at.0 by.0 p (slice_get_within xs at.0 by.0 at.1) at.1 by.1))
 ]
 
 pub order-is : (v : Circuit) (left xs : List ℕ) (next : ℕ) → AreRings (rings_of v.pool) → IsWired (wiring v) → IsFollowed v left xs next → length xs ≤ next → IsOrder (net_of v) xs
@@ -469,7 +461,7 @@ order-is v left xs next r w f end =
       once = f.counted.once;
       before = λ k l x y position e e' reads.
           let by = read-by v r w.shape y position x reads in
-          let driven = f.counted.before l y by.0 e' (has-at (gate_pins v.pool y) position by.0 (sym by.1.0)) in
+          let driven = f.counted.before l y by.0 e' (has-there (gate_pins v.pool y) position by.0 (sym by.1.0)) in
           let same : slice_get xs driven.0 ≡ Some x = driven.1.1 ∙ ap (λ (n : ℕ). Some n) (home-here v.pool.fanouts _ by.0 x r.fanouts by.1.1) in
           let is' = f.counted.once k driven.0 x e same in
           let less = driven.1.0 in omega (arith, is', less);

@@ -16,8 +16,9 @@ use Rattle.gate_graph.specs.Wirings.{IsShaped, IsWired, kind_at}
 use Rattle.gate_graph.specs.Circuit.{Circuit, kinds_live, wiring, net_of, node_with, gate_pins, home}
 use Rattle.gate_graph.proofs.NetOf.{node_at-net, node-there, observed-net, nodes-trimmed, home-here}
 use Rattle.gate_graph.proofs.LeadOns.{kind-of}
-use Rattle.gate_graph.proofs.Pinned.{has-at, drivers-all}
+use Rattle.gate_graph.proofs.Pinned.{drivers-all}
 use Rattle.gate_graph.proofs.Ranked.{acyclic-net, read-by, mapped}
+use Rattle.pin_pool.proofs.Public.{has-there}
 
 none-with : (o : Option Kind) (ds : List ℕ) → node_with o ds ≡ None → o ≡ None
 none-with None ds e = refl
@@ -111,7 +112,7 @@ well-formed v r w =
       observed_live = λ x at. (
           let there : option_map (home v.pool.fanouts) (slice_get (list_of v.pool.inputs 0) at.0) ≡ Some x = sym (slice_get-map (home v.pool.fanouts) (list_of v.pool.inputs 0) at.0) ∙ ap (λ (l : List ℕ). slice_get l at.0) (sym (observed-net v)) ∙ at.1 in
           let pin = mapped (home v.pool.fanouts) (slice_get (list_of v.pool.inputs 0) at.0) x there in
-          let by = s.driven 0 pin.0 (has-at (list_of v.pool.inputs 0) at.0 pin.0 (sym pin.1.0)) in
+          let by = s.driven 0 pin.0 (has-there (list_of v.pool.inputs 0) at.0 pin.0 (sym pin.1.0)) in
           let is : by.0 ≡ x = sym (home-here v.pool.fanouts _ pin.0 by.0 r.fanouts by.1) ∙ pin.1.1 in
           live-node v x (λ none. s.drivers_live by.0 pin.0 by.1 (ap (λ (n : ℕ). kind_at v.kinds n) is ∙ none)));
       nots_have_one = λ y is. (

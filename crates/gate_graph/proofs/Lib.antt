@@ -1,5 +1,3 @@
-pub mod NetEdits
-pub mod NetRanks
 pub mod Firsts
 pub mod KindAt
 pub mod KnownKinds
@@ -8,6 +6,7 @@ pub mod Started
 pub mod Bounded
 pub mod Placed
 pub mod Listed
+pub mod ListedReaders
 pub mod Marking
 pub mod Searches
 pub mod Fresh

@@ -1,5 +1,5 @@
 -- The lists of readers are those of the net.
-use Rattle.std.proofs.Common.{◌≡◌, ◌≢◌, ℕ, zero, suc, true, false, List, [], ◌∷◌, map, Option, Some, None, refl, sym, ap, ◌∙◌, inl, inr}
+use Rattle.std.proofs.Common.{◌≡◌, ◌≢◌, ℕ, true, false, List, [], ◌∷◌, map, Option, Some, None, refl, sym, ap, ◌∙◌, inl, inr}
 use Rattle.std.specs.Prelude.{slice_get}
 use Rattle.std.specs.Option.{option_map}
 use Rattle.std.proofs.lemmas.Bool.{cases_eq, ne_eqb, eq-eqb, or_left, or_right, cases_Bool, false≢true, false_from_ne_true}
@@ -12,24 +12,11 @@ use Rattle.gate_graph.specs.Wirings.{IsShaped}
 use Rattle.gate_graph.specs.Circuit.{Circuit, wiring, net_of, fanouts_of, gate_pins, home, reader, place_in, without_observed}
 use Rattle.gate_graph.specs.Readers.{ListReaders}
 use Rattle.gate_graph.proofs.NetOf.{home-here}
-use Rattle.gate_graph.proofs.Pinned.{has-at, drivers-all, pin-in}
+use Rattle.gate_graph.proofs.Pinned.{drivers-all, pin-in}
 use Rattle.gate_graph.proofs.Ranked.{some-at, read-by, not-zero}
 use Rattle.gate_graph.proofs.Placed.{fanouts-are}
-
-pub place-at : (xs : List ℕ) (p : ℕ) → has p xs ≡ true → slice_get xs (place_in xs p) ≡ Some p
-place-at [] p h = cc
-place-at (x ∷ xs) p h = elim (cases_eq p x) [
-  | inl is ↦ rw (eq-eqb p x is) (ap (λ (n : ℕ). Some n) (sym is))
-  | inr ne ↦ let later : has p xs ≡ true = rw (ne_eqb p x ne) at h in rw (ne_eqb p x ne) (place-at xs p later)
-]
-
-pub place-is : (xs : List ℕ) (k p : ℕ) → IsApart xs → slice_get xs k ≡ Some p → place_in xs p ≡ k
-place-is [] k p apart e = cc
-place-is (x ∷ xs) zero p apart e = let is : x ≡ p = cc in rw (eq-eqb p x (sym is)) refl
-place-is (x ∷ xs) (suc k) p apart e =
-    let inside : has p xs ≡ true = has-at xs k p e in
-    let ne : p ≢ x = λ is. false≢true (sym apart.0 ∙ ap (λ (q : ℕ). has q xs) (sym is) ∙ inside) in
-    rw (ne_eqb p x ne) (ap suc (place-is xs k p apart.1 e))
+use Rattle.gate_graph.proofs.PlaceLists.{at-place, place-at}
+use Rattle.pin_pool.proofs.Public.{has-there}
 
 pub kept-has : (seen ps : List ℕ) (p : ℕ) → has p ps ≡ true → has p seen ≡ false → has p (without_observed seen ps) ≡ true
 kept-has seen [] p h out = cc
@@ -94,12 +81,12 @@ module _ (v : Circuit) (r : AreRings (rings_of v.pool)) (s : IsShaped (wiring v)
       let by = s.read n p had.0 in
       let ne : by.0 ≢ 0 = λ is. false≢true (sym had.1 ∙ ap (λ (g : ℕ). has p (list_of v.pool.inputs g)) (sym is) ∙ by.1) in
       let is : home v.pool.inputs p ≡ by.0 = home-here v.pool.inputs _ p by.0 r.inputs by.1 in
-      (by.0, (ne, (rw is refl, place-at (list_of v.pool.inputs by.0) p by.1)))
+      (by.0, (ne, (rw is refl, at-place (list_of v.pool.inputs by.0) p by.1)))
 
   reads-all : (n k : ℕ) (place : ℕ × ℕ) → slice_get (fanouts_of v n) k ≡ Some place → Reads (net_of v) place.0 place.1 n
   reads-all n k place e =
       let p = pin-behind n k place e in
-      let inside = has-at (kept n) k p.0 p.1.0 in
+      let inside = has-there (kept n) k p.0 p.1.0 in
       let g = gate-behind n p.0 inside in
       let is : spot g.0 p.0 ≡ place = sym g.1.1.0 ∙ p.1.1 in
       rw (← is) (reads-at g.0 n p.0 (place_in (list_of v.pool.inputs g.0) p.0) g.1.0 g.1.1.1 (kept-had seen (list_of v.pool.fanouts n) p.0 inside).0)
@@ -113,7 +100,7 @@ module _ (v : Circuit) (r : AreRings (rings_of v.pool)) (s : IsShaped (wiring v)
       let at = some-at (kept n) by.0 (kept-has seen (list_of v.pool.fanouts n) by.0 by.1.1 out) in
       let there : slice_get (list_of v.pool.inputs place.0) place.1 ≡ Some by.0 = sym (rw (ne_eqb place.0 0 ne) at by.1.0) in
       let is : home v.pool.inputs by.0 ≡ place.0 = home-here v.pool.inputs _ by.0 place.0 r.inputs inside in
-      let here : place_in (list_of v.pool.inputs place.0) by.0 ≡ place.1 = place-is (list_of v.pool.inputs place.0) place.1 by.0 (r.inputs.apart place.0) there in
+      let here : place_in (list_of v.pool.inputs place.0) by.0 ≡ place.1 = place-at (list_of v.pool.inputs place.0) place.1 by.0 (r.inputs.apart place.0) there in
       let now : reader v.pool by.0 ≡ place = rw is (rw here refl) in
       (at.0, ap (λ (l : List (ℕ × ℕ)). slice_get l at.0) (sym (fanouts-are v n)) ∙ slice_get-map (reader v.pool) (kept n) at.0 ∙ ap (option_map (reader v.pool)) at.1 ∙ ap (λ (x : ℕ × ℕ). Some x) now)
 
@@ -127,11 +114,11 @@ module _ (v : Circuit) (r : AreRings (rings_of v.pool)) (s : IsShaped (wiring v)
   once-listed n k l place e f =
       let p = pin-behind n k place e in
       let q = pin-behind n l place f in
-      let g = gate-behind n p.0 (has-at (kept n) k p.0 p.1.0) in
-      let h = gate-behind n q.0 (has-at (kept n) l q.0 q.1.0) in
+      let g = gate-behind n p.0 (has-there (kept n) k p.0 p.1.0) in
+      let h = gate-behind n q.0 (has-there (kept n) l q.0 q.1.0) in
       let same : p.0 ≡ q.0 = same-pin g.0 h.0 p.0 q.0 (sym g.1.1.0 ∙ p.1.1 ∙ sym q.1.1 ∙ h.1.1.0) g.1.1.1 h.1.1.1 in
       let apart = kept-apart seen (list_of v.pool.fanouts n) (r.fanouts.apart n) in
-      sym (place-is (kept n) k p.0 apart p.1.0) ∙ ap (place_in (kept n)) same ∙ place-is (kept n) l q.0 apart q.1.0
+      sym (place-at (kept n) k p.0 apart p.1.0) ∙ ap (place_in (kept n)) same ∙ place-at (kept n) l q.0 apart q.1.0
 
   pub readers-listed : ListReaders v
   readers-listed = record { reads = reads-all; all = all-listed; once = once-listed }

@@ -5,21 +5,7 @@ use Rattle.std.proofs.lemmas.List.{get_or-set_same, get_or-set_other}
 use Rattle.std.proofs.lemmas.Option.{slice_get_within, slice_get-get_or}
 use Rattle.std.proofs.lemmas.Bool.{cases_lt}
 use Rattle.gate_graph.specs.Search.{IsSeen, unseen, Marked, ListsSeen}
-
-pub append_cases : (ds : List ℕ) (d p y : ℕ) → slice_get (ds ++ d ∷ []) p ≡ Some y → (slice_get ds p ≡ Some y) ⊎ (y ≡ d)
-append_cases [] d zero y e = inr cc
-append_cases [] d (suc p) y e = inl e
-append_cases (x ∷ ds) d zero y e = inl e
-append_cases (x ∷ ds) d (suc p) y e = append_cases ds d p y e
-
-pub append_left : (ds : List ℕ) (d p y : ℕ) → slice_get ds p ≡ Some y → slice_get (ds ++ d ∷ []) p ≡ Some y
-append_left [] d p y e = cc
-append_left (x ∷ ds) d zero y e = e
-append_left (x ∷ ds) d (suc p) y e = append_left ds d p y e
-
-pub append_last : (ds : List ℕ) (d : ℕ) → slice_get (ds ++ d ∷ []) (length ds) ≡ Some d
-append_last [] d = refl
-append_last (x ∷ ds) d = append_last ds d
+use Rattle.rm_base.proofs.Public.{front_stands, last_cases, last_stands}
 
 pub unseen-set : (s : List Bool) (d : ℕ) → slice_get s d ≡ Some false → suc (unseen (slice_set s d true)) ≡ unseen s
 unseen-set [] d e = cc
@@ -27,6 +13,12 @@ unseen-set (true ∷ s) zero e = cc
 unseen-set (false ∷ s) zero e = refl
 unseen-set (true ∷ s) (suc d) e = unseen-set s d e
 unseen-set (false ∷ s) (suc d) e = ap suc (unseen-set s d e)
+
+pub seen_or_not : (s : List Bool) (x : ℕ) → IsSeen s x ⊎ (IsSeen s x → ⊥)
+seen_or_not [] x = inr (λ e. cc)
+seen_or_not (true ∷ s) zero = inl refl
+seen_or_not (false ∷ s) zero = inr (λ e. cc)
+seen_or_not (b ∷ s) (suc x) = seen_or_not s x
 
 pub seen_kept : (s : List Bool) (d y : ℕ) → IsSeen s y → IsSeen (slice_set s d true) y
 seen_kept [] d y e = cc
@@ -53,9 +45,9 @@ module _ (ds : List ℕ) (s s' : List Bool) (st st' : List ℕ) (t e d : ℕ) (m
   marked_again is = record {
     room = m.room;
     kept = m.kept;
-    all = λ p y there. elim (append_cases ds d p y there) [ inl before ↦ m.all p y before | inr same ↦ rw same is ];
+    all = λ p y there. elim (last_cases ds d p y there) [ inl before ↦ m.all p y before | inr same ↦ rw same is ];
     below = m.below;
-    new = λ y h. elim (m.new y h) [ inl old ↦ inl old | inr found ↦ inr ((found.0.0, append_left ds d found.0.0 y found.0.1), found.1) ];
+    new = λ y h. elim (m.new y h) [ inl old ↦ inl old | inr found ↦ inr ((found.0.0, front_stands ds (d ∷ []) found.0.0 y found.0.1), found.1) ];
     queued = m.queued;
     grows = m.grows;
   }
@@ -72,7 +64,7 @@ module _ (ds : List ℕ) (s s' : List Bool) (st st' : List ℕ) (t e d : ℕ) (m
     marked_new = record {
       room = omega (arith, fewer, m.room);
       kept = λ y h. seen_kept s' d y (m.kept y h);
-      all = λ p y there. elim (append_cases ds d p y there) [
+      all = λ p y there. elim (last_cases ds d p y there) [
         | inl before ↦ seen_kept s' d y (m.all p y before)
         | inr is ↦ rw is (seen_new s' d (slice_get_within s' d false fresh))
       ];
@@ -81,9 +73,9 @@ module _ (ds : List ℕ) (s s' : List Bool) (st st' : List ℕ) (t e d : ℕ) (m
         | inl before ↦ elim (m.new y before) [
           | inl old ↦ inl old
           | inr found ↦ let ne : found.1.0 ≢ e = omega (arith, found.1.1.0) in
-              inr ((found.0.0, append_left ds d found.0.0 y found.0.1), (found.1.0, (omega (arith, found.1.1.0), get_or-set_other st' e found.1.0 d 0 ne ∙ found.1.1.1)))
+              inr ((found.0.0, front_stands ds (d ∷ []) found.0.0 y found.0.1), (found.1.0, (omega (arith, found.1.1.0), get_or-set_other st' e found.1.0 d 0 ne ∙ found.1.1.1)))
         ]
-        | inr is ↦ inr ((length ds, rw is (append_last ds d)), (e, (omega arith, get_or-set_same st' e d 0 fits ∙ sym is)))
+        | inr is ↦ inr ((length ds, rw is (last_stands ds d)), (e, (omega arith, get_or-set_same st' e d 0 fits ∙ sym is)))
       ];
       queued = λ k low high. elim (cases_lt k e) [
         | inl before ↦ let ne : k ≢ e = omega arith in rw (get_or-set_other st' e k d 0 ne) (seen_kept s' d (get_or st' k 0) (m.queued k low before))

@@ -7,13 +7,13 @@ use Rattle.std.proofs.lemmas.List.{get_or_past}
 use Rattle.gate_net.specs.declared.Kind.{Kind}
 use Rattle.gate_net.specs.Net.{Node, Net, flatten_option, node_at, drivers_of, drivers_in}
 use Rattle.gate_net.specs.Edits.{with_drivers, redriven}
-use Rattle.gate_graph.proofs.NetEdits.{node_at-other, node_at-there}
 use Rattle.pin_pool.specs.Ring.{has}
 use Rattle.pin_pool.specs.Pins.{list_of}
 use Rattle.pin_pool.specs.Rings.{AreOnce}
 use Rattle.gate_graph.specs.Wirings.{kind_at}
 use Rattle.gate_net.specs.Net.{trimmed, before_dead}
 use Rattle.gate_graph.specs.Circuit.{Circuit, net_of, node_in, node_with, gate_pins, home, number_with, number_or_zero, each_from}
+use Rattle.gate_net.proofs.Public.{node_at-other, node_at-there}
 
 before-get : (x : Option Node) (ys : List (Option Node)) (n : ℕ) → flatten_option (slice_get (before_dead x ys) n) ≡ flatten_option (slice_get (x ∷ ys) n)
 before-get None [] zero = refl

@@ -1,5 +1,5 @@
 -- Pins of gates, in a graph.
-use Rattle.std.proofs.Common.{◌≡◌, ℕ, zero, suc, ◌<◌, ◌≤◌, true, List, [], ◌∷◌, length, map, Option, Some, None, refl, sym, ap, ◌∙◌, arith, inl, inr}
+use Rattle.std.proofs.Common.{◌≡◌, ℕ, ◌<◌, ◌≤◌, true, List, [], ◌∷◌, length, map, Option, Some, None, refl, sym, ap, ◌∙◌, arith, inl, inr}
 use Rattle.std.specs.Prelude.{slice_get}
 use Rattle.std.specs.Option.{option_map}
 use Rattle.std.proofs.lemmas.Bool.{cases_eq, ne_eqb}
@@ -15,11 +15,7 @@ use Rattle.pin_pool.specs.Rings.{rings_of}
 use Rattle.gate_graph.specs.Wirings.{IsShaped, kind_at}
 use Rattle.gate_graph.specs.Circuit.{Circuit, wiring, net_of, node_with, gate_pins, home}
 use Rattle.gate_graph.proofs.NetOf.{node_at-net}
-
-pub has-at : (xs : List ℕ) (k p : ℕ) → slice_get xs k ≡ Some p → has p xs ≡ true
-has-at [] k p e = cc
-has-at (x ∷ xs) zero p e = let is : x ≡ p = cc in rw is (grind (arith, nat_tests))
-has-at (x ∷ xs) (suc k) p e = let later : has p xs ≡ true = has-at xs k p e in grind (arith, nat_tests)
+use Rattle.pin_pool.proofs.Public.{has-there}
 
 pub no-pins : (xs : List ℕ) → ((p : ℕ) → has p xs ≡ true → ⊥) → xs ≡ []
 no-pins [] h = refl
@@ -56,7 +52,7 @@ module _ (v : Circuit) (w : IsShaped (wiring v)) where
   pub pin-in : (g k p : ℕ) → Some p ≡ slice_get (gate_pins v.pool g) k → has p (list_of v.pool.inputs g) ≡ true
   pin-in g k p e = elim (cases_eq g 0) [
     | inl is ↦ let e' : Some p ≡ slice_get [] k = rw is at e in cc
-    | inr ne ↦ has-at (list_of v.pool.inputs g) k p (sym (rw (ne_eqb g 0 ne) at e))
+    | inr ne ↦ has-there (list_of v.pool.inputs g) k p (sym (rw (ne_eqb g 0 ne) at e))
   ]
 
   pub pin-there : (g k : ℕ) → k < length (drivers_of (net_of v) g) → None ≡ slice_get (gate_pins v.pool g) k → ⊥

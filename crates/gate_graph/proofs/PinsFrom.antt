@@ -1,8 +1,7 @@
 -- Pins from a position on.
-use Rattle.std.proofs.Common.{◌≡◌, ℕ, zero, suc, Some, None, inl, inr, List, [], ◌∷◌, drop, true, eqb, sym}
+use Rattle.std.proofs.Common.{◌≡◌, ℕ, zero, suc, Some, None, inl, inr, List, [], ◌∷◌, drop, sym}
 use Rattle.std.specs.Prelude.{slice_get}
-use Rattle.std.proofs.lemmas.Bool.{cases_eq, ne_eqb, or_right}
-use Rattle.pin_pool.specs.Ring.{has}
+use Rattle.std.proofs.lemmas.Bool.{cases_eq, ne_eqb}
 use Rattle.pin_pool.specs.Pins.{Pins, list_of}
 use Rattle.gate_graph.specs.Circuit.{gate_pins}
 
@@ -23,8 +22,3 @@ listed-there v gate k p e = elim (cases_eq gate 0) [
   | inl is ↦ let none : Some p ≡ slice_get [] k = rw is at e in cc
   | inr ne ↦ sym (rw (ne_eqb gate 0 ne) at e)
 ]
-
-pub has-drop : (xs : List ℕ) (k q : ℕ) → has q (drop k xs) ≡ true → has q xs ≡ true
-has-drop xs zero q h = h
-has-drop [] (suc k) q h = h
-has-drop (x ∷ xs) (suc k) q h = or_right (eqb q x) (has q xs) (has-drop xs k q h)

@@ -6,7 +6,7 @@ use Rattle.std.proofs.lemmas.Bool.Decides.{eqb_tells, nat_tests}
 use Rattle.pin_pool.specs.Ring.{has, without, IsApart}
 use Rattle.gate_graph.specs.Circuit.{place_in, without_observed}
 use Rattle.gate_graph.specs.Spots.{places_from, without_gate}
-use Rattle.gate_graph.proofs.Pinned.{has-at}
+use Rattle.pin_pool.proofs.Public.{has-there}
 
 -- readers that stay
 pub readers-same : (f g : ℕ → ℕ × ℕ) (obs xs : List ℕ) → ((q : ℕ) → has q xs ≡ true → has q obs ≡ false → f q ≡ g q) → map f (without_observed obs xs) ≡ map g (without_observed obs xs)
@@ -43,7 +43,7 @@ pub place-at : (xs : List ℕ) (k p : ℕ) → IsApart xs → slice_get xs k ≡
 place-at [] k p a h = cc
 place-at (x ∷ xs) zero p a h = let is : x ≡ p = cc in rw (is, eq-eqb p p refl) refl
 place-at (x ∷ xs) (suc k) p a h =
-    let ne : p ≢ x = λ is. false≢true (sym a.0 ∙ ap (λ (q : ℕ). has q xs) (sym is) ∙ has-at xs k p h) in
+    let ne : p ≢ x = λ is. false≢true (sym a.0 ∙ ap (λ (q : ℕ). has q xs) (sym is) ∙ has-there xs k p h) in
     rw (ne_eqb p x ne, place-at xs k p a.1 h) refl
 
 pub at-place : (xs : List ℕ) (q : ℕ) → has q xs ≡ true → slice_get xs (place_in xs q) ≡ Some q

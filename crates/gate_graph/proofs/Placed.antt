@@ -13,8 +13,8 @@ use Rattle.pin_pool.specs.Rings.{AreRings, rings_of}
 use Rattle.gate_graph.specs.Wirings.{IsShaped}
 use Rattle.gate_graph.specs.Circuit.{Circuit, wiring, net_of, fanouts_of, home, reader, place_in, without_observed}
 use Rattle.gate_graph.proofs.NetOf.{observed-net, home-here}
-use Rattle.gate_graph.proofs.Pinned.{has-at}
 use Rattle.gate_graph.proofs.Ranked.{some-at, mapped}
+use Rattle.pin_pool.proofs.Public.{has-there}
 
 pub place-found : (ys rest : List ℕ) (p : ℕ) → has p ys ≡ false → length ys ≡ place_in (ys ++ p ∷ rest) p
 place-found [] rest p h = rw (eq-eqb p p refl) refl
@@ -81,7 +81,7 @@ module _ (v : Circuit) (rv : AreRings (rings_of v.pool)) (s : IsShaped (wiring v
   observed-pin n at =
       let there : option_map (home v.pool.fanouts) (slice_get (list_of v.pool.inputs 0) at.0) ≡ Some n = sym (slice_get-map (home v.pool.fanouts) (list_of v.pool.inputs 0) at.0) ∙ ap (λ (l : List ℕ). slice_get l at.0) (sym (observed-net v)) ∙ at.1 in
       let pin = mapped (home v.pool.fanouts) (slice_get (list_of v.pool.inputs 0) at.0) n there in
-      let inside = has-at (list_of v.pool.inputs 0) at.0 pin.0 (sym pin.1.0) in
+      let inside = has-there (list_of v.pool.inputs 0) at.0 pin.0 (sym pin.1.0) in
       let by = s.driven 0 pin.0 inside in
       let is : by.0 ≡ n = sym (home-here v.pool.fanouts _ pin.0 by.0 rv.fanouts by.1) ∙ pin.1.1 in
       (pin.0, (ap (λ (m : ℕ). has pin.0 (list_of v.pool.fanouts m)) (sym is) ∙ by.1, inside))

@@ -4,9 +4,9 @@
 pub use Rattle.gate_graph.proofs.Bounded.{live-below}
 -- A node whose kind is known.
 pub use Rattle.gate_graph.proofs.KnownKinds.{kind-known}
+-- What is listed as a reader reads the node, and the other way round.
+pub use Rattle.gate_graph.proofs.ListedReaders.{reader_reads, reads_listed}
 -- Marking one driver more.
-pub use Rattle.gate_graph.proofs.Marking.{is_at, seen_cases, seen_kept, seen_new, unseen-set}
+pub use Rattle.gate_graph.proofs.Marking.{is_at, seen_cases, seen_kept, seen_new, seen_or_not, unseen-set}
 -- A search back along the pins.
 pub use Rattle.gate_graph.proofs.Searches.{none_seen, unseen-replicate}
--- The faults of a net, pin by pin and node by node.
-pub use Rattle.gate_graph.proofs.FaultLists.{get_below}

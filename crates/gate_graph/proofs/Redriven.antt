@@ -8,9 +8,7 @@ use Rattle.gate_net.specs.Net.{Net, drivers_of, Reads, IsAcyclic}
 use Rattle.gate_net.specs.Edits.{with_drivers, with_pin}
 use Rattle.gate_net.specs.Net.{IsLive}
 use Rattle.gate_net.specs.Paths.{Reaches}
-use Rattle.gate_graph.proofs.NetEdits.{node_at-other, node_at-there}
-use Rattle.gate_graph.proofs.NetRanks.{pins_keep_acyclic}
-use Rattle.pin_pool.proofs.Public.{back, same-rings, stands}
+use Rattle.pin_pool.proofs.Public.{back, has-there, same-rings, stands}
 use Rattle.pin_pool.specs.Ring.{has, IsApart}
 use Rattle.pin_pool.specs.Pins.{list_of, StandsIn, put_after}
 use Rattle.pin_pool.specs.declared.names.PinNo.{PinNo}
@@ -23,23 +21,15 @@ use Rattle.gate_graph.specs.Entries.{CanTakeBack, LeadOn}
 use Rattle.gate_graph.specs.Circuit.{Circuit, wiring, net_of, gate_pins, home}
 use Rattle.gate_graph.proofs.NetOf.{home-here, map-same, net-with, drivers-there, node-there}
 use Rattle.gate_graph.proofs.LeadOns.{lead-rings, live-in}
-use Rattle.gate_graph.proofs.Pinned.{has-at}
 use Rattle.gate_graph.proofs.Ranked.{acyclic-net, wired-by, not-zero}
 use Rattle.gate_graph.proofs.Appended.{pushed, pushed-has, pushed-keeps, pushed-had, without-pushed}
 use Rattle.gate_graph.proofs.Removed.{out, had, keeps}
+use Rattle.gate_net.proofs.Public.{node_at-other, node_at-there, pins_keep_acyclic}
+use Rattle.rm_base.proofs.Public.{front_stands, last_stands}
 
 some-kind : (o : Option Kind) → o ≢ None → (k : Kind) × (o ≡ Some k)
 some-kind None h = absurd (h refl)
 some-kind (Some k) h = (k, refl)
-
-at-last : (ds : List ℕ) (d : ℕ) → slice_get (ds ++ d ∷ []) (length ds) ≡ Some d
-at-last [] d = refl
-at-last (x ∷ ds) d = at-last ds d
-
-at-more : (ds : List ℕ) (d k x : ℕ) → slice_get ds k ≡ Some x → slice_get (ds ++ d ∷ []) k ≡ Some x
-at-more [] d k x e = cc
-at-more (y ∷ ds) d zero x e = e
-at-more (y ∷ ds) d (suc k) x e = at-more ds d k x e
 
 at-set : (ds : List ℕ) (k d j x : ℕ) → slice_get (set ds k d) j ≡ Some x → (x ≡ d) ⊎ (slice_get ds j ≡ Some x)
 at-set [] k d j x e = cc
@@ -63,8 +53,8 @@ redrives-acyclic net g k d acyclic live ne apart =
           let there : Reads (with_drivers net g (slice_set (drivers_of net g) k d)) g j x = rw t.1 at reads in
           let now : slice_get (slice_set (drivers_of net g) k d) j ≡ Some x = rw (node_at-there net g (slice_set (drivers_of net g) k d) _ live.1.1) at there in
           elim (at-set (drivers_of net g) k d j x now) [
-            | inl is ↦ (length (drivers_of net g), rw (t.1, node_at-there net g (drivers_of net g ++ d ∷ []) _ live.1.1, is) (at-last (drivers_of net g) d))
-            | inr old ↦ (j, rw (t.1, node_at-there net g (drivers_of net g ++ d ∷ []) _ live.1.1) (at-more (drivers_of net g) d j x old))
+            | inl is ↦ (length (drivers_of net g), rw (t.1, node_at-there net g (drivers_of net g ++ d ∷ []) _ live.1.1, is) (last_stands (drivers_of net g) d))
+            | inr old ↦ (j, rw (t.1, node_at-there net g (drivers_of net g ++ d ∷ []) _ live.1.1) (front_stands (drivers_of net g) (d ∷ []) j x old))
           ]
     ]
 
@@ -75,7 +65,7 @@ set-map f h (x ∷ xs) zero p d a e there others =
     let rest : map h xs ≡ map f xs = map-same h f xs (λ q m. others q (grind (arith, nat_tests)) (λ same. (let wrong : has x xs ≡ true = rw (is, sym same) m in absurd (grind (arith, nat_tests, a.0))))) in
     rw (is, there, rest) refl
 set-map f h (x ∷ xs) (suc k) p d a e there others =
-    let ne : x ≢ p = λ is. (let wrong : has x xs ≡ true = rw is (has-at xs k p e) in absurd (grind (arith, nat_tests, a.0))) in
+    let ne : x ≢ p = λ is. (let wrong : has x xs ≡ true = rw is (has-there xs k p e) in absurd (grind (arith, nat_tests, a.0))) in
     let here : h x ≡ f x = others x (grind (arith, nat_tests)) ne in
     rw (here, set-map f h xs k p d a.1 e there (λ q m. others q (grind (arith, nat_tests)))) refl
 
@@ -114,7 +104,7 @@ module _ (v w : Circuit) (p d : ℕ) (same : w.kinds ≡ v.kinds) (e : rings_of 
 
   module _ (rw' : AreRings (rings_of w.pool)) (ww : IsWired (wiring v)) (g k : ℕ) (kind : Kind) (ne : g ≢ 0) (live : kind_at v.kinds g ≡ Some kind) (at : slice_get (ins g) k ≡ Some p) where
     in-gate : has p (ins g) ≡ true
-    in-gate = has-at (ins g) k p at
+    in-gate = has-there (ins g) k p at
 
     home-old : (n q : ℕ) → has q (ins n) ≡ true → q ≢ p → home w.pool.fanouts q ≡ home v.pool.fanouts q
     home-old n q h ne' =
@@ -167,7 +157,7 @@ pub redrives : (v w : Circuit) (g k d : ℕ) (pin : PinNo) (slot : Slot) → w.k
 redrives v w g k d pin slot same e rv rw' ww driver apart path at stood =
     let ne = not-zero v g k pin.0 at in
     let at' : slice_get (list_of v.pool.inputs g) k ≡ Some pin.0 = sym (rw (ne_eqb g 0 ne) at at) in
-    let kind = some-kind (kind_at v.kinds g) (ww.shape.gates_live g pin.0 (has-at (list_of v.pool.inputs g) k pin.0 at')) in
+    let kind = some-kind (kind_at v.kinds g) (ww.shape.gates_live g pin.0 (has-there (list_of v.pool.inputs g) k pin.0 at')) in
     record {
       wired = wired-redriven v w pin.0 d same e rv rw' ww g k kind.0 ne kind.1 at' (live-in v d driver) apart path;
       net = net-redriven v w pin.0 d same e rv rw' ww g k kind.0 ne kind.1 at';

@@ -8,7 +8,7 @@ use Rattle.gate_net.specs.declared.Kind.TheVariants.{Not}
 use Rattle.gate_net.specs.Net.{drivers_of}
 use Rattle.gate_net.specs.Values.{IsJunction}
 use Rattle.gate_net.specs.Edits.{without as without_at, without_pin}
-use Rattle.pin_pool.proofs.Public.{back, has-without, same-rings, stands, without-absent}
+use Rattle.pin_pool.proofs.Public.{back, has-there, has-without, same-rings, stands, without-absent}
 use Rattle.pin_pool.specs.Ring.{has, without, IsApart}
 use Rattle.pin_pool.specs.Pins.{list_of}
 use Rattle.pin_pool.specs.declared.names.PinNo.{PinNo}
@@ -21,7 +21,6 @@ use Rattle.gate_graph.specs.Entries.{CanTakeBack, LeadOn}
 use Rattle.gate_graph.specs.Circuit.{Circuit, wiring, net_of, gate_pins, home}
 use Rattle.gate_graph.proofs.NetOf.{home-here, map-same, net-with, drivers-there}
 use Rattle.gate_graph.proofs.LeadOns.{lead-rings, kind-of, not-not, not-constant}
-use Rattle.gate_graph.proofs.Pinned.{has-at}
 
 module _ (f : ℕ → List ℕ) (taken : ℕ → Bool) (once : AreOnce f taken) (p : ℕ) where
   pub out : IsOut (all_without p f) p
@@ -43,7 +42,7 @@ without-map : (f : ℕ → ℕ) (xs : List ℕ) (k p : ℕ) → IsApart xs → s
 without-map f [] k p a e = cc
 without-map f (x ∷ xs) zero p a e = let is : x ≡ p = cc in rw (is, eq-eqb p p refl) refl
 without-map f (x ∷ xs) (suc k) p a e = elim (cases_eq p x) [
-  | inl is ↦ let wrong : has x xs ≡ true = rw (sym is) (has-at xs k p e) in absurd (false≢true (sym a.0 ∙ wrong))
+  | inl is ↦ let wrong : has x xs ≡ true = rw (sym is) (has-there xs k p e) in absurd (false≢true (sym a.0 ∙ wrong))
   | inr ne ↦ rw (ne_eqb p x ne) (ap (λ (l : List ℕ). f x ∷ l) (without-map f xs k p a.1 e))
 ]
 
@@ -72,7 +71,7 @@ module _ (v w : Circuit) (p : ℕ) (same : w.kinds ≡ v.kinds) (e : rings_of w.
 
   module _ (rw' : AreRings (rings_of w.pool)) (ww : IsWired (wiring v)) (g k : ℕ) (kind : Kind) (ne : g ≢ 0) (live : kind_at v.kinds g ≡ Some kind) (at : slice_get (ins g) k ≡ Some p) where
     in-gate : has p (ins g) ≡ true
-    in-gate = has-at (ins g) k p at
+    in-gate = has-there (ins g) k p at
 
     home-old : (n q : ℕ) → has q (all_without p ins n) ≡ true → home w.pool.fanouts q ≡ home v.pool.fanouts q
     home-old n q h =

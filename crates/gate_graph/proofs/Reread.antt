@@ -4,13 +4,12 @@ use mathlib.Core.Path.{fun_ext}
 use Rattle.std.proofs.lemmas.Bool.{cases_eq, ne_eqb, eq-eqb, or_cases}
 use Rattle.std.proofs.lemmas.Bool.Decides.{nat_tests}
 use Rattle.std.proofs.lemmas.List.{take_at, drop_at}
-use Rattle.gate_net.proofs.Public.{node_at-moved}
+use Rattle.gate_net.proofs.Public.{moves_keep_acyclic, node_at-moved}
 use Rattle.gate_net.specs.declared.Kind.{Kind}
 use Rattle.gate_net.specs.Net.{Node, IsAcyclic}
 use Rattle.gate_net.specs.Net.{IsLive}
 use Rattle.gate_net.specs.Paths.{Reaches}
 use Rattle.gate_net.specs.Edits.{redirected, node_redirected, with_readers_moved}
-use Rattle.gate_graph.proofs.NetRanks.{moves_keep_acyclic}
 use Rattle.pin_pool.proofs.Public.{changed-other, changed-same, has-append, same-rings}
 use Rattle.pin_pool.specs.Ring.{has}
 use Rattle.pin_pool.specs.Pins.{list_of}

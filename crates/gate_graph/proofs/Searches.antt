@@ -7,6 +7,7 @@ use Rattle.gate_net.specs.Net.{Net, Node, node_at, drivers_of, Reads, IsLive, Is
 use Rattle.gate_net.specs.Paths.{Reaches, pin, on}
 use Rattle.gate_graph.specs.Search.{IsSeen, AreBelow, unseen, Marked, MarksBack, Searched, ListsSeen}
 use Rattle.gate_graph.proofs.Bounded.{live-below}
+use Rattle.gate_net.proofs.Public.{node_live}
 
 pub unseen-replicate : (n : ℕ) → unseen (replicate n false) ≡ n
 unseen-replicate zero = refl
@@ -87,16 +88,13 @@ some-node : (o : Option Node) → o ≢ None → (n : Node) × (o ≡ Some n)
 some-node None h = absurd (h refl)
 some-node (Some n) h = (n, refl)
 
-pub is-live : (net : Net) (x : ℕ) → node_at net x ≢ None → IsLive net x
-is-live net x h = let n = some-node (node_at net x) h in (n.0.kind, (n.0.drivers, n.1))
-
 -- what leads somewhere is live
 pub reaching-live : (net : Net) → IsWellFormed net → {x y : ℕ} → Reaches net x y → node_at net x ≢ None
 reaching-live net w {x} {y} (pin p reads) = w.drivers_live y p x reads
 reaching-live net w (on p path reads) = reaching-live net w path
 
 pub queued-live : (net : Net) (to : ℕ) (seen : List Bool) (st : List ℕ) (next end : ℕ) → IsWellFormed net → Searched net to seen st next end → next < end → IsLive net (slice_index st next)
-queued-live net to seen st next end w s h = is-live net (slice_index st next) (reaching-live net w (s.sound (slice_index st next) (s.queued next h)))
+queued-live net to seen st next end w s h = node_live net (slice_index st next) (reaching-live net w (s.sound (slice_index st next) (s.queued next h)))
 
 pub drivers-below : (net : Net) (g n : ℕ) (ds : List ℕ) → IsWellFormed net → length net.nodes ≤ n → ds ≡ drivers_of net g → AreBelow ds n
 drivers-below net g n ds w h e p x reads = omega (arith, live-below net x (w.drivers_live g p x (ap (λ (l : List ℕ). slice_get l p) (sym e) ∙ reads)), h)

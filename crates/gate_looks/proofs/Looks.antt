@@ -5,8 +5,9 @@ use Rattle.std.proofs.lemmas.Bool.Decides.{eqb_tells}
 use Rattle.std.proofs.lemmas.List.{length-map}
 use Rattle.std.specs.List.{list_all, list_any}
 use Rattle.std.specs.Prelude.{if◌then◌else◌, nat_eq, slice_get}
+use Rattle.std.proofs.Math.Bool.{or-true, or_assoc}
 use Rattle.gate_net.specs.Forward.{all_but, is_known, junction_back, junction_follows}
-use Rattle.gate_net.proofs.Public.{map_at, or_true, same_bool_refl, set_other, set_there}
+use Rattle.gate_net.proofs.Public.{same_bool_refl}
 use Rattle.gate_net.specs.Net.{Net, drivers_of}
 use Rattle.gate_net.specs.Values.{faulty_reads}
 use Rattle.gate_looks.specs.Pins.{FailsAt, Glances, failing, pin_value, stuck_of, with_stuck}
@@ -14,6 +15,7 @@ use Rattle.gate_looks.specs.declared.pins.Glance.{Glance}
 use Rattle.gate_looks.specs.declared.pins.Stuck.{Stuck}
 use Rattle.rm_base.specs.declared.numbers.Fault.{Fault}
 use mathlib.Core.Bool.{beq}
+use Rattle.rm_base.proofs.Public.{drop_end, drop_stands, map_at, set_other, set_there}
 
 -- what is read at a pin
 pub pin_at : (stuck : Option Stuck) (k : ℕ → Option Bool) (ds : List ℕ) (q d : ℕ) → slice_get ds q ≡ Some d → slice_get (with_stuck stuck (map k ds)) q ≡ Some (pin_value stuck q (k d))
@@ -26,17 +28,6 @@ pin_at (Some s) k ds q d e = elim (eqb_tells q s.position) [
 pub stuck_reads : (net : Net) (fault : Fault) (k : ℕ → Option Bool) (y : ℕ) → with_stuck (stuck_of fault y) (map k (drivers_of net y)) ≡ faulty_reads net fault Some k y
 stuck_reads net fault k y = elim (eqb_tells y fault.gate.0) [ inl t ↦ rw t.0 refl | inr t ↦ rw t.0 refl ]
 
-pub drop_at : {A : Type 0} (xs : List A) (q : ℕ) (x : A) → slice_get xs q ≡ Some x → drop q xs ≡ x ∷ drop (suc q) xs
-drop_at [] q x e = cc
-drop_at (y ∷ xs) zero x e = let same : y ≡ x = cc in ap (λ z. z ∷ xs) same
-drop_at (y ∷ xs) (suc q) x e = drop_at xs q x e
-
-drop_end : {A : Type 0} (xs : List A) (q : ℕ) → length xs ≤ q → drop q xs ≡ []
-drop_end [] zero h = refl
-drop_end [] (suc q) h = refl
-drop_end (x ∷ xs) zero h = absurd (omega arith)
-drop_end (x ∷ xs) (suc q) h = drop_end xs q (omega arith)
-
 -- a look that has come as far as pin q
 pub record LooksTo (any : Bool) (rest at q : ℕ) (c : Bool) (os : List (Option Bool)) : Type 0 where
   pub any_is : (any || list_any (is_known c) (drop q os)) ≡ list_any (is_known c) os
@@ -47,20 +38,16 @@ pub record LooksTo (any : Bool) (rest at q : ℕ) (c : Bool) (os : List (Option 
 pub looks_first : (c : Bool) (os : List (Option Bool)) → LooksTo false 0 0 0 c os
 looks_first c os = record { any_is = refl; rest_is = omega arith; at_is = λ h. absurd (omega arith); few = omega arith }
 
-or_assoc : (a b c : Bool) → ((a || b) || c) ≡ (a || (b || c))
-or_assoc true b c = refl
-or_assoc false b c = refl
-
 pub looks_more : (any : Bool) (rest at q : ℕ) (c : Bool) (os : List (Option Bool)) (o : Option Bool) → LooksTo any rest at q c os → slice_get os q ≡ Some o → (any' : Bool) → any' ≡ (any || is_known c o) → (rest' at' : ℕ) → (t : Bool) → is_known (not c) o ≡ t → rest' ≡ (if t then rest else rest + 1) → at' ≡ (if t then at else q) → LooksTo any' rest' at' (q + 1) c os
 looks_more any rest at q c os o l e any' is_any rest' at' true is is_rest is_at = let step : q + 1 ≡ suc q = omega arith in record {
-  any_is = rw (is_any, step) (or_assoc any (is_known c o) (list_any (is_known c) (drop (suc q) os)) ∙ rw (drop_at os q o e) at l.any_is);
-  rest_is = rw (is_rest, step) (rw is at (rw (drop_at os q o e) at l.rest_is));
+  any_is = rw (is_any, step) (or_assoc any (is_known c o) (list_any (is_known c) (drop (suc q) os)) ∙ rw (drop_stands os q o e) at l.any_is);
+  rest_is = rw (is_rest, step) (rw is at (rw (drop_stands os q o e) at l.rest_is));
   at_is = rw (is_rest, is_at) l.at_is;
   few = let few : rest ≤ q = l.few in omega arith;
 }
 looks_more any rest at q c os o l e any' is_any rest' at' false is is_rest is_at = let step : q + 1 ≡ suc q = omega arith in record {
-  any_is = rw (is_any, step) (or_assoc any (is_known c o) (list_any (is_known c) (drop (suc q) os)) ∙ rw (drop_at os q o e) at l.any_is);
-  rest_is = rw step (let before : rest + suc (failing (is_known (not c)) (drop (suc q) os)) ≡ failing (is_known (not c)) os = rw is at (rw (drop_at os q o e) at l.rest_is) in omega arith);
+  any_is = rw (is_any, step) (or_assoc any (is_known c o) (list_any (is_known c) (drop (suc q) os)) ∙ rw (drop_stands os q o e) at l.any_is);
+  rest_is = rw step (let before : rest + suc (failing (is_known (not c)) (drop (suc q) os)) ≡ failing (is_known (not c)) os = rw is at (rw (drop_stands os q o e) at l.rest_is) in omega arith);
   at_is = λ h. rw is_at (o, (e, is));
   few = let few : rest ≤ q = l.few in omega arith;
 }
@@ -167,7 +154,7 @@ pins_length None k ds = length-map ds k
 pins_length (Some s) k ds = length-set (map k ds) s.position (Some s.value) ∙ length-map ds k
 
 pub or_then : (any any' b : Bool) → b ≡ true → any' ≡ true → any' ≡ (any || b)
-or_then any any' b e f = rw (e, f) (sym (or_true any))
+or_then any any' b e f = rw (e, f) (sym (or-true any))
 
 pub or_else : (any any' b : Bool) → b ≡ false → any' ≡ any → any' ≡ (any || b)
 or_else any any' b e f = rw (e, f) (sym (or_none any))

@@ -6,8 +6,6 @@ pub use Rattle.gate_looks.proofs.Agendas.{read_is, seen_left, seen_stays}
 -- One look at a gate's pins tells all that follows there.
 pub use Rattle.gate_looks.proofs.Looks.{LooksTo, glance_all, glance_many, glance_not_all, glance_one, looks_more}
 pub use Rattle.gate_looks.proofs.Looks.{never_other, or_else, or_then, pin_at, pins_length, stuck_reads}
--- The only gate that reads a node.
-pub use Rattle.gate_looks.proofs.OnlyReaders.{last_of, map_found}
 -- Searching on from a gate along its readers.
 pub use Rattle.gate_looks.proofs.Reaches.{MarksSome, marks_all, marks_new, reached_live, search_ends, search_first}
 pub use Rattle.gate_looks.proofs.Reaches.{search_less, search_more}
@@ -16,7 +14,6 @@ pub use Rattle.gate_looks.proofs.Readers.{all_came, gate_in, next_below, next_re
 -- What the calls of a graph tell.
 pub use Rattle.gate_looks.proofs.Told.{beq_same, driver_below, drivers_below, each_of_one, each_of_two, gate_live}
 pub use Rattle.gate_looks.proofs.Told.{kind_is, kind_live, kind_told, live_below, live_from, live_is, reader_live}
-pub use Rattle.gate_looks.proofs.Told.{slice_get_below}
 -- A node whose readers are none reaches nothing.
 pub use Rattle.gate_looks.proofs.Sites.{unreached}
 -- A walk along the chain of a gate.

@@ -7,10 +7,10 @@ use Rattle.gate_graph.specs.Circuit.{Circuit, fanouts_of, net_of}
 use Rattle.gate_graph.specs.Readers.{ListReaders}
 use Rattle.gate_net.specs.Net.{Reads}
 use Rattle.gate_net.specs.Paths.{IsOnlyReader}
-use Rattle.gate_looks.proofs.OnlyReaders.{map_found}
 use Rattle.gate_looks.proofs.Told.{kind_live, reader_live}
 use Rattle.gate_looks.proofs.Yielding.{yielded_at}
 use Rattle.rm_base.specs.declared.numbers.NodeId.{NodeId}
+use Rattle.rm_base.proofs.Public.{map_found}
 
 -- the gate of a place
 abbrev pub gate_in : ℕ × ℕ → ℕ

@@ -1,20 +1,15 @@
 -- What the calls of a graph tell.
-use Rattle.std.proofs.Common.{Bool, IfSome, List, None, Option, Some, [], ap, arith, eqb, false, inl, inr, length, refl, subst, suc, sym, true, zero, ℕ, ◌<◌, ◌||◌, ◌∙◌, ◌∷◌, ◌≡◌, ◌≢◌}
-use Rattle.std.proofs.lemmas.Bool.{eqb-true}
+use Rattle.std.proofs.Common.{Bool, IfSome, List, None, Option, Some, [], ap, eqb, false, inl, inr, length, refl, subst, sym, true, ℕ, ◌<◌, ◌||◌, ◌∙◌, ◌≡◌, ◌≢◌}
+use Rattle.std.proofs.lemmas.Bool.{eqb-true, or_cases}
 use Rattle.std.specs.Prelude.{option_map, slice_get}
 use Rattle.gate_looks.specs.Pins.{AreBelow}
-use Rattle.gate_net.proofs.Public.{or_either}
 use Rattle.gate_net.specs.Net.{IsKind, IsLive, IsWellFormed, Net, Node, Reads, drivers_in, drivers_of, flatten_option, kind_in, kind_of, node_at}
 use Rattle.gate_net.specs.Values.{HasPin, same_bool}
 use Rattle.gate_net.specs.declared.Kind.{Kind}
 use Rattle.rm_base.specs.declared.numbers.Fault.{Fault}
 use Rattle.rm_base.specs.declared.numbers.NodeId.{NodeId}
 use mathlib.Core.Bool.{beq}
-
-pub slice_get_below : {A : Type 0} (xs : List A) (x : ℕ) → slice_get xs x ≢ None → x < length xs
-slice_get_below [] x h = absurd (h refl)
-slice_get_below (y ∷ xs) zero h = omega arith
-slice_get_below (y ∷ xs) (suc x) h = let rest : x < length xs = slice_get_below xs x h in omega arith
+use Rattle.rm_base.proofs.Public.{slice_get_below}
 
 -- a live node's number is below the bound
 pub live_below : (net : Net) (x : ℕ) → node_at net x ≢ None → x < length net.nodes
@@ -67,13 +62,13 @@ pub live_from : (net : Net) (x : ℕ) (o : Option Kind) (kind : Kind) → o ≡ 
 live_from net x o kind e is = (kind, kind_is net x kind (sym is ∙ e))
 
 pub each_of_two : (P : ℕ → Type 0) (one other d : ℕ) → P one → P other → (eqb d one || (eqb d other || false)) ≡ true → P d
-each_of_two P one other d p q e = elim (or_either (eqb d one) (eqb d other || false) e) [
+each_of_two P one other d p q e = elim (or_cases (eqb d one) (eqb d other || false) e) [
   | inl here ↦ subst P (sym (eqb-true d one here)) p
-  | inr later ↦ elim (or_either (eqb d other) false later) [ inl there ↦ subst P (sym (eqb-true d other there)) q | inr never ↦ absurd cc ]
+  | inr later ↦ elim (or_cases (eqb d other) false later) [ inl there ↦ subst P (sym (eqb-true d other there)) q | inr never ↦ absurd cc ]
 ]
 
 pub each_of_one : (P : ℕ → Type 0) (one d : ℕ) → P one → (eqb d one || false) ≡ true → P d
-each_of_one P one d p e = elim (or_either (eqb d one) false e) [ inl here ↦ subst P (sym (eqb-true d one here)) p | inr never ↦ absurd cc ]
+each_of_one P one d p e = elim (or_cases (eqb d one) false e) [ inl here ↦ subst P (sym (eqb-true d one here)) p | inr never ↦ absurd cc ]
 
 pub driver_below : (net : Net) → IsWellFormed net → (y p x : ℕ) → Reads net y p x → x < length net.nodes
 driver_below net formed y p x reads = live_below net x (formed.drivers_live y p x reads)

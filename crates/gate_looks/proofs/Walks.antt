@@ -1,9 +1,9 @@
 -- A walk along the chain of a gate.
 use Rattle.std.proofs.Common.{Bool, List, [], ap, arith, eqb, false, inl, inr, length, refl, sym, true, ℕ, ◌+◌, ◌<◌, ◌∷◌, ◌≡◌, ◌≢◌, ◌≤◌}
-use Rattle.std.proofs.lemmas.Bool.{eqb-true, ne_eqb}
+use Rattle.std.proofs.lemmas.Bool.{eqb-true, ne_eqb, or_cases}
 use Rattle.std.proofs.lemmas.Map.Steps.{length-le_from_distinct_below}
 use Rattle.std.specs.List.{AllByRecursion, IsDistinct, list_any}
-use Rattle.gate_net.proofs.Public.{chain_reader, chain_start, or_either}
+use Rattle.gate_net.proofs.Public.{chain_reader, chain_start}
 use Rattle.gate_net.specs.Net.{IsAcyclic, IsLive, IsRanked, Net}
 use Rattle.gate_net.specs.Paths.{Among, ChainTo, IsInChain, next, start}
 use Rattle.gate_looks.proofs.Told.{kind_live, reader_live}
@@ -22,7 +22,7 @@ chain_ranked {net} rank ranked (next {before = rest} {x = z} {y = y} chain unobs
 
 among_from_any : (xs : List ℕ) (x : ℕ) → list_any (eqb x) xs ≡ true → Among xs x
 among_from_any [] x e = cc
-among_from_any (y ∷ ys) x e = elim (or_either (eqb x y) (list_any (eqb x) ys) e) [
+among_from_any (y ∷ ys) x e = elim (or_cases (eqb x y) (list_any (eqb x) ys) e) [
   | inl same ↦ inl (eqb-true x y same)
   | inr later ↦ inr (among_from_any ys x later)
 ]

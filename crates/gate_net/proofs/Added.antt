@@ -5,13 +5,13 @@ use Rattle.std.specs.Prelude.{slice_set}
 use Rattle.gate_net.proofs.AlongPins.{reads_elsewhere, reads_there}
 use Rattle.gate_net.proofs.Edited.{node_at-other, node_at-there, undetected_same}
 use Rattle.gate_net.proofs.Junctions.{gate_more}
-use Rattle.gate_net.proofs.Places.{map_last_set}
 use Rattle.gate_net.specs.Edits.{last_pin, with_pin}
 use Rattle.gate_net.specs.Laws.{AddsKeep}
 use Rattle.gate_net.specs.Net.{IsKind, Net, drivers_in, drivers_of, node_at}
 use Rattle.gate_net.specs.Values.{AreFaultyValues, AreGoodValues, controlling, faulty_reads, gate_value, node_value}
 use Rattle.gate_net.specs.declared.Kind.{Kind}
 use Rattle.rm_base.specs.declared.numbers.Fault.{Fault}
+use Rattle.rm_base.proofs.Public.{map_last_set}
 
 module _ (net : Net) (gate driver : ℕ) (kind : Kind) (c : Bool) (is : IsKind net gate kind) (control : controlling kind ≡ Some c) (a v : ℕ → Bool) (good : AreGoodValues net a v) where
   abbrev after : Net

@@ -3,11 +3,11 @@ use Rattle.std.proofs.Common.{Bool, List, Some, ap, arith, inl, inr, map, refl, 
 use Rattle.std.proofs.lemmas.Bool.{eq-eqb, ne_eqb}
 use Rattle.std.proofs.lemmas.Bool.Decides.{eqb_tells}
 use Rattle.std.specs.Prelude.{if◌then◌else◌, nat_eq, slice_get, slice_set}
-use Rattle.gate_net.proofs.Places.{map_agree, map_at, set_other}
 use Rattle.gate_net.specs.Net.{IsAcyclic, IsKind, IsRanked, Net, Reads, drivers_of, node_at}
 use Rattle.gate_net.specs.Values.{faulty_reads, gate_value, node_value}
 use Rattle.gate_net.specs.declared.Kind.{Kind}
 use Rattle.rm_base.specs.declared.numbers.Fault.{Fault}
+use Rattle.rm_base.proofs.Public.{map_agree, map_at, set_other}
 
 -- induction along the pins
 pub rank_below : (net : Net) (rank : ℕ → ℕ) → IsRanked net rank → (P : ℕ → Type 0) → ((y : ℕ) → ((p x : ℕ) → Reads net y p x → P x) → P y) → (n y : ℕ) → rank y < n → P y

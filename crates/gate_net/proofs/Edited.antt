@@ -1,12 +1,11 @@
 -- Nodes after an edit.
 use Rattle.std.proofs.Common.{Bool, List, None, Option, Some, ap, inl, inr, refl, sym, ℕ, ◌∙◌, ◌≡◌, ◌≢◌}
 use Rattle.std.specs.Prelude.{slice_get}
-use Rattle.gate_net.proofs.Bools.{bool_cases, never_opposite}
-use Rattle.gate_net.proofs.Places.{set_other, set_there}
 use Rattle.gate_net.specs.Edits.{with_drivers}
 use Rattle.gate_net.specs.Net.{Net, Node, drivers_in, flatten_option, node_at}
 use Rattle.gate_net.specs.Values.{IsRun, IsUndetected, SameObserved}
 use Rattle.rm_base.specs.declared.numbers.Fault.{Fault}
+use Rattle.rm_base.proofs.Public.{bool_cases, never_opposite, set_other, set_there}
 
 pub flatten_some : (o : Option (Option Node)) (n : Node) → flatten_option o ≡ Some n → o ≡ Some (Some n)
 flatten_some None n e = cc

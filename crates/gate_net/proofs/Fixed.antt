@@ -4,7 +4,6 @@ use Rattle.std.proofs.lemmas.Bool.Decides.{eqb_tells}
 use Rattle.std.specs.Prelude.{slice_get, slice_set}
 use Rattle.gate_net.proofs.AlongPins.{reads_elsewhere, reads_there}
 use Rattle.gate_net.proofs.Edited.{live_reader, node_at-other, node_at-there, undetected_same}
-use Rattle.gate_net.proofs.Places.{map_set, set_cases}
 use Rattle.gate_net.specs.Edits.{constant_node, fixed, with_drivers}
 use Rattle.gate_net.specs.Laws.{FixesKeep, FixesKeepAcyclic}
 use Rattle.gate_net.specs.Net.{HasConstants, Net, Node, Reads, drivers_in, drivers_of, node_at}
@@ -12,6 +11,7 @@ use Rattle.gate_net.specs.Values.{AreFaultyValues, AreGoodValues, faulty_reads, 
 use Rattle.gate_net.specs.declared.Kind.{Kind}
 use Rattle.gate_net.specs.declared.Kind.TheVariants.{One, Zero}
 use Rattle.rm_base.specs.declared.numbers.Fault.{Fault}
+use Rattle.rm_base.proofs.Public.{map_set, set_cases}
 
 -- FIX: the good values of the net after are the faulty values of the net before
 constant_value : (net : Net) → HasConstants net → (b : Bool) → (gate p x : ℕ) → Reads net gate p x → (drivers : List ℕ) (a w : ℕ → Bool) → AreGoodValues (with_drivers net gate drivers) a w → w (constant_node b) ≡ b

@@ -2,12 +2,15 @@
 use Rattle.std.proofs.Common.{Bool, List, None, Option, Some, [], ap, arith, false, inl, inr, map, not, refl, suc, sym, true, zero, ℕ, ◌∙◌, ◌∷◌, ◌≡◌}
 use Rattle.std.specs.List.{list_all, list_any}
 use Rattle.std.specs.Prelude.{if◌then◌else◌, slice_get, slice_set}
-use Rattle.gate_net.proofs.Bools.{and_both, bool_cases, never_opposite, not_not, or_either, same_bool_false, same_bool_true, some_same}
+use Rattle.std.proofs.Math.Bool.{not-not}
+use Rattle.std.proofs.lemmas.Bool.{and_parts, or_cases}
+use Rattle.gate_net.proofs.Bools.{same_bool_false, same_bool_true}
 use Rattle.gate_net.proofs.Junctions.{junction_cons_other, junction_cons_same, junction_member}
 use Rattle.gate_net.specs.Forward.{all_but, is_known, junction_back, junction_follows, value_back, value_forward}
 use Rattle.gate_net.specs.Values.{gate_value, junction, not_first, same_bool}
 use Rattle.gate_net.specs.declared.Kind.{Kind}
 use Rattle.gate_net.specs.declared.Kind.TheVariants.{And, Not, One, Or, Source, Zero}
+use Rattle.rm_base.proofs.Public.{bool_cases, never_opposite, some_same}
 
 -- each known value is right
 abbrev pub Approximates : List (Option Bool) → List Bool → Type 0
@@ -34,7 +37,7 @@ is_known_true c (Some b) e = ap Some (sym (same_bool_true c b e))
 pub junction_any : (c : Bool) (os : List (Option Bool)) (bs : List Bool) → Approximates os bs → list_any (is_known c) os ≡ true → junction c bs ≡ c
 junction_any c [] bs h e = cc
 junction_any c (o ∷ os) [] h e = absurd h
-junction_any c (o ∷ os) (b ∷ bs) h e = elim (or_either (is_known c o) (list_any (is_known c) os) e) [
+junction_any c (o ∷ os) (b ∷ bs) h e = elim (or_cases (is_known c o) (list_any (is_known c) os) e) [
   | inl here ↦ junction_cons_same c b bs (h.0 c (is_known_true c o here))
   | inr later ↦ elim (bool_cases b c) [
     | inl same ↦ junction_cons_same c b bs same
@@ -47,7 +50,7 @@ junction_all c [] [] h e = refl
 junction_all c [] (b ∷ bs) h e = absurd h
 junction_all c (o ∷ os) [] h e = absurd h
 junction_all c (o ∷ os) (b ∷ bs) h e =
-    let both : (is_known (not c) o ≡ true) × (list_all (is_known (not c)) os ≡ true) = and_both (is_known (not c) o) (list_all (is_known (not c)) os) e in
+    let both : (is_known (not c) o ≡ true) × (list_all (is_known (not c)) os ≡ true) = and_parts (is_known (not c) o) (list_all (is_known (not c)) os) e in
     junction_cons_other c b bs (h.0 (not c) (is_known_true (not c) o both.0)) ∙ junction_all c os bs h.1 both.1
 
 -- where all other pins have the noncontrolling value, the value is that of the pin
@@ -59,7 +62,7 @@ junction_others c (o ∷ os) (b ∷ bs) zero r h e there = elim (bool_cases b c)
   | inr other ↦ junction_cons_other c b bs other ∙ junction_all c os bs h.1 e ∙ sym other ∙ some_same there
 ]
 junction_others c (o ∷ os) (b ∷ bs) (suc q) r h e there =
-    let both : (is_known (not c) o ≡ true) × (all_but (is_known (not c)) q os ≡ true) = and_both (is_known (not c) o) (all_but (is_known (not c)) q os) e in
+    let both : (is_known (not c) o ≡ true) × (all_but (is_known (not c)) q os ≡ true) = and_parts (is_known (not c) o) (all_but (is_known (not c)) q os) e in
     junction_cons_other c b bs (h.0 (not c) (is_known_true (not c) o both.0)) ∙ junction_others c os bs q r h.1 both.1 there
 
 pub junction_forward : (c value : Bool) (os : List (Option Bool)) (bs : List Bool) → Approximates os bs → junction_follows c os ≡ Some value → junction c bs ≡ value
@@ -100,7 +103,7 @@ junction_backward c value other r os bs q h there is e = at_value (same_bool val
 
 pub not_first_back : (bs : List Bool) (q : ℕ) (value r : Bool) → q ≡ 0 → slice_get bs q ≡ Some r → not_first bs ≡ value → r ≡ not value
 not_first_back [] q value r zero_is there is = cc
-not_first_back (b ∷ bs) zero value r zero_is there is = sym (some_same there) ∙ sym (not_not b) ∙ ap not is
+not_first_back (b ∷ bs) zero value r zero_is there is = sym (some_same there) ∙ sym (not-not b) ∙ ap not is
 not_first_back (b ∷ bs) (suc q) value r zero_is there is = absurd (omega arith)
 
 pub value_back_right : (kind : Kind) (value other r assigned : Bool) (os : List (Option Bool)) (bs : List Bool) (q : ℕ) → Approximates os bs → slice_get bs q ≡ Some r → gate_value kind assigned bs ≡ value → value_back kind value os q ≡ Some other → r ≡ other

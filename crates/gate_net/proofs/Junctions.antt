@@ -1,10 +1,11 @@
 -- The values of gates.
 use Rattle.std.proofs.Common.{Bool, List, Some, [], ap, false, inl, inr, not, refl, suc, true, zero, ℕ, ◌++◌, ◌∙◌, ◌∷◌, ◌≡◌}
 use Rattle.std.specs.Prelude.{slice_get}
-use Rattle.gate_net.proofs.Bools.{bool_cases, same_bool_not, same_bool_refl, some_same}
+use Rattle.gate_net.proofs.Bools.{same_bool_not, same_bool_refl}
 use Rattle.gate_net.specs.Values.{controlling, gate_value, junction, not_first}
 use Rattle.gate_net.specs.declared.Kind.{Kind}
 use Rattle.gate_net.specs.declared.Kind.TheVariants.{And, Not, One, Or, Source, Zero}
+use Rattle.rm_base.proofs.Public.{bool_cases, some_same}
 
 pub junction_cons_same : (c b : Bool) (bs : List Bool) → b ≡ c → junction c (b ∷ bs) ≡ c
 junction_cons_same c b bs e = rw (e, same_bool_refl c) refl

@@ -1,5 +1,5 @@
 pub mod Bools
-pub mod Places
+pub mod LiveNodes
 pub mod Junctions
 pub mod Constants
 pub mod AlongPins

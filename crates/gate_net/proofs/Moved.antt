@@ -2,17 +2,18 @@
 use Rattle.std.proofs.Common.{Bool, List, None, Option, Some, [], ap, inl, inr, map, not, refl, suc, sym, true, zero, ℕ, ◌∙◌, ◌∷◌, ◌≡◌, ◌⊎◌}
 use Rattle.std.proofs.lemmas.Bool.Decides.{eqb_tells}
 use Rattle.std.specs.Prelude.{slice_get}
+use Rattle.std.proofs.Math.Bool.{not-not}
+use Rattle.std.proofs.lemmas.Bool.{false_from_ne_true}
 use Rattle.gate_net.proofs.AlongPins.{value_at}
-use Rattle.gate_net.proofs.Bools.{not_not, not_true}
 use Rattle.gate_net.proofs.Junctions.{first_is}
 use Rattle.gate_net.proofs.Ordered.{acyclic_lifted, after_right, after_there, after_upward, is_after}
-use Rattle.gate_net.proofs.Places.{map_at, map_pointwise}
 use Rattle.gate_net.proofs.Valuations.{values_unique}
 use Rattle.gate_net.specs.Edits.{node_redirected, redirected, with_readers_moved}
 use Rattle.gate_net.specs.Laws.{MovesKeep, MovesKeepAcyclic, TwiceKeeps}
 use Rattle.gate_net.specs.Net.{Net, Node, Reads, drivers_in, drivers_of, flatten_option, node_at}
 use Rattle.gate_net.specs.Values.{AreGoodValues, gate_value, node_value}
 use Rattle.gate_net.specs.declared.Kind.TheVariants.{Not}
+use Rattle.rm_base.proofs.Public.{map_at, map_pointwise}
 
 pub flatten-map : (from to : ℕ) (os : List (Option Node)) (x : ℕ) → flatten_option (slice_get (map (node_redirected from to) os) x) ≡ node_redirected from to (flatten_option (slice_get os x))
 flatten-map from to [] x = refl
@@ -54,7 +55,7 @@ twice_keeps net gate inner driver is is' reads reads' acyclic = moves_keep net g
     same a v good =
         value_at net a v gate Not (map v (drivers_of net gate)) is (good gate) ∙ first_is (map v (drivers_of net gate)) (v inner) (map_at v (drivers_of net gate) 0 inner reads)
         ∙ ap not (value_at net a v inner Not (map v (drivers_of net inner)) is' (good inner) ∙ first_is (map v (drivers_of net inner)) (v driver) (map_at v (drivers_of net inner) 0 driver reads'))
-        ∙ not_not (v driver)
+        ∙ not-not (v driver)
 
 pub redirect_cases : (from to : ℕ) (ds : List ℕ) (p x : ℕ) → slice_get (map (redirected from to) ds) p ≡ Some x → (slice_get ds p ≡ Some x) ⊎ ((x ≡ to) × (slice_get ds p ≡ Some from))
 redirect_cases from to [] p x e = inl e
@@ -71,7 +72,7 @@ drivers_redirected from to (Some n) = refl
 pub moves_keep_acyclic : MovesKeepAcyclic
 moves_keep_acyclic net from to acyclic ne apart =
     acyclic_lifted net (with_readers_moved net from to) acyclic (λ y. is_after (acyclic.0 y) net from y) (after_upward net acyclic from) to
-    (not_true (is_after (acyclic.0 to) net from to) (λ e. elim (after_right net from (acyclic.0 to) to e) [ inl is ↦ ne is | inr path ↦ apart path ]))
+    (false_from_ne_true (is_after (acyclic.0 to) net from to) (λ e. elim (after_right net from (acyclic.0 to) to e) [ inl is ↦ ne is | inr path ↦ apart path ]))
     leads
   where
     leads : (y p x : ℕ) → Reads (with_readers_moved net from to) y p x → ((q : ℕ) × Reads net y q x) ⊎ ((x ≡ to) × (is_after (acyclic.0 y) net from y ≡ true))

@@ -6,7 +6,6 @@ pub use Rattle.gate_net.proofs.Added.{adds_keep}
 pub use Rattle.gate_net.proofs.AlongPins.{along_pins, reads_agree, reads_elsewhere, reads_faulty, reads_there}
 pub use Rattle.gate_net.proofs.AlongPins.{value_at}
 -- Tests and values.
-pub use Rattle.gate_net.proofs.Bools.{and_both, bool_cases, never_opposite, not_not, not_true, or_either, or_true}
 pub use Rattle.gate_net.proofs.Bools.{same_bool_false, same_bool_not, same_bool_refl, same_bool_true}
 -- The kinds of the constants.
 pub use Rattle.gate_net.proofs.Constants.{constant_is}
@@ -19,20 +18,19 @@ pub use Rattle.gate_net.proofs.Follows.{Approximates, approximates_map, approxim
 pub use Rattle.gate_net.proofs.Follows.{value_back_right, value_forward_right}
 -- The values of gates.
 pub use Rattle.gate_net.proofs.Junctions.{controlled, first_is, gate_more, junction_member}
+-- Which nodes are live.
+pub use Rattle.gate_net.proofs.LiveNodes.{node_live}
 -- Readers that move keep the values and the order.
 pub use Rattle.gate_net.proofs.Moved.{drivers_redirected, flatten-map, moves_keep, moves_keep_acyclic, node_at-moved, redirect_cases}
 -- New ranks after an edit.
 pub use Rattle.gate_net.proofs.Ordered.{IsUpward, LeadsIn, after_more, after_right, after_there, after_upward, is_after, pins_keep_acyclic}
--- What stands at a place of a list.
-pub use Rattle.gate_net.proofs.Places.{any_at, at_any, last_cases, map_agree, map_at, map_last_set, map_pointwise, map_set, set_cases, set_there}
-pub use Rattle.gate_net.proofs.Places.{set_other, set_there}
 -- Forward reading is right, and there is only one.
 pub use Rattle.gate_net.proofs.Readings.{both_known, list_all_agree, readings_agree, readings_hold}
 -- How far a fault changes values.
 pub use Rattle.gate_net.proofs.Spread.{chain_reader, chain_start, same_elsewhere, same_idle, same_observed}
 pub use Rattle.gate_net.proofs.Spread.{same_outside}
 -- What follows at a gate still follows where more is known.
-pub use Rattle.gate_net.proofs.Stays.{AllStay, Stays, all_but_stays, all_not_any, all_stay, back_stays, both_and}
+pub use Rattle.gate_net.proofs.Stays.{AllStay, Stays, all_but_stays, all_not_any, all_stay, back_stays}
 pub use Rattle.gate_net.proofs.Stays.{forward_stays, is_known_some, is_known_stays, kind_stays, reads_stay, stay_map}
 -- There is one valuation, and only one.
 pub use Rattle.gate_net.proofs.Valuations.{values_unique}

@@ -4,10 +4,10 @@ use Rattle.std.proofs.lemmas.Bool.Decides.{eqb_tells}
 use Rattle.std.specs.List.{list_all}
 use Rattle.std.specs.Option.{option_map_or}
 use Rattle.std.specs.Prelude.{if◌then◌else◌, nat_eq, slice_get}
+use Rattle.std.proofs.lemmas.Bool.{and_parts, or_cases}
 use Rattle.gate_net.proofs.AlongPins.{along_pins, reads_agree}
-use Rattle.gate_net.proofs.Bools.{and_both, or_either, same_bool_true, some_same}
+use Rattle.gate_net.proofs.Bools.{same_bool_true}
 use Rattle.gate_net.proofs.Follows.{Approximates, approximates_map, approximates_set, is_known_true, value_forward_right}
-use Rattle.gate_net.proofs.Places.{map_agree}
 use Rattle.gate_net.proofs.Spread.{same_elsewhere, same_idle}
 use Rattle.gate_net.specs.Forward.{Completes, IsForwardReading, IsTrueAt, Marking, ReadingsAgree, ReadingsHold, both_known_same, equal_forward, is_idle, is_known, kind_forward, node_forward}
 use Rattle.gate_net.specs.Net.{IsAcyclic, Net, Node, Reads, drivers_of, node_at}
@@ -15,11 +15,12 @@ use Rattle.gate_net.specs.Values.{IsRun, faulty_reads, gate_value, node_value}
 use Rattle.gate_net.specs.declared.Kind.{Kind}
 use Rattle.gate_net.specs.declared.Kind.TheVariants.{And, Not, One, Or, Source, Zero}
 use Rattle.rm_base.specs.declared.numbers.Fault.{Fault}
+use Rattle.rm_base.proofs.Public.{map_agree, some_same}
 
 pub list_all_at : (test : ℕ → Bool) (ds : List ℕ) → list_all test ds ≡ true → (p x : ℕ) → slice_get ds p ≡ Some x → test x ≡ true
 list_all_at test [] e p x there = cc
-list_all_at test (d ∷ ds) e zero x there = let same : d ≡ x = cc in rw (← same) ((and_both (test d) (list_all test ds) e).0)
-list_all_at test (d ∷ ds) e (suc p) x there = list_all_at test ds (and_both (test d) (list_all test ds) e).1 p x there
+list_all_at test (d ∷ ds) e zero x there = let same : d ≡ x = cc in rw (← same) ((and_parts (test d) (list_all test ds) e).0)
+list_all_at test (d ∷ ds) e (suc p) x there = list_all_at test ds (and_parts (test d) (list_all test ds) e).1 p x there
 
 kind_forward_right : (kind : Kind) (known : Option Bool) (assigned c : Bool) (os : List (Option Bool)) (bs : List Bool) → Approximates os bs → ((b : Bool) → kind ≡ Source → known ≡ Some b → assigned ≡ b) → kind_forward kind known os ≡ Some c → gate_value kind assigned bs ≡ c
 kind_forward_right Source known assigned c os bs h k e = k c refl e
@@ -64,7 +65,7 @@ module _ (net : Net) (fault : Fault) (a v f : ℕ → Bool) (run : IsRun net fau
         same_idle net fault a v f run acyclic d there ((before fault.position d (rw is there)).good fault.value (is_known_true fault.value (m.good d) e)) y
 
     equal_step : m.equal y ≡ true → v y ≡ f y
-    equal_step e = elim (or_either (both_known_same (m.good y) (m.faulty y)) (if nat_eq y fault.gate.0 then is_idle net fault m.good else list_all m.equal (drivers_of net y)) (sym (reading.equal y) ∙ e)) [
+    equal_step e = elim (or_cases (both_known_same (m.good y) (m.faulty y)) (if nat_eq y fault.gate.0 then is_idle net fault m.good else list_all m.equal (drivers_of net y)) (sym (reading.equal y) ∙ e)) [
       | inl same ↦ let both : (d : Bool) × ((m.good y ≡ Some d) × (m.faulty y ≡ Some d)) = both_known (m.good y) (m.faulty y) true true same in good_step both.0 both.1.0 ∙ sym (faulty_step both.0 both.1.1)
       | inr other ↦ elim (eqb_tells y fault.gate.0) [
         | inl t ↦ idle_step (slice_get (drivers_of net fault.gate.0) fault.position) refl t.1 (rw t.0 at other)

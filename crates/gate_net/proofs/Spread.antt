@@ -3,12 +3,12 @@ use Rattle.std.proofs.Common.{Bool, List, [], ap, inl, inr, map, refl, sym, ℕ,
 use Rattle.std.proofs.lemmas.Bool.Decides.{eqb_tells}
 use Rattle.std.specs.Prelude.{slice_set}
 use Rattle.gate_net.proofs.AlongPins.{along_pins, reads_elsewhere, reads_there}
-use Rattle.gate_net.proofs.Places.{map_agree, set_same}
 use Rattle.gate_net.specs.Laws.{ChainsDecide, IdlePinsChangeNothing, OutsideIsEqual}
 use Rattle.gate_net.specs.Net.{IsAcyclic, IsObserved, Net, Reads, drivers_of, node_at}
 use Rattle.gate_net.specs.Paths.{Among, ChainTo, Reaches, next, on, pin, start}
 use Rattle.gate_net.specs.Values.{IsRun, SameObserved, faulty_reads, node_value}
 use Rattle.rm_base.specs.declared.numbers.Fault.{Fault}
+use Rattle.rm_base.proofs.Public.{map_agree, set_same}
 
 module _ (net : Net) (fault : Fault) (a v f : ℕ → Bool) (run : IsRun net fault a v f) where
   -- a node that reads the same has the same value

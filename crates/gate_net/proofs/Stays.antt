@@ -1,9 +1,11 @@
 -- What follows at a gate still follows where more is known.
-use Rattle.std.proofs.Common.{Bool, List, None, Option, Some, [], false, inl, inr, map, not, refl, suc, true, zero, ℕ, ◌&&◌, ◌∷◌, ◌≡◌}
+use Rattle.std.proofs.Common.{Bool, List, None, Option, Some, [], false, inl, inr, map, not, refl, suc, true, zero, ℕ, ◌∷◌, ◌≡◌}
 use Rattle.std.proofs.lemmas.Bool.Decides.{eqb_tells}
 use Rattle.std.specs.List.{list_all, list_any}
 use Rattle.std.specs.Prelude.{if◌then◌else◌, slice_set}
-use Rattle.gate_net.proofs.Bools.{and_both, or_either, or_true, same_bool_refl}
+use Rattle.std.proofs.Math.Bool.{or-true}
+use Rattle.std.proofs.lemmas.Bool.{and_parts, or_cases}
+use Rattle.gate_net.proofs.Bools.{same_bool_refl}
 use Rattle.gate_net.proofs.Follows.{is_known_true}
 use Rattle.gate_net.specs.Meaning.{all_but, is_known, junction_back, junction_follows, kind_forward, same_bool, value_back, value_forward}
 use Rattle.gate_net.specs.Net.{Net, drivers_of}
@@ -11,6 +13,7 @@ use Rattle.gate_net.specs.Values.{faulty_reads}
 use Rattle.gate_net.specs.declared.Kind.{Kind}
 use Rattle.gate_net.specs.declared.Kind.TheVariants.{And, Not, One, Or, Source, Zero}
 use Rattle.rm_base.specs.declared.numbers.Fault.{Fault}
+use Rattle.rm_base.proofs.Public.{both_and}
 
 -- each known value stays
 abbrev pub Stays : Option Bool → Option Bool → Type 0
@@ -39,23 +42,20 @@ is_known_some c o e = rw e (same_bool_refl c)
 pub is_known_stays : (c : Bool) (o u : Option Bool) → Stays o u → is_known c o ≡ true → is_known c u ≡ true
 is_known_stays c o u h e = is_known_some c u (h c (is_known_true c o e))
 
-pub both_and : (b c : Bool) → b ≡ true → c ≡ true → (b && c) ≡ true
-both_and b c e f = rw (e, f) refl
-
 pub all_stay : (c : Bool) (os us : List (Option Bool)) → AllStay os us → list_all (is_known c) os ≡ true → list_all (is_known c) us ≡ true
 all_stay c [] [] h e = refl
 all_stay c [] (u ∷ us) h e = absurd h
 all_stay c (o ∷ os) [] h e = absurd h
 all_stay c (o ∷ os) (u ∷ us) h e =
-    let both : (is_known c o ≡ true) × (list_all (is_known c) os ≡ true) = and_both (is_known c o) (list_all (is_known c) os) e in
+    let both : (is_known c o ≡ true) × (list_all (is_known c) os ≡ true) = and_parts (is_known c o) (list_all (is_known c) os) e in
     both_and (is_known c u) (list_all (is_known c) us) (is_known_stays c o u h.0 both.0) (all_stay c os us h.1 both.1)
 
 pub any_stays : (c : Bool) (os us : List (Option Bool)) → AllStay os us → list_any (is_known c) os ≡ true → list_any (is_known c) us ≡ true
 any_stays c [] us h e = cc
 any_stays c (o ∷ os) [] h e = absurd h
-any_stays c (o ∷ os) (u ∷ us) h e = elim (or_either (is_known c o) (list_any (is_known c) os) e) [
+any_stays c (o ∷ os) (u ∷ us) h e = elim (or_cases (is_known c o) (list_any (is_known c) os) e) [
   | inl here ↦ rw (is_known_stays c o u h.0 here) refl
-  | inr later ↦ rw (any_stays c os us h.1 later) (or_true (is_known c u))
+  | inr later ↦ rw (any_stays c os us h.1 later) (or-true (is_known c u))
 ]
 
 pub all_but_stays : (c : Bool) (q : ℕ) (os us : List (Option Bool)) → AllStay os us → all_but (is_known c) q os ≡ true → all_but (is_known c) q us ≡ true
@@ -64,7 +64,7 @@ all_but_stays c q [] (u ∷ us) h e = absurd h
 all_but_stays c q (o ∷ os) [] h e = absurd h
 all_but_stays c zero (o ∷ os) (u ∷ us) h e = all_stay c os us h.1 e
 all_but_stays c (suc q) (o ∷ os) (u ∷ us) h e =
-    let both : (is_known c o ≡ true) × (all_but (is_known c) q os ≡ true) = and_both (is_known c o) (all_but (is_known c) q os) e in
+    let both : (is_known c o ≡ true) × (all_but (is_known c) q os ≡ true) = and_parts (is_known c o) (all_but (is_known c) q os) e in
     both_and (is_known c u) (all_but (is_known c) q us) (is_known_stays c o u h.0 both.0) (all_but_stays c q os us h.1 both.1)
 
 -- a value is not known to be two
@@ -78,7 +78,7 @@ known_once c o e = rw (is_known_true (not c) o e) (at c)
 pub all_not_any : (c : Bool) (os : List (Option Bool)) → list_all (is_known (not c)) os ≡ true → list_any (is_known c) os ≡ false
 all_not_any c [] e = refl
 all_not_any c (o ∷ os) e =
-    let both : (is_known (not c) o ≡ true) × (list_all (is_known (not c)) os ≡ true) = and_both (is_known (not c) o) (list_all (is_known (not c)) os) e in
+    let both : (is_known (not c) o ≡ true) × (list_all (is_known (not c)) os ≡ true) = and_parts (is_known (not c) o) (list_all (is_known (not c)) os) e in
     rw (known_once c o both.0) (all_not_any c os both.1)
 
 pub junction_stays : (c : Bool) (os us : List (Option Bool)) → AllStay os us → Stays (junction_follows c os) (junction_follows c us)

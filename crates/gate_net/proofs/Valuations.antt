@@ -1,11 +1,11 @@
 -- There is one valuation, and only one.
 use Rattle.std.proofs.Common.{Bool, List, ap, arith, false, map, suc, sym, zero, ℕ, ◌<◌, ◌∙◌, ◌≡◌}
 use Rattle.gate_net.proofs.AlongPins.{along_pins, reads_agree}
-use Rattle.gate_net.proofs.Places.{map_agree}
 use Rattle.gate_net.specs.Laws.{FaultyValuesExist, ValuesExist}
 use Rattle.gate_net.specs.Net.{IsAcyclic, Net, Reads, drivers_of, node_at}
 use Rattle.gate_net.specs.Values.{AreFaultyValues, AreGoodValues, faulty_reads, node_value}
 use Rattle.rm_base.specs.declared.numbers.Fault.{Fault}
+use Rattle.rm_base.proofs.Public.{map_agree}
 
 -- what each node reads, given a value of every node
 abbrev pub Reading : Type 0

@@ -1,10 +1,9 @@
 -- The covers of the model of a net: one a gate, and then copies and constants.
-use Rattle.std.proofs.Common.{◌≡◌, ◌≢◌, ◌≤◌, ◌<◌, ◌+◌, ℕ, zero, suc, Bool, true, false, not, ◌&&◌, List, [], ◌∷◌, ◌++◌, map, length, refl, sym, ◌∙◌, ap, arith, subst, ◌⊎◌, inl, inr}
+use Rattle.std.proofs.Common.{◌≡◌, ◌≢◌, ◌≤◌, ◌<◌, ◌+◌, ℕ, zero, suc, Bool, true, false, not, List, [], ◌∷◌, ◌++◌, map, length, refl, sym, ◌∙◌, ap, arith, subst, ◌⊎◌, inl, inr}
 use Rattle.std.specs.Prelude.{Option, None, Some, slice_get, if◌then◌else◌, nat_eq}
 use Rattle.std.proofs.lemmas.Option.{slice_get_within}
 use Rattle.std.proofs.lemmas.Bool.Decides.{eqb_tells}
-use Rattle.rm_model.proofs.Public.{both}
-use Rattle.rm_model.specs.Words.{Word}
+use Rattle.std.proofs.lemmas.Bool.{and_parts}
 use Rattle.rm_model.specs.Value.{is_among}
 use Rattle.rm_model.specs.WellFormed.{IsWellFormed, is_distinct}
 use Rattle.rm_model.specs.declared.parts.Cover.{Cover}
@@ -12,7 +11,7 @@ use Rattle.rm_model.specs.declared.parts.Model.{Model}
 use Rattle.gate_net.specs.declared.Kind.{Kind}
 use Rattle.gate_net.specs.declared.Kind.TheVariants.{Source, Zero, One, And, Or, Not}
 use Rattle.gate_net.specs.Net.{Node, Net, node_at, flatten_option, IsGateKind, IsWellFormed as IsNet}
-use Rattle.cover_decompose.proofs.Public.{among_in, In, in_among, in_append, in_left, in_map}
+use Rattle.cover_decompose.proofs.Public.{among_in, in_among}
 use Rattle.graph_to_model.specs.Names.{node_name}
 use Rattle.rm_model.specs.declared.parts.Literal.TheVariants.{One as One1}
 use Rattle.graph_to_model.specs.NetModel.{cover_with, gate_cover_of, gate_cover, gate_covers, onto, copy_cover, copy_covers}
@@ -20,6 +19,9 @@ use Rattle.graph_to_model.specs.Fits.{Fits}
 use Rattle.graph_to_model.specs.Laws.{AreFew}
 use Rattle.graph_to_model.proofs.GateValues.{CoverOf, cover_of}
 use Rattle.graph_to_model.proofs.TidyFacts.{IsLean}
+use Rattle.rm_base.proofs.Public.{both_and, in_append, in_map, not_excludes}
+use Rattle.rm_base.specs.Members.{In}
+use Rattle.rm_base.specs.Words.{Word}
 
 -- what the laws take of a net and the model whose names it gets
 pub record IsWritable (m : Model) (net : Net) : Type 0 where
@@ -32,37 +34,24 @@ pub record IsWritable (m : Model) (net : Net) : Type 0 where
 abbrev pub output_names : List Cover → List Word
 output_names cs = map (λ (c : Cover). c.output) cs
 
--- DISTINCT NAMES
-pub and_true : (a b : Bool) → a ≡ true → b ≡ true → (a && b) ≡ true
-and_true true b e f = f
-and_true false b e f = absurd cc
-
 not_true : (b : Bool) → (b ≡ true → ⊥) → not b ≡ true
 not_true true h = absurd (h refl)
 not_true false h = refl
 
-untrue : (b : Bool) → not b ≡ true → b ≡ true → ⊥
-untrue true e f = cc
-untrue false e f = cc
-
 pub distinct_cons : (x : Word) (xs : List Word) → (In xs x → ⊥) → is_distinct xs ≡ true → is_distinct (x ∷ xs) ≡ true
-distinct_cons x xs out rest = and_true (not (is_among xs x)) (is_distinct xs) (not_true (is_among xs x) (λ e. out (in_among xs x e))) rest
+distinct_cons x xs out rest = both_and (not (is_among xs x)) (is_distinct xs) (not_true (is_among xs x) (λ e. out (in_among xs x e))) rest
 
 pub distinct_head : (x : Word) (xs : List Word) → is_distinct (x ∷ xs) ≡ true → In xs x → ⊥
-distinct_head x xs e i = untrue (is_among xs x) (both (not (is_among xs x)) (is_distinct xs) e).0 (among_in xs x i)
+distinct_head x xs e i = not_excludes (is_among xs x) (and_parts (not (is_among xs x)) (is_distinct xs) e).0 (among_in xs x i)
 
 pub distinct_tail : (x : Word) (xs : List Word) → is_distinct (x ∷ xs) ≡ true → is_distinct xs ≡ true
-distinct_tail x xs e = (both (not (is_among xs x)) (is_distinct xs) e).1
+distinct_tail x xs e = (and_parts (not (is_among xs x)) (is_distinct xs) e).1
 
 pub distinct-append : (xs ys : List Word) → is_distinct xs ≡ true → is_distinct ys ≡ true → ((x : Word) → In xs x → In ys x → ⊥) → is_distinct (xs ++ ys) ≡ true
 distinct-append [] ys h k apart = k
 distinct-append (x ∷ xs) ys h k apart =
     distinct_cons x (xs ++ ys) (λ i. elim (in_append xs ys x i) [ inl a ↦ distinct_head x xs h a | inr b ↦ apart x (inl refl) b ])
     (distinct-append xs ys (distinct_tail x xs h) k (λ y a b. apart y (inr a) b))
-
-pub distinct_left : (xs ys : List Word) → is_distinct (xs ++ ys) ≡ true → is_distinct xs ≡ true
-distinct_left [] ys e = refl
-distinct_left (x ∷ xs) ys e = distinct_cons x xs (λ i. distinct_head x (xs ++ ys) e (in_left xs ys x i)) (distinct_left xs ys (distinct_tail x (xs ++ ys) e))
 
 -- GATES
 -- the cover of the gate of that number
@@ -230,11 +219,6 @@ pub place_of : (xs : List Word) (x : Word) → In xs x → (k : ℕ) × (slice_g
 place_of [] x i = absurd i
 place_of (y ∷ xs) x (inl e) = (0, ap Some e)
 place_of (y ∷ xs) x (inr j) = let r = place_of xs x j in (suc r.0, r.1)
-
-pub place_below : {A : Type 0} (xs : List A) (k : ℕ) → k < length xs → (a : A) × (slice_get xs k ≡ Some a)
-place_below [] k h = absurd (omega arith)
-place_below (x ∷ xs) zero h = (x, refl)
-place_below (x ∷ xs) (suc k) h = place_below xs k (omega arith)
 
 -- names of the gates from a number on differ where that of the first gate differs from the later ones
 pub onto_names : (m : Model) (net : Net) (n : ℕ) (o : Option Node) (os : List (Option Node)) → AreFrom net n (o ∷ os) → ((c : Cover) → IsGateCover m net n c → In (output_names (gate_covers m net (n + 1) os)) c.output → ⊥) → is_distinct (output_names (gate_covers m net (n + 1) os)) ≡ true → is_distinct (output_names (gate_covers m net n (o ∷ os))) ≡ true

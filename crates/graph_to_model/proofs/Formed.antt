@@ -4,7 +4,6 @@ use Rattle.std.specs.Prelude.{Option, None, Some, slice_get, if◌then◌else◌
 use Rattle.std.specs.List.{list_all, flat_map, filter_map}
 use Rattle.std.proofs.lemmas.Bool.{eq-eqb}
 use Rattle.std.proofs.lemmas.List.Elements.{All-cons, All-nil}
-use Rattle.rm_model.specs.Words.{Word}
 use Rattle.rm_model.specs.Value.{is_among, source_names, observed_names, control_of}
 use Rattle.rm_model.specs.WellFormed.{IsWellFormed, IsWellFormedCover, driven_names, used_names, names_of, is_token}
 use Rattle.rm_model.specs.declared.parts.Literal.{Literal}
@@ -15,16 +14,19 @@ use Rattle.rm_model.specs.declared.parts.Model.{Model}
 use Rattle.gate_net.specs.declared.Kind.{Kind}
 use Rattle.gate_net.specs.declared.Kind.TheVariants.{Source, Zero, One, And, Or, Not}
 use Rattle.gate_net.specs.Net.{Node, Net, node_at, Reads, IsGateKind, source_count}
-use Rattle.cover_decompose.proofs.Public.{all_pass_in, among_in, In, in_append, in_at, in_left, in_map, in_right}
+use Rattle.cover_decompose.proofs.Public.{among_in}
 use Rattle.std.specs.Fmt.{decimal}
 use Rattle.graph_to_model.specs.Names.{free_prefix, node_name}
 use Rattle.graph_to_model.specs.NetModel.{cover_with, model_of_net}
 use Rattle.graph_to_model.proofs.TidyFacts.{kind_is}
 use Rattle.graph_to_model.proofs.GateValues.{one_row}
 use Rattle.graph_to_model.proofs.Named.{StandsOn, source_name, gate_name}
-use Rattle.graph_to_model.proofs.Covers.{IsWritable, output_names, IsGateCover, all_from_start, in_gates, gates_in, IsCopyCover, in_copies, place_of, place_below, live_within, copy_out}
+use Rattle.graph_to_model.proofs.Covers.{IsWritable, output_names, IsGateCover, all_from_start, in_gates, gates_in, IsCopyCover, in_copies, place_of, live_within, copy_out}
 use Rattle.graph_to_model.proofs.Outputs.{gates, had, copies, driven_once, observed_driven, gate_driven, gate_number}
 use Rattle.graph_to_model.proofs.Tokens.{made_token}
+use Rattle.rm_base.proofs.Public.{all_pass_in, in_append, in_at, in_left, in_map, in_right, stands_below}
+use Rattle.rm_base.specs.Members.{In}
+use Rattle.rm_base.specs.Words.{Word}
 
 all_pass : (test : Word → Bool) (xs : List Word) → ((x : Word) → In xs x → test x ≡ true) → list_all test xs ≡ true
 all_pass test [] h = refl
@@ -98,7 +100,7 @@ module _ (m : Model) (net : Net) (w : IsWritable m net) where
 
   pub name_driven : (x : ℕ) → HasName m net x → In (driven_names (model_of_net m net)) (node_name m net x)
   name_driven x (inl (k, (e, h))) =
-      let s = place_below (source_names m) k h in
+      let s = stands_below (source_names m) k h in
       let name : node_name m net x ≡ s.0 = ap (node_name m net) e ∙ source_name m net w.fit w.few.names k s.0 s.1 in
       subst (In (driven_names (model_of_net m net))) (sym name) (in_left (source_names m) _ s.0 (in_at (source_names m) k s.0 s.1))
   name_driven x (inr g) = let c = cover_at x g in gate_driven m net w x c.0 c.1.0 c.1.1
@@ -133,7 +135,7 @@ module _ (m : Model) (net : Net) (w : IsWritable m net) where
 
   name_token : (x : ℕ) → x < 2 ^ 64 → HasName m net x → is_token (node_name m net x) ≡ true
   name_token x small (inl (k, (e, h))) =
-      let s = place_below (source_names m) k h in
+      let s = stands_below (source_names m) k h in
       let name : node_name m net x ≡ s.0 = ap (node_name m net) e ∙ source_name m net w.fit w.few.names k s.0 s.1 in
       rw name (source_token s.0 (in_at (source_names m) k s.0 s.1))
   name_token x small (inr g) = gate_token x (gate_number m net w x g.node g.at g.gate) small

@@ -1,11 +1,10 @@
 -- The cover of a gate has the gate's value.
-use Rattle.std.proofs.Common.{◌≡◌, ◌≢◌, ◌≤◌, ℕ, zero, suc, Bool, true, false, not, ◌&&◌, ◌||◌, List, [], ◌∷◌, map, length, refl, sym, ◌∙◌, ap, subst, arith, All, nat_eq}
+use Rattle.std.proofs.Common.{◌≡◌, ◌≢◌, ◌≤◌, ℕ, zero, suc, Bool, true, false, not, ◌||◌, List, [], ◌∷◌, map, length, refl, sym, ◌∙◌, ap, subst, arith, All, nat_eq}
 use Rattle.std.specs.Prelude.{if◌then◌else◌, replicate, Some, nat_le}
-use Rattle.std.proofs.lemmas.Bool.{ne_eqb}
+use Rattle.std.proofs.lemmas.Bool.{ne_eqb, or_left}
 use Rattle.std.proofs.lemmas.List.Elements.{All-cons, All-nil, All-head, All-tail}
 use Rattle.std.specs.List.{list_any}
-use Rattle.graph_to_model.proofs.Named.{some_told}
-use Rattle.rm_model.specs.Words.{Word}
+use Rattle.std.proofs.Math.Bool.{and-false, or-false}
 use Rattle.rm_model.specs.Value.{row_matches, value_of, value_of_rows}
 use Rattle.rm_model.specs.WellFormed.{IsWellFormedCover}
 use Rattle.rm_model.specs.declared.parts.Literal.{Literal}
@@ -18,6 +17,8 @@ use Rattle.gate_net.specs.Net.{IsGateKind}
 use Rattle.gate_net.specs.Values.{junction, not_first, gate_value}
 use Rattle.graph_to_model.specs.NetModel.{row_per_pin, gate_cover_of}
 use Rattle.graph_to_model.specs.Wires.{is_copy}
+use Rattle.rm_base.proofs.Public.{some_is}
+use Rattle.rm_base.specs.Words.{Word}
 
 -- a row of 1s matches where all are 1
 pub ones_match : (bs : List Bool) → row_matches (replicate (length bs) One) bs ≡ junction false bs
@@ -39,14 +40,10 @@ behind_any : (b : Bool) (bs : List Bool) (rows : List (List Literal)) → list_a
 behind_any b bs [] = refl
 behind_any b bs (r ∷ rows) = ap (λ c. row_matches r bs || c) (behind_any b bs rows)
 
-or_false : (b c : Bool) → b ≡ true → (b || c) ≡ true
-or_false true c e = refl
-or_false false c e = cc
-
 -- some row of one 1 matches where some pin is 1
 pub rows_match : (bs : List Bool) → list_any (λ (row : List Literal). row_matches row bs) (row_per_pin (length bs)) ≡ junction true bs
 rows_match [] = refl
-rows_match (true ∷ bs) = or_false (row_matches (replicate (length bs) Any) bs) _ (anys_match bs)
+rows_match (true ∷ bs) = or_left (row_matches (replicate (length bs) Any) bs) _ (anys_match bs)
 rows_match (false ∷ bs) = behind_any false bs (row_per_pin (length bs)) ∙ rows_match bs
 
 -- what holds of the cover of a gate of that kind
@@ -66,17 +63,13 @@ if_not : (b : Bool) → (if not b then false else true) ≡ b
 if_not true = refl
 if_not false = refl
 
-or_none : (b : Bool) → (b || false) ≡ b
-or_none true = refl
-or_none false = refl
-
 and_value : (n : ℕ) (bs : List Bool) → length bs ≡ n → value_of_rows (replicate n One ∷ []) true bs ≡ junction false bs
 and_value n bs e = subst (λ (k : ℕ). value_of_rows (replicate k One ∷ []) true bs ≡ junction false bs) e
-    (if_same (row_matches (replicate (length bs) One) bs || false) ∙ (or_none (row_matches (replicate (length bs) One) bs) ∙ ones_match bs))
+    (if_same (row_matches (replicate (length bs) One) bs || false) ∙ (or-false (row_matches (replicate (length bs) One) bs) ∙ ones_match bs))
 
 wide_value : (n : ℕ) (bs : List Bool) → length bs ≡ n → value_of_rows (replicate n Zero ∷ []) false bs ≡ junction true bs
 wide_value n bs e = subst (λ (k : ℕ). value_of_rows (replicate k Zero ∷ []) false bs ≡ junction true bs) e
-    (ap (λ (b : Bool). if b then false else true) (or_none (row_matches (replicate (length bs) Zero) bs) ∙ zeros_match bs) ∙ if_not (junction true bs))
+    (ap (λ (b : Bool). if b then false else true) (or-false (row_matches (replicate (length bs) Zero) bs) ∙ zeros_match bs) ∙ if_not (junction true bs))
 
 rows_value : (rows : List (List Literal)) (bs : List Bool) → (rows ≡ [] → junction true bs ≡ false) → list_any (λ (row : List Literal). row_matches row bs) rows ≡ junction true bs → value_of_rows rows true bs ≡ junction true bs
 rows_value [] bs none e = sym (none refl)
@@ -121,15 +114,11 @@ not_value n (true ∷ []) e one = refl
 not_value n (false ∷ []) e one = refl
 not_value n (b ∷ d ∷ bs) e one = absurd (omega arith)
 
-and_false : (b : Bool) → (b && false) ≡ false
-and_false true = refl
-and_false false = refl
-
 pub cover_of : (kind : Kind) (inputs : List Word) (output : Word) (c : Cover) → gate_cover_of kind inputs output ≡ Some c → CoverOf kind inputs output c
 cover_of Source inputs output c e = absurd cc
 cover_of kinds.Zero inputs output c e = absurd cc
 cover_of kinds.One inputs output c e = absurd cc
-cover_of And inputs output c e = subst (CoverOf And inputs output) (some_told _ _ e) (record {
+cover_of And inputs output c e = subst (CoverOf And inputs output) (some_is _ _ e) (record {
   gate = tt;
   in_is = refl;
   out_is = refl;
@@ -140,7 +129,7 @@ cover_of And inputs output c e = subst (CoverOf And inputs output) (some_told _ 
 cover_of Or inputs output c e = by_width (nat_le (length inputs) 64) refl
   where
     by_width : (b : Bool) → nat_le (length inputs) 64 ≡ b → CoverOf Or inputs output c
-    by_width true w = subst (CoverOf Or inputs output) (some_told _ _ (rw w at e)) (record {
+    by_width true w = subst (CoverOf Or inputs output) (some_is _ _ (rw w at e)) (record {
       gate = tt;
       in_is = refl;
       out_is = refl;
@@ -148,7 +137,7 @@ cover_of Or inputs output c e = by_width (nat_le (length inputs) 64) refl
       value = λ bs l one. or_value (length inputs) bs l;
       no_copy = λ one two. rw (not_one (length inputs) (two (λ (f : Or ≡ Not). let g : ⊥ = cc in g))) refl;
     })
-    by_width false w = subst (CoverOf Or inputs output) (some_told _ _ (rw w at e)) (record {
+    by_width false w = subst (CoverOf Or inputs output) (some_is _ _ (rw w at e)) (record {
       gate = tt;
       in_is = refl;
       out_is = refl;
@@ -156,11 +145,11 @@ cover_of Or inputs output c e = by_width (nat_le (length inputs) 64) refl
       value = λ bs l one. wide_value (length inputs) bs l;
       no_copy = λ one two. rw (not_one (length inputs) (two (λ (f : Or ≡ Not). let g : ⊥ = cc in g))) refl;
     })
-cover_of Not inputs output c e = subst (CoverOf Not inputs output) (some_told _ _ e) (record {
+cover_of Not inputs output c e = subst (CoverOf Not inputs output) (some_is _ _ e) (record {
   gate = tt;
   in_is = refl;
   out_is = refl;
   formed = λ one. record { no_rows = λ none. refl; row_lengths = subst (λ (k : ℕ). All (λ (r : List Literal). length r ≡ k) ((Zero ∷ []) ∷ [])) (sym (one refl)) (one_row 1 Zero) };
   value = λ bs l one. not_value (length inputs) bs l (one refl);
-  no_copy = λ one two. and_false (nat_eq (length inputs) 1);
+  no_copy = λ one two. and-false (nat_eq (length inputs) 1);
 })

@@ -5,7 +5,7 @@ use Rattle.std.specs.Option.{option_map}
 use Rattle.std.specs.Fmt.{decimal}
 use Rattle.std.proofs.lemmas.Bool.Decides.{eqb_tells}
 use Rattle.std.proofs.lemmas.Option.{slice_get_within, slice_get_past}
-use Rattle.rm_model.specs.Words.{Word, is_word}
+use Rattle.rm_model.specs.Words.{is_word}
 use Rattle.rm_model.specs.Value.{is_among, source_names, observed_names}
 use Rattle.rm_model.specs.declared.parts.Cover.{Cover}
 use Rattle.rm_model.specs.declared.parts.Model.{Model}
@@ -14,6 +14,7 @@ use Rattle.gate_graph.proofs.Public.{live-below}
 use Rattle.graph_to_model.specs.Names.{kept_names, prefix, least_free, observed_name, node_name, free_prefix}
 use Rattle.graph_to_model.specs.NetModel.{gate_cover_of, gate_cover, gate_covers, onto, copy_cover, copy_covers, model_of_net}
 use Rattle.graph_to_model.specs.Making.{place_in, word_at, name_by, named, AreFirstPlaces, AreNames, cover_by, covers_by, copy_by, copies_by, all_by}
+use Rattle.rm_base.specs.Words.{Word}
 
 observed_by : (ks : List ℕ) (xs : List Word) (n : ℕ) → observed_name ks xs n ≡ word_at xs (place_in ks n)
 observed_by [] xs n = refl

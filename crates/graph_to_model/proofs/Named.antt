@@ -7,14 +7,15 @@ use Rattle.std.proofs.lemmas.Fmt.{decimal_injective}
 use Rattle.std.proofs.lemmas.Bool.{eq-eqb, lt-ltb, le-ltb}
 use Rattle.std.proofs.lemmas.Bool.Decides.{eqb_tells}
 use Rattle.std.proofs.lemmas.Option.{slice_get_within}
-use Rattle.rm_model.specs.Words.{Word}
 use Rattle.rm_model.specs.Value.{source_names, observed_names}
 use Rattle.rm_model.specs.declared.parts.Model.{Model}
 use Rattle.gate_net.specs.Net.{Net}
-use Rattle.cover_decompose.proofs.Public.{any_in, In, in_at, in_left, in_right}
 use Rattle.graph_to_model.specs.Names.{kept_names, free_prefix, observed_name, node_name}
 use Rattle.graph_to_model.specs.Fits.{Fits}
 use Rattle.graph_to_model.proofs.Prefixes.{prefix_is_free}
+use Rattle.rm_base.proofs.Public.{any_in, in_at, in_left, in_right, some_is}
+use Rattle.rm_base.specs.Members.{In}
+use Rattle.rm_base.specs.Words.{Word}
 
 same_eqb : (n : ℕ) → nat_eq n n ≡ true
 same_eqb n = eq-eqb n n refl
@@ -35,9 +36,6 @@ observed_at (k ∷ ks) (y ∷ ys) n x e = elim (eqb_tells k n) [
   | inl t ↦ (0, (ap Some t.1, rw t.0 at e))
   | inr f ↦ let r = observed_at ks ys n x (rw f.0 at e) in (suc r.0, r.1)
 ]
-
-pub some_told : {A : Type 0} (a b : A) → Some a ≡ Some b → a ≡ b
-some_told a b e = cc
 
 -- a node's name stands on it in the observed list, or is the prefix and its number
 pub record StandsOn (m : Model) (net : Net) (n : ℕ) (x : Word) : Type 0 where
@@ -82,7 +80,7 @@ module _ (m : Model) (net : Net) (fit : Fits net m) (few : length (kept_names m)
   gate_not_source n k x h e f = elim (gate_name n h) [
     | inl stands ↦
         let own : slice_get net.observed stands.place ≡ Some (2 + k) = fit.points.own stands.place k x (stands.name ∙ ap Some f) e in
-        let same : n ≡ 2 + k = some_told n (2 + k) (sym stands.node ∙ own) in
+        let same : n ≡ 2 + k = some_is n (2 + k) (sym stands.node ∙ own) in
         let within : k < length (source_names m) = slice_get_within (source_names m) k x e in
         absurd (omega arith)
     | inr made ↦ not_made x n (in_sources k x e) (sym f ∙ made)
@@ -92,7 +90,7 @@ module _ (m : Model) (net : Net) (fit : Fits net m) (few : length (kept_names m)
   pub gates_told : (a b : ℕ) → 2 + length (source_names m) ≤ a → 2 + length (source_names m) ≤ b → a < 2 ^ 64 → b < 2 ^ 64 → node_name m net a ≡ node_name m net b → a ≡ b
   gates_told a b ha hb la lb e = elim (gate_name a ha) [
     | inl sa ↦ elim (gate_name b hb) [
-      | inl sb ↦ some_told a b (sym sa.node ∙ (fit.points.same sa.place sb.place (node_name m net a) sa.name (sb.name ∙ ap Some (sym e)) ∙ sb.node))
+      | inl sb ↦ some_is a b (sym sa.node ∙ (fit.points.same sa.place sb.place (node_name m net a) sa.name (sb.name ∙ ap Some (sym e)) ∙ sb.node))
       | inr mb ↦ absurd (not_made (node_name m net a) b (in_observed sa.place _ sa.name) (e ∙ mb))
     ]
     | inr ma ↦ elim (gate_name b hb) [
@@ -104,6 +102,6 @@ module _ (m : Model) (net : Net) (fit : Fits net m) (few : length (kept_names m)
   -- an observed name that is a gate's stands on that gate
   pub stands_on_gate : (n k j : ℕ) → 2 + length (source_names m) ≤ n → slice_get (observed_names m) k ≡ Some (node_name m net n) → slice_get net.observed k ≡ Some j → j ≡ n
   stands_on_gate n k j h name node = elim (gate_name n h) [
-    | inl stands ↦ some_told j n (sym node ∙ (fit.points.same k stands.place (node_name m net n) name stands.name ∙ stands.node))
+    | inl stands ↦ some_is j n (sym node ∙ (fit.points.same k stands.place (node_name m net n) name stands.name ∙ stands.node))
     | inr made ↦ absurd (not_made (node_name m net n) n (in_observed k _ name) made)
   ]

@@ -3,7 +3,6 @@ use Rattle.std.proofs.Common.{◌≡◌, ◌≤◌, ◌<◌, ◌+◌, ◌^◌, �
 use Rattle.std.specs.Prelude.{Option, Some, slice_get}
 use Rattle.std.proofs.lemmas.Option.{slice_get_within}
 use Rattle.std.proofs.lemmas.Bool.{cases_lt}
-use Rattle.rm_model.specs.Words.{Word}
 use Rattle.rm_model.specs.Value.{source_names, observed_names}
 use Rattle.rm_model.specs.WellFormed.{is_distinct, driven_names}
 use Rattle.rm_model.specs.declared.parts.Cover.{Cover}
@@ -11,11 +10,14 @@ use Rattle.rm_model.specs.declared.parts.Model.{Model}
 use Rattle.gate_net.specs.declared.Kind.{Kind}
 use Rattle.gate_net.specs.declared.Kind.TheVariants.{Source, Zero, One}
 use Rattle.gate_net.specs.Net.{Node, Net, node_at, IsGateKind, plain_node, source_count}
-use Rattle.cover_decompose.proofs.Public.{In, in_left, in_map, in_mapped, in_right}
 use Rattle.graph_to_model.specs.Names.{node_name}
 use Rattle.graph_to_model.specs.NetModel.{gate_covers, copy_covers, model_of_net}
-use Rattle.graph_to_model.proofs.Named.{gates_told, gate_not_source, some_told}
-use Rattle.graph_to_model.proofs.Covers.{IsWritable, output_names, distinct-append, distinct_left, IsGateCover, AreFrom, rest_from, all_from_start, in_gates, in_copies, copies_distinct, copies_in, copy_out, onto_names, place_below, place_of}
+use Rattle.graph_to_model.proofs.Named.{gates_told, gate_not_source}
+use Rattle.graph_to_model.proofs.Covers.{IsWritable, output_names, distinct-append, IsGateCover, AreFrom, rest_from, all_from_start, in_gates, in_copies, copies_distinct, copies_in, copy_out, onto_names, place_of}
+use Rattle.rm_base.proofs.Public.{in_left, in_map, in_mapped, in_right, some_is, stands_below}
+use Rattle.rm_base.specs.Members.{In}
+use Rattle.rm_base.specs.Words.{Word}
+use Rattle.rm_model.proofs.Public.{distinct-left}
 
 module _ (m : Model) (net : Net) (w : IsWritable m net) where
   abbrev pub gates : List Cover
@@ -29,7 +31,7 @@ module _ (m : Model) (net : Net) (w : IsWritable m net) where
 
   -- a gate's number comes after the sources
   no_gate_kind : (x : ℕ) (node : Node) (kind : Kind) → node_at net x ≡ Some node → IsGateKind node.kind → node_at net x ≡ plain_node kind → (IsGateKind kind → ⊥) → ⊥
-  no_gate_kind x node kind at gate plain never = never (subst IsGateKind (ap (λ (n : Node). n.kind) (some_told _ _ (sym at ∙ plain))) gate)
+  no_gate_kind x node kind at gate plain never = never (subst IsGateKind (ap (λ (n : Node). n.kind) (some_is _ _ (sym at ∙ plain))) gate)
 
   pub gate_number : (x : ℕ) (node : Node) → node_at net x ≡ Some node → IsGateKind node.kind → 2 + length (source_names m) ≤ x
   gate_number zero node at gate = absurd (no_gate_kind 0 node Zero at gate w.formed.constants.zero_is (λ h. h))
@@ -77,7 +79,7 @@ module _ (m : Model) (net : Net) (w : IsWritable m net) where
       g.fresh (subst (In had) (sym (sym (copy_out m net g.node g.name) ∙ (sym (ap (λ (c : Cover). c.output) g.is) ∙ f.1.1))) i)
 
   pub had_distinct : is_distinct had ≡ true
-  had_distinct = distinct-append (source_names m) (output_names gates) (distinct_left (source_names m) _ w.well.driven_once)
+  had_distinct = distinct-append (source_names m) (output_names gates) (distinct-left (source_names m) _ w.well.driven_once)
       (gates_distinct 0 net.nodes (all_from_start net) (let small : length net.nodes < 2 ^ 64 = w.few.nodes in omega arith)) source_apart
 
   names-append : (cs ds : List Cover) → output_names (cs ++ ds) ≡ output_names cs ++ output_names ds
@@ -96,7 +98,7 @@ module _ (m : Model) (net : Net) (w : IsWritable m net) where
   observed_driven k x e = subst (λ (xs : List Word). In xs x) (sym driven_are) (found (copies_in m net had net.observed (observed_names m) node.0 x k node.1 e))
     where
       node : (n : ℕ) × (slice_get net.observed k ≡ Some n)
-      node = place_below net.observed k (subst (λ (n : ℕ). k < n) (sym w.fit.observed) (slice_get_within (observed_names m) k x e))
+      node = stands_below net.observed k (subst (λ (n : ℕ). k < n) (sym w.fit.observed) (slice_get_within (observed_names m) k x e))
 
       found : (In had x ⊎ ((c : Cover) × (In copies c × (c.output ≡ x)))) → In (had ++ output_names copies) x
       found (inl i) = in_left had (output_names copies) x i

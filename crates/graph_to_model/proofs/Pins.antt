@@ -2,7 +2,6 @@
 use Rattle.std.proofs.Common.{◌≡◌, ◌≢◌, ◌≤◌, ◌+◌, ℕ, suc, Bool, true, false, List, [], ◌∷◌, ◌++◌, map, length, refl, sym, ◌∙◌, ap, arith, nat_eq, zero-add}
 use Rattle.std.specs.Prelude.{Option, None, Some, if◌then◌else◌, sum_by}
 use Rattle.std.proofs.lemmas.List.Sums.{sum_by-cons, sum_by-append}
-use Rattle.rm_model.specs.Words.{Word}
 use Rattle.rm_model.specs.Value.{observed_names, is_among}
 use Rattle.rm_model.specs.declared.parts.Literal.TheVariants.{One as One1}
 use Rattle.rm_model.specs.declared.parts.Cover.{Cover}
@@ -15,10 +14,11 @@ use Rattle.graph_to_model.specs.NetModel.{cover_with, gate_cover_of, gate_cover,
 use Rattle.graph_to_model.specs.Wires.{is_copy, wires}
 use Rattle.graph_to_model.proofs.TidyFacts.{kind_is, source_plain, zero_plain, one_plain}
 use Rattle.graph_to_model.proofs.GateValues.{cover_of}
-use Rattle.graph_to_model.proofs.Named.{some_told}
 use Rattle.graph_to_model.proofs.Covers.{IsWritable, AreFrom, rest_from, first_from, all_from_start}
 use Rattle.graph_to_model.proofs.Outputs.{gates, had, copies}
 use Rattle.graph_to_model.proofs.Formed.{one_pin_not}
+use Rattle.rm_base.proofs.Public.{some_is}
+use Rattle.rm_base.specs.Words.{Word}
 
 abbrev pub pins : Cover → ℕ
 pins c = if is_copy c then 0 else length c.inputs
@@ -32,7 +32,7 @@ map_words f (d ∷ ds) = ap suc (map_words f ds)
 
 module _ (m : Model) (net : Net) (w : IsWritable m net) where
   plain_pins : (x : ℕ) (node : Node) (kind : Kind) → node_at net x ≡ Some node → node_at net x ≡ plain_node kind → length node.drivers ≡ 0
-  plain_pins x node kind at plain = ap (λ (n : Node). length n.drivers) (some_told _ _ (sym at ∙ plain))
+  plain_pins x node kind at plain = ap (λ (n : Node). length n.drivers) (some_is _ _ (sym at ∙ plain))
 
   no_cover : (x : ℕ) (node : Node) (kind : Kind) → node_at net x ≡ Some node → node.kind ≡ kind → gate_cover m net x (Some node) ≡ None → length node.drivers ≡ 0
   no_cover x node Source at e none = plain_pins x node Source at (source_plain net w.formed x (kind_is net x node Source at e))

@@ -5,16 +5,17 @@ use Rattle.std.specs.Fmt.{decimal}
 use Rattle.std.specs.List.{list_any, starts_with}
 use Rattle.std.proofs.lemmas.Fmt.{decimal_by_steps, decimal_injective}
 use Rattle.std.proofs.lemmas.Bool.Decides.{eqb_tells}
-use Rattle.gate_net.proofs.Public.{and_both, not_not}
-use Rattle.rm_model.specs.Words.{Word}
+use Rattle.std.proofs.Math.Bool.{not-not}
+use Rattle.std.proofs.lemmas.Bool.{and_parts}
 use Rattle.graph_to_model.specs.Names.{prefix, is_free, least_free}
+use Rattle.rm_base.specs.Words.{Word}
 
 -- what begins with a text is that text and more
 pub begins : (p x : Word) → starts_with nat_eq x p ≡ true → (y : Word) × (x ≡ p ++ y)
 begins [] x e = (x, refl)
 begins (b ∷ bs) [] e = absurd cc
 begins (b ∷ bs) (c ∷ cs) e =
-    let both = and_both _ _ e in
+    let both = and_parts _ _ e in
     let rest = begins bs cs both.1 in
     (rest.0, ap (λ (d : ℕ). d ∷ cs) (same b c both.0) ∙ ap (λ (ds : List ℕ). b ∷ ds) rest.1)
   where
@@ -102,7 +103,7 @@ free_step tries t kept true e later = e
 free_step tries t kept false e later = later e
 
 taken_by : (t : ℕ) (kept xs : List Word) → is_free kept t ≡ is_free xs t → is_free kept t ≡ false → list_any (begins_at t) xs ≡ true
-taken_by t kept xs same e = sym (not_not (list_any (begins_at t) xs)) ∙ ap not (sym same ∙ e)
+taken_by t kept xs same e = sym (not-not (list_any (begins_at t) xs)) ∙ ap not (sym same ∙ e)
 
 least_is_free : (tries t : ℕ) (kept xs : List Word) → length xs ≤ tries → t + tries < 2 ^ 64 → ((s : ℕ) → t ≤ s → s < 2 ^ 64 → is_free kept s ≡ is_free xs s) → is_free kept (least_free tries t kept) ≡ true
 least_is_free zero t kept [] few small same = same t (omega arith) (omega arith)

@@ -2,8 +2,8 @@
 use Rattle.std.proofs.Common.{◌≡◌, ◌≢◌, ◌≤◌, ◌<◌, ◌+◌, ◌^◌, ℕ, zero, suc, Bool, true, false, ◌&&◌, List, [], ◌∷◌, ◌++◌, length, refl, sym, ◌∙◌, ap, arith, subst, ◌⊎◌, inl, inr, All, max}
 use Rattle.std.specs.Prelude.{Option, None, Some, if◌then◌else◌}
 use Rattle.std.proofs.lemmas.Bool.Decides.{eqb_tells}
-use Rattle.rm_model.proofs.Public.{both}
-use Rattle.rm_model.specs.Words.{Word, is_word}
+use Rattle.std.proofs.lemmas.Bool.{and_parts}
+use Rattle.rm_model.specs.Words.{is_word}
 use Rattle.rm_model.specs.Value.{source_names, observed_names, is_cover_output, IsRanked}
 use Rattle.rm_model.specs.WellFormed.{is_distinct}
 use Rattle.rm_model.specs.declared.parts.Cover.{Cover}
@@ -12,13 +12,16 @@ use Rattle.gate_net.specs.declared.Kind.{Kind}
 use Rattle.gate_net.specs.declared.Kind.TheVariants.{Source, Zero, One, And, Or, Not}
 use Rattle.gate_net.specs.Net.{Node, Net, node_at, Reads, IsGateKind}
 use Rattle.wire_edit.specs.Tests.{is_gate}
-use Rattle.cover_decompose.proofs.Public.{In, in_any, in_at, in_map, in_mapped, in_right, word_refl, word_same}
 use Rattle.graph_to_model.specs.Names.{node_name}
 use Rattle.graph_to_model.specs.NetModel.{model_of_net}
 use Rattle.graph_to_model.proofs.Named.{source_name, gates_told}
-use Rattle.graph_to_model.proofs.Covers.{IsWritable, output_names, IsGateCover, IsCopyCover, place_below, copy_out, live_within, distinct_head, distinct_tail}
+use Rattle.graph_to_model.proofs.Covers.{IsWritable, output_names, IsGateCover, IsCopyCover, copy_out, live_within, distinct_head, distinct_tail}
 use Rattle.graph_to_model.proofs.Outputs.{gates, had, driven_once, gate_number}
 use Rattle.graph_to_model.proofs.Formed.{HasName, IsGateNumber, cover_at, cover_cases, cover_reads, driver_named, index_of, all_in_list}
+use Rattle.rm_base.proofs.Public.{in_any, in_at, in_map, in_mapped, in_right, stands_below}
+use Rattle.rm_base.specs.Members.{In}
+use Rattle.rm_base.specs.Words.{Word}
+use Rattle.rm_model.proofs.Public.{is_word-same, same_word}
 
 apart : (xs ys : List Word) (x : Word) → is_distinct (xs ++ ys) ≡ true → In xs x → In ys x → ⊥
 apart [] ys x e i j = i
@@ -84,13 +87,13 @@ module _ (m : Model) (net : Net) (w : IsWritable m net) where
     where
       by_test : (b : Bool) → (is_gate net n && is_word (node_name m net n) (node_name m net g)) ≡ b → (g < n → rank_of n (node_name m net g) ≡ r g) → (if b then r n else rank_of n (node_name m net g)) ≡ r g
       by_test true e rec =
-          let t = both (is_gate net n) _ e in
-          ap r (same_gate n g (omega (arith, w.few.nodes)) (omega (arith, w.few.nodes)) (gate_node (node_at net n) net n refl t.0) gate (word_same (node_name m net n) (node_name m net g) t.1))
+          let t = and_parts (is_gate net n) _ e in
+          ap r (same_gate n g (omega (arith, w.few.nodes)) (omega (arith, w.few.nodes)) (gate_node (node_at net n) net n refl t.0) gate (same_word (node_name m net n) (node_name m net g) t.1))
       by_test false e rec = elim (eqb_tells g n) [
         | inl t ↦
             let here : (is_gate net n && is_word (node_name m net n) (node_name m net g)) ≡ true =
             subst (λ (k : ℕ). (is_gate net k && is_word (node_name m net k) (node_name m net g)) ≡ true) t.1
-            (rw (gate_test net g gate.node gate.node.kind gate.at refl gate.gate) (word_refl (node_name m net g))) in
+            (rw (gate_test net g gate.node gate.node.kind gate.at refl gate.gate) (is_word-same (node_name m net g))) in
             let bad : true ≡ false = sym here ∙ e in absurd cc
         | inr f ↦ rec (let ne : g ≢ n = f.1 in omega arith)
       ]
@@ -102,8 +105,8 @@ module _ (m : Model) (net : Net) (w : IsWritable m net) where
     where
       by_test : (b : Bool) → (is_gate net n && is_word (node_name m net n) x) ≡ b → rank_of n x ≡ top → (if b then r n else rank_of n x) ≡ top
       by_test true e rec =
-          let t = both (is_gate net n) _ e in
-          absurd (none n (gate_node (node_at net n) net n refl t.0) (word_same (node_name m net n) x t.1))
+          let t = and_parts (is_gate net n) _ e in
+          absurd (none n (gate_node (node_at net n) net n refl t.0) (same_word (node_name m net n) x t.1))
       by_test false e rec = rec
 
   abbrev rank : Word → ℕ
@@ -115,10 +118,10 @@ module _ (m : Model) (net : Net) (w : IsWritable m net) where
   -- no source's name is the output of a cover
   source_no_output : (k d : ℕ) → d ≡ 2 + k → k < length (source_names m) → is_cover_output (model_of_net m net) (node_name m net d) ≡ true → ⊥
   source_no_output k d e h output =
-      let s = place_below (source_names m) k h in
+      let s = stands_below (source_names m) k h in
       let name : node_name m net d ≡ s.0 = ap (node_name m net) e ∙ source_name m net w.fit w.few.names k s.0 s.1 in
       let f = in_any (λ (c : Cover). is_word (node_name m net d) c.output) (model_of_net m net).covers output in
-      let same : node_name m net d ≡ (f.0).output = word_same (node_name m net d) (f.0).output f.1.1 in
+      let same : node_name m net d ≡ (f.0).output = same_word (node_name m net d) (f.0).output f.1.1 in
       apart (source_names m) (output_names (model_of_net m net).covers) s.0 (driven_once m net w) (in_at (source_names m) k s.0 s.1)
       (subst (In (output_names (model_of_net m net).covers)) (sym same ∙ name) (in_mapped (λ (c : Cover). c.output) (model_of_net m net).covers f.0 f.1.0))
 

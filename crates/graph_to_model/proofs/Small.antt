@@ -6,7 +6,6 @@ use Rattle.std.proofs.lemmas.Bool.{le-ltb}
 use Rattle.std.proofs.lemmas.Fmt.{length-decimal-le}
 use Rattle.std.proofs.lemmas.List.Elements.{All-from_recursion}
 use Rattle.std.proofs.lemmas.List.Sums.{sum_by-cons}
-use Rattle.rm_model.specs.Words.{Word}
 use Rattle.rm_model.specs.Value.{source_names, observed_names, is_among}
 use Rattle.rm_model.specs.declared.parts.Literal.TheVariants.{One as One1}
 use Rattle.rm_model.specs.declared.parts.Cover.{Cover}
@@ -14,7 +13,7 @@ use Rattle.rm_model.specs.declared.parts.Model.{Model}
 use Rattle.gate_net.specs.declared.Kind.{Kind}
 use Rattle.gate_net.specs.declared.Kind.TheVariants.{Source, Zero, One, And, Or, Not}
 use Rattle.gate_net.specs.Net.{Net, wire_count, IsGateKind}
-use Rattle.cover_decompose.proofs.Public.{all_from, among_in, In, in_append, in_at}
+use Rattle.cover_decompose.proofs.Public.{among_in}
 use Rattle.graph_to_model.specs.Laws.{IsSmall, IsNamed}
 use Rattle.graph_to_model.specs.Names.{kept_names, least_free, observed_name, node_name, free_prefix}
 use Rattle.graph_to_model.specs.NetModel.{cover_with, copy_cover, copy_covers, model_of_net}
@@ -24,6 +23,9 @@ use Rattle.graph_to_model.proofs.Outputs.{gates, had, copies, cover_number}
 use Rattle.graph_to_model.proofs.Formed.{one_pin_not}
 use Rattle.graph_to_model.proofs.Pins.{pins, two_or_more, gate_pins}
 use Rattle.graph_to_model.proofs.Tokens.{least_le}
+use Rattle.rm_base.proofs.Public.{all_from_members, in_append, in_at}
+use Rattle.rm_base.specs.Members.{In}
+use Rattle.rm_base.specs.Words.{Word}
 
 -- covers of a pin at least are no more than their pins
 count_pins : (cs : List Cover) → ((c : Cover) → In cs c → 1 ≤ pins c) → length cs ≤ sum_by pins cs
@@ -175,6 +177,6 @@ module _ (m : Model) (net : Net) (w : IsWritable m net) where
         let back : length (copies m net w) ≤ length (observed_names m) = copies_few m net (had m net w) net.observed (observed_names m) in
         let both : length (gates m net w ++ copies m net w) ≡ length (gates m net w) + length (copies m net w) = length-append (gates m net w) (copies m net w) in
         omega arith;
-    inputs = All-from_recursion (λ (c : Cover). length c.inputs ≤ max 1 (wire_count net)) (model_of_net m net).covers (all_from (λ (c : Cover). length c.inputs ≤ max 1 (wire_count net)) (model_of_net m net).covers (λ c i. (each c i).0));
-    outputs = All-from_recursion (λ (c : Cover). IsNamed m c.output) (model_of_net m net).covers (all_from (λ (c : Cover). IsNamed m c.output) (model_of_net m net).covers (λ c i. (each c i).1));
+    inputs = All-from_recursion (λ (c : Cover). length c.inputs ≤ max 1 (wire_count net)) (model_of_net m net).covers (all_from_members (λ (c : Cover). length c.inputs ≤ max 1 (wire_count net)) (model_of_net m net).covers (λ c i. (each c i).0));
+    outputs = All-from_recursion (λ (c : Cover). IsNamed m c.output) (model_of_net m net).covers (all_from_members (λ (c : Cover). IsNamed m c.output) (model_of_net m net).covers (λ c i. (each c i).1));
   }

@@ -6,7 +6,6 @@ use Rattle.std.proofs.lemmas.Bool.{eq-eqb}
 use Rattle.std.proofs.lemmas.Bool.Decides.{eqb_tells}
 use Rattle.std.proofs.lemmas.List.Elements.{All-head, All-tail}
 use Rattle.graph_to_model.proofs.Pins.{map_words}
-use Rattle.rm_model.specs.Words.{Word}
 use Rattle.rm_model.specs.Value.{source_names, observed_names, value_of, IsConsistent}
 use Rattle.rm_model.specs.declared.parts.Literal.TheVariants.{One as One1}
 use Rattle.rm_model.specs.declared.parts.Cover.{Cover}
@@ -16,14 +15,16 @@ use Rattle.gate_net.specs.declared.Kind.{Kind}
 use Rattle.gate_net.specs.declared.Kind.TheVariants.{Source, Zero, One, And, Or, Not}
 use Rattle.gate_net.specs.Net.{Net, node_at, Reads, IsGateKind, plain_node, source_count}
 use Rattle.gate_net.specs.Values.{AreGoodValues, gate_value}
-use Rattle.cover_decompose.proofs.Public.{In, in_append, in_left, in_map, in_right}
 use Rattle.cover_decompose.specs.StandsFor.{StandsFor, SameAssignment}
 use Rattle.graph_to_model.specs.Names.{node_name}
 use Rattle.graph_to_model.specs.NetModel.{cover_with, copy_cover, model_of_net}
-use Rattle.graph_to_model.proofs.Named.{source_name, stands_on_gate, some_told}
-use Rattle.graph_to_model.proofs.Covers.{IsWritable, output_names, in_copies, copies_in, in_gates, all_from_start, place_of, place_below, copy_out, HasOrCopies}
+use Rattle.graph_to_model.proofs.Named.{source_name, stands_on_gate}
+use Rattle.graph_to_model.proofs.Covers.{IsWritable, output_names, in_copies, copies_in, in_gates, all_from_start, place_of, copy_out, HasOrCopies}
 use Rattle.graph_to_model.proofs.Outputs.{gates, had, copies, cover_number}
 use Rattle.graph_to_model.proofs.Formed.{HasName, IsGateNumber, cover_at, driver_named, live_named, one_pin_not}
+use Rattle.rm_base.proofs.Public.{in_append, in_left, in_map, in_right, some_is, stands_below}
+use Rattle.rm_base.specs.Members.{In}
+use Rattle.rm_base.specs.Words.{Word}
 
 pub all_at : {X : Type 0} (P : X → Type 0) (xs : List X) (x : X) → All P xs → In xs x → P x
 all_at P [] x h i = absurd i
@@ -51,20 +52,20 @@ same_lists [] [] l h = refl
 same_lists [] (y ∷ ys) l h = absurd (omega arith)
 same_lists (x ∷ xs) [] l h = absurd (omega arith)
 same_lists (x ∷ xs) (y ∷ ys) l h =
-    let first : x ≡ y = some_told x y (h 0 y refl) in
+    let first : x ≡ y = some_is x y (h 0 y refl) in
     let rest : xs ≡ ys = same_lists xs ys (omega (arith, l)) (λ k b e. h (suc k) b e) in
     cc
 
 map_get : {A : Type 0} (f : A → Bool) (xs : List A) (k : ℕ) (a : A) → slice_get xs k ≡ Some a → slice_get (map f xs) k ≡ Some (f a)
 map_get f [] zero a e = cc
 map_get f [] (suc k) a e = cc
-map_get f (x ∷ xs) zero a e = ap (λ (y : Option _). y) (ap Some (ap f (some_told x a e)))
+map_get f (x ∷ xs) zero a e = ap (λ (y : Option _). y) (ap Some (ap f (some_is x a e)))
 map_get f (x ∷ xs) (suc k) a e = map_get f xs k a e
 
 got_map : {A : Type 0} (f : A → Bool) (xs : List A) (k : ℕ) (b : Bool) → slice_get (map f xs) k ≡ Some b → (a : A) × ((slice_get xs k ≡ Some a) × (f a ≡ b))
 got_map f [] zero b e = absurd cc
 got_map f [] (suc k) b e = absurd cc
-got_map f (x ∷ xs) zero b e = (x, (refl, some_told (f x) b e))
+got_map f (x ∷ xs) zero b e = (x, (refl, some_is (f x) b e))
 got_map f (x ∷ xs) (suc k) b e = got_map f xs k b e
 
 assigned : (kind : Kind) (a : Bool) (bs : List Bool) → IsGateKind kind → gate_value kind a bs ≡ gate_value kind false bs
@@ -81,7 +82,7 @@ module _ (m : Model) (net : Net) (w : IsWritable m net) (a values : ℕ → Bool
 
   source_right : (x k : ℕ) → x ≡ 2 + k → k < length (source_names m) → v (node_name m net x) ≡ values x
   source_right x k e h =
-      let s = place_below (source_names m) k h in
+      let s = stands_below (source_names m) k h in
       let name : node_name m net x ≡ s.0 = ap (node_name m net) e ∙ source_name m net w.fit w.few.names k s.0 s.1 in
       let count : source_count net ≡ length (source_names m) = w.fit.sources in
       let plain : node_at net x ≡ plain_node Source = ap (node_at net) e ∙ w.formed.sources.first k (omega arith) in
@@ -147,7 +148,7 @@ module _ (m : Model) (net : Net) (w : IsWritable m net) (a values : ℕ → Bool
       of_source : In (source_names m) x → v x ≡ values n
       of_source i =
           let p = place_of (source_names m) x i in
-          let on : n ≡ 2 + p.0 = some_told n (2 + p.0) (sym e ∙ w.fit.points.own k p.0 x f p.1) in
+          let on : n ≡ 2 + p.0 = some_is n (2 + p.0) (sym e ∙ w.fit.points.own k p.0 x f p.1) in
           let within : p.0 < length (source_names m) = slice_get_within (source_names m) p.0 x p.1 in
           ap v (sym (ap (node_name m net) on ∙ source_name m net w.fit w.few.names p.0 x p.1)) ∙ source_right n p.0 on within
 
@@ -155,7 +156,7 @@ module _ (m : Model) (net : Net) (w : IsWritable m net) (a values : ℕ → Bool
       of_copy c i out =
           let copy = in_copies m net (had m net w) net.observed (observed_names m) c i in
           let name : copy.name ≡ x = sym (copy_out m net copy.node copy.name) ∙ (sym (ap (λ (d : Cover). d.output) copy.is) ∙ out) in
-          let on : copy.node ≡ n = some_told copy.node n (sym copy.at.1.0 ∙ (w.fit.points.same copy.at.0 k x (copy.at.1.1 ∙ ap Some name) f ∙ e)) in
+          let on : copy.node ≡ n = some_is copy.node n (sym copy.at.1.0 ∙ (w.fit.points.same copy.at.0 k x (copy.at.1.1 ∙ ap Some name) f ∙ e)) in
           let kept : v c.output ≡ value_of c (map v c.inputs) = all_at (λ (d : Cover). v d.output ≡ value_of d (map v d.inputs)) (model_of_net m net).covers c consistent (in_right (gates m net w) (copies m net w) c i) in
           let said : v copy.name ≡ value_of (copy_cover m net copy.node copy.name) (map v (copy_cover m net copy.node copy.name).inputs) =
           ap v (sym (copy_out m net copy.node copy.name)) ∙ subst (λ (d : Cover). v d.output ≡ value_of d (map v d.inputs)) copy.is kept in
@@ -176,7 +177,7 @@ module _ (m : Model) (net : Net) (w : IsWritable m net) (a values : ℕ → Bool
       at_place : (k : ℕ) (b : Bool) → slice_get (map v (observed_names m)) k ≡ Some b → slice_get (map values net.observed) k ≡ Some b
       at_place k b e =
           let x = got_map v (observed_names m) k b e in
-          let n = place_below net.observed k (omega (arith, w.fit.observed, slice_get_within (observed_names m) k x.0 x.1.0)) in
+          let n = stands_below net.observed k (omega (arith, w.fit.observed, slice_get_within (observed_names m) k x.0 x.1.0)) in
           map_get values net.observed k n.0 n.1 ∙ ap Some (sym (place_right k n.0 x.0 n.1 x.1.0) ∙ x.1.1)
 
 pub stands : (m : Model) (net : Net) → IsWritable m net → StandsFor net (model_of_net m net)

@@ -3,7 +3,6 @@ use Rattle.std.proofs.Common.{◌≡◌, ◌<◌, ◌+◌, ℕ, List, [], ◌∷
 use Rattle.std.specs.Prelude.{Option, None, Some, slice_get}
 use Rattle.std.proofs.lemmas.Option.{slice_get-get_or}
 use Rattle.rm_base.specs.declared.numbers.NodeId.{NodeId}
-use Rattle.rm_model.specs.Words.{Word}
 use Rattle.rm_model.specs.declared.parts.Cover.{Cover}
 use Rattle.gate_net.specs.declared.Kind.{Kind}
 use Rattle.gate_net.specs.Net.{Node, Net, node_at, drivers_of, drivers_in, kind_of, kind_in, flatten_option, IsLive, IsWellFormed as IsNet}
@@ -12,13 +11,12 @@ use Rattle.wire_edit.proofs.Public.{next_place}
 use Rattle.graph_to_model.specs.NetModel.{gate_cover_of, onto}
 use Rattle.graph_to_model.specs.Making.{named, cover_by, covers_by}
 use Rattle.graph_to_model.proofs.Lists.{next_in}
-
-some_same : {A : Type 0} (x y : A) → Some x ≡ Some y → x ≡ y
-some_same x y e = cc
+use Rattle.rm_base.proofs.Public.{some_is}
+use Rattle.rm_base.specs.Words.{Word}
 
 -- an element within a list doesn't depend on the default
 pub name_here : (names : List Word) (d : ℕ) (r : Word) → d < length names → r ≡ get_or names d r → r ≡ named names d
-name_here names d r lt is = is ∙ some_same (get_or names d r) (get_or names d []) (sym (slice_get-get_or names d r lt) ∙ slice_get-get_or names d [] lt)
+name_here names d r lt is = is ∙ some_is (get_or names d r) (get_or names d []) (sym (slice_get-get_or names d r lt) ∙ slice_get-get_or names d [] lt)
 
 pub driver_low : (net : Net) (y : ℕ) (ys : List NodeId) (it rest : List ℕ) (d : ℕ) → IsNet net → drivers_of net y ≡ map (λ (n : NodeId). n.0) ys ++ it → it ≡ d ∷ rest → d < length net.nodes
 driver_low net y ys it rest d formed all is = live-below net d (formed.drivers_live y (length ys) d (next_place (λ (n : NodeId). n.0) (drivers_of net y) ys it rest d all is))
@@ -36,7 +34,7 @@ kind_cover names net n kind inputs output k i o = told (node_at net n) refl
     told : (at : Option Node) → node_at net n ≡ at → gate_cover_of kind inputs output ≡ cover_by names n at
     told None e = absurd (let bad : Some kind ≡ None = k ∙ ap kind_in e in cc)
     told (Some node) e =
-        let same : kind ≡ node.kind = some_same kind node.kind (k ∙ ap kind_in e) in
+        let same : kind ≡ node.kind = some_is kind node.kind (k ∙ ap kind_in e) in
         let drivers : drivers_of net n ≡ node.drivers = ap (λ (q : Option Node). drivers_in q) e in
         ap (λ (q : Kind). gate_cover_of q inputs output) same
         ∙ (ap (λ (xs : List Word). gate_cover_of node.kind xs output) (i ∙ ap (map (named names)) drivers)
@@ -57,7 +55,7 @@ pub covers_step : (names : List Word) (net : Net) (n : ℕ) (out new all : List 
 covers_step names net n out new all cover lt is pushed h =
     let o : Option Node = get_or net.nodes n None in
     let at : node_at net n ≡ o = ap flatten_option (slice_get-get_or net.nodes n None lt) in
-    let front : drop n net.nodes ≡ o ∷ drop (n + 1) net.nodes = next_in net.nodes n o lt (some_same o (get_or net.nodes n o) (sym (slice_get-get_or net.nodes n None lt) ∙ slice_get-get_or net.nodes n o lt)) in
+    let front : drop n net.nodes ≡ o ∷ drop (n + 1) net.nodes = next_in net.nodes n o lt (some_is o (get_or net.nodes n o) (sym (slice_get-get_or net.nodes n None lt) ∙ slice_get-get_or net.nodes n o lt)) in
     ap (λ (cs : List Cover). cs ++ covers_by names (n + 1) (drop (n + 1) net.nodes)) pushed
     ∙ (onto_append cover out (covers_by names (n + 1) (drop (n + 1) net.nodes))
     ∙ (ap (λ (q : Option Cover). out ++ onto q (covers_by names (n + 1) (drop (n + 1) net.nodes))) (is ∙ ap (cover_by names n) at)

@@ -1,5 +1,5 @@
 -- What a tidy net is free of.
-use Rattle.std.proofs.Common.{◌≡◌, ◌≤◌, ◌<◌, ◌+◌, ◌-◌, ℕ, zero, suc, Bool, true, false, not, ◌&&◌, [], length, refl, sym, ◌∙◌, ap, arith, subst}
+use Rattle.std.proofs.Common.{◌≡◌, ◌≤◌, ◌<◌, ◌+◌, ◌-◌, ℕ, zero, suc, Bool, true, false, not, [], length, refl, sym, ◌∙◌, ap, arith, subst}
 use Rattle.std.specs.Prelude.{Option, None, Some, slice_get, nat_eq}
 use Rattle.gate_net.specs.declared.Kind.{Kind}
 use Rattle.gate_net.specs.declared.Kind.TheVariants.{Source, Zero, One, And, Or, Not}
@@ -10,6 +10,7 @@ use Rattle.wire_edit.specs.Tests.{is_present, is_gate, is_junction, is_in_use, c
 use Rattle.wire_edit.specs.Steps.{Applies}
 use Rattle.wire_edit.specs.Order.{IsTidy}
 use Rattle.wire_edit.specs.Laws.{TidyMeans, IsTidying}
+use Rattle.rm_base.proofs.Public.{both_and, not_from_false}
 
 -- gates are in use, read no constant, and have two pins or more unless they are Nots
 pub record IsLean (net : Net) : Type 0 where
@@ -17,36 +18,28 @@ pub record IsLean (net : Net) : Type 0 where
   pub no_one : (y p : ℕ) → Reads net y p 1 → ⊥
   pub two_pins : (y : ℕ) → is_junction net y ≡ true → 2 ≤ length (drivers_of net y)
 
-true_and : (a b : Bool) → a ≡ true → b ≡ true → (a && b) ≡ true
-true_and true b e f = f
-true_and false b e f = absurd cc
-
 not_false : (b : Bool) → (b ≡ false → ⊥) → b ≡ true
 not_false true h = refl
 not_false false h = absurd (h refl)
 
-opposite : (b : Bool) → b ≡ false → not b ≡ true
-opposite true e = absurd cc
-opposite false e = refl
-
 module _ (net : Net) (none : (step : Step) → IsTidying step → Applies net step → ⊥) where
   in_use : (y : ℕ) → is_gate net y ≡ true → is_in_use net y ≡ true
-  in_use y gate = not_false (is_in_use net y) (λ unused. none (Dead (record { 0 = y })) tt (true_and (is_gate net y) (not (is_in_use net y)) gate (opposite (is_in_use net y) unused)))
+  in_use y gate = not_false (is_in_use net y) (λ unused. none (Dead (record { 0 = y })) tt (both_and (is_gate net y) (not (is_in_use net y)) gate (not_from_false (is_in_use net y) unused)))
 
   no_constant : (y p : ℕ) → is_gate net y ≡ true → is_present (constant_at net y p) ≡ true → ⊥
   no_constant y p gate constant =
-      none (Const (record { 0 = y }) p) tt (true_and (is_gate net y) _ gate (true_and (is_in_use net y) _ (in_use y gate) constant))
+      none (Const (record { 0 = y }) p) tt (both_and (is_gate net y) _ gate (both_and (is_in_use net y) _ (in_use y gate) constant))
 
   is_gate_junction : (y : ℕ) → is_junction net y ≡ true → is_gate net y ≡ true
   is_gate_junction y e = rw e refl
 
   some_pins : (y : ℕ) → is_junction net y ≡ true → nat_eq (length (drivers_of net y)) 0 ≡ true → ⊥
   some_pins y junction e =
-      none (NoPins (record { 0 = y })) tt (true_and (is_junction net y) _ junction (true_and (is_in_use net y) _ (in_use y (is_gate_junction y junction)) e))
+      none (NoPins (record { 0 = y })) tt (both_and (is_junction net y) _ junction (both_and (is_in_use net y) _ (in_use y (is_gate_junction y junction)) e))
 
   more_pins : (y : ℕ) → is_junction net y ≡ true → nat_eq (length (drivers_of net y)) 1 ≡ true → ⊥
   more_pins y junction e =
-      none (OnePin (record { 0 = y })) tt (true_and (is_junction net y) _ junction (true_and (is_in_use net y) _ (in_use y (is_gate_junction y junction)) e))
+      none (OnePin (record { 0 = y })) tt (both_and (is_junction net y) _ junction (both_and (is_in_use net y) _ (in_use y (is_gate_junction y junction)) e))
 
   two_pins : (y : ℕ) → is_junction net y ≡ true → 2 ≤ length (drivers_of net y)
   two_pins y junction = count (length (drivers_of net y)) (some_pins y junction) (more_pins y junction)

@@ -4,13 +4,12 @@ use Rattle.std.specs.Prelude.{if◌then◌else◌}
 use Rattle.std.specs.Fmt.{decimal}
 use Rattle.std.specs.List.{list_all}
 use Rattle.std.proofs.lemmas.Fmt.{decimal_by_steps}
-use Rattle.std.proofs.lemmas.Bool.{lt-ltb, ne_eqb}
-use Rattle.graph_to_model.proofs.Covers.{and_true}
-use Rattle.rm_model.proofs.Public.{both}
-use Rattle.rm_model.specs.Words.{Word}
-use Rattle.rm_model.specs.WellFormed.{is_word_byte, ends_in_backslash, is_token}
+use Rattle.std.proofs.lemmas.Bool.{and_parts, lt-ltb, ne_eqb}
+use Rattle.rm_model.specs.WellFormed.{ends_in_backslash, is_token}
 use Rattle.rm_model.specs.declared.parts.Model.{Model}
 use Rattle.graph_to_model.specs.Names.{kept_names, is_free, least_free, free_prefix}
+use Rattle.rm_base.proofs.Public.{both_and}
+use Rattle.rm_base.specs.Words.{Word, is_word_byte}
 
 -- a byte of a word that is no backslash
 abbrev is_plain : ℕ → Bool
@@ -22,28 +21,28 @@ plain_digit d h =
 
 all-append : (xs ys : Word) → list_all is_plain xs ≡ true → list_all is_plain ys ≡ true → list_all is_plain (xs ++ ys) ≡ true
 all-append [] ys h k = k
-all-append (x ∷ xs) ys h k = let b = both (is_plain x) (list_all is_plain xs) h in and_true (is_plain x) _ b.0 (all-append xs ys b.1 k)
+all-append (x ∷ xs) ys h k = let b = and_parts (is_plain x) (list_all is_plain xs) h in both_and (is_plain x) _ b.0 (all-append xs ys b.1 k)
 
 pub AllPlain : Word → Type 0
 AllPlain xs = list_all is_plain xs ≡ true
 
 one_digit : (n : ℕ) → n < 10 → AllPlain ((48 + n) ∷ [])
 unfolding AllPlain
-one_digit n h = and_true (is_plain (48 + n)) true (plain_digit n h) refl
+one_digit n h = both_and (is_plain (48 + n)) true (plain_digit n h) refl
 
 more_digits : (n : ℕ) (ds : Word) → 10 ≤ n → AllPlain ds → AllPlain (ds ++ ((48 + n % 10) ∷ []))
 unfolding AllPlain
-more_digits n ds h k = all-append ds _ k (and_true (is_plain (48 + n % 10)) true (plain_digit (n % 10) (omega arith)) refl)
+more_digits n ds h k = all-append ds _ k (both_and (is_plain (48 + n % 10)) true (plain_digit (n % 10) (omega arith)) refl)
 
 plain-decimal : (n : ℕ) → n < 2 ^ 64 → AllPlain (decimal n)
 plain-decimal = decimal_by_steps (λ n ds. AllPlain ds) one_digit more_digits
 
 plain_token : (b : ℕ) (bs : Word) → list_all is_plain (b ∷ bs) ≡ true → is_token (b ∷ bs) ≡ true
-plain_token b bs h = and_true (list_all is_word_byte (b ∷ bs)) _ (words (b ∷ bs) h) (opposite _ (ends (b ∷ bs) h))
+plain_token b bs h = both_and (list_all is_word_byte (b ∷ bs)) _ (words (b ∷ bs) h) (opposite _ (ends (b ∷ bs) h))
   where
     words : (xs : Word) → list_all is_plain xs ≡ true → list_all is_word_byte xs ≡ true
     words [] h = refl
-    words (x ∷ xs) h = let b = both (is_plain x) (list_all is_plain xs) h in and_true (is_word_byte x) _ (both (is_word_byte x) _ b.0).0 (words xs b.1)
+    words (x ∷ xs) h = let b = and_parts (is_plain x) (list_all is_plain xs) h in both_and (is_word_byte x) _ (and_parts (is_word_byte x) _ b.0).0 (words xs b.1)
 
     opposite : (b : Bool) → b ≡ false → not b ≡ true
     opposite true e = absurd cc
@@ -55,8 +54,8 @@ plain_token b bs h = and_true (list_all is_word_byte (b ∷ bs)) _ (words (b ∷
 
     ends : (xs : Word) → list_all is_plain xs ≡ true → ends_in_backslash xs ≡ false
     ends [] h = refl
-    ends (x ∷ []) h = no_backslash (nat_eq x 92) (both (is_word_byte x) _ (both (is_plain x) true h).0).1
-    ends (x ∷ y ∷ ys) h = ends (y ∷ ys) (both (is_plain x) (list_all is_plain (y ∷ ys)) h).1
+    ends (x ∷ []) h = no_backslash (nat_eq x 92) (and_parts (is_word_byte x) _ (and_parts (is_plain x) true h).0).1
+    ends (x ∷ y ∷ ys) h = ends (y ∷ ys) (and_parts (is_plain x) (list_all is_plain (y ∷ ys)) h).1
 
 pub least_le : (tries t : ℕ) (kept : List Word) → least_free tries t kept ≤ t + tries
 least_le zero t kept = omega arith
@@ -73,4 +72,4 @@ made_token m n few small =
     let t = least_free (length (kept_names m)) 0 (kept_names m) in
     let le : t ≤ 0 + length (kept_names m) = least_le (length (kept_names m)) 0 (kept_names m) in
     let inner : list_all is_plain (decimal t ++ 95 ∷ []) ≡ true = all-append (decimal t) (95 ∷ []) (plain-decimal t (omega arith)) refl in
-    plain_token 110 ((decimal t ++ 95 ∷ []) ++ decimal n) (and_true (is_plain 110) _ refl (all-append (decimal t ++ 95 ∷ []) (decimal n) inner (plain-decimal n small)))
+    plain_token 110 ((decimal t ++ 95 ∷ []) ++ decimal n) (both_and (is_plain 110) _ refl (all-append (decimal t ++ 95 ∷ []) (decimal n) inner (plain-decimal n small)))

@@ -1,6 +1,5 @@
 -- What the model of a tidy net is.
 use Rattle.std.specs.Prelude.{◌≡◌, ◌<◌, ◌≤◌, ◌+◌, ◌^◌, ◌⊎◌, true, All, length, max}
-use Rattle.rm_model.specs.Words.{Word}
 use Rattle.rm_model.specs.Value.{IsRanked, is_among, observed_names}
 use Rattle.rm_model.specs.declared.parts.Cover.{Cover}
 use Rattle.rm_model.specs.WellFormed.{IsWellFormed}
@@ -12,6 +11,7 @@ use Rattle.graph_to_model.specs.Names.{kept_names}
 use Rattle.graph_to_model.specs.NetModel.{model_of_net}
 use Rattle.graph_to_model.specs.Wires.{wires}
 use Rattle.graph_to_model.specs.Fits.{Fits}
+use Rattle.rm_base.specs.Words.{Word}
 
 pub record IsModelOf (net : Net) (m : Model) : Type 0 where
   pub well_formed : IsWellFormed (model_of_net m net)

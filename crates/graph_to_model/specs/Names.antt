@@ -3,10 +3,10 @@ use Rattle.std.specs.Prelude.{zero, suc, ◌+◌, ◌-◌, ◌==◌, ℕ, Bool, 
 use Rattle.std.specs.List.{list_any, starts_with}
 use Rattle.std.specs.Bool.{nat_eq}
 use Rattle.std.specs.Fmt.{decimal}
-use Rattle.rm_model.specs.Words.{Word}
 use Rattle.rm_model.specs.Value.{source_names, observed_names}
 use Rattle.rm_model.specs.declared.parts.Model.{Model}
 use Rattle.gate_net.specs.Net.{Net}
+use Rattle.rm_base.specs.Words.{Word}
 
 -- the names of sources and observed points, which the model of a net keeps
 abbrev pub kept_names : Model → List Word

@@ -1,6 +1,5 @@
 -- The model of a net: its gates as covers by ascending number, and then copies and constants for the other observed names.
 use Rattle.std.specs.Prelude.{zero, suc, ◌+◌, ◌==◌, ℕ, Bool, true, false, nat_le, List, [], ◌∷◌, ◌++◌, map, length, if◌then◌else◌, Option, None, Some, replicate}
-use Rattle.rm_model.specs.Words.{Word}
 use Rattle.rm_model.specs.Value.{source_names, observed_names, is_among}
 use Rattle.rm_model.specs.declared.parts.Literal.{Literal}
 use Rattle.rm_model.specs.declared.parts.Literal.TheVariants.{Zero, One, Any}
@@ -10,6 +9,7 @@ use Rattle.gate_net.specs.declared.Kind.{Kind}
 use Rattle.gate_net.specs.declared.Kind.TheVariants.{And, Or, Not}
 use Rattle.gate_net.specs.Net.{Node, Net}
 use Rattle.graph_to_model.specs.Names.{node_name}
+use Rattle.rm_base.specs.Words.{Word}
 
 -- one row a pin, with 1 at that pin
 abbrev pub row_per_pin : ℕ → List (List Literal)

@@ -1,6 +1,6 @@
 // The covers of observed names that no gate has.
 ghost use Rattle.std.specs.Prelude.{◌≡◌, ◌<◌, ◌++◌, ◌∷◌, [], ℕ, All, IfOk, List, OnOk, length, map};
-ghost use Rattle.rm_model.specs.Words.{Word};
+ghost use Rattle.rm_base.specs.Words.{Word};
 ghost use Rattle.gate_graph.specs.Circuit.{net_of};
 ghost use Rattle.graph_to_model.specs.Making.{all_by, copies_by, copy_by};
 

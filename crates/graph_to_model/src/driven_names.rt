@@ -1,7 +1,7 @@
 // The names that a model drives.
 ghost use Rattle.std.specs.Prelude.{◌≡◌, ◌++◌, map, OnOk, IfOk};
 ghost use Rattle.rm_model.specs.Value.{is_among};
-ghost use Rattle.rm_model.specs.Words.{Word};
+ghost use Rattle.rm_base.specs.Words.{Word};
 
 use rm_base::NoMemory;
 use rm_model::{Cover, Name, NameTable};

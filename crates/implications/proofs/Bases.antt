@@ -6,7 +6,7 @@ use Rattle.std.proofs.lemmas.List.{length-set}
 use Rattle.std.proofs.lemmas.Option.{slice_get_within}
 use Rattle.std.specs.Option.{is_some}
 use Rattle.std.specs.Prelude.{Err, IfOk, IsTrue, Ok, OnOk, Result, nat_eq, slice_get, slice_set, ◌⊎◌}
-use Rattle.gate_graph.proofs.Public.{none_seen, seen_cases, seen_kept, seen_new}
+use Rattle.gate_graph.proofs.Public.{none_seen, seen_cases, seen_kept, seen_new, seen_or_not}
 use Rattle.gate_graph.specs.Search.{IsSeen}
 use Rattle.gate_net.specs.Net.{IsLive, IsWellFormed, Net, kind_in, kind_of}
 use Rattle.gate_net.specs.Paths.{Reaches}
@@ -31,6 +31,7 @@ use Rattle.refutation.specs.declared.reasoning.Fact.TheVariants.{Equal}
 use Rattle.refutation.specs.declared.reasoning.Line.{Line}
 use Rattle.rm_base.specs.declared.numbers.Fault.{Fault}
 use Rattle.rm_base.specs.declared.numbers.NodeId.{NodeId}
+use Rattle.rm_base.specs.Members.{AmongFirst}
 
 -- LISTS OF NODES
 pub listed_kept : (xs : List NodeId) (x : NodeId) (y : ℕ) → IsListed xs y → IsListed (xs ++ x ∷ []) y
@@ -174,10 +175,6 @@ takes_join P Q R both a b c k l m p q = record {
   room = q.room ∙ p.room;
 }
 
--- the number stands in the list before a place
-abbrev pub AmongFirst : List ℕ → ℕ → ℕ → Type 0
-AmongFirst xs i z = (k : ℕ) × ((k < i) × (slice_get xs k ≡ Some z))
-
 pub first_none : (xs : List ℕ) (facts : List NodeFacts) (taken : List Bool) → TakesEquals (AmongFirst xs 0) facts taken facts taken
 first_none xs facts taken = takes_none (AmongFirst xs 0) (λ z among. none among.0 among.1.0) facts taken
   where
@@ -278,15 +275,6 @@ rest_comes net taken facts rest none = record {
   rest = λ x fact. (λ h. elim h [ inl e ↦ (rest x fact).0 e | inr marked ↦ absurd (none x marked.0) ], λ h. inl ((rest x fact).1 h));
 }
 
--- BEGINNING
-seen_or : (marks : List Bool) (y : ℕ) → IsSeen marks y ⊎ (IsSeen marks y → ⊥)
-seen_or marks y = at (slice_get marks y) refl
-  where
-    at : (o : Option Bool) → slice_get marks y ≡ o → IsSeen marks y ⊎ (IsSeen marks y → ⊥)
-    at None e = inr (λ is. cc)
-    at (Some true) e = inl e
-    at (Some false) e = inr (λ is. cc)
-
 pub none_seen_in : (marks : List Bool) → marks ≡ replicate (length marks) false → (z : ℕ) → IsSeen marks z → ⊥
 none_seen_in marks is z seen = none_seen (length marks) z (subst (λ (s : List Bool). IsSeen s z) is seen)
 
@@ -309,7 +297,7 @@ begun net fault reached numbers facts facts' facts'' taken taken' taken'' rest n
       | inl e ↦ (rest x fact).0 ((all.held x fact).0 e).0
       | inr marked ↦ (elim ((all.marked x).0 marked.0) [ inl before ↦ absurd (none x before) | inr such ↦ elim such [ inl same ↦ rw same gate | inr among ↦ live x (marks.sound x ((lists x).0 among)) ] ], marked.1)
     ],
-    λ h. elim (seen_or taken'' x) [
+    λ h. elim (seen_or_not taken'' x) [
       | inl seen ↦ inr (seen, h.1)
       | inr off ↦ inl ((all.held x fact).1 ((rest x fact).1 h, λ such. off ((all.marked x).1 (inr such.1))))
     ],
@@ -321,7 +309,7 @@ begun net fault reached numbers facts facts' facts'' taken taken' taken'' rest n
 
 -- each node is on the agenda or settled by what isn't reached
 pub outside_pending : (net : Net) (fault : Fault) (nodes : List NodeId) (agenda : List Bool) → IsWellFormed net → ArePinless net nodes → ((k : ℕ) (n : NodeId) → slice_get nodes k ≡ Some n → IsSeen agenda n.0) → IsSeen agenda 0 → IsSeen agenda 1 → IsSeen agenda fault.gate.0 → (facts : List NodeFacts) → AreOutside net fault (held_by facts) → IsPending net fault facts agenda
-outside_pending net fault nodes agenda formed are on' zero' one' gate facts outside y = elim (seen_or agenda y) [
+outside_pending net fault nodes agenda formed are on' zero' one' gate facts outside y = elim (seen_or_not agenda y) [
   | inl seen ↦ inl seen
   | inr off ↦ inr (outside_settled net fault (held_by facts) formed outside y (λ is. off (subst (IsSeen agenda) (sym is) zero')) (λ is. off (subst (IsSeen agenda) (sym is) one')) (λ is. off (subst (IsSeen agenda) (sym is) gate))
       (λ pinless. let listed = are.all y pinless in off (subst (IsSeen agenda) listed.1.1.1 (on' listed.0 listed.1.0 listed.1.1.0))))

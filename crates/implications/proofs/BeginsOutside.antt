@@ -3,8 +3,8 @@ use Rattle.std.proofs.Common.{Bool, List, None, Option, Some, [], ap, append-nil
 use Rattle.std.proofs.lemmas.Bool.{cases_lt}
 use Rattle.std.proofs.lemmas.List.{length-set}
 use Rattle.std.specs.Option.{is_some, option_map}
-use Rattle.std.specs.Prelude.{IsTrue, slice_get, slice_set, ◌⊎◌}
-use Rattle.gate_graph.proofs.Public.{seen_kept, seen_new}
+use Rattle.std.specs.Prelude.{IsTrue, slice_get, slice_set}
+use Rattle.gate_graph.proofs.Public.{seen_kept, seen_new, seen_or_not}
 use Rattle.gate_graph.specs.Search.{IsSeen}
 use Rattle.gate_net.specs.Net.{IsGateKind, IsWellFormed, Net, drivers_of, kind_of}
 use Rattle.gate_net.specs.Values.{HasPin}
@@ -107,17 +107,8 @@ begins_more net fault number facts facts' agenda agenda' b h here kept = record 
 pub begins_outside : (net : Net) (fault : Fault) (facts : List NodeFacts) (agenda : List Bool) → BeginsBelow net fault (length net.nodes) facts agenda → AreOutside net fault (held_by facts)
 begins_outside net fault facts agenda b x fact = (λ e. ((b.outside x fact).0 e).1, λ out. (b.outside x fact).1 (kind_live net x out.0, out))
 
--- whether it is on
-on_or_off : (agenda : List Bool) (y : ℕ) → IsSeen agenda y ⊎ (IsSeen agenda y → ⊥)
-on_or_off agenda y = at (slice_get agenda y) refl
-  where
-    at : (o : Option Bool) → slice_get agenda y ≡ o → IsSeen agenda y ⊎ (IsSeen agenda y → ⊥)
-    at None e = inr (λ is. cc)
-    at (Some true) e = inl e
-    at (Some false) e = inr (λ is. cc)
-
 pub begins_pending : (net : Net) (fault : Fault) (facts : List NodeFacts) (agenda agenda' : List Bool) → IsWellFormed net → BeginsBelow net fault (length net.nodes) facts agenda → ((z : ℕ) → IsSeen agenda z → IsSeen agenda' z) → IsSeen agenda' 0 → IsSeen agenda' 1 → IsSeen agenda' fault.gate.0 → IsPending net fault facts agenda'
-begins_pending net fault facts agenda agenda' formed b kept zero' one' gate y = elim (on_or_off agenda' y) [
+begins_pending net fault facts agenda agenda' formed b kept zero' one' gate y = elim (seen_or_not agenda' y) [
   | inl on' ↦ inl on'
   | inr off ↦ inr (outside_settled net fault (held_by facts) formed (begins_outside net fault facts agenda b) y (λ is. off (subst (IsSeen agenda') (sym is) zero')) (λ is. off (subst (IsSeen agenda') (sym is) one')) (λ is. off (subst (IsSeen agenda') (sym is) gate))
       (λ pinless. off (kept y (b.pinless y (kind_live net y (pinless.0.0, pinless.0.1.0)) pinless))))

@@ -6,15 +6,17 @@ use Rattle.std.specs.Prelude.{slice_get, slice_set}
 use Rattle.gate_net.specs.Forward.{all_but, is_known, junction_back, junction_follows}
 use Rattle.implications.proofs.Counting.{all_counted, but_counted, counting_map, counting_same, counting_set, counting_split, none_counted, not_all_counted, some_counted}
 use Rattle.implications.proofs.Pulling.{back_same, one_left, pull_known, pull_unknown}
-use Rattle.implications.specs.Counts.{IsCount, is_not_passing, one_if}
+use Rattle.implications.specs.Counts.{IsCount, is_not_passing}
 use Rattle.implications.specs.Pulls.{IsEqualPull, IsPull}
 use Rattle.implications.specs.Tallies.{IsTally, counting, is_passing}
 use Rattle.implications.specs.declared.counts.Count.{Count}
 use Rattle.implications.specs.declared.tallies.Tally.{Tally}
 use Rattle.refutation.specs.Closing.{IsClashFree}
 use Rattle.refutation.specs.Facts.{Held, known_equal, known_faulty, known_good, one_of}
-use Rattle.refutation.proofs.Public.{all_not_any, some_is}
+use Rattle.refutation.proofs.Public.{all_not_any}
 use Rattle.refutation.specs.declared.reasoning.Fact.TheVariants.{Differs, Equal, Faulty, Good}
+use Rattle.rm_base.proofs.Public.{some_same}
+use Rattle.rm_base.specs.Numbers.{one_if}
 
 -- AN AND OR AN OR
 module _ (n : Count) (c : Bool) (os : List (Option Bool)) (known : Option Bool) (h : IsCount n c os) where
@@ -46,7 +48,7 @@ module _ (n : Count) (c : Bool) (os : List (Option Bool)) (known : Option Bool) 
           let none : junction_follows c os ≡ None = rw (off, open') refl in (
             λ v f. let wrong : None ≡ Some v = sym none ∙ f in cc,
             λ v other q o k back there.
-                let same : v ≡ c = some_is (sym k ∙ is) in
+                let same : v ≡ c = some_same (sym k ∙ is) in
                 let b : junction_back c c os q ≡ Some other = rw same at back in
                 let yes' : all_but (is_known (not c)) q os ≡ true = (back_same c os q other b).0 in
                 let no' : all_but (is_known (not c)) q os ≡ false = two_open q two in

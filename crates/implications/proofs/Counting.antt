@@ -3,9 +3,9 @@ use Rattle.std.proofs.Common.{Bool, List, Some, [], ap, arith, false, length, ma
 use Rattle.std.specs.List.{list_all, list_any}
 use Rattle.std.specs.Prelude.{slice_get, slice_set}
 use Rattle.gate_net.specs.Forward.{all_but}
-use Rattle.implications.specs.Counts.{one_if}
 use Rattle.implications.specs.Tallies.{counting}
-use Rattle.refutation.proofs.Public.{some_is}
+use Rattle.rm_base.proofs.Public.{some_same}
+use Rattle.rm_base.specs.Numbers.{one_if}
 
 pub counting_cons : {A : Type 0} (test : A → Bool) (x : A) (xs : List A) → counting test (x ∷ xs) ≡ one_if (test x) + counting test xs
 counting_cons test x xs = at (test x) refl
@@ -87,7 +87,7 @@ counting_same test other (x ∷ xs) same = counting_cons test x xs ∙ step (cou
 pub counting_set : {A : Type 0} (test : A → Bool) (xs : List A) (p : ℕ) (x v : A) → slice_get xs p ≡ Some x → counting test (slice_set xs p v) + one_if (test x) ≡ counting test xs + one_if (test v)
 counting_set test [] p x v there = cc
 counting_set {A = A} test (y ∷ xs) zero x v there =
-    let same : y ≡ x = some_is there in
+    let same : y ≡ x = some_same there in
     let before : counting test (y ∷ xs) ≡ one_if (test x) + counting test xs = counting_cons test y xs ∙ ap (λ (z : A). one_if (test z) + counting test xs) same in
     let after : counting test (v ∷ xs) ≡ one_if (test v) + counting test xs = counting_cons test v xs in
     omega arith
@@ -117,7 +117,7 @@ counting_split {A = A} test other (x ∷ xs) =
 pub none_at : {A : Type 0} (test : A → Bool) (xs : List A) (q : ℕ) (x : A) → counting test xs ≡ 0 → slice_get xs q ≡ Some x → test x ≡ true → ⊥
 none_at test [] q x e there is = cc
 none_at test (y ∷ xs) zero x e there is =
-    let same : y ≡ x = some_is there in
+    let same : y ≡ x = some_same there in
     let here : test y ≡ true = ap test same ∙ is in
     let one : suc (counting test xs) ≡ 0 = rw here at e in
     absurd (omega arith)
@@ -127,11 +127,11 @@ pub one_at : {A : Type 0} (test : A → Bool) (xs : List A) (p q : ℕ) (x z : A
 one_at test [] p q x z e there is there' is' = cc
 one_at test (y ∷ xs) zero zero x z e there is there' is' = refl
 one_at test (y ∷ xs) zero (suc q) x z e there is there' is' =
-    let here : test y ≡ true = ap test (some_is there) ∙ is in
+    let here : test y ≡ true = ap test (some_same there) ∙ is in
     let one : suc (counting test xs) ≡ 1 = rw here at e in
     absurd (none_at test xs q z (omega arith) there' is')
 one_at test (y ∷ xs) (suc p) zero x z e there is there' is' =
-    let here : test y ≡ true = ap test (some_is there') ∙ is' in
+    let here : test y ≡ true = ap test (some_same there') ∙ is' in
     let one : suc (counting test xs) ≡ 1 = rw here at e in
     absurd (none_at test xs p x (omega arith) there is)
 one_at test (y ∷ xs) (suc p) (suc q) x z e there is there' is' = ap suc (at (test y) refl (λ f. one_at test xs p q x z f there is there' is'))

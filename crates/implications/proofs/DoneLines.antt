@@ -2,7 +2,6 @@
 use Rattle.std.proofs.Common.{Bool, List, None, Option, Some, ap, arith, false, inl, inr, length, map, refl, subst, sym, true, ℕ, ◌<◌, ◌∙◌, ◌≡◌, ◌≢◌}
 use Rattle.std.proofs.lemmas.Bool.Decides.{eqb_tells}
 use Rattle.std.specs.Prelude.{slice_get, slice_set}
-use Rattle.gate_net.proofs.Public.{map_at}
 use Rattle.gate_net.specs.Net.{Net, drivers_of}
 use Rattle.implications.proofs.Counting.{none_at, one_at}
 use Rattle.implications.proofs.GateLines.{equal_held, good_not}
@@ -22,6 +21,7 @@ use Rattle.refutation.specs.declared.pins.Aspect.TheVariants.{OfFaulty}
 use Rattle.refutation.specs.declared.reasoning.Fact.TheVariants.{Equal, Good}
 use Rattle.rm_base.specs.declared.numbers.Fault.{Fault}
 use Rattle.rm_base.specs.declared.numbers.NodeId.{NodeId}
+use Rattle.rm_base.proofs.Public.{map_at}
 
 -- an open side is counted
 open_counted : (held : Held) → IsClashFree held → (d : ℕ) (b : Bool) → IsOpenSide held d b → is_not_passing held b d ≡ true

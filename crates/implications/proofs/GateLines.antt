@@ -5,12 +5,11 @@ use Rattle.std.proofs.lemmas.Option.{slice_get_within}
 use Rattle.std.specs.List.{list_all}
 use Rattle.std.specs.Prelude.{IsTrue, nat_eq, slice_get}
 use Rattle.gate_net.specs.Forward.{is_known, junction_back, value_back, value_forward}
-use Rattle.gate_net.proofs.Public.{bool_cases, map_at, never_opposite}
 use Rattle.gate_net.specs.Net.{IsGate, IsGateKind, IsKind, IsWellFormed, Net, Node, Reads, drivers_of}
 use Rattle.gate_net.specs.Values.{IsJunction, controlling, faulty_reads}
 use Rattle.gate_net.specs.declared.Kind.{Kind}
 use Rattle.gate_net.specs.declared.Kind.TheVariants.{And, Not, One, Or, Source, Zero}
-use Rattle.refutation.proofs.Public.{driver_live, faulty_pins, junction_kind, known_held, one_of_true, pin_at, some_is}
+use Rattle.refutation.proofs.Public.{driver_live, faulty_pins, junction_kind, known_held, one_of_true, pin_at}
 use Rattle.implications.specs.Pulls.{AreDoneEqual, AreDoneFaulty, AreDoneGood, AreDoneSide, IsEqualPull, IsPlaced, IsPull, IsPulled, SomePin}
 use Rattle.implications.specs.Settled.{IsDone, IsFresh}
 use Rattle.implications.specs.Sides.{IsOpenPin, IsOpenSide, IsSide}
@@ -29,6 +28,7 @@ use Rattle.refutation.specs.declared.reasoning.Fact.TheVariants.{Differs, Equal,
 use Rattle.refutation.specs.declared.reasoning.Line.TheVariants.{DiffersBack, EqualForward, FaultyBack, FaultyForward, GoodBack, GoodForward, Side}
 use Rattle.rm_base.specs.declared.numbers.Fault.{Fault}
 use Rattle.rm_base.specs.declared.numbers.NodeId.{NodeId}
+use Rattle.rm_base.proofs.Public.{bool_cases, map_at, never_opposite, some_same}
 
 abbrev if_of : Bool → Bool → Bool → Bool
 if_of t u true = u
@@ -86,7 +86,7 @@ differs_held held x e = one_of_no (held x Differs) (held x Equal) e
 
 -- KINDS
 pub kind_once : (net : Net) (x : ℕ) (k l : Kind) → IsKind net x k → IsKind net x l → l ≡ k
-kind_once net x k l (ds, is) (es, is') = let e : Some (record { kind = k; drivers = ds }) ≡ Some (record { kind = l; drivers = es }) = sym is ∙ is' in sym (ap kind_field (some_is e))
+kind_once net x k l (ds, is) (es, is') = let e : Some (record { kind = k; drivers = ds }) ≡ Some (record { kind = l; drivers = es }) = sym is ∙ is' in sym (ap kind_field (some_same e))
   where
     kind_field : Node → Kind
     kind_field n = n.kind
@@ -119,7 +119,7 @@ pin_read fault k ds y q d there ne = pin_at (stuck_of fault y) k ds q d there �
 
 -- a pin that reads nothing known isn't the stuck one
 pub open_pin : (fault : Fault) (k : ℕ → Option Bool) (ds : List ℕ) (y q d : ℕ) → slice_get ds q ≡ Some d → slice_get (with_stuck (stuck_of fault y) (map k ds)) q ≡ Some None → (IsStuckPin fault y q → ⊥) × (k d ≡ None)
-open_pin fault k ds y q d there open' = (not_stuck, sym (some_is (sym open' ∙ pin_read fault k ds y q d there not_stuck)))
+open_pin fault k ds y q d there open' = (not_stuck, sym (some_same (sym open' ∙ pin_read fault k ds y q d there not_stuck)))
   where
     not_stuck : IsStuckPin fault y q → ⊥
     not_stuck both =
@@ -144,7 +144,7 @@ module _ (net : Net) (fault : Fault) (facts : List NodeFacts) (formed : IsWellFo
   pub good_pin : (q : ℕ) (d : NodeId) (v : Bool) → IsPull c goods (known_good (held_by facts) y.0) (Some (Pin q v)) → Reads net y.0 q d.0 → IsFresh net fault facts (record { line = GoodBack y q; node = d; fact = Good v })
   good_pin q d v p reads = record {
     gives = (j.0, v, v, j.1.0, p.0, junction_back_kind j.0 c v goods q j.1.1 ∙ p.1.0, reads, refl);
-    new = good_not (held_by facts) free d.0 v (λ e. let none : known_good (held_by facts) d.0 ≡ None = some_is (sym (map_at (known_good (held_by facts)) (drivers_of net y.0) q d.0 reads) ∙ p.1.1) in cc);
+    new = good_not (held_by facts) free d.0 v (λ e. let none : known_good (held_by facts) d.0 ≡ None = some_same (sym (map_at (known_good (held_by facts)) (drivers_of net y.0) q d.0 reads) ∙ p.1.1) in cc);
     live = driver_live net formed y.0 q d.0 reads;
   }
 
@@ -211,7 +211,7 @@ module _ (net : Net) (fault : Fault) (facts : List NodeFacts) (formed : IsWellFo
   pub equal_pin : (q : ℕ) (d : NodeId) (v : Bool) → IsGate net y.0 → y.0 ≢ fault.gate.0 → IsEqualPull equals (known_equal (held_by facts) y.0) (Some (Pin q v)) → Reads net y.0 q d.0 → IsFresh net fault facts (record { line = DiffersBack y q; node = d; fact = Differs })
   equal_pin q d v gate ne p reads = record {
     gives = (gate, ne, p.0, p.1.0, reads, refl);
-    new = differs_not (held_by facts) free d.0 (λ e. let none : known_equal (held_by facts) d.0 ≡ None = some_is (sym (map_at (known_equal (held_by facts)) (drivers_of net y.0) q d.0 reads) ∙ p.1.1) in cc);
+    new = differs_not (held_by facts) free d.0 (λ e. let none : known_equal (held_by facts) d.0 ≡ None = some_same (sym (map_at (known_equal (held_by facts)) (drivers_of net y.0) q d.0 reads) ∙ p.1.1) in cc);
     live = driver_live net formed y.0 q d.0 reads;
   }
 
@@ -234,7 +234,7 @@ module _ (net : Net) (fault : Fault) (facts : List NodeFacts) (formed : IsWellFo
   }
 
   side_value : (c : Bool) (j : IsJunction net y.0 c) (k : Kind) (b : Bool) → IsKind net y.0 k → controlling k ≡ Some b → b ≡ c
-  side_value c j k b is e = let same : k ≡ j.0 = kind_once net y.0 j.0 k j.1.0 is in some_is (sym e ∙ ap controlling same ∙ j.1.1)
+  side_value c j k b is e = let same : k ≡ j.0 = kind_once net y.0 j.0 k j.1.0 is in some_same (sym e ∙ ap controlling same ∙ j.1.1)
 
   pub side_done : (c : Bool) → IsJunction net y.0 c → IsSide (drivers_of net y.0) fault (held_by facts) y.0 (not c) None → AreDoneSide net fault facts y
   side_done c j none q x fact h =
@@ -251,7 +251,7 @@ module _ (net : Net) (fault : Fault) (facts : List NodeFacts) (formed : IsWellFo
           at None is = open_at (λ k. let wrong : None ≡ Some b = sym is ∙ k in cc)
           at (Some d) is = elim (bool_cases d b) [
             | inl same ↦ known_held held x b (is ∙ ap Some same)
-            | inr other ↦ open_at (λ k. let two : d ≡ b = some_is (sym is ∙ k) in absurd (never_opposite b (sym two ∙ other)))
+            | inr other ↦ open_at (λ k. let two : d ≡ b = some_same (sym is ∙ k) in absurd (never_opposite b (sym two ∙ other)))
           ]
 
   pub side_none : known_equal (held_by facts) y.0 ≢ Some false → AreDoneSide net fault facts y
@@ -274,8 +274,8 @@ pulled_placed net y P (Pin k v) (PinNode q d w) p is = (subst (λ n. P (Some (Pi
 
 pub pulled_gate : (net : Net) (y : ℕ) (P : Option Pull → Type 0) (o : Option Pulled) (r : Pulled) (v : Bool) → o ≡ Some r → r ≡ GateNode v → IsPulled net y P o → P (Some (Gate v))
 pulled_gate net y P None r v e is p = cc
-pulled_gate net y P (Some t) r v e is p = subst (λ u. IsPulled net y P (Some u)) (some_is e ∙ is) p
+pulled_gate net y P (Some t) r v e is p = subst (λ u. IsPulled net y P (Some u)) (some_same e ∙ is) p
 
 pub pulled_pin : (net : Net) (y : ℕ) (P : Option Pull → Type 0) (o : Option Pulled) (r : Pulled) (q : ℕ) (d : NodeId) (v : Bool) → o ≡ Some r → r ≡ PinNode q d v → IsPulled net y P o → P (Some (Pin q v)) × Reads net y q d.0
 pulled_pin net y P None r q d v e is p = cc
-pulled_pin net y P (Some t) r q d v e is p = subst (λ u. IsPulled net y P (Some u)) (some_is e ∙ is) p
+pulled_pin net y P (Some t) r q d v e is p = subst (λ u. IsPulled net y P (Some u)) (some_same e ∙ is) p

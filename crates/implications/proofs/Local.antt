@@ -3,7 +3,6 @@ use Rattle.std.proofs.Common.{None, Some, ap, false, map, refl, subst, sym, true
 use Rattle.std.specs.List.{list_all}
 use Rattle.std.specs.Prelude.{IsTrue, if◌then◌else◌, nat_eq, slice_set}
 use Rattle.gate_net.specs.Forward.{all_but, is_known, value_back, value_forward}
-use Rattle.gate_net.proofs.Public.{map_agree}
 use Rattle.gate_net.specs.Net.{Net, Reads, drivers_of}
 use Rattle.gate_net.specs.Values.{faulty_reads}
 use Rattle.implications.specs.Settled.{AgreeAt, place_of}
@@ -14,6 +13,7 @@ use Rattle.refutation.specs.declared.reasoning.Fact.TheVariants.{Differs, Equal,
 use Rattle.refutation.specs.declared.reasoning.Line.{Line}
 use Rattle.refutation.specs.declared.reasoning.Line.TheVariants.{Act, Chain, Compare, Constant, DiffersBack, EqualForward, FaultyBack, FaultyForward, GoodBack, GoodForward, NotDiffers, NotEqual, Out, Side, Site, ToFaulty, ToGood}
 use Rattle.rm_base.specs.declared.numbers.Fault.{Fault}
+use Rattle.rm_base.proofs.Public.{map_agree}
 
 module _ (net : Net) (fault : Fault) (held other : Held) (y : ℕ) (here : AgreeAt held other y) (drivers : (p d : ℕ) → Reads net y p d → AgreeAt held other d) where
   good_at : (x : ℕ) → AgreeAt held other x → known_good held x ≡ known_good other x

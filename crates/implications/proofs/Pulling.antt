@@ -1,10 +1,10 @@
 -- What a glance at a gate's pins gives.
 use Rattle.std.proofs.Common.{Bool, List, None, Option, Some, [], arith, false, inl, inr, not, refl, suc, sym, true, zero, ℕ, ◌<◌, ◌||◌, ◌∙◌, ◌∷◌, ◌≡◌, ◌≢◌, ◌⊎◌}
-use Rattle.std.proofs.lemmas.Bool.{eq-eqb}
+use Rattle.std.proofs.lemmas.Bool.{and_parts, eq-eqb, or_cases}
 use Rattle.std.specs.List.{list_all, list_any}
 use Rattle.std.specs.Prelude.{IsTrue, if◌then◌else◌, slice_get}
 use Rattle.gate_net.specs.Forward.{all_but, is_known, junction_back, junction_follows}
-use Rattle.gate_net.proofs.Public.{and_both, is_known_true, or_either, same_bool_not, same_bool_refl}
+use Rattle.gate_net.proofs.Public.{is_known_true, same_bool_not, same_bool_refl}
 use Rattle.gate_net.specs.Values.{same_bool}
 use Rattle.implications.specs.Pulls.{IsEqualPull, IsPull}
 use Rattle.implications.specs.declared.pulls.Pull.TheVariants.{Gate, Pin}
@@ -51,20 +51,20 @@ none_is c (x ∷ os) (suc q) o e there = none_is c os q o (rest_off (is_known c 
 all_are : (c : Bool) (os : List (Option Bool)) (q : ℕ) (o : Option Bool) → list_all (is_known c) os ≡ true → slice_get os q ≡ Some o → o ≡ Some c
 all_are c [] q o e there = cc
 all_are c (x ∷ os) zero o e there =
-    let both : (is_known c x ≡ true) × (list_all (is_known c) os ≡ true) = and_both (is_known c x) (list_all (is_known c) os) e in
+    let both : (is_known c x ≡ true) × (list_all (is_known c) os ≡ true) = and_parts (is_known c x) (list_all (is_known c) os) e in
     let known : x ≡ Some c = is_known_true c x both.0 in
     cc
-all_are c (x ∷ os) (suc q) o e there = let both : (is_known c x ≡ true) × (list_all (is_known c) os ≡ true) = and_both (is_known c x) (list_all (is_known c) os) e in all_are c os q o both.1 there
+all_are c (x ∷ os) (suc q) o e there = let both : (is_known c x ≡ true) × (list_all (is_known c) os ≡ true) = and_parts (is_known c x) (list_all (is_known c) os) e in all_are c os q o both.1 there
 
 -- all but the pin are c's opposite, and some is c: it is this one
 pub one_left : (c : Bool) (os : List (Option Bool)) (q : ℕ) (o : Option Bool) → list_any (is_known c) os ≡ true → all_but (is_known (not c)) q os ≡ true → slice_get os q ≡ Some o → o ≡ Some c
 one_left c [] q o e all there = cc
-one_left c (x ∷ os) zero o e all there = elim (or_either (is_known c x) (list_any (is_known c) os) e) [
+one_left c (x ∷ os) zero o e all there = elim (or_cases (is_known c x) (list_any (is_known c) os) e) [
   | inl here ↦ let known : x ≡ Some c = is_known_true c x here in cc
   | inr later ↦ let none : list_any (is_known c) os ≡ false = all_not_any c os all in cc
 ]
 one_left c (x ∷ os) (suc q) o e all there =
-    let both : (is_known (not c) x ≡ true) × (all_but (is_known (not c)) q os ≡ true) = and_both (is_known (not c) x) (all_but (is_known (not c)) q os) all in
+    let both : (is_known (not c) x ≡ true) × (all_but (is_known (not c)) q os ≡ true) = and_parts (is_known (not c) x) (all_but (is_known (not c)) q os) all in
     let other : x ≡ Some (not c) = is_known_true (not c) x both.0 in
     let off : is_known c x ≡ false = rw other (at c) in
     one_left c os q o (rest (is_known c x) (list_any (is_known c) os) off e) both.1 there

@@ -6,13 +6,13 @@ use Rattle.std.specs.Prelude.{nat_eq, slice_get, slice_set}
 use Rattle.gate_graph.specs.Circuit.{Circuit, fanouts_of, net_of}
 use Rattle.gate_graph.specs.Readers.{ListReaders}
 use Rattle.gate_graph.specs.Search.{IsSeen}
-use Rattle.gate_net.proofs.Public.{map_at}
 use Rattle.gate_net.specs.Net.{drivers_of}
 use Rattle.implications.proofs.CountRises.{counting-append}
 use Rattle.refutation.specs.Agendas.{seen_count}
-use Rattle.refutation.proofs.Public.{count-clear, gate_in, map_found, seen_left, seen_stays}
+use Rattle.refutation.proofs.Public.{count-clear, gate_in, seen_left, seen_stays}
 use Rattle.implications.specs.Tallies.{counting}
 use Rattle.rm_base.specs.declared.numbers.NodeId.{NodeId}
+use Rattle.rm_base.proofs.Public.{map_at, map_found, some_same}
 
 -- PLACES OF ONE GATE
 marks_counted : (n : ℕ) (ds : List ℕ) → seen_count (map (nat_eq n) ds) ≡ counting (nat_eq n) ds
@@ -24,11 +24,8 @@ none_counted [] none = refl
 none_counted (true ∷ marks) none = absurd (none zero refl)
 none_counted (false ∷ marks) none = none_counted marks (λ p seen. none (suc p) seen)
 
-same_some : {A : Type 0} {a b : A} → Some a ≡ Some b → a ≡ b
-same_some e = cc
-
 among_rest : (place other : ℕ × ℕ) (places : List (ℕ × ℕ)) → (place ≡ other → ⊥) → (k : ℕ) × (slice_get (place ∷ places) k ≡ Some other) → (k : ℕ) × (slice_get places k ≡ Some other)
-among_rest place other places ne (zero, e) = absurd (ne (same_some e))
+among_rest place other places ne (zero, e) = absurd (ne (some_same e))
 among_rest place other places ne (suc k, e) = (k, e)
 
 -- a list that has the gate's marked places, each once, and no others of that gate

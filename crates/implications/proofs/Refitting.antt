@@ -12,13 +12,14 @@ use Rattle.implications.proofs.Bases.{listed_kept, listed_last, without_left, wi
 use Rattle.implications.proofs.Trails.{held_past}
 use Rattle.implications.specs.Bases.{ArePinless, IsListed, IsRefitted, IsRest}
 use Rattle.implications.specs.Outside.{IsPinless}
-use Rattle.refutation.proofs.Public.{kind_is, kind_live, last_of, map_found, with_cases, with_more, with_there}
+use Rattle.refutation.proofs.Public.{kind_is, kind_live, with_cases, with_more, with_there}
 use Rattle.refutation.specs.FactSets.{Becomes, held_by}
 use Rattle.refutation.specs.Facts.{with_fact, without_fact}
 use Rattle.refutation.specs.declared.held.NodeFacts.{NodeFacts}
 use Rattle.refutation.specs.declared.reasoning.Fact.{Fact}
 use Rattle.refutation.specs.declared.reasoning.Fact.TheVariants.{Differs, Equal, Faulty, Good}
 use Rattle.rm_base.specs.declared.numbers.NodeId.{NodeId}
+use Rattle.rm_base.proofs.Public.{last_cases, map_found, stands_or_not}
 
 -- ONE NODE
 pub is_there : (net : Net) (y : ℕ) (o : Option Kind) (b : Bool) → o ≡ kind_of net y → b ≡ is_some o → b ≡ true → IsLive net y
@@ -103,21 +104,6 @@ number_at [] k n there = cc
 number_at (m ∷ nodes) zero n there = let is : m ≡ n = cc in ap (λ (a : NodeId). Some a.0) is
 number_at (m ∷ nodes) (suc k) n there = number_at nodes k n there
 
--- the number is in the list, or isn't
-pub listed_or : (xs : List ℕ) (x : ℕ) → ((k : ℕ) × (slice_get xs k ≡ Some x)) ⊎ ((k : ℕ) → slice_get xs k ≡ Some x → ⊥)
-listed_or [] x = inr (λ k e. let wrong : None ≡ Some x = e in cc)
-listed_or (y ∷ xs) x = elim (eqb_tells y x) [
-  | inl same ↦ inl (0, ap Some same.1)
-  | inr other ↦ elim (listed_or xs x) [
-    | inl there ↦ inl (suc there.0, there.1)
-    | inr none ↦ inr (λ k. at k other.1 none)
-  ]
-]
-  where
-    at : (k : ℕ) → y ≢ x → ((k : ℕ) → slice_get xs k ≡ Some x → ⊥) → slice_get (y ∷ xs) k ≡ Some x → ⊥
-    at zero ne none e = ne cc
-    at (suc k) ne none e = none k e
-
 same_live : (before net : Net) (x : ℕ) → node_at net x ≡ node_at before x → IsLive before x → IsLive net x
 same_live before net x same live = (live.0, (live.1.0, same ∙ live.1.1))
 
@@ -128,7 +114,7 @@ refits_all before net xs i facts end same r x fact = (
 )
   where
     at : IsTrue (held_by facts x Equal) ↔ IsLive net x
-    at = elim (listed_or xs x) [
+    at = elim (stands_or_not xs x) [
       | inl there ↦ (let within : there.0 < length xs = slice_get_within xs there.0 x there.1 in r.done there.0 x (omega (arith, within, end)) there.1)
       | inr none ↦ (let rest = r.ahead x (λ k low there. none k there) in (λ e. same_live before net x (same x none) (rest.0 e), λ l. rest.1 (same_live net before x (sym (same x none)) l)))
     ]
@@ -138,7 +124,7 @@ pub listed_here : (xs : List NodeId) (x : NodeId) (y : ℕ) → y ≡ x.0 → Is
 listed_here xs x y same = subst (IsListed (xs ++ x ∷ [])) (sym same) (listed_last xs x)
 
 pub below_more : (xs : List NodeId) (x : NodeId) (bound : ℕ) → ((k : ℕ) (n : NodeId) → slice_get xs k ≡ Some n → n.0 < bound) → x.0 < bound → (k : ℕ) (n : NodeId) → slice_get (xs ++ x ∷ []) k ≡ Some n → n.0 < bound
-below_more xs x bound below low k n there = elim (last_of xs x k n there) [
+below_more xs x bound below low k n there = elim (last_cases xs x k n there) [
   | inl before ↦ below k n before
   | inr same ↦ subst (λ (m : NodeId). m.0 < bound) (sym same) low
 ]
@@ -198,7 +184,7 @@ pub pinless_all : (before net : Net) (nodes old mid new : List NodeId) → IsSam
     → ((y : ℕ) → IsListed nodes y → IsPinless net y → IsListed new y)
     → ((k : ℕ) (n : NodeId) → slice_get new k ≡ Some n → n.0 < length net.nodes) → ArePinless net new
 pinless_all before net nodes old mid new same are first kept second below = record {
-  all = λ y p. elim (listed_or (map (λ (n : NodeId). n.0) nodes) y) [
+  all = λ y p. elim (stands_or_not (map (λ (n : NodeId). n.0) nodes) y) [
     | inl there ↦ second y (let found = map_found (λ (n : NodeId). n.0) nodes there.0 y there.1 in (there.0, (found.0, (found.1.0, found.1.1)))) p
     | inr none ↦ kept y (first y (are.all y (same_pinless before net y (same y none) p)) p)
   ];

@@ -5,7 +5,6 @@ use Rattle.std.proofs.lemmas.Bool.Decides.{eqb_tells}
 use Rattle.std.specs.Prelude.{nat_eq, slice_get, slice_set}
 use Rattle.gate_graph.proofs.Public.{seen_cases}
 use Rattle.gate_graph.specs.Search.{IsSeen}
-use Rattle.gate_net.proofs.Public.{set_other}
 use Rattle.gate_net.specs.Net.{Net, drivers_of}
 use Rattle.implications.proofs.Counting.{count_few}
 use Rattle.implications.proofs.CountRises.{ComesToPass, counted_more, counting-append, counting_rises, counting_room, risen_more, risen_none}
@@ -18,6 +17,7 @@ use Rattle.refutation.proofs.Public.{same_fact_true}
 use Rattle.refutation.specs.declared.reasoning.Fact.{Fact}
 use Rattle.refutation.specs.declared.reasoning.Fact.TheVariants.{Differs, Equal, Faulty, Good}
 use Rattle.rm_base.specs.declared.numbers.NodeId.{NodeId}
+use Rattle.rm_base.proofs.Public.{set_other}
 
 -- ONE PIN MORE
 -- the driver of the pin at the position, with one pin more

@@ -1,6 +1,5 @@
 -- What follows at one pin of an And or an Or.
 use Rattle.std.proofs.Common.{Bool, List, None, Some, ap, arith, false, length, not, ℕ, ◌<◌, ◌∙◌, ◌≡◌}
-use Rattle.gate_net.proofs.Public.{map_at}
 use Rattle.gate_net.specs.Net.{Net, Reads, drivers_of}
 use Rattle.gate_net.specs.Values.{IsJunction}
 use Rattle.implications.proofs.GateLines.{faulty_pin, good_pin, pin_read, side_fresh}
@@ -19,6 +18,7 @@ use Rattle.refutation.specs.declared.reasoning.Fact.TheVariants.{Faulty, Good}
 use Rattle.refutation.specs.declared.reasoning.Line.TheVariants.{FaultyBack, GoodBack, Side}
 use Rattle.rm_base.specs.declared.numbers.Fault.{Fault}
 use Rattle.rm_base.specs.declared.numbers.NodeId.{NodeId}
+use Rattle.rm_base.proofs.Public.{map_at}
 
 module _ (net : Net) (fault : Fault) (facts : List NodeFacts) (ready : IsReady net fault facts) (free : IsClashFree (held_by facts)) (y : NodeId) (c : Bool) (j : IsJunction net y.0 c) (q : ℕ) (d : NodeId) (reads : Reads net y.0 q d.0) where
   pub gate_below : y.0 < length facts

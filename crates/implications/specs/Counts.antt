@@ -1,5 +1,5 @@
 -- How many pins of a gate are known to have a value, and how many its opposite.
-use Rattle.std.specs.Prelude.{Bool, List, Option, false, length, not, true, ℕ, ◌&&◌, ◌≡◌}
+use Rattle.std.specs.Prelude.{Bool, List, Option, length, not, ℕ, ◌&&◌, ◌≡◌}
 use Rattle.gate_net.specs.Forward.{is_known}
 use Rattle.implications.specs.Tallies.{counting}
 use Rattle.implications.specs.declared.counts.Count.{Count}
@@ -11,11 +11,6 @@ pub record IsCount (n : Count) (c : Bool) (os : List (Option Bool)) : Type 0 whe
   pub controlled : n.controlled ≡ counting (is_known c) os
   pub passing : n.passing ≡ counting (is_known (not c)) os
   pub pins : n.pins ≡ length os
-
--- 1 where it holds
-abbrev pub one_if : Bool → ℕ
-one_if true = 1
-one_if false = 0
 
 -- the driver is held to be equal, and not to have that good value
 abbrev pub is_not_passing : Held → Bool → ℕ → Bool

@@ -3,7 +3,6 @@ use Rattle.std.proofs.Common.{◌≡◌, ℕ, List, Option, Some, None, Err, IfS
 use Rattle.rm_base.specs.Files.{Files}
 use Rattle.rm_model.specs.Ranks.{first_without_rank}
 use Rattle.rm_model.specs.WellFormed.{IsWellFormed}
-use Rattle.rm_model.specs.Words.{Word}
 use Rattle.rm_model.specs.declared.parts.Model.{Model}
 use Rattle.gate_net.specs.Net.{Net}
 use Rattle.blif_format.specs.Text.{text_of}
@@ -15,6 +14,7 @@ use Rattle.journal_audit.specs.Differences.{DifferAt}
 use Rattle.journal_audit.specs.Turns.{EndsAccepted, IsLast}
 use Rattle.journal_audit.specs.declared.problem.AuditProblem.{AuditProblem}
 use Rattle.journal_audit.specs.declared.problem.AuditProblem.TheVariants.{Fault, Netlist, NoJournal, NoMemory, NoOutput, Refused, Text, TooLong}
+use Rattle.rm_base.specs.Words.{Word}
 
 -- the last net of an accepted journal may be written as a model
 pub last_fits : AcceptedStand → (m : Model) (last : Net) → IsWellFormed m → first_without_rank m ≡ None → IsLast m last → Fits last m

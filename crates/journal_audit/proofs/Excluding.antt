@@ -3,7 +3,6 @@ use Rattle.std.proofs.Common.{◌≡◌, ℕ, List, [], ◌∷◌, ◌++◌, map
 use Rattle.std.proofs.lemmas.List.{append-nil}
 use Rattle.std.specs.Prelude.{slice_get}
 use Rattle.rm_base.specs.Files.{Files, file_of}
-use Rattle.rm_model.specs.Words.{Word}
 use Rattle.rm_model.specs.declared.parts.Model.{Model}
 use Rattle.gate_net.specs.Net.{Net}
 use Rattle.blif_format.specs.Text.{text_of}
@@ -23,6 +22,7 @@ use Rattle.journal_check.specs.declared.refusal.JournalRefusal.{JournalRefusal}
 use Rattle.journal_audit.specs.Audited.{HasAccepted, ProblemsExclude}
 use Rattle.journal_audit.specs.Judging.{BeginsWith, IsAcceptedText, IsRefusedText}
 use Rattle.journal_audit.specs.declared.problem.AuditProblem.TheVariants.{Fault, Netlist, NoJournal, NoMemory, NoOutput, Refused, Text, TooLong}
+use Rattle.rm_base.specs.Words.{Word}
 
 word_head : (x y : List ℕ) (xs ys : List (List ℕ)) → x ∷ xs ≡ y ∷ ys → x ≡ y
 word_head x y xs ys e = cc

@@ -5,7 +5,6 @@ use Rattle.std.specs.Option.{option_map}
 use Rattle.std.specs.Prelude.{◌==◌}
 use Rattle.rm_base.specs.Files.{Files, file_of}
 use Rattle.rm_base.specs.Shelves.{GivesPiece}
-use Rattle.rm_model.specs.Words.{Word}
 use Rattle.rm_model.specs.declared.parts.Model.{Model}
 use Rattle.gate_graph.specs.Circuit.{Circuit, net_of}
 use Rattle.journal_text.specs.declared.faults.JournalFault.{JournalFault}
@@ -23,6 +22,7 @@ use Rattle.journal_audit.specs.declared.reading.Turn.{Turn}
 use Rattle.journal_audit.specs.declared.reading.Turn.TheVariants.{Ends, GoesOn}
 use Rattle.journal_audit.specs.declared.stage.Stage.{Stage}
 use Rattle.journal_audit.proofs.Judged.{opened, pushed}
+use Rattle.rm_base.specs.Words.{Word}
 
 -- PIECES OF A FILE
 drop_seam : (xs ys : List ℕ) → drop (length xs) (xs ++ ys) ≡ ys

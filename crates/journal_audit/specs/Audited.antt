@@ -1,7 +1,6 @@
 -- What an audit says of the files.
 use Rattle.std.specs.Prelude.{◌≡◌, ◌≢◌, ℕ, ◌+◌, ◌<◌, ◌≤◌, ◌^◌, List, length, take, Some, None, Result, Ok, Err}
 use Rattle.rm_base.specs.Files.{Files, file_of}
-use Rattle.rm_model.specs.Words.{Word}
 use Rattle.rm_model.specs.declared.parts.Model.{Model}
 use Rattle.gate_net.specs.Net.{Net}
 use Rattle.blif_format.specs.Text.{text_of}
@@ -13,6 +12,7 @@ use Rattle.journal_audit.specs.Differences.{DifferAfter, DifferAt}
 use Rattle.journal_audit.specs.Judging.{IsAcceptedText, IsFaultyText, IsOpen, IsRefusedText}
 use Rattle.journal_audit.specs.declared.problem.AuditProblem.{AuditProblem}
 use Rattle.journal_audit.specs.declared.problem.AuditProblem.TheVariants.{Fault, Netlist, NoJournal, NoMemory, NoOutput, Refused, Text, TooLong}
+use Rattle.rm_base.specs.Words.{Word}
 
 -- the journal is there, within its limit and accepted, with that last net and so many records
 pub record HasAccepted (m : Model) (files : Files) (journal : Word) (last : Net) (count : ℕ) : Type 0 where

@@ -1,7 +1,6 @@
 -- The lines that say why an audit isn't passed.
 use Rattle.std.specs.Prelude.{ℕ, Bool, List, [], ◌∷◌, ◌++◌, codes, if◌then◌else◌}
 use Rattle.std.specs.Fmt.{decimal}
-use Rattle.rm_model.specs.Words.{Word}
 use Rattle.refutation_check.specs.declared.refusals.CheckRefusal.{CheckRefusal}
 use Rattle.refutation_check.specs.declared.refusals.CheckRefusal.TheVariants as check
 use Rattle.wire_edit.specs.declared.refusal.EditRefusal.{EditRefusal}
@@ -11,6 +10,7 @@ use Rattle.journal_text.specs.declared.faults.JournalFault.TheVariants as fault
 use Rattle.journal_check.specs.declared.refusal.JournalRefusal.{JournalRefusal}
 use Rattle.journal_check.specs.declared.refusal.Why.{Why}
 use Rattle.journal_check.specs.declared.refusal.Why.TheVariants as why
+use Rattle.rm_base.specs.Words.{Word}
 
 abbrev pub edit_word : EditRefusal → Word
 edit_word (edit.NoNode node) = codes "NoNode"

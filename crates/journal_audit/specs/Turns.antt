@@ -2,7 +2,6 @@
 use Rattle.std.specs.Prelude.{◌≡◌, ◌≢◌, ◌⊎◌, ℕ, ◌<◌, ◌^◌, List, ◌++◌, length, take, Option, Some, None, IfSome}
 use Rattle.rm_base.specs.Files.{Files, file_of}
 use Rattle.rm_base.specs.Shelves.{GivesPiece}
-use Rattle.rm_model.specs.Words.{Word}
 use Rattle.rm_model.specs.declared.parts.Model.{Model}
 use Rattle.gate_net.specs.Net.{Net}
 use Rattle.gate_graph.specs.Circuit.{net_of}
@@ -19,6 +18,7 @@ use Rattle.journal_audit.specs.declared.problem.AuditProblem.TheVariants.{Fault,
 use Rattle.journal_audit.specs.declared.reading.Turn.{Turn}
 use Rattle.journal_audit.specs.declared.reading.Turn.TheVariants.{Ends, GoesOn}
 use Rattle.journal_audit.specs.declared.stage.Stage.{Stage}
+use Rattle.rm_base.specs.Words.{Word}
 
 -- the file, where it is there, begins with the text
 abbrev pub FileBegins : Files → Word → List ℕ → Type 0

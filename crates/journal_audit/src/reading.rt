@@ -7,7 +7,7 @@ ghost use Rattle.rm_base.specs.Shelves.{GivesPiece};
 ghost use Rattle.rm_model.specs.Ranks.{first_without_rank};
 ghost use Rattle.rm_model.specs.Value.{observed_names, source_names};
 ghost use Rattle.rm_model.specs.WellFormed.{IsWellFormed};
-ghost use Rattle.rm_model.specs.Words.{Word};
+ghost use Rattle.rm_base.specs.Words.{Word};
 ghost use Rattle.rm_model.specs.declared.parts.Model.{Model as ModelValue};
 ghost use Rattle.cover_decompose.specs.Count.{decomposed};
 ghost use Rattle.gate_graph.specs.Circuit.{net_of};

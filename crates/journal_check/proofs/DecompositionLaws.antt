@@ -1,5 +1,6 @@
 -- A decomposition within its limits is small enough.
-use Rattle.std.proofs.Common.{◌≡◌, suc, ◌≤◌, List, [], ◌∷◌, length, map, refl, ap, sym, subst, arith}
+use Rattle.std.proofs.Common.{◌≡◌, ◌≤◌, length, sym, subst, arith}
+use Rattle.std.proofs.lemmas.List.{length-map}
 use Rattle.rm_model.specs.Value.{observed_names}
 use Rattle.rm_model.specs.declared.parts.Model.{Model}
 use Rattle.gate_net.specs.Net.{wire_count}
@@ -9,12 +10,8 @@ use Rattle.cover_decompose.specs.Decomposition.{net_of_model}
 use Rattle.journal_check.specs.Within.{IsWithin}
 use Rattle.journal_check.proofs.WithinLaws.{within_few}
 
-length_map : {A B : Type 0} (f : A → B) (xs : List A) → length (map f xs) ≡ length xs
-length_map f [] = refl
-length_map f (x ∷ xs) = ap suc (length_map f xs)
-
 few_observed : (m : Model) → length (net_of_model m).observed ≡ length (observed_names m)
-few_observed m = length_map _ (observed_names m)
+few_observed m = length-map (observed_names m) _
 
 pub decomposed_within : (m : Model) (g : Circuit) → net_of g ≡ net_of_model m → wire_count (net_of_model m) ≡ decomposed m → decomposed m ≤ 65536 → live_nodes g ≡ length (net_of_model m).nodes → live_nodes g ≤ 66562 → length (observed_names m) ≤ 4096 → IsWithin (net_of g)
 decomposed_within m g e w d n l o =

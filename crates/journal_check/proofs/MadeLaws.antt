@@ -1,7 +1,6 @@
 -- Steps of a journal, as they are made.
 use Rattle.std.proofs.Common.{◌≡◌, ◌≢◌, ℕ, ◌<◌, Bool, true, false, Option, Some, None, Ok, Err, IfSome, List, refl, ap, sym, subst, inl, inr, arith, nat_lt}
 use Rattle.std.proofs.lemmas.Bool.Decides.{nat_tests}
-use Rattle.gate_graph.proofs.Public.{get_below}
 use Rattle.rm_base.specs.declared.numbers.Fault.{Fault}
 use Rattle.gate_net.specs.Net.{Node, Net, IsLive, drivers_of, kind_in, node_at, wire_count}
 use Rattle.gate_net.specs.Values.{HasPin}
@@ -23,6 +22,7 @@ use Rattle.journal_text.specs.Accepted.{IsAcceptedStep, IsJustified, MayGrow}
 use Rattle.journal_check.specs.declared.refusal.Why.{Why}
 use Rattle.journal_check.specs.declared.refusal.Why.TheVariants as why
 use Rattle.journal_check.specs.Replaying.{AddSays, FixSays, IsAddedPin, IsStepTree, StepLeads, one_each, refused}
+use Rattle.rm_base.proofs.Public.{stands_below}
 
 or_none : {A : Type 0} (o p : Option A) → None ≡ or_else o p → (o ≡ None) × (p ≡ None)
 or_none None p e = (refl, sym e)
@@ -67,7 +67,7 @@ err_edit net s tree e a n = inl (e, (a, refl))
 
 pub err_before : (net : Net) (s : Step) (tree : List Item) (w : Why) → AnswersApply → IsAnswer net one_each s None → FixSays net s tree (Err w) → w ≢ why.NoMemory → StepLeads net s tree (refused w)
 err_before net (step.Fix gate position value) tree w applies a f n =
-    let says = f (get_below (drivers_of net gate.0) position (applies net one_each (step.Fix gate position value) a).1) n in
+    let says = f (stands_below (drivers_of net gate.0) position (applies net one_each (step.Fix gate position value) a).1) n in
     inr (inl (a, (says.0, (says.1.0, ap refused says.1.1))))
 err_before net (step.Add gate node) tree w applies a f n = absurd f
 err_before net (step.NewNot node) tree w applies a f n = absurd f
@@ -114,7 +114,7 @@ no_control (Some c) p e = cc
 just : (net : Net) (s : Step) (tree : List Item) (added : Option Fault) → Applies net s → FixSays net s tree (Ok tt) → IsAddedPin net s added → AddSays (stepped net s) added tree (Ok tt) → IsStepTree s tree → IsJustified net s tree
 just net (step.Add gate node) tree None applies f p a t = absurd (no_control (control_of net gate.0) applies.0 p)
 just net (step.Add gate node) tree (Some fault) applies f p a t = (p.0, (p.1.0, subst (λ (g : Fault). IsAcceptedAs Closed (stepped net (step.Add gate node)) g tree) p.1.1 a))
-just net (step.Fix gate position value) tree added applies f p a t = f (get_below (drivers_of net gate.0) position applies.1)
+just net (step.Fix gate position value) tree added applies f p a t = f (stands_below (drivers_of net gate.0) position applies.1)
 just net (step.NewNot node) tree added applies f p a t = t
 just net (step.Const gate position) tree added applies f p a t = t
 just net (step.Same gate position) tree added applies f p a t = t

@@ -2,6 +2,7 @@
 use Rattle.std.proofs.Common.{◌≡◌, ℕ, zero, suc, ◌<◌, Bool, true, false, not, ◌&&◌, ◌||◌, Option, Some, None, List, [], ◌∷◌, length, refl, ap, sym, subst, ◌∙◌, ◌↔◌, inl, inr, arith, nat_lt}
 use Rattle.std.proofs.lemmas.Bool.Decides.{nat_tests}
 use Rattle.std.specs.Prelude.{slice_get, option_and_then, take}
+use Rattle.std.proofs.lemmas.Bool.{false_from_ne_true}
 use Rattle.rm_base.specs.declared.numbers.NodeId.{NodeId}
 use Rattle.rm_base.specs.declared.numbers.Fault.{Fault}
 use Rattle.gate_net.specs.Net.{Node, Net, drivers_of, kind_in, node_at, wire_count}
@@ -25,6 +26,7 @@ use Rattle.journal_text.specs.declared.record.Record.TheVariants as kept
 use Rattle.journal_text.specs.Accepted.{IsAcceptedStep, IsJustified, MayGrow}
 use Rattle.journal_check.specs.declared.refusal.Why.TheVariants as why
 use Rattle.journal_check.specs.Replaying.{EndLeads, FreezeLeads, HitLeads, LastLeads, Leads, Outcome, Position, RefusesTree, SpentLeads, StepLeads, VerdictLeads, editing, one_each, refused, settling, gate_of}
+use Rattle.rm_base.proofs.Public.{not_from_false}
 
 -- ONE ANSWER TO A STEP
 same_cyclic : (P : Type 0) (a b : Bool) → (a ≡ true) ↔ P → (b ≡ true) ↔ P → a ≡ b
@@ -116,14 +118,6 @@ five true true false d x r s t u v e f g h i = cc
 five true false c d x r s t u v e f g h i = cc
 five false b c d x r s t u v e f g h i = cc
 
-not_of : (b : Bool) → b ≡ false → not b ≡ true
-not_of false e = refl
-not_of true e = cc
-
-no_cycle : (c : Bool) → (c ≡ true → ⊥) → c ≡ false
-no_cycle true h = absurd (h refl)
-no_cycle false h = refl
-
 cycle_none : (net : Net) (gate node : NodeId) → Applies net (step.Add gate node) → ClosesCycle net (step.Add gate node) → ⊥
 cycle_none net gate node a (inl e) = a.1.1.0 e
 cycle_none net gate node a (inr path) = a.1.1.1.0 path
@@ -132,7 +126,7 @@ cycle_none net gate node a (inr path) = a.1.1.1.0 path
 faultless : (net : Net) (s : Step) (cyclic : Bool) → (cyclic ≡ true → ClosesCycle net s) → Applies net s → fault_of net s cyclic ≡ None
 faultless net (step.Add gate node) cyclic tells a =
     five (is_live net gate.0) (is_live net node.0) (is_junction net gate.0) (not cyclic) (not (is_among node.0 (drivers_of net gate.0))) _ _ _ _ _
-    (junction_live (node_at net gate.0) a.0) a.1.0 a.0 (not_of cyclic (no_cycle cyclic (λ c. cycle_none net gate node a (tells c)))) (not_of (is_among node.0 (drivers_of net gate.0)) a.1.1.1.1)
+    (junction_live (node_at net gate.0) a.0) a.1.0 a.0 (not_from_false cyclic (false_from_ne_true cyclic (λ c. cycle_none net gate node a (tells c)))) (not_from_false (is_among node.0 (drivers_of net gate.0)) a.1.1.1.1)
 faultless net (step.Fix gate position value) cyclic tells a =
     three (is_live net gate.0) (is_gate net gate.0) (nat_lt position (length (drivers_of net gate.0))) _ _ _ (gate_live (node_at net gate.0) a.0) a.0 (below position (length (drivers_of net gate.0)) a.1)
 faultless net (step.NewNot node) cyclic tells a = last_passes (is_live net node.0) _ a

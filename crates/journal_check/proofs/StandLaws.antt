@@ -1,6 +1,7 @@
 -- What accepted steps keep, one after another.
-use Rattle.std.proofs.Common.{◌≡◌, ℕ, zero, suc, ◌+◌, ◌<◌, Bool, false, Some, List, [], ◌∷◌, map, length, refl, ap, sym, subst, ◌∙◌, arith}
-use Rattle.std.specs.Prelude.{slice_get}
+use Rattle.std.proofs.Common.{◌≡◌, ℕ, ◌+◌, ◌<◌, Bool, false, List, length, refl, ap, sym, subst, ◌∙◌}
+use Rattle.std.proofs.lemmas.List.{length-map}
+use Rattle.std.proofs.lemmas.Option.{slice_get_within}
 use Rattle.rm_model.specs.Value.{source_names}
 use Rattle.rm_model.specs.declared.parts.Model.{Model}
 use Rattle.gate_net.specs.Net.{Net, IsWellFormed, node_at, plain_node, source_count}
@@ -13,15 +14,6 @@ use Rattle.journal_text.specs.Accepted.{Keeps}
 use Rattle.journal_text.specs.Runs.{AcceptedRunsKeep}
 use Rattle.journal_check.specs.Accepts.{IsAcceptedFrom}
 
-length_map : (f : ℕ → Bool) (xs : List ℕ) → length (map f xs) ≡ length xs
-length_map f [] = refl
-length_map f (x ∷ xs) = ap suc (length_map f xs)
-
-get_within : {A : Type 0} (xs : List A) (k : ℕ) (x : A) → slice_get xs k ≡ Some x → k < length xs
-get_within [] k x e = cc
-get_within (y ∷ ys) zero x e = omega arith
-get_within (y ∷ ys) (suc k) x e = let h = get_within ys k x e in omega arith
-
 source_no_gate : (net : Net) (x : ℕ) → node_at net x ≡ plain_node Source → is_gate net x ≡ false
 source_no_gate net x e = rw e refl
 
@@ -33,7 +25,7 @@ still_stands exist net after m form s k =
     let same = k.values none before.0 behind.0 before.1.0 behind.1.0 in
     record {
       sources = k.sources ∙ s.sources;
-      observed = sym (length_map behind.0 after.observed) ∙ ap length (sym same) ∙ length_map before.0 net.observed ∙ s.observed;
+      observed = sym (length-map after.observed behind.0) ∙ ap length (sym same) ∙ length-map net.observed before.0 ∙ s.observed;
       values = λ a w v good consistent assigned.
           let u = exist net form.acyclic a in
           sym (k.values a u.0 w u.1.0 good) ∙ s.values a u.0 v u.1.0 consistent assigned;
@@ -43,7 +35,7 @@ still_points : (net after : Net) (m : Model) → IsWellFormed net → StandsFor 
 still_points net after m form s p k = record {
   same = λ i j x e f. k.observed.together i j (p.same i j x e f);
   own = λ i n x e f.
-      let small : n < source_count net = subst (λ (c : ℕ). n < c) (sym s.sources) (get_within (source_names m) n x f) in
+      let small : n < source_count net = subst (λ (c : ℕ). n < c) (sym s.sources) (slice_get_within (source_names m) n x f) in
       k.observed.stays i (2 + n) (p.own i n x e f) (source_no_gate net (2 + n) (form.sources.first n small));
 }
 

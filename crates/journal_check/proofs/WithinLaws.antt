@@ -3,6 +3,7 @@ use Rattle.std.proofs.Common.{◌≡◌, ℕ, zero, suc, ◌+◌, ◌-◌, ◌<�
 use Rattle.std.specs.Prelude.{slice_set}
 use Rattle.std.specs.List.{sum_by}
 use Rattle.std.proofs.lemmas.List.Sums.{sum_by-cons}
+use Rattle.std.proofs.lemmas.List.{length_push}
 use Rattle.gate_net.specs.declared.Kind.{Kind}
 use Rattle.gate_net.specs.declared.Kind.TheVariants.{And, Not, One, Or, Source, Zero}
 use Rattle.gate_net.specs.Net.{Node, Net, IsGate, IsWellFormed, count_in, drivers_in, drivers_of, gate_count, gate_in, node_at, source_count, source_in, wire_count}
@@ -17,6 +18,7 @@ use Rattle.wire_edit.specs.declared.steps.Step.{Step}
 use Rattle.wire_edit.specs.declared.steps.Step.TheVariants as step
 use Rattle.journal_text.specs.Accepted.{MayGrow}
 use Rattle.journal_check.specs.Within.{IsWithin, more_pins}
+use Rattle.rm_base.proofs.Public.{length_set}
 
 -- the pins beyond the first are some of the wires, and there is one more at most for each live node
 below_wires : (os : List (Option Node)) → sum_by more_pins os ≤ sum_by (λ (o : Option Node). length (drivers_in o)) os
@@ -93,19 +95,10 @@ fewer net gate drivers n e l w =
     let b : _ ≡ _ = with_live net gate drivers n e in
     record { pins = omega (arith, a, l, w.pins); nodes = omega (arith, b, w.nodes); observed = w.observed }
 
-length_append : (xs : List ℕ) (x : ℕ) → length (xs ++ x ∷ []) ≡ length xs + 1
-length_append [] x = refl
-length_append (y ∷ xs) x = let rest : length (xs ++ x ∷ []) ≡ length xs + 1 = length_append xs x in omega (arith, rest)
-
 length_without : (xs : List ℕ) (p : ℕ) → length (without xs p) ≤ length xs
 length_without [] p = omega arith
 length_without (x ∷ xs) zero = omega arith
 length_without (x ∷ xs) (suc p) = let rest : length (without xs p) ≤ length xs = length_without xs p in omega (arith, rest)
-
-length_set : (xs : List ℕ) (p x : ℕ) → length (slice_set xs p x) ≡ length xs
-length_set [] p x = refl
-length_set (y ∷ xs) zero x = refl
-length_set (y ∷ xs) (suc p) x = ap suc (length_set xs p x)
 
 length_map : {A : Type 0} (f : A → A) (xs : List A) → length (map f xs) ≡ length xs
 length_map f [] = refl
@@ -119,7 +112,7 @@ appended net gate driver n e l w =
     let ds : List ℕ = drivers_of net gate ++ driver ∷ [] in
     let a : sum_by more_pins (with_drivers net gate ds).nodes + (length n.drivers - 1) ≡ sum_by more_pins net.nodes + (length ds - 1) = with_pins net gate ds n e in
     let b : live_count (with_drivers net gate ds) ≡ live_count net = with_live net gate ds n e in
-    let c : length ds ≡ length (drivers_of net gate) + 1 = length_append (drivers_of net gate) driver in
+    let c : length ds ≡ length (drivers_of net gate) + 1 = length_push (drivers_of net gate) driver in
     let d : length (drivers_of net gate) ≡ length n.drivers = drivers_at net gate n e in
     let f : sum_by more_pins net.nodes ≤ wire_count net = below_wires net.nodes in
     record { pins = omega (arith, a, c, d, f, l); nodes = omega (arith, b, w.nodes); observed = w.observed }

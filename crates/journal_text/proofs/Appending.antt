@@ -1,5 +1,5 @@
 -- Texts appended to a file, one after another.
-use Rattle.std.proofs.Common.{◌≡◌, ℕ, zero, suc, ◌+◌, Option, Some, None, List, [], ◌∷◌, ◌++◌, take, length, Bool, true, false, nat_cmp, is_eq, cond, refl, sym, ◌∙◌, ap, subst, append_assoc, rules}
+use Rattle.std.proofs.Common.{◌≡◌, ℕ, suc, ◌+◌, Option, Some, None, List, [], ◌∷◌, ◌++◌, take, length, Bool, true, false, nat_cmp, is_eq, cond, refl, sym, ◌∙◌, ap, subst, append_assoc, rules}
 use Rattle.std.specs.Prelude.{unwrap_or, Ok, Err, Result, OnErr}
 use Rattle.std.specs.Option.{option_map}
 use Rattle.std.specs.Cmp.{Equal-is}
@@ -7,7 +7,7 @@ use Rattle.std.specs.Cmp.Lexicographic.{nat_list_cmp_total, slice_cmp}
 use Rattle.std.specs.FinMap.{get, get-insert, same_map, gets, slice_cmp-IsAntisymmetric, nat_cmp-IsAntisymmetric}
 use Rattle.std.proofs.lemmas.List.{append-nil}
 use Rattle.rm_base.specs.Files.{Files, put_file, append_file}
-use Rattle.rm_base.proofs.Public.{append_file-put_file}
+use Rattle.rm_base.proofs.Public.{append_file-put_file, take_of_longer, take_zero}
 use Rattle.rm_base.specs.Shelves.{IsAppended}
 use Rattle.rm_base.specs.declared.outside.OutsideFault.{OutsideFault}
 use Rattle.rm_base.specs.declared.outside.OutsideFault.TheVariants as outside
@@ -51,10 +51,6 @@ there_then (Some f) new name text there e =
     let some : get (append_file name text f) name ≡ Some (unwrap_or (get f name) [] ++ text) = grind (gets, rules) in
     subst (λ (o : Option Files). IsThere o name) (sym e) (λ none. cc (some, none))
 
-pub take_zero : (xs : List ℕ) → take 0 xs ≡ []
-take_zero [] = refl
-take_zero (x ∷ xs) = refl
-
 pub take_all : (xs : List ℕ) → take (length xs) xs ≡ xs
 take_all [] = refl
 take_all (x ∷ xs) = ap (λ (ys : List ℕ). x ∷ ys) (take_all xs)
@@ -64,13 +60,6 @@ behind_part : (a b : List ℕ) (k : ℕ) → (m : ℕ) × (a ++ take k b ≡ tak
 behind_part [] b k = (k, refl)
 behind_part (x ∷ a) b k = let r : (m : ℕ) × (a ++ take k b ≡ take m (a ++ b)) = behind_part a b k in (suc r.0, ap (λ (xs : List ℕ). x ∷ xs) r.1)
 
--- a part of a text is one of a longer text
-longer_part : (a b : List ℕ) (k : ℕ) → (m : ℕ) × (take k a ≡ take m (a ++ b))
-longer_part [] b zero = (0, sym (take_zero b))
-longer_part [] b (suc k) = (0, sym (take_zero b))
-longer_part (x ∷ a) b zero = (0, refl)
-longer_part (x ∷ a) b (suc k) = let r : (m : ℕ) × (take k a ≡ take m (a ++ b)) = longer_part a b k in (suc r.0, ap (λ (xs : List ℕ). x ∷ xs) r.1)
-
 pub part_then : (old mid new : Option Files) (name a b : List ℕ) → HasAppended old mid name a → HasAppendedPart mid new name b → HasAppendedPart old new name (a ++ b)
 part_then old mid new name a b first (k, part) =
     let r : (m : ℕ) × (a ++ take k b ≡ take m (a ++ b)) = behind_part a b k in
@@ -78,7 +67,7 @@ part_then old mid new name a b first (k, part) =
 
 pub part_longer : (old new : Option Files) (name a b : List ℕ) → HasAppendedPart old new name a → HasAppendedPart old new name (a ++ b)
 part_longer old new name a b (k, part) =
-    let r : (m : ℕ) × (take k a ≡ take m (a ++ b)) = longer_part a b k in
+    let r : (m : ℕ) × (take k a ≡ take m (a ++ b)) = take_of_longer a b k in
     (r.0, subst (λ (xs : List ℕ). HasAppended old new name xs) r.1 part)
 
 pub part_whole : (old new : Option Files) (name a : List ℕ) → HasAppended old new name a → HasAppendedPart old new name a
@@ -96,10 +85,6 @@ pub stays_there : (r : Result (Unit {0}) Stop) (old new : Option Files) (name te
 stays_there (Ok u) old new name text there h = there_then old new name text there h
 stays_there (Err stop.Failed) old new name text there h = there_then old new name (take h.0 text) there h.1
 stays_there (Err stop.NoMemory) old new name text there h = subst (λ (o : Option Files). IsThere o name) (sym h) there
-
-pub on_err : {V E P : Type 0} (r : Result V E) → P → OnErr r P
-on_err (Ok x) p = tt
-on_err (Err e) p = p
 
 -- a shelf whose append was stopped
 pub outside_part : (fault : OutsideFault) (old new : Option Files) (name text : List ℕ) → IsThere old name → IsAppended {T = Unit {0}} (Err fault) old new name text → HasAppendedPart old new name text

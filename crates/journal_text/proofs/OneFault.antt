@@ -7,7 +7,7 @@ use Rattle.journal_text.specs.declared.record.Entry.{Entry}
 use Rattle.journal_text.specs.declared.record.Entry.TheVariants as entry
 use Rattle.journal_text.specs.declared.faults.JournalFault.{JournalFault}
 use Rattle.journal_text.specs.declared.faults.JournalFault.TheVariants as fault
-use Rattle.journal_text.specs.Pieces.{Word, behind, joined, pieces}
+use Rattle.journal_text.specs.Pieces.{behind, joined, pieces}
 use Rattle.journal_text.specs.Reading.{entry_of}
 use Rattle.journal_text.specs.Text.{IsEntry, AreEntries, entry_line, entries_text, journal_entries}
 use Rattle.journal_text.specs.Faults.{IsFault, IsJournal, IsBadRecord, HasMore, IsNoHeader, IsNoRecord, Opens, opening, but_last, last_of, whole_lines, rest_of}
@@ -15,8 +15,8 @@ use Rattle.journal_text.specs.Laws.{LinesRead}
 use Rattle.journal_text.specs.Cutting.{FaultsAreOne, JournalsAreOne}
 use Rattle.journal_text.proofs.OneLaws.{head_is, kept, line_one, tail_is}
 use Rattle.journal_text.proofs.PieceLaws.{pieces_join, pieces_some}
-use Rattle.journal_text.proofs.LetterLaws.{some_is}
-use Rattle.journal_text.proofs.StreamLaws.{all_append}
+use Rattle.rm_base.proofs.Public.{all_append, some_is}
+use Rattle.rm_base.specs.Words.{Word}
 
 abbrev lines_of : List Record → List Word
 lines_of rs = map entry_line (kept rs)

@@ -6,12 +6,12 @@ use Rattle.journal_text.specs.declared.record.Entry.{Entry}
 use Rattle.journal_text.specs.declared.record.Entry.TheVariants as entry
 use Rattle.journal_text.specs.declared.faults.JournalFault.{JournalFault}
 use Rattle.journal_text.specs.declared.faults.JournalFault.TheVariants as fault
-use Rattle.journal_text.specs.Pieces.{Word}
 use Rattle.journal_text.specs.Reading.{entry_of}
 use Rattle.journal_text.specs.Text.{IsEntry, AreEntries, entry_line, entries_text, journal_entries}
 use Rattle.journal_text.specs.Faults.{IsFault, IsJournal, IsBadHeader, HasMore, IsNoRecord, Opens, whole_lines, rest_of}
 use Rattle.journal_text.specs.Laws.{LinesRead}
 use Rattle.journal_text.proofs.FaultLaws.{lines_before, rest_before}
+use Rattle.rm_base.specs.Words.{Word}
 
 pub head_is : {A : Type 0} (x y : A) (xs ys : List A) → x ∷ xs ≡ y ∷ ys → x ≡ y
 head_is x y xs ys e = cc

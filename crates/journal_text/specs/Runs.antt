@@ -7,12 +7,13 @@ use Rattle.rm_base.specs.declared.settings.Made.{Made}
 use Rattle.gate_net.specs.Net.{Net, IsWellFormed}
 use Rattle.wire_edit.specs.Steps.{stepped}
 use Rattle.wire_edit.specs.declared.steps.Step.{Step}
-use Rattle.wire_edit.specs.declared.steps.Step.TheVariants.{Add, Fix, NewNot}
+use Rattle.wire_edit.specs.declared.steps.Step.TheVariants.{Add, Fix}
 use Rattle.journal_text.specs.declared.record.Record.{Record}
 use Rattle.journal_text.specs.declared.record.Record.TheVariants as kept
 use Rattle.journal_text.specs.declared.record.Entry.TheVariants as entry
 use Rattle.journal_text.specs.Accepted.{IsAcceptedStep, Keeps}
 use Rattle.journal_text.specs.Text.{IsWritableRecord, entry_text}
+use Rattle.wire_edit.specs.Removals.{IsRemoval}
 
 -- the records are accepted steps, one after another, and lead from the one net to the other
 abbrev pub AcceptedTo : Net → List Record → Net → Type 0
@@ -27,12 +28,6 @@ steps_of [] = []
 steps_of (kept.Step step tree ∷ records) = step ∷ steps_of records
 steps_of (kept.Hit fault vector ∷ records) = steps_of records
 steps_of (kept.Spent fault tree ∷ records) = steps_of records
-
--- neither an addition nor a new Not
-abbrev pub IsRemoval : Step → Type 0
-IsRemoval (Add gate node) = ⊥
-IsRemoval (NewNot node) = ⊥
-IsRemoval _ = Unit {0}
 
 abbrev pub AreRemovals : List Step → Type 0
 AreRemovals [] = Unit {0}

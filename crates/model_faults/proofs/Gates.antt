@@ -3,7 +3,7 @@ use Rattle.std.proofs.Common.{◌≡◌, ◌≢◌, ◌≤◌, ◌<◌, ◌+◌,
 use Rattle.std.specs.Prelude.{Option, None, Some, slice_get, filter, if◌then◌else◌}
 use Rattle.std.proofs.lemmas.List.Elements.{filter-append}
 use Rattle.std.proofs.lemmas.Bool.{lt-ltb}
-use Rattle.rm_model.specs.Words.{Word}
+use Rattle.std.proofs.lemmas.List.{length-map}
 use Rattle.rm_model.specs.Value.{observed_names, is_among}
 use Rattle.rm_model.specs.declared.parts.Literal.TheVariants.{One as One1}
 use Rattle.rm_model.specs.declared.parts.Cover.{Cover}
@@ -11,14 +11,15 @@ use Rattle.rm_model.specs.declared.parts.Model.{Model}
 use Rattle.gate_net.specs.declared.Kind.{Kind}
 use Rattle.gate_net.specs.declared.Kind.TheVariants.{Source, Zero, One, And, Or, Not}
 use Rattle.gate_net.specs.Net.{Node, Net, node_at, drivers_of, IsGateKind}
-use Rattle.cover_decompose.proofs.Public.{In}
-use Rattle.graph_to_model.proofs.Public.{all_from_start, AreFrom, copies, cover_made, cover_of, first_from, gates, had, in_gates, IsGateCover, IsWritable, one_pin_not, rest_from, some_told}
+use Rattle.graph_to_model.proofs.Public.{all_from_start, AreFrom, copies, cover_made, cover_of, first_from, gates, had, in_gates, IsGateCover, IsWritable, one_pin_not, rest_from}
 use Rattle.graph_to_model.specs.Names.{node_name}
 use Rattle.graph_to_model.specs.NetModel.{cover_with, gate_cover, gate_covers, onto, copy_cover, copy_covers, model_of_net}
 use Rattle.graph_to_model.specs.Wires.{is_copy}
 use Rattle.model_faults.specs.ModelFaults.{is_gate_cover, gate_covers_of}
 use Rattle.gate_net.specs.Faults.{is_gate_kind, before_gates, gates_from, gates_of}
-use Rattle.model_faults.proofs.Twisted.{map_length}
+use Rattle.rm_base.proofs.Public.{some_is}
+use Rattle.rm_base.specs.Members.{In}
+use Rattle.rm_base.specs.Words.{Word}
 
 pub gate_kind : (kind : Kind) → IsGateKind kind → is_gate_kind kind ≡ true
 gate_kind Source h = absurd h
@@ -61,12 +62,12 @@ module _ (m : Model) (net : Net) (w : IsWritable m net) where
   pub gate_pins : (x : ℕ) (c : Cover) → IsGateCover m net x c → length c.inputs ≡ length (drivers_of net x)
   gate_pins x c g =
       let own : length (drivers_of net x) ≡ length g.node.drivers = rw g.at refl in
-      ap length g.cover.in_is ∙ (map_length (node_name m net) g.node.drivers ∙ sym own)
+      ap length g.cover.in_is ∙ (length-map g.node.drivers (node_name m net) ∙ sym own)
 
   gate_kept : (x : ℕ) (c : Cover) → IsGateCover m net x c → is_gate_cover c ≡ true
   gate_kept x c g =
       let node = g.node in
-      let names : length (map (node_name m net) node.drivers) ≡ length node.drivers = map_length (node_name m net) node.drivers in
+      let names : length (map (node_name m net) node.drivers) ≡ length node.drivers = length-map node.drivers (node_name m net) in
       let two : node.kind ≢ Not → 2 ≤ length (map (node_name m net) node.drivers) = λ ne. (let t : 2 ≤ length node.drivers = two_or_more x node node.kind g.at refl g.cover.gate ne in omega arith) in
       let no_copy : is_copy c ≡ false = g.cover.no_copy (one_pin_not m net w x node g.at) two in
       let count : length c.inputs ≡ length (map (node_name m net) node.drivers) = ap length g.cover.in_is in
@@ -113,7 +114,7 @@ module _ (m : Model) (net : Net) (w : IsWritable m net) where
   same_more x c xs cs g same = (ap suc same.0, place)
     where
       place : (k y : ℕ) (d : Cover) → slice_get (x ∷ xs) k ≡ Some y → slice_get (c ∷ cs) k ≡ Some d → IsGateCover m net y d
-      place zero y d e f = subst (λ (z : ℕ). IsGateCover m net z d) (some_told x y e) (subst (IsGateCover m net x) (some_told c d f) g)
+      place zero y d e f = subst (λ (z : ℕ). IsGateCover m net z d) (some_is x y e) (subst (IsGateCover m net x) (some_is c d f) g)
       place (suc k) y d e f = same.1 k y d e f
 
   node_same : (n : ℕ) (o : Option Node) (xs : List ℕ) (cs : List Cover) → node_at net n ≡ o → Same xs cs → Same (before_gates o n xs) (onto (gate_cover m net n o) cs)

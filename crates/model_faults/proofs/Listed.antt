@@ -3,16 +3,12 @@ use Rattle.std.proofs.Common.{◌≡◌, ◌≤◌, ◌<◌, ◌+◌, ℕ, zero,
 use Rattle.std.specs.Prelude.{Option, None, Some, slice_get, if◌then◌else◌}
 use Rattle.rm_base.specs.declared.numbers.Fault.{Fault}
 use Rattle.gate_net.specs.Net.{Node, Net, node_at, drivers_in, drivers_of, flatten_option, IsGateKind, IsGate}
-use Rattle.cover_decompose.proofs.Public.{In, in_append, in_at, in_left, in_right}
-use Rattle.graph_to_model.proofs.Public.{all_from_start, AreFrom, first_from, rest_from, some_told}
+use Rattle.graph_to_model.proofs.Public.{all_from_start, AreFrom, first_from, rest_from}
 use Rattle.gate_net.specs.Faults.{is_gate_kind, before_gates, gates_from, gates_of, fault_at, pin_faults, faults_from, faults_of}
 use Rattle.model_faults.specs.Laws.{IsListed, NetsListOnce}
 use Rattle.model_faults.proofs.Gates.{gate_kind, kind_gate}
-
-pub place_of : {A : Type 0} (xs : List A) (x : A) → In xs x → (k : ℕ) × (slice_get xs k ≡ Some x)
-place_of [] x i = absurd i
-place_of (y ∷ xs) x (inl e) = (0, ap Some e)
-place_of (y ∷ xs) x (inr j) = let r = place_of xs x j in (suc r.0, r.1)
+use Rattle.rm_base.proofs.Public.{in_append, in_at, in_left, in_right, place_of_member, some_is}
+use Rattle.rm_base.specs.Members.{In}
 
 -- DIFFERENT ELEMENTS
 abbrev AreDifferent : {A : Type 0} → List A → Type 0
@@ -28,8 +24,8 @@ one_place : {A : Type 0} (xs : List A) (x : A) (i j : ℕ) → AreDifferent xs �
 one_place [] x zero j h e f = absurd cc
 one_place [] x (suc i) j h e f = absurd cc
 one_place (y ∷ xs) x zero zero h e f = refl
-one_place (y ∷ xs) x zero (suc j) h e f = absurd (h.0 (subst (In xs) (sym (some_told y x e)) (in_at xs j x f)))
-one_place (y ∷ xs) x (suc i) zero h e f = absurd (h.0 (subst (In xs) (sym (some_told y x f)) (in_at xs i x e)))
+one_place (y ∷ xs) x zero (suc j) h e f = absurd (h.0 (subst (In xs) (sym (some_is y x e)) (in_at xs j x f)))
+one_place (y ∷ xs) x (suc i) zero h e f = absurd (h.0 (subst (In xs) (sym (some_is y x f)) (in_at xs i x e)))
 one_place (y ∷ xs) x (suc i) (suc j) h e f = ap suc (one_place xs x i j h.1 e f)
 
 -- FAULTS
@@ -83,7 +79,7 @@ in_faults n [] (suc k) o f e i = absurd cc
 in_faults n (p ∷ os) zero o f e i =
     let number : n + 0 ≡ n = omega arith in
     in_left (pin_faults n 0 (length (drivers_in p))) (faults_from (suc n) os) f
-    (subst (λ (x : ℕ). In (pin_faults x 0 (length (drivers_in p))) f) number (subst (λ (q : Option Node). In (pin_faults (n + 0) 0 (length (drivers_in q))) f) (sym (some_told p o e)) i))
+    (subst (λ (x : ℕ). In (pin_faults x 0 (length (drivers_in p))) f) number (subst (λ (q : Option Node). In (pin_faults (n + 0) 0 (length (drivers_in q))) f) (sym (some_is p o e)) i))
 in_faults n (p ∷ os) (suc k) o f e i =
     let number : n + suc k ≡ suc n + k = omega arith in
     in_right (pin_faults n 0 (length (drivers_in p))) (faults_from (suc n) os) f
@@ -101,7 +97,7 @@ pin_listed net x p b h = told (slice_get net.nodes x) refl
         let place : 0 + p ≡ p = omega arith in
         let pins : In (pin_faults x 0 (length (drivers_in o))) (fault_at x p b) =
         subst (λ (q : ℕ). In (pin_faults x 0 (length (drivers_in o))) (fault_at x q b)) place (in_pins x 0 (length (drivers_in o)) p b (omega arith)) in
-        place_of (faults_of net) (fault_at x p b) (in_faults 0 net.nodes x o (fault_at x p b) e (subst (λ (g : ℕ). In (pin_faults g 0 (length (drivers_in o))) (fault_at x p b)) number pins))
+        place_of_member (faults_of net) (fault_at x p b) (in_faults 0 net.nodes x o (fault_at x p b) e (subst (λ (g : ℕ). In (pin_faults g 0 (length (drivers_in o))) (fault_at x p b)) number pins))
 
 -- GATES
 abbrev AreGates : Net → ℕ → List ℕ → Type 0
@@ -128,7 +124,7 @@ Ascend xs = (i j x y : ℕ) → i < j → slice_get xs i ≡ Some x → slice_ge
 
 ascend_more : (n : ℕ) (xs : List ℕ) → ((x : ℕ) → In xs x → n + 1 ≤ x) → Ascend xs → Ascend (n ∷ xs)
 ascend_more n xs low h zero zero x y lt e f = absurd (omega arith)
-ascend_more n xs low h zero (suc j) x y lt e f = let first : n ≡ x = some_told n x e in let later : n + 1 ≤ y = low y (in_at xs j y f) in omega arith
+ascend_more n xs low h zero (suc j) x y lt e f = let first : n ≡ x = some_is n x e in let later : n + 1 ≤ y = low y (in_at xs j y f) in omega arith
 ascend_more n xs low h (suc i) zero x y lt e f = absurd (omega arith)
 ascend_more n xs low h (suc i) (suc j) x y lt e f = h i j x y (omega arith) e f
 
@@ -162,7 +158,7 @@ in_gates n [] zero node e gate = absurd cc
 in_gates n [] (suc k) node e gate = absurd cc
 in_gates n (o ∷ os) zero node e gate =
     let number : n + 0 ≡ n = omega arith in
-    subst (λ (p : Option Node). In (before_gates p n (gates_from (n + 1) os)) (n + 0)) (sym (some_told o (Some node) e)) (rw (gate_kind node.kind gate) (inl (sym number)))
+    subst (λ (p : Option Node). In (before_gates p n (gates_from (n + 1) os)) (n + 0)) (sym (some_is o (Some node) e)) (rw (gate_kind node.kind gate) (inl (sym number)))
 in_gates n (o ∷ os) (suc k) node e gate =
     let number : n + 1 + k ≡ n + suc k = omega arith in
     in_before o n (gates_from (n + 1) os) (n + suc k) (subst (In (gates_from (n + 1) os)) number (in_gates (n + 1) os k node e gate))
@@ -175,7 +171,7 @@ all_gates net x (kind, ((drivers, at), gate)) = told (record { kind = kind; driv
     told node at gate (Some o) e =
         let is : o ≡ Some node = sym (ap flatten_option e) ∙ at in
         let number : 0 + x ≡ x = omega arith in
-        place_of (gates_of net) x (subst (In (gates_of net)) number (in_gates 0 net.nodes x node (e ∙ ap Some is) gate))
+        place_of_member (gates_of net) x (subst (In (gates_of net)) number (in_gates 0 net.nodes x node (e ∙ ap Some is) gate))
 
 pub list_once : NetsListOnce
 list_once net = record {

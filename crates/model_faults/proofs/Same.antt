@@ -3,21 +3,24 @@ use Rattle.std.proofs.Common.{◌≡◌, ◌≢◌, ◌<◌, ◌+◌, ◌^◌, �
 use Rattle.std.specs.Prelude.{Some, slice_get, slice_set, if◌then◌else◌}
 use Rattle.std.proofs.lemmas.Option.{slice_get_within}
 use Rattle.std.proofs.lemmas.Bool.Decides.{eqb_tells}
-use Rattle.rm_model.specs.Words.{Word, is_word}
+use Rattle.rm_model.specs.Words.{is_word}
 use Rattle.rm_model.specs.Value.{source_names, observed_names, value_of, IsConsistent}
 use Rattle.rm_model.specs.declared.parts.Cover.{Cover}
 use Rattle.rm_model.specs.declared.parts.Model.{Model}
 use Rattle.gate_net.specs.declared.Kind.TheVariants.{Source}
 use Rattle.gate_net.specs.Net.{Net, node_at, plain_node, source_count}
 use Rattle.gate_net.specs.Values.{Detects}
-use Rattle.cover_decompose.proofs.Public.{In, in_append, in_left, in_mapped, in_right, word_refl, word_same}
-use Rattle.graph_to_model.proofs.Public.{IsCopyCover, IsGateCover, IsWritable, all_at, all_from_start, all_in_list, copies, copy_out, gates, had, in_copies, in_gates, live_within, one_gate, output_names, place_below, some_told, source_name}
+use Rattle.graph_to_model.proofs.Public.{IsCopyCover, IsGateCover, IsWritable, all_at, all_from_start, all_in_list, copies, copy_out, gates, had, in_copies, in_gates, live_within, one_gate, output_names, source_name}
 use Rattle.graph_to_model.specs.Names.{node_name}
 use Rattle.graph_to_model.specs.NetModel.{model_of_net}
 use Rattle.model_faults.specs.ModelFaults.{stuck_reads, IsFaultyValuation, Extends, DetectsIn}
 use Rattle.gate_net.specs.Faults.{fault_at, Gives}
 use Rattle.model_faults.proofs.Named.{Names, words_of}
 use Rattle.model_faults.proofs.Twisted.{NetValues, WordValues, word_values, nodes_of, net_values, observed_value}
+use Rattle.rm_base.proofs.Public.{in_append, in_left, in_mapped, in_right, some_is, stands_below}
+use Rattle.rm_base.specs.Members.{In}
+use Rattle.rm_base.specs.Words.{Word}
+use Rattle.rm_model.proofs.Public.{is_word-same, same_word}
 
 set_length : (bs : List Bool) (p : ℕ) (b : Bool) → length (slice_set bs p b) ≡ length bs
 set_length [] p b = refl
@@ -27,7 +30,7 @@ set_length (c ∷ bs) (suc p) b = ap suc (set_length bs p b)
 map_get : (f : Word → Bool) (xs : List Word) (k : ℕ) (x : Word) → slice_get xs k ≡ Some x → slice_get (map f xs) k ≡ Some (f x)
 map_get f [] zero x e = absurd cc
 map_get f [] (suc k) x e = absurd cc
-map_get f (y ∷ xs) zero x e = ap Some (ap f (some_told y x e))
+map_get f (y ∷ xs) zero x e = ap Some (ap f (some_is y x e))
 map_get f (y ∷ xs) (suc k) x e = map_get f xs k x e
 
 -- a list maps to another that has the value at each place
@@ -41,7 +44,7 @@ map_is f (x ∷ xs) (b ∷ bs) l h =
     cc
 
 bit_at : (bs : List Bool) (k : ℕ) → k < length bs → (b : Bool) × (slice_get bs k ≡ Some b)
-bit_at bs k h = place_below bs k h
+bit_at bs k h = stands_below bs k h
 
 -- what every gate reads, and what gates read where one is stuck
 abbrev plain : ℕ → List Bool → List Bool
@@ -88,13 +91,13 @@ module _ (m : Model) (net : Net) (w : IsWritable m net) where
   told_apart x y c d g h = elim (eqb_tells x y) [
     | inl t ↦
         let out : c.output ≡ d.output = g.cover.out_is ∙ (ap (node_name m net) t.1 ∙ sym h.cover.out_is) in
-        let same : is_word c.output d.output ≡ true = subst (λ (z : Word). is_word c.output z ≡ true) out (word_refl c.output) in
+        let same : is_word c.output d.output ≡ true = subst (λ (z : Word). is_word c.output z ≡ true) out (is_word-same c.output) in
         same ∙ sym t.0
     | inr f ↦ other (is_word c.output d.output) refl f.1 ∙ sym f.0
   ]
     where
       other : (b : Bool) → is_word c.output d.output ≡ b → x ≢ y → is_word c.output d.output ≡ false
-      other true e ne = absurd (ne (one_gate m net w x y c d (gate_small x c g) (gate_small y d h) g h (word_same c.output d.output e)))
+      other true e ne = absurd (ne (one_gate m net w x y c d (gate_small x c g) (gate_small y d h) g h (same_word c.output d.output e)))
       other false e ne = e
 
   copy_other : (c d : Cover) → IsCopyCover m net (had m net w) net.observed (observed_names m) c → In (gates m net w) d → is_word c.output d.output ≡ false
@@ -102,7 +105,7 @@ module _ (m : Model) (net : Net) (w : IsWritable m net) where
     where
       other : (b : Bool) → is_word c.output d.output ≡ b → is_word c.output d.output ≡ false
       other true e =
-          let name : copy.name ≡ d.output = sym (copy_out m net copy.node copy.name) ∙ (sym (ap (λ (k : Cover). k.output) copy.is) ∙ word_same c.output d.output e) in
+          let name : copy.name ≡ d.output = sym (copy_out m net copy.node copy.name) ∙ (sym (ap (λ (k : Cover). k.output) copy.is) ∙ same_word c.output d.output e) in
           absurd (copy.fresh (in_right (source_names m) (output_names (gates m net w)) copy.name (subst (In (output_names (gates m net w))) (sym name) (in_mapped (λ (k : Cover). k.output) (gates m net w) d i))))
       other false e = e
 
@@ -155,7 +158,7 @@ module _ (m : Model) (net : Net) (w : IsWritable m net) where
           let good_values : NetValues m net w plain plain_length a v = run.good in
           let bad_values : NetValues m net w (stuck y p b) (stuck_length y p b) a f = run.faulty in
           let within : observed.0 < length (observed_names m) = subst (λ (k : ℕ). observed.0 < k) w.fit.observed (slice_get_within net.observed observed.0 n observed.1) in
-          let x = place_below (observed_names m) observed.0 within in
+          let x = stands_below (observed_names m) observed.0 within in
           let names : Names m net w x.0 n = inr (observed.0, (observed.1, x.1)) in (
             good.0,
             (
@@ -179,7 +182,7 @@ module _ (m : Model) (net : Net) (w : IsWritable m net) where
           let same_good = assigned_source v run.good_extends in
           let same_bad = assigned_source f run.faulty_extends in
           let within : observed.0 < length net.observed = subst (λ (k : ℕ). observed.0 < k) (sym w.fit.observed) (slice_get_within (observed_names m) observed.0 x observed.1) in
-          let n = place_below net.observed observed.0 within in
+          let n = stands_below net.observed observed.0 within in
           let good_is : v x ≡ nodes_of m net w plain plain_length v n.0 = observed_value m net w plain plain_length a v good same_good observed.0 n.0 x n.1 observed.1 in
           let bad_is : f x ≡ nodes_of m net w (stuck y p b) (stuck_length y p b) f n.0 = observed_value m net w (stuck y p b) (stuck_length y p b) a f bad same_bad observed.0 n.0 x n.1 observed.1 in (
             nodes_of m net w plain plain_length v,

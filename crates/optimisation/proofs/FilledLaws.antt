@@ -14,8 +14,8 @@ use Rattle.closing_pass.specs.Recording.{verdict_records}
 use Rattle.optimisation.specs.Ended.{HasEnded}
 use Rattle.optimisation.specs.Filled.{IsFilled, IsLeftWhole}
 use Rattle.optimisation.specs.declared.rounds.Rounds.{Rounds}
-use Rattle.optimisation.proofs.Texts.{records_join}
 use Rattle.optimisation.proofs.VerdictLaws.{settled_of}
+use Rattle.journal_text.proofs.Public.{records_then}
 
 -- the steps, the verdicts and the end
 pub filled : (texts : TextsAppend) (start : Net) (settings : Settings) (rounds : Rounds) (old one two new : Option Files) (name : List ℕ) → HasEnded start settings rounds old one name
@@ -27,7 +27,7 @@ filled texts start settings rounds old one two new name ended verdicts end =
       records = rs;
       run = ended.recorded.run;
       closed = ended.closed;
-      written = subst (λ (text : List ℕ). HasAppended old new name text) (sym (ap (λ (text : List ℕ). text ++ entry_text End) (records_join rs vs) ∙ append_assoc (records_text rs) (records_text vs) (entry_text End)))
+      written = subst (λ (text : List ℕ). HasAppended old new name text) (sym (ap (λ (text : List ℕ). text ++ entry_text End) (records_then rs vs) ∙ append_assoc (records_text rs) (records_text vs) (entry_text End)))
           (texts.follows old one new name (records_text rs) (records_text vs ++ entry_text End) ended.recorded.written (texts.follows one two new name (records_text vs) (entry_text End) verdicts end));
     }
 
@@ -53,7 +53,7 @@ left_in_verdicts texts start settings rounds old one new name ended part =
       records = rs ++ vs;
       last = net_of rounds.last.graph;
       accepted = records_accepted start settings rounds old one name ended;
-      written = subst (λ (text : List ℕ). HasAppendedPart old new name (text ++ entry_text End)) (sym (records_join rs vs))
+      written = subst (λ (text : List ℕ). HasAppendedPart old new name (text ++ entry_text End)) (sym (records_then rs vs))
           (texts.longer old new name (records_text rs ++ records_text vs) (entry_text End) (texts.part old one new name (records_text rs) (records_text vs) ended.recorded.written part));
     }
 
@@ -67,7 +67,7 @@ left_in_end texts start settings rounds old one two new name ended verdicts part
       records = rs ++ vs;
       last = net_of rounds.last.graph;
       accepted = records_accepted start settings rounds old one name ended;
-      written = subst (λ (text : List ℕ). HasAppendedPart old new name (text ++ entry_text End)) (sym (records_join rs vs))
+      written = subst (λ (text : List ℕ). HasAppendedPart old new name (text ++ entry_text End)) (sym (records_then rs vs))
           (texts.part old two new name (records_text rs ++ records_text vs) (entry_text End)
           (texts.follows old one two name (records_text rs) (records_text vs) ended.recorded.written verdicts)
           part);

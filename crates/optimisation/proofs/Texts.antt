@@ -3,9 +3,8 @@ use Rattle.std.proofs.Common.{◌≡◌, ℕ, zero, suc, ◌+◌, List, [], ◌�
 use Rattle.std.proofs.lemmas.List.{append-nil}
 use Rattle.std.specs.Option.{option_map}
 use Rattle.std.specs.FinMap.{gets}
-use Rattle.journal_text.proofs.Public.{take_zero}
 use Rattle.rm_base.specs.Files.{Files, append_file, file_of, put_file}
-use Rattle.rm_base.proofs.Public.{append_file-put_file}
+use Rattle.rm_base.proofs.Public.{append_file-put_file, take_zero}
 use Rattle.rm_base.specs.Shelves.{IsCreated}
 use Rattle.rm_base.specs.declared.outside.OutsideFault.{OutsideFault}
 use Rattle.rm_base.specs.declared.outside.OutsideFault.TheVariants as outside
@@ -28,10 +27,6 @@ whole_text budget rs =
     ap (λ (xs : List ℕ). entry_text (entry.Header budget) ++ xs)
     (records_then rs (entry.End ∷ []) ∙ ap (λ (xs : List ℕ). records_text rs ++ xs) (append-nil (entry_text entry.End)))
 
-pub records_join : (rs qs : List Record) → records_text (rs ++ qs) ≡ records_text rs ++ records_text qs
-records_join [] qs = refl
-records_join (r ∷ rs) qs = ap (λ (xs : List ℕ). entry_text (entry.Record r) ++ xs) (records_join rs qs) ∙ sym (append_assoc (entry_text (entry.Record r)) (records_text rs) (records_text qs))
-
 -- what was put, with more appended
 pub put_more : (name a b : List ℕ) (old : Option Files) → option_map (append_file name b) (option_map (put_file name a) old) ≡ option_map (put_file name (a ++ b)) old
 put_more name a b None = refl
@@ -49,12 +44,6 @@ take_front (x ∷ a) b k =
 take_nil : (k : ℕ) → take {A = ℕ} k [] ≡ []
 take_nil zero = refl
 take_nil (suc k) = refl
-
--- a beginning of the front is one of the whole
-pub take_of : (a b : List ℕ) (k : ℕ) → (m : ℕ) × (take k a ≡ take m (a ++ b))
-take_of [] b k = (0, take_nil k ∙ sym (take_zero b))
-take_of (x ∷ a) b zero = (0, refl)
-take_of (x ∷ a) b (suc k) = let rest : (m : ℕ) × (take k a ≡ take m (a ++ b)) = take_of a b k in (suc rest.0, ap (λ (xs : List ℕ). x ∷ xs) rest.1)
 
 -- a file that was put is there
 pub put_there : (name bytes : List ℕ) (old new : Option Files) → new ≡ option_map (put_file name bytes) old → IsThere new name

@@ -22,8 +22,9 @@ use Rattle.optimisation.specs.Whole.{AreFigures, IsWhole}
 use Rattle.optimisation.specs.Tests.{hits_among, spents_among}
 use Rattle.optimisation.specs.declared.optimised.Figures.{Figures}
 use Rattle.optimisation.specs.declared.rounds.Rounds.{Rounds}
-use Rattle.optimisation.proofs.Texts.{put_then, take_front, take_of, whole_text}
+use Rattle.optimisation.proofs.Texts.{put_then, take_front, whole_text}
 use Rattle.optimisation.proofs.VerdictLaws.{searched, settled_of}
+use Rattle.rm_base.proofs.Public.{take_of_longer}
 
 -- a beginning of the header
 pub header_begun : (m : Model) (budget : ℕ) (name : List ℕ) (old new : Option Files) → BeginsHeader budget name old new → HasBegun m budget name old new
@@ -34,7 +35,7 @@ header_begun m budget name old new h = elim h [
   where
     at : (k : ℕ) → BeginsSteps m budget (take k (entry_text (Header budget)))
     at k =
-        let cut = take_of (entry_text (Header budget)) [] k in
+        let cut = take_of_longer (entry_text (Header budget)) [] k in
         record { records = []; last = net_of_model m; accepted = refl; kept = cut.0; are = cut.1 }
 
 -- the header and a beginning of the steps

@@ -89,10 +89,3 @@ skip-one xs rest p n e lt =
 
 pub skip-none : (xs : List ℕ) (n : ℕ) → xs ≡ [] → drop n xs ≡ []
 skip-none xs n e = ap (drop n) e ∙ drop-nil n
-
--- what comes first from a place on stands there
-pub first-there : (xs rest : List ℕ) (k p : ℕ) → drop k xs ≡ p ∷ rest → slice_get xs k ≡ Some p
-first-there [] rest zero p e = cc
-first-there [] rest (suc k) p e = cc
-first-there (x ∷ xs) rest zero p e = cc
-first-there (x ∷ xs) rest (suc k) p e = first-there xs rest k p e

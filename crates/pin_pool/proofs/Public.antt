@@ -1,5 +1,7 @@
 -- What this crate proves of its definitions, for the proofs of the crates above. They import nothing of its proofs but through this file.
 
+-- Places in the list of a gate.
+pub use Rattle.pin_pool.proofs.Fingers.{has-drop, has-there}
 -- What links spell, once one is written.
 pub use Rattle.pin_pool.proofs.LinkLemmas.{length-apart}
 -- Lists of pins once a pin is put in or taken out.

@@ -3,7 +3,6 @@ use Rattle.std.proofs.Common.{◌≡◌, ◌≤◌, ℕ, List, refl, inl, inr, a
 use Rattle.std.specs.Prelude.{Option, None, Some, IfSome, IsSome, IsSomeAnd}
 use Rattle.rm_base.specs.Causes.{Rose}
 use Rattle.rm_base.specs.Files.{Files, file_of}
-use Rattle.rm_model.specs.Words.{Word}
 use Rattle.rm_model.specs.declared.parts.Model.{Model}
 use Rattle.cover_decompose.specs.Count.{decomposed}
 use Rattle.journal_audit.specs.Audited.{IsPassed, IsProblem}
@@ -15,6 +14,7 @@ use Rattle.rambo_cli.specs.Problems.{CheckCause, ModelCause, ReadCause, audit_pr
 use Rattle.rambo_cli.specs.Written.{Exceeds, IsSaid, IsUsable}
 use Rattle.rambo_cli.specs.declared.problem.Problem.{Problem}
 use Rattle.rambo_cli.specs.declared.problem.Problem.TheVariants.{Fault, Journal, Limit, Memory, Missing, Netlist, Record, Text, Words}
+use Rattle.rm_base.specs.Words.{Word}
 
 audited : (found : AuditProblem) (m : Model) (input journal output : Word) (files : Option Files) → IfSome files (λ told. Holds told input (λ text. IsSaid text m)) → decomposed m ≤ 65536
     → IfSome files (λ told. IsProblem m told journal output found) → IfSome files (Audited input journal output found)

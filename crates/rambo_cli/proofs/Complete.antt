@@ -4,7 +4,6 @@ use Rattle.std.specs.Prelude.{Option, None, Some, IsSome, IsSomeAnd}
 use Rattle.rm_base.specs.Causes.{Rose}
 use Rattle.rm_base.specs.Files.{Files, file_of}
 use Rattle.rm_base.specs.declared.numbers.Place.{Place}
-use Rattle.rm_model.specs.Words.{Word}
 use Rattle.rm_model.specs.declared.parts.Model.{Model}
 use Rattle.blif_lines.specs.Layout.{lines_of}
 use Rattle.blif_format.specs.Laws.{ReadsOnce}
@@ -24,6 +23,7 @@ use Rattle.rambo_cli.specs.Problems.{CheckCause, IsCause, IsReported, HasEnded, 
 use Rattle.rambo_cli.specs.Written.{Exceeds, HasFault, IsSaid}
 use Rattle.rambo_cli.specs.declared.problem.Problem.{Problem}
 use Rattle.rambo_cli.specs.declared.problem.Problem.TheVariants.{Words, Text, Limit, Missing, Fault, Journal, Record, Netlist, Memory}
+use Rattle.rm_base.specs.Words.{Word}
 
 -- what keeps a run from its end is of the outside
 abbrev IsOutside : ℕ → ℕ → Problem → Type 0

@@ -2,7 +2,7 @@
 use Rattle.std.proofs.Common.{◌≡◌, ◌<◌, ◌+◌, ◌-◌, ℕ, zero, suc, Bool, false, List, [], ◌∷◌, map, length, refl, sym, ◌∙◌, ap, arith}
 use Rattle.std.specs.Prelude.{Some, slice_get, unwrap_or}
 use Rattle.std.proofs.lemmas.Option.{slice_get_within}
-use Rattle.rm_model.specs.Words.{Word}
+use Rattle.std.proofs.lemmas.List.{length-map}
 use Rattle.rm_model.specs.Value.{source_names, observed_names, IsConsistent, IsRanked, Equivalent}
 use Rattle.rm_model.specs.declared.parts.Model.{Model}
 use Rattle.gate_net.specs.Net.{Net, source_count}
@@ -15,10 +15,7 @@ use Rattle.graph_to_model.specs.Laws.{IsModelOf}
 use Rattle.journal_text.specs.Accepted.{Keeps}
 use Rattle.rambo_cli.specs.Composition.{IsDecomposed}
 use Rattle.rambo_cli.proofs.Plain.{no_gate_below}
-
-length_map : (f : ℕ → Bool) (ds : List ℕ) → length (map f ds) ≡ length ds
-length_map f [] = refl
-length_map f (d ∷ ds) = ap suc (length_map f ds)
+use Rattle.rm_base.specs.Words.{Word}
 
 -- values of the sources by node number
 abbrev given : Model → (Word → Bool) → ℕ → Bool
@@ -40,7 +37,7 @@ module _ (exist : ValuesExist) (m : Model) (last : Net) (parts : IsDecomposed m)
       let one = exist (net_of_model m) parts.formed.acyclic a in
       let two = exist last stay.form.acyclic a in
       let places = stay.values a one.0 two.0 one.1.0 two.1.0 in
-      sym (length_map two.0 last.observed) ∙ (sym (ap length places) ∙ length_map one.0 (net_of_model m).observed)
+      sym (length-map last.observed two.0) ∙ (sym (ap length places) ∙ length-map (net_of_model m).observed one.0)
 
   pub fits : Fits last m
   fits = record {

@@ -4,7 +4,6 @@ use Rattle.std.specs.Prelude.{Option, None, Some, IfErr, IfOk, IfSome, IsSomeAnd
 use Rattle.std.proofs.lemmas.List.{take_all}
 use Rattle.rm_base.specs.Files.{Files, file_of}
 use Rattle.rm_base.specs.declared.numbers.Place.{Place}
-use Rattle.rm_model.specs.Words.{Word}
 use Rattle.blif_format.specs.declared.refusal.FaultKind.{FaultKind}
 use Rattle.blif_format.specs.declared.refusal.Quantity.{Quantity}
 use Rattle.rm_model.specs.declared.parts.Model.{Model}
@@ -13,6 +12,7 @@ use Rattle.rambo_cli.specs.Outcome.{Holds}
 use Rattle.rambo_cli.specs.Problems.{ReadCause, TextCause}
 use Rattle.rambo_cli.specs.declared.problem.Problem.{Problem}
 use Rattle.rambo_cli.specs.declared.problem.Problem.TheVariants.{Words, Text, Limit, Missing, Fault, Journal, Record, Netlist, Memory}
+use Rattle.rm_base.specs.Words.{Word}
 
 shorter : (n : ℕ) (xs : List ℕ) → length (take (n + 1) xs) ≤ n → take (n + 1) xs ≡ xs
 shorter n xs h = take_all (n + 1) xs (omega (arith, length-take (n + 1) xs))

@@ -5,7 +5,6 @@ use Rattle.std.specs.Option.{option_map}
 use Rattle.std.proofs.lemmas.List.{take_all}
 use Rattle.rm_base.specs.Files.{Files, put_file}
 use Rattle.rm_base.specs.declared.settings.Settings.{Settings}
-use Rattle.rm_model.specs.Words.{Word}
 use Rattle.rm_model.specs.declared.parts.Model.{Model}
 use Rattle.gate_net.specs.Net.{Net}
 use Rattle.blif_format.specs.Text.{text_of}
@@ -22,6 +21,7 @@ use Rattle.rambo_cli.specs.Files.{BeginsFile}
 use Rattle.rambo_cli.specs.Headline.{IsOptimisedInto}
 use Rattle.rambo_cli.specs.Outcome.{BeginsToWriteFor, HasWritten, IfTold}
 use Rattle.rambo_cli.specs.Written.{IsUsable}
+use Rattle.rm_base.specs.Words.{Word}
 
 told : (P : Files → Files → Type 0) (f : Files → Files) (old new : Option Files) → new ≡ option_map f old → ((files : Files) → P files (f files)) → IfTold old new P
 told P f None new e h = tt

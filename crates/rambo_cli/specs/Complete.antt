@@ -2,7 +2,6 @@
 use Rattle.std.specs.Prelude.{◌≡◌, ◌≤◌, ◌^◌, ◌⊎◌, ℕ, List, Option, None, Some, IsSome, IsSomeAnd, length}
 use Rattle.rm_base.specs.Causes.{Rose}
 use Rattle.rm_base.specs.Files.{Files, file_of}
-use Rattle.rm_model.specs.Words.{Word}
 use Rattle.rm_model.specs.declared.parts.Model.{Model}
 use Rattle.blif_lines.specs.Layout.{lines_of}
 use Rattle.blif_format.specs.Grammar.{Reads}
@@ -14,6 +13,7 @@ use Rattle.rambo_cli.specs.Problems.{IsCause, status_of}
 use Rattle.rambo_cli.specs.Written.{most_bytes, most_pins}
 use Rattle.rambo_cli.specs.declared.problem.Problem.{Problem}
 use Rattle.rambo_cli.specs.declared.problem.Problem.TheVariants.{Fault, Memory}
+use Rattle.rm_base.specs.Words.{Word}
 
 -- the text has no fault and is within all limits
 pub record CanBeOptimised (text : List ℕ) : Type 0 where

@@ -2,7 +2,6 @@
 use Rattle.std.specs.Prelude.{◌≡◌, ◌≤◌, ◌++◌, ℕ, List, None}
 use Rattle.rm_base.specs.Files.{Files}
 use Rattle.rm_model.specs.Ranks.{first_without_rank}
-use Rattle.rm_model.specs.Words.{Word}
 use Rattle.journal_audit.specs.Audited.{IsPassed}
 use Rattle.rm_base.specs.declared.settings.Settings.{Settings}
 use Rattle.rm_model.specs.Value.{Equivalent, IsRanked}
@@ -24,6 +23,7 @@ use Rattle.optimisation.specs.Whole.{IsRunOver}
 use Rattle.optimisation.specs.declared.optimised.Figures.{Figures}
 use Rattle.rambo_cli.specs.Headline.{IsOptimisedInto}
 use Rattle.rambo_cli.specs.Written.{most_pins}
+use Rattle.rm_base.specs.Words.{Word}
 
 -- what holds of the decomposition of a model
 pub record IsDecomposed (m : Model) : Type 0 where

@@ -5,7 +5,6 @@ use Rattle.rm_base.specs.Causes.{Rose}
 use Rattle.rm_base.specs.Files.{Files, file_of, put_file}
 use Rattle.rm_base.specs.declared.numbers.Place.{Place}
 use Rattle.rm_base.specs.declared.settings.Settings.{Settings}
-use Rattle.rm_model.specs.Words.{Word}
 use Rattle.rm_model.specs.declared.parts.Model.{Model}
 use Rattle.blif_format.specs.declared.refusal.FaultKind.{FaultKind}
 use Rattle.blif_format.specs.declared.refusal.Quantity.{Quantity}
@@ -30,6 +29,7 @@ use Rattle.rambo_cli.specs.Lines.{accepted_line, fault_line, limit_line, words_l
 use Rattle.rambo_cli.specs.Summary.{summary_text}
 use Rattle.rambo_cli.specs.Written.{IsSaid, HasFault, Exceeds, most_pins}
 use Rattle.rambo_cli.specs.Headline.{IsOptimisedInto}
+use Rattle.rm_base.specs.Words.{Word}
 
 -- what holds of the files before and after, where the shelf tells them
 abbrev pub IfTold : Option Files → Option Files → (Files → Files → Type 0) → Type 0

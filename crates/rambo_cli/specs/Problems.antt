@@ -5,7 +5,6 @@ use Rattle.rm_base.specs.Causes.{Rose}
 use Rattle.rm_base.specs.Files.{Files}
 use Rattle.rm_base.specs.declared.outside.OutsideFault.{OutsideFault}
 use Rattle.rm_base.specs.declared.outside.OutsideFault.TheVariants.{Failed, NoMemory as OutsideNoMemory}
-use Rattle.rm_model.specs.Words.{Word}
 use Rattle.rm_model.specs.declared.parts.Model.{Model}
 use Rattle.blif_format.specs.declared.refusal.ReadRefusal.{ReadRefusal}
 use Rattle.blif_format.specs.declared.refusal.ReadRefusal.TheVariants.{Fault as ReadFault, Limit as ReadLimit, NoMemory as ReadNoMemory}
@@ -28,6 +27,7 @@ use Rattle.rambo_cli.specs.declared.work.Done.{Done}
 use Rattle.rambo_cli.specs.declared.work.Done.TheVariants.{Optimised, Accepted}
 use Rattle.rambo_cli.specs.declared.problem.Problem.{Problem}
 use Rattle.rambo_cli.specs.declared.problem.Problem.TheVariants.{Words, Text, Limit, Missing, Fault, Journal, Record, Netlist, Memory}
+use Rattle.rm_base.specs.Words.{Word}
 
 abbrev pub outside_problem : OutsideFault → Problem
 outside_problem Failed = Fault

@@ -1,16 +1,16 @@
 -- A candidate's wire may be added, with or without its Not, and neither step is refused.
 use Rattle.std.proofs.Common.{◌≡◌, ◌≢◌, ℕ, ◌<◌, inl, inr, Bool, true, false, Option, Some, None, List, [], ◌∷◌, ◌++◌, length, refl, sym, ◌∙◌, ap, subst}
 use Rattle.std.specs.Prelude.{slice_get, nat_lt, ◌↔◌, if◌then◌else◌}
-use Rattle.std.proofs.lemmas.Bool.{lt-ltb, cases_eq}
+use Rattle.std.proofs.lemmas.Bool.{lt-ltb, cases_eq, false_from_ne_true}
 use Rattle.rm_base.specs.declared.numbers.Fault.{Fault}
 use Rattle.rm_base.specs.declared.numbers.NodeId.{NodeId}
-use Rattle.gate_net.proofs.Public.{node_at-other, node_at-there, not_true}
+use Rattle.gate_net.proofs.Public.{node_at-other, node_at-there}
 use Rattle.gate_net.specs.declared.Kind.{Kind}
 use Rattle.gate_net.specs.declared.Kind.TheVariants.{Source, Zero, One, And, Or, Not}
 use Rattle.gate_net.specs.Net.{Net, node_at, kind_in, drivers_in, drivers_of, Reads, IsLive, IsWellFormed, wire_count}
 use Rattle.gate_net.specs.Values.{IsJunction, controlling}
 use Rattle.gate_net.specs.Edits.{IsSameBut, with_pin, last_pin}
-use Rattle.wire_edit.proofs.Public.{among_at, gate_live, is_live_there, junction_gate, kept_there, last_there, not_closing}
+use Rattle.wire_edit.proofs.Public.{among_at, gate_live, is_live_there, junction_gate, not_closing}
 use Rattle.wire_edit.specs.declared.steps.Step.TheVariants.{Add, NewNot}
 use Rattle.wire_edit.specs.declared.room.Room.{Room}
 use Rattle.wire_edit.specs.Changes.{with_new_not}
@@ -20,9 +20,10 @@ use Rattle.wire_edit.specs.Refusals.{refusal_of, ClosesCycle, live_count, ceilin
 use Rattle.wire_edit.specs.Order.{node}
 use Rattle.candidate_wires.specs.declared.candidate.Candidate.{Candidate}
 use Rattle.candidate_wires.specs.Gains.{least_free, net_for, wire_for, with_candidate}
-use Rattle.rar_loop.specs.Changing.{numbers_of}
 use Rattle.rar_loop.specs.Trying.{MayAdd}
 use Rattle.rar_loop.proofs.NewNots.{live_apart, not_other, not_there, not_kind, not_drivers, not_live, not_reached, least_dead}
+use Rattle.rm_base.proofs.Public.{front_stands, last_stands}
+use Rattle.rm_base.specs.Numbers.{numbers_of}
 
 -- KINDS
 kind_control : (kind : Kind) → gate_control (Some kind) ≡ controlling kind
@@ -69,7 +70,7 @@ plain_applies net c may = (
   ap is_present (control_is net c may),
   (
     is_live_there net c.node.0 (node_of net c may),
-    (may.1.apart, (may.1.unreached, not_true (is_among c.node.0 (drivers_of net c.gate.0)) (λ e. let k : (k : ℕ) × Reads net c.gate.0 k c.node.0 = among_at c.node.0 (drivers_of net c.gate.0) e in may.1.unread k.0 k.1))),
+    (may.1.apart, (may.1.unreached, false_from_ne_true (is_among c.node.0 (drivers_of net c.gate.0)) (λ e. let k : (k : ℕ) × Reads net c.gate.0 k c.node.0 = among_at c.node.0 (drivers_of net c.gate.0) e in may.1.unread k.0 k.1))),
   ),
 )
 
@@ -85,7 +86,7 @@ fresh_applies net c well may =
           (λ e. live_apart net c.gate.0 gate (sym e)),
           (
             (λ path. not_reached net c.node.0 c.gate.0 well (node_of net c may) (λ e. may.1.apart (sym e)) may.1.unreached path refl),
-            not_true (is_among (least_free net) (drivers_of after c.gate.0)) (λ e.
+            false_from_ne_true (is_among (least_free net) (drivers_of after c.gate.0)) (λ e.
                 let k : (k : ℕ) × Reads after c.gate.0 k (least_free net) = among_at (least_free net) (drivers_of after c.gate.0) e in
                 well.drivers_live c.gate.0 k.0 (least_free net) (ap (λ xs. slice_get xs k.0) (sym ds) ∙ k.1) (least_dead net)),
           ),
@@ -141,7 +142,7 @@ new_pin_reads net c may =
     let live : IsLive (net_for net c) c.gate.0 = live_same net c c.gate.0 (gate_of net c may) in
     let ds : drivers_of (net_for net c) c.gate.0 ≡ drivers_of net c.gate.0 = drivers_same net c may c.gate.0 (gate_of net c may) in
     let here : drivers_of (with_candidate net c) c.gate.0 ≡ drivers_of net c.gate.0 ++ wire_for net c ∷ [] = pin_drivers (net_for net c) c.gate.0 (wire_for net c) live ∙ ap (λ (xs : List ℕ). xs ++ wire_for net c ∷ []) ds in
-    ap (λ (xs : List ℕ). slice_get xs (length (drivers_of net c.gate.0))) here ∙ last_there (drivers_of net c.gate.0) (wire_for net c)
+    ap (λ (xs : List ℕ). slice_get xs (length (drivers_of net c.gate.0))) here ∙ last_stands (drivers_of net c.gate.0) (wire_for net c)
 
 -- and every pin reads what it read
 pub pin_stays : (net : Net) (c : Candidate) → MayAdd net c → (y p x : ℕ) → IsLive net y → Reads net y p x → Reads (with_candidate net c) y p x
@@ -149,7 +150,7 @@ pin_stays net c may y p x live reads = elim (cases_eq y c.gate.0) [
   | inl is ↦
       let gate : IsLive (net_for net c) c.gate.0 = live_same net c c.gate.0 (gate_of net c may) in
       let here : drivers_of (with_candidate net c) y ≡ drivers_of (net_for net c) y ++ wire_for net c ∷ [] = subst (λ (k : ℕ). drivers_of (with_candidate net c) k ≡ drivers_of (net_for net c) k ++ wire_for net c ∷ []) (sym is) (pin_drivers (net_for net c) c.gate.0 (wire_for net c) gate) in
-      ap (λ (xs : List ℕ). slice_get xs p) here ∙ kept_there (drivers_of (net_for net c) y) (wire_for net c) p x (ap (λ (xs : List ℕ). slice_get xs p) (drivers_same net c may y live) ∙ reads)
+      ap (λ (xs : List ℕ). slice_get xs p) here ∙ front_stands (drivers_of (net_for net c) y) ((wire_for net c) ∷ []) p x (ap (λ (xs : List ℕ). slice_get xs p) (drivers_same net c may y live) ∙ reads)
   | inr ne ↦
       let same : drivers_of (with_candidate net c) y ≡ drivers_of (net_for net c) y = ap drivers_in (node_at-other (net_for net c) c.gate.0 (drivers_of (net_for net c) c.gate.0 ++ wire_for net c ∷ []) y ne) in
       ap (λ (xs : List ℕ). slice_get xs p) (same ∙ drivers_same net c may y live) ∙ reads

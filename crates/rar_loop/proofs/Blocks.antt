@@ -12,6 +12,7 @@ use Rattle.journal_text.specs.declared.record.Record.TheVariants as record_of
 use Rattle.journal_text.specs.Runs.{AcceptedTo, steps_of}
 use Rattle.journal_text.specs.Runs.{AreRemovals}
 use Rattle.rar_loop.specs.Trying.{IsClean}
+use Rattle.journal_text.proofs.Public.{steps_then}
 
 abbrev pub is_pending : Option NewNode → Bool
 is_pending None = false
@@ -128,12 +129,6 @@ accepted_after net after [] a = sym a
 accepted_after net after (record_of.Step step tree ∷ records) a = accepted_after (stepped net step) after records a.1
 accepted_after net after (record_of.Hit fault vector ∷ records) a = absurd a
 accepted_after net after (record_of.Spent fault tree ∷ records) a = absurd a
-
-pub steps_then : (first second : List Record) → steps_of (first ++ second) ≡ steps_of first ++ steps_of second
-steps_then [] second = refl
-steps_then (record_of.Step step tree ∷ first) second = ap (λ (ss : List Step). step ∷ ss) (steps_then first second)
-steps_then (record_of.Hit fault vector ∷ first) second = steps_then first second
-steps_then (record_of.Spent fault tree ∷ first) second = steps_then first second
 
 -- SUMS
 pub places_then : (xs ys : List Addition) (n m : ℕ) → ArePlaces xs n → ArePlaces ys m → ArePlaces (xs ++ ys) (n + m)

@@ -1,6 +1,6 @@
 -- What kept vectors tell of a candidate: with its wire in the net one of them detects the fault of the wire's pin, which then
 -- has a set of facts closed at every depth.
-use Rattle.std.proofs.Common.{◌≡◌, ◌≢◌, ◌≤◌, ◌++◌, length, arith, ℕ, zero, suc, ◌<◌, ◌^◌, ◌⊎◌, ◌&&◌, inl, inr, Bool, true, false, not, IsTrue, Option, Some, None, List, [], ◌∷◌, replicate, refl, sym, ◌∙◌, ap, subst, w64}
+use Rattle.std.proofs.Common.{◌≡◌, ◌≢◌, ◌≤◌, ◌++◌, length, arith, ℕ, zero, suc, ◌<◌, ◌^◌, ◌⊎◌, inl, inr, Bool, true, false, not, IsTrue, Option, Some, None, List, [], ◌∷◌, replicate, refl, sym, ◌∙◌, ap, subst, w64}
 use Rattle.std.specs.Int.{trailing_zeros}
 use Rattle.std.specs.Prelude.{bit_and, slice_get, slice_index, slice_set, if◌then◌else◌}
 use Rattle.rm_base.specs.declared.numbers.NodeId.{NodeId}
@@ -9,7 +9,7 @@ use Rattle.gate_net.specs.Values.{Detects, HasPin}
 use Rattle.gate_net.specs.Edits.{last_pin}
 use Rattle.gate_net.specs.Laws.{OutsideIsEqual}
 use Rattle.refutation.specs.Detected.{DetectedHaveOpenSets}
-use Rattle.std.proofs.lemmas.Bool.{cases_eq}
+use Rattle.std.proofs.lemmas.Bool.{and_parts, cases_eq}
 use Rattle.std.proofs.lemmas.Option.{slice_get_within}
 use Rattle.fault_sim.specs.BlockStates.{AreSimulated, BlockState}
 use Rattle.fault_sim.specs.LaneStates.{Fits, IsSimulated, LaneState}
@@ -24,12 +24,13 @@ use Rattle.wire_edit.specs.Tests.{control_of}
 use Rattle.candidate_wires.specs.declared.candidate.Candidate.{Candidate}
 use Rattle.candidate_wires.specs.Gains.{net_for, wire_for, with_candidate}
 use Rattle.rar_loop.specs.declared.vectors.Vectors.{Vectors}
-use Rattle.rar_loop.specs.Changing.{numbers_of}
 use Rattle.rar_loop.specs.Kept.{AreAsked, AreFor, HasKept, IsTurned, lanes_with, wanted}
 use Rattle.rar_loop.specs.Rows.{stuck}
 use Rattle.rar_loop.specs.Trying.{IsNewPinOpen, MayAdd}
 use Rattle.rar_loop.proofs.Adding.{add_applies, control_is, new_pin_reads, node_of}
 use Rattle.rar_loop.proofs.WireFaults.{wire_detected}
+use Rattle.rm_base.proofs.Public.{false_from_not}
+use Rattle.rm_base.specs.Numbers.{numbers_of}
 
 -- LANES
 -- a word that isn't 0 has a lane
@@ -39,18 +40,9 @@ some_lane n some fits = let first = first_lane n some fits in (trailing_zeros w6
 pub zero_has_none : (i word : ℕ) → word ≡ 0 → IsTrue (lane i word) → ⊥
 zero_has_none i word e t = let never : lane i word ≡ false = ap (lane i) e ∙ lane_zero i in absurd (cc)
 
-not_is : (b : Bool) → not b ≡ true → b ≡ false
-not_is true e = cc
-not_is false e = refl
-
 lane_with : (i : ℕ) → i < 64 → (value : Bool) (word : ℕ) → IsTrue (lane i (lanes_with value word)) → lane i word ≡ value
 lane_with i h true word t = t
-lane_with i h false word t = not_is (lane i word) (sym (lane_not i word h) ∙ t)
-
-both_true : (x y : Bool) → (x && y) ≡ true → (x ≡ true) × (y ≡ true)
-both_true true true e = (refl, refl)
-both_true true false e = cc
-both_true false y e = cc
+lane_with i h false word t = false_from_not (lane i word) (sym (lane_not i word h) ∙ t)
 
 -- WHAT IS KEPT OF A GATE
 pub pin_of : (net : Net) (gate d : NodeId) (value : Bool) → Some d.0 ≡ slice_get (drivers_of net gate.0) 0 → HasPin net (stuck gate.0 0 value)
@@ -173,7 +165,7 @@ wire_open sets outside form net c may well v for control is turned all word valu
     a = assignment v.lanes.words i
 
     pair : IsTrue (lane i turned) × IsTrue (lane i (lanes_with (wanted c.fresh control) word))
-    pair = both_true (lane i turned) (lane i (lanes_with (wanted c.fresh control) word)) (sym (lane_and i turned (lanes_with (wanted c.fresh control) word)) ∙ t)
+    pair = and_parts (lane i turned) (lane i (lanes_with (wanted c.fresh control) word)) (sym (lane_and i turned (lanes_with (wanted c.fresh control) word)) ∙ t)
 
     turn : IsTurned net c.gate.0 a
     turn = all i h pair.0

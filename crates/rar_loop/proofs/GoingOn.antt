@@ -13,7 +13,7 @@ use Rattle.gate_graph.specs.Circuit.{net_of}
 use Rattle.gate_graph.specs.Holds.{HoldsOn}
 use Rattle.refutation.specs.Branches.{AreAccepted}
 use Rattle.refutation.specs.declared.items.Item.{Item}
-use Rattle.wire_edit.proofs.Public.{fix_applies, gate_live, is_live_there, length_budget, next_applies, nodes_of, room_on, room_steps, tidying_removes, wires_grow}
+use Rattle.wire_edit.proofs.Public.{fix_applies, gate_live, is_live_there, length_budget, next_applies, nodes_of, removal_pins, room_on, room_steps, tidying_removes, wires_grow}
 use Rattle.wire_edit.specs.declared.steps.Step.{Step}
 use Rattle.wire_edit.specs.declared.steps.Step.TheVariants.{Add, Fix, NewNot, Const, Same, NoPins, OnePin, Twice, Twin, Dead}
 use Rattle.wire_edit.specs.declared.refusal.EditRefusal.{EditRefusal}
@@ -27,17 +27,12 @@ use Rattle.wire_edit.specs.Work.{work, pins_made, RoomForTidying, RoomForFixes}
 use Rattle.journal_text.specs.declared.record.Record.{Record}
 use Rattle.journal_text.specs.declared.record.Record.TheVariants as record_of
 use Rattle.journal_text.specs.Accepted.{IsJustified, MayGrow, IsAcceptedStep}
-use Rattle.journal_text.specs.Runs.{AcceptedTo, steps_of}
-use Rattle.rar_loop.specs.Going.{Logs, IsLeft, IsNoLarger, Tallies, Goes, HasFreePin}
-use Rattle.journal_text.specs.Runs.{IsRemoval, AreRemovals}
+use Rattle.journal_text.specs.Runs.{steps_of}
+use Rattle.rar_loop.specs.Going.{Logs, IsLeft, IsNoLarger, Tallies, Goes}
+use Rattle.journal_text.specs.Runs.{AreRemovals}
 use Rattle.rar_loop.proofs.Sizing.{no_gates}
-
--- LISTS OF RECORDS
-pub accepted_then : (net mid after : Net) (first second : List Record) → AcceptedTo net first mid → AcceptedTo mid second after → AcceptedTo net (first ++ second) after
-accepted_then net mid after [] second a b = subst (λ (n : Net). AcceptedTo n second after) a b
-accepted_then net mid after (record_of.Step step tree ∷ first) second a b = (a.0, accepted_then (stepped net step) mid after first second a.1 b)
-accepted_then net mid after (record_of.Hit fault vector ∷ first) second a b = absurd a
-accepted_then net mid after (record_of.Spent fault tree ∷ first) second a b = absurd a
+use Rattle.journal_text.proofs.Public.{accepted_then}
+use Rattle.wire_edit.specs.Removals.{HasFreePin, IsRemoval}
 
 pub removals_then : (first second : List Record) → AreRemovals (steps_of first) → AreRemovals (steps_of second) → AreRemovals (steps_of (first ++ second))
 removals_then [] second a b = b
@@ -87,22 +82,10 @@ no_nodes net step r =
     let none : nodes_of (change_of net step) ≡ 0 = removal_nodes net step r in
     omega (arith, le, none)
 
-no_pins_made : (step : Step) → IsRemoval step → pins_made step ≡ 0
-no_pins_made (Add gate y) r = absurd r
-no_pins_made (NewNot y) r = absurd r
-no_pins_made (Fix gate position value) r = refl
-no_pins_made (Const gate position) r = refl
-no_pins_made (Same gate position) r = refl
-no_pins_made (NoPins gate) r = refl
-no_pins_made (OnePin gate) r = refl
-no_pins_made (Twice gate) r = refl
-no_pins_made (Twin gate other) r = refl
-no_pins_made (Dead gate) r = refl
-
 pub no_larger : (net : Net) (step : Step) → IsWellFormed net → Applies net step → IsRemoval step → IsNoLarger net (stepped net step)
 no_larger net step well applies r =
     let w : wire_count (stepped net step) ≤ wire_count net + pins_made step = wires_grow net step well applies in
-    let none : pins_made step ≡ 0 = no_pins_made step r in
+    let none : pins_made step ≡ 0 = removal_pins step r in
     record { wires = omega (arith, w, none); gates = no_gates net step (removal_nodes net step r); numbers = no_nodes net step r }
 
 -- TALLIES

@@ -2,16 +2,19 @@
 use Rattle.std.proofs.Common.{◌≡◌, ℕ, ◌+◌, ◌-◌, ◌*◌, ◌<◌, ◌≤◌, ◌⊎◌, inl, inr, Bool, true, false, ◌||◌, Option, Some, None, List, length, refl, sym, ◌∙◌, ap, subst, arith}
 use Rattle.std.specs.Prelude.{slice_get, if◌then◌else◌}
 use Rattle.std.proofs.lemmas.Bool.{cases_eq}
+use Rattle.std.proofs.Math.Bool.{or-false, or-true}
+use Rattle.std.proofs.lemmas.Option.{slice_get_within}
 use Rattle.rm_base.specs.declared.numbers.Fault.{Fault}
 use Rattle.gate_net.specs.Net.{Net, Node, node_at, drivers_in, drivers_of, Reads, wire_count}
 use Rattle.refutation.specs.declared.items.Item.{Item}
-use Rattle.wire_edit.proofs.Public.{got, live_below, within}
-use Rattle.rar_loop.specs.Going.{HasFreePin, ReadsNoConstants}
+use Rattle.wire_edit.proofs.Public.{live_below}
 use Rattle.recursive_learning.specs.Serving.{IsRefuted}
 use Rattle.refutation.specs.Detected.{HasOpenSet}
 use Rattle.refutation.specs.FactSets.{held_by}
 use Rattle.refutation.specs.declared.held.NodeFacts.{NodeFacts}
 use Rattle.rar_loop.specs.Swept.{IsSwept, IsLooked, IsRefutedAt, IsLookedAtPin, IsOpenAtGate, HasLookedAt, HasPassed, HasSwept}
+use Rattle.rm_base.proofs.Public.{stands_below}
+use Rattle.wire_edit.specs.Removals.{HasFreePin, ReadsNoConstants}
 
 pub none_of : {A : Type 0} (o : Option A) → ((x : A) → o ≡ Some x → ⊥) → o ≡ None
 none_of None h = refl
@@ -51,7 +54,7 @@ open_more net gate depth k o before h looked position value lt = elim (cases_eq 
 pub refuted_free : (net : Net) (gate : ℕ) (fault : Fault) (tree : List Item) → ReadsNoConstants net → IsRefutedAt net gate fault tree → HasFreePin net fault
 refuted_free net gate fault tree none r =
     let lt : fault.position < length (drivers_of net fault.gate.0) = subst (λ (g : ℕ). fault.position < length (drivers_of net g)) (sym r.gate_is) r.pin in
-    let d : (d : ℕ) × Reads net fault.gate.0 fault.position d = got (drivers_of net fault.gate.0) fault.position lt in
+    let d : (d : ℕ) × Reads net fault.gate.0 fault.position d = stands_below (drivers_of net fault.gate.0) fault.position lt in
     (d.0, (d.1, none fault.gate.0 fault.position d.0 d.1))
 
 -- PASSES
@@ -72,21 +75,13 @@ passed_on net mid after depth gate false p looked = (
   ],
 )
 
-or_true : (f : Bool) → (f || true) ≡ true
-or_true true = refl
-or_true false = refl
-
-or_false : (f : Bool) → (f || false) ≡ f
-or_false true = refl
-or_false false = refl
-
 -- one more gate was looked at, or the same again
 pub passed_next : (net mid after : Net) (depth gate next : ℕ) (f found fixed : Bool) → HasPassed net mid depth gate f → HasLookedAt mid after gate depth found
     → next ≡ (if found then gate else gate + 1) → fixed ≡ (f || found) → HasPassed net after depth next fixed
 passed_next net mid after depth gate next f true fixed p looked is either =
-    subst (λ (b : Bool). HasPassed net after depth next b) (sym (either ∙ or_true f)) (passed_fixed net mid after depth gate next f p looked)
+    subst (λ (b : Bool). HasPassed net after depth next b) (sym (either ∙ or-true f)) (passed_fixed net mid after depth gate next f p looked)
 passed_next net mid after depth gate next f false fixed p looked is either =
-    subst (λ (b : Bool). HasPassed net after depth next b) (sym (either ∙ or_false f)) (subst (λ (k : ℕ). HasPassed net after depth k f) (sym is) (passed_on net mid after depth gate f p looked))
+    subst (λ (b : Bool). HasPassed net after depth next b) (sym (either ∙ or-false f)) (subst (λ (k : ℕ). HasPassed net after depth k f) (sym is) (passed_on net mid after depth gate f p looked))
 
 pub measure_falls : (mid after : Net) (depth gate next : ℕ) (found : Bool) → HasLookedAt mid after gate depth found → next ≡ (if found then gate else gate + 1) → gate < 4294967296
     → wire_count after * 4294967296 + (4294967296 - next) < wire_count mid * 4294967296 + (4294967296 - gate)
@@ -106,7 +101,7 @@ pass_sweeps net after depth p fault pin =
     reads = subst (λ (n : Net). Reads n fault.gate.0 fault.position pin.0) p.0 pin.1
 
     at : fault.position < length (drivers_of net fault.gate.0)
-    at = within (drivers_of net fault.gate.0) fault.position pin.0 reads
+    at = slice_get_within (drivers_of net fault.gate.0) fault.position pin.0 reads
 
     there : (o : Option Node) → node_at after fault.gate.0 ≡ o → fault.gate.0 < length after.nodes
     there None is = let none : ◌≡◌ {A = Option ℕ} None (Some pin.0) = sym (ap (λ o. slice_get (drivers_in o) fault.position) is) ∙ pin.1 in cc

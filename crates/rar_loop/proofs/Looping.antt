@@ -27,9 +27,10 @@ use Rattle.rar_loop.specs.Trying.{IsClean, IsGained, IsLent}
 use Rattle.wire_edit.specs.declared.room.Room.{Room}
 use Rattle.rar_loop.specs.Sizes.{IsSame}
 use Rattle.rar_loop.specs.Improving.{HasBegun, HasImproved}
-use Rattle.rar_loop.proofs.GoingOn.{accepted_then, goes_then}
-use Rattle.rar_loop.proofs.Blocks.{removals_clean, removals_add_none, steps_then, places_then, improve_then, block_then}
+use Rattle.rar_loop.proofs.GoingOn.{goes_then}
+use Rattle.rar_loop.proofs.Blocks.{removals_clean, removals_add_none, places_then, improve_then, block_then}
 use Rattle.rar_loop.proofs.Sizing.{HasSize, accepted_places, accepted_sources, within_by}
+use Rattle.journal_text.proofs.Public.{accepted_then, steps_then}
 
 -- what holds of a value holds of an error
 pub err_ok : {V E : Type 0} (r : Result V E) (P : E → Type 0) (Q : V → Type 0) → IsErrAnd r P → IfOk r Q

@@ -22,9 +22,10 @@ use Rattle.wire_edit.specs.declared.steps.Step.{Step}
 use Rattle.wire_edit.specs.declared.steps.Step.TheVariants.{Add, Fix, NewNot, Const, Same, NoPins, OnePin, Twice, Twin, Dead}
 use Rattle.fault_sim.specs.Following.{DiffersAmong}
 use Rattle.rar_loop.specs.declared.changes.Changed.{Changed}
-use Rattle.rar_loop.specs.Changing.{AreNoted, HasListed, HasNoted, IsNoted, IsUnlisted, ListsNoted, NotesOn, numbers_of}
-use Rattle.rar_loop.specs.Going.{ReadsNoConstants}
+use Rattle.rar_loop.specs.Changing.{AreNoted, HasListed, HasNoted, IsNoted, IsUnlisted, ListsNoted, NotesOn}
 use Rattle.rar_loop.specs.Spaces.{TouchesOn}
+use Rattle.rm_base.specs.Numbers.{numbers_of}
+use Rattle.wire_edit.specs.Removals.{ReadsNoConstants}
 
 pub on_ok : {A E : Type 0} (r : Result A E) (P Q : Type 0) → (P → Q) → OnOk r P → OnOk r Q
 on_ok (Ok a) P Q f p = f p

@@ -1,13 +1,12 @@
 -- Targets, candidates and pairs, one after another.
-use Rattle.std.proofs.Common.{◌≡◌, ℕ, zero, suc, ◌+◌, ◌<◌, ◌≤◌, ◌⊎◌, inl, inr, Bool, not, Option, Some, None, List, [], ◌∷◌, ◌++◌, length, map, take, drop, refl, sym, ◌∙◌, ap, subst, append_assoc, add-one, get_or, arith}
+use Rattle.std.proofs.Common.{◌≡◌, ℕ, zero, suc, ◌+◌, ◌<◌, ◌≤◌, ◌⊎◌, inl, inr, Bool, not, Option, Some, None, List, [], ◌∷◌, ◌++◌, length, map, take, drop, refl, sym, ◌∙◌, ap, subst, append_assoc, arith}
 use Rattle.std.specs.Prelude.{slice_get}
-use Rattle.std.proofs.lemmas.List.{append-nil}
+use Rattle.std.proofs.lemmas.List.{append-nil, length-map, map-append}
 use Rattle.rm_base.specs.declared.numbers.Fault.{Fault}
 use Rattle.gate_net.specs.Net.{Net, drivers_of, Reads}
 use Rattle.gate_net.specs.Values.{HasPin}
 use Rattle.gate_graph.specs.Circuit.{Circuit, net_of}
 use Rattle.refutation.specs.Facts.{Held}
-use Rattle.wire_edit.proofs.Public.{got}
 use Rattle.wire_edit.specs.Tests.{control_of}
 use Rattle.candidate_wires.specs.declared.candidate.Candidate.{Candidate}
 use Rattle.candidate_wires.specs.declared.candidate.Pair.{Pair}
@@ -24,6 +23,7 @@ use Rattle.rar_loop.specs.declared.walking.Tour.TheVariants as tour
 use Rattle.wire_edit.specs.Tried.{Tried}
 use Rattle.rar_loop.specs.Walking.{AreTried, IsTargetTour, IsTour, IsWalk}
 use Rattle.rar_loop.proofs.Sizing.{within_same, within_then}
+use Rattle.rm_base.proofs.Public.{stands_below, take_one_more}
 
 -- PLACES IN LISTS
 append_cases : {A : Type 0} (xs ys : List A) (k : ℕ) (x : A) → slice_get (xs ++ ys) k ≡ Some x → (slice_get xs k ≡ Some x) ⊎ ((j : ℕ) × (slice_get ys j ≡ Some x))
@@ -31,30 +31,10 @@ append_cases [] ys k x e = inr (k, e)
 append_cases (y ∷ xs) ys zero x e = inl e
 append_cases (y ∷ xs) ys (suc k) x e = append_cases xs ys k x e
 
-pub index_is : {A : Type 0} (xs : List A) (k : ℕ) (x : A) → k < length xs → x ≡ get_or xs k x → slice_get xs k ≡ Some x
-index_is {A = A} xs k x lt is = at xs k lt ∙ ap (λ (y : A). Some y) (sym is)
-  where
-    at : (ys : List A) (j : ℕ) → j < length ys → slice_get ys j ≡ Some (get_or ys j x)
-    at [] j lt = absurd (omega (arith, lt))
-    at (y ∷ ys) zero lt = refl
-    at (y ∷ ys) (suc j) lt = at ys j (omega (arith, lt))
-
-pub take_more : {A : Type 0} (xs : List A) (k : ℕ) (x : A) → slice_get xs k ≡ Some x → take (k + 1) xs ≡ take k xs ++ x ∷ []
-take_more {A = A} xs k x e = rw add-one (at xs k e)
-  where
-    at : (xs : List A) (k : ℕ) → slice_get xs k ≡ Some x → take (suc k) xs ≡ take k xs ++ x ∷ []
-    at [] k e = cc
-    at (y ∷ xs) zero e = let is : y ≡ x = cc in ap (λ (z : A). z ∷ []) is
-    at (y ∷ xs) (suc k) e = ap (λ (zs : List A). y ∷ zs) (at xs k e)
-
 split_at : {A : Type 0} (xs : List A) (k : ℕ) (x : A) → slice_get xs k ≡ Some x → xs ≡ take k xs ++ x ∷ drop (suc k) xs
 split_at [] k x e = cc
 split_at {A = A} (y ∷ xs) zero x e = let is : y ≡ x = cc in ap (λ (z : A). z ∷ xs) is
 split_at {A = A} (y ∷ xs) (suc k) x e = ap (λ (zs : List A). y ∷ zs) (split_at xs k x e)
-
-map_append : {A B : Type 0} (f : A → B) (xs ys : List A) → map f (xs ++ ys) ≡ map f xs ++ map f ys
-map_append f [] ys = refl
-map_append {B = B} f (x ∷ xs) ys = ap (λ (zs : List B). f x ∷ zs) (map_append f xs ys)
 
 -- CANDIDATES
 listed_is : (o : Option Candidate) (k : ℕ) (c : Candidate) → slice_get (listed o) k ≡ Some c → o ≡ Some c
@@ -105,7 +85,7 @@ targets_at_pin : (net : Net) (gate : ℕ) (o : Option Bool) (k : ℕ) (f : Fault
 targets_at_pin net gate None k f e = cc
 targets_at_pin net gate (Some control) k f e =
     let p : (f.gate.0 ≡ gate) × (f.position < 0 + length (drivers_of net gate)) = faults_pin gate (not control) 0 (length (drivers_of net gate)) k f e in
-    subst (λ (g : ℕ). (d : ℕ) × Reads net g f.position d) (sym p.0) (got (drivers_of net gate) f.position (omega (arith, p.1)))
+    subst (λ (g : ℕ). (d : ℕ) × Reads net g f.position d) (sym p.0) (stands_below (drivers_of net gate) f.position (omega (arith, p.1)))
 
 targets_from_pin : (net : Net) (gate count k : ℕ) (f : Fault) → slice_get (targets_from net gate count) k ≡ Some f → HasPin net f
 targets_from_pin net gate zero k f e = cc
@@ -128,7 +108,7 @@ tried_none net target here are = record { candidates = are; none = tt }
 pub tried_more : (net : Net) (target : Fault) (here : List Candidate) (k : ℕ) (c : Candidate) → AreTried net target here k → slice_get here k ≡ Some c → (Gains net (paired target c) → ⊥) → AreTried net target here (k + 1)
 tried_more net target here k c tried e fails =
     let split : map (paired target) (take (k + 1) here) ≡ map (paired target) (take k here) ++ paired target c ∷ [] =
-    ap (map (paired target)) (take_more here k c e) ∙ map_append (paired target) (take k here) (c ∷ []) in
+    ap (map (paired target)) (take_one_more here k c e) ∙ map-append (paired target) (take k here) (c ∷ []) in
     record {
       candidates = tried.candidates;
       none = subst (NoneGains net) (sym split) (none_then net (map (paired target) (take k here)) (paired target c ∷ []) tried.none (fails, tt));
@@ -183,10 +163,6 @@ length_append : {A : Type 0} (xs ys : List A) → length (xs ++ ys) ≡ length x
 length_append [] ys = omega arith
 length_append (x ∷ xs) ys = let rest : length (xs ++ ys) ≡ length xs + length ys = length_append xs ys in omega (arith, rest)
 
-length_map : {A B : Type 0} (f : A → B) (xs : List A) → length (map f xs) ≡ length xs
-length_map f [] = refl
-length_map f (x ∷ xs) = ap suc (length_map f xs)
-
 length_take : {A : Type 0} (xs : List A) (k : ℕ) (x : A) → slice_get xs k ≡ Some x → length (take k xs) ≡ k
 length_take [] k x e = cc
 length_take (y ∷ xs) zero x e = refl
@@ -210,10 +186,10 @@ pub walked_more : (net : Net) (faults : List Fault) (k left mid after : ℕ) (t 
 walked_more net faults k left mid after t here w e tried sum =
     let all : NoneGains net (map (paired t) here) = subst (λ (xs : List Candidate). NoneGains net (map (paired t) xs)) (take_all here) tried.none in
     let n : length (w.pairs ++ map (paired t) here) ≡ length w.pairs + length (map (paired t) here) = length_append w.pairs (map (paired t) here) in
-    let m : length (map (paired t) here) ≡ length here = length_map (paired t) here in
+    let m : length (map (paired t) here) ≡ length here = length-map here (paired t) in
     record {
       pairs = w.pairs ++ map (paired t) here;
-      are = subst (λ (ts : List Fault). ArePairsOf net ts (w.pairs ++ map (paired t) here)) (sym (take_more faults k t e)) (pairs_then net (take k faults) t w.pairs here w.are tried.candidates);
+      are = subst (λ (ts : List Fault). ArePairsOf net ts (w.pairs ++ map (paired t) here)) (sym (take_one_more faults k t e)) (pairs_then net (take k faults) t w.pairs here w.are tried.candidates);
       none = none_then net w.pairs (map (paired t) here) w.none all;
       sum = omega (arith, w.sum, sum, n, m);
     }
@@ -242,7 +218,7 @@ pub walked_to : (net : Net) (faults : List Fault) (k left mid : ℕ) (t : Fault)
 walked_to net faults k left mid t here place pair is w e tried same at tries sum =
     let ps : List Pair = w.pairs ++ map (paired t) (take place here) in
     let n : length ps ≡ length w.pairs + length (map (paired t) (take place here)) = length_append w.pairs (map (paired t) (take place here)) in
-    let m : length (map (paired t) (take place here)) ≡ length (take place here) = length_map (paired t) (take place here) in
+    let m : length (map (paired t) (take place here)) ≡ length (take place here) = length-map (take place here) (paired t) in
     let l : length (take place here) ≡ place = length_take here place pair.candidate at in
     record {
       pairs = ps;

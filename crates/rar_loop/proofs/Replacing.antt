@@ -11,6 +11,7 @@ use Rattle.gate_net.specs.Values.{HasPin}
 use Rattle.gate_net.specs.Edits.{fixed}
 use Rattle.std.specs.Cmp.{nat_cmp_total}
 use Rattle.std.specs.FinSet.{same_set, len, nat_cmp-IsAntisymmetric}
+use Rattle.std.proofs.lemmas.Option.{slice_get_within}
 use Rattle.gate_graph.specs.Circuit.{Circuit, wiring, net_of, live_nodes, pins_taken}
 use Rattle.gate_graph.specs.Holds.{pins_held}
 use Rattle.wire_edit.specs.Refusals.{live_count}
@@ -35,16 +36,18 @@ use Rattle.journal_text.specs.declared.record.Record.{Record}
 use Rattle.journal_text.specs.declared.record.Record.TheVariants as record_of
 use Rattle.journal_text.specs.Runs.{AcceptedTo, steps_of}
 use Rattle.rar_loop.specs.Swept.{HasSwept}
-use Rattle.wire_edit.proofs.Public.{live_bound, reader_gate, tidy_reads_none, within}
-use Rattle.rar_loop.specs.Going.{HasFreePin, HasFixed, IsLeft, Logs, IsNoLarger}
+use Rattle.wire_edit.proofs.Public.{live_bound, reader_gate, tidy_reads_none}
+use Rattle.rar_loop.specs.Going.{HasFixed, IsLeft, Logs, IsNoLarger}
 use Rattle.journal_text.specs.Runs.{AreRemovals}
 use Rattle.rar_loop.specs.Sizes.{IsSame, most_steps}
 use Rattle.rar_loop.specs.Trying.{IsBetter, IsBack, IsLent, MayTry, HasAdded, HasReplaced, IsReplaced, IsGained, IsClean}
-use Rattle.rar_loop.proofs.GoingOn.{accepted_then, removals_then}
+use Rattle.rar_loop.proofs.GoingOn.{removals_then}
 use Rattle.rar_loop.proofs.Adding.{pin_stays}
 use Rattle.rar_loop.proofs.Sizing.{HasSize, added_gates, added_numbers, accepted_places, accepted_sources, within_by}
 use Rattle.rar_loop.proofs.Opens.{open_pin_fails, open_target_fails}
 use Rattle.rar_loop.proofs.Blocks.{removals_clean, removals_add_none, accepted_after}
+use Rattle.journal_text.proofs.Public.{accepted_then}
+use Rattle.wire_edit.specs.Removals.{HasFreePin}
 
 -- THE TARGET'S PIN
 pub target_pin : (net after : Net) (pair : Pair) → IsWellFormed net → MayTry net pair → after ≡ with_candidate net pair.candidate → HasPin after pair.fault
@@ -136,7 +139,7 @@ better_of law graph better after pair depth records well size size' is replaced 
     let live : live_count net ≤ 2 + (source_count net + gate_count net) = live_bound net well in
     record {
       gained = gained_of net (net_of better) pair depth records r less;
-      within = within_by graph better size size' held (accepted_places net (net_of better) records r.accepted) (accepted_sources law net (net_of better) records well r.accepted) (omega (arith, less, r.gates))
+      slice_get_within = within_by graph better size size' held (accepted_places net (net_of better) records r.accepted) (accepted_sources law net (net_of better) records well r.accepted) (omega (arith, less, r.gates))
           (omega (arith, r.numbers, live, size.live, size.pins, less));
       few = few;
     }
@@ -199,7 +202,7 @@ lent_again t v k pins nodes left same none room first enough_pins enough_nodes e
 wire_at : (os : List (Option Node)) (x k d : ℕ) → slice_get (drivers_in (flatten_option (slice_get os x))) k ≡ Some d → 0 < sum_by (λ (o : Option Node). length (drivers_in o)) os
 wire_at [] x k d e = cc
 wire_at (o ∷ os) zero k d e =
-    let lt : k < length (drivers_in o) = within (drivers_in o) k d e in
+    let lt : k < length (drivers_in o) = slice_get_within (drivers_in o) k d e in
     let sum : sum_by (λ (q : Option Node). length (drivers_in q)) (o ∷ os) ≡ length (drivers_in o) + sum_by (λ (q : Option Node). length (drivers_in q)) os = sum_by-cons (λ (q : Option Node). length (drivers_in q)) o os in
     omega (arith, lt, sum)
 wire_at (o ∷ os) (suc x) k d e =

@@ -1,7 +1,7 @@
 -- Rounds put together.
 use Rattle.std.proofs.Common.{◌≡◌, ℕ, zero, suc, ◌+◌, ◌-◌, ◌<◌, ◌≤◌, inl, inr, true, false, Option, Some, None, List, [], ◌∷◌, ◌++◌, length, map, take, refl, sym, ◌∙◌, ap, subst, append_assoc, arith}
 use Rattle.std.specs.Prelude.{slice_get}
-use Rattle.std.proofs.lemmas.List.{length-append}
+use Rattle.std.proofs.lemmas.List.{length-append, length-map}
 use Rattle.rm_base.specs.declared.numbers.Fault.{Fault}
 use Rattle.rm_base.specs.declared.settings.Made.{Made}
 use Rattle.gate_net.specs.Net.{Net, IsWellFormed}
@@ -20,9 +20,9 @@ use Rattle.rar_loop.specs.Swept.{IsSwept}
 use Rattle.rar_loop.specs.Trying.{IsClean}
 use Rattle.rar_loop.specs.Ended.{Ends}
 use Rattle.rar_loop.specs.Rounds.{AreInVain, HasFix, HaveRounds, first, further, ArePaired, tries_of, is_settled, RunBegins, RunGoesOn}
-use Rattle.rar_loop.proofs.Blocks.{is_pending, fix_then, removals_clean, removals_add_none, accepted_after, steps_then}
-use Rattle.rar_loop.proofs.GoingOn.{accepted_then}
+use Rattle.rar_loop.proofs.Blocks.{is_pending, fix_then, removals_clean, removals_add_none, accepted_after}
 use Rattle.rar_loop.proofs.Looping.{clean_then}
+use Rattle.journal_text.proofs.Public.{accepted_then, steps_then}
 
 -- the places of additions stay, whatever follows their fixes
 places_on : (made : Option NewNode) (net : Net) (xs ys : List Step) (n m : ℕ) → IsClean (is_pending made) xs → ArePlaces (additions_from made net xs) n → ArePlaces (additions_from None (net_after net xs) ys) m → ArePlaces (additions_from made net (xs ++ ys)) (n + m)
@@ -84,10 +84,6 @@ pairs_later : (net : Net) (ts us : List Fault) (ps : List Pair) → ArePairsOf n
 pairs_later net [] us ps a = (ps, a)
 pairs_later net (t ∷ ts) us ps (here, (of_here, (rest, (of_rest, split)))) = pairs_later net ts us rest of_rest
 
-length_map : {A B : Type 0} (f : A → B) (xs : List A) → length (map f xs) ≡ length xs
-length_map f [] = refl
-length_map f (x ∷ xs) = ap suc (length_map f xs)
-
 length_take : {A : Type 0} (xs : List A) (k : ℕ) (x : A) → slice_get xs k ≡ Some x → (length (take k xs) ≡ k) × (k < length xs)
 length_take [] k x e = cc
 length_take (y ∷ xs) zero x e = (refl, omega arith)
@@ -105,10 +101,10 @@ not_all law net at pairs well b all =
     let same : pairs ≡ b.of_earlier ++ (map (paired at.fault) b.here ++ rest) = law net pairs (b.of_earlier ++ (map (paired at.fault) b.here ++ rest)) well all other in
     let long : length pairs ≡ length b.of_earlier + (length b.here + length rest) =
     ap (λ (ps : List Pair). length ps) same ∙ length-append b.of_earlier (map (paired at.fault) b.here ++ rest)
-    ∙ ap (λ (k : ℕ). length b.of_earlier + k) (length-append (map (paired at.fault) b.here) rest ∙ ap (λ (k : ℕ). k + length rest) (length_map (paired at.fault) b.here)) in
+    ∙ ap (λ (k : ℕ). length b.of_earlier + k) (length-append (map (paired at.fault) b.here) rest ∙ ap (λ (k : ℕ). k + length rest) (length-map b.here (paired at.fault))) in
     let cut : (length (take b.place b.here) ≡ b.place) × (b.place < length b.here) = length_take b.here b.place at.candidate b.is_here in
     let short : length pairs ≡ length b.of_earlier + b.place =
-    ap (λ (ps : List Pair). length ps) b.are ∙ length-append b.of_earlier (map (paired at.fault) (take b.place b.here)) ∙ ap (λ (k : ℕ). length b.of_earlier + k) (length_map (paired at.fault) (take b.place b.here) ∙ cut.0) in
+    ap (λ (ps : List Pair). length ps) b.are ∙ length-append b.of_earlier (map (paired at.fault) (take b.place b.here)) ∙ ap (λ (k : ℕ). length b.of_earlier + k) (length-map (take b.place b.here) (paired at.fault) ∙ cut.0) in
     omega (arith, long, short, cut.1)
 
 -- HOW A CALL ENDS

@@ -3,6 +3,7 @@ use Rattle.std.proofs.Common.{◌≡◌, ℕ, zero, suc, ◌+◌, ◌≤◌, Boo
 use Rattle.std.specs.Prelude.{slice_get, slice_set, max, if◌then◌else◌}
 use Rattle.std.specs.List.{sum_by}
 use Rattle.std.proofs.lemmas.List.Sums.{sum_by-cons}
+use Rattle.std.proofs.lemmas.List.{length-map}
 use Rattle.rm_base.specs.declared.numbers.NodeId.{NodeId}
 use Rattle.gate_net.specs.Net.{Node, Net, node_at, flatten_option, IsWellFormed, gate_count, source_count, wire_count, trimmed}
 use Rattle.gate_net.specs.declared.Kind.TheVariants.{Not}
@@ -112,16 +113,11 @@ added_one net c =
     let b : length (net_for net c).nodes ≤ length net.nodes + 1 = one_for net c.node c.fresh in
     omega (arith, a, b)
 
--- OBSERVED PLACES AND SOURCES
-length_map : {A B : Type 0} (f : A → B) (xs : List A) → length (map f xs) ≡ length xs
-length_map f [] = refl
-length_map f (x ∷ xs) = ap suc (length_map f xs)
-
 places_stay : (net : Net) (change : Change) → length (changed net change).observed ≡ length net.observed
 places_stay net (append gate driver) = refl
 places_stay net (remove gate position) = refl
 places_stay net (fix gate position value) = refl
-places_stay net (readers from to) = length_map (redirected from to) net.observed
+places_stay net (readers from to) = length-map net.observed (redirected from to)
 places_stay net (new_not driver) = refl
 places_stay net (retire gate) = refl
 

@@ -4,13 +4,13 @@ use Rattle.std.proofs.Common.{◌≡◌, ◌≢◌, ℕ, Bool, true, false, not,
 use Rattle.std.specs.Prelude.{slice_get, slice_set, nat_eq, if◌then◌else◌}
 use Rattle.std.proofs.lemmas.Bool.Decides.{eqb_tells}
 use Rattle.std.proofs.lemmas.Bool.{eq-eqb}
+use Rattle.std.proofs.Math.Bool.{not-not}
 use Rattle.rm_base.specs.declared.numbers.Fault.{Fault}
-use Rattle.gate_net.proofs.Public.{controlled, gate_more, map_agree, map_at, map_last_set, node_at-other, node_at-there, not_not, reads_elsewhere, reads_there, set_there, value_at, values_unique}
+use Rattle.gate_net.proofs.Public.{controlled, gate_more, node_at-other, node_at-there, reads_elsewhere, reads_there, value_at, values_unique}
 use Rattle.gate_net.specs.Net.{Net, node_at, drivers_in, drivers_of, Reads, IsLive, IsObserved, IsWellFormed}
 use Rattle.gate_net.specs.Values.{AreGoodValues, AreFaultyValues, Detects, IsJunction, IsRun, faulty_reads, gate_value, node_value}
 use Rattle.gate_net.specs.Edits.{with_pin, last_pin}
 use Rattle.gate_net.specs.Laws.{OutsideIsEqual}
-use Rattle.wire_edit.proofs.Public.{last_there}
 use Rattle.wire_edit.specs.Changes.{with_new_not}
 use Rattle.candidate_wires.specs.declared.candidate.Candidate.{Candidate}
 use Rattle.candidate_wires.specs.Gains.{least_free, net_for, with_candidate}
@@ -18,6 +18,7 @@ use Rattle.rar_loop.specs.Rows.{stuck}
 use Rattle.rar_loop.specs.Trying.{MayAdd}
 use Rattle.rar_loop.proofs.NewNots.{live_apart, least_dead, not_there, not_other}
 use Rattle.rar_loop.proofs.Adding.{gate_of, node_of, last_same}
+use Rattle.rm_base.proofs.Public.{last_stands, map_agree, map_at, map_last_set, set_there}
 
 -- THE WIRE'S PIN
 module _ (net : Net) (y z p d : ℕ) (c : Bool) (a v f : ℕ → Bool) (j : IsJunction net y c) (reads : Reads net y p d) (run : IsRun net (stuck y p c) a v f) (value : f z ≡ c) where
@@ -42,7 +43,7 @@ module _ (net : Net) (y z p d : ℕ) (c : Bool) (a v f : ℕ → Bool) (j : IsJu
   wired : node_value (node_at after y) (a y) (map f (drivers_of after y)) ≡ c
   wired =
       ap (λ o. node_value o (a y) (map f (drivers_in o))) there
-      ∙ controlled j.0 c (a y) (map f (ds ++ z ∷ [])) (length ds) j.1.1 (map_at f (ds ++ z ∷ []) (length ds) z (last_there ds z) ∙ ap (λ (b : Bool). Some b) value)
+      ∙ controlled j.0 c (a y) (map f (ds ++ z ∷ [])) (length ds) j.1.1 (map_at f (ds ++ z ∷ []) (length ds) z (last_stands ds z) ∙ ap (λ (b : Bool). Some b) value)
 
   wired_good : AreGoodValues after a f
   wired_good x = elim (eqb_tells x y) [
@@ -160,7 +161,7 @@ wire_detected law net c may p d a w well reads (v, (f, (run, (o, (obs, ne))))) g
         let v' : ℕ → Bool = with_not_value net x v in
         let f' : ℕ → Bool = with_not_value net x f in
         let r : IsRun m (stuck y p control) a v' f' = not_run net x well live (stuck y p control) gate a v f run in
-        let high : f' n ≡ control = value_at_new net x well live f ∙ ap not (same ∙ value) ∙ not_not control in
+        let high : f' n ≡ control = value_at_new net x well live f ∙ ap not (same ∙ value) ∙ not-not control in
         let is_junction : IsJunction m y control = (may.1.junction.0, ((may.1.junction.1.0.0, not_other net x y (live_apart net y gate) ∙ may.1.junction.1.0.1), may.1.junction.1.1)) in
         let still : Reads m y p d = ap (λ q. slice_get (drivers_in q) p) (not_other net x y (live_apart net y gate)) ∙ reads in
         let s : IsRun (with_pin m y n) (last_pin m y (not control)) a f' v' = wired_run m y n p d control a v' f' is_junction still r high in

@@ -1,5 +1,5 @@
 -- The nodes that steps change.
-use Rattle.std.specs.Prelude.{◌≡◌, ◌≢◌, ◌<◌, ℕ, List, Some, map, slice_get}
+use Rattle.std.specs.Prelude.{◌≡◌, ◌≢◌, ◌<◌, ℕ, List, Some, slice_get}
 use Rattle.rm_base.specs.declared.numbers.NodeId.{NodeId}
 use Rattle.gate_net.specs.Net.{IsWellFormed, Net, Reads, node_at}
 use Rattle.gate_graph.specs.Changes.{Edits}
@@ -8,9 +8,7 @@ use Rattle.wire_edit.specs.Edited.{edit_of, IsNewNot}
 use Rattle.wire_edit.specs.Steps.{Applies, change_of}
 use Rattle.wire_edit.specs.declared.steps.Step.{Step}
 use Rattle.rar_loop.specs.declared.changes.Changed.{Changed}
-
-abbrev pub numbers_of : List NodeId → List ℕ
-numbers_of nodes = map (λ (n : NodeId). n.0) nodes
+use Rattle.rm_base.specs.Numbers.{numbers_of}
 
 abbrev pub IsUnlisted : List ℕ → ℕ → Type 0
 IsUnlisted xs x = (k : ℕ) → slice_get xs k ≡ Some x → ⊥

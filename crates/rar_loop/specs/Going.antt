@@ -1,7 +1,7 @@
 -- What fixes and tidying do inside a trial.
-use Rattle.std.specs.Prelude.{◌≡◌, ◌<◌, ◌≤◌, ◌+◌, ◌++◌, ◌∷◌, ℕ, List, length}
+use Rattle.std.specs.Prelude.{◌≡◌, ◌≤◌, ◌+◌, ◌++◌, ◌∷◌, ℕ, List, length}
 use Rattle.rm_base.specs.declared.numbers.Fault.{Fault}
-use Rattle.gate_net.specs.Net.{Net, Reads, wire_count, gate_count}
+use Rattle.gate_net.specs.Net.{Net, wire_count, gate_count}
 use Rattle.gate_graph.specs.Circuit.{net_of}
 use Rattle.gate_graph.specs.Holds.{HoldsOn}
 use Rattle.wire_edit.specs.declared.steps.Step.TheVariants.{Fix}
@@ -45,13 +45,6 @@ pub record Goes (old new : Tried) (log log' : List Record) : Type 0 where
   pub room : (k : ℕ) → work (net_of old.graph) + k ≤ old.room.steps → work (net_of new.graph) + k ≤ new.room.steps
   pub tallies : Tallies old new log log'
   pub left : IsLeft old new 0 0
-
--- a pin that no constant drives
-abbrev pub HasFreePin : Net → Fault → Type 0
-HasFreePin net fault = (driver : ℕ) × (Reads net fault.gate.0 fault.position driver × (1 < driver))
-
-abbrev pub ReadsNoConstants : Net → Type 0
-ReadsNoConstants net = (y position x : ℕ) → Reads net y position x → 1 < x
 
 -- the fix was recorded with its tree, and then removals
 pub record HasFixed (fault : Fault) (tree : List Item) (old new : List Record) : Type 0 where

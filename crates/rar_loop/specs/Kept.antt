@@ -7,9 +7,9 @@ use Rattle.fault_sim.specs.LaneStates.{Fits, IsSimulated}
 use Rattle.fault_sim.specs.Words.{all_ones, assignment, lane}
 use Rattle.wire_edit.specs.Tests.{control_of}
 use Rattle.rm_base.specs.declared.numbers.NodeId.{NodeId}
-use Rattle.rar_loop.specs.Changing.{numbers_of}
 use Rattle.rar_loop.specs.Rows.{stuck}
 use Rattle.rar_loop.specs.declared.vectors.Vectors.{Vectors}
+use Rattle.rm_base.specs.Numbers.{numbers_of}
 
 -- the lanes in which a word has the value
 abbrev pub lanes_with : Bool → ℕ → ℕ

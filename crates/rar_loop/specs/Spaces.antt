@@ -8,10 +8,11 @@ use Rattle.gate_graph.specs.Circuit.{net_of}
 use Rattle.wire_edit.specs.Order.{IsTidy}
 use Rattle.recursive_learning.specs.Serving.{IsServing}
 use Rattle.rar_loop.specs.declared.changes.Changed.{Changed}
-use Rattle.rar_loop.specs.Changing.{AreNoted, numbers_of}
+use Rattle.rar_loop.specs.Changing.{AreNoted}
 use Rattle.rar_loop.specs.Kept.{AreFor}
 use Rattle.rar_loop.specs.Trying.{IsLent}
 use Rattle.rar_loop.specs.declared.workspace.Workspace.{Workspace}
+use Rattle.rm_base.specs.Numbers.{numbers_of}
 
 -- what differed from an earlier net among the nodes that were touched before differs from it among those touched now
 abbrev pub TouchesOn : Net → Net → List NodeId → List NodeId → Type 0

@@ -10,7 +10,8 @@ ghost use Rattle.candidate_wires.specs.Gains.{net_for, wire_for, with_candidate}
 ghost use Rattle.recursive_learning.specs.Serving.{IsServing};
 ghost use Rattle.rar_loop.specs.Going.{IsLeft, Tallies};
 ghost use Rattle.rar_loop.specs.Kept.{AreFor};
-ghost use Rattle.rar_loop.specs.Changing.{NotesOn, numbers_of};
+ghost use Rattle.rar_loop.specs.Changing.{NotesOn};
+ghost use Rattle.rm_base.specs.Numbers.{numbers_of};
 ghost use Rattle.rar_loop.specs.Spaces.{HasToolsFor, IsReady, TouchesOn};
 ghost use Rattle.rar_loop.specs.Trying.{MayAdd, MayTry, HasAdded, HasReplaced, IsAttempt, IsBack, IsLent, IsReadyToAdd, not_records};
 

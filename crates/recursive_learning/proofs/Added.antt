@@ -1,7 +1,6 @@
 -- Adding a good value to settled facts.
 use Rattle.std.proofs.Common.{Bool, List, None, Option, Some, ap, false, inl, inr, not, refl, true, ℕ, ◌∙◌, ◌≡◌, ◌≢◌}
 use Rattle.std.specs.Prelude.{is_some}
-use Rattle.gate_net.proofs.Public.{bool_cases}
 use Rattle.gate_net.specs.Net.{IsLive, IsWellFormed, Net}
 use Rattle.gate_net.specs.Values.{HasPin}
 use Rattle.implications.specs.Outcomes.{IsExtended}
@@ -15,6 +14,7 @@ use Rattle.refutation.specs.declared.reasoning.Fact.TheVariants.{Good}
 use Rattle.refutation.specs.declared.reasoning.Line.{Line}
 use Rattle.rm_base.specs.declared.numbers.Fault.{Fault}
 use Rattle.rm_base.specs.declared.numbers.NodeId.{NodeId}
+use Rattle.rm_base.proofs.Public.{bool_cases}
 
 pub added_is : (net : Net) (fault : Fault) (held : Held) (x : ℕ) (b : Bool) (lines : List Line) (facts : List NodeFacts) (o : Option NodeId) → IsWellFormed net → HasPin net fault → AreSettled net fault held → IsLive net x → IsExtended net fault (with_fact held x (Good b)) lines facts o → IsLearned net fault 0 (with_fact held x (Good b)) (is_some o) (held_by facts)
 added_is net fault held x b lines facts None formed stuck settled live open' = (

@@ -9,12 +9,7 @@ use Rattle.refutation.specs.Facts.{Held, known_good}
 use Rattle.refutation.specs.declared.reasoning.Fact.{Fact}
 use Rattle.refutation.specs.declared.reasoning.Fact.TheVariants.{Good}
 use Rattle.rm_base.specs.declared.numbers.NodeId.{NodeId}
-
-pub pushed_at : {A : Type 0} (xs : List A) (x : A) (p : ℕ) (a : A) → slice_get (xs ++ x ∷ []) p ≡ Some a → (slice_get xs p ≡ Some a) ⊎ (a ≡ x)
-pushed_at [] x zero a e = inr (let same : x ≡ a = cc in sym same)
-pushed_at [] x (suc p) a e = cc
-pushed_at (y ∷ xs) x zero a e = inl e
-pushed_at (y ∷ xs) x (suc p) a e = pushed_at xs x p a e
+use Rattle.rm_base.proofs.Public.{last_cases}
 
 pub still_at : {A : Type 0} (xs : List A) (x : A) (p : ℕ) (a : A) → slice_get xs p ≡ Some a → slice_get (xs ++ x ∷ []) p ≡ Some a
 still_at [] x p a e = cc
@@ -36,7 +31,7 @@ pub goods_none : (held : Held) → AreGoodsOf [] held []
 goods_none held = record { all = λ x b (k, (a, (there, is))) known. cc; each = λ k g e. cc }
 
 among_before : (added : List (NodeId × Fact)) (entry : NodeId × Fact) (x : ℕ) (fact : Fact) → IsAmong (added ++ entry ∷ []) x fact → IsAmong added x fact ⊎ ((entry.0.0 ≡ x) × (entry.1 ≡ fact))
-among_before added entry x fact (k, (a, (there, is))) = elim (pushed_at added entry k a there) [
+among_before added entry x fact (k, (a, (there, is))) = elim (last_cases added entry k a there) [
   | inl old ↦ inl (k, (a, (old, is)))
   | inr same ↦ inr (sym (ap (λ (e : NodeId × Fact). e.0.0) same) ∙ is.0, sym (ap (λ (e : NodeId × Fact). e.1) same) ∙ is.1)
 ]
@@ -60,7 +55,7 @@ goods_push added held goods entry b of is known = record {
     | inl old ↦ among_still goods (record { node = entry.0; value = b }) x c (of.all x c old there)
     | inr same ↦ let good : Good b ≡ Good c = sym is ∙ same.1 in among_last goods (record { node = entry.0; value = b }) x c same.0 (let e : b ≡ c = cc in e)
   ];
-  each = λ k g there. elim (pushed_at goods (record { node = entry.0; value = b }) k g there) [
+  each = λ k g there. elim (last_cases goods (record { node = entry.0; value = b }) k g there) [
     | inl old ↦ (among_more added entry g.node.0 (Good g.value) (of.each k g old).0, (of.each k g old).1)
     | inr same ↦ let last : (p : ℕ) × (slice_get (added ++ entry ∷ []) p ≡ Some entry) = last_at added entry in
         rw same ((last.0, (entry, (last.1, (refl, is)))), known)
@@ -72,7 +67,7 @@ pub kept_none : (held : Held) → AreHeldAmong [] held []
 kept_none held = record { all = λ x b (k, (g, (there, is))) known. cc; each = λ k g e. cc }
 
 goods_before : (goods : List GoodValue) (good : GoodValue) (x : ℕ) (b : Bool) → IsAmongGoods (goods ++ good ∷ []) x b → IsAmongGoods goods x b ⊎ ((good.node.0 ≡ x) × (good.value ≡ b))
-goods_before goods good x b (k, (g, (there, is))) = elim (pushed_at goods good k g there) [
+goods_before goods good x b (k, (g, (there, is))) = elim (last_cases goods good k g there) [
   | inl old ↦ inl (k, (g, (old, is)))
   | inr same ↦ inr (sym (ap (λ (e : GoodValue). e.node.0) same) ∙ is.0, sym (ap (λ (e : GoodValue). e.value) same) ∙ is.1)
 ]
@@ -92,7 +87,7 @@ kept_push goods held kept good of known = record {
     | inl old ↦ among_still kept good x b (of.all x b old there)
     | inr same ↦ among_last kept good x b same.0 same.1
   ];
-  each = λ k g there. elim (pushed_at kept good k g there) [
+  each = λ k g there. elim (last_cases kept good k g there) [
     | inl old ↦ ((((of.each k g old).0).0, still_at goods good ((of.each k g old).0).0 g ((of.each k g old).0).1), (of.each k g old).1)
     | inr same ↦ rw same (last_at goods good, known)
   ];

@@ -7,12 +7,7 @@ use Rattle.std.proofs.lemmas.Option.{slice_get_read, slice_get_within}
 use Rattle.std.specs.Prelude.{slice_get, slice_index, slice_set}
 use Rattle.recursive_learning.specs.Resting.{IsIndex, IsLast, IsLonger, IsWatched}
 use Rattle.recursive_learning.specs.declared.resting.Entry.{Entry}
-
--- PLACES IN A LIST
-pub get_left : {A : Type 0} (xs ys : List A) (k : ℕ) (a : A) → slice_get xs k ≡ Some a → slice_get (xs ++ ys) k ≡ Some a
-get_left [] ys k a e = cc
-get_left (x ∷ xs) ys zero a e = e
-get_left (x ∷ xs) ys (suc k) a e = get_left xs ys k a e
+use Rattle.rm_base.proofs.Public.{front_stands, last_stands, one_stands}
 
 -- a place of a longer list is one of the list before, or the new one
 pub get_pushed : {A : Type 0} (xs : List A) (x : A) (k : ℕ) (a : A) → slice_get (xs ++ x ∷ []) k ≡ Some a → ((k < length xs) × (slice_get xs k ≡ Some a)) ⊎ ((k ≡ length xs) × (a ≡ x))
@@ -24,13 +19,6 @@ get_pushed (y ∷ xs) x (suc k) a e = elim (get_pushed xs x k a e) [
   | inr new ↦ inr (ap suc new.0, new.1)
 ]
 
-pub get_last : {A : Type 0} (xs : List A) (x : A) → slice_get (xs ++ x ∷ []) (length xs) ≡ Some x
-get_last [] x = refl
-get_last (y ∷ xs) x = get_last xs x
-
-same_at : {A : Type 0} (xs : List A) (k : ℕ) (a b : A) → slice_get xs k ≡ Some a → slice_get xs k ≡ Some b → a ≡ b
-same_at xs k a b e f = cc
-
 pub longer_none : (xs : List Entry) → IsLonger xs xs
 longer_none xs = ([], sym (append-nil xs))
 
@@ -38,7 +26,7 @@ pub longer_join : (xs ys zs : List Entry) → IsLonger xs ys → IsLonger ys zs 
 longer_join xs ys zs (r, e) (s, f) = (r ++ s, f ∙ ap (λ (l : List Entry). l ++ s) e ∙ append_assoc xs r s)
 
 pub watched_longer : (xs ys : List Entry) → IsLonger xs ys → (z y : ℕ) → IsWatched xs z y → IsWatched ys z y
-watched_longer xs ys (r, e) z y (k, (a, (there, is))) = (k, (a, (rw e (get_left xs r k a there), is)))
+watched_longer xs ys (r, e) z y (k, (a, (there, is))) = (k, (a, (rw e (front_stands xs r k a there), is)))
 
 -- NOTHING YET
 pub index_none : (n : ℕ) (last : List ℕ) → last ≡ replicate n 0 → IsIndex [] last
@@ -62,7 +50,7 @@ index_none n last e = rw e (record {
 last_left : (entries : List Entry) (e : Entry) (z n at : ℕ) → n ≤ length entries → IsLast entries z n at → IsLast (entries ++ e ∷ []) z n at
 last_left entries e z n at le l = record {
   within = l.within;
-  there = λ k is. let h : (e' : Entry) × ((slice_get entries k ≡ Some e') × (e'.place ≡ z)) = l.there k is in (h.0, (get_left entries (e ∷ []) k h.0 h.1.0, h.1.1));
+  there = λ k is. let h : (e' : Entry) × ((slice_get entries k ≡ Some e') × (e'.place ≡ z)) = l.there k is in (h.0, (front_stands entries (e ∷ []) k h.0 h.1.0, h.1.1));
   none = λ k e' there less place. elim (get_pushed entries e k e' there) [
     | inl old ↦ l.none k e' old.1 less place
     | inr new ↦ absurd (let is : k ≡ length entries = new.0 in omega arith)
@@ -89,7 +77,7 @@ module _ (entries : List Entry) (last : List ℕ) (place gate : ℕ) (h : IsInde
   here : IsLast more place (length more) (length entries + 1)
   here = record {
     within = omega (arith, longer);
-    there = λ k is. let same : length entries ≡ k = omega arith in (new, (rw (← same) (get_last entries new), refl));
+    there = λ k is. let same : length entries ≡ k = omega arith in (new, (rw (← same) (last_stands entries new), refl));
     none = λ k e there less is. omega (arith, longer);
   }
 
@@ -97,7 +85,7 @@ module _ (entries : List Entry) (last : List ℕ) (place gate : ℕ) (h : IsInde
   other : (z : ℕ) → z ≢ place → z < length last → IsLast more z (length more) (slice_index last z)
   other z ne less = record {
     within = let w : slice_index last z ≤ length entries = (h.lasts z less).within in omega (arith, longer);
-    there = λ k is. let t : (e : Entry) × ((slice_get entries k ≡ Some e) × (e.place ≡ z)) = (h.lasts z less).there k is in (t.0, (get_left entries (new ∷ []) k t.0 t.1.0, t.1.1));
+    there = λ k is. let t : (e : Entry) × ((slice_get entries k ≡ Some e) × (e.place ≡ z)) = (h.lasts z less).there k is in (t.0, (front_stands entries (new ∷ []) k t.0 t.1.0, t.1.1));
     none = λ k e there low is. elim (get_pushed entries new k e there) [
       | inl old ↦ (h.lasts z less).none k e old.1 old.0 is
       | inr last' ↦ absurd (ne (sym is ∙ ap (λ (a : Entry). a.place) last'.1))
@@ -128,7 +116,7 @@ module _ (entries : List Entry) (last : List ℕ) (place gate : ℕ) (h : IsInde
   }
 
   pub watched_push : IsWatched more place gate
-  watched_push = (length entries, (new, (get_last entries new, (refl, refl))))
+  watched_push = (length entries, (new, (last_stands entries new, (refl, refl))))
 
 -- ONE LESS
 module _ (entries : List Entry) (e : Entry) (last : List ℕ) (h : IsIndex (entries ++ e ∷ []) last) where
@@ -150,11 +138,11 @@ module _ (entries : List Entry) (e : Entry) (last : List ℕ) (h : IsIndex (entr
           | inl old ↦ (t.0, (old.1, t.1.1))
           | inr new ↦ absurd (let same : k ≡ length entries = new.0 in omega arith)
         ];
-    none = λ k e' there less is. l.none k e' (get_left entries (e ∷ []) k e' there) less is;
+    none = λ k e' there less is. l.none k e' (front_stands entries (e ∷ []) k e' there) less is;
   }
 
   gone_here : IsLast entries e.place (length entries) e.before
-  gone_here = let b : IsLast (entries ++ e ∷ []) e.place (length entries) e.before = h.befores (length entries) e (get_last entries e) in left_last e.place (length entries) e.before (omega arith) b.within b
+  gone_here = let b : IsLast (entries ++ e ∷ []) e.place (length entries) e.before = h.befores (length entries) e (last_stands entries e) in left_last e.place (length entries) e.before (omega arith) b.within b
 
   -- another place doesn't have the last entry
   low_other : (z : ℕ) → z ≢ e.place → (less : z < length last) → slice_index last z ≤ length entries
@@ -162,7 +150,7 @@ module _ (entries : List Entry) (e : Entry) (last : List ℕ) (h : IsIndex (entr
     | inl high ↦ let w : slice_index last z ≤ length (entries ++ e ∷ []) = (h.lasts z less).within in
         let is : slice_index last z ≡ suc (length entries) = omega (arith, all_long) in
         let t : (e' : Entry) × ((slice_get (entries ++ e ∷ []) (length entries) ≡ Some e') × (e'.place ≡ z)) = (h.lasts z less).there (length entries) is in
-        absurd (ne (sym t.1.1 ∙ ap (λ (a : Entry). a.place) (same_at (entries ++ e ∷ []) (length entries) t.0 e t.1.0 (get_last entries e))))
+        absurd (ne (sym t.1.1 ∙ ap (λ (a : Entry). a.place) (one_stands (entries ++ e ∷ []) (length entries) t.0 e t.1.0 (last_stands entries e))))
     | inr low ↦ low
   ]
 
@@ -174,12 +162,12 @@ module _ (entries : List Entry) (e : Entry) (last : List ℕ) (h : IsIndex (entr
           | inl old ↦ (t.0, (old.1, t.1.1))
           | inr new ↦ absurd (let same : k ≡ length entries = new.0 in omega arith)
         ];
-    none = λ k e' there less' is. (h.lasts z less).none k e' (get_left entries (e ∷ []) k e' there) (omega (arith, all_long)) is;
+    none = λ k e' there less' is. (h.lasts z less).none k e' (front_stands entries (e ∷ []) k e' there) (omega (arith, all_long)) is;
   }
 
   gone_at : (z : ℕ) → z < length last → IsLast entries z (length entries) (slice_index cleared z)
   gone_at z less = elim (eqb_tells z e.place) [
-    | inl same ↦ subst (λ (w : ℕ). IsLast entries w (length entries) (slice_index cleared w)) (sym same.1) (subst (IsLast entries e.place (length entries)) (sym (get_or-set_same last e.place e.before 0 (h.places (length entries) e (get_last entries e)))) gone_here)
+    | inl same ↦ subst (λ (w : ℕ). IsLast entries w (length entries) (slice_index cleared w)) (sym same.1) (subst (IsLast entries e.place (length entries)) (sym (get_or-set_same last e.place e.before 0 (h.places (length entries) e (last_stands entries e)))) gone_here)
     | inr ne ↦ subst (IsLast entries z (length entries)) (sym (get_or-set_other last e.place z e.before 0 ne.1)) (gone_other z ne.1 less)
   ]
 
@@ -187,10 +175,10 @@ module _ (entries : List Entry) (e : Entry) (last : List ℕ) (h : IsIndex (entr
   index_pop = record {
     lasts = λ z less. gone_at z (omega (arith, clear_long));
     befores = λ k e' there. let less : k < length entries = slice_get_within entries k e' there in
-        let b : IsLast (entries ++ e ∷ []) e'.place k e'.before = h.befores k e' (get_left entries (e ∷ []) k e' there) in
+        let b : IsLast (entries ++ e ∷ []) e'.place k e'.before = h.befores k e' (front_stands entries (e ∷ []) k e' there) in
         left_last e'.place k e'.before (omega arith) b.within b;
-    places = λ k e' there. let p : e'.place < length last = h.places k e' (get_left entries (e ∷ []) k e' there) in omega (arith, clear_long);
-    gates = λ k e' there. let p : e'.gate < length last = h.gates k e' (get_left entries (e ∷ []) k e' there) in omega (arith, clear_long);
+    places = λ k e' there. let p : e'.place < length last = h.places k e' (front_stands entries (e ∷ []) k e' there) in omega (arith, clear_long);
+    gates = λ k e' there. let p : e'.gate < length last = h.gates k e' (front_stands entries (e ∷ []) k e' there) in omega (arith, clear_long);
   }
 
 -- GOING BACK
@@ -207,7 +195,7 @@ sees_next entries last z k e Seen h there is sees seen j a at le place = elim (c
   | inl above ↦ sees j a at (omega arith) place
   | inr below ↦ elim (cases_lt j k) [
     | inl before ↦ let low : j < e.before = (h.befores k e there).none j a at before (place ∙ sym is) in absurd (omega arith)
-    | inr same' ↦ let same : j ≡ k = omega arith in subst Seen (ap (λ (b : Entry). b.gate) (same_at entries k e a there (subst (λ (i : ℕ). slice_get entries i ≡ Some a) same at))) seen
+    | inr same' ↦ let same : j ≡ k = omega arith in subst Seen (ap (λ (b : Entry). b.gate) (one_stands entries k e a there (subst (λ (i : ℕ). slice_get entries i ≡ Some a) same at))) seen
   ]
 ]
 
@@ -229,10 +217,10 @@ entry_read entries z number r some l read =
     let is : number ≡ suc (number - 1) = omega arith in
     let t : (e : Entry) × ((slice_get entries (number - 1) ≡ Some e) × (e.place ≡ z)) = l.there (number - 1) is in
     let there : slice_get entries (number - 1) ≡ Some r = slice_get_read entries (length entries) (number - 1) r refl (slice_get_within entries (number - 1) t.0 t.1.0) read in
-    (there, ap (λ (a : Entry). a.place) (same_at entries (number - 1) r t.0 there t.1.0) ∙ t.1.1)
+    (there, ap (λ (a : Entry). a.place) (one_stands entries (number - 1) r t.0 there t.1.0) ∙ t.1.1)
 
 -- where the last entry of the place is of the gate, the gate rests on it
 pub watched_last : (entries : List Entry) (last : List ℕ) (z y k : ℕ) (e : Entry) → IsIndex entries last → z < length last → slice_index last z ≡ suc k → slice_get entries k ≡ Some e → e.gate ≡ y → IsWatched entries z y
 watched_last entries last z y k e h less is there gate =
     let t : (e' : Entry) × ((slice_get entries k ≡ Some e') × (e'.place ≡ z)) = (h.lasts z less).there k is in
-    (k, (e, (there, (ap (λ (a : Entry). a.place) (same_at entries k e t.0 there t.1.0) ∙ t.1.1, gate))))
+    (k, (e, (there, (ap (λ (a : Entry). a.place) (one_stands entries k e t.0 there t.1.0) ∙ t.1.1, gate))))

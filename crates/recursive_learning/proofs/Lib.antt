@@ -5,6 +5,7 @@ pub mod Tells
 pub mod Open
 pub mod OpenDrivers
 pub mod Goods
+pub mod Defaults
 pub mod Gains
 pub mod Commons
 pub mod Rounds

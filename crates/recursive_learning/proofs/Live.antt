@@ -1,7 +1,7 @@
 -- Facts to which lines lead are on live nodes.
-use Rattle.std.proofs.Common.{List, None, Option, Some, [], inl, inr, refl, ◌∷◌, ◌≡◌, ◌≢◌, ℕ}
+use Rattle.std.proofs.Common.{List, [], inl, inr, ◌∷◌, ℕ}
 use Rattle.std.specs.Prelude.{IsTrue}
-use Rattle.gate_net.specs.Net.{IsLive, IsWellFormed, Net, Node, node_at}
+use Rattle.gate_net.specs.Net.{IsLive, IsWellFormed, Net}
 use Rattle.gate_net.specs.Values.{HasPin}
 use Rattle.refutation.proofs.Public.{concludes_live, with_cases}
 use Rattle.refutation.specs.Closing.{LinesLead}
@@ -9,13 +9,6 @@ use Rattle.refutation.specs.Facts.{Held, with_fact}
 use Rattle.refutation.specs.declared.reasoning.Fact.{Fact}
 use Rattle.refutation.specs.declared.reasoning.Line.{Line}
 use Rattle.rm_base.specs.declared.numbers.Fault.{Fault}
-
-pub node_live : (net : Net) (x : ℕ) → node_at net x ≢ None → IsLive net x
-node_live net x live = at (node_at net x) refl
-  where
-    at : (o : Option Node) → node_at net x ≡ o → IsLive net x
-    at None is = absurd (live is)
-    at (Some n) is = (n.kind, (n.drivers, is))
 
 -- each fact is of a live node
 abbrev pub AreLive : Net → Held → Type 0

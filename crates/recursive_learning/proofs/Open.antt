@@ -1,10 +1,10 @@
 -- Drivers that may give a gate its value.
-use Rattle.std.proofs.Common.{Bool, List, Option, Some, [], ap, false, inl, inr, map, not, refl, suc, sym, true, zero, ℕ, ◌∙◌, ◌∷◌, ◌≡◌}
+use Rattle.std.proofs.Common.{Bool, List, Option, Some, [], ap, false, inl, inr, map, refl, suc, sym, true, zero, ℕ, ◌∙◌, ◌∷◌, ◌≡◌}
 use Rattle.std.specs.List.{list_any}
 use Rattle.std.specs.Prelude.{slice_get}
-use mathlib.Core.Bool.{beq}
+use Rattle.std.proofs.Math.Bool.{or-true}
 use Rattle.gate_net.specs.Forward.{is_known}
-use Rattle.gate_net.proofs.Public.{is_known_true, or_true}
+use Rattle.gate_net.proofs.Public.{is_known_true}
 use Rattle.gate_net.specs.Net.{Net, drivers_of, kind_in, kind_of}
 use Rattle.gate_net.specs.Values.{controlling}
 use Rattle.gate_net.specs.declared.Kind.{Kind}
@@ -16,7 +16,7 @@ use Rattle.refutation.proofs.Public.{find, is_known_some}
 any_there : (test : Option Bool → Bool) (k : ℕ → Option Bool) (ds : List ℕ) (p d : ℕ) → slice_get ds p ≡ Some d → test (k d) ≡ true → list_any test (map k ds) ≡ true
 any_there test k [] p d e is = cc
 any_there test k (x ∷ xs) zero d e is = let same : x ≡ d = cc in rw (same, is) refl
-any_there test k (x ∷ xs) (suc p) d e is = rw (any_there test k xs p d e is) (or_true (test (k x)))
+any_there test k (x ∷ xs) (suc p) d e is = rw (any_there test k xs p d e is) (or-true (test (k x)))
 
 none_there : (test : Option Bool → Bool) (k : ℕ → Option Bool) (ds : List ℕ) → ((p d : ℕ) → slice_get ds p ≡ Some d → test (k d) ≡ false) → list_any test (map k ds) ≡ false
 none_there test k [] h = refl
@@ -42,9 +42,3 @@ same_value net held y kind c c' is value u =
     let other : controlling u.junction.0 ≡ Some c' = u.junction.1.1 in
     let this : Some c ≡ controlling u.junction.0 = rw same at value in
     cc
-
-pub beq_same : (a b : Bool) → not (beq a b) ≡ false → a ≡ b
-beq_same true true e = refl
-beq_same true false e = cc
-beq_same false true e = cc
-beq_same false false e = refl

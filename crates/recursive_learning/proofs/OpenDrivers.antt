@@ -1,5 +1,5 @@
 -- The different drivers of a gate whose good value isn't known.
-use Rattle.std.proofs.Common.{Bool, List, None, Option, Some, [], ap, append-nil, arith, false, inl, inr, length, length-append, map, refl, suc, sym, true, zero, ℕ, ◌++◌, ◌+◌, ◌||◌, ◌∙◌, ◌∷◌, ◌≡◌, ◌≢◌, ◌≤◌, ◌⊎◌}
+use Rattle.std.proofs.Common.{Bool, List, None, Option, Some, [], ap, append-nil, arith, false, inl, inr, length, length-append, map, refl, suc, sym, true, zero, ℕ, ◌++◌, ◌+◌, ◌||◌, ◌∙◌, ◌∷◌, ◌≡◌, ◌≢◌, ◌≤◌}
 use Rattle.std.proofs.lemmas.Bool.{eq-eqb}
 use Rattle.std.proofs.lemmas.Bool.Decides.{eqb_tells}
 use Rattle.std.proofs.lemmas.List.Folds.{list_any-append}
@@ -8,12 +8,13 @@ use Rattle.std.proofs.lemmas.Map.Made.{length-le_from_is_member}
 use Rattle.std.specs.Cmp.{nat_eq_equiv}
 use Rattle.std.specs.List.{IsDistinct, list_any}
 use Rattle.std.specs.Prelude.{is_some, nat_eq, slice_get}
-use Rattle.gate_net.proofs.Public.{or_true}
+use Rattle.std.proofs.Math.Bool.{or-true}
 use Rattle.gate_net.specs.Net.{Net, drivers_of}
 use Rattle.recursive_learning.specs.Gates.{AreJustifications}
 use Rattle.refutation.specs.Facts.{Held, known_good}
 use Rattle.refutation.specs.Learning.{HasFew, IsJustification}
 use Rattle.rm_base.specs.declared.numbers.NodeId.{NodeId}
+use Rattle.rm_base.proofs.Public.{last_cases}
 
 -- the open drivers among those looked at
 pub record OpenTo (net : Net) (held : Held) (y : ℕ) (before ds : List ℕ) : Type 0 where
@@ -21,12 +22,6 @@ pub record OpenTo (net : Net) (held : Held) (y : ℕ) (before ds : List ℕ) : T
   pub all : (p d : ℕ) → slice_get before p ≡ Some d → known_good held d ≡ None → list_any (nat_eq d) ds ≡ true
   pub distinct : IsDistinct nat_eq ds
   pub few : length ds ≤ 8
-
-pub pushed_cases : (xs : List ℕ) (x p d : ℕ) → slice_get (xs ++ x ∷ []) p ≡ Some d → (slice_get xs p ≡ Some d) ⊎ (d ≡ x)
-pushed_cases [] x zero d e = inr (let same : x ≡ d = cc in sym same)
-pushed_cases [] x (suc p) d e = cc
-pushed_cases (y ∷ xs) x zero d e = inl e
-pushed_cases (y ∷ xs) x (suc p) d e = pushed_cases xs x p d e
 
 pub place_of : (d : ℕ) (ds : List ℕ) → list_any (nat_eq d) ds ≡ true → (k : ℕ) × (slice_get ds k ≡ Some d)
 place_of d [] e = cc
@@ -38,7 +33,7 @@ place_of d (x ∷ xs) e = elim (eqb_tells d x) [
 pub listed_at : (d : ℕ) (ds : List ℕ) (k : ℕ) → slice_get ds k ≡ Some d → list_any (nat_eq d) ds ≡ true
 listed_at d [] k e = cc
 listed_at d (x ∷ xs) zero e = let same : x ≡ d = cc in rw (same, eq-eqb d d refl) refl
-listed_at d (x ∷ xs) (suc k) e = rw (listed_at d xs k e) (or_true (nat_eq d x))
+listed_at d (x ∷ xs) (suc k) e = rw (listed_at d xs k e) (or-true (nat_eq d x))
 
 pub open_none : (net : Net) (held : Held) (y : ℕ) → OpenTo net held y [] []
 unfolding IsDistinct
@@ -47,7 +42,7 @@ open_none net held y = record { each = λ k d e. cc; all = λ p d e. cc; distinc
 pub open_skip : (net : Net) (held : Held) (y : ℕ) (before ds : List ℕ) (x : ℕ) → OpenTo net held y before ds → (known_good held x ≡ None → list_any (nat_eq x) ds ≡ true) → OpenTo net held y (before ++ x ∷ []) ds
 open_skip net held y before ds x o known = record {
   each = o.each;
-  all = λ p d there none. elim (pushed_cases before x p d there) [
+  all = λ p d there none. elim (last_cases before x p d there) [
     | inl old ↦ o.all p d old none
     | inr is ↦ rw is (known (rw is at none))
   ];
@@ -57,10 +52,10 @@ open_skip net held y before ds x o known = record {
 
 pub open_push : (net : Net) (held : Held) (y : ℕ) (before ds : List ℕ) (x : ℕ) → OpenTo net held y before ds → IsJustification net held y x → list_any (nat_eq x) ds ≡ false → length ds ≢ 8 → OpenTo net held y (before ++ x ∷ []) (ds ++ x ∷ [])
 open_push net held y before ds x o just new less = record {
-  each = λ k d there. elim (pushed_cases ds x k d there) [ inl old ↦ o.each k d old | inr is ↦ rw is just ];
-  all = λ p d there none. elim (pushed_cases before x p d there) [
+  each = λ k d there. elim (last_cases ds x k d there) [ inl old ↦ o.each k d old | inr is ↦ rw is just ];
+  all = λ p d there none. elim (last_cases before x p d there) [
     | inl old ↦ rw (list_any-append (nat_eq d) ds (x ∷ []), o.all p d old none) refl
-    | inr is ↦ rw (list_any-append (nat_eq d) ds (x ∷ []), is, eq-eqb x x refl) (or_true (list_any (nat_eq x) ds))
+    | inr is ↦ rw (list_any-append (nat_eq d) ds (x ∷ []), is, eq-eqb x x refl) (or-true (list_any (nat_eq x) ds))
   ];
   distinct = IsDistinct-push nat_eq_equiv ds x o.distinct new;
   few = rw (length-append ds (x ∷ [])) (let few : length ds ≤ 8 = o.few in omega arith);
@@ -74,7 +69,7 @@ too_many net held y before ds x o just new full (es, (few, cover)) =
     absurd (omega arith)
   where
     covered : (q : ℕ) → (k : ℕ) × (slice_get (ds ++ x ∷ []) k ≡ Some q) → list_any (nat_eq q) es ≡ true
-    covered q (k, there) = elim (pushed_cases ds x k q there) [
+    covered q (k, there) = elim (last_cases ds x k q there) [
       | inl old ↦ at q (cover q (o.each k q old))
       | inr is ↦ at q (cover q (rw is just))
     ]
@@ -97,10 +92,6 @@ listed_map d (n ∷ nodes) = ap (λ (b : Bool). nat_eq d n.0 || b) (listed_map d
 pub known_skip : (o : Option Bool) (listed : Bool) → is_some o ≡ true → o ≡ None → listed ≡ true
 known_skip None listed e f = cc
 known_skip (Some b) listed e f = cc
-
-pub not_some : (o : Option Bool) → is_some o ≡ false → o ≡ None
-not_some None e = refl
-not_some (Some b) e = cc
 
 -- an iterator that has nothing left has yielded all
 pub all_yielded : {A B : Type 0} (f : A → B) (all : List B) (before : List A) (rest : List B) → all ≡ map f before ++ rest → rest ≡ [] → map f before ≡ all

@@ -1,8 +1,8 @@
 -- What a gate rests on: while the facts there stay, it has nothing to teach.
 use Rattle.std.proofs.Common.{Bool, List, None, Option, Some, [], arith, false, ◌+◌, inl, inr, refl, subst, sym, true, ℕ, ◌<◌, ◌∙◌, ◌≡◌, ◌||◌}
-use Rattle.std.proofs.lemmas.Bool.{cases_lt}
+use Rattle.std.proofs.lemmas.Bool.{cases_lt, or_cases}
 use Rattle.std.specs.Prelude.{IsTrue, slice_get}
-use Rattle.gate_net.proofs.Public.{or_either, or_true}
+use Rattle.std.proofs.Math.Bool.{or-true}
 use Rattle.gate_net.specs.Net.{Net}
 use Rattle.implications.specs.Laws.{FirstLinesAskNothing, LinesAreLocal}
 use Rattle.implications.specs.Settled.{AgreeAt, place_of}
@@ -33,7 +33,7 @@ in_left : (s t : Held) → IsWithin s (either_holds s t)
 in_left s t x fact e = rw e refl
 
 in_right : (s t : Held) → IsWithin t (either_holds s t)
-in_right s t x fact e = rw e (or_true (s x fact))
+in_right s t x fact e = rw e (or-true (s x fact))
 
 -- where one set holds no more than the other, that one stands for both
 or_within : (a b c : Bool) → (IsTrue a → IsTrue b) → (IsTrue a → IsTrue c) → a ≡ b → c ≡ (b || c)
@@ -146,7 +146,7 @@ module _ (local : LinesAreLocal) (first : FirstLinesAskNothing) (net : Net) (fau
       pub led_before : (x : ℕ) (b : Bool) → AllHold Below (with_fact more d (Good c)) x (Good b) → more x (Good b) ≡ false → AllHold Below (with_fact held d (Good c)) x (Good b)
       led_before x b all isn't s inside free closed =
           let there : IsTrue (either_holds more now x (Good b)) = all (either_holds more now) with_contains with_free with_closed in
-          least.least s inside free closed x (Good b) (elim (or_either (more x (Good b)) (now x (Good b)) there) [ inl is ↦ absurd (let wrong : false ≡ true = sym isn't ∙ is in true_is wrong) | inr is ↦ is ])
+          least.least s inside free closed x (Good b) (elim (or_cases (more x (Good b)) (now x (Good b)) there) [ inl is ↦ absurd (let wrong : false ≡ true = sym isn't ∙ is in true_is wrong) | inr is ↦ is ])
         where
           true_is : false ≡ true → ⊥
           true_is e = cc

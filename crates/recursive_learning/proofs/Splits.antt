@@ -1,10 +1,9 @@
 -- Splits, and gates of which all drivers are shown to have the other value.
-use Rattle.std.proofs.Common.{Bool, List, None, Option, Some, [], ap, arith, false, inl, inr, length, map, not, refl, suc, true, zero, ℕ, ◌++◌, ◌<◌, ◌∙◌, ◌∷◌, ◌≡◌, ◌⊎◌}
+use Rattle.std.proofs.Common.{Bool, List, None, Option, Some, [], ap, false, inl, inr, map, not, refl, true, ℕ, ◌++◌, ◌∙◌, ◌∷◌, ◌≡◌, ◌⊎◌}
 use Rattle.std.specs.List.{list_all}
 use Rattle.std.specs.Prelude.{IsTrue, slice_get}
 use mathlib.Core.Bool.{beq}
 use Rattle.gate_net.specs.Forward.{is_known, value_forward}
-use Rattle.gate_net.proofs.Public.{bool_cases}
 use Rattle.gate_net.specs.Net.{IsKind, IsLive, Net, Reads, drivers_of}
 use Rattle.gate_net.specs.declared.Kind.{Kind}
 use Rattle.gate_net.specs.declared.Kind.TheVariants.{And, Not, One, Or, Source, Zero}
@@ -26,6 +25,7 @@ use Rattle.refutation.specs.declared.reasoning.Fact.TheVariants.{Good}
 use Rattle.refutation.specs.declared.reasoning.Line.TheVariants.{Constant, GoodForward}
 use Rattle.rm_base.specs.declared.numbers.Fault.{Fault}
 use Rattle.rm_base.specs.declared.numbers.NodeId.{NodeId}
+use Rattle.rm_base.proofs.Public.{bool_cases}
 
 none_held_of : (a b : Bool) → one_of a b ≡ None → ((a ≡ true) × (b ≡ true) → ⊥) → (a ≡ false) × (b ≡ false)
 none_held_of true true e free = absurd (free (refl, refl))
@@ -159,8 +159,3 @@ beq_other true true e = cc
 beq_other true false e = refl
 beq_other false true e = refl
 beq_other false false e = cc
-
-pub place_less : (ds : List ℕ) (k d : ℕ) → slice_get ds k ≡ Some d → k < length ds
-place_less [] k d e = cc
-place_less (x ∷ xs) zero d e = omega arith
-place_less (x ∷ xs) (suc k) d e = let rest : k < length xs = place_less xs k d e in omega arith

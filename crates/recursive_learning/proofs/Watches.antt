@@ -1,10 +1,10 @@
 -- What is known of gates while facts come.
-use Rattle.std.proofs.Common.{Bool, List, None, Option, Some, [], ap, append-nil, arith, false, get_or, inl, inr, length, length-set, refl, replicate, subst, suc, sym, true, zero, ℕ, ◌+◌, ◌<◌, ◌∙◌, ◌∷◌, ◌≡◌, ◌⊎◌}
+use Rattle.std.proofs.Common.{Bool, List, None, Some, [], ap, append-nil, arith, false, get_or, inl, inr, length, length-set, refl, replicate, subst, suc, sym, true, zero, ℕ, ◌+◌, ◌<◌, ◌∙◌, ◌∷◌, ◌≡◌, ◌⊎◌}
 use Rattle.std.proofs.lemmas.Bool.{cases_lt}
 use Rattle.std.proofs.lemmas.Bool.Decides.{eqb_tells}
 use Rattle.std.proofs.lemmas.Option.{get_or_from_slice_get}
 use Rattle.std.specs.Prelude.{IsTrue, slice_get, slice_set}
-use Rattle.gate_graph.proofs.Public.{none_seen}
+use Rattle.gate_graph.proofs.Public.{none_seen, seen_or_not}
 use Rattle.gate_graph.specs.Search.{IsSeen}
 use Rattle.gate_net.specs.Net.{IsLive, Net, kind_in, kind_of}
 use Rattle.implications.specs.Settled.{AgreeAt}
@@ -58,15 +58,6 @@ module _ (net : Net) (fault : Fault) (held now : Held) (added : List (NodeId × 
   pub far_agrees : (z : ℕ) → IsFar z → AgreeAround net held now z
   far_agrees z far = record { here = same_at z z (inl refl) far; drivers = λ p d reads. same_at z d (inr (p, reads)) far }
 
--- LISTS
-seen_or : (s : List Bool) (y : ℕ) → IsSeen s y ⊎ (IsSeen s y → ⊥)
-seen_or s y = at (slice_get s y) refl
-  where
-    at : (o : Option Bool) → slice_get s y ≡ o → IsSeen s y ⊎ (IsSeen s y → ⊥)
-    at None e = inr (λ seen. let wrong : None ≡ Some true = sym e ∙ seen in cc)
-    at (Some true) e = inl e
-    at (Some false) e = inr (λ seen. let wrong : Some false ≡ Some true = sym e ∙ seen in cc)
-
 watched_later : (e : Entry) (entries : List Entry) (z y : ℕ) → ((e.place ≡ z) × (e.gate ≡ y) → ⊥) → IsWatched entries z y ⊎ (IsWatched entries z y → ⊥) → IsWatched (e ∷ entries) z y ⊎ (IsWatched (e ∷ entries) z y → ⊥)
 watched_later e entries z y isn't (inl (k, (a, is))) = inl (suc k, (a, is))
 watched_later e entries z y isn't (inr none) = inr (λ w. at w.0 w.1.0 w.1.1.0 w.1.1.1)
@@ -103,7 +94,7 @@ known_longer net fault held v w leaves y (inr stays) = inr (stays_longer net fau
 -- more facts, with the gates listed where they changed
 pub known_more : (net : Net) (fault : Fault) (held now : Held) (added : List (NodeId × Fact)) (v w : Watch) → AreSettled net fault now → IsWithin held now → ((x : ℕ) (fact : Fact) → IsTrue (now x fact) → IsTrue (held x fact) ⊎ IsAmong added x fact) → StillLists v w → ListsChanged net added w → (y : ℕ) → IsKnown net fault held v y → IsKnown net fault now w y
 known_more net fault held now added v w settled within all still changed y (inl seen) = inl (still.kept y seen)
-known_more net fault held now added v w settled within all still changed y (inr stays) = elim (seen_or w.listed y) [
+known_more net fault held now added v w settled within all still changed y (inr stays) = elim (seen_or_not w.listed y) [
   | inl seen ↦ inl seen
   | inr none ↦ inr (λ more grown settled' around agree.
       stays more (λ x fact e. grown x fact (within x fact e)) settled'
@@ -126,7 +117,7 @@ known_taught net fault held w settled none known y = elim (known y) [
 
 -- a gate whose good value isn't known has nothing to teach
 pub known_goods : (net : Net) (fault : Fault) (held : Held) (w : Watch) → ListsGoods net held w.listed → (y : ℕ) → IsKnown net fault held w y
-known_goods net fault held w goods y = elim (seen_or w.listed y) [
+known_goods net fault held w goods y = elim (seen_or_not w.listed y) [
   | inl seen ↦ inl seen
   | inr none ↦ inr (stays_idle net fault held w.rests.entries y (λ c u few. none (goods y c (junction_below net y c u.junction) u.known)))
 ]

@@ -1,8 +1,9 @@
 -- A closed set has all to which lines lead.
 use Rattle.std.proofs.Common.{Bool, List, Some, [], false, inl, inr, not, refl, true, ℕ, ◌&&◌, ◌∷◌, ◌≡◌, ◌⊎◌}
-use Rattle.std.proofs.lemmas.Bool.{eq-eqb, eqb-true}
+use Rattle.std.proofs.lemmas.Bool.{and_parts, eq-eqb, eqb-true, or_cases}
 use Rattle.std.specs.Prelude.{IsTrue, nat_eq}
-use Rattle.gate_net.proofs.Public.{and_both, or_either, or_true, same_bool_refl, same_bool_true}
+use Rattle.std.proofs.Math.Bool.{or-true}
+use Rattle.gate_net.proofs.Public.{same_bool_refl, same_bool_true}
 use Rattle.gate_net.specs.Net.{Net}
 use Rattle.gate_net.specs.Values.{same_bool}
 use Rattle.refutation.proofs.Grows.{line_grows}
@@ -25,12 +26,12 @@ pub with_there : (held : Held) (x : ℕ) (fact : Fact) → with_fact held x fact
 with_there held x fact = rw (eq-eqb x x refl, same_fact_refl fact) refl
 
 pub with_more : (held : Held) (x : ℕ) (fact : Fact) → IsWithin held (with_fact held x fact)
-with_more held x fact y other e = rw e (or_true (nat_eq y x && same_fact other fact))
+with_more held x fact y other e = rw e (or-true (nat_eq y x && same_fact other fact))
 
 pub with_cases : (held : Held) (x : ℕ) (fact : Fact) (y : ℕ) (other : Fact) → IsTrue (with_fact held x fact y other) → ((y ≡ x) × (other ≡ fact)) ⊎ IsTrue (held y other)
-with_cases held x fact y other e = elim (or_either (nat_eq y x && same_fact other fact) (held y other) e) [
+with_cases held x fact y other e = elim (or_cases (nat_eq y x && same_fact other fact) (held y other) e) [
   | inr before ↦ inr before
-  | inl new ↦ let both : (nat_eq y x ≡ true) × (same_fact other fact ≡ true) = and_both (nat_eq y x) (same_fact other fact) new in inl (eqb-true y x both.0, same_fact_true other fact both.1)
+  | inl new ↦ let both : (nat_eq y x ≡ true) × (same_fact other fact ≡ true) = and_parts (nat_eq y x) (same_fact other fact) new in inl (eqb-true y x both.0, same_fact_true other fact both.1)
 ]
 
 pub with_within : (held s : Held) (x : ℕ) (fact : Fact) → IsWithin held s → IsTrue (s x fact) → IsWithin (with_fact held x fact) s

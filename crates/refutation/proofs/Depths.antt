@@ -2,14 +2,15 @@
 use Rattle.std.proofs.Common.{Bool, List, None, Option, Some, [], false, inl, inr, map, not, refl, suc, true, zero, ℕ, ◌∙◌, ◌∷◌, ◌≡◌, ◌⊎◌}
 use Rattle.std.specs.List.{list_all}
 use Rattle.std.specs.Prelude.{IsTrue, slice_get}
+use Rattle.std.proofs.lemmas.Bool.{and_parts}
 use Rattle.gate_net.specs.Forward.{is_known, junction_follows, value_forward}
-use Rattle.gate_net.proofs.Public.{and_both, is_known_true}
+use Rattle.gate_net.proofs.Public.{is_known_true}
 use Rattle.gate_net.specs.Net.{IsAcyclic, Net, Reads, drivers_of}
 use Rattle.gate_net.specs.Values.{IsRun, SameObserved, controlling}
 use Rattle.gate_net.specs.declared.Kind.{Kind}
 use Rattle.gate_net.specs.declared.Kind.TheVariants.{And, Not, One, Or, Source, Zero}
 use Rattle.refutation.proofs.Closings.{right_true, true_held, true_known, true_right, with_more, with_there, with_within}
-use Rattle.gate_net.proofs.Public.{Stays, all_not_any, both_and, is_known_some}
+use Rattle.gate_net.proofs.Public.{Stays, all_not_any, is_known_some}
 use Rattle.refutation.proofs.Grows.{good_stays, line_grows}
 use Rattle.refutation.proofs.Known.{one_of_true}
 use Rattle.refutation.proofs.LinesRight.{line_right}
@@ -21,6 +22,7 @@ use Rattle.refutation.specs.Learning.{AllHold, HasFew, IsClosedAt, IsJustificati
 use Rattle.refutation.specs.declared.reasoning.Fact.TheVariants.{Good}
 use Rattle.refutation.specs.declared.reasoning.Line.TheVariants.{GoodForward}
 use Rattle.rm_base.specs.declared.numbers.Fault.{Fault}
+use Rattle.rm_base.proofs.Public.{both_and}
 
 pub closed_below : ClosedBelow
 closed_below net fault zero s free closed = closed.0
@@ -176,10 +178,10 @@ pub closed_meet : ClosedMeet
 closed_meet net fault depth s t free_s free_t closed_s closed_t = at depth closed_s closed_t
   where
     in_s : IsWithin (both_hold s t) s
-    in_s x fact e = (and_both (s x fact) (t x fact) e).0
+    in_s x fact e = (and_parts (s x fact) (t x fact) e).0
 
     in_t : IsWithin (both_hold s t) t
-    in_t x fact e = (and_both (s x fact) (t x fact) e).1
+    in_t x fact e = (and_parts (s x fact) (t x fact) e).1
 
     lines : IsClosedUnderLines net fault s → IsClosedUnderLines net fault t → IsClosedUnderLines net fault (both_hold s t)
     lines h k l x fact concludes =

@@ -3,7 +3,8 @@ use Rattle.std.proofs.Common.{Bool, List, [], ap, arith, false, get_or, inl, inr
 use Rattle.std.proofs.Math.Dec.{eqb-suc-suc, eqb-suc-zero, eqb-zero-suc}
 use Rattle.std.proofs.lemmas.Bool.Decides.{eqb_tells}
 use Rattle.std.specs.Prelude.{if◌then◌else◌, nat_eq, slice_set}
-use Rattle.gate_net.proofs.Public.{and_both, or_either, or_true}
+use Rattle.std.proofs.Math.Bool.{or-true}
+use Rattle.std.proofs.lemmas.Bool.{and_parts, or_cases}
 use Rattle.refutation.specs.FactSets.{Becomes, held_by, is_marked, marked, missing, unmarked}
 use Rattle.refutation.specs.Facts.{AreOpposed, Held, same_fact, with_fact, without_fact}
 use Rattle.refutation.specs.declared.held.NodeFacts.{NodeFacts}
@@ -122,11 +123,11 @@ abbrev pub none : NodeFacts
 none = record { good_is_0 = false; good_is_1 = false; faulty_is_0 = false; faulty_is_1 = false; equal = false; differs = false }
 
 pub opposed_from : (held : Held) (x : ℕ) → ((held x (Good false) && held x (Good true)) || ((held x (Faulty false) && held x (Faulty true)) || (held x Equal && held x Differs))) ≡ true → AreOpposed held x
-opposed_from held x e = elim (or_either (held x (Good false) && held x (Good true)) ((held x (Faulty false) && held x (Faulty true)) || (held x Equal && held x Differs)) e) [
-  | inl good ↦ inl (and_both (held x (Good false)) (held x (Good true)) good)
-  | inr other ↦ elim (or_either (held x (Faulty false) && held x (Faulty true)) (held x Equal && held x Differs) other) [
-    | inl faulty ↦ inr (inl (and_both (held x (Faulty false)) (held x (Faulty true)) faulty))
-    | inr equal ↦ inr (inr (and_both (held x Equal) (held x Differs) equal))
+opposed_from held x e = elim (or_cases (held x (Good false) && held x (Good true)) ((held x (Faulty false) && held x (Faulty true)) || (held x Equal && held x Differs)) e) [
+  | inl good ↦ inl (and_parts (held x (Good false)) (held x (Good true)) good)
+  | inr other ↦ elim (or_cases (held x (Faulty false) && held x (Faulty true)) (held x Equal && held x Differs) other) [
+    | inl faulty ↦ inr (inl (and_parts (held x (Faulty false)) (held x (Faulty true)) faulty))
+    | inr equal ↦ inr (inr (and_parts (held x Equal) (held x Differs) equal))
   ]
 ]
 
@@ -134,7 +135,7 @@ pub opposed_test : (held : Held) (x : ℕ) → AreOpposed held x → ((held x (G
 opposed_test held x h = elim h [
   | inl good ↦ rw (good.0, good.1) refl
   | inr other ↦ elim other [
-    | inl faulty ↦ rw (faulty.0, faulty.1) (or_true (held x (Good false) && held x (Good true)))
-    | inr equal ↦ rw (equal.0, equal.1, or_true (held x (Faulty false) && held x (Faulty true))) (or_true (held x (Good false) && held x (Good true)))
+    | inl faulty ↦ rw (faulty.0, faulty.1) (or-true (held x (Good false) && held x (Good true)))
+    | inr equal ↦ rw (equal.0, equal.1, or-true (held x (Faulty false) && held x (Faulty true))) (or-true (held x (Good false) && held x (Good true)))
   ]
 ]

@@ -3,8 +3,9 @@ use Rattle.std.proofs.Common.{Bool, List, Option, Some, [], ap, false, inl, inr,
 use Rattle.std.proofs.lemmas.Bool.Decides.{eqb_tells}
 use Rattle.std.specs.List.{list_all}
 use Rattle.std.specs.Prelude.{nat_eq, slice_get}
+use Rattle.std.proofs.lemmas.Bool.{and_parts, or_cases}
 use Rattle.gate_net.specs.Forward.{all_but, is_known}
-use Rattle.gate_net.proofs.Public.{and_both, is_known_true, or_either, same_bool_true}
+use Rattle.gate_net.proofs.Public.{is_known_true, same_bool_true}
 use Rattle.refutation.specs.Facts.{AreTrueFacts, Held, IsTrueFact, known_equal, known_faulty, known_good, one_of, same_fact, with_fact}
 use Rattle.refutation.specs.declared.reasoning.Fact.{Fact}
 use Rattle.refutation.specs.declared.reasoning.Fact.TheVariants.{Differs, Equal, Faulty, Good}
@@ -28,11 +29,11 @@ same_fact_true Differs Equal e = cc
 same_fact_true Differs Differs e = refl
 
 pub facts_with : (v f : ℕ → Bool) (held : Held) (x : ℕ) (fact : Fact) → AreTrueFacts v f held → IsTrueFact v f x fact → AreTrueFacts v f (with_fact held x fact)
-facts_with v f held x fact all here y other e = elim (or_either (nat_eq y x && same_fact other fact) (held y other) e) [
+facts_with v f held x fact all here y other e = elim (or_cases (nat_eq y x && same_fact other fact) (held y other) e) [
   | inr before ↦ all y other before
   | inl new ↦ elim (eqb_tells y x) [
-    | inl t ↦ rw (t.1, same_fact_true other fact (and_both (nat_eq y x) (same_fact other fact) new).1) here
-    | inr t ↦ let no_test : nat_eq y x ≡ true = (and_both (nat_eq y x) (same_fact other fact) new).0 in let is : nat_eq y x ≡ false = t.0 in cc
+    | inl t ↦ rw (t.1, same_fact_true other fact (and_parts (nat_eq y x) (same_fact other fact) new).1) here
+    | inr t ↦ let no_test : nat_eq y x ≡ true = (and_parts (nat_eq y x) (same_fact other fact) new).0 in let is : nat_eq y x ≡ false = t.0 in cc
   ]
 ]
 
@@ -72,8 +73,8 @@ pub all_known : (k : ℕ → Option Bool) (ds : List ℕ) → list_all (is_known
 all_known k [] e p x there = cc
 all_known k (d ∷ ds) e zero x there =
     let same : d ≡ x = cc in
-    rw (← same) (is_known_true true (k d) (and_both (is_known true (k d)) (list_all (is_known true) (map k ds)) e).0)
-all_known k (d ∷ ds) e (suc p) x there = all_known k ds (and_both (is_known true (k d)) (list_all (is_known true) (map k ds)) e).1 p x there
+    rw (← same) (is_known_true true (k d) (and_parts (is_known true (k d)) (list_all (is_known true) (map k ds)) e).0)
+all_known k (d ∷ ds) e (suc p) x there = all_known k ds (and_parts (is_known true (k d)) (list_all (is_known true) (map k ds)) e).1 p x there
 
 pub all_but_known : (k : ℕ → Option Bool) (ds : List ℕ) (q : ℕ) → all_but (is_known true) q (map k ds) ≡ true → (p x : ℕ) → slice_get ds p ≡ Some x → (p ≡ q) ⊎ (k x ≡ Some true)
 all_but_known k [] q e p x there = cc
@@ -81,9 +82,9 @@ all_but_known k (d ∷ ds) zero e zero x there = inl refl
 all_but_known k (d ∷ ds) zero e (suc p) x there = inr (all_known k ds e p x there)
 all_but_known k (d ∷ ds) (suc q) e zero x there =
     let same : d ≡ x = cc in
-    inr (rw (← same) (is_known_true true (k d) (and_both (is_known true (k d)) (all_but (is_known true) q (map k ds)) e).0))
+    inr (rw (← same) (is_known_true true (k d) (and_parts (is_known true (k d)) (all_but (is_known true) q (map k ds)) e).0))
 all_but_known k (d ∷ ds) (suc q) e (suc p) x there =
-    elim (all_but_known k ds q (and_both (is_known true (k d)) (all_but (is_known true) q (map k ds)) e).1 p x there) [
+    elim (all_but_known k ds q (and_parts (is_known true (k d)) (all_but (is_known true) q (map k ds)) e).1 p x there) [
       | inl same ↦ inl (ap suc same)
       | inr known ↦ inr known
     ]

@@ -3,8 +3,9 @@ use Rattle.std.proofs.Common.{Bool, Some, [], ap, false, inl, inr, map, not, ref
 use Rattle.std.proofs.lemmas.Bool.Decides.{eqb_tells}
 use Rattle.std.specs.List.{list_all}
 use Rattle.std.specs.Prelude.{if◌then◌else◌, slice_get}
+use Rattle.std.proofs.Math.Bool.{not-not}
 use Rattle.gate_net.specs.Forward.{all_but, is_known, value_back, value_forward}
-use Rattle.gate_net.proofs.Public.{Approximates, approximates_map, approximates_set, bool_cases, controlled, first_is, map_at, never_opposite, not_not, reads_faulty, same_bool_false, same_bool_true, same_elsewhere, same_idle, same_observed, same_outside, value_at, value_back_right, value_forward_right}
+use Rattle.gate_net.proofs.Public.{Approximates, approximates_map, approximates_set, controlled, first_is, reads_faulty, same_bool_false, same_bool_true, same_elsewhere, same_idle, same_observed, same_outside, value_at, value_back_right, value_forward_right}
 use Rattle.gate_net.specs.Net.{IsAcyclic, IsKind, Net, Reads, drivers_of}
 use Rattle.gate_net.specs.Paths.{IsInChain, start}
 use Rattle.gate_net.specs.Values.{IsRun, SameObserved, controlling, faulty_reads, same_bool}
@@ -19,6 +20,7 @@ use Rattle.refutation.specs.declared.reasoning.Fact.TheVariants.{Differs, Equal}
 use Rattle.refutation.specs.declared.reasoning.Line.{Line}
 use Rattle.refutation.specs.declared.reasoning.Line.TheVariants.{Act, Chain, Compare, Constant, DiffersBack, EqualForward, FaultyBack, FaultyForward, GoodBack, GoodForward, NotDiffers, NotEqual, Out, Side, Site, ToFaulty, ToGood}
 use Rattle.rm_base.specs.declared.numbers.Fault.{Fault}
+use Rattle.rm_base.proofs.Public.{bool_cases, map_at, never_opposite}
 
 module _ (net : Net) (fault : Fault) (driver : ℕ) (a v f : ℕ → Bool) (run : IsRun net fault a v f) (acyclic : IsAcyclic net) (stuck : Reads net fault.gate.0 fault.position driver) (detects : SameObserved net v f → ⊥) where
   -- what every observed node rests on differs
@@ -103,7 +105,7 @@ module _ (net : Net) (fault : Fault) (driver : ℕ) (a v f : ℕ → Bool) (run 
 
     to_faulty_right : (x : ℕ) (value equal : Bool) → known_good held x ≡ Some value → known_equal held x ≡ Some equal → f x ≡ same_bool equal value
     to_faulty_right x value true known e = sym (equal_right v f held facts x e) ∙ good_right v f held facts x value known
-    to_faulty_right x value false known e = sym (not_not (f x)) ∙ ap not (sym (differs_right v f held facts x e) ∙ good_right v f held facts x value known)
+    to_faulty_right x value false known e = sym (not-not (f x)) ∙ ap not (sym (differs_right v f held facts x e) ∙ good_right v f held facts x value known)
 
     to_good_right : (x : ℕ) (value equal : Bool) → known_faulty held x ≡ Some value → known_equal held x ≡ Some equal → v x ≡ same_bool equal value
     to_good_right x value true known e = equal_right v f held facts x e ∙ faulty_right v f held facts x value known
@@ -123,7 +125,7 @@ module _ (net : Net) (fault : Fault) (driver : ℕ) (a v f : ℕ → Bool) (run 
     not_equal_right : (y x : ℕ) → IsKind net y Not → y ≢ fault.gate.0 → Reads net y 0 x → known_equal held y ≡ Some true → v x ≡ f x
     not_equal_right y x is ne reads e =
         let both : (v y ≡ not (v x)) × (f y ≡ not (f x)) = not_values y x is ne reads in
-        sym (not_not (v x)) ∙ ap not (sym both.0 ∙ equal_right v f held facts y e ∙ both.1) ∙ not_not (f x)
+        sym (not-not (v x)) ∙ ap not (sym both.0 ∙ equal_right v f held facts y e ∙ both.1) ∙ not-not (f x)
 
     -- each line is right
     pub line_right : (line : Line) (x : ℕ) (fact : Fact) → Concludes net fault held line x fact → IsTrueFact v f x fact

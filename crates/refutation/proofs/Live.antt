@@ -1,7 +1,7 @@
 -- The node of a fact that a line gives is live.
-use Rattle.std.proofs.Common.{None, Option, Some, refl, ℕ, ◌≡◌, ◌≢◌}
+use Rattle.std.proofs.Common.{ℕ}
 use Rattle.gate_looks.proofs.Public.{chain_live, gate_live}
-use Rattle.gate_net.specs.Net.{IsLive, IsWellFormed, Net, Node, Reads, node_at}
+use Rattle.gate_net.specs.Net.{IsLive, IsWellFormed, Net, Reads}
 use Rattle.gate_net.specs.Values.{HasPin}
 use Rattle.refutation.specs.Facts.{Held}
 use Rattle.refutation.specs.Lines.{Concludes}
@@ -9,13 +9,7 @@ use Rattle.refutation.specs.declared.reasoning.Fact.{Fact}
 use Rattle.refutation.specs.declared.reasoning.Line.{Line}
 use Rattle.refutation.specs.declared.reasoning.Line.TheVariants.{Act, Chain, Compare, Constant, DiffersBack, EqualForward, FaultyBack, FaultyForward, GoodBack, GoodForward, NotDiffers, NotEqual, Out, Side, Site, ToFaulty, ToGood}
 use Rattle.rm_base.specs.declared.numbers.Fault.{Fault}
-
-pub node_live : (net : Net) (x : ℕ) → node_at net x ≢ None → IsLive net x
-node_live net x live = at (node_at net x) refl
-  where
-    at : (o : Option Node) → node_at net x ≡ o → IsLive net x
-    at None is = absurd (live is)
-    at (Some n) is = (n.kind, (n.drivers, is))
+use Rattle.gate_net.proofs.Public.{node_live}
 
 pub driver_live : (net : Net) → IsWellFormed net → (y p x : ℕ) → Reads net y p x → IsLive net x
 driver_live net formed y p x reads = node_live net x (formed.drivers_live y p x reads)

@@ -4,7 +4,7 @@
 pub use Rattle.gate_looks.proofs.Public.{clear_less, count-clear, count-set, count_within, none_marked, not_seen}
 pub use Rattle.gate_looks.proofs.Public.{read_is, seen_left, seen_stays}
 -- The node of a fact that a line gives is live.
-pub use Rattle.refutation.proofs.Live.{concludes_live, driver_live, node_live}
+pub use Rattle.refutation.proofs.Live.{concludes_live, driver_live}
 pub use Rattle.refutation.proofs.Below.{concludes_below}
 -- A closed set has all to which lines lead.
 pub use Rattle.refutation.proofs.Closings.{closed_has_all, leads_within, none_within, opposed_within, same_fact_refl, with_cases}
@@ -20,8 +20,6 @@ pub use Rattle.refutation.proofs.Known.{all_known, one_of_true, same_fact_true}
 -- One look at a gate's pins tells all that follows there.
 pub use Rattle.gate_looks.proofs.Public.{LooksTo, glance_all, glance_many, glance_not_all, glance_one, looks_more}
 pub use Rattle.gate_looks.proofs.Public.{never_other, or_else, or_then, pin_at, pins_length}
--- The only gate that reads a node.
-pub use Rattle.gate_looks.proofs.Public.{last_of, map_found}
 -- Searching on from a gate along its readers.
 pub use Rattle.gate_looks.proofs.Public.{MarksSome, marks_all, marks_new, reached_live, search_ends, search_first}
 pub use Rattle.gate_looks.proofs.Public.{search_less, search_more}
@@ -34,8 +32,8 @@ pub use Rattle.refutation.proofs.Stacks.{closed_reads}
 -- What the calls of a graph and of the facts tell.
 pub use Rattle.gate_looks.proofs.Public.{beq_same, drivers_below, each_of_one, each_of_two, gate_live}
 -- What the calls of a graph and of the facts tell.
-pub use Rattle.refutation.proofs.Told.{faulty_pins, some_is}
-pub use Rattle.gate_looks.proofs.Public.{kind_is, kind_live, live_below, live_from, reader_live, slice_get_below}
+pub use Rattle.refutation.proofs.Told.{faulty_pins}
+pub use Rattle.gate_looks.proofs.Public.{kind_is, kind_live, live_below, live_from, reader_live}
 -- A walk along the chain of a gate.
 pub use Rattle.gate_looks.proofs.Public.{chain_live, walk_ends, walk_goes_on, walk_live, walk_short}
 pub use Rattle.gate_looks.proofs.Public.{walk_starts}

@@ -1,7 +1,7 @@
 -- An accepted closed tree refutes its fault.
 use Rattle.std.proofs.Common.{Bool, false, inl, inr, map, not, sym, true, ℕ, ◌∙◌, ◌≡◌}
 use Rattle.gate_net.specs.Forward.{Completes}
-use Rattle.gate_net.proofs.Public.{bool_cases, never_opposite, readings_hold, value_at}
+use Rattle.gate_net.proofs.Public.{readings_hold, value_at}
 use Rattle.gate_net.specs.Net.{IsAcyclic, Net, Reads, drivers_of}
 use Rattle.gate_net.specs.Values.{IsRun, SameObserved}
 use Rattle.gate_net.specs.declared.Kind.TheVariants.{Source}
@@ -12,6 +12,7 @@ use Rattle.refutation.specs.Facts.{AreOpposed, AreTrueFacts, Held, known_good, n
 use Rattle.refutation.specs.Laws.{TreesRefute}
 use Rattle.refutation.specs.declared.reasoning.Fact.TheVariants.{Differs, Equal, Faulty, Good}
 use Rattle.rm_base.specs.declared.numbers.Fault.{Fault}
+use Rattle.rm_base.proofs.Public.{bool_cases, never_opposite}
 
 module _ (net : Net) (fault : Fault) (driver : ℕ) (a v f : ℕ → Bool) (run : IsRun net fault a v f) (acyclic : IsAcyclic net) (stuck : Reads net fault.gate.0 fault.position driver) (detects : SameObserved net v f → ⊥) where
   pub never_opposed : (held : Held) → AreTrueFacts v f held → (x : ℕ) → AreOpposed held x → ⊥

@@ -14,6 +14,7 @@ use Rattle.refutation.specs.declared.pins.Aspect.{Aspect}
 use Rattle.refutation.specs.declared.pins.Aspect.TheVariants.{OfFaulty}
 use Rattle.gate_looks.specs.declared.pins.Stuck.{Stuck}
 use Rattle.rm_base.specs.declared.numbers.Fault.{Fault}
+use Rattle.rm_base.proofs.Public.{some_same}
 
 pub bind_some : {A B : Type 0} (o : Option A) (f : A → Option B) (b : B) → Some b ≡ bind o f → (a : A) × ((o ≡ Some a) × (Some b ≡ f a))
 bind_some None f b e = cc
@@ -31,17 +32,13 @@ forward_told net stuck aspect held y kind b is e = ap (λ o. bind o (λ k. value
 pub faulty_pins : (net : Net) (fault : Fault) (held : Held) (y : ℕ) → pins_of (stuck_of fault y) OfFaulty held (drivers_of net y) ≡ faulty_reads net fault Some (known_faulty held) y
 faulty_pins net fault held y = stuck_reads net fault (known_faulty held) y
 
--- backward
-pub some_is : {A : Type 0} {a b : A} → Some a ≡ Some b → a ≡ b
-some_is e = cc
-
 pub backward_some : (net : Net) (stuck : Option Stuck) (aspect : Aspect) (held : Held) (y q : ℕ) (r : ℕ × Bool) → Some r ≡ backward_at net stuck aspect held y q → (kind : Kind) × ((value : Bool) × (IsKind net y kind × ((known_on aspect held y ≡ Some value) × (Reads net y q r.0 × (value_back kind value (pins_of stuck aspect held (drivers_of net y)) q ≡ Some r.1)))))
 backward_some net stuck aspect held y q r e =
     let one : (kind : Kind) × ((kind_of net y ≡ Some kind) × (Some r ≡ bind (known_on aspect held y) (λ value. bind (slice_get (drivers_of net y) q) (λ d. bind (value_back kind value (pins_of stuck aspect held (drivers_of net y)) q) (λ c. Some (d, c)))))) = bind_some (kind_of net y) _ r e in
     let two : (value : Bool) × ((known_on aspect held y ≡ Some value) × (Some r ≡ bind (slice_get (drivers_of net y) q) (λ d. bind (value_back one.0 value (pins_of stuck aspect held (drivers_of net y)) q) (λ c. Some (d, c))))) = bind_some (known_on aspect held y) _ r one.1.1 in
     let three : (d : ℕ) × ((slice_get (drivers_of net y) q ≡ Some d) × (Some r ≡ bind (value_back one.0 two.0 (pins_of stuck aspect held (drivers_of net y)) q) (λ c. Some (d, c)))) = bind_some (slice_get (drivers_of net y) q) _ r two.1.1 in
     let four : (c : Bool) × ((value_back one.0 two.0 (pins_of stuck aspect held (drivers_of net y)) q ≡ Some c) × (Some r ≡ Some (three.0, c))) = bind_some (value_back one.0 two.0 (pins_of stuck aspect held (drivers_of net y)) q) _ r three.1.1 in
-    let same : r ≡ (three.0, four.0) = some_is four.1.1 in
+    let same : r ≡ (three.0, four.0) = some_same four.1.1 in
     (one.0, (two.0, (kind_is net y one.0 (sym one.1.0), (two.1.0, (three.1.0 ∙ ap (λ s. Some s.0) (sym same), four.1.0 ∙ ap (λ s. Some s.1) (sym same))))))
 
 pub backward_told : (net : Net) (stuck : Option Stuck) (aspect : Aspect) (held : Held) (y q x : ℕ) (kind : Kind) (value b : Bool) → IsKind net y kind → known_on aspect held y ≡ Some value → Reads net y q x → value_back kind value (pins_of stuck aspect held (drivers_of net y)) q ≡ Some b → backward_at net stuck aspect held y q ≡ Some (x, b)
@@ -56,5 +53,5 @@ both_some net one other held y r e =
     let first : (kind : Kind) × ((kind_of net y ≡ Some kind) × (Some r ≡ bind (known_on one held y) (λ a. bind (known_on other held y) (λ b. Some (a, b))))) = bind_some (kind_of net y) _ r e in
     let second : (a : Bool) × ((known_on one held y ≡ Some a) × (Some r ≡ bind (known_on other held y) (λ b. Some (a, b)))) = bind_some (known_on one held y) _ r first.1.1 in
     let third : (b : Bool) × ((known_on other held y ≡ Some b) × (Some r ≡ Some (second.0, b))) = bind_some (known_on other held y) _ r second.1.1 in
-    let same : r ≡ (second.0, third.0) = some_is third.1.1 in
+    let same : r ≡ (second.0, third.0) = some_same third.1.1 in
     ((first.0, kind_is net y first.0 (sym first.1.0)), (second.1.0 ∙ ap (λ s. Some s.0) (sym same), third.1.0 ∙ ap (λ s. Some s.1) (sym same)))

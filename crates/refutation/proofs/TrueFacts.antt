@@ -1,7 +1,7 @@
 -- The facts that are true of good and faulty values.
 use Rattle.std.proofs.Common.{Bool, None, Some, ap, false, inl, inr, refl, suc, sym, true, zero, ℕ, ◌∙◌, ◌≡◌}
 use Rattle.std.specs.Prelude.{not}
-use Rattle.gate_net.proofs.Public.{never_opposite, same_bool_refl, same_bool_true}
+use Rattle.gate_net.proofs.Public.{same_bool_refl, same_bool_true}
 use Rattle.gate_net.specs.Net.{IsAcyclic, Net}
 use Rattle.gate_net.specs.Values.{HasPin, IsRun, SameObserved, same_bool}
 use Rattle.refutation.specs.Closing.{IsClashFree, IsClosedUnderLines}
@@ -13,6 +13,7 @@ use Rattle.refutation.specs.declared.reasoning.Fact.TheVariants.{Differs, Equal,
 use Rattle.refutation.proofs.Closings.{with_there}
 use Rattle.rm_base.specs.declared.numbers.Fault.{Fault}
 use Rattle.refutation.specs.Detected.{DetectedHaveOpenSets, DetectedNeverClash, TrueFactsAreClosed, true_facts}
+use Rattle.rm_base.proofs.Public.{never_opposite}
 
 -- what the set holds is true
 right : (v f : ℕ → Bool) → AreTrueFacts v f (true_facts v f)

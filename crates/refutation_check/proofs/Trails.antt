@@ -3,8 +3,8 @@ use Rattle.std.proofs.Common.{Bool, List, [], ap, arith, false, inl, inr, length
 use Rattle.std.proofs.lemmas.Bool.Decides.{eqb_tells}
 use Rattle.std.specs.Prelude.{nat_eq}
 use Rattle.std.proofs.lemmas.List.{take-append-le}
+use Rattle.std.proofs.lemmas.Bool.{and_parts}
 use mathlib.Core.Path.{fun_ext}
-use Rattle.gate_net.proofs.Public.{and_both}
 use Rattle.refutation.specs.FactSets.{Becomes, held_by}
 use Rattle.refutation.specs.Facts.{Held, none_held, same_fact, with_fact, without_fact}
 use Rattle.refutation.proofs.Public.{same_fact_true}
@@ -27,8 +27,8 @@ held_same held x fact h = fun_ext (λ y. fun_ext (λ other. at y other (nat_eq y
     at : (y : ℕ) (other : Fact) (b : Bool) → (nat_eq y x && same_fact other fact) ≡ b → with_fact held x fact y other ≡ held y other
     at y other false e = rw e refl
     at y other true e = elim (eqb_tells y x) [
-      | inl t ↦ rw (e, t.1, same_fact_true other fact (and_both (nat_eq y x) (same_fact other fact) e).1) (sym h)
-      | inr t ↦ let is : nat_eq y x ≡ true = (and_both (nat_eq y x) (same_fact other fact) e).0 in let isn't : nat_eq y x ≡ false = t.0 in cc
+      | inl t ↦ rw (e, t.1, same_fact_true other fact (and_parts (nat_eq y x) (same_fact other fact) e).1) (sym h)
+      | inr t ↦ let is : nat_eq y x ≡ true = (and_parts (nat_eq y x) (same_fact other fact) e).0 in let isn't : nat_eq y x ≡ false = t.0 in cc
     ]
 
 -- a fact that wasn't held is taken back
@@ -38,8 +38,8 @@ without_with held x fact h y other = at (nat_eq y x && same_fact other fact) ref
     at : (b : Bool) → (nat_eq y x && same_fact other fact) ≡ b → without_fact (with_fact held x fact) x fact y other ≡ held y other
     at false e = rw e refl
     at true e = elim (eqb_tells y x) [
-      | inl t ↦ rw (e, t.1, same_fact_true other fact (and_both (nat_eq y x) (same_fact other fact) e).1) (sym h)
-      | inr t ↦ let is : nat_eq y x ≡ true = (and_both (nat_eq y x) (same_fact other fact) e).0 in let isn't : nat_eq y x ≡ false = t.0 in cc
+      | inl t ↦ rw (e, t.1, same_fact_true other fact (and_parts (nat_eq y x) (same_fact other fact) e).1) (sym h)
+      | inr t ↦ let is : nat_eq y x ≡ true = (and_parts (nat_eq y x) (same_fact other fact) e).0 in let isn't : nat_eq y x ≡ false = t.0 in cc
     ]
 
 new_push : (n : ℕ) (held : Held) (t : List Entry) (e : Entry) → AreNew n held t → e.node.0 < n → held_from held t e.node.0 e.fact ≡ false → AreNew n held (t ++ e ∷ [])

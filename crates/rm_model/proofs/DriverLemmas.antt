@@ -3,26 +3,29 @@ use Rattle.std.proofs.Common.{◌≡◌, ℕ, zero, suc, ◌+◌, List, [], ◌�
 use Rattle.std.specs.Prelude.{slice_get}
 use Rattle.std.specs.List.{filter_map}
 use Rattle.std.specs.Option.{option_map}
-use Rattle.rm_model.specs.Words.{Word, is_word}
+use Rattle.std.proofs.lemmas.Bool.{and_parts, false_from_ne_true}
+use Rattle.rm_model.specs.Words.{is_word}
 use Rattle.rm_model.specs.Value.{is_among}
 use Rattle.rm_model.specs.WellFormed.{is_distinct}
 use Rattle.rm_model.specs.Numbers.{place_of, drivers_of, rank_over}
 use Rattle.rm_model.specs.Ranks.{cover_of, rank_at, higher, rank_by}
 use Rattle.rm_model.specs.declared.parts.Cover.{Cover}
 use Rattle.rm_model.specs.declared.parts.Model.{Model}
-use Rattle.rm_model.proofs.CoverLemmas.{both, never, not_true, same_word, among-at, output-at, outputs_of}
+use Rattle.rm_model.proofs.CoverLemmas.{same_word, among-at, output-at, outputs_of}
 use Rattle.rm_model.proofs.NumberLemmas.{place_of-cover}
 use Rattle.rm_model.proofs.RankLaws.{parts_of, higher_parts, rank_from}
+use Rattle.rm_base.proofs.Public.{map_pointwise, not_excludes}
+use Rattle.rm_base.specs.Words.{Word}
 
 -- an output isn't among those before it
 pub new-output : (cs : List Cover) (i : ℕ) (c : Cover) → is_distinct (outputs_of cs) ≡ true → slice_get cs i ≡ Some c → is_among (outputs_of (take i cs)) c.output ≡ false
 new-output [] i c once e = absurd cc
 new-output (d ∷ cs) zero c once e = refl
 new-output (d ∷ cs) (suc i) c once e =
-    let parts = both (not (is_among (outputs_of cs) d.output)) (is_distinct (outputs_of cs)) once in
-    let other : is_word c.output d.output ≡ false = not_true (is_word c.output d.output) (λ same.
+    let parts = and_parts (not (is_among (outputs_of cs) d.output)) (is_distinct (outputs_of cs)) once in
+    let other : is_word c.output d.output ≡ false = false_from_ne_true (is_word c.output d.output) (λ same.
     let there : is_among (outputs_of cs) c.output ≡ true = among-at (outputs_of cs) i c.output (output-at cs i c e) in
-    never (is_among (outputs_of cs) d.output) parts.0 (subst (λ (x : Word). is_among (outputs_of cs) x ≡ true) (same_word c.output d.output same) there)) in
+    not_excludes (is_among (outputs_of cs) d.output) parts.0 (subst (λ (x : Word). is_among (outputs_of cs) x ≡ true) (same_word c.output d.output same) there)) in
     rw (other, new-output cs i c parts.1 e) refl
 
 filter_map-same : {A B : Type 0} (f g : A → Option B) → ((x : A) → f x ≡ g x) → (xs : List A) → filter_map f xs ≡ filter_map g xs
@@ -32,12 +35,8 @@ filter_map-same f g h (x ∷ xs) = rw (h x, filter_map-same f g h xs) refl
 pub drivers-by_table : (cs : List Cover) (c : Cover) → filter_map (place_of (outputs_of cs)) c.inputs ≡ drivers_of cs c
 drivers-by_table cs c = filter_map-same (place_of (outputs_of cs)) (cover_of cs) (place_of-cover cs) c.inputs
 
-map-same : {A B : Type 0} (f g : A → B) → ((x : A) → f x ≡ g x) → (xs : List A) → map f xs ≡ map g xs
-map-same f g h [] = refl
-map-same f g h (x ∷ xs) = rw (h x, map-same f g h xs) refl
-
 pub all_drivers-by_table : (cs ds : List Cover) → map (λ (c : Cover). filter_map (place_of (outputs_of cs)) c.inputs) ds ≡ map (drivers_of cs) ds
-all_drivers-by_table cs ds = map-same (λ (c : Cover). filter_map (place_of (outputs_of cs)) c.inputs) (drivers_of cs) (drivers-by_table cs) ds
+all_drivers-by_table cs ds = map_pointwise (λ (c : Cover). filter_map (place_of (outputs_of cs)) c.inputs) (drivers_of cs) (drivers-by_table cs) ds
 
 pub rank_over-push : (r : List (Option ℕ)) (xs : List ℕ) (d a n : ℕ) → rank_over r xs ≡ Some a → rank_at r d ≡ Some n → rank_over r (xs ++ d ∷ []) ≡ Some (max a (n + 1))
 rank_over-push r [] d a n e is = let zero_is : a ≡ 0 = cc in rw (is, zero_is) (ap Some (omega arith))

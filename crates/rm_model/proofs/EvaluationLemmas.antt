@@ -4,15 +4,17 @@ use Rattle.std.specs.Prelude.{slice_get, All}
 use Rattle.std.specs.Option.{option_map}
 use Rattle.std.proofs.lemmas.List.{length-map, map_more}
 use Rattle.std.proofs.lemmas.Option.{slice_get-map, slice_get_within, slice_get-get_or, slice_get_read, get_or_from_slice_get}
-use Rattle.rm_model.specs.Words.{Word}
+use Rattle.std.proofs.lemmas.Bool.{false_from_ne_true}
 use Rattle.rm_model.specs.Value.{is_among, value_of}
 use Rattle.rm_model.specs.WellFormed.{is_distinct, IsWellFormedCover}
 use Rattle.rm_model.specs.Ranks.{cover_of}
 use Rattle.rm_model.specs.Numbers.{drivers_of}
 use Rattle.rm_model.specs.Search.{list_at, IsIn, IsOrder}
 use Rattle.rm_model.specs.declared.parts.Cover.{Cover}
-use Rattle.rm_model.proofs.CoverLemmas.{all_at, all_from, not_true, among-at, at-among, outputs_of, output-at, drives-own, distinct-right}
+use Rattle.rm_model.proofs.CoverLemmas.{among-at, at-among, outputs_of, output-at, drives-own, distinct-right}
 use Rattle.rm_model.proofs.NameLemmas.{among-append, among-left, among-right, distinct-apart, same-place, in-filter_map}
+use Rattle.rm_base.proofs.Public.{all_at, all_from_places, map_found}
+use Rattle.rm_base.specs.Words.{Word}
 
 pub get-take : {X : Type 0} (n : ℕ) (xs : List X) (p : ℕ) (x : X) → slice_get (take n xs) p ≡ Some x → (p < n) × (slice_get xs p ≡ Some x)
 get-take zero [] p x e = absurd cc
@@ -27,11 +29,6 @@ take-get (suc n) [] p x lt e = absurd cc
 take-get (suc n) (y ∷ xs) zero x lt e = e
 take-get (suc n) (y ∷ xs) (suc p) x lt e = take-get n xs p x (omega (arith, lt)) e
 
-unmap : {X Y : Type 0} (f : X → Y) (xs : List X) (p : ℕ) (y : Y) → slice_get (map f xs) p ≡ Some y → (x : X) × ((slice_get xs p ≡ Some x) × (f x ≡ y))
-unmap f [] p y e = absurd cc
-unmap f (x ∷ xs) zero y e = (x, (refl, cc))
-unmap f (x ∷ xs) (suc p) y e = unmap f xs p y e
-
 module _ (covers : List Cover) where
   -- the outputs of the covers at these places
   abbrev pub outputs_at : List ℕ → List Word
@@ -42,7 +39,7 @@ module _ (covers : List Cover) where
 
   module _ (names : List Word) (once : is_distinct (names ++ outputs_of covers) ≡ true) (order : List ℕ) (is_order : IsOrder (map (drivers_of covers) covers) order) (i k : ℕ) (c : Cover) (at : slice_get order i ≡ Some k) (there : slice_get covers k ≡ Some c) where
     pub output-new : is_among (names ++ outputs_at (take i order)) c.output ≡ false
-    output-new = not_true (is_among (names ++ outputs_at (take i order)) c.output) (λ e. by (among-append names (outputs_at (take i order)) c.output e))
+    output-new = false_from_ne_true (is_among (names ++ outputs_at (take i order)) c.output) (λ e. by (among-append names (outputs_at (take i order)) c.output e))
       where
         mine : slice_get (outputs_of covers) k ≡ Some c.output
         mine = output-at covers k c there
@@ -51,7 +48,7 @@ module _ (covers : List Cover) where
         by (inl old) = distinct-apart names (outputs_of covers) c.output once old (among-at (outputs_of covers) k c.output mine)
         by (inr before) =
             let place : (p : ℕ) × (slice_get (outputs_at (take i order)) p ≡ Some c.output) = at-among (outputs_at (take i order)) c.output before in
-            let other : (j : ℕ) × ((slice_get (take i order) place.0 ≡ Some j) × (list_at (outputs_of covers) j ≡ c.output)) = unmap (list_at (outputs_of covers)) (take i order) place.0 c.output place.1 in
+            let other : (j : ℕ) × ((slice_get (take i order) place.0 ≡ Some j) × (list_at (outputs_of covers) j ≡ c.output)) = map_found (list_at (outputs_of covers)) (take i order) place.0 c.output place.1 in
             let earlier = get-take i order place.0 other.0 other.1.0 in
             let within : other.0 < length covers = omega (arith, is_order.within place.0 other.0 earlier.1, length-map covers (drivers_of covers)) in
             let theirs : slice_get (outputs_of covers) other.0 ≡ Some c.output = slice_get-get_or (outputs_of covers) other.0 [] (omega (arith, within, length-map covers (λ (c : Cover). c.output))) ∙ ap Some other.1.1 in
@@ -66,7 +63,7 @@ module _ (covers : List Cover) where
         by (inl old) = among-left names (outputs_at (take i order)) x old
         by (inr output) =
             let place : (j : ℕ) × (slice_get (outputs_of covers) j ≡ Some x) = at-among (outputs_of covers) x output in
-            let d : (e : Cover) × ((slice_get covers place.0 ≡ Some e) × (e.output ≡ x)) = unmap (λ (c : Cover). c.output) covers place.0 x place.1 in
+            let d : (e : Cover) × ((slice_get covers place.0 ≡ Some e) × (e.output ≡ x)) = map_found (λ (c : Cover). c.output) covers place.0 x place.1 in
             let own : cover_of covers x ≡ Some place.0 = subst (λ (w : Word). cover_of covers w ≡ Some place.0) d.1.1 (drives-own covers place.0 d.0 (distinct-right names (outputs_of covers) once) d.1.0) in
             let mine : IsIn (drivers_of covers c) place.0 = in-filter_map (cover_of covers) c.inputs p place.0 x reads own in
             let list : list_at (map (drivers_of covers) covers) k ≡ drivers_of covers c = get_or_from_slice_get (map (drivers_of covers) covers) k (drivers_of covers c) [] (slice_get-map (drivers_of covers) covers k ∙ ap (option_map (drivers_of covers)) there) in
@@ -103,7 +100,7 @@ module _ (covers : List Cover) where
     pub step-inputs : All (λ (c : Cover). All (λ x. is_among (names ++ outputs_of covers) x ≡ true) c.inputs) covers → All (λ x. is_among (names ++ outputs_at (take i order)) x ≡ true) c.inputs
     step-inputs driven =
         let mine = all_at (λ (c : Cover). All (λ x. is_among (names ++ outputs_of covers) x ≡ true) c.inputs) covers (get_or order i 0) c driven stands-there in
-        all_from (λ (x : Word). is_among (names ++ outputs_at (take i order)) x ≡ true) c.inputs (λ p x at. input-known names once order is_order i (get_or order i 0) c stands-at stands-there x p at (all_at (λ (x : Word). is_among (names ++ outputs_of covers) x ≡ true) c.inputs p x mine at))
+        all_from_places (λ (x : Word). is_among (names ++ outputs_at (take i order)) x ≡ true) c.inputs (λ p x at. input-known names once order is_order i (get_or order i 0) c stands-at stands-there x p at (all_at (λ (x : Word). is_among (names ++ outputs_of covers) x ≡ true) c.inputs p x mine at))
 
     pub step-rows : All IsWellFormedCover covers → All (λ r. length r ≡ length c.inputs) c.rows
     step-rows formed = let mine : IsWellFormedCover c = all_at IsWellFormedCover covers (get_or order i 0) c formed stands-there in mine.row_lengths

@@ -3,13 +3,16 @@ use Rattle.std.proofs.Common.{◌≡◌, ℕ, zero, suc, ◌<◌, ◌+◌, ◌-�
 use Rattle.std.specs.Prelude.{slice_get, nat_eq, IsTrue, ◌↔◌}
 use Rattle.std.specs.List.{list_all}
 use Rattle.std.proofs.lemmas.List.{take_more, take-append-drop}
-use Rattle.rm_model.specs.Words.{Word, is_word}
+use Rattle.std.proofs.lemmas.Bool.{and_parts, false_from_ne_true}
+use Rattle.rm_model.specs.Words.{is_word}
 use Rattle.rm_model.specs.Value.{is_among}
-use Rattle.rm_model.specs.WellFormed.{driven_names, ends_in_backslash, is_distinct, is_token, is_word_byte, names_of, used_names, AreFormed, AreOnce, IsWellFormed}
+use Rattle.rm_model.specs.WellFormed.{driven_names, ends_in_backslash, is_distinct, is_token, names_of, used_names, AreFormed, AreOnce, IsWellFormed}
 use Rattle.rm_model.specs.declared.parts.Model.{Model}
-use Rattle.rm_model.proofs.CoverLemmas.{both, never, not_true, same_word, is_word-same, among-at}
+use Rattle.rm_model.proofs.CoverLemmas.{same_word, is_word-same, among-at}
 use Rattle.rm_model.proofs.NameLemmas.{distinct-apart}
 use Rattle.rm_model.proofs.NumberLemmas.{among-push}
+use Rattle.rm_base.proofs.Public.{not_excludes}
+use Rattle.rm_base.specs.Words.{Word, is_word_byte}
 
 pub ends-last : (xs : List ℕ) (n : ℕ) → length xs ≡ suc n → ends_in_backslash xs ≡ nat_eq (get_or xs n 0) 92
 ends-last [] n e = absurd (omega (arith, e))
@@ -26,10 +29,10 @@ token-parts (x ∷ xs) lt = refl
 pub distinct-push : (xs : List Word) (y : Word) → is_distinct xs ≡ true → is_among xs y ≡ false → is_distinct (xs ++ y ∷ []) ≡ true
 distinct-push [] y once new = refl
 distinct-push (x ∷ xs) y once new =
-    let parts = both (not (is_among xs x)) (is_distinct xs) once in
+    let parts = and_parts (not (is_among xs x)) (is_distinct xs) once in
     let apart = neither (is_word y x) (is_among xs y) new in
-    let other : is_word x y ≡ false = not_true (is_word x y) (λ same. let is : x ≡ y = same_word x y same in let back : is_word y x ≡ true = subst (λ (z : Word). is_word z x ≡ true) is (is_word-same x) in let no_more = apart.0 in cc) in
-    let first : is_among xs x ≡ false = not_true (is_among xs x) (never (is_among xs x) parts.0) in
+    let other : is_word x y ≡ false = false_from_ne_true (is_word x y) (λ same. let is : x ≡ y = same_word x y same in let back : is_word y x ≡ true = subst (λ (z : Word). is_word z x ≡ true) is (is_word-same x) in let no_more = apart.0 in cc) in
+    let first : is_among xs x ≡ false = false_from_ne_true (is_among xs x) (not_excludes (is_among xs x) parts.0) in
     let among : is_among (xs ++ y ∷ []) x ≡ false = among-push xs y x ∙ rw (first, other) refl in
     rw (among, distinct-push xs y parts.1 apart.1) refl
   where
@@ -43,7 +46,7 @@ among-drop (y ∷ xs) zero x e = among-at (y ∷ xs) zero x e
 among-drop (y ∷ xs) (suc i) x e = among-drop xs i x e
 
 pub repeated : (xs : List Word) (i : ℕ) (x : Word) → slice_get xs i ≡ Some x → is_among (take i xs) x ≡ true → is_distinct xs ≡ false
-repeated xs i x at before = not_true (is_distinct xs) (λ once.
+repeated xs i x at before = false_from_ne_true (is_distinct xs) (λ once.
     let parted : is_distinct (take i xs ++ drop i xs) ≡ true = subst (λ (l : List Word). is_distinct l ≡ true) (sym (take-append-drop i xs)) once in
     distinct-apart (take i xs) (drop i xs) x parted before (among-drop xs i x at))
 
@@ -76,9 +79,9 @@ formed-exactly m once tokens known formed r e first second third fourth = (to, f
     to : IsTrue r → IsWellFormed m
     to yes_r =
         let all : (once && (tokens && (known && formed))) ≡ true = sym e ∙ yes_r in
-        let a = both once (tokens && (known && formed)) all in
-        let b = both tokens (known && formed) a.1 in
-        let d = both known formed b.1 in
+        let a = and_parts once (tokens && (known && formed)) all in
+        let b = and_parts tokens (known && formed) a.1 in
+        let d = and_parts known formed b.1 in
         let o : AreOnce m = first.0 a.0 in
         let f : AreFormed m = fourth.0 d.1 in
         record { tokens = sym second ∙ b.0; inputs_once = o.0; clocks_once = o.1; driven_once = o.3; outputs_once = o.2; all_driven = sym third ∙ d.0; covers = f.0; inits = f.1; controls = f.2 }

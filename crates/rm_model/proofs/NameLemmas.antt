@@ -4,12 +4,16 @@ use Rattle.std.specs.Prelude.{slice_get}
 use Rattle.std.specs.List.{list_all, flat_map, filter_map, cons_option}
 use Rattle.std.specs.Option.{option_map}
 use Rattle.std.proofs.lemmas.Option.{slice_get-map, get_or_from_slice_get}
-use Rattle.rm_model.specs.Words.{Word, is_word}
+use Rattle.std.proofs.Math.Bool.{or-true}
+use Rattle.std.proofs.lemmas.Bool.{and_parts, false_from_ne_true, or_cases}
+use Rattle.rm_model.specs.Words.{is_word}
 use Rattle.rm_model.specs.Value.{is_among}
 use Rattle.rm_model.specs.WellFormed.{is_distinct}
 use Rattle.rm_model.specs.Numbers.{place_of}
 use Rattle.rm_model.specs.declared.parts.Cover.{Cover}
-use Rattle.rm_model.proofs.CoverLemmas.{both, either, or_true, never, not_true, same_word, among-at}
+use Rattle.rm_model.proofs.CoverLemmas.{same_word, among-at}
+use Rattle.rm_base.proofs.Public.{list_all-parts, not_excludes}
+use Rattle.rm_base.specs.Words.{Word}
 
 pub place-found : (ys : List Word) (x : Word) (k : ℕ) → place_of ys x ≡ Some k → slice_get ys k ≡ Some x
 place-found [] x k e = absurd cc
@@ -37,37 +41,37 @@ value-at v names values k x b e at is =
 
 pub among-append : (xs ys : List Word) (x : Word) → is_among (xs ++ ys) x ≡ true → (is_among xs x ≡ true) ⊎ (is_among ys x ≡ true)
 among-append [] ys x e = inr e
-among-append (z ∷ xs) ys x e = elim (either (is_word x z) (is_among (xs ++ ys) x) e) [
+among-append (z ∷ xs) ys x e = elim (or_cases (is_word x z) (is_among (xs ++ ys) x) e) [
   | inl here ↦ inl (ap (λ (b : Bool). b || is_among xs x) here)
-  | inr later ↦ elim (among-append xs ys x later) [ inl h ↦ inl (ap (λ (b : Bool). is_word x z || b) h ∙ or_true (is_word x z)) | inr h ↦ inr h ]
+  | inr later ↦ elim (among-append xs ys x later) [ inl h ↦ inl (ap (λ (b : Bool). is_word x z || b) h ∙ or-true (is_word x z)) | inr h ↦ inr h ]
 ]
 
 pub among-left : (xs ys : List Word) (x : Word) → is_among xs x ≡ true → is_among (xs ++ ys) x ≡ true
 among-left [] ys x e = absurd cc
-among-left (z ∷ xs) ys x e = elim (either (is_word x z) (is_among xs x) e) [
+among-left (z ∷ xs) ys x e = elim (or_cases (is_word x z) (is_among xs x) e) [
   | inl here ↦ ap (λ (b : Bool). b || is_among (xs ++ ys) x) here
-  | inr later ↦ ap (λ (b : Bool). is_word x z || b) (among-left xs ys x later) ∙ or_true (is_word x z)
+  | inr later ↦ ap (λ (b : Bool). is_word x z || b) (among-left xs ys x later) ∙ or-true (is_word x z)
 ]
 
 pub among-right : (xs ys : List Word) (x : Word) → is_among ys x ≡ true → is_among (xs ++ ys) x ≡ true
 among-right [] ys x e = e
-among-right (z ∷ xs) ys x e = ap (λ (b : Bool). is_word x z || b) (among-right xs ys x e) ∙ or_true (is_word x z)
+among-right (z ∷ xs) ys x e = ap (λ (b : Bool). is_word x z || b) (among-right xs ys x e) ∙ or-true (is_word x z)
 
 -- no name of a list stands behind it again
 pub distinct-apart : (xs ys : List Word) (x : Word) → is_distinct (xs ++ ys) ≡ true → is_among xs x ≡ true → is_among ys x ≡ true → ⊥
 distinct-apart [] ys x once e f = cc
 distinct-apart (z ∷ xs) ys x once e f =
-    let parts = both (not (is_among (xs ++ ys) z)) (is_distinct (xs ++ ys)) once in
-    elim (either (is_word x z) (is_among xs x) e) [
-      | inl here ↦ never (is_among (xs ++ ys) z) parts.0 (among-right xs ys z (subst (λ (w : Word). is_among ys w ≡ true) (same_word x z here) f))
+    let parts = and_parts (not (is_among (xs ++ ys) z)) (is_distinct (xs ++ ys)) once in
+    elim (or_cases (is_word x z) (is_among xs x) e) [
+      | inl here ↦ not_excludes (is_among (xs ++ ys) z) parts.0 (among-right xs ys z (subst (λ (w : Word). is_among ys w ≡ true) (same_word x z here) f))
       | inr later ↦ distinct-apart xs ys x parts.1 later f
     ]
 
 pub distinct-left : (xs ys : List Word) → is_distinct (xs ++ ys) ≡ true → is_distinct xs ≡ true
 distinct-left [] ys once = refl
 distinct-left (z ∷ xs) ys once =
-    let parts = both (not (is_among (xs ++ ys) z)) (is_distinct (xs ++ ys)) once in
-    let new : is_among xs z ≡ false = not_true (is_among xs z) (λ e. never (is_among (xs ++ ys) z) parts.0 (among-left xs ys z e)) in
+    let parts = and_parts (not (is_among (xs ++ ys) z)) (is_distinct (xs ++ ys)) once in
+    let new : is_among xs z ≡ false = false_from_ne_true (is_among xs z) (λ e. not_excludes (is_among (xs ++ ys) z) parts.0 (among-left xs ys z e)) in
     rw (new, distinct-left xs ys parts.1) refl
 
 -- a name isn't among those before it
@@ -75,38 +79,22 @@ pub new-word : (xs : List Word) (i : ℕ) (x : Word) → is_distinct xs ≡ true
 new-word [] i x once e = absurd cc
 new-word (y ∷ xs) zero x once e = refl
 new-word (y ∷ xs) (suc i) x once e =
-    let parts = both (not (is_among xs y)) (is_distinct xs) once in
-    let other : is_word x y ≡ false = not_true (is_word x y) (λ same. never (is_among xs y) parts.0 (subst (λ (w : Word). is_among xs w ≡ true) (same_word x y same) (among-at xs i x e))) in
+    let parts = and_parts (not (is_among xs y)) (is_distinct xs) once in
+    let other : is_word x y ≡ false = false_from_ne_true (is_word x y) (λ same. not_excludes (is_among xs y) parts.0 (subst (λ (w : Word). is_among xs w ≡ true) (same_word x y same) (among-at xs i x e))) in
     rw (other, new-word xs i x parts.1 e) refl
 
 -- two places of one name are one
 pub same-place : (xs : List Word) (i j : ℕ) (x : Word) → is_distinct xs ≡ true → slice_get xs i ≡ Some x → slice_get xs j ≡ Some x → i ≡ j
 same-place [] i j x once e f = absurd cc
 same-place (y ∷ xs) zero zero x once e f = refl
-same-place (y ∷ xs) zero (suc j) x once e f = let is : x ≡ y = cc in absurd (never (is_among xs y) (both (not (is_among xs y)) (is_distinct xs) once).0 (subst (λ (w : Word). is_among xs w ≡ true) is (among-at xs j x f)))
-same-place (y ∷ xs) (suc i) zero x once e f = let is : x ≡ y = cc in absurd (never (is_among xs y) (both (not (is_among xs y)) (is_distinct xs) once).0 (subst (λ (w : Word). is_among xs w ≡ true) is (among-at xs i x e)))
-same-place (y ∷ xs) (suc i) (suc j) x once e f = ap suc (same-place xs i j x (both (not (is_among xs y)) (is_distinct xs) once).1 e f)
-
-pub list_all-append : {X : Type 0} (p : X → Bool) (xs ys : List X) → list_all p (xs ++ ys) ≡ true → (list_all p xs ≡ true) × (list_all p ys ≡ true)
-list_all-append p [] ys e = (refl, e)
-list_all-append p (x ∷ xs) ys e =
-    let parts = both (p x) (list_all p (xs ++ ys)) e in
-    let rest = list_all-append p xs ys parts.1 in
-    (rw (parts.0, rest.0) refl, rest.1)
-
-pub list_all-join : {X : Type 0} (p : X → Bool) (xs ys : List X) → list_all p xs ≡ true → list_all p ys ≡ true → list_all p (xs ++ ys) ≡ true
-list_all-join p [] ys e f = f
-list_all-join p (x ∷ xs) ys e f = let parts = both (p x) (list_all p xs) e in rw (parts.0, list_all-join p xs ys parts.1 f) refl
-
-pub list_all-at : {X : Type 0} (p : X → Bool) (xs : List X) (k : ℕ) (x : X) → list_all p xs ≡ true → slice_get xs k ≡ Some x → p x ≡ true
-list_all-at p [] k x e at = absurd cc
-list_all-at p (y ∷ xs) zero x e at = let is : y ≡ x = cc in subst (λ (z : _). p z ≡ true) is (both (p y) (list_all p xs) e).0
-list_all-at p (y ∷ xs) (suc k) x e at = list_all-at p xs k x (both (p y) (list_all p xs) e).1 at
+same-place (y ∷ xs) zero (suc j) x once e f = let is : x ≡ y = cc in absurd (not_excludes (is_among xs y) (and_parts (not (is_among xs y)) (is_distinct xs) once).0 (subst (λ (w : Word). is_among xs w ≡ true) is (among-at xs j x f)))
+same-place (y ∷ xs) (suc i) zero x once e f = let is : x ≡ y = cc in absurd (not_excludes (is_among xs y) (and_parts (not (is_among xs y)) (is_distinct xs) once).0 (subst (λ (w : Word). is_among xs w ≡ true) is (among-at xs i x e)))
+same-place (y ∷ xs) (suc i) (suc j) x once e f = ap suc (same-place xs i j x (and_parts (not (is_among xs y)) (is_distinct xs) once).1 e f)
 
 pub list_all-inputs : (p : Word → Bool) (cs : List Cover) (k : ℕ) (c : Cover) → list_all p (flat_map (λ (c : Cover). c.inputs) cs) ≡ true → slice_get cs k ≡ Some c → list_all p c.inputs ≡ true
 list_all-inputs p [] k c e at = absurd cc
-list_all-inputs p (d ∷ cs) zero c e at = let is : d ≡ c = cc in subst (λ (c : Cover). list_all p c.inputs ≡ true) is (list_all-append p d.inputs (flat_map (λ (c : Cover). c.inputs) cs) e).0
-list_all-inputs p (d ∷ cs) (suc k) c e at = list_all-inputs p cs k c (list_all-append p d.inputs (flat_map (λ (c : Cover). c.inputs) cs) e).1 at
+list_all-inputs p (d ∷ cs) zero c e at = let is : d ≡ c = cc in subst (λ (c : Cover). list_all p c.inputs ≡ true) is (list_all-parts p d.inputs (flat_map (λ (c : Cover). c.inputs) cs) e).0
+list_all-inputs p (d ∷ cs) (suc k) c e at = list_all-inputs p cs k c (list_all-parts p d.inputs (flat_map (λ (c : Cover). c.inputs) cs) e).1 at
 
 pub in-filter_map : (f : Word → Option ℕ) (xs : List Word) (p d : ℕ) (x : Word) → slice_get xs p ≡ Some x → f x ≡ Some d → (q : ℕ) × (slice_get (filter_map f xs) q ≡ Some d)
 in-filter_map f [] p d x at e = absurd cc
@@ -116,12 +104,3 @@ in-filter_map f (y ∷ xs) (suc p) d x at e = go (f y) (in-filter_map f xs p d x
     go : (o : Option ℕ) → ((q : ℕ) × (slice_get (filter_map f xs) q ≡ Some d)) → (q : ℕ) × (slice_get (cons_option o (filter_map f xs)) q ≡ Some d)
     go None r = r
     go (Some z) r = (suc r.0, r.1)
-
-pub map-same-in : (v w : Word → Bool) (xs : List Word) → ((p : ℕ) (x : Word) → slice_get xs p ≡ Some x → v x ≡ w x) → map v xs ≡ map w xs
-map-same-in v w [] h = refl
-map-same-in v w (x ∷ xs) h = let here : v x ≡ w x = h 0 x refl in rw (here, map-same-in v w xs (λ p. h (suc p))) refl
-
-pub same-in-map : (v w : Word → Bool) (xs : List Word) (p : ℕ) (x : Word) → map v xs ≡ map w xs → slice_get xs p ≡ Some x → v x ≡ w x
-same-in-map v w [] p x e at = absurd cc
-same-in-map v w (y ∷ xs) zero x e at = let is : y ≡ x = cc in let here : v y ≡ w y = cc in subst (λ (z : Word). v z ≡ w z) is here
-same-in-map v w (y ∷ xs) (suc p) x e at = let rest : map v xs ≡ map w xs = cc in same-in-map v w xs p x rest at

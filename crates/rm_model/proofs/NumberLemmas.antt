@@ -2,14 +2,15 @@
 use Rattle.std.proofs.Common.{◌≡◌, ℕ, suc, ◌<◌, ◌+◌, List, [], ◌∷◌, ◌++◌, Bool, true, false, cond, not, ◌||◌, filter, Option, Some, None, inl, inr, refl, sym, ap, ◌∙◌, subst, arith}
 use Rattle.std.specs.Prelude.{nat_lt}
 use Rattle.std.specs.Option.{option_map}
-use Rattle.std.proofs.lemmas.Bool.{cases_lt}
+use Rattle.std.proofs.lemmas.Bool.{cases_lt, false_from_ne_true}
 use Rattle.std.proofs.lemmas.Bool.Decides.{Decides-ltb}
-use Rattle.rm_model.specs.Words.{Word, is_word}
+use Rattle.rm_model.specs.Words.{is_word}
 use Rattle.rm_model.specs.Value.{is_among}
 use Rattle.rm_model.specs.Numbers.{place_of}
 use Rattle.rm_model.specs.Ranks.{cover_of}
 use Rattle.rm_model.specs.declared.parts.Cover.{Cover}
-use Rattle.rm_model.proofs.CoverLemmas.{not_true, same_word, outputs_of}
+use Rattle.rm_model.proofs.CoverLemmas.{same_word, outputs_of}
+use Rattle.rm_base.specs.Words.{Word}
 
 pub position-step : (b : Bool) (n l : ℕ) → cond (nat_lt (cond (not b) (1 + n) 0) (suc l)) (Some (cond (not b) (1 + n) 0)) None ≡ cond b (Some 0) (option_map (λ k. suc k) (cond (nat_lt n l) (Some n) None))
 position-step true n l = let first : nat_lt 0 (suc l) ≡ true = (Decides-ltb 0 (suc l)).1 (omega arith) in rw first refl
@@ -19,8 +20,8 @@ position-step false n l = elim (cases_lt n l) [
       let next : nat_lt (1 + n) (suc l) ≡ true = (Decides-ltb (1 + n) (suc l)).1 (omega (arith, lt)) in
       rw (here, next) (ap Some (omega arith))
   | inr le ↦
-      let here : nat_lt n l ≡ false = not_true (nat_lt n l) (λ e. let lt : n < l = (Decides-ltb n l).0 e in omega (arith, lt, le)) in
-      let next : nat_lt (1 + n) (suc l) ≡ false = not_true (nat_lt (1 + n) (suc l)) (λ e. let lt : 1 + n < suc l = (Decides-ltb (1 + n) (suc l)).0 e in omega (arith, lt, le)) in
+      let here : nat_lt n l ≡ false = false_from_ne_true (nat_lt n l) (λ e. let lt : n < l = (Decides-ltb n l).0 e in omega (arith, lt, le)) in
+      let next : nat_lt (1 + n) (suc l) ≡ false = false_from_ne_true (nat_lt (1 + n) (suc l)) (λ e. let lt : 1 + n < suc l = (Decides-ltb (1 + n) (suc l)).0 e in omega (arith, lt, le)) in
       rw (here, next) refl
 ]
 

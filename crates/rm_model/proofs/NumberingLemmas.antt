@@ -3,9 +3,9 @@ use Rattle.std.proofs.Common.{◌≡◌, ◌<◌, ◌+◌, ◌-◌, ℕ, zero, s
 use Rattle.std.specs.Prelude.{slice_get, nat_lt, ◌||◌}
 use Rattle.std.specs.List.{flat_map, filter_map, cons_option, list_all}
 use Rattle.std.specs.Option.{option_map}
-use Rattle.std.proofs.lemmas.Bool.{cases_lt}
+use Rattle.std.proofs.lemmas.Bool.{cases_lt, false_from_ne_true}
 use Rattle.std.proofs.lemmas.Bool.Decides.{Decides-ltb}
-use Rattle.rm_model.specs.Words.{Word, is_word}
+use Rattle.rm_model.specs.Words.{is_word}
 use Rattle.rm_model.specs.Value.{control_of, is_among, observed_names, source_names}
 use Rattle.rm_model.specs.WellFormed.{driven_names, is_distinct, used_names, IsWellFormed}
 use Rattle.rm_model.specs.Numbers.{drivers_of, place_of, rank_over, IsFixed}
@@ -14,12 +14,14 @@ use Rattle.rm_model.specs.Signals.{cover_at, AreNumbers}
 use Rattle.rm_model.specs.declared.parts.Cover.{Cover}
 use Rattle.rm_model.specs.declared.parts.Latch.{Latch}
 use Rattle.rm_model.specs.declared.parts.Model.{Model}
-use Rattle.rm_model.proofs.CoverLemmas.{among-at, drives-of, not_true, output-at, outputs_of, distinct-right}
-use Rattle.rm_model.proofs.NameLemmas.{among-append, distinct-apart, list_all-append, list_all-join, new-word, place-absent}
+use Rattle.rm_model.proofs.CoverLemmas.{among-at, drives-of, output-at, outputs_of, distinct-right}
+use Rattle.rm_model.proofs.NameLemmas.{among-append, distinct-apart, new-word, place-absent}
+use Rattle.rm_base.proofs.Public.{list_all-parts, list_all-join}
+use Rattle.rm_base.specs.Words.{Word}
 
 -- the next of distinct names is new
 pub next-is-new : (xs ys : List Word) (i : ℕ) (x : Word) → is_distinct (xs ++ ys) ≡ true → slice_get ys i ≡ Some x → is_among (xs ++ take i ys) x ≡ false
-next-is-new xs ys i x once at = not_true (is_among (xs ++ take i ys) x) (λ e. elim (among-append xs (take i ys) x e) [
+next-is-new xs ys i x once at = false_from_ne_true (is_among (xs ++ take i ys) x) (λ e. elim (among-append xs (take i ys) x e) [
   | inl h ↦ distinct-apart xs ys x once h (among-at ys i x at)
   | inr h ↦ let new : is_among (take i ys) x ≡ false = new-word ys i x (distinct-right xs ys once) at in cc
 ])
@@ -74,7 +76,7 @@ cover-at-number ns cs x k once e = elim (place-in-two ns (outputs_of cs) x k e) 
       let none : cover_of cs x ≡ None = no-cover cs x (λ out. distinct-apart ns (outputs_of cs) x once h.1 out) in
       rw lt (sym none)
   | inr h ↦
-      let ge : nat_lt k (length ns) ≡ false = not_true (nat_lt k (length ns)) (λ e. let lt : k < length ns = (Decides-ltb k (length ns)).0 e in omega (arith, lt, h.1.0)) in
+      let ge : nat_lt k (length ns) ≡ false = false_from_ne_true (nat_lt k (length ns)) (λ e. let lt : k < length ns = (Decides-ltb k (length ns)).0 e in omega (arith, lt, h.1.0)) in
       let place : k - length ns ≡ h.0 = omega (arith, h.1.0) in
       rw ge (ap Some place ∙ (sym h.1.1 ∙ place-of-cover cs x))
 ]
@@ -117,19 +119,19 @@ numbered-lists m inputs s once is e =
 all-inputs : (p : Word → Bool) (cs : List Cover) → list_all p (flat_map (λ (c : Cover). c.inputs) cs) ≡ true → list_all (λ (c : Cover). list_all p c.inputs) cs ≡ true
 all-inputs p [] e = refl
 all-inputs p (c ∷ cs) e =
-    let parts = list_all-append p c.inputs (flat_map (λ (c : Cover). c.inputs) cs) e in
+    let parts = list_all-parts p c.inputs (flat_map (λ (c : Cover). c.inputs) cs) e in
     rw (parts.0, all-inputs p cs parts.1) refl
 
 pub inputs-driven : (m : Model) → IsWellFormed m → list_all (λ (c : Cover). list_all (is_among (driven_names m)) c.inputs) m.covers ≡ true
 inputs-driven m w =
-    let controls = list_all-append (is_among (driven_names m)) ((m.outputs ++ flat_map (λ (c : Cover). c.inputs) m.covers) ++ map (λ (l : Latch). l.input) m.latches) (filter_map control_of m.latches) w.all_driven in
-    let latches = list_all-append (is_among (driven_names m)) (m.outputs ++ flat_map (λ (c : Cover). c.inputs) m.covers) (map (λ (l : Latch). l.input) m.latches) controls.0 in
-    let outputs = list_all-append (is_among (driven_names m)) m.outputs (flat_map (λ (c : Cover). c.inputs) m.covers) latches.0 in
+    let controls = list_all-parts (is_among (driven_names m)) ((m.outputs ++ flat_map (λ (c : Cover). c.inputs) m.covers) ++ map (λ (l : Latch). l.input) m.latches) (filter_map control_of m.latches) w.all_driven in
+    let latches = list_all-parts (is_among (driven_names m)) (m.outputs ++ flat_map (λ (c : Cover). c.inputs) m.covers) (map (λ (l : Latch). l.input) m.latches) controls.0 in
+    let outputs = list_all-parts (is_among (driven_names m)) m.outputs (flat_map (λ (c : Cover). c.inputs) m.covers) latches.0 in
     all-inputs (is_among (driven_names m)) m.covers outputs.1
 
 pub observed-all-driven : (m : Model) → IsWellFormed m → list_all (is_among (driven_names m)) (observed_names m) ≡ true
 observed-all-driven m w =
-    let controls = list_all-append (is_among (driven_names m)) ((m.outputs ++ flat_map (λ (c : Cover). c.inputs) m.covers) ++ map (λ (l : Latch). l.input) m.latches) (filter_map control_of m.latches) w.all_driven in
-    let latches = list_all-append (is_among (driven_names m)) (m.outputs ++ flat_map (λ (c : Cover). c.inputs) m.covers) (map (λ (l : Latch). l.input) m.latches) controls.0 in
-    let outputs = list_all-append (is_among (driven_names m)) m.outputs (flat_map (λ (c : Cover). c.inputs) m.covers) latches.0 in
+    let controls = list_all-parts (is_among (driven_names m)) ((m.outputs ++ flat_map (λ (c : Cover). c.inputs) m.covers) ++ map (λ (l : Latch). l.input) m.latches) (filter_map control_of m.latches) w.all_driven in
+    let latches = list_all-parts (is_among (driven_names m)) (m.outputs ++ flat_map (λ (c : Cover). c.inputs) m.covers) (map (λ (l : Latch). l.input) m.latches) controls.0 in
+    let outputs = list_all-parts (is_among (driven_names m)) m.outputs (flat_map (λ (c : Cover). c.inputs) m.covers) latches.0 in
     list_all-join (is_among (driven_names m)) (m.outputs ++ map (λ (l : Latch). l.input) m.latches) (filter_map control_of m.latches) (list_all-join (is_among (driven_names m)) m.outputs (map (λ (l : Latch). l.input) m.latches) outputs.0 latches.1) controls.1

@@ -1,23 +1,7 @@
 -- What stands at a place of a list after a push or a write.
-use Rattle.std.proofs.Common.{◌≡◌, ◌≢◌, ℕ, zero, suc, ◌<◌, List, [], ◌∷◌, ◌++◌, length, set, get_or, Some, ◌⊎◌, inl, inr, refl, sym, ap, subst}
+use Rattle.std.proofs.Common.{◌≡◌, ◌≢◌, ℕ, zero, suc, ◌<◌, List, [], ◌∷◌, length, set, get_or, Some, ◌⊎◌, inl, inr, refl, sym, ap, subst}
 use Rattle.std.specs.Prelude.{slice_get}
 use Rattle.std.proofs.lemmas.List.{get_or-set_same, get_or-set_other}
-use Rattle.std.proofs.lemmas.Bool.Decides.{eqb_tells}
-
-pub get-left : {X : Type 0} (xs ys : List X) (p : ℕ) (x : X) → slice_get xs p ≡ Some x → slice_get (xs ++ ys) p ≡ Some x
-get-left [] ys p x e = absurd cc
-get-left (z ∷ xs) ys zero x e = e
-get-left (z ∷ xs) ys (suc p) x e = get-left xs ys p x e
-
-pub get-last : {X : Type 0} (xs : List X) (y : X) → slice_get (xs ++ y ∷ []) (length xs) ≡ Some y
-get-last [] y = refl
-get-last (z ∷ xs) y = get-last xs y
-
-pub get-push : {X : Type 0} (xs : List X) (y : X) (p : ℕ) (x : X) → slice_get (xs ++ y ∷ []) p ≡ Some x → (slice_get xs p ≡ Some x) ⊎ ((p ≡ length xs) × (x ≡ y))
-get-push [] y zero x e = let is : y ≡ x = cc in inr (refl, sym is)
-get-push [] y (suc p) x e = absurd cc
-get-push (z ∷ xs) y zero x e = inl e
-get-push (z ∷ xs) y (suc p) x e = elim (get-push xs y p x e) [ inl h ↦ inl h | inr h ↦ inr (ap suc h.0, h.1) ]
 
 pub get-set : {X : Type 0} (xs : List X) (k : ℕ) (v : X) (j : ℕ) (x : X) → slice_get (set xs k v) j ≡ Some x → ((j ≡ k) × (x ≡ v)) ⊎ (slice_get xs j ≡ Some x)
 get-set [] k v j x e = absurd cc
@@ -36,6 +20,3 @@ written xs k v j d lt = record {
   here = λ e. subst (λ (i : ℕ). get_or (set xs k v) i d ≡ v) (sym e) (get_or-set_same xs k v d lt);
   elsewhere = λ ne. get_or-set_other xs k j v d ne;
 }
-
-pub same_or_not : (j k : ℕ) → (j ≡ k) ⊎ (j ≢ k)
-same_or_not j k = elim (eqb_tells j k) [ inl h ↦ inl h.1 | inr h ↦ inr h.1 ]

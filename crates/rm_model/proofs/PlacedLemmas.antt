@@ -11,11 +11,13 @@ use Rattle.std.specs.declared.cmp.Ordering.TheVariants.{Less, Equal, Greater}
 use Rattle.std.specs.Option.{option_map}
 use Rattle.std.proofs.lemmas.List.{length-map}
 use Rattle.std.proofs.lemmas.Map.Text.{is_eq-slice_cmp}
+use Rattle.std.proofs.lemmas.Bool.{false_from_ne_true}
 use Rattle.rm_model.specs.PlacedNames.{key_order, name_hash}
-use Rattle.rm_model.specs.Words.{Word, is_word}
+use Rattle.rm_model.specs.Words.{is_word}
 use Rattle.rm_model.specs.Value.{is_among}
 use Rattle.rm_model.specs.Numbers.{place_of}
-use Rattle.rm_model.proofs.CoverLemmas.{not_true, same_word, is_word-same}
+use Rattle.rm_model.proofs.CoverLemmas.{same_word, is_word-same}
+use Rattle.rm_base.specs.Words.{Word}
 
 -- the words that a list of references shows
 abbrev pub shown : List (Bor Word) → List Word
@@ -29,8 +31,8 @@ nat_cmp-same n = sym (nat_cmp_is n n Equal refl)
 
 equal_or_not : (x y : Word) (o : Ordering) → (x ≡ y → o ≡ Equal) → is_eq (ordering_then o (slice_cmp nat_cmp x y)) ≡ is_word x y
 equal_or_not x y Equal h = is_eq-slice_cmp x y
-equal_or_not x y Less h = sym (not_true (is_word x y) (λ e. let wrong : Less ≡ Equal = h (same_word x y e) in absurd cc))
-equal_or_not x y Greater h = sym (not_true (is_word x y) (λ e. let wrong : Greater ≡ Equal = h (same_word x y e) in absurd cc))
+equal_or_not x y Less h = sym (false_from_ne_true (is_word x y) (λ e. let wrong : Less ≡ Equal = h (same_word x y e) in absurd cc))
+equal_or_not x y Greater h = sym (false_from_ne_true (is_word x y) (λ e. let wrong : Greater ≡ Equal = h (same_word x y e) in absurd cc))
 
 -- a name's key is that of no other name
 key-tells : (k : Bor Word) (x : Word) → is_eq (key_order k.now (name_hash x, record k { now = x })) ≡ is_word k.now x

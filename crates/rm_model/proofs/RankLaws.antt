@@ -3,10 +3,10 @@ use Rattle.std.proofs.Common.{◌≡◌, ℕ, zero, suc, ◌<◌, ◌≤◌, Lis
 use Rattle.std.proofs.lemmas.List.{length-replicate}
 use Rattle.std.specs.Prelude.{slice_get}
 use Rattle.std.specs.Option.{option_map}
-use Rattle.rm_model.specs.Words.{Word}
 use Rattle.rm_model.specs.Ranks.{cover_of, higher, highest, rank_at, rank_above, rank_by, ranks_below, ranks_of, AreRanks}
 use Rattle.rm_model.specs.declared.parts.Cover.{Cover}
 use Rattle.rm_model.specs.declared.parts.Model.{Model}
+use Rattle.rm_base.specs.Words.{Word}
 
 -- whatever the first list tells the second tells too
 abbrev pub Below : List (Option ℕ) → List (Option ℕ) → Type 0
@@ -30,9 +30,6 @@ at_replicate (suc n) (suc k) = at_replicate n k
 pub length_map : {A : Type 0} (f : A → Option ℕ) (cs : List A) → length (map f cs) ≡ length cs
 length_map f [] = refl
 length_map f (c ∷ cs) = ap suc (length_map f cs)
-
-pub some_same : {n k : ℕ} → Some n ≡ Some k → n ≡ k
-some_same e = cc
 
 -- the two parts of a rank of several inputs
 pub record Parts (a b : Option ℕ) (n : ℕ) : Type 0 where

@@ -2,21 +2,19 @@
 use Rattle.std.proofs.Common.{◌≡◌, ℕ, zero, suc, ◌<◌, ◌≤◌, List, [], ◌∷◌, length, max, Bool, true, false, cond, Option, Some, None, ◌⊎◌, inl, inr, refl, sym, ap, ◌∙◌, subst, arith, get_or}
 use Rattle.std.specs.Prelude.{slice_get, is_none, All, nat_lt, unwrap_or}
 use Rattle.std.specs.List.{position_or_len}
-use Rattle.std.proofs.lemmas.Bool.{cases_lt}
+use Rattle.std.proofs.lemmas.Bool.{cases_lt, false_from_ne_true}
 use Rattle.std.proofs.lemmas.Bool.Decides.{Decides-ltb}
 use Rattle.std.proofs.lemmas.Option.{slice_get_cases, slice_get_within}
-use Rattle.rm_model.specs.Words.{Word}
 use Rattle.rm_model.specs.Value.{IsRanked, is_cover_output, source_names}
 use Rattle.rm_model.specs.WellFormed.{is_distinct, driven_names}
 use Rattle.rm_model.specs.Ranks.{cover_of, rank_at, rank_above, rank_by, ranks_of, first_without_rank, higher}
 use Rattle.rm_model.specs.declared.parts.Cover.{Cover}
 use Rattle.rm_model.specs.declared.parts.Model.{Model}
 use Rattle.rm_model.proofs.RankLaws.{rank_from, picked, at_next, ranks_are_fixed, ranks-length, parts_of, above_cases, above_source, above_cover}
-use Rattle.rm_model.proofs.CoverLemmas.{all_at, all_from, not_true, drives-of, some-drives, is-driven, drives-own, distinct-right, outputs_of}
-
--- some rank
-abbrev pub HasRank : Option ℕ → Type 0
-HasRank o = (n : ℕ) × (o ≡ Some n)
+use Rattle.rm_model.proofs.CoverLemmas.{drives-of, some-drives, is-driven, drives-own, distinct-right, outputs_of}
+use Rattle.rm_base.proofs.Public.{all_at, all_from_places}
+use Rattle.rm_base.specs.Words.{Word}
+use Rattle.rm_model.specs.Search.{HasRank}
 
 higher-some : (a b : Option ℕ) → HasRank a → HasRank b → HasRank (higher a b)
 higher-some a b p q = (max p.0 q.0, rw (p.1, q.1) refl)
@@ -70,7 +68,7 @@ none-missing [] h = refl
 none-missing (a ∷ r) h = let here = h 0 (omega arith) in let rest = none-missing r (λ k lt. h (suc k) (omega (arith, lt))) in rw here.1 (omega (arith, rest))
 
 not_below : (n : ℕ) → nat_lt n n ≡ false
-not_below n = not_true (nat_lt n n) (λ e. absurd (let lt : n < n = (Decides-ltb n n).0 e in omega (arith, lt)))
+not_below n = false_from_ne_true (nat_lt n n) (λ e. absurd (let lt : n < n = (Decides-ltb n n).0 e in omega (arith, lt)))
 
 all-told : (r : List (Option ℕ)) → length r ≤ position_or_len is_none r → (k : ℕ) → k < length r → HasRank (rank_at r k)
 all-told [] h k lt = absurd (omega (arith, lt))
@@ -78,7 +76,7 @@ all-told (None ∷ r) h k lt = absurd (omega (arith, h))
 all-told (Some n ∷ r) h zero lt = (n, refl)
 all-told (Some n ∷ r) h (suc k) lt = all-told r (omega (arith, h)) k (omega (arith, lt))
 
-position-none : (n k : ℕ) → cond (nat_lt n k) (Some n) None ≡ None → k ≤ n
+pub position-none : (n k : ℕ) → cond (nat_lt n k) (Some n) None ≡ None → k ≤ n
 position-none n k e = go (nat_lt n k) refl e
   where
     go : (b : Bool) → nat_lt n k ≡ b → cond b (Some n) None ≡ None → k ≤ n
@@ -113,7 +111,7 @@ module _ (m : Model) where
   name_rank-at x k n driven is = rw (driven, is) refl
 
   pub none-ranked : is_distinct (driven_names m) ≡ true → first_without_rank m ≡ None → IsRanked m
-  none-ranked once none = (name_rank m, all_from (λ (c : Cover). All (λ x. is_cover_output m x ≡ true → name_rank m x < name_rank m c.output) c.inputs) m.covers (λ k c there. all_from (λ (x : Word). is_cover_output m x ≡ true → name_rank m x < name_rank m c.output) c.inputs (λ p x at driven. by k c there p x at (some-drives m.covers x driven))))
+  none-ranked once none = (name_rank m, all_from_places (λ (c : Cover). All (λ x. is_cover_output m x ≡ true → name_rank m x < name_rank m c.output) c.inputs) m.covers (λ k c there. all_from_places (λ (x : Word). is_cover_output m x ≡ true → name_rank m x < name_rank m c.output) c.inputs (λ p x at driven. by k c there p x at (some-drives m.covers x driven))))
     where
       by : (k : ℕ) (c : Cover) → slice_get m.covers k ≡ Some c → (p : ℕ) (x : Word) → slice_get c.inputs p ≡ Some x → (j : ℕ) × (cover_of m.covers x ≡ Some j) → name_rank m x < name_rank m c.output
       by k c there p x at driver =

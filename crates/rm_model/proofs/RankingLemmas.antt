@@ -6,7 +6,6 @@ use Rattle.std.specs.Option.{option_map}
 use Rattle.std.proofs.lemmas.List.{length-map, get_or-map}
 use Rattle.std.proofs.lemmas.Option.{slice_get_cases, slice_get_within}
 use Rattle.std.proofs.Math.ListN.{get_or-eq_default}
-use Rattle.rm_model.specs.Words.{Word}
 use Rattle.rm_model.specs.Ranks.{cover_of, rank_at, rank_by, ranks_of}
 use Rattle.rm_model.specs.Numbers.{drivers_of, rank_over, IsFixed}
 use Rattle.rm_model.specs.Search.{list_at, IsIn, AreKnown}
@@ -16,6 +15,7 @@ use Rattle.rm_model.proofs.CoverLemmas.{drives-of}
 use Rattle.rm_model.proofs.DriverLemmas.{rank_by-over}
 use Rattle.rm_model.proofs.NumberLemmas.{position-step}
 use Rattle.rm_model.proofs.RankLaws.{ranks_are_fixed, ranks_are_only}
+use Rattle.rm_base.specs.Words.{Word}
 
 -- the first rank that is missing
 pub first-missing : (ranks : List (Option ℕ)) (xs : List ℕ) (i : ℕ) → map Some xs ≡ take i ranks → i < length ranks → rank_at ranks i ≡ None → position is_none ranks ≡ Some i

@@ -4,7 +4,7 @@ use Rattle.std.specs.Prelude.{slice_get}
 use Rattle.std.specs.Option.{option_map}
 use Rattle.std.proofs.Math.Seq.{take-length}
 use Rattle.std.proofs.Math.ListN.{get_or-eq_default}
-use Rattle.std.proofs.lemmas.Bool.{cases_lt}
+use Rattle.std.proofs.lemmas.Bool.{cases_eq, cases_lt}
 use Rattle.std.proofs.lemmas.List.{get_or-map, length-replicate}
 use Rattle.std.proofs.lemmas.Option.{slice_get_within}
 use Rattle.rm_model.specs.Ranks.{rank_at}
@@ -12,7 +12,8 @@ use Rattle.rm_model.specs.Numbers.{rank_over}
 use Rattle.rm_model.specs.Search.{list_at, known_count, State, HasRank, IsIn, AllowsRank, IsSound, IsSettled, waiting_for, with_rank, woken, start, LeadsTo}
 use Rattle.rm_model.specs.declared.rank_search.Looked.{Looked}
 use Rattle.rm_model.proofs.RankLaws.{Below, parts_of, higher_parts, at_replicate, same_list, length_map}
-use Rattle.rm_model.proofs.PlaceLemmas.{get-left, get-last, get-push, get-set, written, same_or_not}
+use Rattle.rm_model.proofs.PlaceLemmas.{get-set, written}
+use Rattle.rm_base.proofs.Public.{front_stands, last_stands, pushed_stands}
 
 -- one driver's part
 abbrev pub above : List (Option ℕ) → ℕ → Option ℕ
@@ -72,7 +73,7 @@ module _ (drivers : List (List ℕ)) (s : State) (sound : IsSound drivers s) (k 
   elsewhere j ne = (written s.ranks k (Some l.least) j None in_ranks).elsewhere ne
 
   more : Below s.ranks after.ranks
-  more j n e = elim (same_or_not j k) [
+  more j n e = elim (cases_eq j k) [
     | inl is ↦ absurd (let none : rank_at s.ranks j ≡ None = ap (rank_at s.ranks) is ∙ unknown in cc)
     | inr ne ↦ elsewhere j ne ∙ e
   ]
@@ -94,13 +95,13 @@ module _ (drivers : List (List ℕ)) (s : State) (sound : IsSound drivers s) (k 
     ranks_length = length-set s.ranks k (Some l.least) ∙ sound.ranks_length;
     looked_length = length-set s.looked k l ∙ sound.looked_length;
     waiting_length = sound.waiting_length;
-    follow = λ j n e. elim (same_or_not j k) [
+    follow = λ j n e. elim (cases_eq j k) [
       | inl is ↦
           let n_is : l.least ≡ n = (let h = here j is in cc) in
           ap (λ (i : ℕ). rank_over after.ranks (list_at drivers i)) is ∙ (rank_over-more s.ranks after.ranks more (list_at drivers k) l.least full ∙ ap Some n_is)
       | inr ne ↦ rank_over-more s.ranks after.ranks more (list_at drivers j) n (sound.follow j n (sym (elsewhere j ne) ∙ e))
     ];
-    small = λ j n e. elim (same_or_not j k) [
+    small = λ j n e. elim (cases_eq j k) [
       | inl is ↦
           let n_is : l.least ≡ n = (let h = here j is in cc) in
           omega (arith, n_is, length-append s.order (k ∷ []), rank_over-bound s.ranks (length s.order) sound.small (list_at drivers k) l.least full)
@@ -113,23 +114,23 @@ module _ (drivers : List (List ℕ)) (s : State) (sound : IsSound drivers s) (k 
           subst (λ (i : ℕ). AllowsRank after.ranks (list_at drivers i) h) (sym is.0) (subst (AllowsRank after.ranks (list_at drivers k)) (sym is.1) mine)
       | inr old ↦ let o = sound.looked j h old in (o.0, rank_over-more s.ranks after.ranks more (take h.count (list_at drivers j)) h.least o.1)
     ];
-    listed = λ j n e. elim (same_or_not j k) [
-      | inl is ↦ (length s.order, get-last s.order k ∙ ap Some (sym is))
-      | inr ne ↦ let o = sound.listed j n (sym (elsewhere j ne) ∙ e) in (o.0, get-left s.order (k ∷ []) o.0 j o.1)
+    listed = λ j n e. elim (cases_eq j k) [
+      | inl is ↦ (length s.order, last_stands s.order k ∙ ap Some (sym is))
+      | inr ne ↦ let o = sound.listed j n (sym (elsewhere j ne) ∙ e) in (o.0, front_stands s.order (k ∷ []) o.0 j o.1)
     ];
-    once = λ p q j e f. push-once p q j (get-push s.order k p j e) (get-push s.order k q j f);
-    ranked = λ j at. elim (get-push s.order k at.0 j at.1) [
+    once = λ p q j e f. push-once p q j (pushed_stands s.order k p j e) (pushed_stands s.order k q j f);
+    ranked = λ j at. elim (pushed_stands s.order k at.0 j at.1) [
       | inl old ↦ let o : HasRank (rank_at s.ranks j) = sound.ranked j (at.0, old) in (o.0, more j o.0 o.1)
       | inr is ↦ (l.least, here j is.1)
     ];
     waiting = sound.waiting;
-    ordered = λ p j d at reads. elim (get-push s.order k p j at) [
-      | inl old ↦ let o = sound.ordered p j d old reads in (o.0, (o.1.0, get-left s.order (k ∷ []) o.0 d o.1.1))
+    ordered = λ p j d at reads. elim (pushed_stands s.order k p j at) [
+      | inl old ↦ let o = sound.ordered p j d old reads in (o.0, (o.1.0, front_stands s.order (k ∷ []) o.0 d o.1.1))
       | inr is ↦
           let mine : IsIn (list_at drivers k) d = subst (λ (i : ℕ). IsIn (list_at drivers i) d) is.1 reads in
           let known : HasRank (rank_at s.ranks d) = rank_over-all s.ranks (list_at drivers k) l.least mine.0 d full mine.1 in
           let o : IsIn s.order d = sound.listed d known.0 known.1 in
-          (o.0, (omega (arith, is.0, slice_get_within s.order o.0 d o.1), get-left s.order (k ∷ []) o.0 d o.1))
+          (o.0, (omega (arith, is.0, slice_get_within s.order o.0 d o.1), front_stands s.order (k ∷ []) o.0 d o.1))
     ];
   }
 
@@ -140,11 +141,11 @@ module _ (drivers : List (List ℕ)) (s : State) (sound : IsSound drivers s) (k 
     reads = w.reads;
     waits = w.waits;
     open_yet = elim w.open_yet [
-      | inl none ↦ elim (same_or_not w.driver k) [
-        | inl is ↦ inr (length s.order, (le, get-last s.order k ∙ ap Some (sym is)))
+      | inl none ↦ elim (cases_eq w.driver k) [
+        | inl is ↦ inr (length s.order, (le, last_stands s.order k ∙ ap Some (sym is)))
         | inr ne ↦ inl (elsewhere w.driver ne ∙ none)
       ]
-      | inr at ↦ inr (at.0, (at.1.0, get-left s.order (k ∷ []) at.0 w.driver at.1.1))
+      | inr at ↦ inr (at.0, (at.1.0, front_stands s.order (k ∷ []) at.0 w.driver at.1.1))
     ];
   })
 
@@ -183,10 +184,10 @@ module _ (drivers : List (List ℕ)) (s : State) (sound : IsSound drivers s) (k 
     listed = sound.listed;
     once = sound.once;
     ranked = sound.ranked;
-    waiting = λ e j at. elim (same_or_not e d) [
+    waiting = λ e j at. elim (cases_eq e d) [
       | inl is ↦
           let here : IsIn (list_at s.waiting d ++ k ∷ []) j = subst (λ (ls : List ℕ). IsIn ls j) (waits-here e is) at in
-          elim (get-push (list_at s.waiting d) k here.0 j here.1) [
+          elim (pushed_stands (list_at s.waiting d) k here.0 j here.1) [
             | inl old ↦ sound.waiting d j (here.0, old)
             | inr new ↦ omega (arith, new.1, within)
           ]
@@ -196,10 +197,10 @@ module _ (drivers : List (List ℕ)) (s : State) (sound : IsSound drivers s) (k 
   }
 
   still-waits : (e j : ℕ) → IsIn (list_at s.waiting e) j → IsIn (list_at later.waiting e) j
-  still-waits e j at = elim (same_or_not e d) [
+  still-waits e j at = elim (cases_eq e d) [
     | inl is ↦
         let old : IsIn (list_at s.waiting d) j = subst (λ (i : ℕ). IsIn (list_at s.waiting i) j) is at in
-        let new : IsIn (list_at s.waiting d ++ k ∷ []) j = (old.0, get-left (list_at s.waiting d) (k ∷ []) old.0 j old.1) in
+        let new : IsIn (list_at s.waiting d ++ k ∷ []) j = (old.0, front_stands (list_at s.waiting d) (k ∷ []) old.0 j old.1) in
         subst (λ (ls : List ℕ). IsIn ls j) (sym (waits-here e is)) new
     | inr ne ↦ subst (λ (ls : List ℕ). IsIn ls j) (sym (waits-elsewhere e ne)) at
   ]
@@ -215,7 +216,7 @@ module _ (drivers : List (List ℕ)) (s : State) (sound : IsSound drivers s) (k 
   waiting_for-settled place = inr (record {
     driver = d;
     reads = (l.count, reads);
-    waits = subst (λ (ls : List ℕ). IsIn ls k) (sym (waits-here d refl)) (length (list_at s.waiting d), get-last (list_at s.waiting d) k);
+    waits = subst (λ (ls : List ℕ). IsIn ls k) (sym (waits-here d refl)) (length (list_at s.waiting d), last_stands (list_at s.waiting d) k);
     open_yet = inl unknown;
   })
 
@@ -242,7 +243,7 @@ module _ (drivers : List (List ℕ)) (s : State) (sound : IsSound drivers s) (pl
     listed = sound.listed;
     once = sound.once;
     ranked = sound.ranked;
-    waiting = λ e j in'. elim (same_or_not e d) [
+    waiting = λ e j in'. elim (cases_eq e d) [
       | inl is ↦ absurd (let none : IsIn [] j = subst (λ (ls : List ℕ). IsIn ls j) (none-here e is) in' in no_place none)
       | inr ne ↦ sound.waiting e j (subst (λ (ls : List ℕ). IsIn ls j) (woken-elsewhere e ne) in')
     ];
@@ -254,7 +255,7 @@ module _ (drivers : List (List ℕ)) (s : State) (sound : IsSound drivers s) (pl
 
   pub woken-settled : (j : ℕ) → IsSettled drivers place s j → IsSettled drivers (suc place) (woken s d) j ⊎ IsIn (list_at s.waiting d) j
   woken-settled j (inl h) = inl (inl h)
-  woken-settled j (inr w) = elim (same_or_not w.driver d) [
+  woken-settled j (inr w) = elim (cases_eq w.driver d) [
     | inl is ↦ inr (subst (λ (i : ℕ). IsIn (list_at s.waiting i) j) is w.waits)
     | inr ne ↦ inl (inr (record {
       driver = w.driver;
@@ -262,7 +263,7 @@ module _ (drivers : List (List ℕ)) (s : State) (sound : IsSound drivers s) (pl
       waits = subst (λ (ls : List ℕ). IsIn ls j) (sym (woken-elsewhere w.driver ne)) w.waits;
       open_yet = elim w.open_yet [
         | inl none ↦ inl none
-        | inr o ↦ elim (same_or_not o.0 place) [
+        | inr o ↦ elim (cases_eq o.0 place) [
           | inl same ↦ absurd (ne (let there : slice_get s.order place ≡ Some w.driver = subst (λ (i : ℕ). slice_get s.order i ≡ Some w.driver) same o.1.1 in cc))
           | inr other ↦ inr (o.0, (omega (arith, o.1.0, other), o.1.1))
         ]

@@ -3,15 +3,18 @@ use Rattle.std.proofs.Common.{◌≡◌, ℕ, zero, suc, ◌<◌, List, [], ◌�
 use Rattle.std.specs.Prelude.{slice_get, All}
 use Rattle.std.specs.List.{list_any, flat_map, filter_map}
 use Rattle.std.specs.Option.{option_map}
-use Rattle.rm_model.specs.Words.{Word, is_word}
+use Rattle.std.proofs.lemmas.Bool.{and_parts, false_from_ne_true}
+use Rattle.rm_model.specs.Words.{is_word}
 use Rattle.rm_model.specs.Value.{is_among, source_names, value_of, IsConsistent, IsRanked, is_cover_output, control_of}
 use Rattle.rm_model.specs.Ranks.{cover_of}
 use Rattle.rm_model.specs.WellFormed.{is_distinct, driven_names, IsWellFormed}
 use Rattle.rm_model.specs.declared.parts.Cover.{Cover}
 use Rattle.rm_model.specs.declared.parts.Latch.{Latch}
 use Rattle.rm_model.specs.declared.parts.Model.{Model}
-use Rattle.rm_model.proofs.CoverLemmas.{all_at, all_from, both, never, not_true, same_word, is_word-same, among-at, at-among, distinct-right, outputs_of, output-at, drives-of, some-drives, is-driven, drives-own}
-use Rattle.rm_model.proofs.NameLemmas.{among-append, distinct-apart, distinct-left, list_all-append, list_all-at, list_all-inputs, map-same-in, same-in-map}
+use Rattle.rm_model.proofs.CoverLemmas.{same_word, is_word-same, among-at, at-among, distinct-right, outputs_of, output-at, drives-of, some-drives, is-driven, drives-own}
+use Rattle.rm_model.proofs.NameLemmas.{among-append, distinct-apart, distinct-left, list_all-inputs}
+use Rattle.rm_base.proofs.Public.{all_at, all_from_places, list_all-parts, list_all-at, map_agree, not_excludes, same-in-map}
+use Rattle.rm_base.specs.Words.{Word}
 
 -- the value of what drives a name, by the values of the names that it reads
 abbrev pub value_by : (Word → Bool) → List Cover → Bool → Word → Bool
@@ -78,7 +81,7 @@ module _ (m : Model) (ranked : IsRanked m) where
         step n x below ih (Some k) e =
             let d = drives-of m.covers x k e in
             let less : ranked.0 x < suc n = below (is-driven m.covers x k e) in
-            let inputs : map (value_in n m a) d.cover.inputs ≡ map (value_in (suc n) m a) d.cover.inputs = map-same-in (value_in n m a) (value_in (suc n) m a) d.cover.inputs (λ p y at. ih y (λ driven. omega (arith, less, input-below k d.cover p y d.there at driven, ap ranked.0 d.drives))) in
+            let inputs : map (value_in n m a) d.cover.inputs ≡ map (value_in (suc n) m a) d.cover.inputs = map_agree (value_in n m a) (value_in (suc n) m a) d.cover.inputs (λ p y at. ih y (λ driven. omega (arith, less, input-below k d.cover p y d.there at driven, ap ranked.0 d.drives))) in
             value_by-cover (value_in n m a) m.covers (a x) x k d.cover e d.there
             ∙ (ap (value_of d.cover) inputs
             ∙ sym (value_by-cover (value_in (suc n) m a) m.covers (a x) x k d.cover e d.there))
@@ -88,14 +91,14 @@ module _ (m : Model) (ranked : IsRanked m) where
 
     pub valuation-consistent : is_distinct (driven_names m) ≡ true → IsConsistent m valuation
     unfolding valuation
-    valuation-consistent once = all_from (λ (c : Cover). valuation c.output ≡ value_of c (map valuation c.inputs)) m.covers (λ k c there.
+    valuation-consistent once = all_from_places (λ (c : Cover). valuation c.output ≡ value_of c (map valuation c.inputs)) m.covers (λ k c there.
         let own : cover_of m.covers c.output ≡ Some k = drives-own m.covers k c (distinct-right (source_names m) (outputs_of m.covers) once) there in
         stable (high ranked.0 m.covers) c.output (λ driven. below-high ranked.0 m.covers k c there)
         ∙ value_by-cover (value_in (high ranked.0 m.covers) m a) m.covers (a c.output) c.output k c own there)
 
     pub valuation-sources : is_distinct (driven_names m) ≡ true → map valuation (source_names m) ≡ map a (source_names m)
     unfolding valuation
-    valuation-sources once = map-same-in valuation a (source_names m) (λ p x at. by x (among-at (source_names m) p x at) (cover_of m.covers x) refl)
+    valuation-sources once = map_agree valuation a (source_names m) (λ p x at. by x (among-at (source_names m) p x at) (cover_of m.covers x) refl)
       where
         by : (x : Word) → is_among (source_names m) x ≡ true → (o : Option ℕ) → cover_of m.covers x ≡ o → valuation x ≡ a x
         by x source None e = stable-source (high ranked.0 m.covers) x e
@@ -115,9 +118,9 @@ assigned-values [] [] once e = refl
 assigned-values [] (b ∷ bs) once e = absurd (omega (arith, e))
 assigned-values (x ∷ xs) [] once e = absurd (omega (arith, e))
 assigned-values (x ∷ xs) (b ∷ bs) once e =
-    let parts = both (not (is_among xs x)) (is_distinct xs) once in
-    let rest : map (assigned (x ∷ xs) (b ∷ bs)) xs ≡ map (assigned xs bs) xs = map-same-in (assigned (x ∷ xs) (b ∷ bs)) (assigned xs bs) xs (λ p y at.
-    let other : is_word y x ≡ false = not_true (is_word y x) (λ same. never (is_among xs x) parts.0 (subst (λ (w : Word). is_among xs w ≡ true) (same_word y x same) (among-at xs p y at))) in
+    let parts = and_parts (not (is_among xs x)) (is_distinct xs) once in
+    let rest : map (assigned (x ∷ xs) (b ∷ bs)) xs ≡ map (assigned xs bs) xs = map_agree (assigned (x ∷ xs) (b ∷ bs)) (assigned xs bs) xs (λ p y at.
+    let other : is_word y x ≡ false = false_from_ne_true (is_word y x) (λ same. not_excludes (is_among xs x) parts.0 (subst (λ (w : Word). is_among xs w ≡ true) (same_word y x same) (among-at xs p y at))) in
     rw other refl) in
     let here : assigned (x ∷ xs) (b ∷ bs) x ≡ b = rw (is_word-same x) refl in
     rw (here, rest, assigned-values xs bs parts.1 (omega (arith, e))) refl
@@ -131,9 +134,9 @@ module _ (m : Model) (formed : IsWellFormed m) (ranked : IsRanked m) (v w : Word
   inputs-driven : (k : ℕ) (c : Cover) (p : ℕ) (x : Word) → slice_get m.covers k ≡ Some c → slice_get c.inputs p ≡ Some x → is_among (driven_names m) x ≡ true
   inputs-driven k c p x there at =
       let all = formed.all_driven in
-      let front = (list_all-append (is_among (driven_names m)) ((m.outputs ++ flat_map (λ (c : Cover). c.inputs) m.covers) ++ map (λ (l : Latch). l.input) m.latches) (filter_map control_of m.latches) all).0 in
-      let middle = (list_all-append (is_among (driven_names m)) (m.outputs ++ flat_map (λ (c : Cover). c.inputs) m.covers) (map (λ (l : Latch). l.input) m.latches) front).0 in
-      let covers = (list_all-append (is_among (driven_names m)) m.outputs (flat_map (λ (c : Cover). c.inputs) m.covers) middle).1 in
+      let front = (list_all-parts (is_among (driven_names m)) ((m.outputs ++ flat_map (λ (c : Cover). c.inputs) m.covers) ++ map (λ (l : Latch). l.input) m.latches) (filter_map control_of m.latches) all).0 in
+      let middle = (list_all-parts (is_among (driven_names m)) (m.outputs ++ flat_map (λ (c : Cover). c.inputs) m.covers) (map (λ (l : Latch). l.input) m.latches) front).0 in
+      let covers = (list_all-parts (is_among (driven_names m)) m.outputs (flat_map (λ (c : Cover). c.inputs) m.covers) middle).1 in
       list_all-at (is_among (driven_names m)) c.inputs p x (list_all-inputs (is_among (driven_names m)) m.covers k c covers there) at
 
   at-source : (x : Word) → is_among (source_names m) x ≡ true → v x ≡ w x
@@ -163,7 +166,7 @@ module _ (m : Model) (formed : IsWellFormed m) (ranked : IsRanked m) (v w : Word
           let driver = some-drives m.covers x (output-cover x output) in
           let d = drives-of m.covers x driver.0 driver.1 in
           let less : ranked.0 x < suc n = below (output-cover x output) in
-          let inputs : map v d.cover.inputs ≡ map w d.cover.inputs = map-same-in v w d.cover.inputs (λ p y at. ih y (inputs-driven driver.0 d.cover p y d.there at) (λ h. omega (arith, less, input-below m ranked driver.0 d.cover p y d.there at h, ap ranked.0 d.drives))) in
+          let inputs : map v d.cover.inputs ≡ map w d.cover.inputs = map_agree v w d.cover.inputs (λ p y at. ih y (inputs-driven driver.0 d.cover p y d.there at) (λ h. omega (arith, less, input-below m ranked driver.0 d.cover p y d.there at h, ap ranked.0 d.drives))) in
           let left : v d.cover.output ≡ value_of d.cover (map v d.cover.inputs) = all_at (λ (c : Cover). v c.output ≡ value_of c (map v c.inputs)) m.covers driver.0 d.cover first d.there in
           let right : w d.cover.output ≡ value_of d.cover (map w d.cover.inputs) = all_at (λ (c : Cover). w c.output ≡ value_of c (map w c.inputs)) m.covers driver.0 d.cover second d.there in
           (ap v d.drives ∙ left) ∙ (ap (value_of d.cover) inputs ∙ sym (ap w d.drives ∙ right))

@@ -2,9 +2,10 @@
 use Rattle.std.specs.Prelude.{◌≡◌, ℕ, suc, List, [], ◌∷◌, map, Option, None, Some, if◌then◌else◌}
 use Rattle.std.specs.List.{filter_map}
 use Rattle.std.specs.Option.{option_map}
-use Rattle.rm_model.specs.Words.{Word, is_word}
+use Rattle.rm_model.specs.Words.{is_word}
 use Rattle.rm_model.specs.Ranks.{cover_of, rank_at, highest}
 use Rattle.rm_model.specs.declared.parts.Cover.{Cover}
+use Rattle.rm_base.specs.Words.{Word}
 
 -- the first place of a name
 abbrev pub place_of : List Word → Word → Option ℕ

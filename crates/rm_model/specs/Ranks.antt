@@ -1,9 +1,10 @@
 -- The rank of each cover: 0 where it reads sources alone, and otherwise one more than the greatest rank of the covers that it reads.
 use Rattle.std.specs.Prelude.{◌≡◌, ℕ, zero, suc, is_none, List, [], ◌∷◌, map, length, max, position, Option, None, Some, slice_index_or, if◌then◌else◌, replicate}
 use Rattle.std.specs.Option.{option_map}
-use Rattle.rm_model.specs.Words.{Word, is_word}
+use Rattle.rm_model.specs.Words.{is_word}
 use Rattle.rm_model.specs.declared.parts.Cover.{Cover}
 use Rattle.rm_model.specs.declared.parts.Model.{Model}
+use Rattle.rm_base.specs.Words.{Word}
 
 -- the place of the first cover with that output
 abbrev pub cover_of : List Cover → Word → Option ℕ

@@ -1,10 +1,10 @@
 -- Signals by number: the place of a name among the names that a model drives, which are its sources and then the outputs of its covers.
 use Rattle.std.specs.Prelude.{◌≡◌, ◌-◌, ℕ, List, map, Option, None, Some, nat_lt, if◌then◌else◌}
-use Rattle.rm_model.specs.Words.{Word}
 use Rattle.rm_model.specs.Numbers.{place_of}
 use Rattle.rm_model.specs.Value.{observed_names}
 use Rattle.rm_model.specs.WellFormed.{driven_names}
 use Rattle.rm_model.specs.declared.parts.Model.{Model}
+use Rattle.rm_base.specs.Words.{Word}
 
 -- these are the numbers of the names
 abbrev pub AreSignals : List Word → List Word → List ℕ → Type 0

@@ -1,16 +1,12 @@
 -- Which models a text can have: names are tokens, each name has one driver, each used name has one, and covers, init values and controls are of the right form.
-use Rattle.std.specs.Prelude.{◌≡◌, ◌≢◌, ◌==◌, ◌≤◌, ℕ, Bool, true, false, not, ◌&&◌, List, [], ◌∷◌, ◌++◌, map, length, nat_lt, All, codes, IfSome}
+use Rattle.std.specs.Prelude.{◌≡◌, ◌≢◌, ◌==◌, ◌≤◌, Bool, true, false, not, ◌&&◌, List, [], ◌∷◌, ◌++◌, map, length, All, codes, IfSome}
 use Rattle.std.specs.List.{flat_map, list_all, filter_map}
-use Rattle.rm_model.specs.Words.{Word}
 use Rattle.rm_model.specs.Value.{is_among, source_names, control_of}
 use Rattle.rm_model.specs.declared.parts.Literal.{Literal}
 use Rattle.rm_model.specs.declared.parts.Cover.{Cover}
 use Rattle.rm_model.specs.declared.parts.Latch.{Latch}
 use Rattle.rm_model.specs.declared.parts.Model.{Model}
-
--- a byte of a word: no blank, tab or line end, no other control byte, and no `#`, at which a comment starts
-abbrev pub is_word_byte : ℕ → Bool
-is_word_byte b = nat_lt 32 b && (not (b == 35) && not (b == 127))
+use Rattle.rm_base.specs.Words.{Word, is_word_byte}
 
 abbrev pub ends_in_backslash : Word → Bool
 ends_in_backslash [] = false

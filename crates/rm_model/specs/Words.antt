@@ -1,14 +1,11 @@
 -- The words of the format.
-use Rattle.std.specs.Prelude.{ℕ, Bool, List, codes}
+use Rattle.std.specs.Prelude.{ℕ, Bool, codes}
 use Rattle.std.specs.Str.{bytes_eq}
 use Rattle.rm_model.specs.declared.parts.Literal.{Literal}
 use Rattle.rm_model.specs.declared.parts.Literal.TheVariants.{Zero, One, Any}
 use Rattle.rm_model.specs.declared.parts.LatchKind.{LatchKind}
 use Rattle.rm_model.specs.declared.parts.LatchKind.TheVariants.{Fe, Re, Ah, Al, As}
-
--- a name or a word: its bytes
-abbrev pub Word : Type 0
-Word = List ℕ
+use Rattle.rm_base.specs.Words.{Word}
 
 abbrev pub is_word : Word → Word → Bool
 is_word a b = bytes_eq a b

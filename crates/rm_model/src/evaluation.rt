@@ -6,7 +6,7 @@ ghost use Rattle.rm_model.specs.Ranks.{first_without_rank};
 ghost use Rattle.rm_model.specs.Search.{list_at, IsIn, IsOrder};
 ghost use Rattle.rm_model.specs.Value.{is_among, observed_names, source_names, value_of, IsConsistent};
 ghost use Rattle.rm_model.specs.WellFormed.{is_distinct, IsWellFormed, IsWellFormedCover};
-ghost use Rattle.rm_model.specs.Words.{Word};
+ghost use Rattle.rm_base.specs.Words.{Word};
 
 use crate::name_table::NameTable;
 use crate::parts::{Cover, Model, Name};

@@ -3,7 +3,7 @@ ghost use Rattle.std.specs.Prelude.{◌≡◌, ◌<◌, ◌↔◌, ℕ, Option, 
 ghost use Rattle.rm_model.specs.WellFormed.{driven_names, is_distinct, is_token, IsWellFormed};
 ghost use Rattle.rm_model.specs.Ranks.{cover_of, first_without_rank, rank_at, ranks_of, AreRanks};
 ghost use Rattle.rm_model.specs.Value.{is_among, source_names, IsConsistent, IsRanked};
-ghost use Rattle.rm_model.specs.Words.{Word};
+ghost use Rattle.rm_base.specs.Words.{Word};
 ghost use Rattle.rm_model.specs.declared.parts.Cover.{Cover};
 ghost use Rattle.rm_model.specs.declared.parts.Model.{Model};
 

@@ -2,7 +2,7 @@
 ghost use Rattle.std.specs.Prelude.{◌≡◌, ◌++◌, ◌∷◌, [], IfOk, OnOk, filter, map, not, Option};
 ghost use Rattle.std.specs.List.{filter_map};
 ghost use Rattle.std.specs.Option.{option_copied};
-ghost use Rattle.rm_model.specs.Words.{Word};
+ghost use Rattle.rm_base.specs.Words.{Word};
 ghost use Rattle.rm_model.specs.Value.{control_of, is_among as among, observed_names, source_names};
 
 use crate::list::Listed;

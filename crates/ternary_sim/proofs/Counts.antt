@@ -1,6 +1,7 @@
 -- Counting what is watched.
 use Rattle.std.proofs.Common.{Bool, List, Some, [], arith, false, length, map, refl, suc, sym, true, zero, ℕ, ◌&&◌, ◌+◌, ◌<◌, ◌∙◌, ◌∷◌, ◌≡◌, ◌≤◌}
 use Rattle.std.specs.Prelude.{None, Option, slice_set}
+use Rattle.std.proofs.lemmas.Bool.{and_parts}
 use Rattle.gate_graph.specs.Search.{IsSeen}
 use Rattle.gate_net.specs.Forward.{both_known_different}
 use Rattle.ternary_sim.specs.Marks.{mark_at, no_marks}
@@ -48,10 +49,6 @@ counted test none (w ∷ watched) (m ∷ marks) (suc x) e =
     let rest : 0 < watched_count test watched marks = counted test none watched marks x e in
     omega (arith, rest)
 
-and_true : (a b : Bool) → (a && b) ≡ true → (a ≡ true) × (b ≡ true)
-and_true true b e = (refl, e)
-and_true false b e = cc
-
 seen_at : (watched : List Bool) (x : ℕ) → IsSeen watched x → watched_at watched x ≡ true
 seen_at [] x e = cc
 seen_at (b ∷ watched) zero e = let same : b ≡ true = cc in same
@@ -63,7 +60,7 @@ found test (w ∷ watched) [] h = absurd (omega arith)
 found test (w ∷ watched) (m ∷ marks) h = at (λ k. found test watched marks k) (w && test m) refl
   where
     at : (0 < watched_count test watched marks → (x : ℕ) × (IsSeen watched x × (test (mark_at marks x) ≡ true))) → (b : Bool) → (w && test m) ≡ b → (x : ℕ) × (IsSeen (w ∷ watched) x × (test (mark_at (m ∷ marks) x) ≡ true))
-    at later true is = let both : (w ≡ true) × (test m ≡ true) = and_true w (test m) is in (zero, (rw both.0 refl, both.1))
+    at later true is = let both : (w ≡ true) × (test m ≡ true) = and_parts w (test m) is in (zero, (rw both.0 refl, both.1))
     at later false is =
         let sum : 0 < 0 + watched_count test watched marks = rw is at h in
         let some : 0 < watched_count test watched marks = omega (arith, sum) in

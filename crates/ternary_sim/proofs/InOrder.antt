@@ -5,17 +5,19 @@ use Rattle.std.proofs.lemmas.Bool.Decides.{eqb_tells}
 use Rattle.std.specs.List.{list_all}
 use Rattle.std.specs.Option.{option_map_or}
 use Rattle.std.specs.Prelude.{if◌then◌else◌, nat_eq, slice_get, slice_set}
+use Rattle.std.proofs.Math.Bool.{or-true}
 use Rattle.gate_graph.specs.Order.{IsOrder}
 use Rattle.gate_net.specs.Forward.{AgreeOn, IsForwardReading, Marking, both_known_same, equal_forward, is_idle, is_known, node_forward}
-use Rattle.gate_net.proofs.Public.{list_all_agree, map_agree, or_true, reads_agree}
+use Rattle.gate_net.proofs.Public.{list_all_agree, node_live, reads_agree}
 use Rattle.gate_net.specs.Net.{IsLive, IsWellFormed, Net, Node, Reads, drivers_in, drivers_of, node_at}
 use Rattle.gate_net.specs.Values.{HasPin, faulty_reads}
-use Rattle.gate_looks.proofs.Public.{live_below, reader_live, slice_get_below}
+use Rattle.gate_looks.proofs.Public.{live_below, reader_live}
 use Rattle.gate_looks.specs.Pins.{AreBelow}
 use Rattle.rm_base.specs.declared.numbers.Fault.{Fault}
 use Rattle.ternary_sim.specs.Marks.{IsReadAt, equal_at, faulty_at, good_at, mark_at, marking, no_marks}
 use Rattle.ternary_sim.specs.Sims.{AreRead, IsMarked}
 use Rattle.ternary_sim.specs.declared.marks.NodeMarks.{NodeMarks}
+use Rattle.rm_base.proofs.Public.{map_agree, slice_get_below}
 
 -- an order in which the drivers of each node come before it
 pub record IsWalk (net : Net) (order : List ℕ) : Type 0 where
@@ -26,13 +28,6 @@ pub record IsWalk (net : Net) (order : List ℕ) : Type 0 where
 
 not_dead : (net : Net) (x : ℕ) → IsLive net x → node_at net x ≢ None
 not_dead net x live dead = let is : node_at net x ≡ Some (record { kind = live.0; drivers = live.1.0 }) = live.1.1 in cc
-
-pub node_live : (net : Net) (x : ℕ) → node_at net x ≢ None → IsLive net x
-node_live net x live = at (node_at net x) refl
-  where
-    at : (o : Option Node) → node_at net x ≡ o → IsLive net x
-    at None is = absurd (live is)
-    at (Some n) is = (n.kind, (n.drivers, is))
 
 pub walk_from : (net : Net) (order : List ℕ) → IsWellFormed net → IsOrder net order → IsWalk net order
 walk_from net order formed given = record {
@@ -133,4 +128,4 @@ module _ (net : Net) (fault : Fault) (known : ℕ → Option Bool) (order : List
           let others : (if nat_eq x fault.gate.0 then is_idle net fault (good_at marks) else list_all (equal_at marks) (drivers_of net x)) ≡ true =
           rw (ne_eqb x fault.gate.0 (gate_lives x is)) (ap (λ o. list_all (equal_at marks) (drivers_in o)) is) in
           ap (λ (m : NodeMarks). m.equal) (dead x is)
-          ∙ sym (ap (λ b. both_known_same (good_at marks x) (faulty_at marks x) || b) others ∙ or_true (both_known_same (good_at marks x) (faulty_at marks x)))
+          ∙ sym (ap (λ b. both_known_same (good_at marks x) (faulty_at marks x) || b) others ∙ or-true (both_known_same (good_at marks x) (faulty_at marks x)))

@@ -1,5 +1,5 @@
 -- Loops over lists of nodes.
-use Rattle.std.proofs.Common.{Bool, List, Option, Some, [], ap, append-nil, arith, false, get_or, length, length-set, map, refl, subst, suc, sym, true, zero, ℕ, ◌&&◌, ◌++◌, ◌-◌, ◌<◌, ◌∙◌, ◌∷◌, ◌≡◌}
+use Rattle.std.proofs.Common.{Bool, List, Option, Some, [], ap, append-nil, false, get_or, length, length-set, map, refl, subst, suc, sym, true, zero, ℕ, ◌&&◌, ◌++◌, ◌-◌, ◌<◌, ◌∙◌, ◌∷◌, ◌≡◌}
 use Rattle.std.proofs.lemmas.List.{length-map}
 use Rattle.std.specs.List.{list_all}
 use Rattle.std.specs.Prelude.{slice_get, slice_set}
@@ -8,7 +8,6 @@ use Rattle.gate_net.specs.Net.{IsKind, Net, drivers_of, node_at}
 use Rattle.gate_net.specs.Values.{HasPin}
 use Rattle.gate_net.specs.declared.Kind.{Kind}
 use Rattle.gate_net.specs.declared.Kind.TheVariants.{And, Not, One, Or, Source, Zero}
-use Rattle.gate_looks.proofs.Public.{map_found}
 use Rattle.gate_looks.specs.Pins.{AreBelow}
 use Rattle.rm_base.specs.declared.numbers.Fault.{Fault}
 use Rattle.rm_base.specs.declared.numbers.NodeId.{NodeId}
@@ -18,6 +17,7 @@ use Rattle.ternary_sim.proofs.InOrder.{IsWalk, all_read, mark_other}
 use Rattle.ternary_sim.specs.Marks.{known_source, marking, seen}
 use Rattle.ternary_sim.specs.Sims.{AreRead, IsMarked}
 use Rattle.ternary_sim.specs.declared.marks.NodeMarks.{NodeMarks}
+use Rattle.rm_base.proofs.Public.{map_found}
 
 pub list_all_fails : (test : ℕ → Bool) (ds : List ℕ) (k x : ℕ) → slice_get ds k ≡ Some x → test x ≡ false → false ≡ list_all test ds
 list_all_fails test [] k x e f = cc
@@ -46,11 +46,6 @@ own_forward net x kind own known os is h = rw is.1 (at kind own h)
     at And o h = refl
     at Or o h = refl
     at Not o h = refl
-
-pub order_at : (order : List NodeId) (i : ℕ) (r : NodeId) → i < length order → slice_get (map (λ n. n.0) order) i ≡ Some (get_or order i r).0
-order_at [] i r h = absurd (omega arith)
-order_at (n ∷ order) zero r h = refl
-order_at (n ∷ order) (suc i) r h = order_at order i r (omega arith)
 
 pub drivers_marked : (net : Net) (order : List ℕ) (marks : List NodeMarks) → IsWalk net order → IsMarked order marks → (i x : ℕ) → slice_get order i ≡ Some x → AreBelow (drivers_of net x) (length marks)
 drivers_marked net order marks fits marked i x there p d reads =

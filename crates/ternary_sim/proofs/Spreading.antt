@@ -13,9 +13,10 @@ use Rattle.gate_looks.proofs.Public.{count-set, seen_left, seen_stays}
 use Rattle.gate_looks.specs.Reaching.{search_left}
 use Rattle.rm_base.specs.declared.numbers.Fault.{Fault}
 use Rattle.ternary_sim.proofs.Beginnings.{live_touched}
-use Rattle.ternary_sim.proofs.InOrder.{node_live}
 use Rattle.ternary_sim.proofs.Wholes.{driver_of_concerned}
 use Rattle.ternary_sim.specs.Regions.{IsConcerned, IsTouched, MarksMore, MarksRegion}
+use Rattle.gate_net.proofs.Public.{node_live}
+use Rattle.rm_base.specs.Members.{AmongFirst}
 
 -- NUMBERS
 -- a number that is marked already
@@ -62,10 +63,6 @@ more_both P Q R a b c l m n p q either one two = record {
       let second : search_left c n ≤ search_left b m = two.less in
       omega (arith, first, second);
 }
-
--- the numbers that stand in the list before a place
-abbrev pub AmongFirst : List ℕ → ℕ → ℕ → Type 0
-AmongFirst xs i z = (k : ℕ) × ((k < i) × (slice_get xs k ≡ Some z))
 
 pub more_none : (xs : List ℕ) (marks listed : List Bool) → MarksMore (AmongFirst xs 0) marks marks listed listed
 more_none xs marks listed = record {

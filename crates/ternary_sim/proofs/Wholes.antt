@@ -3,8 +3,9 @@ use Rattle.std.proofs.Common.{Bool, List, None, Option, Some, [], ap, arith, inl
 use Rattle.std.proofs.lemmas.Bool.{ne_eqb}
 use Rattle.std.specs.List.{list_all}
 use Rattle.std.specs.Prelude.{if◌then◌else◌, nat_eq, slice_get}
+use Rattle.std.proofs.Math.Bool.{or-true}
 use Rattle.gate_net.specs.Forward.{AgreeOn, IsForwardReading, Marking, MarksDetected, MarksQuiet, both_known_different, both_known_same, is_idle, node_forward}
-use Rattle.gate_net.proofs.Public.{along_pins, map_agree, or_true, reads_elsewhere, same_bool_refl}
+use Rattle.gate_net.proofs.Public.{along_pins, reads_elsewhere, same_bool_refl}
 use Rattle.gate_net.specs.Net.{IsAcyclic, Net, Reads, drivers_of, node_at}
 use Rattle.gate_net.specs.Paths.{Reaches, on, pin}
 use Rattle.gate_net.specs.Values.{faulty_reads}
@@ -15,6 +16,7 @@ use Rattle.ternary_sim.proofs.Rewriting.{same_marks}
 use Rattle.ternary_sim.specs.Marks.{IsReadAt, good_at, mark_at, marking, no_marks}
 use Rattle.ternary_sim.specs.Regions.{IsConcerned, IsCurrent, IsPlain, IsTouched, IsWhole, ReadingsExist, RegionsDecide}
 use Rattle.ternary_sim.specs.declared.marks.NodeMarks.{NodeMarks}
+use Rattle.rm_base.proofs.Public.{map_agree}
 
 -- PATHS
 pub before_path : {net : Net} {y z w : ℕ} (p : ℕ) → Reads net z p y → Reaches net z w → Reaches net y w
@@ -161,7 +163,7 @@ module _ (net : Net) (fault : Fault) (acyclic : IsAcyclic net) (marks : List Nod
       rest = rw (ne_eqb y fault.gate.0 elsewhere) (all_equal u (drivers_of net y) (λ p d e. (driver p d e).equal))
 
       equal : (u y).equal ≡ true
-      equal = (whole_read net fault acyclic (good_at marks) y).equal ∙ ap (λ b. both_known_same (u y).good (u y).faulty || b) rest ∙ or_true (both_known_same (u y).good (u y).faulty)
+      equal = (whole_read net fault acyclic (good_at marks) y).equal ∙ ap (λ b. both_known_same (u y).good (u y).faulty || b) rest ∙ or-true (both_known_same (u y).good (u y).faulty)
 
   plain_outside : (x : ℕ) → PlainOutside x
   plain_outside = along_pins net acyclic PlainOutside plain_step

@@ -1,8 +1,7 @@
 -- Blocks of marks.
 use Rattle.std.proofs.Common.{◌≡◌, ℕ, zero, suc, ◌+◌, ◌*◌, ◌/◌, ◌<◌, ◌≤◌, Bool, true, false, inl, inr, List, [], ◌∷◌, length, sym, ◌∙◌, ap, subst, arith}
 use Rattle.std.specs.Prelude.{set}
-use Rattle.std.proofs.lemmas.Bool.{both_ways, cases_eq, cases_lt}
-use Rattle.gate_net.proofs.Public.{not_true}
+use Rattle.std.proofs.lemmas.Bool.{both_ways, cases_eq, cases_lt, false_from_ne_true}
 use Rattle.wire_edit.specs.Marked.{is_marked, IsBlocked}
 use Rattle.wire_edit.proofs.Marking.{marked_within, set_marked, set_other_mark, set_count, set_keeps}
 
@@ -60,7 +59,7 @@ block_emptied marks blocks block end b most or_all none = record {
 -- the first mark of the first block with one is the first of all
 pub first_of_block : (marks blocks : List Bool) (block x : ℕ) → IsBlocked marks blocks → ((k : ℕ) → k < block → is_marked blocks k ≡ false) → ((k : ℕ) → 256 * block ≤ k → k < x → is_marked marks k ≡ false) → (k : ℕ) → k < x → is_marked marks k ≡ false
 first_of_block marks blocks block x b before none k lt = elim (cases_lt k (256 * block)) [
-  | inl less ↦ not_true (is_marked marks k) (λ e.
+  | inl less ↦ false_from_ne_true (is_marked marks k) (λ e.
       let under : k / 256 < block = omega (arith, less) in
       both_ways (is_marked blocks (k / 256)) (before (k / 256) under) (b.has k e))
   | inr le ↦ none k le lt
@@ -68,7 +67,7 @@ first_of_block marks blocks block x b before none k lt = elim (cases_lt k (256 *
 
 -- no mark where no block has one
 pub none_blocked : (marks blocks : List Bool) → IsBlocked marks blocks → ((k : ℕ) → k < length blocks → is_marked blocks k ≡ false) → (k : ℕ) → is_marked marks k ≡ false
-none_blocked marks blocks b none k = not_true (is_marked marks k) (λ e.
+none_blocked marks blocks b none k = false_from_ne_true (is_marked marks k) (λ e.
     let is : is_marked blocks (k / 256) ≡ true = b.has k e in
     both_ways (is_marked blocks (k / 256)) (none (k / 256) (marked_within blocks (k / 256) is)) is)
 

@@ -1,13 +1,10 @@
 -- Lists of nodes without dead numbers at the end.
 use Rattle.std.proofs.Common.{◌≡◌, ◌≢◌, ℕ, zero, suc, ◌<◌, Option, Some, None, List, [], ◌∷◌, map, refl, sym, ◌∙◌, ap, arith}
 use Rattle.std.specs.Prelude.{slice_get, slice_set}
-use Rattle.gate_net.proofs.Public.{set_other, set_there}
 use Rattle.gate_net.specs.Net.{Node, flatten_option, before_dead, trimmed}
 use Rattle.gate_net.specs.Edits.{node_redirected}
 use Rattle.wire_edit.specs.Changes.{with_least_free}
-
-tail_same : {A : Type 0} {x y : A} {xs ys : List A} → x ∷ xs ≡ y ∷ ys → xs ≡ ys
-tail_same e = cc
+use Rattle.rm_base.proofs.Public.{set_other, set_there, tail_same}
 
 pub tail_canonical : (o : Option Node) (os : List (Option Node)) → trimmed (o ∷ os) ≡ o ∷ os → trimmed os ≡ os
 tail_canonical (Some n) os e = tail_same e

@@ -1,8 +1,8 @@
 -- A step that may be made makes a change that may be made.
 use Rattle.std.proofs.Common.{◌≡◌, ◌≢◌, ℕ, zero, suc, ◌<◌, Bool, true, false, not, Option, Some, None, List, [], ◌∷◌, length, refl, sym, ◌∙◌, ap, arith}
 use Rattle.std.specs.Prelude.{slice_get, nat_eq, nat_lt, if◌then◌else◌, option_and_then}
-use Rattle.std.proofs.lemmas.Bool.{ltb-true}
-use Rattle.gate_net.proofs.Public.{and_both}
+use Rattle.std.proofs.lemmas.Bool.{and_parts, ltb-true}
+use Rattle.std.proofs.lemmas.Option.{slice_get_within}
 use Rattle.gate_net.specs.declared.Kind.{Kind}
 use Rattle.gate_net.specs.declared.Kind.TheVariants.{Zero, One, Not}
 use Rattle.gate_net.specs.Net.{Node, Net, node_at, kind_in, drivers_of, Reads, IsKind, IsLive, IsGate, IsGateKind, IsAcyclic, IsRanked, HasConstants, IsWellFormed}
@@ -14,7 +14,7 @@ use Rattle.wire_edit.specs.declared.steps.Step.TheVariants.{Add, Fix, NewNot, Co
 use Rattle.wire_edit.specs.Tests.{is_junction, is_not, is_gate, control_of, driver_at, constant_at, second_driver, is_in_use, is_repeated}
 use Rattle.wire_edit.specs.Changes.{remove, readers, CanChange}
 use Rattle.wire_edit.specs.Steps.{is_not_at, Applies, constant_change, empty_node, or_zero, change_of}
-use Rattle.wire_edit.proofs.Tested.{present, live_is, junction_is_one, control_is, not_is, constant_read, gate_is, junction_gate, not_gate, unused, repeated_at, within, one_in, not_at, same_at}
+use Rattle.wire_edit.proofs.Tested.{present, live_is, junction_is_one, control_is, not_is, constant_read, gate_is, junction_gate, not_gate, unused, repeated_at, one_in, not_at, same_at}
 
 pub reaches_rank : (net : Net) (rank : ℕ → ℕ) → IsRanked net rank → {x y : ℕ} → Reaches net x y → rank x < rank y
 reaches_rank net rank ranked {x} {y} (pin p reads) = ranked y p x reads
@@ -102,7 +102,7 @@ const_can net well gate p g b e (Some c) is = at (same_bool b c)
     at true = to_constant net well gate (gate_is net gate g) c
     at false =
         let d : (d : ℕ) × (Reads net gate p d × _) = constant_read net gate p b e in
-        ((c, control_is net gate c is), within (drivers_of net gate) p d.0 d.1.0)
+        ((c, control_is net gate c is), slice_get_within (drivers_of net gate) p d.0 d.1.0)
 
 pub applies_changes : (net : Net) (step : Step) → IsWellFormed net → Applies net step → CanChange net (change_of net step)
 applies_changes net (Add gate node) well (j, (live, (ne, (apart, fresh)))) =
@@ -111,40 +111,40 @@ applies_changes net (Add gate node) well (j, (live, (ne, (apart, fresh)))) =
 applies_changes net (Fix gate position value) well (g, lt) = (gate_is net gate.0 g, lt)
 applies_changes net (NewNot node) well e = live_is net node.0 e
 applies_changes net (Const gate position) well e =
-    let a : (is_gate net gate.0 ≡ true) × _ = and_both (is_gate net gate.0) _ e in
-    let b : (is_in_use net gate.0 ≡ true) × _ = and_both (is_in_use net gate.0) _ a.1 in
+    let a : (is_gate net gate.0 ≡ true) × _ = and_parts (is_gate net gate.0) _ e in
+    let b : (is_in_use net gate.0 ≡ true) × _ = and_parts (is_in_use net gate.0) _ a.1 in
     let k : (k : Bool) × (constant_at net gate.0 position ≡ Some k) = present (constant_at net gate.0 position) b.1 in
     rw k.1 (const_can net well gate.0 position a.0 k.0 k.1 (control_of net gate.0) refl)
 applies_changes net (Same gate position) well e =
-    let a : (is_junction net gate.0 ≡ true) × _ = and_both (is_junction net gate.0) _ e in
-    let b : (is_in_use net gate.0 ≡ true) × (is_repeated (drivers_of net gate.0) position ≡ true) = and_both (is_in_use net gate.0) _ a.1 in
+    let a : (is_junction net gate.0 ≡ true) × _ = and_parts (is_junction net gate.0) _ e in
+    let b : (is_in_use net gate.0 ≡ true) × (is_repeated (drivers_of net gate.0) position ≡ true) = and_parts (is_in_use net gate.0) _ a.1 in
     let c : (c : Bool) × ((control_of net gate.0 ≡ Some c) × IsJunction net gate.0 c) = junction_is_one net gate.0 a.0 in
     let r : (d : ℕ) × ((q : ℕ) × ((q < position) × ((slice_get (drivers_of net gate.0) q ≡ Some d) × (slice_get (drivers_of net gate.0) position ≡ Some d)))) = repeated_at (drivers_of net gate.0) position b.1 in
-    ((c.0, c.1.1), within (drivers_of net gate.0) position r.0 r.1.1.1.1)
+    ((c.0, c.1.1), slice_get_within (drivers_of net gate.0) position r.0 r.1.1.1.1)
 applies_changes net (NoPins gate) well e =
-    let a : (is_junction net gate.0 ≡ true) × _ = and_both (is_junction net gate.0) _ e in
+    let a : (is_junction net gate.0 ≡ true) × _ = and_parts (is_junction net gate.0) _ e in
     let c : (c : Bool) × ((control_of net gate.0 ≡ Some c) × IsJunction net gate.0 c) = junction_is_one net gate.0 a.0 in
     readers_to net gate.0 (constant_node (not c.0)) _ (ap empty_node c.1.0) (to_constant net well gate.0 (gate_is net gate.0 (junction_gate net gate.0 a.0)) (not c.0))
 applies_changes net (OnePin gate) well e =
-    let a : (is_junction net gate.0 ≡ true) × _ = and_both (is_junction net gate.0) _ e in
-    let b : (is_in_use net gate.0 ≡ true) × (nat_eq (length (drivers_of net gate.0)) 1 ≡ true) = and_both (is_in_use net gate.0) _ a.1 in
+    let a : (is_junction net gate.0 ≡ true) × _ = and_parts (is_junction net gate.0) _ e in
+    let b : (is_in_use net gate.0 ≡ true) × (nat_eq (length (drivers_of net gate.0)) 1 ≡ true) = and_parts (is_in_use net gate.0) _ a.1 in
     let d : (d : ℕ) × (drivers_of net gate.0 ≡ d ∷ []) = one_in (drivers_of net gate.0) b.1 in
     let reads : Reads net gate.0 0 d.0 = ap (λ ds. slice_get ds 0) d.1 in
     readers_to net gate.0 d.0 _ (ap or_zero reads)
     (down net well well.acyclic gate.0 d.0 (gate_is net gate.0 (junction_gate net gate.0 a.0)) (driver_live net well gate.0 0 d.0 reads) (well.acyclic.1 gate.0 0 d.0 reads))
 applies_changes net (Twice gate) well e =
-    let a : (is_not net gate.0 ≡ true) × _ = and_both (is_not net gate.0) _ e in
-    let b : (is_in_use net gate.0 ≡ true) × (is_not_at net (driver_at net gate.0 0) ≡ true) = and_both (is_in_use net gate.0) _ a.1 in
+    let a : (is_not net gate.0 ≡ true) × _ = and_parts (is_not net gate.0) _ e in
+    let b : (is_in_use net gate.0 ≡ true) × (is_not_at net (driver_at net gate.0 0) ≡ true) = and_parts (is_in_use net gate.0) _ a.1 in
     let s : (inner : ℕ) × ((driver : ℕ) × (Reads net gate.0 0 inner × (IsKind net inner Not × (Reads net inner 0 driver × (second_driver net gate.0 ≡ Some driver))))) = second_is net gate.0 well b.1 in
     let first : well.acyclic.0 s.0 < well.acyclic.0 gate.0 = well.acyclic.1 gate.0 0 s.0 s.1.1.0 in
     let second : well.acyclic.0 s.1.0 < well.acyclic.0 s.0 = well.acyclic.1 s.0 0 s.1.0 s.1.1.1.1.0 in
     readers_to net gate.0 s.1.0 _ (ap or_zero s.1.1.1.1.1)
     (down net well well.acyclic gate.0 s.1.0 (gate_is net gate.0 (not_gate net gate.0 a.0)) (driver_live net well s.0 0 s.1.0 s.1.1.1.1.0) (omega arith))
 applies_changes net (Twin gate other) well e =
-    let a : (is_not net gate.0 ≡ true) × _ = and_both (is_not net gate.0) _ e in
-    let b : (is_in_use net gate.0 ≡ true) × _ = and_both (is_in_use net gate.0) _ a.1 in
-    let o : (is_not net other.0 ≡ true) × _ = and_both (is_not net other.0) _ b.1 in
-    let l : (nat_lt other.0 gate.0 ≡ true) × _ = and_both (nat_lt other.0 gate.0) _ o.1 in
+    let a : (is_not net gate.0 ≡ true) × _ = and_parts (is_not net gate.0) _ e in
+    let b : (is_in_use net gate.0 ≡ true) × _ = and_parts (is_in_use net gate.0) _ a.1 in
+    let o : (is_not net other.0 ≡ true) × _ = and_parts (is_not net other.0) _ b.1 in
+    let l : (nat_lt other.0 gate.0 ≡ true) × _ = and_parts (nat_lt other.0 gate.0) _ o.1 in
     let d : (d : ℕ) × ((driver_at net gate.0 0 ≡ Some d) × (driver_at net other.0 0 ≡ Some d)) = same_at (driver_at net gate.0 0) (driver_at net other.0 0) l.1 in
     let kind : IsKind net other.0 Not = not_is net other.0 o.0 in
     let only : (k : ℕ) × (drivers_of net other.0 ≡ k ∷ []) = well.nots_have_one other.0 kind in
@@ -159,7 +159,7 @@ applies_changes net (Twin gate other) well e =
       ),
     )
 applies_changes net (Dead gate) well e =
-    let a : (is_gate net gate.0 ≡ true) × (not (is_in_use net gate.0) ≡ true) = and_both (is_gate net gate.0) _ e in
+    let a : (is_gate net gate.0 ≡ true) × (not (is_in_use net gate.0) ≡ true) = and_parts (is_gate net gate.0) _ e in
     (gate_is net gate.0 a.0, unused net gate.0 (of_not (is_in_use net gate.0) a.1))
   where
     of_not : (b : Bool) → not b ≡ true → b ≡ false

@@ -6,7 +6,8 @@ use Rattle.std.proofs.lemmas.Bool.{lt-ltb, cases_eq}
 use Rattle.std.proofs.lemmas.Bool.Decides.{eqb_tells}
 use Rattle.std.proofs.lemmas.List.Sums.{sum_by-cons}
 use Rattle.gate_net.specs.Edits.{without, redirected}
-use Rattle.wire_edit.specs.Work.{one_if, free_in, count_from}
+use Rattle.wire_edit.specs.Work.{free_in, count_from}
+use Rattle.rm_base.specs.Numbers.{one_if}
 
 pub at_most_one : (b : Bool) → one_if b ≤ 1
 at_most_one true = omega arith
@@ -102,18 +103,9 @@ free_set [] p c d e none = cc
 free_set (x ∷ ds) zero c d e none = let is : x ≡ d = cc in let same : one_if (nat_lt 1 x) ≡ one_if (nat_lt 1 d) = ap (λ y. one_if (nat_lt 1 y)) is in omega arith
 free_set (x ∷ ds) (suc p) c d e none = let rest : free_in (slice_set ds p c) + one_if (nat_lt 1 d) ≡ free_in ds = free_set ds p c d e none in omega arith
 
-pub length_set : (ds : List ℕ) (p c : ℕ) → length (slice_set ds p c) ≡ length ds
-length_set [] p c = refl
-length_set (x ∷ ds) zero c = refl
-length_set (x ∷ ds) (suc p) c = ap suc (length_set ds p c)
-
 pub free_last : (ds : List ℕ) (d : ℕ) → free_in (ds ++ d ∷ []) ≤ free_in ds + 1
 free_last [] d = let one : one_if (nat_lt 1 d) ≤ 1 = at_most_one (nat_lt 1 d) in omega arith
 free_last (x ∷ ds) d = let rest : free_in (ds ++ d ∷ []) ≤ free_in ds + 1 = free_last ds d in omega arith
-
-pub length_last : (ds : List ℕ) (d : ℕ) → length (ds ++ d ∷ []) ≡ length ds + 1
-length_last [] d = refl
-length_last (x ∷ ds) d = let rest : length (ds ++ d ∷ []) ≡ length ds + 1 = length_last ds d in omega arith
 
 pub free_moved : (from to : ℕ) (ds : List ℕ) → 1 < from → free_in (map (redirected from to) ds) ≤ free_in ds
 free_moved from to [] lt = omega arith

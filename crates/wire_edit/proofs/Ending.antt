@@ -1,9 +1,8 @@
 -- Tidying ends.
 use Rattle.std.proofs.Common.{◌≡◌, ℕ, ◌+◌, ◌<◌, ◌≤◌, Bool, true, false, not, ◌&&◌, Option, Some, None, [], ◌∷◌, length, refl, ◌∙◌, ap, arith}
 use Rattle.std.specs.Prelude.{slice_get, nat_lt, nat_eq, if◌then◌else◌}
-use Rattle.std.proofs.lemmas.Bool.{ltb-true}
+use Rattle.std.proofs.lemmas.Bool.{and_parts, ltb-true}
 use Rattle.rm_base.specs.declared.numbers.NodeId.{NodeId}
-use Rattle.gate_net.proofs.Public.{and_both}
 use Rattle.gate_net.specs.Net.{Net, drivers_of, Reads, IsKind, IsWellFormed, wire_count}
 use Rattle.gate_net.specs.declared.Kind.TheVariants.{Not}
 use Rattle.gate_net.specs.Values.{same_bool}
@@ -15,11 +14,12 @@ use Rattle.wire_edit.specs.Changes.{Change, append, remove, fix, readers, new_no
 use Rattle.wire_edit.specs.Steps.{rule_applies, is_not_at, Applies, constant_change, empty_node, or_zero, change_of, stepped}
 use Rattle.wire_edit.specs.Order.{node, next_step, rule_at}
 use Rattle.wire_edit.specs.Laws.{IsTidying}
-use Rattle.wire_edit.specs.Work.{one_if, work, FixesPin, MakesPin, most_raised, pins_made}
+use Rattle.wire_edit.specs.Work.{work, FixesPin, MakesPin, most_raised, pins_made}
 use Rattle.wire_edit.proofs.Tested.{gate_is, not_gate, read_in_use, one_in}
 use Rattle.wire_edit.proofs.Conditions.{constant_apart, second_is, applies_changes}
 use Rattle.wire_edit.proofs.Ordering.{NoRules, none_rules, next_at, next_applies, twin_gate}
 use Rattle.wire_edit.proofs.Working.{remove_wires, fix_wires, remove_falls, fix_falls, append_raises, moved_wires, readers_fall, retire_falls, new_raises}
+use Rattle.rm_base.specs.Numbers.{one_if}
 
 -- the change falls, where readers move from a node in use to one that is in use or no gate
 abbrev Falls : Net → Change → Type 0
@@ -53,28 +53,28 @@ falls net (Fix gate position value) well t e twin = absurd t
 falls net (NewNot node) well t e twin = absurd t
 falls net (Const gate position) well t e twin =
     let can : CanChange net (change_of net (Const gate position)) = applies_changes net (Const gate position) well e in
-    let a : (is_gate net gate.0 ≡ true) × _ = and_both (is_gate net gate.0) _ e in
-    let u : (is_in_use net gate.0 ≡ true) × _ = and_both (is_in_use net gate.0) _ a.1 in
+    let a : (is_gate net gate.0 ≡ true) × _ = and_parts (is_gate net gate.0) _ e in
+    let u : (is_in_use net gate.0 ≡ true) × _ = and_parts (is_in_use net gate.0) _ a.1 in
     const_falls net well gate.0 position u.0 (control_of net gate.0) (constant_at net gate.0 position) can
 falls net (Same gate position) well t e twin = remove_falls net gate.0 position (applies_changes net (Same gate position) well e)
 falls net (NoPins gate) well t e twin =
-    let a : (is_junction net gate.0 ≡ true) × _ = and_both (is_junction net gate.0) _ e in
-    let u : (is_in_use net gate.0 ≡ true) × _ = and_both (is_in_use net gate.0) _ a.1 in
+    let a : (is_junction net gate.0 ≡ true) × _ = and_parts (is_junction net gate.0) _ e in
+    let u : (is_in_use net gate.0 ≡ true) × _ = and_parts (is_in_use net gate.0) _ a.1 in
     empty_falls net well gate.0 u.0 (control_of net gate.0) (applies_changes net (NoPins gate) well e)
 falls net (OnePin gate) well t e twin =
-    let a : (is_junction net gate.0 ≡ true) × _ = and_both (is_junction net gate.0) _ e in
-    let u : (is_in_use net gate.0 ≡ true) × (nat_eq (length (drivers_of net gate.0)) 1 ≡ true) = and_both (is_in_use net gate.0) _ a.1 in
+    let a : (is_junction net gate.0 ≡ true) × _ = and_parts (is_junction net gate.0) _ e in
+    let u : (is_in_use net gate.0 ≡ true) × (nat_eq (length (drivers_of net gate.0)) 1 ≡ true) = and_parts (is_in_use net gate.0) _ a.1 in
     let d : (d : ℕ) × (drivers_of net gate.0 ≡ d ∷ []) = one_in (drivers_of net gate.0) u.1 in
     let reads : Reads net gate.0 0 d.0 = ap (λ ds. slice_get ds 0) d.1 in
     to_node net well gate.0 (or_zero (driver_at net gate.0 0)) gate.0 0 d.0 u.0 reads (ap or_zero reads) (applies_changes net (OnePin gate) well e)
 falls net (Twice gate) well t e twin =
-    let a : (is_not net gate.0 ≡ true) × _ = and_both (is_not net gate.0) _ e in
-    let u : (is_in_use net gate.0 ≡ true) × (is_not_at net (driver_at net gate.0 0) ≡ true) = and_both (is_in_use net gate.0) _ a.1 in
+    let a : (is_not net gate.0 ≡ true) × _ = and_parts (is_not net gate.0) _ e in
+    let u : (is_in_use net gate.0 ≡ true) × (is_not_at net (driver_at net gate.0 0) ≡ true) = and_parts (is_in_use net gate.0) _ a.1 in
     let s : (inner : ℕ) × ((driver : ℕ) × (Reads net gate.0 0 inner × (IsKind net inner Not × (Reads net inner 0 driver × (second_driver net gate.0 ≡ Some driver))))) = second_is net gate.0 well u.1 in
     to_node net well gate.0 (or_zero (second_driver net gate.0)) s.0 0 s.1.0 u.0 s.1.1.1.1.0 (ap or_zero s.1.1.1.1.1) (applies_changes net (Twice gate) well e)
 falls net (Twin gate other) well t e twin =
-    let a : (is_not net gate.0 ≡ true) × _ = and_both (is_not net gate.0) _ e in
-    let u : (is_in_use net gate.0 ≡ true) × _ = and_both (is_in_use net gate.0) _ a.1 in
+    let a : (is_not net gate.0 ≡ true) × _ = and_parts (is_not net gate.0) _ e in
+    let u : (is_in_use net gate.0 ≡ true) × _ = and_parts (is_in_use net gate.0) _ a.1 in
     readers_fall net gate.0 other.0 well (applies_changes net (Twin gate other) well e) u.0 (λ g. twin gate other refl)
 falls net (Dead gate) well t e twin = (retire_falls net gate.0 (applies_changes net (Dead gate) well e)).0
 
@@ -85,10 +85,10 @@ twin_used net step e gate other is =
     let at : rule_at net k.0 ≡ Some (Twin gate other) = k.1.1.0 ∙ ap Some is in
     let own : gate.0 ≡ k.0 = twin_gate net k.0 gate other at in
     let applies : rule_applies net (Twin gate other) ≡ true = (next_applies net (Twin gate other) (e ∙ ap Some is)).1 in
-    let a : (is_not net gate.0 ≡ true) × _ = and_both (is_not net gate.0) _ applies in
-    let u : (is_in_use net gate.0 ≡ true) × _ = and_both (is_in_use net gate.0) _ a.1 in
-    let o : (is_not net other.0 ≡ true) × _ = and_both (is_not net other.0) _ u.1 in
-    let l : (nat_lt other.0 gate.0 ≡ true) × _ = and_both (nat_lt other.0 gate.0) _ o.1 in
+    let a : (is_not net gate.0 ≡ true) × _ = and_parts (is_not net gate.0) _ applies in
+    let u : (is_in_use net gate.0 ≡ true) × _ = and_parts (is_in_use net gate.0) _ a.1 in
+    let o : (is_not net other.0 ≡ true) × _ = and_parts (is_not net other.0) _ u.1 in
+    let l : (nat_lt other.0 gate.0 ≡ true) × _ = and_parts (nat_lt other.0 gate.0) _ o.1 in
     let below : other.0 < gate.0 = ltb-true other.0 gate.0 l.0 in
     let none : NoRules net other.0 = none_rules net other.0 (k.1.1.1 other.0 (let lt : other.0 < k.0 = rw own at below in lt)) in
     alive (is_gate net other.0) (is_in_use net other.0) (not_gate net other.0 o.0) none.no_dead

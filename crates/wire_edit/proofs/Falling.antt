@@ -1,5 +1,6 @@
 -- The tidying order to its end, and a fix before it.
 use Rattle.std.proofs.Common.{◌≡◌, ℕ, zero, suc, ◌+◌, ◌<◌, ◌≤◌, Option, Some, None, refl, sym, ◌∙◌, subst, arith}
+use Rattle.std.proofs.lemmas.Option.{slice_get_within}
 use Rattle.rm_base.specs.declared.numbers.Fault.{Fault}
 use Rattle.gate_net.specs.Net.{Net, drivers_of, IsGate, IsWellFormed, source_count, wire_count}
 use Rattle.gate_net.specs.Edits.{fixed}
@@ -11,7 +12,7 @@ use Rattle.wire_edit.specs.Order.{next_step}
 use Rattle.wire_edit.specs.Work.{free_pins, pins_made, work, FixesPin}
 use Rattle.wire_edit.specs.Tidying.{TidiesTo, tidy, then, IsTidiedNet}
 use Rattle.wire_edit.specs.Removals.{IsRemoval, HasFreePin, ReadsNoConstants}
-use Rattle.wire_edit.proofs.Tested.{is_gate_there, gate_is, within}
+use Rattle.wire_edit.proofs.Tested.{is_gate_there, gate_is}
 use Rattle.wire_edit.proofs.Conditions.{applies_changes}
 use Rattle.wire_edit.proofs.Formed.{changes_keep_form}
 use Rattle.wire_edit.proofs.Sources.{changes_keep_sources}
@@ -31,7 +32,7 @@ tidying_removes (Twice gate) t = tt
 tidying_removes (Twin gate other) t = tt
 tidying_removes (Dead gate) t = tt
 
-removal_pins : (step : Step) → IsRemoval step → pins_made step ≡ 0
+pub removal_pins : (step : Step) → IsRemoval step → pins_made step ≡ 0
 removal_pins (Add gate y) t = absurd t
 removal_pins (Fix gate position value) t = refl
 removal_pins (NewNot y) t = absurd t
@@ -91,7 +92,7 @@ pub tidying_reaches : (net : Net) → IsWellFormed net → (after : Net) × Tidi
 tidying_reaches net well = tidies_within (work net + 1) net well (omega arith)
 
 pub fix_applies : (net : Net) (fault : Fault) → IsWellFormed net → HasFreePin net fault → Applies net (Fix fault.gate fault.position fault.value)
-fix_applies net fault well (d, (reads, lt)) = (is_gate_there net fault.gate.0 (reader_gate net well fault.gate.0 fault.position d reads), within (drivers_of net fault.gate.0) fault.position d reads)
+fix_applies net fault well (d, (reads, lt)) = (is_gate_there net fault.gate.0 (reader_gate net well fault.gate.0 fault.position d reads), slice_get_within (drivers_of net fault.gate.0) fault.position d reads)
 
 pub fix_takes : (net : Net) (step : Step) (driver : ℕ) → IsWellFormed net → Applies net step → FixesPin net step driver → 1 < driver → free_pins (stepped net step) + 1 ≤ free_pins net
 fix_takes net (Fix gate position value) driver well applies fixes lt = fix_frees net gate position value driver (gate_is net gate.0 applies.0) fixes lt

@@ -2,7 +2,7 @@
 use Rattle.std.proofs.Common.{◌≡◌, ◌≢◌, ℕ, zero, suc, ◌+◌, ◌<◌, Bool, inl, inr, Some, None, List, [], ◌∷◌, ◌++◌, refl, sym, ◌∙◌, ap, arith}
 use Rattle.std.specs.Prelude.{slice_get, slice_set}
 use Rattle.std.proofs.lemmas.Bool.Decides.{eqb_tells}
-use Rattle.gate_net.proofs.Public.{fixes_keep_acyclic, last_cases, moves_keep_acyclic, node_at-other, node_at-there, pins_keep_acyclic, set_cases}
+use Rattle.gate_net.proofs.Public.{fixes_keep_acyclic, moves_keep_acyclic, node_at-other, node_at-there, pins_keep_acyclic}
 use Rattle.gate_net.specs.declared.Kind.{Kind}
 use Rattle.gate_net.specs.declared.Kind.TheVariants.{Source, Zero, One, And, Or, Not}
 use Rattle.rm_base.specs.declared.numbers.Fault.{Fault}
@@ -10,7 +10,6 @@ use Rattle.gate_net.specs.Net.{Node, Net, node_at, drivers_in, drivers_of, Reads
 use Rattle.gate_net.specs.Values.{controlling, IsJunction}
 use Rattle.gate_net.specs.Edits.{constant_node, constant_kind, without, without_pin, IsUnread, DiffersAt}
 use Rattle.wire_edit.specs.Changes.{Change, append, remove, fix, readers, new_not, retire, changed, CanChange, with_new_not, without_node}
-use Rattle.wire_edit.proofs.Tested.{got}
 use Rattle.wire_edit.proofs.Totals.{total_least, total_gone}
 use Rattle.wire_edit.proofs.Canonical.{canonical_least, canonical_trimmed, least_free, least_is_free, least-there, least-other, gone-other, gone-there}
 use Rattle.wire_edit.proofs.Conditions.{same_kind, constant_is}
@@ -19,6 +18,7 @@ use Rattle.wire_edit.proofs.Redriven.{with_formed}
 use Rattle.wire_edit.proofs.MovedForm.{moved_formed}
 use Rattle.wire_edit.proofs.Apart.{apart_acyclic}
 use Rattle.wire_edit.proofs.ApartForm.{apart_formed}
+use Rattle.rm_base.proofs.Public.{last_cases, only_stands, set_cases, stands_below}
 
 pub without_before : (ds : List ℕ) (p q x : ℕ) → slice_get (without ds p) q ≡ Some x → (k : ℕ) × (slice_get ds k ≡ Some x)
 without_before [] p q x e = (q, e)
@@ -71,10 +71,6 @@ gone_differs net gate = record { others = λ y ne. gone-other net.nodes gate y n
 pub free_unread : (net : Net) (x : ℕ) → IsWellFormed net → node_at net x ≡ None → IsUnread net x
 free_unread net x well free = record { unread = λ y p reads. well.drivers_live y p x reads free; unobserved = λ k. well.observed_live x k free }
 
-one_there : (d p z : ℕ) → slice_get (d ∷ []) p ≡ Some z → z ≡ d
-one_there d zero z e = cc
-one_there d (suc p) z e = cc
-
 new_formed : (net : Net) (driver : ℕ) → IsWellFormed net → IsLive net driver → IsWellFormed (with_new_not net driver)
 new_formed net driver well live =
     apart_formed net after new well (new_differs net driver) unread (λ kind is. absurd (free (alive net new (kind, is)))) (λ kind is. let e : Not ≡ kind = same_kind after new Not kind (driver ∷ [], made) is in rw (sym e) tt)
@@ -107,7 +103,7 @@ new_formed net driver well live =
     made = least-there net.nodes n
 
     only : (p x : ℕ) → Reads after new p x → x ≡ driver
-    only p x reads = one_there driver p x (ap (λ o. slice_get (drivers_in o) p) (sym made) ∙ reads)
+    only p x reads = only_stands driver p x (ap (λ o. slice_get (drivers_in o) p) (sym made) ∙ reads)
 
     low : (p z : ℕ) → Reads after new p z → (z ≢ new) × (well.acyclic.0 z < suc (well.acyclic.0 driver))
     low p z reads = let l : z ≡ driver = only p z reads in (λ e. free' (sym l ∙ e), rw l (omega arith))
@@ -154,7 +150,7 @@ changes_keep_form net (remove gate position) well (j, lt) =
     (λ e. absurd (control_not j.1.0 j.0 j.1.1.1 e))
 changes_keep_form net (fix gate position value) well (g, lt) =
     let fault : Fault = record { gate = record { 0 = gate }; position = position; value = value } in
-    let d : (d : ℕ) × (slice_get (drivers_of net gate) position ≡ Some d) = got (drivers_of net gate) position lt in
+    let d : (d : ℕ) × (slice_get (drivers_of net gate) position ≡ Some d) = stands_below (drivers_of net gate) position lt in
     with_formed net gate (slice_set (drivers_of net gate) position (constant_node value)) well g (fixes_keep_acyclic net fault d.0 well.constants d.1 well.acyclic)
     (λ p x e. elim (set_cases (drivers_of net gate) position p (constant_node value) x e) [
       | inl is ↦ rw is (alive net (constant_node value) (constant_kind value, constant_is net well.constants value))

@@ -16,8 +16,8 @@ use Rattle.wire_edit.specs.Tests.{is_gate, is_in_use, is_present, constant_at, c
 use Rattle.wire_edit.specs.Changes.{Change, append, remove, fix, readers, new_not, retire, changed, CanChange}
 use Rattle.wire_edit.specs.Steps.{Applies, change_of, constant_change, stepped}
 use Rattle.wire_edit.specs.Order.{IsTidy, node}
-use Rattle.wire_edit.specs.Work.{one_if, free_in, free_pins}
-use Rattle.wire_edit.proofs.Tested.{is_gate_there, got}
+use Rattle.wire_edit.specs.Work.{free_in, free_pins}
+use Rattle.wire_edit.proofs.Tested.{is_gate_there}
 use Rattle.wire_edit.proofs.Conditions.{applies_changes, no_pins}
 use Rattle.wire_edit.proofs.Ordering.{tidy_refuses}
 use Rattle.wire_edit.proofs.Totals.{total_gone}
@@ -25,6 +25,8 @@ use Rattle.wire_edit.proofs.Formed.{junction_kind}
 use Rattle.wire_edit.proofs.Working.{above_constants, constant_bound, with_free}
 use Rattle.wire_edit.proofs.Counting.{free_without, free_set, free_moved}
 use Rattle.wire_edit.specs.Removals.{IsRemoval, ReadsNoConstants}
+use Rattle.rm_base.proofs.Public.{stands_below}
+use Rattle.rm_base.specs.Numbers.{one_if}
 
 -- A TIDY NET
 -- a node with a pin is a gate
@@ -134,7 +136,7 @@ change_frees net well (remove gate p) (j, lt) none =
     let f : _ ≤ _ = free_without (drivers_of net gate) p in
     omega arith
 change_frees net well (fix gate p value) (g, lt) none =
-    let d : (d : ℕ) × Reads net gate p d = got (drivers_of net gate) p lt in
+    let d : (d : ℕ) × Reads net gate p d = stands_below (drivers_of net gate) p lt in
     let a : _ ≡ _ = with_free net gate (slice_set (drivers_of net gate) p (constant_node value)) g in
     let f : _ ≡ _ = free_set (drivers_of net gate) p (constant_node value) d.0 d.1 (constant_bound value) in
     omega arith

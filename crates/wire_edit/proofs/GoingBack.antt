@@ -1,9 +1,8 @@
 -- A trial goes back to its start, and starts again from where it is.
 use Rattle.std.proofs.Common.{◌≡◌, ℕ, zero, suc, ◌+◌, ◌-◌, ◌<◌, ◌≤◌, Bool, true, false, inl, inr, Option, Some, None, List, [], ◌∷◌, ◌++◌, length, refl, sym, ◌∙◌, ap, subst, arith, min, length-append}
-use Rattle.std.proofs.lemmas.Bool.{both_ways, cases_lt}
+use Rattle.std.proofs.lemmas.Bool.{both_ways, cases_lt, false_from_ne_true}
 use Rattle.std.specs.Cmp.{nat_cmp_total}
 use Rattle.std.specs.FinSet.{same_set, len, nat_cmp-IsAntisymmetric}
-use Rattle.gate_net.proofs.Public.{not_true}
 use Rattle.gate_net.specs.declared.Kind.{Kind}
 use Rattle.gate_net.specs.Net.{Net, wire_count, source_count, gate_count}
 use Rattle.gate_graph.specs.Wirings.{Wiring, free_in}
@@ -95,7 +94,7 @@ quiet_back net agenda tidy x unmarked = tidy_rules net tidy x
 pub quiet_all : (net : Net) (agenda : List Bool) → length net.nodes ≤ length agenda → ((k : ℕ) → k < length agenda → is_marked agenda k ≡ true) → IsQuiet net agenda
 quiet_all net agenda le all x unmarked = elim (cases_lt x (length agenda)) [
   | inl lt ↦ absurd (both_ways (is_marked agenda x) unmarked (all x lt))
-  | inr above ↦ no_rule net x (not_true (is_gate net x) (λ g. let lt : x < length net.nodes = gate_below net x g in omega (arith, lt, above, le)))
+  | inr above ↦ no_rule net x (false_from_ne_true (is_gate net x) (λ g. let lt : x < length net.nodes = gate_below net x g in omega (arith, lt, above, le)))
 ]
 
 pub taken_back_trial : (v w : Circuit) (trail after : Trail) (steps : List Step) (spare : ℕ) (room first : Room) (marks : ℕ) (agenda next : List Bool) (tidy : Bool) → GoesBack v trail steps spare first marks tidy → IsTrial v trail room marks agenda → wiring w ≡ back_to (wiring v) trail.entries → CanGoBack (wiring w) [] → after.entries ≡ [] → after.spare ≡ trail.spare + length trail.entries → free_pins w + pins_taken w ≡ free_pins v + pins_taken v → length w.kinds ≡ length v.kinds → live_nodes w ≡ 2 + source_count (net_of w) + gate_count (net_of w) → length (net_of w).nodes ≤ 4294967295 → length next ≡ length agenda → (tidy ≡ false → (k : ℕ) → k < length next → is_marked next k ≡ true) → IsTrial w after first marks next

@@ -2,8 +2,9 @@
 use Rattle.std.proofs.Common.{◌≡◌, ◌≢◌, ℕ, zero, suc, ◌<◌, Bool, true, false, not, inl, inr, Option, Some, None, List, [], ◌∷◌, length, map, refl, sym, ◌∙◌, ap, arith}
 use Rattle.std.specs.Prelude.{slice_get, nat_eq, nat_lt, if◌then◌else◌}
 use Rattle.std.proofs.lemmas.Bool.Decides.{eqb_tells}
-use Rattle.std.proofs.lemmas.Bool.{both_ways, or_cases}
-use Rattle.gate_net.proofs.Public.{adds_keep, along_pins, and_both, bool_cases, first_is, fixes_keep, junction_member, map_agree, map_at, map_pointwise, moves_keep, node_at-other, node_at-there, not_not, same_bool_false, same_bool_not, same_bool_refl, same_bool_true, value_at, values_unique}
+use Rattle.std.proofs.lemmas.Bool.{and_parts, both_ways, or_cases}
+use Rattle.std.proofs.Math.Bool.{not-not}
+use Rattle.gate_net.proofs.Public.{adds_keep, along_pins, first_is, fixes_keep, junction_member, moves_keep, node_at-other, node_at-there, same_bool_false, same_bool_not, same_bool_refl, same_bool_true, value_at, values_unique}
 use Rattle.gate_net.specs.declared.Kind.{Kind}
 use Rattle.gate_net.specs.declared.Kind.TheVariants.{Source, Zero, One, And, Or, Not}
 use Rattle.rm_base.specs.declared.numbers.Fault.{Fault}
@@ -17,10 +18,11 @@ use Rattle.wire_edit.specs.Tests.{is_present, is_junction, is_not, is_gate, cont
 use Rattle.wire_edit.specs.Changes.{remove, readers, changed, with_new_not, without_node}
 use Rattle.wire_edit.specs.Steps.{is_not_at, Applies, constant_change, empty_node, or_zero, change_of, stepped}
 use Rattle.wire_edit.specs.Laws.{IsSound}
-use Rattle.wire_edit.proofs.Tested.{present, junction_is_one, control_is, not_is, constant_read, repeated_at, got, one_in, none_in, same_at}
+use Rattle.wire_edit.proofs.Tested.{present, junction_is_one, control_is, not_is, constant_read, repeated_at, one_in, none_in, same_at}
 use Rattle.wire_edit.proofs.Canonical.{least_free, least_is_free}
 use Rattle.wire_edit.proofs.Conditions.{constant_is, second_is, applies_changes}
 use Rattle.wire_edit.proofs.Formed.{changes_keep_form, new_differs, gone_differs, free_unread}
+use Rattle.rm_base.proofs.Public.{bool_cases, map_agree, map_at, map_pointwise, stands_below}
 
 -- the same values at the observed nodes are the same at the observed places
 places : (v w : ℕ → Bool) (xs : List ℕ) → ((x : ℕ) → (k : ℕ) × (slice_get xs k ≡ Some x) → v x ≡ w x) → map v xs ≡ map w xs
@@ -153,49 +155,49 @@ keeps_from net (Add gate node) acyclic well (j, (live, (ne, (apart, fresh)))) so
     let c : (c : Bool) × ((control_of net gate.0 ≡ Some c) × IsJunction net gate.0 c) = junction_is_one net gate.0 j in
     values_places net (with_pin net gate.0 node.0) (adds_keep net gate.0 node.0 c.1.1.0 c.0 c.1.1.1.0 c.1.1.1.1 (sound c.0 c.1.0)) refl
 keeps_from net (Fix gate position value) acyclic well (g, lt) sound =
-    let d : (d : ℕ) × (slice_get (drivers_of net gate.0) position ≡ Some d) = got (drivers_of net gate.0) position lt in
+    let d : (d : ℕ) × (slice_get (drivers_of net gate.0) position ≡ Some d) = stands_below (drivers_of net gate.0) position lt in
     let fault : Fault = record { gate = gate; position = position; value = value } in
     values_places net (fixed net fault) (fixes_keep net fault d.0 well.constants d.1 sound) refl
 keeps_from net (NewNot node) acyclic well e sound =
     apart_keeps net (with_new_not net node.0) (least_free net.nodes) well.acyclic (new_differs net node.0) (free_unread net (least_free net.nodes) well (least_is_free net.nodes))
 keeps_from net (Const gate position) acyclic well e sound =
-    let a : (is_gate net gate.0 ≡ true) × _ = and_both (is_gate net gate.0) _ e in
-    let u : (is_in_use net gate.0 ≡ true) × _ = and_both (is_in_use net gate.0) _ a.1 in
+    let a : (is_gate net gate.0 ≡ true) × _ = and_parts (is_gate net gate.0) _ e in
+    let u : (is_in_use net gate.0 ≡ true) × _ = and_parts (is_in_use net gate.0) _ a.1 in
     let k : (k : Bool) × (constant_at net gate.0 position ≡ Some k) = present (constant_at net gate.0 position) u.1 in
     let at : IsAcyclic (changed net (constant_change gate.0 position (control_of net gate.0) (Some k.0))) = rw k.1 at acyclic in
     rw k.1 (constant_keeps net well gate.0 position a.0 k.0 k.1 (control_of net gate.0) refl at)
 keeps_from net (Same gate position) acyclic well e sound =
-    let a : (is_junction net gate.0 ≡ true) × _ = and_both (is_junction net gate.0) _ e in
-    let u : (is_in_use net gate.0 ≡ true) × (is_repeated (drivers_of net gate.0) position ≡ true) = and_both (is_in_use net gate.0) _ a.1 in
+    let a : (is_junction net gate.0 ≡ true) × _ = and_parts (is_junction net gate.0) _ e in
+    let u : (is_in_use net gate.0 ≡ true) × (is_repeated (drivers_of net gate.0) position ≡ true) = and_parts (is_in_use net gate.0) _ a.1 in
     let c : (c : Bool) × ((control_of net gate.0 ≡ Some c) × IsJunction net gate.0 c) = junction_is_one net gate.0 a.0 in
     let r : (d : ℕ) × ((q : ℕ) × ((q < position) × ((slice_get (drivers_of net gate.0) q ≡ Some d) × (slice_get (drivers_of net gate.0) position ≡ Some d)))) = repeated_at (drivers_of net gate.0) position u.1 in
     pin_gone net gate.0 position c.0 acyclic c.1.1 (λ a v good. junction-repeated c.0 v (drivers_of net gate.0) r.1.0 position r.0 r.1.1.0 r.1.1.1.0 r.1.1.1.1)
 keeps_from net (NoPins gate) acyclic well e sound =
-    let a : (is_junction net gate.0 ≡ true) × _ = and_both (is_junction net gate.0) _ e in
-    let u : (is_in_use net gate.0 ≡ true) × (nat_eq (length (drivers_of net gate.0)) 0 ≡ true) = and_both (is_in_use net gate.0) _ a.1 in
+    let a : (is_junction net gate.0 ≡ true) × _ = and_parts (is_junction net gate.0) _ e in
+    let u : (is_in_use net gate.0 ≡ true) × (nat_eq (length (drivers_of net gate.0)) 0 ≡ true) = and_parts (is_in_use net gate.0) _ a.1 in
     let c : (c : Bool) × ((control_of net gate.0 ≡ Some c) × IsJunction net gate.0 c) = junction_is_one net gate.0 a.0 in
     to_value net well gate.0 (empty_node (control_of net gate.0)) (not c.0) (ap empty_node c.1.0) acyclic (λ a v good.
     junction_is net a v gate.0 c.0 c.1.1 good ∙ ap (λ ds. junction c.0 (map v ds)) (none_in (drivers_of net gate.0) u.1))
 keeps_from net (OnePin gate) acyclic well e sound =
-    let a : (is_junction net gate.0 ≡ true) × _ = and_both (is_junction net gate.0) _ e in
-    let u : (is_in_use net gate.0 ≡ true) × (nat_eq (length (drivers_of net gate.0)) 1 ≡ true) = and_both (is_in_use net gate.0) _ a.1 in
+    let a : (is_junction net gate.0 ≡ true) × _ = and_parts (is_junction net gate.0) _ e in
+    let u : (is_in_use net gate.0 ≡ true) × (nat_eq (length (drivers_of net gate.0)) 1 ≡ true) = and_parts (is_in_use net gate.0) _ a.1 in
     let c : (c : Bool) × ((control_of net gate.0 ≡ Some c) × IsJunction net gate.0 c) = junction_is_one net gate.0 a.0 in
     let d : (d : ℕ) × (drivers_of net gate.0 ≡ d ∷ []) = one_in (drivers_of net gate.0) u.1 in
     let is : or_zero (driver_at net gate.0 0) ≡ d.0 = ap (λ ds. or_zero (slice_get ds 0)) d.1 in
     moves_keep net gate.0 (or_zero (driver_at net gate.0 0)) acyclic (λ a v good.
     junction_is net a v gate.0 c.0 c.1.1 good ∙ ap (λ ds. junction c.0 (map v ds)) d.1 ∙ junction_one c.0 (v d.0) ∙ ap v (sym is))
 keeps_from net (Twice gate) acyclic well e sound =
-    let a : (is_not net gate.0 ≡ true) × _ = and_both (is_not net gate.0) _ e in
-    let u : (is_in_use net gate.0 ≡ true) × (is_not_at net (driver_at net gate.0 0) ≡ true) = and_both (is_in_use net gate.0) _ a.1 in
+    let a : (is_not net gate.0 ≡ true) × _ = and_parts (is_not net gate.0) _ e in
+    let u : (is_in_use net gate.0 ≡ true) × (is_not_at net (driver_at net gate.0 0) ≡ true) = and_parts (is_in_use net gate.0) _ a.1 in
     let s : (inner : ℕ) × ((driver : ℕ) × (Reads net gate.0 0 inner × (IsKind net inner Not × (Reads net inner 0 driver × (second_driver net gate.0 ≡ Some driver))))) = second_is net gate.0 well u.1 in
     moves_keep net gate.0 (or_zero (second_driver net gate.0)) acyclic (λ sources v good.
-    not_value net sources v gate.0 s.0 good (not_is net gate.0 a.0) s.1.1.0 ∙ ap not (not_value net sources v s.0 s.1.0 good s.1.1.1.0 s.1.1.1.1.0) ∙ not_not (v s.1.0)
+    not_value net sources v gate.0 s.0 good (not_is net gate.0 a.0) s.1.1.0 ∙ ap not (not_value net sources v s.0 s.1.0 good s.1.1.1.0 s.1.1.1.1.0) ∙ not-not (v s.1.0)
     ∙ ap v (sym (ap or_zero s.1.1.1.1.1)))
 keeps_from net (Twin gate other) acyclic well e sound =
-    let a : (is_not net gate.0 ≡ true) × _ = and_both (is_not net gate.0) _ e in
-    let u : (is_in_use net gate.0 ≡ true) × _ = and_both (is_in_use net gate.0) _ a.1 in
-    let o : (is_not net other.0 ≡ true) × _ = and_both (is_not net other.0) _ u.1 in
-    let l : (nat_lt other.0 gate.0 ≡ true) × _ = and_both (nat_lt other.0 gate.0) _ o.1 in
+    let a : (is_not net gate.0 ≡ true) × _ = and_parts (is_not net gate.0) _ e in
+    let u : (is_in_use net gate.0 ≡ true) × _ = and_parts (is_in_use net gate.0) _ a.1 in
+    let o : (is_not net other.0 ≡ true) × _ = and_parts (is_not net other.0) _ u.1 in
+    let l : (nat_lt other.0 gate.0 ≡ true) × _ = and_parts (nat_lt other.0 gate.0) _ o.1 in
     let d : (d : ℕ) × ((driver_at net gate.0 0 ≡ Some d) × (driver_at net other.0 0 ≡ Some d)) = same_at (driver_at net gate.0 0) (driver_at net other.0 0) l.1 in
     moves_keep net gate.0 other.0 acyclic (λ sources v good. not_value net sources v gate.0 d.0 good (not_is net gate.0 a.0) d.1.0 ∙ sym (not_value net sources v other.0 d.0 good (not_is net other.0 o.0) d.1.1))
 keeps_from net (Dead gate) acyclic well e sound =

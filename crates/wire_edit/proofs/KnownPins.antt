@@ -1,12 +1,11 @@
 -- What is known of the pins of a gate, and what steps leave of it.
 use Rattle.std.proofs.Common.{◌≡◌, ◌≢◌, ℕ, zero, suc, ◌+◌, ◌-◌, ◌<◌, ◌≤◌, Bool, true, false, ◌⊎◌, inl, inr, Option, Some, None, List, [], ◌∷◌, ◌++◌, length, map, take, drop, refl, sym, ◌∙◌, ap, subst, arith}
 use Rattle.std.specs.Prelude.{if◌then◌else◌, slice_get, sum_by, option_and_then, unwrap_or}
-use Rattle.std.proofs.lemmas.Bool.{cases_lt, cases_eq, both_ways, and_from}
+use Rattle.std.proofs.lemmas.Bool.{cases_lt, cases_eq, both_ways, and_from, and_parts}
 use Rattle.std.proofs.lemmas.List.{length-drop}
 use Rattle.std.proofs.lemmas.List.Sums.{sum_by-cons}
 use Rattle.std.proofs.lemmas.Option.{slice_get_past}
 use Rattle.rm_base.specs.declared.numbers.NodeId.{NodeId}
-use Rattle.gate_net.proofs.Public.{and_both}
 use Rattle.gate_net.specs.Net.{Node, Net, flatten_option, drivers_in, drivers_of, wire_count, IsGate}
 use Rattle.gate_net.specs.Edits.{constant_node, without, without_pin}
 use Rattle.gate_net.specs.Values.{same_bool}
@@ -118,7 +117,7 @@ repeated_without ds k p lt =
 -- a `Same` leaves the pins before its own as they are
 pub same_left : (net : Net) (gate : NodeId) (position : ℕ) → Applies net (Same gate position) → (drivers_of (stepped net (Same gate position)) gate.0 ≡ without (drivers_of net gate.0) position)
 same_left net gate position a =
-    let j : (is_junction net gate.0 ≡ true) × _ = and_both (is_junction net gate.0) _ a in
+    let j : (is_junction net gate.0 ≡ true) × _ = and_parts (is_junction net gate.0) _ a in
     drivers_after net gate.0 position (gate_is net gate.0 (junction_gate net gate.0 j.0))
 
 pub same_apart : (net : Net) (gate : NodeId) (position n : ℕ) → Applies net (Same gate position) → n ≤ position → ((k : ℕ) → k < n → is_repeated (drivers_of net gate.0) k ≡ false) → (k : ℕ) → k < n → is_repeated (drivers_of (stepped net (Same gate position)) gate.0) k ≡ false
@@ -177,8 +176,8 @@ place_of _ = None
 pub const_first : (net : Net) (from : NodeId) (p : ℕ) → next_step net ≡ Some (Const from p) → (k : ℕ) → k < p → reads_constant net from.0 k ≡ false
 const_first net from p e k lt =
     let a : rule_applies net (Const from p) ≡ true = (next_applies net (Const from p) e).1 in
-    let g : (is_gate net from.0 ≡ true) × _ = and_both (is_gate net from.0) _ a in
-    let u : (is_in_use net from.0 ≡ true) × _ = and_both (is_in_use net from.0) _ g.1 in
+    let g : (is_gate net from.0 ≡ true) × _ = and_parts (is_gate net from.0) _ a in
+    let u : (is_in_use net from.0 ≡ true) × _ = and_parts (is_in_use net from.0) _ g.1 in
     let here : rule_at net from.0 ≡ Some (Const from p) = next_own net (Const from p) from.0 e refl in
     let within : p < length (drivers_of net from.0) = const_within net from.0 p a in
     elim (scan (reads_constant net from.0) p) [
@@ -215,8 +214,8 @@ const_after net gate p k g lt none =
 -- the gate of a `Same` of the order reads no constant
 same_plain : (net : Net) (from : NodeId) (p : ℕ) → next_step net ≡ Some (Same from p) → ReadsNoConstant net from.0
 same_plain net from p e =
-    let j : (is_junction net from.0 ≡ true) × _ = and_both (is_junction net from.0) _ (next_applies net (Same from p) e).1 in
-    let u : (is_in_use net from.0 ≡ true) × _ = and_both (is_in_use net from.0) _ j.1 in
+    let j : (is_junction net from.0 ≡ true) × _ = and_parts (is_junction net from.0) _ (next_applies net (Same from p) e).1 in
+    let u : (is_in_use net from.0 ≡ true) × _ = and_parts (is_in_use net from.0) _ j.1 in
     let here : rule_at net from.0 ≡ Some (Same from p) = next_own net (Same from p) from.0 e refl in
     elim (scan (reads_constant net from.0) (length (drivers_of net from.0))) [
       | inl none ↦ plain_all net from.0 none
@@ -234,10 +233,10 @@ same_plain net from p e =
 -- what the gate of a pin that was taken out reads of constants
 pub plain_after : (net : Net) (step : Step) → next_step net ≡ Some step → TakesOut (change_of net step) → IsPlainAfter (stepped net step) step
 plain_after net (Same gate position) e t =
-    let a : (is_junction net gate.0 ≡ true) × _ = and_both (is_junction net gate.0) _ (next_applies net (Same gate position) e).1 in
+    let a : (is_junction net gate.0 ≡ true) × _ = and_parts (is_junction net gate.0) _ (next_applies net (Same gate position) e).1 in
     plain_removed net gate.0 position (gate_is net gate.0 (junction_gate net gate.0 a.0)) (same_plain net gate position e)
 plain_after net (Const gate position) e t = λ k lt.
-    let a : (is_gate net gate.0 ≡ true) × _ = and_both (is_gate net gate.0) _ (next_applies net (Const gate position) e).1 in
+    let a : (is_gate net gate.0 ≡ true) × _ = and_parts (is_gate net gate.0) _ (next_applies net (Const gate position) e).1 in
     ap (λ (change : Change). reads_constant (changed net change) gate.0 k) (takes_out gate.0 position (control_of net gate.0) (constant_at net gate.0 position) t)
     ∙ const_after net gate.0 position k (gate_is net gate.0 a.0) lt (const_first net gate position e k lt)
 plain_after net (Add gate node) e t = tt

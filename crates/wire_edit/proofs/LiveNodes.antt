@@ -1,5 +1,5 @@
 -- How many nodes live, and how a step makes more numbers and pins.
-use Rattle.std.proofs.Common.{◌≡◌, ◌≢◌, ℕ, zero, suc, ◌+◌, ◌≤◌, inl, inr, Option, Some, None, List, [], ◌∷◌, ◌++◌, length, refl, sym, ◌∙◌, ap, subst, arith}
+use Rattle.std.proofs.Common.{◌≡◌, ◌≢◌, ℕ, suc, ◌+◌, ◌≤◌, inl, inr, Option, Some, None, List, [], ◌∷◌, ◌++◌, length, refl, sym, ◌∙◌, ap, subst, arith}
 use Rattle.std.specs.Prelude.{slice_get}
 use Rattle.std.specs.List.{sum_by}
 use Rattle.std.proofs.lemmas.Bool.{cases_eq, cases_lt}
@@ -15,6 +15,7 @@ use Rattle.wire_edit.specs.Steps.{stepped, change_of}
 use Rattle.wire_edit.specs.Refusals.{live_count, nodes_made}
 use Rattle.wire_edit.proofs.Budgets.{length_budget}
 use Rattle.wire_edit.proofs.TrialSteps.{step_pins}
+use Rattle.rm_base.proofs.Public.{front_stands, last_stands}
 
 pub numbers_grow : (net : Net) (step : Step) → length (stepped net step).nodes ≤ length net.nodes + nodes_made step
 numbers_grow net step = let le : length (stepped net step).nodes ≤ length net.nodes + _ = length_budget net (change_of net step) in omega (arith, le, (step_pins net step).1)
@@ -82,28 +83,18 @@ live_counted net well = at net.nodes refl
         let rest : sum_by live_in os ≡ sum_by sources_in os + sum_by gates_in os = live_rest os (λ k n there. away k n (ap (λ (qs : List (Option Node)). slice_get qs (suc (suc k))) is ∙ there)) in
         omega (arith, two_then live_in a b os, two_then sources_in a b os, two_then gates_in a b os, la, lb, sa, sb, ga, gb, rest)
 
--- A NEW PIN
-pub last_there : (ds : List ℕ) (d : ℕ) → slice_get (ds ++ d ∷ []) (length ds) ≡ Some d
-last_there [] d = refl
-last_there (x ∷ ds) d = last_there ds d
-
-pub kept_there : (ds : List ℕ) (d p x : ℕ) → slice_get ds p ≡ Some x → slice_get (ds ++ d ∷ []) p ≡ Some x
-kept_there [] d p x e = cc
-kept_there (y ∷ ds) d zero x e = e
-kept_there (y ∷ ds) d (suc p) x e = kept_there ds d p x e
-
 pin_drivers : (net : Net) (gate d : ℕ) (n : Node) → node_at net gate ≡ Some n → drivers_of (with_pin net gate d) gate ≡ drivers_of net gate ++ d ∷ []
 pin_drivers net gate d n is = ap drivers_in (node_at-there net gate (drivers_of net gate ++ d ∷ []) n is)
 
 pub added_last : (net : Net) (gate driver : ℕ) → IsLive net gate → Reads (with_pin net gate driver) gate (length (drivers_of net gate)) driver
 added_last net gate driver live =
-    ap (λ (xs : List ℕ). slice_get xs (length (drivers_of net gate))) (pin_drivers net gate driver (record { kind = live.0; drivers = live.1.0 }) live.1.1) ∙ last_there (drivers_of net gate) driver
+    ap (λ (xs : List ℕ). slice_get xs (length (drivers_of net gate))) (pin_drivers net gate driver (record { kind = live.0; drivers = live.1.0 }) live.1.1) ∙ last_stands (drivers_of net gate) driver
 
 pub others_stay : (net : Net) (gate driver y position x : ℕ) → Reads net y position x → Reads (with_pin net gate driver) y position x
 others_stay net gate driver y position x reads = elim (cases_eq y gate) [
   | inl is ↦
       let n : (n : Node) × (node_at net y ≡ Some n) = live_reader (node_at net y) position x reads in
-      subst (λ (k : ℕ). Reads (with_pin net k driver) y position x) is (ap (λ (xs : List ℕ). slice_get xs position) (pin_drivers net y driver n.0 n.1) ∙ kept_there (drivers_of net y) driver position x reads)
+      subst (λ (k : ℕ). Reads (with_pin net k driver) y position x) is (ap (λ (xs : List ℕ). slice_get xs position) (pin_drivers net y driver n.0 n.1) ∙ front_stands (drivers_of net y) (driver ∷ []) position x reads)
   | inr ne ↦ ap (λ o. slice_get (drivers_in o) position) (node_at-other net gate (drivers_of net gate ++ driver ∷ []) y ne) ∙ reads
 ]
 

@@ -2,8 +2,8 @@
 use Rattle.std.proofs.Common.{◌≡◌, ◌≢◌, ℕ, zero, suc, ◌+◌, ◌<◌, ◌≤◌, Bool, true, false, inl, inr, List, [], ◌∷◌, length, refl, ◌∙◌, ap, arith}
 use Rattle.std.specs.Prelude.{replicate, get_or, set}
 use Rattle.std.proofs.lemmas.Bool.{cases_eq, cases_lt}
-use Rattle.wire_edit.specs.Work.{one_if}
 use Rattle.wire_edit.specs.Marked.{is_marked, marks_left, KeepsMarks}
+use Rattle.rm_base.specs.Numbers.{one_if}
 
 pub marked_all : (b : Bool) (n k : ℕ) → k < n → is_marked (replicate n b) k ≡ b
 marked_all b zero k lt = absurd (omega (arith, lt))

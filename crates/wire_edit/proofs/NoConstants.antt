@@ -1,8 +1,9 @@
 -- Gates that read no constant.
 use Rattle.std.proofs.Common.{◌≡◌, ℕ, zero, suc, ◌<◌, ◌≤◌, Bool, true, false, inl, inr, Option, Some, None, List, [], ◌∷◌, length, refl, sym, ◌∙◌, ap, arith}
 use Rattle.std.specs.Prelude.{slice_get, option_and_then}
-use Rattle.std.proofs.lemmas.Bool.{both_ways, and_from}
-use Rattle.gate_net.proofs.Public.{and_both, node_at-there, not_true}
+use Rattle.std.proofs.lemmas.Bool.{both_ways, and_from, false_from_ne_true}
+use Rattle.std.proofs.lemmas.Option.{slice_get_within}
+use Rattle.gate_net.proofs.Public.{node_at-there}
 use Rattle.gate_net.specs.Net.{Net, drivers_in, drivers_of, IsGate}
 use Rattle.gate_net.specs.Edits.{without, without_pin}
 use Rattle.wire_edit.specs.declared.steps.Step.{Step}
@@ -12,15 +13,15 @@ use Rattle.wire_edit.specs.Tests.{is_present, is_gate, is_junction, is_in_use, k
 use Rattle.wire_edit.specs.Steps.{rule_applies, stepped}
 use Rattle.wire_edit.specs.Firsts.{reads_constant, ReadsNoConstant, IsPlainAfter}
 use Rattle.wire_edit.specs.Order.{node, where_met, first_from, rule_at, next_step}
-use Rattle.wire_edit.proofs.Tested.{present, constant_read, within, junction_gate, gate_is}
+use Rattle.wire_edit.proofs.Tested.{present, constant_read, junction_gate, gate_is}
 use Rattle.wire_edit.proofs.Working.{with_kinds}
 use Rattle.wire_edit.proofs.Ordering.{or_some, from_some, from_none, met_some, met_none, consts, sames, twins, next_at, next_applies}
 
 pub plain_all : (net : Net) (gate : ℕ) → ((k : ℕ) → k < length (drivers_of net gate) → reads_constant net gate k ≡ false) → ReadsNoConstant net gate
-plain_all net gate none k = not_true _ (λ e.
+plain_all net gate none k = false_from_ne_true _ (λ e.
     let b : (b : Bool) × (constant_at net gate k ≡ Some b) = present (constant_at net gate k) e in
     let d : (d : ℕ) × ((slice_get (drivers_of net gate) k ≡ Some d) × _) = constant_read net gate k b.0 b.1 in
-    both_ways _ (none k (within (drivers_of net gate) k d.0 d.1.0)) e)
+    both_ways _ (none k (slice_get_within (drivers_of net gate) k d.0 d.1.0)) e)
 
 -- what stands in a list without one place stands in the list
 without_back : (ds : List ℕ) (p q : ℕ) → (k : ℕ) × (slice_get (without ds p) q ≡ slice_get ds k)

@@ -1,9 +1,9 @@
 -- What the next step tells.
 use Rattle.std.proofs.Common.{◌≡◌, ℕ, zero, suc, ◌+◌, ◌<◌, ◌≤◌, Bool, true, false, ◌⊎◌, inl, inr, Option, Some, None, List, [], ◌∷◌, length, refl, sym, ◌∙◌, ap, arith}
 use Rattle.std.specs.Prelude.{slice_get, if◌then◌else◌, nat_lt}
-use Rattle.std.proofs.lemmas.Bool.{ltb-true, both_ways, cases_eq}
+use Rattle.std.proofs.lemmas.Bool.{ltb-true, both_ways, cases_eq, and_parts, false_from_ne_true}
+use Rattle.std.proofs.lemmas.Option.{slice_get_within}
 use Rattle.rm_base.specs.declared.numbers.NodeId.{NodeId}
-use Rattle.gate_net.proofs.Public.{and_both, not_true}
 use Rattle.gate_net.specs.Net.{Node, Net, flatten_option, drivers_of, IsGate}
 use Rattle.wire_edit.specs.declared.steps.Step.{Step}
 use Rattle.wire_edit.specs.declared.steps.Step.TheVariants.{Add, Fix, NewNot, Const, Same, NoPins, OnePin, Twice, Twin, Dead}
@@ -12,7 +12,7 @@ use Rattle.wire_edit.specs.Steps.{rule_applies, Applies}
 use Rattle.wire_edit.specs.Refusals.{or_else}
 use Rattle.wire_edit.specs.Order.{node, where_met, first_from, rule_at, next_step, IsTidy}
 use Rattle.wire_edit.specs.Laws.{IsTidying}
-use Rattle.wire_edit.proofs.Tested.{present, gate_is, junction_gate, not_gate, repeated_at, within, constant_read}
+use Rattle.wire_edit.proofs.Tested.{present, gate_is, junction_gate, not_gate, repeated_at, constant_read}
 
 -- THE FIRST OF MANY
 pub or_none : {A : Type 0} (o p : Option A) → or_else o p ≡ None → (o ≡ None) × (p ≡ None)
@@ -106,25 +106,25 @@ pub record NoRules (net : Net) (gate : ℕ) : Type 0 where
 
 pub const_within : (net : Net) (gate p : ℕ) → rule_applies net (Const (node gate) p) ≡ true → p < length (drivers_of net gate)
 const_within net gate p e =
-    let a : (is_gate net gate ≡ true) × _ = and_both (is_gate net gate) _ e in
-    let b : (is_in_use net gate ≡ true) × _ = and_both (is_in_use net gate) _ a.1 in
+    let a : (is_gate net gate ≡ true) × _ = and_parts (is_gate net gate) _ e in
+    let b : (is_in_use net gate ≡ true) × _ = and_parts (is_in_use net gate) _ a.1 in
     let k : (k : Bool) × (constant_at net gate p ≡ Some k) = present (constant_at net gate p) b.1 in
     let d : (d : ℕ) × ((slice_get (drivers_of net gate) p ≡ Some d) × _) = constant_read net gate p k.0 k.1 in
-    within (drivers_of net gate) p d.0 d.1.0
+    slice_get_within (drivers_of net gate) p d.0 d.1.0
 
 same_within : (net : Net) (gate p : ℕ) → rule_applies net (Same (node gate) p) ≡ true → p < length (drivers_of net gate)
 same_within net gate p e =
-    let a : (is_junction net gate ≡ true) × _ = and_both (is_junction net gate) _ e in
-    let b : (is_in_use net gate ≡ true) × (is_repeated (drivers_of net gate) p ≡ true) = and_both (is_in_use net gate) _ a.1 in
+    let a : (is_junction net gate ≡ true) × _ = and_parts (is_junction net gate) _ e in
+    let b : (is_in_use net gate ≡ true) × (is_repeated (drivers_of net gate) p ≡ true) = and_parts (is_in_use net gate) _ a.1 in
     let r : (d : ℕ) × ((q : ℕ) × ((q < p) × ((slice_get (drivers_of net gate) q ≡ Some d) × (slice_get (drivers_of net gate) p ≡ Some d)))) = repeated_at (drivers_of net gate) p b.1 in
-    within (drivers_of net gate) p r.0 r.1.1.1.1
+    slice_get_within (drivers_of net gate) p r.0 r.1.1.1.1
 
 twin_below : (net : Net) (gate other : ℕ) → rule_applies net (Twin (node gate) (node other)) ≡ true → other < gate
 twin_below net gate other e =
-    let a : (is_not net gate ≡ true) × _ = and_both (is_not net gate) _ e in
-    let b : (is_in_use net gate ≡ true) × _ = and_both (is_in_use net gate) _ a.1 in
-    let o : (is_not net other ≡ true) × _ = and_both (is_not net other) _ b.1 in
-    let l : (nat_lt other gate ≡ true) × _ = and_both (nat_lt other gate) _ o.1 in
+    let a : (is_not net gate ≡ true) × _ = and_parts (is_not net gate) _ e in
+    let b : (is_in_use net gate ≡ true) × _ = and_parts (is_in_use net gate) _ a.1 in
+    let o : (is_not net other ≡ true) × _ = and_parts (is_not net other) _ b.1 in
+    let l : (nat_lt other gate ≡ true) × _ = and_parts (nat_lt other gate) _ o.1 in
     ltb-true other gate l.0
 
 pub none_rules : (net : Net) (gate : ℕ) → rule_at net gate ≡ None → NoRules net gate
@@ -138,12 +138,12 @@ none_rules net gate e =
     let g : _ × _ = or_none (first_from (twins net gate) 0 gate) _ f.1 in
     let h : _ × _ = or_none (where_met net (Dead (node gate))) _ g.1 in
     record {
-      no_const = λ p. not_true _ (λ t. both_ways _ (met_none net (Const (node gate) p) (from_none (consts net gate) 0 (length (drivers_of net gate)) a.0 p (omega arith) (let lt : p < length (drivers_of net gate) = const_within net gate p t in omega arith))) t);
-      no_same = λ p. not_true _ (λ t. both_ways _ (met_none net (Same (node gate) p) (from_none (sames net gate) 0 (length (drivers_of net gate)) b.0 p (omega arith) (let lt : p < length (drivers_of net gate) = same_within net gate p t in omega arith))) t);
+      no_const = λ p. false_from_ne_true _ (λ t. both_ways _ (met_none net (Const (node gate) p) (from_none (consts net gate) 0 (length (drivers_of net gate)) a.0 p (omega arith) (let lt : p < length (drivers_of net gate) = const_within net gate p t in omega arith))) t);
+      no_same = λ p. false_from_ne_true _ (λ t. both_ways _ (met_none net (Same (node gate) p) (from_none (sames net gate) 0 (length (drivers_of net gate)) b.0 p (omega arith) (let lt : p < length (drivers_of net gate) = same_within net gate p t in omega arith))) t);
       no_empty = met_none net (NoPins (node gate)) c.0;
       no_single = met_none net (OnePin (node gate)) d.0;
       no_twice = met_none net (Twice (node gate)) f.0;
-      no_twin = λ other. not_true _ (λ t. both_ways _ (met_none net (Twin (node gate) (node other)) (from_none (twins net gate) 0 gate g.0 other (omega arith) (let lt : other < gate = twin_below net gate other t in omega arith))) t);
+      no_twin = λ other. false_from_ne_true _ (λ t. both_ways _ (met_none net (Twin (node gate) (node other)) (from_none (twins net gate) 0 gate g.0 other (omega arith) (let lt : other < gate = twin_below net gate other t in omega arith))) t);
       no_dead = met_none net (Dead (node gate)) h.0;
     }
 
@@ -289,27 +289,27 @@ tidy_refuses net tidy (Add gate node) t e = t
 tidy_refuses net tidy (Fix gate position value) t e = t
 tidy_refuses net tidy (NewNot node) t e = t
 tidy_refuses net tidy (Const gate position) t e =
-    let g : (is_gate net gate.0 ≡ true) × _ = and_both (is_gate net gate.0) _ e in both_ways _ ((tidy_no_rules net tidy gate.0 g.0).no_const position) e
+    let g : (is_gate net gate.0 ≡ true) × _ = and_parts (is_gate net gate.0) _ e in both_ways _ ((tidy_no_rules net tidy gate.0 g.0).no_const position) e
 tidy_refuses net tidy (Same gate position) t e =
-    let g : (is_junction net gate.0 ≡ true) × _ = and_both (is_junction net gate.0) _ e in both_ways _ ((tidy_no_rules net tidy gate.0 (junction_gate net gate.0 g.0)).no_same position) e
+    let g : (is_junction net gate.0 ≡ true) × _ = and_parts (is_junction net gate.0) _ e in both_ways _ ((tidy_no_rules net tidy gate.0 (junction_gate net gate.0 g.0)).no_same position) e
 tidy_refuses net tidy (NoPins gate) t e =
-    let g : (is_junction net gate.0 ≡ true) × _ = and_both (is_junction net gate.0) _ e in both_ways _ (tidy_no_rules net tidy gate.0 (junction_gate net gate.0 g.0)).no_empty e
+    let g : (is_junction net gate.0 ≡ true) × _ = and_parts (is_junction net gate.0) _ e in both_ways _ (tidy_no_rules net tidy gate.0 (junction_gate net gate.0 g.0)).no_empty e
 tidy_refuses net tidy (OnePin gate) t e =
-    let g : (is_junction net gate.0 ≡ true) × _ = and_both (is_junction net gate.0) _ e in both_ways _ (tidy_no_rules net tidy gate.0 (junction_gate net gate.0 g.0)).no_single e
+    let g : (is_junction net gate.0 ≡ true) × _ = and_parts (is_junction net gate.0) _ e in both_ways _ (tidy_no_rules net tidy gate.0 (junction_gate net gate.0 g.0)).no_single e
 tidy_refuses net tidy (Twice gate) t e =
-    let g : (is_not net gate.0 ≡ true) × _ = and_both (is_not net gate.0) _ e in both_ways _ (tidy_no_rules net tidy gate.0 (not_gate net gate.0 g.0)).no_twice e
+    let g : (is_not net gate.0 ≡ true) × _ = and_parts (is_not net gate.0) _ e in both_ways _ (tidy_no_rules net tidy gate.0 (not_gate net gate.0 g.0)).no_twice e
 tidy_refuses net tidy (Twin gate other) t e =
-    let g : (is_not net gate.0 ≡ true) × _ = and_both (is_not net gate.0) _ e in both_ways _ ((tidy_no_rules net tidy gate.0 (not_gate net gate.0 g.0)).no_twin other.0) e
+    let g : (is_not net gate.0 ≡ true) × _ = and_parts (is_not net gate.0) _ e in both_ways _ ((tidy_no_rules net tidy gate.0 (not_gate net gate.0 g.0)).no_twin other.0) e
 tidy_refuses net tidy (Dead gate) t e =
-    let g : (is_gate net gate.0 ≡ true) × _ = and_both (is_gate net gate.0) _ e in both_ways _ (tidy_no_rules net tidy gate.0 g.0).no_dead e
+    let g : (is_gate net gate.0 ≡ true) × _ = and_parts (is_gate net gate.0) _ e in both_ways _ (tidy_no_rules net tidy gate.0 g.0).no_dead e
 
 pub refuses_tidy : (net : Net) → ((step : Step) → IsTidying step → Applies net step → ⊥) → IsTidy net
 refuses_tidy net h = none_from (rule_at net) 0 (length net.nodes) (λ gate le lt. rules_none net gate (record {
-  no_const = λ p. not_true _ (h (Const (node gate) p) tt);
-  no_same = λ p. not_true _ (h (Same (node gate) p) tt);
-  no_empty = not_true _ (h (NoPins (node gate)) tt);
-  no_single = not_true _ (h (OnePin (node gate)) tt);
-  no_twice = not_true _ (h (Twice (node gate)) tt);
-  no_twin = λ other. not_true _ (h (Twin (node gate) (node other)) tt);
-  no_dead = not_true _ (h (Dead (node gate)) tt);
+  no_const = λ p. false_from_ne_true _ (h (Const (node gate) p) tt);
+  no_same = λ p. false_from_ne_true _ (h (Same (node gate) p) tt);
+  no_empty = false_from_ne_true _ (h (NoPins (node gate)) tt);
+  no_single = false_from_ne_true _ (h (OnePin (node gate)) tt);
+  no_twice = false_from_ne_true _ (h (Twice (node gate)) tt);
+  no_twin = λ other. false_from_ne_true _ (h (Twin (node gate) (node other)) tt);
+  no_dead = false_from_ne_true _ (h (Dead (node gate)) tt);
 }))

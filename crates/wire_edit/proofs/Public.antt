@@ -21,7 +21,7 @@ pub use Rattle.wire_edit.proofs.Plain.{some_none}
 -- What the calls that read a graph tell of its net.
 pub use Rattle.wire_edit.proofs.Reading.{gate_live}
 -- What the tests of nodes tell.
-pub use Rattle.wire_edit.proofs.Tested.{among_at, gate_is, got, is_gate_there, is_live_there, junction_gate, within}
+pub use Rattle.wire_edit.proofs.Tested.{among_at, gate_is, is_gate_there, is_live_there, junction_gate}
 -- Sums over the numbers of a net.
 pub use Rattle.wire_edit.proofs.Totalling.{live_within}
 -- Sums over the nodes of a net.
@@ -33,9 +33,7 @@ pub use Rattle.wire_edit.proofs.Working.{above_constants, constant_bound, gate_w
 -- A tidy net has no pin that a constant drives, and no removal makes another pin free.
 pub use Rattle.wire_edit.proofs.FreePins.{MakesNone, all_free, below_two, change_frees, constant_makes, constant_node_is, fix_frees, free_all, moved_free, reader_gate, removal_frees, removal_makes, sum_same, tidy_reads_none}
 -- The tidying order to its end, and a fix before it.
-pub use Rattle.wire_edit.proofs.Falling.{fix_applies, step_formed, tidies_to_one, tidying_removes}
--- How many nodes live, and how a step makes more numbers and pins.
-pub use Rattle.wire_edit.proofs.LiveNodes.{kept_there, last_there}
+pub use Rattle.wire_edit.proofs.Falling.{fix_applies, fix_falls, removal_pins, step_formed, tidies_to_one, tidying_removes}
 -- A step that applies and has room isn't refused.
 pub use Rattle.wire_edit.proofs.Unrefused.{not_closing}
 -- A well-formed net has no live nodes but the two constants, the sources and the gates.

@@ -1,8 +1,7 @@
 -- What the calls that read a graph tell of its net.
 use Rattle.std.proofs.Common.{◌≡◌, ℕ, zero, suc, ◌<◌, ◌≤◌, Bool, true, false, ◌||◌, ◌&&◌, ◌↔◌, Option, Some, None, List, [], ◌∷◌, length, map, take, refl, sym, ◌∙◌, ap, arith}
 use Rattle.std.specs.Prelude.{not, nat_lt, slice_get, option_and_then}
-use Rattle.std.proofs.lemmas.Bool.{eq-eqb, and_from, both_ways, lt-ltb, or_left, or_right}
-use Rattle.gate_net.proofs.Public.{and_both, not_true}
+use Rattle.std.proofs.lemmas.Bool.{eq-eqb, and_from, both_ways, lt-ltb, or_left, or_right, and_parts, false_from_ne_true}
 use Rattle.gate_net.specs.Net.{Net, node_at, drivers_in, drivers_of, Reads, IsObserved, IsLive, IsGate, IsWellFormed}
 use Rattle.gate_graph.specs.Circuit.{Circuit, net_of, fanouts_of}
 use Rattle.gate_graph.specs.Readers.{ListReaders}
@@ -25,7 +24,7 @@ first_reader v x gates rest gate listed is first =
     at_read (net_of v).nodes x gate r.0 r.1
 
 pub no_reader : (v : Circuit) (x : ℕ) (gates : List ℕ) → ListReaders v → gates ≡ gates_of v x → gates ≡ [] → is_read_in (net_of v).nodes x ≡ false
-no_reader v x gates listed is none = not_true _ (λ e.
+no_reader v x gates listed is none = false_from_ne_true _ (λ e.
     let r : (y : ℕ) × ((p : ℕ) × Reads (net_of v) y p x) = read_at (net_of v).nodes x e in
     let k : (k : ℕ) × (slice_get (gates_of v x) k ≡ Some r.0) = gate_listed v listed x r.0 r.1.0 r.1.1 in
     no_gate k.0 r.0 (ap (λ (gs : List ℕ). slice_get gs k.0) (sym (sym is ∙ none)) ∙ k.1))
@@ -34,7 +33,7 @@ no_reader v x gates listed is none = not_true _ (λ e.
 pub used_test : (v : Circuit) (x : ℕ) (b : Bool) → ListReaders v → (b ≡ false → fanouts_of v x ≡ []) → (b ≡ false → IsObserved (net_of v) x → ⊥) → (b ≡ true → fanouts_of v x ≡ [] → IsObserved (net_of v) x) → b ≡ is_in_use (net_of v) x
 used_test v x false listed unread unobserved used =
     let read : is_read_in (net_of v).nodes x ≡ false = no_reader v x (gates_of v x) listed refl (ap (map (λ (place : ℕ × ℕ). place.0)) (unread refl)) in
-    let observed : is_among x (net_of v).observed ≡ false = not_true _ (λ e. unobserved refl (among_at x (net_of v).observed e)) in
+    let observed : is_among x (net_of v).observed ≡ false = false_from_ne_true _ (λ e. unobserved refl (among_at x (net_of v).observed e)) in
     rw (read, observed) refl
 used_test v x true listed unread unobserved used = by (fanouts_of v x) refl
   where
@@ -44,7 +43,7 @@ used_test v x true listed unread unobserved used = by (fanouts_of v x) refl
 
 pub observed_test : (net : Net) (x : ℕ) (b : Bool) → ((b ≡ true) ↔ IsObserved net x) → b ≡ is_among x net.observed
 observed_test net x true h = let o : IsObserved net x = h.0 refl in sym (at_among x net.observed o.0 o.1)
-observed_test net x false h = sym (not_true (is_among x net.observed) (λ e. let wrong : false ≡ true = h.1 (among_at x net.observed e) in cc))
+observed_test net x false h = sym (false_from_ne_true (is_among x net.observed) (λ e. let wrong : false ≡ true = h.1 (among_at x net.observed e) in cc))
 
 pub constant_test : (net : Net) (gate p d : ℕ) → driver_at net gate p ≡ Some d → reads_constant net gate p ≡ is_present (constant_of net d)
 constant_test net gate p d e = ap (λ o. is_present (option_and_then (constant_of net) o)) e
@@ -68,7 +67,7 @@ same_there (Some y) (Some z) d e f = let is : y ≡ z = cc in eq-eqb y z is
 
 twin_reads : (net : Net) (gate driver other : ℕ) → driver_at net gate 0 ≡ Some driver → is_twin net gate other ≡ true → (is_not net other ≡ true) × Reads net other 0 driver
 twin_reads net gate driver other is e =
-    let a : (is_not net other ≡ true) × (same_some (driver_at net gate 0) (driver_at net other 0) ≡ true) = and_both (is_not net other) _ e in
+    let a : (is_not net other ≡ true) × (same_some (driver_at net gate 0) (driver_at net other 0) ≡ true) = and_parts (is_not net other) _ e in
     let d : (d : ℕ) × ((driver_at net gate 0 ≡ Some d) × (driver_at net other 0 ≡ Some d)) = same_at (driver_at net gate 0) (driver_at net other 0) a.1 in
     let same : Some d.0 ≡ Some driver = sym d.1.0 ∙ is in
     (a.0, d.1.1 ∙ same)
@@ -101,7 +100,7 @@ twins_step v gate driver reader gates rest is t e other_kind = record {
     at other lt twin (suc k) there = (k, there)
 
 pub twins_none : (v : Circuit) (gate driver : ℕ) (gates : List ℕ) → Twins v gate driver gates → gates ≡ [] → IsFirst (is_twin (net_of v) gate) gate None
-twins_none v gate driver gates t none j lt = not_true _ (λ twin.
+twins_none v gate driver gates t none j lt = false_from_ne_true _ (λ twin.
     let k : (k : ℕ) × (slice_get gates k ≡ Some j) = t.left j lt twin in
     no_gate k.0 j (ap (λ (gs : List ℕ). slice_get gs k.0) (sym none) ∙ k.1))
 
@@ -121,7 +120,7 @@ one_twin net gate driver one other is quiet lt less first second =
 
 pub twins_found : (v : Circuit) (gate driver reader : ℕ) (gates rest : List ℕ) → IsWellFormed (net_of v) → driver_at (net_of v) gate 0 ≡ Some driver → IsQuietBelow (net_of v) gate → Twins v gate driver gates → gates ≡ reader ∷ rest → reader < gate → is_not (net_of v) reader ≡ true → IsFirst (is_twin (net_of v) gate) gate (Some reader)
 twins_found v gate driver reader gates rest well is quiet t e lt n =
-    (lt, (here, λ j less. not_true _ (λ twin. one_twin (net_of v) gate driver reader j is quiet lt less here twin)))
+    (lt, (here, λ j less. false_from_ne_true _ (λ twin. one_twin (net_of v) gate driver reader j is quiet lt less here twin)))
   where
     here : is_twin (net_of v) gate reader ≡ true
     here =

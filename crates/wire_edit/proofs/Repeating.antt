@@ -1,9 +1,8 @@
 -- Marks on the first drivers of a list.
 use Rattle.std.proofs.Common.{◌≡◌, ◌≢◌, ℕ, zero, suc, ◌+◌, ◌-◌, ◌<◌, ◌≤◌, Bool, true, false, ◌||◌, ◌⊎◌, inl, inr, Some, List, [], ◌∷◌, ◌++◌, length, map, take, refl, sym, ◌∙◌, ap, arith}
 use Rattle.std.specs.Prelude.{slice_get, set, nat_eq}
-use Rattle.std.proofs.lemmas.Bool.{cases_eq, eq-eqb, ne_eqb}
+use Rattle.std.proofs.lemmas.Bool.{cases_eq, eq-eqb, false_from_ne_true, ne_eqb}
 use Rattle.rm_base.specs.declared.numbers.NodeId.{NodeId}
-use Rattle.gate_net.proofs.Public.{not_true}
 use Rattle.gate_net.specs.Net.{Net, drivers_of, IsWellFormed}
 use Rattle.gate_graph.specs.Search.{AreBelow}
 use Rattle.wire_edit.specs.Tests.{is_among}
@@ -68,7 +67,7 @@ among_less it rest d (suc n) marks a e ne lt x h = elim (cases_eq x d) [
 ]
 
 pub none_left : (ds : List ℕ) (n : ℕ) (marks : List Bool) → AreAmong ds n marks → (n ≡ 0) ⊎ (ds ≡ []) → (x : ℕ) → is_marked marks x ≡ false
-none_left ds n marks a none x = not_true (is_marked marks x) (λ h. elim none [
+none_left ds n marks a none x = false_from_ne_true (is_marked marks x) (λ h. elim none [
   | inl z ↦ let wrong : is_among x (take 0 ds) ≡ true = ap (λ (k : ℕ). is_among x (take k ds)) (sym z) ∙ a x h in empty ds wrong
   | inr e ↦ let wrong : is_among x (take n []) ≡ true = ap (λ (l : List ℕ). is_among x (take n l)) (sym e) ∙ a x h in nothing n wrong
 ])

@@ -1,9 +1,9 @@
 -- Where no rule applies at a gate that a change doesn't touch, none applies afterwards.
 use Rattle.std.proofs.Common.{◌≡◌, ◌≢◌, ℕ, zero, suc, ◌<◌, Bool, true, false, not, ◌&&◌, ◌||◌, ◌⊎◌, inl, inr, Option, Some, None, List, [], ◌∷◌, ◌++◌, length, map, refl, sym, ◌∙◌, ap, arith}
 use Rattle.std.specs.Prelude.{slice_get, slice_set, nat_lt, nat_eq, option_and_then}
-use Rattle.std.proofs.lemmas.Bool.{both_ways, and_from, and_left, cases_lt, eq-eqb}
+use Rattle.std.proofs.lemmas.Bool.{both_ways, and_from, and_left, cases_lt, eq-eqb, and_parts, false_from_ne_true}
 use Rattle.std.proofs.lemmas.Bool.Decides.{eqb_tells}
-use Rattle.gate_net.proofs.Public.{and_both, drivers_redirected, node_at-moved, node_at-other, node_at-there, not_true, redirect_cases, set_cases, set_other}
+use Rattle.gate_net.proofs.Public.{drivers_redirected, node_at-moved, node_at-other, node_at-there, redirect_cases}
 use Rattle.gate_net.specs.declared.Kind.TheVariants.{Not}
 use Rattle.gate_net.specs.Net.{Net, node_at, kind_in, kind_of, drivers_in, drivers_of, Reads, IsObserved, IsLive, IsGate, IsWellFormed}
 use Rattle.gate_net.specs.Values.{IsJunction}
@@ -20,6 +20,7 @@ use Rattle.wire_edit.proofs.Conditions.{same_kind}
 use Rattle.wire_edit.proofs.Formed.{new_differs, gone_differs, junction_kind, control_not}
 use Rattle.wire_edit.proofs.Ordering.{NoRules}
 use Rattle.wire_edit.proofs.Working.{with_kinds, moved_kinds}
+use Rattle.rm_base.proofs.Public.{front_stands, set_cases, set_other}
 
 -- no rule applies where there is no gate
 pub no_gate_rules : (net : Net) (x : ℕ) → is_gate net x ≡ false → NoRules net x
@@ -34,10 +35,10 @@ no_gate_rules net x e = record {
 }
   where
     no_junction : is_junction net x ≡ false
-    no_junction = not_true (is_junction net x) (λ t. both_ways (is_gate net x) e (junction_gate net x t))
+    no_junction = false_from_ne_true (is_junction net x) (λ t. both_ways (is_gate net x) e (junction_gate net x t))
 
     no_not : is_not net x ≡ false
-    no_not = not_true (is_not net x) (λ t. both_ways (is_gate net x) e (not_gate net x t))
+    no_not = false_from_ne_true (is_not net x) (λ t. both_ways (is_gate net x) e (not_gate net x t))
 
 in_use_of : (net : Net) (x : ℕ) → NoRules net x → is_gate net x ≡ true → is_in_use net x ≡ true
 in_use_of net x r g = at (is_gate net x) (is_in_use net x) g r.no_dead
@@ -69,9 +70,9 @@ module _ (net after : Net) (x : ℕ) (r : NoRules net x) (s : Stays net after x)
   used g = in_use_of net x r g
 
   no_const : (p : ℕ) → rule_applies after (Const (node x) p) ≡ false
-  no_const p = not_true _ (λ e.
-      let a : (is_gate after x ≡ true) × _ = and_both (is_gate after x) _ e in
-      let b : (is_in_use after x ≡ true) × (is_present (constant_at after x p) ≡ true) = and_both (is_in_use after x) _ a.1 in
+  no_const p = false_from_ne_true _ (λ e.
+      let a : (is_gate after x ≡ true) × _ = and_parts (is_gate after x) _ e in
+      let b : (is_in_use after x ≡ true) × (is_present (constant_at after x p) ≡ true) = and_parts (is_in_use after x) _ a.1 in
       let g : is_gate net x ≡ true = gate_back a.0 in
       both_ways _ (r.no_const p) (and_from (is_gate net x) _ g (and_from (is_in_use net x) _ (used g) (ap is_present (sym (constants (driver_at net x p) refl)) ∙ b.1))))
     where
@@ -82,30 +83,30 @@ module _ (net after : Net) (x : ℕ) (r : NoRules net x) (s : Stays net after x)
           ap (λ ds. option_and_then (constant_of after) (slice_get ds p)) s.drivers ∙ ap (option_and_then (constant_of after)) e ∙ ap kind_constant (s.kinds p d e) ∙ sym (ap (option_and_then (constant_of net)) e)
 
   no_same : (p : ℕ) → rule_applies after (Same (node x) p) ≡ false
-  no_same p = not_true _ (λ e.
-      let a : (is_junction after x ≡ true) × _ = and_both (is_junction after x) _ e in
-      let b : (is_in_use after x ≡ true) × (is_repeated (drivers_of after x) p ≡ true) = and_both (is_in_use after x) _ a.1 in
+  no_same p = false_from_ne_true _ (λ e.
+      let a : (is_junction after x ≡ true) × _ = and_parts (is_junction after x) _ e in
+      let b : (is_in_use after x ≡ true) × (is_repeated (drivers_of after x) p ≡ true) = and_parts (is_in_use after x) _ a.1 in
       let j : is_junction net x ≡ true = junction_back a.0 in
       both_ways _ (r.no_same p) (and_from (is_junction net x) _ j (and_from (is_in_use net x) _ (used (junction_gate net x j)) (ap (λ ds. is_repeated ds p) (sym s.drivers) ∙ b.1))))
 
   no_empty : rule_applies after (NoPins (node x)) ≡ false
-  no_empty = not_true _ (λ e.
-      let a : (is_junction after x ≡ true) × _ = and_both (is_junction after x) _ e in
-      let b : (is_in_use after x ≡ true) × (nat_eq (length (drivers_of after x)) 0 ≡ true) = and_both (is_in_use after x) _ a.1 in
+  no_empty = false_from_ne_true _ (λ e.
+      let a : (is_junction after x ≡ true) × _ = and_parts (is_junction after x) _ e in
+      let b : (is_in_use after x ≡ true) × (nat_eq (length (drivers_of after x)) 0 ≡ true) = and_parts (is_in_use after x) _ a.1 in
       let j : is_junction net x ≡ true = junction_back a.0 in
       both_ways _ r.no_empty (and_from (is_junction net x) _ j (and_from (is_in_use net x) _ (used (junction_gate net x j)) (ap (λ (ds : List ℕ). nat_eq (length ds) 0) (sym s.drivers) ∙ b.1))))
 
   no_single : rule_applies after (OnePin (node x)) ≡ false
-  no_single = not_true _ (λ e.
-      let a : (is_junction after x ≡ true) × _ = and_both (is_junction after x) _ e in
-      let b : (is_in_use after x ≡ true) × (nat_eq (length (drivers_of after x)) 1 ≡ true) = and_both (is_in_use after x) _ a.1 in
+  no_single = false_from_ne_true _ (λ e.
+      let a : (is_junction after x ≡ true) × _ = and_parts (is_junction after x) _ e in
+      let b : (is_in_use after x ≡ true) × (nat_eq (length (drivers_of after x)) 1 ≡ true) = and_parts (is_in_use after x) _ a.1 in
       let j : is_junction net x ≡ true = junction_back a.0 in
       both_ways _ r.no_single (and_from (is_junction net x) _ j (and_from (is_in_use net x) _ (used (junction_gate net x j)) (ap (λ (ds : List ℕ). nat_eq (length ds) 1) (sym s.drivers) ∙ b.1))))
 
   no_twice : rule_applies after (Twice (node x)) ≡ false
-  no_twice = not_true _ (λ e.
-      let a : (is_not after x ≡ true) × _ = and_both (is_not after x) _ e in
-      let b : (is_in_use after x ≡ true) × (is_not_at after (driver_at after x 0) ≡ true) = and_both (is_in_use after x) _ a.1 in
+  no_twice = false_from_ne_true _ (λ e.
+      let a : (is_not after x ≡ true) × _ = and_parts (is_not after x) _ e in
+      let b : (is_in_use after x ≡ true) × (is_not_at after (driver_at after x 0) ≡ true) = and_parts (is_in_use after x) _ a.1 in
       let n : is_not net x ≡ true = not_back a.0 in
       both_ways _ r.no_twice (and_from (is_not net x) _ n (and_from (is_in_use net x) _ (used (not_gate net x n)) (sym (nots (driver_at net x 0) refl) ∙ b.1))))
     where
@@ -114,11 +115,11 @@ module _ (net after : Net) (x : ℕ) (r : NoRules net x) (s : Stays net after x)
       nots (Some d) e = ap (λ ds. is_not_at after (slice_get ds 0)) s.drivers ∙ ap (is_not_at after) e ∙ ap is_not_kind (s.kinds 0 d e) ∙ sym (ap (is_not_at net) e)
 
   no_twin : (other : ℕ) → rule_applies after (Twin (node x) (node other)) ≡ false
-  no_twin other = not_true _ (λ e.
-      let a : (is_not after x ≡ true) × _ = and_both (is_not after x) _ e in
-      let b : (is_in_use after x ≡ true) × _ = and_both (is_in_use after x) _ a.1 in
-      let o : (is_not after other ≡ true) × _ = and_both (is_not after other) _ b.1 in
-      let l : (nat_lt other x ≡ true) × (same_some (driver_at after x 0) (driver_at after other 0) ≡ true) = and_both (nat_lt other x) _ o.1 in
+  no_twin other = false_from_ne_true _ (λ e.
+      let a : (is_not after x ≡ true) × _ = and_parts (is_not after x) _ e in
+      let b : (is_in_use after x ≡ true) × _ = and_parts (is_in_use after x) _ a.1 in
+      let o : (is_not after other ≡ true) × _ = and_parts (is_not after other) _ b.1 in
+      let l : (nat_lt other x ≡ true) × (same_some (driver_at after x 0) (driver_at after other 0) ≡ true) = and_parts (nat_lt other x) _ o.1 in
       let d : (d : ℕ) × ((driver_at after x 0 ≡ Some d) × (driver_at after other 0 ≡ Some d)) = same_at (driver_at after x 0) (driver_at after other 0) l.1 in
       let n : is_not net x ≡ true = not_back a.0 in
       let own : Reads net x 0 d.0 = ap (λ ds. slice_get ds 0) (sym s.drivers) ∙ d.1.0 in
@@ -132,8 +133,8 @@ module _ (net after : Net) (x : ℕ) (r : NoRules net x) (s : Stays net after x)
       same_there (Some y) (Some z) d e f = let is : y ≡ z = cc in eq-eqb y z is
 
   no_dead : rule_applies after (Dead (node x)) ≡ false
-  no_dead = not_true _ (λ e.
-      let a : (is_gate after x ≡ true) × (not (is_in_use after x) ≡ true) = and_both (is_gate after x) _ e in
+  no_dead = false_from_ne_true _ (λ e.
+      let a : (is_gate after x ≡ true) × (not (is_in_use after x) ≡ true) = and_parts (is_gate after x) _ e in
       let g : is_gate net x ≡ true = gate_back a.0 in
       let u : is_in_use after x ≡ true = s.used g (used g) in
       let wrong : not true ≡ true = ap not (sym u) ∙ a.1 in cc)
@@ -197,11 +198,6 @@ module _ (net : Net) (gate : ℕ) (ds : List ℕ) (g : IsGate net gate) (x : ℕ
 
 pub junction_no_not : (net : Net) (gate : ℕ) (c : Bool) → IsJunction net gate c → is_not net gate ≡ true → ⊥
 junction_no_not net gate c j n = control_not j.0 c j.1.1 (same_kind net gate j.0 Not j.1.0 (not_is net gate n))
-
-last_kept : (ds : List ℕ) (d p x : ℕ) → slice_get ds p ≡ Some x → slice_get (ds ++ d ∷ []) p ≡ Some x
-last_kept [] d p x e = cc
-last_kept (y ∷ ds) d zero x e = e
-last_kept (y ∷ ds) d (suc p) x e = last_kept ds d p x e
 
 without_kept : (ds : List ℕ) (p q x : ℕ) → (slice_get ds p ≡ Some x → ⊥) → slice_get ds q ≡ Some x → (k : ℕ) × (slice_get (without ds p) k ≡ Some x)
 without_kept [] p q x ne e = cc
@@ -333,7 +329,7 @@ module _ (net : Net) (gate : ℕ) (unread : IsUnread net gate) (x : ℕ) (ne : x
 pub untouched_quiet : (net : Net) (change : Change) → IsWellFormed net → CanChange net change → (x : ℕ) → NoRules net x → (IsTouched net change x → ⊥) → NoRules (changed net change) x
 untouched_quiet net (append gate driver) well (j, can) x r untouched =
     stays_quiet net (with_pin net gate driver) x r (with_stays net gate (drivers_of net gate ++ driver ∷ []) (junction_kind net gate j.0 j.1) x untouched
-    (λ p e. (p, last_kept (drivers_of net gate) driver p x e)) (λ d n own is there. absurd (junction_no_not net gate j.0 j.1 is)))
+    (λ p e. (p, front_stands (drivers_of net gate) (driver ∷ []) p x e)) (λ d n own is there. absurd (junction_no_not net gate j.0 j.1 is)))
 untouched_quiet net (remove gate position) well (j, lt) x r untouched =
     stays_quiet net (without_pin net gate position) x r (with_stays net gate (without (drivers_of net gate) position) (junction_kind net gate j.0 j.1) x (λ e. untouched (inl e))
     (λ p e. without_kept (drivers_of net gate) position p x (λ here. untouched (inr here)) e) (λ d n own is there. absurd (junction_no_not net gate j.0 j.1 is)))

@@ -1,8 +1,8 @@
 -- What the tests of nodes tell.
 use Rattle.std.proofs.Common.{◌≡◌, ℕ, zero, suc, ◌<◌, Bool, true, false, ◌||◌, ◌⊎◌, inl, inr, Option, Some, None, List, [], ◌∷◌, refl, sym, ◌∙◌, ap, arith, length, take}
 use Rattle.std.specs.Prelude.{slice_get, nat_eq, option_and_then}
-use Rattle.std.proofs.lemmas.Bool.{eqb-true, eq-eqb, both_ways}
-use Rattle.gate_net.proofs.Public.{not_true, or_either, or_true}
+use Rattle.std.proofs.lemmas.Bool.{eqb-true, eq-eqb, both_ways, false_from_ne_true, or_cases}
+use Rattle.std.proofs.Math.Bool.{or-true}
 use Rattle.gate_net.specs.declared.Kind.{Kind}
 use Rattle.gate_net.specs.declared.Kind.TheVariants.{Source, Zero, One, And, Or, Not}
 use Rattle.gate_net.specs.Net.{Node, Net, node_at, kind_in, drivers_in, flatten_option, Reads, IsKind, IsLive, IsGate, IsGateKind, IsObserved}
@@ -116,12 +116,12 @@ pub junction_gate : (net : Net) (x : ℕ) → is_junction net x ≡ true → is_
 junction_gate net x e = ap (λ b. b || is_not net x) e
 
 pub not_gate : (net : Net) (x : ℕ) → is_not net x ≡ true → is_gate net x ≡ true
-not_gate net x e = ap (λ b. is_junction net x || b) e ∙ or_true (is_junction net x)
+not_gate net x e = ap (λ b. is_junction net x || b) e ∙ or-true (is_junction net x)
 
 -- MEMBERS
 pub among_at : (x : ℕ) (xs : List ℕ) → is_among x xs ≡ true → (k : ℕ) × (slice_get xs k ≡ Some x)
 among_at x [] e = cc
-among_at x (y ∷ ys) e = elim (or_either (nat_eq y x) (is_among x ys) e) [
+among_at x (y ∷ ys) e = elim (or_cases (nat_eq y x) (is_among x ys) e) [
   | inl here ↦ (0, ap Some (eqb-true y x here))
   | inr later ↦ let rest : (k : ℕ) × (slice_get ys k ≡ Some x) = among_at x ys later in (suc rest.0, rest.1)
 ]
@@ -129,11 +129,11 @@ among_at x (y ∷ ys) e = elim (or_either (nat_eq y x) (is_among x ys) e) [
 pub at_among : (x : ℕ) (xs : List ℕ) (k : ℕ) → slice_get xs k ≡ Some x → is_among x xs ≡ true
 at_among x [] k e = cc
 at_among x (y ∷ ys) zero e = let is : y ≡ x = cc in ap (λ b. b || is_among x ys) (eq-eqb y x is)
-at_among x (y ∷ ys) (suc k) e = ap (λ b. nat_eq y x || b) (at_among x ys k e) ∙ or_true (nat_eq y x)
+at_among x (y ∷ ys) (suc k) e = ap (λ b. nat_eq y x || b) (at_among x ys k e) ∙ or-true (nat_eq y x)
 
 pub read_at : (os : List (Option Node)) (x : ℕ) → is_read_in os x ≡ true → (y : ℕ) × ((p : ℕ) × (slice_get (drivers_in (flatten_option (slice_get os y))) p ≡ Some x))
 read_at [] x e = cc
-read_at (o ∷ os) x e = elim (or_either (is_among x (drivers_in o)) (is_read_in os x) e) [
+read_at (o ∷ os) x e = elim (or_cases (is_among x (drivers_in o)) (is_read_in os x) e) [
   | inl here ↦ (0, among_at x (drivers_in o) here)
   | inr later ↦ let rest : (y : ℕ) × ((p : ℕ) × (slice_get (drivers_in (flatten_option (slice_get os y))) p ≡ Some x)) = read_at os x later in (suc rest.0, rest.1)
 ]
@@ -141,16 +141,16 @@ read_at (o ∷ os) x e = elim (or_either (is_among x (drivers_in o)) (is_read_in
 pub at_read : (os : List (Option Node)) (x y p : ℕ) → slice_get (drivers_in (flatten_option (slice_get os y))) p ≡ Some x → is_read_in os x ≡ true
 at_read [] x y p e = cc
 at_read (o ∷ os) x zero p e = ap (λ b. b || is_read_in os x) (at_among x (drivers_in o) p e)
-at_read (o ∷ os) x (suc y) p e = ap (λ b. is_among x (drivers_in o) || b) (at_read os x y p e) ∙ or_true (is_among x (drivers_in o))
+at_read (o ∷ os) x (suc y) p e = ap (λ b. is_among x (drivers_in o) || b) (at_read os x y p e) ∙ or-true (is_among x (drivers_in o))
 
 pub read_in_use : (net : Net) (x y p : ℕ) → Reads net y p x → is_in_use net x ≡ true
 read_in_use net x y p reads = ap (λ b. b || is_among x net.observed) (at_read net.nodes x y p reads)
 
 pub observed_in_use : (net : Net) (x : ℕ) → IsObserved net x → is_in_use net x ≡ true
-observed_in_use net x o = ap (λ b. is_read_in net.nodes x || b) (at_among x net.observed o.0 o.1) ∙ or_true (is_read_in net.nodes x)
+observed_in_use net x o = ap (λ b. is_read_in net.nodes x || b) (at_among x net.observed o.0 o.1) ∙ or-true (is_read_in net.nodes x)
 
 pub used_by : (net : Net) (x : ℕ) → is_in_use net x ≡ true → ((y : ℕ) × ((p : ℕ) × Reads net y p x)) ⊎ IsObserved net x
-used_by net x e = elim (or_either (is_read_in net.nodes x) (is_among x net.observed) e) [
+used_by net x e = elim (or_cases (is_read_in net.nodes x) (is_among x net.observed) e) [
   | inl read ↦ inl (read_at net.nodes x read)
   | inr observed ↦ inr (among_at x net.observed observed)
 ]
@@ -162,7 +162,7 @@ unused net x e = record {
 }
 
 pub unread_unused : (net : Net) (x : ℕ) → IsUnread net x → is_in_use net x ≡ false
-unread_unused net x u = not_true (is_in_use net x) (λ e. elim (used_by net x e) [ inl read ↦ u.unread read.0 read.1.0 read.1.1 | inr o ↦ u.unobserved o ])
+unread_unused net x u = false_from_ne_true (is_in_use net x) (λ e. elim (used_by net x e) [ inl read ↦ u.unread read.0 read.1.0 read.1.1 | inr o ↦ u.unobserved o ])
 
 taken_at : (xs : List ℕ) (k q x : ℕ) → slice_get (take k xs) q ≡ Some x → (q < k) × (slice_get xs q ≡ Some x)
 taken_at xs zero q x e = cc
@@ -180,16 +180,6 @@ repeated_at xs k e = at (slice_get xs k) refl e
         let there : (q : ℕ) × (slice_get (take k xs) q ≡ Some d) = among_at d (take k xs) e in
         let earlier : (there.0 < k) × (slice_get xs there.0 ≡ Some d) = taken_at xs k there.0 d there.1 in
         (d, (there.0, (earlier.0, (earlier.1, is))))
-
-pub within : {A : Type 0} (xs : List A) (k : ℕ) (x : A) → slice_get xs k ≡ Some x → k < length xs
-within [] k x e = cc
-within (y ∷ ys) zero x e = omega arith
-within (y ∷ ys) (suc k) x e = let rest : k < length ys = within ys k x e in omega arith
-
-pub got : {A : Type 0} (xs : List A) (k : ℕ) → k < length xs → (x : A) × (slice_get xs k ≡ Some x)
-got [] k lt = absurd (omega arith)
-got (y ∷ ys) zero lt = (y, refl)
-got (y ∷ ys) (suc k) lt = got ys k (omega arith)
 
 pub one_in : (xs : List ℕ) → nat_eq (length xs) 1 ≡ true → (d : ℕ) × (xs ≡ d ∷ [])
 one_in [] e = cc

@@ -1,8 +1,7 @@
 -- What holds of a trial holds after each step.
 use Rattle.std.proofs.Common.{◌≡◌, ℕ, ◌+◌, ◌-◌, ◌<◌, ◌≤◌, Bool, true, false, inl, inr, Option, Some, None, List, length, refl, sym, ap, subst, arith}
 use Rattle.std.specs.Prelude.{nat_lt, if◌then◌else◌}
-use Rattle.std.proofs.lemmas.Bool.{both_ways, cases_lt, ltb-true}
-use Rattle.gate_net.proofs.Public.{and_both, not_true}
+use Rattle.std.proofs.lemmas.Bool.{and_parts, both_ways, cases_lt, false_from_ne_true, ltb-true}
 use Rattle.gate_net.specs.Net.{Net, IsWellFormed, wire_count}
 use Rattle.gate_net.specs.Values.{same_bool}
 use Rattle.gate_net.specs.Edits.{constant_node}
@@ -31,10 +30,10 @@ use Rattle.wire_edit.proofs.Budgets.{pins_gone, wires_budget, length_budget}
 pub quiet_after : (net : Net) (change : Change) (marks next : List Bool) → IsWellFormed net → CanChange net change → IsQuiet net marks → KeepsMarks marks next → MarksTouched net change next → length (changed net change).nodes ≤ length next → IsQuiet (changed net change) next
 quiet_after net change marks next well can quiet k touched le x unmarked = elim (cases_lt x (length next)) [
   | inl lt ↦
-      let was : is_marked marks x ≡ false = not_true (is_marked marks x) (λ e. both_ways (is_marked next x) unmarked (k.kept x e)) in
+      let was : is_marked marks x ≡ false = false_from_ne_true (is_marked marks x) (λ e. both_ways (is_marked next x) unmarked (k.kept x e)) in
       rules_none (changed net change) x (untouched_quiet net change well can x (none_rules net x (quiet x was)) (λ t. both_ways (is_marked next x) unmarked (touched x t lt)))
   | inr above ↦
-      rules_none (changed net change) x (no_gate_rules (changed net change) x (not_true (is_gate (changed net change) x) (λ g.
+      rules_none (changed net change) x (no_gate_rules (changed net change) x (false_from_ne_true (is_gate (changed net change) x) (λ g.
       let lt : x < length (changed net change).nodes = gate_below (changed net change) x g in omega (arith, lt, above, le))))
 ]
 
@@ -73,13 +72,13 @@ only_steps room e = (one_step room.steps e, (omega arith, omega arith))
 
 pub step_takes : (net : Net) (room : Room) (step : Step) → has_room net room step ≡ true → Takes room step
 step_takes net room (Add gate node) e =
-    let a : (nat_lt 0 room.steps ≡ true) × _ = and_both (nat_lt 0 room.steps) _ e in
-    let b : (nat_lt 0 room.pins ≡ true) × _ = and_both (nat_lt 0 room.pins) _ a.1 in
+    let a : (nat_lt 0 room.steps ≡ true) × _ = and_parts (nat_lt 0 room.steps) _ e in
+    let b : (nat_lt 0 room.pins ≡ true) × _ = and_parts (nat_lt 0 room.pins) _ a.1 in
     record { steps = one_step room.steps a.0; pins = one_step room.pins b.0; nodes = omega arith }
 step_takes net room (NewNot node) e =
-    let a : (nat_lt 0 room.steps ≡ true) × _ = and_both (nat_lt 0 room.steps) _ e in
-    let b : (nat_lt 0 room.pins ≡ true) × _ = and_both (nat_lt 0 room.pins) _ a.1 in
-    let d : (nat_lt 0 room.nodes ≡ true) × _ = and_both (nat_lt 0 room.nodes) _ b.1 in
+    let a : (nat_lt 0 room.steps ≡ true) × _ = and_parts (nat_lt 0 room.steps) _ e in
+    let b : (nat_lt 0 room.pins ≡ true) × _ = and_parts (nat_lt 0 room.pins) _ a.1 in
+    let d : (nat_lt 0 room.nodes ≡ true) × _ = and_parts (nat_lt 0 room.nodes) _ b.1 in
     record { steps = one_step room.steps a.0; pins = one_step room.pins b.0; nodes = one_step room.nodes d.0 }
 step_takes net room (Fix gate position value) e = let o : _ × (_ × _) = only_steps room e in record { steps = o.0; pins = o.1.0; nodes = o.1.1 }
 step_takes net room (Const gate position) e = let o : _ × (_ × _) = only_steps room e in record { steps = o.0; pins = o.1.0; nodes = o.1.1 }

@@ -1,7 +1,6 @@
 -- What the calls of a trial rest on.
 use Rattle.std.proofs.Common.{◌≡◌, ◌≢◌, ℕ, ◌+◌, ◌-◌, ◌<◌, ◌≤◌, Bool, true, false, inl, inr, Some, None, List, [], ◌∷◌, ◌++◌, length, refl, sym, ◌∙◌, ap, subst, arith, min}
-use Rattle.std.proofs.lemmas.Bool.{cases_eq, cases_lt, both_ways, lt-ltb}
-use Rattle.gate_net.proofs.Public.{not_true}
+use Rattle.std.proofs.lemmas.Bool.{cases_eq, cases_lt, both_ways, lt-ltb, false_from_ne_true}
 use Rattle.gate_net.specs.Net.{Net, IsWellFormed, wire_count}
 use Rattle.gate_graph.specs.Circuit.{Circuit, wiring, net_of, free_pins, free_nodes}
 use Rattle.gate_graph.specs.Entries.{CanGoBack, AreWithin}
@@ -87,7 +86,7 @@ quiet_cleared net marks next x quiet none others k e = elim (cases_eq k x) [ inl
 pub tidy_rules : (net : Net) → IsTidy net → (x : ℕ) → rule_at net x ≡ None
 tidy_rules net e x = elim (cases_lt x (length net.nodes)) [
   | inl lt ↦ from_none (rule_at net) 0 (length net.nodes) e x (omega arith) (omega (arith, lt))
-  | inr above ↦ no_rule net x (not_true (is_gate net x) (λ g. let lt : x < length net.nodes = gate_below net x g in omega (arith, lt, above)))
+  | inr above ↦ no_rule net x (false_from_ne_true (is_gate net x) (λ g. let lt : x < length net.nodes = gate_below net x g in omega (arith, lt, above)))
 ]
 
 -- no rule applies at an unmarked number: in a tidy net at none, and else all are marked
@@ -106,7 +105,7 @@ begun w net trail room wires entries numbers agenda is none back wires_are neede
   agenda_suffices = omega (arith, long);
   quiet = λ x unmarked. elim (cases_lt x numbers) [
     | inl lt ↦ ap (λ (n : Net). rule_at n x) is ∙ unmarked_quiet x lt unmarked
-    | inr above ↦ no_rule (net_of w) x (not_true (is_gate (net_of w) x) (λ g.
+    | inr above ↦ no_rule (net_of w) x (false_from_ne_true (is_gate (net_of w) x) (λ g.
         let lt : x < length (net_of w).nodes = gate_below (net_of w) x g in omega (arith, lt, above, ap (λ (n : Net). length n.nodes) is, count, few)))
   ];
 }

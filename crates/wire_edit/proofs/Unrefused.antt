@@ -1,9 +1,9 @@
 -- A step that applies and has room isn't refused.
 use Rattle.std.proofs.Common.{◌≡◌, ℕ, ◌<◌, ◌≤◌, Bool, true, false, inl, inr, Option, Some, None, length, refl, sym, ◌∙◌, ap, arith}
 use Rattle.std.specs.Prelude.{nat_lt, slice_get, ◌↔◌}
-use Rattle.std.proofs.lemmas.Bool.{lt-ltb}
+use Rattle.std.proofs.lemmas.Bool.{and_parts, false_from_ne_true, lt-ltb}
+use Rattle.std.proofs.lemmas.Option.{slice_get_within}
 use Rattle.rm_base.specs.declared.numbers.NodeId.{NodeId}
-use Rattle.gate_net.proofs.Public.{and_both, not_true}
 use Rattle.gate_net.specs.Net.{Net, Reads, drivers_of, wire_count}
 use Rattle.wire_edit.specs.declared.steps.Step.{Step}
 use Rattle.wire_edit.specs.declared.steps.Step.TheVariants.{Add, Fix, NewNot, Const, Same, NoPins, OnePin, Twice, Twin, Dead}
@@ -15,11 +15,11 @@ use Rattle.wire_edit.specs.Steps.{Applies, rule_applies}
 use Rattle.wire_edit.specs.Refusals.{fault_of, refusal_of, or_else, unless, has_room, ClosesCycle, IsAnswer, live_count, ceiling, nodes_made}
 use Rattle.wire_edit.specs.Work.{pins_made}
 use Rattle.wire_edit.specs.Rooms.{IsUnspent}
-use Rattle.wire_edit.proofs.Tested.{present, is_live_there, constant_read, junction_gate, not_gate, repeated_at, within}
+use Rattle.wire_edit.proofs.Tested.{present, is_live_there, constant_read, junction_gate, not_gate, repeated_at}
 use Rattle.wire_edit.proofs.Reading.{gate_live}
 
 pub not_closing : (net : Net) (gate x : NodeId) (cyclic : Bool) → Applies net (Add gate x) → (cyclic ≡ true) ↔ ClosesCycle net (Add gate x) → cyclic ≡ false
-not_closing net gate x cyclic applies tells = not_true cyclic (λ e. elim (tells.0 e) [ inl same ↦ applies.1.1.0 same | inr path ↦ applies.1.1.1.0 path ])
+not_closing net gate x cyclic applies tells = false_from_ne_true cyclic (λ e. elim (tells.0 e) [ inl same ↦ applies.1.1.0 same | inr path ↦ applies.1.1.1.0 path ])
 
 lives : (net : Net) (gate : NodeId) → is_gate net gate.0 ≡ true → is_live net gate.0 ≡ true
 lives net gate g = is_live_there net gate.0 (gate_live net gate.0 g)
@@ -46,39 +46,39 @@ applies_faultless net (Fix gate position value) cyclic applies tells =
     rw (a, g, p) refl
 applies_faultless net (NewNot x) cyclic applies tells = let a : is_live net x.0 ≡ true = applies in rw a refl
 applies_faultless net (Const gate position) cyclic applies tells =
-    let g : (is_gate net gate.0 ≡ true) × _ = and_both (is_gate net gate.0) _ applies in
-    let u : (is_in_use net gate.0 ≡ true) × _ = and_both (is_in_use net gate.0) _ g.1 in
+    let g : (is_gate net gate.0 ≡ true) × _ = and_parts (is_gate net gate.0) _ applies in
+    let u : (is_in_use net gate.0 ≡ true) × _ = and_parts (is_in_use net gate.0) _ g.1 in
     let k : (k : Bool) × (constant_at net gate.0 position ≡ Some k) = present (constant_at net gate.0 position) u.1 in
     let d : (d : ℕ) × (Reads net gate.0 position d × _) = constant_read net gate.0 position k.0 k.1 in
-    let p : nat_lt position (length (drivers_of net gate.0)) ≡ true = lt-ltb position (length (drivers_of net gate.0)) (within (drivers_of net gate.0) position d.0 d.1.0) in
+    let p : nat_lt position (length (drivers_of net gate.0)) ≡ true = lt-ltb position (length (drivers_of net gate.0)) (slice_get_within (drivers_of net gate.0) position d.0 d.1.0) in
     none_four (is_live net gate.0) (is_gate net gate.0) (nat_lt position (length (drivers_of net gate.0))) (rule_applies net (Const gate position)) _ _ _ _ (lives net gate g.0) g.0 p applies
 applies_faultless net (Same gate position) cyclic applies tells =
-    let j : (is_junction net gate.0 ≡ true) × _ = and_both (is_junction net gate.0) _ applies in
-    let u : (is_in_use net gate.0 ≡ true) × (is_repeated (drivers_of net gate.0) position ≡ true) = and_both (is_in_use net gate.0) _ j.1 in
+    let j : (is_junction net gate.0 ≡ true) × _ = and_parts (is_junction net gate.0) _ applies in
+    let u : (is_in_use net gate.0 ≡ true) × (is_repeated (drivers_of net gate.0) position ≡ true) = and_parts (is_in_use net gate.0) _ j.1 in
     let g : is_gate net gate.0 ≡ true = junction_gate net gate.0 j.0 in
     let r : (d : ℕ) × ((q : ℕ) × ((q < position) × ((slice_get (drivers_of net gate.0) q ≡ Some d) × (slice_get (drivers_of net gate.0) position ≡ Some d)))) = repeated_at (drivers_of net gate.0) position u.1 in
-    let p : nat_lt position (length (drivers_of net gate.0)) ≡ true = lt-ltb position (length (drivers_of net gate.0)) (within (drivers_of net gate.0) position r.0 r.1.1.1.1) in
+    let p : nat_lt position (length (drivers_of net gate.0)) ≡ true = lt-ltb position (length (drivers_of net gate.0)) (slice_get_within (drivers_of net gate.0) position r.0 r.1.1.1.1) in
     none_four (is_live net gate.0) (is_gate net gate.0) (nat_lt position (length (drivers_of net gate.0))) (rule_applies net (Same gate position)) _ _ _ _ (lives net gate g) g p applies
 applies_faultless net (NoPins gate) cyclic applies tells =
-    let j : (is_junction net gate.0 ≡ true) × _ = and_both (is_junction net gate.0) _ applies in
+    let j : (is_junction net gate.0 ≡ true) × _ = and_parts (is_junction net gate.0) _ applies in
     let g : is_gate net gate.0 ≡ true = junction_gate net gate.0 j.0 in
     none_three (is_live net gate.0) (is_gate net gate.0) (rule_applies net (NoPins gate)) _ _ _ (lives net gate g) g applies
 applies_faultless net (OnePin gate) cyclic applies tells =
-    let j : (is_junction net gate.0 ≡ true) × _ = and_both (is_junction net gate.0) _ applies in
+    let j : (is_junction net gate.0 ≡ true) × _ = and_parts (is_junction net gate.0) _ applies in
     let g : is_gate net gate.0 ≡ true = junction_gate net gate.0 j.0 in
     none_three (is_live net gate.0) (is_gate net gate.0) (rule_applies net (OnePin gate)) _ _ _ (lives net gate g) g applies
 applies_faultless net (Twice gate) cyclic applies tells =
-    let j : (is_not net gate.0 ≡ true) × _ = and_both (is_not net gate.0) _ applies in
+    let j : (is_not net gate.0 ≡ true) × _ = and_parts (is_not net gate.0) _ applies in
     let g : is_gate net gate.0 ≡ true = not_gate net gate.0 j.0 in
     none_three (is_live net gate.0) (is_gate net gate.0) (rule_applies net (Twice gate)) _ _ _ (lives net gate g) g applies
 applies_faultless net (Twin gate other) cyclic applies tells =
-    let j : (is_not net gate.0 ≡ true) × _ = and_both (is_not net gate.0) _ applies in
-    let u : (is_in_use net gate.0 ≡ true) × _ = and_both (is_in_use net gate.0) _ j.1 in
-    let o : (is_not net other.0 ≡ true) × _ = and_both (is_not net other.0) _ u.1 in
+    let j : (is_not net gate.0 ≡ true) × _ = and_parts (is_not net gate.0) _ applies in
+    let u : (is_in_use net gate.0 ≡ true) × _ = and_parts (is_in_use net gate.0) _ j.1 in
+    let o : (is_not net other.0 ≡ true) × _ = and_parts (is_not net other.0) _ u.1 in
     let g : is_gate net gate.0 ≡ true = not_gate net gate.0 j.0 in
     none_four (is_live net gate.0) (is_live net other.0) (is_gate net gate.0) (rule_applies net (Twin gate other)) _ _ _ _ (lives net gate g) (lives net other (not_gate net other.0 o.0)) g applies
 applies_faultless net (Dead gate) cyclic applies tells =
-    let g : (is_gate net gate.0 ≡ true) × _ = and_both (is_gate net gate.0) _ applies in
+    let g : (is_gate net gate.0 ≡ true) × _ = and_parts (is_gate net gate.0) _ applies in
     none_three (is_live net gate.0) (is_gate net gate.0) (rule_applies net (Dead gate)) _ _ _ (lives net gate g.0) g.0 applies
 
 pub applicable_made : (net : Net) (room : Room) (step : Step) (answer : Option EditRefusal) → Applies net step → has_room net room step ≡ true → IsAnswer net room step answer → answer ≡ None

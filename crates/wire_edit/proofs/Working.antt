@@ -2,10 +2,11 @@
 use Rattle.std.proofs.Common.{◌≡◌, ◌≢◌, ℕ, zero, suc, ◌+◌, ◌*◌, ◌<◌, ◌≤◌, Bool, true, false, ◌||◌, ◌⊎◌, inl, inr, Option, Some, None, List, [], ◌∷◌, ◌++◌, length, map, refl, sym, ◌∙◌, ap, arith}
 use Rattle.std.specs.Prelude.{slice_get, slice_set, nat_lt}
 use Rattle.std.specs.List.{sum_by}
-use Rattle.std.proofs.lemmas.Bool.{and_from}
+use Rattle.std.proofs.lemmas.Bool.{and_from, and_parts, false_from_ne_true}
 use Rattle.std.proofs.lemmas.Bool.Decides.{eqb_tells}
 use Rattle.std.proofs.lemmas.List.Sums.{sum_by-cons}
-use Rattle.gate_net.proofs.Public.{and_both, drivers_redirected, last_cases, node_at-moved, node_at-other, node_at-there, not_true, redirect_cases, set_cases}
+use Rattle.std.proofs.lemmas.List.{length_push}
+use Rattle.gate_net.proofs.Public.{drivers_redirected, node_at-moved, node_at-other, node_at-there, redirect_cases}
 use Rattle.gate_net.specs.declared.Kind.{Kind}
 use Rattle.gate_net.specs.declared.Kind.TheVariants.{Source, Zero, One, And, Or, Not}
 use Rattle.gate_net.specs.Net.{Node, Net, node_at, kind_in, kind_of, drivers_in, drivers_of, flatten_option, Reads, IsObserved, IsLive, IsGate, IsGateKind, IsWellFormed, count_in, gate_in, wire_count, gate_count}
@@ -13,7 +14,7 @@ use Rattle.gate_net.specs.Edits.{with_drivers, with_pin, without, without_pin, c
 use Rattle.wire_edit.specs.Tests.{is_present, gate_control, is_not_kind, is_gate, is_in_use, live_in}
 use Rattle.wire_edit.specs.Changes.{append, remove, fix, readers, retire, changed, CanChange, with_new_not, without_node}
 use Rattle.wire_edit.specs.Refusals.{live_count}
-use Rattle.wire_edit.specs.Work.{one_if, free_in, free_pins, count_from, is_used_gate, used_gates, work}
+use Rattle.wire_edit.specs.Work.{free_in, free_pins, count_from, is_used_gate, used_gates, work}
 use Rattle.wire_edit.proofs.Tested.{gate_is, is_gate_there, read_in_use, observed_in_use, used_by}
 use Rattle.wire_edit.proofs.Totals.{total_with, total_map, total_least, total_gone}
 use Rattle.wire_edit.proofs.Canonical.{least_free, least_is_free, least-there, gone-there}
@@ -21,7 +22,9 @@ use Rattle.wire_edit.proofs.Plain.{some_none}
 use Rattle.wire_edit.proofs.Conditions.{constant_apart}
 use Rattle.wire_edit.proofs.Formed.{without_before, new_differs, gone_differs, free_unread, junction_kind}
 use Rattle.wire_edit.proofs.Ordering.{gate_below}
-use Rattle.wire_edit.proofs.Counting.{at_most_one, count_mono, count_strict, count_more, count_beyond, count_places, free_length, free_without, length_without, free_set, length_set, free_last, length_last, free_moved, length_moved}
+use Rattle.wire_edit.proofs.Counting.{at_most_one, count_mono, count_strict, count_more, count_beyond, count_places, free_length, free_without, length_without, free_set, free_last, free_moved, length_moved}
+use Rattle.rm_base.proofs.Public.{last_cases, length_set, set_cases}
+use Rattle.rm_base.specs.Numbers.{one_if}
 
 abbrev free_weight : Option Node → ℕ
 free_weight o = free_in (drivers_in o)
@@ -81,8 +84,8 @@ used_within : (net : Net) (more : ℕ) → used_gates net ≡ count_from 0 (leng
 used_within net more = sym (count_beyond (is_used_gate net) 0 (length net.nodes) more beyond)
   where
     beyond : (x : ℕ) → 0 + length net.nodes ≤ x → is_used_gate net x ≡ false
-    beyond x le = not_true (is_used_gate net x) (λ e.
-        let g : (is_gate net x ≡ true) × _ = and_both (is_gate net x) (is_in_use net x) e in
+    beyond x le = false_from_ne_true (is_used_gate net x) (λ e.
+        let g : (is_gate net x ≡ true) × _ = and_parts (is_gate net x) (is_in_use net x) e in
         let lt : x < length net.nodes = gate_below net x g.0 in
         omega (arith, le, lt))
 
@@ -101,7 +104,7 @@ used_mono net after h =
 used_strict : (net after : Net) (x : ℕ) → is_used_gate net x ≡ true → is_used_gate after x ≡ false → ((y : ℕ) → is_used_gate after y ≡ true → is_used_gate net y ≡ true) → used_gates after + 1 ≤ used_gates net
 used_strict net after x passes fails h =
     let both : _ × _ = used_both net after in
-    let g : (is_gate net x ≡ true) × _ = and_both (is_gate net x) (is_in_use net x) passes in
+    let g : (is_gate net x ≡ true) × _ = and_parts (is_gate net x) (is_in_use net x) passes in
     let lt : x < length net.nodes = gate_below net x g.0 in
     let le : _ = count_strict (is_used_gate after) (is_used_gate net) 0 (length net.nodes + length after.nodes) x (omega arith) (omega (arith, lt)) fails passes h in
     rw (both.0, both.1) le
@@ -115,7 +118,7 @@ used_more net after x h =
 -- a gate in use after was one before, but for some
 use_back : (net after : Net) (Extra : ℕ → Type 0) → ((x : ℕ) → is_gate after x ≡ true → is_gate net x ≡ true) → ((x y p : ℕ) → is_gate net x ≡ true → Reads after y p x → (is_in_use net x ≡ true) ⊎ Extra x) → ((x : ℕ) → is_gate net x ≡ true → IsObserved after x → (is_in_use net x ≡ true) ⊎ Extra x) → (x : ℕ) → is_used_gate after x ≡ true → (is_used_gate net x ≡ true) ⊎ Extra x
 use_back net after Extra gates reads observed x e =
-    let g : (is_gate after x ≡ true) × (is_in_use after x ≡ true) = and_both (is_gate after x) (is_in_use after x) e in
+    let g : (is_gate after x ≡ true) × (is_in_use after x ≡ true) = and_parts (is_gate after x) (is_in_use after x) e in
     let gate : is_gate net x ≡ true = gates x g.0 in
     let used : (is_in_use net x ≡ true) ⊎ Extra x = elim (used_by after x g.1) [ inl r ↦ reads x r.0 r.1.0 gate r.1.1 | inr o ↦ observed x gate o ] in
     elim used [ inl u ↦ inl (and_from (is_gate net x) (is_in_use net x) gate u) | inr extra ↦ inr extra ]
@@ -223,7 +226,7 @@ append_raises net gate driver (j, rest) =
     let c : gate_count (with_drivers net gate ds) ≡ gate_count net = with_gates net gate ds g in
     let u : used_gates (with_drivers net gate ds) ≤ used_gates net + 1 = used_more net (with_drivers net gate ds) driver (with_used net gate ds g (λ x. x ≡ driver) new) in
     let f : free_in ds ≤ free_in (drivers_of net gate) + 1 = free_last (drivers_of net gate) driver in
-    let l : length ds ≡ length (drivers_of net gate) + 1 = length_last (drivers_of net gate) driver in
+    let l : length ds ≡ length (drivers_of net gate) + 1 = length_push (drivers_of net gate) driver in
     (omega arith, omega arith)
   where
     new : (x q : ℕ) → is_gate net x ≡ true → slice_get (drivers_of net gate ++ driver ∷ []) q ≡ Some x → ((r : ℕ) × Reads net gate r x) ⊎ (x ≡ driver)
@@ -258,8 +261,8 @@ module _ (net : Net) (from to : ℕ) (well : IsWellFormed net) (can : CanChange 
       same (Some n) = refl
 
   moved_unused : is_used_gate moved from ≡ false
-  moved_unused = not_true (is_used_gate moved from) (λ e.
-      let g : (is_gate moved from ≡ true) × (is_in_use moved from ≡ true) = and_both (is_gate moved from) (is_in_use moved from) e in
+  moved_unused = false_from_ne_true (is_used_gate moved from) (λ e.
+      let g : (is_gate moved from ≡ true) × (is_in_use moved from ≡ true) = and_parts (is_gate moved from) (is_in_use moved from) e in
       elim (used_by moved from g.1) [
         | inl r ↦ moved_away from to (drivers_of net r.0) r.1.0 can.1.1.0 (ap (λ ds. slice_get ds r.1.0) (sym (moved_drivers r.0)) ∙ r.1.1)
         | inr o ↦ moved_away from to net.observed o.0 can.1.1.0 o.1
@@ -399,13 +402,13 @@ new_raises net well driver live =
     used x e = elim (eqb_tells x new) [
       | inl t ↦
           let at_new : is_used_gate after new ≡ true = ap (is_used_gate after) (sym t.1) ∙ e in
-          let g : (is_gate after new ≡ true) × (is_in_use after new ≡ true) = and_both (is_gate after new) (is_in_use after new) at_new in
+          let g : (is_gate after new ≡ true) × (is_in_use after new ≡ true) = and_parts (is_gate after new) (is_in_use after new) at_new in
           elim (used_by after new g.1) [
             | inl r ↦ elim (read new r.0 r.1.0 r.1.1) [ inl before ↦ absurd (unread.unread r.0 before.0 before.1) | inr is ↦ absurd (not_new (sym is)) ]
             | inr o ↦ absurd (unread.unobserved o)
           ]
       | inr t ↦
-          let g : (is_gate after x ≡ true) × (is_in_use after x ≡ true) = and_both (is_gate after x) (is_in_use after x) e in
+          let g : (is_gate after x ≡ true) × (is_in_use after x ≡ true) = and_parts (is_gate after x) (is_in_use after x) e in
           let gate : is_gate net x ≡ true = gate_same net after x (ap kind_in (others x t.1)) g.0 in
           elim (used_by after x g.1) [
             | inl r ↦ elim (read x r.0 r.1.0 r.1.1) [

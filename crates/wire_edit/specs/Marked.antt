@@ -1,11 +1,10 @@
 -- Marks by number.
 use Rattle.std.specs.Prelude.{◌≡◌, ℕ, zero, suc, ◌<◌, ◌≤◌, ◌+◌, ◌*◌, ◌/◌, Bool, true, false, Option, Some, List, [], ◌∷◌, length, None}
 use Rattle.gate_net.specs.Net.{Net}
-use Rattle.wire_edit.specs.Work.{one_if}
 use Rattle.wire_edit.specs.Order.{rule_at}
 use Rattle.wire_edit.specs.Changes.{Change}
 use Rattle.wire_edit.specs.Touched.{IsTouched}
-use Rattle.rm_base.specs.Numbers.{number_bound}
+use Rattle.rm_base.specs.Numbers.{number_bound, one_if}
 
 abbrev pub is_marked : List Bool → ℕ → Bool
 is_marked [] k = false

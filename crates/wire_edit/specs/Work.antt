@@ -1,5 +1,5 @@
 -- How many tidying steps may follow: a sum that falls with each.
-use Rattle.std.specs.Prelude.{◌≡◌, ℕ, zero, suc, ◌+◌, ◌-◌, ◌*◌, ◌<◌, ◌≤◌, Bool, true, false, ◌&&◌, nat_lt, Option, Some, List, [], ◌∷◌, length, sum_by}
+use Rattle.std.specs.Prelude.{◌≡◌, ℕ, zero, suc, ◌+◌, ◌-◌, ◌*◌, ◌<◌, ◌≤◌, Bool, ◌&&◌, nat_lt, Option, Some, List, [], ◌∷◌, length, sum_by}
 use Rattle.gate_net.specs.Net.{Node, Net, drivers_in, Reads, wire_count, gate_count, IsWellFormed}
 use Rattle.wire_edit.specs.declared.steps.Step.{Step}
 use Rattle.wire_edit.specs.declared.steps.Step.TheVariants.{Add, Fix, NewNot}
@@ -7,10 +7,7 @@ use Rattle.wire_edit.specs.Tests.{is_gate, is_in_use}
 use Rattle.wire_edit.specs.Steps.{Applies, stepped}
 use Rattle.wire_edit.specs.Refusals.{live_count}
 use Rattle.wire_edit.specs.Order.{next_step}
-
-abbrev pub one_if : Bool → ℕ
-one_if true = 1
-one_if false = 0
+use Rattle.rm_base.specs.Numbers.{one_if}
 
 -- how many drivers are no constants, which are nodes 0 and 1
 abbrev pub free_in : List ℕ → ℕ

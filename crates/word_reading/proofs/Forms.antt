@@ -1,7 +1,7 @@
 -- The rules of the three commands.
-use Rattle.std.proofs.Common.{◌≡◌, ◌∙◌, ◌==◌, ◌<◌, ℕ, zero, suc, Bool, true, false, refl, sym, ap, ap₂, subst, List, [], ◌∷◌, length, Some, None, arith}
+use Rattle.std.proofs.Common.{◌≡◌, ◌∙◌, ◌==◌, ◌<◌, ℕ, zero, suc, Bool, true, false, refl, sym, ap₂, subst, List, [], ◌∷◌, length, Some, None, arith}
 use Rattle.std.proofs.Math.Dec.{eqb-suc-suc, eqb-zero-suc}
-use Rattle.std.specs.Prelude.{codes, slice_get, unwrap_or}
+use Rattle.std.specs.Prelude.{codes, slice_get}
 use Rattle.std.specs.List.{AllByRecursion, list_any}
 use Rattle.std.specs.Str.{bytes_eq}
 use Rattle.std.proofs.lemmas.Slice.Eq.{bytes_eq-Decides}
@@ -12,6 +12,7 @@ use Rattle.word_reading.specs.Judged.{check_rules, demo_rules, opt_rules}
 use Rattle.word_reading.specs.Words.{is_word, keys}
 use Rattle.word_reading.proofs.Slots.{IsPlain, fits}
 use Rattle.word_reading.proofs.Judging.{Form, IsForm, Key, depth, budget, tries, workers, KeyCase, known, unknown, key_text, lowest, highest, apart_both}
+use Rattle.rm_base.proofs.Public.{some_is}
 
 abbrev rule_at : ℕ → List Rule → Rule
 rule_at i [] = new_rule []
@@ -93,16 +94,13 @@ by_key P a b c d workers = d
 
 -- ---- places
 
-pub some_same : {X : Type 0} (x y : X) → Some x ≡ Some y → x ≡ y
-some_same x y e = ap (λ o. unwrap_or o x) e
-
 pub each_at : (P : Rule → Type 0) (xs : List Rule) → AllByRecursion P xs → (i : ℕ) (a : Rule) → slice_get xs i ≡ Some a → P a
 each_at P [] all i a e = absurd (nothing i e)
   where
     nothing : (k : ℕ) → slice_get {X = Rule} [] k ≡ Some a → ⊥
     nothing zero g = cc
     nothing (suc k) g = cc
-each_at P (x ∷ xs) all zero a e = subst P (some_same x a e) all.0
+each_at P (x ∷ xs) all zero a e = subst P (some_is x a e) all.0
 each_at P (x ∷ xs) all (suc i) a e = each_at P xs all.1 i a e
 
 pub within : (xs : List Rule) (i : ℕ) (a : Rule) → slice_get xs i ≡ Some a → i < length xs
@@ -117,13 +115,13 @@ IsApart a = (j : Key) → bytes_eq a.id (key_text j) ≡ false
 module _ (r s t : Rule) (rs : bytes_eq r.id s.id ≡ false) (rt : bytes_eq r.id t.id ≡ false) (st : bytes_eq s.id t.id ≡ false) where
   pub once_of_three : (i k : ℕ) (a b : Rule) → slice_get (r ∷ s ∷ t ∷ []) i ≡ Some a → slice_get (r ∷ s ∷ t ∷ []) k ≡ Some b → (k ≡ i → ⊥) → bytes_eq a.id b.id ≡ false
   once_of_three zero zero a b e g ne = absurd (ne refl)
-  once_of_three zero (suc zero) a b e g ne = ap₂ (λ (x y : Rule). bytes_eq x.id y.id) (sym (some_same r a e)) (sym (some_same s b g)) ∙ rs
-  once_of_three zero (suc (suc zero)) a b e g ne = ap₂ (λ (x y : Rule). bytes_eq x.id y.id) (sym (some_same r a e)) (sym (some_same t b g)) ∙ rt
-  once_of_three (suc zero) zero a b e g ne = ap₂ (λ (x y : Rule). bytes_eq x.id y.id) (sym (some_same s a e)) (sym (some_same r b g)) ∙ apart_both r.id s.id rs
+  once_of_three zero (suc zero) a b e g ne = ap₂ (λ (x y : Rule). bytes_eq x.id y.id) (sym (some_is r a e)) (sym (some_is s b g)) ∙ rs
+  once_of_three zero (suc (suc zero)) a b e g ne = ap₂ (λ (x y : Rule). bytes_eq x.id y.id) (sym (some_is r a e)) (sym (some_is t b g)) ∙ rt
+  once_of_three (suc zero) zero a b e g ne = ap₂ (λ (x y : Rule). bytes_eq x.id y.id) (sym (some_is s a e)) (sym (some_is r b g)) ∙ apart_both r.id s.id rs
   once_of_three (suc zero) (suc zero) a b e g ne = absurd (ne refl)
-  once_of_three (suc zero) (suc (suc zero)) a b e g ne = ap₂ (λ (x y : Rule). bytes_eq x.id y.id) (sym (some_same s a e)) (sym (some_same t b g)) ∙ st
-  once_of_three (suc (suc zero)) zero a b e g ne = ap₂ (λ (x y : Rule). bytes_eq x.id y.id) (sym (some_same t a e)) (sym (some_same r b g)) ∙ apart_both r.id t.id rt
-  once_of_three (suc (suc zero)) (suc zero) a b e g ne = ap₂ (λ (x y : Rule). bytes_eq x.id y.id) (sym (some_same t a e)) (sym (some_same s b g)) ∙ apart_both s.id t.id st
+  once_of_three (suc zero) (suc (suc zero)) a b e g ne = ap₂ (λ (x y : Rule). bytes_eq x.id y.id) (sym (some_is s a e)) (sym (some_is t b g)) ∙ st
+  once_of_three (suc (suc zero)) zero a b e g ne = ap₂ (λ (x y : Rule). bytes_eq x.id y.id) (sym (some_is t a e)) (sym (some_is r b g)) ∙ apart_both r.id t.id rt
+  once_of_three (suc (suc zero)) (suc zero) a b e g ne = ap₂ (λ (x y : Rule). bytes_eq x.id y.id) (sym (some_is t a e)) (sym (some_is s b g)) ∙ apart_both s.id t.id st
   once_of_three (suc (suc zero)) (suc (suc zero)) a b e g ne = absurd (ne refl)
   once_of_three (suc (suc (suc i))) k a b e g ne = absurd (past i e)
     where

@@ -13,7 +13,8 @@ use Rattle.word_reading.proofs.Levels.{append_one}
 use Rattle.word_reading.specs.Judged.{judged, judged_use}
 use Rattle.word_reading.specs.Words.{Part, name, setting, at_most_once, given, has_keys, is_word, keys, names}
 use Rattle.word_reading.proofs.Numbers.{bad_value, number_none, twice}
-use Rattle.word_reading.proofs.Slots.{IsPlain, fits, get_before, get_next, get_none, given-append, has_keys-append, has_row-is, length_past, names-append, pushed_other, pushed_same, row_for, row_with, use_refused, use_repeated, use_taken}
+use Rattle.word_reading.proofs.Slots.{IsPlain, fits, get_before, get_none, given-append, has_keys-append, has_row-is, length_past, names-append, pushed_other, pushed_same, row_for, row_with, use_refused, use_repeated, use_taken}
+use Rattle.rm_base.proofs.Public.{seam_stands}
 
 -- ---- the rules of a command
 
@@ -157,7 +158,7 @@ module _ (f : Form) (form : IsForm f) (rows : List Row) (done : List Part) (h : 
     known_now = has_keys-append (keys_if f.has_options) done (name w ∷ []) ∙ ap (λ b. b && true) h.known
 
     next_name : slice_get (names (done ++ name w ∷ [])) (length (names done)) ≡ Some w
-    next_name = ap (λ xs. slice_get xs (length (names done))) names_now ∙ get_next (names done) w []
+    next_name = ap (λ xs. slice_get xs (length (names done))) names_now ∙ seam_stands (names done) w []
 
     other_name : (k : ℕ) → (k ≡ length (names done) → ⊥) → slice_get (names (done ++ name w ∷ [])) k ≡ slice_get (names done) k
     other_name k ne = ap (λ xs. slice_get xs k) names_now ∙ get_before (names done) w k ne
@@ -302,7 +303,7 @@ module _ (f : Form) (form : IsForm f) (ps done : List Part) (rows : List Row) (h
 
     name_bad : (a : Rule) → slice_get f.named (length (names done)) ≡ Some a → fits a w ≡ false → Verdict f (done ++ name w ∷ ps) (judged f.rules (suc (length (names done))) rows (name w ∷ ps))
     name_bad a e bad = subst (Verdict f (done ++ name w ∷ ps)) (sym (by_rule (Some a) e ∙ use_refused a w rows next_rows (form.name_plain (length (names done)) a e) bad))
-        (refuses (bad_name (length (names done)) a w e (ap (λ xs. slice_get xs (length (names done))) names_all ∙ get_next (names done) w (names ps)) bad))
+        (refuses (bad_name (length (names done)) a w e (ap (λ xs. slice_get xs (length (names done))) names_all ∙ seam_stands (names done) w (names ps)) bad))
 
     name_good : Later → (a : Rule) → slice_get f.named (length (names done)) ≡ Some a → fits a w ≡ true → Verdict f (done ++ name w ∷ ps) (judged f.rules (suc (length (names done))) rows (name w ∷ ps))
     name_good later a e ok =

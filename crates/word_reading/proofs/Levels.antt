@@ -1,11 +1,12 @@
 -- What clap refuses, and the rows that it gives, by the parts of the words.
-use Rattle.std.proofs.Common.{◌≡◌, ◌∙◌, ◌||◌, ℕ, Bool, true, false, cond, refl, sym, ap, ap₂, subst, List, [], ◌∷◌, ◌++◌, Option, Some, None}
+use Rattle.std.proofs.Common.{◌≡◌, ◌∙◌, ℕ, Bool, true, false, cond, refl, sym, ap, ap₂, subst, List, [], ◌∷◌, ◌++◌, Option, Some, None}
 use Rattle.std.specs.Prelude.{if◌then◌else◌, codes, option_and_then, option_map}
 use Rattle.std.specs.List.{AllByRecursion, fold}
 use Rattle.std.specs.Str.{IsUtf8, bytes_eq, chars}
 use Rattle.std.specs.Prelude.{slice_get}
 use Rattle.std.proofs.lemmas.List.{append-nil}
 use Rattle.std.proofs.lemmas.Slice.Eq.{bytes_eq-Decides}
+use Rattle.std.proofs.Math.Bool.{or-true}
 use Rattle.clap.specs.Lexer.{long_of, short_of}
 use Rattle.clap.specs.Walk.{Names, Row, Rule, Text, Walk, finished, has_row, idle, nothing_held, rows_after, settled, walk, walk_from, walked, with_default}
 use Rattle.clap.specs.Simple.{Shape, built, names_of, subcommand_of}
@@ -24,16 +25,12 @@ use Rattle.word_reading.proofs.Leaves.{check_singles, demo_singles, opt_singles}
 abbrev HasNone : Rule → Type 0
 HasNone a = a.defaults ≡ []
 
-or_true : (b : Bool) → (b || true) ≡ true
-or_true true = refl
-or_true false = refl
-
 same_rows : (b : Bool) (rows : List Row) → cond b rows rows ≡ rows
 same_rows true rows = refl
 same_rows false rows = refl
 
 no_default : (a : Rule) (rows : List Row) → HasNone a → default_fault rows a ≡ []
-no_default a rows none = rw (none, or_true (has_row a.id rows)) refl
+no_default a rows none = rw (none, or-true (has_row a.id rows)) refl
 
 no_default_row : (a : Rule) (rows : List Row) → HasNone a → with_default rows a ≡ rows
 no_default_row a rows none = rw none (same_rows (has_row a.id rows) rows)

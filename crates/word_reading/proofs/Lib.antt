@@ -1,4 +1,3 @@
-pub mod Bools
 pub mod Runs
 pub mod Classes
 pub mod Walks

@@ -8,15 +8,16 @@ use Rattle.std.proofs.lemmas.Bool.{leb-true}
 use Rattle.std.proofs.lemmas.Slice.Eq.{bytes_eq-Decides}
 use Rattle.clap.proofs.WalkLemmas.{both}
 use Rattle.rm_base.specs.declared.settings.Settings.{Settings}
-use Rattle.word_reading.proofs.Forms.{some_same}
 use Rattle.word_reading.specs.Commands.{HasNamesApart, HasSettingsInRange, IsInRange}
-use Rattle.word_reading.specs.Words.{Asked, Part, Word, are_different, asked, asked_by, at_most_once, check, check_of, demo, demo_of, given, has_keys, is_word, keys, names, number, opt, opt_of, parts, settings_of}
+use Rattle.word_reading.specs.Words.{Asked, Part, are_different, asked, asked_by, at_most_once, check, check_of, demo, demo_of, given, has_keys, is_word, keys, names, number, opt, opt_of, parts, settings_of}
 use Rattle.word_reading.proofs.Numbers.{value_of}
+use Rattle.rm_base.proofs.Public.{some_is}
+use Rattle.rm_base.specs.Words.{Word}
 
 -- ---- the settings
 
 chosen_is : (b : Bool) (m n : ℕ) → cond b (Some m) None ≡ Some n → (b ≡ true) × (m ≡ n)
-chosen_is true m n e = (refl, some_same m n e)
+chosen_is true m n e = (refl, some_is m n e)
 chosen_is false m n e = cc
 
 number_range : (low high : ℕ) (v : Word) (n : ℕ) → number low high v ≡ Some n → (low ≤ n) × (n ≤ high)
@@ -29,7 +30,7 @@ number_range low high v n e =
     (subst (λ (k : ℕ). low ≤ k) is.1 (leb-true low (value_of v) lower.1), subst (λ (k : ℕ). k ≤ high) is.1 (leb-true (value_of v) high upper.1))
 
 once_range : (low high default : ℕ) → low ≤ default → default ≤ high → (vs : List Word) (n : ℕ) → at_most_once low high default vs ≡ Some n → (low ≤ n) × (n ≤ high)
-once_range low high default least most [] n e = let same = some_same default n e in (omega arith, omega arith)
+once_range low high default least most [] n e = let same = some_is default n e in (omega arith, omega arith)
 once_range low high default least most (v ∷ []) n e = number_range low high v n e
 once_range low high default least most (v ∷ w ∷ ws) n e = cc
 
@@ -42,7 +43,7 @@ settings_by known d b t w = cond known
 parts_of : (known : Bool) (d b t w : Option ℕ) (s : Settings) → settings_by known d b t w ≡ Some s
     → (d ≡ Some s.depth) × (b ≡ Some s.budget) × (t ≡ Some s.tries) × (w ≡ Some s.workers)
 parts_of true (Some d) (Some b) (Some t) (Some w) s e =
-    let same : record { depth = d; budget = b; tries = t; workers = w } ≡ s = some_same _ s e in
+    let same : record { depth = d; budget = b; tries = t; workers = w } ≡ s = some_is _ s e in
     (ap (λ (x : Settings). Some x.depth) same, ap (λ (x : Settings). Some x.budget) same, ap (λ (x : Settings). Some x.tries) same, ap (λ (x : Settings). Some x.workers) same)
 parts_of true None b t w s e = cc
 parts_of true (Some d) None t w s e = cc
@@ -72,7 +73,7 @@ opt_made : (ps : List Part) (a b c : Word) (t : Bool) → are_different a b c �
 opt_made ps a b c true apart (Some s) e x is =
     let one = both (not (is_word a b)) (not (is_word a c) && not (is_word b c)) apart in
     let two = both (not (is_word a c)) (not (is_word b c)) one.1 in
-    subst IsSound (some_same (opt a b c s) x is) ((different a b one.0, different a c two.0, different b c two.1), settings_range ps s e)
+    subst IsSound (some_is (opt a b c s) x is) ((different a b one.0, different a c two.0, different b c two.1), settings_range ps s e)
 opt_made ps a b c true apart None e x is = cc
 opt_made ps a b c false apart o e x is = cc
 
@@ -84,7 +85,7 @@ opt_sound ps (a ∷ b ∷ c ∷ []) x is = opt_made ps a b c (are_different a b 
 opt_sound ps (a ∷ b ∷ c ∷ d ∷ ws) x is = cc
 
 check_made : (a b c : Word) (t : Bool) (x : Asked) → cond t (Some (check a b c)) None ≡ Some x → IsSound x
-check_made a b c true x is = subst IsSound (some_same (check a b c) x is) (tt, tt)
+check_made a b c true x is = subst IsSound (some_is (check a b c) x is) (tt, tt)
 check_made a b c false x is = cc
 
 check_sound : (ps : List Part) (ws : List Word) (x : Asked) → check_of ps ws ≡ Some x → IsSound x
@@ -97,7 +98,7 @@ check_sound ps (a ∷ b ∷ c ∷ d ∷ ws) x is = cc
 demo_made : (ps : List Part) (n : Option ℕ) (o : Option Settings) → settings_of ps ≡ o → (x : Asked) → option_and_then (λ seed. option_map (demo seed) o) n ≡ Some x → IsSound x
 demo_made ps None o e x is = cc
 demo_made ps (Some n) None e x is = cc
-demo_made ps (Some n) (Some s) e x is = subst IsSound (some_same (demo n s) x is) (tt, settings_range ps s e)
+demo_made ps (Some n) (Some s) e x is = subst IsSound (some_is (demo n s) x is) (tt, settings_range ps s e)
 
 demo_sound : (ps : List Part) (ws : List Word) (x : Asked) → demo_of ps ws ≡ Some x → IsSound x
 demo_sound ps [] x is = cc

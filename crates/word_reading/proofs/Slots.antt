@@ -116,10 +116,6 @@ has_keys-append keys (setting k v ∷ ps) qs = ap (λ b. list_any (is_word k) ke
 
 -- ---- places
 
-pub get_next : {X : Type 0} (xs : List X) (y : X) (ys : List X) → slice_get (xs ++ y ∷ ys) (length xs) ≡ Some y
-get_next [] y ys = refl
-get_next (x ∷ xs) y ys = get_next xs y ys
-
 pub get_none : {X : Type 0} (xs : List X) → slice_get xs (length xs) ≡ None
 get_none [] = refl
 get_none (x ∷ xs) = get_none xs

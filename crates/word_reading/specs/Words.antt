@@ -7,9 +7,7 @@ use Rattle.std.specs.Char.{digit_value}
 use Rattle.std.specs.Str.{bytes_eq}
 use Rattle.std.specs.Str.Parse.{digits_value, without_leading_plus}
 use Rattle.rm_base.specs.declared.settings.Settings.{Settings}
-
-abbrev pub Word : Type 0
-Word = List ℕ
+use Rattle.rm_base.specs.Words.{Word}
 
 abbrev pub is_word : Word → Word → Bool
 is_word = bytes_eq

@@ -1,6 +1,7 @@
 use Rattle.std.proofs.Common.{◌≡◌, ◌≤◌, ◌+◌, ◌-◌, length, drop}
-use Rattle.blif_lines.specs.Cuts.{front, is_word_byte}
+use Rattle.blif_lines.specs.Cuts.{front}
 use Rattle.blif_lines.proofs.scan.word_end.Given as goal
+use Rattle.rm_base.specs.Words.{is_word_byte}
 
 abbrev pub invariant-loop-i : goal.invariant-loop-i
 invariant-loop-i l = record {

@@ -1,9 +1,9 @@
 use Rattle.std.proofs.Common.{◌≡◌, ◌∙◌, ap, get_or, List, ◌++◌, ◌∷◌}
-use Rattle.rm_model.specs.Words.{Word}
 use Rattle.blif_format.specs.Text.{init_words, timing_words}
 use Rattle.blif_reader.specs.Lines.{words_at, timing_part}
 use Rattle.blif_reader.proofs.LatchLaws.{word_at, whole_latch}
 use Rattle.blif_reader.proofs.draft.latch_of.Goals as goal
+use Rattle.rm_base.specs.Words.{Word}
 
 pub returns-clause-words : goal.returns-clause-words
 returns-clause-words c h =

@@ -1,9 +1,10 @@
 use Rattle.std.proofs.Common.{Bool, ap, false, refl, subst, sym, true, ◌∙◌, ◌≡◌}
 use Rattle.std.specs.Prelude.{not}
 use Rattle.gate_net.specs.Values.{same_bool}
-use Rattle.refutation.proofs.Public.{beq_same, some_is}
-use Rattle.candidate_wires.proofs.Choices.{junction_one, not_false, not_true}
+use Rattle.refutation.proofs.Public.{beq_same}
+use Rattle.candidate_wires.proofs.Choices.{junction_one}
 use Rattle.candidate_wires.proofs.choosing.choice_at.Goals as goal
+use Rattle.rm_base.proofs.Public.{false_from_not, some_same, true_from_not}
 
 pub returns-then-node-gate : goal.returns-then-node-gate
 returns-then-node-gate c net held junction reached driving known fresh may = may.apart c.if-node-gate.true
@@ -38,12 +39,12 @@ returns-then-source-control c net held junction reached driving known = (
 
 pub returns-then-not-source : goal.returns-then-not-source
 returns-then-not-source c net held junction reached driving known fresh may =
-    let value : may.value ≡ c.args.source.value = some_is (sym may.known ∙ known.0.known) in
+    let value : may.value ≡ c.args.source.value = some_same (sym may.known ∙ known.0.known) in
     let control : may.control ≡ c.args.control = junction_one net c.args.gate.0 may.control c.args.control may.junction junction in
     let fresh_is : fresh ≡ not (same_bool c.args.source.value c.args.control) = may.as_fresh ∙ ap (λ (b : Bool). not (same_bool b may.control)) value ∙ ap (λ (b : Bool). not (same_bool c.args.source.value b)) control in
     let ever : fresh ≡ true = fresh_is ∙ ap not (sym (beq_same c.args.source.value c.args.control) ∙ c.if-source-control.false) in
     let has : c.args.source.has_no_not ≡ true = known.1.1 (may.not_wanted ever) in
-    let never : c.args.source.has_no_not ≡ false = not_true c.args.source.has_no_not c.if-not-source.true in
+    let never : c.args.source.has_no_not ≡ false = false_from_not c.args.source.has_no_not c.if-not-source.true in
     let wrong : true ≡ false = sym has ∙ never in
     absurd (cc)
 
@@ -62,7 +63,7 @@ returns c net held junction reached driving known = (
     control = c.args.control;
     junction = junction;
     as_fresh = ap not (sym c.if-source-control.false ∙ beq_same c.args.source.value c.args.control);
-    not_wanted = λ _. known.1.0 (not_false c.args.source.has_no_not c.if-not-source.false);
+    not_wanted = λ _. known.1.0 (true_from_not c.args.source.has_no_not c.if-not-source.false);
   },
   (refl, refl),
 )

@@ -5,8 +5,9 @@ use Rattle.gate_graph.proofs.Public.{none_seen, seen_cases, seen_kept, seen_new}
 use Rattle.gate_net.specs.Net.{drivers_of}
 use Rattle.refutation.proofs.Public.{yielded_at, yielded_more}
 use Rattle.rm_base.specs.declared.numbers.NodeId.{NodeId}
-use Rattle.candidate_wires.proofs.Appending.{back_stands, front_stands, only_one, stands_either, whole}
+use Rattle.candidate_wires.proofs.Appending.{only_one, stands_either}
 use Rattle.candidate_wires.proofs.drivers.mark_drivers.Goals as goal
+use Rattle.rm_base.proofs.Public.{back_stands, front_stands}
 
 pub loop-driver-init : goal.loop-driver-init
 loop-driver-init c = record {

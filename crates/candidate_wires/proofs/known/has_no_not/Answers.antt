@@ -4,9 +4,10 @@ use Rattle.std.specs.Prelude.{slice_get}
 use Rattle.gate_graph.specs.Circuit.{fanouts_of}
 use Rattle.refutation.proofs.Public.{yielded_at, yielded_more}
 use Rattle.rm_base.specs.declared.numbers.NodeId.{NodeId}
-use Rattle.candidate_wires.proofs.Appending.{only_one, stands_either, whole}
-use Rattle.candidate_wires.proofs.KnownNodes.{reader_reads, reads_listed}
+use Rattle.candidate_wires.proofs.Appending.{only_one, stands_either}
 use Rattle.candidate_wires.proofs.known.has_no_not.Goals as goal
+use Rattle.gate_graph.proofs.Public.{reader_reads, reads_listed}
+use Rattle.rm_base.proofs.Public.{yielded_whole}
 
 pub returns-then-is_not-2 : goal.returns-then-is_not-2
 returns-then-is_not-2 c =
@@ -34,7 +35,7 @@ returns c = (
     is_none = λ is. let wrong : false ≡ true = c.if-is_not.ensures.1 is in absurd (cc);
     reads_none = λ z p reads is.
         let listed = reads_listed c.args.graph.now c.args.node.0 c.readers_listed.ensures z p reads in
-        let all = whole (λ (n : NodeId). n.0) (map (λ place. place.0) (fanouts_of c.args.graph.now c.args.node.0)) c.loop-reader.yielded _ c.loop-reader.invariant.all c.in-None.ensures.steps.0 in
+        let all = yielded_whole (λ (n : NodeId). n.0) (map (λ place. place.0) (fanouts_of c.args.graph.now c.args.node.0)) c.loop-reader.yielded _ c.loop-reader.invariant.all c.in-None.ensures.steps.0 in
         absurd (c.loop-reader.invariant.none listed.0 z (rw all at listed.1) is);
   },
   λ _. refl,

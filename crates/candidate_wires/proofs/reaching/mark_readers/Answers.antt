@@ -2,10 +2,11 @@ use Rattle.std.proofs.Common.{ap, arith, false, inl, inr, length, length-set, su
 use Rattle.gate_graph.specs.Circuit.{net_of}
 use Rattle.gate_graph.proofs.Public.{seen_kept, seen_new}
 use Rattle.gate_graph.specs.Search.{IsSeen}
-use Rattle.refutation.proofs.Public.{all_came, last_of, marks_all, marks_new, next_below, next_reads, yielded_more}
+use Rattle.refutation.proofs.Public.{all_came, marks_all, marks_new, next_below, next_reads, yielded_more}
 use Rattle.candidate_wires.proofs.StampLists.{has_not, not_seen}
 use Rattle.candidate_wires.proofs.reaching.mark_readers.Goals as goal
 use Rattle.rm_base.specs.declared.numbers.NodeId.{NodeId}
+use Rattle.rm_base.proofs.Public.{last_cases}
 
 pub set-requires : goal.set-requires
 set-requires c =
@@ -32,7 +33,7 @@ loop-reader-preserved-then-not-has c =
           (not_seen c.loop-reader.reached c.in-Some.reader.0 within (λ seen. has_not c.has.result c.if-not-has.true (c.has.ensures.1 seen)))
           (omega (arith, c.requires.agenda, c.loop-reader.invariant.room))
           reads.1);
-      done = λ k place e. elim (last_of c.loop-reader.yielded c.in-Some.reader k place e) [
+      done = λ k place e. elim (last_cases c.loop-reader.yielded c.in-Some.reader k place e) [
         | inl before ↦ rw c.set.ensures (seen_kept c.loop-reader.reached c.in-Some.reader.0 place.0 (c.loop-reader.invariant.done k place before))
         | inr is ↦ rw (c.set.ensures, ap (λ (d : NodeId). d.0) is) (seen_new c.loop-reader.reached c.in-Some.reader.0 within)
       ];
@@ -48,7 +49,7 @@ loop-reader-preserved c =
     record {
       all = yielded_more (λ (d : NodeId). d.0) c.into_iter-reader-iterator.result c.loop-reader.yielded c.in-Some.reader _ _ c.loop-reader.invariant.all c.in-Some.ensures.steps;
       marks = c.loop-reader.invariant.marks;
-      done = λ k place e. elim (last_of c.loop-reader.yielded c.in-Some.reader k place e) [
+      done = λ k place e. elim (last_cases c.loop-reader.yielded c.in-Some.reader k place e) [
         | inl before ↦ c.loop-reader.invariant.done k place before
         | inr is ↦ rw (ap (λ (d : NodeId). d.0) is) (c.has.ensures.0 c.if-not-has.false)
       ];

@@ -4,9 +4,10 @@ use Rattle.gate_net.specs.Net.{source_count}
 use Rattle.closing_pass.specs.Findings.{AreLong}
 use Rattle.closing_pass.specs.Passing.{AreKeptOf}
 use Rattle.closing_pass.proofs.BlockLaws.{blocks_have_all}
-use Rattle.closing_pass.proofs.Recorded.{gone_closed, gone_then, on_err, stopped_later}
+use Rattle.closing_pass.proofs.Recorded.{gone_closed, gone_then, stopped_later}
 use Rattle.closing_pass.proofs.Sizes.{went_then}
 use Rattle.closing_pass.proofs.closing.close_all.Goals as goal
+use Rattle.rm_base.proofs.Public.{on_err}
 
 pub pass-requires-clause-long : goal.pass-requires-clause-long
 pass-requires-clause-long g c κs within = subst (λ (v : Circuit). AreLong c.loop-kept.kept.items (source_count (net_of v))) (sym c.graph.ensures) c.loop-kept.invariant.long

@@ -1,9 +1,10 @@
 use Rattle.std.proofs.Common.{◌≤◌, ◌+◌, [], arith}
 use Rattle.gate_graph.specs.Circuit.{net_of}
 use Rattle.closing_pass.specs.Going.{HasFixed, Logs}
-use Rattle.closing_pass.proofs.Recorded.{fix_accepted, fix_recorded, on_err}
+use Rattle.closing_pass.proofs.Recorded.{fix_accepted, fix_recorded}
 use Rattle.wire_edit.specs.Work.{work}
 use Rattle.closing_pass.proofs.closing.record_fix.Goals as goal
+use Rattle.rm_base.proofs.Public.{on_err}
 
 pub returns-in_err-append_records-clause-stopped : goal.returns-in_err-append_records-clause-stopped
 returns-in_err-append_records-clause-stopped g c =

@@ -1,8 +1,8 @@
 use Rattle.std.proofs.Common.{◌≡◌, Some, slice_get, length, refl, arith}
 use Rattle.std.proofs.lemmas.Option.{slice_get_read}
-use Rattle.closing_pass.proofs.Recorded.{on_err}
 use Rattle.closing_pass.proofs.Verdicting.{recorded_more, recorded_part}
 use Rattle.closing_pass.proofs.recording.write_verdicts.Goals as goal
+use Rattle.rm_base.proofs.Public.{on_err}
 
 pub returns-in_err-write_one-clause-stopped : goal.returns-in_err-write_one-clause-stopped
 returns-in_err-write_one-clause-stopped g c =

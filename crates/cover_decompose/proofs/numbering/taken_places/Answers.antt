@@ -1,14 +1,14 @@
 use Rattle.std.proofs.Common.{◌≡◌, ◌<◌, ◌+◌, All, Bool, Global, List, Vec, ap, arith, get_or, length, map, subst, sym, ℕ, ◌∙◌}
+use Rattle.std.proofs.lemmas.List.{length-map}
 use Rattle.rm_model.specs.Value.{source_names}
 use Rattle.cover_decompose.proofs.NumberingLemmas.{all_same, all_unmapped, marks_count, places_bound, taken_result}
-use Rattle.cover_decompose.proofs.Steps.{length_items}
 use Rattle.cover_decompose.proofs.numbering.taken_places.Goals as goal
 
 pub needed-requires-clause-places : goal.needed-requires-clause-places
 needed-requires-clause-places c =
     let bound = places_bound c.args.model.now.covers _ c.args.order.now c.requires.order in
     let count : length (map (λ (v : Vec ℕ Global). v.items) c.args.numbering.now.inputs.items) ≡ length c.args.model.now.covers = c.requires.numbered.count in
-    let items : length (map (λ (v : Vec ℕ Global). v.items) c.args.numbering.now.inputs.items) ≡ length c.args.numbering.now.inputs.items = length_items (λ (v : Vec ℕ Global). v.items) c.args.numbering.now.inputs.items in
+    let items : length (map (λ (v : Vec ℕ Global). v.items) c.args.numbering.now.inputs.items) ≡ length c.args.numbering.now.inputs.items = length-map c.args.numbering.now.inputs.items (λ (v : Vec ℕ Global). v.items) in
     let slice : length c.as_slice-2.result.now ≡ length c.args.numbering.now.inputs.items = ap (λ (l : List (Vec ℕ Global)). length l) c.as_slice-2.ensures.value in
     λ k d lt. let low : get_or c.args.order.now k d < length c.args.model.now.covers = bound k d lt in omega arith
 
@@ -30,7 +30,7 @@ needed-requires-clause-room c =
     ap (λ (l : List Bool). length l) (c.as_mut_slice.ensures.value ∙ c.in_ok-marks.ensures) ∙ marks_count (c.args.numbering.now.sources + c.len.result) c.as_slice.result.now in
     let len : c.len.result ≡ length c.args.model.now.covers = c.len.ensures in
     let count : length (map (λ (v : Vec ℕ Global). v.items) c.args.numbering.now.inputs.items) ≡ length c.args.model.now.covers = c.requires.numbered.count in
-    let items : length (map (λ (v : Vec ℕ Global). v.items) c.args.numbering.now.inputs.items) ≡ length c.args.numbering.now.inputs.items = length_items (λ (v : Vec ℕ Global). v.items) c.args.numbering.now.inputs.items in
+    let items : length (map (λ (v : Vec ℕ Global). v.items) c.args.numbering.now.inputs.items) ≡ length c.args.numbering.now.inputs.items = length-map c.args.numbering.now.inputs.items (λ (v : Vec ℕ Global). v.items) in
     let slice : length c.as_slice-2.result.now ≡ length c.args.numbering.now.inputs.items = ap (λ (l : List (Vec ℕ Global)). length l) c.as_slice-2.ensures.value in
     omega arith
 

@@ -3,11 +3,11 @@ use Rattle.std.proofs.Math.Seq.{take-length}
 use Rattle.std.proofs.lemmas.List.{length-map}
 use Rattle.std.specs.List.{fold}
 use Rattle.std.specs.Prelude.{slice_get, slice_index}
-use Rattle.gate_net.proofs.Public.{map_at}
 use Rattle.refutation.proofs.Public.{yielded_all, yielded_at, yielded_more}
 use Rattle.fault_sim.proofs.Lists.{fold_take}
 use Rattle.fault_sim.specs.Words.{join_word, word_of}
 use Rattle.fault_sim.proofs.good_reading.good_junction.Goals as goal
+use Rattle.rm_base.proofs.Public.{map_at}
 
 pub good_at-requires : goal.good_at-requires
 good_at-requires c = c.requires.within _ _ (yielded_at (λ d. d.0) c.args.drivers c.loop-driver.yielded c.in-Some.driver _ _ c.loop-driver.invariant.all c.in-Some.ensures.steps)

@@ -3,8 +3,9 @@ use Rattle.std.specs.Prelude.{slice_index}
 use Rattle.gate_graph.specs.Circuit.{net_of}
 use Rattle.gate_net.specs.Net.{drivers_of}
 use Rattle.refutation.proofs.Public.{yielded_more}
-use Rattle.fault_sim.proofs.Lists.{each_of_more, whole}
+use Rattle.fault_sim.proofs.Lists.{each_of_more}
 use Rattle.fault_sim.proofs.placing.any_driver_late.Goals as goal
+use Rattle.rm_base.proofs.Public.{yielded_whole}
 
 pub loop-driver-preserved : goal.loop-driver-preserved
 loop-driver-preserved c = record {
@@ -14,5 +15,5 @@ loop-driver-preserved c = record {
 
 pub returns : goal.returns
 returns c _ p d reads =
-    let all = whole (λ n. n.0) (drivers_of (net_of c.args.graph.now) c.args.node.0) c.loop-driver.yielded _ c.loop-driver.invariant.all c.in-None.ensures.steps.0 in
+    let all = yielded_whole (λ n. n.0) (drivers_of (net_of c.args.graph.now) c.args.node.0) c.loop-driver.yielded _ c.loop-driver.invariant.all c.in-None.ensures.steps.0 in
     c.loop-driver.invariant.before p d (rw all at reads)

@@ -6,9 +6,9 @@ use Rattle.gate_looks.proofs.Agendas.{not_seen}
 use Rattle.gate_looks.proofs.Reaches.{marks_all, marks_new}
 use Rattle.gate_looks.proofs.Readers.{all_came, next_below, next_reads}
 use Rattle.gate_looks.proofs.reaching.mark_readers.Goals as goal
-use Rattle.gate_looks.proofs.OnlyReaders.{last_of}
 use Rattle.gate_looks.proofs.Yielding.{yielded_more}
 use Rattle.rm_base.specs.declared.numbers.NodeId.{NodeId}
+use Rattle.rm_base.proofs.Public.{last_cases}
 
 pub has-requires : goal.has-requires
 has-requires c =
@@ -41,7 +41,7 @@ loop-reader-preserved-then-not-has c =
           (not_seen c.loop-reader.reached c.in-Some.reader.0 within (λ seen. let wrong : c.has.result ≡ true = c.has.ensures.1 seen in cc))
           (omega (arith, c.requires.agenda, c.loop-reader.invariant.room))
           reads.1);
-      done = λ k place e. elim (last_of c.loop-reader.yielded c.in-Some.reader k place e) [
+      done = λ k place e. elim (last_cases c.loop-reader.yielded c.in-Some.reader k place e) [
         | inl before ↦ rw c.add.ensures (seen_kept c.loop-reader.reached c.in-Some.reader.0 place.0 (c.loop-reader.invariant.done k place before))
         | inr is ↦ rw (c.add.ensures, ap (λ (d : NodeId). d.0) is) (seen_new c.loop-reader.reached c.in-Some.reader.0 within)
       ];
@@ -57,7 +57,7 @@ loop-reader-preserved c =
     record {
       all = yielded_more (λ (d : NodeId). d.0) c.into_iter-reader-iterator.result c.loop-reader.yielded c.in-Some.reader _ _ c.loop-reader.invariant.all c.in-Some.ensures.steps;
       marks = c.loop-reader.invariant.marks;
-      done = λ k place e. elim (last_of c.loop-reader.yielded c.in-Some.reader k place e) [
+      done = λ k place e. elim (last_cases c.loop-reader.yielded c.in-Some.reader k place e) [
         | inl before ↦ c.loop-reader.invariant.done k place before
         | inr is ↦ rw (ap (λ (d : NodeId). d.0) is) (c.has.ensures.0 c.if-not-has.false)
       ];

@@ -1,8 +1,8 @@
 use Rattle.std.proofs.Common.{◌≡◌, ◌∙◌, sym, ap, false}
-use Rattle.rm_model.specs.Words.{Word}
 use Rattle.rm_model.specs.Value.{is_among}
 use Rattle.graph_to_model.proofs.Making.{name_covered}
 use Rattle.graph_to_model.proofs.copies.cover_name.Goals as goal
+use Rattle.rm_base.specs.Words.{Word}
 
 pub returns : goal.returns
 returns c =

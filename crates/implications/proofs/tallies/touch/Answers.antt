@@ -8,8 +8,9 @@ use Rattle.implications.proofs.Rising.{all_tallied, next_can_rise, raises_more, 
 use Rattle.implications.proofs.tallies.touch.Goals as goal
 use Rattle.implications.specs.Rises.{rise_by}
 use Rattle.refutation.specs.FactSets.{held_by}
-use Rattle.refutation.proofs.Public.{all_came, kind_live, last_of, next_below, yielded_more}
+use Rattle.refutation.proofs.Public.{all_came, kind_live, next_below, yielded_more}
 use Rattle.rm_base.specs.declared.numbers.NodeId.{NodeId}
+use Rattle.rm_base.proofs.Public.{last_cases}
 
 pub rise_by-rise-requires : goal.rise_by-rise-requires
 rise_by-rise-requires c = let below : c.args.node.0 < length (net_of c.args.question.now.graph.now).nodes = kind_live (net_of c.args.question.now.graph.now) c.args.node.0 c.requires.node in omega (arith, c.requires.size)
@@ -53,7 +54,7 @@ loop-reader-preserved c =
       all = yielded_more (λ (d : NodeId). d.0) c.into_iter-reader-iterator.result c.loop-reader.yielded c.in-Some.reader _ _ c.loop-reader.invariant.all c.in-Some.ensures.steps;
       kept = λ z seen. rw c.add-in-loop-reader.ensures (seen_kept c.loop-reader.agenda c.in-Some.reader.0 z (c.loop-reader.invariant.kept z seen));
       itself = rw c.add-in-loop-reader.ensures (seen_kept c.loop-reader.agenda c.in-Some.reader.0 c.args.node.0 c.loop-reader.invariant.itself);
-      done = λ k gate e. elim (last_of c.loop-reader.yielded c.in-Some.reader k gate e) [
+      done = λ k gate e. elim (last_cases c.loop-reader.yielded c.in-Some.reader k gate e) [
         | inl before ↦ rw c.add-in-loop-reader.ensures (seen_kept c.loop-reader.agenda c.in-Some.reader.0 gate.0 (c.loop-reader.invariant.done k gate before))
         | inr is ↦ rw (c.add-in-loop-reader.ensures, ap (λ (d : NodeId). d.0) is) (seen_new c.loop-reader.agenda c.in-Some.reader.0 (omega (arith, c.requires.agenda, c.loop-reader.invariant.size)))
       ];

@@ -1,5 +1,6 @@
-use Rattle.journal_text.proofs.Appending.{on_err, outside_part, outside_there, there_then}
+use Rattle.journal_text.proofs.Appending.{outside_part, outside_there, there_then}
 use Rattle.journal_text.proofs.append.append_line.Goals as goal
+use Rattle.rm_base.proofs.Public.{on_err}
 
 pub returns-in_err-append-clause-stopped : goal.returns-in_err-append-clause-stopped
 returns-in_err-append-clause-stopped g c =

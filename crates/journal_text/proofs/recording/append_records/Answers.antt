@@ -1,7 +1,8 @@
 use Rattle.std.proofs.Common.{◌≤◌, arith}
-use Rattle.journal_text.proofs.Appending.{appended_none, on_err}
+use Rattle.journal_text.proofs.Appending.{appended_none}
 use Rattle.journal_text.proofs.Joined.{appended_more, parts_at, stopped_at, writable_at}
 use Rattle.journal_text.proofs.recording.append_records.Goals as goal
+use Rattle.rm_base.proofs.Public.{on_err}
 
 pub loop-record-init : goal.loop-record-init
 loop-record-init g c = (appended_none (g.S.Shelf.files c.args.shelf.now) c.args.journal.now c.requires.there, c.requires.there, omega arith)

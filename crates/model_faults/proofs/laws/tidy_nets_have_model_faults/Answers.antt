@@ -2,14 +2,15 @@ use Rattle.std.specs.Prelude.{List}
 use Rattle.std.proofs.Common.{ℕ, ◌<◌, subst}
 use Rattle.std.proofs.lemmas.Option.{slice_get_within}
 use Rattle.rm_model.specs.declared.parts.Cover.{Cover}
-use Rattle.cover_decompose.proofs.Public.{In, in_at}
-use Rattle.graph_to_model.proofs.Public.{IsWritable, lean, place_below}
+use Rattle.graph_to_model.proofs.Public.{IsWritable, lean}
 use Rattle.model_faults.proofs.Gates.{gates_same, gate_pins, gate_covers_are}
 use Rattle.gate_net.specs.Faults.{gates_of}
 use Rattle.model_faults.proofs.Listed.{pin_listed, list_once}
 use Rattle.model_faults.proofs.FaultLaws.{vectors_give}
 use Rattle.model_faults.proofs.Same.{to_model, to_net}
 use Rattle.model_faults.proofs.laws.tidy_nets_have_model_faults.Goals as goal
+use Rattle.rm_base.proofs.Public.{in_at, stands_below}
+use Rattle.rm_base.specs.Members.{In}
 
 pub returns-clause-faults : goal.returns-clause-faults
 returns-clause-faults c = λ net m formed tidy well fit few.
@@ -25,7 +26,7 @@ returns-clause-faults c = λ net m formed tidy well fit few.
             to_net = λ p b a vector gives. to_net m net w x d i g p b a vector gives;
           };
       listed = λ k p b d f h.
-          let x = place_below (gates_of net) k (subst (λ (n : ℕ). k < n) (gates_same m net w).0 (slice_get_within _ k d f)) in
+          let x = stands_below (gates_of net) k (subst (λ (n : ℕ). k < n) (gates_same m net w).0 (slice_get_within _ k d f)) in
           let g = (gates_same m net w).1 k x.0 d x.1 f in
           (x.0, (x.1, pin_listed net x.0 p b (subst (λ (n : ℕ). p < n) (gate_pins m net w x.0 d g) h)));
     }

@@ -1,20 +1,15 @@
-use Rattle.std.proofs.Common.{◌≤◌, ◌<◌, Result, Ok, Err, refl, arith}
-use Rattle.std.specs.Prelude.{OnErr}
+use Rattle.std.proofs.Common.{◌≤◌, ◌<◌, refl, arith}
 use Rattle.gate_net.specs.Net.{wire_count}
 use Rattle.gate_graph.specs.Circuit.{net_of}
 use Rattle.journal_text.specs.Runs.{IsStopped}
 use Rattle.optimisation.proofs.RoundLaws.{closed_stopped, further_run, nothing_closed, stopped_then}
 use Rattle.optimisation.proofs.rounds.go_rounds.Goals as goal
-
-on_err : {V E : Type 0} (r : Result V E) (P : Type 0) → P → OnErr r P
-on_err (Ok x) P h = tt
-on_err (Err e) P h = h
+use Rattle.rm_base.proofs.Public.{on_err}
 
 pub returns-in_err-closed-clause-stopped : goal.returns-in_err-closed-clause-stopped
 returns-in_err-closed-clause-stopped g c =
     let inv = c.loop-closed.invariant.recorded in
-    on_err c.from_residual-in_err-closed.result _
-    (stopped_then c.runs_join.ensures c.texts_append.ensures (net_of c.args.graph) (net_of c.loop-closed.round.graph) inv.records (g.S.Shelf.files c.args.shelf.now) (g.S.Shelf.files c.loop-closed.shelf) (g.S.Shelf.files c.close_faults.new.shelf) c.args.journal.now inv.run.accepted inv.written c.in_err-closed.ensures.stopped)
+    on_err c.from_residual-in_err-closed.result (stopped_then c.runs_join.ensures c.texts_append.ensures (net_of c.args.graph) (net_of c.loop-closed.round.graph) inv.records (g.S.Shelf.files c.args.shelf.now) (g.S.Shelf.files c.loop-closed.shelf) (g.S.Shelf.files c.close_faults.new.shelf) c.args.journal.now inv.run.accepted inv.written c.in_err-closed.ensures.stopped)
 
 pub returns-then-report-eq0-clause-ended : goal.returns-then-report-eq0-clause-ended
 returns-then-report-eq0-clause-ended g c = record {
@@ -27,8 +22,7 @@ returns-then-report-eq0-clause-ended g c = record {
 
 pub returns-in_err-round-2-clause-stopped : goal.returns-in_err-round-2-clause-stopped
 returns-in_err-round-2-clause-stopped g c =
-    on_err c.from_residual-in_err-round-2.result _
-    (closed_stopped c.runs_join.ensures c.texts_append.ensures (net_of c.args.graph) c.args.settings.now c.loop-closed.round c.in_ok-closed.closed c.in_ok-closed.report (g.S.Shelf.files c.args.shelf.now) (g.S.Shelf.files c.loop-closed.shelf) (g.S.Shelf.files c.close_faults.new.shelf) (g.S.Shelf.files c.further_round.new.shelf) c.args.journal.now
+    on_err c.from_residual-in_err-round-2.result (closed_stopped c.runs_join.ensures c.texts_append.ensures (net_of c.args.graph) c.args.settings.now c.loop-closed.round c.in_ok-closed.closed c.in_ok-closed.report (g.S.Shelf.files c.args.shelf.now) (g.S.Shelf.files c.loop-closed.shelf) (g.S.Shelf.files c.close_faults.new.shelf) (g.S.Shelf.files c.further_round.new.shelf) c.args.journal.now
     c.loop-closed.invariant.recorded c.in_ok-closed.ensures.closed c.in_err-round-2.ensures.stopped)
 
 pub loop-closed-preserved : goal.loop-closed-preserved

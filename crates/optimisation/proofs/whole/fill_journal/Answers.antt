@@ -1,12 +1,8 @@
-use Rattle.std.proofs.Common.{Result, Ok, Err, inr}
-use Rattle.std.specs.Prelude.{OnErr}
+use Rattle.std.proofs.Common.{inr}
 use Rattle.gate_graph.specs.Circuit.{net_of}
 use Rattle.optimisation.proofs.FilledLaws.{filled, left_in_end, left_in_verdicts}
 use Rattle.optimisation.proofs.whole.fill_journal.Goals as goal
-
-on_err : {V E : Type 0} (r : Result V E) (P : Type 0) → P → OnErr r P
-on_err (Ok x) P h = tt
-on_err (Err e) P h = h
+use Rattle.rm_base.proofs.Public.{on_err}
 
 pub write_verdicts-requires-clause-recordable : goal.write_verdicts-requires-clause-recordable
 write_verdicts-requires-clause-recordable g c =
@@ -17,13 +13,11 @@ write_verdicts-requires-clause-recordable g c =
 
 pub returns-in_err-write_verdicts-clause-stopped : goal.returns-in_err-write_verdicts-clause-stopped
 returns-in_err-write_verdicts-clause-stopped g c =
-    on_err c.from_residual-in_err-write_verdicts.result _
-    (inr (left_in_verdicts c.texts_append.ensures (net_of c.args.graph) c.args.settings.now c.in_ok-rounds.rounds (g.S.Shelf.files c.args.shelf.now) (g.S.Shelf.files c.go_rounds.new.shelf) (g.S.Shelf.files c.write_verdicts.new.shelf) c.args.journal.now c.in_ok-rounds.ensures.ended c.in_err-write_verdicts.ensures.stopped))
+    on_err c.from_residual-in_err-write_verdicts.result (inr (left_in_verdicts c.texts_append.ensures (net_of c.args.graph) c.args.settings.now c.in_ok-rounds.rounds (g.S.Shelf.files c.args.shelf.now) (g.S.Shelf.files c.go_rounds.new.shelf) (g.S.Shelf.files c.write_verdicts.new.shelf) c.args.journal.now c.in_ok-rounds.ensures.ended c.in_err-write_verdicts.ensures.stopped))
 
 pub returns-in_err-append_entry-clause-stopped : goal.returns-in_err-append_entry-clause-stopped
 returns-in_err-append_entry-clause-stopped g c =
-    on_err c.from_residual-in_err-append_entry.result _
-    (inr (left_in_end c.texts_append.ensures (net_of c.args.graph) c.args.settings.now c.in_ok-rounds.rounds (g.S.Shelf.files c.args.shelf.now) (g.S.Shelf.files c.go_rounds.new.shelf) (g.S.Shelf.files c.write_verdicts.new.shelf) (g.S.Shelf.files c.append_entry.new.shelf) c.args.journal.now
+    on_err c.from_residual-in_err-append_entry.result (inr (left_in_end c.texts_append.ensures (net_of c.args.graph) c.args.settings.now c.in_ok-rounds.rounds (g.S.Shelf.files c.args.shelf.now) (g.S.Shelf.files c.go_rounds.new.shelf) (g.S.Shelf.files c.write_verdicts.new.shelf) (g.S.Shelf.files c.append_entry.new.shelf) c.args.journal.now
     c.in_ok-rounds.ensures.ended c.in_ok-write_verdicts.ensures.written c.in_err-append_entry.ensures.stopped))
 
 pub returns-clause-filled : goal.returns-clause-filled

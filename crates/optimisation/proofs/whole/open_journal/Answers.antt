@@ -1,20 +1,16 @@
-use Rattle.std.proofs.Common.{[], Result, Ok, Err, refl}
-use Rattle.std.specs.Prelude.{OnErr}
+use Rattle.std.proofs.Common.{[], refl}
 use Rattle.journal_text.specs.Text.{entry_text}
 use Rattle.journal_text.specs.declared.record.Entry.TheVariants.{Header}
 use Rattle.optimisation.proofs.Texts.{created_header, put_then, put_there, stopped_header}
 use Rattle.optimisation.proofs.whole.open_journal.Goals as goal
-
-on_err : {V E : Type 0} (r : Result V E) (P : Type 0) → P → OnErr r P
-on_err (Ok x) P h = tt
-on_err (Err e) P h = h
+use Rattle.rm_base.proofs.Public.{on_err}
 
 pub append_entry-requires-clause-there : goal.append_entry-requires-clause-there
 append_entry-requires-clause-there g c = put_there c.args.journal.now [] (g.S.Shelf.files c.args.shelf.now) (g.S.Shelf.files c.create.new.self) c.in_ok-create.ensures.files
 
 pub returns-in_err-append_entry-clause-begun : goal.returns-in_err-append_entry-clause-begun
 returns-in_err-append_entry-clause-begun g c =
-    on_err c.from_residual-in_err-append_entry.result _ (stopped_header c.in_err-append_entry.field-0.0 c.args.journal.now (entry_text (Header c.args.budget)) (g.S.Shelf.files c.args.shelf.now) (g.S.Shelf.files c.create.new.self) (g.S.Shelf.files c.append_entry.new.shelf) c.in_ok-create.ensures.files c.in_err-append_entry.ensures.files)
+    on_err c.from_residual-in_err-append_entry.result (stopped_header c.in_err-append_entry.field-0.0 c.args.journal.now (entry_text (Header c.args.budget)) (g.S.Shelf.files c.args.shelf.now) (g.S.Shelf.files c.create.new.self) (g.S.Shelf.files c.append_entry.new.shelf) c.in_ok-create.ensures.files c.in_err-append_entry.ensures.files)
 
 pub returns-clause-opened : goal.returns-clause-opened
 returns-clause-opened g c = put_then c.args.journal.now [] (entry_text (Header c.args.budget)) (g.S.Shelf.files c.args.shelf.now) (g.S.Shelf.files c.create.new.self) (g.S.Shelf.files c.append_entry.new.shelf) c.in_ok-create.ensures.files c.in_ok-append_entry.ensures.files

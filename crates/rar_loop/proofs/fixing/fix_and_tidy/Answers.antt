@@ -1,5 +1,5 @@
 use Rattle.std.proofs.Common.{◌+◌, ◌≤◌, ◌∙◌, ap, subst, List, [], ◌∷◌, ◌++◌, append_assoc, arith}
-use Rattle.wire_edit.proofs.Public.{fix_applies}
+use Rattle.wire_edit.proofs.Public.{fix_applies, fix_falls}
 use Rattle.wire_edit.specs.declared.steps.Step.TheVariants.{Fix}
 use Rattle.journal_text.specs.declared.record.Record.{Record}
 use Rattle.journal_text.specs.declared.record.Record.TheVariants as record_of
@@ -9,7 +9,6 @@ use Rattle.wire_edit.specs.Work.{work}
 use Rattle.wire_edit.specs.Tidying.{TidiesTo}
 use Rattle.rar_loop.specs.Changing.{HasNoted, NotesOn}
 use Rattle.rar_loop.specs.Going.{Goes}
-use Rattle.rar_loop.proofs.Falling.{fix_falls}
 use Rattle.rar_loop.proofs.GoingOn.{goes_then, fixed_step, fix_refused}
 use Rattle.rar_loop.proofs.fixing.fix_and_tidy.Goals as goal
 

@@ -1,16 +1,16 @@
 use Rattle.std.proofs.Common.{Bool, true, false}
 use Rattle.gate_net.specs.Net.{Net, drivers_of}
 use Rattle.gate_graph.specs.Circuit.{net_of}
-use Rattle.wire_edit.proofs.Public.{got}
 use Rattle.refutation.specs.Detected.{HasOpenSet}
 use Rattle.rar_loop.proofs.Looking.{both_values, looked_none}
 use Rattle.rar_loop.proofs.refuting.refuted_pin.Goals as goal
+use Rattle.rm_base.proofs.Public.{stands_below}
 
 pub invariant_of-question : goal.invariant_of-question
-invariant_of-question c = record { pin = got (drivers_of (net_of c.args.graph.now) c.args.gate.0) c.args.position c.requires.pin }
+invariant_of-question c = record { pin = stands_below (drivers_of (net_of c.args.graph.now) c.args.gate.0) c.args.position c.requires.pin }
 
 pub invariant_of-question-2 : goal.invariant_of-question-2
-invariant_of-question-2 c = record { pin = got (drivers_of (net_of c.args.graph.now) c.args.gate.0) c.args.position c.requires.pin }
+invariant_of-question-2 c = record { pin = stands_below (drivers_of (net_of c.args.graph.now) c.args.gate.0) c.args.position c.requires.pin }
 
 pub returns-clause-looked : goal.returns-clause-looked
 returns-clause-looked c =

@@ -11,7 +11,6 @@ use Rattle.rar_loop.proofs.Sizing.{HasSize, held_back}
 use Rattle.gate_graph.specs.Circuit.{Circuit, net_of}
 use Rattle.wire_edit.specs.Tried.{Tried}
 use Rattle.fault_sim.specs.Following.{DiffersAmong}
-use Rattle.rar_loop.specs.Changing.{numbers_of}
 use Rattle.candidate_wires.specs.Gains.{with_candidate}
 use Rattle.recursive_learning.specs.Serving.{IsServing}
 use Rattle.rar_loop.specs.Kept.{AreFor}
@@ -21,6 +20,7 @@ use Rattle.rar_loop.proofs.Opens.{no_fewer_fails}
 use Rattle.rar_loop.proofs.Readying.{ready_first}
 use Rattle.rar_loop.proofs.Replacing.{better_of, lent_ahead, not_replaced_fails, some_wire}
 use Rattle.rar_loop.proofs.trying.try_pair.Goals as goal
+use Rattle.rm_base.specs.Numbers.{numbers_of}
 
 pub replace-requires-clause-ready : goal.replace-requires-clause-ready
 replace-requires-clause-ready c =

@@ -8,9 +8,10 @@ use Rattle.candidate_wires.specs.Gains.{Gains}
 use Rattle.candidate_wires.specs.Pairs.{paired}
 use Rattle.recursive_learning.specs.Serving.{IsServing}
 use Rattle.rar_loop.specs.Trying.{MayTry, IsAttempt, IsAhead, IsBack}
-use Rattle.rar_loop.proofs.Pairing.{index_is, candidates_may, tried_more, tried_none, back_none, back_then, ahead_back}
+use Rattle.rar_loop.proofs.Pairing.{candidates_may, tried_more, tried_none, back_none, back_then, ahead_back}
 use Rattle.rar_loop.proofs.Spacing.{ready_still}
 use Rattle.rar_loop.proofs.walking.walk_target.Goals as goal
+use Rattle.rm_base.proofs.Public.{read_stands}
 
 pub loop-place-init : goal.loop-place-init
 loop-place-init c =
@@ -26,7 +27,7 @@ pub try_unless_detected-requires-clause-pair : goal.try_unless_detected-requires
 try_unless_detected-requires-clause-pair c =
     let inv = c.loop-place.invariant in
     let lt : c.loop-place.place < length c.in_ok-found.found.items = omega (arith, c.loop-place-test.true, c.len-place-end.ensures, c.in_ok-found.found.ok.0) in
-    let at : slice_get c.in_ok-found.found.items c.loop-place.place ≡ Some c.index.result.now = index_is c.in_ok-found.found.items c.loop-place.place c.index.result.now lt c.index.ensures in
+    let at : slice_get c.in_ok-found.found.items c.loop-place.place ≡ Some c.index.result.now = read_stands c.in_ok-found.found.items c.loop-place.place c.index.result.now lt c.index.ensures in
     subst (λ (n : Net). MayTry n (paired c.args.target c.index.result.now)) (sym inv.stays.same.net)
     (record { pin = c.requires.pin; wire = candidates_may (net_of c.args.space.now.trial.graph) c.args.target c.in_ok-found.found.items inv.tried.candidates c.loop-place.place c.index.result.now at })
 
@@ -38,7 +39,7 @@ returns-in-Gained-clause-tour c =
     let inv = c.loop-place.invariant in
     let pair : Pair = paired c.args.target c.index.result.now in
     let lt : c.loop-place.place < length c.in_ok-found.found.items = omega (arith, c.loop-place-test.true, c.len-place-end.ensures, c.in_ok-found.found.ok.0) in
-    let at : slice_get c.in_ok-found.found.items c.loop-place.place ≡ Some c.index.result.now = index_is c.in_ok-found.found.items c.loop-place.place c.index.result.now lt c.index.ensures in
+    let at : slice_get c.in_ok-found.found.items c.loop-place.place ≡ Some c.index.result.now = read_stands c.in_ok-found.found.items c.loop-place.place c.index.result.now lt c.index.ensures in
     let gained : IsAhead c.loop-place.space.trial pair c.args.depth c.in-Gained.records.items c.try_unless_detected.new.space.trial = subst (IsAttempt c.loop-place.space.trial pair c.args.depth c.try_unless_detected.new.space.trial) c.in-Gained.is c.in_ok-try_unless_detected.ensures.attempt in
     (c.in_ok-found.found.items, (c.loop-place.place, (c.index.result.now, (inv.tried, (at, (omega (arith, inv.sum, c.if-left-eq0.false), ahead_back c.args.space.now.trial c.loop-place.space.trial c.try_unless_detected.new.space.trial pair c.args.depth c.in-Gained.records.items inv.stays gained))))))
 
@@ -47,7 +48,7 @@ loop-place-preserved c =
     let inv = c.loop-place.invariant in
     let pair : Pair = paired c.args.target c.index.result.now in
     let lt : c.loop-place.place < length c.in_ok-found.found.items = omega (arith, c.loop-place-test.true, c.len-place-end.ensures, c.in_ok-found.found.ok.0) in
-    let at : slice_get c.in_ok-found.found.items c.loop-place.place ≡ Some c.index.result.now = index_is c.in_ok-found.found.items c.loop-place.place c.index.result.now lt c.index.ensures in
+    let at : slice_get c.in_ok-found.found.items c.loop-place.place ≡ Some c.index.result.now = read_stands c.in_ok-found.found.items c.loop-place.place c.index.result.now lt c.index.ensures in
     let failed : IsBack c.loop-place.space.trial c.try_unless_detected.new.space.trial × (Gains (net_of c.loop-place.space.trial.graph) pair → ⊥) = subst (IsAttempt c.loop-place.space.trial pair c.args.depth c.try_unless_detected.new.space.trial) c.in-Failed.is c.in_ok-try_unless_detected.ensures.attempt in
     record {
       stays = back_then c.args.space.now.trial c.loop-place.space.trial c.try_unless_detected.new.space.trial inv.stays failed.0;
@@ -60,7 +61,7 @@ pub returns-then-left-eq0-clause-tour : goal.returns-then-left-eq0-clause-tour
 returns-then-left-eq0-clause-tour c =
     let inv = c.loop-place.invariant in
     let lt : c.loop-place.place < length c.in_ok-found.found.items = omega (arith, c.loop-place-test.true, c.len-place-end.ensures, c.in_ok-found.found.ok.0) in
-    let at : slice_get c.in_ok-found.found.items c.loop-place.place ≡ Some c.index.result.now = index_is c.in_ok-found.found.items c.loop-place.place c.index.result.now lt c.index.ensures in
+    let at : slice_get c.in_ok-found.found.items c.loop-place.place ≡ Some c.index.result.now = read_stands c.in_ok-found.found.items c.loop-place.place c.index.result.now lt c.index.ensures in
     (inv.stays, (c.in_ok-found.found.items, (c.loop-place.place, (inv.tried, (refl, (at, (c.if-left-eq0.true, omega (arith, inv.sum, c.if-left-eq0.true))))))))
 
 pub try_unless_detected-requires-clause-ready : goal.try_unless_detected-requires-clause-ready

@@ -7,9 +7,10 @@ use Rattle.gate_graph.specs.Circuit.{Circuit, net_of}
 use Rattle.candidate_wires.specs.Pairs.{paired, targets_of}
 use Rattle.rar_loop.specs.declared.walking.Tour.TheVariants.{Done, Spent, Gained}
 use Rattle.rar_loop.specs.Walking.{IsTargetTour}
-use Rattle.rar_loop.proofs.Pairing.{WalkedTo, tour_back, index_is, walked_none, walked_more, walked_to, walked_all, targets_pin, back_none}
+use Rattle.rar_loop.proofs.Pairing.{WalkedTo, tour_back, walked_none, walked_more, walked_to, walked_all, targets_pin, back_none}
 use Rattle.rar_loop.proofs.Spacing.{ready_ahead, ready_still}
 use Rattle.rar_loop.proofs.walking.walk_targets.Goals as goal
+use Rattle.rm_base.proofs.Public.{read_stands}
 
 pub loop-place-init : goal.loop-place-init
 loop-place-init c =
@@ -21,7 +22,7 @@ walk_target-requires-clause-pin c =
     let net : Net = net_of c.args.space.now.trial.graph in
     let t : Fault = c.index-target.result.now in
     let lt : c.loop-place.place < length c.in_ok-faults.faults.items = omega (arith, c.loop-place-test.true, c.len-place-end.ensures, c.in_ok-faults.faults.ok.0) in
-    let at : slice_get c.in_ok-faults.faults.items c.loop-place.place ≡ Some t = index_is c.in_ok-faults.faults.items c.loop-place.place t lt c.index-target.ensures in
+    let at : slice_get c.in_ok-faults.faults.items c.loop-place.place ≡ Some t = read_stands c.in_ok-faults.faults.items c.loop-place.place t lt c.index-target.ensures in
     let are : c.in_ok-faults.faults.items ≡ targets_of net = c.in_ok-faults.ensures ∙ ap (λ (v : Circuit). targets_of (net_of v)) c.graph.ensures in
     subst (λ (n : Net). HasPin n t) (sym c.loop-place.invariant.stays.same.net) (targets_pin net c.loop-place.place t (subst (λ (fs : List Fault). slice_get fs c.loop-place.place ≡ Some t) are at))
 
@@ -34,7 +35,7 @@ returns-in-Spent c =
     let t : Fault = c.index-target.result.now in
     let inv = c.loop-place.invariant in
     let lt : c.loop-place.place < length c.in_ok-faults.faults.items = omega (arith, c.loop-place-test.true, c.len-place-end.ensures, c.in_ok-faults.faults.ok.0) in
-    let at : slice_get c.in_ok-faults.faults.items c.loop-place.place ≡ Some t = index_is c.in_ok-faults.faults.items c.loop-place.place t lt c.index-target.ensures in
+    let at : slice_get c.in_ok-faults.faults.items c.loop-place.place ≡ Some t = read_stands c.in_ok-faults.faults.items c.loop-place.place t lt c.index-target.ensures in
     let are : c.in_ok-faults.faults.items ≡ targets_of net = c.in_ok-faults.ensures ∙ ap (λ (v : Circuit). targets_of (net_of v)) c.graph.ensures in
     let tw : IsTargetTour c.loop-place.space.trial t c.args.depth c.loop-place.left c.walk_target.new.left c.walk_target.new.space.trial (Spent c.in-Spent.at) = subst (IsTargetTour c.loop-place.space.trial t c.args.depth c.loop-place.left c.walk_target.new.left c.walk_target.new.space.trial) c.in-Spent.is c.in_ok-walk_target.ensures.tour in
     let here : IsTargetTour c.args.space.now.trial t c.args.depth c.loop-place.left c.walk_target.new.left c.walk_target.new.space.trial (Spent c.in-Spent.at) = tour_back c.args.space.now.trial c.loop-place.space.trial c.walk_target.new.space.trial t c.args.depth c.loop-place.left c.walk_target.new.left (Spent c.in-Spent.at) inv.stays tw in
@@ -51,7 +52,7 @@ returns-in-Gained c =
     let t : Fault = c.index-target.result.now in
     let inv = c.loop-place.invariant in
     let lt : c.loop-place.place < length c.in_ok-faults.faults.items = omega (arith, c.loop-place-test.true, c.len-place-end.ensures, c.in_ok-faults.faults.ok.0) in
-    let at : slice_get c.in_ok-faults.faults.items c.loop-place.place ≡ Some t = index_is c.in_ok-faults.faults.items c.loop-place.place t lt c.index-target.ensures in
+    let at : slice_get c.in_ok-faults.faults.items c.loop-place.place ≡ Some t = read_stands c.in_ok-faults.faults.items c.loop-place.place t lt c.index-target.ensures in
     let are : c.in_ok-faults.faults.items ≡ targets_of net = c.in_ok-faults.ensures ∙ ap (λ (v : Circuit). targets_of (net_of v)) c.graph.ensures in
     let tw : IsTargetTour c.loop-place.space.trial t c.args.depth c.loop-place.left c.walk_target.new.left c.walk_target.new.space.trial (Gained c.in-Gained.records) = subst (IsTargetTour c.loop-place.space.trial t c.args.depth c.loop-place.left c.walk_target.new.left c.walk_target.new.space.trial) c.in-Gained.is c.in_ok-walk_target.ensures.tour in
     let here : IsTargetTour c.args.space.now.trial t c.args.depth c.loop-place.left c.walk_target.new.left c.walk_target.new.space.trial (Gained c.in-Gained.records) = tour_back c.args.space.now.trial c.loop-place.space.trial c.walk_target.new.space.trial t c.args.depth c.loop-place.left c.walk_target.new.left (Gained c.in-Gained.records) inv.stays tw in
@@ -68,7 +69,7 @@ loop-place-preserved c =
     let t : Fault = c.index-target.result.now in
     let inv = c.loop-place.invariant in
     let lt : c.loop-place.place < length c.in_ok-faults.faults.items = omega (arith, c.loop-place-test.true, c.len-place-end.ensures, c.in_ok-faults.faults.ok.0) in
-    let at : slice_get c.in_ok-faults.faults.items c.loop-place.place ≡ Some t = index_is c.in_ok-faults.faults.items c.loop-place.place t lt c.index-target.ensures in
+    let at : slice_get c.in_ok-faults.faults.items c.loop-place.place ≡ Some t = read_stands c.in_ok-faults.faults.items c.loop-place.place t lt c.index-target.ensures in
     let tw : IsTargetTour c.loop-place.space.trial t c.args.depth c.loop-place.left c.walk_target.new.left c.walk_target.new.space.trial Done = subst (IsTargetTour c.loop-place.space.trial t c.args.depth c.loop-place.left c.walk_target.new.left c.walk_target.new.space.trial) c.in-Done.is c.in_ok-walk_target.ensures.tour in
     let here : IsTargetTour c.args.space.now.trial t c.args.depth c.loop-place.left c.walk_target.new.left c.walk_target.new.space.trial Done = tour_back c.args.space.now.trial c.loop-place.space.trial c.walk_target.new.space.trial t c.args.depth c.loop-place.left c.walk_target.new.left Done inv.stays tw in
     record {

@@ -7,9 +7,10 @@ use Rattle.gate_net.specs.Net.{Reads, drivers_of}
 use Rattle.refutation.specs.FactSets.{held_by}
 use Rattle.refutation.specs.Facts.{known_good}
 use Rattle.refutation.proofs.Public.{yielded_at, yielded_more}
-use Rattle.recursive_learning.proofs.OpenDrivers.{OpenTo, all_yielded, known_skip, listed_map, not_some, open_all, open_none, open_push, open_skip, too_many}
+use Rattle.recursive_learning.proofs.OpenDrivers.{OpenTo, all_yielded, known_skip, listed_map, open_all, open_none, open_push, open_skip, too_many}
 use Rattle.rm_base.specs.declared.numbers.NodeId.{NodeId}
 use Rattle.recursive_learning.proofs.gates.open_drivers.Goals as goal
+use Rattle.rm_base.proofs.Public.{not_some}
 
 pub known-requires : goal.known-requires
 known-requires c =

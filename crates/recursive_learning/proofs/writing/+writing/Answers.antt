@@ -1,9 +1,9 @@
 use Rattle.std.proofs.Common.{Bool, List, None, Some, [], ap, arith, false, get_or, length, map, not, refl, rules, subst, suc, sym, ◌++◌, ◌-◌, ◌<◌, ◌∙◌, ◌∷◌, ◌≡◌, ◌≢◌, ℕ}
 use Rattle.std.proofs.lemmas.List.{length-map}
-use Rattle.std.proofs.lemmas.Option.{slice_get-get_or}
+use Rattle.std.proofs.lemmas.Option.{slice_get-get_or, slice_get_within}
 use Rattle.std.specs.Prelude.{slice_get}
+use Rattle.std.proofs.Math.Bool.{not-not}
 use Rattle.gate_graph.specs.Circuit.{net_of}
-use Rattle.gate_net.proofs.Public.{not_not}
 use Rattle.refutation.proofs.Public.{driver_live, known_held}
 use Rattle.implications.specs.Bases.{IsListed}
 use Rattle.implications.specs.Trail.{LeadsBack}
@@ -11,7 +11,7 @@ use Rattle.recursive_learning.proofs.Gains.{keeps_join}
 use Rattle.recursive_learning.proofs.Holdings.{goods_keep, goods_named}
 use Rattle.recursive_learning.proofs.Learns.{clashes_stay}
 use Rattle.recursive_learning.proofs.Rounds.{taken_back}
-use Rattle.recursive_learning.proofs.Splits.{beq_other, lesson_cases, lesson_opposite, may_split, no_driver, opposite_cases, place_less, split_told, told_ends}
+use Rattle.recursive_learning.proofs.Splits.{beq_other, lesson_cases, lesson_opposite, may_split, no_driver, opposite_cases, split_told, told_ends}
 use Rattle.recursive_learning.proofs.Vecs.{driver_at}
 use Rattle.recursive_learning.proofs.Watches.{blank_leaves, leaves_join, leaves_none, room_leaves}
 use Rattle.recursive_learning.proofs.Writes.{cases_more, going_ends, going_more, goods_more, pass_all, pass_fewer, pass_more, pass_none}
@@ -261,7 +261,7 @@ write_split-returns-clause-told t c =
       | write_split-else-not-branch w ↦ rw w.tree-is (subst (λ (b : Bool). IsTold (net_of c.args.question.now.graph.now) c.args.question.now.fault (with_fact (held_by c.args.facts.now) c.args.good.node.0 (Good (not c.args.good.value))) (c.args.tree.now ++ Split c.args.good.node (not c.args.good.value) ∷ []) b (held_by c.tell.new.facts) c.tell.new.tree) w.if-not-branch.false told)
     ] in
     split_told (net_of c.args.question.now.graph.now) c.args.question.now.fault (held_by c.args.facts.now) c.args.good.node (not c.args.good.value) c.args.tree.now c.if-not-branch.tree c.tell-2.new.tree c.in_ok-ended.ended (held_by c.tell-2.new.facts) (may_split (net_of c.args.question.now.graph.now) c.args.question.now.fault (held_by c.args.facts.now) c.args.good.node.0 c.requires.settled c.requires.node c.requires.unknown) ends
-    (subst (λ (v : Bool). IsTold (net_of c.args.question.now.graph.now) c.args.question.now.fault (with_fact (held_by c.args.facts.now) c.args.good.node.0 (Good v)) c.if-not-branch.tree c.in_ok-ended.ended (held_by c.tell-2.new.facts) c.tell-2.new.tree) (sym (not_not c.args.good.value))
+    (subst (λ (v : Bool). IsTold (net_of c.args.question.now.graph.now) c.args.question.now.fault (with_fact (held_by c.args.facts.now) c.args.good.node.0 (Good v)) c.if-not-branch.tree c.in_ok-ended.ended (held_by c.tell-2.new.facts) c.tell-2.new.tree) (sym (not-not c.args.good.value))
     (subst (λ (f : List NodeFacts). IsTold (net_of c.args.question.now.graph.now) c.args.question.now.fault (with_fact (held_by f) c.args.good.node.0 (Good c.args.good.value)) c.if-not-branch.tree c.in_ok-ended.ended (held_by c.tell-2.new.facts) c.tell-2.new.tree) taken.0 c.in_ok-ended.ensures.told))
 
 pub write_branches-take_back-requires : goal.write_branches-take_back-requires
@@ -383,7 +383,7 @@ write_cases-returns-then-branch-clause-keeps t c =
 pub write_cases-returns-clause-ends : goal.write_cases-returns-clause-ends
 write_cases-returns-clause-ends t c =
     absurd (no_driver (net_of c.args.question.now.graph.now) c.args.question.now.fault (held_by c.args.facts.now) (held_by c.loop-driver.facts) c.args.choice.now.value (map (λ n. n.0) c.args.choice.now.drivers.now) c.requires.cases.cases c.loop-driver.invariant.writing.going.keeps.more c.loop-driver.invariant.writing.going.settled
-    (λ k d at. c.loop-driver.invariant.writing.others k d (let less : k < length (map (λ n. n.0) c.args.choice.now.drivers.now) = place_less (map (λ n. n.0) c.args.choice.now.drivers.now) k d at in let same : length (map (λ n. n.0) c.args.choice.now.drivers.now) ≡ length c.args.choice.now.drivers.now = length-map c.args.choice.now.drivers.now (λ n. n.0) in omega arith) at))
+    (λ k d at. c.loop-driver.invariant.writing.others k d (let less : k < length (map (λ n. n.0) c.args.choice.now.drivers.now) = slice_get_within (map (λ n. n.0) c.args.choice.now.drivers.now) k d at in let same : length (map (λ n. n.0) c.args.choice.now.drivers.now) ≡ length c.args.choice.now.drivers.now = length-map c.args.choice.now.drivers.now (λ n. n.0) in omega arith) at))
 
 pub write_split-returns-clause-leaves : goal.write_split-returns-clause-leaves
 write_split-returns-clause-leaves t c = elim c.if-not-branch.branch [

@@ -1,9 +1,9 @@
 use Rattle.std.proofs.Common.{◌≡◌, ℕ, List, map, subst, Vec, Global, IfOk}
 use Rattle.std.specs.List.{filter_map}
-use Rattle.rm_model.specs.Words.{Word}
 use Rattle.rm_model.specs.Numbers.{place_of}
 use Rattle.rm_model.proofs.DriverLemmas.{all_drivers-by_table}
 use Rattle.rm_model.proofs.drivers.drivers.Goals as goal
+use Rattle.rm_base.specs.Words.{Word}
 
 pub returns : goal.returns
 returns c =

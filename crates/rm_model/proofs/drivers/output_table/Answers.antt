@@ -1,9 +1,9 @@
 use Rattle.std.proofs.Common.{ap, ◌∙◌, List, refl}
 use Rattle.std.proofs.lemmas.Option.{slice_get_read}
-use Rattle.rm_model.specs.Words.{Word}
 use Rattle.rm_model.specs.Value.{is_among}
 use Rattle.rm_model.proofs.DriverLemmas.{new-output}
 use Rattle.rm_model.proofs.drivers.output_table.Goals as goal
+use Rattle.rm_base.specs.Words.{Word}
 
 pub add-requires : goal.add-requires
 add-requires c =

@@ -1,9 +1,9 @@
 use Rattle.std.proofs.Common.{◌≡◌, ◌++◌, ◌∷◌, [], ◌∙◌, ap, sym, subst, List, true, false, take}
 use Rattle.std.specs.Prelude.{All}
-use Rattle.rm_model.specs.Words.{Word}
 use Rattle.rm_model.specs.Value.{is_among}
 use Rattle.rm_model.proofs.EvaluationLemmas.{step-new, step-inputs, step-rows, step-names, step-value, outputs_at}
 use Rattle.rm_model.proofs.evaluation.add_covers.Goals as goal
+use Rattle.rm_base.specs.Words.{Word}
 
 pub add_cover-requires : goal.add_cover-requires
 add_cover-requires c =

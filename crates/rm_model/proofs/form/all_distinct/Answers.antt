@@ -1,9 +1,9 @@
 use Rattle.std.proofs.Common.{◌∷◌, [], ◌++◌, ◌∙◌, ap, sym, refl, List, take}
 use Rattle.std.proofs.lemmas.Option.{slice_get_read}
-use Rattle.rm_model.specs.Words.{Word}
 use Rattle.rm_model.specs.Value.{is_among}
 use Rattle.rm_model.proofs.FormLemmas.{distinct-more, repeated, take-next}
 use Rattle.rm_model.proofs.form.all_distinct.Goals as goal
+use Rattle.rm_base.specs.Words.{Word}
 
 pub returns-then-has : goal.returns-then-has
 returns-then-has c = sym (repeated c.args.names.now c.loop-name.name-index c.name-item.result (slice_get_read c.args.names.now _ c.loop-name.name-index c.name-item.result refl c.loop-name-test.true c.name-item.is)

@@ -1,9 +1,9 @@
 use Rattle.std.proofs.Common.{List, ap, refl, ◌∙◌}
 use Rattle.std.proofs.lemmas.Option.{slice_get_read}
-use Rattle.rm_model.specs.Words.{Word}
 use Rattle.rm_model.specs.Value.{is_among}
 use Rattle.rm_model.proofs.NumberingLemmas.{next-output-is-new}
 use Rattle.rm_model.proofs.numbering.add_outputs.Goals as goal
+use Rattle.rm_base.specs.Words.{Word}
 
 pub add-requires : goal.add-requires
 add-requires c =

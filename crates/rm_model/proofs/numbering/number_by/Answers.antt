@@ -2,10 +2,10 @@ use Rattle.std.proofs.Common.{Global, List, Some, Vec, ap, map, ℕ, ◌∙◌}
 use Rattle.std.specs.List.{list_all}
 use Rattle.rm_model.specs.Numbers.{place_of}
 use Rattle.rm_model.specs.Value.{is_among, observed_names}
-use Rattle.rm_model.specs.Words.{Word}
 use Rattle.rm_model.specs.declared.parts.Cover.{Cover}
 use Rattle.rm_model.proofs.NumberingLemmas.{inputs-driven, map-map, observed-all-driven}
 use Rattle.rm_model.proofs.numbering.number_by.Goals as goal
+use Rattle.rm_base.specs.Words.{Word}
 
 pub cover_inputs-requires-clause-there : goal.cover_inputs-requires-clause-there
 cover_inputs-requires-clause-there c =

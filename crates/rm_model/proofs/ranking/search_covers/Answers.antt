@@ -4,16 +4,14 @@ use Rattle.rm_model.specs.Numbers.{rank_over, drivers_of, IsFixed}
 use Rattle.rm_model.specs.declared.rank_search.Search.{Search}
 use Rattle.rm_model.proofs.RankingLemmas.{drivers-known, map-twice, if_ok_map}
 use Rattle.rm_model.proofs.ranking.search_covers.Goals as goal
-
-abbrev items : Vec ℕ Global → List ℕ
-items d = d.items
+use Rattle.rm_model.specs.SearchView.{items_of}
 
 pub find_ranks-requires-clause-known : goal.find_ranks-requires-clause-known
-find_ranks-requires-clause-known c = subst AreKnown (sym (ap (λ (l : List (Vec ℕ Global)). map items l) c.as_slice.ensures.value ∙ c.in_ok-lists.ensures)) (drivers-known c.args.covers.now)
+find_ranks-requires-clause-known c = subst AreKnown (sym (ap (λ (l : List (Vec ℕ Global)). map items_of l) c.as_slice.ensures.value ∙ c.in_ok-lists.ensures)) (drivers-known c.args.covers.now)
 
 pub returns-clause-ranks : goal.returns-clause-ranks
 returns-clause-ranks c =
-    let lists : map items c.as_slice.result.now ≡ map (drivers_of c.args.covers.now) c.args.covers.now = ap (λ (l : List (Vec ℕ Global)). map items l) c.as_slice.ensures.value ∙ c.in_ok-lists.ensures in
-    if_ok_map (λ (s : Search). s.ranks.items ≡ map (rank_over s.ranks.items) (map items c.as_slice.result.now)) (λ (s : Search). IsFixed c.args.covers.now s.ranks.items) c.find_ranks.result
+    let lists : map items_of c.as_slice.result.now ≡ map (drivers_of c.args.covers.now) c.args.covers.now = ap (λ (l : List (Vec ℕ Global)). map items_of l) c.as_slice.ensures.value ∙ c.in_ok-lists.ensures in
+    if_ok_map (λ (s : Search). s.ranks.items ≡ map (rank_over s.ranks.items) (map items_of c.as_slice.result.now)) (λ (s : Search). IsFixed c.args.covers.now s.ranks.items) c.find_ranks.result
     (λ s e. e ∙ (ap (λ (l : List (List ℕ)). map (rank_over s.ranks.items) l) lists ∙ map-twice (rank_over s.ranks.items) (drivers_of c.args.covers.now) c.args.covers.now))
     c.find_ranks.ensures.ranks

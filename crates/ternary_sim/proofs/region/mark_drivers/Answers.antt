@@ -4,9 +4,10 @@ use Rattle.gate_graph.specs.Circuit.{net_of}
 use Rattle.gate_net.specs.Net.{Reads, drivers_of}
 use Rattle.gate_looks.proofs.Public.{yielded_all, yielded_at, yielded_more}
 use Rattle.rm_base.specs.declared.numbers.NodeId.{NodeId}
-use Rattle.ternary_sim.proofs.Spreading.{AmongFirst, more_done, more_next, one_longer}
+use Rattle.ternary_sim.proofs.Spreading.{more_done, more_next, one_longer}
 use Rattle.ternary_sim.proofs.region.mark_drivers.Goals as goal
 use Rattle.ternary_sim.specs.Regions.{MarksMore}
+use Rattle.rm_base.specs.Members.{AmongFirst}
 
 pub mark_one-requires-clause-marks : goal.mark_one-requires-clause-marks
 mark_one-requires-clause-marks c =

@@ -2,9 +2,9 @@ use Rattle.std.proofs.Common.{length, map, ◌++◌, ◌≡◌}
 use Rattle.gate_graph.specs.Circuit.{net_of}
 use Rattle.gate_net.specs.Net.{drivers_of}
 use Rattle.rm_base.specs.declared.numbers.NodeId.{NodeId}
-use Rattle.ternary_sim.proofs.Spreading.{AmongFirst}
 use Rattle.ternary_sim.proofs.region.mark_drivers.Given as goal
 use Rattle.ternary_sim.specs.Regions.{MarksMore}
+use Rattle.rm_base.specs.Members.{AmongFirst}
 
 abbrev pub invariant-loop-driver : goal.invariant-loop-driver
 invariant-loop-driver l = record {

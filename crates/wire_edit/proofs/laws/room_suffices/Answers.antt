@@ -1,10 +1,10 @@
 use Rattle.std.proofs.Common.{◌≡◌, arith, ap}
 use Rattle.std.specs.Prelude.{nat_lt}
 use Rattle.std.proofs.lemmas.Bool.{lt-ltb}
-use Rattle.wire_edit.specs.Work.{one_if}
 use Rattle.wire_edit.proofs.Ending.{tidying_ends, fixes_end, adds_raise}
 use Rattle.wire_edit.proofs.Calling.{tidying_has_room}
 use Rattle.wire_edit.proofs.laws.room_suffices.Goals as goal
+use Rattle.rm_base.specs.Numbers.{one_if}
 
 pub returns-clause-tidying : goal.returns-clause-tidying
 returns-clause-tidying c = λ net step k room well next le.

@@ -1,10 +1,11 @@
 use Rattle.std.proofs.Common.{◌≡◌, Some, None, sym, ap, ◌∙◌, arith}
 use Rattle.std.specs.Option.{option_map}
+use Rattle.std.proofs.lemmas.Option.{slice_get_within}
 use Rattle.rm_base.specs.declared.numbers.NodeId.{NodeId}
 use Rattle.gate_graph.specs.Circuit.{net_of}
 use Rattle.gate_net.specs.Net.{drivers_of}
 use Rattle.wire_edit.specs.Tests.{driver_at}
-use Rattle.wire_edit.proofs.Tested.{junction_gate, within}
+use Rattle.wire_edit.proofs.Tested.{junction_gate}
 use Rattle.wire_edit.proofs.RuleAt.{empty_rule, single_rule, wide_rule}
 use Rattle.wire_edit.proofs.Reading.{past_end}
 use Rattle.wire_edit.proofs.rules.rule_of_junction.Goals as goal
@@ -22,11 +23,11 @@ returns-in-None c =
     let none : driver_at net c.args.gate.0 1 ≡ None = sym c.driver-2.ensures ∙ ap (option_map (λ (n : NodeId). n.0)) c.in-None.is in
     let le = past_end (drivers_of net c.args.gate.0) 1 none in
     let first : driver_at net c.args.gate.0 0 ≡ Some _ = sym c.driver.ensures ∙ ap (option_map (λ (n : NodeId). n.0)) c.in-Some.is in
-    let lt = within (drivers_of net c.args.gate.0) 0 _ first in
+    let lt = slice_get_within (drivers_of net c.args.gate.0) 0 _ first in
     sym (single_rule net c.args.gate.0 c.requires.used (junction_gate net c.args.gate.0 c.requires.kind) c.requires.none c.requires.kind c.requires.apart (omega (arith, le, lt)))
 
 pub returns-in-Some-driver : goal.returns-in-Some-driver
 returns-in-Some-driver c =
     let net = net_of c.args.graph.now in
     let second : driver_at net c.args.gate.0 1 ≡ Some _ = sym c.driver-2.ensures ∙ ap (option_map (λ (n : NodeId). n.0)) c.in-Some-driver.is in
-    sym (wide_rule net c.args.gate.0 c.requires.used (junction_gate net c.args.gate.0 c.requires.kind) c.requires.none c.requires.kind c.requires.apart (within (drivers_of net c.args.gate.0) 1 _ second))
+    sym (wide_rule net c.args.gate.0 c.requires.used (junction_gate net c.args.gate.0 c.requires.kind) c.requires.none c.requires.kind c.requires.apart (slice_get_within (drivers_of net c.args.gate.0) 1 _ second))

@@ -2,10 +2,10 @@ use Rattle.std.proofs.Common.{◌<◌, ◌≤◌, List, length, refl, ap, sym, �
 use Rattle.std.specs.Prelude.{slice_get}
 use Rattle.std.specs.Option.{option_map}
 use Rattle.std.proofs.lemmas.Option.{slice_get_read, slice_get_past}
-use Rattle.rm_model.specs.Words.{Word}
 use Rattle.blif_reader.specs.declared.names.Entry.{Entry}
 use Rattle.blif_reader.proofs.PairLaws.{entry_at}
 use Rattle.blif_reader.proofs.entries.Entries.at.Goals as goal
+use Rattle.rm_base.specs.Words.{Word}
 
 pub returns-then-index-len : goal.returns-then-index-len
 returns-then-index-len c =

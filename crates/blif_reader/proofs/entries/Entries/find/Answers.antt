@@ -1,9 +1,9 @@
 use Rattle.std.proofs.Common.{List, ap, map, sym, ◌∙◌}
-use Rattle.rm_model.specs.Words.{Word}
 use Rattle.rm_model.specs.Numbers.{place_of}
 use Rattle.blif_reader.specs.declared.names.Entry.{Entry}
 use Rattle.blif_reader.proofs.PairLaws.{pair_names}
 use Rattle.blif_reader.proofs.entries.Entries.find.Goals as goal
+use Rattle.rm_base.specs.Words.{Word}
 
 pub returns : goal.returns
 returns c =

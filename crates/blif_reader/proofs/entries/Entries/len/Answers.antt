@@ -1,8 +1,8 @@
 use Rattle.std.proofs.Common.{◌≡◌, List, length, ap, ◌∙◌, arith}
-use Rattle.rm_model.specs.Words.{Word}
 use Rattle.blif_reader.specs.declared.names.Entry.{Entry}
 use Rattle.blif_reader.proofs.PairLaws.{pair_count}
 use Rattle.blif_reader.proofs.entries.Entries.len.Goals as goal
+use Rattle.rm_base.specs.Words.{Word}
 
 pub returns : goal.returns
 returns c =

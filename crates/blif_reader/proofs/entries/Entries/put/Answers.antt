@@ -1,11 +1,11 @@
 use Rattle.std.proofs.Common.{◌≡◌, ◌<◌, [], ◌∷◌, ◌++◌, List, None, Option, ℕ, Some, ap, arith, length, map, sym, ◌∙◌}
 use Rattle.std.specs.List.{zip}
-use Rattle.rm_model.specs.Words.{Word}
 use Rattle.rm_model.specs.Numbers.{place_of}
 use Rattle.blif_reader.specs.declared.names.Entry.{Entry}
 use Rattle.blif_reader.specs.Tally.{put_entry}
 use Rattle.blif_reader.proofs.PairLaws.{replaced_entry, pair_names, place_bound, pushed_entry, new_name, not_some}
 use Rattle.blif_reader.proofs.entries.Entries.put.Goals as goal
+use Rattle.rm_base.specs.Words.{Word}
 
 -- where the name was found among the names of the pairs, it is among the names
 found_in : (o : Option ℕ) (ns : List Word) (es : List Entry) (pairs : List (Word × Entry)) (x : Word) → length ns ≡ length es → zip ns es ≡ pairs → o ≡ place_of (map (λ (p : Word × Entry). p.0) pairs) x → place_of ns x ≡ o

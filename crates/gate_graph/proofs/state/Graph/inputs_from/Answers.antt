@@ -6,8 +6,8 @@ use Rattle.std.proofs.lemmas.List.{length-map, drop-map}
 use Rattle.gate_graph.proofs.LeadOns.{live-in}
 use Rattle.gate_graph.proofs.KindAt.{kind-within}
 use Rattle.gate_graph.proofs.Pinned.{linked-gate, drivers-all}
-use Rattle.gate_graph.proofs.PinsFrom.{has-drop}
 use Rattle.gate_graph.proofs.state.Graph.inputs_from.Goals as goal
+use Rattle.pin_pool.proofs.Public.{has-drop}
 
 pub pins_of_gate_from-pins-requires-clause-one : goal.pins_of_gate_from-pins-requires-clause-one
 pins_of_gate_from-pins-requires-clause-one c =

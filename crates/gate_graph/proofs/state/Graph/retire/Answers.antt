@@ -7,12 +7,12 @@ use Rattle.gate_graph.specs.Wirings.{kind_at, free_in}
 use Rattle.gate_graph.specs.Circuit.{Circuit, IsGraph}
 use Rattle.gate_graph.proofs.KindAt.{kind-within, live-set}
 use Rattle.gate_graph.proofs.LeadOns.{live-in}
-use Rattle.gate_graph.proofs.Pinned.{has-at, map-none}
+use Rattle.gate_graph.proofs.Pinned.{map-none}
 use Rattle.gate_graph.proofs.Retiring.{emptied-start, emptied-step, retires, retire-count, gate-goes, gate-not_zero, none-first, some-first}
 use Rattle.std.specs.FinSet as finset
 use Rattle.gate_graph.proofs.Numbers.{bit-some}
 use Rattle.gate_graph.proofs.HeldPins.{holds-by}
-use Rattle.pin_pool.proofs.Public.{linked-less}
+use Rattle.pin_pool.proofs.Public.{has-there, linked-less}
 use Rattle.gate_graph.specs.Holds.{held}
 use Rattle.gate_graph.specs.declared.entries.Entry.{Entry}
 use Rattle.pin_pool.specs.Rings.{Rings}
@@ -40,7 +40,7 @@ unlink_pin-slot-requires-clause-gate c =
     let count = retire-count v g graph.wired.shape c.requires.gate in
     let live = live-in v g (c.requires.gate.0, c.requires.gate.1.0) in
     let within : g < length v.kinds = kind-within v.kinds g live in
-    let at = has-at (list_of w.pool.inputs g) 0 c.in-Some.pin.0 (sym c.in-Some.ensures) in
+    let at = has-there (list_of w.pool.inputs g) 0 c.in-Some.pin.0 (sym c.in-Some.ensures) in
     let some = some-first (list_of w.pool.inputs g) c.in-Some.pin.0 at in
     (g, at)
 
@@ -54,7 +54,7 @@ unlink_pin-slot-requires-clause-driver c =
     let count = retire-count v g graph.wired.shape c.requires.gate in
     let live = live-in v g (c.requires.gate.0, c.requires.gate.1.0) in
     let within : g < length v.kinds = kind-within v.kinds g live in
-    let at = has-at (list_of w.pool.inputs g) 0 c.in-Some.pin.0 (sym c.in-Some.ensures) in
+    let at = has-there (list_of w.pool.inputs g) 0 c.in-Some.pin.0 (sym c.in-Some.ensures) in
     let some = some-first (list_of w.pool.inputs g) c.in-Some.pin.0 at in
     i.emptied.driven g c.in-Some.pin.0 at
 
@@ -68,7 +68,7 @@ push-requires c =
     let count = retire-count v g graph.wired.shape c.requires.gate in
     let live = live-in v g (c.requires.gate.0, c.requires.gate.1.0) in
     let within : g < length v.kinds = kind-within v.kinds g live in
-    let at = has-at (list_of w.pool.inputs g) 0 c.in-Some.pin.0 (sym c.in-Some.ensures) in
+    let at = has-there (list_of w.pool.inputs g) 0 c.in-Some.pin.0 (sym c.in-Some.ensures) in
     let some = some-first (list_of w.pool.inputs g) c.in-Some.pin.0 at in
     omega (arith, count, some, i.entries, c.requires.entries)
 
@@ -82,7 +82,7 @@ loop-pin-smaller c =
     let count = retire-count v g graph.wired.shape c.requires.gate in
     let live = live-in v g (c.requires.gate.0, c.requires.gate.1.0) in
     let within : g < length v.kinds = kind-within v.kinds g live in
-    let at = has-at (list_of w.pool.inputs g) 0 c.in-Some.pin.0 (sym c.in-Some.ensures) in
+    let at = has-there (list_of w.pool.inputs g) 0 c.in-Some.pin.0 (sym c.in-Some.ensures) in
     let some = some-first (list_of w.pool.inputs g) c.in-Some.pin.0 at in
     let u : Circuit = record { kinds = c.loop-pin.self-inside.kinds.items; pool = c.unlink_pin-slot.new.pool; epoch = c.loop-pin.self-inside.epoch } in
     let step = emptied-step v w u g c.in-Some.pin c.unlink_pin-slot.result c.args.undos.now.entries c.loop-pin.undos.entries graph.wired (gate-not_zero v g graph.wired.shape c.requires.gate) i.emptied refl c.unlink_pin-slot.ensures.rings c.look-in-Some.ensures.rings at c.unlink_pin-slot.ensures.stood in
@@ -98,7 +98,7 @@ loop-pin-preserved c =
     let count = retire-count v g graph.wired.shape c.requires.gate in
     let live = live-in v g (c.requires.gate.0, c.requires.gate.1.0) in
     let within : g < length v.kinds = kind-within v.kinds g live in
-    let at = has-at (list_of w.pool.inputs g) 0 c.in-Some.pin.0 (sym c.in-Some.ensures) in
+    let at = has-there (list_of w.pool.inputs g) 0 c.in-Some.pin.0 (sym c.in-Some.ensures) in
     let some = some-first (list_of w.pool.inputs g) c.in-Some.pin.0 at in
     let u : Circuit = record { kinds = c.loop-pin.self-inside.kinds.items; pool = c.unlink_pin-slot.new.pool; epoch = c.loop-pin.self-inside.epoch } in
     let step = emptied-step v w u g c.in-Some.pin c.unlink_pin-slot.result c.args.undos.now.entries c.loop-pin.undos.entries graph.wired (gate-not_zero v g graph.wired.shape c.requires.gate) i.emptied refl c.unlink_pin-slot.ensures.rings c.look-in-Some.ensures.rings at c.unlink_pin-slot.ensures.stood in

@@ -1,15 +1,10 @@
-use Rattle.std.proofs.Common.{arith, false, length, ◌<◌}
+use Rattle.std.proofs.Common.{arith, length, ◌<◌}
 use Rattle.std.proofs.lemmas.Option.{slice_get_within}
 use Rattle.gate_graph.specs.Circuit.{net_of}
 use Rattle.recursive_learning.proofs.Watches.{Around, UpTo, around_map, listed_still, still_join, up_to_map, up_to_more}
 use Rattle.recursive_learning.specs.Watching.{IsListedAt}
-use Rattle.refutation.specs.declared.reasoning.Fact.{Fact}
-use Rattle.refutation.specs.declared.reasoning.Fact.TheVariants.{Good}
-use Rattle.rm_base.specs.declared.numbers.NodeId.{NodeId}
 use Rattle.recursive_learning.proofs.watch.Watch.list_changed.Goals as goal
-
-abbrev zero : NodeId × Fact
-zero = (record { 0 = 0 }, Good false)
+use Rattle.recursive_learning.proofs.Defaults.{no_added}
 
 pub loop-entry-preserved : goal.loop-entry-preserved
 loop-entry-preserved c =
@@ -18,7 +13,7 @@ loop-entry-preserved c =
     (around_map (net_of c.args.graph.now) (IsListedAt c.loop-entry.self) (IsListedAt c.list_around.new.self) (λ z at. listed_still c.loop-entry.self c.list_around.new.self z c.list_around.ensures.still at)) c.loop-entry.invariant.done in
     record {
       still = still_join c.args.self.now c.loop-entry.self c.list_around.new.self c.loop-entry.invariant.still c.list_around.ensures.still;
-      done = up_to_more c.args.added.now c.loop-entry.entry-index (Around (net_of c.args.graph.now) (IsListedAt c.list_around.new.self)) zero (omega arith) before c.list_around.ensures.around;
+      done = up_to_more c.args.added.now c.loop-entry.entry-index (Around (net_of c.args.graph.now) (IsListedAt c.list_around.new.self)) no_added (omega arith) before c.list_around.ensures.around;
     }
 
 pub returns-clause-changed : goal.returns-clause-changed

@@ -1,12 +1,13 @@
 use Rattle.std.proofs.Common.{ap, arith, inl, inr, length, subst, sym, ◌<◌, ◌∙◌, ℕ}
 use Rattle.gate_graph.specs.Circuit.{net_of}
-use Rattle.refutation.proofs.Public.{all_came, last_of, next_below, yielded_more}
+use Rattle.refutation.proofs.Public.{all_came, next_below, yielded_more}
 use Rattle.recursive_learning.proofs.Watches.{leaves_more, room_leaves}
 use Rattle.recursive_learning.proofs.Indexes.{watched_longer}
 use Rattle.recursive_learning.specs.Watching.{HasRoom}
 use Rattle.recursive_learning.specs.Resting.{IsWatched}
 use Rattle.rm_base.specs.declared.numbers.NodeId.{NodeId}
 use Rattle.recursive_learning.proofs.watch.Watch.rest_around.Goals as goal
+use Rattle.rm_base.proofs.Public.{last_cases}
 
 pub add-requires-in-loop-reader-clause-place : goal.add-requires-in-loop-reader-clause-place
 add-requires-in-loop-reader-clause-place c =
@@ -20,7 +21,7 @@ loop-reader-preserved c = record {
   all = yielded_more (λ (d : NodeId). d.0) c.into_iter-reader-iterator.result c.loop-reader.yielded c.in-Some-reader.reader _ _ c.loop-reader.invariant.all c.in-Some-reader.ensures.steps;
   leaves = leaves_more c.args.self.now c.loop-reader.self c.add-in-loop-reader.new.self c.loop-reader.invariant.leaves c.in_ok-add-2.ensures.numbers c.in_ok-add-2.ensures.longer;
   itself = watched_longer c.loop-reader.self.rests.entries c.add-in-loop-reader.new.self.entries c.in_ok-add-2.ensures.longer c.args.node.0 c.args.gate.0 c.loop-reader.invariant.itself;
-  done = λ k gate e. elim (last_of c.loop-reader.yielded c.in-Some-reader.reader k gate e) [
+  done = λ k gate e. elim (last_cases c.loop-reader.yielded c.in-Some-reader.reader k gate e) [
     | inl before ↦ watched_longer c.loop-reader.self.rests.entries c.add-in-loop-reader.new.self.entries c.in_ok-add-2.ensures.longer gate.0 c.args.gate.0 (c.loop-reader.invariant.done k gate before)
     | inr is ↦ subst (λ (z : ℕ). IsWatched c.add-in-loop-reader.new.self.entries z c.args.gate.0) (ap (λ (d : NodeId). d.0) (sym is)) c.in_ok-add-2.ensures.watched
   ];

@@ -1,16 +1,11 @@
-use Rattle.std.proofs.Common.{arith, false, length, ℕ, ◌<◌}
+use Rattle.std.proofs.Common.{arith, length, ℕ, ◌<◌}
 use Rattle.std.proofs.lemmas.Option.{slice_get_within}
 use Rattle.gate_graph.specs.Circuit.{net_of}
 use Rattle.recursive_learning.proofs.Indexes.{watched_longer}
 use Rattle.recursive_learning.proofs.Watches.{Around, UpTo, around_map, leaves_join, up_to_map, up_to_more}
 use Rattle.recursive_learning.specs.Resting.{IsWatched}
-use Rattle.refutation.specs.declared.reasoning.Fact.{Fact}
-use Rattle.refutation.specs.declared.reasoning.Fact.TheVariants.{Good}
-use Rattle.rm_base.specs.declared.numbers.NodeId.{NodeId}
 use Rattle.recursive_learning.proofs.watch.Watch.rest_on.Goals as goal
-
-abbrev zero : NodeId × Fact
-zero = (record { 0 = 0 }, Good false)
+use Rattle.recursive_learning.proofs.Defaults.{no_added}
 
 pub loop-entry-preserved : goal.loop-entry-preserved
 loop-entry-preserved c =
@@ -19,7 +14,7 @@ loop-entry-preserved c =
     (around_map (net_of c.args.graph.now) (λ (z : ℕ). IsWatched c.loop-entry.self.rests.entries z c.args.gate.0) (λ (z : ℕ). IsWatched c.rest_around.new.self.rests.entries z c.args.gate.0) (λ z at. watched_longer c.loop-entry.self.rests.entries c.rest_around.new.self.rests.entries c.in_ok-rest_around.ensures.leaves.longer z c.args.gate.0 at)) c.loop-entry.invariant.done in
     record {
       leaves = leaves_join c.args.self.now c.loop-entry.self c.rest_around.new.self c.loop-entry.invariant.leaves c.in_ok-rest_around.ensures.leaves;
-      done = up_to_more c.args.added.now c.loop-entry.entry-index (Around (net_of c.args.graph.now) (λ (z : ℕ). IsWatched c.rest_around.new.self.rests.entries z c.args.gate.0)) zero (omega arith) before c.in_ok-rest_around.ensures.around;
+      done = up_to_more c.args.added.now c.loop-entry.entry-index (Around (net_of c.args.graph.now) (λ (z : ℕ). IsWatched c.rest_around.new.self.rests.entries z c.args.gate.0)) no_added (omega arith) before c.in_ok-rest_around.ensures.around;
     }
 
 pub returns-clause-region : goal.returns-clause-region

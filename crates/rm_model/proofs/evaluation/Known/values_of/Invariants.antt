@@ -1,6 +1,6 @@
 use Rattle.std.proofs.Common.{◌≡◌, Bool, length, map, take}
-use Rattle.rm_model.specs.Words.{Word}
 use Rattle.rm_model.proofs.evaluation.Known.values_of.Given as goal
+use Rattle.rm_base.specs.Words.{Word}
 
 abbrev pub invariant-loop-name : goal.invariant-loop-name
 invariant-loop-name l = record {

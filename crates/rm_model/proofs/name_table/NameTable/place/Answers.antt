@@ -3,11 +3,11 @@ use Rattle.std.specs.Borrow.{Bor}
 use Rattle.std.specs.BTreeMap.{get_by}
 use Rattle.std.specs.Cmp.Lexicographic.{slice_cmp}
 use Rattle.std.specs.Ordering.{nat_cmp, ordering_then}
-use Rattle.rm_model.specs.Words.{Word}
 use Rattle.rm_model.specs.Numbers.{place_of}
 use Rattle.rm_model.specs.PlacedNames.{added_names}
 use Rattle.rm_model.proofs.PlacedLemmas.{place-below}
 use Rattle.rm_model.proofs.name_table.NameTable.place.Goals as goal
+use Rattle.rm_base.specs.Words.{Word}
 
 pub returns-in-Some-clause-place : goal.returns-in-Some-clause-place
 returns-in-Some-clause-place c =

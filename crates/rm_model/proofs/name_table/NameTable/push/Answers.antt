@@ -3,11 +3,11 @@ use Rattle.std.specs.BTreeMap.{UpdatesBy}
 use Rattle.std.specs.Cmp.Lexicographic.{slice_cmp}
 use Rattle.std.specs.Ordering.{nat_cmp, ordering_then}
 use Rattle.std.specs.Borrow.{Bor}
-use Rattle.rm_model.specs.Words.{Word}
 use Rattle.rm_model.specs.Value.{is_among}
 use Rattle.rm_model.specs.Numbers.{place_of}
 use Rattle.rm_model.proofs.PlacedLemmas.{shown, placed-push}
 use Rattle.rm_model.proofs.name_table.NameTable.push.Goals as goal
+use Rattle.rm_base.specs.Words.{Word}
 
 pub invariant_of-self-2 : goal.invariant_of-self-2
 invariant_of-self-2 c =

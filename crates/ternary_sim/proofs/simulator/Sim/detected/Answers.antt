@@ -3,10 +3,11 @@ use Rattle.std.specs.Prelude.{slice_get}
 use Rattle.rm_base.specs.declared.numbers.NodeId.{NodeId}
 use Rattle.gate_net.specs.Forward.{both_known_different}
 use Rattle.gate_graph.specs.Circuit.{net_of}
-use Rattle.gate_looks.proofs.Public.{last_of, yielded_at, yielded_more}
+use Rattle.gate_looks.proofs.Public.{yielded_at, yielded_more}
 use Rattle.ternary_sim.specs.Marks.{good_at, faulty_at}
 use Rattle.ternary_sim.proofs.Loops.{whole, each_yielded}
 use Rattle.ternary_sim.proofs.simulator.Sim.detected.Goals as goal
+use Rattle.rm_base.proofs.Public.{last_cases}
 
 pub returns-then-differs : goal.returns-then-differs
 returns-then-differs c =
@@ -20,7 +21,7 @@ loop-node-preserved c =
     let known : both_known_different (good_at c.args.self.now.marks c.in-Some.node.0) (faulty_at c.args.self.now.marks c.in-Some.node.0) ≡ false = rw (← c.good.ensures, ← c.faulty.ensures) (sym c.differs.ensures ∙ c.if-differs.false) in
     record {
       all = yielded_more (λ d. d.0) c.into_iter-node-iterator.result c.loop-node.yielded c.in-Some.node _ _ c.loop-node.invariant.all c.in-Some.ensures.steps;
-      same = λ k d e. elim (last_of c.loop-node.yielded c.in-Some.node k d e) [
+      same = λ k d e. elim (last_cases c.loop-node.yielded c.in-Some.node k d e) [
         | inl before ↦ c.loop-node.invariant.same k d before
         | inr is ↦ ap (λ (n : NodeId). both_known_different (good_at c.args.self.now.marks n.0) (faulty_at c.args.self.now.marks n.0)) is ∙ known
       ];

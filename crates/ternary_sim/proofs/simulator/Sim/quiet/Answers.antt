@@ -2,10 +2,11 @@ use Rattle.std.proofs.Common.{◌≡◌, ◌∙◌, ℕ, ap, inl, inr, length, r
 use Rattle.std.specs.Prelude.{slice_get}
 use Rattle.rm_base.specs.declared.numbers.NodeId.{NodeId}
 use Rattle.gate_graph.specs.Circuit.{net_of}
-use Rattle.gate_looks.proofs.Public.{last_of, yielded_at, yielded_more}
+use Rattle.gate_looks.proofs.Public.{yielded_at, yielded_more}
 use Rattle.ternary_sim.specs.Marks.{equal_at}
 use Rattle.ternary_sim.proofs.Loops.{whole, each_yielded}
 use Rattle.ternary_sim.proofs.simulator.Sim.quiet.Goals as goal
+use Rattle.rm_base.proofs.Public.{last_cases}
 
 pub returns-then-not-equal : goal.returns-then-not-equal
 returns-then-not-equal c =
@@ -16,7 +17,7 @@ returns-then-not-equal c =
 pub loop-node-preserved : goal.loop-node-preserved
 loop-node-preserved c = record {
   all = yielded_more (λ d. d.0) c.into_iter-node-iterator.result c.loop-node.yielded c.in-Some.node _ _ c.loop-node.invariant.all c.in-Some.ensures.steps;
-  equal = λ k d e. elim (last_of c.loop-node.yielded c.in-Some.node k d e) [
+  equal = λ k d e. elim (last_cases c.loop-node.yielded c.in-Some.node k d e) [
     | inl before ↦ c.loop-node.invariant.equal k d before
     | inr is ↦ ap (λ (n : NodeId). equal_at c.args.self.now.marks n.0) is ∙ sym c.equal.ensures ∙ c.if-not-equal.false
   ];
