@@ -7,17 +7,15 @@ use Rattle.rm_base.specs.declared.numbers.Fault.{Fault}
 use Rattle.gate_net.specs.Net.{Node, Net, before_dead, drivers_of, flatten_option, node_at, trimmed, IsWellFormed, gate_count, wire_count}
 use Rattle.gate_net.specs.Values.{HasPin}
 use Rattle.gate_net.specs.Edits.{constant_node, fixed, node_redirected, redirected, redriven, with_drivers, without}
-use Rattle.wire_edit.proofs.Public.{MakesNone, constant_makes, gate_weight}
+use Rattle.wire_edit.proofs.Public.{MakesNone, gate_weight, removal_makes, removal_pins}
 use Rattle.wire_edit.specs.declared.steps.Step.{Step}
-use Rattle.wire_edit.specs.declared.steps.Step.TheVariants.{Add, Fix, NewNot, Const, Same, NoPins, OnePin, Twice, Twin, Dead}
+use Rattle.wire_edit.specs.declared.steps.Step.TheVariants.{Fix}
 use Rattle.wire_edit.specs.Changes.{Change, append, remove, fix, readers, new_not, retire, changed}
-use Rattle.wire_edit.specs.Laws.{IsTidying, StepsKeepSources}
+use Rattle.wire_edit.specs.Laws.{StepsKeepSources}
 use Rattle.wire_edit.specs.Steps.{Applies, stepped, change_of}
 use Rattle.wire_edit.specs.Order.{IsTidy}
 use Rattle.wire_edit.specs.Removals.{AllAreFree, FixesTakeOne, FreeFixesApply, HasFreePin, IsRemoval, RemovalsFreeNone, TidyReadsNone}
-use Rattle.wire_edit.specs.Tests.{constant_at, control_of}
 use Rattle.wire_edit.specs.Work.{free_pins, pins_made, WiresGrow}
-use Rattle.journal_text.specs.Runs as runs
 use Rattle.closing_pass.specs.Going.{IsNoLarger}
 
 -- what laws of steps say of removals
@@ -32,31 +30,6 @@ pub record FixLaws : Type 0 where
   pub all : AllAreFree
   pub applies : FreeFixesApply
   pub one : FixesTakeOne
-
-pub tidying_removes : (step : Step) → IsTidying step → runs.IsRemoval step
-tidying_removes (Add gate y) t = t
-tidying_removes (Fix gate position value) t = tt
-tidying_removes (NewNot y) t = t
-tidying_removes (Const gate position) t = tt
-tidying_removes (Same gate position) t = tt
-tidying_removes (NoPins gate) t = tt
-tidying_removes (OnePin gate) t = tt
-tidying_removes (Twice gate) t = tt
-tidying_removes (Twin gate other) t = tt
-tidying_removes (Dead gate) t = tt
-
--- a removal makes no pin
-made_none : (step : Step) → runs.IsRemoval step → IsRemoval step × (pins_made step ≡ 0)
-made_none (Add gate y) r = absurd r
-made_none (NewNot y) r = absurd r
-made_none (Fix gate position value) r = (tt, refl)
-made_none (Const gate position) r = (tt, refl)
-made_none (Same gate position) r = (tt, refl)
-made_none (NoPins gate) r = (tt, refl)
-made_none (OnePin gate) r = (tt, refl)
-made_none (Twice gate) r = (tt, refl)
-made_none (Twin gate other) r = (tt, refl)
-made_none (Dead gate) r = (tt, refl)
 
 abbrev gates_in : List (Option Node) → ℕ
 gates_in os = sum_by gate_weight os
@@ -117,18 +90,6 @@ change_gates net (retire gate) none =
     let b : gates_in (slice_set net.nodes gate None) ≤ gates_in net.nodes = lower_at net.nodes gate None (omega arith) in
     omega (arith, a, b)
 
-removal_makes : (net : Net) (step : Step) → runs.IsRemoval step → MakesNone (change_of net step)
-removal_makes net (Add gate y) r = absurd r
-removal_makes net (Fix gate position value) r = tt
-removal_makes net (NewNot y) r = absurd r
-removal_makes net (Const gate position) r = constant_makes gate.0 position (control_of net gate.0) (constant_at net gate.0 position)
-removal_makes net (Same gate position) r = tt
-removal_makes net (NoPins gate) r = tt
-removal_makes net (OnePin gate) r = tt
-removal_makes net (Twice gate) r = tt
-removal_makes net (Twin gate other) r = tt
-removal_makes net (Dead gate) r = tt
-
 length_moved : (f : ℕ → ℕ) (xs : List ℕ) → length (map f xs) ≡ length xs
 length_moved f [] = refl
 length_moved f (x ∷ xs) = rw (length_moved f xs) refl
@@ -141,13 +102,13 @@ change_places net (fix gate position value) = refl
 change_places net (readers from to) = length_moved (redirected from to) net.observed
 change_places net (retire gate) = refl
 
-pub no_larger : RemovalLaws → (net : Net) (step : Step) → IsWellFormed net → Applies net step → runs.IsRemoval step → IsNoLarger net (stepped net step)
+pub no_larger : RemovalLaws → (net : Net) (step : Step) → IsWellFormed net → Applies net step → IsRemoval step → IsNoLarger net (stepped net step)
 no_larger laws net step well applies r =
     let w : wire_count (stepped net step) ≤ wire_count net + pins_made step = laws.wires net step well applies in
-    let none : IsRemoval step × (pins_made step ≡ 0) = made_none step r in
+    let none : pins_made step ≡ 0 = removal_pins step r in
     record {
-      wires = omega (arith, w, none.1);
-      free = laws.frees net step well applies none.0;
+      wires = omega (arith, w, none);
+      free = laws.frees net step well applies r;
       gates = change_gates net (change_of net step) (removal_makes net step r);
       sources = laws.sources net step well applies;
       places = change_places net (change_of net step);

@@ -10,7 +10,7 @@ use Rattle.gate_graph.specs.Circuit.{net_of}
 use Rattle.gate_graph.specs.Holds.{HoldsOn, held, pins_held}
 use Rattle.refutation.specs.Branches.{AreAccepted}
 use Rattle.refutation.specs.declared.items.Item.{Item}
-use Rattle.wire_edit.proofs.Public.{room_on}
+use Rattle.wire_edit.proofs.Public.{room_on, tidying_removes}
 use Rattle.wire_edit.specs.declared.steps.Step.{Step}
 use Rattle.wire_edit.specs.declared.steps.Step.TheVariants.{Add, Fix, NewNot, Const, Same, NoPins, OnePin, Twice, Twin, Dead}
 use Rattle.wire_edit.specs.declared.refusal.EditRefusal.{EditRefusal}
@@ -26,9 +26,10 @@ use Rattle.journal_text.specs.declared.record.Record.TheVariants as kept
 use Rattle.journal_text.specs.Accepted.{IsJustified, IsAcceptedStep, MayGrow}
 use Rattle.journal_text.specs.Runs.{AreRemovals, steps_of}
 use Rattle.closing_pass.specs.Going.{AddsLocal, AreTidying, Goes, IsNoLarger, Logs}
-use Rattle.closing_pass.proofs.Falling.{RemovalLaws, no_larger, no_larger_same, no_larger_then, tidying_removes}
+use Rattle.closing_pass.proofs.Falling.{RemovalLaws, no_larger, no_larger_same, no_larger_then}
 use Rattle.journal_text.proofs.Public.{accepted_then}
 
+-- LISTS OF RECORDS
 pub removals_then : (first second : List Record) → AreRemovals (steps_of first) → AreRemovals (steps_of second) → AreRemovals (steps_of (first ++ second))
 removals_then [] second a b = b
 removals_then (kept.Step step tree ∷ first) second a b = (a.0, removals_then first second a.1 b)

@@ -1,4 +1,4 @@
--- Elements of a list, and names among names.
+-- Names among names.
 use Rattle.std.proofs.Common.{◌≡◌, Bool, true, false, List, [], ◌∷◌, refl, sym, ◌⊎◌, inl, inr}
 use Rattle.std.specs.Prelude.{◌||◌}
 use Rattle.rm_model.specs.Words.{is_word}

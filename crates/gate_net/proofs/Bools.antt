@@ -1,4 +1,4 @@
--- Tests and values.
+-- When two Booleans are the same.
 use Rattle.std.proofs.Common.{Bool, false, not, refl, sym, true, ◌≡◌}
 use Rattle.gate_net.specs.Values.{same_bool}
 

@@ -5,7 +5,7 @@ pub use Rattle.gate_net.proofs.Added.{adds_keep}
 -- Induction along the pins of an acyclic net, and what nodes read.
 pub use Rattle.gate_net.proofs.AlongPins.{along_pins, reads_agree, reads_elsewhere, reads_faulty, reads_there}
 pub use Rattle.gate_net.proofs.AlongPins.{value_at}
--- Tests and values.
+-- When two Booleans are the same.
 pub use Rattle.gate_net.proofs.Bools.{same_bool_false, same_bool_not, same_bool_refl, same_bool_true}
 -- The kinds of the constants.
 pub use Rattle.gate_net.proofs.Constants.{constant_is}

@@ -34,6 +34,7 @@ pub record IsWritable (m : Model) (net : Net) : Type 0 where
 abbrev pub output_names : List Cover → List Word
 output_names cs = map (λ (c : Cover). c.output) cs
 
+-- DISTINCT NAMES
 not_true : (b : Bool) → (b ≡ true → ⊥) → not b ≡ true
 not_true true h = absurd (h refl)
 not_true false h = refl

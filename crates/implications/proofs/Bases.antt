@@ -275,6 +275,7 @@ rest_comes net taken facts rest none = record {
   rest = λ x fact. (λ h. elim h [ inl e ↦ (rest x fact).0 e | inr marked ↦ absurd (none x marked.0) ], λ h. inl ((rest x fact).1 h));
 }
 
+-- BEGINNING
 pub none_seen_in : (marks : List Bool) → marks ≡ replicate (length marks) false → (z : ℕ) → IsSeen marks z → ⊥
 none_seen_in marks is z seen = none_seen (length marks) z (subst (λ (s : List Bool). IsSeen s z) is seen)
 

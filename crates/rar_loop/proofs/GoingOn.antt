@@ -34,6 +34,7 @@ use Rattle.rar_loop.proofs.Sizing.{no_gates}
 use Rattle.journal_text.proofs.Public.{accepted_then}
 use Rattle.wire_edit.specs.Removals.{HasFreePin, IsRemoval}
 
+-- LISTS OF RECORDS
 pub removals_then : (first second : List Record) → AreRemovals (steps_of first) → AreRemovals (steps_of second) → AreRemovals (steps_of (first ++ second))
 removals_then [] second a b = b
 removals_then (record_of.Step step tree ∷ first) second a b = (a.0, removals_then first second a.1 b)

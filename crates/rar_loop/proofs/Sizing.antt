@@ -113,6 +113,7 @@ added_one net c =
     let b : length (net_for net c).nodes ≤ length net.nodes + 1 = one_for net c.node c.fresh in
     omega (arith, a, b)
 
+-- OBSERVED PLACES AND SOURCES
 places_stay : (net : Net) (change : Change) → length (changed net change).observed ≡ length net.observed
 places_stay net (append gate driver) = refl
 places_stay net (remove gate position) = refl

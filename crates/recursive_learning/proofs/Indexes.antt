@@ -9,6 +9,7 @@ use Rattle.recursive_learning.specs.Resting.{IsIndex, IsLast, IsLonger, IsWatche
 use Rattle.recursive_learning.specs.declared.resting.Entry.{Entry}
 use Rattle.rm_base.proofs.Public.{front_stands, last_stands, one_stands}
 
+-- PLACES IN A LIST
 -- a place of a longer list is one of the list before, or the new one
 pub get_pushed : {A : Type 0} (xs : List A) (x : A) (k : ℕ) (a : A) → slice_get (xs ++ x ∷ []) k ≡ Some a → ((k < length xs) × (slice_get xs k ≡ Some a)) ⊎ ((k ≡ length xs) × (a ≡ x))
 get_pushed [] x zero a e = inr (refl, let same : x ≡ a = cc in sym same)

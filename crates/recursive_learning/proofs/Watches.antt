@@ -58,6 +58,7 @@ module _ (net : Net) (fault : Fault) (held now : Held) (added : List (NodeId × 
   pub far_agrees : (z : ℕ) → IsFar z → AgreeAround net held now z
   far_agrees z far = record { here = same_at z z (inl refl) far; drivers = λ p d reads. same_at z d (inr (p, reads)) far }
 
+-- LISTS
 watched_later : (e : Entry) (entries : List Entry) (z y : ℕ) → ((e.place ≡ z) × (e.gate ≡ y) → ⊥) → IsWatched entries z y ⊎ (IsWatched entries z y → ⊥) → IsWatched (e ∷ entries) z y ⊎ (IsWatched (e ∷ entries) z y → ⊥)
 watched_later e entries z y isn't (inl (k, (a, is))) = inl (suc k, (a, is))
 watched_later e entries z y isn't (inr none) = inr (λ w. at w.0 w.1.0 w.1.1.0 w.1.1.1)

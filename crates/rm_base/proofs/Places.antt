@@ -1,5 +1,5 @@
 -- What stands at a place of a list, after a map, a write, a push or an append.
-use Rattle.std.proofs.Common.{Bool, true, false, Option, Some, None, List, [], ◌∷◌, ◌++◌, All, add-one, append-nil, length, map, take, drop, get_or, refl, sym, ap, subst, inl, inr, arith, zero, suc, ℕ, ◌+◌, ◌<◌, ◌≤◌, ◌&&◌, ◌||◌, ◌∙◌, ◌≡◌, ◌≢◌, ◌⊎◌}
+use Rattle.std.proofs.Common.{Bool, true, Some, None, List, [], ◌∷◌, ◌++◌, All, add-one, append-nil, length, map, take, drop, get_or, refl, sym, ap, subst, inl, inr, arith, zero, suc, ℕ, ◌+◌, ◌<◌, ◌≤◌, ◌∙◌, ◌≡◌, ◌≢◌, ◌⊎◌}
 use Rattle.std.specs.List.{AllByRecursion, list_all, list_any}
 use Rattle.std.specs.Prelude.{slice_get, slice_set}
 use Rattle.std.proofs.Math.Bool.{or-true}

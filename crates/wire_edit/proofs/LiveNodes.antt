@@ -83,6 +83,7 @@ live_counted net well = at net.nodes refl
         let rest : sum_by live_in os ≡ sum_by sources_in os + sum_by gates_in os = live_rest os (λ k n there. away k n (ap (λ (qs : List (Option Node)). slice_get qs (suc (suc k))) is ∙ there)) in
         omega (arith, two_then live_in a b os, two_then sources_in a b os, two_then gates_in a b os, la, lb, sa, sb, ga, gb, rest)
 
+-- A NEW PIN
 pin_drivers : (net : Net) (gate d : ℕ) (n : Node) → node_at net gate ≡ Some n → drivers_of (with_pin net gate d) gate ≡ drivers_of net gate ++ d ∷ []
 pin_drivers net gate d n is = ap drivers_in (node_at-there net gate (drivers_of net gate ++ d ∷ []) n is)
 
