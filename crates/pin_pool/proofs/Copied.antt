@@ -1,11 +1,11 @@
 -- A copy of the records, in which the pins without a mark are free.
-use Rattle.std.proofs.Common.{◌≡◌, ◌≢◌, ℕ, zero, suc, ◌+◌, ◌-◌, ◌<◌, ◌≤◌, Bool, true, false, not, ◌||◌, ◌&&◌, List, [], ◌∷◌, ◌++◌, length, map, replicate, take, set as put_at, get_or, ltb, eqb, refl, sym, ap, ◌∙◌, arith, inl, inr}
+use Rattle.std.proofs.Common.{◌≡◌, ℕ, zero, suc, ◌+◌, ◌<◌, ◌≤◌, Bool, true, false, not, ◌||◌, List, [], ◌∷◌, ◌++◌, length, map, replicate, take, set as put_at, get_or, eqb, refl, sym, ap, ◌∙◌, arith, inl, inr}
 use Rattle.std.specs.FinSet as set
-use Rattle.std.proofs.lemmas.Bool.{cases_Bool, cases_eq, false≢true, eq-eqb, ne_eqb, or_left, or_right, or_cases}
+use Rattle.std.proofs.lemmas.Bool.{eq-eqb, ne_eqb, or_left, or_right, or_cases}
 use Rattle.std.proofs.lemmas.Bool.Decides.{nat_tests}
 use Rattle.std.proofs.lemmas.List.{get_or_default, length-map}
 use Rattle.pin_pool.specs.Ring.{has, IsApart}
-use Rattle.pin_pool.specs.Links.{lists_of, links_of, link_of, list_at, ends_at, no_ends, walk, AreLists}
+use Rattle.pin_pool.specs.Links.{lists_of, link_of, list_at, ends_at, no_ends, walk_on, AreFew, AreLists}
 use Rattle.pin_pool.specs.Marks.{is_listed, is_marked, unmarked_from}
 use Rattle.pin_pool.specs.Places.{IsListed}
 use Rattle.pin_pool.specs.Records.{IsPool, NoneFree, all_below}
@@ -13,7 +13,7 @@ use Rattle.pin_pool.specs.declared.links.Pin.{Pin}
 use Rattle.pin_pool.specs.declared.links.Ends.{Ends}
 use Rattle.pin_pool.specs.declared.links.Side.TheVariants.{Gate, Driver}
 use Rattle.pin_pool.specs.declared.names.PinNo.{PinNo}
-use Rattle.pin_pool.proofs.PoolLemmas.{has-append, has-push, ring-walk, ring-within, taken-read}
+use Rattle.pin_pool.proofs.PoolLemmas.{has-append, has-push, ring-few, ring-walk, ring-within, taken-read}
 use Rattle.pin_pool.proofs.RoomLemmas.{len-taken}
 
 -- a mark more
@@ -107,16 +107,19 @@ listed-at (xs ∷ lists) zero q h k = or_left _ _ k
 listed-at (xs ∷ lists) (suc n) q h k = or_right _ _ (listed-at lists n q (omega arith) k)
 
 -- the ring of a gate, as a loop over the ends reads it
-pub ring-here : (pins : List Pin) (gates : List Ends) (n : ℕ) → AreLists Gate pins gates → n < length gates → walk 4294967295 (links_of Gate pins) (length pins) (ends_at gates n).first ≡ list_at (lists_of Gate pins gates) n
-ring-here pins gates n r h = ring-walk Gate pins pins gates n (length pins) (ends_at gates n) r (omega (arith, r.sizes)) refl refl (get_or_default gates n no_ends (ends_at gates n) h)
+pub ring-here : (pins : List Pin) (gates : List Ends) (n : ℕ) → AreLists Gate pins gates → n < length gates → walk_on Gate pins (ends_at gates n).first ≡ list_at (lists_of Gate pins gates) n
+ring-here pins gates n r h = ring-walk Gate pins pins gates n (ends_at gates n) r (omega (arith, r.sizes)) refl (get_or_default gates n no_ends (ends_at gates n) h)
 
-pub ring-below : (pins : List Pin) (gates : List Ends) (n m : ℕ) → AreLists Gate pins gates → n < length gates → m ≡ length pins → (q : ℕ) → has q (walk 4294967295 (links_of Gate pins) (length pins) (ends_at gates n).first) ≡ true → q < m
+pub few-here : (pins : List Pin) (gates : List Ends) (n : ℕ) → AreLists Gate pins gates → length pins ≤ 4294967295 → n < length gates → AreFew (walk_on Gate pins (ends_at gates n).first) (length pins)
+few-here pins gates n r few h = rw (ring-here pins gates n r h) (ring-few Gate pins gates n r few (omega (arith, r.sizes)))
+
+pub ring-below : (pins : List Pin) (gates : List Ends) (n m : ℕ) → AreLists Gate pins gates → n < length gates → m ≡ length pins → (q : ℕ) → has q (walk_on Gate pins (ends_at gates n).first) ≡ true → q < m
 ring-below pins gates n m r h e q k =
     let here = ring-here pins gates n r h in
     let within = ring-within Gate pins gates n r (omega (arith, r.sizes)) q (ap (has q) (sym here) ∙ k) in
     omega (arith, e, within)
 
-pub marked-rings : (pins : List Pin) (gates : List Ends) (n : ℕ) (marks marks' : List Bool) → AreLists Gate pins gates → n < length gates → ((q : ℕ) → is_marked marks q ≡ is_listed q (take n (lists_of Gate pins gates))) → ((q : ℕ) → is_marked marks' q ≡ (has q (walk 4294967295 (links_of Gate pins) (length pins) (ends_at gates n).first) || is_marked marks q)) → (q : ℕ) → is_marked marks' q ≡ is_listed q (take (n + 1) (lists_of Gate pins gates))
+pub marked-rings : (pins : List Pin) (gates : List Ends) (n : ℕ) (marks marks' : List Bool) → AreLists Gate pins gates → n < length gates → ((q : ℕ) → is_marked marks q ≡ is_listed q (take n (lists_of Gate pins gates))) → ((q : ℕ) → is_marked marks' q ≡ (has q (walk_on Gate pins (ends_at gates n).first) || is_marked marks q)) → (q : ℕ) → is_marked marks' q ≡ is_listed q (take (n + 1) (lists_of Gate pins gates))
 marked-rings pins gates n marks marks' r h i e q =
     let here = ap (has q) (ring-here pins gates n r h) in
     e q ∙ rw (here, i q) refl ∙ sym (listed-more (lists_of Gate pins gates) n q (omega (arith, r.sizes)))

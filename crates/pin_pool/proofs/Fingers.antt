@@ -1,13 +1,13 @@
 -- Places in the list of a gate.
-use Rattle.std.proofs.Common.{◌≡◌, ℕ, zero, suc, ◌+◌, ◌-◌, ◌<◌, ◌≤◌, true, false, cond, Some, None, Option, IfSome, List, [], ◌∷◌, length, drop, eqb, inl, inr, refl, sym, ap, ◌∙◌, arith}
+use Rattle.std.proofs.Common.{◌≡◌, ℕ, zero, suc, ◌+◌, ◌-◌, ◌<◌, ◌≤◌, true, false, cond, Some, None, Option, IfSome, List, [], ◌∷◌, length, drop, eqb, inl, inr, sym, ap, ◌∙◌, arith}
 use Rattle.std.specs.Prelude.{slice_get}
-use Rattle.std.proofs.lemmas.Bool.{cases_lt, eq-eqb, ne_eqb}
+use Rattle.std.proofs.lemmas.Bool.{cases_lt, eq-eqb}
 use Rattle.std.proofs.lemmas.Bool.Decides.{nat_tests}
 use Rattle.std.proofs.lemmas.List.{get_or_past, drop-drop, length-map}
 use Rattle.std.proofs.Math.Seq.{drop-nil}
 use Rattle.pin_pool.specs.Ring.{has, IsApart, without}
 use Rattle.pin_pool.specs.Pins.{Pins, list_of}
-use Rattle.pin_pool.specs.Links.{lists_of, list_at, links_of, link_of, walk, AllWithin, AreLists, IsRing}
+use Rattle.pin_pool.specs.Links.{lists_of, list_at, links_of, link_of, walk_on, AreFew, AreLists}
 use Rattle.pin_pool.specs.Pointed.{IsPointed}
 use Rattle.pin_pool.specs.declared.finger.Finger.{Finger}
 use Rattle.pin_pool.specs.declared.links.Pin.{Pin}
@@ -65,12 +65,21 @@ drop-few [] (suc k) n le = le
 drop-few (x ∷ xs) (suc k) n le = drop-few xs k n (omega (arith, le))
 
 -- the walk from a pin on, along one side
-pub ring-from : (side : Side) (pins pins0 : List Pin) (es : List Ends) (n left k p : ℕ) → AreLists side pins es → slice_get (list_at (lists_of side pins es) n) k ≡ Some p → pins0 ≡ pins → left ≡ length pins → walk 4294967295 (links_of side pins0) left p ≡ drop k (list_at (lists_of side pins es) n)
-ring-from side pins pins0 es n left k p r there ep el =
+pub ring-from : (side : Side) (pins pins0 : List Pin) (es : List Ends) (n k p : ℕ) → AreLists side pins es → slice_get (list_at (lists_of side pins es) n) k ≡ Some p → pins0 ≡ pins → walk_on side pins0 p ≡ drop k (list_at (lists_of side pins es) n)
+ring-from side pins pins0 es n k p r there ep =
     let h : n < length (lists_of side pins es) = within-there (lists_of side pins es) n k p there in
-    ap (λ (ps : List Pin). walk 4294967295 (links_of side ps) left p) ep
-    ∙ ap (λ j. walk 4294967295 (links_of side pins) j p) (el ∙ sym (length-map pins (link_of side)))
-    ∙ walk-from 4294967295 (links_of side pins) n _ (list_at (lists_of side pins es) n) k p (r.each n (omega (arith, r.sizes, h))) there
+    ap (λ (ps : List Pin). walk_on side ps p) ep
+    ∙ walk-from 4294967295 (links_of side pins) n _ (list_at (lists_of side pins es) n) (suc (length pins)) k p (r.each n (omega (arith, r.sizes, h))) (omega (arith, length-map pins (link_of side))) there
+
+-- the pins from one on are few
+pub few-from : (side : Side) (pins : List Pin) (es : List Ends) (n k p : ℕ) → AreLists side pins es → length pins ≤ 4294967295 → slice_get (list_at (lists_of side pins es) n) k ≡ Some p → AreFew (drop k (list_at (lists_of side pins es) n)) (length pins)
+few-from side pins es n k p r few there =
+    let h : n < length (lists_of side pins es) = within-there (lists_of side pins es) n k p there in
+    record {
+      within = λ q has. ring-within side pins es n r h q (has-drop (list_at (lists_of side pins es) n) k q has);
+      short = drop-few (list_at (lists_of side pins es) n) k (length pins) (ring-length side pins es n r h);
+      numbers = few;
+    }
 
 -- once the pin is taken out, the next one is at its place
 pub pointed-after : (v w : Pins) (p gate position : ℕ) (next : Option Finger) → IsApart (list_of v.inputs gate) → slice_get (list_of v.inputs gate) position ≡ Some p → list_of w.inputs gate ≡ without p (list_of v.inputs gate) → IfSome next (λ f. (f.gate ≡ gate) × ((f.position ≡ position) × (slice_get (list_of v.inputs gate) (position + 1) ≡ Some f.pin.0))) → IsPointed w next

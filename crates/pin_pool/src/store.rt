@@ -256,7 +256,6 @@ impl Store {
             pins: &self.pins,
             side: Side::Gate,
             at: self.gates[gate as usize].first,
-            left: self.pins.len(),
         }
     }
 
@@ -270,7 +269,6 @@ impl Store {
             pins: &self.pins,
             side: Side::Gate,
             at: at.pin.0,
-            left: self.pins.len(),
         }
     }
 
@@ -300,7 +298,6 @@ impl Store {
             pins: &self.pins,
             side: Side::Driver,
             at: self.drivers[driver as usize].first,
-            left: self.pins.len(),
         }
     }
 

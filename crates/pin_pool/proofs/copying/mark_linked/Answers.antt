@@ -1,13 +1,13 @@
-use Rattle.std.proofs.Common.{◌≡◌, List, Bool, false, refl, ap, ◌∙◌, arith, length}
+use Rattle.std.proofs.Common.{◌≡◌, List, Bool, false, ap, ◌∙◌, arith, length}
 use Rattle.std.proofs.lemmas.List.{length-replicate, take_all}
 use Rattle.pin_pool.specs.Links.{lists_of}
 use Rattle.pin_pool.specs.Marks.{is_listed, is_marked}
 use Rattle.pin_pool.specs.declared.links.Side.TheVariants.{Gate}
-use Rattle.pin_pool.proofs.Copied.{marked-rings, none-marked, ring-below}
+use Rattle.pin_pool.proofs.Copied.{few-here, marked-rings, none-marked, ring-below}
 use Rattle.pin_pool.proofs.copying.mark_linked.Goals as goal
 
 pub invariant_of-ring : goal.invariant_of-ring
-invariant_of-ring c = ring-below c.args.pins.now c.args.gates.now c.loop-ends.ends-index _ c.requires.lists c.loop-ends-test.true refl
+invariant_of-ring c = few-here c.args.pins.now c.args.gates.now c.loop-ends.ends-index c.requires.lists c.requires.few c.loop-ends-test.true
 
 pub mark_ring-requires : goal.mark_ring-requires
 mark_ring-requires c =

@@ -1,4 +1,4 @@
-use Rattle.std.proofs.Common.{◌≡◌, ◌++◌, ◌||◌, ◌∷◌, [], ℕ, List, map, ap, sym, ◌∙◌}
+use Rattle.std.proofs.Common.{◌++◌, ◌||◌, ◌∷◌, [], ℕ, List, map, ap, sym, ◌∙◌}
 use Rattle.std.proofs.lemmas.List.{map-append}
 use Rattle.pin_pool.specs.Ring.{has}
 use Rattle.pin_pool.specs.Marks.{is_marked}

@@ -1,4 +1,4 @@
-use Rattle.std.proofs.Common.{◌≡◌, arith, ap, ◌∙◌, ℕ, Vec, Global}
+use Rattle.std.proofs.Common.{arith, ap, ◌∙◌, ℕ, Vec, Global}
 use Rattle.std.specs.Prelude.{vec_capacity}
 use Rattle.pin_pool.proofs.Copied.{unmarked-next}
 use Rattle.pin_pool.proofs.copying.unmarked.Goals as goal

@@ -1,5 +1,5 @@
 use Rattle.pin_pool.proofs.Calls.{linked-relink, others-relink, paired-relink, place-by, rings-relink, undoes-relink, valid-relink}
-use Rattle.std.proofs.Common.{◌≡◌, ℕ, ◌+◌, List, [], ◌∷◌, ◌++◌, length, ap, ◌∙◌, arith, length-set}
+use Rattle.std.proofs.Common.{◌≡◌, ℕ, ◌+◌, List, length, ap, ◌∙◌, arith, length-set}
 use Rattle.pin_pool.specs.Pins.{Pins, list_of, put_after}
 use Rattle.pin_pool.specs.Rings.{Rings, rings_of, IsValid, CanRelink, changed}
 use Rattle.pin_pool.proofs.Totalled.{count-room, linked-room, counted-in, length-put_after}

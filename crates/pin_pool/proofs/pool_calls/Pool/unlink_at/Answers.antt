@@ -1,4 +1,4 @@
-use Rattle.std.proofs.Common.{◌≡◌, ◌∙◌, ap, sym, subst}
+use Rattle.std.proofs.Common.{◌∙◌, ap, sym, subst}
 use Rattle.pin_pool.specs.Ring.{IsApart, without}
 use Rattle.pin_pool.specs.Pins.{Pins, list_of}
 use Rattle.pin_pool.specs.Rings.{Rings, rings_of, IsLinked}

@@ -1,5 +1,4 @@
-use Rattle.std.proofs.Common.{◌≡◌, ◌≤◌, ℕ, List, Bool, length, sym, ap, ◌∙◌, ◌+◌, arith, refl}
-use Rattle.std.specs.Prelude.{vec_capacity}
+use Rattle.std.proofs.Common.{◌≡◌, ℕ, List, Bool, length, ap, ◌∙◌, ◌+◌, arith}
 use Rattle.std.specs.FinSet as set
 use Rattle.pin_pool.specs.Links.{lists_of}
 use Rattle.pin_pool.specs.Marks.{is_listed, is_marked, unmarked_from}
