@@ -110,8 +110,8 @@ listed-at (xs ∷ lists) (suc n) q h k = or_right _ _ (listed-at lists n q (omeg
 pub ring-here : (pins : List Pin) (gates : List Ends) (n : ℕ) → AreLists Gate pins gates → n < length gates → walk_on Gate pins (ends_at gates n).first ≡ list_at (lists_of Gate pins gates) n
 ring-here pins gates n r h = ring-walk Gate pins pins gates n (ends_at gates n) r (omega (arith, r.sizes)) refl (get_or_default gates n no_ends (ends_at gates n) h)
 
-pub few-here : (pins : List Pin) (gates : List Ends) (n : ℕ) → AreLists Gate pins gates → length pins ≤ 4294967295 → n < length gates → AreFew (walk_on Gate pins (ends_at gates n).first) (length pins)
-few-here pins gates n r few h = rw (ring-here pins gates n r h) (ring-few Gate pins gates n r few (omega (arith, r.sizes)))
+pub few-here : (pins : List Pin) (gates : List Ends) (n : ℕ) → AreLists Gate pins gates → n < length gates → AreFew (walk_on Gate pins (ends_at gates n).first) (length pins)
+few-here pins gates n r h = rw (ring-here pins gates n r h) (ring-few Gate pins gates n r (omega (arith, r.sizes)))
 
 pub ring-below : (pins : List Pin) (gates : List Ends) (n m : ℕ) → AreLists Gate pins gates → n < length gates → m ≡ length pins → (q : ℕ) → has q (walk_on Gate pins (ends_at gates n).first) ≡ true → q < m
 ring-below pins gates n m r h e q k =

@@ -72,13 +72,12 @@ ring-from side pins pins0 es n k p r there ep =
     ∙ walk-from 4294967295 (links_of side pins) n _ (list_at (lists_of side pins es) n) (suc (length pins)) k p (r.each n (omega (arith, r.sizes, h))) (omega (arith, length-map pins (link_of side))) there
 
 -- the pins from one on are few
-pub few-from : (side : Side) (pins : List Pin) (es : List Ends) (n k p : ℕ) → AreLists side pins es → length pins ≤ 4294967295 → slice_get (list_at (lists_of side pins es) n) k ≡ Some p → AreFew (drop k (list_at (lists_of side pins es) n)) (length pins)
-few-from side pins es n k p r few there =
+pub few-from : (side : Side) (pins : List Pin) (es : List Ends) (n k p : ℕ) → AreLists side pins es → slice_get (list_at (lists_of side pins es) n) k ≡ Some p → AreFew (drop k (list_at (lists_of side pins es) n)) (length pins)
+few-from side pins es n k p r there =
     let h : n < length (lists_of side pins es) = within-there (lists_of side pins es) n k p there in
     record {
       within = λ q has. ring-within side pins es n r h q (has-drop (list_at (lists_of side pins es) n) k q has);
       short = drop-few (list_at (lists_of side pins es) n) k (length pins) (ring-length side pins es n r h);
-      numbers = few;
     }
 
 -- once the pin is taken out, the next one is at its place

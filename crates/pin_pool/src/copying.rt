@@ -27,7 +27,6 @@ fn mark_ring(pins: PinIter<'_>, marks: &mut [bool])
 // Marks the pins that are in the ring of a gate.
 fn mark_linked(pins: &[Pin], gates: &[Ends], marks: &mut [bool])
     requires lists { AreLists Gate pins.now gates.now }
-    requires few { length pins.now ≤ number_bound }
     requires clear { marks.old ≡ replicate (length pins.now) false }
     ensures { (q : ℕ) → is_marked marks.new q ≡ is_listed q (lists_of Gate pins.now gates.now) }
 {

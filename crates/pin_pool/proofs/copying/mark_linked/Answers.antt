@@ -7,7 +7,7 @@ use Rattle.pin_pool.proofs.Copied.{few-here, marked-rings, none-marked, ring-bel
 use Rattle.pin_pool.proofs.copying.mark_linked.Goals as goal
 
 pub invariant_of-ring : goal.invariant_of-ring
-invariant_of-ring c = few-here c.args.pins.now c.args.gates.now c.loop-ends.ends-index c.requires.lists c.requires.few c.loop-ends-test.true
+invariant_of-ring c = few-here c.args.pins.now c.args.gates.now c.loop-ends.ends-index c.requires.lists c.loop-ends-test.true
 
 pub mark_ring-requires : goal.mark_ring-requires
 mark_ring-requires c =

@@ -10,7 +10,7 @@ invariant_of-result c =
     let r = c.self.invariant.driver_lists in
     let within = rw (← c.self.view_is) at c.requires in
     rw (ring-walk Driver inside.pins.items c.deref.result.now inside.drivers.items c.args.driver c.index.result.now r within c.deref.ensures.value c.index.ensures, c.deref.ensures.value)
-    (ring-few Driver inside.pins.items inside.drivers.items c.args.driver r c.self.invariant.few within)
+    (ring-few Driver inside.pins.items inside.drivers.items c.args.driver r within)
 
 pub returns-clause-list : goal.returns-clause-list
 returns-clause-list c =

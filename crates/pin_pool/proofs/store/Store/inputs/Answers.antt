@@ -10,7 +10,7 @@ invariant_of-result c =
     let r = c.self.invariant.gate_lists in
     let within = rw (← c.self.view_is) at c.requires in
     rw (ring-walk Gate inside.pins.items c.deref.result.now inside.gates.items c.args.gate c.index.result.now r within c.deref.ensures.value c.index.ensures, c.deref.ensures.value)
-    (ring-few Gate inside.pins.items inside.gates.items c.args.gate r c.self.invariant.few within)
+    (ring-few Gate inside.pins.items inside.gates.items c.args.gate r within)
 
 pub returns-clause-list : goal.returns-clause-list
 returns-clause-list c =

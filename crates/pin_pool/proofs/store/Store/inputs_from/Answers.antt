@@ -11,7 +11,7 @@ invariant_of-result c =
     let r = c.self.invariant.gate_lists in
     let there = rw (← c.self.view_is) at c.requires in
     rw (ring-from Gate inside.pins.items c.deref.result.now inside.gates.items c.args.at.gate c.args.at.position c.args.at.pin.0 r there c.deref.ensures.value, c.deref.ensures.value)
-    (few-from Gate inside.pins.items inside.gates.items c.args.at.gate c.args.at.position c.args.at.pin.0 r c.self.invariant.few there)
+    (few-from Gate inside.pins.items inside.gates.items c.args.at.gate c.args.at.position c.args.at.pin.0 r there)
 
 pub returns-clause-list : goal.returns-clause-list
 returns-clause-list c =
