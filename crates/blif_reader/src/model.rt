@@ -37,7 +37,7 @@ fn rank_refusal(refused: RankFault, places: &[Place]) -> ReadRefusal
 }
 
 // The model with its ranks.
-fn ranked(alloc: Global, model: Model, places: &[Place]) -> Result<RankedModel, ReadRefusal>
+fn rank_model(alloc: Global, model: Model, places: &[Place]) -> Result<RankedModel, ReadRefusal>
     requires formed { IsWellFormed model }
     requires few { length (source_names model) + length model.covers < 2 ^ 32 }
     requires placed { length places.now ≡ length model.covers }
@@ -88,5 +88,5 @@ pub fn read_model(alloc: Global, text: &[u8]) -> Result<RankedModel, ReadRefusal
         Ok(model) => model,
         Err(_) => return Err(ReadRefusal::NoMemory),
     };
-    ranked(alloc, model, places.as_slice())
+    rank_model(alloc, model, places.as_slice())
 }

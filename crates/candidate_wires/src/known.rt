@@ -12,7 +12,7 @@ ghost use Rattle.candidate_wires.specs.Parts.{AreKnown, HasGoods, HasUsable, IsA
 
 use gate_graph::Graph;
 use gate_net::Kind;
-use refutation::pins::{Aspect, known};
+use refutation::pins::{Aspect, known_of};
 use refutation::{Fact, FactSet};
 use rm_base::{NoMemory, NodeId};
 use std::alloc::Global;
@@ -62,8 +62,8 @@ fn known_at(graph: &Graph, facts: &FactSet, node: NodeId) -> Option<Known>
     requires { node.0 < length facts.now }
     ensures { IsLook (net_of graph.now) (held_by facts.now) node.0 result }
 {
-    let value = known(facts, Aspect::OfGood, node)?;
-    if known(facts, Aspect::OfEqual, node) != Some(true) {
+    let value = known_of(facts, Aspect::OfGood, node)?;
+    if known_of(facts, Aspect::OfEqual, node) != Some(true) {
         return None;
     }
     let kind = graph.kind(node)?;

@@ -31,7 +31,7 @@ fn piece<G: Gate>(
 }
 
 // The verdicts of these and then of those.
-fn joined(mut verdicts: Vec<Verdict>, others: Vec<Verdict>) -> Result<Vec<Verdict>, NoMemory>
+fn join_verdicts(mut verdicts: Vec<Verdict>, others: Vec<Verdict>) -> Result<Vec<Verdict>, NoMemory>
     ensures { IfOk result (λ v. v.items ≡ verdicts.items ++ others.items) }
 {
     for verdict in others {
@@ -93,5 +93,5 @@ pub(crate) fn pieces<R: Threads + Sync, G: Gate>(
             ensures { IfOk result (λ v. AreVerdicts (net_of graph.entry.now) settings.entry.now.budget back.entry.now v.items) }
         { pieces(rt, alloc, graph, back, settings, gate, first + left, right) },
     );
-    joined(verdicts?, others?)
+    join_verdicts(verdicts?, others?)
 }

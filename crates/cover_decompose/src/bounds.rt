@@ -4,7 +4,7 @@ ghost use Rattle.rm_model.specs.Size.{rows_weight, covers_weight};
 ghost use Rattle.cover_decompose.specs.Bounds.{IsSmall};
 
 use rm_base::NoMemory;
-use rm_model::{Cover, Model, Row, observed, sources};
+use rm_model::{Cover, Model, Row, list_observed, sources};
 use std::alloc::Global;
 
 fn add_row(total: usize, row: &Row) -> Option<usize>
@@ -57,6 +57,6 @@ pub fn is_small(alloc: Global, model: &Model) -> Result<bool, NoMemory>
     if sources.len() > 1_024 {
         return Ok(false);
     }
-    let observed = observed(alloc, model)?;
+    let observed = list_observed(alloc, model)?;
     Ok(observed.len() <= 4_096)
 }

@@ -104,7 +104,7 @@ pub fn build(
     ensures { IfOk result (λ g. IsBuilt g plan.now.made (map (slice_index plan.now.nodes) observed.now)) }
 {
     let mut graph = Graph::new(alloc, sources as u32)?;
-    add_nodes(alloc, &mut graph, plan.made(), sources)?;
+    add_nodes(alloc, &mut graph, plan.made_nodes(), sources)?;
     observe_all(&mut graph, plan, observed)?;
     Ok(graph)
 }

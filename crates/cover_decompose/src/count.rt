@@ -28,7 +28,7 @@ fn literal_count(row: &[Literal]) -> usize
     count
 }
 
-fn joining(count: usize) -> u64
+fn wires_to_join(count: usize) -> u64
     ensures { result ≡ joining_wires count }
 {
     if count < 2 { 0 } else { count as u64 }
@@ -70,7 +70,7 @@ fn row_wires(seen: &mut [bool], inputs: &[u32], row: &[Literal]) -> u64
     requires fits { (row_tally seen.old inputs.now row.now).0 < 2 ^ 64 }
     ensures { (result, seen.new) ≡ row_tally seen.old inputs.now row.now }
 {
-    let joined = joining(literal_count(row));
+    let joined = wires_to_join(literal_count(row));
     joined + zero_wires(seen, inputs, row)
 }
 
@@ -94,7 +94,7 @@ fn cover_wires(seen: &mut [bool], inputs: &[u32], cover: &Cover) -> u64
     ensures { (result, seen.new) ≡ cover_tally seen.old inputs.now cover.now }
 {
     let rows = rows_wires(seen, inputs, cover.rows.items());
-    let sum = joining(cover.rows.len());
+    let sum = wires_to_join(cover.rows.len());
     let closing = if cover.on { 0 } else { 1 };
     rows + sum + closing
 }

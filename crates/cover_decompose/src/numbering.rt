@@ -10,7 +10,7 @@ ghost use Rattle.cover_decompose.specs.Places.{marked};
 ghost use Rattle.rm_model.specs.WellFormed.{IsWellFormed, driven_names};
 
 use crate::count::wires;
-use crate::needed::{mark, needed, places_by_rank};
+use crate::needed::{list_needed, mark, places_by_rank};
 use rm_base::NoMemory;
 use rm_model::{Model, Numbering, RankedModel, ranks_follow};
 use std::alloc::Global;
@@ -58,7 +58,7 @@ pub fn taken_places(
 {
     let signals = numbering.sources as usize + model.covers.len();
     let mut marks = observed_marks(alloc, signals, numbering.observed.as_slice())?;
-    let taken = needed(
+    let taken = list_needed(
         alloc,
         order,
         numbering.inputs.as_slice(),

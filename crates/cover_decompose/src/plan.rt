@@ -98,7 +98,7 @@ impl Plan {
         })
     }
 
-    pub fn made(&self) -> &[PlanNode]
+    pub fn made_nodes(&self) -> &[PlanNode]
         ensures { map node_of_plan result.now ≡ self.now.made }
     {
         self.made.as_slice()
@@ -182,7 +182,7 @@ impl Plan {
     }
 
     // The gate over a list of nodes: none for fewer than two.
-    fn joined(&mut self, kind: Kind, empty: usize, nodes: Vec<usize>) -> Result<usize, NoMemory>
+    fn join_nodes(&mut self, kind: Kind, empty: usize, nodes: Vec<usize>) -> Result<usize, NoMemory>
         ensures plan { OnOk result (self.new ≡ (joined_planned kind empty self.old nodes.items).0) }
         ensures number { IfOk result (λ n. n ≡ (joined_planned kind empty self.old nodes.items).1) }
         ensures kept { OnOk result (length self.new.nodes ≡ length self.old.nodes) }
@@ -204,7 +204,7 @@ impl Plan {
         ensures kept { OnOk result (length self.new.nodes ≡ length self.old.nodes) }
     {
         let nodes = self.literals(inputs, row)?;
-        self.joined(Kind::And, 1, nodes)
+        self.join_nodes(Kind::And, 1, nodes)
     }
 
     fn terms(&mut self, inputs: &[u32], rows: &[Row]) -> Result<Vec<usize>, NoMemory>
@@ -222,7 +222,7 @@ impl Plan {
         Ok(nodes)
     }
 
-    fn closed(&mut self, on: bool, node: usize) -> Result<usize, NoMemory>
+    fn with_ending(&mut self, on: bool, node: usize) -> Result<usize, NoMemory>
         ensures plan { OnOk result (self.new ≡ (closed_planned on (self.old, node)).0) }
         ensures number { IfOk result (λ n. n ≡ (closed_planned on (self.old, node)).1) }
         ensures kept { OnOk result (length self.new.nodes ≡ length self.old.nodes) }
@@ -241,8 +241,8 @@ impl Plan {
         ensures kept { OnOk result (length self.new.nodes ≡ length self.old.nodes) }
     {
         let terms = self.terms(inputs, cover.rows.items())?;
-        let sum = self.joined(Kind::Or, 0, terms)?;
-        self.closed(cover.on, sum)
+        let sum = self.join_nodes(Kind::Or, 0, terms)?;
+        self.with_ending(cover.on, sum)
     }
 
     /// Makes the nodes of a cover whose output is the signal of that number.

@@ -32,7 +32,7 @@ fn drawn_model(alloc: Global, seed: u64) -> Result<Model, NoMemory>
 }
 
 // A model that has ranks, with them.
-fn ranked(alloc: Global, model: Model) -> Result<RankedModel, NoMemory>
+fn rank_model(alloc: Global, model: Model) -> Result<RankedModel, NoMemory>
     requires formed { IsWellFormed model }
     requires ranked { first_without_rank model ≡ None }
     requires room { length (source_names model) + length model.covers < 2 ^ 32 }
@@ -58,5 +58,5 @@ pub fn demo_model(alloc: Global, seed: u64) -> Result<RankedModel, NoMemory>
 {
     demo_models_are_ready();
     let model = drawn_model(alloc, seed)?;
-    ranked(alloc, model)
+    rank_model(alloc, model)
 }

@@ -9,7 +9,7 @@ ghost use Rattle.fault_sim.specs.BlockStates.{ArePlaced, AreSimulated, IsFirstLa
 
 use crate::detecting::found_by;
 use crate::following::catch_up;
-use crate::listing::{Listing, listed};
+use crate::listing::{Listing, list_in_order};
 use crate::making::{grow_words, zero_words};
 use crate::pending::first_bit;
 use crate::placing::any_misplaced;
@@ -28,7 +28,7 @@ pub struct Block {
 }
 
 // A block of these vectors, simulated.
-fn simulated(
+fn simulate_block(
     alloc: Global,
     graph: &Graph,
     words: &[u64],
@@ -145,7 +145,7 @@ fn follow_all(
 }
 
 // A block of the same words, with zeros after the good ones.
-fn grown(alloc: Global, block: &Block, numbers: usize) -> Result<Block, NoMemory>
+fn grow_block(alloc: Global, block: &Block, numbers: usize) -> Result<Block, NoMemory>
     requires { length block.now.good.items ≤ numbers }
     ensures { IfOk result (λ b. IsGrown numbers block.now b) }
 {
@@ -164,7 +164,7 @@ fn all_grown(alloc: Global, blocks: &[Block], numbers: usize) -> Result<Vec<Bloc
 {
     let mut longer = Vec::new(alloc);
     for block in blocks {
-        let again = grown(alloc, block, numbers)?;
+        let again = grow_block(alloc, block, numbers)?;
         longer.push(again)?;
     }
     Ok(longer)
@@ -219,7 +219,7 @@ impl Blocks {
         ensures none { IfOk result (λ s. s.words ≡ []) }
         ensures simulated { IfOk result (λ s. AreSimulated s (net_of graph.now)) }
     {
-        let listing = listed(alloc, graph, 0)?;
+        let listing = list_in_order(alloc, graph, 0)?;
         let blocks = Vec::new(alloc);
         let Listing {
             order,
@@ -251,7 +251,7 @@ impl Blocks {
         ensures failed { OnErr result (self.new ≡ self.old) }
         ensures simulated { AreSimulated self.new (net_of graph.now) }
     {
-        let block = simulated(
+        let block = simulate_block(
             alloc,
             graph,
             words,
@@ -308,7 +308,7 @@ impl Blocks {
         ensures simulated { OnOk result (AreSimulated self.new (net_of graph.now)) }
         ensures failed { OnErr result (self.new ≡ self.old) }
     {
-        let listing = listed(alloc, graph, self.places.len())?;
+        let listing = list_in_order(alloc, graph, self.places.len())?;
         lengthen(
             alloc,
             &mut self.blocks,

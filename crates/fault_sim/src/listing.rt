@@ -30,7 +30,7 @@ fn room_for(numbers: u32, least: usize) -> usize
 }
 
 // The order of a graph, for so many numbers at least.
-pub(crate) fn listed(alloc: Global, graph: &Graph, least: usize) -> Result<Listing, NoMemory>
+pub(crate) fn list_in_order(alloc: Global, graph: &Graph, least: usize) -> Result<Listing, NoMemory>
     ensures order { IfOk result (λ l. IsOrder (net_of graph.now) (map (λ n. n.0) l.order.items)) }
     ensures placed { IfOk result (λ l. ArePlaced (map (λ n. n.0) l.order.items) l.places.items l.spread) }
     ensures numbers { IfOk result (λ l. least ≤ length l.places.items) }

@@ -110,7 +110,7 @@ impl Graph {
     }
 
     /// The observed nodes, in order.
-    pub fn observed(&self) -> Inputs<'_>
+    pub fn observed_points(&self) -> Inputs<'_>
         ensures observed { result ≡ (net_of self.now).observed }
         ensures few { length result ≤ number_bound }
     {
@@ -127,7 +127,7 @@ impl Graph {
         ensures { Some result.0 ≡ slice_get (net_of self.now).observed at }
     {
         let mut left = at;
-        for node in self.observed() {
+        for node in self.observed_points() {
             if left == 0 {
                 return node;
             }

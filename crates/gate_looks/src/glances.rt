@@ -18,7 +18,7 @@ pub trait Known {
     ghost bound: { Self → ℕ };
 
     /// What is known of a node.
-    fn known(&self, node: NodeId) -> Option<bool>
+    fn known_of(&self, node: NodeId) -> Option<bool>
         requires { node.0 < bound self.now }
         ensures { result ≡ knows self.now node.0 };
 }
@@ -34,7 +34,7 @@ pub fn look<K: Known>(drivers: Inputs<'_>, stuck: Option<Stuck>, known: &K, valu
     let mut at: usize = 0;
     let mut q: usize = 0;
     for driver in drivers {
-        let here = at_pin(stuck, q, known.known(driver));
+        let here = at_pin(stuck, q, known.known_of(driver));
         if is_value(here, value) {
             any = true;
         }
@@ -53,7 +53,7 @@ fn first_pin<K: Known>(mut drivers: Inputs<'_>, stuck: Option<Stuck>, known: &K)
     ensures { result ≡ first_known (with_stuck stuck (map (K.knows known.now) drivers.entry)) }
 {
     match drivers.next() {
-        Some(driver) => at_pin(stuck, 0, known.known(driver)),
+        Some(driver) => at_pin(stuck, 0, known.known_of(driver)),
         None => None,
     }
 }

@@ -4,7 +4,7 @@ ghost use Rattle.rm_base.specs.Words.{Word};
 ghost use Rattle.gate_graph.specs.Circuit.{net_of};
 ghost use Rattle.graph_to_model.specs.Making.{all_by, copies_by, copy_by};
 
-use crate::driven_names::driven;
+use crate::driven_names::table_of_driven;
 use crate::gates::{cover_with, even_row, gate_covers};
 use gate_graph::Graph;
 use rm_base::NoMemory;
@@ -77,7 +77,7 @@ fn copies_beside(
     requires observed { length nodes.now ≡ length observed.now }
     ensures { IfOk result (λ covers. covers.items ≡ copies_by names.now (sources.now ++ map (λ c. c.output) gates.now) nodes.now observed.now) }
 {
-    let mut had = driven(alloc, sources, gates)?;
+    let mut had = table_of_driven(alloc, sources, gates)?;
     let covers = copies(alloc, &mut had, nodes, observed, names)?;
     Ok(covers)
 }

@@ -26,7 +26,7 @@ fn include_outputs<'a>(set: &mut NameTable<'a>, covers: &'a [Cover]) -> Result<(
 }
 
 /// The sources and the outputs of the covers.
-pub fn driven<'a>(
+pub fn table_of_driven<'a>(
     alloc: Global,
     sources: &'a [Name],
     covers: &'a [Cover],

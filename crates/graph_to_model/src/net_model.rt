@@ -16,7 +16,7 @@ use crate::naming::node_names;
 use crate::places::observed_nodes;
 use gate_graph::Graph;
 use rm_base::{NoMemory, NodeId};
-use rm_model::{Cover, Listed, Model, copy_name, observed, sources};
+use rm_model::{Cover, Listed, Model, copy_name, list_observed, sources};
 use std::alloc::Global;
 use wire_edit::{Seen, Step, first_rule, first_rule_by};
 
@@ -75,7 +75,7 @@ fn covers_of(alloc: Global, graph: &Graph, original: &Model) -> Result<Listed<Co
 {
     graph.well_formed();
     let sources = sources(alloc, original)?;
-    let observed = observed(alloc, original)?;
+    let observed = list_observed(alloc, original)?;
     let nodes = observed_nodes(alloc, graph)?;
     let names = node_names(
         alloc,

@@ -12,7 +12,7 @@ pub fn observed_nodes(alloc: Global, graph: &Graph) -> Result<Vec<usize>, NoMemo
     ensures { IfOk result (λ nodes. nodes.items ≡ (net_of graph.now).observed) }
 {
     let mut nodes = Vec::new(alloc);
-    for node in graph.observed() {
+    for node in graph.observed_points() {
         nodes.push(node.0 as usize)?;
     }
     Ok(nodes)

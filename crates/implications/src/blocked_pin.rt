@@ -11,17 +11,17 @@ use crate::tallies::Tally;
 use gate_graph::{Inputs, Question};
 use refutation::FactSet;
 use refutation::following::gate_pins;
-use refutation::pins::{Aspect, is_stuck, is_value, known};
+use refutation::pins::{Aspect, is_stuck, is_value, known_of};
 use rm_base::{Fault, NodeId};
 
 // Whether the driver is equal and has the value.
 fn is_blocking(facts: &FactSet, driver: NodeId, value: bool) -> bool
     requires { driver.0 < length facts.now }
 {
-    if !is_value(known(facts, Aspect::OfEqual, driver), true) {
+    if !is_value(known_of(facts, Aspect::OfEqual, driver), true) {
         return false;
     }
-    is_value(known(facts, Aspect::OfGood, driver), value)
+    is_value(known_of(facts, Aspect::OfGood, driver), value)
 }
 
 // The first pin but the stuck one whose driver is equal and has the value.
@@ -59,7 +59,7 @@ pub(crate) fn blocked_pin(
     requires kind { IsJunction (net_of question.now.graph.now) node.0 c }
     ensures { IfSome result (λ p. Reads (net_of question.now.graph.now) node.0 p.0 p.1.0) }
 {
-    if !is_value(known(facts, Aspect::OfEqual, node), false) {
+    if !is_value(known_of(facts, Aspect::OfEqual, node), false) {
         return None;
     }
     let passing = if c { tally.passing_1 } else { tally.passing_0 };

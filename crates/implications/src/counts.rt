@@ -69,7 +69,7 @@ pub(crate) fn count_for(c: bool, no: u32, yes: u32, pins: u32) -> Count
 }
 
 // The count with one more where something is given, and one less where something is taken.
-fn replaced(count: u64, taken: bool, given: bool) -> u64
+fn replace_one(count: u64, taken: bool, given: bool) -> u64
     requires { count < 4294967296 }
     ensures { result ≡ (count + one_if given) - one_if taken }
 {
@@ -86,8 +86,8 @@ pub(crate) fn with_stuck_pin(count: Count, c: bool, driven: Option<bool>, value:
     ensures { (os : List (Option Bool)) (p : ℕ) → IsCount count c os → slice_get os p ≡ Some driven → IsCount result c (slice_set os p (Some value)) }
 {
     let stuck = Some(value);
-    let controlled = replaced(count.controlled, is_value(driven, c), is_value(stuck, c));
-    let passing = replaced(count.passing, is_value(driven, !c), is_value(stuck, !c));
+    let controlled = replace_one(count.controlled, is_value(driven, c), is_value(stuck, c));
+    let passing = replace_one(count.passing, is_value(driven, !c), is_value(stuck, !c));
     Count {
         controlled,
         passing,

@@ -19,7 +19,7 @@ use crate::side_line::is_open_side;
 use crate::tallies::Tally;
 use gate_graph::Question;
 use refutation::FactSet;
-use refutation::pins::{Aspect, is_value, known};
+use refutation::pins::{Aspect, is_value, known_of};
 use rm_base::NodeId;
 
 // The count of the pins' faulty values for the controlling value.
@@ -39,7 +39,7 @@ pub(crate) fn faulty_count(
     if node.0 != question.fault.gate.0 {
         return count;
     }
-    let driven = known(facts, Aspect::OfFaulty, tally.at);
+    let driven = known_of(facts, Aspect::OfFaulty, tally.at);
     with_stuck_pin(count, c, driven, question.fault.value)
 }
 
@@ -58,7 +58,7 @@ pub(crate) fn good_is_done(
     ensures { result ≡ true → AreDoneGood (net_of question.now.graph.now) question.now.fault facts.now node }
 {
     let count = count_for(c, tally.good_0, tally.good_1, tally.pins);
-    pulls_nothing(count, c, known(facts, Aspect::OfGood, node))
+    pulls_nothing(count, c, known_of(facts, Aspect::OfGood, node))
 }
 
 // Whether the lines on faulty values have nothing more to give.
@@ -76,7 +76,7 @@ pub(crate) fn faulty_is_done(
     ensures { result ≡ true → AreDoneFaulty (net_of question.now.graph.now) question.now.fault facts.now node }
 {
     let count = faulty_count(question, facts, tally, node, c);
-    pulls_nothing(count, c, known(facts, Aspect::OfFaulty, node))
+    pulls_nothing(count, c, known_of(facts, Aspect::OfFaulty, node))
 }
 
 // Whether the lines by which the gate is equal, or a driver of it differs, have nothing more to give.
@@ -97,7 +97,7 @@ pub(crate) fn equal_is_done(
         return true;
     }
     let count = count_for(false, tally.differs, tally.equal, tally.pins);
-    equal_pulls_nothing(count, known(facts, Aspect::OfEqual, node))
+    equal_pulls_nothing(count, known_of(facts, Aspect::OfEqual, node))
 }
 
 // Whether the line on equal drivers has nothing more to give: each passes, but for the stuck pin's.
@@ -114,7 +114,7 @@ pub(crate) fn sides_are_done(
     requires tally { IsTally (held_by facts.now) question.now.fault.position (drivers_of (net_of question.now.graph.now) node.0) tally.now }
     ensures { result ≡ true → AreDoneSide (net_of question.now.graph.now) question.now.fault facts.now node }
 {
-    if !is_value(known(facts, Aspect::OfEqual, node), false) {
+    if !is_value(known_of(facts, Aspect::OfEqual, node), false) {
         return true;
     }
     let open = count_not_passing(tally, c);

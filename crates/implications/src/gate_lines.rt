@@ -15,7 +15,7 @@ use crate::pulls::{Pull, equal_pull, junction_pull};
 use gate_graph::{Graph, Question};
 use refutation::following::gate_pins;
 use refutation::glances::look;
-use refutation::pins::{Aspect, Stuck, known, stuck_at};
+use refutation::pins::{Aspect, Stuck, known_of, stuck_at};
 use refutation::{Fact, FactSet, Line};
 use rm_base::NodeId;
 
@@ -27,7 +27,7 @@ pub enum Pulled {
 }
 
 // Finds the driver of the pin.
-fn placed(graph: &Graph, node: NodeId, pull: Pull) -> Pulled
+fn find_driver(graph: &Graph, node: NodeId, pull: Pull) -> Pulled
     requires { SomePin (drivers_of (net_of graph.now) node.0) pull }
     ensures { IsPlaced (net_of graph.now) node.0 pull result }
 {
@@ -57,8 +57,8 @@ fn pull_value(
     ensures { IsPulled (net_of graph.now) node.0 (IsPull c (pins_of stuck aspect (held_by facts.now) (drivers_of (net_of graph.now) node.0)) (known_on aspect (held_by facts.now) node.0)) result }
 {
     let glance = look(gate_pins(graph, node), stuck, facts, aspect, c);
-    let pull = junction_pull(glance, c, known(facts, aspect, node))?;
-    Some(placed(graph, node, pull))
+    let pull = junction_pull(glance, c, known_of(facts, aspect, node))?;
+    Some(find_driver(graph, node, pull))
 }
 
 // That a gate is equal, or that a driver of it differs, which isn't known.
@@ -68,8 +68,8 @@ fn pull_equal(graph: &Graph, facts: &FactSet, node: NodeId) -> Option<Pulled>
     ensures { IsPulled (net_of graph.now) node.0 (IsEqualPull (pins_of None OfEqual (held_by facts.now) (drivers_of (net_of graph.now) node.0)) (known_on OfEqual (held_by facts.now) node.0)) result }
 {
     let glance = look(gate_pins(graph, node), None, facts, Aspect::OfEqual, false);
-    let pull = equal_pull(glance, known(facts, Aspect::OfEqual, node))?;
-    Some(placed(graph, node, pull))
+    let pull = equal_pull(glance, known_of(facts, Aspect::OfEqual, node))?;
+    Some(find_driver(graph, node, pull))
 }
 
 // The lines on good values at an And or an Or with that controlling value.

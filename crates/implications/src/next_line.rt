@@ -28,7 +28,7 @@ use refutation::{Fact, FactSet, Line};
 use rm_base::NodeId;
 
 // What a line gives, where it isn't held yet.
-fn tried(
+fn try_line(
     question: &Question<'_>,
     facts: &FactSet,
     line: Line,
@@ -51,15 +51,15 @@ pub(crate) fn value_line(question: &Question<'_>, facts: &FactSet, node: NodeId)
     ensures { Finds (net_of question.now.graph.now) question.now.fault facts.now (AreDoneValues (net_of question.now.graph.now) question.now.fault facts.now node) result }
 {
     let given = line_compare(question, facts, node);
-    if let Some(found) = tried(question, facts, Line::Compare { node }, given) {
+    if let Some(found) = try_line(question, facts, Line::Compare { node }, given) {
         return Some(found);
     }
     let given = line_to_faulty(question, facts, node);
-    if let Some(found) = tried(question, facts, Line::ToFaulty { node }, given) {
+    if let Some(found) = try_line(question, facts, Line::ToFaulty { node }, given) {
         return Some(found);
     }
     let given = line_to_good(question, facts, node);
-    tried(question, facts, Line::ToGood { node }, given)
+    try_line(question, facts, Line::ToGood { node }, given)
 }
 
 // The lines at an And or an Or with that controlling value.
@@ -90,12 +90,12 @@ fn not_good_line(question: &Question<'_>, facts: &FactSet, node: NodeId) -> Opti
     ensures { Finds (net_of question.now.graph.now) question.now.fault facts.now (AreDoneGood (net_of question.now.graph.now) question.now.fault facts.now node) result }
 {
     let given = line_good_forward(question, facts, node);
-    if let Some(found) = tried(question, facts, Line::GoodForward { node }, given) {
+    if let Some(found) = try_line(question, facts, Line::GoodForward { node }, given) {
         return Some(found);
     }
     let position = 0;
     let given = line_good_back(question, facts, node, position);
-    tried(question, facts, Line::GoodBack { node, position }, given)
+    try_line(question, facts, Line::GoodBack { node, position }, given)
 }
 
 // The lines on the faulty value at a Not.
@@ -105,12 +105,12 @@ fn not_faulty_line(question: &Question<'_>, facts: &FactSet, node: NodeId) -> Op
     ensures { Finds (net_of question.now.graph.now) question.now.fault facts.now (AreDoneFaulty (net_of question.now.graph.now) question.now.fault facts.now node) result }
 {
     let given = line_faulty_forward(question, facts, node);
-    if let Some(found) = tried(question, facts, Line::FaultyForward { node }, given) {
+    if let Some(found) = try_line(question, facts, Line::FaultyForward { node }, given) {
         return Some(found);
     }
     let position = 0;
     let given = line_faulty_back(question, facts, node, position);
-    tried(question, facts, Line::FaultyBack { node, position }, given)
+    try_line(question, facts, Line::FaultyBack { node, position }, given)
 }
 
 // The lines by which a Not and its driver differ or are equal together.
@@ -119,11 +119,11 @@ fn not_equal_line(question: &Question<'_>, facts: &FactSet, node: NodeId) -> Opt
     ensures { Finds (net_of question.now.graph.now) question.now.fault facts.now (AreDoneNot (net_of question.now.graph.now) question.now.fault facts.now node) result }
 {
     let given = line_not_differs(question, facts, node);
-    if let Some(found) = tried(question, facts, Line::NotDiffers { node }, given) {
+    if let Some(found) = try_line(question, facts, Line::NotDiffers { node }, given) {
         return Some(found);
     }
     let given = line_not_equal(question, facts, node);
-    tried(question, facts, Line::NotEqual { node }, given)
+    try_line(question, facts, Line::NotEqual { node }, given)
 }
 
 // The lines at a Not.
@@ -158,7 +158,7 @@ fn plain_line(question: &Question<'_>, facts: &FactSet, node: NodeId) -> Option<
         return Some(found);
     }
     let given = line_constant(question, node);
-    tried(question, facts, Line::Constant { node }, given)
+    try_line(question, facts, Line::Constant { node }, given)
 }
 
 // What a line at the node gives that isn't held, or None exactly where the node is settled.

@@ -15,7 +15,7 @@ use crate::found::Found;
 use crate::side_line::is_open_side;
 use crate::tallies::Tally;
 use gate_graph::Question;
-use refutation::pins::{Aspect, is_stuck, is_value, known};
+use refutation::pins::{Aspect, is_stuck, is_value, known_of};
 use refutation::{Fact, FactSet, Line};
 use rm_base::NodeId;
 
@@ -25,10 +25,10 @@ fn is_awaited(facts: &FactSet, aspect: Aspect, node: NodeId, driver: NodeId, val
     requires driver { driver.0 < length facts.now }
     ensures { IsTrue result ↔ ((known_on aspect (held_by facts.now) node.0 ≡ Some value) × (known_on aspect (held_by facts.now) driver.0 ≡ None)) }
 {
-    if !is_value(known(facts, aspect, node), value) {
+    if !is_value(known_of(facts, aspect, node), value) {
         return false;
     }
-    known(facts, aspect, driver).is_none()
+    known_of(facts, aspect, driver).is_none()
 }
 
 /// What follows at the pin from what is known of the gate alone, where it isn't held: the opposite of the controlling
@@ -65,7 +65,7 @@ pub(crate) fn pin_line(
             fact: Fact::Faulty(value),
         });
     }
-    if !is_value(known(facts, Aspect::OfEqual, node), false) {
+    if !is_value(known_of(facts, Aspect::OfEqual, node), false) {
         return None;
     }
     if !is_open_side(facts, driver, value) {
@@ -92,13 +92,13 @@ pub(crate) fn has_sweep(
     requires kind { IsJunction (net_of question.now.graph.now) node.0 c }
     requires tally { IsTally (held_by facts.now) question.now.fault.position (drivers_of (net_of question.now.graph.now) node.0) tally.now }
 {
-    if is_value(known(facts, Aspect::OfGood, node), !c) {
+    if is_value(known_of(facts, Aspect::OfGood, node), !c) {
         let count = count_for(c, tally.good_0, tally.good_1, tally.pins);
         if count.passing < count.pins {
             return true;
         }
     }
-    if is_value(known(facts, Aspect::OfFaulty, node), !c) {
+    if is_value(known_of(facts, Aspect::OfFaulty, node), !c) {
         let count = faulty_count(question, facts, tally, node, c);
         if count.passing < count.pins {
             return true;

@@ -14,7 +14,7 @@ ghost use Rattle.rm_base.specs.Numbers.{number_bound};
 use crate::found::Found;
 use gate_graph::{Inputs, Question};
 use refutation::following::gate_pins;
-use refutation::pins::{Aspect, is_stuck, is_value, known};
+use refutation::pins::{Aspect, is_stuck, is_value, known_of};
 use refutation::{Fact, FactSet, Line};
 use rm_base::{Fault, NodeId};
 
@@ -23,10 +23,10 @@ pub(crate) fn is_open_side(facts: &FactSet, driver: NodeId, value: bool) -> bool
     requires { driver.0 < length facts.now }
     ensures { IsTrue result ↔ IsOpenSide (held_by facts.now) driver.0 value }
 {
-    if !is_value(known(facts, Aspect::OfEqual, driver), true) {
+    if !is_value(known_of(facts, Aspect::OfEqual, driver), true) {
         return false;
     }
-    !is_value(known(facts, Aspect::OfGood, driver), value)
+    !is_value(known_of(facts, Aspect::OfGood, driver), value)
 }
 
 // Whether the pin isn't the stuck one, and its driver is equal and isn't known to have the value.
@@ -81,7 +81,7 @@ pub(crate) fn side_line(
     requires kind { IsJunction (net_of question.now.graph.now) node.0 c }
     ensures { Finds (net_of question.now.graph.now) question.now.fault facts.now (AreDoneSide (net_of question.now.graph.now) question.now.fault facts.now node) result }
 {
-    if !is_value(known(facts, Aspect::OfEqual, node), false) {
+    if !is_value(known_of(facts, Aspect::OfEqual, node), false) {
         return None;
     }
     let (position, driver) = open_side(

@@ -84,7 +84,7 @@ impl Engine {
     }
 
     /// The facts that were added after the mark, in order.
-    pub fn added(&self, mark: usize) -> &[(NodeId, Fact)]
+    pub fn added_facts(&self, mark: usize) -> &[(NodeId, Fact)]
         requires { mark ≤ length self.now.trail }
         ensures { result.now ≡ drop mark self.now.trail }
     {

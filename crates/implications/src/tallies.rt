@@ -87,7 +87,7 @@ fn no_tallies(alloc: Global, numbers: u32) -> Result<Vec<Tally>, NoMemory>
 }
 
 // A count that is one more where it rises.
-fn risen(count: u32, rises: bool) -> u32
+fn raise_count(count: u32, rises: bool) -> u32
     requires { rises ≡ true → count < number_bound }
     ensures { result ≡ risen rises count 1 }
 {
@@ -95,20 +95,20 @@ fn risen(count: u32, rises: bool) -> u32
 }
 
 // The tally with these counts one more.
-fn raised(tally: Tally, rise: Rise) -> Tally
+fn raise_tally(tally: Tally, rise: Rise) -> Tally
     requires { CanRise rise tally }
     ensures { IsRaised rise 1 tally result }
 {
     Tally {
         pins: tally.pins,
-        good_0: risen(tally.good_0, rise.good_0),
-        good_1: risen(tally.good_1, rise.good_1),
-        faulty_0: risen(tally.faulty_0, rise.faulty_0),
-        faulty_1: risen(tally.faulty_1, rise.faulty_1),
-        equal: risen(tally.equal, rise.equal),
-        differs: risen(tally.differs, rise.differs),
-        passing_0: risen(tally.passing_0, rise.passing_0),
-        passing_1: risen(tally.passing_1, rise.passing_1),
+        good_0: raise_count(tally.good_0, rise.good_0),
+        good_1: raise_count(tally.good_1, rise.good_1),
+        faulty_0: raise_count(tally.faulty_0, rise.faulty_0),
+        faulty_1: raise_count(tally.faulty_1, rise.faulty_1),
+        equal: raise_count(tally.equal, rise.equal),
+        differs: raise_count(tally.differs, rise.differs),
+        passing_0: raise_count(tally.passing_0, rise.passing_0),
+        passing_1: raise_count(tally.passing_1, rise.passing_1),
         at: tally.at,
     }
 }
@@ -201,7 +201,7 @@ fn with_driver(tally: Tally, position: u32, facts: &FactSet, driver: NodeId) -> 
         at,
         ..tally
     };
-    raised(more, rise_at(facts, driver))
+    raise_tally(more, rise_at(facts, driver))
 }
 
 // The tally of a gate with these drivers.
@@ -226,7 +226,7 @@ fn raise_at(tallies: &mut Vec<Tally>, place: u32, rise: Rise)
     ensures size { length tallies.new.items ≡ length tallies.old.items }
 {
     let tally = tallies[place as usize];
-    tallies[place as usize] = raised(tally, rise);
+    tallies[place as usize] = raise_tally(tally, rise);
 }
 
 /// The tallies of the gates that were counted during a call. A gate is counted when it is looked at for the first

@@ -39,7 +39,7 @@ fn text_of(alloc: Global, graph: &Graph, model: &RankedModel) -> Result<Vec<u8>,
 }
 
 // Whether the output is the text.
-fn compared<S: Shelf>(shelf: &mut S, output: &str, text: &[u8]) -> Result<(), AuditProblem>
+fn compare_output<S: Shelf>(shelf: &mut S, output: &str, text: &[u8]) -> Result<(), AuditProblem>
     ensures says { IfSome (S.files shelf.old) (λ told. ComparedSays told output.now text.now result) }
     ensures told { result ≡ Err AuditProblem.NoOutput → IsSome (S.files shelf.old) }
     ensures fault { result ≡ Err AuditProblem.Fault → Rose (S.faults shelf.old) (S.faults shelf.new) }
@@ -80,6 +80,6 @@ pub fn audit<S: Shelf>(
     accepted_stand();
     let (graph, count) = journal_net(alloc, shelf, model, journal)?;
     let text = text_of(alloc, &graph, model)?;
-    compared(shelf, output, text.as_slice())?;
+    compare_output(shelf, output, text.as_slice())?;
     Ok(count)
 }

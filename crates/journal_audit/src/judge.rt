@@ -56,7 +56,7 @@ fn fault_problem(fault: JournalFault) -> AuditProblem
 }
 
 // The replay begins at the decomposition of the model.
-fn begun(alloc: Global, model: &RankedModel, budget: u32) -> Result<Stage, AuditProblem>
+fn first_stage(alloc: Global, model: &RankedModel, budget: u32) -> Result<Stage, AuditProblem>
     requires formed { IsWellFormed model.now }
     requires ranked { first_without_rank model.now ≡ None }
     requires covers { length model.now.covers < 2 ^ 32 }
@@ -74,7 +74,7 @@ fn begun(alloc: Global, model: &RankedModel, budget: u32) -> Result<Stage, Audit
 }
 
 // One more record.
-fn stepped(replay: Replay, count: u64, given: &Record) -> Result<Stage, AuditProblem>
+fn stage_after_record(replay: Replay, count: u64, given: &Record) -> Result<Stage, AuditProblem>
     requires tree { IsLocalTree given.now }
     requires few { count < 2 ^ 63 }
     ensures { (m : ModelValue) (budget : ℕ) (records : List RecordValue) → IsReplayed m budget records replay → count ≡ length records → TakenSays m budget records (entries.Record given.now) result }
@@ -91,7 +91,7 @@ fn stepped(replay: Replay, count: u64, given: &Record) -> Result<Stage, AuditPro
 }
 
 // The end of the journal.
-fn ended(replay: Replay, count: u64) -> Result<Stage, AuditProblem>
+fn stage_at_end(replay: Replay, count: u64) -> Result<Stage, AuditProblem>
     ensures { (m : ModelValue) (budget : ℕ) (records : List RecordValue) → IsReplayed m budget records replay → count ≡ length records → TakenSays m budget records entries.End result }
 {
     records_replay();
@@ -103,7 +103,7 @@ fn ended(replay: Replay, count: u64) -> Result<Stage, AuditProblem>
 }
 
 // One more entry.
-fn taken(
+fn stage_after_entry(
     alloc: Global,
     model: &RankedModel,
     stage: Stage,
@@ -121,21 +121,21 @@ fn taken(
 {
     match stage {
         Stage::Header => match entry {
-            Entry::Header { budget } => begun(alloc, model, *budget),
+            Entry::Header { budget } => first_stage(alloc, model, *budget),
             Entry::Record(_) => unreachable!(),
             Entry::End => unreachable!(),
         },
         Stage::Records { replay, count } => match entry {
             Entry::Header { budget: _ } => unreachable!(),
-            Entry::Record(record) => stepped(replay, count, record),
-            Entry::End => ended(replay, count),
+            Entry::Record(record) => stage_after_record(replay, count, record),
+            Entry::End => stage_at_end(replay, count),
         },
         Stage::Ended { graph: _, count: _ } => unreachable!(),
     }
 }
 
 /// Judges all entries whose lines are whole.
-pub(crate) fn judged(
+pub(crate) fn judge_entries(
     alloc: Global,
     model: &RankedModel,
     reader: &mut JournalReader,
@@ -156,7 +156,7 @@ pub(crate) fn judged(
     let mut stage = stage;
     loop {
         match reader.next() {
-            Ok(Some(entry)) => stage = taken(alloc, model, stage, &entry)?,
+            Ok(Some(entry)) => stage = stage_after_entry(alloc, model, stage, &entry)?,
             Ok(None) => return Ok(stage),
             Err(fault) => return Err(fault_problem(fault)),
         }

@@ -17,7 +17,7 @@ ghost use Rattle.journal_audit.specs.Stages.{IsJudged};
 ghost use Rattle.journal_audit.specs.Turns.{EndsAccepted, EndsWith, GivesNext, IsInside, IsOfJournal, IsOutside, IsRead, IsToldProblem, TurnSays};
 ghost use Rattle.cover_decompose.specs.Limits.{most_pins};
 
-use crate::judge::judged;
+use crate::judge::judge_entries;
 use crate::problem::AuditProblem;
 use crate::stage::Stage;
 use gate_graph::Graph;
@@ -104,7 +104,7 @@ fn too_long() -> Result<Turn, AuditProblem>
 }
 
 // One more piece of the journal, which begins at that place and is empty at the journal's end.
-fn turned(
+fn next_turn(
     alloc: Global,
     model: &RankedModel,
     reader: &mut JournalReader,
@@ -135,7 +135,7 @@ fn turned(
     if let Err(NoMemory) = reader.push(piece) {
         return Err(AuditProblem::NoMemory);
     }
-    let stage = judged(alloc, model, reader, stage)?;
+    let stage = judge_entries(alloc, model, reader, stage)?;
     let from = from + piece.len() as u64;
     Ok(Turn::GoesOn { stage, from })
 }
@@ -168,7 +168,7 @@ pub(crate) fn journal_net<S: Shelf>(
     loop {
         let most = piece_size(from);
         let piece = piece_of(shelf, journal, from, most)?;
-        match turned(alloc, model, &mut reader, stage, from, piece.as_slice())? {
+        match next_turn(alloc, model, &mut reader, stage, from, piece.as_slice())? {
             Turn::GoesOn {
                 stage: next,
                 from: now,

@@ -126,7 +126,7 @@ fn frozen_graph(alloc: Global, graph: Graph) -> Result<(Graph, Settling), Why>
 }
 
 // The frozen net, whether it was frozen before or is now.
-fn frozen(alloc: Global, bench: Bench) -> Result<(Graph, Settling), Why>
+fn freeze_bench(alloc: Global, bench: Bench) -> Result<(Graph, Settling), Why>
     requires { IsBench bench }
     ensures { IsFrozen (position_of bench) result }
 {
@@ -142,7 +142,7 @@ pub(crate) fn end(alloc: Global, bench: Bench) -> Result<Graph, Why>
     requires { IsBench bench }
     ensures { EndSays (position_of bench) result }
 {
-    let (graph, settling) = frozen(alloc, bench)?;
+    let (graph, settling) = freeze_bench(alloc, bench)?;
     match settling.next() {
         Some(fault) => Err(Why::FaultMissing { fault }),
         None => Ok(graph),

@@ -47,7 +47,7 @@ impl Model for Replay {
 }
 
 // What a record does to the graph.
-fn taken(
+fn apply_record(
     alloc: Global,
     checker: &mut TreeChecker,
     bench: Bench,
@@ -110,7 +110,13 @@ impl Replay {
         let Some(bench) = self.bench.take() else {
             unreachable!()
         };
-        let (bench, answer) = taken(self.alloc, &mut self.checker, bench, given, self.budget);
+        let (bench, answer) = apply_record(
+            self.alloc,
+            &mut self.checker,
+            bench,
+            given,
+            self.budget,
+        );
         self.bench = Some(bench);
         answer
     }

@@ -111,7 +111,7 @@ impl Settling {
     }
 
     // The next fault, which is to be that one.
-    fn expected(&self, given: Fault) -> Result<Fault, Why>
+    fn expect_fault(&self, given: Fault) -> Result<Fault, Why>
         ensures { Expects (left_of self.now) given result }
     {
         let Some(fault) = self.next() else {
@@ -124,12 +124,12 @@ impl Settling {
     }
 
     // Settles the next fault by a vector.
-    fn hit(&mut self, graph: &Graph, given: Fault, vector: &Vector) -> Result<(), Why>
+    fn settle_by_vector(&mut self, graph: &Graph, given: Fault, vector: &Vector) -> Result<(), Why>
         requires { IsSettling (net_of graph.now) self.old }
         ensures settling { IsSettling (net_of graph.now) self.new }
         ensures says { (budget : ℕ) → VerdictSays (net_of graph.now) budget (left_of self.old) (kept.Hit given vector.now) (left_of self.new) result }
     {
-        let fault = self.expected(given)?;
+        let fault = self.expect_fault(given)?;
         let question = Question { graph, fault };
         if !detects(&mut self.lanes, &mut self.words, &question, vector) {
             return Err(Why::VectorMisses);
@@ -139,7 +139,7 @@ impl Settling {
     }
 
     // Settles the next fault by the tree of a search.
-    fn spent(
+    fn settle_by_search(
         &mut self,
         checker: &mut TreeChecker,
         graph: &Graph,
@@ -151,7 +151,7 @@ impl Settling {
         ensures settling { IsSettling (net_of graph.now) self.new }
         ensures says { VerdictSays (net_of graph.now) budget (left_of self.old) (kept.Spent given tree.now) (left_of self.new) result }
     {
-        let fault = self.expected(given)?;
+        let fault = self.expect_fault(given)?;
         spends(checker, &Question { graph, fault }, tree, budget)?;
         self.settled += 1;
         Ok(())
@@ -181,8 +181,10 @@ impl Settling {
     {
         match given {
             Record::Step { step: _, tree: _ } => Err(self.late()),
-            Record::Hit { fault, vector } => self.hit(graph, *fault, vector),
-            Record::Spent { fault, tree } => self.spent(checker, graph, *fault, tree, budget),
+            Record::Hit { fault, vector } => self.settle_by_vector(graph, *fault, vector),
+            Record::Spent { fault, tree } => self.settle_by_search(
+                checker, graph, *fault, tree, budget,
+            ),
         }
     }
 }

@@ -39,7 +39,7 @@ fn room_for(steps: usize) -> Room
 }
 
 // A trial with room for as many steps as the net has nodes, or the graph where memory is wanting.
-fn begun(alloc: Global, graph: Graph) -> Result<(Trial, usize), Graph>
+fn begin_trial(alloc: Global, graph: Graph) -> Result<(Trial, usize), Graph>
     requires { IsIdle graph }
     ensures ready { IfOk result (λ p. IsReady p.0 p.1) }
     ensures room { IfOk result (λ p. 0 < p.1) }
@@ -119,7 +119,7 @@ fn begin_and_make(
     ensures makes { Makes (net_of graph) step tree.now (net_in result.0) result.1 }
     ensures editing { IsEditing result.0 }
 {
-    match begun(alloc, graph) {
+    match begin_trial(alloc, graph) {
         Ok((trial, left)) => make(checker, trial, left, step, tree),
         Err(graph) => (Bench::Idle { graph }, Err(Why::NoMemory)),
     }

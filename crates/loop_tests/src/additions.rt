@@ -15,7 +15,7 @@ use rm_base::{Fault, Made, NodeId, Settings, Shelf, SureShelf};
 use std::alloc::Global;
 use std::test::Fail;
 use test_nets::worked::FOUR_GATES;
-use test_nets::{Gate, Wiring, wired};
+use test_nets::{Gate, Wiring, build_net};
 
 /// How many wires there were, what the loop came to, and the text of its records.
 #[derive(Drop)]
@@ -69,7 +69,7 @@ fn optimised(alloc: Global, graph: Graph, tries: u32) -> Result<End, Fail>
 
 /// Runs the loop on the net of a table, at depth 1 with so many tries.
 fn looped(alloc: Global, wiring: &Wiring, tries: u32) -> Result<End, Fail> {
-    let graph = wired(alloc, wiring)?;
+    let graph = build_net(alloc, wiring)?;
     optimised(alloc, graph, tries)
 }
 
@@ -93,14 +93,14 @@ fn settled(tries: u32) -> Outcome {
     Outcome::Settled { tries }
 }
 
-fn spent(tries: u32, fault: Fault, candidate: Candidate) -> Outcome {
+fn outcome_spent(tries: u32, fault: Fault, candidate: Candidate) -> Outcome {
     Outcome::TriesSpent {
         tries,
         at: Pair { fault, candidate },
     }
 }
 
-fn made(adds: u64, fixes: u64, local: u64) -> Made {
+fn counts_made(adds: u64, fixes: u64, local: u64) -> Made {
     Made { adds, fixes, local }
 }
 
@@ -109,24 +109,24 @@ fn a_wire_is_added(rt: HostRuntime) -> Result<(), Fail> {
     let rows = [
         (
             0,
-            spent(0, fault(6, 0, true), wire(5, true, 6)),
-            made(0, 0, 0),
+            outcome_spent(0, fault(6, 0, true), wire(5, true, 6)),
+            counts_made(0, 0, 0),
             8,
         ),
         (
             5,
-            spent(5, fault(6, 0, true), wire(2, false, 9)),
-            made(0, 0, 0),
+            outcome_spent(5, fault(6, 0, true), wire(2, false, 9)),
+            counts_made(0, 0, 0),
             8,
         ),
         (
             15,
-            spent(15, fault(9, 0, true), wire(4, false, 9)),
-            made(1, 2, 6),
+            outcome_spent(15, fault(9, 0, true), wire(4, false, 9)),
+            counts_made(1, 2, 6),
             5,
         ),
-        (16, settled(16), made(1, 2, 6), 5),
-        (1000, settled(16), made(1, 2, 6), 5),
+        (16, settled(16), counts_made(1, 2, 6), 5),
+        (1000, settled(16), counts_made(1, 2, 6), 5),
     ];
     for (tries, outcome, steps, wires) in rows {
         let end = looped(rt.alloc(), &FOUR_GATES, tries)?;
@@ -193,11 +193,11 @@ const MULTIPLEXER: Wiring<'static> = Wiring {
 fn no_wire_is_added(rt: HostRuntime) -> Result<(), Fail> {
     let end = looped(rt.alloc(), &SUM_OBSERVED, 1000)?;
     assert_eq!(rt; end.outcome, settled(24));
-    assert_eq!(rt; end.made, made(0, 0, 0));
+    assert_eq!(rt; end.made, counts_made(0, 0, 0));
     assert_eq!(rt; end.graph.wire_count(), 8);
     let end = looped(rt.alloc(), &MULTIPLEXER, 1000)?;
     assert_eq!(rt; end.outcome, settled(22));
-    assert_eq!(rt; end.made, made(0, 1, 3));
+    assert_eq!(rt; end.made, counts_made(0, 1, 3));
     assert_eq!(rt; end.graph.wire_count(), 7);
     Ok(())
 }

@@ -15,7 +15,7 @@ use std::sync::atomic::{AtomicU64, Ordering};
 use std::test::Fail;
 use std::thread::Threads;
 use test_nets::worked::{ABSORBED, FOUR_GATES, ONE_GATE, SIX_GATES, TWO_GATES};
-use test_nets::{Wiring, wired};
+use test_nets::{Wiring, build_net};
 use wire_edit::first_rule;
 
 // A net, a budget, how many pins are fixed and other steps made, and the lines that come.
@@ -199,7 +199,7 @@ fn tidy_net(alloc: Global, wiring: &Wiring) -> Result<Graph, Fail>
     ensures few { IfOk result (λ graph. pins_taken graph + live_nodes graph ≤ 1048576) }
     ensures tidy { IfOk result (λ graph. IsTidy (net_of graph)) }
 {
-    let graph = wired(alloc, wiring)?;
+    let graph = build_net(alloc, wiring)?;
     let None = first_rule(&graph) else {
         return Err("not tidy".into());
     };

@@ -6,7 +6,7 @@ use rm_base::{Fault, NodeId};
 use std::alloc::Global;
 use std::test::Fail;
 use test_nets::worked::FOUR_GATES;
-use test_nets::{fault_at, wired};
+use test_nets::{build_net, fault_at};
 
 // The node, its good value and whether it is equal, as the fault of gate 6, position 0, value 1 implies them.
 const FACTS: [(u32, bool, bool); 7] = [
@@ -30,7 +30,7 @@ fn hold(facts: &mut FactSet, fact: (u32, bool, bool)) {
 
 // The candidates of the fault with these facts and one more.
 fn found(alloc: Global, more: (u32, bool, bool)) -> Result<Vec<Candidate>, Fail> {
-    let graph = wired(alloc, &FOUR_GATES)?;
+    let graph = build_net(alloc, &FOUR_GATES)?;
     let fault = fault_at(&graph, 6, 0, true)?;
     let mut facts = FactSet::new(alloc, &graph)?;
     for fact in FACTS {

@@ -9,7 +9,7 @@ use gate_graph::{Graph, Question};
 use rm_base::{Fault, NodeId};
 use std::alloc::Global;
 use std::test::Fail;
-use test_nets::wired;
+use test_nets::build_net;
 use test_nets::worked::FOUR_GATES;
 
 // What lanes tell of a fault under these words.
@@ -55,7 +55,7 @@ fn stuck(gate: u32, position: u32, value: bool) -> Fault {
 
 #[test]
 fn one_vector_detects(rt: HostRuntime) -> Result<(), Fail> {
-    let graph = wired(rt.alloc(), &FOUR_GATES)?;
+    let graph = build_net(rt.alloc(), &FOUR_GATES)?;
     let words = [u64::MAX - 1, u64::MAX, 0, u64::MAX];
     let wanted = Answers {
         found: 1,
@@ -75,7 +75,7 @@ const ALL: [u64; 4] = [0xaaaa, 0xcccc, 0xf0f0, 0xff00];
 
 #[test]
 fn all_vectors(rt: HostRuntime) -> Result<(), Fail> {
-    let graph = wired(rt.alloc(), &FOUR_GATES)?;
+    let graph = build_net(rt.alloc(), &FOUR_GATES)?;
     let six = ask(rt.alloc(), &graph, &stuck(6, 0, true), &ALL)?;
     assert_eq!(rt; six.found, 0x4400);
     assert_eq!(rt; six.again, 0x4400);
@@ -89,7 +89,7 @@ fn all_vectors(rt: HostRuntime) -> Result<(), Fail> {
 
 #[test]
 fn no_vector_detects(rt: HostRuntime) -> Result<(), Fail> {
-    let graph = wired(rt.alloc(), &FOUR_GATES)?;
+    let graph = build_net(rt.alloc(), &FOUR_GATES)?;
     let words = [u64::MAX - 1, u64::MAX, 0, u64::MAX];
     let seven = ask(rt.alloc(), &graph, &stuck(7, 1, true), &words)?;
     assert_eq!(rt; seven.found, 0);

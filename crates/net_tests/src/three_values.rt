@@ -9,7 +9,7 @@ use std::alloc::Global;
 use std::test::Fail;
 use ternary_sim::Sim;
 use test_nets::worked::{ABSORBED, FOUR_GATES_AND_NOT, ONE_GATE};
-use test_nets::{fault_at, wired};
+use test_nets::{build_net, fault_at};
 
 // Values of the sources; what three nodes then have, good, faulty and whether equal; detected and quiet.
 #[derive(Clone, Copy)]
@@ -144,7 +144,7 @@ fn holds(alloc: Global, graph: &Graph, pin: (u32, u32, bool), case: &Case) -> Re
     set(&mut sim, 2, case.sources[2]);
     set(&mut sim, 3, case.sources[3]);
     sim.run_fault(&Question { graph, fault });
-    let ends = sim.detected(graph) == case.detected && sim.quiet(graph) == case.quiet;
+    let ends = sim.is_detected(graph) == case.detected && sim.quiet(graph) == case.quiet;
     Ok(
         ends && reads(&sim, case.reads[0])
             && reads(&sim, case.reads[1])
@@ -154,7 +154,7 @@ fn holds(alloc: Global, graph: &Graph, pin: (u32, u32, bool), case: &Case) -> Re
 
 #[test]
 fn four_gates_and_a_not(rt: HostRuntime) -> Result<(), Fail> {
-    let graph = wired(rt.alloc(), &FOUR_GATES_AND_NOT)?;
+    let graph = build_net(rt.alloc(), &FOUR_GATES_AND_NOT)?;
     for at in 0..CASES.len() {
         let right = holds(rt.alloc(), &graph, FAULT, &CASES[at])?;
         assert!(rt; right, "at case {at}");
@@ -164,7 +164,7 @@ fn four_gates_and_a_not(rt: HostRuntime) -> Result<(), Fail> {
 
 #[test]
 fn a_gate_beside_its_source(rt: HostRuntime) -> Result<(), Fail> {
-    let graph = wired(rt.alloc(), &ABSORBED)?;
+    let graph = build_net(rt.alloc(), &ABSORBED)?;
     for at in 0..COVERED.len() {
         let right = holds(rt.alloc(), &graph, COVERED_FAULT, &COVERED[at])?;
         assert!(rt; right, "at case {at}");
@@ -174,7 +174,7 @@ fn a_gate_beside_its_source(rt: HostRuntime) -> Result<(), Fail> {
 
 #[test]
 fn one_gate_alone(rt: HostRuntime) -> Result<(), Fail> {
-    let graph = wired(rt.alloc(), &ONE_GATE)?;
+    let graph = build_net(rt.alloc(), &ONE_GATE)?;
     for at in 0..ALONE.len() {
         let right = holds(rt.alloc(), &graph, ALONE_FAULT, &ALONE[at])?;
         assert!(rt; right, "at case {at}");

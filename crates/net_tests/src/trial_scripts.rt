@@ -1,16 +1,16 @@
 //! A script of calls on a trial, and what is left after a rollback.
-use crate::trials::{begun, trial_of};
+use crate::trials::{begin_trial, trial_of};
 use gate_graph::Graph;
 use rm_base::{NoMemory, NodeId};
 use std::alloc::Global;
 use std::process::Abort;
 use std::test::Fail;
 use test_nets::worked::FOUR_GATES;
-use test_nets::{is_live, wired};
+use test_nets::{build_net, is_live};
 use wire_edit::{Room, Seen, Step, Trial, first_rule, first_rule_by};
 
 // The next number of a fixed sequence.
-fn drawn(number: u32) -> u32 {
+fn draw_number(number: u32) -> u32 {
     number.wrapping_mul(1_664_525).wrapping_add(1_013_904_223)
 }
 
@@ -42,7 +42,7 @@ pub(crate) fn play(trial: &mut Trial, seed: u32, calls: u32) -> (u32, u32) {
     let mut made = 0u32;
     let mut refused = 0u32;
     for _ in 0..calls {
-        number = drawn(number);
+        number = draw_number(number);
         if trial.apply(step_of(number)).is_ok() {
             made = made.saturating_add(1);
         } else {
@@ -82,7 +82,7 @@ pub(crate) fn told(alloc: Global, graph: &Graph) -> Result<Vec<u32>, NoMemory> {
     for number in 0..graph.node_bound() {
         push_node(&mut list, graph, NodeId(number))?;
     }
-    for node in graph.observed() {
+    for node in graph.observed_points() {
         list.push(node.0)?;
     }
     list.push(graph.wire_count())?;
@@ -93,9 +93,9 @@ pub(crate) fn told(alloc: Global, graph: &Graph) -> Result<Vec<u32>, NoMemory> {
 #[test]
 fn script_and_back(rt: HostRuntime) -> Result<(), Fail> {
     let alloc = rt.alloc();
-    let graph = wired(alloc, &FOUR_GATES)?;
+    let graph = build_net(alloc, &FOUR_GATES)?;
     let before = told(alloc, &graph)?;
-    let mut trial = begun(alloc, graph, 10)?;
+    let mut trial = begin_trial(alloc, graph, 10)?;
     let (made, refused) = play(&mut trial, 7, 400);
     assert!(rt; made > 10);
     assert!(rt; refused > 100);
@@ -132,7 +132,7 @@ fn agree(trial: &mut Trial, seen: &mut Seen, steps: u32) -> bool {
 
 // A trial of the four gates that begins as one of a tidy net.
 pub(crate) fn begun_tidy(alloc: Global) -> Result<Trial, Fail> {
-    let graph = wired(alloc, &FOUR_GATES)?;
+    let graph = build_net(alloc, &FOUR_GATES)?;
     if first_rule(&graph).is_some() {
         return Err("not tidy".into());
     }

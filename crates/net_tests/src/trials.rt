@@ -7,11 +7,11 @@ use rm_base::NodeId;
 use std::alloc::Global;
 use std::test::Fail;
 use test_nets::worked::{BUFFER, FOUR_GATES};
-use test_nets::{Wiring, is_live, wired};
+use test_nets::{Wiring, build_net, is_live};
 use wire_edit::{EditRefusal, Room, Rule, Step, Trial, first_rule};
 
 // A trial of the graph with room for so many pins.
-pub(crate) fn begun(alloc: Global, graph: Graph, pins: usize) -> Result<Trial, Fail>
+pub(crate) fn begin_trial(alloc: Global, graph: Graph, pins: usize) -> Result<Trial, Fail>
     requires few { pins_taken graph + live_nodes graph ≤ 300000 }
     requires pins { pins ≤ 10 }
 {
@@ -30,8 +30,8 @@ pub(crate) fn begun(alloc: Global, graph: Graph, pins: usize) -> Result<Trial, F
 pub(crate) fn trial_of(alloc: Global, wiring: &Wiring, pins: usize) -> Result<Trial, Fail>
     requires { pins ≤ 10 }
 {
-    let graph = wired(alloc, wiring)?;
-    begun(alloc, graph, pins)
+    let graph = build_net(alloc, wiring)?;
+    begin_trial(alloc, graph, pins)
 }
 
 fn add_step(gate: u32, driver: u32) -> Step {

@@ -2,7 +2,7 @@
 use rm_base::NoMemory;
 use std::alloc::Global;
 use std::test::Fail;
-use test_nets::{Gate, Wiring, wired};
+use test_nets::{Gate, Wiring, build_net};
 use wire_edit::{Room, Trial};
 
 // Numbers of which each comes again after so many.
@@ -30,7 +30,7 @@ fn tidy_all(alloc: Global, sources: u32, drivers: &[u32]) -> Result<Tidied, Fail
         gates: &[Gate::And(drivers)],
         observed: &[sources.wrapping_add(2)],
     };
-    let graph = wired(alloc, &wide)?;
+    let graph = build_net(alloc, &wide)?;
     let room = Room {
         pins: 0,
         nodes: 0,

@@ -41,7 +41,7 @@ fn mark_linked(pins: &[Pin], gates: &[Ends], marks: &mut [bool])
 }
 
 // The numbers without a mark, with room for all.
-fn unmarked(alloc: Global, marks: &[bool]) -> Result<Vec<u32>, NoMemory>
+fn unmarked_numbers(alloc: Global, marks: &[bool]) -> Result<Vec<u32>, NoMemory>
     requires { length marks.now ≤ number_bound }
     ensures numbers { IfOk result (λ v. v.items ≡ unmarked_from 0 marks.now) }
     ensures room { IfOk result (λ v. length marks.now ≤ vec_capacity v) }
@@ -66,7 +66,7 @@ impl Store {
     {
         let mut marks = vec![in alloc; false; self.pins.len()]?;
         mark_linked(&self.pins, &self.gates, &mut marks);
-        let free = unmarked(alloc, &marks)?;
+        let free = unmarked_numbers(alloc, &marks)?;
         Ok(Store {
             pins: Vec::from_slice(alloc, &self.pins)?,
             free,

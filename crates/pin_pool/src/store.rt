@@ -153,8 +153,8 @@ impl Store {
         Slot {
             gate: gate.node,
             driver: driver.node,
-            in_gate: named(gate.previous),
-            in_driver: named(driver.previous),
+            in_gate: pin_with_number(gate.previous),
+            in_driver: pin_with_number(driver.previous),
         }
     }
 
@@ -195,8 +195,8 @@ impl Store {
         Slot {
             gate: gate.node,
             driver: place.node,
-            in_gate: named(gate.previous),
-            in_driver: named(place.previous),
+            in_gate: pin_with_number(gate.previous),
+            in_driver: pin_with_number(place.previous),
         }
     }
 
@@ -317,7 +317,7 @@ impl Store {
 }
 
 // The pin with a number, and none for the last number.
-fn named(at: u32) -> Option<PinNo>
+fn pin_with_number(at: u32) -> Option<PinNo>
     ensures { result ≡ name_of at }
 {
     if at == NONE { None } else { Some(PinNo(at)) }

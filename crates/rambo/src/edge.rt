@@ -123,7 +123,11 @@ fn is_output<R: Files<File = File>>(rt: &R, node: Node) -> bool {
 
 // Opens the named file and empties it, unless it was read or created in this run, is standard output, or is being written by
 // another run: that is known before anything is lost. A device or a pipe is taken as it is.
-fn emptied<R: Files<File = File>>(rt: &R, used: &[Node], name: &str) -> io::Result<(File, Node)> {
+fn open_emptied<R: Files<File = File>>(
+    rt: &R,
+    used: &[Node],
+    name: &str,
+) -> io::Result<(File, Node)> {
     let file = open(rt, OpenOptions::new().write(true).create(true), name)?;
     let metadata = file.metadata()?;
     let node = node_of(&metadata);
@@ -209,7 +213,7 @@ impl<'a, R: Files<File = File>> Shelf for FileShelf<'a, R> {
         let name = String::from_str(self.alloc, name)?;
         self.created.reserve(1)?;
         self.used.reserve(1)?;
-        match emptied(self.rt, self.used.as_slice(), name.as_str()) {
+        match open_emptied(self.rt, self.used.as_slice(), name.as_str()) {
             Ok((file, node)) => {
                 self.used.push(node)?;
                 self.created.push(Created { name, file })?;

@@ -9,7 +9,7 @@ ghost use Rattle.rar_loop.specs.Spaces.{IsReady};
 use crate::changes::Changed;
 use crate::sweeping::sweep;
 use crate::tidying::tidy;
-use crate::workspace::{Workspace, finished};
+use crate::workspace::{Workspace, into_graph};
 use gate_graph::Graph;
 use journal_text::{Record, accepted_steps_keep};
 use rm_base::NoMemory;
@@ -75,7 +75,7 @@ fn begin_removals(alloc: Global, graph: Graph) -> Result<Trial, NoMemory>
 }
 
 /// Tidies and sweeps, and gives the records of that beside a workspace that is ready for tries.
-pub(crate) fn begun(
+pub(crate) fn open_workspace(
     alloc: Global,
     graph: Graph,
     depth: u8,
@@ -96,7 +96,7 @@ pub(crate) fn begun(
     sweep(alloc, &mut space, &mut log, depth)?;
     space.trial.keep();
     space.trial.graph().well_formed();
-    let swept = finished(space);
+    let swept = into_graph(space);
     swept.well_formed();
     let lent = begin(alloc, swept)?;
     lent.graph().well_formed();

@@ -28,7 +28,7 @@ pub(crate) fn candidates_of(
         return Ok(Vec::new(alloc));
     }
     let facts = refuter.facts();
-    let added = refuter.added();
+    let added = refuter.added_facts();
     let found = finder.candidates_among(alloc, target, facts, added)?;
     Ok(found)
 }

@@ -13,9 +13,9 @@ ghost use Rattle.rar_loop.specs.Swept.{IsSwept};
 ghost use Rattle.rar_loop.specs.Ended.{IsOptimised, AreFew};
 ghost use Rattle.rar_loop.specs.Improving.{ComesThrough, HasBegun, IsHere, StopsFrom, SweepComesThrough};
 
-use crate::beginning::begun;
+use crate::beginning::open_workspace;
 use crate::walking::{Tour, walk_pairs};
-use crate::workspace::{Workspace, finished};
+use crate::workspace::{Workspace, into_graph};
 use candidate_wires::Outcome;
 use gate_graph::Graph;
 use journal_text::{
@@ -131,7 +131,7 @@ pub fn optimise<S: Shelf>(
     graph.well_formed();
     accepted_runs_keep();
     texts_append();
-    let (mut space, records) = begun(alloc, graph, settings.depth, found)?;
+    let (mut space, records) = open_workspace(alloc, graph, settings.depth, found)?;
     let (outcome, made) = improve_swept(alloc, &mut space, &records, settings, shelf, journal)?;
-    Ok((finished(space), outcome, made))
+    Ok((into_graph(space), outcome, made))
 }

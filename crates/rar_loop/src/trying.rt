@@ -17,7 +17,7 @@ ghost use Rattle.rar_loop.specs.Trying.{MayAdd, MayTry, HasAdded, HasReplaced, I
 
 use crate::changes::Changed;
 use crate::fixing::fix_and_tidy;
-use crate::refuting::refuted;
+use crate::refuting::find_tree;
 use crate::sweeping::sweep;
 use crate::tidying::push_local;
 use crate::workspace::Workspace;
@@ -156,7 +156,7 @@ fn add_wire(
         graph: trial.graph(),
         fault,
     };
-    match refuted(refuter, &question, depth)? {
+    match find_tree(refuter, &question, depth)? {
         None => Ok(false),
         Some(tree) => {
             log.push(Record::Step { step, tree })?;
@@ -214,7 +214,7 @@ fn replace(
         graph: trial.graph(),
         fault: pair.fault,
     };
-    match refuted(&mut space.refuter, &question, depth)? {
+    match find_tree(&mut space.refuter, &question, depth)? {
         None => Ok(false),
         Some(tree) => {
             fix_and_tidy(alloc, trial, log, &mut changed, pair.fault, tree)?;

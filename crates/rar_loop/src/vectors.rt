@@ -90,7 +90,7 @@ fn any(word: u64) -> bool
 }
 
 // The lanes in which a word has the value.
-fn having(word: u64, value: bool) -> u64
+fn lanes_having(word: u64, value: bool) -> u64
     ensures { result ≡ lanes_with value word }
 {
     if value { word } else { word ^ u64::MAX }
@@ -207,7 +207,7 @@ fn turned_by(lanes: &mut Lanes, graph: &Graph, gate: NodeId) -> u64
 
 impl Vectors {
     /// Draws vectors, and simulates them and those that were found, a word for each source.
-    pub(crate) fn drawn(
+    pub(crate) fn draw_for(
         alloc: Global,
         graph: &Graph,
         found: &[Vec<u64>],
@@ -289,6 +289,6 @@ impl Vectors {
         };
         let turned = self.turned_at(graph, candidate.gate);
         let word = self.lanes.value(candidate.node);
-        any(turned & having(word, value_for(candidate, control)))
+        any(turned & lanes_having(word, value_for(candidate, control)))
     }
 }

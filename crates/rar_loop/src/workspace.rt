@@ -34,7 +34,7 @@ fn tools_for(
     ensures vectors { IfOk result (λ r. AreFor r.0 (net_of graph.now)) }
     ensures refuter { IfOk result (λ r. IsServing (net_of graph.now) r.1) }
 {
-    let vectors = Vectors::drawn(alloc, graph, found)?;
+    let vectors = Vectors::draw_for(alloc, graph, found)?;
     let refuter = Refuter::for_graph(alloc, graph)?;
     Ok((vectors, refuter))
 }
@@ -95,7 +95,7 @@ impl Workspace {
 }
 
 /// The graph of a workspace whose trial is at its start.
-pub(crate) fn finished(space: Workspace) -> Graph
+pub(crate) fn into_graph(space: Workspace) -> Graph
     requires { space.trial.trail.entries ≡ [] }
     ensures { IsSame space.trial.graph result }
 {

@@ -22,7 +22,7 @@ pub fn detects(sim: &mut Sim, question: &Question<'_>, assignment: u32) -> bool
         sim.set(SourceNo(source), value);
     }
     sim.run_fault(question);
-    sim.detected(question.graph)
+    sim.is_detected(question.graph)
 }
 
 /// Whether some assignment detects the fault.

@@ -13,7 +13,7 @@ use rm_base::NodeId;
 use std::alloc::Global;
 use std::test::Fail;
 use test_nets::worked::{ABSORBED, FOUR_GATES, ONE_GATE, ONE_GATE_TWICE};
-use test_nets::{fault_at, wired};
+use test_nets::{build_net, fault_at};
 
 #[derive(Clone, Copy)]
 enum Answer {
@@ -162,28 +162,28 @@ fn holds(alloc: Global, graph: &Graph, cases: &[Case]) -> Result<bool, Fail> {
 
 #[test]
 fn searches_on_one_gate(rt: HostRuntime) -> Result<(), Fail> {
-    let graph = wired(rt.alloc(), &ONE_GATE)?;
+    let graph = build_net(rt.alloc(), &ONE_GATE)?;
     assert!(rt; holds(rt.alloc(), &graph, &ON_ONE_GATE)?);
     Ok(())
 }
 
 #[test]
 fn searches_on_a_place_observed_twice(rt: HostRuntime) -> Result<(), Fail> {
-    let graph = wired(rt.alloc(), &ONE_GATE_TWICE)?;
+    let graph = build_net(rt.alloc(), &ONE_GATE_TWICE)?;
     assert!(rt; holds(rt.alloc(), &graph, &ON_ONE_GATE)?);
     Ok(())
 }
 
 #[test]
 fn searches_on_two_gates(rt: HostRuntime) -> Result<(), Fail> {
-    let graph = wired(rt.alloc(), &ABSORBED)?;
+    let graph = build_net(rt.alloc(), &ABSORBED)?;
     assert!(rt; holds(rt.alloc(), &graph, &ON_TWO_GATES)?);
     Ok(())
 }
 
 #[test]
 fn searches_on_four_gates(rt: HostRuntime) -> Result<(), Fail> {
-    let graph = wired(rt.alloc(), &FOUR_GATES)?;
+    let graph = build_net(rt.alloc(), &FOUR_GATES)?;
     assert!(rt; holds(rt.alloc(), &graph, &ON_FOUR_GATES)?);
     Ok(())
 }

@@ -1,12 +1,12 @@
 //! Trees on two nets, each with what the checker answers.
 use gate_graph::{Graph, Question};
 use refutation::{Form, Item, Line, Shape, Tree, TreeBuilder};
-use refutation_check::{CheckRefusal, check_tree, shortened};
+use refutation_check::{CheckRefusal, check_tree, shorten_tree};
 use rm_base::{NoMemory, NodeId};
 use std::alloc::Global;
 use std::test::Fail;
 use test_nets::worked::{FOUR_GATES_AND_PIN, ONE_GATE};
-use test_nets::{fault_at, wired};
+use test_nets::{build_net, fault_at};
 
 // An item, written by its word.
 macro_rules! item {
@@ -187,14 +187,14 @@ fn first_wrong(alloc: Global, graph: &Graph, cases: &[Case]) -> Result<Option<us
 
 #[test]
 fn trees_on_one_gate(rt: HostRuntime) -> Result<(), Fail> {
-    let graph = wired(rt.alloc(), &ONE_GATE)?;
+    let graph = build_net(rt.alloc(), &ONE_GATE)?;
     assert_eq!(rt; first_wrong(rt.alloc(), &graph, &ON_ONE_GATE)?, None);
     Ok(())
 }
 
 #[test]
 fn trees_on_four_gates(rt: HostRuntime) -> Result<(), Fail> {
-    let graph = wired(rt.alloc(), &FOUR_GATES_AND_PIN)?;
+    let graph = build_net(rt.alloc(), &FOUR_GATES_AND_PIN)?;
     assert_eq!(rt; first_wrong(rt.alloc(), &graph, &ON_FOUR_GATES)?, None);
     Ok(())
 }
@@ -236,7 +236,7 @@ const SHORTER: [Shorter; 8] = [
 fn is_left(alloc: Global, graph: &Graph, case: &Shorter) -> Result<bool, Fail> {
     let fault = fault_at(graph, case.fault.0, case.fault.1, case.fault.2)?;
     let tree = tree_of(alloc, case.items)?;
-    let short = shortened(alloc, &Question { graph, fault }, tree)?;
+    let short = shorten_tree(alloc, &Question { graph, fault }, tree)?;
     Ok(short.items() == case.left)
 }
 
@@ -252,7 +252,7 @@ fn first_longer(alloc: Global, graph: &Graph, cases: &[Shorter]) -> Result<Optio
 
 #[test]
 fn trees_are_shortened(rt: HostRuntime) -> Result<(), Fail> {
-    let graph = wired(rt.alloc(), &FOUR_GATES_AND_PIN)?;
+    let graph = build_net(rt.alloc(), &FOUR_GATES_AND_PIN)?;
     assert_eq!(rt; first_longer(rt.alloc(), &graph, &SHORTER)?, None);
     Ok(())
 }
@@ -268,7 +268,7 @@ fn many_splits(alloc: Global, count: u32) -> Result<Tree, NoMemory> {
 
 #[test]
 fn a_source_is_split_once(rt: HostRuntime) -> Result<(), Fail> {
-    let graph = wired(rt.alloc(), &ONE_GATE)?;
+    let graph = build_net(rt.alloc(), &ONE_GATE)?;
     let fault = fault_at(&graph, 4, 0, false)?;
     let tree = many_splits(rt.alloc(), 1_000_000)?;
     let question = Question {

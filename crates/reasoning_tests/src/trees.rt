@@ -8,7 +8,7 @@ use rm_base::NodeId;
 use std::alloc::Global;
 use std::test::Fail;
 use test_nets::worked::FOUR_GATES_AND_NOT;
-use test_nets::{fault_at, wired};
+use test_nets::{build_net, fault_at};
 
 // Facts that are held, a line, and what it gives.
 #[derive(Clone, Copy)]
@@ -251,7 +251,7 @@ fn holds(alloc: Global, graph: &Graph, case: &Case) -> Result<bool, Fail> {
 
 #[test]
 fn each_line_both_ways(rt: HostRuntime) -> Result<(), Fail> {
-    let graph = wired(rt.alloc(), &FOUR_GATES_AND_NOT)?;
+    let graph = build_net(rt.alloc(), &FOUR_GATES_AND_NOT)?;
     for at in 0..CASES.len() {
         let right = holds(rt.alloc(), &graph, &CASES[at])?;
         assert!(rt; right, "at case {at}");

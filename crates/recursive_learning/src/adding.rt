@@ -10,7 +10,7 @@ ghost use Rattle.recursive_learning.specs.Lessons.{IsGained, AreNew};
 use crate::lessons::GoodValue;
 use gate_graph::Question;
 use implications::Engine;
-use refutation::pins::{Aspect, known};
+use refutation::pins::{Aspect, known_of};
 use refutation::{Fact, FactSet};
 use rm_base::{NoMemory, NodeId};
 
@@ -54,7 +54,7 @@ fn gain_one(
 {
     question.graph.well_formed();
     let _mark = engine.mark();
-    let known_value = known(facts, Aspect::OfGood, good.node);
+    let known_value = known_of(facts, Aspect::OfGood, good.node);
     if let Some(value) = known_value {
         return Ok(value != good.value);
     }

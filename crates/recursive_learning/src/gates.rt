@@ -11,7 +11,7 @@ use gate_graph::Graph;
 use refutation::FactSet;
 use refutation::following::gate_pins;
 use refutation::glances::look;
-use refutation::pins::{Aspect, controlling, known};
+use refutation::pins::{Aspect, controlling, known_of};
 use rm_base::{NoMemory, NodeId};
 use std::alloc::Global;
 
@@ -22,7 +22,7 @@ pub fn wanted_value(graph: &Graph, facts: &FactSet, gate: NodeId) -> Option<bool
 {
     let kind = graph.kind(gate)?;
     let value = controlling(kind)?;
-    let known_value = known(facts, Aspect::OfGood, gate)?;
+    let known_value = known_of(facts, Aspect::OfGood, gate)?;
     if known_value != value {
         return None;
     }
@@ -51,7 +51,7 @@ pub fn open_drivers(
 {
     let mut open = Vec::new(alloc);
     for driver in gate_pins(graph, gate) {
-        if known(facts, Aspect::OfGood, driver).is_some() {
+        if known_of(facts, Aspect::OfGood, driver).is_some() {
             continue;
         }
         if is_listed(&open, driver) {

@@ -6,7 +6,7 @@ ghost use Rattle.recursive_learning.specs.Holding.{ListsNodes, NamesAdded, Names
 
 use gate_graph::Graph;
 use refutation::agenda::Agenda;
-use refutation::pins::{Aspect, known};
+use refutation::pins::{Aspect, known_of};
 use refutation::{Fact, FactSet};
 use rm_base::{NoMemory, NodeId};
 
@@ -39,7 +39,7 @@ pub fn push_known(graph: &Graph, facts: &FactSet, nodes: &mut Vec<NodeId>) -> Re
     ensures { OnOk result (NamesKnown (net_of graph.now) (held_by facts.now) nodes.new.items) }
 {
     for number in 0..graph.node_bound() {
-        if known(facts, Aspect::OfGood, NodeId(number)).is_some() {
+        if known_of(facts, Aspect::OfGood, NodeId(number)).is_some() {
             nodes.push(NodeId(number))?;
         }
     }

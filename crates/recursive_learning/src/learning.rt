@@ -13,7 +13,7 @@ ghost use Rattle.recursive_learning.specs.declared.lessons.Round.TheVariants.{Cl
 
 use crate::adding::{add, gain};
 use crate::gates::{open_drivers, wanted_value};
-use crate::lessons::{Choice, Common, GoodValue, Lesson, Round, met};
+use crate::lessons::{Choice, Common, GoodValue, Lesson, Round, meet_lesson};
 use crate::turning::{is_clash, together};
 use crate::watch::Watch;
 use gate_graph::Question;
@@ -73,7 +73,7 @@ fn learn_one(
 {
     question.graph.well_formed();
     let _mark = engine.mark();
-    watch.begin(engine.added(0))?;
+    watch.begin(engine.added_facts(0))?;
     while let Some(gate) = watch.take() {
         if look_at(engine, question, facts, watch, gate)? {
             return Ok(true);
@@ -173,7 +173,7 @@ fn visit_goods(
     ensures watching { IfOk result (λ round. round ≢ Clash → IsWatching (net_of question.now.graph.now) question.now.fault (held_by facts.new) watch.new) }
     ensures none { IfOk result (λ round. round ≢ Clash → HasNoneListed watch.new) }
 {
-    let gates = watch.good_nodes(engine.added(0))?;
+    let gates = watch.good_nodes(engine.added_facts(0))?;
     let round = visit_each(engine, question, facts, watch, depth, &gates)?;
     Ok(round)
 }
@@ -286,7 +286,7 @@ fn visit(
     if gain(engine, question, facts, &lesson.goods)? {
         return Ok(Round::Clash);
     }
-    watch.list_changed(question.graph, engine.added(mark));
+    watch.list_changed(question.graph, engine.added_facts(mark));
     Ok(Round::Gained)
 }
 
@@ -433,8 +433,8 @@ fn one_more(
         engine.take_back(facts, mark);
         return Ok(before);
     }
-    let more = met(watch.alloc(), &before, engine.added(mark), facts)?;
-    watch.rest_on_region(question.graph, gate, engine.added(mark), depth)?;
+    let more = meet_lesson(watch.alloc(), &before, engine.added_facts(mark), facts)?;
+    watch.rest_on_region(question.graph, gate, engine.added_facts(mark), depth)?;
     engine.take_back(facts, mark);
     Ok(more)
 }
@@ -470,7 +470,7 @@ fn take(
         return Ok(false);
     }
     let before = watch.mark();
-    watch.list_changed(question.graph, engine.added(start));
+    watch.list_changed(question.graph, engine.added_facts(start));
     let clash = learn(engine, question, facts, watch, depth)?;
     watch.take_back(before);
     Ok(clash)

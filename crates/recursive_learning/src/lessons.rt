@@ -3,7 +3,7 @@ ghost use Rattle.std.specs.Prelude.{◌≡◌, IfOk, true};
 ghost use Rattle.refutation.specs.FactSets.{held_by};
 ghost use Rattle.recursive_learning.specs.Common.{AreGoodsOf, AreHeldAmong, IsKnownGood, Meets};
 
-use refutation::pins::{Aspect, known};
+use refutation::pins::{Aspect, known_of};
 use refutation::{Fact, FactSet};
 use rm_base::{NoMemory, NodeId};
 use std::alloc::Global;
@@ -57,7 +57,7 @@ fn is_good(facts: &FactSet, node: NodeId, value: bool) -> bool
     if node.0 as usize >= facts.len() {
         return false;
     }
-    match known(facts, Aspect::OfGood, node) {
+    match known_of(facts, Aspect::OfGood, node) {
         Some(good) => good == value,
         None => false,
     }
@@ -104,7 +104,7 @@ fn held_among(
 }
 
 /// What the justifications looked at before have in common with one more, under which these facts are held.
-pub fn met(
+pub fn meet_lesson(
     alloc: Global,
     before: &Common,
     added: &[(NodeId, Fact)],

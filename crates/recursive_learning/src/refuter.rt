@@ -234,10 +234,10 @@ impl Refuter {
     }
 
     /// The facts that lines led to and that were learned, in order; each good value that is held is among them.
-    pub fn added(&self) -> &[(NodeId, Fact)]
+    pub fn added_facts(&self) -> &[(NodeId, Fact)]
         ensures added { result.now ≡ self.now.engine.trail }
         ensures goods { (net : Net) → IsServing net self.now → HasAllGoods (held_by self.now.basis.facts) result.now }
     {
-        self.engine.added(0)
+        self.engine.added_facts(0)
     }
 }

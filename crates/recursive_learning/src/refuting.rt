@@ -20,13 +20,13 @@ use crate::watch::Watch;
 use gate_graph::Question;
 use implications::{Closed, Engine};
 use refutation::{FactSet, Tree, TreeBuilder};
-use refutation_check::shortened;
+use refutation_check::shorten_tree;
 use rm_base::{NoMemory, NodeId};
 use std::alloc::Global;
 
 // Writes the tree of closed facts to which these lines led from what the faulty gate doesn't reach, and which lead to a
 // clash at the depth.
-fn written(
+fn write_closed(
     engine: &mut Engine,
     question: &Question<'_>,
     watch: &mut Watch,
@@ -75,7 +75,7 @@ fn tree_of(
             watch.begin_with(question.graph, &facts)?;
             let mut held = facts;
             let mark = engine.mark();
-            let tree = written(engine, question, watch, depth, gates, &mut held)?;
+            let tree = write_closed(engine, question, watch, depth, gates, &mut held)?;
             engine.take_back(&mut held, mark);
             Ok(tree)
         }
@@ -189,7 +189,7 @@ pub fn refute(
 {
     match refute_whole(alloc, engine, question, depth)? {
         Closed::Clash(tree) => {
-            let short = shortened(alloc, question, tree)?;
+            let short = shorten_tree(alloc, question, tree)?;
             Ok(Closed::Clash(short))
         }
         Closed::Open(facts) => Ok(Closed::Open(facts)),

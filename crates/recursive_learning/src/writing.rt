@@ -19,7 +19,7 @@ use crate::telling::tell;
 use crate::watch::Watch;
 use gate_graph::Question;
 use implications::Engine;
-use refutation::pins::{Aspect, known};
+use refutation::pins::{Aspect, known_of};
 use refutation::{Fact, FactSet, Item, TreeBuilder};
 use rm_base::{NoMemory, NodeId};
 
@@ -74,7 +74,7 @@ fn write_pass(
     ensures keeps { IfOk result (λ _. Keeps engine.old engine.new facts.old facts.new) }
     ensures leaves { OnOk result (LeavesList watch.old watch.new) }
 {
-    let gates = watch.good_nodes(engine.added(0))?;
+    let gates = watch.good_nodes(engine.added_facts(0))?;
     let ended = write_each(engine, question, facts, watch, depth, &gates, tree)?;
     Ok(ended)
 }
@@ -226,7 +226,7 @@ fn write_good(
     ensures leaves { OnOk result (LeavesList watch.old watch.new) }
 {
     question.graph.well_formed();
-    if let Some(known_value) = known(facts, Aspect::OfGood, good.node) {
+    if let Some(known_value) = known_of(facts, Aspect::OfGood, good.node) {
         if known_value == good.value {
             let _mark = engine.mark();
             return Ok(false);
@@ -344,7 +344,7 @@ fn write_case(
     ensures leaves { OnOk result (LeavesList watch.old watch.new) }
 {
     question.graph.well_formed();
-    if let Some(known_value) = known(facts, Aspect::OfGood, assumed.node) {
+    if let Some(known_value) = known_of(facts, Aspect::OfGood, assumed.node) {
         if known_value == assumed.value {
             write(engine, question, facts, watch, depth, tree)?;
             return Ok(true);

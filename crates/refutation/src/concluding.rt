@@ -50,7 +50,7 @@ fn concluded_near(question: &Question<'_>, facts: &FactSet, line: &Line) -> Opti
 }
 
 // What a line gives, by a search where it looks at more than one gate.
-fn concluded(
+fn conclude_at(
     question: &Question<'_>,
     facts: &FactSet,
     line: &Line,
@@ -123,7 +123,7 @@ pub fn conclude(
     ensures marks { marks.new ≡ marks.old }
 {
     question.graph.well_formed();
-    concluded(question, facts, line, marks)
+    conclude_at(question, facts, line, marks)
 }
 
 /// The same as `conclude`, by the marks of the faulty gate: each line takes the time of one gate's pins.

@@ -7,7 +7,7 @@ ghost use Rattle.refutation.specs.Answers.{IsAnswer};
 use crate::following::{gate_pins, pin_driver};
 use crate::glances::{all_equal, others_equal};
 use crate::held::FactSet;
-use crate::pins::{Aspect, is_stuck, known};
+use crate::pins::{Aspect, is_stuck, known_of};
 use crate::reasoning::{Fact, Line};
 use gate_graph::Question;
 use gate_net::Kind;
@@ -53,7 +53,7 @@ pub fn line_not_differs(
         return None;
     }
     let driver = pin_driver(question.graph, node, 0)?;
-    let equal = known(facts, Aspect::OfEqual, driver)?;
+    let equal = known_of(facts, Aspect::OfEqual, driver)?;
     if equal {
         return None;
     }
@@ -76,7 +76,7 @@ pub fn line_not_equal(
     if node.0 == question.fault.gate.0 {
         return None;
     }
-    let equal = known(facts, Aspect::OfEqual, node)?;
+    let equal = known_of(facts, Aspect::OfEqual, node)?;
     if !equal {
         return None;
     }
@@ -101,7 +101,7 @@ pub fn line_differs_back(
     if node.0 == question.fault.gate.0 {
         return None;
     }
-    let equal = known(facts, Aspect::OfEqual, node)?;
+    let equal = known_of(facts, Aspect::OfEqual, node)?;
     if equal {
         return None;
     }
@@ -124,7 +124,7 @@ pub fn line_side(
 {
     let kind = question.graph.kind(node)?;
     let value = kind.controlling_value()?;
-    let equal = known(facts, Aspect::OfEqual, node)?;
+    let equal = known_of(facts, Aspect::OfEqual, node)?;
     if equal {
         return None;
     }
@@ -132,7 +132,7 @@ pub fn line_side(
         return None;
     }
     let driver = pin_driver(question.graph, node, position)?;
-    let same = known(facts, Aspect::OfEqual, driver)?;
+    let same = known_of(facts, Aspect::OfEqual, driver)?;
     if !same {
         return None;
     }

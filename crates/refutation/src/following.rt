@@ -6,7 +6,7 @@ ghost use Rattle.refutation.specs.Answers.{forward_at, backward_at, both_at, see
 
 use crate::glances::{back, forward};
 use crate::held::FactSet;
-use crate::pins::{Aspect, Stuck, known};
+use crate::pins::{Aspect, Stuck, known_of};
 use gate_graph::Graph;
 pub use gate_looks::drivers::{gate_pins, pin_driver};
 use rm_base::NodeId;
@@ -39,7 +39,7 @@ pub fn backward_line(
     ensures { seen_pull result ≡ backward_at (net_of graph.now) stuck aspect (held_by facts.now) node.0 position }
 {
     let kind = graph.kind(node)?;
-    let value = known(facts, aspect, node)?;
+    let value = known_of(facts, aspect, node)?;
     let driver = graph.driver(node, position)?;
     let follows = back(
         kind,
@@ -65,7 +65,7 @@ pub fn both_known(
     ensures { result ≡ both_at (net_of graph.now) one other (held_by facts.now) node.0 }
 {
     let _kind = graph.kind(node)?;
-    let a = known(facts, one, node)?;
-    let b = known(facts, other, node)?;
+    let a = known_of(facts, one, node)?;
+    let b = known_of(facts, other, node)?;
     Some((a, b))
 }

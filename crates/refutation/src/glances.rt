@@ -8,7 +8,7 @@ ghost use Rattle.refutation.specs.Pins.{pins_of, Glances, AreBelow, known_on};
 ghost use Rattle.rm_base.specs.Numbers.{number_bound};
 
 use crate::held::FactSet;
-use crate::pins::{Aspect, Glance, Stuck, known, others_pass};
+use crate::pins::{Aspect, Glance, Stuck, known_of, others_pass};
 use gate_graph::Inputs;
 use gate_looks::glances::Known;
 use gate_net::Kind;
@@ -26,8 +26,8 @@ impl<'a> Known for Told<'a> {
 
     ghost bound = { λ t. length t.facts.now };
 
-    fn known(&self, node: NodeId) -> Option<bool> {
-        known(self.facts, self.aspect, node)
+    fn known_of(&self, node: NodeId) -> Option<bool> {
+        known_of(self.facts, self.aspect, node)
     }
 }
 

@@ -35,7 +35,7 @@ fn one_of(no: bool, yes: bool) -> Option<bool>
 }
 
 /// What is known of a node; of `OfEqual`, true where it is known to be equal.
-pub fn known(facts: &FactSet, aspect: Aspect, node: NodeId) -> Option<bool>
+pub fn known_of(facts: &FactSet, aspect: Aspect, node: NodeId) -> Option<bool>
     requires { node.0 < length facts.now }
     ensures { result ≡ known_on aspect (held_by facts.now) node.0 }
 {

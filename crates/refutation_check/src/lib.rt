@@ -19,5 +19,5 @@ mod trail;
 pub use check::check_tree;
 pub use checker::TreeChecker;
 pub use refusals::CheckRefusal;
-pub use shorten::shortened;
+pub use shorten::shorten_tree;
 pub use shortening::Shortener;

@@ -4,7 +4,7 @@ ghost use Rattle.gate_graph.specs.Circuit.{net_of};
 
 use gate_graph::{Graph, Inputs, Question};
 use refutation::following::{gate_pins, pin_driver};
-use refutation::pins::{Aspect, Stuck, at_pin, is_value, known, stuck_at};
+use refutation::pins::{Aspect, Stuck, at_pin, is_value, known_of, stuck_at};
 use refutation::{Fact, FactSet, Line};
 use rm_base::{NoMemory, NodeId};
 use std::alloc::Global;
@@ -27,11 +27,11 @@ fn known_within(facts: &FactSet, aspect: Aspect, node: NodeId) -> Option<bool> {
     if node.0 as usize >= facts.len() {
         return None;
     }
-    known(facts, aspect, node)
+    known_of(facts, aspect, node)
 }
 
 // The fact by which that is known.
-fn telling(aspect: Aspect, value: bool) -> Fact {
+fn fact_telling(aspect: Aspect, value: bool) -> Fact {
     match aspect {
         Aspect::OfGood => Fact::Good(value),
         Aspect::OfFaulty => Fact::Faulty(value),
@@ -134,7 +134,7 @@ impl Premises {
         node: NodeId,
     ) -> Result<(), NoMemory> {
         if let Some(value) = known_within(facts, aspect, node) {
-            let fact = telling(aspect, value);
+            let fact = fact_telling(aspect, value);
             self.list.push(Premise { node, fact })?;
         }
         Ok(())

@@ -39,7 +39,7 @@ fn kept_of(
 
 /// The tree without the lines and the splits that its ends don't rest on. What is left is put before the checker, and the
 /// tree stays as it is where that isn't accepted as closed. It takes the time of checking both trees.
-pub fn shortened(alloc: Global, question: &Question<'_>, tree: Tree) -> Result<Tree, NoMemory>
+pub fn shorten_tree(alloc: Global, question: &Question<'_>, tree: Tree) -> Result<Tree, NoMemory>
     ensures accepted { AreAccepted (net_of question.now.graph.now) question.now.fault tree → IfOk result (λ t. AreAccepted (net_of question.now.graph.now) question.now.fault t) }
     ensures same { IfOk result (λ t. (t ≡ tree) ⊎ AreAccepted (net_of question.now.graph.now) question.now.fault t) }
     ensures fewer { IfOk result (λ t. length t ≤ length tree) }

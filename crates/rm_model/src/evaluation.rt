@@ -10,7 +10,7 @@ ghost use Rattle.rm_base.specs.Words.{Word};
 
 use crate::name_table::NameTable;
 use crate::parts::{Cover, Model, Name};
-use crate::points::{observed, sources};
+use crate::points::{list_observed, sources};
 use crate::ranking::{RankFault, first_missing, search_covers};
 use crate::value::cover_value;
 use rm_base::{NoMemory, SourceNo, Vector};
@@ -158,7 +158,7 @@ fn values_in_order(
         → values ≡ map v (observed_names model.now)) }
 {
     let names = sources(alloc, model)?;
-    let points = observed(alloc, model)?;
+    let points = list_observed(alloc, model)?;
     let mut known = known_sources(alloc, names.as_slice(), vector.values())?;
     add_covers(alloc, &mut known, model.covers.items(), order)?;
     let values = known.values_of(alloc, points.as_slice())?;

@@ -85,7 +85,7 @@ fn push_inputs(alloc: Global, out: &mut Vec<Name>, covers: &[Cover]) -> Result<(
     Ok(())
 }
 
-fn driven(alloc: Global, model: &Model) -> Result<Vec<Name>, NoMemory>
+fn list_driven(alloc: Global, model: &Model) -> Result<Vec<Name>, NoMemory>
     ensures { IfOk result (λ names. names.items ≡ driven_names model.now) }
 {
     let mut names = sources(alloc, model)?;
@@ -93,7 +93,7 @@ fn driven(alloc: Global, model: &Model) -> Result<Vec<Name>, NoMemory>
     Ok(names)
 }
 
-fn used(alloc: Global, model: &Model) -> Result<Vec<Name>, NoMemory>
+fn list_used(alloc: Global, model: &Model) -> Result<Vec<Name>, NoMemory>
     ensures { IfOk result (λ names. names.items ≡ used_names model.now) }
 {
     let mut names = Vec::new(alloc);
@@ -192,8 +192,8 @@ fn all_of(once: bool, tokens: bool, known: bool, formed: bool) -> bool
 pub fn is_well_formed(alloc: Global, model: &Model) -> Result<bool, NoMemory>
     ensures { IfOk result (λ formed. IsTrue formed ↔ IsWellFormed model.now) }
 {
-    let driven = driven(alloc, model)?;
-    let used = used(alloc, model)?;
+    let driven = list_driven(alloc, model)?;
+    let used = list_used(alloc, model)?;
     let table = table_of(alloc, driven.as_slice())?;
     let once = names_are_once(alloc, model, driven.as_slice())?;
     let tokens = names_are_tokens(model, driven.as_slice(), used.as_slice());

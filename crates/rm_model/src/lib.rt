@@ -23,7 +23,7 @@ pub use list::Listed;
 pub use name_table::NameTable;
 pub use numbering::Numbering;
 pub use parts::{Cover, Latch, LatchKind, Literal, Model, Name, Row, Timing};
-pub use points::{copy_name, observed, sources};
+pub use points::{copy_name, list_observed, sources};
 pub use ranked_model::RankedModel;
 pub use ranking::{RankFault, rank};
 pub use value::cover_value;

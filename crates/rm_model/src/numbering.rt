@@ -8,7 +8,7 @@ ghost use Rattle.rm_model.specs.WellFormed.{driven_names, is_distinct, IsWellFor
 
 use crate::name_table::NameTable;
 use crate::parts::{Cover, Model, Name};
-use crate::points::{observed, sources};
+use crate::points::{list_observed, sources};
 use rm_base::NoMemory;
 use std::alloc::Global;
 
@@ -133,7 +133,7 @@ pub fn number(alloc: Global, model: &Model) -> Result<Numbering, NoMemory>
     ensures sources { IfOk result (λ n. n.sources ≡ length (source_names model.now)) }
 {
     let sources = sources(alloc, model)?;
-    let observed = observed(alloc, model)?;
+    let observed = list_observed(alloc, model)?;
     let table = signal_table(alloc, sources.as_slice(), model.covers.items())?;
     number_by(
         alloc,

@@ -129,7 +129,7 @@ pub fn sources(alloc: Global, model: &Model) -> Result<Vec<Name>, NoMemory>
 
 /// The names that are seen from outside: the outputs, the latch inputs and the latch controls, each
 /// in order. A name may stand twice, and it may be a source.
-pub fn observed(alloc: Global, model: &Model) -> Result<Vec<Name>, NoMemory>
+pub fn list_observed(alloc: Global, model: &Model) -> Result<Vec<Name>, NoMemory>
     ensures { IfOk result (λ names. names.items ≡ observed_names model.now) }
 {
     let mut names = Vec::new(alloc);

@@ -61,7 +61,7 @@ impl<'a> Known for MarksOf<'a> {
 
     ghost bound = { λ m. length m.marks.now };
 
-    fn known(&self, node: NodeId) -> Option<bool> {
+    fn known_of(&self, node: NodeId) -> Option<bool> {
         let on = self.marks[node.0 as usize];
         match self.reading {
             Reading::OfGood => on.good,

@@ -144,10 +144,10 @@ impl Sim {
     }
 
     /// Whether some observed node was read with known and different values.
-    pub fn detected(&self, graph: &Graph) -> bool
+    pub fn is_detected(&self, graph: &Graph) -> bool
         ensures { IsTrue result ↔ MarksDetected (net_of graph.now) (marking self.now.marks) }
     {
-        for node in graph.observed() {
+        for node in graph.observed_points() {
             if differs(self.good(node), self.faulty(node)) {
                 return true;
             }
@@ -159,7 +159,7 @@ impl Sim {
     pub fn quiet(&self, graph: &Graph) -> bool
         ensures { IsTrue result ↔ MarksQuiet (net_of graph.now) (marking self.now.marks) }
     {
-        for node in graph.observed() {
+        for node in graph.observed_points() {
             if !self.equal(node) {
                 return false;
             }

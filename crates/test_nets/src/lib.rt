@@ -15,4 +15,4 @@ pub use building::NetBuilder;
 pub use drawing::{Draws, add_drawn, drawn_net};
 pub use editing::{few_nodes, is_live, may_edit, reserve_undos, try_edit};
 pub use faults::fault_at;
-pub use wiring::{Gate, Wiring, build, wired};
+pub use wiring::{Gate, Wiring, build, build_net};

@@ -37,7 +37,7 @@ pub fn build(alloc: Global, wiring: &Wiring) -> Result<NetBuilder, Fail> {
 }
 
 /// The net of a table.
-pub fn wired(alloc: Global, wiring: &Wiring) -> Result<Graph, Fail>
+pub fn build_net(alloc: Global, wiring: &Wiring) -> Result<Graph, Fail>
     ensures few { IfOk result (λ graph. pins_taken graph + live_nodes graph ≤ 300000) }
 {
     let net = build(alloc, wiring)?;

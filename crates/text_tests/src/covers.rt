@@ -81,7 +81,7 @@ fn has_gates(graph: &Graph, first: u32, gates: &[Made], observed: &[u32]) -> boo
     if graph.node_bound() != node {
         return false;
     }
-    are_these(graph.observed(), observed)
+    are_these(graph.observed_points(), observed)
 }
 
 fn and<'a>(drivers: &'a [u32]) -> Made<'a> {

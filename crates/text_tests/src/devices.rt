@@ -66,7 +66,7 @@ fn a_sink_keeps_what_was_put(rt: HostRuntime) -> Result<(), Fail> {
     assert!(rt; sink.put(b"abc").is_ok());
     assert!(rt; sink.put(b"defgh") == Err(OutsideFault::Failed));
     assert!(rt; sink.put(b"i").is_ok());
-    assert!(rt; sink.written() == b"abcdei".as_slice());
+    assert!(rt; sink.written_bytes() == b"abcdei".as_slice());
     Ok(())
 }
 

@@ -2,7 +2,7 @@
 use rm_base::{NoMemory, Vector};
 use rm_model::{
     Cover, Latch, LatchKind, Listed, Literal, Model, Name, RankFault, Row, Timing, evaluate,
-    is_well_formed, observed, rank, sources,
+    is_well_formed, list_observed, rank, sources,
 };
 use std::alloc::Global;
 use std::test::Fail;
@@ -407,7 +407,7 @@ fn values(
     if vector.len() != sources.len() || sources.len() > 1_000_000 {
         return Err("not a value for each source".into());
     }
-    if observed(alloc, model)?.len() > 1_000_000 {
+    if list_observed(alloc, model)?.len() > 1_000_000 {
         return Err("too many observed points".into());
     }
     Ok(evaluate(alloc, model, vector))
@@ -455,7 +455,7 @@ fn sources_of_latches(rt: HostRuntime) -> Result<(), Fail> {
 
 #[test]
 fn observed_points_of_latches(rt: HostRuntime) -> Result<(), Fail> {
-    let found = observed(rt.alloc(), &model(rt.alloc(), &TWO_LATCHES)?)?;
+    let found = list_observed(rt.alloc(), &model(rt.alloc(), &TWO_LATCHES)?)?;
     assert!(rt; are_names(found.as_slice(), &["q", "nd", "q", "g"]));
     Ok(())
 }

@@ -154,7 +154,7 @@ fn command<'a>(matches: &ArgMatches<'a>) -> Option<Command<'a>>
 }
 
 // What `clap` makes of the words, and that it refuses no others.
-fn parsed<'a>(alloc: Global, words: &'a [String]) -> Result<ArgMatches<'a>, WordFault>
+fn parse_words<'a>(alloc: Global, words: &'a [String]) -> Result<ArgMatches<'a>, WordFault>
     ensures ok { IfOk result (λ m. (fault_of program_app (map string_bytes words.entry.now) ≡ [])
         × (subcommand_rows_of m ≡ subcommand_of program_app (map string_bytes words.entry.now))) }
     ensures refused { IfErr result (λ e. e ≡ WordFault.Refused → fault_of program_app (map string_bytes words.entry.now) ≢ []) }
@@ -180,7 +180,7 @@ fn accepted_rows<'a>(alloc: Global, words: &'a [String]) -> Result<ArgMatches<'a
     ensures ok { IfOk result (λ m. accepted (map string_bytes words.entry.now) ≡ subcommand_rows_of m) }
     ensures refused { IfErr result (λ e. e ≡ WordFault.Refused → accepted (map string_bytes words.entry.now) ≡ None) }
 {
-    parsed(alloc, words)
+    parse_words(alloc, words)
 }
 
 /// Reads the words that follow the program's own name. The names of a command are the words themselves, and want of

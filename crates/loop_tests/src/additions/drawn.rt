@@ -2,7 +2,7 @@
 ghost use Rattle.std.specs.Prelude.{◌<◌, ◌≤◌, ◌+◌, IfOk};
 ghost use Rattle.gate_graph.specs.Circuit.{live_nodes, pins_taken};
 
-use super::{made, optimised, settled};
+use super::{counts_made, optimised, settled};
 use fault_sim::Lanes;
 use gate_graph::Graph;
 use std::alloc::Global;
@@ -64,7 +64,7 @@ fn add_gate(net: &mut NetBuilder, draws: &mut Draws, words: &[u64], bound: u32) 
 }
 
 /// A net whose gates read constants, sources and gates before them.
-pub fn drawn(alloc: Global, seed: u64) -> Result<DrawnNet, Fail>
+pub fn draw_net(alloc: Global, seed: u64) -> Result<DrawnNet, Fail>
     ensures few { IfOk result (λ d. pins_taken d.graph + live_nodes d.graph ≤ 300000) }
 {
     let mut draws = Draws::new(seed);
@@ -91,7 +91,7 @@ fn observed_words(alloc: Global, graph: &Graph) -> Result<Vec<u64>, Fail> {
         return Err("other sources".into());
     }
     lanes.simulate64(graph, &FIRST[2..]);
-    for node in graph.observed() {
+    for node in graph.observed_points() {
         found.push(lanes.value(node))?;
     }
     Ok(found)
@@ -99,7 +99,7 @@ fn observed_words(alloc: Global, graph: &Graph) -> Result<Vec<u64>, Fail> {
 
 // How many wires the loop takes away from the net of a seed.
 fn wires_less(alloc: Global, seed: u64) -> Result<u32, Fail> {
-    let net = drawn(alloc, seed)?;
+    let net = draw_net(alloc, seed)?;
     let words = net.words.as_slice();
     let wanted = [word_at(words, 18), word_at(words, 20), word_at(words, 21)];
     let end = optimised(alloc, net.graph, 100_000)?;
@@ -129,10 +129,10 @@ const ENDS: [(u64, u32, u64, u64, u64, u32); 12] = [
 #[test]
 fn drawn_ends(rt: HostRuntime) -> Result<(), Fail> {
     for (seed, tries, adds, fixes, local, wires) in ENDS {
-        let net = drawn(rt.alloc(), seed)?;
+        let net = draw_net(rt.alloc(), seed)?;
         let end = optimised(rt.alloc(), net.graph, 100_000)?;
         assert_eq!(rt; end.outcome, settled(tries));
-        assert_eq!(rt; end.made, made(adds, fixes, local));
+        assert_eq!(rt; end.made, counts_made(adds, fixes, local));
         assert_eq!(rt; end.graph.wire_count(), wires);
     }
     Ok(())

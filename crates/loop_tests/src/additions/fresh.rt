@@ -1,5 +1,5 @@
 // A net in which only a Not that isn't there yet pays.
-use super::{fault, looped, made, settled, spent, wire};
+use super::{counts_made, fault, looped, outcome_spent, settled, wire};
 use rm_base::NodeId;
 use std::test::Fail;
 use test_nets::{Gate, Wiring};
@@ -24,23 +24,23 @@ fn a_fresh_not_pays(rt: HostRuntime) -> Result<(), Fail> {
     let rows = [
         (
             13,
-            spent(13, fault(8, 0, true), wire(6, true, 11)),
-            made(0, 0, 0),
+            outcome_spent(13, fault(8, 0, true), wire(6, true, 11)),
+            counts_made(0, 0, 0),
             11,
         ),
         (
             14,
-            spent(14, fault(10, 0, false), wire(2, true, 10)),
-            made(1, 2, 9),
+            outcome_spent(14, fault(10, 0, false), wire(2, true, 10)),
+            counts_made(1, 2, 9),
             8,
         ),
         (
             33,
-            spent(33, fault(11, 2, true), wire(2, true, 11)),
-            made(1, 2, 9),
+            outcome_spent(33, fault(11, 2, true), wire(2, true, 11)),
+            counts_made(1, 2, 9),
             8,
         ),
-        (34, settled(34), made(1, 2, 9), 8),
+        (34, settled(34), counts_made(1, 2, 9), 8),
     ];
     for (tries, outcome, steps, wires) in rows {
         let end = looped(rt.alloc(), &UNDER_A_NOT, tries)?;

@@ -3,7 +3,7 @@
 ghost use Rattle.std.specs.Prelude.{◌≤◌, ◌+◌};
 ghost use Rattle.gate_graph.specs.Circuit.{live_nodes, pins_taken};
 
-use super::drawn::drawn;
+use super::drawn::draw_net;
 use super::optimised;
 use candidate_wires::{Candidate, Pair, added_pin, candidates, control_of, least_free, targets};
 use gate_graph::{Graph, Question, faults_of};
@@ -12,7 +12,7 @@ use recursive_learning::refute;
 use rm_base::{Fault, NodeId};
 use std::alloc::Global;
 use std::test::Fail;
-use test_nets::wired;
+use test_nets::build_net;
 use test_nets::worked::FOUR_GATES;
 use wire_edit::{Room, Step, Trial};
 
@@ -108,7 +108,7 @@ fn add_wire(trial: &mut Trial, candidate: &Candidate) -> Result<Fault, Fail> {
 }
 
 // Adds the wire, fixes the target and sweeps, as far as both faults are refuted; how many wires there are then.
-fn replaced(alloc: Global, trial: &mut Trial, pair: &Pair) -> Result<Option<u32>, Fail> {
+fn try_replacing(alloc: Global, trial: &mut Trial, pair: &Pair) -> Result<Option<u32>, Fail> {
     let pin = add_wire(trial, &pair.candidate)?;
     if !is_refuted(alloc, trial.graph(), &pin)? {
         return Ok(None);
@@ -129,7 +129,7 @@ const ROOM: Room = Room {
 };
 
 // A trial of a copy of the graph.
-fn begun(alloc: Global, graph: &Graph) -> Result<Trial, Fail>
+fn begin_trial(alloc: Global, graph: &Graph) -> Result<Trial, Fail>
     requires { pins_taken graph.now + live_nodes graph.now ≤ 1048576 }
 {
     let copy = graph.copy(alloc)?;
@@ -143,8 +143,8 @@ fn begun(alloc: Global, graph: &Graph) -> Result<Trial, Fail>
 fn pays(alloc: Global, graph: &Graph, pair: &Pair) -> Result<bool, Fail>
     requires { pins_taken graph.now + live_nodes graph.now ≤ 1048576 }
 {
-    let mut trial = begun(alloc, graph)?;
-    match replaced(alloc, &mut trial, pair)? {
+    let mut trial = begin_trial(alloc, graph)?;
+    match try_replacing(alloc, &mut trial, pair)? {
         Some(wires) => Ok(wires < graph.wire_count()),
         None => Ok(false),
     }
@@ -201,13 +201,13 @@ fn tally(alloc: Global, graph: &Graph) -> Result<(usize, u32), Fail>
 // With node 2 at the last gate, each of the two pins that read it elsewhere can be fixed, and the sweep fixes the other one.
 #[test]
 fn pairs_that_pay(rt: HostRuntime) -> Result<(), Fail> {
-    let graph = wired(rt.alloc(), &FOUR_GATES)?;
+    let graph = build_net(rt.alloc(), &FOUR_GATES)?;
     assert_eq!(rt; tally(rt.alloc(), &graph)?, (58, 2));
     Ok(())
 }
 
 fn settled_tally(alloc: Global, seed: u64) -> Result<(usize, u32), Fail> {
-    let net = drawn(alloc, seed)?;
+    let net = draw_net(alloc, seed)?;
     let end = optimised(alloc, net.graph, 100_000)?;
     tally(alloc, &end.graph)
 }

@@ -2,7 +2,7 @@
 ghost use Rattle.std.specs.Prelude.{◌≤◌, ◌+◌, IfOk};
 ghost use Rattle.gate_graph.specs.Circuit.{live_nodes, pins_taken};
 
-use super::{fault, made, optimised, settled, spent, wire};
+use super::{counts_made, fault, optimised, outcome_spent, settled, wire};
 use gate_graph::Graph;
 use std::alloc::Global;
 use std::test::Fail;
@@ -60,7 +60,7 @@ fn row_ends(alloc: Global, row: (u32, u32, u32, u32), form: Form) -> Result<bool
     let terms = terms as u64;
     Ok(
         end.outcome == settled(tries)
-            && end.made == made(1, terms, 3 * terms)
+            && end.made == counts_made(1, terms, 3 * terms)
             && end.before == before
             && end.graph.wire_count() == after,
     )
@@ -85,13 +85,13 @@ fn its_place_among_the_tries(rt: HostRuntime) -> Result<(), Fail> {
     let end = optimised(alloc, graph, 12)?;
     assert_eq!(rt;
         end.outcome,
-        spent(12, fault(13, 0, true), wire(2, false, 23))
+        outcome_spent(12, fault(13, 0, true), wire(2, false, 23))
     );
     let graph = wide(alloc, 9, Form::Ors)?;
     let end = optimised(alloc, graph, 12)?;
     assert_eq!(rt;
         end.outcome,
-        spent(12, fault(13, 0, false), wire(2, false, 23))
+        outcome_spent(12, fault(13, 0, false), wire(2, false, 23))
     );
     Ok(())
 }
@@ -103,9 +103,9 @@ fn more_than_64_terms(rt: HostRuntime) -> Result<(), Fail> {
     let end = optimised(alloc, graph, 69)?;
     assert_eq!(rt;
         end.outcome,
-        spent(69, fault(134, 0, false), wire(2, false, 134))
+        outcome_spent(69, fault(134, 0, false), wire(2, false, 134))
     );
-    assert_eq!(rt; end.made, made(1, 65, 195));
+    assert_eq!(rt; end.made, counts_made(1, 65, 195));
     assert_eq!(rt; end.before, 197);
     assert_eq!(rt; end.graph.wire_count(), 68);
     Ok(())

@@ -12,7 +12,7 @@ use std::alloc::Global;
 use std::sync::atomic::{AtomicU64, Ordering};
 use std::test::Fail;
 use std::thread::Threads;
-use test_nets::wired;
+use test_nets::build_net;
 use test_nets::worked::FOUR_GATES;
 
 // The first faults of the graph, so many and at most 64.
@@ -67,7 +67,7 @@ impl Gate for Meeting {
 
 #[test]
 fn two_pieces_meet(rt: HostRuntime) -> Result<(), Fail> {
-    let graph = wired(rt.alloc(), &FOUR_GATES)?;
+    let graph = build_net(rt.alloc(), &FOUR_GATES)?;
     let faults = first_faults(rt.alloc(), &graph, 64)?;
     assert_eq!(rt; faults.len(), 16);
     let gate = Meeting::new();
@@ -126,7 +126,7 @@ fn passed<R: Threads + Sync>(
 
 #[test]
 fn each_piece_passes_once(rt: HostRuntime) -> Result<(), Fail> {
-    let graph = wired(rt.alloc(), &FOUR_GATES)?;
+    let graph = build_net(rt.alloc(), &FOUR_GATES)?;
     assert_eq!(rt; passed(&rt, rt.alloc(), &graph, 16, 1)?, 0x1);
     assert_eq!(rt; passed(&rt, rt.alloc(), &graph, 16, 5)?, 0x11111);
     assert_eq!(rt; passed(&rt, rt.alloc(), &graph, 16, 8)?, 0x11111111);

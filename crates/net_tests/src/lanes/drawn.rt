@@ -76,7 +76,7 @@ fn agree(lanes: &mut Lanes, sim: &mut Sim, graph: &Graph, fault: &Fault, first: 
         let lane = 8 * eighth + first;
         give(sim, graph, lane);
         sim.run_fault(&question);
-        if sim.detected(graph) != (found.wrapping_shr(lane) & 1 == 1) {
+        if sim.is_detected(graph) != (found.wrapping_shr(lane) & 1 == 1) {
             return false;
         }
     }

@@ -3,7 +3,7 @@ use fault_sim::Lanes;
 use gate_graph::{Graph, Question};
 use std::alloc::Global;
 use std::test::Fail;
-use test_nets::{Gate, Wiring, fault_at, wired};
+use test_nets::{Gate, Wiring, build_net, fault_at};
 
 // Of the sources 2 and 3.
 const FORMS: Wiring<'static> = Wiring {
@@ -89,7 +89,7 @@ fn found(alloc: Global, graph: &Graph, row: &Row) -> Result<u64, Fail> {
 
 #[test]
 fn every_form_of_gate(rt: HostRuntime) -> Result<(), Fail> {
-    let graph = wired(rt.alloc(), &FORMS)?;
+    let graph = build_net(rt.alloc(), &FORMS)?;
     for at in 0..ROWS.len() {
         assert_eq!(rt;
             found(rt.alloc(), &graph, &ROWS[at])?,
@@ -102,7 +102,7 @@ fn every_form_of_gate(rt: HostRuntime) -> Result<(), Fail> {
 
 #[test]
 fn wide_gates(rt: HostRuntime) -> Result<(), Fail> {
-    let graph = wired(rt.alloc(), &WIDE)?;
+    let graph = build_net(rt.alloc(), &WIDE)?;
     for at in 0..WIDE_ROWS.len() {
         assert_eq!(rt;
             found(rt.alloc(), &graph, &WIDE_ROWS[at])?,

@@ -55,7 +55,7 @@ fn first_read(sim: &mut Sim, question: &Question<'_>) -> Option<usize>
     for number in 0..256u32 {
         give(sim, question.graph, number);
         sim.run_fault(question);
-        if sim.detected(question.graph) {
+        if sim.is_detected(question.graph) {
             return Some(number as usize);
         }
     }

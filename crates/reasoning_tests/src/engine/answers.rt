@@ -5,13 +5,13 @@ ghost use Rattle.gate_graph.specs.Circuit.{net_of};
 use crate::facts::hold_same;
 use gate_graph::{Graph, Marks, Question};
 use implications::{Closed, Engine};
-use refutation::pins::{Aspect, known};
+use refutation::pins::{Aspect, known_of};
 use refutation::{FactSet, Item, Tree, TreeBuilder, conclude};
 use rm_base::NodeId;
 use std::alloc::Global;
 use std::test::Fail;
 use test_nets::worked::{ABSORBED, FOUR_GATES};
-use test_nets::{Gate, Wiring, fault_at, wired};
+use test_nets::{Gate, Wiring, build_net, fault_at};
 
 // s' a + s b + a b, of the sources s, a and b.
 const SELECTED: Wiring<'static> = Wiring {
@@ -69,7 +69,7 @@ fn clashes(
     position: u32,
     value: bool,
 ) -> Result<bool, Fail> {
-    let graph = wired(alloc, wiring)?;
+    let graph = build_net(alloc, wiring)?;
     let fault = fault_at(&graph, gate, position, value)?;
     let question = Question {
         graph: &graph,
@@ -94,9 +94,9 @@ fn is_known(facts: &FactSet, node: NodeId, wanted: &Known) -> bool {
     if node.0 as usize >= facts.len() {
         return false;
     }
-    known(facts, Aspect::OfGood, node) == wanted.0
-        && known(facts, Aspect::OfFaulty, node) == wanted.1
-        && known(facts, Aspect::OfEqual, node) == wanted.2
+    known_of(facts, Aspect::OfGood, node) == wanted.0
+        && known_of(facts, Aspect::OfFaulty, node) == wanted.1
+        && known_of(facts, Aspect::OfEqual, node) == wanted.2
 }
 
 // Whether that is known of each node.
@@ -171,7 +171,7 @@ fn is_right(alloc: Global, graph: &Graph, case: &Case) -> Result<bool, Fail> {
 
 #[test]
 fn derivable_facts_are_known(rt: HostRuntime) -> Result<(), Fail> {
-    let graph = wired(rt.alloc(), &FOUR_GATES)?;
+    let graph = build_net(rt.alloc(), &FOUR_GATES)?;
     for at in 0..CASES.len() {
         let right = is_right(rt.alloc(), &graph, &CASES[at])?;
         assert!(rt; right, "at case {at}");

@@ -29,7 +29,7 @@ fn add_gate(net: &mut NetBuilder, draws: &mut Draws, nodes: u32) -> Result<NodeI
 }
 
 // The net of a seed, of which the last gate is observed.
-fn drawn(alloc: Global, seed: u64) -> Result<Graph, Fail> {
+fn draw_net(alloc: Global, seed: u64) -> Result<Graph, Fail> {
     let mut draws = Draws::new(seed);
     let mut net = NetBuilder::new(alloc, SOURCES)?;
     for at in 0..GATES {
@@ -98,7 +98,7 @@ fn detected_faults_are_open(rt: HostRuntime) -> Result<(), Fail> {
         wrong: 0,
     };
     for seed in 1..51u64 {
-        let graph = drawn(rt.alloc(), seed)?;
+        let graph = draw_net(rt.alloc(), seed)?;
         count_faults(rt.alloc(), &graph, &mut count)?;
     }
     assert_eq!(rt; count.wrong, 0);

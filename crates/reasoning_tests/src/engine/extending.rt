@@ -8,17 +8,17 @@ use crate::facts::hold_same;
 use gate_graph::Question;
 use implications::{Closed, Engine};
 use refutation::FactSet;
-use refutation::pins::{Aspect, known};
+use refutation::pins::{Aspect, known_of};
 use rm_base::NodeId;
 use std::alloc::Global;
 use std::test::Fail;
 use test_nets::worked::FOUR_GATES;
-use test_nets::{fault_at, wired};
+use test_nets::{build_net, fault_at};
 
 const THIRD: NodeId = NodeId(4);
 
 // What is known of the third source after growing facts that don't tell its good value by its being 1.
-fn grown(
+fn grow_net(
     engine: &mut Engine,
     question: &Question<'_>,
     facts: &FactSet,
@@ -31,7 +31,7 @@ fn grown(
     let Some(_) = question.graph.kind(THIRD) else {
         return Err("no such node".into());
     };
-    if known(facts, Aspect::OfGood, THIRD).is_some() {
+    if known_of(facts, Aspect::OfGood, THIRD).is_some() {
         return Err("known before".into());
     }
     let Closed::Open(more) = engine.grow(question, facts, THIRD, true)? else {
@@ -40,7 +40,7 @@ fn grown(
     if more.len() <= 4 {
         return Err("too few nodes".into());
     }
-    Ok(known(&more, Aspect::OfFaulty, THIRD))
+    Ok(known_of(&more, Aspect::OfFaulty, THIRD))
 }
 
 // The same by extending them in place, where taking that back gives the facts before.
@@ -58,13 +58,13 @@ fn extended(
     let Some(_) = question.graph.kind(THIRD) else {
         return Err("no such node".into());
     };
-    if known(facts, Aspect::OfGood, THIRD).is_some() {
+    if known_of(facts, Aspect::OfGood, THIRD).is_some() {
         return Err("known before".into());
     }
     let before = facts.copy(alloc)?;
     let mark = engine.mark();
     let clash = engine.extend(question, facts, THIRD, true)?;
-    let now = known(facts, Aspect::OfFaulty, THIRD);
+    let now = known_of(facts, Aspect::OfFaulty, THIRD);
     engine.take_back(facts, mark);
     if clash.is_some() {
         return Err("a clash".into());
@@ -80,7 +80,7 @@ fn extended(
 
 #[test]
 fn grows_and_takes_back(rt: HostRuntime) -> Result<(), Fail> {
-    let graph = wired(rt.alloc(), &FOUR_GATES)?;
+    let graph = build_net(rt.alloc(), &FOUR_GATES)?;
     let fault = fault_at(&graph, 6, 0, true)?;
     let question = Question {
         graph: &graph,
@@ -90,7 +90,7 @@ fn grows_and_takes_back(rt: HostRuntime) -> Result<(), Fail> {
     let Closed::Open(mut facts) = engine.close(&question)? else {
         return Err("a clash".into());
     };
-    let one = grown(&mut engine, &question, &facts)?;
+    let one = grow_net(&mut engine, &question, &facts)?;
     let other = extended(rt.alloc(), &mut engine, &question, &mut facts)?;
     assert_eq!(rt; (one, other), (Some(true), Some(true)));
     Ok(())

@@ -9,7 +9,7 @@ use refutation::{Fact, FactSet, Line, conclude};
 use rm_base::{Fault, NodeId};
 use std::alloc::Global;
 use std::test::Fail;
-use test_nets::{Gate, Wiring, fault_at, wired};
+use test_nets::{Gate, Wiring, build_net, fault_at};
 
 // a 1 + b, of the sources a and b, where the 1 is a gate without pins; and apart from that (c + d)' c, of c and d.
 const PARTS: Wiring<'static> = Wiring {
@@ -147,12 +147,12 @@ fn count_exact(alloc: Global, graph: &Graph) -> Result<(u32, u32), Fail> {
 // the ten faults there four don't: (c + d)' and c stuck at 1 in the product, and c in the sum and the sum stuck at 0.
 #[test]
 fn closes_to_the_derivable_facts(rt: HostRuntime) -> Result<(), Fail> {
-    let graph = wired(rt.alloc(), &PARTS)?;
+    let graph = build_net(rt.alloc(), &PARTS)?;
     assert_eq!(rt; count_exact(rt.alloc(), &graph)?, (11, 0));
     Ok(())
 }
 
-fn named(line: &Line) -> Option<NodeId> {
+fn node_named(line: &Line) -> Option<NodeId> {
     match *line {
         Line::Act | Line::Site => None,
         Line::Chain { node }
@@ -177,7 +177,7 @@ fn named(line: &Line) -> Option<NodeId> {
 fn count_apart(lines: &[Line]) -> u32 {
     let mut count = 0u32;
     for line in lines {
-        if let Some(NodeId(4 | 5 | 9 | 10 | 11)) = named(line) {
+        if let Some(NodeId(4 | 5 | 9 | 10 | 11)) = node_named(line) {
             count = count.wrapping_add(1);
         }
     }
@@ -187,7 +187,7 @@ fn count_apart(lines: &[Line]) -> u32 {
 // The pin of the first product that reads a is stuck at 1.
 #[test]
 fn leaves_the_other_part_alone(rt: HostRuntime) -> Result<(), Fail> {
-    let graph = wired(rt.alloc(), &PARTS)?;
+    let graph = build_net(rt.alloc(), &PARTS)?;
     let fault = fault_at(&graph, 7, 0, true)?;
     let question = Question {
         graph: &graph,

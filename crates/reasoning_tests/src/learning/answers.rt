@@ -11,7 +11,7 @@ use rm_base::NodeId;
 use std::alloc::Global;
 use std::test::Fail;
 use test_nets::worked::{ABSORBED, FOUR_GATES};
-use test_nets::{Gate, NetBuilder, Wiring, build, fault_at, wired};
+use test_nets::{Gate, NetBuilder, Wiring, build, build_net, fault_at};
 
 // (a b + a c) d a, of the sources a, b, c and d. That the last pin is stuck at 1 is refuted by lines alone.
 const WIRE_ADDED: Wiring<'static> = Wiring {
@@ -198,7 +198,7 @@ const CASES: [Case; 6] = [
 
 // Whether the fault is refuted from the depth on.
 fn is_right(alloc: Global, case: &Case) -> Result<bool, Fail> {
-    let graph = wired(alloc, &case.wiring)?;
+    let graph = build_net(alloc, &case.wiring)?;
     let fault = fault_at(&graph, case.fault.0, case.fault.1, case.fault.2)?;
     let question = Question {
         graph: &graph,
@@ -276,7 +276,7 @@ fn is_short(alloc: Global, graph: &Graph, case: &Short) -> Result<bool, Fail> {
 #[test]
 fn trees_are_short(rt: HostRuntime) -> Result<(), Fail> {
     for at in 0..SHORT.len() {
-        let graph = wired(rt.alloc(), &SHORT[at].wiring)?;
+        let graph = build_net(rt.alloc(), &SHORT[at].wiring)?;
         let short = is_short(rt.alloc(), &graph, &SHORT[at])?;
         assert!(rt; short, "at case {at}");
     }

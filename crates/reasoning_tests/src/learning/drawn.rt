@@ -28,7 +28,7 @@ fn add_gate(net: &mut NetBuilder, draws: &mut Draws, number: u32) -> Result<Node
 }
 
 /// The net of a seed, of which the last gate is observed.
-pub fn drawn(alloc: Global, seed: u64) -> Result<Graph, Fail> {
+pub fn draw_net(alloc: Global, seed: u64) -> Result<Graph, Fail> {
     let mut draws = Draws::new(seed);
     let mut net = NetBuilder::new(alloc, 4)?;
     for at in 0..GATES {
@@ -64,7 +64,7 @@ fn is_sound(alloc: Global, graph: &Graph, fault: &Fault) -> Result<bool, Fail> {
 
 // Whether all faults of the drawn net have sound answers.
 fn is_net_sound(alloc: Global, seed: u64) -> Result<bool, Fail> {
-    let graph = drawn(alloc, seed)?;
+    let graph = draw_net(alloc, seed)?;
     for at in 0..4 * GATES {
         let fault = Fault {
             gate: NodeId(at / 4 + 6),

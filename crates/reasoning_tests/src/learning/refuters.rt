@@ -4,7 +4,7 @@ ghost use Rattle.gate_graph.specs.Circuit.{net_of};
 ghost use Rattle.recursive_learning.specs.Serving.{IsServing};
 
 use super::answers::accept;
-use super::drawn::{GATES, drawn};
+use super::drawn::{GATES, draw_net};
 use crate::facts::hold_same;
 use gate_graph::{Graph, Question};
 use implications::{Closed, Engine};
@@ -99,7 +99,7 @@ fn agrees_on_graph(alloc: Global, refuter: &mut Refuter, graph: &Graph) -> Resul
 }
 
 fn agrees_on_net(alloc: Global, refuter: &mut Refuter, seed: u64) -> Result<bool, Fail> {
-    let graph = drawn(alloc, seed)?;
+    let graph = draw_net(alloc, seed)?;
     agrees_on_graph(alloc, refuter, &graph)
 }
 

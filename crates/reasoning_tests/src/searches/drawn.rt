@@ -22,7 +22,7 @@ pub const GATES: u32 = 7;
 pub const ENOUGH: u32 = 32;
 
 // A net of drawn gates, of which the last one and another node are observed.
-pub fn drawn(alloc: Global, seed: u64) -> Result<Graph, Fail> {
+pub fn draw_net(alloc: Global, seed: u64) -> Result<Graph, Fail> {
     drawn_net(alloc, SOURCES, GATES, &[1 + SOURCES + GATES], seed)
 }
 
@@ -132,7 +132,7 @@ fn net_is_right(alloc: Global, graph: &Graph) -> Result<bool, NoMemory> {
 #[test]
 fn drawn_nets(rt: HostRuntime) -> Result<(), Fail> {
     for seed in 1..51u64 {
-        let graph = drawn(rt.alloc(), seed)?;
+        let graph = draw_net(rt.alloc(), seed)?;
         let right = net_is_right(rt.alloc(), &graph)?;
         assert!(rt; right, "at seed {seed}");
     }

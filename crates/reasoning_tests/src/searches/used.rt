@@ -2,7 +2,7 @@
 ghost use Rattle.gate_graph.specs.Circuit.{net_of};
 ghost use Rattle.podem.specs.Searchers.{Serves};
 
-use super::drawn::{ENOUGH, GATES, SOURCES, drawn};
+use super::drawn::{ENOUGH, GATES, SOURCES, draw_net};
 use gate_graph::{Graph, Question};
 use podem::{Searcher, Verdict, search};
 use rm_base::{Fault, NoMemory, NodeId};
@@ -67,7 +67,7 @@ fn same_on(alloc: Global, graph: &Graph) -> Result<bool, NoMemory> {
 #[test]
 fn a_used_searcher_is_as_a_fresh_one(rt: HostRuntime) -> Result<(), Fail> {
     for seed in 1..21u64 {
-        let graph = drawn(rt.alloc(), seed)?;
+        let graph = draw_net(rt.alloc(), seed)?;
         let same = same_on(rt.alloc(), &graph)?;
         assert!(rt; same, "at seed {seed}");
     }

@@ -7,7 +7,7 @@ use rm_base::NodeId;
 use std::alloc::Global;
 use std::test::Fail;
 use test_nets::worked::{FOUR_GATES_AND_PIN, ONE_GATE};
-use test_nets::{Gate, NetBuilder, build, fault_at, wired};
+use test_nets::{Gate, NetBuilder, build, build_net, fault_at};
 
 // Whether a checker that served other trees answers as it should, and as a fresh one does.
 fn keeps(
@@ -67,8 +67,8 @@ fn serves_two(alloc: Global, one: &Graph, four: &Graph) -> Result<bool, Fail> {
 
 #[test]
 fn one_checker_serves_two_nets(rt: HostRuntime) -> Result<(), Fail> {
-    let one = wired(rt.alloc(), &ONE_GATE)?;
-    let four = wired(rt.alloc(), &FOUR_GATES_AND_PIN)?;
+    let one = build_net(rt.alloc(), &ONE_GATE)?;
+    let four = build_net(rt.alloc(), &FOUR_GATES_AND_PIN)?;
     assert!(rt; serves_two(rt.alloc(), &one, &four)?);
     Ok(())
 }

@@ -1,5 +1,5 @@
 // `demo`, over a shelf whose calls all fail: it is never called.
-use super::running::{ended, hold, shelf};
+use super::running::{hold, run_to_end, shelf};
 use std::alloc::Global;
 use std::test::Fail;
 
@@ -53,7 +53,7 @@ fn a_demo_of_few_tries(rt: HostRuntime) -> Result<(), Fail> {
     let mut first = Vec::new(alloc);
     for line in LINES {
         let mut shelf = shelf(alloc, ["old", "old", "old"], &[1, 2])?;
-        let (status, put) = ended(&rt, rt.alloc(), line, &mut shelf)?;
+        let (status, put) = run_to_end(&rt, rt.alloc(), line, &mut shelf)?;
         assert!(rt; status == 0);
         assert!(rt; hold(&shelf, ["old", "old", "old"]));
         if first.is_empty() {

@@ -176,7 +176,7 @@ fn failing_puts(rt: HostRuntime) -> Result<(), Fail> {
             &OpenGate,
         );
         assert!(rt; status == 3);
-        assert!(rt; sink.written() == row.put.as_bytes());
+        assert!(rt; sink.written_bytes() == row.put.as_bytes());
         assert!(rt; hold(&shelf, row.after));
     }
     Ok(())

@@ -24,7 +24,7 @@ fn limited<R: Threads + Sync>(rt: &R, alloc: Global, input: &str, put: &str) -> 
 }
 
 // Whether a text without gates is taken, and this is left of it.
-fn taken<R: Threads + Sync>(
+fn run_with_limits<R: Threads + Sync>(
     rt: &R,
     alloc: Global,
     input: &str,
@@ -41,7 +41,7 @@ fn longest_names(rt: HostRuntime) -> Result<(), Fail> {
     let alloc = rt.alloc();
     let name = repeated(alloc, "n", 1_024)?;
     let text = format!(in alloc; ".model m\n.inputs {name}\n.outputs {name}\n.end\n")?;
-    assert!(rt; taken(&rt, alloc, &text, &text)?);
+    assert!(rt; run_with_limits(&rt, alloc, &text, &text)?);
     let text = format!(in alloc; ".model m\n.inputs {name}n\n.outputs {name}\n.end\n")?;
     assert!(rt; limited(&rt, alloc, &text, "limit name 1025\n")?);
     Ok(())
@@ -52,7 +52,7 @@ fn most_sources(rt: HostRuntime) -> Result<(), Fail> {
     let alloc = rt.alloc();
     let names = numbered(alloc, " i", "", 1_024)?;
     let text = format!(in alloc; ".model m\n.inputs{names}\n.outputs i0\n.end\n")?;
-    assert!(rt; taken(&rt, alloc, &text, &text)?);
+    assert!(rt; run_with_limits(&rt, alloc, &text, &text)?);
     let text = format!(in alloc; ".model m\n.inputs{names} more\n.outputs i0\n.end\n")?;
     assert!(rt; limited(&rt, alloc, &text, "limit sources 1025\n")?);
     Ok(())
@@ -64,7 +64,7 @@ fn most_observed_points(rt: HostRuntime) -> Result<(), Fail> {
     let names = numbered(alloc, " o", "", 4_096)?;
     let covers = numbered(alloc, ".names o", "\n", 4_096)?;
     let text = format!(in alloc; ".model m\n.inputs\n.outputs{names}\n{covers}.end\n")?;
-    assert!(rt; taken(&rt, alloc, &text, &text)?);
+    assert!(rt; run_with_limits(&rt, alloc, &text, &text)?);
     let text = format!(in alloc; ".model m\n.inputs\n.outputs{names} more\n{covers}.end\n")?;
     assert!(rt; limited(&rt, alloc, &text, "limit observed 4097\n")?);
     Ok(())
@@ -76,7 +76,7 @@ fn most_names(rt: HostRuntime) -> Result<(), Fail> {
     let covers = numbered(alloc, ".names k", "\n", 131_071)?;
     let text = format!(in alloc; ".model m\n.inputs a\n.outputs a\n{covers}.end\n")?;
     let left = ".model m\n.inputs a\n.outputs a\n.end\n";
-    assert!(rt; taken(&rt, alloc, &text, left)?);
+    assert!(rt; run_with_limits(&rt, alloc, &text, left)?);
     Ok(())
 }
 
@@ -95,7 +95,7 @@ fn most_inputs_of_a_cover(rt: HostRuntime) -> Result<(), Fail> {
     let reads = repeated(alloc, " a", 65_536)?;
     let text = format!(in alloc; ".model m\n.inputs a\n.outputs z\n.names{reads} z\n.end\n")?;
     let left = ".model m\n.inputs a\n.outputs z\n.names z\n.end\n";
-    assert!(rt; taken(&rt, alloc, &text, left)?);
+    assert!(rt; run_with_limits(&rt, alloc, &text, left)?);
     let text = format!(in alloc; ".model m\n.inputs a\n.outputs z\n.names{reads} a z\n.end\n")?;
     assert!(rt; limited(&rt, alloc, &text, "limit inputs 65537\n")?);
     Ok(())

@@ -1,5 +1,5 @@
 // `opt` where it ends with 0: what it puts, the output and the journal.
-use super::running::{ended, ends, hold, journal_of, shelf};
+use super::running::{ends, hold, journal_of, run_to_end, shelf};
 use super::texts::{
     ABSORBED, CONSTANT_ZERO, FOUR_GATES, MULTIPLEXER, MULTIPLEXER_LEFT, NO_GATES_SUMMARY, ONE_GATE,
     ONE_GATE_JOURNAL, ONE_GATE_SUMMARY, WITH_A_WIRE, WITHOUT, ZERO_ROW,
@@ -19,7 +19,7 @@ fn is_accepted<R: Threads + Sync>(
     alloc: Global,
     shelf: &mut MemoryShelf,
 ) -> Result<bool, Fail> {
-    let (status, put) = ended(rt, alloc, "check in journal out", shelf)?;
+    let (status, put) = run_to_end(rt, alloc, "check in journal out", shelf)?;
     Ok(status == 0 && put.as_slice().starts_with(b"accepted "))
 }
 

@@ -32,7 +32,7 @@ pub(crate) fn shelf(alloc: Global, texts: [&str; 3], failing: &[u64]) -> Result<
 }
 
 // The status of a run, and what it puts.
-pub(crate) fn ended<R: Threads + Sync>(
+pub(crate) fn run_to_end<R: Threads + Sync>(
     rt: &R,
     alloc: Global,
     line: &str,
@@ -41,7 +41,7 @@ pub(crate) fn ended<R: Threads + Sync>(
     let words = words(alloc, line)?;
     let mut sink = MemorySink::new(alloc, Vec::new(alloc));
     let status = run(rt, alloc, words.as_slice(), shelf, &mut sink, &OpenGate);
-    Ok((status, Vec::from_slice(alloc, sink.written())?))
+    Ok((status, Vec::from_slice(alloc, sink.written_bytes())?))
 }
 
 // Whether a run ends with this status and puts this text.
@@ -53,7 +53,7 @@ pub(crate) fn ends<R: Threads + Sync>(
     status: u8,
     put: &str,
 ) -> Result<bool, Fail> {
-    let (got, text) = ended(rt, alloc, line, shelf)?;
+    let (got, text) = run_to_end(rt, alloc, line, shelf)?;
     Ok(got == status && text.as_slice() == put.as_bytes())
 }
 

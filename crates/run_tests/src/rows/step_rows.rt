@@ -1,5 +1,5 @@
 // The records of worked runs in their order, without their trees and vectors.
-use super::running::{ended, journal_of, shelf};
+use super::running::{journal_of, run_to_end, shelf};
 use super::texts::{ABSORBED, FOUR_GATES, MULTIPLEXER, ZERO_ROW};
 use std::test::Fail;
 
@@ -45,7 +45,7 @@ fn begin(text: &str, heads: &str) -> bool {
 fn records_in_their_order(rt: HostRuntime) -> Result<(), Fail> {
     for (input, heads) in ROWS {
         let mut shelf = shelf(rt.alloc(), [input, "old", "old"], &[])?;
-        let (status, _put) = ended(&rt, rt.alloc(), "opt in out journal", &mut shelf)?;
+        let (status, _put) = run_to_end(&rt, rt.alloc(), "opt in out journal", &mut shelf)?;
         assert!(rt; status == 0);
         assert!(rt; begin(journal_of(&shelf), heads), "{input}");
     }

@@ -47,7 +47,7 @@ fn two_pieces_meet(rt: HostRuntime) -> Result<(), Fail> {
     };
     let status = run(&rt, alloc, words.as_slice(), &mut shelf, &mut sink, &gate);
     assert!(rt; status == 0);
-    assert!(rt; sink.written() == ONE_GATE_SUMMARY.as_bytes());
+    assert!(rt; sink.written_bytes() == ONE_GATE_SUMMARY.as_bytes());
     assert!(rt; hold(&shelf, [ONE_GATE, ONE_GATE, ONE_GATE_JOURNAL]));
     assert!(rt; gate.missed.load(Ordering::SeqCst) == 0);
     assert!(rt; gate.second.load(Ordering::SeqCst) == 1);

@@ -1,5 +1,5 @@
 // How the netlist that is left is written: one cover a gate, names that are free, copies and constants.
-use super::running::{ended, hold, journal_of, repeated, shelf};
+use super::running::{hold, journal_of, repeated, run_to_end, shelf};
 use std::alloc::Global;
 use std::test::Fail;
 use std::thread::Threads;
@@ -12,8 +12,8 @@ fn writes<R: Threads + Sync>(
     output: &str,
 ) -> Result<bool, Fail> {
     let mut shelf = shelf(alloc, [input, "old", "old"], &[])?;
-    let (ran, _put) = ended(rt, alloc, "opt in out journal --tries 0", &mut shelf)?;
-    let (checked, _put) = ended(rt, alloc, "check in journal out", &mut shelf)?;
+    let (ran, _put) = run_to_end(rt, alloc, "opt in out journal --tries 0", &mut shelf)?;
+    let (checked, _put) = run_to_end(rt, alloc, "check in journal out", &mut shelf)?;
     let journal = journal_of(&shelf);
     Ok(ran == 0 && checked == 0 && hold(&shelf, [input, output, journal]))
 }

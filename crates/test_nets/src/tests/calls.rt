@@ -1,7 +1,7 @@
 //! The calls on a net of four gates.
 use super::comparing::{drivers, readers};
 use crate::editing::is_live;
-use crate::wiring::wired;
+use crate::wiring::build_net;
 use crate::worked::FOUR_GATES;
 use gate_graph::{Graph, Marks};
 use gate_net::Kind;
@@ -59,7 +59,7 @@ fn are_readers(alloc: Global, graph: &Graph) -> Result<bool, NoMemory> {
 
 #[test]
 fn four_gates(rt: HostRuntime) -> Result<(), Fail> {
-    let graph = wired(rt.alloc(), &FOUR_GATES)?;
+    let graph = build_net(rt.alloc(), &FOUR_GATES)?;
     assert!(rt; are_kinds(&graph));
     assert!(rt; has_driver(&graph, 8, 1, Some(7)));
     assert!(rt; has_driver(&graph, 8, 2, None));
@@ -80,7 +80,7 @@ fn counts_of(graph: &Graph) -> [u32; 4] {
 
 #[test]
 fn counts(rt: HostRuntime) -> Result<(), Fail> {
-    let graph = wired(rt.alloc(), &FOUR_GATES)?;
+    let graph = build_net(rt.alloc(), &FOUR_GATES)?;
     assert!(rt; counts_of(&graph) == [4, 4, 8, 10]);
     assert!(rt; graph.observed_count() == 1);
     assert!(rt; graph.is_observed(NodeId(9)));
@@ -114,7 +114,7 @@ fn leads(alloc: Global, graph: &Graph, from: u32, to: u32) -> Result<bool, Fail>
 
 #[test]
 fn paths_lead(rt: HostRuntime) -> Result<(), Fail> {
-    let graph = wired(rt.alloc(), &FOUR_GATES)?;
+    let graph = build_net(rt.alloc(), &FOUR_GATES)?;
     for (from, to, wanted) in &PATHS {
         assert!(rt; leads(rt.alloc(), &graph, *from, *to)? == *wanted);
     }
@@ -145,7 +145,7 @@ fn place_in(order: &[NodeId], node: u32) -> usize {
 
 #[test]
 fn drivers_come_first(rt: HostRuntime) -> Result<(), Fail> {
-    let graph = wired(rt.alloc(), &FOUR_GATES)?;
+    let graph = build_net(rt.alloc(), &FOUR_GATES)?;
     let order = graph.order(rt.alloc())?;
     assert_eq!(rt; order.len(), 10);
     for node in 0..10u32 {

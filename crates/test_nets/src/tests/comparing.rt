@@ -44,7 +44,7 @@ fn is_same(alloc: Global, graph: &Graph, plain: &PlainNet, node: u32) -> Result<
 
 // Whether both have the same nodes, drivers, observed list and readers in order.
 pub fn are_same(alloc: Global, graph: &Graph, plain: &PlainNet) -> Result<bool, NoMemory> {
-    if numbers(alloc, graph.observed())? != plain.drivers(alloc, 0)? {
+    if numbers(alloc, graph.observed_points())? != plain.drivers(alloc, 0)? {
         return Ok(false);
     }
     for node in 0..plain.bound() {

@@ -147,7 +147,7 @@ const TABLE: [Edit; 8] = [
 ];
 
 // The net of four gates after the edits of the table.
-fn edited(alloc: Global) -> Result<Script, Fail> {
+fn edit_net(alloc: Global) -> Result<Script, Fail> {
     let mut script = Script::new(alloc, both_wired(alloc, &FOUR_GATES)?, Draw { state: 1 });
     if !script.make(alloc, &TABLE)? {
         return Err("another net".into());
@@ -218,7 +218,7 @@ fn copy_stays(alloc: Global, script: &mut Script) -> Result<bool, Fail> {
 
 #[test]
 fn edits_are_those_of_the_table(rt: HostRuntime) -> Result<(), Fail> {
-    let mut script = edited(rt.alloc())?;
+    let mut script = edit_net(rt.alloc())?;
     assert!(rt; is_edited(rt.alloc(), script.edited.graph())?);
     assert!(rt; copy_stays(rt.alloc(), &mut script)?);
     Ok(())
@@ -245,7 +245,7 @@ fn is_kept(alloc: Global, net: &mut EditedNet) -> Result<bool, NoMemory> {
 
 #[test]
 fn kept_edits_stay(rt: HostRuntime) -> Result<(), Fail> {
-    let mut script = edited(rt.alloc())?;
+    let mut script = edit_net(rt.alloc())?;
     assert!(rt; is_kept(rt.alloc(), &mut script.edited)?);
     let copy = script.edited.graph().copy(rt.alloc())?;
     assert_eq!(rt; copy.epoch(), 1);

@@ -25,15 +25,15 @@ where_ok P (Err e) m same ranked h = tt
 abbrev said_in : List ℕ → Said
 said_in text = said_by nothing_said (layout text)
 
-pub ranked-requires-clause-formed : goal.ranked-requires-clause-formed
-ranked-requires-clause-formed c =
+pub rank_model-requires-clause-formed : goal.rank_model-requires-clause-formed
+rank_model-requires-clause-formed c =
     let none : lines_fault nothing_said (layout c.args.text.now) ≡ None = c.in-Ok.ensures.faults ∙ ap (λ (t : Bool). fault_if (not t) NoModel (record { line = 1; column = 1 })) c.if-not-lines.false in
     let driven : undriven_fault (said_in c.args.text.now).uses ≡ None = sym (c.in-None.ensures (said_in c.args.text.now).uses c.in-Ok.ensures.ok.checked.tally) in
     let began : (said_in c.args.text.now).began ≡ true = began_is c.args.text.now (said_in c.args.text.now) c.in-Ok.lines.checker c.in-Ok.lines.draft c.in-Ok.lines.places.items c.in-Ok.ensures.ok c.if-not-lines.false in
     subst IsWellFormed (sym c.in-Ok-model_of.ensures) (is_formed c.args.text.now c.in-Ok.lines.checker c.in-Ok.lines.draft c.in-Ok.lines.places.items c.in-Ok.ensures.ok none driven began)
 
-pub ranked-requires-clause-few : goal.ranked-requires-clause-few
-ranked-requires-clause-few c =
+pub rank_model-requires-clause-few : goal.rank_model-requires-clause-few
+rank_model-requires-clause-few c =
     let none : lines_fault nothing_said (layout c.args.text.now) ≡ None = c.in-Ok.ensures.faults ∙ ap (λ (t : Bool). fault_if (not t) NoModel (record { line = 1; column = 1 })) c.if-not-lines.false in
     let few : length (all_covers c.in-Ok.lines.draft) ≤ length c.args.text.now = few_covers c.args.text.now (said_in c.args.text.now) c.in-Ok.lines.draft c.in-Ok.ensures.ok.drafted in
     let sources : length (source_names c.in-Ok-model_of.model) ≤ 1024 = subst (λ (m : Model). length (source_names m) ≤ 1024) (sym c.in-Ok-model_of.ensures) (few_sources c.args.text.now (said_in c.args.text.now) c.in-Ok.lines.draft none c.in-Ok.ensures.ok.drafted) in
@@ -49,14 +49,14 @@ returns-clause-fault c =
     ap (λ (m : Model). rank_found m c.as_slice.result.now) c.in-Ok-model_of.ensures
     ∙ ap (λ (ps : List Place). rank_found (model_in c.in-Ok.lines.draft) ps) c.as_slice.ensures.value
     ∙ sym first in
-    subst (λ (o : Option ReadRefusal). IfErr c.ranked.result (λ (e : ReadRefusal). IsRefusal e o)) found c.ranked.ensures.err
+    subst (λ (o : Option ReadRefusal). IfErr c.rank_model.result (λ (e : ReadRefusal). IsRefusal e o)) found c.rank_model.ensures.err
 
 pub returns-clause-faultless : goal.returns-clause-faultless
 returns-clause-faultless c =
     let none : lines_fault nothing_said (layout c.args.text.now) ≡ None = c.in-Ok.ensures.faults ∙ ap (λ (t : Bool). fault_if (not t) NoModel (record { line = 1; column = 1 })) c.if-not-lines.false in
     let driven : undriven_fault (said_in c.args.text.now).uses ≡ None = sym (c.in-None.ensures (said_in c.args.text.now).uses c.in-Ok.ensures.ok.checked.tally) in
     let first = fault_is c.args.text.now (said_in c.args.text.now) c.in-Ok.lines.checker c.in-Ok.lines.draft c.in-Ok.lines.places.items c.in-Ok.ensures.ok none driven in
-    where_ok (λ (m : Model). first_fault c.args.text.now ≡ None) c.ranked.result c.in-Ok-model_of.model c.ranked.ensures.same c.ranked.ensures.ok
+    where_ok (λ (m : Model). first_fault c.args.text.now ≡ None) c.rank_model.result c.in-Ok-model_of.model c.rank_model.ensures.same c.rank_model.ensures.ok
     (λ without. first ∙ ap (fault_at c.in-Ok.lines.places.items) (ap first_without_rank (sym c.in-Ok-model_of.ensures) ∙ without))
 
 pub returns-clause-model : goal.returns-clause-model
@@ -65,7 +65,7 @@ returns-clause-model c =
     let driven : undriven_fault (said_in c.args.text.now).uses ≡ None = sym (c.in-None.ensures (said_in c.args.text.now).uses c.in-Ok.ensures.ok.checked.tally) in
     let began : (said_in c.args.text.now).began ≡ true = began_is c.args.text.now (said_in c.args.text.now) c.in-Ok.lines.checker c.in-Ok.lines.draft c.in-Ok.lines.places.items c.in-Ok.ensures.ok c.if-not-lines.false in
     let formed : IsWellFormed (model_in c.in-Ok.lines.draft) = is_formed c.args.text.now c.in-Ok.lines.checker c.in-Ok.lines.draft c.in-Ok.lines.places.items c.in-Ok.ensures.ok none driven began in
-    where_ok (Reads (lines_of c.args.text.now)) c.ranked.result c.in-Ok-model_of.model c.ranked.ensures.same c.ranked.ensures.ok (λ without.
+    where_ok (Reads (lines_of c.args.text.now)) c.rank_model.result c.in-Ok-model_of.model c.rank_model.ensures.same c.rank_model.ensures.ok (λ without.
     let ranks : first_without_rank (model_in c.in-Ok.lines.draft) ≡ None = ap first_without_rank (sym c.in-Ok-model_of.ensures) ∙ without in
     let ranked : IsRanked (model_in c.in-Ok.lines.draft) = (c.ranks_exist.ensures.ranked (model_in c.in-Ok.lines.draft) formed.driven_once).1 ranks in
     subst (Reads (lines_of c.args.text.now)) (sym c.in-Ok-model_of.ensures) (reads c.args.text.now (said_in c.args.text.now) c.in-Ok.lines.draft c.in-Ok.ensures.ok.drafted began formed ranked))
@@ -73,15 +73,15 @@ returns-clause-model c =
 pub returns-clause-sources : goal.returns-clause-sources
 returns-clause-sources c =
     let none : lines_fault nothing_said (layout c.args.text.now) ≡ None = c.in-Ok.ensures.faults ∙ ap (λ (t : Bool). fault_if (not t) NoModel (record { line = 1; column = 1 })) c.if-not-lines.false in
-    where_ok (λ (m : Model). length (source_names m) ≤ 1024) c.ranked.result c.in-Ok-model_of.model c.ranked.ensures.same c.ranked.ensures.ok (λ without. subst (λ (m : Model). length (source_names m) ≤ 1024) (sym c.in-Ok-model_of.ensures) (few_sources c.args.text.now (said_in c.args.text.now) c.in-Ok.lines.draft none c.in-Ok.ensures.ok.drafted))
+    where_ok (λ (m : Model). length (source_names m) ≤ 1024) c.rank_model.result c.in-Ok-model_of.model c.rank_model.ensures.same c.rank_model.ensures.ok (λ without. subst (λ (m : Model). length (source_names m) ≤ 1024) (sym c.in-Ok-model_of.ensures) (few_sources c.args.text.now (said_in c.args.text.now) c.in-Ok.lines.draft none c.in-Ok.ensures.ok.drafted))
 
 pub returns-clause-observed : goal.returns-clause-observed
 returns-clause-observed c =
     let none : lines_fault nothing_said (layout c.args.text.now) ≡ None = c.in-Ok.ensures.faults ∙ ap (λ (t : Bool). fault_if (not t) NoModel (record { line = 1; column = 1 })) c.if-not-lines.false in
-    where_ok (λ (m : Model). length (observed_names m) ≤ 4096) c.ranked.result c.in-Ok-model_of.model c.ranked.ensures.same c.ranked.ensures.ok (λ without. subst (λ (m : Model). length (observed_names m) ≤ 4096) (sym c.in-Ok-model_of.ensures) (few_observed c.args.text.now (said_in c.args.text.now) c.in-Ok.lines.draft none c.in-Ok.ensures.ok.drafted))
+    where_ok (λ (m : Model). length (observed_names m) ≤ 4096) c.rank_model.result c.in-Ok-model_of.model c.rank_model.ensures.same c.rank_model.ensures.ok (λ without. subst (λ (m : Model). length (observed_names m) ≤ 4096) (sym c.in-Ok-model_of.ensures) (few_observed c.args.text.now (said_in c.args.text.now) c.in-Ok.lines.draft none c.in-Ok.ensures.ok.drafted))
 
 pub returns-clause-covers : goal.returns-clause-covers
-returns-clause-covers c = where_ok (λ (m : Model). length m.covers ≤ length c.args.text.now) c.ranked.result c.in-Ok-model_of.model c.ranked.ensures.same c.ranked.ensures.ok (λ without. subst (λ (m : Model). length m.covers ≤ length c.args.text.now) (sym c.in-Ok-model_of.ensures) (few_covers c.args.text.now (said_in c.args.text.now) c.in-Ok.lines.draft c.in-Ok.ensures.ok.drafted))
+returns-clause-covers c = where_ok (λ (m : Model). length m.covers ≤ length c.args.text.now) c.rank_model.result c.in-Ok-model_of.model c.rank_model.ensures.same c.rank_model.ensures.ok (λ without. subst (λ (m : Model). length m.covers ≤ length c.args.text.now) (sym c.in-Ok-model_of.ensures) (few_covers c.args.text.now (said_in c.args.text.now) c.in-Ok.lines.draft c.in-Ok.ensures.ok.drafted))
 
 pub returns-clause-weight : goal.returns-clause-weight
-returns-clause-weight c = where_ok (λ (m : Model). covers_weight m.covers ≤ 2 * length c.args.text.now) c.ranked.result c.in-Ok-model_of.model c.ranked.ensures.same c.ranked.ensures.ok (λ without. subst (λ (m : Model). covers_weight m.covers ≤ 2 * length c.args.text.now) (sym c.in-Ok-model_of.ensures) (small_weight c.args.text.now (said_in c.args.text.now) c.in-Ok.lines.draft c.in-Ok.ensures.ok.drafted))
+returns-clause-weight c = where_ok (λ (m : Model). covers_weight m.covers ≤ 2 * length c.args.text.now) c.rank_model.result c.in-Ok-model_of.model c.rank_model.ensures.same c.rank_model.ensures.ok (λ without. subst (λ (m : Model). covers_weight m.covers ≤ 2 * length c.args.text.now) (sym c.in-Ok-model_of.ensures) (small_weight c.args.text.now (said_in c.args.text.now) c.in-Ok.lines.draft c.in-Ok.ensures.ok.drafted))

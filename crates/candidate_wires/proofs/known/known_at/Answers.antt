@@ -14,8 +14,8 @@ returns c =
           kind = c.in_ok-kind.kind;
           is_kind = is;
           no_constant = c.is_no_constant.ensures.0 c.if-not-is_no_constant.false;
-          equal = sym c.known-2.ensures ∙ option_true c.known-2.result c.if-ne.ensures;
-          known = sym c.known.ensures ∙ c.in_ok-value.was;
+          equal = sym c.known_of-2.ensures ∙ option_true c.known_of-2.result c.if-ne.ensures;
+          known = sym c.known_of.ensures ∙ c.in_ok-value.was;
         },
         c.has_no_not-has_no_not.ensures,
       ),

@@ -14,5 +14,5 @@ pub returns : goal.returns
 returns g t c =
     let first : IfOk c.join-verdicts.result.0 (λ v. AreVerdicts (net_of c.args.graph.now) c.args.settings.now.budget c.cut.result.0.now v.items) = c.join-verdicts.ensures.first in
     let second : IfOk c.join-verdicts.result.1 (λ v. AreVerdicts (net_of c.args.graph.now) c.args.settings.now.budget c.cut.result.1.now v.items) = c.join-verdicts.ensures.second in
-    zip_parts (IsAnswer (net_of c.args.graph.now) c.args.settings.now.budget) c.args.faults.now c.cut.result.0.now c.cut.result.1.now c.in_ok-verdicts.field-0.items c.in_ok-others.field-0.items c.joined.result
-    c.cut.ensures.parts (rw c.in_ok-verdicts.was at first) (rw c.in_ok-others.was at second) c.joined.ensures
+    zip_parts (IsAnswer (net_of c.args.graph.now) c.args.settings.now.budget) c.args.faults.now c.cut.result.0.now c.cut.result.1.now c.in_ok-verdicts.field-0.items c.in_ok-others.field-0.items c.join_verdicts.result
+    c.cut.ensures.parts (rw c.in_ok-verdicts.was at first) (rw c.in_ok-others.was at second) c.join_verdicts.ensures

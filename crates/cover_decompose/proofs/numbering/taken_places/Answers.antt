@@ -4,16 +4,16 @@ use Rattle.rm_model.specs.Value.{source_names}
 use Rattle.cover_decompose.proofs.NumberingLemmas.{all_same, all_unmapped, marks_count, places_bound, taken_result}
 use Rattle.cover_decompose.proofs.numbering.taken_places.Goals as goal
 
-pub needed-requires-clause-places : goal.needed-requires-clause-places
-needed-requires-clause-places c =
+pub list_needed-requires-clause-places : goal.list_needed-requires-clause-places
+list_needed-requires-clause-places c =
     let bound = places_bound c.args.model.now.covers _ c.args.order.now c.requires.order in
     let count : length (map (λ (v : Vec ℕ Global). v.items) c.args.numbering.now.inputs.items) ≡ length c.args.model.now.covers = c.requires.numbered.count in
     let items : length (map (λ (v : Vec ℕ Global). v.items) c.args.numbering.now.inputs.items) ≡ length c.args.numbering.now.inputs.items = length-map c.args.numbering.now.inputs.items (λ (v : Vec ℕ Global). v.items) in
     let slice : length c.as_slice-2.result.now ≡ length c.args.numbering.now.inputs.items = ap (λ (l : List (Vec ℕ Global)). length l) c.as_slice-2.ensures.value in
     λ k d lt. let low : get_or c.args.order.now k d < length c.args.model.now.covers = bound k d lt in omega arith
 
-pub needed-requires-clause-within : goal.needed-requires-clause-within
-needed-requires-clause-within c =
+pub list_needed-requires-clause-within : goal.list_needed-requires-clause-within
+list_needed-requires-clause-within c =
     let marks : length c.as_mut_slice.result.now ≡ c.args.numbering.now.sources + c.len.result =
     ap (λ (l : List Bool). length l) (c.as_mut_slice.ensures.value ∙ c.in_ok-marks.ensures) ∙ marks_count (c.args.numbering.now.sources + c.len.result) c.as_slice.result.now in
     let count : c.len.result ≡ length c.args.model.now.covers = c.len.ensures in
@@ -24,8 +24,8 @@ needed-requires-clause-within c =
     (all_same (λ (v : Vec ℕ Global). All (λ k. k < length (source_names c.args.model.now) + length c.args.model.now.covers) v.items) (λ (v : Vec ℕ Global). All (λ k. k < length (source_names c.args.model.now) + length c.args.model.now.covers) v.items) c.args.numbering.now.inputs.items c.as_slice-2.result.now (λ v h. h) (sym c.as_slice-2.ensures.value)
     (all_unmapped (λ (v : Vec ℕ Global). v.items) (λ (l : List ℕ). All (λ k. k < length (source_names c.args.model.now) + length c.args.model.now.covers) l) c.args.numbering.now.inputs.items c.requires.numbered.within))
 
-pub needed-requires-clause-room : goal.needed-requires-clause-room
-needed-requires-clause-room c =
+pub list_needed-requires-clause-room : goal.list_needed-requires-clause-room
+list_needed-requires-clause-room c =
     let marks : length c.as_mut_slice.result.now ≡ c.args.numbering.now.sources + c.len.result =
     ap (λ (l : List Bool). length l) (c.as_mut_slice.ensures.value ∙ c.in_ok-marks.ensures) ∙ marks_count (c.args.numbering.now.sources + c.len.result) c.as_slice.result.now in
     let len : c.len.result ≡ length c.args.model.now.covers = c.len.ensures in

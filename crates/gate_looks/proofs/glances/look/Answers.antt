@@ -8,8 +8,8 @@ use Rattle.gate_looks.proofs.glances.look.Given.{Over}
 use Rattle.gate_looks.proofs.glances.look.Goals as goal
 use Rattle.gate_looks.proofs.glances.look.Goals.{then-is_value, else-is_value, then-not-is_value, else-not-is_value}
 
-pub known-requires : goal.known-requires
-known-requires g c = c.requires.within _ _ (yielded_at (λ d. d.0) c.args.drivers c.loop-driver.yielded c.in-Some.driver _ _ c.loop-driver.invariant.all c.in-Some.ensures.steps)
+pub known_of-requires : goal.known_of-requires
+known_of-requires g c = c.requires.within _ _ (yielded_at (λ d. d.0) c.args.drivers c.loop-driver.yielded c.in-Some.driver _ _ c.loop-driver.invariant.all c.in-Some.ensures.steps)
 
 pub overflow_add-rest : goal.overflow_add-rest
 overflow_add-rest g c =
@@ -31,7 +31,7 @@ read_is : (g : Over) (c : goal.Joined-not-is_value g) → slice_get (with_stuck 
 read_is g c =
     let at : slice_get c.args.drivers (length c.loop-driver.yielded) ≡ Some c.in-Some.driver.0 = yielded_at (λ d. d.0) c.args.drivers c.loop-driver.yielded c.in-Some.driver _ _ c.loop-driver.invariant.all c.in-Some.ensures.steps in
     let there : slice_get c.args.drivers c.loop-driver.q ≡ Some c.in-Some.driver.0 = rw c.loop-driver.invariant.count at in
-    rw (c.at_pin-here.ensures, c.known.ensures)
+    rw (c.at_pin-here.ensures, c.known_of.ensures)
     (pin_at c.args.stuck (g.K.Known.knows c.args.known.now) c.args.drivers c.loop-driver.q c.in-Some.driver.0 there)
 
 pub loop-driver-preserved : goal.loop-driver-preserved

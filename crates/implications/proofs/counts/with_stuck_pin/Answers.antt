@@ -5,7 +5,7 @@ use Rattle.std.proofs.Common.{length-set, sym, ◌∙◌, Some}
 
 pub returns : goal.returns
 returns c os p h there = record {
-  controlled = stuck_counted c.args.c os p c.args.driven c.args.value c.args.count.controlled c.replaced-controlled.result c.is_value.result c.is_value-2.result c.replaced-controlled.ensures c.is_value.ensures c.is_value-2.ensures h.controlled there;
-  passing = stuck_counted (not c.args.c) os p c.args.driven c.args.value c.args.count.passing c.replaced-passing.result c.is_value-3.result c.is_value-4.result c.replaced-passing.ensures c.is_value-3.ensures c.is_value-4.ensures h.passing there;
+  controlled = stuck_counted c.args.c os p c.args.driven c.args.value c.args.count.controlled c.replace_one-controlled.result c.is_value.result c.is_value-2.result c.replace_one-controlled.ensures c.is_value.ensures c.is_value-2.ensures h.controlled there;
+  passing = stuck_counted (not c.args.c) os p c.args.driven c.args.value c.args.count.passing c.replace_one-passing.result c.is_value-3.result c.is_value-4.result c.replace_one-passing.ensures c.is_value-3.ensures c.is_value-4.ensures h.passing there;
   pins = h.pins ∙ sym (length-set os p (Some c.args.value));
 }

@@ -13,4 +13,4 @@ returns c e =
     let equals : List (Option Bool) = map (known_equal (held_by c.args.facts.now)) (drivers_of (net_of c.args.question.now.graph.now) c.args.node.0) in
     let f = equals_counted (held_by c.args.facts.now) c.requires.free c.args.question.now.fault.position (drivers_of (net_of c.args.question.now.graph.now) c.args.node.0) c.args.tally.now c.requires.tally in
     equal_done (net_of c.args.question.now.graph.now) c.args.question.now.fault c.args.facts.now c.requires.ready.formed c.requires.free c.args.node
-    (subst (λ k. IsEqualPull equals k None) c.known.ensures (c.equal_pulls_nothing.ensures e equals (c.count_for-count.ensures.count equals f.0 f.1.0 f.1.1)))
+    (subst (λ k. IsEqualPull equals k None) c.known_of.ensures (c.equal_pulls_nothing.ensures e equals (c.count_for-count.ensures.count equals f.0 f.1.0 f.1.1)))

@@ -13,4 +13,4 @@ returns c e =
     let goods : List (Option Bool) = map (known_good (held_by c.args.facts.now)) (drivers_of (net_of c.args.question.now.graph.now) c.args.node.0) in
     let f = goods_counted (held_by c.args.facts.now) c.requires.free c.args.question.now.fault.position (drivers_of (net_of c.args.question.now.graph.now) c.args.node.0) c.args.tally.now c.requires.tally in
     good_done (net_of c.args.question.now.graph.now) c.args.question.now.fault c.args.facts.now c.requires.ready.formed c.requires.free c.args.node c.args.c c.requires.kind
-    (subst (λ k. IsPull c.args.c goods k None) c.known.ensures (c.pulls_nothing.ensures e goods (c.count_for-count.ensures.count goods f.0 f.1.0 f.1.1)))
+    (subst (λ k. IsPull c.args.c goods k None) c.known_of.ensures (c.pulls_nothing.ensures e goods (c.count_for-count.ensures.count goods f.0 f.1.0 f.1.1)))

@@ -13,8 +13,8 @@ is_awaited-requires-2-clause-node c = gate_below (net_of c.args.question.now.gra
 pub is_awaited-requires-2-clause-driver : goal.is_awaited-requires-2-clause-driver
 is_awaited-requires-2-clause-driver c = driver_below (net_of c.args.question.now.graph.now) c.args.question.now.fault c.args.facts.now c.requires.ready c.requires.free c.args.node c.args.c c.requires.kind c.args.position c.args.driver c.requires.reads
 
-pub known-requires : goal.known-requires
-known-requires c = gate_below (net_of c.args.question.now.graph.now) c.args.question.now.fault c.args.facts.now c.requires.ready c.requires.free c.args.node c.args.c c.requires.kind c.args.position c.args.driver c.requires.reads
+pub known_of-requires : goal.known_of-requires
+known_of-requires c = gate_below (net_of c.args.question.now.graph.now) c.args.question.now.fault c.args.facts.now c.requires.ready c.requires.free c.args.node c.args.c c.requires.kind c.args.position c.args.driver c.requires.reads
 
 pub is_open_side-requires : goal.is_open_side-requires
 is_open_side-requires c = driver_below (net_of c.args.question.now.graph.now) c.args.question.now.fault c.args.facts.now c.requires.ready c.requires.free c.args.node c.args.c c.requires.kind c.args.position c.args.driver c.requires.reads
@@ -33,4 +33,4 @@ returns-then-is_awaited-2 c =
 pub returns : goal.returns
 returns c =
     side_awaited (net_of c.args.question.now.graph.now) c.args.question.now.fault c.args.facts.now c.requires.ready c.requires.free c.args.node c.args.c c.requires.kind c.args.position c.args.driver c.requires.reads
-    (λ s. let wrong : false ≡ true = sym c.if-is_stuck.false ∙ c.is_stuck.ensures.1 s in cc) (sym c.known.ensures ∙ is_known_true false c.known.result (sym c.if-not-is_value.ensures)) (c.if-not-is_open_side.ensures.0 refl)
+    (λ s. let wrong : false ≡ true = sym c.if-is_stuck.false ∙ c.is_stuck.ensures.1 s in cc) (sym c.known_of.ensures ∙ is_known_true false c.known_of.result (sym c.if-not-is_value.ensures)) (c.if-not-is_open_side.ensures.0 refl)

@@ -8,7 +8,7 @@ use Rattle.implications.specs.Sides.{IsSide}
 use Rattle.refutation.specs.FactSets.{held_by}
 
 pub returns-then-not-is_value : goal.returns-then-not-is_value
-returns-then-not-is_value c = side_none (net_of c.args.question.now.graph.now) c.args.question.now.fault c.args.facts.now c.requires.ready.formed c.requires.free c.args.node (subst (λ k. k ≢ Some false) c.known.ensures (not_known_false false c.known.result (sym c.if-not-is_value.ensures)))
+returns-then-not-is_value c = side_none (net_of c.args.question.now.graph.now) c.args.question.now.fault c.args.facts.now c.requires.ready.formed c.requires.free c.args.node (subst (λ k. k ≢ Some false) c.known_of.ensures (not_known_false false c.known_of.result (sym c.if-not-is_value.ensures)))
 
 pub returns-in_err-position : goal.returns-in_err-position
 returns-in_err-position c =
@@ -17,4 +17,4 @@ returns-in_err-position c =
 pub returns : goal.returns
 returns c =
     let side = subst (λ ds. IsSide ds c.args.question.now.fault (held_by c.args.facts.now) c.args.node.0 (not c.args.c) (Some (c.in_ok-position.position, c.in_ok-position.driver))) c.gate_pins.ensures.drivers c.in_ok-position.ensures in
-    side_fresh (net_of c.args.question.now.graph.now) c.args.question.now.fault c.args.facts.now c.requires.ready.formed c.requires.free c.args.node c.args.c c.in_ok-position.position c.in_ok-position.driver c.requires.kind (sym c.known.ensures ∙ is_known_true false c.known.result (sym c.if-not-is_value.ensures)) side.0 side.1
+    side_fresh (net_of c.args.question.now.graph.now) c.args.question.now.fault c.args.facts.now c.requires.ready.formed c.requires.free c.args.node c.args.c c.in_ok-position.position c.in_ok-position.driver c.requires.kind (sym c.known_of.ensures ∙ is_known_true false c.known_of.result (sym c.if-not-is_value.ensures)) side.0 side.1

@@ -10,8 +10,8 @@ pub text_of-requires-clause-fits : goal.text_of-requires-clause-fits
 text_of-requires-clause-fits g c =
     last_fits c.accepted_stand.ensures c.args.model.now (net_of c.in_ok-graph.graph) c.requires.formed c.requires.ranked c.in_ok-graph.ensures.accepted.is_last
 
-pub returns-in_err-compared-clause-problem : goal.returns-in_err-compared-clause-problem
-returns-in_err-compared-clause-problem g c =
-    handed_on c.from_residual-in_err-compared.result c.in_err-compared.field-0.0 (λ (p : AuditProblem). IfSome (g.S.Shelf.files c.args.shelf.now) (λ told. IsProblem c.args.model.now told c.args.journal.now c.args.output.now p)) c.from_residual-in_err-compared.ensures.1
-    (compared_problem (g.S.Shelf.files c.args.shelf.now) (g.S.Shelf.files c.journal_net.new.shelf) c.args.model.now c.args.journal.now c.args.output.now (net_of c.in_ok-graph.graph) c.in_ok-graph.count c.as_slice.result.now c.in_err-compared.field-0.0
-    c.journal_net.ensures.files c.in_ok-graph.ensures.accepted (c.as_slice.ensures.value ∙ c.in_ok-text.ensures.text) c.in_err-compared.ensures.says)
+pub returns-in_err-compare_output-clause-problem : goal.returns-in_err-compare_output-clause-problem
+returns-in_err-compare_output-clause-problem g c =
+    handed_on c.from_residual-in_err-compare_output.result c.in_err-compare_output.field-0.0 (λ (p : AuditProblem). IfSome (g.S.Shelf.files c.args.shelf.now) (λ told. IsProblem c.args.model.now told c.args.journal.now c.args.output.now p)) c.from_residual-in_err-compare_output.ensures.1
+    (compared_problem (g.S.Shelf.files c.args.shelf.now) (g.S.Shelf.files c.journal_net.new.shelf) c.args.model.now c.args.journal.now c.args.output.now (net_of c.in_ok-graph.graph) c.in_ok-graph.count c.as_slice.result.now c.in_err-compare_output.field-0.0
+    c.journal_net.ensures.files c.in_ok-graph.ensures.accepted (c.as_slice.ensures.value ∙ c.in_ok-text.ensures.text) c.in_err-compare_output.ensures.says)

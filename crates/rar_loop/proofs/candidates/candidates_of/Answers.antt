@@ -19,4 +19,4 @@ returns-clause-candidates c =
 
 pub candidates_among-requires-clause-added : goal.candidates_among-requires-clause-added
 candidates_among-requires-clause-added c =
-    subst (λ (facts : List NodeFacts). HasAllGoods (held_by facts) c.added-added.result.now) (sym c.facts-facts.ensures) (c.added-added.ensures.goods (net_of c.args.target.now.graph.now) c.in_ok-clashes.ensures.serves)
+    subst (λ (facts : List NodeFacts). HasAllGoods (held_by facts) c.added_facts-added.result.now) (sym c.facts-facts.ensures) (c.added_facts-added.ensures.goods (net_of c.args.target.now.graph.now) c.in_ok-clashes.ensures.serves)

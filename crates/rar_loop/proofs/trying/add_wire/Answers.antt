@@ -34,7 +34,7 @@ returns-in-None-clause-added c =
     let wired : net_of c.graph-wired.result.now ≡ net_for net c.args.candidate.now = ap (λ (v : Circuit). net_of v) c.graph-wired.ensures ∙ c.in_ok-node.ensures.net in
     let is : c.new_pin-fault.result ≡ last_pin net c.args.candidate.now.gate.0 (not c.requires.candidate.1.control) = fault_is net (net_of c.graph-wired.result.now) c.args.candidate.now c.requires.candidate c.new_pin-fault.result wired c.new_pin-fault.ensures in
     let after : net_of c.graph-4.result.now ≡ with_candidate net c.args.candidate.now = ap (λ (v : Circuit). net_of v) c.graph-4.ensures ∙ net_added net (net_of c.wire_of.new.trial.graph) (net_of c.apply.new.self.graph) c.args.candidate.now c.in_ok-node.node c.in_ok-node.ensures.net c.in_ok-node.ensures.node c.in-Ok.ensures.net in
-    new_pin_open net (net_of c.graph-4.result.now) c.args.candidate.now c.requires.candidate c.new_pin-fault.result c.args.depth c.in_ok-refuted.field-0 after is c.in-None.is c.in_ok-refuted.ensures.looked
+    new_pin_open net (net_of c.graph-4.result.now) c.args.candidate.now c.requires.candidate c.new_pin-fault.result c.args.depth c.in_ok-find_tree.field-0 after is c.in-None.is c.in_ok-find_tree.ensures.looked
 
 pub returns-in-None-clause-ready : goal.returns-in-None-clause-ready
 returns-in-None-clause-ready c =
@@ -51,7 +51,7 @@ returns-in_ok-push-in-Some-clause-added c =
     let is : c.new_pin-fault.result ≡ last_pin net c.args.candidate.now.gate.0 (not c.requires.candidate.1.control) = fault_is net (net_of c.graph-wired.result.now) c.args.candidate.now c.requires.candidate c.new_pin-fault.result wired c.new_pin-fault.ensures in
     let after : net_of c.graph-4.result.now ≡ with_candidate net c.args.candidate.now = ap (λ (v : Circuit). net_of v) c.graph-4.ensures ∙ net_added net (net_of c.wire_of.new.trial.graph) (net_of c.apply.new.self.graph) c.args.candidate.now c.in_ok-node.node c.in_ok-node.ensures.net c.in_ok-node.ensures.node c.in-Ok.ensures.net in
     let few : wire_count (net_for net c.args.candidate.now) < ceiling = omega (arith, c.in_ok-node.ensures.ready.wires, ap wire_count c.in_ok-node.ensures.net) in
-    has_added net (net_of c.graph-4.result.now) c.args.candidate.now c.requires.candidate c.in_ok-node.node c.new_pin-fault.result c.args.depth c.in_ok-refuted.field-0 c.in-Some.tree c.wire_of.new.log.items c.push.new.self.items formed (omega (arith, c.requires.ready.nodes)) few after is c.in-Some.is c.in_ok-refuted.ensures.looked c.in_ok-node.ensures.node c.in_ok-node.ensures.log c.in_ok-push-in-Some.ensures.items
+    has_added net (net_of c.graph-4.result.now) c.args.candidate.now c.requires.candidate c.in_ok-node.node c.new_pin-fault.result c.args.depth c.in_ok-find_tree.field-0 c.in-Some.tree c.wire_of.new.log.items c.push.new.self.items formed (omega (arith, c.requires.ready.nodes)) few after is c.in-Some.is c.in_ok-find_tree.ensures.looked c.in_ok-node.ensures.node c.in_ok-node.ensures.log c.in_ok-push-in-Some.ensures.items
 
 pub returns-in_ok-push-in-Some-clause-ready : goal.returns-in_ok-push-in-Some-clause-ready
 returns-in_ok-push-in-Some-clause-ready c =

@@ -57,7 +57,7 @@ follow-requires-clause-follows c =
       noted = c.in_ok-fix_and_tidy-in-Some.ensures.noted net (c.in_ok-has_added.ensures.noted net (c.new-changed.ensures net));
       sources = added_sources c.accepted_steps_keep.ensures net (net_of c.add_wire.new.trial.graph) (net_of c.fix_and_tidy.new.trial.graph) c.args.pair.now.candidate c.args.depth c.add_wire.new.log.items c.fix_and_tidy.new.log.items formed added c.in_ok-has_added.ensures.net c.in_ok-fix_and_tidy-in-Some.ensures.goes.logs;
       served = with_candidate net c.args.pair.now.candidate;
-      refuter = subst (λ (n : Net). IsServing n c.refuted.new.refuter) (ap (λ (v : Circuit). net_of v) c.graph-2.ensures ∙ c.in_ok-has_added.ensures.net) c.in_ok-refuted.ensures.serves;
+      refuter = subst (λ (n : Net). IsServing n c.find_tree.new.refuter) (ap (λ (v : Circuit). net_of v) c.graph-2.ensures ∙ c.in_ok-has_added.ensures.net) c.in_ok-find_tree.ensures.serves;
       near = c.requires.changes;
     }
 

@@ -12,8 +12,8 @@ use Rattle.rm_base.specs.declared.numbers.NodeId.{NodeId}
 use Rattle.recursive_learning.proofs.gates.open_drivers.Goals as goal
 use Rattle.rm_base.proofs.Public.{not_some}
 
-pub known-requires : goal.known-requires
-known-requires c =
+pub known_of-requires : goal.known_of-requires
+known_of-requires c =
     let below : c.in-Some.driver.0 < length (net_of c.args.graph.now).nodes = c.gate_pins-driver-items.ensures.within _ _ (yielded_at (λ d. d.0) (drivers_of (net_of c.args.graph.now) c.args.gate.0) c.loop-driver.yielded c.in-Some.driver _ _ c.loop-driver.invariant.all c.in-Some.ensures.steps) in
     omega (arith, below, c.requires.facts)
 
@@ -27,7 +27,7 @@ pub loop-driver-preserved-then-is_some : goal.loop-driver-preserved-then-is_some
 loop-driver-preserved-then-is_some c = record {
   all = yielded_more (λ d. d.0) (drivers_of (net_of c.args.graph.now) c.args.gate.0) c.loop-driver.yielded c.in-Some.driver _ _ c.loop-driver.invariant.all c.in-Some.ensures.steps;
   drivers = rw map-append (open_skip (net_of c.args.graph.now) (held_by c.args.facts.now) c.args.gate.0 (map (λ d. d.0) c.loop-driver.yielded) (map (λ d. d.0) c.loop-driver.open.items) c.in-Some.driver.0 c.loop-driver.invariant.drivers
-      (known_skip (known_good (held_by c.args.facts.now) c.in-Some.driver.0) _ (ap is_some (sym c.known.ensures) ∙ sym c.is_some.ensures ∙ c.if-is_some.true)));
+      (known_skip (known_good (held_by c.args.facts.now) c.in-Some.driver.0) _ (ap is_some (sym c.known_of.ensures) ∙ sym c.is_some.ensures ∙ c.if-is_some.true)));
 }
 
 pub loop-driver-preserved-then-is_listed : goal.loop-driver-preserved-then-is_listed
@@ -40,14 +40,14 @@ loop-driver-preserved-then-is_listed c = record {
 pub returns-then-len-eq8 : goal.returns-then-len-eq8
 returns-then-len-eq8 c few =
     let reads : Reads (net_of c.args.graph.now) c.args.gate.0 (length c.loop-driver.yielded) c.in-Some.driver.0 = yielded_at (λ d. d.0) (drivers_of (net_of c.args.graph.now) c.args.gate.0) c.loop-driver.yielded c.in-Some.driver _ _ c.loop-driver.invariant.all c.in-Some.ensures.steps in
-    let unknown : known_good (held_by c.args.facts.now) c.in-Some.driver.0 ≡ None = not_some (known_good (held_by c.args.facts.now) c.in-Some.driver.0) (ap is_some (sym c.known.ensures) ∙ sym c.is_some.ensures ∙ c.if-is_some.false) in
+    let unknown : known_good (held_by c.args.facts.now) c.in-Some.driver.0 ≡ None = not_some (known_good (held_by c.args.facts.now) c.in-Some.driver.0) (ap is_some (sym c.known_of.ensures) ∙ sym c.is_some.ensures ∙ c.if-is_some.false) in
     too_many (net_of c.args.graph.now) (held_by c.args.facts.now) c.args.gate.0 (map (λ d. d.0) c.loop-driver.yielded) (map (λ d. d.0) c.loop-driver.open.items) c.in-Some.driver.0 c.loop-driver.invariant.drivers
     ((_, reads), unknown) (sym (listed_map c.in-Some.driver.0 c.loop-driver.open.items) ∙ ap (list_any (λ (n : NodeId). nat_eq c.in-Some.driver.0 n.0)) (sym c.deref.ensures.value) ∙ sym c.is_listed.ensures ∙ c.if-is_listed.false) (rw length-map (search rules)) few
 
 pub loop-driver-preserved : goal.loop-driver-preserved
 loop-driver-preserved c =
     let reads : Reads (net_of c.args.graph.now) c.args.gate.0 (length c.loop-driver.yielded) c.in-Some.driver.0 = yielded_at (λ d. d.0) (drivers_of (net_of c.args.graph.now) c.args.gate.0) c.loop-driver.yielded c.in-Some.driver _ _ c.loop-driver.invariant.all c.in-Some.ensures.steps in
-    let unknown : known_good (held_by c.args.facts.now) c.in-Some.driver.0 ≡ None = not_some (known_good (held_by c.args.facts.now) c.in-Some.driver.0) (ap is_some (sym c.known.ensures) ∙ sym c.is_some.ensures ∙ c.if-is_some.false) in
+    let unknown : known_good (held_by c.args.facts.now) c.in-Some.driver.0 ≡ None = not_some (known_good (held_by c.args.facts.now) c.in-Some.driver.0) (ap is_some (sym c.known_of.ensures) ∙ sym c.is_some.ensures ∙ c.if-is_some.false) in
     record {
       all = yielded_more (λ d. d.0) (drivers_of (net_of c.args.graph.now) c.args.gate.0) c.loop-driver.yielded c.in-Some.driver _ _ c.loop-driver.invariant.all c.in-Some.ensures.steps;
       drivers = rw (map-append, c.in_ok-push.ensures.items, map-append) (open_push (net_of c.args.graph.now) (held_by c.args.facts.now) c.args.gate.0 (map (λ d. d.0) c.loop-driver.yielded) (map (λ d. d.0) c.loop-driver.open.items) c.in-Some.driver.0 c.loop-driver.invariant.drivers

@@ -170,7 +170,7 @@ learn_deeper-loop-preserved t c =
 pub visit_goods-returns-clause-round : goal.visit_goods-returns-clause-round
 visit_goods-returns-clause-round t c =
     round_each (net_of c.args.question.now.graph.now) c.args.question.now.fault c.args.depth (IsListed c.in_ok-gates.gates.items) c.args.facts.now c.in_ok-round.round c.visit_each.new.facts
-    (goods_named c.args.watch.now c.args.engine.now c.args.facts.now c.in_ok-gates.gates.items c.requires.goods (subst (λ (added : List (NodeId × Fact)). NamesAll c.args.watch.now added c.in_ok-gates.gates.items) c.added.ensures c.in_ok-gates.ensures))
+    (goods_named c.args.watch.now c.args.engine.now c.args.facts.now c.in_ok-gates.gates.items c.requires.goods (subst (λ (added : List (NodeId × Fact)). NamesAll c.args.watch.now added c.in_ok-gates.gates.items) c.added_facts.ensures c.in_ok-gates.ensures))
     (subst (λ (gates : List NodeId). IsRound (net_of c.args.question.now.graph.now) c.args.question.now.fault c.args.depth (IsListed gates) c.args.facts.now c.in_ok-round.round c.visit_each.new.facts) c.deref.ensures.value c.in_ok-round.ensures.round)
 
 -- VISIT EACH
@@ -227,7 +227,7 @@ pub learn_one-loop-gate-init : goal.learn_one-loop-gate-init
 learn_one-loop-gate-init t c =
     record {
       learning = learning_none (net_of c.args.question.now.graph.now) c.args.question.now.fault 1 c.args.engine.now c.args.facts.now c.requires.settled;
-      known = known_begun (net_of c.args.question.now.graph.now) c.args.question.now.fault (held_by c.args.facts.now) c.args.watch.now c.begin.new.self (λ unknown. let begun = c.in_ok-begin.ensures.goods unknown in goods_listed (net_of c.args.question.now.graph.now) c.args.watch.now c.args.engine.now c.args.facts.now begun.0 c.begin.new.self.listed c.requires.goods (subst (λ (added : List (NodeId × Fact)). NamesAll c.args.watch.now added begun.0) c.added.ensures begun.1.0) begun.1.1 (omega (arith, c.begin.ensures.size, c.requires.room.places, c.requires.room.gates))) c.in_ok-begin.ensures.same c.begin.ensures.rests c.requires.watching;
+      known = known_begun (net_of c.args.question.now.graph.now) c.args.question.now.fault (held_by c.args.facts.now) c.args.watch.now c.begin.new.self (λ unknown. let begun = c.in_ok-begin.ensures.goods unknown in goods_listed (net_of c.args.question.now.graph.now) c.args.watch.now c.args.engine.now c.args.facts.now begun.0 c.begin.new.self.listed c.requires.goods (subst (λ (added : List (NodeId × Fact)). NamesAll c.args.watch.now added begun.0) c.added_facts.ensures begun.1.0) begun.1.1 (omega (arith, c.begin.ensures.size, c.requires.room.places, c.requires.room.gates))) c.in_ok-begin.ensures.same c.begin.ensures.rests c.requires.watching;
       all = c.in_ok-begin.ensures.known;
       lengthens = lengthens_rests c.args.watch.now c.begin.new.self c.begin.ensures.rests c.begin.ensures.size c.begin.ensures.first;
     }
@@ -366,8 +366,8 @@ pub visit-returns-then-branch-clause-keeps : goal.visit-returns-then-branch-clau
 visit-returns-then-branch-clause-keeps t c =
     keeps_join c.args.engine.now c.lesson_at.new.engine c.gain.new.engine c.args.facts.now c.lesson_at.new.facts c.gain.new.facts c.in_ok-lesson.ensures.keeps c.in_ok-gain.ensures.keeps
 
-pub visit-added-requires : goal.visit-added-requires
-visit-added-requires t c =
+pub visit-added_facts-requires : goal.visit-added_facts-requires
+visit-added_facts-requires t c =
     let h : LeadsBack c.gain.new.engine.trail c.mark-mark.result c.gain.new.facts c.lesson_at.new.facts = c.in_ok-gain.ensures.keeps.back c.mark-mark.result c.lesson_at.new.facts (c.mark-mark.ensures.back c.lesson_at.new.facts) in
     h.order
 
@@ -393,10 +393,10 @@ visit-returns-clause-known t c ne y known =
     (subst (λ (b : Bool). IsGained (net_of c.args.question.now.graph.now) c.args.question.now.fault c.deref.result.now c.lesson_at.new.facts b c.gain.new.facts) c.if-branch.false c.in_ok-gain.ensures.gained)) in
     let h : LeadsBack c.gain.new.engine.trail c.mark-mark.result c.gain.new.facts c.lesson_at.new.facts = c.in_ok-gain.ensures.keeps.back c.mark-mark.result c.lesson_at.new.facts (c.mark-mark.ensures.back c.lesson_at.new.facts) in
     let same : c.lesson_at.new.facts ≡ c.args.facts.now = c.in_ok-lesson.ensures.same in
-    let added : AreAdded c.added.result.now c.args.facts.now c.gain.new.facts =
-    rw c.added.ensures (subst (λ (f : List NodeFacts). AreAdded (drop c.mark-mark.result c.gain.new.engine.trail) f c.gain.new.facts) same
+    let added : AreAdded c.added_facts.result.now c.args.facts.now c.gain.new.facts =
+    rw c.added_facts.ensures (subst (λ (f : List NodeFacts). AreAdded (drop c.mark-mark.result c.gain.new.engine.trail) f c.gain.new.facts) same
     (trail_tells c.gain.new.engine.trail c.mark-mark.result c.gain.new.facts c.lesson_at.new.facts h)) in
-    known_more (net_of c.args.question.now.graph.now) c.args.question.now.fault (held_by c.args.facts.now) (held_by c.gain.new.facts) c.added.result.now c.note_taught.new.self c.list_changed.new.self g.0 (subst (λ (f : List NodeFacts). IsWithin (held_by f) (held_by c.gain.new.facts)) same c.in_ok-gain.ensures.keeps.more) added.all c.list_changed.ensures.still c.list_changed.ensures.changed y
+    known_more (net_of c.args.question.now.graph.now) c.args.question.now.fault (held_by c.args.facts.now) (held_by c.gain.new.facts) c.added_facts.result.now c.note_taught.new.self c.list_changed.new.self g.0 (subst (λ (f : List NodeFacts). IsWithin (held_by f) (held_by c.gain.new.facts)) same c.in_ok-gain.ensures.keeps.more) added.all c.list_changed.ensures.still c.list_changed.ensures.changed y
     (known_longer (net_of c.args.question.now.graph.now) c.args.question.now.fault (held_by c.args.facts.now) c.args.watch.now c.note_taught.new.self (leaves_join c.args.watch.now c.lesson_at.new.watch c.note_taught.new.self c.in_ok-lesson.ensures.leaves c.note_taught.ensures) y known)
 
 pub visit-list_changed-requires : goal.visit-list_changed-requires
@@ -464,13 +464,13 @@ one_more-take_back-requires t c =
     let h : LeadsBack c.take.new.engine.trail c.mark-mark.result c.take.new.facts c.args.facts.now = c.in_ok-take.ensures.keeps.back c.mark-mark.result c.args.facts.now (c.mark-mark.ensures.back c.args.facts.now) in
     h.order
 
-pub one_more-added-requires : goal.one_more-added-requires
-one_more-added-requires t c =
+pub one_more-added_facts-requires : goal.one_more-added_facts-requires
+one_more-added_facts-requires t c =
     let h : LeadsBack c.take.new.engine.trail c.mark-mark.result c.take.new.facts c.args.facts.now = c.in_ok-take.ensures.keeps.back c.mark-mark.result c.args.facts.now (c.mark-mark.ensures.back c.args.facts.now) in
     h.order
 
-pub one_more-added-requires-2 : goal.one_more-added-requires-2
-one_more-added-requires-2 t c =
+pub one_more-added_facts-requires-2 : goal.one_more-added_facts-requires-2
+one_more-added_facts-requires-2 t c =
     let h : LeadsBack c.take.new.engine.trail c.mark-mark.result c.take.new.facts c.args.facts.now = c.in_ok-take.ensures.keeps.back c.mark-mark.result c.args.facts.now (c.mark-mark.ensures.back c.args.facts.now) in
     h.order
 
@@ -501,8 +501,8 @@ pub one_more-returns-clause-common : goal.one_more-returns-clause-common
 one_more-returns-clause-common t c ds n there common =
     let h : LeadsBack c.take.new.engine.trail c.mark-mark.result c.take.new.facts c.args.facts.now = c.in_ok-take.ensures.keeps.back c.mark-mark.result c.args.facts.now (c.mark-mark.ensures.back c.args.facts.now) in
     let learned : IsLearned (net_of c.args.question.now.graph.now) c.args.question.now.fault c.args.depth (with_fact (held_by c.args.facts.now) c.args.assumed.node.0 (Good c.args.assumed.value)) false (held_by c.take.new.facts) = subst (λ (b : Bool). IsLearned (net_of c.args.question.now.graph.now) c.args.question.now.fault c.args.depth (with_fact (held_by c.args.facts.now) c.args.assumed.node.0 (Good c.args.assumed.value)) b (held_by c.take.new.facts)) c.if-branch.false c.in_ok-take.ensures.learned in
-    let added : AreAdded c.added.result.now c.args.facts.now c.take.new.facts = rw c.added.ensures (trail_tells c.take.new.engine.trail c.mark-mark.result c.take.new.facts c.args.facts.now h) in
-    rw c.in_ok-more.ensures.found (common_open (net_of c.args.question.now.graph.now) c.args.question.now.fault c.args.depth (held_by c.args.facts.now) c.args.assumed.value ds n c.args.assumed.node.0 there c.take.new.facts c.added.result.now learned.0 learned.1 c.in_ok-take.ensures.keeps.more added.new added.all c.args.before.found c.args.before.goods.items c.in_ok-more.more.goods.items common c.in_ok-more.ensures.goods)
+    let added : AreAdded c.added_facts.result.now c.args.facts.now c.take.new.facts = rw c.added_facts.ensures (trail_tells c.take.new.engine.trail c.mark-mark.result c.take.new.facts c.args.facts.now h) in
+    rw c.in_ok-more.ensures.found (common_open (net_of c.args.question.now.graph.now) c.args.question.now.fault c.args.depth (held_by c.args.facts.now) c.args.assumed.value ds n c.args.assumed.node.0 there c.take.new.facts c.added_facts.result.now learned.0 learned.1 c.in_ok-take.ensures.keeps.more added.new added.all c.args.before.found c.args.before.goods.items c.in_ok-more.more.goods.items common c.in_ok-more.ensures.goods)
 
 pub one_more-returns-clause-same : goal.one_more-returns-clause-same
 one_more-returns-clause-same t c =
@@ -516,21 +516,21 @@ pub one_more-returns-clause-covered : goal.one_more-returns-clause-covered
 one_more-returns-clause-covered t c zero unknown open' =
     let h : LeadsBack c.take.new.engine.trail c.mark-mark.result c.take.new.facts c.args.facts.now = c.in_ok-take.ensures.keeps.back c.mark-mark.result c.args.facts.now (c.mark-mark.ensures.back c.args.facts.now) in
     let learned : IsLearned (net_of c.args.question.now.graph.now) c.args.question.now.fault c.args.depth (with_fact (held_by c.args.facts.now) c.args.assumed.node.0 (Good c.args.assumed.value)) false (held_by c.take.new.facts) = subst (λ (b : Bool). IsLearned (net_of c.args.question.now.graph.now) c.args.question.now.fault c.args.depth (with_fact (held_by c.args.facts.now) c.args.assumed.node.0 (Good c.args.assumed.value)) b (held_by c.take.new.facts)) c.if-branch.false c.in_ok-take.ensures.learned in
-    let added : AreAdded c.added-2.result.now c.args.facts.now c.take.new.facts = rw c.added-2.ensures (trail_tells c.take.new.engine.trail c.mark-mark.result c.take.new.facts c.args.facts.now h) in (
+    let added : AreAdded c.added_facts-2.result.now c.args.facts.now c.take.new.facts = rw c.added_facts-2.ensures (trail_tells c.take.new.engine.trail c.mark-mark.result c.take.new.facts c.args.facts.now h) in (
       held_by c.take.new.facts,
       (
         subst (λ (n : ℕ). IsLeastAt (net_of c.args.question.now.graph.now) c.args.question.now.fault n (with_fact (held_by c.args.facts.now) c.args.assumed.node.0 (Good c.args.assumed.value)) (held_by c.take.new.facts)) zero learned.0,
         (
           c.in_ok-take.ensures.keeps.more,
-          region_covers (net_of c.args.question.now.graph.now) c.args.question.now.fault (held_by c.args.facts.now) (held_by c.take.new.facts) c.added-2.result.now c.rest_on_region.new.self.rests.entries c.args.gate.0 learned.1 c.in_ok-take.ensures.keeps.more added.all (c.in_ok-rest_on_region.ensures.region zero (c.in_ok-take.ensures.leaves.all ∙ unknown)),
+          region_covers (net_of c.args.question.now.graph.now) c.args.question.now.fault (held_by c.args.facts.now) (held_by c.take.new.facts) c.added_facts-2.result.now c.rest_on_region.new.self.rests.entries c.args.gate.0 learned.1 c.in_ok-take.ensures.keeps.more added.all (c.in_ok-rest_on_region.ensures.region zero (c.in_ok-take.ensures.leaves.all ∙ unknown)),
         ),
       ),
     )
 
 -- TAKE
 
-pub take-added-requires : goal.take-added-requires
-take-added-requires t c =
+pub take-added_facts-requires : goal.take-added_facts-requires
+take-added_facts-requires t c =
     let h : LeadsBack c.add.new.engine.trail c.mark-start.result c.add.new.facts c.args.facts.now = c.in_ok-add.ensures.keeps.back c.mark-start.result c.args.facts.now (c.mark-start.ensures.back c.args.facts.now) in
     h.order
 
@@ -538,9 +538,9 @@ pub take-learn-requires : goal.take-learn-requires
 take-learn-requires t c =
     let h : LeadsBack c.add.new.engine.trail c.mark-start.result c.add.new.facts c.args.facts.now = c.in_ok-add.ensures.keeps.back c.mark-start.result c.args.facts.now (c.mark-start.ensures.back c.args.facts.now) in
     let first : IsLearned (net_of c.args.question.now.graph.now) c.args.question.now.fault 0 (with_fact (held_by c.args.facts.now) c.args.assumed.node.0 (Good c.args.assumed.value)) false (held_by c.add.new.facts) = subst (λ (b : Bool). IsLearned (net_of c.args.question.now.graph.now) c.args.question.now.fault 0 (with_fact (held_by c.args.facts.now) c.args.assumed.node.0 (Good c.args.assumed.value)) b (held_by c.add.new.facts)) c.if-branch.false c.in_ok-add.ensures.learned in
-    let added : AreAdded c.added.result.now c.args.facts.now c.add.new.facts = rw c.added.ensures (trail_tells c.add.new.engine.trail c.mark-start.result c.add.new.facts c.args.facts.now h) in
+    let added : AreAdded c.added_facts.result.now c.args.facts.now c.add.new.facts = rw c.added_facts.ensures (trail_tells c.add.new.engine.trail c.mark-start.result c.add.new.facts c.args.facts.now h) in
     let deep : 0 < c.args.depth = omega arith in
-    (search rules, (rw c.in_ok-add.ensures.keeps.numbers c.requires.numbers, (rw c.in_ok-add.ensures.keeps.size c.requires.size, (first.1, (room_still (net_of c.args.question.now.graph.now) c.args.watch.now c.list_changed.new.self c.list_changed.ensures.still c.requires.room, (goods_keep c.args.watch.now c.list_changed.new.self c.args.engine.now c.add.new.engine c.args.facts.now c.add.new.facts c.list_changed.ensures.still.first c.in_ok-add.ensures.keeps (c.requires.goods deep), (watching_more (net_of c.args.question.now.graph.now) c.args.question.now.fault (held_by c.args.facts.now) (held_by c.add.new.facts) c.added.result.now c.args.watch.now c.list_changed.new.self first.1 c.in_ok-add.ensures.keeps.more added.all c.list_changed.ensures.still c.list_changed.ensures.changed (c.requires.watching deep), deep)))))))
+    (search rules, (rw c.in_ok-add.ensures.keeps.numbers c.requires.numbers, (rw c.in_ok-add.ensures.keeps.size c.requires.size, (first.1, (room_still (net_of c.args.question.now.graph.now) c.args.watch.now c.list_changed.new.self c.list_changed.ensures.still c.requires.room, (goods_keep c.args.watch.now c.list_changed.new.self c.args.engine.now c.add.new.engine c.args.facts.now c.add.new.facts c.list_changed.ensures.still.first c.in_ok-add.ensures.keeps (c.requires.goods deep), (watching_more (net_of c.args.question.now.graph.now) c.args.question.now.fault (held_by c.args.facts.now) (held_by c.add.new.facts) c.added_facts.result.now c.args.watch.now c.list_changed.new.self first.1 c.in_ok-add.ensures.keeps.more added.all c.list_changed.ensures.still c.list_changed.ensures.changed (c.requires.watching deep), deep)))))))
 
 pub take-returns-clause-learned : goal.take-returns-clause-learned
 take-returns-clause-learned t c =

@@ -6,16 +6,16 @@ use Rattle.recursive_learning.proofs.Holdings.{goods_first}
 use Rattle.recursive_learning.proofs.Refutes.{open_leads, open_settled}
 use Rattle.recursive_learning.proofs.refuting.tree_of.Goals as goal
 
-pub written-requires-clause-settled : goal.written-requires-clause-settled
-written-requires-clause-settled c = open_settled (net_of c.args.question.now.graph.now) c.args.question.now.fault c.close.new.self.lines c.in-Open.facts c.well_formed-2.ensures.net c.args.question.now.pin (subst (IsClosing (net_of c.args.question.now.graph.now) c.args.question.now.fault c.close.new.self.lines) c.in-Open.is c.in_ok-tree.ensures.closing)
+pub write_closed-requires-clause-settled : goal.write_closed-requires-clause-settled
+write_closed-requires-clause-settled c = open_settled (net_of c.args.question.now.graph.now) c.args.question.now.fault c.close.new.self.lines c.in-Open.facts c.well_formed-2.ensures.net c.args.question.now.pin (subst (IsClosing (net_of c.args.question.now.graph.now) c.args.question.now.fault c.close.new.self.lines) c.in-Open.is c.in_ok-tree.ensures.closing)
 
-pub written-requires-clause-lines : goal.written-requires-clause-lines
-written-requires-clause-lines c = open_leads (net_of c.args.question.now.graph.now) c.args.question.now.fault c.close.new.self.lines c.in-Open.facts (subst (IsClosing (net_of c.args.question.now.graph.now) c.args.question.now.fault c.close.new.self.lines) c.in-Open.is c.in_ok-tree.ensures.closing)
+pub write_closed-requires-clause-lines : goal.write_closed-requires-clause-lines
+write_closed-requires-clause-lines c = open_leads (net_of c.args.question.now.graph.now) c.args.question.now.fault c.close.new.self.lines c.in-Open.facts (subst (IsClosing (net_of c.args.question.now.graph.now) c.args.question.now.fault c.close.new.self.lines) c.in-Open.is c.in_ok-tree.ensures.closing)
 
 pub take_back-requires : goal.take_back-requires
 take_back-requires c =
-    let h : LeadsBack c.written.new.engine.trail c.mark-mark.result c.written.new.facts c.in-Open.facts = c.in_ok-tree-in-Open.ensures.keeps.back c.mark-mark.result c.in-Open.facts (c.mark-mark.ensures.back c.in-Open.facts) in
+    let h : LeadsBack c.write_closed.new.engine.trail c.mark-mark.result c.write_closed.new.facts c.in-Open.facts = c.in_ok-tree-in-Open.ensures.keeps.back c.mark-mark.result c.in-Open.facts (c.mark-mark.ensures.back c.in-Open.facts) in
     h.order
 
-pub written-requires-clause-goods : goal.written-requires-clause-goods
-written-requires-clause-goods c = goods_first (net_of c.args.question.now.graph.now) c.args.question.now.fault c.begin_with.new.self c.close.new.self c.in-Open.facts c.mark-mark.result (open_settled (net_of c.args.question.now.graph.now) c.args.question.now.fault c.close.new.self.lines c.in-Open.facts c.well_formed-2.ensures.net c.args.question.now.pin (subst (IsClosing (net_of c.args.question.now.graph.now) c.args.question.now.fault c.close.new.self.lines) c.in-Open.is c.in_ok-tree.ensures.closing)) (c.mark-mark.ensures.back c.in-Open.facts) c.in_ok-begin_with-in-Open.ensures.first
+pub write_closed-requires-clause-goods : goal.write_closed-requires-clause-goods
+write_closed-requires-clause-goods c = goods_first (net_of c.args.question.now.graph.now) c.args.question.now.fault c.begin_with.new.self c.close.new.self c.in-Open.facts c.mark-mark.result (open_settled (net_of c.args.question.now.graph.now) c.args.question.now.fault c.close.new.self.lines c.in-Open.facts c.well_formed-2.ensures.net c.args.question.now.pin (subst (IsClosing (net_of c.args.question.now.graph.now) c.args.question.now.fault c.close.new.self.lines) c.in-Open.is c.in_ok-tree.ensures.closing)) (c.mark-mark.ensures.back c.in-Open.facts) c.in_ok-begin_with-in-Open.ensures.first

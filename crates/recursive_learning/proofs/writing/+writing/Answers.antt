@@ -63,7 +63,7 @@ write-returns-clause-keeps t c =
 pub write_pass-returns-clause-fewer : goal.write_pass-returns-clause-fewer
 write_pass-returns-clause-fewer t c none =
     pass_fewer (net_of c.args.question.now.graph.now) c.args.question.now.fault c.args.depth (IsListed c.in_ok-gates.gates.items) c.args.facts.now c.write_each.new.facts
-    (goods_named c.args.watch.now c.args.engine.now c.args.facts.now c.in_ok-gates.gates.items c.requires.goods (subst (λ (added : List (NodeId × Fact)). NamesAll c.args.watch.now added c.in_ok-gates.gates.items) c.added.ensures c.in_ok-gates.ensures))
+    (goods_named c.args.watch.now c.args.engine.now c.args.facts.now c.in_ok-gates.gates.items c.requires.goods (subst (λ (added : List (NodeId × Fact)). NamesAll c.args.watch.now added c.in_ok-gates.gates.items) c.added_facts.ensures c.in_ok-gates.ensures))
     (subst (λ (gates : List NodeId). IsPassed (net_of c.args.question.now.graph.now) c.args.question.now.fault c.args.depth (IsListed gates) c.args.facts.now c.write_each.new.facts) c.deref.ensures.value (c.in_ok-ended.ensures.passed none)) c.requires.settled c.requires.clash
 
 pub write_each-loop-gate-init : goal.write_each-loop-gate-init
@@ -186,7 +186,7 @@ write_goods-returns-then-branch-clause-told t c =
 
 pub write_good-write_cases-requires : goal.write_good-write_cases-requires
 write_good-write_cases-requires t c =
-    let known : known_good (held_by c.args.facts.now) c.args.good.node.0 ≡ Some (not c.args.good.value) = sym c.known.ensures ∙ c.in-Some.is ∙ ap Some (beq_other c.in-Some.known_value c.args.good.value c.if-known_value-good.false) in (
+    let known : known_good (held_by c.args.facts.now) c.args.good.node.0 ≡ Some (not c.args.good.value) = sym c.known_of.ensures ∙ c.in-Some.is ∙ ap Some (beq_other c.in-Some.known_value c.args.good.value c.if-known_value-good.false) in (
       search rules,
       (
         c.requires.numbers,

@@ -5,4 +5,4 @@ use Rattle.refutation.proofs.concluding.conclude.Goals as goal
 
 pub returns-clause-node : goal.returns-clause-node
 returns-clause-node c =
-    answer_below (net_of c.args.question.now.graph.now) c.args.question.now.fault (held_by c.args.facts.now) c.well_formed-2.ensures.net c.args.question.now.pin c.args.line.now c.concluded.result c.concluded.ensures.answer
+    answer_below (net_of c.args.question.now.graph.now) c.args.question.now.fault (held_by c.args.facts.now) c.well_formed-2.ensures.net c.args.question.now.pin c.args.line.now c.conclude_at.result c.conclude_at.ensures.answer

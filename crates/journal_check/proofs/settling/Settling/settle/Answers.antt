@@ -6,4 +6,4 @@ use Rattle.journal_check.proofs.settling.Settling.settle.Goals as goal
 
 pub returns-in-Hit-clause-says : goal.returns-in-Hit-clause-says
 returns-in-Hit-clause-says c =
-    subst (λ (r : Record). VerdictSays (net_of c.args.graph.now) c.args.budget (left_of c.args.self.now) r (left_of c.hit.new.self) c.hit.result) (sym c.in-Hit.is) (c.hit.ensures.says c.args.budget)
+    subst (λ (r : Record). VerdictSays (net_of c.args.graph.now) c.args.budget (left_of c.args.self.now) r (left_of c.settle_by_vector.new.self) c.settle_by_vector.result) (sym c.in-Hit.is) (c.settle_by_vector.ensures.says c.args.budget)

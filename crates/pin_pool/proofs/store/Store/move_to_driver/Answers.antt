@@ -20,4 +20,4 @@ invariant_of-self c =
 pub returns-clause-in_gate : goal.returns-clause-in_gate
 returns-clause-in_gate c =
     let linked = rw (← c.self.view_is) at c.requires.linked in
-    rw (← c.self.view_is, c.named.ensures) (is-place Gate c.self.inside.pins.items c.self.inside.gates.items c.args.pin.0 c.index.result.now.gate c.index.result.now c.self.invariant.gate_lists linked.0 (ap (link_of Gate) c.index.ensures))
+    rw (← c.self.view_is, c.pin_with_number.ensures) (is-place Gate c.self.inside.pins.items c.self.inside.gates.items c.args.pin.0 c.index.result.now.gate c.index.result.now c.self.invariant.gate_lists linked.0 (ap (link_of Gate) c.index.ensures))

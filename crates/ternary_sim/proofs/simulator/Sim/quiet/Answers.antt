@@ -10,7 +10,7 @@ use Rattle.rm_base.proofs.Public.{last_cases}
 
 pub returns-then-not-equal : goal.returns-then-not-equal
 returns-then-not-equal c =
-    let first : c.into_iter-node-iterator.result ≡ (net_of c.args.graph.now).observed = cc (c.into_iter-node-iterator.ensures.into_iter_gives, c.observed-node-items.ensures.observed) in
+    let first : c.into_iter-node-iterator.result ≡ (net_of c.args.graph.now).observed = cc (c.into_iter-node-iterator.ensures.into_iter_gives, c.observed_points-node-items.ensures.observed) in
     let there : slice_get (net_of c.args.graph.now).observed (length c.loop-node.yielded) ≡ Some c.in-Some.node.0 = rw (← first) (yielded_at (λ d. d.0) c.into_iter-node-iterator.result c.loop-node.yielded c.in-Some.node _ _ c.loop-node.invariant.all c.in-Some.ensures.steps) in
     (λ e. cc, λ quiet. let marked : equal_at c.args.self.now.marks c.in-Some.node.0 ≡ true = quiet c.in-Some.node.0 (length c.loop-node.yielded, there) in cc (c.if-not-equal.true, c.equal.ensures))
 
@@ -25,7 +25,7 @@ loop-node-preserved c = record {
 
 pub returns : goal.returns
 returns c =
-    let first : c.into_iter-node-iterator.result ≡ (net_of c.args.graph.now).observed = cc (c.into_iter-node-iterator.ensures.into_iter_gives, c.observed-node-items.ensures.observed) in
+    let first : c.into_iter-node-iterator.result ≡ (net_of c.args.graph.now).observed = cc (c.into_iter-node-iterator.ensures.into_iter_gives, c.observed_points-node-items.ensures.observed) in
     let P : ℕ → Type 0 = λ x. equal_at c.args.self.now.marks x ≡ true in (
       λ _ x observed. each_yielded P (net_of c.args.graph.now).observed c.loop-node.yielded
           (sym first ∙ whole c.into_iter-node-iterator.result c.loop-node.yielded _ c.loop-node.invariant.all c.in-None.ensures.steps.0) c.loop-node.invariant.equal x observed,
