@@ -4,10 +4,11 @@ ghost use Rattle.cover_decompose.specs.Built.{IsBuildable, IsBuilt};
 ghost use Rattle.gate_graph.specs.Circuit.{pins_taken};
 ghost use Rattle.cover_decompose.specs.PlanView.{node_of_plan};
 ghost use Rattle.cover_decompose.specs.Limits.{most_pins};
+ghost use Rattle.rm_base.specs.Numbers.{first_source};
 
 use crate::plan::{Plan, PlanNode};
 use gate_graph::Graph;
-use rm_base::{NoMemory, NodeId};
+use rm_base::{FIRST_SOURCE, NoMemory, NodeId};
 use std::alloc::Global;
 
 fn node_ids(alloc: Global, nodes: &[usize]) -> Result<Vec<NodeId>, NoMemory>
@@ -30,7 +31,7 @@ fn add_node(
     at: usize,
 ) -> Result<(), NoMemory>
     requires plan { IsBuildable (map node_of_plan made.now) sources }
-    requires after { 2 + sources ≤ at }
+    requires after { first_source + sources ≤ at }
     requires within { at < length made.now }
     requires built { IsBuilt graph.old (take at (map node_of_plan made.now)) [] }
     ensures { OnOk result (IsBuilt graph.new (take (at + 1) (map node_of_plan made.now)) []) }
@@ -49,10 +50,10 @@ fn add_nodes(
     sources: usize,
 ) -> Result<(), NoMemory>
     requires plan { IsBuildable (map node_of_plan made.now) sources }
-    requires built { IsBuilt graph.old (take (2 + sources) (map node_of_plan made.now)) [] }
+    requires built { IsBuilt graph.old (take (first_source + sources) (map node_of_plan made.now)) [] }
     ensures { OnOk result (IsBuilt graph.new (map node_of_plan made.now) []) }
 {
-    for at in 2 + sources..made.len() {
+    for at in FIRST_SOURCE as usize + sources..made.len() {
         add_node(alloc, graph, made, sources, at)?;
     }
     Ok(())

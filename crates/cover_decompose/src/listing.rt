@@ -4,6 +4,7 @@ ghost use Rattle.cover_decompose.specs.Chosen.{AtPlaces, IsNumbered};
 ghost use Rattle.cover_decompose.specs.Decomposition.{last_state, net_of_model};
 ghost use Rattle.cover_decompose.specs.Needed.{taken};
 ghost use Rattle.rm_model.specs.Value.{source_names};
+ghost use Rattle.rm_base.specs.Numbers.{first_source};
 
 use crate::plan::Plan;
 use rm_base::NoMemory;
@@ -19,7 +20,7 @@ pub fn list_nodes(
 ) -> Result<Plan, NoMemory>
     requires numbered { IsNumbered model.now (map (λ ks. ks.items) numbering.now.inputs.items) numbering.now.observed.items }
     requires sources { numbering.now.sources ≡ length (source_names model.now) }
-    requires signals { 2 + numbering.now.sources + length model.now.covers < 2 ^ 64 }
+    requires signals { first_source + numbering.now.sources + length model.now.covers < 2 ^ 64 }
     requires places { AtPlaces model.now.covers places.now (taken model.now) }
     ensures made { IfOk result (λ plan. plan.made ≡ (last_state model.now).made) }
     ensures observed { IfOk result (λ plan. map (slice_index plan.nodes) numbering.now.observed.items ≡ (net_of_model model.now).observed) }

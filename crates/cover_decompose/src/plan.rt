@@ -6,9 +6,10 @@ ghost use Rattle.gate_net.specs.declared.Kind.TheVariants.{Source, Zero, One};
 ghost use Rattle.std.specs.Option.{option_to_list};
 ghost use Rattle.cover_decompose.specs.PlanView.{node_of_plan};
 ghost use Rattle.cover_decompose.specs.Plan.{closed_planned, counting, cover_planned, covers_planned, gate_planned, joined_planned, literal_planned, literals_planned, node_planned, not_of, not_planned, one_planned, start_planned, term_planned, terms_planned};
+ghost use Rattle.rm_base.specs.Numbers.{first_source};
 
 use gate_net::Kind;
-use rm_base::NoMemory;
+use rm_base::{FIRST_SOURCE, NoMemory};
 use rm_model::{Cover, Literal, Row};
 use std::alloc::Global;
 use std::marker::Model;
@@ -63,12 +64,12 @@ fn first_nodes(alloc: Global, sources: usize) -> Result<Vec<PlanNode>, NoMemory>
 }
 
 fn first_numbers(alloc: Global, sources: usize, covers: usize) -> Result<Vec<usize>, NoMemory>
-    requires { 2 + sources + covers < 2 ^ 64 }
+    requires { first_source + sources + covers < 2 ^ 64 }
     ensures { IfOk result (λ ns. ns.items ≡ counting 2 sources ++ replicate covers 0) }
 {
     let mut numbers = Vec::new(alloc);
     for source in 0..sources {
-        numbers.push(2 + source)?;
+        numbers.push(FIRST_SOURCE as usize + source)?;
     }
     for _cover in 0..covers {
         numbers.push(0)?;
@@ -87,7 +88,7 @@ fn no_nots(alloc: Global, signals: usize) -> Result<Vec<Option<usize>>, NoMemory
 impl Plan {
     /// The constants and the sources; no cover's output has a node yet.
     pub fn start(alloc: Global, sources: usize, covers: usize) -> Result<Plan, NoMemory>
-        requires { 2 + sources + covers < 2 ^ 64 }
+        requires { first_source + sources + covers < 2 ^ 64 }
         ensures { IfOk result (λ p. p ≡ start_planned sources covers) }
     {
         Ok(Plan {

@@ -33,8 +33,12 @@ number_or_zero (Some n) = n
 abbrev pub home : List (List ℕ) → ℕ → ℕ
 home lists p = number_or_zero (number_with lists p)
 
+-- the pool's gate whose pins are the observed points, as node 0 has none of its own
+abbrev pub observed_list : ℕ
+observed_list = 0
+
 abbrev pub gate_pins : Pins → ℕ → List ℕ
-gate_pins v n = if n == 0 then [] else list_of v.inputs n
+gate_pins v n = if n == observed_list then [] else list_of v.inputs n
 
 abbrev pub node_with : Option Kind → List ℕ → Option Node
 node_with None drivers = None
@@ -50,7 +54,7 @@ each_from f first (suc n) = f first ∷ each_from f (suc first) n
 unfoldable pub net_of : Circuit → Net
 net_of v = record {
   nodes = trimmed (each_from (node_in v) 0 (length v.kinds));
-  observed = map (home v.pool.fanouts) (list_of v.pool.inputs 0);
+  observed = map (home v.pool.fanouts) (list_of v.pool.inputs observed_list);
 }
 
 abbrev pub place_in : List ℕ → ℕ → ℕ
@@ -67,7 +71,7 @@ without_observed observed (p ∷ ps) = if has p observed then without_observed o
 
 -- the readers of a node by its pins
 abbrev pub fans_in : Pins → ℕ → List (ℕ × ℕ)
-fans_in v n = map (reader v) (without_observed (list_of v.inputs 0) (list_of v.fanouts n))
+fans_in v n = map (reader v) (without_observed (list_of v.inputs observed_list) (list_of v.fanouts n))
 
 -- the readers of a node, each as its gate and its position, in ring order
 unfoldable pub fanouts_of : Circuit → ℕ → List (ℕ × ℕ)

@@ -5,6 +5,7 @@ use Rattle.gate_net.specs.declared.Kind.TheVariants.{Source, Zero, One, Not}
 use Rattle.pin_pool.specs.Ring.{has}
 use Rattle.pin_pool.specs.Pins.{Pins}
 use Rattle.pin_pool.specs.Rings.{Rings, rings_of, IsIn}
+use Rattle.rm_base.specs.Numbers.{first_source, one_number, zero_number}
 
 -- the kinds by node number, and the rings
 pub record Wiring : Type 0 where
@@ -19,15 +20,15 @@ wiring_of kinds v = record { kind = λ n. kind_at kinds n; rings = rings_of v }
 
 -- the first numbers are the constants and the sources, and no others are
 pub record AreFirst (kind : ℕ → Option Kind) (sources : ℕ) : Type 0 where
-  pub source_is : (k : ℕ) → k < sources → kind (2 + k) ≡ Some Source
-  pub only_source : (n : ℕ) → kind n ≡ Some Source → (2 ≤ n) × (n < 2 + sources)
+  pub source_is : (k : ℕ) → k < sources → kind (first_source + k) ≡ Some Source
+  pub only_source : (n : ℕ) → kind n ≡ Some Source → (first_source ≤ n) × (n < first_source + sources)
   pub only_zero : (n : ℕ) → kind n ≡ Some Zero → n ≡ 0
   pub only_one : (n : ℕ) → kind n ≡ Some One → n ≡ 1
 
 -- what holds of every graph, but that no pins make a circle
 pub record IsShaped (w : Wiring) : Type 0 where
-  pub zero_is : w.kind 0 ≡ Some Zero
-  pub one_is : w.kind 1 ≡ Some One
+  pub zero_is : w.kind zero_number ≡ Some Zero
+  pub one_is : w.kind one_number ≡ Some One
   pub one_reads : w.rings.inputs 1 ≡ []
   pub gates_live : (g p : ℕ) → has p (w.rings.inputs g) ≡ true → w.kind g ≢ None
   pub drivers_live : (n p : ℕ) → has p (w.rings.fanouts n) ≡ true → w.kind n ≢ None

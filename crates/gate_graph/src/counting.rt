@@ -4,7 +4,9 @@ ghost use Rattle.gate_graph.specs.Circuit.{free_nodes, free_pins, live_nodes, ne
 ghost use Rattle.gate_net.specs.Edits.{IsLeastFree};
 ghost use Rattle.gate_net.specs.Net.{IsLive, drivers_of, gate_count, source_count, wire_count};
 
-use crate::pins::{are_sources, count_gate_pins, first_sources, last_live, least_free};
+use crate::pins::{
+    OBSERVED_LIST, are_sources, count_gate_pins, first_sources, last_live, least_free,
+};
 use crate::state::Graph;
 use rm_base::NodeId;
 
@@ -59,7 +61,7 @@ impl Graph {
         ensures { result ≡ wire_count (net_of self.now) }
     {
         self.tell();
-        self.pool.linked_count() - self.pool.input_count(0)
+        self.pool.linked_count() - self.pool.input_count(OBSERVED_LIST)
     }
 
     /// How many places are observed, in constant time.
@@ -67,7 +69,7 @@ impl Graph {
         ensures { result ≡ length (net_of self.now).observed }
     {
         self.tell();
-        self.pool.input_count(0) as usize
+        self.pool.input_count(OBSERVED_LIST) as usize
     }
 
     /// How many pins a live node has, in constant time.

@@ -11,7 +11,7 @@ ghost use Rattle.gate_graph.specs.Holds.{pins_held};
 ghost use Rattle.gate_graph.specs.Readers.{NewReaders, SameReaders};
 ghost use Rattle.rm_base.specs.Numbers.{number_bound};
 
-use crate::pins::least_free;
+use crate::pins::{OBSERVED_LIST, least_free};
 use crate::rings::{link_all, link_new, look};
 use crate::state::Graph;
 use crate::undoing::set_kind;
@@ -134,7 +134,7 @@ impl Graph {
         ensures epoch { self.new.epoch ≡ self.old.epoch }
     {
         look(&self.pool);
-        let _pin = link_new(&mut self.pool, 0, node.0);
+        let _pin = link_new(&mut self.pool, OBSERVED_LIST, node.0);
         look(&self.pool);
     }
 }

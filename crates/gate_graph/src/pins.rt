@@ -4,14 +4,18 @@ ghost use Rattle.std.specs.Option.{option_map};
 ghost use Rattle.pin_pool.specs.Rings.{rings_of, IsLinked};
 ghost use Rattle.pin_pool.specs.Pins.{list_of};
 ghost use Rattle.gate_graph.specs.Wirings.{kind_at};
-ghost use Rattle.gate_graph.specs.Circuit.{kinds_live, kinds_dead, gate_pins, place_in, without_observed};
+ghost use Rattle.gate_graph.specs.Circuit.{kinds_live, kinds_dead, gate_pins, place_in, without_observed, observed_list};
 ghost use Rattle.pin_pool.specs.Ring.{has};
 ghost use Rattle.gate_net.specs.declared.Kind.TheVariants.{Source};
-ghost use Rattle.rm_base.specs.Numbers.{number_bound};
+ghost use Rattle.rm_base.specs.Numbers.{number_bound, first_source};
 
 use crate::rings::look;
 use gate_net::Kind;
 use pin_pool::{PinIter, PinNo, Pool};
+use rm_base::FIRST_SOURCE;
+
+/// The gate of the pool whose pins are the observed points: node 0 has none of its own.
+pub(crate) const OBSERVED_LIST: u32 = 0;
 
 // The kind that is kept for a number.
 pub(crate) fn stored_kind(kinds: &[Option<Kind>], node: u32) -> Option<Kind>
@@ -117,11 +121,11 @@ pub(crate) fn place_of(pool: &Pool, gate: u32, pin: PinNo) -> u32
 // The next pin that is no observed place.
 pub(crate) fn next_reading(pins: &mut PinIter<'_>, pool: &Pool) -> Option<PinNo>
     requires linked { (p : ℕ) → has p pins.old ≡ true → IsLinked (rings_of pool.now) p }
-    ensures none { result ≡ None → without_observed (list_of pool.now.inputs 0) pins.old ≡ [] }
+    ensures none { result ≡ None → without_observed (list_of pool.now.inputs observed_list) pins.old ≡ [] }
     ensures rest { result ≡ None → pins.new ≡ [] }
-    ensures some { IfSome result (λ pin. without_observed (list_of pool.now.inputs 0) pins.old ≡ pin.0 ∷ without_observed (list_of pool.now.inputs 0) pins.new) }
+    ensures some { IfSome result (λ pin. without_observed (list_of pool.now.inputs observed_list) pins.old ≡ pin.0 ∷ without_observed (list_of pool.now.inputs observed_list) pins.new) }
     ensures linked { IfSome result (λ pin. IsLinked (rings_of pool.now) pin.0) }
-    ensures reads { IfSome result (λ pin. has pin.0 (list_of pool.now.inputs 0) ≡ false) }
+    ensures reads { IfSome result (λ pin. has pin.0 (list_of pool.now.inputs observed_list) ≡ false) }
     ensures kept { (p : ℕ) → has p pins.new ≡ true → has p pins.old ≡ true }
 {
     look(pool);
@@ -137,8 +141,8 @@ pub(crate) fn next_reading(pins: &mut PinIter<'_>, pool: &Pool) -> Option<PinNo>
 pub(crate) fn observes(pool: &Pool, node: u32) -> bool
     requires within { node < length pool.now.inputs }
     requires linked { (p : ℕ) → has p (list_of pool.now.fanouts node) ≡ true → IsLinked (rings_of pool.now) p }
-    ensures found { result ≡ true → (p : ℕ) × ((has p (list_of pool.now.fanouts node) ≡ true) × (has p (list_of pool.now.inputs 0) ≡ true)) }
-    ensures none { result ≡ false → (p : ℕ) → has p (list_of pool.now.fanouts node) ≡ true → has p (list_of pool.now.inputs 0) ≡ false }
+    ensures found { result ≡ true → (p : ℕ) × ((has p (list_of pool.now.fanouts node) ≡ true) × (has p (list_of pool.now.inputs observed_list) ≡ true)) }
+    ensures none { result ≡ false → (p : ℕ) → has p (list_of pool.now.fanouts node) ≡ true → has p (list_of pool.now.inputs observed_list) ≡ false }
 {
     look(pool);
     for pin in pool.fanouts(node) {
@@ -172,12 +176,12 @@ fn is_source(kind: Option<Kind>) -> bool
     }
 }
 
-// Whether there are so many sources from number 2 on, and no more.
+// Whether there are so many sources from the first number of one on, and no more.
 pub(crate) fn are_sources(kinds: &[Option<Kind>], sources: u32) -> bool
-    ensures last { result ≡ true → (k : ℕ) → k + 1 ≡ sources → kind_at kinds.now (2 + k) ≡ Some Source }
-    ensures end { result ≡ true → kind_at kinds.now (2 + sources) ≢ Some Source }
+    ensures last { result ≡ true → (k : ℕ) → k + 1 ≡ sources → kind_at kinds.now (first_source + k) ≡ Some Source }
+    ensures end { result ≡ true → kind_at kinds.now (first_source + sources) ≢ Some Source }
 {
-    let Some(end) = sources.checked_add(2) else {
+    let Some(end) = sources.checked_add(FIRST_SOURCE) else {
         return false;
     };
     if is_source(stored_kind(kinds, end)) {
@@ -189,21 +193,21 @@ pub(crate) fn are_sources(kinds: &[Option<Kind>], sources: u32) -> bool
     is_source(stored_kind(kinds, end - 1))
 }
 
-// How many sources there are from number 2 on.
+// How many sources there are from the first number of one on.
 pub(crate) fn first_sources(kinds: &[Option<Kind>]) -> u32
     requires few { length kinds.now ≤ number_bound }
-    ensures all { (k : ℕ) → k < result → kind_at kinds.now (2 + k) ≡ Some Source }
-    ensures end { kind_at kinds.now (2 + result) ≢ Some Source }
+    ensures all { (k : ℕ) → k < result → kind_at kinds.now (first_source + k) ≡ Some Source }
+    ensures end { kind_at kinds.now (first_source + result) ≢ Some Source }
     ensures few { result ≤ length kinds.now }
 {
-    let mut at = 2u32;
+    let mut at = FIRST_SOURCE;
     while (at as usize) < kinds.len() {
         if !is_source(stored_kind(kinds, at)) {
-            return at - 2;
+            return at - FIRST_SOURCE;
         }
         at += 1;
     }
-    at - 2
+    at - FIRST_SOURCE
 }
 
 // How many pins a node has.

@@ -24,9 +24,9 @@ impl<'a> Model for Readers<'a> {
     ghost use Rattle.pin_pool.specs.Rings.{IsLinked};
     ghost use Rattle.pin_pool.specs.Pins.{list_of};
     ghost use Rattle.pin_pool.specs.Rings.{rings_of, AreRings};
-    ghost use Rattle.gate_graph.specs.Circuit.{home, without_observed};
+    ghost use Rattle.gate_graph.specs.Circuit.{home, without_observed, observed_list};
 
-    ghost view = { λ it. map (home it.pool.now.inputs) (without_observed (list_of it.pool.now.inputs 0) it.pins) };
+    ghost view = { λ it. map (home it.pool.now.inputs) (without_observed (list_of it.pool.now.inputs observed_list) it.pins) };
 
     ghost invariant = { λ it. AreRings (rings_of it.pool.now) × ((p : ℕ) → has p it.pins ≡ true → IsLinked (rings_of it.pool.now) p) };
 }

@@ -9,7 +9,7 @@ ghost use Rattle.rm_base.specs.Numbers.{number_bound};
 
 use crate::fanout_iter::Fanouts;
 use crate::input_iter::Inputs;
-use crate::pins::{has_fanout, nth_pin, observes, pins_of_gate, pins_of_gate_from};
+use crate::pins::{OBSERVED_LIST, has_fanout, nth_pin, observes, pins_of_gate, pins_of_gate_from};
 use crate::reader_iter::Readers;
 use crate::rings::look;
 use crate::state::Graph;
@@ -116,7 +116,7 @@ impl Graph {
     {
         self.tell();
         Inputs {
-            pins: self.pool.inputs(0),
+            pins: self.pool.inputs(OBSERVED_LIST),
             pool: &self.pool,
         }
     }

@@ -4,6 +4,7 @@ use Rattle.rm_base.specs.declared.numbers.Fault.{Fault}
 use Rattle.gate_net.specs.declared.Kind.{Kind}
 use Rattle.gate_net.specs.declared.Kind.TheVariants.{Zero, One}
 use Rattle.gate_net.specs.Net.{Node, Net, node_at, drivers_of, Reads, IsObserved}
+use Rattle.rm_base.specs.Numbers.{one_number, zero_number}
 
 abbrev pub redriven : List ℕ → Option Node → Option Node
 redriven drivers None = None
@@ -15,7 +16,7 @@ with_drivers net gate drivers =
     record net { nodes = slice_set net.nodes gate (redriven drivers (node_at net gate)) }
 
 abbrev pub constant_node : Bool → ℕ
-constant_node b = if b then 1 else 0
+constant_node b = if b then one_number else zero_number
 
 abbrev pub constant_kind : Bool → Kind
 constant_kind b = if b then One else Zero

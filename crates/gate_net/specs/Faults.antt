@@ -4,6 +4,7 @@ use Rattle.rm_base.specs.declared.numbers.Fault.{Fault}
 pub use Rattle.gate_net.specs.Meaning.{is_gate_kind}
 use Rattle.gate_net.specs.Net.{Node, Net, drivers_in, source_count}
 use Rattle.gate_net.specs.Values.{Detects}
+use Rattle.rm_base.specs.Numbers.{first_source}
 
 abbrev pub before_gates : Option Node → ℕ → List ℕ → List ℕ
 before_gates None x xs = xs
@@ -21,13 +22,13 @@ gates_of net = gates_from 0 net.nodes
 abbrev pub fault_at : ℕ → ℕ → Bool → Fault
 fault_at gate position value = record { gate = record { 0 = gate }; position = position; value = value }
 
--- source k is node 2 + k
+-- source k is node first_source + k
 abbrev pub assigned : List Bool → ℕ → Bool
-assigned vector x = slice_index_or vector (x - 2) false
+assigned vector x = slice_index_or vector (x - first_source) false
 
 -- the assignment gives the sources the values of the vector
 abbrev pub Gives : (ℕ → Bool) → List Bool → Type 0
-Gives a vector = (k : ℕ) (b : Bool) → slice_get vector k ≡ Some b → a (2 + k) ≡ b
+Gives a vector = (k : ℕ) (b : Bool) → slice_get vector k ≡ Some b → a (first_source + k) ≡ b
 
 -- the faults of so many pins of a gate from one position on, value 0 before 1
 abbrev pub pin_faults : ℕ → ℕ → ℕ → List Fault

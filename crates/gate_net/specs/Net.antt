@@ -2,6 +2,7 @@
 use Rattle.std.specs.Prelude.{◌≡◌, ◌≢◌, ℕ, ◌+◌, ◌<◌, ◌≤◌, List, [], ◌∷◌, Option, Some, None, slice_get, length, sum_by, if◌then◌else◌}
 use Rattle.gate_net.specs.declared.Kind.{Kind}
 use Rattle.gate_net.specs.declared.Kind.TheVariants.{Source, Zero, One, Not}
+use Rattle.rm_base.specs.Numbers.{first_source, one_number, zero_number}
 pub use Rattle.gate_net.specs.Meaning.{IsGateKind, is_gate_kind}
 
 pub record Node : Type 0 where
@@ -67,8 +68,8 @@ plain_node kind = Some (record { kind = kind; drivers = [] })
 
 -- nodes 0 and 1 are the constants
 pub record HasConstants (net : Net) : Type 0 where
-  pub zero_is : node_at net 0 ≡ plain_node Zero
-  pub one_is : node_at net 1 ≡ plain_node One
+  pub zero_is : node_at net zero_number ≡ plain_node Zero
+  pub one_is : node_at net one_number ≡ plain_node One
 
 abbrev pub count_in : Option Node → (Kind → ℕ) → ℕ
 count_in None count = 0
@@ -93,10 +94,10 @@ gate_count net = sum_by (λ (o : Option Node). count_in o gate_in) net.nodes
 abbrev pub wire_count : Net → ℕ
 wire_count net = sum_by (λ (o : Option Node). length (drivers_in o)) net.nodes
 
--- the sources are the nodes from 2 on, and they have no pins
+-- the sources come first after the constants, and they have no pins
 pub record HasSources (net : Net) : Type 0 where
-  pub first : (k : ℕ) → k < source_count net → node_at net (2 + k) ≡ plain_node Source
-  pub only : (x : ℕ) → IsKind net x Source → (2 ≤ x) × (x < 2 + source_count net)
+  pub first : (k : ℕ) → k < source_count net → node_at net (first_source + k) ≡ plain_node Source
+  pub only : (x : ℕ) → IsKind net x Source → (first_source ≤ x) × (x < first_source + source_count net)
 
 abbrev pub before_dead : Option Node → List (Option Node) → List (Option Node)
 before_dead None [] = []
@@ -112,8 +113,8 @@ trimmed (x ∷ xs) = before_dead x (trimmed xs)
 pub record IsWellFormed (net : Net) : Type 0 where
   pub acyclic : IsAcyclic net
   pub constants : HasConstants net
-  pub only_zero : (x : ℕ) → IsKind net x Zero → x ≡ 0
-  pub only_one : (x : ℕ) → IsKind net x One → x ≡ 1
+  pub only_zero : (x : ℕ) → IsKind net x Zero → x ≡ zero_number
+  pub only_one : (x : ℕ) → IsKind net x One → x ≡ one_number
   pub sources : HasSources net
   pub nots_have_one : (y : ℕ) → IsKind net y Not → (d : ℕ) × (drivers_of net y ≡ d ∷ [])
   pub drivers_live : (y position x : ℕ) → Reads net y position x → node_at net x ≢ None

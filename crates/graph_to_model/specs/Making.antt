@@ -14,6 +14,7 @@ use Rattle.wire_edit.specs.declared.steps.Step.TheVariants.{Add, Fix, NewNot, Co
 use Rattle.graph_to_model.specs.Names.{node_name}
 use Rattle.graph_to_model.specs.NetModel.{cover_with, gate_cover_of, onto}
 use Rattle.rm_base.specs.Words.{Word}
+use Rattle.rm_base.specs.Numbers.{first_source}
 
 -- the gate that a step is at
 abbrev pub gate_of_step : Step → NodeId
@@ -44,7 +45,7 @@ word_at xs (Some k) = slice_get xs k
 -- the name of a node by the sources, the observed names, their first places and the prefix
 abbrev pub name_by : List Word → List Word → List (Option ℕ) → Word → ℕ → Word
 name_by sources observed places prefix n =
-    if nat_lt n (2 + length sources) then unwrap_or (slice_get sources (n - 2)) []
+    if nat_lt n (first_source + length sources) then unwrap_or (slice_get sources (n - first_source)) []
     else unwrap_or (word_at observed (slice_index_or places n None)) (prefix ++ decimal n)
 
 abbrev pub named : List Word → ℕ → Word

@@ -7,6 +7,7 @@ use Rattle.rm_model.specs.Value.{source_names, observed_names}
 use Rattle.rm_model.specs.declared.parts.Model.{Model}
 use Rattle.gate_net.specs.Net.{Net}
 use Rattle.rm_base.specs.Words.{Word}
+use Rattle.rm_base.specs.Numbers.{first_source}
 
 -- the names of sources and observed points, which the model of a net keeps
 abbrev pub kept_names : Model → List Word
@@ -37,5 +38,5 @@ observed_name (k ∷ ks) (x ∷ xs) n = if k == n then Some x else observed_name
 -- a source has its own name, another node the first observed name on it, and else the prefix and its number
 abbrev pub node_name : Model → Net → ℕ → Word
 node_name m net n =
-    if nat_lt n (2 + length (source_names m)) then unwrap_or (slice_get (source_names m) (n - 2)) []
+    if nat_lt n (first_source + length (source_names m)) then unwrap_or (slice_get (source_names m) (n - first_source)) []
     else unwrap_or (observed_name net.observed (observed_names m) n) (free_prefix m ++ decimal n)

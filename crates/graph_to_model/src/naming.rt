@@ -10,7 +10,7 @@ use crate::places::first_places;
 use crate::prefix::free_prefix;
 use gate_graph::Graph;
 use itoa::Buffer;
-use rm_base::NoMemory;
+use rm_base::{FIRST_SOURCE, NoMemory};
 use rm_model::{Listed, Model, Name, copy_name};
 use std::alloc::Global;
 
@@ -62,7 +62,7 @@ fn name_of(
     requires few { length sources.now < 2 ^ 63 }
     ensures { IfOk result (λ name. name ≡ name_by sources.now observed.now places.now prefix.now node) }
 {
-    if node < 2 + sources.len() {
+    if node < FIRST_SOURCE as usize + sources.len() {
         return source_name(alloc, node, sources);
     }
     gate_name(alloc, node, observed, places[node], prefix)

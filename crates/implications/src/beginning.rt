@@ -14,7 +14,7 @@ use refutation::pins::is_gate;
 use refutation::place_lines::line_out_marked;
 use refutation::site::Site;
 use refutation::{FactSet, Item, Line, TreeBuilder};
-use rm_base::{NoMemory, NodeId};
+use rm_base::{NoMemory, NodeId, ONE, ZERO};
 use std::alloc::Global;
 
 // Whether the node is a gate without pins.
@@ -91,8 +91,8 @@ pub(crate) fn begin(
 {
     question.graph.well_formed();
     let facts = hold_all_outside(alloc, question, site, agenda)?;
-    agenda.add(NodeId(0));
-    agenda.add(NodeId(1));
+    agenda.add(ZERO);
+    agenda.add(ONE);
     agenda.add(question.fault.gate);
     Ok(facts)
 }

@@ -19,7 +19,7 @@ use gate_graph::{Graph, Question};
 use refutation::agenda::Agenda;
 use refutation::site::Site;
 use refutation::{Fact, FactSet};
-use rm_base::{NoMemory, NodeId};
+use rm_base::{NoMemory, NodeId, ONE, ZERO};
 
 // Takes back what was added, and holds again that the taken nodes are equal: that takes the time of both lists, and no
 // memory.
@@ -59,8 +59,8 @@ fn list_unsettled(question: &Question<'_>, pinless: &[NodeId], agenda: &mut Agen
 {
     question.graph.well_formed();
     list_all(pinless, agenda);
-    agenda.add(NodeId(0));
-    agenda.add(NodeId(1));
+    agenda.add(ZERO);
+    agenda.add(ONE);
     agenda.add(question.fault.gate);
 }
 

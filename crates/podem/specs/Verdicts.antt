@@ -12,6 +12,7 @@ use Rattle.refutation.specs.declared.items.Item.{Item}
 use Rattle.rm_base.specs.declared.numbers.Fault.{Fault}
 use Rattle.ternary_sim.specs.Marks.{good_at}
 use Rattle.ternary_sim.specs.declared.marks.NodeMarks.{NodeMarks}
+use Rattle.rm_base.specs.Numbers.{first_source}
 
 -- an accepted partial tree of so many edges that is an open search
 pub record IsSpent (net : Net) (fault : Fault) (budget : ℕ) (items : List Item) : Type 0 where
@@ -35,4 +36,4 @@ IsDecided _ = Unit {0}
 -- the vector has a 1 exactly where the source is known to be 1
 pub record IsVectorOf (net : Net) (marks : List NodeMarks) (bits : List Bool) : Type 0 where
   pub size : length bits ≡ source_count net
-  pub values : (k : ℕ) → k < source_count net → slice_get bits k ≡ Some (is_known true (good_at marks (2 + k)))
+  pub values : (k : ℕ) → k < source_count net → slice_get bits k ≡ Some (is_known true (good_at marks (first_source + k)))

@@ -11,7 +11,7 @@ ghost use Rattle.gate_net.specs.Faults.{IsTest};
 ghost use Rattle.podem.specs.Verdicts.{IsVectorOf};
 
 use gate_graph::{Graph, Question};
-use rm_base::{NoMemory, NodeId, SourceNo, Vector};
+use rm_base::{FIRST_SOURCE, NoMemory, NodeId, SourceNo, Vector};
 use std::alloc::Global;
 use ternary_sim::Tracker;
 
@@ -23,7 +23,7 @@ fn vector_of(alloc: Global, graph: &Graph, tracker: &Tracker) -> Result<Vector, 
     let count = graph.source_count();
     let mut vector = Vector::zeros(alloc, count as usize)?;
     for k in 0..count {
-        let one = tracker.good(NodeId(2 + k)) == Some(true);
+        let one = tracker.good(NodeId(FIRST_SOURCE + k)) == Some(true);
         vector.set(SourceNo(k), one);
     }
     Ok(vector)

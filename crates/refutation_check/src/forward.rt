@@ -13,7 +13,7 @@ ghost use Rattle.refutation_check.specs.Kept.{FitsIfKept};
 use gate_graph::{Graph, Question};
 use refutation::{Fact, FactSet};
 use rm_base::vectors::Value3;
-use rm_base::{NoMemory, NodeId, SourceNo};
+use rm_base::{FIRST_SOURCE, NoMemory, NodeId, SourceNo};
 use std::alloc::Global;
 use ternary_sim::Sim;
 
@@ -40,7 +40,7 @@ fn set_sources(graph: &Graph, facts: &FactSet, sim: &mut Sim)
 {
     graph.well_formed();
     for k in 0..graph.source_count() {
-        sim.set(SourceNo(k), known_value(facts, NodeId(2 + k)));
+        sim.set(SourceNo(k), known_value(facts, NodeId(FIRST_SOURCE + k)));
     }
 }
 

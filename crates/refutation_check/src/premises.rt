@@ -6,7 +6,7 @@ use gate_graph::{Graph, Inputs, Question};
 use refutation::following::{gate_pins, pin_driver};
 use refutation::pins::{Aspect, Stuck, at_pin, is_value, known_of, stuck_at};
 use refutation::{Fact, FactSet, Line};
-use rm_base::{NoMemory, NodeId};
+use rm_base::{FIRST_SOURCE, NoMemory, NodeId};
 use std::alloc::Global;
 
 /// A fact of a node.
@@ -316,7 +316,7 @@ impl Premises {
     ) -> Result<(), NoMemory> {
         graph.well_formed();
         for k in 0..graph.source_count() {
-            self.ask(facts, Aspect::OfGood, NodeId(2 + k))?;
+            self.ask(facts, Aspect::OfGood, NodeId(FIRST_SOURCE + k))?;
         }
         Ok(())
     }

@@ -18,3 +18,15 @@ zero_node = record { 0 = 0 }
 abbrev pub one_if : Bool → ℕ
 one_if true = 1
 one_if false = 0
+
+-- the constant Zero
+abbrev pub zero_number : ℕ
+zero_number = 0
+
+-- the constant One
+abbrev pub one_number : ℕ
+one_number = 1
+
+-- the first source: source k is node first_source + k
+abbrev pub first_source : ℕ
+first_source = 2

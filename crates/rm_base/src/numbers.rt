@@ -8,6 +8,15 @@ use std::fmt;
 #[derive(Clone, Copy, Debug, PartialEq, Eq, PartialOrd, Ord)]
 pub struct NodeId(pub u32);
 
+/// The constant Zero.
+pub const ZERO: NodeId = NodeId(0);
+
+/// The constant One.
+pub const ONE: NodeId = NodeId(1);
+
+/// The number of the first source: source k is node `FIRST_SOURCE + k`.
+pub const FIRST_SOURCE: u32 = 2;
+
 /// No node and no pin has this number, and there are at most so many of either.
 pub const NUMBER_BOUND: u32 = u32::MAX;
 

@@ -10,6 +10,7 @@ use Rattle.rm_base.specs.declared.vectors.Value3.TheVariants.{One, Unknown, Zero
 use Rattle.ternary_sim.specs.declared.marks.NodeMarks.{NodeMarks}
 use Rattle.ternary_sim.specs.declared.marks.Reading.{Reading}
 use Rattle.ternary_sim.specs.declared.marks.Reading.TheVariants.{OfFaulty, OfGood}
+use Rattle.rm_base.specs.Numbers.{first_source}
 
 -- what is known of a value
 abbrev pub seen : Value3 → Option Bool
@@ -41,9 +42,9 @@ known_in OfFaulty marks x = faulty_at marks x
 abbrev pub marking : List NodeMarks → Marking
 marking marks = record { good = good_at marks; faulty = faulty_at marks; equal = equal_at marks }
 
--- what is known of each source by its node number: source k is node 2 + k
+-- what is known of each source by its node number: source k is node first_source + k
 abbrev pub known_source : List Value3 → ℕ → Option Bool
-known_source sources x = seen (slice_index_or sources (x - 2) Unknown)
+known_source sources x = seen (slice_index_or sources (x - first_source) Unknown)
 
 -- what the node's own conditions say of it, the marks of its drivers given
 pub record IsReadAt (net : Net) (fault : Fault) (known : ℕ → Option Bool) (m : Marking) (x : ℕ) (r : NodeMarks) : Type 0 where

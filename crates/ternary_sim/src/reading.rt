@@ -17,7 +17,7 @@ use gate_looks::drivers::gate_pins;
 use gate_looks::pins::{Stuck, is_value, stuck_at};
 use gate_net::Kind;
 use rm_base::vectors::Value3;
-use rm_base::{Fault, NodeId};
+use rm_base::{FIRST_SOURCE, Fault, NodeId};
 
 // What is known of a source.
 fn source_value(graph: &Graph, sources: &[Value3], kind: Kind, node: NodeId) -> Option<bool>
@@ -27,7 +27,7 @@ fn source_value(graph: &Graph, sources: &[Value3], kind: Kind, node: NodeId) -> 
 {
     graph.well_formed();
     match kind {
-        Kind::Source => known_value(sources[node.0 as usize - 2]),
+        Kind::Source => known_value(sources[(node.0 - FIRST_SOURCE) as usize]),
         _ => None,
     }
 }

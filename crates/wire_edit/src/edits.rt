@@ -10,12 +10,12 @@ ghost use Rattle.wire_edit.specs.Edited.{edit_of};
 use crate::looks::{constant_of, control_of, second_driver};
 use crate::steps::Step;
 use gate_graph::{Edit, Graph};
-use rm_base::NodeId;
+use rm_base::{NodeId, ONE, ZERO};
 
 fn constant_node(value: bool) -> NodeId
     ensures { result.0 ≡ constant_node value }
 {
-    if value { NodeId(1) } else { NodeId(0) }
+    if value { ONE } else { ZERO }
 }
 
 fn empty_node(control: Option<bool>) -> NodeId
