@@ -1,5 +1,7 @@
 //! What may be wrong with a text.
 use rm_base::Place;
+use std::error::Error;
+use std::fmt;
 
 /// What is wrong at a place of a text.
 #[derive(Clone, Copy, Debug, PartialEq, Eq)]
@@ -40,6 +42,32 @@ pub enum FaultKind {
     NoRank,
 }
 
+impl fmt::Display for FaultKind {
+    fn fmt<W: fmt::Write>(&self, f: &mut fmt::Formatter<W>) -> fmt::Result {
+        match self {
+            FaultKind::BadByte => f.write_str("a byte that may not stand there"),
+            FaultKind::OpenJoin => f.write_str("nothing follows the backslash that joins lines"),
+            FaultKind::NoModel => f.write_str("the text doesn't begin with .model"),
+            FaultKind::Unsupported => f.write_str("a command that isn't read"),
+            FaultKind::UnknownCommand => f.write_str("no command"),
+            FaultKind::MissingWord => f.write_str("too few words"),
+            FaultKind::ExtraWord => f.write_str("too many words"),
+            FaultKind::RowOutsideCover => f.write_str("a row without a cover"),
+            FaultKind::RowLength => f.write_str(
+                "the row is longer or shorter than its cover has inputs",
+            ),
+            FaultKind::RowCharacter => f.write_str("a character that may not stand in a row"),
+            FaultKind::MixedCover => f.write_str("the rows of a cover end in 0 and in 1"),
+            FaultKind::BadLatchWord => f.write_str("no type or init value of a latch"),
+            FaultKind::DoubleDriven => f.write_str("a name with two drivers"),
+            FaultKind::DoubleOutput => f.write_str("an output that is listed twice"),
+            FaultKind::AfterEnd => f.write_str("a word after the end"),
+            FaultKind::Undriven => f.write_str("a name without a driver"),
+            FaultKind::NoRank => f.write_str("a cover on a cycle, or behind one"),
+        }
+    }
+}
+
 /// What may be more than the reader takes.
 #[derive(Clone, Copy, Debug, PartialEq, Eq)]
 pub enum Quantity {
@@ -51,6 +79,21 @@ pub enum Quantity {
     Signals,
     Pins,
     Journal,
+}
+
+impl fmt::Display for Quantity {
+    fn fmt<W: fmt::Write>(&self, f: &mut fmt::Formatter<W>) -> fmt::Result {
+        match self {
+            Quantity::Text => f.write_str("the bytes of the text"),
+            Quantity::Name => f.write_str("the bytes of a name"),
+            Quantity::Inputs => f.write_str("the inputs of a cover"),
+            Quantity::Sources => f.write_str("the sources"),
+            Quantity::Observed => f.write_str("the observed points"),
+            Quantity::Signals => f.write_str("the names"),
+            Quantity::Pins => f.write_str("the wires of the decomposition"),
+            Quantity::Journal => f.write_str("the bytes of the journal"),
+        }
+    }
 }
 
 /// Why a text isn't read.
@@ -67,3 +110,27 @@ pub enum ReadRefusal {
     },
     NoMemory,
 }
+
+impl fmt::Display for ReadRefusal {
+    fn fmt<W: fmt::Write>(&self, f: &mut fmt::Formatter<W>) -> fmt::Result {
+        match self {
+            ReadRefusal::Fault { kind, place } => write!(
+                f,
+                "line {}, column {}: {kind}",
+                place.line, place.column
+            ),
+            ReadRefusal::Limit {
+                quantity,
+                count,
+                place,
+            } => write!(
+                f,
+                "line {}, column {}: {quantity} are too many ({count})",
+                place.line, place.column
+            ),
+            ReadRefusal::NoMemory => f.write_str("out of memory"),
+        }
+    }
+}
+
+impl Error for ReadRefusal {}

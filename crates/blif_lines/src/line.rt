@@ -4,6 +4,8 @@ ghost use Rattle.std.specs.Prelude.{◌≡◌, [], ◌∷◌, ◌++◌, OnOk, On
 use rm_base::{NoMemory, Place};
 use smallvec::SmallVec;
 use std::alloc::Global;
+use std::error::Error;
+use std::fmt;
 use std::marker::Model;
 
 /// A token: the text from `start` up to `end`, and the place of its first byte.
@@ -34,6 +36,26 @@ pub enum LineFault {
     OpenJoin(Place),
     NoMemory,
 }
+
+impl fmt::Display for LineFault {
+    fn fmt<W: fmt::Write>(&self, f: &mut fmt::Formatter<W>) -> fmt::Result {
+        match self {
+            LineFault::BadByte(place) => write!(
+                f,
+                "line {}, column {}: a byte that may not stand there",
+                place.line, place.column
+            ),
+            LineFault::OpenJoin(place) => write!(
+                f,
+                "line {}, column {}: nothing follows the backslash that joins lines",
+                place.line, place.column
+            ),
+            LineFault::NoMemory => f.write_str("out of memory"),
+        }
+    }
+}
+
+impl Error for LineFault {}
 
 impl From<NoMemory> for LineFault {
     ghost use Rattle.std.specs.Prelude.{◌≡◌};

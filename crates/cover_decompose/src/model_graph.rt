@@ -21,6 +21,8 @@ use gate_graph::Graph;
 use rm_base::NoMemory;
 use rm_model::{Model, Numbering, RankedModel};
 use std::alloc::Global;
+use std::error::Error;
+use std::fmt;
 
 /// The most wires that a decomposition may have.
 pub const MOST_PINS: u64 = 65536;
@@ -32,6 +34,17 @@ pub enum DecomposeRefusal {
     Limit { pins: u64 },
     NoMemory,
 }
+
+impl fmt::Display for DecomposeRefusal {
+    fn fmt<W: fmt::Write>(&self, f: &mut fmt::Formatter<W>) -> fmt::Result {
+        match self {
+            DecomposeRefusal::Limit { pins } => write!(f, "{pins} wires are too many"),
+            DecomposeRefusal::NoMemory => f.write_str("out of memory"),
+        }
+    }
+}
+
+impl Error for DecomposeRefusal {}
 
 impl From<NoMemory> for DecomposeRefusal {
     ghost use Rattle.std.specs.Prelude.{◌≡◌};

@@ -18,6 +18,8 @@ use gate_graph::Graph;
 use rm_base::{NoMemory, NodeId};
 use rm_model::{Cover, Listed, Model, copy_name, list_observed, sources};
 use std::alloc::Global;
+use std::error::Error;
+use std::fmt;
 use wire_edit::{Seen, Step, first_rule, first_rule_by};
 
 /// Why a net has no model.
@@ -27,6 +29,17 @@ pub enum ModelRefusal {
     NotTidy { node: NodeId },
     NoMemory,
 }
+
+impl fmt::Display for ModelRefusal {
+    fn fmt<W: fmt::Write>(&self, f: &mut fmt::Formatter<W>) -> fmt::Result {
+        match self {
+            ModelRefusal::NotTidy { node } => write!(f, "a local rule applies at gate {}", node.0),
+            ModelRefusal::NoMemory => f.write_str("out of memory"),
+        }
+    }
+}
+
+impl Error for ModelRefusal {}
 
 impl From<NoMemory> for ModelRefusal {
     ghost use Rattle.std.specs.Prelude.{◌≡◌};

@@ -16,6 +16,8 @@ use crate::parts::{Cover, Model};
 use crate::rank_search::{Search, find_ranks};
 use rm_base::NoMemory;
 use std::alloc::{AllocError, AllocFailed, Global};
+use std::error::Error;
+use std::fmt;
 
 /// Why a model's covers have no ranks.
 #[derive(Clone, Copy, Debug, PartialEq, Eq)]
@@ -24,6 +26,20 @@ pub enum RankFault {
     NoRank { cover: u32 },
     NoMemory,
 }
+
+impl fmt::Display for RankFault {
+    fn fmt<W: fmt::Write>(&self, f: &mut fmt::Formatter<W>) -> fmt::Result {
+        match self {
+            RankFault::NoRank { cover } => write!(
+                f,
+                "cover {cover} stands on a cycle, or behind one"
+            ),
+            RankFault::NoMemory => f.write_str("out of memory"),
+        }
+    }
+}
+
+impl Error for RankFault {}
 
 impl From<NoMemory> for RankFault {
     ghost from_gives = { λ _ e. e ≡ NoMemory };

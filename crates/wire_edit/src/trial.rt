@@ -28,12 +28,21 @@ use crate::tidying::{carry_out, next_rule, removes};
 use gate_graph::{Graph, Marks, Undos, same_wiring};
 use rm_base::NoMemory;
 use std::alloc::Global;
+use std::fmt;
 use std::marker::Model;
 
 /// Why a trial can't begin. The graph is as it was.
 #[derive(Drop)]
 pub enum BeginRefusal {
     NoMemory { graph: Graph },
+}
+
+impl fmt::Display for BeginRefusal {
+    fn fmt<W: fmt::Write>(&self, f: &mut fmt::Formatter<W>) -> fmt::Result {
+        match self {
+            BeginRefusal::NoMemory { graph: _ } => f.write_str("out of memory"),
+        }
+    }
 }
 
 /// A graph, with the steps made since the trial began and what undoes them.

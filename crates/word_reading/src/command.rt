@@ -1,6 +1,7 @@
 //! What the words can ask for.
 
 use rm_base::Settings;
+use std::fmt;
 
 /// A command with its names.
 #[derive(Clone, Copy)]
@@ -32,4 +33,13 @@ pub enum WordFault {
     Refused,
     /// Want of memory.
     NoMemory,
+}
+
+impl fmt::Display for WordFault {
+    fn fmt<W: fmt::Write>(&self, f: &mut fmt::Formatter<W>) -> fmt::Result {
+        match self {
+            WordFault::Refused => f.write_str("the words ask for no command"),
+            WordFault::NoMemory => f.write_str("out of memory"),
+        }
+    }
 }
