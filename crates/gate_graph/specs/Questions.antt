@@ -1,5 +1,5 @@
 -- That a question has one proof at most that its pin is there.
-use Rattle.std.specs.Prelude.{◌≡◌, ℕ, Option, Some, slice_get}
+use Rattle.std.specs.Prelude.{Some, slice_get}
 use Rattle.std.proofs.Common.{sym, ◌∙◌}
 use Rattle.std.specs.Coded.{Coded-set, coded_ℕ, coded_option}
 use Rattle.std.proofs.lemmas.Option.{same_Some}

@@ -4,7 +4,7 @@ ghost use Rattle.std.specs.Option.{option_map};
 ghost use Rattle.pin_pool.specs.Rings.{rings_of, AreRings, IsIn};
 ghost use Rattle.gate_graph.specs.Wirings.{kind_at};
 ghost use Rattle.gate_graph.specs.Circuit.{net_of, fanouts_of, IsGraph, gate_pins};
-ghost use Rattle.gate_net.specs.Net.{drivers_of, IsLive, IsObserved};
+ghost use Rattle.gate_net.specs.Net.{drivers_of, IsGate, IsLive, IsObserved};
 ghost use Rattle.rm_base.specs.Numbers.{number_bound};
 
 use crate::fanout_iter::Fanouts;
@@ -64,6 +64,20 @@ impl Graph {
     {
         look(&self.pool);
         let pins = pins_of_gate(&self.pool, node.0);
+        Inputs {
+            pins,
+            pool: &self.pool,
+        }
+    }
+
+    /// The drivers of a node that is known to be a gate, in pin order, as `inputs_of` gives them.
+    pub fn gate_inputs(&self, gate: NodeId) -> Inputs<'_>
+        requires { IsGate (net_of self.now) gate.0 }
+        ensures drivers { result ≡ drivers_of (net_of self.now) gate.0 }
+        ensures few { length result ≤ number_bound }
+    {
+        look(&self.pool);
+        let pins = self.pool.inputs(gate.0);
         Inputs {
             pins,
             pool: &self.pool,
