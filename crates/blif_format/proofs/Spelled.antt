@@ -1,6 +1,6 @@
 -- The words of a latch and of a cover tell the latch and the cover.
-use Rattle.std.proofs.Common.{◌≡◌, ◌≢◌, ℕ, ◌+◌, Bool, true, false, List, [], ◌∷◌, ◌++◌, map, Option, None, Some, refl, sym, ◌∙◌, ap, arith, All}
-use Rattle.std.specs.Prelude.{codes, IfSome}
+use Rattle.std.proofs.Common.{◌≡◌, ℕ, ◌+◌, Bool, true, false, List, [], ◌∷◌, ◌++◌, map, Option, None, Some, refl, sym, ◌∙◌, ap, arith, All}
+use Rattle.std.specs.Prelude.{codes}
 use Rattle.std.proofs.lemmas.List.Elements.{All-head, All-tail}
 use Rattle.rm_model.specs.Words.{literal_byte, kind_word}
 use Rattle.rm_model.specs.Value.{control_of}
@@ -13,7 +13,7 @@ use Rattle.rm_model.specs.declared.parts.Timing.{Timing}
 use Rattle.rm_model.specs.declared.parts.Latch.{Latch}
 use Rattle.rm_model.specs.declared.parts.Cover.{Cover}
 use Rattle.rm_model.specs.declared.parts.Model.{Model}
-use Rattle.blif_format.specs.Text.{Line, control_word, timing_words, init_words, latch_words, on_word, row_words, cover_words}
+use Rattle.blif_format.specs.Text.{Line, control_word, timing_words, init_words, latch_words, on_word, row_words, cover_words, timing_control, IsControlName}
 use Rattle.blif_format.specs.Laws.{ReadsOnce}
 use Rattle.rm_base.specs.Words.{Word}
 
@@ -48,16 +48,13 @@ kind_told As Ah e = absurd (omega (arith, (two_told 97 115 97 104 e).1))
 kind_told As Al e = absurd (omega (arith, (two_told 97 115 97 108 e).1))
 kind_told As As e = refl
 
-abbrev pub IsName : Option Word → Type 0
-IsName o = IfSome o (λ x. x ≢ codes "NIL")
-
-control_told : (o p : Option Word) → IsName o → IsName p → control_word o ≡ control_word p → o ≡ p
+control_told : (o p : Option Word) → IsControlName o → IsControlName p → control_word o ≡ control_word p → o ≡ p
 control_told None None a b e = refl
 control_told None (Some x) a b e = absurd (b (sym e))
 control_told (Some x) None a b e = absurd (a e)
 control_told (Some x) (Some y) a b e = ap Some e
 
-timing_told : (t u : Timing) → IsName t.control → IsName u.control → kind_word t.kind ≡ kind_word u.kind → control_word t.control ≡ control_word u.control → t ≡ u
+timing_told : (t u : Timing) → IsControlName t.control → IsControlName u.control → kind_word t.kind ≡ kind_word u.kind → control_word t.control ≡ control_word u.control → t ≡ u
 timing_told t u a b e f = let k : t.kind ≡ u.kind = kind_told t.kind u.kind e in let c : t.control ≡ u.control = control_told t.control u.control a b f in
     ap (λ (x : LatchKind). let v : Timing = record { kind = x; control = t.control } in v) k
     ∙ (ap (λ (x : Option Word). let v : Timing = record { kind = u.kind; control = x } in v) c)
@@ -69,11 +66,7 @@ init_told n k e = let s : 48 + n ≡ 48 + k = cc in omega (arith, s)
 abbrev rest_words : Option Timing → Option ℕ → List Word
 rest_words t i = timing_words t ++ init_words i
 
-abbrev pub timing_control : Option Timing → Option Word
-timing_control None = None
-timing_control (Some t) = t.control
-
-rest_told : (t u : Option Timing) (i j : Option ℕ) → IsName (timing_control t) → IsName (timing_control u) → rest_words t i ≡ rest_words u j → (t ≡ u) × (i ≡ j)
+rest_told : (t u : Option Timing) (i j : Option ℕ) → IsControlName (timing_control t) → IsControlName (timing_control u) → rest_words t i ≡ rest_words u j → (t ≡ u) × (i ≡ j)
 rest_told None None None None a b e = (refl, refl)
 rest_told None None None (Some k) a b e = cc
 rest_told None None (Some n) None a b e = cc
@@ -87,7 +80,7 @@ rest_told (Some t) (Some u) None (Some k) a b e = cc
 rest_told (Some t) (Some u) (Some n) None a b e = cc
 rest_told (Some t) (Some u) (Some n) (Some k) a b e = (ap Some (timing_told t u a b (cc) (cc)), ap Some (init_told n k (cc)))
 
-latch_told : (l m : Latch) → IsName (control_of l) → IsName (control_of m) → latch_words l ≡ latch_words m → l ≡ m
+latch_told : (l m : Latch) → IsControlName (control_of l) → IsControlName (control_of m) → latch_words l ≡ latch_words m → l ≡ m
 latch_told l m a b e =
     let i : l.input ≡ m.input = cc in
     let o : l.output ≡ m.output = cc in
@@ -99,17 +92,17 @@ latch_told l m a b e =
     ∙ (ap (λ (x : Option Timing). let v : Latch = record { input = m.input; output = m.output; timing = x; init = l.init } in v) t
     ∙ (ap (λ (x : Option ℕ). let v : Latch = record { input = m.input; output = m.output; timing = m.timing; init = x } in v) n)))
   where
-    name_of : (t : Option Timing) → IsName (elim t [ None ↦ None | Some u ↦ u.control ]) → IsName (timing_control t)
+    name_of : (t : Option Timing) → IsControlName (elim t [ None ↦ None | Some u ↦ u.control ]) → IsControlName (timing_control t)
     name_of None h = h
     name_of (Some t) h = h
 
-latches_told : (ls ms : List Latch) → All (λ (l : Latch). IsName (control_of l)) ls → All (λ (l : Latch). IsName (control_of l)) ms → map latch_words ls ≡ map latch_words ms → ls ≡ ms
+latches_told : (ls ms : List Latch) → All (λ (l : Latch). IsControlName (control_of l)) ls → All (λ (l : Latch). IsControlName (control_of l)) ms → map latch_words ls ≡ map latch_words ms → ls ≡ ms
 latches_told [] [] a b e = refl
 latches_told [] (m ∷ ms) a b e = cc
 latches_told (l ∷ ls) [] a b e = cc
 latches_told (l ∷ ls) (m ∷ ms) a b e =
-    let first : l ≡ m = latch_told l m (All-head (λ (k : Latch). IsName (control_of k)) l ls a) (All-head (λ (k : Latch). IsName (control_of k)) m ms b) (cc) in
-    let rest : ls ≡ ms = latches_told ls ms (All-tail (λ (k : Latch). IsName (control_of k)) l ls a) (All-tail (λ (k : Latch). IsName (control_of k)) m ms b) (cc) in
+    let first : l ≡ m = latch_told l m (All-head (λ (k : Latch). IsControlName (control_of k)) l ls a) (All-head (λ (k : Latch). IsControlName (control_of k)) m ms b) (cc) in
+    let rest : ls ≡ ms = latches_told ls ms (All-tail (λ (k : Latch). IsControlName (control_of k)) l ls a) (All-tail (λ (k : Latch). IsControlName (control_of k)) m ms b) (cc) in
     cc
 
 -- COVERS

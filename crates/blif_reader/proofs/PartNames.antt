@@ -3,12 +3,11 @@ use Rattle.std.proofs.Common.{◌≡◌, ℕ, List, [], ◌∷◌, ◌++◌, map
 use Rattle.std.specs.Prelude.{if◌then◌else◌, codes}
 use Rattle.std.specs.List.{cons_option, filter_map, flat_map}
 use Rattle.std.proofs.lemmas.List.{append-nil}
-use Rattle.blif_format.proofs.Public.{IsName}
 use Rattle.rm_model.specs.Value.{control_of}
 use Rattle.rm_model.specs.declared.parts.Timing.{Timing}
 use Rattle.rm_model.specs.declared.parts.Cover.{Cover}
 use Rattle.rm_model.specs.declared.parts.Latch.{Latch as LatchPart}
-use Rattle.blif_format.specs.Text.{Line, control_word, timing_words, init_words, latch_words, cover_words}
+use Rattle.blif_format.specs.Text.{Line, control_word, timing_words, init_words, latch_words, cover_words, IsControlName}
 use Rattle.blif_format.specs.Grammar.{begins_with, words_after, words_of, names_lines}
 use Rattle.blif_format.specs.declared.words.Role.{Role}
 use Rattle.blif_format.specs.declared.words.Role.TheVariants.{CoverInput, CoverOutput, LatchInput, LatchOutput, Control}
@@ -52,7 +51,7 @@ pub cover_names_in : (t : Role → Bool) (cs : List Cover) → flat_map (λ (x :
 cover_names_in t [] = refl
 cover_names_in t (c ∷ cs) = ap (λ xs. xs ++ flat_map (λ (x : Line × List Line). cover_picks t x.0) (map cover_words cs)) (last_picks t c.inputs c.output) ∙ ap (λ xs. (list_picks (t CoverInput) c.inputs ++ word_if (t CoverOutput) c.output) ++ xs) (cover_names_in t cs)
 
-control_words : (t : Role → Bool) (o : Option Word) → IsName o → control_if t (control_word o) ≡ list_picks (t Control) (cons_option o [])
+control_words : (t : Role → Bool) (o : Option Word) → IsControlName o → control_if t (control_word o) ≡ list_picks (t Control) (cons_option o [])
 control_words t None n = at (t Control)
   where
     at : (b : Bool) → [] ≡ list_picks b []
@@ -60,7 +59,7 @@ control_words t None n = at (t Control)
     at false = refl
 control_words t (Some x) n = elim (word_tells (codes "NIL") x) [ inl h ↦ absurd (n (sym h.1)) | inr h ↦ ap (λ (b : Bool). if b then [] else word_if (t Control) x) h.0 ]
 
-latch_words_in : (t : Role → Bool) (l : LatchPart) → IsName (control_of l) → latch_picks t (latch_words l) ≡ word_if (t LatchInput) l.input ++ (word_if (t LatchOutput) l.output ++ list_picks (t Control) (cons_option (control_of l) []))
+latch_words_in : (t : Role → Bool) (l : LatchPart) → IsControlName (control_of l) → latch_picks t (latch_words l) ≡ word_if (t LatchInput) l.input ++ (word_if (t LatchOutput) l.output ++ list_picks (t Control) (cons_option (control_of l) []))
 latch_words_in t l = at l.timing l.init
   where
     none : (b : Bool) → [] ≡ list_picks b []
@@ -70,7 +69,7 @@ latch_words_in t l = at l.timing l.init
     without : (b : Bool) → word_if (t LatchInput) l.input ++ word_if (t LatchOutput) l.output ≡ word_if (t LatchInput) l.input ++ (word_if (t LatchOutput) l.output ++ list_picks b [])
     without b = ap (λ xs. word_if (t LatchInput) l.input ++ xs) (sym (append-nil (word_if (t LatchOutput) l.output)) ∙ ap (λ xs. word_if (t LatchOutput) l.output ++ xs) (none b))
 
-    at : (o : Option Timing) (i : Option ℕ) → IsName (elim o [ None ↦ None | Some u ↦ u.control ]) → latch_picks t ((l.input ∷ l.output ∷ timing_words o) ++ init_words i) ≡ word_if (t LatchInput) l.input ++ (word_if (t LatchOutput) l.output ++ list_picks (t Control) (cons_option (elim o [ None ↦ None | Some u ↦ u.control ]) []))
+    at : (o : Option Timing) (i : Option ℕ) → IsControlName (elim o [ None ↦ None | Some u ↦ u.control ]) → latch_picks t ((l.input ∷ l.output ∷ timing_words o) ++ init_words i) ≡ word_if (t LatchInput) l.input ++ (word_if (t LatchOutput) l.output ++ list_picks (t Control) (cons_option (elim o [ None ↦ None | Some u ↦ u.control ]) []))
     at None None n = without (t Control)
     at None (Some k) n = without (t Control)
     at (Some u) None n = ap (λ xs. word_if (t LatchInput) l.input ++ (word_if (t LatchOutput) l.output ++ xs)) (control_words t u.control n)
@@ -78,7 +77,7 @@ latch_words_in t l = at l.timing l.init
 
 abbrev pub AreNames : List LatchPart → Type 0
 AreNames [] = Unit {0}
-AreNames (l ∷ ls) = IsName (control_of l) × AreNames ls
+AreNames (l ∷ ls) = IsControlName (control_of l) × AreNames ls
 
 pub latch_names_in : (t : Role → Bool) (ls : List LatchPart) → AreNames ls → flat_map (latch_picks t) (map latch_words ls) ≡ flat_map (λ (l : LatchPart). word_if (t LatchInput) l.input ++ (word_if (t LatchOutput) l.output ++ list_picks (t Control) (cons_option (control_of l) []))) ls
 latch_names_in t [] n = refl

@@ -7,16 +7,17 @@ use Rattle.rm_base.specs.declared.numbers.Fault.{Fault}
 use Rattle.gate_net.specs.Net.{Node, Net, before_dead, drivers_of, flatten_option, node_at, trimmed, IsWellFormed, gate_count, wire_count}
 use Rattle.gate_net.specs.Values.{HasPin}
 use Rattle.gate_net.specs.Edits.{constant_node, fixed, node_redirected, redirected, redriven, with_drivers, without}
-use Rattle.wire_edit.proofs.Public.{MakesNone, gate_weight, removal_makes, removal_pins}
+use Rattle.wire_edit.proofs.Public.{removal_makes, removal_pins}
 use Rattle.wire_edit.specs.declared.steps.Step.{Step}
 use Rattle.wire_edit.specs.declared.steps.Step.TheVariants.{Fix}
 use Rattle.wire_edit.specs.Changes.{Change, append, remove, fix, readers, new_not, retire, changed}
 use Rattle.wire_edit.specs.Laws.{StepsKeepSources}
 use Rattle.wire_edit.specs.Steps.{Applies, stepped, change_of}
 use Rattle.wire_edit.specs.Order.{IsTidy}
-use Rattle.wire_edit.specs.Removals.{AllAreFree, FixesTakeOne, FreeFixesApply, HasFreePin, IsRemoval, RemovalsFreeNone, TidyReadsNone}
+use Rattle.wire_edit.specs.Removals.{AllAreFree, FixesTakeOne, FreeFixesApply, HasFreePin, IsRemoval, RemovalsFreeNone, TidyReadsNone, MakesNoPin}
 use Rattle.wire_edit.specs.Work.{free_pins, pins_made, WiresGrow}
 use Rattle.closing_pass.specs.Going.{IsNoLarger}
+use Rattle.wire_edit.specs.Tests.{gate_weight}
 
 -- what laws of steps say of removals
 pub record RemovalLaws : Type 0 where
@@ -79,7 +80,7 @@ with_gates net gate ds = lower_at net.nodes gate (redriven ds (node_at net gate)
     same None = omega arith
     same (Some n) = omega arith
 
-change_gates : (net : Net) (change : Change) → MakesNone change → gate_count (changed net change) ≤ gate_count net
+change_gates : (net : Net) (change : Change) → MakesNoPin change → gate_count (changed net change) ≤ gate_count net
 change_gates net (append gate driver) none = absurd none
 change_gates net (new_not driver) none = absurd none
 change_gates net (remove gate position) none = with_gates net gate (without (drivers_of net gate) position)

@@ -3,4 +3,3 @@
 -- Names among names.
 pub use Rattle.cover_decompose.proofs.Members.{among_in, in_among}
 -- Names in a table, by their places.
-pub use Rattle.cover_decompose.proofs.TableLemmas.{among-map}

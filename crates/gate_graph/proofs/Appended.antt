@@ -6,10 +6,9 @@ use Rattle.std.proofs.lemmas.Bool.Decides.{eqb_tells, nat_tests}
 use Rattle.std.proofs.lemmas.List.{map-append}
 use Rattle.gate_net.specs.declared.Kind.{Kind}
 use Rattle.gate_net.specs.declared.Kind.TheVariants.{Source, Not}
-use Rattle.gate_net.specs.Net.{drivers_of, IsAcyclic}
+use Rattle.gate_net.specs.Net.{drivers_of, IsAcyclic, IsLive}
 use Rattle.gate_net.specs.Edits.{with_pin}
 use Rattle.gate_net.specs.Paths.{Reaches}
-use Rattle.gate_net.specs.Net.{IsLive}
 use Rattle.gate_net.specs.Values.{IsJunction}
 use Rattle.pin_pool.proofs.Public.{changed-back, changed-other, changed-same, has-push, same-rings, without-absent, without-push}
 use Rattle.pin_pool.specs.Ring.{has}

@@ -9,7 +9,7 @@ use Rattle.std.proofs.lemmas.Bool.Decides.{nat_tests}
 use Rattle.std.proofs.lemmas.List.{get_or_past, length-map}
 use Rattle.gate_net.specs.declared.Kind.{Kind}
 use Rattle.gate_net.specs.Net.{Net, wire_count}
-use Rattle.pin_pool.proofs.Public.{has-append, has-within, len-one_less, length-listed, length-put_after, linked-less, linked-more, linked-over, linked-same, listed_from, no-pins-from, pins-at, pins-split}
+use Rattle.pin_pool.proofs.Public.{has-append, has-within, len-one_less, length-listed, length-put_after, linked-less, linked-more, linked-over, linked-same, no-pins-from, pins-at, pins-split}
 use Rattle.pin_pool.specs.Ring.{has}
 use Rattle.pin_pool.specs.Pins.{Pins, list_of}
 use Rattle.pin_pool.specs.Rings.{rings_of, AreRings, IsLinked}
@@ -21,7 +21,7 @@ use Rattle.gate_graph.specs.Wirings.{Wiring, wiring_of}
 use Rattle.gate_graph.specs.Circuit.{Circuit, net_of, gate_pins, home, pins_taken, IsGraph}
 use Rattle.gate_graph.specs.Holds.{held, held_by, pins_held, pins_made, HoldsOn}
 use Rattle.gate_graph.specs.Filled.{IsFilled}
-use Rattle.pin_pool.specs.Totals.{pins_from, linked_pins}
+use Rattle.pin_pool.specs.Totals.{pins_from, linked_pins, listed_pins}
 use Rattle.gate_graph.proofs.NetOf.{observed-net}
 use Rattle.gate_graph.proofs.Pinned.{dead-pins}
 use Rattle.gate_graph.proofs.Counted.{wires-are, wires-few, same-pins, live-numbers}
@@ -134,18 +134,18 @@ set-within s (x ∷ xs) h =
           omega (arith, rest')
     ]
 
-listed-in : (f : ℕ → List ℕ) (first n m q : ℕ) → first ≤ m → m < first + n → has q (f m) ≡ true → has q (listed_from f first n) ≡ true
+listed-in : (f : ℕ → List ℕ) (first n m q : ℕ) → first ≤ m → m < first + n → has q (f m) ≡ true → has q (listed_pins f first n) ≡ true
 listed-in f first zero m q le lt h = absurd (omega arith)
 listed-in f first (suc n) m q le lt h = elim (cases_eq first m) [
-  | inl is ↦ has-append (f first) (listed_from f (suc first) n) q ∙ or_left _ _ (ap (λ x. has q (f x)) is ∙ h)
-  | inr ne ↦ has-append (f first) (listed_from f (suc first) n) q ∙ or_right _ _ (listed-in f (suc first) n m q (omega arith) (omega arith) h)
+  | inl is ↦ has-append (f first) (listed_pins f (suc first) n) q ∙ or_left _ _ (ap (λ x. has q (f x)) is ∙ h)
+  | inr ne ↦ has-append (f first) (listed_pins f (suc first) n) q ∙ or_right _ _ (listed-in f (suc first) n m q (omega arith) (omega arith) h)
 ]
 
 -- where only linked pins are taken, they are as many
 pub taken-linked : (v : Pins) → AreRings (rings_of v) → ((q : ℕ) → finset.contains v.taken q ≡ true → IsLinked (rings_of v) q) → finset.len v.taken ≤ linked_pins v
 taken-linked v r h =
     let f : ℕ → List ℕ = λ m. list_of v.inputs m in
-    let few = set-within v.taken (listed_from f 0 (length v.inputs)) (λ q k. (
+    let few = set-within v.taken (listed_pins f 0 (length v.inputs)) (λ q k. (
     let at = h q k in
     listed-in f 0 (length v.inputs) at.0 q (omega arith) (let lt = has-within v.inputs at.0 q at.1 in omega (arith, lt)) at.1)) in
     omega (arith, few, length-listed f 0 (length v.inputs))

@@ -4,9 +4,8 @@ use Rattle.std.specs.Prelude.{slice_get, slice_set}
 use Rattle.std.proofs.lemmas.Bool.{cases_eq, ne_eqb}
 use Rattle.std.proofs.lemmas.Bool.Decides.{eqb_tells, nat_tests}
 use Rattle.gate_net.specs.declared.Kind.{Kind}
-use Rattle.gate_net.specs.Net.{Net, drivers_of, Reads, IsAcyclic}
+use Rattle.gate_net.specs.Net.{Net, drivers_of, Reads, IsAcyclic, IsLive}
 use Rattle.gate_net.specs.Edits.{with_drivers, with_pin}
-use Rattle.gate_net.specs.Net.{IsLive}
 use Rattle.gate_net.specs.Paths.{Reaches}
 use Rattle.pin_pool.proofs.Public.{back, has-there, same-rings, stands}
 use Rattle.pin_pool.specs.Ring.{has, IsApart}

@@ -6,8 +6,7 @@ use Rattle.std.proofs.lemmas.Bool.Decides.{nat_tests}
 use Rattle.std.proofs.lemmas.List.{take_at, drop_at}
 use Rattle.gate_net.proofs.Public.{moves_keep_acyclic, node_at-moved}
 use Rattle.gate_net.specs.declared.Kind.{Kind}
-use Rattle.gate_net.specs.Net.{Node, IsAcyclic}
-use Rattle.gate_net.specs.Net.{IsLive}
+use Rattle.gate_net.specs.Net.{Node, IsAcyclic, IsLive, trimmed, before_dead}
 use Rattle.gate_net.specs.Paths.{Reaches}
 use Rattle.gate_net.specs.Edits.{redirected, node_redirected, with_readers_moved}
 use Rattle.pin_pool.proofs.Public.{changed-other, changed-same, has-append, same-rings}
@@ -19,7 +18,6 @@ use Rattle.gate_graph.specs.declared.entries.Entry.TheVariants.{Moved}
 use Rattle.pin_pool.specs.Rings.{Rings, AreRings, rings_of, moved, moved_back, changed}
 use Rattle.gate_graph.specs.Wirings.{Wiring, IsShaped, IsWired, kind_at}
 use Rattle.gate_graph.specs.Entries.{CanTakeBack, LeadOn}
-use Rattle.gate_net.specs.Net.{trimmed, before_dead}
 use Rattle.gate_graph.specs.Circuit.{Circuit, wiring, net_of, node_in, node_with, gate_pins, home}
 use Rattle.gate_graph.proofs.NetOf.{home-here, net-ext, node_at-net, nodes-trimmed, observed-net}
 use Rattle.gate_graph.proofs.LeadOns.{lead-rings, live-in}

@@ -4,16 +4,16 @@
 pub use Rattle.gate_looks.proofs.Agendas.{clear_less, count-clear, count-set, count_within, none_marked, not_seen}
 pub use Rattle.gate_looks.proofs.Agendas.{read_is, seen_left, seen_stays}
 -- One look at a gate's pins tells all that follows there.
-pub use Rattle.gate_looks.proofs.Looks.{LooksTo, glance_all, glance_many, glance_not_all, glance_one, looks_more}
-pub use Rattle.gate_looks.proofs.Looks.{never_other, or_else, or_then, pin_at, pins_length, stuck_reads}
+pub use Rattle.gate_looks.proofs.Looks.{glance_all, glance_many, glance_not_all, glance_one}
+pub use Rattle.gate_looks.proofs.Looks.{never_other, pin_at, pins_length, stuck_reads}
 -- Searching on from a gate along its readers.
-pub use Rattle.gate_looks.proofs.Reaches.{MarksSome, marks_all, marks_new, reached_live, search_ends, search_first}
+pub use Rattle.gate_looks.proofs.Reaches.{marks_all, marks_new, reached_live, search_ends, search_first}
 pub use Rattle.gate_looks.proofs.Reaches.{search_less, search_more}
 -- Going over the gates that read a node, and the only one that does.
-pub use Rattle.gate_looks.proofs.Readers.{all_came, gate_in, next_below, next_reads}
+pub use Rattle.gate_looks.proofs.Readers.{all_came, next_below, next_reads}
 -- What the calls of a graph tell.
-pub use Rattle.gate_looks.proofs.Told.{beq_same, driver_below, drivers_below, each_of_one, each_of_two, gate_live}
-pub use Rattle.gate_looks.proofs.Told.{kind_is, kind_live, kind_told, live_below, live_from, live_is, reader_live}
+pub use Rattle.gate_looks.proofs.Told.{beq_same, drivers_below, gate_live}
+pub use Rattle.gate_looks.proofs.Told.{kind_is, kind_live, kind_told, live_below, live_from, reader_live}
 -- A node whose readers are none reaches nothing.
 pub use Rattle.gate_looks.proofs.Sites.{unreached}
 -- A walk along the chain of a gate.

@@ -1,5 +1,5 @@
 -- Searching on from a gate along its readers.
-use Rattle.std.proofs.Common.{Bool, List, Some, arith, false, inl, inr, length, refl, replicate, suc, true, ℕ, ◌<◌, ◌≡◌, ◌≤◌, ◌⊎◌}
+use Rattle.std.proofs.Common.{Bool, List, Some, arith, false, inl, inr, length, refl, replicate, suc, true, ℕ, ◌<◌, ◌≡◌, ◌≤◌}
 use Rattle.std.proofs.lemmas.Bool.Decides.{eqb_tells}
 use Rattle.std.proofs.lemmas.Option.{slice_get_within}
 use Rattle.std.specs.Prelude.{slice_get, slice_set}
@@ -9,17 +9,10 @@ use Rattle.gate_net.specs.Net.{IsLive, Net, Reads}
 use Rattle.gate_net.specs.Paths.{Reaches, on, pin}
 use Rattle.gate_looks.proofs.Agendas.{clear_less, count-set, seen_left, seen_stays}
 use Rattle.gate_looks.specs.Agendas.{seen_count}
-use Rattle.gate_looks.specs.Reaching.{MarksReached, MarksReaders, Searches, search_left}
+use Rattle.gate_looks.specs.Reaching.{MarksReached, MarksReaders, Searches, search_left, MarksSome}
 use Rattle.gate_looks.proofs.Told.{reader_live}
 
 -- ONE READER
--- some readers were marked, and the new ones were listed
-pub record MarksSome (net : Net) (x : ℕ) (reached reached' listed listed' : List Bool) : Type 0 where
-  pub kept : (z : ℕ) → IsSeen reached z → IsSeen reached' z
-  pub kept_listed : (z : ℕ) → IsSeen listed z → IsSeen listed' z
-  pub new : (z : ℕ) → IsSeen reached' z → IsSeen reached z ⊎ (((p : ℕ) × Reads net z p x) × IsSeen listed' z)
-  pub new_listed : (z : ℕ) → IsSeen listed' z → IsSeen listed z ⊎ IsSeen reached' z
-  pub less : search_left reached' listed' ≤ search_left reached listed
 
 pub marks_none : (net : Net) (x : ℕ) (reached listed : List Bool) → MarksSome net x reached reached listed listed
 marks_none net x reached listed = record {

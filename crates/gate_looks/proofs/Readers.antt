@@ -13,7 +13,7 @@ use Rattle.rm_base.specs.declared.numbers.NodeId.{NodeId}
 use Rattle.rm_base.proofs.Public.{map_found}
 
 -- the gate of a place
-abbrev pub gate_in : ℕ × ℕ → ℕ
+abbrev gate_in : ℕ × ℕ → ℕ
 gate_in place = place.0
 
 -- IN A LOOP

@@ -28,6 +28,14 @@ pub record MarksReaders (net : Net) (x : ℕ) (reached reached' listed listed' :
   pub new_listed : (z : ℕ) → IsSeen listed' z → IsSeen listed z ⊎ IsSeen reached' z
   pub less : search_left reached' listed' ≤ search_left reached listed
 
+-- some readers were marked so far, and the new ones were listed
+pub record MarksSome (net : Net) (x : ℕ) (reached reached' listed listed' : List Bool) : Type 0 where
+  pub kept : (z : ℕ) → IsSeen reached z → IsSeen reached' z
+  pub kept_listed : (z : ℕ) → IsSeen listed z → IsSeen listed' z
+  pub new : (z : ℕ) → IsSeen reached' z → IsSeen reached z ⊎ (((p : ℕ) × Reads net z p x) × IsSeen listed' z)
+  pub new_listed : (z : ℕ) → IsSeen listed' z → IsSeen listed z ⊎ IsSeen reached' z
+  pub less : search_left reached' listed' ≤ search_left reached listed
+
 -- a search from the gate that has come this far: a marked node is listed, or its readers are marked
 pub record Searches (net : Net) (gate : ℕ) (reached listed : List Bool) : Type 0 where
   pub sound : (y : ℕ) → IsSeen reached y → Reaches net gate y

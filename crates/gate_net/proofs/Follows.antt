@@ -11,13 +11,7 @@ use Rattle.gate_net.specs.Values.{gate_value, junction, not_first, same_bool}
 use Rattle.gate_net.specs.declared.Kind.{Kind}
 use Rattle.gate_net.specs.declared.Kind.TheVariants.{And, Not, One, Or, Source, Zero}
 use Rattle.rm_base.proofs.Public.{bool_cases, never_opposite, some_same}
-
--- each known value is right
-abbrev pub Approximates : List (Option Bool) → List Bool → Type 0
-Approximates [] [] = Unit {0}
-Approximates [] (b ∷ bs) = ⊥
-Approximates (o ∷ os) [] = ⊥
-Approximates (o ∷ os) (b ∷ bs) = ((c : Bool) → o ≡ Some c → b ≡ c) × Approximates os bs
+use Rattle.gate_net.specs.Stays.{Approximates}
 
 pub approximates_map : (known : ℕ → Option Bool) (v : ℕ → Bool) (ds : List ℕ) → ((p x : ℕ) → slice_get ds p ≡ Some x → (c : Bool) → known x ≡ Some c → v x ≡ c) → Approximates (map known ds) (map v ds)
 approximates_map known v [] h = tt

@@ -6,7 +6,7 @@ use Rattle.std.proofs.Math.Bool.{not-not}
 use Rattle.std.proofs.lemmas.Bool.{false_from_ne_true}
 use Rattle.gate_net.proofs.AlongPins.{value_at}
 use Rattle.gate_net.proofs.Junctions.{first_is}
-use Rattle.gate_net.proofs.Ordered.{acyclic_lifted, after_right, after_there, after_upward, is_after}
+use Rattle.gate_net.proofs.Ordered.{acyclic_lifted, after_right, after_there, after_upward}
 use Rattle.gate_net.proofs.Valuations.{values_unique}
 use Rattle.gate_net.specs.Edits.{node_redirected, redirected, with_readers_moved}
 use Rattle.gate_net.specs.Laws.{MovesKeep, MovesKeepAcyclic, TwiceKeeps}
@@ -14,6 +14,7 @@ use Rattle.gate_net.specs.Net.{Net, Node, Reads, drivers_in, drivers_of, flatten
 use Rattle.gate_net.specs.Values.{AreGoodValues, gate_value, node_value}
 use Rattle.gate_net.specs.declared.Kind.TheVariants.{Not}
 use Rattle.rm_base.proofs.Public.{map_at, map_pointwise}
+use Rattle.gate_net.specs.Paths.{is_after}
 
 pub flatten-map : (from to : ℕ) (os : List (Option Node)) (x : ℕ) → flatten_option (slice_get (map (node_redirected from to) os) x) ≡ node_redirected from to (flatten_option (slice_get os x))
 flatten-map from to [] x = refl

@@ -9,7 +9,7 @@ use Rattle.gate_net.proofs.Edited.{node_at-other, node_at-there}
 use Rattle.gate_net.specs.Edits.{with_pin}
 use Rattle.gate_net.specs.Laws.{PinsKeepAcyclic}
 use Rattle.gate_net.specs.Net.{IsAcyclic, IsRanked, Net, Reads, drivers_of}
-use Rattle.gate_net.specs.Paths.{Reaches, on, pin}
+use Rattle.gate_net.specs.Paths.{Reaches, on, pin, is_after}
 use Rattle.rm_base.proofs.Public.{any_at, at_any, last_cases}
 
 -- a set of nodes that holds, with each node, all its readers
@@ -42,11 +42,6 @@ module _ (net after : Net) (acyclic : IsAcyclic net) (test : ℕ → Bool) (upwa
   pub acyclic_lifted : IsAcyclic after
   acyclic_lifted = (lifted, λ y p x reads. elim (leads y p x reads) [ inl old ↦ old_edge y old.0 x old.1 | inr new ↦ new_edge y x new.0 new.1 ])
 
--- whether a node is the gate or reached from it, looking back n pins
-abbrev pub is_after : ℕ → Net → ℕ → ℕ → Bool
-is_after zero net gate y = nat_eq y gate
-is_after (suc n) net gate y = nat_eq y gate || list_any (is_after n net gate) (drivers_of net y)
-
 pub after_right : (net : Net) (gate n y : ℕ) → is_after n net gate y ≡ true → (y ≡ gate) ⊎ Reaches net gate y
 after_right net gate zero y e = inl (eqb-true y gate e)
 after_right net gate (suc n) y e = elim (or_cases (nat_eq y gate) (list_any (is_after n net gate) (drivers_of net y)) e) [
@@ -74,7 +69,7 @@ after_more net rank ranked gate n (suc m) y h e = elim (or_cases (nat_eq y gate)
         let below : rank found.1.0 < rank y = ranked y found.0 found.1.0 found.1.1.0 in
         rw (at_any (is_after n net gate) (drivers_of net y) found.0 found.1.0 found.1.1.0 (ih found.1.0 n (omega arith) found.1.1.1)) (or-true (nat_eq y gate))
 
-pub after_upward : (net : Net) (acyclic : IsAcyclic net) (gate : ℕ) → IsUpward net (λ y. is_after (acyclic.0 y) net gate y)
+pub after_upward : (net : Net) (acyclic : IsAcyclic net) (gate y p x : ℕ) → Reads net y p x → is_after (acyclic.0 x) net gate x ≡ true → is_after (acyclic.0 y) net gate y ≡ true
 after_upward net acyclic gate y p x reads e =
     let step : is_after (suc (acyclic.0 x)) net gate y ≡ true = rw (at_any (is_after (acyclic.0 x) net gate) (drivers_of net y) p x reads e) (or-true (nat_eq y gate)) in
     after_more net acyclic.0 acyclic.1 gate (acyclic.0 y) (suc (acyclic.0 x)) y (omega arith) step

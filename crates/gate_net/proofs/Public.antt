@@ -14,23 +14,23 @@ pub use Rattle.gate_net.proofs.Edited.{flatten_some, live_reader, node_at-other,
 -- A pin that reads a constant instead keeps the values and the order.
 pub use Rattle.gate_net.proofs.Fixed.{fixes_keep, fixes_keep_acyclic}
 -- What follows forward and backward at a gate is right.
-pub use Rattle.gate_net.proofs.Follows.{Approximates, approximates_map, approximates_set, is_known_true}
+pub use Rattle.gate_net.proofs.Follows.{approximates_map, approximates_set, is_known_true}
 pub use Rattle.gate_net.proofs.Follows.{value_back_right, value_forward_right}
 -- The values of gates.
 pub use Rattle.gate_net.proofs.Junctions.{controlled, first_is, gate_more, junction_member}
 -- Which nodes are live.
 pub use Rattle.gate_net.proofs.LiveNodes.{node_live}
 -- Readers that move keep the values and the order.
-pub use Rattle.gate_net.proofs.Moved.{drivers_redirected, flatten-map, moves_keep, moves_keep_acyclic, node_at-moved, redirect_cases}
+pub use Rattle.gate_net.proofs.Moved.{drivers_redirected, moves_keep, moves_keep_acyclic, node_at-moved, redirect_cases}
 -- New ranks after an edit.
-pub use Rattle.gate_net.proofs.Ordered.{IsUpward, LeadsIn, after_more, after_right, after_there, after_upward, is_after, pins_keep_acyclic}
+pub use Rattle.gate_net.proofs.Ordered.{after_right, after_there, after_upward, pins_keep_acyclic}
 -- Forward reading is right, and there is only one.
 pub use Rattle.gate_net.proofs.Readings.{both_known, list_all_agree, readings_agree, readings_hold}
 -- How far a fault changes values.
 pub use Rattle.gate_net.proofs.Spread.{chain_reader, chain_start, same_elsewhere, same_idle, same_observed}
 pub use Rattle.gate_net.proofs.Spread.{same_outside}
 -- What follows at a gate still follows where more is known.
-pub use Rattle.gate_net.proofs.Stays.{AllStay, Stays, all_but_stays, all_not_any, all_stay, back_stays}
+pub use Rattle.gate_net.proofs.Stays.{all_but_stays, all_not_any, all_stay, back_stays}
 pub use Rattle.gate_net.proofs.Stays.{forward_stays, is_known_some, is_known_stays, kind_stays, reads_stay, stay_map}
 -- There is one valuation, and only one.
 pub use Rattle.gate_net.proofs.Valuations.{values_unique}

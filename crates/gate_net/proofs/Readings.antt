@@ -7,7 +7,7 @@ use Rattle.std.specs.Prelude.{if◌then◌else◌, nat_eq, slice_get}
 use Rattle.std.proofs.lemmas.Bool.{and_parts, or_cases}
 use Rattle.gate_net.proofs.AlongPins.{along_pins, reads_agree}
 use Rattle.gate_net.proofs.Bools.{same_bool_true}
-use Rattle.gate_net.proofs.Follows.{Approximates, approximates_map, approximates_set, is_known_true, value_forward_right}
+use Rattle.gate_net.proofs.Follows.{approximates_map, approximates_set, is_known_true, value_forward_right}
 use Rattle.gate_net.proofs.Spread.{same_elsewhere, same_idle}
 use Rattle.gate_net.specs.Forward.{Completes, IsForwardReading, IsTrueAt, Marking, ReadingsAgree, ReadingsHold, both_known_same, equal_forward, is_idle, is_known, kind_forward, node_forward}
 use Rattle.gate_net.specs.Net.{IsAcyclic, Net, Node, Reads, drivers_of, node_at}
@@ -16,6 +16,7 @@ use Rattle.gate_net.specs.declared.Kind.{Kind}
 use Rattle.gate_net.specs.declared.Kind.TheVariants.{And, Not, One, Or, Source, Zero}
 use Rattle.rm_base.specs.declared.numbers.Fault.{Fault}
 use Rattle.rm_base.proofs.Public.{map_agree, some_same}
+use Rattle.gate_net.specs.Stays.{Approximates}
 
 pub list_all_at : (test : ℕ → Bool) (ds : List ℕ) → list_all test ds ≡ true → (p x : ℕ) → slice_get ds p ≡ Some x → test x ≡ true
 list_all_at test [] e p x there = cc

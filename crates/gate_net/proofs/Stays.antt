@@ -12,18 +12,9 @@ use Rattle.gate_net.specs.Net.{Net, drivers_of}
 use Rattle.gate_net.specs.Values.{faulty_reads}
 use Rattle.gate_net.specs.declared.Kind.{Kind}
 use Rattle.gate_net.specs.declared.Kind.TheVariants.{And, Not, One, Or, Source, Zero}
+use Rattle.gate_net.specs.Stays.{Stays, AllStay}
 use Rattle.rm_base.specs.declared.numbers.Fault.{Fault}
 use Rattle.rm_base.proofs.Public.{both_and}
-
--- each known value stays
-abbrev pub Stays : Option Bool → Option Bool → Type 0
-Stays o u = (c : Bool) → o ≡ Some c → u ≡ Some c
-
-abbrev pub AllStay : List (Option Bool) → List (Option Bool) → Type 0
-AllStay [] [] = Unit {0}
-AllStay [] (u ∷ us) = ⊥
-AllStay (o ∷ os) [] = ⊥
-AllStay (o ∷ os) (u ∷ us) = Stays o u × AllStay os us
 
 pub stay_map : (k k' : ℕ → Option Bool) (ds : List ℕ) → ((x : ℕ) → Stays (k x) (k' x)) → AllStay (map k ds) (map k' ds)
 stay_map k k' [] h = tt

@@ -6,3 +6,4 @@ pub mod Forward
 pub mod Edits
 pub mod Laws
 pub mod Faults
+pub mod Stays

@@ -9,7 +9,7 @@ use Rattle.gate_graph.specs.Search.{IsSeen}
 use Rattle.gate_net.specs.Net.{drivers_of}
 use Rattle.implications.proofs.CountRises.{counting-append}
 use Rattle.refutation.specs.Agendas.{seen_count}
-use Rattle.refutation.proofs.Public.{count-clear, gate_in, seen_left, seen_stays}
+use Rattle.refutation.proofs.Public.{count-clear, seen_left, seen_stays}
 use Rattle.implications.specs.Tallies.{counting}
 use Rattle.rm_base.specs.declared.numbers.NodeId.{NodeId}
 use Rattle.rm_base.proofs.Public.{map_at, map_found, some_same}
@@ -31,7 +31,7 @@ among_rest place other places ne (suc k, e) = (k, e)
 -- a list that has the gate's marked places, each once, and no others of that gate
 places_counted : (y : ℕ) (marks : List Bool) (places : List (ℕ × ℕ)) → ((k p : ℕ) → slice_get places k ≡ Some (y, p) → IsSeen marks p)
     → ((p : ℕ) → IsSeen marks p → (k : ℕ) × (slice_get places k ≡ Some (y, p)))
-    → ((k l p : ℕ) → slice_get places k ≡ Some (y, p) → slice_get places l ≡ Some (y, p) → k ≡ l) → counting (nat_eq y) (map gate_in places) ≡ seen_count marks
+    → ((k l p : ℕ) → slice_get places k ≡ Some (y, p) → slice_get places l ≡ Some (y, p) → k ≡ l) → counting (nat_eq y) (map (λ (place : ℕ × ℕ). place.0) places) ≡ seen_count marks
 places_counted y marks [] sound all once = sym (none_counted marks (λ p seen. nowhere p (all p seen)))
   where
     nowhere : (p : ℕ) → (k : ℕ) × (slice_get {X = ℕ × ℕ} [] k ≡ Some (y, p)) → ⊥
@@ -40,7 +40,7 @@ places_counted y marks (place ∷ places) sound all once = elim (eqb_tells y pla
   | inl e ↦
       let first : slice_get (place ∷ places) zero ≡ Some (y, place.1) = rw e.1 refl in
       let seen : IsSeen marks place.1 = sound zero place.1 first in
-      let rest : counting (nat_eq y) (map gate_in places) ≡ seen_count (slice_set marks place.1 false) = places_counted y (slice_set marks place.1 false) places
+      let rest : counting (nat_eq y) (map (λ (place : ℕ × ℕ). place.0) places) ≡ seen_count (slice_set marks place.1 false) = places_counted y (slice_set marks place.1 false) places
       (λ k p there. seen_stays marks place.1 p (sound (suc k) p there) (λ is.
       let same : suc k ≡ zero = once (suc k) zero p there (rw is first) in absurd (omega arith)))
       (λ p left. let before : IsSeen marks p × (p ≢ place.1) = seen_left marks place.1 p left in
@@ -48,7 +48,7 @@ places_counted y marks (place ∷ places) sound all once = elim (eqb_tells y pla
       (λ k l p one other. let same : suc k ≡ suc l = once (suc k) (suc l) p one other in omega arith) in
       rw e.0 (ap suc rest ∙ count-clear marks place.1 seen)
   | inr e ↦
-      let rest : counting (nat_eq y) (map gate_in places) ≡ seen_count marks = places_counted y marks places
+      let rest : counting (nat_eq y) (map (λ (place : ℕ × ℕ). place.0) places) ≡ seen_count marks = places_counted y marks places
       (λ k p there. sound (suc k) p there)
       (λ p seen. among_rest place (y, p) places (λ is. e.1 (sym (ap (λ (q : ℕ × ℕ). q.0) is))) (all p seen))
       (λ k l p one other. let same : suc k ≡ suc l = once (suc k) (suc l) p one other in omega arith) in
@@ -56,7 +56,7 @@ places_counted y marks (place ∷ places) sound all once = elim (eqb_tells y pla
 ]
 
 -- a gate stands among the readers of a node once for each of its pins that reads the node
-pub readers_counted : (v : Circuit) → ListReaders v → (n y : ℕ) → counting (nat_eq y) (map gate_in (fanouts_of v n)) ≡ counting (nat_eq n) (drivers_of (net_of v) y)
+pub readers_counted : (v : Circuit) → ListReaders v → (n y : ℕ) → counting (nat_eq y) (map (λ (place : ℕ × ℕ). place.0) (fanouts_of v n)) ≡ counting (nat_eq n) (drivers_of (net_of v) y)
 readers_counted v listed n y = places_counted y (map (nat_eq n) ds) (fanouts_of v n)
     (λ k p there. map_at (nat_eq n) ds p n (listed.reads n k (y, p) there) ∙ ap (λ (b : Bool). Some b) (eq-eqb n n refl))
     (λ p seen. let at : (x : ℕ) × ((slice_get ds p ≡ Some x) × (nat_eq n x ≡ true)) = map_found (nat_eq n) ds p true seen in

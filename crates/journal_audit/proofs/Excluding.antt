@@ -8,14 +8,14 @@ use Rattle.gate_net.specs.Net.{Net}
 use Rattle.blif_format.specs.Text.{text_of}
 use Rattle.cover_decompose.specs.Decomposition.{net_of_model}
 use Rattle.graph_to_model.specs.NetModel.{model_of_net}
-use Rattle.journal_text.proofs.Public.{kept, line_one, lines_before, record_is}
+use Rattle.journal_text.proofs.Public.{line_one, lines_before, record_is}
 use Rattle.journal_text.specs.declared.record.Record.{Record}
 use Rattle.journal_text.specs.declared.record.Entry.{Entry}
 use Rattle.journal_text.specs.declared.record.Entry.TheVariants as entry
 use Rattle.journal_text.specs.Cutting.{JournalsAreOne}
 use Rattle.journal_text.specs.Faults.{IsJournal, opening, whole_lines}
 use Rattle.journal_text.specs.Laws.{LinesRead}
-use Rattle.journal_text.specs.Text.{AreEntries, entries_text, entry_line, journal_entries}
+use Rattle.journal_text.specs.Text.{AreEntries, entries_text, entry_line, journal_entries, record_entries}
 use Rattle.journal_check.specs.Laws.{RecordsReplay, ReplaysAccept}
 use Rattle.journal_check.specs.Replaying.{Replays, editing}
 use Rattle.journal_check.specs.declared.refusal.JournalRefusal.{JournalRefusal}
@@ -55,36 +55,36 @@ journal_begins laws text es b rs begins j =
 header_is : (b c : ℕ) → entry.Header b ≡ entry.Header c → b ≡ c
 header_is b c e = cc
 
-records_begin : (qs xs : List Record) (tail : List Entry) → kept qs ++ entry.End ∷ [] ≡ kept xs ++ tail → (behind : List Record) × (qs ≡ xs ++ behind)
+records_begin : (qs xs : List Record) (tail : List Entry) → record_entries qs ++ entry.End ∷ [] ≡ record_entries xs ++ tail → (behind : List Record) × (qs ≡ xs ++ behind)
 records_begin qs [] tail e = (qs, refl)
 records_begin [] (x ∷ xs) tail e = cc
 records_begin (q ∷ qs) (x ∷ xs) tail e =
-    let first : q ≡ x = record_is q x (entry_head (entry.Record q) (entry.Record x) (kept qs ++ entry.End ∷ []) (kept xs ++ tail) e) in
-    let rest = records_begin qs xs tail (entry_tail (entry.Record q) (entry.Record x) (kept qs ++ entry.End ∷ []) (kept xs ++ tail) e) in
+    let first : q ≡ x = record_is q x (entry_head (entry.Record q) (entry.Record x) (record_entries qs ++ entry.End ∷ []) (record_entries xs ++ tail) e) in
+    let rest = records_begin qs xs tail (entry_tail (entry.Record q) (entry.Record x) (record_entries qs ++ entry.End ∷ []) (record_entries xs ++ tail) e) in
     (rest.0, ap (λ (r : Record). r ∷ qs) first ∙ ap (λ (rs : List Record). x ∷ rs) rest.1)
 
-records_end : (qs xs : List Record) (tail : List Entry) → kept qs ++ entry.End ∷ [] ≡ (kept xs ++ entry.End ∷ []) ++ tail → qs ≡ xs
+records_end : (qs xs : List Record) (tail : List Entry) → record_entries qs ++ entry.End ∷ [] ≡ (record_entries xs ++ entry.End ∷ []) ++ tail → qs ≡ xs
 records_end [] [] tail e = refl
 records_end [] (x ∷ xs) tail e = cc
 records_end (q ∷ qs) [] tail e = cc
 records_end (q ∷ qs) (x ∷ xs) tail e =
-    let first : q ≡ x = record_is q x (entry_head (entry.Record q) (entry.Record x) (kept qs ++ entry.End ∷ []) ((kept xs ++ entry.End ∷ []) ++ tail) e) in
-    ap (λ (r : Record). r ∷ qs) first ∙ ap (λ (rs : List Record). x ∷ rs) (records_end qs xs tail (entry_tail (entry.Record q) (entry.Record x) (kept qs ++ entry.End ∷ []) ((kept xs ++ entry.End ∷ []) ++ tail) e))
+    let first : q ≡ x = record_is q x (entry_head (entry.Record q) (entry.Record x) (record_entries qs ++ entry.End ∷ []) ((record_entries xs ++ entry.End ∷ []) ++ tail) e) in
+    ap (λ (r : Record). r ∷ qs) first ∙ ap (λ (rs : List Record). x ∷ rs) (records_end qs xs tail (entry_tail (entry.Record q) (entry.Record x) (record_entries qs ++ entry.End ∷ []) ((record_entries xs ++ entry.End ∷ []) ++ tail) e))
 
 -- WHAT IS REFUSED ISN'T ACCEPTED
 refused_never : LinesRead → RecordsReplay → ReplaysAccept → (m : Model) (text : List ℕ) (r : JournalRefusal) (last : Net) (count : ℕ) → IsRefusedText m text r → IsAcceptedText m text last count → ⊥
 refused_never laws law accept m text r last count (inl x) a =
     let begins = journal_begins laws text (opening x.budget (x.records ++ x.given ∷ [])) a.budget a.records x.begins a.journal in
-    let budget : a.budget ≡ x.budget = header_is a.budget x.budget (entry_head (entry.Header a.budget) (entry.Header x.budget) (kept a.records ++ entry.End ∷ []) (kept (x.records ++ x.given ∷ []) ++ begins.0) begins.1) in
-    let records = records_begin a.records (x.records ++ x.given ∷ []) begins.0 (entry_tail (entry.Header a.budget) (entry.Header x.budget) (kept a.records ++ entry.End ∷ []) (kept (x.records ++ x.given ∷ []) ++ begins.0) begins.1) in
+    let budget : a.budget ≡ x.budget = header_is a.budget x.budget (entry_head (entry.Header a.budget) (entry.Header x.budget) (record_entries a.records ++ entry.End ∷ []) (record_entries (x.records ++ x.given ∷ []) ++ begins.0) begins.1) in
+    let records = records_begin a.records (x.records ++ x.given ∷ []) begins.0 (entry_tail (entry.Header a.budget) (entry.Header x.budget) (record_entries a.records ++ entry.End ∷ []) (record_entries (x.records ++ x.given ∷ []) ++ begins.0) begins.1) in
     let whole : a.records ≡ x.records ++ x.given ∷ records.0 = records.1 ∙ append_assoc x.records (x.given ∷ []) records.0 in
     let replays : Replays a.budget (editing (net_of_model m)) a.records last = (accept (net_of_model m) last a.budget a.records).1 a.accepted in
     law.never x.budget (editing (net_of_model m)) x.records records.0 last x.given x.position r.why x.leads x.refuses
     (subst (λ (rs : List Record). Replays x.budget (editing (net_of_model m)) rs last) whole (subst (λ (k : ℕ). Replays k (editing (net_of_model m)) a.records last) budget replays))
 refused_never laws law accept m text r last count (inr x) a =
     let begins = journal_begins laws text (journal_entries x.budget x.records) a.budget a.records x.begins a.journal in
-    let budget : a.budget ≡ x.budget = header_is a.budget x.budget (entry_head (entry.Header a.budget) (entry.Header x.budget) (kept a.records ++ entry.End ∷ []) ((kept x.records ++ entry.End ∷ []) ++ begins.0) begins.1) in
-    let records : a.records ≡ x.records = records_end a.records x.records begins.0 (entry_tail (entry.Header a.budget) (entry.Header x.budget) (kept a.records ++ entry.End ∷ []) ((kept x.records ++ entry.End ∷ []) ++ begins.0) begins.1) in
+    let budget : a.budget ≡ x.budget = header_is a.budget x.budget (entry_head (entry.Header a.budget) (entry.Header x.budget) (record_entries a.records ++ entry.End ∷ []) ((record_entries x.records ++ entry.End ∷ []) ++ begins.0) begins.1) in
+    let records : a.records ≡ x.records = records_end a.records x.records begins.0 (entry_tail (entry.Header a.budget) (entry.Header x.budget) (record_entries a.records ++ entry.End ∷ []) ((record_entries x.records ++ entry.End ∷ []) ++ begins.0) begins.1) in
     let replays : Replays a.budget (editing (net_of_model m)) a.records last = (accept (net_of_model m) last a.budget a.records).1 a.accepted in
     law.never_end x.budget (editing (net_of_model m)) x.records last x.position r.why x.leads x.refuses
     (subst (λ (rs : List Record). Replays x.budget (editing (net_of_model m)) rs last) records (subst (λ (k : ℕ). Replays k (editing (net_of_model m)) a.records last) budget replays))

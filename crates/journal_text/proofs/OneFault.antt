@@ -9,17 +9,17 @@ use Rattle.journal_text.specs.declared.faults.JournalFault.{JournalFault}
 use Rattle.journal_text.specs.declared.faults.JournalFault.TheVariants as fault
 use Rattle.journal_text.specs.Pieces.{behind, joined, pieces}
 use Rattle.journal_text.specs.Reading.{entry_of}
-use Rattle.journal_text.specs.Text.{IsEntry, AreEntries, entry_line, entries_text, journal_entries}
+use Rattle.journal_text.specs.Text.{IsEntry, AreEntries, entry_line, entries_text, journal_entries, record_entries}
 use Rattle.journal_text.specs.Faults.{IsFault, IsJournal, IsBadRecord, HasMore, IsNoHeader, IsNoRecord, Opens, opening, but_last, last_of, whole_lines, rest_of}
 use Rattle.journal_text.specs.Laws.{LinesRead}
 use Rattle.journal_text.specs.Cutting.{FaultsAreOne, JournalsAreOne}
-use Rattle.journal_text.proofs.OneLaws.{head_is, kept, line_one, tail_is}
+use Rattle.journal_text.proofs.OneLaws.{head_is, line_one, tail_is}
 use Rattle.journal_text.proofs.PieceLaws.{pieces_join, pieces_some}
 use Rattle.rm_base.proofs.Public.{all_append, some_is}
 use Rattle.rm_base.specs.Words.{Word}
 
 abbrev lines_of : List Record → List Word
-lines_of rs = map entry_line (kept rs)
+lines_of rs = map entry_line (record_entries rs)
 
 -- the line isn't that of a record
 abbrev LacksRecord : Word → Type 0
@@ -29,7 +29,7 @@ end_lacks : LinesRead → LacksRecord (entry_line entry.End)
 end_lacks laws r v e = let same : entry.End ≡ entry.Record r = line_one laws entry.End (entry.Record r) (record { writable = tt; fits = tt }) v e in cc
 
 -- records that are followed by such a line are followed by it in one place alone
-parted : (qs rs : List Record) (l m : Word) (a c : List Word) → AreEntries (kept qs) → AreEntries (kept rs) → LacksRecord l → LacksRecord m → lines_of qs ++ l ∷ a ≡ lines_of rs ++ m ∷ c → (length (lines_of qs) ≡ length (lines_of rs)) × (l ≡ m)
+parted : (qs rs : List Record) (l m : Word) (a c : List Word) → AreEntries (record_entries qs) → AreEntries (record_entries rs) → LacksRecord l → LacksRecord m → lines_of qs ++ l ∷ a ≡ lines_of rs ++ m ∷ c → (length (lines_of qs) ≡ length (lines_of rs)) × (l ≡ m)
 parted [] [] l m a c v w n k e = (refl, head_is l m a c e)
 parted [] (r ∷ rs) l m a c v w n k e = absurd (n r w.0 (head_is l (entry_line (entry.Record r)) a (lines_of rs ++ m ∷ c) e))
 parted (q ∷ qs) [] l m a c v w n k e = absurd (k q v.0 (sym (head_is (entry_line (entry.Record q)) m (lines_of qs ++ l ∷ a) c e)))
@@ -38,7 +38,7 @@ parted (q ∷ qs) (r ∷ rs) l m a c v w n k e =
     (ap suc rest.0, rest.1)
 
 -- records alone have no such line
-unparted : (qs rs : List Record) (l : Word) (a : List Word) → AreEntries (kept rs) → LacksRecord l → lines_of qs ++ l ∷ a ≡ lines_of rs → ⊥
+unparted : (qs rs : List Record) (l : Word) (a : List Word) → AreEntries (record_entries rs) → LacksRecord l → lines_of qs ++ l ∷ a ≡ lines_of rs → ⊥
 unparted [] [] l a w n e = cc
 unparted [] (r ∷ rs) l a w n e = n r w.0 (head_is l (entry_line (entry.Record r)) a (lines_of rs) e)
 unparted (q ∷ qs) [] l a w n e = cc

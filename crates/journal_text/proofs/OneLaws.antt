@@ -7,7 +7,7 @@ use Rattle.journal_text.specs.declared.record.Entry.TheVariants as entry
 use Rattle.journal_text.specs.declared.faults.JournalFault.{JournalFault}
 use Rattle.journal_text.specs.declared.faults.JournalFault.TheVariants as fault
 use Rattle.journal_text.specs.Reading.{entry_of}
-use Rattle.journal_text.specs.Text.{IsEntry, AreEntries, entry_line, entries_text, journal_entries}
+use Rattle.journal_text.specs.Text.{IsEntry, AreEntries, entry_line, entries_text, journal_entries, record_entries}
 use Rattle.journal_text.specs.Faults.{IsFault, IsJournal, IsBadHeader, HasMore, IsNoRecord, Opens, whole_lines, rest_of}
 use Rattle.journal_text.specs.Laws.{LinesRead}
 use Rattle.journal_text.proofs.FaultLaws.{lines_before, rest_before}
@@ -41,19 +41,16 @@ lines_of laws text b rs j =
 rest_is : LinesRead → (text : List ℕ) (b : ℕ) (rs : List Record) → IsJournal text b rs → rest_of text ≡ []
 rest_is laws text b rs j = ap rest_of (j.is ∙ sym (append-nil (entries_text (journal_entries b rs)))) ∙ rest_before laws (journal_entries b rs) [] j.valid
 
-abbrev pub kept : List Record → List Entry
-kept rs = map (λ (r : Record). entry.Record r) rs
-
 pub record_is : (r q : Record) → entry.Record r ≡ entry.Record q → r ≡ q
 record_is r q e = cc
 
-records_one : (rs qs : List Record) → kept rs ++ entry.End ∷ [] ≡ kept qs ++ entry.End ∷ [] → rs ≡ qs
+records_one : (rs qs : List Record) → record_entries rs ++ entry.End ∷ [] ≡ record_entries qs ++ entry.End ∷ [] → rs ≡ qs
 records_one [] [] e = refl
 records_one [] (q ∷ qs) e = cc
 records_one (r ∷ rs) [] e = cc
 records_one (r ∷ rs) (q ∷ qs) e =
-    let first : r ≡ q = record_is r q (head_is (entry.Record r) (entry.Record q) (kept rs ++ entry.End ∷ []) (kept qs ++ entry.End ∷ []) e) in
-    let rest = records_one rs qs (tail_is (entry.Record r) (entry.Record q) (kept rs ++ entry.End ∷ []) (kept qs ++ entry.End ∷ []) e) in
+    let first : r ≡ q = record_is r q (head_is (entry.Record r) (entry.Record q) (record_entries rs ++ entry.End ∷ []) (record_entries qs ++ entry.End ∷ []) e) in
+    let rest = records_one rs qs (tail_is (entry.Record r) (entry.Record q) (record_entries rs ++ entry.End ∷ []) (record_entries qs ++ entry.End ∷ []) e) in
     ap (λ (x : Record). x ∷ rs) first ∙ ap (λ (xs : List Record). q ∷ xs) rest
 
 budget_is : (b c : ℕ) → entry.Header b ≡ entry.Header c → b ≡ c
@@ -62,56 +59,56 @@ budget_is b c e = cc
 pub journal_one : LinesRead → (text : List ℕ) (b c : ℕ) (rs qs : List Record) → IsJournal text b rs → IsJournal text c qs → (b ≡ c) × (rs ≡ qs)
 journal_one laws text b c rs qs j k =
     let same = lines_one laws (journal_entries b rs) (journal_entries c qs) j.valid k.valid (sym (lines_of laws text b rs j) ∙ lines_of laws text c qs k) in (
-      budget_is b c (head_is (entry.Header b) (entry.Header c) (kept rs ++ entry.End ∷ []) (kept qs ++ entry.End ∷ []) same),
-      records_one rs qs (tail_is (entry.Header b) (entry.Header c) (kept rs ++ entry.End ∷ []) (kept qs ++ entry.End ∷ []) same),
+      budget_is b c (head_is (entry.Header b) (entry.Header c) (record_entries rs ++ entry.End ∷ []) (record_entries qs ++ entry.End ∷ []) same),
+      records_one rs qs (tail_is (entry.Header b) (entry.Header c) (record_entries rs ++ entry.End ∷ []) (record_entries qs ++ entry.End ∷ []) same),
     )
 
 -- each line behind the header is a record or the end
-none_behind : (rs : List Record) (before : List Word) (line : Word) (after : List Word) → AreEntries (kept rs ++ entry.End ∷ []) → map entry_line (kept rs ++ entry.End ∷ []) ≡ before ++ line ∷ after → IsNoRecord line → ⊥
+none_behind : (rs : List Record) (before : List Word) (line : Word) (after : List Word) → AreEntries (record_entries rs ++ entry.End ∷ []) → map entry_line (record_entries rs ++ entry.End ∷ []) ≡ before ++ line ∷ after → IsNoRecord line → ⊥
 none_behind [] [] line after v e n = n.end_none (sym (head_is (entry_line entry.End) line [] after e))
 none_behind [] (w ∷ []) line after v e n = cc
 none_behind [] (w ∷ u ∷ ws) line after v e n = cc
-none_behind (r ∷ rs) [] line after v e n = n.record_none r v.0 (sym (head_is (entry_line (entry.Record r)) line (map entry_line (kept rs ++ entry.End ∷ [])) after e))
-none_behind (r ∷ rs) (w ∷ ws) line after v e n = none_behind rs ws line after v.1 (tail_is (entry_line (entry.Record r)) w (map entry_line (kept rs ++ entry.End ∷ [])) (ws ++ line ∷ after) e) n
+none_behind (r ∷ rs) [] line after v e n = n.record_none r v.0 (sym (head_is (entry_line (entry.Record r)) line (map entry_line (record_entries rs ++ entry.End ∷ [])) after e))
+none_behind (r ∷ rs) (w ∷ ws) line after v e n = none_behind rs ws line after v.1 (tail_is (entry_line (entry.Record r)) w (map entry_line (record_entries rs ++ entry.End ∷ [])) (ws ++ line ∷ after) e) n
 
 -- records alone don't end
-no_end : LinesRead → (qs rs : List Record) → AreEntries (kept qs) → AreEntries (kept rs ++ entry.End ∷ []) → map entry_line (kept qs) ≡ map entry_line (kept rs ++ entry.End ∷ []) → ⊥
+no_end : LinesRead → (qs rs : List Record) → AreEntries (record_entries qs) → AreEntries (record_entries rs ++ entry.End ∷ []) → map entry_line (record_entries qs) ≡ map entry_line (record_entries rs ++ entry.End ∷ []) → ⊥
 no_end laws [] [] v w e = cc
 no_end laws [] (r ∷ rs) v w e = cc
 no_end laws (q ∷ qs) [] v w e =
-    let same = line_one laws (entry.Record q) entry.End v.0 w.0 (head_is (entry_line (entry.Record q)) (entry_line entry.End) (map entry_line (kept qs)) [] e) in cc
-no_end laws (q ∷ qs) (r ∷ rs) v w e = no_end laws qs rs v.1 w.1 (tail_is (entry_line (entry.Record q)) (entry_line (entry.Record r)) (map entry_line (kept qs)) (map entry_line (kept rs ++ entry.End ∷ [])) e)
+    let same = line_one laws (entry.Record q) entry.End v.0 w.0 (head_is (entry_line (entry.Record q)) (entry_line entry.End) (map entry_line (record_entries qs)) [] e) in cc
+no_end laws (q ∷ qs) (r ∷ rs) v w e = no_end laws qs rs v.1 w.1 (tail_is (entry_line (entry.Record q)) (entry_line (entry.Record r)) (map entry_line (record_entries qs)) (map entry_line (record_entries rs ++ entry.End ∷ [])) e)
 
 -- nothing follows the end
-end_last : LinesRead → (qs rs : List Record) (after : List Word) → AreEntries (kept qs) → AreEntries (kept rs ++ entry.End ∷ []) → map entry_line (kept rs ++ entry.End ∷ []) ≡ map entry_line (kept qs) ++ entry_line entry.End ∷ after → after ≡ []
+end_last : LinesRead → (qs rs : List Record) (after : List Word) → AreEntries (record_entries qs) → AreEntries (record_entries rs ++ entry.End ∷ []) → map entry_line (record_entries rs ++ entry.End ∷ []) ≡ map entry_line (record_entries qs) ++ entry_line entry.End ∷ after → after ≡ []
 end_last laws [] [] after v w e = sym (tail_is (entry_line entry.End) (entry_line entry.End) [] after e)
 end_last laws [] (r ∷ rs) after v w e =
-    let same = line_one laws (entry.Record r) entry.End w.0 (record { writable = tt; fits = tt }) (head_is (entry_line (entry.Record r)) (entry_line entry.End) (map entry_line (kept rs ++ entry.End ∷ [])) after e) in cc
+    let same = line_one laws (entry.Record r) entry.End w.0 (record { writable = tt; fits = tt }) (head_is (entry_line (entry.Record r)) (entry_line entry.End) (map entry_line (record_entries rs ++ entry.End ∷ [])) after e) in cc
 end_last laws (q ∷ qs) [] after v w e =
-    let same = line_one laws entry.End (entry.Record q) w.0 v.0 (head_is (entry_line entry.End) (entry_line (entry.Record q)) [] (map entry_line (kept qs) ++ entry_line entry.End ∷ after) e) in cc
-end_last laws (q ∷ qs) (r ∷ rs) after v w e = end_last laws qs rs after v.1 w.1 (tail_is (entry_line (entry.Record r)) (entry_line (entry.Record q)) (map entry_line (kept rs ++ entry.End ∷ [])) (map entry_line (kept qs) ++ entry_line entry.End ∷ after) e)
+    let same = line_one laws entry.End (entry.Record q) w.0 v.0 (head_is (entry_line entry.End) (entry_line (entry.Record q)) [] (map entry_line (record_entries qs) ++ entry_line entry.End ∷ after) e) in cc
+end_last laws (q ∷ qs) (r ∷ rs) after v w e = end_last laws qs rs after v.1 w.1 (tail_is (entry_line (entry.Record r)) (entry_line (entry.Record q)) (map entry_line (record_entries rs ++ entry.End ∷ [])) (map entry_line (record_entries qs) ++ entry_line entry.End ∷ after) e)
 
 no_header : LinesRead → (text : List ℕ) (b : ℕ) (rs : List Record) (n : ℕ) → IsJournal text b rs → IsBadHeader text n → ⊥
 no_header laws text b rs n j f =
     let e = sym (lines_of laws text b rs j) ∙ f.lines in
-    f.none b j.valid.0 (sym (head_is (entry_line (entry.Header b)) f.line (map entry_line (kept rs ++ entry.End ∷ [])) f.after e))
+    f.none b j.valid.0 (sym (head_is (entry_line (entry.Header b)) f.line (map entry_line (record_entries rs ++ entry.End ∷ [])) f.after e))
 
 no_record_at : (b : ℕ) (rs : List Record) (before : List Word) (line : Word) (after : List Word) → AreEntries (journal_entries b rs) → Opens before → map entry_line (journal_entries b rs) ≡ before ++ line ∷ after → IsNoRecord line → ⊥
 no_record_at b rs [] line after v o e n = let f = o.is in cc
-no_record_at b rs (w ∷ ws) line after v o e n = none_behind rs ws line after v.1 (tail_is (entry_line (entry.Header b)) w (map entry_line (kept rs ++ entry.End ∷ [])) (ws ++ line ∷ after) e) n
+no_record_at b rs (w ∷ ws) line after v o e n = none_behind rs ws line after v.1 (tail_is (entry_line (entry.Header b)) w (map entry_line (record_entries rs ++ entry.End ∷ [])) (ws ++ line ∷ after) e) n
 
 cut_case : LinesRead → (b : ℕ) (rs : List Record) (lines : List Word) → AreEntries (journal_entries b rs) → lines ≡ map entry_line (journal_entries b rs) → (lines ≡ []) ⊎ Opens lines → ⊥
 cut_case laws b rs lines v e (inl h) = let f = sym h ∙ e in cc
 cut_case laws b rs lines v e (inr o) =
     let f = sym o.is ∙ e in
-    no_end laws o.records rs o.valid.1 v.1 (tail_is (entry_line (entry.Header o.budget)) (entry_line (entry.Header b)) (map entry_line (kept o.records)) (map entry_line (kept rs ++ entry.End ∷ [])) f)
+    no_end laws o.records rs o.valid.1 v.1 (tail_is (entry_line (entry.Header o.budget)) (entry_line (entry.Header b)) (map entry_line (record_entries o.records)) (map entry_line (record_entries rs ++ entry.End ∷ [])) f)
 
 more_case : LinesRead → (text : List ℕ) (b : ℕ) (rs : List Record) (n : ℕ) → IsJournal text b rs → (f : HasMore text n) → (f.after ≢ []) ⊎ (rest_of text ≢ []) → ⊥
 more_case laws text b rs n j f (inr h) = h (rest_is laws text b rs j)
 more_case laws text b rs n j f (inl h) =
     let e = sym (lines_of laws text b rs j) ∙ f.lines ∙ ap (λ (ws : List Word). ws ++ entry_line entry.End ∷ f.after) f.opens.is in
     h (end_last laws f.opens.records rs f.after f.opens.valid.1 j.valid.1
-    (tail_is (entry_line (entry.Header b)) (entry_line (entry.Header f.opens.budget)) (map entry_line (kept rs ++ entry.End ∷ [])) (map entry_line (kept f.opens.records) ++ entry_line entry.End ∷ f.after) e))
+    (tail_is (entry_line (entry.Header b)) (entry_line (entry.Header f.opens.budget)) (map entry_line (record_entries rs ++ entry.End ∷ [])) (map entry_line (record_entries f.opens.records) ++ entry_line entry.End ∷ f.after) e))
 
 pub journal_faultless : LinesRead → (text : List ℕ) (b : ℕ) (rs : List Record) (f : JournalFault) → IsJournal text b rs → IsFault text f → ⊥
 journal_faultless laws text b rs (fault.BadHeader n) j f = no_header laws text b rs n j f

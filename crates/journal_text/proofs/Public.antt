@@ -5,4 +5,4 @@ pub use Rattle.journal_text.proofs.Joined.{accepted_then, records_then, steps_th
 -- Texts by their lines.
 pub use Rattle.journal_text.proofs.FaultLaws.{lines_before}
 -- A text is the journal of one budget and one list of records at most, and has no fault then.
-pub use Rattle.journal_text.proofs.OneLaws.{kept, line_one, record_is, some_entry}
+pub use Rattle.journal_text.proofs.OneLaws.{line_one, record_is}

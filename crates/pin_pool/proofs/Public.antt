@@ -15,4 +15,4 @@ pub use Rattle.pin_pool.proofs.RingsOf.{changed-other, changed-same, has-within,
 -- What a call did is undone.
 pub use Rattle.pin_pool.proofs.Undone.{back, changed-back, stands}
 -- Sums of the lengths of lists, and how many pins are linked.
-pub use Rattle.pin_pool.proofs.Totalled.{in-listed, len-one_less, length-listed, length-put_after, length-without, linked-less, linked-more, linked-over, linked-same, listed_from, no-pins-from, pins-at, pins-bound, pins-few, pins-more, pins-split, within-set}
+pub use Rattle.pin_pool.proofs.Totalled.{len-one_less, length-listed, length-put_after, length-without, linked-less, linked-more, linked-over, linked-same, no-pins-from, pins-at, pins-few, pins-more, pins-split}

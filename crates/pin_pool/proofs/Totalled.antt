@@ -11,7 +11,7 @@ use Rattle.pin_pool.specs.Ring.{has, without, IsApart}
 use Rattle.pin_pool.specs.Pins.{Pins, list_of, put_after, put_behind}
 use Rattle.pin_pool.specs.declared.names.PinNo.{PinNo}
 use Rattle.pin_pool.specs.Rings.{rings_of, AreRings, IsIn, IsValid, changed, all_without}
-use Rattle.pin_pool.specs.Totals.{pins_from, linked_pins, count_at, IsCounted}
+use Rattle.pin_pool.specs.Totals.{pins_from, linked_pins, count_at, IsCounted, listed_pins}
 use Rattle.pin_pool.proofs.PoolLemmas.{has-append}
 use Rattle.pin_pool.proofs.RingLemmas.{without-absent}
 use Rattle.pin_pool.proofs.RingsOf.{changed-other, changed-same, has-within}
@@ -73,18 +73,14 @@ length-put_after xs None p = omega arith
 length-put_after xs (Some a) p = length-put xs a.0 p
 
 -- THE PINS OF LISTS ARE FEW
--- all pins of n gates
-abbrev pub listed_from : (ℕ → List ℕ) → ℕ → ℕ → List ℕ
-listed_from f first zero = []
-listed_from f first (suc n) = f first ++ listed_from f (suc first) n
 
-pub length-listed : (f : ℕ → List ℕ) (first n : ℕ) → length (listed_from f first n) ≡ pins_from f first n
+pub length-listed : (f : ℕ → List ℕ) (first n : ℕ) → length (listed_pins f first n) ≡ pins_from f first n
 length-listed f first zero = refl
-length-listed f first (suc n) = length-append (f first) (listed_from f (suc first) n) ∙ ap (λ k. length (f first) + k) (length-listed f (suc first) n)
+length-listed f first (suc n) = length-append (f first) (listed_pins f (suc first) n) ∙ ap (λ k. length (f first) + k) (length-listed f (suc first) n)
 
-pub in-listed : (f : ℕ → List ℕ) (first n q : ℕ) → has q (listed_from f first n) ≡ true → (m : ℕ) × ((first ≤ m) × (has q (f m) ≡ true))
+pub in-listed : (f : ℕ → List ℕ) (first n q : ℕ) → has q (listed_pins f first n) ≡ true → (m : ℕ) × ((first ≤ m) × (has q (f m) ≡ true))
 in-listed f first zero q h = cc
-in-listed f first (suc n) q h = elim (or_cases (has q (f first)) (has q (listed_from f (suc first) n)) (sym (has-append (f first) (listed_from f (suc first) n) q) ∙ h)) [
+in-listed f first (suc n) q h = elim (or_cases (has q (f first)) (has q (listed_pins f (suc first) n)) (sym (has-append (f first) (listed_pins f (suc first) n) q) ∙ h)) [
   | inl here ↦ (first, (omega arith, here))
   | inr later ↦ let rest = in-listed f (suc first) n q later in (rest.0, ((let le = rest.1.0 in omega (arith, le)), rest.1.1))
 ]
@@ -96,9 +92,9 @@ apart-append (x ∷ xs) ys a b h = (
   apart-append xs ys a.1 b (λ q k. h q (or_right _ _ k)),
 )
 
-apart-listed : (f : ℕ → List ℕ) → ((n : ℕ) → IsApart (f n)) → ((m n q : ℕ) → has q (f m) ≡ true → has q (f n) ≡ true → m ≡ n) → (first n : ℕ) → IsApart (listed_from f first n)
+apart-listed : (f : ℕ → List ℕ) → ((n : ℕ) → IsApart (f n)) → ((m n q : ℕ) → has q (f m) ≡ true → has q (f n) ≡ true → m ≡ n) → (first n : ℕ) → IsApart (listed_pins f first n)
 apart-listed f each one first zero = tt
-apart-listed f each one first (suc n) = apart-append (f first) (listed_from f (suc first) n) (each first) (apart-listed f each one (suc first) n) (λ q h. false_from_ne_true _ (λ k. (
+apart-listed f each one first (suc n) = apart-append (f first) (listed_pins f (suc first) n) (each first) (apart-listed f each one (suc first) n) (λ q h. false_from_ne_true _ (λ k. (
     let at = in-listed f (suc first) n q k in
     let is = one first at.0 q h at.1.1 in
     let le = at.1.0 in omega (arith, is, le))))
@@ -129,7 +125,7 @@ within-set s (x ∷ xs) a h =
 pub pins-few : (v : Pins) → AreRings (rings_of v) → (first n : ℕ) → pins_from (λ m. list_of v.inputs m) first n ≤ finset.len v.taken
 pins-few v r first n =
     let f : ℕ → List ℕ = λ m. list_of v.inputs m in
-    let all = within-set v.taken (listed_from f first n) (apart-listed f r.inputs.apart r.inputs.one first n) (λ q h. (let at = in-listed f first n q h in r.inputs.members at.0 q at.1.1)) in
+    let all = within-set v.taken (listed_pins f first n) (apart-listed f r.inputs.apart r.inputs.one first n) (λ q h. (let at = in-listed f first n q h in r.inputs.members at.0 q at.1.1)) in
     omega (arith, all, length-listed f first n)
 
 -- THE LINKED PINS

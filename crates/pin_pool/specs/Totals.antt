@@ -1,11 +1,16 @@
 -- How many inputs there are.
-use Rattle.std.specs.Prelude.{◌≡◌, ℕ, zero, suc, ◌+◌, ◌≤◌, List, length, slice_index_or}
+use Rattle.std.specs.Prelude.{◌≡◌, ℕ, zero, suc, ◌+◌, ◌≤◌, List, [], ◌++◌, length, slice_index_or}
 use Rattle.pin_pool.specs.Pins.{Pins, list_of}
 
 -- how many pins n lists have, from a number on
 abbrev pub pins_from : (ℕ → List ℕ) → ℕ → ℕ → ℕ
 pins_from f first zero = 0
 pins_from f first (suc n) = length (f first) + pins_from f (suc first) n
+
+-- the pins of n lists, from a number on
+abbrev pub listed_pins : (ℕ → List ℕ) → ℕ → ℕ → List ℕ
+listed_pins f first zero = []
+listed_pins f first (suc n) = f first ++ listed_pins f (suc first) n
 
 -- how many pins are the inputs of a gate
 abbrev pub linked_pins : Pins → ℕ

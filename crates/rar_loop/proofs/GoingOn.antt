@@ -3,7 +3,7 @@ use Rattle.std.proofs.Common.{◌≡◌, ℕ, ◌+◌, ◌-◌, ◌<◌, ◌≤�
 use Rattle.std.specs.Prelude.{Ok, nat_lt, if◌then◌else◌}
 use Rattle.gate_net.specs.Values.{same_bool}
 use Rattle.gate_net.specs.Edits.{constant_node, fixed}
-use Rattle.wire_edit.specs.Changes.{remove, readers}
+use Rattle.wire_edit.specs.Changes.{remove, readers, nodes_added}
 use Rattle.std.proofs.lemmas.Bool.{lt-ltb}
 use Rattle.std.proofs.lemmas.List.{append-nil, length-append}
 use Rattle.rm_base.specs.declared.numbers.Fault.{Fault}
@@ -13,7 +13,7 @@ use Rattle.gate_graph.specs.Circuit.{net_of}
 use Rattle.gate_graph.specs.Holds.{HoldsOn}
 use Rattle.refutation.specs.Branches.{AreAccepted}
 use Rattle.refutation.specs.declared.items.Item.{Item}
-use Rattle.wire_edit.proofs.Public.{fix_applies, gate_live, is_live_there, length_budget, next_applies, nodes_of, removal_pins, room_on, room_steps, tidying_removes, wires_grow}
+use Rattle.wire_edit.proofs.Public.{fix_applies, gate_live, is_live_there, length_budget, next_applies, removal_pins, room_on, room_steps, tidying_removes, wires_grow}
 use Rattle.wire_edit.specs.declared.steps.Step.{Step}
 use Rattle.wire_edit.specs.declared.steps.Step.TheVariants.{Add, Fix, NewNot, Const, Same, NoPins, OnePin, Twice, Twin, Dead}
 use Rattle.wire_edit.specs.declared.refusal.EditRefusal.{EditRefusal}
@@ -25,14 +25,13 @@ use Rattle.wire_edit.specs.Laws.{IsTidying}
 use Rattle.wire_edit.specs.Tried.{Tried, start_of, Tidies}
 use Rattle.wire_edit.specs.Work.{work, pins_made, RoomForTidying, RoomForFixes}
 use Rattle.journal_text.specs.declared.record.Record.{Record}
-use Rattle.journal_text.specs.declared.record.Record.TheVariants as record_of
 use Rattle.journal_text.specs.Accepted.{IsJustified, MayGrow, IsAcceptedStep}
-use Rattle.journal_text.specs.Runs.{steps_of}
+use Rattle.journal_text.specs.Runs.{steps_of, AreRemovals}
 use Rattle.rar_loop.specs.Going.{Logs, IsLeft, IsNoLarger, Tallies, Goes}
-use Rattle.journal_text.specs.Runs.{AreRemovals}
 use Rattle.rar_loop.proofs.Sizing.{no_gates}
 use Rattle.journal_text.proofs.Public.{accepted_then}
 use Rattle.wire_edit.specs.Removals.{HasFreePin, IsRemoval}
+use Rattle.journal_text.specs.declared.record.Record.TheVariants as record_of
 
 -- LISTS OF RECORDS
 pub removals_then : (first second : List Record) → AreRemovals (steps_of first) → AreRemovals (steps_of second) → AreRemovals (steps_of (first ++ second))
@@ -56,16 +55,16 @@ pub logs_one : (net : Net) (step : Step) (tree : List Item) (log new : List Reco
 logs_one net step tree log new accepted removal is = record { more = record_of.Step step tree ∷ []; added = is; accepted = (accepted, refl); removals = (removal, tt) }
 
 -- SIZES
-nodes_constant : (gate p : ℕ) (control constant : Option Bool) → nodes_of (constant_change gate p control constant) ≡ 0
+nodes_constant : (gate p : ℕ) (control constant : Option Bool) → nodes_added (constant_change gate p control constant) ≡ 0
 nodes_constant gate p control None = refl
 nodes_constant gate p None (Some b) = refl
 nodes_constant gate p (Some c) (Some b) = at (same_bool b c)
   where
-    at : (t : Bool) → nodes_of (if t then readers gate (constant_node c) else remove gate p) ≡ 0
+    at : (t : Bool) → nodes_added (if t then readers gate (constant_node c) else remove gate p) ≡ 0
     at true = refl
     at false = refl
 
-removal_nodes : (net : Net) (step : Step) → IsRemoval step → nodes_of (change_of net step) ≡ 0
+removal_nodes : (net : Net) (step : Step) → IsRemoval step → nodes_added (change_of net step) ≡ 0
 removal_nodes net (Add gate y) r = absurd r
 removal_nodes net (Fix gate position value) r = refl
 removal_nodes net (NewNot y) r = absurd r
@@ -79,8 +78,8 @@ removal_nodes net (Dead gate) r = refl
 
 no_nodes : (net : Net) (step : Step) → IsRemoval step → length (stepped net step).nodes ≤ length net.nodes
 no_nodes net step r =
-    let le : length (stepped net step).nodes ≤ length net.nodes + nodes_of (change_of net step) = length_budget net (change_of net step) in
-    let none : nodes_of (change_of net step) ≡ 0 = removal_nodes net step r in
+    let le : length (stepped net step).nodes ≤ length net.nodes + nodes_added (change_of net step) = length_budget net (change_of net step) in
+    let none : nodes_added (change_of net step) ≡ 0 = removal_nodes net step r in
     omega (arith, le, none)
 
 pub no_larger : (net : Net) (step : Step) → IsWellFormed net → Applies net step → IsRemoval step → IsNoLarger net (stepped net step)

@@ -10,14 +10,14 @@ use Rattle.gate_net.specs.declared.Kind.TheVariants.{Not}
 use Rattle.gate_net.specs.Edits.{redriven, redirected, node_redirected}
 use Rattle.gate_graph.specs.Circuit.{Circuit, net_of, pins_taken, live_nodes}
 use Rattle.gate_graph.specs.Holds.{held, pins_held, HoldsOn}
-use Rattle.wire_edit.proofs.Public.{gate_weight, length_budget, nodes_of, total_least, total_map, total_trimmed}
+use Rattle.wire_edit.proofs.Public.{length_budget, total_least, total_map, total_trimmed}
 use Rattle.wire_edit.specs.declared.steps.Step.{Step}
 use Rattle.wire_edit.specs.declared.steps.Step.TheVariants.{Add, NewNot}
-use Rattle.wire_edit.specs.Changes.{Change, append, remove, fix, readers, new_not, retire, changed, with_least_free}
+use Rattle.wire_edit.specs.Changes.{Change, append, remove, fix, readers, new_not, retire, changed, with_least_free, nodes_added}
 use Rattle.wire_edit.specs.Steps.{stepped, change_of}
 use Rattle.wire_edit.specs.Refusals.{live_count}
 use Rattle.wire_edit.specs.Order.{node}
-use Rattle.wire_edit.specs.Tests.{live_in}
+use Rattle.wire_edit.specs.Tests.{live_in, gate_weight}
 use Rattle.wire_edit.specs.Tried.{Tried}
 use Rattle.candidate_wires.specs.declared.candidate.Candidate.{Candidate}
 use Rattle.candidate_wires.specs.Gains.{net_for, with_candidate, wire_for}
@@ -57,7 +57,7 @@ redirected_weight from to (Some n) = refl
 driven_gates : (net : Net) (gate : ℕ) (ds : List ℕ) → sum_by gate_weight (slice_set net.nodes gate (redriven ds (node_at net gate))) ≤ gate_count net + 0
 driven_gates net gate ds = let e : sum_by gate_weight (slice_set net.nodes gate (redriven ds (node_at net gate))) ≡ sum_by gate_weight net.nodes = set_keeps gate_weight ds (redriven_weight ds) net.nodes gate in omega (arith, e)
 
-gate_budget : (net : Net) (change : Change) → gate_count (changed net change) ≤ gate_count net + nodes_of change
+gate_budget : (net : Net) (change : Change) → gate_count (changed net change) ≤ gate_count net + nodes_added change
 gate_budget net (append gate driver) = driven_gates net gate _
 gate_budget net (remove gate position) = driven_gates net gate _
 gate_budget net (fix gate position value) = driven_gates net gate _
@@ -71,8 +71,8 @@ gate_budget net (retire gate) =
     omega (arith, e, l)
 
 -- where a step makes no node there are no more gates
-pub no_gates : (net : Net) (step : Step) → nodes_of (change_of net step) ≡ 0 → gate_count (stepped net step) ≤ gate_count net
-no_gates net step none = let b : gate_count (stepped net step) ≤ gate_count net + nodes_of (change_of net step) = gate_budget net (change_of net step) in omega (arith, b, none)
+pub no_gates : (net : Net) (step : Step) → nodes_added (change_of net step) ≡ 0 → gate_count (stepped net step) ≤ gate_count net
+no_gates net step none = let b : gate_count (stepped net step) ≤ gate_count net + nodes_added (change_of net step) = gate_budget net (change_of net step) in omega (arith, b, none)
 
 gates_for : (net : Net) (x : NodeId) (fresh : Bool) → gate_count (if fresh then stepped net (NewNot x) else net) ≤ gate_count net + 1
 gates_for net x true = gate_budget net (change_of net (NewNot x))

@@ -4,13 +4,12 @@ use Rattle.std.specs.List.{list_all}
 use Rattle.std.specs.Prelude.{IsTrue, slice_get}
 use Rattle.std.proofs.lemmas.Bool.{and_parts}
 use Rattle.gate_net.specs.Forward.{is_known, junction_follows, value_forward}
-use Rattle.gate_net.proofs.Public.{is_known_true}
+use Rattle.gate_net.proofs.Public.{is_known_true, all_not_any, is_known_some}
 use Rattle.gate_net.specs.Net.{IsAcyclic, Net, Reads, drivers_of}
 use Rattle.gate_net.specs.Values.{IsRun, SameObserved, controlling}
 use Rattle.gate_net.specs.declared.Kind.{Kind}
 use Rattle.gate_net.specs.declared.Kind.TheVariants.{And, Not, One, Or, Source, Zero}
 use Rattle.refutation.proofs.Closings.{right_true, true_held, true_known, true_right, with_more, with_there, with_within}
-use Rattle.gate_net.proofs.Public.{Stays, all_not_any, is_known_some}
 use Rattle.refutation.proofs.Grows.{good_stays, line_grows}
 use Rattle.refutation.proofs.Known.{one_of_true}
 use Rattle.refutation.proofs.LinesRight.{line_right}
@@ -23,6 +22,7 @@ use Rattle.refutation.specs.declared.reasoning.Fact.TheVariants.{Good}
 use Rattle.refutation.specs.declared.reasoning.Line.TheVariants.{GoodForward}
 use Rattle.rm_base.specs.declared.numbers.Fault.{Fault}
 use Rattle.rm_base.proofs.Public.{both_and}
+use Rattle.gate_net.specs.Stays.{Stays}
 
 pub closed_below : ClosedBelow
 closed_below net fault zero s free closed = closed.0
@@ -40,7 +40,7 @@ lines_of net fault zero s closed = closed
 lines_of net fault (suc depth) s closed = closed.0
 
 -- a driver that passes the test, or none
-abbrev pub Found : (ℕ → Bool) → List ℕ → Type 0
+abbrev Found : (ℕ → Bool) → List ℕ → Type 0
 Found test ds =
     ((p : ℕ) × ((d : ℕ) × ((slice_get ds p ≡ Some d) × (test d ≡ true)))) ⊎ ((p d : ℕ) → slice_get ds p ≡ Some d → test d ≡ false)
 
@@ -53,7 +53,7 @@ find_more test x xs true is rest = inl (0, (x, (refl, is)))
 find_more test x xs false is (inl (p, (d, h))) = inl (suc p, (d, h))
 find_more test x xs false is (inr none) = inr (none_more test x xs is none)
 
-pub find : (test : ℕ → Bool) (ds : List ℕ) → Found test ds
+pub find : (test : ℕ → Bool) (ds : List ℕ) → ((p : ℕ) × ((d : ℕ) × ((slice_get ds p ≡ Some d) × (test d ≡ true)))) ⊎ ((p d : ℕ) → slice_get ds p ≡ Some d → test d ≡ false)
 find test [] = inr (λ p d e. cc)
 find test (x ∷ xs) = find_more test x xs (test x) refl (find test xs)
 
@@ -158,7 +158,7 @@ module _ (net : Net) (fault : Fault) (depth : ℕ) (held s : Held) (within : IsW
       other : IsTrue (s y (Good (not c)))
       other = lines_of net fault (suc depth) s closed (GoodForward (record { 0 = y })) y (Good (not c)) (unjustified.junction.0, not c, unjustified.junction.1.0, follows, refl, refl)
 
-  pub learned_in : (x : ℕ) (b : Bool) → ((d : ℕ) → IsJustification net held y d → (NoneContains Below (with_fact held d (Good c)) → ⊥) → AllHold Below (with_fact held d (Good c)) x (Good b)) → IsTrue (s x (Good b))
+  pub learned_in : (x : ℕ) (b : Bool) → ((d : ℕ) → IsJustification net held y d → (NoneContains (IsClosedAt net fault depth) (with_fact held d (Good c)) → ⊥) → AllHold (IsClosedAt net fault depth) (with_fact held d (Good c)) x (Good b)) → IsTrue (s x (Good b))
   learned_in x b all = elim (find (λ d. is_known c (known_good s d)) (drivers_of net y)) [
     | inl found ↦ given x b all found.0 found.1.0 found.1.1.0 (is_known_true c (known_good s found.1.0) found.1.1.1)
     | inr none_gives ↦ elim (find (λ d. is_open (known_good s d)) (drivers_of net y)) [
@@ -168,7 +168,7 @@ module _ (net : Net) (fault : Fault) (depth : ℕ) (held s : Held) (within : IsW
   ]
 
   -- not all justifications lead to a clash
-  pub one_may_in : ((d : ℕ) → IsJustification net held y d → NoneContains Below (with_fact held d (Good c))) → ⊥
+  pub one_may_in : ((d : ℕ) → IsJustification net held y d → NoneContains (IsClosedAt net fault depth) (with_fact held d (Good c))) → ⊥
   one_may_in all = free 0 (inl (each false, each true))
     where
       each : (b : Bool) → IsTrue (s 0 (Good b))

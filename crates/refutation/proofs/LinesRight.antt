@@ -5,7 +5,7 @@ use Rattle.std.specs.List.{list_all}
 use Rattle.std.specs.Prelude.{if◌then◌else◌, slice_get}
 use Rattle.std.proofs.Math.Bool.{not-not}
 use Rattle.gate_net.specs.Forward.{all_but, is_known, value_back, value_forward}
-use Rattle.gate_net.proofs.Public.{Approximates, approximates_map, approximates_set, controlled, first_is, reads_faulty, same_bool_false, same_bool_true, same_elsewhere, same_idle, same_observed, same_outside, value_at, value_back_right, value_forward_right}
+use Rattle.gate_net.proofs.Public.{approximates_map, approximates_set, controlled, first_is, reads_faulty, same_bool_false, same_bool_true, same_elsewhere, same_idle, same_observed, same_outside, value_at, value_back_right, value_forward_right}
 use Rattle.gate_net.specs.Net.{IsAcyclic, IsKind, Net, Reads, drivers_of}
 use Rattle.gate_net.specs.Paths.{IsInChain, start}
 use Rattle.gate_net.specs.Values.{IsRun, SameObserved, controlling, faulty_reads, same_bool}
@@ -21,6 +21,7 @@ use Rattle.refutation.specs.declared.reasoning.Line.{Line}
 use Rattle.refutation.specs.declared.reasoning.Line.TheVariants.{Act, Chain, Compare, Constant, DiffersBack, EqualForward, FaultyBack, FaultyForward, GoodBack, GoodForward, NotDiffers, NotEqual, Out, Side, Site, ToFaulty, ToGood}
 use Rattle.rm_base.specs.declared.numbers.Fault.{Fault}
 use Rattle.rm_base.proofs.Public.{bool_cases, map_at, never_opposite}
+use Rattle.gate_net.specs.Stays.{Approximates}
 
 module _ (net : Net) (fault : Fault) (driver : ℕ) (a v f : ℕ → Bool) (run : IsRun net fault a v f) (acyclic : IsAcyclic net) (stuck : Reads net fault.gate.0 fault.position driver) (detects : SameObserved net v f → ⊥) where
   -- what every observed node rests on differs

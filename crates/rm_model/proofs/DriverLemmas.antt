@@ -5,13 +5,13 @@ use Rattle.std.specs.List.{filter_map}
 use Rattle.std.specs.Option.{option_map}
 use Rattle.std.proofs.lemmas.Bool.{and_parts, false_from_ne_true}
 use Rattle.rm_model.specs.Words.{is_word}
-use Rattle.rm_model.specs.Value.{is_among}
+use Rattle.rm_model.specs.Value.{is_among, outputs_of}
 use Rattle.rm_model.specs.WellFormed.{is_distinct}
 use Rattle.rm_model.specs.Numbers.{place_of, drivers_of, rank_over}
 use Rattle.rm_model.specs.Ranks.{cover_of, rank_at, higher, rank_by}
 use Rattle.rm_model.specs.declared.parts.Cover.{Cover}
 use Rattle.rm_model.specs.declared.parts.Model.{Model}
-use Rattle.rm_model.proofs.CoverLemmas.{same_word, among-at, output-at, outputs_of}
+use Rattle.rm_model.proofs.CoverLemmas.{same_word, among-at, output-at}
 use Rattle.rm_model.proofs.NumberLemmas.{place_of-cover}
 use Rattle.rm_model.proofs.RankLaws.{parts_of, higher_parts, rank_from}
 use Rattle.rm_base.proofs.Public.{map_pointwise, not_excludes}

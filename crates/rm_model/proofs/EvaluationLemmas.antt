@@ -5,13 +5,13 @@ use Rattle.std.specs.Option.{option_map}
 use Rattle.std.proofs.lemmas.List.{length-map, map_more}
 use Rattle.std.proofs.lemmas.Option.{slice_get-map, slice_get_within, slice_get-get_or, slice_get_read, get_or_from_slice_get}
 use Rattle.std.proofs.lemmas.Bool.{false_from_ne_true}
-use Rattle.rm_model.specs.Value.{is_among, value_of}
+use Rattle.rm_model.specs.Value.{is_among, value_of, outputs_of}
 use Rattle.rm_model.specs.WellFormed.{is_distinct, IsWellFormedCover}
 use Rattle.rm_model.specs.Ranks.{cover_of}
 use Rattle.rm_model.specs.Numbers.{drivers_of}
 use Rattle.rm_model.specs.Search.{list_at, IsIn, IsOrder}
 use Rattle.rm_model.specs.declared.parts.Cover.{Cover}
-use Rattle.rm_model.proofs.CoverLemmas.{among-at, at-among, outputs_of, output-at, drives-own, distinct-right}
+use Rattle.rm_model.proofs.CoverLemmas.{among-at, at-among, output-at, drives-own, distinct-right}
 use Rattle.rm_model.proofs.NameLemmas.{among-append, among-left, among-right, distinct-apart, same-place, in-filter_map}
 use Rattle.rm_base.proofs.Public.{all_at, all_from_places, map_found}
 use Rattle.rm_base.specs.Words.{Word}

@@ -2,7 +2,7 @@
 use Rattle.std.proofs.Common.{◌≡◌, ℕ, ◌<◌, List, ◌++◌, map, length, Bool, true, Option, Some, None, sym, ap, ◌∙◌, subst}
 use Rattle.std.specs.Prelude.{slice_get, All, position, is_none}
 use Rattle.std.specs.List.{flat_map, filter_map}
-use Rattle.rm_model.specs.Value.{is_among, source_names, observed_names, control_of, IsConsistent}
+use Rattle.rm_model.specs.Value.{is_among, source_names, observed_names, control_of, IsConsistent, outputs_of}
 use Rattle.rm_model.specs.WellFormed.{is_distinct, driven_names, IsWellFormed}
 use Rattle.rm_model.specs.Ranks.{rank_at, ranks_of, first_without_rank}
 use Rattle.rm_model.specs.Numbers.{IsFixed}
@@ -10,7 +10,7 @@ use Rattle.rm_model.specs.Search.{State, IsIn, IsOrder, IsSound}
 use Rattle.rm_model.specs.declared.parts.Cover.{Cover}
 use Rattle.rm_model.specs.declared.parts.Latch.{Latch}
 use Rattle.rm_model.specs.declared.parts.Model.{Model}
-use Rattle.rm_model.proofs.CoverLemmas.{distinct-right, outputs_of}
+use Rattle.rm_model.proofs.CoverLemmas.{distinct-right}
 use Rattle.rm_model.proofs.NameLemmas.{list_all-inputs}
 use Rattle.rm_model.proofs.RankedLaws.{none-some, none-ranked}
 use Rattle.rm_model.proofs.RankingLemmas.{fixed-ranks}

@@ -5,11 +5,11 @@ use Rattle.std.specs.Option.{option_map}
 use Rattle.std.proofs.lemmas.Bool.{cases_lt, false_from_ne_true}
 use Rattle.std.proofs.lemmas.Bool.Decides.{Decides-ltb}
 use Rattle.rm_model.specs.Words.{is_word}
-use Rattle.rm_model.specs.Value.{is_among}
+use Rattle.rm_model.specs.Value.{is_among, outputs_of}
 use Rattle.rm_model.specs.Numbers.{place_of}
 use Rattle.rm_model.specs.Ranks.{cover_of}
 use Rattle.rm_model.specs.declared.parts.Cover.{Cover}
-use Rattle.rm_model.proofs.CoverLemmas.{same_word, outputs_of}
+use Rattle.rm_model.proofs.CoverLemmas.{same_word}
 use Rattle.rm_base.specs.Words.{Word}
 
 pub position-step : (b : Bool) (n l : ℕ) → cond (nat_lt (cond (not b) (1 + n) 0) (suc l)) (Some (cond (not b) (1 + n) 0)) None ≡ cond b (Some 0) (option_map (λ k. suc k) (cond (nat_lt n l) (Some n) None))

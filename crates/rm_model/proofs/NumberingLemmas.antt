@@ -6,7 +6,7 @@ use Rattle.std.specs.Option.{option_map}
 use Rattle.std.proofs.lemmas.Bool.{cases_lt, false_from_ne_true}
 use Rattle.std.proofs.lemmas.Bool.Decides.{Decides-ltb}
 use Rattle.rm_model.specs.Words.{is_word}
-use Rattle.rm_model.specs.Value.{control_of, is_among, observed_names, source_names}
+use Rattle.rm_model.specs.Value.{control_of, is_among, observed_names, source_names, outputs_of}
 use Rattle.rm_model.specs.WellFormed.{driven_names, is_distinct, used_names, IsWellFormed}
 use Rattle.rm_model.specs.Numbers.{drivers_of, place_of, rank_over, IsFixed}
 use Rattle.rm_model.specs.Ranks.{cover_of}
@@ -14,7 +14,7 @@ use Rattle.rm_model.specs.Signals.{cover_at, AreNumbers}
 use Rattle.rm_model.specs.declared.parts.Cover.{Cover}
 use Rattle.rm_model.specs.declared.parts.Latch.{Latch}
 use Rattle.rm_model.specs.declared.parts.Model.{Model}
-use Rattle.rm_model.proofs.CoverLemmas.{among-at, drives-of, output-at, outputs_of, distinct-right}
+use Rattle.rm_model.proofs.CoverLemmas.{among-at, drives-of, output-at, distinct-right}
 use Rattle.rm_model.proofs.NameLemmas.{among-append, distinct-apart, new-word, place-absent}
 use Rattle.rm_base.proofs.Public.{list_all-parts, list_all-join}
 use Rattle.rm_base.specs.Words.{Word}

@@ -5,13 +5,13 @@ use Rattle.std.specs.List.{position_or_len}
 use Rattle.std.proofs.lemmas.Bool.{cases_lt, false_from_ne_true}
 use Rattle.std.proofs.lemmas.Bool.Decides.{Decides-ltb}
 use Rattle.std.proofs.lemmas.Option.{slice_get_cases, slice_get_within}
-use Rattle.rm_model.specs.Value.{IsRanked, is_cover_output, source_names}
+use Rattle.rm_model.specs.Value.{IsRanked, is_cover_output, source_names, outputs_of}
 use Rattle.rm_model.specs.WellFormed.{is_distinct, driven_names}
 use Rattle.rm_model.specs.Ranks.{cover_of, rank_at, rank_above, rank_by, ranks_of, first_without_rank, higher}
 use Rattle.rm_model.specs.declared.parts.Cover.{Cover}
 use Rattle.rm_model.specs.declared.parts.Model.{Model}
 use Rattle.rm_model.proofs.RankLaws.{rank_from, picked, at_next, ranks_are_fixed, ranks-length, parts_of, above_cases, above_source, above_cover}
-use Rattle.rm_model.proofs.CoverLemmas.{drives-of, some-drives, is-driven, drives-own, distinct-right, outputs_of}
+use Rattle.rm_model.proofs.CoverLemmas.{drives-of, some-drives, is-driven, drives-own, distinct-right}
 use Rattle.rm_base.proofs.Public.{all_at, all_from_places}
 use Rattle.rm_base.specs.Words.{Word}
 use Rattle.rm_model.specs.Search.{HasRank}

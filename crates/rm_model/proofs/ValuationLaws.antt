@@ -1,17 +1,17 @@
 -- A ranked model has one consistent valuation for each assignment of its sources.
-use Rattle.std.proofs.Common.{◌≡◌, ℕ, zero, suc, ◌<◌, List, [], ◌∷◌, ◌++◌, map, length, max, Bool, true, false, cond, not, ◌||◌, Option, Some, None, ◌⊎◌, inl, inr, refl, sym, ap, ◌∙◌, subst, arith}
+use Rattle.std.proofs.Common.{◌≡◌, ℕ, zero, suc, ◌<◌, List, [], ◌∷◌, ◌++◌, map, length, Bool, true, false, cond, not, ◌||◌, Option, Some, None, ◌⊎◌, inl, inr, refl, sym, ap, ◌∙◌, subst, arith}
 use Rattle.std.specs.Prelude.{slice_get, All}
 use Rattle.std.specs.List.{list_any, flat_map, filter_map}
 use Rattle.std.specs.Option.{option_map}
 use Rattle.std.proofs.lemmas.Bool.{and_parts, false_from_ne_true}
 use Rattle.rm_model.specs.Words.{is_word}
-use Rattle.rm_model.specs.Value.{is_among, source_names, value_of, IsConsistent, IsRanked, is_cover_output, control_of}
+use Rattle.rm_model.specs.Value.{is_among, source_names, value_of, IsConsistent, IsRanked, is_cover_output, control_of, outputs_of, rank_bound, assigned_value}
 use Rattle.rm_model.specs.Ranks.{cover_of}
 use Rattle.rm_model.specs.WellFormed.{is_distinct, driven_names, IsWellFormed}
 use Rattle.rm_model.specs.declared.parts.Cover.{Cover}
 use Rattle.rm_model.specs.declared.parts.Latch.{Latch}
 use Rattle.rm_model.specs.declared.parts.Model.{Model}
-use Rattle.rm_model.proofs.CoverLemmas.{same_word, is_word-same, among-at, at-among, distinct-right, outputs_of, output-at, drives-of, some-drives, is-driven, drives-own}
+use Rattle.rm_model.proofs.CoverLemmas.{same_word, is_word-same, among-at, at-among, distinct-right, output-at, drives-of, some-drives, is-driven, drives-own}
 use Rattle.rm_model.proofs.NameLemmas.{among-append, distinct-apart, distinct-left, list_all-inputs}
 use Rattle.rm_base.proofs.Public.{all_at, all_from_places, list_all-parts, list_all-at, map_agree, not_excludes, same-in-map}
 use Rattle.rm_base.specs.Words.{Word}
@@ -46,14 +46,9 @@ value_by-source w (d ∷ cs) b x e = go (is_word x d.output) (cover_of cs x) ref
     go false None is e rest = rest is
     go false (Some j) is e rest = absurd cc
 
--- a number above the ranks of all outputs
-abbrev pub high : (Word → ℕ) → List Cover → ℕ
-high rank [] = 0
-high rank (c ∷ cs) = max (suc (rank c.output)) (high rank cs)
-
-pub below-high : (rank : Word → ℕ) (cs : List Cover) (k : ℕ) (c : Cover) → slice_get cs k ≡ Some c → rank c.output < high rank cs
+pub below-high : (rank : Word → ℕ) (cs : List Cover) (k : ℕ) (c : Cover) → slice_get cs k ≡ Some c → rank c.output < rank_bound rank cs
 below-high rank [] k c e = absurd cc
-below-high rank (d ∷ cs) zero c e = let is : d ≡ c = cc in subst (λ (c : Cover). rank c.output < high rank (d ∷ cs)) is (omega arith)
+below-high rank (d ∷ cs) zero c e = let is : d ≡ c = cc in subst (λ (c : Cover). rank c.output < rank_bound rank (d ∷ cs)) is (omega arith)
 below-high rank (d ∷ cs) (suc k) c e = omega (arith, below-high rank cs k c e)
 
 module _ (m : Model) (ranked : IsRanked m) where
@@ -87,47 +82,41 @@ module _ (m : Model) (ranked : IsRanked m) where
             ∙ sym (value_by-cover (value_in (suc n) m a) m.covers (a x) x k d.cover e d.there))
 
     pub valuation : Word → Bool
-    valuation = value_in (high ranked.0 m.covers) m a
+    valuation = value_in (rank_bound ranked.0 m.covers) m a
 
     pub valuation-consistent : is_distinct (driven_names m) ≡ true → IsConsistent m valuation
     unfolding valuation
     valuation-consistent once = all_from_places (λ (c : Cover). valuation c.output ≡ value_of c (map valuation c.inputs)) m.covers (λ k c there.
         let own : cover_of m.covers c.output ≡ Some k = drives-own m.covers k c (distinct-right (source_names m) (outputs_of m.covers) once) there in
-        stable (high ranked.0 m.covers) c.output (λ driven. below-high ranked.0 m.covers k c there)
-        ∙ value_by-cover (value_in (high ranked.0 m.covers) m a) m.covers (a c.output) c.output k c own there)
+        stable (rank_bound ranked.0 m.covers) c.output (λ driven. below-high ranked.0 m.covers k c there)
+        ∙ value_by-cover (value_in (rank_bound ranked.0 m.covers) m a) m.covers (a c.output) c.output k c own there)
 
     pub valuation-sources : is_distinct (driven_names m) ≡ true → map valuation (source_names m) ≡ map a (source_names m)
     unfolding valuation
     valuation-sources once = map_agree valuation a (source_names m) (λ p x at. by x (among-at (source_names m) p x at) (cover_of m.covers x) refl)
       where
         by : (x : Word) → is_among (source_names m) x ≡ true → (o : Option ℕ) → cover_of m.covers x ≡ o → valuation x ≡ a x
-        by x source None e = stable-source (high ranked.0 m.covers) x e
+        by x source None e = stable-source (rank_bound ranked.0 m.covers) x e
         by x source (Some k) e = absurd (
             let d = drives-of m.covers x k e in
             let output : is_among (outputs_of m.covers) x ≡ true = among-at (outputs_of m.covers) k x (output-at m.covers k d.cover d.there ∙ ap Some (sym d.drives)) in
             distinct-apart (source_names m) (outputs_of m.covers) x once source output)
 
--- values for names that differ
-abbrev pub assigned : List Word → List Bool → Word → Bool
-assigned [] bs x = false
-assigned (y ∷ ys) [] x = false
-assigned (y ∷ ys) (b ∷ bs) x = cond (is_word x y) b (assigned ys bs x)
-
-pub assigned-values : (xs : List Word) (bs : List Bool) → is_distinct xs ≡ true → length bs ≡ length xs → map (assigned xs bs) xs ≡ bs
+pub assigned-values : (xs : List Word) (bs : List Bool) → is_distinct xs ≡ true → length bs ≡ length xs → map (assigned_value xs bs) xs ≡ bs
 assigned-values [] [] once e = refl
 assigned-values [] (b ∷ bs) once e = absurd (omega (arith, e))
 assigned-values (x ∷ xs) [] once e = absurd (omega (arith, e))
 assigned-values (x ∷ xs) (b ∷ bs) once e =
     let parts = and_parts (not (is_among xs x)) (is_distinct xs) once in
-    let rest : map (assigned (x ∷ xs) (b ∷ bs)) xs ≡ map (assigned xs bs) xs = map_agree (assigned (x ∷ xs) (b ∷ bs)) (assigned xs bs) xs (λ p y at.
+    let rest : map (assigned_value (x ∷ xs) (b ∷ bs)) xs ≡ map (assigned_value xs bs) xs = map_agree (assigned_value (x ∷ xs) (b ∷ bs)) (assigned_value xs bs) xs (λ p y at.
     let other : is_word y x ≡ false = false_from_ne_true (is_word y x) (λ same. not_excludes (is_among xs x) parts.0 (subst (λ (w : Word). is_among xs w ≡ true) (same_word y x same) (among-at xs p y at))) in
     rw other refl) in
-    let here : assigned (x ∷ xs) (b ∷ bs) x ≡ b = rw (is_word-same x) refl in
+    let here : assigned_value (x ∷ xs) (b ∷ bs) x ≡ b = rw (is_word-same x) refl in
     rw (here, rest, assigned-values xs bs parts.1 (omega (arith, e))) refl
 
 pub valuation-exists : (m : Model) (bs : List Bool) → is_distinct (driven_names m) ≡ true → IsRanked m → length bs ≡ length (source_names m) → (v : Word → Bool) × (IsConsistent m v × (map v (source_names m) ≡ bs))
 valuation-exists m bs once ranked e =
-    let a : Word → Bool = assigned (source_names m) bs in
+    let a : Word → Bool = assigned_value (source_names m) bs in
     (valuation m ranked a, (valuation-consistent m ranked a once, valuation-sources m ranked a once ∙ assigned-values (source_names m) bs (distinct-left (source_names m) (outputs_of m.covers) once) e))
 
 module _ (m : Model) (formed : IsWellFormed m) (ranked : IsRanked m) (v w : Word → Bool) (first : IsConsistent m v) (second : IsConsistent m w) (agree : map v (source_names m) ≡ map w (source_names m)) where

@@ -1,7 +1,7 @@
 -- Which models a text can have: names are tokens, each name has one driver, each used name has one, and covers, init values and controls are of the right form.
 use Rattle.std.specs.Prelude.{◌≡◌, ◌≢◌, ◌==◌, ◌≤◌, Bool, true, false, not, ◌&&◌, List, [], ◌∷◌, ◌++◌, map, length, All, codes, IfSome}
 use Rattle.std.specs.List.{flat_map, list_all, filter_map}
-use Rattle.rm_model.specs.Value.{is_among, source_names, control_of}
+use Rattle.rm_model.specs.Value.{is_among, source_names, control_of, outputs_of}
 use Rattle.rm_model.specs.declared.parts.Literal.{Literal}
 use Rattle.rm_model.specs.declared.parts.Cover.{Cover}
 use Rattle.rm_model.specs.declared.parts.Latch.{Latch}
@@ -24,7 +24,7 @@ is_distinct (x ∷ xs) = not (is_among xs x) && is_distinct xs
 
 -- the names that the model drives: its sources and the outputs of its covers
 abbrev pub driven_names : Model → List Word
-driven_names m = source_names m ++ map (λ (c : Cover). c.output) m.covers
+driven_names m = source_names m ++ outputs_of m.covers
 
 -- the names that the model reads: outputs, cover inputs, latch inputs and latch controls
 abbrev pub used_names : Model → List Word

@@ -3,10 +3,10 @@ use Rattle.std.proofs.Common.{◌≡◌, ℕ, zero, suc, ◌+◌, ◌≤◌, Opt
 use Rattle.std.specs.Prelude.{slice_set}
 use Rattle.gate_net.specs.Net.{Node, Net, drivers_in, drivers_of, IsGate, IsWellFormed, wire_count}
 use Rattle.gate_net.specs.Edits.{node_redirected}
-use Rattle.wire_edit.specs.Changes.{Change, append, remove, fix, readers, new_not, retire, changed, CanChange, with_least_free, without_node}
+use Rattle.wire_edit.specs.Changes.{Change, append, remove, fix, readers, new_not, retire, changed, CanChange, with_least_free, without_node, pins_added, nodes_added}
 use Rattle.wire_edit.proofs.Totals.{total_gone}
 use Rattle.wire_edit.proofs.Working.{remove_wires, fix_wires, append_raises, moved_wires, new_raises}
-use Rattle.wire_edit.proofs.Editing.{pins_of, nodes_of, length_trimmed}
+use Rattle.wire_edit.proofs.Editing.{length_trimmed}
 
 -- pins that go with a gate
 abbrev pub pins_gone : Net → Change → ℕ
@@ -19,7 +19,7 @@ retire_wires net gate g =
     let b : length (drivers_of net gate) ≡ length g.1.0.0 = ap (λ o. length (drivers_in o)) g.1.0.1 in
     omega (arith, a, b)
 
-pub wires_budget : (net : Net) (change : Change) → IsWellFormed net → CanChange net change → wire_count (changed net change) + pins_gone net change ≤ wire_count net + pins_of change
+pub wires_budget : (net : Net) (change : Change) → IsWellFormed net → CanChange net change → wire_count (changed net change) + pins_gone net change ≤ wire_count net + pins_added change
 wires_budget net (append gate driver) well can = let e : _ ≡ _ = (append_raises net gate driver can).1 in omega (arith, e)
 wires_budget net (remove gate position) well can = let e : _ ≤ _ = remove_wires net gate position can in omega (arith, e)
 wires_budget net (fix gate position value) well can = let e : _ ≤ _ = fix_wires net gate position value can in omega (arith, e)
@@ -44,7 +44,7 @@ length_least [] n = omega arith
 length_least (None ∷ os) n = omega arith
 length_least (Some m ∷ os) n = let rest : length (with_least_free os n) ≤ length os + 1 = length_least os n in omega (arith, rest)
 
-pub length_budget : (net : Net) (change : Change) → length (changed net change).nodes ≤ length net.nodes + nodes_of change
+pub length_budget : (net : Net) (change : Change) → length (changed net change).nodes ≤ length net.nodes + nodes_added change
 length_budget net (append gate driver) = set_within net.nodes gate _
 length_budget net (remove gate position) = set_within net.nodes gate _
 length_budget net (fix gate position value) = set_within net.nodes gate _

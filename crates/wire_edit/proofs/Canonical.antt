@@ -3,7 +3,7 @@ use Rattle.std.proofs.Common.{◌≡◌, ◌≢◌, ℕ, zero, suc, ◌<◌, Opt
 use Rattle.std.specs.Prelude.{slice_get, slice_set}
 use Rattle.gate_net.specs.Net.{Node, flatten_option, before_dead, trimmed}
 use Rattle.gate_net.specs.Edits.{node_redirected}
-use Rattle.wire_edit.specs.Changes.{with_least_free}
+use Rattle.wire_edit.specs.Changes.{with_least_free, least_free}
 use Rattle.rm_base.proofs.Public.{set_other, set_there, tail_same}
 
 pub tail_canonical : (o : Option Node) (os : List (Option Node)) → trimmed (o ∷ os) ≡ o ∷ os → trimmed os ≡ os
@@ -65,10 +65,6 @@ flatten-trimmed (o ∷ os) x = at o (trimmed os) x (λ y. flatten-trimmed os y)
     at (Some n) ps (suc x) h = h x
 
 -- THE LEAST FREE NUMBER
-abbrev pub least_free : List (Option Node) → ℕ
-least_free [] = 0
-least_free (None ∷ os) = 0
-least_free (Some n ∷ os) = suc (least_free os)
 
 pub least_is_free : (os : List (Option Node)) → flatten_option (slice_get os (least_free os)) ≡ None
 least_is_free [] = refl

@@ -1,9 +1,9 @@
 -- Whether a new pin closes a cycle can be told.
 use Rattle.std.proofs.Common.{◌≡◌, ℕ, Bool, true, false, ◌↔◌, inl, inr, Some, refl, ◌∙◌, ap}
 use Rattle.rm_base.specs.declared.numbers.NodeId.{NodeId}
-use Rattle.gate_net.proofs.Public.{after_right, after_there, after_upward, is_after}
+use Rattle.gate_net.proofs.Public.{after_right, after_there, after_upward}
 use Rattle.gate_net.specs.Net.{Net, IsAcyclic}
-use Rattle.gate_net.specs.Paths.{Reaches, pin, on}
+use Rattle.gate_net.specs.Paths.{Reaches, pin, on, is_after}
 use Rattle.wire_edit.specs.declared.steps.Step.TheVariants.{Add}
 use Rattle.wire_edit.specs.declared.refusal.EditRefusal.TheVariants.{NoNode, WrongKind}
 use Rattle.wire_edit.specs.Tests.{is_live, is_junction}

@@ -7,22 +7,12 @@ use Rattle.gate_net.specs.Net.{Node, Net, node_at, flatten_option, before_dead, 
 use Rattle.gate_net.specs.Edits.{constant_node, DiffersAt, MakesGate}
 use Rattle.gate_graph.specs.Circuit.{Circuit, net_of, free_pins, free_nodes}
 use Rattle.gate_graph.specs.Changes.{CanEdit, Edits}
-use Rattle.wire_edit.specs.Changes.{Change, append, remove, fix, readers, new_not, retire, changed, CanChange, with_least_free, with_new_not, without_node}
+use Rattle.wire_edit.specs.Changes.{Change, append, remove, fix, readers, new_not, retire, changed, CanChange, with_least_free, with_new_not, without_node, least_free, pins_added, nodes_added}
 use Rattle.wire_edit.specs.Edited.{edit_of}
-use Rattle.wire_edit.proofs.Canonical.{least_free, least_is_free, below_is_live, least-there, least-other, gone-other, gone-there, same_nodes, canonical_least, canonical_trimmed}
+use Rattle.wire_edit.proofs.Canonical.{least_is_free, below_is_live, least-there, least-other, gone-other, gone-there, same_nodes, canonical_least, canonical_trimmed}
 use Rattle.wire_edit.proofs.Conditions.{to_constant}
 
--- pins that a change makes
-abbrev pub pins_of : Change → ℕ
-pins_of (append gate driver) = 1
-pins_of (new_not driver) = 1
-pins_of _ = 0
-
-abbrev pub nodes_of : Change → ℕ
-nodes_of (new_not driver) = 1
-nodes_of _ = 0
-
-pub can_edit : (v : Circuit) (change : Change) → IsWellFormed (net_of v) → CanChange (net_of v) change → pins_of change ≤ free_pins v → nodes_of change ≤ free_nodes v → CanEdit v (edit_of change)
+pub can_edit : (v : Circuit) (change : Change) → IsWellFormed (net_of v) → CanChange (net_of v) change → pins_added change ≤ free_pins v → nodes_added change ≤ free_nodes v → CanEdit v (edit_of change)
 can_edit v (append gate driver) well (j, (live, (ne, apart))) pins free = (j, (live, (ne, (apart, pins))))
 can_edit v (remove gate position) well can pins free = can
 can_edit v (fix gate position value) well (g, lt) pins free =
@@ -79,7 +69,7 @@ edited_net v w (new_not driver) well well' e = same_net (net_of w) (with_new_not
 edited_net v w (retire gate) well well' e = same_net (net_of w) (without_node (net_of v) gate) (gone_net v w gate well' e.0.0 e.0.1) e.0.0.observed
 
 -- what is free of pins and nodes afterwards
-pub edited_room : (v w : Circuit) (change : Change) → Edits v (edit_of change) w → (free_pins w + pins_of change ≡ free_pins v) × (free_nodes v ≤ free_nodes w + nodes_of change)
+pub edited_room : (v w : Circuit) (change : Change) → Edits v (edit_of change) w → (free_pins w + pins_added change ≡ free_pins v) × (free_nodes v ≤ free_nodes w + nodes_added change)
 edited_room v w (append gate driver) e = (e.1.1.pins_left, omega (arith, e.1.1.nodes_left))
 edited_room v w (remove gate position) e = (e.1.1.pins_left, omega (arith, e.1.1.nodes_left))
 edited_room v w (fix gate position value) e = (e.1.1.pins_left, omega (arith, e.1.1.nodes_left))

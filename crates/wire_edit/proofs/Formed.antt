@@ -9,9 +9,9 @@ use Rattle.rm_base.specs.declared.numbers.Fault.{Fault}
 use Rattle.gate_net.specs.Net.{Node, Net, node_at, drivers_in, drivers_of, Reads, IsLive, IsGate, IsGateKind, IsAcyclic, IsWellFormed, source_in, source_count}
 use Rattle.gate_net.specs.Values.{controlling, IsJunction}
 use Rattle.gate_net.specs.Edits.{constant_node, constant_kind, without, without_pin, IsUnread, DiffersAt}
-use Rattle.wire_edit.specs.Changes.{Change, append, remove, fix, readers, new_not, retire, changed, CanChange, with_new_not, without_node}
+use Rattle.wire_edit.specs.Changes.{Change, append, remove, fix, readers, new_not, retire, changed, CanChange, with_new_not, without_node, least_free}
 use Rattle.wire_edit.proofs.Totals.{total_least, total_gone}
-use Rattle.wire_edit.proofs.Canonical.{canonical_least, canonical_trimmed, least_free, least_is_free, least-there, least-other, gone-other, gone-there}
+use Rattle.wire_edit.proofs.Canonical.{canonical_least, canonical_trimmed, least_is_free, least-there, least-other, gone-other, gone-there}
 use Rattle.wire_edit.proofs.Conditions.{same_kind, constant_is}
 use Rattle.wire_edit.proofs.Plain.{some_none, source_weight, gate_weight}
 use Rattle.wire_edit.proofs.Redriven.{with_formed}

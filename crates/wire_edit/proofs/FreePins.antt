@@ -24,7 +24,7 @@ use Rattle.wire_edit.proofs.Totals.{total_gone}
 use Rattle.wire_edit.proofs.Formed.{junction_kind}
 use Rattle.wire_edit.proofs.Working.{above_constants, constant_bound, with_free}
 use Rattle.wire_edit.proofs.Counting.{free_without, free_set, free_moved}
-use Rattle.wire_edit.specs.Removals.{IsRemoval, ReadsNoConstants}
+use Rattle.wire_edit.specs.Removals.{IsRemoval, ReadsNoConstants, MakesNoPin}
 use Rattle.rm_base.proofs.Public.{stands_below}
 use Rattle.rm_base.specs.Numbers.{one_if}
 
@@ -122,13 +122,7 @@ moved_free from to lt (o ∷ os) =
     one None = omega arith
     one (Some n) = free_moved from to n.drivers lt
 
--- the change makes no pin
-abbrev pub MakesNone : Change → Type 0
-MakesNone (append gate driver) = ⊥
-MakesNone (new_not driver) = ⊥
-MakesNone _ = Unit {0}
-
-pub change_frees : (net : Net) → IsWellFormed net → (change : Change) → CanChange net change → MakesNone change → free_pins (changed net change) ≤ free_pins net
+pub change_frees : (net : Net) → IsWellFormed net → (change : Change) → CanChange net change → MakesNoPin change → free_pins (changed net change) ≤ free_pins net
 change_frees net well (append gate driver) can none = absurd none
 change_frees net well (new_not driver) can none = absurd none
 change_frees net well (remove gate p) (j, lt) none =
@@ -145,16 +139,16 @@ change_frees net well (retire gate) (g, unread) none =
     let a : free_pins (changed net (retire gate)) + free_in g.1.0.0 ≡ free_pins net = total_gone (λ (o : Option Node). free_in (drivers_in o)) refl net gate (record { kind = g.0; drivers = g.1.0.0 }) g.1.0.1 in
     omega arith
 
-pub constant_makes : (gate p : ℕ) (control constant : Option Bool) → MakesNone (constant_change gate p control constant)
+pub constant_makes : (gate p : ℕ) (control constant : Option Bool) → MakesNoPin (constant_change gate p control constant)
 constant_makes gate p control None = tt
 constant_makes gate p None (Some b) = tt
 constant_makes gate p (Some c) (Some b) = at (same_bool b c)
   where
-    at : (t : Bool) → MakesNone (if t then readers gate (constant_node c) else remove gate p)
+    at : (t : Bool) → MakesNoPin (if t then readers gate (constant_node c) else remove gate p)
     at true = tt
     at false = tt
 
-pub removal_makes : (net : Net) (step : Step) → IsRemoval step → MakesNone (change_of net step)
+pub removal_makes : (net : Net) (step : Step) → IsRemoval step → MakesNoPin (change_of net step)
 removal_makes net (Add gate y) r = absurd r
 removal_makes net (Fix gate position value) r = tt
 removal_makes net (NewNot y) r = absurd r

@@ -15,11 +15,11 @@ use Rattle.gate_net.specs.Laws.{KeepsValues, KeepsPlaces}
 use Rattle.wire_edit.specs.declared.steps.Step.{Step}
 use Rattle.wire_edit.specs.declared.steps.Step.TheVariants.{Add, Fix, NewNot, Const, Same, NoPins, OnePin, Twice, Twin, Dead}
 use Rattle.wire_edit.specs.Tests.{is_present, is_junction, is_not, is_gate, control_of, driver_at, constant_at, second_driver, is_in_use, is_repeated}
-use Rattle.wire_edit.specs.Changes.{remove, readers, changed, with_new_not, without_node}
+use Rattle.wire_edit.specs.Changes.{remove, readers, changed, with_new_not, without_node, least_free}
 use Rattle.wire_edit.specs.Steps.{is_not_at, Applies, constant_change, empty_node, or_zero, change_of, stepped}
 use Rattle.wire_edit.specs.Laws.{IsSound}
 use Rattle.wire_edit.proofs.Tested.{present, junction_is_one, control_is, not_is, constant_read, repeated_at, one_in, none_in, same_at}
-use Rattle.wire_edit.proofs.Canonical.{least_free, least_is_free}
+use Rattle.wire_edit.proofs.Canonical.{least_is_free}
 use Rattle.wire_edit.proofs.Conditions.{constant_is, second_is, applies_changes}
 use Rattle.wire_edit.proofs.Formed.{changes_keep_form, new_differs, gone_differs, free_unread}
 use Rattle.rm_base.proofs.Public.{bool_cases, map_agree, map_at, map_pointwise, stands_below}

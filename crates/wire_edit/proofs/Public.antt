@@ -3,35 +3,29 @@
 -- What a change takes of wires, nodes and numbers.
 pub use Rattle.wire_edit.proofs.Budgets.{length_budget}
 -- Lists of nodes without dead numbers at the end.
-pub use Rattle.wire_edit.proofs.Canonical.{below_is_live, least-there, least_free, least_is_free}
+pub use Rattle.wire_edit.proofs.Canonical.{below_is_live, least-there, least_is_free}
 -- A step that may be made makes a change that may be made.
-pub use Rattle.wire_edit.proofs.Conditions.{applies_changes, constant_apart, no_pins}
--- Counts of numbers that pass a test, and of free pins.
-pub use Rattle.wire_edit.proofs.Counting.{free_moved, free_set, free_without}
--- An edit of a graph makes the change of its net.
-pub use Rattle.wire_edit.proofs.Editing.{nodes_of}
+pub use Rattle.wire_edit.proofs.Conditions.{applies_changes}
 -- Tidying ends.
 pub use Rattle.wire_edit.proofs.Ending.{wires_grow}
 -- A change keeps the net well formed.
-pub use Rattle.wire_edit.proofs.Formed.{changes_keep_form, free_unread, junction_kind, new_differs}
+pub use Rattle.wire_edit.proofs.Formed.{free_unread, new_differs}
 -- What the next step tells.
-pub use Rattle.wire_edit.proofs.Ordering.{live_below, next_applies, tidy_refuses}
+pub use Rattle.wire_edit.proofs.Ordering.{live_below, next_applies}
 -- Sources and constants stay as they are.
 pub use Rattle.wire_edit.proofs.Plain.{some_none}
 -- What the calls that read a graph tell of its net.
 pub use Rattle.wire_edit.proofs.Reading.{gate_live}
 -- What the tests of nodes tell.
-pub use Rattle.wire_edit.proofs.Tested.{among_at, gate_is, is_gate_there, is_live_there, junction_gate}
+pub use Rattle.wire_edit.proofs.Tested.{among_at, gate_is, is_live_there, junction_gate}
 -- Sums over the numbers of a net.
 pub use Rattle.wire_edit.proofs.Totalling.{live_within}
 -- Sums over the nodes of a net.
 pub use Rattle.wire_edit.proofs.Totals.{total_gone, total_least, total_map, total_trimmed, total_with}
 -- Walks along lists.
 pub use Rattle.wire_edit.proofs.Walks.{march, next_place}
--- Each tidying step lowers the work that is left.
-pub use Rattle.wire_edit.proofs.Working.{above_constants, constant_bound, gate_weight, with_free}
 -- A tidy net has no pin that a constant drives, and no removal makes another pin free.
-pub use Rattle.wire_edit.proofs.FreePins.{MakesNone, all_free, below_two, change_frees, constant_makes, constant_node_is, fix_frees, free_all, moved_free, reader_gate, removal_frees, removal_makes, sum_same, tidy_reads_none}
+pub use Rattle.wire_edit.proofs.FreePins.{all_free, constant_makes, fix_frees, reader_gate, removal_frees, tidy_reads_none}
 -- The tidying order to its end, and a fix before it.
 pub use Rattle.wire_edit.proofs.Falling.{fix_applies, fix_falls, removal_pins, step_formed, tidies_to_one, tidying_removes}
 -- A step that applies and has room isn't refused.

@@ -13,7 +13,7 @@ use Rattle.wire_edit.specs.declared.steps.Step.{Step}
 use Rattle.wire_edit.specs.declared.steps.Step.TheVariants.{Add, Fix, NewNot, Const, Same, NoPins, OnePin, Twice, Twin, Dead}
 use Rattle.wire_edit.specs.declared.room.Room.{Room}
 use Rattle.wire_edit.specs.Tests.{is_gate, control_of, constant_at}
-use Rattle.wire_edit.specs.Changes.{Change, append, remove, fix, readers, new_not, retire, changed, CanChange}
+use Rattle.wire_edit.specs.Changes.{Change, append, remove, fix, readers, new_not, retire, changed, CanChange, pins_added, nodes_added}
 use Rattle.wire_edit.specs.Steps.{Applies, constant_change, change_of, stepped}
 use Rattle.wire_edit.specs.Refusals.{has_room, room_after, nodes_made}
 use Rattle.wire_edit.specs.Work.{pins_made}
@@ -23,7 +23,7 @@ use Rattle.wire_edit.specs.Trials.{IsTrial}
 use Rattle.wire_edit.proofs.Conditions.{applies_changes}
 use Rattle.wire_edit.proofs.Ordering.{none_rules, rules_none, gate_below}
 use Rattle.wire_edit.proofs.Staying.{no_gate_rules, untouched_quiet}
-use Rattle.wire_edit.proofs.Editing.{pins_of, nodes_of, can_edit, edited_net, edited_room}
+use Rattle.wire_edit.proofs.Editing.{can_edit, edited_net, edited_room}
 use Rattle.wire_edit.proofs.Budgets.{pins_gone, wires_budget, length_budget}
 
 -- QUIET
@@ -38,16 +38,16 @@ quiet_after net change marks next well can quiet k touched le x unmarked = elim 
 ]
 
 -- WHAT A STEP TAKES
-constant_pins : (gate p : ℕ) (control constant : Option Bool) → (pins_of (constant_change gate p control constant) ≡ 0) × (nodes_of (constant_change gate p control constant) ≡ 0)
+constant_pins : (gate p : ℕ) (control constant : Option Bool) → (pins_added (constant_change gate p control constant) ≡ 0) × (nodes_added (constant_change gate p control constant) ≡ 0)
 constant_pins gate p control None = (refl, refl)
 constant_pins gate p None (Some b) = (refl, refl)
 constant_pins gate p (Some c) (Some b) = at (same_bool b c)
   where
-    at : (t : Bool) → (pins_of (if t then readers gate (constant_node c) else remove gate p) ≡ 0) × (nodes_of (if t then readers gate (constant_node c) else remove gate p) ≡ 0)
+    at : (t : Bool) → (pins_added (if t then readers gate (constant_node c) else remove gate p) ≡ 0) × (nodes_added (if t then readers gate (constant_node c) else remove gate p) ≡ 0)
     at true = (refl, refl)
     at false = (refl, refl)
 
-pub step_pins : (net : Net) (step : Step) → (pins_of (change_of net step) ≡ pins_made step) × (nodes_of (change_of net step) ≡ nodes_made step)
+pub step_pins : (net : Net) (step : Step) → (pins_added (change_of net step) ≡ pins_made step) × (nodes_added (change_of net step) ≡ nodes_made step)
 step_pins net (Add gate node) = (refl, refl)
 step_pins net (Fix gate position value) = (refl, refl)
 step_pins net (NewNot node) = (refl, refl)
@@ -110,15 +110,15 @@ module _ (v : Circuit) (trail : Trail) (room : Room) (marks : ℕ) (agenda : Lis
 
   pub step_can_edit : CanEdit v (edit_of change)
   step_can_edit =
-      let p : (pins_of change ≡ pins_made step) × (nodes_of change ≡ nodes_made step) = step_pins (net_of v) step in
+      let p : (pins_added change ≡ pins_made step) × (nodes_added change ≡ nodes_made step) = step_pins (net_of v) step in
       can_edit v change well can (omega (arith, p.0, takes.pins, t.pins)) (omega (arith, p.1, takes.nodes, t.nodes))
 
-  gone_within : pins_gone (net_of v) change ≤ wire_count (net_of v) + pins_of change
-  gone_within = let b : wire_count (changed (net_of v) change) + pins_gone (net_of v) change ≤ wire_count (net_of v) + pins_of change = wires_budget (net_of v) change well can in omega (arith, b)
+  gone_within : pins_gone (net_of v) change ≤ wire_count (net_of v) + pins_added change
+  gone_within = let b : wire_count (changed (net_of v) change) + pins_gone (net_of v) change ≤ wire_count (net_of v) + pins_added change = wires_budget (net_of v) change well can in omega (arith, b)
 
   pub step_entries : entries_for v (edit_of change) ≤ trail.spare
   step_entries =
-      let p : (pins_of change ≡ pins_made step) × (nodes_of change ≡ nodes_made step) = step_pins (net_of v) step in
+      let p : (pins_added change ≡ pins_made step) × (nodes_added change ≡ nodes_made step) = step_pins (net_of v) step in
       omega (arith, entries_are v change, gone_within, p.0, takes.pins, takes.steps, t.entries)
 
   module _ (w : Circuit) (after : Trail) (next : List Bool) (well' : IsWellFormed (net_of w)) (edits : Edits v (edit_of change) w) (lead : LeadOn v w trail.entries after.entries) (spent : after.spare + entries_for v (edit_of change) ≡ trail.spare) (few : length (net_of w).nodes ≤ 4294967295) where
@@ -127,10 +127,10 @@ module _ (v : Circuit) (trail : Trail) (room : Room) (marks : ℕ) (agenda : Lis
 
     pub step_trial : KeepsMarks agenda next → MarksTouched (net_of v) change next → IsTrial w after (room_after room step) marks next
     step_trial k touched =
-        let p : (pins_of change ≡ pins_made step) × (nodes_of change ≡ nodes_made step) = step_pins (net_of v) step in
-        let wires : wire_count (changed (net_of v) change) + pins_gone (net_of v) change ≤ wire_count (net_of v) + pins_of change = wires_budget (net_of v) change well can in
-        let room_is : (free_pins w + pins_of change ≡ free_pins v) × (free_nodes v ≤ free_nodes w + nodes_of change) = edited_room v w change edits in
-        let long : length (changed (net_of v) change).nodes ≤ length (net_of v).nodes + nodes_of change = length_budget (net_of v) change in
+        let p : (pins_added change ≡ pins_made step) × (nodes_added change ≡ nodes_made step) = step_pins (net_of v) step in
+        let wires : wire_count (changed (net_of v) change) + pins_gone (net_of v) change ≤ wire_count (net_of v) + pins_added change = wires_budget (net_of v) change well can in
+        let room_is : (free_pins w + pins_added change ≡ free_pins v) × (free_nodes v ≤ free_nodes w + nodes_added change) = edited_room v w change edits in
+        let long : length (changed (net_of v) change).nodes ≤ length (net_of v).nodes + nodes_added change = length_budget (net_of v) change in
         let is : net_of w ≡ changed (net_of v) change = step_net in
         let wires_is : wire_count (net_of w) ≡ wire_count (changed (net_of v) change) = ap wire_count is in
         let long_is : length (net_of w).nodes ≡ length (changed (net_of v) change).nodes = ap (λ (n : Net). length n.nodes) is in

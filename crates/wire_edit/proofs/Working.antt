@@ -9,15 +9,15 @@ use Rattle.std.proofs.lemmas.List.{length_push}
 use Rattle.gate_net.proofs.Public.{drivers_redirected, node_at-moved, node_at-other, node_at-there, redirect_cases}
 use Rattle.gate_net.specs.declared.Kind.{Kind}
 use Rattle.gate_net.specs.declared.Kind.TheVariants.{Source, Zero, One, And, Or, Not}
-use Rattle.gate_net.specs.Net.{Node, Net, node_at, kind_in, kind_of, drivers_in, drivers_of, flatten_option, Reads, IsObserved, IsLive, IsGate, IsGateKind, IsWellFormed, count_in, gate_in, wire_count, gate_count}
+use Rattle.gate_net.specs.Net.{Node, Net, node_at, kind_in, kind_of, drivers_in, drivers_of, flatten_option, Reads, IsObserved, IsLive, IsGate, IsGateKind, IsWellFormed, gate_in, wire_count, gate_count}
 use Rattle.gate_net.specs.Edits.{with_drivers, with_pin, without, without_pin, constant_node, redirected, node_redirected, with_readers_moved, IsUnread}
-use Rattle.wire_edit.specs.Tests.{is_present, gate_control, is_not_kind, is_gate, is_in_use, live_in}
-use Rattle.wire_edit.specs.Changes.{append, remove, fix, readers, retire, changed, CanChange, with_new_not, without_node}
+use Rattle.wire_edit.specs.Tests.{is_present, gate_control, is_not_kind, is_gate, is_in_use, live_in, gate_weight}
+use Rattle.wire_edit.specs.Changes.{append, remove, fix, readers, retire, changed, CanChange, with_new_not, without_node, least_free}
 use Rattle.wire_edit.specs.Refusals.{live_count}
 use Rattle.wire_edit.specs.Work.{free_in, free_pins, count_from, is_used_gate, used_gates, work}
 use Rattle.wire_edit.proofs.Tested.{gate_is, is_gate_there, read_in_use, observed_in_use, used_by}
 use Rattle.wire_edit.proofs.Totals.{total_with, total_map, total_least, total_gone}
-use Rattle.wire_edit.proofs.Canonical.{least_free, least_is_free, least-there, gone-there}
+use Rattle.wire_edit.proofs.Canonical.{least_is_free, least-there, gone-there}
 use Rattle.wire_edit.proofs.Plain.{some_none}
 use Rattle.wire_edit.proofs.Conditions.{constant_apart}
 use Rattle.wire_edit.proofs.Formed.{without_before, new_differs, gone_differs, free_unread, junction_kind}
@@ -31,9 +31,6 @@ free_weight o = free_in (drivers_in o)
 
 abbrev wire_weight : Option Node → ℕ
 wire_weight o = length (drivers_in o)
-
-abbrev pub gate_weight : Option Node → ℕ
-gate_weight o = count_in o gate_in
 
 sum_mono : (f g : Option Node → ℕ) → ((o : Option Node) → f o ≤ g o) → (os : List (Option Node)) → sum_by f os ≤ sum_by g os
 sum_mono f g h [] = omega arith

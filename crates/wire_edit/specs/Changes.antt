@@ -1,5 +1,5 @@
 -- The changes of which steps are made: one of them for each step.
-use Rattle.std.specs.Prelude.{◌≢◌, ℕ, ◌<◌, Bool, Option, Some, None, List, [], ◌∷◌, length, slice_set}
+use Rattle.std.specs.Prelude.{◌≢◌, ℕ, ◌<◌, Bool, Option, Some, None, List, [], ◌∷◌, length, slice_set, suc}
 use Rattle.gate_net.specs.declared.Kind.TheVariants.{Not}
 use Rattle.gate_net.specs.Net.{Node, Net, drivers_of, trimmed, IsLive, IsGate}
 use Rattle.gate_net.specs.Values.{IsJunction}
@@ -19,6 +19,12 @@ abbrev pub with_least_free : List (Option Node) → Node → List (Option Node)
 with_least_free [] n = Some n ∷ []
 with_least_free (None ∷ os) n = Some n ∷ os
 with_least_free (Some m ∷ os) n = Some m ∷ with_least_free os n
+
+-- the least number that no live node has
+abbrev pub least_free : List (Option Node) → ℕ
+least_free [] = 0
+least_free (None ∷ os) = 0
+least_free (Some n ∷ os) = suc (least_free os)
 
 -- a Not of the node has the least free number
 abbrev pub with_new_not : Net → ℕ → Net
@@ -46,3 +52,14 @@ CanChange net (fix gate position value) = IsGate net gate × (position < length 
 CanChange net (readers from to) = IsGate net from × (IsLive net to × ((to ≢ from) × (Reaches net from to → ⊥)))
 CanChange net (new_not driver) = IsLive net driver
 CanChange net (retire gate) = IsGate net gate × IsUnread net gate
+
+-- how many pins a change makes
+abbrev pub pins_added : Change → ℕ
+pins_added (append gate driver) = 1
+pins_added (new_not driver) = 1
+pins_added _ = 0
+
+-- how many nodes a change makes
+abbrev pub nodes_added : Change → ℕ
+nodes_added (new_not driver) = 1
+nodes_added _ = 0

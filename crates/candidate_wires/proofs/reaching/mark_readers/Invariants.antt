@@ -2,9 +2,9 @@ use Rattle.std.proofs.Common.{Some, length, map, ℕ, ◌++◌, ◌≡◌}
 use Rattle.std.specs.Prelude.{slice_get}
 use Rattle.gate_graph.specs.Circuit.{net_of}
 use Rattle.gate_graph.specs.Search.{IsSeen}
-use Rattle.refutation.proofs.Public.{MarksSome}
 use Rattle.candidate_wires.proofs.reaching.mark_readers.Given as goal
 use Rattle.rm_base.specs.declared.numbers.NodeId.{NodeId}
+use Rattle.refutation.specs.Reaching.{MarksSome}
 
 abbrev pub invariant-loop-reader : goal.invariant-loop-reader
 invariant-loop-reader l = record {

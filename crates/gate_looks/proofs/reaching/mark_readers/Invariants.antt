@@ -2,8 +2,8 @@ use Rattle.std.proofs.Common.{Some, length, map, ℕ, ◌++◌, ◌≡◌}
 use Rattle.std.specs.Prelude.{slice_get}
 use Rattle.gate_graph.specs.Circuit.{net_of}
 use Rattle.gate_graph.specs.Search.{IsSeen}
-use Rattle.gate_looks.proofs.Reaches.{MarksSome}
 use Rattle.gate_looks.proofs.reaching.mark_readers.Given as goal
+use Rattle.gate_looks.specs.Reaching.{MarksSome}
 use Rattle.rm_base.specs.declared.numbers.NodeId.{NodeId}
 
 abbrev pub invariant-loop-reader : goal.invariant-loop-reader

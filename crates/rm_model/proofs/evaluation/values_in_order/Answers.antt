@@ -1,15 +1,14 @@
 use Rattle.std.proofs.Common.{◌≡◌, ◌++◌, ◌∙◌, ap, sym, subst, List, true, Some, get_or}
 use Rattle.std.specs.Prelude.{slice_get}
 use Rattle.std.proofs.lemmas.Option.{slice_get-get_or}
-use Rattle.rm_model.specs.Value.{is_among, source_names, observed_names}
+use Rattle.rm_model.specs.Value.{is_among, source_names, observed_names, outputs_of}
 use Rattle.rm_model.specs.WellFormed.{is_distinct}
 use Rattle.rm_model.specs.declared.parts.Cover.{Cover}
-use Rattle.rm_model.proofs.CoverLemmas.{outputs_of}
 use Rattle.rm_model.proofs.NameLemmas.{distinct-left}
 use Rattle.rm_model.proofs.EvaluationLemmas.{all-known, outputs_at}
 use Rattle.rm_model.proofs.ModelLemmas.{cover-inputs-driven, observed-driven}
-use Rattle.rm_model.proofs.evaluation.values_in_order.Goals as goal
 use Rattle.rm_base.specs.Words.{Word}
+use Rattle.rm_model.proofs.evaluation.values_in_order.Goals as goal
 
 pub known_sources-requires-clause-once : goal.known_sources-requires-clause-once
 known_sources-requires-clause-once c = subst (λ (l : List Word). is_distinct l ≡ true) (sym (c.as_slice.ensures.value ∙ c.in_ok-names.ensures)) (distinct-left (source_names c.args.model.now) (outputs_of c.args.model.now.covers) c.requires.well_formed.driven_once)

@@ -3,11 +3,11 @@ use Rattle.std.specs.Prelude.{position, is_none}
 use Rattle.rm_model.specs.Numbers.{IsFixed}
 use Rattle.rm_model.specs.Ranks.{ranks_of, AreRanks}
 use Rattle.rm_model.specs.RankFaults.{IsRefused}
-use Rattle.rm_model.specs.Value.{source_names}
+use Rattle.rm_model.specs.Value.{source_names, outputs_of}
 use Rattle.rm_model.specs.WellFormed.{is_distinct}
 use Rattle.rm_model.specs.declared.parts.Cover.{Cover}
 use Rattle.rm_model.specs.declared.ranking.RankFault.{RankFault}
-use Rattle.rm_model.proofs.CoverLemmas.{distinct-right, outputs_of}
+use Rattle.rm_model.proofs.CoverLemmas.{distinct-right}
 use Rattle.rm_model.proofs.RankLaws.{ranks_are_fixed}
 use Rattle.rm_model.proofs.RankingLemmas.{fixed-ranks, if_ok_map}
 use Rattle.rm_model.proofs.ranking.rank.Goals as goal
