@@ -13,7 +13,6 @@ use Rattle.gate_looks.specs.Reaching.{MarksReached, MarksReaders, Searches, sear
 use Rattle.gate_looks.proofs.Told.{reader_live}
 
 -- ONE READER
-
 pub marks_none : (net : Net) (x : ℕ) (reached listed : List Bool) → MarksSome net x reached reached listed listed
 marks_none net x reached listed = record {
   kept = λ z e. e;

@@ -1,38 +1,26 @@
 -- The covers of the model of a net: one a gate, and then copies and constants.
-use Rattle.std.proofs.Common.{◌≡◌, ◌≢◌, ◌≤◌, ◌<◌, ◌+◌, ℕ, zero, suc, Bool, true, false, not, List, [], ◌∷◌, ◌++◌, map, length, refl, sym, ◌∙◌, ap, arith, subst, ◌⊎◌, inl, inr}
+use Rattle.std.proofs.Common.{◌≡◌, ◌≢◌, ◌≤◌, ◌<◌, ◌+◌, ℕ, zero, suc, Bool, true, false, not, List, [], ◌∷◌, ◌++◌, map, length, refl, sym, ◌∙◌, ap, arith, subst, ◌⊎◌, inl, inr, ◌||◌}
 use Rattle.std.specs.Prelude.{Option, None, Some, slice_get, if◌then◌else◌, nat_eq}
 use Rattle.std.proofs.lemmas.Option.{slice_get_within}
 use Rattle.std.proofs.lemmas.Bool.Decides.{eqb_tells}
 use Rattle.std.proofs.lemmas.Bool.{and_parts}
-use Rattle.rm_model.specs.Value.{is_among}
-use Rattle.rm_model.specs.WellFormed.{IsWellFormed, is_distinct}
+use Rattle.rm_model.specs.Value.{is_among, outputs_of}
+use Rattle.rm_model.specs.WellFormed.{is_distinct}
 use Rattle.rm_model.specs.declared.parts.Cover.{Cover}
 use Rattle.rm_model.specs.declared.parts.Model.{Model}
 use Rattle.gate_net.specs.declared.Kind.{Kind}
 use Rattle.gate_net.specs.declared.Kind.TheVariants.{Source, Zero, One, And, Or, Not}
-use Rattle.gate_net.specs.Net.{Node, Net, node_at, flatten_option, IsGateKind, IsWellFormed as IsNet}
+use Rattle.gate_net.specs.Net.{Node, Net, node_at, flatten_option, IsGateKind}
 use Rattle.cover_decompose.proofs.Public.{among_in, in_among}
 use Rattle.graph_to_model.specs.Names.{node_name}
 use Rattle.rm_model.specs.declared.parts.Literal.TheVariants.{One as One1}
 use Rattle.graph_to_model.specs.NetModel.{cover_with, gate_cover_of, gate_cover, gate_covers, onto, copy_cover, copy_covers}
-use Rattle.graph_to_model.specs.Fits.{Fits}
-use Rattle.graph_to_model.specs.Laws.{AreFew}
-use Rattle.graph_to_model.proofs.GateValues.{CoverOf, cover_of}
-use Rattle.graph_to_model.proofs.TidyFacts.{IsLean}
+use Rattle.graph_to_model.proofs.GateValues.{cover_of}
 use Rattle.rm_base.proofs.Public.{both_and, in_append, in_map, not_excludes}
 use Rattle.rm_base.specs.Members.{In}
 use Rattle.rm_base.specs.Words.{Word}
-
--- what the laws take of a net and the model whose names it gets
-pub record IsWritable (m : Model) (net : Net) : Type 0 where
-  pub formed : IsNet net
-  pub lean : IsLean net
-  pub well : IsWellFormed m
-  pub fit : Fits net m
-  pub few : AreFew net m
-
-abbrev pub output_names : List Cover → List Word
-output_names cs = map (λ (c : Cover). c.output) cs
+use Rattle.rm_model.specs.Words.{is_word}
+use Rattle.graph_to_model.specs.Covers.{AreNodesFrom, IsGateCover, IsCopyCover}
 
 -- DISTINCT NAMES
 not_true : (b : Bool) → (b ≡ true → ⊥) → not b ≡ true
@@ -55,12 +43,6 @@ distinct-append (x ∷ xs) ys h k apart =
     (distinct-append xs ys (distinct_tail x xs h) k (λ y a b. apart y (inr a) b))
 
 -- GATES
--- the cover of the gate of that number
-pub record IsGateCover (m : Model) (net : Net) (n : ℕ) (c : Cover) : Type 0 where
-  pub node : Node
-  pub at : node_at net n ≡ Some node
-  pub cover : CoverOf node.kind (map (node_name m net) node.drivers) (node_name m net n) c
-
 pub cover_made : (kind : Kind) (inputs : List Word) (output : Word) → IsGateKind kind → (c : Cover) × (gate_cover_of kind inputs output ≡ Some c)
 cover_made Source inputs output h = absurd h
 cover_made Zero inputs output h = absurd h
@@ -69,17 +51,13 @@ cover_made And inputs output h = (_, refl)
 cover_made Or inputs output h = (_, refl)
 cover_made Not inputs output h = (_, refl)
 
--- the nodes from a number on
-abbrev pub AreFrom : Net → ℕ → List (Option Node) → Type 0
-AreFrom net n os = (k : ℕ) (o : Option Node) → slice_get os k ≡ Some o → node_at net (n + k) ≡ o
-
-pub rest_from : (net : Net) (n : ℕ) (o : Option Node) (os : List (Option Node)) → AreFrom net n (o ∷ os) → AreFrom net (n + 1) os
+pub rest_from : (net : Net) (n : ℕ) (o : Option Node) (os : List (Option Node)) → AreNodesFrom net n (o ∷ os) → AreNodesFrom net (n + 1) os
 rest_from net n o os same k p e = let next : n + suc k ≡ n + 1 + k = omega arith in subst (λ (z : ℕ). node_at net z ≡ p) next (same (suc k) p e)
 
-pub first_from : (net : Net) (n : ℕ) (o : Option Node) (os : List (Option Node)) → AreFrom net n (o ∷ os) → node_at net n ≡ o
+pub first_from : (net : Net) (n : ℕ) (o : Option Node) (os : List (Option Node)) → AreNodesFrom net n (o ∷ os) → node_at net n ≡ o
 first_from net n o os same = let here : n + 0 ≡ n = omega arith in subst (λ (z : ℕ). node_at net z ≡ o) here (same 0 o refl)
 
-pub all_from_start : (net : Net) → AreFrom net 0 net.nodes
+pub all_from_start : (net : Net) → AreNodesFrom net 0 net.nodes
 all_from_start net k o e = let here : 0 + k ≡ k = omega arith in subst (λ (z : ℕ). node_at net z ≡ o) (sym here) (ap flatten_option e)
 
 module _ (m : Model) (net : Net) where
@@ -97,7 +75,7 @@ module _ (m : Model) (net : Net) where
   onto_cases None cs c i = inr i
   onto_cases (Some d) cs c i = elim i [ inl e ↦ inl (ap Some e) | inr j ↦ inr j ]
 
-  pub in_gates : (n : ℕ) (os : List (Option Node)) (c : Cover) → AreFrom net n os → In (gate_covers m net n os) c → Found n (length os) c
+  pub in_gates : (n : ℕ) (os : List (Option Node)) (c : Cover) → AreNodesFrom net n os → In (gate_covers m net n os) c → (x : ℕ) × ((n ≤ x) × ((x < n + length os) × IsGateCover m net x c))
   in_gates n [] c same i = absurd i
   in_gates n (o ∷ os) c same i = elim (onto_cases (gate_cover m net n o) (gate_covers m net (n + 1) os) c i) [
     | inl e ↦ (n, (omega arith, (omega arith, gate_cover_is n o c (first_from net n o os same) e)))
@@ -115,7 +93,7 @@ module _ (m : Model) (net : Net) where
   abbrev Made : ℕ → List (Option Node) → ℕ → Type 0
   Made n os x = (c : Cover) × (In (gate_covers m net n os) c × IsGateCover m net x c)
 
-  pub gates_in : (n : ℕ) (os : List (Option Node)) → AreFrom net n os → (x : ℕ) (node : Node) → n ≤ x → x < n + length os → node_at net x ≡ Some node → IsGateKind node.kind → Made n os x
+  pub gates_in : (n : ℕ) (os : List (Option Node)) → AreNodesFrom net n os → (x : ℕ) (node : Node) → n ≤ x → x < n + length os → node_at net x ≡ Some node → IsGateKind node.kind → Made n os x
   gates_in n [] same x node low high at gate = absurd (omega arith)
   gates_in n (o ∷ os) same x node low high at gate = elim (eqb_tells x n) [
     | inl t ↦
@@ -144,20 +122,19 @@ copy_by m net n x false false = refl
 pub copy_out : (m : Model) (net : Net) (n : ℕ) (x : Word) → (copy_cover m net n x).output ≡ x
 copy_out m net n x = copy_by m net n x (nat_eq n 0) (nat_eq n 1)
 
--- a node and a name at one place
-abbrev pub At : List ℕ → List Word → ℕ → Word → Type 0
-At ns xs n x = (k : ℕ) × ((slice_get ns k ≡ Some n) × (slice_get xs k ≡ Some x))
+pub not_had : (xs : List Word) (x : Word) → is_among xs x ≡ false → In xs x → ⊥
+not_had xs x e i = let bad : true ≡ false = sym (among_in xs x i) ∙ e in cc
 
-pub record IsCopyCover (m : Model) (net : Net) (had : List Word) (ns : List ℕ) (xs : List Word) (c : Cover) : Type 0 where
-  pub node : ℕ
-  pub name : Word
-  pub at : At ns xs node name
-  pub is : c ≡ copy_cover m net node name
-  pub fresh : In had name → ⊥
+later_absent : (x : Word) (xs : List Word) (y : Word) → is_among (x ∷ xs) y ≡ false → is_among xs y ≡ false
+later_absent x xs y e = at (is_word y x) e
+  where
+    at : (b : Bool) → (b || is_among xs y) ≡ false → is_among xs y ≡ false
+    at true f = cc
+    at false f = f
 
 module _ (m : Model) (net : Net) where
-  shifted : (had more : List Word) (n : ℕ) (x : Word) (ns : List ℕ) (xs : List Word) (c : Cover) → ((y : Word) → In more y → In had y) → IsCopyCover m net had ns xs c → IsCopyCover m net more (n ∷ ns) (x ∷ xs) c
-  shifted had more n x ns xs c sub h = record { node = h.node; name = h.name; at = (suc h.at.0, h.at.1); is = h.is; fresh = λ i. h.fresh (sub h.name i) }
+  shifted : (had more : List Word) (n : ℕ) (x : Word) (ns : List ℕ) (xs : List Word) (c : Cover) → ((y : Word) → is_among had y ≡ false → is_among more y ≡ false) → IsCopyCover m net had ns xs c → IsCopyCover m net more (n ∷ ns) (x ∷ xs) c
+  shifted had more n x ns xs c sub h = record { node = h.node; name = h.name; at = (suc h.at.0, h.at.1); is = h.is; fresh = sub h.name h.fresh }
 
   pub in_copies : (had : List Word) (ns : List ℕ) (xs : List Word) (c : Cover) → In (copy_covers m net had ns xs) c → IsCopyCover m net had ns xs c
   in_copies had [] xs c i = absurd i
@@ -167,25 +144,25 @@ module _ (m : Model) (net : Net) where
       by_test : (b : Bool) → is_among had x ≡ b → In (if b then copy_covers m net had ns xs else copy_cover m net n x ∷ copy_covers m net (x ∷ had) ns xs) c → (In (copy_covers m net had ns xs) c → IsCopyCover m net had ns xs c) → (In (copy_covers m net (x ∷ had) ns xs) c → IsCopyCover m net (x ∷ had) ns xs c) → IsCopyCover m net had (n ∷ ns) (x ∷ xs) c
       by_test true e j old new = shifted had had n x ns xs c (λ y k. k) (old j)
       by_test false e j old new = elim j [
-        | inl is ↦ record { node = n; name = x; at = (0, (refl, refl)); is = sym is; fresh = λ k. (let bad : true ≡ false = sym (among_in had x k) ∙ e in cc) }
-        | inr k ↦ shifted (x ∷ had) had n x ns xs c (λ y l. inr l) (new k)
+        | inl is ↦ record { node = n; name = x; at = (0, (refl, refl)); is = sym is; fresh = e }
+        | inr k ↦ shifted (x ∷ had) had n x ns xs c (λ y l. later_absent x had y l) (new k)
       ]
 
-  pub copies_distinct : (had : List Word) (ns : List ℕ) (xs : List Word) → is_distinct (output_names (copy_covers m net had ns xs)) ≡ true
+  pub copies_distinct : (had : List Word) (ns : List ℕ) (xs : List Word) → is_distinct (outputs_of (copy_covers m net had ns xs)) ≡ true
   copies_distinct had [] xs = refl
   copies_distinct had (n ∷ ns) [] = refl
   copies_distinct had (n ∷ ns) (x ∷ xs) = by_test (is_among had x) (copies_distinct had ns xs) (copies_distinct (x ∷ had) ns xs)
     where
-      apart : In (output_names (copy_covers m net (x ∷ had) ns xs)) (copy_cover m net n x).output → ⊥
+      apart : In (outputs_of (copy_covers m net (x ∷ had) ns xs)) (copy_cover m net n x).output → ⊥
       apart i =
           let found = in_map (λ (c : Cover). c.output) (copy_covers m net (x ∷ had) ns xs) (copy_cover m net n x).output i in
           let copy = in_copies (x ∷ had) ns xs found.0 found.1.0 in
           let same : copy.name ≡ x = sym (copy_out m net copy.node copy.name) ∙ (sym (ap (λ (c : Cover). c.output) copy.is) ∙ (found.1.1 ∙ copy_out m net n x)) in
-          copy.fresh (inl (sym same))
+          not_had (x ∷ had) copy.name copy.fresh (inl (sym same))
 
-      by_test : (b : Bool) → is_distinct (output_names (copy_covers m net had ns xs)) ≡ true → is_distinct (output_names (copy_covers m net (x ∷ had) ns xs)) ≡ true → is_distinct (output_names (if b then copy_covers m net had ns xs else copy_cover m net n x ∷ copy_covers m net (x ∷ had) ns xs)) ≡ true
+      by_test : (b : Bool) → is_distinct (outputs_of (copy_covers m net had ns xs)) ≡ true → is_distinct (outputs_of (copy_covers m net (x ∷ had) ns xs)) ≡ true → is_distinct (outputs_of (if b then copy_covers m net had ns xs else copy_cover m net n x ∷ copy_covers m net (x ∷ had) ns xs)) ≡ true
       by_test true old new = old
-      by_test false old new = distinct_cons (copy_cover m net n x).output (output_names (copy_covers m net (x ∷ had) ns xs)) apart new
+      by_test false old new = distinct_cons (copy_cover m net n x).output (outputs_of (copy_covers m net (x ∷ had) ns xs)) apart new
 
   abbrev pub HasOrCopies : List Word → List ℕ → List Word → Word → Type 0
   HasOrCopies had ns xs x = In had x ⊎ ((c : Cover) × (In (copy_covers m net had ns xs) c × (c.output ≡ x)))
@@ -206,7 +183,7 @@ module _ (m : Model) (net : Net) where
   ]
 
   -- each name is had or copied
-  pub copies_in : (had : List Word) (ns : List ℕ) (xs : List Word) (n : ℕ) (x : Word) (k : ℕ) → slice_get ns k ≡ Some n → slice_get xs k ≡ Some x → HasOrCopies had ns xs x
+  pub copies_in : (had : List Word) (ns : List ℕ) (xs : List Word) (n : ℕ) (x : Word) (k : ℕ) → slice_get ns k ≡ Some n → slice_get xs k ≡ Some x → In had x ⊎ ((c : Cover) × (In (copy_covers m net had ns xs) c × (c.output ≡ x)))
   copies_in had [] xs n x k e f = absurd (no_place k n e)
   copies_in had (j ∷ ns) [] n x k e f = absurd (no_place k x f)
   copies_in had (j ∷ ns) (y ∷ xs) n x zero e f =
@@ -222,12 +199,12 @@ place_of (y ∷ xs) x (inl e) = (0, ap Some e)
 place_of (y ∷ xs) x (inr j) = let r = place_of xs x j in (suc r.0, r.1)
 
 -- names of the gates from a number on differ where that of the first gate differs from the later ones
-pub onto_names : (m : Model) (net : Net) (n : ℕ) (o : Option Node) (os : List (Option Node)) → AreFrom net n (o ∷ os) → ((c : Cover) → IsGateCover m net n c → In (output_names (gate_covers m net (n + 1) os)) c.output → ⊥) → is_distinct (output_names (gate_covers m net (n + 1) os)) ≡ true → is_distinct (output_names (gate_covers m net n (o ∷ os))) ≡ true
+pub onto_names : (m : Model) (net : Net) (n : ℕ) (o : Option Node) (os : List (Option Node)) → AreNodesFrom net n (o ∷ os) → ((c : Cover) → IsGateCover m net n c → In (outputs_of (gate_covers m net (n + 1) os)) c.output → ⊥) → is_distinct (outputs_of (gate_covers m net (n + 1) os)) ≡ true → is_distinct (outputs_of (gate_covers m net n (o ∷ os))) ≡ true
 onto_names m net n o os same apart rest = by_cover (gate_cover m net n o) refl
   where
-    by_cover : (p : Option Cover) → gate_cover m net n o ≡ p → is_distinct (output_names (onto p (gate_covers m net (n + 1) os))) ≡ true
+    by_cover : (p : Option Cover) → gate_cover m net n o ≡ p → is_distinct (outputs_of (onto p (gate_covers m net (n + 1) os))) ≡ true
     by_cover None e = rest
-    by_cover (Some c) e = distinct_cons c.output (output_names (gate_covers m net (n + 1) os)) (apart c (gate_cover_is m net n o c (first_from net n o os same) e)) rest
+    by_cover (Some c) e = distinct_cons c.output (outputs_of (gate_covers m net (n + 1) os)) (apart c (gate_cover_is m net n o c (first_from net n o os same) e)) rest
 
 -- live numbers are below the bound
 pub live_within : (net : Net) (x : ℕ) (node : Node) → node_at net x ≡ Some node → x < length net.nodes

@@ -4,7 +4,7 @@ use Rattle.std.specs.Prelude.{Option, None, Some, slice_get, if◌then◌else◌
 use Rattle.std.specs.List.{list_all, flat_map, filter_map}
 use Rattle.std.proofs.lemmas.Bool.{eq-eqb}
 use Rattle.std.proofs.lemmas.List.Elements.{All-cons, All-nil}
-use Rattle.rm_model.specs.Value.{is_among, source_names, observed_names, control_of}
+use Rattle.rm_model.specs.Value.{is_among, source_names, observed_names, control_of, outputs_of}
 use Rattle.rm_model.specs.WellFormed.{IsWellFormed, IsWellFormedCover, driven_names, used_names, names_of, is_token}
 use Rattle.rm_model.specs.declared.parts.Literal.{Literal}
 use Rattle.rm_model.specs.declared.parts.Literal.TheVariants.{One as One1}
@@ -16,17 +16,19 @@ use Rattle.gate_net.specs.declared.Kind.TheVariants.{Source, Zero, One, And, Or,
 use Rattle.gate_net.specs.Net.{Node, Net, node_at, Reads, IsGateKind, source_count}
 use Rattle.cover_decompose.proofs.Public.{among_in}
 use Rattle.std.specs.Fmt.{decimal}
-use Rattle.graph_to_model.specs.Names.{free_prefix, node_name}
-use Rattle.graph_to_model.specs.NetModel.{cover_with, model_of_net}
+use Rattle.graph_to_model.specs.Names.{free_prefix, node_name, IsGateNumber, HasName}
+use Rattle.graph_to_model.specs.NetModel.{cover_with, model_of_net, covers_of_gates, names_before_copies, covers_of_copies}
 use Rattle.graph_to_model.proofs.TidyFacts.{kind_is}
 use Rattle.graph_to_model.proofs.GateValues.{one_row}
 use Rattle.graph_to_model.proofs.Named.{StandsOn, source_name, gate_name}
-use Rattle.graph_to_model.proofs.Covers.{IsWritable, output_names, IsGateCover, all_from_start, in_gates, gates_in, IsCopyCover, in_copies, place_of, live_within, copy_out}
-use Rattle.graph_to_model.proofs.Outputs.{gates, had, copies, driven_once, observed_driven, gate_driven, gate_number}
+use Rattle.graph_to_model.proofs.Covers.{all_from_start, in_gates, gates_in, in_copies, place_of, live_within, copy_out}
+use Rattle.graph_to_model.proofs.Outputs.{driven_once, observed_driven, gate_driven, gate_number}
 use Rattle.graph_to_model.proofs.Tokens.{made_token}
 use Rattle.rm_base.proofs.Public.{all_pass_in, in_append, in_at, in_left, in_map, in_right, stands_below}
 use Rattle.rm_base.specs.Members.{In}
 use Rattle.rm_base.specs.Words.{Word}
+use Rattle.graph_to_model.specs.Writable.{IsWritable}
+use Rattle.graph_to_model.specs.Covers.{IsGateCover, IsCopyCover}
 
 all_pass : (test : Word → Bool) (xs : List Word) → ((x : Word) → In xs x → test x ≡ true) → list_all test xs ≡ true
 all_pass test [] h = refl
@@ -52,18 +54,6 @@ pub index_of : (ns : List ℕ) (n : ℕ) → In ns n → (k : ℕ) × (slice_get
 index_of [] n i = absurd i
 index_of (k ∷ ns) n (inl e) = (0, ap Some e)
 index_of (k ∷ ns) n (inr i) = let r = index_of ns n i in (suc r.0, r.1)
-
--- a source or a gate
-abbrev pub IsSourceNumber : Model → ℕ → Type 0
-IsSourceNumber m x = (k : ℕ) × ((x ≡ 2 + k) × (k < length (source_names m)))
-
-pub record IsGateNumber (net : Net) (x : ℕ) : Type 0 where
-  pub node : Node
-  pub at : node_at net x ≡ Some node
-  pub gate : IsGateKind node.kind
-
-abbrev pub HasName : Model → Net → ℕ → Type 0
-HasName m net x = IsSourceNumber m x ⊎ IsGateNumber net x
 
 module _ (m : Model) (net : Net) (w : IsWritable m net) where
   by_kind : (x : ℕ) (node : Node) (kind : Kind) → node_at net x ≡ Some node → node.kind ≡ kind → x ≢ 0 → x ≢ 1 → HasName m net x
@@ -95,7 +85,7 @@ module _ (m : Model) (net : Net) (w : IsWritable m net) where
       (λ (z : d ≡ 1). w.lean.no_one x p (subst (λ (y : ℕ). Reads net x p y) z reads))
 
   -- the cover of a gate
-  pub cover_at : (x : ℕ) → IsGateNumber net x → (c : Cover) × (In (gates m net w) c × IsGateCover m net x c)
+  pub cover_at : (x : ℕ) → IsGateNumber net x → (c : Cover) × (In (covers_of_gates m net) c × IsGateCover m net x c)
   cover_at x g = gates_in m net 0 net.nodes (all_from_start net) x g.node (omega arith) (omega (arith, live_within net x g.node g.at)) g.at g.gate
 
   pub name_driven : (x : ℕ) → HasName m net x → In (driven_names (model_of_net m net)) (node_name m net x)
@@ -156,14 +146,14 @@ module _ (m : Model) (net : Net) (w : IsWritable m net) where
   IsOfGate c = (x : ℕ) × ((x < length net.nodes) × IsGateCover m net x c)
 
   abbrev IsOfCopy : Cover → Type 0
-  IsOfCopy c = IsCopyCover m net (had m net w) net.observed (observed_names m) c
+  IsOfCopy c = IsCopyCover m net (names_before_copies m net) net.observed (observed_names m) c
 
   pub cover_cases : (c : Cover) → In M.covers c → IsOfGate c ⊎ IsOfCopy c
-  cover_cases c i = cases (in_append (gates m net w) (copies m net w) c i)
+  cover_cases c i = cases (in_append (covers_of_gates m net) (covers_of_copies m net) c i)
     where
-      cases : (In (gates m net w) c ⊎ In (copies m net w) c) → IsOfGate c ⊎ IsOfCopy c
+      cases : (In (covers_of_gates m net) c ⊎ In (covers_of_copies m net) c) → IsOfGate c ⊎ IsOfCopy c
       cases (inl j) = let f = in_gates m net 0 net.nodes c (all_from_start net) j in inl (f.0, (omega (arith, f.1.1.0), f.1.1.1))
-      cases (inr j) = inr (in_copies m net (had m net w) net.observed (observed_names m) c j)
+      cases (inr j) = inr (in_copies m net (names_before_copies m net) net.observed (observed_names m) c j)
 
   pub one_pin_not : (x : ℕ) (node : Node) → node_at net x ≡ Some node → node.kind ≡ Not → length (map (node_name m net) node.drivers) ≡ 1
   one_pin_not x node at e =
@@ -213,7 +203,7 @@ module _ (m : Model) (net : Net) (w : IsWritable m net) where
       let r = cover_reads f.0 (cover_cases f.0 f.1.0) y f.1.1 in
       subst (λ (z : Word). is_token z ≡ true) r.1.0 (name_token r.0 (live_small r.0 r.1.1.1) r.1.1.0)
 
-  output_token : (y : Word) → In (output_names M.covers) y → is_token y ≡ true
+  output_token : (y : Word) → In (outputs_of M.covers) y → is_token y ≡ true
   output_token y i =
       let f = in_map (λ (c : Cover). c.output) M.covers y i in
       subst (λ (z : Word). is_token z ≡ true) f.1.1 (by_cases f.0 (cover_cases f.0 f.1.0))
@@ -255,13 +245,13 @@ module _ (m : Model) (net : Net) (w : IsWritable m net) where
   token : (y : Word) → In (names_of M) y → is_token y ≡ true
   token y i = outer (in_append (m.name ∷ driven_names M) (m.clocks ++ used_names M) y i)
     where
-      driven : (In (source_names m) y ⊎ In (output_names M.covers) y) → is_token y ≡ true
+      driven : (In (source_names m) y ⊎ In (outputs_of M.covers) y) → is_token y ≡ true
       driven (inl j) = source_token y j
       driven (inr j) = output_token y j
 
       front : In (m.name ∷ driven_names M) y → is_token y ≡ true
       front (inl e) = kept_token y (in_left (m.name ∷ driven_names m) _ y (inl e))
-      front (inr j) = driven (in_append (source_names m) (output_names M.covers) y j)
+      front (inr j) = driven (in_append (source_names m) (outputs_of M.covers) y j)
 
       back : (In m.clocks y ⊎ In (used_names M) y) → is_token y ≡ true
       back (inl j) = kept_token y (in_right (m.name ∷ driven_names m) _ y (in_left m.clocks _ y j))

@@ -1,24 +1,22 @@
 -- The cover of a gate has the gate's value.
-use Rattle.std.proofs.Common.{◌≡◌, ◌≢◌, ◌≤◌, ℕ, zero, suc, Bool, true, false, not, ◌||◌, List, [], ◌∷◌, map, length, refl, sym, ◌∙◌, ap, subst, arith, All, nat_eq}
+use Rattle.std.proofs.Common.{◌≡◌, ◌≤◌, ℕ, zero, suc, Bool, true, false, not, ◌||◌, List, [], ◌∷◌, map, length, refl, sym, ◌∙◌, ap, subst, arith, All, nat_eq}
 use Rattle.std.specs.Prelude.{if◌then◌else◌, replicate, Some, nat_le}
 use Rattle.std.proofs.lemmas.Bool.{ne_eqb, or_left}
 use Rattle.std.proofs.lemmas.List.Elements.{All-cons, All-nil, All-head, All-tail}
 use Rattle.std.specs.List.{list_any}
 use Rattle.std.proofs.Math.Bool.{and-false, or-false}
-use Rattle.rm_model.specs.Value.{row_matches, value_of, value_of_rows}
-use Rattle.rm_model.specs.WellFormed.{IsWellFormedCover}
+use Rattle.rm_model.specs.Value.{row_matches, value_of_rows}
 use Rattle.rm_model.specs.declared.parts.Literal.{Literal}
 use Rattle.rm_model.specs.declared.parts.Literal.TheVariants.{Zero, One, Any}
 use Rattle.rm_model.specs.declared.parts.Cover.{Cover}
 use Rattle.gate_net.specs.declared.Kind.{Kind}
-use Rattle.gate_net.specs.declared.Kind.TheVariants as kinds
 use Rattle.gate_net.specs.declared.Kind.TheVariants.{Source, And, Or, Not}
-use Rattle.gate_net.specs.Net.{IsGateKind}
-use Rattle.gate_net.specs.Values.{junction, not_first, gate_value}
+use Rattle.gate_net.specs.Values.{junction, not_first}
 use Rattle.graph_to_model.specs.NetModel.{row_per_pin, gate_cover_of}
-use Rattle.graph_to_model.specs.Wires.{is_copy}
 use Rattle.rm_base.proofs.Public.{some_is}
 use Rattle.rm_base.specs.Words.{Word}
+use Rattle.gate_net.specs.declared.Kind.TheVariants as kinds
+use Rattle.graph_to_model.specs.Covers.{CoverOf}
 
 -- a row of 1s matches where all are 1
 pub ones_match : (bs : List Bool) → row_matches (replicate (length bs) One) bs ≡ junction false bs
@@ -45,15 +43,6 @@ pub rows_match : (bs : List Bool) → list_any (λ (row : List Literal). row_mat
 rows_match [] = refl
 rows_match (true ∷ bs) = or_left (row_matches (replicate (length bs) Any) bs) _ (anys_match bs)
 rows_match (false ∷ bs) = behind_any false bs (row_per_pin (length bs)) ∙ rows_match bs
-
--- what holds of the cover of a gate of that kind
-pub record CoverOf (kind : Kind) (inputs : List Word) (output : Word) (c : Cover) : Type 0 where
-  pub gate : IsGateKind kind
-  pub in_is : c.inputs ≡ inputs
-  pub out_is : c.output ≡ output
-  pub formed : (kind ≡ Not → length inputs ≡ 1) → IsWellFormedCover c
-  pub value : (bs : List Bool) → length bs ≡ length inputs → (kind ≡ Not → length inputs ≡ 1) → value_of c bs ≡ gate_value kind false bs
-  pub no_copy : (kind ≡ Not → length inputs ≡ 1) → (kind ≢ Not → 2 ≤ length inputs) → is_copy c ≡ false
 
 if_same : (b : Bool) → (if b then true else false) ≡ b
 if_same true = refl

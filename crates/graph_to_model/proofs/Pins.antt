@@ -10,15 +10,16 @@ use Rattle.gate_net.specs.declared.Kind.{Kind}
 use Rattle.gate_net.specs.declared.Kind.TheVariants.{Source, Zero, One, And, Or, Not}
 use Rattle.gate_net.specs.Net.{Node, Net, node_at, drivers_in, drivers_of, wire_count, IsGateKind, plain_node}
 use Rattle.graph_to_model.specs.Names.{node_name}
-use Rattle.graph_to_model.specs.NetModel.{cover_with, gate_cover_of, gate_cover, gate_covers, onto, copy_cover, copy_covers, model_of_net}
+use Rattle.graph_to_model.specs.NetModel.{cover_with, gate_cover_of, gate_cover, gate_covers, onto, copy_cover, copy_covers, model_of_net, covers_of_gates, names_before_copies, covers_of_copies}
 use Rattle.graph_to_model.specs.Wires.{is_copy, wires}
 use Rattle.graph_to_model.proofs.TidyFacts.{kind_is, source_plain, zero_plain, one_plain}
 use Rattle.graph_to_model.proofs.GateValues.{cover_of}
-use Rattle.graph_to_model.proofs.Covers.{IsWritable, AreFrom, rest_from, first_from, all_from_start}
-use Rattle.graph_to_model.proofs.Outputs.{gates, had, copies}
+use Rattle.graph_to_model.proofs.Covers.{rest_from, first_from, all_from_start}
 use Rattle.graph_to_model.proofs.Formed.{one_pin_not}
 use Rattle.rm_base.proofs.Public.{some_is}
 use Rattle.rm_base.specs.Words.{Word}
+use Rattle.graph_to_model.specs.Writable.{IsWritable}
+use Rattle.graph_to_model.specs.Covers.{AreNodesFrom}
 
 abbrev pub pins : Cover → ℕ
 pins c = if is_copy c then 0 else length c.inputs
@@ -71,7 +72,7 @@ module _ (m : Model) (net : Net) (w : IsWritable m net) where
       let no : is_copy c ≡ false = h.no_copy (one_pin_not m net w x node at) (two_or_more x node node.kind at refl h.gate) in
       rw no (ap length h.in_is ∙ map_words (node_name m net) node.drivers)
 
-  pub gate_pins : (n : ℕ) (os : List (Option Node)) → AreFrom net n os → sum_by pins (gate_covers m net n os) ≡ sum_by node_pins os
+  pub gate_pins : (n : ℕ) (os : List (Option Node)) → AreNodesFrom net n os → sum_by pins (gate_covers m net n os) ≡ sum_by node_pins os
   gate_pins n [] same = refl
   gate_pins n (o ∷ os) same = by_node o (gate_cover m net n o) refl (first_from net n o os same) (gate_pins (n + 1) os (rest_from net n o os same)) ∙ sym (sum_by-cons node_pins o os)
     where
@@ -101,8 +102,8 @@ module _ (m : Model) (net : Net) (w : IsWritable m net) where
 
   pub wires_are : wires (model_of_net m net) ≡ wire_count net
   wires_are =
-      let front : sum_by pins (gates m net w) ≡ wire_count net = gate_pins 0 net.nodes (all_from_start net) in
-      let back : sum_by pins (copies m net w) ≡ 0 = copies_pins (had m net w) net.observed (observed_names m) in
-      let sum : sum_by pins (gates m net w ++ copies m net w) ≡ sum_by pins (gates m net w) + sum_by pins (copies m net w) = sum_by-append pins (gates m net w) (copies m net w) in
-      let all : sum_by pins (gates m net w ++ copies m net w) ≡ wire_count net = omega arith in
+      let front : sum_by pins (covers_of_gates m net) ≡ wire_count net = gate_pins 0 net.nodes (all_from_start net) in
+      let back : sum_by pins (covers_of_copies m net) ≡ 0 = copies_pins (names_before_copies m net) net.observed (observed_names m) in
+      let sum : sum_by pins (covers_of_gates m net ++ covers_of_copies m net) ≡ sum_by pins (covers_of_gates m net) + sum_by pins (covers_of_copies m net) = sum_by-append pins (covers_of_gates m net) (covers_of_copies m net) in
+      let all : sum_by pins (covers_of_gates m net ++ covers_of_copies m net) ≡ wire_count net = omega arith in
       all

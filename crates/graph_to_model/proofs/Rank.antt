@@ -4,7 +4,7 @@ use Rattle.std.specs.Prelude.{Option, None, Some, if◌then◌else◌}
 use Rattle.std.proofs.lemmas.Bool.Decides.{eqb_tells}
 use Rattle.std.proofs.lemmas.Bool.{and_parts}
 use Rattle.rm_model.specs.Words.{is_word}
-use Rattle.rm_model.specs.Value.{source_names, observed_names, is_cover_output, IsRanked}
+use Rattle.rm_model.specs.Value.{source_names, observed_names, is_cover_output, IsRanked, outputs_of}
 use Rattle.rm_model.specs.WellFormed.{is_distinct}
 use Rattle.rm_model.specs.declared.parts.Cover.{Cover}
 use Rattle.rm_model.specs.declared.parts.Model.{Model}
@@ -12,16 +12,18 @@ use Rattle.gate_net.specs.declared.Kind.{Kind}
 use Rattle.gate_net.specs.declared.Kind.TheVariants.{Source, Zero, One, And, Or, Not}
 use Rattle.gate_net.specs.Net.{Node, Net, node_at, Reads, IsGateKind}
 use Rattle.wire_edit.specs.Tests.{is_gate}
-use Rattle.graph_to_model.specs.Names.{node_name}
-use Rattle.graph_to_model.specs.NetModel.{model_of_net}
+use Rattle.graph_to_model.specs.Names.{node_name, IsGateNumber, HasName}
+use Rattle.graph_to_model.specs.NetModel.{model_of_net, covers_of_gates, names_before_copies}
 use Rattle.graph_to_model.proofs.Named.{source_name, gates_told}
-use Rattle.graph_to_model.proofs.Covers.{IsWritable, output_names, IsGateCover, IsCopyCover, copy_out, live_within, distinct_head, distinct_tail}
-use Rattle.graph_to_model.proofs.Outputs.{gates, had, driven_once, gate_number}
-use Rattle.graph_to_model.proofs.Formed.{HasName, IsGateNumber, cover_at, cover_cases, cover_reads, driver_named, index_of, all_in_list}
+use Rattle.graph_to_model.proofs.Covers.{copy_out, live_within, distinct_head, distinct_tail, not_had}
+use Rattle.graph_to_model.proofs.Outputs.{driven_once, gate_number}
+use Rattle.graph_to_model.proofs.Formed.{cover_at, cover_cases, cover_reads, driver_named, index_of, all_in_list}
 use Rattle.rm_base.proofs.Public.{in_any, in_at, in_map, in_mapped, in_right, stands_below}
 use Rattle.rm_base.specs.Members.{In}
 use Rattle.rm_base.specs.Words.{Word}
 use Rattle.rm_model.proofs.Public.{is_word-same, same_word}
+use Rattle.graph_to_model.specs.Writable.{IsWritable}
+use Rattle.graph_to_model.specs.Covers.{IsGateCover, IsCopyCover}
 
 apart : (xs ys : List Word) (x : Word) → is_distinct (xs ++ ys) ≡ true → In xs x → In ys x → ⊥
 apart [] ys x e i j = i
@@ -122,8 +124,8 @@ module _ (m : Model) (net : Net) (w : IsWritable m net) where
       let name : node_name m net d ≡ s.0 = ap (node_name m net) e ∙ source_name m net w.fit w.few.names k s.0 s.1 in
       let f = in_any (λ (c : Cover). is_word (node_name m net d) c.output) (model_of_net m net).covers output in
       let same : node_name m net d ≡ (f.0).output = same_word (node_name m net d) (f.0).output f.1.1 in
-      apart (source_names m) (output_names (model_of_net m net).covers) s.0 (driven_once m net w) (in_at (source_names m) k s.0 s.1)
-      (subst (In (output_names (model_of_net m net).covers)) (sym same ∙ name) (in_mapped (λ (c : Cover). c.output) (model_of_net m net).covers f.0 f.1.0))
+      apart (source_names m) (outputs_of (model_of_net m net).covers) s.0 (driven_once m net w) (in_at (source_names m) k s.0 s.1)
+      (subst (In (outputs_of (model_of_net m net).covers)) (sym same ∙ name) (in_mapped (λ (c : Cover). c.output) (model_of_net m net).covers f.0 f.1.0))
 
   abbrev Below : Cover → Word → Type 0
   Below c y = is_cover_output (model_of_net m net) y ≡ true → rank y < rank c.output
@@ -143,14 +145,14 @@ module _ (m : Model) (net : Net) (w : IsWritable m net) where
           let driver : rank y ≡ r d = ap rank (sym name) ∙ gate_rank d gate in
           omega (arith, driver, own, less)
 
-  copy_below : (c : Cover) → IsCopyCover m net (had m net w) net.observed (observed_names m) c → (y : Word) → In c.inputs y → Below c y
+  copy_below : (c : Cover) → IsCopyCover m net (names_before_copies m net) net.observed (observed_names m) c → (y : Word) → In c.inputs y → Below c y
   copy_below c copy y i output = by_name (cover_reads m net w c (inr copy) y i)
     where
       own : rank c.output ≡ top
       own = ap rank (ap (λ (d : Cover). d.output) copy.is ∙ copy_out m net copy.node copy.name) ∙ rank_absent (length net.nodes) copy.name (λ g gate name.
           let k = cover_at m net w g gate in
-          copy.fresh (in_right (source_names m) (output_names (gates m net w)) copy.name
-          (subst (In (output_names (gates m net w))) (k.1.1.cover.out_is ∙ name) (in_mapped (λ (d : Cover). d.output) (gates m net w) k.0 k.1.0))))
+          not_had (names_before_copies m net) copy.name copy.fresh (in_right (source_names m) (outputs_of (covers_of_gates m net)) copy.name
+          (subst (In (outputs_of (covers_of_gates m net))) (k.1.1.cover.out_is ∙ name) (in_mapped (λ (d : Cover). d.output) (covers_of_gates m net) k.0 k.1.0))))
 
       rank_less : (d : ℕ) → rank y ≡ r d → r d ≤ greatest (length net.nodes) → rank c.output ≡ top → rank y < rank c.output
       rank_less d driver low own = let t : top ≡ suc (greatest (length net.nodes)) = top_is in omega (arith, driver, low, own, t)
@@ -169,6 +171,6 @@ module _ (m : Model) (net : Net) (w : IsWritable m net) where
         (λ c i. all_in_list (λ x. Below c x) c.inputs (λ y j. by_case c (cover_cases m net w c i) y j)),
   )
     where
-      by_case : (c : Cover) → (((x : ℕ) × ((x < length net.nodes) × IsGateCover m net x c)) ⊎ IsCopyCover m net (had m net w) net.observed (observed_names m) c) → (y : Word) → In c.inputs y → Below c y
+      by_case : (c : Cover) → (((x : ℕ) × ((x < length net.nodes) × IsGateCover m net x c)) ⊎ IsCopyCover m net (names_before_copies m net) net.observed (observed_names m) c) → (y : Word) → In c.inputs y → Below c y
       by_case c (inl (x, (h, g))) y j = gate_below c x g y j
       by_case c (inr copy) y j = copy_below c copy y j

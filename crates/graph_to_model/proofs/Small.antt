@@ -16,16 +16,18 @@ use Rattle.gate_net.specs.Net.{Net, wire_count, IsGateKind}
 use Rattle.cover_decompose.proofs.Public.{among_in}
 use Rattle.graph_to_model.specs.Laws.{IsSmall, IsNamed}
 use Rattle.graph_to_model.specs.Names.{kept_names, least_free, observed_name, node_name, free_prefix}
-use Rattle.graph_to_model.specs.NetModel.{cover_with, copy_cover, copy_covers, model_of_net}
+use Rattle.graph_to_model.specs.NetModel.{cover_with, copy_cover, copy_covers, model_of_net, covers_of_gates, names_before_copies, covers_of_copies}
 use Rattle.graph_to_model.specs.Wires.{is_copy}
-use Rattle.graph_to_model.proofs.Covers.{IsWritable, IsGateCover, IsCopyCover, all_from_start, in_gates, in_copies, copy_out}
-use Rattle.graph_to_model.proofs.Outputs.{gates, had, copies, cover_number}
+use Rattle.graph_to_model.proofs.Covers.{all_from_start, in_gates, in_copies, copy_out}
+use Rattle.graph_to_model.proofs.Outputs.{cover_number}
 use Rattle.graph_to_model.proofs.Formed.{one_pin_not}
 use Rattle.graph_to_model.proofs.Pins.{pins, two_or_more, gate_pins}
 use Rattle.graph_to_model.proofs.Tokens.{least_le}
 use Rattle.rm_base.proofs.Public.{all_from_members, in_append, in_at}
 use Rattle.rm_base.specs.Members.{In}
 use Rattle.rm_base.specs.Words.{Word}
+use Rattle.graph_to_model.specs.Writable.{IsWritable}
+use Rattle.graph_to_model.specs.Covers.{IsGateCover, IsCopyCover}
 
 -- covers of a pin at least are no more than their pins
 count_pins : (cs : List Cover) → ((c : Cover) → In cs c → 1 ≤ pins c) → length cs ≤ sum_by pins cs
@@ -130,33 +132,33 @@ module _ (m : Model) (net : Net) (w : IsWritable m net) where
       some Zero e = two Zero e (λ h. cc)
       some One e = two One e (λ h. cc)
 
-  of_gate : (c : Cover) → In (gates m net w) c → (x : ℕ) × ((x < length net.nodes) × IsGateCover m net x c)
+  of_gate : (c : Cover) → In (covers_of_gates m net) c → (x : ℕ) × ((x < length net.nodes) × IsGateCover m net x c)
   of_gate c i = let f = in_gates m net 0 net.nodes c (all_from_start net) i in (f.0, (omega (arith, f.1.1.0), f.1.1.1))
 
-  all_pins : sum_by pins (gates m net w) ≡ wire_count net
+  all_pins : sum_by pins (covers_of_gates m net) ≡ wire_count net
   all_pins = gate_pins m net w 0 net.nodes (all_from_start net)
 
-  few_gates : length (gates m net w) ≤ wire_count net
+  few_gates : length (covers_of_gates m net) ≤ wire_count net
   few_gates =
-      let most : length (gates m net w) ≤ sum_by pins (gates m net w) = count_pins (gates m net w) (λ c i. let g = of_gate c i in let h = gate_inputs g.0 c g.1.1 in omega (arith, h.0, h.1)) in
-      let sum : sum_by pins (gates m net w) ≡ wire_count net = all_pins in
+      let most : length (covers_of_gates m net) ≤ sum_by pins (covers_of_gates m net) = count_pins (covers_of_gates m net) (λ c i. let g = of_gate c i in let h = gate_inputs g.0 c g.1.1 in omega (arith, h.0, h.1)) in
+      let sum : sum_by pins (covers_of_gates m net) ≡ wire_count net = all_pins in
       omega arith
 
-  in_gate : (x : ℕ) (c : Cover) → IsGateCover m net x c → In (gates m net w) c → length c.inputs ≤ wire_count net
+  in_gate : (x : ℕ) (c : Cover) → IsGateCover m net x c → In (covers_of_gates m net) c → length c.inputs ≤ wire_count net
   in_gate x c g i =
       let h = gate_inputs x c g in
-      let most : pins c ≤ sum_by pins (gates m net w) = pins_within (gates m net w) c i in
-      let sum : sum_by pins (gates m net w) ≡ wire_count net = all_pins in
+      let most : pins c ≤ sum_by pins (covers_of_gates m net) = pins_within (covers_of_gates m net) c i in
+      let sum : sum_by pins (covers_of_gates m net) ≡ wire_count net = all_pins in
       omega (arith, h.0)
 
-  gate_small : (c : Cover) → In (gates m net w) c → (length c.inputs ≤ max 1 (wire_count net)) × IsNamed m c.output
+  gate_small : (c : Cover) → In (covers_of_gates m net) c → (length c.inputs ≤ max 1 (wire_count net)) × IsNamed m c.output
   gate_small c i =
       let g = of_gate c i in (
         inputs_within (length c.inputs) (wire_count net) (in_gate g.0 c g.1.1 i),
         subst (IsNamed m) (sym g.1.1.cover.out_is) (number_named g.0 (cover_number m net w g.0 c g.1.1) g.1.0),
       )
 
-  copy_small : (c : Cover) → IsCopyCover m net (had m net w) net.observed (observed_names m) c → (length c.inputs ≤ max 1 (wire_count net)) × IsNamed m c.output
+  copy_small : (c : Cover) → IsCopyCover m net (names_before_copies m net) net.observed (observed_names m) c → (length c.inputs ≤ max 1 (wire_count net)) × IsNamed m c.output
   copy_small c copy =
       let one : length (copy_cover m net copy.node copy.name).inputs ≤ 1 = copy_inputs m net copy.node copy.name in
       let own : length c.inputs ≡ length (copy_cover m net copy.node copy.name).inputs = ap (λ (d : Cover). length d.inputs) copy.is in (
@@ -165,17 +167,17 @@ module _ (m : Model) (net : Net) (w : IsWritable m net) where
       )
 
   each : (c : Cover) → In (model_of_net m net).covers c → (length c.inputs ≤ max 1 (wire_count net)) × IsNamed m c.output
-  each c i = elim (in_append (gates m net w) (copies m net w) c i) [
+  each c i = elim (in_append (covers_of_gates m net) (covers_of_copies m net) c i) [
     | inl j ↦ gate_small c j
-    | inr j ↦ copy_small c (in_copies m net (had m net w) net.observed (observed_names m) c j)
+    | inr j ↦ copy_small c (in_copies m net (names_before_copies m net) net.observed (observed_names m) c j)
   ]
 
   pub small : IsSmall net m
   small = record {
     covers =
-        let front : length (gates m net w) ≤ wire_count net = few_gates in
-        let back : length (copies m net w) ≤ length (observed_names m) = copies_few m net (had m net w) net.observed (observed_names m) in
-        let both : length (gates m net w ++ copies m net w) ≡ length (gates m net w) + length (copies m net w) = length-append (gates m net w) (copies m net w) in
+        let front : length (covers_of_gates m net) ≤ wire_count net = few_gates in
+        let back : length (covers_of_copies m net) ≤ length (observed_names m) = copies_few m net (names_before_copies m net) net.observed (observed_names m) in
+        let both : length (covers_of_gates m net ++ covers_of_copies m net) ≡ length (covers_of_gates m net) + length (covers_of_copies m net) = length-append (covers_of_gates m net) (covers_of_copies m net) in
         omega arith;
     inputs = All-from_recursion (λ (c : Cover). length c.inputs ≤ max 1 (wire_count net)) (model_of_net m net).covers (all_from_members (λ (c : Cover). length c.inputs ≤ max 1 (wire_count net)) (model_of_net m net).covers (λ c i. (each c i).0));
     outputs = All-from_recursion (λ (c : Cover). IsNamed m c.output) (model_of_net m net).covers (all_from_members (λ (c : Cover). IsNamed m c.output) (model_of_net m net).covers (λ c i. (each c i).1));

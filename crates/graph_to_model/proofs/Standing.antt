@@ -6,7 +6,7 @@ use Rattle.std.proofs.lemmas.Bool.{eq-eqb}
 use Rattle.std.proofs.lemmas.Bool.Decides.{eqb_tells}
 use Rattle.std.proofs.lemmas.List.Elements.{All-head, All-tail}
 use Rattle.graph_to_model.proofs.Pins.{map_words}
-use Rattle.rm_model.specs.Value.{source_names, observed_names, value_of, IsConsistent}
+use Rattle.rm_model.specs.Value.{source_names, observed_names, value_of, IsConsistent, outputs_of}
 use Rattle.rm_model.specs.declared.parts.Literal.TheVariants.{One as One1}
 use Rattle.rm_model.specs.declared.parts.Cover.{Cover}
 use Rattle.rm_model.specs.declared.parts.Model.{Model}
@@ -16,15 +16,16 @@ use Rattle.gate_net.specs.declared.Kind.TheVariants.{Source, Zero, One, And, Or,
 use Rattle.gate_net.specs.Net.{Net, node_at, Reads, IsGateKind, plain_node, source_count}
 use Rattle.gate_net.specs.Values.{AreGoodValues, gate_value}
 use Rattle.cover_decompose.specs.StandsFor.{StandsFor, SameAssignment}
-use Rattle.graph_to_model.specs.Names.{node_name}
-use Rattle.graph_to_model.specs.NetModel.{cover_with, copy_cover, model_of_net}
+use Rattle.graph_to_model.specs.Names.{node_name, IsGateNumber, HasName}
+use Rattle.graph_to_model.specs.NetModel.{cover_with, copy_cover, model_of_net, covers_of_gates, names_before_copies, covers_of_copies}
 use Rattle.graph_to_model.proofs.Named.{source_name, stands_on_gate}
-use Rattle.graph_to_model.proofs.Covers.{IsWritable, output_names, in_copies, copies_in, in_gates, all_from_start, place_of, copy_out, HasOrCopies}
-use Rattle.graph_to_model.proofs.Outputs.{gates, had, copies, cover_number}
-use Rattle.graph_to_model.proofs.Formed.{HasName, IsGateNumber, cover_at, driver_named, live_named, one_pin_not}
+use Rattle.graph_to_model.proofs.Covers.{in_copies, copies_in, in_gates, all_from_start, place_of, copy_out, HasOrCopies}
+use Rattle.graph_to_model.proofs.Outputs.{cover_number}
+use Rattle.graph_to_model.proofs.Formed.{cover_at, driver_named, live_named, one_pin_not}
 use Rattle.rm_base.proofs.Public.{in_append, in_left, in_map, in_right, some_is, stands_below}
 use Rattle.rm_base.specs.Members.{In}
 use Rattle.rm_base.specs.Words.{Word}
+use Rattle.graph_to_model.specs.Writable.{IsWritable}
 
 pub all_at : {X : Type 0} (P : X → Type 0) (xs : List X) (x : X) → All P xs → In xs x → P x
 all_at P [] x h i = absurd i
@@ -94,7 +95,7 @@ module _ (m : Model) (net : Net) (w : IsWritable m net) (a values : ℕ → Bool
       let c = cover_at m net w x g in
       let node = c.1.1.node in
       let at : node_at net x ≡ Some node = c.1.1.at in
-      let kept : v (c.0).output ≡ value_of c.0 (map v (c.0).inputs) = all_at (λ (d : Cover). v d.output ≡ value_of d (map v d.inputs)) (model_of_net m net).covers c.0 consistent (in_left (gates m net w) (copies m net w) c.0 c.1.0) in
+      let kept : v (c.0).output ≡ value_of c.0 (map v (c.0).inputs) = all_at (λ (d : Cover). v d.output ≡ value_of d (map v d.inputs)) (model_of_net m net).covers c.0 consistent (in_left (covers_of_gates m net) (covers_of_copies m net) c.0 c.1.0) in
       let drivers : map v (map (node_name m net) node.drivers) ≡ map values node.drivers =
       map_map v (node_name m net) node.drivers ∙ map_agree (λ d. v (node_name m net d)) values node.drivers (λ p d e. h p d (rw at e) (driver_named m net w x node p d at e)) in
       let inputs : map v (c.0).inputs ≡ map values node.drivers = ap (map v) c.1.1.cover.in_is ∙ drivers in
@@ -136,9 +137,9 @@ module _ (m : Model) (net : Net) (w : IsWritable m net) (a values : ℕ → Bool
 
   -- the observed node at a place has the value of the name there
   place_right : (k n : ℕ) (x : Word) → slice_get net.observed k ≡ Some n → slice_get (observed_names m) k ≡ Some x → v x ≡ values n
-  place_right k n x e f = found (copies_in m net (had m net w) net.observed (observed_names m) n x k e f)
+  place_right k n x e f = found (copies_in m net (names_before_copies m net) net.observed (observed_names m) n x k e f)
     where
-      of_gate : (c : Cover) → In (gates m net w) c → c.output ≡ x → v x ≡ values n
+      of_gate : (c : Cover) → In (covers_of_gates m net) c → c.output ≡ x → v x ≡ values n
       of_gate c i out =
           let g = in_gates m net 0 net.nodes c (all_from_start net) i in
           let name : node_name m net g.0 ≡ x = sym g.1.1.1.cover.out_is ∙ out in
@@ -152,23 +153,23 @@ module _ (m : Model) (net : Net) (w : IsWritable m net) (a values : ℕ → Bool
           let within : p.0 < length (source_names m) = slice_get_within (source_names m) p.0 x p.1 in
           ap v (sym (ap (node_name m net) on ∙ source_name m net w.fit w.few.names p.0 x p.1)) ∙ source_right n p.0 on within
 
-      of_copy : (c : Cover) → In (copies m net w) c → c.output ≡ x → v x ≡ values n
+      of_copy : (c : Cover) → In (covers_of_copies m net) c → c.output ≡ x → v x ≡ values n
       of_copy c i out =
-          let copy = in_copies m net (had m net w) net.observed (observed_names m) c i in
+          let copy = in_copies m net (names_before_copies m net) net.observed (observed_names m) c i in
           let name : copy.name ≡ x = sym (copy_out m net copy.node copy.name) ∙ (sym (ap (λ (d : Cover). d.output) copy.is) ∙ out) in
           let on : copy.node ≡ n = some_is copy.node n (sym copy.at.1.0 ∙ (w.fit.points.same copy.at.0 k x (copy.at.1.1 ∙ ap Some name) f ∙ e)) in
-          let kept : v c.output ≡ value_of c (map v c.inputs) = all_at (λ (d : Cover). v d.output ≡ value_of d (map v d.inputs)) (model_of_net m net).covers c consistent (in_right (gates m net w) (copies m net w) c i) in
+          let kept : v c.output ≡ value_of c (map v c.inputs) = all_at (λ (d : Cover). v d.output ≡ value_of d (map v d.inputs)) (model_of_net m net).covers c consistent (in_right (covers_of_gates m net) (covers_of_copies m net) c i) in
           let said : v copy.name ≡ value_of (copy_cover m net copy.node copy.name) (map v (copy_cover m net copy.node copy.name).inputs) =
           ap v (sym (copy_out m net copy.node copy.name)) ∙ subst (λ (d : Cover). v d.output ≡ value_of d (map v d.inputs)) copy.is kept in
           let live : node_at net copy.node ≢ None = w.formed.observed_live copy.node (copy.at.0, copy.at.1.0) in
           ap v (sym name) ∙ (copy_value copy.node copy.name (nat_eq copy.node 0) (nat_eq copy.node 1) refl refl live said ∙ ap values on)
 
-      in_had : (In (source_names m) x ⊎ In (output_names (gates m net w)) x) → v x ≡ values n
+      in_had : (In (source_names m) x ⊎ In (outputs_of (covers_of_gates m net)) x) → v x ≡ values n
       in_had (inl i) = of_source i
-      in_had (inr i) = let g = in_map (λ (c : Cover). c.output) (gates m net w) x i in of_gate g.0 g.1.0 g.1.1
+      in_had (inr i) = let g = in_map (λ (c : Cover). c.output) (covers_of_gates m net) x i in of_gate g.0 g.1.0 g.1.1
 
-      found : HasOrCopies m net (had m net w) net.observed (observed_names m) x → v x ≡ values n
-      found (inl i) = in_had (in_append (source_names m) (output_names (gates m net w)) x i)
+      found : HasOrCopies m net (names_before_copies m net) net.observed (observed_names m) x → v x ≡ values n
+      found (inl i) = in_had (in_append (source_names m) (outputs_of (covers_of_gates m net)) x i)
       found (inr c) = of_copy c.0 c.1.0 c.1.1
 
   pub observed_right : map values net.observed ≡ map v (observed_names m)

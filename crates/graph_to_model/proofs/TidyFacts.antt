@@ -11,12 +11,8 @@ use Rattle.wire_edit.specs.Steps.{Applies}
 use Rattle.wire_edit.specs.Order.{IsTidy}
 use Rattle.wire_edit.specs.Laws.{TidyMeans, IsTidying}
 use Rattle.rm_base.proofs.Public.{both_and, not_from_false}
+use Rattle.graph_to_model.specs.Writable.{IsLean}
 
--- gates are in use, read no constant, and have two pins or more unless they are Nots
-pub record IsLean (net : Net) : Type 0 where
-  pub no_zero : (y p : ℕ) → Reads net y p 0 → ⊥
-  pub no_one : (y p : ℕ) → Reads net y p 1 → ⊥
-  pub two_pins : (y : ℕ) → is_junction net y ≡ true → 2 ≤ length (drivers_of net y)
 
 not_false : (b : Bool) → (b ≡ false → ⊥) → b ≡ true
 not_false true h = refl

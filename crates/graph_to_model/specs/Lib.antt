@@ -6,3 +6,5 @@ pub mod Laws
 pub mod Rows
 pub mod Making
 pub mod Refusals
+pub mod Writable
+pub mod Covers

@@ -1,6 +1,6 @@
 -- The model of a net: its gates as covers by ascending number, and then copies and constants for the other observed names.
 use Rattle.std.specs.Prelude.{zero, suc, ◌+◌, ◌==◌, ℕ, Bool, true, false, nat_le, List, [], ◌∷◌, ◌++◌, map, length, if◌then◌else◌, Option, None, Some, replicate}
-use Rattle.rm_model.specs.Value.{source_names, observed_names, is_among}
+use Rattle.rm_model.specs.Value.{source_names, observed_names, is_among, outputs_of}
 use Rattle.rm_model.specs.declared.parts.Literal.{Literal}
 use Rattle.rm_model.specs.declared.parts.Literal.TheVariants.{Zero, One, Any}
 use Rattle.rm_model.specs.declared.parts.Cover.{Cover}
@@ -55,8 +55,17 @@ copy_covers m net had (n ∷ ns) [] = []
 copy_covers m net had (n ∷ ns) (x ∷ xs) =
     if is_among had x then copy_covers m net had ns xs else copy_cover m net n x ∷ copy_covers m net (x ∷ had) ns xs
 
+-- the covers of all gates
+abbrev pub covers_of_gates : Model → Net → List Cover
+covers_of_gates m net = gate_covers m net 0 net.nodes
+
+-- the names of the sources and the gates
+abbrev pub names_before_copies : Model → Net → List Word
+names_before_copies m net = source_names m ++ outputs_of (covers_of_gates m net)
+
+-- the copies and constants of the observed names that are none of these
+abbrev pub covers_of_copies : Model → Net → List Cover
+covers_of_copies m net = copy_covers m net (names_before_copies m net) net.observed (observed_names m)
+
 abbrev pub model_of_net : Model → Net → Model
-model_of_net m net =
-    let gates = gate_covers m net 0 net.nodes in
-    let had = source_names m ++ map (λ (c : Cover). c.output) gates in
-    record m { covers = gates ++ copy_covers m net had net.observed (observed_names m) }
+model_of_net m net = record m { covers = covers_of_gates m net ++ covers_of_copies m net }

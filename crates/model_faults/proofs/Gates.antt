@@ -11,15 +11,17 @@ use Rattle.rm_model.specs.declared.parts.Model.{Model}
 use Rattle.gate_net.specs.declared.Kind.{Kind}
 use Rattle.gate_net.specs.declared.Kind.TheVariants.{Source, Zero, One, And, Or, Not}
 use Rattle.gate_net.specs.Net.{Node, Net, node_at, drivers_of, IsGateKind}
-use Rattle.graph_to_model.proofs.Public.{all_from_start, AreFrom, copies, cover_made, cover_of, first_from, gates, had, in_gates, IsGateCover, IsWritable, one_pin_not, rest_from}
+use Rattle.graph_to_model.proofs.Public.{all_from_start, cover_made, cover_of, first_from, in_gates, one_pin_not, rest_from}
 use Rattle.graph_to_model.specs.Names.{node_name}
-use Rattle.graph_to_model.specs.NetModel.{cover_with, gate_cover, gate_covers, onto, copy_cover, copy_covers, model_of_net}
+use Rattle.graph_to_model.specs.NetModel.{cover_with, gate_cover, gate_covers, onto, copy_cover, copy_covers, model_of_net, covers_of_gates, names_before_copies, covers_of_copies}
 use Rattle.graph_to_model.specs.Wires.{is_copy}
 use Rattle.model_faults.specs.ModelFaults.{is_gate_cover, gate_covers_of}
 use Rattle.gate_net.specs.Faults.{is_gate_kind, before_gates, gates_from, gates_of}
 use Rattle.rm_base.proofs.Public.{some_is}
 use Rattle.rm_base.specs.Members.{In}
 use Rattle.rm_base.specs.Words.{Word}
+use Rattle.graph_to_model.specs.Writable.{IsWritable}
+use Rattle.graph_to_model.specs.Covers.{AreNodesFrom, IsGateCover}
 
 pub gate_kind : (kind : Kind) → IsGateKind kind → is_gate_kind kind ≡ true
 gate_kind Source h = absurd h
@@ -99,12 +101,12 @@ module _ (m : Model) (net : Net) (w : IsWritable m net) where
           ap (λ (b : Bool). cond b (copy_cover m net n x ∷ filter is_gate_cover (copy_covers m net (x ∷ given) ns xs)) (filter is_gate_cover (copy_covers m net (x ∷ given) ns xs))) first ∙ new
 
   -- the gate covers are the covers of gates
-  pub gate_covers_are : gate_covers_of (model_of_net m net) ≡ gates m net w
+  pub gate_covers_are : gate_covers_of (model_of_net m net) ≡ covers_of_gates m net
   gate_covers_are =
-      filter-append is_gate_cover (gates m net w) (copies m net w)
-      ∙ (ap (λ (ds : List Cover). filter is_gate_cover (gates m net w) ++ ds) (copies_dropped (had m net w) net.observed (observed_names m))
-      ∙ (append_none (filter is_gate_cover (gates m net w))
-      ∙ all_kept is_gate_cover (gates m net w) (λ c i. (let g = in_gates m net 0 net.nodes c (all_from_start net) i in gate_kept g.0 c g.1.1.1))))
+      filter-append is_gate_cover (covers_of_gates m net) (covers_of_copies m net)
+      ∙ (ap (λ (ds : List Cover). filter is_gate_cover (covers_of_gates m net) ++ ds) (copies_dropped (names_before_copies m net) net.observed (observed_names m))
+      ∙ (append_none (filter is_gate_cover (covers_of_gates m net))
+      ∙ all_kept is_gate_cover (covers_of_gates m net) (λ c i. (let g = in_gates m net 0 net.nodes c (all_from_start net) i in gate_kept g.0 c g.1.1.1))))
 
   -- PLACE BY PLACE
   abbrev Same : List ℕ → List Cover → Type 0
@@ -131,7 +133,7 @@ module _ (m : Model) (net : Net) (w : IsWritable m net) where
           let h = cover_of node.kind (map (node_name m net) node.drivers) (node_name m net n) c f in
           absurd (let bad : true ≡ false = sym (gate_kind node.kind h.gate) ∙ e in cc)
 
-  from_same : (n : ℕ) (os : List (Option Node)) → AreFrom net n os → Same (gates_from n os) (gate_covers m net n os)
+  from_same : (n : ℕ) (os : List (Option Node)) → AreNodesFrom net n os → Same (gates_from n os) (gate_covers m net n os)
   from_same n [] same = (refl, λ k x c e f. none k x e)
     where
       none : {A : Type 0} (k x : ℕ) → slice_get {X = ℕ} [] k ≡ Some x → A

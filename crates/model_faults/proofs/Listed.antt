@@ -3,12 +3,13 @@ use Rattle.std.proofs.Common.{◌≡◌, ◌≤◌, ◌<◌, ◌+◌, ℕ, zero,
 use Rattle.std.specs.Prelude.{Option, None, Some, slice_get, if◌then◌else◌}
 use Rattle.rm_base.specs.declared.numbers.Fault.{Fault}
 use Rattle.gate_net.specs.Net.{Node, Net, node_at, drivers_in, drivers_of, flatten_option, IsGateKind, IsGate}
-use Rattle.graph_to_model.proofs.Public.{all_from_start, AreFrom, first_from, rest_from}
+use Rattle.graph_to_model.proofs.Public.{all_from_start, first_from, rest_from}
 use Rattle.gate_net.specs.Faults.{is_gate_kind, before_gates, gates_from, gates_of, fault_at, pin_faults, faults_from, faults_of}
 use Rattle.model_faults.specs.Laws.{IsListed, NetsListOnce}
 use Rattle.model_faults.proofs.Gates.{gate_kind, kind_gate}
 use Rattle.rm_base.proofs.Public.{in_append, in_at, in_left, in_right, place_of_member, some_is}
 use Rattle.rm_base.specs.Members.{In}
+use Rattle.graph_to_model.specs.Covers.{AreNodesFrom}
 
 -- DIFFERENT ELEMENTS
 abbrev AreDifferent : {A : Type 0} → List A → Type 0
@@ -115,7 +116,7 @@ node_gates net n (Some node) xs at h x i = by_test (is_gate_kind node.kind) refl
     by_test true e (inr i) = let r = h x i in (let low : n + 1 ≤ x = r.0 in omega arith, r.1)
     by_test false e i = let r = h x i in (let low : n + 1 ≤ x = r.0 in omega arith, r.1)
 
-from_gates : (net : Net) (n : ℕ) (os : List (Option Node)) → AreFrom net n os → AreGates net n (gates_from n os)
+from_gates : (net : Net) (n : ℕ) (os : List (Option Node)) → AreNodesFrom net n os → AreGates net n (gates_from n os)
 from_gates net n [] same = λ x i. absurd i
 from_gates net n (o ∷ os) same = node_gates net n o (gates_from (n + 1) os) (first_from net n o os same) (from_gates net (n + 1) os (rest_from net n o os same))
 
@@ -136,7 +137,7 @@ node_ascend n (Some node) xs low h = by_test (is_gate_kind node.kind)
     by_test true = ascend_more n xs low h
     by_test false = h
 
-from_ascend : (net : Net) (n : ℕ) (os : List (Option Node)) → AreFrom net n os → Ascend (gates_from n os)
+from_ascend : (net : Net) (n : ℕ) (os : List (Option Node)) → AreNodesFrom net n os → Ascend (gates_from n os)
 from_ascend net n [] same = λ i j x y lt e f. absurd (none i x e)
   where
     none : (i x : ℕ) → slice_get {X = ℕ} [] i ≡ Some x → ⊥

@@ -4,15 +4,15 @@ use Rattle.std.specs.Prelude.{Some, slice_get, slice_set, if◌then◌else◌}
 use Rattle.std.proofs.lemmas.Option.{slice_get_within}
 use Rattle.std.proofs.lemmas.Bool.Decides.{eqb_tells}
 use Rattle.rm_model.specs.Words.{is_word}
-use Rattle.rm_model.specs.Value.{source_names, observed_names, value_of, IsConsistent}
+use Rattle.rm_model.specs.Value.{source_names, observed_names, value_of, IsConsistent, outputs_of}
 use Rattle.rm_model.specs.declared.parts.Cover.{Cover}
 use Rattle.rm_model.specs.declared.parts.Model.{Model}
 use Rattle.gate_net.specs.declared.Kind.TheVariants.{Source}
 use Rattle.gate_net.specs.Net.{Net, node_at, plain_node, source_count}
 use Rattle.gate_net.specs.Values.{Detects}
-use Rattle.graph_to_model.proofs.Public.{IsCopyCover, IsGateCover, IsWritable, all_at, all_from_start, all_in_list, copies, copy_out, gates, had, in_copies, in_gates, live_within, one_gate, output_names, source_name}
+use Rattle.graph_to_model.proofs.Public.{all_at, all_from_start, all_in_list, copy_out, in_copies, in_gates, live_within, one_gate, source_name, not_had}
 use Rattle.graph_to_model.specs.Names.{node_name}
-use Rattle.graph_to_model.specs.NetModel.{model_of_net}
+use Rattle.graph_to_model.specs.NetModel.{model_of_net, covers_of_gates, names_before_copies, covers_of_copies}
 use Rattle.model_faults.specs.ModelFaults.{stuck_reads, IsFaultyValuation, Extends, DetectsIn}
 use Rattle.gate_net.specs.Faults.{fault_at, Gives}
 use Rattle.model_faults.proofs.Named.{Names, words_of}
@@ -21,6 +21,8 @@ use Rattle.rm_base.proofs.Public.{in_append, in_left, in_mapped, in_right, some_
 use Rattle.rm_base.specs.Members.{In}
 use Rattle.rm_base.specs.Words.{Word}
 use Rattle.rm_model.proofs.Public.{is_word-same, same_word}
+use Rattle.graph_to_model.specs.Writable.{IsWritable}
+use Rattle.graph_to_model.specs.Covers.{IsGateCover, IsCopyCover}
 
 set_length : (bs : List Bool) (p : ℕ) (b : Bool) → length (slice_set bs p b) ≡ length bs
 set_length [] p b = refl
@@ -72,16 +74,16 @@ module _ (m : Model) (net : Net) (w : IsWritable m net) where
 
   good_words : (v : Word → Bool) → IsConsistent M v → GoodWords v
   good_words v h = record {
-    of_gates = λ x c i g. all_at (λ (d : Cover). v d.output ≡ value_of d (map v d.inputs)) M.covers c h (in_left (gates m net w) (copies m net w) c i);
-    of_copies = λ c i copy. all_at (λ (d : Cover). v d.output ≡ value_of d (map v d.inputs)) M.covers c h (in_right (gates m net w) (copies m net w) c i);
+    of_gates = λ x c i g. all_at (λ (d : Cover). v d.output ≡ value_of d (map v d.inputs)) M.covers c h (in_left (covers_of_gates m net) (covers_of_copies m net) c i);
+    of_copies = λ c i copy. all_at (λ (d : Cover). v d.output ≡ value_of d (map v d.inputs)) M.covers c h (in_right (covers_of_gates m net) (covers_of_copies m net) c i);
   }
 
   consistent : (v : Word → Bool) → GoodWords v → IsConsistent M v
-  consistent v h = all_in_list (λ (c : Cover). v c.output ≡ value_of c (map v c.inputs)) M.covers (λ c i. cases c (in_append (gates m net w) (copies m net w) c i))
+  consistent v h = all_in_list (λ (c : Cover). v c.output ≡ value_of c (map v c.inputs)) M.covers (λ c i. cases c (in_append (covers_of_gates m net) (covers_of_copies m net) c i))
     where
-      cases : (c : Cover) → In (gates m net w) c ⊎ In (copies m net w) c → v c.output ≡ value_of c (map v c.inputs)
+      cases : (c : Cover) → In (covers_of_gates m net) c ⊎ In (covers_of_copies m net) c → v c.output ≡ value_of c (map v c.inputs)
       cases c (inl i) = let g = in_gates m net 0 net.nodes c (all_from_start net) i in h.of_gates g.0 c i g.1.1.1
-      cases c (inr i) = h.of_copies c i (in_copies m net (had m net w) net.observed (observed_names m) c i)
+      cases c (inr i) = h.of_copies c i (in_copies m net (names_before_copies m net) net.observed (observed_names m) c i)
 
   -- the gate covers are told apart by their outputs as their gates are by their numbers
   gate_small : (x : ℕ) (c : Cover) → IsGateCover m net x c → x < 2 ^ 64
@@ -100,41 +102,41 @@ module _ (m : Model) (net : Net) (w : IsWritable m net) where
       other true e ne = absurd (ne (one_gate m net w x y c d (gate_small x c g) (gate_small y d h) g h (same_word c.output d.output e)))
       other false e ne = e
 
-  copy_other : (c d : Cover) → IsCopyCover m net (had m net w) net.observed (observed_names m) c → In (gates m net w) d → is_word c.output d.output ≡ false
+  copy_other : (c d : Cover) → IsCopyCover m net (names_before_copies m net) net.observed (observed_names m) c → In (covers_of_gates m net) d → is_word c.output d.output ≡ false
   copy_other c d copy i = other (is_word c.output d.output) refl
     where
       other : (b : Bool) → is_word c.output d.output ≡ b → is_word c.output d.output ≡ false
       other true e =
           let name : copy.name ≡ d.output = sym (copy_out m net copy.node copy.name) ∙ (sym (ap (λ (k : Cover). k.output) copy.is) ∙ same_word c.output d.output e) in
-          absurd (copy.fresh (in_right (source_names m) (output_names (gates m net w)) copy.name (subst (In (output_names (gates m net w))) (sym name) (in_mapped (λ (k : Cover). k.output) (gates m net w) d i))))
+          absurd (not_had (names_before_copies m net) copy.name copy.fresh (in_right (source_names m) (outputs_of (covers_of_gates m net)) copy.name (subst (In (outputs_of (covers_of_gates m net))) (sym name) (in_mapped (λ (k : Cover). k.output) (covers_of_gates m net) d i))))
       other false e = e
 
-  module _ (y : ℕ) (d : Cover) (in_d : In (gates m net w) d) (of_d : IsGateCover m net y d) (p : ℕ) (b : Bool) where
+  module _ (y : ℕ) (d : Cover) (in_d : In (covers_of_gates m net) d) (of_d : IsGateCover m net y d) (p : ℕ) (b : Bool) where
     abbrev StuckWords : (Word → Bool) → Type 0
     StuckWords f = WordValues m net w (stuck y p b) (stuck_length y p b) f
 
     gate_reads : (f : Word → Bool) (x : ℕ) (c : Cover) → IsGateCover m net x c → stuck_reads d p b f c ≡ stuck y p b x (map f c.inputs)
     gate_reads f x c g = ap (λ (t : Bool). if t then slice_set (map f c.inputs) p b else map f c.inputs) (told_apart x y c d g of_d)
 
-    copy_reads : (f : Word → Bool) (c : Cover) → IsCopyCover m net (had m net w) net.observed (observed_names m) c → stuck_reads d p b f c ≡ map f c.inputs
+    copy_reads : (f : Word → Bool) (c : Cover) → IsCopyCover m net (names_before_copies m net) net.observed (observed_names m) c → stuck_reads d p b f c ≡ map f c.inputs
     copy_reads f c copy = ap (λ (t : Bool). if t then slice_set (map f c.inputs) p b else map f c.inputs) (copy_other c d copy in_d)
 
     stuck_words : (f : Word → Bool) → IsFaultyValuation M d p b f → StuckWords f
     stuck_words f h = record {
-      of_gates = λ x c i g. at c (in_left (gates m net w) (copies m net w) c i) ∙ ap (value_of c) (gate_reads f x c g);
-      of_copies = λ c i copy. at c (in_right (gates m net w) (copies m net w) c i) ∙ ap (value_of c) (copy_reads f c copy);
+      of_gates = λ x c i g. at c (in_left (covers_of_gates m net) (covers_of_copies m net) c i) ∙ ap (value_of c) (gate_reads f x c g);
+      of_copies = λ c i copy. at c (in_right (covers_of_gates m net) (covers_of_copies m net) c i) ∙ ap (value_of c) (copy_reads f c copy);
     }
       where
         at : (c : Cover) → In M.covers c → f c.output ≡ value_of c (stuck_reads d p b f c)
         at c i = all_at (λ (k : Cover). f k.output ≡ value_of k (stuck_reads d p b f k)) M.covers c h i
 
     faulty : (f : Word → Bool) → StuckWords f → IsFaultyValuation M d p b f
-    faulty f h = all_in_list (λ (c : Cover). f c.output ≡ value_of c (stuck_reads d p b f c)) M.covers (λ c i. cases c (in_append (gates m net w) (copies m net w) c i))
+    faulty f h = all_in_list (λ (c : Cover). f c.output ≡ value_of c (stuck_reads d p b f c)) M.covers (λ c i. cases c (in_append (covers_of_gates m net) (covers_of_copies m net) c i))
       where
-        cases : (c : Cover) → In (gates m net w) c ⊎ In (copies m net w) c → f c.output ≡ value_of c (stuck_reads d p b f c)
+        cases : (c : Cover) → In (covers_of_gates m net) c ⊎ In (covers_of_copies m net) c → f c.output ≡ value_of c (stuck_reads d p b f c)
         cases c (inl i) = let g = in_gates m net 0 net.nodes c (all_from_start net) i in h.of_gates g.0 c i g.1.1.1 ∙ ap (value_of c) (sym (gate_reads f g.0 c g.1.1.1))
         cases c (inr i) =
-            let copy = in_copies m net (had m net w) net.observed (observed_names m) c i in h.of_copies c i copy ∙ ap (value_of c) (sym (copy_reads f c copy))
+            let copy = in_copies m net (names_before_copies m net) net.observed (observed_names m) c i in h.of_copies c i copy ∙ ap (value_of c) (sym (copy_reads f c copy))
 
     module _ (a : ℕ → Bool) (vector : List Bool) (gives : Gives a vector) where
       -- sources have the values of the vector

@@ -73,7 +73,6 @@ length-put_after xs None p = omega arith
 length-put_after xs (Some a) p = length-put xs a.0 p
 
 -- THE PINS OF LISTS ARE FEW
-
 pub length-listed : (f : ℕ → List ℕ) (first n : ℕ) → length (listed_pins f first n) ≡ pins_from f first n
 length-listed f first zero = refl
 length-listed f first (suc n) = length-append (f first) (listed_pins f (suc first) n) ∙ ap (λ k. length (f first) + k) (length-listed f (suc first) n)

@@ -65,7 +65,6 @@ flatten-trimmed (o ∷ os) x = at o (trimmed os) x (λ y. flatten-trimmed os y)
     at (Some n) ps (suc x) h = h x
 
 -- THE LEAST FREE NUMBER
-
 pub least_is_free : (os : List (Option Node)) → flatten_option (slice_get os (least_free os)) ≡ None
 least_is_free [] = refl
 least_is_free (None ∷ os) = refl

@@ -2,15 +2,16 @@ use Rattle.std.specs.Prelude.{List}
 use Rattle.std.proofs.Common.{ℕ, ◌<◌, subst}
 use Rattle.std.proofs.lemmas.Option.{slice_get_within}
 use Rattle.rm_model.specs.declared.parts.Cover.{Cover}
-use Rattle.graph_to_model.proofs.Public.{IsWritable, lean}
+use Rattle.graph_to_model.proofs.Public.{lean}
 use Rattle.model_faults.proofs.Gates.{gates_same, gate_pins, gate_covers_are}
 use Rattle.gate_net.specs.Faults.{gates_of}
 use Rattle.model_faults.proofs.Listed.{pin_listed, list_once}
 use Rattle.model_faults.proofs.FaultLaws.{vectors_give}
 use Rattle.model_faults.proofs.Same.{to_model, to_net}
-use Rattle.model_faults.proofs.laws.tidy_nets_have_model_faults.Goals as goal
 use Rattle.rm_base.proofs.Public.{in_at, stands_below}
 use Rattle.rm_base.specs.Members.{In}
+use Rattle.model_faults.proofs.laws.tidy_nets_have_model_faults.Goals as goal
+use Rattle.graph_to_model.specs.Writable.{IsWritable}
 
 pub returns-clause-faults : goal.returns-clause-faults
 returns-clause-faults c = λ net m formed tidy well fit few.

@@ -1,2 +1,0 @@
--- What this crate proves of its definitions, for the proofs of the crates above. They import nothing of its proofs but through this file.
--- The words of a latch and of a cover tell the latch and the cover.
