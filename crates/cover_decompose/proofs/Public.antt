@@ -2,4 +2,5 @@
 
 -- Names among names.
 pub use Rattle.cover_decompose.proofs.Members.{among_in, in_among}
+
 -- Names in a table, by their places.

@@ -13,7 +13,6 @@ use Rattle.wire_edit.specs.Laws.{TidyMeans, IsTidying}
 use Rattle.rm_base.proofs.Public.{both_and, not_from_false}
 use Rattle.graph_to_model.specs.Writable.{IsLean}
 
-
 not_false : (b : Bool) → (b ≡ false → ⊥) → b ≡ true
 not_false true h = refl
 not_false false h = absurd (h refl)

@@ -1,6 +1,6 @@
 -- What the covers of the model of a net are: one for each gate, and then copies and constants.
 use Rattle.std.specs.Prelude.{◌≡◌, ◌≢◌, ◌≤◌, ◌+◌, ℕ, Bool, false, List, map, length, Option, Some, slice_get}
-use Rattle.rm_model.specs.Words.{Word}
+use Rattle.rm_base.specs.Words.{Word}
 use Rattle.rm_model.specs.Value.{is_among, value_of}
 use Rattle.rm_model.specs.WellFormed.{IsWellFormedCover}
 use Rattle.rm_model.specs.declared.parts.Cover.{Cover}

@@ -6,4 +6,4 @@ pub use Rattle.rm_model.proofs.NameLemmas.{among-append, distinct-apart, distinc
 -- Where the search for a place ends.
 pub use Rattle.rm_model.proofs.RankedLaws.{position-none}
 -- Which cover drives a name.
-pub use Rattle.rm_model.proofs.CoverLemmas.{among-at, at-among, distinct-right, drives-of, drives-own, is-driven, output-at, some-drives}
+pub use Rattle.rm_model.proofs.CoverLemmas.{among-at, at-among, distinct-right, drives-of, drives-own, is-driven, output-at, some-drives, is_word-same, same_word}

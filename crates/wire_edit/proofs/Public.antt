@@ -25,7 +25,7 @@ pub use Rattle.wire_edit.proofs.Totals.{total_gone, total_least, total_map, tota
 -- Walks along lists.
 pub use Rattle.wire_edit.proofs.Walks.{march, next_place}
 -- A tidy net has no pin that a constant drives, and no removal makes another pin free.
-pub use Rattle.wire_edit.proofs.FreePins.{all_free, constant_makes, fix_frees, reader_gate, removal_frees, tidy_reads_none}
+pub use Rattle.wire_edit.proofs.FreePins.{all_free, constant_makes, fix_frees, reader_gate, removal_frees, tidy_reads_none, removal_makes}
 -- The tidying order to its end, and a fix before it.
 pub use Rattle.wire_edit.proofs.Falling.{fix_applies, fix_falls, removal_pins, step_formed, tidies_to_one, tidying_removes}
 -- A step that applies and has room isn't refused.
