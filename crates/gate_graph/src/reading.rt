@@ -135,7 +135,7 @@ impl Graph {
         }
     }
 
-    /// The node at an observed place, in the time of as many steps; `observed` gives all of them.
+    /// The node at an observed place, in the time of as many steps; `observed_points` gives all of them.
     pub fn observed_at(&self, at: usize) -> NodeId
         requires { at < length (net_of self.now).observed }
         ensures { Some result.0 ≡ slice_get (net_of self.now).observed at }

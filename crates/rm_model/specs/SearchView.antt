@@ -1,5 +1,6 @@
 -- What the search holds, as lists.
-use Rattle.std.specs.Prelude.{ℕ, List, Vec, Global, map}
+use Rattle.std.specs.Prelude.{ℕ, List, Vec, map}
+use Rattle.std.proofs.Common.{Global}
 use Rattle.rm_model.specs.Search.{State}
 use Rattle.rm_model.specs.declared.rank_search.Search.{Search}
 
