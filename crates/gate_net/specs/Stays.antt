@@ -1,11 +1,11 @@
 -- Values that are known at the pins of a gate: that they stay known, and that they are right.
 use Rattle.std.specs.Prelude.{Bool, List, Option, Some, [], ◌∷◌, ◌≡◌}
 
--- what is known stays known
+-- a value that is known stays known
 abbrev pub Stays : Option Bool → Option Bool → Type 0
 Stays o u = (c : Bool) → o ≡ Some c → u ≡ Some c
 
--- at each place of two lists of one length
+-- what is known at each place of a list stays known there
 abbrev pub AllStay : List (Option Bool) → List (Option Bool) → Type 0
 AllStay [] [] = Unit {0}
 AllStay [] (u ∷ us) = ⊥

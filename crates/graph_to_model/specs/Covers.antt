@@ -32,11 +32,11 @@ pub record IsGateCover (m : Model) (net : Net) (n : ℕ) (c : Cover) : Type 0 wh
   pub at : node_at net n ≡ Some node
   pub cover : CoverOf node.kind (map (node_name m net) node.drivers) (node_name m net n) c
 
--- a node and a name at one place
+-- a node and a name stand at one place of their lists
 abbrev pub StandAtOnePlace : List ℕ → List Word → ℕ → Word → Type 0
 StandAtOnePlace ns xs n x = (k : ℕ) × ((slice_get ns k ≡ Some n) × (slice_get xs k ≡ Some x))
 
--- the cover of a node for one of its observed names, which no cover had before
+-- the copy or constant for an observed name of the node, where no cover has that name yet
 pub record IsCopyCover (m : Model) (net : Net) (had : List Word) (ns : List ℕ) (xs : List Word) (c : Cover) : Type 0 where
   pub node : ℕ
   pub name : Word

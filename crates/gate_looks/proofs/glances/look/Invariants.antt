@@ -7,5 +7,5 @@ abbrev pub invariant-loop-driver : goal.invariant-loop-driver
 invariant-loop-driver g l = record {
   all : l.fn.drivers ≡ map (λ d. d.0) l.yielded ++ l.driver-iterator;
   count : l.q ≡ length l.yielded;
-  looks : LooksTo l.any l.rest l.at l.q l.value (with_stuck l.stuck (map (g.K.Known.knows l.known_of) l.fn.drivers));
+  looks : LooksTo l.any l.rest l.at l.q l.value (with_stuck l.stuck (map (g.K.Known.knows l.known) l.fn.drivers));
 }
