@@ -9,7 +9,6 @@ ghost use Rattle.fault_sim.specs.Words.{assigned_word, join_word, node_word, not
 use crate::reading::join;
 use gate_graph::{Graph, Inputs};
 use gate_net::Kind;
-use refutation::following::gate_pins;
 use rm_base::NodeId;
 
 #[inline(always)]
@@ -57,9 +56,9 @@ pub(crate) fn good_word(graph: &Graph, words: &[u64], good: &[u64], node: NodeId
         Some(Kind::Source) => words[node.0 as usize - 2],
         Some(Kind::Zero) => 0,
         Some(Kind::One) => u64::MAX,
-        Some(Kind::And) => good_junction(gate_pins(graph, node), good, true),
-        Some(Kind::Or) => good_junction(gate_pins(graph, node), good, false),
-        Some(Kind::Not) => good_opposite(gate_pins(graph, node), good),
+        Some(Kind::And) => good_junction(graph.gate_inputs(node), good, true),
+        Some(Kind::Or) => good_junction(graph.gate_inputs(node), good, false),
+        Some(Kind::Not) => good_opposite(graph.gate_inputs(node), good),
         None => 0,
     }
 }
