@@ -1,16 +1,16 @@
 -- New ranks after an edit.
-use Rattle.std.proofs.Common.{Bool, Some, [], arith, false, inl, inr, refl, suc, true, zero, ℕ, ◌++◌, ◌+◌, ◌<◌, ◌∷◌, ◌≡◌, ◌≤◌, ◌⊎◌}
-use Rattle.std.proofs.lemmas.Bool.{eq-eqb, eqb-true}
+use Rattle.std.proofs.Common.{Bool, Some, [], arith, false, inl, inr, refl, suc, true, zero, ℕ, ◌++◌, ◌+◌, ◌<◌, ◌||◌, ◌∷◌, ◌≡◌, ◌≤◌, ◌⊎◌}
+use Rattle.std.proofs.lemmas.Bool.{eq-eqb, eqb-true, false_from_ne_true, or_cases}
 use Rattle.std.proofs.lemmas.Bool.Decides.{eqb_tells}
 use Rattle.std.specs.List.{list_any}
 use Rattle.std.specs.Prelude.{if◌then◌else◌, nat_eq, slice_get}
-use Rattle.gate_net.proofs.Bools.{not_true, or_either, or_true}
+use Rattle.std.proofs.Math.Bool.{or-true}
 use Rattle.gate_net.proofs.Edited.{node_at-other, node_at-there}
-use Rattle.gate_net.proofs.Places.{any_at, at_any, last_cases}
 use Rattle.gate_net.specs.Edits.{with_pin}
 use Rattle.gate_net.specs.Laws.{PinsKeepAcyclic}
 use Rattle.gate_net.specs.Net.{IsAcyclic, IsRanked, Net, Reads, drivers_of}
 use Rattle.gate_net.specs.Paths.{Reaches, on, pin, is_after}
+use Rattle.rm_base.proofs.Public.{any_at, at_any, last_cases}
 
 -- a set of nodes that holds, with each node, all its readers
 abbrev pub IsUpward : Net → (ℕ → Bool) → Type 0
@@ -44,7 +44,7 @@ module _ (net after : Net) (acyclic : IsAcyclic net) (test : ℕ → Bool) (upwa
 
 pub after_right : (net : Net) (gate n y : ℕ) → is_after n net gate y ≡ true → (y ≡ gate) ⊎ Reaches net gate y
 after_right net gate zero y e = inl (eqb-true y gate e)
-after_right net gate (suc n) y e = elim (or_either (nat_eq y gate) (list_any (is_after n net gate) (drivers_of net y)) e) [
+after_right net gate (suc n) y e = elim (or_cases (nat_eq y gate) (list_any (is_after n net gate) (drivers_of net y)) e) [
   | inl here ↦ inl (eqb-true y gate here)
   | inr later ↦
       let found : (p : ℕ) × ((x : ℕ) × (Reads net y p x × (is_after n net gate x ≡ true))) = any_at (is_after n net gate) (drivers_of net y) later in
@@ -58,7 +58,7 @@ after_there net gate (suc n) = rw (eq-eqb gate gate refl) refl
 -- looking back further than the ranks tells the same
 pub after_more : (net : Net) (rank : ℕ → ℕ) → IsRanked net rank → (gate n m y : ℕ) → rank y ≤ n → is_after m net gate y ≡ true → is_after n net gate y ≡ true
 after_more net rank ranked gate n zero y h e = rw (eqb-true y gate e) (after_there net gate n)
-after_more net rank ranked gate n (suc m) y h e = elim (or_either (nat_eq y gate) (list_any (is_after m net gate) (drivers_of net y)) e) [
+after_more net rank ranked gate n (suc m) y h e = elim (or_cases (nat_eq y gate) (list_any (is_after m net gate) (drivers_of net y)) e) [
   | inl here ↦ rw (eqb-true y gate here) (after_there net gate n)
   | inr later ↦ further n h (any_at (is_after m net gate) (drivers_of net y) later) (λ x k below e. after_more net rank ranked gate k m x below e)
 ]
@@ -67,17 +67,17 @@ after_more net rank ranked gate n (suc m) y h e = elim (or_either (nat_eq y gate
     further zero h found ih = let below : rank found.1.0 < rank y = ranked y found.0 found.1.0 found.1.1.0 in absurd (omega arith)
     further (suc n) h found ih =
         let below : rank found.1.0 < rank y = ranked y found.0 found.1.0 found.1.1.0 in
-        rw (at_any (is_after n net gate) (drivers_of net y) found.0 found.1.0 found.1.1.0 (ih found.1.0 n (omega arith) found.1.1.1)) (or_true (nat_eq y gate))
+        rw (at_any (is_after n net gate) (drivers_of net y) found.0 found.1.0 found.1.1.0 (ih found.1.0 n (omega arith) found.1.1.1)) (or-true (nat_eq y gate))
 
 pub after_upward : (net : Net) (acyclic : IsAcyclic net) (gate y p x : ℕ) → Reads net y p x → is_after (acyclic.0 x) net gate x ≡ true → is_after (acyclic.0 y) net gate y ≡ true
 after_upward net acyclic gate y p x reads e =
-    let step : is_after (suc (acyclic.0 x)) net gate y ≡ true = rw (at_any (is_after (acyclic.0 x) net gate) (drivers_of net y) p x reads e) (or_true (nat_eq y gate)) in
+    let step : is_after (suc (acyclic.0 x)) net gate y ≡ true = rw (at_any (is_after (acyclic.0 x) net gate) (drivers_of net y) p x reads e) (or-true (nat_eq y gate)) in
     after_more net acyclic.0 acyclic.1 gate (acyclic.0 y) (suc (acyclic.0 x)) y (omega arith) step
 
 pub pins_keep_acyclic : PinsKeepAcyclic
 pins_keep_acyclic net gate driver acyclic live ne apart =
     acyclic_lifted net (with_pin net gate driver) acyclic (λ y. is_after (acyclic.0 y) net gate y) (after_upward net acyclic gate) driver
-    (not_true (is_after (acyclic.0 driver) net gate driver) (λ e. elim (after_right net gate (acyclic.0 driver) driver e) [ inl is ↦ ne is | inr path ↦ apart path ]))
+    (false_from_ne_true (is_after (acyclic.0 driver) net gate driver) (λ e. elim (after_right net gate (acyclic.0 driver) driver e) [ inl is ↦ ne is | inr path ↦ apart path ]))
     leads
   where
     leads : (y p x : ℕ) → Reads (with_pin net gate driver) y p x → ((q : ℕ) × Reads net y q x) ⊎ ((x ≡ driver) × (is_after (acyclic.0 y) net gate y ≡ true))
