@@ -9,7 +9,7 @@ ghost use Rattle.fault_sim.specs.Words.{assigned_word, join_word, node_word, not
 use crate::reading::join;
 use gate_graph::{Graph, Inputs};
 use gate_net::Kind;
-use rm_base::NodeId;
+use rm_base::{FIRST_SOURCE, NodeId};
 
 #[inline(always)]
 fn good_at(good: &[u64], node: NodeId) -> u64
@@ -53,7 +53,7 @@ pub(crate) fn good_word(graph: &Graph, words: &[u64], good: &[u64], node: NodeId
 {
     graph.well_formed();
     match graph.kind(node) {
-        Some(Kind::Source) => words[node.0 as usize - 2],
+        Some(Kind::Source) => words[node.0 as usize - FIRST_SOURCE as usize],
         Some(Kind::Zero) => 0,
         Some(Kind::One) => u64::MAX,
         Some(Kind::And) => good_junction(graph.gate_inputs(node), good, true),

@@ -7,12 +7,12 @@ ghost use Rattle.gate_graph.specs.Wirings.{kind_at};
 ghost use Rattle.gate_graph.specs.Circuit.{kinds_live, kinds_dead, gate_pins, place_in, without_observed, observed_list};
 ghost use Rattle.pin_pool.specs.Ring.{has};
 ghost use Rattle.gate_net.specs.declared.Kind.TheVariants.{Source};
-ghost use Rattle.rm_base.specs.Numbers.{number_bound, first_source};
+ghost use Rattle.rm_base.specs.Numbers.{number_bound, first_source, one_number};
 
 use crate::rings::look;
 use gate_net::Kind;
 use pin_pool::{PinIter, PinNo, Pool};
-use rm_base::FIRST_SOURCE;
+use rm_base::{FIRST_SOURCE, ONE};
 
 /// The gate of the pool whose pins are the observed points: node 0 has none of its own.
 pub(crate) const OBSERVED_LIST: u32 = 0;
@@ -57,30 +57,30 @@ pub(crate) fn least_free(kinds: &[Option<Kind>], from: u32) -> u32
     at
 }
 
-// The pins of a gate, where those of number 0 are the observed places.
+// The pins of a gate, where those of the observed list are none.
 pub(crate) fn pins_of_gate(pool: &Pool, gate: u32) -> PinIter<'_>
-    requires one { 1 < length pool.now.inputs }
+    requires one { one_number < length pool.now.inputs }
     requires gate { gate < length pool.now.inputs }
-    requires none { list_of pool.now.inputs 1 ≡ [] }
+    requires none { list_of pool.now.inputs one_number ≡ [] }
     ensures pins { result ≡ gate_pins pool.now gate }
     ensures few { length result ≤ number_bound }
 {
-    if gate == 0 {
-        return pool.inputs(1);
+    if gate == OBSERVED_LIST {
+        return pool.inputs(ONE.0);
     }
     pool.inputs(gate)
 }
 
 // The same from a position on.
 pub(crate) fn pins_of_gate_from(pool: &Pool, gate: u32, position: u32) -> PinIter<'_>
-    requires one { 1 < length pool.now.inputs }
+    requires one { one_number < length pool.now.inputs }
     requires gate { gate < length pool.now.inputs }
-    requires none { list_of pool.now.inputs 1 ≡ [] }
+    requires none { list_of pool.now.inputs one_number ≡ [] }
     ensures pins { result ≡ drop position (gate_pins pool.now gate) }
     ensures few { length result ≤ number_bound }
 {
-    if gate == 0 {
-        return pool.inputs(1);
+    if gate == OBSERVED_LIST {
+        return pool.inputs(ONE.0);
     }
     pool.inputs_from(gate, position)
 }
@@ -223,7 +223,7 @@ pub(crate) fn count_gate_pins(pool: &Pool, gate: u32) -> u32
     requires { gate < length pool.now.inputs }
     ensures { result ≡ length (gate_pins pool.now gate) }
 {
-    if gate == 0 {
+    if gate == OBSERVED_LIST {
         return 0;
     }
     count_pins(pool, gate)

@@ -27,7 +27,7 @@ fn source_value(graph: &Graph, sources: &[Value3], kind: Kind, node: NodeId) -> 
 {
     graph.well_formed();
     match kind {
-        Kind::Source => known_value(sources[(node.0 - FIRST_SOURCE) as usize]),
+        Kind::Source => known_value(sources[node.0 as usize - FIRST_SOURCE as usize]),
         _ => None,
     }
 }
