@@ -139,7 +139,7 @@ better_of law graph better after pair depth records well size size' is replaced 
     let live : live_count net ≤ 2 + (source_count net + gate_count net) = live_bound net well in
     record {
       gained = gained_of net (net_of better) pair depth records r less;
-      slice_get_within = within_by graph better size size' held (accepted_places net (net_of better) records r.accepted) (accepted_sources law net (net_of better) records well r.accepted) (omega (arith, less, r.gates))
+      within = within_by graph better size size' held (accepted_places net (net_of better) records r.accepted) (accepted_sources law net (net_of better) records well r.accepted) (omega (arith, less, r.gates))
           (omega (arith, r.numbers, live, size.live, size.pins, less));
       few = few;
     }

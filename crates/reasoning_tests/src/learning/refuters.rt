@@ -105,7 +105,7 @@ fn agrees_on_net(alloc: Global, refuter: &mut Refuter, seed: u64) -> Result<bool
 
 // The first seed on whose net it doesn't.
 fn first_wrong(alloc: Global, refuter: &mut Refuter) -> Result<Option<u64>, Fail> {
-    for seed in 1..41u64 {
+    for seed in 1..21u64 {
         if !agrees_on_net(alloc, refuter, seed)? {
             return Ok(Some(seed));
         }
