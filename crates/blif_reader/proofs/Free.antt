@@ -15,7 +15,7 @@ use Rattle.blif_format.specs.FirstFault.{is_undriven, undriven_fault, fault}
 use Rattle.blif_format.specs.declared.refusal.FaultKind.TheVariants.{Undriven}
 use Rattle.blif_format.specs.declared.refusal.ReadRefusal.TheVariants.{Fault}
 use Rattle.blif_reader.specs.declared.names.Flags.{Flags}
-use Rattle.blif_reader.specs.declared.names.Entry.{Entry}
+use Rattle.blif_reader.specs.declared.names.NameUse.{NameUse}
 use Rattle.blif_reader.specs.Tally.{Tally, entry_of, flags_at, flags_or_none, has_driver, free_of, first_free, plays, flags_in, with_first, first_of, IsTally}
 use Rattle.blif_reader.proofs.Compared.{word_tells, word_turned, among_more}
 use Rattle.blif_reader.proofs.Plays.{plays_driver, names_among}
@@ -23,7 +23,7 @@ use Rattle.rm_base.proofs.Public.{and_second, neither_first, neither_second}
 use Rattle.rm_base.specs.Words.{Word}
 use Rattle.rm_model.proofs.Public.{is_word-same, same_word}
 
-pub free_here : (es : List (Word × Entry)) (i : ℕ) (p : Place) → Some p ≡ free_of (slice_get es i) → first_free (drop i es) ≡ Some p
+pub free_here : (es : List (Word × NameUse)) (i : ℕ) (p : Place) → Some p ≡ free_of (slice_get es i) → first_free (drop i es) ≡ Some p
 free_here [] i p h = let wrong : Some p ≡ None = h in cc
 free_here (e ∷ es) zero p h = at (has_driver e.1.flags) refl
   where
@@ -32,10 +32,10 @@ free_here (e ∷ es) zero p h = at (has_driver e.1.flags) refl
     at false i = let now : Some p ≡ Some e.1.place = rw i at h in rw i (sym now)
 free_here (e ∷ es) (suc i) p h = free_here es i p h
 
-pub free_later : (es : List (Word × Entry)) (i : ℕ) → None ≡ free_of (slice_get es i) → first_free (drop i es) ≡ first_free (drop (i + 1) es)
+pub free_later : (es : List (Word × NameUse)) (i : ℕ) → None ≡ free_of (slice_get es i) → first_free (drop i es) ≡ first_free (drop (i + 1) es)
 free_later es i h = go es i h ∙ ap (λ n. first_free (drop n es)) (sym (add-one i))
   where
-    go : (es : List (Word × Entry)) (i : ℕ) → None ≡ free_of (slice_get es i) → first_free (drop i es) ≡ first_free (drop (suc i) es)
+    go : (es : List (Word × NameUse)) (i : ℕ) → None ≡ free_of (slice_get es i) → first_free (drop i es) ≡ first_free (drop (suc i) es)
     go [] zero h = refl
     go [] (suc i) h = refl
     go (e ∷ es) zero h = at (has_driver e.1.flags) refl
@@ -45,7 +45,7 @@ free_later es i h = go es i h ∙ ap (λ n. first_free (drop n es)) (sym (add-on
         at false i = let wrong : None ≡ Some e.1.place = rw i at h in cc
     go (e ∷ es) (suc i) h = go es i h
 
-pub free_end : (es : List (Word × Entry)) (i : ℕ) → length es ≤ i → first_free (drop i es) ≡ None
+pub free_end : (es : List (Word × NameUse)) (i : ℕ) → length es ≤ i → first_free (drop i es) ≡ None
 free_end es i h = ap first_free (drop_all i es h)
 
 -- names with places, the first of which passes
@@ -60,10 +60,10 @@ not_first : (a b : Bool) → (not a && b) ≡ true → a ≡ false
 not_first true b e = cc
 not_first false b e = refl
 
-key_names : List (Word × Entry) → List Word
-key_names es = map (λ (e : Word × Entry). e.0) es
+key_names : List (Word × NameUse) → List Word
+key_names es = map (λ (e : Word × NameUse). e.0) es
 
-free_by_name : (es : List (Word × Entry)) (look : Word → Flags) → is_distinct (key_names es) ≡ true → ((y : Word) → is_among (key_names es) y ≡ true → look y ≡ flags_at es y) → first_free es ≡ first_place (λ y. not (has_driver (look y))) (map first_of es)
+free_by_name : (es : List (Word × NameUse)) (look : Word → Flags) → is_distinct (key_names es) ≡ true → ((y : Word) → is_among (key_names es) y ≡ true → look y ≡ flags_at es y) → first_free es ≡ first_place (λ y. not (has_driver (look y))) (map first_of es)
 unfolding first_place key_names
 free_by_name [] look d same = refl
 free_by_name (e ∷ es) look d same =
@@ -187,7 +187,7 @@ find_same all pre (u ∷ us) e =
     ap (λ (b : Bool). if b then Some u else find (λ (v : Use). free_name all v.name) us) (same_test all pre u us e)
     ∙ ap (λ o. if is_undriven all u then Some u else o) (find_same all (pre ++ u ∷ []) us (e ∙ sym (append_assoc pre (u ∷ []) us)))
 
-keys_same : (es : List (Word × Entry)) → key_names es ≡ names_at (map first_of es)
+keys_same : (es : List (Word × NameUse)) → key_names es ≡ names_at (map first_of es)
 unfolding key_names names_at
 keys_same [] = refl
 keys_same (e ∷ es) = ap (λ xs. e.0 ∷ xs) (keys_same es)

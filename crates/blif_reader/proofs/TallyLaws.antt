@@ -19,7 +19,7 @@ use Rattle.blif_format.specs.declared.refusal.FaultKind.TheVariants.{DoubleDrive
 use Rattle.blif_format.specs.declared.refusal.Quantity.TheVariants.{Sources, Observed, Signals}
 use Rattle.blif_format.specs.declared.refusal.ReadRefusal.{ReadRefusal}
 use Rattle.blif_reader.specs.declared.names.Flags.{Flags}
-use Rattle.blif_reader.specs.declared.names.Entry.{Entry}
+use Rattle.blif_reader.specs.declared.names.NameUse.{NameUse}
 use Rattle.blif_reader.specs.declared.names.Counts.{Counts}
 use Rattle.blif_reader.specs.Tally.{Tally, entry_of, flags_at, flags_or_none, has_source, is_driven_twice, is_listed_twice, with_role, put_entry, more_if, sources_after, observed_after, signals_after, place_or, with_use, use_check, flags_check, inputs_check, counts_check, counts_after, tally_fault, plays, is_latch, is_cover, flags_in, any_role, with_first, firsts, first_of, IsTally}
 use Rattle.blif_reader.proofs.Compared.{word_tells, word_turned, among_more}
@@ -28,7 +28,7 @@ use Rattle.rm_base.specs.Words.{Word}
 use Rattle.rm_model.proofs.Public.{is_word-same, same_word}
 
 -- what is looked up after an entry is put
-pub entry_same : (es : List (Word × Entry)) (x : Word) (e : Entry) → entry_of (put_entry es x e) x ≡ Some e
+pub entry_same : (es : List (Word × NameUse)) (x : Word) (e : NameUse) → entry_of (put_entry es x e) x ≡ Some e
 entry_same [] x e = rw (is_word-same x) refl
 entry_same (f ∷ fs) x e = at (is_word x f.0) refl (entry_same fs x e)
   where
@@ -36,7 +36,7 @@ entry_same (f ∷ fs) x e = at (is_word x f.0) refl (entry_same fs x e)
     at true i ih = rw i (rw i refl)
     at false i ih = rw i (rw i ih)
 
-pub entry_other : (es : List (Word × Entry)) (x y : Word) (e : Entry) → is_word x y ≡ false → entry_of (put_entry es x e) y ≡ entry_of es y
+pub entry_other : (es : List (Word × NameUse)) (x y : Word) (e : NameUse) → is_word x y ≡ false → entry_of (put_entry es x e) y ≡ entry_of es y
 entry_other [] x y e other = let turned : is_word y x ≡ false = word_turned y x ∙ other in rw turned refl
 entry_other (f ∷ fs) x y e other = at (is_word x f.0) refl (entry_other fs x y e other)
   where
@@ -125,7 +125,7 @@ known_step had t u is y =
           ∙ sym more
     ]
 
-length_put : (es : List (Word × Entry)) (x : Word) (e : Entry) → length (put_entry es x e) ≡ more_if (not (is_some (entry_of es x))) (length es)
+length_put : (es : List (Word × NameUse)) (x : Word) (e : NameUse) → length (put_entry es x e) ≡ more_if (not (is_some (entry_of es x))) (length es)
 length_put [] x e = refl
 length_put (f ∷ fs) x e = at (is_word x f.0) (is_some (entry_of fs x)) refl refl (length_put fs x e)
   where
@@ -173,7 +173,7 @@ signals_is had t u is =
     ∙ sym (count_step any_role had u)
 
 -- the first uses
-place_put : (es : List (Word × Entry)) (x : Word) (e : Entry) (p : Place) → e.place ≡ place_or (entry_of es x) p → map first_of (put_entry es x e) ≡ (if is_among (map (λ (f : Word × Place). f.0) (map first_of es)) x then map first_of es else map first_of es ++ (x, p) ∷ [])
+place_put : (es : List (Word × NameUse)) (x : Word) (e : NameUse) (p : Place) → e.place ≡ place_or (entry_of es x) p → map first_of (put_entry es x e) ≡ (if is_among (map (λ (f : Word × Place). f.0) (map first_of es)) x then map first_of es else map first_of es ++ (x, p) ∷ [])
 place_put [] x e p is = ap (λ (q : Place). (x, q) ∷ []) is
 place_put (f ∷ fs) x e p is = at (is_word x f.0) (is_among (map (λ (f : Word × Place). f.0) (map first_of fs)) x) refl refl (place_put fs x e p)
   where
@@ -226,30 +226,30 @@ same_counts : (c d : Counts) → c.sources ≡ d.sources → c.observed ≡ d.ob
 same_counts c d e f g = ap (λ (s : ℕ). record { sources = s; observed = c.observed; signals = c.signals }) e ∙ ap (λ (o : ℕ). record { sources = d.sources; observed = o; signals = c.signals }) f ∙ ap (λ (n : ℕ). record { sources = d.sources; observed = d.observed; signals = n }) g
 
 -- what the check of a use says of the uses so far
-pub says_fault : (had : List Use) (t : Tally) (earlier : ℕ) (u : Use) (entry : Option Entry) (flags : Flags) (counts : Counts) → IsTally had t → entry ≡ entry_of t.entries u.name → flags ≡ flags_or_none entry → counts.sources ≡ more_if (is_source_role u.role && not (has_source (flags_or_none entry))) t.sources → counts.observed ≡ more_if (is_observed_role u.role) t.observed → counts.signals ≡ more_if (not (is_some entry)) (length t.entries) → use_check flags counts u.role u.name earlier u.place ≡ use_fault had earlier u
+pub says_fault : (had : List Use) (t : Tally) (earlier : ℕ) (u : Use) (entry : Option NameUse) (flags : Flags) (counts : Counts) → IsTally had t → entry ≡ entry_of t.entries u.name → flags ≡ flags_or_none entry → counts.sources ≡ more_if (is_source_role u.role && not (has_source (flags_or_none entry))) t.sources → counts.observed ≡ more_if (is_observed_role u.role) t.observed → counts.signals ≡ more_if (not (is_some entry)) (length t.entries) → use_check flags counts u.role u.name earlier u.place ≡ use_fault had earlier u
 says_fault had t earlier u entry flags counts is e f s o n =
     let flags_are : flags ≡ flags_at t.entries u.name = f ∙ ap flags_or_none e in
-    let counts_are : counts ≡ counts_after t u = same_counts counts (counts_after t u) (s ∙ ap (λ (x : Option Entry). more_if (is_source_role u.role && not (has_source (flags_or_none x))) t.sources) e) o (n ∙ ap (λ (x : Option Entry). more_if (not (is_some x)) (length t.entries)) e) in
+    let counts_are : counts ≡ counts_after t u = same_counts counts (counts_after t u) (s ∙ ap (λ (x : Option NameUse). more_if (is_source_role u.role && not (has_source (flags_or_none x))) t.sources) e) o (n ∙ ap (λ (x : Option NameUse). more_if (not (is_some x)) (length t.entries)) e) in
     ap (λ (g : Flags). use_check g counts u.role u.name earlier u.place) flags_are
     ∙ ap (λ (c : Counts). use_check (flags_at t.entries u.name) c u.role u.name earlier u.place) counts_are
     ∙ tells_fault had t earlier u is
 
-pub refuses_use : (had : List Use) (t : Tally) (earlier : ℕ) (u : Use) (entry : Option Entry) (flags : Flags) (counts : Counts) (e : ReadRefusal) → IsTally had t → entry ≡ entry_of t.entries u.name → flags ≡ flags_or_none entry → counts.sources ≡ more_if (is_source_role u.role && not (has_source (flags_or_none entry))) t.sources → counts.observed ≡ more_if (is_observed_role u.role) t.observed → counts.signals ≡ more_if (not (is_some entry)) (length t.entries) → Some e ≡ use_check flags counts u.role u.name earlier u.place → IsRefusal e (use_fault had earlier u)
+pub refuses_use : (had : List Use) (t : Tally) (earlier : ℕ) (u : Use) (entry : Option NameUse) (flags : Flags) (counts : Counts) (e : ReadRefusal) → IsTally had t → entry ≡ entry_of t.entries u.name → flags ≡ flags_or_none entry → counts.sources ≡ more_if (is_source_role u.role && not (has_source (flags_or_none entry))) t.sources → counts.observed ≡ more_if (is_observed_role u.role) t.observed → counts.signals ≡ more_if (not (is_some entry)) (length t.entries) → Some e ≡ use_check flags counts u.role u.name earlier u.place → IsRefusal e (use_fault had earlier u)
 refuses_use had t earlier u entry flags counts e is a b s o n said = refused (use_fault had earlier u) e (sym (said ∙ says_fault had t earlier u entry flags counts is a b s o n))
 
-pub accepts_use : (had : List Use) (t after : Tally) (earlier : ℕ) (u : Use) (entry : Option Entry) (flags marked : Flags) (place : Place) (counts : Counts) → IsTally had t → entry ≡ entry_of t.entries u.name → flags ≡ flags_or_none entry → counts.sources ≡ more_if (is_source_role u.role && not (has_source (flags_or_none entry))) t.sources → counts.observed ≡ more_if (is_observed_role u.role) t.observed → counts.signals ≡ more_if (not (is_some entry)) (length t.entries) → None ≡ use_check flags counts u.role u.name earlier u.place → marked ≡ with_role flags u.role → place ≡ place_or entry u.place → after.entries ≡ put_entry t.entries u.name (record { flags = marked; place = place }) → after.sources ≡ counts.sources → after.observed ≡ counts.observed → (use_fault had earlier u ≡ None) × IsTally (had ++ u ∷ []) after
+pub accepts_use : (had : List Use) (t after : Tally) (earlier : ℕ) (u : Use) (entry : Option NameUse) (flags marked : Flags) (place : Place) (counts : Counts) → IsTally had t → entry ≡ entry_of t.entries u.name → flags ≡ flags_or_none entry → counts.sources ≡ more_if (is_source_role u.role && not (has_source (flags_or_none entry))) t.sources → counts.observed ≡ more_if (is_observed_role u.role) t.observed → counts.signals ≡ more_if (not (is_some entry)) (length t.entries) → None ≡ use_check flags counts u.role u.name earlier u.place → marked ≡ with_role flags u.role → place ≡ place_or entry u.place → after.entries ≡ put_entry t.entries u.name (record { flags = marked; place = place }) → after.sources ≡ counts.sources → after.observed ≡ counts.observed → (use_fault had earlier u ≡ None) × IsTally (had ++ u ∷ []) after
 accepts_use had t after earlier u entry flags marked place counts is a b s o n said m p put q r =
     let flags_are : flags ≡ flags_at t.entries u.name = b ∙ ap flags_or_none a in
     let marked_are : marked ≡ with_role (flags_at t.entries u.name) u.role = m ∙ ap (λ (g : Flags). with_role g u.role) flags_are in
-    let place_is : place ≡ place_or (entry_of t.entries u.name) u.place = p ∙ ap (λ (x : Option Entry). place_or x u.place) a in
+    let place_is : place ≡ place_or (entry_of t.entries u.name) u.place = p ∙ ap (λ (x : Option NameUse). place_or x u.place) a in
     let entries_are : after.entries ≡ (with_use t u).entries = put ∙ ap (λ (g : Flags). put_entry t.entries u.name (record { flags = g; place = place })) marked_are ∙ ap (λ (z : Place). put_entry t.entries u.name (record { flags = with_role (flags_at t.entries u.name) u.role; place = z })) place_is in
-    let sources_are : after.sources ≡ (with_use t u).sources = q ∙ s ∙ ap (λ (x : Option Entry). more_if (is_source_role u.role && not (has_source (flags_or_none x))) t.sources) a in
+    let sources_are : after.sources ≡ (with_use t u).sources = q ∙ s ∙ ap (λ (x : Option NameUse). more_if (is_source_role u.role && not (has_source (flags_or_none x))) t.sources) a in
     let observed_are : after.observed ≡ (with_use t u).observed = r ∙ o in
     let same : after ≡ with_use t u = same_tally after (with_use t u) entries_are sources_are observed_are in
     (sym (says_fault had t earlier u entry flags counts is a b s o n) ∙ sym said, subst (IsTally (had ++ u ∷ [])) (sym same) (takes_use had t u is))
   where
     same_tally : (x y : Tally) → x.entries ≡ y.entries → x.sources ≡ y.sources → x.observed ≡ y.observed → x ≡ y
-    same_tally x y e f g = ap (λ (es : List (Word × Entry)). record { entries = es; sources = x.sources; observed = x.observed }) e ∙ ap (λ (s : ℕ). record { entries = y.entries; sources = s; observed = x.observed }) f ∙ ap (λ (o : ℕ). record { entries = y.entries; sources = y.sources; observed = o }) g
+    same_tally x y e f g = ap (λ (es : List (Word × NameUse)). record { entries = es; sources = x.sources; observed = x.observed }) e ∙ ap (λ (s : ℕ). record { entries = y.entries; sources = s; observed = x.observed }) f ∙ ap (λ (o : ℕ). record { entries = y.entries; sources = y.sources; observed = o }) g
 
 -- a check that passes keeps the limits
 over_none : (limit count : ℕ) (q : Quantity) (place : Place) (rest : Option ReadRefusal) → or_else (limit_if (is_over limit count) q count place) rest ≡ None → (count ≤ limit) × (rest ≡ None)
@@ -281,5 +281,5 @@ keeps_limits f c role x earlier place e =
     last true i e = let wrong : Some (Limit Signals c.signals place) ≡ None = rw i at e in cc
     last false i e = ltb-false 131072 c.signals i
 
-pub length_after : (es : List (Word × Entry)) (x : Word) (e : Entry) → length (put_entry es x e) ≡ more_if (not (is_some (entry_of es x))) (length es)
+pub length_after : (es : List (Word × NameUse)) (x : Word) (e : NameUse) → length (put_entry es x e) ≡ more_if (not (is_some (entry_of es x))) (length es)
 length_after es x e = length_put es x e

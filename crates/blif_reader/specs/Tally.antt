@@ -14,28 +14,28 @@ use Rattle.blif_format.specs.declared.refusal.FaultKind.TheVariants.{DoubleDrive
 use Rattle.blif_format.specs.declared.refusal.Quantity.TheVariants.{Inputs, Sources, Observed, Signals}
 use Rattle.blif_format.specs.declared.refusal.ReadRefusal.{ReadRefusal}
 use Rattle.blif_reader.specs.declared.names.Flags.{Flags}
-use Rattle.blif_reader.specs.declared.names.Entry.{Entry}
+use Rattle.blif_reader.specs.declared.names.NameUse.{NameUse}
 use Rattle.blif_reader.specs.declared.names.Counts.{Counts}
 use Rattle.rm_base.specs.Words.{Word}
 
 -- each name with its entry, by first appearance
 pub record Tally : Type 0 where
-  pub entries : List (Word × Entry)
+  pub entries : List (Word × NameUse)
   pub sources : ℕ
   pub observed : ℕ
 
-abbrev pub entry_of : List (Word × Entry) → Word → Option Entry
+abbrev pub entry_of : List (Word × NameUse) → Word → Option NameUse
 entry_of [] x = None
 entry_of (e ∷ es) x = if is_word x e.0 then Some e.1 else entry_of es x
 
 abbrev pub no_flags : Flags
 no_flags = record { input = false; clock = false; latch = false; cover = false; output = false }
 
-abbrev pub flags_or_none : Option Entry → Flags
+abbrev pub flags_or_none : Option NameUse → Flags
 flags_or_none None = no_flags
 flags_or_none (Some e) = e.flags
 
-abbrev pub flags_at : List (Word × Entry) → Word → Flags
+abbrev pub flags_at : List (Word × NameUse) → Word → Flags
 flags_at es x = flags_or_none (entry_of es x)
 
 abbrev pub has_source : Flags → Bool
@@ -64,7 +64,7 @@ with_role f Output = record f { output = true }
 with_role f role = f
 
 -- the entry under that name, in its place or at the end
-abbrev pub put_entry : List (Word × Entry) → Word → Entry → List (Word × Entry)
+abbrev pub put_entry : List (Word × NameUse) → Word → NameUse → List (Word × NameUse)
 put_entry [] x e = (x, e) ∷ []
 put_entry (y ∷ ys) x e = if is_word x y.0 then (y.0, e) ∷ ys else y ∷ put_entry ys x e
 
@@ -80,7 +80,7 @@ observed_after t this = more_if (is_observed_role this.role) t.observed
 abbrev pub signals_after : Tally → Use → ℕ
 signals_after t this = more_if (not (is_some (entry_of t.entries this.name))) (length t.entries)
 
-abbrev pub place_or : Option Entry → Place → Place
+abbrev pub place_or : Option NameUse → Place → Place
 place_or None place = place
 place_or (Some e) place = e.place
 
@@ -144,16 +144,16 @@ with_first fs u = if is_among (map (λ (f : Word × Place). f.0) fs) u.name then
 abbrev pub firsts : List Use → List (Word × Place)
 firsts uses = fold with_first [] uses
 
-abbrev pub first_of : Word × Entry → Word × Place
+abbrev pub first_of : Word × NameUse → Word × Place
 first_of e = (e.0, e.1.place)
 
 -- the place of a name without a driver
-abbrev pub free_of : Option (Word × Entry) → Option Place
+abbrev pub free_of : Option (Word × NameUse) → Option Place
 free_of None = None
 free_of (Some e) = if has_driver e.1.flags then None else Some e.1.place
 
 -- the place of the first one
-abbrev pub first_free : List (Word × Entry) → Option Place
+abbrev pub first_free : List (Word × NameUse) → Option Place
 first_free [] = None
 first_free (e ∷ es) = if has_driver e.1.flags then first_free es else Some e.1.place
 

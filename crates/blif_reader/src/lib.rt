@@ -3,7 +3,7 @@
 
 mod check;
 mod draft;
-mod entries;
+mod name_uses;
 mod laws;
 mod model;
 mod names;

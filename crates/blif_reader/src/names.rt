@@ -7,7 +7,7 @@ ghost use Rattle.std.specs.Option.{option_map};
 ghost use Rattle.blif_reader.specs.Meant.{refusal_of, IsRefusal};
 ghost use Rattle.blif_reader.specs.Tally.{Tally, IsTally, TakesUse, flags_or_none, no_flags, has_source as some_source, has_driver as some_driver, is_driven_twice as driven_twice, is_listed_twice as listed_twice, with_role as flags_with, more_if, place_or, first_free, free_of, use_check, flags_check, inputs_check, counts_check};
 
-use crate::entries::Entries;
+use crate::name_uses::NameUses;
 use crate::refusals::{fault, limit};
 use blif_format::{FaultKind, Quantity, ReadRefusal, Role};
 use rm_base::Place;
@@ -26,7 +26,7 @@ pub struct Flags {
 
 /// A name's flags and the place of its first use.
 #[derive(Clone, Copy, PartialEq, Eq)]
-pub struct Entry {
+pub struct NameUse {
     pub flags: Flags,
     pub place: Place,
 }
@@ -49,7 +49,7 @@ fn is_observed(role: Role) -> bool
     }
 }
 
-fn flags_of(entry: Option<Entry>) -> Flags
+fn flags_of(entry: Option<NameUse>) -> Flags
     ensures { result ≡ flags_or_none entry }
 {
     match entry {
@@ -112,7 +112,7 @@ fn with_role(flags: Flags, role: Role) -> Flags
     flags
 }
 
-fn place_of(entry: Option<Entry>, place: Place) -> Place
+fn place_of(entry: Option<NameUse>, place: Place) -> Place
     ensures { result ≡ place_or entry place }
 {
     match entry {
@@ -157,7 +157,7 @@ fn counts_with(
     observed: usize,
     names: usize,
     role: Role,
-    entry: Option<Entry>,
+    entry: Option<NameUse>,
 ) -> Counts
     requires sources { sources ≤ 2 ^ 32 }
     requires observed { observed ≤ 2 ^ 32 }
@@ -228,7 +228,7 @@ fn check_use(
 }
 
 // The place of the name at an index, if it has no driver.
-fn free_place(entries: &Entries, index: usize) -> Option<Place>
+fn free_place(entries: &NameUses, index: usize) -> Option<Place>
     ensures { result ≡ free_of (slice_get entries.now index) }
 {
     let entry = entries.at(index)?;
@@ -238,7 +238,7 @@ fn free_place(entries: &Entries, index: usize) -> Option<Place>
     Some(entry.place)
 }
 
-fn first_free_of(entries: &Entries) -> Option<Place>
+fn first_free_of(entries: &NameUses) -> Option<Place>
     ensures { result ≡ first_free entries.now }
 {
     let mut i = 0;
@@ -255,7 +255,7 @@ fn first_free_of(entries: &Entries) -> Option<Place>
 /// The names of a text so far. Contracts see the table of names by first appearance.
 #[derive(Drop)]
 pub struct Names<'a> {
-    entries: Entries<'a>,
+    entries: NameUses<'a>,
     sources: usize,
     observed: usize,
 }
@@ -277,7 +277,7 @@ impl<'a> Names<'a> {
         ensures { IsTally [] result }
     {
         Names {
-            entries: Entries::new(alloc),
+            entries: NameUses::new(alloc),
             sources: 0,
             observed: 0,
         }
@@ -303,7 +303,7 @@ impl<'a> Names<'a> {
             Ok(()) => {}
             Err(refusal) => return Err(refusal),
         }
-        let after = Entry {
+        let after = NameUse {
             flags: with_role(flags, role),
             place: place_of(entry, place),
         };

@@ -81,8 +81,8 @@ with_gates net gate ds = lower_at net.nodes gate (redriven ds (node_at net gate)
     same (Some n) = omega arith
 
 change_gates : (net : Net) (change : Change) → MakesNoPin change → gate_count (changed net change) ≤ gate_count net
-change_gates net (append gate driver) none = absurd none
-change_gates net (new_not driver) none = absurd none
+change_gates net (append gate driver) none = omega (arith, none)
+change_gates net (new_not driver) none = omega (arith, none)
 change_gates net (remove gate position) none = with_gates net gate (without (drivers_of net gate) position)
 change_gates net (fix gate position value) none = with_gates net gate (slice_set (drivers_of net gate) position (constant_node value))
 change_gates net (readers from to) none = let e : gates_in (map (node_redirected from to) net.nodes) ≡ gates_in net.nodes = moved_gates from to net.nodes in omega (arith, e)

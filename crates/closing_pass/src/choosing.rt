@@ -15,7 +15,7 @@ pub(crate) struct Chosen {
 }
 
 // Adds the fault at the next place, where it is open, and goes on.
-fn look(
+fn add_next(
     faults: &[Fault],
     found: &[Finding],
     chosen: &mut Chosen,
@@ -55,7 +55,7 @@ pub(crate) fn choose(
         next: from,
     };
     while chosen.next < faults.len() && chosen.places.len() < 64 {
-        look(faults, found, &mut chosen, from)?;
+        add_next(faults, found, &mut chosen, from)?;
     }
     Ok(chosen)
 }

@@ -16,9 +16,9 @@ use Rattle.pin_pool.specs.Pins.{list_of}
 use Rattle.pin_pool.specs.Rings.{Rings, AreRings, AreOnce, rings_of, linked, dropped, changed, all_without, IsOut}
 use Rattle.gate_graph.specs.Wirings.{IsShaped, IsWired, kind_at}
 use Rattle.pin_pool.specs.declared.names.PinNo.{PinNo}
-use Rattle.gate_graph.specs.declared.entries.Entry.{Entry}
-use Rattle.gate_graph.specs.declared.entries.Entry.TheVariants.{Appended}
-use Rattle.gate_graph.specs.Entries.{taken_back, LeadOn}
+use Rattle.gate_graph.specs.declared.undo_list.Undo.{Undo}
+use Rattle.gate_graph.specs.declared.undo_list.Undo.TheVariants.{Appended}
+use Rattle.gate_graph.specs.Undoing.{taken_back, LeadOn}
 use Rattle.gate_graph.proofs.LeadOns.{lead-on, back-rings, within-same, kind-of, live-in, not-not, not-source, not-constant}
 use Rattle.gate_graph.specs.Circuit.{Circuit, wiring, net_of, home}
 use Rattle.gate_graph.proofs.NetOf.{home-here, map-same, net-with, drivers-there, node-there}
@@ -130,7 +130,7 @@ module _ (v w : Circuit) (p g d : ℕ) (kind : Kind) (same : w.kinds ≡ v.kinds
       wired-by w rw' shape acyclic
 
   -- the pin can be taken out again, and this gives back what was
-  pub back-appended : (pin : PinNo) → pin.0 ≡ p → (let t : ℕ → Bool = (rings_of v.pool).taken in t p ≡ false) → (es : List Entry) → LeadOn v w es (Appended pin ∷ es)
+  pub back-appended : (pin : PinNo) → pin.0 ≡ p → (let t : ℕ → Bool = (rings_of v.pool).taken in t p ≡ false) → (es : List Undo) → LeadOn v w es (Appended pin ∷ es)
   back-appended pin is free es =
       let back : taken_back (Appended pin) (wiring w) ≡ wiring v =
       back-rings v w (dropped pin.0) (linked p g d (rings_of v.pool)) same e (ap (λ (q : ℕ). dropped q (linked p g d (rings_of v.pool))) is ∙ dropped-linked (rings_of v.pool) p g d rv free) in
@@ -142,7 +142,7 @@ module _ (v w : Circuit) (p g d : ℕ) (kind : Kind) (same : w.kinds ≡ v.kinds
 pub record Appends (v w : Circuit) (g d : ℕ) (pin : PinNo) : Type 0 where
   pub wired : IsWired (wiring w)
   pub net : net_of w ≡ with_pin (net_of v) g d
-  pub undos : (es : List Entry) → LeadOn v w es (Appended pin ∷ es)
+  pub undos : (es : List Undo) → LeadOn v w es (Appended pin ∷ es)
 
 pub appends : (v w : Circuit) (g d : ℕ) (pin : PinNo) → w.kinds ≡ v.kinds → rings_of w.pool ≡ linked pin.0 g d (rings_of v.pool) → AreRings (rings_of v.pool) → AreRings (rings_of w.pool) → IsWired (wiring v) → ((c : Bool) × IsJunction (net_of v) g c) → IsLive (net_of v) d → d ≢ g → (Reaches (net_of v) g d → ⊥) → (let t : ℕ → Bool = (rings_of v.pool).taken in t pin.0 ≡ false) → Appends v w g d pin
 appends v w g d pin same e rv rw' ww junction driver apart path free =

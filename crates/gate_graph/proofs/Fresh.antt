@@ -7,8 +7,8 @@ use Rattle.pin_pool.specs.Pins.{Pins}
 use Rattle.pin_pool.specs.Rings.{Rings, rings_of, no_rings}
 use Rattle.gate_graph.specs.Wirings.{Wiring, kind_at, wiring_of, AreFirst, IsShaped, IsWired}
 use Rattle.gate_graph.specs.Circuit.{Circuit, IsGraph, wiring, net_of, kinds_live, kinds_dead}
-use Rattle.gate_graph.specs.declared.entries.Entry.{Entry}
-use Rattle.gate_graph.specs.Entries.{LeadOn}
+use Rattle.gate_graph.specs.declared.undo_list.Undo.{Undo}
+use Rattle.gate_graph.specs.Undoing.{LeadOn}
 use Rattle.gate_graph.specs.Readers.{SameReaders}
 use Rattle.gate_graph.proofs.SameWired.{same-wiring, lead-same}
 
@@ -122,7 +122,7 @@ pub record Grows (v w : Circuit) (least bound : ℕ) : Type 0 where
   pub wiring_is : wiring w ≡ wiring v
   pub net : net_of w ≡ net_of v
   pub readers : SameReaders v w
-  pub undos : (es : List Entry) → LeadOn v w es es
+  pub undos : (es : List Undo) → LeadOn v w es es
 
 pub grows : (v w : Circuit) (n least bound : ℕ) → IsGraph v → kinds_live v.kinds least → kinds_dead v.kinds bound → w.kinds ≡ v.kinds ++ replicate n None → rings_of w.pool ≡ rings_of v.pool → length w.kinds ≤ length w.pool.inputs → length w.kinds ≤ 4294967295 → Grows v w least bound
 grows v w n least bound g live dead e r room few =

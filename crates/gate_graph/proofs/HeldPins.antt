@@ -13,9 +13,9 @@ use Rattle.pin_pool.proofs.Public.{has-append, has-within, len-one_less, length-
 use Rattle.pin_pool.specs.Ring.{has}
 use Rattle.pin_pool.specs.Pins.{Pins, list_of}
 use Rattle.pin_pool.specs.Rings.{rings_of, AreRings, IsLinked}
-use Rattle.gate_graph.specs.declared.entries.Entry.{Entry}
-use Rattle.gate_graph.specs.declared.entries.Entry.TheVariants.{Appended, Removed, Redriven, Moved, Made, Retired}
-use Rattle.gate_graph.specs.Entries.{CanTakeBack, taken_back}
+use Rattle.gate_graph.specs.declared.undo_list.Undo.{Undo}
+use Rattle.gate_graph.specs.declared.undo_list.Undo.TheVariants.{Appended, Removed, Redriven, Moved, Made, Retired}
+use Rattle.gate_graph.specs.Undoing.{CanTakeBack, taken_back}
 use Rattle.gate_graph.proofs.KindAt.{kind-within}
 use Rattle.gate_graph.specs.Wirings.{Wiring, wiring_of}
 use Rattle.gate_graph.specs.Circuit.{Circuit, net_of, gate_pins, home, pins_taken, IsGraph}
@@ -62,7 +62,7 @@ held-are v r g =
     let all = wires-all v g in
     omega (arith, few, all)
 
-pub holds-by : (v w : Circuit) (es fs : List Entry) → AreRings (rings_of v.pool) → AreRings (rings_of w.pool) → IsGraph v → IsGraph w → pins_taken w + linked_pins v.pool + length (held es) ≡ pins_taken v + linked_pins w.pool + length (held fs) → HoldsOn v w es fs
+pub holds-by : (v w : Circuit) (es fs : List Undo) → AreRings (rings_of v.pool) → AreRings (rings_of w.pool) → IsGraph v → IsGraph w → pins_taken w + linked_pins v.pool + length (held es) ≡ pins_taken v + linked_pins w.pool + length (held fs) → HoldsOn v w es fs
 holds-by v w es fs rv rw' gv gw e = omega (arith, held-are v rv gv, held-are w rw' gw, e)
 
 -- the same where no undos are
@@ -76,7 +76,7 @@ pub none-taken : (v : Circuit) → pins_taken v ≡ 0 → pins_held v ≡ 0
 none-taken v e = omega (arith, e)
 
 -- ONE ENTRY TAKEN BACK
-pub linked-back : (kinds kinds' : List (Option Kind)) (v w : Pins) (e : Entry) → length w.inputs ≡ length v.inputs → AreRings (rings_of v) → length kinds ≤ length v.inputs → CanTakeBack (wiring_of kinds v) e → wiring_of kinds' w ≡ taken_back e (wiring_of kinds v) → linked_pins w + pins_made (e ∷ []) ≡ linked_pins v + length (held_by e)
+pub linked-back : (kinds kinds' : List (Option Kind)) (v w : Pins) (e : Undo) → length w.inputs ≡ length v.inputs → AreRings (rings_of v) → length kinds ≤ length v.inputs → CanTakeBack (wiring_of kinds v) e → wiring_of kinds' w ≡ taken_back e (wiring_of kinds v) → linked_pins w + pins_made (e ∷ []) ≡ linked_pins v + length (held_by e)
 linked-back kinds kinds' v w (Appended pin) size r room can is = omega (arith, linked-less v w size pin.0 r (ap (λ (x : Wiring). x.rings.inputs) is) can.0)
 linked-back kinds kinds' v w (Made node pin) size r room can is = omega (arith, linked-less v w size pin.0 r (ap (λ (x : Wiring). x.rings.inputs) is) can.1.0)
 linked-back kinds kinds' v w (Removed pin slot) size r room can is =
@@ -86,7 +86,7 @@ linked-back kinds kinds' v w (Redriven pin slot) size r room can is = omega (ari
 linked-back kinds kinds' v w (Moved splice) size r room can is = omega (arith, linked-same v w size (ap (λ (x : Wiring). x.rings.inputs) is))
 linked-back kinds kinds' v w (Retired node kind) size r room can is = omega (arith, linked-same v w size (ap (λ (x : Wiring). x.rings.inputs) is))
 
-pub made-more : (e : Entry) (es : List Entry) → pins_made (e ∷ es) ≡ pins_made (e ∷ []) + pins_made es
+pub made-more : (e : Undo) (es : List Undo) → pins_made (e ∷ es) ≡ pins_made (e ∷ []) + pins_made es
 made-more (Appended pin) es = omega arith
 made-more (Made node pin) es = omega arith
 made-more (Removed pin slot) es = omega arith
@@ -95,19 +95,19 @@ made-more (Moved splice) es = omega arith
 made-more (Retired node kind) es = omega arith
 
 -- what undoing keeps
-pub record IsUndoing (v : Pins) (es : List Entry) (w : Pins) (fs : List Entry) : Type 0 where
+pub record IsUndoing (v : Pins) (es : List Undo) (w : Pins) (fs : List Undo) : Type 0 where
   pub free : w.spare + pins_made fs ≡ v.spare + pins_made es
   pub made : finset.len w.taken + pins_made es ≡ finset.len v.taken + pins_made fs
   pub held_pins : finset.len w.taken + linked_pins v + length (held es) ≡ finset.len v.taken + linked_pins w + length (held fs)
 
-pub undoing-start : (v : Pins) (es : List Entry) → IsUndoing v es v es
+pub undoing-start : (v : Pins) (es : List Undo) → IsUndoing v es v es
 undoing-start v es = record { free = refl; made = refl; held_pins = refl }
 
-pub undoing-step : (kinds kinds' : List (Option Kind)) (u v w : Pins) (es fs gs : List Entry) (e : Entry) → IsUndoing u es v fs → fs ≡ e ∷ gs → length w.inputs ≡ length v.inputs → AreRings (rings_of v) → length kinds ≤ length v.inputs → CanTakeBack (wiring_of kinds v) e → wiring_of kinds' w ≡ taken_back e (wiring_of kinds v) → finset.len w.taken + pins_made (e ∷ []) ≡ finset.len v.taken → w.spare ≡ v.spare + pins_made (e ∷ []) → IsUndoing u es w gs
+pub undoing-step : (kinds kinds' : List (Option Kind)) (u v w : Pins) (es fs gs : List Undo) (e : Undo) → IsUndoing u es v fs → fs ≡ e ∷ gs → length w.inputs ≡ length v.inputs → AreRings (rings_of v) → length kinds ≤ length v.inputs → CanTakeBack (wiring_of kinds v) e → wiring_of kinds' w ≡ taken_back e (wiring_of kinds v) → finset.len w.taken + pins_made (e ∷ []) ≡ finset.len v.taken → w.spare ≡ v.spare + pins_made (e ∷ []) → IsUndoing u es w gs
 undoing-step kinds kinds' u v w es fs gs e i first size r room can is taken spare =
     let back = linked-back kinds kinds' v w e size r room can is in
     let made = ap pins_made first ∙ made-more e gs in
-    let count = ap (λ (l : List Entry). length (held l)) first ∙ length-append (held_by e) (held gs) in
+    let count = ap (λ (l : List Undo). length (held l)) first ∙ length-append (held_by e) (held gs) in
     record {
       free = omega (arith, i.free, spare, made);
       made = omega (arith, i.made, taken, made);

@@ -11,11 +11,11 @@ use Rattle.pin_pool.specs.Rings.{IsLoose}
 use Rattle.pin_pool.specs.Pins.{Pins, put_after}
 use Rattle.pin_pool.specs.declared.names.PinNo.{PinNo}
 use Rattle.pin_pool.specs.declared.names.Slot.{Slot}
-use Rattle.gate_graph.specs.declared.entries.Entry.{Entry}
-use Rattle.gate_graph.specs.declared.entries.Entry.TheVariants.{Appended, Removed, Redriven, Moved, Made, Retired}
+use Rattle.gate_graph.specs.declared.undo_list.Undo.{Undo}
+use Rattle.gate_graph.specs.declared.undo_list.Undo.TheVariants.{Appended, Removed, Redriven, Moved, Made, Retired}
 use Rattle.pin_pool.specs.Rings.{rings_of, returned, changed, all_without, IsOut}
 use Rattle.gate_graph.specs.Wirings.{Wiring, wiring_of, kind_at}
-use Rattle.gate_graph.specs.Entries.{CanTakeBack, taken_back, CanGoBack}
+use Rattle.gate_graph.specs.Undoing.{CanTakeBack, taken_back, CanGoBack}
 use Rattle.gate_graph.specs.Holds.{held_by, held, IsHeld, AreHeld}
 
 without-keeps : (p q : ℕ) (xs : List ℕ) → q ≢ p → has q (without p xs) ≡ has q xs
@@ -59,7 +59,7 @@ not-dropped taken p q h = elim (cases_eq q p) [
 ]
 
 -- what is held before an entry is taken back is held afterwards
-held-before : (w : Wiring) (e : Entry) (q : ℕ) → CanTakeBack w e → IsHeld (taken_back e w) q → IsHeld w q × (has q (held_by e) ≡ false)
+held-before : (w : Wiring) (e : Undo) (q : ℕ) → CanTakeBack w e → IsHeld (taken_back e w) q → IsHeld w q × (has q (held_by e) ≡ false)
 held-before w (Appended pin) q can h =
     let t = not-dropped w.rings.taken pin.0 q h.0 in
     ((t.0, (out-without w.rings.inputs pin.0 q t.1 h.1.0, out-without w.rings.fanouts pin.0 q t.1 h.1.1)), refl)
@@ -77,7 +77,7 @@ held-before w (Made node pin) q can h =
     ((t.0, (out-without w.rings.inputs pin.0 q t.1 h.1.0, out-without w.rings.fanouts pin.0 q t.1 h.1.1)), refl)
 held-before w (Retired node kind) q can h = (h, refl)
 
-held-now : (w : Wiring) (e : Entry) (q : ℕ) → CanTakeBack w e → has q (held_by e) ≡ true → IsHeld w q
+held-now : (w : Wiring) (e : Undo) (q : ℕ) → CanTakeBack w e → has q (held_by e) ≡ true → IsHeld w q
 held-now w (Removed pin slot) q can h = elim (eqb_tells q pin.0) [
   | inl t ↦ rw t.1 (can.0, (can.1.0, can.1.1.0))
   | inr t ↦ let wrong : false ≡ true = rw t.0 at h in cc
@@ -88,7 +88,7 @@ held-now w (Moved splice) q can h = cc
 held-now w (Made node pin) q can h = cc
 held-now w (Retired node kind) q can h = cc
 
-apart-both : (e : Entry) (ps : List ℕ) → IsApart ps → ((q : ℕ) → has q ps ≡ true → has q (held_by e) ≡ false) → IsApart (held_by e ++ ps)
+apart-both : (e : Undo) (ps : List ℕ) → IsApart ps → ((q : ℕ) → has q ps ≡ true → has q (held_by e) ≡ false) → IsApart (held_by e ++ ps)
 apart-both (Removed pin slot) ps a h = (clear (has pin.0 ps) refl, a)
   where
     clear : (b : Bool) → has pin.0 ps ≡ b → b ≡ false
@@ -100,7 +100,7 @@ apart-both (Moved splice) ps a h = a
 apart-both (Made node pin) ps a h = a
 apart-both (Retired node kind) ps a h = a
 
-pub are-held : (w : Wiring) (es : List Entry) → CanGoBack w es → AreHeld w (held es)
+pub are-held : (w : Wiring) (es : List Undo) → CanGoBack w es → AreHeld w (held es)
 are-held w [] go = record { apart = tt; each = λ q h. cc }
 are-held w (e ∷ es) go =
     let rest = are-held (taken_back e w) es go.1 in
@@ -113,9 +113,9 @@ are-held w (e ∷ es) go =
     }
 
 -- a held pin is given back
-pub held-step : (kinds : List (Option Kind)) (v w : Pins) (pin : PinNo) (slot : Slot) (e : Entry) (es fs : List Entry) → es ≡ e ∷ fs → e ≡ Removed pin slot → AreHeld (wiring_of kinds v) (held es) → rings_of w ≡ returned pin.0 (rings_of v) → AreHeld (wiring_of kinds w) (held fs)
+pub held-step : (kinds : List (Option Kind)) (v w : Pins) (pin : PinNo) (slot : Slot) (e : Undo) (es fs : List Undo) → es ≡ e ∷ fs → e ≡ Removed pin slot → AreHeld (wiring_of kinds v) (held es) → rings_of w ≡ returned pin.0 (rings_of v) → AreHeld (wiring_of kinds w) (held fs)
 held-step kinds v w pin slot e es fs is ise h now =
-    let here : held es ≡ pin.0 ∷ held fs = ap held is ∙ ap (λ (x : Entry). held_by x ++ held fs) ise in
+    let here : held es ≡ pin.0 ∷ held fs = ap held is ∙ ap (λ (x : Undo). held_by x ++ held fs) ise in
     let apart : IsApart (pin.0 ∷ held fs) = subst (λ (l : List ℕ). IsApart l) here h.apart in
     let x : Wiring = record { kind = λ n. kind_at kinds n; rings = returned pin.0 (rings_of v) } in
     let is : wiring_of kinds w ≡ x = rw now refl in
@@ -127,13 +127,13 @@ held-step kinds v w pin slot e es fs is ise h now =
           (changed-other (λ (n : ℕ). finset.contains v.taken n) pin.0 false q ne ∙ was.0, was.1);
     })
 
-pub held-here : (kinds : List (Option Kind)) (v : Pins) (pin : PinNo) (slot : Slot) (e : Entry) (es fs : List Entry) → es ≡ e ∷ fs → e ≡ Removed pin slot → AreHeld (wiring_of kinds v) (held es) → IsLoose (rings_of v) pin.0
+pub held-here : (kinds : List (Option Kind)) (v : Pins) (pin : PinNo) (slot : Slot) (e : Undo) (es fs : List Undo) → es ≡ e ∷ fs → e ≡ Removed pin slot → AreHeld (wiring_of kinds v) (held es) → IsLoose (rings_of v) pin.0
 held-here kinds v pin slot e es fs is ise h =
-    let here : held es ≡ pin.0 ∷ held fs = ap held is ∙ ap (λ (x : Entry). held_by x ++ held fs) ise in
+    let here : held es ≡ pin.0 ∷ held fs = ap held is ∙ ap (λ (x : Undo). held_by x ++ held fs) ise in
     let was = h.each pin.0 (ap (has pin.0) here ∙ or_left _ _ (eq-eqb pin.0 pin.0 refl)) in
     (was.0, was.1.0)
 
-pub held-count : (pin : PinNo) (slot : Slot) (e : Entry) (es fs : List Entry) → es ≡ e ∷ fs → e ≡ Removed pin slot → length (held es) ≡ length (held fs) + 1
+pub held-count : (pin : PinNo) (slot : Slot) (e : Undo) (es fs : List Undo) → es ≡ e ∷ fs → e ≡ Removed pin slot → length (held es) ≡ length (held fs) + 1
 held-count pin slot e es fs is ise =
-    let here : held es ≡ pin.0 ∷ held fs = ap held is ∙ ap (λ (x : Entry). held_by x ++ held fs) ise in
+    let here : held es ≡ pin.0 ∷ held fs = ap held is ∙ ap (λ (x : Undo). held_by x ++ held fs) ise in
     ap length here ∙ omega arith

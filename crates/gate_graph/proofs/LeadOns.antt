@@ -5,47 +5,47 @@ use Rattle.gate_net.specs.declared.Kind.TheVariants.{Zero, One, Not, And, Or, So
 use Rattle.gate_net.specs.Net.{node_at}
 use Rattle.gate_net.specs.Net.{IsLive}
 use Rattle.gate_net.specs.Values.{controlling}
-use Rattle.gate_graph.specs.declared.entries.Entry.{Entry}
+use Rattle.gate_graph.specs.declared.undo_list.Undo.{Undo}
 use Rattle.pin_pool.specs.Rings.{Rings, rings_of}
 use Rattle.gate_graph.specs.Wirings.{Wiring, kind_at, IsShaped}
-use Rattle.gate_graph.specs.Entries.{taken_back, CanTakeBack, CanGoBack, back_to, LeadOn, AreWithin, IsWithin}
+use Rattle.gate_graph.specs.Undoing.{taken_back, CanTakeBack, CanGoBack, back_to, LeadOn, AreWithin, IsWithin}
 use Rattle.gate_graph.specs.Circuit.{Circuit, wiring, net_of, node_with}
 use Rattle.gate_graph.proofs.NetOf.{node_at-net}
 use Rattle.gate_net.specs.Net.{Node}
 
-pub lead-on : (v w : Circuit) (entry : Entry) (es : List Entry) → CanTakeBack (wiring w) entry → taken_back entry (wiring w) ≡ wiring v → (AreWithin (length v.kinds) es → AreWithin (length w.kinds) (entry ∷ es)) → LeadOn v w es (entry ∷ es)
+pub lead-on : (v w : Circuit) (entry : Undo) (es : List Undo) → CanTakeBack (wiring w) entry → taken_back entry (wiring w) ≡ wiring v → (AreWithin (length v.kinds) es → AreWithin (length w.kinds) (entry ∷ es)) → LeadOn v w es (entry ∷ es)
 lead-on v w entry es can back within = record {
   back = λ go. (can, subst (λ (x : Wiring). CanGoBack x es) (sym back) go);
   to = ap (λ (x : Wiring). back_to x es) back;
   within = within;
 }
 
-pub within-same : (ks ls : List (Option Kind)) (es : List Entry) → ks ≡ ls → AreWithin (length ls) es → AreWithin (length ks) es
+pub within-same : (ks ls : List (Option Kind)) (es : List Undo) → ks ≡ ls → AreWithin (length ls) es → AreWithin (length ks) es
 within-same ks ls es e h = subst (λ (l : List (Option Kind)). AreWithin (length l) es) (sym e) h
 
 pub back-rings : (v w : Circuit) (f : Rings → Rings) (r : Rings) → w.kinds ≡ v.kinds → rings_of w.pool ≡ r → f r ≡ rings_of v.pool → (let x : Wiring = record { kind = λ n. kind_at w.kinds n; rings = f (rings_of w.pool) } in x ≡ wiring v)
 back-rings v w f r same e back = rw (same, e, back) refl
 
 -- the same for an entry that leaves the kinds
-pub lead-rings : (v w : Circuit) (entry : Entry) (es : List Entry) (r : Rings) → w.kinds ≡ v.kinds → rings_of w.pool ≡ r → (let x : Wiring = record { kind = λ n. kind_at v.kinds n; rings = r } in CanTakeBack x entry × (taken_back entry x ≡ wiring v)) → IsWithin (length v.kinds) entry → LeadOn v w es (entry ∷ es)
+pub lead-rings : (v w : Circuit) (entry : Undo) (es : List Undo) (r : Rings) → w.kinds ≡ v.kinds → rings_of w.pool ≡ r → (let x : Wiring = record { kind = λ n. kind_at v.kinds n; rings = r } in CanTakeBack x entry × (taken_back entry x ≡ wiring v)) → IsWithin (length v.kinds) entry → LeadOn v w es (entry ∷ es)
 lead-rings v w entry es r same e back within =
     let x : Wiring = record { kind = λ n. kind_at v.kinds n; rings = r } in
     let now : wiring w ≡ x = rw (same, e) refl in
     lead-on v w entry es (subst (λ (y : Wiring). CanTakeBack y entry) (sym now) back.0) (ap (taken_back entry) now ∙ back.1)
     (λ all. (subst (λ (l : List (Option Kind)). IsWithin (length l) entry) (sym same) within, within-same w.kinds v.kinds es same all))
 
-pub lead-by : (v w : Circuit) (entry : Entry) (es : List Entry) (x : Wiring) → wiring w ≡ x → CanTakeBack x entry → taken_back entry x ≡ wiring v → (AreWithin (length v.kinds) es → AreWithin (length w.kinds) (entry ∷ es)) → LeadOn v w es (entry ∷ es)
+pub lead-by : (v w : Circuit) (entry : Undo) (es : List Undo) (x : Wiring) → wiring w ≡ x → CanTakeBack x entry → taken_back entry x ≡ wiring v → (AreWithin (length v.kinds) es → AreWithin (length w.kinds) (entry ∷ es)) → LeadOn v w es (entry ∷ es)
 lead-by v w entry es x now can back within =
     lead-on v w entry es (subst (λ (y : Wiring). CanTakeBack y entry) (sym now) can) (ap (taken_back entry) now ∙ back) within
 
-pub lead-trans : (u v w : Circuit) (es fs gs : List Entry) → LeadOn u v es fs → LeadOn v w fs gs → LeadOn u w es gs
+pub lead-trans : (u v w : Circuit) (es fs gs : List Undo) → LeadOn u v es fs → LeadOn v w fs gs → LeadOn u w es gs
 lead-trans u v w es fs gs a b = record {
   back = λ go. b.back (a.back go);
   to = b.to ∙ a.to;
   within = λ h. b.within (a.within h);
 }
 
-pub within-length : (m n : ℕ) (es : List Entry) → n ≡ m → AreWithin m es → AreWithin n es
+pub within-length : (m n : ℕ) (es : List Undo) → n ≡ m → AreWithin m es → AreWithin n es
 within-length m n es e h = subst (λ (k : ℕ). AreWithin k es) (sym e) h
 
 kind-with : (o : Option Kind) (ds : List ℕ) (n : Node) → node_with o ds ≡ Some n → o ≡ Some n.kind

@@ -9,11 +9,11 @@ use Rattle.pin_pool.proofs.Public.{changed-back, changed-other, changed-same}
 use Rattle.pin_pool.specs.Ring.{has}
 use Rattle.pin_pool.specs.Pins.{list_of}
 use Rattle.pin_pool.specs.declared.names.PinNo.{PinNo}
-use Rattle.gate_graph.specs.declared.entries.Entry.{Entry}
-use Rattle.gate_graph.specs.declared.entries.Entry.TheVariants.{Made}
+use Rattle.gate_graph.specs.declared.undo_list.Undo.{Undo}
+use Rattle.gate_graph.specs.declared.undo_list.Undo.TheVariants.{Made}
 use Rattle.pin_pool.specs.Rings.{Rings, AreRings, rings_of, linked, dropped, changed}
 use Rattle.gate_graph.specs.Wirings.{free_in, Wiring, IsShaped, IsWired, kind_at}
-use Rattle.gate_graph.specs.Entries.{CanTakeBack, LeadOn}
+use Rattle.gate_graph.specs.Undoing.{CanTakeBack, LeadOn}
 use Rattle.gate_net.specs.Edits.{MakesGate}
 use Rattle.gate_graph.specs.Circuit.{Circuit, wiring, net_of, node_with, gate_pins, home, kinds_live}
 use Rattle.gate_graph.proofs.NetOf.{home-here, map-same, node_at-net, observed-net}
@@ -171,7 +171,7 @@ module _ (v w : Circuit) (p n d : ℕ) (e : rings_of w.pool ≡ linked p n d (ri
       let wired : IsWired x = record { shape = shaped-now; rank = rank; ranked = ranked-now } in
       subst (λ (y : Wiring). IsWired y) (sym now) wired
 
-  pub back-made : (pin : PinNo) → pin.0 ≡ p → length w.kinds ≡ length v.kinds → (es : List Entry) → LeadOn v w es (Made n pin ∷ es)
+  pub back-made : (pin : PinNo) → pin.0 ≡ p → length w.kinds ≡ length v.kinds → (es : List Undo) → LeadOn v w es (Made n pin ∷ es)
   back-made pin is len es =
       let x : Wiring = record { kind = made; rings = linked p n d (rings_of v.pool) } in
       let kind-back : changed made n None ≡ kinds = ap (λ (o : Option Kind). changed made n o) (sym free) ∙ changed-back kinds n (Some Not) in
@@ -185,7 +185,7 @@ module _ (v w : Circuit) (p n d : ℕ) (e : rings_of w.pool ≡ linked p n d (ri
 pub record Makes (v w : Circuit) (n d : ℕ) (pin : PinNo) : Type 0 where
   pub wired : IsWired (wiring w)
   pub net : MakesGate (net_of v) (net_of w) Not (d ∷ []) n
-  pub undos : (es : List Entry) → LeadOn v w es (Made n pin ∷ es)
+  pub undos : (es : List Undo) → LeadOn v w es (Made n pin ∷ es)
 
 pub makes : (v w : Circuit) (n d : ℕ) (pin : PinNo) → rings_of w.pool ≡ linked pin.0 n d (rings_of v.pool) → AreRings (rings_of v.pool) → AreRings (rings_of w.pool) → IsWired (wiring v) → kind_at v.kinds n ≡ None → kinds_live v.kinds n → wiring w ≡ (let x : Wiring = record { kind = changed (λ m. kind_at v.kinds m) n (Some Not); rings = linked pin.0 n d (rings_of v.pool) } in x) → (let t : ℕ → Bool = (rings_of v.pool).taken in t pin.0 ≡ false) → IsLive (net_of v) d → length w.kinds ≡ length v.kinds → Makes v w n d pin
 makes v w n d pin e rv rw' ww free least now fresh driver len = record {

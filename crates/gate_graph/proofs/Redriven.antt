@@ -12,11 +12,11 @@ use Rattle.pin_pool.specs.Ring.{has, IsApart}
 use Rattle.pin_pool.specs.Pins.{list_of, StandsIn, put_after}
 use Rattle.pin_pool.specs.declared.names.PinNo.{PinNo}
 use Rattle.pin_pool.specs.declared.names.Slot.{Slot}
-use Rattle.gate_graph.specs.declared.entries.Entry.{Entry}
-use Rattle.gate_graph.specs.declared.entries.Entry.TheVariants.{Redriven}
+use Rattle.gate_graph.specs.declared.undo_list.Undo.{Undo}
+use Rattle.gate_graph.specs.declared.undo_list.Undo.TheVariants.{Redriven}
 use Rattle.pin_pool.specs.Rings.{Rings, AreRings, Stood, rings_of, redriven, restored, changed, all_without}
 use Rattle.gate_graph.specs.Wirings.{Wiring, IsShaped, IsWired, kind_at}
-use Rattle.gate_graph.specs.Entries.{CanTakeBack, LeadOn}
+use Rattle.gate_graph.specs.Undoing.{CanTakeBack, LeadOn}
 use Rattle.gate_graph.specs.Circuit.{Circuit, wiring, net_of, gate_pins, home}
 use Rattle.gate_graph.proofs.NetOf.{home-here, map-same, net-with, drivers-there, node-there}
 use Rattle.gate_graph.proofs.LeadOns.{lead-rings, live-in}
@@ -81,7 +81,7 @@ module _ (v w : Circuit) (p d : ℕ) (same : w.kinds ≡ v.kinds) (e : rings_of 
   rest-back : all_without p (pushed rest d p) ≡ rest
   rest-back = without-pushed rest d p (out outs _ rv.fanouts p)
 
-  pub back-redriven : (pin : PinNo) (slot : Slot) → pin.0 ≡ p → Stood (rings_of v.pool) p slot → kind_at v.kinds slot.driver ≢ None → (es : List Entry) → LeadOn v w es (Redriven pin slot ∷ es)
+  pub back-redriven : (pin : PinNo) (slot : Slot) → pin.0 ≡ p → Stood (rings_of v.pool) p slot → kind_at v.kinds slot.driver ≢ None → (es : List Undo) → LeadOn v w es (Redriven pin slot ∷ es)
   back-redriven pin slot is s driver es =
       let again : restored p slot (redriven p d (rings_of v.pool)) ≡ rings_of v.pool =
       same-rings _ _ refl
@@ -150,7 +150,7 @@ module _ (v w : Circuit) (p d : ℕ) (same : w.kinds ≡ v.kinds) (e : rings_of 
 pub record Redrives (v w : Circuit) (g k d : ℕ) (pin : PinNo) (slot : Slot) : Type 0 where
   pub wired : IsWired (wiring w)
   pub net : net_of w ≡ with_drivers (net_of v) g (slice_set (drivers_of (net_of v) g) k d)
-  pub undos : (es : List Entry) → LeadOn v w es (Redriven pin slot ∷ es)
+  pub undos : (es : List Undo) → LeadOn v w es (Redriven pin slot ∷ es)
 
 pub redrives : (v w : Circuit) (g k d : ℕ) (pin : PinNo) (slot : Slot) → w.kinds ≡ v.kinds → rings_of w.pool ≡ redriven pin.0 d (rings_of v.pool) → AreRings (rings_of v.pool) → AreRings (rings_of w.pool) → IsWired (wiring v) → IsLive (net_of v) d → d ≢ g → (Reaches (net_of v) g d → ⊥) → Some pin.0 ≡ slice_get (gate_pins v.pool g) k → Stood (rings_of v.pool) pin.0 slot → Redrives v w g k d pin slot
 redrives v w g k d pin slot same e rv rw' ww driver apart path at stood =

@@ -13,11 +13,11 @@ use Rattle.pin_pool.specs.Ring.{has, without, IsApart}
 use Rattle.pin_pool.specs.Pins.{list_of}
 use Rattle.pin_pool.specs.declared.names.PinNo.{PinNo}
 use Rattle.pin_pool.specs.declared.names.Slot.{Slot}
-use Rattle.gate_graph.specs.declared.entries.Entry.{Entry}
-use Rattle.gate_graph.specs.declared.entries.Entry.TheVariants.{Removed}
+use Rattle.gate_graph.specs.declared.undo_list.Undo.{Undo}
+use Rattle.gate_graph.specs.declared.undo_list.Undo.TheVariants.{Removed}
 use Rattle.pin_pool.specs.Rings.{Rings, AreRings, AreOnce, Stood, rings_of, unlinked, relinked, all_without, IsOut}
 use Rattle.gate_graph.specs.Wirings.{Wiring, IsShaped, IsWired, kind_at}
-use Rattle.gate_graph.specs.Entries.{CanTakeBack, LeadOn}
+use Rattle.gate_graph.specs.Undoing.{CanTakeBack, LeadOn}
 use Rattle.gate_graph.specs.Circuit.{Circuit, wiring, net_of, gate_pins, home}
 use Rattle.gate_graph.proofs.NetOf.{home-here, map-same, net-with, drivers-there}
 use Rattle.gate_graph.proofs.LeadOns.{lead-rings, kind-of, not-not, not-constant}
@@ -53,7 +53,7 @@ module _ (v w : Circuit) (p : ℕ) (same : w.kinds ≡ v.kinds) (e : rings_of w.
   abbrev outs : ℕ → List ℕ
   outs n = list_of v.pool.fanouts n
 
-  pub back-removed : (pin : PinNo) (slot : Slot) → pin.0 ≡ p → Stood (rings_of v.pool) p slot → kind_at v.kinds slot.gate ≢ None → kind_at v.kinds slot.driver ≢ None → (es : List Entry) → LeadOn v w es (Removed pin slot ∷ es)
+  pub back-removed : (pin : PinNo) (slot : Slot) → pin.0 ≡ p → Stood (rings_of v.pool) p slot → kind_at v.kinds slot.gate ≢ None → kind_at v.kinds slot.driver ≢ None → (es : List Undo) → LeadOn v w es (Removed pin slot ∷ es)
   back-removed pin slot is s gate driver es =
       let again : relinked p slot (unlinked p (rings_of v.pool)) ≡ rings_of v.pool =
       same-rings _ _ (back ins _ rv.inputs p slot.gate slot.in_gate s.in_gate s.after_gate) (back outs _ rv.fanouts p slot.driver slot.in_driver s.in_driver s.after_driver) refl in
@@ -121,7 +121,7 @@ module _ (v w : Circuit) (p : ℕ) (same : w.kinds ≡ v.kinds) (e : rings_of w.
 pub record Removes (v w : Circuit) (g k : ℕ) (pin : PinNo) (slot : Slot) : Type 0 where
   pub wired : IsWired (wiring w)
   pub net : net_of w ≡ without_pin (net_of v) g k
-  pub undos : (es : List Entry) → LeadOn v w es (Removed pin slot ∷ es)
+  pub undos : (es : List Undo) → LeadOn v w es (Removed pin slot ∷ es)
 
 pub removes : (v w : Circuit) (g k : ℕ) (pin : PinNo) (slot : Slot) → w.kinds ≡ v.kinds → rings_of w.pool ≡ unlinked pin.0 (rings_of v.pool) → AreRings (rings_of v.pool) → AreRings (rings_of w.pool) → IsWired (wiring v) → ((c : Bool) × IsJunction (net_of v) g c) → Some pin.0 ≡ slice_get (gate_pins v.pool g) k → Stood (rings_of v.pool) pin.0 slot → Removes v w g k pin slot
 removes v w g k pin slot same e rv rw' ww junction at stood =

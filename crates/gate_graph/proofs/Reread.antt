@@ -13,11 +13,11 @@ use Rattle.pin_pool.proofs.Public.{changed-other, changed-same, has-append, same
 use Rattle.pin_pool.specs.Ring.{has}
 use Rattle.pin_pool.specs.Pins.{list_of}
 use Rattle.pin_pool.specs.declared.names.Splice.{Splice}
-use Rattle.gate_graph.specs.declared.entries.Entry.{Entry}
-use Rattle.gate_graph.specs.declared.entries.Entry.TheVariants.{Moved}
+use Rattle.gate_graph.specs.declared.undo_list.Undo.{Undo}
+use Rattle.gate_graph.specs.declared.undo_list.Undo.TheVariants.{Moved}
 use Rattle.pin_pool.specs.Rings.{Rings, AreRings, rings_of, moved, moved_back, changed}
 use Rattle.gate_graph.specs.Wirings.{Wiring, IsShaped, IsWired, kind_at}
-use Rattle.gate_graph.specs.Entries.{CanTakeBack, LeadOn}
+use Rattle.gate_graph.specs.Undoing.{CanTakeBack, LeadOn}
 use Rattle.gate_graph.specs.Circuit.{Circuit, wiring, net_of, node_in, node_with, gate_pins, home}
 use Rattle.gate_graph.proofs.NetOf.{home-here, net-ext, node_at-net, nodes-trimmed, observed-net}
 use Rattle.gate_graph.proofs.LeadOns.{lead-rings, live-in}
@@ -150,7 +150,7 @@ module _ (v w : Circuit) (from to : ℕ) (apart : from ≢ to) (same : w.kinds �
       let acyclic : IsAcyclic (net_of w) = rw net-moved (moves_keep_acyclic (net_of v) from to (acyclic-net v rv ww) (λ is. apart (sym is)) path) in
       wired-by w rw' shape acyclic
 
-  pub back-moved : (splice : Splice) → splice.from ≡ from → splice.to ≡ to → splice.count ≡ length (outs from) → kind_at v.kinds from ≢ None → kind_at v.kinds to ≢ None → (es : List Entry) → LeadOn v w es (Moved splice ∷ es)
+  pub back-moved : (splice : Splice) → splice.from ≡ from → splice.to ≡ to → splice.count ≡ length (outs from) → kind_at v.kinds from ≢ None → kind_at v.kinds to ≢ None → (es : List Undo) → LeadOn v w es (Moved splice ∷ es)
   back-moved splice isf ist isc lf lt es =
       let again : moved_back splice (moved from to (rings_of v.pool)) ≡ rings_of v.pool =
       rw (isf, ist) (same-rings _ _ refl (back-again outs from to apart splice.count isc) refl) in
@@ -163,7 +163,7 @@ module _ (v w : Circuit) (from to : ℕ) (apart : from ≢ to) (same : w.kinds �
 pub record Rereads (v w : Circuit) (from to : ℕ) (splice : Splice) : Type 0 where
   pub wired : IsWired (wiring w)
   pub net : net_of w ≡ with_readers_moved (net_of v) from to
-  pub undos : (es : List Entry) → LeadOn v w es (Moved splice ∷ es)
+  pub undos : (es : List Undo) → LeadOn v w es (Moved splice ∷ es)
 
 pub rereads : (v w : Circuit) (from to : ℕ) (splice : Splice) → w.kinds ≡ v.kinds → rings_of w.pool ≡ moved from to (rings_of v.pool) → AreRings (rings_of v.pool) → AreRings (rings_of w.pool) → IsWired (wiring v) → IsLive (net_of v) from → IsLive (net_of v) to → to ≢ from → (Reaches (net_of v) from to → ⊥) → ((splice.from ≡ from) × (splice.to ≡ to) × (splice.count ≡ length (list_of v.pool.fanouts from))) → Rereads v w from to splice
 rereads v w from to splice same e rv rw' ww lf lt ne path is =

@@ -16,11 +16,11 @@ use Rattle.pin_pool.specs.Ring.{has}
 use Rattle.pin_pool.specs.Pins.{Pins, list_of}
 use Rattle.pin_pool.specs.declared.names.PinNo.{PinNo}
 use Rattle.pin_pool.specs.declared.names.Slot.{Slot}
-use Rattle.gate_graph.specs.declared.entries.Entry.{Entry}
-use Rattle.gate_graph.specs.declared.entries.Entry.TheVariants.{Removed, Retired}
+use Rattle.gate_graph.specs.declared.undo_list.Undo.{Undo}
+use Rattle.gate_graph.specs.declared.undo_list.Undo.TheVariants.{Removed, Retired}
 use Rattle.pin_pool.specs.Rings.{Rings, AreRings, Stood, rings_of, unlinked, changed, all_without}
 use Rattle.gate_graph.specs.Wirings.{Wiring, IsShaped, IsWired, AreFirst, kind_at}
-use Rattle.gate_graph.specs.Entries.{LeadOn}
+use Rattle.gate_graph.specs.Undoing.{LeadOn}
 use Rattle.gate_graph.specs.Circuit.{Circuit, wiring, net_of, fanouts_of, fans_in, node_with, gate_pins, home}
 use Rattle.gate_graph.specs.Emptied.{IsEmptied}
 use Rattle.gate_graph.proofs.NetOf.{home-here, map-same, node_at-net, observed-net, drivers-there}
@@ -33,7 +33,7 @@ use Rattle.gate_graph.proofs.KindAt.{kind-within}
 use Rattle.gate_graph.proofs.Removed.{had, keeps, elsewhere, back-removed}
 
 -- before any pin goes
-pub emptied-start : (v : Circuit) (g : ℕ) (es : List Entry) → AreRings (rings_of v.pool) → IsWired (wiring v) → IsEmptied v v g es es
+pub emptied-start : (v : Circuit) (g : ℕ) (es : List Undo) → AreRings (rings_of v.pool) → IsWired (wiring v) → IsEmptied v v g es es
 emptied-start v g es rv ww = record {
   rings = rv;
   kinds = refl;
@@ -48,7 +48,7 @@ emptied-start v g es rv ww = record {
 }
 
 -- one pin more goes
-pub emptied-step : (v w u : Circuit) (g : ℕ) (pin : PinNo) (slot : Slot) (es fs : List Entry) → IsWired (wiring v) → g ≢ 0 → IsEmptied v w g es fs → u.kinds ≡ w.kinds → rings_of u.pool ≡ unlinked pin.0 (rings_of w.pool) → AreRings (rings_of u.pool) → has pin.0 (list_of w.pool.inputs g) ≡ true → Stood (rings_of w.pool) pin.0 slot → IsEmptied v u g es (Removed pin slot ∷ fs) × (length (list_of u.pool.inputs g) + 1 ≡ length (list_of w.pool.inputs g))
+pub emptied-step : (v w u : Circuit) (g : ℕ) (pin : PinNo) (slot : Slot) (es fs : List Undo) → IsWired (wiring v) → g ≢ 0 → IsEmptied v w g es fs → u.kinds ≡ w.kinds → rings_of u.pool ≡ unlinked pin.0 (rings_of w.pool) → AreRings (rings_of u.pool) → has pin.0 (list_of w.pool.inputs g) ≡ true → Stood (rings_of w.pool) pin.0 slot → IsEmptied v u g es (Removed pin slot ∷ fs) × (length (list_of u.pool.inputs g) + 1 ≡ length (list_of w.pool.inputs g))
 emptied-step v w u g pin slot es fs ww nz i same e ru at s =
     let p = pin.0 in
     let ins : ℕ → List ℕ = λ n. list_of w.pool.inputs n in
@@ -98,7 +98,7 @@ no-fanouts v g rv s un q h =
           un.unobserved (at.0, ap (λ (l : List ℕ). slice_get l at.0) (observed-net v) ∙ slice_get-map (home v.pool.fanouts) (list_of v.pool.inputs 0) at.0 ∙ ap (option_map (home v.pool.fanouts)) at.1 ∙ ap (λ (n : ℕ). Some n) (home-here v.pool.fanouts _ q g rv.fanouts h))
     ]
 
-module _ (v w u : Circuit) (g : ℕ) (es fs : List Entry) (kind : Kind) (rv : AreRings (rings_of v.pool)) (ww : IsWired (wiring v)) (i : IsEmptied v w g es fs) (none : list_of w.pool.inputs g ≡ []) (live : kind_at v.kinds g ≡ Some kind) (gate : IsGateKind kind) (un : IsUnread (net_of v) g) (now : wiring u ≡ (let x : Wiring = record { kind = changed (λ n. kind_at w.kinds n) g None; rings = rings_of w.pool } in x)) where
+module _ (v w u : Circuit) (g : ℕ) (es fs : List Undo) (kind : Kind) (rv : AreRings (rings_of v.pool)) (ww : IsWired (wiring v)) (i : IsEmptied v w g es fs) (none : list_of w.pool.inputs g ≡ []) (live : kind_at v.kinds g ≡ Some kind) (gate : IsGateKind kind) (un : IsUnread (net_of v) g) (now : wiring u ≡ (let x : Wiring = record { kind = changed (λ n. kind_at w.kinds n) g None; rings = rings_of w.pool } in x)) where
   abbrev left : ℕ → Option Kind
   left n = changed (λ (m : ℕ). kind_at w.kinds m) g None n
 
@@ -206,12 +206,12 @@ module _ (v w u : Circuit) (g : ℕ) (es fs : List Entry) (kind : Kind) (rv : Ar
       (lead-by w u (Retired g kind) fs x now left-there (λ j. record { kind = kind-back j; rings = rings_of w.pool })
       (λ within. (omega (arith, len, kind-within w.kinds g (λ e. (let both : Some kind ≡ None = sym was ∙ e in cc))), within-length (length w.kinds) (length u.kinds) fs len within)))
 
-pub record Retires (v u : Circuit) (g : ℕ) (kind : Kind) (es fs : List Entry) : Type 0 where
+pub record Retires (v u : Circuit) (g : ℕ) (kind : Kind) (es fs : List Undo) : Type 0 where
   pub wired : IsWired (wiring u)
   pub net : DiffersAt (net_of v) (net_of u) g × (node_at (net_of u) g ≡ None)
   pub undos : LeadOn v u es (Retired g kind ∷ fs)
 
-pub retires : (v w u : Circuit) (g : ℕ) (kind : Kind) (es fs : List Entry) → AreRings (rings_of v.pool) → IsWired (wiring v) → IsEmptied v w g es fs → list_of w.pool.inputs g ≡ [] → IsGate (net_of v) g → kind_at w.kinds g ≡ Some kind → IsUnread (net_of v) g → wiring u ≡ (let x : Wiring = record { kind = changed (λ n. kind_at w.kinds n) g None; rings = rings_of w.pool } in x) → length u.kinds ≡ length w.kinds → Retires v u g kind es fs
+pub retires : (v w u : Circuit) (g : ℕ) (kind : Kind) (es fs : List Undo) → AreRings (rings_of v.pool) → IsWired (wiring v) → IsEmptied v w g es fs → list_of w.pool.inputs g ≡ [] → IsGate (net_of v) g → kind_at w.kinds g ≡ Some kind → IsUnread (net_of v) g → wiring u ≡ (let x : Wiring = record { kind = changed (λ n. kind_at w.kinds n) g None; rings = rings_of w.pool } in x) → length u.kinds ≡ length w.kinds → Retires v u g kind es fs
 retires v w u g kind es fs rv ww i none gate is un now len =
     let live : kind_at v.kinds g ≡ Some kind = ap (λ (ks : List (Option Kind)). kind_at ks g) (sym i.kinds) ∙ is in
     let found = kind-of v g _ gate.1.0.1 in
@@ -237,7 +237,7 @@ pub some-first : (xs : List ℕ) → (p : ℕ) → has p xs ≡ true → 0 < len
 some-first [] p h = cc
 some-first (x ∷ xs) p h = omega arith
 
-pub gate-goes : (v w u : Circuit) (g : ℕ) (es fs : List Entry) → IsEmptied v w g es fs → list_of w.pool.inputs g ≡ [] → u.pool ≡ w.pool → GateGoes v u g
+pub gate-goes : (v w u : Circuit) (g : ℕ) (es fs : List Undo) → IsEmptied v w g es fs → list_of w.pool.inputs g ≡ [] → u.pool ≡ w.pool → GateGoes v u g
 unfolding fanouts_of
 gate-goes v w u g es fs i none same n = ap (λ (x : Pins). fans_in x n) same ∙ sym (fans-none w.pool g i.rings none n) ∙ i.fans n
 

@@ -2,9 +2,9 @@
 use Rattle.std.proofs.Common.{◌≡◌, ℕ, suc, ◌≤◌, List, [], ◌∷◌, length, map, None, refl, sym, ap, ◌∙◌, subst, arith}
 use Rattle.pin_pool.specs.Pins.{list_of}
 use Rattle.gate_graph.specs.Wirings.{Wiring, kind_at}
-use Rattle.gate_graph.specs.declared.entries.Entry.{Entry}
-use Rattle.gate_graph.specs.declared.entries.Entry.TheVariants.{Appended, Removed, Redriven, Moved, Made, Retired}
-use Rattle.gate_graph.specs.Entries.{LeadOn, CanGoBack, back_to, AreWithin, IsWithin}
+use Rattle.gate_graph.specs.declared.undo_list.Undo.{Undo}
+use Rattle.gate_graph.specs.declared.undo_list.Undo.TheVariants.{Appended, Removed, Redriven, Moved, Made, Retired}
+use Rattle.gate_graph.specs.Undoing.{LeadOn, CanGoBack, back_to, AreWithin, IsWithin}
 use Rattle.gate_graph.specs.Circuit.{Circuit, wiring, net_of, fanouts_of, node_with, gate_pins, home, number_with, number_or_zero, next_number, reader, SameWiring}
 use Rattle.gate_graph.proofs.NetOf.{net-ext, nodes-trimmed, node_at-net, observed-net, map-same}
 
@@ -45,11 +45,11 @@ pub same-wiring : SameWiring
 same-wiring v w e =
     same-seen v w (λ n. ap (λ (x : Wiring). x.kind n) e) (λ n. ap (λ (x : Wiring). x.rings.inputs n) e) (λ n. ap (λ (x : Wiring). x.rings.fanouts n) e)
 
-within-more : (m n : ℕ) (es : List Entry) → m ≤ n → AreWithin m es → AreWithin n es
+within-more : (m n : ℕ) (es : List Undo) → m ≤ n → AreWithin m es → AreWithin n es
 within-more m n [] h a = tt
 within-more m n (e ∷ es) h a = (one e a.0, within-more m n es h a.1)
   where
-    one : (e : Entry) → IsWithin m e → IsWithin n e
+    one : (e : Undo) → IsWithin m e → IsWithin n e
     one (Appended pin) w = tt
     one (Removed pin slot) w = tt
     one (Redriven pin slot) w = tt
@@ -57,7 +57,7 @@ within-more m n (e ∷ es) h a = (one e a.0, within-more m n es h a.1)
     one (Made node pin) w = tt
     one (Retired node kind) w = omega arith
 
-pub lead-same : (v w : Circuit) (es : List Entry) → wiring w ≡ wiring v → length v.kinds ≤ length w.kinds → LeadOn v w es es
+pub lead-same : (v w : Circuit) (es : List Undo) → wiring w ≡ wiring v → length v.kinds ≤ length w.kinds → LeadOn v w es es
 lead-same v w es e more = record {
   back = λ go. subst (λ (x : Wiring). CanGoBack x es) (sym e) go;
   to = ap (λ (x : Wiring). back_to x es) e;

@@ -2,13 +2,13 @@
 use Rattle.std.specs.Prelude.{◌≡◌, ◌≢◌, ℕ, true, false, List}
 use Rattle.pin_pool.specs.Ring.{has}
 use Rattle.pin_pool.specs.Pins.{list_of}
-use Rattle.gate_graph.specs.declared.entries.Entry.{Entry}
+use Rattle.gate_graph.specs.declared.undo_list.Undo.{Undo}
 use Rattle.pin_pool.specs.Rings.{AreRings, rings_of}
 use Rattle.gate_graph.specs.Circuit.{Circuit, fans_in}
 use Rattle.gate_graph.specs.Spots.{without_gate}
-use Rattle.gate_graph.specs.Entries.{LeadOn}
+use Rattle.gate_graph.specs.Undoing.{LeadOn}
 
-pub record IsEmptied (v w : Circuit) (g : ℕ) (es fs : List Entry) : Type 0 where
+pub record IsEmptied (v w : Circuit) (g : ℕ) (es fs : List Undo) : Type 0 where
   pub rings : AreRings (rings_of w.pool)
   pub kinds : w.kinds ≡ v.kinds
   pub less_in : (n q : ℕ) → has q (list_of w.pool.inputs n) ≡ true → has q (list_of v.pool.inputs n) ≡ true

@@ -1,5 +1,5 @@
 pub mod Wirings
-pub mod Entries
+pub mod Undoing
 pub mod Circuit
 pub mod Trail
 pub mod Emptied

@@ -1,9 +1,9 @@
 //! Changes of a graph that can be undone.
 ghost use Rattle.std.specs.Prelude.{[], ◌∷◌, ◌≡◌, ◌≢◌, ◌+◌, ◌<◌, ◌≤◌, length, Some, None, slice_set, Bool, ◌-◌};
-ghost use Rattle.gate_graph.specs.Entries.{LeadOn};
+ghost use Rattle.gate_graph.specs.Undoing.{LeadOn};
 ghost use Rattle.gate_graph.specs.Holds.{HoldsOn};
 ghost use Rattle.gate_graph.specs.Changes.{CanEdit, Edits, entries_for};
-ghost use Rattle.gate_graph.specs.declared.entries.Entry.{Entry};
+ghost use Rattle.gate_graph.specs.declared.undo_list.Undo.{Undo};
 ghost use Rattle.gate_net.specs.Edits.{MakesGate};
 ghost use Rattle.gate_graph.specs.Circuit.{net_of, free_pins, free_nodes, Uses, Frees};
 ghost use Rattle.gate_graph.specs.Readers.{LastReader, ReadersMove, ReaderMoves, ReaderGoes, GateGoes};
@@ -16,9 +16,9 @@ ghost use Rattle.gate_net.specs.Edits.{with_readers_moved};
 ghost use Rattle.gate_net.specs.Edits.{with_pin, with_drivers};
 ghost use Rattle.gate_net.specs.declared.Kind.TheVariants.{One, Not};
 
-use crate::entries::{Entry, Undos};
+use crate::undo_list::{Undo, Undos};
 use crate::pins::{least_free, nth_pin};
-use crate::rings::{link_new, look, move_fanouts, redrive_pin, unlink_at, unlink_pin};
+use crate::rings::{link_new, tell_rings, move_fanouts, redrive_pin, unlink_at, unlink_pin};
 use crate::state::Graph;
 use crate::undoing::set_kind;
 use gate_net::Kind;
@@ -101,10 +101,10 @@ impl Graph {
         ensures together { length undos.new.entries + undos.new.spare ≡ length undos.old.entries + undos.old.spare }
         ensures left { undos.new.entries ≢ [] }
     {
-        look(&self.pool);
+        tell_rings(&self.pool);
         let pin = link_new(&mut self.pool, gate.0, driver.0);
-        look(&self.pool);
-        undos.push(Entry::Appended { pin });
+        tell_rings(&self.pool);
+        undos.push(Undo::Appended { pin });
     }
 
     // The pin goes.
@@ -125,8 +125,8 @@ impl Graph {
     {
         let pin = self.pin_of(gate, position);
         let slot = unlink_at(&mut self.pool, pin, gate.0, position);
-        look(&self.pool);
-        undos.push(Entry::Removed { pin, slot });
+        tell_rings(&self.pool);
+        undos.push(Undo::Removed { pin, slot });
     }
 
     // The pin reads another node.
@@ -149,8 +149,8 @@ impl Graph {
     {
         let pin = self.pin_of(gate, position);
         let slot = redrive_pin(&mut self.pool, pin, driver.0);
-        look(&self.pool);
-        undos.push(Entry::Redriven { pin, slot });
+        tell_rings(&self.pool);
+        undos.push(Undo::Redriven { pin, slot });
     }
 
     // All readers of a node read another.
@@ -171,10 +171,10 @@ impl Graph {
         ensures together { length undos.new.entries + undos.new.spare ≡ length undos.old.entries + undos.old.spare }
         ensures left { undos.new.entries ≢ [] }
     {
-        look(&self.pool);
+        tell_rings(&self.pool);
         let splice = move_fanouts(&mut self.pool, from.0, to.0);
-        look(&self.pool);
-        undos.push(Entry::Moved { splice });
+        tell_rings(&self.pool);
+        undos.push(Undo::Moved { splice });
     }
 
     // A Not of the driver takes the least free number, which is given.
@@ -194,10 +194,10 @@ impl Graph {
         ensures together { length undos.new.entries + undos.new.spare ≡ length undos.old.entries + undos.old.spare }
         ensures left { undos.new.entries ≢ [] }
     {
-        look(&self.pool);
+        tell_rings(&self.pool);
         let node = least_free(&self.kinds, self.least);
         let pin = link_new(&mut self.pool, node, driver.0);
-        look(&self.pool);
+        tell_rings(&self.pool);
         set_kind(
             &mut self.kinds,
             &mut self.free,
@@ -206,7 +206,7 @@ impl Graph {
             Some(Kind::Not),
         );
         self.least = node + 1;
-        undos.push(Entry::Made { node, pin });
+        undos.push(Undo::Made { node, pin });
         node
     }
 
@@ -226,11 +226,11 @@ impl Graph {
         ensures together { length undos.new.entries + undos.new.spare ≡ length undos.old.entries + undos.old.spare }
         ensures left { undos.new.entries ≢ [] }
     {
-        look(&self.pool);
+        tell_rings(&self.pool);
         while let Some(pin) = nth_pin(&self.pool, gate.0, 0) {
             let slot = unlink_pin(&mut self.pool, pin);
-            look(&self.pool);
-            undos.push(Entry::Removed { pin, slot });
+            tell_rings(&self.pool);
+            undos.push(Undo::Removed { pin, slot });
         }
         match self.kinds[gate.0 as usize] {
             Some(kind) => {
@@ -242,7 +242,7 @@ impl Graph {
                     None,
                 );
                 self.least = self.least.min(gate.0);
-                undos.push(Entry::Retired { node: gate.0, kind });
+                undos.push(Undo::Retired { node: gate.0, kind });
             }
             None => unreachable!(),
         }

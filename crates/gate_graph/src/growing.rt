@@ -1,7 +1,7 @@
 //! Calls that make a graph larger.
 ghost use Rattle.std.specs.Prelude.{◌≡◌, ◌+◌, ◌<◌, ◌≤◌, [], ◌∷◌, length, Some, None, IfOk, true, List, OnOk, ◌-◌, ◌++◌, OnErr, map, ℕ};
-ghost use Rattle.gate_graph.specs.Entries.{LeadOn};
-ghost use Rattle.gate_graph.specs.declared.entries.Entry.{Entry};
+ghost use Rattle.gate_graph.specs.Undoing.{LeadOn};
+ghost use Rattle.gate_graph.specs.declared.undo_list.Undo.{Undo};
 ghost use Rattle.gate_net.specs.Edits.{MakesGate};
 ghost use Rattle.gate_graph.specs.Circuit.{wiring, net_of, free_pins, free_nodes, pins_taken, live_nodes};
 ghost use Rattle.gate_net.specs.Net.{IsLive, IsGateKind};
@@ -12,7 +12,7 @@ ghost use Rattle.gate_graph.specs.Readers.{NewReaders, SameReaders};
 ghost use Rattle.rm_base.specs.Numbers.{number_bound};
 
 use crate::pins::{OBSERVED_LIST, least_free};
-use crate::rings::{link_all, link_new, look};
+use crate::rings::{link_all, link_new, tell_rings};
 use crate::state::Graph;
 use crate::undoing::set_kind;
 use gate_net::Kind;
@@ -28,7 +28,7 @@ impl Graph {
         ensures net { net_of self.new ≡ net_of self.old }
         ensures fanouts { SameReaders self.old self.new }
         ensures wiring { wiring self.new ≡ wiring self.old }
-        ensures undos { (es : List Entry) → LeadOn self.old self.new es es }
+        ensures undos { (es : List Undo) → LeadOn self.old self.new es es }
         ensures epoch { self.new.epoch ≡ self.old.epoch }
         ensures kept_pins { free_pins self.old ≤ free_pins self.new }
         ensures kept_nodes { free_nodes self.old ≤ free_nodes self.new }
@@ -87,7 +87,7 @@ impl Graph {
         ensures held { pins_held self.new ≡ pins_held self.old }
         ensures epoch { self.new.epoch ≡ self.old.epoch }
     {
-        look(&self.pool);
+        tell_rings(&self.pool);
         let node = least_free(&self.kinds, self.least);
         link_all(&mut self.pool, node, drivers);
         set_kind(
@@ -133,8 +133,8 @@ impl Graph {
         ensures held { pins_held self.new ≡ pins_held self.old }
         ensures epoch { self.new.epoch ≡ self.old.epoch }
     {
-        look(&self.pool);
+        tell_rings(&self.pool);
         let _pin = link_new(&mut self.pool, OBSERVED_LIST, node.0);
-        look(&self.pool);
+        tell_rings(&self.pool);
     }
 }

@@ -4,7 +4,7 @@
 mod copying;
 mod counting;
 mod editing;
-mod entries;
+mod undo_list;
 mod fanout_iter;
 mod faults;
 mod growing;
@@ -20,7 +20,7 @@ mod state;
 mod undoing;
 
 pub use editing::Edit;
-pub use entries::{Entry, Undos};
+pub use undo_list::{Undo, Undos};
 pub use fanout_iter::Fanouts;
 pub use faults::{faults_of, pin_count};
 pub use input_iter::Inputs;

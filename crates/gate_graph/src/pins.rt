@@ -9,7 +9,7 @@ ghost use Rattle.pin_pool.specs.Ring.{has};
 ghost use Rattle.gate_net.specs.declared.Kind.TheVariants.{Source};
 ghost use Rattle.rm_base.specs.Numbers.{number_bound, first_source, one_number};
 
-use crate::rings::look;
+use crate::rings::tell_rings;
 use gate_net::Kind;
 use pin_pool::{PinIter, PinNo, Pool};
 use rm_base::{FIRST_SOURCE, ONE};
@@ -128,7 +128,7 @@ pub(crate) fn next_reading(pins: &mut PinIter<'_>, pool: &Pool) -> Option<PinNo>
     ensures reads { IfSome result (λ pin. has pin.0 (list_of pool.now.inputs observed_list) ≡ false) }
     ensures kept { (p : ℕ) → has p pins.new ≡ true → has p pins.old ≡ true }
 {
-    look(pool);
+    tell_rings(pool);
     while let Some(pin) = pins.next() {
         if pool.gate_of(pin) != 0 {
             return Some(pin);
@@ -144,7 +144,7 @@ pub(crate) fn observes(pool: &Pool, node: u32) -> bool
     ensures found { result ≡ true → (p : ℕ) × ((has p (list_of pool.now.fanouts node) ≡ true) × (has p (list_of pool.now.inputs observed_list) ≡ true)) }
     ensures none { result ≡ false → (p : ℕ) → has p (list_of pool.now.fanouts node) ≡ true → has p (list_of pool.now.inputs observed_list) ≡ false }
 {
-    look(pool);
+    tell_rings(pool);
     for pin in pool.fanouts(node) {
         if pool.gate_of(pin) == 0 {
             return true;
@@ -176,7 +176,7 @@ fn is_source(kind: Option<Kind>) -> bool
     }
 }
 
-// Whether there are so many sources from the first number of one on, and no more.
+// Whether there are that many sources, as they stand in a row: the last of so many is one, and the next node isn't.
 pub(crate) fn are_sources(kinds: &[Option<Kind>], sources: u32) -> bool
     ensures last { result ≡ true → (k : ℕ) → k + 1 ≡ sources → kind_at kinds.now (first_source + k) ≡ Some Source }
     ensures end { result ≡ true → kind_at kinds.now (first_source + sources) ≢ Some Source }
@@ -193,7 +193,7 @@ pub(crate) fn are_sources(kinds: &[Option<Kind>], sources: u32) -> bool
     is_source(stored_kind(kinds, end - 1))
 }
 
-// How many sources there are from the first number of one on.
+// How many nodes in a row are sources, from the first source's number on.
 pub(crate) fn first_sources(kinds: &[Option<Kind>]) -> u32
     requires few { length kinds.now ≤ number_bound }
     ensures all { (k : ℕ) → k < result → kind_at kinds.now (first_source + k) ≡ Some Source }

@@ -11,7 +11,7 @@ use crate::fanout_iter::Fanouts;
 use crate::input_iter::Inputs;
 use crate::pins::{OBSERVED_LIST, has_fanout, nth_pin, observes, pins_of_gate, pins_of_gate_from};
 use crate::reader_iter::Readers;
-use crate::rings::look;
+use crate::rings::tell_rings;
 use crate::state::Graph;
 use pin_pool::PinNo;
 use rm_base::NodeId;
@@ -33,7 +33,7 @@ impl Graph {
         ensures graph { IsGraph self.now }
         ensures rings { AreRings (rings_of self.now.pool) }
     {
-        look(&self.pool);
+        tell_rings(&self.pool);
         if gate.0 == 0 {
             return None;
         }
@@ -62,7 +62,7 @@ impl Graph {
         ensures drivers { result ≡ drivers_of (net_of self.now) node.0 }
         ensures few { length result ≤ number_bound }
     {
-        look(&self.pool);
+        tell_rings(&self.pool);
         let pins = pins_of_gate(&self.pool, node.0);
         Inputs {
             pins,
@@ -76,7 +76,7 @@ impl Graph {
         ensures drivers { result ≡ drivers_of (net_of self.now) gate.0 }
         ensures few { length result ≤ number_bound }
     {
-        look(&self.pool);
+        tell_rings(&self.pool);
         let pins = self.pool.inputs(gate.0);
         Inputs {
             pins,
@@ -91,7 +91,7 @@ impl Graph {
         ensures drivers { result ≡ drop position (drivers_of (net_of self.now) node.0) }
         ensures few { length result ≤ number_bound }
     {
-        look(&self.pool);
+        tell_rings(&self.pool);
         let pins = pins_of_gate_from(&self.pool, node.0, position);
         Inputs {
             pins,

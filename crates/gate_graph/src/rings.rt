@@ -12,7 +12,7 @@ use pin_pool::{PinNo, Pool, Slot, Splice};
 use rm_base::NodeId;
 
 // Tells that no pin stands twice.
-pub(crate) fn look(pool: &Pool)
+pub(crate) fn tell_rings(pool: &Pool)
     ensures rings { AreRings (rings_of pool.now) }
     ensures nodes { length pool.now.fanouts ≡ length pool.now.inputs }
     ensures few { set.len pool.now.taken + pool.now.spare ≤ number_bound }
@@ -31,7 +31,7 @@ pub(crate) fn link_new(pool: &mut Pool, gate: u32, driver: u32) -> PinNo
     ensures nodes { length pool.new.inputs ≡ length pool.old.inputs }
     ensures taken { set.len pool.new.taken ≡ set.len pool.old.taken + 1 }
 {
-    look(pool);
+    tell_rings(pool);
     match pool.take() {
         Ok(pin) => {
             pool.link(pin, gate, driver);
@@ -50,7 +50,7 @@ pub(crate) fn drop_pin(pool: &mut Pool, pin: PinNo)
     ensures nodes { length pool.new.inputs ≡ length pool.old.inputs }
     ensures taken { set.len pool.new.taken + 1 ≡ set.len pool.old.taken }
 {
-    look(pool);
+    tell_rings(pool);
     let _slot = pool.unlink(pin);
     pool.give_back(pin);
 }
@@ -65,7 +65,7 @@ pub(crate) fn unlink_pin(pool: &mut Pool, pin: PinNo) -> Slot
     ensures nodes { length pool.new.inputs ≡ length pool.old.inputs }
     ensures taken { pool.new.taken ≡ pool.old.taken }
 {
-    look(pool);
+    tell_rings(pool);
     pool.unlink(pin)
 }
 
@@ -78,7 +78,7 @@ pub(crate) fn unlink_at(pool: &mut Pool, pin: PinNo, gate: u32, position: u32) -
     ensures nodes { length pool.new.inputs ≡ length pool.old.inputs }
     ensures taken { pool.new.taken ≡ pool.old.taken }
 {
-    look(pool);
+    tell_rings(pool);
     pool.unlink_at(pin, gate, position)
 }
 
@@ -95,7 +95,7 @@ pub(crate) fn relink_pin(pool: &mut Pool, pin: PinNo, slot: Slot)
     ensures nodes { length pool.new.inputs ≡ length pool.old.inputs }
     ensures taken { pool.new.taken ≡ pool.old.taken }
 {
-    look(pool);
+    tell_rings(pool);
     pool.relink(pin, slot);
 }
 
@@ -109,7 +109,7 @@ pub(crate) fn redrive_pin(pool: &mut Pool, pin: PinNo, driver: u32) -> Slot
     ensures nodes { length pool.new.inputs ≡ length pool.old.inputs }
     ensures taken { pool.new.taken ≡ pool.old.taken }
 {
-    look(pool);
+    tell_rings(pool);
     pool.move_to_driver(pin, driver)
 }
 
@@ -123,7 +123,7 @@ pub(crate) fn restore_pin(pool: &mut Pool, pin: PinNo, slot: Slot)
     ensures nodes { length pool.new.inputs ≡ length pool.old.inputs }
     ensures taken { pool.new.taken ≡ pool.old.taken }
 {
-    look(pool);
+    tell_rings(pool);
     pool.restore_driver(pin, slot);
 }
 
@@ -137,7 +137,7 @@ pub(crate) fn move_fanouts(pool: &mut Pool, from: u32, to: u32) -> Splice
     ensures nodes { length pool.new.inputs ≡ length pool.old.inputs }
     ensures taken { pool.new.taken ≡ pool.old.taken }
 {
-    look(pool);
+    tell_rings(pool);
     pool.move_all(from, to)
 }
 
@@ -152,7 +152,7 @@ pub(crate) fn move_fanouts_back(pool: &mut Pool, splice: Splice)
     ensures nodes { length pool.new.inputs ≡ length pool.old.inputs }
     ensures taken { pool.new.taken ≡ pool.old.taken }
 {
-    look(pool);
+    tell_rings(pool);
     pool.move_back(splice);
 }
 
@@ -167,9 +167,9 @@ pub(crate) fn link_all(pool: &mut Pool, gate: u32, drivers: &[NodeId])
     ensures nodes { length pool.new.inputs ≡ length pool.old.inputs }
     ensures taken { set.len pool.new.taken ≡ set.len pool.old.taken + length drivers.now }
 {
-    look(pool);
+    tell_rings(pool);
     for driver in drivers {
         let _pin = link_new(pool, gate, driver.0);
-        look(pool);
+        tell_rings(pool);
     }
 }

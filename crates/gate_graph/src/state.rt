@@ -1,7 +1,7 @@
 //! The graph.
 ghost use Rattle.std.specs.Prelude.{◌<◌, ◌^◌, ◌↔◌, IsTrue, ◌≡◌, ◌+◌, ◌-◌, ◌≤◌, ℕ, [], IfOk, length};
 ghost use Rattle.pin_pool.specs.Rings.{rings_of, AreRings};
-ghost use Rattle.gate_graph.specs.Entries.{CanGoBack};
+ghost use Rattle.gate_graph.specs.Undoing.{CanGoBack};
 ghost use Rattle.gate_graph.specs.Circuit.{Circuit, wiring, net_of, fanouts_of, pins_taken, free_pins, free_nodes, live_nodes, IsGraph, SameWiring};
 ghost use Rattle.gate_graph.specs.Holds.{pins_held};
 ghost use Rattle.gate_graph.specs.Readers.{ListReaders};
@@ -10,7 +10,7 @@ ghost use Rattle.gate_net.specs.Net.{kind_of, source_count, gate_count, wire_cou
 ghost use Rattle.rm_base.specs.Numbers.{number_bound};
 
 use crate::pins::stored_kind;
-use crate::rings::look;
+use crate::rings::tell_rings;
 use gate_net::Kind;
 use pin_pool::Pool;
 use rm_base::{NoMemory, NodeId};
@@ -94,7 +94,7 @@ impl Graph {
         ensures nodes { length self.now.pool.fanouts ≡ length self.now.pool.inputs }
         ensures few { pins_taken self.now + free_pins self.now ≤ number_bound }
     {
-        look(&self.pool);
+        tell_rings(&self.pool);
         let _kinds = &self.kinds;
     }
 

@@ -4,16 +4,16 @@ ghost use Rattle.std.specs.FinSet as set;
 ghost use Rattle.pin_pool.specs.Pins.{Pins};
 ghost use Rattle.pin_pool.specs.Rings.{AreRings, changed, rings_of};
 ghost use Rattle.gate_graph.specs.Wirings.{wiring_of, kind_at, free_in, free_bit};
-ghost use Rattle.gate_graph.specs.Entries.{CanGoBack, AreWithin, back_to, taken_back, CanTakeBack, IsWithin};
+ghost use Rattle.gate_graph.specs.Undoing.{CanGoBack, AreWithin, back_to, taken_back, CanTakeBack, IsWithin};
 ghost use Rattle.gate_graph.specs.Holds.{held, pins_held, pins_made};
-ghost use Rattle.gate_graph.specs.declared.entries.Entry.{Entry};
+ghost use Rattle.gate_graph.specs.declared.undo_list.Undo.{Undo};
 ghost use Rattle.gate_graph.specs.Circuit.{wiring, net_of, kinds_live, kinds_dead, free_pins, free_nodes, pins_taken, live_nodes};
 ghost use Rattle.gate_graph.specs.Readers.{SameReaders};
 ghost use Rattle.rm_base.specs.Numbers.{number_bound};
 
-use crate::entries::{Entry, Undos};
+use crate::undo_list::{Undo, Undos};
 use crate::pins::{last_live, stored_kind};
-use crate::rings::{drop_pin, look, move_fanouts_back, relink_pin, restore_pin};
+use crate::rings::{drop_pin, tell_rings, move_fanouts_back, relink_pin, restore_pin};
 use crate::state::Graph;
 use gate_net::Kind;
 use pin_pool::Pool;
@@ -44,7 +44,7 @@ impl Graph {
                 entry,
             );
         }
-        look(&self.pool);
+        tell_rings(&self.pool);
     }
 
     /// Keeps the edits, and gives back the pins that the undos hold.
@@ -67,11 +67,11 @@ impl Graph {
         }
         self.tell();
         while let Some(entry) = undos.pop() {
-            if let Entry::Removed { pin, slot: _ } = entry {
+            if let Undo::Removed { pin, slot: _ } = entry {
                 self.pool.give_back(pin);
             }
         }
-        look(&self.pool);
+        tell_rings(&self.pool);
         self.epoch = self.epoch.saturating_add(1);
     }
 }
@@ -138,7 +138,7 @@ pub(crate) fn take_back(
     free: &mut u32,
     least: &mut u32,
     bound: &mut u32,
-    entry: Entry,
+    entry: Undo,
 )
     requires can { CanTakeBack (wiring_of kinds.old.items pool.old) entry }
     requires within { IsWithin (length kinds.old.items) entry }
@@ -159,19 +159,19 @@ pub(crate) fn take_back(
     ensures freed { pool.new.spare ≡ pool.old.spare + pins_made (entry ∷ []) }
     ensures rings { AreRings (rings_of pool.old) }
 {
-    look(pool);
+    tell_rings(pool);
     match entry {
-        Entry::Appended { pin } => drop_pin(pool, pin),
-        Entry::Removed { pin, slot } => relink_pin(pool, pin, slot),
-        Entry::Redriven { pin, slot } => restore_pin(pool, pin, slot),
-        Entry::Moved { splice } => move_fanouts_back(pool, splice),
-        Entry::Made { node, pin } => {
+        Undo::Appended { pin } => drop_pin(pool, pin),
+        Undo::Removed { pin, slot } => relink_pin(pool, pin, slot),
+        Undo::Redriven { pin, slot } => restore_pin(pool, pin, slot),
+        Undo::Moved { splice } => move_fanouts_back(pool, splice),
+        Undo::Made { node, pin } => {
             drop_pin(pool, pin);
             set_kind(kinds, free, bound, node, None);
             if node < *least {
                 *least = node;
             }
         }
-        Entry::Retired { node, kind } => set_kind(kinds, free, bound, node, Some(kind)),
+        Undo::Retired { node, kind } => set_kind(kinds, free, bound, node, Some(kind)),
     }
 }

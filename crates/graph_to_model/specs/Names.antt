@@ -43,7 +43,7 @@ node_name m net n =
 
 -- the number of a source
 abbrev pub IsSourceNumber : Model → ℕ → Type 0
-IsSourceNumber m x = (k : ℕ) × ((x ≡ 2 + k) × (k < length (source_names m)))
+IsSourceNumber m x = (k : ℕ) × ((x ≡ first_source + k) × (k < length (source_names m)))
 
 -- the number of a gate
 pub record IsGateNumber (net : Net) (x : ℕ) : Type 0 where

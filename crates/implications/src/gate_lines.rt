@@ -14,7 +14,7 @@ use crate::found::Found;
 use crate::pulls::{Pull, equal_pull, junction_pull};
 use gate_graph::{Graph, Question};
 use refutation::following::gate_pins;
-use refutation::glances::look;
+use refutation::glances::look_at_facts;
 use refutation::pins::{Aspect, Stuck, known_of, stuck_at};
 use refutation::{Fact, FactSet, Line};
 use rm_base::NodeId;
@@ -56,7 +56,7 @@ fn pull_value(
     requires size { length (net_of graph.now).nodes ≤ length facts.now }
     ensures { IsPulled (net_of graph.now) node.0 (IsPull c (pins_of stuck aspect (held_by facts.now) (drivers_of (net_of graph.now) node.0)) (known_on aspect (held_by facts.now) node.0)) result }
 {
-    let glance = look(gate_pins(graph, node), stuck, facts, aspect, c);
+    let glance = look_at_facts(gate_pins(graph, node), stuck, facts, aspect, c);
     let pull = junction_pull(glance, c, known_of(facts, aspect, node))?;
     Some(find_driver(graph, node, pull))
 }
@@ -67,7 +67,7 @@ fn pull_equal(graph: &Graph, facts: &FactSet, node: NodeId) -> Option<Pulled>
     requires size { length (net_of graph.now).nodes ≤ length facts.now }
     ensures { IsPulled (net_of graph.now) node.0 (IsEqualPull (pins_of None OfEqual (held_by facts.now) (drivers_of (net_of graph.now) node.0)) (known_on OfEqual (held_by facts.now) node.0)) result }
 {
-    let glance = look(gate_pins(graph, node), None, facts, Aspect::OfEqual, false);
+    let glance = look_at_facts(gate_pins(graph, node), None, facts, Aspect::OfEqual, false);
     let pull = equal_pull(glance, known_of(facts, Aspect::OfEqual, node))?;
     Some(find_driver(graph, node, pull))
 }

@@ -26,8 +26,8 @@ use rm_base::{NoMemory, Shelf};
 use rm_model::RankedModel;
 use std::alloc::Global;
 
-// The text of the model of the last net.
-fn text_of(alloc: Global, graph: &Graph, model: &RankedModel) -> Result<Vec<u8>, NoMemory>
+/// The text of the model that stands for a net.
+pub fn net_text(alloc: Global, graph: &Graph, model: &RankedModel) -> Result<Vec<u8>, NoMemory>
     requires formed { IsWellFormed model.now }
     requires fits { Fits (net_of graph.now) model.now }
     ensures text { IfOk result (λ text. text.items ≡ model_text (model_of_net model.now (net_of graph.now))) }
@@ -79,7 +79,7 @@ pub fn audit<S: Shelf>(
 {
     accepted_stand();
     let (graph, count) = journal_net(alloc, shelf, model, journal)?;
-    let text = text_of(alloc, &graph, model)?;
+    let text = net_text(alloc, &graph, model)?;
     compare_output(shelf, output, text.as_slice())?;
     Ok(count)
 }

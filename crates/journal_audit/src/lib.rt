@@ -10,7 +10,7 @@ mod problem;
 mod reading;
 mod stage;
 
-pub use auditing::audit;
+pub use auditing::{audit, net_text};
 pub use laws::problems_exclude;
 pub use lines::{fault_line, netlist_line, refusal_line};
 pub use problem::AuditProblem;

@@ -2,9 +2,9 @@
 use Rattle.std.proofs.Common.{◌≡◌, ℕ, ◌+◌, ◌-◌, ◌<◌, ◌≤◌, Option, Result, Ok, Err, List, [], length, refl, ap, sym, subst, ◌∙◌, inr, arith}
 use Rattle.gate_net.specs.Net.{Net, IsWellFormed, gate_count, source_count, wire_count}
 use Rattle.gate_graph.specs.Circuit.{Circuit, net_of, wiring, pins_taken, live_nodes}
-use Rattle.gate_graph.specs.Entries.{back_to}
+use Rattle.gate_graph.specs.Undoing.{back_to}
 use Rattle.gate_graph.specs.Holds.{HoldsOn, held, pins_held}
-use Rattle.gate_graph.specs.declared.entries.Entry.{Entry}
+use Rattle.gate_graph.specs.declared.undo_list.Undo.{Undo}
 use Rattle.refutation.specs.declared.items.Item.{Item}
 use Rattle.wire_edit.specs.declared.steps.Step.{Step}
 use Rattle.wire_edit.specs.declared.steps.Step.TheVariants as step
@@ -37,14 +37,14 @@ ready_answer agree t left s r ready some a =
     one_answer agree (net_of t.graph) t.room s r (record { pins = omega (arith, ready.pins, some); nodes = omega (arith, ready.nodes, some); steps = omega (arith, ready.steps, some) }) a
 
 start_is : (t : Tried) → t.trail.entries ≡ [] → start_of t ≡ wiring t.graph
-start_is t e = ap (λ (es : List Entry). back_to (wiring t.graph) es) e
+start_is t e = ap (λ (es : List Undo). back_to (wiring t.graph) es) e
 
 -- rolled back, the graph is as it was before the step
 pub rolled_net : (t u : Tried) (g : Circuit) (left : ℕ) → IsReady t left → start_of u ≡ start_of t → IsAt g (start_of u) → net_of g ≡ net_of t.graph
 rolled_net t u g left r s at = (at t.graph (sym (s ∙ start_is t r.entries))).0
 
-no_pins_held : (es : List Entry) → es ≡ [] → length (held es) ≡ 0
-no_pins_held es e = ap (λ (fs : List Entry). length (held fs)) e
+no_pins_held : (es : List Undo) → es ≡ [] → length (held es) ≡ 0
+no_pins_held es e = ap (λ (fs : List Undo). length (held fs)) e
 
 pub rolled_idle : (t u : Tried) (g : Circuit) (left : ℕ) → IsReady t left → start_of u ≡ start_of t → HoldsOn t.graph u.graph t.trail.entries u.trail.entries → IsAt g (start_of u) → pins_held g + length (held u.trail.entries) ≡ pins_held u.graph → IsIdle g
 rolled_idle t u g left r s h at back = record {

@@ -89,7 +89,7 @@ fn wire(node: u32, fresh: bool, gate: u32) -> Candidate {
     }
 }
 
-fn settled(tries: u32) -> Outcome {
+fn settled_after(tries: u32) -> Outcome {
     Outcome::Settled { tries }
 }
 
@@ -125,8 +125,8 @@ fn a_wire_is_added(rt: HostRuntime) -> Result<(), Fail> {
             counts_made(1, 2, 6),
             5,
         ),
-        (16, settled(16), counts_made(1, 2, 6), 5),
-        (1000, settled(16), counts_made(1, 2, 6), 5),
+        (16, settled_after(16), counts_made(1, 2, 6), 5),
+        (1000, settled_after(16), counts_made(1, 2, 6), 5),
     ];
     for (tries, outcome, steps, wires) in rows {
         let end = looped(rt.alloc(), &FOUR_GATES, tries)?;
@@ -192,11 +192,11 @@ const MULTIPLEXER: Wiring<'static> = Wiring {
 #[test]
 fn no_wire_is_added(rt: HostRuntime) -> Result<(), Fail> {
     let end = looped(rt.alloc(), &SUM_OBSERVED, 1000)?;
-    assert_eq!(rt; end.outcome, settled(24));
+    assert_eq!(rt; end.outcome, settled_after(24));
     assert_eq!(rt; end.made, counts_made(0, 0, 0));
     assert_eq!(rt; end.graph.wire_count(), 8);
     let end = looped(rt.alloc(), &MULTIPLEXER, 1000)?;
-    assert_eq!(rt; end.outcome, settled(22));
+    assert_eq!(rt; end.outcome, settled_after(22));
     assert_eq!(rt; end.made, counts_made(0, 1, 3));
     assert_eq!(rt; end.graph.wire_count(), 7);
     Ok(())

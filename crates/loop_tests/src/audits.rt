@@ -1,6 +1,6 @@
 //! Audits of files in memory, against what is worked out by hand.
 use crate::worked::{
-    FOUR_GATES, FOUR_GATES_JOURNAL, ONE_GATE, ONE_GATE_JOURNAL, ZERO_ROW, changed, read,
+    FOUR_GATES, FOUR_GATES_JOURNAL, ONE_GATE, ONE_GATE_JOURNAL, ZERO_ROW, replace_part, read,
 };
 use journal_audit::{AuditProblem, audit, fault_line, netlist_line, refusal_line};
 use journal_check::{JournalRefusal, Why};
@@ -83,7 +83,7 @@ fn changed_journals_are_refused(rt: HostRuntime) -> Result<(), Fail> {
         ),
     ];
     for (old, new, wanted) in rows {
-        let journal = changed(alloc, FOUR_GATES_JOURNAL, old, new)?;
+        let journal = replace_part(alloc, FOUR_GATES_JOURNAL, old, new)?;
         let got = answer(alloc, FOUR_GATES, &journal, THREE_WIRES)?;
         assert_eq!(rt; got, wanted);
     }
@@ -98,7 +98,7 @@ fn changed_outputs_are_refused(rt: HostRuntime) -> Result<(), Fail> {
         (".end\n", ".end", 92),
         (".end\n", ".end\n\n", 93),
     ] {
-        let output = changed(alloc, THREE_WIRES, old, new)?;
+        let output = replace_part(alloc, THREE_WIRES, old, new)?;
         let got = answer(alloc, FOUR_GATES, FOUR_GATES_JOURNAL, &output)?;
         assert_eq!(rt; got, Err(AuditProblem::Netlist { byte }));
     }

@@ -5,7 +5,7 @@ ghost use Rattle.journal_check.specs.Replaying.{IsLocalTree, IsStepTree};
 mod texts;
 
 use self::texts::{ACCEPTED, CHANGES, FIRST_RECORDS, SHORT_JOURNALS};
-use crate::worked::{FOUR_GATES, FOUR_GATES_JOURNAL, changed, read};
+use crate::worked::{FOUR_GATES, FOUR_GATES_JOURNAL, replace_part, read};
 use journal_check::{JournalRefusal, Replay, replay};
 use journal_text::{Record, read_journal};
 use refutation::Tree;
@@ -70,7 +70,7 @@ fn is_refused(replay: &mut Replay, given: &Record) -> Result<bool, Fail> {
 }
 
 // All records, and then the end. After a refusal the end is asked.
-fn replayed(replay: Replay, records: &[Record]) -> Result<Result<(), JournalRefusal>, Fail> {
+fn replay_all(replay: Replay, records: &[Record]) -> Result<Result<(), JournalRefusal>, Fail> {
     let mut replay = replay;
     for given in records {
         if is_refused(&mut replay, given)? {
@@ -84,7 +84,7 @@ fn replayed(replay: Replay, records: &[Record]) -> Result<Result<(), JournalRefu
 }
 
 // What the records over the net of a model are answered.
-fn answered(
+fn answer_of(
     alloc: Global,
     text: &str,
     budget: u32,
@@ -100,7 +100,7 @@ fn answered(
     let Ok(begun) = Replay::new(alloc, &model, budget) else {
         return Err("no replay".into());
     };
-    replayed(begun, records)
+    replay_all(begun, records)
 }
 
 // What a journal over the net of a model is answered, in words.
@@ -109,7 +109,7 @@ fn said(alloc: Global, net: &str, text: &str) -> Result<String, Fail> {
         Ok(read) => read,
         Err(fault) => return Ok(format!(in alloc; "{fault:?}")?),
     };
-    match answered(alloc, net, budget, records.as_slice())? {
+    match answer_of(alloc, net, budget, records.as_slice())? {
         Ok(()) => Ok(format!(in alloc; "accepted {}", records.len())?),
         Err(refusal) => Ok(format!(in alloc; "{} {:?}", refusal.number, refusal.why)?),
     }
@@ -139,7 +139,7 @@ fn journals_are_accepted(rt: HostRuntime) -> Result<(), Fail> {
 fn changed_journals_are_refused(rt: HostRuntime) -> Result<(), Fail> {
     let alloc = rt.alloc();
     for (old, new, wanted) in CHANGES {
-        let text = changed(alloc, FOUR_GATES_JOURNAL, old, new)?;
+        let text = replace_part(alloc, FOUR_GATES_JOURNAL, old, new)?;
         agrees(alloc, FOUR_GATES, &text, wanted)?;
     }
     Ok(())

@@ -29,7 +29,7 @@ fn hold(facts: &mut FactSet, fact: (u32, bool, bool)) {
 }
 
 // The candidates of the fault with these facts and one more.
-fn found(alloc: Global, more: (u32, bool, bool)) -> Result<Vec<Candidate>, Fail> {
+fn candidates_with(alloc: Global, more: (u32, bool, bool)) -> Result<Vec<Candidate>, Fail> {
     let graph = build_net(alloc, &FOUR_GATES)?;
     let fault = fault_at(&graph, 6, 0, true)?;
     let mut facts = FactSet::new(alloc, &graph)?;
@@ -57,7 +57,7 @@ fn wire(node: u32, fresh: bool, gate: u32) -> Candidate {
 
 #[test]
 fn along_the_chain(rt: HostRuntime) -> Result<(), Fail> {
-    let list = found(rt.alloc(), FACTS[0])?;
+    let list = candidates_with(rt.alloc(), FACTS[0])?;
     let wanted = [
         wire(5, true, 6),
         wire(7, false, 6),
@@ -75,7 +75,7 @@ fn along_the_chain(rt: HostRuntime) -> Result<(), Fail> {
 // A node that holds both good values is known by neither.
 #[test]
 fn opposed_values_tell_nothing(rt: HostRuntime) -> Result<(), Fail> {
-    let list = found(rt.alloc(), (2, true, true))?;
+    let list = candidates_with(rt.alloc(), (2, true, true))?;
     let wanted = [
         wire(5, true, 6),
         wire(7, false, 6),
@@ -91,7 +91,7 @@ fn opposed_values_tell_nothing(rt: HostRuntime) -> Result<(), Fail> {
 // A node that is equal and differs is known by neither of these.
 #[test]
 fn opposed_marks_tell_nothing(rt: HostRuntime) -> Result<(), Fail> {
-    let list = found(rt.alloc(), (7, false, false))?;
+    let list = candidates_with(rt.alloc(), (7, false, false))?;
     let wanted = [
         wire(5, true, 6),
         wire(2, true, 8),

@@ -61,7 +61,7 @@ pub fn read(alloc: Global, text: &str) -> Result<RankedModel, Fail>
 }
 
 /// The text with a part replaced.
-pub fn changed(alloc: Global, text: &str, old: &str, new: &str) -> Result<String, Fail> {
+pub fn replace_part(alloc: Global, text: &str, old: &str, new: &str) -> Result<String, Fail> {
     let at = text.find(old).ok_or("no such part")?;
     let mut made = String::from_str(alloc, &text[..at])?;
     made.push_str(new)?;

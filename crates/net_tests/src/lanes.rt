@@ -45,7 +45,7 @@ fn ask(alloc: Global, graph: &Graph, fault: &Fault, words: &[u64]) -> Result<Ans
     })
 }
 
-fn stuck(gate: u32, position: u32, value: bool) -> Fault {
+fn stuck_at(gate: u32, position: u32, value: bool) -> Fault {
     Fault {
         gate: NodeId(gate),
         position,
@@ -64,7 +64,7 @@ fn one_vector_detects(rt: HostRuntime) -> Result<(), Fail> {
         nine: u64::MAX - 1,
     };
     assert_eq!(rt;
-        ask(rt.alloc(), &graph, &stuck(6, 0, true), &words)?,
+        ask(rt.alloc(), &graph, &stuck_at(6, 0, true), &words)?,
         wanted
     );
     Ok(())
@@ -76,12 +76,12 @@ const ALL: [u64; 4] = [0xaaaa, 0xcccc, 0xf0f0, 0xff00];
 #[test]
 fn all_vectors(rt: HostRuntime) -> Result<(), Fail> {
     let graph = build_net(rt.alloc(), &FOUR_GATES)?;
-    let six = ask(rt.alloc(), &graph, &stuck(6, 0, true), &ALL)?;
+    let six = ask(rt.alloc(), &graph, &stuck_at(6, 0, true), &ALL)?;
     assert_eq!(rt; six.found, 0x4400);
     assert_eq!(rt; six.again, 0x4400);
     assert_eq!(rt; six.first, Some(10));
     assert_eq!(rt; six.nine, 0xa800);
-    let nine = ask(rt.alloc(), &graph, &stuck(9, 1, false), &ALL)?;
+    let nine = ask(rt.alloc(), &graph, &stuck_at(9, 1, false), &ALL)?;
     assert_eq!(rt; nine.found, 0xa800);
     assert_eq!(rt; nine.first, Some(11));
     Ok(())
@@ -91,7 +91,7 @@ fn all_vectors(rt: HostRuntime) -> Result<(), Fail> {
 fn no_vector_detects(rt: HostRuntime) -> Result<(), Fail> {
     let graph = build_net(rt.alloc(), &FOUR_GATES)?;
     let words = [u64::MAX - 1, u64::MAX, 0, u64::MAX];
-    let seven = ask(rt.alloc(), &graph, &stuck(7, 1, true), &words)?;
+    let seven = ask(rt.alloc(), &graph, &stuck_at(7, 1, true), &words)?;
     assert_eq!(rt; seven.found, 0);
     assert_eq!(rt; seven.first, None);
     Ok(())

@@ -1,5 +1,5 @@
 //! Many trials on one workspace, each compared with a fresh one.
-use crate::trial_scripts::{begun_tidy, play, told};
+use crate::trial_scripts::{begun_tidy, play, list_all};
 use rm_base::{NoMemory, NodeId};
 use std::alloc::Global;
 use std::test::Fail;
@@ -7,8 +7,8 @@ use wire_edit::{Step, Trial};
 
 // Whether two trials have the same graph, steps and room.
 fn same(alloc: Global, one: &Trial, other: &Trial) -> Result<bool, NoMemory> {
-    let here = told(alloc, one.graph())?;
-    let there = told(alloc, other.graph())?;
+    let here = list_all(alloc, one.graph())?;
+    let there = list_all(alloc, other.graph())?;
     if here.as_slice() != there.as_slice() {
         return Ok(false);
     }

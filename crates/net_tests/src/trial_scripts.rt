@@ -77,7 +77,7 @@ fn push_node(list: &mut Vec<u32>, graph: &Graph, node: NodeId) -> Result<(), NoM
 }
 
 // All that is told of a graph: pins, readers in order, observed places and the epoch.
-pub(crate) fn told(alloc: Global, graph: &Graph) -> Result<Vec<u32>, NoMemory> {
+pub(crate) fn list_all(alloc: Global, graph: &Graph) -> Result<Vec<u32>, NoMemory> {
     let mut list = Vec::new(alloc);
     for number in 0..graph.node_bound() {
         push_node(&mut list, graph, NodeId(number))?;
@@ -94,14 +94,14 @@ pub(crate) fn told(alloc: Global, graph: &Graph) -> Result<Vec<u32>, NoMemory> {
 fn script_and_back(rt: HostRuntime) -> Result<(), Fail> {
     let alloc = rt.alloc();
     let graph = build_net(alloc, &FOUR_GATES)?;
-    let before = told(alloc, &graph)?;
+    let before = list_all(alloc, &graph)?;
     let mut trial = begin_trial(alloc, graph, 10)?;
     let (made, refused) = play(&mut trial, 7, 400);
     assert!(rt; made > 10);
     assert!(rt; refused > 100);
     assert!(rt; trial.steps().len() > 10);
     let graph = trial.rollback();
-    let after = told(alloc, &graph)?;
+    let after = list_all(alloc, &graph)?;
     assert_eq!(rt; before.as_slice(), after.as_slice());
     assert_eq!(rt; graph.epoch(), 0);
     Ok(())

@@ -5,7 +5,7 @@ use Rattle.std.proofs.lemmas.Bool.{eq-eqb, ne_eqb, or_left, or_right, or_cases}
 use Rattle.std.proofs.lemmas.Bool.Decides.{nat_tests}
 use Rattle.std.proofs.lemmas.List.{get_or_default, length-map}
 use Rattle.pin_pool.specs.Ring.{has, IsApart}
-use Rattle.pin_pool.specs.Links.{lists_of, link_of, list_at, ends_at, no_ends, walk_on, AreFew, AreLists}
+use Rattle.pin_pool.specs.Links.{lists_of, link_of, list_at, ends_at, no_ends, walk_on, AreAtMost, AreLists}
 use Rattle.pin_pool.specs.Marks.{is_listed, is_marked, unmarked_from}
 use Rattle.pin_pool.specs.Places.{IsListed}
 use Rattle.pin_pool.specs.Records.{IsPool, NoneFree, all_below}
@@ -110,7 +110,7 @@ listed-at (xs ∷ lists) (suc n) q h k = or_right _ _ (listed-at lists n q (omeg
 pub ring-here : (pins : List Pin) (gates : List Ends) (n : ℕ) → AreLists Gate pins gates → n < length gates → walk_on Gate pins (ends_at gates n).first ≡ list_at (lists_of Gate pins gates) n
 ring-here pins gates n r h = ring-walk Gate pins pins gates n (ends_at gates n) r (omega (arith, r.sizes)) refl (get_or_default gates n no_ends (ends_at gates n) h)
 
-pub few-here : (pins : List Pin) (gates : List Ends) (n : ℕ) → AreLists Gate pins gates → n < length gates → AreFew (walk_on Gate pins (ends_at gates n).first) (length pins)
+pub few-here : (pins : List Pin) (gates : List Ends) (n : ℕ) → AreLists Gate pins gates → n < length gates → AreAtMost (walk_on Gate pins (ends_at gates n).first) (length pins)
 few-here pins gates n r h = rw (ring-here pins gates n r h) (ring-few Gate pins gates n r (omega (arith, r.sizes)))
 
 pub ring-below : (pins : List Pin) (gates : List Ends) (n m : ℕ) → AreLists Gate pins gates → n < length gates → m ≡ length pins → (q : ℕ) → has q (walk_on Gate pins (ends_at gates n).first) ≡ true → q < m

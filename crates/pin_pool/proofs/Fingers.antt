@@ -7,7 +7,7 @@ use Rattle.std.proofs.lemmas.List.{get_or_past, drop-drop, length-map}
 use Rattle.std.proofs.Math.Seq.{drop-nil}
 use Rattle.pin_pool.specs.Ring.{has, IsApart, without}
 use Rattle.pin_pool.specs.Pins.{Pins, list_of}
-use Rattle.pin_pool.specs.Links.{lists_of, list_at, links_of, link_of, walk_on, AreFew, AreLists}
+use Rattle.pin_pool.specs.Links.{lists_of, list_at, links_of, link_of, walk_on, AreAtMost, AreLists}
 use Rattle.pin_pool.specs.Pointed.{IsPointed}
 use Rattle.pin_pool.specs.declared.finger.Finger.{Finger}
 use Rattle.pin_pool.specs.declared.links.Pin.{Pin}
@@ -72,7 +72,7 @@ ring-from side pins pins0 es n k p r there ep =
     ∙ walk-from 4294967295 (links_of side pins) n _ (list_at (lists_of side pins es) n) (suc (length pins)) k p (r.each n (omega (arith, r.sizes, h))) (omega (arith, length-map pins (link_of side))) there
 
 -- the pins from one on are few
-pub few-from : (side : Side) (pins : List Pin) (es : List Ends) (n k p : ℕ) → AreLists side pins es → slice_get (list_at (lists_of side pins es) n) k ≡ Some p → AreFew (drop k (list_at (lists_of side pins es) n)) (length pins)
+pub few-from : (side : Side) (pins : List Pin) (es : List Ends) (n k p : ℕ) → AreLists side pins es → slice_get (list_at (lists_of side pins es) n) k ≡ Some p → AreAtMost (drop k (list_at (lists_of side pins es) n)) (length pins)
 few-from side pins es n k p r there =
     let h : n < length (lists_of side pins es) = within-there (lists_of side pins es) n k p there in
     record {

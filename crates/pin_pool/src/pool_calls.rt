@@ -59,7 +59,7 @@ impl Pool {
         ensures valid { IsValid result }
     {
         let store = Store::new(alloc);
-        store.look();
+        store.tell_kept();
         Pool {
             store,
             finger: None,
@@ -78,7 +78,7 @@ impl Pool {
         ensures valid { IfOk result (λ p. IsValid p) }
     {
         let store = self.store.copy(alloc)?;
-        store.look();
+        store.tell_kept();
         let counts = Vec::from_slice(alloc, &self.counts)?;
         Ok(Pool {
             store,
@@ -93,7 +93,7 @@ impl Pool {
         ensures spare { result ≡ self.now.spare }
         ensures valid { IsValid self.now }
     {
-        self.store.look();
+        self.store.tell_kept();
         self.store.spare()
     }
 
@@ -113,11 +113,11 @@ impl Pool {
         ensures refused { OnErr result (self.new ≡ self.old) }
         ensures valid { IsValid self.new }
     {
-        self.store.look();
+        self.store.tell_kept();
         self.finger = None;
         widen(&mut self.counts, nodes)?;
         let done = self.store.reserve(pins, nodes);
-        self.store.look();
+        self.store.tell_kept();
         done
     }
 
@@ -135,7 +135,7 @@ impl Pool {
     {
         self.finger = None;
         let pin = self.store.take();
-        self.store.look();
+        self.store.tell_kept();
         pin
     }
 
@@ -148,10 +148,10 @@ impl Pool {
         ensures nodes { admitted self.new ≡ admitted self.old }
         ensures valid { IsValid self.new }
     {
-        self.store.look();
+        self.store.tell_kept();
         self.finger = None;
         self.store.give_back(pin);
-        self.store.look();
+        self.store.tell_kept();
     }
 
     /// Makes a pin the last input of a gate and the last fanout of a driver, in constant time.
@@ -167,10 +167,10 @@ impl Pool {
         ensures nodes { admitted self.new ≡ admitted self.old }
         ensures valid { IsValid self.new }
     {
-        self.store.look();
+        self.store.tell_kept();
         self.finger = None;
         self.store.link(pin, gate, driver);
-        self.store.look();
+        self.store.tell_kept();
         count_in(&mut self.counts, &mut self.linked, gate);
     }
 
@@ -187,10 +187,10 @@ impl Pool {
         ensures was_valid { IsValid self.old }
         ensures valid { IsValid self.new }
     {
-        self.store.look();
+        self.store.tell_kept();
         self.finger = None;
         let slot = self.store.unlink(pin);
-        self.store.look();
+        self.store.tell_kept();
         count_out(&mut self.counts, &mut self.linked, slot.gate);
         slot
     }
@@ -231,10 +231,10 @@ impl Pool {
         ensures nodes { admitted self.new ≡ admitted self.old }
         ensures valid { IsValid self.new }
     {
-        self.store.look();
+        self.store.tell_kept();
         self.finger = None;
         self.store.relink(pin, slot);
-        self.store.look();
+        self.store.tell_kept();
         count_in(&mut self.counts, &mut self.linked, slot.gate);
     }
 
@@ -252,10 +252,10 @@ impl Pool {
         ensures was_valid { IsValid self.old }
         ensures valid { IsValid self.new }
     {
-        self.store.look();
+        self.store.tell_kept();
         self.finger = None;
         let slot = self.store.move_to_driver(pin, driver);
-        self.store.look();
+        self.store.tell_kept();
         slot
     }
 
@@ -270,10 +270,10 @@ impl Pool {
         ensures nodes { admitted self.new ≡ admitted self.old }
         ensures valid { IsValid self.new }
     {
-        self.store.look();
+        self.store.tell_kept();
         self.finger = None;
         self.store.restore_driver(pin, slot);
-        self.store.look();
+        self.store.tell_kept();
     }
 
     /// Appends all fanouts of one node, in order, to those of another, in the time of the pins moved.
@@ -289,10 +289,10 @@ impl Pool {
         ensures nodes { admitted self.new ≡ admitted self.old }
         ensures valid { IsValid self.new }
     {
-        self.store.look();
+        self.store.tell_kept();
         self.finger = None;
         let splice = self.store.move_all(from, to);
-        self.store.look();
+        self.store.tell_kept();
         splice
     }
 
@@ -307,10 +307,10 @@ impl Pool {
         ensures nodes { admitted self.new ≡ admitted self.old }
         ensures valid { IsValid self.new }
     {
-        self.store.look();
+        self.store.tell_kept();
         self.finger = None;
         self.store.move_back(splice);
-        self.store.look();
+        self.store.tell_kept();
     }
 
     /// The pins whose gate is the node, in order.
@@ -320,7 +320,7 @@ impl Pool {
         ensures few { length result ≤ number_bound }
         ensures valid { IsValid self.now }
     {
-        self.store.look();
+        self.store.tell_kept();
         self.store.inputs(gate)
     }
 
@@ -332,7 +332,7 @@ impl Pool {
         ensures few { length result ≤ number_bound }
         ensures valid { IsValid self.now }
     {
-        self.store.look();
+        self.store.tell_kept();
         if let Some(finger) = self.finger {
             if finger.gate == gate {
                 if finger.position <= position {
@@ -366,7 +366,7 @@ impl Pool {
         ensures few { length result ≤ number_bound }
         ensures valid { IsValid self.now }
     {
-        self.store.look();
+        self.store.tell_kept();
         self.store.fanouts(driver)
     }
 
@@ -377,7 +377,7 @@ impl Pool {
         ensures within { result < admitted self.now }
         ensures valid { IsValid self.now }
     {
-        self.store.look();
+        self.store.tell_kept();
         self.store.gate_of(pin)
     }
 
@@ -388,7 +388,7 @@ impl Pool {
         ensures within { result < admitted self.now }
         ensures valid { IsValid self.now }
     {
-        self.store.look();
+        self.store.tell_kept();
         self.store.driver_of(pin)
     }
 }

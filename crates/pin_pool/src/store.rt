@@ -57,7 +57,7 @@ impl Store {
     }
 
     // Tells what holds of every store.
-    pub(crate) fn look(&self)
+    pub(crate) fn tell_kept(&self)
         ensures { IsKept self.now }
     {
         let _pins = &self.pins;

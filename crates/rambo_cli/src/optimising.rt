@@ -3,12 +3,6 @@ ghost use Rattle.std.specs.Prelude.{◌≡◌, ◌≤◌, IfOk, IfErr, OnOk};
 ghost use Rattle.std.specs.Option.{option_map};
 ghost use Rattle.rm_base.specs.Causes.{HasCause};
 ghost use Rattle.rm_base.specs.Files.{put_file};
-ghost use Rattle.rm_model.specs.WellFormed.{IsWellFormed};
-ghost use Rattle.blif_format.specs.Text.{text_of as model_text};
-ghost use Rattle.gate_graph.specs.Circuit.{net_of};
-ghost use Rattle.graph_to_model.specs.NetModel.{model_of_net};
-ghost use Rattle.graph_to_model.specs.Fits.{Fits};
-ghost use Rattle.graph_to_model.specs.Laws.{AreFew};
 ghost use Rattle.rambo_cli.specs.Files.{BeginsFile};
 ghost use Rattle.rambo_cli.specs.Outcome.{BeginsToWrite, BeginsToWriteFor, HasOptimised, HasWritten, IfTold};
 ghost use Rattle.rambo_cli.specs.Problems.{KeepsFiles, ModelCause, ReadCause};
@@ -18,13 +12,11 @@ ghost use Rattle.rambo_cli.specs.Written.{IsUsable};
 use crate::laws::{kept_nets_fit, runs_are_written};
 use crate::problem::Problem;
 use crate::reading::read_input;
-use blif_writer::write_model;
 use cover_decompose::{decompositions_are_formed, decompositions_stand};
-use gate_graph::Graph;
-use graph_to_model::model_of_tidy;
+use journal_audit::net_text;
 use optimisation::{Figures, optimised_model};
 use rm_base::outside::{OutsideFault, Shelf};
-use rm_base::{Gate, NoMemory, Settings};
+use rm_base::{Gate, Settings};
 use rm_model::RankedModel;
 use std::alloc::Global;
 use std::thread::Threads;
@@ -35,18 +27,6 @@ pub(crate) struct Names<'a> {
     pub(crate) input: &'a str,
     pub(crate) output: &'a str,
     pub(crate) journal: &'a str,
-}
-
-// The text of the model of a net.
-fn text_of(alloc: Global, graph: &Graph, model: &RankedModel) -> Result<Vec<u8>, NoMemory>
-    requires formed { IsWellFormed model.now }
-    requires fits { Fits (net_of graph.now) model.now }
-    ensures text { IfOk result (λ text. text.items ≡ model_text (model_of_net model.now (net_of graph.now))) }
-    ensures few { OnOk result (AreFew (net_of graph.now) model.now) }
-{
-    let made = model_of_tidy(alloc, graph, model.model())?;
-    let text = write_model(alloc, &made)?;
-    Ok(text)
 }
 
 // Writes the text in place of the output.
@@ -83,7 +63,7 @@ fn optimise_model<R: Threads + Sync, G: Gate, S: Shelf>(
     kept_nets_fit();
     runs_are_written();
     let run = optimised_model(rt, alloc, model, settings, gate, shelf, journal)?;
-    let text = text_of(alloc, &run.graph, model)?;
+    let text = net_text(alloc, &run.graph, model)?;
     replace(shelf, output, text.as_slice())?;
     Ok(run.figures)
 }

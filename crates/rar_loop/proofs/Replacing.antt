@@ -25,8 +25,8 @@ use Rattle.wire_edit.specs.Steps.{stepped}
 use Rattle.wire_edit.specs.Order.{IsTidy, node}
 use Rattle.wire_edit.specs.Tried.{Tried, IsAt, start_of}
 use Rattle.wire_edit.specs.declared.room.Room.{Room}
-use Rattle.gate_graph.specs.Entries.{back_to}
-use Rattle.gate_graph.specs.declared.entries.Entry.{Entry}
+use Rattle.gate_graph.specs.Undoing.{back_to}
+use Rattle.gate_graph.specs.declared.undo_list.Undo.{Undo}
 use Rattle.candidate_wires.specs.declared.candidate.Candidate.{Candidate}
 use Rattle.candidate_wires.specs.declared.candidate.Pair.{Pair}
 use Rattle.wire_edit.specs.Tidying.{TidiesTo}
@@ -178,7 +178,7 @@ back_again t u lent same none room first =
     }
 
 pub at_start : (t : Tried) → t.trail.entries ≡ [] → wiring t.graph ≡ start_of t
-at_start t e = ap (λ (es : List Entry). back_to (wiring t.graph) es) (sym e)
+at_start t e = ap (λ (es : List Undo). back_to (wiring t.graph) es) (sym e)
 
 -- WHAT IS KEPT
 -- a trial that was kept may be lent again where its room suffices for the net as it is now

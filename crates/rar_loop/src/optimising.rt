@@ -68,7 +68,7 @@ fn improve<S: Shelf>(
     }
 }
 
-// The same, once the records of the sweep are recorded.
+// Records what the sweep did, and goes on by `improve`.
 fn improve_swept<S: Shelf>(
     alloc: Global,
     space: &mut Workspace,

@@ -6,7 +6,7 @@ use Rattle.std.proofs.lemmas.List.{get_or-replicate, get_or-set_other, get_or-se
 use Rattle.std.proofs.lemmas.Option.{slice_get_read, slice_get_within}
 use Rattle.std.specs.Prelude.{slice_get, slice_index, slice_set}
 use Rattle.recursive_learning.specs.Resting.{IsIndex, IsLast, IsLonger, IsWatched}
-use Rattle.recursive_learning.specs.declared.resting.Entry.{Entry}
+use Rattle.recursive_learning.specs.declared.resting.Rest.{Rest}
 use Rattle.rm_base.proofs.Public.{front_stands, last_stands, one_stands}
 
 -- PLACES IN A LIST
@@ -20,13 +20,13 @@ get_pushed (y ∷ xs) x (suc k) a e = elim (get_pushed xs x k a e) [
   | inr new ↦ inr (ap suc new.0, new.1)
 ]
 
-pub longer_none : (xs : List Entry) → IsLonger xs xs
+pub longer_none : (xs : List Rest) → IsLonger xs xs
 longer_none xs = ([], sym (append-nil xs))
 
-pub longer_join : (xs ys zs : List Entry) → IsLonger xs ys → IsLonger ys zs → IsLonger xs zs
-longer_join xs ys zs (r, e) (s, f) = (r ++ s, f ∙ ap (λ (l : List Entry). l ++ s) e ∙ append_assoc xs r s)
+pub longer_join : (xs ys zs : List Rest) → IsLonger xs ys → IsLonger ys zs → IsLonger xs zs
+longer_join xs ys zs (r, e) (s, f) = (r ++ s, f ∙ ap (λ (l : List Rest). l ++ s) e ∙ append_assoc xs r s)
 
-pub watched_longer : (xs ys : List Entry) → IsLonger xs ys → (z y : ℕ) → IsWatched xs z y → IsWatched ys z y
+pub watched_longer : (xs ys : List Rest) → IsLonger xs ys → (z y : ℕ) → IsWatched xs z y → IsWatched ys z y
 watched_longer xs ys (r, e) z y (k, (a, (there, is))) = (k, (a, (rw e (front_stands xs r k a there), is)))
 
 -- NOTHING YET
@@ -43,26 +43,26 @@ index_none n last e = rw e (record {
   gates = λ k e there. absurd (none_there k e there);
 })
   where
-    none_there : (k : ℕ) (e : Entry) → slice_get {X = Entry} [] k ≡ Some e → ⊥
+    none_there : (k : ℕ) (e : Rest) → slice_get {X = Rest} [] k ≡ Some e → ⊥
     none_there k e there = cc
 
 -- ONE MORE
 -- entries before the last one don't change
-last_left : (entries : List Entry) (e : Entry) (z n at : ℕ) → n ≤ length entries → IsLast entries z n at → IsLast (entries ++ e ∷ []) z n at
+last_left : (entries : List Rest) (e : Rest) (z n at : ℕ) → n ≤ length entries → IsLast entries z n at → IsLast (entries ++ e ∷ []) z n at
 last_left entries e z n at le l = record {
   within = l.within;
-  there = λ k is. let h : (e' : Entry) × ((slice_get entries k ≡ Some e') × (e'.place ≡ z)) = l.there k is in (h.0, (front_stands entries (e ∷ []) k h.0 h.1.0, h.1.1));
+  there = λ k is. let h : (e' : Rest) × ((slice_get entries k ≡ Some e') × (e'.place ≡ z)) = l.there k is in (h.0, (front_stands entries (e ∷ []) k h.0 h.1.0, h.1.1));
   none = λ k e' there less place. elim (get_pushed entries e k e' there) [
     | inl old ↦ l.none k e' old.1 less place
     | inr new ↦ absurd (let is : k ≡ length entries = new.0 in omega arith)
   ];
 }
 
-module _ (entries : List Entry) (last : List ℕ) (place gate : ℕ) (h : IsIndex entries last) (inside : place < length last) (gate_in : gate < length last) where
-  abbrev new : Entry
+module _ (entries : List Rest) (last : List ℕ) (place gate : ℕ) (h : IsIndex entries last) (inside : place < length last) (gate_in : gate < length last) where
+  abbrev new : Rest
   new = record { place = place; gate = gate; before = slice_index last place }
 
-  abbrev more : List Entry
+  abbrev more : List Rest
   more = entries ++ new ∷ []
 
   abbrev marked : List ℕ
@@ -86,10 +86,10 @@ module _ (entries : List Entry) (last : List ℕ) (place gate : ℕ) (h : IsInde
   other : (z : ℕ) → z ≢ place → z < length last → IsLast more z (length more) (slice_index last z)
   other z ne less = record {
     within = let w : slice_index last z ≤ length entries = (h.lasts z less).within in omega (arith, longer);
-    there = λ k is. let t : (e : Entry) × ((slice_get entries k ≡ Some e) × (e.place ≡ z)) = (h.lasts z less).there k is in (t.0, (front_stands entries (new ∷ []) k t.0 t.1.0, t.1.1));
+    there = λ k is. let t : (e : Rest) × ((slice_get entries k ≡ Some e) × (e.place ≡ z)) = (h.lasts z less).there k is in (t.0, (front_stands entries (new ∷ []) k t.0 t.1.0, t.1.1));
     none = λ k e there low is. elim (get_pushed entries new k e there) [
       | inl old ↦ (h.lasts z less).none k e old.1 old.0 is
-      | inr last' ↦ absurd (ne (sym is ∙ ap (λ (a : Entry). a.place) last'.1))
+      | inr last' ↦ absurd (ne (sym is ∙ ap (λ (a : Rest). a.place) last'.1))
     ];
   }
 
@@ -120,7 +120,7 @@ module _ (entries : List Entry) (last : List ℕ) (place gate : ℕ) (h : IsInde
   watched_push = (length entries, (new, (last_stands entries new, (refl, refl))))
 
 -- ONE LESS
-module _ (entries : List Entry) (e : Entry) (last : List ℕ) (h : IsIndex (entries ++ e ∷ []) last) where
+module _ (entries : List Rest) (e : Rest) (last : List ℕ) (h : IsIndex (entries ++ e ∷ []) last) where
   all_long : length (entries ++ e ∷ []) ≡ length entries + 1
   all_long = length-append entries (e ∷ [])
 
@@ -134,7 +134,7 @@ module _ (entries : List Entry) (e : Entry) (last : List ℕ) (h : IsIndex (entr
   left_last : (z n at : ℕ) → n ≤ length entries → at ≤ n → IsLast (entries ++ e ∷ []) z n at → IsLast entries z n at
   left_last z n at le low l = record {
     within = low;
-    there = λ k is. let t : (e' : Entry) × ((slice_get (entries ++ e ∷ []) k ≡ Some e') × (e'.place ≡ z)) = l.there k is in
+    there = λ k is. let t : (e' : Rest) × ((slice_get (entries ++ e ∷ []) k ≡ Some e') × (e'.place ≡ z)) = l.there k is in
         elim (get_pushed entries e k t.0 t.1.0) [
           | inl old ↦ (t.0, (old.1, t.1.1))
           | inr new ↦ absurd (let same : k ≡ length entries = new.0 in omega arith)
@@ -150,15 +150,15 @@ module _ (entries : List Entry) (e : Entry) (last : List ℕ) (h : IsIndex (entr
   low_other z ne less = elim (cases_lt (length entries) (slice_index last z)) [
     | inl high ↦ let w : slice_index last z ≤ length (entries ++ e ∷ []) = (h.lasts z less).within in
         let is : slice_index last z ≡ suc (length entries) = omega (arith, all_long) in
-        let t : (e' : Entry) × ((slice_get (entries ++ e ∷ []) (length entries) ≡ Some e') × (e'.place ≡ z)) = (h.lasts z less).there (length entries) is in
-        absurd (ne (sym t.1.1 ∙ ap (λ (a : Entry). a.place) (one_stands (entries ++ e ∷ []) (length entries) t.0 e t.1.0 (last_stands entries e))))
+        let t : (e' : Rest) × ((slice_get (entries ++ e ∷ []) (length entries) ≡ Some e') × (e'.place ≡ z)) = (h.lasts z less).there (length entries) is in
+        absurd (ne (sym t.1.1 ∙ ap (λ (a : Rest). a.place) (one_stands (entries ++ e ∷ []) (length entries) t.0 e t.1.0 (last_stands entries e))))
     | inr low ↦ low
   ]
 
   gone_other : (z : ℕ) → z ≢ e.place → (less : z < length last) → IsLast entries z (length entries) (slice_index last z)
   gone_other z ne less = let low : slice_index last z ≤ length entries = low_other z ne less in record {
     within = low;
-    there = λ k is. let t : (e' : Entry) × ((slice_get (entries ++ e ∷ []) k ≡ Some e') × (e'.place ≡ z)) = (h.lasts z less).there k is in
+    there = λ k is. let t : (e' : Rest) × ((slice_get (entries ++ e ∷ []) k ≡ Some e') × (e'.place ≡ z)) = (h.lasts z less).there k is in
         elim (get_pushed entries e k t.0 t.1.0) [
           | inl old ↦ (t.0, (old.1, t.1.1))
           | inr new ↦ absurd (let same : k ≡ length entries = new.0 in omega arith)
@@ -184,44 +184,44 @@ module _ (entries : List Entry) (e : Entry) (last : List ℕ) (h : IsIndex (entr
 
 -- GOING BACK
 -- the gates of the entries of the place from that number on have been seen
-abbrev pub SeesFrom : List Entry → ℕ → ℕ → (ℕ → Type 0) → Type 0
-SeesFrom entries z at Seen = (k : ℕ) (e : Entry) → slice_get entries k ≡ Some e → at ≤ k → e.place ≡ z → Seen e.gate
+abbrev pub SeesFrom : List Rest → ℕ → ℕ → (ℕ → Type 0) → Type 0
+SeesFrom entries z at Seen = (k : ℕ) (e : Rest) → slice_get entries k ≡ Some e → at ≤ k → e.place ≡ z → Seen e.gate
 
-pub sees_first : (entries : List Entry) (last : List ℕ) (z : ℕ) (Seen : ℕ → Type 0) → IsIndex entries last → z < length last → SeesFrom entries z (slice_index last z) Seen
+pub sees_first : (entries : List Rest) (last : List ℕ) (z : ℕ) (Seen : ℕ → Type 0) → IsIndex entries last → z < length last → SeesFrom entries z (slice_index last z) Seen
 sees_first entries last z Seen h less k e there le is =
     let low : k < slice_index last z = (h.lasts z less).none k e there (slice_get_within entries k e there) is in absurd (omega arith)
 
-pub sees_next : (entries : List Entry) (last : List ℕ) (z k : ℕ) (e : Entry) (Seen : ℕ → Type 0) → IsIndex entries last → slice_get entries k ≡ Some e → e.place ≡ z → SeesFrom entries z (suc k) Seen → Seen e.gate → SeesFrom entries z e.before Seen
+pub sees_next : (entries : List Rest) (last : List ℕ) (z k : ℕ) (e : Rest) (Seen : ℕ → Type 0) → IsIndex entries last → slice_get entries k ≡ Some e → e.place ≡ z → SeesFrom entries z (suc k) Seen → Seen e.gate → SeesFrom entries z e.before Seen
 sees_next entries last z k e Seen h there is sees seen j a at le place = elim (cases_lt k j) [
   | inl above ↦ sees j a at (omega arith) place
   | inr below ↦ elim (cases_lt j k) [
     | inl before ↦ let low : j < e.before = (h.befores k e there).none j a at before (place ∙ sym is) in absurd (omega arith)
-    | inr same' ↦ let same : j ≡ k = omega arith in subst Seen (ap (λ (b : Entry). b.gate) (one_stands entries k e a there (subst (λ (i : ℕ). slice_get entries i ≡ Some a) same at))) seen
+    | inr same' ↦ let same : j ≡ k = omega arith in subst Seen (ap (λ (b : Rest). b.gate) (one_stands entries k e a there (subst (λ (i : ℕ). slice_get entries i ≡ Some a) same at))) seen
   ]
 ]
 
-pub sees_all : (entries : List Entry) (z : ℕ) (Seen : ℕ → Type 0) → SeesFrom entries z 0 Seen → (y : ℕ) → IsWatched entries z y → Seen y
+pub sees_all : (entries : List Rest) (z : ℕ) (Seen : ℕ → Type 0) → SeesFrom entries z 0 Seen → (y : ℕ) → IsWatched entries z y → Seen y
 sees_all entries z Seen sees y (k, (e, (there, (place, gate)))) = subst Seen gate (sees k e there (omega arith) place)
 
-pub last_itself : (entries : List Entry) (z n at : ℕ) → IsLast entries z n at → IsLast entries z at at
+pub last_itself : (entries : List Rest) (z n at : ℕ) → IsLast entries z n at → IsLast entries z at at
 last_itself entries z n at l = record { within = omega arith; there = l.there; none = λ k e there less is. less }
 
 -- the entry at a number that isn't 0
-pub entry_within : (entries : List Entry) (z number : ℕ) → 0 < number → IsLast entries z number number → number - 1 < length entries
+pub entry_within : (entries : List Rest) (z number : ℕ) → 0 < number → IsLast entries z number number → number - 1 < length entries
 entry_within entries z number some l =
     let is : number ≡ suc (number - 1) = omega arith in
-    let t : (e : Entry) × ((slice_get entries (number - 1) ≡ Some e) × (e.place ≡ z)) = l.there (number - 1) is in
+    let t : (e : Rest) × ((slice_get entries (number - 1) ≡ Some e) × (e.place ≡ z)) = l.there (number - 1) is in
     slice_get_within entries (number - 1) t.0 t.1.0
 
-pub entry_read : (entries : List Entry) (z number : ℕ) (r : Entry) → 0 < number → IsLast entries z number number → r ≡ get_or entries (number - 1) r → (slice_get entries (number - 1) ≡ Some r) × (r.place ≡ z)
+pub entry_read : (entries : List Rest) (z number : ℕ) (r : Rest) → 0 < number → IsLast entries z number number → r ≡ get_or entries (number - 1) r → (slice_get entries (number - 1) ≡ Some r) × (r.place ≡ z)
 entry_read entries z number r some l read =
     let is : number ≡ suc (number - 1) = omega arith in
-    let t : (e : Entry) × ((slice_get entries (number - 1) ≡ Some e) × (e.place ≡ z)) = l.there (number - 1) is in
+    let t : (e : Rest) × ((slice_get entries (number - 1) ≡ Some e) × (e.place ≡ z)) = l.there (number - 1) is in
     let there : slice_get entries (number - 1) ≡ Some r = slice_get_read entries (length entries) (number - 1) r refl (slice_get_within entries (number - 1) t.0 t.1.0) read in
-    (there, ap (λ (a : Entry). a.place) (one_stands entries (number - 1) r t.0 there t.1.0) ∙ t.1.1)
+    (there, ap (λ (a : Rest). a.place) (one_stands entries (number - 1) r t.0 there t.1.0) ∙ t.1.1)
 
 -- where the last entry of the place is of the gate, the gate rests on it
-pub watched_last : (entries : List Entry) (last : List ℕ) (z y k : ℕ) (e : Entry) → IsIndex entries last → z < length last → slice_index last z ≡ suc k → slice_get entries k ≡ Some e → e.gate ≡ y → IsWatched entries z y
+pub watched_last : (entries : List Rest) (last : List ℕ) (z y k : ℕ) (e : Rest) → IsIndex entries last → z < length last → slice_index last z ≡ suc k → slice_get entries k ≡ Some e → e.gate ≡ y → IsWatched entries z y
 watched_last entries last z y k e h less is there gate =
-    let t : (e' : Entry) × ((slice_get entries k ≡ Some e') × (e'.place ≡ z)) = (h.lasts z less).there k is in
-    (k, (e, (there, (ap (λ (a : Entry). a.place) (one_stands entries k e t.0 there t.1.0) ∙ t.1.1, gate))))
+    let t : (e' : Rest) × ((slice_get entries k ≡ Some e') × (e'.place ≡ z)) = (h.lasts z less).there k is in
+    (k, (e, (there, (ap (λ (a : Rest). a.place) (one_stands entries k e t.0 there t.1.0) ∙ t.1.1, gate))))

@@ -14,7 +14,7 @@ use Rattle.recursive_learning.specs.Resting.{IsLonger, IsWatched}
 use Rattle.recursive_learning.specs.Watching.{AgreeAround, Covers, HasRegion, IsCovered, StaysTaught}
 use Rattle.recursive_learning.specs.Working.{AreSettled}
 use Rattle.recursive_learning.specs.declared.lessons.GoodValue.{GoodValue}
-use Rattle.recursive_learning.specs.declared.resting.Entry.{Entry}
+use Rattle.recursive_learning.specs.declared.resting.Rest.{Rest}
 use Rattle.refutation.specs.Closing.{IsClashFree, IsClosedUnderLines, IsWithin}
 use Rattle.refutation.specs.Facts.{AreOpposed, Held, known_good, with_fact}
 use Rattle.refutation.specs.Learning.{AllHold, HasFew, HasLearned, IsJustification, IsUnjustified, NoneContains}
@@ -57,7 +57,7 @@ module _ (net : Net) (held more now : Held) (within : IsWithin held more) (grown
   both_more x same fact = or_same (held x fact) (more x fact) (now x fact) (within x fact) (same fact)
 
 -- LOCALITY
-module _ (local : LinesAreLocal) (first : FirstLinesAskNothing) (net : Net) (fault : Fault) (held more now : Held) (entries : List Entry) (y : ℕ) (settled : AreSettled net fault held) (settled_more : AreSettled net fault more) (closed_now : IsClosedUnderLines net fault now) (free_now : IsClashFree now) (within : IsWithin held more) (grown : IsWithin held now) (covers : Covers net held now entries y) (agree : (z : ℕ) → IsWatched entries z y → AgreeAround net held more z) where
+module _ (local : LinesAreLocal) (first : FirstLinesAskNothing) (net : Net) (fault : Fault) (held more now : Held) (entries : List Rest) (y : ℕ) (settled : AreSettled net fault held) (settled_more : AreSettled net fault more) (closed_now : IsClosedUnderLines net fault now) (free_now : IsClashFree now) (within : IsWithin held more) (grown : IsWithin held now) (covers : Covers net held now entries y) (agree : (z : ℕ) → IsWatched entries z y → AgreeAround net held more z) where
   abbrev Both : Held
   Both = either_holds more now
 
@@ -119,12 +119,12 @@ module _ (net : Net) (held more : Held) (y : ℕ) (around : AgreeAround net held
   few_before few = (few.0, (few.1.0, λ d just. few.1.1 d (just_after d just)))
 
 -- a gate that isn't unjustified, or has many justifications, has nothing to teach while the facts around it stay
-pub stays_idle : (net : Net) (fault : Fault) (held : Held) (entries : List Entry) (y : ℕ) → ((c : Bool) → IsUnjustified net held y c → HasFew net held y → ⊥) → StaysTaught net fault held entries y
+pub stays_idle : (net : Net) (fault : Fault) (held : Held) (entries : List Rest) (y : ℕ) → ((c : Bool) → IsUnjustified net held y c → HasFew net held y → ⊥) → StaysTaught net fault held entries y
 stays_idle net fault held entries y idle more within settled around agree c u few =
     absurd (idle c (unjustified_before net held more y around c u) (few_before net held more y around few))
 
 -- a gate that rests on all to which its justifications lead
-module _ (local : LinesAreLocal) (first : FirstLinesAskNothing) (net : Net) (fault : Fault) (held : Held) (y : ℕ) (c : Bool) (ds : List ℕ) (entries : List Entry) (settled : AreSettled net fault held) (known : known_good held y ≡ Some c) (j : AreJustifications net held y ds) (region : HasRegion net fault held c ds entries y) where
+module _ (local : LinesAreLocal) (first : FirstLinesAskNothing) (net : Net) (fault : Fault) (held : Held) (y : ℕ) (c : Bool) (ds : List ℕ) (entries : List Rest) (settled : AreSettled net fault held) (known : known_good held y ≡ Some c) (j : AreJustifications net held y ds) (region : HasRegion net fault held c ds entries y) where
   module _ (more : Held) (within : IsWithin held more) (settled_more : AreSettled net fault more) (around : AgreeAround net held more y) (agree : (z : ℕ) → IsWatched entries z y → AgreeAround net held more z) where
     abbrev Below : Held → Type 0
     Below = IsClosedUnderLines net fault
@@ -179,12 +179,12 @@ module _ (local : LinesAreLocal) (first : FirstLinesAskNothing) (net : Net) (fau
       subst (HasLearned net (IsClosedUnderLines net fault) more y) same (region_learned more within settled_more around agree)
 
 -- DRIVER AFTER DRIVER
-covered_longer : (net : Net) (fault : Fault) (held : Held) (c : Bool) (d : ℕ) (xs ys : List Entry) (y : ℕ) → IsLonger xs ys → IsCovered net fault held c d xs y → IsCovered net fault held c d ys y
+covered_longer : (net : Net) (fault : Fault) (held : Held) (c : Bool) (d : ℕ) (xs ys : List Rest) (y : ℕ) → IsLonger xs ys → IsCovered net fault held c d xs y → IsCovered net fault held c d ys y
 covered_longer net fault held c d xs ys y longer covered some =
     let h = covered some in
     (h.0, (h.1.0, (h.1.1.0, λ z. elim (h.1.1.1 z) [ inl watched ↦ inl (watched_longer xs ys longer z y watched) | inr around ↦ inr around ])))
 
-pub covered_more : (net : Net) (fault : Fault) (held : Held) (c : Bool) (ds : List ℕ) (n d : ℕ) (xs ys : List Entry) (y : ℕ) → IsLonger xs ys → ((k e : ℕ) → k < n → slice_get ds k ≡ Some e → IsCovered net fault held c e xs y) → slice_get ds n ≡ Some d → IsCovered net fault held c d ys y → (k e : ℕ) → k < n + 1 → slice_get ds k ≡ Some e → IsCovered net fault held c e ys y
+pub covered_more : (net : Net) (fault : Fault) (held : Held) (c : Bool) (ds : List ℕ) (n d : ℕ) (xs ys : List Rest) (y : ℕ) → IsLonger xs ys → ((k e : ℕ) → k < n → slice_get ds k ≡ Some e → IsCovered net fault held c e xs y) → slice_get ds n ≡ Some d → IsCovered net fault held c d ys y → (k e : ℕ) → k < n + 1 → slice_get ds k ≡ Some e → IsCovered net fault held c e ys y
 covered_more net fault held c ds n d xs ys y longer before there here k e less at = elim (cases_lt k n) [
   | inl lt ↦ covered_longer net fault held c e xs ys y longer (before k e lt at)
   | inr ge ↦ let is : k ≡ n = omega arith in subst (λ (i : ℕ). IsCovered net fault held c i ys y) (same_place ds n d e there (subst (λ (i : ℕ). slice_get ds i ≡ Some e) is at)) here
@@ -193,7 +193,7 @@ covered_more net fault held c ds n d xs ys y longer before there here k e less a
     same_place : (ds : List ℕ) (k d e : ℕ) → slice_get ds k ≡ Some d → slice_get ds k ≡ Some e → d ≡ e
     same_place ds k d e one other = cc
 
-pub region_of : (net : Net) (fault : Fault) (depth : ℕ) (held : Held) (c : Bool) (ds : List ℕ) (n : ℕ) (found : Bool) (goods : List GoodValue) (entries : List Entry) (y : ℕ) → AreCommon net fault depth held c ds n found goods → found ≡ true → goods ≡ [] → depth ≡ 0 → ((k d : ℕ) → k < n → slice_get ds k ≡ Some d → IsCovered net fault held c d entries y) → HasRegion net fault held c ds entries y
+pub region_of : (net : Net) (fault : Fault) (depth : ℕ) (held : Held) (c : Bool) (ds : List ℕ) (n : ℕ) (found : Bool) (goods : List GoodValue) (entries : List Rest) (y : ℕ) → AreCommon net fault depth held c ds n found goods → found ≡ true → goods ≡ [] → depth ≡ 0 → ((k d : ℕ) → k < n → slice_get ds k ≡ Some d → IsCovered net fault held c d entries y) → HasRegion net fault held c ds entries y
 region_of net fault depth held c ds n found goods entries y common some none zero covered = record {
   count = n;
   common = subst (λ (d : ℕ). AreCommon net fault d held c ds n true []) zero (subst (λ (f : Bool). AreCommon net fault depth held c ds n f []) some (subst (AreCommon net fault depth held c ds n found) none common));

@@ -16,7 +16,7 @@ use Rattle.recursive_learning.specs.Gates.{HasTaught}
 use Rattle.recursive_learning.specs.Resting.{IsLonger, IsWatched, RestsState}
 use Rattle.recursive_learning.specs.Watching.{AgreeAround, Covers, HasNoneListed, HasRoom, IsAround, IsBlank, IsKnown, IsListedAt, IsWatching, LeavesList, Lengthens, ListsChanged, ListsGoods, RestsOn, StaysTaught, StillLists}
 use Rattle.recursive_learning.specs.Working.{AreSettled}
-use Rattle.recursive_learning.specs.declared.resting.Entry.{Entry}
+use Rattle.recursive_learning.specs.declared.resting.Rest.{Rest}
 use Rattle.recursive_learning.specs.declared.watch.Watch.{Watch}
 use Rattle.refutation.specs.Closing.{IsWithin}
 use Rattle.refutation.specs.Facts.{Held}
@@ -59,15 +59,15 @@ module _ (net : Net) (fault : Fault) (held now : Held) (added : List (NodeId × 
   far_agrees z far = record { here = same_at z z (inl refl) far; drivers = λ p d reads. same_at z d (inr (p, reads)) far }
 
 -- LISTS
-watched_later : (e : Entry) (entries : List Entry) (z y : ℕ) → ((e.place ≡ z) × (e.gate ≡ y) → ⊥) → IsWatched entries z y ⊎ (IsWatched entries z y → ⊥) → IsWatched (e ∷ entries) z y ⊎ (IsWatched (e ∷ entries) z y → ⊥)
+watched_later : (e : Rest) (entries : List Rest) (z y : ℕ) → ((e.place ≡ z) × (e.gate ≡ y) → ⊥) → IsWatched entries z y ⊎ (IsWatched entries z y → ⊥) → IsWatched (e ∷ entries) z y ⊎ (IsWatched (e ∷ entries) z y → ⊥)
 watched_later e entries z y isn't (inl (k, (a, is))) = inl (suc k, (a, is))
 watched_later e entries z y isn't (inr none) = inr (λ w. at w.0 w.1.0 w.1.1.0 w.1.1.1)
   where
-    at : (k : ℕ) (a : Entry) → slice_get (e ∷ entries) k ≡ Some a → (a.place ≡ z) × (a.gate ≡ y) → ⊥
+    at : (k : ℕ) (a : Rest) → slice_get (e ∷ entries) k ≡ Some a → (a.place ≡ z) × (a.gate ≡ y) → ⊥
     at zero a there is = let same : e ≡ a = cc in isn't (rw same is)
     at (suc k) a there is = none (k, (a, (there, is)))
 
-watched_or : (entries : List Entry) (z y : ℕ) → IsWatched entries z y ⊎ (IsWatched entries z y → ⊥)
+watched_or : (entries : List Rest) (z y : ℕ) → IsWatched entries z y ⊎ (IsWatched entries z y → ⊥)
 watched_or [] z y = inr (λ (k, (e, (there, is))). cc)
 watched_or (e ∷ entries) z y = elim (eqb_tells e.place z) [
   | inl place ↦ elim (eqb_tells e.gate y) [
@@ -78,14 +78,14 @@ watched_or (e ∷ entries) z y = elim (eqb_tells e.place z) [
 ]
 
 -- the region covers what was added
-pub region_covers : (net : Net) (fault : Fault) (held now : Held) (added : List (NodeId × Fact)) (entries : List Entry) (y : ℕ) → AreSettled net fault now → IsWithin held now → ((x : ℕ) (fact : Fact) → IsTrue (now x fact) → IsTrue (held x fact) ⊎ IsAmong added x fact) → RestsOn net added entries y → Covers net held now entries y
+pub region_covers : (net : Net) (fault : Fault) (held now : Held) (added : List (NodeId × Fact)) (entries : List Rest) (y : ℕ) → AreSettled net fault now → IsWithin held now → ((x : ℕ) (fact : Fact) → IsTrue (now x fact) → IsTrue (held x fact) ⊎ IsAmong added x fact) → RestsOn net added entries y → Covers net held now entries y
 region_covers net fault held now added entries y settled within all rests z = elim (watched_or entries z y) [
   | inl watched ↦ inl watched
   | inr none ↦ inr (far_agrees net fault held now added settled within all z (λ k a there live around. none (rests k a there live z around)))
 ]
 
 -- WHAT IS KNOWN
-pub stays_longer : (net : Net) (fault : Fault) (held : Held) (xs ys : List Entry) (y : ℕ) → IsLonger xs ys → StaysTaught net fault held xs y → StaysTaught net fault held ys y
+pub stays_longer : (net : Net) (fault : Fault) (held : Held) (xs ys : List Rest) (y : ℕ) → IsLonger xs ys → StaysTaught net fault held xs y → StaysTaught net fault held ys y
 stays_longer net fault held xs ys y longer stays more within settled around agree = stays more within settled around (λ z watched. agree z (watched_longer xs ys longer z y watched))
 
 pub known_longer : (net : Net) (fault : Fault) (held : Held) (v w : Watch) → LeavesList v w → (y : ℕ) → IsKnown net fault held v y → IsKnown net fault held w y

@@ -10,7 +10,7 @@ use Rattle.recursive_learning.specs.Lessons.{AreCommon}
 use Rattle.recursive_learning.specs.Resting.{IsLonger, IsWatched}
 use Rattle.recursive_learning.specs.Working.{AreSettled}
 use Rattle.recursive_learning.specs.declared.lessons.Common.{Common}
-use Rattle.recursive_learning.specs.declared.resting.Entry.{Entry}
+use Rattle.recursive_learning.specs.declared.resting.Rest.{Rest}
 use Rattle.recursive_learning.specs.declared.watch.Watch.{Watch}
 use Rattle.refutation.specs.Closing.{IsWithin}
 use Rattle.refutation.specs.FactSets.{missing}
@@ -28,7 +28,7 @@ pub record AgreeAround (net : Net) (held other : Held) (y : ℕ) : Type 0 where
   pub drivers : (p d : ℕ) → Reads net y p d → AgreeAt held other d
 
 -- the gate has nothing to teach, and won't have while the facts around it and around the places on which that rests stay
-abbrev pub StaysTaught : Net → Fault → Held → List Entry → ℕ → Type 0
+abbrev pub StaysTaught : Net → Fault → Held → List Rest → ℕ → Type 0
 StaysTaught net fault held entries y =
     (more : Held) → IsWithin held more → AreSettled net fault more → AgreeAround net held more y
     → ((z : ℕ) → IsWatched entries z y → AgreeAround net held more z) → HasTaught net fault 0 more y
@@ -101,28 +101,28 @@ ListsChanged net added w =
     (k : ℕ) (a : NodeId × Fact) → slice_get added k ≡ Some a → IsLive net a.0.0 → (z : ℕ) → IsAround net a.0.0 z → IsListedAt w z
 
 -- what is known of the gate rests on the places around each added fact
-abbrev pub RestsOn : Net → List (NodeId × Fact) → List Entry → ℕ → Type 0
+abbrev pub RestsOn : Net → List (NodeId × Fact) → List Rest → ℕ → Type 0
 RestsOn net added entries y =
     (k : ℕ) (a : NodeId × Fact) → slice_get added k ≡ Some a → IsLive net a.0.0 → (z : ℕ) → IsAround net a.0.0 z → IsWatched entries z y
 
 -- where the gate doesn't rest on a place, the sets agree around it
-abbrev pub Covers : Net → Held → Held → List Entry → ℕ → Type 0
+abbrev pub Covers : Net → Held → Held → List Rest → ℕ → Type 0
 Covers net held now entries y = (z : ℕ) → IsWatched entries z y ⊎ AgreeAround net held now z
 
 -- the gate rests on all that the driver leads to, where it doesn't clash
-abbrev pub IsCovered : Net → Fault → Held → Bool → ℕ → List Entry → ℕ → Type 0
+abbrev pub IsCovered : Net → Fault → Held → Bool → ℕ → List Rest → ℕ → Type 0
 IsCovered net fault held c d entries y =
     (LeadsToClash net fault 0 (with_fact held d (Good c)) → ⊥)
     → (now : Held) × (IsLeastAt net fault 0 (with_fact held d (Good c)) now × (IsWithin held now × Covers net held now entries y))
 
 -- the first drivers have nothing new in common, and the gate rests on what they lead to
-pub record HasRegion (net : Net) (fault : Fault) (held : Held) (c : Bool) (ds : List ℕ) (entries : List Entry) (y : ℕ) : Type 0 where
+pub record HasRegion (net : Net) (fault : Fault) (held : Held) (c : Bool) (ds : List ℕ) (entries : List Rest) (y : ℕ) : Type 0 where
   pub count : ℕ
   pub common : AreCommon net fault 0 held c ds count true []
   pub covered : (k d : ℕ) → k < count → slice_get ds k ≡ Some d → IsCovered net fault held c d entries y
 
 -- where a gate of unknown drivers teaches nothing at depth 0, and something is known of the others, its region is noted
-abbrev pub NotesRegion : Net → Fault → Held → Bool → List NodeId → ℕ → Common → Bool → List Entry → ℕ → Type 0
+abbrev pub NotesRegion : Net → Fault → Held → Bool → List NodeId → ℕ → Common → Bool → List Rest → ℕ → Type 0
 NotesRegion net fault held c drivers depth met all entries y =
     met.found ≡ true → met.goods.items ≡ [] → depth ≡ 0 → all ≡ false → HasRegion net fault held c (map (λ (n : NodeId). n.0) drivers) entries y
 

@@ -10,7 +10,7 @@ ghost use Rattle.recursive_learning.specs.Gates.{AreJustifications, IsWanted};
 use gate_graph::Graph;
 use refutation::FactSet;
 use refutation::following::gate_pins;
-use refutation::glances::look;
+use refutation::glances::look_at_facts;
 use refutation::pins::{Aspect, controlling, known_of};
 use rm_base::{NoMemory, NodeId};
 use std::alloc::Global;
@@ -26,7 +26,7 @@ pub fn wanted_value(graph: &Graph, facts: &FactSet, gate: NodeId) -> Option<bool
     if known_value != value {
         return None;
     }
-    if look(gate_pins(graph, gate), None, facts, Aspect::OfGood, value).any {
+    if look_at_facts(gate_pins(graph, gate), None, facts, Aspect::OfGood, value).any {
         return None;
     }
     Some(value)

@@ -11,7 +11,7 @@ use std::marker::Model;
 /// What is known of the gate rests on the place. `before` is the number of the entry before it of that place, counted
 /// from 1, and 0 where there is none.
 #[derive(Clone, Copy, Debug)]
-pub struct Entry {
+pub struct Rest {
     pub place: u32,
     pub gate: u32,
     pub before: u32,
@@ -20,7 +20,7 @@ pub struct Entry {
 /// The places on which what is known of gates rests. The gates of a place are found from the last one back.
 #[derive(Drop)]
 pub struct Rests {
-    entries: Vec<Entry>,
+    entries: Vec<Rest>,
     last: Vec<u32>,
 }
 
@@ -44,7 +44,7 @@ fn no_entries(alloc: Global, numbers: u32) -> Result<Vec<u32>, NoMemory>
 
 // Appends an entry.
 fn push_entry(
-    entries: &mut Vec<Entry>,
+    entries: &mut Vec<Rest>,
     last: &mut Vec<u32>,
     place: u32,
     gate: u32,
@@ -62,7 +62,7 @@ fn push_entry(
         return Err(NoMemory);
     }
     let before = last[place as usize];
-    entries.push(Entry {
+    entries.push(Rest {
         place,
         gate,
         before,
@@ -72,7 +72,7 @@ fn push_entry(
 }
 
 // Takes the last entry off.
-fn pop_entry(entries: &mut Vec<Entry>, last: &mut Vec<u32>)
+fn pop_entry(entries: &mut Vec<Rest>, last: &mut Vec<u32>)
     requires index { IsIndex entries.old.items last.old.items }
     requires some { 0 < length entries.old.items }
     ensures index { IsIndex entries.new.items last.new.items }
@@ -87,9 +87,9 @@ fn pop_entry(entries: &mut Vec<Entry>, last: &mut Vec<u32>)
 }
 
 // Whether that entry is of the gate.
-fn is_of_gate(entries: &[Entry], number: u32, gate: u32) -> bool
+fn is_of_gate(entries: &[Rest], number: u32, gate: u32) -> bool
     requires { number ≤ length entries.now }
-    ensures { IsTrue result → (k : ℕ) × ((e : Entry) × ((number ≡ suc k) × ((slice_get entries.now k ≡ Some e) × (e.gate ≡ gate)))) }
+    ensures { IsTrue result → (k : ℕ) × ((e : Rest) × ((number ≡ suc k) × ((slice_get entries.now k ≡ Some e) × (e.gate ≡ gate)))) }
 {
     if number == 0 {
         return false;

@@ -32,7 +32,7 @@ impl<'a> Known for Told<'a> {
 }
 
 /// One look at a gate's pins.
-pub fn look(
+pub fn look_at_facts(
     drivers: Inputs<'_>,
     stuck: Option<Stuck>,
     facts: &FactSet,
@@ -87,7 +87,7 @@ pub fn all_equal(drivers: Inputs<'_>, facts: &FactSet) -> bool
     requires few { length drivers ≤ number_bound }
     ensures { result ≡ list_all (is_known true) (map (known_equal (held_by facts.now)) drivers.entry) }
 {
-    look(drivers, None, facts, Aspect::OfEqual, false).rest == 0
+    look_at_facts(drivers, None, facts, Aspect::OfEqual, false).rest == 0
 }
 
 /// Whether the drivers of all pins but `q` are known to be equal.
@@ -96,5 +96,5 @@ pub fn others_equal(drivers: Inputs<'_>, facts: &FactSet, q: usize) -> bool
     requires few { length drivers ≤ number_bound }
     ensures { result ≡ all_but (is_known true) q (map (known_equal (held_by facts.now)) drivers.entry) }
 {
-    others_pass(look(drivers, None, facts, Aspect::OfEqual, false), q)
+    others_pass(look_at_facts(drivers, None, facts, Aspect::OfEqual, false), q)
 }

@@ -11,16 +11,16 @@ use Rattle.refutation_check.specs.Notes.{HasMore, Notes, held_of}
 use Rattle.refutation_check.specs.Standing.{Climb, IsClimbing, Moves, left_in, left_of, others_of}
 use Rattle.refutation_check.specs.declared.branches.Branches.{Branches}
 use Rattle.refutation_check.specs.declared.branches.Pending.{Pending}
-use Rattle.refutation_check.specs.declared.trail.Entry.{Entry}
+use Rattle.refutation_check.specs.declared.trail.HeldFact.{HeldFact}
 use Rattle.rm_base.specs.declared.numbers.NodeId.{NodeId}
 
 -- the second branch that the last split left
-pub others-push : (t : List Entry) (ps : List Pending) (p : Pending) → others_of t (ps ++ p ∷ []) ≡ tree (with_fact (held_of (take p.mark t)) p.node.0 (Good (not p.first))) ∷ others_of t ps
+pub others-push : (t : List HeldFact) (ps : List Pending) (p : Pending) → others_of t (ps ++ p ∷ []) ≡ tree (with_fact (held_of (take p.mark t)) p.node.0 (Good (not p.first))) ∷ others_of t ps
 others-push t [] p = refl
 others-push t (q ∷ ps) p = ap (λ hs. hs ++ tree (with_fact (held_of (take q.mark t)) q.node.0 (Good (not q.first))) ∷ []) (others-push t ps p)
 
 -- there is one where something is pending
-pub some_others : (t : List Entry) (ps : List Pending) (f : Due → Due) → map f (others_of t ps) ≡ [] → ps ≡ []
+pub some_others : (t : List HeldFact) (ps : List Pending) (f : Due → Due) → map f (others_of t ps) ≡ [] → ps ≡ []
 some_others t [] f e = refl
 some_others t (p ∷ ps) f e =
     let size : length (map f (others_of t (p ∷ ps))) ≡ length (others_of t (p ∷ ps)) = length-map (others_of t (p ∷ ps)) f in
@@ -56,11 +56,11 @@ climb_le n low high [] c = c
 climb_le n low high (q ∷ ps) c = let rest : q.mark ≤ high = climb_le n q.mark high ps c.1.1 in omega (arith, c.1.0)
 
 -- the second branches see only what came before their marks
-pub others_same : (n low high : ℕ) (t s : List Entry) (ps : List Pending) → Climb n low ps high → take high t ≡ take high s → others_of t ps ≡ others_of s ps
+pub others_same : (n low high : ℕ) (t s : List HeldFact) (ps : List Pending) → Climb n low ps high → take high t ≡ take high s → others_of t ps ≡ others_of s ps
 others_same n low high t s [] c e = refl
 others_same n low high t s (q ∷ ps) c e =
     let le : q.mark ≤ high = climb_le n q.mark high ps c.1.1 in
-    let front : take q.mark t ≡ take q.mark s = sym (take-take q.mark high t le) ∙ ap (λ (r : List Entry). take q.mark r) e ∙ take-take q.mark high s le in
+    let front : take q.mark t ≡ take q.mark s = sym (take-take q.mark high t le) ∙ ap (λ (r : List HeldFact). take q.mark r) e ∙ take-take q.mark high s le in
     rw (front) (ap (λ hs. hs ++ tree (with_fact (held_of (take q.mark s)) q.node.0 (Good (not q.first))) ∷ []) (others_same n q.mark high t s ps c.1.1 e))
 
 -- MOVES
@@ -78,7 +78,7 @@ pub none_pending : (b : Branches) → b.stopped ≡ true → left_of b ≡ [] �
 none_pending b stopped none = ap (λ (ps : List Pending). length ps) (some_others b.trail.entries b.pending.items (λ d. no_tree) (sym (stopped_left b stopped) ∙ none))
 
 -- facts came after what the marks see
-module _ (t s more : List Entry) (is : s ≡ t ++ more) (n : ℕ) (ps : List Pending) (c : Climb n 0 ps (length t)) where
+module _ (t s more : List HeldFact) (is : s ≡ t ++ more) (n : ℕ) (ps : List Pending) (c : Climb n 0 ps (length t)) where
   pub more_same : others_of s ps ≡ others_of t ps
   more_same = rw is (others_same n 0 (length t) (t ++ more) t ps c (take-append-le (length t) t more (omega arith)))
 
@@ -98,8 +98,8 @@ held_moves b b' x fact c opened kept pending more held = record {
 pub split_moves : (b b' : Branches) (x : NodeId) (first : Bool) (mark : ℕ) → mark ≡ length b.trail.entries → IsClimbing b → b.stopped ≡ false → b'.stopped ≡ b.stopped → x.0 < b.trail.numbers → b'.pending.items ≡ b.pending.items ++ (record { mark = mark; node = x; first = first }) ∷ [] → HasMore b.trail b'.trail → held_of b'.trail.entries ≡ with_fact (held_of b.trail.entries) x.0 (Good first)
     → Moves (tree (with_fact (held_of b.trail.entries) x.0 (Good first)) ∷ tree (with_fact (held_of b.trail.entries) x.0 (Good (not first))) ∷ others_of b.trail.entries b.pending.items) b b'
 split_moves b b' x first mark at c opened kept within pushed more held =
-    let t : List Entry = b.trail.entries in
-    let s : List Entry = b'.trail.entries in
+    let t : List HeldFact = b.trail.entries in
+    let s : List HeldFact = b'.trail.entries in
     let p : Pending = record { mark = mark; node = x; first = first } in
     let longer : length t ≤ length s = rw more.entries.1 (omega (arith, length-append t more.entries.0)) in
     let front : take mark s ≡ t = rw (more.entries.1, at) (take-append-le (length t) t more.entries.0 (omega arith) ∙ take_all (length t) t (omega arith)) in
@@ -111,7 +111,7 @@ split_moves b b' x first mark at c opened kept within pushed more held =
     }
 
 -- a branch that isn't the last may end
-pub may_end : (form : Form) (t : List Entry) (all ps : List Pending) (p : Pending) → all ≡ ps ++ p ∷ [] → MayEnd form (others_of t all)
+pub may_end : (form : Form) (t : List HeldFact) (all ps : List Pending) (p : Pending) → all ≡ ps ++ p ∷ [] → MayEnd form (others_of t all)
 may_end Closed t all ps p popped = tt
 may_end Partial t all ps p popped = λ none.
     let some : others_of t all ≡ tree (with_fact (held_of (take p.mark t)) p.node.0 (Good (not p.first))) ∷ others_of t ps = ap (others_of t) popped ∙ others-push t ps p in
@@ -121,17 +121,17 @@ may_end Partial t all ps p popped = λ none.
 pub end_moves : (b b' : Branches) (ps : List Pending) (p : Pending) (u : Notes) → IsClimbing b → b.stopped ≡ false → b'.stopped ≡ b.stopped → b.pending.items ≡ ps ++ p ∷ [] → b'.pending.items ≡ ps → u ≡ record b.trail { entries = take p.mark b.trail.entries } → HasMore u b'.trail → held_of b'.trail.entries ≡ with_fact (held_of u.entries) p.node.0 (Good (not p.first))
     → Moves (others_of b.trail.entries b.pending.items) b b'
 end_moves b b' ps p u c opened kept popped pending undone more held =
-    let t : List Entry = b.trail.entries in
-    let s : List Entry = b'.trail.entries in
+    let t : List HeldFact = b.trail.entries in
+    let s : List HeldFact = b'.trail.entries in
     let to : ClimbsTo b.trail.numbers 0 (length t) ps p = climb_popped b ps p popped c in
     let back : u.entries ≡ take p.mark t = ap (λ (w : Notes). w.entries) undone in
-    let is : s ≡ take p.mark t ++ more.entries.0 = more.entries.1 ∙ ap (λ (r : List Entry). r ++ more.entries.0) back in
+    let is : s ≡ take p.mark t ++ more.entries.0 = more.entries.1 ∙ ap (λ (r : List HeldFact). r ++ more.entries.0) back in
     let size : length (take p.mark t) ≡ p.mark = length-take-le p.mark t to.mark in
     let front : take p.mark s ≡ take p.mark t = rw is (take-append-le p.mark (take p.mark t) more.entries.0 (omega (arith, size)) ∙ take-take p.mark p.mark t (omega arith)) in
     let longer : p.mark ≤ length s = rw is (omega (arith, length-append (take p.mark t) more.entries.0, size)) in
     let numbers : b'.trail.numbers ≡ b.trail.numbers = more.numbers ∙ ap (λ (w : Notes). w.numbers) undone in
     let rest : others_of s ps ≡ others_of t ps = others_same b.trail.numbers 0 p.mark s t ps to.before front in
-    let now : held_of s ≡ with_fact (held_of (take p.mark t)) p.node.0 (Good (not p.first)) = held ∙ ap (λ (r : List Entry). with_fact (held_of r) p.node.0 (Good (not p.first))) back in
+    let now : held_of s ≡ with_fact (held_of (take p.mark t)) p.node.0 (Good (not p.first)) = held ∙ ap (λ (r : List HeldFact). with_fact (held_of r) p.node.0 (Good (not p.first))) back in
     record {
       climbs = rw (numbers, pending) (climb_more b.trail.numbers 0 p.mark (length s) ps to.before longer);
       numbers = numbers;

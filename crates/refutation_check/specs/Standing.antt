@@ -11,15 +11,15 @@ use Rattle.refutation.specs.declared.reasoning.Fact.TheVariants.{Good}
 use Rattle.refutation_check.specs.Notes.{held_of}
 use Rattle.refutation_check.specs.declared.branches.Branches.{Branches}
 use Rattle.refutation_check.specs.declared.branches.Pending.{Pending}
-use Rattle.refutation_check.specs.declared.trail.Entry.{Entry}
+use Rattle.refutation_check.specs.declared.trail.HeldFact.{HeldFact}
 
 -- the second branches that are still to be read, the last one first
-abbrev pub others_of : List Entry → List Pending → List Due
+abbrev pub others_of : List HeldFact → List Pending → List Due
 others_of entries [] = []
 others_of entries (p ∷ pending) =
     others_of entries pending ++ tree (with_fact (held_of (take p.mark entries)) p.node.0 (Good (not p.first))) ∷ []
 
-abbrev pub left_in : Bool → List Entry → List Pending → List Due
+abbrev pub left_in : Bool → List HeldFact → List Pending → List Due
 left_in true entries pending = untried_for (others_of entries pending)
 left_in false entries pending = tree (held_of entries) ∷ others_of entries pending
 

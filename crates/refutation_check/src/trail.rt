@@ -13,7 +13,7 @@ use std::marker::Model;
 
 /// A fact that came to be held.
 #[derive(Clone, Copy, Debug, PartialEq, Eq)]
-pub(crate) struct Entry {
+pub(crate) struct HeldFact {
     node: NodeId,
     fact: Fact,
 }
@@ -22,7 +22,7 @@ pub(crate) struct Entry {
 #[derive(Debug, Drop)]
 pub(crate) struct Trail {
     facts: FactSet,
-    entries: Vec<Entry>,
+    entries: Vec<HeldFact>,
 }
 
 impl Model for Trail {
@@ -39,7 +39,7 @@ impl Model for Trail {
 }
 
 // Takes back the facts that came after the mark.
-fn take_back(facts: &mut FactSet, entries: &mut Vec<Entry>, mark: usize)
+fn take_back(facts: &mut FactSet, entries: &mut Vec<HeldFact>, mark: usize)
     requires trail { IsTrail facts.old entries.old.items }
     requires mark { mark ≤ length entries.old.items }
     ensures trail { IsTrail facts.new entries.new.items }
@@ -96,7 +96,7 @@ impl Trail {
         if self.facts.holds(node, fact) {
             return Ok(());
         }
-        self.entries.push(Entry { node, fact })?;
+        self.entries.push(HeldFact { node, fact })?;
         self.facts.insert(node, fact);
         Ok(())
     }

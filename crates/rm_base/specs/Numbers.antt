@@ -11,8 +11,8 @@ abbrev pub numbers_of : List NodeId → List ℕ
 numbers_of nodes = map (λ (n : NodeId). n.0) nodes
 
 -- the node that stands where there is none
-abbrev pub zero_node : NodeId
-zero_node = record { 0 = 0 }
+abbrev pub default_node : NodeId
+default_node = record { 0 = 0 }
 
 -- 1 where it holds
 abbrev pub one_if : Bool → ℕ

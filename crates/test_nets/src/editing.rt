@@ -2,7 +2,7 @@
 ghost use Rattle.std.specs.Prelude.{◌≡◌, ◌≢◌, ◌≤◌, ◌<◌, ◌+◌, ◌*◌, true, Bool, IfOk, OnOk, length};
 ghost use Rattle.gate_graph.specs.Changes.{CanEdit, entries_for};
 ghost use Rattle.gate_graph.specs.Circuit.{free_nodes, free_pins, live_nodes, net_of, pins_taken, wiring};
-ghost use Rattle.gate_graph.specs.Entries.{AreWithin, CanGoBack};
+ghost use Rattle.gate_graph.specs.Undoing.{AreWithin, CanGoBack};
 ghost use Rattle.gate_graph.specs.declared.editing.Edit.{Edit};
 ghost use Rattle.gate_net.specs.Edits.{IsUnread};
 ghost use Rattle.gate_net.specs.Net.{IsGate, IsLive, drivers_of};

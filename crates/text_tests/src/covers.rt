@@ -13,7 +13,7 @@ use std::alloc::Global;
 use std::test::Fail;
 
 // The decomposition, where the model meets what it needs.
-fn decomposed(alloc: Global, model: Model) -> Result<Option<Graph>, DecomposeRefusal> {
+fn decompose_formed(alloc: Global, model: Model) -> Result<Option<Graph>, DecomposeRefusal> {
     ranks_exist();
     wires_are_bounded();
     if !is_well_formed(alloc, &model)? {
@@ -128,7 +128,7 @@ fn gives(
     for _ in inputs {
         first = first.saturating_add(1);
     }
-    match decomposed(alloc, model)? {
+    match decompose_formed(alloc, model)? {
         Some(graph) => Ok(has_gates(&graph, first, gates, observed)),
         None => Ok(false),
     }
@@ -226,7 +226,7 @@ fn gates_are_those_by_hand(rt: HostRuntime) -> Result<(), Fail> {
 // The wires of the decomposition of a model with two covers of so many literals.
 fn wide_wires(alloc: Global, count: usize) -> Result<Option<u32>, DecomposeRefusal> {
     let model = wide_model(alloc, count)?;
-    match decomposed(alloc, model)? {
+    match decompose_formed(alloc, model)? {
         Some(graph) => Ok(Some(graph.wire_count())),
         None => Ok(None),
     }

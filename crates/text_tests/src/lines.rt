@@ -4,7 +4,7 @@ use std::alloc::Global;
 use std::test::Fail;
 
 // Each token as `word@line:column`, lines apart by `|`, and what ended them.
-fn shown(alloc: Global, text: &[u8]) -> Result<String, Fail> {
+fn token_text(alloc: Global, text: &[u8]) -> Result<String, Fail> {
     let mut out = String::new(alloc);
     if text.len() > 16_777_216 {
         return Ok(out);
@@ -68,7 +68,7 @@ const ROWS: [(&str, &str); 26] = [
 #[test]
 fn lines_and_places(rt: HostRuntime) -> Result<(), Fail> {
     for (text, wanted) in ROWS.iter() {
-        let lines = shown(rt.alloc(), text.as_bytes())?;
+        let lines = token_text(rt.alloc(), text.as_bytes())?;
         assert!(rt; lines.as_str() == *wanted, "{text:?} gives {lines}");
     }
     Ok(())
@@ -86,17 +86,17 @@ fn bytes_outside_and_inside_comments(rt: HostRuntime) -> Result<(), Fail> {
         (128, false),
         (255, false),
     ] {
-        let lines = shown(rt.alloc(), &[b'a', byte, b'\n', b'b'])?;
+        let lines = token_text(rt.alloc(), &[b'a', byte, b'\n', b'b'])?;
         assert!(rt;
             (lines.as_str() == "bad 1:2") == is_bad,
             "byte {byte} gives {lines}"
         );
-        let lines = shown(rt.alloc(), &[b' ', byte, b'\n', b'b'])?;
+        let lines = token_text(rt.alloc(), &[b' ', byte, b'\n', b'b'])?;
         assert!(rt;
             (lines.as_str() == "bad 1:2") == is_bad,
             "byte {byte} gives {lines}"
         );
-        let lines = shown(rt.alloc(), &[b'a', b'#', byte, b'\n', b'b'])?;
+        let lines = token_text(rt.alloc(), &[b'a', b'#', byte, b'\n', b'b'])?;
         assert!(rt;
             lines.as_str() == "a@1:1 |b@2:1 |",
             "byte {byte} gives {lines}"

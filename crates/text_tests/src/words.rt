@@ -21,7 +21,7 @@ fn with_settings(alloc: Global, start: &str, s: Settings) -> Result<String, Fail
 }
 
 // What was read, as one line.
-fn shown(alloc: Global, command: Command<'_>) -> Result<String, Fail> {
+fn command_text(alloc: Global, command: Command<'_>) -> Result<String, Fail> {
     match command {
         Command::Opt {
             input,
@@ -47,7 +47,7 @@ fn shown(alloc: Global, command: Command<'_>) -> Result<String, Fail> {
 fn reads(alloc: Global, line: &str, wanted: &str) -> Result<bool, Fail> {
     let list = words(alloc, line)?;
     match read_words(alloc, list.as_slice()) {
-        Ok(command) => Ok(shown(alloc, command)?.as_str() == wanted),
+        Ok(command) => Ok(command_text(alloc, command)?.as_str() == wanted),
         Err(WordFault::Refused) => Ok(wanted == "refused"),
         Err(WordFault::NoMemory) => Ok(false),
     }

@@ -123,8 +123,8 @@ moved_free from to lt (o ∷ os) =
     one (Some n) = free_moved from to n.drivers lt
 
 pub change_frees : (net : Net) → IsWellFormed net → (change : Change) → CanChange net change → MakesNoPin change → free_pins (changed net change) ≤ free_pins net
-change_frees net well (append gate driver) can none = absurd none
-change_frees net well (new_not driver) can none = absurd none
+change_frees net well (append gate driver) can none = omega (arith, none)
+change_frees net well (new_not driver) can none = omega (arith, none)
 change_frees net well (remove gate p) (j, lt) none =
     let a : _ ≡ _ = with_free net gate (without (drivers_of net gate) p) (junction_kind net gate j.0 j.1) in
     let f : _ ≤ _ = free_without (drivers_of net gate) p in
@@ -140,25 +140,25 @@ change_frees net well (retire gate) (g, unread) none =
     omega arith
 
 pub constant_makes : (gate p : ℕ) (control constant : Option Bool) → MakesNoPin (constant_change gate p control constant)
-constant_makes gate p control None = tt
-constant_makes gate p None (Some b) = tt
+constant_makes gate p control None = refl
+constant_makes gate p None (Some b) = refl
 constant_makes gate p (Some c) (Some b) = at (same_bool b c)
   where
     at : (t : Bool) → MakesNoPin (if t then readers gate (constant_node c) else remove gate p)
-    at true = tt
-    at false = tt
+    at true = refl
+    at false = refl
 
 pub removal_makes : (net : Net) (step : Step) → IsRemoval step → MakesNoPin (change_of net step)
 removal_makes net (Add gate y) r = absurd r
-removal_makes net (Fix gate position value) r = tt
+removal_makes net (Fix gate position value) r = refl
 removal_makes net (NewNot y) r = absurd r
 removal_makes net (Const gate position) r = constant_makes gate.0 position (control_of net gate.0) (constant_at net gate.0 position)
-removal_makes net (Same gate position) r = tt
-removal_makes net (NoPins gate) r = tt
-removal_makes net (OnePin gate) r = tt
-removal_makes net (Twice gate) r = tt
-removal_makes net (Twin gate other) r = tt
-removal_makes net (Dead gate) r = tt
+removal_makes net (Same gate position) r = refl
+removal_makes net (NoPins gate) r = refl
+removal_makes net (OnePin gate) r = refl
+removal_makes net (Twice gate) r = refl
+removal_makes net (Twin gate other) r = refl
+removal_makes net (Dead gate) r = refl
 
 -- no removal makes more pins free
 pub removal_frees : (net : Net) (step : Step) → IsWellFormed net → Applies net step → IsRemoval step → free_pins (stepped net step) ≤ free_pins net

@@ -6,7 +6,7 @@ use Rattle.gate_net.specs.Net.{Net, IsWellFormed, wire_count}
 use Rattle.gate_net.specs.Values.{same_bool}
 use Rattle.gate_net.specs.Edits.{constant_node}
 use Rattle.gate_graph.specs.Circuit.{Circuit, net_of, free_pins, free_nodes}
-use Rattle.gate_graph.specs.Entries.{LeadOn}
+use Rattle.gate_graph.specs.Undoing.{LeadOn}
 use Rattle.gate_graph.specs.Changes.{CanEdit, Edits, entries_for}
 use Rattle.gate_graph.specs.Trail.{Trail}
 use Rattle.wire_edit.specs.declared.steps.Step.{Step}
@@ -98,7 +98,7 @@ entries_are v (new_not driver) = refl
 entries_are v (retire gate) = refl
 
 -- THE EDIT OF A STEP
-module _ (v : Circuit) (trail : Trail) (room : Room) (marks : ℕ) (agenda : List Bool) (step : Step) (well : IsWellFormed (net_of v)) (t : IsTrial v trail room marks agenda) (applies : Applies (net_of v) step) (roomy : has_room (net_of v) room step ≡ true) where
+module _ (v : Circuit) (trail : Trail) (room : Room) (marks : ℕ) (worklist : List Bool) (step : Step) (well : IsWellFormed (net_of v)) (t : IsTrial v trail room marks worklist) (applies : Applies (net_of v) step) (roomy : has_room (net_of v) room step ≡ true) where
   abbrev change : Change
   change = change_of (net_of v) step
 
@@ -125,7 +125,7 @@ module _ (v : Circuit) (trail : Trail) (room : Room) (marks : ℕ) (agenda : Lis
     pub step_net : net_of w ≡ stepped (net_of v) step
     step_net = edited_net v w change well well' edits
 
-    pub step_trial : KeepsMarks agenda next → MarksTouched (net_of v) change next → IsTrial w after (room_after room step) marks next
+    pub step_trial : KeepsMarks worklist next → MarksTouched (net_of v) change next → IsTrial w after (room_after room step) marks next
     step_trial k touched =
         let p : (pins_added change ≡ pins_made step) × (nodes_added change ≡ nodes_made step) = step_pins (net_of v) step in
         let wires : wire_count (changed (net_of v) change) + pins_gone (net_of v) change ≤ wire_count (net_of v) + pins_added change = wires_budget (net_of v) change well can in
@@ -141,7 +141,7 @@ module _ (v : Circuit) (trail : Trail) (room : Room) (marks : ℕ) (agenda : Lis
           pins = omega (arith, room_is.0, p.0, takes.pins, t.pins);
           nodes = omega (arith, room_is.1, p.1, takes.nodes, t.nodes);
           marks_suffice = omega (arith, long, long_is, p.1, takes.nodes, t.marks_suffice);
-          agenda_suffices = omega (arith, t.agenda_suffices, k.count);
+          worklist_suffices = omega (arith, t.worklist_suffices, k.count);
           quiet = subst (λ (n : Net). IsQuiet n next) (sym is)
-              (quiet_after (net_of v) change agenda next well can t.quiet k touched (omega (arith, few, long, long_is, p.1, takes.nodes, t.marks_suffice, t.agenda_suffices, k.count)));
+              (quiet_after (net_of v) change worklist next well can t.quiet k touched (omega (arith, few, long, long_is, p.1, takes.nodes, t.marks_suffice, t.worklist_suffices, k.count)));
         }

@@ -3,11 +3,11 @@ use Rattle.std.proofs.Common.{◌≡◌, ◌≢◌, ℕ, ◌+◌, ◌-◌, ◌<�
 use Rattle.std.proofs.lemmas.Bool.{cases_eq, cases_lt, both_ways, lt-ltb, false_from_ne_true}
 use Rattle.gate_net.specs.Net.{Net, IsWellFormed, wire_count}
 use Rattle.gate_graph.specs.Circuit.{Circuit, wiring, net_of, free_pins, free_nodes}
-use Rattle.gate_graph.specs.Entries.{CanGoBack, AreWithin}
+use Rattle.gate_graph.specs.Undoing.{CanGoBack, AreWithin}
 use Rattle.gate_graph.specs.Changes.{Edits}
 use Rattle.gate_graph.specs.Trail.{Trail}
 use Rattle.gate_graph.specs.declared.editing.Edit.{Edit}
-use Rattle.gate_graph.specs.declared.entries.Entry.{Entry}
+use Rattle.gate_graph.specs.declared.undo_list.Undo.{Undo}
 use Rattle.wire_edit.specs.declared.steps.Step.{Step}
 use Rattle.wire_edit.specs.declared.steps.Step.TheVariants.{Add, Fix, NewNot, Const, Same, NoPins, OnePin, Twice, Twin, Dead}
 use Rattle.wire_edit.specs.declared.room.Room.{Room}
@@ -90,19 +90,19 @@ tidy_rules net e x = elim (cases_lt x (length net.nodes)) [
 ]
 
 -- no rule applies at an unmarked number: in a tidy net at none, and else all are marked
-pub begins_quiet : (net : Net) (tidy : Bool) (numbers : ℕ) (agenda : List Bool) → (tidy ≡ true → IsTidy net) → ((k : ℕ) → k < numbers → is_marked agenda k ≡ not tidy) → (x : ℕ) → x < numbers → is_marked agenda x ≡ false → rule_at net x ≡ None
-begins_quiet net true numbers agenda tidy marked x lt unmarked = tidy_rules net (tidy refl) x
-begins_quiet net false numbers agenda tidy marked x lt unmarked = absurd (both_ways (is_marked agenda x) unmarked (marked x lt))
+pub begins_quiet : (net : Net) (tidy : Bool) (numbers : ℕ) (worklist : List Bool) → (tidy ≡ true → IsTidy net) → ((k : ℕ) → k < numbers → is_marked worklist k ≡ not tidy) → (x : ℕ) → x < numbers → is_marked worklist x ≡ false → rule_at net x ≡ None
+begins_quiet net true numbers worklist tidy marked x lt unmarked = tidy_rules net (tidy refl) x
+begins_quiet net false numbers worklist tidy marked x lt unmarked = absurd (both_ways (is_marked worklist x) unmarked (marked x lt))
 
-pub begun : (w : Circuit) (net : Net) (trail : Trail) (room : Room) (wires entries numbers : ℕ) (agenda : List Bool) → net_of w ≡ net → trail.entries ≡ [] → CanGoBack (wiring w) [] → wires ≡ wire_count net → room.steps + wires + room.pins ≤ entries → entries ≤ trail.spare → room.pins ≤ free_pins w → room.nodes ≤ free_nodes w → min (length net.nodes + room.nodes) 4294967295 ≤ numbers → length net.nodes ≤ 4294967295 → length agenda ≡ numbers → ((x : ℕ) → x < numbers → is_marked agenda x ≡ false → rule_at net x ≡ None) → IsTrial w trail room numbers agenda
-begun w net trail room wires entries numbers agenda is none back wires_are needed reserved pins nodes count few long unmarked_quiet = record {
-  back = subst (λ (es : List Entry). CanGoBack (wiring w) es) (sym none) back;
-  within = subst (λ (es : List Entry). AreWithin (length w.kinds) es) (sym none) tt;
+pub begun : (w : Circuit) (net : Net) (trail : Trail) (room : Room) (wires entries numbers : ℕ) (worklist : List Bool) → net_of w ≡ net → trail.entries ≡ [] → CanGoBack (wiring w) [] → wires ≡ wire_count net → room.steps + wires + room.pins ≤ entries → entries ≤ trail.spare → room.pins ≤ free_pins w → room.nodes ≤ free_nodes w → min (length net.nodes + room.nodes) 4294967295 ≤ numbers → length net.nodes ≤ 4294967295 → length worklist ≡ numbers → ((x : ℕ) → x < numbers → is_marked worklist x ≡ false → rule_at net x ≡ None) → IsTrial w trail room numbers worklist
+begun w net trail room wires entries numbers worklist is none back wires_are needed reserved pins nodes count few long unmarked_quiet = record {
+  back = subst (λ (es : List Undo). CanGoBack (wiring w) es) (sym none) back;
+  within = subst (λ (es : List Undo). AreWithin (length w.kinds) es) (sym none) tt;
   entries = omega (arith, ap wire_count is, wires_are, needed, reserved);
   pins = pins;
   nodes = nodes;
   marks_suffice = omega (arith, ap (λ (n : Net). length n.nodes) is, count);
-  agenda_suffices = omega (arith, long);
+  worklist_suffices = omega (arith, long);
   quiet = λ x unmarked. elim (cases_lt x numbers) [
     | inl lt ↦ ap (λ (n : Net). rule_at n x) is ∙ unmarked_quiet x lt unmarked
     | inr above ↦ no_rule (net_of w) x (false_from_ne_true (is_gate (net_of w) x) (λ g.

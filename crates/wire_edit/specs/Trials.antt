@@ -2,7 +2,7 @@
 use Rattle.std.specs.Prelude.{◌≡◌, ◌≤◌, ◌+◌, ◌↔◌, ℕ, List, [], Bool, true, length, min}
 use Rattle.gate_net.specs.Net.{wire_count, source_count, gate_count}
 use Rattle.gate_graph.specs.Circuit.{Circuit, wiring, net_of, free_pins, free_nodes, pins_taken, live_nodes}
-use Rattle.gate_graph.specs.Entries.{CanGoBack, AreWithin, back_to}
+use Rattle.gate_graph.specs.Undoing.{CanGoBack, AreWithin, back_to}
 use Rattle.gate_graph.specs.Trail.{Trail}
 use Rattle.wire_edit.specs.declared.room.Room.{Room}
 use Rattle.wire_edit.specs.declared.steps.Step.{Step}
@@ -13,15 +13,15 @@ use Rattle.wire_edit.specs.Marked.{IsQuiet}
 use Rattle.rm_base.specs.Numbers.{number_bound}
 
 -- the undos lead back; pins, nodes, entries and marks suffice for the room that is left; no rule applies at a gate that isn't to be looked at
-pub record IsTrial (graph : Circuit) (trail : Trail) (room : Room) (marks : ℕ) (agenda : List Bool) : Type 0 where
+pub record IsTrial (graph : Circuit) (trail : Trail) (room : Room) (marks : ℕ) (worklist : List Bool) : Type 0 where
   pub back : CanGoBack (wiring graph) trail.entries
   pub within : AreWithin (length graph.kinds) trail.entries
   pub entries : room.steps + wire_count (net_of graph) + room.pins ≤ trail.spare
   pub pins : room.pins ≤ free_pins graph
   pub nodes : room.nodes ≤ free_nodes graph
   pub marks_suffice : min (length (net_of graph).nodes + room.nodes) number_bound ≤ marks
-  pub agenda_suffices : marks ≤ length agenda
-  pub quiet : IsQuiet (net_of graph) agenda
+  pub worklist_suffices : marks ≤ length worklist
+  pub quiet : IsQuiet (net_of graph) worklist
 
 -- for a graph at the start: the entries, pins, node numbers and marks suffice for the first room once all is undone, and its net is tidy where that is known
 pub record IsStart (start graph : Circuit) (trail : Trail) (first : Room) (marks : ℕ) (tidy : Bool) : Type 0 where

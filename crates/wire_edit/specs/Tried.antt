@@ -2,7 +2,7 @@
 use Rattle.std.specs.Prelude.{◌≡◌, ◌≢◌, ℕ, List, [], ◌∷◌, ◌++◌, Option, Some, None, Result, Ok, Err}
 use Rattle.gate_graph.specs.Circuit.{Circuit, wiring, net_of, fanouts_of}
 use Rattle.gate_graph.specs.Wirings.{Wiring}
-use Rattle.gate_graph.specs.Entries.{back_to}
+use Rattle.gate_graph.specs.Undoing.{back_to}
 use Rattle.gate_graph.specs.Trail.{Trail}
 use Rattle.gate_graph.specs.Holds.{pins_held}
 use Rattle.wire_edit.specs.declared.steps.Step.{Step}

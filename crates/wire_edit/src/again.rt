@@ -43,9 +43,9 @@ impl Trial {
         self.pins = self.first.pins;
         self.nodes = self.first.nodes;
         if self.tidy {
-            self.agenda.clear_recent();
+            self.worklist.clear_recent();
         } else {
-            self.agenda.mark_all();
+            self.worklist.mark_all();
         }
     }
 
@@ -69,7 +69,7 @@ impl Trial {
         self.graph.leads_back();
         same_wiring();
         self.made.give_back();
-        self.tidy = self.agenda.restart();
+        self.tidy = self.worklist.restart();
         self.first = Room {
             pins: self.pins,
             nodes: self.nodes,
@@ -101,7 +101,7 @@ impl Trial {
         ensures entries { self.new.trail.entries ≡ [] }
     {
         same_wiring();
-        let (undos, made, marks, agenda, seen, kept) = prepare(
+        let (undos, made, marks, worklist, seen, kept) = prepare(
             alloc,
             &mut self.graph,
             room,
@@ -113,7 +113,7 @@ impl Trial {
         self.pins = room.pins;
         self.nodes = room.nodes;
         self.marks = marks;
-        self.agenda = agenda;
+        self.worklist = worklist;
         self.seen = seen;
         self.kept = kept;
         self.first = room;

@@ -2,7 +2,7 @@
 #![tactic(auto)]
 
 mod again;
-mod agenda;
+mod worklist;
 mod budget;
 mod counts;
 mod edits;

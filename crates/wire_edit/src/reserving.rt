@@ -8,7 +8,7 @@ ghost use Rattle.wire_edit.specs.Known.{IsFresh};
 ghost use Rattle.wire_edit.specs.Trials.{IsTrial, IsReserved, HasEnough};
 ghost use Rattle.rm_base.specs.Numbers.{number_bound};
 
-use crate::agenda::Agenda;
+use crate::worklist::Worklist;
 use crate::kept::Kept;
 use crate::made::Made;
 use crate::room::Room;
@@ -62,7 +62,7 @@ pub(crate) fn prepare(
     graph: &mut Graph,
     room: Room,
     tidy: bool,
-) -> Result<(Undos, Made, Marks, Agenda, Seen, Kept), NoMemory>
+) -> Result<(Undos, Made, Marks, Worklist, Seen, Kept), NoMemory>
     requires pins { pins_taken graph.old + room.pins ≤ number_bound }
     requires nodes { live_nodes graph.old + room.nodes ≤ number_bound }
     requires tidy { tidy ≡ true → IsTidy (net_of graph.old) }
@@ -84,8 +84,8 @@ pub(crate) fn prepare(
     let undos = new_undos(alloc, entries)?;
     let made = Made::new(alloc, room.steps)?;
     let marks = Marks::new(alloc, numbers)?;
-    let agenda = Agenda::new(alloc, numbers, !tidy)?;
+    let worklist = Worklist::new(alloc, numbers, !tidy)?;
     let seen = Seen::new(alloc, numbers)?;
     let kept = Kept::new(alloc, numbers)?;
-    Ok((undos, made, marks, agenda, seen, kept))
+    Ok((undos, made, marks, worklist, seen, kept))
 }

@@ -3,7 +3,7 @@ ghost use Rattle.std.specs.Prelude.{◌≡◌, ◌≢◌, ◌≤◌, ◌+◌, []
 ghost use Rattle.gate_graph.specs.Holds.{HoldsOn};
 ghost use Rattle.gate_graph.specs.Circuit.{net_of};
 ghost use Rattle.gate_graph.specs.Changes.{CanEdit, Edits, entries_for};
-ghost use Rattle.gate_graph.specs.Entries.{LeadOn};
+ghost use Rattle.gate_graph.specs.Undoing.{LeadOn};
 ghost use Rattle.wire_edit.specs.Steps.{change_of};
 ghost use Rattle.wire_edit.specs.Order.{next_step, rule_at};
 ghost use Rattle.wire_edit.specs.Edited.{edit_of, TakesOut};
@@ -11,7 +11,7 @@ ghost use Rattle.wire_edit.specs.Known.{IsKept};
 ghost use Rattle.wire_edit.specs.Marked.{KeepsMarks, IsQuiet, IsQuietBelow, MarksTouched};
 ghost use Rattle.rm_base.specs.Numbers.{number_bound};
 
-use crate::agenda::Agenda;
+use crate::worklist::Worklist;
 use crate::edits::edit_for;
 use crate::kept::Kept;
 use crate::rules::{rule_again, rule_at};
@@ -22,7 +22,7 @@ use gate_graph::{Edit, Graph, Undos};
 use rm_base::NodeId;
 
 // Makes a step's edit, and marks what it touches.
-pub(crate) fn carry_out(graph: &mut Graph, undos: &mut Undos, agenda: &mut Agenda, step: Step)
+pub(crate) fn carry_out(graph: &mut Graph, undos: &mut Undos, worklist: &mut Worklist, step: Step)
     requires can { CanEdit graph.old (edit_of (change_of (net_of graph.old) step)) }
     requires entries { entries_for graph.old (edit_of (change_of (net_of graph.old) step)) ≤ undos.old.spare }
     ensures edits { Edits graph.old (edit_of (change_of (net_of graph.old) step)) graph.new }
@@ -34,15 +34,15 @@ pub(crate) fn carry_out(graph: &mut Graph, undos: &mut Undos, agenda: &mut Agend
     ensures epoch { graph.new.epoch ≡ graph.old.epoch }
     ensures held { HoldsOn graph.old graph.new undos.old.entries undos.new.entries }
     ensures few { length (net_of graph.new).nodes ≤ number_bound }
-    ensures marks { KeepsMarks agenda.old agenda.new }
-    ensures touched { MarksTouched (net_of graph.old) (change_of (net_of graph.old) step) agenda.new }
+    ensures marks { KeepsMarks worklist.old worklist.new }
+    ensures touched { MarksTouched (net_of graph.old) (change_of (net_of graph.old) step) worklist.new }
 {
     graph.well_formed();
     let edit = edit_for(graph, step);
-    mark_before(agenda, graph, &edit);
+    mark_before(worklist, graph, &edit);
     graph.edit(&edit, undos);
     graph.well_formed();
-    mark_after(agenda, graph, &edit);
+    mark_after(worklist, graph, &edit);
 }
 
 // Whether the step takes a pin out of its gate.
@@ -78,26 +78,26 @@ fn rule_known(graph: &Graph, gate: NodeId, seen: &mut Seen, kept: &mut Kept) -> 
 // The next step of the tidying order. Marks are taken from gates without a rule.
 pub(crate) fn next_rule(
     graph: &Graph,
-    agenda: &mut Agenda,
+    worklist: &mut Worklist,
     seen: &mut Seen,
     kept: &mut Kept,
 ) -> Option<Step>
-    requires quiet { IsQuiet (net_of graph.now) agenda.old }
+    requires quiet { IsQuiet (net_of graph.now) worklist.old }
     requires seen { length (net_of graph.now).nodes ≤ seen.old }
     requires marks { length (net_of graph.now).nodes ≤ length kept.old.marks.items }
     requires kept { IsKept (net_of graph.now) kept.old }
     ensures next { result ≡ next_step (net_of graph.now) }
-    ensures quiet { IsQuiet (net_of graph.now) agenda.new }
-    ensures count { length agenda.new ≡ length agenda.old }
+    ensures quiet { IsQuiet (net_of graph.now) worklist.new }
+    ensures count { length worklist.new ≡ length worklist.old }
     ensures seen { seen.new ≡ seen.old }
     ensures kept { IsKept (net_of graph.now) kept.new }
     ensures same { length kept.new.marks.items ≡ length kept.old.marks.items }
 {
-    while let Some(number) = agenda.least() {
+    while let Some(number) = worklist.least() {
         if let Some(step) = rule_known(graph, NodeId(number), seen, kept) {
             return Some(step);
         }
-        agenda.clear(number);
+        worklist.clear(number);
     }
     None
 }

@@ -8,15 +8,15 @@ ghost use Rattle.wire_edit.specs.Edited.{edit_of, IsNewNot};
 ghost use Rattle.wire_edit.specs.Marked.{is_marked, KeepsMarks, MarksTouched};
 ghost use Rattle.wire_edit.specs.Touched.{IsReadBy, IsNotOf};
 
-use crate::agenda::Agenda;
+use crate::worklist::Worklist;
 use crate::looks::{is_live, is_not};
 use gate_graph::{Edit, Graph};
 use rm_base::NodeId;
 
 // Marks the readers of a node, and tells whether a Not is among them.
-fn mark_readers(agenda: &mut Agenda, graph: &Graph, node: NodeId) -> bool
-    ensures kept { KeepsMarks agenda.old agenda.new }
-    ensures readers { (y : ℕ) → IsReadBy (net_of graph.now) node.0 y → y < length agenda.new → is_marked agenda.new y ≡ true }
+fn mark_readers(worklist: &mut Worklist, graph: &Graph, node: NodeId) -> bool
+    ensures kept { KeepsMarks worklist.old worklist.new }
+    ensures readers { (y : ℕ) → IsReadBy (net_of graph.now) node.0 y → y < length worklist.new → is_marked worklist.new y ≡ true }
     ensures nots { result ≡ false → (y : ℕ) → IsNotOf (net_of graph.now) node.0 y → ⊥ }
 {
     graph.well_formed();
@@ -26,16 +26,16 @@ fn mark_readers(agenda: &mut Agenda, graph: &Graph, node: NodeId) -> bool
     }
     let mut found = false;
     for reader in graph.readers_of(node) {
-        agenda.mark(reader.0);
+        worklist.mark(reader.0);
         found = found || is_not(graph, reader);
     }
     found
 }
 
 // Marks the Nots of a node.
-fn mark_nots(agenda: &mut Agenda, graph: &Graph, node: NodeId)
-    ensures kept { KeepsMarks agenda.old agenda.new }
-    ensures nots { (y : ℕ) → IsNotOf (net_of graph.now) node.0 y → y < length agenda.new → is_marked agenda.new y ≡ true }
+fn mark_nots(worklist: &mut Worklist, graph: &Graph, node: NodeId)
+    ensures kept { KeepsMarks worklist.old worklist.new }
+    ensures nots { (y : ℕ) → IsNotOf (net_of graph.now) node.0 y → y < length worklist.new → is_marked worklist.new y ≡ true }
 {
     graph.well_formed();
     graph.readers_listed();
@@ -43,84 +43,84 @@ fn mark_nots(agenda: &mut Agenda, graph: &Graph, node: NodeId)
         return;
     }
     for reader in graph.readers_of(node) {
-        mark_not(agenda, graph, reader);
+        mark_not(worklist, graph, reader);
     }
 }
 
 // Marks a node, if it is a Not.
-fn mark_not(agenda: &mut Agenda, graph: &Graph, node: NodeId)
-    ensures kept { KeepsMarks agenda.old agenda.new }
-    ensures marked { is_not (net_of graph.now) node.0 ≡ true → node.0 < length agenda.new → is_marked agenda.new node.0 ≡ true }
+fn mark_not(worklist: &mut Worklist, graph: &Graph, node: NodeId)
+    ensures kept { KeepsMarks worklist.old worklist.new }
+    ensures marked { is_not (net_of graph.now) node.0 ≡ true → node.0 < length worklist.new → is_marked worklist.new node.0 ≡ true }
 {
     if is_not(graph, node) {
-        agenda.mark(node.0);
+        worklist.mark(node.0);
     }
 }
 
 // Marks the drivers of a node.
-fn mark_drivers(agenda: &mut Agenda, graph: &Graph, gate: NodeId)
-    ensures kept { KeepsMarks agenda.old agenda.new }
-    ensures drivers { (x : ℕ) → IsReadBy (net_of graph.now) x gate.0 → x < length agenda.new → is_marked agenda.new x ≡ true }
+fn mark_drivers(worklist: &mut Worklist, graph: &Graph, gate: NodeId)
+    ensures kept { KeepsMarks worklist.old worklist.new }
+    ensures drivers { (x : ℕ) → IsReadBy (net_of graph.now) x gate.0 → x < length worklist.new → is_marked worklist.new x ≡ true }
 {
     if !is_live(graph, gate) {
         return;
     }
     for driver in graph.inputs_of(gate) {
-        agenda.mark(driver.0);
+        worklist.mark(driver.0);
     }
 }
 
 // Marks a gate and the driver of one of its pins.
-fn mark_pin(agenda: &mut Agenda, graph: &Graph, gate: NodeId, position: u32)
-    ensures kept { KeepsMarks agenda.old agenda.new }
-    ensures gate { gate.0 < length agenda.new → is_marked agenda.new gate.0 ≡ true }
-    ensures driver { (x : ℕ) → Reads (net_of graph.now) gate.0 position x → x < length agenda.new → is_marked agenda.new x ≡ true }
+fn mark_pin(worklist: &mut Worklist, graph: &Graph, gate: NodeId, position: u32)
+    ensures kept { KeepsMarks worklist.old worklist.new }
+    ensures gate { gate.0 < length worklist.new → is_marked worklist.new gate.0 ≡ true }
+    ensures driver { (x : ℕ) → Reads (net_of graph.now) gate.0 position x → x < length worklist.new → is_marked worklist.new x ≡ true }
 {
-    agenda.mark(gate.0);
+    worklist.mark(gate.0);
     if let Some(driver) = graph.driver(gate, position) {
-        agenda.mark(driver.0);
+        worklist.mark(driver.0);
     }
 }
 
 // Marks what a move of readers touches.
-fn mark_move(agenda: &mut Agenda, graph: &Graph, from: NodeId, to: NodeId)
-    ensures kept { KeepsMarks agenda.old agenda.new }
-    ensures touched { MarksTouched (net_of graph.now) (readers from.0 to.0) agenda.new }
+fn mark_move(worklist: &mut Worklist, graph: &Graph, from: NodeId, to: NodeId)
+    ensures kept { KeepsMarks worklist.old worklist.new }
+    ensures touched { MarksTouched (net_of graph.now) (readers from.0 to.0) worklist.new }
 {
-    agenda.mark(from.0);
-    let found = mark_readers(agenda, graph, from);
+    worklist.mark(from.0);
+    let found = mark_readers(worklist, graph, from);
     if found {
         if to.0 > 1 {
-            mark_nots(agenda, graph, to);
+            mark_nots(worklist, graph, to);
         }
     }
 }
 
 // Marks, before an edit, what it touches.
-pub(crate) fn mark_before(agenda: &mut Agenda, graph: &Graph, edit: &Edit)
-    ensures kept { KeepsMarks agenda.old agenda.new }
-    ensures touched { (change : Change) → edit.now ≡ edit_of change → (IsNewNot change → ⊥) → MarksTouched (net_of graph.now) change agenda.new }
+pub(crate) fn mark_before(worklist: &mut Worklist, graph: &Graph, edit: &Edit)
+    ensures kept { KeepsMarks worklist.old worklist.new }
+    ensures touched { (change : Change) → edit.now ≡ edit_of change → (IsNewNot change → ⊥) → MarksTouched (net_of graph.now) change worklist.new }
 {
     match *edit {
-        Edit::Append { gate, driver: _ } => agenda.mark(gate.0),
-        Edit::Remove { gate, position } => mark_pin(agenda, graph, gate, position),
+        Edit::Append { gate, driver: _ } => worklist.mark(gate.0),
+        Edit::Remove { gate, position } => mark_pin(worklist, graph, gate, position),
         Edit::Redrive {
             gate,
             position,
             driver: _,
-        } => mark_pin(agenda, graph, gate, position),
-        Edit::Readers { from, to } => mark_move(agenda, graph, from, to),
+        } => mark_pin(worklist, graph, gate, position),
+        Edit::Readers { from, to } => mark_move(worklist, graph, from, to),
         Edit::NewNot { driver: _ } => {}
-        Edit::Retire { gate } => mark_drivers(agenda, graph, gate),
+        Edit::Retire { gate } => mark_drivers(worklist, graph, gate),
     }
 }
 
 // Marks, after an edit, the Nots of the driver of a new Not.
-pub(crate) fn mark_after(agenda: &mut Agenda, graph: &Graph, edit: &Edit)
-    ensures kept { KeepsMarks agenda.old agenda.new }
-    ensures nots { (driver y : ℕ) → edit.now ≡ edit_of (new_not driver) → IsNotOf (net_of graph.now) driver y → y < length agenda.new → is_marked agenda.new y ≡ true }
+pub(crate) fn mark_after(worklist: &mut Worklist, graph: &Graph, edit: &Edit)
+    ensures kept { KeepsMarks worklist.old worklist.new }
+    ensures nots { (driver y : ℕ) → edit.now ≡ edit_of (new_not driver) → IsNotOf (net_of graph.now) driver y → y < length worklist.new → is_marked worklist.new y ≡ true }
 {
     if let Edit::NewNot { driver } = *edit {
-        mark_nots(agenda, graph, driver);
+        mark_nots(worklist, graph, driver);
     }
 }

@@ -14,7 +14,7 @@ ghost use Rattle.wire_edit.specs.Calls.{IsBegun, IsApplied, IsTidied, IsRolledBa
 ghost use Rattle.wire_edit.specs.declared.steps.Step.{Step as StepValue};
 ghost use Rattle.rm_base.specs.Numbers.{number_bound};
 
-use crate::agenda::Agenda;
+use crate::worklist::Worklist;
 use crate::budget::{nodes_made, pins_made, room_for};
 use crate::faults::fault;
 use crate::kept::Kept;
@@ -54,7 +54,7 @@ pub struct Trial {
     pub(crate) pins: usize,
     pub(crate) nodes: usize,
     pub(crate) marks: Marks,
-    pub(crate) agenda: Agenda,
+    pub(crate) worklist: Worklist,
     pub(crate) seen: Seen,
     pub(crate) kept: Kept,
     // The room at the start, and whether the net was known to be tidy then.
@@ -76,7 +76,7 @@ impl Model for Trial {
 
     ghost use Rattle.wire_edit.specs.Trials.{IsTrial, IsReady};
 
-    ghost invariant = { λ t. IsTrial t.graph t.undos (record { pins = t.pins; nodes = t.nodes; steps = t.made.spare }) t.marks t.agenda × IsReady t.graph t.undos t.made.steps t.made.spare t.marks t.seen t.kept t.first t.tidy };
+    ghost invariant = { λ t. IsTrial t.graph t.undos (record { pins = t.pins; nodes = t.nodes; steps = t.made.spare }) t.marks t.worklist × IsReady t.graph t.undos t.made.steps t.made.spare t.marks t.seen t.kept t.first t.tidy };
 }
 
 impl Trial {
@@ -96,7 +96,7 @@ impl Trial {
     {
         let mut graph = graph;
         match prepare(alloc, &mut graph, room, tidy) {
-            Ok((undos, made, marks, agenda, seen, kept)) => {
+            Ok((undos, made, marks, worklist, seen, kept)) => {
                 graph.well_formed();
                 same_wiring();
                 Ok(Trial {
@@ -106,7 +106,7 @@ impl Trial {
                     pins: room.pins,
                     nodes: room.nodes,
                     marks,
-                    agenda,
+                    worklist,
                     seen,
                     kept,
                     first: room,
@@ -179,7 +179,7 @@ impl Trial {
     {
         self.graph.well_formed();
         self.kept.ready_for(&self.graph, step);
-        carry_out(&mut self.graph, &mut self.undos, &mut self.agenda, step);
+        carry_out(&mut self.graph, &mut self.undos, &mut self.worklist, step);
         self.graph.well_formed();
         self.made.push(step);
         self.pins -= pins_made(step);
@@ -236,7 +236,7 @@ impl Trial {
         self.graph.well_formed();
         let next = next_rule(
             &self.graph,
-            &mut self.agenda,
+            &mut self.worklist,
             &mut self.seen,
             &mut self.kept,
         );
@@ -283,7 +283,7 @@ impl Trial {
             pins: _pins,
             nodes: _nodes,
             marks: _marks,
-            agenda: _agenda,
+            worklist: _worklist,
             seen: _seen,
             kept: _kept,
             first: _first,
@@ -310,7 +310,7 @@ impl Trial {
             pins: _pins,
             nodes: _nodes,
             marks: _marks,
-            agenda: _agenda,
+            worklist: _worklist,
             seen: _seen,
             kept: _kept,
             first: _first,

@@ -127,10 +127,10 @@ fn passed<R: Threads + Sync>(
 #[test]
 fn each_piece_passes_once(rt: HostRuntime) -> Result<(), Fail> {
     let graph = build_net(rt.alloc(), &FOUR_GATES)?;
-    assert_eq!(rt; passed(&rt, rt.alloc(), &graph, 16, 1)?, 0x1);
-    assert_eq!(rt; passed(&rt, rt.alloc(), &graph, 16, 5)?, 0x11111);
-    assert_eq!(rt; passed(&rt, rt.alloc(), &graph, 16, 8)?, 0x11111111);
-    assert_eq!(rt; passed(&rt, rt.alloc(), &graph, 3, 64)?, 0x111);
-    assert_eq!(rt; passed(&rt, rt.alloc(), &graph, 0, 2)?, 0);
+    assert_eq!(rt; pass_with(&rt, rt.alloc(), &graph, 16, 1)?, 0x1);
+    assert_eq!(rt; pass_with(&rt, rt.alloc(), &graph, 16, 5)?, 0x11111);
+    assert_eq!(rt; pass_with(&rt, rt.alloc(), &graph, 16, 8)?, 0x11111111);
+    assert_eq!(rt; pass_with(&rt, rt.alloc(), &graph, 3, 64)?, 0x111);
+    assert_eq!(rt; pass_with(&rt, rt.alloc(), &graph, 0, 2)?, 0);
     Ok(())
 }

@@ -31,7 +31,7 @@ fn append(alloc: Global, shelf: &mut MemoryShelf, entry: &Entry) -> Result<Resul
 }
 
 // Adds the lines of the entries of a text up to the first call that fails, and says how many were whole.
-fn copied(alloc: Global, text: &str, shelf: &mut MemoryShelf) -> Result<(u64, Option<Stop>), Fail> {
+fn copy_entries(alloc: Global, text: &str, shelf: &mut MemoryShelf) -> Result<(u64, Option<Stop>), Fail> {
     let mut reader = JournalReader::new(alloc);
     reader.push(text.as_bytes())?;
     let mut count = 0u64;
@@ -61,7 +61,7 @@ fn a_shelf_that_fails_has_a_beginning(rt: HostRuntime) -> Result<(), Fail> {
     let text = ALL_KINDS.as_bytes();
     for failing in 1..16u64 {
         let mut shelf = shelf(alloc, failing)?;
-        let (count, stop) = copied(alloc, ALL_KINDS, &mut shelf)?;
+        let (count, stop) = copy_entries(alloc, ALL_KINDS, &mut shelf)?;
         let kept = shelf.file("journal").ok_or("no file")?;
         assert!(rt; text.starts_with(kept));
         assert_eq!(rt; shelf.file("other"), Some(b"".as_slice()));

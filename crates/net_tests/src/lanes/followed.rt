@@ -3,7 +3,7 @@ ghost use Rattle.std.specs.Prelude.{◌≡◌, ◌≤◌, ◌+◌, [], IfOk, OnO
 ghost use Rattle.gate_net.specs.Net.{source_count};
 ghost use Rattle.gate_graph.specs.Changes.{CanEdit, Edits, entries_for};
 ghost use Rattle.gate_graph.specs.Circuit.{Circuit, net_of, pins_taken, wiring};
-ghost use Rattle.gate_graph.specs.Entries.{CanGoBack};
+ghost use Rattle.gate_graph.specs.Undoing.{CanGoBack};
 ghost use Rattle.fault_sim.specs.BlockStates.{AreSimulated};
 ghost use Rattle.gate_net.specs.Edits.{IsSameBut};
 ghost use Rattle.fault_sim.specs.Following.{CanAllFollow, CanFollow};

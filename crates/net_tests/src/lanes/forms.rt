@@ -77,7 +77,7 @@ const WIDE_ROWS: [Row; 6] = [
 ];
 
 // The lanes that detect the fault of a row.
-fn found(alloc: Global, graph: &Graph, row: &Row) -> Result<u64, Fail> {
+fn detecting_lanes(alloc: Global, graph: &Graph, row: &Row) -> Result<u64, Fail> {
     let pin = row.0;
     let fault = fault_at(graph, pin.0, pin.1, pin.2)?;
     if graph.source_count() as usize != TWO.len() {
@@ -92,7 +92,7 @@ fn every_form_of_gate(rt: HostRuntime) -> Result<(), Fail> {
     let graph = build_net(rt.alloc(), &FORMS)?;
     for at in 0..ROWS.len() {
         assert_eq!(rt;
-            found(rt.alloc(), &graph, &ROWS[at])?,
+            detecting_lanes(rt.alloc(), &graph, &ROWS[at])?,
             ROWS[at].1,
             "at row {at}"
         );
@@ -105,7 +105,7 @@ fn wide_gates(rt: HostRuntime) -> Result<(), Fail> {
     let graph = build_net(rt.alloc(), &WIDE)?;
     for at in 0..WIDE_ROWS.len() {
         assert_eq!(rt;
-            found(rt.alloc(), &graph, &WIDE_ROWS[at])?,
+            detecting_lanes(rt.alloc(), &graph, &WIDE_ROWS[at])?,
             WIDE_ROWS[at].1,
             "at row {at}"
         );

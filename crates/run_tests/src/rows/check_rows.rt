@@ -6,7 +6,7 @@ use std::test::Fail;
 use std::thread::Threads;
 
 // The text with a part replaced.
-fn changed(alloc: Global, text: &str, old: &str, new: &str) -> Result<String, Fail> {
+fn replace_part(alloc: Global, text: &str, old: &str, new: &str) -> Result<String, Fail> {
     let at = text.find(old).ok_or("no such part")?;
     let mut made = String::from_str(alloc, &text[..at])?;
     made.push_str(new)?;
@@ -47,7 +47,7 @@ const CHANGES: [(&str, &str, &str); 5] = [
 #[test]
 fn changed_journals(rt: HostRuntime) -> Result<(), Fail> {
     for (old, new, why) in CHANGES {
-        let journal = changed(rt.alloc(), WIRE_JOURNAL, old, new)?;
+        let journal = replace_part(rt.alloc(), WIRE_JOURNAL, old, new)?;
         let put = format!(in rt.alloc(); "journal {why}\n")?;
         let texts = [FOUR_GATES, WITH_A_WIRE, &journal];
         assert!(rt; refuses(&rt, rt.alloc(), "check in journal out", texts, 6, &put)?);
@@ -111,7 +111,7 @@ const OUTPUTS: [(&str, &str, &str); 3] = [
 #[test]
 fn other_outputs(rt: HostRuntime) -> Result<(), Fail> {
     for (old, new, put) in OUTPUTS {
-        let output = changed(rt.alloc(), WITH_A_WIRE, old, new)?;
+        let output = replace_part(rt.alloc(), WITH_A_WIRE, old, new)?;
         let texts = [FOUR_GATES, &output, WIRE_JOURNAL];
         assert!(rt; refuses(&rt, rt.alloc(), "check in journal out", texts, 6, put)?);
     }

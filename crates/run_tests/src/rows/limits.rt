@@ -6,7 +6,7 @@ use std::test::Fail;
 use std::thread::Threads;
 
 // The numbers from 0 on, so many, each between two parts.
-fn numbered(alloc: Global, before: &str, after: &str, count: u32) -> Result<String, Fail> {
+fn numbered_parts(alloc: Global, before: &str, after: &str, count: u32) -> Result<String, Fail> {
     let mut text = String::new(alloc);
     for number in 0..count {
         text.push_str(&format!(in alloc; "{before}{number}{after}")?)?;
@@ -50,7 +50,7 @@ fn longest_names(rt: HostRuntime) -> Result<(), Fail> {
 #[test]
 fn most_sources(rt: HostRuntime) -> Result<(), Fail> {
     let alloc = rt.alloc();
-    let names = numbered(alloc, " i", "", 1_024)?;
+    let names = numbered_parts(alloc, " i", "", 1_024)?;
     let text = format!(in alloc; ".model m\n.inputs{names}\n.outputs i0\n.end\n")?;
     assert!(rt; run_with_limits(&rt, alloc, &text, &text)?);
     let text = format!(in alloc; ".model m\n.inputs{names} more\n.outputs i0\n.end\n")?;
@@ -61,8 +61,8 @@ fn most_sources(rt: HostRuntime) -> Result<(), Fail> {
 #[test]
 fn most_observed_points(rt: HostRuntime) -> Result<(), Fail> {
     let alloc = rt.alloc();
-    let names = numbered(alloc, " o", "", 4_096)?;
-    let covers = numbered(alloc, ".names o", "\n", 4_096)?;
+    let names = numbered_parts(alloc, " o", "", 4_096)?;
+    let covers = numbered_parts(alloc, ".names o", "\n", 4_096)?;
     let text = format!(in alloc; ".model m\n.inputs\n.outputs{names}\n{covers}.end\n")?;
     assert!(rt; run_with_limits(&rt, alloc, &text, &text)?);
     let text = format!(in alloc; ".model m\n.inputs\n.outputs{names} more\n{covers}.end\n")?;
@@ -73,7 +73,7 @@ fn most_observed_points(rt: HostRuntime) -> Result<(), Fail> {
 #[test]
 fn most_names(rt: HostRuntime) -> Result<(), Fail> {
     let alloc = rt.alloc();
-    let covers = numbered(alloc, ".names k", "\n", 131_071)?;
+    let covers = numbered_parts(alloc, ".names k", "\n", 131_071)?;
     let text = format!(in alloc; ".model m\n.inputs a\n.outputs a\n{covers}.end\n")?;
     let left = ".model m\n.inputs a\n.outputs a\n.end\n";
     assert!(rt; run_with_limits(&rt, alloc, &text, left)?);
@@ -83,7 +83,7 @@ fn most_names(rt: HostRuntime) -> Result<(), Fail> {
 #[test]
 fn one_name_more(rt: HostRuntime) -> Result<(), Fail> {
     let alloc = rt.alloc();
-    let covers = numbered(alloc, ".names k", "\n", 131_071)?;
+    let covers = numbered_parts(alloc, ".names k", "\n", 131_071)?;
     let text = format!(in alloc; ".model m\n.inputs a\n.outputs a\n{covers}.names more\n.end\n")?;
     assert!(rt; limited(&rt, alloc, &text, "limit signals 131073\n")?);
     Ok(())

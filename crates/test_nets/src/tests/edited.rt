@@ -23,7 +23,7 @@ impl Model for EditedNet {
 
     ghost use Rattle.std.specs.Prelude.{◌+◌, ◌≤◌, length};
     ghost use Rattle.gate_graph.specs.Circuit.{pins_taken, wiring};
-    ghost use Rattle.gate_graph.specs.Entries.{AreWithin, CanGoBack};
+    ghost use Rattle.gate_graph.specs.Undoing.{AreWithin, CanGoBack};
 
     ghost view = { λ e. e.left };
 

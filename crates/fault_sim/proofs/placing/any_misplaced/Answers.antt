@@ -8,14 +8,14 @@ use Rattle.rm_base.specs.declared.numbers.NodeId.{NodeId}
 use Rattle.fault_sim.specs.Following.{Stands}
 use Rattle.fault_sim.proofs.placing.any_misplaced.Goals as goal
 use Rattle.rm_base.proofs.Public.{number_at, slice_get_below}
-use Rattle.rm_base.specs.Numbers.{numbers_of, zero_node}
+use Rattle.rm_base.specs.Numbers.{numbers_of, default_node}
 
 pub loop-node-preserved : goal.loop-node-preserved
 loop-node-preserved c k y less there =
-    let here = number_at c.args.changed.now c.loop-node.node-index zero_node c.loop-node-test.true in
+    let here = number_at c.args.changed.now c.loop-node.node-index default_node c.loop-node-test.true in
     elim (eqb_tells k c.loop-node.node-index) [
       | inl t ↦
-          let same : (get_or c.args.changed.now c.loop-node.node-index zero_node).0 ≡ y =
+          let same : (get_or c.args.changed.now c.loop-node.node-index default_node).0 ≡ y =
           let moved : slice_get (numbers_of c.args.changed.now) k ≡ slice_get (numbers_of c.args.changed.now) c.loop-node.node-index = ap (slice_get (numbers_of c.args.changed.now)) t.1 in
           cc in
           subst (λ (z : ℕ). kind_of (net_of c.args.graph.now) z ≢ None → Stands (net_of c.args.graph.now) (numbers_of c.args.order.now) c.args.places.now z) same (c.is_misplaced.ensures c.if-is_misplaced.false)

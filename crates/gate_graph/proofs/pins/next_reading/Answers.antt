@@ -12,12 +12,12 @@ pub returns-then-gate_of-ne0-clause-linked : goal.returns-then-gate_of-ne0-claus
 returns-then-gate_of-ne0-clause-linked c = c.loop-pin.invariant.linked c.in-Some.pin.0 (has-front _ _ c.in-Some.pin.0 c.in-Some.ensures.steps)
 
 pub returns-then-gate_of-ne0-clause-reads : goal.returns-then-gate_of-ne0-clause-reads
-returns-then-gate_of-ne0-clause-reads c = false_from_ne_true _ (λ h. c.if-gate_of-ne0.true (c.look.ensures.rings.inputs.one c.gate_of.result 0 c.in-Some.pin.0 c.gate_of.ensures.gate h))
+returns-then-gate_of-ne0-clause-reads c = false_from_ne_true _ (λ h. c.if-gate_of-ne0.true (c.tell_rings.ensures.rings.inputs.one c.gate_of.result 0 c.in-Some.pin.0 c.gate_of.ensures.gate h))
 
 pub returns-then-gate_of-ne0-clause-some : goal.returns-then-gate_of-ne0-clause-some
 returns-then-gate_of-ne0-clause-some c =
     sym c.loop-pin.invariant.same
-    ∙ kept-first (list_of c.args.pool.now.inputs 0) _ _ c.in-Some.pin.0 c.in-Some.ensures.steps (false_from_ne_true _ (λ h. c.if-gate_of-ne0.true (c.look.ensures.rings.inputs.one c.gate_of.result 0 c.in-Some.pin.0 c.gate_of.ensures.gate h)))
+    ∙ kept-first (list_of c.args.pool.now.inputs 0) _ _ c.in-Some.pin.0 c.in-Some.ensures.steps (false_from_ne_true _ (λ h. c.if-gate_of-ne0.true (c.tell_rings.ensures.rings.inputs.one c.gate_of.result 0 c.in-Some.pin.0 c.gate_of.ensures.gate h)))
 
 pub returns-then-gate_of-ne0-clause-kept : goal.returns-then-gate_of-ne0-clause-kept
 returns-then-gate_of-ne0-clause-kept c p h = c.loop-pin.invariant.kept p (ap (has p) c.in-Some.ensures.steps ∙ or_right _ _ h)

@@ -28,6 +28,6 @@ loop-pin-preserved c =
       all = i.all ∙ ap (λ (l : List ℕ). map (λ (p : PinNo). p.0) c.loop-pin.yielded ++ l) c.in-Some.ensures.steps ∙ map-push (λ (p : PinNo). p.0) c.loop-pin.yielded c.in-Some.pin c.next.new.self;
       none = λ p h. elim (has-pushed (λ (q : PinNo). q.0) c.loop-pin.yielded c.in-Some.pin p h) [
         | inl old ↦ i.none p old
-        | inr is ↦ false_from_ne_true _ (λ k. c.if-gate_of-eq0.false (c.look.ensures.rings.inputs.one c.gate_of.result 0 c.in-Some.pin.0 c.gate_of.ensures.gate (ap (λ (q : ℕ). has q (list_of c.args.pool.now.inputs 0)) (sym is) ∙ k)))
+        | inr is ↦ false_from_ne_true _ (λ k. c.if-gate_of-eq0.false (c.tell_rings.ensures.rings.inputs.one c.gate_of.result 0 c.in-Some.pin.0 c.gate_of.ensures.gate (ap (λ (q : ℕ). has q (list_of c.args.pool.now.inputs 0)) (sym is) ∙ k)))
       ];
     }

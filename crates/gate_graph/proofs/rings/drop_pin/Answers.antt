@@ -10,5 +10,5 @@ returns-clause-rings c = c.give_back.ensures.rings ∙ ap (returned c.args.pin.0
 
 pub returns-clause-taken : goal.returns-clause-taken
 returns-clause-taken c =
-    let there = c.look.ensures.rings.inputs.members c.requires.gate.0 c.args.pin.0 c.requires.gate.1 in
+    let there = c.tell_rings.ensures.rings.inputs.members c.requires.gate.0 c.args.pin.0 c.requires.gate.1 in
     omega (arith, ap finset.len (c.give_back.ensures.taken ∙ ap (λ (s : finset.FinSet nat_cmp). finset.remove s c.args.pin.0) c.unlink-slot.ensures.taken), len-one_less c.args.pool.now.taken c.args.pin.0 there)

@@ -12,7 +12,7 @@ loop-driver-preserved c =
     let i = c.loop-driver.invariant in
     record {
       filled = subst (λ (l : List ℕ). IsFilled c.args.pool.now c.link_new-pin.new.pool c.args.gate l) (sym (next-driver c.args.drivers.now c.loop-driver.driver-index (record { 0 = 0 }) c.loop-driver-test.true))
-          (filled-step c.args.pool.now c.loop-driver.pool c.link_new-pin.new.pool c.args.gate c.link_new-pin.result.0 _ _ c.requires.apart i.filled c.link_new-pin.ensures.rings c.look-in-loop-driver.ensures.rings c.link_new-pin.ensures.fresh);
+          (filled-step c.args.pool.now c.loop-driver.pool c.link_new-pin.new.pool c.args.gate c.link_new-pin.result.0 _ _ c.requires.apart i.filled c.link_new-pin.ensures.rings c.tell_rings-in-loop-driver.ensures.rings c.link_new-pin.ensures.fresh);
       nodes = c.link_new-pin.ensures.nodes ∙ i.nodes;
       taken = omega (arith, i.taken, c.link_new-pin.ensures.taken);
       spare = omega (arith, i.spare, c.link_new-pin.ensures.spare);

@@ -6,8 +6,8 @@ use Rattle.journal_audit.proofs.Concluding.{compared_problem, last_fits}
 use Rattle.journal_audit.proofs.auditing.audit.Goals as goal
 use Rattle.journal_check.proofs.Public.{handed_on}
 
-pub text_of-requires-clause-fits : goal.text_of-requires-clause-fits
-text_of-requires-clause-fits g c =
+pub net_text-requires-clause-fits : goal.net_text-requires-clause-fits
+net_text-requires-clause-fits g c =
     last_fits c.accepted_stand.ensures c.args.model.now (net_of c.in_ok-graph.graph) c.requires.formed c.requires.ranked c.in_ok-graph.ensures.accepted.is_last
 
 pub returns-in_err-compare_output-clause-problem : goal.returns-in_err-compare_output-clause-problem

@@ -4,7 +4,7 @@ use Rattle.std.proofs.lemmas.Bool.Decides.{eqb_tells}
 use Rattle.refutation.proofs.glances.all_equal.Goals as goal
 
 pub returns : goal.returns
-returns c = elim (eqb_tells c.look.result.rest 0) [
-  | inl t ↦ t.0 ∙ sym (glance_all c.look.result _ _ c.look.ensures t.1)
-  | inr t ↦ t.0 ∙ sym (glance_not_all c.look.result _ _ c.look.ensures t.1)
+returns c = elim (eqb_tells c.look_at_facts.result.rest 0) [
+  | inl t ↦ t.0 ∙ sym (glance_all c.look_at_facts.result _ _ c.look_at_facts.ensures t.1)
+  | inr t ↦ t.0 ∙ sym (glance_not_all c.look_at_facts.result _ _ c.look_at_facts.ensures t.1)
 ]

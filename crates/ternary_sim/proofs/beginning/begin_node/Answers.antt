@@ -8,8 +8,8 @@ use Rattle.ternary_sim.specs.Settling.{touched_marks}
 use Rattle.ternary_sim.specs.Sheets.{SheetState}
 use Rattle.ternary_sim.specs.Tracking.{first_marks, marks_before}
 use Rattle.ternary_sim.specs.declared.marks.NodeMarks.{NodeMarks}
-use Rattle.ternary_sim.specs.declared.trail.Entry.{Entry}
-use Rattle.ternary_sim.specs.declared.trail.Entry.TheVariants.{Had}
+use Rattle.ternary_sim.specs.declared.trail.Saved.{Saved}
+use Rattle.ternary_sim.specs.declared.trail.Saved.TheVariants.{Had}
 
 pub returns-clause-begun : goal.returns-clause-begun
 returns-clause-begun c base begun =
@@ -19,14 +19,14 @@ returns-clause-begun c base begun =
 pub returns-clause-before : goal.returns-clause-before
 returns-clause-before c =
     ap (λ (s : SheetState). marks_before s.marks c.push.new.self.items) c.write.ensures
-    ∙ ap (λ (es : List Entry). marks_before (slice_set c.args.sheet.now.marks c.args.node.0 (touched_marks c.at-had.result.good)) es) c.in_ok-push.ensures.items
+    ∙ ap (λ (es : List Saved). marks_before (slice_set c.args.sheet.now.marks c.args.node.0 (touched_marks c.at-had.result.good)) es) c.in_ok-push.ensures.items
     ∙ ap (λ (m : NodeMarks). marks_before (slice_set c.args.sheet.now.marks c.args.node.0 (touched_marks c.at-had.result.good)) (c.args.trail.now.items ++ Had c.args.node m ∷ [])) c.at-had.ensures
     ∙ before_rewritten c.args.sheet.now.marks c.args.trail.now.items c.args.node (touched_marks c.at-had.result.good) no_marks
 
 pub returns-clause-first : goal.returns-clause-first
 returns-clause-first c =
     ap (λ (s : SheetState). first_marks s.marks c.push.new.self.items) c.write.ensures
-    ∙ ap (λ (es : List Entry). first_marks (slice_set c.args.sheet.now.marks c.args.node.0 (touched_marks c.at-had.result.good)) es) c.in_ok-push.ensures.items
+    ∙ ap (λ (es : List Saved). first_marks (slice_set c.args.sheet.now.marks c.args.node.0 (touched_marks c.at-had.result.good)) es) c.in_ok-push.ensures.items
     ∙ ap (λ (m : NodeMarks). first_marks (slice_set c.args.sheet.now.marks c.args.node.0 (touched_marks c.at-had.result.good)) (c.args.trail.now.items ++ Had c.args.node m ∷ [])) c.at-had.ensures
     ∙ first_rewritten c.args.sheet.now.marks c.args.trail.now.items c.args.node (touched_marks c.at-had.result.good) no_marks
 

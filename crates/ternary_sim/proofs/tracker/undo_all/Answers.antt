@@ -2,8 +2,8 @@ use Rattle.std.proofs.Common.{List, [], ap, arith, length, length-set, sym, ◌+
 use Rattle.ternary_sim.proofs.TrailMarks.{first_given, first_had, inside_less}
 use Rattle.ternary_sim.proofs.tracker.undo_all.Goals as goal
 use Rattle.ternary_sim.specs.Tracking.{AreInside, first_marks}
-use Rattle.ternary_sim.specs.declared.trail.Entry.{Entry}
-use Rattle.ternary_sim.specs.declared.trail.Entry.TheVariants.{Had}
+use Rattle.ternary_sim.specs.declared.trail.Saved.{Saved}
+use Rattle.ternary_sim.specs.declared.trail.Saved.TheVariants.{Had}
 
 pub write-requires : goal.write-requires
 write-requires c =
@@ -15,8 +15,8 @@ pub loop-entry-preserved-in-Given : goal.loop-entry-preserved-in-Given
 loop-entry-preserved-in-Given c = record {
   first =
       sym (first_given c.loop-entry.sheet.marks c.pop.new.self.items)
-      ∙ ap (λ (e : Entry). first_marks c.loop-entry.sheet.marks (c.pop.new.self.items ++ e ∷ [])) (sym c.in-Given.is)
-      ∙ ap (λ (es : List Entry). first_marks c.loop-entry.sheet.marks es) (sym c.in-Some.ensures.items)
+      ∙ ap (λ (e : Saved). first_marks c.loop-entry.sheet.marks (c.pop.new.self.items ++ e ∷ [])) (sym c.in-Given.is)
+      ∙ ap (λ (es : List Saved). first_marks c.loop-entry.sheet.marks es) (sym c.in-Some.ensures.items)
       ∙ c.loop-entry.invariant.first;
   inside = (inside_less (length c.loop-entry.sheet.marks) c.pop.new.self.items c.in-Some.entry (rw c.in-Some.ensures.items at c.loop-entry.invariant.inside)).0;
   size = c.loop-entry.invariant.size;
@@ -27,8 +27,8 @@ pub loop-entry-preserved : goal.loop-entry-preserved
 loop-entry-preserved c = rw c.write.ensures (record {
   first =
       sym (first_had c.loop-entry.sheet.marks c.pop.new.self.items c.in-Had.node c.in-Had.marks)
-      ∙ ap (λ (e : Entry). first_marks c.loop-entry.sheet.marks (c.pop.new.self.items ++ e ∷ [])) (sym c.in-Had.is)
-      ∙ ap (λ (es : List Entry). first_marks c.loop-entry.sheet.marks es) (sym c.in-Some.ensures.items)
+      ∙ ap (λ (e : Saved). first_marks c.loop-entry.sheet.marks (c.pop.new.self.items ++ e ∷ [])) (sym c.in-Had.is)
+      ∙ ap (λ (es : List Saved). first_marks c.loop-entry.sheet.marks es) (sym c.in-Some.ensures.items)
       ∙ c.loop-entry.invariant.first;
   inside = rw (length-set c.loop-entry.sheet.marks c.in-Had.node.0 c.in-Had.marks) (inside_less (length c.loop-entry.sheet.marks) c.pop.new.self.items c.in-Some.entry (rw c.in-Some.ensures.items at c.loop-entry.invariant.inside)).0;
   size = length-set c.loop-entry.sheet.marks c.in-Had.node.0 c.in-Had.marks ∙ c.loop-entry.invariant.size;

@@ -4,4 +4,4 @@ use Rattle.wire_edit.proofs.Touching.{Driven}
 use Rattle.wire_edit.proofs.touch.mark_drivers.Given as goal
 
 abbrev pub invariant-loop-driver : goal.invariant-loop-driver
-invariant-loop-driver l = Driven (drivers_of (net_of l.graph) l.fn.gate.0) l.fn.agenda l.agenda l.driver-iterator
+invariant-loop-driver l = Driven (drivers_of (net_of l.graph) l.fn.gate.0) l.fn.worklist l.worklist l.driver-iterator

@@ -6,4 +6,4 @@ use Rattle.wire_edit.proofs.touch.mark_nots.Goals as goal
 
 pub loop-reader-init : goal.loop-reader-init
 loop-reader-init c =
-    walk_start c.args.graph.now c.args.node.0 (is_not (net_of c.args.graph.now)) c.args.agenda.now _ c.readers_listed.ensures (c.into_iter-reader-iterator.ensures.into_iter_gives ∙ c.readers_of-reader-items.ensures)
+    walk_start c.args.graph.now c.args.node.0 (is_not (net_of c.args.graph.now)) c.args.worklist.now _ c.readers_listed.ensures (c.into_iter-reader-iterator.ensures.into_iter_gives ∙ c.readers_of-reader-items.ensures)

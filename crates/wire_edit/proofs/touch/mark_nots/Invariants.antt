@@ -4,4 +4,4 @@ use Rattle.wire_edit.proofs.Touching.{Walked}
 use Rattle.wire_edit.proofs.touch.mark_nots.Given as goal
 
 abbrev pub invariant-loop-reader : goal.invariant-loop-reader
-invariant-loop-reader l = Walked l.graph l.fn.node.0 (is_not (net_of l.graph)) l.fn.agenda l.agenda l.reader-iterator
+invariant-loop-reader l = Walked l.graph l.fn.node.0 (is_not (net_of l.graph)) l.fn.worklist l.worklist l.reader-iterator

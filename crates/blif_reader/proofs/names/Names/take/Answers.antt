@@ -2,7 +2,7 @@ use Rattle.std.proofs.Common.{◌∙◌, sym, ap, subst, ℕ, length}
 use Rattle.std.proofs.Common.{refl, ◌≤◌, not, Option}
 use Rattle.std.specs.Prelude.{is_some}
 use Rattle.blif_reader.specs.Tally.{more_if}
-use Rattle.blif_reader.specs.declared.names.Entry.{Entry}
+use Rattle.blif_reader.specs.declared.names.NameUse.{NameUse}
 use Rattle.blif_reader.specs.Tally.{IsTally}
 use Rattle.blif_reader.specs.Views.{tally}
 use Rattle.blif_reader.proofs.TallyLaws.{refuses_use, accepts_use, keeps_limits, KeepsLimits, length_after}
@@ -21,7 +21,7 @@ invariant_of-self c =
       signals = subst (λ (n : ℕ). n ≤ 131072) (sym (
           ap length c.in-Ok-put.ensures.ok
           ∙ length_after c.self.inside.entries c.args.name.now _
-          ∙ ap (λ (o : Option Entry). more_if (not (is_some o)) (length c.self.inside.entries)) (sym (c.get-entry.ensures c.args.name.now c.find-found.ensures))
+          ∙ ap (λ (o : Option NameUse). more_if (not (is_some o)) (length c.self.inside.entries)) (sym (c.get-entry.ensures c.args.name.now c.find-found.ensures))
           ∙ ap (λ (n : ℕ). more_if (not (is_some c.get-entry.result)) n) (sym c.len.ensures)
           ∙ sym c.counts_with-counts.ensures.signals)) k.signals;
     }

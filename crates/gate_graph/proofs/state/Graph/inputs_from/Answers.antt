@@ -31,7 +31,7 @@ invariant_of-result c =
     let i = c.self.inside in
     let v : Circuit = record { kinds = i.kinds.items; pool = i.pool; epoch = i.epoch } in
     let g : IsGraph v = c.self.invariant.0 in
-    (c.look.ensures.rings, λ p h. linked-gate v g.wired.shape c.args.node.0 p (has-drop (gate_pins i.pool c.args.node.0) c.args.position p (ap (has p) (sym c.pins_of_gate_from-pins.ensures.pins) ∙ h)))
+    (c.tell_rings.ensures.rings, λ p h. linked-gate v g.wired.shape c.args.node.0 p (has-drop (gate_pins i.pool c.args.node.0) c.args.position p (ap (has p) (sym c.pins_of_gate_from-pins.ensures.pins) ∙ h)))
 
 pub returns-clause-drivers : goal.returns-clause-drivers
 returns-clause-drivers c =

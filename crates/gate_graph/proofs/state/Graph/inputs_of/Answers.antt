@@ -30,7 +30,7 @@ invariant_of-result c =
     let i = c.self.inside in
     let v : Circuit = record { kinds = i.kinds.items; pool = i.pool; epoch = i.epoch } in
     let g : IsGraph v = c.self.invariant.0 in
-    (c.look.ensures.rings, λ p h. linked-gate v g.wired.shape c.args.node.0 p (ap (has p) (sym c.pins_of_gate-pins.ensures.pins) ∙ h))
+    (c.tell_rings.ensures.rings, λ p h. linked-gate v g.wired.shape c.args.node.0 p (ap (has p) (sym c.pins_of_gate-pins.ensures.pins) ∙ h))
 
 pub returns-clause-drivers : goal.returns-clause-drivers
 returns-clause-drivers c =

@@ -9,7 +9,7 @@ use Rattle.std.specs.FinSet as finset
 use Rattle.pin_pool.proofs.Public.{len-one_less}
 use Rattle.std.proofs.Common.{length, ◌≡◌}
 use Rattle.gate_graph.specs.Holds.{held}
-use Rattle.gate_graph.specs.declared.entries.Entry.{Entry}
+use Rattle.gate_graph.specs.declared.undo_list.Undo.{Undo}
 use Rattle.gate_graph.proofs.HeldPins.{held-are}
 use Rattle.pin_pool.proofs.Public.{linked-same}
 use Rattle.gate_graph.proofs.state.Graph.keep.Goals as goal
@@ -48,7 +48,7 @@ loop-entry-preserved-in-Removed c =
       spare = omega (arith, i.spare, e.spare, held-count c.in-Removed.pin c.in-Removed.slot c.in-Some.entry c.loop-entry.undos.entries c.pop.new.self.entries c.in-Some.ensures.0 c.in-Removed.is);
       taken = omega (arith, i.taken, ap finset.len e.taken, len-one_less c.loop-entry.self-inside.pool.taken c.in-Removed.pin.0 (held-here c.loop-entry.self-inside.kinds.items c.loop-entry.self-inside.pool c.in-Removed.pin c.in-Removed.slot c.in-Some.entry c.loop-entry.undos.entries c.pop.new.self.entries c.in-Some.ensures.0 c.in-Removed.is i.held_pins).0, held-count c.in-Removed.pin c.in-Removed.slot c.in-Some.entry c.loop-entry.undos.entries c.pop.new.self.entries c.in-Some.ensures.0 c.in-Removed.is);
       free = i.free;
-      places = omega (arith, i.places, c.in-Some.ensures.1, ap (λ (l : List Entry). length l) c.in-Some.ensures.0);
+      places = omega (arith, i.places, c.in-Some.ensures.1, ap (λ (l : List Undo). length l) c.in-Some.ensures.0);
       epoch = i.epoch;
       least = i.least;
       bound = i.bound;
@@ -76,5 +76,5 @@ returns-clause-held c =
     let v = c.args.self.now in
     let w : Circuit = record { kinds = s.kinds.items; pool = s.pool; epoch = c.saturating_add-self-inside.result } in
     let gw : IsGraph w = graph-kept w v i.kinds i.inputs i.fanouts i.nodes c.tell.ensures.graph in
-    let none = ap (λ (l : List Entry). length (held l)) c.in_default.ensures.0 in
-    omega (arith, held-are v c.tell.ensures.rings c.tell.ensures.graph, held-are w c.look.ensures.rings gw, linked-same v.pool w.pool i.nodes i.inputs, i.taken, none)
+    let none = ap (λ (l : List Undo). length (held l)) c.in_default.ensures.0 in
+    omega (arith, held-are v c.tell.ensures.rings c.tell.ensures.graph, held-are w c.tell_rings.ensures.rings gw, linked-same v.pool w.pool i.nodes i.inputs, i.taken, none)

@@ -23,7 +23,7 @@ invariant_of-self c =
     let i = c.self.inside in
     let v : Circuit = record { kinds = i.kinds.items; pool = i.pool; epoch = i.epoch } in
     let w : Circuit = record { kinds = i.kinds.items; pool = c.link_new-pin.new.pool; epoch = i.epoch } in
-    let a = observes v w c.link_new-pin.result.0 c.args.node.0 refl c.link_new-pin.ensures.rings c.look.ensures.rings c.look-2.ensures.rings c.self.invariant.0.wired (live-in v c.args.node.0 (rw (← c.self.view_is) at c.requires.node)) c.link_new-pin.ensures.fresh in
+    let a = observes v w c.link_new-pin.result.0 c.args.node.0 refl c.link_new-pin.ensures.rings c.tell_rings.ensures.rings c.tell_rings-2.ensures.rings c.self.invariant.0.wired (live-in v c.args.node.0 (rw (← c.self.view_is) at c.requires.node)) c.link_new-pin.ensures.fresh in
     (record { wired = a.wired; room = omega (arith, c.self.invariant.0.room, c.link_new-pin.ensures.nodes); few = c.self.invariant.0.few }, c.self.invariant.1)
 
 pub returns-clause-net : goal.returns-clause-net
@@ -31,7 +31,7 @@ returns-clause-net c =
     let i = c.self.inside in
     let v : Circuit = record { kinds = i.kinds.items; pool = i.pool; epoch = i.epoch } in
     let w : Circuit = record { kinds = i.kinds.items; pool = c.link_new-pin.new.pool; epoch = i.epoch } in
-    let a = observes v w c.link_new-pin.result.0 c.args.node.0 refl c.link_new-pin.ensures.rings c.look.ensures.rings c.look-2.ensures.rings c.self.invariant.0.wired (live-in v c.args.node.0 (rw (← c.self.view_is) at c.requires.node)) c.link_new-pin.ensures.fresh in
+    let a = observes v w c.link_new-pin.result.0 c.args.node.0 refl c.link_new-pin.ensures.rings c.tell_rings.ensures.rings c.tell_rings-2.ensures.rings c.self.invariant.0.wired (live-in v c.args.node.0 (rw (← c.self.view_is) at c.requires.node)) c.link_new-pin.ensures.fresh in
     rw (← c.self.view_is) a.net
 
 pub returns-clause-fanouts : goal.returns-clause-fanouts
@@ -39,7 +39,7 @@ returns-clause-fanouts c =
     let i = c.self.inside in
     let v : Circuit = record { kinds = i.kinds.items; pool = i.pool; epoch = i.epoch } in
     let w : Circuit = record { kinds = i.kinds.items; pool = c.link_new-pin.new.pool; epoch = i.epoch } in
-    rw (← c.self.view_is) (observed-readers v w c.link_new-pin.result.0 c.args.node.0 c.link_new-pin.ensures.rings c.look.ensures.rings c.look-2.ensures.rings c.link_new-pin.ensures.fresh)
+    rw (← c.self.view_is) (observed-readers v w c.link_new-pin.result.0 c.args.node.0 c.link_new-pin.ensures.rings c.tell_rings.ensures.rings c.tell_rings-2.ensures.rings c.link_new-pin.ensures.fresh)
 
 pub returns-clause-pins : goal.returns-clause-pins
 returns-clause-pins c = rw (← c.self.view_is) c.link_new-pin.ensures.taken
@@ -49,7 +49,7 @@ returns-clause-held c =
     let i = c.self.inside in
     let v : Circuit = record { kinds = i.kinds.items; pool = i.pool; epoch = i.epoch } in
     let w : Circuit = record { kinds = i.kinds.items; pool = c.link_new-pin.new.pool; epoch = i.epoch } in
-    let a = observes v w c.link_new-pin.result.0 c.args.node.0 refl c.link_new-pin.ensures.rings c.look.ensures.rings c.look-2.ensures.rings c.self.invariant.0.wired (live-in v c.args.node.0 (rw (← c.self.view_is) at c.requires.node)) c.link_new-pin.ensures.fresh in
+    let a = observes v w c.link_new-pin.result.0 c.args.node.0 refl c.link_new-pin.ensures.rings c.tell_rings.ensures.rings c.tell_rings-2.ensures.rings c.self.invariant.0.wired (live-in v c.args.node.0 (rw (← c.self.view_is) at c.requires.node)) c.link_new-pin.ensures.fresh in
     let gw : IsGraph w = record { wired = a.wired; room = omega (arith, c.self.invariant.0.room, c.link_new-pin.ensures.nodes); few = c.self.invariant.0.few } in
     let more = linked-more v.pool w.pool c.link_new-pin.ensures.nodes 0 1 _ (ap (λ (r : Rings). r.inputs) c.link_new-pin.ensures.rings) (omega (arith, live-numbers v c.self.invariant.0.wired.shape, c.self.invariant.0.room)) (length-append (list_of v.pool.inputs 0) (c.link_new-pin.result.0 ∷ [])) in
-    rw (← c.self.view_is) (held-by v w c.look.ensures.rings c.look-2.ensures.rings c.self.invariant.0 gw (omega (arith, more, c.link_new-pin.ensures.taken)))
+    rw (← c.self.view_is) (held-by v w c.tell_rings.ensures.rings c.tell_rings-2.ensures.rings c.self.invariant.0 gw (omega (arith, more, c.link_new-pin.ensures.taken)))

@@ -11,7 +11,7 @@ use Rattle.gate_graph.proofs.Numbers.{bit-none}
 use Rattle.gate_graph.proofs.HeldPins.{holds-by}
 use Rattle.pin_pool.proofs.Public.{linked-more}
 use Rattle.gate_graph.specs.Holds.{held}
-use Rattle.gate_graph.specs.declared.entries.Entry.{Entry}
+use Rattle.gate_graph.specs.declared.undo_list.Undo.{Undo}
 use Rattle.pin_pool.specs.Rings.{Rings}
 use Rattle.gate_graph.specs.Circuit.{IsGraph}
 use Rattle.std.proofs.Common.{List, ◌∷◌, [], length-append}
@@ -39,7 +39,7 @@ invariant_of-self c =
     let least : kinds_live i.kinds.items c.least_free-node.result = rw c.deref.ensures.value at c.least_free-node.ensures.live in
     let within : c.least_free-node.result < length i.kinds.items = free-found i.kinds.items c.least_free-node.result (rw (← c.self.view_is) at c.requires.nodes) least in
     let free : kind_at i.kinds.items c.least_free-node.result ≡ None = (rw c.deref.ensures.value at c.least_free-node.ensures.free) within in
-    let a = makes v w c.least_free-node.result c.args.driver.0 c.link_new-pin.result c.link_new-pin.ensures.rings c.look.ensures.rings c.look-2.ensures.rings c.self.invariant.0.wired free least (wired-set i.kinds.items c.set_kind.new.kinds.items i.pool c.link_new-pin.new.pool _ _ _ c.set_kind.ensures.kinds c.link_new-pin.ensures.rings) c.link_new-pin.ensures.fresh (rw (← c.self.view_is) at c.requires.driver) c.set_kind.ensures.len in
+    let a = makes v w c.least_free-node.result c.args.driver.0 c.link_new-pin.result c.link_new-pin.ensures.rings c.tell_rings.ensures.rings c.tell_rings-2.ensures.rings c.self.invariant.0.wired free least (wired-set i.kinds.items c.set_kind.new.kinds.items i.pool c.link_new-pin.new.pool _ _ _ c.set_kind.ensures.kinds c.link_new-pin.ensures.rings) c.link_new-pin.ensures.fresh (rw (← c.self.view_is) at c.requires.driver) c.set_kind.ensures.len in
     (record { wired = a.wired; room = omega (arith, c.self.invariant.0.room, c.link_new-pin.ensures.nodes, c.set_kind.ensures.len); few = omega (arith, c.self.invariant.0.few, c.set_kind.ensures.len) }, (live-next i.kinds.items c.set_kind.new.kinds.items i.pool c.least_free-node.result _ c.set_kind.ensures.kinds least (λ e. cc), (c.set_kind.ensures.dead, c.set_kind.ensures.free)))
 
 pub returns-clause-net : goal.returns-clause-net
@@ -50,7 +50,7 @@ returns-clause-net c =
     let least : kinds_live i.kinds.items c.least_free-node.result = rw c.deref.ensures.value at c.least_free-node.ensures.live in
     let within : c.least_free-node.result < length i.kinds.items = free-found i.kinds.items c.least_free-node.result (rw (← c.self.view_is) at c.requires.nodes) least in
     let free : kind_at i.kinds.items c.least_free-node.result ≡ None = (rw c.deref.ensures.value at c.least_free-node.ensures.free) within in
-    let a = makes v w c.least_free-node.result c.args.driver.0 c.link_new-pin.result c.link_new-pin.ensures.rings c.look.ensures.rings c.look-2.ensures.rings c.self.invariant.0.wired free least (wired-set i.kinds.items c.set_kind.new.kinds.items i.pool c.link_new-pin.new.pool _ _ _ c.set_kind.ensures.kinds c.link_new-pin.ensures.rings) c.link_new-pin.ensures.fresh (rw (← c.self.view_is) at c.requires.driver) c.set_kind.ensures.len in
+    let a = makes v w c.least_free-node.result c.args.driver.0 c.link_new-pin.result c.link_new-pin.ensures.rings c.tell_rings.ensures.rings c.tell_rings-2.ensures.rings c.self.invariant.0.wired free least (wired-set i.kinds.items c.set_kind.new.kinds.items i.pool c.link_new-pin.new.pool _ _ _ c.set_kind.ensures.kinds c.link_new-pin.ensures.rings) c.link_new-pin.ensures.fresh (rw (← c.self.view_is) at c.requires.driver) c.set_kind.ensures.len in
     rw (← c.self.view_is) a.net
 
 pub returns-clause-undos : goal.returns-clause-undos
@@ -61,7 +61,7 @@ returns-clause-undos c =
     let least : kinds_live i.kinds.items c.least_free-node.result = rw c.deref.ensures.value at c.least_free-node.ensures.live in
     let within : c.least_free-node.result < length i.kinds.items = free-found i.kinds.items c.least_free-node.result (rw (← c.self.view_is) at c.requires.nodes) least in
     let free : kind_at i.kinds.items c.least_free-node.result ≡ None = (rw c.deref.ensures.value at c.least_free-node.ensures.free) within in
-    let a = makes v w c.least_free-node.result c.args.driver.0 c.link_new-pin.result c.link_new-pin.ensures.rings c.look.ensures.rings c.look-2.ensures.rings c.self.invariant.0.wired free least (wired-set i.kinds.items c.set_kind.new.kinds.items i.pool c.link_new-pin.new.pool _ _ _ c.set_kind.ensures.kinds c.link_new-pin.ensures.rings) c.link_new-pin.ensures.fresh (rw (← c.self.view_is) at c.requires.driver) c.set_kind.ensures.len in
+    let a = makes v w c.least_free-node.result c.args.driver.0 c.link_new-pin.result c.link_new-pin.ensures.rings c.tell_rings.ensures.rings c.tell_rings-2.ensures.rings c.self.invariant.0.wired free least (wired-set i.kinds.items c.set_kind.new.kinds.items i.pool c.link_new-pin.new.pool _ _ _ c.set_kind.ensures.kinds c.link_new-pin.ensures.rings) c.link_new-pin.ensures.fresh (rw (← c.self.view_is) at c.requires.driver) c.set_kind.ensures.len in
     rw (← c.self.view_is, c.push.ensures.entries) (a.undos c.args.undos.now.entries)
 
 pub returns-clause-readers : goal.returns-clause-readers
@@ -73,7 +73,7 @@ returns-clause-readers c =
     let within : c.least_free-node.result < length i.kinds.items = free-found i.kinds.items c.least_free-node.result (rw (← c.self.view_is) at c.requires.nodes) least in
     let free : kind_at i.kinds.items c.least_free-node.result ≡ None = (rw c.deref.ensures.value at c.least_free-node.ensures.free) within in
     let ne : c.least_free-node.result ≢ 0 = λ is. (let both : Some Zero ≡ None = sym c.self.invariant.0.wired.shape.zero_is ∙ ap (λ (n : ℕ). kind_at i.kinds.items n) (sym is) ∙ free in cc) in
-    rw (← c.self.view_is) (last-reader v w c.link_new-pin.result.0 c.least_free-node.result c.args.driver.0 c.link_new-pin.ensures.rings c.look.ensures.rings c.look-2.ensures.rings c.self.invariant.0.wired ne (count-there v c.least_free-node.result c.self.invariant.0.wired.shape ne) c.link_new-pin.ensures.fresh)
+    rw (← c.self.view_is) (last-reader v w c.link_new-pin.result.0 c.least_free-node.result c.args.driver.0 c.link_new-pin.ensures.rings c.tell_rings.ensures.rings c.tell_rings-2.ensures.rings c.self.invariant.0.wired ne (count-there v c.least_free-node.result c.self.invariant.0.wired.shape ne) c.link_new-pin.ensures.fresh)
 
 pub returns-clause-uses : goal.returns-clause-uses
 returns-clause-uses c =
@@ -111,11 +111,11 @@ returns-clause-held c =
     let least : kinds_live i.kinds.items c.least_free-node.result = rw c.deref.ensures.value at c.least_free-node.ensures.live in
     let within : c.least_free-node.result < length i.kinds.items = free-found i.kinds.items c.least_free-node.result (rw (← c.self.view_is) at c.requires.nodes) least in
     let free : kind_at i.kinds.items c.least_free-node.result ≡ None = (rw c.deref.ensures.value at c.least_free-node.ensures.free) within in
-    let a = makes v w c.least_free-node.result c.args.driver.0 c.link_new-pin.result c.link_new-pin.ensures.rings c.look.ensures.rings c.look-2.ensures.rings c.self.invariant.0.wired free least (wired-set i.kinds.items c.set_kind.new.kinds.items i.pool c.link_new-pin.new.pool _ _ _ c.set_kind.ensures.kinds c.link_new-pin.ensures.rings) c.link_new-pin.ensures.fresh (rw (← c.self.view_is) at c.requires.driver) c.set_kind.ensures.len in
+    let a = makes v w c.least_free-node.result c.args.driver.0 c.link_new-pin.result c.link_new-pin.ensures.rings c.tell_rings.ensures.rings c.tell_rings-2.ensures.rings c.self.invariant.0.wired free least (wired-set i.kinds.items c.set_kind.new.kinds.items i.pool c.link_new-pin.new.pool _ _ _ c.set_kind.ensures.kinds c.link_new-pin.ensures.rings) c.link_new-pin.ensures.fresh (rw (← c.self.view_is) at c.requires.driver) c.set_kind.ensures.len in
     let gw : IsGraph w = record { wired = a.wired; room = omega (arith, c.self.invariant.0.room, c.link_new-pin.ensures.nodes, c.set_kind.ensures.len); few = omega (arith, c.self.invariant.0.few, c.set_kind.ensures.len) } in
     let more = linked-more v.pool w.pool c.link_new-pin.ensures.nodes c.least_free-node.result 1 _ (ap (λ (r : Rings). r.inputs) c.link_new-pin.ensures.rings) (omega (arith, within, c.self.invariant.0.room)) (length-append (list_of v.pool.inputs c.least_free-node.result) (c.link_new-pin.result.0 ∷ [])) in
-    let count = ap (λ (l : List Entry). length (held l)) c.push.ensures.entries in
-    rw (← c.self.view_is) (holds-by v w c.args.undos.now.entries c.push.new.self.entries c.look.ensures.rings c.look-2.ensures.rings c.self.invariant.0 gw (omega (arith, count, more, c.link_new-pin.ensures.taken)))
+    let count = ap (λ (l : List Undo). length (held l)) c.push.ensures.entries in
+    rw (← c.self.view_is) (holds-by v w c.args.undos.now.entries c.push.new.self.entries c.tell_rings.ensures.rings c.tell_rings-2.ensures.rings c.self.invariant.0 gw (omega (arith, count, more, c.link_new-pin.ensures.taken)))
 
 pub returns-clause-together : goal.returns-clause-together
 returns-clause-together c = omega (arith, ap length c.push.ensures.entries, c.push.ensures.spare)

@@ -14,7 +14,7 @@ use Rattle.gate_graph.proofs.HeldPins.{holds-by}
 use Rattle.pin_pool.proofs.Public.{linked-same}
 use Rattle.std.proofs.Common.{List, length}
 use Rattle.gate_graph.specs.Holds.{held}
-use Rattle.gate_graph.specs.declared.entries.Entry.{Entry}
+use Rattle.gate_graph.specs.declared.undo_list.Undo.{Undo}
 use Rattle.std.specs.FinSet as finset
 use Rattle.pin_pool.specs.Rings.{Rings}
 use Rattle.gate_graph.specs.Circuit.{IsGraph}
@@ -31,7 +31,7 @@ invariant_of-self c =
     let i = c.self.inside in
     let v : Circuit = record { kinds = i.kinds.items; pool = i.pool; epoch = i.epoch } in
     let w : Circuit = record { kinds = i.kinds.items; pool = c.redrive_pin-slot.new.pool; epoch = i.epoch } in
-    let a = redrives v w c.args.gate.0 c.args.position c.args.driver.0 c.pin_of-pin.result c.redrive_pin-slot.result refl c.redrive_pin-slot.ensures.rings (rw (← c.self.view_is) at c.pin_of-pin.ensures.rings) c.look.ensures.rings c.self.invariant.0.wired (rw (← c.self.view_is) at c.requires.driver) c.requires.apart (rw (← c.self.view_is) at c.requires.path) (rw (← c.self.view_is) at c.pin_of-pin.ensures.pin) c.redrive_pin-slot.ensures.stood in
+    let a = redrives v w c.args.gate.0 c.args.position c.args.driver.0 c.pin_of-pin.result c.redrive_pin-slot.result refl c.redrive_pin-slot.ensures.rings (rw (← c.self.view_is) at c.pin_of-pin.ensures.rings) c.tell_rings.ensures.rings c.self.invariant.0.wired (rw (← c.self.view_is) at c.requires.driver) c.requires.apart (rw (← c.self.view_is) at c.requires.path) (rw (← c.self.view_is) at c.pin_of-pin.ensures.pin) c.redrive_pin-slot.ensures.stood in
     (record { wired = a.wired; room = omega (arith, c.self.invariant.0.room, c.redrive_pin-slot.ensures.nodes); few = c.self.invariant.0.few }, c.self.invariant.1)
 
 pub returns-clause-net : goal.returns-clause-net
@@ -39,7 +39,7 @@ returns-clause-net c =
     let i = c.self.inside in
     let v : Circuit = record { kinds = i.kinds.items; pool = i.pool; epoch = i.epoch } in
     let w : Circuit = record { kinds = i.kinds.items; pool = c.redrive_pin-slot.new.pool; epoch = i.epoch } in
-    let a = redrives v w c.args.gate.0 c.args.position c.args.driver.0 c.pin_of-pin.result c.redrive_pin-slot.result refl c.redrive_pin-slot.ensures.rings (rw (← c.self.view_is) at c.pin_of-pin.ensures.rings) c.look.ensures.rings c.self.invariant.0.wired (rw (← c.self.view_is) at c.requires.driver) c.requires.apart (rw (← c.self.view_is) at c.requires.path) (rw (← c.self.view_is) at c.pin_of-pin.ensures.pin) c.redrive_pin-slot.ensures.stood in
+    let a = redrives v w c.args.gate.0 c.args.position c.args.driver.0 c.pin_of-pin.result c.redrive_pin-slot.result refl c.redrive_pin-slot.ensures.rings (rw (← c.self.view_is) at c.pin_of-pin.ensures.rings) c.tell_rings.ensures.rings c.self.invariant.0.wired (rw (← c.self.view_is) at c.requires.driver) c.requires.apart (rw (← c.self.view_is) at c.requires.path) (rw (← c.self.view_is) at c.pin_of-pin.ensures.pin) c.redrive_pin-slot.ensures.stood in
     rw (← c.self.view_is) a.net
 
 pub returns-clause-undos : goal.returns-clause-undos
@@ -47,7 +47,7 @@ returns-clause-undos c =
     let i = c.self.inside in
     let v : Circuit = record { kinds = i.kinds.items; pool = i.pool; epoch = i.epoch } in
     let w : Circuit = record { kinds = i.kinds.items; pool = c.redrive_pin-slot.new.pool; epoch = i.epoch } in
-    let a = redrives v w c.args.gate.0 c.args.position c.args.driver.0 c.pin_of-pin.result c.redrive_pin-slot.result refl c.redrive_pin-slot.ensures.rings (rw (← c.self.view_is) at c.pin_of-pin.ensures.rings) c.look.ensures.rings c.self.invariant.0.wired (rw (← c.self.view_is) at c.requires.driver) c.requires.apart (rw (← c.self.view_is) at c.requires.path) (rw (← c.self.view_is) at c.pin_of-pin.ensures.pin) c.redrive_pin-slot.ensures.stood in
+    let a = redrives v w c.args.gate.0 c.args.position c.args.driver.0 c.pin_of-pin.result c.redrive_pin-slot.result refl c.redrive_pin-slot.ensures.rings (rw (← c.self.view_is) at c.pin_of-pin.ensures.rings) c.tell_rings.ensures.rings c.self.invariant.0.wired (rw (← c.self.view_is) at c.requires.driver) c.requires.apart (rw (← c.self.view_is) at c.requires.path) (rw (← c.self.view_is) at c.pin_of-pin.ensures.pin) c.redrive_pin-slot.ensures.stood in
     rw (← c.self.view_is, c.push.ensures.entries) (a.undos c.args.undos.now.entries)
 
 pub returns-clause-readers : goal.returns-clause-readers
@@ -68,12 +68,12 @@ returns-clause-held c =
     let i = c.self.inside in
     let v : Circuit = record { kinds = i.kinds.items; pool = i.pool; epoch = i.epoch } in
     let w : Circuit = record { kinds = i.kinds.items; pool = c.redrive_pin-slot.new.pool; epoch = i.epoch } in
-    let a = redrives v w c.args.gate.0 c.args.position c.args.driver.0 c.pin_of-pin.result c.redrive_pin-slot.result refl c.redrive_pin-slot.ensures.rings (rw (← c.self.view_is) at c.pin_of-pin.ensures.rings) c.look.ensures.rings c.self.invariant.0.wired (rw (← c.self.view_is) at c.requires.driver) c.requires.apart (rw (← c.self.view_is) at c.requires.path) (rw (← c.self.view_is) at c.pin_of-pin.ensures.pin) c.redrive_pin-slot.ensures.stood in
+    let a = redrives v w c.args.gate.0 c.args.position c.args.driver.0 c.pin_of-pin.result c.redrive_pin-slot.result refl c.redrive_pin-slot.ensures.rings (rw (← c.self.view_is) at c.pin_of-pin.ensures.rings) c.tell_rings.ensures.rings c.self.invariant.0.wired (rw (← c.self.view_is) at c.requires.driver) c.requires.apart (rw (← c.self.view_is) at c.requires.path) (rw (← c.self.view_is) at c.pin_of-pin.ensures.pin) c.redrive_pin-slot.ensures.stood in
     let gw : IsGraph w = record { wired = a.wired; room = omega (arith, c.self.invariant.0.room, c.redrive_pin-slot.ensures.nodes); few = c.self.invariant.0.few } in
     let rings = rw (← c.self.view_is) at c.pin_of-pin.ensures.rings in
     let same = linked-same v.pool w.pool c.redrive_pin-slot.ensures.nodes (ap (λ (r : Rings). r.inputs) c.redrive_pin-slot.ensures.rings) in
-    let count = ap (λ (l : List Entry). length (held l)) c.push.ensures.entries in
-    rw (← c.self.view_is) (holds-by v w c.args.undos.now.entries c.push.new.self.entries rings c.look.ensures.rings c.self.invariant.0 gw (omega (arith, count, same, ap finset.len c.redrive_pin-slot.ensures.taken)))
+    let count = ap (λ (l : List Undo). length (held l)) c.push.ensures.entries in
+    rw (← c.self.view_is) (holds-by v w c.args.undos.now.entries c.push.new.self.entries rings c.tell_rings.ensures.rings c.self.invariant.0 gw (omega (arith, count, same, ap finset.len c.redrive_pin-slot.ensures.taken)))
 
 pub returns-clause-together : goal.returns-clause-together
 returns-clause-together c = omega (arith, ap length c.push.ensures.entries, c.push.ensures.spare)

@@ -12,7 +12,7 @@ use Rattle.gate_graph.proofs.HeldPins.{holds-by}
 use Rattle.pin_pool.proofs.Public.{linked-less}
 use Rattle.std.proofs.Common.{List, length}
 use Rattle.gate_graph.specs.Holds.{held}
-use Rattle.gate_graph.specs.declared.entries.Entry.{Entry}
+use Rattle.gate_graph.specs.declared.undo_list.Undo.{Undo}
 use Rattle.std.specs.FinSet as finset
 use Rattle.pin_pool.specs.Rings.{Rings}
 use Rattle.gate_graph.specs.Circuit.{IsGraph}
@@ -24,7 +24,7 @@ invariant_of-self c =
     let i = c.self.inside in
     let v : Circuit = record { kinds = i.kinds.items; pool = i.pool; epoch = i.epoch } in
     let w : Circuit = record { kinds = i.kinds.items; pool = c.unlink_at-slot.new.pool; epoch = i.epoch } in
-    let a = removes v w c.args.gate.0 c.args.position c.pin_of-pin.result c.unlink_at-slot.result refl c.unlink_at-slot.ensures.rings (rw (← c.self.view_is) at c.pin_of-pin.ensures.rings) c.look.ensures.rings c.self.invariant.0.wired (rw (← c.self.view_is) at c.requires.gate) (rw (← c.self.view_is) at c.pin_of-pin.ensures.pin) c.unlink_at-slot.ensures.stood in
+    let a = removes v w c.args.gate.0 c.args.position c.pin_of-pin.result c.unlink_at-slot.result refl c.unlink_at-slot.ensures.rings (rw (← c.self.view_is) at c.pin_of-pin.ensures.rings) c.tell_rings.ensures.rings c.self.invariant.0.wired (rw (← c.self.view_is) at c.requires.gate) (rw (← c.self.view_is) at c.pin_of-pin.ensures.pin) c.unlink_at-slot.ensures.stood in
     (record { wired = a.wired; room = omega (arith, c.self.invariant.0.room, c.unlink_at-slot.ensures.nodes); few = c.self.invariant.0.few }, c.self.invariant.1)
 
 pub returns-clause-net : goal.returns-clause-net
@@ -32,7 +32,7 @@ returns-clause-net c =
     let i = c.self.inside in
     let v : Circuit = record { kinds = i.kinds.items; pool = i.pool; epoch = i.epoch } in
     let w : Circuit = record { kinds = i.kinds.items; pool = c.unlink_at-slot.new.pool; epoch = i.epoch } in
-    let a = removes v w c.args.gate.0 c.args.position c.pin_of-pin.result c.unlink_at-slot.result refl c.unlink_at-slot.ensures.rings (rw (← c.self.view_is) at c.pin_of-pin.ensures.rings) c.look.ensures.rings c.self.invariant.0.wired (rw (← c.self.view_is) at c.requires.gate) (rw (← c.self.view_is) at c.pin_of-pin.ensures.pin) c.unlink_at-slot.ensures.stood in
+    let a = removes v w c.args.gate.0 c.args.position c.pin_of-pin.result c.unlink_at-slot.result refl c.unlink_at-slot.ensures.rings (rw (← c.self.view_is) at c.pin_of-pin.ensures.rings) c.tell_rings.ensures.rings c.self.invariant.0.wired (rw (← c.self.view_is) at c.requires.gate) (rw (← c.self.view_is) at c.pin_of-pin.ensures.pin) c.unlink_at-slot.ensures.stood in
     rw (← c.self.view_is) a.net
 
 pub returns-clause-undos : goal.returns-clause-undos
@@ -40,7 +40,7 @@ returns-clause-undos c =
     let i = c.self.inside in
     let v : Circuit = record { kinds = i.kinds.items; pool = i.pool; epoch = i.epoch } in
     let w : Circuit = record { kinds = i.kinds.items; pool = c.unlink_at-slot.new.pool; epoch = i.epoch } in
-    let a = removes v w c.args.gate.0 c.args.position c.pin_of-pin.result c.unlink_at-slot.result refl c.unlink_at-slot.ensures.rings (rw (← c.self.view_is) at c.pin_of-pin.ensures.rings) c.look.ensures.rings c.self.invariant.0.wired (rw (← c.self.view_is) at c.requires.gate) (rw (← c.self.view_is) at c.pin_of-pin.ensures.pin) c.unlink_at-slot.ensures.stood in
+    let a = removes v w c.args.gate.0 c.args.position c.pin_of-pin.result c.unlink_at-slot.result refl c.unlink_at-slot.ensures.rings (rw (← c.self.view_is) at c.pin_of-pin.ensures.rings) c.tell_rings.ensures.rings c.self.invariant.0.wired (rw (← c.self.view_is) at c.requires.gate) (rw (← c.self.view_is) at c.pin_of-pin.ensures.pin) c.unlink_at-slot.ensures.stood in
     rw (← c.self.view_is, c.push.ensures.entries) (a.undos c.args.undos.now.entries)
 
 pub returns-clause-readers : goal.returns-clause-readers
@@ -51,7 +51,7 @@ returns-clause-readers c =
     let at : Some c.pin_of-pin.result.0 ≡ slice_get (gate_pins v.pool c.args.gate.0) c.args.position = rw (← c.self.view_is) at c.pin_of-pin.ensures.pin in
     let ne = not-zero v c.args.gate.0 c.args.position c.pin_of-pin.result.0 at in
     let there : slice_get (list_of v.pool.inputs c.args.gate.0) c.args.position ≡ Some c.pin_of-pin.result.0 = sym (rw (ne_eqb c.args.gate.0 0 ne) at at) in
-    rw (← c.self.view_is) (reader-goes v w c.pin_of-pin.result.0 c.args.gate.0 c.args.position c.unlink_at-slot.ensures.rings (rw (← c.self.view_is) at c.pin_of-pin.ensures.rings) c.look.ensures.rings c.self.invariant.0.wired ne there)
+    rw (← c.self.view_is) (reader-goes v w c.pin_of-pin.result.0 c.args.gate.0 c.args.position c.unlink_at-slot.ensures.rings (rw (← c.self.view_is) at c.pin_of-pin.ensures.rings) c.tell_rings.ensures.rings c.self.invariant.0.wired ne there)
 
 pub returns-clause-uses : goal.returns-clause-uses
 returns-clause-uses c = rw (← c.self.view_is) (record { pins_left = omega (arith, c.unlink_at-slot.ensures.spare); nodes_left = omega arith; pins_more = omega (arith, ap finset.len c.unlink_at-slot.ensures.taken) })
@@ -61,13 +61,13 @@ returns-clause-held c =
     let i = c.self.inside in
     let v : Circuit = record { kinds = i.kinds.items; pool = i.pool; epoch = i.epoch } in
     let w : Circuit = record { kinds = i.kinds.items; pool = c.unlink_at-slot.new.pool; epoch = i.epoch } in
-    let a = removes v w c.args.gate.0 c.args.position c.pin_of-pin.result c.unlink_at-slot.result refl c.unlink_at-slot.ensures.rings (rw (← c.self.view_is) at c.pin_of-pin.ensures.rings) c.look.ensures.rings c.self.invariant.0.wired (rw (← c.self.view_is) at c.requires.gate) (rw (← c.self.view_is) at c.pin_of-pin.ensures.pin) c.unlink_at-slot.ensures.stood in
+    let a = removes v w c.args.gate.0 c.args.position c.pin_of-pin.result c.unlink_at-slot.result refl c.unlink_at-slot.ensures.rings (rw (← c.self.view_is) at c.pin_of-pin.ensures.rings) c.tell_rings.ensures.rings c.self.invariant.0.wired (rw (← c.self.view_is) at c.requires.gate) (rw (← c.self.view_is) at c.pin_of-pin.ensures.pin) c.unlink_at-slot.ensures.stood in
     let gw : IsGraph w = record { wired = a.wired; room = omega (arith, c.self.invariant.0.room, c.unlink_at-slot.ensures.nodes); few = c.self.invariant.0.few } in
     let rings = rw (← c.self.view_is) at c.pin_of-pin.ensures.rings in
     let linked = rw (← c.self.view_is) at c.pin_of-pin.ensures.linked in
     let less = linked-less v.pool w.pool c.unlink_at-slot.ensures.nodes c.pin_of-pin.result.0 rings (ap (λ (r : Rings). r.inputs) c.unlink_at-slot.ensures.rings) linked.0 in
-    let count = ap (λ (l : List Entry). length (held l)) c.push.ensures.entries in
-    rw (← c.self.view_is) (holds-by v w c.args.undos.now.entries c.push.new.self.entries rings c.look.ensures.rings c.self.invariant.0 gw (omega (arith, count, less, ap finset.len c.unlink_at-slot.ensures.taken)))
+    let count = ap (λ (l : List Undo). length (held l)) c.push.ensures.entries in
+    rw (← c.self.view_is) (holds-by v w c.args.undos.now.entries c.push.new.self.entries rings c.tell_rings.ensures.rings c.self.invariant.0 gw (omega (arith, count, less, ap finset.len c.unlink_at-slot.ensures.taken)))
 
 pub unlink_at-slot-requires : goal.unlink_at-slot-requires
 unlink_at-slot-requires c = rw (← c.self.view_is) at c.pin_of-pin.ensures.pin

@@ -9,7 +9,7 @@ use Rattle.gate_graph.proofs.HeldPins.{holds-by}
 use Rattle.pin_pool.proofs.Public.{linked-same}
 use Rattle.std.proofs.Common.{List, length}
 use Rattle.gate_graph.specs.Holds.{held}
-use Rattle.gate_graph.specs.declared.entries.Entry.{Entry}
+use Rattle.gate_graph.specs.declared.undo_list.Undo.{Undo}
 use Rattle.std.specs.FinSet as finset
 use Rattle.pin_pool.specs.Rings.{Rings}
 use Rattle.gate_graph.specs.Circuit.{IsGraph}
@@ -32,7 +32,7 @@ invariant_of-self c =
     let i = c.self.inside in
     let v : Circuit = record { kinds = i.kinds.items; pool = i.pool; epoch = i.epoch } in
     let w : Circuit = record { kinds = i.kinds.items; pool = c.move_fanouts-splice.new.pool; epoch = i.epoch } in
-    let a = rereads v w c.args.from.0 c.args.to.0 c.move_fanouts-splice.result refl c.move_fanouts-splice.ensures.rings c.look.ensures.rings c.look-2.ensures.rings c.self.invariant.0.wired (rw (← c.self.view_is) at c.requires.from) (rw (← c.self.view_is) at c.requires.to) c.requires.apart (rw (← c.self.view_is) at c.requires.path) c.move_fanouts-splice.ensures.splice in
+    let a = rereads v w c.args.from.0 c.args.to.0 c.move_fanouts-splice.result refl c.move_fanouts-splice.ensures.rings c.tell_rings.ensures.rings c.tell_rings-2.ensures.rings c.self.invariant.0.wired (rw (← c.self.view_is) at c.requires.from) (rw (← c.self.view_is) at c.requires.to) c.requires.apart (rw (← c.self.view_is) at c.requires.path) c.move_fanouts-splice.ensures.splice in
     (record { wired = a.wired; room = omega (arith, c.self.invariant.0.room, c.move_fanouts-splice.ensures.nodes); few = c.self.invariant.0.few }, c.self.invariant.1)
 
 pub returns-clause-net : goal.returns-clause-net
@@ -40,7 +40,7 @@ returns-clause-net c =
     let i = c.self.inside in
     let v : Circuit = record { kinds = i.kinds.items; pool = i.pool; epoch = i.epoch } in
     let w : Circuit = record { kinds = i.kinds.items; pool = c.move_fanouts-splice.new.pool; epoch = i.epoch } in
-    let a = rereads v w c.args.from.0 c.args.to.0 c.move_fanouts-splice.result refl c.move_fanouts-splice.ensures.rings c.look.ensures.rings c.look-2.ensures.rings c.self.invariant.0.wired (rw (← c.self.view_is) at c.requires.from) (rw (← c.self.view_is) at c.requires.to) c.requires.apart (rw (← c.self.view_is) at c.requires.path) c.move_fanouts-splice.ensures.splice in
+    let a = rereads v w c.args.from.0 c.args.to.0 c.move_fanouts-splice.result refl c.move_fanouts-splice.ensures.rings c.tell_rings.ensures.rings c.tell_rings-2.ensures.rings c.self.invariant.0.wired (rw (← c.self.view_is) at c.requires.from) (rw (← c.self.view_is) at c.requires.to) c.requires.apart (rw (← c.self.view_is) at c.requires.path) c.move_fanouts-splice.ensures.splice in
     rw (← c.self.view_is) a.net
 
 pub returns-clause-undos : goal.returns-clause-undos
@@ -48,7 +48,7 @@ returns-clause-undos c =
     let i = c.self.inside in
     let v : Circuit = record { kinds = i.kinds.items; pool = i.pool; epoch = i.epoch } in
     let w : Circuit = record { kinds = i.kinds.items; pool = c.move_fanouts-splice.new.pool; epoch = i.epoch } in
-    let a = rereads v w c.args.from.0 c.args.to.0 c.move_fanouts-splice.result refl c.move_fanouts-splice.ensures.rings c.look.ensures.rings c.look-2.ensures.rings c.self.invariant.0.wired (rw (← c.self.view_is) at c.requires.from) (rw (← c.self.view_is) at c.requires.to) c.requires.apart (rw (← c.self.view_is) at c.requires.path) c.move_fanouts-splice.ensures.splice in
+    let a = rereads v w c.args.from.0 c.args.to.0 c.move_fanouts-splice.result refl c.move_fanouts-splice.ensures.rings c.tell_rings.ensures.rings c.tell_rings-2.ensures.rings c.self.invariant.0.wired (rw (← c.self.view_is) at c.requires.from) (rw (← c.self.view_is) at c.requires.to) c.requires.apart (rw (← c.self.view_is) at c.requires.path) c.move_fanouts-splice.ensures.splice in
     rw (← c.self.view_is, c.push.ensures.entries) (a.undos c.args.undos.now.entries)
 
 pub returns-clause-readers : goal.returns-clause-readers
@@ -67,11 +67,11 @@ returns-clause-held c =
     let i = c.self.inside in
     let v : Circuit = record { kinds = i.kinds.items; pool = i.pool; epoch = i.epoch } in
     let w : Circuit = record { kinds = i.kinds.items; pool = c.move_fanouts-splice.new.pool; epoch = i.epoch } in
-    let a = rereads v w c.args.from.0 c.args.to.0 c.move_fanouts-splice.result refl c.move_fanouts-splice.ensures.rings c.look.ensures.rings c.look-2.ensures.rings c.self.invariant.0.wired (rw (← c.self.view_is) at c.requires.from) (rw (← c.self.view_is) at c.requires.to) c.requires.apart (rw (← c.self.view_is) at c.requires.path) c.move_fanouts-splice.ensures.splice in
+    let a = rereads v w c.args.from.0 c.args.to.0 c.move_fanouts-splice.result refl c.move_fanouts-splice.ensures.rings c.tell_rings.ensures.rings c.tell_rings-2.ensures.rings c.self.invariant.0.wired (rw (← c.self.view_is) at c.requires.from) (rw (← c.self.view_is) at c.requires.to) c.requires.apart (rw (← c.self.view_is) at c.requires.path) c.move_fanouts-splice.ensures.splice in
     let gw : IsGraph w = record { wired = a.wired; room = omega (arith, c.self.invariant.0.room, c.move_fanouts-splice.ensures.nodes); few = c.self.invariant.0.few } in
     let same = linked-same v.pool w.pool c.move_fanouts-splice.ensures.nodes (ap (λ (r : Rings). r.inputs) c.move_fanouts-splice.ensures.rings) in
-    let count = ap (λ (l : List Entry). length (held l)) c.push.ensures.entries in
-    rw (← c.self.view_is) (holds-by v w c.args.undos.now.entries c.push.new.self.entries c.look.ensures.rings c.look-2.ensures.rings c.self.invariant.0 gw (omega (arith, count, same, ap finset.len c.move_fanouts-splice.ensures.taken)))
+    let count = ap (λ (l : List Undo). length (held l)) c.push.ensures.entries in
+    rw (← c.self.view_is) (holds-by v w c.args.undos.now.entries c.push.new.self.entries c.tell_rings.ensures.rings c.tell_rings-2.ensures.rings c.self.invariant.0 gw (omega (arith, count, same, ap finset.len c.move_fanouts-splice.ensures.taken)))
 
 pub returns-clause-together : goal.returns-clause-together
 returns-clause-together c = omega (arith, ap length c.push.ensures.entries, c.push.ensures.spare)

@@ -14,7 +14,7 @@ use Rattle.gate_graph.proofs.Numbers.{bit-some}
 use Rattle.gate_graph.proofs.HeldPins.{holds-by}
 use Rattle.pin_pool.proofs.Public.{has-there, linked-less}
 use Rattle.gate_graph.specs.Holds.{held}
-use Rattle.gate_graph.specs.declared.entries.Entry.{Entry}
+use Rattle.gate_graph.specs.declared.undo_list.Undo.{Undo}
 use Rattle.pin_pool.specs.Rings.{Rings}
 use Rattle.gate_graph.proofs.state.Graph.retire.Goals as goal
 
@@ -85,7 +85,7 @@ loop-pin-smaller c =
     let at = has-there (list_of w.pool.inputs g) 0 c.in-Some.pin.0 (sym c.in-Some.ensures) in
     let some = some-first (list_of w.pool.inputs g) c.in-Some.pin.0 at in
     let u : Circuit = record { kinds = c.loop-pin.self-inside.kinds.items; pool = c.unlink_pin-slot.new.pool; epoch = c.loop-pin.self-inside.epoch } in
-    let step = emptied-step v w u g c.in-Some.pin c.unlink_pin-slot.result c.args.undos.now.entries c.loop-pin.undos.entries graph.wired (gate-not_zero v g graph.wired.shape c.requires.gate) i.emptied refl c.unlink_pin-slot.ensures.rings c.look-in-Some.ensures.rings at c.unlink_pin-slot.ensures.stood in
+    let step = emptied-step v w u g c.in-Some.pin c.unlink_pin-slot.result c.args.undos.now.entries c.loop-pin.undos.entries graph.wired (gate-not_zero v g graph.wired.shape c.requires.gate) i.emptied refl c.unlink_pin-slot.ensures.rings c.tell_rings-in-Some.ensures.rings at c.unlink_pin-slot.ensures.stood in
     omega (arith, step.1)
 
 pub loop-pin-preserved : goal.loop-pin-preserved
@@ -101,11 +101,11 @@ loop-pin-preserved c =
     let at = has-there (list_of w.pool.inputs g) 0 c.in-Some.pin.0 (sym c.in-Some.ensures) in
     let some = some-first (list_of w.pool.inputs g) c.in-Some.pin.0 at in
     let u : Circuit = record { kinds = c.loop-pin.self-inside.kinds.items; pool = c.unlink_pin-slot.new.pool; epoch = c.loop-pin.self-inside.epoch } in
-    let step = emptied-step v w u g c.in-Some.pin c.unlink_pin-slot.result c.args.undos.now.entries c.loop-pin.undos.entries graph.wired (gate-not_zero v g graph.wired.shape c.requires.gate) i.emptied refl c.unlink_pin-slot.ensures.rings c.look-in-Some.ensures.rings at c.unlink_pin-slot.ensures.stood in
+    let step = emptied-step v w u g c.in-Some.pin c.unlink_pin-slot.result c.args.undos.now.entries c.loop-pin.undos.entries graph.wired (gate-not_zero v g graph.wired.shape c.requires.gate) i.emptied refl c.unlink_pin-slot.ensures.rings c.tell_rings-in-Some.ensures.rings at c.unlink_pin-slot.ensures.stood in
     record {
       emptied = rw c.push.ensures.entries step.0;
       entries = omega (arith, step.1, i.entries, c.push.ensures.spare);
-      held_pins = omega (arith, i.held_pins, linked-less w.pool u.pool c.unlink_pin-slot.ensures.nodes c.in-Some.pin.0 i.emptied.rings (ap (λ (r : Rings). r.inputs) c.unlink_pin-slot.ensures.rings) (g, at), ap (λ (l : List Entry). length (held l)) c.push.ensures.entries);
+      held_pins = omega (arith, i.held_pins, linked-less w.pool u.pool c.unlink_pin-slot.ensures.nodes c.in-Some.pin.0 i.emptied.rings (ap (λ (r : Rings). r.inputs) c.unlink_pin-slot.ensures.rings) (g, at), ap (λ (l : List Undo). length (held l)) c.push.ensures.entries);
       nodes = c.unlink_pin-slot.ensures.nodes ∙ i.nodes;
       spare = c.unlink_pin-slot.ensures.spare ∙ i.spare;
       taken = c.unlink_pin-slot.ensures.taken ∙ i.taken;
@@ -182,7 +182,7 @@ invariant_of-self c =
     let inside : g < length w.kinds = omega (arith, within, ap length i.same) in
     let kind : kind_at w.kinds g ≡ c.index.result.now = sym (get_or_read w.kinds g c.index.result.now inside c.index.ensures None) in
     let u : Circuit = record { kinds = c.set_kind.new.kinds.items; pool = w.pool; epoch = w.epoch } in
-    let a = retires v w u g c.in-Some-index.kind c.args.undos.now.entries c.loop-pin.undos.entries (subst (λ (x : Circuit). AreRings (rings_of x.pool)) c.self.view_is c.look.ensures.rings) graph.wired i.emptied none c.requires.gate (kind ∙ c.in-Some-index.is) c.requires.unread (c.set_kind.ensures.kinds w.pool) c.set_kind.ensures.len in (
+    let a = retires v w u g c.in-Some-index.kind c.args.undos.now.entries c.loop-pin.undos.entries (subst (λ (x : Circuit). AreRings (rings_of x.pool)) c.self.view_is c.tell_rings.ensures.rings) graph.wired i.emptied none c.requires.gate (kind ∙ c.in-Some-index.is) c.requires.unread (c.set_kind.ensures.kinds w.pool) c.set_kind.ensures.len in (
       record { wired = a.wired; room = omega (arith, graph.room, ap length i.same, i.nodes, c.set_kind.ensures.len); few = omega (arith, graph.few, ap length i.same, c.set_kind.ensures.len) },
       (live-set w.kinds u.kinds w.pool g _ c.loop-pin.self-inside.least c.min-self-inside.result c.set_kind.ensures.kinds i.live (omega (arith, c.min-self-inside.ensures)) (inl (omega (arith, c.min-self-inside.ensures))), (c.set_kind.ensures.dead, c.set_kind.ensures.free)),
     )
@@ -201,7 +201,7 @@ returns-clause-net c =
     let inside : g < length w.kinds = omega (arith, within, ap length i.same) in
     let kind : kind_at w.kinds g ≡ c.index.result.now = sym (get_or_read w.kinds g c.index.result.now inside c.index.ensures None) in
     let u : Circuit = record { kinds = c.set_kind.new.kinds.items; pool = w.pool; epoch = w.epoch } in
-    let a = retires v w u g c.in-Some-index.kind c.args.undos.now.entries c.loop-pin.undos.entries (subst (λ (x : Circuit). AreRings (rings_of x.pool)) c.self.view_is c.look.ensures.rings) graph.wired i.emptied none c.requires.gate (kind ∙ c.in-Some-index.is) c.requires.unread (c.set_kind.ensures.kinds w.pool) c.set_kind.ensures.len in
+    let a = retires v w u g c.in-Some-index.kind c.args.undos.now.entries c.loop-pin.undos.entries (subst (λ (x : Circuit). AreRings (rings_of x.pool)) c.self.view_is c.tell_rings.ensures.rings) graph.wired i.emptied none c.requires.gate (kind ∙ c.in-Some-index.is) c.requires.unread (c.set_kind.ensures.kinds w.pool) c.set_kind.ensures.len in
     a.net
 
 pub returns-clause-readers : goal.returns-clause-readers
@@ -234,7 +234,7 @@ returns-clause-undos c =
     let inside : g < length w.kinds = omega (arith, within, ap length i.same) in
     let kind : kind_at w.kinds g ≡ c.index.result.now = sym (get_or_read w.kinds g c.index.result.now inside c.index.ensures None) in
     let u : Circuit = record { kinds = c.set_kind.new.kinds.items; pool = w.pool; epoch = w.epoch } in
-    let a = retires v w u g c.in-Some-index.kind c.args.undos.now.entries c.loop-pin.undos.entries (subst (λ (x : Circuit). AreRings (rings_of x.pool)) c.self.view_is c.look.ensures.rings) graph.wired i.emptied none c.requires.gate (kind ∙ c.in-Some-index.is) c.requires.unread (c.set_kind.ensures.kinds w.pool) c.set_kind.ensures.len in
+    let a = retires v w u g c.in-Some-index.kind c.args.undos.now.entries c.loop-pin.undos.entries (subst (λ (x : Circuit). AreRings (rings_of x.pool)) c.self.view_is c.tell_rings.ensures.rings) graph.wired i.emptied none c.requires.gate (kind ∙ c.in-Some-index.is) c.requires.unread (c.set_kind.ensures.kinds w.pool) c.set_kind.ensures.len in
     rw c.push-in-Some-index.ensures.entries a.undos
 
 pub returns-clause-entries : goal.returns-clause-entries
@@ -254,7 +254,7 @@ pub loop-pin-init : goal.loop-pin-init
 loop-pin-init c =
     let o : Circuit = record { kinds = c.self.inside.kinds.items; pool = c.self.inside.pool; epoch = c.self.inside.epoch } in
     rw (← c.self.view_is) (record {
-      emptied = emptied-start o c.args.gate.0 c.args.undos.now.entries c.look.ensures.rings c.self.invariant.0.wired;
+      emptied = emptied-start o c.args.gate.0 c.args.undos.now.entries c.tell_rings.ensures.rings c.self.invariant.0.wired;
       entries = refl;
       held_pins = refl;
       nodes = refl;
@@ -312,10 +312,10 @@ returns-clause-held c =
     let inside : g < length w.kinds = omega (arith, within, ap length i.same) in
     let kind : kind_at w.kinds g ≡ c.index.result.now = sym (get_or_read w.kinds g c.index.result.now inside c.index.ensures None) in
     let u : Circuit = record { kinds = c.set_kind.new.kinds.items; pool = w.pool; epoch = w.epoch } in
-    let a = retires v w u g c.in-Some-index.kind c.args.undos.now.entries c.loop-pin.undos.entries (subst (λ (x : Circuit). AreRings (rings_of x.pool)) c.self.view_is c.look.ensures.rings) graph.wired i.emptied none c.requires.gate (kind ∙ c.in-Some-index.is) c.requires.unread (c.set_kind.ensures.kinds w.pool) c.set_kind.ensures.len in
+    let a = retires v w u g c.in-Some-index.kind c.args.undos.now.entries c.loop-pin.undos.entries (subst (λ (x : Circuit). AreRings (rings_of x.pool)) c.self.view_is c.tell_rings.ensures.rings) graph.wired i.emptied none c.requires.gate (kind ∙ c.in-Some-index.is) c.requires.unread (c.set_kind.ensures.kinds w.pool) c.set_kind.ensures.len in
     let gu : IsGraph u = record { wired = a.wired; room = omega (arith, graph.room, ap length i.same, i.nodes, c.set_kind.ensures.len); few = omega (arith, graph.few, ap length i.same, c.set_kind.ensures.len) } in
-    let count = ap (λ (l : List Entry). length (held l)) c.push-in-Some-index.ensures.entries in
-    holds-by v u c.args.undos.now.entries c.push-in-Some-index.new.self.entries (subst (λ (x : Circuit). AreRings (rings_of x.pool)) c.self.view_is c.look.ensures.rings) i.emptied.rings graph gu (omega (arith, count, i.held_pins, ap finset.len i.taken))
+    let count = ap (λ (l : List Undo). length (held l)) c.push-in-Some-index.ensures.entries in
+    holds-by v u c.args.undos.now.entries c.push-in-Some-index.new.self.entries (subst (λ (x : Circuit). AreRings (rings_of x.pool)) c.self.view_is c.tell_rings.ensures.rings) i.emptied.rings graph gu (omega (arith, count, i.held_pins, ap finset.len i.taken))
 
 pub returns-clause-together : goal.returns-clause-together
 returns-clause-together c = omega (arith, ap length c.push-in-Some-index.ensures.entries, c.push-in-Some-index.ensures.spare, c.loop-pin.invariant.together)

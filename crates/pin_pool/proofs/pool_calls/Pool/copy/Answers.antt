@@ -12,4 +12,4 @@ pub invariant_of-result : goal.invariant_of-result
 invariant_of-result c = (paired-same c.self.inside.store c.in_ok-store.store c.self.invariant.0 c.in_ok-store.ensures.inputs c.in_ok-store.ensures.fanouts, (tt, subst (λ (xs : List ℕ). IsCounted c.in_ok-store.store xs c.self.inside.linked) (sym (c.in_ok-counts.ensures.items ∙ c.deref.ensures.value)) (inputs-same c.self.inside.store c.in_ok-store.store _ _ c.in_ok-store.ensures.inputs c.self.invariant.1.1)))
 
 pub returns-clause-valid : goal.returns-clause-valid
-returns-clause-valid c = valid-of c.in_ok-store.store c.look.ensures (paired-same c.self.inside.store c.in_ok-store.store c.self.invariant.0 c.in_ok-store.ensures.inputs c.in_ok-store.ensures.fanouts)
+returns-clause-valid c = valid-of c.in_ok-store.store c.tell_kept.ensures (paired-same c.self.inside.store c.in_ok-store.store c.self.invariant.0 c.in_ok-store.ensures.inputs c.in_ok-store.ensures.fanouts)

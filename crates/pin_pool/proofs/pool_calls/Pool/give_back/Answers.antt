@@ -12,7 +12,7 @@ pub returns-clause-rings : goal.returns-clause-rings
 returns-clause-rings c = rw (← c.self.view_is) (rings-returned c.self.inside.store c.give_back.new.self c.args.pin.0 c.give_back.ensures)
 
 pub returns-clause-valid : goal.returns-clause-valid
-returns-clause-valid c = valid-of c.give_back.new.self c.look-2.ensures (paired-same c.self.inside.store c.give_back.new.self c.self.invariant.0 (ap (λ (x : Pins). x.inputs) c.give_back.ensures) (ap (λ (x : Pins). x.fanouts) c.give_back.ensures))
+returns-clause-valid c = valid-of c.give_back.new.self c.tell_kept-2.ensures (paired-same c.self.inside.store c.give_back.new.self c.self.invariant.0 (ap (λ (x : Pins). x.inputs) c.give_back.ensures) (ap (λ (x : Pins). x.fanouts) c.give_back.ensures))
 
 pub invariant_of-self : goal.invariant_of-self
 invariant_of-self c = (paired-same c.self.inside.store c.give_back.new.self c.self.invariant.0 (ap (λ (x : Pins). x.inputs) c.give_back.ensures) (ap (λ (x : Pins). x.fanouts) c.give_back.ensures), (tt, inputs-same c.self.inside.store c.give_back.new.self _ _ (ap (λ (x : Pins). x.inputs) c.give_back.ensures) c.self.invariant.1.1))

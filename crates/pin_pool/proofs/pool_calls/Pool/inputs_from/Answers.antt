@@ -2,7 +2,7 @@ use Rattle.pin_pool.proofs.RingsOf.{valid-of}
 use Rattle.pin_pool.proofs.pool_calls.Pool.inputs_from.Goals as goal
 
 pub returns-then-finger-position-clause-valid : goal.returns-then-finger-position-clause-valid
-returns-then-finger-position-clause-valid c = rw (← c.self.view_is) (valid-of _ c.look.ensures c.self.invariant.0)
+returns-then-finger-position-clause-valid c = rw (← c.self.view_is) (valid-of _ c.tell_kept.ensures c.self.invariant.0)
 
 pub returns-clause-valid : goal.returns-clause-valid
-returns-clause-valid c = rw (← c.self.view_is) (valid-of _ c.look.ensures c.self.invariant.0)
+returns-clause-valid c = rw (← c.self.view_is) (valid-of _ c.tell_kept.ensures c.self.invariant.0)

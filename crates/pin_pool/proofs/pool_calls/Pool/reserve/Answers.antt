@@ -10,7 +10,7 @@ pub invariant_of-self : goal.invariant_of-self
 invariant_of-self c = (c.self.invariant.0, (tt, counted-wider c.self.inside.store c.self.inside.store c.self.inside.counts.items c.widen.new.counts.items c.self.inside.linked refl (omega arith) (let room = c.self.invariant.1.1.room in let more = c.widen.ensures.more in omega (arith, room, more)) c.widen.ensures.same c.self.invariant.1.1))
 
 pub returns-in_err-widen-clause-valid : goal.returns-in_err-widen-clause-valid
-returns-in_err-widen-clause-valid c = valid-of c.self.inside.store c.look.ensures c.self.invariant.0
+returns-in_err-widen-clause-valid c = valid-of c.self.inside.store c.tell_kept.ensures c.self.invariant.0
 
 pub invariant_of-self-2 : goal.invariant_of-self-2
 invariant_of-self-2 c =
@@ -28,7 +28,7 @@ pub returns-clause-rings : goal.returns-clause-rings
 returns-clause-rings c = rw (← c.self.view_is) (on-both c.reserve-done.result _ _ _ (rings-grown c.self.inside.store c.reserve-done.new.self) (λ (e : c.reserve-done.new.self ≡ c.self.inside.store). ap rings_of e) c.reserve-done.ensures.grown c.reserve-done.ensures.refused)
 
 pub returns-clause-valid : goal.returns-clause-valid
-returns-clause-valid c = valid-of c.reserve-done.new.self c.look-2.ensures (paired-by c.reserve-done.new.self (rings_of c.self.inside.store) (on-both c.reserve-done.result _ _ _ (rings-grown c.self.inside.store c.reserve-done.new.self) (λ (e : c.reserve-done.new.self ≡ c.self.inside.store). ap rings_of e) c.reserve-done.ensures.grown c.reserve-done.ensures.refused) c.self.invariant.0)
+returns-clause-valid c = valid-of c.reserve-done.new.self c.tell_kept-2.ensures (paired-by c.reserve-done.new.self (rings_of c.self.inside.store) (on-both c.reserve-done.result _ _ _ (rings-grown c.self.inside.store c.reserve-done.new.self) (λ (e : c.reserve-done.new.self ≡ c.self.inside.store). ap rings_of e) c.reserve-done.ensures.grown c.reserve-done.ensures.refused) c.self.invariant.0)
 
 pub returns-clause-relinks : goal.returns-clause-relinks
 returns-clause-relinks c = rw (← c.self.view_is) (can-relink-more c.self.inside.store c.reserve-done.new.self (on-both c.reserve-done.result _ _ _ (rings-grown c.self.inside.store c.reserve-done.new.self) (λ (e : c.reserve-done.new.self ≡ c.self.inside.store). ap rings_of e) c.reserve-done.ensures.grown c.reserve-done.ensures.refused) (on-both c.reserve-done.result _ _ _ (more-grown c.self.inside.store c.reserve-done.new.self) (more-same c.self.inside.store c.reserve-done.new.self) c.reserve-done.ensures.grown c.reserve-done.ensures.refused))
