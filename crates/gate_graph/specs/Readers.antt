@@ -1,16 +1,11 @@
 -- The lists of readers, and how they change.
-use Rattle.std.specs.Prelude.{◌≡◌, ◌≢◌, ℕ, suc, ◌-◌, ◌==◌, ◌&&◌, nat_lt, Bool, List, [], ◌∷◌, ◌++◌, length, map, Some, slice_get, if◌then◌else◌}
+use Rattle.std.specs.Prelude.{◌≡◌, ◌≢◌, ℕ, ◌-◌, ◌==◌, ◌&&◌, nat_lt, Bool, List, [], ◌∷◌, ◌++◌, length, map, Some, slice_get, if◌then◌else◌}
 use Rattle.gate_net.specs.Net.{drivers_of, Reads}
 use Rattle.gate_graph.specs.Circuit.{Circuit, net_of, fanouts_of}
 use Rattle.gate_graph.specs.Spots.{places_from, without_gate}
 
 abbrev pub is_place : ℕ × ℕ → ℕ × ℕ → Bool
 is_place place other = (other.0 == place.0) && (other.1 == place.1)
-
--- how often the place is in the list
-abbrev pub count_place : ℕ × ℕ → List (ℕ × ℕ) → ℕ
-count_place place [] = 0
-count_place place (x ∷ xs) = if is_place place x then suc (count_place place xs) else count_place place xs
 
 -- each node's list has every pin that reads the node, once, and nothing else
 pub record ListReaders (v : Circuit) : Type 0 where

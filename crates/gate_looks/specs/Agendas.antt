@@ -1,5 +1,5 @@
 -- Node numbers that are to be looked at, each at most once.
-use Rattle.std.specs.Prelude.{Bool, List, None, Option, Some, [], false, if◌then◌else◌, length, slice_get, slice_index, slice_set, suc, true, ℕ, ◌+◌, ◌<◌, ◌∷◌, ◌≡◌}
+use Rattle.std.specs.Prelude.{Bool, List, None, Option, Some, [], false, if◌then◌else◌, length, slice_get, slice_index, slice_set, suc, ℕ, ◌+◌, ◌<◌, ◌∷◌, ◌≡◌}
 use Rattle.gate_graph.specs.Search.{IsSeen, unseen}
 use Rattle.rm_base.specs.declared.numbers.NodeId.{NodeId}
 
@@ -20,10 +20,6 @@ pub record IsAgenda (marks : List Bool) (queue : List ℕ) (count : ℕ) : Type 
 abbrev pub IsTaken : List Bool → List Bool → Option NodeId → Type 0
 IsTaken old new None = (new ≡ old) × ((z : ℕ) → IsSeen old z → ⊥)
 IsTaken old new (Some d) = IsSeen old d.0 × (new ≡ slice_set old d.0 false)
-
--- the number is on it too
-abbrev pub is_on_too : List Bool → ℕ → List Bool
-is_on_too marks x = slice_set marks x true
 
 -- the list has exactly the marked numbers, each once
 pub record ListsMarked (marks : List Bool) (numbers : List ℕ) : Type 0 where

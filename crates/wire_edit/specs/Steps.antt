@@ -69,8 +69,3 @@ change_of net (Dead gate) = retire gate.0
 -- the net to which a step leads
 abbrev pub stepped : Net → Step → Net
 stepped net step = changed net (change_of net step)
-
-abbrev pub IsLocal : Step → Type 0
-IsLocal (Add gate node) = ⊥
-IsLocal (Fix gate position value) = ⊥
-IsLocal _ = Unit {0}

@@ -64,10 +64,6 @@ parts None (w ∷ ws) =
     then option_parts (after_hyphens w) (parts None ws) (λ key. parts (Some key) ws)
     else first_then (name w) (parts None ws)
 
-abbrev pub name_of : Part → List Word
-name_of (name w) = w ∷ []
-name_of (setting key v) = []
-
 unfoldable pub names : List Part → List Word
 names [] = []
 names (name w ∷ ps) = w ∷ names ps
