@@ -13,7 +13,8 @@ use Rattle.rm_model.specs.declared.parts.Timing.{Timing}
 use Rattle.rm_model.specs.declared.parts.Latch.{Latch}
 use Rattle.rm_model.specs.declared.parts.Cover.{Cover}
 use Rattle.rm_model.specs.declared.parts.Model.{Model}
-use Rattle.blif_format.specs.Text.{Line, control_word, timing_words, init_words, latch_words, on_word, row_words, cover_words, timing_control, IsControlName}
+use Rattle.blif_format.specs.Text.{Line, control_word, timing_words, init_words, latch_words, on_word, row_words, cover_words}
+use Rattle.blif_format.specs.Inner.Text.{timing_control, IsControlName}
 use Rattle.blif_format.specs.Laws.{ReadsOnce}
 use Rattle.rm_base.specs.Words.{Word}
 

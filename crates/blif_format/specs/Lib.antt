@@ -5,3 +5,4 @@ pub mod Unsupported
 pub mod FirstFault
 pub mod Rows
 pub mod Laws
+pub mod Inner

@@ -1,5 +1,5 @@
 -- The written text of a model.
-use Rattle.std.specs.Prelude.{ℕ, ◌+◌, Bool, List, [], ◌∷◌, ◌++◌, map, codes, if◌then◌else◌, Option, None, Some, IfSome, ◌≢◌}
+use Rattle.std.specs.Prelude.{ℕ, ◌+◌, Bool, List, [], ◌∷◌, ◌++◌, map, codes, if◌then◌else◌, Option, None, Some}
 use Rattle.std.specs.List.{flat_map}
 use Rattle.rm_model.specs.Words.{literal_byte, kind_word}
 use Rattle.rm_model.specs.declared.parts.Literal.{Literal}
@@ -16,15 +16,6 @@ Line = List Word
 abbrev pub control_word : Option Word → Word
 control_word None = codes "NIL"
 control_word (Some x) = x
-
--- a control isn't spelled `NIL`, which stands for none
-abbrev pub IsControlName : Option Word → Type 0
-IsControlName o = IfSome o (λ x. x ≢ codes "NIL")
-
--- the control of a timing, if both are there
-abbrev pub timing_control : Option Timing → Option Word
-timing_control None = None
-timing_control (Some t) = t.control
 
 abbrev pub timing_words : Option Timing → List Word
 timing_words None = []

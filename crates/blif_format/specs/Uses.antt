@@ -1,6 +1,6 @@
 -- What each word of a command has to be, and the names that a text uses.
-use Rattle.std.specs.Prelude.{◌+◌, ℕ, Bool, true, false, ◌&&◌, ◌||◌, List, [], ◌∷◌, ◌++◌, map, filter, length, Option, None, Some, codes, if◌then◌else◌}
-use Rattle.std.specs.List.{list_any, filter_map, flat_map}
+use Rattle.std.specs.Prelude.{◌+◌, ℕ, Bool, true, false, ◌&&◌, List, [], ◌∷◌, map, filter, Option, None, Some, codes, if◌then◌else◌}
+use Rattle.std.specs.List.{list_any, filter_map}
 use Rattle.rm_base.specs.declared.numbers.Place.{Place}
 use Rattle.rm_model.specs.Words.{is_word}
 use Rattle.rm_model.specs.Value.{is_among}
@@ -121,16 +121,3 @@ names_in test uses = map (λ (u : Use). u.name) (filter (λ (u : Use). test u.ro
 abbrev pub distinct_count : List Word → ℕ
 distinct_count [] = 0
 distinct_count (x ∷ xs) = if is_among xs x then distinct_count xs else 1 + distinct_count xs
-
--- a name of these roles is an input, a clock, an output
-abbrev pub is_input : Role → Bool
-is_input Input = true
-is_input role = false
-
-abbrev pub is_clock : Role → Bool
-is_clock ClockInput = true
-is_clock role = false
-
-abbrev pub is_output : Role → Bool
-is_output Output = true
-is_output role = false

@@ -4,7 +4,7 @@ use Rattle.std.specs.Prelude.{◌==◌, nat_lt, ◌⊎◌}
 use Rattle.std.proofs.lemmas.Bool.Decides.{eqb_tells}
 use Rattle.std.proofs.lemmas.Bool.{ltb-true, ltb-false, le-ltb}
 use Rattle.std.proofs.Math.Bool.{and-true, or-false, or-true}
-use Rattle.blif_lines.specs.Cuts.{is_blank_byte, is_control_byte, is_inner}
+use Rattle.blif_lines.specs.Inner.Cuts.{is_blank_byte, is_control_byte, is_inner}
 use Rattle.rm_base.proofs.Public.{and_first, and_second, false_from_not}
 use Rattle.rm_base.specs.Words.{is_word_byte}
 

@@ -4,7 +4,7 @@ use Rattle.std.specs.Prelude.{◌==◌, if◌then◌else◌}
 use Rattle.std.specs.List.{list_all}
 use Rattle.std.proofs.Math.Bool.{and-false, and-true}
 use Rattle.blif_lines.specs.Layout.{Mark, Spot, Flaw, BadByteAt, is_blank, is_control, joint, before_joint, runs, spots, tokens_in, ends_token, first_bad}
-use Rattle.blif_lines.specs.Cuts.{is_control_byte, kept, kept_at, cut_of, with_spot}
+use Rattle.blif_lines.specs.Inner.Cuts.{is_control_byte, kept, kept_at, cut_of, with_spot}
 use Rattle.blif_lines.proofs.Bytes.{blank_no_slash, control_is, control_no_blank, control_no_slash, word_no_control, word_not_blank}
 use Rattle.rm_base.specs.Words.{is_word_byte}
 

@@ -1,4 +1,3 @@
 pub mod Layout
 pub mod Reading
-pub mod Cuts
-pub mod Views
+pub mod Inner

@@ -1,7 +1,7 @@
 // The reader of logical lines.
 ghost use Rattle.std.specs.Prelude.{◌≡◌, ◌≢◌, ◌≤◌, ◌<◌, ◌+◌, ◌^◌, [], ◌∷◌, ◌++◌, IfOk, IfErr, OnErr, OnOk, length, drop, map, min, All, None, Some, IfSome};
 ghost use Rattle.blif_lines.specs.Layout.{Logical, layout, layout_from};
-ghost use Rattle.blif_lines.specs.Cuts.{place_at, line_start, line_end_of, spots_between};
+ghost use Rattle.blif_lines.specs.Inner.Cuts.{place_at, line_start, line_end_of, spots_between};
 ghost use Rattle.blif_lines.specs.Reading.{spot_of, IsWithin, Gives, GivesLine, IsFault, pending};
 
 use crate::line::{LineFault, LogicalLine, Token};
@@ -164,7 +164,7 @@ impl<'a> Model for LineReader<'a> {
 
     ghost Value = { Reading };
 
-    ghost use Rattle.blif_lines.specs.Views.{reading, IsReading};
+    ghost use Rattle.blif_lines.specs.Inner.Views.{reading, IsReading};
 
     ghost view = { reading };
 

@@ -1,6 +1,6 @@
 // Pieces of a line, from the front: blanks, tokens, bad bytes, joins and the end of the line.
 ghost use Rattle.std.specs.Prelude.{◌≡◌, ◌+◌, ◌≤◌, ◌<◌, length, drop, slice_index, true};
-ghost use Rattle.blif_lines.specs.Cuts.{front, begins, is_closed, is_blank_byte, is_control_byte, is_inner, line_end_of, Tells};
+ghost use Rattle.blif_lines.specs.Inner.Cuts.{front, begins, is_closed, is_blank_byte, is_control_byte, is_inner, line_end_of, Tells};
 ghost use Rattle.rm_base.specs.Words.{is_word_byte};
 
 /// What stands next in a line.

@@ -8,7 +8,8 @@ use Rattle.std.proofs.Math.Bool.{or-false, or_assoc}
 use Rattle.rm_model.specs.Words.{is_word}
 use Rattle.rm_model.specs.WellFormed.{is_distinct}
 use Rattle.blif_lines.specs.Layout.{Logical}
-use Rattle.blif_format.specs.Uses.{Use, is_source_role, is_observed_role, drives_twice, lists_twice, stands_in, names_in, distinct_count, is_clock, is_input, is_output}
+use Rattle.blif_format.specs.Uses.{Use, is_source_role, is_observed_role, drives_twice, lists_twice, stands_in, names_in, distinct_count}
+use Rattle.blif_format.specs.Inner.Uses.{is_clock, is_input, is_output}
 use Rattle.blif_format.specs.declared.words.Role.{Role}
 use Rattle.blif_format.specs.declared.words.Role.TheVariants.{Input, ClockInput, Output, CoverInput, CoverOutput, LatchInput, LatchOutput, Control}
 use Rattle.blif_format.specs.FirstFault.{or_else, fault_if, limit_if, name_limit, is_cover_input, is_over, use_fault, Said, said_by, lines_fault}
@@ -16,7 +17,7 @@ use Rattle.blif_format.specs.declared.refusal.FaultKind.TheVariants.{DoubleDrive
 use Rattle.blif_format.specs.declared.refusal.Quantity.{Quantity}
 use Rattle.blif_format.specs.declared.refusal.Quantity.TheVariants.{Name as NameLength, Inputs, Sources, Observed, Signals}
 use Rattle.blif_format.specs.declared.refusal.ReadRefusal.{ReadRefusal}
-use Rattle.blif_reader.specs.Tally.{plays, is_latch, is_cover}
+use Rattle.blif_reader.specs.Inner.Tally.{plays, is_latch, is_cover}
 use Rattle.blif_reader.proofs.Free.{distinct_add}
 use Rattle.blif_reader.proofs.Plays.{names_among, names_more}
 use Rattle.blif_reader.proofs.UseWalk.{walked_lines}

@@ -16,7 +16,8 @@ use Rattle.rm_model.specs.declared.parts.Model.{Model}
 use Rattle.blif_lines.specs.Layout.{Logical, words_in, has_words}
 use Rattle.blif_format.specs.Text.{Line, latch_words, cover_words}
 use Rattle.blif_format.specs.Grammar.{begins_with, words_after, words_of, names_lines}
-use Rattle.blif_format.specs.Uses.{Use, is_driver, wants_driver, names_in, is_clock, is_input, is_output}
+use Rattle.blif_format.specs.Uses.{Use, is_driver, wants_driver, names_in}
+use Rattle.blif_format.specs.Inner.Uses.{is_clock, is_input, is_output}
 use Rattle.blif_format.specs.declared.words.Command.{Command}
 use Rattle.blif_format.specs.declared.words.Command.TheVariants.{Inputs, Outputs, Clock, Names, Latch as LatchLine}
 use Rattle.blif_format.specs.declared.words.Role.{Role}
@@ -24,8 +25,8 @@ use Rattle.blif_format.specs.declared.words.Role.TheVariants.{Input, ClockInput,
 use Rattle.blif_format.specs.FirstFault.{is_cover_input, is_undriven, undriven_fault, fault}
 use Rattle.blif_format.specs.declared.refusal.FaultKind.TheVariants.{Undriven}
 use Rattle.blif_format.specs.declared.refusal.ReadRefusal.{ReadRefusal}
-use Rattle.blif_reader.specs.Tally.{plays, is_latch, is_cover}
-use Rattle.blif_reader.specs.Drafts.{IsFitLatch}
+use Rattle.blif_reader.specs.Inner.Tally.{plays, is_latch, is_cover}
+use Rattle.blif_reader.specs.Inner.Drafts.{IsFitLatch}
 use Rattle.blif_reader.proofs.Compared.{word_tells}
 use Rattle.blif_reader.proofs.Plays.{names_among, plays_driver}
 use Rattle.blif_reader.proofs.LineLaws.{word_for}

@@ -16,7 +16,7 @@ use Rattle.blif_format.specs.declared.refusal.FaultKind.TheVariants.{Undriven}
 use Rattle.blif_format.specs.declared.refusal.ReadRefusal.TheVariants.{Fault}
 use Rattle.blif_reader.specs.declared.names.Flags.{Flags}
 use Rattle.blif_reader.specs.declared.names.NameUse.{NameUse}
-use Rattle.blif_reader.specs.Tally.{Tally, entry_of, flags_at, flags_or_none, has_driver, free_of, first_free, plays, flags_in, with_first, first_of, IsTally}
+use Rattle.blif_reader.specs.Inner.Tally.{Tally, entry_of, flags_at, flags_or_none, has_driver, free_of, first_free, plays, flags_in, with_first, first_of, IsTally}
 use Rattle.blif_reader.proofs.Compared.{word_tells, word_turned, among_more}
 use Rattle.blif_reader.proofs.Plays.{plays_driver, names_among}
 use Rattle.rm_base.proofs.Public.{and_second, neither_first, neither_second}

@@ -3,7 +3,7 @@ use Rattle.std.proofs.Common.{◌≡◌, List, [], ◌∷◌, ◌++◌, map, fil
 use Rattle.std.specs.Prelude.{if◌then◌else◌, codes}
 use Rattle.blif_format.specs.Text.{Line}
 use Rattle.blif_format.specs.Grammar.{before, begins_with, is_dotted, words_after, words_of, names_lines, is_command, follow}
-use Rattle.blif_reader.specs.Drafts.{is_open, add_row}
+use Rattle.blif_reader.specs.Inner.Drafts.{is_open, add_row}
 use Rattle.blif_reader.proofs.Compared.{word_tells}
 use Rattle.rm_base.proofs.Public.{neither_first, neither_second}
 use Rattle.rm_base.specs.Words.{Word}

@@ -23,9 +23,9 @@ use Rattle.blif_format.specs.declared.refusal.ReadRefusal.{ReadRefusal}
 use Rattle.blif_format.specs.declared.refusal.ReadRefusal.TheVariants.{Fault, Limit, NoMemory}
 use Rattle.rm_model.specs.Size.{covers_weight}
 use Rattle.blif_reader.specs.Meant.{IsRefusal}
-use Rattle.blif_reader.specs.Drafts.{all_covers, Begins, Ends, IsDraft, model_in}
-use Rattle.blif_reader.specs.Progress.{bare_cover, IsRead}
-use Rattle.blif_reader.specs.Ranked.{fault_at, rank_found}
+use Rattle.blif_reader.specs.Inner.Drafts.{all_covers, Begins, Ends, IsDraft, model_in}
+use Rattle.blif_reader.specs.Inner.Progress.{bare_cover, IsRead}
+use Rattle.blif_reader.specs.Inner.Ranked.{fault_at, rank_found}
 use Rattle.blif_reader.specs.declared.check.Checker.{Checker}
 use Rattle.blif_reader.specs.declared.draft.Draft.{Draft}
 use Rattle.blif_reader.proofs.RowLaws.{first_none, second_none}

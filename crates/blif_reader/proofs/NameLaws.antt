@@ -8,14 +8,15 @@ use Rattle.rm_model.specs.Words.{is_word}
 use Rattle.blif_lines.specs.Layout.{Spot, Logical, words_in, has_words}
 use Rattle.blif_format.specs.Text.{Line}
 use Rattle.blif_format.specs.Grammar.{begins_with, words_after}
-use Rattle.blif_format.specs.Uses.{command_of, all_are, in_parts, names_parts, parts_of, Use, use_of, uses_of, names_in, is_clock, is_input, is_output}
+use Rattle.blif_format.specs.Uses.{command_of, all_are, in_parts, names_parts, parts_of, Use, use_of, uses_of, names_in}
+use Rattle.blif_format.specs.Inner.Uses.{is_clock, is_input, is_output}
 use Rattle.blif_format.specs.declared.words.Command.{Command}
 use Rattle.blif_format.specs.declared.words.Command.TheVariants.{Model, Inputs, Outputs, Clock, Names, Latch, End}
 use Rattle.blif_format.specs.declared.words.Role.{Role}
 use Rattle.blif_format.specs.declared.words.Role.TheVariants.{Input, ClockInput, Output, CoverInput, CoverOutput, LatchInput, LatchOutput, Control}
 use Rattle.blif_format.specs.declared.words.Part.TheVariants.{Name, Init, Extra}
 use Rattle.blif_format.specs.FirstFault.{Said, after_line, said_by, is_cover_input}
-use Rattle.blif_reader.specs.Tally.{is_latch, is_cover}
+use Rattle.blif_reader.specs.Inner.Tally.{is_latch, is_cover}
 use Rattle.blif_reader.proofs.Compared.{word_tells}
 use Rattle.blif_reader.proofs.LineLaws.{word_for, command_word}
 use Rattle.rm_base.specs.Words.{Word}

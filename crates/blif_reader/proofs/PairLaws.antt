@@ -7,7 +7,7 @@ use Rattle.rm_model.specs.Words.{is_word}
 use Rattle.rm_model.specs.Value.{is_among}
 use Rattle.rm_model.specs.Numbers.{place_of}
 use Rattle.blif_reader.specs.declared.names.NameUse.{NameUse}
-use Rattle.blif_reader.specs.Tally.{entry_of, put_entry}
+use Rattle.blif_reader.specs.Inner.Tally.{entry_of, put_entry}
 use Rattle.rm_base.specs.Words.{Word}
 
 less : (j k : ℕ) → suc j ≡ suc k → j ≡ k

@@ -7,7 +7,8 @@ use Rattle.rm_model.specs.Value.{control_of}
 use Rattle.rm_model.specs.declared.parts.Timing.{Timing}
 use Rattle.rm_model.specs.declared.parts.Cover.{Cover}
 use Rattle.rm_model.specs.declared.parts.Latch.{Latch as LatchPart}
-use Rattle.blif_format.specs.Text.{Line, control_word, timing_words, init_words, latch_words, cover_words, IsControlName}
+use Rattle.blif_format.specs.Text.{Line, control_word, timing_words, init_words, latch_words, cover_words}
+use Rattle.blif_format.specs.Inner.Text.{IsControlName}
 use Rattle.blif_format.specs.Grammar.{begins_with, words_after, words_of, names_lines}
 use Rattle.blif_format.specs.declared.words.Role.{Role}
 use Rattle.blif_format.specs.declared.words.Role.TheVariants.{CoverInput, CoverOutput, LatchInput, LatchOutput, Control}

@@ -20,10 +20,10 @@ use Rattle.blif_format.specs.FirstFault.{Said, OpenCover as SaidCover, nothing_s
 use Rattle.blif_format.specs.declared.refusal.FaultKind.TheVariants.{NoModel}
 use Rattle.blif_format.specs.declared.refusal.ReadRefusal.{ReadRefusal}
 use Rattle.blif_format.specs.declared.refusal.ReadRefusal.TheVariants.{Fault, Limit, NoMemory}
-use Rattle.blif_reader.specs.Lines.{words_at}
-use Rattle.blif_reader.specs.Said.{IsSaid}
-use Rattle.blif_reader.specs.Drafts.{IsDraft, IsKnown, Changes, CurrentIs, AddsRow}
-use Rattle.blif_reader.specs.Progress.{bare_cover, Progress, IsRead, places_with}
+use Rattle.blif_reader.specs.Inner.Lines.{words_at}
+use Rattle.blif_reader.specs.Inner.Said.{IsSaid}
+use Rattle.blif_reader.specs.Inner.Drafts.{IsDraft, IsKnown, Changes, CurrentIs, AddsRow}
+use Rattle.blif_reader.specs.Inner.Progress.{bare_cover, Progress, IsRead, places_with}
 use Rattle.blif_reader.specs.Meant.{IsRefusal}
 use Rattle.blif_reader.specs.declared.check.Checker.{Checker}
 use Rattle.blif_reader.specs.declared.draft.Draft.{Draft}

@@ -11,7 +11,8 @@ use Rattle.std.proofs.Math.Bool.{and-false, or-false, or-true, or_assoc}
 use Rattle.rm_base.specs.declared.numbers.Place.{Place}
 use Rattle.rm_model.specs.Words.{is_word}
 use Rattle.rm_model.specs.Value.{is_among}
-use Rattle.blif_format.specs.Uses.{Use, is_source_role, is_observed_role, drives_twice, names_in, distinct_count, is_clock, is_input, is_output}
+use Rattle.blif_format.specs.Uses.{Use, is_source_role, is_observed_role, drives_twice, names_in, distinct_count}
+use Rattle.blif_format.specs.Inner.Uses.{is_clock, is_input, is_output}
 use Rattle.blif_format.specs.declared.words.Role.{Role}
 use Rattle.blif_format.specs.declared.words.Role.TheVariants.{Input, ClockInput, Output, CoverInput, CoverOutput, LatchInput, LatchOutput, Control}
 use Rattle.blif_format.specs.FirstFault.{or_else, fault_if, limit_if, name_limit, is_over, use_fault}
@@ -21,7 +22,7 @@ use Rattle.blif_format.specs.declared.refusal.ReadRefusal.{ReadRefusal}
 use Rattle.blif_reader.specs.declared.names.Flags.{Flags}
 use Rattle.blif_reader.specs.declared.names.NameUse.{NameUse}
 use Rattle.blif_reader.specs.declared.names.Counts.{Counts}
-use Rattle.blif_reader.specs.Tally.{Tally, entry_of, flags_at, flags_or_none, has_source, is_driven_twice, is_listed_twice, with_role, put_entry, more_if, sources_after, observed_after, signals_after, place_or, with_use, use_check, flags_check, inputs_check, counts_check, counts_after, tally_fault, plays, is_latch, is_cover, flags_in, any_role, with_first, firsts, first_of, IsTally}
+use Rattle.blif_reader.specs.Inner.Tally.{Tally, entry_of, flags_at, flags_or_none, has_source, is_driven_twice, is_listed_twice, with_role, put_entry, more_if, sources_after, observed_after, signals_after, place_or, with_use, use_check, flags_check, inputs_check, counts_check, counts_after, tally_fault, plays, is_latch, is_cover, flags_in, any_role, with_first, firsts, first_of, IsTally}
 use Rattle.blif_reader.proofs.Compared.{word_tells, word_turned, among_more}
 use Rattle.blif_reader.proofs.Plays.{plays_source, driven_is, listed_is, names_among, names_more, distinct_more}
 use Rattle.rm_base.specs.Words.{Word}

@@ -12,15 +12,16 @@ use Rattle.rm_model.specs.declared.parts.Latch.{Latch as LatchPart}
 use Rattle.rm_model.specs.declared.parts.Model.{Model as CircuitModel}
 use Rattle.blif_lines.specs.Layout.{Flaw, BadByteAt, OpenJoinAt, Logical, words_in, has_words, layout, lines_of}
 use Rattle.blif_format.specs.Text.{Line}
-use Rattle.blif_format.specs.Uses.{command_of, is_clock, is_input, is_output, names_in}
+use Rattle.blif_format.specs.Uses.{command_of, names_in}
+use Rattle.blif_format.specs.Inner.Uses.{is_clock, is_input, is_output}
 use Rattle.blif_format.specs.declared.words.Command.{Command}
 use Rattle.blif_format.specs.declared.words.Command.TheVariants.{Model, Inputs, Outputs, Clock, Names, Latch, End}
 use Rattle.blif_format.specs.declared.words.Role.{Role}
 use Rattle.blif_format.specs.declared.words.Role.TheVariants.{Input, ClockInput, Output, CoverInput, CoverOutput, LatchInput, LatchOutput, Control}
 use Rattle.blif_format.specs.FirstFault.{or_else, fault, flaw_fault, words_fault, Said, nothing_said, after_line, said_by, lines_fault, is_cover_input, undriven_fault}
 use Rattle.blif_format.specs.declared.refusal.FaultKind.TheVariants.{BadByte, OpenJoin}
-use Rattle.blif_reader.specs.Tally.{is_latch, is_cover}
-use Rattle.blif_reader.specs.Drafts.{Begins, IsFitLatch, IsDraft, model_in}
+use Rattle.blif_reader.specs.Inner.Tally.{is_latch, is_cover}
+use Rattle.blif_reader.specs.Inner.Drafts.{Begins, IsFitLatch, IsDraft, model_in}
 use Rattle.blif_reader.specs.declared.draft.Draft.{Draft}
 use Rattle.blif_reader.proofs.RowLaws.{first_none, second_none}
 use Rattle.blif_reader.proofs.CleanLaws.{IsClean, nothing_clean, clean_lines}

@@ -16,7 +16,8 @@ use Rattle.rm_model.specs.declared.parts.Model.{Model as CircuitModel}
 use Rattle.blif_lines.specs.Layout.{Spot, Logical, layout, lines_of}
 use Rattle.blif_format.specs.Text.{Line, cover_words}
 use Rattle.blif_format.specs.Grammar.{Reads, begins_with, words_after, names_lines, before, is_dotted as is_dotted_line}
-use Rattle.blif_format.specs.Uses.{command_of, names_parts, Use, is_source_role, names_in, distinct_count, is_clock, is_input, is_output}
+use Rattle.blif_format.specs.Uses.{command_of, names_parts, Use, is_source_role, names_in, distinct_count}
+use Rattle.blif_format.specs.Inner.Uses.{is_clock, is_input, is_output}
 use Rattle.blif_format.specs.declared.words.Command.TheVariants.{Model, Names}
 use Rattle.blif_format.specs.declared.words.Role.{Role}
 use Rattle.blif_format.specs.declared.words.Role.TheVariants.{Input, ClockInput, Output, CoverInput, CoverOutput, LatchInput, LatchOutput, Control}
@@ -28,8 +29,8 @@ use Rattle.blif_format.specs.declared.refusal.Quantity.TheVariants.{Name as Name
 use Rattle.blif_format.specs.declared.refusal.ReadRefusal.{ReadRefusal}
 use Rattle.blif_format.specs.declared.refusal.ReadRefusal.TheVariants.{Fault, Limit}
 use Rattle.blif_reader.specs.Limits.{is_short, IsWithinLimits}
-use Rattle.blif_reader.specs.Tally.{plays, is_latch, is_cover}
-use Rattle.blif_reader.specs.Drafts.{IsFitLatch}
+use Rattle.blif_reader.specs.Inner.Tally.{plays, is_latch, is_cover}
+use Rattle.blif_reader.specs.Inner.Drafts.{IsFitLatch}
 use Rattle.blif_reader.proofs.Plays.{names_among, names_more, plays_or, plays_same, plays_source}
 use Rattle.blif_reader.proofs.NameLaws.{is_latch_input, is_control, all_uses, said_uses}
 use Rattle.blif_reader.proofs.FormLaws.{NamesAre, among_append, among_others, lines_in, names_are}

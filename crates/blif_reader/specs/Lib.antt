@@ -1,13 +1,4 @@
 pub mod Meant
-pub mod Tally
-pub mod Paired
-pub mod Views
-pub mod Parts
-pub mod Said
-pub mod Rows
-pub mod Lines
-pub mod Drafts
-pub mod Progress
-pub mod Ranked
 pub mod Limits
 pub mod Laws
+pub mod Inner

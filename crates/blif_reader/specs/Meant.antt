@@ -1,12 +1,7 @@
 -- What a refusal says, and what a check gives.
-use Rattle.std.specs.Prelude.{◌≡◌, Option, None, Some, Result, Ok, Err}
+use Rattle.std.specs.Prelude.{◌≡◌, Option, Some}
 use Rattle.blif_format.specs.declared.refusal.ReadRefusal.{ReadRefusal}
 use Rattle.blif_format.specs.declared.refusal.ReadRefusal.TheVariants.{Fault, Limit, NoMemory}
-
--- what a check that takes no memory says
-abbrev pub refusal_of : {A : Type 0} → Result A ReadRefusal → Option ReadRefusal
-refusal_of (Ok a) = None
-refusal_of (Err refusal) = Some refusal
 
 -- a refusal is the first fault, or want of memory
 abbrev pub IsRefusal : ReadRefusal → Option ReadRefusal → Type 0

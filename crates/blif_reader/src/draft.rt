@@ -6,8 +6,8 @@ ghost use Rattle.rm_model.specs.Value.{is_among};
 ghost use Rattle.blif_lines.specs.Reading.{spot_of, IsWithin};
 ghost use Rattle.blif_format.specs.Text.{Line, control_word, timing_words, init_words, latch_words, cover_words, row_words};
 ghost use Rattle.blif_format.specs.FirstFault.{Said, nothing_said, words_fault, OpenCover as SaidCover, latch_types, init_values, is_literal as literal_bytes};
-ghost use Rattle.blif_reader.specs.Drafts.{IsDraft, HasLine, FitsCover, all_covers, model_in, Changes, IsKnown, RowsAre, CurrentIs, HasRow, AddsRow, IsFitLatch, last_token, inputs_in};
-ghost use Rattle.blif_reader.specs.Lines.{words_at, spots_at, line_at, IsLatchLine, are_literals, init_part, timing_part};
+ghost use Rattle.blif_reader.specs.Inner.Drafts.{IsDraft, HasLine, FitsCover, all_covers, model_in, Changes, IsKnown, RowsAre, CurrentIs, HasRow, AddsRow, IsFitLatch, last_token, inputs_in};
+ghost use Rattle.blif_reader.specs.Inner.Lines.{words_at, spots_at, line_at, IsLatchLine, are_literals, init_part, timing_part};
 
 use crate::words::{command_of, is_text, least_words, word_of};
 use blif_format::Command;

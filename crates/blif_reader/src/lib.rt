@@ -3,9 +3,9 @@
 
 mod check;
 mod draft;
-mod name_uses;
 mod laws;
 mod model;
+mod name_uses;
 mod names;
 mod read;
 mod refusals;

@@ -10,7 +10,7 @@ ghost use Rattle.blif_format.specs.Grammar.{Reads};
 ghost use Rattle.blif_format.specs.FirstFault.{first_fault};
 ghost use Rattle.rm_model.specs.Size.{covers_weight};
 ghost use Rattle.blif_reader.specs.Meant.{IsRefusal};
-ghost use Rattle.blif_reader.specs.Ranked.{fault_at, rank_found};
+ghost use Rattle.blif_reader.specs.Inner.Ranked.{fault_at, rank_found};
 
 use crate::draft::model_of;
 use crate::read::{Lines, read_lines};

@@ -3,7 +3,7 @@ ghost use Rattle.std.specs.Prelude.{◌≡◌, [], length, map, slice_get, OnOk,
 ghost use Rattle.std.specs.Option.{option_map};
 ghost use Rattle.rm_model.specs.Numbers.{place_of};
 ghost use Rattle.rm_base.specs.Words.{Word};
-ghost use Rattle.blif_reader.specs.Tally.{entry_of, put_entry};
+ghost use Rattle.blif_reader.specs.Inner.Tally.{entry_of, put_entry};
 
 use crate::names::NameUse;
 use rm_base::NoMemory;
@@ -25,7 +25,7 @@ impl<'a> Model for NameUses<'a> {
 
     ghost Value = { List (Word × NameUse) };
 
-    ghost use Rattle.blif_reader.specs.Paired.{pairs, IsPaired};
+    ghost use Rattle.blif_reader.specs.Inner.Paired.{pairs, IsPaired};
 
     ghost view = { pairs };
 

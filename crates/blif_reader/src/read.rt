@@ -5,7 +5,7 @@ ghost use Rattle.blif_lines.specs.Reading.{IsWithin, pending, Gives, GivesLine};
 ghost use Rattle.blif_format.specs.FirstFault.{Said, nothing_said, said_by, lines_fault, fault_if};
 ghost use Rattle.blif_format.specs.declared.refusal.FaultKind.TheVariants.{NoModel};
 ghost use Rattle.blif_reader.specs.Meant.{IsRefusal};
-ghost use Rattle.blif_reader.specs.Progress.{AreReadTo, IsRead, places_with};
+ghost use Rattle.blif_reader.specs.Inner.Progress.{AreReadTo, IsRead, places_with};
 
 use crate::check::{Checker, take_line};
 use crate::draft::{Draft, add_line, new_draft};

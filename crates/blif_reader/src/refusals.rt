@@ -1,6 +1,6 @@
 // Refusals of a word at its place.
 ghost use Rattle.std.specs.Prelude.{◌≡◌, Some};
-ghost use Rattle.blif_reader.specs.Meant.{refusal_of};
+ghost use Rattle.blif_reader.specs.Inner.Meant.{refusal_of};
 
 use blif_format::{FaultKind, Quantity, ReadRefusal};
 use rm_base::Place;

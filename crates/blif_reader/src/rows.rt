@@ -3,9 +3,9 @@ ghost use Rattle.std.specs.Prelude.{◌≡◌, ◌≤◌, ◌^◌, ◌∷◌, []
 ghost use Rattle.blif_lines.specs.Reading.{spot_of, IsWithin};
 ghost use Rattle.blif_format.specs.Text.{on_word};
 ghost use Rattle.blif_format.specs.FirstFault.{ending_fault, character_fault, row_fault, or_else, extra_fault, last_word, is_literal as literal_byte};
-ghost use Rattle.blif_reader.specs.Meant.{refusal_of};
-ghost use Rattle.blif_reader.specs.Said.{said_ending, said_cover};
-ghost use Rattle.blif_reader.specs.Rows.{columns_on, inputs_fault, with_last};
+ghost use Rattle.blif_reader.specs.Inner.Meant.{refusal_of};
+ghost use Rattle.blif_reader.specs.Inner.Said.{said_ending, said_cover};
+ghost use Rattle.blif_reader.specs.Inner.Rows.{columns_on, inputs_fault, with_last};
 
 use crate::refusals::fault;
 use crate::words::{is_text, word_of};

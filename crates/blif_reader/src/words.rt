@@ -6,7 +6,7 @@ ghost use Rattle.rm_model.specs.Words.{is_word};
 ghost use Rattle.rm_model.specs.Value.{is_among};
 ghost use Rattle.blif_format.specs.Uses.{command_of as command_said, least_words as words_wanted};
 ghost use Rattle.blif_format.specs.FirstFault.{latch_types, init_values};
-ghost use Rattle.blif_reader.specs.Parts.{latch_part_at, part_in};
+ghost use Rattle.blif_reader.specs.Inner.Parts.{latch_part_at, part_in};
 ghost use Rattle.blif_format.specs.Unsupported.{unsupported_words};
 
 use blif_format::{Command, Part, Role};

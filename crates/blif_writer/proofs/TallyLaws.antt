@@ -10,7 +10,8 @@ use Rattle.rm_model.specs.declared.parts.Timing.{Timing}
 use Rattle.rm_model.specs.declared.parts.Cover.{Cover}
 use Rattle.rm_model.specs.declared.parts.Latch.{Latch}
 use Rattle.blif_lines.specs.Layout.{Spot}
-use Rattle.blif_format.specs.Text.{Line, control_word, init_words, latch_words, on_word, row_words, timing_words, timing_control}
+use Rattle.blif_format.specs.Text.{Line, control_word, init_words, latch_words, on_word, row_words, timing_words}
+use Rattle.blif_format.specs.Inner.Text.{timing_control}
 use Rattle.blif_format.specs.Grammar.{begins_with, is_dotted, words_after, words_of}
 use Rattle.blif_format.specs.Uses.{Use, all_are, in_parts, latch_parts, names_parts, use_of, uses_of}
 use Rattle.blif_format.specs.declared.words.Role.{Role}

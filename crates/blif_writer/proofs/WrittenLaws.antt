@@ -8,7 +8,7 @@ use Rattle.rm_model.specs.declared.parts.Cover.{Cover}
 use Rattle.rm_model.specs.declared.parts.Latch.{Latch}
 use Rattle.rm_model.specs.declared.parts.Model.{Model}
 use Rattle.blif_format.specs.Text.{Line, clock_lines, cover_lines, latch_words, row_words, spelled, text_of, text_of_lines}
-use Rattle.blif_writer.specs.Written.{behind_blanks, cover_text, head_text, latch_text, line_text, row_text}
+use Rattle.blif_writer.specs.Inner.Written.{behind_blanks, cover_text, head_text, latch_text, line_text, row_text}
 use Rattle.rm_base.specs.Words.{Word}
 
 pub spelled_words : (w : Word) (ws : Line) → spelled (w ∷ ws) ≡ w ++ behind_blanks ws

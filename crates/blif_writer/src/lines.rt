@@ -1,6 +1,6 @@
 // Lines of words.
 ghost use Rattle.std.specs.Prelude.{◌≡◌, ◌∷◌, ◌++◌, [], OnOk};
-ghost use Rattle.blif_writer.specs.Written.{behind_blanks, line_text};
+ghost use Rattle.blif_writer.specs.Inner.Written.{behind_blanks, line_text};
 
 use rm_base::NoMemory;
 use rm_model::Name;

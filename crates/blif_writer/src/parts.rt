@@ -3,7 +3,7 @@ ghost use Rattle.std.specs.Prelude.{◌≡◌, ◌∷◌, ◌++◌, ◌≤◌, [
 ghost use Rattle.std.specs.List.{flat_map};
 ghost use Rattle.std.specs.Option.{ForSome};
 ghost use Rattle.blif_format.specs.Text.{init_words, latch_words, on_word, timing_words};
-ghost use Rattle.blif_writer.specs.Written.{behind_blanks, cover_text, latch_text, row_text};
+ghost use Rattle.blif_writer.specs.Inner.Written.{behind_blanks, cover_text, latch_text, row_text};
 ghost use Rattle.rm_model.specs.Words.{kind_word, literal_byte};
 
 use crate::lines::{put, put_line_and, put_word};

@@ -7,7 +7,7 @@ ghost use Rattle.blif_format.specs.Laws.{AreFlawless, IsAtMostLimit};
 ghost use Rattle.blif_lines.specs.Layout.{layout, lines_of};
 ghost use Rattle.rm_model.specs.Value.{IsRanked};
 ghost use Rattle.rm_model.specs.WellFormed.{IsWellFormed};
-ghost use Rattle.blif_writer.specs.Written.{head_text};
+ghost use Rattle.blif_writer.specs.Inner.Written.{head_text};
 
 use crate::laws::read_texts_are_faultless;
 use crate::lines::{put, put_line, put_line_and};

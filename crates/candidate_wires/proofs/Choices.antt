@@ -12,7 +12,7 @@ use Rattle.refutation.specs.Facts.{Held}
 use Rattle.wire_edit.specs.Tests.{control_of, gate_control}
 use Rattle.candidate_wires.specs.Candidates.{AreAmong, listed}
 use Rattle.candidate_wires.specs.Joining.{IsCandidateOf, MayRead}
-use Rattle.candidate_wires.specs.Parts.{AreKnown, IsUsable}
+use Rattle.candidate_wires.specs.Inner.Parts.{AreKnown, IsUsable}
 use Rattle.candidate_wires.specs.declared.candidate.Candidate.{Candidate}
 use Rattle.candidate_wires.specs.declared.known.Known.{Known}
 use Rattle.rm_base.proofs.Public.{slice_get_below, some_same}

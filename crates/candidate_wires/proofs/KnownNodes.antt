@@ -4,7 +4,7 @@ use Rattle.std.proofs.lemmas.Bool.Decides.{eqb_tells}
 use Rattle.gate_net.specs.Net.{Net}
 use Rattle.refutation.specs.Facts.{Held}
 use Rattle.candidate_wires.proofs.Appending.{only_one, stands_either}
-use Rattle.candidate_wires.specs.Parts.{AreKnown, IsKnown, IsUsable}
+use Rattle.candidate_wires.specs.Inner.Parts.{AreKnown, IsKnown, IsUsable}
 use Rattle.candidate_wires.specs.declared.known.Known.{Known}
 use Rattle.rm_base.proofs.Public.{back_stands, front_stands}
 

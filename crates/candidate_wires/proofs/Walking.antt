@@ -10,7 +10,7 @@ use Rattle.refutation.specs.Reaching.{MarksReached}
 use Rattle.rm_base.specs.declared.numbers.Fault.{Fault}
 use Rattle.candidate_wires.proofs.ChainMarks.{next_marked}
 use Rattle.candidate_wires.specs.Candidates.{AreAlong, AreAmong, AreCandidates}
-use Rattle.candidate_wires.specs.Parts.{AreKnown}
+use Rattle.candidate_wires.specs.Inner.Parts.{AreKnown}
 use Rattle.candidate_wires.specs.declared.candidate.Candidate.{Candidate}
 use Rattle.candidate_wires.specs.declared.known.Known.{Known}
 

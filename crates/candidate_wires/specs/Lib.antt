@@ -5,5 +5,4 @@ pub mod Gains
 pub mod Additions
 pub mod Tries
 pub mod Laws
-pub mod Stamped
-pub mod Parts
+pub mod Inner

@@ -5,7 +5,7 @@ ghost use Rattle.gate_net.specs.Values.{IsJunction};
 ghost use Rattle.refutation.specs.Facts.{Held};
 ghost use Rattle.refutation.specs.Reaching.{MarksReached};
 ghost use Rattle.candidate_wires.specs.Joining.{IsCandidateOf};
-ghost use Rattle.candidate_wires.specs.Parts.{AddsChoices, IsKnown, MarksDrivers};
+ghost use Rattle.candidate_wires.specs.Inner.Parts.{AddsChoices, IsKnown, MarksDrivers};
 
 use crate::candidate::Candidate;
 use crate::known::Known;

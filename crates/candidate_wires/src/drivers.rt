@@ -2,7 +2,7 @@
 ghost use Rattle.std.specs.Prelude.{◌≡◌, ◌≤◌, length};
 ghost use Rattle.gate_net.specs.Net.{IsLive};
 ghost use Rattle.gate_graph.specs.Circuit.{net_of};
-ghost use Rattle.candidate_wires.specs.Parts.{MarksDrivers};
+ghost use Rattle.candidate_wires.specs.Inner.Parts.{MarksDrivers};
 
 use crate::stamps::Stamps;
 use gate_graph::Graph;

@@ -4,7 +4,7 @@ ghost use Rattle.gate_graph.specs.Circuit.{net_of};
 ghost use Rattle.refutation.specs.FactSets.{held_by};
 ghost use Rattle.refutation.specs.FactLists.{HasAllGoods};
 ghost use Rattle.candidate_wires.specs.Candidates.{AreCandidates};
-ghost use Rattle.candidate_wires.specs.Parts.{AreFoundAmong};
+ghost use Rattle.candidate_wires.specs.Inner.Parts.{AreFoundAmong};
 
 use crate::candidate::Candidate;
 use crate::known::{Known, known_among, known_nodes};

@@ -8,7 +8,7 @@ ghost use Rattle.refutation.specs.FactSets.{held_by};
 ghost use Rattle.refutation.specs.declared.reasoning.Fact.TheVariants.{Good};
 ghost use Rattle.candidate_wires.specs.Joining.{HasNoNot};
 ghost use Rattle.refutation.specs.FactLists.{HasAllGoods};
-ghost use Rattle.candidate_wires.specs.Parts.{AreKnown, HasGoods, HasUsable, IsAscending, IsLook, KeepsKnown};
+ghost use Rattle.candidate_wires.specs.Inner.Parts.{AreKnown, HasGoods, HasUsable, IsAscending, IsLook, KeepsKnown};
 
 use gate_graph::Graph;
 use gate_net::Kind;

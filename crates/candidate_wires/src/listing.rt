@@ -5,7 +5,7 @@ ghost use Rattle.gate_graph.specs.Circuit.{net_of};
 ghost use Rattle.refutation.specs.FactSets.{held_by};
 ghost use Rattle.refutation.specs.Reaching.{MarksReached};
 ghost use Rattle.candidate_wires.specs.Candidates.{AreCandidates};
-ghost use Rattle.candidate_wires.specs.Parts.{AddsAt, AreFoundAmong};
+ghost use Rattle.candidate_wires.specs.Inner.Parts.{AddsAt, AreFoundAmong};
 
 use crate::candidate::Candidate;
 use crate::choosing::add_choices;

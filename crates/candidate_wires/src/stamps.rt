@@ -16,7 +16,7 @@ pub(crate) struct Stamps {
 
 impl Model for Stamps {
     ghost use Rattle.std.specs.Prelude.{Bool, List};
-    ghost use Rattle.candidate_wires.specs.Stamped.{AreStamped, marks_of};
+    ghost use Rattle.candidate_wires.specs.Inner.Stamped.{AreStamped, marks_of};
 
     ghost Value = { List Bool };
 

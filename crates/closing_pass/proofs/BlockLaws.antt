@@ -6,8 +6,9 @@ use Rattle.std.proofs.lemmas.List.{drop_min, map-append, take_min}
 use Rattle.podem.specs.declared.verdict.Verdict.{Verdict}
 use Rattle.podem.specs.declared.verdict.Verdict.TheVariants as verdict
 use Rattle.rm_base.specs.declared.numbers.Fault.{Fault}
-use Rattle.closing_pass.specs.Blocks.{AreBlocksOf, AreKept, HaveVector, HaveVectors}
-use Rattle.closing_pass.specs.Findings.{AreLong, ArePacked, AreVerdictsOf, IsVerdictOf}
+use Rattle.closing_pass.specs.Blocks.{HaveVector, HaveVectors}
+use Rattle.closing_pass.specs.Inner.Blocks.{AreBlocksOf, AreKept}
+use Rattle.closing_pass.specs.Inner.Findings.{AreLong, ArePacked, AreVerdictsOf, IsVerdictOf}
 use Rattle.closing_pass.specs.declared.finding.Finding.{Finding}
 use Rattle.closing_pass.specs.declared.finding.Finding.TheVariants.{Detected, Open, Spent}
 use Rattle.closing_pass.proofs.Standing.{stands_dropped, stands_taken, taken_stands}

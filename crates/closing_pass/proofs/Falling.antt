@@ -14,10 +14,11 @@ use Rattle.wire_edit.specs.Changes.{Change, append, remove, fix, readers, new_no
 use Rattle.wire_edit.specs.Laws.{StepsKeepSources}
 use Rattle.wire_edit.specs.Steps.{Applies, stepped, change_of}
 use Rattle.wire_edit.specs.Order.{IsTidy}
-use Rattle.wire_edit.specs.Removals.{AllAreFree, FixesTakeOne, FreeFixesApply, HasFreePin, IsRemoval, RemovalsFreeNone, TidyReadsNone, MakesNoPin}
+use Rattle.wire_edit.specs.Removals.{AllAreFree, FixesTakeOne, FreeFixesApply, HasFreePin, IsRemoval, RemovalsFreeNone, TidyReadsNone}
+use Rattle.wire_edit.specs.Inner.Removals.{MakesNoPin}
 use Rattle.wire_edit.specs.Work.{free_pins, pins_made, WiresGrow}
-use Rattle.closing_pass.specs.Going.{IsNoLarger}
-use Rattle.wire_edit.specs.Tests.{gate_weight}
+use Rattle.closing_pass.specs.Inner.Going.{IsNoLarger}
+use Rattle.wire_edit.specs.Inner.Tests.{gate_weight}
 
 -- what laws of steps say of removals
 pub record RemovalLaws : Type 0 where

@@ -25,7 +25,7 @@ use Rattle.journal_text.specs.declared.record.Record.{Record}
 use Rattle.journal_text.specs.declared.record.Record.TheVariants as kept
 use Rattle.journal_text.specs.Accepted.{IsJustified, IsAcceptedStep, MayGrow}
 use Rattle.journal_text.specs.Runs.{AreRemovals, steps_of}
-use Rattle.closing_pass.specs.Going.{AddsLocal, AreTidying, Goes, IsNoLarger, Logs}
+use Rattle.closing_pass.specs.Inner.Going.{AddsLocal, AreTidying, Goes, IsNoLarger, Logs}
 use Rattle.closing_pass.proofs.Falling.{RemovalLaws, no_larger, no_larger_same, no_larger_then}
 use Rattle.journal_text.proofs.Public.{accepted_then}
 

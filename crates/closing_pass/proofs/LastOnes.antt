@@ -10,7 +10,7 @@ use Rattle.refutation.specs.declared.items.Item.{Item}
 use Rattle.rm_base.specs.declared.numbers.Fault.{Fault}
 use Rattle.closing_pass.specs.declared.finding.Finding.{Finding}
 use Rattle.closing_pass.specs.declared.finding.Finding.TheVariants.{Detected, Open, Spent}
-use Rattle.closing_pass.specs.Findings.{AreVerdictsOf, HasCome, Holds, IsNumbered, IsSought, IsVerdictOf}
+use Rattle.closing_pass.specs.Inner.Findings.{AreVerdictsOf, HasCome, Holds, IsNumbered, IsSought, IsVerdictOf}
 use Rattle.closing_pass.specs.Reports.{AreClosed, IsClosing, fault_in}
 use Rattle.std.proofs.lemmas.List.{length-append}
 use Rattle.closing_pass.proofs.Standing.{by_recursion, mapped_is}

@@ -8,8 +8,8 @@ use Rattle.std.proofs.lemmas.Option.{get_or_from_slice_get, slice_get-get_or}
 use Rattle.std.proofs.lemmas.Bool.{cases_eq}
 use Rattle.fault_sim.proofs.Public.{lane_zero}
 use Rattle.fault_sim.specs.Words.{lane}
-use Rattle.closing_pass.specs.Findings.{AreLong, ArePacked}
-use Rattle.closing_pass.specs.Trying.{AreInLanes}
+use Rattle.closing_pass.specs.Inner.Findings.{AreLong, ArePacked}
+use Rattle.closing_pass.specs.Inner.Trying.{AreInLanes}
 use Rattle.closing_pass.proofs.Tries.{lt_or_le}
 use Rattle.rm_base.proofs.Public.{pushed_stands, stands_below}
 

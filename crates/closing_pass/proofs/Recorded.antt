@@ -14,8 +14,8 @@ use Rattle.journal_text.specs.Appends.{IsThere}
 use Rattle.journal_text.specs.Joining.{RunsJoin, TextsAppend}
 use Rattle.journal_text.specs.Runs.{AcceptedTo, AreRemovals, HasAppended, HasAppendedPart, IsStopped, counted, made_by, none_made, records_text, steps_of}
 use Rattle.journal_text.specs.declared.record.Record.{Record}
-use Rattle.closing_pass.specs.Closing.{HasGone, HasRecordedFix}
-use Rattle.closing_pass.specs.Going.{AreTidying, HasFixed, Logs}
+use Rattle.closing_pass.specs.Inner.Closing.{HasGone, HasRecordedFix}
+use Rattle.closing_pass.specs.Inner.Going.{AreTidying, HasFixed, Logs}
 use Rattle.closing_pass.specs.Reports.{HasClosed, IsRemovedTo, made_in}
 use Rattle.closing_pass.specs.declared.report.Report.{Report}
 use Rattle.wire_edit.specs.Removals.{IsRemoval}

@@ -7,7 +7,7 @@ use Rattle.wire_edit.proofs.Public.{live_bound}
 use Rattle.wire_edit.specs.Refusals.{live_count}
 use Rattle.wire_edit.specs.Tried.{Tried}
 use Rattle.wire_edit.specs.Work.{work, WorkIsBounded}
-use Rattle.closing_pass.specs.Closing.{Went}
+use Rattle.closing_pass.specs.Inner.Closing.{Went}
 use Rattle.closing_pass.specs.Reports.{IsNoFuller}
 use Rattle.closing_pass.proofs.Falling.{no_larger_same, no_larger_then}
 use Rattle.closing_pass.proofs.GoingOn.{holds_then}

@@ -14,8 +14,8 @@ use Rattle.rm_base.specs.declared.numbers.Fault.{Fault}
 use Rattle.closing_pass.specs.declared.finding.Finding.{Finding}
 use Rattle.closing_pass.specs.declared.finding.Finding.TheVariants.{Detected, Open, Spent}
 use Rattle.closing_pass.specs.declared.choosing.Chosen.{Chosen}
-use Rattle.closing_pass.specs.Findings.{AreChosen, AreClosedBefore, AreFound, AreLong, AreTried, HasCome, Holds, IsRefuted}
-use Rattle.closing_pass.specs.Searching.{HasTaken, tree_in}
+use Rattle.closing_pass.specs.Inner.Findings.{AreChosen, AreClosedBefore, AreFound, AreLong, AreTried, HasCome, Holds, IsRefuted}
+use Rattle.closing_pass.specs.Inner.Searching.{HasTaken, tree_in}
 use Rattle.closing_pass.specs.Verdicts.{HavePins, IsAnswer}
 use Rattle.closing_pass.proofs.Standing.{length-set, stood, replicated, zip_here, zip_next}
 use Rattle.closing_pass.proofs.Tries.{lt_or_le, set_other}

@@ -10,8 +10,8 @@ use Rattle.fault_sim.specs.Words.{assignment}
 use Rattle.rm_base.specs.declared.numbers.Fault.{Fault}
 use Rattle.closing_pass.specs.declared.finding.Finding.{Finding}
 use Rattle.closing_pass.specs.declared.finding.Finding.TheVariants.{Detected, Open}
-use Rattle.closing_pass.specs.Findings.{AreLong, HasCome, Holds, IsSought}
-use Rattle.closing_pass.specs.Trying.{AreInLanes, HasTried, HasTriedBefore, HasTriedOn, IsHit, IsMissed, IsTriedAt}
+use Rattle.closing_pass.specs.Inner.Findings.{AreLong, HasCome, Holds, IsSought}
+use Rattle.closing_pass.specs.Inner.Trying.{AreInLanes, HasTried, HasTriedBefore, HasTriedOn, IsHit, IsMissed, IsTriedAt}
 use Rattle.rm_base.proofs.Public.{one_stands, set_there, some_is, stands_below}
 
 -- whether a number comes before another

@@ -1,10 +1,5 @@
 pub mod Verdicts
-pub mod Findings
 pub mod Blocks
-pub mod Trying
-pub mod Searching
-pub mod Passing
-pub mod Going
 pub mod Reports
-pub mod Closing
 pub mod Recording
+pub mod Inner

@@ -1,6 +1,6 @@
 // The next faults to be searched.
 ghost use Rattle.std.specs.Prelude.{◌≡◌, ◌≤◌, ◌<◌, IfOk, OnOk, length};
-ghost use Rattle.closing_pass.specs.Findings.{AreChosen};
+ghost use Rattle.closing_pass.specs.Inner.Findings.{AreChosen};
 
 use crate::finding::Finding;
 use rm_base::{Fault, NoMemory};

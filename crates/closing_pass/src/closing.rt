@@ -12,7 +12,7 @@ ghost use Rattle.rm_base.specs.Causes.{Rose};
 ghost use Rattle.wire_edit.specs.Order.{IsTidy};
 ghost use Rattle.wire_edit.specs.Work.{work};
 ghost use Rattle.closing_pass.specs.Blocks.{HaveVectors};
-ghost use Rattle.closing_pass.specs.Closing.{HasRecordedFix, Went};
+ghost use Rattle.closing_pass.specs.Inner.Closing.{HasRecordedFix, Went};
 ghost use Rattle.closing_pass.specs.Reports.{AreClosed, HasClosed, IsNoFuller};
 
 use crate::fixing::fix_and_tidy;

@@ -1,6 +1,6 @@
 // What is known of a fault.
 ghost use Rattle.std.specs.Prelude.{◌≡◌, ◌↔◌, true};
-ghost use Rattle.closing_pass.specs.Findings.{IsSought};
+ghost use Rattle.closing_pass.specs.Inner.Findings.{IsSought};
 
 use refutation::Tree;
 

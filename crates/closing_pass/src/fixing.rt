@@ -6,7 +6,7 @@ ghost use Rattle.gate_net.specs.Values.{HasPin};
 ghost use Rattle.refutation.specs.Branches.{AreAccepted};
 ghost use Rattle.wire_edit.specs.Order.{IsTidy};
 ghost use Rattle.wire_edit.specs.Work.{work};
-ghost use Rattle.closing_pass.specs.Going.{Goes, HasFixed};
+ghost use Rattle.closing_pass.specs.Inner.Going.{Goes, HasFixed};
 
 use crate::tidying::tidy;
 use journal_text::Record;

@@ -2,8 +2,8 @@
 ghost use Rattle.std.specs.Prelude.{◌≡◌, ◌≤◌, ◌<◌, IfOk, OnOk, length, replicate};
 ghost use Rattle.gate_graph.specs.Circuit.{net_of};
 ghost use Rattle.gate_net.specs.Net.{source_count};
-ghost use Rattle.closing_pass.specs.Findings.{AreLong};
-ghost use Rattle.closing_pass.specs.Passing.{AreKeptOf, IsPassed};
+ghost use Rattle.closing_pass.specs.Inner.Findings.{AreLong};
+ghost use Rattle.closing_pass.specs.Inner.Passing.{AreKeptOf, IsPassed};
 ghost use Rattle.closing_pass.specs.declared.finding.Finding.TheVariants.{Open};
 
 use crate::finding::Finding;

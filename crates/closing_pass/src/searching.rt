@@ -3,8 +3,8 @@ ghost use Rattle.std.specs.Prelude.{◌≡◌, ◌≤◌, ◌<◌, ◌++◌, ◌
 ghost use Rattle.fault_sim.specs.LaneStates.{Fits};
 ghost use Rattle.gate_graph.specs.Circuit.{net_of};
 ghost use Rattle.gate_net.specs.Net.{source_count};
-ghost use Rattle.closing_pass.specs.Findings.{AreLong, HasCome};
-ghost use Rattle.closing_pass.specs.Searching.{HasTaken, IsSearched, tree_in};
+ghost use Rattle.closing_pass.specs.Inner.Findings.{AreLong, HasCome};
+ghost use Rattle.closing_pass.specs.Inner.Searching.{HasTaken, IsSearched, tree_in};
 ghost use Rattle.closing_pass.specs.Verdicts.{HavePins};
 
 use crate::batching::batch;

@@ -4,7 +4,7 @@ ghost use Rattle.gate_graph.specs.Circuit.{net_of};
 ghost use Rattle.wire_edit.specs.Order.{IsTidy};
 ghost use Rattle.wire_edit.specs.Work.{work};
 ghost use Rattle.journal_text.specs.declared.record.Record.TheVariants as kept;
-ghost use Rattle.closing_pass.specs.Going.{AddsLocal, Goes};
+ghost use Rattle.closing_pass.specs.Inner.Going.{AddsLocal, Goes};
 
 use journal_text::Record;
 use refutation::TreeBuilder;

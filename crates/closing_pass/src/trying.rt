@@ -5,8 +5,8 @@ ghost use Rattle.fault_sim.specs.Words.{assignment};
 ghost use Rattle.gate_graph.specs.Circuit.{net_of};
 ghost use Rattle.gate_net.specs.Net.{Net, source_count};
 ghost use Rattle.gate_net.specs.Values.{Detects};
-ghost use Rattle.closing_pass.specs.Findings.{AreLong};
-ghost use Rattle.closing_pass.specs.Trying.{AreInLanes, HasTried, HasTriedOn};
+ghost use Rattle.closing_pass.specs.Inner.Findings.{AreLong};
+ghost use Rattle.closing_pass.specs.Inner.Trying.{AreInLanes, HasTried, HasTriedOn};
 ghost use Rattle.closing_pass.specs.Verdicts.{HavePins};
 
 use crate::finding::{Finding, is_sought};

@@ -1,6 +1,6 @@
 // The verdicts of all faults, once each has a finding.
 ghost use Rattle.std.specs.Prelude.{◌≡◌, ◌≢◌, ◌<◌, ℕ, IfOk, Some, length, slice_get};
-ghost use Rattle.closing_pass.specs.Findings.{AreVerdictsOf, IsNumbered, IsVerdictOf};
+ghost use Rattle.closing_pass.specs.Inner.Findings.{AreVerdictsOf, IsNumbered, IsVerdictOf};
 ghost use Rattle.closing_pass.specs.declared.finding.Finding.{Finding as FindingValue};
 
 use crate::finding::Finding;

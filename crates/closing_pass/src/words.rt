@@ -1,8 +1,8 @@
 // Vectors as words: a word for each source, with a bit for each vector.
 ghost use Rattle.std.specs.Prelude.{◌≡◌, ◌≤◌, ◌<◌, ◌^◌, ℕ, Bool, List, IfOk, Some, bit_or, false, if◌then◌else◌, length, map, slice_get, slice_index_or};
 ghost use Rattle.fault_sim.specs.Words.{lane};
-ghost use Rattle.closing_pass.specs.Blocks.{AreBlocksOf};
-ghost use Rattle.closing_pass.specs.Findings.{AreLong, ArePacked};
+ghost use Rattle.closing_pass.specs.Inner.Blocks.{AreBlocksOf};
+ghost use Rattle.closing_pass.specs.Inner.Findings.{AreLong, ArePacked};
 
 use rm_base::{NoMemory, SourceNo, Vector};
 use std::alloc::Global;

@@ -12,7 +12,8 @@ use Rattle.gate_net.specs.Net.{Node, Net, node_at, plain_node, IsGateKind, IsLiv
 use Rattle.gate_graph.specs.Circuit.{Circuit, net_of, fanouts_of, pins_taken, live_nodes}
 use Rattle.gate_graph.specs.Start.{first_net}
 use Rattle.pin_pool.specs.Ring.{has}
-use Rattle.cover_decompose.specs.Built.{AllBelow, IsBuildable, IsBuilt, IsGateNode, readers_from}
+use Rattle.cover_decompose.specs.Built.{IsBuilt, readers_from}
+use Rattle.cover_decompose.specs.Inner.Built.{AllBelow, IsBuildable, IsGateNode}
 use Rattle.cover_decompose.specs.Decomposition.{plain}
 use Rattle.cover_decompose.proofs.Building.{live_below}
 use Rattle.cover_decompose.proofs.Places.{get_parts}

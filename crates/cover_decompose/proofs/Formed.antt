@@ -10,7 +10,7 @@ use Rattle.gate_net.specs.declared.Kind.{Kind}
 use Rattle.gate_net.specs.declared.Kind.TheVariants.{And, Or, Not}
 use Rattle.gate_net.specs.Net.{Node}
 use Rattle.cover_decompose.specs.Decomposition.{State, with_gate, with_not, literals, joined, term, terms, closed, cover_node, with_cover, with_covers}
-use Rattle.cover_decompose.specs.Built.{AllBelow, IsGateNode}
+use Rattle.cover_decompose.specs.Inner.Built.{AllBelow, IsGateNode}
 use Rattle.cover_decompose.proofs.Places.{get_parts, length-push}
 use Rattle.rm_base.specs.Words.{Word}
 

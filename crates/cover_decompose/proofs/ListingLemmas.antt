@@ -7,11 +7,11 @@ use Rattle.rm_model.specs.Value.{observed_names, source_names}
 use Rattle.rm_model.specs.WellFormed.{driven_names}
 use Rattle.rm_model.specs.declared.parts.Cover.{Cover}
 use Rattle.rm_model.specs.declared.parts.Model.{Model}
-use Rattle.cover_decompose.specs.Chosen.{AtPlaces, IsNumbered, Signals}
+use Rattle.cover_decompose.specs.Inner.Chosen.{AtPlaces, IsNumbered, Signals}
 use Rattle.cover_decompose.specs.Decomposition.{State, last_state, net_of_model, source_node, start}
 use Rattle.cover_decompose.specs.Needed.{taken}
-use Rattle.cover_decompose.specs.Plan.{Planned, counting, covers_planned, start_planned}
-use Rattle.cover_decompose.specs.Signals.{signal_of}
+use Rattle.cover_decompose.specs.Inner.Plan.{Planned, counting, covers_planned, start_planned}
+use Rattle.cover_decompose.specs.Inner.Signals.{signal_of}
 use Rattle.cover_decompose.proofs.Matching.{Matches, covers_match}
 use Rattle.cover_decompose.proofs.NumberingLemmas.{driven-length}
 use Rattle.cover_decompose.proofs.PlanSteps.{length-many, length-numbers}

@@ -12,9 +12,9 @@ use Rattle.gate_net.specs.declared.Kind.{Kind}
 use Rattle.gate_net.specs.declared.Kind.TheVariants.{And, Or, Not}
 use Rattle.gate_net.specs.Net.{Node}
 use Rattle.cover_decompose.specs.Decomposition.{State, with_entry, with_gate, with_not, literals, joined, term, terms, closed, cover_node, with_cover, with_covers}
-use Rattle.cover_decompose.specs.Plan.{Planned, gate_planned, not_planned, not_of, literals_planned, joined_planned, term_planned, terms_planned, closed_planned, node_planned, cover_planned, one_planned, covers_planned}
-use Rattle.cover_decompose.specs.Chosen.{AreNumbered, AtPlaces, Signals}
-use Rattle.cover_decompose.specs.Signals.{signal_of}
+use Rattle.cover_decompose.specs.Inner.Plan.{Planned, gate_planned, not_planned, not_of, literals_planned, joined_planned, term_planned, terms_planned, closed_planned, node_planned, cover_planned, one_planned, covers_planned}
+use Rattle.cover_decompose.specs.Inner.Chosen.{AreNumbered, AtPlaces, Signals}
+use Rattle.cover_decompose.specs.Inner.Signals.{signal_of}
 use Rattle.rm_base.specs.Words.{Word}
 use Rattle.rm_model.proofs.Public.{is_word-same, same_word}
 

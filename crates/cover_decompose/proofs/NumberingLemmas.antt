@@ -12,12 +12,12 @@ use Rattle.rm_model.specs.WellFormed.{IsWellFormed, IsWellFormedCover, driven_na
 use Rattle.rm_model.specs.declared.parts.Cover.{Cover}
 use Rattle.rm_model.specs.declared.parts.Latch.{Latch}
 use Rattle.rm_model.specs.declared.parts.Model.{Model}
-use Rattle.cover_decompose.specs.Chosen.{AtPlaces, IsNumbered, Signals}
+use Rattle.cover_decompose.specs.Inner.Chosen.{AtPlaces, IsNumbered, Signals}
 use Rattle.cover_decompose.specs.Count.{cover_zero_names, cover_wires, decomposed, new_count}
 use Rattle.cover_decompose.specs.Needed.{covers_by_rank, of_ranks, ranked_covers, taken}
-use Rattle.cover_decompose.specs.Places.{marked, needed_places, placed, places_by_rank}
-use Rattle.cover_decompose.specs.Signals.{signal_of}
-use Rattle.cover_decompose.specs.Tally.{AreEven, covers_tally}
+use Rattle.cover_decompose.specs.Inner.Places.{marked, needed_places, placed, places_by_rank}
+use Rattle.cover_decompose.specs.Inner.Signals.{signal_of}
+use Rattle.cover_decompose.specs.Inner.Tally.{AreEven, covers_tally}
 use Rattle.cover_decompose.proofs.Choosing.{Marked, Pairs, covers_tally_match, needed_match, placed_pairs, ranks_places, set_marks}
 use Rattle.cover_decompose.proofs.Matching.{signal_within, signals_from}
 use Rattle.cover_decompose.proofs.Members.{among_in}

@@ -5,7 +5,7 @@ use Rattle.std.specs.Option.{option_to_list}
 use Rattle.gate_net.specs.Net.{Node}
 use Rattle.rm_model.specs.declared.parts.Cover.{Cover}
 use Rattle.rm_model.specs.declared.parts.Literal.{Literal}
-use Rattle.cover_decompose.specs.Plan.{Planned, counting, cover_planned, covers_planned, one_planned, literal_planned, literals_planned, term_planned, terms_planned}
+use Rattle.cover_decompose.specs.Inner.Plan.{Planned, counting, cover_planned, covers_planned, one_planned, literal_planned, literals_planned, term_planned, terms_planned}
 use Rattle.rm_base.proofs.Public.{drop_end}
 
 pub drop_at : {A : Type 0} (xs : List A) (n : ℕ) (x : A) → n < length xs → x ≡ get_or xs n x → drop n xs ≡ x ∷ drop (n + 1) xs

@@ -6,7 +6,7 @@ use Rattle.rm_model.specs.Value.{is_among, source_names}
 use Rattle.rm_model.specs.declared.parts.Model.{Model}
 use Rattle.gate_net.specs.declared.Kind.TheVariants.{Source, Zero, One}
 use Rattle.gate_net.specs.Net.{Node}
-use Rattle.cover_decompose.specs.Built.{AllBelow}
+use Rattle.cover_decompose.specs.Inner.Built.{AllBelow}
 use Rattle.cover_decompose.specs.Decomposition.{plain, start, source_node}
 use Rattle.cover_decompose.specs.StandsFor.{SameAssignment}
 use Rattle.cover_decompose.proofs.Formed.{IsMade}

@@ -9,7 +9,7 @@ use Rattle.rm_model.specs.declared.parts.Model.{Model}
 use Rattle.gate_net.specs.declared.Kind.{Kind}
 use Rattle.gate_net.specs.declared.Kind.TheVariants.{Source, Zero, One, Not}
 use Rattle.gate_net.specs.Net.{Node, node_at, drivers_of, drivers_in, flatten_option, IsKind, Reads, source_count, source_in, count_in, trimmed, IsWellFormed, IsGate, IsGateKind, wire_count}
-use Rattle.cover_decompose.specs.Built.{AllBelow, IsGateNode}
+use Rattle.cover_decompose.specs.Inner.Built.{AllBelow, IsGateNode}
 use Rattle.cover_decompose.specs.Needed.{taken}
 use Rattle.cover_decompose.specs.Decomposition.{plain, start, last_state, net_of_model}
 use Rattle.cover_decompose.proofs.Formed.{IsMade, covers_made}

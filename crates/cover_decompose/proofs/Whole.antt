@@ -7,7 +7,8 @@ use Rattle.gate_graph.specs.Circuit.{Circuit, net_of, fanouts_of, pins_taken, li
 use Rattle.gate_graph.specs.Holds.{pins_held}
 use Rattle.rm_model.specs.Value.{observed_names, source_names}
 use Rattle.rm_model.specs.declared.parts.Model.{Model}
-use Rattle.cover_decompose.specs.Built.{IsBuildable, IsBuilt, readers_in}
+use Rattle.cover_decompose.specs.Built.{IsBuilt, readers_in}
+use Rattle.cover_decompose.specs.Inner.Built.{IsBuildable}
 use Rattle.cover_decompose.specs.Count.{decomposed}
 use Rattle.cover_decompose.specs.Decomposition.{last_state, net_of_model}
 use Rattle.cover_decompose.proofs.Counted.{observed_count}

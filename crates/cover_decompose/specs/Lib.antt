@@ -4,12 +4,7 @@ pub mod Decomposition
 pub mod Count
 pub mod StandsFor
 pub mod Rows
-pub mod Plan
-pub mod PlanView
-pub mod Signals
-pub mod Places
-pub mod Tally
-pub mod Chosen
 pub mod Built
 pub mod Refusals
 pub mod Bounds
+pub mod Inner

@@ -1,8 +1,9 @@
 // The graph of a plan.
 ghost use Rattle.std.specs.Prelude.{◌≡◌, ◌<◌, ◌≤◌, ◌+◌, ◌^◌, [], length, map, take, All, IfOk, OnOk, slice_index};
-ghost use Rattle.cover_decompose.specs.Built.{IsBuildable, IsBuilt};
+ghost use Rattle.cover_decompose.specs.Built.{IsBuilt};
+ghost use Rattle.cover_decompose.specs.Inner.Built.{IsBuildable};
 ghost use Rattle.gate_graph.specs.Circuit.{pins_taken};
-ghost use Rattle.cover_decompose.specs.PlanView.{node_of_plan};
+ghost use Rattle.cover_decompose.specs.Inner.PlanView.{node_of_plan};
 ghost use Rattle.cover_decompose.specs.Limits.{most_pins};
 ghost use Rattle.rm_base.specs.Numbers.{first_source};
 

@@ -1,7 +1,7 @@
 // The number of wires of a decomposition, counted before it is made.
 ghost use Rattle.std.specs.Prelude.{◌≡◌, ◌<◌, ◌≤◌, ◌+◌, ◌^◌, [], length, map, All, IfOk, replicate, false, slice_get};
 ghost use Rattle.cover_decompose.specs.Count.{is_read as is_read_literal, joining as joining_wires, literal_count as count_of_literals};
-ghost use Rattle.cover_decompose.specs.Tally.{AreEven, cover_tally, covers_tally, literal_tally, one_tally, row_tally, rows_tally, zeros_tally};
+ghost use Rattle.cover_decompose.specs.Inner.Tally.{AreEven, cover_tally, covers_tally, literal_tally, one_tally, row_tally, rows_tally, zeros_tally};
 
 use rm_base::NoMemory;
 use rm_model::{Cover, Literal, Row};

@@ -1,6 +1,6 @@
 // The nodes of a model's decomposition.
 ghost use Rattle.std.specs.Prelude.{◌≡◌, ◌<◌, ◌+◌, ◌^◌, length, map, IfOk, slice_index};
-ghost use Rattle.cover_decompose.specs.Chosen.{AtPlaces, IsNumbered};
+ghost use Rattle.cover_decompose.specs.Inner.Chosen.{AtPlaces, IsNumbered};
 ghost use Rattle.cover_decompose.specs.Decomposition.{last_state, net_of_model};
 ghost use Rattle.cover_decompose.specs.Needed.{taken};
 ghost use Rattle.rm_model.specs.Value.{source_names};

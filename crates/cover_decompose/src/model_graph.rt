@@ -1,7 +1,7 @@
 // The graph of a model.
 ghost use Rattle.std.specs.Prelude.{◌≡◌, ◌<◌, ◌≤◌, ◌+◌, ◌^◌, ℕ, IfErr, IfOk, None, OnOk, length, map};
 ghost use Rattle.cover_decompose.specs.Built.{IsBuilt, readers_in};
-ghost use Rattle.cover_decompose.specs.Chosen.{AtPlaces, IsNumbered};
+ghost use Rattle.cover_decompose.specs.Inner.Chosen.{AtPlaces, IsNumbered};
 ghost use Rattle.cover_decompose.specs.Count.{decomposed};
 ghost use Rattle.cover_decompose.specs.Decomposition.{last_state, net_of_model};
 ghost use Rattle.cover_decompose.specs.Needed.{covers_by_rank, taken};

@@ -1,12 +1,12 @@
 // The signals of a model by number, and the covers that are taken by their places.
 ghost use Rattle.std.specs.Prelude.{◌≡◌, ◌<◌, ◌≤◌, ◌+◌, ◌^◌, length, map, IfOk, None, Some, All, replicate, false};
 ghost use Rattle.std.specs.List.{list_all};
-ghost use Rattle.cover_decompose.specs.Chosen.{AtPlaces, IsNumbered};
+ghost use Rattle.cover_decompose.specs.Inner.Chosen.{AtPlaces, IsNumbered};
 ghost use Rattle.cover_decompose.specs.Needed.{covers_by_rank, taken};
 ghost use Rattle.cover_decompose.specs.Count.{decomposed};
 ghost use Rattle.rm_model.specs.Ranks.{first_without_rank, ranks_of};
 ghost use Rattle.rm_model.specs.Value.{observed_names, source_names};
-ghost use Rattle.cover_decompose.specs.Places.{marked};
+ghost use Rattle.cover_decompose.specs.Inner.Places.{marked};
 ghost use Rattle.rm_model.specs.WellFormed.{IsWellFormed, driven_names};
 
 use crate::count::wires;

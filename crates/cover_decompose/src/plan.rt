@@ -1,11 +1,11 @@
 // The nodes of a decomposition, listed before a graph is made of them.
 ghost use Rattle.std.specs.Prelude.{◌≡◌, ◌<◌, ◌+◌, ◌≤◌, ◌^◌, ◌++◌, ◌∷◌, length, map, replicate, All, IfOk, OnOk, None, slice_get, slice_index};
 ghost use Rattle.cover_decompose.specs.Decomposition.{plain as plain_node};
-ghost use Rattle.cover_decompose.specs.Tally.{AreEven};
+ghost use Rattle.cover_decompose.specs.Inner.Tally.{AreEven};
 ghost use Rattle.gate_net.specs.declared.Kind.TheVariants.{Source, Zero, One};
 ghost use Rattle.std.specs.Option.{option_to_list};
-ghost use Rattle.cover_decompose.specs.PlanView.{node_of_plan};
-ghost use Rattle.cover_decompose.specs.Plan.{closed_planned, counting, cover_planned, covers_planned, gate_planned, joined_planned, literal_planned, literals_planned, node_planned, not_of, not_planned, one_planned, start_planned, term_planned, terms_planned};
+ghost use Rattle.cover_decompose.specs.Inner.PlanView.{node_of_plan};
+ghost use Rattle.cover_decompose.specs.Inner.Plan.{closed_planned, counting, cover_planned, covers_planned, gate_planned, joined_planned, literal_planned, literals_planned, node_planned, not_of, not_planned, one_planned, start_planned, term_planned, terms_planned};
 ghost use Rattle.rm_base.specs.Numbers.{first_source};
 
 use gate_net::Kind;
@@ -31,8 +31,8 @@ pub struct Plan {
 }
 
 impl Model for Plan {
-    ghost use Rattle.cover_decompose.specs.Plan.{Planned};
-    ghost use Rattle.cover_decompose.specs.PlanView.{node_of_plan};
+    ghost use Rattle.cover_decompose.specs.Inner.Plan.{Planned};
+    ghost use Rattle.cover_decompose.specs.Inner.PlanView.{node_of_plan};
     ghost use Rattle.std.specs.Prelude.{◌≡◌, length, map};
 
     ghost Value = { Planned };

@@ -11,11 +11,13 @@ use Rattle.gate_net.specs.Values.{Detects, node_value}
 use Rattle.rm_base.specs.declared.numbers.Fault.{Fault}
 use Rattle.fault_sim.proofs.LaneLaws.{lane_zero}
 use Rattle.fault_sim.proofs.Lists.{below_or, zero_words}
-use Rattle.fault_sim.specs.BlockStates.{AreBlocks, AreGoodWords, ArePlaced, AreSimulated, IsBlock, IsFirstLane, IsFirstVector, IsSimulatedBlock, good_of, vector_of, words_at, words_of}
-use Rattle.fault_sim.specs.Following.{AreFollowed, AreGrown, CanAllFollow, IsGrown, IsGrownOf, WasGoodBlock}
-use Rattle.fault_sim.specs.Pending.{HasRoom, IsFirstBit}
-use Rattle.fault_sim.specs.Simulating.{IsWithin}
-use Rattle.fault_sim.specs.Spreading.{AreLanes, IsRested, IsSized}
+use Rattle.fault_sim.specs.BlockStates.{AreGoodWords, AreSimulated, IsBlock, IsFirstVector, IsSimulatedBlock, vector_of, words_at}
+use Rattle.fault_sim.specs.Inner.BlockStates.{AreBlocks, ArePlaced, IsFirstLane, good_of, words_of}
+use Rattle.fault_sim.specs.Following.{CanAllFollow, IsGrown, WasGoodBlock}
+use Rattle.fault_sim.specs.Inner.Following.{AreFollowed, AreGrown, IsGrownOf}
+use Rattle.fault_sim.specs.Inner.Pending.{HasRoom, IsFirstBit}
+use Rattle.fault_sim.specs.Inner.Simulating.{IsWithin}
+use Rattle.fault_sim.specs.Inner.Spreading.{AreLanes, IsRested, IsSized}
 use Rattle.fault_sim.specs.Words.{assignment, lane, lane_values}
 use Rattle.fault_sim.specs.declared.blocks.Block.{Block}
 use Rattle.fault_sim.specs.declared.spread.Spread.{Spread}

@@ -9,13 +9,17 @@ use Rattle.fault_sim.proofs.LaneLaws.{lane_node, lane_zero, map_twice}
 use Rattle.fault_sim.proofs.Lists.{below_or, still_pending}
 use Rattle.fault_sim.proofs.ReadInOrder.{apart, driver_before, reader_not_dead, set_elsewhere, set_here, unlisted_dead}
 use Rattle.fault_sim.proofs.Spreads.{clash, still_idle}
-use Rattle.fault_sim.specs.BlockStates.{AreGoodWords, ArePlaced}
+use Rattle.fault_sim.specs.BlockStates.{AreGoodWords}
+use Rattle.fault_sim.specs.Inner.BlockStates.{ArePlaced}
 use Rattle.fault_sim.specs.Following.{AreTouched, DiffersAmong, IsRereading, IsRightAt, Stands, WereGood}
 use Rattle.fault_sim.specs.Ordered.{IsOrdered}
-use Rattle.fault_sim.specs.Pending.{IsIdle, IsMarked, IsPending, IsUnmarked, is_pending}
-use Rattle.fault_sim.specs.Simulating.{AreNoOthers, IsWithin}
-use Rattle.fault_sim.specs.Spreading.{AreLanes, IsRested, IsUnstamped, MarksReaders}
-use Rattle.fault_sim.specs.Words.{assigned_word, assignment, lane, lane_values, node_word}
+use Rattle.fault_sim.specs.Pending.{IsIdle, IsPending, is_pending}
+use Rattle.fault_sim.specs.Inner.Pending.{IsMarked, IsUnmarked}
+use Rattle.fault_sim.specs.Simulating.{AreNoOthers}
+use Rattle.fault_sim.specs.Inner.Simulating.{IsWithin}
+use Rattle.fault_sim.specs.Inner.Spreading.{AreLanes, IsRested, IsUnstamped, MarksReaders}
+use Rattle.fault_sim.specs.Words.{assigned_word, assignment, lane, lane_values}
+use Rattle.fault_sim.specs.Inner.Words.{node_word}
 use Rattle.fault_sim.specs.declared.spread.Spread.{Spread}
 use Rattle.rm_base.proofs.Public.{map_agree, slice_get_below, stands_or_not}
 

@@ -1,15 +1,12 @@
 -- What a contract sees of blocks of 64 vectors.
-use Rattle.std.specs.Prelude.{Bool, List, None, Option, Some, [], length, map, slice_get, slice_index, slice_index_or, ℕ, ◌%◌, ◌*◌, ◌/◌, ◌<◌, ◌≡◌}
+use Rattle.std.specs.Prelude.{Bool, List, None, Option, Some, [], length, slice_index_or, ℕ, ◌%◌, ◌*◌, ◌/◌, ◌<◌, ◌≡◌}
 use Rattle.fault_sim.specs.Ordered.{IsOrdered}
 use Rattle.gate_net.specs.Net.{Net, source_count}
 use Rattle.gate_net.specs.Values.{AreGoodValues, Detects}
 use Rattle.rm_base.specs.declared.numbers.Fault.{Fault}
-use Rattle.fault_sim.specs.Pending.{HasRoom}
-use Rattle.fault_sim.specs.Simulating.{AreNoOthers, IsWithin}
-use Rattle.fault_sim.specs.Spreading.{IsRested, IsSized}
+use Rattle.fault_sim.specs.Simulating.{AreNoOthers}
 use Rattle.fault_sim.specs.Words.{assignment, lane_values}
 use Rattle.fault_sim.specs.declared.blocks.Block.{Block}
-use Rattle.fault_sim.specs.declared.spread.Spread.{Spread}
 
 -- the words of the sources of each block, the order of the nodes, and the good words of each block by node number
 pub record BlockState : Type 0 where
@@ -39,36 +36,13 @@ pub record AreSimulated (s : BlockState) (net : Net) : Type 0 where
   pub sources : (b : ℕ) → b < length s.words → length (words_at s.words b) ≡ source_count net
   pub values : (b : ℕ) → b < length s.words → AreGoodWords net (words_at s.words b) (words_at s.good b)
 
--- what all blocks have in common
-pub record ArePlaced (order places : List ℕ) (spread : Spread) : Type 0 where
-  pub within : IsWithin order (length places)
-  pub places_are : (k x : ℕ) → slice_get order k ≡ Some x → slice_index places x ≡ k
-  pub sized : IsSized (length places) spread
-  pub room : HasRoom spread.pending.items (length order)
-  pub rested : IsRested spread
-
 -- there is a good word for each number, and 0 for those that the order doesn't list
 pub record IsBlock (order : List ℕ) (numbers : ℕ) (good : List ℕ) : Type 0 where
   pub size : length good ≡ numbers
   pub others : AreNoOthers order good
-
-abbrev pub words_of : List Block → List (List ℕ)
-words_of blocks = map (λ (b : Block). b.words.items) blocks
-
-abbrev pub good_of : List Block → List (List ℕ)
-good_of blocks = map (λ (b : Block). b.good.items) blocks
-
--- each block is one for the order
-abbrev pub AreBlocks : List ℕ → ℕ → List Block → Type 0
-AreBlocks order numbers blocks = (b : ℕ) (block : Block) → slice_get blocks b ≡ Some block → IsBlock order numbers block.good.items
 
 -- the block is simulated on the net
 pub record IsSimulatedBlock (net : Net) (order : List ℕ) (numbers : ℕ) (block : Block) : Type 0 where
   pub good : IsBlock order numbers block.good.items
   pub sources : length block.words.items ≡ source_count net
   pub values : AreGoodWords net block.words.items block.good.items
-
--- the first lane of the block whose vector detects the fault, or none does
-abbrev pub IsFirstLane : Net → Fault → List ℕ → Option ℕ → Type 0
-IsFirstLane net fault words None = (i : ℕ) → i < 64 → Detects net fault (assignment words i) → ⊥
-IsFirstLane net fault words (Some i) = (i < 64) × (Detects net fault (assignment words i) × ((j : ℕ) → j < i → Detects net fault (assignment words j) → ⊥))

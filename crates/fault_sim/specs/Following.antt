@@ -1,9 +1,9 @@
 -- Words that follow a net that changes.
-use Rattle.std.specs.Prelude.{List, None, Some, length, map, replicate, slice_get, slice_index, take, ℕ, ◌++◌, ◌-◌, ◌<◌, ◌≡◌, ◌≢◌, ◌≤◌, ◌⊎◌}
+use Rattle.std.specs.Prelude.{List, None, Some, length, map, replicate, slice_get, slice_index, ℕ, ◌++◌, ◌-◌, ◌<◌, ◌≡◌, ◌≢◌, ◌≤◌, ◌⊎◌}
 use Rattle.gate_net.specs.Edits.{IsSameBut}
 use Rattle.gate_net.specs.Net.{Net, Reads, drivers_of, node_at, source_count}
 use Rattle.gate_net.specs.Values.{node_value}
-use Rattle.fault_sim.specs.BlockStates.{AreGoodWords, AreSimulated, BlockState, IsSimulatedBlock, words_of}
+use Rattle.fault_sim.specs.BlockStates.{AreGoodWords, AreSimulated, BlockState}
 use Rattle.fault_sim.specs.LaneStates.{Fits, IsSimulated, LaneState}
 use Rattle.fault_sim.specs.Pending.{IsIdle, IsPending}
 use Rattle.fault_sim.specs.Words.{assignment, lane_values}
@@ -39,28 +39,10 @@ pub record WasGoodBlock (net : Net) (numbers : ℕ) (changed : List ℕ) (block 
   pub sources : length block.words.items ≡ source_count net
   pub were : WereGood net block.words.items block.good.items changed
 
--- the first blocks are simulated on the net, and all have the words of before
-pub record AreFollowed (net : Net) (order : List ℕ) (numbers : ℕ) (old blocks : List Block) (n : ℕ) : Type 0 where
-  pub done : (b : ℕ) (block : Block) → b < n → slice_get blocks b ≡ Some block → IsSimulatedBlock net order numbers block
-  pub ahead : (b : ℕ) → n ≤ b → slice_get blocks b ≡ slice_get old b
-  pub words : words_of blocks ≡ words_of old
-
 -- the block has the same words, and zeros after the good ones up to this number
 pub record IsGrown (numbers : ℕ) (old block : Block) : Type 0 where
   pub words : block.words.items ≡ old.words.items
   pub good : block.good.items ≡ old.good.items ++ replicate (numbers - length old.good.items) 0
-
--- the block is one of these, grown
-pub record IsGrownOf (numbers : ℕ) (old : List Block) (block : Block) : Type 0 where
-  pub number : ℕ
-  pub from : Block
-  pub there : slice_get old number ≡ Some from
-  pub grown : IsGrown numbers from block
-
--- these are the first of the old blocks, grown
-pub record AreGrown (numbers : ℕ) (old blocks : List Block) (n : ℕ) : Type 0 where
-  pub words : words_of blocks ≡ words_of (take n old)
-  pub each : (b : ℕ) (block : Block) → slice_get blocks b ≡ Some block → IsGrownOf numbers old block
 
 -- the node has its place, and what it reads stands before it
 pub record Stands (net : Net) (order places : List ℕ) (y : ℕ) : Type 0 where

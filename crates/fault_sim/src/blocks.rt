@@ -3,9 +3,11 @@ ghost use Rattle.std.specs.Prelude.{◌≡◌, ◌<◌, ◌≤◌, ◌++◌, ◌
 ghost use Rattle.gate_net.specs.Net.{source_count};
 ghost use Rattle.gate_graph.specs.Circuit.{net_of};
 ghost use Rattle.fault_sim.specs.Ordered.{IsOrdered};
-ghost use Rattle.fault_sim.specs.Simulating.{IsWithin};
-ghost use Rattle.fault_sim.specs.Following.{AreFollowed, AreGrown, CanAllFollow, IsGrown, WasGoodBlock};
-ghost use Rattle.fault_sim.specs.BlockStates.{ArePlaced, AreSimulated, IsFirstLane, IsFirstVector, IsSimulatedBlock, words_of};
+ghost use Rattle.fault_sim.specs.Inner.Simulating.{IsWithin};
+ghost use Rattle.fault_sim.specs.Following.{CanAllFollow, IsGrown, WasGoodBlock};
+ghost use Rattle.fault_sim.specs.Inner.Following.{AreFollowed, AreGrown};
+ghost use Rattle.fault_sim.specs.BlockStates.{AreSimulated, IsFirstVector, IsSimulatedBlock};
+ghost use Rattle.fault_sim.specs.Inner.BlockStates.{ArePlaced, IsFirstLane, words_of};
 
 use crate::detecting::found_by;
 use crate::following::catch_up;
@@ -206,7 +208,7 @@ impl Model for Blocks {
     ghost Value = { BlockState };
 
     ghost use Rattle.std.specs.Prelude.{◌≤◌, length, map};
-    ghost use Rattle.fault_sim.specs.BlockStates.{AreBlocks, ArePlaced, good_of, words_of};
+    ghost use Rattle.fault_sim.specs.Inner.BlockStates.{AreBlocks, ArePlaced, good_of, words_of};
 
     ghost view = { λ s. record { words = words_of s.blocks.items; order = map (λ n. n.0) s.order.items; good = good_of s.blocks.items } };
 

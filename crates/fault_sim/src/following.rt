@@ -2,12 +2,14 @@
 ghost use Rattle.std.specs.Prelude.{◌≡◌, ◌≢◌, ◌<◌, ◌+◌, ◌/◌, ℕ, None, Some, length, map, slice_get, slice_index, slice_set};
 ghost use Rattle.gate_net.specs.Net.{kind_of, source_count};
 ghost use Rattle.gate_graph.specs.Circuit.{net_of};
-ghost use Rattle.fault_sim.specs.BlockStates.{AreGoodWords, ArePlaced, IsBlock};
+ghost use Rattle.fault_sim.specs.BlockStates.{AreGoodWords, IsBlock};
+ghost use Rattle.fault_sim.specs.Inner.BlockStates.{ArePlaced};
 ghost use Rattle.fault_sim.specs.Following.{AreTouched, IsRereading, WereGood};
 ghost use Rattle.fault_sim.specs.Ordered.{IsOrdered};
-ghost use Rattle.fault_sim.specs.Pending.{HasRoom, IsIdle, IsMarked};
-ghost use Rattle.fault_sim.specs.Simulating.{IsWithin};
-ghost use Rattle.fault_sim.specs.Spreading.{AreLanes, IsUnstamped};
+ghost use Rattle.fault_sim.specs.Pending.{IsIdle};
+ghost use Rattle.fault_sim.specs.Inner.Pending.{HasRoom, IsMarked};
+ghost use Rattle.fault_sim.specs.Inner.Simulating.{IsWithin};
+ghost use Rattle.fault_sim.specs.Inner.Spreading.{AreLanes, IsUnstamped};
 
 use crate::detecting::mark_after;
 use crate::good_reading::good_word;

@@ -4,7 +4,8 @@ ghost use Rattle.std.specs.List.{fold};
 ghost use Rattle.gate_net.specs.Net.{drivers_of, node_at, source_count};
 ghost use Rattle.gate_graph.specs.Circuit.{net_of};
 ghost use Rattle.refutation.specs.Pins.{AreBelow};
-ghost use Rattle.fault_sim.specs.Words.{assigned_word, join_word, node_word, not_word, word_of};
+ghost use Rattle.fault_sim.specs.Words.{assigned_word};
+ghost use Rattle.fault_sim.specs.Inner.Words.{join_word, node_word, not_word, word_of};
 
 use crate::reading::join;
 use gate_graph::{Graph, Inputs};

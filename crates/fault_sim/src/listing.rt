@@ -2,7 +2,7 @@
 ghost use Rattle.std.specs.Prelude.{◌≡◌, ◌≤◌, IfOk, length, map};
 ghost use Rattle.gate_graph.specs.Circuit.{net_of};
 ghost use Rattle.gate_graph.specs.Order.{IsOrder};
-ghost use Rattle.fault_sim.specs.BlockStates.{ArePlaced};
+ghost use Rattle.fault_sim.specs.Inner.BlockStates.{ArePlaced};
 
 use crate::making::places_of;
 use crate::spread::{Spread, new_spread};

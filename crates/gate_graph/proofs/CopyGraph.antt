@@ -3,7 +3,8 @@ use Rattle.std.proofs.Common.{◌≡◌, ℕ, ◌+◌, true, List, length, ap, a
 use Rattle.std.specs.FinSet as finset
 use Rattle.pin_pool.specs.Pins.{list_of}
 use Rattle.pin_pool.specs.Rings.{rings_of, AreRings, IsLinked}
-use Rattle.gate_graph.specs.Circuit.{Circuit, net_of, pins_taken, free_pins, IsGraph}
+use Rattle.gate_graph.specs.Circuit.{Circuit, net_of, pins_taken, free_pins}
+use Rattle.gate_graph.specs.Inner.Circuit.{IsGraph}
 use Rattle.gate_graph.specs.Holds.{pins_held}
 use Rattle.gate_graph.specs.Readers.{SameReaders}
 use Rattle.gate_graph.proofs.HeldPins.{held-are, taken-linked}

@@ -12,9 +12,10 @@ use Rattle.pin_pool.proofs.Public.{no-pins-from, pins-few, pins-more}
 use Rattle.pin_pool.specs.Pins.{Pins, list_of}
 use Rattle.pin_pool.specs.Rings.{AreRings, rings_of}
 use Rattle.gate_graph.specs.Wirings.{IsShaped, kind_at, free_in}
-use Rattle.gate_graph.specs.Circuit.{Circuit, IsGraph, wiring, net_of, gate_pins, home}
+use Rattle.gate_graph.specs.Circuit.{Circuit, wiring, net_of, gate_pins, home}
+use Rattle.gate_graph.specs.Inner.Circuit.{IsGraph}
 use Rattle.pin_pool.specs.Totals.{pins_from}
-use Rattle.gate_graph.specs.Totals.{sum_kinds}
+use Rattle.gate_graph.specs.Inner.Totals.{sum_kinds}
 use Rattle.gate_graph.proofs.NetOf.{observed-net}
 use Rattle.gate_graph.proofs.Pinned.{drivers-all}
 use Rattle.gate_graph.proofs.Formed.{kind_of-net, sources-net}

@@ -15,7 +15,7 @@ use Rattle.pin_pool.specs.Ring.{has}
 use Rattle.pin_pool.specs.Pins.{Pins, list_of}
 use Rattle.pin_pool.specs.Rings.{Rings, AreRings, rings_of, linked, changed}
 use Rattle.gate_graph.specs.Wirings.{IsShaped, IsWired, kind_at}
-use Rattle.gate_graph.specs.Filled.{IsFilled}
+use Rattle.gate_graph.specs.Inner.Filled.{IsFilled}
 use Rattle.gate_graph.specs.Circuit.{Circuit, wiring, net_of, fanouts_of, fans_in, node_with, gate_pins, home}
 use Rattle.gate_graph.proofs.NetOf.{home-here, map-same, node_at-net, observed-net}
 use Rattle.gate_graph.proofs.Firsts.{first-changed, gate-no_first, none-no_first}

@@ -12,7 +12,8 @@ use Rattle.pin_pool.specs.Pins.{list_of}
 use Rattle.pin_pool.specs.Rings.{AreRings, rings_of}
 use Rattle.gate_graph.specs.Wirings.{IsShaped, IsWired, kind_at}
 use Rattle.gate_graph.specs.Circuit.{Circuit, wiring, net_of, gate_pins, home}
-use Rattle.gate_graph.specs.Order.{IsOrder, IsCounted, IsFollowed, IsFollowing, IsStarted, IsDriven, unseen_in}
+use Rattle.gate_graph.specs.Order.{IsOrder, IsCounted, IsFollowing, IsStarted, IsDriven, unseen_in}
+use Rattle.gate_graph.specs.Inner.Order.{IsFollowed}
 use Rattle.gate_graph.proofs.NetOf.{home-here}
 use Rattle.gate_graph.proofs.Ranked.{some-at, read-by}
 use Rattle.gate_graph.proofs.KindAt.{kind-within}

@@ -13,7 +13,8 @@ use Rattle.gate_net.specs.Net.{Net, Node, flatten_option, node_at, kind_in, kind
 use Rattle.pin_pool.specs.Pins.{list_of}
 use Rattle.pin_pool.specs.Rings.{AreRings, rings_of}
 use Rattle.gate_graph.specs.Wirings.{IsShaped, IsWired, kind_at}
-use Rattle.gate_graph.specs.Circuit.{Circuit, kinds_live, wiring, net_of, node_with, gate_pins, home}
+use Rattle.gate_graph.specs.Circuit.{Circuit, wiring, net_of, node_with, gate_pins, home}
+use Rattle.gate_graph.specs.Inner.Circuit.{kinds_live}
 use Rattle.gate_graph.proofs.NetOf.{node_at-net, node-there, observed-net, nodes-trimmed, home-here}
 use Rattle.gate_graph.proofs.LeadOns.{kind-of}
 use Rattle.gate_graph.proofs.Pinned.{drivers-all}

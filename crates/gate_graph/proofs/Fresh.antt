@@ -6,7 +6,8 @@ use Rattle.gate_net.specs.declared.Kind.TheVariants.{Source, Zero, One, Not}
 use Rattle.pin_pool.specs.Pins.{Pins}
 use Rattle.pin_pool.specs.Rings.{Rings, rings_of, no_rings}
 use Rattle.gate_graph.specs.Wirings.{Wiring, kind_at, wiring_of, AreFirst, IsShaped, IsWired}
-use Rattle.gate_graph.specs.Circuit.{Circuit, IsGraph, wiring, net_of, kinds_live, kinds_dead}
+use Rattle.gate_graph.specs.Circuit.{Circuit, wiring, net_of}
+use Rattle.gate_graph.specs.Inner.Circuit.{IsGraph, kinds_live, kinds_dead}
 use Rattle.gate_graph.specs.declared.undo_list.Undo.{Undo}
 use Rattle.gate_graph.specs.Undoing.{LeadOn}
 use Rattle.gate_graph.specs.Readers.{SameReaders}

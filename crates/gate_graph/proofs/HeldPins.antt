@@ -18,10 +18,12 @@ use Rattle.gate_graph.specs.declared.undo_list.Undo.TheVariants.{Appended, Remov
 use Rattle.gate_graph.specs.Undoing.{CanTakeBack, taken_back}
 use Rattle.gate_graph.proofs.KindAt.{kind-within}
 use Rattle.gate_graph.specs.Wirings.{Wiring, wiring_of}
-use Rattle.gate_graph.specs.Circuit.{Circuit, net_of, gate_pins, home, pins_taken, IsGraph}
+use Rattle.gate_graph.specs.Circuit.{Circuit, net_of, gate_pins, home, pins_taken}
+use Rattle.gate_graph.specs.Inner.Circuit.{IsGraph}
 use Rattle.gate_graph.specs.Holds.{held, held_by, pins_held, pins_made, HoldsOn}
-use Rattle.gate_graph.specs.Filled.{IsFilled}
-use Rattle.pin_pool.specs.Totals.{pins_from, linked_pins, listed_pins}
+use Rattle.gate_graph.specs.Inner.Filled.{IsFilled}
+use Rattle.pin_pool.specs.Totals.{pins_from, linked_pins}
+use Rattle.pin_pool.specs.Inner.Totals.{listed_pins}
 use Rattle.gate_graph.proofs.NetOf.{observed-net}
 use Rattle.gate_graph.proofs.Pinned.{dead-pins}
 use Rattle.gate_graph.proofs.Counted.{wires-are, wires-few, same-pins, live-numbers}

@@ -16,7 +16,8 @@ use Rattle.gate_graph.specs.declared.undo_list.Undo.TheVariants.{Appended, Remov
 use Rattle.pin_pool.specs.Rings.{rings_of, returned, changed, all_without, IsOut}
 use Rattle.gate_graph.specs.Wirings.{Wiring, wiring_of, kind_at}
 use Rattle.gate_graph.specs.Undoing.{CanTakeBack, taken_back, CanGoBack}
-use Rattle.gate_graph.specs.Holds.{held_by, held, IsHeld, AreHeld}
+use Rattle.gate_graph.specs.Holds.{held_by, held}
+use Rattle.gate_graph.specs.Inner.Holds.{IsHeld, AreHeld}
 
 without-keeps : (p q : ℕ) (xs : List ℕ) → q ≢ p → has q (without p xs) ≡ has q xs
 without-keeps p q [] ne = refl

@@ -3,7 +3,8 @@ use Rattle.std.proofs.Common.{◌≡◌, ℕ, List, length, sym, ap, subst, arit
 use Rattle.gate_net.specs.declared.Kind.{Kind}
 use Rattle.pin_pool.specs.Rings.{rings_of}
 use Rattle.gate_graph.specs.Wirings.{Wiring, IsShaped, IsWired, kind_at}
-use Rattle.gate_graph.specs.Circuit.{Circuit, wiring, net_of, fanouts_of, IsGraph}
+use Rattle.gate_graph.specs.Circuit.{Circuit, wiring, net_of, fanouts_of}
+use Rattle.gate_graph.specs.Inner.Circuit.{IsGraph}
 use Rattle.gate_graph.specs.Readers.{SameReaders}
 use Rattle.gate_graph.proofs.SameWired.{same-seen}
 

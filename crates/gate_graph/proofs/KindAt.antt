@@ -7,7 +7,7 @@ use Rattle.pin_pool.proofs.Public.{changed-other, changed-same}
 use Rattle.pin_pool.specs.Pins.{Pins}
 use Rattle.pin_pool.specs.Rings.{Rings, rings_of, changed}
 use Rattle.gate_graph.specs.Wirings.{Wiring, kind_at, wiring_of}
-use Rattle.gate_graph.specs.Circuit.{kinds_live, kinds_dead}
+use Rattle.gate_graph.specs.Inner.Circuit.{kinds_live, kinds_dead}
 
 pub kind-within : (kinds : List (Option Kind)) (n : ℕ) → kind_at kinds n ≢ None → n < length kinds
 kind-within kinds n live = elim (cases_lt n (length kinds)) [

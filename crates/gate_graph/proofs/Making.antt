@@ -15,7 +15,8 @@ use Rattle.pin_pool.specs.Rings.{Rings, AreRings, rings_of, linked, dropped, cha
 use Rattle.gate_graph.specs.Wirings.{free_in, Wiring, IsShaped, IsWired, kind_at}
 use Rattle.gate_graph.specs.Undoing.{CanTakeBack, LeadOn}
 use Rattle.gate_net.specs.Edits.{MakesGate}
-use Rattle.gate_graph.specs.Circuit.{Circuit, wiring, net_of, node_with, gate_pins, home, kinds_live}
+use Rattle.gate_graph.specs.Circuit.{Circuit, wiring, net_of, node_with, gate_pins, home}
+use Rattle.gate_graph.specs.Inner.Circuit.{kinds_live}
 use Rattle.gate_graph.proofs.NetOf.{home-here, map-same, node_at-net, observed-net}
 use Rattle.gate_graph.proofs.LeadOns.{lead-by, live-in, within-length}
 use Rattle.gate_graph.proofs.Firsts.{first-changed, gate-no_first, none-no_first}

@@ -4,7 +4,8 @@ use Rattle.std.specs.Prelude.{slice_get, slice_set}
 use Rattle.std.proofs.lemmas.List.{get_or-set_same, get_or-set_other}
 use Rattle.std.proofs.lemmas.Option.{slice_get_within, slice_get-get_or}
 use Rattle.std.proofs.lemmas.Bool.{cases_lt}
-use Rattle.gate_graph.specs.Search.{IsSeen, unseen, Marked, ListsSeen}
+use Rattle.gate_graph.specs.Search.{IsSeen, unseen}
+use Rattle.gate_graph.specs.Inner.Search.{Marked, ListsSeen}
 use Rattle.rm_base.proofs.Public.{front_stands, last_cases, last_stands}
 
 pub unseen-set : (s : List Bool) (d : ℕ) → slice_get s d ≡ Some false → suc (unseen (slice_set s d true)) ≡ unseen s

@@ -8,8 +8,9 @@ use Rattle.std.proofs.lemmas.List.{length-replicate, get_or_past}
 use Rattle.std.proofs.lemmas.Bool.{cases_Bool}
 use Rattle.gate_net.specs.declared.Kind.{Kind}
 use Rattle.gate_net.specs.declared.Kind.TheVariants.{Source}
-use Rattle.gate_graph.specs.Wirings.{kind_at, free_in, free_bit}
-use Rattle.gate_graph.specs.Circuit.{kinds_dead}
+use Rattle.gate_graph.specs.Wirings.{kind_at, free_in}
+use Rattle.gate_graph.specs.Inner.Wirings.{free_bit}
+use Rattle.gate_graph.specs.Inner.Circuit.{kinds_dead}
 use Rattle.pin_pool.proofs.Public.{len-one_less}
 use Rattle.gate_graph.proofs.Fresh.{first_kinds}
 

@@ -22,7 +22,7 @@ use Rattle.pin_pool.specs.Rings.{Rings, AreRings, Stood, rings_of, unlinked, cha
 use Rattle.gate_graph.specs.Wirings.{Wiring, IsShaped, IsWired, AreFirst, kind_at}
 use Rattle.gate_graph.specs.Undoing.{LeadOn}
 use Rattle.gate_graph.specs.Circuit.{Circuit, wiring, net_of, fanouts_of, fans_in, node_with, gate_pins, home}
-use Rattle.gate_graph.specs.Emptied.{IsEmptied}
+use Rattle.gate_graph.specs.Inner.Emptied.{IsEmptied}
 use Rattle.gate_graph.proofs.NetOf.{home-here, map-same, node_at-net, observed-net, drivers-there}
 use Rattle.gate_graph.proofs.LeadOns.{lead-by, lead-trans, within-length, kind-of}
 use Rattle.gate_graph.proofs.Firsts.{first-changed, gate-no_first, none-no_first}

@@ -1,12 +1,11 @@
 -- What a contract sees of a graph, and the net and the fanouts that it stands for.
-use Rattle.std.specs.Prelude.{◌-◌, ◌≡◌, ◌≢◌, ℕ, zero, suc, ◌+◌, ◌<◌, ◌≤◌, ◌==◌, List, [], ◌∷◌, length, map, Option, Some, None, if◌then◌else◌}
+use Rattle.std.specs.Prelude.{◌-◌, ◌≡◌, ℕ, zero, suc, ◌+◌, ◌==◌, List, [], ◌∷◌, length, map, Option, Some, None, if◌then◌else◌}
 use Rattle.std.specs.FinSet as set
 use Rattle.gate_net.specs.declared.Kind.{Kind}
 use Rattle.gate_net.specs.Net.{Node, Net, trimmed}
 use Rattle.pin_pool.specs.Ring.{has}
 use Rattle.pin_pool.specs.Pins.{Pins, list_of}
-use Rattle.gate_graph.specs.Wirings.{kind_at, free_in, Wiring, wiring_of, IsWired}
-use Rattle.rm_base.specs.Numbers.{number_bound}
+use Rattle.gate_graph.specs.Wirings.{kind_at, free_in, Wiring, wiring_of}
 
 -- the kinds by node number, the pins, and the epoch
 pub record Circuit : Type 0 where
@@ -76,20 +75,6 @@ fans_in v n = map (reader v) (without_observed (list_of v.inputs observed_list) 
 -- the readers of a node, each as its gate and its position, in ring order
 unfoldable pub fanouts_of : Circuit → ℕ → List (ℕ × ℕ)
 fanouts_of v n = fans_in v.pool n
-
--- what holds of every graph
-pub record IsGraph (v : Circuit) : Type 0 where
-  pub wired : IsWired (wiring v)
-  pub room : length v.kinds ≤ length v.pool.inputs
-  pub few : length v.kinds ≤ number_bound
-
--- the same node numbers are live as the same kinds, with the same pins: room, epoch and spare pins may differ
-abbrev pub kinds_live : List (Option Kind) → ℕ → Type 0
-kinds_live kinds n = (m : ℕ) → m < n → kind_at kinds m ≢ None
-
--- no number from a bound on has a kind
-abbrev pub kinds_dead : List (Option Kind) → ℕ → Type 0
-kinds_dead kinds n = (m : ℕ) → n ≤ m → kind_at kinds m ≡ None
 
 -- how many pins may be added, and how many nodes, before more room is reserved
 abbrev pub free_pins : Circuit → ℕ

@@ -1,11 +1,8 @@
 -- The pins that undos hold.
-use Rattle.std.specs.Prelude.{◌≡◌, ℕ, suc, ◌+◌, ◌-◌, true, List, [], ◌∷◌, ◌++◌, length}
+use Rattle.std.specs.Prelude.{◌≡◌, ℕ, suc, ◌+◌, ◌-◌, List, [], ◌∷◌, ◌++◌, length}
 use Rattle.gate_net.specs.Net.{wire_count}
-use Rattle.pin_pool.specs.Ring.{has, IsApart}
 use Rattle.gate_graph.specs.declared.undo_list.Undo.{Undo}
 use Rattle.gate_graph.specs.declared.undo_list.Undo.TheVariants.{Appended, Removed, Made}
-use Rattle.pin_pool.specs.Rings.{IsOut}
-use Rattle.gate_graph.specs.Wirings.{Wiring}
 use Rattle.gate_graph.specs.Circuit.{Circuit, net_of, pins_taken}
 
 abbrev pub held_by : Undo → List ℕ
@@ -15,14 +12,6 @@ held_by _ = []
 abbrev pub held : List Undo → List ℕ
 held [] = []
 held (e ∷ es) = held_by e ++ held es
-
--- taken, and in no list
-abbrev pub IsHeld : Wiring → ℕ → Type 0
-IsHeld w q = (w.rings.taken q ≡ true) × (IsOut w.rings.inputs q × IsOut w.rings.fanouts q)
-
-pub record AreHeld (w : Wiring) (pins : List ℕ) : Type 0 where
-  pub apart : IsApart pins
-  pub each : (q : ℕ) → has q pins ≡ true → IsHeld w q
 
 -- how many pins undos hold
 abbrev pub pins_held : Circuit → ℕ

@@ -2,14 +2,12 @@ pub mod Wirings
 pub mod Undoing
 pub mod Circuit
 pub mod Trail
-pub mod Emptied
 pub mod Changes
 pub mod Holds
-pub mod Filled
 pub mod Start
 pub mod Spots
 pub mod Questions
 pub mod Readers
 pub mod Search
-pub mod Totals
 pub mod Order
+pub mod Inner

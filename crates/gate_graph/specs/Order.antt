@@ -1,5 +1,5 @@
 -- The nodes in an order in which drivers come before their readers, and how far it has come.
-use Rattle.std.specs.Prelude.{◌≡◌, ◌≢◌, ℕ, suc, ◌<◌, ◌≤◌, true, List, [], ◌∷◌, ◌++◌, length, Some, None, slice_get, slice_index, if◌then◌else◌}
+use Rattle.std.specs.Prelude.{◌≡◌, ◌≢◌, ℕ, suc, ◌<◌, true, List, [], ◌∷◌, ◌++◌, length, Some, None, slice_get, slice_index, if◌then◌else◌}
 use Rattle.gate_net.specs.Net.{Net, node_at, Reads}
 use Rattle.pin_pool.specs.Ring.{has}
 use Rattle.pin_pool.specs.Pins.{list_of}
@@ -31,14 +31,6 @@ pub record IsCounted (v : Circuit) (left xs seen : List ℕ) : Type 0 where
   pub listed : (g : ℕ) → kind_at v.kinds g ≢ None → slice_index left g ≡ 0 → (k : ℕ) × (slice_get xs k ≡ Some g)
   pub ready : (k g : ℕ) → slice_get xs k ≡ Some g → slice_index left g ≡ 0
   pub before : (k g p : ℕ) → slice_get xs k ≡ Some g → has p (gate_pins v.pool g) ≡ true → IsDriven v xs k p
-
--- the readers of the nodes before a place are counted
-pub record IsFollowed (v : Circuit) (left xs : List ℕ) (next : ℕ) : Type 0 where
-  pub seen : List ℕ
-  pub counted : IsCounted v left xs seen
-  pub room : next ≤ length xs
-  pub from : (p : ℕ) → has p seen ≡ true → IsDriven v xs next p
-  pub done : (k x p : ℕ) → k < next → slice_get xs k ≡ Some x → has p (list_of v.pool.fanouts x) ≡ true → has p seen ≡ true
 
 -- and some readers of the node there
 pub record IsFollowing (v : Circuit) (left xs : List ℕ) (next node : ℕ) (ys : List ℕ) : Type 0 where

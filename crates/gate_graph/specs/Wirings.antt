@@ -50,7 +50,3 @@ abbrev pub free_in : List (Option Kind) → ℕ
 free_in [] = 0
 free_in (None ∷ kinds) = suc (free_in kinds)
 free_in (Some kind ∷ kinds) = free_in kinds
-
-abbrev pub free_bit : Option Kind → ℕ
-free_bit None = 1
-free_bit (Some kind) = 0

@@ -16,10 +16,10 @@ ghost use Rattle.gate_net.specs.Edits.{with_readers_moved};
 ghost use Rattle.gate_net.specs.Edits.{with_pin, with_drivers};
 ghost use Rattle.gate_net.specs.declared.Kind.TheVariants.{One, Not};
 
-use crate::undo_list::{Undo, Undos};
 use crate::pins::{least_free, nth_pin};
-use crate::rings::{link_new, tell_rings, move_fanouts, redrive_pin, unlink_at, unlink_pin};
+use crate::rings::{link_new, move_fanouts, redrive_pin, tell_rings, unlink_at, unlink_pin};
 use crate::state::Graph;
+use crate::undo_list::{Undo, Undos};
 use crate::undoing::set_kind;
 use gate_net::Kind;
 use rm_base::NodeId;

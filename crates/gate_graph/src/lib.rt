@@ -4,7 +4,6 @@
 mod copying;
 mod counting;
 mod editing;
-mod undo_list;
 mod fanout_iter;
 mod faults;
 mod growing;
@@ -17,10 +16,10 @@ mod reading;
 mod rings;
 mod searching;
 mod state;
+mod undo_list;
 mod undoing;
 
 pub use editing::Edit;
-pub use undo_list::{Undo, Undos};
 pub use fanout_iter::Fanouts;
 pub use faults::{faults_of, pin_count};
 pub use input_iter::Inputs;
@@ -28,3 +27,4 @@ pub use question::Question;
 pub use reader_iter::Readers;
 pub use searching::Marks;
 pub use state::{Graph, same_wiring};
+pub use undo_list::{Undo, Undos};

@@ -1,7 +1,8 @@
 //! The nodes in an order in which drivers come before their readers.
 ghost use Rattle.std.specs.Prelude.{◌≡◌, ◌≢◌, ◌+◌, ◌-◌, ◌<◌, ◌≤◌, [], ◌∷◌, ◌++◌, None, IfOk, OnOk, length, map, slice_index, slice_set};
 ghost use Rattle.gate_graph.specs.Circuit.{net_of};
-ghost use Rattle.gate_graph.specs.Order.{IsFollowed, IsOrder};
+ghost use Rattle.gate_graph.specs.Order.{IsOrder};
+ghost use Rattle.gate_graph.specs.Inner.Order.{IsFollowed};
 
 use crate::pins::{count_gate_pins, stored_kind};
 use crate::state::Graph;

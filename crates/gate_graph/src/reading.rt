@@ -3,7 +3,8 @@ ghost use Rattle.std.specs.Prelude.{◌≡◌, ◌+◌, ◌<◌, ◌≤◌, ◌�
 ghost use Rattle.std.specs.Option.{option_map};
 ghost use Rattle.pin_pool.specs.Rings.{rings_of, AreRings, IsIn};
 ghost use Rattle.gate_graph.specs.Wirings.{kind_at};
-ghost use Rattle.gate_graph.specs.Circuit.{net_of, fanouts_of, IsGraph, gate_pins};
+ghost use Rattle.gate_graph.specs.Circuit.{net_of, fanouts_of, gate_pins};
+ghost use Rattle.gate_graph.specs.Inner.Circuit.{IsGraph};
 ghost use Rattle.gate_net.specs.Net.{drivers_of, IsGate, IsLive, IsObserved};
 ghost use Rattle.rm_base.specs.Numbers.{number_bound};
 

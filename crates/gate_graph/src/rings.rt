@@ -4,7 +4,7 @@ ghost use Rattle.std.specs.FinSet as set;
 ghost use Rattle.pin_pool.specs.Ring.{has, without};
 ghost use Rattle.pin_pool.specs.Pins.{StandsIn, list_of};
 ghost use Rattle.gate_graph.specs.Circuit.{gate_pins};
-ghost use Rattle.gate_graph.specs.Filled.{IsFilled};
+ghost use Rattle.gate_graph.specs.Inner.Filled.{IsFilled};
 ghost use Rattle.pin_pool.specs.Rings.{rings_of, linked, dropped, unlinked, relinked, redriven, restored, moved, moved_back, IsIn, IsOut, AreRings, Stood};
 ghost use Rattle.rm_base.specs.Numbers.{number_bound};
 

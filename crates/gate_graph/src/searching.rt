@@ -1,7 +1,8 @@
 //! Searching back along pins.
 ghost use Rattle.std.specs.Prelude.{◌≡◌, ◌+◌, ◌<◌, ◌≤◌, ◌↔◌, IfOk, IsTrue, ℕ, false, length, replicate};
 ghost use Rattle.gate_graph.specs.Circuit.{net_of};
-ghost use Rattle.gate_graph.specs.Search.{AreBelow, IsSeen, Marked, MarksBack, unseen, ListsSeen};
+ghost use Rattle.gate_graph.specs.Search.{IsSeen, unseen};
+ghost use Rattle.gate_graph.specs.Inner.Search.{AreBelow, Marked, MarksBack, ListsSeen};
 ghost use Rattle.gate_net.specs.Net.{IsLive};
 ghost use Rattle.gate_net.specs.Paths.{Reaches};
 

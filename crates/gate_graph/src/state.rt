@@ -2,7 +2,8 @@
 ghost use Rattle.std.specs.Prelude.{◌<◌, ◌^◌, ◌↔◌, IsTrue, ◌≡◌, ◌+◌, ◌-◌, ◌≤◌, ℕ, [], IfOk, length};
 ghost use Rattle.pin_pool.specs.Rings.{rings_of, AreRings};
 ghost use Rattle.gate_graph.specs.Undoing.{CanGoBack};
-ghost use Rattle.gate_graph.specs.Circuit.{Circuit, wiring, net_of, fanouts_of, pins_taken, free_pins, free_nodes, live_nodes, IsGraph, SameWiring};
+ghost use Rattle.gate_graph.specs.Circuit.{Circuit, wiring, net_of, fanouts_of, pins_taken, free_pins, free_nodes, live_nodes, SameWiring};
+ghost use Rattle.gate_graph.specs.Inner.Circuit.{IsGraph};
 ghost use Rattle.gate_graph.specs.Holds.{pins_held};
 ghost use Rattle.gate_graph.specs.Readers.{ListReaders};
 ghost use Rattle.gate_graph.specs.Start.{first_net};
@@ -42,7 +43,7 @@ impl Model for Graph {
 
     ghost use Rattle.std.specs.Prelude.{◌≡◌, ◌≤◌, length};
     ghost use Rattle.gate_graph.specs.Wirings.{free_in};
-    ghost use Rattle.gate_graph.specs.Circuit.{kinds_live, kinds_dead, IsGraph};
+    ghost use Rattle.gate_graph.specs.Inner.Circuit.{kinds_live, kinds_dead, IsGraph};
 
     ghost view = { λ g. record { kinds = g.kinds.items; pool = g.pool; epoch = g.epoch } };
 

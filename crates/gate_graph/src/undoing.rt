@@ -3,18 +3,20 @@ ghost use Rattle.std.specs.Prelude.{◌≡◌, ◌≢◌, ◌+◌, ◌<◌, ◌�
 ghost use Rattle.std.specs.FinSet as set;
 ghost use Rattle.pin_pool.specs.Pins.{Pins};
 ghost use Rattle.pin_pool.specs.Rings.{AreRings, changed, rings_of};
-ghost use Rattle.gate_graph.specs.Wirings.{wiring_of, kind_at, free_in, free_bit};
+ghost use Rattle.gate_graph.specs.Wirings.{wiring_of, kind_at, free_in};
+ghost use Rattle.gate_graph.specs.Inner.Wirings.{free_bit};
 ghost use Rattle.gate_graph.specs.Undoing.{CanGoBack, AreWithin, back_to, taken_back, CanTakeBack, IsWithin};
 ghost use Rattle.gate_graph.specs.Holds.{held, pins_held, pins_made};
 ghost use Rattle.gate_graph.specs.declared.undo_list.Undo.{Undo};
-ghost use Rattle.gate_graph.specs.Circuit.{wiring, net_of, kinds_live, kinds_dead, free_pins, free_nodes, pins_taken, live_nodes};
+ghost use Rattle.gate_graph.specs.Circuit.{wiring, net_of, free_pins, free_nodes, pins_taken, live_nodes};
+ghost use Rattle.gate_graph.specs.Inner.Circuit.{kinds_live, kinds_dead};
 ghost use Rattle.gate_graph.specs.Readers.{SameReaders};
 ghost use Rattle.rm_base.specs.Numbers.{number_bound};
 
-use crate::undo_list::{Undo, Undos};
 use crate::pins::{last_live, stored_kind};
-use crate::rings::{drop_pin, tell_rings, move_fanouts_back, relink_pin, restore_pin};
+use crate::rings::{drop_pin, move_fanouts_back, relink_pin, restore_pin, tell_rings};
 use crate::state::Graph;
+use crate::undo_list::{Undo, Undos};
 use gate_net::Kind;
 use pin_pool::Pool;
 

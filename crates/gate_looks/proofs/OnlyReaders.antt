@@ -1,7 +1,8 @@
 -- The only gate that reads a node.
 use Rattle.std.proofs.Common.{None, Option, Some, ℕ}
 use Rattle.gate_net.specs.Net.{IsObserved, Net}
-use Rattle.gate_looks.specs.Chains.{IsNextInChain, IsOnlyReaderFound}
+use Rattle.gate_looks.specs.Chains.{IsNextInChain}
+use Rattle.gate_looks.specs.Inner.Chains.{IsOnlyReaderFound}
 use Rattle.rm_base.specs.declared.numbers.NodeId.{NodeId}
 
 pub next_found : (net : Net) (x : ℕ) (o : Option NodeId) → IsOnlyReaderFound net x o → (IsObserved net x → ⊥) → IsNextInChain net x o

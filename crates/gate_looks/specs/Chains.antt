@@ -9,10 +9,6 @@ pub record GoesOnTo (net : Net) (x y : ℕ) : Type 0 where
   pub unobserved : IsObserved net x → ⊥
   pub only : IsOnlyReader net x y
 
-abbrev pub IsOnlyReaderFound : Net → ℕ → Option NodeId → Type 0
-IsOnlyReaderFound net x None = (y : ℕ) → IsOnlyReader net x y → ⊥
-IsOnlyReaderFound net x (Some y) = IsOnlyReader net x y.0
-
 -- the node to which a chain goes on, or None exactly where it ends
 abbrev pub IsNextInChain : Net → ℕ → Option NodeId → Type 0
 IsNextInChain net x None = (y : ℕ) → GoesOnTo net x y → ⊥

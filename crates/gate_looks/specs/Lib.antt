@@ -5,3 +5,4 @@ pub mod Chains
 pub mod Walks
 pub mod Sites
 pub mod Laws
+pub mod Inner

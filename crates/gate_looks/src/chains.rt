@@ -3,7 +3,8 @@ ghost use Rattle.std.specs.Prelude.{◌≡◌, ◌≤◌, ◌↔◌, IsTrue, len
 ghost use Rattle.gate_net.specs.Net.{IsLive};
 ghost use Rattle.gate_net.specs.Paths.{IsInChain};
 ghost use Rattle.gate_graph.specs.Circuit.{net_of};
-ghost use Rattle.gate_looks.specs.Chains.{IsOnlyReaderFound, IsNextInChain};
+ghost use Rattle.gate_looks.specs.Chains.{IsNextInChain};
+ghost use Rattle.gate_looks.specs.Inner.Chains.{IsOnlyReaderFound};
 ghost use Rattle.gate_looks.specs.Sites.{MarksChain};
 
 use crate::agenda::Agenda;

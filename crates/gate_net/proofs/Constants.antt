@@ -1,6 +1,6 @@
 -- The kinds of the constants.
 use Rattle.std.proofs.Common.{Bool, Some, false, refl, true, ◌≡◌}
-use Rattle.gate_net.specs.Edits.{constant_kind}
+use Rattle.gate_net.specs.Inner.Edits.{constant_kind}
 use Rattle.gate_net.specs.Meaning.{constant_value}
 use Rattle.gate_net.specs.declared.Kind.{Kind}
 use Rattle.gate_net.specs.declared.Kind.TheVariants.{And, Not, One, Or, Source, Zero}

@@ -11,7 +11,7 @@ use Rattle.gate_net.specs.Values.{gate_value, junction, not_first, same_bool}
 use Rattle.gate_net.specs.declared.Kind.{Kind}
 use Rattle.gate_net.specs.declared.Kind.TheVariants.{And, Not, One, Or, Source, Zero}
 use Rattle.rm_base.proofs.Public.{bool_cases, never_opposite, some_same}
-use Rattle.gate_net.specs.Stays.{Approximates}
+use Rattle.gate_net.specs.Inner.Stays.{Approximates}
 
 pub approximates_map : (known : ℕ → Option Bool) (v : ℕ → Bool) (ds : List ℕ) → ((p x : ℕ) → slice_get ds p ≡ Some x → (c : Bool) → known x ≡ Some c → v x ≡ c) → Approximates (map known ds) (map v ds)
 approximates_map known v [] h = tt

@@ -14,7 +14,7 @@ use Rattle.gate_net.specs.Net.{Net, Node, Reads, drivers_in, drivers_of, flatten
 use Rattle.gate_net.specs.Values.{AreGoodValues, gate_value, node_value}
 use Rattle.gate_net.specs.declared.Kind.TheVariants.{Not}
 use Rattle.rm_base.proofs.Public.{map_at, map_pointwise}
-use Rattle.gate_net.specs.Paths.{is_after}
+use Rattle.gate_net.specs.Inner.Paths.{is_after}
 
 pub flatten-map : (from to : ℕ) (os : List (Option Node)) (x : ℕ) → flatten_option (slice_get (map (node_redirected from to) os) x) ≡ node_redirected from to (flatten_option (slice_get os x))
 flatten-map from to [] x = refl

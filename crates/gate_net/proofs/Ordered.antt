@@ -9,7 +9,8 @@ use Rattle.gate_net.proofs.Edited.{node_at-other, node_at-there}
 use Rattle.gate_net.specs.Edits.{with_pin}
 use Rattle.gate_net.specs.Laws.{PinsKeepAcyclic}
 use Rattle.gate_net.specs.Net.{IsAcyclic, IsRanked, Net, Reads, drivers_of}
-use Rattle.gate_net.specs.Paths.{Reaches, on, pin, is_after}
+use Rattle.gate_net.specs.Paths.{Reaches, on, pin}
+use Rattle.gate_net.specs.Inner.Paths.{is_after}
 use Rattle.rm_base.proofs.Public.{any_at, at_any, last_cases}
 
 -- a set of nodes that holds, with each node, all its readers

@@ -16,7 +16,7 @@ use Rattle.gate_net.specs.declared.Kind.{Kind}
 use Rattle.gate_net.specs.declared.Kind.TheVariants.{And, Not, One, Or, Source, Zero}
 use Rattle.rm_base.specs.declared.numbers.Fault.{Fault}
 use Rattle.rm_base.proofs.Public.{map_agree, some_same}
-use Rattle.gate_net.specs.Stays.{Approximates}
+use Rattle.gate_net.specs.Inner.Stays.{Approximates}
 
 pub list_all_at : (test : ℕ → Bool) (ds : List ℕ) → list_all test ds ≡ true → (p x : ℕ) → slice_get ds p ≡ Some x → test x ≡ true
 list_all_at test [] e p x there = cc

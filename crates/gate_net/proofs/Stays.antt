@@ -12,7 +12,7 @@ use Rattle.gate_net.specs.Net.{Net, drivers_of}
 use Rattle.gate_net.specs.Values.{faulty_reads}
 use Rattle.gate_net.specs.declared.Kind.{Kind}
 use Rattle.gate_net.specs.declared.Kind.TheVariants.{And, Not, One, Or, Source, Zero}
-use Rattle.gate_net.specs.Stays.{Stays, AllStay}
+use Rattle.gate_net.specs.Inner.Stays.{Stays, AllStay}
 use Rattle.rm_base.specs.declared.numbers.Fault.{Fault}
 use Rattle.rm_base.proofs.Public.{both_and}
 

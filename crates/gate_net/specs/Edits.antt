@@ -2,7 +2,6 @@
 use Rattle.std.specs.Prelude.{◌≡◌, ◌≢◌, ℕ, zero, suc, ◌<◌, List, [], ◌∷◌, ◌++◌, map, Option, Some, None, Bool, nat_eq, length, slice_get, slice_set, if◌then◌else◌}
 use Rattle.rm_base.specs.declared.numbers.Fault.{Fault}
 use Rattle.gate_net.specs.declared.Kind.{Kind}
-use Rattle.gate_net.specs.declared.Kind.TheVariants.{Zero, One}
 use Rattle.gate_net.specs.Net.{Node, Net, node_at, drivers_of, Reads, IsObserved}
 use Rattle.rm_base.specs.Numbers.{one_number, zero_number}
 
@@ -17,9 +16,6 @@ with_drivers net gate drivers =
 
 abbrev pub constant_node : Bool → ℕ
 constant_node b = if b then one_number else zero_number
-
-abbrev pub constant_kind : Bool → Kind
-constant_kind b = if b then One else Zero
 
 -- the stuck pin reads a constant
 abbrev pub fixed : Net → Fault → Net

@@ -6,4 +6,4 @@ pub mod Forward
 pub mod Edits
 pub mod Laws
 pub mod Faults
-pub mod Stays
+pub mod Inner

@@ -1,7 +1,6 @@
 -- What each kind of node means: its value from those of its pins, and what follows there from what is known. All else of a kind follows from these.
 use Rattle.std.specs.List.{list_all, list_any}
-use Rattle.std.specs.Option.{option_map}
-use Rattle.std.specs.Prelude.{Bool, List, None, Option, Some, T, [], false, if◌then◌else◌, not, suc, true, zero, ℕ, ◌&&◌, ◌∷◌, ◌≡◌}
+use Rattle.std.specs.Prelude.{Bool, List, None, Option, Some, T, [], false, if◌then◌else◌, not, suc, true, zero, ℕ, ◌&&◌, ◌∷◌}
 use Rattle.gate_net.specs.declared.Kind.{Kind}
 use Rattle.gate_net.specs.declared.Kind.TheVariants.{And, Not, One, Or, Source, Zero}
 
@@ -27,14 +26,6 @@ abbrev pub controlling : Kind → Option Bool
 controlling And = Some false
 controlling Or = Some true
 controlling _ = None
-
--- the value that doesn't control it
-abbrev pub noncontrolling : Kind → Option Bool
-noncontrolling kind = option_map not (controlling kind)
-
--- a pin may be added to a gate that has a controlling value
-abbrev pub TakesPins : Kind → Type 0
-TakesPins kind = (c : Bool) × (controlling kind ≡ Some c)
 
 -- VALUES
 abbrev pub same_bool : Bool → Bool → Bool

@@ -1,7 +1,6 @@
 -- Paths and chains of a net.
-use Rattle.std.specs.List.{list_any}
-use Rattle.std.specs.Prelude.{◌≡◌, ◌⊎◌, ◌||◌, ℕ, zero, suc, Bool, nat_eq, List, [], ◌∷◌}
-use Rattle.gate_net.specs.Net.{Net, Reads, IsObserved, drivers_of}
+use Rattle.std.specs.Prelude.{◌≡◌, ◌⊎◌, ℕ, List, [], ◌∷◌}
+use Rattle.gate_net.specs.Net.{Net, Reads, IsObserved}
 
 -- a path of one or more pins leads from x to y
 pub data Reaches (net : Net) : ℕ → ℕ → Type 0 where
@@ -25,8 +24,3 @@ IsInChain net gate y = (before : List ℕ) × ChainTo net gate before y
 abbrev pub Among : List ℕ → ℕ → Type 0
 Among [] x = ⊥
 Among (y ∷ ys) x = (x ≡ y) ⊎ Among ys x
-
--- whether a node is the gate or is reached from it, looking back over so many pins
-abbrev pub is_after : ℕ → Net → ℕ → ℕ → Bool
-is_after zero net gate y = nat_eq y gate
-is_after (suc n) net gate y = nat_eq y gate || list_any (is_after n net gate) (drivers_of net y)

@@ -1,6 +1,7 @@
 //! What each kind of node means. What other crates ask of a kind they ask here, so that a new kind is met in one place.
 ghost use Rattle.std.specs.Prelude.{◌≡◌, ◌↔◌, IsTrue, [], false};
-ghost use Rattle.gate_net.specs.Meaning.{is_gate_kind, IsGateKind, constant_value, controlling, noncontrolling, TakesPins, gate_value, junction, not_first};
+ghost use Rattle.gate_net.specs.Meaning.{is_gate_kind, IsGateKind, constant_value, controlling, gate_value, junction, not_first};
+ghost use Rattle.gate_net.specs.Inner.Meaning.{noncontrolling, TakesPins};
 
 use crate::Kind;
 

@@ -16,7 +16,8 @@ use Rattle.gate_net.specs.declared.Kind.TheVariants.{Source, Zero, One, And, Or,
 use Rattle.gate_net.specs.Net.{Node, Net, node_at, Reads, IsGateKind, source_count}
 use Rattle.cover_decompose.proofs.Public.{among_in}
 use Rattle.std.specs.Fmt.{decimal}
-use Rattle.graph_to_model.specs.Names.{free_prefix, node_name, IsGateNumber, HasName}
+use Rattle.graph_to_model.specs.Names.{free_prefix, node_name}
+use Rattle.graph_to_model.specs.Inner.Names.{IsGateNumber, HasName}
 use Rattle.graph_to_model.specs.NetModel.{cover_with, model_of_net, covers_of_gates, names_before_copies, covers_of_copies}
 use Rattle.graph_to_model.proofs.TidyFacts.{kind_is}
 use Rattle.graph_to_model.proofs.GateValues.{one_row}
@@ -25,10 +26,10 @@ use Rattle.graph_to_model.proofs.Covers.{all_from_start, in_gates, gates_in, in_
 use Rattle.graph_to_model.proofs.Outputs.{driven_once, observed_driven, gate_driven, gate_number}
 use Rattle.graph_to_model.proofs.Tokens.{made_token}
 use Rattle.rm_base.proofs.Public.{all_pass_in, in_append, in_at, in_left, in_map, in_right, stands_below}
-use Rattle.rm_base.specs.Members.{In}
+use Rattle.rm_base.specs.Inner.Members.{In}
 use Rattle.rm_base.specs.Words.{Word}
-use Rattle.graph_to_model.specs.Writable.{IsWritable}
-use Rattle.graph_to_model.specs.Covers.{IsGateCover, IsCopyCover}
+use Rattle.graph_to_model.specs.Inner.Writable.{IsWritable}
+use Rattle.graph_to_model.specs.Inner.Covers.{IsGateCover, IsCopyCover}
 
 all_pass : (test : Word → Bool) (xs : List Word) → ((x : Word) → In xs x → test x ≡ true) → list_all test xs ≡ true
 all_pass test [] h = refl

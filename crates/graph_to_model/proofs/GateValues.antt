@@ -16,7 +16,7 @@ use Rattle.graph_to_model.specs.NetModel.{row_per_pin, gate_cover_of}
 use Rattle.rm_base.proofs.Public.{some_is}
 use Rattle.rm_base.specs.Words.{Word}
 use Rattle.gate_net.specs.declared.Kind.TheVariants as kinds
-use Rattle.graph_to_model.specs.Covers.{CoverOf}
+use Rattle.graph_to_model.specs.Inner.Covers.{CoverOf}
 
 -- a row of 1s matches where all are 1
 pub ones_match : (bs : List Bool) → row_matches (replicate (length bs) One) bs ≡ junction false bs

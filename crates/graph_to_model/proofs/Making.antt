@@ -13,7 +13,7 @@ use Rattle.gate_net.specs.Net.{Node, Net, node_at, drivers_of, drivers_in, flatt
 use Rattle.gate_graph.proofs.Public.{live-below}
 use Rattle.graph_to_model.specs.Names.{kept_names, prefix, least_free, observed_name, node_name, free_prefix}
 use Rattle.graph_to_model.specs.NetModel.{gate_cover_of, gate_cover, gate_covers, onto, copy_cover, copy_covers, model_of_net}
-use Rattle.graph_to_model.specs.Making.{place_in, word_at, name_by, named, AreFirstPlaces, AreNames, cover_by, covers_by, copy_by, copies_by, all_by}
+use Rattle.graph_to_model.specs.Inner.Making.{place_in, word_at, name_by, named, AreFirstPlaces, AreNames, cover_by, covers_by, copy_by, copies_by, all_by}
 use Rattle.rm_base.specs.Words.{Word}
 
 observed_by : (ks : List ℕ) (xs : List Word) (n : ℕ) → observed_name ks xs n ≡ word_at xs (place_in ks n)

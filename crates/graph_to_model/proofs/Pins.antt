@@ -18,8 +18,8 @@ use Rattle.graph_to_model.proofs.Covers.{rest_from, first_from, all_from_start}
 use Rattle.graph_to_model.proofs.Formed.{one_pin_not}
 use Rattle.rm_base.proofs.Public.{some_is}
 use Rattle.rm_base.specs.Words.{Word}
-use Rattle.graph_to_model.specs.Writable.{IsWritable}
-use Rattle.graph_to_model.specs.Covers.{AreNodesFrom}
+use Rattle.graph_to_model.specs.Inner.Writable.{IsWritable}
+use Rattle.graph_to_model.specs.Inner.Covers.{AreNodesFrom}
 
 abbrev pub pins : Cover → ℕ
 pins c = if is_copy c then 0 else length c.inputs

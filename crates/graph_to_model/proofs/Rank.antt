@@ -12,18 +12,19 @@ use Rattle.gate_net.specs.declared.Kind.{Kind}
 use Rattle.gate_net.specs.declared.Kind.TheVariants.{Source, Zero, One, And, Or, Not}
 use Rattle.gate_net.specs.Net.{Node, Net, node_at, Reads, IsGateKind}
 use Rattle.wire_edit.specs.Tests.{is_gate}
-use Rattle.graph_to_model.specs.Names.{node_name, IsGateNumber, HasName}
+use Rattle.graph_to_model.specs.Names.{node_name}
+use Rattle.graph_to_model.specs.Inner.Names.{IsGateNumber, HasName}
 use Rattle.graph_to_model.specs.NetModel.{model_of_net, covers_of_gates, names_before_copies}
 use Rattle.graph_to_model.proofs.Named.{source_name, gates_told}
 use Rattle.graph_to_model.proofs.Covers.{copy_out, live_within, distinct_head, distinct_tail, not_had}
 use Rattle.graph_to_model.proofs.Outputs.{driven_once, gate_number}
 use Rattle.graph_to_model.proofs.Formed.{cover_at, cover_cases, cover_reads, driver_named, index_of, all_in_list}
 use Rattle.rm_base.proofs.Public.{in_any, in_at, in_map, in_mapped, in_right, stands_below}
-use Rattle.rm_base.specs.Members.{In}
+use Rattle.rm_base.specs.Inner.Members.{In}
 use Rattle.rm_base.specs.Words.{Word}
 use Rattle.rm_model.proofs.Public.{is_word-same, same_word}
-use Rattle.graph_to_model.specs.Writable.{IsWritable}
-use Rattle.graph_to_model.specs.Covers.{IsGateCover, IsCopyCover}
+use Rattle.graph_to_model.specs.Inner.Writable.{IsWritable}
+use Rattle.graph_to_model.specs.Inner.Covers.{IsGateCover, IsCopyCover}
 
 apart : (xs ys : List Word) (x : Word) → is_distinct (xs ++ ys) ≡ true → In xs x → In ys x → ⊥
 apart [] ys x e i j = i

@@ -24,10 +24,10 @@ use Rattle.graph_to_model.proofs.Formed.{one_pin_not}
 use Rattle.graph_to_model.proofs.Pins.{pins, two_or_more, gate_pins}
 use Rattle.graph_to_model.proofs.Tokens.{least_le}
 use Rattle.rm_base.proofs.Public.{all_from_members, in_append, in_at}
-use Rattle.rm_base.specs.Members.{In}
+use Rattle.rm_base.specs.Inner.Members.{In}
 use Rattle.rm_base.specs.Words.{Word}
-use Rattle.graph_to_model.specs.Writable.{IsWritable}
-use Rattle.graph_to_model.specs.Covers.{IsGateCover, IsCopyCover}
+use Rattle.graph_to_model.specs.Inner.Writable.{IsWritable}
+use Rattle.graph_to_model.specs.Inner.Covers.{IsGateCover, IsCopyCover}
 
 -- covers of a pin at least are no more than their pins
 count_pins : (cs : List Cover) → ((c : Cover) → In cs c → 1 ≤ pins c) → length cs ≤ sum_by pins cs

@@ -16,16 +16,17 @@ use Rattle.gate_net.specs.declared.Kind.TheVariants.{Source, Zero, One, And, Or,
 use Rattle.gate_net.specs.Net.{Net, node_at, Reads, IsGateKind, plain_node, source_count}
 use Rattle.gate_net.specs.Values.{AreGoodValues, gate_value}
 use Rattle.cover_decompose.specs.StandsFor.{StandsFor, SameAssignment}
-use Rattle.graph_to_model.specs.Names.{node_name, IsGateNumber, HasName}
+use Rattle.graph_to_model.specs.Names.{node_name}
+use Rattle.graph_to_model.specs.Inner.Names.{IsGateNumber, HasName}
 use Rattle.graph_to_model.specs.NetModel.{cover_with, copy_cover, model_of_net, covers_of_gates, names_before_copies, covers_of_copies}
 use Rattle.graph_to_model.proofs.Named.{source_name, stands_on_gate}
 use Rattle.graph_to_model.proofs.Covers.{in_copies, copies_in, in_gates, all_from_start, place_of, copy_out, HasOrCopies}
 use Rattle.graph_to_model.proofs.Outputs.{cover_number}
 use Rattle.graph_to_model.proofs.Formed.{cover_at, driver_named, live_named, one_pin_not}
 use Rattle.rm_base.proofs.Public.{in_append, in_left, in_map, in_right, some_is, stands_below}
-use Rattle.rm_base.specs.Members.{In}
+use Rattle.rm_base.specs.Inner.Members.{In}
 use Rattle.rm_base.specs.Words.{Word}
-use Rattle.graph_to_model.specs.Writable.{IsWritable}
+use Rattle.graph_to_model.specs.Inner.Writable.{IsWritable}
 
 pub all_at : {X : Type 0} (P : X → Type 0) (xs : List X) (x : X) → All P xs → In xs x → P x
 all_at P [] x h i = absurd i

@@ -9,7 +9,7 @@ use Rattle.gate_net.specs.Net.{Node, Net, node_at, drivers_of, drivers_in, kind_
 use Rattle.gate_graph.proofs.Public.{live-below}
 use Rattle.wire_edit.proofs.Public.{next_place}
 use Rattle.graph_to_model.specs.NetModel.{gate_cover_of, onto}
-use Rattle.graph_to_model.specs.Making.{named, cover_by, covers_by}
+use Rattle.graph_to_model.specs.Inner.Making.{named, cover_by, covers_by}
 use Rattle.graph_to_model.proofs.Lists.{next_in}
 use Rattle.rm_base.proofs.Public.{some_is}
 use Rattle.rm_base.specs.Words.{Word}

@@ -11,7 +11,7 @@ use Rattle.wire_edit.specs.Steps.{Applies}
 use Rattle.wire_edit.specs.Order.{IsTidy}
 use Rattle.wire_edit.specs.Laws.{TidyMeans, IsTidying}
 use Rattle.rm_base.proofs.Public.{both_and, not_from_false}
-use Rattle.graph_to_model.specs.Writable.{IsLean}
+use Rattle.graph_to_model.specs.Inner.Writable.{IsLean}
 
 not_false : (b : Bool) → (b ≡ false → ⊥) → b ≡ true
 not_false true h = refl

@@ -6,5 +6,4 @@ pub mod Laws
 pub mod Rows
 pub mod Making
 pub mod Refusals
-pub mod Writable
-pub mod Covers
+pub mod Inner

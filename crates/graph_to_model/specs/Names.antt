@@ -1,11 +1,11 @@
 -- The names of nodes in the model of a net.
-use Rattle.std.specs.Prelude.{zero, suc, ◌+◌, ◌-◌, ◌==◌, ℕ, Bool, not, nat_lt, List, [], ◌∷◌, ◌++◌, length, if◌then◌else◌, Option, None, Some, unwrap_or, slice_get, ◌≡◌, ◌<◌, ◌⊎◌}
+use Rattle.std.specs.Prelude.{zero, suc, ◌+◌, ◌-◌, ◌==◌, ℕ, Bool, not, nat_lt, List, [], ◌∷◌, ◌++◌, length, if◌then◌else◌, Option, None, Some, unwrap_or, slice_get}
 use Rattle.std.specs.List.{list_any, starts_with}
 use Rattle.std.specs.Bool.{nat_eq}
 use Rattle.std.specs.Fmt.{decimal}
 use Rattle.rm_model.specs.Value.{source_names, observed_names}
 use Rattle.rm_model.specs.declared.parts.Model.{Model}
-use Rattle.gate_net.specs.Net.{Net, Node, node_at, IsGateKind}
+use Rattle.gate_net.specs.Net.{Net}
 use Rattle.rm_base.specs.Words.{Word}
 use Rattle.rm_base.specs.Numbers.{first_source}
 
@@ -40,17 +40,3 @@ abbrev pub node_name : Model → Net → ℕ → Word
 node_name m net n =
     if nat_lt n (first_source + length (source_names m)) then unwrap_or (slice_get (source_names m) (n - first_source)) []
     else unwrap_or (observed_name net.observed (observed_names m) n) (free_prefix m ++ decimal n)
-
--- the number of a source
-abbrev pub IsSourceNumber : Model → ℕ → Type 0
-IsSourceNumber m x = (k : ℕ) × ((x ≡ first_source + k) × (k < length (source_names m)))
-
--- the number of a gate
-pub record IsGateNumber (net : Net) (x : ℕ) : Type 0 where
-  pub node : Node
-  pub at : node_at net x ≡ Some node
-  pub gate : IsGateKind node.kind
-
--- sources and gates have names of their own
-abbrev pub HasName : Model → Net → ℕ → Type 0
-HasName m net x = IsSourceNumber m x ⊎ IsGateNumber net x

@@ -2,7 +2,7 @@
 ghost use Rattle.std.specs.Prelude.{◌≡◌, ◌<◌, ◌++◌, ◌∷◌, [], ℕ, All, IfOk, List, OnOk, length, map};
 ghost use Rattle.rm_base.specs.Words.{Word};
 ghost use Rattle.gate_graph.specs.Circuit.{net_of};
-ghost use Rattle.graph_to_model.specs.Making.{all_by, copies_by, copy_by};
+ghost use Rattle.graph_to_model.specs.Inner.Making.{all_by, copies_by, copy_by};
 
 use crate::driven_names::table_of_driven;
 use crate::gates::{cover_with, even_row, gate_covers};

@@ -4,7 +4,7 @@ ghost use Rattle.rm_model.specs.declared.parts.Literal.TheVariants.{Any, One};
 ghost use Rattle.gate_graph.specs.Circuit.{net_of};
 ghost use Rattle.gate_net.specs.Net.{IsLive, drivers_of, node_at};
 ghost use Rattle.graph_to_model.specs.NetModel.{cover_with as cover_of, gate_cover_of, onto, row_per_pin};
-ghost use Rattle.graph_to_model.specs.Making.{cover_by, covers_by, named};
+ghost use Rattle.graph_to_model.specs.Inner.Making.{cover_by, covers_by, named};
 
 use gate_graph::Graph;
 use gate_net::Kind;

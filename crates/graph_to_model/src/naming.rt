@@ -4,7 +4,7 @@ ghost use Rattle.std.specs.Fmt.{decimal};
 ghost use Rattle.gate_graph.specs.Circuit.{net_of};
 ghost use Rattle.rm_model.specs.Value.{observed_names, source_names};
 ghost use Rattle.graph_to_model.specs.Fits.{Fits};
-ghost use Rattle.graph_to_model.specs.Making.{AreNames, name_by, named, word_at};
+ghost use Rattle.graph_to_model.specs.Inner.Making.{AreNames, name_by, named, word_at};
 
 use crate::places::first_places;
 use crate::prefix::free_prefix;

@@ -1,7 +1,7 @@
 // The first places of the observed nodes.
 ghost use Rattle.std.specs.Prelude.{◌≡◌, ◌<◌, ◌≤◌, [], All, IfOk, length};
 ghost use Rattle.gate_graph.specs.Circuit.{net_of};
-ghost use Rattle.graph_to_model.specs.Making.{AreFirstPlaces};
+ghost use Rattle.graph_to_model.specs.Inner.Making.{AreFirstPlaces};
 
 use gate_graph::Graph;
 use rm_base::NoMemory;

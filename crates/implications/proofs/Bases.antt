@@ -16,10 +16,11 @@ use Rattle.implications.proofs.Closes.{closing_open}
 use Rattle.implications.proofs.Leads.{leads_append}
 use Rattle.implications.proofs.Outside.{outside_settled}
 use Rattle.implications.proofs.Trails.{back_all}
-use Rattle.implications.specs.Bases.{ArePinless, ComesToRest, FitsBelow, IsAmongNumbers, IsBegun, IsListed, IsOpened, IsRest, PutsBack, TakesEquals}
+use Rattle.implications.specs.Bases.{ArePinless, ComesToRest, FitsBelow, IsListed, IsOpened, IsRest, TakesEquals}
+use Rattle.implications.specs.Inner.Bases.{IsAmongNumbers, IsBegun, PutsBack}
 use Rattle.implications.specs.Outside.{AreOutside, IsPinless}
 use Rattle.implications.specs.Trail.{LeadsBack, TakesBack}
-use Rattle.implications.specs.Working.{Closes, IsPending, Works}
+use Rattle.implications.specs.Inner.Working.{Closes, IsPending, Works}
 use Rattle.refutation.specs.Closing.{IsWithin, LinesLead}
 use Rattle.refutation.specs.FactSets.{Becomes, held_by}
 use Rattle.refutation.specs.Facts.{Held, none_held, same_fact, with_fact, without_fact}
@@ -31,7 +32,7 @@ use Rattle.refutation.specs.declared.reasoning.Fact.TheVariants.{Equal}
 use Rattle.refutation.specs.declared.reasoning.Line.{Line}
 use Rattle.rm_base.specs.declared.numbers.Fault.{Fault}
 use Rattle.rm_base.specs.declared.numbers.NodeId.{NodeId}
-use Rattle.rm_base.specs.Members.{AmongFirst}
+use Rattle.rm_base.specs.Inner.Members.{AmongFirst}
 
 -- LISTS OF NODES
 pub listed_kept : (xs : List NodeId) (x : NodeId) (y : ℕ) → IsListed xs y → IsListed (xs ++ x ∷ []) y

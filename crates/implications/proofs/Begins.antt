@@ -4,9 +4,11 @@ use Rattle.std.proofs.lemmas.Bool.{cases_lt}
 use Rattle.std.proofs.lemmas.Bool.Decides.{eqb_tells}
 use Rattle.std.specs.Prelude.{Err, IfOk, IsTrue, Ok, Result, slice_get}
 use Rattle.gate_net.specs.Net.{IsAcyclic, IsLive, Net, drivers_of}
-use Rattle.implications.specs.Beginning.{AreDoneAtFault, AreDoneOnChain, AreDoneOutside, Chaining, Gives, GivingOut, node_of}
-use Rattle.implications.specs.Settled.{HasFirst, IsDone, IsSettled, place_of}
-use Rattle.implications.specs.Working.{Keeps, Works}
+use Rattle.implications.specs.Beginning.{node_of}
+use Rattle.implications.specs.Inner.Beginning.{AreDoneAtFault, AreDoneOnChain, AreDoneOutside, Chaining, Gives, GivingOut}
+use Rattle.implications.specs.Settled.{IsSettled, place_of}
+use Rattle.implications.specs.Inner.Settled.{HasFirst, IsDone}
+use Rattle.implications.specs.Inner.Working.{Keeps, Works}
 use Rattle.implications.proofs.Steps.{keeps_join, works_join}
 use Rattle.refutation.specs.Answers.{GoesOnTo, IsAnswer}
 use Rattle.refutation.specs.Closing.{IsClashFree, IsClosedUnderLines, IsWithin}

@@ -14,7 +14,7 @@ use Rattle.implications.proofs.Leads.{leads_append}
 use Rattle.implications.proofs.Outside.{outside_same, outside_settled}
 use Rattle.implications.specs.Beginning.{node_of}
 use Rattle.implications.specs.Outside.{AppendsOutside, AreOutside, BeginsBelow, HoldsOutside, IsPinless, WritesBelow, line_item}
-use Rattle.implications.specs.Working.{IsPending}
+use Rattle.implications.specs.Inner.Working.{IsPending}
 use Rattle.refutation.specs.Answers.{IsAnswer}
 use Rattle.refutation.specs.Closing.{LinesLead}
 use Rattle.refutation.specs.FactSets.{Becomes, held_by}

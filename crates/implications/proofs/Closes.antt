@@ -13,9 +13,9 @@ use Rattle.implications.proofs.Places.{place_live}
 use Rattle.implications.proofs.Steps.{becomes_is, free_more, more_held, pending_more}
 use Rattle.implications.specs.Outcomes.{IsClash, IsClashFrom, IsClashed, IsClosing, IsExtended, IsOpen, IsOpenFrom, clash_items}
 use Rattle.implications.specs.Outside.{AppendsOutside, AreOutside, LeadToOutside, line_item}
-use Rattle.implications.specs.Settled.{HasFirst}
-use Rattle.implications.specs.Trail.{IsLonger}
-use Rattle.implications.specs.Working.{Closes, Ending, IsPending, Touches, Works}
+use Rattle.implications.specs.Inner.Settled.{HasFirst}
+use Rattle.implications.specs.Inner.Trail.{IsLonger}
+use Rattle.implications.specs.Inner.Working.{Closes, Ending, IsPending, Touches, Works}
 use Rattle.implications.specs.declared.outcome.Closed.{Closed}
 use Rattle.implications.specs.declared.outcome.Closed.TheVariants.{Clash, Open}
 use Rattle.refutation.specs.Branches.{Branch, IsClosed, clash, items_of, line}

@@ -4,8 +4,8 @@ use Rattle.std.proofs.lemmas.Bool.{cases_Bool}
 use Rattle.std.proofs.lemmas.Bool.Decides.{eqb_tells}
 use Rattle.std.specs.Prelude.{nat_eq}
 use Rattle.implications.proofs.Counting.{count_few}
-use Rattle.implications.specs.Rises.{risen}
-use Rattle.implications.specs.Tallies.{counting}
+use Rattle.implications.specs.Inner.Rises.{risen}
+use Rattle.implications.specs.Inner.Tallies.{counting}
 
 pub counting-append : {A : Type 0} (test : A → Bool) (xs ys : List A) → counting test (xs ++ ys) ≡ counting test xs + counting test ys
 counting-append test [] ys = omega arith

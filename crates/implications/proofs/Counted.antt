@@ -6,9 +6,9 @@ use Rattle.std.specs.Prelude.{slice_get, slice_set}
 use Rattle.gate_net.specs.Forward.{all_but, is_known, junction_back, junction_follows}
 use Rattle.implications.proofs.Counting.{all_counted, but_counted, counting_map, counting_same, counting_set, counting_split, none_counted, not_all_counted, some_counted}
 use Rattle.implications.proofs.Pulling.{back_same, one_left, pull_known, pull_unknown}
-use Rattle.implications.specs.Counts.{IsCount, is_not_passing}
-use Rattle.implications.specs.Pulls.{IsEqualPull, IsPull}
-use Rattle.implications.specs.Tallies.{IsTally, counting, is_passing}
+use Rattle.implications.specs.Inner.Counts.{IsCount, is_not_passing}
+use Rattle.implications.specs.Inner.Pulls.{IsEqualPull, IsPull}
+use Rattle.implications.specs.Inner.Tallies.{IsTally, counting, is_passing}
 use Rattle.implications.specs.declared.counts.Count.{Count}
 use Rattle.implications.specs.declared.tallies.Tally.{Tally}
 use Rattle.refutation.specs.Closing.{IsClashFree}

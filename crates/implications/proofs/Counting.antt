@@ -3,7 +3,7 @@ use Rattle.std.proofs.Common.{Bool, List, Some, [], ap, arith, false, length, ma
 use Rattle.std.specs.List.{list_all, list_any}
 use Rattle.std.specs.Prelude.{slice_get, slice_set}
 use Rattle.gate_net.specs.Forward.{all_but}
-use Rattle.implications.specs.Tallies.{counting}
+use Rattle.implications.specs.Inner.Tallies.{counting}
 use Rattle.rm_base.proofs.Public.{some_same}
 use Rattle.rm_base.specs.Numbers.{one_if}
 

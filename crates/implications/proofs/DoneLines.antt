@@ -5,10 +5,10 @@ use Rattle.std.specs.Prelude.{slice_get, slice_set}
 use Rattle.gate_net.specs.Net.{Net, drivers_of}
 use Rattle.implications.proofs.Counting.{none_at, one_at}
 use Rattle.implications.proofs.GateLines.{equal_held, good_not}
-use Rattle.implications.specs.Counts.{IsCount, is_not_passing}
-use Rattle.implications.specs.Settled.{IsReady}
-use Rattle.implications.specs.Sides.{IsOpenSide, IsSide}
-use Rattle.implications.specs.Tallies.{IsTally, counting}
+use Rattle.implications.specs.Inner.Counts.{IsCount, is_not_passing}
+use Rattle.implications.specs.Inner.Settled.{IsReady}
+use Rattle.implications.specs.Inner.Sides.{IsOpenSide, IsSide}
+use Rattle.implications.specs.Inner.Tallies.{IsTally, counting}
 use Rattle.implications.specs.declared.counts.Count.{Count}
 use Rattle.implications.specs.declared.tallies.Tally.{Tally}
 use Rattle.refutation.specs.Closing.{IsClashFree}

@@ -10,9 +10,9 @@ use Rattle.gate_net.specs.Values.{IsJunction, controlling, faulty_reads}
 use Rattle.gate_net.specs.declared.Kind.{Kind}
 use Rattle.gate_net.specs.declared.Kind.TheVariants.{And, Not, One, Or, Source, Zero}
 use Rattle.refutation.proofs.Public.{driver_live, faulty_pins, junction_kind, known_held, one_of_true, pin_at}
-use Rattle.implications.specs.Pulls.{AreDoneEqual, AreDoneFaulty, AreDoneGood, AreDoneSide, IsEqualPull, IsPlaced, IsPull, IsPulled, SomePin}
-use Rattle.implications.specs.Settled.{IsDone, IsFresh}
-use Rattle.implications.specs.Sides.{IsOpenPin, IsOpenSide, IsSide}
+use Rattle.implications.specs.Inner.Pulls.{AreDoneEqual, AreDoneFaulty, AreDoneGood, AreDoneSide, IsEqualPull, IsPlaced, IsPull, IsPulled, SomePin}
+use Rattle.implications.specs.Inner.Settled.{IsDone, IsFresh}
+use Rattle.implications.specs.Inner.Sides.{IsOpenPin, IsOpenSide, IsSide}
 use Rattle.implications.specs.declared.gate_lines.Pulled.{Pulled}
 use Rattle.implications.specs.declared.gate_lines.Pulled.TheVariants.{Gate as GateNode, Pin as PinNode}
 use Rattle.implications.specs.declared.pulls.Pull.{Pull}

@@ -11,7 +11,8 @@ use Rattle.gate_net.specs.Values.{faulty_reads}
 use Rattle.gate_net.specs.declared.Kind.{Kind}
 use Rattle.gate_net.specs.declared.Kind.TheVariants.{And, Not, One, Or, Source, Zero}
 use Rattle.refutation.proofs.Public.{all_known, driver_live, one_of_true}
-use Rattle.implications.specs.Beginning.{AreDoneOutside, node_of}
+use Rattle.implications.specs.Beginning.{node_of}
+use Rattle.implications.specs.Inner.Beginning.{AreDoneOutside}
 use Rattle.implications.specs.Outside.{AreOutside, IsPinless, OutsideIsSettled}
 use Rattle.implications.specs.Settled.{IsSettled}
 use Rattle.refutation.specs.FactSets.{held_by}

@@ -6,7 +6,7 @@ use Rattle.std.specs.Prelude.{IsTrue, if◌then◌else◌, slice_get}
 use Rattle.gate_net.specs.Forward.{all_but, is_known, junction_back, junction_follows}
 use Rattle.gate_net.proofs.Public.{is_known_true, same_bool_not, same_bool_refl}
 use Rattle.gate_net.specs.Values.{same_bool}
-use Rattle.implications.specs.Pulls.{IsEqualPull, IsPull}
+use Rattle.implications.specs.Inner.Pulls.{IsEqualPull, IsPull}
 use Rattle.implications.specs.declared.pulls.Pull.TheVariants.{Gate, Pin}
 use Rattle.refutation.proofs.Public.{all_not_any, glance_all, glance_many, glance_not_all, glance_one, is_known_some}
 use Rattle.refutation.specs.Pins.{FailsAt, Glances}

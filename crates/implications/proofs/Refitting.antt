@@ -10,7 +10,8 @@ use Rattle.gate_net.specs.Net.{IsLive, Net, drivers_in, kind_in, kind_of, node_a
 use Rattle.gate_net.specs.declared.Kind.{Kind}
 use Rattle.implications.proofs.Bases.{listed_kept, listed_last, without_left, without_stays}
 use Rattle.implications.proofs.Trails.{held_past}
-use Rattle.implications.specs.Bases.{ArePinless, IsListed, IsRefitted, IsRest}
+use Rattle.implications.specs.Bases.{ArePinless, IsListed, IsRest}
+use Rattle.implications.specs.Inner.Bases.{IsRefitted}
 use Rattle.implications.specs.Outside.{IsPinless}
 use Rattle.refutation.proofs.Public.{kind_is, kind_live, with_cases, with_more, with_there}
 use Rattle.refutation.specs.FactSets.{Becomes, held_by}

@@ -8,8 +8,8 @@ use Rattle.gate_graph.specs.Search.{IsSeen}
 use Rattle.gate_net.specs.Net.{Net, drivers_of}
 use Rattle.implications.proofs.Counting.{count_few}
 use Rattle.implications.proofs.CountRises.{ComesToPass, counted_more, counting-append, counting_rises, counting_room, risen_more, risen_none}
-use Rattle.implications.specs.Rises.{CanRise, IsRaised, RaisesAt, comes_to_pass, rise_at, rise_by, risen}
-use Rattle.implications.specs.Tallies.{AreTallied, IsTally, TallyState, counting, is_passing}
+use Rattle.implications.specs.Inner.Rises.{CanRise, IsRaised, RaisesAt, comes_to_pass, rise_at, rise_by, risen}
+use Rattle.implications.specs.Inner.Tallies.{AreTallied, IsTally, TallyState, counting, is_passing}
 use Rattle.implications.specs.declared.tallies.Rise.{Rise}
 use Rattle.implications.specs.declared.tallies.Tally.{Tally}
 use Rattle.refutation.specs.Facts.{Held, same_fact, with_fact}

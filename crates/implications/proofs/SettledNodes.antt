@@ -8,8 +8,9 @@ use Rattle.gate_net.specs.declared.Kind.{Kind}
 use Rattle.gate_net.specs.declared.Kind.TheVariants.{And, Not, One, Or, Source, Zero}
 use Rattle.implications.proofs.GateLines.{junction_gate, kind_once}
 use Rattle.implications.proofs.Places.{place_live}
-use Rattle.implications.specs.Pulls.{AreDoneEqual, AreDoneFaulty, AreDoneGood, AreDoneNot, AreDoneSide, AreDoneValues, Finds}
-use Rattle.implications.specs.Settled.{IsDone, IsNext, IsSettled}
+use Rattle.implications.specs.Inner.Pulls.{AreDoneEqual, AreDoneFaulty, AreDoneGood, AreDoneNot, AreDoneSide, AreDoneValues, Finds}
+use Rattle.implications.specs.Settled.{IsSettled}
+use Rattle.implications.specs.Inner.Settled.{IsDone, IsNext}
 use Rattle.implications.specs.declared.found.Found.{Found}
 use Rattle.refutation.specs.FactSets.{held_by}
 use Rattle.refutation.specs.Facts.{Held}

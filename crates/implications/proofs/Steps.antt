@@ -12,10 +12,11 @@ use Rattle.gate_net.specs.Net.{Net, Reads, drivers_of}
 use Rattle.implications.proofs.Local.{line_local}
 use Rattle.implications.proofs.Trails.{trail_tells, without-append}
 use Rattle.refutation.specs.Agendas.{seen_count}
-use Rattle.implications.specs.Settled.{AgreeAt, IsFresh, IsSettled}
-use Rattle.implications.specs.Tallies.{AreTallied, TallyState}
+use Rattle.implications.specs.Settled.{AgreeAt, IsSettled}
+use Rattle.implications.specs.Inner.Settled.{IsFresh}
+use Rattle.implications.specs.Inner.Tallies.{AreTallied, TallyState}
 use Rattle.implications.specs.Trail.{AreAdded, LeadsBack, without_all}
-use Rattle.implications.specs.Working.{Holds, IsPending, IsPendingBut, Keeps, Outcome, Settling, Stops, Sweeps, Touches, Works, work}
+use Rattle.implications.specs.Inner.Working.{Holds, IsPending, IsPendingBut, Keeps, Outcome, Settling, Stops, Sweeps, Touches, Works, work}
 use Rattle.implications.specs.declared.found.Found.{Found}
 use Rattle.refutation.specs.Closing.{IsClashFree, IsWithin, LinesLead}
 use Rattle.refutation.specs.FactSets.{Becomes, held_by, missing}

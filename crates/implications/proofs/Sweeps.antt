@@ -4,8 +4,8 @@ use Rattle.gate_net.specs.Net.{Net, Reads, drivers_of}
 use Rattle.gate_net.specs.Values.{IsJunction}
 use Rattle.implications.proofs.GateLines.{faulty_pin, good_pin, pin_read, side_fresh}
 use Rattle.implications.proofs.Pulling.{back_other}
-use Rattle.implications.specs.Settled.{IsFresh, IsReady}
-use Rattle.implications.specs.Sides.{IsOpenSide}
+use Rattle.implications.specs.Inner.Settled.{IsFresh, IsReady}
+use Rattle.implications.specs.Inner.Sides.{IsOpenSide}
 use Rattle.refutation.specs.Closing.{IsClashFree}
 use Rattle.refutation.specs.FactSets.{held_by}
 use Rattle.refutation.specs.Facts.{known_equal, known_faulty, known_good}

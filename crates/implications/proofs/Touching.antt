@@ -5,9 +5,9 @@ use Rattle.gate_net.specs.Net.{IsWellFormed, Net}
 use Rattle.gate_net.specs.Values.{HasPin}
 use Rattle.refutation.proofs.Public.{concludes_live}
 use Rattle.implications.proofs.Steps.{pending_more}
-use Rattle.implications.specs.Beginning.{StaysPending}
-use Rattle.implications.specs.Settled.{IsFresh}
-use Rattle.implications.specs.Working.{Touches}
+use Rattle.implications.specs.Inner.Beginning.{StaysPending}
+use Rattle.implications.specs.Inner.Settled.{IsFresh}
+use Rattle.implications.specs.Inner.Working.{Touches}
 use Rattle.refutation.specs.FactSets.{Becomes, held_by}
 use Rattle.refutation.specs.Facts.{with_fact}
 use Rattle.refutation.specs.Lines.{Concludes}

@@ -36,29 +36,12 @@ pub record FitsBelow (net : Net) (number : ℕ) (facts : List NodeFacts) (nodes 
   pub all : (y : ℕ) → y < number → IsPinless net y → IsListed nodes y
   pub below : (k : ℕ) (n : NodeId) → slice_get nodes k ≡ Some n → n.0 < number
 
--- the node is equal exactly where it is live, and all else is held as before
-pub record IsRefitted (net : Net) (node : ℕ) (before after : List NodeFacts) : Type 0 where
-  pub here : IsTrue (held_by after node Equal) ↔ IsLive net node
-  pub others : (x : ℕ) (fact : Fact) → ((x ≡ node) × (fact ≡ Equal) → ⊥) → IsTrue (held_by after x fact) ↔ IsTrue (held_by before x fact)
-
--- the number is in the list
-abbrev pub IsAmongNumbers : List ℕ → ℕ → Type 0
-IsAmongNumbers numbers z = (k : ℕ) × (slice_get numbers k ≡ Some z)
-
 -- such nodes are no longer equal, and were marked
 pub record TakesEquals (Such : ℕ → Type 0) (facts : List NodeFacts) (taken : List Bool) (facts' : List NodeFacts) (taken' : List Bool) : Type 0 where
   pub held : (x : ℕ) (fact : Fact) → IsTrue (held_by facts' x fact) ↔ (IsTrue (held_by facts x fact) × ((fact ≡ Equal) × Such x → ⊥))
   pub marked : (z : ℕ) → IsSeen taken' z ↔ (IsSeen taken z ⊎ Such z)
   pub size : length facts' ≡ length facts
   pub room : length taken' ≡ length taken
-
--- the marked nodes are equal too
-abbrev pub PutsBack : List Bool → Held → Held → Type 0
-PutsBack taken held more = (x : ℕ) (fact : Fact) → IsTrue (more x fact) ↔ (IsTrue (held x fact) ⊎ (IsSeen taken x × (fact ≡ Equal)))
-
--- each node of the list is on the agenda
-abbrev pub AreAllOn : List NodeId → List Bool → Type 0
-AreAllOn nodes agenda = (k : ℕ) (n : NodeId) → slice_get nodes k ≡ Some n → IsSeen agenda n.0
 
 -- there is room for the net's node numbers
 pub record HasRoom (net : Net) (b : Basis) : Type 0 where
@@ -87,11 +70,6 @@ pub record ComesToRest (net : Net) (trail : List (NodeId × Fact)) (taken : List
   pub start : List NodeFacts
   pub leads : LeadsBack trail 0 facts start
   pub rest : Completes net taken (held_by start)
-
--- the facts are what the faulty gate doesn't reach, and the marked nodes complete them
-pub record IsBegun (net : Net) (fault : Fault) (facts : List NodeFacts) (taken : List Bool) : Type 0 where
-  pub outside : AreOutside net fault (held_by facts)
-  pub rest : Completes net taken (held_by facts)
 
 -- the engine and its basis serve the net
 pub record IsFor (net : Net) (e : EngineState) (b : Basis) : Type 0 where

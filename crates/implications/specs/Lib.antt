@@ -4,11 +4,6 @@ pub mod Outside
 pub mod Outcomes
 pub mod Laws
 pub mod Settled
-pub mod Working
 pub mod Beginning
-pub mod Pulls
-pub mod Sides
-pub mod Tallies
-pub mod Counts
-pub mod Rises
 pub mod Bases
+pub mod Inner

@@ -23,10 +23,6 @@ pub record AreAdded (added : List (NodeId × Fact)) (start now : List NodeFacts)
   pub all : (x : ℕ) (fact : Fact) → IsTrue (held_by now x fact) → IsTrue (held_by start x fact) ⊎ IsAmong added x fact
   pub new : (x : ℕ) (fact : Fact) → IsAmong added x fact → held_by start x fact ≡ false
 
--- the trail grew at its end
-abbrev pub IsLonger : List (NodeId × Fact) → List (NodeId × Fact) → Type 0
-IsLonger old new = (rest : List (NodeId × Fact)) × (new ≡ old ++ rest)
-
 -- the rest of the trail was cut off, and its facts were taken back
 pub record TakesBack (trail : List (NodeId × Fact)) (facts : List NodeFacts) (trail' : List (NodeId × Fact)) (facts' : List NodeFacts) : Type 0 where
   pub rest : List (NodeId × Fact)

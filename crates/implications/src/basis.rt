@@ -1,9 +1,11 @@
 //! The facts that closing in place begins with, and comes back to.
 ghost use Rattle.std.specs.Prelude.{◌≡◌, ◌<◌, ◌≤◌, ◌+◌, ℕ, Some, IfOk, IsTrue, OnOk, false, length, replicate, slice_get};
 ghost use Rattle.gate_graph.specs.Circuit.{net_of};
-ghost use Rattle.gate_graph.specs.Search.{AreBelow, IsSeen};
+ghost use Rattle.gate_graph.specs.Search.{IsSeen};
+ghost use Rattle.gate_graph.specs.Inner.Search.{AreBelow};
 ghost use Rattle.refutation.specs.FactSets.{held_by};
-ghost use Rattle.implications.specs.Bases.{AreAllOn, ArePinless, FitsBelow, HasRoom, IsAmongNumbers, IsFitted, IsRest, PutsBack, TakesEquals};
+ghost use Rattle.implications.specs.Bases.{ArePinless, FitsBelow, HasRoom, IsFitted, IsRest, TakesEquals};
+ghost use Rattle.implications.specs.Inner.Bases.{AreAllOn, IsAmongNumbers, PutsBack};
 
 use crate::beginning::is_pinless;
 use gate_graph::Graph;

@@ -6,7 +6,7 @@ ghost use Rattle.refutation.specs.FactSets.{held_by};
 ghost use Rattle.refutation.specs.Sites.{IsSiteOf};
 ghost use Rattle.implications.specs.Outside.{AppendsOutside, AreOutside, BeginsBelow, HoldsOutside, IsPinless, WritesBelow};
 ghost use Rattle.refutation.specs.declared.items.Item.{Item};
-ghost use Rattle.implications.specs.Working.{IsPending};
+ghost use Rattle.implications.specs.Inner.Working.{IsPending};
 
 use gate_graph::{Graph, Question};
 use refutation::agenda::Agenda;

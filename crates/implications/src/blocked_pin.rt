@@ -3,7 +3,7 @@ ghost use Rattle.std.specs.Prelude.{◌≡◌, ◌<◌, ◌≤◌, IfSome, Some,
 ghost use Rattle.gate_graph.specs.Circuit.{net_of};
 ghost use Rattle.gate_net.specs.Net.{Reads};
 ghost use Rattle.gate_net.specs.Values.{IsJunction};
-ghost use Rattle.implications.specs.Settled.{IsReady};
+ghost use Rattle.implications.specs.Inner.Settled.{IsReady};
 ghost use Rattle.refutation.specs.Pins.{AreBelow};
 ghost use Rattle.rm_base.specs.Numbers.{number_bound};
 

@@ -6,13 +6,13 @@ ghost use Rattle.refutation.specs.Closing.{Clashes, IsClashFree};
 ghost use Rattle.refutation.specs.Facts.{known_good, with_fact};
 ghost use Rattle.refutation.specs.FactSets.{held_by};
 ghost use Rattle.refutation.specs.Sites.{IsSiteOf};
-ghost use Rattle.implications.specs.Beginning.{AreDoneOutside};
+ghost use Rattle.implications.specs.Inner.Beginning.{AreDoneOutside};
 ghost use Rattle.implications.specs.Outcomes.{IsClash, IsClosing, IsGrown, clash_items};
 ghost use Rattle.implications.specs.Outside.{AppendsOutside};
-ghost use Rattle.implications.specs.Settled.{IsReady};
-ghost use Rattle.implications.specs.Tallies.{AreTallied};
-ghost use Rattle.implications.specs.Trail.{IsLonger};
-ghost use Rattle.implications.specs.Working.{Closes, IsPending, Keeps, Works};
+ghost use Rattle.implications.specs.Inner.Settled.{IsReady};
+ghost use Rattle.implications.specs.Inner.Tallies.{AreTallied};
+ghost use Rattle.implications.specs.Inner.Trail.{IsLonger};
+ghost use Rattle.implications.specs.Inner.Working.{Closes, IsPending, Keeps, Works};
 
 use crate::beginning::{begin, write_outside};
 use crate::first_lines::{give_at_fault, give_on_chain, give_outside};

@@ -2,10 +2,10 @@
 ghost use Rattle.std.specs.Prelude.{◌≡◌, ◌+◌, ◌-◌, ◌<◌, List, Option, Bool, None, Some, false, length, not, slice_get, slice_set, true, ℕ};
 ghost use Rattle.gate_net.specs.Forward.{is_known};
 ghost use Rattle.refutation.specs.Facts.{Held};
-ghost use Rattle.implications.specs.Counts.{IsCount, is_not_passing};
+ghost use Rattle.implications.specs.Inner.Counts.{IsCount, is_not_passing};
 ghost use Rattle.rm_base.specs.Numbers.{one_if};
-ghost use Rattle.implications.specs.Pulls.{IsEqualPull, IsPull};
-ghost use Rattle.implications.specs.Tallies.{IsTally, counting};
+ghost use Rattle.implications.specs.Inner.Pulls.{IsEqualPull, IsPull};
+ghost use Rattle.implications.specs.Inner.Tallies.{IsTally, counting};
 
 use crate::tallies::Tally;
 use refutation::pins::is_value;

@@ -7,10 +7,10 @@ ghost use Rattle.refutation.specs.Closing.{IsClashFree};
 ghost use Rattle.refutation.specs.FactSets.{held_by};
 ghost use Rattle.refutation.specs.Pins.{pins_of, stuck_of};
 ghost use Rattle.refutation.specs.declared.pins.Aspect.TheVariants.{OfFaulty};
-ghost use Rattle.implications.specs.Counts.{IsCount};
-ghost use Rattle.implications.specs.Pulls.{AreDoneEqual, AreDoneFaulty, AreDoneGood, AreDoneSide};
-ghost use Rattle.implications.specs.Settled.{IsReady};
-ghost use Rattle.implications.specs.Tallies.{IsTally};
+ghost use Rattle.implications.specs.Inner.Counts.{IsCount};
+ghost use Rattle.implications.specs.Inner.Pulls.{AreDoneEqual, AreDoneFaulty, AreDoneGood, AreDoneSide};
+ghost use Rattle.implications.specs.Inner.Settled.{IsReady};
+ghost use Rattle.implications.specs.Inner.Tallies.{IsTally};
 
 use crate::counts::{
     Count, count_for, count_not_passing, equal_pulls_nothing, pulls_nothing, with_stuck_pin,

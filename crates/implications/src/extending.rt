@@ -7,9 +7,9 @@ ghost use Rattle.refutation.specs.Facts.{known_good, with_fact, without_fact};
 ghost use Rattle.refutation.specs.FactSets.{held_by, missing, Becomes};
 ghost use Rattle.refutation.specs.declared.held.NodeFacts.{NodeFacts};
 ghost use Rattle.implications.specs.Outcomes.{IsExtended};
-ghost use Rattle.implications.specs.Settled.{IsReady};
+ghost use Rattle.implications.specs.Inner.Settled.{IsReady};
 ghost use Rattle.implications.specs.Trail.{AreAdded, LeadsBack, TakesBack};
-ghost use Rattle.implications.specs.Working.{Keeps};
+ghost use Rattle.implications.specs.Inner.Working.{Keeps};
 
 use crate::log::{Log, start};
 use crate::settling::work_off;

@@ -5,10 +5,11 @@ ghost use Rattle.refutation.specs.Answers.{IsAnswer};
 ghost use Rattle.refutation.specs.Closing.{IsClashFree};
 ghost use Rattle.refutation.specs.FactSets.{held_by};
 ghost use Rattle.refutation.specs.Sites.{IsSiteOf};
-ghost use Rattle.implications.specs.Beginning.{Gives, AreDoneAtFault, AreDoneOnChain, AreDoneOutside, StaysPending};
-ghost use Rattle.implications.specs.Settled.{IsDone, IsReady, place_of};
-ghost use Rattle.implications.specs.Tallies.{AreTallied};
-ghost use Rattle.implications.specs.Working.{Works, Keeps};
+ghost use Rattle.implications.specs.Inner.Beginning.{Gives, AreDoneAtFault, AreDoneOnChain, AreDoneOutside, StaysPending};
+ghost use Rattle.implications.specs.Settled.{place_of};
+ghost use Rattle.implications.specs.Inner.Settled.{IsDone, IsReady};
+ghost use Rattle.implications.specs.Inner.Tallies.{AreTallied};
+ghost use Rattle.implications.specs.Inner.Working.{Works, Keeps};
 
 use crate::found::Found;
 use crate::log::Log;

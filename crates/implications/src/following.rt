@@ -4,7 +4,8 @@ ghost use Rattle.gate_graph.specs.Circuit.{net_of};
 ghost use Rattle.gate_net.specs.Edits.{IsSameBut};
 ghost use Rattle.gate_net.specs.Net.{Net};
 ghost use Rattle.refutation.specs.FactSets.{held_by};
-ghost use Rattle.implications.specs.Bases.{HasRoom, IsFitted, IsListed, IsRefitted, IsRest};
+ghost use Rattle.implications.specs.Bases.{HasRoom, IsFitted, IsListed, IsRest};
+ghost use Rattle.implications.specs.Inner.Bases.{IsRefitted};
 ghost use Rattle.implications.specs.Outside.{IsPinless};
 
 use crate::basis::Basis;

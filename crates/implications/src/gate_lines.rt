@@ -7,8 +7,8 @@ ghost use Rattle.refutation.specs.Closing.{IsClashFree};
 ghost use Rattle.refutation.specs.FactSets.{held_by};
 ghost use Rattle.refutation.specs.Pins.{known_on, pins_of};
 ghost use Rattle.refutation.specs.declared.pins.Aspect.TheVariants.{OfEqual};
-ghost use Rattle.implications.specs.Pulls.{AreDoneEqual, AreDoneFaulty, AreDoneGood, Finds, IsEqualPull, IsPlaced, IsPull, IsPulled, SomePin};
-ghost use Rattle.implications.specs.Settled.{IsReady};
+ghost use Rattle.implications.specs.Inner.Pulls.{AreDoneEqual, AreDoneFaulty, AreDoneGood, Finds, IsEqualPull, IsPlaced, IsPull, IsPulled, SomePin};
+ghost use Rattle.implications.specs.Inner.Settled.{IsReady};
 
 use crate::found::Found;
 use crate::pulls::{Pull, equal_pull, junction_pull};

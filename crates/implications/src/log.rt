@@ -1,7 +1,7 @@
 // What was found, line by line and fact by fact.
 ghost use Rattle.std.specs.Prelude.{◌≡◌, ◌<◌, [], OnOk, false, length};
 ghost use Rattle.refutation.specs.FactSets.{held_by};
-ghost use Rattle.implications.specs.Working.{Holds, Keeps};
+ghost use Rattle.implications.specs.Inner.Working.{Holds, Keeps};
 
 use crate::found::Found;
 use refutation::{Fact, FactSet, Line};

@@ -8,9 +8,9 @@ ghost use Rattle.gate_net.specs.declared.Kind.TheVariants.{Not};
 ghost use Rattle.refutation.specs.Answers.{IsAnswer};
 ghost use Rattle.refutation.specs.Closing.{IsClashFree};
 ghost use Rattle.refutation.specs.FactSets.{held_by};
-ghost use Rattle.implications.specs.Pulls.{AreDoneFaulty, AreDoneGood, AreDoneNot, AreDoneValues, Finds};
-ghost use Rattle.implications.specs.Settled.{IsNext, IsReady, IsTried};
-ghost use Rattle.implications.specs.Tallies.{AreTallied};
+ghost use Rattle.implications.specs.Inner.Pulls.{AreDoneFaulty, AreDoneGood, AreDoneNot, AreDoneValues, Finds};
+ghost use Rattle.implications.specs.Inner.Settled.{IsNext, IsReady, IsTried};
+ghost use Rattle.implications.specs.Inner.Tallies.{AreTallied};
 
 use crate::found::Found;
 use crate::gate_lines::equal_line;

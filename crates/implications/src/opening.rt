@@ -5,9 +5,10 @@ ghost use Rattle.gate_net.specs.Net.{Net};
 ghost use Rattle.refutation.specs.FactSets.{held_by};
 ghost use Rattle.refutation.specs.declared.held.NodeFacts.{NodeFacts};
 ghost use Rattle.refutation.specs.Reaching.{MarksReached};
-ghost use Rattle.implications.specs.Bases.{ArePinless, ComesToRest, HasRoom, IsBegun, IsFitted, IsFor, IsOfSize, IsOpened, IsRest};
+ghost use Rattle.implications.specs.Bases.{ArePinless, ComesToRest, HasRoom, IsFitted, IsFor, IsOfSize, IsOpened, IsRest};
+ghost use Rattle.implications.specs.Inner.Bases.{IsBegun};
 ghost use Rattle.implications.specs.Outside.{AreOutside};
-ghost use Rattle.implications.specs.Working.{IsPending};
+ghost use Rattle.implications.specs.Inner.Working.{IsPending};
 
 use crate::basis::{Basis, list_all, put_back, take_equal, take_equals};
 use crate::closing::add_all_lines;

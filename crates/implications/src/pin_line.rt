@@ -6,8 +6,8 @@ ghost use Rattle.gate_net.specs.Values.{IsJunction};
 ghost use Rattle.refutation.specs.Closing.{IsClashFree};
 ghost use Rattle.refutation.specs.FactSets.{held_by};
 ghost use Rattle.refutation.specs.Pins.{known_on};
-ghost use Rattle.implications.specs.Settled.{IsFresh, IsReady};
-ghost use Rattle.implications.specs.Tallies.{IsTally};
+ghost use Rattle.implications.specs.Inner.Settled.{IsFresh, IsReady};
+ghost use Rattle.implications.specs.Inner.Tallies.{IsTally};
 
 use crate::counts::count_for;
 use crate::done_lines::{faulty_count, sides_are_done};

@@ -1,7 +1,7 @@
 // What glances at a gate's pins tell that isn't known yet.
 ghost use Rattle.std.specs.Prelude.{◌≡◌, List, Option, Bool, false};
 ghost use Rattle.refutation.specs.Pins.{Glances};
-ghost use Rattle.implications.specs.Pulls.{IsPull, IsEqualPull};
+ghost use Rattle.implications.specs.Inner.Pulls.{IsPull, IsEqualPull};
 
 use refutation::pins::{Glance, is_value, junction_forward};
 

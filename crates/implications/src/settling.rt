@@ -4,9 +4,9 @@ ghost use Rattle.gate_graph.specs.Circuit.{net_of};
 ghost use Rattle.refutation.specs.Closing.{IsClashFree};
 ghost use Rattle.refutation.specs.Facts.{AreOpposed};
 ghost use Rattle.refutation.specs.FactSets.{held_by};
-ghost use Rattle.implications.specs.Settled.{IsFresh, IsReady};
-ghost use Rattle.implications.specs.Tallies.{AreTallied};
-ghost use Rattle.implications.specs.Working.{IsPending, IsPendingBut, Touches, Holds, Works, Keeps, Outcome, Ending, work};
+ghost use Rattle.implications.specs.Inner.Settled.{IsFresh, IsReady};
+ghost use Rattle.implications.specs.Inner.Tallies.{AreTallied};
+ghost use Rattle.implications.specs.Inner.Working.{IsPending, IsPendingBut, Touches, Holds, Works, Keeps, Outcome, Ending, work};
 
 use crate::found::Found;
 use crate::log::{Log, hold};

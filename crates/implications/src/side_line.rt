@@ -6,9 +6,9 @@ ghost use Rattle.gate_net.specs.Values.{IsJunction};
 ghost use Rattle.refutation.specs.Closing.{IsClashFree};
 ghost use Rattle.refutation.specs.FactSets.{held_by};
 ghost use Rattle.refutation.specs.Pins.{AreBelow};
-ghost use Rattle.implications.specs.Pulls.{AreDoneSide, Finds};
-ghost use Rattle.implications.specs.Sides.{IsOpenPin, IsOpenSide, IsSide};
-ghost use Rattle.implications.specs.Settled.{IsReady};
+ghost use Rattle.implications.specs.Inner.Pulls.{AreDoneSide, Finds};
+ghost use Rattle.implications.specs.Inner.Sides.{IsOpenPin, IsOpenSide, IsSide};
+ghost use Rattle.implications.specs.Inner.Settled.{IsReady};
 ghost use Rattle.rm_base.specs.Numbers.{number_bound};
 
 use crate::found::Found;

@@ -5,9 +5,9 @@ ghost use Rattle.gate_net.specs.Net.{Reads};
 ghost use Rattle.gate_net.specs.Values.{IsJunction};
 ghost use Rattle.refutation.specs.Closing.{IsClashFree};
 ghost use Rattle.refutation.specs.FactSets.{held_by};
-ghost use Rattle.implications.specs.Settled.{IsReady};
-ghost use Rattle.implications.specs.Tallies.{AreTallied};
-ghost use Rattle.implications.specs.Working.{IsPendingBut, Works, Keeps, Sweeps, work};
+ghost use Rattle.implications.specs.Inner.Settled.{IsReady};
+ghost use Rattle.implications.specs.Inner.Tallies.{AreTallied};
+ghost use Rattle.implications.specs.Inner.Working.{IsPendingBut, Works, Keeps, Sweeps, work};
 
 use crate::blocked_pin::blocked_pin;
 use crate::log::Log;

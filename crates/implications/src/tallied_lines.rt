@@ -5,9 +5,9 @@ ghost use Rattle.gate_net.specs.Net.{drivers_of};
 ghost use Rattle.gate_net.specs.Values.{IsJunction};
 ghost use Rattle.refutation.specs.Closing.{IsClashFree};
 ghost use Rattle.refutation.specs.FactSets.{held_by};
-ghost use Rattle.implications.specs.Pulls.{AreDoneEqual, AreDoneFaulty, AreDoneGood, AreDoneSide, Finds};
-ghost use Rattle.implications.specs.Settled.{IsNext, IsReady};
-ghost use Rattle.implications.specs.Tallies.{IsTally};
+ghost use Rattle.implications.specs.Inner.Pulls.{AreDoneEqual, AreDoneFaulty, AreDoneGood, AreDoneSide, Finds};
+ghost use Rattle.implications.specs.Inner.Settled.{IsNext, IsReady};
+ghost use Rattle.implications.specs.Inner.Tallies.{IsTally};
 
 use crate::done_lines::{equal_is_done, faulty_is_done, good_is_done, sides_are_done};
 use crate::found::Found;

@@ -6,9 +6,9 @@ ghost use Rattle.gate_net.specs.Net.{IsLive, drivers_of};
 ghost use Rattle.refutation.specs.FactSets.{held_by};
 ghost use Rattle.refutation.specs.Facts.{Held, with_fact};
 ghost use Rattle.refutation.specs.Pins.{AreBelow};
-ghost use Rattle.implications.specs.Rises.{CanRise, IsRaised, RaisesAt, risen, rise_at, rise_by};
-ghost use Rattle.implications.specs.Tallies.{AreTallied, IsTally};
-ghost use Rattle.implications.specs.Working.{Touches};
+ghost use Rattle.implications.specs.Inner.Rises.{CanRise, IsRaised, RaisesAt, risen, rise_at, rise_by};
+ghost use Rattle.implications.specs.Inner.Tallies.{AreTallied, IsTally};
+ghost use Rattle.implications.specs.Inner.Working.{Touches};
 ghost use Rattle.implications.specs.declared.tallies.Tally.{Tally};
 ghost use Rattle.rm_base.specs.Numbers.{number_bound};
 
@@ -239,7 +239,7 @@ pub struct Tallies {
 
 impl Model for Tallies {
     ghost use Rattle.std.specs.Prelude.{◌≡◌, length};
-    ghost use Rattle.implications.specs.Tallies.{TallyState};
+    ghost use Rattle.implications.specs.Inner.Tallies.{TallyState};
 
     ghost Value = { TallyState };
 

@@ -9,9 +9,10 @@ use Rattle.blif_format.specs.Text.{text_of}
 use Rattle.graph_to_model.specs.Fits.{Fits}
 use Rattle.graph_to_model.specs.NetModel.{model_of_net}
 use Rattle.journal_check.specs.Laws.{AcceptedStand}
-use Rattle.journal_audit.specs.Audited.{ComparedSays, IsProblem}
+use Rattle.journal_audit.specs.Audited.{IsProblem}
+use Rattle.journal_audit.specs.Inner.Audited.{ComparedSays}
 use Rattle.journal_audit.specs.Differences.{DifferAt}
-use Rattle.journal_audit.specs.Turns.{EndsAccepted, IsLast}
+use Rattle.journal_audit.specs.Inner.Turns.{EndsAccepted, IsLast}
 use Rattle.journal_audit.specs.declared.problem.AuditProblem.{AuditProblem}
 use Rattle.journal_audit.specs.declared.problem.AuditProblem.TheVariants.{Fault, Netlist, NoJournal, NoMemory, NoOutput, Refused, Text, TooLong}
 use Rattle.rm_base.specs.Words.{Word}

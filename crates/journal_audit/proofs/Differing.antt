@@ -4,7 +4,7 @@ use Rattle.std.specs.Prelude.{slice_get}
 use Rattle.std.specs.Option.{option_map}
 use Rattle.rm_base.specs.Files.{Files, file_of}
 use Rattle.rm_base.specs.Shelves.{GivesPiece}
-use Rattle.journal_audit.specs.Audited.{ComparedSays, IsDifference}
+use Rattle.journal_audit.specs.Inner.Audited.{ComparedSays, IsDifference}
 use Rattle.journal_audit.specs.Differences.{DifferAfter, DifferAt}
 use Rattle.journal_audit.specs.declared.problem.AuditProblem.{AuditProblem}
 use Rattle.rm_base.specs.Words.{Word}

@@ -11,9 +11,10 @@ use Rattle.journal_text.specs.Cutting.{CutsAgree}
 use Rattle.journal_text.specs.Streams.{NextGives, Pending, comes}
 use Rattle.journal_check.specs.declared.refusal.JournalRefusal.{JournalRefusal}
 use Rattle.journal_check.specs.declared.refusal.Why.TheVariants as why
-use Rattle.journal_audit.specs.Judging.{IsFaultyText, IsTextProblem}
-use Rattle.journal_audit.specs.Problems.{fault_problem}
-use Rattle.journal_audit.specs.Stages.{EntryRefused, IsJudged, StageIs, TakenSays}
+use Rattle.journal_audit.specs.Judging.{IsFaultyText}
+use Rattle.journal_audit.specs.Inner.Judging.{IsTextProblem}
+use Rattle.journal_audit.specs.Inner.Problems.{fault_problem}
+use Rattle.journal_audit.specs.Inner.Stages.{EntryRefused, IsJudged, StageIs, TakenSays}
 use Rattle.journal_audit.specs.declared.problem.AuditProblem.{AuditProblem}
 use Rattle.journal_audit.specs.declared.stage.Stage.{Stage}
 use Rattle.journal_audit.proofs.Judged.{entered, faulty, records_short, refused_entry}

@@ -16,7 +16,7 @@ use Rattle.journal_text.specs.Streams.{FinishGives, GivesNone, IsReadTo, NextGiv
 use Rattle.journal_text.specs.Text.{AreEntries, entries_text, entry_line, entry_text, journal_entries}
 use Rattle.journal_check.specs.declared.refusal.JournalRefusal.{JournalRefusal}
 use Rattle.journal_audit.specs.Judging.{BeginsAccepted, BeginsWith, GoesTo, IsAcceptedText, IsFaultyText, IsOpen, IsRefusedText, NoneBefore}
-use Rattle.journal_audit.specs.Stages.{EntryRefused, IsJudged, StageIs, TakenSays}
+use Rattle.journal_audit.specs.Inner.Stages.{EntryRefused, IsJudged, StageIs, TakenSays}
 use Rattle.journal_audit.specs.declared.stage.Stage.{Stage}
 use Rattle.journal_audit.specs.declared.stage.Stage.TheVariants.{Ended, Header, Records}
 

@@ -20,8 +20,8 @@ use Rattle.journal_check.specs.Standing.{Finishes, Standing, Steps}
 use Rattle.journal_check.specs.declared.refusal.JournalRefusal.{JournalRefusal}
 use Rattle.journal_check.specs.declared.refusal.Why.{Why}
 use Rattle.journal_check.specs.declared.refusal.Why.TheVariants as why
-use Rattle.journal_audit.specs.Problems.{fault_problem, refusal_problem, refused_for}
-use Rattle.journal_audit.specs.Stages.{EndRefused, IsRefusal, IsReplayed, StageIs, StepRefused, TakenSays}
+use Rattle.journal_audit.specs.Inner.Problems.{fault_problem, refusal_problem, refused_for}
+use Rattle.journal_audit.specs.Inner.Stages.{EndRefused, IsRefusal, IsReplayed, StageIs, StepRefused, TakenSays}
 use Rattle.journal_audit.specs.declared.problem.AuditProblem.{AuditProblem}
 use Rattle.journal_audit.specs.declared.problem.AuditProblem.TheVariants.{NoMemory, Refused, Text}
 use Rattle.journal_audit.specs.declared.stage.Stage.{Stage}

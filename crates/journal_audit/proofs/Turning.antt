@@ -13,9 +13,10 @@ use Rattle.journal_text.specs.Cutting.{CutsAgree}
 use Rattle.journal_text.specs.Faults.{IsFault}
 use Rattle.journal_text.specs.Streams.{GivesNone, Pending}
 use Rattle.journal_audit.specs.Audited.{HasAccepted}
-use Rattle.journal_audit.specs.Judging.{IsAcceptedText, IsOpen, IsTextProblem}
-use Rattle.journal_audit.specs.Stages.{IsJudged}
-use Rattle.journal_audit.specs.Turns.{EndsAccepted, EndsWith, FileBegins, IsInside, IsJournalProblem, IsReadSoFar, TurnSays}
+use Rattle.journal_audit.specs.Judging.{IsAcceptedText, IsOpen}
+use Rattle.journal_audit.specs.Inner.Judging.{IsTextProblem}
+use Rattle.journal_audit.specs.Inner.Stages.{IsJudged}
+use Rattle.journal_audit.specs.Inner.Turns.{EndsAccepted, EndsWith, FileBegins, IsInside, IsJournalProblem, IsReadSoFar, TurnSays}
 use Rattle.journal_audit.specs.declared.problem.AuditProblem.{AuditProblem}
 use Rattle.journal_audit.specs.declared.problem.AuditProblem.TheVariants.{Fault, Netlist, NoJournal, NoMemory, NoOutput, Refused, Text, TooLong}
 use Rattle.journal_audit.specs.declared.reading.Turn.{Turn}

@@ -1,5 +1,5 @@
 -- What an audit says of the files.
-use Rattle.std.specs.Prelude.{◌≡◌, ◌≢◌, ℕ, ◌+◌, ◌<◌, ◌≤◌, ◌^◌, List, length, take, Some, None, Result, Ok, Err}
+use Rattle.std.specs.Prelude.{◌≡◌, ◌≢◌, ℕ, ◌<◌, ◌≤◌, ◌^◌, List, length, take, Some, None}
 use Rattle.rm_base.specs.Files.{Files, file_of}
 use Rattle.rm_model.specs.declared.parts.Model.{Model}
 use Rattle.gate_net.specs.Net.{Net}
@@ -8,7 +8,7 @@ use Rattle.graph_to_model.specs.Laws.{AreFew}
 use Rattle.graph_to_model.specs.NetModel.{model_of_net}
 use Rattle.journal_text.specs.declared.faults.JournalFault.TheVariants as fault
 use Rattle.journal_check.specs.declared.refusal.Why.TheVariants as why
-use Rattle.journal_audit.specs.Differences.{DifferAfter, DifferAt}
+use Rattle.journal_audit.specs.Differences.{DifferAt}
 use Rattle.journal_audit.specs.Judging.{IsAcceptedText, IsFaultyText, IsOpen, IsRefusedText}
 use Rattle.journal_audit.specs.declared.problem.AuditProblem.{AuditProblem}
 use Rattle.journal_audit.specs.declared.problem.AuditProblem.TheVariants.{Fault, Netlist, NoJournal, NoMemory, NoOutput, Refused, Text, TooLong}
@@ -61,25 +61,3 @@ abbrev pub ProblemsExclude : Type 0
 ProblemsExclude =
     (m : Model) (files : Files) (journal output : Word) (problem : AuditProblem) (count : ℕ) → IsOfFiles problem → IsProblem m files journal output problem
     → IsPassed m files journal output count → ⊥
-
--- the problem says where the texts differ
-abbrev pub IsDifference : List ℕ → List ℕ → AuditProblem → Type 0
-IsDifference text found problem =
-    (place : ℕ) × ((problem ≡ Netlist (place + 1)) × ((place ≤ length text) × DifferAfter text found place))
-
--- what a comparison of the output with a text says
-abbrev pub ComparedSays : Files → Word → List ℕ → Result (Unit {0}) AuditProblem → Type 0
-ComparedSays files output text (Ok _) = file_of files output ≡ Some text
-ComparedSays files output text (Err NoOutput) = file_of files output ≡ None
-ComparedSays files output text (Err (Netlist byte)) = (found : List ℕ) × ((file_of files output ≡ Some found) × DifferAt text found byte)
-ComparedSays files output text (Err Fault) = Unit {0}
-ComparedSays files output text (Err NoMemory) = Unit {0}
-ComparedSays files output text (Err _) = ⊥
-
--- problems of the output, of its shelf and of memory
-abbrev pub IsOfOutput : AuditProblem → Type 0
-IsOfOutput Fault = Unit {0}
-IsOfOutput NoMemory = Unit {0}
-IsOfOutput NoOutput = Unit {0}
-IsOfOutput (Netlist byte) = Unit {0}
-IsOfOutput _ = ⊥

@@ -1,5 +1,5 @@
 -- What a journal says of a model, and what is wrong with it: the first fault or refusal in the order of its text.
-use Rattle.std.specs.Prelude.{◌≡◌, ◌≢◌, ◌⊎◌, ℕ, ◌+◌, List, [], ◌∷◌, ◌++◌, length}
+use Rattle.std.specs.Prelude.{◌≡◌, ◌⊎◌, ℕ, ◌+◌, List, [], ◌∷◌, ◌++◌, length}
 use Rattle.rm_model.specs.declared.parts.Model.{Model}
 use Rattle.gate_net.specs.Net.{Net}
 use Rattle.cover_decompose.specs.Decomposition.{net_of_model}
@@ -13,9 +13,7 @@ use Rattle.journal_text.specs.Text.{AreEntries, entries_text, journal_entries}
 use Rattle.journal_check.specs.Accepts.{IsAccepted}
 use Rattle.journal_check.specs.Replaying.{EndLeads, LeadOn, Leads, Position, editing, refused}
 use Rattle.journal_check.specs.declared.refusal.JournalRefusal.{JournalRefusal}
-use Rattle.journal_check.specs.declared.refusal.Why.TheVariants as why
-use Rattle.journal_audit.specs.declared.problem.AuditProblem.{AuditProblem}
-use Rattle.journal_audit.specs.declared.problem.AuditProblem.TheVariants.{NoMemory, Refused, Text}
+use Rattle.journal_audit.specs.declared.problem.AuditProblem.TheVariants.{NoMemory}
 
 -- the text is a journal that the model accepts, with that last net and so many records
 pub record IsAcceptedText (m : Model) (text : List ℕ) (last : Net) (count : ℕ) : Type 0 where
@@ -99,10 +97,3 @@ pub record IsOpen (m : Model) (text : List ℕ) : Type 0 where
       (entries ≡ [])
       ⊎ (((entries ≡ opening budget records) × ((q : Position) × LeadOn budget (editing (net_of_model m)) records q))
       ⊎ ((entries ≡ journal_entries budget records) × ((rest ≡ []) × ((last : Net) × IsAccepted m budget records last))))
-
--- what is wrong with the text, or want of memory
-abbrev pub IsTextProblem : Model → List ℕ → AuditProblem → Type 0
-IsTextProblem m text NoMemory = Unit {0}
-IsTextProblem m text (Text f) = IsFaultyText m text f
-IsTextProblem m text (Refused refusal) = (refusal.why ≢ why.NoMemory) × IsRefusedText m text refusal
-IsTextProblem m text _ = ⊥

@@ -11,8 +11,9 @@ ghost use Rattle.gate_graph.specs.Circuit.{net_of};
 ghost use Rattle.graph_to_model.specs.Fits.{Fits};
 ghost use Rattle.graph_to_model.specs.Laws.{AreFew};
 ghost use Rattle.graph_to_model.specs.NetModel.{model_of_net};
-ghost use Rattle.journal_audit.specs.Audited.{ComparedSays, IsOfOutput, IsPassed, IsPlain, IsProblem};
-ghost use Rattle.journal_audit.specs.Turns.{IsLast};
+ghost use Rattle.journal_audit.specs.Audited.{IsPassed, IsPlain, IsProblem};
+ghost use Rattle.journal_audit.specs.Inner.Audited.{ComparedSays, IsOfOutput};
+ghost use Rattle.journal_audit.specs.Inner.Turns.{IsLast};
 ghost use Rattle.cover_decompose.specs.Limits.{most_pins};
 
 use crate::compare::difference;

@@ -1,7 +1,7 @@
 // Comparing the output with a text.
 ghost use Rattle.std.specs.Prelude.{◌≡◌, ◌≤◌, IfErr, IfSome, None, OnOk, length};
 ghost use Rattle.journal_audit.specs.Differences.{DifferAfter};
-ghost use Rattle.journal_audit.specs.Audited.{IsDifference};
+ghost use Rattle.journal_audit.specs.Inner.Audited.{IsDifference};
 
 use crate::problem::AuditProblem;
 

@@ -12,9 +12,9 @@ ghost use Rattle.journal_text.specs.declared.reader.Awaited.TheVariants as await
 ghost use Rattle.journal_text.specs.declared.record.Entry.TheVariants as entries;
 ghost use Rattle.journal_text.specs.declared.record.Record.{Record as RecordValue};
 ghost use Rattle.journal_check.specs.Replaying.{IsLocalTree};
-ghost use Rattle.journal_audit.specs.Judging.{IsTextProblem};
-ghost use Rattle.journal_audit.specs.Problems.{fault_problem as problem_of_fault, refusal_problem as problem_of_refusal};
-ghost use Rattle.journal_audit.specs.Stages.{IsJudged, IsReplayed, StageIs, TakenSays};
+ghost use Rattle.journal_audit.specs.Inner.Judging.{IsTextProblem};
+ghost use Rattle.journal_audit.specs.Inner.Problems.{fault_problem as problem_of_fault, refusal_problem as problem_of_refusal};
+ghost use Rattle.journal_audit.specs.Inner.Stages.{IsJudged, IsReplayed, StageIs, TakenSays};
 ghost use Rattle.journal_audit.specs.declared.problem.AuditProblem.TheVariants.{NoMemory as Wanting};
 ghost use Rattle.cover_decompose.specs.Limits.{most_pins};
 

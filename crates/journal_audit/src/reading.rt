@@ -12,9 +12,9 @@ ghost use Rattle.rm_model.specs.declared.parts.Model.{Model as ModelValue};
 ghost use Rattle.cover_decompose.specs.Count.{decomposed};
 ghost use Rattle.gate_graph.specs.Circuit.{net_of};
 ghost use Rattle.journal_text.specs.Streams.{GivesNone};
-ghost use Rattle.journal_audit.specs.Judging.{IsTextProblem};
-ghost use Rattle.journal_audit.specs.Stages.{IsJudged};
-ghost use Rattle.journal_audit.specs.Turns.{EndsAccepted, EndsWith, GivesNext, IsInside, IsOfJournal, IsOutside, IsRead, IsToldProblem, TurnSays};
+ghost use Rattle.journal_audit.specs.Inner.Judging.{IsTextProblem};
+ghost use Rattle.journal_audit.specs.Inner.Stages.{IsJudged};
+ghost use Rattle.journal_audit.specs.Inner.Turns.{EndsAccepted, EndsWith, GivesNext, IsInside, IsOfJournal, IsOutside, IsRead, IsToldProblem, TurnSays};
 ghost use Rattle.cover_decompose.specs.Limits.{most_pins};
 
 use crate::judge::judge_entries;

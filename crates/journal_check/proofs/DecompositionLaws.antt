@@ -7,7 +7,7 @@ use Rattle.gate_net.specs.Net.{wire_count}
 use Rattle.gate_graph.specs.Circuit.{Circuit, live_nodes, net_of}
 use Rattle.cover_decompose.specs.Count.{decomposed}
 use Rattle.cover_decompose.specs.Decomposition.{net_of_model}
-use Rattle.journal_check.specs.Within.{IsWithin}
+use Rattle.journal_check.specs.Inner.Within.{IsWithin}
 use Rattle.journal_check.proofs.WithinLaws.{within_few}
 
 few_observed : (m : Model) → length (net_of_model m).observed ≡ length (observed_names m)

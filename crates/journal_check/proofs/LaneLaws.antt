@@ -9,7 +9,7 @@ use Rattle.gate_net.specs.Net.{Net, source_count}
 use Rattle.gate_net.specs.Values.{Detects}
 use Rattle.gate_net.specs.Faults.{IsTest, assigned}
 use Rattle.fault_sim.specs.Words.{assignment, lane}
-use Rattle.journal_check.specs.Vectors.{bit_word}
+use Rattle.journal_check.specs.Inner.Vectors.{bit_word}
 
 lane_bit : (b : Bool) → lane 0 (bit_word b) ≡ b
 lane_bit true = refl

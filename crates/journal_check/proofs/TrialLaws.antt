@@ -19,9 +19,10 @@ use Rattle.journal_text.specs.declared.record.Record.TheVariants as kept
 use Rattle.journal_check.specs.declared.bench.Bench.{Bench}
 use Rattle.journal_check.specs.declared.bench.Bench.TheVariants.{Idle, Trying}
 use Rattle.journal_check.specs.declared.refusal.Why.{Why}
-use Rattle.journal_check.specs.Benches.{IsEditing, IsIdle, IsReady, RecordSays, net_in, position_of}
-use Rattle.journal_check.specs.Replaying.{Leads, Makes, Position, editing, goes_on, one_each, refused}
-use Rattle.journal_check.specs.Within.{IsWithin}
+use Rattle.journal_check.specs.Inner.Benches.{IsEditing, IsIdle, IsReady, RecordSays, net_in, position_of}
+use Rattle.journal_check.specs.Replaying.{Leads, Position, editing, goes_on, one_each, refused}
+use Rattle.journal_check.specs.Inner.Replaying.{Makes}
+use Rattle.journal_check.specs.Inner.Within.{IsWithin}
 use Rattle.journal_check.proofs.MadeLaws.{one_answer}
 use Rattle.journal_check.proofs.WithinLaws.{nodes_bounded, stays_within, wires_bounded}
 

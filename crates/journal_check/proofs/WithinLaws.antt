@@ -9,7 +9,8 @@ use Rattle.gate_net.specs.declared.Kind.TheVariants.{And, Not, One, Or, Source, 
 use Rattle.gate_net.specs.Net.{Node, Net, IsGate, IsWellFormed, count_in, drivers_in, drivers_of, gate_count, gate_in, node_at, source_count, source_in, wire_count}
 use Rattle.gate_net.specs.Edits.{constant_node, node_redirected, redirected, with_drivers, without}
 use Rattle.gate_net.specs.Values.{IsJunction, same_bool}
-use Rattle.wire_edit.specs.Changes.{Change, append, remove, fix, readers, new_not, retire, changed, CanChange}
+use Rattle.wire_edit.specs.Changes.{Change, append, remove, fix, readers, new_not, retire, changed}
+use Rattle.wire_edit.specs.Inner.Changes.{CanChange}
 use Rattle.wire_edit.proofs.Public.{applies_changes, live_within, total_gone, total_least, total_map, total_with}
 use Rattle.wire_edit.specs.Refusals.{ceiling, live_count}
 use Rattle.wire_edit.specs.Steps.{Applies, change_of, constant_change, stepped}
@@ -17,7 +18,7 @@ use Rattle.wire_edit.specs.Tests.{constant_at, control_of, live_in}
 use Rattle.wire_edit.specs.declared.steps.Step.{Step}
 use Rattle.wire_edit.specs.declared.steps.Step.TheVariants as step
 use Rattle.journal_text.specs.Accepted.{MayGrow}
-use Rattle.journal_check.specs.Within.{IsWithin, more_pins}
+use Rattle.journal_check.specs.Inner.Within.{IsWithin, more_pins}
 use Rattle.rm_base.proofs.Public.{length_set}
 
 -- the pins beyond the first are some of the wires, and there is one more at most for each live node

@@ -1,8 +1,6 @@
 pub mod Verdicts
 pub mod Accepts
 pub mod Replaying
-pub mod Within
-pub mod Vectors
-pub mod Benches
 pub mod Standing
 pub mod Laws
+pub mod Inner

@@ -1,13 +1,10 @@
 -- What a contract sees of a replay.
 use Rattle.std.specs.Prelude.{◌≡◌, ◌≢◌, ℕ, [], Option, Some, None, Result, Ok, Err}
-use Rattle.gate_net.specs.Net.{Net}
 use Rattle.gate_graph.specs.Circuit.{Circuit, net_of}
 use Rattle.journal_text.specs.declared.record.Record.{Record}
-use Rattle.journal_check.specs.declared.bench.Bench.{Bench}
 use Rattle.journal_check.specs.declared.refusal.Why.TheVariants as why
 use Rattle.journal_check.specs.declared.refusal.JournalRefusal.{JournalRefusal}
-use Rattle.journal_check.specs.Benches.{IsBench, position_of}
-use Rattle.journal_check.specs.Replaying.{Position, editing, settling, goes_on, refused, Leads, EndLeads, next_number}
+use Rattle.journal_check.specs.Replaying.{Position, settling, goes_on, refused, Leads, EndLeads, next_number}
 
 -- where the replay stands, the number of the next record, and the refusal that every later call answers
 pub record Standing : Type 0 where
@@ -15,18 +12,6 @@ pub record Standing : Type 0 where
   pub budget : ℕ
   pub number : ℕ
   pub refusal : Option JournalRefusal
-
-abbrev pub no_net : Net
-no_net = record { nodes = []; observed = [] }
-
-abbrev pub position_in : Option Bench → Position
-position_in (Some b) = position_of b
-position_in None = editing no_net
-
--- the graph is there
-abbrev pub IsThere : Option Bench → Type 0
-IsThere (Some b) = IsBench b
-IsThere None = ⊥
 
 -- all but the position stays
 pub record KeepsOthers (old new : Standing) : Type 0 where

@@ -2,7 +2,7 @@
 ghost use Rattle.std.specs.Prelude.{◌≡◌, IfSome};
 ghost use Rattle.gate_graph.specs.Circuit.{net_of};
 ghost use Rattle.gate_net.specs.Values.{HasPin};
-ghost use Rattle.journal_check.specs.Replaying.{AddSays, FixSays, IsAddedPin, TreeSays, noncontrolling, why_of};
+ghost use Rattle.journal_check.specs.Inner.Replaying.{AddSays, FixSays, IsAddedPin, TreeSays, noncontrolling, why_of};
 
 use crate::refusal::Why;
 use gate_graph::{Graph, Question, pin_count};

@@ -1,7 +1,7 @@
 // The net is frozen once, and then its faults are settled.
 ghost use Rattle.std.specs.Prelude.{◌≡◌};
 ghost use Rattle.gate_graph.specs.Circuit.{net_of};
-ghost use Rattle.journal_check.specs.Benches.{EndSays, Freezes, IsBench, IsFrozen, IsIdle, IsVerdict, RecordSays, position_of};
+ghost use Rattle.journal_check.specs.Inner.Benches.{EndSays, Freezes, IsBench, IsFrozen, IsIdle, IsVerdict, RecordSays, position_of};
 ghost use Rattle.journal_check.specs.declared.bench.Bench.TheVariants.{Frozen};
 ghost use Rattle.journal_check.specs.Replaying.{editing, gate_of};
 

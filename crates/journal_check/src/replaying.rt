@@ -8,7 +8,7 @@ ghost use Rattle.rm_model.specs.WellFormed.{IsWellFormed};
 ghost use Rattle.cover_decompose.specs.Count.{decomposed};
 ghost use Rattle.cover_decompose.specs.Decomposition.{net_of_model};
 ghost use Rattle.cover_decompose.specs.Refusals.{IsRefused};
-ghost use Rattle.journal_check.specs.Benches.{IsBench, IsIdle, RecordSays, position_of};
+ghost use Rattle.journal_check.specs.Inner.Benches.{IsBench, IsIdle, RecordSays, position_of};
 ghost use Rattle.journal_check.specs.Replaying.{IsLocalTree, editing};
 ghost use Rattle.journal_check.specs.Standing.{Finishes, KeepsOthers, Steps};
 
@@ -37,7 +37,8 @@ pub struct Replay {
 }
 
 impl Model for Replay {
-    ghost use Rattle.journal_check.specs.Standing.{IsThere, Standing, position_in};
+    ghost use Rattle.journal_check.specs.Standing.{Standing};
+    ghost use Rattle.journal_check.specs.Inner.Standing.{IsThere, position_in};
 
     ghost Value = { Standing };
 

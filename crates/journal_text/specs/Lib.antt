@@ -5,10 +5,10 @@ pub mod Text
 pub mod Reading
 pub mod Appends
 pub mod Faults
-pub mod Held
 pub mod Streams
 pub mod Cutting
 pub mod Accepted
 pub mod Laws
 pub mod Runs
 pub mod Joining
+pub mod Inner

@@ -1,6 +1,6 @@
 //! Audits of files in memory, against what is worked out by hand.
 use crate::worked::{
-    FOUR_GATES, FOUR_GATES_JOURNAL, ONE_GATE, ONE_GATE_JOURNAL, ZERO_ROW, replace_part, read,
+    FOUR_GATES, FOUR_GATES_JOURNAL, ONE_GATE, ONE_GATE_JOURNAL, ZERO_ROW, read, replace_part,
 };
 use journal_audit::{AuditProblem, audit, fault_line, netlist_line, refusal_line};
 use journal_check::{JournalRefusal, Why};

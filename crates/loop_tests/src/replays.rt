@@ -1,11 +1,12 @@
 //! Journals against what is worked out by hand.
 ghost use Rattle.std.specs.Prelude.{◌≡◌, true};
-ghost use Rattle.journal_check.specs.Replaying.{IsLocalTree, IsStepTree};
+ghost use Rattle.journal_check.specs.Replaying.{IsLocalTree};
+ghost use Rattle.journal_check.specs.Inner.Replaying.{IsStepTree};
 
 mod texts;
 
 use self::texts::{ACCEPTED, CHANGES, FIRST_RECORDS, SHORT_JOURNALS};
-use crate::worked::{FOUR_GATES, FOUR_GATES_JOURNAL, replace_part, read};
+use crate::worked::{FOUR_GATES, FOUR_GATES_JOURNAL, read, replace_part};
 use journal_check::{JournalRefusal, Replay, replay};
 use journal_text::{Record, read_journal};
 use refutation::Tree;

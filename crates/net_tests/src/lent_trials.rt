@@ -1,5 +1,5 @@
 //! Many trials on one workspace, each compared with a fresh one.
-use crate::trial_scripts::{begun_tidy, play, list_all};
+use crate::trial_scripts::{begun_tidy, list_all, play};
 use rm_base::{NoMemory, NodeId};
 use std::alloc::Global;
 use std::test::Fail;

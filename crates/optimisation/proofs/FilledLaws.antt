@@ -11,8 +11,8 @@ use Rattle.journal_text.specs.Text.{entry_text}
 use Rattle.journal_text.specs.declared.record.Record.{Record}
 use Rattle.journal_text.specs.declared.record.Entry.TheVariants.{End}
 use Rattle.closing_pass.specs.Recording.{verdict_records}
-use Rattle.optimisation.specs.Ended.{HasEnded}
-use Rattle.optimisation.specs.Filled.{IsFilled, IsLeftWhole}
+use Rattle.optimisation.specs.Inner.Ended.{HasEnded}
+use Rattle.optimisation.specs.Inner.Filled.{IsFilled, IsLeftWhole}
 use Rattle.optimisation.specs.declared.rounds.Rounds.{Rounds}
 use Rattle.optimisation.proofs.VerdictLaws.{settled_of}
 use Rattle.journal_text.proofs.Public.{records_then}

@@ -19,7 +19,7 @@ use Rattle.rar_loop.specs.Ended.{AreFew, IsOptimised}
 use Rattle.rar_loop.specs.Sizes.{IsWithin}
 use Rattle.rar_loop.specs.Rounds.{IsRun, RunBegins, RunGoesOn, is_settled, tries_of}
 use Rattle.wire_edit.specs.Order.{IsTidy}
-use Rattle.optimisation.specs.Ran.{AreBounded, HasGoneOn, HasRecorded, HasRun, IsBounded, most_steps, sum_of}
+use Rattle.optimisation.specs.Inner.Ran.{AreBounded, HasGoneOn, HasRecorded, HasRun, IsBounded, most_steps, sum_of}
 use Rattle.optimisation.specs.declared.rounds.Round.{Round}
 
 same_made : (a b f g l k : ℕ) → a ≡ b → f ≡ g → l ≡ k → ◌≡◌ {A = Made} (record { adds = a; fixes = f; local = l }) (record { adds = b; fixes = g; local = k })

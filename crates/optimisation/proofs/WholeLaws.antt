@@ -16,8 +16,9 @@ use Rattle.journal_text.specs.declared.record.Record.{Record}
 use Rattle.journal_text.specs.declared.record.Entry.TheVariants.{Header, End}
 use Rattle.closing_pass.specs.Recording.{verdict_records}
 use Rattle.rar_loop.specs.Rounds.{IsRun}
-use Rattle.optimisation.specs.Begun.{BeginsHeader, BeginsSteps, HasBegun}
-use Rattle.optimisation.specs.Filled.{IsFilled, IsLeft, IsLeftWhole}
+use Rattle.optimisation.specs.Begun.{BeginsSteps, HasBegun}
+use Rattle.optimisation.specs.Inner.Begun.{BeginsHeader}
+use Rattle.optimisation.specs.Inner.Filled.{IsFilled, IsLeft, IsLeftWhole}
 use Rattle.optimisation.specs.Whole.{AreFigures, IsWhole}
 use Rattle.optimisation.specs.Tests.{hits_among, spents_among}
 use Rattle.optimisation.specs.declared.optimised.Figures.{Figures}

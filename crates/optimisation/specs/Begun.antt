@@ -33,7 +33,3 @@ IsBeginning m budget bytes = BeginsSteps m budget bytes ⊎ BeginsWhole m budget
 -- nothing has changed, or the journal holds a beginning of the header and of accepted records, and all else is as it was
 abbrev pub HasBegun : Model → ℕ → List ℕ → Option Files → Option Files → Type 0
 HasBegun m budget journal old new = (new ≡ old) ⊎ ((bytes : List ℕ) × (IsBeginning m budget bytes × (new ≡ option_map (put_file journal bytes) old)))
-
--- nothing has changed, or the journal holds a beginning of the header
-abbrev pub BeginsHeader : ℕ → List ℕ → Option Files → Option Files → Type 0
-BeginsHeader budget journal old new = (new ≡ old) ⊎ ((k : ℕ) × (new ≡ option_map (put_file journal (take k (entry_text (Header budget)))) old))

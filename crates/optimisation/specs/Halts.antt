@@ -19,9 +19,3 @@ halt_of_stop stop.NoMemory = NoMemory
 abbrev pub halt_of_fault : OutsideFault → Halt
 halt_of_fault outside.Failed = Failed
 halt_of_fault outside.NoMemory = NoMemory
-
--- no limit
-abbrev pub IsHalt : Halt → Type 0
-IsHalt (Limit pins) = ⊥
-IsHalt Failed = Unit {0}
-IsHalt NoMemory = Unit {0}

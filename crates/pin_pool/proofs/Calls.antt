@@ -6,9 +6,10 @@ use Rattle.std.specs.Ordering.{nat_cmp}
 use Rattle.std.proofs.lemmas.Bool.{false_from_ne_true, false≢true}
 use Rattle.std.proofs.lemmas.Bool.Decides.{nat_tests}
 use Rattle.std.proofs.lemmas.List.{length-map}
-use Rattle.pin_pool.specs.Ring.{has, IsApart, without, without_pin}
+use Rattle.pin_pool.specs.Ring.{has, IsApart, without}
+use Rattle.pin_pool.specs.Inner.Ring.{without_pin}
 use Rattle.pin_pool.specs.Pins.{Pins, admitted, before_in, list_of, put_after, StandsIn}
-use Rattle.pin_pool.specs.Places.{ArePaired, AreApart, GrowsTo, HasDriver, HasPlace, IsFree, IsHeld, IsKept, IsPlace, moved_after, moved_last, put_at, with_list}
+use Rattle.pin_pool.specs.Inner.Places.{ArePaired, AreApart, GrowsTo, HasDriver, HasPlace, IsFree, IsHeld, IsKept, IsPlace, moved_after, moved_last, put_at, with_list}
 use Rattle.pin_pool.specs.Rings.{Rings, rings_of, changed, all_without, joined, unlinked, relinked, redriven, restored, moved, moved_back, CanMoveBack, CanRelink, CanRestore, IsIn, IsLinked, IsLoose, AreRings, IsValid, Stood}
 use Rattle.pin_pool.specs.declared.names.PinNo.{PinNo}
 use Rattle.pin_pool.specs.declared.names.Slot.{Slot}

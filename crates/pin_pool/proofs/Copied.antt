@@ -5,10 +5,10 @@ use Rattle.std.proofs.lemmas.Bool.{eq-eqb, ne_eqb, or_left, or_right, or_cases}
 use Rattle.std.proofs.lemmas.Bool.Decides.{nat_tests}
 use Rattle.std.proofs.lemmas.List.{get_or_default, length-map}
 use Rattle.pin_pool.specs.Ring.{has, IsApart}
-use Rattle.pin_pool.specs.Links.{lists_of, link_of, list_at, ends_at, no_ends, walk_on, AreAtMost, AreLists}
-use Rattle.pin_pool.specs.Marks.{is_listed, is_marked, unmarked_from}
-use Rattle.pin_pool.specs.Places.{IsListed}
-use Rattle.pin_pool.specs.Records.{IsPool, NoneFree, all_below}
+use Rattle.pin_pool.specs.Inner.Links.{lists_of, link_of, list_at, ends_at, no_ends, walk_on, AreAtMost, AreLists}
+use Rattle.pin_pool.specs.Inner.Marks.{is_listed, is_marked, unmarked_from}
+use Rattle.pin_pool.specs.Inner.Places.{IsListed}
+use Rattle.pin_pool.specs.Inner.Records.{IsPool, NoneFree, all_below}
 use Rattle.pin_pool.specs.declared.links.Pin.{Pin}
 use Rattle.pin_pool.specs.declared.links.Ends.{Ends}
 use Rattle.pin_pool.specs.declared.links.Side.TheVariants.{Gate, Driver}

@@ -7,8 +7,8 @@ use Rattle.std.proofs.lemmas.List.{get_or_past, drop-drop, length-map}
 use Rattle.std.proofs.Math.Seq.{drop-nil}
 use Rattle.pin_pool.specs.Ring.{has, IsApart, without}
 use Rattle.pin_pool.specs.Pins.{Pins, list_of}
-use Rattle.pin_pool.specs.Links.{lists_of, list_at, links_of, link_of, walk_on, AreAtMost, AreLists}
-use Rattle.pin_pool.specs.Pointed.{IsPointed}
+use Rattle.pin_pool.specs.Inner.Links.{lists_of, list_at, links_of, link_of, walk_on, AreAtMost, AreLists}
+use Rattle.pin_pool.specs.Inner.Pointed.{IsPointed}
 use Rattle.pin_pool.specs.declared.finger.Finger.{Finger}
 use Rattle.pin_pool.specs.declared.links.Pin.{Pin}
 use Rattle.pin_pool.specs.declared.links.Ends.{Ends}

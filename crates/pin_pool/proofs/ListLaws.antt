@@ -3,7 +3,8 @@ use Rattle.std.proofs.Common.{◌≡◌, ◌≢◌, ℕ, true, false, ◌||◌, 
 use Rattle.std.specs.Prelude.{if◌then◌else◌}
 use Rattle.std.proofs.lemmas.Bool.{cases_eq, ne_eqb, eq-eqb}
 use Rattle.std.proofs.lemmas.Bool.Decides.{nat_tests}
-use Rattle.pin_pool.specs.Ring.{has, IsApart, put, without, previous_from}
+use Rattle.pin_pool.specs.Ring.{has, IsApart, without}
+use Rattle.pin_pool.specs.Inner.Ring.{previous_from, put}
 use Rattle.pin_pool.specs.Pins.{before_from, before_in, put_after, put_behind, StandsIn}
 use Rattle.pin_pool.specs.declared.names.PinNo.{PinNo}
 use Rattle.pin_pool.proofs.RingLemmas.{apart-cond, has-without, put-head}

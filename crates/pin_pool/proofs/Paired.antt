@@ -5,7 +5,7 @@ use Rattle.std.proofs.lemmas.Bool.Decides.{eqb_tells, nat_tests}
 use Rattle.std.proofs.lemmas.List.{take-append-drop}
 use Rattle.pin_pool.specs.Ring.{has, without}
 use Rattle.pin_pool.specs.Pins.{put_after}
-use Rattle.pin_pool.specs.Places.{ArePaired}
+use Rattle.pin_pool.specs.Inner.Places.{ArePaired}
 use Rattle.pin_pool.specs.Rings.{Rings, changed, all_without, joined, unlinked, relinked, redriven, restored, moved, moved_back, IsIn, AreOnce, AreRings}
 use Rattle.pin_pool.specs.declared.names.Slot.{Slot}
 use Rattle.pin_pool.specs.declared.names.Splice.{Splice}

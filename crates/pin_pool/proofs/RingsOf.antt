@@ -8,9 +8,10 @@ use Rattle.std.specs.FinSet.{contains-insert, contains-remove}
 use Rattle.std.proofs.lemmas.Bool.{cases_eq, cases_lt, ne_eqb, eq-eqb}
 use Rattle.std.proofs.lemmas.Bool.Decides.{nat_tests}
 use Rattle.std.proofs.lemmas.List.{get_or_past}
-use Rattle.pin_pool.specs.Ring.{has, without, without_pin}
+use Rattle.pin_pool.specs.Ring.{has, without}
+use Rattle.pin_pool.specs.Inner.Ring.{without_pin}
 use Rattle.pin_pool.specs.Pins.{Pins, list_of}
-use Rattle.pin_pool.specs.Places.{ArePaired, AreApart, GrowsTo, IsKept, IsListed}
+use Rattle.pin_pool.specs.Inner.Places.{ArePaired, AreApart, GrowsTo, IsKept, IsListed}
 use Rattle.pin_pool.specs.Rings.{Rings, rings_of, no_rings, changed, all_without, IsIn, AreOnce, IsValid}
 
 pub changed-same : {A : Type 0} (f : ℕ → A) (n : ℕ) (x : A) → changed f n x n ≡ x

@@ -11,7 +11,8 @@ use Rattle.pin_pool.specs.Ring.{has, without, IsApart}
 use Rattle.pin_pool.specs.Pins.{Pins, list_of, put_after, put_behind}
 use Rattle.pin_pool.specs.declared.names.PinNo.{PinNo}
 use Rattle.pin_pool.specs.Rings.{rings_of, AreRings, IsIn, IsValid, changed, all_without}
-use Rattle.pin_pool.specs.Totals.{pins_from, linked_pins, count_at, IsCounted, listed_pins}
+use Rattle.pin_pool.specs.Totals.{pins_from, linked_pins}
+use Rattle.pin_pool.specs.Inner.Totals.{count_at, IsCounted, listed_pins}
 use Rattle.pin_pool.proofs.PoolLemmas.{has-append}
 use Rattle.pin_pool.proofs.RingLemmas.{without-absent}
 use Rattle.pin_pool.proofs.RingsOf.{changed-other, changed-same, has-within}

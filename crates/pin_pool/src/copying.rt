@@ -2,9 +2,9 @@
 ghost use Rattle.std.specs.Prelude.{◌≡◌, ◌+◌, ◌≤◌, ◌||◌, ℕ, true, false, IfOk, length, replicate, vec_capacity};
 ghost use Rattle.std.specs.FinSet as set;
 ghost use Rattle.pin_pool.specs.Ring.{has};
-ghost use Rattle.pin_pool.specs.Links.{AllWithin, AreLists, lists_of};
-ghost use Rattle.pin_pool.specs.Marks.{is_listed, is_marked, unmarked_from};
-ghost use Rattle.pin_pool.specs.Places.{IsListed};
+ghost use Rattle.pin_pool.specs.Inner.Links.{AllWithin, AreLists, lists_of};
+ghost use Rattle.pin_pool.specs.Inner.Marks.{is_listed, is_marked, unmarked_from};
+ghost use Rattle.pin_pool.specs.Inner.Places.{IsListed};
 ghost use Rattle.pin_pool.specs.declared.links.Side.TheVariants.{Gate};
 ghost use Rattle.rm_base.specs.Numbers.{number_bound};
 

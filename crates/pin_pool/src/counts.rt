@@ -1,6 +1,6 @@
 //! How many inputs each node has, and how many all have.
 ghost use Rattle.std.specs.Prelude.{◌≡◌, ◌<◌, ◌≤◌, ◌+◌, ◌-◌, ℕ, length, set, OnOk};
-ghost use Rattle.pin_pool.specs.Totals.{count_at};
+ghost use Rattle.pin_pool.specs.Inner.Totals.{count_at};
 ghost use Rattle.rm_base.specs.Numbers.{number_bound};
 
 use rm_base::NoMemory;

@@ -39,10 +39,10 @@ impl Model for Pool {
 
     ghost coded = { pins_code };
 
-    ghost use Rattle.pin_pool.specs.Places.{ArePaired};
-    ghost use Rattle.pin_pool.specs.Pointed.{IsPointed};
+    ghost use Rattle.pin_pool.specs.Inner.Places.{ArePaired};
+    ghost use Rattle.pin_pool.specs.Inner.Pointed.{IsPointed};
     ghost use Rattle.pin_pool.specs.Rings.{rings_of};
-    ghost use Rattle.pin_pool.specs.Totals.{IsCounted};
+    ghost use Rattle.pin_pool.specs.Inner.Totals.{IsCounted};
 
     ghost view = { λ p. p.store };
 

@@ -1,10 +1,11 @@
 //! The records of all pins, with the free ones among them.
 ghost use Rattle.std.specs.Prelude.{IfSome, Some, slice_get, take, drop, ◌∷◌, ◌++◌, [], true, false, ◌≡◌, ◌≢◌, ◌<◌, ◌≤◌, ◌+◌, ◌-◌, ◌↔◌, ℕ, length, IfOk, IsErr, OnErr, OnOk};
 ghost use Rattle.std.specs.FinSet as set;
-ghost use Rattle.pin_pool.specs.Ring.{has, without_pin};
+ghost use Rattle.pin_pool.specs.Ring.{has};
+ghost use Rattle.pin_pool.specs.Inner.Ring.{without_pin};
 ghost use Rattle.pin_pool.specs.Pins.{list_of};
-ghost use Rattle.pin_pool.specs.Pointed.{IsThere};
-ghost use Rattle.pin_pool.specs.Places.{GrowsTo, HasDriver, HasPlace, IsFree, IsHeld, IsKept, IsPlace, code as code_of, moved_after, moved_last, named as name_of, put_at, with_list};
+ghost use Rattle.pin_pool.specs.Inner.Pointed.{IsThere};
+ghost use Rattle.pin_pool.specs.Inner.Places.{GrowsTo, HasDriver, HasPlace, IsFree, IsHeld, IsKept, IsPlace, code as code_of, moved_after, moved_last, named as name_of, put_at, with_list};
 ghost use Rattle.rm_base.specs.Numbers.{number_bound};
 
 use crate::finger::Finger;
@@ -34,7 +35,7 @@ impl Model for Store {
     ghost coded = { pins_code };
 
     ghost use Rattle.std.specs.Prelude.{vec_capacity};
-    ghost use Rattle.pin_pool.specs.Records.{IsPool, pins_of};
+    ghost use Rattle.pin_pool.specs.Inner.Records.{IsPool, pins_of};
 
     ghost view = { λ p. pins_of p.pins.items p.free.items p.gates.items p.drivers.items };
 

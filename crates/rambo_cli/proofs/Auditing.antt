@@ -8,10 +8,12 @@ use Rattle.cover_decompose.specs.Count.{decomposed}
 use Rattle.journal_audit.specs.Audited.{IsPassed, IsProblem}
 use Rattle.journal_audit.specs.declared.problem.AuditProblem.{AuditProblem}
 use Rattle.journal_audit.specs.declared.problem.AuditProblem.TheVariants as audit
-use Rattle.rambo_cli.specs.Composition.{PassedAuditsTell}
+use Rattle.rambo_cli.specs.Inner.Composition.{PassedAuditsTell}
 use Rattle.rambo_cli.specs.Outcome.{Audited, HasPassed, Holds}
-use Rattle.rambo_cli.specs.Problems.{CheckCause, ModelCause, ReadCause, audit_problem}
-use Rattle.rambo_cli.specs.Written.{Exceeds, IsSaid, IsUsable}
+use Rattle.rambo_cli.specs.Problems.{CheckCause, ReadCause, audit_problem}
+use Rattle.rambo_cli.specs.Inner.Problems.{ModelCause}
+use Rattle.rambo_cli.specs.Written.{Exceeds, IsSaid}
+use Rattle.rambo_cli.specs.Inner.Written.{IsUsable}
 use Rattle.rambo_cli.specs.declared.problem.Problem.{Problem}
 use Rattle.rambo_cli.specs.declared.problem.Problem.TheVariants.{Fault, Journal, Limit, Memory, Missing, Netlist, Record, Text, Words}
 use Rattle.rm_base.specs.Words.{Word}

@@ -17,9 +17,11 @@ use Rattle.journal_audit.specs.Audited.{ProblemsExclude, IsProblem, IsOfFiles}
 use Rattle.journal_audit.specs.declared.problem.AuditProblem.{AuditProblem}
 use Rattle.journal_audit.specs.declared.problem.AuditProblem.TheVariants as audit
 use Rattle.word_reading.specs.Words.{Asked, opt, check, demo}
-use Rattle.rambo_cli.specs.Complete.{AreThere, CanBeOptimised, GoodRunsAreDone, IsGood, IsJudgeable, JudgedRunsAreTold}
+use Rattle.rambo_cli.specs.Complete.{AreThere, CanBeOptimised, IsGood, IsJudgeable}
+use Rattle.rambo_cli.specs.Inner.Complete.{GoodRunsAreDone, JudgedRunsAreTold}
 use Rattle.rambo_cli.specs.Outcome.{Audited, Holds, HasPassed}
-use Rattle.rambo_cli.specs.Problems.{CheckCause, IsCause, IsReported, HasEnded, ReadCause, audit_problem, status_of}
+use Rattle.rambo_cli.specs.Problems.{CheckCause, IsCause, ReadCause, audit_problem}
+use Rattle.rambo_cli.specs.Inner.Problems.{IsReported, HasEnded, status_of}
 use Rattle.rambo_cli.specs.Written.{Exceeds, HasFault, IsSaid}
 use Rattle.rambo_cli.specs.declared.problem.Problem.{Problem}
 use Rattle.rambo_cli.specs.declared.problem.Problem.TheVariants.{Words, Text, Limit, Missing, Fault, Journal, Record, Netlist, Memory}

@@ -8,7 +8,7 @@ use Rattle.rm_base.proofs.Public.{append_file-put_file}
 use Rattle.rm_base.specs.Shelves.{IsAppended, IsCreated}
 use Rattle.rm_base.specs.declared.outside.OutsideFault.{OutsideFault}
 use Rattle.rm_base.specs.declared.outside.OutsideFault.TheVariants.{Failed, NoMemory}
-use Rattle.rambo_cli.specs.Files.{BeginsFile}
+use Rattle.rambo_cli.specs.Inner.Files.{BeginsFile}
 
 appended : (name bytes : List ℕ) (old : Option Files) → option_map (append_file name bytes) (option_map (put_file name []) old) ≡ option_map (put_file name bytes) old
 appended name bytes None = refl

@@ -16,7 +16,8 @@ use Rattle.word_reading.specs.Words.{Asked, opt, check, demo}
 use Rattle.rambo_cli.specs.declared.work.Done.{Done}
 use Rattle.rambo_cli.specs.declared.problem.Problem.{Problem}
 use Rattle.rambo_cli.specs.declared.problem.Problem.TheVariants.{Words, Text, Limit, Missing, Fault, Journal, Record, Netlist, Memory}
-use Rattle.rambo_cli.specs.Problems.{HasDone, HasEnded, IsCause, IsReported, KeepsFiles, MayPut, PutsUnlessFailed, audit_problem, done_text, status_of, line_of}
+use Rattle.rambo_cli.specs.Problems.{HasDone, IsCause, KeepsFiles, MayPut, PutsUnlessFailed, audit_problem, done_text, line_of}
+use Rattle.rambo_cli.specs.Inner.Problems.{HasEnded, IsReported, status_of}
 use Rattle.rambo_cli.specs.Written.{HasFault, Exceeds}
 use Rattle.rambo_cli.specs.Outcome.{Audited, EndsFaulty, EndsOver, EndsRejected, EndsUnread, Finds, IsMissing, OfInput, Puts}
 

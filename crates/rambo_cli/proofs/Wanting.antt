@@ -3,7 +3,7 @@ use Rattle.std.proofs.Common.{◌≡◌, ℕ, arith, refl}
 use Rattle.rm_base.specs.Causes.{Rose}
 use Rattle.optimisation.specs.declared.halt.Halt.{Halt}
 use Rattle.optimisation.specs.declared.halt.Halt.TheVariants as halt
-use Rattle.rambo_cli.specs.Problems.{IsWant, halt_problem}
+use Rattle.rambo_cli.specs.Inner.Problems.{IsWant, halt_problem}
 
 pub halt_wants : (h : Halt) → ((pins : ℕ) → h ≡ halt.Limit pins → ⊥) → (h ≡ halt.Failed → Rose 0 0) → IsWant (halt_problem h)
 halt_wants (halt.Limit pins) over failed = absurd (over pins refl)

@@ -17,10 +17,10 @@ use Rattle.optimisation.specs.Begun.{BeginsWhole}
 use Rattle.optimisation.specs.Whole.{IsWhole}
 use Rattle.optimisation.specs.declared.optimised.Figures.{Figures}
 use Rattle.rambo_cli.specs.Composition.{IsDecomposed, RunsAreWritten}
-use Rattle.rambo_cli.specs.Files.{BeginsFile}
+use Rattle.rambo_cli.specs.Inner.Files.{BeginsFile}
 use Rattle.rambo_cli.specs.Headline.{IsOptimisedInto}
 use Rattle.rambo_cli.specs.Outcome.{BeginsToWriteFor, HasWritten, IfTold}
-use Rattle.rambo_cli.specs.Written.{IsUsable}
+use Rattle.rambo_cli.specs.Inner.Written.{IsUsable}
 use Rattle.rm_base.specs.Words.{Word}
 
 told : (P : Files → Files → Type 0) (f : Files → Files) (old new : Option Files) → new ≡ option_map f old → ((files : Files) → P files (f files)) → IfTold old new P

@@ -1,10 +1,7 @@
 -- How the layers compose: from a run over a model to the text that is written for it.
-use Rattle.std.specs.Prelude.{◌≡◌, ◌≤◌, ◌++◌, ℕ, List, None}
-use Rattle.rm_base.specs.Files.{Files}
-use Rattle.rm_model.specs.Ranks.{first_without_rank}
-use Rattle.journal_audit.specs.Audited.{IsPassed}
+use Rattle.std.specs.Prelude.{◌≡◌, ◌≤◌, ◌++◌, List}
 use Rattle.rm_base.specs.declared.settings.Settings.{Settings}
-use Rattle.rm_model.specs.Value.{Equivalent, IsRanked}
+use Rattle.rm_model.specs.Value.{IsRanked}
 use Rattle.rm_model.specs.WellFormed.{IsWellFormed as IsModel}
 use Rattle.rm_model.specs.declared.parts.Model.{Model}
 use Rattle.gate_net.specs.Net.{Net, IsWellFormed, wire_count}
@@ -23,7 +20,6 @@ use Rattle.optimisation.specs.Whole.{IsRunOver}
 use Rattle.optimisation.specs.declared.optimised.Figures.{Figures}
 use Rattle.rambo_cli.specs.Headline.{IsOptimisedInto}
 use Rattle.rambo_cli.specs.Written.{most_pins}
-use Rattle.rm_base.specs.Words.{Word}
 
 -- what holds of the decomposition of a model
 pub record IsDecomposed (m : Model) : Type 0 where
@@ -42,9 +38,3 @@ RunsAreWritten =
     (m : Model) (settings : Settings) (net : Net) (steps verdicts : List Record) (figures : Figures) → IsModel m → IsRanked m → IsDecomposed m → AreFew net m → IsWithinLimits m
     → decomposed m ≤ most_pins → IsRunOver m settings net steps verdicts figures
     → IsOptimisedInto m settings figures (journal_text settings.budget (steps ++ verdicts)) (text_of (model_of_net m net))
-
--- an output that passes the audit is the text of a model with the original's outputs and latch pins
-abbrev pub PassedAuditsTell : Type 0
-PassedAuditsTell =
-    (m : Model) (files : Files) (journal output : Word) (count : ℕ) → IsModel m → IsRanked m → first_without_rank m ≡ None → (passed : IsPassed m files journal output count)
-    → Equivalent m (model_of_net m passed.last)

@@ -4,6 +4,6 @@ pub mod Written
 pub mod Headline
 pub mod Outcome
 pub mod Problems
-pub mod Files
 pub mod Composition
 pub mod Complete
+pub mod Inner

@@ -1,9 +1,6 @@
 -- What a text is read as, and what keeps it from being optimised.
-use Rattle.std.specs.Prelude.{◌≡◌, ◌⊎◌, ℕ, ◌+◌, ◌^◌, ◌<◌, ◌≤◌, List, length, None, Some}
+use Rattle.std.specs.Prelude.{◌≡◌, ◌⊎◌, ℕ, ◌+◌, ◌<◌, ◌≤◌, List, length, None, Some}
 use Rattle.rm_base.specs.declared.numbers.Place.{Place}
-use Rattle.rm_model.specs.Ranks.{first_without_rank}
-use Rattle.rm_model.specs.Value.{IsRanked, observed_names, source_names}
-use Rattle.rm_model.specs.WellFormed.{IsWellFormed}
 use Rattle.rm_model.specs.declared.parts.Model.{Model}
 use Rattle.blif_lines.specs.Layout.{lines_of}
 use Rattle.blif_format.specs.Grammar.{Reads}
@@ -12,7 +9,6 @@ use Rattle.blif_format.specs.declared.refusal.FaultKind.{FaultKind}
 use Rattle.blif_format.specs.declared.refusal.Quantity.{Quantity}
 use Rattle.blif_format.specs.declared.refusal.Quantity.TheVariants.{Text, Pins}
 use Rattle.blif_format.specs.declared.refusal.ReadRefusal.TheVariants.{Fault, Limit}
-use Rattle.blif_reader.specs.Limits.{IsWithinLimits}
 use Rattle.cover_decompose.specs.Count.{decomposed}
 pub use Rattle.cover_decompose.specs.Limits.{most_pins}
 
@@ -25,17 +21,6 @@ pub record IsSaid (text : List ℕ) (model : Model) : Type 0 where
   pub short : length text ≤ most_bytes
   pub faultless : first_fault text ≡ None
   pub reads : Reads (lines_of text) model
-
--- what a model that was read has, so that it can be decomposed
-pub record IsUsable (m : Model) : Type 0 where
-  pub formed : IsWellFormed m
-  pub ranked : IsRanked m
-  pub ranks : first_without_rank m ≡ None
-  pub covers : length m.covers < 2 ^ 32
-  pub sources : length (source_names m) ≤ 1024
-  pub observed : length (observed_names m) ≤ 4096
-  pub limits : IsWithinLimits m
-  pub fits : decomposed m < 2 ^ 64
 
 -- the first fault of the text
 pub record HasFault (text : List ℕ) (kind : FaultKind) (place : Place) : Type 0 where

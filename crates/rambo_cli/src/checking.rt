@@ -2,8 +2,9 @@
 ghost use Rattle.std.specs.Prelude.{◌≡◌, ◌≤◌, IfErr, IfOk, IfSome, OnOk};
 ghost use Rattle.cover_decompose.specs.Count.{decomposed};
 ghost use Rattle.rambo_cli.specs.Outcome.{HasPassed};
-ghost use Rattle.rambo_cli.specs.Problems.{CheckCause, ModelCause};
-ghost use Rattle.rambo_cli.specs.Written.{IsUsable};
+ghost use Rattle.rambo_cli.specs.Problems.{CheckCause};
+ghost use Rattle.rambo_cli.specs.Inner.Problems.{ModelCause};
+ghost use Rattle.rambo_cli.specs.Inner.Written.{IsUsable};
 ghost use Rattle.cover_decompose.specs.Limits.{most_pins};
 
 use crate::laws::passed_audits_tell;

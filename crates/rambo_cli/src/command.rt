@@ -5,7 +5,8 @@ ghost use Rattle.rm_base.specs.Causes.{Rose};
 ghost use Rattle.word_reading.specs.Words.{asked};
 ghost use Rattle.rambo_cli.specs.Complete.{IsGood, IsJudgeable};
 ghost use Rattle.rambo_cli.specs.Outcome.{EndsDone, EndsUnread, EndsRefused, EndsFaulty, EndsWithoutMemory, EndsOver, EndsRejected, EndsSafely, NeedNoFile};
-ghost use Rattle.rambo_cli.specs.Problems.{IsReported, IsPutWith, HasEnded, PutsUnlessFailed, done_text};
+ghost use Rattle.rambo_cli.specs.Problems.{PutsUnlessFailed, done_text};
+ghost use Rattle.rambo_cli.specs.Inner.Problems.{IsReported, IsPutWith, HasEnded};
 
 use crate::laws::{good_runs_are_done, judged_runs_are_told};
 use crate::lines::{done_line, line};

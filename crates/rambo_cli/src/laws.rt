@@ -1,6 +1,7 @@
 //! How the layers compose.
-ghost use Rattle.rambo_cli.specs.Complete.{GoodRunsAreDone, JudgedRunsAreTold};
-ghost use Rattle.rambo_cli.specs.Composition.{KeptNetsFit, PassedAuditsTell, RunsAreWritten};
+ghost use Rattle.rambo_cli.specs.Inner.Complete.{GoodRunsAreDone, JudgedRunsAreTold};
+ghost use Rattle.rambo_cli.specs.Composition.{KeptNetsFit, RunsAreWritten};
+ghost use Rattle.rambo_cli.specs.Inner.Composition.{PassedAuditsTell};
 
 use blif_format::reads_once;
 use blif_reader::texts_keep_limits;

@@ -3,11 +3,12 @@ ghost use Rattle.std.specs.Prelude.{◌≡◌, ◌≤◌, IfOk, IfErr, OnOk};
 ghost use Rattle.std.specs.Option.{option_map};
 ghost use Rattle.rm_base.specs.Causes.{HasCause};
 ghost use Rattle.rm_base.specs.Files.{put_file};
-ghost use Rattle.rambo_cli.specs.Files.{BeginsFile};
+ghost use Rattle.rambo_cli.specs.Inner.Files.{BeginsFile};
 ghost use Rattle.rambo_cli.specs.Outcome.{BeginsToWrite, BeginsToWriteFor, HasOptimised, HasWritten, IfTold};
-ghost use Rattle.rambo_cli.specs.Problems.{KeepsFiles, ModelCause, ReadCause};
+ghost use Rattle.rambo_cli.specs.Problems.{KeepsFiles, ReadCause};
+ghost use Rattle.rambo_cli.specs.Inner.Problems.{ModelCause};
 ghost use Rattle.optimisation.specs.Ranges.{AreSettings};
-ghost use Rattle.rambo_cli.specs.Written.{IsUsable};
+ghost use Rattle.rambo_cli.specs.Inner.Written.{IsUsable};
 
 use crate::laws::{kept_nets_fit, runs_are_written};
 use crate::problem::Problem;

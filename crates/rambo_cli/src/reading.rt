@@ -3,8 +3,10 @@ ghost use Rattle.std.specs.Prelude.{◌≡◌, ◌≤◌, length, IfOk, IfSome, 
 ghost use Rattle.rm_base.specs.Causes.{Rose};
 ghost use Rattle.rm_base.specs.Files.{file_of};
 ghost use Rattle.rambo_cli.specs.Outcome.{Holds};
-ghost use Rattle.rambo_cli.specs.Problems.{IsOutside, ReadCause, TextCause};
-ghost use Rattle.rambo_cli.specs.Written.{IsSaid, IsUsable};
+ghost use Rattle.rambo_cli.specs.Problems.{ReadCause};
+ghost use Rattle.rambo_cli.specs.Inner.Problems.{IsOutside, TextCause};
+ghost use Rattle.rambo_cli.specs.Written.{IsSaid};
+ghost use Rattle.rambo_cli.specs.Inner.Written.{IsUsable};
 
 use crate::problem::Problem;
 use blif_format::Quantity;

@@ -1,7 +1,7 @@
 //! The command `demo`.
 ghost use Rattle.std.specs.Prelude.{IfOk, IfErr};
 ghost use Rattle.rambo_cli.specs.Outcome.{HasShown};
-ghost use Rattle.rambo_cli.specs.Problems.{IsWant};
+ghost use Rattle.rambo_cli.specs.Inner.Problems.{IsWant};
 ghost use Rattle.optimisation.specs.Ranges.{AreSettings};
 
 use crate::problem::Problem;

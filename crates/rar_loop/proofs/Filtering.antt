@@ -24,13 +24,13 @@ use Rattle.wire_edit.specs.Tests.{control_of}
 use Rattle.candidate_wires.specs.declared.candidate.Candidate.{Candidate}
 use Rattle.candidate_wires.specs.Gains.{net_for, wire_for, with_candidate}
 use Rattle.rar_loop.specs.declared.vectors.Vectors.{Vectors}
-use Rattle.rar_loop.specs.Kept.{AreAsked, AreFor, HasKept, IsTurned, lanes_with, wanted}
+use Rattle.rar_loop.specs.Inner.Kept.{AreAsked, AreFor, HasKept, IsTurned, lanes_with, wanted}
 use Rattle.rar_loop.specs.Rows.{stuck}
-use Rattle.rar_loop.specs.Trying.{IsNewPinOpen, MayAdd}
+use Rattle.rar_loop.specs.Inner.Trying.{IsNewPinOpen, MayAdd}
 use Rattle.rar_loop.proofs.Adding.{add_applies, control_is, new_pin_reads, node_of}
 use Rattle.rar_loop.proofs.WireFaults.{wire_detected}
 use Rattle.rm_base.proofs.Public.{false_from_not}
-use Rattle.rm_base.specs.Numbers.{numbers_of}
+use Rattle.rm_base.specs.Inner.Numbers.{numbers_of}
 
 -- LANES
 -- a word that isn't 0 has a lane

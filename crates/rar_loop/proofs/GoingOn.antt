@@ -3,7 +3,8 @@ use Rattle.std.proofs.Common.{◌≡◌, ℕ, ◌+◌, ◌-◌, ◌<◌, ◌≤�
 use Rattle.std.specs.Prelude.{Ok, nat_lt, if◌then◌else◌}
 use Rattle.gate_net.specs.Values.{same_bool}
 use Rattle.gate_net.specs.Edits.{constant_node, fixed}
-use Rattle.wire_edit.specs.Changes.{remove, readers, nodes_added}
+use Rattle.wire_edit.specs.Changes.{remove, readers}
+use Rattle.wire_edit.specs.Inner.Changes.{nodes_added}
 use Rattle.std.proofs.lemmas.Bool.{lt-ltb}
 use Rattle.std.proofs.lemmas.List.{append-nil, length-append}
 use Rattle.rm_base.specs.declared.numbers.Fault.{Fault}
@@ -27,7 +28,7 @@ use Rattle.wire_edit.specs.Work.{work, pins_made, RoomForTidying, RoomForFixes}
 use Rattle.journal_text.specs.declared.record.Record.{Record}
 use Rattle.journal_text.specs.Accepted.{IsJustified, MayGrow, IsAcceptedStep}
 use Rattle.journal_text.specs.Runs.{steps_of, AreRemovals}
-use Rattle.rar_loop.specs.Going.{Logs, IsLeft, IsNoLarger, Tallies, Goes}
+use Rattle.rar_loop.specs.Inner.Going.{Logs, IsLeft, IsNoLarger, Tallies, Goes}
 use Rattle.rar_loop.proofs.Sizing.{no_gates}
 use Rattle.journal_text.proofs.Public.{accepted_then}
 use Rattle.wire_edit.specs.Removals.{HasFreePin, IsRemoval}

@@ -12,7 +12,8 @@ use Rattle.recursive_learning.specs.Serving.{IsRefuted}
 use Rattle.refutation.specs.Detected.{HasOpenSet}
 use Rattle.refutation.specs.FactSets.{held_by}
 use Rattle.refutation.specs.declared.held.NodeFacts.{NodeFacts}
-use Rattle.rar_loop.specs.Swept.{IsSwept, IsLooked, IsRefutedAt, IsLookedAtPin, IsOpenAtGate, HasLookedAt, HasPassed, HasSwept}
+use Rattle.rar_loop.specs.Swept.{IsSwept}
+use Rattle.rar_loop.specs.Inner.Swept.{IsLooked, IsRefutedAt, IsLookedAtPin, IsOpenAtGate, HasLookedAt, HasPassed, HasSwept}
 use Rattle.rm_base.proofs.Public.{stands_below}
 use Rattle.wire_edit.specs.Removals.{HasFreePin, ReadsNoConstants}
 

@@ -20,13 +20,15 @@ use Rattle.wire_edit.specs.Order.{IsTidy}
 use Rattle.wire_edit.specs.Refusals.{live_count}
 use Rattle.wire_edit.specs.Tried.{Tried}
 use Rattle.wire_edit.specs.Work.{work, WorkIsBounded}
-use Rattle.rar_loop.specs.Going.{Goes, IsNoLarger}
+use Rattle.rar_loop.specs.Inner.Going.{Goes, IsNoLarger}
 use Rattle.journal_text.specs.Runs.{AreRemovals}
-use Rattle.rar_loop.specs.Swept.{IsSwept, HasSwept}
-use Rattle.rar_loop.specs.Trying.{IsClean, IsGained, IsLent}
+use Rattle.rar_loop.specs.Swept.{IsSwept}
+use Rattle.rar_loop.specs.Inner.Swept.{HasSwept}
+use Rattle.rar_loop.specs.Trying.{IsClean, IsLent}
+use Rattle.rar_loop.specs.Inner.Trying.{IsGained}
 use Rattle.wire_edit.specs.declared.room.Room.{Room}
 use Rattle.rar_loop.specs.Sizes.{IsSame}
-use Rattle.rar_loop.specs.Improving.{HasBegun, HasImproved}
+use Rattle.rar_loop.specs.Inner.Improving.{HasBegun, HasImproved}
 use Rattle.rar_loop.proofs.GoingOn.{goes_then}
 use Rattle.rar_loop.proofs.Blocks.{removals_clean, removals_add_none, places_then, improve_then, block_then}
 use Rattle.rar_loop.proofs.Sizing.{HasSize, accepted_places, accepted_sources, within_by}

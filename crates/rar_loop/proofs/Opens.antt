@@ -13,7 +13,7 @@ use Rattle.candidate_wires.specs.Gains.{with_candidate, Gains, SomeClashes}
 use Rattle.journal_text.specs.declared.record.Record.{Record}
 use Rattle.refutation.specs.Detected.{HasOpenSet}
 use Rattle.rar_loop.specs.Swept.{IsSwept}
-use Rattle.rar_loop.specs.Trying.{IsNewPinOpen, IsReplaced}
+use Rattle.rar_loop.specs.Inner.Trying.{IsNewPinOpen, IsReplaced}
 
 closed_lines : (net : Net) (fault : Fault) (depth : ℕ) (held : Held) → IsClosedAt net fault depth held → IsClosedUnderLines net fault held
 closed_lines net fault zero held c = c

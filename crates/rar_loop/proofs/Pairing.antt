@@ -17,11 +17,12 @@ use Rattle.candidate_wires.specs.Pairs.{faults_from, faults_if, targets_at, targ
 use Rattle.candidate_wires.specs.Tries.{NoneGains}
 use Rattle.journal_text.specs.declared.record.Record.{Record}
 use Rattle.rar_loop.specs.Sizes.{IsSame}
-use Rattle.rar_loop.specs.Trying.{MayAdd, IsGained, IsBetter, IsLent, IsBack, IsAhead}
+use Rattle.rar_loop.specs.Trying.{IsLent}
+use Rattle.rar_loop.specs.Inner.Trying.{MayAdd, IsGained, IsBetter, IsBack, IsAhead}
 use Rattle.rar_loop.specs.declared.walking.Tour.{Tour}
 use Rattle.rar_loop.specs.declared.walking.Tour.TheVariants as tour
 use Rattle.wire_edit.specs.Tried.{Tried}
-use Rattle.rar_loop.specs.Walking.{AreTried, IsTargetTour, IsTour, IsWalk}
+use Rattle.rar_loop.specs.Inner.Walking.{AreTried, IsTargetTour, IsTour, IsWalk}
 use Rattle.rar_loop.proofs.Sizing.{within_same, within_then}
 use Rattle.rm_base.proofs.Public.{stands_below, take_one_more}
 

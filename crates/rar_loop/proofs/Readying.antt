@@ -25,8 +25,9 @@ use Rattle.journal_text.specs.declared.record.Record.TheVariants as record_of
 use Rattle.journal_text.specs.Accepted.{IsAcceptedStep}
 use Rattle.journal_text.specs.Runs.{AcceptedTo}
 use Rattle.refutation.specs.Detected.{HasOpenSet}
-use Rattle.rar_loop.specs.Swept.{IsLooked}
-use Rattle.rar_loop.specs.Trying.{MayAdd, IsNewPinOpen, IsReadyToAdd, HasAdded, adding_records, not_records}
+use Rattle.rar_loop.specs.Inner.Swept.{IsLooked}
+use Rattle.rar_loop.specs.Trying.{IsReadyToAdd}
+use Rattle.rar_loop.specs.Inner.Trying.{MayAdd, IsNewPinOpen, HasAdded, adding_records, not_records}
 use Rattle.rar_loop.proofs.NewNots.{live_more}
 use Rattle.rar_loop.proofs.Adding.{add_applies, add_made, none_refused, control_same, control_is, new_pin_reads, last_same, node_of}
 

@@ -35,12 +35,13 @@ use Rattle.candidate_wires.specs.Additions.{Addition, additions, additions_from,
 use Rattle.journal_text.specs.declared.record.Record.{Record}
 use Rattle.journal_text.specs.declared.record.Record.TheVariants as record_of
 use Rattle.journal_text.specs.Runs.{AcceptedTo, steps_of}
-use Rattle.rar_loop.specs.Swept.{HasSwept}
+use Rattle.rar_loop.specs.Inner.Swept.{HasSwept}
 use Rattle.wire_edit.proofs.Public.{live_bound, reader_gate, tidy_reads_none}
-use Rattle.rar_loop.specs.Going.{HasFixed, IsLeft, Logs, IsNoLarger}
+use Rattle.rar_loop.specs.Inner.Going.{HasFixed, IsLeft, Logs, IsNoLarger}
 use Rattle.journal_text.specs.Runs.{AreRemovals}
 use Rattle.rar_loop.specs.Sizes.{IsSame, most_steps}
-use Rattle.rar_loop.specs.Trying.{IsBetter, IsBack, IsLent, MayTry, HasAdded, HasReplaced, IsReplaced, IsGained, IsClean}
+use Rattle.rar_loop.specs.Trying.{IsLent, IsClean}
+use Rattle.rar_loop.specs.Inner.Trying.{IsBetter, IsBack, MayTry, HasAdded, HasReplaced, IsReplaced, IsGained}
 use Rattle.rar_loop.proofs.GoingOn.{removals_then}
 use Rattle.rar_loop.proofs.Adding.{pin_stays}
 use Rattle.rar_loop.proofs.Sizing.{HasSize, added_gates, added_numbers, accepted_places, accepted_sources, within_by}

@@ -13,11 +13,13 @@ use Rattle.gate_graph.specs.Holds.{held, pins_held, HoldsOn}
 use Rattle.wire_edit.proofs.Public.{length_budget, total_least, total_map, total_trimmed}
 use Rattle.wire_edit.specs.declared.steps.Step.{Step}
 use Rattle.wire_edit.specs.declared.steps.Step.TheVariants.{Add, NewNot}
-use Rattle.wire_edit.specs.Changes.{Change, append, remove, fix, readers, new_not, retire, changed, with_least_free, nodes_added}
+use Rattle.wire_edit.specs.Changes.{Change, append, remove, fix, readers, new_not, retire, changed, with_least_free}
+use Rattle.wire_edit.specs.Inner.Changes.{nodes_added}
 use Rattle.wire_edit.specs.Steps.{stepped, change_of}
 use Rattle.wire_edit.specs.Refusals.{live_count}
 use Rattle.wire_edit.specs.Order.{node}
-use Rattle.wire_edit.specs.Tests.{live_in, gate_weight}
+use Rattle.wire_edit.specs.Tests.{live_in}
+use Rattle.wire_edit.specs.Inner.Tests.{gate_weight}
 use Rattle.wire_edit.specs.Tried.{Tried}
 use Rattle.candidate_wires.specs.declared.candidate.Candidate.{Candidate}
 use Rattle.candidate_wires.specs.Gains.{net_for, with_candidate, wire_for}

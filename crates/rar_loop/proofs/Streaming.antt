@@ -14,9 +14,9 @@ use Rattle.journal_text.specs.Joining.{TextsAppend, RunsJoin}
 use Rattle.journal_text.specs.Runs.{steps_of, none_made, made_by, HasAppended, HasAppendedPart, IsStopped, records_text}
 use Rattle.rar_loop.specs.declared.walking.Tour.TheVariants.{Done, Spent, Gained}
 use Rattle.rar_loop.specs.Sizes.{IsSame}
-use Rattle.rar_loop.specs.Walking.{IsWalk}
+use Rattle.rar_loop.specs.Inner.Walking.{IsWalk}
 use Rattle.rar_loop.specs.Ended.{IsImproved, IsOptimised, AreFew}
-use Rattle.rar_loop.specs.Improving.{HasBegun, HasImproved, IsThrough, IsUnderWay}
+use Rattle.rar_loop.specs.Inner.Improving.{HasBegun, HasImproved, IsThrough, IsUnderWay}
 use Rattle.rar_loop.proofs.Looping.{improved_first, improved_more}
 use Rattle.rar_loop.proofs.Sizing.{within_same, within_then}
 

@@ -15,7 +15,7 @@ use Rattle.wire_edit.specs.Changes.{with_new_not}
 use Rattle.candidate_wires.specs.declared.candidate.Candidate.{Candidate}
 use Rattle.candidate_wires.specs.Gains.{least_free, net_for, with_candidate}
 use Rattle.rar_loop.specs.Rows.{stuck}
-use Rattle.rar_loop.specs.Trying.{MayAdd}
+use Rattle.rar_loop.specs.Inner.Trying.{MayAdd}
 use Rattle.rar_loop.proofs.NewNots.{live_apart, least_dead, not_there, not_other}
 use Rattle.rar_loop.proofs.Adding.{gate_of, node_of, last_same}
 use Rattle.rm_base.proofs.Public.{last_stands, map_agree, map_at, map_last_set, set_there}

@@ -1,12 +1,7 @@
 pub mod Sizes
 pub mod Swept
-pub mod Going
 pub mod Trying
-pub mod Walking
 pub mod Ended
-pub mod Improving
 pub mod Rounds
 pub mod Rows
-pub mod Kept
-pub mod Spaces
-pub mod Changing
+pub mod Inner

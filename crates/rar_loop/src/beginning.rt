@@ -3,8 +3,8 @@ ghost use Rattle.std.specs.Prelude.{◌≡◌, ◌≤◌, ◌+◌, ◌*◌, [], 
 ghost use Rattle.gate_graph.specs.Circuit.{net_of, pins_taken, live_nodes};
 ghost use Rattle.gate_graph.specs.Holds.{pins_held};
 ghost use Rattle.gate_net.specs.Net.{gate_count, source_count, wire_count};
-ghost use Rattle.rar_loop.specs.Improving.{HasBegun};
-ghost use Rattle.rar_loop.specs.Spaces.{IsReady};
+ghost use Rattle.rar_loop.specs.Inner.Improving.{HasBegun};
+ghost use Rattle.rar_loop.specs.Inner.Spaces.{IsReady};
 
 use crate::changes::Changed;
 use crate::sweeping::sweep;

@@ -7,8 +7,8 @@ ghost use Rattle.refutation.specs.Branches.{AreAccepted};
 ghost use Rattle.wire_edit.specs.Order.{IsTidy};
 ghost use Rattle.wire_edit.specs.Work.{work};
 ghost use Rattle.wire_edit.specs.Tidying.{TidiesTo};
-ghost use Rattle.rar_loop.specs.Changing.{NotesOn};
-ghost use Rattle.rar_loop.specs.Going.{Goes, HasFixed};
+ghost use Rattle.rar_loop.specs.Inner.Changing.{NotesOn};
+ghost use Rattle.rar_loop.specs.Inner.Going.{Goes, HasFixed};
 ghost use Rattle.wire_edit.specs.Removals.{HasFreePin, ReadsNoConstants};
 
 use crate::changes::Changed;

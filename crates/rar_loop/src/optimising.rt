@@ -8,10 +8,10 @@ ghost use Rattle.journal_text.specs.Accepted.{Keeps};
 ghost use Rattle.journal_text.specs.Appends.{IsThere};
 ghost use Rattle.journal_text.specs.Runs.{IsStopped};
 ghost use Rattle.rar_loop.specs.Sizes.{IsWithin};
-ghost use Rattle.rar_loop.specs.Spaces.{IsReady};
+ghost use Rattle.rar_loop.specs.Inner.Spaces.{IsReady};
 ghost use Rattle.rar_loop.specs.Swept.{IsSwept};
 ghost use Rattle.rar_loop.specs.Ended.{IsOptimised, AreFew};
-ghost use Rattle.rar_loop.specs.Improving.{ComesThrough, HasBegun, IsHere, StopsFrom, SweepComesThrough};
+ghost use Rattle.rar_loop.specs.Inner.Improving.{ComesThrough, HasBegun, IsHere, StopsFrom, SweepComesThrough};
 
 use crate::beginning::open_workspace;
 use crate::walking::{Tour, walk_pairs};

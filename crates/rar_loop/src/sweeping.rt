@@ -3,9 +3,9 @@ ghost use Rattle.std.specs.Prelude.{◌≡◌, ◌<◌, ◌≤◌, ◌+◌, ◌|
 ghost use Rattle.gate_graph.specs.Circuit.{net_of};
 ghost use Rattle.wire_edit.specs.Order.{IsTidy};
 ghost use Rattle.wire_edit.specs.Work.{work};
-ghost use Rattle.rar_loop.specs.Going.{Goes};
-ghost use Rattle.rar_loop.specs.Spaces.{HasToolsFor, TouchesOn};
-ghost use Rattle.rar_loop.specs.Swept.{HasLookedAt, HasPassed, HasSwept};
+ghost use Rattle.rar_loop.specs.Inner.Going.{Goes};
+ghost use Rattle.rar_loop.specs.Inner.Spaces.{HasToolsFor, TouchesOn};
+ghost use Rattle.rar_loop.specs.Inner.Swept.{HasLookedAt, HasPassed, HasSwept};
 ghost use Rattle.rm_base.specs.Numbers.{number_bound};
 
 use crate::changes::Changed;

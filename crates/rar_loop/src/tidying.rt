@@ -5,8 +5,8 @@ ghost use Rattle.wire_edit.specs.Order.{IsTidy};
 ghost use Rattle.wire_edit.specs.Work.{work};
 ghost use Rattle.wire_edit.specs.Tidying.{TidiesTo};
 ghost use Rattle.journal_text.specs.declared.record.Record.TheVariants as record_of;
-ghost use Rattle.rar_loop.specs.Changing.{NotesOn};
-ghost use Rattle.rar_loop.specs.Going.{Goes};
+ghost use Rattle.rar_loop.specs.Inner.Changing.{NotesOn};
+ghost use Rattle.rar_loop.specs.Inner.Going.{Goes};
 
 use crate::changes::Changed;
 use journal_text::Record;

@@ -7,9 +7,9 @@ ghost use Rattle.fault_sim.specs.Words.{assignment, lane};
 ghost use Rattle.fault_sim.specs.BlockStates.{AreSimulated};
 ghost use Rattle.fault_sim.specs.LaneStates.{Fits, IsSimulated};
 ghost use Rattle.fault_sim.specs.Following.{DiffersAmong};
-ghost use Rattle.rm_base.specs.Numbers.{numbers_of};
-ghost use Rattle.rar_loop.specs.Kept.{AreAsked, AreFor, HasKept, IsTurned, lanes_with, wanted};
-ghost use Rattle.rar_loop.specs.Trying.{IsNewPinOpen, MayAdd};
+ghost use Rattle.rm_base.specs.Inner.Numbers.{numbers_of};
+ghost use Rattle.rar_loop.specs.Inner.Kept.{AreAsked, AreFor, HasKept, IsTurned, lanes_with, wanted};
+ghost use Rattle.rar_loop.specs.Inner.Trying.{IsNewPinOpen, MayAdd};
 
 use candidate_wires::{Candidate, control_of};
 use fault_sim::{Blocks, Lanes};

@@ -3,9 +3,9 @@ ghost use Rattle.std.specs.Prelude.{◌≡◌, ◌≤◌, IfOk, OnOk, length};
 ghost use Rattle.gate_net.specs.Net.{wire_count};
 ghost use Rattle.gate_net.specs.Values.{HasPin};
 ghost use Rattle.gate_graph.specs.Circuit.{net_of};
-ghost use Rattle.rar_loop.specs.Spaces.{HasToolsFor, IsReady};
-ghost use Rattle.rar_loop.specs.Trying.{IsAttempt, MayTry};
-ghost use Rattle.rar_loop.specs.Walking.{IsTargetTour, IsTour};
+ghost use Rattle.rar_loop.specs.Inner.Spaces.{HasToolsFor, IsReady};
+ghost use Rattle.rar_loop.specs.Inner.Trying.{IsAttempt, MayTry};
+ghost use Rattle.rar_loop.specs.Inner.Walking.{IsTargetTour, IsTour};
 
 use crate::candidates::candidates_of;
 use crate::trying::{Attempt, try_pair};

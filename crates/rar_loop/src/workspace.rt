@@ -3,9 +3,9 @@ ghost use Rattle.std.specs.Prelude.{◌≡◌, ◌≤◌, [], IfOk, OnOk};
 ghost use Rattle.gate_graph.specs.Circuit.{net_of};
 ghost use Rattle.wire_edit.specs.Order.{IsTidy};
 ghost use Rattle.recursive_learning.specs.Serving.{IsServing};
-ghost use Rattle.rar_loop.specs.Kept.{AreFor};
+ghost use Rattle.rar_loop.specs.Inner.Kept.{AreFor};
 ghost use Rattle.rar_loop.specs.Sizes.{IsSame};
-ghost use Rattle.rar_loop.specs.Spaces.{CanFollow, CanReturn, HasToolsFor, TouchesNoted};
+ghost use Rattle.rar_loop.specs.Inner.Spaces.{CanFollow, CanReturn, HasToolsFor, TouchesNoted};
 
 use crate::changes::Changed;
 use crate::vectors::Vectors;

@@ -5,7 +5,7 @@ use Rattle.gate_net.specs.Net.{IsLive, IsWellFormed, Net}
 use Rattle.gate_net.specs.Values.{HasPin}
 use Rattle.implications.specs.Outcomes.{IsExtended}
 use Rattle.recursive_learning.proofs.Live.{leads_live, with_live}
-use Rattle.recursive_learning.specs.Working.{AreSettled, IsLearned}
+use Rattle.recursive_learning.specs.Inner.Working.{AreSettled, IsLearned}
 use Rattle.refutation.specs.FactSets.{held_by}
 use Rattle.refutation.specs.Facts.{Held, known_good, with_fact}
 use Rattle.refutation.proofs.Public.{both_good, known_held, leads_within, opposed_within, with_more, with_there, with_within}

@@ -4,10 +4,10 @@ use Rattle.std.proofs.lemmas.Bool.{cases_lt}
 use Rattle.std.specs.Prelude.{IsTrue, slice_get}
 use Rattle.gate_net.specs.Net.{Net}
 use Rattle.refutation.specs.FactLists.{IsAmong}
-use Rattle.recursive_learning.specs.Common.{Meets}
+use Rattle.recursive_learning.specs.Inner.Common.{Meets}
 use Rattle.recursive_learning.specs.Least.{IsLeastAt}
-use Rattle.recursive_learning.specs.Lessons.{AreCommon, AreFound, IsNothingNew}
-use Rattle.recursive_learning.specs.Working.{AreSettled}
+use Rattle.recursive_learning.specs.Inner.Lessons.{AreCommon, AreFound, IsNothingNew}
+use Rattle.recursive_learning.specs.Inner.Working.{AreSettled}
 use Rattle.recursive_learning.specs.declared.lessons.GoodValue.{GoodValue}
 use Rattle.refutation.specs.Closing.{IsClashFree, IsWithin}
 use Rattle.refutation.specs.FactSets.{held_by}

@@ -3,8 +3,8 @@ use Rattle.std.proofs.Common.{List, None, Some, arith, false, refl, subst, suc, 
 use Rattle.std.specs.Prelude.{slice_get}
 use Rattle.gate_net.specs.Net.{Net}
 use Rattle.implications.specs.State.{EngineState}
-use Rattle.recursive_learning.specs.Lessons.{AreNew, HoldsAll, IsGained}
-use Rattle.recursive_learning.specs.Working.{AreSettled, IsLearned, Keeps}
+use Rattle.recursive_learning.specs.Inner.Lessons.{AreNew, HoldsAll, IsGained}
+use Rattle.recursive_learning.specs.Inner.Working.{AreSettled, IsLearned, Keeps}
 use Rattle.recursive_learning.specs.declared.lessons.GoodValue.{GoodValue}
 use Rattle.refutation.specs.Closing.{IsClashFree, IsClosedUnderLines, IsWithin}
 use Rattle.refutation.specs.FactSets.{held_by, missing}

@@ -3,7 +3,7 @@ use Rattle.std.proofs.Common.{Bool, List, Some, [], ap, get_or, length, take, â—
 use Rattle.std.proofs.lemmas.List.{take_more}
 use Rattle.std.specs.Prelude.{slice_get}
 use Rattle.refutation.specs.FactLists.{IsAmong}
-use Rattle.recursive_learning.specs.Common.{AreGoodsOf, AreHeldAmong, IsAmongGoods}
+use Rattle.recursive_learning.specs.Inner.Common.{AreGoodsOf, AreHeldAmong, IsAmongGoods}
 use Rattle.recursive_learning.specs.declared.lessons.GoodValue.{GoodValue}
 use Rattle.refutation.specs.Facts.{Held, known_good}
 use Rattle.refutation.specs.declared.reasoning.Fact.{Fact}

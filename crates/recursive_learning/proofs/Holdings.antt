@@ -11,10 +11,10 @@ use Rattle.implications.specs.State.{EngineState}
 use Rattle.implications.specs.Trail.{LeadsBack}
 use Rattle.implications.specs.declared.basis.Basis.{Basis}
 use Rattle.recursive_learning.proofs.Goods.{last_at, still_at}
-use Rattle.recursive_learning.specs.Gates.{HasTaught}
-use Rattle.recursive_learning.specs.Holding.{HasGoods, ListsNodes, NamesAll, NamesKnown}
-use Rattle.recursive_learning.specs.Watching.{ListsGoods}
-use Rattle.recursive_learning.specs.Working.{AreSettled, Keeps}
+use Rattle.recursive_learning.specs.Inner.Gates.{HasTaught}
+use Rattle.recursive_learning.specs.Inner.Holding.{HasGoods, ListsNodes, NamesAll, NamesKnown}
+use Rattle.recursive_learning.specs.Inner.Watching.{ListsGoods}
+use Rattle.recursive_learning.specs.Inner.Working.{AreSettled, Keeps}
 use Rattle.recursive_learning.specs.declared.watch.Watch.{Watch}
 use Rattle.refutation.specs.Closing.{IsClashFree}
 use Rattle.refutation.specs.FactLists.{IsAmong}

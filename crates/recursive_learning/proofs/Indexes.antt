@@ -5,7 +5,8 @@ use Rattle.std.proofs.lemmas.Bool.Decides.{eqb_tells}
 use Rattle.std.proofs.lemmas.List.{get_or-replicate, get_or-set_other, get_or-set_same, length-replicate}
 use Rattle.std.proofs.lemmas.Option.{slice_get_read, slice_get_within}
 use Rattle.std.specs.Prelude.{slice_get, slice_index, slice_set}
-use Rattle.recursive_learning.specs.Resting.{IsIndex, IsLast, IsLonger, IsWatched}
+use Rattle.recursive_learning.specs.Resting.{IsLonger, IsWatched}
+use Rattle.recursive_learning.specs.Inner.Resting.{IsIndex, IsLast}
 use Rattle.recursive_learning.specs.declared.resting.Rest.{Rest}
 use Rattle.rm_base.proofs.Public.{front_stands, last_stands, one_stands}
 

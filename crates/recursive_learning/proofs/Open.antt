@@ -8,7 +8,7 @@ use Rattle.gate_net.proofs.Public.{is_known_true}
 use Rattle.gate_net.specs.Net.{Net, drivers_of, kind_in, kind_of}
 use Rattle.gate_net.specs.Values.{controlling}
 use Rattle.gate_net.specs.declared.Kind.{Kind}
-use Rattle.recursive_learning.specs.Gates.{NoneGives}
+use Rattle.recursive_learning.specs.Inner.Gates.{NoneGives}
 use Rattle.refutation.specs.Facts.{Held, known_good}
 use Rattle.refutation.specs.Learning.{IsUnjustified}
 use Rattle.refutation.proofs.Public.{find, is_known_some}

@@ -10,7 +10,7 @@ use Rattle.std.specs.List.{IsDistinct, list_any}
 use Rattle.std.specs.Prelude.{is_some, nat_eq, slice_get}
 use Rattle.std.proofs.Math.Bool.{or-true}
 use Rattle.gate_net.specs.Net.{Net, drivers_of}
-use Rattle.recursive_learning.specs.Gates.{AreJustifications}
+use Rattle.recursive_learning.specs.Inner.Gates.{AreJustifications}
 use Rattle.refutation.specs.Facts.{Held, known_good}
 use Rattle.refutation.specs.Learning.{HasFew, IsJustification}
 use Rattle.rm_base.specs.declared.numbers.NodeId.{NodeId}

@@ -15,8 +15,8 @@ use Rattle.recursive_learning.proofs.Splits.{told_join}
 use Rattle.recursive_learning.proofs.Tells.{lines_lead}
 use Rattle.recursive_learning.specs.Answers.{IsRefuting}
 use Rattle.recursive_learning.specs.Least.{AreForced, IsLeastAt}
-use Rattle.recursive_learning.specs.Telling.{Ends, Leads, line_item}
-use Rattle.recursive_learning.specs.Working.{AreSettled, IsLearned, Keeps}
+use Rattle.recursive_learning.specs.Inner.Telling.{Ends, Leads, line_item}
+use Rattle.recursive_learning.specs.Inner.Working.{AreSettled, IsLearned, Keeps}
 use Rattle.refutation.specs.Branches.{AreAccepted}
 use Rattle.refutation.specs.Closing.{Clashes, IsClashFree}
 use Rattle.refutation.specs.FactSets.{held_by}

@@ -7,10 +7,10 @@ use Rattle.implications.specs.State.{EngineState}
 use Rattle.implications.specs.Trail.{LeadsBack}
 use Rattle.recursive_learning.proofs.Gains.{keeps_join, keeps_none}
 use Rattle.recursive_learning.proofs.Learns.{clashes_are_learned, values_are_learned}
-use Rattle.recursive_learning.specs.Gates.{AreJustifications, HasTaught, NoneGives}
+use Rattle.recursive_learning.specs.Inner.Gates.{AreJustifications, HasTaught, NoneGives}
 use Rattle.recursive_learning.specs.Least.{AreForced}
-use Rattle.recursive_learning.specs.Lessons.{AreFound, HoldsAll, IsGained, IsLesson, IsNothingNew, IsRound}
-use Rattle.recursive_learning.specs.Working.{AreSettled, IsLearned, Keeps}
+use Rattle.recursive_learning.specs.Inner.Lessons.{AreFound, HoldsAll, IsGained, IsLesson, IsNothingNew, IsRound}
+use Rattle.recursive_learning.specs.Inner.Working.{AreSettled, IsLearned, Keeps}
 use Rattle.recursive_learning.specs.declared.lessons.GoodValue.{GoodValue}
 use Rattle.recursive_learning.specs.declared.lessons.Round.TheVariants.{Gained}
 use Rattle.refutation.specs.Closing.{IsClashFree, IsWithin}

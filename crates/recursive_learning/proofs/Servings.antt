@@ -11,11 +11,11 @@ use Rattle.refutation.specs.FactLists.{HasAllGoods}
 use Rattle.recursive_learning.proofs.Refutes.{clash_at_deeper, clash_of_all, clashes_lead, ends_accepted, least_of_all, open_forced}
 use Rattle.recursive_learning.proofs.Tells.{lines_lead, told_clash}
 use Rattle.recursive_learning.proofs.Splits.{told_join}
-use Rattle.recursive_learning.specs.Bodies.{IsBody}
-use Rattle.recursive_learning.specs.Answers.{IsDeepened}
-use Rattle.recursive_learning.specs.Serving.{IsLevel}
-use Rattle.recursive_learning.specs.Telling.{Ends, Leads, line_item}
-use Rattle.recursive_learning.specs.Working.{Keeps}
+use Rattle.recursive_learning.specs.Inner.Bodies.{IsBody}
+use Rattle.recursive_learning.specs.Inner.Answers.{IsDeepened}
+use Rattle.recursive_learning.specs.Inner.Serving.{IsLevel}
+use Rattle.recursive_learning.specs.Inner.Telling.{Ends, Leads, line_item}
+use Rattle.recursive_learning.specs.Inner.Working.{Keeps}
 use Rattle.refutation.specs.Branches.{AreAccepted}
 use Rattle.refutation.specs.FactSets.{held_by}
 use Rattle.refutation.specs.Facts.{Held, none_held}

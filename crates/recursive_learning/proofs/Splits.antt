@@ -9,10 +9,10 @@ use Rattle.gate_net.specs.declared.Kind.{Kind}
 use Rattle.gate_net.specs.declared.Kind.TheVariants.{And, Not, One, Or, Source, Zero}
 use Rattle.recursive_learning.proofs.Commons.{held_known}
 use Rattle.recursive_learning.proofs.Tells.{writes_join}
-use Rattle.recursive_learning.specs.Lessons.{IsLesson}
-use Rattle.recursive_learning.specs.Telling.{Ends, IsTold, Leads, Writes, branch, none}
-use Rattle.recursive_learning.specs.Working.{AreSettled}
-use Rattle.recursive_learning.specs.Writing.{CasesClash, HasCases, OppositeClashes}
+use Rattle.recursive_learning.specs.Inner.Lessons.{IsLesson}
+use Rattle.recursive_learning.specs.Inner.Telling.{Ends, IsTold, Leads, Writes, branch, none}
+use Rattle.recursive_learning.specs.Inner.Working.{AreSettled}
+use Rattle.recursive_learning.specs.Inner.Writing.{CasesClash, HasCases, OppositeClashes}
 use Rattle.recursive_learning.specs.declared.lessons.GoodValue.{GoodValue}
 use Rattle.refutation.specs.Branches.{MaySplit}
 use Rattle.refutation.specs.Closing.{IsClashFree, IsWithin}

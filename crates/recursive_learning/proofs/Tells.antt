@@ -4,8 +4,8 @@ use Rattle.gate_net.specs.Net.{IsLive, IsWellFormed, Net}
 use Rattle.gate_net.specs.Values.{HasPin}
 use Rattle.implications.specs.Outcomes.{IsClashAt, IsOpenFrom}
 use Rattle.recursive_learning.proofs.Live.{leads_live, with_live}
-use Rattle.recursive_learning.specs.Telling.{Ends, IsTold, Leads, Writes, branch, line_item, none}
-use Rattle.recursive_learning.specs.Working.{AreSettled}
+use Rattle.recursive_learning.specs.Inner.Telling.{Ends, IsTold, Leads, Writes, branch, line_item, none}
+use Rattle.recursive_learning.specs.Inner.Working.{AreSettled}
 use Rattle.refutation.proofs.Public.{reads_join}
 use Rattle.refutation.specs.Closing.{LinesLead}
 use Rattle.refutation.specs.FactSets.{held_by}

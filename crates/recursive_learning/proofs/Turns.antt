@@ -9,11 +9,11 @@ use Rattle.recursive_learning.proofs.Gains.{keeps_join}
 use Rattle.recursive_learning.proofs.Holdings.{IsBefore, before_next, taught_each}
 use Rattle.recursive_learning.proofs.Refutes.{closed_at_smaller}
 use Rattle.recursive_learning.proofs.Rounds.{Learning, forced_clash, forced_join, learning_more, learning_quiet}
-use Rattle.recursive_learning.specs.Gates.{HasTaught}
+use Rattle.recursive_learning.specs.Inner.Gates.{HasTaught}
 use Rattle.recursive_learning.specs.Least.{AreForced}
-use Rattle.recursive_learning.specs.Lessons.{IsEach, IsOne, IsRound}
-use Rattle.recursive_learning.specs.Watching.{looks_left}
-use Rattle.recursive_learning.specs.Working.{AreSettled, IsLearned, Keeps}
+use Rattle.recursive_learning.specs.Inner.Lessons.{IsEach, IsOne, IsRound}
+use Rattle.recursive_learning.specs.Inner.Watching.{looks_left}
+use Rattle.recursive_learning.specs.Inner.Working.{AreSettled, IsLearned, Keeps}
 use Rattle.recursive_learning.specs.declared.lessons.Round.{Round}
 use Rattle.recursive_learning.specs.declared.lessons.Round.TheVariants.{Clash, Gained, Quiet}
 use Rattle.refutation.specs.FactSets.{held_by, missing}

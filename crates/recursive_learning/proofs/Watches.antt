@@ -12,10 +12,11 @@ use Rattle.refutation.specs.FactLists.{IsAmong}
 use Rattle.recursive_learning.proofs.Indexes.{longer_join, watched_longer}
 use Rattle.recursive_learning.proofs.Regions.{stays_idle}
 use Rattle.recursive_learning.proofs.Rounds.{junction_below}
-use Rattle.recursive_learning.specs.Gates.{HasTaught}
+use Rattle.recursive_learning.specs.Inner.Gates.{HasTaught}
 use Rattle.recursive_learning.specs.Resting.{IsLonger, IsWatched, RestsState}
-use Rattle.recursive_learning.specs.Watching.{AgreeAround, Covers, HasNoneListed, HasRoom, IsAround, IsBlank, IsKnown, IsListedAt, IsWatching, LeavesList, Lengthens, ListsChanged, ListsGoods, RestsOn, StaysTaught, StillLists}
-use Rattle.recursive_learning.specs.Working.{AreSettled}
+use Rattle.recursive_learning.specs.Watching.{HasRoom, IsListedAt, LeavesList, StillLists}
+use Rattle.recursive_learning.specs.Inner.Watching.{AgreeAround, Covers, HasNoneListed, IsAround, IsBlank, IsKnown, IsWatching, Lengthens, ListsChanged, ListsGoods, RestsOn, StaysTaught}
+use Rattle.recursive_learning.specs.Inner.Working.{AreSettled}
 use Rattle.recursive_learning.specs.declared.resting.Rest.{Rest}
 use Rattle.recursive_learning.specs.declared.watch.Watch.{Watch}
 use Rattle.refutation.specs.Closing.{IsWithin}

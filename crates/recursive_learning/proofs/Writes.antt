@@ -9,10 +9,10 @@ use Rattle.recursive_learning.proofs.Gains.{keeps_join, keeps_none}
 use Rattle.recursive_learning.proofs.Holdings.{IsBefore, before_all, before_next, before_none, taught_each}
 use Rattle.recursive_learning.proofs.Splits.{told_join}
 use Rattle.recursive_learning.proofs.Tells.{writes_join, writes_none}
-use Rattle.recursive_learning.specs.Gates.{HasTaught}
-use Rattle.recursive_learning.specs.Telling.{Ends, IsTold, Leads, branch}
-use Rattle.recursive_learning.specs.Working.{AreSettled, Keeps}
-use Rattle.recursive_learning.specs.Writing.{IsPassed, IsWritten}
+use Rattle.recursive_learning.specs.Inner.Gates.{HasTaught}
+use Rattle.recursive_learning.specs.Inner.Telling.{Ends, IsTold, Leads, branch}
+use Rattle.recursive_learning.specs.Inner.Working.{AreSettled, Keeps}
+use Rattle.recursive_learning.specs.Inner.Writing.{IsPassed, IsWritten}
 use Rattle.refutation.specs.FactSets.{held_by, missing}
 use Rattle.refutation.specs.Facts.{known_good}
 use Rattle.refutation.specs.Learning.{LeadsToClash}

@@ -1,12 +1,12 @@
 -- What refuting a fault at a depth answers.
-use Rattle.std.specs.Prelude.{None, Option, Some, length, ℕ, ◌≤◌}
+use Rattle.std.specs.Prelude.{length, ℕ, ◌≤◌}
 use Rattle.gate_net.specs.Net.{Net}
 use Rattle.implications.specs.declared.outcome.Closed.{Closed}
 use Rattle.implications.specs.declared.outcome.Closed.TheVariants.{Clash, Open}
 use Rattle.recursive_learning.specs.Least.{IsLeastAt}
 use Rattle.refutation.specs.Branches.{AreAccepted}
 use Rattle.refutation.specs.FactSets.{held_by}
-use Rattle.refutation.specs.Facts.{Held, none_held}
+use Rattle.refutation.specs.Facts.{none_held}
 use Rattle.refutation.specs.Learning.{LeadsToClash}
 use Rattle.rm_base.specs.declared.numbers.Fault.{Fault}
 
@@ -14,8 +14,3 @@ use Rattle.rm_base.specs.declared.numbers.Fault.{Fault}
 abbrev pub IsRefuting : Net → Fault → ℕ → Closed → Type 0
 IsRefuting net fault depth (Clash items) = LeadsToClash net fault depth none_held × AreAccepted net fault items
 IsRefuting net fault depth (Open facts) = IsLeastAt net fault depth none_held (held_by facts) × (length net.nodes ≤ length facts)
-
--- a clash at that depth or before it, or the least closed set
-abbrev pub IsDeepened : Net → Fault → ℕ → Held → Option ℕ → Held → Type 0
-IsDeepened net fault depth start None now = IsLeastAt net fault depth start now
-IsDeepened net fault depth start (Some level) now = (level ≤ depth) × LeadsToClash net fault level start

@@ -1,14 +1,8 @@
 pub mod Least
 pub mod Gates
-pub mod Working
-pub mod Common
-pub mod Lessons
-pub mod Telling
-pub mod Writing
 pub mod Answers
 pub mod Resting
 pub mod Watching
 pub mod Detected
 pub mod Serving
-pub mod Bodies
-pub mod Holding
+pub mod Inner

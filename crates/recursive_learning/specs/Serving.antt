@@ -8,8 +8,6 @@ use Rattle.recursive_learning.specs.Watching.{HasRoom}
 use Rattle.recursive_learning.specs.declared.refuter.Refuter.{Refuter}
 use Rattle.implications.specs.declared.outcome.Closed.TheVariants.{Clash, Open}
 use Rattle.refutation.specs.Closing.{Clashes}
-use Rattle.refutation.specs.Facts.{none_held}
-use Rattle.refutation.specs.Learning.{LeadsToClash}
 use Rattle.refutation.specs.declared.held.NodeFacts.{NodeFacts}
 use Rattle.refutation.specs.declared.items.Item.{Item}
 use Rattle.refutation.specs.declared.reasoning.Line.{Line}
@@ -47,8 +45,3 @@ IsShut net fault facts false = (lines : List Line) × IsOpen net fault lines fac
 abbrev pub IsRefuted : Net → Fault → ℕ → List NodeFacts → Option (List Item) → Type 0
 IsRefuted net fault depth facts None = IsRefuting net fault depth (Open facts)
 IsRefuted net fault depth facts (Some items) = IsRefuting net fault depth (Clash items)
-
--- the first depth at which there is a clash, or the least set that is closed at the depth
-abbrev pub IsLevel : Net → Fault → ℕ → List NodeFacts → Option ℕ → Type 0
-IsLevel net fault depth facts None = IsRefuting net fault depth (Open facts)
-IsLevel net fault depth facts (Some level) = (level ≤ depth) × LeadsToClash net fault level none_held

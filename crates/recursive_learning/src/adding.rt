@@ -4,8 +4,8 @@ ghost use Rattle.gate_net.specs.Net.{IsLive};
 ghost use Rattle.gate_graph.specs.Circuit.{net_of};
 ghost use Rattle.refutation.specs.Facts.{known_good, with_fact};
 ghost use Rattle.refutation.specs.FactSets.{held_by, missing};
-ghost use Rattle.recursive_learning.specs.Working.{AreSettled, IsLearned, Keeps};
-ghost use Rattle.recursive_learning.specs.Lessons.{IsGained, AreNew};
+ghost use Rattle.recursive_learning.specs.Inner.Working.{AreSettled, IsLearned, Keeps};
+ghost use Rattle.recursive_learning.specs.Inner.Lessons.{IsGained, AreNew};
 
 use crate::lessons::GoodValue;
 use gate_graph::Question;

@@ -7,10 +7,11 @@ ghost use Rattle.refutation.specs.Branches.{AreAccepted};
 ghost use Rattle.refutation.specs.FactSets.{held_by};
 ghost use Rattle.refutation.specs.Learning.{LeadsToClash};
 ghost use Rattle.refutation.specs.declared.held.NodeFacts.{NodeFacts};
-ghost use Rattle.recursive_learning.specs.Bodies.{IsBody};
-ghost use Rattle.recursive_learning.specs.Holding.{HasGoods};
-ghost use Rattle.recursive_learning.specs.Watching.{HasRoom, IsBlank, LeavesList};
-ghost use Rattle.recursive_learning.specs.Working.{AreSettled, Keeps};
+ghost use Rattle.recursive_learning.specs.Inner.Bodies.{IsBody};
+ghost use Rattle.recursive_learning.specs.Inner.Holding.{HasGoods};
+ghost use Rattle.recursive_learning.specs.Watching.{HasRoom, LeavesList};
+ghost use Rattle.recursive_learning.specs.Inner.Watching.{IsBlank};
+ghost use Rattle.recursive_learning.specs.Inner.Working.{AreSettled, Keeps};
 
 use crate::ordering::write_from;
 use crate::telling::push_lines;

@@ -5,7 +5,7 @@ ghost use Rattle.gate_net.specs.Net.{kind_of};
 ghost use Rattle.gate_graph.specs.Circuit.{net_of};
 ghost use Rattle.refutation.specs.FactSets.{held_by};
 ghost use Rattle.refutation.specs.Learning.{HasFew};
-ghost use Rattle.recursive_learning.specs.Gates.{AreJustifications, IsWanted};
+ghost use Rattle.recursive_learning.specs.Inner.Gates.{AreJustifications, IsWanted};
 
 use gate_graph::Graph;
 use refutation::FactSet;

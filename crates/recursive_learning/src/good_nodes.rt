@@ -2,7 +2,7 @@
 ghost use Rattle.std.specs.Prelude.{◌≡◌, ◌≤◌, OnOk, length};
 ghost use Rattle.gate_graph.specs.Circuit.{net_of};
 ghost use Rattle.refutation.specs.FactSets.{held_by};
-ghost use Rattle.recursive_learning.specs.Holding.{ListsNodes, NamesAdded, NamesGood, NamesKnown, StillNames};
+ghost use Rattle.recursive_learning.specs.Inner.Holding.{ListsNodes, NamesAdded, NamesGood, NamesKnown, StillNames};
 
 use gate_graph::Graph;
 use refutation::agenda::Agenda;

@@ -5,10 +5,11 @@ ghost use Rattle.gate_graph.specs.Circuit.{net_of};
 ghost use Rattle.refutation.specs.Facts.{known_good, with_fact};
 ghost use Rattle.refutation.specs.FactSets.{held_by};
 ghost use Rattle.implications.specs.Bases.{IsListed};
-ghost use Rattle.recursive_learning.specs.Holding.{HasGoods};
-ghost use Rattle.recursive_learning.specs.Lessons.{AreFound, AreOpen, HasLooked, IsEach, IsOne, IsRound, MeetsOneMore, Teaches};
-ghost use Rattle.recursive_learning.specs.Watching.{HasNoneListed, HasRoom, IsCovered, IsKnown, IsWatching, LeavesList, Lengthens, NotesRegion, StaysKnown, StaysTaught, looks_left};
-ghost use Rattle.recursive_learning.specs.Working.{AreSettled, IsLearned, Keeps};
+ghost use Rattle.recursive_learning.specs.Inner.Holding.{HasGoods};
+ghost use Rattle.recursive_learning.specs.Inner.Lessons.{AreFound, AreOpen, HasLooked, IsEach, IsOne, IsRound, MeetsOneMore, Teaches};
+ghost use Rattle.recursive_learning.specs.Watching.{HasRoom, LeavesList};
+ghost use Rattle.recursive_learning.specs.Inner.Watching.{HasNoneListed, IsCovered, IsKnown, IsWatching, Lengthens, NotesRegion, StaysKnown, StaysTaught, looks_left};
+ghost use Rattle.recursive_learning.specs.Inner.Working.{AreSettled, IsLearned, Keeps};
 ghost use Rattle.recursive_learning.specs.declared.lessons.Round.TheVariants.{Clash, Gained, Quiet};
 
 use crate::adding::{add, gain};

@@ -1,7 +1,7 @@
 // What justifications have in common.
 ghost use Rattle.std.specs.Prelude.{◌≡◌, IfOk, true};
 ghost use Rattle.refutation.specs.FactSets.{held_by};
-ghost use Rattle.recursive_learning.specs.Common.{AreGoodsOf, AreHeldAmong, IsKnownGood, Meets};
+ghost use Rattle.recursive_learning.specs.Inner.Common.{AreGoodsOf, AreHeldAmong, IsKnownGood, Meets};
 
 use refutation::pins::{Aspect, known_of};
 use refutation::{Fact, FactSet};

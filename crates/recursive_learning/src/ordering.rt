@@ -3,10 +3,11 @@ ghost use Rattle.std.specs.Prelude.{◌≤◌, OnOk, length};
 ghost use Rattle.gate_graph.specs.Circuit.{net_of};
 ghost use Rattle.refutation.specs.FactSets.{held_by};
 ghost use Rattle.refutation.specs.Learning.{LeadsToClash};
-ghost use Rattle.recursive_learning.specs.Holding.{HasGoods};
-ghost use Rattle.recursive_learning.specs.Telling.{Ends};
-ghost use Rattle.recursive_learning.specs.Watching.{HasRoom, IsBlank, LeavesList};
-ghost use Rattle.recursive_learning.specs.Working.{AreSettled, Keeps};
+ghost use Rattle.recursive_learning.specs.Inner.Holding.{HasGoods};
+ghost use Rattle.recursive_learning.specs.Inner.Telling.{Ends};
+ghost use Rattle.recursive_learning.specs.Watching.{HasRoom, LeavesList};
+ghost use Rattle.recursive_learning.specs.Inner.Watching.{IsBlank};
+ghost use Rattle.recursive_learning.specs.Inner.Working.{AreSettled, Keeps};
 
 use crate::watch::Watch;
 use crate::writing::{write, write_each};

@@ -10,8 +10,9 @@ ghost use Rattle.refutation.specs.Facts.{none_held};
 ghost use Rattle.refutation.specs.FactLists.{HasAllGoods};
 ghost use Rattle.refutation.specs.FactSets.{held_by};
 ghost use Rattle.refutation.specs.Learning.{LeadsToClash};
-ghost use Rattle.recursive_learning.specs.Bodies.{IsBody};
-ghost use Rattle.recursive_learning.specs.Serving.{HasAllRoom, IsLevel, IsMade, IsRefuted, IsServing, IsShut};
+ghost use Rattle.recursive_learning.specs.Inner.Bodies.{IsBody};
+ghost use Rattle.recursive_learning.specs.Serving.{HasAllRoom, IsMade, IsRefuted, IsServing, IsShut};
+ghost use Rattle.recursive_learning.specs.Inner.Serving.{IsLevel};
 ghost use Rattle.recursive_learning.specs.Watching.{HasRoom};
 
 use crate::bodies::{clash_body, learned_body, whole_tree};

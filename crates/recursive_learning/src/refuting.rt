@@ -7,10 +7,12 @@ ghost use Rattle.refutation.specs.Branches.{AreAccepted};
 ghost use Rattle.refutation.specs.Facts.{none_held};
 ghost use Rattle.refutation.specs.FactSets.{held_by};
 ghost use Rattle.refutation.specs.Learning.{LeadsToClash};
-ghost use Rattle.recursive_learning.specs.Answers.{IsDeepened, IsRefuting};
-ghost use Rattle.recursive_learning.specs.Holding.{HasGoods};
-ghost use Rattle.recursive_learning.specs.Watching.{HasRoom, IsBlank, IsWatching, LeavesList, Lengthens};
-ghost use Rattle.recursive_learning.specs.Working.{AreSettled, Keeps};
+ghost use Rattle.recursive_learning.specs.Answers.{IsRefuting};
+ghost use Rattle.recursive_learning.specs.Inner.Answers.{IsDeepened};
+ghost use Rattle.recursive_learning.specs.Inner.Holding.{HasGoods};
+ghost use Rattle.recursive_learning.specs.Watching.{HasRoom, LeavesList};
+ghost use Rattle.recursive_learning.specs.Inner.Watching.{IsBlank, IsWatching, Lengthens};
+ghost use Rattle.recursive_learning.specs.Inner.Working.{AreSettled, Keeps};
 ghost use Rattle.recursive_learning.specs.Least.{AreForced};
 
 use crate::learning::learn;

@@ -1,7 +1,8 @@
 //! On which places what is known of gates rests.
 ghost use Rattle.std.specs.Prelude.{◌≡◌, ◌<◌, ◌≤◌, ◌-◌, ◌+◌, ℕ, [], Some, IfOk, IsTrue, OnOk, false, length, slice_get, suc, take};
 ghost use Rattle.gate_graph.specs.Search.{IsSeen};
-ghost use Rattle.recursive_learning.specs.Resting.{IsIndex, IsLonger, IsWatched};
+ghost use Rattle.recursive_learning.specs.Resting.{IsLonger, IsWatched};
+ghost use Rattle.recursive_learning.specs.Inner.Resting.{IsIndex};
 
 use refutation::agenda::Agenda;
 use rm_base::{NoMemory, NodeId};
@@ -26,7 +27,8 @@ pub struct Rests {
 
 impl Model for Rests {
     ghost use Rattle.std.specs.Prelude.{length};
-    ghost use Rattle.recursive_learning.specs.Resting.{IsIndex, RestsState};
+    ghost use Rattle.recursive_learning.specs.Resting.{RestsState};
+    ghost use Rattle.recursive_learning.specs.Inner.Resting.{IsIndex};
 
     ghost Value = { RestsState };
 

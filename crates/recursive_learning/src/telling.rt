@@ -4,8 +4,8 @@ ghost use Rattle.gate_net.specs.Net.{IsLive};
 ghost use Rattle.gate_graph.specs.Circuit.{net_of};
 ghost use Rattle.refutation.specs.Facts.{known_good, with_fact};
 ghost use Rattle.refutation.specs.FactSets.{held_by, missing};
-ghost use Rattle.recursive_learning.specs.Telling.{IsTold, line_item};
-ghost use Rattle.recursive_learning.specs.Working.{AreSettled, Keeps};
+ghost use Rattle.recursive_learning.specs.Inner.Telling.{IsTold, line_item};
+ghost use Rattle.recursive_learning.specs.Inner.Working.{AreSettled, Keeps};
 
 use gate_graph::Question;
 use implications::Engine;

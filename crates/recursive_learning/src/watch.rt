@@ -5,9 +5,10 @@ ghost use Rattle.gate_graph.specs.Circuit.{net_of};
 ghost use Rattle.gate_graph.specs.Search.{IsSeen};
 ghost use Rattle.refutation.specs.Agendas.{IsTaken};
 ghost use Rattle.refutation.specs.FactSets.{held_by};
-ghost use Rattle.recursive_learning.specs.Holding.{ListsNodes, NamesAll, NamesKnown};
+ghost use Rattle.recursive_learning.specs.Inner.Holding.{ListsNodes, NamesAll, NamesKnown};
 ghost use Rattle.recursive_learning.specs.Resting.{IsWatched};
-ghost use Rattle.recursive_learning.specs.Watching.{HasNoneListed, HasRoom, IsAround, IsBlank, IsListedAt, LeavesList, ListsChanged, RestsOn, StillLists};
+ghost use Rattle.recursive_learning.specs.Watching.{HasRoom, IsListedAt, LeavesList, StillLists};
+ghost use Rattle.recursive_learning.specs.Inner.Watching.{HasNoneListed, IsAround, IsBlank, ListsChanged, RestsOn};
 
 use crate::good_nodes::{list_nodes, push_added, push_known};
 use crate::resting::Rests;

@@ -22,7 +22,7 @@ use Rattle.refutation.specs.declared.reasoning.Fact.TheVariants.{Good}
 use Rattle.refutation.specs.declared.reasoning.Line.TheVariants.{GoodForward}
 use Rattle.rm_base.specs.declared.numbers.Fault.{Fault}
 use Rattle.rm_base.proofs.Public.{both_and}
-use Rattle.gate_net.specs.Stays.{Stays}
+use Rattle.gate_net.specs.Inner.Stays.{Stays}
 
 pub closed_below : ClosedBelow
 closed_below net fault zero s free closed = closed.0

@@ -5,7 +5,8 @@ use Rattle.std.proofs.lemmas.Bool.Decides.{eqb_tells}
 use Rattle.std.specs.Prelude.{if◌then◌else◌, nat_eq, slice_set}
 use Rattle.std.proofs.Math.Bool.{or-true}
 use Rattle.std.proofs.lemmas.Bool.{and_parts, or_cases}
-use Rattle.refutation.specs.FactSets.{Becomes, held_by, is_marked, marked, missing, unmarked}
+use Rattle.refutation.specs.FactSets.{Becomes, held_by, is_marked, missing, unmarked}
+use Rattle.refutation.specs.Inner.FactSets.{marked}
 use Rattle.refutation.specs.Facts.{AreOpposed, Held, same_fact, with_fact, without_fact}
 use Rattle.refutation.specs.declared.held.NodeFacts.{NodeFacts}
 use Rattle.refutation.specs.declared.reasoning.Fact.{Fact}

@@ -3,7 +3,7 @@ use Rattle.std.proofs.Common.{Bool, Some, false, inl, inr, map, refl, true, ℕ,
 use Rattle.gate_net.proofs.Public.{all_but_stays, all_stay, back_stays, forward_stays, reads_stay, stay_map}
 use Rattle.gate_net.specs.Net.{Net, drivers_of}
 use Rattle.gate_net.specs.Values.{faulty_reads}
-use Rattle.gate_net.specs.Stays.{Stays, AllStay}
+use Rattle.gate_net.specs.Inner.Stays.{Stays, AllStay}
 use Rattle.refutation.specs.Closing.{IsClashFree, IsWithin}
 use Rattle.refutation.specs.Facts.{Held, known_equal, known_faulty, known_good, one_of}
 use Rattle.refutation.specs.Laws.{LinesGrow}

@@ -21,7 +21,7 @@ use Rattle.refutation.specs.declared.reasoning.Line.{Line}
 use Rattle.refutation.specs.declared.reasoning.Line.TheVariants.{Act, Chain, Compare, Constant, DiffersBack, EqualForward, FaultyBack, FaultyForward, GoodBack, GoodForward, NotDiffers, NotEqual, Out, Side, Site, ToFaulty, ToGood}
 use Rattle.rm_base.specs.declared.numbers.Fault.{Fault}
 use Rattle.rm_base.proofs.Public.{bool_cases, map_at, never_opposite}
-use Rattle.gate_net.specs.Stays.{Approximates}
+use Rattle.gate_net.specs.Inner.Stays.{Approximates}
 
 module _ (net : Net) (fault : Fault) (driver : ℕ) (a v f : ℕ → Bool) (run : IsRun net fault a v f) (acyclic : IsAcyclic net) (stuck : Reads net fault.gate.0 fault.position driver) (detects : SameObserved net v f → ⊥) where
   -- what every observed node rests on differs

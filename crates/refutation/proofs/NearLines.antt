@@ -1,7 +1,8 @@
 -- Lines that look at no more than one gate.
 use Rattle.std.proofs.Common.{Option, refl, ◌≢◌}
 use Rattle.gate_net.specs.Net.{Net}
-use Rattle.refutation.specs.Answers.{IsAnswer, IsNearAnswer}
+use Rattle.refutation.specs.Answers.{IsAnswer}
+use Rattle.refutation.specs.Inner.Answers.{IsNearAnswer}
 use Rattle.refutation.specs.Facts.{Held}
 use Rattle.refutation.specs.declared.reasoning.Fact.{Fact}
 use Rattle.refutation.specs.declared.reasoning.Line.{Line}

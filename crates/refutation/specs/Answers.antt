@@ -10,7 +10,6 @@ use Rattle.refutation.specs.declared.pins.Aspect.{Aspect}
 use Rattle.gate_looks.specs.declared.pins.Stuck.{Stuck}
 use Rattle.refutation.specs.declared.reasoning.Fact.{Fact}
 use Rattle.refutation.specs.declared.reasoning.Line.{Line}
-use Rattle.refutation.specs.declared.reasoning.Line.TheVariants.{Chain, Out}
 use Rattle.rm_base.specs.declared.numbers.Fault.{Fault}
 use Rattle.rm_base.specs.declared.numbers.NodeId.{NodeId}
 
@@ -18,12 +17,6 @@ use Rattle.rm_base.specs.declared.numbers.NodeId.{NodeId}
 abbrev pub IsAnswer : Net → Fault → Held → Line → Option (NodeId × Fact) → Type 0
 IsAnswer net fault held l None = (x : ℕ) (fact : Fact) → Concludes net fault held l x fact → ⊥
 IsAnswer net fault held l (Some r) = Concludes net fault held l r.0.0 r.1
-
--- the answer of a line that looks at no more than one gate; no matter what for the others
-abbrev pub IsNearAnswer : Net → Fault → Held → Line → Option (NodeId × Fact) → Type 0
-IsNearAnswer net fault held (Chain y) o = Unit {0}
-IsNearAnswer net fault held (Out y) o = Unit {0}
-IsNearAnswer net fault held l o = IsAnswer net fault held l o
 
 abbrev pub bind : {A B : Type 0} → Option A → (A → Option B) → Option B
 bind None f = None

@@ -19,15 +19,6 @@ held_by [] x fact = false
 held_by (m ∷ marks) zero fact = is_marked m fact
 held_by (m ∷ marks) (suc x) fact = held_by marks x fact
 
--- with that fact marked so
-abbrev pub marked : NodeFacts → Fact → Bool → NodeFacts
-marked m (Good false) b = record m { good_is_0 = b }
-marked m (Good true) b = record m { good_is_1 = b }
-marked m (Faulty false) b = record m { faulty_is_0 = b }
-marked m (Faulty true) b = record m { faulty_is_1 = b }
-marked m Equal b = record m { equal = b }
-marked m Differs b = record m { differs = b }
-
 abbrev pub if_not : Bool → ℕ
 if_not b = if b then 0 else 1
 

@@ -15,3 +15,4 @@ pub mod Pins
 pub mod Answers
 pub mod Sites
 pub mod Detected
+pub mod Inner

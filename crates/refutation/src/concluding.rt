@@ -3,7 +3,8 @@ ghost use Rattle.std.specs.Prelude.{◌≡◌, ◌<◌, ◌≤◌, IfSome, lengt
 ghost use Rattle.gate_net.specs.Net.{IsLive};
 ghost use Rattle.gate_graph.specs.Circuit.{net_of};
 ghost use Rattle.refutation.specs.FactSets.{held_by};
-ghost use Rattle.refutation.specs.Answers.{IsAnswer, IsNearAnswer};
+ghost use Rattle.refutation.specs.Answers.{IsAnswer};
+ghost use Rattle.refutation.specs.Inner.Answers.{IsNearAnswer};
 ghost use Rattle.refutation.specs.Sites.{IsSiteOf, Serves};
 
 use crate::asking::AskedSite;

@@ -96,5 +96,8 @@ pub fn others_equal(drivers: Inputs<'_>, facts: &FactSet, q: usize) -> bool
     requires few { length drivers ≤ number_bound }
     ensures { result ≡ all_but (is_known true) q (map (known_equal (held_by facts.now)) drivers.entry) }
 {
-    others_pass(look_at_facts(drivers, None, facts, Aspect::OfEqual, false), q)
+    others_pass(
+        look_at_facts(drivers, None, facts, Aspect::OfEqual, false),
+        q,
+    )
 }

@@ -2,7 +2,8 @@
 ghost use Rattle.std.specs.Prelude.{◌≡◌, ◌<◌, ◌↔◌, List, length, IfOk, IsTrue, slice_set, slice_index_or, ℕ, suc, false};
 ghost use Rattle.gate_graph.specs.Circuit.{net_of};
 ghost use Rattle.refutation.specs.Facts.{with_fact, without_fact, AreOpposed};
-ghost use Rattle.refutation.specs.FactSets.{held_by, is_marked, marked, missing, Becomes};
+ghost use Rattle.refutation.specs.FactSets.{held_by, is_marked, missing, Becomes};
+ghost use Rattle.refutation.specs.Inner.FactSets.{marked};
 ghost use Rattle.refutation.specs.declared.held.NodeFacts.{NodeFacts};
 ghost use Rattle.refutation.specs.declared.reasoning.Fact.{Fact};
 

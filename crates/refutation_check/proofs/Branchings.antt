@@ -7,8 +7,8 @@ use Rattle.refutation.specs.declared.items.Form.{Form}
 use Rattle.refutation.specs.declared.items.Form.TheVariants.{Closed, Partial}
 use Rattle.refutation.specs.declared.reasoning.Fact.{Fact}
 use Rattle.refutation.specs.declared.reasoning.Fact.TheVariants.{Good}
-use Rattle.refutation_check.specs.Notes.{HasMore, Notes, held_of}
-use Rattle.refutation_check.specs.Standing.{Climb, IsClimbing, Moves, left_in, left_of, others_of}
+use Rattle.refutation_check.specs.Inner.Notes.{HasMore, Notes, held_of}
+use Rattle.refutation_check.specs.Inner.Standing.{Climb, IsClimbing, Moves, left_in, left_of, others_of}
 use Rattle.refutation_check.specs.declared.branches.Branches.{Branches}
 use Rattle.refutation_check.specs.declared.branches.Pending.{Pending}
 use Rattle.refutation_check.specs.declared.trail.HeldFact.{HeldFact}

@@ -11,7 +11,8 @@ use Rattle.refutation.specs.declared.items.Item.{Item}
 use Rattle.refutation.specs.declared.items.Item.TheVariants.{Clash, Here, Line, Quiet, Split, Untried}
 use Rattle.refutation.specs.declared.reasoning.Fact.TheVariants.{Good}
 use Rattle.refutation_check.specs.FirstRefusal.{IsAcceptedAs}
-use Rattle.refutation_check.specs.Shapes.{IsSmall, heres_among}
+use Rattle.refutation_check.specs.Shapes.{heres_among}
+use Rattle.refutation_check.specs.Inner.Shapes.{IsSmall}
 use Rattle.rm_base.specs.declared.numbers.Fault.{Fault}
 
 -- what is counted in two lists is counted in one after the other

@@ -13,7 +13,7 @@ use Rattle.refutation.specs.declared.items.Form.{Form}
 use Rattle.refutation.specs.declared.items.Form.TheVariants.{Closed, Partial}
 use Rattle.refutation.specs.declared.reasoning.Fact.{Fact}
 use Rattle.refutation_check.proofs.Quiets.{live_within}
-use Rattle.refutation_check.specs.Standing.{MaySplitKind}
+use Rattle.refutation_check.specs.Inner.Standing.{MaySplitKind}
 
 -- no fact is held beyond the marks
 none_beyond : (marks : List NodeFacts) (x : ℕ) (fact : Fact) → length marks ≤ x → held_by marks x fact ≡ false

@@ -10,7 +10,7 @@ use Rattle.refutation.specs.Facts.{Held, none_held, same_fact, with_fact, withou
 use Rattle.refutation.proofs.Public.{same_fact_true}
 use Rattle.refutation.specs.declared.held.NodeFacts.{NodeFacts}
 use Rattle.refutation.specs.declared.reasoning.Fact.{Fact}
-use Rattle.refutation_check.specs.Notes.{AreNew, IsTrail, held_from, held_of}
+use Rattle.refutation_check.specs.Inner.Notes.{AreNew, IsTrail, held_from, held_of}
 use Rattle.refutation_check.specs.declared.trail.HeldFact.{HeldFact}
 
 pub held_from-push : (held : Held) (t : List HeldFact) (e : HeldFact) → held_from held (t ++ e ∷ []) ≡ with_fact (held_from held t) e.node.0 e.fact

@@ -8,8 +8,8 @@ use Rattle.refutation.specs.declared.items.Item.{Item}
 use Rattle.refutation.specs.declared.items.Item.TheVariants.{Clash, Here, Line, Quiet, Split, Untried}
 use Rattle.refutation_check.proofs.Branchings.{open_left, stopped_left}
 use Rattle.refutation_check.specs.FirstRefusal.{IsRefused}
-use Rattle.refutation_check.specs.Notes.{held_of}
-use Rattle.refutation_check.specs.Standing.{left_of, others_of}
+use Rattle.refutation_check.specs.Inner.Notes.{held_of}
+use Rattle.refutation_check.specs.Inner.Standing.{left_of, others_of}
 use Rattle.refutation_check.specs.declared.branches.Branches.{Branches}
 use Rattle.refutation_check.specs.declared.refusals.CheckRefusal.{CheckRefusal}
 use Rattle.refutation_check.specs.declared.refusals.CheckRefusal.TheVariants.{BadSplit, Shape}

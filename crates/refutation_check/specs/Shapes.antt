@@ -1,8 +1,6 @@
 -- How large a tree is.
-use Rattle.std.specs.Prelude.{List, [], length, suc, ℕ, ◌*◌, ◌-◌, ◌∷◌, ◌≡◌, ◌≤◌}
+use Rattle.std.specs.Prelude.{List, [], suc, ℕ, ◌*◌, ◌-◌, ◌∷◌, ◌≡◌}
 use Rattle.refutation.specs.Stack.{splits_among, untrieds_among}
-use Rattle.refutation.specs.declared.items.Form.{Form}
-use Rattle.refutation.specs.declared.items.Form.TheVariants.{Closed, Partial}
 use Rattle.refutation.specs.declared.items.Item.{Item}
 use Rattle.refutation.specs.declared.items.Item.TheVariants.{Here}
 use Rattle.refutation.specs.declared.items.Shape.{Shape}
@@ -17,15 +15,3 @@ pub record IsShapeOf (items : List Item) (s : Shape) : Type 0 where
   pub edges : s.edges ≡ 2 * splits_among items - untrieds_among items
   pub here : s.here ≡ heres_among items
   pub untried : s.untried ≡ untrieds_among items
-
--- how many Heres a tree of the form has
-abbrev pub heres_in : Form → ℕ
-heres_in Closed = 0
-heres_in Partial = 1
-
--- what holds of the items of a tree that is accepted in the form
-pub record IsSmall (form : Form) (items : List Item) : Type 0 where
-  pub splits : 2 * splits_among items ≤ length items
-  pub fewer : untrieds_among items ≤ splits_among items
-  pub untrieds : untrieds_among items ≤ 4294967295
-  pub heres : heres_among items ≡ heres_in form

@@ -4,8 +4,8 @@ ghost use Rattle.refutation.specs.Facts.{none_held, with_fact};
 ghost use Rattle.refutation.specs.Stack.{Due, MayEnd, no_tree, tree, untried_for};
 ghost use Rattle.refutation.specs.declared.items.Form.TheVariants.{Partial};
 ghost use Rattle.refutation.specs.declared.reasoning.Fact.TheVariants.{Good};
-ghost use Rattle.refutation_check.specs.Notes.{held_of};
-ghost use Rattle.refutation_check.specs.Standing.{IsClimbing, Moves, left_of, others_of, split_left};
+ghost use Rattle.refutation_check.specs.Inner.Notes.{held_of};
+ghost use Rattle.refutation_check.specs.Inner.Standing.{IsClimbing, Moves, left_of, others_of, split_left};
 ghost use Rattle.refutation_check.specs.declared.refusals.CheckRefusal.TheVariants as refusal;
 
 use crate::refusals::CheckRefusal;

@@ -8,8 +8,8 @@ ghost use Rattle.refutation.specs.Stack.{AreReadToEnd, tree};
 ghost use Rattle.refutation.specs.declared.items.Form.TheVariants.{Closed};
 ghost use Rattle.refutation_check.specs.FirstRefusal.{IsAcceptedAs, IsFirstRefusal};
 ghost use Rattle.refutation_check.specs.Shapes.{IsShapeOf};
-ghost use Rattle.refutation_check.specs.Standing.{left_of};
-ghost use Rattle.refutation_check.specs.Walks.{IsWalk};
+ghost use Rattle.refutation_check.specs.Inner.Standing.{left_of};
+ghost use Rattle.refutation_check.specs.Inner.Walks.{IsWalk};
 ghost use Rattle.refutation_check.specs.declared.refusals.CheckRefusal.{CheckRefusal};
 ghost use Rattle.refutation_check.specs.declared.refusals.CheckRefusal.TheVariants as refusal;
 

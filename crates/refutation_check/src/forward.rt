@@ -8,7 +8,7 @@ ghost use Rattle.refutation.specs.Facts.{known_good};
 ghost use Rattle.refutation.specs.Lines.{IsQuiet};
 ghost use Rattle.ternary_sim.specs.Marks.{seen};
 ghost use Rattle.ternary_sim.specs.Sims.{Fits};
-ghost use Rattle.refutation_check.specs.Kept.{FitsIfKept};
+ghost use Rattle.refutation_check.specs.Inner.Kept.{FitsIfKept};
 
 use gate_graph::{Graph, Question};
 use refutation::{Fact, FactSet};

@@ -9,8 +9,8 @@ ghost use Rattle.refutation.specs.Sites.{Serves};
 ghost use Rattle.refutation.specs.Stack.{MaySplitIn, tree};
 ghost use Rattle.rm_base.specs.declared.numbers.Fault.{Fault};
 ghost use Rattle.refutation.specs.declared.items.Item.TheVariants as item;
-ghost use Rattle.refutation_check.specs.Standing.{IsClimbing, MaySplitKind, left_of};
-ghost use Rattle.refutation_check.specs.Walks.{Goes, IsWalk, Stops};
+ghost use Rattle.refutation_check.specs.Inner.Standing.{IsClimbing, MaySplitKind, left_of};
+ghost use Rattle.refutation_check.specs.Inner.Walks.{Goes, IsWalk, Stops};
 
 use crate::branches::Branches;
 use crate::forward::is_quiet;

@@ -1,7 +1,8 @@
 // How large an accepted tree is.
 ghost use Rattle.std.specs.Prelude.{◌≡◌, ◌≤◌, length};
 ghost use Rattle.refutation.specs.Stack.{splits_among, untrieds_among};
-ghost use Rattle.refutation_check.specs.Shapes.{IsShapeOf, IsSmall};
+ghost use Rattle.refutation_check.specs.Shapes.{IsShapeOf};
+ghost use Rattle.refutation_check.specs.Inner.Shapes.{IsSmall};
 
 use refutation::{Form, Item, Shape};
 

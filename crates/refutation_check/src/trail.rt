@@ -3,7 +3,7 @@ ghost use Rattle.std.specs.Prelude.{◌≡◌, ◌<◌, ◌≤◌, [], IfOk, OnO
 ghost use Rattle.gate_graph.specs.Circuit.{net_of};
 ghost use Rattle.refutation.specs.FactSets.{held_by};
 ghost use Rattle.refutation.specs.Facts.{with_fact};
-ghost use Rattle.refutation_check.specs.Notes.{HasMore, IsTrail, held_of};
+ghost use Rattle.refutation_check.specs.Inner.Notes.{HasMore, IsTrail, held_of};
 
 use gate_graph::Graph;
 use refutation::{Fact, FactSet};
@@ -26,12 +26,12 @@ pub(crate) struct Trail {
 }
 
 impl Model for Trail {
-    ghost use Rattle.refutation_check.specs.Notes.{Notes};
+    ghost use Rattle.refutation_check.specs.Inner.Notes.{Notes};
 
     ghost Value = { Notes };
 
     ghost use Rattle.std.specs.Prelude.{length};
-    ghost use Rattle.refutation_check.specs.Notes.{IsTrail};
+    ghost use Rattle.refutation_check.specs.Inner.Notes.{IsTrail};
 
     ghost view = { λ t. record { numbers = length t.facts; entries = t.entries.items } };
 

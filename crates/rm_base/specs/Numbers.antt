@@ -1,18 +1,9 @@
 -- The numbers of nodes and of pins.
-use Rattle.std.specs.Prelude.{ℕ, Bool, true, false, List, map}
-use Rattle.rm_base.specs.declared.numbers.NodeId.{NodeId}
+use Rattle.std.specs.Prelude.{ℕ, Bool, true, false}
 
 -- no node and no pin has this number or a greater one, and there are at most so many of either
 abbrev pub number_bound : ℕ
 number_bound = 4294967295
-
--- the numbers of nodes
-abbrev pub numbers_of : List NodeId → List ℕ
-numbers_of nodes = map (λ (n : NodeId). n.0) nodes
-
--- the node that stands where there is none
-abbrev pub default_node : NodeId
-default_node = record { 0 = 0 }
 
 -- 1 where it holds
 abbrev pub one_if : Bool → ℕ

@@ -7,7 +7,8 @@ use Rattle.std.proofs.lemmas.Bool.{and_parts, false_from_ne_true}
 use Rattle.rm_model.specs.Words.{is_word}
 use Rattle.rm_model.specs.Value.{is_among, outputs_of}
 use Rattle.rm_model.specs.WellFormed.{is_distinct}
-use Rattle.rm_model.specs.Numbers.{place_of, drivers_of, rank_over}
+use Rattle.rm_model.specs.Numbers.{place_of}
+use Rattle.rm_model.specs.Inner.Numbers.{drivers_of, rank_over}
 use Rattle.rm_model.specs.Ranks.{cover_of, rank_at, higher, rank_by}
 use Rattle.rm_model.specs.declared.parts.Cover.{Cover}
 use Rattle.rm_model.specs.declared.parts.Model.{Model}

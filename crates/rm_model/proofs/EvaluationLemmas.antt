@@ -8,8 +8,8 @@ use Rattle.std.proofs.lemmas.Bool.{false_from_ne_true}
 use Rattle.rm_model.specs.Value.{is_among, value_of, outputs_of}
 use Rattle.rm_model.specs.WellFormed.{is_distinct, IsWellFormedCover}
 use Rattle.rm_model.specs.Ranks.{cover_of}
-use Rattle.rm_model.specs.Numbers.{drivers_of}
-use Rattle.rm_model.specs.Search.{list_at, IsIn, IsOrder}
+use Rattle.rm_model.specs.Inner.Numbers.{drivers_of}
+use Rattle.rm_model.specs.Inner.Search.{list_at, IsIn, IsOrder}
 use Rattle.rm_model.specs.declared.parts.Cover.{Cover}
 use Rattle.rm_model.proofs.CoverLemmas.{among-at, at-among, output-at, drives-own, distinct-right}
 use Rattle.rm_model.proofs.NameLemmas.{among-append, among-left, among-right, distinct-apart, same-place, in-filter_map}

@@ -6,7 +6,8 @@ use Rattle.std.proofs.lemmas.List.{take_more, take-append-drop}
 use Rattle.std.proofs.lemmas.Bool.{and_parts, false_from_ne_true}
 use Rattle.rm_model.specs.Words.{is_word}
 use Rattle.rm_model.specs.Value.{is_among}
-use Rattle.rm_model.specs.WellFormed.{driven_names, ends_in_backslash, is_distinct, is_token, names_of, used_names, AreFormed, AreOnce, IsWellFormed}
+use Rattle.rm_model.specs.WellFormed.{driven_names, ends_in_backslash, is_distinct, is_token, names_of, used_names, IsWellFormed}
+use Rattle.rm_model.specs.Inner.WellFormed.{AreFormed, AreOnce}
 use Rattle.rm_model.specs.declared.parts.Model.{Model}
 use Rattle.rm_model.proofs.CoverLemmas.{same_word, is_word-same, among-at}
 use Rattle.rm_model.proofs.NameLemmas.{distinct-apart}

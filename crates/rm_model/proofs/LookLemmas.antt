@@ -4,7 +4,7 @@ use Rattle.std.specs.Prelude.{slice_get, is_some, Result, Ok, Err, OnOk}
 use Rattle.std.proofs.lemmas.Option.{slice_get-get_or, get_or_from_slice_get, slice_get_within}
 use Rattle.std.proofs.lemmas.Bool.{cases_lt}
 use Rattle.rm_model.specs.Ranks.{rank_at}
-use Rattle.rm_model.specs.Search.{list_at, State, HasRank, AllowsRank, IsSound, IsSettled, AreKnown, waiting_for, with_rank, woken, LeadsTo}
+use Rattle.rm_model.specs.Inner.Search.{list_at, State, HasRank, AllowsRank, IsSound, IsSettled, AreKnown, waiting_for, with_rank, woken, LeadsTo}
 use Rattle.rm_model.specs.declared.rank_search.Looked.{Looked}
 use Rattle.rm_model.proofs.SearchLemmas.{waiting_for-leads, waiting_for-settled, with_rank-leads, with_rank-settled, woken-settled}
 

@@ -5,8 +5,8 @@ use Rattle.std.specs.List.{flat_map, filter_map}
 use Rattle.rm_model.specs.Value.{is_among, source_names, observed_names, control_of, IsConsistent, outputs_of}
 use Rattle.rm_model.specs.WellFormed.{is_distinct, driven_names, IsWellFormed}
 use Rattle.rm_model.specs.Ranks.{rank_at, ranks_of, first_without_rank}
-use Rattle.rm_model.specs.Numbers.{IsFixed}
-use Rattle.rm_model.specs.Search.{State, IsIn, IsOrder, IsSound}
+use Rattle.rm_model.specs.Inner.Numbers.{IsFixed}
+use Rattle.rm_model.specs.Inner.Search.{State, IsIn, IsOrder, IsSound}
 use Rattle.rm_model.specs.declared.parts.Cover.{Cover}
 use Rattle.rm_model.specs.declared.parts.Latch.{Latch}
 use Rattle.rm_model.specs.declared.parts.Model.{Model}

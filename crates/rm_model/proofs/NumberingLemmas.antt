@@ -8,9 +8,11 @@ use Rattle.std.proofs.lemmas.Bool.Decides.{Decides-ltb}
 use Rattle.rm_model.specs.Words.{is_word}
 use Rattle.rm_model.specs.Value.{control_of, is_among, observed_names, source_names, outputs_of}
 use Rattle.rm_model.specs.WellFormed.{driven_names, is_distinct, used_names, IsWellFormed}
-use Rattle.rm_model.specs.Numbers.{drivers_of, place_of, rank_over, IsFixed}
+use Rattle.rm_model.specs.Numbers.{place_of}
+use Rattle.rm_model.specs.Inner.Numbers.{drivers_of, rank_over, IsFixed}
 use Rattle.rm_model.specs.Ranks.{cover_of}
-use Rattle.rm_model.specs.Signals.{cover_at, AreNumbers}
+use Rattle.rm_model.specs.Signals.{AreNumbers}
+use Rattle.rm_model.specs.Inner.Signals.{cover_at}
 use Rattle.rm_model.specs.declared.parts.Cover.{Cover}
 use Rattle.rm_model.specs.declared.parts.Latch.{Latch}
 use Rattle.rm_model.specs.declared.parts.Model.{Model}

@@ -14,7 +14,7 @@ use Rattle.rm_model.proofs.RankLaws.{rank_from, picked, at_next, ranks_are_fixed
 use Rattle.rm_model.proofs.CoverLemmas.{drives-of, some-drives, is-driven, drives-own, distinct-right}
 use Rattle.rm_base.proofs.Public.{all_at, all_from_places}
 use Rattle.rm_base.specs.Words.{Word}
-use Rattle.rm_model.specs.Search.{HasRank}
+use Rattle.rm_model.specs.Inner.Search.{HasRank}
 
 higher-some : (a b : Option ℕ) → HasRank a → HasRank b → HasRank (higher a b)
 higher-some a b p q = (max p.0 q.0, rw (p.1, q.1) refl)

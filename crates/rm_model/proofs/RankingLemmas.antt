@@ -7,8 +7,8 @@ use Rattle.std.proofs.lemmas.List.{length-map, get_or-map}
 use Rattle.std.proofs.lemmas.Option.{slice_get_cases, slice_get_within}
 use Rattle.std.proofs.Math.ListN.{get_or-eq_default}
 use Rattle.rm_model.specs.Ranks.{cover_of, rank_at, rank_by, ranks_of}
-use Rattle.rm_model.specs.Numbers.{drivers_of, rank_over, IsFixed}
-use Rattle.rm_model.specs.Search.{list_at, IsIn, AreKnown}
+use Rattle.rm_model.specs.Inner.Numbers.{drivers_of, rank_over, IsFixed}
+use Rattle.rm_model.specs.Inner.Search.{list_at, IsIn, AreKnown}
 use Rattle.rm_model.specs.declared.parts.Cover.{Cover}
 use Rattle.rm_model.specs.declared.parts.Model.{Model}
 use Rattle.rm_model.proofs.CoverLemmas.{drives-of}

@@ -8,8 +8,8 @@ use Rattle.std.proofs.lemmas.Bool.{cases_eq, cases_lt}
 use Rattle.std.proofs.lemmas.List.{get_or-map, length-replicate}
 use Rattle.std.proofs.lemmas.Option.{slice_get_within}
 use Rattle.rm_model.specs.Ranks.{rank_at}
-use Rattle.rm_model.specs.Numbers.{rank_over}
-use Rattle.rm_model.specs.Search.{list_at, known_count, State, HasRank, IsIn, AllowsRank, IsSound, IsSettled, waiting_for, with_rank, woken, start, LeadsTo}
+use Rattle.rm_model.specs.Inner.Numbers.{rank_over}
+use Rattle.rm_model.specs.Inner.Search.{list_at, known_count, State, HasRank, IsIn, AllowsRank, IsSound, IsSettled, waiting_for, with_rank, woken, start, LeadsTo}
 use Rattle.rm_model.specs.declared.rank_search.Looked.{Looked}
 use Rattle.rm_model.proofs.RankLaws.{Below, parts_of, higher_parts, at_replicate, same_list, length_map}
 use Rattle.rm_model.proofs.PlaceLemmas.{get-set, written}

@@ -5,7 +5,8 @@ use Rattle.std.specs.List.{list_any, flat_map, filter_map}
 use Rattle.std.specs.Option.{option_map}
 use Rattle.std.proofs.lemmas.Bool.{and_parts, false_from_ne_true}
 use Rattle.rm_model.specs.Words.{is_word}
-use Rattle.rm_model.specs.Value.{is_among, source_names, value_of, IsConsistent, IsRanked, is_cover_output, control_of, outputs_of, rank_bound, assigned_value}
+use Rattle.rm_model.specs.Value.{is_among, source_names, value_of, IsConsistent, IsRanked, is_cover_output, control_of, outputs_of}
+use Rattle.rm_model.specs.Inner.Value.{rank_bound, assigned_value}
 use Rattle.rm_model.specs.Ranks.{cover_of}
 use Rattle.rm_model.specs.WellFormed.{is_distinct, driven_names, IsWellFormed}
 use Rattle.rm_model.specs.declared.parts.Cover.{Cover}

@@ -3,10 +3,7 @@ pub mod Value
 pub mod Ranks
 pub mod WellFormed
 pub mod Numbers
-pub mod PlacedNames
-pub mod Search
-pub mod SearchView
 pub mod RankFaults
 pub mod Size
 pub mod Signals
-pub mod RankedInside
+pub mod Inner

@@ -1,5 +1,5 @@
 -- The rank of each cover: 0 where it reads sources alone, and otherwise one more than the greatest rank of the covers that it reads.
-use Rattle.std.specs.Prelude.{◌≡◌, ℕ, zero, suc, is_none, List, [], ◌∷◌, map, length, max, position, Option, None, Some, slice_index_or, if◌then◌else◌, replicate, slice_get}
+use Rattle.std.specs.Prelude.{◌≡◌, ℕ, zero, suc, is_none, List, [], ◌∷◌, map, length, max, position, Option, None, Some, slice_index_or, if◌then◌else◌, replicate}
 use Rattle.std.specs.Option.{option_map}
 use Rattle.rm_model.specs.Words.{is_word}
 use Rattle.rm_model.specs.declared.parts.Cover.{Cover}
@@ -10,12 +10,6 @@ use Rattle.rm_base.specs.Words.{Word}
 abbrev pub cover_of : List Cover → Word → Option ℕ
 cover_of [] x = None
 cover_of (c ∷ cs) x = if is_word x c.output then Some 0 else option_map (λ k. suc k) (cover_of cs x)
-
--- the cover at that place has the name as its output
-pub record Drives (cs : List Cover) (x : Word) (k : ℕ) : Type 0 where
-  pub cover : Cover
-  pub there : slice_get cs k ≡ Some cover
-  pub drives : x ≡ cover.output
 
 -- the greater of two ranks, if both are there
 abbrev pub higher : Option ℕ → Option ℕ → Option ℕ

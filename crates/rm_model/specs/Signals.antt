@@ -1,5 +1,5 @@
 -- Signals by number: the place of a name among the names that a model drives, which are its sources and then the outputs of its covers.
-use Rattle.std.specs.Prelude.{◌≡◌, ◌-◌, ℕ, List, map, Option, None, Some, nat_lt, if◌then◌else◌}
+use Rattle.std.specs.Prelude.{◌≡◌, ℕ, List, map, Some}
 use Rattle.rm_model.specs.Numbers.{place_of}
 use Rattle.rm_model.specs.Value.{observed_names}
 use Rattle.rm_model.specs.WellFormed.{driven_names}
@@ -14,7 +14,3 @@ AreSignals names xs ks = map (λ k. Some k) ks ≡ map (place_of names) xs
 pub record AreNumbers (m : Model) (inputs : List (List ℕ)) (observed : List ℕ) : Type 0 where
   pub inputs_are : map (λ ks. map (λ k. Some k) ks) inputs ≡ map (λ c. map (place_of (driven_names m)) c.inputs) m.covers
   pub observed_are : AreSignals (driven_names m) (observed_names m) observed
-
--- the place of the cover that drives a signal, behind so many sources
-abbrev pub cover_at : ℕ → ℕ → Option ℕ
-cover_at sources k = if nat_lt k sources then None else Some (k - sources)

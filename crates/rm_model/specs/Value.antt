@@ -1,5 +1,5 @@
 -- What a model means: sources, observed points, the value of a cover, consistent valuations.
-use Rattle.std.specs.Prelude.{◌≡◌, ◌<◌, ℕ, Bool, true, false, not, List, [], ◌∷◌, ◌++◌, map, filter, All, Option, None, Some, max, suc}
+use Rattle.std.specs.Prelude.{◌≡◌, ◌<◌, ℕ, Bool, true, false, not, List, [], ◌∷◌, ◌++◌, map, filter, All, Option, None, Some}
 use Rattle.std.specs.Prelude.{if◌then◌else◌}
 use Rattle.std.specs.List.{list_any, list_all, filter_map, zip}
 use Rattle.rm_model.specs.Words.{is_word}
@@ -44,12 +44,6 @@ value_of c bs = value_of_rows c.rows c.on bs
 abbrev pub IsConsistent : Model → (Word → Bool) → Type 0
 IsConsistent m v = All (λ (c : Cover). v c.output ≡ value_of c (map v c.inputs)) m.covers
 
--- the value at the place of a name in the list of names, and false where it has none
-abbrev pub assigned_value : List Word → List Bool → Word → Bool
-assigned_value [] bs x = false
-assigned_value (y ∷ ys) [] x = false
-assigned_value (y ∷ ys) (b ∷ bs) x = if is_word x y then b else assigned_value ys bs x
-
 abbrev pub is_cover_output : Model → Word → Bool
 is_cover_output m x = list_any (λ (c : Cover). is_word x c.output) m.covers
 
@@ -60,11 +54,6 @@ outputs_of cs = map (λ (c : Cover). c.output) cs
 -- each cover has a greater number than the covers that it reads
 abbrev pub IsRanked : Model → Type 0
 IsRanked m = (rank : Word → ℕ) × All (λ (c : Cover). All (λ x. is_cover_output m x ≡ true → rank x < rank c.output) c.inputs) m.covers
-
--- a number above the ranks of all covers
-abbrev pub rank_bound : (Word → ℕ) → List Cover → ℕ
-rank_bound rank [] = 0
-rank_bound rank (c ∷ cs) = max (suc (rank c.output)) (rank_bound rank cs)
 
 pub record Equivalent (m n : Model) : Type 0 where
   pub name : m.name ≡ n.name

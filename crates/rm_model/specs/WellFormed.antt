@@ -48,10 +48,3 @@ pub record IsWellFormed (m : Model) : Type 0 where
   pub covers : All IsWellFormedCover m.covers
   pub inits : All (λ (l : Latch). IfSome l.init (λ n. n ≤ 3)) m.latches
   pub controls : All (λ (l : Latch). IfSome (control_of l) (λ x. x ≢ codes "NIL")) m.latches
-
--- the parts of it
-abbrev pub AreOnce : Model → Type 0
-AreOnce m = (is_distinct m.inputs ≡ true) × (is_distinct m.clocks ≡ true) × (is_distinct m.outputs ≡ true) × (is_distinct (driven_names m) ≡ true)
-
-abbrev pub AreFormed : Model → Type 0
-AreFormed m = All IsWellFormedCover m.covers × All (λ (l : Latch). IfSome l.init (λ n. n ≤ 3)) m.latches × All (λ (l : Latch). IfSome (control_of l) (λ x. x ≢ codes "NIL")) m.latches

@@ -1,7 +1,8 @@
 // The covers that each cover reads, by their places.
 ghost use Rattle.std.specs.Prelude.{◌≡◌, ◌^◌, ◌<◌, true, length, map, IfOk};
 ghost use Rattle.std.specs.List.{filter_map};
-ghost use Rattle.rm_model.specs.Numbers.{drivers_of, place_of};
+ghost use Rattle.rm_model.specs.Numbers.{place_of};
+ghost use Rattle.rm_model.specs.Inner.Numbers.{drivers_of};
 ghost use Rattle.rm_model.specs.WellFormed.{is_distinct};
 
 use crate::name_table::NameTable;

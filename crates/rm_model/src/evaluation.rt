@@ -1,9 +1,9 @@
 // The values of a model's names for given values of its sources.
 ghost use Rattle.std.specs.Prelude.{◌≡◌, ◌^◌, ◌<◌, ◌++◌, ◌∷◌, [], All, Bool, IfErr, IfOk, None, OnOk, Option, false, length, map, true, ℕ};
-ghost use Rattle.rm_model.specs.Numbers.{drivers_of};
+ghost use Rattle.rm_model.specs.Inner.Numbers.{drivers_of};
 ghost use Rattle.rm_model.specs.RankFaults.{IsRefused};
 ghost use Rattle.rm_model.specs.Ranks.{first_without_rank};
-ghost use Rattle.rm_model.specs.Search.{list_at, IsIn, IsOrder};
+ghost use Rattle.rm_model.specs.Inner.Search.{list_at, IsIn, IsOrder};
 ghost use Rattle.rm_model.specs.Value.{is_among, observed_names, source_names, value_of, IsConsistent};
 ghost use Rattle.rm_model.specs.WellFormed.{is_distinct, IsWellFormed, IsWellFormedCover};
 ghost use Rattle.rm_base.specs.Words.{Word};

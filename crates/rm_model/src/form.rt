@@ -2,7 +2,8 @@
 ghost use Rattle.std.specs.Prelude.{◌≡◌, ◌&&◌, ◌≢◌, ◌≤◌, ◌++◌, ◌↔◌, All, IfOk, IfSome, IsTrue, OnOk, codes, length, map};
 ghost use Rattle.std.specs.List.{flat_map, list_all};
 ghost use Rattle.rm_model.specs.Value.{control_of, is_among};
-ghost use Rattle.rm_model.specs.WellFormed.{driven_names, ends_in_backslash as has_last_backslash, is_distinct, is_token as token, names_of, used_names, AreFormed, AreOnce, IsWellFormed, IsWellFormedCover};
+ghost use Rattle.rm_model.specs.WellFormed.{driven_names, ends_in_backslash as has_last_backslash, is_distinct, is_token as token, names_of, used_names, IsWellFormed, IsWellFormedCover};
+ghost use Rattle.rm_model.specs.Inner.WellFormed.{AreFormed, AreOnce};
 ghost use Rattle.rm_base.specs.Words.{is_word_byte as word_byte};
 
 use crate::name_table::NameTable;

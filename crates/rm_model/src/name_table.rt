@@ -2,7 +2,7 @@
 ghost use Rattle.std.specs.Prelude.{◌≡◌, ◌^◌, ◌<◌, [], ◌∷◌, ◌++◌, length, map, false, is_some, OnOk, OnErr, IfSome, ◌||◌, List, ℕ};
 ghost use Rattle.rm_model.specs.Value.{is_among};
 ghost use Rattle.rm_model.specs.Numbers.{place_of};
-ghost use Rattle.rm_model.specs.PlacedNames.{mixed, name_hash};
+ghost use Rattle.rm_model.specs.Inner.PlacedNames.{mixed, name_hash};
 ghost use Rattle.rm_model.specs.Words.{is_word};
 
 use rm_base::NoMemory;
@@ -42,7 +42,7 @@ impl<'a> Model for NameTable<'a> {
 
     ghost Value = { List (List ℕ) };
 
-    ghost use Rattle.rm_model.specs.PlacedNames.{added_names, IsPlaced};
+    ghost use Rattle.rm_model.specs.Inner.PlacedNames.{added_names, IsPlaced};
 
     ghost view = { added_names };
 

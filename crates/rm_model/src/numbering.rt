@@ -2,7 +2,8 @@
 ghost use Rattle.std.specs.Prelude.{◌≡◌, ◌<◌, ◌+◌, ◌^◌, ◌++◌, length, map, true, OnOk, IfOk, Some};
 ghost use Rattle.std.specs.List.{filter_map, list_all};
 ghost use Rattle.rm_model.specs.Numbers.{place_of};
-ghost use Rattle.rm_model.specs.Signals.{cover_at as cover_place, AreNumbers, AreSignals};
+ghost use Rattle.rm_model.specs.Signals.{AreNumbers, AreSignals};
+ghost use Rattle.rm_model.specs.Inner.Signals.{cover_at as cover_place};
 ghost use Rattle.rm_model.specs.Value.{is_among, observed_names, source_names};
 ghost use Rattle.rm_model.specs.WellFormed.{driven_names, is_distinct, IsWellFormed};
 

@@ -2,9 +2,9 @@
 // rank yet.
 ghost use Rattle.std.specs.Prelude.{◌≡◌, ◌^◌, ◌<◌, ◌≤◌, ℕ, [], ◌∷◌, ◌++◌, length, map, take, IfOk, OnOk, Some, None, Option, slice_set, All, slice_index, slice_index_or, is_some, ◌+◌, slice_get, replicate};
 ghost use Rattle.rm_model.specs.Ranks.{rank_at};
-ghost use Rattle.rm_model.specs.Numbers.{rank_over};
-ghost use Rattle.rm_model.specs.Search.{list_at, start, waiting_for, with_rank, AllowsRank, AreKnown, IsSettled, IsSound, LeadsTo};
-ghost use Rattle.rm_model.specs.SearchView.{state_of};
+ghost use Rattle.rm_model.specs.Inner.Numbers.{rank_over};
+ghost use Rattle.rm_model.specs.Inner.Search.{list_at, start, waiting_for, with_rank, AllowsRank, AreKnown, IsSettled, IsSound, LeadsTo};
+ghost use Rattle.rm_model.specs.Inner.SearchView.{state_of};
 
 use rm_base::NoMemory;
 use std::alloc::Global;

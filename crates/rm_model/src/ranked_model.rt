@@ -25,7 +25,7 @@ impl Model for RankedModel {
 
     ghost Value = { ModelValue };
 
-    ghost use Rattle.rm_model.specs.RankedInside.{IsRankedInside};
+    ghost use Rattle.rm_model.specs.Inner.RankedInside.{IsRankedInside};
 
     ghost view = { λ r. r.model };
 

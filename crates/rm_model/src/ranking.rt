@@ -3,9 +3,9 @@ ghost use Rattle.std.specs.Prelude.{◌≡◌, ◌^◌, ◌<◌, length, map, po
 ghost use Rattle.rm_model.specs.Ranks.{first_without_rank, ranks_of, AreRanks};
 ghost use Rattle.rm_model.specs.RankFaults.{IsRefused};
 ghost use Rattle.rm_model.specs.declared.ranking.RankFault.TheVariants.{NoMemory};
-ghost use Rattle.rm_model.specs.Search.{IsSound};
-ghost use Rattle.rm_model.specs.SearchView.{state_of};
-ghost use Rattle.rm_model.specs.Numbers.{drivers_of, IsFixed};
+ghost use Rattle.rm_model.specs.Inner.Search.{IsSound};
+ghost use Rattle.rm_model.specs.Inner.SearchView.{state_of};
+ghost use Rattle.rm_model.specs.Inner.Numbers.{drivers_of, IsFixed};
 ghost use Rattle.rm_model.specs.Signals.{AreNumbers};
 ghost use Rattle.rm_model.specs.Value.{source_names};
 ghost use Rattle.rm_model.specs.WellFormed.{is_distinct, IsWellFormed};

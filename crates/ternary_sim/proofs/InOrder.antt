@@ -15,7 +15,7 @@ use Rattle.gate_looks.proofs.Public.{live_below, reader_live}
 use Rattle.gate_looks.specs.Pins.{AreBelow}
 use Rattle.rm_base.specs.declared.numbers.Fault.{Fault}
 use Rattle.ternary_sim.specs.Marks.{IsReadAt, equal_at, faulty_at, good_at, mark_at, marking, no_marks}
-use Rattle.ternary_sim.specs.Sims.{AreRead, IsMarked}
+use Rattle.ternary_sim.specs.Inner.Sims.{AreRead, IsMarked}
 use Rattle.ternary_sim.specs.declared.marks.NodeMarks.{NodeMarks}
 use Rattle.rm_base.proofs.Public.{map_agree, slice_get_below}
 

@@ -15,7 +15,7 @@ use Rattle.rm_base.specs.declared.vectors.Value3.{Value3}
 use Rattle.rm_base.specs.declared.vectors.Value3.TheVariants.{Unknown}
 use Rattle.ternary_sim.proofs.InOrder.{IsWalk, all_read, mark_other}
 use Rattle.ternary_sim.specs.Marks.{known_source, marking, seen}
-use Rattle.ternary_sim.specs.Sims.{AreRead, IsMarked}
+use Rattle.ternary_sim.specs.Inner.Sims.{AreRead, IsMarked}
 use Rattle.ternary_sim.specs.declared.marks.NodeMarks.{NodeMarks}
 use Rattle.rm_base.proofs.Public.{map_found}
 

@@ -8,7 +8,8 @@ use Rattle.gate_net.specs.Forward.{MarksDetected, MarksQuiet}
 use Rattle.gate_net.specs.Net.{IsObserved, IsWellFormed, Net}
 use Rattle.gate_looks.proofs.Public.{live_below}
 use Rattle.ternary_sim.specs.Marks.{marking}
-use Rattle.ternary_sim.specs.Sheets.{AllEqual, SheetState, SomeDiffers, Watches}
+use Rattle.ternary_sim.specs.Sheets.{SheetState, Watches}
+use Rattle.ternary_sim.specs.Inner.Sheets.{AllEqual, SomeDiffers}
 
 front_seen : (watched : List Bool) (b : Bool) (x : ℕ) → x < length watched → slice_get (watched ++ b ∷ []) x ≡ slice_get watched x
 front_seen [] b x h = absurd (omega arith)

@@ -3,4 +3,4 @@ pub mod Sims
 pub mod Regions
 pub mod Sheets
 pub mod Tracking
-pub mod Settling
+pub mod Inner

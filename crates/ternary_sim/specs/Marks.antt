@@ -8,8 +8,6 @@ use Rattle.rm_base.specs.declared.numbers.Fault.{Fault}
 use Rattle.rm_base.specs.declared.vectors.Value3.{Value3}
 use Rattle.rm_base.specs.declared.vectors.Value3.TheVariants.{One, Unknown, Zero}
 use Rattle.ternary_sim.specs.declared.marks.NodeMarks.{NodeMarks}
-use Rattle.ternary_sim.specs.declared.marks.Reading.{Reading}
-use Rattle.ternary_sim.specs.declared.marks.Reading.TheVariants.{OfFaulty, OfGood}
 use Rattle.rm_base.specs.Numbers.{first_source}
 
 -- what is known of a value
@@ -33,10 +31,6 @@ faulty_at marks x = (mark_at marks x).faulty
 
 abbrev pub equal_at : List NodeMarks → ℕ → Bool
 equal_at marks x = (mark_at marks x).equal
-
-abbrev pub known_in : Reading → List NodeMarks → ℕ → Option Bool
-known_in OfGood marks x = good_at marks x
-known_in OfFaulty marks x = faulty_at marks x
 
 -- the marking by node number
 abbrev pub marking : List NodeMarks → Marking

@@ -3,7 +3,8 @@ ghost use Rattle.std.specs.Prelude.{◌≡◌, ◌<◌, ◌≤◌, length, map};
 ghost use Rattle.std.specs.List.{list_all};
 ghost use Rattle.gate_net.specs.Meaning.{kind_forward};
 ghost use Rattle.gate_looks.specs.Pins.{with_stuck, AreBelow};
-ghost use Rattle.ternary_sim.specs.Marks.{seen, equal_at, known_in};
+ghost use Rattle.ternary_sim.specs.Marks.{seen, equal_at};
+ghost use Rattle.ternary_sim.specs.Inner.Marks.{known_in};
 ghost use Rattle.rm_base.specs.Numbers.{number_bound};
 
 use gate_graph::Inputs;

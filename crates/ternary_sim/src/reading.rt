@@ -7,9 +7,10 @@ ghost use Rattle.gate_net.specs.Forward.{node_forward, is_idle, both_known_same}
 ghost use Rattle.gate_net.specs.declared.Kind.TheVariants.{Source};
 ghost use Rattle.gate_graph.specs.Circuit.{net_of};
 ghost use Rattle.gate_looks.specs.Pins.{AreBelow, with_stuck};
-ghost use Rattle.ternary_sim.specs.Marks.{IsReadAt, marking, known_source, known_in, good_at, equal_at};
+ghost use Rattle.ternary_sim.specs.Marks.{IsReadAt, marking, known_source, good_at, equal_at};
+ghost use Rattle.ternary_sim.specs.Inner.Marks.{known_in};
 ghost use Rattle.gate_graph.specs.Order.{IsOrder};
-ghost use Rattle.ternary_sim.specs.Sims.{IsMarked, AreRead};
+ghost use Rattle.ternary_sim.specs.Inner.Sims.{IsMarked, AreRead};
 
 use crate::marks::{NodeMarks, Reading, all_equal, known_value, value_from};
 use gate_graph::Graph;

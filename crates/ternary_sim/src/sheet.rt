@@ -2,8 +2,9 @@
 ghost use Rattle.std.specs.Prelude.{◌≡◌, ◌<◌, ◌+◌, ◌&&◌, ◌↔◌, IfOk, IsTrue, length, map, slice_set, true};
 ghost use Rattle.gate_graph.specs.Circuit.{net_of};
 ghost use Rattle.ternary_sim.specs.Marks.{mark_at};
-ghost use Rattle.ternary_sim.specs.Settling.{plain_marks};
-ghost use Rattle.ternary_sim.specs.Sheets.{AllEqual, SomeDiffers, Watches, is_different, is_open, one_if, watched_at, watched_count};
+ghost use Rattle.ternary_sim.specs.Inner.Settling.{plain_marks};
+ghost use Rattle.ternary_sim.specs.Sheets.{Watches};
+ghost use Rattle.ternary_sim.specs.Inner.Sheets.{AllEqual, SomeDiffers, is_different, is_open, one_if, watched_at, watched_count};
 
 use crate::marks::NodeMarks;
 use gate_graph::Graph;
@@ -27,7 +28,7 @@ impl Model for Sheet {
     ghost Value = { SheetState };
 
     ghost use Rattle.std.specs.Prelude.{◌≡◌};
-    ghost use Rattle.ternary_sim.specs.Sheets.{is_different, is_open, watched_count};
+    ghost use Rattle.ternary_sim.specs.Inner.Sheets.{is_different, is_open, watched_count};
 
     ghost view = { λ s. record { marks = s.marks.items; watched = s.watched.items } };
 

@@ -33,7 +33,7 @@ impl Model for Sim {
     ghost Value = { SimState };
 
     ghost use Rattle.std.specs.Prelude.{map};
-    ghost use Rattle.ternary_sim.specs.Sims.{IsMarked};
+    ghost use Rattle.ternary_sim.specs.Inner.Sims.{IsMarked};
 
     ghost view = { λ s. record { sources = s.sources.items; order = map (λ n. n.0) s.order.items; marks = s.marks.items } };
 

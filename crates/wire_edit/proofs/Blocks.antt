@@ -2,7 +2,7 @@
 use Rattle.std.proofs.Common.{◌≡◌, ℕ, zero, suc, ◌+◌, ◌*◌, ◌/◌, ◌<◌, ◌≤◌, Bool, true, false, inl, inr, List, [], ◌∷◌, length, sym, ◌∙◌, ap, subst, arith}
 use Rattle.std.specs.Prelude.{set}
 use Rattle.std.proofs.lemmas.Bool.{both_ways, cases_eq, cases_lt, false_from_ne_true}
-use Rattle.wire_edit.specs.Marked.{is_marked, IsBlocked}
+use Rattle.wire_edit.specs.Inner.Marked.{is_marked, IsBlocked}
 use Rattle.wire_edit.proofs.Marking.{marked_within, set_marked, set_other_mark, set_count, set_keeps}
 
 block_within : (k blocks count : ℕ) → k < count → count < 256 * blocks → k / 256 < blocks

@@ -3,7 +3,8 @@ use Rattle.std.proofs.Common.{◌≡◌, ℕ, zero, suc, ◌+◌, ◌≤◌, Opt
 use Rattle.std.specs.Prelude.{slice_set}
 use Rattle.gate_net.specs.Net.{Node, Net, drivers_in, drivers_of, IsGate, IsWellFormed, wire_count}
 use Rattle.gate_net.specs.Edits.{node_redirected}
-use Rattle.wire_edit.specs.Changes.{Change, append, remove, fix, readers, new_not, retire, changed, CanChange, with_least_free, without_node, pins_added, nodes_added}
+use Rattle.wire_edit.specs.Changes.{Change, append, remove, fix, readers, new_not, retire, changed, with_least_free, without_node}
+use Rattle.wire_edit.specs.Inner.Changes.{CanChange, pins_added, nodes_added}
 use Rattle.wire_edit.proofs.Totals.{total_gone}
 use Rattle.wire_edit.proofs.Working.{remove_wires, fix_wires, append_raises, moved_wires, new_raises}
 use Rattle.wire_edit.proofs.Editing.{length_trimmed}

@@ -3,7 +3,8 @@ use Rattle.std.proofs.Common.{◌≡◌, ◌≢◌, ℕ, zero, suc, ◌<◌, Opt
 use Rattle.std.specs.Prelude.{slice_get, slice_set}
 use Rattle.gate_net.specs.Net.{Node, flatten_option, before_dead, trimmed}
 use Rattle.gate_net.specs.Edits.{node_redirected}
-use Rattle.wire_edit.specs.Changes.{with_least_free, least_free}
+use Rattle.wire_edit.specs.Changes.{with_least_free}
+use Rattle.wire_edit.specs.Inner.Changes.{least_free}
 use Rattle.rm_base.proofs.Public.{set_other, set_there, tail_same}
 
 pub tail_canonical : (o : Option Node) (os : List (Option Node)) → trimmed (o ∷ os) ≡ o ∷ os → trimmed os ≡ os

@@ -8,11 +8,13 @@ use Rattle.gate_net.specs.declared.Kind.TheVariants.{Zero, One, Not}
 use Rattle.gate_net.specs.Net.{Node, Net, node_at, kind_in, drivers_of, Reads, IsKind, IsLive, IsGate, IsGateKind, IsAcyclic, IsRanked, HasConstants, IsWellFormed}
 use Rattle.gate_net.specs.Values.{same_bool, IsJunction}
 use Rattle.gate_net.specs.Paths.{Reaches, pin, on}
-use Rattle.gate_net.specs.Edits.{constant_node, constant_kind}
+use Rattle.gate_net.specs.Edits.{constant_node}
+use Rattle.gate_net.specs.Inner.Edits.{constant_kind}
 use Rattle.wire_edit.specs.declared.steps.Step.{Step}
 use Rattle.wire_edit.specs.declared.steps.Step.TheVariants.{Add, Fix, NewNot, Const, Same, NoPins, OnePin, Twice, Twin, Dead}
 use Rattle.wire_edit.specs.Tests.{is_junction, is_not, is_gate, control_of, driver_at, constant_at, second_driver, is_in_use, is_repeated}
-use Rattle.wire_edit.specs.Changes.{remove, readers, CanChange}
+use Rattle.wire_edit.specs.Changes.{remove, readers}
+use Rattle.wire_edit.specs.Inner.Changes.{CanChange}
 use Rattle.wire_edit.specs.Steps.{is_not_at, Applies, constant_change, empty_node, or_zero, change_of}
 use Rattle.wire_edit.proofs.Tested.{present, live_is, junction_is_one, control_is, not_is, constant_read, gate_is, junction_gate, not_gate, unused, repeated_at, one_in, not_at, same_at}
 

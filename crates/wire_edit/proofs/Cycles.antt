@@ -3,11 +3,13 @@ use Rattle.std.proofs.Common.{◌≡◌, ℕ, Bool, true, false, ◌↔◌, inl,
 use Rattle.rm_base.specs.declared.numbers.NodeId.{NodeId}
 use Rattle.gate_net.proofs.Public.{after_right, after_there, after_upward}
 use Rattle.gate_net.specs.Net.{Net, IsAcyclic}
-use Rattle.gate_net.specs.Paths.{Reaches, pin, on, is_after}
+use Rattle.gate_net.specs.Paths.{Reaches, pin, on}
+use Rattle.gate_net.specs.Inner.Paths.{is_after}
 use Rattle.wire_edit.specs.declared.steps.Step.TheVariants.{Add}
 use Rattle.wire_edit.specs.declared.refusal.EditRefusal.TheVariants.{NoNode, WrongKind}
 use Rattle.wire_edit.specs.Tests.{is_live, is_junction}
-use Rattle.wire_edit.specs.Refusals.{ClosesCycle, IsFault}
+use Rattle.wire_edit.specs.Refusals.{ClosesCycle}
+use Rattle.wire_edit.specs.Inner.Refusals.{IsFault}
 
 path_after : (net : Net) (acyclic : IsAcyclic net) (gate : ℕ) {x y : ℕ} → Reaches net x y → x ≡ gate → is_after (acyclic.0 y) net gate y ≡ true
 path_after net acyclic gate {x} {y} (pin p reads) e =

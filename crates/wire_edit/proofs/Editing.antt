@@ -7,7 +7,8 @@ use Rattle.gate_net.specs.Net.{Node, Net, node_at, flatten_option, before_dead, 
 use Rattle.gate_net.specs.Edits.{constant_node, DiffersAt, MakesGate}
 use Rattle.gate_graph.specs.Circuit.{Circuit, net_of, free_pins, free_nodes}
 use Rattle.gate_graph.specs.Changes.{CanEdit, Edits}
-use Rattle.wire_edit.specs.Changes.{Change, append, remove, fix, readers, new_not, retire, changed, CanChange, with_least_free, with_new_not, without_node, least_free, pins_added, nodes_added}
+use Rattle.wire_edit.specs.Changes.{Change, append, remove, fix, readers, new_not, retire, changed, with_least_free, with_new_not, without_node}
+use Rattle.wire_edit.specs.Inner.Changes.{CanChange, least_free, pins_added, nodes_added}
 use Rattle.wire_edit.specs.Edited.{edit_of}
 use Rattle.wire_edit.proofs.Canonical.{least_is_free, below_is_live, least-there, least-other, gone-other, gone-there, same_nodes, canonical_least, canonical_trimmed}
 use Rattle.wire_edit.proofs.Conditions.{to_constant}

@@ -10,7 +10,8 @@ use Rattle.gate_net.specs.Edits.{constant_node}
 use Rattle.wire_edit.specs.declared.steps.Step.{Step}
 use Rattle.wire_edit.specs.declared.steps.Step.TheVariants.{Add, Fix, NewNot, Const, Same, NoPins, OnePin, Twice, Twin, Dead}
 use Rattle.wire_edit.specs.Tests.{is_gate, is_junction, is_not, is_in_use, control_of, constant_at, driver_at, second_driver}
-use Rattle.wire_edit.specs.Changes.{Change, append, remove, fix, readers, new_not, retire, changed, CanChange}
+use Rattle.wire_edit.specs.Changes.{Change, append, remove, fix, readers, new_not, retire, changed}
+use Rattle.wire_edit.specs.Inner.Changes.{CanChange}
 use Rattle.wire_edit.specs.Steps.{rule_applies, is_not_at, Applies, constant_change, empty_node, or_zero, change_of, stepped}
 use Rattle.wire_edit.specs.Order.{node, next_step, rule_at}
 use Rattle.wire_edit.specs.Laws.{IsTidying}

@@ -8,8 +8,10 @@ use Rattle.gate_net.specs.declared.Kind.TheVariants.{Source, Zero, One, And, Or,
 use Rattle.rm_base.specs.declared.numbers.Fault.{Fault}
 use Rattle.gate_net.specs.Net.{Node, Net, node_at, drivers_in, drivers_of, Reads, IsLive, IsGate, IsGateKind, IsAcyclic, IsWellFormed, source_in, source_count}
 use Rattle.gate_net.specs.Values.{controlling, IsJunction}
-use Rattle.gate_net.specs.Edits.{constant_node, constant_kind, without, without_pin, IsUnread, DiffersAt}
-use Rattle.wire_edit.specs.Changes.{Change, append, remove, fix, readers, new_not, retire, changed, CanChange, with_new_not, without_node, least_free}
+use Rattle.gate_net.specs.Edits.{constant_node, without, without_pin, IsUnread, DiffersAt}
+use Rattle.gate_net.specs.Inner.Edits.{constant_kind}
+use Rattle.wire_edit.specs.Changes.{Change, append, remove, fix, readers, new_not, retire, changed, with_new_not, without_node}
+use Rattle.wire_edit.specs.Inner.Changes.{CanChange, least_free}
 use Rattle.wire_edit.proofs.Totals.{total_least, total_gone}
 use Rattle.wire_edit.proofs.Canonical.{canonical_least, canonical_trimmed, least_is_free, least-there, least-other, gone-other, gone-there}
 use Rattle.wire_edit.proofs.Conditions.{same_kind, constant_is}

@@ -13,7 +13,8 @@ use Rattle.gate_net.specs.Edits.{without, constant_node, node_redirected}
 use Rattle.wire_edit.specs.declared.steps.Step.{Step}
 use Rattle.wire_edit.specs.declared.steps.Step.TheVariants.{Add, Fix, NewNot, Const, Same, NoPins, OnePin, Twice, Twin, Dead}
 use Rattle.wire_edit.specs.Tests.{is_gate, is_in_use, is_present, constant_at, constant_of, control_of, kind_constant}
-use Rattle.wire_edit.specs.Changes.{Change, append, remove, fix, readers, new_not, retire, changed, CanChange}
+use Rattle.wire_edit.specs.Changes.{Change, append, remove, fix, readers, new_not, retire, changed}
+use Rattle.wire_edit.specs.Inner.Changes.{CanChange}
 use Rattle.wire_edit.specs.Steps.{Applies, change_of, constant_change, stepped}
 use Rattle.wire_edit.specs.Order.{IsTidy, node}
 use Rattle.wire_edit.specs.Work.{free_in, free_pins}
@@ -24,7 +25,8 @@ use Rattle.wire_edit.proofs.Totals.{total_gone}
 use Rattle.wire_edit.proofs.Formed.{junction_kind}
 use Rattle.wire_edit.proofs.Working.{above_constants, constant_bound, with_free}
 use Rattle.wire_edit.proofs.Counting.{free_without, free_set, free_moved}
-use Rattle.wire_edit.specs.Removals.{IsRemoval, ReadsNoConstants, MakesNoPin}
+use Rattle.wire_edit.specs.Removals.{IsRemoval, ReadsNoConstants}
+use Rattle.wire_edit.specs.Inner.Removals.{MakesNoPin}
 use Rattle.rm_base.proofs.Public.{stands_below}
 use Rattle.rm_base.specs.Numbers.{one_if}
 

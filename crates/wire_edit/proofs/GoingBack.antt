@@ -18,11 +18,11 @@ use Rattle.wire_edit.specs.Tests.{is_gate}
 use Rattle.wire_edit.specs.Changes.{Change, append, remove, fix, readers, new_not, retire}
 use Rattle.wire_edit.specs.Order.{rule_at, IsTidy}
 use Rattle.wire_edit.specs.Edited.{edit_of}
-use Rattle.wire_edit.specs.Marked.{is_marked, IsQuiet}
+use Rattle.wire_edit.specs.Inner.Marked.{is_marked, IsQuiet}
 use Rattle.wire_edit.specs.declared.kept.Kept.{Kept}
-use Rattle.wire_edit.specs.Known.{IsFresh, IsKept}
+use Rattle.wire_edit.specs.Inner.Known.{IsFresh, IsKept}
 use Rattle.wire_edit.specs.Tried.{StepList}
-use Rattle.wire_edit.specs.Trials.{HasEnough, IsReserved, IsTrial, IsReady, IsStart, GoesBack}
+use Rattle.wire_edit.specs.Inner.Trials.{HasEnough, IsReserved, IsTrial, IsReady, IsStart, GoesBack}
 use Rattle.wire_edit.proofs.Ordering.{gate_below}
 use Rattle.wire_edit.proofs.KnownPins.{fresh_kept}
 use Rattle.wire_edit.proofs.RuleAt.{no_rule}

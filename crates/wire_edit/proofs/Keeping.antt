@@ -10,12 +10,14 @@ use Rattle.gate_net.specs.declared.Kind.TheVariants.{Source, Zero, One, And, Or,
 use Rattle.rm_base.specs.declared.numbers.Fault.{Fault}
 use Rattle.gate_net.specs.Net.{Node, Net, node_at, drivers_in, drivers_of, Reads, IsKind, IsGate, IsAcyclic, IsWellFormed}
 use Rattle.gate_net.specs.Values.{same_bool, junction, gate_value, node_value, AreGoodValues, controlling, IsJunction}
-use Rattle.gate_net.specs.Edits.{with_drivers, with_pin, fixed, without, without_pin, constant_node, constant_kind, with_readers_moved, IsUnread, DiffersAt}
+use Rattle.gate_net.specs.Edits.{with_drivers, with_pin, fixed, without, without_pin, constant_node, with_readers_moved, IsUnread, DiffersAt}
+use Rattle.gate_net.specs.Inner.Edits.{constant_kind}
 use Rattle.gate_net.specs.Laws.{KeepsValues, KeepsPlaces}
 use Rattle.wire_edit.specs.declared.steps.Step.{Step}
 use Rattle.wire_edit.specs.declared.steps.Step.TheVariants.{Add, Fix, NewNot, Const, Same, NoPins, OnePin, Twice, Twin, Dead}
 use Rattle.wire_edit.specs.Tests.{is_present, is_junction, is_not, is_gate, control_of, driver_at, constant_at, second_driver, is_in_use, is_repeated}
-use Rattle.wire_edit.specs.Changes.{remove, readers, changed, with_new_not, without_node, least_free}
+use Rattle.wire_edit.specs.Changes.{remove, readers, changed, with_new_not, without_node}
+use Rattle.wire_edit.specs.Inner.Changes.{least_free}
 use Rattle.wire_edit.specs.Steps.{is_not_at, Applies, constant_change, empty_node, or_zero, change_of, stepped}
 use Rattle.wire_edit.specs.Laws.{IsSound}
 use Rattle.wire_edit.proofs.Tested.{present, junction_is_one, control_is, not_is, constant_read, repeated_at, one_in, none_in, same_at}

@@ -16,10 +16,10 @@ use Rattle.wire_edit.specs.Tests.{is_present, is_gate, is_junction, is_in_use, i
 use Rattle.wire_edit.specs.Changes.{Change, remove, readers, changed}
 use Rattle.wire_edit.specs.Steps.{rule_applies, Applies, constant_change, change_of, stepped}
 use Rattle.wire_edit.specs.Order.{node, rule_at, next_step}
-use Rattle.wire_edit.specs.Marked.{is_marked, IsBlank}
-use Rattle.wire_edit.specs.Edited.{TakesOut}
-use Rattle.wire_edit.specs.Firsts.{IsFirst, reads_constant, ReadsNoConstant, IsPlainAfter}
-use Rattle.wire_edit.specs.Known.{MarksFirst, IsPlainBefore, IsKept, IsFresh}
+use Rattle.wire_edit.specs.Inner.Marked.{is_marked, IsBlank}
+use Rattle.wire_edit.specs.Inner.Edited.{TakesOut}
+use Rattle.wire_edit.specs.Inner.Firsts.{IsFirst, reads_constant, ReadsNoConstant, IsPlainAfter}
+use Rattle.wire_edit.specs.Inner.Known.{MarksFirst, IsPlainBefore, IsKept, IsFresh}
 use Rattle.wire_edit.proofs.Tested.{gate_is, junction_gate}
 use Rattle.wire_edit.proofs.Walks.{next_place, pushed, walked}
 use Rattle.wire_edit.proofs.Ordering.{IsRuleAt, some_rule, next_at, next_applies, gate_of_step, const_within}

@@ -2,7 +2,7 @@
 use Rattle.std.proofs.Common.{◌≡◌, ◌≢◌, ℕ, zero, suc, ◌+◌, ◌<◌, ◌≤◌, Bool, true, false, inl, inr, List, [], ◌∷◌, length, refl, ◌∙◌, ap, arith}
 use Rattle.std.specs.Prelude.{replicate, get_or, set}
 use Rattle.std.proofs.lemmas.Bool.{cases_eq, cases_lt}
-use Rattle.wire_edit.specs.Marked.{is_marked, marks_left, KeepsMarks}
+use Rattle.wire_edit.specs.Inner.Marked.{is_marked, marks_left, KeepsMarks}
 use Rattle.rm_base.specs.Numbers.{one_if}
 
 pub marked_all : (b : Bool) (n k : ℕ) → k < n → is_marked (replicate n b) k ≡ b

@@ -11,7 +11,7 @@ use Rattle.wire_edit.specs.declared.steps.Step.TheVariants.{Add, Fix, NewNot, Co
 use Rattle.rm_base.specs.declared.numbers.NodeId.{NodeId}
 use Rattle.wire_edit.specs.Tests.{is_present, is_gate, is_junction, is_in_use, kind_constant, constant_of, constant_at}
 use Rattle.wire_edit.specs.Steps.{rule_applies, stepped}
-use Rattle.wire_edit.specs.Firsts.{reads_constant, ReadsNoConstant, IsPlainAfter}
+use Rattle.wire_edit.specs.Inner.Firsts.{reads_constant, ReadsNoConstant, IsPlainAfter}
 use Rattle.wire_edit.specs.Order.{node, where_met, first_from, rule_at, next_step}
 use Rattle.wire_edit.proofs.Tested.{present, constant_read, junction_gate, gate_is}
 use Rattle.wire_edit.proofs.Working.{with_kinds}

@@ -6,7 +6,8 @@ use Rattle.std.proofs.lemmas.Bool.Decides.{eqb_tells}
 use Rattle.gate_net.specs.Net.{Net}
 use Rattle.gate_net.specs.Edits.{redirected}
 use Rattle.wire_edit.specs.Tests.{is_gate}
-use Rattle.wire_edit.specs.Changes.{Change, append, remove, fix, readers, new_not, retire, changed, CanChange}
+use Rattle.wire_edit.specs.Changes.{Change, append, remove, fix, readers, new_not, retire, changed}
+use Rattle.wire_edit.specs.Inner.Changes.{CanChange}
 use Rattle.wire_edit.specs.Laws.{KeepsObserved}
 use Rattle.wire_edit.proofs.Tested.{is_gate_there}
 

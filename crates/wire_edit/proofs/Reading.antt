@@ -6,9 +6,9 @@ use Rattle.gate_net.specs.Net.{Net, node_at, drivers_in, drivers_of, Reads, IsOb
 use Rattle.gate_graph.specs.Circuit.{Circuit, net_of, fanouts_of}
 use Rattle.gate_graph.specs.Readers.{ListReaders}
 use Rattle.wire_edit.specs.Tests.{is_live, is_present, is_gate, is_not, is_junction, constant_of, driver_at, is_read_in, is_in_use, is_among, is_some_among, is_repeated}
-use Rattle.wire_edit.specs.Firsts.{IsFirst, reads_constant, is_twin}
+use Rattle.wire_edit.specs.Inner.Firsts.{IsFirst, reads_constant, is_twin}
 use Rattle.wire_edit.specs.Steps.{same_some}
-use Rattle.wire_edit.specs.Marked.{IsQuietBelow}
+use Rattle.wire_edit.specs.Inner.Marked.{IsQuietBelow}
 use Rattle.wire_edit.proofs.Tested.{absent, unread_unused, gate_is, not_is, among_at, at_among, at_read, read_at, same_at, not_gate}
 use Rattle.wire_edit.proofs.Keeping.{not_pin}
 use Rattle.wire_edit.proofs.Ordering.{NoRules, none_rules}

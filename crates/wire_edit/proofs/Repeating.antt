@@ -4,10 +4,10 @@ use Rattle.std.specs.Prelude.{slice_get, set, nat_eq}
 use Rattle.std.proofs.lemmas.Bool.{cases_eq, eq-eqb, false_from_ne_true, ne_eqb}
 use Rattle.rm_base.specs.declared.numbers.NodeId.{NodeId}
 use Rattle.gate_net.specs.Net.{Net, drivers_of, IsWellFormed}
-use Rattle.gate_graph.specs.Search.{AreBelow}
+use Rattle.gate_graph.specs.Inner.Search.{AreBelow}
 use Rattle.wire_edit.specs.Tests.{is_among}
-use Rattle.wire_edit.specs.Marked.{is_marked}
-use Rattle.wire_edit.specs.Known.{MarksFirst}
+use Rattle.wire_edit.specs.Inner.Marked.{is_marked}
+use Rattle.wire_edit.specs.Inner.Known.{MarksFirst}
 use Rattle.wire_edit.proofs.Marking.{set_marked, set_other_mark}
 use Rattle.wire_edit.proofs.Conditions.{driver_live}
 use Rattle.wire_edit.proofs.Ordering.{live_below}

@@ -7,7 +7,7 @@ use Rattle.wire_edit.specs.declared.steps.Step.TheVariants.{Const, Same, NoPins,
 use Rattle.wire_edit.specs.Tests.{is_gate, is_junction, is_not, is_in_use, driver_at, is_repeated}
 use Rattle.wire_edit.specs.Steps.{rule_applies, is_not_at, same_some}
 use Rattle.wire_edit.specs.Refusals.{or_else}
-use Rattle.wire_edit.specs.Firsts.{IsFirst, reads_constant, is_twin}
+use Rattle.wire_edit.specs.Inner.Firsts.{IsFirst, reads_constant, is_twin}
 use Rattle.wire_edit.specs.Order.{node, where_met, first_from, rule_at}
 use Rattle.wire_edit.proofs.Tested.{junction_is_one}
 use Rattle.wire_edit.proofs.Staying.{no_gate_rules, junction_no_not}

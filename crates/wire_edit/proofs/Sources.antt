@@ -4,7 +4,8 @@ use Rattle.std.specs.Prelude.{List, slice_set, sum_by}
 use Rattle.gate_net.specs.declared.Kind.TheVariants.{Not}
 use Rattle.gate_net.specs.Net.{Node, Net, drivers_of, IsGate, source_in, source_count}
 use Rattle.gate_net.specs.Edits.{with_drivers, constant_node, without, node_redirected}
-use Rattle.wire_edit.specs.Changes.{Change, append, remove, fix, readers, new_not, retire, changed, CanChange, with_new_not, without_node}
+use Rattle.wire_edit.specs.Changes.{Change, append, remove, fix, readers, new_not, retire, changed, with_new_not, without_node}
+use Rattle.wire_edit.specs.Inner.Changes.{CanChange}
 use Rattle.wire_edit.proofs.Totals.{total_with, total_map, total_least, total_gone}
 use Rattle.wire_edit.proofs.Plain.{source_weight, gate_weight}
 use Rattle.wire_edit.proofs.Formed.{junction_kind}

@@ -10,10 +10,11 @@ use Rattle.gate_net.specs.Values.{IsJunction}
 use Rattle.gate_net.specs.Edits.{with_drivers, with_pin, without, without_pin, constant_node, redirected, with_readers_moved, IsUnread}
 use Rattle.wire_edit.specs.declared.steps.Step.TheVariants.{Const, Same, NoPins, OnePin, Twice, Twin, Dead}
 use Rattle.wire_edit.specs.Tests.{is_present, gate_control, is_not_kind, kind_constant, is_junction, is_not, is_gate, is_in_use, constant_of, constant_at, driver_at, is_repeated}
-use Rattle.wire_edit.specs.Changes.{Change, append, remove, fix, readers, new_not, retire, changed, CanChange, with_new_not, without_node, least_free}
+use Rattle.wire_edit.specs.Changes.{Change, append, remove, fix, readers, new_not, retire, changed, with_new_not, without_node}
+use Rattle.wire_edit.specs.Inner.Changes.{CanChange, least_free}
 use Rattle.wire_edit.specs.Steps.{rule_applies, is_not_at, same_some}
 use Rattle.wire_edit.specs.Order.{node}
-use Rattle.wire_edit.specs.Touched.{IsTouched}
+use Rattle.wire_edit.specs.Inner.Touched.{IsTouched}
 use Rattle.wire_edit.proofs.Tested.{junction_gate, not_gate, not_is, read_in_use, observed_in_use, used_by, same_at}
 use Rattle.wire_edit.proofs.Canonical.{least_is_free, least-there, gone-there}
 use Rattle.wire_edit.proofs.Conditions.{same_kind}

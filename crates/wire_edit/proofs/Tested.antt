@@ -7,7 +7,8 @@ use Rattle.gate_net.specs.declared.Kind.{Kind}
 use Rattle.gate_net.specs.declared.Kind.TheVariants.{Source, Zero, One, And, Or, Not}
 use Rattle.gate_net.specs.Net.{Node, Net, node_at, kind_in, drivers_in, flatten_option, Reads, IsKind, IsLive, IsGate, IsGateKind, IsObserved}
 use Rattle.gate_net.specs.Values.{controlling, IsJunction}
-use Rattle.gate_net.specs.Edits.{constant_kind, IsUnread}
+use Rattle.gate_net.specs.Edits.{IsUnread}
+use Rattle.gate_net.specs.Inner.Edits.{constant_kind}
 use Rattle.wire_edit.specs.Tests.{is_present, is_live, gate_control, control_of, is_junction, is_not_kind, is_not, is_gate, kind_constant, constant_of, driver_at, constant_at, is_among, is_read_in, is_in_use, is_some_among, is_repeated}
 use Rattle.wire_edit.specs.Steps.{is_not_at, same_some}
 

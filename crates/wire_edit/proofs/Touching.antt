@@ -6,8 +6,8 @@ use Rattle.gate_net.specs.Net.{Net, node_at, drivers_in, Reads, IsWellFormed}
 use Rattle.gate_graph.specs.Circuit.{Circuit, net_of}
 use Rattle.gate_graph.specs.Readers.{ListReaders}
 use Rattle.wire_edit.specs.Tests.{is_live, is_not}
-use Rattle.wire_edit.specs.Marked.{is_marked, KeepsMarks}
-use Rattle.wire_edit.specs.Touched.{IsReadBy, IsNotOf}
+use Rattle.wire_edit.specs.Inner.Marked.{is_marked, KeepsMarks}
+use Rattle.wire_edit.specs.Inner.Touched.{IsReadBy, IsNotOf}
 use Rattle.wire_edit.proofs.Tested.{absent}
 use Rattle.wire_edit.proofs.Gates.{gates_of, gate_listed, no_gate}
 

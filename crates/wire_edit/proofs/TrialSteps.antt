@@ -13,13 +13,14 @@ use Rattle.wire_edit.specs.declared.steps.Step.{Step}
 use Rattle.wire_edit.specs.declared.steps.Step.TheVariants.{Add, Fix, NewNot, Const, Same, NoPins, OnePin, Twice, Twin, Dead}
 use Rattle.wire_edit.specs.declared.room.Room.{Room}
 use Rattle.wire_edit.specs.Tests.{is_gate, control_of, constant_at}
-use Rattle.wire_edit.specs.Changes.{Change, append, remove, fix, readers, new_not, retire, changed, CanChange, pins_added, nodes_added}
+use Rattle.wire_edit.specs.Changes.{Change, append, remove, fix, readers, new_not, retire, changed}
+use Rattle.wire_edit.specs.Inner.Changes.{CanChange, pins_added, nodes_added}
 use Rattle.wire_edit.specs.Steps.{Applies, constant_change, change_of, stepped}
 use Rattle.wire_edit.specs.Refusals.{has_room, room_after, nodes_made}
 use Rattle.wire_edit.specs.Work.{pins_made}
 use Rattle.wire_edit.specs.Edited.{edit_of}
-use Rattle.wire_edit.specs.Marked.{is_marked, KeepsMarks, IsQuiet, MarksTouched}
-use Rattle.wire_edit.specs.Trials.{IsTrial}
+use Rattle.wire_edit.specs.Inner.Marked.{is_marked, KeepsMarks, IsQuiet, MarksTouched}
+use Rattle.wire_edit.specs.Inner.Trials.{IsTrial}
 use Rattle.wire_edit.proofs.Conditions.{applies_changes}
 use Rattle.wire_edit.proofs.Ordering.{none_rules, rules_none, gate_below}
 use Rattle.wire_edit.proofs.Staying.{no_gate_rules, untouched_quiet}

@@ -11,8 +11,10 @@ use Rattle.gate_net.specs.declared.Kind.{Kind}
 use Rattle.gate_net.specs.declared.Kind.TheVariants.{Source, Zero, One, And, Or, Not}
 use Rattle.gate_net.specs.Net.{Node, Net, node_at, kind_in, kind_of, drivers_in, drivers_of, flatten_option, Reads, IsObserved, IsLive, IsGate, IsGateKind, IsWellFormed, gate_in, wire_count, gate_count}
 use Rattle.gate_net.specs.Edits.{with_drivers, with_pin, without, without_pin, constant_node, redirected, node_redirected, with_readers_moved, IsUnread}
-use Rattle.wire_edit.specs.Tests.{is_present, gate_control, is_not_kind, is_gate, is_in_use, live_in, gate_weight}
-use Rattle.wire_edit.specs.Changes.{append, remove, fix, readers, retire, changed, CanChange, with_new_not, without_node, least_free}
+use Rattle.wire_edit.specs.Tests.{is_present, gate_control, is_not_kind, is_gate, is_in_use, live_in}
+use Rattle.wire_edit.specs.Inner.Tests.{gate_weight}
+use Rattle.wire_edit.specs.Changes.{append, remove, fix, readers, retire, changed, with_new_not, without_node}
+use Rattle.wire_edit.specs.Inner.Changes.{CanChange, least_free}
 use Rattle.wire_edit.specs.Refusals.{live_count}
 use Rattle.wire_edit.specs.Work.{free_in, free_pins, count_from, is_used_gate, used_gates, work}
 use Rattle.wire_edit.proofs.Tested.{gate_is, is_gate_there, read_in_use, observed_in_use, used_by}

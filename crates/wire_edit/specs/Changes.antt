@@ -1,10 +1,8 @@
 -- The changes of which steps are made: one of them for each step.
-use Rattle.std.specs.Prelude.{◌≢◌, ℕ, ◌<◌, Bool, Option, Some, None, List, [], ◌∷◌, length, slice_set, suc}
+use Rattle.std.specs.Prelude.{ℕ, Bool, Option, Some, None, List, [], ◌∷◌, slice_set}
 use Rattle.gate_net.specs.declared.Kind.TheVariants.{Not}
-use Rattle.gate_net.specs.Net.{Node, Net, drivers_of, trimmed, IsLive, IsGate}
-use Rattle.gate_net.specs.Values.{IsJunction}
-use Rattle.gate_net.specs.Paths.{Reaches}
-use Rattle.gate_net.specs.Edits.{with_pin, without_pin, fixed, with_readers_moved, IsUnread}
+use Rattle.gate_net.specs.Net.{Node, Net, trimmed}
+use Rattle.gate_net.specs.Edits.{with_pin, without_pin, fixed, with_readers_moved}
 
 pub data Change : Type 0 where
   append : (gate driver : ℕ) → Change
@@ -19,12 +17,6 @@ abbrev pub with_least_free : List (Option Node) → Node → List (Option Node)
 with_least_free [] n = Some n ∷ []
 with_least_free (None ∷ os) n = Some n ∷ os
 with_least_free (Some m ∷ os) n = Some m ∷ with_least_free os n
-
--- the least number that no live node has
-abbrev pub least_free : List (Option Node) → ℕ
-least_free [] = 0
-least_free (None ∷ os) = 0
-least_free (Some n ∷ os) = suc (least_free os)
 
 -- a Not of the node has the least free number
 abbrev pub with_new_not : Net → ℕ → Net
@@ -42,24 +34,3 @@ changed net (fix gate position value) = fixed net (record { gate = record { 0 = 
 changed net (readers from to) = with_readers_moved net from to
 changed net (new_not driver) = with_new_not net driver
 changed net (retire gate) = without_node net gate
-
--- what a change needs, so that the net stays well formed
-abbrev pub CanChange : Net → Change → Type 0
-CanChange net (append gate driver) =
-    ((c : Bool) × IsJunction net gate c) × (IsLive net driver × ((driver ≢ gate) × (Reaches net gate driver → ⊥)))
-CanChange net (remove gate position) = ((c : Bool) × IsJunction net gate c) × (position < length (drivers_of net gate))
-CanChange net (fix gate position value) = IsGate net gate × (position < length (drivers_of net gate))
-CanChange net (readers from to) = IsGate net from × (IsLive net to × ((to ≢ from) × (Reaches net from to → ⊥)))
-CanChange net (new_not driver) = IsLive net driver
-CanChange net (retire gate) = IsGate net gate × IsUnread net gate
-
--- how many pins a change makes
-abbrev pub pins_added : Change → ℕ
-pins_added (append gate driver) = 1
-pins_added (new_not driver) = 1
-pins_added _ = 0
-
--- how many nodes a change makes
-abbrev pub nodes_added : Change → ℕ
-nodes_added (new_not driver) = 1
-nodes_added _ = 0

@@ -3,13 +3,9 @@ pub mod Changes
 pub mod Steps
 pub mod Refusals
 pub mod Order
-pub mod Touched
-pub mod Firsts
-pub mod Marked
 pub mod Edited
 pub mod Tried
 pub mod Calls
-pub mod Trials
 pub mod Work
 pub mod Laws
 pub mod Rows
@@ -17,4 +13,4 @@ pub mod Tidying
 pub mod Removals
 pub mod Rooms
 pub mod Sizes
-pub mod Known
+pub mod Inner

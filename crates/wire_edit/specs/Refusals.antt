@@ -79,12 +79,6 @@ abbrev pub ClosesCycle : Net → Step → Type 0
 ClosesCycle net (Add gate node) = (node.0 ≡ gate.0) ⊎ Reaches net gate.0 node.0
 ClosesCycle net _ = ⊥
 
--- the first reason that lies in the net
-pub record IsFault (net : Net) (step : Step) (answer : Option EditRefusal) : Type 0 where
-  pub cyclic : Bool
-  pub tells : (cyclic ≡ true) ↔ ClosesCycle net step
-  pub is : answer ≡ fault_of net step cyclic
-
 -- the first reason of all
 pub record IsAnswer (net : Net) (room : Room) (step : Step) (answer : Option EditRefusal) : Type 0 where
   pub cyclic : Bool

@@ -10,17 +10,12 @@ use Rattle.wire_edit.specs.Order.{IsTidy}
 use Rattle.wire_edit.specs.Work.{free_pins, FixesPin}
 use Rattle.wire_edit.specs.Laws.{IsTidying}
 use Rattle.wire_edit.specs.Tidying.{TidiesTo}
-use Rattle.wire_edit.specs.Changes.{Change, pins_added}
 
 -- neither an addition nor a new Not
 abbrev pub IsRemoval : Step → Type 0
 IsRemoval (Add gate node) = ⊥
 IsRemoval (NewNot node) = ⊥
 IsRemoval _ = Unit {0}
-
--- the change makes no pin
-abbrev pub MakesNoPin : Change → Type 0
-MakesNoPin change = pins_added change ≡ 0
 
 -- a pin that no constant drives; the constants are nodes 0 and 1
 abbrev pub HasFreePin : Net → Fault → Type 0

@@ -3,7 +3,7 @@ use Rattle.std.specs.Prelude.{ℕ, Bool, true, false, ◌||◌, Option, Some, No
 use Rattle.gate_net.specs.declared.Kind.{Kind}
 use Rattle.gate_net.specs.declared.Kind.TheVariants.{Not}
 use Rattle.gate_net.specs.Meaning.{constant_value, controlling}
-use Rattle.gate_net.specs.Net.{Node, Net, node_at, kind_of, drivers_in, drivers_of, count_in, gate_in}
+use Rattle.gate_net.specs.Net.{Node, Net, node_at, kind_of, drivers_in, drivers_of}
 
 abbrev pub is_present : {A : Type 0} → Option A → Bool
 is_present None = false
@@ -76,7 +76,3 @@ is_repeated xs k = is_some_among (slice_get xs k) (take k xs)
 abbrev pub live_in : Option Node → ℕ
 live_in None = 0
 live_in (Some n) = 1
-
--- 1 for a gate, and 0 for all else
-abbrev pub gate_weight : Option Node → ℕ
-gate_weight o = count_in o gate_in

@@ -6,7 +6,8 @@ ghost use Rattle.wire_edit.specs.Tests.{is_gate, driver_at};
 ghost use Rattle.wire_edit.specs.Steps.{rule_applies, same_some};
 ghost use Rattle.gate_net.specs.Net.{IsLive};
 ghost use Rattle.wire_edit.specs.declared.refusal.EditRefusal.TheVariants.{RuleNotMet};
-ghost use Rattle.wire_edit.specs.Refusals.{first_of, live, gate_kind, pin, unless, fault_of, ClosesCycle, IsFault};
+ghost use Rattle.wire_edit.specs.Refusals.{first_of, live, gate_kind, pin, unless, fault_of, ClosesCycle};
+ghost use Rattle.wire_edit.specs.Inner.Refusals.{IsFault};
 
 use crate::looks::{
     control_of, drives, is_constant, is_gate, is_in_use, is_junction, is_live, is_not,

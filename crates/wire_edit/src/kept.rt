@@ -3,9 +3,9 @@ ghost use Rattle.std.specs.Prelude.{◌≡◌, ◌<◌, ◌≤◌, ℕ, length, 
 ghost use Rattle.gate_graph.specs.Circuit.{net_of};
 ghost use Rattle.gate_net.specs.Net.{Net, drivers_of};
 ghost use Rattle.wire_edit.specs.Tests.{is_gate, is_repeated};
-ghost use Rattle.wire_edit.specs.Firsts.{IsFirst, reads_constant};
+ghost use Rattle.wire_edit.specs.Inner.Firsts.{IsFirst, reads_constant};
 ghost use Rattle.wire_edit.specs.Steps.{stepped, Applies};
-ghost use Rattle.wire_edit.specs.Known.{IsKept, IsFresh, IsPlainBefore};
+ghost use Rattle.wire_edit.specs.Inner.Known.{IsKept, IsFresh, IsPlainBefore};
 
 use crate::looks::is_live;
 use crate::rules::constant_from;

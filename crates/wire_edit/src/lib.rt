@@ -2,7 +2,6 @@
 #![tactic(auto)]
 
 mod again;
-mod worklist;
 mod budget;
 mod counts;
 mod edits;
@@ -21,6 +20,7 @@ mod steps;
 mod tidying;
 mod touch;
 mod trial;
+mod worklist;
 
 pub use laws::{
     answers_apply, order_tells, rollback_restores, room_suffices, steps_keep, tidying_ends,

@@ -4,15 +4,15 @@ ghost use Rattle.gate_graph.specs.Circuit.{wiring, net_of, pins_taken, live_node
 ghost use Rattle.gate_graph.specs.Holds.{pins_held};
 ghost use Rattle.gate_graph.specs.Readers.{SameReaders};
 ghost use Rattle.wire_edit.specs.Order.{IsTidy};
-ghost use Rattle.wire_edit.specs.Known.{IsFresh};
-ghost use Rattle.wire_edit.specs.Trials.{IsTrial, IsReserved, HasEnough};
+ghost use Rattle.wire_edit.specs.Inner.Known.{IsFresh};
+ghost use Rattle.wire_edit.specs.Inner.Trials.{IsTrial, IsReserved, HasEnough};
 ghost use Rattle.rm_base.specs.Numbers.{number_bound};
 
-use crate::worklist::Worklist;
 use crate::kept::Kept;
 use crate::made::Made;
 use crate::room::Room;
 use crate::seen::Seen;
+use crate::worklist::Worklist;
 use gate_graph::{Graph, Marks, Undos};
 use rm_base::NoMemory;
 use std::alloc::Global;

@@ -3,10 +3,10 @@ ghost use Rattle.std.specs.Prelude.{◌≡◌, ◌<◌, ◌≤◌, length, take,
 ghost use Rattle.gate_graph.specs.Circuit.{net_of};
 ghost use Rattle.gate_net.specs.Net.{drivers_of, IsLive};
 ghost use Rattle.wire_edit.specs.Tests.{is_gate, is_junction, is_not, is_in_use, is_repeated, is_among, driver_at};
-ghost use Rattle.wire_edit.specs.Firsts.{IsFirst, reads_constant, is_twin};
+ghost use Rattle.wire_edit.specs.Inner.Firsts.{IsFirst, reads_constant, is_twin};
 ghost use Rattle.wire_edit.specs.Order.{rule_at, next_step};
-ghost use Rattle.wire_edit.specs.Known.{IsKept};
-ghost use Rattle.wire_edit.specs.Marked.{IsQuietBelow};
+ghost use Rattle.wire_edit.specs.Inner.Known.{IsKept};
+ghost use Rattle.wire_edit.specs.Inner.Marked.{IsQuietBelow};
 
 use crate::kept::Kept;
 use crate::looks::{is_constant, is_gate, is_in_use, is_live, is_not};

@@ -1,12 +1,12 @@
 //! Marks by which a repeated driver is found.
 ghost use Rattle.std.specs.Prelude.{◌≡◌, ◌<◌, ◌≤◌, ℕ, true, false, length, take, unwrap_or, IfOk};
 ghost use Rattle.gate_graph.specs.Circuit.{net_of};
-ghost use Rattle.gate_graph.specs.Search.{AreBelow};
+ghost use Rattle.gate_graph.specs.Inner.Search.{AreBelow};
 ghost use Rattle.gate_net.specs.Net.{drivers_of, IsLive};
 ghost use Rattle.wire_edit.specs.Tests.{is_among, is_repeated};
-ghost use Rattle.wire_edit.specs.Firsts.{IsFirst};
-ghost use Rattle.wire_edit.specs.Marked.{is_marked, IsBlank};
-ghost use Rattle.wire_edit.specs.Known.{MarksFirst};
+ghost use Rattle.wire_edit.specs.Inner.Firsts.{IsFirst};
+ghost use Rattle.wire_edit.specs.Inner.Marked.{is_marked, IsBlank};
+ghost use Rattle.wire_edit.specs.Inner.Known.{MarksFirst};
 ghost use Rattle.rm_base.specs.Numbers.{number_bound};
 
 use gate_graph::{Graph, Inputs};
@@ -22,7 +22,7 @@ pub struct Seen {
 
 impl Model for Seen {
     ghost use Rattle.std.specs.Prelude.{ℕ, length};
-    ghost use Rattle.wire_edit.specs.Marked.{IsBlank};
+    ghost use Rattle.wire_edit.specs.Inner.Marked.{IsBlank};
 
     ghost Value = { ℕ };
 

@@ -6,18 +6,19 @@ ghost use Rattle.gate_graph.specs.Changes.{CanEdit, Edits, entries_for};
 ghost use Rattle.gate_graph.specs.Undoing.{LeadOn};
 ghost use Rattle.wire_edit.specs.Steps.{change_of};
 ghost use Rattle.wire_edit.specs.Order.{next_step, rule_at};
-ghost use Rattle.wire_edit.specs.Edited.{edit_of, TakesOut};
-ghost use Rattle.wire_edit.specs.Known.{IsKept};
-ghost use Rattle.wire_edit.specs.Marked.{KeepsMarks, IsQuiet, IsQuietBelow, MarksTouched};
+ghost use Rattle.wire_edit.specs.Edited.{edit_of};
+ghost use Rattle.wire_edit.specs.Inner.Edited.{TakesOut};
+ghost use Rattle.wire_edit.specs.Inner.Known.{IsKept};
+ghost use Rattle.wire_edit.specs.Inner.Marked.{KeepsMarks, IsQuiet, IsQuietBelow, MarksTouched};
 ghost use Rattle.rm_base.specs.Numbers.{number_bound};
 
-use crate::worklist::Worklist;
 use crate::edits::edit_for;
 use crate::kept::Kept;
 use crate::rules::{rule_again, rule_at};
 use crate::seen::Seen;
 use crate::steps::Step;
 use crate::touch::{mark_after, mark_before};
+use crate::worklist::Worklist;
 use gate_graph::{Edit, Graph, Undos};
 use rm_base::NodeId;
 

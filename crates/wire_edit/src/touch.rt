@@ -4,12 +4,13 @@ ghost use Rattle.gate_graph.specs.Circuit.{net_of};
 ghost use Rattle.gate_net.specs.Net.{Reads};
 ghost use Rattle.wire_edit.specs.Changes.{Change, readers, new_not};
 ghost use Rattle.wire_edit.specs.Tests.{is_not};
-ghost use Rattle.wire_edit.specs.Edited.{edit_of, IsNewNot};
-ghost use Rattle.wire_edit.specs.Marked.{is_marked, KeepsMarks, MarksTouched};
-ghost use Rattle.wire_edit.specs.Touched.{IsReadBy, IsNotOf};
+ghost use Rattle.wire_edit.specs.Edited.{edit_of};
+ghost use Rattle.wire_edit.specs.Inner.Edited.{IsNewNot};
+ghost use Rattle.wire_edit.specs.Inner.Marked.{is_marked, KeepsMarks, MarksTouched};
+ghost use Rattle.wire_edit.specs.Inner.Touched.{IsReadBy, IsNotOf};
 
-use crate::worklist::Worklist;
 use crate::looks::{is_live, is_not};
+use crate::worklist::Worklist;
 use gate_graph::{Edit, Graph};
 use rm_base::NodeId;
 

@@ -8,13 +8,12 @@ ghost use Rattle.wire_edit.specs.Steps.{Applies, change_of, stepped};
 ghost use Rattle.wire_edit.specs.Refusals.{has_room, room_after, IsAnswer};
 ghost use Rattle.wire_edit.specs.Order.{IsTidy};
 ghost use Rattle.wire_edit.specs.Edited.{edit_of};
-ghost use Rattle.wire_edit.specs.Firsts.{IsPlainAfter};
+ghost use Rattle.wire_edit.specs.Inner.Firsts.{IsPlainAfter};
 ghost use Rattle.wire_edit.specs.Tried.{start_of, IsAt, GivesBack, refusal_in, Tidies};
 ghost use Rattle.wire_edit.specs.Calls.{IsBegun, IsApplied, IsTidied, IsRolledBack};
 ghost use Rattle.wire_edit.specs.declared.steps.Step.{Step as StepValue};
 ghost use Rattle.rm_base.specs.Numbers.{number_bound};
 
-use crate::worklist::Worklist;
 use crate::budget::{nodes_made, pins_made, room_for};
 use crate::faults::fault;
 use crate::kept::Kept;
@@ -25,6 +24,7 @@ use crate::room::Room;
 use crate::seen::Seen;
 use crate::steps::Step;
 use crate::tidying::{carry_out, next_rule, removes};
+use crate::worklist::Worklist;
 use gate_graph::{Graph, Marks, Undos, same_wiring};
 use rm_base::NoMemory;
 use std::alloc::Global;
@@ -74,7 +74,7 @@ impl Model for Trial {
 
     ghost view = { λ t. record { graph = t.graph; trail = t.undos; steps = t.made.steps; room = record { pins = t.pins; nodes = t.nodes; steps = t.made.spare }; first = t.first } };
 
-    ghost use Rattle.wire_edit.specs.Trials.{IsTrial, IsReady};
+    ghost use Rattle.wire_edit.specs.Inner.Trials.{IsTrial, IsReady};
 
     ghost invariant = { λ t. IsTrial t.graph t.undos (record { pins = t.pins; nodes = t.nodes; steps = t.made.spare }) t.marks t.worklist × IsReady t.graph t.undos t.made.steps t.made.spare t.marks t.seen t.kept t.first t.tidy };
 }

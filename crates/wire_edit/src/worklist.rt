@@ -1,6 +1,6 @@
 //! The gates that tidying has to look at.
 ghost use Rattle.std.specs.Prelude.{◌≡◌, ◌≢◌, ◌+◌, ◌<◌, ◌≤◌, ℕ, true, false, length, set, IfOk, MatchOption};
-ghost use Rattle.wire_edit.specs.Marked.{is_marked, marks_left, KeepsMarks, IsFirstMark};
+ghost use Rattle.wire_edit.specs.Inner.Marked.{is_marked, marks_left, KeepsMarks, IsFirstMark};
 
 use rm_base::NoMemory;
 use std::alloc::Global;
@@ -23,7 +23,7 @@ impl Model for Worklist {
 
     ghost Value = { List Bool };
 
-    ghost use Rattle.wire_edit.specs.Marked.{IsBlocked};
+    ghost use Rattle.wire_edit.specs.Inner.Marked.{IsBlocked};
 
     ghost view = { λ a. a.marks.items };
 

@@ -6,8 +6,8 @@ use Rattle.std.proofs.lemmas.Slice.Eq.{bytes_eq-Decides}
 use Rattle.clap.specs.ValueTests.{is_unsigned_in}
 use Rattle.clap.specs.Walk.{Row, Rule, Text, row_text}
 use Rattle.rm_base.specs.declared.settings.Settings.{Settings}
-use Rattle.word_reading.specs.Judged.{accepted, check_rules, checked, demo_rules, judged, judged_parts, leaf_rows, opt_rules}
-use Rattle.word_reading.specs.Commands.{Three, check_in, command_in, demo_in, names_in, number_at, number_in, opt_by, opt_in, settings_in, three}
+use Rattle.word_reading.specs.Inner.Judged.{accepted, check_rules, checked, demo_rules, judged, judged_parts, leaf_rows, opt_rules}
+use Rattle.word_reading.specs.Inner.Commands.{Three, check_in, command_in, demo_in, names_in, number_at, number_in, opt_by, opt_in, settings_in, three}
 use Rattle.word_reading.specs.Words.{Asked, Part, asked, asked_by, at_most_once, check, check_of, demo, demo_of, given, has_keys, keys, names, number, opt_of, parts, settings_of}
 use Rattle.word_reading.proofs.Numbers.{number_in_some, number_none, number_some, value_of}
 use Rattle.word_reading.proofs.Slots.{fits, row_with, row_for}

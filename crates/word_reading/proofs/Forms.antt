@@ -8,7 +8,7 @@ use Rattle.std.proofs.lemmas.Slice.Eq.{bytes_eq-Decides}
 use Rattle.clap.specs.Simple.{new_rule}
 use Rattle.clap.specs.Walk.{Rule, Text, arg_by_index, arg_by_long}
 use Rattle.clap.specs.ValueTests.{is_unsigned_in}
-use Rattle.word_reading.specs.Judged.{check_rules, demo_rules, opt_rules}
+use Rattle.word_reading.specs.Inner.Judged.{check_rules, demo_rules, opt_rules}
 use Rattle.word_reading.specs.Words.{is_word, keys}
 use Rattle.word_reading.proofs.Slots.{IsPlain, fits}
 use Rattle.word_reading.proofs.Judging.{Form, IsForm, Key, depth, budget, tries, workers, KeyCase, known, unknown, key_text, lowest, highest, apart_both}

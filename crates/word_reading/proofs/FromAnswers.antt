@@ -8,8 +8,8 @@ use Rattle.clap.specs.Walk.{Row, Text}
 use Rattle.clap.specs.Simple.{subcommand_of}
 use Rattle.clap.specs.Kinds.{Kinds}
 use Rattle.clap.specs.Faults.{fault_of}
-use Rattle.word_reading.specs.Judged.{accepted, clean}
-use Rattle.word_reading.specs.Program.{program}
+use Rattle.word_reading.specs.Inner.Judged.{accepted, clean}
+use Rattle.word_reading.specs.Inner.Program.{program}
 use Rattle.word_reading.proofs.Levels.{parsed_is}
 
 all_texts : {Z : Type 0} (ws : List (String Z)) → AllByRecursion IsUtf8 (map string_bytes ws)

@@ -11,7 +11,7 @@ use Rattle.clap.specs.Matches.{ReadsOne, one_text}
 use Rattle.clap.specs.Walk.{Text, rows_of}
 use Rattle.clap.specs.declared.parser.matches.Found.{Found}
 use Rattle.clap.proofs.WalkLemmas.{one_text-rows, both}
-use Rattle.word_reading.specs.Commands.{number_at, number_in}
+use Rattle.word_reading.specs.Inner.Commands.{number_at, number_in}
 
 -- ---- a numeral, as a test
 

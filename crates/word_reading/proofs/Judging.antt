@@ -10,7 +10,7 @@ use Rattle.clap.specs.Lexer.{usize_max}
 use Rattle.clap.specs.Walk.{Row, Rule, Text, arg_by_index, arg_by_long, has_row}
 use Rattle.clap.specs.ValueTests.{is_unsigned_in}
 use Rattle.word_reading.proofs.Levels.{append_one}
-use Rattle.word_reading.specs.Judged.{judged, judged_use}
+use Rattle.word_reading.specs.Inner.Judged.{judged, judged_use}
 use Rattle.word_reading.specs.Words.{Part, name, setting, at_most_once, given, has_keys, is_word, keys, names}
 use Rattle.word_reading.proofs.Numbers.{bad_value, number_none, twice}
 use Rattle.word_reading.proofs.Slots.{IsPlain, fits, get_before, get_none, given-append, has_keys-append, has_row-is, length_past, names-append, pushed_other, pushed_same, row_for, row_with, use_refused, use_repeated, use_taken}

@@ -8,8 +8,8 @@ use Rattle.clap.specs.Simple.{built}
 use Rattle.clap.specs.Kinds.{or_else}
 use Rattle.clap.specs.Faults.{is_simple_and_free, use_fault}
 use Rattle.clap.specs.declared.error.kind.ErrorKind.{ErrorKind}
-use Rattle.word_reading.specs.Judged.{check_rules, clean, demo_rules, leaf, opt_rules}
-use Rattle.word_reading.specs.Program.{program}
+use Rattle.word_reading.specs.Inner.Judged.{check_rules, clean, demo_rules, leaf, opt_rules}
+use Rattle.word_reading.specs.Inner.Program.{program}
 use Rattle.word_reading.proofs.Runs.{IsSingle, IsSingles}
 
 pub subs_are : (built program).subs ≡ leaf (codes "opt") opt_rules ∷ leaf (codes "check") check_rules ∷ leaf (codes "demo") demo_rules ∷ []

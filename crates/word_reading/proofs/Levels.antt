@@ -12,9 +12,9 @@ use Rattle.clap.specs.Walk.{Names, Row, Rule, Text, Walk, finished, has_row, idl
 use Rattle.clap.specs.Simple.{Shape, built, names_of, subcommand_of}
 use Rattle.clap.specs.Kinds.{Kinds, or_else}
 use Rattle.clap.specs.Faults.{check_fault, default_fault, defaults_fault, fault_of, flags_fault, level_fault, turn_fault, walk_fault}
-use Rattle.word_reading.specs.Judged.{accepted, check_rules, checked, clean, demo_rules, judged_parts, leaf, leaf_rows, opt_rules}
+use Rattle.word_reading.specs.Inner.Judged.{accepted, check_rules, checked, clean, demo_rules, judged_parts, leaf, leaf_rows, opt_rules}
 use Rattle.word_reading.specs.Words.{parts}
-use Rattle.word_reading.specs.Program.{program}
+use Rattle.word_reading.specs.Inner.Program.{program}
 use Rattle.word_reading.proofs.Runs.{IsSingles, runs_is}
 use Rattle.word_reading.proofs.Walks.{idle_walk, walks}
 use Rattle.word_reading.proofs.Classes.{Class, classify, plain, dashes, long, short, flag_char}

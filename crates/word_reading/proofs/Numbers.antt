@@ -7,7 +7,7 @@ use Rattle.clap.specs.ValueTests.{is_numeral, is_unsigned_in}
 use Rattle.clap.specs.Walk.{Text}
 use Rattle.clap.proofs.WalkLemmas.{both}
 use Rattle.word_reading.specs.Words.{at_most_once, number}
-use Rattle.word_reading.specs.Commands.{number_in}
+use Rattle.word_reading.specs.Inner.Commands.{number_in}
 
 -- the number that the digits of a text write
 abbrev pub value_of : Text → ℕ

@@ -12,7 +12,7 @@ use Rattle.clap.specs.ValueTests.{accepts}
 use Rattle.clap.specs.declared.builder.action.ArgAction.TheVariants.{Set}
 use Rattle.clap.specs.declared.builder.value_parser.Reading.TheVariants.{AsWritten}
 use Rattle.clap.specs.declared.parser.matches.ValueSource.TheVariants.{CommandLine}
-use Rattle.word_reading.specs.Judged.{clean, judged_use}
+use Rattle.word_reading.specs.Inner.Judged.{clean, judged_use}
 use Rattle.word_reading.specs.Words.{Part, name, setting, names, given, has_keys, is_word}
 
 -- ---- rows

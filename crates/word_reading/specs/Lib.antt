@@ -1,4 +1,3 @@
 pub mod Words
-pub mod Program
-pub mod Judged
 pub mod Commands
+pub mod Inner

@@ -2,7 +2,7 @@
 ghost use Rattle.std.specs.Prelude.{◌≡◌, IfOk, false};
 ghost use Rattle.clap.specs.Words.{app_of, rule_of, with_rule};
 ghost use Rattle.clap.specs.declared.builder.command.Command.TheViews.{out-Command as fields_of};
-ghost use Rattle.word_reading.specs.Program.{bare as bare_app, check_app, demo_app, name_rule, opt_app, option_rule, program as program_app, seed_rule, with_names as names_on, with_options as options_on};
+ghost use Rattle.word_reading.specs.Inner.Program.{bare as bare_app, check_app, demo_app, name_rule, opt_app, option_rule, program as program_app, seed_rule, with_names as names_on, with_options as options_on};
 
 use clap::builder::ValueParser;
 use clap::{Arg, Command};

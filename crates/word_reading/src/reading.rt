@@ -1,12 +1,13 @@
 //! The words, read by `clap`, and what `clap` has no rule for.
 ghost use Rattle.std.specs.Prelude.{◌≡◌, ◌≢◌, IfOk, IfErr, None, Some, [], map, codes, option_map};
 ghost use Rattle.clap.specs.Words.{first_of, found_of, rows_of};
-ghost use Rattle.word_reading.specs.Commands.{HasNamesApart, HasSettingsInRange, asked_of, check_in, command_in, demo_in, names_in, number_at, opt_by, opt_in, settings_in, texts_of};
+ghost use Rattle.word_reading.specs.Commands.{HasNamesApart, HasSettingsInRange, asked_of};
+ghost use Rattle.word_reading.specs.Inner.Commands.{check_in, command_in, demo_in, names_in, number_at, opt_by, opt_in, settings_in, texts_of};
 ghost use Rattle.word_reading.specs.Words.{are_different, asked};
-ghost use Rattle.word_reading.specs.Judged.{accepted};
+ghost use Rattle.word_reading.specs.Inner.Judged.{accepted};
 ghost use Rattle.std.specs.String.{string_bytes};
 ghost use Rattle.clap.specs.Words.{fault_of, subcommand_of, subcommand_rows_of};
-ghost use Rattle.word_reading.specs.Program.{program as program_app};
+ghost use Rattle.word_reading.specs.Inner.Program.{program as program_app};
 
 use crate::command::{Command, WordFault};
 use crate::program::program;

@@ -31,7 +31,11 @@ fn append(alloc: Global, shelf: &mut MemoryShelf, entry: &Entry) -> Result<Resul
 }
 
 // Adds the lines of the entries of a text up to the first call that fails, and says how many were whole.
-fn copy_entries(alloc: Global, text: &str, shelf: &mut MemoryShelf) -> Result<(u64, Option<Stop>), Fail> {
+fn copy_entries(
+    alloc: Global,
+    text: &str,
+    shelf: &mut MemoryShelf,
+) -> Result<(u64, Option<Stop>), Fail> {
     let mut reader = JournalReader::new(alloc);
     reader.push(text.as_bytes())?;
     let mut count = 0u64;

@@ -1,6 +1,6 @@
 use Rattle.std.proofs.Common.{◌≡◌, ◌≤◌, ◌+◌, ◌-◌, length, drop}
 use Rattle.blif_lines.specs.Layout.{layout_from}
-use Rattle.blif_lines.specs.Cuts.{line_start}
+use Rattle.blif_lines.specs.Inner.Cuts.{line_start}
 use Rattle.blif_lines.specs.Reading.{pending}
 use Rattle.blif_lines.proofs.reader.find_line.Given as goal
 

@@ -1,7 +1,7 @@
 use Rattle.std.proofs.Common.{◌≡◌, ◌≤◌, ◌<◌, ◌+◌, ◌-◌, length, drop, map}
 use Rattle.std.specs.Prelude.{All}
 use Rattle.blif_lines.specs.Layout.{layout_from}
-use Rattle.blif_lines.specs.Cuts.{place_at, line_start, lines_from, extend}
+use Rattle.blif_lines.specs.Inner.Cuts.{place_at, line_start, lines_from, extend}
 use Rattle.blif_lines.specs.Reading.{spot_of, IsWithin}
 use Rattle.blif_lines.proofs.reader.take_line.Given as goal
 

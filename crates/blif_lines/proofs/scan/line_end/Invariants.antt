@@ -1,5 +1,5 @@
 use Rattle.std.proofs.Common.{◌≡◌, ◌≤◌, ◌+◌, ◌-◌, length, drop}
-use Rattle.blif_lines.specs.Cuts.{front, is_inner}
+use Rattle.blif_lines.specs.Inner.Cuts.{front, is_inner}
 use Rattle.blif_lines.proofs.scan.line_end.Given as goal
 
 abbrev pub invariant-loop-i : goal.invariant-loop-i

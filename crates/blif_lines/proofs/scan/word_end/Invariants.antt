@@ -1,5 +1,5 @@
 use Rattle.std.proofs.Common.{◌≡◌, ◌≤◌, ◌+◌, ◌-◌, length, drop}
-use Rattle.blif_lines.specs.Cuts.{front}
+use Rattle.blif_lines.specs.Inner.Cuts.{front}
 use Rattle.blif_lines.proofs.scan.word_end.Given as goal
 use Rattle.rm_base.specs.Words.{is_word_byte}
 

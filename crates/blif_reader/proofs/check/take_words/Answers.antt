@@ -6,7 +6,7 @@ use Rattle.blif_lines.specs.Reading.{spot_of}
 use Rattle.blif_format.specs.Uses.{Use, use_of, parts_of, least_words}
 use Rattle.blif_format.specs.FirstFault.{fault_if}
 use Rattle.blif_format.specs.declared.refusal.FaultKind.TheVariants.{MissingWord}
-use Rattle.blif_reader.specs.Tally.{IsTally}
+use Rattle.blif_reader.specs.Inner.Tally.{IsTally}
 use Rattle.blif_reader.proofs.PartLaws.{words_refuse, words_go, words_end, map_at, part_there, parts_length, take_whole}
 use Rattle.blif_reader.proofs.check.take_words.Goals as goal
 

@@ -3,7 +3,7 @@ use Rattle.std.specs.List.{filter_map}
 use Rattle.blif_lines.specs.Reading.{spot_of}
 use Rattle.blif_format.specs.Uses.{Use, use_of, parts_of}
 use Rattle.blif_format.specs.FirstFault.{parts_fault}
-use Rattle.blif_reader.specs.Tally.{IsTally}
+use Rattle.blif_reader.specs.Inner.Tally.{IsTally}
 use Rattle.blif_reader.proofs.check.take_words.Given as goal
 
 abbrev pub invariant-loop-i : goal.invariant-loop-i

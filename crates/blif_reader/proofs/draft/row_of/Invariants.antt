@@ -1,6 +1,6 @@
 use Rattle.std.proofs.Common.{◌≡◌, map, take, true}
 use Rattle.rm_model.specs.Words.{literal_byte}
-use Rattle.blif_reader.specs.Lines.{are_literals}
+use Rattle.blif_reader.specs.Inner.Lines.{are_literals}
 use Rattle.blif_reader.proofs.draft.row_of.Given as goal
 
 abbrev pub invariant-loop-b : goal.invariant-loop-b

@@ -1,7 +1,7 @@
 use Rattle.std.proofs.Common.{◌∙◌, ap, map, refl}
 use Rattle.blif_lines.specs.Reading.{spot_of}
-use Rattle.blif_reader.specs.Lines.{are_literals}
-use Rattle.blif_reader.specs.Drafts.{inputs_in}
+use Rattle.blif_reader.specs.Inner.Lines.{are_literals}
+use Rattle.blif_reader.specs.Inner.Drafts.{inputs_in}
 use Rattle.blif_reader.proofs.RowLaws.{IsRow, row_passes, has_row}
 use Rattle.blif_reader.proofs.draft.with_row.Goals as goal
 

@@ -11,8 +11,8 @@ use Rattle.blif_format.specs.declared.refusal.FaultKind.TheVariants.{NoModel}
 use Rattle.blif_format.specs.declared.refusal.ReadRefusal.{ReadRefusal}
 use Rattle.rm_model.specs.Size.{covers_weight}
 use Rattle.blif_reader.specs.Meant.{IsRefusal}
-use Rattle.blif_reader.specs.Drafts.{all_covers, model_in}
-use Rattle.blif_reader.specs.Ranked.{rank_found, fault_at}
+use Rattle.blif_reader.specs.Inner.Drafts.{all_covers, model_in}
+use Rattle.blif_reader.specs.Inner.Ranked.{rank_found, fault_at}
 use Rattle.blif_reader.proofs.ModelLaws.{reads, fault_is, began_is, is_formed, few_covers, small_weight, few_sources, few_observed}
 use Rattle.blif_reader.proofs.model.read_model.Goals as goal
 

@@ -1,5 +1,5 @@
 use Rattle.std.proofs.Common.{◌≡◌, ◌≤◌, ◌-◌, length, drop}
-use Rattle.blif_reader.specs.Tally.{first_free}
+use Rattle.blif_reader.specs.Inner.Tally.{first_free}
 use Rattle.blif_reader.proofs.names.first_free_of.Given as goal
 
 abbrev pub invariant-loop-i : goal.invariant-loop-i

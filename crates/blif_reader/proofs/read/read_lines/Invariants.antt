@@ -1,5 +1,5 @@
 use Rattle.std.proofs.Common.{◌≡◌, length}
-use Rattle.blif_reader.specs.Progress.{Progress}
+use Rattle.blif_reader.specs.Inner.Progress.{Progress}
 use Rattle.blif_reader.proofs.read.read_lines.Given as goal
 
 abbrev pub invariant-lines : goal.invariant-lines

@@ -1,4 +1,4 @@
-use Rattle.blif_reader.specs.Progress.{Progress}
+use Rattle.blif_reader.specs.Inner.Progress.{Progress}
 use Rattle.blif_reader.proofs.LineLaws.{on_ok}
 use Rattle.blif_reader.proofs.ReadLaws.{progress_step, progress_fault}
 use Rattle.blif_reader.proofs.read.take_tokens.Goals as goal

@@ -1,6 +1,6 @@
 use Rattle.std.proofs.Common.{◌≡◌, ◌++◌, take}
 use Rattle.std.specs.List.{flat_map}
-use Rattle.blif_writer.specs.Written.{cover_text}
+use Rattle.blif_writer.specs.Inner.Written.{cover_text}
 use Rattle.blif_writer.proofs.parts.put_covers.Given as goal
 
 abbrev pub invariant-loop-cover : goal.invariant-loop-cover

@@ -1,6 +1,6 @@
 use Rattle.std.proofs.Common.{◌≡◌, ◌++◌, take}
 use Rattle.std.specs.List.{flat_map}
-use Rattle.blif_writer.specs.Written.{row_text}
+use Rattle.blif_writer.specs.Inner.Written.{row_text}
 use Rattle.blif_writer.proofs.parts.put_rows.Given as goal
 
 abbrev pub invariant-loop-row : goal.invariant-loop-row

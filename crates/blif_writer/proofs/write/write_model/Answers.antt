@@ -5,7 +5,7 @@ use Rattle.blif_format.specs.FirstFault.{first_fault}
 use Rattle.blif_format.specs.Grammar.{Reads}
 use Rattle.blif_format.specs.Laws.{AreFlawless, IsAtMostLimit}
 use Rattle.blif_format.specs.Text.{text_of}
-use Rattle.blif_writer.specs.Written.{cover_text, latch_text}
+use Rattle.blif_writer.specs.Inner.Written.{cover_text, latch_text}
 use Rattle.blif_writer.proofs.TextReads.{text_flawless, text_reads}
 use Rattle.blif_writer.proofs.WrittenLaws.{model_put}
 use Rattle.blif_writer.proofs.write.write_model.Goals as goal

@@ -4,7 +4,7 @@ use Rattle.gate_net.specs.Values.{IsJunction}
 use Rattle.refutation.specs.Facts.{Held}
 use Rattle.refutation.specs.Reaching.{MarksReached}
 use Rattle.candidate_wires.proofs.Choices.{AreChosen}
-use Rattle.candidate_wires.specs.Parts.{AreKnown, MarksDrivers}
+use Rattle.candidate_wires.specs.Inner.Parts.{AreKnown, MarksDrivers}
 use Rattle.candidate_wires.specs.declared.candidate.Candidate.{Candidate}
 use Rattle.candidate_wires.proofs.choosing.add_choices.Given as goal
 

@@ -1,7 +1,7 @@
 use Rattle.std.proofs.Common.{length, ◌≤◌}
 use Rattle.gate_graph.specs.Circuit.{net_of}
 use Rattle.refutation.specs.FactSets.{held_by}
-use Rattle.candidate_wires.specs.Parts.{AreKnown}
+use Rattle.candidate_wires.specs.Inner.Parts.{AreKnown}
 use Rattle.candidate_wires.proofs.InOrder.{AreSeen}
 use Rattle.candidate_wires.proofs.known.known_in_order.Given as goal
 

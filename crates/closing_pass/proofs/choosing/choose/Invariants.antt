@@ -1,5 +1,5 @@
 use Rattle.std.proofs.Common.{◌<◌, ◌-◌, ◌⊎◌, ◌≡◌, length}
-use Rattle.closing_pass.specs.Findings.{AreChosen}
+use Rattle.closing_pass.specs.Inner.Findings.{AreChosen}
 use Rattle.closing_pass.proofs.choosing.choose.Given as goal
 
 abbrev pub invariant-loop-chosen : goal.invariant-loop-chosen

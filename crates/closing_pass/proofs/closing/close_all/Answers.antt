@@ -1,8 +1,8 @@
 use Rattle.std.proofs.Common.{◌∙◌, refl, sym, subst, arith}
 use Rattle.gate_graph.specs.Circuit.{Circuit, net_of}
 use Rattle.gate_net.specs.Net.{source_count}
-use Rattle.closing_pass.specs.Findings.{AreLong}
-use Rattle.closing_pass.specs.Passing.{AreKeptOf}
+use Rattle.closing_pass.specs.Inner.Findings.{AreLong}
+use Rattle.closing_pass.specs.Inner.Passing.{AreKeptOf}
 use Rattle.closing_pass.proofs.BlockLaws.{blocks_have_all}
 use Rattle.closing_pass.proofs.Recorded.{gone_closed, gone_then, stopped_later}
 use Rattle.closing_pass.proofs.Sizes.{went_then}

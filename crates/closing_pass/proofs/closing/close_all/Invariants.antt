@@ -4,8 +4,8 @@ use Rattle.journal_text.specs.Appends.{IsThere}
 use Rattle.std.proofs.Common.{◌≤◌}
 use Rattle.wire_edit.specs.Order.{IsTidy}
 use Rattle.wire_edit.specs.Work.{work}
-use Rattle.closing_pass.specs.Closing.{HasGone, Went}
-use Rattle.closing_pass.specs.Findings.{AreLong}
+use Rattle.closing_pass.specs.Inner.Closing.{HasGone, Went}
+use Rattle.closing_pass.specs.Inner.Findings.{AreLong}
 use Rattle.closing_pass.proofs.closing.close_all.Given as goal
 
 abbrev pub invariant-loop-kept : goal.invariant-loop-kept

@@ -1,6 +1,6 @@
 use Rattle.std.proofs.Common.{◌≤◌, ◌+◌, [], arith}
 use Rattle.gate_graph.specs.Circuit.{net_of}
-use Rattle.closing_pass.specs.Going.{HasFixed, Logs}
+use Rattle.closing_pass.specs.Inner.Going.{HasFixed, Logs}
 use Rattle.closing_pass.proofs.Recorded.{fix_accepted, fix_recorded}
 use Rattle.wire_edit.specs.Work.{work}
 use Rattle.closing_pass.proofs.closing.record_fix.Goals as goal

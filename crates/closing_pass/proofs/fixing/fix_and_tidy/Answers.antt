@@ -5,7 +5,7 @@ use Rattle.journal_text.specs.declared.record.Record.TheVariants as kept
 use Rattle.gate_net.specs.Net.{Net, IsWellFormed}
 use Rattle.gate_graph.specs.Circuit.{Circuit, net_of}
 use Rattle.wire_edit.specs.Work.{free_pins, work}
-use Rattle.closing_pass.specs.Going.{Goes}
+use Rattle.closing_pass.specs.Inner.Going.{Goes}
 use Rattle.wire_edit.specs.Removals.{HasFreePin}
 use Rattle.closing_pass.proofs.Falling.{FixLaws, RemovalLaws, fix_falls, free_pin}
 use Rattle.closing_pass.proofs.GoingOn.{goes_then, fixed_step, fix_refused}

@@ -4,8 +4,8 @@ use Rattle.gate_net.specs.Faults.{faults_of}
 use Rattle.gate_net.specs.Values.{HasPin}
 use Rattle.rm_base.specs.declared.numbers.Fault.{Fault}
 use Rattle.closing_pass.specs.declared.finding.Finding.{Finding}
-use Rattle.closing_pass.specs.Findings.{AreVerdictsOf, HasCome, IsNumbered}
-use Rattle.closing_pass.specs.Trying.{HasTried}
+use Rattle.closing_pass.specs.Inner.Findings.{AreVerdictsOf, HasCome, IsNumbered}
+use Rattle.closing_pass.specs.Inner.Trying.{HasTried}
 use Rattle.closing_pass.specs.Verdicts.{HavePins}
 use Rattle.closing_pass.proofs.BlockLaws.{verdicts_kept}
 use Rattle.closing_pass.proofs.LastOnes.{closed_is, numbered}

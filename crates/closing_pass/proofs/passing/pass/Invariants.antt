@@ -1,7 +1,7 @@
 use Rattle.gate_graph.specs.Circuit.{net_of}
 use Rattle.std.proofs.Common.{◌-◌, length}
 use Rattle.fault_sim.specs.LaneStates.{Fits}
-use Rattle.closing_pass.specs.Findings.{HasCome}
+use Rattle.closing_pass.specs.Inner.Findings.{HasCome}
 use Rattle.closing_pass.proofs.passing.pass.Given as goal
 
 abbrev pub invariant-loop-next : goal.invariant-loop-next

@@ -1,7 +1,7 @@
 use Rattle.std.proofs.Common.{◌≡◌, ℕ, None, length, subst, arith}
 use Rattle.gate_graph.specs.Circuit.{net_of}
-use Rattle.closing_pass.specs.Searching.{IsSearched}
-use Rattle.closing_pass.specs.Trying.{HasTried}
+use Rattle.closing_pass.specs.Inner.Searching.{IsSearched}
+use Rattle.closing_pass.specs.Inner.Trying.{HasTried}
 use Rattle.closing_pass.proofs.Tries.{come_tried}
 use Rattle.closing_pass.proofs.searching.search_and_try.Goals as goal
 

@@ -4,7 +4,7 @@ use Rattle.std.specs.List.{AllZip}
 use Rattle.std.specs.Vec.Iter.{into_iter_items}
 use Rattle.gate_graph.specs.Circuit.{net_of}
 use Rattle.podem.specs.declared.verdict.Verdict.{Verdict}
-use Rattle.closing_pass.specs.Findings.{AreChosen}
+use Rattle.closing_pass.specs.Inner.Findings.{AreChosen}
 use Rattle.closing_pass.specs.Verdicts.{HavePins, IsAnswer}
 use Rattle.closing_pass.proofs.Standing.{empty_is, zip_end}
 use Rattle.closing_pass.proofs.Taking.{IsNext, chosen_pins, next_is, next_refuted, taken_all, taking_more}

@@ -5,7 +5,7 @@ use Rattle.gate_graph.specs.Circuit.{Circuit, net_of}
 use Rattle.wire_edit.proofs.Public.{never_full}
 use Rattle.wire_edit.specs.Work.{work}
 use Rattle.wire_edit.specs.Tried.{Tidies}
-use Rattle.closing_pass.specs.Going.{AddsLocal, Goes}
+use Rattle.closing_pass.specs.Inner.Going.{AddsLocal, Goes}
 use Rattle.closing_pass.proofs.Falling.{RemovalLaws}
 use Rattle.closing_pass.proofs.GoingOn.{goes_none, goes_then, local_none, local_then, tidied_step}
 use Rattle.closing_pass.proofs.tidying.tidy.Goals as goal

@@ -1,7 +1,7 @@
 use Rattle.std.proofs.Common.{◌≤◌}
 use Rattle.gate_graph.specs.Circuit.{net_of}
 use Rattle.wire_edit.specs.Work.{work}
-use Rattle.closing_pass.specs.Going.{AddsLocal, Goes}
+use Rattle.closing_pass.specs.Inner.Going.{AddsLocal, Goes}
 use Rattle.closing_pass.proofs.tidying.tidy.Given as goal
 
 abbrev pub invariant-loop-step : goal.invariant-loop-step

@@ -1,7 +1,7 @@
 use Rattle.gate_graph.specs.Circuit.{net_of}
 use Rattle.fault_sim.specs.LaneStates.{Fits}
 use Rattle.std.proofs.Common.{◌≤◌, ◌-◌, length}
-use Rattle.closing_pass.specs.Trying.{HasTried}
+use Rattle.closing_pass.specs.Inner.Trying.{HasTried}
 use Rattle.closing_pass.proofs.trying.try_kept.Given as goal
 
 abbrev pub invariant-loop-first : goal.invariant-loop-first

@@ -2,7 +2,7 @@ use Rattle.std.proofs.Common.{◌+◌, ◌∙◌, sym, subst, arith}
 use Rattle.std.proofs.lemmas.Option.{slice_get-get_or}
 use Rattle.gate_graph.specs.Circuit.{net_of}
 use Rattle.fault_sim.specs.LaneStates.{LaneState}
-use Rattle.closing_pass.specs.Trying.{AreInLanes}
+use Rattle.closing_pass.specs.Inner.Trying.{AreInLanes}
 use Rattle.closing_pass.proofs.Tries.{tried_more, tried_all}
 use Rattle.closing_pass.proofs.trying.try_on_each.Goals as goal
 

@@ -1,6 +1,6 @@
 use Rattle.gate_graph.specs.Circuit.{net_of}
 use Rattle.std.proofs.Common.{◌≡◌, ◌+◌}
-use Rattle.closing_pass.specs.Trying.{HasTriedBefore}
+use Rattle.closing_pass.specs.Inner.Trying.{HasTriedBefore}
 use Rattle.closing_pass.proofs.trying.try_on_each.Given as goal
 
 abbrev pub invariant-loop-place : goal.invariant-loop-place

@@ -1,5 +1,5 @@
 use Rattle.std.proofs.Common.{◌+◌, ◌-◌, ◌∙◌, ℕ, List, drop, take, sym, subst, arith}
-use Rattle.closing_pass.specs.Trying.{AreInLanes}
+use Rattle.closing_pass.specs.Inner.Trying.{AreInLanes}
 use Rattle.closing_pass.proofs.Packing.{lanes_are}
 use Rattle.closing_pass.proofs.Standing.{stands_dropped, taken_stands}
 use Rattle.closing_pass.proofs.trying.try_some.Goals as goal

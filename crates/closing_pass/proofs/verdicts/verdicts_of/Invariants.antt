@@ -1,6 +1,6 @@
 use Rattle.std.proofs.Common.{◌≡◌, ◌++◌}
 use Rattle.std.specs.Vec.Iter.{into_iter_items}
-use Rattle.closing_pass.specs.Findings.{AreVerdictsOf}
+use Rattle.closing_pass.specs.Inner.Findings.{AreVerdictsOf}
 use Rattle.closing_pass.proofs.verdicts.verdicts_of.Given as goal
 
 abbrev pub invariant-loop-finding : goal.invariant-loop-finding

@@ -1,6 +1,6 @@
 use Rattle.std.proofs.Common.{List, [], ap, append-nil, arith, drop, length, map, min, refl, subst, sym, take, ◌++◌, ◌∙◌, ◌≡◌, ℕ, Bool}
-use Rattle.closing_pass.specs.Blocks.{AreBlocksOf}
-use Rattle.closing_pass.specs.Findings.{AreLong, ArePacked}
+use Rattle.closing_pass.specs.Inner.Blocks.{AreBlocksOf}
+use Rattle.closing_pass.specs.Inner.Findings.{AreLong, ArePacked}
 use Rattle.closing_pass.proofs.BlockLaws.{block_more, drop_most, long_block, long_rest, none_left, take_most}
 use Rattle.closing_pass.proofs.words.blocks_of.Goals as goal
 

@@ -1,6 +1,6 @@
 use Rattle.std.proofs.Common.{List, map, length, ℕ, ◌++◌}
-use Rattle.closing_pass.specs.Blocks.{AreBlocksOf}
-use Rattle.closing_pass.specs.Findings.{AreLong}
+use Rattle.closing_pass.specs.Inner.Blocks.{AreBlocksOf}
+use Rattle.closing_pass.specs.Inner.Findings.{AreLong}
 use Rattle.closing_pass.proofs.words.blocks_of.Given as goal
 
 abbrev pub invariant-loop-rest : goal.invariant-loop-rest

@@ -8,7 +8,7 @@ use Rattle.gate_graph.specs.Readers.{NewReaders}
 use Rattle.pin_pool.specs.Ring.{has}
 use Rattle.rm_base.specs.declared.numbers.NodeId.{NodeId}
 use Rattle.cover_decompose.specs.Built.{IsBuilt}
-use Rattle.cover_decompose.specs.PlanView.{node_of_plan}
+use Rattle.cover_decompose.specs.Inner.PlanView.{node_of_plan}
 use Rattle.cover_decompose.specs.declared.plan.PlanNode.{PlanNode}
 use Rattle.cover_decompose.proofs.Building.{next_built}
 use Rattle.cover_decompose.proofs.Fitting.{NextFits, next_fits}

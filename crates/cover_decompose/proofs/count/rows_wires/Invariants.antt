@@ -1,5 +1,5 @@
 use Rattle.std.proofs.Common.{drop}
-use Rattle.cover_decompose.specs.Tally.{rows_tally}
+use Rattle.cover_decompose.specs.Inner.Tally.{rows_tally}
 use Rattle.cover_decompose.proofs.Steps.{TallyLeft}
 use Rattle.cover_decompose.proofs.count.rows_wires.Given as goal
 

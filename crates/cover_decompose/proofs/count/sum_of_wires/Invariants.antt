@@ -1,5 +1,5 @@
 use Rattle.std.proofs.Common.{drop, map}
-use Rattle.cover_decompose.specs.Tally.{covers_tally}
+use Rattle.cover_decompose.specs.Inner.Tally.{covers_tally}
 use Rattle.cover_decompose.proofs.Steps.{TallyLeft}
 use Rattle.cover_decompose.proofs.count.sum_of_wires.Given as goal
 

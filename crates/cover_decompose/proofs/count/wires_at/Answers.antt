@@ -1,7 +1,7 @@
 use Rattle.std.proofs.Common.{◌≡◌, ◌<◌, All, Global, List, Vec, ap, arith, length, map, ℕ, subst, sym, ◌∙◌}
 use Rattle.std.proofs.lemmas.List.{length-map}
 use Rattle.rm_model.specs.declared.parts.Literal.{Literal}
-use Rattle.cover_decompose.specs.Tally.{cover_tally}
+use Rattle.cover_decompose.specs.Inner.Tally.{cover_tally}
 use Rattle.cover_decompose.proofs.Steps.{even_at, even_length, item_or, item_there, tally_there}
 use Rattle.cover_decompose.proofs.count.wires_at.Goals as goal
 use Rattle.rm_base.proofs.Public.{read_stands}

@@ -1,5 +1,5 @@
 use Rattle.std.proofs.Common.{drop}
-use Rattle.cover_decompose.specs.Tally.{zeros_tally}
+use Rattle.cover_decompose.specs.Inner.Tally.{zeros_tally}
 use Rattle.cover_decompose.proofs.Steps.{TallyLeft}
 use Rattle.cover_decompose.proofs.count.zero_wires.Given as goal
 

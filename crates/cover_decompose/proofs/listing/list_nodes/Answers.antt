@@ -1,7 +1,7 @@
 use Rattle.std.proofs.Common.{◌≡◌, ◌<◌, ◌+◌, All, Global, List, Vec, ap, arith, get_or, length, map, subst, sym, ℕ, ◌∙◌}
 use Rattle.rm_model.specs.Value.{source_names}
 use Rattle.rm_model.specs.declared.parts.Cover.{Cover}
-use Rattle.cover_decompose.specs.Plan.{Planned}
+use Rattle.cover_decompose.specs.Inner.Plan.{Planned}
 use Rattle.cover_decompose.proofs.ListingLemmas.{Lists, lists}
 use Rattle.cover_decompose.proofs.NumberingLemmas.{all_same, all_unmapped, places_bound}
 use Rattle.cover_decompose.proofs.PlanSteps.{length-numbers}

@@ -1,6 +1,6 @@
 use Rattle.std.proofs.Common.{◌≡◌, ◌∷◌, ◌++◌, [], map, replicate}
 use Rattle.cover_decompose.specs.Decomposition.{plain}
-use Rattle.cover_decompose.specs.PlanView.{node_of_plan}
+use Rattle.cover_decompose.specs.Inner.PlanView.{node_of_plan}
 use Rattle.gate_net.specs.declared.Kind.TheVariants.{Source, Zero, One}
 use Rattle.cover_decompose.proofs.plan.first_nodes.Given as goal
 

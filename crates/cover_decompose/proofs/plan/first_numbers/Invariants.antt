@@ -1,5 +1,5 @@
 use Rattle.std.proofs.Common.{◌≡◌, ◌++◌, replicate}
-use Rattle.cover_decompose.specs.Plan.{counting}
+use Rattle.cover_decompose.specs.Inner.Plan.{counting}
 use Rattle.cover_decompose.proofs.plan.first_numbers.Given as goal
 
 abbrev pub invariant-loop-source : goal.invariant-loop-source

@@ -1,4 +1,4 @@
-use Rattle.fault_sim.specs.Following.{AreGrown}
+use Rattle.fault_sim.specs.Inner.Following.{AreGrown}
 use Rattle.fault_sim.proofs.blocks.all_grown.Given as goal
 
 abbrev pub invariant-loop-block : goal.invariant-loop-block

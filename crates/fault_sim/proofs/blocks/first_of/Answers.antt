@@ -2,7 +2,7 @@ use Rattle.std.proofs.Common.{None, Some, arith, length, ◌≡◌}
 use Rattle.std.proofs.lemmas.List.{length-map}
 use Rattle.gate_graph.specs.Circuit.{net_of}
 use Rattle.fault_sim.proofs.Blocking.{block_read, found_first, lane_in, missed_more}
-use Rattle.fault_sim.specs.BlockStates.{words_of}
+use Rattle.fault_sim.specs.Inner.BlockStates.{words_of}
 use Rattle.fault_sim.specs.declared.blocks.Block.{Block}
 use Rattle.fault_sim.proofs.blocks.first_of.Goals as goal
 

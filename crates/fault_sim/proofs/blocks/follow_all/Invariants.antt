@@ -1,7 +1,7 @@
 use Rattle.std.proofs.Common.{◌≡◌, length, map}
 use Rattle.gate_graph.specs.Circuit.{net_of}
-use Rattle.fault_sim.specs.BlockStates.{ArePlaced}
-use Rattle.fault_sim.specs.Following.{AreFollowed}
+use Rattle.fault_sim.specs.Inner.BlockStates.{ArePlaced}
+use Rattle.fault_sim.specs.Inner.Following.{AreFollowed}
 use Rattle.fault_sim.proofs.blocks.follow_all.Given as goal
 
 abbrev pub invariant-loop-block : goal.invariant-loop-block

@@ -1,7 +1,7 @@
 use Rattle.std.proofs.Common.{◌-◌, ◌≡◌, ◌≤◌, length, map}
 use Rattle.gate_graph.specs.Circuit.{net_of}
 use Rattle.fault_sim.specs.Following.{IsRereading}
-use Rattle.fault_sim.specs.Spreading.{AreLanes, IsUnstamped}
+use Rattle.fault_sim.specs.Inner.Spreading.{AreLanes, IsUnstamped}
 use Rattle.fault_sim.proofs.following.reread.Given as goal
 
 abbrev pub invariant-loop-place : goal.invariant-loop-place

@@ -5,7 +5,7 @@ use Rattle.std.specs.List.{fold}
 use Rattle.std.specs.Prelude.{slice_get, slice_index}
 use Rattle.refutation.proofs.Public.{yielded_all, yielded_at, yielded_more}
 use Rattle.fault_sim.proofs.Lists.{fold_take}
-use Rattle.fault_sim.specs.Words.{join_word, word_of}
+use Rattle.fault_sim.specs.Inner.Words.{join_word, word_of}
 use Rattle.fault_sim.proofs.good_reading.good_junction.Goals as goal
 use Rattle.rm_base.proofs.Public.{map_at}
 

@@ -1,7 +1,7 @@
 use Rattle.std.proofs.Common.{◌≡◌, ◌++◌, length, map, take}
 use Rattle.std.specs.List.{fold}
 use Rattle.std.specs.Prelude.{slice_index}
-use Rattle.fault_sim.specs.Words.{join_word, word_of}
+use Rattle.fault_sim.specs.Inner.Words.{join_word, word_of}
 use Rattle.fault_sim.proofs.good_reading.good_junction.Given as goal
 
 abbrev pub invariant-loop-driver : goal.invariant-loop-driver

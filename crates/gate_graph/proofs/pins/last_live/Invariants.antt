@@ -1,4 +1,4 @@
-use Rattle.gate_graph.specs.Circuit.{kinds_dead}
+use Rattle.gate_graph.specs.Inner.Circuit.{kinds_dead}
 use Rattle.gate_graph.proofs.pins.last_live.Given as goal
 
 abbrev pub invariant-loop-bound : goal.invariant-loop-bound

@@ -1,5 +1,5 @@
 use Rattle.std.proofs.Common.{◌-◌, length}
-use Rattle.gate_graph.specs.Circuit.{kinds_live}
+use Rattle.gate_graph.specs.Inner.Circuit.{kinds_live}
 use Rattle.gate_graph.proofs.pins.least_free.Given as goal
 
 abbrev pub invariant-loop-at : goal.invariant-loop-at

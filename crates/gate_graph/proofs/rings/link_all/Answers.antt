@@ -1,5 +1,5 @@
 use Rattle.std.proofs.Common.{arith, sym, ◌∙◌, ℕ, List, subst}
-use Rattle.gate_graph.specs.Filled.{IsFilled}
+use Rattle.gate_graph.specs.Inner.Filled.{IsFilled}
 use Rattle.gate_graph.proofs.Filling.{has-nth, next-driver, filled-step}
 use Rattle.gate_graph.proofs.rings.link_all.Goals as goal
 

@@ -1,6 +1,6 @@
 use Rattle.std.proofs.Common.{◌≡◌, ◌≤◌, ◌+◌, length, map, take}
 use Rattle.std.specs.FinSet as set
-use Rattle.gate_graph.specs.Filled.{IsFilled}
+use Rattle.gate_graph.specs.Inner.Filled.{IsFilled}
 use Rattle.gate_graph.proofs.rings.link_all.Given as goal
 
 abbrev pub invariant-loop-driver : goal.invariant-loop-driver

@@ -1,5 +1,5 @@
 use Rattle.std.proofs.Common.{◌≡◌, ◌++◌, map}
-use Rattle.gate_graph.specs.Search.{Marked}
+use Rattle.gate_graph.specs.Inner.Search.{Marked}
 use Rattle.gate_graph.proofs.searching.mark_unseen.Given as goal
 
 abbrev pub invariant-loop-driver : goal.invariant-loop-driver

@@ -1,4 +1,4 @@
-use Rattle.gate_graph.specs.Search.{ListsSeen}
+use Rattle.gate_graph.specs.Inner.Search.{ListsSeen}
 use Rattle.gate_graph.proofs.searching.unmark.Given as goal
 
 abbrev pub invariant-loop-i : goal.invariant-loop-i

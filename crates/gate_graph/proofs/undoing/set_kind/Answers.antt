@@ -1,5 +1,6 @@
 use Rattle.std.proofs.Common.{◌≡◌, ap, sym, ◌∙◌, arith}
-use Rattle.gate_graph.specs.Wirings.{kind_at, free_bit}
+use Rattle.gate_graph.specs.Wirings.{kind_at}
+use Rattle.gate_graph.specs.Inner.Wirings.{free_bit}
 use Rattle.gate_graph.proofs.Numbers.{free-set, free-some, free-room}
 use Rattle.gate_graph.proofs.undoing.set_kind.Goals as goal
 

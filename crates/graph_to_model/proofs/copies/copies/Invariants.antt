@@ -1,5 +1,5 @@
 use Rattle.std.proofs.Common.{◌≡◌, ◌++◌, drop}
-use Rattle.graph_to_model.specs.Making.{copies_by}
+use Rattle.graph_to_model.specs.Inner.Making.{copies_by}
 use Rattle.graph_to_model.proofs.copies.copies.Given as goal
 
 abbrev pub invariant-loop-at : goal.invariant-loop-at

@@ -3,7 +3,7 @@ use Rattle.rm_base.specs.declared.numbers.NodeId.{NodeId}
 use Rattle.gate_graph.specs.Circuit.{net_of}
 use Rattle.gate_net.specs.Net.{drivers_of}
 use Rattle.wire_edit.proofs.Public.{march}
-use Rattle.graph_to_model.specs.Making.{named}
+use Rattle.graph_to_model.specs.Inner.Making.{named}
 use Rattle.graph_to_model.proofs.Steps.{driver_low, made_step, name_here}
 use Rattle.graph_to_model.proofs.gates.driver_names.Goals as goal
 

@@ -1,7 +1,7 @@
 use Rattle.std.proofs.Common.{◌≡◌, ◌++◌, map}
 use Rattle.gate_graph.specs.Circuit.{net_of}
 use Rattle.gate_net.specs.Net.{drivers_of}
-use Rattle.graph_to_model.specs.Making.{named}
+use Rattle.graph_to_model.specs.Inner.Making.{named}
 use Rattle.graph_to_model.proofs.gates.driver_names.Given as goal
 
 abbrev pub invariant-loop-driver : goal.invariant-loop-driver

@@ -1,6 +1,6 @@
 use Rattle.std.proofs.Common.{◌≡◌, ◌++◌, drop}
 use Rattle.gate_graph.specs.Circuit.{net_of}
-use Rattle.graph_to_model.specs.Making.{covers_by}
+use Rattle.graph_to_model.specs.Inner.Making.{covers_by}
 use Rattle.graph_to_model.proofs.gates.gate_covers.Given as goal
 
 abbrev pub invariant-loop-number : goal.invariant-loop-number

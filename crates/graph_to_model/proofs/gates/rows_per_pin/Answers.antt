@@ -1,7 +1,7 @@
 use Rattle.std.proofs.Common.{◌++◌, ◌+◌, ◌-◌, List, map, ◌∙◌, ap}
 use Rattle.rm_model.specs.declared.parts.Literal.{Literal}
 use Rattle.graph_to_model.specs.NetModel.{row_per_pin}
-use Rattle.graph_to_model.specs.Making.{before}
+use Rattle.graph_to_model.specs.Inner.Making.{before}
 use Rattle.graph_to_model.proofs.Lists.{row_step, rows_first}
 use Rattle.graph_to_model.proofs.gates.rows_per_pin.Goals as goal
 

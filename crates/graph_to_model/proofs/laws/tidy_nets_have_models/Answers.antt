@@ -4,7 +4,7 @@ use Rattle.graph_to_model.proofs.Rank.{ranked}
 use Rattle.graph_to_model.proofs.Standing.{stands}
 use Rattle.graph_to_model.proofs.Pins.{wires_are}
 use Rattle.graph_to_model.proofs.laws.tidy_nets_have_models.Goals as goal
-use Rattle.graph_to_model.specs.Writable.{IsWritable}
+use Rattle.graph_to_model.specs.Inner.Writable.{IsWritable}
 
 pub returns : goal.returns
 returns c = λ net m formed tidy well fit few.

@@ -1,7 +1,7 @@
 use Rattle.graph_to_model.proofs.TidyFacts.{lean}
 use Rattle.graph_to_model.proofs.Small.{small}
 use Rattle.graph_to_model.proofs.laws.tidy_nets_have_small_models.Goals as goal
-use Rattle.graph_to_model.specs.Writable.{IsWritable}
+use Rattle.graph_to_model.specs.Inner.Writable.{IsWritable}
 
 pub returns : goal.returns
 returns c = λ net m formed tidy well fit few.

@@ -1,5 +1,5 @@
 use Rattle.std.proofs.Common.{◌≡◌, ◌<◌, ℕ, length}
-use Rattle.graph_to_model.specs.Making.{name_by, named}
+use Rattle.graph_to_model.specs.Inner.Making.{name_by, named}
 use Rattle.graph_to_model.proofs.naming.names_by.Given as goal
 
 abbrev pub invariant-loop-node : goal.invariant-loop-node

@@ -1,6 +1,6 @@
 use Rattle.std.proofs.Common.{◌≡◌, ◌≤◌, ◌+◌, ℕ, drop, get_or, length, None}
 use Rattle.std.specs.Option.{option_map}
-use Rattle.graph_to_model.specs.Making.{place_in}
+use Rattle.graph_to_model.specs.Inner.Making.{place_in}
 use Rattle.graph_to_model.proofs.places.write_places.Given as goal
 
 abbrev pub invariant-loop-left : goal.invariant-loop-left

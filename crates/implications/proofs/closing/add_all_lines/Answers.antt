@@ -3,7 +3,7 @@ use Rattle.implications.proofs.Begins.{gives_none, has_first, on_chain_stays, ou
 use Rattle.implications.proofs.Closes.{closes_ok}
 use Rattle.implications.proofs.Steps.{keeps_join}
 use Rattle.implications.proofs.closing.add_all_lines.Goals as goal
-use Rattle.implications.specs.Beginning.{AreDoneAtFault, AreDoneOnChain}
+use Rattle.implications.specs.Inner.Beginning.{AreDoneAtFault, AreDoneOnChain}
 
 pub returns-in_err-clash-2-clause-keeps : goal.returns-in_err-clash-2-clause-keeps
 returns-in_err-clash-2-clause-keeps c = keeps_join c.args.facts.now c.args.log.now.trail.items c.give_on_chain.new.facts c.give_on_chain.new.log.trail.items c.give_at_fault.new.facts c.give_at_fault.new.log.trail.items c.give_on_chain.ensures.keeps c.give_at_fault.ensures.keeps

@@ -2,8 +2,8 @@ use Rattle.std.proofs.Common.{Bool, List, false, not, true, ℕ, ◌-◌, ◌∙
 use Rattle.implications.proofs.Counted.{rest_counted}
 use Rattle.implications.proofs.counts.count_not_passing.Goals as goal
 use Rattle.implications.proofs.counts.count_not_passing.Goals.{else-c, then-c}
-use Rattle.implications.specs.Counts.{is_not_passing}
-use Rattle.implications.specs.Tallies.{IsTally, counting}
+use Rattle.implications.specs.Inner.Counts.{is_not_passing}
+use Rattle.implications.specs.Inner.Tallies.{IsTally, counting}
 use Rattle.implications.specs.declared.tallies.Tally.{Tally}
 use Rattle.refutation.specs.Facts.{Held}
 

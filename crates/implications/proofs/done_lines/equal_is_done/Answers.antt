@@ -4,7 +4,7 @@ use Rattle.gate_net.specs.Net.{drivers_of}
 use Rattle.implications.proofs.Counted.{equals_counted}
 use Rattle.implications.proofs.GateLines.{equal_done}
 use Rattle.implications.proofs.done_lines.equal_is_done.Goals as goal
-use Rattle.implications.specs.Pulls.{IsEqualPull}
+use Rattle.implications.specs.Inner.Pulls.{IsEqualPull}
 use Rattle.refutation.specs.FactSets.{held_by}
 use Rattle.refutation.specs.Facts.{known_equal}
 

@@ -3,7 +3,7 @@ use Rattle.gate_graph.specs.Circuit.{net_of}
 use Rattle.gate_net.specs.Net.{drivers_of}
 use Rattle.implications.proofs.GateLines.{faulty_done}
 use Rattle.implications.proofs.done_lines.faulty_is_done.Goals as goal
-use Rattle.implications.specs.Pulls.{IsPull}
+use Rattle.implications.specs.Inner.Pulls.{IsPull}
 use Rattle.refutation.specs.FactSets.{held_by}
 use Rattle.refutation.specs.Pins.{pins_of, stuck_of}
 use Rattle.refutation.specs.declared.pins.Aspect.TheVariants.{OfFaulty}

@@ -4,7 +4,7 @@ use Rattle.gate_net.specs.Net.{drivers_of}
 use Rattle.implications.proofs.Counted.{goods_counted}
 use Rattle.implications.proofs.GateLines.{good_done}
 use Rattle.implications.proofs.done_lines.good_is_done.Goals as goal
-use Rattle.implications.specs.Pulls.{IsPull}
+use Rattle.implications.specs.Inner.Pulls.{IsPull}
 use Rattle.refutation.specs.FactSets.{held_by}
 use Rattle.refutation.specs.Facts.{known_good}
 

@@ -1,7 +1,7 @@
 use Rattle.gate_graph.specs.Circuit.{net_of}
 use Rattle.implications.proofs.Closes.{works_ok}
 use Rattle.implications.proofs.Steps.{keeps_join}
-use Rattle.implications.specs.Beginning.{StaysPending}
+use Rattle.implications.specs.Inner.Beginning.{StaysPending}
 use Rattle.implications.proofs.first_lines.give_at_fault.Goals as goal
 use Rattle.refutation.specs.FactSets.{held_by}
 

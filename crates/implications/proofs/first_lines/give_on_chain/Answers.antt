@@ -3,7 +3,7 @@ use Rattle.gate_graph.specs.Circuit.{net_of}
 use Rattle.implications.proofs.Begins.{chain_short, chaining_ends, chaining_first, chaining_more, gives_none}
 use Rattle.implications.proofs.Steps.{keeps_join, keeps_none, works_none}
 use Rattle.implications.proofs.first_lines.give_on_chain.Goals as goal
-use Rattle.implications.specs.Settled.{IsDone}
+use Rattle.implications.specs.Inner.Settled.{IsDone}
 use Rattle.refutation.proofs.Public.{gate_live, walk_live}
 use Rattle.refutation.specs.declared.reasoning.Line.TheVariants.{Chain}
 

@@ -1,6 +1,6 @@
 use Rattle.gate_graph.specs.Circuit.{net_of}
 use Rattle.implications.proofs.first_lines.give_on_chain.Given as goal
-use Rattle.implications.specs.Beginning.{Chaining, IsGoing, StaysPending}
+use Rattle.implications.specs.Inner.Beginning.{Chaining, IsGoing, StaysPending}
 
 abbrev pub invariant-loop-step : goal.invariant-loop-step
 invariant-loop-step l =

@@ -4,7 +4,7 @@ use Rattle.implications.proofs.Begins.{gives_none, outside_ends, outside_more}
 use Rattle.implications.proofs.Steps.{keeps_join}
 use Rattle.implications.proofs.first_lines.give_outside.Goals as goal
 use Rattle.implications.specs.Beginning.{node_of}
-use Rattle.implications.specs.Settled.{IsDone}
+use Rattle.implications.specs.Inner.Settled.{IsDone}
 use Rattle.refutation.specs.FactSets.{held_by}
 use Rattle.refutation.specs.declared.reasoning.Line.TheVariants.{Out}
 

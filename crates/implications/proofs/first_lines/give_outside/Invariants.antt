@@ -1,6 +1,6 @@
 use Rattle.gate_graph.specs.Circuit.{net_of}
 use Rattle.implications.proofs.first_lines.give_outside.Given as goal
-use Rattle.implications.specs.Beginning.{GivingOut, IsGoing}
+use Rattle.implications.specs.Inner.Beginning.{GivingOut, IsGoing}
 
 abbrev pub invariant-loop-number : goal.invariant-loop-number
 invariant-loop-number l =

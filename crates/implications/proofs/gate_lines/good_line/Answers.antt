@@ -3,7 +3,7 @@ use Rattle.gate_graph.specs.Circuit.{net_of}
 use Rattle.gate_net.specs.Net.{drivers_of}
 use Rattle.implications.proofs.GateLines.{good_done, good_gate, good_pin, pulled_gate, pulled_pin}
 use Rattle.implications.proofs.gate_lines.good_line.Goals as goal
-use Rattle.implications.specs.Pulls.{IsPull}
+use Rattle.implications.specs.Inner.Pulls.{IsPull}
 use Rattle.refutation.specs.FactSets.{held_by}
 use Rattle.refutation.specs.Pins.{known_on, pins_of}
 use Rattle.refutation.specs.declared.pins.Aspect.TheVariants.{OfGood}

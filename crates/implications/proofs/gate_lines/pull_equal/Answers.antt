@@ -3,7 +3,7 @@ use Rattle.gate_graph.specs.Circuit.{net_of}
 use Rattle.gate_net.specs.Net.{drivers_of}
 use Rattle.implications.proofs.GateLines.{pulled_placed, some_equal_pin}
 use Rattle.implications.proofs.gate_lines.pull_equal.Goals as goal
-use Rattle.implications.specs.Pulls.{IsEqualPull}
+use Rattle.implications.specs.Inner.Pulls.{IsEqualPull}
 use Rattle.refutation.specs.FactSets.{held_by}
 use Rattle.refutation.proofs.Public.{pins_length}
 use Rattle.refutation.specs.Pins.{Glances, known_on, pins_of}

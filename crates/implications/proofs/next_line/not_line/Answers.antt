@@ -1,7 +1,7 @@
 use Rattle.gate_graph.specs.Circuit.{net_of}
 use Rattle.implications.proofs.SettledNodes.{next_of, settled_not}
 use Rattle.implications.proofs.next_line.not_line.Goals as goal
-use Rattle.implications.specs.Pulls.{AreDoneNot}
+use Rattle.implications.specs.Inner.Pulls.{AreDoneNot}
 
 pub returns : goal.returns
 returns c =

@@ -1,7 +1,7 @@
 use Rattle.gate_graph.specs.Circuit.{net_of}
 use Rattle.implications.proofs.SettledNodes.{next_of, settled_plain}
 use Rattle.implications.proofs.next_line.plain_line.Goals as goal
-use Rattle.implications.specs.Settled.{IsDone}
+use Rattle.implications.specs.Inner.Settled.{IsDone}
 use Rattle.refutation.specs.FactSets.{held_by}
 use Rattle.refutation.specs.declared.reasoning.Line.TheVariants.{Constant}
 

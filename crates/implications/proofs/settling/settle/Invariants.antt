@@ -1,8 +1,8 @@
 use Rattle.std.proofs.Common.{length, ◌≡◌}
 use Rattle.gate_graph.specs.Circuit.{net_of}
 use Rattle.implications.proofs.settling.settle.Given as goal
-use Rattle.implications.specs.Tallies.{AreTallied}
-use Rattle.implications.specs.Working.{Settling, work}
+use Rattle.implications.specs.Inner.Tallies.{AreTallied}
+use Rattle.implications.specs.Inner.Working.{Settling, work}
 use Rattle.refutation.specs.FactSets.{held_by}
 
 abbrev pub invariant-loop-clash : goal.invariant-loop-clash

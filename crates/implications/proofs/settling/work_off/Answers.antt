@@ -3,7 +3,7 @@ use Rattle.gate_graph.specs.Circuit.{net_of}
 use Rattle.refutation.proofs.Public.{clear_less}
 use Rattle.implications.proofs.Steps.{all_settled, keeps_join, outcome_none, work_take, works_join}
 use Rattle.implications.proofs.settling.work_off.Goals as goal
-use Rattle.implications.specs.Working.{work}
+use Rattle.implications.specs.Inner.Working.{work}
 
 pub returns-in_err-clash-clause-keeps : goal.returns-in_err-clash-clause-keeps
 returns-in_err-clash-clause-keeps c = keeps_join c.args.facts.now c.args.log.now.trail.items c.loop-node.facts c.loop-node.log.trail.items c.settle.new.facts c.settle.new.log.trail.items c.loop-node.invariant.state.keeps c.settle.ensures.keeps

@@ -3,7 +3,7 @@ use Rattle.std.proofs.lemmas.Bool.{cases_lt}
 use Rattle.std.proofs.lemmas.Option.{slice_get_within}
 use Rattle.std.specs.Prelude.{slice_get}
 use Rattle.implications.proofs.side_line.open_side.Goals as goal
-use Rattle.implications.specs.Sides.{IsOpenPin}
+use Rattle.implications.specs.Inner.Sides.{IsOpenPin}
 use Rattle.refutation.specs.FactSets.{held_by}
 use Rattle.refutation.proofs.Public.{yielded_all, yielded_at, yielded_below, yielded_more}
 

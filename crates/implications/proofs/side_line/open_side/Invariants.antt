@@ -1,7 +1,7 @@
 use Rattle.std.proofs.Common.{Some, length, map, ℕ, ◌++◌, ◌<◌, ◌≡◌}
 use Rattle.std.specs.Prelude.{slice_get}
 use Rattle.implications.proofs.side_line.open_side.Given as goal
-use Rattle.implications.specs.Sides.{IsOpenPin}
+use Rattle.implications.specs.Inner.Sides.{IsOpenPin}
 use Rattle.refutation.specs.FactSets.{held_by}
 
 abbrev pub invariant-loop-driver : goal.invariant-loop-driver

@@ -4,7 +4,7 @@ use Rattle.gate_net.proofs.Public.{is_known_true}
 use Rattle.implications.proofs.GateLines.{side_done, side_fresh, side_none}
 use Rattle.implications.proofs.Pulling.{not_known_false}
 use Rattle.implications.proofs.side_line.side_line.Goals as goal
-use Rattle.implications.specs.Sides.{IsSide}
+use Rattle.implications.specs.Inner.Sides.{IsSide}
 use Rattle.refutation.specs.FactSets.{held_by}
 
 pub returns-then-not-is_value : goal.returns-then-not-is_value

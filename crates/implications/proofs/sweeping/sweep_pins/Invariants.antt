@@ -1,8 +1,8 @@
 use Rattle.std.proofs.Common.{length, map, ◌++◌, ◌≡◌}
 use Rattle.gate_graph.specs.Circuit.{net_of}
 use Rattle.implications.proofs.sweeping.sweep_pins.Given as goal
-use Rattle.implications.specs.Tallies.{AreTallied}
-use Rattle.implications.specs.Working.{Settling}
+use Rattle.implications.specs.Inner.Tallies.{AreTallied}
+use Rattle.implications.specs.Inner.Working.{Settling}
 use Rattle.refutation.specs.FactSets.{held_by}
 use Rattle.rm_base.specs.declared.numbers.NodeId.{NodeId}
 

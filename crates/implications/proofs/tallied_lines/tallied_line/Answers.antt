@@ -1,7 +1,7 @@
 use Rattle.gate_graph.specs.Circuit.{net_of}
 use Rattle.implications.proofs.SettledNodes.{next_of, settled_junction}
 use Rattle.implications.proofs.tallied_lines.tallied_line.Goals as goal
-use Rattle.implications.specs.Pulls.{AreDoneSide}
+use Rattle.implications.specs.Inner.Pulls.{AreDoneSide}
 
 pub returns : goal.returns
 returns c =

@@ -1,7 +1,7 @@
 use Rattle.std.proofs.Common.{[], append-nil, arith, length, map, subst, sym, ℕ, List, ◌++◌, ◌+◌, ◌∙◌, ◌∷◌, ◌≡◌, ◌≤◌, ap}
 use Rattle.std.proofs.lemmas.List.{length-map, map-append}
 use Rattle.implications.proofs.tallies.count_pins.Goals as goal
-use Rattle.implications.specs.Tallies.{IsTally}
+use Rattle.implications.specs.Inner.Tallies.{IsTally}
 use Rattle.refutation.specs.FactSets.{held_by}
 use Rattle.refutation.proofs.Public.{yielded_at, yielded_below, yielded_more}
 use Rattle.rm_base.specs.declared.numbers.NodeId.{NodeId}

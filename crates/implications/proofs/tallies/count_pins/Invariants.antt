@@ -1,6 +1,6 @@
 use Rattle.std.proofs.Common.{map, ◌++◌, ◌≡◌}
 use Rattle.implications.proofs.tallies.count_pins.Given as goal
-use Rattle.implications.specs.Tallies.{IsTally}
+use Rattle.implications.specs.Inner.Tallies.{IsTally}
 use Rattle.refutation.specs.FactSets.{held_by}
 use Rattle.rm_base.specs.declared.numbers.NodeId.{NodeId}
 

@@ -6,7 +6,7 @@ use Rattle.gate_graph.specs.Search.{IsSeen}
 use Rattle.implications.proofs.ReaderCounts.{all_counted, next_counted}
 use Rattle.implications.proofs.Rising.{all_tallied, next_can_rise, raises_more, raises_none}
 use Rattle.implications.proofs.tallies.touch.Goals as goal
-use Rattle.implications.specs.Rises.{rise_by}
+use Rattle.implications.specs.Inner.Rises.{rise_by}
 use Rattle.refutation.specs.FactSets.{held_by}
 use Rattle.refutation.proofs.Public.{all_came, kind_live, next_below, yielded_more}
 use Rattle.rm_base.specs.declared.numbers.NodeId.{NodeId}

@@ -3,7 +3,7 @@ use Rattle.std.specs.Prelude.{slice_get}
 use Rattle.gate_graph.specs.Search.{IsSeen}
 use Rattle.implications.proofs.Rising.{Raises}
 use Rattle.implications.proofs.tallies.touch.Given as goal
-use Rattle.implications.specs.Rises.{rise_by}
+use Rattle.implications.specs.Inner.Rises.{rise_by}
 use Rattle.refutation.specs.FactSets.{held_by}
 use Rattle.rm_base.specs.declared.numbers.NodeId.{NodeId}
 

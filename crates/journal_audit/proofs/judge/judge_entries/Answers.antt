@@ -2,8 +2,8 @@ use Rattle.std.proofs.Common.{List, Ok, Option, ℕ, subst, ◌++◌}
 use Rattle.journal_check.proofs.Public.{handed_on}
 use Rattle.journal_text.specs.Streams.{NextGives}
 use Rattle.journal_text.specs.declared.record.Entry.{Entry}
-use Rattle.journal_audit.specs.Judging.{IsTextProblem}
-use Rattle.journal_audit.specs.Stages.{IsJudged}
+use Rattle.journal_audit.specs.Inner.Judging.{IsTextProblem}
+use Rattle.journal_audit.specs.Inner.Stages.{IsJudged}
 use Rattle.journal_audit.specs.declared.problem.AuditProblem.{AuditProblem}
 use Rattle.journal_audit.proofs.Entering.{entry_goes, entry_problem, may_take, next_problem}
 use Rattle.journal_audit.proofs.judge.judge_entries.Goals as goal

@@ -1,5 +1,5 @@
 use Rattle.std.proofs.Common.{ℕ, List, length}
-use Rattle.journal_audit.specs.Stages.{IsJudged}
+use Rattle.journal_audit.specs.Inner.Stages.{IsJudged}
 use Rattle.journal_audit.proofs.judge.judge_entries.Given as goal
 
 abbrev pub invariant-loop-entry : goal.invariant-loop-entry

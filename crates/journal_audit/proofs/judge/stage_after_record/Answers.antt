@@ -1,7 +1,7 @@
 use Rattle.std.proofs.Common.{ℕ, ◌^◌, ◌<◌, length, subst}
 use Rattle.journal_audit.proofs.Stepping.{refusal_is, step_refused, step_stage}
 use Rattle.journal_audit.proofs.judge.stage_after_record.Goals as goal
-use Rattle.journal_audit.specs.Stages.{StepRefused}
+use Rattle.journal_audit.specs.Inner.Stages.{StepRefused}
 
 pub returns-in-Ok : goal.returns-in-Ok
 returns-in-Ok c = λ m budget records replayed counted.

@@ -1,5 +1,5 @@
 use Rattle.std.proofs.Common.{◌≡◌, ◌≤◌, ◌-◌, ◌^◌}
-use Rattle.journal_audit.specs.Turns.{IsReadSoFar}
+use Rattle.journal_audit.specs.Inner.Turns.{IsReadSoFar}
 use Rattle.journal_audit.proofs.reading.journal_net.Given as goal
 
 abbrev pub invariant-loop-stage : goal.invariant-loop-stage

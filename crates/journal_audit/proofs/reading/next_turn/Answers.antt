@@ -1,6 +1,6 @@
 use Rattle.std.proofs.Common.{rules, ◌≡◌, ◌≤◌, ◌+◌, ◌++◌, ◌^◌, [], IfErr, IfSome, Result, length, subst, sym, arith}
-use Rattle.journal_audit.specs.Judging.{IsTextProblem}
-use Rattle.journal_audit.specs.Turns.{EndsWith, IsInside, IsJournalProblem, TurnSays}
+use Rattle.journal_audit.specs.Inner.Judging.{IsTextProblem}
+use Rattle.journal_audit.specs.Inner.Turns.{EndsWith, IsInside, IsJournalProblem, TurnSays}
 use Rattle.journal_audit.specs.declared.problem.AuditProblem.{AuditProblem}
 use Rattle.journal_audit.specs.declared.reading.Turn.{Turn}
 use Rattle.journal_audit.proofs.Turning.{end_problem, err_weaker, goes_on, inside, no_bytes, ok_weaker, push_judged, some_bytes, too_long, turn_ends, turn_problem}

@@ -1,6 +1,6 @@
 use Rattle.std.proofs.Common.{subst, sym}
 use Rattle.journal_text.specs.declared.record.Record.{Record}
-use Rattle.journal_check.specs.Benches.{RecordSays, position_of}
+use Rattle.journal_check.specs.Inner.Benches.{RecordSays, position_of}
 use Rattle.journal_check.proofs.replaying.apply_record.Goals as goal
 
 pub returns-in-Step-clause-says : goal.returns-in-Step-clause-says

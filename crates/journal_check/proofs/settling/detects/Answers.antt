@@ -1,7 +1,7 @@
 use Rattle.std.proofs.Common.{rules, ◌≡◌, arith, length, map}
 use Rattle.gate_graph.specs.Circuit.{net_of}
 use Rattle.gate_net.specs.Net.{source_count}
-use Rattle.journal_check.specs.Vectors.{bit_word}
+use Rattle.journal_check.specs.Inner.Vectors.{bit_word}
 use Rattle.journal_check.proofs.LaneLaws.{lane_detects}
 use Rattle.journal_check.proofs.settling.detects.Goals as goal
 

@@ -1,6 +1,6 @@
 use Rattle.std.proofs.Common.{◌≡◌, ◌<◌, ℕ, false, length}
 use Rattle.std.specs.Prelude.{slice_index, slice_index_or}
-use Rattle.journal_check.specs.Vectors.{bit_word}
+use Rattle.journal_check.specs.Inner.Vectors.{bit_word}
 use Rattle.journal_check.proofs.settling.fill.Given as goal
 
 abbrev pub invariant-loop-at : goal.invariant-loop-at

@@ -1,6 +1,6 @@
 use Rattle.std.proofs.Common.{◌≡◌, ◌∙◌, ap, sym}
 use Rattle.gate_graph.specs.Circuit.{net_of}
-use Rattle.journal_check.specs.Benches.{position_of}
+use Rattle.journal_check.specs.Inner.Benches.{position_of}
 use Rattle.journal_check.specs.Replaying.{editing}
 use Rattle.journal_check.proofs.TrialLaws.{makes_says}
 use Rattle.journal_check.proofs.trying.edit.Goals as goal

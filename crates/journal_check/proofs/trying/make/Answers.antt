@@ -4,7 +4,7 @@ use Rattle.gate_net.specs.Values.{HasPin}
 use Rattle.gate_graph.specs.Circuit.{Circuit, net_of}
 use Rattle.wire_edit.specs.Steps.{stepped}
 use Rattle.wire_edit.specs.Tried.{Tried}
-use Rattle.journal_check.specs.Replaying.{AddSays, FixSays, IsAddedPin}
+use Rattle.journal_check.specs.Inner.Replaying.{AddSays, FixSays, IsAddedPin}
 use Rattle.journal_check.proofs.MadeLaws.{accepted, err_after, err_before, err_edit, pin_there}
 use Rattle.journal_check.proofs.TrialLaws.{ready_answer, ready_edits, rolled_net, settled_ready}
 use Rattle.journal_check.proofs.trying.make.Goals as goal

@@ -1,5 +1,6 @@
 use Rattle.std.proofs.Common.{◌≡◌, drop}
-use Rattle.journal_text.specs.Reading.{bits_from, with_bits}
+use Rattle.journal_text.specs.Reading.{bits_from}
+use Rattle.journal_text.specs.Inner.Reading.{with_bits}
 use Rattle.journal_text.proofs.entries.bits_of.Given as goal
 
 abbrev pub invariant-loop-byte : goal.invariant-loop-byte

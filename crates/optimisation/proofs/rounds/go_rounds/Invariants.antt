@@ -2,7 +2,7 @@ use Rattle.std.proofs.Common.{◌≤◌}
 use Rattle.gate_net.specs.Net.{wire_count}
 use Rattle.gate_graph.specs.Circuit.{net_of}
 use Rattle.journal_text.specs.Appends.{IsThere}
-use Rattle.optimisation.specs.Ran.{HasRecorded}
+use Rattle.optimisation.specs.Inner.Ran.{HasRecorded}
 use Rattle.optimisation.proofs.rounds.go_rounds.Given as goal
 
 abbrev pub invariant-loop-closed : goal.invariant-loop-closed

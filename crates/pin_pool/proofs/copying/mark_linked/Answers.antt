@@ -1,7 +1,7 @@
 use Rattle.std.proofs.Common.{◌≡◌, List, Bool, false, ap, ◌∙◌, arith, length}
 use Rattle.std.proofs.lemmas.List.{length-replicate, take_all}
-use Rattle.pin_pool.specs.Links.{lists_of}
-use Rattle.pin_pool.specs.Marks.{is_listed, is_marked}
+use Rattle.pin_pool.specs.Inner.Links.{lists_of}
+use Rattle.pin_pool.specs.Inner.Marks.{is_listed, is_marked}
 use Rattle.pin_pool.specs.declared.links.Side.TheVariants.{Gate}
 use Rattle.pin_pool.proofs.Copied.{few-here, marked-rings, none-marked, ring-below}
 use Rattle.pin_pool.proofs.copying.mark_linked.Goals as goal

@@ -1,6 +1,6 @@
 use Rattle.std.proofs.Common.{◌≡◌, ℕ, take}
-use Rattle.pin_pool.specs.Links.{lists_of}
-use Rattle.pin_pool.specs.Marks.{is_listed, is_marked}
+use Rattle.pin_pool.specs.Inner.Links.{lists_of}
+use Rattle.pin_pool.specs.Inner.Marks.{is_listed, is_marked}
 use Rattle.pin_pool.specs.declared.links.Side.TheVariants.{Gate}
 use Rattle.pin_pool.proofs.copying.mark_linked.Given as goal
 

@@ -1,7 +1,7 @@
 use Rattle.std.proofs.Common.{◌++◌, ◌||◌, ◌∷◌, [], ℕ, List, map, ap, sym, ◌∙◌}
 use Rattle.std.proofs.lemmas.List.{map-append}
 use Rattle.pin_pool.specs.Ring.{has}
-use Rattle.pin_pool.specs.Marks.{is_marked}
+use Rattle.pin_pool.specs.Inner.Marks.{is_marked}
 use Rattle.pin_pool.specs.declared.names.PinNo.{PinNo}
 use Rattle.pin_pool.proofs.Copied.{marked-step, names-push, within-next}
 use Rattle.pin_pool.proofs.copying.mark_ring.Goals as goal

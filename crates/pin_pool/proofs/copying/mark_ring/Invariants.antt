@@ -1,6 +1,6 @@
 use Rattle.std.proofs.Common.{◌≡◌, ◌++◌, ◌||◌, ℕ, map}
 use Rattle.pin_pool.specs.Ring.{has}
-use Rattle.pin_pool.specs.Marks.{is_marked}
+use Rattle.pin_pool.specs.Inner.Marks.{is_marked}
 use Rattle.pin_pool.proofs.copying.mark_ring.Given as goal
 
 abbrev pub invariant-loop-pin : goal.invariant-loop-pin

@@ -1,5 +1,5 @@
 use Rattle.std.proofs.Common.{◌≡◌, ◌≤◌, length, take, vec_capacity}
-use Rattle.pin_pool.specs.Marks.{unmarked_from}
+use Rattle.pin_pool.specs.Inner.Marks.{unmarked_from}
 use Rattle.pin_pool.proofs.copying.unmarked_numbers.Given as goal
 
 abbrev pub invariant-loop-at : goal.invariant-loop-at

@@ -1,6 +1,6 @@
 use Rattle.std.proofs.Common.{Err, ap, arith}
 use Rattle.journal_check.proofs.Public.{handed_on}
-use Rattle.rambo_cli.specs.Problems.{IsWant, halt_problem}
+use Rattle.rambo_cli.specs.Inner.Problems.{IsWant, halt_problem}
 use Rattle.rambo_cli.proofs.Wanting.{halt_wants}
 use Rattle.rambo_cli.proofs.showing.show.Goals as goal
 

@@ -4,11 +4,11 @@ use Rattle.gate_graph.specs.Holds.{pins_held}
 use Rattle.wire_edit.specs.Order.{IsTidy}
 use Rattle.wire_edit.specs.Work.{work}
 use Rattle.wire_edit.specs.Tried.{Tried}
-use Rattle.rar_loop.specs.Going.{Goes}
-use Rattle.rar_loop.specs.Swept.{HasSwept}
-use Rattle.rar_loop.specs.Improving.{HasBegun}
-use Rattle.rar_loop.specs.Kept.{AreFor}
-use Rattle.rar_loop.specs.Spaces.{HasToolsFor}
+use Rattle.rar_loop.specs.Inner.Going.{Goes}
+use Rattle.rar_loop.specs.Inner.Swept.{HasSwept}
+use Rattle.rar_loop.specs.Inner.Improving.{HasBegun}
+use Rattle.rar_loop.specs.Inner.Kept.{AreFor}
+use Rattle.rar_loop.specs.Inner.Spaces.{HasToolsFor}
 use Rattle.rar_loop.proofs.GoingOn.{tallies_then}
 use Rattle.rar_loop.proofs.Sizing.{HasSize, held_back}
 use Rattle.rar_loop.specs.Trying.{IsLent}

@@ -5,10 +5,10 @@ use Rattle.std.specs.Prelude.{slice_get}
 use Rattle.gate_graph.specs.Circuit.{fanouts_of}
 use Rattle.refutation.proofs.Public.{yielded_more}
 use Rattle.rm_base.specs.declared.numbers.NodeId.{NodeId}
-use Rattle.rar_loop.specs.Changing.{IsUnlisted}
+use Rattle.rar_loop.specs.Inner.Changing.{IsUnlisted}
 use Rattle.rar_loop.proofs.Noting.{unlisted_append}
 use Rattle.rar_loop.proofs.changes.add_readers.Goals as goal
-use Rattle.rm_base.specs.Numbers.{numbers_of}
+use Rattle.rm_base.specs.Inner.Numbers.{numbers_of}
 
 pub loop-reader-init : goal.loop-reader-init
 loop-reader-init c = record { all = sym (c.into_iter-reader-iterator.ensures.into_iter_gives ∙ c.readers_of-reader-items.ensures); nodes = sym (append-nil c.args.nodes.now.items) }

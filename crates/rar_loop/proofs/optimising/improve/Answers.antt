@@ -5,7 +5,7 @@ use Rattle.journal_text.specs.declared.record.Record.{Record}
 use Rattle.rar_loop.specs.declared.walking.Tour.{Tour}
 use Rattle.rar_loop.specs.declared.walking.Tour.TheVariants.{Done, Spent, Gained}
 use Rattle.rar_loop.specs.Ended.{AreFew}
-use Rattle.rar_loop.specs.Walking.{IsTour, IsWalk}
+use Rattle.rar_loop.specs.Inner.Walking.{IsTour, IsWalk}
 use Rattle.rar_loop.proofs.Looping.{err_ok, err_of, if_err}
 use Rattle.rar_loop.proofs.Pairing.{walk_here}
 use Rattle.rar_loop.proofs.Streaming.{streams_few, streams_more, streams_done, streams_spent, stopped_whole, stopped_more}

@@ -3,8 +3,8 @@ use Rattle.rm_base.specs.Files.{Files}
 use Rattle.gate_net.specs.Net.{wire_count}
 use Rattle.gate_graph.specs.Circuit.{Circuit, net_of}
 use Rattle.journal_text.specs.Appends.{IsThere}
-use Rattle.rar_loop.specs.Improving.{IsUnderWay}
-use Rattle.rar_loop.specs.Spaces.{IsReady}
+use Rattle.rar_loop.specs.Inner.Improving.{IsUnderWay}
+use Rattle.rar_loop.specs.Inner.Spaces.{IsReady}
 use Rattle.rar_loop.proofs.optimising.improve.Given as goal
 
 abbrev pub invariant-loop-tries : goal.invariant-loop-tries

@@ -1,7 +1,7 @@
 use Rattle.std.proofs.Common.{List, sym, subst, arith}
 use Rattle.gate_graph.specs.Circuit.{net_of}
 use Rattle.journal_text.specs.declared.record.Record.{Record}
-use Rattle.rar_loop.specs.Improving.{HasBegun, IsThrough}
+use Rattle.rar_loop.specs.Inner.Improving.{HasBegun, IsThrough}
 use Rattle.rar_loop.proofs.Looping.{err_ok, if_err}
 use Rattle.rar_loop.proofs.Streaming.{stopped_none, through_same}
 use Rattle.rar_loop.proofs.optimising.optimise.Goals as goal

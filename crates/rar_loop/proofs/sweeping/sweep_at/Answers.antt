@@ -3,12 +3,12 @@ use Rattle.rm_base.specs.declared.numbers.Fault.{Fault}
 use Rattle.gate_net.specs.Net.{Net, IsWellFormed, wire_count}
 use Rattle.gate_graph.specs.Circuit.{Circuit, net_of}
 use Rattle.refutation.specs.declared.items.Item.{Item}
-use Rattle.rar_loop.specs.Swept.{IsLookedAtGate, IsOpenAtGate, IsRefutedAt}
+use Rattle.rar_loop.specs.Inner.Swept.{IsLookedAtGate, IsOpenAtGate, IsRefutedAt}
 use Rattle.wire_edit.proofs.Public.{tidy_reads_none}
 use Rattle.wire_edit.specs.Tried.{Tried}
-use Rattle.rar_loop.specs.Spaces.{TouchesOn}
+use Rattle.rar_loop.specs.Inner.Spaces.{TouchesOn}
 use Rattle.recursive_learning.specs.Serving.{IsServing}
-use Rattle.rar_loop.specs.Kept.{AreFor}
+use Rattle.rar_loop.specs.Inner.Kept.{AreFor}
 use Rattle.rar_loop.proofs.Sizing.{accepted_sources}
 use Rattle.rar_loop.proofs.Looking.{refuted_free}
 use Rattle.rar_loop.proofs.sweeping.sweep_at.Goals as goal

@@ -5,8 +5,8 @@ use Rattle.gate_graph.specs.Circuit.{Circuit, net_of}
 use Rattle.wire_edit.specs.Work.{work}
 use Rattle.wire_edit.specs.Tried.{Tried, Tidies}
 use Rattle.wire_edit.specs.Tidying.{TidiesTo, tidy, then}
-use Rattle.rar_loop.specs.Changing.{HasNoted, NotesOn}
-use Rattle.rar_loop.specs.Going.{Goes}
+use Rattle.rar_loop.specs.Inner.Changing.{HasNoted, NotesOn}
+use Rattle.rar_loop.specs.Inner.Going.{Goes}
 use Rattle.wire_edit.proofs.Public.{never_full, next_applies}
 use Rattle.wire_edit.specs.Laws.{IsTidying}
 use Rattle.wire_edit.specs.Steps.{Applies}

@@ -4,12 +4,12 @@ use Rattle.gate_graph.specs.Circuit.{Circuit, net_of}
 use Rattle.candidate_wires.specs.Gains.{with_candidate}
 use Rattle.wire_edit.specs.Tried.{Tried}
 use Rattle.recursive_learning.specs.Serving.{IsServing}
-use Rattle.rar_loop.specs.Trying.{HasAdded}
+use Rattle.rar_loop.specs.Inner.Trying.{HasAdded}
 use Rattle.rar_loop.proofs.Replacing.{added_sources, target_pin, target_free, replaced_whole}
 use Rattle.wire_edit.specs.Work.{work}
-use Rattle.rar_loop.specs.Going.{Goes, Tallies}
-use Rattle.rar_loop.specs.Spaces.{TouchesOn}
-use Rattle.rar_loop.specs.Swept.{HasSwept}
+use Rattle.rar_loop.specs.Inner.Going.{Goes, Tallies}
+use Rattle.rar_loop.specs.Inner.Spaces.{TouchesOn}
+use Rattle.rar_loop.specs.Inner.Swept.{HasSwept}
 use Rattle.rar_loop.proofs.GoingOn.{left_then, tallies_then}
 use Rattle.rar_loop.proofs.trying.replace.Goals as goal
 

@@ -5,7 +5,7 @@ use Rattle.gate_net.specs.Net.{Net, IsWellFormed, wire_count, source_count, gate
 use Rattle.wire_edit.specs.Refusals.{live_count}
 use Rattle.gate_graph.specs.Holds.{pins_held}
 use Rattle.journal_text.specs.declared.record.Record.{Record}
-use Rattle.rar_loop.specs.Going.{Tallies}
+use Rattle.rar_loop.specs.Inner.Going.{Tallies}
 use Rattle.rar_loop.specs.Sizes.{most_steps}
 use Rattle.rar_loop.proofs.Sizing.{HasSize, held_back}
 use Rattle.gate_graph.specs.Circuit.{Circuit, net_of}
@@ -13,14 +13,14 @@ use Rattle.wire_edit.specs.Tried.{Tried}
 use Rattle.fault_sim.specs.Following.{DiffersAmong}
 use Rattle.candidate_wires.specs.Gains.{with_candidate}
 use Rattle.recursive_learning.specs.Serving.{IsServing}
-use Rattle.rar_loop.specs.Kept.{AreFor}
-use Rattle.rar_loop.specs.Trying.{HasReplaced, IsBack, IsBetter, IsReplaced}
+use Rattle.rar_loop.specs.Inner.Kept.{AreFor}
+use Rattle.rar_loop.specs.Inner.Trying.{HasReplaced, IsBack, IsBetter, IsReplaced}
 use Rattle.rar_loop.proofs.Noting.{differs_none, same_back}
 use Rattle.rar_loop.proofs.Opens.{no_fewer_fails}
 use Rattle.rar_loop.proofs.Readying.{ready_first}
 use Rattle.rar_loop.proofs.Replacing.{better_of, lent_ahead, not_replaced_fails, some_wire}
 use Rattle.rar_loop.proofs.trying.try_pair.Goals as goal
-use Rattle.rm_base.specs.Numbers.{numbers_of}
+use Rattle.rm_base.specs.Inner.Numbers.{numbers_of}
 
 pub replace-requires-clause-ready : goal.replace-requires-clause-ready
 replace-requires-clause-ready c =

@@ -1,7 +1,8 @@
 use Rattle.std.proofs.Common.{◌≡◌, ℕ, sym, [], ap, ◌∙◌, subst, arith}
 use Rattle.gate_net.specs.Net.{Net, IsWellFormed}
 use Rattle.gate_net.specs.Edits.{DiffersAt}
-use Rattle.wire_edit.specs.Changes.{with_new_not, least_free as first_free}
+use Rattle.wire_edit.specs.Changes.{with_new_not}
+use Rattle.wire_edit.specs.Inner.Changes.{least_free as first_free}
 use Rattle.wire_edit.proofs.Public.{new_differs, room_steps}
 use Rattle.candidate_wires.specs.Gains.{least_free}
 use Rattle.rar_loop.proofs.NewNots.{least_same}

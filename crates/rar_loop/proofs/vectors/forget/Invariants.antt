@@ -1,4 +1,4 @@
-use Rattle.rar_loop.specs.Kept.{AreAsked}
+use Rattle.rar_loop.specs.Inner.Kept.{AreAsked}
 use Rattle.std.proofs.Common.{length}
 use Rattle.rar_loop.proofs.vectors.forget.Given as goal
 

@@ -1,6 +1,6 @@
 use Rattle.std.proofs.Common.{ℕ, subst}
 use Rattle.gate_graph.specs.Circuit.{Circuit, net_of}
-use Rattle.rar_loop.specs.Trying.{MayAdd, IsNewPinOpen}
+use Rattle.rar_loop.specs.Inner.Trying.{MayAdd, IsNewPinOpen}
 use Rattle.rar_loop.proofs.Opens.{open_pin_fails}
 use Rattle.rar_loop.proofs.Pairing.{back_none}
 use Rattle.rar_loop.proofs.walking.try_unless_detected.Goals as goal

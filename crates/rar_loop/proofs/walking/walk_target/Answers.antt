@@ -7,7 +7,7 @@ use Rattle.candidate_wires.specs.Candidates.{AreCandidatesOf}
 use Rattle.candidate_wires.specs.Gains.{Gains}
 use Rattle.candidate_wires.specs.Pairs.{paired}
 use Rattle.recursive_learning.specs.Serving.{IsServing}
-use Rattle.rar_loop.specs.Trying.{MayTry, IsAttempt, IsAhead, IsBack}
+use Rattle.rar_loop.specs.Inner.Trying.{MayTry, IsAttempt, IsAhead, IsBack}
 use Rattle.rar_loop.proofs.Pairing.{candidates_may, tried_more, tried_none, back_none, back_then, ahead_back}
 use Rattle.rar_loop.proofs.Spacing.{ready_still}
 use Rattle.rar_loop.proofs.walking.walk_target.Goals as goal

@@ -1,8 +1,8 @@
 use Rattle.std.proofs.Common.{◌≡◌, ◌+◌}
 use Rattle.gate_graph.specs.Circuit.{net_of}
-use Rattle.rar_loop.specs.Spaces.{HasToolsFor}
-use Rattle.rar_loop.specs.Trying.{IsBack}
-use Rattle.rar_loop.specs.Walking.{AreTried}
+use Rattle.rar_loop.specs.Inner.Spaces.{HasToolsFor}
+use Rattle.rar_loop.specs.Inner.Trying.{IsBack}
+use Rattle.rar_loop.specs.Inner.Walking.{AreTried}
 use Rattle.rar_loop.proofs.walking.walk_target.Given as goal
 
 abbrev pub invariant-loop-place : goal.invariant-loop-place

@@ -6,7 +6,7 @@ use Rattle.gate_net.specs.Values.{HasPin}
 use Rattle.gate_graph.specs.Circuit.{Circuit, net_of}
 use Rattle.candidate_wires.specs.Pairs.{paired, targets_of}
 use Rattle.rar_loop.specs.declared.walking.Tour.TheVariants.{Done, Spent, Gained}
-use Rattle.rar_loop.specs.Walking.{IsTargetTour}
+use Rattle.rar_loop.specs.Inner.Walking.{IsTargetTour}
 use Rattle.rar_loop.proofs.Pairing.{WalkedTo, tour_back, walked_none, walked_more, walked_to, walked_all, targets_pin, back_none}
 use Rattle.rar_loop.proofs.Spacing.{ready_ahead, ready_still}
 use Rattle.rar_loop.proofs.walking.walk_targets.Goals as goal

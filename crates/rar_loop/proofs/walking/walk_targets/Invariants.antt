@@ -1,7 +1,7 @@
 use Rattle.std.proofs.Common.{◌≡◌}
 use Rattle.gate_graph.specs.Circuit.{net_of}
-use Rattle.rar_loop.specs.Spaces.{HasToolsFor}
-use Rattle.rar_loop.specs.Trying.{IsBack}
+use Rattle.rar_loop.specs.Inner.Spaces.{HasToolsFor}
+use Rattle.rar_loop.specs.Inner.Trying.{IsBack}
 use Rattle.rar_loop.proofs.Pairing.{Walked}
 use Rattle.rar_loop.proofs.walking.walk_targets.Given as goal
 

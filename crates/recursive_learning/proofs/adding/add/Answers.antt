@@ -4,7 +4,7 @@ use Rattle.refutation.specs.FactSets.{held_by}
 use Rattle.refutation.specs.Facts.{with_fact}
 use Rattle.refutation.specs.declared.reasoning.Fact.TheVariants.{Good}
 use Rattle.recursive_learning.proofs.Added.{added_is}
-use Rattle.recursive_learning.specs.Working.{IsLearned}
+use Rattle.recursive_learning.specs.Inner.Working.{IsLearned}
 use Rattle.recursive_learning.proofs.adding.add.Goals as goal
 
 pub returns-clause-learned : goal.returns-clause-learned

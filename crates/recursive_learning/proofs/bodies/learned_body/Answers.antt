@@ -2,7 +2,7 @@ use Rattle.std.proofs.Common.{List, ap, map, ◌++◌, ◌∙◌}
 use Rattle.gate_graph.specs.Circuit.{net_of}
 use Rattle.recursive_learning.proofs.Servings.{learned_is}
 use Rattle.recursive_learning.proofs.bodies.learned_body.Goals as goal
-use Rattle.recursive_learning.specs.Telling.{line_item}
+use Rattle.recursive_learning.specs.Inner.Telling.{line_item}
 use Rattle.refutation.specs.FactSets.{held_by}
 use Rattle.refutation.specs.declared.reasoning.Line.{Line}
 

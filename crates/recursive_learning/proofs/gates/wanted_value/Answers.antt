@@ -1,6 +1,6 @@
 use Rattle.std.proofs.Common.{Some, ap, subst, sym, ◌∙◌}
 use Rattle.gate_graph.specs.Circuit.{net_of}
-use Rattle.recursive_learning.specs.Gates.{NoneGives}
+use Rattle.recursive_learning.specs.Inner.Gates.{NoneGives}
 use Rattle.refutation.specs.FactSets.{held_by}
 use Rattle.refutation.proofs.Public.{kind_is, never_other}
 use Rattle.recursive_learning.proofs.Open.{none_gives, same_value, some_gives}

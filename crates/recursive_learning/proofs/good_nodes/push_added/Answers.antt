@@ -1,7 +1,7 @@
 use Rattle.std.proofs.Common.{arith, length, ◌<◌}
 use Rattle.std.proofs.lemmas.Option.{slice_get_within}
 use Rattle.recursive_learning.proofs.Watches.{UpTo, up_to_map, up_to_more}
-use Rattle.recursive_learning.specs.Holding.{NamesGood}
+use Rattle.recursive_learning.specs.Inner.Holding.{NamesGood}
 use Rattle.recursive_learning.proofs.good_nodes.push_added.Goals as goal
 use Rattle.recursive_learning.proofs.Defaults.{no_added}
 

@@ -1,7 +1,7 @@
 use Rattle.std.proofs.Common.{Some, ℕ, ◌<◌, ◌≡◌}
 use Rattle.std.specs.Prelude.{slice_get}
 use Rattle.recursive_learning.proofs.good_nodes.push_added.Given as goal
-use Rattle.recursive_learning.specs.Holding.{NamesGood, StillNames}
+use Rattle.recursive_learning.specs.Inner.Holding.{NamesGood, StillNames}
 use Rattle.refutation.specs.declared.reasoning.Fact.{Fact}
 use Rattle.rm_base.specs.declared.numbers.NodeId.{NodeId}
 

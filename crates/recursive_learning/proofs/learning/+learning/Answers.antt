@@ -19,12 +19,12 @@ use Rattle.recursive_learning.proofs.Rounds.{Learning, forced_clash, forced_join
 use Rattle.recursive_learning.proofs.Turns.{forced_at_deeper, gained_not_clash, lt_of, quiet_not_clash, round_clash, round_each, round_gates, round_more, round_settled, together_free, turn_learning, turn_quiet, work_gained, work_taken}
 use Rattle.recursive_learning.proofs.Vecs.{driver_at, empty_is, full_is, map_some, true_false}
 use Rattle.recursive_learning.proofs.Watches.{known_begun, known_longer, known_more, known_same, known_still, known_taken, known_taught, leaves_join, lengthens_join, lengthens_leaves, lengthens_none, lengthens_rests, lengthens_still, lengthens_taken, none_leaves, region_covers, room_leaves, room_longer, room_still, watching_known, watching_leaves, watching_more}
-use Rattle.recursive_learning.specs.Gates.{AreJustifications, HasTaught}
-use Rattle.recursive_learning.specs.Holding.{NamesAll}
+use Rattle.recursive_learning.specs.Inner.Gates.{AreJustifications, HasTaught}
+use Rattle.recursive_learning.specs.Inner.Holding.{NamesAll}
 use Rattle.recursive_learning.specs.Least.{IsLeastAt}
-use Rattle.recursive_learning.specs.Lessons.{AreCommon, AreFound, HasLooked, IsEach, IsGained, IsLesson, IsOne, IsRound, MeetsOneMore, Teaches}
-use Rattle.recursive_learning.specs.Watching.{HasRegion, IsCovered, Lengthens, StaysTaught, looks_left}
-use Rattle.recursive_learning.specs.Working.{IsLearned}
+use Rattle.recursive_learning.specs.Inner.Lessons.{AreCommon, AreFound, HasLooked, IsEach, IsGained, IsLesson, IsOne, IsRound, MeetsOneMore, Teaches}
+use Rattle.recursive_learning.specs.Inner.Watching.{HasRegion, IsCovered, Lengthens, StaysTaught, looks_left}
+use Rattle.recursive_learning.specs.Inner.Working.{IsLearned}
 use Rattle.recursive_learning.specs.declared.lessons.GoodValue.{GoodValue}
 use Rattle.recursive_learning.specs.declared.lessons.Round.{Round}
 use Rattle.recursive_learning.specs.declared.lessons.Round.TheVariants.{Clash, Gained, Quiet}

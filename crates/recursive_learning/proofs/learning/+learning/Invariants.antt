@@ -3,9 +3,10 @@ use Rattle.std.specs.Prelude.{slice_get}
 use Rattle.gate_graph.specs.Circuit.{net_of}
 use Rattle.recursive_learning.proofs.Holdings.{IsBefore}
 use Rattle.recursive_learning.proofs.Rounds.{Learning}
-use Rattle.recursive_learning.specs.Lessons.{AreCommon, IsRound}
-use Rattle.recursive_learning.specs.Watching.{HasNoneListed, IsCovered, IsKnown, IsWatching, LeavesList, Lengthens, looks_left}
-use Rattle.recursive_learning.specs.Working.{AreSettled, Keeps}
+use Rattle.recursive_learning.specs.Inner.Lessons.{AreCommon, IsRound}
+use Rattle.recursive_learning.specs.Watching.{LeavesList}
+use Rattle.recursive_learning.specs.Inner.Watching.{HasNoneListed, IsCovered, IsKnown, IsWatching, Lengthens, looks_left}
+use Rattle.recursive_learning.specs.Inner.Working.{AreSettled, Keeps}
 use Rattle.recursive_learning.specs.declared.lessons.Round.TheVariants.{Clash}
 use Rattle.refutation.specs.FactSets.{held_by, missing}
 use Rattle.recursive_learning.proofs.learning.+learning.Given as goal

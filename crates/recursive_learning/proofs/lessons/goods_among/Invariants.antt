@@ -1,5 +1,5 @@
 use Rattle.std.proofs.Common.{take}
-use Rattle.recursive_learning.specs.Common.{AreGoodsOf}
+use Rattle.recursive_learning.specs.Inner.Common.{AreGoodsOf}
 use Rattle.refutation.specs.FactSets.{held_by}
 use Rattle.recursive_learning.proofs.lessons.goods_among.Given as goal
 

@@ -1,5 +1,5 @@
 use Rattle.std.proofs.Common.{take}
-use Rattle.recursive_learning.specs.Common.{AreHeldAmong}
+use Rattle.recursive_learning.specs.Inner.Common.{AreHeldAmong}
 use Rattle.refutation.specs.FactSets.{held_by}
 use Rattle.recursive_learning.proofs.lessons.held_among.Given as goal
 

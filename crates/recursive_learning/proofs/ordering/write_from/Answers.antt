@@ -3,7 +3,7 @@ use Rattle.gate_graph.specs.Circuit.{net_of}
 use Rattle.recursive_learning.proofs.Gains.{keeps_join}
 use Rattle.recursive_learning.proofs.Holdings.{goods_keep}
 use Rattle.recursive_learning.proofs.Splits.{told_join}
-use Rattle.recursive_learning.specs.Telling.{IsTold}
+use Rattle.recursive_learning.specs.Inner.Telling.{IsTold}
 use Rattle.refutation.specs.FactSets.{held_by}
 use Rattle.recursive_learning.proofs.ordering.write_from.Goals as goal
 

@@ -4,7 +4,7 @@ use Rattle.recursive_learning.proofs.Gains.{keeps_join}
 use Rattle.recursive_learning.proofs.Holdings.{goods_keep}
 use Rattle.recursive_learning.proofs.Refutes.{deepening_clash, deepening_more, deepening_none}
 use Rattle.recursive_learning.proofs.Watches.{lengthens_join, lengthens_none, room_longer}
-use Rattle.recursive_learning.specs.Working.{IsLearned}
+use Rattle.recursive_learning.specs.Inner.Working.{IsLearned}
 use Rattle.refutation.specs.FactSets.{held_by}
 use Rattle.recursive_learning.proofs.refuting.deepen.Goals as goal
 

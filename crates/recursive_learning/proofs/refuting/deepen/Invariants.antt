@@ -1,6 +1,6 @@
 use Rattle.gate_graph.specs.Circuit.{net_of}
 use Rattle.recursive_learning.proofs.Refutes.{Deepening}
-use Rattle.recursive_learning.specs.Watching.{IsWatching, Lengthens}
+use Rattle.recursive_learning.specs.Inner.Watching.{IsWatching, Lengthens}
 use Rattle.refutation.specs.FactSets.{held_by}
 use Rattle.recursive_learning.proofs.refuting.deepen.Given as goal
 

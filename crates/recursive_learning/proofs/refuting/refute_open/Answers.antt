@@ -4,7 +4,7 @@ use Rattle.implications.specs.Trail.{LeadsBack}
 use Rattle.recursive_learning.proofs.Holdings.{goods_first}
 use Rattle.recursive_learning.proofs.Refutes.{clash_at_deeper, clash_of_all, least_of_all}
 use Rattle.recursive_learning.proofs.Rounds.{learned_none}
-use Rattle.recursive_learning.specs.Answers.{IsDeepened}
+use Rattle.recursive_learning.specs.Inner.Answers.{IsDeepened}
 use Rattle.recursive_learning.specs.Least.{IsLeastAt}
 use Rattle.refutation.specs.FactSets.{held_by}
 use Rattle.refutation.specs.Facts.{none_held}

@@ -3,7 +3,7 @@ use Rattle.gate_graph.specs.Circuit.{net_of}
 use Rattle.recursive_learning.proofs.Holdings.{goods_same}
 use Rattle.recursive_learning.proofs.Refutes.{written_accepted}
 use Rattle.recursive_learning.proofs.Servings.{keeps_from}
-use Rattle.recursive_learning.specs.Telling.{line_item}
+use Rattle.recursive_learning.specs.Inner.Telling.{line_item}
 use Rattle.refutation.specs.FactSets.{held_by}
 use Rattle.refutation.specs.declared.reasoning.Line.{Line}
 use Rattle.recursive_learning.proofs.refuting.write_closed.Goals as goal

@@ -2,7 +2,7 @@ use Rattle.std.proofs.Common.{List, false, refl, subst, sym}
 use Rattle.gate_graph.specs.Circuit.{net_of}
 use Rattle.implications.specs.Outcomes.{IsExtended, IsOpenFrom}
 use Rattle.recursive_learning.proofs.Tells.{told_clash, told_open}
-use Rattle.recursive_learning.specs.Telling.{Ends, IsTold}
+use Rattle.recursive_learning.specs.Inner.Telling.{Ends, IsTold}
 use Rattle.refutation.specs.FactSets.{held_by}
 use Rattle.refutation.specs.Facts.{with_fact}
 use Rattle.refutation.proofs.Public.{with_there}

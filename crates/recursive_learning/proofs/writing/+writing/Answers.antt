@@ -15,11 +15,11 @@ use Rattle.recursive_learning.proofs.Splits.{beq_other, lesson_cases, lesson_opp
 use Rattle.recursive_learning.proofs.Vecs.{driver_at}
 use Rattle.recursive_learning.proofs.Watches.{blank_leaves, leaves_join, leaves_none, room_leaves}
 use Rattle.recursive_learning.proofs.Writes.{cases_more, going_ends, going_more, goods_more, pass_all, pass_fewer, pass_more, pass_none}
-use Rattle.recursive_learning.specs.Holding.{NamesAll}
-use Rattle.recursive_learning.specs.Lessons.{IsLesson, Teaches}
-use Rattle.recursive_learning.specs.Telling.{Ends, IsTold}
-use Rattle.recursive_learning.specs.Working.{AreSettled, Keeps}
-use Rattle.recursive_learning.specs.Writing.{IsPassed, IsWritten}
+use Rattle.recursive_learning.specs.Inner.Holding.{NamesAll}
+use Rattle.recursive_learning.specs.Inner.Lessons.{IsLesson, Teaches}
+use Rattle.recursive_learning.specs.Inner.Telling.{Ends, IsTold}
+use Rattle.recursive_learning.specs.Inner.Working.{AreSettled, Keeps}
+use Rattle.recursive_learning.specs.Inner.Writing.{IsPassed, IsWritten}
 use Rattle.refutation.specs.FactSets.{held_by, missing}
 use Rattle.refutation.specs.Facts.{known_good, with_fact}
 use Rattle.refutation.specs.Learning.{LeadsToClash}

@@ -4,7 +4,7 @@ use Rattle.gate_graph.specs.Circuit.{net_of}
 use Rattle.refutation.specs.declared.items.Item.TheVariants.{Line}
 use Rattle.refutation.specs.declared.reasoning.Line.TheVariants.{Act}
 use Rattle.refutation_check.proofs.Steps.{read_step, refused_after, refused_here}
-use Rattle.refutation_check.specs.Standing.{left_of}
+use Rattle.refutation_check.specs.Inner.Standing.{left_of}
 use Rattle.refutation_check.proofs.checker.read_items.Goals as goal
 
 pub loop-item-init : goal.loop-item-init

@@ -2,8 +2,8 @@ use Rattle.std.proofs.Common.{length, ◌≡◌}
 use Rattle.gate_graph.specs.Circuit.{net_of}
 use Rattle.refutation.specs.Sites.{Serves}
 use Rattle.refutation_check.proofs.Steps.{ReadTo}
-use Rattle.refutation_check.specs.Standing.{left_of}
-use Rattle.refutation_check.specs.Walks.{IsWalk}
+use Rattle.refutation_check.specs.Inner.Standing.{left_of}
+use Rattle.refutation_check.specs.Inner.Walks.{IsWalk}
 use Rattle.refutation_check.proofs.checker.read_items.Given as goal
 
 abbrev pub invariant-loop-item : goal.invariant-loop-item

@@ -1,5 +1,5 @@
 use Rattle.std.proofs.Common.{length, take, ◌≡◌, ◌≤◌}
-use Rattle.refutation_check.specs.Notes.{IsTrail}
+use Rattle.refutation_check.specs.Inner.Notes.{IsTrail}
 use Rattle.refutation_check.proofs.trail.take_back.Given as goal
 
 abbrev pub invariant-loop-entries : goal.invariant-loop-entries

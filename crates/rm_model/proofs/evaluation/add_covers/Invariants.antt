@@ -1,7 +1,7 @@
 use Rattle.std.proofs.Common.{◌≡◌, ◌++◌, Bool, length, map, take}
 use Rattle.std.specs.Prelude.{All}
 use Rattle.rm_model.specs.Value.{value_of}
-use Rattle.rm_model.specs.Search.{list_at}
+use Rattle.rm_model.specs.Inner.Search.{list_at}
 use Rattle.rm_model.proofs.evaluation.add_covers.Given as goal
 use Rattle.rm_base.specs.Words.{Word}
 

@@ -1,9 +1,9 @@
 use Rattle.std.proofs.Common.{◌≡◌, ◌∙◌, ap, sym, subst, map, List, ℕ, None}
 use Rattle.std.specs.Prelude.{position, is_none}
-use Rattle.rm_model.specs.Numbers.{drivers_of}
+use Rattle.rm_model.specs.Inner.Numbers.{drivers_of}
 use Rattle.rm_model.specs.Ranks.{first_without_rank}
-use Rattle.rm_model.specs.Search.{IsIn, IsOrder}
-use Rattle.rm_model.specs.SearchView.{state_of}
+use Rattle.rm_model.specs.Inner.Search.{IsIn, IsOrder}
+use Rattle.rm_model.specs.Inner.SearchView.{state_of}
 use Rattle.rm_model.specs.declared.parts.Cover.{Cover}
 use Rattle.rm_model.proofs.ModelLemmas.{outputs-once, first-same, order-of, all-ordered, value-there}
 use Rattle.rm_model.proofs.evaluation.evaluate.Goals as goal

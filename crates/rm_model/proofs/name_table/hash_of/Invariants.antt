@@ -1,5 +1,5 @@
 use Rattle.std.proofs.Common.{◌≡◌, take}
-use Rattle.rm_model.specs.PlacedNames.{name_hash}
+use Rattle.rm_model.specs.Inner.PlacedNames.{name_hash}
 use Rattle.rm_model.proofs.name_table.hash_of.Given as goal
 
 abbrev pub invariant-loop-byte : goal.invariant-loop-byte

@@ -1,5 +1,5 @@
 use Rattle.std.proofs.Common.{ap, ℕ, ◌*◌, ◌+◌, ◌%◌, ◌^◌}
-use Rattle.rm_model.specs.PlacedNames.{mixed}
+use Rattle.rm_model.specs.Inner.PlacedNames.{mixed}
 use Rattle.rm_model.proofs.name_table.mix.Goals as goal
 
 pub returns : goal.returns

@@ -1,6 +1,6 @@
 use Rattle.std.proofs.Common.{◌≡◌, take}
 use Rattle.std.specs.List.{filter_map}
-use Rattle.rm_model.specs.Signals.{cover_at}
+use Rattle.rm_model.specs.Inner.Signals.{cover_at}
 use Rattle.rm_model.proofs.numbering.covers_among.Given as goal
 
 abbrev pub invariant-loop-signal : goal.invariant-loop-signal

@@ -1,6 +1,6 @@
 use Rattle.std.proofs.Common.{◌≡◌, map, take}
 use Rattle.std.specs.List.{filter_map}
-use Rattle.rm_model.specs.Signals.{cover_at}
+use Rattle.rm_model.specs.Inner.Signals.{cover_at}
 use Rattle.rm_model.proofs.numbering.covers_read.Given as goal
 
 abbrev pub invariant-loop-signals : goal.invariant-loop-signals

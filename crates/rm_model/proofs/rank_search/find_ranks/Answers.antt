@@ -1,7 +1,7 @@
 use Rattle.std.proofs.Common.{map, length, arith, subst, sym}
 use Rattle.std.proofs.lemmas.List.{length-map}
-use Rattle.rm_model.specs.Search.{State, IsSound}
-use Rattle.rm_model.specs.SearchView.{items_of, state_of}
+use Rattle.rm_model.specs.Inner.Search.{State, IsSound}
+use Rattle.rm_model.specs.Inner.SearchView.{items_of, state_of}
 use Rattle.rm_model.proofs.SearchLemmas.{start-sound, settled-follow}
 use Rattle.rm_model.proofs.rank_search.find_ranks.Goals as goal
 

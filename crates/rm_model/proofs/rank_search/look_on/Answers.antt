@@ -1,6 +1,6 @@
 use Rattle.std.proofs.Common.{arith, ◌∙◌, ap, Some, sym, take, ℕ, List}
 use Rattle.std.proofs.lemmas.List.{take_more}
-use Rattle.rm_model.specs.Numbers.{rank_over}
+use Rattle.rm_model.specs.Inner.Numbers.{rank_over}
 use Rattle.rm_model.proofs.DriverLemmas.{rank_over-push}
 use Rattle.rm_model.proofs.rank_search.look_on.Goals as goal
 

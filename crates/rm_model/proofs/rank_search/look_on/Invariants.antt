@@ -1,5 +1,5 @@
 use Rattle.std.proofs.Common.{length, ◌-◌, ◌≡◌, ◌≤◌, take, Some}
-use Rattle.rm_model.specs.Numbers.{rank_over}
+use Rattle.rm_model.specs.Inner.Numbers.{rank_over}
 use Rattle.rm_model.proofs.rank_search.look_on.Given as goal
 
 abbrev pub invariant-loop-looked : goal.invariant-loop-looked

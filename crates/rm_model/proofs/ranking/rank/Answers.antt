@@ -1,6 +1,6 @@
 use Rattle.std.proofs.Common.{◌≡◌, map, Vec, Global, List, ℕ, Option, Some, subst, sym, ◌∙◌, true, IfOk, IfErr}
 use Rattle.std.specs.Prelude.{position, is_none}
-use Rattle.rm_model.specs.Numbers.{IsFixed}
+use Rattle.rm_model.specs.Inner.Numbers.{IsFixed}
 use Rattle.rm_model.specs.Ranks.{ranks_of, AreRanks}
 use Rattle.rm_model.specs.RankFaults.{IsRefused}
 use Rattle.rm_model.specs.Value.{source_names, outputs_of}

@@ -1,10 +1,10 @@
 use Rattle.std.proofs.Common.{◌≡◌, map, Vec, Global, List, ℕ, subst, sym, ap, ◌∙◌}
-use Rattle.rm_model.specs.Search.{AreKnown}
-use Rattle.rm_model.specs.Numbers.{rank_over, drivers_of, IsFixed}
+use Rattle.rm_model.specs.Inner.Search.{AreKnown}
+use Rattle.rm_model.specs.Inner.Numbers.{rank_over, drivers_of, IsFixed}
 use Rattle.rm_model.specs.declared.rank_search.Search.{Search}
 use Rattle.rm_model.proofs.RankingLemmas.{drivers-known, map-twice, if_ok_map}
 use Rattle.rm_model.proofs.ranking.search_covers.Goals as goal
-use Rattle.rm_model.specs.SearchView.{items_of}
+use Rattle.rm_model.specs.Inner.SearchView.{items_of}
 
 pub find_ranks-requires-clause-known : goal.find_ranks-requires-clause-known
 find_ranks-requires-clause-known c = subst AreKnown (sym (ap (λ (l : List (Vec ℕ Global)). map items_of l) c.as_slice.ensures.value ∙ c.in_ok-lists.ensures)) (drivers-known c.args.covers.now)

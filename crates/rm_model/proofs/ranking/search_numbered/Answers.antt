@@ -1,9 +1,10 @@
 use Rattle.std.proofs.Common.{◌≡◌, ◌<◌, map, length, Vec, Global, List, ℕ, subst, sym, ap, ◌∙◌, arith}
 use Rattle.std.specs.List.{filter_map}
 use Rattle.std.proofs.lemmas.List.{length-map}
-use Rattle.rm_model.specs.Numbers.{rank_over, drivers_of, IsFixed}
-use Rattle.rm_model.specs.Search.{AreKnown}
-use Rattle.rm_model.specs.Signals.{cover_at, AreNumbers}
+use Rattle.rm_model.specs.Inner.Numbers.{rank_over, drivers_of, IsFixed}
+use Rattle.rm_model.specs.Inner.Search.{AreKnown}
+use Rattle.rm_model.specs.Signals.{AreNumbers}
+use Rattle.rm_model.specs.Inner.Signals.{cover_at}
 use Rattle.rm_model.specs.Value.{source_names}
 use Rattle.rm_model.specs.WellFormed.{IsWellFormed}
 use Rattle.rm_model.specs.declared.parts.Cover.{Cover}

@@ -4,8 +4,8 @@ use Rattle.gate_graph.specs.Circuit.{net_of}
 use Rattle.gate_graph.specs.Search.{IsSeen}
 use Rattle.ternary_sim.proofs.beginning.begin_cone.Given as goal
 use Rattle.ternary_sim.specs.Regions.{IsTouched}
-use Rattle.ternary_sim.specs.Settling.{HasBegun, plain_marks}
-use Rattle.ternary_sim.specs.Tracking.{AreInside, first_marks, marks_before}
+use Rattle.ternary_sim.specs.Inner.Settling.{HasBegun, plain_marks}
+use Rattle.ternary_sim.specs.Inner.Tracking.{AreInside, first_marks, marks_before}
 
 abbrev pub invariant-loop-place : goal.invariant-loop-place
 invariant-loop-place l = record {

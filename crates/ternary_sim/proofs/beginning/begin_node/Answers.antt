@@ -4,9 +4,9 @@ use Rattle.ternary_sim.proofs.Beginnings.{begun_more}
 use Rattle.ternary_sim.proofs.TrailMarks.{before_rewritten, first_rewritten, inside_had}
 use Rattle.ternary_sim.proofs.beginning.begin_node.Goals as goal
 use Rattle.ternary_sim.specs.Marks.{no_marks}
-use Rattle.ternary_sim.specs.Settling.{touched_marks}
+use Rattle.ternary_sim.specs.Inner.Settling.{touched_marks}
 use Rattle.ternary_sim.specs.Sheets.{SheetState}
-use Rattle.ternary_sim.specs.Tracking.{first_marks, marks_before}
+use Rattle.ternary_sim.specs.Inner.Tracking.{first_marks, marks_before}
 use Rattle.ternary_sim.specs.declared.marks.NodeMarks.{NodeMarks}
 use Rattle.ternary_sim.specs.declared.trail.Saved.{Saved}
 use Rattle.ternary_sim.specs.declared.trail.Saved.TheVariants.{Had}

@@ -4,7 +4,8 @@ use Rattle.gate_looks.specs.Pins.{with_stuck}
 use Rattle.gate_looks.proofs.Public.{kind_is}
 use Rattle.ternary_sim.proofs.Loops.{own_forward}
 use Rattle.ternary_sim.proofs.reading.node_value.Goals as goal
-use Rattle.ternary_sim.specs.Marks.{known_in, known_source}
+use Rattle.ternary_sim.specs.Marks.{known_source}
+use Rattle.ternary_sim.specs.Inner.Marks.{known_in}
 
 pub source_value-own-requires-clause-kind : goal.source_value-own-requires-clause-kind
 source_value-own-requires-clause-kind c = kind_is (net_of c.args.graph.now) c.args.node.0 c.in_ok-kind.kind c.in_ok-kind.ensures

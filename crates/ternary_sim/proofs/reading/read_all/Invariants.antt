@@ -1,7 +1,7 @@
 use Rattle.std.proofs.Common.{length, map, ◌≡◌}
 use Rattle.gate_graph.specs.Circuit.{net_of}
 use Rattle.ternary_sim.specs.Marks.{known_source}
-use Rattle.ternary_sim.specs.Sims.{IsMarked, AreRead}
+use Rattle.ternary_sim.specs.Inner.Sims.{IsMarked, AreRead}
 use Rattle.ternary_sim.proofs.reading.read_all.Given as goal
 
 abbrev pub invariant-loop-node : goal.invariant-loop-node

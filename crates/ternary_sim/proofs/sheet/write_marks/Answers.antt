@@ -2,7 +2,7 @@ use Rattle.std.proofs.Common.{Bool, List, ap, arith, length, not, refl, sym, ◌
 use Rattle.ternary_sim.proofs.Counts.{count_within, counted, recounted}
 use Rattle.ternary_sim.proofs.sheet.write_marks.Goals as goal
 use Rattle.ternary_sim.specs.Marks.{mark_at}
-use Rattle.ternary_sim.specs.Sheets.{is_different, is_open, watched_at, watched_count}
+use Rattle.ternary_sim.specs.Inner.Sheets.{is_different, is_open, watched_at, watched_count}
 use Rattle.ternary_sim.specs.declared.marks.NodeMarks.{NodeMarks}
 
 pub recount-different_now-requires-clause-some : goal.recount-different_now-requires-clause-some

@@ -1,7 +1,7 @@
 use Rattle.std.proofs.Common.{List, [], ap, arith, length, length-set, sym, ◌++◌, ◌<◌, ◌∙◌, ◌∷◌}
 use Rattle.ternary_sim.proofs.TrailMarks.{first_given, first_had, inside_less}
 use Rattle.ternary_sim.proofs.tracker.undo_all.Goals as goal
-use Rattle.ternary_sim.specs.Tracking.{AreInside, first_marks}
+use Rattle.ternary_sim.specs.Inner.Tracking.{AreInside, first_marks}
 use Rattle.ternary_sim.specs.declared.trail.Saved.{Saved}
 use Rattle.ternary_sim.specs.declared.trail.Saved.TheVariants.{Had}
 

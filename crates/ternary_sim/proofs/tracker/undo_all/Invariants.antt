@@ -1,6 +1,6 @@
 use Rattle.std.proofs.Common.{length, ◌≡◌}
 use Rattle.ternary_sim.proofs.tracker.undo_all.Given as goal
-use Rattle.ternary_sim.specs.Tracking.{AreInside, first_marks}
+use Rattle.ternary_sim.specs.Inner.Tracking.{AreInside, first_marks}
 
 abbrev pub invariant-loop-entry : goal.invariant-loop-entry
 invariant-loop-entry l = record {

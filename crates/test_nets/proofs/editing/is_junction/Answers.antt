@@ -1,5 +1,5 @@
 use Rattle.std.proofs.Common.{ap, ◌∙◌, Some, sym, refl}
-use Rattle.gate_net.specs.Meaning.{TakesPins}
+use Rattle.gate_net.specs.Inner.Meaning.{TakesPins}
 use Rattle.gate_graph.specs.Circuit.{net_of}
 use Rattle.gate_graph.proofs.Public.{kind-known}
 use Rattle.test_nets.proofs.editing.is_junction.Goals as goal

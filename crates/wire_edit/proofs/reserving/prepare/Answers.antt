@@ -1,6 +1,6 @@
 use Rattle.std.proofs.Common.{arith, ℕ, sym, subst}
 use Rattle.gate_graph.specs.Circuit.{net_of}
-use Rattle.wire_edit.specs.Trials.{IsTrial}
+use Rattle.wire_edit.specs.Inner.Trials.{IsTrial}
 use Rattle.wire_edit.proofs.Trying.{begun, begins_quiet}
 use Rattle.wire_edit.proofs.reserving.prepare.Goals as goal
 

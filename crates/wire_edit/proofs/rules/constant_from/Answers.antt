@@ -4,7 +4,7 @@ use Rattle.rm_base.specs.declared.numbers.NodeId.{NodeId}
 use Rattle.gate_graph.specs.Circuit.{net_of}
 use Rattle.gate_net.specs.Net.{drivers_of, wire_count}
 use Rattle.wire_edit.specs.Tests.{driver_at}
-use Rattle.wire_edit.specs.Firsts.{reads_constant}
+use Rattle.wire_edit.specs.Inner.Firsts.{reads_constant}
 use Rattle.wire_edit.proofs.Walks.{march, pushed, none_more}
 use Rattle.wire_edit.proofs.Reading.{constant_test}
 use Rattle.wire_edit.proofs.KnownPins.{rest_place, rest_end, few_drivers, one_further}

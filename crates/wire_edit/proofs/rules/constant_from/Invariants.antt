@@ -1,7 +1,7 @@
 use Rattle.std.proofs.Common.{◌≡◌, ◌<◌, ◌+◌, ◌++◌, ℕ, map, drop, length, false}
 use Rattle.gate_graph.specs.Circuit.{net_of}
 use Rattle.gate_net.specs.Net.{drivers_of}
-use Rattle.wire_edit.specs.Firsts.{reads_constant}
+use Rattle.wire_edit.specs.Inner.Firsts.{reads_constant}
 use Rattle.wire_edit.proofs.rules.constant_from.Given as goal
 
 abbrev pub invariant-loop-driver : goal.invariant-loop-driver

@@ -1,7 +1,7 @@
 use Rattle.std.proofs.Common.{Some, sym, ◌∙◌, length, subst}
 use Rattle.gate_graph.specs.Circuit.{net_of}
 use Rattle.gate_net.specs.Net.{drivers_of}
-use Rattle.wire_edit.specs.Firsts.{IsFirst, reads_constant}
+use Rattle.wire_edit.specs.Inner.Firsts.{IsFirst, reads_constant}
 use Rattle.wire_edit.proofs.RuleAt.{unused_rule, constant_rule}
 use Rattle.wire_edit.proofs.rules.early_rule.Goals as goal
 

@@ -1,7 +1,7 @@
 use Rattle.std.proofs.Common.{Some, None, sym, ◌∙◌, length, subst}
 use Rattle.gate_graph.specs.Circuit.{net_of}
 use Rattle.gate_net.specs.Net.{drivers_of}
-use Rattle.wire_edit.specs.Firsts.{IsFirst}
+use Rattle.wire_edit.specs.Inner.Firsts.{IsFirst}
 use Rattle.wire_edit.specs.Tests.{is_repeated}
 use Rattle.wire_edit.proofs.RuleAt.{repeated_rule}
 use Rattle.wire_edit.proofs.Reading.{junction_of}

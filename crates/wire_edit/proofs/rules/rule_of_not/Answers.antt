@@ -2,7 +2,7 @@ use Rattle.std.proofs.Common.{Some, None, sym, ap, ◌∙◌}
 use Rattle.std.specs.Option.{option_map}
 use Rattle.rm_base.specs.declared.numbers.NodeId.{NodeId}
 use Rattle.gate_graph.specs.Circuit.{net_of}
-use Rattle.wire_edit.specs.Firsts.{IsFirst, is_twin}
+use Rattle.wire_edit.specs.Inner.Firsts.{IsFirst, is_twin}
 use Rattle.wire_edit.proofs.Tested.{not_gate}
 use Rattle.wire_edit.proofs.RuleAt.{twice_rule, twin_rule, lone_rule}
 use Rattle.wire_edit.proofs.Reading.{not_driven}

@@ -1,7 +1,7 @@
 use Rattle.std.proofs.Common.{length, ap, arith, refl, ◌∙◌, List, Bool}
 use Rattle.gate_graph.specs.Circuit.{net_of}
 use Rattle.gate_net.specs.Net.{drivers_of}
-use Rattle.wire_edit.specs.Marked.{is_marked}
+use Rattle.wire_edit.specs.Inner.Marked.{is_marked}
 use Rattle.wire_edit.proofs.Repeating.{drivers_below}
 use Rattle.wire_edit.proofs.KnownPins.{blank_first}
 use Rattle.wire_edit.proofs.seen.first_repeated.Goals as goal

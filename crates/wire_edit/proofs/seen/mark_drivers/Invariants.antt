@@ -2,7 +2,7 @@ use Rattle.std.proofs.Common.{◌≡◌, ◌<◌, ◌≤◌, ◌+◌, ◌++◌, 
 use Rattle.gate_graph.specs.Circuit.{net_of}
 use Rattle.gate_net.specs.Net.{drivers_of}
 use Rattle.wire_edit.specs.Tests.{is_repeated}
-use Rattle.wire_edit.specs.Known.{MarksFirst}
+use Rattle.wire_edit.specs.Inner.Known.{MarksFirst}
 use Rattle.wire_edit.proofs.seen.mark_drivers.Given as goal
 
 abbrev pub invariant-loop-driver : goal.invariant-loop-driver

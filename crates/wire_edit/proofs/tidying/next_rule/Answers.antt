@@ -1,6 +1,6 @@
 use Rattle.std.proofs.Common.{sym, ◌∙◌, subst}
 use Rattle.gate_graph.specs.Circuit.{net_of}
-use Rattle.wire_edit.specs.Marked.{IsQuiet}
+use Rattle.wire_edit.specs.Inner.Marked.{IsQuiet}
 use Rattle.wire_edit.proofs.Trying.{next_found, next_none}
 use Rattle.wire_edit.proofs.tidying.next_rule.Goals as goal
 

@@ -1,7 +1,7 @@
 use Rattle.std.proofs.Common.{◌≡◌, length}
 use Rattle.gate_graph.specs.Circuit.{net_of}
-use Rattle.wire_edit.specs.Known.{IsKept}
-use Rattle.wire_edit.specs.Marked.{IsQuiet, marks_left}
+use Rattle.wire_edit.specs.Inner.Known.{IsKept}
+use Rattle.wire_edit.specs.Inner.Marked.{IsQuiet, marks_left}
 use Rattle.wire_edit.proofs.tidying.next_rule.Given as goal
 
 abbrev pub invariant-loop-number : goal.invariant-loop-number

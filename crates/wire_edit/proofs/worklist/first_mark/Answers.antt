@@ -1,6 +1,6 @@
 use Rattle.std.proofs.Common.{◌<◌, sym, ◌∙◌, arith, length, inl, inr, ap}
 use Rattle.std.proofs.lemmas.Bool.{cases_eq}
-use Rattle.wire_edit.specs.Marked.{is_marked}
+use Rattle.wire_edit.specs.Inner.Marked.{is_marked}
 use Rattle.wire_edit.proofs.Marking.{marked_is}
 use Rattle.wire_edit.proofs.worklist.first_mark.Goals as goal
 

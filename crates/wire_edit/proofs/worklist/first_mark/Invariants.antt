@@ -1,5 +1,5 @@
 use Rattle.std.proofs.Common.{◌≡◌, ◌<◌, ◌≤◌, ℕ, false}
-use Rattle.wire_edit.specs.Marked.{is_marked}
+use Rattle.wire_edit.specs.Inner.Marked.{is_marked}
 use Rattle.wire_edit.proofs.worklist.first_mark.Given as goal
 
 abbrev pub invariant-loop-number : goal.invariant-loop-number

@@ -1,6 +1,6 @@
 use Rattle.std.proofs.Common.{◌<◌, inl, inr, ap, ◌∙◌, true, set, length, arith}
 use Rattle.std.proofs.lemmas.Bool.{cases_eq}
-use Rattle.wire_edit.specs.Marked.{is_marked}
+use Rattle.wire_edit.specs.Inner.Marked.{is_marked}
 use Rattle.wire_edit.proofs.Marking.{set_marked, set_other_mark, set_count}
 use Rattle.wire_edit.proofs.worklist.set_all.Goals as goal
 

@@ -1,9 +1,10 @@
 use Rattle.std.proofs.Common.{◌≡◌, ◌∙◌, sym, ap, map, string_bytes, List, Option, Some, None}
 use Rattle.std.specs.Prelude.{IfOk, IfErr, option_map}
 use Rattle.std.specs.Option.{ok_or}
-use Rattle.word_reading.specs.Commands.{HasNamesApart, HasSettingsInRange, asked_of, command_in}
+use Rattle.word_reading.specs.Commands.{HasNamesApart, HasSettingsInRange, asked_of}
+use Rattle.word_reading.specs.Inner.Commands.{command_in}
 use Rattle.clap.specs.Walk.{Row, Text}
-use Rattle.word_reading.specs.Judged.{accepted}
+use Rattle.word_reading.specs.Inner.Judged.{accepted}
 use Rattle.word_reading.specs.Words.{Asked, asked}
 use Rattle.word_reading.specs.declared.command.Command.{Command}
 use Rattle.word_reading.specs.declared.command.WordFault.{WordFault}

@@ -2,7 +2,7 @@ use Rattle.std.proofs.Common.{◌≡◌, ◌<◌, [], ◌∷◌, ◌++◌, List,
 use Rattle.std.specs.List.{zip}
 use Rattle.rm_model.specs.Numbers.{place_of}
 use Rattle.blif_reader.specs.declared.names.NameUse.{NameUse}
-use Rattle.blif_reader.specs.Tally.{put_entry}
+use Rattle.blif_reader.specs.Inner.Tally.{put_entry}
 use Rattle.blif_reader.proofs.PairLaws.{replaced_entry, pair_names, place_bound, pushed_entry, new_name, not_some}
 use Rattle.blif_reader.proofs.name_uses.NameUses.put.Goals as goal
 use Rattle.rm_base.specs.Words.{Word}

@@ -3,8 +3,8 @@ use Rattle.std.specs.Option.{option_map}
 use Rattle.rm_base.specs.declared.numbers.Place.{Place}
 use Rattle.blif_format.specs.declared.refusal.FaultKind.TheVariants.{Undriven}
 use Rattle.blif_format.specs.declared.refusal.ReadRefusal.TheVariants.{Fault}
-use Rattle.blif_reader.specs.Tally.{IsTally}
-use Rattle.blif_reader.specs.Views.{tally}
+use Rattle.blif_reader.specs.Inner.Tally.{IsTally}
+use Rattle.blif_reader.specs.Inner.Views.{tally}
 use Rattle.blif_reader.proofs.Free.{undriven_law}
 use Rattle.blif_reader.proofs.names.Names.first_undriven.Goals as goal
 

@@ -1,10 +1,10 @@
 use Rattle.std.proofs.Common.{◌∙◌, sym, ap, subst, ℕ, length}
 use Rattle.std.proofs.Common.{refl, ◌≤◌, not, Option}
 use Rattle.std.specs.Prelude.{is_some}
-use Rattle.blif_reader.specs.Tally.{more_if}
+use Rattle.blif_reader.specs.Inner.Tally.{more_if}
 use Rattle.blif_reader.specs.declared.names.NameUse.{NameUse}
-use Rattle.blif_reader.specs.Tally.{IsTally}
-use Rattle.blif_reader.specs.Views.{tally}
+use Rattle.blif_reader.specs.Inner.Tally.{IsTally}
+use Rattle.blif_reader.specs.Inner.Views.{tally}
 use Rattle.blif_reader.proofs.TallyLaws.{refuses_use, accepts_use, keeps_limits, KeepsLimits, length_after}
 use Rattle.blif_reader.proofs.names.Names.take.Goals as goal
 

@@ -1,6 +1,6 @@
 use Rattle.std.proofs.Common.{ap, ◌∙◌}
 use Rattle.candidate_wires.proofs.StampLists.{marks-fresh}
-use Rattle.candidate_wires.specs.Stamped.{marks_of}
+use Rattle.candidate_wires.specs.Inner.Stamped.{marks_of}
 use Rattle.candidate_wires.proofs.stamps.Stamps.new.Goals as goal
 
 pub returns : goal.returns

@@ -2,10 +2,11 @@ use Rattle.std.proofs.Common.{List, length, subst, sym, ◌++◌, ◌∷◌, [],
 use Rattle.std.proofs.lemmas.List.{length-map}
 use Rattle.gate_graph.specs.Circuit.{net_of}
 use Rattle.fault_sim.proofs.Blocking.{all_simulated, blocks_more, each_more, each_simulated}
-use Rattle.fault_sim.specs.BlockStates.{AreSimulated, IsSimulatedBlock, good_of, words_of}
+use Rattle.fault_sim.specs.BlockStates.{AreSimulated, IsSimulatedBlock}
+use Rattle.fault_sim.specs.Inner.BlockStates.{good_of, words_of}
 use Rattle.fault_sim.specs.declared.blocks.Block.{Block}
 use Rattle.fault_sim.proofs.blocks.Blocks.keep64.Goals as goal
-use Rattle.rm_base.specs.Numbers.{numbers_of}
+use Rattle.rm_base.specs.Inner.Numbers.{numbers_of}
 
 pub invariant_of-self-2 : goal.invariant_of-self-2
 invariant_of-self-2 c =

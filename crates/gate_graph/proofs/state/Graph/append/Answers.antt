@@ -9,7 +9,7 @@ use Rattle.pin_pool.proofs.Public.{linked-more}
 use Rattle.gate_graph.specs.Holds.{held}
 use Rattle.gate_graph.specs.declared.undo_list.Undo.{Undo}
 use Rattle.pin_pool.specs.Rings.{Rings}
-use Rattle.gate_graph.specs.Circuit.{IsGraph}
+use Rattle.gate_graph.specs.Inner.Circuit.{IsGraph}
 use Rattle.std.proofs.Common.{List, ◌∷◌, [], length, length-append, ap}
 use Rattle.pin_pool.specs.Pins.{list_of}
 use Rattle.gate_graph.proofs.state.Graph.append.Goals as goal

@@ -2,7 +2,8 @@ use Rattle.std.proofs.Common.{ℕ, List, [], ◌∷◌, ◌++◌, length, map, S
 use Rattle.std.proofs.lemmas.List.{map-append}
 use Rattle.rm_base.specs.declared.numbers.NodeId.{NodeId}
 use Rattle.pin_pool.specs.declared.names.PinNo.{PinNo}
-use Rattle.gate_graph.specs.Circuit.{Circuit, IsGraph}
+use Rattle.gate_graph.specs.Circuit.{Circuit}
+use Rattle.gate_graph.specs.Inner.Circuit.{IsGraph}
 use Rattle.gate_graph.proofs.KindAt.{kind-within}
 use Rattle.gate_graph.proofs.Placed.{map-push, has-middle}
 use Rattle.gate_graph.proofs.Following.{following-start, following-step, following-skip, following-end, step-some, at-number}

@@ -1,5 +1,6 @@
 use Rattle.std.proofs.Common.{arith}
-use Rattle.gate_graph.specs.Circuit.{Circuit, IsGraph}
+use Rattle.gate_graph.specs.Circuit.{Circuit}
+use Rattle.gate_graph.specs.Inner.Circuit.{IsGraph}
 use Rattle.gate_graph.proofs.Counted.{numbers-are}
 use Rattle.gate_graph.proofs.state.Graph.gate_count.Goals as goal
 

@@ -1,6 +1,7 @@
 use Rattle.std.proofs.Common.{◌∙◌, ap, arith, sym, length}
 use Rattle.std.proofs.lemmas.List.{length-map}
-use Rattle.gate_graph.specs.Circuit.{Circuit, IsGraph, gate_pins, home}
+use Rattle.gate_graph.specs.Circuit.{Circuit, gate_pins, home}
+use Rattle.gate_graph.specs.Inner.Circuit.{IsGraph}
 use Rattle.gate_graph.proofs.KindAt.{kind-within}
 use Rattle.gate_graph.proofs.LeadOns.{live-in}
 use Rattle.gate_graph.proofs.Pinned.{drivers-all}

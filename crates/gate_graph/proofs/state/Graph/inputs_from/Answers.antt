@@ -1,7 +1,8 @@
 use Rattle.std.proofs.Common.{◌≡◌, map, arith, ap, sym, ◌∙◌, Some, None, drop}
 use Rattle.gate_net.specs.declared.Kind.TheVariants.{One}
 use Rattle.pin_pool.specs.Ring.{has}
-use Rattle.gate_graph.specs.Circuit.{Circuit, IsGraph, gate_pins, home}
+use Rattle.gate_graph.specs.Circuit.{Circuit, gate_pins, home}
+use Rattle.gate_graph.specs.Inner.Circuit.{IsGraph}
 use Rattle.std.proofs.lemmas.List.{length-map, drop-map}
 use Rattle.gate_graph.proofs.LeadOns.{live-in}
 use Rattle.gate_graph.proofs.KindAt.{kind-within}

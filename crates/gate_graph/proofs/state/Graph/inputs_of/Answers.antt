@@ -1,7 +1,8 @@
 use Rattle.std.proofs.Common.{◌≡◌, map, arith, ap, sym, ◌∙◌, Some, None}
 use Rattle.gate_net.specs.declared.Kind.TheVariants.{One}
 use Rattle.pin_pool.specs.Ring.{has}
-use Rattle.gate_graph.specs.Circuit.{Circuit, IsGraph, home}
+use Rattle.gate_graph.specs.Circuit.{Circuit, home}
+use Rattle.gate_graph.specs.Inner.Circuit.{IsGraph}
 use Rattle.std.proofs.lemmas.List.{length-map}
 use Rattle.gate_graph.proofs.LeadOns.{live-in}
 use Rattle.gate_graph.proofs.KindAt.{kind-within}

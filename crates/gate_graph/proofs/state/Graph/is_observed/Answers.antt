@@ -1,7 +1,8 @@
 use Rattle.std.proofs.Common.{None, length, ap, arith}
 use Rattle.std.proofs.lemmas.Bool.{false≢true}
 use Rattle.std.proofs.lemmas.List.{get_or_past}
-use Rattle.gate_graph.specs.Circuit.{Circuit, IsGraph}
+use Rattle.gate_graph.specs.Circuit.{Circuit}
+use Rattle.gate_graph.specs.Inner.Circuit.{IsGraph}
 use Rattle.gate_graph.proofs.Placed.{observed-pin, observed-cases}
 use Rattle.gate_graph.proofs.state.Graph.is_observed.Goals as goal
 

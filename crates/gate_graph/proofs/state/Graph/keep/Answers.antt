@@ -2,7 +2,8 @@ use Rattle.std.proofs.Common.{arith, refl, sym, ap, ◌∙◌, ◌≡◌, List, 
 use Rattle.pin_pool.specs.Rings.{Rings}
 use Rattle.gate_net.specs.declared.Kind.{Kind}
 use Rattle.gate_graph.specs.Wirings.{kind_at, free_in}
-use Rattle.gate_graph.specs.Circuit.{Circuit, IsGraph}
+use Rattle.gate_graph.specs.Circuit.{Circuit}
+use Rattle.gate_graph.specs.Inner.Circuit.{IsGraph}
 use Rattle.gate_graph.proofs.Kept.{graph-kept, net-kept, readers-kept}
 use Rattle.gate_graph.proofs.Holding.{are-held, held-step, held-here, held-count}
 use Rattle.std.specs.FinSet as finset

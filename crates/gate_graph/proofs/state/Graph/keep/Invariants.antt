@@ -2,7 +2,8 @@ use Rattle.std.proofs.Common.{◌≡◌, ◌+◌, length}
 use Rattle.std.specs.FinSet as set
 use Rattle.pin_pool.specs.Rings.{rings_of}
 use Rattle.gate_graph.specs.Wirings.{wiring_of}
-use Rattle.gate_graph.specs.Holds.{held, AreHeld}
+use Rattle.gate_graph.specs.Holds.{held}
+use Rattle.gate_graph.specs.Inner.Holds.{AreHeld}
 use Rattle.gate_graph.proofs.state.Graph.keep.Given as goal
 
 abbrev pub invariant-loop-entry : goal.invariant-loop-entry

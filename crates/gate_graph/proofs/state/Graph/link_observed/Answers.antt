@@ -8,7 +8,7 @@ use Rattle.pin_pool.proofs.Public.{linked-more}
 use Rattle.std.proofs.Common.{◌∷◌, [], length-append, ap}
 use Rattle.pin_pool.specs.Rings.{Rings}
 use Rattle.pin_pool.specs.Pins.{list_of}
-use Rattle.gate_graph.specs.Circuit.{IsGraph}
+use Rattle.gate_graph.specs.Inner.Circuit.{IsGraph}
 use Rattle.gate_graph.proofs.Counted.{live-numbers}
 use Rattle.gate_graph.proofs.state.Graph.link_observed.Goals as goal
 

@@ -1,6 +1,6 @@
 use Rattle.std.proofs.Common.{◌-◌, length}
 use Rattle.gate_graph.specs.Circuit.{net_of}
-use Rattle.gate_graph.specs.Search.{Searched}
+use Rattle.gate_graph.specs.Inner.Search.{Searched}
 use Rattle.gate_graph.proofs.state.Graph.mark_back.Given as goal
 
 abbrev pub invariant-loop-next : goal.invariant-loop-next

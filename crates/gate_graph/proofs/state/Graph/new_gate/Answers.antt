@@ -3,7 +3,8 @@ use Rattle.std.proofs.lemmas.List.{length-map}
 use Rattle.rm_base.specs.declared.numbers.NodeId.{NodeId}
 use Rattle.pin_pool.specs.Ring.{has}
 use Rattle.gate_graph.specs.Wirings.{kind_at, Wiring}
-use Rattle.gate_graph.specs.Circuit.{Circuit, IsGraph, kinds_live}
+use Rattle.gate_graph.specs.Circuit.{Circuit}
+use Rattle.gate_graph.specs.Inner.Circuit.{IsGraph, kinds_live}
 use Rattle.gate_graph.proofs.LeadOns.{live-in}
 use Rattle.gate_graph.proofs.KindAt.{kind-within, live-next}
 use Rattle.gate_graph.proofs.Pinned.{dead-pins}

@@ -6,14 +6,14 @@ use Rattle.gate_graph.proofs.Making.{makes, free-found}
 use Rattle.gate_graph.proofs.LeadOns.{live-in}
 use Rattle.gate_graph.proofs.KindAt.{kind-within, wired-set, live-next}
 use Rattle.gate_graph.specs.Wirings.{kind_at}
-use Rattle.gate_graph.specs.Circuit.{kinds_live}
+use Rattle.gate_graph.specs.Inner.Circuit.{kinds_live}
 use Rattle.gate_graph.proofs.Numbers.{bit-none}
 use Rattle.gate_graph.proofs.HeldPins.{holds-by}
 use Rattle.pin_pool.proofs.Public.{linked-more}
 use Rattle.gate_graph.specs.Holds.{held}
 use Rattle.gate_graph.specs.declared.undo_list.Undo.{Undo}
 use Rattle.pin_pool.specs.Rings.{Rings}
-use Rattle.gate_graph.specs.Circuit.{IsGraph}
+use Rattle.gate_graph.specs.Inner.Circuit.{IsGraph}
 use Rattle.std.proofs.Common.{List, ◌∷◌, [], length-append}
 use Rattle.pin_pool.specs.Pins.{list_of}
 use Rattle.gate_graph.proofs.state.Graph.new_not.Goals as goal

@@ -1,7 +1,8 @@
 use Rattle.std.proofs.Common.{◌≡◌, ◌<◌, Some, None, sym, ◌∙◌, inl, inr}
 use Rattle.std.proofs.lemmas.Bool.{cases_lt}
 use Rattle.gate_net.specs.declared.Kind.TheVariants.{Zero}
-use Rattle.gate_graph.specs.Circuit.{Circuit, IsGraph, kinds_dead}
+use Rattle.gate_graph.specs.Circuit.{Circuit}
+use Rattle.gate_graph.specs.Inner.Circuit.{IsGraph, kinds_dead}
 use Rattle.gate_graph.proofs.Bounded.{bound-is}
 use Rattle.gate_graph.proofs.state.Graph.node_bound.Goals as goal
 

@@ -1,5 +1,5 @@
 use Rattle.std.proofs.Common.{◌-◌, map, length}
-use Rattle.gate_graph.specs.Order.{IsFollowed}
+use Rattle.gate_graph.specs.Inner.Order.{IsFollowed}
 use Rattle.gate_graph.proofs.state.Graph.order.Given as goal
 
 abbrev pub invariant-loop-next : goal.invariant-loop-next

@@ -17,7 +17,7 @@ use Rattle.gate_graph.specs.Holds.{held}
 use Rattle.gate_graph.specs.declared.undo_list.Undo.{Undo}
 use Rattle.std.specs.FinSet as finset
 use Rattle.pin_pool.specs.Rings.{Rings}
-use Rattle.gate_graph.specs.Circuit.{IsGraph}
+use Rattle.gate_graph.specs.Inner.Circuit.{IsGraph}
 use Rattle.gate_graph.proofs.state.Graph.redrive.Goals as goal
 
 pub redrive_pin-slot-requires-clause-to : goal.redrive_pin-slot-requires-clause-to

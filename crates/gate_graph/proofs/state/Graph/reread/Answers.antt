@@ -12,7 +12,7 @@ use Rattle.gate_graph.specs.Holds.{held}
 use Rattle.gate_graph.specs.declared.undo_list.Undo.{Undo}
 use Rattle.std.specs.FinSet as finset
 use Rattle.pin_pool.specs.Rings.{Rings}
-use Rattle.gate_graph.specs.Circuit.{IsGraph}
+use Rattle.gate_graph.specs.Inner.Circuit.{IsGraph}
 use Rattle.gate_graph.proofs.state.Graph.reread.Goals as goal
 
 pub move_fanouts-splice-requires-clause-from : goal.move_fanouts-splice-requires-clause-from

@@ -3,7 +3,8 @@ use Rattle.std.proofs.lemmas.Grind.{common_steps}
 use Rattle.std.proofs.lemmas.List.{length-replicate}
 use Rattle.gate_net.specs.declared.Kind.{Kind}
 use Rattle.gate_graph.specs.Wirings.{free_in}
-use Rattle.gate_graph.specs.Circuit.{Circuit, IsGraph}
+use Rattle.gate_graph.specs.Circuit.{Circuit}
+use Rattle.gate_graph.specs.Inner.Circuit.{IsGraph}
 use Rattle.gate_graph.proofs.Fresh.{grows}
 use Rattle.gate_graph.proofs.Numbers.{free-within, free-more}
 use Rattle.std.specs.FinSet as finset

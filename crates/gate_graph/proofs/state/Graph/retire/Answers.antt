@@ -4,7 +4,8 @@ use Rattle.gate_net.specs.declared.Kind.{Kind}
 use Rattle.pin_pool.specs.Pins.{list_of}
 use Rattle.pin_pool.specs.Rings.{AreRings, rings_of}
 use Rattle.gate_graph.specs.Wirings.{kind_at, free_in}
-use Rattle.gate_graph.specs.Circuit.{Circuit, IsGraph}
+use Rattle.gate_graph.specs.Circuit.{Circuit}
+use Rattle.gate_graph.specs.Inner.Circuit.{IsGraph}
 use Rattle.gate_graph.proofs.KindAt.{kind-within, live-set}
 use Rattle.gate_graph.proofs.LeadOns.{live-in}
 use Rattle.gate_graph.proofs.Pinned.{map-none}

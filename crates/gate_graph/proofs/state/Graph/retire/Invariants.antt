@@ -1,8 +1,9 @@
 use Rattle.std.proofs.Common.{◌≡◌, ◌+◌, length}
 use Rattle.pin_pool.specs.Pins.{list_of}
 use Rattle.gate_graph.specs.Wirings.{free_in}
-use Rattle.gate_graph.specs.Circuit.{Circuit, kinds_live, kinds_dead}
-use Rattle.gate_graph.specs.Emptied.{IsEmptied}
+use Rattle.gate_graph.specs.Circuit.{Circuit}
+use Rattle.gate_graph.specs.Inner.Circuit.{kinds_live, kinds_dead}
+use Rattle.gate_graph.specs.Inner.Emptied.{IsEmptied}
 use Rattle.gate_graph.specs.Holds.{held}
 use Rattle.pin_pool.specs.Totals.{linked_pins}
 use Rattle.gate_graph.proofs.state.Graph.retire.Given as goal

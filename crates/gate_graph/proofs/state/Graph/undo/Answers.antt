@@ -1,7 +1,8 @@
 use Rattle.std.proofs.Common.{rules, arith, ap, ◌≡◌, subst, List, length}
 use Rattle.gate_graph.specs.Holds.{held}
 use Rattle.gate_graph.specs.Wirings.{wiring_of}
-use Rattle.gate_graph.specs.Circuit.{Circuit, IsGraph}
+use Rattle.gate_graph.specs.Circuit.{Circuit}
+use Rattle.gate_graph.specs.Inner.Circuit.{IsGraph}
 use Rattle.gate_graph.specs.Undoing.{CanGoBack}
 use Rattle.gate_graph.specs.declared.undo_list.Undo.{Undo}
 use Rattle.gate_graph.proofs.HeldPins.{held-are, undoing-step}

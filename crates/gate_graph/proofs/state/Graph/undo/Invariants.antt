@@ -2,7 +2,8 @@ use Rattle.std.proofs.Common.{◌+◌, ◌≡◌, ◌≤◌, length}
 use Rattle.gate_graph.specs.Wirings.{wiring_of, free_in}
 use Rattle.std.specs.FinSet as set
 use Rattle.gate_graph.specs.Undoing.{CanGoBack, AreWithin, back_to}
-use Rattle.gate_graph.specs.Circuit.{wiring, kinds_live, kinds_dead}
+use Rattle.gate_graph.specs.Circuit.{wiring}
+use Rattle.gate_graph.specs.Inner.Circuit.{kinds_live, kinds_dead}
 use Rattle.gate_graph.proofs.HeldPins.{IsUndoing}
 use Rattle.gate_graph.proofs.state.Graph.undo.Given as goal
 

@@ -1,5 +1,6 @@
 use Rattle.std.proofs.Common.{arith}
-use Rattle.gate_graph.specs.Circuit.{Circuit, IsGraph}
+use Rattle.gate_graph.specs.Circuit.{Circuit}
+use Rattle.gate_graph.specs.Inner.Circuit.{IsGraph}
 use Rattle.gate_graph.proofs.Counted.{nodes-there}
 use Rattle.gate_graph.proofs.HeldPins.{observed-counted, wires-all}
 use Rattle.gate_graph.proofs.state.Graph.wire_count.Goals as goal

@@ -3,7 +3,7 @@ use Rattle.implications.proofs.Steps.{added_of}
 use Rattle.implications.proofs.state.Engine.extend.Goals as goal
 use Rattle.implications.specs.State.{EngineState}
 use Rattle.implications.specs.Trail.{AreAdded, LeadsBack}
-use Rattle.implications.specs.Working.{Keeps}
+use Rattle.implications.specs.Inner.Working.{Keeps}
 use Rattle.refutation.specs.declared.held.NodeFacts.{NodeFacts}
 
 pub returns-in-Ok-clause-added : goal.returns-in-Ok-clause-added

@@ -2,7 +2,7 @@ use Rattle.std.proofs.Common.{arith, length, sym, subst, ap}
 use Rattle.gate_graph.specs.Circuit.{net_of}
 use Rattle.implications.proofs.Rising.{tallied_more}
 use Rattle.implications.proofs.tallies.Tallies.of.Goals as goal
-use Rattle.implications.specs.Tallies.{AreTallied, TallyState}
+use Rattle.implications.specs.Inner.Tallies.{AreTallied, TallyState}
 use Rattle.refutation.specs.FactSets.{held_by}
 
 pub returns-clause-tallied : goal.returns-clause-tallied

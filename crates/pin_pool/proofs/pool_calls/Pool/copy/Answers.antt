@@ -1,7 +1,7 @@
 use Rattle.pin_pool.proofs.Calls.{paired-same}
 use Rattle.pin_pool.proofs.RingsOf.{listed, valid-of}
 use Rattle.std.proofs.Common.{ℕ, List, sym, subst, ◌∙◌}
-use Rattle.pin_pool.specs.Totals.{IsCounted}
+use Rattle.pin_pool.specs.Inner.Totals.{IsCounted}
 use Rattle.pin_pool.proofs.Totalled.{inputs-same}
 use Rattle.pin_pool.proofs.pool_calls.Pool.copy.Goals as goal
 

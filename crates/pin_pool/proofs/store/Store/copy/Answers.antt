@@ -1,7 +1,7 @@
 use Rattle.std.proofs.Common.{◌≡◌, ℕ, List, Bool, length, ap, ◌∙◌, ◌+◌, arith}
 use Rattle.std.specs.FinSet as set
-use Rattle.pin_pool.specs.Links.{lists_of}
-use Rattle.pin_pool.specs.Marks.{is_listed, is_marked, unmarked_from}
+use Rattle.pin_pool.specs.Inner.Links.{lists_of}
+use Rattle.pin_pool.specs.Inner.Marks.{is_listed, is_marked, unmarked_from}
 use Rattle.pin_pool.specs.Pins.{Pins}
 use Rattle.pin_pool.specs.declared.links.Side.TheVariants.{Gate}
 use Rattle.pin_pool.specs.declared.links.Pin.{Pin}

@@ -1,7 +1,7 @@
 use Rattle.std.proofs.Common.{◌<◌, length, arith}
 use Rattle.std.proofs.lemmas.Bool.{false≢true}
 use Rattle.std.proofs.lemmas.Bool.Decides.{nat_tests}
-use Rattle.pin_pool.specs.Links.{lists_of, list_at}
+use Rattle.pin_pool.specs.Inner.Links.{lists_of, list_at}
 use Rattle.pin_pool.specs.declared.links.Side.TheVariants.{Driver}
 use Rattle.pin_pool.proofs.PoolLemmas.{IsPool-drivers, NoneFree-both, has-append}
 use Rattle.pin_pool.proofs.store.Store.move_all.Goals as goal

@@ -1,5 +1,5 @@
 use Rattle.std.proofs.Common.{◌<◌, length}
-use Rattle.pin_pool.specs.Links.{lists_of}
+use Rattle.pin_pool.specs.Inner.Links.{lists_of}
 use Rattle.pin_pool.specs.declared.links.Side.TheVariants.{Driver}
 use Rattle.pin_pool.proofs.PoolLemmas.{IsPool-drivers, NoneFree-both, has-from_take, has-from_drop}
 use Rattle.pin_pool.proofs.store.Store.move_back.Goals as goal

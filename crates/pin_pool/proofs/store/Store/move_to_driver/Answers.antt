@@ -1,5 +1,5 @@
 use Rattle.std.proofs.Common.{◌≡◌, false, ap}
-use Rattle.pin_pool.specs.Links.{link_of}
+use Rattle.pin_pool.specs.Inner.Links.{link_of}
 use Rattle.pin_pool.proofs.PoolLemmas.{IsPool-drivers, NoneFree-moved_last, is-place}
 use Rattle.pin_pool.specs.declared.links.Side.TheVariants.{Gate}
 use Rattle.pin_pool.specs.Ring.{has}

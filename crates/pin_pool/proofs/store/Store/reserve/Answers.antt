@@ -1,6 +1,6 @@
 use Rattle.std.proofs.Common.{ℕ, List, [], ◌-◌, ◌≤◌, ◌++◌, length, replicate, vec_len, arith, ap, ◌∙◌, length-append}
 use Rattle.std.proofs.lemmas.List.{length-replicate}
-use Rattle.pin_pool.specs.Links.{lists_of, numbers}
+use Rattle.pin_pool.specs.Inner.Links.{lists_of, numbers}
 use Rattle.pin_pool.specs.declared.links.Side.TheVariants.{Gate}
 use Rattle.pin_pool.proofs.PoolLemmas.{free-few}
 use Rattle.pin_pool.proofs.RoomLemmas.{IsPool-more, grows-more, lists-more, len-taken, length-numbers}

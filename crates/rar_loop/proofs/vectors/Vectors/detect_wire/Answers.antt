@@ -2,7 +2,7 @@ use Rattle.std.proofs.Common.{◌≡◌, ℕ, Bool, IsTrue, sym, ◌∙◌, ap, 
 use Rattle.std.specs.Prelude.{bit_and}
 use Rattle.gate_graph.specs.Circuit.{net_of}
 use Rattle.fault_sim.specs.Words.{lane}
-use Rattle.rar_loop.specs.Kept.{lanes_with, wanted}
+use Rattle.rar_loop.specs.Inner.Kept.{lanes_with, wanted}
 use Rattle.rar_loop.proofs.Filtering.{wire_open}
 use Rattle.rar_loop.proofs.vectors.Vectors.detect_wire.Goals as goal
 

@@ -3,11 +3,11 @@ use Rattle.rm_base.specs.declared.numbers.NodeId.{NodeId}
 use Rattle.gate_net.specs.Net.{IsWellFormed, Net, Reads, source_count}
 use Rattle.gate_graph.specs.Circuit.{Circuit, net_of}
 use Rattle.fault_sim.specs.Following.{DiffersAmong}
-use Rattle.rar_loop.specs.Changing.{AreNoted, ListsNoted}
+use Rattle.rar_loop.specs.Inner.Changing.{AreNoted, ListsNoted}
 use Rattle.rar_loop.proofs.Noting.{differs_listed, same_through, touches_then}
 use Rattle.rar_loop.proofs.workspace.Workspace.follow.Goals as goal
 use Rattle.wire_edit.proofs.Public.{tidy_reads_none}
-use Rattle.rm_base.specs.Numbers.{numbers_of}
+use Rattle.rm_base.specs.Inner.Numbers.{numbers_of}
 use Rattle.wire_edit.specs.Removals.{ReadsNoConstants}
 
 pub follow-requires : goal.follow-requires

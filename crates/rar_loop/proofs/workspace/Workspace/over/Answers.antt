@@ -1,7 +1,7 @@
 use Rattle.std.proofs.Common.{refl, subst}
 use Rattle.gate_graph.specs.Circuit.{Circuit, net_of}
 use Rattle.recursive_learning.specs.Serving.{IsServing}
-use Rattle.rar_loop.specs.Kept.{AreFor}
+use Rattle.rar_loop.specs.Inner.Kept.{AreFor}
 use Rattle.rar_loop.proofs.workspace.Workspace.over.Goals as goal
 
 pub returns-clause-trial : goal.returns-clause-trial

@@ -5,7 +5,8 @@ use Rattle.gate_graph.specs.Search.{IsSeen}
 use Rattle.refutation.proofs.Public.{read_is}
 use Rattle.recursive_learning.proofs.Indexes.{SeesFrom, entry_read, entry_within, last_itself, sees_first, sees_next}
 use Rattle.recursive_learning.proofs.resting.Rests.list_at.Goals as goal
-use Rattle.recursive_learning.specs.Resting.{IsLast, RestsState}
+use Rattle.recursive_learning.specs.Resting.{RestsState}
+use Rattle.recursive_learning.specs.Inner.Resting.{IsLast}
 
 pub loop-number-init : goal.loop-number-init
 loop-number-init c =

@@ -1,7 +1,7 @@
 use Rattle.std.proofs.Common.{length, ℕ, ◌≡◌}
 use Rattle.gate_graph.specs.Search.{IsSeen}
 use Rattle.recursive_learning.proofs.Indexes.{SeesFrom}
-use Rattle.recursive_learning.specs.Resting.{IsLast}
+use Rattle.recursive_learning.specs.Inner.Resting.{IsLast}
 use Rattle.recursive_learning.proofs.resting.Rests.list_at.Given as goal
 
 abbrev pub invariant-loop-number : goal.invariant-loop-number

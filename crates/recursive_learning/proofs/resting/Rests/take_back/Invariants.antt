@@ -1,5 +1,5 @@
 use Rattle.std.proofs.Common.{length, take, ◌≡◌, ◌≤◌}
-use Rattle.recursive_learning.specs.Resting.{IsIndex}
+use Rattle.recursive_learning.specs.Inner.Resting.{IsIndex}
 use Rattle.recursive_learning.proofs.resting.Rests.take_back.Given as goal
 
 abbrev pub invariant-loop-self : goal.invariant-loop-self

@@ -2,7 +2,7 @@ use Rattle.std.proofs.Common.{◌≡◌, ◌/◌, length, take, ap, arith}
 use Rattle.std.specs.Prelude.{Some}
 use Rattle.std.proofs.lemmas.Grind.{common_steps}
 use Rattle.rm_base.specs.Files.{append_file}
-use Rattle.rm_base.specs.Kept.{files_of}
+use Rattle.rm_base.specs.Inner.Kept.{files_of}
 use Rattle.rm_base.proofs.memory.MemoryShelfShelf.append.Goals as goal
 
 pub returns-then-next_fails-clause-files : goal.returns-then-next_fails-clause-files

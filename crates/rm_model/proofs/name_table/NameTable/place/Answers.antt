@@ -4,7 +4,7 @@ use Rattle.std.specs.BTreeMap.{get_by}
 use Rattle.std.specs.Cmp.Lexicographic.{slice_cmp}
 use Rattle.std.specs.Ordering.{nat_cmp, ordering_then}
 use Rattle.rm_model.specs.Numbers.{place_of}
-use Rattle.rm_model.specs.PlacedNames.{added_names}
+use Rattle.rm_model.specs.Inner.PlacedNames.{added_names}
 use Rattle.rm_model.proofs.PlacedLemmas.{place-below}
 use Rattle.rm_model.proofs.name_table.NameTable.place.Goals as goal
 use Rattle.rm_base.specs.Words.{Word}

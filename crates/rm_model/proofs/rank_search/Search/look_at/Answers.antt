@@ -1,5 +1,5 @@
 use Rattle.std.proofs.Common.{map, Vec, Global, ℕ, inl}
-use Rattle.rm_model.specs.SearchView.{state_of}
+use Rattle.rm_model.specs.Inner.SearchView.{state_of}
 use Rattle.rm_model.specs.Ranks.{rank_at}
 use Rattle.rm_model.proofs.SearchLemmas.{leads-stays}
 use Rattle.rm_model.proofs.LookLemmas.{rank-there, rank-missing}

@@ -1,6 +1,6 @@
 use Rattle.std.proofs.Common.{map, Vec, Global, List, ℕ, arith}
 use Rattle.std.proofs.lemmas.Option.{slice_get_within}
-use Rattle.rm_model.specs.SearchView.{state_of}
+use Rattle.rm_model.specs.Inner.SearchView.{state_of}
 use Rattle.rm_model.proofs.SearchLemmas.{leads-on}
 use Rattle.rm_model.proofs.LookLemmas.{settled-more}
 use Rattle.rm_model.proofs.rank_search.Search.look_at_all.Goals as goal

@@ -1,7 +1,7 @@
 use Rattle.std.proofs.Common.{◌≡◌, ◌<◌, ◌≤◌, ℕ, length, map, Some}
 use Rattle.std.specs.Prelude.{slice_get}
-use Rattle.rm_model.specs.Search.{IsSettled, LeadsTo}
-use Rattle.rm_model.specs.SearchView.{state_of}
+use Rattle.rm_model.specs.Inner.Search.{IsSettled, LeadsTo}
+use Rattle.rm_model.specs.Inner.SearchView.{state_of}
 use Rattle.rm_model.proofs.rank_search.Search.look_at_all.Given as goal
 
 abbrev pub invariant-loop-cover : goal.invariant-loop-cover

@@ -1,5 +1,5 @@
 use Rattle.std.proofs.Common.{map, Vec, Global, List, ℕ}
-use Rattle.rm_model.specs.SearchView.{state_of}
+use Rattle.rm_model.specs.Inner.SearchView.{state_of}
 use Rattle.rm_model.proofs.LookLemmas.{settled-next}
 use Rattle.rm_model.proofs.rank_search.Search.look_at_each.Goals as goal
 

@@ -1,6 +1,6 @@
 use Rattle.std.proofs.Common.{◌<◌, ℕ, map}
-use Rattle.rm_model.specs.Search.{IsSettled, IsSound}
-use Rattle.rm_model.specs.SearchView.{state_of}
+use Rattle.rm_model.specs.Inner.Search.{IsSettled, IsSound}
+use Rattle.rm_model.specs.Inner.SearchView.{state_of}
 use Rattle.rm_model.proofs.rank_search.Search.look_at_each.Given as goal
 
 abbrev pub invariant-loop-cover : goal.invariant-loop-cover

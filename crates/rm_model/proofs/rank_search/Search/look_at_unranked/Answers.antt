@@ -1,8 +1,8 @@
 use Rattle.std.proofs.Common.{◌≡◌, ◌<◌, ◌∙◌, sym, subst, map, List, ℕ, length, arith}
 use Rattle.std.proofs.lemmas.List.{length-map}
 use Rattle.std.proofs.lemmas.Result.{on_ok_weaker}
-use Rattle.rm_model.specs.Search.{State, LeadsTo, IsSettled}
-use Rattle.rm_model.specs.SearchView.{items_of, state_of}
+use Rattle.rm_model.specs.Inner.Search.{State, LeadsTo, IsSettled}
+use Rattle.rm_model.specs.Inner.SearchView.{items_of, state_of}
 use Rattle.rm_model.proofs.SearchLemmas.{ranks-small}
 use Rattle.rm_model.proofs.LookLemmas.{driver-ranked, driver-waited, looked-allows, when_stopped, when_done}
 use Rattle.rm_model.proofs.rank_search.Search.look_at_unranked.Goals as goal

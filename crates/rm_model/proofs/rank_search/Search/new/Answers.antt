@@ -1,5 +1,5 @@
 use Rattle.std.proofs.Common.{◌≡◌, List, ℕ, Option}
-use Rattle.rm_model.specs.Search.{State}
+use Rattle.rm_model.specs.Inner.Search.{State}
 use Rattle.rm_model.specs.declared.rank_search.Looked.{Looked}
 use Rattle.rm_model.proofs.rank_search.Search.new.Goals as goal
 

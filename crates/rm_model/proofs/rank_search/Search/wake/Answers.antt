@@ -3,8 +3,8 @@ use Rattle.std.specs.Prelude.{slice_get}
 use Rattle.std.proofs.lemmas.List.{length-map}
 use Rattle.std.proofs.lemmas.Option.{slice_get-get_or, slice_get_read}
 use Rattle.std.proofs.lemmas.Result.{on_ok_weaker}
-use Rattle.rm_model.specs.Search.{State, IsSound, LeadsTo, list_at}
-use Rattle.rm_model.specs.SearchView.{items_of, state_of}
+use Rattle.rm_model.specs.Inner.Search.{State, IsSound, LeadsTo, list_at}
+use Rattle.rm_model.specs.Inner.SearchView.{items_of, state_of}
 use Rattle.rm_model.proofs.SearchLemmas.{order-known, woken-sound}
 use Rattle.rm_model.proofs.LookLemmas.{settled-woken, on_ok_both}
 use Rattle.rm_model.proofs.rank_search.Search.wake.Goals as goal

@@ -1,6 +1,6 @@
 use Rattle.std.proofs.Common.{map, arith, length}
 use Rattle.std.proofs.lemmas.List.{length-map}
-use Rattle.rm_model.specs.SearchView.{items_of, state_of}
+use Rattle.rm_model.specs.Inner.SearchView.{items_of, state_of}
 use Rattle.rm_model.proofs.SearchLemmas.{order-short}
 use Rattle.rm_model.proofs.LookLemmas.{settled-earlier}
 use Rattle.rm_model.proofs.rank_search.Search.wake_each.Goals as goal

@@ -1,7 +1,7 @@
 use Rattle.std.proofs.Common.{refl, sym, ◌∙◌, ◌≡◌}
 use Rattle.ternary_sim.proofs.Counts.{all_closed, none_open}
 use Rattle.ternary_sim.proofs.sheet.Sheet.all_equal.Goals as goal
-use Rattle.ternary_sim.specs.Sheets.{AllEqual, is_open, watched_count}
+use Rattle.ternary_sim.specs.Inner.Sheets.{AllEqual, is_open, watched_count}
 
 pub returns-then-self-eq0 : goal.returns-then-self-eq0
 returns-then-self-eq0 c =

@@ -1,7 +1,7 @@
 use Rattle.std.proofs.Common.{List, ap, sym, ◌∙◌}
 use Rattle.ternary_sim.proofs.Counts.{plain_different, plain_open}
 use Rattle.ternary_sim.proofs.sheet.Sheet.new.Goals as goal
-use Rattle.ternary_sim.specs.Sheets.{is_different, is_open, watched_count}
+use Rattle.ternary_sim.specs.Inner.Sheets.{is_different, is_open, watched_count}
 use Rattle.ternary_sim.specs.declared.marks.NodeMarks.{NodeMarks}
 
 pub invariant_of-result : goal.invariant_of-result

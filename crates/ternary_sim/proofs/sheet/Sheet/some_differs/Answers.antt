@@ -1,7 +1,7 @@
 use Rattle.std.proofs.Common.{arith, refl, ◌<◌}
 use Rattle.ternary_sim.proofs.Counts.{found, some_counted}
 use Rattle.ternary_sim.proofs.sheet.Sheet.some_differs.Goals as goal
-use Rattle.ternary_sim.specs.Sheets.{SomeDiffers, is_different, watched_count}
+use Rattle.ternary_sim.specs.Inner.Sheets.{SomeDiffers, is_different, watched_count}
 
 pub returns-then-self-eq0 : goal.returns-then-self-eq0
 returns-then-self-eq0 c = (

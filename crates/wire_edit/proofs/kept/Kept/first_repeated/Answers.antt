@@ -3,7 +3,7 @@ use Rattle.std.specs.Vec.{with_items}
 use Rattle.std.proofs.lemmas.List.{with_items_is}
 use Rattle.gate_graph.specs.Circuit.{net_of}
 use Rattle.gate_net.specs.Net.{drivers_of}
-use Rattle.wire_edit.specs.Known.{MarksFirst}
+use Rattle.wire_edit.specs.Inner.Known.{MarksFirst}
 use Rattle.wire_edit.proofs.Reading.{gate_live}
 use Rattle.wire_edit.proofs.KnownPins.{apart_found}
 use Rattle.wire_edit.proofs.kept.Kept.first_repeated.Goals as goal

@@ -1,6 +1,6 @@
 use Rattle.std.proofs.Common.{◌≡◌, false, ap, ◌∙◌, replicate, length}
 use Rattle.std.proofs.lemmas.List.{length-replicate}
-use Rattle.wire_edit.specs.Marked.{is_marked}
+use Rattle.wire_edit.specs.Inner.Marked.{is_marked}
 use Rattle.wire_edit.proofs.Marking.{blank_all}
 use Rattle.wire_edit.proofs.seen.Seen.new.Goals as goal
 

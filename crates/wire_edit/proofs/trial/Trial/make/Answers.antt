@@ -4,9 +4,9 @@ use Rattle.wire_edit.specs.declared.room.Room.{Room}
 use Rattle.wire_edit.specs.Steps.{Applies, change_of, stepped}
 use Rattle.wire_edit.specs.Refusals.{has_room}
 use Rattle.wire_edit.specs.Tried.{Tried}
-use Rattle.wire_edit.specs.Trials.{IsTrial}
+use Rattle.wire_edit.specs.Inner.Trials.{IsTrial}
 use Rattle.gate_net.specs.Net.{Net}
-use Rattle.wire_edit.specs.Known.{IsKept}
+use Rattle.wire_edit.specs.Inner.Known.{IsKept}
 use Rattle.wire_edit.proofs.TrialSteps.{step_can_edit, step_entries, step_net, step_trial}
 use Rattle.wire_edit.proofs.Trying.{not_empty, room_left}
 use Rattle.wire_edit.proofs.GoingBack.{step_back}

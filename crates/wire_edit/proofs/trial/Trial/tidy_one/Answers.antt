@@ -3,7 +3,7 @@ use Rattle.gate_net.specs.Net.{Net}
 use Rattle.gate_graph.specs.Circuit.{net_of}
 use Rattle.wire_edit.specs.declared.room.Room.{Room}
 use Rattle.wire_edit.proofs.Ordering.{next_applies}
-use Rattle.wire_edit.specs.Firsts.{IsPlainAfter}
+use Rattle.wire_edit.specs.Inner.Firsts.{IsPlainAfter}
 use Rattle.wire_edit.proofs.KnownPins.{plain_after}
 use Rattle.wire_edit.proofs.Trying.{tidying_room}
 use Rattle.wire_edit.proofs.trial.Trial.tidy_one.Goals as goal

@@ -1,5 +1,5 @@
 use Rattle.std.proofs.Common.{false, ap, sym, ◌∙◌, arith}
-use Rattle.wire_edit.specs.Marked.{is_marked, marks_left}
+use Rattle.wire_edit.specs.Inner.Marked.{is_marked, marks_left}
 use Rattle.wire_edit.proofs.Marking.{set_other_mark, clear_fewer, marked_within}
 use Rattle.wire_edit.proofs.Blocks.{block_cleared}
 use Rattle.wire_edit.proofs.worklist.Worklist.clear.Goals as goal

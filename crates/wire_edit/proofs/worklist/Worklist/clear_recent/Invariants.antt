@@ -1,5 +1,5 @@
 use Rattle.std.proofs.Common.{◌≡◌, length}
-use Rattle.wire_edit.specs.Marked.{IsBlocked}
+use Rattle.wire_edit.specs.Inner.Marked.{IsBlocked}
 use Rattle.wire_edit.proofs.worklist.Worklist.clear_recent.Given as goal
 
 abbrev pub invariant-loop-number : goal.invariant-loop-number

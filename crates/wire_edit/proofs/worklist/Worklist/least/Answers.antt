@@ -1,5 +1,5 @@
 use Rattle.std.proofs.Common.{◌≡◌, ◌*◌, ◌<◌, ◌≤◌, ℕ, List, Bool, false, sym, ap, ◌∙◌, arith}
-use Rattle.wire_edit.specs.Marked.{is_marked}
+use Rattle.wire_edit.specs.Inner.Marked.{is_marked}
 use Rattle.wire_edit.proofs.Marking.{clear_fewer}
 use Rattle.wire_edit.proofs.Blocks.{block_emptied, none_blocked}
 use Rattle.wire_edit.proofs.worklist.Worklist.least.Goals as goal

@@ -1,5 +1,5 @@
 use Rattle.std.proofs.Common.{◌≡◌}
-use Rattle.wire_edit.specs.Marked.{marks_left, IsBlocked}
+use Rattle.wire_edit.specs.Inner.Marked.{marks_left, IsBlocked}
 use Rattle.wire_edit.proofs.worklist.Worklist.least.Given as goal
 
 abbrev pub invariant-loop-block : goal.invariant-loop-block

@@ -1,7 +1,7 @@
 use Rattle.std.proofs.Common.{◌<◌, List, Bool, true, length, subst, sym, ap, ◌∙◌, arith}
 use Rattle.std.proofs.lemmas.List.{get_or_read}
 use Rattle.std.specs.Prelude.{slice_set}
-use Rattle.wire_edit.specs.Marked.{is_marked, KeepsMarks}
+use Rattle.wire_edit.specs.Inner.Marked.{is_marked, KeepsMarks}
 use Rattle.wire_edit.proofs.Marking.{marked_is, set_marked, set_count, set_keeps}
 use Rattle.wire_edit.proofs.Blocks.{block_set}
 use Rattle.wire_edit.proofs.worklist.Worklist.mark.Goals as goal

@@ -1,6 +1,6 @@
 use Rattle.std.proofs.Common.{◌≡◌, ◌+◌, ◌/◌, ap, ◌∙◌, replicate, length, arith}
 use Rattle.std.proofs.lemmas.List.{length-replicate}
-use Rattle.wire_edit.specs.Marked.{is_marked}
+use Rattle.wire_edit.specs.Inner.Marked.{is_marked}
 use Rattle.wire_edit.proofs.Marking.{marked_all}
 use Rattle.wire_edit.proofs.Blocks.{all_blocked}
 use Rattle.wire_edit.proofs.worklist.Worklist.new.Goals as goal

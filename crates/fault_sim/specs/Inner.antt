@@ -1,0 +1,7 @@
+-- Definitions that no public contract reaches: words of private contracts, of invariants, and of laws for proofs.
+pub mod BlockStates
+pub mod Following
+pub mod Pending
+pub mod Simulating
+pub mod Spreading
+pub mod Words

@@ -1,0 +1,6 @@
+-- Definitions that no public contract reaches: words of private contracts, of invariants, and of laws for proofs.
+pub mod Benches
+pub mod Replaying
+pub mod Standing
+pub mod Vectors
+pub mod Within

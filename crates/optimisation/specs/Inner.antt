@@ -1,0 +1,6 @@
+-- Definitions that no public contract reaches: words of private contracts, of invariants, and of laws for proofs.
+pub mod Begun
+pub mod Ended
+pub mod Filled
+pub mod Halts
+pub mod Ran

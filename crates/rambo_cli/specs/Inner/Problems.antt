@@ -1,0 +1,100 @@
+-- Beside Problems.antt: what only private contracts, invariants and laws speak of.
+use Rattle.std.specs.Prelude.{◌≡◌, ◌⊎◌, ◌++◌, ◌<◌, ℕ, Bool, List, Option, IsTrue}
+use Rattle.std.specs.Option.{option_map}
+use Rattle.rm_base.specs.Causes.{Rose}
+use Rattle.rm_base.specs.declared.outside.OutsideFault.{OutsideFault}
+use Rattle.rm_base.specs.declared.outside.OutsideFault.TheVariants.{Failed, NoMemory as OutsideNoMemory}
+use Rattle.rm_model.specs.declared.parts.Model.{Model}
+use Rattle.blif_format.specs.declared.refusal.ReadRefusal.{ReadRefusal}
+use Rattle.blif_format.specs.declared.refusal.ReadRefusal.TheVariants.{Fault as ReadFault, Limit as ReadLimit, NoMemory as ReadNoMemory}
+use Rattle.blif_format.specs.declared.refusal.Quantity.TheVariants.{Pins}
+use Rattle.cover_decompose.specs.Count.{decomposed}
+use Rattle.optimisation.specs.declared.halt.Halt.{Halt}
+use Rattle.optimisation.specs.declared.halt.Halt.TheVariants as halt
+use Rattle.word_reading.specs.declared.command.WordFault.{WordFault}
+use Rattle.word_reading.specs.declared.command.WordFault.TheVariants as word
+use Rattle.rambo_cli.specs.Written.{HasFault, Exceeds, most_pins}
+use Rattle.rambo_cli.specs.Lines.{memory_line}
+use Rattle.rambo_cli.specs.declared.problem.Problem.{Problem}
+use Rattle.rambo_cli.specs.declared.problem.Problem.TheVariants.{Words, Text, Limit, Missing, Fault, Journal, Record, Netlist, Memory}
+use Rattle.rambo_cli.specs.Problems.{line_of, BeginsLine}
+
+abbrev pub outside_problem : OutsideFault → Problem
+outside_problem Failed = Fault
+outside_problem OutsideNoMemory = Memory
+
+abbrev pub read_problem : ReadRefusal → Problem
+read_problem (ReadFault kind place) = Text kind place
+read_problem (ReadLimit quantity count place) = Limit quantity count
+read_problem ReadNoMemory = Memory
+
+abbrev pub halt_problem : Halt → Problem
+halt_problem (halt.Limit pins) = Limit Pins pins
+halt_problem halt.Failed = Fault
+halt_problem halt.NoMemory = Memory
+
+abbrev pub word_problem : WordFault → Problem
+word_problem word.Refused = Words
+word_problem word.NoMemory = Memory
+
+abbrev pub status_of : Problem → ℕ
+status_of Words = 2
+status_of (Text kind place) = 1
+status_of (Limit quantity count) = 5
+status_of Missing = 3
+status_of Fault = 3
+status_of (Journal f) = 6
+status_of (Record r) = 6
+status_of (Netlist byte) = 6
+status_of Memory = 4
+
+-- a sink that may want memory has put nothing
+abbrev pub PutsNothing : Bool → Option (List ℕ) → Option (List ℕ) → Type 0
+PutsNothing may_want old new = IsTrue may_want × (new ≡ old)
+
+-- the line is put and the status answered; or the sink failed, and a beginning of the line is put; or the sink wanted memory
+abbrev pub IsPutWith : Bool → ℕ → ℕ → List ℕ → Option (List ℕ) → Option (List ℕ) → ℕ → ℕ → Type 0
+IsPutWith may_want wanted status line old new before now =
+    ((status ≡ wanted) × (new ≡ option_map (λ w. w ++ line) old))
+    ⊎ (((status ≡ 3) × (Rose before now × BeginsLine line old new)) ⊎ ((status ≡ 4) × PutsNothing may_want old new))
+
+-- the line of the problem is put and its status answered; or the sink failed, at that line or at the one on memory; or memory ran
+-- out, which is put unless the sink wanted memory
+abbrev pub IsReported : Bool → Problem → ℕ → Option (List ℕ) → Option (List ℕ) → ℕ → ℕ → Type 0
+IsReported may_want problem status old new before now =
+    ((status ≡ status_of problem) × (new ≡ option_map (λ w. w ++ line_of problem) old))
+    ⊎ (((status ≡ 3) × (Rose before now × (BeginsLine (line_of problem) old new ⊎ BeginsLine memory_line old new)))
+    ⊎ ((status ≡ 4) × ((new ≡ option_map (λ w. w ++ memory_line) old) ⊎ PutsNothing may_want old new)))
+
+-- a problem of the outside alone
+abbrev pub IsOutside : Problem → Type 0
+IsOutside Missing = Unit {0}
+IsOutside Fault = Unit {0}
+IsOutside Memory = Unit {0}
+IsOutside _ = ⊥
+
+-- out of memory
+abbrev pub IsWant : Problem → Type 0
+IsWant Memory = Unit {0}
+IsWant _ = ⊥
+
+-- why a text isn't read
+abbrev pub TextCause : List ℕ → Problem → Type 0
+TextCause text (Text kind place) = HasFault text kind place
+TextCause text (Limit quantity count) = Exceeds text quantity count
+TextCause text Memory = Unit {0}
+TextCause text _ = ⊥
+
+-- why a model isn't optimised
+abbrev pub ModelCause : Model → ℕ → ℕ → Problem → Type 0
+ModelCause m before now (Limit quantity count) = (quantity ≡ Pins) × ((count ≡ decomposed m) × (most_pins < decomposed m))
+ModelCause m before now Fault = Rose before now
+ModelCause m before now Memory = Unit {0}
+ModelCause m before now _ = ⊥
+
+-- the text is put; or the sink failed, at that text or at the line on memory; or memory ran out, which is put unless the sink wanted memory
+abbrev pub HasEnded : Bool → List ℕ → ℕ → Option (List ℕ) → Option (List ℕ) → ℕ → ℕ → Type 0
+HasEnded may_want text status old new before now =
+    ((status ≡ 0) × (new ≡ option_map (λ w. w ++ text) old))
+    ⊎ (((status ≡ 3) × (Rose before now × (BeginsLine text old new ⊎ BeginsLine memory_line old new)))
+    ⊎ ((status ≡ 4) × ((new ≡ option_map (λ w. w ++ memory_line) old) ⊎ PutsNothing may_want old new)))

@@ -1,0 +1,9 @@
+-- Definitions that no public contract reaches: words of private contracts, of invariants, and of laws for proofs.
+pub mod Changing
+pub mod Going
+pub mod Improving
+pub mod Kept
+pub mod Spaces
+pub mod Swept
+pub mod Trying
+pub mod Walking

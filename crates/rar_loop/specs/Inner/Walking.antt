@@ -1,0 +1,47 @@
+-- Going through the pairs of a net.
+use Rattle.std.specs.Prelude.{◌≡◌, ◌+◌, ℕ, suc, List, Some, length, map, take, slice_get}
+use Rattle.rm_base.specs.declared.numbers.Fault.{Fault}
+use Rattle.gate_net.specs.Net.{Net}
+use Rattle.gate_graph.specs.Circuit.{Circuit, net_of}
+use Rattle.candidate_wires.specs.declared.candidate.Candidate.{Candidate}
+use Rattle.candidate_wires.specs.declared.candidate.Pair.{Pair}
+use Rattle.candidate_wires.specs.Candidates.{AreCandidatesOf}
+use Rattle.candidate_wires.specs.Pairs.{ArePairs, ArePairsBefore, paired}
+use Rattle.candidate_wires.specs.Tries.{NoneGains}
+use Rattle.rar_loop.specs.declared.walking.Tour.{Tour}
+use Rattle.rar_loop.specs.declared.walking.Tour.TheVariants as tour
+use Rattle.rar_loop.specs.Sizes.{IsSame}
+use Rattle.rar_loop.specs.Inner.Trying.{IsBetter, IsBack, IsAhead}
+use Rattle.wire_edit.specs.Tried.{Tried}
+
+-- some candidates of a target were tried in vain: the first so many
+pub record AreTried (net : Net) (target : Fault) (here : List Candidate) (count : ℕ) : Type 0 where
+  pub candidates : AreCandidatesOf net target here
+  pub none : NoneGains net (map (paired target) (take count here))
+
+-- all candidates of the target were tried in vain; or the tries are used up at one of them; or one gained
+abbrev pub IsTargetTour : Tried → Fault → ℕ → ℕ → ℕ → Tried → Tour → Type 0
+IsTargetTour before target depth left after now tour.Done =
+    IsBack before now × ((here : List Candidate) × (AreTried (net_of before.graph) target here (length here) × (after + length here ≡ left)))
+IsTargetTour before target depth left after now (tour.Spent at) =
+    IsBack before now × ((here : List Candidate) × ((place : ℕ) × (AreTried (net_of before.graph) target here place × ((at.fault ≡ target) × ((slice_get here place ≡ Some at.candidate) × ((after ≡ 0) × (place ≡ left)))))))
+IsTargetTour before target depth left after now (tour.Gained records) =
+    (here : List Candidate) × ((place : ℕ) × ((c : Candidate) × (AreTried (net_of before.graph) target here place × ((slice_get here place ≡ Some c) × ((after + suc place ≡ left) × IsAhead before (paired target c) depth records.items now)))))
+
+-- all pairs were tried in vain; or those before one at which the tries are used up, or before one that gained, on the graph of the trial
+abbrev pub IsTour : Tried → ℕ → ℕ → ℕ → Tried → Tour → Type 0
+IsTour before depth left after now tour.Done =
+    IsBack before now × ((pairs : List Pair) × (ArePairs (net_of before.graph) pairs × (NoneGains (net_of before.graph) pairs × (after + length pairs ≡ left))))
+IsTour before depth left after now (tour.Spent at) =
+    IsBack before now × ((pairs : List Pair) × (ArePairsBefore (net_of before.graph) at pairs × (NoneGains (net_of before.graph) pairs × ((after ≡ 0) × (length pairs ≡ left)))))
+IsTour before depth left after now (tour.Gained records) =
+    (pair : Pair) × ((pairs : List Pair) × (ArePairsBefore (net_of before.graph) pair pairs × (NoneGains (net_of before.graph) pairs × ((after + suc (length pairs) ≡ left) × IsAhead before pair depth records.items now))))
+
+-- all pairs were tried in vain; or those before one at which the tries are used up, or before one that gained, on the graph that is given
+abbrev pub IsWalk : Circuit → ℕ → ℕ → ℕ → Circuit → Tour → Type 0
+IsWalk before depth left after graph tour.Done =
+    IsSame before graph × ((pairs : List Pair) × (ArePairs (net_of before) pairs × (NoneGains (net_of before) pairs × (after + length pairs ≡ left))))
+IsWalk before depth left after graph (tour.Spent at) =
+    IsSame before graph × ((pairs : List Pair) × (ArePairsBefore (net_of before) at pairs × (NoneGains (net_of before) pairs × ((after ≡ 0) × (length pairs ≡ left)))))
+IsWalk before depth left after graph (tour.Gained records) =
+    (pair : Pair) × ((pairs : List Pair) × (ArePairsBefore (net_of before) pair pairs × (NoneGains (net_of before) pairs × ((after + suc (length pairs) ≡ left) × IsBetter before pair depth records.items graph))))
