@@ -121,3 +121,16 @@ names_in test uses = map (λ (u : Use). u.name) (filter (λ (u : Use). test u.ro
 abbrev pub distinct_count : List Word → ℕ
 distinct_count [] = 0
 distinct_count (x ∷ xs) = if is_among xs x then distinct_count xs else 1 + distinct_count xs
+
+-- a name of these roles is an input, a clock, an output
+abbrev pub is_input : Role → Bool
+is_input Input = true
+is_input role = false
+
+abbrev pub is_clock : Role → Bool
+is_clock ClockInput = true
+is_clock role = false
+
+abbrev pub is_output : Role → Bool
+is_output Output = true
+is_output role = false

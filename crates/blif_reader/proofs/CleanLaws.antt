@@ -8,8 +8,7 @@ use Rattle.std.proofs.Math.Bool.{or-false, or_assoc}
 use Rattle.rm_model.specs.Words.{is_word}
 use Rattle.rm_model.specs.WellFormed.{is_distinct}
 use Rattle.blif_lines.specs.Layout.{Logical}
-use Rattle.blif_format.specs.Uses.{Use, is_source_role, is_observed_role, drives_twice, lists_twice, stands_in, names_in, distinct_count}
-use Rattle.blif_format.specs.Inner.Uses.{is_clock, is_input, is_output}
+use Rattle.blif_format.specs.Uses.{Use, is_source_role, is_observed_role, drives_twice, lists_twice, stands_in, names_in, distinct_count, is_clock, is_input, is_output}
 use Rattle.blif_format.specs.declared.words.Role.{Role}
 use Rattle.blif_format.specs.declared.words.Role.TheVariants.{Input, ClockInput, Output, CoverInput, CoverOutput, LatchInput, LatchOutput, Control}
 use Rattle.blif_format.specs.FirstFault.{or_else, fault_if, limit_if, name_limit, is_cover_input, is_over, use_fault, Said, said_by, lines_fault}

@@ -8,8 +8,7 @@ use Rattle.rm_model.specs.Words.{is_word}
 use Rattle.blif_lines.specs.Layout.{Spot, Logical, words_in, has_words}
 use Rattle.blif_format.specs.Text.{Line}
 use Rattle.blif_format.specs.Grammar.{begins_with, words_after}
-use Rattle.blif_format.specs.Uses.{command_of, all_are, in_parts, names_parts, parts_of, Use, use_of, uses_of, names_in}
-use Rattle.blif_format.specs.Inner.Uses.{is_clock, is_input, is_output}
+use Rattle.blif_format.specs.Uses.{command_of, all_are, in_parts, names_parts, parts_of, Use, use_of, uses_of, names_in, is_clock, is_input, is_output}
 use Rattle.blif_format.specs.declared.words.Command.{Command}
 use Rattle.blif_format.specs.declared.words.Command.TheVariants.{Model, Inputs, Outputs, Clock, Names, Latch, End}
 use Rattle.blif_format.specs.declared.words.Role.{Role}

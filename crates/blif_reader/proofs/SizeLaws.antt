@@ -11,8 +11,7 @@ use Rattle.rm_model.specs.declared.parts.Latch.{Latch as LatchPart}
 use Rattle.rm_model.specs.declared.parts.Model.{Model as CircuitModel}
 use Rattle.blif_format.specs.Text.{Line, row_words, cover_words}
 use Rattle.blif_format.specs.Grammar.{before, begins_with, is_dotted, names_lines}
-use Rattle.blif_format.specs.Uses.{Use, is_source_role, is_observed_role, names_in, distinct_count}
-use Rattle.blif_format.specs.Inner.Uses.{is_clock, is_input, is_output}
+use Rattle.blif_format.specs.Uses.{Use, is_source_role, is_observed_role, names_in, distinct_count, is_clock, is_input, is_output}
 use Rattle.blif_format.specs.declared.words.Role.{Role}
 use Rattle.blif_format.specs.declared.words.Role.TheVariants.{Input, ClockInput, Output, CoverInput, CoverOutput, LatchInput, LatchOutput, Control}
 use Rattle.rm_model.specs.Size.{rows_weight, covers_weight}

@@ -11,8 +11,7 @@ use Rattle.std.proofs.Math.Bool.{and-false, or-false, or-true, or_assoc}
 use Rattle.rm_base.specs.declared.numbers.Place.{Place}
 use Rattle.rm_model.specs.Words.{is_word}
 use Rattle.rm_model.specs.Value.{is_among}
-use Rattle.blif_format.specs.Uses.{Use, is_source_role, is_observed_role, drives_twice, names_in, distinct_count}
-use Rattle.blif_format.specs.Inner.Uses.{is_clock, is_input, is_output}
+use Rattle.blif_format.specs.Uses.{Use, is_source_role, is_observed_role, drives_twice, names_in, distinct_count, is_clock, is_input, is_output}
 use Rattle.blif_format.specs.declared.words.Role.{Role}
 use Rattle.blif_format.specs.declared.words.Role.TheVariants.{Input, ClockInput, Output, CoverInput, CoverOutput, LatchInput, LatchOutput, Control}
 use Rattle.blif_format.specs.FirstFault.{or_else, fault_if, limit_if, name_limit, is_over, use_fault}

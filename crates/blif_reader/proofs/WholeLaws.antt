@@ -12,8 +12,7 @@ use Rattle.rm_model.specs.declared.parts.Latch.{Latch as LatchPart}
 use Rattle.rm_model.specs.declared.parts.Model.{Model as CircuitModel}
 use Rattle.blif_lines.specs.Layout.{Flaw, BadByteAt, OpenJoinAt, Logical, words_in, has_words, layout, lines_of}
 use Rattle.blif_format.specs.Text.{Line}
-use Rattle.blif_format.specs.Uses.{command_of, names_in}
-use Rattle.blif_format.specs.Inner.Uses.{is_clock, is_input, is_output}
+use Rattle.blif_format.specs.Uses.{command_of, names_in, is_clock, is_input, is_output}
 use Rattle.blif_format.specs.declared.words.Command.{Command}
 use Rattle.blif_format.specs.declared.words.Command.TheVariants.{Model, Inputs, Outputs, Clock, Names, Latch, End}
 use Rattle.blif_format.specs.declared.words.Role.{Role}

@@ -16,8 +16,7 @@ use Rattle.rm_model.specs.declared.parts.Model.{Model as CircuitModel}
 use Rattle.blif_lines.specs.Layout.{Spot, Logical, layout, lines_of}
 use Rattle.blif_format.specs.Text.{Line, cover_words}
 use Rattle.blif_format.specs.Grammar.{Reads, begins_with, words_after, names_lines, before, is_dotted as is_dotted_line}
-use Rattle.blif_format.specs.Uses.{command_of, names_parts, Use, is_source_role, names_in, distinct_count}
-use Rattle.blif_format.specs.Inner.Uses.{is_clock, is_input, is_output}
+use Rattle.blif_format.specs.Uses.{command_of, names_parts, Use, is_source_role, names_in, distinct_count, is_clock, is_input, is_output}
 use Rattle.blif_format.specs.declared.words.Command.TheVariants.{Model, Names}
 use Rattle.blif_format.specs.declared.words.Role.{Role}
 use Rattle.blif_format.specs.declared.words.Role.TheVariants.{Input, ClockInput, Output, CoverInput, CoverOutput, LatchInput, LatchOutput, Control}

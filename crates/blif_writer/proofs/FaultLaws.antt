@@ -14,8 +14,7 @@ use Rattle.rm_model.specs.declared.parts.Model.{Model}
 use Rattle.blif_lines.specs.Layout.{Spot, layout}
 use Rattle.blif_format.specs.Text.{Line}
 use Rattle.blif_format.specs.Grammar.{Reads, words_of}
-use Rattle.blif_format.specs.Uses.{Use, is_driver, names_in, uses_of, wants_driver}
-use Rattle.blif_format.specs.Inner.Uses.{is_clock, is_input, is_output}
+use Rattle.blif_format.specs.Uses.{Use, is_driver, names_in, uses_of, wants_driver, is_clock, is_input, is_output}
 use Rattle.blif_format.specs.declared.words.Role.{Role}
 use Rattle.blif_format.specs.declared.words.Role.TheVariants.{Input, ClockInput, Output, CoverInput, CoverOutput, LatchInput, LatchOutput, Control}
 use Rattle.blif_format.specs.FirstFault.{Said, after_line, bare_model, cover_in, cover_names, first_unranked, is_undriven, lines_fault, nothing_said, rank_fault, said_by, undriven_fault}

@@ -6,8 +6,7 @@ use Rattle.rm_base.specs.declared.numbers.Place.{Place}
 use Rattle.rm_model.specs.Words.{is_word}
 use Rattle.rm_model.specs.Value.{is_among}
 use Rattle.blif_lines.specs.Layout.{Spot}
-use Rattle.blif_format.specs.Uses.{Use, use_of, drives_twice, lists_twice, stands_in, names_in, is_driver, is_source_role, is_observed_role, distinct_count}
-use Rattle.blif_format.specs.Inner.Uses.{is_clock, is_input, is_output}
+use Rattle.blif_format.specs.Uses.{Use, use_of, drives_twice, lists_twice, stands_in, names_in, is_driver, is_source_role, is_observed_role, distinct_count, is_clock, is_input, is_output}
 use Rattle.blif_format.specs.declared.words.Role.{Role}
 use Rattle.blif_format.specs.declared.words.Role.TheVariants.{Input, ClockInput, Output, CoverInput, CoverOutput, LatchInput, LatchOutput, Control}
 use Rattle.blif_format.specs.declared.words.Part.{Part}

@@ -23,7 +23,7 @@ use Rattle.cover_decompose.proofs.Sums.{sum-total, total}
 use Rattle.cover_decompose.proofs.WellFormed.{is_live, wires_made}
 use Rattle.cover_decompose.proofs.Wires.{AreEven, covers_counts}
 use Rattle.rm_base.proofs.Public.{all_by_index, all_from_members, all_in, in_contained, in_contains}
-use Rattle.rm_base.specs.Inner.Members.{In}
+use Rattle.rm_base.specs.Members.{In}
 use Rattle.rm_base.specs.Words.{Word}
 use Rattle.rm_model.proofs.Public.{same_word}
 

@@ -10,7 +10,7 @@ use Rattle.rm_model.specs.declared.parts.Cover.{Cover}
 use Rattle.cover_decompose.specs.Needed.{of_rank, of_ranks, is_needed, needed_of}
 use Rattle.cover_decompose.proofs.Members.{among_in}
 use Rattle.rm_base.proofs.Public.{all_from_members, all_in, in_append, in_filter, in_filtered, in_left, in_map, in_mapped, in_right}
-use Rattle.rm_base.specs.Inner.Members.{In}
+use Rattle.rm_base.specs.Members.{In}
 use Rattle.rm_base.specs.Words.{Word}
 use Rattle.rm_model.proofs.Public.{is_word-same, same_word}
 

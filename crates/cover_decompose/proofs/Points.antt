@@ -21,7 +21,7 @@ use Rattle.cover_decompose.proofs.Members.{among_in, in_among}
 use Rattle.cover_decompose.proofs.Order.{Reading, outputs_onto}
 use Rattle.cover_decompose.proofs.Ranked.{IsRankable, observed_there, taken_in, taken_reading}
 use Rattle.rm_base.proofs.Public.{all_in, in_any, in_at, in_contained, in_contains, in_mapped, in_right}
-use Rattle.rm_base.specs.Inner.Members.{In}
+use Rattle.rm_base.specs.Members.{In}
 use Rattle.rm_base.specs.Words.{Word}
 use Rattle.rm_model.proofs.Public.{distinct-left, distinct-right, is_word-same, same_word}
 

@@ -14,7 +14,7 @@ use Rattle.cover_decompose.specs.Needed.{ranked_covers, covers_by_rank, is_neede
 use Rattle.cover_decompose.proofs.Members.{in_among, among_in}
 use Rattle.cover_decompose.proofs.Order.{ReadsLower, Reading, in-of_ranks, observed_kept, of_ranks-in, onto_keeps, onto_outputs, outputs_onto, reading_needed, reading_ranks}
 use Rattle.rm_base.proofs.Public.{all_in, all_pass_in, in_append, in_at, in_left, in_map, in_mapped, in_right, none_found, place_of_member, some_same}
-use Rattle.rm_base.specs.Inner.Members.{In}
+use Rattle.rm_base.specs.Members.{In}
 use Rattle.rm_base.specs.Words.{Word}
 use Rattle.rm_model.proofs.Public.{is_word-same, same_word}
 

@@ -13,8 +13,7 @@ use Rattle.fault_sim.proofs.ReadInOrder.{set_elsewhere, set_here}
 use Rattle.fault_sim.proofs.Seeing.{first_lane}
 use Rattle.fault_sim.specs.Pending.{is_pending}
 use Rattle.fault_sim.specs.Inner.Pending.{IsFirstBit, IsMarked, IsUnmarked}
-use Rattle.fault_sim.specs.Words.{lane}
-use Rattle.fault_sim.specs.Inner.Words.{all_ones}
+use Rattle.fault_sim.specs.Words.{lane, all_ones}
 
 lane_pow_same : (k : ℕ) → lane k (2 ^ k) ≡ true
 lane_pow_same k = ap (λ (n : ℕ). nat_eq n 1) (bit_at-pow_same k)

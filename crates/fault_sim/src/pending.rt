@@ -1,7 +1,7 @@
 // Pending places of an order, 64 to a word.
 ghost use Rattle.std.specs.Prelude.{◌≡◌, ◌<◌, ◌≤◌, ◌^◌, ◌/◌, bit_and, bit_or, bit_xor, length};
 ghost use Rattle.fault_sim.specs.Inner.Pending.{IsFirstBit, IsFirstPending, IsMarked, IsUnmarked};
-ghost use Rattle.fault_sim.specs.Inner.Words.{all_ones};
+ghost use Rattle.fault_sim.specs.Words.{all_ones};
 
 // The word with one bit set.
 fn with_bit(word: u64, bit: usize) -> u64

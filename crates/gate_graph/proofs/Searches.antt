@@ -5,8 +5,8 @@ use Rattle.std.proofs.lemmas.Bool.{cases_lt}
 use Rattle.std.proofs.lemmas.Option.{slice_get_within}
 use Rattle.gate_net.specs.Net.{Net, Node, node_at, drivers_of, Reads, IsLive, IsWellFormed}
 use Rattle.gate_net.specs.Paths.{Reaches, pin, on}
-use Rattle.gate_graph.specs.Search.{IsSeen, unseen}
-use Rattle.gate_graph.specs.Inner.Search.{AreBelow, Marked, MarksBack, Searched, ListsSeen}
+use Rattle.gate_graph.specs.Search.{IsSeen, unseen, AreBelow}
+use Rattle.gate_graph.specs.Inner.Search.{Marked, MarksBack, Searched, ListsSeen}
 use Rattle.gate_graph.proofs.Bounded.{live-below}
 use Rattle.gate_net.proofs.Public.{node_live}
 

@@ -1,8 +1,8 @@
 //! Searching back along pins.
 ghost use Rattle.std.specs.Prelude.{◌≡◌, ◌+◌, ◌<◌, ◌≤◌, ◌↔◌, IfOk, IsTrue, ℕ, false, length, replicate};
 ghost use Rattle.gate_graph.specs.Circuit.{net_of};
-ghost use Rattle.gate_graph.specs.Search.{IsSeen, unseen};
-ghost use Rattle.gate_graph.specs.Inner.Search.{AreBelow, Marked, MarksBack, ListsSeen};
+ghost use Rattle.gate_graph.specs.Search.{IsSeen, unseen, AreBelow};
+ghost use Rattle.gate_graph.specs.Inner.Search.{Marked, MarksBack, ListsSeen};
 ghost use Rattle.gate_net.specs.Net.{IsLive};
 ghost use Rattle.gate_net.specs.Paths.{Reaches};
 

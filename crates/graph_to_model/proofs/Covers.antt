@@ -17,7 +17,7 @@ use Rattle.rm_model.specs.declared.parts.Literal.TheVariants.{One as One1}
 use Rattle.graph_to_model.specs.NetModel.{cover_with, gate_cover_of, gate_cover, gate_covers, onto, copy_cover, copy_covers}
 use Rattle.graph_to_model.proofs.GateValues.{cover_of}
 use Rattle.rm_base.proofs.Public.{both_and, in_append, in_map, not_excludes}
-use Rattle.rm_base.specs.Inner.Members.{In}
+use Rattle.rm_base.specs.Members.{In}
 use Rattle.rm_base.specs.Words.{Word}
 use Rattle.rm_model.specs.Words.{is_word}
 use Rattle.graph_to_model.specs.Inner.Covers.{AreNodesFrom, IsGateCover, IsCopyCover}

@@ -26,7 +26,7 @@ use Rattle.graph_to_model.proofs.Covers.{all_from_start, in_gates, gates_in, in_
 use Rattle.graph_to_model.proofs.Outputs.{driven_once, observed_driven, gate_driven, gate_number}
 use Rattle.graph_to_model.proofs.Tokens.{made_token}
 use Rattle.rm_base.proofs.Public.{all_pass_in, in_append, in_at, in_left, in_map, in_right, stands_below}
-use Rattle.rm_base.specs.Inner.Members.{In}
+use Rattle.rm_base.specs.Members.{In}
 use Rattle.rm_base.specs.Words.{Word}
 use Rattle.graph_to_model.specs.Inner.Writable.{IsWritable}
 use Rattle.graph_to_model.specs.Inner.Covers.{IsGateCover, IsCopyCover}

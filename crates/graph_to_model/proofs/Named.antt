@@ -14,7 +14,7 @@ use Rattle.graph_to_model.specs.Names.{kept_names, free_prefix, observed_name, n
 use Rattle.graph_to_model.specs.Fits.{Fits}
 use Rattle.graph_to_model.proofs.Prefixes.{prefix_is_free}
 use Rattle.rm_base.proofs.Public.{any_in, in_at, in_left, in_right, some_is}
-use Rattle.rm_base.specs.Inner.Members.{In}
+use Rattle.rm_base.specs.Members.{In}
 use Rattle.rm_base.specs.Words.{Word}
 
 same_eqb : (n : ℕ) → nat_eq n n ≡ true

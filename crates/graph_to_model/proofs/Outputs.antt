@@ -15,7 +15,7 @@ use Rattle.graph_to_model.specs.NetModel.{gate_covers, model_of_net, covers_of_g
 use Rattle.graph_to_model.proofs.Named.{gates_told, gate_not_source}
 use Rattle.graph_to_model.proofs.Covers.{distinct-append, rest_from, all_from_start, in_gates, in_copies, copies_distinct, copies_in, copy_out, onto_names, place_of, not_had}
 use Rattle.rm_base.proofs.Public.{in_left, in_map, in_mapped, in_right, some_is, stands_below}
-use Rattle.rm_base.specs.Inner.Members.{In}
+use Rattle.rm_base.specs.Members.{In}
 use Rattle.rm_base.specs.Words.{Word}
 use Rattle.rm_model.proofs.Public.{distinct-left}
 use Rattle.graph_to_model.specs.Inner.Writable.{IsWritable}

@@ -20,7 +20,7 @@ use Rattle.graph_to_model.proofs.Covers.{copy_out, live_within, distinct_head, d
 use Rattle.graph_to_model.proofs.Outputs.{driven_once, gate_number}
 use Rattle.graph_to_model.proofs.Formed.{cover_at, cover_cases, cover_reads, driver_named, index_of, all_in_list}
 use Rattle.rm_base.proofs.Public.{in_any, in_at, in_map, in_mapped, in_right, stands_below}
-use Rattle.rm_base.specs.Inner.Members.{In}
+use Rattle.rm_base.specs.Members.{In}
 use Rattle.rm_base.specs.Words.{Word}
 use Rattle.rm_model.proofs.Public.{is_word-same, same_word}
 use Rattle.graph_to_model.specs.Inner.Writable.{IsWritable}

@@ -24,7 +24,7 @@ use Rattle.graph_to_model.proofs.Formed.{one_pin_not}
 use Rattle.graph_to_model.proofs.Pins.{pins, two_or_more, gate_pins}
 use Rattle.graph_to_model.proofs.Tokens.{least_le}
 use Rattle.rm_base.proofs.Public.{all_from_members, in_append, in_at}
-use Rattle.rm_base.specs.Inner.Members.{In}
+use Rattle.rm_base.specs.Members.{In}
 use Rattle.rm_base.specs.Words.{Word}
 use Rattle.graph_to_model.specs.Inner.Writable.{IsWritable}
 use Rattle.graph_to_model.specs.Inner.Covers.{IsGateCover, IsCopyCover}

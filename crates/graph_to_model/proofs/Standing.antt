@@ -24,7 +24,7 @@ use Rattle.graph_to_model.proofs.Covers.{in_copies, copies_in, in_gates, all_fro
 use Rattle.graph_to_model.proofs.Outputs.{cover_number}
 use Rattle.graph_to_model.proofs.Formed.{cover_at, driver_named, live_named, one_pin_not}
 use Rattle.rm_base.proofs.Public.{in_append, in_left, in_map, in_right, some_is, stands_below}
-use Rattle.rm_base.specs.Inner.Members.{In}
+use Rattle.rm_base.specs.Members.{In}
 use Rattle.rm_base.specs.Words.{Word}
 use Rattle.graph_to_model.specs.Inner.Writable.{IsWritable}
 

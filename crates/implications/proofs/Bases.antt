@@ -32,7 +32,7 @@ use Rattle.refutation.specs.declared.reasoning.Fact.TheVariants.{Equal}
 use Rattle.refutation.specs.declared.reasoning.Line.{Line}
 use Rattle.rm_base.specs.declared.numbers.Fault.{Fault}
 use Rattle.rm_base.specs.declared.numbers.NodeId.{NodeId}
-use Rattle.rm_base.specs.Inner.Members.{AmongFirst}
+use Rattle.rm_base.specs.Members.{AmongFirst}
 
 -- LISTS OF NODES
 pub listed_kept : (xs : List NodeId) (x : NodeId) (y : ℕ) → IsListed xs y → IsListed (xs ++ x ∷ []) y

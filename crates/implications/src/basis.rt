@@ -1,8 +1,7 @@
 //! The facts that closing in place begins with, and comes back to.
 ghost use Rattle.std.specs.Prelude.{◌≡◌, ◌<◌, ◌≤◌, ◌+◌, ℕ, Some, IfOk, IsTrue, OnOk, false, length, replicate, slice_get};
 ghost use Rattle.gate_graph.specs.Circuit.{net_of};
-ghost use Rattle.gate_graph.specs.Search.{IsSeen};
-ghost use Rattle.gate_graph.specs.Inner.Search.{AreBelow};
+ghost use Rattle.gate_graph.specs.Search.{IsSeen, AreBelow};
 ghost use Rattle.refutation.specs.FactSets.{held_by};
 ghost use Rattle.implications.specs.Bases.{ArePinless, FitsBelow, HasRoom, IsFitted, IsRest, TakesEquals};
 ghost use Rattle.implications.specs.Inner.Bases.{AreAllOn, IsAmongNumbers, PutsBack};

@@ -21,8 +21,8 @@ use Rattle.wire_edit.specs.Sizes.{AddedIsLast}
 use Rattle.journal_text.specs.Accepted.{IsAcceptedStep, IsJustified, MayGrow}
 use Rattle.journal_check.specs.declared.refusal.Why.{Why}
 use Rattle.journal_check.specs.declared.refusal.Why.TheVariants as why
-use Rattle.journal_check.specs.Replaying.{StepLeads, one_each, refused}
-use Rattle.journal_check.specs.Inner.Replaying.{AddSays, FixSays, IsAddedPin, IsStepTree}
+use Rattle.journal_check.specs.Replaying.{StepLeads, one_each, refused, IsStepTree}
+use Rattle.journal_check.specs.Inner.Replaying.{AddSays, FixSays, IsAddedPin}
 use Rattle.rm_base.proofs.Public.{stands_below}
 
 or_none : {A : Type 0} (o p : Option A) → None ≡ or_else o p → (o ≡ None) × (p ≡ None)

@@ -132,3 +132,9 @@ IsLocalTree (kept.Step (step.Add gate node) tree) = Unit {0}
 IsLocalTree (kept.Step (step.Fix gate position value) tree) = Unit {0}
 IsLocalTree (kept.Step s tree) = tree ≡ []
 IsLocalTree _ = Unit {0}
+
+-- a local step has no tree
+abbrev pub IsStepTree : Step → List Item → Type 0
+IsStepTree (step.Add gate node) tree = Unit {0}
+IsStepTree (step.Fix gate position value) tree = Unit {0}
+IsStepTree _ tree = tree ≡ []

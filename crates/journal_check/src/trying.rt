@@ -3,7 +3,8 @@ ghost use Rattle.std.specs.Prelude.{◌≡◌, ◌<◌, ◌≤◌, ℕ, IfErr, I
 ghost use Rattle.gate_graph.specs.Circuit.{net_of};
 ghost use Rattle.journal_text.specs.declared.record.Record.TheVariants as kept;
 ghost use Rattle.journal_check.specs.Inner.Benches.{IsBench, IsEditing, IsIdle, IsReady, RecordSays, net_in, position_of};
-ghost use Rattle.journal_check.specs.Inner.Replaying.{IsStepTree, Makes};
+ghost use Rattle.journal_check.specs.Replaying.{IsStepTree};
+ghost use Rattle.journal_check.specs.Inner.Replaying.{Makes};
 
 use crate::bench::Bench;
 use crate::editing::{add_says, added_pin, fix_says};

@@ -1,7 +1,6 @@
 //! Journals against what is worked out by hand.
 ghost use Rattle.std.specs.Prelude.{◌≡◌, true};
-ghost use Rattle.journal_check.specs.Replaying.{IsLocalTree};
-ghost use Rattle.journal_check.specs.Inner.Replaying.{IsStepTree};
+ghost use Rattle.journal_check.specs.Replaying.{IsLocalTree, IsStepTree};
 
 mod texts;
 

@@ -18,7 +18,7 @@ use Rattle.graph_to_model.specs.Wires.{is_copy}
 use Rattle.model_faults.specs.ModelFaults.{is_gate_cover, gate_covers_of}
 use Rattle.gate_net.specs.Faults.{is_gate_kind, before_gates, gates_from, gates_of}
 use Rattle.rm_base.proofs.Public.{some_is}
-use Rattle.rm_base.specs.Inner.Members.{In}
+use Rattle.rm_base.specs.Members.{In}
 use Rattle.rm_base.specs.Words.{Word}
 use Rattle.graph_to_model.specs.Inner.Writable.{IsWritable}
 use Rattle.graph_to_model.specs.Inner.Covers.{AreNodesFrom, IsGateCover}

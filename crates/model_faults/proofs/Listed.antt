@@ -8,7 +8,7 @@ use Rattle.gate_net.specs.Faults.{is_gate_kind, before_gates, gates_from, gates_
 use Rattle.model_faults.specs.Laws.{IsListed, NetsListOnce}
 use Rattle.model_faults.proofs.Gates.{gate_kind, kind_gate}
 use Rattle.rm_base.proofs.Public.{in_append, in_at, in_left, in_right, place_of_member, some_is}
-use Rattle.rm_base.specs.Inner.Members.{In}
+use Rattle.rm_base.specs.Members.{In}
 use Rattle.graph_to_model.specs.Inner.Covers.{AreNodesFrom}
 
 -- DIFFERENT ELEMENTS

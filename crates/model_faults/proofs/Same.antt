@@ -18,7 +18,7 @@ use Rattle.gate_net.specs.Faults.{fault_at, Gives}
 use Rattle.model_faults.proofs.Named.{Names, words_of}
 use Rattle.model_faults.proofs.Twisted.{NetValues, WordValues, word_values, nodes_of, net_values, observed_value}
 use Rattle.rm_base.proofs.Public.{in_append, in_left, in_mapped, in_right, some_is, stands_below}
-use Rattle.rm_base.specs.Inner.Members.{In}
+use Rattle.rm_base.specs.Members.{In}
 use Rattle.rm_base.specs.Words.{Word}
 use Rattle.rm_model.proofs.Public.{is_word-same, same_word}
 use Rattle.graph_to_model.specs.Inner.Writable.{IsWritable}

@@ -23,7 +23,7 @@ use Rattle.candidate_wires.specs.Gains.{least_free, net_for, wire_for, with_cand
 use Rattle.rar_loop.specs.Inner.Trying.{MayAdd}
 use Rattle.rar_loop.proofs.NewNots.{live_apart, not_other, not_there, not_kind, not_drivers, not_live, not_reached, least_dead}
 use Rattle.rm_base.proofs.Public.{front_stands, last_stands}
-use Rattle.rm_base.specs.Inner.Numbers.{numbers_of}
+use Rattle.rm_base.specs.Numbers.{numbers_of}
 
 -- KINDS
 kind_control : (kind : Kind) → gate_control (Some kind) ≡ controlling kind

@@ -30,7 +30,7 @@ use Rattle.rar_loop.specs.Inner.Trying.{IsNewPinOpen, MayAdd}
 use Rattle.rar_loop.proofs.Adding.{add_applies, control_is, new_pin_reads, node_of}
 use Rattle.rar_loop.proofs.WireFaults.{wire_detected}
 use Rattle.rm_base.proofs.Public.{false_from_not}
-use Rattle.rm_base.specs.Inner.Numbers.{numbers_of}
+use Rattle.rm_base.specs.Numbers.{numbers_of}
 
 -- LANES
 -- a word that isn't 0 has a lane

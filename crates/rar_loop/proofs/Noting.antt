@@ -14,8 +14,7 @@ use Rattle.gate_graph.specs.Changes.{Edits}
 use Rattle.gate_graph.specs.Circuit.{Circuit, net_of}
 use Rattle.wire_edit.proofs.Public.{applies_changes}
 use Rattle.wire_edit.specs.Changes.{Change, append, remove, fix, readers, new_not, retire}
-use Rattle.wire_edit.specs.Edited.{edit_of}
-use Rattle.wire_edit.specs.Inner.Edited.{IsNewNot}
+use Rattle.wire_edit.specs.Edited.{edit_of, IsNewNot}
 use Rattle.wire_edit.specs.Laws.{IsTidying}
 use Rattle.wire_edit.specs.Steps.{change_of, constant_change, empty_node, or_zero}
 use Rattle.wire_edit.specs.Tests.{constant_at, control_of, driver_at, second_driver}
@@ -25,7 +24,7 @@ use Rattle.fault_sim.specs.Following.{DiffersAmong}
 use Rattle.rar_loop.specs.declared.changes.Changed.{Changed}
 use Rattle.rar_loop.specs.Inner.Changing.{AreNoted, HasListed, HasNoted, IsNoted, IsUnlisted, ListsNoted, NotesOn}
 use Rattle.rar_loop.specs.Inner.Spaces.{TouchesOn}
-use Rattle.rm_base.specs.Inner.Numbers.{numbers_of}
+use Rattle.rm_base.specs.Numbers.{numbers_of}
 use Rattle.wire_edit.specs.Removals.{ReadsNoConstants}
 
 pub on_ok : {A E : Type 0} (r : Result A E) (P Q : Type 0) → (P → Q) → OnOk r P → OnOk r Q

@@ -5,7 +5,7 @@ ghost use Rattle.gate_net.specs.Edits.{DiffersAt};
 ghost use Rattle.gate_net.specs.Net.{IsLive, Net, Reads};
 ghost use Rattle.wire_edit.specs.Tests.{second_driver};
 ghost use Rattle.rar_loop.specs.Inner.Changing.{AreNoted, HasListed, HasNoted, IsUnlisted, ListsNoted, NotesOn};
-ghost use Rattle.rm_base.specs.Inner.Numbers.{numbers_of};
+ghost use Rattle.rm_base.specs.Numbers.{numbers_of};
 
 use gate_graph::Graph;
 use rm_base::{NoMemory, NodeId};

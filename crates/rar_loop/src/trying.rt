@@ -11,7 +11,7 @@ ghost use Rattle.recursive_learning.specs.Serving.{IsServing};
 ghost use Rattle.rar_loop.specs.Inner.Going.{IsLeft, Tallies};
 ghost use Rattle.rar_loop.specs.Inner.Kept.{AreFor};
 ghost use Rattle.rar_loop.specs.Inner.Changing.{NotesOn};
-ghost use Rattle.rm_base.specs.Inner.Numbers.{numbers_of};
+ghost use Rattle.rm_base.specs.Numbers.{numbers_of};
 ghost use Rattle.rar_loop.specs.Inner.Spaces.{HasToolsFor, IsReady, TouchesOn};
 ghost use Rattle.rar_loop.specs.Trying.{IsLent, IsReadyToAdd};
 ghost use Rattle.rar_loop.specs.Inner.Trying.{MayAdd, MayTry, HasAdded, HasReplaced, IsAttempt, IsBack, not_records};

@@ -7,7 +7,7 @@ ghost use Rattle.fault_sim.specs.Words.{assignment, lane};
 ghost use Rattle.fault_sim.specs.BlockStates.{AreSimulated};
 ghost use Rattle.fault_sim.specs.LaneStates.{Fits, IsSimulated};
 ghost use Rattle.fault_sim.specs.Following.{DiffersAmong};
-ghost use Rattle.rm_base.specs.Inner.Numbers.{numbers_of};
+ghost use Rattle.rm_base.specs.Numbers.{numbers_of};
 ghost use Rattle.rar_loop.specs.Inner.Kept.{AreAsked, AreFor, HasKept, IsTurned, lanes_with, wanted};
 ghost use Rattle.rar_loop.specs.Inner.Trying.{IsNewPinOpen, MayAdd};
 

@@ -4,7 +4,7 @@ use Rattle.std.specs.Prelude.{◌&&◌, Some, None, position, slice_get, filter,
 use Rattle.std.specs.List.{list_any, list_all, AllByRecursion, position_from}
 use Rattle.std.proofs.lemmas.Bool.{or_cases, or_left, or_right}
 use Rattle.std.proofs.lemmas.Iterator.Adapters.{position_from-zero}
-use Rattle.rm_base.specs.Inner.Members.{In}
+use Rattle.rm_base.specs.Members.{In}
 
 pub in_append : {A : Type 0} (xs ys : List A) (y : A) → In (xs ++ ys) y → In xs y ⊎ In ys y
 in_append [] ys y h = inr h

@@ -16,7 +16,7 @@ use Rattle.ternary_sim.proofs.Beginnings.{live_touched}
 use Rattle.ternary_sim.proofs.Wholes.{driver_of_concerned}
 use Rattle.ternary_sim.specs.Regions.{IsConcerned, IsTouched, MarksMore, MarksRegion}
 use Rattle.gate_net.proofs.Public.{node_live}
-use Rattle.rm_base.specs.Inner.Members.{AmongFirst}
+use Rattle.rm_base.specs.Members.{AmongFirst}
 
 -- NUMBERS
 -- a number that is marked already

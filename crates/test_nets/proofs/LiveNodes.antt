@@ -5,7 +5,7 @@ use Rattle.rm_base.specs.declared.numbers.NodeId.{NodeId}
 use Rattle.gate_net.specs.declared.Kind.{Kind}
 use Rattle.gate_net.specs.Net.{Net, Node, IsLive, kind_in, kind_of, node_at}
 use Rattle.pin_pool.specs.Ring.{has}
-use Rattle.rm_base.specs.Inner.Numbers.{numbers_of}
+use Rattle.rm_base.specs.Numbers.{numbers_of}
 
 -- a node with a kind is live
 pub live_if : (net : Net) (x : ℕ) (kind : Kind) → kind_of net x ≡ Some kind → IsLive net x

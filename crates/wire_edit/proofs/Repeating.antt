@@ -4,7 +4,7 @@ use Rattle.std.specs.Prelude.{slice_get, set, nat_eq}
 use Rattle.std.proofs.lemmas.Bool.{cases_eq, eq-eqb, false_from_ne_true, ne_eqb}
 use Rattle.rm_base.specs.declared.numbers.NodeId.{NodeId}
 use Rattle.gate_net.specs.Net.{Net, drivers_of, IsWellFormed}
-use Rattle.gate_graph.specs.Inner.Search.{AreBelow}
+use Rattle.gate_graph.specs.Search.{AreBelow}
 use Rattle.wire_edit.specs.Tests.{is_among}
 use Rattle.wire_edit.specs.Inner.Marked.{is_marked}
 use Rattle.wire_edit.specs.Inner.Known.{MarksFirst}

@@ -18,8 +18,7 @@ use Rattle.wire_edit.specs.Laws.{IsTidying}
 use Rattle.std.specs.Prelude.{not}
 use Rattle.wire_edit.specs.Order.{rule_at, next_step, IsTidy}
 use Rattle.wire_edit.specs.Work.{pins_made}
-use Rattle.wire_edit.specs.Edited.{edit_of}
-use Rattle.wire_edit.specs.Inner.Edited.{IsNewNot}
+use Rattle.wire_edit.specs.Edited.{edit_of, IsNewNot}
 use Rattle.wire_edit.specs.Inner.Touched.{IsNotOf}
 use Rattle.wire_edit.specs.Inner.Marked.{is_marked, KeepsMarks, IsQuiet, MarksTouched}
 use Rattle.wire_edit.specs.Inner.Trials.{IsTrial}

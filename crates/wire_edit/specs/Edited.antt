@@ -13,3 +13,8 @@ edit_of (fix gate position value) = Redrive (node gate) position (node (constant
 edit_of (readers from to) = Readers (node from) (node to)
 edit_of (new_not driver) = NewNot (node driver)
 edit_of (retire gate) = Retire (node gate)
+
+-- the change makes a Not
+abbrev pub IsNewNot : Change → Type 0
+IsNewNot (new_not driver) = Unit {0}
+IsNewNot _ = ⊥

@@ -1,7 +1,7 @@
 //! Marks by which a repeated driver is found.
 ghost use Rattle.std.specs.Prelude.{◌≡◌, ◌<◌, ◌≤◌, ℕ, true, false, length, take, unwrap_or, IfOk};
 ghost use Rattle.gate_graph.specs.Circuit.{net_of};
-ghost use Rattle.gate_graph.specs.Inner.Search.{AreBelow};
+ghost use Rattle.gate_graph.specs.Search.{AreBelow};
 ghost use Rattle.gate_net.specs.Net.{drivers_of, IsLive};
 ghost use Rattle.wire_edit.specs.Tests.{is_among, is_repeated};
 ghost use Rattle.wire_edit.specs.Inner.Firsts.{IsFirst};

@@ -4,8 +4,7 @@ ghost use Rattle.gate_graph.specs.Circuit.{net_of};
 ghost use Rattle.gate_net.specs.Net.{Reads};
 ghost use Rattle.wire_edit.specs.Changes.{Change, readers, new_not};
 ghost use Rattle.wire_edit.specs.Tests.{is_not};
-ghost use Rattle.wire_edit.specs.Edited.{edit_of};
-ghost use Rattle.wire_edit.specs.Inner.Edited.{IsNewNot};
+ghost use Rattle.wire_edit.specs.Edited.{edit_of, IsNewNot};
 ghost use Rattle.wire_edit.specs.Inner.Marked.{is_marked, KeepsMarks, MarksTouched};
 ghost use Rattle.wire_edit.specs.Inner.Touched.{IsReadBy, IsNotOf};
 

@@ -5,8 +5,7 @@ use Rattle.rm_base.specs.declared.numbers.Place.{Place}
 use Rattle.rm_model.specs.Words.{is_word}
 use Rattle.rm_model.specs.Value.{is_among}
 use Rattle.blif_lines.specs.Layout.{Spot}
-use Rattle.blif_format.specs.Uses.{Use, use_of, is_source_role, is_observed_role, names_in, distinct_count}
-use Rattle.blif_format.specs.Inner.Uses.{is_clock, is_input, is_output}
+use Rattle.blif_format.specs.Uses.{Use, use_of, is_source_role, is_observed_role, names_in, distinct_count, is_clock, is_input, is_output}
 use Rattle.blif_format.specs.declared.words.Part.{Part}
 use Rattle.blif_format.specs.declared.words.Role.{Role}
 use Rattle.blif_format.specs.declared.words.Role.TheVariants.{Input, ClockInput, Output, CoverOutput, LatchOutput}

@@ -4,9 +4,6 @@ use Rattle.gate_net.specs.Net.{Net, Reads}
 use Rattle.gate_net.specs.Paths.{Reaches}
 use Rattle.gate_graph.specs.Search.{IsSeen, unseen}
 
-abbrev pub AreBelow : List ℕ → ℕ → Type 0
-AreBelow xs n = (p x : ℕ) → slice_get xs p ≡ Some x → x < n
-
 -- each marked node stands in the queue between two places, and what stands there is marked
 pub record ListsSeen (seen : List Bool) (queue : List ℕ) (first end : ℕ) : Type 0 where
   pub listed : (z : ℕ) → IsSeen seen z → (k : ℕ) × ((first ≤ k) × ((k < end) × (slice_index queue k ≡ z)))

@@ -1,5 +1,5 @@
 -- Beside Replaying.antt: what only private contracts, invariants and laws speak of.
-use Rattle.std.specs.Prelude.{◌≡◌, ◌≢◌, ℕ, Bool, not, List, [], Option, Some, None, Result, Ok, Err, ◌⊎◌}
+use Rattle.std.specs.Prelude.{◌≡◌, ◌≢◌, ℕ, Bool, not, List, Option, Some, None, Result, Ok, Err, ◌⊎◌}
 use Rattle.rm_base.specs.declared.numbers.Fault.{Fault}
 use Rattle.gate_net.specs.Net.{Net}
 use Rattle.gate_net.specs.Edits.{last_pin}
@@ -60,12 +60,6 @@ why_of r = why.Tree r
 abbrev pub noncontrolling : Option Kind → Option Bool
 noncontrolling None = None
 noncontrolling (Some kind) = option_map not (controlling kind)
-
--- a local step has no tree
-abbrev pub IsStepTree : Step → List Item → Type 0
-IsStepTree (step.Add gate node) tree = Unit {0}
-IsStepTree (step.Fix gate position value) tree = Unit {0}
-IsStepTree _ tree = tree ≡ []
 
 -- what a spent tree says: it is accepted with exactly budget edges, or with others, or this is its first refusal
 abbrev pub SpentSays : Net → ℕ → Fault → List Item → Result (Unit {0}) Why → Type 0

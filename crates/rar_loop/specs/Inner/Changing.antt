@@ -4,12 +4,11 @@ use Rattle.rm_base.specs.declared.numbers.NodeId.{NodeId}
 use Rattle.gate_net.specs.Net.{IsWellFormed, Net, Reads, node_at}
 use Rattle.gate_graph.specs.Changes.{Edits}
 use Rattle.gate_graph.specs.Circuit.{Circuit, net_of}
-use Rattle.wire_edit.specs.Edited.{edit_of}
-use Rattle.wire_edit.specs.Inner.Edited.{IsNewNot}
+use Rattle.wire_edit.specs.Edited.{edit_of, IsNewNot}
 use Rattle.wire_edit.specs.Steps.{Applies, change_of}
 use Rattle.wire_edit.specs.declared.steps.Step.{Step}
 use Rattle.rar_loop.specs.declared.changes.Changed.{Changed}
-use Rattle.rm_base.specs.Inner.Numbers.{numbers_of}
+use Rattle.rm_base.specs.Numbers.{numbers_of}
 
 abbrev pub IsUnlisted : List ℕ → ℕ → Type 0
 IsUnlisted xs x = (k : ℕ) → slice_get xs k ≡ Some x → ⊥

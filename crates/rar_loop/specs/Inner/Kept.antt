@@ -4,13 +4,12 @@ use Rattle.gate_net.specs.Net.{Net}
 use Rattle.gate_net.specs.Values.{Detects, HasPin}
 use Rattle.fault_sim.specs.BlockStates.{AreSimulated}
 use Rattle.fault_sim.specs.LaneStates.{Fits, IsSimulated}
-use Rattle.fault_sim.specs.Words.{assignment, lane}
-use Rattle.fault_sim.specs.Inner.Words.{all_ones}
+use Rattle.fault_sim.specs.Words.{assignment, lane, all_ones}
 use Rattle.wire_edit.specs.Tests.{control_of}
 use Rattle.rm_base.specs.declared.numbers.NodeId.{NodeId}
 use Rattle.rar_loop.specs.Rows.{stuck}
 use Rattle.rar_loop.specs.declared.vectors.Vectors.{Vectors}
-use Rattle.rm_base.specs.Inner.Numbers.{numbers_of}
+use Rattle.rm_base.specs.Numbers.{numbers_of}
 
 -- the lanes in which a word has the value
 abbrev pub lanes_with : Bool → ℕ → ℕ

@@ -12,7 +12,7 @@ use Rattle.rar_loop.specs.Inner.Changing.{AreNoted}
 use Rattle.rar_loop.specs.Inner.Kept.{AreFor}
 use Rattle.rar_loop.specs.Trying.{IsLent}
 use Rattle.rar_loop.specs.declared.workspace.Workspace.{Workspace}
-use Rattle.rm_base.specs.Inner.Numbers.{numbers_of}
+use Rattle.rm_base.specs.Numbers.{numbers_of}
 
 -- what differed from an earlier net among the nodes that were touched before differs from it among those touched now
 abbrev pub TouchesOn : Net → Net → List NodeId → List NodeId → Type 0

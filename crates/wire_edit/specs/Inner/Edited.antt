@@ -1,9 +1,5 @@
 -- Beside Edited.antt: what only private contracts, invariants and laws speak of.
-use Rattle.wire_edit.specs.Changes.{Change, remove, new_not}
-
-abbrev pub IsNewNot : Change → Type 0
-IsNewNot (new_not driver) = Unit {0}
-IsNewNot _ = ⊥
+use Rattle.wire_edit.specs.Changes.{Change, remove}
 
 abbrev pub TakesOut : Change → Type 0
 TakesOut (remove gate position) = Unit {0}

@@ -1,7 +1,7 @@
 use Rattle.gate_graph.specs.Circuit.{net_of}
 use Rattle.fault_sim.proofs.Blocking.{first_lane_of, lanes_of, placed_again}
 use Rattle.fault_sim.proofs.blocks.first_in.Goals as goal
-use Rattle.rm_base.specs.Inner.Numbers.{numbers_of}
+use Rattle.rm_base.specs.Numbers.{numbers_of}
 
 pub found_by-found-requires-clause-lanes : goal.found_by-found-requires-clause-lanes
 found_by-found-requires-clause-lanes c = rw c.as_slice-2.ensures.value (lanes_of (numbers_of c.args.order.now) c.args.places.now c.args.block.now.good.items c.args.spread.now c.requires.placed c.requires.block.good)

@@ -8,7 +8,7 @@ use Rattle.gate_net.specs.Net.{Reads}
 use Rattle.fault_sim.proofs.ChangedNodes.{drivers_changed, if_ok, least_same, one_changed, readers_changed}
 use Rattle.gate_net.specs.Edits.{IsSameBut}
 use Rattle.fault_sim.proofs.changed.changed_by.Goals as goal
-use Rattle.rm_base.specs.Inner.Numbers.{numbers_of}
+use Rattle.rm_base.specs.Numbers.{numbers_of}
 
 pub returns-in-Append : goal.returns-in-Append
 returns-in-Append c =

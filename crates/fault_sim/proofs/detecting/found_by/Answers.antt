@@ -6,7 +6,7 @@ use Rattle.fault_sim.proofs.Detection.{detects}
 use Rattle.fault_sim.proofs.Lists.{below_or}
 use Rattle.fault_sim.specs.Inner.Spreading.{IsSpread}
 use Rattle.fault_sim.proofs.detecting.found_by.Goals as goal
-use Rattle.rm_base.specs.Inner.Numbers.{numbers_of}
+use Rattle.rm_base.specs.Numbers.{numbers_of}
 
 pub rest-requires-clause-idle : goal.rest-requires-clause-idle
 rest-requires-clause-idle c k =

@@ -5,7 +5,7 @@ use Rattle.rm_base.specs.declared.numbers.NodeId.{NodeId}
 use Rattle.fault_sim.proofs.Blocking.{placed_again}
 use Rattle.fault_sim.proofs.CatchingUp.{all_right, begin, lanes_touched, others_false, rests}
 use Rattle.fault_sim.proofs.following.catch_up.Goals as goal
-use Rattle.rm_base.specs.Inner.Numbers.{numbers_of}
+use Rattle.rm_base.specs.Numbers.{numbers_of}
 
 pub reread-requires-clause-lanes : goal.reread-requires-clause-lanes
 reread-requires-clause-lanes c =

@@ -2,7 +2,7 @@ use Rattle.std.proofs.Common.{length}
 use Rattle.gate_graph.specs.Circuit.{net_of}
 use Rattle.fault_sim.proofs.CatchingUp.{skip_to}
 use Rattle.fault_sim.proofs.following.reread.Goals as goal
-use Rattle.rm_base.specs.Inner.Numbers.{numbers_of}
+use Rattle.rm_base.specs.Numbers.{numbers_of}
 
 pub reread_at-requires-clause-rereading : goal.reread_at-requires-clause-rereading
 reread_at-requires-clause-rereading c =

@@ -6,7 +6,8 @@ use Rattle.fault_sim.proofs.CatchingUp.{again_changed, again_kept, lanes_again}
 use Rattle.fault_sim.proofs.ReadInOrder.{drivers_within, good_read, reader_not_dead}
 use Rattle.fault_sim.proofs.following.reread_at.Goals as goal
 use Rattle.rm_base.proofs.Public.{number_at, slice_get_below}
-use Rattle.rm_base.specs.Inner.Numbers.{numbers_of, default_node}
+use Rattle.rm_base.specs.Numbers.{numbers_of}
+use Rattle.rm_base.specs.Inner.Numbers.{default_node}
 
 pub good_word-word-requires-clause-drivers : goal.good_word-word-requires-clause-drivers
 good_word-word-requires-clause-drivers c =

@@ -5,7 +5,8 @@ use Rattle.fault_sim.proofs.CatchingUp.{place_below, place_within, touched_more,
 use Rattle.fault_sim.specs.Following.{AreTouched}
 use Rattle.fault_sim.proofs.following.touch_all.Goals as goal
 use Rattle.rm_base.proofs.Public.{number_at}
-use Rattle.rm_base.specs.Inner.Numbers.{numbers_of, default_node}
+use Rattle.rm_base.specs.Numbers.{numbers_of}
+use Rattle.rm_base.specs.Inner.Numbers.{default_node}
 
 pub touch-requires-clause-within : goal.touch-requires-clause-within
 touch-requires-clause-within c live = place_within (net_of c.args.graph.now) (numbers_of c.args.order.now) c.args.places.now c.requires.order c.requires.within _ live

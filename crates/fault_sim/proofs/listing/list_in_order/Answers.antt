@@ -7,7 +7,7 @@ use Rattle.fault_sim.proofs.ReadInOrder.{order_below}
 use Rattle.fault_sim.specs.Inner.Pending.{HasRoom}
 use Rattle.fault_sim.specs.Inner.Simulating.{IsWithin}
 use Rattle.fault_sim.proofs.listing.list_in_order.Goals as goal
-use Rattle.rm_base.specs.Inner.Numbers.{numbers_of}
+use Rattle.rm_base.specs.Numbers.{numbers_of}
 
 pub places_of-requires-clause-below : goal.places_of-requires-clause-below
 places_of-requires-clause-below c k x there =

@@ -8,7 +8,8 @@ use Rattle.rm_base.specs.declared.numbers.NodeId.{NodeId}
 use Rattle.fault_sim.specs.Following.{Stands}
 use Rattle.fault_sim.proofs.placing.any_misplaced.Goals as goal
 use Rattle.rm_base.proofs.Public.{number_at, slice_get_below}
-use Rattle.rm_base.specs.Inner.Numbers.{numbers_of, default_node}
+use Rattle.rm_base.specs.Numbers.{numbers_of}
+use Rattle.rm_base.specs.Inner.Numbers.{default_node}
 
 pub loop-node-preserved : goal.loop-node-preserved
 loop-node-preserved c k y less there =

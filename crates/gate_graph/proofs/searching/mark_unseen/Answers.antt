@@ -2,7 +2,7 @@ use Rattle.std.proofs.Common.{◌≡◌, ◌<◌, ℕ, List, [], ◌∷◌, ◌+
 use Rattle.std.specs.Prelude.{slice_get}
 use Rattle.std.proofs.lemmas.List.{map-append}
 use Rattle.rm_base.specs.declared.numbers.NodeId.{NodeId}
-use Rattle.gate_graph.specs.Inner.Search.{AreBelow}
+use Rattle.gate_graph.specs.Search.{AreBelow}
 use Rattle.gate_graph.proofs.Placed.{map-push}
 use Rattle.gate_graph.proofs.Marking.{marked_again, marked_new, fits, is_at, middle_at, marked-list}
 use Rattle.gate_graph.proofs.searching.mark_unseen.Goals as goal

@@ -9,7 +9,7 @@ use Rattle.model_faults.proofs.Listed.{pin_listed, list_once}
 use Rattle.model_faults.proofs.FaultLaws.{vectors_give}
 use Rattle.model_faults.proofs.Same.{to_model, to_net}
 use Rattle.rm_base.proofs.Public.{in_at, stands_below}
-use Rattle.rm_base.specs.Inner.Members.{In}
+use Rattle.rm_base.specs.Members.{In}
 use Rattle.model_faults.proofs.laws.tidy_nets_have_model_faults.Goals as goal
 use Rattle.graph_to_model.specs.Inner.Writable.{IsWritable}
 

@@ -8,7 +8,7 @@ use Rattle.rm_base.specs.declared.numbers.NodeId.{NodeId}
 use Rattle.rar_loop.specs.Inner.Changing.{IsUnlisted}
 use Rattle.rar_loop.proofs.Noting.{unlisted_append}
 use Rattle.rar_loop.proofs.changes.add_readers.Goals as goal
-use Rattle.rm_base.specs.Inner.Numbers.{numbers_of}
+use Rattle.rm_base.specs.Numbers.{numbers_of}
 
 pub loop-reader-init : goal.loop-reader-init
 loop-reader-init c = record { all = sym (c.into_iter-reader-iterator.ensures.into_iter_gives ∙ c.readers_of-reader-items.ensures); nodes = sym (append-nil c.args.nodes.now.items) }

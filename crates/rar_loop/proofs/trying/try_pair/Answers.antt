@@ -20,7 +20,7 @@ use Rattle.rar_loop.proofs.Opens.{no_fewer_fails}
 use Rattle.rar_loop.proofs.Readying.{ready_first}
 use Rattle.rar_loop.proofs.Replacing.{better_of, lent_ahead, not_replaced_fails, some_wire}
 use Rattle.rar_loop.proofs.trying.try_pair.Goals as goal
-use Rattle.rm_base.specs.Inner.Numbers.{numbers_of}
+use Rattle.rm_base.specs.Numbers.{numbers_of}
 
 pub replace-requires-clause-ready : goal.replace-requires-clause-ready
 replace-requires-clause-ready c =

@@ -9,7 +9,8 @@ use Rattle.ternary_sim.proofs.InOrder.{read_more, walk_from}
 use Rattle.ternary_sim.proofs.Loops.{drivers_marked, marked_more}
 use Rattle.ternary_sim.proofs.reading.read_all.Goals as goal
 use Rattle.rm_base.proofs.Public.{number_at}
-use Rattle.rm_base.specs.Inner.Numbers.{numbers_of, default_node}
+use Rattle.rm_base.specs.Numbers.{numbers_of}
+use Rattle.rm_base.specs.Inner.Numbers.{default_node}
 
 pub read_node-read-requires-clause-live : goal.read_node-read-requires-clause-live
 read_node-read-requires-clause-live c =

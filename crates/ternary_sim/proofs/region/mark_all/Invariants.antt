@@ -1,7 +1,7 @@
 use Rattle.std.proofs.Common.{length, ◌≡◌}
 use Rattle.ternary_sim.proofs.region.mark_all.Given as goal
 use Rattle.ternary_sim.specs.Regions.{MarksMore}
-use Rattle.rm_base.specs.Inner.Members.{AmongFirst}
+use Rattle.rm_base.specs.Members.{AmongFirst}
 
 abbrev pub invariant-loop-number : goal.invariant-loop-number
 invariant-loop-number l = record {

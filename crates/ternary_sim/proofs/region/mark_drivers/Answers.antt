@@ -7,7 +7,7 @@ use Rattle.rm_base.specs.declared.numbers.NodeId.{NodeId}
 use Rattle.ternary_sim.proofs.Spreading.{more_done, more_next, one_longer}
 use Rattle.ternary_sim.proofs.region.mark_drivers.Goals as goal
 use Rattle.ternary_sim.specs.Regions.{MarksMore}
-use Rattle.rm_base.specs.Inner.Members.{AmongFirst}
+use Rattle.rm_base.specs.Members.{AmongFirst}
 
 pub mark_one-requires-clause-marks : goal.mark_one-requires-clause-marks
 mark_one-requires-clause-marks c =

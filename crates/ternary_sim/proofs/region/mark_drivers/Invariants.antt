@@ -4,7 +4,7 @@ use Rattle.gate_net.specs.Net.{drivers_of}
 use Rattle.rm_base.specs.declared.numbers.NodeId.{NodeId}
 use Rattle.ternary_sim.proofs.region.mark_drivers.Given as goal
 use Rattle.ternary_sim.specs.Regions.{MarksMore}
-use Rattle.rm_base.specs.Inner.Members.{AmongFirst}
+use Rattle.rm_base.specs.Members.{AmongFirst}
 
 abbrev pub invariant-loop-driver : goal.invariant-loop-driver
 invariant-loop-driver l = record {

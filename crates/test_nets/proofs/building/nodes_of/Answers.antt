@@ -5,7 +5,7 @@ use Rattle.gate_net.specs.Net.{IsLive}
 use Rattle.pin_pool.specs.Ring.{has}
 use Rattle.test_nets.proofs.LiveNodes.{live_if, live_more}
 use Rattle.test_nets.proofs.building.nodes_of.Goals as goal
-use Rattle.rm_base.specs.Inner.Numbers.{numbers_of}
+use Rattle.rm_base.specs.Numbers.{numbers_of}
 
 pub loop-number-preserved : goal.loop-number-preserved
 loop-number-preserved c = record {

@@ -1,6 +1,6 @@
 use Rattle.std.proofs.Common.{◌≡◌, ◌<◌, ℕ, suc, false, List, ◌∷◌, ap, ◌∙◌, arith}
 use Rattle.std.specs.Prelude.{slice_get}
-use Rattle.gate_graph.specs.Inner.Search.{AreBelow}
+use Rattle.gate_graph.specs.Search.{AreBelow}
 use Rattle.wire_edit.proofs.Marking.{set_count}
 use Rattle.wire_edit.proofs.Repeating.{among_less}
 use Rattle.wire_edit.proofs.seen.unmark_drivers.Goals as goal

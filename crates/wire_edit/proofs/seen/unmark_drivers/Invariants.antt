@@ -1,4 +1,4 @@
-use Rattle.gate_graph.specs.Inner.Search.{AreBelow}
+use Rattle.gate_graph.specs.Search.{AreBelow}
 use Rattle.wire_edit.proofs.Repeating.{AreAmong}
 use Rattle.std.proofs.Common.{length}
 use Rattle.wire_edit.proofs.seen.unmark_drivers.Given as goal

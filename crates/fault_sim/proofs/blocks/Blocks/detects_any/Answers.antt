@@ -2,7 +2,7 @@ use Rattle.std.proofs.Common.{length}
 use Rattle.gate_graph.specs.Circuit.{net_of}
 use Rattle.fault_sim.proofs.Blocking.{each_simulated}
 use Rattle.fault_sim.proofs.blocks.Blocks.detects_any.Goals as goal
-use Rattle.rm_base.specs.Inner.Numbers.{numbers_of}
+use Rattle.rm_base.specs.Numbers.{numbers_of}
 
 pub first_of-requires-clause-blocks : goal.first_of-requires-clause-blocks
 first_of-requires-clause-blocks c =

@@ -6,7 +6,7 @@ use Rattle.fault_sim.specs.BlockStates.{AreSimulated}
 use Rattle.fault_sim.specs.Inner.BlockStates.{AreBlocks, ArePlaced, good_of, words_of}
 use Rattle.fault_sim.specs.declared.blocks.Block.{Block}
 use Rattle.fault_sim.proofs.blocks.Blocks.follow.Goals as goal
-use Rattle.rm_base.specs.Inner.Numbers.{numbers_of}
+use Rattle.rm_base.specs.Numbers.{numbers_of}
 
 pub follow_all-requires-clause-order : goal.follow_all-requires-clause-order
 follow_all-requires-clause-order c =

@@ -7,7 +7,7 @@ use Rattle.fault_sim.specs.BlockStates.{AreSimulated}
 use Rattle.fault_sim.specs.Inner.BlockStates.{AreBlocks, ArePlaced, good_of, words_of}
 use Rattle.fault_sim.specs.declared.blocks.Block.{Block}
 use Rattle.fault_sim.proofs.blocks.Blocks.follow_anew.Goals as goal
-use Rattle.rm_base.specs.Inner.Numbers.{numbers_of}
+use Rattle.rm_base.specs.Numbers.{numbers_of}
 
 pub follow_all-requires-clause-order : goal.follow_all-requires-clause-order
 follow_all-requires-clause-order c = rw c.as_slice.ensures.value (order_is (net_of c.args.graph.now) (numbers_of c.in_ok-listing.listing.order.items) c.in_ok-listing.ensures.order)

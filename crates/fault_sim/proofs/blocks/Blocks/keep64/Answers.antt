@@ -6,7 +6,7 @@ use Rattle.fault_sim.specs.BlockStates.{AreSimulated, IsSimulatedBlock}
 use Rattle.fault_sim.specs.Inner.BlockStates.{good_of, words_of}
 use Rattle.fault_sim.specs.declared.blocks.Block.{Block}
 use Rattle.fault_sim.proofs.blocks.Blocks.keep64.Goals as goal
-use Rattle.rm_base.specs.Inner.Numbers.{numbers_of}
+use Rattle.rm_base.specs.Numbers.{numbers_of}
 
 pub invariant_of-self-2 : goal.invariant_of-self-2
 invariant_of-self-2 c =

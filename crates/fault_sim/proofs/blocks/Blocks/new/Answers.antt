@@ -2,7 +2,7 @@ use Rattle.std.proofs.Common.{ap, arith, length, subst, sym, ◌≡◌}
 use Rattle.fault_sim.proofs.Blocking.{no_blocks}
 use Rattle.fault_sim.specs.Inner.BlockStates.{AreBlocks}
 use Rattle.fault_sim.proofs.blocks.Blocks.new.Goals as goal
-use Rattle.rm_base.specs.Inner.Numbers.{numbers_of}
+use Rattle.rm_base.specs.Numbers.{numbers_of}
 
 pub invariant_of-result : goal.invariant_of-result
 invariant_of-result c = (

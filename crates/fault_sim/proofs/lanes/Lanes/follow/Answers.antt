@@ -3,7 +3,7 @@ use Rattle.gate_graph.specs.Circuit.{net_of}
 use Rattle.fault_sim.proofs.Blocking.{lanes_of}
 use Rattle.fault_sim.proofs.CatchingUp.{still_ordered}
 use Rattle.fault_sim.proofs.lanes.Lanes.follow.Goals as goal
-use Rattle.rm_base.specs.Inner.Numbers.{numbers_of}
+use Rattle.rm_base.specs.Numbers.{numbers_of}
 
 pub catch_up-requires-clause-order : goal.catch_up-requires-clause-order
 catch_up-requires-clause-order c =

@@ -2,7 +2,7 @@ use Rattle.gate_graph.specs.Circuit.{net_of}
 use Rattle.fault_sim.proofs.Blocking.{grown_good, lanes_of}
 use Rattle.fault_sim.proofs.ReadInOrder.{order_is}
 use Rattle.fault_sim.proofs.lanes.Lanes.follow_anew.Goals as goal
-use Rattle.rm_base.specs.Inner.Numbers.{numbers_of}
+use Rattle.rm_base.specs.Numbers.{numbers_of}
 
 pub catch_up-requires-clause-order : goal.catch_up-requires-clause-order
 catch_up-requires-clause-order c = rw c.as_slice-2.ensures.value (order_is (net_of c.args.graph.now) (numbers_of c.in_ok-listing.listing.order.items) c.in_ok-listing.ensures.order)

@@ -7,7 +7,7 @@ use Rattle.rm_base.specs.declared.numbers.NodeId.{NodeId}
 use Rattle.rar_loop.specs.Inner.Changing.{IsUnlisted}
 use Rattle.rar_loop.proofs.Noting.{number_there, within_numbers}
 use Rattle.rar_loop.proofs.changes.Changed.nodes.Goals as goal
-use Rattle.rm_base.specs.Inner.Numbers.{numbers_of}
+use Rattle.rm_base.specs.Numbers.{numbers_of}
 
 pub loop-place-init : goal.loop-place-init
 loop-place-init c = record { listed = λ y none. (subst (λ (ns : List NodeId). IsUnlisted (numbers_of ns) y) (c.in_ok-nodes.ensures.items ∙ c.as_slice.ensures.value) none, λ j driver lt. absurd (omega (arith, lt))) }

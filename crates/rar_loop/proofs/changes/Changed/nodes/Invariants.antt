@@ -4,7 +4,7 @@ use Rattle.gate_net.specs.Net.{Reads}
 use Rattle.gate_graph.specs.Circuit.{net_of}
 use Rattle.rar_loop.specs.Inner.Changing.{IsUnlisted}
 use Rattle.rar_loop.proofs.changes.Changed.nodes.Given as goal
-use Rattle.rm_base.specs.Inner.Numbers.{numbers_of}
+use Rattle.rm_base.specs.Numbers.{numbers_of}
 
 abbrev pub invariant-loop-place : goal.invariant-loop-place
 invariant-loop-place l = record {

@@ -7,7 +7,7 @@ use Rattle.rar_loop.specs.Inner.Changing.{AreNoted, ListsNoted}
 use Rattle.rar_loop.proofs.Noting.{differs_listed, same_through, touches_then}
 use Rattle.rar_loop.proofs.workspace.Workspace.follow.Goals as goal
 use Rattle.wire_edit.proofs.Public.{tidy_reads_none}
-use Rattle.rm_base.specs.Inner.Numbers.{numbers_of}
+use Rattle.rm_base.specs.Numbers.{numbers_of}
 use Rattle.wire_edit.specs.Removals.{ReadsNoConstants}
 
 pub follow-requires : goal.follow-requires
