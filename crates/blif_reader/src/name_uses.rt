@@ -7,14 +7,14 @@ ghost use Rattle.blif_reader.specs.Inner.Tally.{entry_of, put_entry};
 
 use crate::names::NameUse;
 use rm_base::NoMemory;
-use rm_model::NameUses;
+use rm_model::NameTable;
 use std::alloc::Global;
 use std::marker::Model;
 
 /// Names, each with its entry. Contracts see the pairs of both.
 #[derive(Drop)]
 pub struct NameUses<'a> {
-    names: NameUses<'a>,
+    names: NameTable<'a>,
     entries: Vec<NameUse>,
 }
 
@@ -37,7 +37,7 @@ impl<'a> NameUses<'a> {
         ensures { result ≡ [] }
     {
         NameUses {
-            names: NameUses::new(alloc),
+            names: NameTable::new(alloc),
             entries: Vec::new(alloc),
         }
     }
