@@ -1,6 +1,6 @@
 -- The first fault of a text.
-use Rattle.std.specs.Prelude.{◌==◌, ◌+◌, ◌-◌, ℕ, Bool, true, false, not, ◌&&◌, ◌||◌, nat_lt, List, [], ◌∷◌, ◌++◌, map, filter, find, length, Option, None, Some, codes, if◌then◌else◌}
-use Rattle.std.specs.List.{list_any, filter_map}
+use Rattle.std.specs.Prelude.{◌==◌, ◌+◌, ◌-◌, ℕ, Bool, true, false, not, ◌&&◌, ◌||◌, nat_lt, List, [], ◌∷◌, ◌++◌, map, find, length, Option, None, Some, codes, if◌then◌else◌}
+use Rattle.std.specs.List.{filter_map}
 use Rattle.std.specs.Option.{option_map}
 use Rattle.rm_base.specs.declared.numbers.Place.{Place}
 use Rattle.rm_model.specs.Words.{is_word}
@@ -11,7 +11,7 @@ use Rattle.rm_model.specs.declared.parts.Model.{Model as CircuitModel}
 use Rattle.blif_lines.specs.Layout.{Spot, Logical, Flaw, BadByteAt, OpenJoinAt, layout}
 use Rattle.blif_format.specs.Uses.{command_of, parts_of, least_words, Use, use_of, uses_of, is_source_role, is_observed_role, is_driver, wants_driver, drives_twice, lists_twice, stands_in, names_in, distinct_count}
 use Rattle.blif_format.specs.declared.words.Command.{Command}
-use Rattle.blif_format.specs.declared.words.Command.TheVariants.{Model, End, Names}
+use Rattle.blif_format.specs.declared.words.Command.TheVariants.{Model}
 use Rattle.blif_format.specs.declared.words.Role.{Role}
 use Rattle.blif_format.specs.declared.words.Role.TheVariants.{CoverInput}
 use Rattle.blif_format.specs.declared.words.Part.{Part}

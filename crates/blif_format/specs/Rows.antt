@@ -1,13 +1,11 @@
 -- Texts that are worked out by hand.
 use Rattle.std.specs.Prelude.{◌++◌, ℕ, true, false, List, [], ◌∷◌, codes, Option, Some, None}
-use Rattle.rm_base.specs.declared.numbers.Place.{Place}
-use Rattle.rm_model.specs.declared.parts.Literal.TheVariants.{Zero, One, Any}
-use Rattle.rm_model.specs.declared.parts.Cover.{Cover}
+use Rattle.rm_model.specs.declared.parts.Literal.TheVariants.{Zero, One}
 use Rattle.rm_model.specs.declared.parts.LatchKind.TheVariants.{Re}
 use Rattle.rm_model.specs.declared.parts.Model.{Model}
 use Rattle.blif_format.specs.declared.refusal.FaultKind.{FaultKind}
 use Rattle.blif_format.specs.declared.refusal.ReadRefusal.{ReadRefusal}
-use Rattle.blif_format.specs.declared.refusal.ReadRefusal.TheVariants.{Fault, Limit}
+use Rattle.blif_format.specs.declared.refusal.ReadRefusal.TheVariants.{Fault}
 use Rattle.rm_base.specs.Words.{Word}
 
 -- lines that are ended by LF

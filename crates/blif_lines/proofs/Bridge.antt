@@ -1,16 +1,15 @@
 -- The logical lines from a place on, by what is cut from the line there.
-use Rattle.std.proofs.Common.{◌≡◌, ◌≢◌, ℕ, zero, suc, ◌<◌, ◌≤◌, ◌+◌, ◌-◌, List, [], ◌∷◌, ◌++◌, length, drop, take, map, Bool, true, false, not, ◌&&◌, ◌||◌, inl, inr, refl, sym, ◌∙◌, ap, subst, arith, add-one, append_assoc, Option, None, Some}
+use Rattle.std.proofs.Common.{◌≡◌, ℕ, suc, ◌<◌, ◌≤◌, ◌+◌, ◌-◌, List, [], ◌∷◌, ◌++◌, length, drop, map, Bool, true, false, refl, sym, ◌∙◌, ap, subst, arith, append_assoc, Option, None, Some}
 use Rattle.std.specs.Prelude.{◌==◌, if◌then◌else◌, nat_lt}
 use Rattle.std.proofs.lemmas.Bool.{ltb-true, ltb-false, lt-ltb}
 use Rattle.std.proofs.Common.{min, length-drop}
 use Rattle.std.proofs.lemmas.List.{drop-drop, drop_all}
 use Rattle.rm_base.specs.declared.numbers.Place.{Place}
-use Rattle.blif_lines.specs.Layout.{Mark, Spot, Flaw, BadByteAt, OpenJoinAt, Logical, behind, marked, physical_lines, onto_first, without_comment, joint, first_bad, earlier, single, join_to, with_line, logical_lines, layout_from, tokens_in}
+use Rattle.blif_lines.specs.Layout.{Mark, Spot, Flaw, BadByteAt, OpenJoinAt, Logical, behind, marked, physical_lines, onto_first, without_comment, joint, first_bad, earlier, with_line, logical_lines, layout_from, tokens_in}
 use Rattle.blif_lines.specs.Inner.Cuts.{front, is_inner, line_end_of, content, Cut, cut_of, cut_from, with_spot, moved, closed, closed_at, line_start, lines_from, extend, kept_at, place_at}
 use Rattle.blif_lines.specs.Inner.Cuts.{spot_between, spots_between, IsWord, IsBad, IsClose, IsJoin}
 use Rattle.blif_lines.specs.Reading.{StandsFirst, spot_of}
 use Rattle.blif_lines.specs.declared.line.Token.{Token}
-use Rattle.blif_lines.proofs.Pieces.{inner_behind}
 
 -- the bytes of the first physical line, and those behind its LF
 first_line : List Mark → List Mark

@@ -1,14 +1,13 @@
 -- What the bytes at a place say of the line from there on.
-use Rattle.std.proofs.Common.{◌≡◌, ◌≢◌, ℕ, zero, suc, ◌<◌, ◌≤◌, ◌+◌, ◌-◌, List, [], ◌∷◌, ◌++◌, length, drop, take, get_or, map, Bool, true, false, ◌&&◌, ◌||◌, inl, inr, refl, sym, ◌∙◌, ap, subst, arith, add-one, Option, None, Some}
-use Rattle.std.specs.Prelude.{◌==◌, ◌⊎◌, if◌then◌else◌, nat_lt}
+use Rattle.std.proofs.Common.{◌≡◌, ◌≢◌, ℕ, zero, suc, ◌<◌, ◌≤◌, ◌+◌, ◌-◌, List, [], ◌∷◌, ◌++◌, length, drop, take, get_or, map, Bool, true, false, ◌||◌, inl, inr, refl, sym, ◌∙◌, ap, subst, arith, None, Some}
+use Rattle.std.specs.Prelude.{◌==◌, if◌then◌else◌, nat_lt}
 use Rattle.std.proofs.lemmas.Bool.{eq-eqb, lt-ltb, le-ltb}
 use Rattle.std.proofs.lemmas.Bool.Decides.{eqb_tells}
 use Rattle.std.specs.List.{list_all}
 use Rattle.std.proofs.Math.Seq.{drop-cons}
 use Rattle.std.proofs.lemmas.List.{drop-drop, get_or-drop}
-use Rattle.std.proofs.Math.ListN.{drop_of_length-le}
 use Rattle.rm_base.specs.declared.numbers.Place.{Place}
-use Rattle.blif_lines.specs.Layout.{Mark, Spot, Flaw, BadByteAt, behind, marked, is_blank, is_control, joint, spots, ends_token}
+use Rattle.blif_lines.specs.Layout.{Mark, BadByteAt, behind, marked, is_blank, spots, ends_token}
 use Rattle.blif_lines.specs.Inner.Cuts.{front, begins, is_closed, is_blank_byte, is_control_byte, is_inner, line_end_of, content, Cut, cut_of, cut_from, with_spot, moved, spot_between, spots_between, IsWord, IsBad, IsClose, IsJoin}
 use Rattle.blif_lines.proofs.Bytes.{word_inner, blank_inner, control_inner, word_is_inner, blank_is_inner, boundary, word_not_blank}
 use Rattle.blif_lines.proofs.Lines.{AreWord, cut_blank, cut_word, flaw_control, flaw_slash, cut_join_alone, cut_join_word, flaw_join}

@@ -1,6 +1,5 @@
 -- What a reader of lines has still to come, and its answers.
-use Rattle.std.specs.Prelude.{◌≡◌, ◌≤◌, ◌<◌, ◌-◌, ℕ, List, [], ◌∷◌, map, length, take, drop, All, Option, None, Some}
-use Rattle.rm_base.specs.declared.numbers.Place.{Place}
+use Rattle.std.specs.Prelude.{◌≡◌, ◌≤◌, ◌<◌, ◌-◌, ℕ, List, [], ◌∷◌, map, length, take, drop, Option, None, Some}
 use Rattle.blif_lines.specs.Layout.{Spot, Flaw, BadByteAt, OpenJoinAt, Logical, Reading}
 use Rattle.blif_lines.specs.declared.line.Token.{Token}
 use Rattle.blif_lines.specs.declared.line.LogicalLine.{LogicalLine}

@@ -1,11 +1,11 @@
 -- The candidates at one gate.
-use Rattle.std.proofs.Common.{Bool, Err, List, None, OnOk, Ok, Option, Result, Some, [], ap, append-nil, arith, false, inl, inr, length, refl, subst, suc, sym, true, zero, ℕ, ◌++◌, ◌+◌, ◌<◌, ◌∙◌, ◌∷◌, ◌≡◌, ◌≢◌, ◌≤◌, ◌⊎◌}
+use Rattle.std.proofs.Common.{Bool, Err, List, None, OnOk, Ok, Option, Result, Some, [], ap, append-nil, arith, false, inl, inr, length, refl, subst, suc, sym, true, zero, ℕ, ◌++◌, ◌+◌, ◌<◌, ◌∙◌, ◌≡◌, ◌≢◌, ◌≤◌, ◌⊎◌}
 use Rattle.std.proofs.lemmas.Bool.Decides.{eqb_tells}
 use Rattle.std.specs.Option.{option_eq}
 use Rattle.std.specs.Prelude.{not, slice_get}
 use mathlib.Core.Bool.{beq}
-use Rattle.gate_net.specs.Net.{IsLive, Net, Node, kind_in, kind_of, node_at}
-use Rattle.gate_net.specs.Values.{IsJunction, controlling, same_bool}
+use Rattle.gate_net.specs.Net.{Net, Node, kind_in, node_at}
+use Rattle.gate_net.specs.Values.{IsJunction, controlling}
 use Rattle.gate_net.specs.declared.Kind.{Kind}
 use Rattle.gate_net.specs.declared.Kind.TheVariants.{And, Not, One, Or, Source, Zero}
 use Rattle.refutation.specs.Facts.{Held}

@@ -11,7 +11,7 @@ use Rattle.refutation.specs.Facts.{Held}
 use Rattle.refutation.specs.declared.reasoning.Fact.{Fact}
 use Rattle.refutation.specs.declared.reasoning.Fact.TheVariants.{Good}
 use Rattle.rm_base.specs.declared.numbers.NodeId.{NodeId}
-use Rattle.candidate_wires.specs.Inner.Parts.{AreKnown, HasGoods, HasNoneFrom, HasUsable, IsAscending, IsInList, IsUsable}
+use Rattle.candidate_wires.specs.Inner.Parts.{AreKnown, HasGoods, HasNoneFrom, HasUsable, IsAscending, IsInList}
 use Rattle.candidate_wires.specs.declared.known.Known.{Known}
 use Rattle.rm_base.proofs.Public.{back_stands, front_stands}
 

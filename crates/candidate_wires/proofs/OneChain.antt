@@ -1,5 +1,5 @@
 -- A gate has one whole chain.
-use Rattle.std.proofs.Common.{List, [], ap, arith, inl, inr, length, refl, subst, sym, ℕ, ◌+◌, ◌<◌, ◌∙◌, ◌∷◌, ◌≡◌, ◌≢◌, ◌≤◌, ◌⊎◌, suc, zero}
+use Rattle.std.proofs.Common.{List, [], arith, inl, inr, length, refl, subst, ℕ, ◌<◌, ◌∷◌, ◌≡◌, ◌≤◌, ◌⊎◌, suc, zero}
 use Rattle.std.proofs.lemmas.Bool.{cases_eq}
 use Rattle.gate_net.specs.Net.{Net}
 use Rattle.gate_net.specs.Paths.{ChainTo, IsOnlyReader, next, start}

@@ -1,12 +1,11 @@
 -- A fault has one list of candidates, in which each stands once.
-use Rattle.std.proofs.Common.{Bool, List, None, Option, Some, [], ap, arith, false, inl, inr, length, refl, subst, suc, sym, true, zero, not, ℕ, ◌++◌, ◌+◌, ◌<◌, ◌∙◌, ◌∷◌, ◌≡◌, ◌⊎◌, ◌↔◌}
+use Rattle.std.proofs.Common.{Bool, List, None, Option, Some, [], ap, arith, false, inl, inr, length, refl, subst, suc, sym, true, zero, not, ℕ, ◌++◌, ◌<◌, ◌∙◌, ◌∷◌, ◌≡◌}
 use Rattle.std.specs.Prelude.{IsTrue, slice_get}
 use mathlib.Core.Path.{fun_ext}
 use Rattle.gate_net.specs.Net.{IsAcyclic, IsRanked, Net}
 use Rattle.gate_net.specs.Paths.{Among, ChainTo, next, start}
 use Rattle.gate_net.specs.Values.{same_bool}
 use Rattle.refutation.specs.Facts.{Held}
-use Rattle.refutation.specs.declared.reasoning.Fact.{Fact}
 use Rattle.rm_base.specs.declared.numbers.Fault.{Fault as FaultValue}
 use Rattle.candidate_wires.proofs.Appending.{only_one, stands_either}
 use Rattle.candidate_wires.proofs.Choices.{junction_one}

@@ -1,7 +1,7 @@
 -- A net has one list of pairs.
-use Rattle.std.proofs.Common.{List, Some, [], ap, map, subst, sym, ℕ, ◌++◌, ◌∙◌, ◌∷◌, ◌≡◌}
+use Rattle.std.proofs.Common.{List, [], ap, map, subst, sym, ℕ, ◌++◌, ◌∙◌, ◌∷◌, ◌≡◌}
 use Rattle.std.specs.Prelude.{slice_get, take}
-use Rattle.gate_net.specs.Net.{IsWellFormed, Net}
+use Rattle.gate_net.specs.Net.{Net}
 use Rattle.rm_base.specs.declared.numbers.Fault.{Fault}
 use Rattle.candidate_wires.proofs.Once.{before_one}
 use Rattle.candidate_wires.proofs.OneList.{candidates_of_once, candidates_of_one}

@@ -1,5 +1,5 @@
 -- Each target of a net stands once among its targets.
-use Rattle.std.proofs.Common.{Bool, List, None, Option, Some, [], arith, inl, inr, length, refl, suc, sym, zero, not, ap, ℕ, ◌++◌, ◌+◌, ◌<◌, ◌≤◌, ◌∷◌, ◌≡◌, ◌∙◌}
+use Rattle.std.proofs.Common.{Bool, None, Option, Some, arith, inl, inr, length, suc, sym, zero, not, ap, ℕ, ◌+◌, ◌≤◌, ◌≡◌}
 use Rattle.std.specs.Prelude.{slice_get}
 use Rattle.gate_net.specs.Net.{Net, drivers_of}
 use Rattle.rm_base.specs.declared.numbers.Fault.{Fault}

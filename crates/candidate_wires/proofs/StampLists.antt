@@ -1,10 +1,10 @@
 -- Marks by stamps: setting one, and taking all off.
-use Rattle.std.proofs.Common.{Bool, List, Some, [], ap, arith, eqb, false, inl, inr, length, refl, replicate, subst, suc, sym, true, zero, ℕ, ◌<◌, ◌∙◌, ◌∷◌, ◌≡◌, ◌≢◌, ◌≤◌, ◌↔◌}
+use Rattle.std.proofs.Common.{Bool, List, Some, [], ap, arith, false, inl, inr, length, refl, replicate, suc, sym, true, zero, ℕ, ◌<◌, ◌∙◌, ◌∷◌, ◌≡◌, ◌≤◌, ◌↔◌}
 use Rattle.std.proofs.lemmas.Bool.{ne_eqb}
 use Rattle.std.proofs.lemmas.Bool.Decides.{eqb_tells}
 use Rattle.std.specs.Prelude.{IsTrue, nat_eq, slice_get, slice_index, slice_set}
 use Rattle.gate_graph.specs.Search.{IsSeen}
-use Rattle.candidate_wires.specs.Inner.Stamped.{AreStamped, marks_of}
+use Rattle.candidate_wires.specs.Inner.Stamped.{marks_of}
 
 pub marks-length : (present : ℕ) (stamps : List ℕ) → length (marks_of present stamps) ≡ length stamps
 marks-length present [] = refl

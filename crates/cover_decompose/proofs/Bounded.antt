@@ -1,6 +1,6 @@
 -- A decomposition has no more wires than its rows and literals allow.
-use Rattle.std.proofs.Common.{◌≡◌, ◌≢◌, ◌≤◌, ◌<◌, ◌+◌, ◌*◌, ℕ, zero, suc, Bool, true, false, ◌||◌, List, [], ◌∷◌, ◌++◌, map, filter, length, refl, sym, ◌∙◌, ap, arith, subst, nat_eq, ◌⊎◌, inl, inr, length-append}
-use Rattle.std.specs.Prelude.{if◌then◌else◌, sum_by, Option, unwrap_or}
+use Rattle.std.proofs.Common.{◌≡◌, ◌≤◌, ◌<◌, ◌+◌, ℕ, zero, suc, Bool, true, false, List, [], ◌∷◌, ◌++◌, map, filter, length, refl, sym, ◌∙◌, arith, nat_eq, inl, inr, length-append}
+use Rattle.std.specs.Prelude.{if◌then◌else◌, sum_by, unwrap_or}
 use Rattle.std.specs.List.{flat_map, zip}
 use Rattle.std.proofs.lemmas.List.Sums.{sum_by-cons, sum_by-append}
 use Rattle.std.proofs.lemmas.Bool.Decides.{eqb_tells}
@@ -9,9 +9,8 @@ use Rattle.rm_model.specs.Ranks.{ranks_of}
 use Rattle.rm_model.specs.declared.parts.Literal.{Literal}
 use Rattle.rm_model.specs.declared.parts.Literal.TheVariants.{Zero, One, Any}
 use Rattle.rm_model.specs.declared.parts.Cover.{Cover}
-use Rattle.rm_model.specs.declared.parts.Model.{Model}
-use Rattle.cover_decompose.specs.Needed.{taken, ranked_covers, of_rank, of_ranks, covers_by_rank, is_needed, needed_of}
-use Rattle.cover_decompose.specs.Count.{literal_count, joining, cover_wires, zero_names, cover_zero_names, new_count, decomposed}
+use Rattle.cover_decompose.specs.Needed.{taken, of_rank, of_ranks, covers_by_rank, is_needed, needed_of}
+use Rattle.cover_decompose.specs.Count.{literal_count, joining, cover_wires, zero_names, cover_zero_names, new_count}
 use Rattle.rm_model.specs.Size.{rows_weight, covers_weight}
 use Rattle.cover_decompose.specs.Bounds.{WiresAreBounded}
 use Rattle.rm_base.specs.Words.{Word}

@@ -1,16 +1,15 @@
 -- The numbers of a well-formed model's signals.
-use Rattle.std.proofs.Common.{◌≡◌, ◌<◌, ◌+◌, ℕ, zero, suc, Bool, true, false, cond, List, [], ◌∷◌, ◌++◌, length, map, get_or, set, refl, sym, ap, subst, ◌∙◌, inl, inr, arith}
+use Rattle.std.proofs.Common.{◌≡◌, ◌<◌, ◌+◌, ℕ, zero, suc, Bool, true, false, cond, List, [], ◌∷◌, ◌++◌, length, map, get_or, set, refl, sym, ap, subst, ◌∙◌, arith}
 use Rattle.std.specs.Prelude.{All, Some, Option, slice_get, ◌||◌, replicate, unwrap_or}
 use Rattle.std.specs.Option.{option_map}
-use Rattle.std.specs.List.{AllByRecursion, filter_map, flat_map, list_all, zip}
+use Rattle.std.specs.List.{AllByRecursion, flat_map, zip}
 use Rattle.std.proofs.lemmas.Option.{slice_get-map}
 use Rattle.std.proofs.Math.ListN.{length-set}
 use Rattle.rm_model.specs.Ranks.{rank_at, ranks_of}
 use Rattle.rm_model.specs.Words.{is_word}
-use Rattle.rm_model.specs.Value.{control_of, is_among, observed_names, source_names}
-use Rattle.rm_model.specs.WellFormed.{IsWellFormed, IsWellFormedCover, driven_names, is_distinct, used_names}
+use Rattle.rm_model.specs.Value.{is_among, observed_names, source_names}
+use Rattle.rm_model.specs.WellFormed.{IsWellFormed, IsWellFormedCover, driven_names, is_distinct}
 use Rattle.rm_model.specs.declared.parts.Cover.{Cover}
-use Rattle.rm_model.specs.declared.parts.Latch.{Latch}
 use Rattle.rm_model.specs.declared.parts.Model.{Model}
 use Rattle.cover_decompose.specs.Inner.Chosen.{AtPlaces, IsNumbered, Signals}
 use Rattle.cover_decompose.specs.Count.{cover_zero_names, cover_wires, decomposed, new_count}
@@ -23,7 +22,6 @@ use Rattle.cover_decompose.proofs.Matching.{signal_within, signals_from}
 use Rattle.cover_decompose.proofs.Members.{among_in}
 use Rattle.cover_decompose.proofs.Places.{get_right}
 use Rattle.cover_decompose.proofs.Points.{distinct_rest}
-use Rattle.cover_decompose.proofs.Ranked.{in_flat, observed_is_used}
 use Rattle.cover_decompose.proofs.Sums.{sum-total}
 use Rattle.rm_base.proofs.Public.{all_by_index, in_at}
 use Rattle.rm_base.specs.Words.{Word}

@@ -1,5 +1,5 @@
 -- Each drawn model is ready to be decomposed.
-use Rattle.std.proofs.Common.{◌≡◌, ◌≢◌, ◌∙◌, ◌+◌, ◌*◌, ◌/◌, ◌^◌, ◌&&◌, ◌<◌, ◌≤◌, ℕ, zero, suc, Bool, true, refl, ap, ap₂, List, [], ◌∷◌, ◌++◌, map, length, None, arith, lit<}
+use Rattle.std.proofs.Common.{◌≡◌, ◌≢◌, ◌∙◌, ◌+◌, ◌*◌, ◌/◌, ◌^◌, ◌&&◌, ◌<◌, ◌≤◌, ℕ, zero, suc, Bool, true, refl, ap, ap₂, List, [], ◌∷◌, ◌++◌, map, length, None, arith}
 use Rattle.std.specs.Prelude.{IfSome, codes}
 use Rattle.std.specs.List.{All, AllByRecursion, flat_map, list_all}
 use Rattle.std.proofs.lemmas.List.Elements.{All-from_recursion}

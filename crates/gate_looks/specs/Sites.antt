@@ -1,5 +1,5 @@
 -- What the faulty gate reaches, and its chain.
-use Rattle.std.specs.Prelude.{Bool, List, length, true, ℕ, ◌≡◌, ◌≤◌}
+use Rattle.std.specs.Prelude.{Bool, List, ℕ}
 use Rattle.gate_graph.specs.Search.{IsSeen}
 use Rattle.gate_net.specs.Net.{Net}
 use Rattle.gate_net.specs.Paths.{IsInChain}

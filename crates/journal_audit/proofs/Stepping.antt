@@ -1,30 +1,25 @@
 -- A replay in an audit: one more record, and the end.
-use Rattle.std.proofs.Common.{◌≡◌, ◌≢◌, ℕ, suc, ◌+◌, ◌^◌, ◌<◌, ◌≤◌, min, true, List, [], ◌∷◌, ◌++◌, length, Option, Some, None, Result, Ok, Err, refl, ap, sym, subst, ◌∙◌, ◌⊎◌, inl, inr, arith}
+use Rattle.std.proofs.Common.{◌≡◌, ◌≢◌, ℕ, ◌+◌, ◌^◌, ◌<◌, true, List, [], ◌∷◌, ◌++◌, length, Option, Ok, Err, refl, ap, sym, subst, ◌∙◌, inl, inr, arith}
 use Rattle.std.proofs.lemmas.List.{append-nil, length-append}
 use Rattle.rm_model.specs.declared.parts.Model.{Model}
-use Rattle.gate_net.specs.Net.{Net}
 use Rattle.gate_graph.specs.Circuit.{Circuit, net_of}
 use Rattle.cover_decompose.specs.Decomposition.{net_of_model}
 use Rattle.journal_text.specs.declared.record.Record.{Record}
 use Rattle.journal_text.specs.declared.record.Entry.{Entry}
 use Rattle.journal_text.specs.declared.record.Entry.TheVariants as entry
-use Rattle.journal_text.specs.declared.faults.JournalFault.{JournalFault}
-use Rattle.journal_text.specs.declared.faults.JournalFault.TheVariants as fault
 use Rattle.journal_text.specs.declared.reader.Awaited.{Awaited}
 use Rattle.journal_text.specs.declared.reader.Awaited.TheVariants as awaited
 use Rattle.journal_text.specs.Streams.{comes}
 use Rattle.journal_check.specs.Accepts.{IsAccepted}
 use Rattle.journal_check.specs.Laws.{RecordsReplay, ReplaysAccept}
-use Rattle.journal_check.specs.Replaying.{EndLeads, Leads, Position, editing, goes_on, next_number, refused, settling}
+use Rattle.journal_check.specs.Replaying.{Leads, editing, goes_on, next_number, refused}
 use Rattle.journal_check.specs.Standing.{Finishes, Standing, Steps}
 use Rattle.journal_check.specs.declared.refusal.JournalRefusal.{JournalRefusal}
 use Rattle.journal_check.specs.declared.refusal.Why.{Why}
 use Rattle.journal_check.specs.declared.refusal.Why.TheVariants as why
-use Rattle.journal_audit.specs.Inner.Problems.{fault_problem, refusal_problem, refused_for}
+use Rattle.journal_audit.specs.Inner.Problems.{refusal_problem, refused_for}
 use Rattle.journal_audit.specs.Inner.Stages.{EndRefused, IsRefusal, IsReplayed, StageIs, StepRefused, TakenSays}
 use Rattle.journal_audit.specs.declared.problem.AuditProblem.{AuditProblem}
-use Rattle.journal_audit.specs.declared.problem.AuditProblem.TheVariants.{NoMemory, Refused, Text}
-use Rattle.journal_audit.specs.declared.stage.Stage.{Stage}
 use Rattle.journal_audit.specs.declared.stage.Stage.TheVariants.{Ended, Header, Records}
 
 -- A REFUSAL, OR WANT OF MEMORY

@@ -13,7 +13,6 @@ use Rattle.journal_text.specs.Text.{AreEntries, entries_text, journal_entries}
 use Rattle.journal_check.specs.Accepts.{IsAccepted}
 use Rattle.journal_check.specs.Replaying.{EndLeads, LeadOn, Leads, Position, editing, refused}
 use Rattle.journal_check.specs.declared.refusal.JournalRefusal.{JournalRefusal}
-use Rattle.journal_audit.specs.declared.problem.AuditProblem.TheVariants.{NoMemory}
 
 -- the text is a journal that the model accepts, with that last net and so many records
 pub record IsAcceptedText (m : Model) (text : List ℕ) (last : Net) (count : ℕ) : Type 0 where

@@ -1,14 +1,14 @@
 -- Accepted steps one after another: what they keep, and that they can be written.
-use Rattle.std.proofs.Common.{◌≡◌, ◌≢◌, ℕ, zero, suc, ◌+◌, ◌<◌, ◌≤◌, Bool, true, false, not, Option, Some, None, List, [], ◌∷◌, ◌++◌, length, refl, ap, sym, subst, ◌∙◌, arith}
-use Rattle.std.specs.Prelude.{slice_get, map}
+use Rattle.std.proofs.Common.{◌≡◌, ◌≢◌, ℕ, zero, suc, ◌+◌, ◌<◌, ◌≤◌, Bool, true, false, not, Option, Some, None, List, [], ◌∷◌, refl, sym, subst, ◌∙◌, arith}
+use Rattle.std.specs.Prelude.{map}
 use Rattle.rm_base.specs.declared.numbers.Fault.{Fault}
 use Rattle.gate_net.specs.declared.Kind.{Kind}
 use Rattle.gate_net.specs.declared.Kind.TheVariants.{Source, Zero, One, And, Or, Not}
-use Rattle.gate_net.specs.Net.{Node, Net, IsKind, IsLive, IsWellFormed, node_at, plain_node, source_count}
+use Rattle.gate_net.specs.Net.{Node, Net, IsWellFormed, node_at, plain_node, source_count}
 use Rattle.gate_net.specs.Edits.{last_pin}
 use Rattle.gate_net.specs.Laws.{KeepsPlaces, ValuesExist}
 use Rattle.refutation.specs.declared.items.Item.{Item}
-use Rattle.refutation.specs.Branches.{AreAccepted, items_of, line, split, clash, quiet, here, untried}
+use Rattle.refutation.specs.Branches.{AreAccepted, line, split, clash, quiet, here, untried}
 use Rattle.wire_edit.specs.declared.steps.Step.{Step}
 use Rattle.wire_edit.specs.declared.steps.Step.TheVariants.{Add, Fix, NewNot, Const, Same, NoPins, OnePin, Twice, Twin, Dead}
 use Rattle.wire_edit.specs.Tests.{is_gate}
@@ -16,7 +16,7 @@ use Rattle.wire_edit.specs.Steps.{stepped}
 use Rattle.wire_edit.specs.Laws.{KeepsObserved}
 use Rattle.journal_text.specs.declared.record.Record.{Record}
 use Rattle.journal_text.specs.declared.record.Record.TheVariants as kept
-use Rattle.journal_text.specs.Accepted.{AcceptedStepsKeep, IsAcceptedStep, IsJustified, Keeps}
+use Rattle.journal_text.specs.Accepted.{AcceptedStepsKeep, IsJustified, Keeps}
 use Rattle.journal_text.specs.Runs.{AcceptedTo, AreWritable}
 use Rattle.journal_text.specs.Text.{HasItsTree}
 

@@ -1,5 +1,5 @@
 -- Texts appended to a file, one after another.
-use Rattle.std.proofs.Common.{◌≡◌, ℕ, suc, ◌+◌, Option, Some, None, List, [], ◌∷◌, ◌++◌, take, length, Bool, true, false, nat_cmp, is_eq, cond, refl, sym, ◌∙◌, ap, subst, append_assoc, rules}
+use Rattle.std.proofs.Common.{◌≡◌, ℕ, suc, Option, Some, None, List, [], ◌∷◌, ◌++◌, take, length, Bool, true, false, nat_cmp, is_eq, cond, refl, sym, ◌∙◌, ap, subst, append_assoc, rules}
 use Rattle.std.specs.Prelude.{unwrap_or, Ok, Err, Result, OnErr}
 use Rattle.std.specs.Option.{option_map}
 use Rattle.std.specs.Cmp.{Equal-is}

@@ -1,5 +1,5 @@
 -- Runs of records that are put together.
-use Rattle.std.proofs.Common.{◌≡◌, ℕ, zero, suc, ◌+◌, ◌<◌, ◌≤◌, Option, Some, None, List, [], ◌∷◌, ◌++◌, length, take, refl, sym, ◌∙◌, ap, subst, append_assoc, arith}
+use Rattle.std.proofs.Common.{◌≡◌, ℕ, zero, suc, ◌+◌, ◌<◌, ◌≤◌, Option, List, [], ◌∷◌, ◌++◌, length, take, refl, sym, ◌∙◌, ap, subst, append_assoc, arith}
 use Rattle.std.specs.Prelude.{get_or}
 use Rattle.rm_base.specs.Files.{Files}
 use Rattle.rm_base.specs.declared.settings.Made.{Made}
@@ -11,7 +11,6 @@ use Rattle.journal_text.specs.declared.record.Record.{Record}
 use Rattle.journal_text.specs.declared.record.Record.TheVariants as kept
 use Rattle.journal_text.specs.declared.record.Entry.TheVariants as entry
 use Rattle.std.proofs.lemmas.List.{append-nil}
-use Rattle.journal_text.specs.Appends.{IsThere}
 use Rattle.journal_text.specs.Text.{IsWritableRecord, entry_text}
 use Rattle.journal_text.specs.Runs.{AcceptedTo, AreRemovals, AreWritable, HasAppended, HasAppendedPart, counted, made_by, records_text, steps_of}
 use Rattle.journal_text.proofs.Appending.{appended_then, part_longer, part_then}

@@ -1,17 +1,16 @@
 -- The numbers of a model's signals, and the covers that drive them.
-use Rattle.std.proofs.Common.{◌≡◌, ◌<◌, ◌+◌, ◌-◌, ℕ, zero, suc, Bool, true, false, cond, List, [], ◌∷◌, ◌++◌, length, map, take, Option, Some, None, ◌⊎◌, inl, inr, refl, sym, ap, subst, ◌∙◌, arith, Vec, Global}
+use Rattle.std.proofs.Common.{◌≡◌, ◌<◌, ◌+◌, ◌-◌, ℕ, zero, suc, Bool, true, false, cond, List, [], ◌∷◌, ◌++◌, length, map, take, Option, Some, None, ◌⊎◌, inl, inr, refl, sym, ap, ◌∙◌, arith, Vec, Global}
 use Rattle.std.specs.Prelude.{slice_get, nat_lt, ◌||◌}
 use Rattle.std.specs.List.{flat_map, filter_map, cons_option, list_all}
 use Rattle.std.specs.Option.{option_map}
-use Rattle.std.proofs.lemmas.Bool.{cases_lt, false_from_ne_true}
+use Rattle.std.proofs.lemmas.Bool.{false_from_ne_true}
 use Rattle.std.proofs.lemmas.Bool.Decides.{Decides-ltb}
 use Rattle.rm_model.specs.Words.{is_word}
 use Rattle.rm_model.specs.Value.{control_of, is_among, observed_names, source_names, outputs_of}
-use Rattle.rm_model.specs.WellFormed.{driven_names, is_distinct, used_names, IsWellFormed}
+use Rattle.rm_model.specs.WellFormed.{driven_names, is_distinct, IsWellFormed}
 use Rattle.rm_model.specs.Numbers.{place_of}
-use Rattle.rm_model.specs.Inner.Numbers.{drivers_of, rank_over, IsFixed}
+use Rattle.rm_model.specs.Inner.Numbers.{drivers_of}
 use Rattle.rm_model.specs.Ranks.{cover_of}
-use Rattle.rm_model.specs.Signals.{AreNumbers}
 use Rattle.rm_model.specs.Inner.Signals.{cover_at}
 use Rattle.rm_model.specs.declared.parts.Cover.{Cover}
 use Rattle.rm_model.specs.declared.parts.Latch.{Latch}

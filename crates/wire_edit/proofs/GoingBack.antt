@@ -1,12 +1,12 @@
 -- A trial goes back to its start, and starts again from where it is.
-use Rattle.std.proofs.Common.{◌≡◌, ℕ, zero, suc, ◌+◌, ◌-◌, ◌<◌, ◌≤◌, Bool, true, false, inl, inr, Option, Some, None, List, [], ◌∷◌, ◌++◌, length, refl, sym, ◌∙◌, ap, subst, arith, min, length-append}
+use Rattle.std.proofs.Common.{◌≡◌, ℕ, ◌+◌, ◌<◌, ◌≤◌, Bool, true, false, inl, inr, Option, Some, None, List, [], ◌∷◌, ◌++◌, length, refl, sym, ◌∙◌, ap, subst, arith, length-append}
 use Rattle.std.proofs.lemmas.Bool.{both_ways, cases_lt, false_from_ne_true}
 use Rattle.std.specs.Cmp.{nat_cmp_total}
 use Rattle.std.specs.FinSet.{same_set, len, nat_cmp-IsAntisymmetric}
 use Rattle.gate_net.specs.declared.Kind.{Kind}
 use Rattle.gate_net.specs.Net.{Net, wire_count, source_count, gate_count}
 use Rattle.gate_graph.specs.Wirings.{Wiring, free_in}
-use Rattle.gate_graph.specs.Circuit.{Circuit, wiring, net_of, fanouts_of, free_pins, free_nodes, pins_taken, live_nodes, SameWiring}
+use Rattle.gate_graph.specs.Circuit.{Circuit, wiring, net_of, free_pins, free_nodes, pins_taken, live_nodes, SameWiring}
 use Rattle.gate_graph.specs.Undoing.{CanGoBack, AreWithin, LeadOn, back_to}
 use Rattle.gate_graph.specs.Changes.{Edits, entries_for}
 use Rattle.gate_graph.specs.Holds.{held}
@@ -16,7 +16,7 @@ use Rattle.wire_edit.specs.declared.steps.Step.{Step}
 use Rattle.wire_edit.specs.declared.room.Room.{Room}
 use Rattle.wire_edit.specs.Tests.{is_gate}
 use Rattle.wire_edit.specs.Changes.{Change, append, remove, fix, readers, new_not, retire}
-use Rattle.wire_edit.specs.Order.{rule_at, IsTidy}
+use Rattle.wire_edit.specs.Order.{IsTidy}
 use Rattle.wire_edit.specs.Edited.{edit_of}
 use Rattle.wire_edit.specs.Inner.Marked.{is_marked, IsQuiet}
 use Rattle.wire_edit.specs.declared.kept.Kept.{Kept}

@@ -1,7 +1,7 @@
 -- What is known of the pins of a gate, and what steps leave of it.
-use Rattle.std.proofs.Common.{◌≡◌, ◌≢◌, ℕ, zero, suc, ◌+◌, ◌-◌, ◌<◌, ◌≤◌, Bool, true, false, ◌⊎◌, inl, inr, Option, Some, None, List, [], ◌∷◌, ◌++◌, length, map, take, drop, refl, sym, ◌∙◌, ap, subst, arith}
+use Rattle.std.proofs.Common.{◌≡◌, ℕ, zero, suc, ◌+◌, ◌-◌, ◌<◌, ◌≤◌, Bool, true, false, ◌⊎◌, inl, inr, Option, Some, None, List, [], ◌∷◌, ◌++◌, length, map, take, drop, refl, sym, ◌∙◌, ap, subst, arith}
 use Rattle.std.specs.Prelude.{if◌then◌else◌, slice_get, sum_by, option_and_then, unwrap_or}
-use Rattle.std.proofs.lemmas.Bool.{cases_lt, cases_eq, both_ways, and_from, and_parts}
+use Rattle.std.proofs.lemmas.Bool.{cases_lt, cases_eq, and_parts}
 use Rattle.std.proofs.lemmas.List.{length-drop}
 use Rattle.std.proofs.lemmas.List.Sums.{sum_by-cons}
 use Rattle.std.proofs.lemmas.Option.{slice_get_past}
@@ -16,7 +16,7 @@ use Rattle.wire_edit.specs.Tests.{is_present, is_gate, is_junction, is_in_use, i
 use Rattle.wire_edit.specs.Changes.{Change, remove, readers, changed}
 use Rattle.wire_edit.specs.Steps.{rule_applies, Applies, constant_change, change_of, stepped}
 use Rattle.wire_edit.specs.Order.{node, rule_at, next_step}
-use Rattle.wire_edit.specs.Inner.Marked.{is_marked, IsBlank}
+use Rattle.wire_edit.specs.Inner.Marked.{IsBlank}
 use Rattle.wire_edit.specs.Inner.Edited.{TakesOut}
 use Rattle.wire_edit.specs.Inner.Firsts.{IsFirst, reads_constant, ReadsNoConstant, IsPlainAfter}
 use Rattle.wire_edit.specs.Inner.Known.{MarksFirst, IsPlainBefore, IsKept, IsFresh}

@@ -1,21 +1,15 @@
 -- Gates that read no constant.
-use Rattle.std.proofs.Common.{◌≡◌, ℕ, zero, suc, ◌<◌, ◌≤◌, Bool, true, false, inl, inr, Option, Some, None, List, [], ◌∷◌, length, refl, sym, ◌∙◌, ap, arith}
+use Rattle.std.proofs.Common.{◌≡◌, ℕ, zero, suc, ◌<◌, Bool, false, Option, Some, None, List, [], ◌∷◌, length, refl, ◌∙◌, ap}
 use Rattle.std.specs.Prelude.{slice_get, option_and_then}
-use Rattle.std.proofs.lemmas.Bool.{both_ways, and_from, false_from_ne_true}
+use Rattle.std.proofs.lemmas.Bool.{both_ways, false_from_ne_true}
 use Rattle.std.proofs.lemmas.Option.{slice_get_within}
 use Rattle.gate_net.proofs.Public.{node_at-there}
 use Rattle.gate_net.specs.Net.{Net, drivers_in, drivers_of, IsGate}
 use Rattle.gate_net.specs.Edits.{without, without_pin}
-use Rattle.wire_edit.specs.declared.steps.Step.{Step}
-use Rattle.wire_edit.specs.declared.steps.Step.TheVariants.{Add, Fix, NewNot, Const, Same, NoPins, OnePin, Twice, Twin, Dead}
-use Rattle.rm_base.specs.declared.numbers.NodeId.{NodeId}
-use Rattle.wire_edit.specs.Tests.{is_present, is_gate, is_junction, is_in_use, kind_constant, constant_of, constant_at}
-use Rattle.wire_edit.specs.Steps.{rule_applies, stepped}
-use Rattle.wire_edit.specs.Inner.Firsts.{reads_constant, ReadsNoConstant, IsPlainAfter}
-use Rattle.wire_edit.specs.Order.{node, where_met, first_from, rule_at, next_step}
-use Rattle.wire_edit.proofs.Tested.{present, constant_read, junction_gate, gate_is}
+use Rattle.wire_edit.specs.Tests.{is_present, kind_constant, constant_of, constant_at}
+use Rattle.wire_edit.specs.Inner.Firsts.{reads_constant, ReadsNoConstant}
+use Rattle.wire_edit.proofs.Tested.{present, constant_read}
 use Rattle.wire_edit.proofs.Working.{with_kinds}
-use Rattle.wire_edit.proofs.Ordering.{or_some, from_some, from_none, met_some, met_none, consts, sames, twins, next_at, next_applies}
 
 pub plain_all : (net : Net) (gate : ℕ) → ((k : ℕ) → k < length (drivers_of net gate) → reads_constant net gate k ≡ false) → ReadsNoConstant net gate
 plain_all net gate none k = false_from_ne_true _ (λ e.

@@ -1,5 +1,5 @@
 -- Which rooms give which answers.
-use Rattle.std.specs.Prelude.{◌≡◌, ℕ, ◌<◌, ◌≤◌, true, Option, None}
+use Rattle.std.specs.Prelude.{◌≡◌, ◌<◌, ◌≤◌, true, Option, None}
 use Rattle.gate_net.specs.Net.{Net, wire_count}
 use Rattle.wire_edit.specs.declared.steps.Step.{Step}
 use Rattle.wire_edit.specs.declared.refusal.EditRefusal.{EditRefusal}

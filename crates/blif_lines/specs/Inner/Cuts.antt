@@ -1,5 +1,5 @@
 -- What a reader cuts from the front of a line, and how that is seen on the whole line.
-use Rattle.std.specs.Prelude.{◌≡◌, ◌≤◌, ◌<◌, ◌+◌, ◌-◌, ◌==◌, ℕ, suc, Bool, true, false, not, ◌&&◌, ◌||◌, nat_lt, List, [], ◌∷◌, ◌++◌, map, length, take, drop, slice_index, Option, None, Some, if◌then◌else◌}
+use Rattle.std.specs.Prelude.{◌≡◌, ◌≤◌, ◌<◌, ◌+◌, ◌-◌, ◌==◌, ℕ, suc, Bool, true, false, not, ◌&&◌, ◌||◌, nat_lt, List, [], ◌∷◌, ◌++◌, length, take, drop, Option, None, Some, if◌then◌else◌}
 use Rattle.rm_base.specs.declared.numbers.Place.{Place}
 use Rattle.blif_lines.specs.Layout.{Mark, Spot, Flaw, BadByteAt, OpenJoinAt, Logical, marked, joint, before_joint, tokens_in, first_bad, earlier, layout_from}
 use Rattle.blif_lines.specs.declared.scan.Piece.{Piece}

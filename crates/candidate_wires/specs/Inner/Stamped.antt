@@ -1,5 +1,5 @@
 -- Marks by stamps.
-use Rattle.std.specs.Prelude.{Bool, List, [], map, nat_eq, slice_index, ℕ, ◌<◌, ◌≤◌, ◌∷◌}
+use Rattle.std.specs.Prelude.{Bool, List, [], nat_eq, slice_index, ℕ, ◌<◌, ◌≤◌, ◌∷◌}
 
 -- a number is marked where its stamp is the present one
 abbrev pub marks_of : ℕ → List ℕ → List Bool

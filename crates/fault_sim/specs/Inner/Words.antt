@@ -1,6 +1,6 @@
 -- Beside Words.antt: what only private contracts, invariants and laws speak of.
 use Rattle.std.specs.List.{fold}
-use Rattle.std.specs.Prelude.{Bool, List, true, false, None, Option, Some, [], bit_and, bit_or, bit_xor, if◌then◌else◌, ℕ, ◌-◌, ◌∷◌}
+use Rattle.std.specs.Prelude.{Bool, List, true, false, None, Option, Some, [], bit_and, bit_or, bit_xor, if◌then◌else◌, ℕ, ◌∷◌}
 use Rattle.gate_net.specs.Net.{Node}
 use Rattle.gate_net.specs.declared.Kind.{Kind}
 use Rattle.gate_net.specs.declared.Kind.TheVariants.{And, Not, One, Or, Source, Zero}

@@ -1,6 +1,5 @@
 -- Beside Streams.antt: what only private contracts, invariants and laws speak of.
 use Rattle.std.specs.Prelude.{◌≡◌, ◌≢◌, ℕ, true, Option, Some, None}
-use Rattle.journal_text.specs.declared.record.Record.{Record}
 use Rattle.journal_text.specs.declared.record.Entry.{Entry}
 use Rattle.journal_text.specs.declared.faults.JournalFault.{JournalFault}
 use Rattle.journal_text.specs.declared.faults.JournalFault.TheVariants as fault

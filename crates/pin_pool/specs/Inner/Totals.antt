@@ -1,5 +1,5 @@
 -- Beside Totals.antt: what only private contracts, invariants and laws speak of.
-use Rattle.std.specs.Prelude.{◌≡◌, ℕ, zero, suc, ◌+◌, ◌≤◌, List, [], ◌++◌, length, slice_index_or}
+use Rattle.std.specs.Prelude.{◌≡◌, ℕ, zero, suc, ◌≤◌, List, [], ◌++◌, length, slice_index_or}
 use Rattle.pin_pool.specs.Pins.{Pins, list_of}
 use Rattle.pin_pool.specs.Totals.{linked_pins}
 

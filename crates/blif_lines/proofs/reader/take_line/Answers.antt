@@ -1,7 +1,6 @@
-use Rattle.std.proofs.Common.{◌≡◌, ◌≤◌, ◌<◌, ◌+◌, ◌-◌, [], ◌∷◌, ◌++◌, length, drop, map, sym, ◌∙◌, ap, arith, ℕ, rules, min}
-use Rattle.blif_lines.specs.Inner.Cuts.{place_at, line_start, lines_from, extend, IsJoin, IsWord, IsBad, IsClose, line_end_of}
-use Rattle.blif_lines.specs.Reading.{spot_of, IsWithin}
-use Rattle.blif_lines.proofs.Bridge.{starts, extend_none, place_start, first_rest, join_rest, word_rest, close_rest, bad_rest, open_rest}
+use Rattle.std.proofs.Common.{◌≡◌, ◌≤◌, ◌<◌, ◌+◌, length, ◌∙◌, arith, rules, min}
+use Rattle.blif_lines.specs.Inner.Cuts.{IsJoin, line_end_of}
+use Rattle.blif_lines.proofs.Bridge.{first_rest, join_rest}
 use Rattle.blif_lines.proofs.reader.take_line.Goals as goal
 
 pub pieces-init : goal.pieces-init

@@ -1,6 +1,5 @@
-use Rattle.std.proofs.Common.{◌≡◌, ◌≢◌, ℕ, suc, ◌<◌, ◌≤◌, ◌+◌, ◌-◌, get_or, drop, sym, ◌∙◌, ap, arith, length, true, false}
-use Rattle.blif_lines.specs.Inner.Cuts.{front, is_blank_byte, IsJoin}
-use Rattle.blif_lines.proofs.Pieces.{IsRun, IsEnd, word_piece, bad_control, close_piece, bad_slash, bad_before, join_alone, join_word, word_piece_at, bad_slash_at, bad_before_at, join_alone_at, join_word_at}
+use Rattle.std.proofs.Common.{sym, ◌∙◌, true, false}
+use Rattle.blif_lines.proofs.Pieces.{IsRun, IsEnd, bad_control, close_piece, word_piece_at, bad_slash_at, bad_before_at, join_alone_at, join_word_at}
 use Rattle.blif_lines.proofs.scan.next_piece.Goals as goal
 use Rattle.blif_lines.proofs.scan.next_piece.Goals.{else-start-slash-via-then-start-slash+else-text-slash-eq92, else-start-slash-via-else-start-slash}
 

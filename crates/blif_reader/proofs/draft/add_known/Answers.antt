@@ -1,4 +1,4 @@
-use Rattle.std.proofs.Common.{ap, subst}
+use Rattle.std.proofs.Common.{subst}
 use Rattle.blif_format.specs.declared.words.Command.{Command}
 use Rattle.blif_reader.specs.Inner.Drafts.{IsKnown}
 use Rattle.blif_reader.specs.Inner.Lines.{words_at}

@@ -1,4 +1,4 @@
-use Rattle.std.proofs.Common.{Bool, ap, false, refl, subst, sym, true, ◌∙◌, ◌≡◌}
+use Rattle.std.proofs.Common.{Bool, ap, false, refl, sym, true, ◌∙◌, ◌≡◌}
 use Rattle.std.specs.Prelude.{not}
 use Rattle.gate_net.specs.Values.{same_bool}
 use Rattle.refutation.proofs.Public.{beq_same}

@@ -1,4 +1,4 @@
-use Rattle.std.proofs.Common.{Some, [], ap, arith, false, inl, inr, length, length-set, map, refl, replicate, sym, ◌++◌, ◌<◌, ◌∙◌, ◌∷◌, ◌≡◌}
+use Rattle.std.proofs.Common.{Some, [], ap, arith, false, inl, inr, length, length-set, map, refl, sym, ◌++◌, ◌<◌, ◌∙◌, ◌∷◌, ◌≡◌}
 use Rattle.std.proofs.lemmas.List.{length-replicate, map-append}
 use Rattle.gate_graph.specs.Circuit.{net_of}
 use Rattle.gate_graph.proofs.Public.{none_seen, seen_cases, seen_kept, seen_new}

@@ -1,8 +1,6 @@
-use Rattle.std.proofs.Common.{Some, arith, false, true, get_or, length, subst, ℕ, ◌≡◌}
-use Rattle.std.specs.Prelude.{slice_get}
+use Rattle.std.proofs.Common.{arith, false, true, length, subst, ℕ, ◌≡◌}
 use Rattle.std.proofs.lemmas.Option.{slice_get-get_or}
 use Rattle.candidate_wires.proofs.InOrder.{AreGoodsIn, goods_all, goods_more, list_last, list_more}
-use Rattle.candidate_wires.specs.Inner.Parts.{IsInList}
 use Rattle.candidate_wires.proofs.known.good_numbers.Goals as goal
 
 pub loop-entry-preserved-then-not-is_good : goal.loop-entry-preserved-then-not-is_good

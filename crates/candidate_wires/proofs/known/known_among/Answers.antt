@@ -1,7 +1,5 @@
-use Rattle.std.proofs.Common.{sym}
 use Rattle.refutation.specs.FactSets.{held_by}
 use Rattle.refutation.proofs.Public.{known_held}
-use Rattle.candidate_wires.specs.Inner.Parts.{IsInList}
 use Rattle.candidate_wires.proofs.known.known_among.Goals as goal
 
 pub known_in_order-requires-clause-all : goal.known_in_order-requires-clause-all

@@ -1,4 +1,4 @@
-use Rattle.std.proofs.Common.{ap, arith, false, length, length-set, subst, ◌∙◌, ◌<◌, ◌≡◌, refl}
+use Rattle.std.proofs.Common.{ap, arith, false, length, length-set, ◌∙◌, ◌<◌, ◌≡◌, refl}
 use Rattle.gate_graph.specs.Circuit.{net_of}
 use Rattle.refutation.proofs.Public.{kind_live, reader_live}
 use Rattle.candidate_wires.proofs.Walking.{walked_ends, walked_first, walked_live, walked_more, walked_short}

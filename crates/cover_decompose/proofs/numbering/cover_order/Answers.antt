@@ -1,4 +1,3 @@
-use Rattle.std.proofs.Common.{All, length, ℕ}
 use Rattle.cover_decompose.proofs.NumberingLemmas.{in_order, ranks_small}
 use Rattle.cover_decompose.proofs.numbering.cover_order.Goals as goal
 

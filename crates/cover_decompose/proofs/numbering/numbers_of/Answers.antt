@@ -1,4 +1,4 @@
-use Rattle.std.proofs.Common.{Global, List, Vec, map, ℕ}
+use Rattle.std.proofs.Common.{Global, Vec, map, ℕ}
 use Rattle.cover_decompose.proofs.NumberingLemmas.{numbered}
 use Rattle.cover_decompose.proofs.numbering.numbers_of.Goals as goal
 

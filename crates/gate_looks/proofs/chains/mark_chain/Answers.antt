@@ -1,4 +1,4 @@
-use Rattle.std.proofs.Common.{ap, arith, false, length, length-set, true, ◌<◌, ◌∙◌, ◌≡◌, ◌≤◌}
+use Rattle.std.proofs.Common.{ap, arith, false, length, length-set, true, ◌<◌, ◌∙◌, ◌≤◌}
 use Rattle.std.proofs.lemmas.List.{length-replicate}
 use Rattle.gate_graph.specs.Circuit.{net_of}
 use Rattle.gate_looks.proofs.Sites.{at_below, at_live, chaining_ends, chaining_first, chaining_more}

@@ -1,4 +1,4 @@
-use Rattle.std.proofs.Common.{ap, arith, false, inl, inr, length, length-set, subst, sym, true, ◌<◌, ◌∙◌, ◌≡◌}
+use Rattle.std.proofs.Common.{ap, arith, inl, inr, length, length-set, subst, true, ◌<◌, ◌∙◌, ◌≡◌}
 use Rattle.gate_graph.specs.Circuit.{net_of}
 use Rattle.gate_graph.proofs.Public.{seen_kept, seen_new}
 use Rattle.gate_graph.specs.Search.{IsSeen}

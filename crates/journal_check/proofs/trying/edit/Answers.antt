@@ -1,4 +1,4 @@
-use Rattle.std.proofs.Common.{◌≡◌, ◌∙◌, ap, sym}
+use Rattle.std.proofs.Common.{◌≡◌, ap}
 use Rattle.gate_graph.specs.Circuit.{net_of}
 use Rattle.journal_check.specs.Inner.Benches.{position_of}
 use Rattle.journal_check.specs.Replaying.{editing}

@@ -1,9 +1,8 @@
-use Rattle.std.proofs.Common.{◌≡◌, ◌≢◌, ℕ, List, [], ◌∷◌, ◌++◌, ◌<◌, ◌^◌, length, subst, sym, ap, ◌∙◌, Ok, Err, Some, None, Option, Result, arith}
+use Rattle.std.proofs.Common.{ℕ, List, [], ◌++◌, ◌<◌, ◌^◌, length, subst, sym, ap, ◌∙◌, Ok, Some, None, Option, arith}
 use Rattle.std.proofs.lemmas.Result.{err_from_is_err_and}
 use Rattle.journal_text.specs.declared.record.Record.{Record}
 use Rattle.journal_text.specs.declared.record.Entry.{Entry}
-use Rattle.journal_text.specs.declared.faults.JournalFault.{JournalFault}
-use Rattle.journal_text.specs.Streams.{Pending, FinishGives, NextGives, IsReadTo, empty_reader, budget_with, records_of}
+use Rattle.journal_text.specs.Streams.{Pending, FinishGives, NextGives, IsReadTo, budget_with}
 use Rattle.journal_text.proofs.StreamLaws.{read_first, read_more, next_fault, end_fault}
 use Rattle.journal_text.proofs.read.read_whole.Goals as goal
 

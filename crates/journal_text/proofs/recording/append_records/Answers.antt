@@ -1,4 +1,4 @@
-use Rattle.std.proofs.Common.{◌≤◌, arith}
+use Rattle.std.proofs.Common.{arith}
 use Rattle.journal_text.proofs.Appending.{appended_none}
 use Rattle.journal_text.proofs.Joined.{appended_more, parts_at, stopped_at, writable_at}
 use Rattle.journal_text.proofs.recording.append_records.Goals as goal

@@ -1,4 +1,4 @@
-use Rattle.std.proofs.Common.{Bool, arith, false, get_or, subst}
+use Rattle.std.proofs.Common.{Bool, arith, get_or, subst}
 use Rattle.std.proofs.lemmas.Option.{slice_get-get_or}
 use Rattle.gate_graph.specs.Circuit.{net_of}
 use Rattle.recursive_learning.proofs.Gains.{gaining_clash, gaining_more, keeps_join}

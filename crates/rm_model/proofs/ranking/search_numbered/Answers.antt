@@ -1,4 +1,4 @@
-use Rattle.std.proofs.Common.{◌≡◌, ◌<◌, map, length, Vec, Global, List, ℕ, subst, sym, ap, ◌∙◌, arith}
+use Rattle.std.proofs.Common.{◌≡◌, map, length, Vec, Global, List, ℕ, subst, sym, ap, ◌∙◌, arith}
 use Rattle.std.specs.List.{filter_map}
 use Rattle.std.proofs.lemmas.List.{length-map}
 use Rattle.rm_model.specs.Inner.Numbers.{rank_over, drivers_of, IsFixed}
@@ -7,7 +7,6 @@ use Rattle.rm_model.specs.Signals.{AreNumbers}
 use Rattle.rm_model.specs.Inner.Signals.{cover_at}
 use Rattle.rm_model.specs.Value.{source_names}
 use Rattle.rm_model.specs.WellFormed.{IsWellFormed}
-use Rattle.rm_model.specs.declared.parts.Cover.{Cover}
 use Rattle.rm_model.specs.declared.parts.Model.{Model}
 use Rattle.rm_model.specs.declared.rank_search.Search.{Search}
 use Rattle.rm_model.proofs.NumberingLemmas.{numbered-lists}

@@ -1,4 +1,3 @@
-use Rattle.std.proofs.Common.{ap, ◌∙◌, Some, sym, refl}
 use Rattle.gate_net.specs.Inner.Meaning.{TakesPins}
 use Rattle.gate_graph.specs.Circuit.{net_of}
 use Rattle.gate_graph.proofs.Public.{kind-known}

@@ -1,11 +1,11 @@
-use Rattle.std.proofs.Common.{◌∙◌, ◌≡◌, ◌<◌, ◌≤◌, ◌+◌, Some, sym, ap, arith, length}
+use Rattle.std.proofs.Common.{◌∙◌, ◌≡◌, ◌<◌, ◌≤◌, Some, sym, arith, length}
 use Rattle.std.proofs.lemmas.Option.{slice_get_within}
 use Rattle.rm_base.specs.declared.numbers.NodeId.{NodeId}
 use Rattle.gate_graph.specs.Circuit.{net_of}
 use Rattle.gate_net.specs.Net.{drivers_of, wire_count}
 use Rattle.wire_edit.specs.Tests.{driver_at}
 use Rattle.wire_edit.specs.Inner.Firsts.{reads_constant}
-use Rattle.wire_edit.proofs.Walks.{march, pushed, none_more}
+use Rattle.wire_edit.proofs.Walks.{march, none_more}
 use Rattle.wire_edit.proofs.Reading.{constant_test}
 use Rattle.wire_edit.proofs.KnownPins.{rest_place, rest_end, few_drivers, one_further}
 use Rattle.wire_edit.proofs.rules.constant_from.Goals as goal

@@ -1,4 +1,4 @@
-use Rattle.std.proofs.Common.{Some, None, sym, ◌∙◌, length, subst}
+use Rattle.std.proofs.Common.{Some, sym, ◌∙◌, length, subst}
 use Rattle.gate_graph.specs.Circuit.{net_of}
 use Rattle.gate_net.specs.Net.{drivers_of}
 use Rattle.wire_edit.specs.Inner.Firsts.{IsFirst}

@@ -1,4 +1,4 @@
-use Rattle.std.proofs.Common.{length, ap, arith, refl, ◌∙◌, List, Bool}
+use Rattle.std.proofs.Common.{ap, arith, refl, ◌∙◌, List, Bool}
 use Rattle.gate_graph.specs.Circuit.{net_of}
 use Rattle.gate_net.specs.Net.{drivers_of}
 use Rattle.wire_edit.specs.Inner.Marked.{is_marked}

@@ -1,4 +1,4 @@
-use Rattle.std.proofs.Common.{ap, arith, ◌+◌, false, length, replicate, sym, ◌<◌, ◌∙◌, ◌≡◌, ◌≤◌, ℕ}
+use Rattle.std.proofs.Common.{ap, arith, ◌+◌, false, length, replicate, sym, ◌∙◌, ◌≡◌, ◌≤◌}
 use Rattle.std.specs.Prelude.{slice_index}
 use Rattle.candidate_wires.proofs.StampLists.{marks-length, marks-none}
 use Rattle.candidate_wires.proofs.stamps.Stamps.clear.Goals as goal

@@ -1,4 +1,4 @@
-use Rattle.std.proofs.Common.{◌≡◌, ◌∙◌, ap, sym, arith, length, subst, ℕ, List, Bool}
+use Rattle.std.proofs.Common.{◌≡◌, ap, sym, arith, length, subst, ℕ, List, Bool}
 use Rattle.std.specs.Vec.{with_items}
 use Rattle.std.proofs.lemmas.List.{with_items_is}
 use Rattle.gate_graph.specs.Circuit.{net_of}

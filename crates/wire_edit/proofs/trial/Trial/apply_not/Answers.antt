@@ -1,5 +1,5 @@
-use Rattle.std.proofs.Common.{◌≡◌, ℕ, [], ◌∷◌, ap, subst}
-use Rattle.gate_graph.specs.Circuit.{Circuit, net_of}
+use Rattle.std.proofs.Common.{ℕ, [], ◌∷◌, subst}
+use Rattle.gate_graph.specs.Circuit.{net_of}
 use Rattle.gate_net.specs.Net.{Net}
 use Rattle.gate_net.specs.Edits.{IsLeastFree, MakesGate}
 use Rattle.gate_net.specs.declared.Kind.TheVariants.{Not}

@@ -1,6 +1,5 @@
-use Rattle.std.proofs.Common.{ℕ, [], length, ap, ◌∙◌, arith}
+use Rattle.std.proofs.Common.{length, arith}
 use Rattle.wire_edit.specs.declared.room.Room.{Room}
-use Rattle.wire_edit.specs.Tried.{StepList}
 use Rattle.wire_edit.proofs.GoingBack.{kept_holds}
 use Rattle.wire_edit.proofs.trial.Trial.keep.Goals as goal
 

@@ -1,5 +1,4 @@
-use Rattle.std.proofs.Common.{◌≡◌, List, [], ap, sym, ◌∙◌}
-use Rattle.gate_graph.specs.declared.undo_list.Undo.{Undo}
+use Rattle.std.proofs.Common.{◌≡◌, [], ap, ◌∙◌}
 use Rattle.wire_edit.specs.Tried.{Tried}
 use Rattle.wire_edit.proofs.GoingBack.{known_here, over_holds, reserved_holds}
 use Rattle.wire_edit.proofs.trial.Trial.reserve_anew.Goals as goal

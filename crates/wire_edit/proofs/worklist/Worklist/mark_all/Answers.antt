@@ -1,4 +1,3 @@
-use Rattle.std.proofs.Common.{arith}
 use Rattle.wire_edit.proofs.Blocks.{block_all}
 use Rattle.wire_edit.proofs.worklist.Worklist.mark_all.Goals as goal
 
