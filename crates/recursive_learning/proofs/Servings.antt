@@ -1,6 +1,6 @@
 -- A refuter that serves a net from call to call.
 use Rattle.std.proofs.Common.{Bool, List, None, Option, Some, [], ap, arith, inl, inr, length, map, subst, sym, true, ℕ, ◌++◌, ◌∙◌, ◌∷◌, ◌≡◌, ◌≤◌}
-use Rattle.std.specs.Prelude.{Err, IfOk, Ok, OnOk, Result}
+use Rattle.std.specs.Prelude.{Err, Ok, OnOk, Result}
 use Rattle.gate_net.specs.Net.{Net}
 use Rattle.implications.proofs.Public.{none_seen_in, rest_comes, trail_tells}
 use Rattle.implications.specs.Bases.{ComesToRest, HasRoom as BasisRoom, IsClashFound, IsFitted, IsFor, IsOpened}
@@ -80,14 +80,6 @@ level_first net fault depth lines facts x found = (omega arith, clashes_lead net
 pub level_of : (net : Net) (fault : Fault) (depth : ℕ) (lines : List Line) (first facts : List NodeFacts) (o : Option ℕ) → IsOpened net fault lines first None → length facts ≡ length first → IsDeepened net fault depth (held_by first) o (held_by facts) → IsLevel net fault depth facts o
 level_of net fault depth lines first facts None opened size deepened = (least_of_all net fault depth (held_by first) (held_by facts) (open_forced net fault lines first opened) deepened, let le : length net.nodes ≤ length first = opened.size in omega (arith, size, le))
 level_of net fault depth lines first facts (Some level) opened size deepened = (deepened.0, clash_of_all net fault level (held_by first) (open_forced net fault lines first opened) deepened.1)
-
-pub levels_ok : {E : Type 0} (net : Net) (fault : Fault) (depth : ℕ) (lines : List Line) (e e' : EngineState) (first facts : List NodeFacts) (r : Result (Option ℕ) E) → IsOpened net fault lines first None → IfOk r (λ o. IsDeepened net fault depth (held_by first) o (held_by facts)) → IfOk r (λ _. Keeps e e' first facts) → IfOk r (IsLevel net fault depth facts)
-levels_ok net fault depth lines e e' first facts (Ok o) opened deepened keeps = level_of net fault depth lines first facts o opened keeps.size deepened
-levels_ok net fault depth lines e e' first facts (Err x) opened deepened keeps = deepened
-
-pub for_ok : {A E : Type 0} (net : Net) (before after : EngineState) (b : Basis) (new : List NodeFacts) (r : Result A E) → IsFor net before b → IfOk r (λ _. Keeps before after b.facts new) → OnOk r (IsFor net after (record b { facts = new }))
-for_ok net before after b new (Ok a) f keeps = for_keeps net before after b new keeps f
-for_ok net before after b new (Err e) f keeps = keeps
 
 pub for_on_ok : {A E : Type 0} (net : Net) (before after : EngineState) (b : Basis) (new : List NodeFacts) (r : Result A E) → IsFor net before b → OnOk r (Keeps before after b.facts new) → OnOk r (IsFor net after (record b { facts = new }))
 for_on_ok net before after b new (Ok a) f keeps = for_keeps net before after b new keeps f

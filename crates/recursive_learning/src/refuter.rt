@@ -4,6 +4,7 @@ ghost use Rattle.gate_net.specs.Edits.{IsSameBut};
 ghost use Rattle.gate_net.specs.Net.{Net};
 ghost use Rattle.gate_graph.specs.Circuit.{net_of};
 ghost use Rattle.implications.specs.Bases.{IsFor};
+ghost use Rattle.implications.specs.Outcomes.{IsOpen};
 ghost use Rattle.refutation.specs.Branches.{AreAccepted};
 ghost use Rattle.refutation.specs.Closing.{Clashes};
 ghost use Rattle.refutation.specs.Facts.{none_held};
@@ -12,7 +13,7 @@ ghost use Rattle.refutation.specs.FactSets.{held_by};
 ghost use Rattle.refutation.specs.Learning.{LeadsToClash};
 ghost use Rattle.recursive_learning.specs.Inner.Bodies.{IsBody};
 ghost use Rattle.recursive_learning.specs.Serving.{HasAllRoom, IsMade, IsRefuted, IsServing, IsShut};
-ghost use Rattle.recursive_learning.specs.Inner.Serving.{IsLevel};
+ghost use Rattle.recursive_learning.specs.Inner.Serving.{IsBodyTo};
 ghost use Rattle.recursive_learning.specs.Watching.{HasRoom};
 
 use crate::bodies::{clash_body, learned_body, whole_tree};
@@ -37,29 +38,6 @@ pub struct Refuter {
     shortener: Shortener,
 }
 
-// Learns from no facts to the depth; the first depth at which they lead to a clash.
-fn learn_to(
-    engine: &mut Engine,
-    question: &Question<'_>,
-    basis: &mut Basis,
-    watch: &mut Watch,
-    depth: u8,
-) -> Result<Option<u8>, NoMemory>
-    requires serves { IsFor (net_of question.now.graph.now) engine.old basis.old }
-    requires room { HasRoom (net_of question.now.graph.now) watch.old }
-    requires depth { depth ≤ 2 }
-    ensures level { IfOk result (IsLevel (net_of question.now.graph.now) question.now.fault depth basis.new.facts) }
-    ensures serves { OnOk result (IsFor (net_of question.now.graph.now) engine.new basis.new) }
-    ensures room { OnOk result (HasRoom (net_of question.now.graph.now) watch.new) }
-{
-    question.graph.well_formed();
-    if let Some(_node) = engine.open(question, basis)? {
-        return Ok(Some(0));
-    }
-    watch.forget();
-    deepen(engine, question, &mut basis.facts, watch, depth)
-}
-
 // The items of a fault that leads to a clash at the depth, from what the faulty gate doesn't reach.
 fn body_at(
     engine: &mut Engine,
@@ -82,6 +60,55 @@ fn body_at(
         return clash_body(watch.alloc(), engine, question, node);
     }
     learned_body(engine, question, watch, level, &gates, &mut basis.facts)
+}
+
+// The items that lead to the first clash that is learned up to the depth, where lines lead to none.
+fn learned_to(
+    engine: &mut Engine,
+    question: &Question<'_>,
+    basis: &mut Basis,
+    watch: &mut Watch,
+    depth: u8,
+) -> Result<Option<Tree>, NoMemory>
+    requires serves { IsFor (net_of question.now.graph.now) engine.old basis.old }
+    requires open { IsOpen (net_of question.now.graph.now) question.now.fault engine.old.lines basis.old.facts }
+    requires room { HasRoom (net_of question.now.graph.now) watch.old }
+    requires depth { depth ≤ 2 }
+    ensures body { IfOk result (IsBodyTo (net_of question.now.graph.now) question.now.fault depth basis.new.facts) }
+    ensures serves { OnOk result (IsFor (net_of question.now.graph.now) engine.new basis.new) }
+    ensures room { OnOk result (HasRoom (net_of question.now.graph.now) watch.new) }
+{
+    question.graph.well_formed();
+    watch.forget();
+    let found = deepen(engine, question, &mut basis.facts, watch, depth)?;
+    let Some(level) = found else {
+        return Ok(None);
+    };
+    let body = body_at(engine, question, basis, watch, level)?;
+    Ok(Some(body))
+}
+
+// The items that lead to the first clash up to the depth, from what the faulty gate doesn't reach: those of the lines that
+// were taken, where lines lead to one.
+fn body_to(
+    engine: &mut Engine,
+    question: &Question<'_>,
+    basis: &mut Basis,
+    watch: &mut Watch,
+    depth: u8,
+) -> Result<Option<Tree>, NoMemory>
+    requires serves { IsFor (net_of question.now.graph.now) engine.old basis.old }
+    requires room { HasRoom (net_of question.now.graph.now) watch.old }
+    requires depth { depth ≤ 2 }
+    ensures body { IfOk result (IsBodyTo (net_of question.now.graph.now) question.now.fault depth basis.new.facts) }
+    ensures serves { OnOk result (IsFor (net_of question.now.graph.now) engine.new basis.new) }
+    ensures room { OnOk result (HasRoom (net_of question.now.graph.now) watch.new) }
+{
+    if let Some(node) = engine.open(question, basis)? {
+        let body = clash_body(watch.alloc(), engine, question, node)?;
+        return Ok(Some(body));
+    }
+    learned_to(engine, question, basis, watch, depth)
 }
 
 // The tree of these items, with as few lines as they rest on; with all where the checker doesn't accept that.
@@ -200,23 +227,16 @@ impl Refuter {
         ensures exact { IfOk result (λ t. IsSome t ↔ LeadsToClash (net_of question.now.graph.now) question.now.fault depth none_held) }
         ensures serves { OnOk result (IsServing (net_of question.now.graph.now) self.new) }
     {
-        let found = learn_to(
+        let found = body_to(
             &mut self.engine,
             question,
             &mut self.basis,
             &mut self.watch,
             depth,
         )?;
-        let Some(level) = found else {
+        let Some(body) = found else {
             return Ok(None);
         };
-        let body = body_at(
-            &mut self.engine,
-            question,
-            &mut self.basis,
-            &mut self.watch,
-            level,
-        )?;
         let tree = tree_of(
             self.alloc,
             &mut self.engine,
