@@ -78,6 +78,20 @@ pub(crate) fn pin_line(
     })
 }
 
+/// Whether so much is known of the gate that a look at each pin alone may give something, whatever is known of the pins: it
+/// has the opposite of the controlling value, or differs.
+pub(crate) fn may_sweep(facts: &FactSet, node: NodeId, c: bool) -> bool
+    requires { node.0 < length facts.now }
+{
+    if is_value(known_of(facts, Aspect::OfGood, node), !c) {
+        return true;
+    }
+    if is_value(known_of(facts, Aspect::OfFaulty, node), !c) {
+        return true;
+    }
+    is_value(known_of(facts, Aspect::OfEqual, node), false)
+}
+
 /// Whether a look at each pin alone may give something: the gate is known to have the opposite of the controlling value
 /// and not all pins are, or it differs and its equal drivers aren't all known to have that opposite.
 pub(crate) fn has_sweep(

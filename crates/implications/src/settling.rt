@@ -80,35 +80,6 @@ fn settle(
     }
 }
 
-// The same, at the cost of one look where the node is settled, as most are.
-fn settle_open(
-    question: &Question<'_>,
-    facts: &mut FactSet,
-    log: &mut Log,
-    agenda: &mut Agenda,
-    tallies: &mut Tallies,
-    node: NodeId,
-) -> Result<Option<NodeId>, NoMemory>
-    requires ready { IsReady (net_of question.now.graph.now) question.now.fault facts.old }
-    requires agenda { length (net_of question.now.graph.now).nodes ≤ length agenda.old }
-    requires room { length (net_of question.now.graph.now).nodes ≤ length tallies.old.counted }
-    requires tallied { AreTallied (net_of question.now.graph.now) (held_by facts.old) question.now.fault.position tallies.old }
-    requires pending { IsPendingBut (net_of question.now.graph.now) question.now.fault facts.old agenda.old node.0 }
-    requires free { IsClashFree (held_by facts.old) }
-    ensures works { OnOk result (Works (net_of question.now.graph.now) question.now.fault facts.old log.old.lines.items facts.new log.new.lines.items) }
-    ensures keeps { Keeps facts.old log.old.trail.items facts.new log.new.trail.items }
-    ensures outcome { IfOk result (Outcome (net_of question.now.graph.now) question.now.fault facts.new agenda.new) }
-    ensures tallied { OnOk result (AreTallied (net_of question.now.graph.now) (held_by facts.new) question.now.fault.position tallies.new) }
-    ensures less { OnOk result (work facts.new agenda.new ≤ work facts.old agenda.old) }
-    ensures size { length agenda.new ≡ length agenda.old }
-    ensures room { length tallies.new.counted ≡ length tallies.old.counted }
-{
-    let Some(_) = next_line(question, facts, tallies, node) else {
-        return Ok(None);
-    };
-    settle(question, facts, log, agenda, tallies, node)
-}
-
 // Works off the agenda, until it is empty or two facts are opposed on a node, which is then given.
 pub(crate) fn work_off(
     question: &Question<'_>,
@@ -130,7 +101,7 @@ pub(crate) fn work_off(
     ensures room { length tallies.new.counted ≡ length tallies.old.counted }
 {
     while let Some(node) = agenda.take() {
-        match settle_open(question, facts, log, agenda, tallies, node)? {
+        match settle(question, facts, log, agenda, tallies, node)? {
             Some(clash) => return Ok(Some(clash)),
             None => {}
         }

@@ -11,7 +11,7 @@ ghost use Rattle.implications.specs.Inner.Working.{IsPendingBut, Works, Keeps, S
 
 use crate::blocked_pin::blocked_pin;
 use crate::log::Log;
-use crate::pin_line::{has_sweep, pin_line};
+use crate::pin_line::{has_sweep, may_sweep, pin_line};
 use crate::settling::add_found;
 use crate::tallies::Tallies;
 use gate_graph::Question;
@@ -119,6 +119,9 @@ pub(crate) fn sweep(
     let Some(c) = controlling(kind) else {
         return Ok(None);
     };
+    if !may_sweep(facts, node, c) {
+        return Ok(None);
+    }
     let tally = tallies.of(question, facts, node);
     if !has_sweep(question, facts, &tally, node, c) {
         return Ok(None);
