@@ -29,12 +29,13 @@ body_at-requires-clause-serves c = for_keeps (net_of c.args.question.now.graph.n
 pub body_at-requires-clause-clash : goal.body_at-requires-clause-clash
 body_at-requires-clause-clash c =
     let level : IsLevel (net_of c.args.question.now.graph.now) c.args.question.now.fault c.args.depth c.deepen.new.facts (Some c.in-Some.level) =
-      subst (IsLevel (net_of c.args.question.now.graph.now) c.args.question.now.fault c.args.depth c.deepen.new.facts) c.in-Some.is
-      (level_of (net_of c.args.question.now.graph.now) c.args.question.now.fault c.args.depth c.args.engine.now.lines c.args.basis.now.facts c.deepen.new.facts c.in_ok-found.found c.requires.open c.in_ok-found.ensures.keeps.size c.in_ok-found.ensures.deepened) in
+    subst (IsLevel (net_of c.args.question.now.graph.now) c.args.question.now.fault c.args.depth c.deepen.new.facts) c.in-Some.is
+    (level_of (net_of c.args.question.now.graph.now) c.args.question.now.fault c.args.depth c.args.engine.now.lines c.args.basis.now.facts c.deepen.new.facts c.in_ok-found.found c.requires.open c.in_ok-found.ensures.keeps.size c.in_ok-found.ensures.deepened) in
     level.1
 
 pub returns-clause-body : goal.returns-clause-body
-returns-clause-body c =
-    (level_some (net_of c.args.question.now.graph.now) c.args.question.now.fault c.args.depth c.deepen.new.facts c.in_ok-found.found c.in-Some.level c.in-Some.is
-    (level_of (net_of c.args.question.now.graph.now) c.args.question.now.fault c.args.depth c.args.engine.now.lines c.args.basis.now.facts c.deepen.new.facts c.in_ok-found.found c.requires.open c.in_ok-found.ensures.keeps.size c.in_ok-found.ensures.deepened),
-    c.in_ok-body.ensures.body)
+returns-clause-body c = (
+  level_some (net_of c.args.question.now.graph.now) c.args.question.now.fault c.args.depth c.deepen.new.facts c.in_ok-found.found c.in-Some.level c.in-Some.is
+      (level_of (net_of c.args.question.now.graph.now) c.args.question.now.fault c.args.depth c.args.engine.now.lines c.args.basis.now.facts c.deepen.new.facts c.in_ok-found.found c.requires.open c.in_ok-found.ensures.keeps.size c.in_ok-found.ensures.deepened),
+  c.in_ok-body.ensures.body,
+)
