@@ -13,9 +13,9 @@ ghost use Rattle.recursive_learning.specs.Watching.{HasRoom, LeavesList};
 ghost use Rattle.recursive_learning.specs.Inner.Watching.{IsBlank};
 ghost use Rattle.recursive_learning.specs.Inner.Working.{AreSettled, Keeps};
 
-use crate::ordering::write_from;
 use crate::telling::push_lines;
 use crate::watch::Watch;
+use crate::writing::write;
 use gate_graph::Question;
 use implications::Engine;
 use refutation::{FactSet, Item, Tree, TreeBuilder};
@@ -29,7 +29,6 @@ pub(crate) fn learned_body(
     question: &Question<'_>,
     watch: &mut Watch,
     depth: u8,
-    gates: &[NodeId],
     facts: &mut FactSet,
 ) -> Result<Tree, NoMemory>
     requires numbers { length (net_of question.now.graph.now).nodes ≤ engine.old.numbers }
@@ -46,7 +45,7 @@ pub(crate) fn learned_body(
 {
     let mut tree = TreeBuilder::new(watch.alloc());
     push_lines(&mut tree, engine.lines())?;
-    write_from(engine, question, facts, watch, depth, gates, &mut tree)?;
+    write(engine, question, facts, watch, depth, &mut tree)?;
     Ok(tree.finish())
 }
 

@@ -279,7 +279,6 @@ fn visit(
     let Some(lesson) = lesson_at(engine, question, facts, watch, depth, gate)? else {
         return Ok(Round::Quiet);
     };
-    watch.note_taught(gate)?;
     if !lesson.found {
         return Ok(Round::Clash);
     }

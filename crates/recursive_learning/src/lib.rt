@@ -9,7 +9,6 @@ mod good_nodes;
 pub mod laws;
 mod learning;
 mod lessons;
-mod ordering;
 pub mod refuter;
 mod refuting;
 mod resting;

@@ -54,12 +54,11 @@ fn body_at(
     ensures room { OnOk result (HasRoom (net_of question.now.graph.now) watch.new) }
 {
     question.graph.well_formed();
-    let gates = watch.give_taught();
     watch.forget();
     if let Some(node) = engine.open(question, basis)? {
         return clash_body(watch.alloc(), engine, question, node);
     }
-    learned_body(engine, question, watch, level, &gates, &mut basis.facts)
+    learned_body(engine, question, watch, level, &mut basis.facts)
 }
 
 // The items that lead to the first clash that is learned up to the depth, where lines lead to none.

@@ -16,14 +16,14 @@ ghost use Rattle.recursive_learning.specs.Inner.Working.{AreSettled, Keeps};
 ghost use Rattle.recursive_learning.specs.Least.{AreForced};
 
 use crate::learning::learn;
-use crate::ordering::write_from;
 use crate::telling::push_lines;
 use crate::watch::Watch;
+use crate::writing::write;
 use gate_graph::Question;
 use implications::{Closed, Engine};
 use refutation::{FactSet, Tree, TreeBuilder};
 use refutation_check::shorten_tree;
-use rm_base::{NoMemory, NodeId};
+use rm_base::NoMemory;
 use std::alloc::Global;
 
 // Writes the tree of closed facts to which these lines led from what the faulty gate doesn't reach, and which lead to a
@@ -33,7 +33,6 @@ fn write_closed(
     question: &Question<'_>,
     watch: &mut Watch,
     depth: u8,
-    gates: &[NodeId],
     facts: &mut FactSet,
 ) -> Result<Tree, NoMemory>
     requires numbers { length (net_of question.now.graph.now).nodes ≤ engine.old.numbers }
@@ -51,7 +50,7 @@ fn write_closed(
     let mut tree = TreeBuilder::new(watch.alloc());
     engine.push_outside(question, &mut tree)?;
     push_lines(&mut tree, engine.lines())?;
-    write_from(engine, question, facts, watch, depth, gates, &mut tree)?;
+    write(engine, question, facts, watch, depth, &mut tree)?;
     Ok(tree.finish())
 }
 
@@ -61,7 +60,6 @@ fn tree_of(
     question: &Question<'_>,
     watch: &mut Watch,
     depth: u8,
-    gates: &[NodeId],
 ) -> Result<Tree, NoMemory>
     requires numbers { length (net_of question.now.graph.now).nodes ≤ engine.old.numbers }
     requires room { HasRoom (net_of question.now.graph.now) watch.old }
@@ -77,7 +75,7 @@ fn tree_of(
             watch.begin_with(question.graph, &facts)?;
             let mut held = facts;
             let mark = engine.mark();
-            let tree = write_closed(engine, question, watch, depth, gates, &mut held)?;
+            let tree = write_closed(engine, question, watch, depth, &mut held)?;
             engine.take_back(&mut held, mark);
             Ok(tree)
         }
@@ -143,8 +141,7 @@ fn refute_open(
     let Some(level) = clash else {
         return Ok(Closed::Open(held));
     };
-    let gates = watch.give_taught();
-    let tree = tree_of(engine, question, &mut watch, level, &gates)?;
+    let tree = tree_of(engine, question, &mut watch, level)?;
     Ok(Closed::Clash(tree))
 }
 

@@ -17,12 +17,10 @@ use refutation::agenda::Agenda;
 use refutation::{Fact, FactSet};
 use rm_base::{NoMemory, NodeId};
 use std::alloc::Global;
-use std::mem;
 
 /// The gates that are to be looked at, and the places on which what is known of the others rests. Where `all` is set,
 /// nothing is known of any gate. `first` has the nodes whose good values are held without being among the facts that the
-/// engine added. The gates that taught something are noted in order, for the writer to begin with; no contract speaks of
-/// them.
+/// engine added.
 #[derive(Drop)]
 pub struct Watch {
     alloc: Global,
@@ -30,7 +28,6 @@ pub struct Watch {
     listed: Agenda,
     rests: Rests,
     first: Vec<NodeId>,
-    taught: Vec<NodeId>,
 }
 
 /// What to come back to by `take_back`.
@@ -38,7 +35,6 @@ pub struct Watch {
 pub struct WatchMark {
     all: bool,
     count: usize,
-    taught: usize,
 }
 
 impl Watch {
@@ -54,28 +50,12 @@ impl Watch {
             listed: Agenda::new(alloc, numbers)?,
             rests: Rests::new(alloc, numbers)?,
             first: Vec::new(alloc),
-            taught: Vec::new(alloc),
         })
     }
 
     /// Where it takes its memory.
     pub fn alloc(&self) -> Global {
         self.alloc
-    }
-
-    /// Notes that the gate taught something.
-    pub fn note_taught(&mut self, gate: NodeId) -> Result<(), NoMemory>
-        ensures { LeavesList self.old self.new }
-    {
-        self.taught.push(gate)?;
-        Ok(())
-    }
-
-    /// The gates that taught something, in order; none is noted then.
-    pub fn give_taught(&mut self) -> Vec<NodeId>
-        ensures { LeavesList self.old self.new }
-    {
-        mem::replace(&mut self.taught, Vec::new(self.alloc))
     }
 
     /// The nodes whose good values may be held: those that it began with, and those of good values among added facts.
@@ -242,7 +222,6 @@ impl Watch {
         WatchMark {
             all: self.all,
             count: self.rests.count(),
-            taught: self.taught.len(),
         }
     }
 
@@ -258,10 +237,9 @@ impl Watch {
         self.all = mark.all;
         self.listed.clear();
         self.rests.take_back(mark.count);
-        self.taught.truncate(mark.taught);
     }
 
-    /// Forgets what is known, and which gates taught something.
+    /// Forgets what is known.
     pub fn forget(&mut self)
         ensures blank { IsBlank self.new }
         ensures size { length self.new.listed ≡ length self.old.listed }
@@ -271,7 +249,6 @@ impl Watch {
         self.all = true;
         self.listed.clear();
         self.rests.take_back(0);
-        self.taught.clear();
     }
 
     /// Forgets what is known, and begins with the good values that are known. It goes over the whole net.

@@ -396,24 +396,24 @@ visit-returns-clause-known t c ne y known =
     let added : AreAdded c.added_facts.result.now c.args.facts.now c.gain.new.facts =
     rw c.added_facts.ensures (subst (λ (f : List NodeFacts). AreAdded (drop c.mark-mark.result c.gain.new.engine.trail) f c.gain.new.facts) same
     (trail_tells c.gain.new.engine.trail c.mark-mark.result c.gain.new.facts c.lesson_at.new.facts h)) in
-    known_more (net_of c.args.question.now.graph.now) c.args.question.now.fault (held_by c.args.facts.now) (held_by c.gain.new.facts) c.added_facts.result.now c.note_taught.new.self c.list_changed.new.self g.0 (subst (λ (f : List NodeFacts). IsWithin (held_by f) (held_by c.gain.new.facts)) same c.in_ok-gain.ensures.keeps.more) added.all c.list_changed.ensures.still c.list_changed.ensures.changed y
-    (known_longer (net_of c.args.question.now.graph.now) c.args.question.now.fault (held_by c.args.facts.now) c.args.watch.now c.note_taught.new.self (leaves_join c.args.watch.now c.lesson_at.new.watch c.note_taught.new.self c.in_ok-lesson.ensures.leaves c.note_taught.ensures) y known)
+    known_more (net_of c.args.question.now.graph.now) c.args.question.now.fault (held_by c.args.facts.now) (held_by c.gain.new.facts) c.added_facts.result.now c.lesson_at.new.watch c.list_changed.new.self g.0 (subst (λ (f : List NodeFacts). IsWithin (held_by f) (held_by c.gain.new.facts)) same c.in_ok-gain.ensures.keeps.more) added.all c.list_changed.ensures.still c.list_changed.ensures.changed y
+    (known_longer (net_of c.args.question.now.graph.now) c.args.question.now.fault (held_by c.args.facts.now) c.args.watch.now c.lesson_at.new.watch c.in_ok-lesson.ensures.leaves y known)
 
 pub visit-list_changed-requires : goal.visit-list_changed-requires
 visit-list_changed-requires t c =
-    room_leaves (net_of c.args.question.now.graph.now) c.args.watch.now c.note_taught.new.self (leaves_join c.args.watch.now c.lesson_at.new.watch c.note_taught.new.self c.in_ok-lesson.ensures.leaves c.note_taught.ensures) c.requires.room
+    room_leaves (net_of c.args.question.now.graph.now) c.args.watch.now c.lesson_at.new.watch c.in_ok-lesson.ensures.leaves c.requires.room
 
 pub visit-returns-then-not-lesson-clause-lengthens : goal.visit-returns-then-not-lesson-clause-lengthens
 visit-returns-then-not-lesson-clause-lengthens t c =
-    lengthens_leaves c.args.watch.now c.note_taught.new.self (leaves_join c.args.watch.now c.lesson_at.new.watch c.note_taught.new.self c.in_ok-lesson.ensures.leaves c.note_taught.ensures)
+    lengthens_leaves c.args.watch.now c.lesson_at.new.watch c.in_ok-lesson.ensures.leaves
 
 pub visit-returns-then-branch-clause-lengthens : goal.visit-returns-then-branch-clause-lengthens
 visit-returns-then-branch-clause-lengthens t c =
-    lengthens_leaves c.args.watch.now c.note_taught.new.self (leaves_join c.args.watch.now c.lesson_at.new.watch c.note_taught.new.self c.in_ok-lesson.ensures.leaves c.note_taught.ensures)
+    lengthens_leaves c.args.watch.now c.lesson_at.new.watch c.in_ok-lesson.ensures.leaves
 
 pub visit-returns-clause-lengthens : goal.visit-returns-clause-lengthens
 visit-returns-clause-lengthens t c =
-    lengthens_join c.args.watch.now c.note_taught.new.self c.list_changed.new.self (lengthens_leaves c.args.watch.now c.note_taught.new.self (leaves_join c.args.watch.now c.lesson_at.new.watch c.note_taught.new.self c.in_ok-lesson.ensures.leaves c.note_taught.ensures)) (lengthens_still c.note_taught.new.self c.list_changed.new.self c.list_changed.ensures.still)
+    lengthens_join c.args.watch.now c.lesson_at.new.watch c.list_changed.new.self (lengthens_leaves c.args.watch.now c.lesson_at.new.watch c.in_ok-lesson.ensures.leaves) (lengthens_still c.lesson_at.new.watch c.list_changed.new.self c.list_changed.ensures.still)
 
 -- LESSON
 
