@@ -98,7 +98,7 @@ impl Gate for Counting {
 }
 
 // How so many faults pass with that many workers.
-fn passed<R: Threads + Sync>(
+fn pass_with<R: Threads + Sync>(
     rt: &R,
     alloc: Global,
     graph: &Graph,
