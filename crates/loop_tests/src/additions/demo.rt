@@ -1,7 +1,7 @@
 // The net of a drawn model of 60 covers, at both depths.
 ghost use Rattle.std.specs.Prelude.{◌≤◌};
 
-use super::{End, counts_made, fault, optimised_at, outcome_spent, settled, wire};
+use super::{End, counts_made, fault, optimised_at, outcome_spent, settled_after, wire};
 use cover_decompose::decompose;
 use demo_generator::demo_model;
 use std::alloc::Global;
@@ -34,7 +34,7 @@ fn few_tries_by_direct_implication(rt: HostRuntime) -> Result<(), Fail> {
 #[test]
 fn until_no_pair_gains(rt: HostRuntime) -> Result<(), Fail> {
     let end = end_at(rt.alloc(), 1, 20_000)?;
-    assert_eq!(rt; end.outcome, settled(2912));
+    assert_eq!(rt; end.outcome, settled_after(2912));
     assert_eq!(rt; end.made, counts_made(2, 24, 161));
     assert_eq!(rt; end.graph.wire_count(), 84);
     assert_eq!(rt; end.graph.gate_count(), 47);

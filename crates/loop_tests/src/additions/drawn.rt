@@ -2,7 +2,7 @@
 ghost use Rattle.std.specs.Prelude.{◌<◌, ◌≤◌, ◌+◌, IfOk};
 ghost use Rattle.gate_graph.specs.Circuit.{live_nodes, pins_taken};
 
-use super::{counts_made, optimised, settled};
+use super::{counts_made, optimised, settled_after};
 use fault_sim::Lanes;
 use gate_graph::Graph;
 use std::alloc::Global;
@@ -131,7 +131,7 @@ fn drawn_ends(rt: HostRuntime) -> Result<(), Fail> {
     for (seed, tries, adds, fixes, local, wires) in ENDS {
         let net = draw_net(rt.alloc(), seed)?;
         let end = optimised(rt.alloc(), net.graph, 100_000)?;
-        assert_eq!(rt; end.outcome, settled(tries));
+        assert_eq!(rt; end.outcome, settled_after(tries));
         assert_eq!(rt; end.made, counts_made(adds, fixes, local));
         assert_eq!(rt; end.graph.wire_count(), wires);
     }

@@ -1,5 +1,5 @@
 // A net in which only a Not that isn't there yet pays.
-use super::{counts_made, fault, looped, outcome_spent, settled, wire};
+use super::{counts_made, fault, looped, outcome_spent, settled_after, wire};
 use rm_base::NodeId;
 use std::test::Fail;
 use test_nets::{Gate, Wiring};
@@ -40,7 +40,7 @@ fn a_fresh_not_pays(rt: HostRuntime) -> Result<(), Fail> {
             counts_made(1, 2, 9),
             8,
         ),
-        (34, settled(34), counts_made(1, 2, 9), 8),
+        (34, settled_after(34), counts_made(1, 2, 9), 8),
     ];
     for (tries, outcome, steps, wires) in rows {
         let end = looped(rt.alloc(), &UNDER_A_NOT, tries)?;

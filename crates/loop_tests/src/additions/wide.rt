@@ -2,7 +2,7 @@
 ghost use Rattle.std.specs.Prelude.{◌≤◌, ◌+◌, IfOk};
 ghost use Rattle.gate_graph.specs.Circuit.{live_nodes, pins_taken};
 
-use super::{counts_made, fault, optimised, outcome_spent, settled, wire};
+use super::{counts_made, fault, optimised, outcome_spent, settled_after, wire};
 use gate_graph::Graph;
 use std::alloc::Global;
 use std::test::Fail;
@@ -59,7 +59,7 @@ fn row_ends(alloc: Global, row: (u32, u32, u32, u32), form: Form) -> Result<bool
     let end = optimised(alloc, graph, 10_000)?;
     let terms = terms as u64;
     Ok(
-        end.outcome == settled(tries)
+        end.outcome == settled_after(tries)
             && end.made == counts_made(1, terms, 3 * terms)
             && end.before == before
             && end.graph.wire_count() == after,
