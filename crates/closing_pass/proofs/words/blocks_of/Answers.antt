@@ -1,4 +1,4 @@
-use Rattle.std.proofs.Common.{List, [], ap, append-nil, arith, drop, length, map, min, refl, subst, sym, take, ◌++◌, ◌∙◌, ◌≡◌, ℕ, Bool}
+use Rattle.std.proofs.Common.{List, [], ap, append-nil, arith, drop, map, subst, sym, take, ◌∙◌, ◌≡◌, ℕ, Bool}
 use Rattle.closing_pass.specs.Inner.Blocks.{AreBlocksOf}
 use Rattle.closing_pass.specs.Inner.Findings.{AreLong, ArePacked}
 use Rattle.closing_pass.proofs.BlockLaws.{block_more, drop_most, long_block, long_rest, none_left, take_most}
