@@ -7,7 +7,6 @@ use Rattle.refutation.specs.Facts.{Held}
 use Rattle.refutation.specs.declared.items.Item.{Item}
 use Rattle.wire_edit.specs.Tests.{control_of}
 use Rattle.wire_edit.specs.Order.{IsTidy, node}
-use Rattle.wire_edit.specs.declared.steps.Step.{Step}
 use Rattle.wire_edit.specs.declared.steps.Step.TheVariants.{Add, Fix, NewNot}
 use Rattle.candidate_wires.specs.declared.candidate.Candidate.{Candidate}
 use Rattle.candidate_wires.specs.declared.candidate.Pair.{Pair}

@@ -7,7 +7,6 @@ use Rattle.wire_edit.specs.Tried.{Tried}
 use Rattle.rar_loop.specs.Inner.Going.{Goes}
 use Rattle.rar_loop.specs.Inner.Swept.{HasSwept}
 use Rattle.rar_loop.specs.Inner.Improving.{HasBegun}
-use Rattle.rar_loop.specs.Inner.Kept.{AreFor}
 use Rattle.rar_loop.specs.Inner.Spaces.{HasToolsFor}
 use Rattle.rar_loop.proofs.GoingOn.{tallies_then}
 use Rattle.rar_loop.proofs.Sizing.{HasSize, held_back}

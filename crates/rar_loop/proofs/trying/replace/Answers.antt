@@ -1,4 +1,4 @@
-use Rattle.std.proofs.Common.{◌≡◌, ◌+◌, ◌≤◌, Bool, true, ◌∙◌, ap, subst, length, arith}
+use Rattle.std.proofs.Common.{◌≡◌, ◌+◌, ◌≤◌, Bool, true, ◌∙◌, ap, subst, arith}
 use Rattle.gate_net.specs.Net.{Net, IsWellFormed, source_count}
 use Rattle.gate_graph.specs.Circuit.{Circuit, net_of}
 use Rattle.candidate_wires.specs.Gains.{with_candidate}

@@ -1,4 +1,4 @@
-use Rattle.std.proofs.Common.{◌≡◌, ◌≤◌, arith}
+use Rattle.std.proofs.Common.{arith}
 use Rattle.rar_loop.proofs.Filtering.{asked_less, asked_past}
 use Rattle.rar_loop.proofs.vectors.forget.Goals as goal
 

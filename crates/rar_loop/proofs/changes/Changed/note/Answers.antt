@@ -1,8 +1,8 @@
-use Rattle.std.proofs.Common.{◌≡◌, sym, refl, subst, Some, None}
+use Rattle.std.proofs.Common.{sym, refl, subst}
 use Rattle.std.specs.Prelude.{OnOk}
 use Rattle.wire_edit.specs.Tests.{constant_at, control_of}
 use Rattle.wire_edit.specs.declared.steps.Step.{Step}
-use Rattle.wire_edit.specs.declared.steps.Step.TheVariants.{Add, Fix, NewNot, Const, Same, NoPins, OnePin, Twice, Twin, Dead}
+use Rattle.wire_edit.specs.declared.steps.Step.TheVariants.{Add, Fix, Const, Same, Dead}
 use Rattle.rar_loop.specs.Inner.Changing.{HasNoted}
 use Rattle.rar_loop.proofs.Noting.{const_covers, empty_noted, gate_noted, not_noted, on_ok, one_noted, second_noted, twin_noted}
 use Rattle.rar_loop.proofs.changes.Changed.note.Goals as goal

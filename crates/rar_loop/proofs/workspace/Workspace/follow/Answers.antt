@@ -1,6 +1,6 @@
-use Rattle.std.proofs.Common.{◌≡◌, ℕ, List, ◌++◌, sym, ◌∙◌, ap, subst}
+use Rattle.std.proofs.Common.{◌≡◌, List, ◌++◌, sym, ◌∙◌, ap, subst}
 use Rattle.rm_base.specs.declared.numbers.NodeId.{NodeId}
-use Rattle.gate_net.specs.Net.{IsWellFormed, Net, Reads, source_count}
+use Rattle.gate_net.specs.Net.{IsWellFormed, Net, source_count}
 use Rattle.gate_graph.specs.Circuit.{Circuit, net_of}
 use Rattle.fault_sim.specs.Following.{DiffersAmong}
 use Rattle.rar_loop.specs.Inner.Changing.{AreNoted, ListsNoted}

@@ -1,4 +1,4 @@
-use Rattle.std.proofs.Common.{ap, subst, sym}
+use Rattle.std.proofs.Common.{ap}
 use Rattle.gate_graph.specs.Circuit.{Circuit, net_of}
 use Rattle.rar_loop.proofs.Noting.{same_back}
 use Rattle.rar_loop.proofs.workspace.Workspace.follow_back.Goals as goal
