@@ -1,10 +1,10 @@
 -- One round after another.
 use Rattle.std.proofs.lemmas.List.{append-nil}
-use Rattle.std.proofs.Common.{◌≡◌, ◌≤◌, ◌<◌, ◌+◌, ◌-◌, ◌*◌, ℕ, suc, Bool, List, [], ◌∷◌, ◌++◌, Option, refl, sym, ◌∙◌, ap, subst, arith, append_assoc, length}
+use Rattle.std.proofs.Common.{◌≡◌, ◌≤◌, ◌<◌, ◌+◌, ℕ, suc, Bool, List, [], ◌∷◌, ◌++◌, Option, sym, ◌∙◌, ap, subst, arith}
 use Rattle.rm_base.specs.Files.{Files}
 use Rattle.rm_base.specs.declared.settings.Made.{Made}
 use Rattle.rm_base.specs.declared.settings.Settings.{Settings}
-use Rattle.gate_net.specs.Net.{Net, IsWellFormed, wire_count}
+use Rattle.gate_net.specs.Net.{Net, wire_count}
 use Rattle.gate_graph.specs.Circuit.{Circuit, live_nodes, net_of, pins_taken}
 use Rattle.wire_edit.specs.declared.steps.Step.{Step}
 use Rattle.wire_edit.specs.declared.steps.Step.TheVariants.{Add, Fix, NewNot, Const, Same, NoPins, OnePin, Twice, Twin, Dead}
@@ -19,7 +19,7 @@ use Rattle.rar_loop.specs.Ended.{AreFew, IsOptimised}
 use Rattle.rar_loop.specs.Sizes.{IsWithin}
 use Rattle.rar_loop.specs.Rounds.{IsRun, RunBegins, RunGoesOn, is_settled, tries_of}
 use Rattle.wire_edit.specs.Order.{IsTidy}
-use Rattle.optimisation.specs.Inner.Ran.{AreBounded, HasGoneOn, HasRecorded, HasRun, IsBounded, most_steps, sum_of}
+use Rattle.optimisation.specs.Inner.Ran.{AreBounded, HasGoneOn, HasRecorded, sum_of}
 use Rattle.optimisation.specs.declared.rounds.Round.{Round}
 
 same_made : (a b f g l k : ℕ) → a ≡ b → f ≡ g → l ≡ k → ◌≡◌ {A = Made} (record { adds = a; fixes = f; local = l }) (record { adds = b; fixes = g; local = k })

@@ -1,22 +1,20 @@
 -- The records of verdicts settle the faults of the net.
-use Rattle.std.proofs.Common.{◌≡◌, ℕ, zero, suc, ◌+◌, ◌-◌, ◌*◌, ◌≤◌, ◌^◌, Bool, List, [], ◌∷◌, ◌++◌, Option, Some, None, map, refl, sym, ◌∙◌, ap, subst, arith}
+use Rattle.std.proofs.Common.{◌≡◌, ℕ, zero, suc, ◌+◌, ◌-◌, ◌*◌, Bool, List, [], ◌∷◌, ◌++◌, Option, Some, map, refl, ◌∙◌, ap, subst, arith}
 use Rattle.std.specs.Prelude.{slice_get}
 use Rattle.std.specs.List.{AllByRecursion}
 use Rattle.rm_base.specs.declared.numbers.Fault.{Fault}
-use Rattle.gate_net.specs.Net.{Net, source_count}
-use Rattle.gate_net.specs.Values.{Detects}
-use Rattle.gate_net.specs.Faults.{assigned, faults_of}
-use Rattle.refutation.specs.Branches.{Branch, line, split, clash, quiet, here, untried, edges, items_of, splits, untrieds}
+use Rattle.gate_net.specs.Net.{Net}
+use Rattle.gate_net.specs.Faults.{faults_of}
+use Rattle.refutation.specs.Branches.{Branch, line, split, clash, quiet, here, untried, items_of, splits, untrieds}
 use Rattle.refutation.specs.Stack.{splits_among, untrieds_among}
 use Rattle.refutation.specs.declared.items.Item.{Item}
 use Rattle.refutation.specs.declared.items.Item.TheVariants as item
 use Rattle.podem.specs.Verdicts.{IsSpent}
 use Rattle.podem.specs.declared.verdict.Verdict.{Verdict}
 use Rattle.podem.specs.declared.verdict.Verdict.TheVariants.{Detected, Refuted, Spent}
-use Rattle.journal_text.specs.declared.record.Record.{Record}
 use Rattle.journal_text.specs.declared.record.Record.TheVariants as kept
 use Rattle.journal_check.specs.Verdicts.{IsSpent as IsSpentTree, SettleAll}
-use Rattle.closing_pass.specs.Recording.{verdict_record, verdict_records}
+use Rattle.closing_pass.specs.Recording.{verdict_records}
 use Rattle.closing_pass.specs.Reports.{AreClosed, IsClosing, fault_in}
 use Rattle.optimisation.specs.Tests.{AreSearched}
 

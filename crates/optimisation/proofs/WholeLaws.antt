@@ -1,17 +1,15 @@
 -- A journal from its header to its end, and what it holds where a run ends early.
-use Rattle.std.proofs.Common.{◌≡◌, ℕ, ◌+◌, ◌≤◌, Bool, List, [], ◌∷◌, ◌++◌, take, length, Option, Some, None, ◌⊎◌, inl, inr, refl, sym, ◌∙◌, ap, subst, arith}
+use Rattle.std.proofs.Common.{◌≡◌, ℕ, ◌+◌, Bool, List, [], ◌++◌, take, length, Option, inl, inr, refl, sym, ◌∙◌, ap, subst, arith}
 use Rattle.std.specs.Option.{option_map}
 use Rattle.rm_base.specs.Files.{Files, put_file}
-use Rattle.rm_base.specs.declared.settings.Made.{Made}
 use Rattle.rm_base.specs.declared.settings.Settings.{Settings}
 use Rattle.rm_model.specs.declared.parts.Model.{Model}
 use Rattle.gate_net.specs.Net.{Net, IsWellFormed, gate_count, wire_count}
 use Rattle.gate_graph.specs.Circuit.{net_of}
 use Rattle.cover_decompose.specs.Count.{decomposed}
 use Rattle.cover_decompose.specs.Decomposition.{net_of_model}
-use Rattle.journal_text.specs.Accepted.{Keeps}
-use Rattle.journal_text.specs.Runs.{AcceptedRunsKeep, HasAppended, IsStopped, records_text, steps_of}
-use Rattle.journal_text.specs.Text.{entry_text, journal_text}
+use Rattle.journal_text.specs.Runs.{AcceptedRunsKeep, IsStopped, records_text, steps_of}
+use Rattle.journal_text.specs.Text.{entry_text}
 use Rattle.journal_text.specs.declared.record.Record.{Record}
 use Rattle.journal_text.specs.declared.record.Entry.TheVariants.{Header, End}
 use Rattle.closing_pass.specs.Recording.{verdict_records}
@@ -19,7 +17,7 @@ use Rattle.rar_loop.specs.Rounds.{IsRun}
 use Rattle.optimisation.specs.Begun.{BeginsSteps, HasBegun}
 use Rattle.optimisation.specs.Inner.Begun.{BeginsHeader}
 use Rattle.optimisation.specs.Inner.Filled.{IsFilled, IsLeft, IsLeftWhole}
-use Rattle.optimisation.specs.Whole.{AreFigures, IsWhole}
+use Rattle.optimisation.specs.Whole.{IsWhole}
 use Rattle.optimisation.specs.Tests.{hits_among, spents_among}
 use Rattle.optimisation.specs.declared.optimised.Figures.{Figures}
 use Rattle.optimisation.specs.declared.rounds.Rounds.{Rounds}

@@ -1,5 +1,5 @@
 -- Settings within their ranges.
-use Rattle.std.specs.Prelude.{◌≤◌, ℕ}
+use Rattle.std.specs.Prelude.{◌≤◌}
 use Rattle.rm_base.specs.declared.settings.Settings.{Settings}
 
 pub record AreSettings (s : Settings) : Type 0 where

@@ -25,7 +25,7 @@ use Rattle.journal_text.specs.declared.record.Record.{Record}
 use Rattle.optimisation.specs.Begun.{IsBeginning}
 use Rattle.optimisation.specs.Whole.{IsRunOver}
 use Rattle.optimisation.specs.declared.optimised.Figures.{Figures}
-use Rattle.rambo_cli.specs.Lines.{accepted_line, fault_line, limit_line, words_line, shelf_line, memory_line}
+use Rattle.rambo_cli.specs.Lines.{accepted_line, fault_line, limit_line, words_line, memory_line}
 use Rattle.rambo_cli.specs.Summary.{summary_text}
 use Rattle.rambo_cli.specs.Written.{IsSaid, HasFault, Exceeds, most_pins}
 use Rattle.rambo_cli.specs.Headline.{IsOptimisedInto}

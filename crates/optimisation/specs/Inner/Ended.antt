@@ -1,5 +1,5 @@
 -- How the rounds of a run end.
-use Rattle.std.specs.Prelude.{◌≡◌, ◌≤◌, ℕ, List, Option}
+use Rattle.std.specs.Prelude.{ℕ, List, Option}
 use Rattle.rm_base.specs.Files.{Files}
 use Rattle.rm_base.specs.declared.settings.Settings.{Settings}
 use Rattle.gate_net.specs.Net.{Net}

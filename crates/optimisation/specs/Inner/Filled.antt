@@ -1,11 +1,11 @@
 -- What stands in the journal behind its header.
-use Rattle.std.specs.Prelude.{◌≡◌, ◌++◌, ◌⊎◌, ℕ, List, take, Option}
+use Rattle.std.specs.Prelude.{◌++◌, ◌⊎◌, ℕ, List, Option}
 use Rattle.rm_base.specs.Files.{Files}
 use Rattle.rm_base.specs.declared.settings.Settings.{Settings}
 use Rattle.gate_net.specs.Net.{Net}
 use Rattle.gate_graph.specs.Circuit.{net_of}
 use Rattle.journal_text.specs.Text.{entry_text}
-use Rattle.journal_text.specs.Runs.{AcceptedTo, HasAppended, HasAppendedPart, IsStopped, records_text}
+use Rattle.journal_text.specs.Runs.{HasAppended, HasAppendedPart, IsStopped, records_text}
 use Rattle.journal_text.specs.declared.record.Record.{Record}
 use Rattle.journal_text.specs.declared.record.Entry.TheVariants.{End}
 use Rattle.journal_check.specs.Accepts.{IsAcceptedFrom}

@@ -1,7 +1,5 @@
-use Rattle.std.proofs.Common.{◌≤◌, ◌<◌, refl, arith}
-use Rattle.gate_net.specs.Net.{wire_count}
+use Rattle.std.proofs.Common.{refl, arith}
 use Rattle.gate_graph.specs.Circuit.{net_of}
-use Rattle.journal_text.specs.Runs.{IsStopped}
 use Rattle.optimisation.proofs.RoundLaws.{closed_stopped, further_run, nothing_closed, stopped_then}
 use Rattle.optimisation.proofs.rounds.go_rounds.Goals as goal
 use Rattle.rm_base.proofs.Public.{on_err}

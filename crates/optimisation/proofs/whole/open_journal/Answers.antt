@@ -1,7 +1,7 @@
-use Rattle.std.proofs.Common.{[], refl}
+use Rattle.std.proofs.Common.{[]}
 use Rattle.journal_text.specs.Text.{entry_text}
 use Rattle.journal_text.specs.declared.record.Entry.TheVariants.{Header}
-use Rattle.optimisation.proofs.Texts.{created_header, put_then, put_there, stopped_header}
+use Rattle.optimisation.proofs.Texts.{put_then, put_there, stopped_header}
 use Rattle.optimisation.proofs.whole.open_journal.Goals as goal
 use Rattle.rm_base.proofs.Public.{on_err}
 

@@ -1,7 +1,6 @@
 use Rattle.std.proofs.Common.{Result, Ok, Err, refl, ap, subst, ◌∙◌}
 use Rattle.std.specs.Prelude.{IfErr}
 use Rattle.gate_net.specs.Net.{Net, IsWellFormed, gate_count, wire_count}
-use Rattle.gate_graph.specs.Circuit.{net_of}
 use Rattle.optimisation.specs.Inner.Filled.{IsFilled, IsLeft}
 use Rattle.optimisation.proofs.WholeLaws.{filled_whole, header_begun, left_begun}
 use Rattle.optimisation.proofs.whole.optimised_model.Goals as goal
