@@ -60,7 +60,7 @@ fn optimised_at(alloc: Global, graph: Graph, depth: u8, tries: u32) -> Result<En
 }
 
 /// Runs the loop on a net, at depth 1 with so many tries.
-fn optimised(alloc: Global, graph: Graph, tries: u32) -> Result<End, Fail>
+fn optimise_for(alloc: Global, graph: Graph, tries: u32) -> Result<End, Fail>
     requires few { pins_taken graph + live_nodes graph ≤ 1048576 }
     ensures few { IfOk result (λ e. pins_taken e.graph + live_nodes e.graph ≤ pins_taken graph + live_nodes graph) }
 {
@@ -68,9 +68,9 @@ fn optimised(alloc: Global, graph: Graph, tries: u32) -> Result<End, Fail>
 }
 
 /// Runs the loop on the net of a table, at depth 1 with so many tries.
-fn looped(alloc: Global, wiring: &Wiring, tries: u32) -> Result<End, Fail> {
+fn optimise_net(alloc: Global, wiring: &Wiring, tries: u32) -> Result<End, Fail> {
     let graph = build_net(alloc, wiring)?;
-    optimised(alloc, graph, tries)
+    optimise_for(alloc, graph, tries)
 }
 
 fn fault(gate: u32, position: u32, value: bool) -> Fault {
@@ -129,7 +129,7 @@ fn a_wire_is_added(rt: HostRuntime) -> Result<(), Fail> {
         (1000, settled_after(16), counts_made(1, 2, 6), 5),
     ];
     for (tries, outcome, steps, wires) in rows {
-        let end = looped(rt.alloc(), &FOUR_GATES, tries)?;
+        let end = optimise_net(rt.alloc(), &FOUR_GATES, tries)?;
         assert_eq!(rt; end.outcome, outcome);
         assert_eq!(rt; end.made, steps);
         assert_eq!(rt; end.graph.wire_count(), wires);
@@ -152,7 +152,7 @@ const NINE_STEPS: [&str; 9] = [
 
 #[test]
 fn its_records(rt: HostRuntime) -> Result<(), Fail> {
-    let end = looped(rt.alloc(), &FOUR_GATES, 16)?;
+    let end = optimise_net(rt.alloc(), &FOUR_GATES, 16)?;
     let text = str::from_utf8(end.text.as_slice())?;
     let mut place = 0usize;
     for line in text.lines() {
@@ -191,11 +191,11 @@ const MULTIPLEXER: Wiring<'static> = Wiring {
 
 #[test]
 fn no_wire_is_added(rt: HostRuntime) -> Result<(), Fail> {
-    let end = looped(rt.alloc(), &SUM_OBSERVED, 1000)?;
+    let end = optimise_net(rt.alloc(), &SUM_OBSERVED, 1000)?;
     assert_eq!(rt; end.outcome, settled_after(24));
     assert_eq!(rt; end.made, counts_made(0, 0, 0));
     assert_eq!(rt; end.graph.wire_count(), 8);
-    let end = looped(rt.alloc(), &MULTIPLEXER, 1000)?;
+    let end = optimise_net(rt.alloc(), &MULTIPLEXER, 1000)?;
     assert_eq!(rt; end.outcome, settled_after(22));
     assert_eq!(rt; end.made, counts_made(0, 1, 3));
     assert_eq!(rt; end.graph.wire_count(), 7);

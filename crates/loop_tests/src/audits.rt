@@ -36,7 +36,7 @@ fn answer(alloc: Global, input: &str, journal: &str, output: &str) -> Result<Ans
     Ok(audit(alloc, &mut shelf, &model, "journal", "out"))
 }
 
-fn refused(number: u64, why: Why) -> Answer {
+fn refusal_at(number: u64, why: Why) -> Answer {
     Err(AuditProblem::Refused {
         refusal: JournalRefusal { number, why },
     })
@@ -63,7 +63,7 @@ fn changed_journals_are_refused(rt: HostRuntime) -> Result<(), Fail> {
         (
             "add 9 2 a",
             "add 9 2 !0",
-            refused(1, Why::Tree(CheckRefusal::NotClash { item: 1 })),
+            refusal_at(1, Why::Tree(CheckRefusal::NotClash { item: 1 })),
         ),
         ("end\n", "", faulty(JournalFault::Truncated { line: 21 })),
         (
@@ -74,7 +74,7 @@ fn changed_journals_are_refused(rt: HostRuntime) -> Result<(), Fail> {
         (
             "hit 8 0 0 1101",
             "hit 8 0 0 0101",
-            refused(10, Why::VectorMisses),
+            refusal_at(10, Why::VectorMisses),
         ),
         (
             "rambo 1",
@@ -157,7 +157,7 @@ fn other_journals_are_refused(rt: HostRuntime) -> Result<(), Fail> {
     let alloc = rt.alloc();
     for (input, journal, number, why) in REFUSED {
         let got = answer(alloc, input, journal, "x")?;
-        assert_eq!(rt; got, refused(number, why));
+        assert_eq!(rt; got, refusal_at(number, why));
     }
     Ok(())
 }
@@ -224,7 +224,7 @@ fn journals_of_several_pieces(rt: HostRuntime) -> Result<(), Fail> {
     let got = answer(alloc, FOUR_GATES, &long, "x")?;
     assert_eq!(rt;
         got,
-        refused(1, Why::Tree(CheckRefusal::BadSplit { item: 2 }))
+        refusal_at(1, Why::Tree(CheckRefusal::BadSplit { item: 2 }))
     );
     Ok(())
 }

@@ -153,7 +153,7 @@ fn latches(alloc: Global, first: Latch) -> Result<Listed<Latch>, NoMemory>
     Ok(latches)
 }
 
-fn latched(alloc: Global, control: Option<Name>) -> Result<Model, NoMemory>
+fn model_with_latch(alloc: Global, control: Option<Name>) -> Result<Model, NoMemory>
     ensures { IfOk result (λ m. All (λ l. IfSome l.init (λ n. n ≤ 3)) m.latches) }
 {
     let latches = latches(alloc, edge_latch(alloc, control)?)?;
@@ -170,11 +170,11 @@ fn latched(alloc: Global, control: Option<Name>) -> Result<Model, NoMemory>
 #[test]
 fn latches_keep_the_fields_that_they_have(rt: HostRuntime) -> Result<(), Fail> {
     let alloc = rt.alloc();
-    let text = write_model(alloc, &latched(alloc, Some(name(alloc, b"g")?))?)?;
+    let text = write_model(alloc, &model_with_latch(alloc, Some(name(alloc, b"g")?))?)?;
     let wanted =
         b".model r8\n.inputs d e\n.outputs q\n.clock c\n.latch nd q re g 2\n.latch q s\n.end\n";
     assert!(rt; text.as_slice() == wanted.as_slice());
-    let text = write_model(alloc, &latched(alloc, None)?)?;
+    let text = write_model(alloc, &model_with_latch(alloc, None)?)?;
     let wanted =
         b".model r8\n.inputs d e\n.outputs q\n.clock c\n.latch nd q re NIL 2\n.latch q s\n.end\n";
     assert!(rt; text.as_slice() == wanted.as_slice());

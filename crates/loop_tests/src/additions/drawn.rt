@@ -2,7 +2,7 @@
 ghost use Rattle.std.specs.Prelude.{◌<◌, ◌≤◌, ◌+◌, IfOk};
 ghost use Rattle.gate_graph.specs.Circuit.{live_nodes, pins_taken};
 
-use super::{counts_made, optimised, settled_after};
+use super::{counts_made, optimise_for, settled_after};
 use fault_sim::Lanes;
 use gate_graph::Graph;
 use std::alloc::Global;
@@ -102,7 +102,7 @@ fn wires_less(alloc: Global, seed: u64) -> Result<u32, Fail> {
     let net = draw_net(alloc, seed)?;
     let words = net.words.as_slice();
     let wanted = [word_at(words, 18), word_at(words, 20), word_at(words, 21)];
-    let end = optimised(alloc, net.graph, 100_000)?;
+    let end = optimise_for(alloc, net.graph, 100_000)?;
     let found = observed_words(alloc, &end.graph)?;
     if found.as_slice() != wanted.as_slice() {
         return Err("another function".into());
@@ -130,7 +130,7 @@ const ENDS: [(u64, u32, u64, u64, u64, u32); 12] = [
 fn drawn_ends(rt: HostRuntime) -> Result<(), Fail> {
     for (seed, tries, adds, fixes, local, wires) in ENDS {
         let net = draw_net(rt.alloc(), seed)?;
-        let end = optimised(rt.alloc(), net.graph, 100_000)?;
+        let end = optimise_for(rt.alloc(), net.graph, 100_000)?;
         assert_eq!(rt; end.outcome, settled_after(tries));
         assert_eq!(rt; end.made, counts_made(adds, fixes, local));
         assert_eq!(rt; end.graph.wire_count(), wires);

@@ -1,5 +1,5 @@
 // A net in which only a Not that isn't there yet pays.
-use super::{counts_made, fault, looped, outcome_spent, settled_after, wire};
+use super::{counts_made, fault, optimise_net, outcome_spent, settled_after, wire};
 use rm_base::NodeId;
 use std::test::Fail;
 use test_nets::{Gate, Wiring};
@@ -43,7 +43,7 @@ fn a_fresh_not_pays(rt: HostRuntime) -> Result<(), Fail> {
         (34, settled_after(34), counts_made(1, 2, 9), 8),
     ];
     for (tries, outcome, steps, wires) in rows {
-        let end = looped(rt.alloc(), &UNDER_A_NOT, tries)?;
+        let end = optimise_net(rt.alloc(), &UNDER_A_NOT, tries)?;
         assert_eq!(rt; end.outcome, outcome);
         assert_eq!(rt; end.made, steps);
         assert_eq!(rt; end.graph.wire_count(), wires);
@@ -135,7 +135,7 @@ fn are_steps(text: &str) -> bool {
 
 #[test]
 fn its_steps(rt: HostRuntime) -> Result<(), Fail> {
-    let end = looped(rt.alloc(), &UNDER_A_NOT, 34)?;
+    let end = optimise_net(rt.alloc(), &UNDER_A_NOT, 34)?;
     let text = str::from_utf8(end.text.as_slice())?;
     assert!(rt; are_steps(text));
     for (gate, position, driver) in PINS {

@@ -4,7 +4,7 @@ ghost use Rattle.std.specs.Prelude.{◌≤◌, ◌+◌};
 ghost use Rattle.gate_graph.specs.Circuit.{live_nodes, pins_taken};
 
 use super::drawn::draw_net;
-use super::optimised;
+use super::optimise_for;
 use candidate_wires::{Candidate, Pair, added_pin, candidates, control_of, least_free, targets};
 use gate_graph::{Graph, Question, faults_of};
 use implications::{Closed, Engine};
@@ -208,7 +208,7 @@ fn pairs_that_pay(rt: HostRuntime) -> Result<(), Fail> {
 
 fn settled_tally(alloc: Global, seed: u64) -> Result<(usize, u32), Fail> {
     let net = draw_net(alloc, seed)?;
-    let end = optimised(alloc, net.graph, 100_000)?;
+    let end = optimise_for(alloc, net.graph, 100_000)?;
     tally(alloc, &end.graph)
 }
 

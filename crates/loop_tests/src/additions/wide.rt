@@ -2,7 +2,7 @@
 ghost use Rattle.std.specs.Prelude.{◌≤◌, ◌+◌, IfOk};
 ghost use Rattle.gate_graph.specs.Circuit.{live_nodes, pins_taken};
 
-use super::{counts_made, fault, optimised, outcome_spent, settled_after, wire};
+use super::{counts_made, fault, optimise_for, outcome_spent, settled_after, wire};
 use gate_graph::Graph;
 use std::alloc::Global;
 use std::test::Fail;
@@ -56,7 +56,7 @@ const WIDE: [(u32, u32, u32, u32); 3] = [(2, 16, 8, 5), (9, 121, 29, 12), (20, 4
 fn row_ends(alloc: Global, row: (u32, u32, u32, u32), form: Form) -> Result<bool, Fail> {
     let (terms, tries, before, after) = row;
     let graph = wide(alloc, terms, form)?;
-    let end = optimised(alloc, graph, 10_000)?;
+    let end = optimise_for(alloc, graph, 10_000)?;
     let terms = terms as u64;
     Ok(
         end.outcome == settled_after(tries)
@@ -82,13 +82,13 @@ fn a_wire_for_many_terms(rt: HostRuntime) -> Result<(), Fail> {
 fn its_place_among_the_tries(rt: HostRuntime) -> Result<(), Fail> {
     let alloc = rt.alloc();
     let graph = wide(alloc, 9, Form::Ands)?;
-    let end = optimised(alloc, graph, 12)?;
+    let end = optimise_for(alloc, graph, 12)?;
     assert_eq!(rt;
         end.outcome,
         outcome_spent(12, fault(13, 0, true), wire(2, false, 23))
     );
     let graph = wide(alloc, 9, Form::Ors)?;
-    let end = optimised(alloc, graph, 12)?;
+    let end = optimise_for(alloc, graph, 12)?;
     assert_eq!(rt;
         end.outcome,
         outcome_spent(12, fault(13, 0, false), wire(2, false, 23))
@@ -100,7 +100,7 @@ fn its_place_among_the_tries(rt: HostRuntime) -> Result<(), Fail> {
 fn more_than_64_terms(rt: HostRuntime) -> Result<(), Fail> {
     let alloc = rt.alloc();
     let graph = wide(alloc, 65, Form::Ands)?;
-    let end = optimised(alloc, graph, 69)?;
+    let end = optimise_for(alloc, graph, 69)?;
     assert_eq!(rt;
         end.outcome,
         outcome_spent(69, fault(134, 0, false), wire(2, false, 134))

@@ -44,7 +44,7 @@ fn grow_net(
 }
 
 // The same by extending them in place, where taking that back gives the facts before.
-fn extended(
+fn extend_in_place(
     alloc: Global,
     engine: &mut Engine,
     question: &Question<'_>,
@@ -91,7 +91,7 @@ fn grows_and_takes_back(rt: HostRuntime) -> Result<(), Fail> {
         return Err("a clash".into());
     };
     let one = grow_net(&mut engine, &question, &facts)?;
-    let other = extended(rt.alloc(), &mut engine, &question, &mut facts)?;
+    let other = extend_in_place(rt.alloc(), &mut engine, &question, &mut facts)?;
     assert_eq!(rt; (one, other), (Some(true), Some(true)));
     Ok(())
 }

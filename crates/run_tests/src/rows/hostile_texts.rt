@@ -1,5 +1,5 @@
 // Texts of strangers: every beginning of a journal, and long texts of one shape.
-use super::running::{refuses, repeated};
+use super::running::{refuses, repeat_part};
 use super::texts::{FOUR_GATES, WIRE_JOURNAL, WITH_A_WIRE};
 use std::test::Fail;
 
@@ -23,8 +23,8 @@ fn beginnings_of_a_journal(rt: HostRuntime) -> Result<(), Fail> {
 // As long as a text may be.
 #[test]
 fn many_joins(rt: HostRuntime) -> Result<(), Fail> {
-    let joins = repeated(rt.alloc(), "\\\n", 128)?;
-    let text = repeated(rt.alloc(), &joins, 65_536)?;
+    let joins = repeat_part(rt.alloc(), "\\\n", 128)?;
+    let text = repeat_part(rt.alloc(), &joins, 65_536)?;
     let put = "text 8388608:1 OpenJoin\n";
     assert!(rt;
         refuses(
@@ -42,8 +42,8 @@ fn many_joins(rt: HostRuntime) -> Result<(), Fail> {
 #[test]
 fn many_items(rt: HostRuntime) -> Result<(), Fail> {
     let alloc = rt.alloc();
-    let items = repeated(alloc, " /2,1", 1_000)?;
-    let items = repeated(alloc, &items, 1_000)?;
+    let items = repeat_part(alloc, " /2,1", 1_000)?;
+    let items = repeat_part(alloc, &items, 1_000)?;
     let journal = format!(in alloc; "rambo 1 256\nfix 6 0 1{items}\nend\n")?;
     let put = "journal record 1 BadSplit item 2\n";
     assert!(rt;

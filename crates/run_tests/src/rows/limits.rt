@@ -1,5 +1,5 @@
 // Quantities at their limits, and one over them.
-use super::running::{ends, hold, refuses, repeated, shelf};
+use super::running::{ends, hold, refuses, repeat_part, shelf};
 use super::texts::NO_GATES_SUMMARY;
 use std::alloc::Global;
 use std::test::Fail;
@@ -15,7 +15,12 @@ fn numbered_parts(alloc: Global, before: &str, after: &str, count: u32) -> Resul
 }
 
 // Whether neither command takes the text, and both put this and change no file.
-fn limited<R: Threads + Sync>(rt: &R, alloc: Global, input: &str, put: &str) -> Result<bool, Fail> {
+fn is_over_limit<R: Threads + Sync>(
+    rt: &R,
+    alloc: Global,
+    input: &str,
+    put: &str,
+) -> Result<bool, Fail> {
     let texts = [input, "old", "-"];
     Ok(
         refuses(rt, alloc, "opt in out journal", texts, 5, put)?
@@ -39,11 +44,11 @@ fn run_with_limits<R: Threads + Sync>(
 #[test]
 fn longest_names(rt: HostRuntime) -> Result<(), Fail> {
     let alloc = rt.alloc();
-    let name = repeated(alloc, "n", 1_024)?;
+    let name = repeat_part(alloc, "n", 1_024)?;
     let text = format!(in alloc; ".model m\n.inputs {name}\n.outputs {name}\n.end\n")?;
     assert!(rt; run_with_limits(&rt, alloc, &text, &text)?);
     let text = format!(in alloc; ".model m\n.inputs {name}n\n.outputs {name}\n.end\n")?;
-    assert!(rt; limited(&rt, alloc, &text, "limit name 1025\n")?);
+    assert!(rt; is_over_limit(&rt, alloc, &text, "limit name 1025\n")?);
     Ok(())
 }
 
@@ -54,7 +59,7 @@ fn most_sources(rt: HostRuntime) -> Result<(), Fail> {
     let text = format!(in alloc; ".model m\n.inputs{names}\n.outputs i0\n.end\n")?;
     assert!(rt; run_with_limits(&rt, alloc, &text, &text)?);
     let text = format!(in alloc; ".model m\n.inputs{names} more\n.outputs i0\n.end\n")?;
-    assert!(rt; limited(&rt, alloc, &text, "limit sources 1025\n")?);
+    assert!(rt; is_over_limit(&rt, alloc, &text, "limit sources 1025\n")?);
     Ok(())
 }
 
@@ -66,7 +71,7 @@ fn most_observed_points(rt: HostRuntime) -> Result<(), Fail> {
     let text = format!(in alloc; ".model m\n.inputs\n.outputs{names}\n{covers}.end\n")?;
     assert!(rt; run_with_limits(&rt, alloc, &text, &text)?);
     let text = format!(in alloc; ".model m\n.inputs\n.outputs{names} more\n{covers}.end\n")?;
-    assert!(rt; limited(&rt, alloc, &text, "limit observed 4097\n")?);
+    assert!(rt; is_over_limit(&rt, alloc, &text, "limit observed 4097\n")?);
     Ok(())
 }
 
@@ -85,26 +90,26 @@ fn one_name_more(rt: HostRuntime) -> Result<(), Fail> {
     let alloc = rt.alloc();
     let covers = numbered_parts(alloc, ".names k", "\n", 131_071)?;
     let text = format!(in alloc; ".model m\n.inputs a\n.outputs a\n{covers}.names more\n.end\n")?;
-    assert!(rt; limited(&rt, alloc, &text, "limit signals 131073\n")?);
+    assert!(rt; is_over_limit(&rt, alloc, &text, "limit signals 131073\n")?);
     Ok(())
 }
 
 #[test]
 fn most_inputs_of_a_cover(rt: HostRuntime) -> Result<(), Fail> {
     let alloc = rt.alloc();
-    let reads = repeated(alloc, " a", 65_536)?;
+    let reads = repeat_part(alloc, " a", 65_536)?;
     let text = format!(in alloc; ".model m\n.inputs a\n.outputs z\n.names{reads} z\n.end\n")?;
     let left = ".model m\n.inputs a\n.outputs z\n.names z\n.end\n";
     assert!(rt; run_with_limits(&rt, alloc, &text, left)?);
     let text = format!(in alloc; ".model m\n.inputs a\n.outputs z\n.names{reads} a z\n.end\n")?;
-    assert!(rt; limited(&rt, alloc, &text, "limit inputs 65537\n")?);
+    assert!(rt; is_over_limit(&rt, alloc, &text, "limit inputs 65537\n")?);
     Ok(())
 }
 
 // A cover over so many readings of one input, with a row of ones.
 fn wide(alloc: Global, count: u32, output: &str) -> Result<String, Fail> {
-    let reads = repeated(alloc, " a", count)?;
-    let ones = repeated(alloc, "1", count)?;
+    let reads = repeat_part(alloc, " a", count)?;
+    let ones = repeat_part(alloc, "1", count)?;
     Ok(format!(in alloc; ".names{reads} {output}\n{ones} 1\n")?)
 }
 
@@ -120,7 +125,7 @@ fn more_wires(rt: HostRuntime) -> Result<(), Fail> {
         let first = wide(alloc, first, "y")?;
         let second = wide(alloc, second, "z")?;
         let text = format!(in alloc; ".model m\n.inputs a\n.outputs y z\n{first}{second}.end\n")?;
-        assert!(rt; limited(&rt, alloc, &text, put)?);
+        assert!(rt; is_over_limit(&rt, alloc, &text, put)?);
     }
     Ok(())
 }
@@ -128,8 +133,8 @@ fn more_wires(rt: HostRuntime) -> Result<(), Fail> {
 #[test]
 fn longest_texts(rt: HostRuntime) -> Result<(), Fail> {
     let alloc = rt.alloc();
-    let line = repeated(alloc, "#", 4_096)?;
-    let mut text = repeated(alloc, &line, 4_096)?;
+    let line = repeat_part(alloc, "#", 4_096)?;
+    let mut text = repeat_part(alloc, &line, 4_096)?;
     assert!(rt;
         refuses(
             &rt,
@@ -141,6 +146,6 @@ fn longest_texts(rt: HostRuntime) -> Result<(), Fail> {
         )?
     );
     text.push('#')?;
-    assert!(rt; limited(&rt, alloc, &text, "limit text 16777217\n")?);
+    assert!(rt; is_over_limit(&rt, alloc, &text, "limit text 16777217\n")?);
     Ok(())
 }

@@ -79,7 +79,7 @@ pub(crate) fn journal_of(shelf: &MemoryShelf) -> &str {
 }
 
 // A part, so many times.
-pub(crate) fn repeated(alloc: Global, part: &str, count: u32) -> Result<String, Fail> {
+pub(crate) fn repeat_part(alloc: Global, part: &str, count: u32) -> Result<String, Fail> {
     let mut text = String::new(alloc);
     for _ in 0..count {
         text.push_str(part)?;

@@ -1,5 +1,5 @@
 // How the netlist that is left is written: one cover a gate, names that are free, copies and constants.
-use super::running::{hold, journal_of, repeated, run_to_end, shelf};
+use super::running::{hold, journal_of, repeat_part, run_to_end, shelf};
 use std::alloc::Global;
 use std::test::Fail;
 use std::thread::Threads;
@@ -54,8 +54,8 @@ fn wide_or(alloc: Global, count: u32) -> Result<(String, String), Fail> {
     let mut head = String::new(alloc);
     let mut rows = String::new(alloc);
     for number in 0..count {
-        let before = repeated(alloc, "-", number)?;
-        let after = repeated(alloc, "-", count - 1 - number)?;
+        let before = repeat_part(alloc, "-", number)?;
+        let after = repeat_part(alloc, "-", count - 1 - number)?;
         head.push_str(&format!(in alloc; " i{number}")?)?;
         rows.push_str(&format!(in alloc; "{before}1{after} 1\n")?)?;
     }
@@ -70,7 +70,7 @@ fn an_or_of_more_than_64_inputs_has_one_row(rt: HostRuntime) -> Result<(), Fail>
     let text = format!(in alloc; "{head}{rows}.end\n")?;
     assert!(rt; writes(&rt, alloc, &text, &text)?);
     let (head, rows) = wide_or(alloc, 65)?;
-    let zeros = repeated(alloc, "0", 65)?;
+    let zeros = repeat_part(alloc, "0", 65)?;
     let text = format!(in alloc; "{head}{rows}.end\n")?;
     let written = format!(in alloc; "{head}{zeros} 0\n.end\n")?;
     assert!(rt; writes(&rt, alloc, &text, &written)?);
