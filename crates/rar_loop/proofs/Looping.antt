@@ -68,16 +68,18 @@ clean_then p (Dead gate ∷ xs) ys a b = clean_then false xs ys a b
 pub improved_first : (before : Circuit) (start : Option Fault) (depth : ℕ) (graph : Circuit) (records : List Record) → HasBegun before depth graph records
     → HasImproved (net_of before) start depth (net_of graph) records 0 × (start ≡ turn_at start (net_of before) (steps_of records))
 improved_first before start depth graph records b =
-    let none = removals_add_none (net_of before) (steps_of records) b.removals in
-    (record {
-      accepted = b.accepted;
-      clean = removals_clean (steps_of records) b.removals;
-      fewer = b.fewer;
-      tidy = b.tidy;
-      swept = b.swept;
-      improves = subst (EachImproves start) (sym none.0) tt;
-      are_tries = subst (λ (adds : List Addition). ArePlaces start adds 0) (sym none.0) refl;
-    }, ap (turn_after start) (sym none.0))
+    let none = removals_add_none (net_of before) (steps_of records) b.removals in (
+      record {
+        accepted = b.accepted;
+        clean = removals_clean (steps_of records) b.removals;
+        fewer = b.fewer;
+        tidy = b.tidy;
+        swept = b.swept;
+        improves = subst (EachImproves start) (sym none.0) tt;
+        are_tries = subst (λ (adds : List Addition). ArePlaces start adds 0) (sym none.0) refl;
+      },
+      ap (turn_after start) (sym none.0),
+    )
 
 pub improved_more : (net mid after : Net) (start : Option Fault) (depth : ℕ) (records more : List Record) (tries : ℕ) (pair : Pair) (pairs : List Pair) → HasImproved net start depth mid records tries
     → ArePairsBefore mid (turn_at start net (steps_of records)) pair pairs → NoneGains mid pairs → IsGained mid pair depth more after
@@ -87,16 +89,18 @@ improved_more net mid after start depth records more tries pair pairs h before n
     let adds : additions net (steps_of (records ++ more)) ≡ additions net (steps_of records) ++ a ∷ [] = block_then net mid after start records more a h.accepted h.clean h.improves g.addition refl in
     let at : Option Fault = turn_at start net (steps_of records) in
     let one : EachImproves at (a ∷ []) = (record { fault = pair.fault; target = refl; pairs = pairs; before = before; none = none; cost = g.cost; fewer = g.fewer }, tt) in
-    let place : ArePlaces at (a ∷ []) (suc (length pairs)) = (suc (length pairs), ((pair.fault, (refl, (pairs, (before, refl)))), (0, (refl, omega arith)))) in
-    (record {
-      accepted = accepted_then net mid after records more h.accepted g.accepted;
-      clean = subst (IsClean false) (sym (steps_then records more)) (clean_then false (steps_of records) (steps_of more) h.clean g.clean);
-      fewer = omega (arith, h.fewer, g.fewer);
-      tidy = g.tidy;
-      swept = g.swept;
-      improves = subst (EachImproves start) (sym adds) (improve_then start (additions net (steps_of records)) (a ∷ []) h.improves one);
-      are_tries = subst (λ (xs : List Addition). ArePlaces start xs (tries + suc (length pairs))) (sym adds) (places_then start (additions net (steps_of records)) (a ∷ []) tries (suc (length pairs)) h.are_tries place);
-    }, sym (ap (turn_after start) adds ∙ turn_then start (additions net (steps_of records)) (a ∷ [])))
+    let place : ArePlaces at (a ∷ []) (suc (length pairs)) = (suc (length pairs), ((pair.fault, (refl, (pairs, (before, refl)))), (0, (refl, omega arith)))) in (
+      record {
+        accepted = accepted_then net mid after records more h.accepted g.accepted;
+        clean = subst (IsClean false) (sym (steps_then records more)) (clean_then false (steps_of records) (steps_of more) h.clean g.clean);
+        fewer = omega (arith, h.fewer, g.fewer);
+        tidy = g.tidy;
+        swept = g.swept;
+        improves = subst (EachImproves start) (sym adds) (improve_then start (additions net (steps_of records)) (a ∷ []) h.improves one);
+        are_tries = subst (λ (xs : List Addition). ArePlaces start xs (tries + suc (length pairs))) (sym adds) (places_then start (additions net (steps_of records)) (a ∷ []) tries (suc (length pairs)) h.are_tries place);
+      },
+      sym (ap (turn_after start) adds ∙ turn_then start (additions net (steps_of records)) (a ∷ [])),
+    )
 
 pub room_first : (t : Tried) (net : Net) → net_of t.graph ≡ net → WorkIsBounded → IsWellFormed net → t.room.steps ≡ 2 * wire_count net + 2 * (2 + source_count net + gate_count net) + 16 → work (net_of t.graph) ≤ t.room.steps
 room_first t net e law well steps =

@@ -208,23 +208,25 @@ run_begins law whole net mid after first records depth limit outcome well to rem
     let b : HasBegunWith net mid after None first records e.counted = begun_with net mid after None first records e.counted to removals i.accepted i.clean e.are_tries in
     let steps : List Step = steps_of (first ++ records) in
     let vain : AreInVain (net_after net steps) (turn_at None net steps) e.last =
-    subst (λ (n : Net). AreInVain n (turn_at None net steps) e.last) (sym b.at) (subst (λ (t : Option Fault). AreInVain after t e.last) (sym b.turn) e.in_vain) in
-    (record {
-      last = e.last;
-      in_vain = length e.last;
-      rounds = first_round steps e.last vain;
-      counted = e.counted;
-      are_tries = b.tries;
-      sum = e.sum;
-      within = e.within;
-      settled_is_all = λ is. subst (λ (n : Net). ArePairsInTurn n (turn_at None net steps) e.last) (sym b.at) (subst (λ (t : Option Fault). ArePairsInTurn after t e.last) (sym b.turn) (e.settled_is_all is));
-      all_is_settled = λ all. e.all_is_settled (subst (λ (t : Option Fault). ArePairsInTurn after t e.last) b.turn (subst (λ (n : Net). ArePairsInTurn n (turn_at None net steps) e.last) b.at all));
-      settled_is_whole = λ is. subst NoPairGains (sym b.at) (none_gains whole mid after None (steps_of records) limit outcome i.ends is);
-      spent_is_limit = e.spent_is_limit;
-      paired = places_paired None (additions net steps) e.counted b.tries;
-      swept = subst (λ (n : Net). IsSwept n depth) (sym b.at) i.swept;
-      clean = b.clean;
-    }, b.turn)
+    subst (λ (n : Net). AreInVain n (turn_at None net steps) e.last) (sym b.at) (subst (λ (t : Option Fault). AreInVain after t e.last) (sym b.turn) e.in_vain) in (
+      record {
+        last = e.last;
+        in_vain = length e.last;
+        rounds = first_round steps e.last vain;
+        counted = e.counted;
+        are_tries = b.tries;
+        sum = e.sum;
+        within = e.within;
+        settled_is_all = λ is. subst (λ (n : Net). ArePairsInTurn n (turn_at None net steps) e.last) (sym b.at) (subst (λ (t : Option Fault). ArePairsInTurn after t e.last) (sym b.turn) (e.settled_is_all is));
+        all_is_settled = λ all. e.all_is_settled (subst (λ (t : Option Fault). ArePairsInTurn after t e.last) b.turn (subst (λ (n : Net). ArePairsInTurn n (turn_at None net steps) e.last) b.at all));
+        settled_is_whole = λ is. subst NoPairGains (sym b.at) (none_gains whole mid after None (steps_of records) limit outcome i.ends is);
+        spent_is_limit = e.spent_is_limit;
+        paired = places_paired None (additions net steps) e.counted b.tries;
+        swept = subst (λ (n : Net). IsSwept n depth) (sym b.at) i.swept;
+        clean = b.clean;
+      },
+      b.turn,
+    )
 
 pub run_goes_on : PairsAreOne → TurnsAreWhole → RunGoesOn
 run_goes_on law whole net mid closed after records fixes more depth limit tries settled outcome well run to_mid to_closed removals some i =
@@ -248,20 +250,22 @@ run_goes_on law whole net mid closed after records fixes more depth limit tries 
     let fixed : HasFix fm = subst HasFix (sym (steps_then fixes more)) (fix_first f m (has_fix none_made f some)) in
     let vain : AreInVain (net_after net all) (turn_at None net all) e.last =
     subst (λ (n : Net). AreInVain n (turn_at None net all) e.last) (sym at) (subst (λ (t : Option Fault). AreInVain after t e.last) (sym turn) e.in_vain) in
-    let rounds : HaveRounds net (s ++ fm) e.last (run.in_vain + length e.last) = further run.rounds fm fixed e.last (subst (λ (ss : List Step). AreInVain (net_after net ss) (turn_at None net ss) e.last) are vain) in
-    (record {
-      last = e.last;
-      in_vain = run.in_vain + length e.last;
-      rounds = subst (λ (xs : List Step). HaveRounds net xs e.last (run.in_vain + length e.last)) (sym are) rounds;
-      counted = run.counted + e.counted;
-      are_tries = subst (λ (xs : List Step). ArePlaces None (additions net xs) (run.counted + e.counted)) (sym are) both;
-      sum = omega (arith, run.sum, e.sum);
-      within = omega (arith, run.within, e.within);
-      settled_is_all = λ is. subst (λ (n : Net). ArePairsInTurn n (turn_at None net all) e.last) (sym at) (subst (λ (t : Option Fault). ArePairsInTurn after t e.last) (sym turn) (e.settled_is_all is));
-      all_is_settled = λ every. e.all_is_settled (subst (λ (t : Option Fault). ArePairsInTurn after t e.last) turn (subst (λ (n : Net). ArePairsInTurn n (turn_at None net all) e.last) at every));
-      settled_is_whole = λ is. subst NoPairGains (sym at) (none_gains whole closed after start m (limit - tries) outcome i.ends is);
-      spent_is_limit = λ is. omega (arith, run.within, e.spent_is_limit is);
-      paired = subst (λ (xs : List Step). ArePaired None (additions net xs)) (sym are) (places_paired None (additions net (s ++ fm)) (run.counted + e.counted) both);
-      swept = subst (λ (n : Net). IsSwept n depth) (sym at) i.swept;
-      clean = subst (IsClean false) (sym are) (clean_then false s fm run.clean b.clean);
-    }, turn)
+    let rounds : HaveRounds net (s ++ fm) e.last (run.in_vain + length e.last) = further run.rounds fm fixed e.last (subst (λ (ss : List Step). AreInVain (net_after net ss) (turn_at None net ss) e.last) are vain) in (
+      record {
+        last = e.last;
+        in_vain = run.in_vain + length e.last;
+        rounds = subst (λ (xs : List Step). HaveRounds net xs e.last (run.in_vain + length e.last)) (sym are) rounds;
+        counted = run.counted + e.counted;
+        are_tries = subst (λ (xs : List Step). ArePlaces None (additions net xs) (run.counted + e.counted)) (sym are) both;
+        sum = omega (arith, run.sum, e.sum);
+        within = omega (arith, run.within, e.within);
+        settled_is_all = λ is. subst (λ (n : Net). ArePairsInTurn n (turn_at None net all) e.last) (sym at) (subst (λ (t : Option Fault). ArePairsInTurn after t e.last) (sym turn) (e.settled_is_all is));
+        all_is_settled = λ every. e.all_is_settled (subst (λ (t : Option Fault). ArePairsInTurn after t e.last) turn (subst (λ (n : Net). ArePairsInTurn n (turn_at None net all) e.last) at every));
+        settled_is_whole = λ is. subst NoPairGains (sym at) (none_gains whole closed after start m (limit - tries) outcome i.ends is);
+        spent_is_limit = λ is. omega (arith, run.within, e.spent_is_limit is);
+        paired = subst (λ (xs : List Step). ArePaired None (additions net xs)) (sym are) (places_paired None (additions net (s ++ fm)) (run.counted + e.counted) both);
+        swept = subst (λ (n : Net). IsSwept n depth) (sym at) i.swept;
+        clean = subst (IsClean false) (sym are) (clean_then false s fm run.clean b.clean);
+      },
+      turn,
+    )

@@ -90,7 +90,9 @@ pub(crate) fn drawn_words(alloc: Global, count: usize, block: usize) -> Result<V
         return counted_words(alloc, count, block);
     }
     let mut words = vec![in alloc; 0u64; count]?;
-    let mut state = (block as u64).wrapping_mul(0xd134_2543_de82_ef95).wrapping_add(1);
+    let mut state = (block as u64)
+        .wrapping_mul(0xd134_2543_de82_ef95)
+        .wrapping_add(1);
     for word in words.iter_mut() {
         *word = draw_word(&mut state);
     }

@@ -137,6 +137,8 @@ pub fn optimise<S: Shelf>(
     accepted_runs_keep();
     texts_append();
     let (mut space, records) = open_workspace(alloc, graph, settings.depth, found)?;
-    let (outcome, made) = improve_swept(alloc, &mut space, &records, settings, shelf, journal, start)?;
+    let (outcome, made) = improve_swept(
+        alloc, &mut space, &records, settings, shelf, journal, start,
+    )?;
     Ok((into_graph(space), outcome, made))
 }

@@ -124,7 +124,10 @@ fn hint_place(fault: &Fault, count: usize) -> usize {
     if count == 0 {
         return 0;
     }
-    let pin = fault.position.wrapping_mul(2).wrapping_add(u32::from(fault.value));
+    let pin = fault
+        .position
+        .wrapping_mul(2)
+        .wrapping_add(u32::from(fault.value));
     let mixed = fault.gate.0.wrapping_mul(0x9e37_79b1).wrapping_add(pin);
     mixed as usize % count
 }

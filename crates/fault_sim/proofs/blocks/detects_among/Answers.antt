@@ -1,8 +1,6 @@
 use Rattle.std.proofs.Common.{Some, arith, length, ◌<◌}
 use Rattle.gate_graph.specs.Circuit.{net_of}
 use Rattle.fault_sim.proofs.Blocking.{block_read, lane_in}
-
-
 use Rattle.fault_sim.proofs.blocks.detects_among.Goals as goal
 
 pub returns-clause-detects : goal.returns-clause-detects

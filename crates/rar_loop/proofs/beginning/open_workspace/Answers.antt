@@ -1,4 +1,4 @@
-use Rattle.std.proofs.Common.{◌∙◌, sym, subst, arith}
+use Rattle.std.proofs.Common.{sym, subst, arith}
 use Rattle.gate_graph.specs.Circuit.{net_of}
 use Rattle.wire_edit.specs.Order.{IsTidy}
 use Rattle.wire_edit.specs.Tried.{Tried}

@@ -2,7 +2,6 @@ use Rattle.std.proofs.Common.{Err, List, ap, arith, length, sym, subst, ◌≡�
 use Rattle.gate_graph.specs.Circuit.{net_of}
 use Rattle.journal_text.specs.declared.record.Record.{Record}
 use Rattle.journal_text.specs.Runs.{AreWritable, HasAppended, HasAppendedPart, made_by, none_made, records_text, steps_of}
-use Rattle.rm_base.specs.declared.settings.Made.{Made}
 use Rattle.rar_loop.proofs.Looping.{err_of, if_err}
 use Rattle.rar_loop.proofs.Streaming.{removed_few, stopped_none, stopped_first}
 use Rattle.rar_loop.proofs.removing.remove_redundant.Goals as goal
