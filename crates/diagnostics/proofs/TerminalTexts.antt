@@ -48,6 +48,7 @@ of_byte byte = at (is_printable byte) refl
   where
     code : List ℕ
     code = 92 ∷ 120 ∷ hex_digit (byte / 16 % 16) ∷ hex_digit (byte % 16) ∷ []
+
     at : (t : Bool) → is_printable byte ≡ t → IsTerminalText (escape byte)
     at true e = ap (λ (t : Bool). stand_after Characters (if t then byte ∷ [] else code)) e ∙ stays byte e
     at false e = ap (λ (t : Bool). stand_after Characters (if t then byte ∷ [] else code)) e ∙ code_stays (byte / 16 % 16) (byte % 16) (omega arith) (omega arith)
@@ -90,17 +91,17 @@ of_parts colours text parts before = together text (parts_text colours parts) be
 of_upper_line : (line : List ℕ) (column : ℕ) → IsTerminalText (upper_line line column)
 of_upper_line line column =
     let rest : IsTerminalText (escaped (from_column line column) ++ in_lines (10 ∷ [])) =
-        together (escaped (from_column line column)) (in_lines (10 ∷ [])) (of_escaped (from_column line column)) refl in
+    together (escaped (from_column line column)) (in_lines (10 ∷ [])) (of_escaped (from_column line column)) refl in
     let most : IsTerminalText (escaped (before_column line column) ++ (escaped (from_column line column) ++ in_lines (10 ∷ []))) =
-        together (escaped (before_column line column)) (escaped (from_column line column) ++ in_lines (10 ∷ [])) (of_escaped (before_column line column)) rest in
+    together (escaped (before_column line column)) (escaped (from_column line column) ++ in_lines (10 ∷ [])) (of_escaped (before_column line column)) rest in
     together (in_lines (codes "  ")) (escaped (before_column line column) ++ (escaped (from_column line column) ++ in_lines (10 ∷ []))) refl most
 
 of_lower_line : (colours : Bool) (width : ℕ) → IsTerminalText (lower_line colours width)
 of_lower_line colours width =
     let rest : IsTerminalText (coloured colours 50 (codes "^") ++ in_lines (10 ∷ [])) =
-        together (coloured colours 50 (codes "^")) (in_lines (10 ∷ [])) (of_coloured colours 50 (codes "^") refl) refl in
+    together (coloured colours 50 (codes "^")) (in_lines (10 ∷ [])) (of_coloured colours 50 (codes "^") refl) refl in
     let most : IsTerminalText (replicate width 32 ++ (coloured colours 50 (codes "^") ++ in_lines (10 ∷ []))) =
-        together (replicate width 32) (coloured colours 50 (codes "^") ++ in_lines (10 ∷ [])) (blanks width) rest in
+    together (replicate width 32) (coloured colours 50 (codes "^") ++ in_lines (10 ∷ [])) (blanks width) rest in
     together (in_lines (codes "  ")) (replicate width 32 ++ (coloured colours 50 (codes "^") ++ in_lines (10 ∷ []))) refl most
 
 pub of_excerpt : (colours : Bool) (text line : List ℕ) (column : ℕ) → IsTerminalText text → IsTerminalText (text ++ excerpt colours line column)

@@ -35,12 +35,7 @@ fn push_byte(out: &mut Vec<u8>, byte: u8) -> Result<(), NoMemory>
         out.push(byte)?;
         return Ok(());
     }
-    let code = [
-        b'\\',
-        b'x',
-        hex_digit(byte / 16 % 16),
-        hex_digit(byte % 16),
-    ];
+    let code = [b'\\', b'x', hex_digit(byte / 16 % 16), hex_digit(byte % 16)];
     out.extend_from_slice(&code)?;
     Ok(())
 }
