@@ -59,8 +59,8 @@ fn verb(operation: Operation) -> &'static str {
     }
 }
 
-// The host's words without the number of its error.
-fn host_words(text: &str) -> &str {
+/// The host's words without the number of its error.
+pub(crate) fn host_words(text: &str) -> &str {
     match text.split_once(" (os error") {
         Some((words, _)) => words,
         None => text,

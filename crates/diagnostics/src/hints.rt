@@ -21,6 +21,14 @@ const UNKNOWN: KindRule = KindRule {
     hint: "",
 };
 
+const WITHOUT_WORDS: KindRule = KindRule {
+    kind: "NoModel",
+    before: "the text is empty, or has comments alone",
+    quotes: false,
+    after: "",
+    hint: "put '.model NAME' first",
+};
+
 const KINDS: [KindRule; 17] = [
     KindRule {
         kind: "BadByte",
@@ -38,9 +46,9 @@ const KINDS: [KindRule; 17] = [
     },
     KindRule {
         kind: "NoModel",
-        before: "the text doesn't begin with .model",
-        quotes: false,
-        after: "",
+        before: "the first word is ",
+        quotes: true,
+        after: ", not .model",
         hint: "put '.model NAME' first",
     },
     KindRule {
@@ -175,8 +183,11 @@ const UNSUPPORTED: [(&str, &str); 11] = [
     (".start_kiss", "encode the state machine first"),
 ];
 
-/// The kind of fault of this name.
-pub(crate) fn kind_of(name: &str) -> KindRule {
+/// The kind of fault of this name, at this word.
+pub(crate) fn kind_of(name: &str, word: &[u8]) -> KindRule {
+    if name == "NoModel" && word.is_empty() {
+        return WITHOUT_WORDS;
+    }
     for rule in &KINDS {
         if rule.kind == name {
             return *rule;
@@ -194,7 +205,7 @@ pub(crate) fn word_hint(kind: &str, word: &[u8]) -> &'static str {
             }
         }
     }
-    kind_of(kind).hint
+    kind_of(kind, word).hint
 }
 
 /// Says what helps, if that is known.

@@ -2,7 +2,7 @@
 ghost use Rattle.std.specs.Prelude.{IfOk};
 ghost use Rattle.diagnostics.specs.Terminal.{IsTerminalText};
 
-use crate::failures::role_of;
+use crate::failures::{host_words, role_of};
 use crate::message::Message;
 use crate::parts::Part;
 use crate::reading::read_words;
@@ -57,7 +57,7 @@ pub fn warning<'a>(
         Part::Text(" '"),
         Part::Word(name.as_bytes()),
         Part::Text("': "),
-        Part::Word(reason.as_bytes()),
+        Part::Word(host_words(reason).as_bytes()),
         Part::Text("; the run will fail when it comes to write it\n"),
     ])?;
     Ok(message.into_bytes())

@@ -14,8 +14,8 @@ pub struct Progress {
     pub fixed: u64,
     pub decided: u64,
     pub journal_bytes: u64,
-    /// Pieces of work that the workers have begun.
-    pub pieces: u64,
+    /// Batches of faults that workers have begun to search, of up to 64 each.
+    pub batches: u64,
 }
 
 impl Progress {
@@ -40,10 +40,10 @@ fn say_stage(message: Message, progress: &Progress) -> Result<Message, NoMemory>
             Part::Number(progress.decided),
         ]);
     }
-    if progress.pieces > 0 {
+    if progress.batches > 0 {
         return message.say(&[
-            Part::Text("searching for tests, batch "),
-            Part::Number(progress.pieces),
+            Part::Text("searching for tests, batch of faults "),
+            Part::Number(progress.batches),
         ]);
     }
     if progress.journal_bytes > 0 {

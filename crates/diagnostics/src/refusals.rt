@@ -23,7 +23,11 @@ fn role(command: &Option<CommandRule>, at: usize) -> &'static str {
 }
 
 // The reason alone, of a word that is wrong by itself.
-fn say_word(message: Message, command: &'static str, refusal: Refusal<'_>) -> Result<Message, NoMemory> {
+fn say_word(
+    message: Message,
+    command: &'static str,
+    refusal: Refusal<'_>,
+) -> Result<Message, NoMemory> {
     match refusal {
         Refusal::NoCommand(word) => message.say(&[
             BEGIN,
@@ -38,7 +42,7 @@ fn say_word(message: Message, command: &'static str, refusal: Refusal<'_>) -> Re
             Part::Text(command),
             Part::Text(" has no option '"),
             Part::Word(word.as_bytes()),
-            Part::Text("'; for a file of that name write it after '--'\n"),
+            Part::Text("'\n"),
         ]),
         Refusal::NotASeed(word) => message.say(&[
             BEGIN,
@@ -163,7 +167,19 @@ pub(crate) fn say_refusal(message: Message, reading: &Reading<'_>) -> Result<Mes
     let message = say_option(message, refusal)?;
     let message = say_names(message, reading, refusal)?;
     match &reading.command {
-        Some(rule) => say_command(message, rule),
+        Some(rule) => say_command(message, rule, is_of_options(refusal)),
         None => say_usage(message),
     }
+}
+
+// Whether the options are to be listed.
+fn is_of_options(refusal: Refusal<'_>) -> bool {
+    matches!(
+        refusal,
+        Refusal::NoOption(_)
+            | Refusal::NoValue(_)
+            | Refusal::GivenTwice(_)
+            | Refusal::NotANumber { .. }
+            | Refusal::NotInRange { .. }
+    )
 }

@@ -30,7 +30,7 @@ fn say_place(message: Message, name: &str, place: Place) -> Result<Message, NoMe
 
 // What is wrong, with the word that stands there where that says more.
 fn say_kind(message: Message, word: &[u8], kind: &str) -> Result<Message, NoMemory> {
-    let rule = kind_of(kind);
+    let rule = kind_of(kind, word);
     let mut message = message.say(&[Part::Red("error: "), Part::Text(rule.before)])?;
     if rule.quotes {
         message = message.say(&[Part::Text("'"), Part::Word(word), Part::Text("'")])?;
@@ -104,9 +104,8 @@ fn say_format(
     };
     let message = say_place(message, fault.name, fault.place)?.say(&[
         Part::Red("error: "),
-        Part::Text("this is "),
         Part::Text(format.name),
-        Part::Text(", not BLIF ["),
+        Part::Text(" ["),
         Part::Word(fault.kind.as_bytes()),
         Part::Text("]\nhint: "),
         Part::Text(format.hint),

@@ -71,14 +71,18 @@ pub(crate) fn say_usage(mut message: Message) -> Result<Message, NoMemory> {
     message.say(&[Part::Text("rambo --help lists the options; man rambo has more\n")])
 }
 
-/// The usage of one command.
-pub(crate) fn say_command(message: Message, command: &CommandRule) -> Result<Message, NoMemory> {
+/// The usage of one command, with its options where these are to be listed.
+pub(crate) fn say_command(
+    message: Message,
+    command: &CommandRule,
+    lists_options: bool,
+) -> Result<Message, NoMemory> {
     let message = message.say(&[
         Part::Text("usage: rambo "),
         Part::Text(command.usage),
         Part::Text("\n"),
     ])?;
-    if command.has_options {
+    if command.has_options && lists_options {
         return say_options(message);
     }
     Ok(message)
