@@ -1,7 +1,7 @@
 -- What is escaped is a text for a terminal.
-use Rattle.std.proofs.Common.{◌≡◌, ◌∙◌, ◌++◌, ◌∷◌, ◌+◌, ◌/◌, ◌%◌, ◌<◌, [], ℕ, List, Bool, true, false, refl, ap, replicate, length, take, codes, ◌||◌, ◌&&◌, ◌==◌, nat_lt, zero, suc, if◌then◌else◌, arith}
-use Rattle.std.specs.List.{flat_map, fold}
-use Rattle.std.proofs.lemmas.Bool.{lt-ltb, ltb-true, le-ltb}
+use Rattle.std.proofs.Common.{◌≡◌, ◌∙◌, ◌++◌, ◌∷◌, ◌+◌, ◌/◌, ◌%◌, ◌<◌, [], ℕ, List, Bool, true, false, refl, ap, replicate, length, take, codes, ◌||◌, ◌==◌, nat_lt, zero, suc, if◌then◌else◌, arith}
+use Rattle.std.specs.List.{flat_map}
+use Rattle.std.proofs.lemmas.Bool.{lt-ltb, ltb-true}
 use Rattle.std.proofs.lemmas.List.Sums.{fold-append}
 use Rattle.diagnostics.specs.Terminal.{IsTerminalText, Stand, Characters, Escape, Other, behind, stand_after, is_printable}
 use Rattle.diagnostics.specs.Escaping.{escape, escape_in_text, escaped, hex_digit, in_lines, shown_word}
