@@ -147,9 +147,10 @@ fn first_round<R: Threads + Sync, G: Gate, S: Shelf>(
     texts_append();
     let (swept, made) = remove_redundant(alloc, graph, settings.depth, shelf, journal)?;
     let (closed, report) = close_faults(rt, alloc, swept, settings, gate, shelf, journal)?;
-    further_round(
+    let round = further_round(
         alloc, closed, &report, made, 0, None, settings, shelf, journal,
-    )
+    )?;
+    Ok(round)
 }
 
 /// Goes round by round until a closing pass fixes nothing.
