@@ -14,7 +14,6 @@ use Rattle.journal_text.specs.Runs.{AcceptedTo, AreRemovals, HasAppended, HasApp
 use Rattle.journal_text.specs.declared.record.Record.{Record}
 use Rattle.closing_pass.specs.Reports.{HasClosed, IsNoFuller, made_in}
 use Rattle.closing_pass.specs.declared.report.Report.{Report}
-use Rattle.candidate_wires.specs.declared.candidate.Outcome.{Outcome}
 use Rattle.rar_loop.specs.Ended.{IsImproved, turn_at}
 use Rattle.rar_loop.specs.Removed.{HasRemoved}
 use Rattle.rar_loop.specs.Sizes.{IsWithin}

@@ -108,9 +108,7 @@ fn further_round<S: Shelf>(
     };
     let found = report.found.as_slice();
     let mut start = start;
-    let (graph, outcome, more) = optimise(
-        alloc, graph, &left, shelf, journal, found, &mut start,
-    )?;
+    let (graph, outcome, more) = optimise(alloc, graph, &left, shelf, journal, found, &mut start)?;
     Ok(Round {
         graph,
         made: sum_of(made, report.fixed, report.local, more),
