@@ -61,14 +61,15 @@ fn bit_word(block: usize, bit: usize) -> u64 {
     if block & bit == 0 { 0 } else { u64::MAX }
 }
 
-/// How many blocks of 64 vectors are drawn for so many sources: all assignments of up to ten.
+/// How many blocks of 64 vectors there are for so many sources: a drawn one, and all assignments of up to ten, or else
+/// further drawn ones.
 pub(crate) fn block_count(sources: usize) -> usize {
     match sources {
-        0..=6 => 1,
-        7 => 2,
-        8 => 4,
-        9 => 8,
-        _ => 16,
+        0..=6 => 2,
+        7 => 3,
+        8 => 5,
+        9 => 9,
+        _ => 17,
     }
 }
 
@@ -82,12 +83,15 @@ fn counted_words(alloc: Global, count: usize, block: usize) -> Result<Vec<u64>, 
     Ok(words)
 }
 
-/// The words of a block for so many sources, the same each time.
+/// The words of a block for so many sources, the same each time. The first one is drawn in any case, as it serves alone
+/// before a wire is tried.
 pub(crate) fn drawn_words(alloc: Global, count: usize, block: usize) -> Result<Vec<u64>, NoMemory>
     ensures { IfOk result (λ v. length v.items ≡ count) }
 {
-    if count <= 10 {
-        return counted_words(alloc, count, block);
+    if block > 0 {
+        if count <= 10 {
+            return counted_words(alloc, count, block - 1);
+        }
     }
     let mut words = vec![in alloc; 0u64; count]?;
     let mut state = (block as u64)
