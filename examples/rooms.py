@@ -17,10 +17,11 @@ MEGABYTE = 1 << 20
 
 
 class Ended:
-    """How a run ended: its status (a negative one is a signal), what it printed, and what it cost in processor time and memory."""
+    """How a run ended: its status (a negative one is a signal), what it printed, what it said on standard error, and what it cost in
+    processor time and memory."""
 
-    def __init__(self, status, out, seconds, kilobytes):
-        self.status, self.out, self.seconds, self.kilobytes = status, out, seconds, kilobytes
+    def __init__(self, status, out, said, seconds, kilobytes):
+        self.status, self.out, self.said, self.seconds, self.kilobytes = status, out, said, seconds, kilobytes
 
     @property
     def line(self):
@@ -37,7 +38,8 @@ class Room:
         (folder / "kept").write_text("no run may touch this\n")
         os.chmod(folder, 0o777)
 
-    def start(self, *words, limits=(), closed=(), ignore=(), fds=(), stdin=subprocess.DEVNULL, stdout=subprocess.PIPE, **how):
+    def start(self, *words, limits=(), closed=(), ignore=(), fds=(), stdin=subprocess.DEVNULL, stdout=subprocess.PIPE,
+              stderr=subprocess.PIPE, **how):
         def prepare():
             for number in ignore:
                 signal.signal(number, signal.SIG_IGN)
@@ -46,19 +48,22 @@ class Room:
             for number in closed:
                 os.close(number)
 
-        return subprocess.Popen([program, *map(os.fspath, words)], cwd=self.folder, stdin=stdin, stdout=stdout, stderr=subprocess.DEVNULL,
+        return subprocess.Popen([program, *map(os.fspath, words)], cwd=self.folder, stdin=stdin, stdout=stdout, stderr=stderr,
                                 pass_fds=fds, preexec_fn=prepare, **how)
 
     def wait(self, running, seconds=600):
         watch = threading.Timer(seconds, running.kill)
         watch.start()
         out = running.stdout.read() if running.stdout else b""
+        said = running.stderr.read() if running.stderr else b""
         _, status, usage = os.wait4(running.pid, 0)
         watch.cancel()
         running.returncode = os.waitstatus_to_exitcode(status)
-        if running.stdout:
-            running.stdout.close()
-        return Ended(running.returncode, out, usage.ru_utime + usage.ru_stime, usage.ru_maxrss)
+        for stream in (running.stdout, running.stderr):
+            if stream:
+                stream.close()
+        same("bytes of standard error that aren't printable", b"", bytes(byte for byte in said if not 32 <= byte < 127 and byte != 10))
+        return Ended(running.returncode, out, said, usage.ru_utime + usage.ru_stime, usage.ru_maxrss)
 
     def run(self, *words, **how):
         return self.wait(self.start(*words, **how))

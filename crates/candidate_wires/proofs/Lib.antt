@@ -11,5 +11,6 @@ pub mod Once
 pub mod OneChain
 pub mod OneTarget
 pub mod OneList
+pub mod Turns
 pub mod OnePairs
 pub mod Public

@@ -2,3 +2,5 @@
 
 -- Kinds of nodes, and the least free number.
 pub use Rattle.candidate_wires.proofs.KindOf.{least_is}
+-- A turn has targets alone.
+pub use Rattle.candidate_wires.proofs.Turns.{of_turn}

@@ -18,4 +18,4 @@ pub use candidate::{Candidate, Outcome, Pair};
 pub use finder::Finder;
 pub use gate_graph::pin_count;
 pub use listing::candidates;
-pub use targeting::{control_of, targets};
+pub use targeting::{control_of, targets, turn};

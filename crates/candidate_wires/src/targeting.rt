@@ -1,8 +1,9 @@
 //! The targets of a net.
-ghost use Rattle.std.specs.Prelude.{◌≡◌, ◌<◌, ◌++◌, IfOk, OnOk, length, Option, Bool};
+ghost use Rattle.std.specs.Prelude.{◌≡◌, ◌<◌, ◌++◌, IfOk, OnOk, length, Option, Bool, not, filter, if◌then◌else◌};
 ghost use Rattle.gate_graph.specs.Circuit.{net_of};
 ghost use Rattle.wire_edit.specs.Tests.{control_of};
-ghost use Rattle.candidate_wires.specs.Pairs.{faults_from, targets_at, targets_of};
+ghost use Rattle.candidate_wires.specs.Pairs.{faults_from, is_before, targets_at, targets_of, turn_of};
+ghost use Rattle.rm_base.specs.declared.numbers.Fault.{Fault};
 
 use gate_graph::{Graph, pin_count};
 use rm_base::{Fault, NoMemory, NodeId};
@@ -54,4 +55,46 @@ pub fn targets(alloc: Global, graph: &Graph) -> Result<Vec<Fault>, NoMemory>
         push_at(graph, NodeId(number), &mut faults)?;
     }
     Ok(faults)
+}
+
+// Whether the fault comes before the other, by gate and position.
+fn is_before(fault: Fault, other: Fault) -> bool
+    ensures { result ≡ is_before other fault }
+{
+    if fault.gate.0 == other.gate.0 {
+        return fault.position < other.position;
+    }
+    fault.gate.0 < other.gate.0
+}
+
+// Adds the targets that come before the start, or those that don't.
+fn push_part(
+    all: &[Fault],
+    start: Fault,
+    early: bool,
+    turn: &mut Vec<Fault>,
+) -> Result<(), NoMemory>
+    ensures { OnOk result (turn.new.items ≡ turn.old.items ++ filter (λ (fault : Fault). if early then is_before start fault else not (is_before start fault)) all.now) }
+{
+    for fault in all {
+        if is_before(*fault, start) == early {
+            turn.push(*fault)?;
+        }
+    }
+    Ok(())
+}
+
+/// The targets of the net in the order of a turn that begins at a target: from there on, or where it is gone from the next
+/// one that is left, and then those before it. Without a start it begins with the first.
+pub fn turn(alloc: Global, graph: &Graph, start: Option<Fault>) -> Result<Vec<Fault>, NoMemory>
+    ensures { IfOk result (λ faults. faults.items ≡ turn_of (net_of graph.now) start) }
+{
+    let all = targets(alloc, graph)?;
+    let Some(first) = start else {
+        return Ok(all);
+    };
+    let mut turn = Vec::with_capacity(alloc, all.len())?;
+    push_part(all.as_slice(), first, false, &mut turn)?;
+    push_part(all.as_slice(), first, true, &mut turn)?;
+    Ok(turn)
 }

@@ -21,6 +21,10 @@ words_at blocks b = slice_index_or blocks b []
 abbrev pub vector_of : List (List ℕ) → ℕ → ℕ → Bool
 vector_of words n = assignment (words_at words (n / 64)) (n % 64)
 
+-- some vector of the block detects the fault
+abbrev pub DetectsInBlock : Net → Fault → List (List ℕ) → ℕ → Type 0
+DetectsInBlock net fault words b = (i : ℕ) × ((i < 64) × Detects net fault (assignment (words_at words b) i))
+
 -- the first vector that detects the fault, or none does
 abbrev pub IsFirstVector : Net → Fault → List (List ℕ) → Option ℕ → Type 0
 IsFirstVector net fault words None = (n : ℕ) → n < 64 * length words → Detects net fault (vector_of words n) → ⊥

@@ -1,12 +1,12 @@
 // Blocks of 64 vectors, which are kept for a net.
-ghost use Rattle.std.specs.Prelude.{◌≡◌, ◌<◌, ◌≤◌, ◌++◌, ◌∷◌, [], ℕ, IfOk, None, OnErr, OnOk, Some, length, map, slice_get};
+ghost use Rattle.std.specs.Prelude.{◌≡◌, ◌<◌, ◌≤◌, ◌++◌, ◌∷◌, [], ℕ, IfOk, IsTrue, None, OnErr, OnOk, Some, length, map, slice_get};
 ghost use Rattle.gate_net.specs.Net.{source_count};
 ghost use Rattle.gate_graph.specs.Circuit.{net_of};
 ghost use Rattle.fault_sim.specs.Ordered.{IsOrdered};
 ghost use Rattle.fault_sim.specs.Inner.Simulating.{IsWithin};
 ghost use Rattle.fault_sim.specs.Following.{CanAllFollow, IsGrown, WasGoodBlock};
 ghost use Rattle.fault_sim.specs.Inner.Following.{AreFollowed, AreGrown};
-ghost use Rattle.fault_sim.specs.BlockStates.{AreSimulated, IsFirstVector, IsSimulatedBlock};
+ghost use Rattle.fault_sim.specs.BlockStates.{AreSimulated, DetectsInBlock, IsFirstVector, IsSimulatedBlock};
 ghost use Rattle.fault_sim.specs.Inner.BlockStates.{ArePlaced, IsFirstLane, words_of};
 
 use crate::detecting::found_by;
@@ -73,6 +73,30 @@ fn first_in(
         spread,
     );
     first_bit(found, 0)
+}
+
+// Whether a vector of that block detects the fault; no for a number without a block.
+fn detects_among(
+    question: &Question<'_>,
+    order: &[NodeId],
+    places: &[usize],
+    blocks: &[Block],
+    spread: &mut Spread,
+    number: usize,
+) -> bool
+    requires order { IsOrdered (net_of question.now.graph.now) (map (λ n. n.0) order.now) }
+    requires placed { ArePlaced (map (λ n. n.0) order.now) places.now spread.old }
+    requires blocks { (b : ℕ) (block : Block) → slice_get blocks.now b ≡ Some block → IsSimulatedBlock (net_of question.now.graph.now) (map (λ n. n.0) order.now) (length places.now) block }
+    ensures detects { IsTrue result → DetectsInBlock (net_of question.now.graph.now) question.now.fault (words_of blocks.now) number }
+    ensures placed { ArePlaced (map (λ n. n.0) order.now) places.now spread.new }
+{
+    if number >= blocks.len() {
+        return false;
+    }
+    let Some(_lane) = first_in(question, order, places, &blocks[number], spread) else {
+        return false;
+    };
+    true
 }
 
 // The first vector of the blocks that detects the fault.
@@ -334,6 +358,22 @@ impl Blocks {
             changed,
         );
         Ok(())
+    }
+
+    /// Whether a vector of that block detects the fault; no for a number without a block.
+    pub fn block_detects(&mut self, question: &Question<'_>, number: usize) -> bool
+        requires simulated { AreSimulated self.old (net_of question.now.graph.now) }
+        ensures detects { IsTrue result → DetectsInBlock (net_of question.now.graph.now) question.now.fault self.old.words number }
+        ensures same { self.new ≡ self.old }
+    {
+        detects_among(
+            question,
+            self.order.as_slice(),
+            self.places.as_slice(),
+            self.blocks.as_slice(),
+            &mut self.spread,
+            number,
+        )
     }
 
     /// The first of all kept vectors that detects the fault: it looks no further than the block that has it.

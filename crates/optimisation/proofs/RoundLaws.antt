@@ -1,7 +1,8 @@
 -- One round after another.
 use Rattle.std.proofs.lemmas.List.{append-nil}
-use Rattle.std.proofs.Common.{◌≡◌, ◌≤◌, ◌<◌, ◌+◌, ℕ, suc, Bool, List, [], ◌∷◌, ◌++◌, Option, sym, ◌∙◌, ap, subst, arith}
+use Rattle.std.proofs.Common.{◌≡◌, ◌≤◌, ◌<◌, ◌+◌, ◌-◌, ℕ, suc, Bool, None, append_assoc, List, [], ◌∷◌, ◌++◌, Option, sym, ◌∙◌, ap, subst, arith}
 use Rattle.rm_base.specs.Files.{Files}
+use Rattle.rm_base.specs.declared.numbers.Fault.{Fault}
 use Rattle.rm_base.specs.declared.settings.Made.{Made}
 use Rattle.rm_base.specs.declared.settings.Settings.{Settings}
 use Rattle.gate_net.specs.Net.{Net, wire_count}
@@ -9,13 +10,13 @@ use Rattle.gate_graph.specs.Circuit.{Circuit, live_nodes, net_of, pins_taken}
 use Rattle.wire_edit.specs.declared.steps.Step.{Step}
 use Rattle.wire_edit.specs.declared.steps.Step.TheVariants.{Add, Fix, NewNot, Const, Same, NoPins, OnePin, Twice, Twin, Dead}
 use Rattle.journal_text.specs.Joining.{RunsJoin, TextsAppend}
-use Rattle.journal_text.specs.Runs.{AcceptedTo, HasAppended, HasAppendedPart, IsStopped, counted, made_by, none_made, records_text, steps_of}
+use Rattle.journal_text.specs.Runs.{AcceptedTo, AreRemovals, HasAppended, HasAppendedPart, IsStopped, counted, made_by, none_made, records_text, steps_of}
 use Rattle.journal_text.specs.declared.record.Record.{Record}
 use Rattle.closing_pass.specs.Reports.{HasClosed, IsNoFuller, made_in}
 use Rattle.closing_pass.specs.declared.report.Report.{Report}
 use Rattle.candidate_wires.specs.declared.candidate.Outcome.{Outcome}
-use Rattle.journal_text.specs.Accepted.{Keeps}
-use Rattle.rar_loop.specs.Ended.{AreFew, IsOptimised}
+use Rattle.rar_loop.specs.Ended.{IsImproved, turn_at}
+use Rattle.rar_loop.specs.Removed.{HasRemoved}
 use Rattle.rar_loop.specs.Sizes.{IsWithin}
 use Rattle.rar_loop.specs.Rounds.{IsRun, RunBegins, RunGoesOn, is_settled, tries_of}
 use Rattle.wire_edit.specs.Order.{IsTidy}
@@ -74,27 +75,56 @@ stopped_then join texts start mid records old now new name accepted written stop
   written = subst (λ (text : List ℕ). HasAppendedPart old new name text) (sym (join.text records stopped.records)) (texts.part old now new name (records_text records) (records_text stopped.records) written stopped.written);
 }
 
--- the first call is the first round
-pub first_run : (law : RunBegins) (start : Circuit) (settings : Settings) (round : Round) (more : Made) (outcome : Outcome) (old new : Option Files) (name : List ℕ)
+-- what goes without any addition, and the first call, are the first round
+pub first_run : (law : RunBegins) (join : RunsJoin) (texts : TextsAppend) (start swept closed : Circuit) (settings : Settings) (report : Report) (made : Made) (after : Round) (old one two new : Option Files) (name : List ℕ)
     → pins_taken start + live_nodes start ≤ 1048576 → wire_count (net_of start) ≤ 65536
-    → IsOptimised (net_of start) (net_of round.graph) settings.depth settings.tries outcome more old new name → Keeps (net_of start) (net_of round.graph) → IsWithin start round.graph → AreFew more
-    → round.tries ≡ tries_of outcome → round.settled ≡ is_settled outcome → round.made ≡ more
-    → HasRecorded (net_of start) settings round old new name
-first_run law start settings round more outcome old new name few wires o keeps within small tries settled made =
-    let run : IsRun (net_of start) (steps_of o.records) settings.depth settings.tries (tries_of outcome) (is_settled outcome) = law (net_of start) (net_of round.graph) o.records settings.depth settings.tries outcome keeps.form o.improved in
+    → HasRemoved (net_of start) (net_of swept) settings.depth made old one name → IsWithin start swept
+    → HasClosed (net_of swept) (net_of closed) report one two name → report.local ≤ 35184372088832 → IsNoFuller swept closed
+    → HasGoneOn settings closed (sum_of made (made_in report)) 0 None after two new name
+    → HasRecorded (net_of start) settings after old new name
+first_run law join texts start swept closed settings report made after old one two new name few wires r within c small fuller g =
+    let first : List Record = r.records ++ c.records in
+    let records : List Record = r.records ++ (c.records ++ g.optimised.records) in
+    let same : first ++ g.optimised.records ≡ records = append_assoc r.records c.records g.optimised.records in
+    let to : AcceptedTo (net_of start) first (net_of closed) = join.accepted (net_of start) (net_of swept) (net_of closed) r.records c.records r.accepted c.steps.accepted in
+    let removals : AreRemovals (steps_of first) = subst AreRemovals (sym (join.steps r.records c.records)) (join.removals (steps_of r.records) (steps_of c.records) r.removals c.steps.removals) in
+    let all_tries : settings.tries - 0 ≡ settings.tries = omega arith in
+    let improved : IsImproved (net_of closed) None settings.depth settings.tries g.optimised.records (net_of after.graph) g.outcome =
+    subst (λ (k : ℕ). IsImproved (net_of closed) None settings.depth k g.optimised.records (net_of after.graph) g.outcome) all_tries g.optimised.improved in
+    let run : IsRun (net_of start) (steps_of (first ++ g.optimised.records)) settings.depth settings.tries (tries_of g.outcome) (is_settled g.outcome)
+    × (turn_at None (net_of start) (steps_of (first ++ g.optimised.records)) ≡ turn_at None (net_of closed) (steps_of g.optimised.records)) =
+    law (net_of start) (net_of closed) (net_of after.graph) first g.optimised.records settings.depth settings.tries g.outcome g.keeps.form to removals improved in
+    let tries : tries_of g.outcome ≡ after.tries = let t = g.tries_are in omega (arith, t) in
+    let counts : after.made ≡ made_by none_made (steps_of records) =
+    g.made_are
+    ∙ (ap (λ (m : Made). sum_of (sum_of m (made_in report)) g.more) r.counted
+    ∙ (ap (λ (m : Made). sum_of (sum_of (made_by none_made (steps_of r.records)) m) g.more) c.steps.counted
+    ∙ (ap (λ (m : Made). sum_of (sum_of (made_by none_made (steps_of r.records)) (made_by none_made (steps_of c.records))) m) g.optimised.counted
+    ∙ sym (three_counted join r.records c.records g.optimised.records)))) in
+    let fixed_few : report.fixed ≤ 65536 = omega (arith, c.steps.fewer, r.fewer, wires) in
+    let less : wire_count (net_of after.graph) ≤ 65536 = omega (arith, g.optimised.improved.fewer, c.steps.fewer, r.fewer, wires) in
     record {
-      records = o.records;
-      written = o.written;
+      records = records;
+      written = subst (λ (text : List ℕ). HasAppended old new name text) (sym (join.text r.records (c.records ++ g.optimised.records) ∙ ap (λ (text : List ℕ). records_text r.records ++ text) (join.text c.records g.optimised.records)))
+          (texts.follows old one new name (records_text r.records) (records_text c.records ++ records_text g.optimised.records) r.written
+          (texts.follows one two new name (records_text c.records) (records_text g.optimised.records) c.written g.optimised.written));
       run = record {
-        accepted = o.improved.accepted;
-        run = subst (λ (b : Bool). IsRun (net_of start) (steps_of o.records) settings.depth settings.tries round.tries b) (sym settled)
-            (subst (λ (k : ℕ). IsRun (net_of start) (steps_of o.records) settings.depth settings.tries k (is_settled outcome)) (sym tries) run);
-        tidy = o.improved.tidy;
-        fewer = o.improved.fewer;
-        within = omega (arith, within.size, few);
-        counted = made ∙ o.counted;
-        bounded = subst (λ (m : Made). AreBounded (wire_count (net_of round.graph)) m) (sym made)
-            (record { adds = omega (arith, small.adds, o.improved.fewer, wires); fixes = omega (arith, small.fixes, o.improved.fewer, wires); local = omega (arith, small.local, o.improved.fewer, wires) });
+        accepted = join.accepted (net_of start) (net_of swept) (net_of after.graph) r.records (c.records ++ g.optimised.records) r.accepted
+            (join.accepted (net_of swept) (net_of closed) (net_of after.graph) c.records g.optimised.records c.steps.accepted g.optimised.improved.accepted);
+        run = subst (λ (rs : List Record). IsRun (net_of start) (steps_of rs) settings.depth settings.tries after.tries after.settled) same
+            (subst (λ (b : Bool). IsRun (net_of start) (steps_of (first ++ g.optimised.records)) settings.depth settings.tries after.tries b) (sym g.settled_is)
+            (subst (λ (k : ℕ). IsRun (net_of start) (steps_of (first ++ g.optimised.records)) settings.depth settings.tries k (is_settled g.outcome)) tries run.0));
+        turn_is = g.optimised.next_is ∙ sym run.1 ∙ ap (λ (rs : List Record). turn_at None (net_of start) (steps_of rs)) same;
+        tidy = g.optimised.improved.tidy;
+        fewer = omega (arith, g.optimised.improved.fewer, c.steps.fewer, r.fewer);
+        within = omega (arith, g.within.size, fuller.pins, fuller.nodes, within.size, few);
+        counted = counts;
+        bounded = subst (λ (m : Made). AreBounded (wire_count (net_of after.graph)) m) (sym g.made_are)
+            (record {
+              adds = omega (arith, g.few.adds, r.few, less);
+              fixes = omega (arith, g.few.fixes, r.few, less, fixed_few);
+              local = omega (arith, g.few.local, r.few, less, small);
+            });
       };
     }
 
@@ -102,7 +132,7 @@ first_run law start settings round more outcome old new name few wires o keeps w
 pub further_run : (law : RunGoesOn) (join : RunsJoin) (texts : TextsAppend) (start : Net) (settings : Settings) (before : Round) (closed : Circuit) (report : Report) (after : Round) (old one two new : Option Files) (name : List ℕ)
     → wire_count start ≤ 65536
     → HasRecorded start settings before old one name → HasClosed (net_of before.graph) (net_of closed) report one two name → 0 < report.fixed → report.local ≤ 35184372088832
-    → IsNoFuller before.graph closed → HasGoneOn settings closed (sum_of before.made (made_in report)) before.tries after two new name
+    → IsNoFuller before.graph closed → HasGoneOn settings closed (sum_of before.made (made_in report)) before.tries before.start after two new name
     → HasRecorded start settings after old new name
 further_run law join texts start settings before closed report after old one two new name few r c some small fuller g =
     let records : List Record = r.records ++ (c.records ++ g.optimised.records) in
@@ -110,9 +140,12 @@ further_run law join texts start settings before closed report after old one two
     join.accepted start (net_of before.graph) (net_of after.graph) r.records (c.records ++ g.optimised.records) r.run.accepted
     (join.accepted (net_of before.graph) (net_of closed) (net_of after.graph) c.records g.optimised.records c.steps.accepted g.optimised.improved.accepted) in
     let fixes : 0 < (made_by none_made (steps_of c.records)).fixes = subst (λ (m : Made). 0 < m.fixes) c.steps.counted some in
-    let run : IsRun start (steps_of records) settings.depth settings.tries (before.tries + tries_of g.outcome) (is_settled g.outcome) =
+    let turn : Option Fault = turn_at None start (steps_of r.records) in
+    let improved : IsImproved (net_of closed) turn settings.depth (settings.tries - before.tries) g.optimised.records (net_of after.graph) g.outcome =
+    subst (λ (t : Option Fault). IsImproved (net_of closed) t settings.depth (settings.tries - before.tries) g.optimised.records (net_of after.graph) g.outcome) r.run.turn_is g.optimised.improved in
+    let run : IsRun start (steps_of records) settings.depth settings.tries (before.tries + tries_of g.outcome) (is_settled g.outcome) × (turn_at None start (steps_of records) ≡ turn_at turn (net_of closed) (steps_of g.optimised.records)) =
     law start (net_of before.graph) (net_of closed) (net_of after.graph) r.records c.records g.optimised.records settings.depth settings.tries before.tries before.settled g.outcome g.keeps.form
-    r.run.run r.run.accepted c.steps.accepted c.steps.removals fixes g.optimised.improved in
+    r.run.run r.run.accepted c.steps.accepted c.steps.removals fixes improved in
     let counts : after.made ≡ made_by none_made (steps_of records) =
     g.made_are
     ∙ (ap (λ (m : Made). sum_of (sum_of m (made_in report)) g.more) r.run.counted
@@ -129,7 +162,8 @@ further_run law join texts start settings before closed report after old one two
       run = record {
         accepted = led;
         run = subst (λ (b : Bool). IsRun start (steps_of records) settings.depth settings.tries after.tries b) (sym g.settled_is)
-            (subst (λ (k : ℕ). IsRun start (steps_of records) settings.depth settings.tries k (is_settled g.outcome)) (sym g.tries_are) run);
+            (subst (λ (k : ℕ). IsRun start (steps_of records) settings.depth settings.tries k (is_settled g.outcome)) (sym g.tries_are) run.0);
+        turn_is = g.optimised.next_is ∙ ap (λ (t : Option Fault). turn_at t (net_of closed) (steps_of g.optimised.records)) r.run.turn_is ∙ sym run.1;
         tidy = g.optimised.improved.tidy;
         fewer = omega (arith, less, r.run.fewer);
         within = omega (arith, g.within.size, fuller.pins, fuller.nodes, r.run.within);
@@ -146,9 +180,9 @@ further_run law join texts start settings before closed report after old one two
 -- a closing pass that fixed nothing leaves the round as it was
 pub nothing_closed : (texts : TextsAppend) (start : Net) (settings : Settings) (before after : Round) (report : Report) (old one new : Option Files) (name : List ℕ)
     → HasRecorded start settings before old one name → HasClosed (net_of before.graph) (net_of after.graph) report one new name → report.fixed ≡ 0 → IsNoFuller before.graph after.graph
-    → after.made ≡ before.made → after.tries ≡ before.tries → after.settled ≡ before.settled
+    → after.made ≡ before.made → after.tries ≡ before.tries → after.settled ≡ before.settled → after.start ≡ before.start
     → HasRecorded start settings after old new name
-nothing_closed texts start settings before after report old one new name r c none fuller made tries settled =
+nothing_closed texts start settings before after report old one new name r c none fuller made tries settled turn =
     let empty : c.records ≡ [] = c.steps.none none in
     let same : net_of after.graph ≡ net_of before.graph = subst (λ (rs : List Record). AcceptedTo (net_of before.graph) rs (net_of after.graph)) empty c.steps.accepted in
     let more : HasAppended one new name [] = subst (λ (rs : List Record). HasAppended one new name (records_text rs)) empty c.written in
@@ -159,6 +193,7 @@ nothing_closed texts start settings before after report old one new name r c non
         accepted = subst (λ (net : Net). AcceptedTo start r.records net) (sym same) r.run.accepted;
         run = subst (λ (b : Bool). IsRun start (steps_of r.records) settings.depth settings.tries after.tries b) (sym settled)
             (subst (λ (k : ℕ). IsRun start (steps_of r.records) settings.depth settings.tries k before.settled) (sym tries) r.run.run);
+        turn_is = turn ∙ r.run.turn_is;
         tidy = subst IsTidy (sym same) r.run.tidy;
         fewer = subst (λ (net : Net). wire_count net ≤ wire_count start) (sym same) r.run.fewer;
         within = omega (arith, fuller.pins, fuller.nodes, r.run.within);

@@ -19,18 +19,20 @@ use candidate_wires::Outcome;
 use closing_pass::{Report, close_faults};
 use gate_graph::Graph;
 use journal_text::{Stop, runs_join, texts_append};
-use rar_loop::{optimise, run_begins, run_goes_on};
-use rm_base::{Gate, Made, Settings, Shelf};
+use rar_loop::{optimise, remove_redundant, run_begins, run_goes_on};
+use rm_base::{Fault, Gate, Made, Settings, Shelf};
 use std::alloc::Global;
 use std::thread::Threads;
 
-/// The graph after the addition loop of a round, the steps and the tries so far, and whether the loop tried all pairs in vain.
+/// The graph after the addition loop of a round, the steps and the tries so far, whether the loop tried all pairs in vain,
+/// and the target at which its turns begin.
 #[derive(Drop)]
 pub(crate) struct Round {
     pub(crate) graph: Graph,
     pub(crate) made: Made,
     pub(crate) tries: u32,
     pub(crate) settled: bool,
+    pub(crate) start: Option<Fault>,
 }
 
 /// The last round, whose closing pass fixed nothing.
@@ -72,11 +74,60 @@ fn sum_of(made: Made, fixed: u32, local: u64, more: Made) -> Made
     }
 }
 
-// The first round: the addition loop with all tries.
-fn first_round<S: Shelf>(
+// A round after a closing pass: the addition loop with the tries that are left.
+fn further_round<S: Shelf>(
+    alloc: Global,
+    graph: Graph,
+    report: &Report,
+    made: Made,
+    tries: u32,
+    start: Option<Fault>,
+    settings: &Settings,
+    shelf: &mut S,
+    journal: &str,
+) -> Result<Round, Stop>
+    requires few { pins_taken graph + live_nodes graph ≤ 1048576 }
+    requires settings { AreSettings settings.now }
+    requires tries { tries ≤ settings.now.tries }
+    requires adds { made.adds ≤ 4611826755915743232 }
+    requires fixes { made.fixes ≤ 4611826755915743232 }
+    requires local { (made.local ≤ 4611826755915743232) × (report.now.local ≤ 35184372088832) }
+    requires there { IsThere (S.files shelf.old) journal.now }
+    ensures went { IfOk result (λ r. HasGoneOn settings.now graph (sum_of made (made_in report.now)) tries start r (S.files shelf.old) (S.files shelf.new) journal.now) }
+    ensures within { IfOk result (λ r. r.tries ≤ settings.now.tries) }
+    ensures there { IsThere (S.files shelf.new) journal.now }
+    ensures stopped { OnErr result (IsStopped (net_of graph) (S.files shelf.old) (S.files shelf.new) journal.now) }
+    ensures failed { result ≡ Err stop.Failed → Rose (S.faults shelf.old) (S.faults shelf.new) }
+    ensures later { S.faults shelf.old ≤ S.faults shelf.new }
+{
+    let left = Settings {
+        depth: settings.depth,
+        budget: settings.budget,
+        tries: settings.tries - tries,
+        workers: settings.workers,
+    };
+    let found = report.found.as_slice();
+    let mut start = start;
+    let (graph, outcome, more) = optimise(
+        alloc, graph, &left, shelf, journal, found, &mut start,
+    )?;
+    Ok(Round {
+        graph,
+        made: sum_of(made, report.fixed, report.local, more),
+        tries: tries + tries_of(&outcome),
+        settled: is_settled(&outcome),
+        start,
+    })
+}
+
+// The first round: what is redundant without any addition goes, by a sweep and a closing pass, whose vectors serve the
+// addition loop; and then the loop with all tries.
+fn first_round<R: Threads + Sync, G: Gate, S: Shelf>(
+    rt: &R,
     alloc: Global,
     graph: Graph,
     settings: &Settings,
+    gate: &G,
     shelf: &mut S,
     journal: &str,
 ) -> Result<Round, Stop>
@@ -91,56 +142,14 @@ fn first_round<S: Shelf>(
     ensures failed { result ≡ Err stop.Failed → Rose (S.faults shelf.old) (S.faults shelf.new) }
     ensures later { S.faults shelf.old ≤ S.faults shelf.new }
 {
-    graph.well_formed();
     run_begins();
-    let (graph, outcome, made) = optimise(alloc, graph, settings, shelf, journal, &[])?;
-    Ok(Round {
-        graph,
-        made,
-        tries: tries_of(&outcome),
-        settled: is_settled(&outcome),
-    })
-}
-
-// A further round, after a closing pass that fixed some pins: the addition loop with the tries that are left.
-fn further_round<S: Shelf>(
-    alloc: Global,
-    graph: Graph,
-    report: &Report,
-    made: Made,
-    tries: u32,
-    settings: &Settings,
-    shelf: &mut S,
-    journal: &str,
-) -> Result<Round, Stop>
-    requires few { pins_taken graph + live_nodes graph ≤ 1048576 }
-    requires settings { AreSettings settings.now }
-    requires tries { tries ≤ settings.now.tries }
-    requires adds { made.adds ≤ 4611756387171565568 }
-    requires fixes { made.fixes ≤ 4611756387171565568 }
-    requires local { (made.local ≤ 4611756387171565568) × (report.now.local ≤ 35184372088832) }
-    requires there { IsThere (S.files shelf.old) journal.now }
-    ensures went { IfOk result (λ r. HasGoneOn settings.now graph (sum_of made (made_in report.now)) tries r (S.files shelf.old) (S.files shelf.new) journal.now) }
-    ensures within { IfOk result (λ r. r.tries ≤ settings.now.tries) }
-    ensures there { IsThere (S.files shelf.new) journal.now }
-    ensures stopped { OnErr result (IsStopped (net_of graph) (S.files shelf.old) (S.files shelf.new) journal.now) }
-    ensures failed { result ≡ Err stop.Failed → Rose (S.faults shelf.old) (S.faults shelf.new) }
-    ensures later { S.faults shelf.old ≤ S.faults shelf.new }
-{
-    let left = Settings {
-        depth: settings.depth,
-        budget: settings.budget,
-        tries: settings.tries - tries,
-        workers: settings.workers,
-    };
-    let found = report.found.as_slice();
-    let (graph, outcome, more) = optimise(alloc, graph, &left, shelf, journal, found)?;
-    Ok(Round {
-        graph,
-        made: sum_of(made, report.fixed, report.local, more),
-        tries: tries + tries_of(&outcome),
-        settled: is_settled(&outcome),
-    })
+    runs_join();
+    texts_append();
+    let (swept, made) = remove_redundant(alloc, graph, settings.depth, shelf, journal)?;
+    let (closed, report) = close_faults(rt, alloc, swept, settings, gate, shelf, journal)?;
+    further_round(
+        alloc, closed, &report, made, 0, None, settings, shelf, journal,
+    )
 }
 
 /// Goes round by round until a closing pass fixes nothing.
@@ -166,13 +175,14 @@ pub(crate) fn go_rounds<R: Threads + Sync, G: Gate, S: Shelf>(
     run_goes_on();
     runs_join();
     texts_append();
-    let mut round = first_round(alloc, graph, settings, shelf, journal)?;
+    let mut round = first_round(rt, alloc, graph, settings, gate, shelf, journal)?;
     loop {
         let Round {
             graph,
             made,
             tries,
             settled,
+            start,
         } = round;
         let (closed, report) = close_faults(rt, alloc, graph, settings, gate, shelf, journal)?;
         if report.fixed == 0 {
@@ -181,11 +191,12 @@ pub(crate) fn go_rounds<R: Threads + Sync, G: Gate, S: Shelf>(
                 made,
                 tries,
                 settled,
+                start,
             };
             return Ok(Rounds { last, report });
         }
         round = further_round(
-            alloc, closed, &report, made, tries, settings, shelf, journal,
+            alloc, closed, &report, made, tries, start, settings, shelf, journal,
         )?;
     }
 }

@@ -6,7 +6,7 @@ use Rattle.wire_edit.specs.declared.steps.Step.{Step}
 use Rattle.wire_edit.specs.declared.steps.Step.TheVariants.{Add, Fix, NewNot, Const, Same, NoPins, OnePin, Twice, Twin, Dead}
 use Rattle.wire_edit.specs.Steps.{stepped}
 use Rattle.candidate_wires.specs.Additions.{Addition, NewNode, additions_from, additions, first_fix, net_at_next, net_after}
-use Rattle.candidate_wires.specs.Tries.{ArePlaces, EachImproves}
+use Rattle.candidate_wires.specs.Tries.{ArePlaces, EachImproves, turn_after}
 use Rattle.journal_text.specs.declared.record.Record.{Record}
 use Rattle.journal_text.specs.declared.record.Record.TheVariants as record_of
 use Rattle.journal_text.specs.Runs.{AcceptedTo, steps_of}
@@ -23,9 +23,9 @@ abbrev pub AllFixed : List Addition → Type 0
 AllFixed [] = Unit {0}
 AllFixed (a ∷ adds) = ((fault : Fault) × (a.target ≡ Some fault)) × AllFixed adds
 
-pub improved_fixed : (adds : List Addition) → EachImproves adds → AllFixed adds
-improved_fixed [] e = tt
-improved_fixed (a ∷ adds) e = ((e.0.0, e.0.1.0), improved_fixed adds e.1)
+pub improved_fixed : (start : Option Fault) (adds : List Addition) → EachImproves start adds → AllFixed adds
+improved_fixed start [] e = tt
+improved_fixed start (a ∷ adds) e = ((e.0.fault, e.0.target), improved_fixed a.target adds e.1)
 
 pub fix_then : (xs ys : List Step) (fault : Fault) → first_fix xs ≡ Some fault → first_fix (xs ++ ys) ≡ first_fix xs
 fix_then [] ys fault e = cc
@@ -131,27 +131,32 @@ accepted_after net after (record_of.Hit fault vector ∷ records) a = absurd a
 accepted_after net after (record_of.Spent fault tree ∷ records) a = absurd a
 
 -- SUMS
-pub places_then : (xs ys : List Addition) (n m : ℕ) → ArePlaces xs n → ArePlaces ys m → ArePlaces (xs ++ ys) (n + m)
-places_then [] ys n m p q = let e : n + m ≡ m = omega (arith, p) in subst (ArePlaces ys) (sym e) q
-places_then (x ∷ xs) ys n m p q =
-    let rest : ArePlaces (xs ++ ys) (p.1.1.0 + m) = places_then xs ys p.1.1.0 m p.1.1.1.0 q in
+pub places_then : (start : Option Fault) (xs ys : List Addition) (n m : ℕ) → ArePlaces start xs n → ArePlaces (turn_after start xs) ys m → ArePlaces start (xs ++ ys) (n + m)
+places_then start [] ys n m p q = let e : n + m ≡ m = omega (arith, p) in subst (ArePlaces start ys) (sym e) q
+places_then start (x ∷ xs) ys n m p q =
+    let rest : ArePlaces x.target (xs ++ ys) (p.1.1.0 + m) = places_then x.target xs ys p.1.1.0 m p.1.1.1.0 q in
     let sum : n + m ≡ p.0 + (p.1.1.0 + m) = omega (arith, p.1.1.1.1) in
     (p.0, (p.1.0, (p.1.1.0 + m, (rest, sum))))
 
-pub improve_then : (xs ys : List Addition) → EachImproves xs → EachImproves ys → EachImproves (xs ++ ys)
-improve_then [] ys a b = b
-improve_then (x ∷ xs) ys a b = (a.0, improve_then xs ys a.1 b)
+pub improve_then : (start : Option Fault) (xs ys : List Addition) → EachImproves start xs → EachImproves (turn_after start xs) ys → EachImproves start (xs ++ ys)
+improve_then start [] ys a b = b
+improve_then start (x ∷ xs) ys a b = (a.0, improve_then x.target xs ys a.1 b)
+
+-- where turns begin after both
+pub turn_then : (start : Option Fault) (xs ys : List Addition) → turn_after start (xs ++ ys) ≡ turn_after (turn_after start xs) ys
+turn_then start [] ys = refl
+turn_then start (x ∷ xs) ys = turn_then x.target xs ys
 
 -- a block of one addition put after others
 pub block_then :
-    (net mid after : Net) (first block : List Record) (a : Addition) → AcceptedTo net first mid → IsClean false (steps_of first) → EachImproves (additions net (steps_of first))
+    (net mid after : Net) (start : Option Fault) (first block : List Record) (a : Addition) → AcceptedTo net first mid → IsClean false (steps_of first) → EachImproves start (additions net (steps_of first))
     → additions mid (steps_of block) ≡ a ∷ [] → a.before ≡ mid
     → additions net (steps_of (first ++ block)) ≡ additions net (steps_of first) ++ a ∷ []
-block_then net mid after first block a accepted clean improves is before =
+block_then net mid after start first block a accepted clean improves is before =
     let at : net_after net (steps_of first) ≡ mid = accepted_after net mid first accepted in
     let starts : StartsAt mid (steps_of block) = first_before None mid (steps_of block) a [] is ∙ before in
     let starts' : StartsAt (net_after net (steps_of first)) (steps_of block) = subst (λ (n : Net). StartsAt n (steps_of block)) (sym at) starts in
     let both : additions_from None net (steps_of first ++ steps_of block) ≡ additions_from None net (steps_of first) ++ additions_from None (net_after net (steps_of first)) (steps_of block) =
-    additions_then None net (steps_of first) (steps_of block) clean (improved_fixed (additions net (steps_of first)) improves) starts' in
+    additions_then None net (steps_of first) (steps_of block) clean (improved_fixed start (additions net (steps_of first)) improves) starts' in
     ap (λ (ss : List Step). additions net ss) (steps_then first block) ∙ both ∙ ap (λ (n : Net). additions_from None net (steps_of first) ++ additions_from None n (steps_of block)) at
     ∙ ap (λ (adds : List Addition). additions_from None net (steps_of first) ++ adds) is

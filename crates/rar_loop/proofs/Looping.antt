@@ -1,6 +1,7 @@
 -- The addition loop from block to block.
-use Rattle.std.proofs.Common.{◌≡◌, ℕ, suc, ◌+◌, ◌*◌, ◌≤◌, Bool, true, false, Some, List, [], ◌∷◌, ◌++◌, length, refl, sym, ◌∙◌, ap, subst, arith}
+use Rattle.std.proofs.Common.{◌≡◌, ℕ, suc, ◌+◌, ◌*◌, ◌≤◌, Bool, true, false, Option, Some, List, [], ◌∷◌, ◌++◌, length, refl, sym, ◌∙◌, ap, subst, arith}
 use Rattle.std.specs.Prelude.{Err, IfErr, IfOk, IsErrAnd, Ok, Result}
+use Rattle.rm_base.specs.declared.numbers.Fault.{Fault}
 use Rattle.gate_net.specs.Net.{Net, IsWellFormed, wire_count, source_count, gate_count}
 use Rattle.wire_edit.proofs.Public.{live_bound}
 use Rattle.wire_edit.specs.declared.steps.Step.{Step}
@@ -8,7 +9,7 @@ use Rattle.wire_edit.specs.declared.steps.Step.TheVariants.{Add, Fix, NewNot, Co
 use Rattle.candidate_wires.specs.declared.candidate.Pair.{Pair}
 use Rattle.candidate_wires.specs.Pairs.{ArePairsBefore}
 use Rattle.candidate_wires.specs.Additions.{Addition, additions}
-use Rattle.candidate_wires.specs.Tries.{NoneGains, ArePlaces, EachImproves}
+use Rattle.candidate_wires.specs.Tries.{NoneGains, ArePlaces, EachImproves, turn_after}
 use Rattle.journal_text.specs.declared.append.Stop.{Stop}
 use Rattle.journal_text.specs.declared.append.Stop.TheVariants as stop
 use Rattle.journal_text.specs.declared.record.Record.{Record}
@@ -27,11 +28,12 @@ use Rattle.rar_loop.specs.Inner.Swept.{HasSwept}
 use Rattle.rar_loop.specs.Trying.{IsClean, IsLent}
 use Rattle.rar_loop.specs.Inner.Trying.{IsGained}
 use Rattle.wire_edit.specs.declared.room.Room.{Room}
+use Rattle.rar_loop.specs.Ended.{turn_at}
 use Rattle.rar_loop.specs.Sizes.{IsSame}
 use Rattle.rar_loop.specs.Inner.Improving.{HasBegun, HasImproved}
 use Rattle.rar_loop.proofs.GoingOn.{goes_then}
-use Rattle.rar_loop.proofs.Blocks.{removals_clean, removals_add_none, places_then, improve_then, block_then}
-use Rattle.rar_loop.proofs.Sizing.{HasSize, accepted_places, accepted_sources, within_by}
+use Rattle.rar_loop.proofs.Blocks.{removals_clean, removals_add_none, places_then, improve_then, turn_then, block_then}
+use Rattle.rar_loop.proofs.Sizing.{HasSize, accepted_places, accepted_sources, within_by, within_same, within_then}
 use Rattle.journal_text.proofs.Public.{accepted_then, steps_then}
 
 -- what holds of a value holds of an error
@@ -63,35 +65,42 @@ clean_then p (Twice gate ∷ xs) ys a b = clean_then false xs ys a b
 clean_then p (Twin gate other ∷ xs) ys a b = clean_then false xs ys a b
 clean_then p (Dead gate ∷ xs) ys a b = clean_then false xs ys a b
 
-pub improved_first : (before : Circuit) (depth : ℕ) (graph : Circuit) (records : List Record) → HasBegun before depth graph records → HasImproved (net_of before) depth (net_of graph) records 0
-improved_first before depth graph records b =
-    let none = removals_add_none (net_of before) (steps_of records) b.removals in
-    record {
-      accepted = b.accepted;
-      clean = removals_clean (steps_of records) b.removals;
-      fewer = b.fewer;
-      tidy = b.tidy;
-      swept = b.swept;
-      improves = subst EachImproves (sym none.0) tt;
-      are_tries = subst (λ (adds : List Addition). ArePlaces adds 0) (sym none.0) refl;
-    }
+pub improved_first : (before : Circuit) (start : Option Fault) (depth : ℕ) (graph : Circuit) (records : List Record) → HasBegun before depth graph records
+    → HasImproved (net_of before) start depth (net_of graph) records 0 × (start ≡ turn_at start (net_of before) (steps_of records))
+improved_first before start depth graph records b =
+    let none = removals_add_none (net_of before) (steps_of records) b.removals in (
+      record {
+        accepted = b.accepted;
+        clean = removals_clean (steps_of records) b.removals;
+        fewer = b.fewer;
+        tidy = b.tidy;
+        swept = b.swept;
+        improves = subst (EachImproves start) (sym none.0) tt;
+        are_tries = subst (λ (adds : List Addition). ArePlaces start adds 0) (sym none.0) refl;
+      },
+      ap (turn_after start) (sym none.0),
+    )
 
-pub improved_more : (net mid after : Net) (depth : ℕ) (records more : List Record) (tries : ℕ) (pair : Pair) (pairs : List Pair) → HasImproved net depth mid records tries → ArePairsBefore mid pair pairs → NoneGains mid pairs
-    → IsGained mid pair depth more after → HasImproved net depth after (records ++ more) (tries + suc (length pairs))
-improved_more net mid after depth records more tries pair pairs h before none g =
+pub improved_more : (net mid after : Net) (start : Option Fault) (depth : ℕ) (records more : List Record) (tries : ℕ) (pair : Pair) (pairs : List Pair) → HasImproved net start depth mid records tries
+    → ArePairsBefore mid (turn_at start net (steps_of records)) pair pairs → NoneGains mid pairs → IsGained mid pair depth more after
+    → HasImproved net start depth after (records ++ more) (tries + suc (length pairs)) × (Some pair.fault ≡ turn_at start net (steps_of (records ++ more)))
+improved_more net mid after start depth records more tries pair pairs h before none g =
     let a : Addition = record { before = mid; candidate = pair.candidate; target = Some pair.fault; after = after } in
-    let adds : additions net (steps_of (records ++ more)) ≡ additions net (steps_of records) ++ a ∷ [] = block_then net mid after records more a h.accepted h.clean h.improves g.addition refl in
-    let one : EachImproves (a ∷ []) = ((pair.fault, (refl, (pairs, (before, (none, g.fewer))))), tt) in
-    let place : ArePlaces (a ∷ []) (suc (length pairs)) = (suc (length pairs), ((pair.fault, (refl, (pairs, (before, refl)))), (0, (refl, omega arith)))) in
-    record {
-      accepted = accepted_then net mid after records more h.accepted g.accepted;
-      clean = subst (IsClean false) (sym (steps_then records more)) (clean_then false (steps_of records) (steps_of more) h.clean g.clean);
-      fewer = omega (arith, h.fewer, g.fewer);
-      tidy = g.tidy;
-      swept = g.swept;
-      improves = subst EachImproves (sym adds) (improve_then (additions net (steps_of records)) (a ∷ []) h.improves one);
-      are_tries = subst (λ (xs : List Addition). ArePlaces xs (tries + suc (length pairs))) (sym adds) (places_then (additions net (steps_of records)) (a ∷ []) tries (suc (length pairs)) h.are_tries place);
-    }
+    let adds : additions net (steps_of (records ++ more)) ≡ additions net (steps_of records) ++ a ∷ [] = block_then net mid after start records more a h.accepted h.clean h.improves g.addition refl in
+    let at : Option Fault = turn_at start net (steps_of records) in
+    let one : EachImproves at (a ∷ []) = (record { fault = pair.fault; target = refl; pairs = pairs; before = before; none = none; cost = g.cost; fewer = g.fewer }, tt) in
+    let place : ArePlaces at (a ∷ []) (suc (length pairs)) = (suc (length pairs), ((pair.fault, (refl, (pairs, (before, refl)))), (0, (refl, omega arith)))) in (
+      record {
+        accepted = accepted_then net mid after records more h.accepted g.accepted;
+        clean = subst (IsClean false) (sym (steps_then records more)) (clean_then false (steps_of records) (steps_of more) h.clean g.clean);
+        fewer = omega (arith, h.fewer, g.fewer);
+        tidy = g.tidy;
+        swept = g.swept;
+        improves = subst (EachImproves start) (sym adds) (improve_then start (additions net (steps_of records)) (a ∷ []) h.improves one);
+        are_tries = subst (λ (xs : List Addition). ArePlaces start xs (tries + suc (length pairs))) (sym adds) (places_then start (additions net (steps_of records)) (a ∷ []) tries (suc (length pairs)) h.are_tries place);
+      },
+      sym (ap (turn_after start) adds ∙ turn_then start (additions net (steps_of records)) (a ∷ [])),
+    )
 
 pub room_first : (t : Tried) (net : Net) → net_of t.graph ≡ net → WorkIsBounded → IsWellFormed net → t.room.steps ≡ 2 * wire_count net + 2 * (2 + source_count net + gate_count net) + 16 → work (net_of t.graph) ≤ t.room.steps
 room_first t net e law well steps =
@@ -151,3 +160,24 @@ begun_first law before depth t u v graph l0 l1 l2 well size size' enough e steps
       within = within_by before graph size size' held (accepted_places net after l2 accepted) (accepted_sources law net after l2 well accepted) (omega (arith, less.wires, less.gates)) (omega (arith, less.numbers));
       few = omega (arith, both.tallies.spent, none, steps, size.live, size.pins, enough);
     }
+
+-- graphs of the same net that hold as many pins are the same
+pub same_size : (graph now : Circuit) → HasSize graph → HasSize now → net_of now ≡ net_of graph → pins_held now ≡ pins_held graph → IsSame graph now
+same_size graph now size size' is held =
+    let w : wire_count (net_of now) ≡ wire_count (net_of graph) = ap wire_count is in
+    let s : source_count (net_of now) ≡ source_count (net_of graph) = ap source_count is in
+    let k : gate_count (net_of now) ≡ gate_count (net_of graph) = ap gate_count is in
+    let o : length (net_of now).observed ≡ length (net_of graph).observed = ap (λ (n : Net). length n.observed) is in
+    record { net = is; pins = omega (arith, w, o, size.pins, size'.pins, held); nodes = omega (arith, s, k, size.live, size'.live) }
+
+-- what was tidied and swept, as a graph of the same net
+pub begun_again : (before : Circuit) (depth : ℕ) (graph now : Circuit) (records : List Record) → HasBegun before depth graph records → IsSame graph now → HasBegun before depth now records
+begun_again before depth graph now records b same = record {
+  accepted = subst (λ (n : Net). AcceptedTo (net_of before) records n) (sym same.net) b.accepted;
+  removals = b.removals;
+  fewer = subst (λ (n : Net). wire_count n ≤ wire_count (net_of before)) (sym same.net) b.fewer;
+  tidy = subst IsTidy (sym same.net) b.tidy;
+  swept = subst (λ (n : Net). IsSwept n depth) (sym same.net) b.swept;
+  within = within_then before graph now b.within (within_same graph now same);
+  few = b.few;
+}

@@ -13,7 +13,7 @@ use Rattle.candidate_wires.specs.Gains.{with_candidate, Gains, SomeClashes}
 use Rattle.journal_text.specs.declared.record.Record.{Record}
 use Rattle.refutation.specs.Detected.{HasOpenSet}
 use Rattle.rar_loop.specs.Swept.{IsSwept}
-use Rattle.rar_loop.specs.Inner.Trying.{IsNewPinOpen, IsReplaced}
+use Rattle.rar_loop.specs.Inner.Trying.{CostsWires, IsNewPinOpen, IsReplaced}
 
 closed_lines : (net : Net) (fault : Fault) (depth : ℕ) (held : Held) → IsClosedAt net fault depth held → IsClosedUnderLines net fault held
 closed_lines net fault zero held c = c
@@ -31,6 +31,15 @@ open_pin_fails law net pair depth (c, (is, open_set)) gains =
 
 pub open_target_fails : ClosedHasAll → (net : Net) (pair : Pair) (depth : ℕ) → HasOpenSet (with_candidate net pair.candidate) pair.fault depth → Gains net pair → ⊥
 open_target_fails law net pair depth open_set gains = open_excludes law (with_candidate net pair.candidate) pair.fault depth open_set gains.target
+
+-- nor does one that costs wires
+pub costs_fail : (net : Net) (pair : Pair) → CostsWires net pair → Gains net pair → ⊥
+costs_fail net pair costs gains =
+    let same : gains.after ≡ costs.0 = tidies_to_one gains.tidied costs.1.0 in
+    elim gains.pays [
+      | inl lt ↦ let more : wire_count net < wire_count gains.after = subst (λ (n : Net). wire_count net < wire_count n) (sym same) costs.1.1 in absurd (omega (arith, lt, more))
+      | inr e ↦ let more : wire_count net < wire_count gains.after = subst (λ (n : Net). wire_count net < wire_count n) (sym same) costs.1.1 in absurd (omega (arith, e.0, more))
+    ]
 
 swept_none : ClosedHasAll → (net : Net) (depth : ℕ) → IsSwept net depth → SomeClashes net → ⊥
 swept_none law net depth swept (fault, (pin, clash)) = open_excludes law net fault depth (swept fault pin) clash

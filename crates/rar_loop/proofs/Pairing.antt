@@ -13,7 +13,8 @@ use Rattle.candidate_wires.specs.declared.candidate.Pair.{Pair}
 use Rattle.candidate_wires.specs.Joining.{MayRead, IsCandidateOf}
 use Rattle.candidate_wires.specs.Candidates.{listed, AreAmong, AreAlong, AreCandidatesOf}
 use Rattle.candidate_wires.specs.Gains.{Gains}
-use Rattle.candidate_wires.specs.Pairs.{faults_from, faults_if, targets_at, targets_from, targets_of, paired, ArePairsOf, ArePairs, ArePairsBefore}
+use Rattle.candidate_wires.specs.Pairs.{faults_from, faults_if, targets_at, targets_from, turn_of, paired, ArePairsOf, ArePairsBefore, ArePairsInTurn}
+use Rattle.candidate_wires.proofs.Public.{of_turn}
 use Rattle.candidate_wires.specs.Tries.{NoneGains}
 use Rattle.journal_text.specs.declared.record.Record.{Record}
 use Rattle.rar_loop.specs.Sizes.{IsSame}
@@ -95,8 +96,8 @@ targets_from_pin net gate (suc count) k f e = elim (append_cases (targets_at net
   | inr more ↦ targets_from_pin net (suc gate) count more.0 f more.1
 ]
 
-pub targets_pin : (net : Net) (k : ℕ) (f : Fault) → slice_get (targets_of net) k ≡ Some f → HasPin net f
-targets_pin net k f e = targets_from_pin net 0 (length net.nodes) k f e
+pub turn_pin : (net : Net) (start : Option Fault) (k : ℕ) (f : Fault) → slice_get (turn_of net start) k ≡ Some f → HasPin net f
+turn_pin net start k f e = let at = of_turn net start k f e in targets_from_pin net 0 (length net.nodes) at.0 f at.1
 
 -- TRIES IN VAIN
 none_then : (net : Net) (xs ys : List Pair) → NoneGains net xs → NoneGains net ys → NoneGains net (xs ++ ys)
@@ -144,14 +145,14 @@ tour_back t u v target depth left after tour.Done back w =
     (back_then t u v back w.0, subst (λ (n : Net). (here : List Candidate) × (AreTried n target here (length here) × (after + length here ≡ left))) back.same.net w.1)
 tour_back t u v target depth left after (tour.Spent at) back w =
     (back_then t u v back w.0, (w.1.0, (w.1.1.0, (subst (λ (n : Net). AreTried n target w.1.0 w.1.1.0) back.same.net w.1.1.1.0, w.1.1.1.1))))
-tour_back t u v target depth left after (tour.Gained records) back w =
-    (w.0, (w.1.0, (w.1.1.0, (subst (λ (n : Net). AreTried n target w.0 w.1.0) back.same.net w.1.1.1.0, (w.1.1.1.1.0, (w.1.1.1.1.1.0, ahead_back t u v (paired target w.1.1.0) depth records.items back w.1.1.1.1.1.1))))))
+tour_back t u v target depth left after (tour.Gained pair records) back w =
+    (w.0, (w.1.0, (subst (λ (n : Net). AreTried n target w.0 w.1.0) back.same.net w.1.1.0, (w.1.1.1.0, (w.1.1.1.1.0, (w.1.1.1.1.1.0, ahead_back t u v pair depth records.items back w.1.1.1.1.1.1))))))
 
 -- what a tour of a trial comes to on its graph
-pub walk_here : (t u : Tried) (depth left after : ℕ) (end : Tour) → IsTour t depth left after u end → IsWalk t.graph depth left after u.graph end
-walk_here t u depth left after tour.Done w = (w.0.same, w.1)
-walk_here t u depth left after (tour.Spent at) w = (w.0.same, w.1)
-walk_here t u depth left after (tour.Gained records) w = (w.0, (w.1.0, (w.1.1.0, (w.1.1.1.0, (w.1.1.1.1.0, w.1.1.1.1.1.better)))))
+pub walk_here : (t u : Tried) (start : Option Fault) (depth left after : ℕ) (end : Tour) → IsTour t start depth left after u end → IsWalk t.graph start depth left after u.graph end
+walk_here t u start depth left after tour.Done w = (w.0.same, w.1)
+walk_here t u start depth left after (tour.Spent at) w = (w.0.same, w.1)
+walk_here t u start depth left after (tour.Gained pair records) w = (w.0, (w.1.0, (w.1.1.0, (w.1.1.1.0, w.1.1.1.1.better))))
 
 -- PAIRS
 pub pairs_then : (net : Net) (ts : List Fault) (t : Fault) (ps : List Pair) (here : List Candidate) → ArePairsOf net ts ps → AreCandidatesOf net t here → ArePairsOf net (ts ++ t ∷ []) (ps ++ map (paired t) here)
@@ -204,19 +205,19 @@ take_over [] k le = take_nil k
 take_over (x ∷ xs) zero le = absurd (omega (arith, le))
 take_over (x ∷ xs) (suc k) le = ap (λ (zs : List Fault). x ∷ zs) (take_over xs k (omega (arith, le)))
 
-pub walked_all : (net : Net) (faults : List Fault) (k left after : ℕ) → faults ≡ targets_of net → length faults ≤ k → Walked net faults k left after → (pairs : List Pair) × (ArePairs net pairs × (NoneGains net pairs × (after + length pairs ≡ left)))
-walked_all net faults k left after is le w = (w.pairs, (subst (λ (ts : List Fault). ArePairsOf net ts w.pairs) (take_over faults k le ∙ is) w.are, (w.none, w.sum)))
+pub walked_all : (net : Net) (start : Option Fault) (faults : List Fault) (k left after : ℕ) → faults ≡ turn_of net start → length faults ≤ k → Walked net faults k left after → (pairs : List Pair) × (ArePairsInTurn net start pairs × (NoneGains net pairs × (after + length pairs ≡ left)))
+walked_all net start faults k left after is le w = (w.pairs, (subst (λ (ts : List Fault). ArePairsOf net ts w.pairs) (take_over faults k le ∙ is) w.are, (w.none, w.sum)))
 
 -- the pairs before the one at a place of a target
-pub record WalkedTo (net : Net) (pair : Pair) (tries : ℕ) : Type 0 where
+pub record WalkedTo (net : Net) (start : Option Fault) (pair : Pair) (tries : ℕ) : Type 0 where
   pub pairs : List Pair
-  pub before : ArePairsBefore net pair pairs
+  pub before : ArePairsBefore net start pair pairs
   pub none : NoneGains net pairs
   pub count : length pairs ≡ tries
 
-pub walked_to : (net : Net) (faults : List Fault) (k left mid : ℕ) (t : Fault) (here : List Candidate) (place : ℕ) (pair : Pair) → faults ≡ targets_of net → Walked net faults k left mid → slice_get faults k ≡ Some t
-    → AreTried net t here place → pair.fault ≡ t → slice_get here place ≡ Some pair.candidate → (tries : ℕ) → mid + tries ≡ left + place → WalkedTo net pair tries
-walked_to net faults k left mid t here place pair is w e tried same at tries sum =
+pub walked_to : (net : Net) (start : Option Fault) (faults : List Fault) (k left mid : ℕ) (t : Fault) (here : List Candidate) (place : ℕ) (pair : Pair) → faults ≡ turn_of net start → Walked net faults k left mid → slice_get faults k ≡ Some t
+    → AreTried net t here place → pair.fault ≡ t → slice_get here place ≡ Some pair.candidate → (tries : ℕ) → mid + tries ≡ left + place → WalkedTo net start pair tries
+walked_to net start faults k left mid t here place pair is w e tried same at tries sum =
     let ps : List Pair = w.pairs ++ map (paired t) (take place here) in
     let n : length ps ≡ length w.pairs + length (map (paired t) (take place here)) = length_append w.pairs (map (paired t) (take place here)) in
     let m : length (map (paired t) (take place here)) ≡ length (take place here) = length-map (take place here) (paired t) in

@@ -45,7 +45,7 @@ use Rattle.rar_loop.specs.Inner.Trying.{IsBetter, IsBack, MayTry, HasAdded, HasR
 use Rattle.rar_loop.proofs.GoingOn.{removals_then}
 use Rattle.rar_loop.proofs.Adding.{pin_stays}
 use Rattle.rar_loop.proofs.Sizing.{HasSize, added_gates, added_numbers, accepted_places, accepted_sources, within_by}
-use Rattle.rar_loop.proofs.Opens.{open_pin_fails, open_target_fails}
+use Rattle.rar_loop.proofs.Opens.{open_pin_fails, open_target_fails, costs_fail}
 use Rattle.rar_loop.proofs.Blocks.{removals_clean, removals_add_none, accepted_after}
 use Rattle.journal_text.proofs.Public.{accepted_then}
 use Rattle.wire_edit.specs.Removals.{HasFreePin}
@@ -66,8 +66,8 @@ target_free net after pair well tidy may e =
 pub replaced_whole :
     (net wired mid after : Net) (pair : Pair) (depth : ℕ) (fix_tree : List Item) (l0 l1 l2 : List Record) → HasAdded net pair.candidate depth l0 true → wired ≡ with_candidate net pair.candidate
     → HasFixed pair.fault fix_tree l0 l1 → Logs wired mid l0 l1 → TidiesTo (fixed wired pair.fault) mid → Logs mid after l1 l2 → HasSwept mid after depth → IsTidy after
-    → IsNoLarger wired mid → IsNoLarger mid after → IsReplaced net pair depth l2 after
-replaced_whole net wired mid after pair depth fix_tree l0 l1 l2 added e fixes first tidied second swept tidy less less' =
+    → wire_count mid ≤ wire_count net → IsNoLarger wired mid → IsNoLarger mid after → IsReplaced net pair depth l2 after
+replaced_whole net wired mid after pair depth fix_tree l0 l1 l2 added e fixes first tidied second swept tidy no_more less less' =
     let fix : Record = record_of.Step (Fix pair.fault.gate pair.fault.position pair.fault.value) fix_tree in
     let l2-is : l2 ≡ l0 ++ (fix ∷ (fixes.rest ++ second.more)) = second.added ∙ ap (λ (xs : List Record). xs ++ second.more) fixes.are ∙ append_assoc l0 (fix ∷ fixes.rest) second.more in
     let l2-more : l2 ≡ l0 ++ (first.more ++ second.more) = second.added ∙ ap (λ (xs : List Record). xs ++ second.more) first.added ∙ append_assoc l0 first.more second.more in
@@ -82,6 +82,7 @@ replaced_whole net wired mid after pair depth fix_tree l0 l1 l2 added e fixes fi
       accepted = subst (λ (rs : List Record). AcceptedTo net rs after) (sym l2-more) (accepted_then net wired after l0 (first.more ++ second.more) to rest);
       mid = mid;
       tidied = subst (λ (w : Net). TidiesTo (fixed w pair.fault) mid) e tidied;
+      no_more = no_more;
       swept = swept;
       tidy = tidy;
       gates = omega (arith, added_gates net pair.candidate, ap gate_count e, less.gates, less'.gates);
@@ -126,6 +127,7 @@ gained_of net after pair depth records r fewer =
       fewer = fewer;
       tidy = r.tidy;
       swept = r.swept.swept;
+      cost = (r.mid, (r.tidied, r.no_more));
       clean = subst (IsClean false) (sym are) (clean_steps c (node (wire_for net c)) pair.fault (steps_of r.rest) r.removals c.fresh);
       addition = ap (additions net) are ∙ one ∙ ap (λ (n : Net). let a : Addition = record { before = net; candidate = c; target = Some pair.fault; after = n } in a ∷ []) at;
     }
@@ -148,7 +150,8 @@ better_of law graph better after pair depth records well size size' is replaced 
 -- NO GAIN
 pub not_replaced_fails : ClosedHasAll → (net after : Net) (pair : Pair) (depth : ℕ) (records : List Record) → HasReplaced net pair depth records after false → Gains net pair → ⊥
 not_replaced_fails law net after pair depth records (inl new) gains = open_pin_fails law net pair depth new gains
-not_replaced_fails law net after pair depth records (inr target) gains = open_target_fails law net pair depth target gains
+not_replaced_fails law net after pair depth records (inr (inl target)) gains = open_target_fails law net pair depth target gains
+not_replaced_fails law net after pair depth records (inr (inr costs)) gains = costs_fail net pair costs gains
 
 pub rolled_back : (graph back : Circuit) (start : Wiring) → wiring graph ≡ start → IsAt back start → wiring back ≡ start
     → live_nodes graph ≡ 2 + source_count (net_of graph) + gate_count (net_of graph) → live_nodes back ≡ 2 + source_count (net_of back) + gate_count (net_of back) → IsSame graph back

@@ -1,5 +1,6 @@
 pub mod Sizes
 pub mod Swept
+pub mod Removed
 pub mod Trying
 pub mod Ended
 pub mod Rounds

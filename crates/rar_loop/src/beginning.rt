@@ -74,17 +74,16 @@ fn begin_removals(alloc: Global, graph: Graph) -> Result<Trial, NoMemory>
     }
 }
 
-/// Tidies and sweeps, and gives the records of that beside a workspace that is ready for tries.
-pub(crate) fn open_workspace(
+/// The graph, tidied and swept, and the records of that.
+pub(crate) fn swept_graph(
     alloc: Global,
     graph: Graph,
     depth: u8,
     found: &[Vec<u64>],
-) -> Result<(Workspace, Vec<Record>), NoMemory>
+) -> Result<(Graph, Vec<Record>), NoMemory>
     requires few { pins_taken graph + live_nodes graph ≤ 1048576 }
     requires depth { depth ≤ 2 }
-    ensures begun { IfOk result (λ r. HasBegun graph depth r.0.trial.graph r.1.items) }
-    ensures ready { IfOk result (λ r. IsReady r.0) }
+    ensures begun { IfOk result (λ r. HasBegun graph depth r.0 r.1.items) }
 {
     tidying_ends();
     accepted_steps_keep();
@@ -97,6 +96,23 @@ pub(crate) fn open_workspace(
     space.trial.keep();
     space.trial.graph().well_formed();
     let swept = into_graph(space);
+    swept.well_formed();
+    Ok((swept, log))
+}
+
+/// Tidies and sweeps, and gives the records of that beside a workspace that is ready for tries.
+pub(crate) fn open_workspace(
+    alloc: Global,
+    graph: Graph,
+    depth: u8,
+    found: &[Vec<u64>],
+) -> Result<(Workspace, Vec<Record>), NoMemory>
+    requires few { pins_taken graph + live_nodes graph ≤ 1048576 }
+    requires depth { depth ≤ 2 }
+    ensures begun { IfOk result (λ r. HasBegun graph depth r.0.trial.graph r.1.items) }
+    ensures ready { IfOk result (λ r. IsReady r.0) }
+{
+    let (swept, log) = swept_graph(alloc, graph, depth, found)?;
     swept.well_formed();
     let lent = begin(alloc, swept)?;
     lent.graph().well_formed();

@@ -16,7 +16,7 @@ pub fn worked_rows()
     ensures additions { additions four_gates nine_steps ≡ one_addition }
 {}
 
-/// The first call of a run makes its first round.
+/// Removals and the first call of a run make its first round.
 pub fn run_begins()
     ensures { RunBegins }
 {

@@ -4,10 +4,12 @@
 mod beginning;
 mod candidates;
 mod changes;
+mod drawing;
 mod fixing;
 mod laws;
 mod optimising;
 mod refuting;
+mod removing;
 mod sweeping;
 mod tidying;
 mod trying;
@@ -17,3 +19,4 @@ mod workspace;
 
 pub use laws::{run_begins, run_goes_on, worked_rows};
 pub use optimising::optimise;
+pub use removing::remove_redundant;

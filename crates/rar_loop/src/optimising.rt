@@ -22,10 +22,10 @@ use journal_text::{
     Record, Stop, accepted_runs_are_writable, accepted_runs_keep, append_records, count_records,
     runs_join, texts_append,
 };
-use rm_base::{Made, Settings, Shelf};
+use rm_base::{Fault, Made, Settings, Shelf};
 use std::alloc::Global;
 
-// Tries pairs from a swept net on, and records each run of steps that is kept.
+// Tries pairs from a swept net on, in turns from a target on, and records each run of steps that is kept.
 fn improve<S: Shelf>(
     alloc: Global,
     space: &mut Workspace,
@@ -33,15 +33,16 @@ fn improve<S: Shelf>(
     shelf: &mut S,
     journal: &str,
     made: &mut Made,
+    start: &mut Option<Fault>,
 ) -> Result<Outcome, Stop>
     requires ready { IsReady space.old }
     requires depth { settings.now.depth ≤ 2 }
     requires there { IsThere (S.files shelf.old) journal.now }
-    requires under_way { IsHere settings.now.depth settings.now.tries space.old.trial.graph made.old (S.files shelf.old) journal.now }
-    ensures through { IfOk result (λ outcome. ComesThrough settings.now.depth settings.now.tries space.old.trial.graph made.old (S.files shelf.old) space.new.trial.graph outcome made.new (S.files shelf.new) journal.now) }
+    requires under_way { IsHere start.old settings.now.depth settings.now.tries space.old.trial.graph made.old (S.files shelf.old) journal.now }
+    ensures through { IfOk result (λ outcome. ComesThrough start.old start.new settings.now.depth settings.now.tries space.old.trial.graph made.old (S.files shelf.old) space.new.trial.graph outcome made.new (S.files shelf.new) journal.now) }
     ensures ready { OnOk result (IsReady space.new) }
     ensures made { OnOk result (AreFew made.new) }
-    ensures stopped { IfErr result (λ _. StopsFrom settings.now.depth settings.now.tries space.old.trial.graph made.old (S.files shelf.old) (S.files shelf.new) journal.now) }
+    ensures stopped { IfErr result (λ _. StopsFrom start.old settings.now.depth settings.now.tries space.old.trial.graph made.old (S.files shelf.old) (S.files shelf.new) journal.now) }
     ensures there { IsThere (S.files shelf.new) journal.now }
     ensures failed { result ≡ Err Stop.Failed → Rose (S.faults shelf.old) (S.faults shelf.new) }
     ensures later { S.faults shelf.old ≤ S.faults shelf.new }
@@ -51,7 +52,7 @@ fn improve<S: Shelf>(
     runs_join();
     let mut left = settings.tries;
     loop {
-        match walk_pairs(alloc, space, settings.depth, &mut left)? {
+        match walk_pairs(alloc, space, *start, settings.depth, &mut left)? {
             Tour::Done => {
                 let tries = settings.tries - left;
                 return Ok(Outcome::Settled { tries });
@@ -60,9 +61,10 @@ fn improve<S: Shelf>(
                 let tries = settings.tries;
                 return Ok(Outcome::TriesSpent { tries, at });
             }
-            Tour::Gained { records } => {
+            Tour::Gained { pair, records } => {
                 append_records(alloc, shelf, journal, &records)?;
                 count_records(&records, made);
+                *start = Some(pair.fault);
             }
         }
     }
@@ -76,12 +78,13 @@ fn improve_swept<S: Shelf>(
     settings: &Settings,
     shelf: &mut S,
     journal: &str,
+    start: &mut Option<Fault>,
 ) -> Result<(Outcome, Made), Stop>
     requires ready { IsReady space.old }
     requires depth { settings.now.depth ≤ 2 }
     requires there { IsThere (S.files shelf.old) journal.now }
     requires begun { (before : Circuit) × ((wire_count (net_of before) ≤ 1048576) × HasBegun before settings.now.depth space.old.trial.graph records.now) }
-    ensures through { IfOk result (λ r. SweepComesThrough settings.now.depth settings.now.tries space.old.trial.graph records.now (S.files shelf.old) space.new.trial.graph r.0 r.1 (S.files shelf.new) journal.now) }
+    ensures through { IfOk result (λ r. SweepComesThrough start.old start.new settings.now.depth settings.now.tries space.old.trial.graph records.now (S.files shelf.old) space.new.trial.graph r.0 r.1 (S.files shelf.new) journal.now) }
     ensures ready { OnOk result (IsReady space.new) }
     ensures made { IfOk result (λ r. AreFew r.1) }
     ensures stopped { IfErr result (λ _. (before : Circuit) → HasBegun before settings.now.depth space.old.trial.graph records.now → IsStopped (net_of before) (S.files shelf.old) (S.files shelf.new) journal.now) }
@@ -97,14 +100,15 @@ fn improve_swept<S: Shelf>(
     };
     append_records(alloc, shelf, journal, records)?;
     count_records(records, &mut made);
-    let outcome = improve(alloc, space, settings, shelf, journal, &mut made)?;
+    let outcome = improve(alloc, space, settings, shelf, journal, &mut made, start)?;
     Ok((outcome, made))
 }
 
 /// Removes wires, by sweeping and by adding others, until no pair gains or the tries of the settings are used up
 /// (redundancy addition and removal: Entrena and Cheng 1995). Each run of steps that is kept is recorded with its trees
-/// before the next is looked for. Blocks of 64 vectors that were found before, each with a word for each source, save
-/// refutations; the results are the same with any. After a `Stop` the graph is dropped.
+/// before the next is looked for. The pairs of a net are tried in a turn through its targets, which begins at `start`, and
+/// after a gain at the target of that gain. Blocks of 64 vectors that were found before, each with a word for each source,
+/// save refutations; the results are the same with any. After a `Stop` the graph is dropped.
 pub fn optimise<S: Shelf>(
     alloc: Global,
     graph: Graph,
@@ -112,11 +116,12 @@ pub fn optimise<S: Shelf>(
     shelf: &mut S,
     journal: &str,
     found: &[Vec<u64>],
+    start: &mut Option<Fault>,
 ) -> Result<(Graph, Outcome, Made), Stop>
     requires few { pins_taken graph + live_nodes graph ≤ 1048576 }
     requires depth { settings.now.depth ≤ 2 }
     requires there { IsThere (S.files shelf.old) journal.now }
-    ensures optimised { IfOk result (λ r. IsOptimised (net_of graph) (net_of r.0) settings.now.depth settings.now.tries r.1 r.2 (S.files shelf.old) (S.files shelf.new) journal.now) }
+    ensures optimised { IfOk result (λ r. IsOptimised (net_of graph) (net_of r.0) start.old start.new settings.now.depth settings.now.tries r.1 r.2 (S.files shelf.old) (S.files shelf.new) journal.now) }
     ensures keeps { IfOk result (λ r. Keeps (net_of graph) (net_of r.0)) }
     ensures tidy { IfOk result (λ r. IsTidy (net_of r.0)) }
     ensures swept { IfOk result (λ r. IsSwept (net_of r.0) settings.now.depth) }
@@ -132,6 +137,8 @@ pub fn optimise<S: Shelf>(
     accepted_runs_keep();
     texts_append();
     let (mut space, records) = open_workspace(alloc, graph, settings.depth, found)?;
-    let (outcome, made) = improve_swept(alloc, &mut space, &records, settings, shelf, journal)?;
+    let (outcome, made) = improve_swept(
+        alloc, &mut space, &records, settings, shelf, journal, start,
+    )?;
     Ok((into_graph(space), outcome, made))
 }

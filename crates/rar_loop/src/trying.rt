@@ -166,17 +166,20 @@ fn add_wire(
     }
 }
 
-// Adds the wire, fixes the target, tidies and sweeps, as far as both faults are refuted; whether they are.
+// Adds the wire, fixes the target and tidies, as far as both faults are refuted, and sweeps where that leaves no more
+// wires than before; whether it came to that.
 fn replace(
     alloc: Global,
     space: &mut Workspace,
     log: &mut Vec<Record>,
+    wires: u32,
     pair: &Pair,
     added: &[NodeId],
     depth: u8,
 ) -> Result<bool, NoMemory>
     requires tidy { IsTidy (net_of space.old.trial.graph) }
     requires pair { MayTry (net_of space.old.trial.graph) pair.now }
+    requires wires { wires ≡ wire_count (net_of space.old.trial.graph) }
     requires ready { IsReadyToAdd space.old.trial 16 }
     requires room { 0 < space.old.trial.room.nodes }
     requires pins { 2 ≤ space.old.trial.room.pins }
@@ -219,6 +222,9 @@ fn replace(
         None => Ok(false),
         Some(tree) => {
             fix_and_tidy(alloc, trial, log, &mut changed, pair.fault, tree)?;
+            if trial.graph().wire_count() > wires {
+                return Ok(false);
+            }
             space.follow(alloc, &changed, added)?;
             sweep(alloc, space, log, depth)?;
             Ok(true)
@@ -256,7 +262,7 @@ pub(crate) fn try_pair(
     let mut log = Vec::new(alloc);
     space.touched.clear();
     let added = changed_nodes(alloc, space.trial.graph(), &pair.candidate)?;
-    let refuted = replace(alloc, space, &mut log, pair, added.as_slice(), depth)?;
+    let refuted = replace(alloc, space, &mut log, wires, pair, added.as_slice(), depth)?;
     if !refuted {
         give_back(&mut space.trial);
         space.refuter.follow(space.trial.graph(), added.as_slice())?;

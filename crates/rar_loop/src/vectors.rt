@@ -1,5 +1,5 @@
 //! Vectors that are kept for a net: a fault that one of them detects is never refuted, so it isn't asked.
-ghost use Rattle.std.specs.Prelude.{◌≡◌, ◌<◌, ℕ, Bool, IfOk, OnOk, IsTrue, None, Some, length, replicate, slice_get};
+ghost use Rattle.std.specs.Prelude.{◌≡◌, ◌<◌, ℕ, Bool, IfOk, OnOk, IsTrue, None, Some, replicate, slice_get};
 ghost use Rattle.gate_net.specs.Net.{Net};
 ghost use Rattle.gate_net.specs.Values.{Detects};
 ghost use Rattle.gate_graph.specs.Circuit.{net_of};
@@ -11,6 +11,7 @@ ghost use Rattle.rm_base.specs.Numbers.{numbers_of};
 ghost use Rattle.rar_loop.specs.Inner.Kept.{AreAsked, AreFor, HasKept, IsTurned, lanes_with, wanted};
 ghost use Rattle.rar_loop.specs.Inner.Trying.{IsNewPinOpen, MayAdd};
 
+use crate::drawing::{block_count, drawn_words};
 use candidate_wires::{Candidate, control_of};
 use fault_sim::{Blocks, Lanes};
 use gate_graph::{Graph, Question};
@@ -20,63 +21,18 @@ use rm_base::{Fault, NoMemory, NodeId};
 use std::alloc::Global;
 use wire_edit::steps_keep;
 
-/// 64 drawn vectors, simulated for one net. For each gate that was asked they keep under which of them its first pin is
-/// detected at the controlling value: there the gate turns to its controlled value, and an observed node with it.
+/// Vectors that are simulated for one net. For each gate that was asked the first 64 keep under which of them its first
+/// pin is detected at the controlling value: there the gate turns to its controlled value, and an observed node with it.
 #[derive(Drop)]
 pub(crate) struct Vectors {
     lanes: Lanes,
-    // Vectors that were found by searches, of which only those that detect a fault are asked.
+    // Further drawn vectors, and those that were found by searches.
     found: Blocks,
+    // By a number made of a fault: 0, or 1 more than the block of those that detected it last.
+    hints: Vec<usize>,
     turned: Vec<Option<u64>>,
     // The gates of which a word is kept.
     asked: Vec<NodeId>,
-}
-
-// The next number (splitmix64: Steele, Lea and Flood 2014).
-fn draw(state: &mut u64) -> u64 {
-    *state = state.wrapping_add(0x9e37_79b9_7f4a_7c15);
-    let first = (*state ^ (*state >> 30)).wrapping_mul(0xbf58_476d_1ce4_e5b9);
-    let second = (first ^ (first >> 27)).wrapping_mul(0x94d0_49bb_1331_11eb);
-    second ^ (second >> 31)
-}
-
-// Lanes in which a source is 0 or 1 as often; lanes in which an eighth or a thirty-second of the sources is 0, and the
-// lane in which none is; lanes in which as many are 1. In the last lane all are 0.
-const EVEN: u64 = 0x0000_ffff_ffff_ffff;
-
-const FEW_ZEROS: u64 = 0x000f_0000_0000_0000;
-
-const FEWER_ZEROS: u64 = 0x0070_0000_0000_0000;
-
-const ALL_ONES: u64 = 0x0080_0000_0000_0000;
-
-const FEW_ONES: u64 = 0x0f00_0000_0000_0000;
-
-const FEWER_ONES: u64 = 0x7000_0000_0000_0000;
-
-// The next word of a source. A wide gate is tested by vectors that give nearly all its pins one value, which even draws
-// seldom do.
-fn draw_word(state: &mut u64) -> u64 {
-    let even = draw(state);
-    let few = draw(state) & draw(state) & draw(state);
-    let fewer = few & draw(state) & draw(state);
-    let mostly_ones = ((few ^ u64::MAX) & FEW_ZEROS)
-        | ((fewer ^ u64::MAX) & FEWER_ZEROS)
-        | ALL_ONES;
-    let mostly_zeros = (few & FEW_ONES) | (fewer & FEWER_ONES);
-    (even & EVEN) | mostly_ones | mostly_zeros
-}
-
-// So many drawn words, the same each time.
-fn drawn_words(alloc: Global, count: usize) -> Result<Vec<u64>, NoMemory>
-    ensures { IfOk result (λ v. length v.items ≡ count) }
-{
-    let mut words = vec![in alloc; 0u64; count]?;
-    let mut state = 1u64;
-    for word in words.iter_mut() {
-        *word = draw_word(&mut state);
-    }
-    Ok(words)
 }
 
 // Whether the word has a lane.
@@ -112,10 +68,29 @@ fn none_kept(alloc: Global, count: usize) -> Result<Vec<Option<u64>>, NoMemory>
     Ok(turned)
 }
 
-// At most so many blocks of 64 found vectors are kept.
-const MOST_FOUND: usize = 8;
+// At most so many blocks of 64 vectors are kept.
+const MOST_BLOCKS: usize = 64;
 
-// Keeps blocks of found vectors that have a word for each source, up to so many.
+// Keeps a block, where it has a word for each source.
+fn keep_block(
+    alloc: Global,
+    graph: &Graph,
+    words: &[u64],
+    blocks: &mut Blocks,
+) -> Result<(), NoMemory>
+    requires simulated { AreSimulated blocks.old (net_of graph.now) }
+    ensures simulated { AreSimulated blocks.new (net_of graph.now) }
+{
+    if words.len() != graph.source_count() as usize {
+        return Ok(());
+    }
+    if blocks.count() >= MOST_BLOCKS {
+        return Ok(());
+    }
+    blocks.keep64(alloc, graph, words)
+}
+
+// Keeps blocks of found vectors.
 fn keep_all(
     alloc: Global,
     graph: &Graph,
@@ -125,15 +100,61 @@ fn keep_all(
     requires simulated { AreSimulated blocks.old (net_of graph.now) }
     ensures simulated { AreSimulated blocks.new (net_of graph.now) }
 {
-    let sources = graph.source_count() as usize;
     for words in found {
-        if words.len() == sources {
-            if blocks.count() < MOST_FOUND {
-                blocks.keep64(alloc, graph, words.as_slice())?;
-            }
-        }
+        keep_block(alloc, graph, words.as_slice(), blocks)?;
     }
     Ok(())
+}
+
+// Keeps the drawn blocks after the first.
+fn keep_drawn(alloc: Global, graph: &Graph, blocks: &mut Blocks) -> Result<(), NoMemory>
+    requires simulated { AreSimulated blocks.old (net_of graph.now) }
+    ensures simulated { AreSimulated blocks.new (net_of graph.now) }
+{
+    let sources = graph.source_count() as usize;
+    for number in 1..block_count(sources) {
+        let words = drawn_words(alloc, sources, number)?;
+        keep_block(alloc, graph, words.as_slice(), blocks)?;
+    }
+    Ok(())
+}
+
+// Where the block that detected a fault last is kept, among so many places. Faults may share one.
+fn hint_place(fault: &Fault, count: usize) -> usize {
+    if count == 0 {
+        return 0;
+    }
+    let pin = fault
+        .position
+        .wrapping_mul(2)
+        .wrapping_add(u32::from(fault.value));
+    let mixed = fault.gate.0.wrapping_mul(0x9e37_79b1).wrapping_add(pin);
+    mixed as usize % count
+}
+
+fn hint_at(hints: &[usize], place: usize) -> usize {
+    match hints.get(place) {
+        Some(hint) => *hint,
+        None => 0,
+    }
+}
+
+// Whether a vector of the block that the hint tells detects the fault.
+fn detects_by(blocks: &mut Blocks, question: &Question<'_>, hint: usize) -> bool
+    requires simulated { AreSimulated blocks.old (net_of question.now.graph.now) }
+    ensures detected { IsTrue result → (a : ℕ → Bool) × Detects (net_of question.now.graph.now) question.now.fault a }
+    ensures same { blocks.new ≡ blocks.old }
+{
+    if hint == 0 {
+        return false;
+    }
+    blocks.block_detects(question, hint - 1)
+}
+
+fn keep_hint(hints: &mut Vec<usize>, place: usize, hint: usize) {
+    if place < hints.len() {
+        hints[place] = hint;
+    }
 }
 
 // What is kept of a gate.
@@ -215,14 +236,17 @@ impl Vectors {
         ensures { IfOk result (λ v. AreFor v (net_of graph.now)) }
     {
         let mut lanes = Lanes::new(alloc, graph)?;
-        let words = drawn_words(alloc, graph.source_count() as usize)?;
+        let words = drawn_words(alloc, graph.source_count() as usize, 0)?;
         lanes.simulate64(graph, words.as_slice());
         let mut blocks = Blocks::new(alloc, graph)?;
+        keep_drawn(alloc, graph, &mut blocks)?;
         keep_all(alloc, graph, found, &mut blocks)?;
+        let hints = vec![in alloc; 0usize; 4 * graph.wire_count() as usize + 1]?;
         let turned = none_kept(alloc, graph.node_bound() as usize)?;
         Ok(Vectors {
             lanes,
             found: blocks,
+            hints,
             turned,
             asked: Vec::new(alloc),
         })
@@ -244,17 +268,26 @@ impl Vectors {
         self.found.follow(alloc, graph, changed)
     }
 
-    /// Whether one of them detects the fault.
+    /// Whether one of them detects the fault. Those that did so last are tried first.
     pub(crate) fn detect(&mut self, question: &Question<'_>) -> bool
         requires vectors { AreFor self.old (net_of question.now.graph.now) }
         ensures detected { IsTrue result → (a : ℕ → Bool) × Detects (net_of question.now.graph.now) question.now.fault a }
         ensures vectors { AreFor self.new (net_of question.now.graph.now) }
     {
+        let place = hint_place(&question.fault, self.hints.len());
+        let hint = hint_at(self.hints.as_slice(), place);
+        if detects_by(&mut self.found, question, hint) {
+            return true;
+        }
         if any(self.lanes.detect(question)) {
+            keep_hint(&mut self.hints, place, 0);
             return true;
         }
         match self.found.detects_any(question) {
-            Some(_vector) => true,
+            Some(vector) => {
+                keep_hint(&mut self.hints, place, vector / 64 + 1);
+                true
+            }
             None => false,
         }
     }

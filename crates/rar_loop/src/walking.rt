@@ -10,7 +10,7 @@ ghost use Rattle.rar_loop.specs.Inner.Walking.{IsTargetTour, IsTour};
 use crate::candidates::candidates_of;
 use crate::trying::{Attempt, try_pair};
 use crate::workspace::Workspace;
-use candidate_wires::{Finder, Pair, targets};
+use candidate_wires::{Finder, Pair, turn};
 use gate_graph::Question;
 use journal_text::Record;
 use refutation::laws::closed_has_all;
@@ -24,8 +24,8 @@ pub(crate) enum Tour {
     Done,
     /// The tries are used up, and this pair would come next.
     Spent { at: Pair },
-    /// A pair gained.
-    Gained { records: Vec<Record> },
+    /// This pair gained.
+    Gained { pair: Pair, records: Vec<Record> },
 }
 
 // Tries a pair, unless one of the vectors detects the fault of the wire's pin.
@@ -86,18 +86,19 @@ fn walk_target(
         *left -= 1;
         match try_unless_detected(alloc, space, wires, &pair, depth)? {
             Attempt::Failed => {}
-            Attempt::Gained { records } => return Ok(Tour::Gained { records }),
+            Attempt::Gained { records } => return Ok(Tour::Gained { pair, records }),
         }
     }
     Ok(Tour::Done)
 }
 
-// Tries the pairs of all targets, in order, until one gains.
+// Tries the pairs of all targets in turn, until one gains.
 fn walk_targets(
     alloc: Global,
     space: &mut Workspace,
     finder: &mut Finder,
     wires: u32,
+    start: Option<Fault>,
     depth: u8,
     left: &mut u32,
 ) -> Result<Tour, NoMemory>
@@ -105,34 +106,35 @@ fn walk_targets(
     requires numbers { length (net_of space.old.trial.graph).nodes ≤ finder.old }
     requires wires { wires ≡ wire_count (net_of space.old.trial.graph) }
     requires depth { depth ≤ 2 }
-    ensures tour { IfOk result (IsTour space.old.trial depth left.old left.new space.new.trial) }
+    ensures tour { IfOk result (IsTour space.old.trial start depth left.old left.new space.new.trial) }
     ensures ready { OnOk result (IsReady space.new) }
 {
-    let faults = targets(alloc, space.trial.graph())?;
+    let faults = turn(alloc, space.trial.graph(), start)?;
     for place in 0..faults.len() {
         let target = faults[place];
         match walk_target(alloc, space, finder, wires, target, depth, left)? {
             Tour::Done => {}
             Tour::Spent { at } => return Ok(Tour::Spent { at }),
-            Tour::Gained { records } => return Ok(Tour::Gained { records }),
+            Tour::Gained { pair, records } => return Ok(Tour::Gained { pair, records }),
         }
     }
     Ok(Tour::Done)
 }
 
-/// Tries the pairs of a swept net, in order, until one gains.
+/// Tries the pairs of a swept net in a turn from a target on, until one gains.
 pub(crate) fn walk_pairs(
     alloc: Global,
     space: &mut Workspace,
+    start: Option<Fault>,
     depth: u8,
     left: &mut u32,
 ) -> Result<Tour, NoMemory>
     requires ready { IsReady space.old }
     requires depth { depth ≤ 2 }
-    ensures tour { IfOk result (IsTour space.old.trial depth left.old left.new space.new.trial) }
+    ensures tour { IfOk result (IsTour space.old.trial start depth left.old left.new space.new.trial) }
     ensures ready { OnOk result (IsReady space.new) }
 {
     let mut finder = Finder::new(alloc, space.trial.graph().node_bound())?;
     let wires = space.trial.graph().wire_count();
-    walk_targets(alloc, space, &mut finder, wires, depth, left)
+    walk_targets(alloc, space, &mut finder, wires, start, depth, left)
 }

@@ -17,7 +17,7 @@ use Rattle.optimisation.specs.declared.rounds.Rounds.{Rounds}
 -- all steps, the verdicts and the end
 pub record IsFilled (start : Net) (settings : Settings) (rounds : Rounds) (old new : Option Files) (journal : List ℕ) : Type 0 where
   pub records : List Record
-  pub run : HasRun start settings rounds.last.graph records rounds.last.made rounds.last.tries rounds.last.settled
+  pub run : HasRun start settings rounds.last.graph records rounds.last.made rounds.last.tries rounds.last.settled rounds.last.start
   pub closed : AreClosed (net_of rounds.last.graph) settings.budget rounds.report.verdicts.items
   pub written : HasAppended old new journal (records_text (records ++ verdict_records rounds.report.verdicts.items) ++ entry_text End)
 

@@ -13,6 +13,7 @@ use Rattle.candidate_wires.specs.declared.candidate.Pair.{Pair}
 use Rattle.candidate_wires.specs.Joining.{MayRead}
 use Rattle.candidate_wires.specs.Gains.{wire_for, with_candidate, Gains}
 use Rattle.candidate_wires.specs.Additions.{additions}
+use Rattle.candidate_wires.specs.Tries.{CostsNoWire}
 use Rattle.wire_edit.specs.Tidying.{TidiesTo}
 use Rattle.journal_text.specs.declared.record.Record.{Record}
 use Rattle.journal_text.specs.declared.record.Record.TheVariants as record_of
@@ -55,7 +56,7 @@ abbrev pub HasAdded : Net → Candidate → ℕ → List Record → Bool → Typ
 HasAdded net c depth records true = (tree : List Item) × ((records ≡ adding_records net c tree) × AcceptedTo net records (with_candidate net c))
 HasAdded net c depth records false = IsNewPinOpen net c depth
 
--- the wire was added and the target fixed, with accepted trees; then the net was tidied, and swept
+-- the wire was added and the target fixed, with accepted trees; then the net was tidied, which left no more wires, and swept
 pub record IsReplaced (net : Net) (pair : Pair) (depth : ℕ) (records : List Record) (after : Net) : Type 0 where
   pub tree : List Item
   pub fix_tree : List Item
@@ -65,15 +66,20 @@ pub record IsReplaced (net : Net) (pair : Pair) (depth : ℕ) (records : List Re
   pub accepted : AcceptedTo net records after
   pub mid : Net
   pub tidied : TidiesTo (fixed (with_candidate net pair.candidate) pair.fault) mid
+  pub no_more : wire_count mid ≤ wire_count net
   pub swept : HasSwept mid after depth
   pub tidy : IsTidy after
   pub gates : gate_count after ≤ gate_count net + 1
   pub numbers : length after.nodes ≤ max (length net.nodes) (live_count net + 1)
 
--- the pair was put through, or one of its two faults has an open set with the wire added
+-- tidying leaves more wires
+abbrev pub CostsWires : Net → Pair → Type 0
+CostsWires net pair = (after : Net) × (TidiesTo (fixed (with_candidate net pair.candidate) pair.fault) after × (wire_count net < wire_count after))
+
+-- the pair was put through; or one of its two faults has an open set with the wire added, or there are more wires
 abbrev pub HasReplaced : Net → Pair → ℕ → List Record → Net → Bool → Type 0
 HasReplaced net pair depth records after true = IsReplaced net pair depth records after
-HasReplaced net pair depth records after false = IsNewPinOpen net pair.candidate depth ⊎ HasOpenSet (with_candidate net pair.candidate) pair.fault depth
+HasReplaced net pair depth records after false = IsNewPinOpen net pair.candidate depth ⊎ (HasOpenSet (with_candidate net pair.candidate) pair.fault depth ⊎ CostsWires net pair)
 
 -- the records lead to a tidy and swept net of fewer wires, by one addition
 pub record IsGained (net : Net) (pair : Pair) (depth : ℕ) (records : List Record) (after : Net) : Type 0 where
@@ -82,6 +88,7 @@ pub record IsGained (net : Net) (pair : Pair) (depth : ℕ) (records : List Reco
   pub tidy : IsTidy after
   pub swept : IsSwept after depth
   pub clean : IsClean false (steps_of records)
+  pub cost : CostsNoWire net pair
   pub addition : additions net (steps_of records) ≡ record { before = net; candidate = pair.candidate; target = Some pair.fault; after = after } ∷ []
 
 -- a graph of fewer wires, by one addition; it takes no more than before, and the steps are as few as a trial has room for

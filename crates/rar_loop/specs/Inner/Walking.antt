@@ -1,12 +1,12 @@
 -- Going through the pairs of a net.
-use Rattle.std.specs.Prelude.{◌≡◌, ◌+◌, ℕ, suc, List, Some, length, map, take, slice_get}
+use Rattle.std.specs.Prelude.{◌≡◌, ◌+◌, ℕ, suc, List, Option, Some, length, map, take, slice_get}
 use Rattle.rm_base.specs.declared.numbers.Fault.{Fault}
 use Rattle.gate_net.specs.Net.{Net}
 use Rattle.gate_graph.specs.Circuit.{Circuit, net_of}
 use Rattle.candidate_wires.specs.declared.candidate.Candidate.{Candidate}
 use Rattle.candidate_wires.specs.declared.candidate.Pair.{Pair}
 use Rattle.candidate_wires.specs.Candidates.{AreCandidatesOf}
-use Rattle.candidate_wires.specs.Pairs.{ArePairs, ArePairsBefore, paired}
+use Rattle.candidate_wires.specs.Pairs.{ArePairsBefore, ArePairsInTurn, paired}
 use Rattle.candidate_wires.specs.Tries.{NoneGains}
 use Rattle.rar_loop.specs.declared.walking.Tour.{Tour}
 use Rattle.rar_loop.specs.declared.walking.Tour.TheVariants as tour
@@ -25,23 +25,24 @@ IsTargetTour before target depth left after now tour.Done =
     IsBack before now × ((here : List Candidate) × (AreTried (net_of before.graph) target here (length here) × (after + length here ≡ left)))
 IsTargetTour before target depth left after now (tour.Spent at) =
     IsBack before now × ((here : List Candidate) × ((place : ℕ) × (AreTried (net_of before.graph) target here place × ((at.fault ≡ target) × ((slice_get here place ≡ Some at.candidate) × ((after ≡ 0) × (place ≡ left)))))))
-IsTargetTour before target depth left after now (tour.Gained records) =
-    (here : List Candidate) × ((place : ℕ) × ((c : Candidate) × (AreTried (net_of before.graph) target here place × ((slice_get here place ≡ Some c) × ((after + suc place ≡ left) × IsAhead before (paired target c) depth records.items now)))))
+IsTargetTour before target depth left after now (tour.Gained pair records) =
+    (here : List Candidate) × ((place : ℕ) × (AreTried (net_of before.graph) target here place × ((pair.fault ≡ target) × ((slice_get here place ≡ Some pair.candidate) × ((after + suc place ≡ left) × IsAhead before pair depth records.items now)))))
 
--- all pairs were tried in vain; or those before one at which the tries are used up, or before one that gained, on the graph of the trial
-abbrev pub IsTour : Tried → ℕ → ℕ → ℕ → Tried → Tour → Type 0
-IsTour before depth left after now tour.Done =
-    IsBack before now × ((pairs : List Pair) × (ArePairs (net_of before.graph) pairs × (NoneGains (net_of before.graph) pairs × (after + length pairs ≡ left))))
-IsTour before depth left after now (tour.Spent at) =
-    IsBack before now × ((pairs : List Pair) × (ArePairsBefore (net_of before.graph) at pairs × (NoneGains (net_of before.graph) pairs × ((after ≡ 0) × (length pairs ≡ left)))))
-IsTour before depth left after now (tour.Gained records) =
-    (pair : Pair) × ((pairs : List Pair) × (ArePairsBefore (net_of before.graph) pair pairs × (NoneGains (net_of before.graph) pairs × ((after + suc (length pairs) ≡ left) × IsAhead before pair depth records.items now))))
+-- all pairs of a turn were tried in vain; or those before one at which the tries are used up, or before one that gained, on the graph
+-- of the trial
+abbrev pub IsTour : Tried → Option Fault → ℕ → ℕ → ℕ → Tried → Tour → Type 0
+IsTour before start depth left after now tour.Done =
+    IsBack before now × ((pairs : List Pair) × (ArePairsInTurn (net_of before.graph) start pairs × (NoneGains (net_of before.graph) pairs × (after + length pairs ≡ left))))
+IsTour before start depth left after now (tour.Spent at) =
+    IsBack before now × ((pairs : List Pair) × (ArePairsBefore (net_of before.graph) start at pairs × (NoneGains (net_of before.graph) pairs × ((after ≡ 0) × (length pairs ≡ left)))))
+IsTour before start depth left after now (tour.Gained pair records) =
+    (pairs : List Pair) × (ArePairsBefore (net_of before.graph) start pair pairs × (NoneGains (net_of before.graph) pairs × ((after + suc (length pairs) ≡ left) × IsAhead before pair depth records.items now)))
 
--- all pairs were tried in vain; or those before one at which the tries are used up, or before one that gained, on the graph that is given
-abbrev pub IsWalk : Circuit → ℕ → ℕ → ℕ → Circuit → Tour → Type 0
-IsWalk before depth left after graph tour.Done =
-    IsSame before graph × ((pairs : List Pair) × (ArePairs (net_of before) pairs × (NoneGains (net_of before) pairs × (after + length pairs ≡ left))))
-IsWalk before depth left after graph (tour.Spent at) =
-    IsSame before graph × ((pairs : List Pair) × (ArePairsBefore (net_of before) at pairs × (NoneGains (net_of before) pairs × ((after ≡ 0) × (length pairs ≡ left)))))
-IsWalk before depth left after graph (tour.Gained records) =
-    (pair : Pair) × ((pairs : List Pair) × (ArePairsBefore (net_of before) pair pairs × (NoneGains (net_of before) pairs × ((after + suc (length pairs) ≡ left) × IsBetter before pair depth records.items graph))))
+-- the same of the graph that is given
+abbrev pub IsWalk : Circuit → Option Fault → ℕ → ℕ → ℕ → Circuit → Tour → Type 0
+IsWalk before start depth left after graph tour.Done =
+    IsSame before graph × ((pairs : List Pair) × (ArePairsInTurn (net_of before) start pairs × (NoneGains (net_of before) pairs × (after + length pairs ≡ left))))
+IsWalk before start depth left after graph (tour.Spent at) =
+    IsSame before graph × ((pairs : List Pair) × (ArePairsBefore (net_of before) start at pairs × (NoneGains (net_of before) pairs × ((after ≡ 0) × (length pairs ≡ left)))))
+IsWalk before start depth left after graph (tour.Gained pair records) =
+    (pairs : List Pair) × (ArePairsBefore (net_of before) start pair pairs × (NoneGains (net_of before) pairs × ((after + suc (length pairs) ≡ left) × IsBetter before pair depth records.items graph)))

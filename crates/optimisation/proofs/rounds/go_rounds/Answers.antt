@@ -12,9 +12,9 @@ returns-in_err-closed-clause-stopped g c =
 pub returns-then-report-eq0-clause-ended : goal.returns-then-report-eq0-clause-ended
 returns-then-report-eq0-clause-ended g c = record {
   recorded = nothing_closed c.texts_append.ensures (net_of c.args.graph) c.args.settings.now c.loop-closed.round
-      (record { graph = c.in_ok-closed.closed; made = c.loop-closed.round.made; tries = c.loop-closed.round.tries; settled = c.loop-closed.round.settled }) c.in_ok-closed.report
+      (record { graph = c.in_ok-closed.closed; made = c.loop-closed.round.made; tries = c.loop-closed.round.tries; settled = c.loop-closed.round.settled; start = c.loop-closed.round.start }) c.in_ok-closed.report
       (g.S.Shelf.files c.args.shelf.now) (g.S.Shelf.files c.loop-closed.shelf) (g.S.Shelf.files c.close_faults.new.shelf) c.args.journal.now
-      c.loop-closed.invariant.recorded c.in_ok-closed.ensures.closed c.if-report-eq0.true c.in_ok-closed.ensures.no_fuller refl refl refl;
+      c.loop-closed.invariant.recorded c.in_ok-closed.ensures.closed c.if-report-eq0.true c.in_ok-closed.ensures.no_fuller refl refl refl refl;
   closed = c.in_ok-closed.ensures.verdicts;
 }
 

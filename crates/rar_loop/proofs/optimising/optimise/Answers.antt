@@ -12,32 +12,32 @@ improve_swept-requires-clause-begun g c =
 
 pub returns-clause-optimised : goal.returns-clause-optimised
 returns-clause-optimised g c =
-    let t : IsThrough c.args.graph c.args.settings.now.depth c.args.settings.now.tries c.into_graph.result c.in_ok-outcome.outcome c.in_ok-outcome.made (g.S.Shelf.files c.args.shelf.now) (g.S.Shelf.files c.improve_swept.new.shelf) c.args.journal.now = through_same c.args.graph c.improve_swept.new.space.trial.graph c.into_graph.result c.args.settings.now.depth c.args.settings.now.tries c.in_ok-outcome.outcome c.in_ok-outcome.made (g.S.Shelf.files c.args.shelf.now) (g.S.Shelf.files c.improve_swept.new.shelf) c.args.journal.now (c.in_ok-outcome.ensures.through c.args.graph (subst (λ (rs : List Record). HasBegun c.args.graph c.args.settings.now.depth c.in_ok-space.space.trial.graph rs) (sym c.deref.ensures.value) c.in_ok-space.ensures.begun)) c.into_graph.ensures in
+    let t : IsThrough c.args.graph c.args.start.now c.improve_swept.new.start c.args.settings.now.depth c.args.settings.now.tries c.into_graph.result c.in_ok-outcome.outcome c.in_ok-outcome.made (g.S.Shelf.files c.args.shelf.now) (g.S.Shelf.files c.improve_swept.new.shelf) c.args.journal.now = through_same c.args.graph c.improve_swept.new.space.trial.graph c.into_graph.result c.args.start.now c.improve_swept.new.start c.args.settings.now.depth c.args.settings.now.tries c.in_ok-outcome.outcome c.in_ok-outcome.made (g.S.Shelf.files c.args.shelf.now) (g.S.Shelf.files c.improve_swept.new.shelf) c.args.journal.now (c.in_ok-outcome.ensures.through c.args.graph (subst (λ (rs : List Record). HasBegun c.args.graph c.args.settings.now.depth c.in_ok-space.space.trial.graph rs) (sym c.deref.ensures.value) c.in_ok-space.ensures.begun)) c.into_graph.ensures in
     t.optimised
 
 pub returns-clause-keeps : goal.returns-clause-keeps
 returns-clause-keeps g c =
-    let t : IsThrough c.args.graph c.args.settings.now.depth c.args.settings.now.tries c.into_graph.result c.in_ok-outcome.outcome c.in_ok-outcome.made (g.S.Shelf.files c.args.shelf.now) (g.S.Shelf.files c.improve_swept.new.shelf) c.args.journal.now = through_same c.args.graph c.improve_swept.new.space.trial.graph c.into_graph.result c.args.settings.now.depth c.args.settings.now.tries c.in_ok-outcome.outcome c.in_ok-outcome.made (g.S.Shelf.files c.args.shelf.now) (g.S.Shelf.files c.improve_swept.new.shelf) c.args.journal.now (c.in_ok-outcome.ensures.through c.args.graph (subst (λ (rs : List Record). HasBegun c.args.graph c.args.settings.now.depth c.in_ok-space.space.trial.graph rs) (sym c.deref.ensures.value) c.in_ok-space.ensures.begun)) c.into_graph.ensures in
+    let t : IsThrough c.args.graph c.args.start.now c.improve_swept.new.start c.args.settings.now.depth c.args.settings.now.tries c.into_graph.result c.in_ok-outcome.outcome c.in_ok-outcome.made (g.S.Shelf.files c.args.shelf.now) (g.S.Shelf.files c.improve_swept.new.shelf) c.args.journal.now = through_same c.args.graph c.improve_swept.new.space.trial.graph c.into_graph.result c.args.start.now c.improve_swept.new.start c.args.settings.now.depth c.args.settings.now.tries c.in_ok-outcome.outcome c.in_ok-outcome.made (g.S.Shelf.files c.args.shelf.now) (g.S.Shelf.files c.improve_swept.new.shelf) c.args.journal.now (c.in_ok-outcome.ensures.through c.args.graph (subst (λ (rs : List Record). HasBegun c.args.graph c.args.settings.now.depth c.in_ok-space.space.trial.graph rs) (sym c.deref.ensures.value) c.in_ok-space.ensures.begun)) c.into_graph.ensures in
     c.accepted_runs_keep.ensures (net_of c.args.graph) (net_of c.into_graph.result) t.optimised.records c.well_formed-2.ensures.net t.optimised.improved.accepted
 
 pub returns-clause-tidy : goal.returns-clause-tidy
 returns-clause-tidy g c =
-    let t : IsThrough c.args.graph c.args.settings.now.depth c.args.settings.now.tries c.into_graph.result c.in_ok-outcome.outcome c.in_ok-outcome.made (g.S.Shelf.files c.args.shelf.now) (g.S.Shelf.files c.improve_swept.new.shelf) c.args.journal.now = through_same c.args.graph c.improve_swept.new.space.trial.graph c.into_graph.result c.args.settings.now.depth c.args.settings.now.tries c.in_ok-outcome.outcome c.in_ok-outcome.made (g.S.Shelf.files c.args.shelf.now) (g.S.Shelf.files c.improve_swept.new.shelf) c.args.journal.now (c.in_ok-outcome.ensures.through c.args.graph (subst (λ (rs : List Record). HasBegun c.args.graph c.args.settings.now.depth c.in_ok-space.space.trial.graph rs) (sym c.deref.ensures.value) c.in_ok-space.ensures.begun)) c.into_graph.ensures in
+    let t : IsThrough c.args.graph c.args.start.now c.improve_swept.new.start c.args.settings.now.depth c.args.settings.now.tries c.into_graph.result c.in_ok-outcome.outcome c.in_ok-outcome.made (g.S.Shelf.files c.args.shelf.now) (g.S.Shelf.files c.improve_swept.new.shelf) c.args.journal.now = through_same c.args.graph c.improve_swept.new.space.trial.graph c.into_graph.result c.args.start.now c.improve_swept.new.start c.args.settings.now.depth c.args.settings.now.tries c.in_ok-outcome.outcome c.in_ok-outcome.made (g.S.Shelf.files c.args.shelf.now) (g.S.Shelf.files c.improve_swept.new.shelf) c.args.journal.now (c.in_ok-outcome.ensures.through c.args.graph (subst (λ (rs : List Record). HasBegun c.args.graph c.args.settings.now.depth c.in_ok-space.space.trial.graph rs) (sym c.deref.ensures.value) c.in_ok-space.ensures.begun)) c.into_graph.ensures in
     t.optimised.improved.tidy
 
 pub returns-clause-swept : goal.returns-clause-swept
 returns-clause-swept g c =
-    let t : IsThrough c.args.graph c.args.settings.now.depth c.args.settings.now.tries c.into_graph.result c.in_ok-outcome.outcome c.in_ok-outcome.made (g.S.Shelf.files c.args.shelf.now) (g.S.Shelf.files c.improve_swept.new.shelf) c.args.journal.now = through_same c.args.graph c.improve_swept.new.space.trial.graph c.into_graph.result c.args.settings.now.depth c.args.settings.now.tries c.in_ok-outcome.outcome c.in_ok-outcome.made (g.S.Shelf.files c.args.shelf.now) (g.S.Shelf.files c.improve_swept.new.shelf) c.args.journal.now (c.in_ok-outcome.ensures.through c.args.graph (subst (λ (rs : List Record). HasBegun c.args.graph c.args.settings.now.depth c.in_ok-space.space.trial.graph rs) (sym c.deref.ensures.value) c.in_ok-space.ensures.begun)) c.into_graph.ensures in
+    let t : IsThrough c.args.graph c.args.start.now c.improve_swept.new.start c.args.settings.now.depth c.args.settings.now.tries c.into_graph.result c.in_ok-outcome.outcome c.in_ok-outcome.made (g.S.Shelf.files c.args.shelf.now) (g.S.Shelf.files c.improve_swept.new.shelf) c.args.journal.now = through_same c.args.graph c.improve_swept.new.space.trial.graph c.into_graph.result c.args.start.now c.improve_swept.new.start c.args.settings.now.depth c.args.settings.now.tries c.in_ok-outcome.outcome c.in_ok-outcome.made (g.S.Shelf.files c.args.shelf.now) (g.S.Shelf.files c.improve_swept.new.shelf) c.args.journal.now (c.in_ok-outcome.ensures.through c.args.graph (subst (λ (rs : List Record). HasBegun c.args.graph c.args.settings.now.depth c.in_ok-space.space.trial.graph rs) (sym c.deref.ensures.value) c.in_ok-space.ensures.begun)) c.into_graph.ensures in
     t.optimised.improved.swept
 
 pub returns-clause-fewer : goal.returns-clause-fewer
 returns-clause-fewer g c =
-    let t : IsThrough c.args.graph c.args.settings.now.depth c.args.settings.now.tries c.into_graph.result c.in_ok-outcome.outcome c.in_ok-outcome.made (g.S.Shelf.files c.args.shelf.now) (g.S.Shelf.files c.improve_swept.new.shelf) c.args.journal.now = through_same c.args.graph c.improve_swept.new.space.trial.graph c.into_graph.result c.args.settings.now.depth c.args.settings.now.tries c.in_ok-outcome.outcome c.in_ok-outcome.made (g.S.Shelf.files c.args.shelf.now) (g.S.Shelf.files c.improve_swept.new.shelf) c.args.journal.now (c.in_ok-outcome.ensures.through c.args.graph (subst (λ (rs : List Record). HasBegun c.args.graph c.args.settings.now.depth c.in_ok-space.space.trial.graph rs) (sym c.deref.ensures.value) c.in_ok-space.ensures.begun)) c.into_graph.ensures in
+    let t : IsThrough c.args.graph c.args.start.now c.improve_swept.new.start c.args.settings.now.depth c.args.settings.now.tries c.into_graph.result c.in_ok-outcome.outcome c.in_ok-outcome.made (g.S.Shelf.files c.args.shelf.now) (g.S.Shelf.files c.improve_swept.new.shelf) c.args.journal.now = through_same c.args.graph c.improve_swept.new.space.trial.graph c.into_graph.result c.args.start.now c.improve_swept.new.start c.args.settings.now.depth c.args.settings.now.tries c.in_ok-outcome.outcome c.in_ok-outcome.made (g.S.Shelf.files c.args.shelf.now) (g.S.Shelf.files c.improve_swept.new.shelf) c.args.journal.now (c.in_ok-outcome.ensures.through c.args.graph (subst (λ (rs : List Record). HasBegun c.args.graph c.args.settings.now.depth c.in_ok-space.space.trial.graph rs) (sym c.deref.ensures.value) c.in_ok-space.ensures.begun)) c.into_graph.ensures in
     t.optimised.improved.fewer
 
 pub returns-clause-within : goal.returns-clause-within
 returns-clause-within g c =
-    let t : IsThrough c.args.graph c.args.settings.now.depth c.args.settings.now.tries c.into_graph.result c.in_ok-outcome.outcome c.in_ok-outcome.made (g.S.Shelf.files c.args.shelf.now) (g.S.Shelf.files c.improve_swept.new.shelf) c.args.journal.now = through_same c.args.graph c.improve_swept.new.space.trial.graph c.into_graph.result c.args.settings.now.depth c.args.settings.now.tries c.in_ok-outcome.outcome c.in_ok-outcome.made (g.S.Shelf.files c.args.shelf.now) (g.S.Shelf.files c.improve_swept.new.shelf) c.args.journal.now (c.in_ok-outcome.ensures.through c.args.graph (subst (λ (rs : List Record). HasBegun c.args.graph c.args.settings.now.depth c.in_ok-space.space.trial.graph rs) (sym c.deref.ensures.value) c.in_ok-space.ensures.begun)) c.into_graph.ensures in
+    let t : IsThrough c.args.graph c.args.start.now c.improve_swept.new.start c.args.settings.now.depth c.args.settings.now.tries c.into_graph.result c.in_ok-outcome.outcome c.in_ok-outcome.made (g.S.Shelf.files c.args.shelf.now) (g.S.Shelf.files c.improve_swept.new.shelf) c.args.journal.now = through_same c.args.graph c.improve_swept.new.space.trial.graph c.into_graph.result c.args.start.now c.improve_swept.new.start c.args.settings.now.depth c.args.settings.now.tries c.in_ok-outcome.outcome c.in_ok-outcome.made (g.S.Shelf.files c.args.shelf.now) (g.S.Shelf.files c.improve_swept.new.shelf) c.args.journal.now (c.in_ok-outcome.ensures.through c.args.graph (subst (λ (rs : List Record). HasBegun c.args.graph c.args.settings.now.depth c.in_ok-space.space.trial.graph rs) (sym c.deref.ensures.value) c.in_ok-space.ensures.begun)) c.into_graph.ensures in
     t.within
 
 pub returns-in_err-space-clause-stopped : goal.returns-in_err-space-clause-stopped

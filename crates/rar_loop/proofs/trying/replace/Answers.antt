@@ -1,5 +1,5 @@
 use Rattle.std.proofs.Common.{◌≡◌, ◌+◌, ◌≤◌, Bool, true, ◌∙◌, ap, subst, arith}
-use Rattle.gate_net.specs.Net.{Net, IsWellFormed, source_count}
+use Rattle.gate_net.specs.Net.{Net, IsWellFormed, source_count, wire_count}
 use Rattle.gate_graph.specs.Circuit.{Circuit, net_of}
 use Rattle.candidate_wires.specs.Gains.{with_candidate}
 use Rattle.wire_edit.specs.Tried.{Tried}
@@ -33,8 +33,11 @@ returns-clause-replaced c =
     let net : Net = net_of c.args.space.now.trial.graph in
     let yes_added : c.in_ok-has_added.has_added ≡ true = c.if-not-has_added.false in
     let added : HasAdded net c.args.pair.now.candidate c.args.depth c.add_wire.new.log.items true = subst (λ (b : Bool). HasAdded net c.args.pair.now.candidate c.args.depth c.add_wire.new.log.items b) yes_added c.in_ok-has_added.ensures.added in
+    let no_more : wire_count (net_of c.fix_and_tidy.new.trial.graph) ≤ wire_count net =
+    let count : c.wire_count.result ≡ wire_count (net_of c.fix_and_tidy.new.trial.graph) = c.wire_count.ensures ∙ ap (λ (v : Circuit). wire_count (net_of v)) c.graph-in-Some.ensures in
+    omega (arith, c.if-wire_count-wires.false, count, c.requires.wires) in
     replaced_whole net (net_of c.add_wire.new.trial.graph) (net_of c.fix_and_tidy.new.trial.graph) (net_of c.sweep.new.space.trial.graph) c.args.pair.now c.args.depth c.in-Some.tree c.add_wire.new.log.items c.fix_and_tidy.new.log.items c.sweep.new.log.items
-    added c.in_ok-has_added.ensures.net c.in_ok-fix_and_tidy-in-Some.ensures.fixed c.in_ok-fix_and_tidy-in-Some.ensures.goes.logs c.in_ok-fix_and_tidy-in-Some.ensures.order second.logs swept c.in_ok-sweep-in-Some.ensures.tidy
+    added c.in_ok-has_added.ensures.net c.in_ok-fix_and_tidy-in-Some.ensures.fixed c.in_ok-fix_and_tidy-in-Some.ensures.goes.logs c.in_ok-fix_and_tidy-in-Some.ensures.order second.logs swept c.in_ok-sweep-in-Some.ensures.tidy no_more
     c.in_ok-fix_and_tidy-in-Some.ensures.goes.no_larger second.no_larger
 
 pub returns-clause-tallies : goal.returns-clause-tallies

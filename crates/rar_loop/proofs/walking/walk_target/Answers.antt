@@ -41,7 +41,7 @@ returns-in-Gained-clause-tour c =
     let lt : c.loop-place.place < length c.in_ok-found.found.items = omega (arith, c.loop-place-test.true, c.len-place-end.ensures, c.in_ok-found.found.ok.0) in
     let at : slice_get c.in_ok-found.found.items c.loop-place.place ≡ Some c.index.result.now = read_stands c.in_ok-found.found.items c.loop-place.place c.index.result.now lt c.index.ensures in
     let gained : IsAhead c.loop-place.space.trial pair c.args.depth c.in-Gained.records.items c.try_unless_detected.new.space.trial = subst (IsAttempt c.loop-place.space.trial pair c.args.depth c.try_unless_detected.new.space.trial) c.in-Gained.is c.in_ok-try_unless_detected.ensures.attempt in
-    (c.in_ok-found.found.items, (c.loop-place.place, (c.index.result.now, (inv.tried, (at, (omega (arith, inv.sum, c.if-left-eq0.false), ahead_back c.args.space.now.trial c.loop-place.space.trial c.try_unless_detected.new.space.trial pair c.args.depth c.in-Gained.records.items inv.stays gained))))))
+    (c.in_ok-found.found.items, (c.loop-place.place, (inv.tried, (refl, (at, (omega (arith, inv.sum, c.if-left-eq0.false), ahead_back c.args.space.now.trial c.loop-place.space.trial c.try_unless_detected.new.space.trial pair c.args.depth c.in-Gained.records.items inv.stays gained))))))
 
 pub loop-place-preserved : goal.loop-place-preserved
 loop-place-preserved c =

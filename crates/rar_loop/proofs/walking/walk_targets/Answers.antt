@@ -4,10 +4,10 @@ use Rattle.rm_base.specs.declared.numbers.Fault.{Fault}
 use Rattle.gate_net.specs.Net.{Net, wire_count}
 use Rattle.gate_net.specs.Values.{HasPin}
 use Rattle.gate_graph.specs.Circuit.{Circuit, net_of}
-use Rattle.candidate_wires.specs.Pairs.{paired, targets_of}
+use Rattle.candidate_wires.specs.Pairs.{turn_of}
 use Rattle.rar_loop.specs.declared.walking.Tour.TheVariants.{Done, Spent, Gained}
 use Rattle.rar_loop.specs.Inner.Walking.{IsTargetTour}
-use Rattle.rar_loop.proofs.Pairing.{WalkedTo, tour_back, walked_none, walked_more, walked_to, walked_all, targets_pin, back_none}
+use Rattle.rar_loop.proofs.Pairing.{WalkedTo, tour_back, walked_none, walked_more, walked_to, walked_all, turn_pin, back_none}
 use Rattle.rar_loop.proofs.Spacing.{ready_ahead, ready_still}
 use Rattle.rar_loop.proofs.walking.walk_targets.Goals as goal
 use Rattle.rm_base.proofs.Public.{read_stands}
@@ -23,8 +23,8 @@ walk_target-requires-clause-pin c =
     let t : Fault = c.index-target.result.now in
     let lt : c.loop-place.place < length c.in_ok-faults.faults.items = omega (arith, c.loop-place-test.true, c.len-place-end.ensures, c.in_ok-faults.faults.ok.0) in
     let at : slice_get c.in_ok-faults.faults.items c.loop-place.place ≡ Some t = read_stands c.in_ok-faults.faults.items c.loop-place.place t lt c.index-target.ensures in
-    let are : c.in_ok-faults.faults.items ≡ targets_of net = c.in_ok-faults.ensures ∙ ap (λ (v : Circuit). targets_of (net_of v)) c.graph.ensures in
-    subst (λ (n : Net). HasPin n t) (sym c.loop-place.invariant.stays.same.net) (targets_pin net c.loop-place.place t (subst (λ (fs : List Fault). slice_get fs c.loop-place.place ≡ Some t) are at))
+    let are : c.in_ok-faults.faults.items ≡ turn_of net c.args.start = c.in_ok-faults.ensures ∙ ap (λ (v : Circuit). turn_of (net_of v) c.args.start) c.graph.ensures in
+    subst (λ (n : Net). HasPin n t) (sym c.loop-place.invariant.stays.same.net) (turn_pin net c.args.start c.loop-place.place t (subst (λ (fs : List Fault). slice_get fs c.loop-place.place ≡ Some t) are at))
 
 pub walk_target-requires-clause-wires : goal.walk_target-requires-clause-wires
 walk_target-requires-clause-wires c = c.requires.wires ∙ ap wire_count (sym c.loop-place.invariant.stays.same.net)
@@ -36,11 +36,11 @@ returns-in-Spent c =
     let inv = c.loop-place.invariant in
     let lt : c.loop-place.place < length c.in_ok-faults.faults.items = omega (arith, c.loop-place-test.true, c.len-place-end.ensures, c.in_ok-faults.faults.ok.0) in
     let at : slice_get c.in_ok-faults.faults.items c.loop-place.place ≡ Some t = read_stands c.in_ok-faults.faults.items c.loop-place.place t lt c.index-target.ensures in
-    let are : c.in_ok-faults.faults.items ≡ targets_of net = c.in_ok-faults.ensures ∙ ap (λ (v : Circuit). targets_of (net_of v)) c.graph.ensures in
+    let are : c.in_ok-faults.faults.items ≡ turn_of net c.args.start = c.in_ok-faults.ensures ∙ ap (λ (v : Circuit). turn_of (net_of v) c.args.start) c.graph.ensures in
     let tw : IsTargetTour c.loop-place.space.trial t c.args.depth c.loop-place.left c.walk_target.new.left c.walk_target.new.space.trial (Spent c.in-Spent.at) = subst (IsTargetTour c.loop-place.space.trial t c.args.depth c.loop-place.left c.walk_target.new.left c.walk_target.new.space.trial) c.in-Spent.is c.in_ok-walk_target.ensures.tour in
     let here : IsTargetTour c.args.space.now.trial t c.args.depth c.loop-place.left c.walk_target.new.left c.walk_target.new.space.trial (Spent c.in-Spent.at) = tour_back c.args.space.now.trial c.loop-place.space.trial c.walk_target.new.space.trial t c.args.depth c.loop-place.left c.walk_target.new.left (Spent c.in-Spent.at) inv.stays tw in
-    let to : WalkedTo net c.in-Spent.at (length inv.walked.pairs + here.1.1.0) =
-    walked_to net c.in_ok-faults.faults.items c.loop-place.place c.args.left.now c.loop-place.left t here.1.0 here.1.1.0 c.in-Spent.at are inv.walked at here.1.1.1.0 here.1.1.1.1.0 here.1.1.1.1.1.0 (length inv.walked.pairs + here.1.1.0) (omega (arith, inv.walked.sum)) in
+    let to : WalkedTo net c.args.start c.in-Spent.at (length inv.walked.pairs + here.1.1.0) =
+    walked_to net c.args.start c.in_ok-faults.faults.items c.loop-place.place c.args.left.now c.loop-place.left t here.1.0 here.1.1.0 c.in-Spent.at are inv.walked at here.1.1.1.0 here.1.1.1.1.0 here.1.1.1.1.1.0 (length inv.walked.pairs + here.1.1.0) (omega (arith, inv.walked.sum)) in
     record {
       tour = (here.0, (to.pairs, (to.before, (to.none, (here.1.1.1.1.1.1.0, omega (arith, to.count, inv.walked.sum, here.1.1.1.1.1.1.1))))));
       ready = ready_still c.args.space.now c.walk_target.new.space c.requires.ready here.0 c.in_ok-walk_target.ensures.tools;
@@ -53,14 +53,14 @@ returns-in-Gained c =
     let inv = c.loop-place.invariant in
     let lt : c.loop-place.place < length c.in_ok-faults.faults.items = omega (arith, c.loop-place-test.true, c.len-place-end.ensures, c.in_ok-faults.faults.ok.0) in
     let at : slice_get c.in_ok-faults.faults.items c.loop-place.place ≡ Some t = read_stands c.in_ok-faults.faults.items c.loop-place.place t lt c.index-target.ensures in
-    let are : c.in_ok-faults.faults.items ≡ targets_of net = c.in_ok-faults.ensures ∙ ap (λ (v : Circuit). targets_of (net_of v)) c.graph.ensures in
-    let tw : IsTargetTour c.loop-place.space.trial t c.args.depth c.loop-place.left c.walk_target.new.left c.walk_target.new.space.trial (Gained c.in-Gained.records) = subst (IsTargetTour c.loop-place.space.trial t c.args.depth c.loop-place.left c.walk_target.new.left c.walk_target.new.space.trial) c.in-Gained.is c.in_ok-walk_target.ensures.tour in
-    let here : IsTargetTour c.args.space.now.trial t c.args.depth c.loop-place.left c.walk_target.new.left c.walk_target.new.space.trial (Gained c.in-Gained.records) = tour_back c.args.space.now.trial c.loop-place.space.trial c.walk_target.new.space.trial t c.args.depth c.loop-place.left c.walk_target.new.left (Gained c.in-Gained.records) inv.stays tw in
-    let to : WalkedTo net (paired t here.1.1.0) (length inv.walked.pairs + here.1.0) =
-    walked_to net c.in_ok-faults.faults.items c.loop-place.place c.args.left.now c.loop-place.left t here.0 here.1.0 (paired t here.1.1.0) are inv.walked at here.1.1.1.0 refl here.1.1.1.1.0 (length inv.walked.pairs + here.1.0) (omega (arith, inv.walked.sum)) in
+    let are : c.in_ok-faults.faults.items ≡ turn_of net c.args.start = c.in_ok-faults.ensures ∙ ap (λ (v : Circuit). turn_of (net_of v) c.args.start) c.graph.ensures in
+    let tw : IsTargetTour c.loop-place.space.trial t c.args.depth c.loop-place.left c.walk_target.new.left c.walk_target.new.space.trial (Gained c.in-Gained.pair c.in-Gained.records) = subst (IsTargetTour c.loop-place.space.trial t c.args.depth c.loop-place.left c.walk_target.new.left c.walk_target.new.space.trial) c.in-Gained.is c.in_ok-walk_target.ensures.tour in
+    let here : IsTargetTour c.args.space.now.trial t c.args.depth c.loop-place.left c.walk_target.new.left c.walk_target.new.space.trial (Gained c.in-Gained.pair c.in-Gained.records) = tour_back c.args.space.now.trial c.loop-place.space.trial c.walk_target.new.space.trial t c.args.depth c.loop-place.left c.walk_target.new.left (Gained c.in-Gained.pair c.in-Gained.records) inv.stays tw in
+    let to : WalkedTo net c.args.start c.in-Gained.pair (length inv.walked.pairs + here.1.0) =
+    walked_to net c.args.start c.in_ok-faults.faults.items c.loop-place.place c.args.left.now c.loop-place.left t here.0 here.1.0 c.in-Gained.pair are inv.walked at here.1.1.0 here.1.1.1.0 here.1.1.1.1.0 (length inv.walked.pairs + here.1.0) (omega (arith, inv.walked.sum)) in
     record {
-      tour = (paired t here.1.1.0, (to.pairs, (to.before, (to.none, (omega (arith, to.count, inv.walked.sum, here.1.1.1.1.1.0), here.1.1.1.1.1.1)))));
-      ready = ready_ahead c.args.space.now c.walk_target.new.space (paired t here.1.1.0) c.args.depth c.in-Gained.records.items here.1.1.1.1.1.1 c.in_ok-walk_target.ensures.tools;
+      tour = (to.pairs, (to.before, (to.none, (omega (arith, to.count, inv.walked.sum, here.1.1.1.1.1.0), here.1.1.1.1.1.1))));
+      ready = ready_ahead c.args.space.now c.walk_target.new.space c.in-Gained.pair c.args.depth c.in-Gained.records.items here.1.1.1.1.1.1 c.in_ok-walk_target.ensures.tools;
     }
 
 pub loop-place-preserved : goal.loop-place-preserved
@@ -88,9 +88,9 @@ pub returns : goal.returns
 returns c =
     let net : Net = net_of c.args.space.now.trial.graph in
     let inv = c.loop-place.invariant in
-    let are : c.in_ok-faults.faults.items ≡ targets_of net = c.in_ok-faults.ensures ∙ ap (λ (v : Circuit). targets_of (net_of v)) c.graph.ensures in
+    let are : c.in_ok-faults.faults.items ≡ turn_of net c.args.start = c.in_ok-faults.ensures ∙ ap (λ (v : Circuit). turn_of (net_of v) c.args.start) c.graph.ensures in
     record {
-      tour = (inv.stays, walked_all net c.in_ok-faults.faults.items c.loop-place.place c.args.left.now c.loop-place.left are (omega (arith, c.loop-place-test.false, c.len-place-end.ensures, c.in_ok-faults.faults.ok.0)) inv.walked);
+      tour = (inv.stays, walked_all net c.args.start c.in_ok-faults.faults.items c.loop-place.place c.args.left.now c.loop-place.left are (omega (arith, c.loop-place-test.false, c.len-place-end.ensures, c.in_ok-faults.faults.ok.0)) inv.walked);
       ready = ready_still c.args.space.now c.loop-place.space c.requires.ready inv.stays inv.tools;
     }
 

@@ -11,6 +11,6 @@ returns-then-any-clause-detected c = λ some.
 
 pub returns-in-Some-clause-detected : goal.returns-in-Some-clause-detected
 returns-in-Some-clause-detected c = λ some.
-    let first : IsFirstVector (net_of c.args.question.now.graph.now) c.args.question.now.fault c.args.self.now.found.words (Some c.in-Some._vector) =
-    subst (λ (o : Option ℕ). IsFirstVector (net_of c.args.question.now.graph.now) c.args.question.now.fault c.args.self.now.found.words o) c.in-Some.is c.detects_any.ensures.first in
-    (vector_of c.args.self.now.found.words c.in-Some._vector, first.1.0)
+    let first : IsFirstVector (net_of c.args.question.now.graph.now) c.args.question.now.fault c.detects_by.new.blocks.words (Some c.in-Some.vector) =
+    subst (λ (o : Option ℕ). IsFirstVector (net_of c.args.question.now.graph.now) c.args.question.now.fault c.detects_by.new.blocks.words o) c.in-Some.is c.detects_any.ensures.first in
+    (vector_of c.detects_by.new.blocks.words c.in-Some.vector, first.1.0)

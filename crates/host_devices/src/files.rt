@@ -1,14 +1,17 @@
-// The real files and standard output. Nothing is told of what they hold.
-ghost use Rattle.std.specs.Prelude.{false, ◌≡◌, ◌≤◌, IfOk, length, None, Result, Err};
+// The real files. Nothing is told of what they hold.
+ghost use Rattle.std.specs.Prelude.{◌≡◌, ◌≤◌, IfOk, length, None};
 ghost use Rattle.rm_base.specs.Causes.{HasCause};
 
-use rm_base::{OutsideFault, Shelf, Sink};
+use crate::failing::{Cause, Failed};
+use crate::watch::Watch;
+use diagnostics::{Operation, Progress};
+use rm_base::{OutsideFault, Shelf};
 use std::alloc::Global;
 use std::fs::{File, Metadata, OpenOptions, TryLockError};
 use std::io::{Error, ErrorKind, Read, Seek, SeekFrom, Write};
 use std::os::fd::AsRawFd;
 use std::os::unix::fs::MetadataExt;
-use std::rt::Files;
+use std::rt::{Clock, Files};
 use std::{fs, io};
 
 // What tells a file from all others, whatever its names are.
@@ -31,6 +34,22 @@ struct Reading {
 struct Created {
     name: String,
     file: File,
+    written: u64,
+}
+
+// What a pipe that was read first has given, for a message that shows a line of it.
+#[derive(Drop)]
+struct Given {
+    name: String,
+    bytes: Vec<u8>,
+}
+
+// Whether a file can be read again from its start.
+fn is_regular(file: &File) -> bool {
+    match file.metadata() {
+        Ok(metadata) => metadata.is_file(),
+        Err(_) => false,
+    }
 }
 
 fn node_of(metadata: &Metadata) -> Node {
@@ -41,7 +60,11 @@ fn node_of(metadata: &Metadata) -> Node {
 }
 
 // Opens a file, never as a standard stream that was closed when the program began.
-fn open<R: Files<File = File>>(rt: &R, how: &OpenOptions, name: &str) -> io::Result<File> {
+pub(crate) fn open<R: Files<File = File>>(
+    rt: &R,
+    how: &OpenOptions,
+    name: &str,
+) -> io::Result<File> {
     let file = how.open(rt, name)?;
     if file.as_raw_fd() > 2 {
         return Ok(file);
@@ -127,16 +150,19 @@ fn open_emptied<R: Files<File = File>>(
     rt: &R,
     used: &[Node],
     name: &str,
-) -> io::Result<(File, Node)> {
+) -> Result<(File, Node), Cause> {
     let file = open(rt, OpenOptions::new().write(true).create(true), name)?;
     let metadata = file.metadata()?;
     let node = node_of(&metadata);
     if metadata.is_file() {
-        if used.contains(&node) || is_output(rt, node) {
-            return Err(Error::from(ErrorKind::ResourceBusy));
+        if used.contains(&node) {
+            return Err(Cause::SameFile);
+        }
+        if is_output(rt, node) {
+            return Err(Cause::IsOutput);
         }
         if let Err(TryLockError::WouldBlock) = file.try_lock() {
-            return Err(Error::from(ErrorKind::ResourceBusy));
+            return Err(Cause::Locked);
         }
         file.set_len(0)?;
     }
@@ -147,37 +173,95 @@ fn open_emptied<R: Files<File = File>>(
 fn add(created: &mut Vec<Created>, name: &str, bytes: &[u8]) -> io::Result<()> {
     for one in created.iter_mut() {
         if one.name.as_str() == name {
-            return one.file.write_all(bytes);
+            one.file.write_all(bytes)?;
+            one.written = one.written.saturating_add(bytes.len() as u64);
+            return Ok(());
         }
     }
     Err(Error::from(ErrorKind::NotFound))
 }
 
-/// The real files. A file is read or created in a run, and not both, whatever names it has.
+// How many bytes were added to the file that was created under this name.
+fn written_to(created: &[Created], name: &str) -> u64 {
+    for one in created {
+        if one.name.as_str() == name {
+            return one.written;
+        }
+    }
+    0
+}
+
+// Keeps what a file has given from its start on, where it can't be read again. Without memory nothing is kept.
+fn keep(alloc: Global, given: &mut Option<Given>, name: &str, from: u64, bytes: &[u8]) {
+    if from == 0
+        && given.is_none()
+        && let Ok(name) = String::from_str(alloc, name)
+        && let Ok(bytes) = Vec::from_slice(alloc, bytes)
+    {
+        *given = Some(Given { name, bytes });
+    }
+}
+
+/// The real files. A file is read or created in a run, and not both, whatever names it has. The last call that failed is kept.
 #[derive(Drop)]
-pub struct FileShelf<'a, R: Files<File = File>> {
+pub struct FileShelf<'a, R: Files<File = File> + Clock> {
     rt: &'a R,
     alloc: Global,
+    watch: &'a Watch<'a, R>,
     faults: u64,
     reading: Option<Reading>,
     created: Vec<Created>,
     used: Vec<Node>,
+    given: Option<Given>,
+    failed: Option<Failed>,
+    progress: Progress,
 }
 
-impl<'a, R: Files<File = File>> FileShelf<'a, R> {
-    pub fn new(rt: &'a R, alloc: Global) -> Self {
+impl<'a, R: Files<File = File> + Clock> FileShelf<'a, R> {
+    pub fn new(rt: &'a R, alloc: Global, watch: &'a Watch<'a, R>) -> Self {
         FileShelf {
             rt,
             alloc,
+            watch,
             faults: 0,
             reading: None,
             created: Vec::new(alloc),
             used: Vec::new(alloc),
+            given: None,
+            failed: None,
+            progress: Progress::default(),
+        }
+    }
+
+    /// The last call that failed.
+    pub fn failed(&self) -> Option<&Failed> {
+        self.failed.as_ref()
+    }
+
+    /// What a pipe of this name has given, from its start on.
+    pub fn given(&self, name: &str) -> &[u8] {
+        match &self.given {
+            Some(given) if given.name.as_str() == name => given.bytes.as_slice(),
+            _ => &[],
+        }
+    }
+
+    // Keeps a call that failed.
+    fn note(&mut self, operation: Operation, name: &str, cause: Cause)
+        ensures { self.new.faults ≡ self.old.faults }
+    {
+        self.failed = Failed::new(self.alloc, operation, name, cause);
+    }
+
+    fn is_pipe(&self) -> bool {
+        match &self.reading {
+            Some(reading) => !is_regular(&reading.file),
+            None => false,
         }
     }
 }
 
-impl<'a, R: Files<File = File>> Shelf for FileShelf<'a, R> {
+impl<'a, R: Files<File = File> + Clock> Shelf for FileShelf<'a, R> {
     ghost files = { λ _. None };
 
     ghost faults = { λ s. s.faults };
@@ -188,6 +272,7 @@ impl<'a, R: Files<File = File>> Shelf for FileShelf<'a, R> {
         from: u64,
         most: usize,
     ) -> Result<Option<Vec<u8>>, OutsideFault> {
+        self.watch.draw(self.alloc, &self.progress);
         match piece(
             self.rt,
             self.alloc,
@@ -197,12 +282,18 @@ impl<'a, R: Files<File = File>> Shelf for FileShelf<'a, R> {
             from,
             most,
         ) {
-            Ok(bytes) => Ok(Some(bytes)),
+            Ok(bytes) => {
+                if self.is_pipe() {
+                    keep(self.alloc, &mut self.given, name, from, bytes.as_slice());
+                }
+                Ok(Some(bytes))
+            }
             Err(error) => {
                 if error.kind() == ErrorKind::OutOfMemory {
                     return Err(OutsideFault::NoMemory);
                 }
                 self.faults = self.faults.saturating_add(1);
+                self.note(Operation::Read, name, Cause::Host(error));
                 Err(OutsideFault::Failed)
             }
         }
@@ -210,17 +301,22 @@ impl<'a, R: Files<File = File>> Shelf for FileShelf<'a, R> {
 
     // All memory is taken before anything is changed.
     fn create(&mut self, name: &str) -> Result<(), OutsideFault> {
-        let name = String::from_str(self.alloc, name)?;
+        let kept = String::from_str(self.alloc, name)?;
         self.created.reserve(1)?;
         self.used.reserve(1)?;
-        match open_emptied(self.rt, self.used.as_slice(), name.as_str()) {
+        match open_emptied(self.rt, self.used.as_slice(), name) {
             Ok((file, node)) => {
                 self.used.push(node)?;
-                self.created.push(Created { name, file })?;
+                self.created.push(Created {
+                    name: kept,
+                    file,
+                    written: 0,
+                })?;
                 Ok(())
             }
-            Err(_) => {
+            Err(cause) => {
                 self.faults = self.faults.saturating_add(1);
+                self.note(Operation::Create, name, cause);
                 Err(OutsideFault::Failed)
             }
         }
@@ -228,40 +324,15 @@ impl<'a, R: Files<File = File>> Shelf for FileShelf<'a, R> {
 
     fn append(&mut self, name: &str, bytes: &[u8]) -> Result<(), OutsideFault> {
         match add(&mut self.created, name, bytes) {
-            Ok(()) => Ok(()),
-            Err(_) => {
-                self.faults = self.faults.saturating_add(1);
-                Err(OutsideFault::Failed)
+            Ok(()) => {
+                self.progress.count_line(bytes);
+                self.watch.draw(self.alloc, &self.progress);
+                Ok(())
             }
-        }
-    }
-}
-
-/// Standard output.
-#[derive(Drop)]
-pub struct StdoutSink<'a, R: Print> {
-    rt: &'a R,
-    faults: u64,
-}
-
-impl<'a, R: Print> StdoutSink<'a, R> {
-    pub fn new(rt: &'a R) -> Self {
-        StdoutSink { rt, faults: 0 }
-    }
-}
-
-impl<'a, R: Print> Sink for StdoutSink<'a, R> {
-    ghost written = { λ _. None };
-
-    ghost faults = { λ s. s.faults };
-
-    ghost may_want = { false };
-
-    fn put(&mut self, bytes: &[u8]) -> Result<(), OutsideFault> {
-        match self.rt.write_all(bytes) {
-            Ok(()) => Ok(()),
-            Err(_) => {
+            Err(error) => {
+                let written = written_to(self.created.as_slice(), name);
                 self.faults = self.faults.saturating_add(1);
+                self.note(Operation::Write { written }, name, Cause::Host(error));
                 Err(OutsideFault::Failed)
             }
         }

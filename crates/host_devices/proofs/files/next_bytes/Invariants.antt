@@ -1,5 +1,5 @@
 use Rattle.std.proofs.Common.{◌≤◌, vec_len}
-use Rattle.rambo.proofs.edge.next_bytes.Given as goal
+use Rattle.host_devices.proofs.files.next_bytes.Given as goal
 
 abbrev pub invariant-loop : goal.invariant-loop
 invariant-loop l = vec_len l.bytes ≤ l.most

@@ -1,0 +1,2 @@
+mod TerminalTexts
+mod Blanks

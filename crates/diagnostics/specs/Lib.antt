@@ -1,0 +1,4 @@
+pub mod Terminal
+pub mod Escaping
+pub mod Excerpts
+pub mod Messages

@@ -1,0 +1,200 @@
+// The words of the command line, read once more to say why they are refused and which file has which name.
+use crate::commands::{CommandRule, OptionRule, command_named, option_named};
+use rm_base::NoMemory;
+use std::alloc::Global;
+
+/// Why words are refused.
+#[derive(Clone, Copy)]
+pub(crate) enum Refusal<'a> {
+    NoWords,
+    Help,
+    Version,
+    NoCommand(&'a str),
+    NoOption(&'a str),
+    NoValue(&'a str),
+    GivenTwice(&'a str),
+    NotANumber { option: &'a str, value: &'a str },
+    NotInRange { option: OptionRule, value: &'a str },
+    NotASeed(&'a str),
+    TooFewNames(usize),
+    TooManyNames(&'a str),
+    EqualNames { first: usize, second: usize },
+}
+
+/// What was read of the words.
+#[derive(Drop)]
+pub(crate) struct Reading<'a> {
+    pub(crate) command: Option<CommandRule>,
+    /// The names in their order.
+    pub(crate) names: Vec<&'a str>,
+    /// The first reason to refuse the words.
+    pub(crate) refusal: Option<Refusal<'a>>,
+    given: Vec<&'a str>,
+    open: Option<OptionRule>,
+    only_names: bool,
+}
+
+fn is_help(word: &str) -> bool {
+    word == "--help" || word == "-h" || word == "help"
+}
+
+fn is_version(word: &str) -> bool {
+    word == "--version" || word == "-V" || word == "version"
+}
+
+fn is_number(value: &str) -> bool {
+    let digits = value.strip_prefix('+').unwrap_or(value).as_bytes();
+    !digits.is_empty() && digits.iter().all(|digit| digit.is_ascii_digit())
+}
+
+// Why the value isn't one of the option.
+fn judge_value<'a>(option: OptionRule, value: &'a str) -> Option<Refusal<'a>> {
+    if !is_number(value) {
+        return Some(Refusal::NotANumber {
+            option: option.name,
+            value,
+        });
+    }
+    match value.parse::<u64>() {
+        Ok(number) if option.low <= number && number <= option.high => None,
+        _ => Some(Refusal::NotInRange { option, value }),
+    }
+}
+
+// Why a first word names no command.
+fn judge_command<'a>(word: &'a str) -> Refusal<'a> {
+    if is_help(word) {
+        Refusal::Help
+    } else if is_version(word) {
+        Refusal::Version
+    } else {
+        Refusal::NoCommand(word)
+    }
+}
+
+impl<'a> Reading<'a> {
+    fn new(alloc: Global, command: Option<CommandRule>, refusal: Option<Refusal<'a>>) -> Self {
+        Reading {
+            command,
+            names: Vec::new(alloc),
+            refusal,
+            given: Vec::new(alloc),
+            open: None,
+            only_names: false,
+        }
+    }
+
+    fn refuse(&mut self, refusal: Refusal<'a>) {
+        if self.refusal.is_none() {
+            self.refusal = Some(refusal);
+        }
+    }
+
+    fn take_option(&mut self, word: &'a str, has_options: bool) -> Result<(), NoMemory> {
+        let (name, value) = match word.split_once('=') {
+            Some((name, value)) => (name, Some(value)),
+            None => (word, None),
+        };
+        let Some(option) = option_named(name) else {
+            self.refuse(Refusal::NoOption(word));
+            return Ok(());
+        };
+        if !has_options {
+            self.refuse(Refusal::NoOption(word));
+        }
+        if self.given.contains(&name) {
+            self.refuse(Refusal::GivenTwice(option.name));
+        }
+        self.given.push(name)?;
+        match value {
+            Some(value) => self.take_value(option, value),
+            None => self.open = Some(option),
+        }
+        Ok(())
+    }
+
+    fn take_value(&mut self, option: OptionRule, value: &'a str) {
+        self.open = None;
+        if let Some(refusal) = judge_value(option, value) {
+            self.refuse(refusal);
+        }
+    }
+
+    // Takes a word behind the command's.
+    fn take(&mut self, word: &'a str, has_options: bool) -> Result<(), NoMemory> {
+        if let Some(option) = self.open {
+            self.take_value(option, word);
+        } else if self.only_names || word == "-" || !word.starts_with('-') {
+            self.names.push(word)?;
+        } else if word == "--" {
+            self.only_names = true;
+        } else if is_help(word) {
+            self.refuse(Refusal::Help);
+        } else if is_version(word) {
+            self.refuse(Refusal::Version);
+        } else {
+            self.take_option(word, has_options)?;
+        }
+        Ok(())
+    }
+
+    // Looks at what the words lack, once all are taken.
+    fn end(&mut self, command: CommandRule) {
+        if let Some(option) = self.open {
+            self.refuse(Refusal::NoValue(option.name));
+        }
+        let count = self.names.len();
+        if count < command.least {
+            self.refuse(Refusal::TooFewNames(count));
+        }
+        if let Some(word) = nth(self.names.as_slice(), command.names.len()) {
+            self.refuse(Refusal::TooManyNames(word));
+        }
+        if command.names_differ
+            && let Some((first, second)) = equal_pair(self.names.as_slice())
+        {
+            self.refuse(Refusal::EqualNames { first, second });
+        }
+        if command.name == "demo"
+            && let Some(word) = nth(self.names.as_slice(), 0)
+        {
+            self.take_seed(word);
+        }
+    }
+
+    fn take_seed(&mut self, word: &'a str) {
+        if !is_number(word) || word.parse::<u64>().is_err() {
+            self.refuse(Refusal::NotASeed(word));
+        }
+    }
+}
+
+fn nth<'a>(names: &[&'a str], at: usize) -> Option<&'a str> {
+    names.get(at).copied()
+}
+
+// Two of the first three names that are equal.
+fn equal_pair(names: &[&str]) -> Option<(usize, usize)> {
+    for (first, second) in [(0, 1), (0, 2), (1, 2)] {
+        if second < names.len() && names[first] == names[second] {
+            return Some((first, second));
+        }
+    }
+    None
+}
+
+/// Reads the words that follow the program's own name.
+pub(crate) fn read_words<'a>(alloc: Global, words: &'a [String]) -> Result<Reading<'a>, NoMemory> {
+    let Some((first, rest)) = words.split_first() else {
+        return Ok(Reading::new(alloc, None, Some(Refusal::NoWords)));
+    };
+    let Some(command) = command_named(first.as_str()) else {
+        return Ok(Reading::new(alloc, None, Some(judge_command(first.as_str()))));
+    };
+    let mut reading = Reading::new(alloc, Some(command), None);
+    for word in rest {
+        reading.take(word.as_str(), command.has_options)?;
+    }
+    reading.end(command);
+    Ok(reading)
+}

@@ -1,0 +1,96 @@
+// The usage and the help.
+use crate::commands::{COMMANDS, CommandRule, OPTIONS};
+use crate::message::Message;
+use crate::parts::Part;
+use rm_base::NoMemory;
+
+/// What `--version` shows.
+pub(crate) const VERSION: &str =
+    "rambo, not released yet; proved with rattle-kit-13f logic dac8208d650f15bf\n";
+
+const WHAT: &str =
+    "rambo optimises flat BLIF netlists by redundancy addition and removal, with a proof for each change\n";
+
+const FURTHER: &str =
+    "An option is written --depth 1 or --depth=1, before or after the names. After '--' every word is a name.
+IN, and all files of check, may be pipes such as /dev/stdin. IN is never written.
+
+exit status:
+  0  done
+  1  IN has an error
+  2  the command line is wrong
+  3  a file or standard output failed
+  4  out of memory
+  5  something is over its limit
+  6  check: JOURNAL isn't accepted, or OUT differs
+";
+
+// The names of the options with their ranges.
+fn say_options(mut message: Message) -> Result<Message, NoMemory> {
+    for option in &OPTIONS {
+        message = message.say(&[
+            Part::Text("  "),
+            Part::Text(option.name),
+            Part::Text(" "),
+            Part::Number(option.low),
+            Part::Text(".."),
+            Part::Number(option.high),
+            Part::Text("  "),
+            Part::Text(option.meaning),
+            Part::Text(" (default "),
+            Part::Number(option.default),
+            Part::Text(")\n"),
+        ])?;
+    }
+    Ok(message)
+}
+
+fn say_commands(mut message: Message) -> Result<Message, NoMemory> {
+    for command in &COMMANDS {
+        message = message.say(&[
+            Part::Text("  rambo "),
+            Part::Text(command.usage),
+            Part::Text("\n      "),
+            Part::Text(command.meaning),
+            Part::Text("\n"),
+        ])?;
+    }
+    Ok(message)
+}
+
+/// A line for each command, as it is shown where words are refused.
+pub(crate) fn say_usage(mut message: Message) -> Result<Message, NoMemory> {
+    message = message.say(&[Part::Text("usage:\n")])?;
+    for command in &COMMANDS {
+        message = message.say(&[
+            Part::Text("  rambo "),
+            Part::Text(command.usage),
+            Part::Text("\n"),
+        ])?;
+    }
+    message.say(&[Part::Text("rambo --help lists the options; man rambo has more\n")])
+}
+
+/// The usage of one command, with its options where these are to be listed.
+pub(crate) fn say_command(
+    message: Message,
+    command: &CommandRule,
+    lists_options: bool,
+) -> Result<Message, NoMemory> {
+    let message = message.say(&[
+        Part::Text("usage: rambo "),
+        Part::Text(command.usage),
+        Part::Text("\n"),
+    ])?;
+    if command.has_options && lists_options {
+        return say_options(message);
+    }
+    Ok(message)
+}
+
+/// All that `--help` shows.
+pub(crate) fn say_help(message: Message) -> Result<Message, NoMemory> {
+    let message = say_commands(message.say(&[Part::Text(WHAT), Part::Text("\nusage:\n")])?)?;
+    let message = say_options(message.say(&[Part::Text("\noptions of opt and demo:\n")])?)?;
+    message.say(&[Part::Text("\n"), Part::Text(FURTHER)])
+}
