@@ -20,6 +20,8 @@ pub(crate) struct CommandRule {
     pub(crate) least: usize,
     pub(crate) has_options: bool,
     pub(crate) names_differ: bool,
+    /// Those of its names that are written.
+    pub(crate) written: &'static [&'static str],
     pub(crate) meaning: &'static str,
 }
 
@@ -62,6 +64,7 @@ pub(crate) const COMMANDS: [CommandRule; 3] = [
         least: 2,
         has_options: true,
         names_differ: true,
+        written: &["OUT", "JOURNAL"],
         meaning: "optimise the BLIF netlist IN; write the netlist OUT, and each change with its reason to JOURNAL",
     },
     CommandRule {
@@ -71,6 +74,7 @@ pub(crate) const COMMANDS: [CommandRule; 3] = [
         least: 3,
         has_options: false,
         names_differ: false,
+        written: &[],
         meaning: "replay JOURNAL over IN, and compare the netlist at its end with OUT",
     },
     CommandRule {
@@ -80,6 +84,7 @@ pub(crate) const COMMANDS: [CommandRule; 3] = [
         least: 1,
         has_options: true,
         names_differ: false,
+        written: &[],
         meaning: "optimise a netlist made from the number SEED; no file is read or written",
     },
 ];

@@ -91,21 +91,19 @@ fn place(word: &str) -> Place {
     }
 }
 
+const UNNAMED: &str = "the file";
+
 // The name that stands for this in the command line.
 fn name_for<'a>(reading: &Reading<'a>, role: &str) -> &'a str {
     let Some(command) = reading.command else {
-        return role_name(role);
+        return UNNAMED;
     };
     for (found, name) in command.names.iter().zip(reading.names.iter()) {
         if *found == role {
             return name;
         }
     }
-    role_name(role)
-}
-
-fn role_name<'a>(_role: &str) -> &'a str {
-    "the file"
+    UNNAMED
 }
 
 // The line of a journal of which the words speak: record R stands on line R + 1.

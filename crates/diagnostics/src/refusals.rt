@@ -1,5 +1,5 @@
 // Why the words of the command line are refused.
-use crate::commands::CommandRule;
+use crate::commands::{COMMANDS, CommandRule};
 use crate::message::Message;
 use crate::parts::Part;
 use crate::reading::{Reading, Refusal};
@@ -22,6 +22,21 @@ fn role(command: &Option<CommandRule>, at: usize) -> &'static str {
     }
 }
 
+// No command has this name: those that there are.
+fn say_no_command(message: Message, word: &str) -> Result<Message, NoMemory> {
+    let mut message = message.say(&[
+        BEGIN,
+        Part::Red("error: "),
+        Part::Text("no command '"),
+        Part::Word(word.as_bytes()),
+        Part::Text("'; the commands are"),
+    ])?;
+    for command in &COMMANDS {
+        message = message.say(&[Part::Text(" "), Part::Text(command.name)])?;
+    }
+    message.say(&[Part::Text("\n")])
+}
+
 // The reason alone, of a word that is wrong by itself.
 fn say_word(
     message: Message,
@@ -29,13 +44,7 @@ fn say_word(
     refusal: Refusal<'_>,
 ) -> Result<Message, NoMemory> {
     match refusal {
-        Refusal::NoCommand(word) => message.say(&[
-            BEGIN,
-            Part::Red("error: "),
-            Part::Text("no command '"),
-            Part::Word(word.as_bytes()),
-            Part::Text("'; the commands are opt, check and demo\n"),
-        ]),
+        Refusal::NoCommand(word) => say_no_command(message, word),
         Refusal::NoOption(word) => message.say(&[
             BEGIN,
             Part::Red("error: "),

@@ -17,7 +17,7 @@ const OPTIONS: &str =
 const REFUSALS: [(&str, &str, bool); 18] = [
     (
         "optimise a b",
-        "rambo: error: no command 'optimise'; the commands are opt, check and demo\nusage:\n  rambo opt IN OUT [JOURNAL] [options]\n  rambo check IN JOURNAL OUT\n  rambo demo SEED [options]\nrambo --help lists the options; man rambo has more\n",
+        "rambo: error: no command 'optimise'; the commands are opt check demo\nusage:\n  rambo opt IN OUT [JOURNAL] [options]\n  rambo check IN JOURNAL OUT\n  rambo demo SEED [options]\nrambo --help lists the options; man rambo has more\n",
         false,
     ),
     (

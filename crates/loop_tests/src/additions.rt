@@ -45,8 +45,10 @@ fn optimised_at(alloc: Global, graph: Graph, depth: u8, tries: u32) -> Result<En
     let Some(_) = shelf.file("journal") else {
         return Err("not created".into());
     };
-    let Ok((graph, outcome, made)) = optimise(alloc, graph, &settings, &mut shelf, "journal", &[])
-    else {
+    let mut start = None;
+    let Ok((graph, outcome, made)) = optimise(
+        alloc, graph, &settings, &mut shelf, "journal", &[], &mut start,
+    ) else {
         return Err("stopped".into());
     };
     let text = Vec::from_slice(alloc, shelf.file("journal").ok_or("no journal")?)?;

@@ -14,7 +14,6 @@ use Rattle.journal_text.specs.Runs.{AcceptedTo, AreRemovals, HasAppended, HasApp
 use Rattle.journal_text.specs.declared.record.Record.{Record}
 use Rattle.closing_pass.specs.Reports.{HasClosed, IsNoFuller, made_in}
 use Rattle.closing_pass.specs.declared.report.Report.{Report}
-use Rattle.candidate_wires.specs.declared.candidate.Outcome.{Outcome}
 use Rattle.rar_loop.specs.Ended.{IsImproved, turn_at}
 use Rattle.rar_loop.specs.Removed.{HasRemoved}
 use Rattle.rar_loop.specs.Sizes.{IsWithin}
@@ -208,3 +207,10 @@ pub closed_stopped : (join : RunsJoin) (texts : TextsAppend) (start : Net) (sett
 closed_stopped join texts start settings before closed report old one two new name r c stopped =
     stopped_then join texts start (net_of before.graph) r.records old one new name r.run.accepted r.written
     (stopped_then join texts (net_of before.graph) (net_of closed) c.records one two new name c.steps.accepted c.written stopped)
+
+-- nor before the first call
+pub removed_stopped : (join : RunsJoin) (texts : TextsAppend) (start swept closed : Net) (depth : ℕ) (made : Made) (report : Report) (old one two new : Option Files) (name : List ℕ)
+    → HasRemoved start swept depth made old one name → HasClosed swept closed report one two name → IsStopped closed two new name → IsStopped start old new name
+removed_stopped join texts start swept closed depth made report old one two new name r c stopped =
+    stopped_then join texts start swept r.records old one new name r.accepted r.written
+    (stopped_then join texts swept closed c.records one two new name c.steps.accepted c.written stopped)

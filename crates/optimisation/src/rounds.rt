@@ -108,9 +108,7 @@ fn further_round<S: Shelf>(
     };
     let found = report.found.as_slice();
     let mut start = start;
-    let (graph, outcome, more) = optimise(
-        alloc, graph, &left, shelf, journal, found, &mut start,
-    )?;
+    let (graph, outcome, more) = optimise(alloc, graph, &left, shelf, journal, found, &mut start)?;
     Ok(Round {
         graph,
         made: sum_of(made, report.fixed, report.local, more),
@@ -147,9 +145,10 @@ fn first_round<R: Threads + Sync, G: Gate, S: Shelf>(
     texts_append();
     let (swept, made) = remove_redundant(alloc, graph, settings.depth, shelf, journal)?;
     let (closed, report) = close_faults(rt, alloc, swept, settings, gate, shelf, journal)?;
-    further_round(
+    let round = further_round(
         alloc, closed, &report, made, 0, None, settings, shelf, journal,
-    )
+    )?;
+    Ok(round)
 }
 
 /// Goes round by round until a closing pass fixes nothing.

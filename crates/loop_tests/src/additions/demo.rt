@@ -34,7 +34,7 @@ fn few_tries_by_direct_implication(rt: HostRuntime) -> Result<(), Fail> {
 #[test]
 fn until_no_pair_gains(rt: HostRuntime) -> Result<(), Fail> {
     let end = end_at(rt.alloc(), 1, 20_000)?;
-    assert_eq!(rt; end.outcome, settled_after(2912));
+    assert_eq!(rt; end.outcome, settled_after(3168));
     assert_eq!(rt; end.made, counts_made(2, 24, 161));
     assert_eq!(rt; end.graph.wire_count(), 84);
     assert_eq!(rt; end.graph.gate_count(), 47);

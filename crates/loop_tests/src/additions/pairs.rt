@@ -107,8 +107,10 @@ fn add_wire(trial: &mut Trial, candidate: &Candidate) -> Result<Fault, Fail> {
     Ok(pin)
 }
 
-// Adds the wire, fixes the target and sweeps, as far as both faults are refuted; how many wires there are then.
+// Adds the wire and fixes the target, as far as both faults are refuted, and sweeps where that leaves no more wires; how
+// many there are then.
 fn try_replacing(alloc: Global, trial: &mut Trial, pair: &Pair) -> Result<Option<u32>, Fail> {
+    let before = trial.graph().wire_count();
     let pin = add_wire(trial, &pair.candidate)?;
     if !is_refuted(alloc, trial.graph(), &pin)? {
         return Ok(None);
@@ -117,6 +119,9 @@ fn try_replacing(alloc: Global, trial: &mut Trial, pair: &Pair) -> Result<Option
         return Ok(None);
     }
     fix(trial, &pair.fault)?;
+    if trial.graph().wire_count() > before {
+        return Ok(None);
+    }
     sweep(alloc, trial)?;
     Ok(Some(trial.graph().wire_count()))
 }
