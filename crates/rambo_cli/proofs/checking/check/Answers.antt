@@ -36,5 +36,5 @@ returns-in_err-fits-clause-cause g c =
 pub returns-in_err-model-clause-cause : goal.returns-in_err-model-clause-cause
 returns-in_err-model-clause-cause g c =
     let problem = c.in_err-model.field-0.0 in
-    handed_on c.from_residual-in_err-model.result problem (Caused (CheckFinds c.args.input.now c.args.journal.now c.args.output.now (g.S.Shelf.files c.args.shelf.now)) (g.S.Shelf.faults c.args.shelf.now) (g.S.Shelf.faults c.read_input.new.shelf)) c.from_residual-in_err-model.ensures.1
+    handed_on c.from_residual.result problem (Caused (CheckFinds c.args.input.now c.args.journal.now c.args.output.now (g.S.Shelf.files c.args.shelf.now)) (g.S.Shelf.faults c.args.shelf.now) (g.S.Shelf.faults c.read_input.new.shelf)) c.from_residual.ensures.1
     (read_in_check c.args.input.now c.args.journal.now c.args.output.now (g.S.Shelf.files c.args.shelf.now) (g.S.Shelf.faults c.args.shelf.now) (g.S.Shelf.faults c.read_input.new.shelf) problem c.in_err-model.ensures.cause)
