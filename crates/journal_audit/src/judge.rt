@@ -18,6 +18,7 @@ ghost use Rattle.journal_audit.specs.Inner.Stages.{IsJudged, IsReplayed, StageIs
 ghost use Rattle.journal_audit.specs.declared.problem.AuditProblem.TheVariants.{NoMemory as Wanting};
 ghost use Rattle.cover_decompose.specs.Limits.{most_pins};
 
+use crate::expecting::expect_piece;
 use crate::problem::AuditProblem;
 use crate::stage::Stage;
 use cover_decompose::DecomposeRefusal;
@@ -134,8 +135,8 @@ fn stage_after_entry(
     }
 }
 
-/// Judges all entries whose lines are whole.
-pub(crate) fn judge_entries(
+// Judges all entries whose lines are whole.
+fn judge_entries(
     alloc: Global,
     model: &RankedModel,
     reader: &mut JournalReader,
@@ -161,4 +162,27 @@ pub(crate) fn judge_entries(
             Err(fault) => return Err(fault_problem(fault)),
         }
     }
+}
+
+/// Judges all entries whose lines are whole, of which the piece has the last. The vectors of its hits are made known first.
+pub(crate) fn judge_piece(
+    alloc: Global,
+    model: &RankedModel,
+    reader: &mut JournalReader,
+    stage: Stage,
+    piece: &[u8],
+) -> Result<Stage, AuditProblem>
+    requires formed { IsWellFormed model.now }
+    requires ranked { first_without_rank model.now ≡ None }
+    requires covers { length model.now.covers < 2 ^ 32 }
+    requires sources { length (source_names model.now) ≤ 1024 }
+    requires observed { length (observed_names model.now) ≤ 4096 }
+    requires few { decomposed model.now ≤ most_pins }
+    requires judged { (text : List ℕ) × IsJudged model.now text reader.old stage }
+    ensures judged { (text : List ℕ) → IsJudged model.now text reader.old stage → IfOk result (λ after. IsJudged model.now text reader.new after) }
+    ensures none { OnOk result (GivesNone reader.new) }
+    ensures problem { (text more : List ℕ) → IsJudged model.now text reader.old stage → IfErr result (λ problem. IsTextProblem model.now (text ++ more) problem) }
+{
+    let stage = expect_piece(alloc, stage, piece);
+    judge_entries(alloc, model, reader, stage)
 }

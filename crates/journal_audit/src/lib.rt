@@ -3,6 +3,7 @@
 
 mod auditing;
 mod compare;
+mod expecting;
 mod judge;
 mod laws;
 mod lines;

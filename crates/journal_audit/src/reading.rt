@@ -17,7 +17,7 @@ ghost use Rattle.journal_audit.specs.Inner.Stages.{IsJudged};
 ghost use Rattle.journal_audit.specs.Inner.Turns.{EndsAccepted, EndsWith, GivesNext, IsInside, IsOfJournal, IsOutside, IsRead, IsToldProblem, TurnSays};
 ghost use Rattle.cover_decompose.specs.Limits.{most_pins};
 
-use crate::judge::judge_entries;
+use crate::judge::judge_piece;
 use crate::problem::AuditProblem;
 use crate::stage::Stage;
 use gate_graph::Graph;
@@ -135,7 +135,7 @@ fn next_turn(
     if let Err(NoMemory) = reader.push(piece) {
         return Err(AuditProblem::NoMemory);
     }
-    let stage = judge_entries(alloc, model, reader, stage)?;
+    let stage = judge_piece(alloc, model, reader, stage, piece)?;
     let from = from + piece.len() as u64;
     Ok(Turn::GoesOn { stage, from })
 }

@@ -11,3 +11,4 @@ pub mod FollowLaws
 pub mod WithinLaws
 pub mod DecompositionLaws
 pub mod Public
+pub mod BatchLaws

@@ -1,4 +1,5 @@
 -- Definitions that no public contract reaches: words of private contracts, of invariants, and of laws for proofs.
+pub mod Batches
 pub mod Benches
 pub mod Replaying
 pub mod Standing

@@ -11,7 +11,7 @@ use crate::settling::Settling;
 use gate_graph::Graph;
 use journal_text::Record;
 use refutation_check::TreeChecker;
-use rm_base::{NoMemory, NodeId};
+use rm_base::{NoMemory, NodeId, Vector};
 use std::alloc::Global;
 use wire_edit::{Seen, Step, first_rule_by};
 
@@ -58,13 +58,14 @@ fn next_verdict(
     settling: Settling,
     given: &Record,
     budget: u32,
+    ahead: &[Vector],
 ) -> (Bench, Result<(), Why>)
     requires bench { IsBench (Frozen graph settling) }
     ensures bench { IsBench result.0 }
     ensures says { RecordSays budget (position_of (Frozen graph settling)) given.now (position_of result.0) result.1 }
 {
     let mut settling = settling;
-    let answer = settling.settle(checker, &graph, given, budget);
+    let answer = settling.settle(checker, &graph, given, budget, ahead);
     (Bench::Frozen { graph, settling }, answer)
 }
 
@@ -75,6 +76,7 @@ fn first_verdict(
     graph: Graph,
     given: &Record,
     budget: u32,
+    ahead: &[Vector],
 ) -> (Bench, Result<(), Why>)
     requires idle { IsIdle graph }
     requires verdict { IsVerdict given.now }
@@ -85,7 +87,7 @@ fn first_verdict(
         Ok(settling) => settling,
         Err(why) => return (Bench::Idle { graph }, Err(why)),
     };
-    if let Err(why) = settling.settle(checker, &graph, given, budget) {
+    if let Err(why) = settling.settle(checker, &graph, given, budget, ahead) {
         return (Bench::Idle { graph }, Err(why));
     }
     (Bench::Frozen { graph, settling }, Ok(()))
@@ -98,6 +100,7 @@ pub(crate) fn verdict(
     bench: Bench,
     given: &Record,
     budget: u32,
+    ahead: &[Vector],
 ) -> (Bench, Result<(), Why>)
     requires bench { IsBench bench }
     requires verdict { IsVerdict given.now }
@@ -105,12 +108,12 @@ pub(crate) fn verdict(
     ensures says { RecordSays budget (position_of bench) given.now (position_of result.0) result.1 }
 {
     match bench {
-        Bench::Idle { graph } => first_verdict(alloc, checker, graph, given, budget),
+        Bench::Idle { graph } => first_verdict(alloc, checker, graph, given, budget, ahead),
         Bench::Trying { trial, left: _ } => {
-            first_verdict(alloc, checker, trial.commit(), given, budget)
+            first_verdict(alloc, checker, trial.commit(), given, budget, ahead)
         }
         Bench::Frozen { graph, settling } => {
-            next_verdict(checker, graph, settling, given, budget)
+            next_verdict(checker, graph, settling, given, budget, ahead)
         }
     }
 }

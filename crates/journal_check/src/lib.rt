@@ -1,6 +1,7 @@
 //! Replaying a journal: each step is made where its tree justifies it, and each fault of the last net is settled.
 #![tactic(auto)]
 
+mod batches;
 mod bench;
 mod editing;
 mod freezing;

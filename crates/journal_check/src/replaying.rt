@@ -20,6 +20,7 @@ use cover_decompose::{DecomposeRefusal, decompose, decompositions_stand};
 use gate_graph::Graph;
 use journal_text::Record;
 use refutation_check::TreeChecker;
+use rm_base::Vector;
 use rm_model::RankedModel;
 use std::alloc::Global;
 use std::marker::Model;
@@ -31,6 +32,8 @@ pub struct Replay {
     checker: TreeChecker,
     // It is away only while a record is looked at.
     bench: Option<Bench>,
+    // Vectors that are likely to come.
+    ahead: Vec<Vector>,
     budget: u32,
     number: u64,
     refused: Option<JournalRefusal>,
@@ -54,6 +57,7 @@ fn apply_record(
     bench: Bench,
     given: &Record,
     budget: u32,
+    ahead: &[Vector],
 ) -> (Bench, Result<(), Why>)
     requires bench { IsBench bench }
     requires tree { IsLocalTree given.now }
@@ -65,8 +69,8 @@ fn apply_record(
         Record::Hit {
             fault: _,
             vector: _,
-        } => verdict(alloc, checker, bench, given, budget),
-        Record::Spent { fault: _, tree: _ } => verdict(alloc, checker, bench, given, budget),
+        } => verdict(alloc, checker, bench, given, budget, ahead),
+        Record::Spent { fault: _, tree: _ } => verdict(alloc, checker, bench, given, budget, ahead),
     }
 }
 
@@ -96,6 +100,7 @@ impl Replay {
             alloc,
             checker,
             bench: Some(Bench::Idle { graph }),
+            ahead: Vec::new(alloc),
             budget,
             number: 1,
             refused: None,
@@ -117,6 +122,7 @@ impl Replay {
             bench,
             given,
             self.budget,
+            self.ahead.as_slice(),
         );
         self.bench = Some(bench);
         answer
@@ -136,6 +142,13 @@ impl Replay {
             self.refused = Some(refusal);
         }
         refusal
+    }
+
+    /// Takes note of vectors that are likely to come in hits: those that come are simulated 64 at a time. No answer depends on them.
+    pub fn expect(&mut self, vectors: Vec<Vector>)
+        ensures { self.new ≡ self.old }
+    {
+        self.ahead = vectors;
     }
 
     /// Replays one more record. After a refusal every later call answers it again; want of memory leaves all as it was.
@@ -161,6 +174,7 @@ impl Replay {
             alloc,
             checker: _checker,
             bench,
+            ahead: _ahead,
             budget: _budget,
             number,
             refused,

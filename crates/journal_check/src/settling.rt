@@ -1,5 +1,5 @@
 // The verdicts on the faults of the last net.
-ghost use Rattle.std.specs.Prelude.{◌≡◌, ◌↔◌, IsTrue, IfOk, List, ℕ, length, map};
+ghost use Rattle.std.specs.Prelude.{◌≡◌, ◌↔◌, IsTrue, IfOk, IfSome, List, ℕ, length, map};
 ghost use Rattle.gate_graph.specs.Circuit.{net_of};
 ghost use Rattle.gate_net.specs.Net.{Net, source_count};
 ghost use Rattle.gate_net.specs.Faults.{IsTest, faults_of};
@@ -11,7 +11,10 @@ ghost use Rattle.journal_check.specs.Inner.Benches.{Expects, IsSettling, Verdict
 ghost use Rattle.journal_check.specs.Replaying.{VerdictLeads, refused};
 ghost use Rattle.journal_check.specs.Inner.Replaying.{SpentSays};
 ghost use Rattle.journal_check.specs.Inner.Vectors.{bit_word};
+ghost use Rattle.journal_check.specs.Inner.Batches.{IsBatch};
+ghost use Rattle.std.specs.List.{AllByRecursion};
 
+use crate::batches::Batches;
 use crate::editing::why_tree;
 use crate::refusal::Why;
 use fault_sim::Lanes;
@@ -22,11 +25,13 @@ use refutation_check::TreeChecker;
 use rm_base::{Fault, NoMemory, Vector};
 use std::alloc::Global;
 
-/// The faults of the frozen net, how many of them are settled, and lanes that fit the net, with a word for each source.
+/// The faults of the frozen net, how many of them are settled, the vectors that were simulated 64 at a time, and lanes for a
+/// vector that is in none of these, with a word for each source.
 #[derive(Drop)]
 pub(crate) struct Settling {
     faults: Vec<Fault>,
     settled: usize,
+    batches: Batches,
     lanes: Lanes,
     words: Vec<u64>,
 }
@@ -41,8 +46,8 @@ fn fill(words: &mut Vec<u64>, vector: &[bool])
     }
 }
 
-// Whether the vector has a value for each source and detects the fault.
-fn detects(
+// Whether the vector, which has a value for each source, detects the fault, simulated alone.
+fn detects_alone(
     lanes: &mut Lanes,
     words: &mut Vec<u64>,
     question: &Question<'_>,
@@ -50,16 +55,35 @@ fn detects(
 ) -> bool
     requires fits { Fits lanes.old (net_of question.now.graph.now) }
     requires words { length words.old.items ≡ source_count (net_of question.now.graph.now) }
+    requires size { length vector.now ≡ source_count (net_of question.now.graph.now) }
     ensures hit { IsTrue result ↔ IsTest (net_of question.now.graph.now) question.now.fault vector.now }
     ensures fits { Fits lanes.new (net_of question.now.graph.now) }
     ensures words { length words.new.items ≡ source_count (net_of question.now.graph.now) }
 {
-    if vector.len() != words.len() {
-        return false;
-    }
     fill(words, vector.values());
     let found = lanes.detect64(question, words.as_slice());
     found & 1 == 1
+}
+
+// Whether the vector detects the fault, by the batch in which it stands; it is simulated with others first, if it stands in none.
+fn detects_by_batch(
+    batches: &mut Batches,
+    question: &Question<'_>,
+    vector: &Vector,
+    ahead: &[Vector],
+) -> Option<bool>
+    requires batches { AllByRecursion (IsBatch (net_of question.now.graph.now)) batches.old.kept.items }
+    requires size { length vector.now ≡ source_count (net_of question.now.graph.now) }
+    ensures batches { AllByRecursion (IsBatch (net_of question.now.graph.now)) batches.new.kept.items }
+    ensures found { IfSome result (λ found. IsTrue found ↔ IsTest (net_of question.now.graph.now) question.now.fault vector.now) }
+{
+    if let Some(found) = batches.detects(question, vector.values()) {
+        return Some(found);
+    }
+    match batches.simulate(question.graph, vector.values(), ahead) {
+        Ok(()) => batches.detects(question, vector.values()),
+        Err(NoMemory) => None,
+    }
 }
 
 // Whether the tree is that of a search of the fault that spent exactly its budget.
@@ -99,6 +123,7 @@ impl Settling {
         Ok(Settling {
             faults,
             settled: 0,
+            batches: Batches::new(alloc),
             lanes,
             words,
         })
@@ -124,15 +149,37 @@ impl Settling {
         Ok(fault)
     }
 
+    // Whether the vector has a value for each source and detects the fault.
+    fn detects(&mut self, question: &Question<'_>, vector: &Vector, ahead: &[Vector]) -> bool
+        requires { IsSettling (net_of question.now.graph.now) self.old }
+        ensures hit { IsTrue result ↔ IsTest (net_of question.now.graph.now) question.now.fault vector.now }
+        ensures settling { IsSettling (net_of question.now.graph.now) self.new }
+        ensures faults { (self.new.faults ≡ self.old.faults) × (self.new.settled ≡ self.old.settled) }
+    {
+        if vector.len() != self.words.len() {
+            return false;
+        }
+        match detects_by_batch(&mut self.batches, question, vector, ahead) {
+            Some(found) => found,
+            None => detects_alone(&mut self.lanes, &mut self.words, question, vector),
+        }
+    }
+
     // Settles the next fault by a vector.
-    fn settle_by_vector(&mut self, graph: &Graph, given: Fault, vector: &Vector) -> Result<(), Why>
+    fn settle_by_vector(
+        &mut self,
+        graph: &Graph,
+        given: Fault,
+        vector: &Vector,
+        ahead: &[Vector],
+    ) -> Result<(), Why>
         requires { IsSettling (net_of graph.now) self.old }
         ensures settling { IsSettling (net_of graph.now) self.new }
         ensures says { (budget : ℕ) → VerdictSays (net_of graph.now) budget (left_of self.old) (kept.Hit given vector.now) (left_of self.new) result }
     {
         let fault = self.expect_fault(given)?;
         let question = Question { graph, fault };
-        if !detects(&mut self.lanes, &mut self.words, &question, vector) {
+        if !self.detects(&question, vector, ahead) {
             return Err(Why::VectorMisses);
         }
         self.settled += 1;
@@ -168,13 +215,14 @@ impl Settling {
         }
     }
 
-    /// Settles the next fault by a record.
+    /// Settles the next fault by a record. Vectors that are likely to follow save time; the result is the same with any.
     pub(crate) fn settle(
         &mut self,
         checker: &mut TreeChecker,
         graph: &Graph,
         given: &Record,
         budget: u32,
+        ahead: &[Vector],
     ) -> Result<(), Why>
         requires { IsSettling (net_of graph.now) self.old }
         ensures settling { IsSettling (net_of graph.now) self.new }
@@ -182,7 +230,9 @@ impl Settling {
     {
         match given {
             Record::Step { step: _, tree: _ } => Err(self.late()),
-            Record::Hit { fault, vector } => self.settle_by_vector(graph, *fault, vector),
+            Record::Hit { fault, vector } => {
+                self.settle_by_vector(graph, *fault, vector, ahead)
+            },
             Record::Spent { fault, tree } => self.settle_by_search(
                 checker, graph, *fault, tree, budget,
             ),

@@ -9,8 +9,11 @@ use Rattle.journal_audit.specs.Audited.{IsPassed, IsProblem}
 use Rattle.journal_audit.specs.declared.problem.AuditProblem.{AuditProblem}
 use Rattle.journal_audit.specs.declared.problem.AuditProblem.TheVariants as audit
 use Rattle.rambo_cli.specs.Inner.Composition.{PassedAuditsTell}
-use Rattle.rambo_cli.specs.Outcome.{Audited, HasPassed, Holds}
-use Rattle.rambo_cli.specs.Problems.{CheckCause, ReadCause, audit_problem}
+use Rattle.rambo_cli.specs.Check.{Audited, CheckFinds, HasPassed}
+use Rattle.rambo_cli.specs.Contract.{Caused}
+use Rattle.rambo_cli.specs.Files.{Holds}
+use Rattle.rambo_cli.specs.Input.{ReadCause}
+use Rattle.rambo_cli.specs.Problems.{audit_problem}
 use Rattle.rambo_cli.specs.Inner.Problems.{ModelCause}
 use Rattle.rambo_cli.specs.Written.{Exceeds, IsSaid}
 use Rattle.rambo_cli.specs.Inner.Written.{IsUsable}
@@ -23,18 +26,36 @@ audited : (found : AuditProblem) (m : Model) (input journal output : Word) (file
 audited found m input journal output None said few problem = tt
 audited found m input journal output (Some told) said few problem = (m, (said, (few, problem)))
 
+some_and : (files : Option Files) (P : Files → Type 0) → IsSome files → IfSome files P → IsSomeAnd files P
+some_and None P some p = absurd cc
+some_and (Some told) P some p = p
+
 -- what the audit found is why `check` doesn't pass
 pub audit_cause : (found : AuditProblem) (m : Model) (input journal output : Word) (files : Option Files) (before now : ℕ) → IfSome files (λ told. Holds told input (λ text. IsSaid text m)) → decomposed m ≤ 65536
     → IfSome files (λ told. IsProblem m told journal output found) → (found ≡ audit.NoJournal → IsSome files) → (found ≡ audit.NoOutput → IsSome files) → (found ≡ audit.Fault → Rose before now)
-    → CheckCause input journal output files before now (audit_problem found)
-audit_cause audit.Fault m input journal output files before now said few problem journals outputs rose = inl (rose refl)
-audit_cause audit.NoMemory m input journal output files before now said few problem journals outputs rose = inl tt
-audit_cause audit.NoJournal m input journal output files before now said few problem journals outputs rose = inr (audit.NoJournal, (refl, (tt, (λ e. journals refl, audited audit.NoJournal m input journal output files said few problem))))
-audit_cause audit.NoOutput m input journal output files before now said few problem journals outputs rose = inr (audit.NoOutput, (refl, (tt, (λ e. outputs refl, audited audit.NoOutput m input journal output files said few problem))))
-audit_cause audit.TooLong m input journal output files before now said few problem journals outputs rose = inr (audit.TooLong, (refl, (tt, (λ e. absurd cc, audited audit.TooLong m input journal output files said few problem))))
-audit_cause (audit.Text f) m input journal output files before now said few problem journals outputs rose = inr (audit.Text f, (refl, (tt, (λ e. absurd cc, audited (audit.Text f) m input journal output files said few problem))))
-audit_cause (audit.Refused r) m input journal output files before now said few problem journals outputs rose = inr (audit.Refused r, (refl, (tt, (λ e. absurd cc, audited (audit.Refused r) m input journal output files said few problem))))
-audit_cause (audit.Netlist byte) m input journal output files before now said few problem journals outputs rose = inr (audit.Netlist byte, (refl, (tt, (λ e. absurd cc, audited (audit.Netlist byte) m input journal output files said few problem))))
+    → Caused (CheckFinds input journal output files) before now (audit_problem found)
+audit_cause audit.Fault m input journal output files before now said few problem journals outputs rose = rose refl
+audit_cause audit.NoMemory m input journal output files before now said few problem journals outputs rose = tt
+audit_cause audit.NoJournal m input journal output files before now said few problem journals outputs rose =
+    inr (inl (some_and files (Audited input journal output audit.NoJournal) (journals refl) (audited audit.NoJournal m input journal output files said few problem)))
+audit_cause audit.NoOutput m input journal output files before now said few problem journals outputs rose =
+    inr (inr (some_and files (Audited input journal output audit.NoOutput) (outputs refl) (audited audit.NoOutput m input journal output files said few problem)))
+audit_cause audit.TooLong m input journal output files before now said few problem journals outputs rose = inr (refl, audited audit.TooLong m input journal output files said few problem)
+audit_cause (audit.Text f) m input journal output files before now said few problem journals outputs rose = audited (audit.Text f) m input journal output files said few problem
+audit_cause (audit.Refused r) m input journal output files before now said few problem journals outputs rose = audited (audit.Refused r) m input journal output files said few problem
+audit_cause (audit.Netlist byte) m input journal output files before now said few problem journals outputs rose = audited (audit.Netlist byte) m input journal output files said few problem
+
+-- and so is what is found of the input
+pub read_in_check : (input journal output : Word) (files : Option Files) (before now : ℕ) (problem : Problem) → ReadCause input files before now problem → Caused (CheckFinds input journal output files) before now problem
+read_in_check input journal output files before now Fault h = h
+read_in_check input journal output files before now Memory h = tt
+read_in_check input journal output files before now Words h = absurd h
+read_in_check input journal output files before now (Text kind place) h = h
+read_in_check input journal output files before now (Limit quantity count) h = inl h
+read_in_check input journal output files before now Missing h = inl h
+read_in_check input journal output files before now (Journal f) h = absurd h
+read_in_check input journal output files before now (Record r) h = absurd h
+read_in_check input journal output files before now (Netlist byte) h = absurd h
 
 -- and a passed audit is what `check` says
 pub audit_passed : (tell : PassedAuditsTell) (m : Model) (input journal output : Word) (count : ℕ) (files : Option Files) → IsUsable m → IfSome files (λ told. Holds told input (λ text. IsSaid text m)) → decomposed m ≤ 65536

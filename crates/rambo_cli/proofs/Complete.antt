@@ -17,19 +17,18 @@ use Rattle.journal_audit.specs.Audited.{ProblemsExclude, IsProblem, IsOfFiles}
 use Rattle.journal_audit.specs.declared.problem.AuditProblem.{AuditProblem}
 use Rattle.journal_audit.specs.declared.problem.AuditProblem.TheVariants as audit
 use Rattle.word_reading.specs.Words.{Asked, opt, check, demo}
-use Rattle.rambo_cli.specs.Complete.{AreThere, CanBeOptimised, IsGood, IsJudgeable}
-use Rattle.rambo_cli.specs.Inner.Complete.{GoodRunsAreDone, JudgedRunsAreTold}
-use Rattle.rambo_cli.specs.Outcome.{Audited, Holds, HasPassed}
-use Rattle.rambo_cli.specs.Problems.{CheckCause, IsCause, ReadCause, audit_problem}
-use Rattle.rambo_cli.specs.Inner.Problems.{IsReported, HasEnded, status_of}
+use Rattle.rambo_cli.specs.Check.{AreThere, Audited, CheckFinds, HasPassed}
+use Rattle.rambo_cli.specs.Commands.{contract_of}
+use Rattle.rambo_cli.specs.Contract.{Caused, Contract, IsCause, StoreFails}
+use Rattle.rambo_cli.specs.Files.{Holds}
+use Rattle.rambo_cli.specs.Input.{CanBeOptimised, ReadFinds}
+use Rattle.rambo_cli.specs.Problems.{status_of}
+use Rattle.rambo_cli.specs.Inner.Complete.{GoodRunsAreDone, IsOutsideOf, JudgedRunsAreTold}
+use Rattle.rambo_cli.specs.Inner.Problems.{IsReported, HasEnded}
 use Rattle.rambo_cli.specs.Written.{Exceeds, HasFault, IsSaid}
 use Rattle.rambo_cli.specs.declared.problem.Problem.{Problem}
 use Rattle.rambo_cli.specs.declared.problem.Problem.TheVariants.{Words, Text, Limit, Missing, Fault, Journal, Record, Netlist, Memory}
 use Rattle.rm_base.specs.Words.{Word}
-
--- what keeps a run from its end is of the outside
-abbrev IsOutside : ℕ → ℕ → Problem → Type 0
-IsOutside m n problem = (problem ≡ Memory) ⊎ ((problem ≡ Fault) × Rose m n)
 
 -- of one file two facts hold together
 together : (o : Option (List ℕ)) (P Q : List ℕ → Type 0) → IsSomeAnd o P → IsSomeAnd o Q → ((text : List ℕ) → P text → Q text → ⊥) → ⊥
@@ -59,16 +58,29 @@ no_limit quantity count text good h = elim h [
   ]
 ]
 
-read_goes : (input : Word) (told : Files) (m n : ℕ) (problem : Problem) → Holds told input CanBeOptimised → ReadCause input (Some told) m n problem → IsOutside m n problem
-read_goes input told m n (Text kind place) good h = absurd (together (file_of told input) CanBeOptimised (λ text. HasFault text kind place) good h (no_fault kind place))
-read_goes input told m n (Limit quantity count) good h = absurd (together (file_of told input) CanBeOptimised (λ text. Exceeds text quantity count) good h (no_limit quantity count))
-read_goes input told m n Missing good h = absurd (present (file_of told input) CanBeOptimised good h)
-read_goes input told m n Fault good h = inr (refl, h)
-read_goes input told m n Memory good h = inl refl
-read_goes input told m n Words good h = absurd h
-read_goes input told m n (Journal f) good h = absurd h
-read_goes input told m n (Record r) good h = absurd h
-read_goes input told m n (Netlist byte) good h = absurd h
+-- nothing is found of an input that can be optimised
+read_finds_none : (input : Word) (told : Files) (problem : Problem) → Holds told input CanBeOptimised → ReadFinds input (Some told) problem → ⊥
+read_finds_none input told (Text kind place) good h = together (file_of told input) CanBeOptimised (λ text. HasFault text kind place) good h (no_fault kind place)
+read_finds_none input told (Limit quantity count) good h = together (file_of told input) CanBeOptimised (λ text. Exceeds text quantity count) good h (no_limit quantity count)
+read_finds_none input told Missing good h = present (file_of told input) CanBeOptimised good h
+read_finds_none input told Fault good h = h
+read_finds_none input told Memory good h = h
+read_finds_none input told Words good h = h
+read_finds_none input told (Journal f) good h = h
+read_finds_none input told (Record r) good h = h
+read_finds_none input told (Netlist byte) good h = h
+
+-- where nothing is found, what keeps a run from its end is of the outside
+outside_alone : (c : Contract) (files : Option Files) (m n : ℕ) (problem : Problem) → (c.Finds files problem → ⊥) → IsCause c files m n problem → IsOutsideOf c m n problem
+outside_alone c files m n Fault none h = inr (refl, h)
+outside_alone c files m n Memory none h = inl refl
+outside_alone c files m n Words none h = absurd (none h)
+outside_alone c files m n (Text kind place) none h = absurd (none h)
+outside_alone c files m n (Limit quantity count) none h = absurd (none h)
+outside_alone c files m n Missing none h = absurd (none h)
+outside_alone c files m n (Journal f) none h = absurd (none h)
+outside_alone c files m n (Record r) none h = absurd (none h)
+outside_alone c files m n (Netlist byte) none h = absurd (none h)
 
 module _ (once : ReadsOnce) (exclude : ProblemsExclude) where
   said_good : (model : Model) (text : List ℕ) → decomposed model ≤ 65536 → IsSaid text model → CanBeOptimised text
@@ -88,19 +100,42 @@ module _ (once : ReadsOnce) (exclude : ProblemsExclude) where
       (λ same. exclude passed.0 told journal output found count of_files (subst (λ (m : Model). IsProblem m told journal output found) (sym same) audited.1.1.1) passed.1.1.1.0)
       one two)
 
-  check_goes : (input journal output : Word) (told : Files) (count m n : ℕ) (problem : Problem) → HasPassed input journal output count told → CheckCause input journal output (Some told) m n problem → IsOutside m n problem
-  check_goes input journal output told count m n problem passed h = elim h [
-    | inl read ↦ read_goes input told m n problem (weaker (file_of told input) (λ text. IsSaid text passed.0) CanBeOptimised passed.1.0 (λ text said. said_good passed.0 text passed.1.1.0 said)) read
-    | inr found ↦ absurd (no_problem input journal output told count found.0 passed found.1.1.0 found.1.1.1.1)
-  ]
+  check_finds_none : (input journal output : Word) (told : Files) (count : ℕ) (problem : Problem) → HasPassed input journal output count told → CheckFinds input journal output (Some told) problem → ⊥
+  check_finds_none input journal output told count problem passed h = go problem h
+    where
+      good : Holds told input CanBeOptimised
+      good = weaker (file_of told input) (λ text. IsSaid text passed.0) CanBeOptimised passed.1.0 (λ text said. said_good passed.0 text passed.1.1.0 said)
+
+      go : (p : Problem) → CheckFinds input journal output (Some told) p → ⊥
+      go (Text kind place) f = read_finds_none input told (Text kind place) good f
+      go (Limit quantity bytes) f = elim f [
+        | inl read ↦ read_finds_none input told (Limit quantity bytes) good read
+        | inr long ↦ no_problem input journal output told count audit.TooLong passed tt long.1
+      ]
+      go Missing f = elim f [
+        | inl read ↦ read_finds_none input told Missing good read
+        | inr other ↦ elim other [
+          | inl one ↦ no_problem input journal output told count audit.NoJournal passed tt one
+          | inr two ↦ no_problem input journal output told count audit.NoOutput passed tt two
+        ]
+      ]
+      go Fault f = f
+      go Memory f = f
+      go Words f = f
+      go (Journal x) f = no_problem input journal output told count (audit.Text x) passed tt f
+      go (Record r) f = no_problem input journal output told count (audit.Refused r) passed tt f
+      go (Netlist byte) f = no_problem input journal output told count (audit.Netlist byte) passed tt f
 
   pub good_runs_are_done : GoodRunsAreDone
   good_runs_are_done None files m n problem good h = absurd good
   good_runs_are_done (Some (opt input output journal settings)) None m n problem good h = absurd good
-  good_runs_are_done (Some (opt input output journal settings)) (Some told) m n problem good h = read_goes input told m n problem good h
+  good_runs_are_done (Some (opt input output journal settings)) (Some told) m n problem good h =
+      outside_alone (contract_of (Some (opt input output journal settings))) (Some told) m n problem (read_finds_none input told problem good) h
   good_runs_are_done (Some (check input journal output)) None m n problem good h = absurd good
-  good_runs_are_done (Some (check input journal output)) (Some told) m n problem good h = check_goes input journal output told good.0 m n problem good.1 h
-  good_runs_are_done (Some (demo seed settings)) files m n problem good h = inl h
+  good_runs_are_done (Some (check input journal output)) (Some told) m n problem good h =
+      outside_alone (contract_of (Some (check input journal output))) (Some told) m n problem (check_finds_none input journal output told good.0 problem good.1) h
+  good_runs_are_done (Some (demo seed settings)) files m n problem good h =
+      outside_alone (contract_of (Some (demo seed settings))) files m n problem (λ (x : ⊥). x) h
 
 held : (o : Option (List ℕ)) → IsSome o → o ≡ None → ⊥
 held None h e = cc
@@ -110,32 +145,49 @@ short_enough : (o : Option (List ℕ)) (text : List ℕ) → IsSomeAnd o (λ t. 
 short_enough None text h e long = h
 short_enough (Some t) text h e long = let same : t ≡ text = cc in let few : length text ≤ 2 ^ 62 = subst (λ (x : List ℕ). length x ≤ 2 ^ 62) same h in omega (arith, few, long)
 
-found_told : (input journal output : Word) (told : Files) (found : AuditProblem) (model : Model) → AreThere input journal output told → IsOfFiles found → IsProblem model told journal output found → status_of (audit_problem found) ≡ 6
-found_told input journal output told audit.Fault model there of_files p = absurd of_files
-found_told input journal output told audit.NoMemory model there of_files p = absurd of_files
-found_told input journal output told audit.NoJournal model there of_files p = absurd (present (file_of told journal) (λ t. length t ≤ 2 ^ 62) there.journal_is p)
-found_told input journal output told audit.NoOutput model there of_files p = absurd (held (file_of told output) there.output_is p.1.1.1)
-found_told input journal output told audit.TooLong model there of_files p = absurd (short_enough (file_of told journal) p.0 there.journal_is p.1.0 p.1.1.0)
-found_told input journal output told (audit.Text f) model there of_files p = refl
-found_told input journal output told (audit.Refused r) model there of_files p = refl
-found_told input journal output told (audit.Netlist byte) model there of_files p = refl
-
-judged : (input journal output : Word) (told : Files) (m n : ℕ) (problem : Problem) → AreThere input journal output told → CheckCause input journal output (Some told) m n problem → (status_of problem ≡ 6) ⊎ IsOutside m n problem
-judged input journal output told m n problem there h = elim h [
-  | inl read ↦ inr (read_goes input told m n problem there.input_is read)
-  | inr found ↦ inl (ap status_of found.1.0 ∙ found_told input journal output told found.0 found.1.1.1.1.0 there found.1.1.0 found.1.1.1.1.1.1.1)
+-- a journal and an output that are there, and an input that can be optimised: only the journal and the output are found at fault
+judged : (input journal output : Word) (told : Files) (problem : Problem) → AreThere input journal output told → CheckFinds input journal output (Some told) problem → status_of problem ≡ 6
+judged input journal output told (Text kind place) there h = absurd (read_finds_none input told (Text kind place) there.input_is h)
+judged input journal output told (Limit quantity count) there h = elim h [
+  | inl read ↦ absurd (read_finds_none input told (Limit quantity count) there.input_is read)
+  | inr long ↦ absurd (short_enough (file_of told journal) long.1.1.1.1.0 there.journal_is long.1.1.1.1.1.0 long.1.1.1.1.1.1.0)
 ]
+judged input journal output told Missing there h = elim h [
+  | inl read ↦ absurd (read_finds_none input told Missing there.input_is read)
+  | inr other ↦ elim other [
+    | inl one ↦ absurd (present (file_of told journal) (λ t. length t ≤ 2 ^ 62) there.journal_is one.1.1.1)
+    | inr two ↦ absurd (held (file_of told output) there.output_is two.1.1.1.1.1.1)
+  ]
+]
+judged input journal output told Fault there h = absurd h
+judged input journal output told Memory there h = absurd h
+judged input journal output told Words there h = absurd h
+judged input journal output told (Journal f) there h = refl
+judged input journal output told (Record r) there h = refl
+judged input journal output told (Netlist byte) there h = refl
+
+or_outside : (c : Contract) (files : Option Files) (m n : ℕ) (problem : Problem) → (c.Finds files problem → status_of problem ≡ 6) → IsCause c files m n problem → (status_of problem ≡ 6) ⊎ IsOutsideOf c m n problem
+or_outside c files m n Fault six h = inr (inr (refl, h))
+or_outside c files m n Memory six h = inr (inl refl)
+or_outside c files m n Words six h = inl (six h)
+or_outside c files m n (Text kind place) six h = inl (six h)
+or_outside c files m n (Limit quantity count) six h = inl (six h)
+or_outside c files m n Missing six h = inl (six h)
+or_outside c files m n (Journal f) six h = inl (six h)
+or_outside c files m n (Record r) six h = inl (six h)
+or_outside c files m n (Netlist byte) six h = inl (six h)
 
 pub judged_runs_are_told : JudgedRunsAreTold
 judged_runs_are_told None files m n problem there h = absurd there
 judged_runs_are_told (Some (opt input output journal settings)) files m n problem there h = absurd there
 judged_runs_are_told (Some (check input journal output)) None m n problem there h = absurd there
-judged_runs_are_told (Some (check input journal output)) (Some told) m n problem there h = judged input journal output told m n problem there h
+judged_runs_are_told (Some (check input journal output)) (Some told) m n problem there h =
+    or_outside (contract_of (Some (check input journal output))) (Some told) m n problem (judged input journal output told problem there) h
 judged_runs_are_told (Some (demo seed settings)) files m n problem there h = absurd there
 
 -- so a run that reports a problem of good words and files ends with 4, where nothing outside fails
-pub reported_done : (law : GoodRunsAreDone) (may_want : Bool) (problem : Problem) (status : ℕ) (words : Option Asked) (files : Option Files) (m n : ℕ) (old new : Option (List ℕ)) (k l : ℕ) → IsReported may_want problem status old new k l → IsCause words files m n problem
-    → IsGood words files → (Rose m n → ⊥) → (Rose k l → ⊥) → (status ≡ 0) ⊎ (status ≡ 4)
+pub reported_done : (law : GoodRunsAreDone) (may_want : Bool) (problem : Problem) (status : ℕ) (words : Option Asked) (files : Option Files) (m n : ℕ) (old new : Option (List ℕ)) (k l : ℕ) → IsReported may_want problem status old new k l → IsCause (contract_of words) files m n problem
+    → (contract_of words).IsGood files → (StoreFails (contract_of words) m n → ⊥) → (Rose k l → ⊥) → (status ≡ 0) ⊎ (status ≡ 4)
 reported_done law may_want problem status words files m n old new k l r cause good shelf_stands sink_stands = elim r [
   | inl told ↦ elim (law words files m n problem good cause) [
     | inl memory ↦ inr (told.0 ∙ ap status_of memory)
@@ -152,8 +204,8 @@ ended_done may_want text status old new k l h sink_stands = elim h [
 ]
 
 -- a run that reports a problem of what it judges ends with 6 or 4
-pub reported_judged : (law : JudgedRunsAreTold) (may_want : Bool) (problem : Problem) (status : ℕ) (words : Option Asked) (files : Option Files) (m n : ℕ) (old new : Option (List ℕ)) (k l : ℕ) → IsReported may_want problem status old new k l → IsCause words files m n problem
-    → IsJudgeable words files → (Rose m n → ⊥) → (Rose k l → ⊥) → (status ≡ 0) ⊎ ((status ≡ 6) ⊎ (status ≡ 4))
+pub reported_judged : (law : JudgedRunsAreTold) (may_want : Bool) (problem : Problem) (status : ℕ) (words : Option Asked) (files : Option Files) (m n : ℕ) (old new : Option (List ℕ)) (k l : ℕ) → IsReported may_want problem status old new k l → IsCause (contract_of words) files m n problem
+    → (contract_of words).IsJudged files → (StoreFails (contract_of words) m n → ⊥) → (Rose k l → ⊥) → (status ≡ 0) ⊎ ((status ≡ 6) ⊎ (status ≡ 4))
 reported_judged law may_want problem status words files m n old new k l r cause there shelf_stands sink_stands = elim r [
   | inl told ↦ elim (law words files m n problem there cause) [
     | inl six ↦ inr (inl (told.0 ∙ six))

@@ -8,8 +8,8 @@ use Rattle.blif_format.specs.declared.refusal.FaultKind.{FaultKind}
 use Rattle.blif_format.specs.declared.refusal.Quantity.{Quantity}
 use Rattle.rm_model.specs.declared.parts.Model.{Model}
 use Rattle.rambo_cli.specs.Written.{IsSaid, HasFault, Exceeds, IsLong, ExceedsAt, HasManyPins}
-use Rattle.rambo_cli.specs.Outcome.{Holds}
-use Rattle.rambo_cli.specs.Problems.{ReadCause}
+use Rattle.rambo_cli.specs.Files.{Holds}
+use Rattle.rambo_cli.specs.Input.{ReadCause}
 use Rattle.rambo_cli.specs.Inner.Problems.{TextCause}
 use Rattle.rambo_cli.specs.declared.problem.Problem.{Problem}
 use Rattle.rambo_cli.specs.declared.problem.Problem.TheVariants.{Words, Text, Limit, Missing, Fault, Journal, Record, Netlist, Memory}

@@ -2,10 +2,10 @@
 use Rattle.std.specs.Prelude.{◌≡◌, ℕ, Bool, ◌<◌, ◌≤◌, ◌+◌, ◌^◌, ◌++◌, List, None, Some, length, slice_get}
 use Rattle.rm_base.specs.declared.numbers.Fault.{Fault}
 use Rattle.rm_base.specs.declared.settings.Settings.{Settings}
-use Rattle.rm_model.specs.Value.{Equivalent, IsRanked}
+use Rattle.rm_model.specs.Value.{Equivalent, IsRanked, source_names}
 use Rattle.rm_model.specs.declared.parts.Cover.{Cover}
 use Rattle.rm_model.specs.declared.parts.Model.{Model}
-use Rattle.gate_net.specs.Net.{Net, source_count}
+use Rattle.gate_net.specs.Net.{Net}
 use Rattle.gate_net.specs.Values.{Detects}
 use Rattle.gate_net.specs.Faults.{assigned, fault_at, gates_of}
 use Rattle.refutation.specs.declared.items.Item.{Item}
@@ -79,8 +79,8 @@ pub record IsOptimisedInto (m : Model) (settings : Settings) (figures : Figures)
   pub accepted : IsAccepted m settings.budget (steps ++ verdicts) net
   -- and every remaining gate-input stuck-at fault has a written detecting vector, or a written search that spent its whole budget,
   pub tested : AreTested (model_of_net m net) net settings.budget verdicts
-  -- impossible at 2^(n+1)
-  pub decided : 2 ^ (source_count net + 1) ≤ settings.budget → NoneIsSpent verdicts
+  -- impossible at 2^(n+1), n being the number of inputs, clocks and latch outputs of the original
+  pub decided : 2 ^ (length (source_names m) + 1) ≤ settings.budget → NoneIsSpent verdicts
   -- what `settled` and the count of tries mean of the steps
   pub run : IsRun (net_of_model m) (steps_of steps) settings.depth settings.tries figures.tries figures.settled
   -- and the other figures of the summary

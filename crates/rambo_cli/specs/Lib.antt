@@ -2,8 +2,14 @@ pub mod Lines
 pub mod Summary
 pub mod Written
 pub mod Headline
-pub mod Outcome
-pub mod Problems
 pub mod Composition
-pub mod Complete
+pub mod Files
+pub mod Contract
+pub mod Input
+pub mod Opt
+pub mod Check
+pub mod Demo
+pub mod Commands
+pub mod Problems
+pub mod Outcome
 pub mod Inner

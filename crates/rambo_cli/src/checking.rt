@@ -1,8 +1,8 @@
 //! The command `check`.
 ghost use Rattle.std.specs.Prelude.{◌≡◌, ◌≤◌, IfErr, IfOk, IfSome, OnOk};
 ghost use Rattle.cover_decompose.specs.Count.{decomposed};
-ghost use Rattle.rambo_cli.specs.Outcome.{HasPassed};
-ghost use Rattle.rambo_cli.specs.Problems.{CheckCause};
+ghost use Rattle.rambo_cli.specs.Check.{CheckFinds, HasPassed};
+ghost use Rattle.rambo_cli.specs.Contract.{Caused};
 ghost use Rattle.rambo_cli.specs.Inner.Problems.{ModelCause};
 ghost use Rattle.rambo_cli.specs.Inner.Written.{IsUsable};
 ghost use Rattle.cover_decompose.specs.Limits.{most_pins};
@@ -42,7 +42,7 @@ pub(crate) fn check<S: Shelf>(
     output: &str,
 ) -> Result<u64, Problem>
     ensures passed { IfOk result (λ count. IfSome (S.files shelf.old) (HasPassed input.now journal.now output.now count)) }
-    ensures cause { IfErr result (CheckCause input.now journal.now output.now (S.files shelf.old) (S.faults shelf.old) (S.faults shelf.new)) }
+    ensures cause { IfErr result (Caused (CheckFinds input.now journal.now output.now (S.files shelf.old)) (S.faults shelf.old) (S.faults shelf.new)) }
     ensures files { S.files shelf.new ≡ S.files shelf.old }
     ensures later { S.faults shelf.old ≤ S.faults shelf.new }
 {

@@ -1,11 +1,12 @@
 //! The top call.
-ghost use Rattle.std.specs.Prelude.{◌≡◌, ◌≤◌, ◌⊎◌, map};
+ghost use Rattle.std.specs.Prelude.{◌≡◌, ◌≤◌, ◌⊎◌, false, map};
 ghost use Rattle.std.specs.String.{string_bytes};
 ghost use Rattle.rm_base.specs.Causes.{Rose};
 ghost use Rattle.word_reading.specs.Words.{asked};
-ghost use Rattle.rambo_cli.specs.Complete.{IsGood, IsJudgeable};
-ghost use Rattle.rambo_cli.specs.Outcome.{EndsDone, EndsUnread, EndsRefused, EndsFaulty, EndsWithoutMemory, EndsOver, EndsRejected, EndsSafely, NeedNoFile};
-ghost use Rattle.rambo_cli.specs.Problems.{PutsUnlessFailed, done_text};
+ghost use Rattle.rambo_cli.specs.Commands.{contract_of};
+ghost use Rattle.rambo_cli.specs.Contract.{StoreFails};
+ghost use Rattle.rambo_cli.specs.Outcome.{EndsBy, EndsDone, EndsFaulty, EndsRefused, EndsWithoutMemory, PutsUnlessFailed};
+ghost use Rattle.rambo_cli.specs.Problems.{done_text};
 ghost use Rattle.rambo_cli.specs.Inner.Problems.{IsReported, IsPutWith, HasEnded};
 
 use crate::laws::{good_runs_are_done, judged_runs_are_told};
@@ -19,8 +20,8 @@ use std::thread::Threads;
 
 /// Does all that the program does, and answers its status.
 ///
-/// The words are those of `opt IN OUT JOURNAL`, `check IN JOURNAL OUT` or `demo SEED`, with their options. A gate lets the
-/// pieces of parallel work pass.
+/// The words are those of `opt IN OUT [JOURNAL]`, `check IN JOURNAL OUT` or `demo SEED`, with their options. A gate lets the
+/// pieces of parallel work pass. What each command promises stands in its contract.
 pub fn run<R: Threads + Sync, S: Shelf, O: Sink, G: Gate>(
     rt: &R,
     alloc: Global,
@@ -31,13 +32,12 @@ pub fn run<R: Threads + Sync, S: Shelf, O: Sink, G: Gate>(
 ) -> u8
     ensures status { result ≤ 6 }
 
-    // 0: the command is done. Of `opt`: the headline stands of the journal and the output that are written, and the summary
-    // is put. Of `check`: the journal is accepted and the output is its last net's text. Of `demo`: the summary is put.
-    ensures done { result ≡ 0 → EndsDone (asked (map string_bytes words.now)) (S.files shelf.old) (S.files shelf.new)
+    // 0: the command has done what its contract says, which is printed.
+    ensures done { result ≡ 0 → EndsDone (contract_of (asked (map string_bytes words.now))) (S.files shelf.old) (S.files shelf.new)
         (O.written out.old) (O.written out.new) }
 
-    // 1: the input has a fault, whose kind and place are put, and no file has changed.
-    ensures unread { result ≡ 1 → EndsUnread (asked (map string_bytes words.now)) (S.files shelf.old)
+    // 1: the input has a fault, whose kind and place are printed, and no file has changed.
+    ensures unread { result ≡ 1 → EndsBy 1 (contract_of (asked (map string_bytes words.now))) (S.files shelf.old)
         (O.written out.old) (O.written out.new) }
     ensures unread_files { result ≡ 1 → S.files shelf.new ≡ S.files shelf.old }
 
@@ -45,39 +45,39 @@ pub fn run<R: Threads + Sync, S: Shelf, O: Sink, G: Gate>(
     ensures refused { result ≡ 2 → EndsRefused (asked (map string_bytes words.now)) (O.written out.old) (O.written out.new) }
     ensures refused_files { result ≡ 2 → S.files shelf.new ≡ S.files shelf.old }
 
-    // 3: a count of faults rose, or a file that is to be read is missing in its turn. The line is put; or, where standard output
-    // itself failed, a beginning of it, or of the one line or summary that a run over these files puts.
-    ensures faulty { result ≡ 3 → EndsFaulty (asked (map string_bytes words.now)) (S.files shelf.old)
+    // 3: a count of faults rose, or a file that is to be read is missing in its turn. The line is printed; or, where standard output
+    // itself failed, a beginning of it, or of the one line or summary that a run over these files prints.
+    ensures faulty { result ≡ 3 → EndsFaulty (contract_of (asked (map string_bytes words.now))) (S.files shelf.old)
         (S.faults shelf.old) (S.faults shelf.new) (O.faults out.old) (O.faults out.new) }
-    ensures faulty_line { result ≡ 3 → PutsUnlessFailed (asked (map string_bytes words.now)) (S.files shelf.old) (S.files shelf.new)
+    ensures faulty_line { result ≡ 3 → PutsUnlessFailed (contract_of (asked (map string_bytes words.now))) (S.files shelf.old) (S.files shelf.new)
         (S.faults shelf.old) (S.faults shelf.new) (O.written out.old) (O.written out.new) (O.faults out.old) (O.faults out.new) }
 
-    // 4: out of memory. The line is put, unless the sink itself wanted memory.
+    // 4: out of memory. The line is printed, unless the sink itself wanted memory.
     ensures memory { result ≡ 4 → EndsWithoutMemory O.may_want (O.written out.old) (O.written out.new) }
 
-    // 5: something of the input is over its limit, or the journal is, which is put, and no file has changed.
-    ensures over { result ≡ 5 → EndsOver (asked (map string_bytes words.now)) (S.files shelf.old)
+    // 5: something of the input is over its limit, or the journal is, which is printed, and no file has changed.
+    ensures over { result ≡ 5 → EndsBy 5 (contract_of (asked (map string_bytes words.now))) (S.files shelf.old)
         (O.written out.old) (O.written out.new) }
     ensures over_files { result ≡ 5 → S.files shelf.new ≡ S.files shelf.old }
 
-    // 6: the journal isn't accepted, or the output differs, which is put, and no file has changed.
-    ensures rejected { result ≡ 6 → EndsRejected (asked (map string_bytes words.now)) (S.files shelf.old)
+    // 6: the journal isn't accepted, or the output differs, which is printed, and no file has changed.
+    ensures rejected { result ≡ 6 → EndsBy 6 (contract_of (asked (map string_bytes words.now))) (S.files shelf.old)
         (O.written out.old) (O.written out.new) }
     ensures rejected_files { result ≡ 6 → S.files shelf.new ≡ S.files shelf.old }
 
     // Whatever the status is.
-    ensures safe { EndsSafely (asked (map string_bytes words.now)) (S.files shelf.old) (S.files shelf.new) }
-    ensures untouched { NeedNoFile (asked (map string_bytes words.now)) → shelf.new ≡ shelf.old }
+    ensures safe { (contract_of (asked (map string_bytes words.now))).Leaves (S.files shelf.old) (S.files shelf.new) }
+    ensures untouched { (contract_of (asked (map string_bytes words.now))).needs_files ≡ false → shelf.new ≡ shelf.old }
 
-    // Good words and files, and no fault of the shelf or of standard output: the command is done, or memory ran out.
-    ensures complete { IsGood (asked (map string_bytes words.now)) (S.files shelf.old)
-        → (Rose (S.faults shelf.old) (S.faults shelf.new) → ⊥) → (Rose (O.faults out.old) (O.faults out.new) → ⊥)
+    // Good words and files, and no fault of the files or of standard output: the command is done, or memory ran out.
+    ensures complete { (contract_of (asked (map string_bytes words.now))).IsGood (S.files shelf.old)
+        → (StoreFails (contract_of (asked (map string_bytes words.now))) (S.faults shelf.old) (S.faults shelf.new) → ⊥) → (Rose (O.faults out.old) (O.faults out.new) → ⊥)
         → (result ≡ 0) ⊎ (result ≡ 4) }
 
     // A journal and an output that are there, over an input that can be optimised, and no such fault: they are accepted, or the
-    // first reason against them is put, or memory ran out.
-    ensures judged { IsJudgeable (asked (map string_bytes words.now)) (S.files shelf.old)
-        → (Rose (S.faults shelf.old) (S.faults shelf.new) → ⊥) → (Rose (O.faults out.old) (O.faults out.new) → ⊥)
+    // first reason against them is printed, or memory ran out.
+    ensures judged { (contract_of (asked (map string_bytes words.now))).IsJudged (S.files shelf.old)
+        → (StoreFails (contract_of (asked (map string_bytes words.now))) (S.faults shelf.old) (S.faults shelf.new) → ⊥) → (Rose (O.faults out.old) (O.faults out.new) → ⊥)
         → (result ≡ 0) ⊎ ((result ≡ 6) ⊎ (result ≡ 4)) }
 {
     good_runs_are_done();

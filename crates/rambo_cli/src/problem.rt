@@ -1,7 +1,7 @@
 //! What keeps a run from ending with 0.
 ghost use Rattle.std.specs.Prelude.{◌≡◌};
-ghost use Rattle.rambo_cli.specs.Problems.{audit_problem};
-ghost use Rattle.rambo_cli.specs.Inner.Problems.{halt_problem, outside_problem, read_problem, status_of, word_problem};
+ghost use Rattle.rambo_cli.specs.Problems.{audit_problem, status_of};
+ghost use Rattle.rambo_cli.specs.Inner.Problems.{halt_problem, outside_problem, read_problem, word_problem};
 ghost use Rattle.rambo_cli.specs.declared.problem.Problem.TheVariants.{Memory};
 
 use blif_format::{FaultKind, Quantity, ReadRefusal};

@@ -2,8 +2,8 @@
 ghost use Rattle.std.specs.Prelude.{◌≡◌, ◌≤◌, length, IfOk, IfSome, None, Err, take, IfErr, IsSome};
 ghost use Rattle.rm_base.specs.Causes.{Rose};
 ghost use Rattle.rm_base.specs.Files.{file_of};
-ghost use Rattle.rambo_cli.specs.Outcome.{Holds};
-ghost use Rattle.rambo_cli.specs.Problems.{ReadCause};
+ghost use Rattle.rambo_cli.specs.Files.{Holds};
+ghost use Rattle.rambo_cli.specs.Input.{ReadCause};
 ghost use Rattle.rambo_cli.specs.Inner.Problems.{IsOutside, TextCause};
 ghost use Rattle.rambo_cli.specs.Written.{IsSaid};
 ghost use Rattle.rambo_cli.specs.Inner.Written.{IsUsable};

@@ -1,6 +1,6 @@
 //! The command `demo`.
 ghost use Rattle.std.specs.Prelude.{IfOk, IfErr};
-ghost use Rattle.rambo_cli.specs.Outcome.{HasShown};
+ghost use Rattle.rambo_cli.specs.Demo.{HasShown};
 ghost use Rattle.rambo_cli.specs.Inner.Problems.{IsWant};
 ghost use Rattle.optimisation.specs.Ranges.{AreSettings};
 

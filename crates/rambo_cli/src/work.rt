@@ -1,9 +1,10 @@
 //! Does what the words ask for.
-ghost use Rattle.std.specs.Prelude.{◌≡◌, ◌≤◌, IfErr, IfOk, map};
+ghost use Rattle.std.specs.Prelude.{◌≡◌, ◌≤◌, IfErr, IfOk, false, map};
 ghost use Rattle.std.specs.String.{string_bytes};
 ghost use Rattle.word_reading.specs.Words.{asked};
-ghost use Rattle.rambo_cli.specs.Outcome.{EndsSafely, NeedNoFile};
-ghost use Rattle.rambo_cli.specs.Problems.{HasDone, IsCause, KeepsFiles};
+ghost use Rattle.rambo_cli.specs.Commands.{contract_of};
+ghost use Rattle.rambo_cli.specs.Contract.{IsCause};
+ghost use Rattle.rambo_cli.specs.Problems.{KeepsFiles};
 
 use crate::checking::check;
 use crate::optimising::{Names, optimise_input};
@@ -33,11 +34,11 @@ pub(crate) fn work<R: Threads + Sync, S: Shelf, G: Gate>(
     shelf: &mut S,
     gate: &G,
 ) -> Result<Done, Problem>
-    ensures done { IfOk result (HasDone (asked (map string_bytes words.now)) (S.files shelf.old) (S.files shelf.new)) }
-    ensures cause { IfErr result (IsCause (asked (map string_bytes words.now)) (S.files shelf.old) (S.faults shelf.old) (S.faults shelf.new)) }
+    ensures done { IfOk result ((contract_of (asked (map string_bytes words.now))).Does (S.files shelf.old) (S.files shelf.new)) }
+    ensures cause { IfErr result (IsCause (contract_of (asked (map string_bytes words.now))) (S.files shelf.old) (S.faults shelf.old) (S.faults shelf.new)) }
     ensures unchanged { IfErr result (λ problem. KeepsFiles problem (S.files shelf.old) (S.files shelf.new)) }
-    ensures safe { EndsSafely (asked (map string_bytes words.now)) (S.files shelf.old) (S.files shelf.new) }
-    ensures untouched { NeedNoFile (asked (map string_bytes words.now)) → shelf.new ≡ shelf.old }
+    ensures safe { (contract_of (asked (map string_bytes words.now))).Leaves (S.files shelf.old) (S.files shelf.new) }
+    ensures untouched { (contract_of (asked (map string_bytes words.now))).needs_files ≡ false → shelf.new ≡ shelf.old }
     ensures later { S.faults shelf.old ≤ S.faults shelf.new }
 {
     match read_words(alloc, words)? {

@@ -29,6 +29,7 @@ fn command_text(alloc: Global, command: Command<'_>) -> Result<String, Fail> {
             journal,
             settings,
         } => {
+            let journal = journal.unwrap_or("(none)");
             let start = format!(in alloc; "opt {input} {output} {journal} ")?;
             with_settings(alloc, &start, settings)
         }
@@ -53,7 +54,7 @@ fn reads(alloc: Global, line: &str, wanted: &str) -> Result<bool, Fail> {
     }
 }
 
-const REFUSED: [&str; 75] = [
+const REFUSED: [&str; 80] = [
     "",
     "~",
     "help",
@@ -67,8 +68,11 @@ const REFUSED: [&str; 75] = [
     "opt a a j",
     "opt a b a",
     "opt a b b",
-    "opt a b",
+    "opt a",
+    "opt a a",
     "opt a b j k",
+    "opt a b j k l",
+    "opt a b j k l --depth 1",
     "opt ~ ~ j",
     "opt a b j --budget 0",
     "opt a b j --budget 1048577",
@@ -112,6 +116,8 @@ const REFUSED: [&str; 75] = [
     "--depth=1 opt a b j",
     "check a b",
     "check a b c d",
+    "check a b c --workers 1",
+    "check a b c --help",
     "check a b c --depth 1",
     "check a b c --depth=1",
     "demo",
@@ -143,6 +149,9 @@ fn refuses(rt: HostRuntime) -> Result<(), Fail> {
 fn reads_opt(rt: HostRuntime) -> Result<(), Fail> {
     let rows = [
         ("opt a b j", "opt a b j 1 256 20000 1"),
+        ("opt a b", "opt a b (none) 1 256 20000 1"),
+        ("opt --depth 2 a b", "opt a b (none) 2 256 20000 1"),
+        ("opt a --tries=7 -- b", "opt a b (none) 1 256 7 1"),
         ("opt --budget=8 -- a b j", "opt a b j 1 8 20000 1"),
         ("opt --budget +8 a b j", "opt a b j 1 8 20000 1"),
         (

@@ -1,336 +1,300 @@
 -- What clap makes of the words is what the rules ask for.
-use Rattle.std.proofs.Common.{◌≡◌, ◌∙◌, ◌<◌, ◌≤◌, ◌-◌, ◌^◌, ℕ, zero, suc, Bool, true, false, cond, refl, sym, ap, subst, List, [], ◌∷◌, length, Option, Some, None, arith, lit<}
-use Rattle.std.specs.Prelude.{if◌then◌else◌, codes, option_and_then, option_map, slice_get, unwrap_or}
-use Rattle.std.specs.Str.{bytes_eq}
+use Rattle.std.proofs.Common.{lit<, ◌≡◌, ◌∙◌, ◌<◌, ◌≤◌, ◌^◌, ◌&&◌, ◌||◌, ◌⊎◌, inl, inr, ℕ, zero, suc, Bool, true, false, not, cond, refl, sym, ap, ap₂, subst, List, [], ◌∷◌, length, map, Option, Some, None, is_some, arith}
+use Rattle.std.specs.Prelude.{codes, find, option_and_then, option_map, slice_get, unwrap_or}
+use Rattle.std.specs.List.{AllByRecursion, list_all, list_any}
 use Rattle.std.proofs.lemmas.Slice.Eq.{bytes_eq-Decides}
 use Rattle.clap.specs.ValueTests.{is_unsigned_in}
-use Rattle.clap.specs.Walk.{Row, Rule, Text, row_text}
+use Rattle.clap.specs.Walk.{Row, Rule, Text, first_of}
 use Rattle.rm_base.specs.declared.settings.Settings.{Settings}
-use Rattle.word_reading.specs.Inner.Judged.{accepted, check_rules, checked, demo_rules, judged, judged_parts, leaf_rows, opt_rules}
-use Rattle.word_reading.specs.Inner.Commands.{Three, check_in, command_in, demo_in, names_in, number_at, number_in, opt_by, opt_in, settings_in, three}
-use Rattle.word_reading.specs.Words.{Asked, Part, asked, asked_by, at_most_once, check, check_of, demo, demo_of, given, has_keys, keys, names, number, opt_of, parts, settings_of}
-use Rattle.word_reading.proofs.Numbers.{number_in_some, number_none, number_some, value_of}
+use Rattle.word_reading.specs.Inner.Judged.{accepted, judged, judged_parts, rules}
+use Rattle.word_reading.specs.Inner.Commands.{command_in, has_only, made_by, names_in, number_at, settings_in, up_to_none}
+use Rattle.word_reading.specs.Words.{Asked, CommandRule, OptionRule, Part, name, setting, asked, asked_by, at_most_once, budget_rule, check_by, command_rules, demo_by, depth_rule, given, has_keys, is_word, names, opt_by, option_rules, parts, rule_of, setting_keys, settings_of, together, tries_rule, value_in, workers_rule}
+use Rattle.word_reading.proofs.Numbers.{number_in_some, number_some}
 use Rattle.word_reading.proofs.Slots.{fits, row_with, row_for}
-use Rattle.word_reading.proofs.Judging.{Form, IsForm, Key, depth, budget, tries, workers, key_text, keys_if, lowest, highest, default, IsValue, absent, once, Holds, IsFaulty, unknown_key, crowded, bad_option, bad_name, Verdict, refuses, takes, first_row, judged_is, apart_both}
-use Rattle.word_reading.proofs.Forms.{check_form, check_is, demo_form, demo_is, each_at, opt_form, opt_is}
+use Rattle.word_reading.proofs.Judging.{IsOption, IsValue, absent, once, Holds, IsFaulty, unknown_key, crowded, bad_option, bad_name, Verdict, refuses, takes, first_row, judged_is, same_text}
+use Rattle.word_reading.proofs.Forms.{each_name, each_option, form, form_is}
+use Rattle.rm_base.proofs.Public.{some_is}
 
 -- ---- the settings
 
-abbrev settings_by : Bool → Option ℕ → Option ℕ → Option ℕ → Option ℕ → Option Settings
-settings_by known d b t w = if known
-    then option_and_then (λ depth. option_and_then (λ budget. option_and_then (λ tries. option_map (λ workers.
-    record { depth = depth; budget = budget; tries = tries; workers = workers }) w) t) b) d
-    else None
+no_setting : (d b t w : Option ℕ) → (d ≡ None) ⊎ ((b ≡ None) ⊎ ((t ≡ None) ⊎ (w ≡ None))) → together d b t w ≡ None
+no_setting None b t w e = refl
+no_setting (Some d) None t w e = refl
+no_setting (Some d) (Some b) None w e = refl
+no_setting (Some d) (Some b) (Some t) None e = refl
+no_setting (Some d) (Some b) (Some t) (Some w) (inl e) = cc
+no_setting (Some d) (Some b) (Some t) (Some w) (inr (inl e)) = cc
+no_setting (Some d) (Some b) (Some t) (Some w) (inr (inr (inl e))) = cc
+no_setting (Some d) (Some b) (Some t) (Some w) (inr (inr (inr e))) = cc
 
-no_depth : (k : Bool) (b t w : Option ℕ) → settings_by k None b t w ≡ None
-no_depth true b t w = refl
-no_depth false b t w = refl
+settings_none : (ps : List Part) (j : OptionRule) → IsOption j → value_in ps j ≡ None → settings_of ps ≡ None
+settings_none ps =
+    let d = value_in ps depth_rule in
+    let b = value_in ps budget_rule in
+    let t = value_in ps tries_rule in
+    let w = value_in ps workers_rule in
+    each_option (λ (j : OptionRule). value_in ps j ≡ None → settings_of ps ≡ None)
+    ((λ e. no_setting d b t w (inl e)), ((λ e. no_setting d b t w (inr (inl e))), ((λ e. no_setting d b t w (inr (inr (inl e)))), ((λ e. no_setting d b t w (inr (inr (inr e)))), tt))))
 
-no_budget : (k : Bool) (d t w : Option ℕ) → settings_by k d None t w ≡ None
-no_budget true None t w = refl
-no_budget true (Some d) t w = refl
-no_budget false d t w = refl
+read_in_order : (a b c d : Option Text) (xs : List Text) → a ≡ slice_get xs 0 → b ≡ slice_get xs 1 → c ≡ slice_get xs 2 → d ≡ slice_get xs 3 → length xs ≤ 4 → up_to_none (a ∷ b ∷ c ∷ d ∷ []) ≡ xs
+read_in_order a b c d [] e f g k few = rw e refl
+read_in_order a b c d (x ∷ []) e f g k few = rw (e, f) refl
+read_in_order a b c d (x ∷ y ∷ []) e f g k few = rw (e, f, g) refl
+read_in_order a b c d (x ∷ y ∷ z ∷ []) e f g k few = rw (e, f, g, k) refl
+read_in_order a b c d (x ∷ y ∷ z ∷ u ∷ []) e f g k few = rw (e, f, g, k) refl
+read_in_order a b c d (x ∷ y ∷ z ∷ u ∷ v ∷ vs) e f g k few = absurd (omega arith)
 
-no_tries : (k : Bool) (d b w : Option ℕ) → settings_by k d b None w ≡ None
-no_tries true None b w = refl
-no_tries true (Some d) None w = refl
-no_tries true (Some d) (Some b) w = refl
-no_tries false d b w = refl
+module _ (ps : List Part) (rows : List Row) (h : Holds form rows ps) where
+  one_value : (j : OptionRule) (on : IsOption j) (bits : ℕ) → j.most < 2 ^ bits → (vs : List Text) → IsValue form j vs → row_with j.key rows ≡ first_row j.key vs
+      → at_most_once j.least j.most j.usual vs ≡ Some (unwrap_or (number_at bits j.key rows) j.usual)
+  one_value j on bits lt vs absent e = rw e refl
+  one_value j on bits lt vs (once v ok) e =
+      let fit : is_unsigned_in j.least j.most v ≡ true = sym (form_is.option_fits j on v) ∙ ok in
+      rw e (number_some j.least j.most v fit ∙ ap (λ o. Some (unwrap_or o j.usual)) (sym (number_in_some j.least j.most v bits lt fit)))
 
-no_workers : (k : Bool) (d b t : Option ℕ) → settings_by k d b t None ≡ None
-no_workers true None b t = refl
-no_workers true (Some d) None t = refl
-no_workers true (Some d) (Some b) None = refl
-no_workers true (Some d) (Some b) (Some t) = refl
-no_workers false d b t = refl
+  value : (j : OptionRule) (on : IsOption j) (bits : ℕ) → j.most < 2 ^ bits → value_in ps j ≡ Some (unwrap_or (number_at bits j.key rows) j.usual)
+  value j on bits lt = one_value j on bits lt (given j.key ps) (h.values j on) (h.options j on)
 
-abbrev value_in : List Part → Key → Option ℕ
-value_in ps j = at_most_once (lowest j) (highest j) (default j) (given (key_text j) ps)
+  settings_are : settings_of ps ≡ Some (settings_in rows)
+  settings_are = rw (value depth_rule (0, refl) 8 (lit< tt), value budget_rule (1, refl) 32 (lit< tt), value tries_rule (2, refl) 32 (lit< tt), value workers_rule (3, refl) 8 (lit< tt)) refl
 
-pub settings_none : (ps : List Part) (j : Key) → value_in ps j ≡ None → settings_of ps ≡ None
-settings_none ps depth e = ap (λ o. settings_by (has_keys keys ps) o (value_in ps budget) (value_in ps tries) (value_in ps workers)) e ∙ no_depth (has_keys keys ps) (value_in ps budget) (value_in ps tries) (value_in ps workers)
-settings_none ps budget e = ap (λ o. settings_by (has_keys keys ps) (value_in ps depth) o (value_in ps tries) (value_in ps workers)) e ∙ no_budget (has_keys keys ps) (value_in ps depth) (value_in ps tries) (value_in ps workers)
-settings_none ps tries e = ap (λ o. settings_by (has_keys keys ps) (value_in ps depth) (value_in ps budget) o (value_in ps workers)) e ∙ no_tries (has_keys keys ps) (value_in ps depth) (value_in ps budget) (value_in ps workers)
-settings_none ps workers e = ap (λ o. settings_by (has_keys keys ps) (value_in ps depth) (value_in ps budget) (value_in ps tries) o) e ∙ no_workers (has_keys keys ps) (value_in ps depth) (value_in ps budget) (value_in ps tries)
+  -- ---- the names
 
-pub settings_unknown : (ps : List Part) → has_keys keys ps ≡ false → settings_of ps ≡ None
-settings_unknown ps e = ap (λ b. settings_by b (value_in ps depth) (value_in ps budget) (value_in ps tries) (value_in ps workers)) e
+  text_row : (id : Text) (o : Option Text) → row_with id rows ≡ option_map (row_for id) o → first_of id rows ≡ o
+  text_row id None e = ap (option_and_then (λ (r : Row). slice_get r.values 0)) e
+  text_row id (Some v) e = ap (option_and_then (λ (r : Row). slice_get r.values 0)) e
 
-module _ (f : Form) (form : IsForm f) (ps : List Part) (rows : List Row) (h : Holds f rows ps) (has : f.has_options ≡ true) where
-  one_value : (j : Key) (bits : ℕ) → highest j < 2 ^ bits → (vs : List Text) → IsValue f j vs → row_with (key_text j) rows ≡ first_row (key_text j) vs
-      → at_most_once (lowest j) (highest j) (default j) vs ≡ Some (unwrap_or (number_at bits (key_text j) rows) (default j))
-  one_value j bits lt vs absent e = rw e refl
-  one_value j bits lt vs (once v ok) e =
-      let fit : is_unsigned_in (lowest j) (highest j) v ≡ true = sym (form.option_fits j v) ∙ ok in
-      rw e (number_some (lowest j) (highest j) v fit ∙ ap (λ o. Some (unwrap_or o (default j))) (sym (number_in_some (lowest j) (highest j) v bits lt fit)))
+  name_at : (i : ℕ) (a : Rule) → slice_get form.named i ≡ Some a → (ws : List Text) → names ps ≡ ws → first_of a.id rows ≡ slice_get ws i
+  name_at i a e ws is = text_row a.id (slice_get ws i) (h.named i a e ∙ ap (λ xs. option_map (row_for a.id) (slice_get xs i)) is)
 
-  value : (j : Key) (bits : ℕ) → highest j < 2 ^ bits → value_in ps j ≡ Some (unwrap_or (number_at bits (key_text j) rows) (default j))
-  value j bits lt = one_value j bits lt (given (key_text j) ps) (h.values has j) (h.options has j)
+  names_by : (ws : List Text) → names ps ≡ ws → names_in rows ≡ ws
+  names_by ws is = read_in_order (first_of (codes "first") rows) (first_of (codes "second") rows) (first_of (codes "third") rows) (first_of (codes "fourth") rows) ws
+      (name_at 0 _ refl ws is) (name_at 1 _ refl ws is) (name_at 2 _ refl ws is) (name_at 3 _ refl ws is) (subst (λ (xs : List Text). length xs ≤ 4) is (h.few 4 refl))
 
-  pub settings_are : settings_of ps ≡ Some (settings_in rows)
-  settings_are =
-      let known : has_keys keys ps ≡ true = subst (λ (b : Bool). has_keys (keys_if b) ps ≡ true) has h.known in
-      rw (known, value depth 8 (lit< tt), value budget 32 (lit< tt), value tries 32 (lit< tt), value workers 8 (lit< tt)) refl
+  names_are : names_in rows ≡ names ps
+  names_are = names_by (names ps) refl
 
--- ---- three names
+-- ---- the keys of a command
 
-abbrev text_in : Option Row → Option Text
-text_in = option_and_then (λ r. slice_get r.values 0)
+abbrev IsIn : List Text → Text → Type 0
+IsIn keys x = list_any (is_word x) keys ≡ true
 
-abbrev names_by : Option Row → Option Row → Option Row → Option Three
-names_by a b c = option_and_then (λ x. option_and_then (λ y. option_map (λ z. three x y z) (text_in c)) (text_in b)) (text_in a)
-
-names_are : (rows : List Row) (a b c : Text) → row_with (codes "first") rows ≡ Some (row_for (codes "first") a) → row_with (codes "second") rows ≡ Some (row_for (codes "second") b)
-    → row_with (codes "third") rows ≡ Some (row_for (codes "third") c) → names_in rows ≡ Some (three a b c)
-names_are rows a b c one two third =
-    ap (λ o. names_by o (row_with (codes "second") rows) (row_with (codes "third") rows)) one
-    ∙ ap (λ o. names_by (Some (row_for (codes "first") a)) o (row_with (codes "third") rows)) two
-    ∙ ap (λ o. names_by (Some (row_for (codes "first") a)) (Some (row_for (codes "second") b)) o) third
-
--- ---- opt
-
-same_none : {X : Type 0} (b : Bool) → cond {A = Option X} b None None ≡ None
-same_none true = refl
-same_none false = refl
-
-opt_none : (ps : List Part) (ws : List Text) → settings_of ps ≡ None → opt_of ps ws ≡ None
-opt_none ps [] e = refl
-opt_none ps (a ∷ []) e = refl
-opt_none ps (a ∷ b ∷ []) e = refl
-opt_none ps (a ∷ b ∷ c ∷ []) e = rw e (same_none _)
-opt_none ps (a ∷ b ∷ c ∷ d ∷ ws) e = refl
-
-opt_many : (ps : List Part) (ws : List Text) → 3 < length ws → opt_of ps ws ≡ None
-opt_many ps [] lt = refl
-opt_many ps (a ∷ []) lt = refl
-opt_many ps (a ∷ b ∷ []) lt = refl
-opt_many ps (a ∷ b ∷ c ∷ []) lt = absurd (omega arith)
-opt_many ps (a ∷ b ∷ c ∷ d ∷ ws) lt = refl
-
-many_of : (xs : List Rule) (i : ℕ) → slice_get xs i ≡ None → length xs ≤ i
-many_of [] i e = omega arith
-many_of (x ∷ xs) zero e = cc
-many_of (x ∷ xs) (suc i) e = let h = many_of xs i e in omega arith
-
-abbrev TakesAll : Rule → Type 0
-TakesAll a = (v : Text) → fits a v ≡ true
-
-opt_faulty : (ps : List Part) → IsFaulty opt_form ps → opt_of ps (names ps) ≡ None
-opt_faulty ps (unknown_key e) = opt_none ps (names ps) (settings_unknown ps e)
-opt_faulty ps (crowded i e lt) = let most = many_of opt_form.named i e in opt_many ps (names ps) (omega arith)
-opt_faulty ps (bad_option has j e) = opt_none ps (names ps) (settings_none ps j e)
-opt_faulty ps (bad_name i a v e g bad) =
-    let all : fits a v ≡ true = each_at TakesAll opt_form.named ((λ x. refl), ((λ x. refl), ((λ x. refl), tt))) i a e v in
-    cc
-
-abbrev opt_end : Option (List Row) → Option Asked
-opt_end r = option_and_then opt_in (option_and_then (checked (codes "opt") opt_rules) r)
-
-module _ (ps : List Part) (rows : List Row) (h : Holds opt_form rows ps) where
-  opt_row : (i : ℕ) (a : Rule) → slice_get opt_form.named i ≡ Some a → (ws : List Text) → names ps ≡ ws → row_with a.id rows ≡ option_map (row_for a.id) (slice_get ws i)
-  opt_row i a e ws is = h.named i a e ∙ ap (λ xs. option_map (row_for a.id) (slice_get xs i)) is
-
-  opt_holds : (ws : List Text) → names ps ≡ ws → opt_end (Some rows) ≡ opt_of ps ws
-  opt_holds [] e =
-      let none : row_with (codes "first") rows ≡ None = opt_row 0 _ refl [] e in
-      rw none refl
-  opt_holds (a ∷ []) e =
-      let one : row_with (codes "first") rows ≡ Some (row_for (codes "first") a) = opt_row 0 _ refl (a ∷ []) e in
-      let none : row_with (codes "second") rows ≡ None = opt_row 1 _ refl (a ∷ []) e in
-      rw (one, none) refl
-  opt_holds (a ∷ b ∷ []) e =
-      let one : row_with (codes "first") rows ≡ Some (row_for (codes "first") a) = opt_row 0 _ refl (a ∷ b ∷ []) e in
-      let two : row_with (codes "second") rows ≡ Some (row_for (codes "second") b) = opt_row 1 _ refl (a ∷ b ∷ []) e in
-      let none : row_with (codes "third") rows ≡ None = opt_row 2 _ refl (a ∷ b ∷ []) e in
-      rw (one, two, none) refl
-  opt_holds (a ∷ b ∷ c ∷ []) e =
-      let one : row_with (codes "first") rows ≡ Some (row_for (codes "first") a) = opt_row 0 _ refl (a ∷ b ∷ c ∷ []) e in
-      let two : row_with (codes "second") rows ≡ Some (row_for (codes "second") b) = opt_row 1 _ refl (a ∷ b ∷ c ∷ []) e in
-      let third : row_with (codes "third") rows ≡ Some (row_for (codes "third") c) = opt_row 2 _ refl (a ∷ b ∷ c ∷ []) e in
-      rw (one, two, third, settings_are opt_form opt_is ps rows h refl) (ap (option_and_then (opt_by (settings_in rows))) (names_are rows a b c one two third))
-  opt_holds (a ∷ b ∷ c ∷ d ∷ ws) e = let few = h.few 3 refl in let size = ap length e in absurd (omega arith)
-
-opt_agrees : (ps : List Part) → opt_end (judged opt_rules 1 [] ps) ≡ opt_of ps (names ps)
-opt_agrees ps = go (judged opt_rules 1 [] ps) (judged_is opt_form opt_is ps)
+-- what is given for a key that isn't one of these
+given_other : (keys : List Text) (ps : List Part) → has_keys keys ps ≡ true → (x : Text) (v : Text) (vs : List Text) → given x ps ≡ v ∷ vs → IsIn keys x
+unfolding has_keys given
+given_other keys [] e x v vs is = cc
+given_other keys (name w ∷ ps) e x v vs is = given_other keys ps e x v vs is
+given_other keys (setting k u ∷ ps) e x v vs is = go (is_word k x) refl (list_any (is_word k) keys) refl e is (given_other keys ps)
   where
-    go : (r : Option (List Row)) → Verdict opt_form ps r → opt_end r ≡ opt_of ps (names ps)
-    go r (refuses faulty) = sym (opt_faulty ps faulty)
-    go r (takes rows h) = opt_holds ps rows h (names ps) refl
+    go : (s : Bool) → is_word k x ≡ s → (t : Bool) → list_any (is_word k) keys ≡ t → (t && has_keys keys ps) ≡ true → cond s (u ∷ given x ps) (given x ps) ≡ v ∷ vs
+        → (has_keys keys ps ≡ true → (x v : Text) (vs : List Text) → given x ps ≡ v ∷ vs → IsIn keys x) → IsIn keys x
+    go true same true listed all is later = subst (IsIn keys) ((bytes_eq-Decides k x).0 same) listed
+    go false same true listed all is later = later all x v vs is
+    go s same false listed all is later = cc
 
--- ---- check
+-- a key that isn't one of these, and for which something is given
+pub record Stray (keys : List Text) (ps : List Part) : Type 0 where
+  pub key : Text
+  pub stray : list_any (is_word key) keys ≡ false
+  pub known : IsIn setting_keys key
+  pub there : is_some (slice_get (given key ps) 0) ≡ true
 
-abbrev check_end : Option (List Row) → Option Asked
-check_end r = option_and_then check_in (option_and_then (checked (codes "check") check_rules) r)
-
-check_unknown : (ps : List Part) (ws : List Text) → has_keys [] ps ≡ false → check_of ps ws ≡ None
-check_unknown ps [] e = refl
-check_unknown ps (a ∷ []) e = refl
-check_unknown ps (a ∷ b ∷ []) e = refl
-check_unknown ps (a ∷ b ∷ c ∷ []) e = rw e refl
-check_unknown ps (a ∷ b ∷ c ∷ d ∷ ws) e = refl
-
-check_many : (ps : List Part) (ws : List Text) → 3 < length ws → check_of ps ws ≡ None
-check_many ps [] lt = refl
-check_many ps (a ∷ []) lt = refl
-check_many ps (a ∷ b ∷ []) lt = refl
-check_many ps (a ∷ b ∷ c ∷ []) lt = absurd (omega arith)
-check_many ps (a ∷ b ∷ c ∷ d ∷ ws) lt = refl
-
-check_faulty : (ps : List Part) → IsFaulty check_form ps → check_of ps (names ps) ≡ None
-check_faulty ps (unknown_key e) = check_unknown ps (names ps) e
-check_faulty ps (crowded i e lt) = let most = many_of check_form.named i e in check_many ps (names ps) (omega arith)
-check_faulty ps (bad_option has j e) = cc
-check_faulty ps (bad_name i a v e g bad) =
-    let all : fits a v ≡ true = each_at TakesAll check_form.named ((λ x. refl), ((λ x. refl), ((λ x. refl), tt))) i a e v in
-    cc
-
-module _ (ps : List Part) (rows : List Row) (h : Holds check_form rows ps) where
-  check_row : (i : ℕ) (a : Rule) → slice_get check_form.named i ≡ Some a → (ws : List Text) → names ps ≡ ws → row_with a.id rows ≡ option_map (row_for a.id) (slice_get ws i)
-  check_row i a e ws is = h.named i a e ∙ ap (λ xs. option_map (row_for a.id) (slice_get xs i)) is
-
-  check_holds : (ws : List Text) → names ps ≡ ws → check_end (Some rows) ≡ check_of ps ws
-  check_holds [] e =
-      let none : row_with (codes "first") rows ≡ None = check_row 0 _ refl [] e in
-      rw none refl
-  check_holds (a ∷ []) e =
-      let one : row_with (codes "first") rows ≡ Some (row_for (codes "first") a) = check_row 0 _ refl (a ∷ []) e in
-      let none : row_with (codes "second") rows ≡ None = check_row 1 _ refl (a ∷ []) e in
-      rw (one, none) refl
-  check_holds (a ∷ b ∷ []) e =
-      let one : row_with (codes "first") rows ≡ Some (row_for (codes "first") a) = check_row 0 _ refl (a ∷ b ∷ []) e in
-      let two : row_with (codes "second") rows ≡ Some (row_for (codes "second") b) = check_row 1 _ refl (a ∷ b ∷ []) e in
-      let none : row_with (codes "third") rows ≡ None = check_row 2 _ refl (a ∷ b ∷ []) e in
-      rw (one, two, none) refl
-  check_holds (a ∷ b ∷ c ∷ []) e =
-      let one : row_with (codes "first") rows ≡ Some (row_for (codes "first") a) = check_row 0 _ refl (a ∷ b ∷ c ∷ []) e in
-      let two : row_with (codes "second") rows ≡ Some (row_for (codes "second") b) = check_row 1 _ refl (a ∷ b ∷ c ∷ []) e in
-      let third : row_with (codes "third") rows ≡ Some (row_for (codes "third") c) = check_row 2 _ refl (a ∷ b ∷ c ∷ []) e in
-      rw (one, two, third, h.known) (ap (option_map (λ (t : Three). check t.first t.second t.third)) (names_are rows a b c one two third))
-  check_holds (a ∷ b ∷ c ∷ d ∷ ws) e = let few = h.few 3 refl in let size = ap length e in absurd (omega arith)
-
-check_agrees : (ps : List Part) → check_end (judged check_rules 1 [] ps) ≡ check_of ps (names ps)
-check_agrees ps = go (judged check_rules 1 [] ps) (judged_is check_form check_is ps)
+stray_behind : (keys : List Text) (k u : Text) (ps : List Part) → Stray keys ps → Stray keys (setting k u ∷ ps)
+unfolding given
+stray_behind keys k u ps s = record { key = s.key; stray = s.stray; known = s.known; there = go (is_word k s.key) refl }
   where
-    go : (r : Option (List Row)) → Verdict check_form ps r → check_end r ≡ check_of ps (names ps)
-    go r (refuses faulty) = sym (check_faulty ps faulty)
-    go r (takes rows h) = check_holds ps rows h (names ps) refl
+    go : (t : Bool) → is_word k s.key ≡ t → is_some (slice_get (cond t (u ∷ given s.key ps) (given s.key ps)) 0) ≡ true
+    go true e = refl
+    go false e = s.there
 
--- ---- demo
+stray_here : (keys : List Text) (k u : Text) (ps : List Part) → list_any (is_word k) keys ≡ false → IsIn setting_keys k → Stray keys (setting k u ∷ ps)
+unfolding given
+stray_here keys k u ps none known = record { key = k; stray = none; known = known; there = rw (same_text k) refl }
 
-abbrev demo_end : Option (List Row) → Option Asked
-demo_end r = option_and_then demo_in (option_and_then (checked (codes "demo") demo_rules) r)
-
-demo_none : (ps : List Part) (ws : List Text) → settings_of ps ≡ None → demo_of ps ws ≡ None
-demo_none ps [] e = refl
-demo_none ps (a ∷ []) e = go (number 0 (2 ^ 64 - 1) a)
+strays : (keys : List Text) (ps : List Part) → has_keys setting_keys ps ≡ true → has_keys keys ps ≡ false → Stray keys ps
+unfolding has_keys given
+strays keys [] all none = cc
+strays keys (name w ∷ ps) all none = let s = strays keys ps all none in record { key = s.key; stray = s.stray; known = s.known; there = s.there }
+strays keys (setting k u ∷ ps) all none = go (list_any (is_word k) setting_keys) refl (list_any (is_word k) keys) refl all none (strays keys ps)
   where
-    go : (o : Option ℕ) → option_and_then (λ (seed : ℕ). option_map (demo seed) (settings_of ps)) o ≡ None
-    go None = refl
-    go (Some n) = rw e refl
-demo_none ps (a ∷ b ∷ ws) e = refl
+    go : (a : Bool) → list_any (is_word k) setting_keys ≡ a → (t : Bool) → list_any (is_word k) keys ≡ t → (a && has_keys setting_keys ps) ≡ true → (t && has_keys keys ps) ≡ false
+        → (has_keys setting_keys ps ≡ true → has_keys keys ps ≡ false → Stray keys ps) → Stray keys (setting k u ∷ ps)
+    go true known false e all none later = stray_here keys k u ps e known
+    go true known true e all none later = stray_behind keys k u ps (later all none)
+    go false known t e all none later = cc
 
-demo_many : (ps : List Part) (ws : List Text) → 1 < length ws → demo_of ps ws ≡ None
-demo_many ps [] lt = refl
-demo_many ps (a ∷ []) lt = absurd (omega arith)
-demo_many ps (a ∷ b ∷ ws) lt = refl
-
--- a text that clap doesn't take as a seed is no number of 64 bits
-abbrev IsSeed : Rule → Type 0
-IsSeed a = (v : Text) → fits a v ≡ is_unsigned_in 0 (2 ^ 64 - 1) v
-
-seed_fits : (a : Rule) (i : ℕ) → slice_get demo_form.named i ≡ Some a → IsSeed a
-seed_fits a i e = each_at IsSeed demo_form.named ((λ x. refl), tt) i a e
-
-demo_bad : (ps : List Part) (ws : List Text) (v : Text) → slice_get ws 0 ≡ Some v → is_unsigned_in 0 (2 ^ 64 - 1) v ≡ false → demo_of ps ws ≡ None
-demo_bad ps [] v e bad = cc
-demo_bad ps (a ∷ []) v e bad =
-    let same : v ≡ a = ap (λ o. unwrap_or o v) (sym e) in
-    let none : number 0 (2 ^ 64 - 1) a ≡ None = subst (λ (x : Text). number 0 (2 ^ 64 - 1) x ≡ None) same (number_none 0 (2 ^ 64 - 1) v (lit< tt) bad) in
-    ap (option_and_then (λ (seed : ℕ). option_map (demo seed) (settings_of ps))) none
-demo_bad ps (a ∷ b ∷ ws) v e bad = refl
-
-demo_faulty : (ps : List Part) → IsFaulty demo_form ps → demo_of ps (names ps) ≡ None
-demo_faulty ps (unknown_key e) = demo_none ps (names ps) (settings_unknown ps e)
-demo_faulty ps (crowded i e lt) = let most = many_of demo_form.named i e in demo_many ps (names ps) (omega arith)
-demo_faulty ps (bad_option has j e) = demo_none ps (names ps) (settings_none ps j e)
-demo_faulty ps (bad_name zero a v e g bad) = demo_bad ps (names ps) v g (sym (seed_fits a 0 e v) ∙ bad)
-demo_faulty ps (bad_name (suc i) a v e g bad) = absurd (past i e)
+-- a text that is a key is that of an option
+option_of : (k : Text) (xs : List OptionRule) → list_any (is_word k) (map (λ (o : OptionRule). o.key) xs) ≡ true → (i : ℕ) × ((j : OptionRule) × ((slice_get xs i ≡ Some j) × (k ≡ j.key)))
+option_of k [] e = cc
+option_of k (x ∷ xs) e = go (is_word k x.key) refl e (option_of k xs)
   where
-    past : (k : ℕ) → slice_get {X = Rule} [] k ≡ Some a → ⊥
-    past zero q = cc
-    past (suc k) q = cc
+    go : (t : Bool) → is_word k x.key ≡ t → (t || list_any (is_word k) (map (λ (o : OptionRule). o.key) xs)) ≡ true
+        → (list_any (is_word k) (map (λ (o : OptionRule). o.key) xs) ≡ true → (i : ℕ) × ((j : OptionRule) × ((slice_get xs i ≡ Some j) × (k ≡ j.key))))
+        → (i : ℕ) × ((j : OptionRule) × ((slice_get (x ∷ xs) i ≡ Some j) × (k ≡ j.key)))
+    go true is all later = (0, (x, (refl, (bytes_eq-Decides k x.key).0 is)))
+    go false is all later = let h = later all in (suc h.0, (h.1.0, h.1.1))
 
-module _ (ps : List Part) (rows : List Row) (h : Holds demo_form rows ps) where
-  demo_row : (i : ℕ) (a : Rule) → slice_get demo_form.named i ≡ Some a → (ws : List Text) → names ps ≡ ws → row_with a.id rows ≡ option_map (row_for a.id) (slice_get ws i)
-  demo_row i a e ws is = h.named i a e ∙ ap (λ xs. option_map (row_for a.id) (slice_get xs i)) is
-
-  demo_holds : (ws : List Text) → names ps ≡ ws → demo_end (Some rows) ≡ demo_of ps ws
-  demo_holds [] e =
-      let none : row_with (codes "seed") rows ≡ None = demo_row 0 _ refl [] e in
-      rw none refl
-  demo_holds (a ∷ []) e =
-      let one : row_with (codes "seed") rows ≡ Some (row_for (codes "seed") a) = demo_row 0 _ refl (a ∷ []) e in
-      let fit : is_unsigned_in 0 (2 ^ 64 - 1) a ≡ true = sym (seed_fits _ 0 refl a) ∙ h.name_fits 0 _ a refl (ap (λ xs. slice_get xs 0) e) in
-      let seed : number_at 64 (codes "seed") rows ≡ Some (value_of a) =
-      ap (λ o. option_and_then (number_in 64) (option_and_then row_text o)) one ∙ number_in_some 0 (2 ^ 64 - 1) a 64 (lit< tt) fit in
-      rw (one, number_some 0 (2 ^ 64 - 1) a fit, settings_are demo_form demo_is ps rows h refl) (ap (option_map (λ (n : ℕ). demo n (settings_in rows))) seed)
-  demo_holds (a ∷ b ∷ ws) e = let few = h.few 1 refl in let size = ap length e in absurd (omega arith)
-
-demo_agrees : (ps : List Part) → demo_end (judged demo_rules 1 [] ps) ≡ demo_of ps (names ps)
-demo_agrees ps = go (judged demo_rules 1 [] ps) (judged_is demo_form demo_is ps)
+-- one fails, and so do all together
+one_fails : (P : OptionRule → Bool) (xs : List OptionRule) (i : ℕ) (j : OptionRule) → slice_get xs i ≡ Some j → P j ≡ false → list_all P xs ≡ false
+one_fails P [] zero j e f = cc
+one_fails P [] (suc i) j e f = cc
+one_fails P (x ∷ xs) zero j e f = let here : P x ≡ false = subst (λ y. P y ≡ false) (sym (some_is x j e)) f in rw here refl
+one_fails P (x ∷ xs) (suc i) j e f = go (P x) (one_fails P xs i j e f)
   where
-    go : (r : Option (List Row)) → Verdict demo_form ps r → demo_end r ≡ demo_of ps (names ps)
-    go r (refuses faulty) = sym (demo_faulty ps faulty)
-    go r (takes rows h) = demo_holds ps rows h (names ps) refl
+    go : (t : Bool) → list_all P xs ≡ false → (t && list_all P xs) ≡ false
+    go true h = h
+    go false h = refl
 
--- ---- the first word
+all_pass : (P : OptionRule → Bool) (xs : List OptionRule) → ((i : ℕ) (j : OptionRule) → slice_get xs i ≡ Some j → P j ≡ true) → list_all P xs ≡ true
+all_pass P [] h = refl
+all_pass P (x ∷ xs) h = rw (h 0 x refl) (all_pass P xs (λ i j e. h (suc i) j e))
 
-lift_opt : (r : Option (List Row)) → command_in (option_map (λ (rows : List Row). (codes "opt", rows)) r) ≡ option_and_then opt_in r
-lift_opt None = refl
-lift_opt (Some rows) = refl
+or_none : (a b : Bool) → a ≡ false → b ≡ true → (a || not b) ≡ false
+or_none false true e f = refl
+or_none true b e f = cc
+or_none false false e f = cc
 
-lift_check : (r : Option (List Row)) → command_in (option_map (λ (rows : List Row). (codes "check", rows)) r) ≡ option_and_then check_in r
-lift_check None = refl
-lift_check (Some rows) = refl
+or_some : (a b : Bool) → (b ≡ true → a ≡ true) → (a || not b) ≡ true
+or_some true b h = refl
+or_some false false h = refl
+or_some false true h = let bad = h refl in cc
 
-lift_demo : (r : Option (List Row)) → command_in (option_map (λ (rows : List Row). (codes "demo", rows)) r) ≡ option_and_then demo_in r
-lift_demo None = refl
-lift_demo (Some rows) = refl
+module _ (ps : List Part) (rows : List Row) (h : Holds form rows ps) where
+  first_given : (j : OptionRule) → IsOption j → first_of j.key rows ≡ slice_get (given j.key ps) 0
+  first_given j on = go (given j.key ps) (h.options j on)
+    where
+      go : (vs : List Text) → row_with j.key rows ≡ first_row j.key vs → first_of j.key rows ≡ slice_get vs 0
+      go [] e = ap (option_and_then (λ (r : Row). slice_get r.values 0)) e
+      go (v ∷ vs) e = ap (option_and_then (λ (r : Row). slice_get r.values 0)) e
 
-by_opt : (ws : List Text) → command_in (leaf_rows (codes "opt") opt_rules ws) ≡ option_and_then (λ ps. opt_of ps (names ps)) (parts None ws)
-by_opt ws = lift_opt (option_and_then (checked (codes "opt") opt_rules) (judged_parts opt_rules 1 (parts None ws) [])) ∙ go (parts None ws)
+  only_these : (keys : List Text) → has_only keys rows ≡ has_keys keys ps
+  only_these keys = go (has_keys keys ps) refl
+    where
+      fine : OptionRule → Bool
+      fine j = list_any (is_word j.key) keys || not (is_some (first_of j.key rows))
+
+      stood : (vs : List Text) → is_some (slice_get vs 0) ≡ true → (v : Text) × ((us : List Text) × (vs ≡ v ∷ us))
+      stood [] e = cc
+      stood (v ∷ vs) e = (v, (vs, refl))
+
+      go : (t : Bool) → has_keys keys ps ≡ t → has_only keys rows ≡ t
+      go true all = all_pass fine option_rules (λ i j on. or_some (list_any (is_word j.key) keys) (is_some (first_of j.key rows))
+          (λ there. let s = stood (given j.key ps) (ap is_some (sym (first_given j (i, on))) ∙ there) in given_other keys ps all j.key s.0 s.1.0 s.1.1))
+      go false none =
+          let s = strays keys ps h.known none in
+          let o = option_of s.key option_rules s.known in
+          let apart : list_any (is_word o.1.0.key) keys ≡ false = subst (λ (x : Text). list_any (is_word x) keys ≡ false) o.1.1.1 s.stray in
+          let there : is_some (first_of o.1.0.key rows) ≡ true = ap is_some (first_given o.1.0 (o.0, o.1.1.0)) ∙ subst (λ (x : Text). is_some (slice_get (given x ps) 0) ≡ true) o.1.1.1 s.there in
+          one_fails fine option_rules o.0 o.1.0 o.1.1.0 (or_none (list_any (is_word o.1.0.key) keys) (is_some (first_of o.1.0.key rows)) apart there)
+
+-- ---- the commands
+
+-- a command takes at most four names, and no key that isn't an option's
+pub record IsModest (c : CommandRule) : Type 0 where
+  pub few : (ws : List Text) (s : Settings) → 4 < length ws → c.made ws s ≡ None
+  pub listed : (k : Text) → IsIn c.keys k → IsIn setting_keys k
+
+opt_few : (ws : List Text) (s : Settings) → 4 < length ws → opt_by ws s ≡ None
+opt_few [] s lt = absurd (omega arith)
+opt_few (a ∷ []) s lt = absurd (omega arith)
+opt_few (a ∷ b ∷ []) s lt = absurd (omega arith)
+opt_few (a ∷ b ∷ c ∷ []) s lt = absurd (omega arith)
+opt_few (a ∷ b ∷ c ∷ d ∷ ws) s lt = refl
+
+check_few : (ws : List Text) (s : Settings) → 4 < length ws → check_by ws s ≡ None
+check_few [] s lt = absurd (omega arith)
+check_few (a ∷ []) s lt = absurd (omega arith)
+check_few (a ∷ b ∷ []) s lt = absurd (omega arith)
+check_few (a ∷ b ∷ c ∷ []) s lt = absurd (omega arith)
+check_few (a ∷ b ∷ c ∷ d ∷ ws) s lt = refl
+
+demo_few : (ws : List Text) (s : Settings) → 4 < length ws → demo_by ws s ≡ None
+demo_few [] s lt = absurd (omega arith)
+demo_few (a ∷ []) s lt = absurd (omega arith)
+demo_few (a ∷ b ∷ ws) s lt = refl
+
+are_modest : AllByRecursion IsModest command_rules
+are_modest = (
+  record { few = opt_few; listed = λ k e. e },
+  (
+    record { few = check_few; listed = λ k e. cc },
+    (record { few = demo_few; listed = λ k e. e }, tt),
+  ),
+)
+
+has_more : (c : CommandRule) → IsModest c → (ps : List Part) → has_keys setting_keys ps ≡ false → has_keys c.keys ps ≡ false
+unfolding has_keys
+has_more c modest [] e = e
+has_more c modest (name w ∷ ps) e = has_more c modest ps e
+has_more c modest (setting k v ∷ ps) e = go (list_any (is_word k) c.keys) refl (list_any (is_word k) setting_keys) refl e (has_more c modest ps)
   where
-    go : (o : Option (List Part)) → opt_end (judged_parts opt_rules 1 o []) ≡ option_and_then (λ ps. opt_of ps (names ps)) o
-    go None = refl
-    go (Some ps) = opt_agrees ps
+    go : (a : Bool) → list_any (is_word k) c.keys ≡ a → (b : Bool) → list_any (is_word k) setting_keys ≡ b → (b && has_keys setting_keys ps) ≡ false
+        → (has_keys setting_keys ps ≡ false → has_keys c.keys ps ≡ false) → (a && has_keys c.keys ps) ≡ false
+    go false is b there all later = refl
+    go true is true there all later = later all
+    go true is false there all later = let bad = modest.listed k is in cc
 
-by_check : (ws : List Text) → command_in (leaf_rows (codes "check") check_rules ws) ≡ option_and_then (λ ps. check_of ps (names ps)) (parts None ws)
-by_check ws = lift_check (option_and_then (checked (codes "check") check_rules) (judged_parts check_rules 1 (parts None ws) [])) ∙ go (parts None ws)
+module _ (c : CommandRule) (modest : IsModest c) (ps : List Part) where
+  by_keys : has_keys c.keys ps ≡ false → asked_by c ps ≡ None
+  by_keys e = rw e refl
+
+  by_made : (t : Bool) (o : Option Settings) → ((s : Settings) → c.made (names ps) s ≡ None) → cond t (option_and_then (c.made (names ps)) o) None ≡ None
+  by_made true None none = refl
+  by_made true (Some s) none = none s
+  by_made false o none = refl
+
+  by_settings : (t : Bool) → cond {A = Option Asked} t None None ≡ None
+  by_settings true = refl
+  by_settings false = refl
+
+  past_names : (i : ℕ) → slice_get form.named i ≡ None → 4 ≤ i
+  past_names zero e = cc
+  past_names (suc zero) e = cc
+  past_names (suc (suc zero)) e = cc
+  past_names (suc (suc (suc zero))) e = cc
+  past_names (suc (suc (suc (suc i)))) e = omega arith
+
+  refused : IsFaulty form ps → asked_by c ps ≡ None
+  refused (unknown_key e) = by_keys (has_more c modest ps e)
+  refused (crowded i e lt) = let most = past_names i e in by_made (has_keys c.keys ps) (settings_of ps) (λ s. modest.few (names ps) s (omega arith))
+  refused (bad_option j on e) = rw (settings_none ps j on e) (by_settings (has_keys c.keys ps))
+  refused (bad_name i a v e g bad) =
+      let all : fits a v ≡ true = each_name (λ (r : Rule). (x : Text) → fits r x ≡ true) ((λ x. refl), ((λ x. refl), ((λ x. refl), ((λ x. refl), tt)))) i a e v in
+      cc
+
+  asked_is : (r : Option (List Row)) → Verdict form ps r → option_and_then (made_by c) r ≡ asked_by c ps
+  asked_is r (refuses faulty) = sym (refused faulty)
+  asked_is r (takes rows h) =
+      ap₂ (λ (t : Bool) (ws : List Text). cond t (c.made ws (settings_in rows)) None) (only_these ps rows h c.keys) (names_are ps rows h)
+      ∙ ap (λ o. cond (has_keys c.keys ps) (option_and_then (c.made (names ps)) o) None) (sym (settings_are ps rows h))
+
+  pub agrees_by : option_and_then (made_by c) (judged rules 1 [] ps) ≡ asked_by c ps
+  agrees_by = asked_is (judged rules 1 [] ps) (judged_is form form_is ps)
+
+-- ---- all words
+
+modest_of : (w : Text) (xs : List CommandRule) → AllByRecursion IsModest xs → (c : CommandRule) → find (λ (d : CommandRule). is_word w d.word) xs ≡ Some c → IsModest c
+modest_of w [] all c e = cc
+modest_of w (x ∷ xs) all c e = go (is_word w x.word) e (modest_of w xs all.1 c)
   where
-    go : (o : Option (List Part)) → check_end (judged_parts check_rules 1 o []) ≡ option_and_then (λ ps. check_of ps (names ps)) o
-    go None = refl
-    go (Some ps) = check_agrees ps
+    go : (t : Bool) → cond t (Some x) (find (λ (d : CommandRule). is_word w d.word) xs) ≡ Some c → (find (λ (d : CommandRule). is_word w d.word) xs ≡ Some c → IsModest c) → IsModest c
+    go true is later = subst IsModest (some_is x c is) all.0
+    go false is later = later is
 
-by_demo : (ws : List Text) → command_in (leaf_rows (codes "demo") demo_rules ws) ≡ option_and_then (λ ps. demo_of ps (names ps)) (parts None ws)
-by_demo ws = lift_demo (option_and_then (checked (codes "demo") demo_rules) (judged_parts demo_rules 1 (parts None ws) [])) ∙ go (parts None ws)
+abbrev empty : (A : Type 0) → Option A
+empty A = None
+
+none_then : {A : Type 0} (o : Option (List Row)) → option_and_then (λ (rows : List Row). empty A) o ≡ None
+none_then None = refl
+none_then (Some rows) = refl
+
+pub agrees : (w : Text) (ws : List Text) → option_and_then (command_in w) (accepted ws) ≡ asked (w ∷ ws)
+agrees w ws = go (rule_of w) refl
   where
-    go : (o : Option (List Part)) → demo_end (judged_parts demo_rules 1 o []) ≡ option_and_then (λ ps. demo_of ps (names ps)) o
-    go None = refl
-    go (Some ps) = demo_agrees ps
+    by_parts : (c : CommandRule) → IsModest c → (o : Option (List Part)) → option_and_then (made_by c) (judged_parts rules 1 o []) ≡ option_and_then (asked_by c) o
+    by_parts c modest None = refl
+    by_parts c modest (Some ps) = agrees_by c modest ps
 
-unknown_word : (w : Text) → bytes_eq w (codes "opt") ≡ false → bytes_eq w (codes "check") ≡ false → bytes_eq w (codes "demo") ≡ false → (o : Option (List Part)) → None ≡ option_and_then (asked_by w) o
-unknown_word w e f g None = refl
-unknown_word w e f g (Some ps) = rw (e, f, g) refl
-
-pub agrees : (ws : List Text) → command_in (accepted ws) ≡ asked ws
-agrees [] = refl
-agrees (w ∷ ws) = go (bytes_eq (codes "opt") w) (bytes_eq (codes "check") w) (bytes_eq (codes "demo") w) refl refl refl
-  where
-    same : (n : Text) → bytes_eq n w ≡ true → n ≡ w
-    same n e = (bytes_eq-Decides n w).0 e
-
-    go : (a b d : Bool) → bytes_eq (codes "opt") w ≡ a → bytes_eq (codes "check") w ≡ b → bytes_eq (codes "demo") w ≡ d → command_in (accepted (w ∷ ws)) ≡ asked (w ∷ ws)
-    go true b d e f g = subst (λ (v : Text). command_in (accepted (v ∷ ws)) ≡ asked (v ∷ ws)) (same (codes "opt") e) (by_opt ws)
-    go false true d e f g = subst (λ (v : Text). command_in (accepted (v ∷ ws)) ≡ asked (v ∷ ws)) (same (codes "check") f) (by_check ws)
-    go false false true e f g = subst (λ (v : Text). command_in (accepted (v ∷ ws)) ≡ asked (v ∷ ws)) (same (codes "demo") g) (by_demo ws)
-    go false false false e f g = rw (e, f, g) (unknown_word w (apart_both (codes "opt") w e) (apart_both (codes "check") w f) (apart_both (codes "demo") w g) (parts None ws))
+    go : (o : Option CommandRule) → rule_of w ≡ o → option_and_then (λ rows. option_and_then (λ c. made_by c rows) o) (accepted ws) ≡ option_and_then (λ c. option_and_then (asked_by c) (parts None ws)) o
+    go None e = none_then (accepted ws)
+    go (Some c) e = by_parts c (modest_of w command_rules are_modest c e) (parts None ws)

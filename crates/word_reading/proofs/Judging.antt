@@ -1,6 +1,6 @@
 -- The parts of the words are judged as the rules say: where a rule is broken nothing is taken, and else each value has its row.
-use Rattle.std.proofs.Common.{lit<, ◌^◌, ◌≡◌, ◌∙◌, ◌==◌, ◌&&◌, ◌<◌, ◌≤◌, ◌+◌, ◌⊎◌, inl, inr, ℕ, zero, suc, Bool, true, false, cond, refl, sym, ap, ap₂, subst, List, [], ◌∷◌, ◌++◌, length, min, Option, Some, None, is_some, arith}
-use Rattle.std.specs.Prelude.{codes, option_map, slice_get}
+use Rattle.std.proofs.Common.{◌^◌, ◌≡◌, ◌∙◌, ◌==◌, ◌&&◌, ◌<◌, ◌≤◌, ◌+◌, ◌⊎◌, inl, inr, ℕ, zero, suc, Bool, true, false, cond, refl, sym, ap, ap₂, subst, List, [], ◌∷◌, ◌++◌, length, min, Option, Some, None, is_some, arith}
+use Rattle.std.specs.Prelude.{option_map, slice_get}
 use Rattle.std.specs.List.{list_any}
 use Rattle.std.specs.Str.{bytes_eq}
 use Rattle.std.proofs.lemmas.List.{append-nil, length-append}
@@ -11,69 +11,40 @@ use Rattle.clap.specs.Walk.{Row, Rule, Text, arg_by_index, arg_by_long, has_row}
 use Rattle.clap.specs.ValueTests.{is_unsigned_in}
 use Rattle.word_reading.proofs.Levels.{append_one}
 use Rattle.word_reading.specs.Inner.Judged.{judged, judged_use}
-use Rattle.word_reading.specs.Words.{Part, name, setting, at_most_once, given, has_keys, is_word, keys, names}
+use Rattle.word_reading.specs.Words.{Part, name, setting, at_most_once, OptionRule, given, has_keys, is_word, names, option_rules, setting_keys}
 use Rattle.word_reading.proofs.Numbers.{bad_value, number_none, twice}
 use Rattle.word_reading.proofs.Slots.{IsPlain, fits, get_before, get_none, given-append, has_keys-append, has_row-is, length_past, names-append, pushed_other, pushed_same, row_for, row_with, use_refused, use_repeated, use_taken}
 use Rattle.rm_base.proofs.Public.{seam_stands}
 
--- ---- the rules of a command
+-- ---- the rules of the words
 
-pub data Key : Type 0 where
-  depth : Key
-  budget : Key
-  tries : Key
-  workers : Key
+-- it is one of the options
+abbrev pub IsOption : OptionRule → Type 0
+IsOption j = (i : ℕ) × (slice_get option_rules i ≡ Some j)
 
-abbrev pub key_text : Key → Text
-key_text depth = codes "depth"
-key_text budget = codes "budget"
-key_text tries = codes "tries"
-key_text workers = codes "workers"
-
-abbrev pub lowest : Key → ℕ
-lowest depth = 0
-lowest budget = 1
-lowest tries = 0
-lowest workers = 1
-
-abbrev pub highest : Key → ℕ
-highest depth = 2
-highest budget = 1048576
-highest tries = 1000000
-highest workers = 64
-
-abbrev pub default : Key → ℕ
-default depth = 1
-default budget = 256
-default tries = 20000
-default workers = 1
-
--- the rules, whether the options are among them, and the rules of the names by their places
+-- the rules, those of the options, and those of the names by their places
 pub record Form : Type 0 where
   pub rules : List Rule
-  pub has_options : Bool
-  pub option : Key → Rule
+  pub option : OptionRule → Rule
   pub named : List Rule
 
-abbrev pub keys_if : Bool → List Text
-keys_if true = keys
-keys_if false = []
-
 pub data KeyCase (f : Form) (k : Text) : Type 0 where
-  known : (j : Key) → f.has_options ≡ true → k ≡ key_text j → KeyCase f k
-  unknown : arg_by_long f.rules k ≡ None → list_any (is_word k) (keys_if f.has_options) ≡ false → KeyCase f k
+  known : (j : OptionRule) → IsOption j → k ≡ j.key → KeyCase f k
+  unknown : arg_by_long f.rules k ≡ None → list_any (is_word k) setting_keys ≡ false → KeyCase f k
 
 pub record IsForm (f : Form) : Type 0 where
   pub key_case : (k : Text) → KeyCase f k
-  pub option_found : (j : Key) → f.has_options ≡ true → arg_by_long f.rules (key_text j) ≡ Some (f.option j)
-  pub option_listed : (j : Key) → f.has_options ≡ true → list_any (is_word (key_text j)) (keys_if f.has_options) ≡ true
-  pub option_plain : (j : Key) → IsPlain (f.option j)
-  pub option_id : (j : Key) → (f.option j).id ≡ key_text j
-  pub option_fits : (j : Key) (v : Text) → fits (f.option j) v ≡ is_unsigned_in (lowest j) (highest j) v
+  pub option_found : (j : OptionRule) → IsOption j → arg_by_long f.rules j.key ≡ Some (f.option j)
+  pub option_listed : (j : OptionRule) → IsOption j → list_any (is_word j.key) setting_keys ≡ true
+  pub option_small : (j : OptionRule) → IsOption j → j.most < 2 ^ 64
+  pub option_apart : (j k : OptionRule) → IsOption j → IsOption k → (j ≡ k) ⊎ (bytes_eq j.key k.key ≡ false)
+  pub option_plain : (j : OptionRule) → IsOption j → IsPlain (f.option j)
+  pub option_id : (j : OptionRule) → IsOption j → (f.option j).id ≡ j.key
+  pub option_fits : (j : OptionRule) → IsOption j → (v : Text) → fits (f.option j) v ≡ is_unsigned_in j.least j.most v
   pub name_found : (i : ℕ) → arg_by_index f.rules (suc i) ≡ slice_get f.named i
   pub name_plain : (i : ℕ) (a : Rule) → slice_get f.named i ≡ Some a → IsPlain a
   pub name_few : (i : ℕ) (a : Rule) → slice_get f.named i ≡ Some a → i < 4
-  pub name_apart : (i : ℕ) (a : Rule) → slice_get f.named i ≡ Some a → (j : Key) → bytes_eq a.id (key_text j) ≡ false
+  pub name_apart : (i : ℕ) (a : Rule) → slice_get f.named i ≡ Some a → (j : OptionRule) → IsOption j → bytes_eq a.id j.key ≡ false
   pub name_once : (i k : ℕ) (a b : Rule) → slice_get f.named i ≡ Some a → slice_get f.named k ≡ Some b → (k ≡ i → ⊥) → bytes_eq a.id b.id ≡ false
 
 -- ---- what stands in the rows, and what is wrong with the parts
@@ -83,22 +54,22 @@ first_row id [] = None
 first_row id (v ∷ vs) = Some (row_for id v)
 
 -- the values that are given for a key: at most one
-pub data IsValue (f : Form) (j : Key) : List Text → Type 0 where
+pub data IsValue (f : Form) (j : OptionRule) : List Text → Type 0 where
   absent : IsValue f j []
   once : (v : Text) → fits (f.option j) v ≡ true → IsValue f j (v ∷ [])
 
 pub record Holds (f : Form) (rows : List Row) (done : List Part) : Type 0 where
-  pub options : f.has_options ≡ true → (j : Key) → row_with (key_text j) rows ≡ first_row (key_text j) (given (key_text j) done)
-  pub values : f.has_options ≡ true → (j : Key) → IsValue f j (given (key_text j) done)
+  pub options : (j : OptionRule) → IsOption j → row_with j.key rows ≡ first_row j.key (given j.key done)
+  pub values : (j : OptionRule) → IsOption j → IsValue f j (given j.key done)
   pub named : (i : ℕ) (a : Rule) → slice_get f.named i ≡ Some a → row_with a.id rows ≡ option_map (row_for a.id) (slice_get (names done) i)
   pub name_fits : (i : ℕ) (a : Rule) (v : Text) → slice_get f.named i ≡ Some a → slice_get (names done) i ≡ Some v → fits a v ≡ true
-  pub known : has_keys (keys_if f.has_options) done ≡ true
+  pub known : has_keys setting_keys done ≡ true
   pub few : (i : ℕ) → slice_get f.named i ≡ None → length (names done) ≤ i
 
 pub data IsFaulty (f : Form) (all : List Part) : Type 0 where
-  unknown_key : has_keys (keys_if f.has_options) all ≡ false → IsFaulty f all
+  unknown_key : has_keys setting_keys all ≡ false → IsFaulty f all
   crowded : (i : ℕ) → slice_get f.named i ≡ None → i < length (names all) → IsFaulty f all
-  bad_option : f.has_options ≡ true → (j : Key) → at_most_once (lowest j) (highest j) (default j) (given (key_text j) all) ≡ None → IsFaulty f all
+  bad_option : (j : OptionRule) → IsOption j → at_most_once j.least j.most j.usual (given j.key all) ≡ None → IsFaulty f all
   bad_name : (i : ℕ) (a : Rule) (v : Text) → slice_get f.named i ≡ Some a → slice_get (names all) i ≡ Some v → fits a v ≡ false → IsFaulty f all
 
 pub data Verdict (f : Form) (all : List Part) : Option (List Row) → Type 0 where
@@ -109,30 +80,6 @@ pub data Verdict (f : Form) (all : List Part) : Option (List Row) → Type 0 whe
 
 pub same_text : (a : Text) → bytes_eq a a ≡ true
 same_text a = (bytes_eq-Decides a a).1 refl
-
-pub same_or_apart : (j k : Key) → (j ≡ k) ⊎ (bytes_eq (key_text j) (key_text k) ≡ false)
-same_or_apart depth depth = inl refl
-same_or_apart depth budget = inr refl
-same_or_apart depth tries = inr refl
-same_or_apart depth workers = inr refl
-same_or_apart budget depth = inr refl
-same_or_apart budget budget = inl refl
-same_or_apart budget tries = inr refl
-same_or_apart budget workers = inr refl
-same_or_apart tries depth = inr refl
-same_or_apart tries budget = inr refl
-same_or_apart tries tries = inl refl
-same_or_apart tries workers = inr refl
-same_or_apart workers depth = inr refl
-same_or_apart workers budget = inr refl
-same_or_apart workers tries = inr refl
-same_or_apart workers workers = inl refl
-
-highest_small : (j : Key) → highest j < 2 ^ 64
-highest_small depth = lit< tt
-highest_small budget = lit< tt
-highest_small tries = lit< tt
-highest_small workers = lit< tt
 
 pub apart_both : (a b : Text) → bytes_eq a b ≡ false → bytes_eq b a ≡ false
 apart_both a b e = go (bytes_eq b a) refl
@@ -153,9 +100,9 @@ module _ (f : Form) (form : IsForm f) (rows : List Row) (done : List Part) (h : 
     unfolding given
     given_now key = given-append key done (name w ∷ []) ∙ append-nil (given key done)
 
-    known_now : has_keys (keys_if f.has_options) (done ++ name w ∷ []) ≡ true
+    known_now : has_keys setting_keys (done ++ name w ∷ []) ≡ true
     unfolding has_keys
-    known_now = has_keys-append (keys_if f.has_options) done (name w ∷ []) ∙ ap (λ b. b && true) h.known
+    known_now = has_keys-append setting_keys done (name w ∷ []) ∙ ap (λ b. b && true) h.known
 
     next_name : slice_get (names (done ++ name w ∷ [])) (length (names done)) ≡ Some w
     next_name = ap (λ xs. slice_get xs (length (names done))) names_now ∙ seam_stands (names done) w []
@@ -209,8 +156,8 @@ module _ (f : Form) (form : IsForm f) (rows : List Row) (done : List Part) (h : 
 
     pub after_name : Holds f (rows ++ row_for a.id w ∷ []) (done ++ name w ∷ [])
     after_name = record {
-      options = λ has j. pushed_other (key_text j) a.id w rows (form.name_apart (length (names done)) a e j) ∙ h.options has j ∙ sym (ap (first_row (key_text j)) (given_now (key_text j)));
-      values = λ has j. subst (IsValue f j) (sym (given_now (key_text j))) (h.values has j);
+      options = λ j on. pushed_other j.key a.id w rows (form.name_apart (length (names done)) a e j on) ∙ h.options j on ∙ sym (ap (first_row j.key) (given_now j.key));
+      values = λ j on. subst (IsValue f j) (sym (given_now j.key)) (h.values j on);
       named = named_now;
       name_fits = fits_now;
       known = known_now;
@@ -223,57 +170,57 @@ module _ (f : Form) (form : IsForm f) (rows : List Row) (done : List Part) (h : 
     pub one_more : suc (length (names done)) ≡ length (names (done ++ name w ∷ []))
     one_more = let size : length (names (done ++ name w ∷ [])) ≡ length (names done) + 1 = ap length names_now ∙ length-append (names done) (w ∷ []) in omega arith
 
-  module _ (has : f.has_options ≡ true) (j : Key) (v : Text) (new : given (key_text j) done ≡ []) (ok : fits (f.option j) v ≡ true) where
-    names_same : names (done ++ setting (key_text j) v ∷ []) ≡ names done
+  module _ (j : OptionRule) (on : IsOption j) (v : Text) (new : given j.key done ≡ []) (ok : fits (f.option j) v ≡ true) where
+    names_same : names (done ++ setting j.key v ∷ []) ≡ names done
     unfolding names
-    names_same = names-append done (setting (key_text j) v ∷ []) ∙ append-nil (names done)
+    names_same = names-append done (setting j.key v ∷ []) ∙ append-nil (names done)
 
-    given_same : given (key_text j) (done ++ setting (key_text j) v ∷ []) ≡ v ∷ []
+    given_same : given j.key (done ++ setting j.key v ∷ []) ≡ v ∷ []
     unfolding given
-    given_same = given-append (key_text j) done (setting (key_text j) v ∷ []) ∙ ap₂ (λ xs (b : Bool). xs ++ cond b (v ∷ []) []) new (same_text (key_text j))
+    given_same = given-append j.key done (setting j.key v ∷ []) ∙ ap₂ (λ xs (b : Bool). xs ++ cond b (v ∷ []) []) new (same_text j.key)
 
-    given_other : (k : Key) → bytes_eq (key_text j) (key_text k) ≡ false → given (key_text k) (done ++ setting (key_text j) v ∷ []) ≡ given (key_text k) done
+    given_other : (k : OptionRule) → bytes_eq j.key k.key ≡ false → given k.key (done ++ setting j.key v ∷ []) ≡ given k.key done
     unfolding given
-    given_other k ne = given-append (key_text k) done (setting (key_text j) v ∷ []) ∙ ap (λ b. given (key_text k) done ++ cond b (v ∷ []) []) ne ∙ append-nil (given (key_text k) done)
+    given_other k ne = given-append k.key done (setting j.key v ∷ []) ∙ ap (λ b. given k.key done ++ cond b (v ∷ []) []) ne ∙ append-nil (given k.key done)
 
-    known_same : has_keys (keys_if f.has_options) (done ++ setting (key_text j) v ∷ []) ≡ true
+    known_same : has_keys setting_keys (done ++ setting j.key v ∷ []) ≡ true
     unfolding has_keys
-    known_same = has_keys-append (keys_if f.has_options) done (setting (key_text j) v ∷ []) ∙ ap₂ (λ b c. b && (c && true)) h.known (form.option_listed j has)
+    known_same = has_keys-append setting_keys done (setting j.key v ∷ []) ∙ ap₂ (λ b c. b && (c && true)) h.known (form.option_listed j on)
 
-    free : row_with (key_text j) rows ≡ None
-    free = h.options has j ∙ ap (first_row (key_text j)) new
+    free : row_with j.key rows ≡ None
+    free = h.options j on ∙ ap (first_row j.key) new
 
-    options_now : (k : Key) → row_with (key_text k) (rows ++ row_for (key_text j) v ∷ []) ≡ first_row (key_text k) (given (key_text k) (done ++ setting (key_text j) v ∷ []))
-    options_now k = go (same_or_apart j k)
+    options_now : (k : OptionRule) → IsOption k → row_with k.key (rows ++ row_for j.key v ∷ []) ≡ first_row k.key (given k.key (done ++ setting j.key v ∷ []))
+    options_now k there = go (form.option_apart j k on there)
       where
-        go : (j ≡ k) ⊎ (bytes_eq (key_text j) (key_text k) ≡ false) → row_with (key_text k) (rows ++ row_for (key_text j) v ∷ []) ≡ first_row (key_text k) (given (key_text k) (done ++ setting (key_text j) v ∷ []))
-        go (inl s) = subst (λ (x : Key). row_with (key_text x) (rows ++ row_for (key_text j) v ∷ []) ≡ first_row (key_text x) (given (key_text x) (done ++ setting (key_text j) v ∷ []))) s
-            (pushed_same (key_text j) v rows free (same_text (key_text j)) ∙ sym (ap (first_row (key_text j)) given_same))
-        go (inr ne) = pushed_other (key_text k) (key_text j) v rows ne ∙ h.options has k ∙ sym (ap (first_row (key_text k)) (given_other k ne))
+        go : (j ≡ k) ⊎ (bytes_eq j.key k.key ≡ false) → row_with k.key (rows ++ row_for j.key v ∷ []) ≡ first_row k.key (given k.key (done ++ setting j.key v ∷ []))
+        go (inl s) = subst (λ (x : OptionRule). row_with x.key (rows ++ row_for j.key v ∷ []) ≡ first_row x.key (given x.key (done ++ setting j.key v ∷ []))) s
+            (pushed_same j.key v rows free (same_text j.key) ∙ sym (ap (first_row j.key) given_same))
+        go (inr ne) = pushed_other k.key j.key v rows ne ∙ h.options k there ∙ sym (ap (first_row k.key) (given_other k ne))
 
-    values_now : (k : Key) → IsValue f k (given (key_text k) (done ++ setting (key_text j) v ∷ []))
-    values_now k = go (same_or_apart j k)
+    values_now : (k : OptionRule) → IsOption k → IsValue f k (given k.key (done ++ setting j.key v ∷ []))
+    values_now k there = go (form.option_apart j k on there)
       where
-        go : (j ≡ k) ⊎ (bytes_eq (key_text j) (key_text k) ≡ false) → IsValue f k (given (key_text k) (done ++ setting (key_text j) v ∷ []))
-        go (inl s) = subst (λ (x : Key). IsValue f x (given (key_text x) (done ++ setting (key_text j) v ∷ []))) s (subst (IsValue f j) (sym given_same) (once v ok))
-        go (inr ne) = subst (IsValue f k) (sym (given_other k ne)) (h.values has k)
+        go : (j ≡ k) ⊎ (bytes_eq j.key k.key ≡ false) → IsValue f k (given k.key (done ++ setting j.key v ∷ []))
+        go (inl s) = subst (λ (x : OptionRule). IsValue f x (given x.key (done ++ setting j.key v ∷ []))) s (subst (IsValue f j) (sym given_same) (once v ok))
+        go (inr ne) = subst (IsValue f k) (sym (given_other k ne)) (h.values k there)
 
-    pub after_setting : Holds f (rows ++ row_for (key_text j) v ∷ []) (done ++ setting (key_text j) v ∷ [])
+    pub after_setting : Holds f (rows ++ row_for j.key v ∷ []) (done ++ setting j.key v ∷ [])
     after_setting = record {
-      options = λ h' k. options_now k;
-      values = λ h' k. values_now k;
-      named = λ i b g. pushed_other b.id (key_text j) v rows (apart_both b.id (key_text j) (form.name_apart i b g j)) ∙ h.named i b g ∙ sym (ap (λ xs. option_map (row_for b.id) (slice_get xs i)) names_same);
+      options = options_now;
+      values = values_now;
+      named = λ i b g. pushed_other b.id j.key v rows (apart_both b.id j.key (form.name_apart i b g j on)) ∙ h.named i b g ∙ sym (ap (λ xs. option_map (row_for b.id) (slice_get xs i)) names_same);
       name_fits = λ i b x g is. h.name_fits i b x g (ap (λ xs. slice_get xs i) (sym names_same) ∙ is);
       known = known_same;
       few = λ i g. subst (λ (xs : List Text). length xs ≤ i) (sym names_same) (h.few i g);
     }
 
-    pub setting_taken : (next : List Row → Option (List Row)) → judged_use (Some (f.option j)) v rows next ≡ next (rows ++ row_for (key_text j) v ∷ [])
+    pub setting_taken : (next : List Row → Option (List Row)) → judged_use (Some (f.option j)) v rows next ≡ next (rows ++ row_for j.key v ∷ [])
     setting_taken next =
-        let id = form.option_id j in
-        use_taken (f.option j) v rows next (form.option_plain j) (ap (λ x. row_with x rows) id ∙ free) ok ∙ ap (λ x. next (rows ++ row_for x v ∷ [])) id
+        let id = form.option_id j on in
+        use_taken (f.option j) v rows next (form.option_plain j on) (ap (λ x. row_with x rows) id ∙ free) ok ∙ ap (λ x. next (rows ++ row_for x v ∷ [])) id
 
-    pub as_many : length (names done) ≡ length (names (done ++ setting (key_text j) v ∷ []))
+    pub as_many : length (names done) ≡ length (names (done ++ setting j.key v ∷ []))
     as_many = ap length (sym names_same)
 
 -- ---- all parts
@@ -334,49 +281,49 @@ module _ (f : Form) (form : IsForm f) (ps done : List Part) (rows : List Row) (h
     unfolding judged
     by_option o e = ap (λ r. judged_use r v rows more_rows) e
 
-    setting_unknown : arg_by_long f.rules k ≡ None → list_any (is_word k) (keys_if f.has_options) ≡ false → Judged
+    setting_unknown : arg_by_long f.rules k ≡ None → list_any (is_word k) setting_keys ≡ false → Judged
     unfolding has_keys
     setting_unknown e none = subst (Verdict f (done ++ setting k v ∷ ps)) (sym (by_option None e))
-        (refuses (unknown_key (has_keys-append (keys_if f.has_options) done (setting k v ∷ ps) ∙ ap₂ (λ b c. b && (c && has_keys (keys_if f.has_options) ps)) h.known none)))
+        (refuses (unknown_key (has_keys-append setting_keys done (setting k v ∷ ps) ∙ ap₂ (λ b c. b && (c && has_keys setting_keys ps)) h.known none)))
 
-    module _ (j : Key) (has : f.has_options ≡ true) (is : k ≡ key_text j) where
+    module _ (j : OptionRule) (on : IsOption j) (is : k ≡ j.key) where
       found : arg_by_long f.rules k ≡ Some (f.option j)
-      found = ap (arg_by_long f.rules) is ∙ form.option_found j has
+      found = ap (arg_by_long f.rules) is ∙ form.option_found j on
 
-      given_all : given (key_text j) (done ++ setting k v ∷ ps) ≡ given (key_text j) done ++ v ∷ given (key_text j) ps
+      given_all : given j.key (done ++ setting k v ∷ ps) ≡ given j.key done ++ v ∷ given j.key ps
       unfolding given
-      given_all = given-append (key_text j) done (setting k v ∷ ps)
-          ∙ ap (λ b. given (key_text j) done ++ cond b (v ∷ given (key_text j) ps) (given (key_text j) ps)) (ap (λ x. bytes_eq x (key_text j)) is ∙ same_text (key_text j))
+      given_all = given-append j.key done (setting k v ∷ ps)
+          ∙ ap (λ b. given j.key done ++ cond b (v ∷ given j.key ps) (given j.key ps)) (ap (λ x. bytes_eq x j.key) is ∙ same_text j.key)
 
-      setting_bad : fits (f.option j) v ≡ false → given (key_text j) done ≡ [] → Judged
-      setting_bad bad new = subst (Verdict f (done ++ setting k v ∷ ps)) (sym (by_option (Some (f.option j)) found ∙ use_refused (f.option j) v rows more_rows (form.option_plain j) bad))
-          (refuses (bad_option has j (ap (at_most_once (lowest j) (highest j) (default j)) (given_all ∙ ap (λ xs. xs ++ v ∷ given (key_text j) ps) new)
-          ∙ bad_value (lowest j) (highest j) (default j) v (given (key_text j) ps) (number_none (lowest j) (highest j) v (highest_small j) (sym (form.option_fits j v) ∙ bad)))))
+      setting_bad : fits (f.option j) v ≡ false → given j.key done ≡ [] → Judged
+      setting_bad bad new = subst (Verdict f (done ++ setting k v ∷ ps)) (sym (by_option (Some (f.option j)) found ∙ use_refused (f.option j) v rows more_rows (form.option_plain j on) bad))
+          (refuses (bad_option j on (ap (at_most_once j.least j.most j.usual) (given_all ∙ ap (λ xs. xs ++ v ∷ given j.key ps) new)
+          ∙ bad_value j.least j.most j.usual v (given j.key ps) (number_none j.least j.most v (form.option_small j on) (sym (form.option_fits j on v) ∙ bad)))))
 
-      setting_again : (x : Text) (xs : List Text) → given (key_text j) done ≡ x ∷ xs → Judged
+      setting_again : (x : Text) (xs : List Text) → given j.key done ≡ x ∷ xs → Judged
       setting_again x xs old =
-          let there : has_row (f.option j).id rows ≡ true = ap (λ id. has_row id rows) (form.option_id j) ∙ has_row-is (key_text j) rows ∙ ap is_some (h.options has j ∙ ap (first_row (key_text j)) old) in
-          subst (Verdict f (done ++ setting k v ∷ ps)) (sym (by_option (Some (f.option j)) found ∙ use_repeated (f.option j) v rows more_rows (form.option_plain j) there))
-          (refuses (bad_option has j (ap (at_most_once (lowest j) (highest j) (default j)) (given_all ∙ ap (λ ys. ys ++ v ∷ given (key_text j) ps) old)
-          ∙ twice (lowest j) (highest j) (default j) x xs v (given (key_text j) ps))))
+          let there : has_row (f.option j).id rows ≡ true = ap (λ id. has_row id rows) (form.option_id j on) ∙ has_row-is j.key rows ∙ ap is_some (h.options j on ∙ ap (first_row j.key) old) in
+          subst (Verdict f (done ++ setting k v ∷ ps)) (sym (by_option (Some (f.option j)) found ∙ use_repeated (f.option j) v rows more_rows (form.option_plain j on) there))
+          (refuses (bad_option j on (ap (at_most_once j.least j.most j.usual) (given_all ∙ ap (λ ys. ys ++ v ∷ given j.key ps) old)
+          ∙ twice j.least j.most j.usual x xs v (given j.key ps))))
 
-      setting_good : Later → fits (f.option j) v ≡ true → given (key_text j) done ≡ [] → Judged
+      setting_good : Later → fits (f.option j) v ≡ true → given j.key done ≡ [] → Judged
       setting_good later ok new =
-          let same = by_option (Some (f.option j)) found ∙ setting_taken f form rows done h has j v new ok more_rows
-          ∙ ap (λ n. judged f.rules (suc n) (rows ++ row_for (key_text j) v ∷ []) ps) (as_many f form rows done h has j v new ok) in
-          let parts : (done ++ setting (key_text j) v ∷ []) ++ ps ≡ done ++ setting k v ∷ ps = append_one done (setting (key_text j) v) ps ∙ ap (λ x. done ++ setting x v ∷ ps) (sym is) in
+          let same = by_option (Some (f.option j)) found ∙ setting_taken f form rows done h j on v new ok more_rows
+          ∙ ap (λ n. judged f.rules (suc n) (rows ++ row_for j.key v ∷ []) ps) (as_many f form rows done h j on v new ok) in
+          let parts : (done ++ setting j.key v ∷ []) ++ ps ≡ done ++ setting k v ∷ ps = append_one done (setting j.key v) ps ∙ ap (λ x. done ++ setting x v ∷ ps) (sym is) in
           subst (λ (all : List Part). Verdict f all (judged f.rules (suc (length (names done))) rows (setting k v ∷ ps))) parts
-          (subst (Verdict f ((done ++ setting (key_text j) v ∷ []) ++ ps)) (sym same)
-          (later (done ++ setting (key_text j) v ∷ []) (rows ++ row_for (key_text j) v ∷ []) (after_setting f form rows done h has j v new ok)))
+          (subst (Verdict f ((done ++ setting j.key v ∷ []) ++ ps)) (sym same)
+          (later (done ++ setting j.key v ∷ []) (rows ++ row_for j.key v ∷ []) (after_setting f form rows done h j on v new ok)))
 
       setting_known : Later → Judged
-      setting_known later = go (given (key_text j) done) refl
+      setting_known later = go (given j.key done) refl
         where
-          fitting : given (key_text j) done ≡ [] → (t : Bool) → fits (f.option j) v ≡ t → Judged
+          fitting : given j.key done ≡ [] → (t : Bool) → fits (f.option j) v ≡ t → Judged
           fitting new true ok = setting_good later ok new
           fitting new false bad = setting_bad bad new
 
-          go : (vs : List Text) → given (key_text j) done ≡ vs → Judged
+          go : (vs : List Text) → given j.key done ≡ vs → Judged
           go [] e = fitting e (fits (f.option j) v) refl
           go (x ∷ xs) e = setting_again x xs e
 
@@ -384,7 +331,7 @@ module _ (f : Form) (form : IsForm f) (ps done : List Part) (rows : List Row) (h
     judge_setting later = go (form.key_case k)
       where
         go : KeyCase f k → Judged
-        go (known j has is) = setting_known j has is later
+        go (known j on is) = setting_known j on is later
         go (unknown e none) = setting_unknown e none
 
 module _ (f : Form) (form : IsForm f) where
@@ -398,8 +345,8 @@ module _ (f : Form) (form : IsForm f) where
   start : Holds f [] []
   unfolding given names has_keys
   start = record {
-    options = λ has j. refl;
-    values = λ has j. absent;
+    options = λ j on. refl;
+    values = λ j on. absent;
     named = λ i a e. ap (option_map (row_for a.id)) (sym (get_nothing i));
     name_fits = λ i a v e g. let bad : None ≡ Some v = sym (get_nothing i) ∙ g in cc;
     known = refl;

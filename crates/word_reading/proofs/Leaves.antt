@@ -1,4 +1,4 @@
--- The three subcommands as clap builds them, and their rules.
+-- The rules as clap builds them.
 use Rattle.std.proofs.Common.{◌≡◌, ◌==◌, ◌&&◌, ℕ, Bool, true, false, not, cond, refl, subst, List, [], ◌∷◌, Some, None, is_some}
 use Rattle.std.specs.Prelude.{codes}
 use Rattle.std.specs.List.{AllByRecursion, find}
@@ -8,12 +8,12 @@ use Rattle.clap.specs.Simple.{built}
 use Rattle.clap.specs.Kinds.{or_else}
 use Rattle.clap.specs.Faults.{is_simple_and_free, use_fault}
 use Rattle.clap.specs.declared.error.kind.ErrorKind.{ErrorKind}
-use Rattle.word_reading.specs.Inner.Judged.{check_rules, clean, demo_rules, leaf, opt_rules}
+use Rattle.word_reading.specs.Inner.Judged.{clean, leaf, rules}
 use Rattle.word_reading.specs.Inner.Program.{program}
 use Rattle.word_reading.proofs.Runs.{IsSingle, IsSingles}
 
-pub subs_are : (built program).subs ≡ leaf (codes "opt") opt_rules ∷ leaf (codes "check") check_rules ∷ leaf (codes "demo") demo_rules ∷ []
-subs_are = refl
+pub top_is : (built program).top ≡ leaf (codes "rambo") rules
+top_is = refl
 
 pub is_simple_program : is_simple_and_free program ≡ true
 is_simple_program = refl
@@ -53,8 +53,8 @@ single : (c : List Rule) (a : Rule) → arg_by_id c a.id ≡ Some a → takes_se
     → most_values a ≡ 1 → ((rows : List Row) → clean (use_fault false a [] rows) ≡ false) → IsSingle c a
 single c a f s m t v o w = record { found = f; several = s; multiple = m; trailing = t; takes = v; most = o; wants = w }
 
-pub opt_singles : IsSingles opt_rules
-opt_singles = singles_of opt_rules (
+are_single : AreSingle rules
+are_single = (
   single _ _ refl refl refl refl refl refl (λ rows. refl),
   (
     single _ _ refl refl refl refl refl refl (λ rows. refl),
@@ -66,13 +66,19 @@ opt_singles = singles_of opt_rules (
           single _ _ refl refl refl refl refl refl (λ rows. refl),
           (
             single _ _ refl refl refl refl refl refl (λ rows. refl),
-            (single _ _ refl refl refl refl refl refl (λ rows. refl), tt),
+            (
+              single _ _ refl refl refl refl refl refl (λ rows. refl),
+              (single _ _ refl refl refl refl refl refl (λ rows. refl), tt),
+            ),
           ),
         ),
       ),
     ),
   ),
-) (
+)
+
+are_keyed : AllByRecursion IsKeyed rules
+are_keyed = (
   (λ k e rows. either (has_row (codes "depth") rows) _ _),
   (
     (λ k e rows. either (has_row (codes "budget") rows) _ _),
@@ -84,55 +90,16 @@ opt_singles = singles_of opt_rules (
           (λ k e. cc),
           (
             (λ k e. cc),
-            ((λ k e. cc), tt),
+            (
+              (λ k e. cc),
+              ((λ k e. cc), tt),
+            ),
           ),
         ),
       ),
     ),
   ),
 )
-    (λ x. refl)
 
-pub check_singles : IsSingles check_rules
-check_singles = singles_of check_rules (
-  single _ _ refl refl refl refl refl refl (λ rows. refl),
-  (
-    single _ _ refl refl refl refl refl refl (λ rows. refl),
-    (single _ _ refl refl refl refl refl refl (λ rows. refl), tt),
-  ),
-) (
-  (λ k e. cc),
-  (
-    (λ k e. cc),
-    ((λ k e. cc), tt),
-  ),
-)
-    (λ x. refl)
-
-pub demo_singles : IsSingles demo_rules
-demo_singles = singles_of demo_rules (
-  single _ _ refl refl refl refl refl refl (λ rows. refl),
-  (
-    single _ _ refl refl refl refl refl refl (λ rows. refl),
-    (
-      single _ _ refl refl refl refl refl refl (λ rows. refl),
-      (
-        single _ _ refl refl refl refl refl refl (λ rows. refl),
-        (single _ _ refl refl refl refl refl refl (λ rows. refl), tt),
-      ),
-    ),
-  ),
-) (
-  (λ k e rows. either (has_row (codes "depth") rows) _ _),
-  (
-    (λ k e rows. either (has_row (codes "budget") rows) _ _),
-    (
-      (λ k e rows. either (has_row (codes "tries") rows) _ _),
-      (
-        (λ k e rows. either (has_row (codes "workers") rows) _ _),
-        ((λ k e. cc), tt),
-      ),
-    ),
-  ),
-)
-    (λ x. refl)
+pub singles : IsSingles rules
+singles = singles_of rules are_single are_keyed (λ x. refl)

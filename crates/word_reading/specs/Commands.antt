@@ -1,5 +1,6 @@
--- The command that stands in clap's rows: the values under the ids of the arguments.
-use Rattle.std.specs.Prelude.{◌≢◌, ◌≤◌}
+-- A command as a value, and what holds of each that is read.
+use Rattle.std.specs.Prelude.{◌≢◌, ◌≤◌, Some, None, option_map}
+use Rattle.word_reading.specs.declared.options.TheConstants.{LEAST_BUDGET, LEAST_WORKERS, MOST_BUDGET, MOST_DEPTH, MOST_TRIES, MOST_WORKERS}
 use Rattle.rm_base.specs.declared.settings.Settings.{Settings}
 use Rattle.word_reading.specs.Words.{Asked, opt, check, demo}
 use Rattle.word_reading.specs.declared.command.Command.{Command}
@@ -7,23 +8,24 @@ use Rattle.word_reading.specs.declared.command.Command.TheVariants.{Opt, Check, 
 
 -- the command as a value: its names are their bytes
 abbrev pub asked_of : Command → Asked
-asked_of (Opt input output journal settings) = opt input.now output.now journal.now settings
+asked_of (Opt input output journal settings) = opt input.now output.now (option_map (λ j. j.now) journal) settings
 asked_of (Check input journal output) = check input.now journal.now output.now
 asked_of (Demo seed settings) = demo seed settings
 
 -- no two names of `opt` are alike
 abbrev pub HasNamesApart : Asked → Type 0
-HasNamesApart (opt input output journal settings) = (input ≢ output) × (input ≢ journal) × (output ≢ journal)
+HasNamesApart (opt input output None settings) = input ≢ output
+HasNamesApart (opt input output (Some journal) settings) = (input ≢ output) × (input ≢ journal) × (output ≢ journal)
 HasNamesApart (check input journal output) = Unit {0}
 HasNamesApart (demo seed settings) = Unit {0}
 
 pub record IsInRange (settings : Settings) : Type 0 where
-  pub depth : settings.depth ≤ 2
-  pub least_budget : 1 ≤ settings.budget
-  pub most_budget : settings.budget ≤ 1048576
-  pub tries : settings.tries ≤ 1000000
-  pub least_workers : 1 ≤ settings.workers
-  pub most_workers : settings.workers ≤ 64
+  pub depth : settings.depth ≤ MOST_DEPTH
+  pub least_budget : LEAST_BUDGET ≤ settings.budget
+  pub most_budget : settings.budget ≤ MOST_BUDGET
+  pub tries : settings.tries ≤ MOST_TRIES
+  pub least_workers : LEAST_WORKERS ≤ settings.workers
+  pub most_workers : settings.workers ≤ MOST_WORKERS
 
 abbrev pub HasSettingsInRange : Asked → Type 0
 HasSettingsInRange (opt input output journal settings) = IsInRange settings

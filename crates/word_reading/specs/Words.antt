@@ -1,13 +1,14 @@
--- What the words ask for: the seven rules.
+-- What the words ask for: how they are parted into names and options, and what each command makes of them.
 use Rattle.std.specs.Prelude.{◌^◌, ◌-◌, ◌==◌, ◌&&◌, ℕ, Bool, true, false, not, List, [], ◌∷◌}
 use Rattle.std.specs.Prelude.{map, Option, Some, None, if◌then◌else◌, nat_le, nat_lt, codes, length}
-use Rattle.std.specs.Prelude.{option_map, option_and_then}
+use Rattle.std.specs.Prelude.{option_map, option_and_then, find}
 use Rattle.std.specs.List.{after_first, before_first, list_all, list_any}
 use Rattle.std.specs.Char.{digit_value}
 use Rattle.std.specs.Str.{bytes_eq}
 use Rattle.std.specs.Str.Parse.{digits_value, without_leading_plus}
 use Rattle.rm_base.specs.declared.settings.Settings.{Settings}
 use Rattle.rm_base.specs.Words.{Word}
+use Rattle.word_reading.specs.declared.options.TheConstants.{LEAST_BUDGET, LEAST_WORKERS, MOST_BUDGET, MOST_DEPTH, MOST_TRIES, MOST_WORKERS, USUAL_BUDGET, USUAL_DEPTH, USUAL_TRIES, USUAL_WORKERS}
 
 abbrev pub is_word : Word → Word → Bool
 is_word = bytes_eq
@@ -22,7 +23,7 @@ abbrev pub is_option : Word → Bool
 is_option (b ∷ next ∷ bs) = b == 45
 is_option _ = false
 
--- ---- rules 1 to 3: names and options
+-- ---- names and options
 
 -- a name, or an option's key with its value
 pub data Part : Type 0 where
@@ -81,7 +82,7 @@ has_keys keys [] = true
 has_keys keys (name w ∷ ps) = has_keys keys ps
 has_keys keys (setting k v ∷ ps) = list_any (is_word k) keys && has_keys keys ps
 
--- ---- rule 4: values
+-- ---- values
 
 -- an optional plus sign and decimal digits, from `low` to `high`
 abbrev pub number : ℕ → ℕ → Word → Option ℕ
@@ -97,8 +98,36 @@ at_most_once low high default [] = Some default
 at_most_once low high default (v ∷ []) = number low high v
 at_most_once low high default (v ∷ w ∷ ws) = None
 
-abbrev pub keys : List Word
-keys = codes "depth" ∷ codes "budget" ∷ codes "tries" ∷ codes "workers" ∷ []
+-- ---- the options
+
+-- an option: its key, its least and greatest value, and its value where it isn't given
+pub record OptionRule : Type 0 where
+  pub key : Word
+  pub least : ℕ
+  pub most : ℕ
+  pub usual : ℕ
+
+abbrev pub depth_rule : OptionRule
+depth_rule = record { key = codes "depth"; least = 0; most = MOST_DEPTH; usual = USUAL_DEPTH }
+
+abbrev pub budget_rule : OptionRule
+budget_rule = record { key = codes "budget"; least = LEAST_BUDGET; most = MOST_BUDGET; usual = USUAL_BUDGET }
+
+abbrev pub tries_rule : OptionRule
+tries_rule = record { key = codes "tries"; least = 0; most = MOST_TRIES; usual = USUAL_TRIES }
+
+abbrev pub workers_rule : OptionRule
+workers_rule = record { key = codes "workers"; least = LEAST_WORKERS; most = MOST_WORKERS; usual = USUAL_WORKERS }
+
+abbrev pub option_rules : List OptionRule
+option_rules = depth_rule ∷ budget_rule ∷ tries_rule ∷ workers_rule ∷ []
+
+abbrev pub setting_keys : List Word
+setting_keys = map (λ (o : OptionRule). o.key) option_rules
+
+-- the value of an option
+abbrev pub value_in : List Part → OptionRule → Option ℕ
+value_in ps o = at_most_once o.least o.most o.usual (given o.key ps)
 
 -- the four settings, where each is there
 abbrev pub together : Option ℕ → Option ℕ → Option ℕ → Option ℕ → Option Settings
@@ -108,46 +137,58 @@ together depths budgets all_tries all_workers =
     all_workers) all_tries) budgets) depths
 
 abbrev pub settings_of : List Part → Option Settings
-settings_of ps =
-    if has_keys keys ps then together
-    (at_most_once 0 2 1 (given (codes "depth") ps))
-    (at_most_once 1 1048576 256 (given (codes "budget") ps))
-    (at_most_once 0 1000000 20000 (given (codes "tries") ps))
-    (at_most_once 1 64 1 (given (codes "workers") ps))
-    else None
+settings_of ps = together (value_in ps depth_rule) (value_in ps budget_rule) (value_in ps tries_rule) (value_in ps workers_rule)
 
--- ---- rules 5 to 7: the commands
+-- ---- the commands
 
+-- a command with its names: of `opt` the journal's may be left out
 pub data Asked : Type 0 where
-  opt : Word → Word → Word → Settings → Asked
+  opt : Word → Word → Option Word → Settings → Asked
   check : Word → Word → Word → Asked
   demo : ℕ → Settings → Asked
 
-abbrev pub are_different : Word → Word → Word → Bool
-are_different a b c = not (is_word a b) && (not (is_word a c) && not (is_word b c))
+-- no two of the names are alike
+abbrev pub are_different : List Word → Bool
+are_different [] = true
+are_different (a ∷ bs) = not (list_any (is_word a) bs) && are_different bs
 
-abbrev pub opt_of : List Part → List Word → Option Asked
-opt_of ps (a ∷ b ∷ c ∷ []) = if are_different a b c then option_map (opt a b c) (settings_of ps) else None
-opt_of ps _ = None
+-- two or three names, pairwise different
+abbrev pub opt_by : List Word → Settings → Option Asked
+opt_by (a ∷ b ∷ []) s = if are_different (a ∷ b ∷ []) then Some (opt a b None s) else None
+opt_by (a ∷ b ∷ c ∷ []) s = if are_different (a ∷ b ∷ c ∷ []) then Some (opt a b (Some c) s) else None
+opt_by _ s = None
 
-abbrev pub check_of : List Part → List Word → Option Asked
-check_of ps (a ∷ b ∷ c ∷ []) = if has_keys [] ps then Some (check a b c) else None
-check_of ps _ = None
+-- three names
+abbrev pub check_by : List Word → Settings → Option Asked
+check_by (a ∷ b ∷ c ∷ []) s = Some (check a b c)
+check_by _ s = None
 
-abbrev pub demo_of : List Part → List Word → Option Asked
-demo_of ps (a ∷ []) =
-    option_and_then (λ seed. option_map (demo seed) (settings_of ps)) (number 0 (2 ^ 64 - 1) a)
-demo_of ps _ = None
+-- a number
+abbrev pub demo_by : List Word → Settings → Option Asked
+demo_by (a ∷ []) s = option_map (λ seed. demo seed s) (number 0 (2 ^ 64 - 1) a)
+demo_by _ s = None
 
--- the first word says which command it is
-abbrev pub asked_by : Word → List Part → Option Asked
-asked_by w ps =
-    if is_word w (codes "opt") then opt_of ps (names ps)
-    else if is_word w (codes "check") then check_of ps (names ps)
-    else if is_word w (codes "demo") then demo_of ps (names ps)
-    else None
+-- the word of a command, the keys of its options, and what its names and settings ask for
+pub record CommandRule : Type 0 where
+  pub word : Word
+  pub keys : List Word
+  pub made : List Word → Settings → Option Asked
+
+abbrev pub command_rules : List CommandRule
+command_rules =
+    record { word = codes "opt"; keys = setting_keys; made = opt_by }
+    ∷ record { word = codes "check"; keys = []; made = check_by }
+    ∷ record { word = codes "demo"; keys = setting_keys; made = demo_by }
+    ∷ []
+
+-- the command of a word
+abbrev pub rule_of : Word → Option CommandRule
+rule_of w = find (λ (c : CommandRule). is_word w c.word) command_rules
+
+abbrev pub asked_by : CommandRule → List Part → Option Asked
+asked_by c ps = if has_keys c.keys ps then option_and_then (c.made (names ps)) (settings_of ps) else None
 
 -- what the words ask for, or None where they are refused
 abbrev pub asked : List Word → Option Asked
 asked [] = None
-asked (w ∷ ws) = option_and_then (asked_by w) (parts None ws)
+asked (w ∷ ws) = option_and_then (λ c. option_and_then (asked_by c) (parts None ws)) (rule_of w)

@@ -6,11 +6,11 @@ use std::fmt;
 /// A command with its names.
 #[derive(Clone, Copy)]
 pub enum Command<'a> {
-    /// Optimises the input, and writes the output and the journal.
+    /// Optimises the input, and writes the output, and the journal where it is named.
     Opt {
         input: &'a str,
         output: &'a str,
-        journal: &'a str,
+        journal: Option<&'a str>,
         settings: Settings,
     },
     /// Replays the journal over the input, and compares with the output.

@@ -1,37 +1,26 @@
-//! The program as a command of `clap`: three subcommands, their names and their options.
-ghost use Rattle.std.specs.Prelude.{◌≡◌, IfOk, false};
+//! The words behind the command's own as `clap` reads them: options, and up to four names.
+ghost use Rattle.std.specs.Prelude.{◌≡◌, IfOk, false, map};
+ghost use Rattle.clap.specs.Simple.{new_rule};
 ghost use Rattle.clap.specs.Words.{app_of, rule_of, with_rule};
 ghost use Rattle.clap.specs.declared.builder.command.Command.TheViews.{out-Command as fields_of};
-ghost use Rattle.word_reading.specs.Inner.Program.{bare as bare_app, check_app, demo_app, name_rule, opt_app, option_rule, program as program_app, seed_rule, with_names as names_on, with_options as options_on};
+ghost use Rattle.word_reading.specs.Words.{option_rules};
+ghost use Rattle.word_reading.specs.Inner.Program.{bare as bare_app, clap_option, name_ids, number_rule, program as program_app, with_rules};
 
+use crate::options::{
+    LEAST_BUDGET, LEAST_WORKERS, MOST_BUDGET, MOST_DEPTH, MOST_TRIES, MOST_WORKERS,
+};
 use clap::builder::ValueParser;
 use clap::{Arg, Command};
 use std::alloc::{AllocError, Global};
 
-// An option whose value is a number from `low` to `high`.
-fn option<'a>(alloc: Global, key: &'a str, low: u64, high: u64) -> Arg<'a>
-    ensures rule { rule_of result ≡ option_rule key.entry.now low high }
+// An option whose value is a number from `least` to `most`.
+fn option<'a>(alloc: Global, key: &'a str, least: u64, most: u64) -> Arg<'a>
+    ensures rule { rule_of result ≡ number_rule key.entry.now least most }
     ensures own { result.global ≡ false }
 {
     Arg::new(alloc, key)
         .long(key)
-        .value_parser(ValueParser::unsigned(low, high))
-}
-
-// A name that must be there.
-fn name<'a>(alloc: Global, id: &'a str) -> Arg<'a>
-    ensures rule { rule_of result ≡ name_rule id.entry.now }
-    ensures own { result.global ≡ false }
-{
-    Arg::new(alloc, id).required(true)
-}
-
-// A seed that must be there.
-fn seed<'a>(alloc: Global) -> Arg<'a>
-    ensures rule { rule_of result ≡ seed_rule }
-    ensures own { result.global ≡ false }
-{
-    name(alloc, "seed").value_parser(ValueParser::unsigned(0, u64::MAX))
+        .value_parser(ValueParser::unsigned(least, most))
 }
 
 // The command with one more argument.
@@ -44,63 +33,52 @@ fn with<'a>(command: Command<'a>, arg: Arg<'a>) -> Result<Command<'a>, AllocErro
 }
 
 fn with_options<'a>(alloc: Global, command: Command<'a>) -> Result<Command<'a>, AllocError>
-    ensures shape { IfOk result (λ r. app_of r ≡ options_on (app_of command.entry)) }
+    ensures shape { IfOk result (λ r. app_of r ≡ with_rules (app_of command.entry) (map clap_option option_rules)) }
     ensures globals { IfOk result (λ r. (fields_of r).has_globals ≡ (fields_of command.entry).has_globals) }
 {
-    let command = with(command, option(alloc, "depth", 0, 2))?;
-    let command = with(command, option(alloc, "budget", 1, 1_048_576))?;
-    let command = with(command, option(alloc, "tries", 0, 1_000_000))?;
-    with(command, option(alloc, "workers", 1, 64))
+    let depth = option(alloc, "depth", 0, u64::from(MOST_DEPTH));
+    let budget = option(
+        alloc,
+        "budget",
+        u64::from(LEAST_BUDGET),
+        u64::from(MOST_BUDGET),
+    );
+    let tries = option(alloc, "tries", 0, u64::from(MOST_TRIES));
+    let workers = option(
+        alloc,
+        "workers",
+        u64::from(LEAST_WORKERS),
+        u64::from(MOST_WORKERS),
+    );
+    let command = with(command, depth)?;
+    let command = with(command, budget)?;
+    let command = with(command, tries)?;
+    with(command, workers)
 }
 
 fn with_names<'a>(alloc: Global, command: Command<'a>) -> Result<Command<'a>, AllocError>
-    ensures shape { IfOk result (λ r. app_of r ≡ names_on (app_of command.entry)) }
+    ensures shape { IfOk result (λ r. app_of r ≡ with_rules (app_of command.entry) (map new_rule name_ids)) }
     ensures globals { IfOk result (λ r. (fields_of r).has_globals ≡ (fields_of command.entry).has_globals) }
 {
-    let command = with(command, name(alloc, "first"))?;
-    let command = with(command, name(alloc, "second"))?;
-    with(command, name(alloc, "third"))
-}
-
-fn opt<'a>(alloc: Global) -> Result<Command<'a>, AllocError>
-    ensures shape { IfOk result (λ r. app_of r ≡ opt_app) }
-    ensures globals { IfOk result (λ r. (fields_of r).has_globals ≡ false) }
-{
-    with_names(alloc, with_options(alloc, Command::new(alloc, "opt"))?)
-}
-
-fn check<'a>(alloc: Global) -> Result<Command<'a>, AllocError>
-    ensures shape { IfOk result (λ r. app_of r ≡ check_app) }
-    ensures globals { IfOk result (λ r. (fields_of r).has_globals ≡ false) }
-{
-    with_names(alloc, Command::new(alloc, "check"))
-}
-
-fn demo<'a>(alloc: Global) -> Result<Command<'a>, AllocError>
-    ensures shape { IfOk result (λ r. app_of r ≡ demo_app) }
-    ensures globals { IfOk result (λ r. (fields_of r).has_globals ≡ false) }
-{
-    with(
-        with_options(alloc, Command::new(alloc, "demo"))?,
-        seed(alloc),
-    )
+    let command = with(command, Arg::new(alloc, "first"))?;
+    let command = with(command, Arg::new(alloc, "second"))?;
+    let command = with(command, Arg::new(alloc, "third"))?;
+    with(command, Arg::new(alloc, "fourth"))
 }
 
 fn bare<'a>(alloc: Global) -> Command<'a>
     ensures shape { app_of result ≡ bare_app }
+    ensures globals { (fields_of result).has_globals ≡ false }
 {
     Command::new(alloc, "rambo")
         .no_binary_name(true)
         .disable_help_flag(true)
         .disable_help_subcommand(true)
-        .subcommand_required(true)
 }
 
 pub(crate) fn program<'a>(alloc: Global) -> Result<Command<'a>, AllocError>
-    ensures { IfOk result (λ r. app_of r ≡ program_app) }
+    ensures shape { IfOk result (λ r. app_of r ≡ program_app) }
+    ensures globals { IfOk result (λ r. (fields_of r).has_globals ≡ false) }
 {
-    bare(alloc)
-        .subcommand(opt(alloc)?)?
-        .subcommand(check(alloc)?)?
-        .subcommand(demo(alloc)?)
+    with_names(alloc, with_options(alloc, bare(alloc))?)
 }

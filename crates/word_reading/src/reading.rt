@@ -1,15 +1,16 @@
 //! The words, read by `clap`, and what `clap` has no rule for.
-ghost use Rattle.std.specs.Prelude.{◌≡◌, ◌≢◌, IfOk, IfErr, None, Some, [], map, codes, option_map};
-ghost use Rattle.clap.specs.Words.{first_of, found_of, rows_of};
-ghost use Rattle.word_reading.specs.Commands.{HasNamesApart, HasSettingsInRange, asked_of};
-ghost use Rattle.word_reading.specs.Inner.Commands.{check_in, command_in, demo_in, names_in, number_at, opt_by, opt_in, settings_in, texts_of};
-ghost use Rattle.word_reading.specs.Words.{are_different, asked};
-ghost use Rattle.word_reading.specs.Inner.Judged.{accepted};
+ghost use Rattle.std.specs.Prelude.{◌≡◌, ◌≢◌, ◌^◌, ◌-◌, ◌∷◌, IfOk, IfErr, None, Some, [], is_some, map, not, codes, option_map};
 ghost use Rattle.std.specs.String.{string_bytes};
-ghost use Rattle.clap.specs.Words.{fault_of, subcommand_of, subcommand_rows_of};
+ghost use Rattle.clap.specs.Words.{first_of, found_of, rows_of};
+ghost use Rattle.clap.specs.Words.{fault_of, matches_of};
+ghost use Rattle.word_reading.specs.Commands.{HasNamesApart, HasSettingsInRange, asked_of};
+ghost use Rattle.word_reading.specs.Words.{asked, check_by, demo_by, is_word, number, opt_by};
+ghost use Rattle.word_reading.specs.Inner.Commands.{command_in, has_only, names_in, number_at, settings_in, texts_of};
+ghost use Rattle.word_reading.specs.Inner.Judged.{accepted};
 ghost use Rattle.word_reading.specs.Inner.Program.{program as program_app};
 
 use crate::command::{Command, WordFault};
+use crate::options::{USUAL_BUDGET, USUAL_DEPTH, USUAL_TRIES, USUAL_WORKERS};
 use crate::program::program;
 use clap::ArgMatches;
 use clap::error::ErrorKind;
@@ -28,136 +29,187 @@ fn word_option(given: &ArgMatches<'_>, key: &str) -> Option<u32>
     given.get_one::<u32>(key)
 }
 
-fn seed(given: &ArgMatches<'_>) -> Option<u64>
-    ensures { result ≡ number_at 64 (codes "seed") (rows_of (found_of given.now)) }
-{
-    given.get_one::<u64>("seed")
-}
-
 fn settings(given: &ArgMatches<'_>) -> Settings
     ensures { result ≡ settings_in (rows_of (found_of given.now)) }
 {
     Settings {
-        depth: byte_option(given, "depth").unwrap_or(1),
-        budget: word_option(given, "budget").unwrap_or(256),
-        tries: word_option(given, "tries").unwrap_or(20_000),
-        workers: byte_option(given, "workers").unwrap_or(1),
+        depth: byte_option(given, "depth").unwrap_or(USUAL_DEPTH),
+        budget: word_option(given, "budget").unwrap_or(USUAL_BUDGET),
+        tries: word_option(given, "tries").unwrap_or(USUAL_TRIES),
+        workers: byte_option(given, "workers").unwrap_or(USUAL_WORKERS),
     }
 }
 
-// The names of a command that has three.
-#[derive(Clone, Copy)]
-struct Names<'a> {
-    first: &'a str,
-    second: &'a str,
-    third: &'a str,
-}
-
-fn name<'a>(given: &ArgMatches<'a>, id: &str) -> Option<&'a str>
+fn text<'a>(given: &ArgMatches<'a>, id: &str) -> Option<&'a str>
     ensures { option_map (λ s. s.now) result ≡ first_of id.now (rows_of (found_of given.now)) }
 {
     given.get_str(id)
 }
 
-fn three_names<'a>(given: &ArgMatches<'a>) -> Option<Names<'a>>
-    ensures { option_map texts_of result ≡ names_in (rows_of (found_of given.now)) }
+// Whether an option is there.
+fn is_given(given: &ArgMatches<'_>, key: &str) -> bool
+    ensures { result ≡ is_some (first_of key.now (rows_of (found_of given.now))) }
 {
-    let Some(first) = name(given, "first") else {
+    text(given, key).is_some()
+}
+
+// Whether no option is there.
+fn has_no_option(given: &ArgMatches<'_>) -> bool
+    ensures { result ≡ has_only [] (rows_of (found_of given.now)) }
+{
+    !is_given(given, "depth")
+        && !is_given(given, "budget")
+        && !is_given(given, "tries")
+        && !is_given(given, "workers")
+}
+
+// The names of a command, in order; none stands behind one that is missing.
+#[derive(Clone, Copy)]
+struct Positionals<'a> {
+    first: Option<&'a str>,
+    second: Option<&'a str>,
+    third: Option<&'a str>,
+    fourth: Option<&'a str>,
+}
+
+fn read_positionals<'a>(given: &ArgMatches<'a>) -> Positionals<'a>
+    ensures { texts_of result ≡ names_in (rows_of (found_of given.now)) }
+{
+    Positionals {
+        first: text(given, "first"),
+        second: text(given, "second"),
+        third: text(given, "third"),
+        fourth: text(given, "fourth"),
+    }
+}
+
+// Whether two names differ.
+fn differ(first: &str, second: &str) -> bool
+    ensures { result ≡ not (is_word first.now second.now) }
+{
+    !(first == second)
+}
+
+fn opt_without_journal<'a>(
+    input: &'a str,
+    output: &'a str,
+    settings: Settings,
+) -> Option<Command<'a>>
+    ensures { option_map asked_of result ≡ opt_by (input.entry.now ∷ output.entry.now ∷ []) settings }
+{
+    if !differ(input, output) {
         return None;
-    };
-    let Some(second) = name(given, "second") else {
-        return None;
-    };
-    let Some(third) = name(given, "third") else {
-        return None;
-    };
-    Some(Names {
-        first,
-        second,
-        third,
+    }
+    Some(Command::Opt {
+        input,
+        output,
+        journal: None,
+        settings,
     })
 }
 
-fn are_apart(first: &str, second: &str, third: &str) -> bool
-    ensures { result ≡ are_different first.now second.now third.now }
+fn opt_with_journal<'a>(
+    input: &'a str,
+    output: &'a str,
+    journal: &'a str,
+    settings: Settings,
+) -> Option<Command<'a>>
+    ensures { option_map asked_of result ≡ opt_by (input.entry.now ∷ output.entry.now ∷ journal.entry.now ∷ []) settings }
 {
-    !(first == second) && !(first == third) && !(second == third)
+    if !differ(input, output) || !differ(input, journal) || !differ(output, journal) {
+        return None;
+    }
+    Some(Command::Opt {
+        input,
+        output,
+        journal: Some(journal),
+        settings,
+    })
 }
 
-fn opt_of<'a>(names: Names<'a>, settings: Settings) -> Option<Command<'a>>
-    ensures { option_map asked_of result ≡ opt_by settings (texts_of names.entry) }
+fn opt<'a>(names: Positionals<'a>, settings: Settings) -> Option<Command<'a>>
+    ensures { option_map asked_of result ≡ opt_by (texts_of names.entry) settings }
 {
-    if are_apart(names.first, names.second, names.third) {
-        Some(Command::Opt {
-            input: names.first,
-            output: names.second,
-            journal: names.third,
-            settings,
-        })
+    let Some(input) = names.first else {
+        return None;
+    };
+    let Some(output) = names.second else {
+        return None;
+    };
+    let Some(journal) = names.third else {
+        return opt_without_journal(input, output, settings);
+    };
+    if names.fourth.is_some() {
+        return None;
+    }
+    opt_with_journal(input, output, journal, settings)
+}
+
+fn check<'a>(names: Positionals<'a>, settings: Settings) -> Option<Command<'a>>
+    ensures { option_map asked_of result ≡ check_by (texts_of names.entry) settings }
+{
+    let Some(input) = names.first else {
+        return None;
+    };
+    let Some(journal) = names.second else {
+        return None;
+    };
+    let Some(output) = names.third else {
+        return None;
+    };
+    if names.fourth.is_some() {
+        return None;
+    }
+    Some(Command::Check {
+        input,
+        journal,
+        output,
+    })
+}
+
+fn seed(text: &str) -> Option<u64>
+    ensures { result ≡ number 0 (2 ^ 64 - 1) text.now }
+{
+    text.parse::<u64>().ok()
+}
+
+fn demo<'a>(names: Positionals<'a>, settings: Settings) -> Option<Command<'a>>
+    ensures { option_map asked_of result ≡ demo_by (texts_of names.entry) settings }
+{
+    let Some(name) = names.first else {
+        return None;
+    };
+    if names.second.is_some() {
+        return None;
+    }
+    match seed(name) {
+        Some(seed) => Some(Command::Demo { seed, settings }),
+        None => None,
+    }
+}
+
+// The command of a word, by the names and options behind it.
+fn command<'a>(word: &str, given: &ArgMatches<'a>) -> Option<Command<'a>>
+    ensures { option_map asked_of result ≡ command_in word.now (rows_of (found_of given.now)) }
+{
+    if word == "opt" {
+        opt(read_positionals(given), settings(given))
+    } else if word == "check" {
+        if !has_no_option(given) {
+            return None;
+        }
+        check(read_positionals(given), settings(given))
+    } else if word == "demo" {
+        demo(read_positionals(given), settings(given))
     } else {
         None
     }
 }
 
-fn opt<'a>(given: &ArgMatches<'a>) -> Option<Command<'a>>
-    ensures { option_map asked_of result ≡ opt_in (rows_of (found_of given.now)) }
-{
-    match three_names(given) {
-        Some(names) => opt_of(names, settings(given)),
-        None => None,
-    }
-}
-
-fn check<'a>(given: &ArgMatches<'a>) -> Option<Command<'a>>
-    ensures { option_map asked_of result ≡ check_in (rows_of (found_of given.now)) }
-{
-    match three_names(given) {
-        Some(names) => Some(Command::Check {
-            input: names.first,
-            journal: names.second,
-            output: names.third,
-        }),
-        None => None,
-    }
-}
-
-fn demo<'a>(given: &ArgMatches<'_>) -> Option<Command<'a>>
-    ensures { option_map asked_of result ≡ demo_in (rows_of (found_of given.now)) }
-{
-    match seed(given) {
-        Some(seed) => Some(Command::Demo {
-            seed,
-            settings: settings(given),
-        }),
-        None => None,
-    }
-}
-
-fn command_of<'a>(name: &str, given: &ArgMatches<'a>) -> Option<Command<'a>>
-    ensures { option_map asked_of result ≡ command_in (Some (name.now, rows_of (found_of given.now))) }
-{
-    if name == "opt" {
-        opt(given)
-    } else if name == "check" {
-        check(given)
-    } else {
-        demo(given)
-    }
-}
-
-fn command<'a>(matches: &ArgMatches<'a>) -> Option<Command<'a>>
-    ensures { option_map asked_of result ≡ command_in (subcommand_rows_of matches.now) }
-{
-    match matches.subcommand() {
-        Some((name, given)) => command_of(name, given),
-        None => None,
-    }
-}
-
-// What `clap` makes of the words, and that it refuses no others.
+// What `clap` makes of the words behind the command's own, and that it refuses no others.
 fn parse_words<'a>(alloc: Global, words: &'a [String]) -> Result<ArgMatches<'a>, WordFault>
     ensures ok { IfOk result (λ m. (fault_of program_app (map string_bytes words.entry.now) ≡ [])
-        × (subcommand_rows_of m ≡ subcommand_of program_app (map string_bytes words.entry.now))) }
+        × (rows_of (found_of m) ≡ matches_of program_app (map string_bytes words.entry.now))) }
     ensures refused { IfErr result (λ e. e ≡ WordFault.Refused → fault_of program_app (map string_bytes words.entry.now) ≢ []) }
 {
     let program = match program(alloc) {
@@ -178,7 +230,7 @@ fn parse_words<'a>(alloc: Global, words: &'a [String]) -> Result<ArgMatches<'a>,
 
 // The same by the parts of the words.
 fn accepted_rows<'a>(alloc: Global, words: &'a [String]) -> Result<ArgMatches<'a>, WordFault>
-    ensures ok { IfOk result (λ m. accepted (map string_bytes words.entry.now) ≡ subcommand_rows_of m) }
+    ensures ok { IfOk result (λ m. accepted (map string_bytes words.entry.now) ≡ Some (rows_of (found_of m))) }
     ensures refused { IfErr result (λ e. e ≡ WordFault.Refused → accepted (map string_bytes words.entry.now) ≡ None) }
 {
     parse_words(alloc, words)
@@ -192,8 +244,11 @@ pub fn read_words<'a>(alloc: Global, words: &'a [String]) -> Result<Command<'a>,
     ensures apart { IfOk result (λ c. HasNamesApart (asked_of c)) }
     ensures ranges { IfOk result (λ c. HasSettingsInRange (asked_of c)) }
 {
-    match accepted_rows(alloc, words) {
-        Ok(matches) => command(&matches).ok_or(WordFault::Refused),
+    let Some((word, rest)) = words.split_first() else {
+        return Err(WordFault::Refused);
+    };
+    match accepted_rows(alloc, rest) {
+        Ok(matches) => command(word.as_str(), &matches).ok_or(WordFault::Refused),
         Err(fault) => Err(fault),
     }
 }

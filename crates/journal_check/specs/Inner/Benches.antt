@@ -19,6 +19,7 @@ use Rattle.journal_check.specs.declared.refusal.Why.{Why}
 use Rattle.journal_check.specs.declared.refusal.Why.TheVariants as why
 use Rattle.journal_check.specs.declared.settling.Settling.{Settling}
 use Rattle.journal_check.specs.Replaying.{Position, editing, settling, goes_on, refused, gate_of, EndLeads, Leads, VerdictLeads}
+use Rattle.journal_check.specs.Inner.Batches.{IsBatch}
 use Rattle.journal_check.specs.Inner.Within.{IsWithin}
 
 -- the faults that are still to come
@@ -29,8 +30,9 @@ abbrev pub head_of : List Fault → Option Fault
 head_of [] = None
 head_of (f ∷ fs) = Some f
 
--- the lanes fit the net, there is a word for each source, and each fault that is left has its pin
+-- the lanes and the batches are of the net, there is a word for each source, and each fault that is left has its pin
 pub record IsSettling (net : Net) (s : Settling) : Type 0 where
+  pub batches : AllByRecursion (IsBatch net) s.batches.kept.items
   pub fits : Fits s.lanes net
   pub words : length s.words.items ≡ source_count net
   pub within : s.settled ≤ length s.faults.items

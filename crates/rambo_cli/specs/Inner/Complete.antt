@@ -1,22 +1,24 @@
--- Beside Complete.antt: what only private contracts, invariants and laws speak of.
+-- What is left to keep a run from its end, where words and files are good, or are there to be judged.
 use Rattle.std.specs.Prelude.{◌≡◌, ◌⊎◌, ℕ, Option}
-use Rattle.rm_base.specs.Causes.{Rose}
 use Rattle.rm_base.specs.Files.{Files}
 use Rattle.word_reading.specs.Words.{Asked}
-use Rattle.rambo_cli.specs.Problems.{IsCause}
-use Rattle.rambo_cli.specs.Inner.Problems.{status_of}
+use Rattle.rambo_cli.specs.Commands.{contract_of}
+use Rattle.rambo_cli.specs.Contract.{Contract, IsCause, StoreFails}
+use Rattle.rambo_cli.specs.Problems.{status_of}
 use Rattle.rambo_cli.specs.declared.problem.Problem.{Problem}
 use Rattle.rambo_cli.specs.declared.problem.Problem.TheVariants.{Fault, Memory}
-use Rattle.rambo_cli.specs.Complete.{IsGood, IsJudgeable}
 
--- what then keeps the run from ending with 0 is want of memory, or a fault of the shelf
+-- memory ran out, or a call of the file store has failed
+abbrev pub IsOutsideOf : Contract → ℕ → ℕ → Problem → Type 0
+IsOutsideOf c before now problem = (problem ≡ Memory) ⊎ ((problem ≡ Fault) × StoreFails c before now)
+
 abbrev pub GoodRunsAreDone : Type 0
 GoodRunsAreDone =
-    (words : Option Asked) (files : Option Files) (before now : ℕ) (problem : Problem) → IsGood words files → IsCause words files before now problem
-    → (problem ≡ Memory) ⊎ ((problem ≡ Fault) × Rose before now)
+    (words : Option Asked) (files : Option Files) (before now : ℕ) (problem : Problem) → (contract_of words).IsGood files → IsCause (contract_of words) files before now problem
+    → IsOutsideOf (contract_of words) before now problem
 
 -- or, where a journal and an output are judged, what the audit finds of them
 abbrev pub JudgedRunsAreTold : Type 0
 JudgedRunsAreTold =
-    (words : Option Asked) (files : Option Files) (before now : ℕ) (problem : Problem) → IsJudgeable words files → IsCause words files before now problem
-    → (status_of problem ≡ 6) ⊎ ((problem ≡ Memory) ⊎ ((problem ≡ Fault) × Rose before now))
+    (words : Option Asked) (files : Option Files) (before now : ℕ) (problem : Problem) → (contract_of words).IsJudged files → IsCause (contract_of words) files before now problem
+    → (status_of problem ≡ 6) ⊎ IsOutsideOf (contract_of words) before now problem

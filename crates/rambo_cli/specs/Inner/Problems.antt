@@ -1,4 +1,4 @@
--- Beside Problems.antt: what only private contracts, invariants and laws speak of.
+-- The problem that each error of a lower layer becomes, what a call of the sink leaves, and why a text or a model is refused.
 use Rattle.std.specs.Prelude.{◌≡◌, ◌⊎◌, ◌++◌, ◌<◌, ℕ, Bool, List, Option, IsTrue}
 use Rattle.std.specs.Option.{option_map}
 use Rattle.rm_base.specs.Causes.{Rose}
@@ -17,7 +17,8 @@ use Rattle.rambo_cli.specs.Written.{HasFault, Exceeds, most_pins}
 use Rattle.rambo_cli.specs.Lines.{memory_line}
 use Rattle.rambo_cli.specs.declared.problem.Problem.{Problem}
 use Rattle.rambo_cli.specs.declared.problem.Problem.TheVariants.{Words, Text, Limit, Missing, Fault, Journal, Record, Netlist, Memory}
-use Rattle.rambo_cli.specs.Problems.{line_of, BeginsLine}
+use Rattle.rambo_cli.specs.Problems.{line_of, status_of}
+use Rattle.rambo_cli.specs.Outcome.{BeginsLine}
 
 abbrev pub outside_problem : OutsideFault → Problem
 outside_problem Failed = Fault
@@ -36,17 +37,6 @@ halt_problem halt.NoMemory = Memory
 abbrev pub word_problem : WordFault → Problem
 word_problem word.Refused = Words
 word_problem word.NoMemory = Memory
-
-abbrev pub status_of : Problem → ℕ
-status_of Words = 2
-status_of (Text kind place) = 1
-status_of (Limit quantity count) = 5
-status_of Missing = 3
-status_of Fault = 3
-status_of (Journal f) = 6
-status_of (Record r) = 6
-status_of (Netlist byte) = 6
-status_of Memory = 4
 
 -- a sink that may want memory has put nothing
 abbrev pub PutsNothing : Bool → Option (List ℕ) → Option (List ℕ) → Type 0

@@ -23,6 +23,19 @@ fn is_accepted<R: Threads + Sync>(
     Ok(status == 0 && put.as_slice().starts_with(b"accepted "))
 }
 
+// Whether a run without a journal puts this summary and writes this output, and touches no other file.
+fn optimises_alone<R: Threads + Sync>(
+    rt: &R,
+    alloc: Global,
+    input: &str,
+    put: &str,
+    output: &str,
+) -> Result<bool, Fail> {
+    let mut kept = shelf_of(alloc, input)?;
+    let ran = ends(rt, alloc, "opt in out", &mut kept, 0, put)?;
+    Ok(ran && hold(&kept, [input, output, "old"]))
+}
+
 // Whether a run puts this summary and writes this output, and a journal that `check` accepts; and whether eight workers put and
 // write the same, and a second run over what the first one wrote.
 fn optimises<R: Threads + Sync>(
@@ -84,6 +97,7 @@ const FEW_GATES: [(&str, &str, &str); 7] = [
 fn models_of_few_gates(rt: HostRuntime) -> Result<(), Fail> {
     for (input, put, output) in FEW_GATES {
         assert!(rt; optimises(&rt, rt.alloc(), "opt in out journal", input, put, output)?);
+        assert!(rt; optimises_alone(&rt, rt.alloc(), input, put, output)?);
     }
     Ok(())
 }

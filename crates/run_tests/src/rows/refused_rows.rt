@@ -4,12 +4,13 @@ use super::texts::ONE_GATE;
 use std::alloc::Global;
 use std::test::Fail;
 
-const WORDS: [&str; 14] = [
+const WORDS: [&str; 15] = [
     "",
     "help",
     "--version",
     "opt in in journal",
-    "opt in out",
+    "opt in",
+    "opt in in",
     "opt in out journal more",
     "opt in out journal --budget 0",
     "opt in out journal --depth 3",

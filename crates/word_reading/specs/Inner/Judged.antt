@@ -1,13 +1,11 @@
--- What clap makes of the words, by their parts: each use of an argument is judged in turn, and at
--- the end what is required has to be there.
-use Rattle.std.specs.Prelude.{◌+◌, ℕ, Bool, true, false, zero, suc, min, List, [], ◌∷◌, Option, Some, None, codes}
-use Rattle.std.specs.Prelude.{if◌then◌else◌, option_and_then, option_map}
-use Rattle.std.specs.Str.{bytes_eq}
+-- What clap makes of the words, by their parts: each use of an argument is judged in turn.
+use Rattle.std.specs.Prelude.{◌+◌, ℕ, Bool, true, false, min, List, [], ◌∷◌, Option, Some, None}
+use Rattle.std.specs.Prelude.{if◌then◌else◌, option_and_then}
 use Rattle.clap.specs.Lexer.{usize_max}
 use Rattle.clap.specs.Walk.{Row, Rule, Text, arg_by_index, arg_by_long, used}
 use Rattle.clap.specs.Simple.{Shape, built, new_shape}
 use Rattle.clap.specs.Kinds.{Kinds}
-use Rattle.clap.specs.Faults.{check_fault, use_fault}
+use Rattle.clap.specs.Faults.{use_fault}
 use Rattle.word_reading.specs.Words.{Part, name, setting, parts}
 use Rattle.word_reading.specs.Inner.Program.{program}
 
@@ -15,7 +13,7 @@ abbrev pub clean : Kinds → Bool
 clean [] = true
 clean (k ∷ ks) = false
 
--- a subcommand as it is built
+-- a command as it is built
 abbrev pub leaf : Text → List Rule → Shape
 leaf n c = record (new_shape n) {
   rules = c;
@@ -40,30 +38,10 @@ judged c p rows (setting k v ∷ ps) = judged_use (arg_by_long c k) v rows (λ a
 abbrev pub judged_parts : List Rule → ℕ → Option (List Part) → List Row → Option (List Row)
 judged_parts c p ps rows = option_and_then (judged c p rows) ps
 
-abbrev rules_at : ℕ → List Shape → List Rule
-rules_at i [] = []
-rules_at zero (s ∷ ss) = s.rules
-rules_at (suc i) (s ∷ ss) = rules_at i ss
+-- the rules of the words behind the command's own
+abbrev pub rules : List Rule
+rules = (built program).top.rules
 
-abbrev pub opt_rules : List Rule
-opt_rules = rules_at 0 (built program).subs
-
-abbrev pub check_rules : List Rule
-check_rules = rules_at 1 (built program).subs
-
-abbrev pub demo_rules : List Rule
-demo_rules = rules_at 2 (built program).subs
-
-abbrev pub checked : Text → List Rule → List Row → Option (List Row)
-checked n c rows = if clean (check_fault (leaf n c) rows false) then Some rows else None
-
-abbrev pub leaf_rows : Text → List Rule → List Text → Option (Text × List Row)
-leaf_rows n c ws = option_map (λ rows. (n, rows)) (option_and_then (checked n c) (judged_parts c 1 (parts None ws) []))
-
-abbrev pub accepted : List Text → Option (Text × List Row)
-accepted [] = None
-accepted (w ∷ ws) =
-    if bytes_eq (codes "opt") w then leaf_rows (codes "opt") opt_rules ws
-    else if bytes_eq (codes "check") w then leaf_rows (codes "check") check_rules ws
-    else if bytes_eq (codes "demo") w then leaf_rows (codes "demo") demo_rules ws
-    else None
+-- the rows of these words
+abbrev pub accepted : List Text → Option (List Row)
+accepted ws = judged_parts rules 1 (parts None ws) []

@@ -1,38 +1,44 @@
-use Rattle.std.proofs.Common.{Global, map, string_bytes}
+use Rattle.std.proofs.Common.{Global, arith, map, string_bytes}
 use Rattle.word_reading.specs.Words.{asked}
+use Rattle.rambo_cli.specs.Commands.{contract_of}
 use Rattle.rambo_cli.specs.Problems.{done_text}
 use Rattle.rambo_cli.proofs.Complete.{ended_done, ended_judged, reported_done, reported_judged}
-use Rattle.rambo_cli.proofs.Reports.{ended_line, faulty, over, rejected, reported_line, unread}
+use Rattle.rambo_cli.proofs.Reports.{ended_line, faulty, refused, reported_by, reported_line}
 use Rattle.rambo_cli.proofs.command.run.Goals as goal
 
 pub returns-in-Err-clause-unread : goal.returns-in-Err-clause-unread
 returns-in-Err-clause-unread g c = λ e.
-    unread g.O.Sink.may_want c.in-Err.problem c.report.result (asked (map (string_bytes {Z = Global}) c.args.words.now)) (g.S.Shelf.files c.args.shelf.now) (g.S.Shelf.faults c.args.shelf.now) (g.S.Shelf.faults c.work.new.shelf)
-    (g.O.Sink.written c.args.out.now) (g.O.Sink.written c.report.new.out) (g.O.Sink.faults c.args.out.now) (g.O.Sink.faults c.report.new.out) c.report.ensures.reported c.in-Err.ensures.cause e
-
-pub returns-in-Err-clause-faulty : goal.returns-in-Err-clause-faulty
-returns-in-Err-clause-faulty g c = λ e.
-    faulty g.O.Sink.may_want c.in-Err.problem c.report.result (asked (map (string_bytes {Z = Global}) c.args.words.now)) (g.S.Shelf.files c.args.shelf.now) (g.S.Shelf.faults c.args.shelf.now) (g.S.Shelf.faults c.work.new.shelf)
+    reported_by 1 (λ q. omega (arith, q)) (λ q. omega (arith, q)) g.O.Sink.may_want c.in-Err.problem c.report.result (contract_of (asked (map (string_bytes {Z = Global}) c.args.words.now))) (g.S.Shelf.files c.args.shelf.now) (g.S.Shelf.faults c.args.shelf.now) (g.S.Shelf.faults c.work.new.shelf)
     (g.O.Sink.written c.args.out.now) (g.O.Sink.written c.report.new.out) (g.O.Sink.faults c.args.out.now) (g.O.Sink.faults c.report.new.out) c.report.ensures.reported c.in-Err.ensures.cause e
 
 pub returns-in-Err-clause-over : goal.returns-in-Err-clause-over
 returns-in-Err-clause-over g c = λ e.
-    over g.O.Sink.may_want c.in-Err.problem c.report.result (asked (map (string_bytes {Z = Global}) c.args.words.now)) (g.S.Shelf.files c.args.shelf.now) (g.S.Shelf.faults c.args.shelf.now) (g.S.Shelf.faults c.work.new.shelf)
+    reported_by 5 (λ q. omega (arith, q)) (λ q. omega (arith, q)) g.O.Sink.may_want c.in-Err.problem c.report.result (contract_of (asked (map (string_bytes {Z = Global}) c.args.words.now))) (g.S.Shelf.files c.args.shelf.now) (g.S.Shelf.faults c.args.shelf.now) (g.S.Shelf.faults c.work.new.shelf)
     (g.O.Sink.written c.args.out.now) (g.O.Sink.written c.report.new.out) (g.O.Sink.faults c.args.out.now) (g.O.Sink.faults c.report.new.out) c.report.ensures.reported c.in-Err.ensures.cause e
 
 pub returns-in-Err-clause-rejected : goal.returns-in-Err-clause-rejected
 returns-in-Err-clause-rejected g c = λ e.
-    rejected g.O.Sink.may_want c.in-Err.problem c.report.result (asked (map (string_bytes {Z = Global}) c.args.words.now)) (g.S.Shelf.files c.args.shelf.now) (g.S.Shelf.faults c.args.shelf.now) (g.S.Shelf.faults c.work.new.shelf)
+    reported_by 6 (λ q. omega (arith, q)) (λ q. omega (arith, q)) g.O.Sink.may_want c.in-Err.problem c.report.result (contract_of (asked (map (string_bytes {Z = Global}) c.args.words.now))) (g.S.Shelf.files c.args.shelf.now) (g.S.Shelf.faults c.args.shelf.now) (g.S.Shelf.faults c.work.new.shelf)
+    (g.O.Sink.written c.args.out.now) (g.O.Sink.written c.report.new.out) (g.O.Sink.faults c.args.out.now) (g.O.Sink.faults c.report.new.out) c.report.ensures.reported c.in-Err.ensures.cause e
+
+pub returns-in-Err-clause-refused : goal.returns-in-Err-clause-refused
+returns-in-Err-clause-refused g c = λ e.
+    refused g.O.Sink.may_want c.in-Err.problem c.report.result (asked (map (string_bytes {Z = Global}) c.args.words.now)) (g.S.Shelf.files c.args.shelf.now) (g.S.Shelf.faults c.args.shelf.now) (g.S.Shelf.faults c.work.new.shelf)
+    (g.O.Sink.written c.args.out.now) (g.O.Sink.written c.report.new.out) (g.O.Sink.faults c.args.out.now) (g.O.Sink.faults c.report.new.out) c.report.ensures.reported c.in-Err.ensures.cause e
+
+pub returns-in-Err-clause-faulty : goal.returns-in-Err-clause-faulty
+returns-in-Err-clause-faulty g c = λ e.
+    faulty g.O.Sink.may_want c.in-Err.problem c.report.result (contract_of (asked (map (string_bytes {Z = Global}) c.args.words.now))) (g.S.Shelf.files c.args.shelf.now) (g.S.Shelf.faults c.args.shelf.now) (g.S.Shelf.faults c.work.new.shelf)
     (g.O.Sink.written c.args.out.now) (g.O.Sink.written c.report.new.out) (g.O.Sink.faults c.args.out.now) (g.O.Sink.faults c.report.new.out) c.report.ensures.reported c.in-Err.ensures.cause e
 
 pub returns-in-Err-clause-faulty_line : goal.returns-in-Err-clause-faulty_line
 returns-in-Err-clause-faulty_line g c = λ e.
-    reported_line g.O.Sink.may_want c.in-Err.problem c.report.result (asked (map (string_bytes {Z = Global}) c.args.words.now)) (g.S.Shelf.files c.args.shelf.now) (g.S.Shelf.files c.work.new.shelf) (g.S.Shelf.faults c.args.shelf.now) (g.S.Shelf.faults c.work.new.shelf)
+    reported_line g.O.Sink.may_want c.in-Err.problem c.report.result (contract_of (asked (map (string_bytes {Z = Global}) c.args.words.now))) (g.S.Shelf.files c.args.shelf.now) (g.S.Shelf.files c.work.new.shelf) (g.S.Shelf.faults c.args.shelf.now) (g.S.Shelf.faults c.work.new.shelf)
     (g.O.Sink.written c.args.out.now) (g.O.Sink.written c.report.new.out) (g.O.Sink.faults c.args.out.now) (g.O.Sink.faults c.report.new.out) c.report.ensures.reported c.in-Err.ensures.cause c.in-Err.ensures.unchanged e
 
 pub returns-in-Ok-clause-faulty_line : goal.returns-in-Ok-clause-faulty_line
 returns-in-Ok-clause-faulty_line g c = λ e.
-    ended_line g.O.Sink.may_want c.in-Ok.done c.finish.result (asked (map (string_bytes {Z = Global}) c.args.words.now)) (g.S.Shelf.files c.args.shelf.now) (g.S.Shelf.files c.work.new.shelf) (g.S.Shelf.faults c.args.shelf.now) (g.S.Shelf.faults c.work.new.shelf)
+    ended_line g.O.Sink.may_want c.in-Ok.done c.finish.result (contract_of (asked (map (string_bytes {Z = Global}) c.args.words.now))) (g.S.Shelf.files c.args.shelf.now) (g.S.Shelf.files c.work.new.shelf) (g.S.Shelf.faults c.args.shelf.now) (g.S.Shelf.faults c.work.new.shelf)
     (g.O.Sink.written c.args.out.now) (g.O.Sink.written c.finish.new.out) (g.O.Sink.faults c.args.out.now) (g.O.Sink.faults c.finish.new.out) c.finish.ensures.ended c.in-Ok.ensures.done e
 
 pub returns-in-Err-clause-complete : goal.returns-in-Err-clause-complete

@@ -1,4 +1,4 @@
-use Rattle.std.proofs.Common.{refl, arith}
+use Rattle.std.proofs.Common.{◌≤◌, ◌+◌, ◌^◌, ℕ, refl, sym, subst, arith}
 use Rattle.rambo_cli.proofs.Composed.{fits, equivalent}
 use Rattle.blif_format.specs.FirstFault.{first_fault}
 use Rattle.rambo_cli.proofs.Limited.{no_fault, written_within}
@@ -28,7 +28,7 @@ returns c = λ m settings net steps verdicts figures model ranked parts few limi
       recorded = refl;
       accepted = record { steps = steps; verdicts = verdicts; parts = refl; leads = over.led; tidy = over.tidy; settled = over.settled };
       tested = tested net (model_of_net m net) settings.budget verdicts faults (c.tidy_nets_have_model_faults.ensures.once net) c.tidy_nets_have_model_faults.ensures.vectors over.settled over.searched;
-      decided = λ enough. over.searched.decided enough;
+      decided = λ enough. over.searched.decided (subst (λ (n : ℕ). 2 ^ (n + 1) ≤ settings.budget) (sym fit.sources) enough);
       run = over.run;
       figures_are = over.figures;
     }

@@ -1,6 +1,6 @@
 use Rattle.std.proofs.Common.{◌≡◌, List, ℕ, sym, subst, take}
 use Rattle.std.specs.Prelude.{IfSome}
-use Rattle.rambo_cli.specs.Outcome.{Holds}
+use Rattle.rambo_cli.specs.Files.{Holds}
 use Rattle.rambo_cli.proofs.Pieces.{read_cause, read_said}
 use Rattle.rambo_cli.proofs.reading.read_input.Goals as goal
 

@@ -9,7 +9,7 @@ returns-clause-settling c =
     let s : Settling = c.args.self.now in
     let t : Settling = record s { settled = s.settled + 1 } in
     let next = pins_next (net_of c.args.graph.now) s t c.args.given c.in_ok-fault.fault refl refl c.requires c.in_ok-fault.ensures in
-    record { fits = c.requires.fits; words = c.requires.words; within = next.0; pins = next.1 }
+    record { batches = c.requires.batches; fits = c.requires.fits; words = c.requires.words; within = next.0; pins = next.1 }
 
 pub returns-clause-says : goal.returns-clause-says
 returns-clause-says c =

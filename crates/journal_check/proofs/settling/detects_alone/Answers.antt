@@ -3,7 +3,7 @@ use Rattle.gate_graph.specs.Circuit.{net_of}
 use Rattle.gate_net.specs.Net.{source_count}
 use Rattle.journal_check.specs.Inner.Vectors.{bit_word}
 use Rattle.journal_check.proofs.LaneLaws.{lane_detects}
-use Rattle.journal_check.proofs.settling.detects.Goals as goal
+use Rattle.journal_check.proofs.settling.detects_alone.Goals as goal
 
 pub returns-clause-hit : goal.returns-clause-hit
 returns-clause-hit c =

@@ -1,0 +1,25 @@
+-- The contract of what the words ask for.
+use Rattle.std.specs.Prelude.{◌≡◌, Option, None, Some, false}
+use Rattle.word_reading.specs.Words.{Asked, opt, check, demo}
+use Rattle.rambo_cli.specs.Contract.{Contract}
+use Rattle.rambo_cli.specs.Opt.{opt_contract}
+use Rattle.rambo_cli.specs.Check.{check_contract}
+use Rattle.rambo_cli.specs.Demo.{demo_contract}
+use Rattle.rambo_cli.specs.declared.problem.Problem.TheVariants.{Words}
+
+-- of words that ask for nothing
+abbrev pub refused_contract : Contract
+refused_contract = record {
+  Does = λ old new done. ⊥;
+  Finds = λ files problem. problem ≡ Words;
+  Leaves = λ old new. new ≡ old;
+  needs_files = false;
+  IsGood = λ files. ⊥;
+  IsJudged = λ files. ⊥;
+}
+
+abbrev pub contract_of : Option Asked → Contract
+contract_of None = refused_contract
+contract_of (Some (opt input output journal settings)) = opt_contract input output journal settings
+contract_of (Some (check input journal output)) = check_contract input journal output
+contract_of (Some (demo seed settings)) = demo_contract seed settings
