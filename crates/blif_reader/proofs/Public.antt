@@ -5,3 +5,5 @@ pub use Rattle.blif_reader.proofs.FitLaws.{layout_count}
 pub use Rattle.blif_reader.proofs.TokenLaws.{layout_tokens}
 -- The words behind a command, by their indices.
 pub use Rattle.blif_reader.proofs.PartLaws.{drop_here, map_at, part_at, part_there, parts_length, take_whole}
+-- The first cover without rank.
+pub use Rattle.blif_reader.proofs.ModelLaws.{all_ranked, none_unranked, unranked_at}
