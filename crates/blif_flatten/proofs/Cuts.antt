@@ -1,5 +1,5 @@
 -- The sides of a pin, byte by byte.
-use Rattle.std.proofs.Common.{◌≡◌, ℕ, List, [], ◌∷◌, ◌++◌, Option, None, Some, refl}
+use Rattle.std.proofs.Common.{◌++◌, Option}
 use Rattle.std.specs.Option.{option_map}
 use Rattle.rm_base.specs.Words.{Word}
 

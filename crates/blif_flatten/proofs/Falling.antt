@@ -1,12 +1,11 @@
 -- Numbers that fall along calls rank the modules.
-use Rattle.std.proofs.Common.{◌≡◌, ◌<◌, ◌≤◌, ◌+◌, ◌-◌, ℕ, zero, suc, List, [], ◌∷◌, length, take, Option, Some, ◌⊎◌, inl, inr, refl, sym, ap, ◌∙◌, subst, arith}
+use Rattle.std.proofs.Common.{◌≡◌, ◌≤◌, ◌+◌, ◌-◌, ℕ, zero, suc, List, [], ◌∷◌, length, take, Some, ◌⊎◌, inl, inr, refl, sym, ap, ◌∙◌, subst, arith}
 use Rattle.std.specs.Prelude.{slice_get}
 use Rattle.rm_base.proofs.Public.{pushed_stands, stands_below, take_one_more}
 use Rattle.blif_reader.proofs.Public.{take_whole}
-use Rattle.blif_flatten.specs.declared.modules.Link.{Link}
 use Rattle.blif_flatten.specs.declared.modules.Module.{Module}
 use Rattle.blif_flatten.specs.Laws.{AreRankedBy}
-use Rattle.blif_flatten.specs.Inner.Ranks.{number_of, Falls, AreFalling, AreKnownCalls}
+use Rattle.blif_flatten.specs.Inner.Ranks.{number_of, AreFalling, AreKnownCalls}
 
 -- what holds of the items before one and of it holds of all of these
 pub one-more : {A : Type 0} (P : A → Type 0) (xs : List A) (i : ℕ) (x : A) → slice_get xs i ≡ Some x → ((j : ℕ) (y : A) → slice_get (take i xs) j ≡ Some y → P y) → P x → (j : ℕ) (y : A) → slice_get (take (i + 1) xs) j ≡ Some y → P y

@@ -1,11 +1,9 @@
 -- Pins and the formals of a called model.
-use Rattle.std.proofs.Common.{◌≡◌, ◌≢◌, ℕ, zero, suc, ◌+◌, ◌-◌, ◌<◌, ◌≤◌, List, [], ◌∷◌, ◌++◌, map, length, take, drop, get_or, Bool, true, false, ◌||◌, not, ◌⊎◌, inl, inr, Option, None, Some, refl, sym, ap, ◌∙◌, subst, arith, add-one}
+use Rattle.std.proofs.Common.{◌≡◌, ℕ, zero, suc, ◌+◌, ◌-◌, ◌<◌, ◌≤◌, List, [], ◌∷◌, ◌++◌, map, length, take, drop, get_or, Bool, true, false, ◌||◌, not, inl, inr, Option, None, Some, refl, sym, ap, ◌∙◌, subst, arith, add-one}
 use Rattle.std.specs.Prelude.{slice_get, if◌then◌else◌}
 use Rattle.std.specs.Option.{option_map}
-use Rattle.std.specs.Borrow.{Bor}
-use Rattle.std.specs.List.{cons_option, filter_map, list_all, list_any}
+use Rattle.std.specs.List.{cons_option, list_all}
 use Rattle.std.proofs.lemmas.List.{append_assoc, append-nil, length-map}
-use Rattle.std.proofs.lemmas.List.Folds.{list_any-append}
 use Rattle.std.proofs.lemmas.Bool.{or_cases}
 use Rattle.rm_base.specs.Words.{Word}
 use Rattle.rm_base.specs.declared.numbers.Place.{Place}
@@ -27,10 +25,9 @@ use Rattle.blif_flatten.specs.Calls.{Call, Connection, call_of, connection_of}
 use Rattle.blif_flatten.specs.CallFaults.{formals_fault, formals_of, gives_inputs, inward, is_formal, module_at, module_name, pins_fault, place_named}
 use Rattle.blif_flatten.specs.declared.calls.Callable.{Callable}
 use Rattle.blif_flatten.specs.declared.modules.Module.{Module}
-use Rattle.blif_flatten.specs.declared.interfaces.Formals.{Formals}
 use Rattle.blif_flatten.specs.declared.interfaces.Interface.{Interface}
 use Rattle.blif_flatten.specs.Inner.Interfaces.{AreFormals, IsCallable, IsInterface, Names, TakesFormal, bytes_of, fault_of_call, pins_at, pins_fault_in}
-use Rattle.blif_flatten.proofs.Refusals.{refused, refused-first, refused-later}
+use Rattle.blif_flatten.proofs.Refusals.{refused}
 
 -- PINS, ONE BY ONE
 pins-first : (text : Word) (t : Token) (ts : List Token) → pins_at text (t ∷ ts) ≡ cons_option (connection_of (spot_of text t)) (pins_at text ts)

@@ -1,15 +1,12 @@
 -- What is found of a text, put together.
-use Rattle.std.proofs.Common.{◌≡◌, ◌≢◌, ◌<◌, ◌≤◌, ◌+◌, ◌^◌, ◌*◌, ℕ, zero, suc, List, [], ◌∷◌, ◌++◌, map, length, Bool, true, false, Option, None, Some, ◌⊎◌, inl, inr, refl, sym, ap, ◌∙◌, subst, arith}
-use Rattle.std.specs.Prelude.{All, Result, Ok, Err, OnOk, fold, not, min, nat_lt, slice_get, ◌↔◌, if◌then◌else◌}
+use Rattle.std.proofs.Common.{◌≡◌, ◌≢◌, ◌<◌, ◌≤◌, ◌+◌, ◌^◌, ℕ, zero, suc, List, [], ◌∷◌, ◌++◌, map, length, Bool, true, false, Option, None, Some, refl, sym, ap, ◌∙◌, subst, arith}
+use Rattle.std.specs.Prelude.{All, Result, Ok, Err, OnOk, fold, not, nat_lt, slice_get, ◌↔◌, if◌then◌else◌}
 use Rattle.std.specs.List.{cons_option, filter_map}
-use Rattle.std.specs.Option.{option_map}
 use Rattle.std.proofs.lemmas.List.{length-map}
 use Rattle.std.proofs.lemmas.List.Elements.{All-head, All-tail}
 use Rattle.std.proofs.lemmas.Bool.{le-ltb, lt-ltb, ltb-false}
 use Rattle.rm_base.specs.Words.{Word}
 use Rattle.rm_base.proofs.Public.{map_found, stands_below}
-use Rattle.rm_model.specs.Words.{is_word}
-use Rattle.rm_model.specs.Numbers.{place_of}
 use Rattle.rm_model.specs.Ranks.{ranks_of}
 use Rattle.rm_base.specs.declared.numbers.Place.{Place}
 use Rattle.rm_model.specs.Value.{IsConsistent, IsRanked}
@@ -28,7 +25,6 @@ use Rattle.blif_reader.specs.Meant.{IsRefusal}
 use Rattle.blif_flatten.specs.declared.flattening.Flattened.{Flattened}
 use Rattle.blif_flatten.specs.declared.modules.Link.{Link}
 use Rattle.blif_flatten.specs.declared.modules.Module.{Module}
-use Rattle.blif_flatten.specs.declared.reading.Linked.{Linked}
 use Rattle.blif_flatten.specs.declared.sections.Section.{Section as TokenSection}
 use Rattle.blif_flatten.specs.Sections.{Section, is_title, onto_last, plain_module, sections_of, sound_lines, token_count, with_line}
 use Rattle.blif_flatten.specs.Calls.{Call, calls_of}
@@ -36,12 +32,12 @@ use Rattle.blif_flatten.specs.CallFaults.{calls_fault, drivers_fault, module_at,
 use Rattle.blif_flatten.specs.FirstFault.{first_fault, lead_in, rank_fault, sections_fault, size_fault, top_fault, tree_of}
 use Rattle.blif_flatten.specs.Flat.{flat_model, flat_places}
 use Rattle.blif_flatten.specs.Flattened.{IsFlatOf}
-use Rattle.blif_flatten.specs.Instances.{Calls, Done, Then, all_calls, calls_in, instance_count, lead, free_number, link_of, link_with, module_of, modules_of, names_held, then_call, tokens_in, whole}
+use Rattle.blif_flatten.specs.Instances.{Calls, all_calls, calls_in, instance_count, lead, free_number, link_of, link_with, module_of, modules_of, names_held, then_call, tokens_in, whole}
 use Rattle.blif_flatten.specs.LineFaults.{empty_fault, head_fault, lines_fault}
 use Rattle.blif_flatten.specs.Meant.{IsFlatModel}
 use Rattle.blif_flatten.specs.Recursion.{links_in, links_of, recursion_fault}
 use Rattle.blif_flatten.specs.Inner.Ranks.{AreKnownCalls}
-use Rattle.blif_flatten.specs.Inner.Reading.{IsLinked, names_fault}
+use Rattle.blif_flatten.specs.Inner.Reading.{names_fault}
 use Rattle.blif_flatten.specs.Inner.Sizes.{capped, module_total}
 use Rattle.blif_flatten.specs.Inner.Tokens.{IsSectionWithin, lines_at, section_at, sections_at}
 use Rattle.blif_flatten.proofs.Formals.{place-below}

@@ -1,24 +1,23 @@
 -- The lines of a text, taken one by one.
-use Rattle.std.proofs.Common.{◌≡◌, ◌≢◌, ◌≤◌, ◌<◌, ◌+◌, ℕ, suc, List, [], ◌∷◌, ◌++◌, map, length, Bool, true, false, Option, None, Some, refl, sym, ap, ◌∙◌, arith, subst, rules}
-use Rattle.std.specs.Prelude.{fold, All, not, slice_get, get_or, ◌^◌, if◌then◌else◌}
+use Rattle.std.proofs.Common.{◌≡◌, ◌≢◌, ◌≤◌, ◌<◌, ◌+◌, ℕ, suc, List, [], ◌∷◌, ◌++◌, map, length, Bool, true, false, Option, None, Some, refl, sym, ap, ◌∙◌, arith, subst}
+use Rattle.std.specs.Prelude.{fold, All, not, slice_get, get_or, ◌^◌}
 use Rattle.std.proofs.lemmas.List.{length-map}
 use Rattle.std.proofs.lemmas.List.Elements.{All-nil, All-cons, All-head, All-tail}
 use Rattle.rm_base.specs.Words.{Word}
-use Rattle.blif_lines.specs.Layout.{Spot, Logical, Flaw, BadByteAt, OpenJoinAt, layout}
-use Rattle.blif_lines.specs.Reading.{pending, spot_of, IsFault, StandsFirst}
+use Rattle.blif_lines.specs.Layout.{Spot, Logical, Flaw, layout}
+use Rattle.blif_lines.specs.Reading.{pending, spot_of}
 use Rattle.blif_lines.specs.declared.line.Token.{Token}
 use Rattle.blif_format.specs.declared.refusal.ReadRefusal.{ReadRefusal}
 use Rattle.blif_format.specs.declared.refusal.FaultKind.TheVariants.{NoModel}
-use Rattle.blif_format.specs.FirstFault.{or_else, flaw_fault, fault_if, fault}
+use Rattle.blif_format.specs.FirstFault.{or_else, fault_if, fault}
 use Rattle.blif_reader.specs.Lines.{spots_at}
-use Rattle.blif_reader.specs.Meant.{IsRefusal}
 use Rattle.blif_reader.specs.Fit.{token_sum}
 use Rattle.blif_reader.proofs.Public.{layout_count}
 use Rattle.blif_flatten.specs.declared.sections.Section.{Section as TokenSection}
 use Rattle.blif_flatten.specs.declared.sections.Step.TheVariants.{Line}
-use Rattle.blif_flatten.specs.Sections.{Section, is_title, onto_last, with_line, line_with, sound_lines, layout_fault, token_count}
+use Rattle.blif_flatten.specs.Sections.{Section, is_title, onto_last, with_line, sound_lines, layout_fault, token_count}
 use Rattle.blif_flatten.specs.LineFaults.{head_fault, empty_fault}
-use Rattle.blif_flatten.specs.Inner.Tokens.{lines_at, section_at, sections_at, section_tokens, all_tokens, IsLineWithin, IsBareSectionWithin, IsSectionWithin, IsStep, AreReadTo}
+use Rattle.blif_flatten.specs.Inner.Tokens.{lines_at, section_at, sections_at, all_tokens, IsLineWithin, IsBareSectionWithin, IsSectionWithin, IsStep, AreReadTo}
 use Rattle.blif_flatten.proofs.Alls.{all-append, all-left, all-right}
 
 -- LINES WITHOUT TOKENS AND FLAW

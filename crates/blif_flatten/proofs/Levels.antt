@@ -1,10 +1,9 @@
 -- Which calls are recursive, by numbers that rise along no call.
-use Rattle.std.proofs.Common.{◌≡◌, ◌≢◌, ◌<◌, ◌≤◌, ◌==◌, ◌+◌, ◌-◌, ℕ, zero, suc, List, [], ◌∷◌, length, drop, take, get_or, Bool, true, false, ◌||◌, ◌&&◌, ◌⊎◌, inl, inr, Option, None, Some, refl, sym, ap, ◌∙◌, subst, arith, add-one}
+use Rattle.std.proofs.Common.{◌≡◌, ◌≢◌, ◌<◌, ◌≤◌, ◌==◌, ◌+◌, ◌-◌, ℕ, zero, suc, List, [], ◌∷◌, length, drop, get_or, Bool, true, false, ◌||◌, ◌&&◌, ◌⊎◌, inl, inr, Option, None, Some, refl, sym, ap, ◌∙◌, subst, arith, add-one}
 use Rattle.std.specs.Prelude.{slice_get}
 use Rattle.std.specs.List.{list_any}
 use Rattle.std.proofs.lemmas.Bool.{or_cases, and_parts}
 use Rattle.std.proofs.Math.Bool.{or-true}
-use Rattle.std.proofs.lemmas.Bool.Decides.{eqb_tells}
 use Rattle.blif_format.specs.declared.refusal.FaultKind.TheVariants.{Recursive}
 use Rattle.blif_format.specs.declared.refusal.ReadRefusal.{ReadRefusal}
 use Rattle.blif_format.specs.FirstFault.{or_else, fault, fault_if}
@@ -12,7 +11,7 @@ use Rattle.blif_flatten.specs.declared.modules.Link.{Link}
 use Rattle.blif_flatten.specs.declared.modules.Module.{Module}
 use Rattle.blif_flatten.specs.CallFaults.{first_of}
 use Rattle.blif_flatten.specs.Recursion.{links_in, links_of, leads, is_recursive_call, recursion_at, recursion_from, recursion_fault}
-use Rattle.blif_flatten.specs.Inner.Ranks.{number_of, DoNotRise, HasLinks, calls_one, head_or, goes_along}
+use Rattle.blif_flatten.specs.Inner.Ranks.{number_of, DoNotRise, calls_one, head_or, goes_along}
 use Rattle.blif_flatten.proofs.NoRecursion.{any-at, same-number}
 use Rattle.blif_flatten.proofs.Lines.{drop-from}
 

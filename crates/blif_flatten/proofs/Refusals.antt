@@ -1,5 +1,5 @@
 -- A refusal of one of several looks in order.
-use Rattle.std.proofs.Common.{◌≡◌, ℕ, List, [], ◌∷◌, Option, None, Some, refl, sym, ap, ◌∙◌, subst}
+use Rattle.std.proofs.Common.{◌≡◌, List, ◌∷◌, Option, None, Some, refl, sym, ap, ◌∙◌, subst}
 use Rattle.blif_format.specs.declared.refusal.ReadRefusal.{ReadRefusal}
 use Rattle.blif_format.specs.declared.refusal.ReadRefusal.TheVariants.{Fault, Limit, NoMemory}
 use Rattle.blif_format.specs.FirstFault.{or_else}

@@ -1,9 +1,7 @@
 -- Names that are driven twice, by tables.
-use Rattle.std.proofs.Common.{◌≡◌, ℕ, ◌+◌, ◌<◌, ◌≤◌, List, [], ◌∷◌, ◌++◌, map, length, take, drop, Bool, true, false, ◌||◌, ◌&&◌, Option, None, Some, refl, sym, ap, ◌∙◌, subst, inl, inr, add-one}
-use Rattle.std.specs.Prelude.{slice_get, filter, find, if◌then◌else◌}
-use Rattle.std.specs.List.{list_any}
+use Rattle.std.proofs.Common.{◌≡◌, ℕ, ◌+◌, List, [], ◌∷◌, ◌++◌, map, take, drop, Bool, true, false, ◌||◌, ◌&&◌, Option, None, Some, refl, sym, ap, ◌∙◌, add-one}
+use Rattle.std.specs.Prelude.{slice_get, find, if◌then◌else◌}
 use Rattle.std.proofs.Math.Bool.{or-true}
-use Rattle.std.proofs.lemmas.List.{append-nil}
 use Rattle.rm_base.specs.Words.{Word}
 use Rattle.rm_base.proofs.Public.{drop_stands, take_one_more}
 use Rattle.rm_model.specs.Words.{is_word}
@@ -13,7 +11,7 @@ use Rattle.blif_format.specs.declared.words.Role.{Role}
 use Rattle.blif_format.specs.declared.words.Role.TheVariants.{Input, ClockInput, Output, CoverInput, CoverOutput, LatchInput, LatchOutput, Control}
 use Rattle.blif_format.specs.declared.refusal.FaultKind.TheVariants.{DoubleDriven, Undriven}
 use Rattle.blif_format.specs.declared.refusal.ReadRefusal.{ReadRefusal}
-use Rattle.blif_format.specs.Uses.{Use, names_in, is_input, is_clock, drives_twice, stands_in, wants_driver, is_driver}
+use Rattle.blif_format.specs.Uses.{Use, names_in, is_input, is_clock, drives_twice, stands_in}
 use Rattle.blif_format.specs.FirstFault.{or_else, fault, fault_if, is_undriven, undriven_fault}
 use Rattle.blif_reader.specs.Meant.{IsRefusal}
 use Rattle.blif_flatten.specs.CallFaults.{driven_twice_fault}

@@ -1,14 +1,13 @@
 -- The first fault of calls, and then of names, where every line is without fault.
-use Rattle.std.specs.Prelude.{ℕ, zero, suc, Bool, not, ◌||◌, List, [], ◌∷◌, ◌++◌, map, filter, length, slice_get, Option, None, Some, if◌then◌else◌}
-use Rattle.std.specs.List.{list_any, list_all, flat_map}
+use Rattle.std.specs.Prelude.{ℕ, Bool, not, ◌||◌, List, [], ◌∷◌, ◌++◌, map, slice_get, Option, None, Some, if◌then◌else◌}
+use Rattle.std.specs.List.{list_all, flat_map}
 use Rattle.rm_base.specs.Words.{Word}
-use Rattle.rm_model.specs.Words.{is_word}
 use Rattle.rm_model.specs.Numbers.{place_of}
 use Rattle.rm_model.specs.Value.{is_among}
 use Rattle.rm_model.specs.declared.parts.Model.{Model}
 use Rattle.blif_lines.specs.Layout.{Spot}
 use Rattle.blif_format.specs.declared.words.Role.TheVariants.{CoverInput, CoverOutput}
-use Rattle.blif_format.specs.declared.refusal.FaultKind.TheVariants.{BadPin, MissingPin, UnknownModel, Recursive, DoubleDriven}
+use Rattle.blif_format.specs.declared.refusal.FaultKind.TheVariants.{BadPin, MissingPin, UnknownModel, DoubleDriven}
 use Rattle.blif_format.specs.declared.refusal.ReadRefusal.{ReadRefusal}
 use Rattle.blif_format.specs.Uses.{Use, uses_of, stands_in, drives_twice}
 use Rattle.blif_format.specs.FirstFault.{or_else, fault, fault_if, undriven_fault}

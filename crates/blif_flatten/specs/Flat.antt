@@ -1,5 +1,5 @@
 -- The flat model of a hierarchy: the covers and the latches of its instances, with copies from actuals to input formals and from output formals to actuals.
-use Rattle.std.specs.Prelude.{◌+◌, ℕ, true, not, List, [], ◌∷◌, ◌++◌, map, filter, length}
+use Rattle.std.specs.Prelude.{◌+◌, ℕ, true, not, List, [], ◌∷◌, ◌++◌, map, filter}
 use Rattle.std.specs.Option.{option_map}
 use Rattle.rm_base.specs.declared.numbers.Place.{Place}
 use Rattle.rm_base.specs.Words.{Word}

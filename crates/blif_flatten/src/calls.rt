@@ -126,7 +126,10 @@ pub fn is_call(text: &[u8], line: &[Token]) -> bool
 }
 
 /// The formals of the module at a place.
-pub fn interface_at<'a, 'b>(interfaces: &'b [Interface<'a>], place: usize) -> Option<&'b Interface<'a>>
+pub fn interface_at<'a, 'b>(
+    interfaces: &'b [Interface<'a>],
+    place: usize,
+) -> Option<&'b Interface<'a>>
     ensures some { IfSome result (λ i. slice_get interfaces.now place ≡ Some i.now) }
     ensures none { result ≡ None → slice_get interfaces.now place ≡ None }
 {

@@ -28,7 +28,5 @@ mod walk;
 pub use flattening::{Flattened, flatten_modules};
 pub use laws::{flat_valuations, names_are_own, no_recursion};
 pub use modules::{Link, Module, Pin};
-pub use pieces::Pieces;
 pub use reading::{Flat, FlatRefusal, flatten};
 pub use rows::worked_rows;
-pub use walk::{Caller, Frame, Walked, walk_calls};

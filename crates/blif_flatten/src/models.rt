@@ -86,11 +86,7 @@ fn push_latch(
     }
 }
 
-fn latches_of(
-    alloc: Global,
-    text: &[u8],
-    body: &[Listed<Token>],
-) -> Result<Listed<Latch>, NoMemory>
+fn latches_of(alloc: Global, text: &[u8], body: &[Listed<Token>]) -> Result<Listed<Latch>, NoMemory>
     requires { All (IsLineWithin text.now) body.now }
     ensures { IfOk result (λ latches. latches ≡ filter_map latch_in (words_in text.now body.now)) }
 {
@@ -138,11 +134,7 @@ fn row_at(alloc: Global, text: &[u8], line: &[Token]) -> Result<Row, NoMemory>
     row_of(alloc, word_of(text, &line[0]))
 }
 
-fn rows_of(
-    alloc: Global,
-    text: &[u8],
-    lines: &[Listed<Token>],
-) -> Result<Listed<Row>, NoMemory>
+fn rows_of(alloc: Global, text: &[u8], lines: &[Listed<Token>]) -> Result<Listed<Row>, NoMemory>
     requires { All (IsLineWithin text.now) lines.now }
     ensures { IfOk result (λ rows. rows ≡ map row_from (words_in text.now lines.now)) }
 {
@@ -223,11 +215,7 @@ fn push_cover(
     }
 }
 
-fn covers_of(
-    alloc: Global,
-    text: &[u8],
-    body: &[Listed<Token>],
-) -> Result<Listed<Cover>, NoMemory>
+fn covers_of(alloc: Global, text: &[u8], body: &[Listed<Token>]) -> Result<Listed<Cover>, NoMemory>
     requires { All (IsLineWithin text.now) body.now }
     ensures { IfOk result (λ covers. covers ≡ covers_from (words_in text.now body.now)) }
 {
@@ -251,11 +239,7 @@ fn push_place(places: &mut Listed<Place>, text: &[u8], line: &[Token]) -> Result
     places.push(line[0].place)
 }
 
-fn places_of(
-    alloc: Global,
-    text: &[u8],
-    body: &[Listed<Token>],
-) -> Result<Listed<Place>, NoMemory>
+fn places_of(alloc: Global, text: &[u8], body: &[Listed<Token>]) -> Result<Listed<Place>, NoMemory>
     requires { All (IsLineWithin text.now) body.now }
     ensures { IfOk result (λ places. places ≡ filter_map names_place (lines_at text.now body.now)) }
 {

@@ -94,7 +94,11 @@ fn take_callers(ways: &mut Ways, callers: &[usize], next: usize) -> Result<(), N
 }
 
 fn callers_at(callers: &[Vec<usize>], module: usize) -> &[usize] {
-    if module < callers.len() { callers[module].as_slice() } else { &[] }
+    if module < callers.len() {
+        callers[module].as_slice()
+    } else {
+        &[]
+    }
 }
 
 // The ways to a module.
@@ -114,7 +118,11 @@ fn ways_to(alloc: Global, callers: &[Vec<usize>], to: usize) -> Result<Ways, NoM
 }
 
 fn next_of(next: &[Option<usize>], module: usize) -> Option<usize> {
-    if module < next.len() { next[module] } else { None }
+    if module < next.len() {
+        next[module]
+    } else {
+        None
+    }
 }
 
 /// A path of modules from one along calls to another, without that; empty where there is none. It takes time linear in

@@ -24,7 +24,11 @@ pub struct LevelCall {
 fn number_at(numbers: &[usize], place: usize) -> usize
     ensures { result ≡ number_of numbers.now place }
 {
-    if place < numbers.len() { numbers[place] } else { 0 }
+    if place < numbers.len() {
+        numbers[place]
+    } else {
+        0
+    }
 }
 
 fn links_fall(numbers: &[usize], links: &[Link], number: usize) -> bool

@@ -1,5 +1,5 @@
 -- What is found of a text before its flat model is made.
-use Rattle.std.specs.Prelude.{◌≡◌, ◌≤◌, ℕ, List, [], slice_get, Option, Some}
+use Rattle.std.specs.Prelude.{◌≡◌, ◌≤◌, ℕ, List, slice_get, Option, Some}
 use Rattle.blif_format.specs.declared.refusal.ReadRefusal.{ReadRefusal}
 use Rattle.blif_format.specs.FirstFault.{or_else}
 use Rattle.blif_flatten.specs.declared.modules.Module.{Module}

@@ -1,5 +1,5 @@
 -- What the code has of the lines of a section so far.
-use Rattle.std.specs.Prelude.{◌≡◌, ◌-◌, ℕ, List, [], Option, None, Some, codes, if◌then◌else◌}
+use Rattle.std.specs.Prelude.{◌≡◌, ◌-◌, ℕ, List, Option, None, Some, codes, if◌then◌else◌}
 use Rattle.std.specs.Option.{option_map}
 use Rattle.rm_base.specs.Words.{Word}
 use Rattle.rm_model.specs.Words.{is_word}

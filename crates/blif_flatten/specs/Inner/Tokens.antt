@@ -1,10 +1,9 @@
 -- Sections as the code has them: by the tokens of their lines.
-use Rattle.std.specs.Prelude.{◌≡◌, ◌≢◌, ◌≤◌, ◌^◌, ◌+◌, ℕ, List, [], ◌∷◌, map, fold, length, All, Option, None, Some, if◌then◌else◌}
+use Rattle.std.specs.Prelude.{◌≡◌, ◌≢◌, ◌≤◌, ◌^◌, ◌+◌, ℕ, List, [], ◌∷◌, map, fold, length, All, None, Some, if◌then◌else◌}
 use Rattle.rm_base.specs.Words.{Word}
 use Rattle.blif_lines.specs.Layout.{Spot, Logical, layout}
 use Rattle.blif_lines.specs.Reading.{spot_of, IsWithin, pending}
 use Rattle.blif_lines.specs.declared.line.Token.{Token}
-use Rattle.blif_format.specs.declared.refusal.ReadRefusal.{ReadRefusal}
 use Rattle.blif_reader.specs.Lines.{spots_at, words_at}
 use Rattle.blif_format.specs.Grammar.{begins_with, words_after}
 use Rattle.blif_flatten.specs.declared.modules.Link.{Link}

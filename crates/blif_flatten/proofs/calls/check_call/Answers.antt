@@ -1,4 +1,4 @@
-use Rattle.std.proofs.Common.{◌≡◌, ◌∙◌, sym, subst, ap, Option, None, List, get_or}
+use Rattle.std.proofs.Common.{◌≡◌, sym, subst, Option, None, List, get_or}
 use Rattle.std.specs.Prelude.{OnOk, IfErr}
 use Rattle.blif_lines.specs.declared.line.Token.{Token}
 use Rattle.blif_format.specs.declared.refusal.ReadRefusal.{ReadRefusal}

@@ -1,4 +1,3 @@
-use Rattle.std.proofs.Common.{◌∙◌, ap, sym}
 use Rattle.rm_model.specs.Value.{is_among}
 use Rattle.blif_flatten.proofs.Formals.{inward-listed}
 use Rattle.blif_flatten.proofs.calls.gives_inputs.Goals as goal

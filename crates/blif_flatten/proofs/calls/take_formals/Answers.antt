@@ -1,5 +1,4 @@
 use Rattle.std.proofs.Common.{get_or}
-use Rattle.rm_base.proofs.Public.{read_stands}
 use Rattle.blif_flatten.specs.Inner.Interfaces.{no_token}
 use Rattle.blif_flatten.proofs.Formals.{formals-refused, formals-go, formals-whole, token-at}
 use Rattle.blif_flatten.proofs.calls.take_formals.Goals as goal

@@ -1,5 +1,4 @@
 use Rattle.std.proofs.Common.{◌≡◌, ◌∙◌, ap, sym, get_or, List, Bool}
-use Rattle.rm_base.specs.Words.{Word}
 use Rattle.rm_model.specs.Value.{is_among}
 use Rattle.blif_format.specs.Uses.{Use, names_in, is_driver}
 use Rattle.blif_flatten.specs.Inner.Uses.{uses_at}

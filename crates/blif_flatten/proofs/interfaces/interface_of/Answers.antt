@@ -1,5 +1,5 @@
 use Rattle.blif_flatten.proofs.Lines.{interface-of}
-use Rattle.std.proofs.Common.{[], ◌++◌}
+use Rattle.std.proofs.Common.{[]}
 use Rattle.blif_flatten.proofs.interfaces.interface_of.Goals as goal
 
 pub returns : goal.returns

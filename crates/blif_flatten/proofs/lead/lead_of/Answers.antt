@@ -1,4 +1,4 @@
-use Rattle.std.proofs.Common.{◌≡◌, ◌∙◌, sym, subst, ap, map, List, ℕ}
+use Rattle.std.proofs.Common.{◌≡◌, ◌∙◌, sym, subst, ap, map, ℕ}
 use Rattle.std.specs.Prelude.{IfOk}
 use Rattle.blif_format.specs.Uses.{Use}
 use Rattle.blif_flatten.specs.Instances.{free_number, lead}

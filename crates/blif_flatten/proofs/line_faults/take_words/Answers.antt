@@ -1,7 +1,6 @@
-use Rattle.std.proofs.Common.{◌≡◌, ◌≤◌, ◌∙◌, sym, ap, subst, map, get_or, length, ℕ, Some}
+use Rattle.std.proofs.Common.{◌≤◌, sym, subst, map, get_or, length, ℕ}
 use Rattle.std.proofs.lemmas.List.{length-map}
 use Rattle.blif_lines.specs.Reading.{spot_of}
-use Rattle.blif_lines.specs.declared.line.Token.{Token}
 use Rattle.blif_format.specs.Uses.{least_words}
 use Rattle.blif_reader.proofs.Public.{map_at, part_there}
 use Rattle.blif_flatten.specs.Inner.Interfaces.{no_token}

@@ -1,5 +1,5 @@
 use Rattle.blif_flatten.proofs.Lines.{count-fits}
-use Rattle.std.proofs.Common.{[], ◌∙◌, ap, length, arith}
+use Rattle.std.proofs.Common.{[], arith}
 use Rattle.rm_base.proofs.Public.{read_stands}
 use Rattle.blif_flatten.proofs.models.count_tokens.Goals as goal
 

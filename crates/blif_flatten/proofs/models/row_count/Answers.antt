@@ -1,5 +1,5 @@
 use Rattle.blif_flatten.proofs.Lines.{row-go}
-use Rattle.std.proofs.Common.{◌∙◌, ◌≡◌, subst, ap, sym, List, false}
+use Rattle.std.proofs.Common.{◌∙◌, ◌≡◌, subst, sym, List, false}
 use Rattle.rm_base.proofs.Public.{read_stands}
 use Rattle.blif_lines.specs.declared.line.Token.{Token}
 use Rattle.blif_format.specs.Grammar.{is_dotted}

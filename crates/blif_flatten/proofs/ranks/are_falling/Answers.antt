@@ -1,4 +1,4 @@
-use Rattle.std.proofs.Common.{length, ℕ}
+use Rattle.std.proofs.Common.{length}
 use Rattle.rm_base.proofs.Public.{read_stands}
 use Rattle.blif_flatten.specs.Inner.Ranks.{Falls}
 use Rattle.blif_flatten.proofs.Falling.{one-place-more, all-places}

@@ -1,4 +1,4 @@
-use Rattle.std.proofs.Common.{◌∙◌, ap, sym, ℕ, List, Option}
+use Rattle.std.proofs.Common.{◌∙◌, ap, sym}
 use Rattle.std.specs.Prelude.{is_none, position}
 use Rattle.blif_format.specs.FirstFault.{first_unranked}
 use Rattle.blif_reader.proofs.Public.{all_ranked, none_unranked}

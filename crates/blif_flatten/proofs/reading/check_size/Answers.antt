@@ -1,4 +1,4 @@
-use Rattle.std.proofs.Common.{◌≡◌, ◌∙◌, sym, ap, Some}
+use Rattle.std.proofs.Common.{◌∙◌, sym, ap, Some}
 use Rattle.rm_base.proofs.Public.{one_stands, read_stands}
 use Rattle.blif_flatten.specs.declared.modules.Module.{Module}
 use Rattle.blif_format.specs.declared.refusal.ReadRefusal.TheVariants.{Limit}

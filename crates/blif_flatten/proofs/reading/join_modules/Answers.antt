@@ -1,4 +1,4 @@
-use Rattle.std.proofs.Common.{◌≡◌, ◌∙◌, sym, subst, arith, List, Some, None}
+use Rattle.std.proofs.Common.{◌≡◌, subst, arith, List, Some, None}
 use Rattle.std.specs.Prelude.{slice_get}
 use Rattle.blif_flatten.specs.declared.modules.Module.{Module}
 use Rattle.blif_flatten.specs.FirstFault.{size_fault, tree_of}

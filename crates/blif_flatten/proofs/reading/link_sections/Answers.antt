@@ -1,4 +1,4 @@
-use Rattle.std.proofs.Common.{◌≡◌, ◌<◌, ◌∙◌, sym, subst, List, ℕ, length}
+use Rattle.std.proofs.Common.{◌∙◌, sym, subst, List, ℕ}
 use Rattle.blif_flatten.specs.declared.modules.Module.{Module}
 use Rattle.rm_base.proofs.Public.{read_stands}
 use Rattle.blif_flatten.specs.declared.sections.Section.{Section}

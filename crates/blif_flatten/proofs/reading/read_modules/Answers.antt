@@ -1,6 +1,4 @@
-use Rattle.std.proofs.Common.{◌≢◌, ◌∙◌, [], sym, subst, ap, List}
-use Rattle.std.specs.Prelude.{OnOk}
-use Rattle.blif_flatten.specs.declared.sections.Section.{Section}
+use Rattle.std.proofs.Common.{◌∙◌, sym, ap}
 use Rattle.blif_flatten.specs.Inner.Tokens.{sections_at}
 use Rattle.blif_flatten.proofs.Joined.{lines-some, on-ok}
 use Rattle.blif_flatten.proofs.reading.read_modules.Goals as goal

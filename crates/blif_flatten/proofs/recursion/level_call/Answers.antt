@@ -1,7 +1,5 @@
-use Rattle.std.proofs.Common.{◌≡◌, ◌∙◌, sym, subst, ap, refl, true, List, ℕ}
+use Rattle.std.proofs.Common.{◌≡◌, ◌∙◌, sym, subst, ap, refl, true, ℕ}
 use Rattle.rm_base.proofs.Public.{read_stands}
-use Rattle.blif_format.specs.FirstFault.{fault}
-use Rattle.blif_flatten.specs.declared.modules.Link.{Link}
 use Rattle.blif_flatten.specs.CallFaults.{first_of}
 use Rattle.blif_flatten.specs.Recursion.{is_recursive_call, recursion_at}
 use Rattle.blif_flatten.proofs.Levels.{holder-go, holder-here}

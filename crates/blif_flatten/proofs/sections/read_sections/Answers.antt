@@ -1,6 +1,5 @@
-use Rattle.std.proofs.Common.{◌∙◌, ap, sym, subst, List, ℕ, ◌≤◌, length}
+use Rattle.std.proofs.Common.{◌∙◌, sym, subst, List, ℕ, ◌≤◌, length}
 use Rattle.blif_lines.specs.declared.line.LogicalLine.{LogicalLine}
-use Rattle.blif_flatten.specs.declared.sections.Step.{Step}
 use Rattle.blif_flatten.specs.declared.sections.Step.TheVariants.{Line}
 use Rattle.blif_flatten.specs.Inner.Tokens.{IsStep}
 use Rattle.blif_flatten.proofs.Layouts.{line-less, read-few, read-start, read-within}

@@ -1,4 +1,4 @@
-use Rattle.std.proofs.Common.{◌≤◌, ℕ, get_or, length, map, sym, subst}
+use Rattle.std.proofs.Common.{◌≤◌, ℕ, get_or, sym, subst}
 use Rattle.std.proofs.lemmas.List.{length-map}
 use Rattle.blif_lines.specs.Reading.{spot_of}
 use Rattle.blif_reader.specs.Lines.{spots_at}
