@@ -40,6 +40,16 @@ pub enum FaultKind {
     Undriven,
     /// A cover on a cycle, or behind one.
     NoRank,
+    /// A word of a `.subckt` line that is no pair of names, or whose formal isn't one of the called model or stands twice.
+    BadPin,
+    /// A `.subckt` line that leaves out an input of the called model.
+    MissingPin,
+    /// A `.subckt` line that calls a model which the text hasn't.
+    UnknownModel,
+    /// A model with the name of an earlier one.
+    DoubleModel,
+    /// A `.subckt` line whose model calls, directly or through others, the model that holds the line.
+    Recursive,
 }
 
 impl fmt::Display for FaultKind {
@@ -64,6 +74,11 @@ impl fmt::Display for FaultKind {
             FaultKind::AfterEnd => f.write_str("a word after the end"),
             FaultKind::Undriven => f.write_str("a name without a driver"),
             FaultKind::NoRank => f.write_str("a cover on a cycle, or behind one"),
+            FaultKind::BadPin => f.write_str("no pin of the called model"),
+            FaultKind::MissingPin => f.write_str("an input of the called model is left out"),
+            FaultKind::UnknownModel => f.write_str("no model of the text"),
+            FaultKind::DoubleModel => f.write_str("a second model of that name"),
+            FaultKind::Recursive => f.write_str("a model that calls itself"),
         }
     }
 }
@@ -79,6 +94,7 @@ pub enum Quantity {
     Signals,
     Pins,
     Journal,
+    Flat,
 }
 
 impl fmt::Display for Quantity {
@@ -92,6 +108,7 @@ impl fmt::Display for Quantity {
             Quantity::Signals => f.write_str("the names"),
             Quantity::Pins => f.write_str("the wires of the decomposition"),
             Quantity::Journal => f.write_str("the bytes of the journal"),
+            Quantity::Flat => f.write_str("the tokens of all instances"),
         }
     }
 }

@@ -7,7 +7,7 @@ use Rattle.blif_format.specs.Grammar.{before_end, begins_with, is_dotted, words_
 use Rattle.blif_format.specs.declared.words.Command.{Command}
 use Rattle.blif_format.specs.declared.words.Command.TheVariants.{Model, Inputs, Outputs, Clock, Names, Latch, End}
 use Rattle.blif_format.specs.FirstFault.{Said, OpenCover as SaidCover, after_line, with_row, is_dotted as dotted_word}
-use Rattle.blif_reader.specs.Inner.Rows.{cover_for, ends}
+use Rattle.blif_reader.specs.Rows.{cover_for, ends}
 use Rattle.blif_reader.specs.Inner.Drafts.{all_covers, is_open, Begins, Ends, CurrentIs, IsDraft, given_name, given_inputs, given_outputs, given_clocks, given_latches, given_covers, Changes, add_row, AddsRow}
 use Rattle.blif_reader.specs.declared.draft.Draft.{Draft}
 use Rattle.blif_reader.proofs.Compared.{word_tells}

@@ -23,9 +23,10 @@ use Rattle.blif_format.specs.Uses.{command_of}
 use Rattle.blif_format.specs.declared.words.Command.{Command}
 use Rattle.blif_format.specs.declared.words.Command.TheVariants.{Model, Inputs, Outputs, Clock, Names, Latch, End}
 use Rattle.blif_format.specs.FirstFault.{OpenCover as SaidCover, or_else, flaw_fault, row_fault, words_fault, Said, nothing_said, after_line, said_by, lines_fault, latch_types, init_values, is_literal, cover_names}
-use Rattle.blif_reader.specs.Inner.Rows.{cover_for}
-use Rattle.blif_reader.specs.Inner.Lines.{IsLatchLine, are_literals}
-use Rattle.blif_reader.specs.Inner.Drafts.{opt_list, all_covers, RowsAre, CurrentIs, IsFitLatch, IsDraft, given_name, given_inputs, given_outputs, given_clocks, given_latches, given_covers, Changes, IsKnown, AddsRow}
+use Rattle.blif_reader.specs.Rows.{cover_for}
+use Rattle.blif_reader.specs.Lines.{IsLatchLine, are_literals}
+use Rattle.blif_reader.specs.Inner.Drafts.{opt_list, all_covers, RowsAre, CurrentIs, IsDraft, given_name, given_inputs, given_outputs, given_clocks, given_latches, given_covers, Changes, IsKnown, AddsRow}
+use Rattle.blif_reader.specs.Words.{IsFitLatch}
 use Rattle.blif_reader.specs.declared.draft.Draft.{Draft}
 use Rattle.blif_reader.proofs.Compared.{word_tells}
 use Rattle.blif_reader.proofs.RowLaws.{IsRow, adds_row, current_rows, first_none, has_row, inputs_before, last_spot, row_spots, second_none}

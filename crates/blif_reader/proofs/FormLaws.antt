@@ -25,7 +25,7 @@ use Rattle.blif_format.specs.FirstFault.{is_cover_input, is_undriven, undriven_f
 use Rattle.blif_format.specs.declared.refusal.FaultKind.TheVariants.{Undriven}
 use Rattle.blif_format.specs.declared.refusal.ReadRefusal.{ReadRefusal}
 use Rattle.blif_reader.specs.Inner.Tally.{plays, is_latch, is_cover}
-use Rattle.blif_reader.specs.Inner.Drafts.{IsFitLatch}
+use Rattle.blif_reader.specs.Words.{IsFitLatch}
 use Rattle.blif_reader.proofs.Compared.{word_tells}
 use Rattle.blif_reader.proofs.Plays.{names_among, plays_driver}
 use Rattle.blif_reader.proofs.LineLaws.{word_for}

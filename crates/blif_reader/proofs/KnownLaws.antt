@@ -16,7 +16,7 @@ use Rattle.blif_format.specs.declared.words.Part.{Part}
 use Rattle.blif_format.specs.declared.words.Part.TheVariants.{Title, Name, LatchType, Init, Extra}
 use Rattle.blif_format.specs.FirstFault.{fault, fault_if, parts_fault, part_fault, command_fault, first_line_fault, dotted_fault, row_fault, row_fault_in, words_fault, Said, OpenCover as SaidCover, is_dotted, with_row, after_line, latch_types, init_values}
 use Rattle.blif_format.specs.declared.refusal.FaultKind.TheVariants.{BadLatchWord, MissingWord, ExtraWord, AfterEnd, NoModel, Unsupported, UnknownCommand, RowOutsideCover}
-use Rattle.blif_reader.specs.Inner.Rows.{cover_for, ends}
+use Rattle.blif_reader.specs.Rows.{cover_for, ends}
 use Rattle.blif_reader.specs.Inner.Drafts.{IsDraft, Changes, IsKnown, CurrentIs, AddsRow}
 use Rattle.blif_reader.specs.declared.draft.Draft.{Draft}
 use Rattle.blif_reader.proofs.LineLaws.{word_for, command_word, after_ended, after_cover}

@@ -6,7 +6,7 @@ use Rattle.blif_lines.specs.Reading.{spot_of}
 use Rattle.blif_lines.specs.declared.line.Token.{Token}
 use Rattle.blif_format.specs.Text.{timing_words, init_words}
 use Rattle.blif_format.specs.FirstFault.{latch_types, init_values}
-use Rattle.blif_reader.specs.Inner.Lines.{words_at, IsLatchLine, init_part, timing_part}
+use Rattle.blif_reader.specs.Lines.{words_at, IsLatchLine, init_part, timing_part}
 use Rattle.rm_base.specs.Words.{Word}
 
 abbrev pub word_at : List ℕ → Token → Word

@@ -25,3 +25,5 @@ pub mod ExistLaws
 pub mod WordCounts
 pub mod NoLimits
 pub mod Within
+pub mod FitLaws
+pub mod Public

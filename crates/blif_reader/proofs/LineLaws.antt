@@ -13,8 +13,9 @@ use Rattle.blif_format.specs.declared.refusal.ReadRefusal.{ReadRefusal}
 use Rattle.blif_format.specs.declared.refusal.FaultKind.TheVariants.{NoModel}
 use Rattle.blif_reader.specs.Meant.{IsRefusal}
 use Rattle.blif_reader.specs.Inner.Tally.{IsTally}
-use Rattle.blif_reader.specs.Inner.Rows.{cover_for, ends}
-use Rattle.blif_reader.specs.Inner.Said.{said_cover, IsSaid}
+use Rattle.blif_reader.specs.Rows.{cover_for, ends}
+use Rattle.blif_reader.specs.Inner.Said.{IsSaid}
+use Rattle.blif_reader.specs.Rows.{said_cover}
 use Rattle.blif_reader.specs.declared.check.Checker.{Checker}
 use Rattle.blif_reader.proofs.Compared.{word_tells}
 use Rattle.rm_base.specs.Words.{Word}

@@ -17,7 +17,7 @@ use Rattle.std.proofs.lemmas.List.{length-map}
 use Rattle.blif_lines.specs.Layout.{Spot, Logical, words_in, has_words, layout, lines_of}
 use Rattle.blif_format.specs.Text.{cover_words}
 use Rattle.blif_format.specs.Grammar.{before, is_dotted, names_lines, before_end, Reads}
-use Rattle.blif_format.specs.FirstFault.{Said, nothing_said, after_line, or_else, flaw_fault, words_fault, lines_fault, said_by, undriven_fault, rank_fault, first_fault, first_unranked, cover_in, cover_names, bare_model}
+use Rattle.blif_format.specs.FirstFault.{fault, Said, nothing_said, after_line, or_else, flaw_fault, words_fault, lines_fault, said_by, undriven_fault, rank_fault, first_fault, first_unranked, cover_in, cover_names, bare_model}
 use Rattle.blif_format.specs.declared.refusal.FaultKind.TheVariants.{NoModel, NoRank}
 use Rattle.blif_format.specs.declared.refusal.ReadRefusal.{ReadRefusal}
 use Rattle.blif_format.specs.declared.refusal.ReadRefusal.TheVariants.{Fault, Limit, NoMemory}
@@ -34,6 +34,7 @@ use Rattle.blif_reader.proofs.ExistLaws.{draft_exists}
 use Rattle.blif_reader.proofs.TokenLaws.{line_bytes, text_size}
 use Rattle.blif_reader.proofs.SizeLaws.{sources_small, observed_small, covers_small, weight_small}
 use Rattle.blif_reader.proofs.WholeLaws.{IsSound, sound, well_formed}
+use Rattle.std.specs.Prelude.{slice_get}
 use Rattle.rm_base.proofs.Public.{map_pointwise}
 use Rattle.rm_base.specs.Words.{Word}
 
@@ -232,3 +233,19 @@ text_reads long ranked text none =
     let formed : IsWellFormed (model_in drafted.0) = well_formed text (said_by nothing_said (layout text)) drafted.0 lines driven began drafted.1 in
     let ranks : first_without_rank (model_in drafted.0) ≡ None = no_rank_missing text drafted.0 drafted.1.covers (long (model_in drafted.0)) (second_none (undriven_fault (said_by nothing_said (layout text)).uses) (rank_fault (filter_map cover_in (layout text))) later) in
     (model_in drafted.0, reads text (said_by nothing_said (layout text)) drafted.0 drafted.1 began formed (ranked (model_in drafted.0) formed.driven_once ranks))
+
+-- THE FIRST COVER WITHOUT RANK
+pub unranked_at : (ps : List Place) (rs : List (Option ℕ)) (k : ℕ) (p : Place) → position is_none rs ≡ Some k → slice_get ps k ≡ Some p → first_unranked ps rs ≡ fault NoRank p
+unranked_at ps rs k p e at = first_fault_at ps rs ∙ ap (fault_at ps) (sym (gap_position rs) ∙ e) ∙ ap (option_map (λ (place : Place). Fault NoRank place)) at
+
+pub all_ranked : (ps : List Place) (xs : List ℕ) → first_unranked ps (map (λ (x : ℕ). Some x) xs) ≡ None
+all_ranked [] xs = refl
+all_ranked (p ∷ ps) [] = refl
+all_ranked (p ∷ ps) (x ∷ xs) = all_ranked ps xs
+
+pub none_unranked : (xs : List ℕ) → position is_none (map (λ (x : ℕ). Some x) xs) ≡ None
+none_unranked xs = gap_position (map (λ (x : ℕ). Some x) xs) ∙ go xs
+  where
+    go : (xs : List ℕ) → first_gap (map (λ (x : ℕ). Some x) xs) ≡ None
+    go [] = refl
+    go (x ∷ xs) = ap (option_map (λ k. suc k)) (go xs)

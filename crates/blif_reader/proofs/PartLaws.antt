@@ -21,7 +21,7 @@ use Rattle.blif_format.specs.declared.refusal.FaultKind.TheVariants.{MissingWord
 use Rattle.blif_format.specs.declared.refusal.ReadRefusal.{ReadRefusal}
 use Rattle.blif_format.specs.declared.refusal.ReadRefusal.TheVariants.{Fault, Limit, NoMemory}
 use Rattle.blif_reader.specs.Meant.{IsRefusal}
-use Rattle.blif_reader.specs.Inner.Parts.{latch_part_at, part_in}
+use Rattle.blif_reader.specs.Parts.{latch_part_at, part_in}
 use Rattle.rm_base.proofs.Public.{take_one_more}
 
 some_is : (t s : Spot) → Some t ≡ Some s → t ≡ s

@@ -20,7 +20,7 @@ use Rattle.blif_format.specs.FirstFault.{Said, OpenCover as SaidCover, nothing_s
 use Rattle.blif_format.specs.declared.refusal.FaultKind.TheVariants.{NoModel}
 use Rattle.blif_format.specs.declared.refusal.ReadRefusal.{ReadRefusal}
 use Rattle.blif_format.specs.declared.refusal.ReadRefusal.TheVariants.{Fault, Limit, NoMemory}
-use Rattle.blif_reader.specs.Inner.Lines.{words_at}
+use Rattle.blif_reader.specs.Lines.{words_at}
 use Rattle.blif_reader.specs.Inner.Said.{IsSaid}
 use Rattle.blif_reader.specs.Inner.Drafts.{IsDraft, IsKnown, Changes, CurrentIs, AddsRow}
 use Rattle.blif_reader.specs.Inner.Progress.{bare_cover, Progress, IsRead, places_with}

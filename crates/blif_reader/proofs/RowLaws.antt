@@ -19,7 +19,7 @@ use Rattle.blif_format.specs.FirstFault.{OpenCover as SaidCover, or_else, fault_
 use Rattle.blif_format.specs.declared.refusal.FaultKind.{FaultKind}
 use Rattle.blif_format.specs.declared.refusal.FaultKind.TheVariants.{RowCharacter, MixedCover, RowLength}
 use Rattle.blif_format.specs.declared.refusal.ReadRefusal.{ReadRefusal}
-use Rattle.blif_reader.specs.Inner.Lines.{are_literals}
+use Rattle.blif_reader.specs.Lines.{are_literals}
 use Rattle.blif_reader.specs.Inner.Drafts.{opt_list, all_covers, ending_of, RowsAre, CurrentIs, HasRow, AddsRow, IsShaped, add_row, last_token, inputs_in}
 use Rattle.blif_reader.specs.declared.draft.Draft.{Draft}
 use Rattle.blif_reader.proofs.Compared.{word_tells}

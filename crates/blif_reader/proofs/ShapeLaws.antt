@@ -9,7 +9,8 @@ use Rattle.rm_model.specs.declared.parts.Latch.{Latch as LatchPart}
 use Rattle.blif_format.specs.Text.{Line, latch_words, cover_words, row_words}
 use Rattle.blif_format.specs.declared.words.Command.{Command}
 use Rattle.blif_format.specs.declared.words.Command.TheVariants.{Names, Latch}
-use Rattle.blif_reader.specs.Inner.Drafts.{opt_list, all_covers, ending_of, RowsAre, CurrentIs, IsFitLatch, Changes}
+use Rattle.blif_reader.specs.Inner.Drafts.{opt_list, all_covers, ending_of, RowsAre, CurrentIs, Changes}
+use Rattle.blif_reader.specs.Words.{IsFitLatch}
 use Rattle.blif_reader.specs.declared.draft.Draft.{Draft}
 use Rattle.blif_reader.proofs.RowLaws.{all_front}
 use Rattle.rm_base.specs.Words.{Word}

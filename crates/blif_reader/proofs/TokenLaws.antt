@@ -9,6 +9,7 @@ use Rattle.rm_model.specs.WellFormed.{is_token, ends_in_backslash}
 use Rattle.blif_lines.specs.Layout.{Mark, Spot, Flaw, BadByteAt, OpenJoinAt, Logical, is_blank, is_control, onto_first, runs, spots, tokens_in, ends_token, first_bad, joint, before_joint, without_comment, physical_lines, marked, behind, earlier, with_line, logical_lines, layout, words_in, has_words, lines_of}
 use Rattle.blif_format.specs.Text.{Line}
 use Rattle.rm_base.proofs.Public.{and_first, and_second, neither_first, neither_second}
+use Rattle.blif_reader.specs.Fit.{AreTokens}
 use Rattle.rm_base.specs.Words.{Word, is_word_byte}
 
 -- RUNS OF BYTES
@@ -113,11 +114,6 @@ before_plain (m ∷ ms) p = at (list_all is_blank ms) refl (before_plain ms (and
     at true h ih = rw h refl
     at false h ih = rw h (ap (λ t. t && list_all is_plain (before_joint ms)) (and_first (is_plain m) (list_all is_plain ms) p) ∙ ih)
 
--- the words of each line without flaw
-abbrev pub AreTokens : List Logical → Type 0
-AreTokens [] = Unit {0}
-AreTokens (l ∷ ls) = (l.flaw ≡ None → list_all is_token (words_in l) ≡ true) × AreTokens ls
-
 no_earlier : (a b : Option Flaw) → earlier a b ≡ None → (a ≡ None) × (b ≡ None)
 no_earlier None b e = (refl, e)
 no_earlier (Some f) b e = cc
@@ -147,7 +143,7 @@ abbrev pub line_bytes : List Line → ℕ
 line_bytes [] = 0
 line_bytes (l ∷ ls) = word_bytes l + line_bytes ls
 
-abbrev run_bytes : List (List Mark) → ℕ
+abbrev pub run_bytes : List (List Mark) → ℕ
 run_bytes [] = 0
 run_bytes (r ∷ rs) = length r + run_bytes rs
 
@@ -159,7 +155,7 @@ onto_size : (m : Mark) (rs : List (List Mark)) → run_bytes (onto_first m rs) �
 onto_size m [] = refl
 onto_size m (r ∷ rs) = omega arith
 
-runs_size : (ms : List Mark) → run_bytes (runs ms) ≤ length ms
+pub runs_size : (ms : List Mark) → run_bytes (runs ms) ≤ length ms
 runs_size [] = omega arith
 runs_size (m ∷ ms) = at (is_blank m) (runs_size ms)
   where
@@ -175,7 +171,7 @@ spots_size ((m ∷ ms) ∷ rs) = let e : length (bytes_of ms) ≡ length ms = le
 tokens_size : (ms : List Mark) → word_bytes (spelled (tokens_in ms)) ≤ length ms
 tokens_size ms = let e : word_bytes (spelled (spots (runs ms))) ≡ run_bytes (runs ms) = spots_size (runs ms) in let h : run_bytes (runs ms) ≤ length ms = runs_size ms in omega arith
 
-comment_size : (ms : List Mark) → length (without_comment ms) ≤ length ms
+pub comment_size : (ms : List Mark) → length (without_comment ms) ≤ length ms
 comment_size [] = omega arith
 comment_size (m ∷ ms) = at (m.byte == 35) (comment_size ms)
   where
@@ -183,7 +179,7 @@ comment_size (m ∷ ms) = at (m.byte == 35) (comment_size ms)
     at true h = omega arith
     at false h = omega arith
 
-before_size : (ms : List Mark) → length (before_joint ms) ≤ length ms
+pub before_size : (ms : List Mark) → length (before_joint ms) ≤ length ms
 before_size [] = omega arith
 before_size (m ∷ ms) = at (list_all is_blank ms) (before_size ms)
   where
@@ -205,7 +201,7 @@ with_size line (Some m) (l ∷ ls) =
     let k : length (before_joint line) ≤ length line = before_size line in
     let j : word_bytes (spelled (tokens_in (before_joint line) ++ l.tokens)) ≡ word_bytes (spelled (tokens_in (before_joint line))) + word_bytes (spelled l.tokens) = words_append (tokens_in (before_joint line)) l.tokens in omega arith
 
-abbrev piece_bytes : List (List Mark) → ℕ
+abbrev pub piece_bytes : List (List Mark) → ℕ
 piece_bytes [] = 0
 piece_bytes (p ∷ ps) = length p + piece_bytes ps
 
@@ -220,7 +216,7 @@ onto_pieces : (m : Mark) (ps : List (List Mark)) → piece_bytes (onto_first m p
 onto_pieces m [] = refl
 onto_pieces m (p ∷ ps) = omega arith
 
-pieces_size : (ms : List Mark) → piece_bytes (physical_lines ms) ≤ length ms
+pub pieces_size : (ms : List Mark) → piece_bytes (physical_lines ms) ≤ length ms
 pieces_size [] = omega arith
 pieces_size (m ∷ ms) = at (m.byte == 10) (pieces_size ms)
   where
@@ -228,7 +224,7 @@ pieces_size (m ∷ ms) = at (m.byte == 10) (pieces_size ms)
     at true h = omega arith
     at false h = let e : piece_bytes (onto_first m (physical_lines ms)) ≡ suc (piece_bytes (physical_lines ms)) = onto_pieces m (physical_lines ms) in omega arith
 
-marked_size : (start : ℕ) (place : Place) (bs : List ℕ) → length (marked start place bs) ≡ length bs
+pub marked_size : (start : ℕ) (place : Place) (bs : List ℕ) → length (marked start place bs) ≡ length bs
 marked_size start place [] = refl
 marked_size start place (b ∷ bs) = ap suc (marked_size (start + 1) (behind b place) bs)
 

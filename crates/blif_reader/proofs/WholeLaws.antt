@@ -20,13 +20,15 @@ use Rattle.blif_format.specs.declared.words.Role.TheVariants.{Input, ClockInput,
 use Rattle.blif_format.specs.FirstFault.{or_else, fault, flaw_fault, words_fault, Said, nothing_said, after_line, said_by, lines_fault, is_cover_input, undriven_fault}
 use Rattle.blif_format.specs.declared.refusal.FaultKind.TheVariants.{BadByte, OpenJoin}
 use Rattle.blif_reader.specs.Inner.Tally.{is_latch, is_cover}
-use Rattle.blif_reader.specs.Inner.Drafts.{Begins, IsFitLatch, IsDraft, model_in}
+use Rattle.blif_reader.specs.Inner.Drafts.{Begins, IsDraft, model_in}
+use Rattle.blif_reader.specs.Words.{IsFitLatch}
 use Rattle.blif_reader.specs.declared.draft.Draft.{Draft}
 use Rattle.blif_reader.proofs.RowLaws.{first_none, second_none}
 use Rattle.blif_reader.proofs.CleanLaws.{IsClean, nothing_clean, clean_lines}
 use Rattle.blif_reader.proofs.NameLaws.{is_latch_input, is_control, all_uses, said_uses, uses_list, line_picks, picks_if, list_picks, cover_picks, latch_picks, picks}
 use Rattle.blif_reader.proofs.FormLaws.{NamesAre, names_are, driven_once, used_driven}
-use Rattle.blif_reader.proofs.TokenLaws.{AreTokens, layout_tokens}
+use Rattle.blif_reader.specs.Fit.{AreTokens}
+use Rattle.blif_reader.proofs.TokenLaws.{layout_tokens}
 use Rattle.rm_base.proofs.Public.{and_first, and_second}
 use Rattle.rm_base.specs.Words.{Word}
 

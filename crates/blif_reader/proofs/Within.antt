@@ -29,7 +29,7 @@ use Rattle.blif_format.specs.declared.refusal.ReadRefusal.{ReadRefusal}
 use Rattle.blif_format.specs.declared.refusal.ReadRefusal.TheVariants.{Fault, Limit}
 use Rattle.blif_reader.specs.Limits.{is_short, IsWithinLimits}
 use Rattle.blif_reader.specs.Inner.Tally.{plays, is_latch, is_cover}
-use Rattle.blif_reader.specs.Inner.Drafts.{IsFitLatch}
+use Rattle.blif_reader.specs.Words.{IsFitLatch}
 use Rattle.blif_reader.proofs.Plays.{names_among, names_more, plays_or, plays_same, plays_source}
 use Rattle.blif_reader.proofs.NameLaws.{is_latch_input, is_control, all_uses, said_uses}
 use Rattle.blif_reader.proofs.FormLaws.{NamesAre, among_append, among_others, lines_in, names_are}

@@ -1,4 +1,9 @@
 pub mod Meant
+pub mod Lines
+pub mod Parts
+pub mod Rows
+pub mod Words
+pub mod Fit
 pub mod Limits
 pub mod Laws
 pub mod Inner

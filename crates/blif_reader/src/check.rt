@@ -7,13 +7,14 @@ ghost use Rattle.blif_lines.specs.Reading.{spot_of, IsWithin};
 ghost use Rattle.blif_format.specs.Text.{on_word};
 ghost use Rattle.blif_format.specs.Uses.{Use, parts_of, command_of as command_said};
 ghost use Rattle.blif_format.specs.FirstFault.{Said, part_fault, command_fault, ending_fault, character_fault, rest_fault, row_fault, or_else, extra_fault, last_word, nothing_said, dotted_fault, first_line_fault, row_fault_in, is_dotted, words_fault};
-ghost use Rattle.blif_reader.specs.Inner.Lines.{line_at, spots_at, dotted_line_fault};
+ghost use Rattle.blif_reader.specs.Lines.{line_at, spots_at, dotted_line_fault};
 ghost use Rattle.blif_reader.specs.Meant.{IsRefusal};
-ghost use Rattle.blif_reader.specs.Inner.Meant.{refusal_of};
+ghost use Rattle.blif_reader.specs.Meant.{refusal_of};
 ghost use Rattle.blif_reader.specs.Inner.Tally.{IsTally, TakesParts};
-ghost use Rattle.blif_reader.specs.Inner.Said.{said_ending, said_cover, IsSaid, Passes};
+ghost use Rattle.blif_reader.specs.Inner.Said.{IsSaid, Passes};
+ghost use Rattle.blif_reader.specs.Rows.{said_ending, said_cover};
 ghost use Rattle.blif_format.specs.FirstFault.{is_literal as literal_byte};
-ghost use Rattle.blif_reader.specs.Inner.Rows.{columns_on, inputs_fault, word_fault, cover_for, ends, with_last};
+ghost use Rattle.blif_reader.specs.Rows.{columns_on, inputs_fault, word_fault, cover_for, ends, with_last};
 ghost use Rattle.std.specs.Option.{option_map};
 
 use crate::names::{Names, check_length};
@@ -55,8 +56,8 @@ fn take_name<'a>(
     names.take(role, word, earlier, token.place)
 }
 
-// A word that is no name.
-fn check_word(text: &[u8], part: Part, token: &Token) -> Result<(), ReadRefusal>
+/// Refuses a word that is no name, by what it has to be.
+pub fn check_word(text: &[u8], part: Part, token: &Token) -> Result<(), ReadRefusal>
     requires { IsWithin text.now token.now }
     ensures { refusal_of result ≡ word_fault part (spot_of text.now token.now) }
 {

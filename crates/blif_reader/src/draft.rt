@@ -6,8 +6,9 @@ ghost use Rattle.rm_model.specs.Value.{is_among};
 ghost use Rattle.blif_lines.specs.Reading.{spot_of, IsWithin};
 ghost use Rattle.blif_format.specs.Text.{Line, control_word, timing_words, init_words, latch_words, cover_words, row_words};
 ghost use Rattle.blif_format.specs.FirstFault.{Said, nothing_said, words_fault, OpenCover as SaidCover, latch_types, init_values, is_literal as literal_bytes};
-ghost use Rattle.blif_reader.specs.Inner.Drafts.{IsDraft, HasLine, FitsCover, all_covers, model_in, Changes, IsKnown, RowsAre, CurrentIs, HasRow, AddsRow, IsFitLatch, last_token, inputs_in};
-ghost use Rattle.blif_reader.specs.Inner.Lines.{words_at, spots_at, line_at, IsLatchLine, are_literals, init_part, timing_part};
+ghost use Rattle.blif_reader.specs.Inner.Drafts.{IsDraft, HasLine, FitsCover, all_covers, model_in, Changes, IsKnown, RowsAre, CurrentIs, HasRow, AddsRow, last_token, inputs_in};
+ghost use Rattle.blif_reader.specs.Words.{IsFitLatch, control_from, init_from, kind_from, latch_from, literal_from, timing_from};
+ghost use Rattle.blif_reader.specs.Lines.{words_at, spots_at, line_at, IsLatchLine, are_literals, init_part, timing_part};
 
 use crate::words::{command_of, is_text, least_words, word_of};
 use blif_format::Command;
@@ -40,7 +41,8 @@ pub fn push_names(
 }
 
 fn kind_of(word: &[u8]) -> LatchKind
-    ensures { is_among latch_types word.now ≡ true → kind_word result ≡ word.now }
+    ensures read { result ≡ kind_from word.now }
+    ensures word { is_among latch_types word.now ≡ true → kind_word result ≡ word.now }
 {
     if is_text(word, "fe") {
         return LatchKind::Fe;
@@ -59,6 +61,7 @@ fn kind_of(word: &[u8]) -> LatchKind
 
 fn control_of(alloc: Global, text: &[u8], token: &Token) -> Result<Option<Name>, NoMemory>
     requires { IsWithin text.now token.now }
+    ensures read { IfOk result (λ name. name ≡ control_from (spot_of text.now token.now).word) }
     ensures word { IfOk result (λ name. control_word name ≡ (spot_of text.now token.now).word) }
     ensures name { IfOk result (λ name. IfSome name (λ x. x ≢ codes "NIL")) }
 {
@@ -72,6 +75,7 @@ fn control_of(alloc: Global, text: &[u8], token: &Token) -> Result<Option<Name>,
 fn timing_of(alloc: Global, text: &[u8], kind: &Token, control: &Token) -> Result<Timing, NoMemory>
     requires kind { IsWithin text.now kind.now }
     requires control { IsWithin text.now control.now }
+    ensures read { IfOk result (λ t. t ≡ timing_from (spot_of text.now kind.now).word (spot_of text.now control.now).word) }
     ensures words { is_among latch_types (spot_of text.now kind.now).word ≡ true → IfOk result (λ t. timing_words (Some t) ≡ (spot_of text.now kind.now).word ∷ (spot_of text.now control.now).word ∷ []) }
     ensures name { IfOk result (λ t. IfSome t.control (λ x. x ≢ codes "NIL")) }
 {
@@ -83,6 +87,7 @@ fn timing_of(alloc: Global, text: &[u8], kind: &Token, control: &Token) -> Resul
 }
 
 fn init_of(word: &[u8]) -> u8
+    ensures read { result ≡ init_from word.now }
     ensures least { result ≤ 3 }
     ensures words { is_among init_values word.now ≡ true → init_words (Some result) ≡ word.now ∷ [] }
 {
@@ -100,6 +105,7 @@ fn init_of(word: &[u8]) -> u8
 
 fn latch_init(text: &[u8], words: &[Token]) -> Option<u8>
     requires { All (IsWithin text.now) words.now }
+    ensures read { 2 ≤ length words.now → result ≡ (latch_from (words_at text.now words.now)).init }
     ensures least { IfSome result (λ n. n ≤ 3) }
     ensures words { IsLatchLine (words_at text.now words.now) → init_words result ≡ init_part (words_at text.now words.now) }
 {
@@ -114,6 +120,7 @@ fn latch_init(text: &[u8], words: &[Token]) -> Option<u8>
 
 fn latch_timing(alloc: Global, text: &[u8], words: &[Token]) -> Result<Option<Timing>, NoMemory>
     requires { All (IsWithin text.now) words.now }
+    ensures read { 2 ≤ length words.now → IfOk result (λ t. t ≡ (latch_from (words_at text.now words.now)).timing) }
     ensures name { IfOk result (λ t. IfSome t (λ u. IfSome u.control (λ x. x ≢ codes "NIL"))) }
     ensures words { IsLatchLine (words_at text.now words.now) → IfOk result (λ t. timing_words t ≡ timing_part (words_at text.now words.now)) }
 {
@@ -130,6 +137,7 @@ fn latch_timing(alloc: Global, text: &[u8], words: &[Token]) -> Result<Option<Ti
 pub fn latch_of(alloc: Global, text: &[u8], words: &[Token]) -> Result<Latch, NoMemory>
     requires within { All (IsWithin text.now) words.now }
     requires two { 2 ≤ length words.now }
+    ensures read { IfOk result (λ l. l ≡ latch_from (words_at text.now words.now)) }
     ensures fit { IfOk result IsFitLatch }
     ensures words { IsLatchLine (words_at text.now words.now) → IfOk result (λ l. latch_words l ≡ words_at text.now words.now) }
 {
@@ -167,7 +175,8 @@ pub fn cover_of(alloc: Global, text: &[u8], words: &[Token]) -> Result<Cover, No
 }
 
 fn literal_of(b: u8) -> Literal
-    ensures { literal_bytes b ≡ true → literal_byte result ≡ b }
+    ensures read { result ≡ literal_from b }
+    ensures byte { literal_bytes b ≡ true → literal_byte result ≡ b }
 {
     if b == 48 {
         return Literal::Zero;
@@ -180,7 +189,8 @@ fn literal_of(b: u8) -> Literal
 
 /// The literals of the input part of a row.
 pub fn row_of(alloc: Global, word: &[u8]) -> Result<Row, NoMemory>
-    ensures { are_literals word.now ≡ true → IfOk result (λ row. map literal_byte row ≡ word.now) }
+    ensures read { IfOk result (λ row. row ≡ map literal_from word.now) }
+    ensures bytes { are_literals word.now ≡ true → IfOk result (λ row. map literal_byte row ≡ word.now) }
 {
     let mut row = Vec::with_capacity(alloc, word.len())?;
     for b in word {

@@ -5,7 +5,7 @@ ghost use Rattle.blif_format.specs.Uses.{Use, is_source_role, is_observed_role};
 ghost use Rattle.blif_format.specs.FirstFault.{name_limit, use_fault, undriven_fault};
 ghost use Rattle.std.specs.Option.{option_map};
 ghost use Rattle.blif_reader.specs.Meant.{IsRefusal};
-ghost use Rattle.blif_reader.specs.Inner.Meant.{refusal_of};
+ghost use Rattle.blif_reader.specs.Meant.{refusal_of};
 ghost use Rattle.blif_reader.specs.Inner.Tally.{Tally, IsTally, TakesUse, flags_or_none, no_flags, has_source as some_source, has_driver as some_driver, is_driven_twice as driven_twice, is_listed_twice as listed_twice, with_role as flags_with, more_if, place_or, first_free, free_of, use_check, flags_check, inputs_check, counts_check};
 
 use crate::name_uses::NameUses;

@@ -3,9 +3,9 @@ ghost use Rattle.std.specs.Prelude.{◌≡◌, ◌≤◌, ◌^◌, ◌∷◌, []
 ghost use Rattle.blif_lines.specs.Reading.{spot_of, IsWithin};
 ghost use Rattle.blif_format.specs.Text.{on_word};
 ghost use Rattle.blif_format.specs.FirstFault.{ending_fault, character_fault, row_fault, or_else, extra_fault, last_word, is_literal as literal_byte};
-ghost use Rattle.blif_reader.specs.Inner.Meant.{refusal_of};
-ghost use Rattle.blif_reader.specs.Inner.Said.{said_ending, said_cover};
-ghost use Rattle.blif_reader.specs.Inner.Rows.{columns_on, inputs_fault, with_last};
+ghost use Rattle.blif_reader.specs.Meant.{refusal_of};
+ghost use Rattle.blif_reader.specs.Rows.{said_ending, said_cover};
+ghost use Rattle.blif_reader.specs.Rows.{columns_on, inputs_fault, with_last};
 
 use crate::refusals::fault;
 use crate::words::{is_text, word_of};
@@ -109,6 +109,7 @@ fn check_inputs(text: &[u8], inputs: usize, first: &Token) -> Result<(), ReadRef
     check_characters(word, first.place)
 }
 
+/// Whether a row of a cover ends in 1, or its first fault.
 pub fn check_row(
     text: &[u8],
     cover: OpenCover,
@@ -134,7 +135,7 @@ pub fn check_row(
     }
 }
 
-// The first row's ending counts.
+/// The cover with the ending of one more row; the first row's counts.
 pub fn with_ending(cover: OpenCover, is_on: bool) -> OpenCover
     ensures { said_cover result ≡ with_last (Some (on_word is_on)) (said_cover cover) }
 {

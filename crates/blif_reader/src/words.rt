@@ -6,12 +6,13 @@ ghost use Rattle.rm_model.specs.Words.{is_word};
 ghost use Rattle.rm_model.specs.Value.{is_among};
 ghost use Rattle.blif_format.specs.Uses.{command_of as command_said, least_words as words_wanted};
 ghost use Rattle.blif_format.specs.FirstFault.{latch_types, init_values};
-ghost use Rattle.blif_reader.specs.Inner.Parts.{latch_part_at, part_in};
+ghost use Rattle.blif_reader.specs.Parts.{latch_part_at, part_in};
 ghost use Rattle.blif_format.specs.Unsupported.{unsupported_words};
 
 use blif_format::{Command, Part, Role};
 use blif_lines::Token;
 
+/// The bytes of a token.
 pub fn word_of<'a>(text: &'a [u8], token: &Token) -> &'a [u8]
     requires { IsWithin text.now token.now }
     ensures { result.now ≡ take (token.now.end - token.now.start) (drop token.now.start text.now) }
@@ -19,12 +20,14 @@ pub fn word_of<'a>(text: &'a [u8], token: &Token) -> &'a [u8]
     &text[token.start..token.end]
 }
 
+/// Whether the word is this one.
 pub fn is_text(word: &[u8], text: &str) -> bool
     ensures { result ≡ is_word text.now word.now }
 {
     text.as_bytes() == word
 }
 
+/// The command that a word is.
 pub fn command_of(word: &[u8]) -> Option<Command>
     ensures { result ≡ command_said word.now }
 {
@@ -104,12 +107,14 @@ pub fn is_unsupported(word: &[u8]) -> bool
     )
 }
 
+/// Whether the word is the type of a latch.
 pub fn is_latch_type(word: &[u8]) -> bool
     ensures { result ≡ is_among latch_types word.now }
 {
     is_one_of(word, &["fe", "re", "ah", "al", "as"])
 }
 
+/// Whether the word is the init value of a latch.
 pub fn is_init(word: &[u8]) -> bool
     ensures { result ≡ is_among init_values word.now }
 {

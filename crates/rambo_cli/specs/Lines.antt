@@ -3,9 +3,9 @@ use Rattle.std.specs.Prelude.{ℕ, List, [], ◌∷◌, ◌++◌, codes}
 use Rattle.std.specs.Fmt.{decimal}
 use Rattle.rm_base.specs.declared.numbers.Place.{Place}
 use Rattle.blif_format.specs.declared.refusal.FaultKind.{FaultKind}
-use Rattle.blif_format.specs.declared.refusal.FaultKind.TheVariants.{BadByte, OpenJoin, NoModel, Unsupported, UnknownCommand, MissingWord, ExtraWord, RowOutsideCover, RowLength, RowCharacter, MixedCover, BadLatchWord, DoubleDriven, DoubleOutput, AfterEnd, Undriven, NoRank}
+use Rattle.blif_format.specs.declared.refusal.FaultKind.TheVariants.{BadByte, OpenJoin, NoModel, Unsupported, UnknownCommand, MissingWord, ExtraWord, RowOutsideCover, RowLength, RowCharacter, MixedCover, BadLatchWord, DoubleDriven, DoubleOutput, AfterEnd, Undriven, NoRank, BadPin, MissingPin, UnknownModel, DoubleModel, Recursive}
 use Rattle.blif_format.specs.declared.refusal.Quantity.{Quantity}
-use Rattle.blif_format.specs.declared.refusal.Quantity.TheVariants.{Text, Name, Inputs, Sources, Observed, Signals, Pins, Journal}
+use Rattle.blif_format.specs.declared.refusal.Quantity.TheVariants.{Text, Name, Inputs, Sources, Observed, Signals, Pins, Journal, Flat}
 use Rattle.rm_base.specs.Words.{Word}
 
 abbrev pub fault_word : FaultKind → Word
@@ -26,6 +26,11 @@ fault_word DoubleOutput = codes "DoubleOutput"
 fault_word AfterEnd = codes "AfterEnd"
 fault_word Undriven = codes "Undriven"
 fault_word NoRank = codes "NoRank"
+fault_word BadPin = codes "BadPin"
+fault_word MissingPin = codes "MissingPin"
+fault_word UnknownModel = codes "UnknownModel"
+fault_word DoubleModel = codes "DoubleModel"
+fault_word Recursive = codes "Recursive"
 
 abbrev pub quantity_word : Quantity → Word
 quantity_word Text = codes "text"
@@ -36,6 +41,7 @@ quantity_word Observed = codes "observed"
 quantity_word Signals = codes "signals"
 quantity_word Pins = codes "pins"
 quantity_word Journal = codes "journal"
+quantity_word Flat = codes "flat"
 
 -- `text LINE:COLUMN KIND`
 abbrev pub fault_line : FaultKind → Place → List ℕ

@@ -33,6 +33,11 @@ fn fault_word(kind: FaultKind) -> &'static str
         FaultKind::AfterEnd => "AfterEnd",
         FaultKind::Undriven => "Undriven",
         FaultKind::NoRank => "NoRank",
+        FaultKind::BadPin => "BadPin",
+        FaultKind::MissingPin => "MissingPin",
+        FaultKind::UnknownModel => "UnknownModel",
+        FaultKind::DoubleModel => "DoubleModel",
+        FaultKind::Recursive => "Recursive",
     }
 }
 
@@ -48,6 +53,7 @@ fn quantity_word(quantity: Quantity) -> &'static str
         Quantity::Signals => "signals",
         Quantity::Pins => "pins",
         Quantity::Journal => "journal",
+        Quantity::Flat => "flat",
     }
 }
 

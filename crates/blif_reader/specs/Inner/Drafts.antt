@@ -14,8 +14,9 @@ use Rattle.blif_format.specs.FirstFault.{Said, after_line, row_fault, OpenCover 
 use Rattle.blif_lines.specs.Layout.{Spot}
 use Rattle.blif_lines.specs.Reading.{spot_of}
 use Rattle.blif_lines.specs.declared.line.Token.{Token}
-use Rattle.blif_reader.specs.Inner.Lines.{words_at, spots_at, line_at, IsLatchLine}
-use Rattle.blif_reader.specs.Inner.Rows.{cover_for}
+use Rattle.blif_reader.specs.Lines.{words_at, spots_at, line_at, IsLatchLine}
+use Rattle.blif_reader.specs.Rows.{cover_for}
+use Rattle.blif_reader.specs.Words.{IsFitLatch}
 use Rattle.blif_reader.specs.declared.draft.Draft.{Draft}
 use Rattle.rm_base.specs.Words.{Word}
 
@@ -52,10 +53,6 @@ CurrentIs None None = Unit {0}
 CurrentIs None (Some c) = ⊥
 CurrentIs (Some o) None = ⊥
 CurrentIs (Some o) (Some c) = RowsAre o c
-
--- what a text can say of a latch: its init value, and a control that isn't `NIL`
-abbrev pub IsFitLatch : Latch → Type 0
-IsFitLatch l = IfSome l.init (λ n. n ≤ 3) × IfSome (control_of l) (λ x. x ≢ codes "NIL")
 
 pub record IsShaped (d : Draft) : Type 0 where
   pub covers : All IsWellFormedCover (all_covers d)

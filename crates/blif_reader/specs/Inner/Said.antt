@@ -1,20 +1,12 @@
 -- What a checker has of the lines so far.
 use Rattle.std.specs.Prelude.{◌≡◌, Bool, List, Option, None}
 use Rattle.std.specs.Option.{option_map}
-use Rattle.blif_format.specs.Text.{on_word}
 use Rattle.blif_lines.specs.Layout.{Spot}
-use Rattle.blif_format.specs.FirstFault.{Said, after_line, OpenCover as SaidCover}
+use Rattle.blif_format.specs.FirstFault.{Said, after_line}
 use Rattle.blif_format.specs.declared.refusal.ReadRefusal.{ReadRefusal}
 use Rattle.blif_reader.specs.Inner.Tally.{IsTally}
-use Rattle.blif_reader.specs.declared.rows.OpenCover.{OpenCover}
+use Rattle.blif_reader.specs.Rows.{said_cover}
 use Rattle.blif_reader.specs.declared.check.Checker.{Checker}
-use Rattle.rm_base.specs.Words.{Word}
-
-abbrev pub said_ending : Option Bool → Option Word
-said_ending ending = option_map on_word ending
-
-abbrev pub said_cover : OpenCover → SaidCover
-said_cover c = record { inputs = c.inputs; ending = said_ending c.ending }
 
 pub record IsSaid (said : Said) (c : Checker) : Type 0 where
   pub began : said.began ≡ c.began

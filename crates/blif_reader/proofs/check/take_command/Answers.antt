@@ -1,7 +1,7 @@
 use Rattle.std.proofs.Common.{◌∙◌, sym, ap, map, ℕ, refl, true, Bool, ◌||◌}
 use Rattle.std.proofs.lemmas.List.{length-map}
 use Rattle.blif_lines.specs.Reading.{spot_of}
-use Rattle.blif_reader.specs.Inner.Rows.{cover_for}
+use Rattle.blif_reader.specs.Rows.{cover_for}
 use Rattle.blif_reader.proofs.LineLaws.{said_command_line}
 use Rattle.blif_reader.proofs.check.take_command.Goals as goal
 

@@ -1,7 +1,7 @@
 use Rattle.std.proofs.Common.{subst}
 use Rattle.blif_format.specs.declared.words.Command.{Command}
 use Rattle.blif_reader.specs.Inner.Drafts.{IsKnown}
-use Rattle.blif_reader.specs.Inner.Lines.{words_at}
+use Rattle.blif_reader.specs.Lines.{words_at}
 use Rattle.blif_reader.proofs.ShapeLaws.{adds_cover, adds_latch}
 use Rattle.blif_reader.proofs.draft.add_known.Goals as goal
 

@@ -1,6 +1,6 @@
 use Rattle.std.proofs.Common.{◌≡◌, ◌∙◌, ap, get_or, List, ◌++◌, ◌∷◌}
 use Rattle.blif_format.specs.Text.{init_words, timing_words}
-use Rattle.blif_reader.specs.Inner.Lines.{words_at, timing_part}
+use Rattle.blif_reader.specs.Lines.{words_at, timing_part}
 use Rattle.blif_reader.proofs.LatchLaws.{word_at, whole_latch}
 use Rattle.blif_reader.proofs.draft.latch_of.Goals as goal
 use Rattle.rm_base.specs.Words.{Word}

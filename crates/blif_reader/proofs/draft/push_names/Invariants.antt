@@ -1,5 +1,5 @@
 use Rattle.std.proofs.Common.{◌≡◌, ◌++◌, take}
-use Rattle.blif_reader.specs.Inner.Lines.{words_at}
+use Rattle.blif_reader.specs.Lines.{words_at}
 use Rattle.blif_reader.proofs.draft.push_names.Given as goal
 
 abbrev pub invariant-loop-token : goal.invariant-loop-token

@@ -1,6 +1,6 @@
 use Rattle.std.proofs.Common.{◌≡◌, drop}
 use Rattle.blif_format.specs.FirstFault.{character_fault}
-use Rattle.blif_reader.specs.Inner.Rows.{columns_on}
+use Rattle.blif_reader.specs.Rows.{columns_on}
 use Rattle.blif_reader.proofs.rows.check_characters.Given as goal
 
 abbrev pub invariant-loop-i : goal.invariant-loop-i

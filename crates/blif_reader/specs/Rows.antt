@@ -7,10 +7,13 @@ use Rattle.blif_format.specs.declared.words.Command.{Command}
 use Rattle.blif_format.specs.declared.words.Command.TheVariants.{Names, End}
 use Rattle.blif_format.specs.declared.words.Part.{Part}
 use Rattle.blif_format.specs.declared.words.Part.TheVariants.{Title, Name, LatchType, Init, Extra}
-use Rattle.blif_format.specs.FirstFault.{OpenCover, or_else, fault, fault_if, name_limit, latch_types, init_values, character_fault}
+use Rattle.blif_format.specs.FirstFault.{OpenCover as SaidCover, or_else, fault, fault_if, name_limit, latch_types, init_values, character_fault}
 use Rattle.blif_format.specs.declared.refusal.FaultKind.TheVariants.{RowLength, BadLatchWord, ExtraWord}
 use Rattle.blif_format.specs.declared.refusal.ReadRefusal.{ReadRefusal}
 use Rattle.rm_base.specs.Words.{Word}
+use Rattle.std.specs.Option.{option_map}
+use Rattle.blif_format.specs.Text.{on_word}
+use Rattle.blif_reader.specs.declared.rows.OpenCover.{OpenCover}
 
 abbrev pub columns_on : Place → ℕ → Place
 columns_on place i = record place { column = place.column + i }
@@ -28,7 +31,7 @@ word_fault Extra s = fault ExtraWord s.place
 word_fault (Name role) s = None
 
 -- what a command makes of the cover to which rows may belong
-abbrev pub cover_for : Command → ℕ → Option OpenCover
+abbrev pub cover_for : Command → ℕ → Option SaidCover
 cover_for Names count = Some (record { inputs = count - 1; ending = None })
 cover_for command count = None
 
@@ -37,5 +40,12 @@ ends End = true
 ends command = false
 
 -- the first ending counts
-abbrev pub with_last : Option Word → OpenCover → OpenCover
+abbrev pub with_last : Option Word → SaidCover → SaidCover
 with_last last cover = elim cover.ending [ None ↦ record cover { ending = last } | Some ending ↦ cover ]
+
+-- a cover to which rows may belong, as the definitions have it
+abbrev pub said_ending : Option Bool → Option Word
+said_ending ending = option_map on_word ending
+
+abbrev pub said_cover : OpenCover → SaidCover
+said_cover c = record { inputs = c.inputs; ending = said_ending c.ending }

@@ -1,0 +1,18 @@
+mod Alls
+mod Cuts
+mod Layouts
+mod Refusals
+mod Words
+mod Formals
+mod Totals
+mod Joined
+mod Levels
+mod Falling
+mod Lines
+mod TwiceDriven
+mod Leads
+mod Walks
+mod Same
+mod NoRecursion
+pub mod Valuations
+pub mod Names

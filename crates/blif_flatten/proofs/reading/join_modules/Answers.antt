@@ -1,0 +1,14 @@
+use Rattle.std.proofs.Common.{◌≡◌, subst, arith, List, Some, None}
+use Rattle.std.specs.Prelude.{slice_get}
+use Rattle.blif_flatten.specs.declared.modules.Module.{Module}
+use Rattle.blif_flatten.specs.FirstFault.{size_fault, tree_of}
+use Rattle.blif_flatten.proofs.Joined.{flat-few, joined-few}
+use Rattle.blif_flatten.proofs.reading.join_modules.Goals as goal
+
+pub flatten_modules-requires-clause-few : goal.flatten_modules-requires-clause-few
+flatten_modules-requires-clause-few c =
+    let few = joined-few c.args.linked.modules.items c.as_slice-3.result.now c.as_slice-3.ensures.value c.requires.some c.requires.positive (subst (λ (ms : List Module). (top : Module) → slice_get ms 0 ≡ Some top → size_fault top (tree_of ms top) ≡ None) c.as_slice.ensures.value c.in-Ok.ensures.ok) in
+    omega (arith, few)
+
+pub returns-in-Ok-flatten_modules-clause-few : goal.returns-in-Ok-flatten_modules-clause-few
+returns-in-Ok-flatten_modules-clause-few c = flat-few c.args.linked.modules.items c.as_slice-3.result.now _ c.in-Ok-flatten_modules.flat c.as_slice-3.ensures.value c.requires.some c.requires.positive (subst (λ (ms : List Module). (top : Module) → slice_get ms 0 ≡ Some top → size_fault top (tree_of ms top) ≡ None) c.as_slice.ensures.value c.in-Ok.ensures.ok) c.in-Ok-flatten_modules.ensures

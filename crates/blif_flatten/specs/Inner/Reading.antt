@@ -1,0 +1,25 @@
+-- What is found of a text before its flat model is made.
+use Rattle.std.specs.Prelude.{◌≡◌, ◌≤◌, ℕ, List, slice_get, Option, Some}
+use Rattle.blif_format.specs.declared.refusal.ReadRefusal.{ReadRefusal}
+use Rattle.blif_format.specs.FirstFault.{or_else}
+use Rattle.blif_flatten.specs.declared.modules.Module.{Module}
+use Rattle.blif_flatten.specs.declared.reading.Linked.{Linked}
+use Rattle.blif_flatten.specs.Sections.{Section}
+use Rattle.blif_flatten.specs.CallFaults.{calls_fault, drivers_fault, users_fault}
+use Rattle.blif_flatten.specs.Recursion.{recursion_fault}
+use Rattle.blif_flatten.specs.Instances.{modules_of}
+use Rattle.blif_flatten.specs.Laws.{AreRankedBy}
+use Rattle.blif_flatten.specs.FirstFault.{lead_in}
+
+-- calls, recursion, drivers, users
+abbrev pub names_fault : List Section → Option ReadRefusal
+names_fault sections =
+    or_else (calls_fault sections)
+    (or_else (recursion_fault (modules_of sections))
+    (or_else (drivers_fault sections) (users_fault sections)))
+
+pub record IsLinked (sections : List Section) (l : Linked) : Type 0 where
+  pub modules_are : l.modules.items ≡ modules_of sections
+  pub lead_is : l.lead.items ≡ lead_in sections
+  pub ranked : (rank : ℕ → ℕ) × AreRankedBy (modules_of sections) rank
+  pub positive : (k : ℕ) (m : Module) → slice_get (modules_of sections) k ≡ Some m → 1 ≤ m.tokens

@@ -1,0 +1,14 @@
+pub mod Sections
+pub mod Calls
+pub mod LineFaults
+pub mod CallFaults
+pub mod Recursion
+pub mod Instances
+pub mod Flat
+pub mod Flattened
+pub mod FirstFault
+pub mod Hierarchy
+pub mod Laws
+pub mod Meant
+pub mod Rows
+pub mod Inner

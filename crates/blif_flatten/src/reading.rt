@@ -1,0 +1,288 @@
+// The flat model of a text.
+ghost use Rattle.std.specs.Prelude.{◌≡◌, ◌≢◌, ◌<◌, ◌≤◌, ◌^◌, [], is_none, length, position, slice_get, true, List, Option, ℕ, IfOk, IfErr, OnOk, None, Some};
+ghost use Rattle.rm_model.specs.RankFaults.{IsRefused};
+ghost use Rattle.rm_model.specs.Value.{IsRanked};
+ghost use Rattle.rm_model.specs.Ranks.{ranks_of};
+ghost use Rattle.rm_model.specs.WellFormed.{IsWellFormed};
+ghost use Rattle.blif_lines.specs.Layout.{layout};
+ghost use Rattle.blif_format.specs.FirstFault.{first_unranked, or_else};
+ghost use Rattle.blif_reader.specs.Meant.{IsRefusal};
+ghost use Rattle.blif_flatten.specs.declared.modules.Module.{Module as ModuleValue};
+ghost use Rattle.blif_flatten.specs.CallFaults.{plain_modules};
+ghost use Rattle.blif_flatten.specs.FirstFault.{first_fault, size_fault, tree_of};
+ghost use Rattle.blif_flatten.specs.Flattened.{IsFlatOf};
+ghost use Rattle.blif_flatten.specs.Laws.{AreRankedBy};
+ghost use Rattle.blif_flatten.specs.LineFaults.{empty_fault, head_fault, lines_fault};
+ghost use Rattle.blif_flatten.specs.Meant.{IsFlatModel};
+ghost use Rattle.blif_flatten.specs.Sections.{layout_fault, sections_of, sound_lines};
+ghost use Rattle.blif_flatten.specs.Inner.Interfaces.{IsCallable};
+ghost use Rattle.blif_flatten.specs.Inner.Reading.{IsLinked, names_fault};
+ghost use Rattle.blif_flatten.specs.Inner.Tokens.{AreWithin, sections_at};
+
+use crate::calls::{Callable, check_calls};
+use crate::drivers::{check_drivers, check_users};
+use crate::flattening::{Flattened, flatten_modules};
+use crate::interfaces::interfaces_of;
+use crate::lead::lead_of;
+use crate::line_faults::check_sections;
+use crate::links::modules_of;
+use crate::modules::Module;
+use crate::ranks::rank_modules;
+use crate::sections::{Section, Sections, read_sections};
+use crate::size::count_tokens;
+use blif_format::{FaultKind, Quantity, ReadRefusal};
+use rm_base::Place;
+use rm_model::{Model, RankFault, is_well_formed, rank, ranks_exist};
+use std::alloc::Global;
+
+/// A flat model and the number of its instances, with the top.
+#[derive(Drop)]
+pub struct Flat {
+    pub model: Model,
+    pub instances: u32,
+}
+
+/// Why a text has no flat model: its first fault or limit, or want of memory.
+pub type FlatRefusal = ReadRefusal;
+
+// The models that calls may name, where no line has a fault.
+fn callable_of<'a>(
+    alloc: Global,
+    text: &'a [u8],
+    read: &Sections,
+) -> Result<Callable<'a>, ReadRefusal>
+    requires within { AreWithin text.now read.now.sections.items }
+    requires small { length text.now ≤ 2 ^ 24 }
+    requires sections { sections_at text.now read.now.sections.items ≡ sections_of text.now }
+    requires head { head_fault (sound_lines (layout text.now)) ≡ None }
+    requires last { read.now.last ≡ or_else (layout_fault (layout text.now)) (empty_fault (sound_lines (layout text.now))) }
+    ensures ok { OnOk result (lines_fault (layout text.now) (sections_of text.now) ≡ None) }
+    ensures callable { IfOk result (λ c. IsCallable c (plain_modules (sections_of text.now))) }
+    ensures err { IfErr result (λ e. IsRefusal e (lines_fault (layout text.now) (sections_of text.now))) }
+{
+    let names = match check_sections(alloc, text, read.sections.as_slice()) {
+        Ok(names) => names,
+        Err(refusal) => return Err(refusal),
+    };
+    if let Some(refusal) = read.last {
+        return Err(refusal);
+    }
+    match interfaces_of(alloc, text, read.sections.as_slice()) {
+        Ok(interfaces) => Ok(Callable { names, interfaces }),
+        Err(_) => Err(ReadRefusal::NoMemory),
+    }
+}
+
+/// The modules of a text, and what is found of them.
+#[derive(Drop)]
+pub struct Linked {
+    pub modules: Vec<Module>,
+    /// Numbers that fall along calls.
+    pub numbers: Vec<usize>,
+    /// What the names of instances begin with.
+    pub lead: Vec<u8>,
+}
+
+// The modules of sections without a fault of lines.
+fn link_sections<'a>(
+    alloc: Global,
+    text: &'a [u8],
+    callable: &Callable<'a>,
+    sections: &[Section],
+) -> Result<Linked, ReadRefusal>
+    requires within { AreWithin text.now sections.now }
+    requires known { IsCallable callable.now (plain_modules (sections_at text.now sections.now)) }
+    requires some { sections.now ≢ [] }
+    ensures ok { OnOk result (names_fault (sections_at text.now sections.now) ≡ None) }
+    ensures linked { IfOk result (IsLinked (sections_at text.now sections.now)) }
+    ensures err { IfErr result (λ e. IsRefusal e (names_fault (sections_at text.now sections.now))) }
+{
+    match check_calls(alloc, text, callable, sections) {
+        Ok(()) => {}
+        Err(refusal) => return Err(refusal),
+    }
+    let modules = match modules_of(alloc, text, callable, sections) {
+        Ok(modules) => modules,
+        Err(_) => return Err(ReadRefusal::NoMemory),
+    };
+    let numbers = match rank_modules(alloc, modules.as_slice()) {
+        Ok(numbers) => numbers,
+        Err(refusal) => return Err(refusal),
+    };
+    match check_drivers(alloc, text, callable, sections) {
+        Ok(()) => {}
+        Err(refusal) => return Err(refusal),
+    }
+    match check_users(alloc, text, callable, sections) {
+        Ok(()) => {}
+        Err(refusal) => return Err(refusal),
+    }
+    match lead_of(alloc, text, callable, &sections[0]) {
+        Ok(lead) => Ok(Linked {
+            modules,
+            numbers,
+            lead,
+        }),
+        Err(_) => Err(ReadRefusal::NoMemory),
+    }
+}
+
+// The modules of a text, or its first fault before they are joined.
+fn read_modules(alloc: Global, text: &[u8]) -> Result<Linked, ReadRefusal>
+    requires { length text.now ≤ 16777216 }
+    ensures lines { OnOk result (lines_fault (layout text.now) (sections_of text.now) ≡ None) }
+    ensures names { OnOk result (names_fault (sections_of text.now) ≡ None) }
+    ensures linked { IfOk result (IsLinked (sections_of text.now)) }
+    ensures some { OnOk result (sections_of text.now ≢ []) }
+    ensures err { IfErr result (λ e. IsRefusal e (or_else (lines_fault (layout text.now) (sections_of text.now)) (names_fault (sections_of text.now)))) }
+{
+    let read = match read_sections(alloc, text) {
+        Ok(read) => read,
+        Err(refusal) => return Err(refusal),
+    };
+    let callable = match callable_of(alloc, text, &read) {
+        Ok(callable) => callable,
+        Err(refusal) => return Err(refusal),
+    };
+    link_sections(alloc, text, &callable, read.sections.as_slice())
+}
+
+// Refuses more tokens than there may be.
+fn check_size(alloc: Global, modules: &[Module], numbers: &[usize]) -> Result<(), ReadRefusal>
+    requires ranked { (rank : ℕ → ℕ) × AreRankedBy modules.now rank }
+    requires some { 0 < length modules.now }
+    ensures ok { (top : ModuleValue) → slice_get modules.now 0 ≡ Some top → OnOk result (size_fault top (tree_of modules.now top) ≡ None) }
+    ensures err { (top : ModuleValue) → slice_get modules.now 0 ≡ Some top → IfErr result (λ e. IsRefusal e (size_fault top (tree_of modules.now top))) }
+{
+    let Ok(Some(count)) = count_tokens(alloc, modules, numbers) else {
+        return Err(ReadRefusal::NoMemory);
+    };
+    if count > 4_194_304 {
+        return Err(ReadRefusal::Limit {
+            quantity: Quantity::Flat,
+            count,
+            place: modules[0].place,
+        });
+    }
+    Ok(())
+}
+
+// The refusal of a model without ranks, by the places of its covers.
+fn rank_refusal(refused: RankFault, places: &[Place]) -> ReadRefusal
+    ensures { (ranks : List (Option ℕ)) → IsRefused (position is_none ranks) refused → IsRefusal result (first_unranked places.now ranks) }
+{
+    let RankFault::NoRank { cover } = refused else {
+        return ReadRefusal::NoMemory;
+    };
+    if cover as usize >= places.len() {
+        return ReadRefusal::NoMemory;
+    }
+    ReadRefusal::Fault {
+        kind: FaultKind::NoRank,
+        place: places[cover as usize],
+    }
+}
+
+// Refuses a model with a cover without rank.
+fn check_ranks(alloc: Global, model: &Model, places: &[Place]) -> Result<(), ReadRefusal>
+    requires { IsWellFormed model.now }
+    ensures ranked { OnOk result (IsRanked model.now) }
+    ensures ok { OnOk result (first_unranked places.now (ranks_of model.now) ≡ None) }
+    ensures err { IfErr result (λ e. IsRefusal e (first_unranked places.now (ranks_of model.now))) }
+{
+    ranks_exist();
+    if model.covers.len() > 4_294_967_295 {
+        return Err(ReadRefusal::NoMemory);
+    }
+    let ranks = match rank(alloc, model) {
+        Ok(ranks) => ranks,
+        Err(refused) => return Err(rank_refusal(refused, places)),
+    };
+    drop(ranks);
+    Ok(())
+}
+
+// Whether a model is well formed, and want of memory where that can't be told.
+fn is_formed(alloc: Global, model: &Model) -> bool
+    ensures { result ≡ true → IsWellFormed model.now }
+{
+    match is_well_formed(alloc, model) {
+        Ok(formed) => formed,
+        Err(_) => false,
+    }
+}
+
+// The flat model of linked modules.
+fn join_modules(alloc: Global, linked: Linked) -> Result<Flattened, ReadRefusal>
+    requires ranked { (rank : ℕ → ℕ) × AreRankedBy linked.modules.items rank }
+    requires positive { (k : ℕ) (m : ModuleValue) → slice_get linked.modules.items k ≡ Some m → 1 ≤ m.tokens }
+    requires some { 0 < length linked.modules.items }
+    ensures size { (top : ModuleValue) → slice_get linked.modules.items 0 ≡ Some top → OnOk result (size_fault top (tree_of linked.modules.items top) ≡ None) }
+    ensures flat { (top : ModuleValue) → slice_get linked.modules.items 0 ≡ Some top → IfOk result (IsFlatOf linked.lead.items linked.modules.items top) }
+    ensures few { IfOk result (λ f. f.instances < 2 ^ 32) }
+    ensures err { (top : ModuleValue) → slice_get linked.modules.items 0 ≡ Some top → IfErr result (λ e. IsRefusal e (size_fault top (tree_of linked.modules.items top))) }
+{
+    let Linked {
+        modules,
+        numbers,
+        lead,
+    } = linked;
+    match check_size(alloc, modules.as_slice(), numbers.as_slice()) {
+        Ok(()) => {}
+        Err(refusal) => return Err(refusal),
+    }
+    drop(numbers);
+    match flatten_modules(alloc, modules.as_slice(), lead.as_slice()) {
+        Ok(flat) => Ok(flat),
+        Err(_) => Err(ReadRefusal::NoMemory),
+    }
+}
+
+// The model, which is looked at once more: whether it is well formed, and ranked.
+fn check_flat(alloc: Global, flat: Flattened) -> Result<Flat, ReadRefusal>
+    requires few { flat.instances < 2 ^ 32 }
+    ensures model { IfOk result (λ f. f.model ≡ flat.model) }
+    ensures count { IfOk result (λ f. f.instances ≡ flat.instances) }
+    ensures formed { OnOk result (IsWellFormed flat.model) }
+    ensures ranked { OnOk result (IsRanked flat.model) }
+    ensures ok { OnOk result (first_unranked flat.places (ranks_of flat.model) ≡ None) }
+    ensures err { IfErr result (λ e. IsRefusal e (first_unranked flat.places (ranks_of flat.model))) }
+{
+    if !is_formed(alloc, &flat.model) {
+        return Err(ReadRefusal::NoMemory);
+    }
+    match check_ranks(alloc, &flat.model, flat.places.items()) {
+        Ok(()) => {}
+        Err(refusal) => return Err(refusal),
+    }
+    let Flattened {
+        model,
+        places: _,
+        instances,
+    } = flat;
+    Ok(Flat {
+        model,
+        instances: instances as u32,
+    })
+}
+
+/// The flat model of a text with several models that call each other, or the text's first fault. It takes time n log n
+/// in the tokens of all instances, and no stack that grows with the text.
+pub fn flatten(alloc: Global, text: &[u8]) -> Result<Flat, FlatRefusal>
+    requires { length text.now ≤ 16777216 }
+    ensures flat { IfOk result (λ f. IsFlatModel text.now f.model f.instances) }
+    ensures fault { IfErr result (λ e. IsRefusal e (first_fault text.now)) }
+{
+    let linked = match read_modules(alloc, text) {
+        Ok(linked) => linked,
+        Err(refusal) => return Err(refusal),
+    };
+    let flat = match join_modules(alloc, linked) {
+        Ok(flat) => flat,
+        Err(refusal) => return Err(refusal),
+    };
+    match check_flat(alloc, flat) {
+        Ok(found) => Ok(found),
+        Err(refusal) => Err(refusal),
+    }
+}
