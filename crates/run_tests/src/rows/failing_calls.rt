@@ -172,7 +172,7 @@ const PUTS: [Put; 6] = [
         after: [ONE_GATE, "-", "-"],
     },
     Put {
-        line: "opt in out",
+        line: "opt in",
         before: [ONE_GATE, "old", "old"],
         put: "words r",
         after: [ONE_GATE, "old", "old"],
