@@ -47,7 +47,13 @@ fn optimised_at(alloc: Global, graph: Graph, depth: u8, tries: u32) -> Result<En
     };
     let mut start = None;
     let Ok((graph, outcome, made)) = optimise(
-        alloc, graph, &settings, &mut shelf, "journal", &[], &mut start,
+        alloc,
+        graph,
+        &settings,
+        &mut shelf,
+        "journal",
+        &[],
+        &mut start,
     ) else {
         return Err("stopped".into());
     };

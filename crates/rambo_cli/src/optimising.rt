@@ -65,20 +65,10 @@ fn whole_run<R: Threads + Sync, G: Gate, S: Shelf>(
     ensures later { S.faults shelf.old ≤ S.faults shelf.new }
 {
     match journal {
-        Some(journal) => Ok(optimised_model(
-            rt, alloc, model, settings, gate, shelf, journal,
-        )?),
+        Some(journal) => Ok(optimised_model(rt, alloc, model, settings, gate, shelf, journal)?),
         None => {
             let mut memory = SureShelf::new(alloc);
-            Ok(optimised_model(
-                rt,
-                alloc,
-                model,
-                settings,
-                gate,
-                &mut memory,
-                "journal",
-            )?)
+            Ok(optimised_model(rt, alloc, model, settings, gate, &mut memory, "journal")?)
         }
     }
 }

@@ -73,20 +73,44 @@ fn calls_of_opt(rt: HostRuntime) -> Result<(), Fail> {
 }
 
 // The calls without a journal: a read, the output created, its text.
-const CALLS_WITHOUT_JOURNAL: [(u64, Option<usize>); 3] =
-    [(1u64, None), (2, None), (3, Some(28usize))];
+const CALLS_WITHOUT_JOURNAL: [(u64, Option<usize>); 3] = [
+    (1u64, None),
+    (2, None),
+    (3, Some(28usize)),
+];
 
 #[test]
 fn calls_of_opt_without_a_journal(rt: HostRuntime) -> Result<(), Fail> {
     for (call, output) in CALLS_WITHOUT_JOURNAL {
         let mut shelf = shelf(rt.alloc(), [ONE_GATE, "old", "old"], &[call])?;
-        assert!(rt; ends(&rt, rt.alloc(), "opt in out", &mut shelf, 3, "fault shelf\n")?);
+        assert!(rt;
+            ends(
+                &rt,
+                rt.alloc(),
+                "opt in out",
+                &mut shelf,
+                3,
+                "fault shelf\n"
+            )?
+        );
         assert!(rt; begins(&shelf, "out", ONE_GATE, output), "call {call}");
         assert!(rt; shelf.file("in") == Some(ONE_GATE.as_bytes()));
-        assert!(rt; shelf.file("journal") == Some(b"old".as_slice()), "call {call}");
+        assert!(rt;
+            shelf.file("journal") == Some(b"old".as_slice()),
+            "call {call}"
+        );
     }
     let mut shelf = shelf(rt.alloc(), [ONE_GATE, "old", "old"], &[4])?;
-    assert!(rt; ends(&rt, rt.alloc(), "opt in out", &mut shelf, 0, ONE_GATE_SUMMARY)?);
+    assert!(rt;
+        ends(
+            &rt,
+            rt.alloc(),
+            "opt in out",
+            &mut shelf,
+            0,
+            ONE_GATE_SUMMARY
+        )?
+    );
     assert!(rt; hold(&shelf, [ONE_GATE, ONE_GATE, "old"]));
     Ok(())
 }
