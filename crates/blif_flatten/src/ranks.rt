@@ -25,14 +25,14 @@ fn are_lower(numbers: &[usize], links: &[Link], number: usize) -> bool
 }
 
 // Whether the numbers fall along the calls of a module.
-fn falls(numbers: &[usize], count: usize, place: usize, module: &Module) -> bool
-    ensures { result ≡ true → Falls numbers.now count place module.now }
+fn falls(numbers: &[usize], count: usize, place: usize, this: &Module) -> bool
+    ensures { result ≡ true → Falls numbers.now count place this.now }
 {
     if place >= numbers.len() {
         return false;
     }
     let number = numbers[place];
-    number > 0 && number <= count && are_lower(numbers, module.links.items(), number)
+    number > 0 && number <= count && are_lower(numbers, this.links.items(), number)
 }
 
 // Whether the numbers fall along all calls.
