@@ -8,6 +8,8 @@ mod covers;
 #[cfg(test)]
 mod devices;
 #[cfg(test)]
+mod hierarchies;
+#[cfg(test)]
 mod lines;
 #[cfg(test)]
 mod models;
