@@ -22,7 +22,7 @@ const REFUSALS: [(&str, &str, bool); 18] = [
     ),
     (
         "--version",
-        "rambo, not released yet; proved with rattle-kit-13b logic dac8208d650f15bf\n",
+        "rambo 1.0.0; proved with rattle-kit-13f logic dac8208d650f15bf\n",
         false,
     ),
     (
