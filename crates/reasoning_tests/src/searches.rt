@@ -13,7 +13,7 @@ use rm_base::NodeId;
 use std::alloc::Global;
 use std::test::Fail;
 use test_nets::worked::{ABSORBED, FOUR_GATES, ONE_GATE, ONE_GATE_TWICE};
-use test_nets::{build_net, fault_at};
+use test_nets::{Gate, Wiring, build_net, fault_at};
 
 #[derive(Clone, Copy)]
 enum Answer {
@@ -121,6 +121,26 @@ const ON_FOUR_GATES: [Case; 20] = [
     hit!(8 0 true 2 [false false false true]),
 ];
 
+// (not a) b, and (not a) + c.
+const NOT_AT_FIRST: Wiring<'static> = Wiring {
+    sources: 3,
+    gates: &[Gate::Not(2), Gate::And(&[5, 3]), Gate::Or(&[5, 4])],
+    observed: &[6, 7],
+};
+
+// Where a search turns first: the values of its vectors and the edges that it takes, worked by hand.
+const ON_NOT_AT_FIRST: [Case; 6] = [
+    // A goal is turned where it goes back through a Not.
+    tree!(Spent 6 0 false 1 [zero 2, here, untried]),
+    tree!(Spent 6 0 true 1 [one 2, here, untried]),
+    // The other pin of an And is set to 1, and that of an Or to 0.
+    hit!(6 0 false 2 [false true false]),
+    hit!(7 0 false 2 [false false false]),
+    // A difference that has come to both gates goes on through the lesser one.
+    hit!(5 0 false 2 [true true false]),
+    hit!(5 0 true 2 [false true false]),
+];
+
 fn agrees(verdict: &Verdict, answer: Answer) -> bool {
     match (verdict, answer) {
         (Verdict::Detected(vector), Answer::Detected(bits)) => vector.values() == bits,
@@ -185,5 +205,12 @@ fn searches_on_two_gates(rt: HostRuntime) -> Result<(), Fail> {
 fn searches_on_four_gates(rt: HostRuntime) -> Result<(), Fail> {
     let graph = build_net(rt.alloc(), &FOUR_GATES)?;
     assert!(rt; holds(rt.alloc(), &graph, &ON_FOUR_GATES)?);
+    Ok(())
+}
+
+#[test]
+fn a_search_turns_where_it_should_at_first(rt: HostRuntime) -> Result<(), Fail> {
+    let graph = build_net(rt.alloc(), &NOT_AT_FIRST)?;
+    assert!(rt; holds(rt.alloc(), &graph, &ON_NOT_AT_FIRST)?);
     Ok(())
 }

@@ -1,5 +1,5 @@
 -- What the search of one branch comes to.
-use Rattle.std.specs.Prelude.{Bool, List, [], true, ℕ, ◌*◌, ◌++◌, ◌+◌, ◌-◌, ◌<◌, ◌∷◌, ◌≡◌}
+use Rattle.std.specs.Prelude.{Bool, List, [], true, ℕ, ◌*◌, ◌++◌, ◌+◌, ◌<◌, ◌∷◌, ◌≡◌}
 use Rattle.gate_net.specs.Forward.{is_known}
 use Rattle.gate_net.specs.Net.{IsKind, Net}
 use Rattle.gate_net.specs.declared.Kind.TheVariants.{Source}
@@ -9,14 +9,13 @@ use Rattle.podem.specs.declared.branching.End.TheVariants.{Closed, Detected, Spe
 use Rattle.podem.specs.declared.verdict.Verdict.{Verdict}
 use Rattle.podem.specs.declared.verdict.Verdict.TheVariants as verdict
 use Rattle.refutation.specs.Branches.{Branch, IsClosedOnSources, IsPartial, items_of, splits, untrieds}
-use Rattle.refutation.specs.Facts.{Held, with_fact}
+use Rattle.refutation.specs.Facts.{Held}
 use Rattle.refutation.specs.OpenSearch.{IsOpenSearch}
 use Rattle.refutation.specs.declared.items.Item.{Item}
 use Rattle.refutation.specs.declared.items.Item.TheVariants.{Here, Quiet}
 use Rattle.refutation.specs.declared.reasoning.Fact.TheVariants.{Good}
 use Rattle.rm_base.specs.declared.numbers.Fault.{Fault}
 use Rattle.ternary_sim.specs.Marks.{good_at}
-use Rattle.ternary_sim.specs.Tracking.{TrackerState}
 use Rattle.ternary_sim.specs.declared.marks.NodeMarks.{NodeMarks}
 
 -- the good facts held on the sources are what the marks say of them
@@ -44,17 +43,6 @@ abbrev pub EndsBranch : Net → Fault → List NodeMarks → List Item → List 
 EndsBranch net fault marks old new before left (Detected bits) = IsTest net fault bits
 EndsBranch net fault marks old new before left Closed = (held : Held) → Tells net marks held → ClosesBranch net fault held old new before left
 EndsBranch net fault marks old new before left Spent = (held : Held) → Tells net marks held → SpendsBranch net fault held old new before
-
--- the same where the source x is given the value before, which is an edge
-abbrev pub EntersBranch : Net → Fault → List NodeMarks → ℕ → Bool → List Item → List Item → ℕ → ℕ → End → Type 0
-EntersBranch net fault marks x value old new before left (Detected bits) = IsTest net fault bits
-EntersBranch net fault marks x value old new before left Closed = (held : Held) → Tells net marks held → ClosesBranch net fault (with_fact held x (Good value)) old new (before - 1) left
-EntersBranch net fault marks x value old new before left Spent = (held : Held) → Tells net marks held → SpendsBranch net fault (with_fact held x (Good value)) old new (before - 1)
-
--- after a closed branch the tracker has the marks that it had, and those before
-abbrev pub Returns : TrackerState → TrackerState → End → Type 0
-Returns old new Closed = (new.now ≡ old.now) × (new.before ≡ old.before)
-Returns old new _ = Unit {0}
 
 -- after a closed branch there is an edge left for a second branch that waits
 abbrev pub LeavesSome : Bool → ℕ → End → Type 0
