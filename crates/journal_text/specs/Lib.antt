@@ -10,5 +10,6 @@ pub mod Cutting
 pub mod Accepted
 pub mod Laws
 pub mod Runs
+pub mod Ranges
 pub mod Joining
 pub mod Inner
