@@ -13,7 +13,6 @@ pub mod CutLaws
 pub mod OneLaws
 pub mod Appending
 pub mod Joined
-pub mod Fitting
 pub mod AcceptedRuns
 pub mod OneFault
 pub mod Public

@@ -7,7 +7,6 @@ use Rattle.wire_edit.specs.declared.steps.Step.{Step}
 use Rattle.journal_text.specs.declared.append.Stop.{Stop}
 use Rattle.journal_text.specs.declared.record.Record.{Record}
 use Rattle.journal_text.specs.Appends.{IsRecorded, IsThere}
-use Rattle.journal_text.specs.Ranges.{AreFit}
 use Rattle.journal_text.specs.Runs.{AcceptedTo, AreRemovals, AreWritable, HasAppended, HasAppendedPart, made_by, records_text, steps_of}
 
 -- what holds of texts that are appended to a file
@@ -37,7 +36,6 @@ pub record RunsJoin : Type 0 where
   pub counts : (m : Made) (a : List Step) → (made_by m a).adds + (made_by m a).fixes + (made_by m a).local ≡ m.adds + m.fixes + m.local + length a
   pub removals : (a b : List Step) → AreRemovals a → AreRemovals b → AreRemovals (a ++ b)
   pub writable : (a b : List Record) → AreWritable a → AreWritable b → AreWritable (a ++ b)
-  pub fit : (a b : List Record) → AreFit a → AreFit b → AreFit (a ++ b)
   pub accepted : (net mid after : Net) (a b : List Record) → AcceptedTo net a mid → AcceptedTo mid b after → AcceptedTo net (a ++ b) after
   -- an accepted run has a step for each record
   pub each : (net after : Net) (a : List Record) → AcceptedTo net a after → length (steps_of a) ≡ length a

@@ -10,6 +10,5 @@ pub mod Cutting
 pub mod Accepted
 pub mod Laws
 pub mod Runs
-pub mod Ranges
 pub mod Joining
 pub mod Inner

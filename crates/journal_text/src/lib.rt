@@ -11,7 +11,6 @@ mod letters;
 mod numbers;
 mod operands;
 mod pieces;
-mod ranges;
 mod read;
 mod reader;
 mod reading;
@@ -26,7 +25,6 @@ pub use laws::{
     faults_are_one, items_read, journals_are_one, lines_read, numbers_read, runs_join,
     texts_append, words_read,
 };
-pub use ranges::{fault_fits, fitting_are_entries, records_fit, tree_fits};
 pub use read::read_journal;
 pub use reader::{Awaited, JournalReader};
 pub use record::{Entry, Record};

@@ -1,5 +1,4 @@
 use Rattle.journal_text.proofs.Joined.{accepted_each, accepted_then, made_sum, made_then, records_then, removals_then, steps_then, writable_then}
-use Rattle.journal_text.proofs.Fitting.{fits_then}
 use Rattle.journal_text.proofs.laws.runs_join.Goals as goal
 
 pub returns : goal.returns
@@ -10,7 +9,6 @@ returns c = record {
   counts = made_sum;
   removals = removals_then;
   writable = writable_then;
-  fit = fits_then;
   accepted = accepted_then;
   each = accepted_each;
 }

@@ -1,10 +1,13 @@
-// The numbers of steps, faults, trees and records are machine words: each call does nothing, and its contract says so.
+//! The numbers of steps, faults, trees and records in memory are machine words, so that a journal of them can be read: each
+//! call does nothing, and its contract says so.
+#![tactic(auto)]
+
 ghost use Rattle.refutation.specs.declared.items.Item.TheVariants as item;
-ghost use Rattle.journal_text.specs.Ranges.{AreFit, FittingAreEntries};
+ghost use Rattle.journal_ranges.specs.Ranges.{AreFit, FittingAreEntries};
 ghost use Rattle.journal_text.specs.Text.{AreItems, Fits, IsFault, IsItem, IsNumber, IsStep};
 ghost use Rattle.journal_text.specs.declared.record.Entry.TheVariants as entry;
 
-use crate::record::Record;
+use journal_text::Record;
 use refutation::{Item, Line, Tree};
 use rm_base::{Fault, NodeId};
 use wire_edit::Step;

@@ -2,7 +2,7 @@
 use Rattle.std.proofs.Common.{List, [], ap, arith, length, refl, subst, suc, sym, take, zero, ℕ, ◌++◌, ◌+◌, ◌<◌, ◌∙◌, ◌∷◌, ◌≡◌, ◌≤◌}
 use Rattle.std.specs.List.{AllByRecursion}
 use Rattle.std.specs.Prelude.{get_or}
-use Rattle.journal_text.specs.Ranges.{AreFit}
+use Rattle.journal_ranges.specs.Ranges.{AreFit}
 use Rattle.journal_text.specs.Runs.{AreWritable}
 use Rattle.journal_text.specs.Text.{AreEntries, AreItems, Fits, IsEntry, IsItem, journal_entries, record_entries}
 use Rattle.journal_text.specs.declared.record.Entry.{Entry}
