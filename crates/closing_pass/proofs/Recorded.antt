@@ -13,6 +13,8 @@ use Rattle.wire_edit.specs.declared.steps.Step.TheVariants.{Add, Fix, NewNot, Co
 use Rattle.journal_text.specs.Appends.{IsThere}
 use Rattle.journal_text.specs.Joining.{RunsJoin, TextsAppend}
 use Rattle.journal_text.specs.Runs.{AcceptedTo, AreRemovals, HasAppended, HasAppendedPart, IsStopped, counted, made_by, none_made, records_text, steps_of}
+use Rattle.journal_ranges.proofs.Public.{fits_then}
+use Rattle.journal_ranges.specs.Ranges.{AreFit}
 use Rattle.journal_text.specs.declared.record.Record.{Record}
 use Rattle.closing_pass.specs.Inner.Closing.{HasGone, HasRecordedFix}
 use Rattle.closing_pass.specs.Inner.Going.{AreTidying, HasFixed, Logs}
@@ -61,14 +63,15 @@ pub fix_spent : (net after : Net) (log : List Record) → Logs net after [] log 
 fix_spent net after log l = subst (λ (rs : List Record). length rs + work after ≤ work net) (sym l.added) l.spent
 
 pub fix_recorded :
-    (net after : Net) (fault : Fault) (tree : List Item) (log : List Record) (made made' : Made) (old new : Option Files) (journal : List ℕ) → Logs net after [] log → HasFixed fault tree [] log → HasAppended old new journal (records_text log)
+    (net after : Net) (fault : Fault) (tree : List Item) (log : List Record) (made made' : Made) (old new : Option Files) (journal : List ℕ) → Logs net after [] log → HasFixed fault tree [] log → HasAppended old new journal (records_text log) → AreFit log
     → made' ≡ made_by made (steps_of log) → HasRecordedFix net after made made' old new journal
-fix_recorded net after fault tree log made made' old new journal l f written is = record {
+fix_recorded net after fault tree log made made' old new journal l f written fit is = record {
   records = log;
   accepted = fix_accepted net after log l;
   removals = subst (λ (rs : List Record). AreRemovals (steps_of rs)) (sym l.added) l.removals;
   spent = fix_spent net after log l;
   written = written;
+  fit = fit;
   counted = is;
   one =
       let steps : steps_of log ≡ Fix fault.gate fault.position fault.value ∷ steps_of f.rest = ap steps_of f.are in
@@ -84,6 +87,7 @@ gone_none texts net files journal there = record {
   steps = record { accepted = refl; removals = tt; counted = refl; none = λ e. refl; fewer = omega arith };
   spent = omega arith;
   written = texts.none files journal there;
+  fit = tt;
 }
 
 pub gone_then :
@@ -103,6 +107,7 @@ gone_then texts runs net mid after made made' old files new journal g f fewer =
       };
       spent = omega (arith, size, g.spent, f.spent);
       written = subst (HasAppended old new journal) (sym (runs.text g.records f.records)) (texts.follows old files new journal (records_text g.records) (records_text f.records) g.written f.written);
+      fit = fits_then g.records f.records g.fit f.fit;
     }
 
 -- as many steps as the work that went
@@ -118,7 +123,7 @@ pub gone_closed : RunsJoin → (net after : Net) (made : Made) (report : Report)
 gone_closed runs net after made report old new journal g fixed local =
     let a : made.adds ≡ 0 = (gone_counts runs net after made old new journal g).0 in
     let same : made ≡ made_in report = made_same made report a fixed local in
-    record { records = g.records; steps = subst (λ (m : Made). IsRemovedTo net after g.records m) same g.steps; written = g.written }
+    record { records = g.records; steps = subst (λ (m : Made). IsRemovedTo net after g.records m) same g.steps; written = g.written; fit = g.fit }
   where
     made_same : (made : Made) (report : Report) → made.adds ≡ 0 → report.fixed ≡ made.fixes → report.local ≡ made.local → made ≡ made_in report
     made_same made report a f l = rw (f, l, sym a) refl

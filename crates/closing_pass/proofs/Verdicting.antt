@@ -4,6 +4,8 @@ use Rattle.std.specs.Prelude.{slice_get}
 use Rattle.std.proofs.lemmas.List.{append-nil}
 use Rattle.journal_text.specs.Joining.{RunsJoin, TextsAppend}
 use Rattle.journal_text.specs.Runs.{HasAppended, HasAppendedPart, records_text}
+use Rattle.journal_ranges.proofs.Public.{fits_then}
+use Rattle.journal_ranges.specs.Ranges.{AreFit}
 use Rattle.journal_text.specs.declared.record.Record.{Record}
 use Rattle.podem.specs.declared.verdict.Verdict.{Verdict}
 use Rattle.rm_base.specs.Files.{Files}
@@ -31,6 +33,10 @@ recorded_more texts runs verdicts i e old mid new journal is first more =
     let text : records_text (verdict_records (take (i + 1) verdicts)) ≡ records_text (verdict_records (take i verdicts)) ++ records_text (verdict_record e) =
     ap records_text (records_more verdicts i e is) ∙ runs.text (verdict_records (take i verdicts)) (verdict_record e) in
     subst (HasAppended old new journal) (sym text) (texts.follows old mid new journal (records_text (verdict_records (take i verdicts))) (records_text (verdict_record e)) first more)
+
+pub fit_more :
+    (verdicts : List (Fault × Verdict)) (i : ℕ) (e : Fault × Verdict) → slice_get verdicts i ≡ Some e → AreFit (verdict_records (take i verdicts)) → AreFit (verdict_record e) → AreFit (verdict_records (take (i + 1) verdicts))
+fit_more verdicts i e is first more = subst AreFit (sym (records_more verdicts i e is)) (fits_then (verdict_records (take i verdicts)) (verdict_record e) first more)
 
 -- a part of it was
 pub recorded_part :

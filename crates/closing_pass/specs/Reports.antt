@@ -7,6 +7,7 @@ use Rattle.gate_net.specs.Faults.{IsTest, assigned, faults_of}
 use Rattle.gate_net.specs.Net.{Net, source_count, wire_count}
 use Rattle.gate_net.specs.Values.{Detects}
 use Rattle.journal_text.specs.Runs.{AcceptedTo, AreRemovals, HasAppended, made_by, none_made, records_text, steps_of}
+use Rattle.journal_ranges.specs.Ranges.{AreFit}
 use Rattle.journal_text.specs.declared.record.Record.{Record}
 use Rattle.podem.specs.Verdicts.{IsSpent}
 use Rattle.podem.specs.declared.verdict.Verdict.{Verdict}
@@ -51,6 +52,7 @@ pub record HasClosed (net after : Net) (report : Report) (old new : Option Files
   pub records : List Record
   pub steps : IsRemovedTo net after records (made_in report)
   pub written : HasAppended old new journal (records_text records)
+  pub fit : AreFit records
 
 -- no more pins are taken and no more nodes live, and as many pins are held
 pub record IsNoFuller (before graph : Circuit) : Type 0 where

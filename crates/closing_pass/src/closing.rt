@@ -20,6 +20,7 @@ use crate::passing::{Passed, pass};
 use crate::report::Report;
 use crate::words::blocks_of;
 use gate_graph::Graph;
+use journal_ranges::records_fit;
 use journal_text::{
     Stop, accepted_runs_are_writable, accepted_runs_keep, append_records, count_records, runs_join,
     texts_append,
@@ -62,6 +63,7 @@ fn record_fix<S: Shelf>(
     fix_and_tidy(alloc, trial, &mut log, fault, tree)?;
     append_records(alloc, shelf, journal, log.as_slice())?;
     count_records(log.as_slice(), made);
+    records_fit(log.as_slice());
     Ok(())
 }
 

@@ -9,6 +9,7 @@ use Rattle.gate_net.specs.Net.{Net, wire_count}
 use Rattle.gate_graph.specs.Circuit.{Circuit, live_nodes, net_of, pins_taken}
 use Rattle.wire_edit.specs.declared.steps.Step.{Step}
 use Rattle.wire_edit.specs.declared.steps.Step.TheVariants.{Add, Fix, NewNot, Const, Same, NoPins, OnePin, Twice, Twin, Dead}
+use Rattle.journal_ranges.proofs.Public.{fits_then}
 use Rattle.journal_text.specs.Joining.{RunsJoin, TextsAppend}
 use Rattle.journal_text.specs.Runs.{AcceptedTo, AreRemovals, HasAppended, HasAppendedPart, IsStopped, counted, made_by, none_made, records_text, steps_of}
 use Rattle.journal_text.specs.declared.record.Record.{Record}
@@ -107,6 +108,7 @@ first_run law join texts start swept closed settings report made after old one t
       written = subst (λ (text : List ℕ). HasAppended old new name text) (sym (join.text r.records (c.records ++ g.optimised.records) ∙ ap (λ (text : List ℕ). records_text r.records ++ text) (join.text c.records g.optimised.records)))
           (texts.follows old one new name (records_text r.records) (records_text c.records ++ records_text g.optimised.records) r.written
           (texts.follows one two new name (records_text c.records) (records_text g.optimised.records) c.written g.optimised.written));
+      fit = fits_then r.records (c.records ++ g.optimised.records) r.fit (fits_then c.records g.optimised.records c.fit g.optimised.fit);
       run = record {
         accepted = join.accepted (net_of start) (net_of swept) (net_of after.graph) r.records (c.records ++ g.optimised.records) r.accepted
             (join.accepted (net_of swept) (net_of closed) (net_of after.graph) c.records g.optimised.records c.steps.accepted g.optimised.improved.accepted);
@@ -158,6 +160,7 @@ further_run law join texts start settings before closed report after old one two
       written = subst (λ (text : List ℕ). HasAppended old new name text) (sym (join.text r.records (c.records ++ g.optimised.records) ∙ ap (λ (text : List ℕ). records_text r.records ++ text) (join.text c.records g.optimised.records)))
           (texts.follows old one new name (records_text r.records) (records_text c.records ++ records_text g.optimised.records) r.written
           (texts.follows one two new name (records_text c.records) (records_text g.optimised.records) c.written g.optimised.written));
+      fit = fits_then r.records (c.records ++ g.optimised.records) r.fit (fits_then c.records g.optimised.records c.fit g.optimised.fit);
       run = record {
         accepted = led;
         run = subst (λ (b : Bool). IsRun start (steps_of records) settings.depth settings.tries after.tries b) (sym g.settled_is)
@@ -188,6 +191,7 @@ nothing_closed texts start settings before after report old one new name r c non
     record {
       records = r.records;
       written = subst (λ (text : List ℕ). HasAppended old new name text) (append-nil (records_text r.records)) (texts.follows old one new name (records_text r.records) [] r.written more);
+      fit = r.fit;
       run = record {
         accepted = subst (λ (net : Net). AcceptedTo start r.records net) (sym same) r.run.accepted;
         run = subst (λ (b : Bool). IsRun start (steps_of r.records) settings.depth settings.tries after.tries b) (sym settled)

@@ -102,5 +102,6 @@ filled_whole keep m settings rounds f old opened new name formed wires e h wires
           tested = tested;
           spent = spent;
         };
+        valid = h.valid;
       };
     }

@@ -11,7 +11,7 @@ use Rattle.cover_decompose.specs.Count.{decomposed}
 use Rattle.cover_decompose.specs.Decomposition.{net_of_model}
 use Rattle.journal_text.specs.Accepted.{Keeps}
 use Rattle.journal_text.specs.Runs.{AcceptedTo, made_by, none_made, steps_of}
-use Rattle.journal_text.specs.Text.{journal_text}
+use Rattle.journal_text.specs.Text.{AreEntries, journal_entries, journal_text}
 use Rattle.journal_text.specs.declared.record.Record.{Record}
 use Rattle.journal_check.specs.Verdicts.{SettleAll}
 use Rattle.rar_loop.specs.Rounds.{IsRun}
@@ -29,7 +29,7 @@ pub record AreFigures (m : Model) (net : Net) (steps verdicts : List Record) (f 
   pub spent : f.spent ≡ spents_among verdicts
 
 -- accepted steps lead from the decomposition to a tidy net with no more wires, of which each fault has its verdict; the steps are
--- a run of rounds, and the figures tell of all that
+-- a run of rounds, the figures tell of all that, and the records are entries of a journal
 pub record IsRunOver (m : Model) (settings : Settings) (net : Net) (steps verdicts : List Record) (f : Figures) : Type 0 where
   pub led : AcceptedTo (net_of_model m) steps net
   pub tidy : IsTidy net
@@ -39,6 +39,7 @@ pub record IsRunOver (m : Model) (settings : Settings) (net : Net) (steps verdic
   pub searched : AreSearched net settings.budget verdicts
   pub run : IsRun (net_of_model m) (steps_of steps) settings.depth settings.tries f.tries f.settled
   pub figures : AreFigures m net steps verdicts f
+  pub valid : AreEntries (journal_entries settings.budget (steps ++ verdicts))
 
 -- and the journal is the text of these records
 pub record IsWhole (m : Model) (settings : Settings) (net : Net) (f : Figures) (old new : Option Files) (journal : List ℕ) : Type 0 where

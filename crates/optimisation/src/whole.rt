@@ -30,7 +30,11 @@ use crate::rounds::{Rounds, go_rounds};
 use closing_pass::{Report, closed_are_recordable, write_verdicts};
 use cover_decompose::{decompose, decompositions_stand};
 use gate_graph::Graph;
-use journal_text::{Entry, Stop, accepted_runs_keep, append_entry, texts_append};
+use journal_ranges::fitting_are_entries;
+use journal_text::{
+    Entry, Stop, accepted_runs_are_writable, accepted_runs_keep, append_entry, runs_join,
+    texts_append,
+};
 use podem::Verdict;
 use rm_base::{Gate, OutsideFault, Settings, Shelf};
 use rm_model::RankedModel;
@@ -97,6 +101,9 @@ fn fill_journal<R: Threads + Sync, G: Gate, S: Shelf>(
     accepted_runs_keep();
     closed_are_recordable();
     texts_append();
+    runs_join();
+    accepted_runs_are_writable();
+    fitting_are_entries();
     let rounds = go_rounds(rt, alloc, graph, settings, gate, shelf, journal)?;
     write_verdicts(alloc, &rounds.report, shelf, journal)?;
     append_entry(alloc, shelf, journal, &Entry::End)?;

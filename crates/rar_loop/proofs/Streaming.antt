@@ -13,6 +13,8 @@ use Rattle.candidate_wires.specs.declared.candidate.Outcome.TheVariants.{Settled
 use Rattle.journal_text.specs.declared.record.Record.{Record}
 use Rattle.journal_text.specs.Appends.{IsThere}
 use Rattle.journal_text.specs.Joining.{TextsAppend, RunsJoin}
+use Rattle.journal_ranges.proofs.Public.{fits_then}
+use Rattle.journal_ranges.specs.Ranges.{AreFit}
 use Rattle.journal_text.specs.Runs.{AcceptedTo, steps_of, none_made, made_by, HasAppended, HasAppendedPart, IsStopped, records_text}
 use Rattle.rar_loop.specs.declared.walking.Tour.TheVariants.{Done, Spent, Gained}
 use Rattle.rar_loop.specs.Sizes.{IsSame, most_steps}
@@ -22,9 +24,9 @@ use Rattle.rar_loop.specs.Inner.Improving.{HasBegun, HasImproved, IsThrough, IsU
 use Rattle.rar_loop.proofs.Looping.{improved_first, improved_more}
 use Rattle.rar_loop.proofs.Sizing.{within_same, within_then}
 
-pub streams_first : (before swept : Circuit) (start : Option Fault) (depth limit : ℕ) (records : List Record) (made made' : Made) (old now : Option Files) (name : List ℕ) → HasBegun before depth swept records → HasAppended old now name (records_text records) → made ≡ none_made → made' ≡ made_by made (steps_of records)
+pub streams_first : (before swept : Circuit) (start : Option Fault) (depth limit : ℕ) (records : List Record) (made made' : Made) (old now : Option Files) (name : List ℕ) → HasBegun before depth swept records → HasAppended old now name (records_text records) → AreFit records → made ≡ none_made → made' ≡ made_by made (steps_of records)
     → IsUnderWay before start start depth limit limit swept made' old now name
-streams_first before swept start depth limit records made made' old now name b written none counts =
+streams_first before swept start depth limit records made made' old now name b written fit none counts =
     let zero_left : limit - limit ≡ 0 = omega arith in
     let first = improved_first before start depth swept records b in
     record {
@@ -32,6 +34,7 @@ streams_first before swept start depth limit records made made' old now name b w
       improved = subst (λ (k : ℕ). HasImproved (net_of before) start depth (net_of swept) records k) (sym zero_left) first.0;
       turn_is = first.1;
       written = written;
+      fit = fit;
       counts = counts ∙ ap (λ (m : Made). made_by m (steps_of records)) none;
       within = b.within;
       left_within = omega arith;
@@ -39,8 +42,8 @@ streams_first before swept start depth limit records made made' old now name b w
     }
 
 pub streams_more : TextsAppend → RunsJoin → (before mid : Circuit) (start turn : Option Fault) (depth limit left left' : ℕ) (better : Circuit) (pair : Pair) (records : Vec Record Global) (made made' : Made) (old now now' : Option Files) (name : List ℕ) → IsUnderWay before start turn depth limit left mid made old now name
-    → IsWalk mid turn depth left left' better (Gained pair records) → HasAppended now now' name (records_text records.items) → made' ≡ made_by made (steps_of records.items) → IsUnderWay before start (Some pair.fault) depth limit left' better made' old now' name
-streams_more texts join before mid start turn depth limit left left' better pair records made made' old now now' name o w written counts =
+    → IsWalk mid turn depth left left' better (Gained pair records) → HasAppended now now' name (records_text records.items) → AreFit records.items → made' ≡ made_by made (steps_of records.items) → IsUnderWay before start (Some pair.fault) depth limit left' better made' old now' name
+streams_more texts join before mid start turn depth limit left left' better pair records made made' old now now' name o w written fit counts =
     let b = w.1.1.1.1 in
     let turned : ArePairsBefore (net_of mid) (turn_at start (net_of before) (steps_of o.records)) pair w.0 = subst (λ (t : Option Fault). ArePairsBefore (net_of mid) t pair w.0) o.turn_is w.1.0 in
     let one : HasImproved (net_of before) start depth (net_of better) (o.records ++ records.items) ((limit - left) + suc (length w.0)) × (Some pair.fault ≡ turn_at start (net_of before) (steps_of (o.records ++ records.items))) =
@@ -52,6 +55,7 @@ streams_more texts join before mid start turn depth limit left left' better pair
       improved = subst (λ (k : ℕ). HasImproved (net_of before) start depth (net_of better) (o.records ++ records.items) k) sum one.0;
       turn_is = one.1;
       written = subst (λ (xs : List ℕ). HasAppended old now' name xs) (sym (join.text o.records records.items)) (texts.follows old now now' name (records_text o.records) (records_text records.items) o.written written);
+      fit = fits_then o.records records.items o.fit fit;
       counts = counts ∙ ap (λ (m : Made). made_by m (steps_of records.items)) o.counts ∙ sym (join.made none_made (steps_of o.records) (steps_of records.items)) ∙ ap (made_by none_made) (sym (join.steps o.records records.items));
       within = within_then before mid better o.within b.within;
       left_within = omega (arith, o.left_within, w.1.1.1.0);
@@ -89,7 +93,7 @@ removed_few join before after records made accepted counts few =
 streams_to : (before mid last : Circuit) (start turn : Option Fault) (depth limit left : ℕ) (outcome : Outcome) (made : Made) (old now : Option Files) (name : List ℕ) → (o : IsUnderWay before start turn depth limit left mid made old now name)
     → IsImproved (net_of before) start depth limit o.records (net_of mid) outcome → IsSame mid last → IsThrough before start turn depth limit last outcome made old now name
 streams_to before mid last start turn depth limit left outcome made old now name o i same = record {
-  optimised = subst (λ (n : Net). IsOptimised (net_of before) n start turn depth limit outcome made old now name) (sym same.net) (record { records = o.records; improved = i; next_is = o.turn_is; written = o.written; counted = o.counts });
+  optimised = subst (λ (n : Net). IsOptimised (net_of before) n start turn depth limit outcome made old now name) (sym same.net) (record { records = o.records; improved = i; next_is = o.turn_is; written = o.written; fit = o.fit; counted = o.counts });
   within = within_then before mid last o.within (within_same mid last same);
 }
 

@@ -12,6 +12,7 @@ use Rattle.candidate_wires.specs.declared.candidate.Outcome.TheVariants.{Settled
 use Rattle.candidate_wires.specs.Pairs.{ArePairsBefore, ArePairsInTurn}
 use Rattle.candidate_wires.specs.Additions.{additions}
 use Rattle.candidate_wires.specs.Tries.{AreTriesFrom, NoneGains, EachImproves, turn_after}
+use Rattle.journal_ranges.specs.Ranges.{AreFit}
 use Rattle.journal_text.specs.declared.record.Record.{Record}
 use Rattle.journal_text.specs.Runs.{AcceptedTo, steps_of, none_made, made_by, HasAppended, records_text}
 use Rattle.rar_loop.specs.Swept.{IsSwept}
@@ -64,6 +65,7 @@ pub record IsOptimised (net after : Net) (start next : Option Fault) (depth limi
   pub improved : IsImproved net start depth limit records after outcome
   pub next_is : next ≡ turn_at start net (steps_of records)
   pub written : HasAppended old new journal (records_text records)
+  pub fit : AreFit records
   pub counted : made ≡ made_by none_made (steps_of records)
 
 -- the counts are far from the end of their type

@@ -3,6 +3,7 @@ use Rattle.std.specs.Prelude.{◌≡◌, ◌≤◌, ◌+◌, ℕ, List, Option}
 use Rattle.rm_base.specs.Files.{Files}
 use Rattle.rm_base.specs.declared.settings.Made.{Made}
 use Rattle.gate_net.specs.Net.{Net, wire_count}
+use Rattle.journal_ranges.specs.Ranges.{AreFit}
 use Rattle.journal_text.specs.declared.record.Record.{Record}
 use Rattle.journal_text.specs.Runs.{AcceptedTo, AreRemovals, HasAppended, made_by, none_made, records_text, steps_of}
 use Rattle.rar_loop.specs.Sizes.{most_steps}
@@ -16,5 +17,6 @@ pub record HasRemoved (net after : Net) (depth : ℕ) (made : Made) (old new : O
   pub swept : IsSwept after depth
   pub fewer : wire_count after ≤ wire_count net
   pub written : HasAppended old new journal (records_text records)
+  pub fit : AreFit records
   pub counted : made ≡ made_by none_made (steps_of records)
   pub few : made.adds + made.fixes + made.local ≤ most_steps

@@ -18,6 +18,7 @@ use crate::walking::{Tour, walk_pairs};
 use crate::workspace::{Workspace, into_graph};
 use candidate_wires::Outcome;
 use gate_graph::Graph;
+use journal_ranges::records_fit;
 use journal_text::{
     Record, Stop, accepted_runs_are_writable, accepted_runs_keep, append_records, count_records,
     runs_join, texts_append,
@@ -64,6 +65,7 @@ fn improve<S: Shelf>(
             Tour::Gained { pair, records } => {
                 append_records(alloc, shelf, journal, &records)?;
                 count_records(&records, made);
+                records_fit(&records);
                 *start = Some(pair.fault);
             }
         }
@@ -100,6 +102,7 @@ fn improve_swept<S: Shelf>(
     };
     append_records(alloc, shelf, journal, records)?;
     count_records(records, &mut made);
+    records_fit(records);
     let outcome = improve(alloc, space, settings, shelf, journal, &mut made, start)?;
     Ok((outcome, made))
 }

@@ -10,6 +10,7 @@ ghost use Rattle.rar_loop.specs.Removed.{HasRemoved};
 
 use crate::beginning::swept_graph;
 use gate_graph::Graph;
+use journal_ranges::records_fit;
 use journal_text::{
     Stop, accepted_runs_are_writable, append_records, count_records, runs_join, texts_append,
 };
@@ -47,5 +48,6 @@ pub fn remove_redundant<S: Shelf>(
     let (swept, records) = swept_graph(alloc, graph, depth, &[])?;
     append_records(alloc, shelf, journal, &records)?;
     count_records(&records, &mut made);
+    records_fit(&records);
     Ok((swept, made))
 }

@@ -4,6 +4,7 @@ use Rattle.gate_graph.specs.Circuit.{net_of}
 use Rattle.gate_graph.specs.Holds.{HoldsOn}
 use Rattle.gate_net.specs.Net.{Net}
 use Rattle.journal_text.specs.Runs.{AcceptedTo, AreRemovals, HasAppended, made_by, records_text, steps_of}
+use Rattle.journal_ranges.specs.Ranges.{AreFit}
 use Rattle.journal_text.specs.declared.record.Record.{Record}
 use Rattle.rm_base.specs.Files.{Files}
 use Rattle.rm_base.specs.declared.settings.Made.{Made}
@@ -25,6 +26,7 @@ pub record HasRecordedFix (net after : Net) (made made' : Made) (old new : Optio
   pub removals : AreRemovals (steps_of records)
   pub spent : length records + work after ≤ work net
   pub written : HasAppended old new journal (records_text records)
+  pub fit : AreFit records
   pub counted : made' ≡ made_by made (steps_of records)
   pub one : made'.fixes ≡ made.fixes + 1
 
@@ -34,3 +36,4 @@ pub record HasGone (net after : Net) (made : Made) (old new : Option Files) (jou
   pub steps : IsRemovedTo net after records made
   pub spent : length records + work after ≤ work net
   pub written : HasAppended old new journal (records_text records)
+  pub fit : AreFit records

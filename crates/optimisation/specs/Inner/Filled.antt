@@ -4,7 +4,7 @@ use Rattle.rm_base.specs.Files.{Files}
 use Rattle.rm_base.specs.declared.settings.Settings.{Settings}
 use Rattle.gate_net.specs.Net.{Net}
 use Rattle.gate_graph.specs.Circuit.{net_of}
-use Rattle.journal_text.specs.Text.{entry_text}
+use Rattle.journal_text.specs.Text.{AreEntries, entry_text, journal_entries}
 use Rattle.journal_text.specs.Runs.{HasAppended, HasAppendedPart, IsStopped, records_text}
 use Rattle.journal_text.specs.declared.record.Record.{Record}
 use Rattle.journal_text.specs.declared.record.Entry.TheVariants.{End}
@@ -18,6 +18,7 @@ use Rattle.optimisation.specs.declared.rounds.Rounds.{Rounds}
 pub record IsFilled (start : Net) (settings : Settings) (rounds : Rounds) (old new : Option Files) (journal : List ℕ) : Type 0 where
   pub records : List Record
   pub run : HasRun start settings rounds.last.graph records rounds.last.made rounds.last.tries rounds.last.settled rounds.last.start
+  pub valid : AreEntries (journal_entries settings.budget (records ++ verdict_records rounds.report.verdicts.items))
   pub closed : AreClosed (net_of rounds.last.graph) settings.budget rounds.report.verdicts.items
   pub written : HasAppended old new journal (records_text (records ++ verdict_records rounds.report.verdicts.items) ++ entry_text End)
 

@@ -8,6 +8,7 @@ use Rattle.gate_net.specs.Net.{Net, wire_count}
 use Rattle.gate_graph.specs.Circuit.{Circuit, live_nodes, net_of, pins_taken}
 use Rattle.wire_edit.specs.Order.{IsTidy}
 use Rattle.journal_text.specs.Runs.{AcceptedTo, HasAppended, made_by, none_made, records_text, steps_of}
+use Rattle.journal_ranges.specs.Ranges.{AreFit}
 use Rattle.journal_text.specs.declared.record.Record.{Record}
 use Rattle.candidate_wires.specs.declared.candidate.Outcome.{Outcome}
 use Rattle.journal_text.specs.Accepted.{Keeps}
@@ -50,6 +51,7 @@ pub record HasRecorded (start : Net) (settings : Settings) (round : Round) (old 
   pub records : List Record
   pub run : HasRun start settings round.graph records round.made round.tries round.settled round.start
   pub written : HasAppended old new journal (records_text records)
+  pub fit : AreFit records
 
 -- one more call, with the tries that were left, which are counted on, and from the target where turns begin
 pub record HasGoneOn (settings : Settings) (closed : Circuit) (made : Made) (tries : ℕ) (turn : Option Fault) (round : Round) (old new : Option Files) (journal : List ℕ) : Type 0 where

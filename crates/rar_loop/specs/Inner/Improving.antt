@@ -9,6 +9,7 @@ use Rattle.wire_edit.specs.Order.{IsTidy}
 use Rattle.candidate_wires.specs.declared.candidate.Outcome.{Outcome}
 use Rattle.candidate_wires.specs.Additions.{additions}
 use Rattle.candidate_wires.specs.Tries.{AreTriesFrom, EachImproves}
+use Rattle.journal_ranges.specs.Ranges.{AreFit}
 use Rattle.journal_text.specs.declared.record.Record.{Record}
 use Rattle.journal_text.specs.Runs.{AcceptedTo, AreRemovals, HasAppended, IsStopped, made_by, none_made, records_text, steps_of}
 use Rattle.rar_loop.specs.Ended.{IsOptimised, turn_at}
@@ -43,6 +44,7 @@ pub record IsUnderWay (before : Circuit) (start turn : Option Fault) (depth limi
   pub improved : HasImproved (net_of before) start depth (net_of mid) records (limit - left)
   pub turn_is : turn ≡ turn_at start (net_of before) (steps_of records)
   pub written : HasAppended old now name (records_text records)
+  pub fit : AreFit records
   pub counts : made ≡ made_by none_made (steps_of records)
   pub within : IsWithin before mid
   pub left_within : left ≤ limit

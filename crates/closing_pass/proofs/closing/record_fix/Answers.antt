@@ -21,7 +21,7 @@ returns-clause-recorded g c =
     let logs : Logs (net_of c.args.trial.now.graph) (net_of c.fix_and_tidy.new.trial.graph) [] c.fix_and_tidy.new.log.items = rw c.new-log.ensures.items at c.in_ok-fix_and_tidy.ensures.goes.logs in
     let fixed : HasFixed c.args.fault c.args.tree [] c.fix_and_tidy.new.log.items = rw c.new-log.ensures.items at c.in_ok-fix_and_tidy.ensures.fixed in
     fix_recorded (net_of c.args.trial.now.graph) (net_of c.fix_and_tidy.new.trial.graph) c.args.fault c.args.tree c.fix_and_tidy.new.log.items c.args.made.now c.count_records.new.made (g.S.Shelf.files c.args.shelf.now) (g.S.Shelf.files c.append_records.new.shelf) c.args.journal.now
-    logs fixed (rw c.as_slice.ensures.value at c.in_ok-append_records.ensures.written) (rw c.as_slice-2.ensures.value at c.count_records.ensures)
+    logs fixed (rw c.as_slice.ensures.value at c.in_ok-append_records.ensures.written) (rw c.as_slice-3.ensures.value at c.records_fit.ensures) (rw c.as_slice-2.ensures.value at c.count_records.ensures)
 
 pub returns-clause-went : goal.returns-clause-went
 returns-clause-went g c = record {

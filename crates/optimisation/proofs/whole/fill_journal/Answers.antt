@@ -22,5 +22,10 @@ returns-in_err-append_entry-clause-stopped g c =
 
 pub returns-clause-filled : goal.returns-clause-filled
 returns-clause-filled g c =
-    filled c.texts_append.ensures (net_of c.args.graph) c.args.settings.now c.in_ok-rounds.rounds (g.S.Shelf.files c.args.shelf.now) (g.S.Shelf.files c.go_rounds.new.shelf) (g.S.Shelf.files c.write_verdicts.new.shelf) (g.S.Shelf.files c.append_entry.new.shelf) c.args.journal.now
-    c.in_ok-rounds.ensures.ended c.in_ok-write_verdicts.ensures.written c.in_ok-append_entry.ensures.written
+    let ended = c.in_ok-rounds.ensures.ended in
+    filled c.runs_join.ensures c.accepted_runs_are_writable.ensures c.fitting_are_entries.ensures c.texts_append.ensures (net_of c.args.graph) c.args.settings.now c.in_ok-rounds.rounds (g.S.Shelf.files c.args.shelf.now) (g.S.Shelf.files c.go_rounds.new.shelf) (g.S.Shelf.files c.write_verdicts.new.shelf) (g.S.Shelf.files c.append_entry.new.shelf) c.args.journal.now
+    c.in_ok-rounds.ensures.ended c.requires.settings.budget.0 c.requires.settings.budget.1
+    (c.closed_are_recordable.ensures (net_of c.in_ok-rounds.rounds.last.graph) c.args.settings.now.budget c.in_ok-rounds.rounds.report.verdicts.items
+    (c.accepted_runs_keep.ensures (net_of c.args.graph) (net_of c.in_ok-rounds.rounds.last.graph) ended.recorded.records c.well_formed-2.ensures.net ended.recorded.run.accepted).form
+    ended.recorded.run.tidy ended.closed)
+    c.in_ok-write_verdicts.ensures.fit c.in_ok-write_verdicts.ensures.written c.in_ok-append_entry.ensures.written

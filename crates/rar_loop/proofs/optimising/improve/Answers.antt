@@ -1,5 +1,6 @@
 use Rattle.std.proofs.Common.{◌≡◌, length, List, Err, sym, ap, subst, arith}
 use Rattle.gate_graph.specs.Circuit.{net_of}
+use Rattle.journal_ranges.specs.Ranges.{AreFit}
 use Rattle.journal_text.specs.Runs.{AreWritable, HasAppended, HasAppendedPart, made_by, records_text, steps_of}
 use Rattle.journal_text.specs.declared.record.Record.{Record}
 use Rattle.rar_loop.specs.declared.walking.Tour.{Tour}
@@ -41,6 +42,7 @@ loop-tries-preserved g c =
     record {
       under_way = λ before files u. streams_more c.texts_append.ensures c.runs_join.ensures before c.loop-tries.space.trial.graph c.args.start.now c.loop-tries.start c.args.settings.now.depth c.args.settings.now.tries c.loop-tries.left c.walk_pairs.new.left c.walk_pairs.new.space.trial.graph c.in-Gained.pair c.in-Gained.records c.loop-tries.made c.count_records.new.made files (g.S.Shelf.files c.loop-tries.shelf) (g.S.Shelf.files c.append_records.new.shelf) c.args.journal.now (c.loop-tries.invariant.under_way before files u) walk
           (subst (λ (rs : List Record). HasAppended (g.S.Shelf.files c.loop-tries.shelf) (g.S.Shelf.files c.append_records.new.shelf) c.args.journal.now (records_text rs)) c.deref.ensures.value c.in_ok-append_records-in-Gained.ensures.written)
+          (subst AreFit c.deref-in-Gained-2.ensures.value c.records_fit.ensures)
           (subst (λ (rs : List Record). c.count_records.new.made ≡ made_by c.loop-tries.made (steps_of rs)) c.deref-in-Gained.ensures.value c.count_records.ensures);
       left_within = omega (arith, c.loop-tries.invariant.left_within, walk.1.1.1.0);
       ready = c.in_ok-walk_pairs.ensures.ready;

@@ -1,6 +1,7 @@
 use Rattle.std.proofs.Common.{Err, List, ap, arith, length, sym, subst, ◌≡◌}
 use Rattle.gate_graph.specs.Circuit.{net_of}
 use Rattle.journal_text.specs.declared.record.Record.{Record}
+use Rattle.journal_ranges.specs.Ranges.{AreFit}
 use Rattle.journal_text.specs.Runs.{AreWritable, HasAppended, HasAppendedPart, made_by, none_made, records_text, steps_of}
 use Rattle.rar_loop.proofs.Looping.{err_of, if_err}
 use Rattle.rar_loop.proofs.Streaming.{removed_few, stopped_none, stopped_first}
@@ -17,6 +18,7 @@ returns-clause-removed g c =
       swept = b.swept;
       fewer = b.fewer;
       written = subst (λ (rs : List Record). HasAppended (g.S.Shelf.files c.args.shelf.now) (g.S.Shelf.files c.append_records.new.shelf) c.args.journal.now (records_text rs)) c.deref.ensures.value c.in_ok-append_records.ensures.written;
+      fit = subst AreFit c.deref-3.ensures.value c.records_fit.ensures;
       counted = counts;
       few = removed_few c.runs_join.ensures (net_of c.args.graph) (net_of c.in_ok-swept.swept) c.in_ok-swept.records.items c.count_records.new.made b.accepted counts b.few;
     }
