@@ -1,3 +1,4 @@
+use Rattle.std.proofs.Common.{refl}
 use Rattle.blif_flatten.proofs.Leads.{marked-by, nothing-marked, on-ok}
 use Rattle.blif_flatten.proofs.lead.mark_name.Goals as goal
 
