@@ -5,7 +5,7 @@ use Rattle.std.specs.List.{cons_option, filter_map}
 use Rattle.std.proofs.lemmas.List.{length-map}
 use Rattle.rm_base.specs.Words.{Word}
 use Rattle.rm_base.specs.declared.numbers.Place.{Place}
-use Rattle.rm_base.proofs.Public.{map_found}
+use Rattle.rm_base.proofs.Public.{map_found, stands_below}
 use Rattle.rm_model.specs.Words.{is_word}
 use Rattle.rm_model.specs.declared.parts.Cover.{Cover}
 use Rattle.blif_lines.specs.Layout.{Spot}
@@ -211,3 +211,17 @@ module _ (modules : List Module) (lead : Word) (light : IsLight modules) where
       let c = ap (λ (cs : List Cover). length cs) (ap (λ m. m.covers) made.model) in
       let size = size-small (top.tokens + tokens_in (whole modules top.links)) top small in
       omega (arith, own, calls, two, c, size)
+
+-- THE FLAT MODEL OF LINKED MODULES
+pub joined-placed : (ms as_ : List Module) (lead : Word) (f : Flattened) → as_ ≡ ms → 0 < length ms → IsLight ms → ((top : Module) → slice_get as_ 0 ≡ Some top → IsFlatOf lead as_ top f) → length f.places ≡ length f.model.covers
+joined-placed ms as_ lead f same some light made =
+    let top = stands_below ms 0 some in
+    let at : slice_get as_ 0 ≡ Some top.0 = ap (λ (xs : List Module). slice_get xs 0) same ∙ top.1 in
+    flat-placed as_ lead (subst IsLight (sym same) light) top.0 f at (made top.0 at)
+
+pub joined-light : (ms as_ : List Module) (lead : Word) (f : Flattened) → as_ ≡ ms → 0 < length ms → IsLight ms → ((top : Module) → slice_get ms 0 ≡ Some top → size_fault top (tree_of ms top) ≡ None)
+    → ((top : Module) → slice_get as_ 0 ≡ Some top → IsFlatOf lead as_ top f) → length f.model.covers ≤ 4194304
+joined-light ms as_ lead f same some light small made =
+    let top = stands_below ms 0 some in
+    let at : slice_get as_ 0 ≡ Some top.0 = ap (λ (xs : List Module). slice_get xs 0) same ∙ top.1 in
+    flat-light as_ lead (subst IsLight (sym same) light) top.0 f at (made top.0 at) (subst (λ (xs : List Module). size_fault top.0 (tree_of xs top.0) ≡ None) (sym same) (small top.0 top.1))

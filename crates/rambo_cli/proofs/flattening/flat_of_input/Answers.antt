@@ -1,7 +1,7 @@
 use Rattle.std.proofs.Common.{◌≡◌, List, ℕ, sym, subst, take}
 use Rattle.std.specs.Prelude.{IfSome}
 use Rattle.rambo_cli.specs.Files.{Holds}
-use Rattle.rambo_cli.proofs.Flattening.{flat_cause, flat_read}
+use Rattle.rambo_cli.proofs.FlatTexts.{flat_cause, flat_read}
 use Rattle.rambo_cli.proofs.flattening.flat_of_input.Goals as goal
 
 pub returns-clause-flat : goal.returns-clause-flat

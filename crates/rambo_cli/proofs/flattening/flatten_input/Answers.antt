@@ -1,4 +1,4 @@
-use Rattle.rambo_cli.proofs.Flattening.{flat_begun, flat_kept, flat_written}
+use Rattle.rambo_cli.proofs.FlatTexts.{flat_begun, flat_kept, flat_written}
 use Rattle.rambo_cli.proofs.flattening.flatten_input.Goals as goal
 
 pub returns-clause-done : goal.returns-clause-done
