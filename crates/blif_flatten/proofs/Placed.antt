@@ -15,11 +15,11 @@ use Rattle.blif_flatten.specs.declared.modules.Link.{Link}
 use Rattle.blif_flatten.specs.declared.modules.Module.{Module}
 use Rattle.blif_flatten.specs.declared.modules.Pin.{Pin}
 use Rattle.blif_flatten.specs.declared.flattening.Flattened.{Flattened}
-use Rattle.blif_flatten.specs.Sections.{Section, cover_from, cover_on, covers_from, names_place, plain_module, token_count, words_in_line}
-use Rattle.blif_flatten.specs.Calls.{Call, Connection, call_of, calls_of, connection_of, is_call}
+use Rattle.blif_flatten.specs.Sections.{Section, cover_from, cover_on, covers_from, names_place, token_count, words_in_line}
+use Rattle.blif_flatten.specs.Calls.{Call, Connection, call_of, connection_of, is_call}
 use Rattle.blif_flatten.specs.CallFaults.{module_at, place_named, plain_modules}
 use Rattle.blif_flatten.specs.Instances.{Calls, all_calls, calls_in, instance_count, link_of, link_with, module_of, modules_of, name_in, pin_in, then_call, tokens_in, whole}
-use Rattle.blif_flatten.specs.Flat.{copy, copies_in, copies_out, covers_in, flat_model, flat_places, input_pins, output_pins, places_in, renamed_cover}
+use Rattle.blif_flatten.specs.Flat.{copy, copies_in, copies_out, covers_in, input_pins, output_pins, places_in, renamed_cover}
 use Rattle.blif_flatten.specs.Flattened.{IsFlatOf}
 use Rattle.blif_flatten.specs.FirstFault.{size_fault, tree_of}
 use Rattle.blif_flatten.specs.Inner.Reading.{IsLight, links_weight}

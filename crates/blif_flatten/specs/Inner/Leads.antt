@@ -1,11 +1,10 @@
 -- The numbers with which names begin.
-use Rattle.std.specs.Prelude.{◌≡◌, ◌+◌, ◌-◌, ◌*◌, ◌^◌, ℕ, Bool, false, List, [], ◌∷◌, ◌||◌, min, nat_eq, slice_get, Option, None, Some, if◌then◌else◌}
-use Rattle.std.specs.List.{list_any, starts_with}
+use Rattle.std.specs.Prelude.{◌≡◌, ◌+◌, ◌-◌, ◌*◌, ◌^◌, ℕ, Bool, false, List, [], ◌∷◌, ◌||◌, min, slice_get, Option, None, Some, if◌then◌else◌}
+use Rattle.std.specs.List.{list_any}
 use Rattle.std.specs.Fmt.{decimal}
 use Rattle.rm_base.specs.Words.{Word}
 use Rattle.rm_model.specs.Words.{is_word}
 use Rattle.blif_flatten.specs.Calls.{sides_at}
-use Rattle.blif_flatten.specs.Instances.{lead}
 
 -- the number with one more digit, up to the greatest that there is
 abbrev pub with_digit : ℕ → ℕ → ℕ

@@ -1,10 +1,9 @@
-use Rattle.std.proofs.Common.{◌≡◌, ◌∙◌, ◌<◌, ◌^◌, arith, sym, subst, ap, map, length, ℕ, List, Bool}
+use Rattle.std.proofs.Common.{◌≡◌, ◌∙◌, sym, subst, ap, map, ℕ}
 use Rattle.std.specs.Prelude.{IfOk}
 use Rattle.blif_format.specs.Uses.{Use}
 use Rattle.blif_flatten.specs.Instances.{free_number, lead}
-use Rattle.blif_flatten.specs.Inner.Leads.{AreMarks, unmarked_from}
+use Rattle.blif_flatten.specs.Inner.Leads.{unmarked_from}
 use Rattle.blif_flatten.specs.Inner.Uses.{names_at}
-use Rattle.blif_flatten.specs.declared.uses.NameUse.{NameUse}
 use Rattle.blif_flatten.proofs.Leads.{names-count, unmarked-free}
 use Rattle.blif_flatten.proofs.TwiceDriven.{names-of-uses}
 use Rattle.blif_flatten.proofs.lead.lead_of.Goals as goal

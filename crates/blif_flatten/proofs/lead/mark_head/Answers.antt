@@ -1,4 +1,4 @@
-use Rattle.std.proofs.Common.{◌≡◌, ◌∙◌, ap, arith, sym, subst, List, Bool}
+use Rattle.std.proofs.Common.{◌∙◌, ap, arith, sym, subst, List, Bool}
 use Rattle.rm_base.specs.Words.{Word}
 use Rattle.rm_model.specs.Words.{is_word}
 use Rattle.blif_flatten.specs.Inner.Leads.{AreMarkedBy, head, value_from}
