@@ -200,7 +200,7 @@ module _ (modules : List Module) (some : (k : ℕ) (m : Module) → slice_get mo
   few-calls zero ls = omega arith
   few-calls (suc n) ls = few-all (calls_in n modules) (few-calls n) ls
 
-size-small : (total : ℕ) (top : Module) → limit_if (nat_lt 4194304 total) Flat 4194305 top.place ≡ None → total ≤ 4194304
+pub size-small : (total : ℕ) (top : Module) → limit_if (nat_lt 4194304 total) Flat 4194305 top.place ≡ None → total ≤ 4194304
 size-small total top e = at (nat_lt 4194304 total) refl e
   where
     at : (b : Bool) → nat_lt 4194304 total ≡ b → limit_if b Flat 4194305 top.place ≡ None → total ≤ 4194304

@@ -16,3 +16,4 @@ mod Same
 mod NoRecursion
 pub mod Valuations
 pub mod Names
+mod Placed

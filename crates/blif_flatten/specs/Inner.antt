@@ -4,6 +4,7 @@ pub mod Tokens
 pub mod Said
 pub mod Interfaces
 pub mod Uses
+pub mod Leads
 pub mod Ranks
 pub mod Sizes
 pub mod Reading

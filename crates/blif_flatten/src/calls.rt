@@ -48,7 +48,7 @@ fn take_formal<'a>(
     ensures ok { (m : CircuitModel) → IsInterface interface.now m → OnOk result (TakesFormal m given.old (connection_of (spot_of text.now pin.now)) given.new) }
     ensures err { (m : CircuitModel) → IsInterface interface.now m → IfErr result (λ e. IsRefusal e (formals_fault m given.old (cons_option (connection_of (spot_of text.now pin.now)) []))) }
 {
-    let Some((formal, _)) = sides_of(word_of(text, pin)) else {
+    let Some((formal, _)) = sides_of(word_of(text, pin), b'=') else {
         return Ok(());
     };
     if given.has(formal) || !is_formal_of(interface, formal) {

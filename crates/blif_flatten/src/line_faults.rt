@@ -158,7 +158,7 @@ fn check_sides(text: &[u8], token: &Token) -> Result<(), ReadRefusal>
     requires { IsWithin text.now token.now }
     ensures { refusal_of result ≡ sides_fault token.now.place (sides_at 61 (spot_of text.now token.now).word) }
 {
-    match sides_of(word_of(text, token)) {
+    match sides_of(word_of(text, token), b'=') {
         None => fault(FaultKind::BadPin, token.place),
         Some((formal, actual)) => {
             check_length(formal, token.place)?;

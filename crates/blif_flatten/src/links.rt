@@ -35,7 +35,7 @@ fn push_pin<'a>(
     requires { IsWithin text.now pin.now }
     ensures { (m : CircuitModel) → IsInterface interface.now m → OnOk result (pins.new ≡ pins.old ++ cons_option (option_map (pin_in m) (connection_of (spot_of text.now pin.now))) []) }
 {
-    let Some((formal, actual)) = sides_of(word_of(text, pin)) else {
+    let Some((formal, actual)) = sides_of(word_of(text, pin), b'=') else {
         return Ok(());
     };
     pins.push(Pin {

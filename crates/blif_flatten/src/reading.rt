@@ -16,7 +16,7 @@ ghost use Rattle.blif_flatten.specs.LineFaults.{empty_fault, head_fault, lines_f
 ghost use Rattle.blif_flatten.specs.Meant.{IsFlatModel};
 ghost use Rattle.blif_flatten.specs.Sections.{layout_fault, sections_of, sound_lines};
 ghost use Rattle.blif_flatten.specs.Inner.Interfaces.{IsCallable};
-ghost use Rattle.blif_flatten.specs.Inner.Reading.{IsLinked, names_fault};
+ghost use Rattle.blif_flatten.specs.Inner.Reading.{IsLight, IsLinked, names_fault};
 ghost use Rattle.blif_flatten.specs.Inner.Tokens.{AreWithin, sections_at};
 
 use crate::calls::{Callable, check_calls};
@@ -169,14 +169,12 @@ fn check_size(alloc: Global, modules: &[Module], numbers: &[usize]) -> Result<()
 
 // The refusal of a model without ranks, by the places of its covers.
 fn rank_refusal(refused: RankFault, places: &[Place]) -> ReadRefusal
+    requires { (cover : ℕ) → refused ≡ RankFault.NoRank cover → cover < length places.now }
     ensures { (ranks : List (Option ℕ)) → IsRefused (position is_none ranks) refused → IsRefusal result (first_unranked places.now ranks) }
 {
     let RankFault::NoRank { cover } = refused else {
         return ReadRefusal::NoMemory;
     };
-    if cover as usize >= places.len() {
-        return ReadRefusal::NoMemory;
-    }
     ReadRefusal::Fault {
         kind: FaultKind::NoRank,
         place: places[cover as usize],
@@ -185,15 +183,14 @@ fn rank_refusal(refused: RankFault, places: &[Place]) -> ReadRefusal
 
 // Refuses a model with a cover without rank.
 fn check_ranks(alloc: Global, model: &Model, places: &[Place]) -> Result<(), ReadRefusal>
-    requires { IsWellFormed model.now }
+    requires formed { IsWellFormed model.now }
+    requires placed { length places.now ≡ length model.now.covers }
+    requires few { length model.now.covers ≤ 4194304 }
     ensures ranked { OnOk result (IsRanked model.now) }
     ensures ok { OnOk result (first_unranked places.now (ranks_of model.now) ≡ None) }
     ensures err { IfErr result (λ e. IsRefusal e (first_unranked places.now (ranks_of model.now))) }
 {
     ranks_exist();
-    if model.covers.len() > 4_294_967_295 {
-        return Err(ReadRefusal::NoMemory);
-    }
     let ranks = match rank(alloc, model) {
         Ok(ranks) => ranks,
         Err(refused) => return Err(rank_refusal(refused, places)),
@@ -216,10 +213,13 @@ fn is_formed(alloc: Global, model: &Model) -> bool
 fn join_modules(alloc: Global, linked: Linked) -> Result<Flattened, ReadRefusal>
     requires ranked { (rank : ℕ → ℕ) × AreRankedBy linked.modules.items rank }
     requires positive { (k : ℕ) (m : ModuleValue) → slice_get linked.modules.items k ≡ Some m → 1 ≤ m.tokens }
+    requires light { IsLight linked.modules.items }
     requires some { 0 < length linked.modules.items }
     ensures size { (top : ModuleValue) → slice_get linked.modules.items 0 ≡ Some top → OnOk result (size_fault top (tree_of linked.modules.items top) ≡ None) }
     ensures flat { (top : ModuleValue) → slice_get linked.modules.items 0 ≡ Some top → IfOk result (IsFlatOf linked.lead.items linked.modules.items top) }
     ensures few { IfOk result (λ f. f.instances < 2 ^ 32) }
+    ensures placed { IfOk result (λ f. length f.places ≡ length f.model.covers) }
+    ensures few_covers { IfOk result (λ f. length f.model.covers ≤ 4194304) }
     ensures err { (top : ModuleValue) → slice_get linked.modules.items 0 ≡ Some top → IfErr result (λ e. IsRefusal e (size_fault top (tree_of linked.modules.items top))) }
 {
     let Linked {
@@ -241,6 +241,8 @@ fn join_modules(alloc: Global, linked: Linked) -> Result<Flattened, ReadRefusal>
 // The model, which is looked at once more: whether it is well formed, and ranked.
 fn check_flat(alloc: Global, flat: Flattened) -> Result<Flat, ReadRefusal>
     requires few { flat.instances < 2 ^ 32 }
+    requires placed { length flat.places ≡ length flat.model.covers }
+    requires few_covers { length flat.model.covers ≤ 4194304 }
     ensures model { IfOk result (λ f. f.model ≡ flat.model) }
     ensures count { IfOk result (λ f. f.instances ≡ flat.instances) }
     ensures formed { OnOk result (IsWellFormed flat.model) }

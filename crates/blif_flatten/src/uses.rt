@@ -80,7 +80,7 @@ fn push_pin<'a>(
     requires { IsWithin text.now pin.now }
     ensures { (m : CircuitModel) → IsInterface interface.now m → OnOk result (uses_at uses.new.items ≡ uses_at uses.old.items ++ map (pin_use m) (cons_option (connection_of (spot_of text.now pin.now)) [])) }
 {
-    let Some((formal, actual)) = sides_of(word_of(text, pin)) else {
+    let Some((formal, actual)) = sides_of(word_of(text, pin), b'=') else {
         return Ok(());
     };
     let role = if interface.inward.table.has(formal) {

@@ -56,7 +56,7 @@ pub(crate) const OPTIONS: [OptionRule; 4] = [
     },
 ];
 
-pub(crate) const COMMANDS: [CommandRule; 3] = [
+pub(crate) const COMMANDS: [CommandRule; 4] = [
     CommandRule {
         name: "opt",
         usage: "opt IN OUT [JOURNAL] [options]",
@@ -86,6 +86,16 @@ pub(crate) const COMMANDS: [CommandRule; 3] = [
         names_differ: false,
         written: &[],
         meaning: "optimise a netlist made from the number SEED; no file is read or written",
+    },
+    CommandRule {
+        name: "flat",
+        usage: "flat IN OUT",
+        names: &["IN", "OUT"],
+        least: 2,
+        has_options: false,
+        names_differ: true,
+        written: &["OUT"],
+        meaning: "join the models of the BLIF hierarchy IN into one, and write it to OUT",
     },
 ];
 

@@ -48,24 +48,48 @@ fn driver_in(text: &[u8], tokens: &[Token], name: &[u8], spelling: Spelling) -> 
     None
 }
 
-/// The first place at which the text drives the name, in this spelling, with the spelling.
+fn begins_model(text: &[u8], tokens: &[Token]) -> bool {
+    match tokens.first() {
+        Some(token) => token_text(text, token) == b".model".as_slice(),
+        None => false,
+    }
+}
+
+// Whether the line stands behind a place.
+fn is_behind(tokens: &[Token], near: Place) -> bool {
+    match tokens.first() {
+        Some(token) => token.place.line > near.line,
+        None => false,
+    }
+}
+
+/// The first place at which the model around a place drives the name, in this spelling, with the spelling.
 pub(crate) fn first_driver<'a>(
     alloc: Global,
     text: &'a [u8],
     name: &[u8],
     spelling: Spelling,
+    near: Place,
 ) -> Option<(Place, &'a [u8])> {
     if text.len() > MOST_BYTES {
         return None;
     }
     let mut reader = LineReader::new(alloc, text);
+    let mut found = None;
     for _line in 0..text.len() {
         let Ok(Some(line)) = reader.next() else {
-            return None;
+            break;
         };
-        if let Some(token) = driver_in(text, line.tokens(), name, spelling) {
-            return Some((token.place, token_text(text, &token)));
+        if begins_model(text, line.tokens()) {
+            if is_behind(line.tokens(), near) {
+                break;
+            }
+            found = None;
+        }
+        if found.is_none() {
+            found = driver_in(text, line.tokens(), name, spelling);
         }
     }
-    None
+    let token = found?;
+    Some((token.place, token_text(text, &token)))
 }

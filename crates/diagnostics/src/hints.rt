@@ -29,7 +29,7 @@ const WITHOUT_WORDS: KindRule = KindRule {
     hint: "put '.model NAME' first",
 };
 
-const KINDS: [KindRule; 17] = [
+const KINDS: [KindRule; 22] = [
     KindRule {
         kind: "BadByte",
         before: "a control character, or a backslash at the end of a word",
@@ -133,7 +133,7 @@ const KINDS: [KindRule; 17] = [
         before: "",
         quotes: true,
         after: " stands after .end",
-        hint: "flatten the design into one model: in yosys, hierarchy -top TOP; flatten",
+        hint: "rambo flat IN NEW.blif joins the models of a text into one",
     },
     KindRule {
         kind: "Undriven",
@@ -149,16 +149,51 @@ const KINDS: [KindRule; 17] = [
         after: "",
         hint: "break the cycle by a .latch, or make the cut an output and an input",
     },
+    KindRule {
+        kind: "BadPin",
+        before: "the pin ",
+        quotes: true,
+        after: " is not formal=actual with a pin of the called model that stands once",
+        hint: "the pins of a model are its inputs, clocks and outputs",
+    },
+    KindRule {
+        kind: "MissingPin",
+        before: "the call leaves out an input of the called model",
+        quotes: false,
+        after: "",
+        hint: "give each input and clock a name; outputs may be left out",
+    },
+    KindRule {
+        kind: "UnknownModel",
+        before: "the text has no model ",
+        quotes: true,
+        after: "",
+        hint: "add the model to the text; let yosys make latches of flip-flop cells by dfflegalize and simplemap, see docs/flows.md",
+    },
+    KindRule {
+        kind: "DoubleModel",
+        before: "the model ",
+        quotes: true,
+        after: " stands twice",
+        hint: "rename one of them, or remove it",
+    },
+    KindRule {
+        kind: "Recursive",
+        before: "the model that has this call is called by it, directly or through others",
+        quotes: false,
+        after: "",
+        hint: "a model can't hold itself; break the cycle of calls",
+    },
 ];
 
 const UNSUPPORTED: [(&str, &str); 11] = [
     (
         ".subckt",
-        "flatten the design: in yosys, hierarchy -top TOP; flatten; a flip-flop cell becomes a latch by dfflegalize, see docs/flows.md",
+        "rambo flat IN NEW.blif joins the models of a text into one; if the cell is a flip-flop, see docs/flows.md",
     ),
     (
         ".model",
-        "flatten the design into one model: in yosys, hierarchy -top TOP; flatten",
+        "rambo flat IN NEW.blif joins the models of a text into one",
     ),
     (
         ".gate",

@@ -15,7 +15,7 @@ struct LimitRule {
 
 const BY_BLOCKS: &str = "optimise the design block by block";
 
-const LIMITS: [LimitRule; 8] = [
+const LIMITS: [LimitRule; 9] = [
     LimitRule {
         word: "text",
         before: " has ",
@@ -63,6 +63,12 @@ const LIMITS: [LimitRule; 8] = [
         before: " has ",
         after: " bytes or more, and is no journal",
         hint: "",
+    },
+    LimitRule {
+        word: "flat",
+        before: " has ",
+        after: " or more tokens once every call is written out; at most 4194304 are allowed",
+        hint: "flatten and optimise the design block by block",
     },
 ];
 

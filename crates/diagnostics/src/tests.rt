@@ -17,7 +17,7 @@ const OPTIONS: &str =
 const REFUSALS: [(&str, &str, bool); 18] = [
     (
         "optimise a b",
-        "rambo: error: no command 'optimise'; the commands are opt check demo\nusage:\n  rambo opt IN OUT [JOURNAL] [options]\n  rambo check IN JOURNAL OUT\n  rambo demo SEED [options]\nrambo --help lists the options; man rambo has more\n",
+        "rambo: error: no command 'optimise'; the commands are opt check demo flat\nusage:\n  rambo opt IN OUT [JOURNAL] [options]\n  rambo check IN JOURNAL OUT\n  rambo demo SEED [options]\n  rambo flat IN OUT\nrambo --help lists the options; man rambo has more\n",
         false,
     ),
     (
@@ -108,7 +108,7 @@ const REFUSALS: [(&str, &str, bool); 18] = [
 ];
 
 // Words of a run, what it printed, the text of which that speaks, and what is shown.
-const ENDINGS: [(&str, &str, &str, &str); 15] = [
+const ENDINGS: [(&str, &str, &str, &str); 19] = [
     (
         "opt bad.blif o j",
         "text 5:2 RowCharacter\n",
@@ -137,7 +137,7 @@ const ENDINGS: [(&str, &str, &str, &str); 15] = [
         "opt s o j",
         "text 4:1 Unsupported\n",
         ".model m\n.inputs a\n.outputs z\n.subckt inv A=a Y=z\n.end\n",
-        "s:4:1: error: '.subckt' is not part of a flat BLIF model [Unsupported]\n  .subckt inv A=a Y=z\n  ^\nhint: flatten the design: in yosys, hierarchy -top TOP; flatten; a flip-flop cell becomes a latch by dfflegalize, see docs/flows.md\n",
+        "s:4:1: error: '.subckt' is not part of a flat BLIF model [Unsupported]\n  .subckt inv A=a Y=z\n  ^\nhint: rambo flat IN NEW.blif joins the models of a text into one; if the cell is a flip-flop, see docs/flows.md\n",
     ),
     (
         "opt d o j",
@@ -194,6 +194,30 @@ const ENDINGS: [(&str, &str, &str, &str); 15] = [
         "o:2:2: error: it differs from the netlist at the end of the journal, first at byte 12\n  .inputs a b\n   ^\nhint: OUT was edited, formatted, or written by another run\n",
     ),
     ("opt a b c", "memory\n", "", "rambo: error: out of memory\n"),
+    (
+        "flat h o",
+        "text 3:9 UnknownModel\n",
+        ".model m\n.outputs q\n.subckt ff D=q Q=q\n.end\n",
+        "h:3:9: error: the text has no model 'ff' [UnknownModel]\n  .subckt ff D=q Q=q\n          ^\nhint: add the model to the text; let yosys make latches of flip-flop cells by dfflegalize and simplemap, see docs/flows.md\n",
+    ),
+    (
+        "flat h o",
+        "text 9:10 DoubleDriven\n",
+        ".model m\n.inputs z\n.outputs z\n.end\n.model n\n.inputs a\n.names a z\n1 1\n.names a z\n0 1\n",
+        "h:9:10: error: 'z' is driven twice [DoubleDriven]\n  .names a z\n           ^\nh:7:10: note: it is driven here first\n",
+    ),
+    (
+        "flat h o",
+        "limit flat 4194305\n",
+        "",
+        "h: error: it has 4194305 or more tokens once every call is written out; at most 4194304 are allowed\nhint: flatten and optimise the design block by block\n",
+    ),
+    (
+        "flat h h",
+        "words refused\n",
+        "",
+        "rambo: error: IN and OUT are both 'h'; the names must differ\nusage: rambo flat IN OUT\n",
+    ),
 ];
 
 // A call that failed in `opt in out journal`, and what is shown.

@@ -43,6 +43,10 @@ fn say_kind(message: Message, word: &[u8], kind: &str) -> Result<Message, NoMemo
     ])
 }
 
+fn is_before(place: Place, other: Place) -> bool {
+    place.line < other.line || (place.line == other.line && place.column < other.column)
+}
+
 // Where the name is driven first.
 fn say_first_driver(
     alloc: Global,
@@ -50,11 +54,10 @@ fn say_first_driver(
     fault: &TextFault<'_>,
     word: &[u8],
 ) -> Result<Message, NoMemory> {
-    match first_driver(alloc, fault.text, word, Spelling::Same) {
-        Some((place, _)) => say_place(message, fault.name, place)?.say(&[Part::Text(
-            "note: it is driven here first\n",
-        )]),
-        None => Ok(message),
+    match first_driver(alloc, fault.text, word, Spelling::Same, fault.place) {
+        Some((place, _)) if is_before(place, fault.place) => say_place(message, fault.name, place)?
+            .say(&[Part::Text("note: it is driven here first\n")]),
+        _ => Ok(message),
     }
 }
 
@@ -65,7 +68,7 @@ fn say_other_case(
     fault: &TextFault<'_>,
     word: &[u8],
 ) -> Result<Message, NoMemory> {
-    match first_driver(alloc, fault.text, word, Spelling::OtherCase) {
+    match first_driver(alloc, fault.text, word, Spelling::OtherCase, fault.place) {
         Some((place, found)) => say_place(message, fault.name, place)?.say(&[
             Part::Text("note: '"),
             Part::Word(found),

@@ -8,6 +8,7 @@ use Rattle.rm_model.specs.declared.parts.Model.{Model}
 use Rattle.blif_lines.specs.Layout.{lines_of}
 use Rattle.blif_format.specs.Laws.{ReadsOnce}
 use Rattle.blif_format.specs.FirstFault.{first_fault}
+use Rattle.blif_flatten.specs.FirstFault.{first_fault as first_hierarchy_fault}
 use Rattle.blif_format.specs.declared.refusal.FaultKind.{FaultKind}
 use Rattle.blif_format.specs.declared.refusal.ReadRefusal.{ReadRefusal}
 use Rattle.blif_format.specs.declared.refusal.ReadRefusal.TheVariants as refusal
@@ -16,11 +17,12 @@ use Rattle.cover_decompose.specs.Count.{decomposed}
 use Rattle.journal_audit.specs.Audited.{ProblemsExclude, IsProblem, IsOfFiles}
 use Rattle.journal_audit.specs.declared.problem.AuditProblem.{AuditProblem}
 use Rattle.journal_audit.specs.declared.problem.AuditProblem.TheVariants as audit
-use Rattle.word_reading.specs.Words.{Asked, opt, check, demo}
+use Rattle.word_reading.specs.Words.{Asked, opt, check, demo, flat}
 use Rattle.rambo_cli.specs.Check.{AreThere, Audited, CheckFinds, HasPassed}
 use Rattle.rambo_cli.specs.Commands.{contract_of}
 use Rattle.rambo_cli.specs.Contract.{Caused, Contract, IsCause, StoreFails}
 use Rattle.rambo_cli.specs.Files.{Holds}
+use Rattle.rambo_cli.specs.Flat.{CanBeFlattened, ExceedsFlat, FlatFinds, HasFlatFault}
 use Rattle.rambo_cli.specs.Input.{CanBeOptimised, ReadFinds}
 use Rattle.rambo_cli.specs.Problems.{status_of}
 use Rattle.rambo_cli.specs.Inner.Complete.{GoodRunsAreDone, IsOutsideOf, JudgedRunsAreTold}
@@ -69,6 +71,25 @@ read_finds_none input told Words good h = h
 read_finds_none input told (Journal f) good h = h
 read_finds_none input told (Record r) good h = h
 read_finds_none input told (Netlist byte) good h = h
+
+-- nor of one that can be flattened
+flat_finds_none : (input : Word) (told : Files) (problem : Problem) → Holds told input CanBeFlattened → FlatFinds input (Some told) problem → ⊥
+flat_finds_none input told (Text kind place) good h =
+    together (file_of told input) CanBeFlattened (λ text. HasFlatFault text kind place) good h
+    (λ text fine fault. none_or_some (first_hierarchy_fault text) (refusal.Fault kind place) fine.faultless fault.fault)
+flat_finds_none input told (Limit quantity count) good h =
+    together (file_of told input) CanBeFlattened (λ text. ExceedsFlat text quantity count) good h
+    (λ text fine over. elim over [
+      | inl long ↦ omega (arith, long.long, fine.short)
+      | inr at ↦ none_or_some (first_hierarchy_fault text) (refusal.Limit quantity count at.place) fine.faultless at.fault
+    ])
+flat_finds_none input told Missing good h = present (file_of told input) CanBeFlattened good h
+flat_finds_none input told Fault good h = h
+flat_finds_none input told Memory good h = h
+flat_finds_none input told Words good h = h
+flat_finds_none input told (Journal f) good h = h
+flat_finds_none input told (Record r) good h = h
+flat_finds_none input told (Netlist byte) good h = h
 
 -- where nothing is found, what keeps a run from its end is of the outside
 outside_alone : (c : Contract) (files : Option Files) (m n : ℕ) (problem : Problem) → (c.Finds files problem → ⊥) → IsCause c files m n problem → IsOutsideOf c m n problem
@@ -136,6 +157,9 @@ module _ (once : ReadsOnce) (exclude : ProblemsExclude) where
       outside_alone (contract_of (Some (check input journal output))) (Some told) m n problem (check_finds_none input journal output told good.0 problem good.1) h
   good_runs_are_done (Some (demo seed settings)) files m n problem good h =
       outside_alone (contract_of (Some (demo seed settings))) files m n problem (λ (x : ⊥). x) h
+  good_runs_are_done (Some (flat input output)) None m n problem good h = absurd good
+  good_runs_are_done (Some (flat input output)) (Some told) m n problem good h =
+      outside_alone (contract_of (Some (flat input output))) (Some told) m n problem (flat_finds_none input told problem good) h
 
 held : (o : Option (List ℕ)) → IsSome o → o ≡ None → ⊥
 held None h e = cc
@@ -184,6 +208,7 @@ judged_runs_are_told (Some (check input journal output)) None m n problem there 
 judged_runs_are_told (Some (check input journal output)) (Some told) m n problem there h =
     or_outside (contract_of (Some (check input journal output))) (Some told) m n problem (judged input journal output told problem there) h
 judged_runs_are_told (Some (demo seed settings)) files m n problem there h = absurd there
+judged_runs_are_told (Some (flat input output)) files m n problem there h = absurd there
 
 -- so a run that reports a problem of good words and files ends with 4, where nothing outside fails
 pub reported_done : (law : GoodRunsAreDone) (may_want : Bool) (problem : Problem) (status : ℕ) (words : Option Asked) (files : Option Files) (m n : ℕ) (old new : Option (List ℕ)) (k l : ℕ) → IsReported may_want problem status old new k l → IsCause (contract_of words) files m n problem

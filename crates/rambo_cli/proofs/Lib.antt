@@ -9,4 +9,5 @@ pub mod Auditing
 pub mod Writing
 pub mod Wanting
 pub mod Limited
+pub mod FlatTexts
 pub mod Complete

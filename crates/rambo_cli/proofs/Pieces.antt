@@ -15,7 +15,7 @@ use Rattle.rambo_cli.specs.declared.problem.Problem.{Problem}
 use Rattle.rambo_cli.specs.declared.problem.Problem.TheVariants.{Words, Text, Limit, Missing, Fault, Journal, Record, Netlist, Memory}
 use Rattle.rm_base.specs.Words.{Word}
 
-shorter : (n : ℕ) (xs : List ℕ) → length (take (n + 1) xs) ≤ n → take (n + 1) xs ≡ xs
+pub shorter : (n : ℕ) (xs : List ℕ) → length (take (n + 1) xs) ≤ n → take (n + 1) xs ≡ xs
 shorter n xs h = take_all (n + 1) xs (omega (arith, length-take (n + 1) xs))
 
 longer : (n most : ℕ) (xs : List ℕ) → most < length (take n xs) → most < length xs
@@ -27,7 +27,7 @@ said_whole model bytes h = subst (λ (text : List ℕ). IsSaid text model) (shor
 pub fault_whole : (kind : FaultKind) (place : Place) (bytes : List ℕ) → HasFault (take 16777217 bytes) kind place → HasFault bytes kind place
 fault_whole kind place bytes h = subst (λ (text : List ℕ). HasFault text kind place) (shorter 16777216 bytes h.short) h
 
-long_whole : (quantity : Quantity) (count : ℕ) (bytes : List ℕ) → IsLong (take 16777217 bytes) quantity count → IsLong bytes quantity count
+pub long_whole : (quantity : Quantity) (count : ℕ) (bytes : List ℕ) → IsLong (take 16777217 bytes) quantity count → IsLong bytes quantity count
 long_whole quantity count bytes h = record { long = longer 16777217 16777216 bytes h.long; named = h.named; counted = h.counted }
 
 pub exceeds_whole : (quantity : Quantity) (count : ℕ) (bytes : List ℕ) → Exceeds (take 16777217 bytes) quantity count → Exceeds bytes quantity count

@@ -9,6 +9,7 @@ pub mod Input
 pub mod Opt
 pub mod Check
 pub mod Demo
+pub mod Flat
 pub mod Commands
 pub mod Problems
 pub mod Outcome

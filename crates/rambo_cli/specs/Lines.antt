@@ -60,6 +60,10 @@ shelf_line = codes "fault shelf" ++ 10 ∷ []
 abbrev pub memory_line : List ℕ
 memory_line = codes "memory" ++ 10 ∷ []
 
+-- `flat I C`: how many instances and covers a flat model has
+abbrev pub flat_line : ℕ → ℕ → List ℕ
+flat_line instances covers = codes "flat " ++ (decimal instances ++ (codes " " ++ (decimal covers ++ 10 ∷ [])))
+
 -- `accepted N`: how many records a journal has that is accepted
 abbrev pub accepted_line : ℕ → List ℕ
 accepted_line count = codes "accepted " ++ (decimal count ++ 10 ∷ [])

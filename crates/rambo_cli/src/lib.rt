@@ -4,6 +4,7 @@
 
 mod checking;
 mod command;
+mod flattening;
 mod laws;
 mod lines;
 mod optimising;

@@ -1,6 +1,6 @@
 //! The lines that a run puts.
 ghost use Rattle.std.specs.Prelude.{◌≡◌, IfOk};
-ghost use Rattle.rambo_cli.specs.Lines.{fault_word as word_of_fault, quantity_word as word_of_quantity, accepted_line, fault_line as line_of_fault, limit_line};
+ghost use Rattle.rambo_cli.specs.Lines.{fault_word as word_of_fault, quantity_word as word_of_quantity, accepted_line, fault_line as line_of_fault, flat_line, limit_line};
 ghost use Rattle.rambo_cli.specs.Problems.{done_text, line_of};
 
 use crate::problem::Problem;
@@ -111,6 +111,19 @@ fn accepted_text(alloc: Global, count: u64) -> Result<Vec<u8>, NoMemory>
     Ok(line)
 }
 
+// The line of a hierarchy that is flattened.
+fn flat_text(alloc: Global, instances: u32, covers: u64) -> Result<Vec<u8>, NoMemory>
+    ensures { IfOk result (λ line. line.items ≡ flat_line instances covers) }
+{
+    let mut buffer = Buffer::new();
+    let mut line = Vec::from_slice(alloc, b"flat ")?;
+    line.extend_from_slice(buffer.format(instances).as_bytes())?;
+    line.extend_from_slice(b" ")?;
+    line.extend_from_slice(buffer.format(covers).as_bytes())?;
+    line.extend_from_slice(b"\n")?;
+    Ok(line)
+}
+
 /// What a command that is done puts.
 pub fn done_line(alloc: Global, done: &Done) -> Result<Vec<u8>, NoMemory>
     ensures { IfOk result (λ line. line.items ≡ done_text done.now) }
@@ -118,5 +131,6 @@ pub fn done_line(alloc: Global, done: &Done) -> Result<Vec<u8>, NoMemory>
     match done {
         Done::Optimised(figures) => summary(alloc, figures),
         Done::Accepted(count) => accepted_text(alloc, *count),
+        Done::Flattened { instances, covers } => flat_text(alloc, *instances, *covers),
     }
 }

@@ -16,10 +16,10 @@ use rm_base::Shelf;
 use rm_model::{RankedModel, ranks_exist};
 use std::alloc::Global;
 
-const MOST_BYTES: usize = 16_777_216;
+pub(crate) const MOST_BYTES: usize = 16_777_216;
 
-// The bytes of the input, at most one more than a text may have.
-fn bytes_of<S: Shelf>(shelf: &mut S, input: &str) -> Result<Vec<u8>, Problem>
+/// The bytes of the input, at most one more than a text may have.
+pub(crate) fn bytes_of<S: Shelf>(shelf: &mut S, input: &str) -> Result<Vec<u8>, Problem>
     ensures found { IfOk result (λ text. IfSome (S.files shelf.old) (λ told. Holds told input.now (λ bytes. text.items ≡ take 16777217 bytes))) }
     ensures missing { result ≡ Err Problem.Missing → IfSome (S.files shelf.old) (λ told. file_of told input.now ≡ None) }
     ensures told { result ≡ Err Problem.Missing → IsSome (S.files shelf.old) }

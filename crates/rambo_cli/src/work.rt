@@ -7,6 +7,7 @@ ghost use Rattle.rambo_cli.specs.Contract.{IsCause};
 ghost use Rattle.rambo_cli.specs.Problems.{KeepsFiles};
 
 use crate::checking::check;
+use crate::flattening::flatten_input;
 use crate::optimising::{Names, optimise_input};
 use crate::problem::Problem;
 use crate::showing::show;
@@ -24,6 +25,8 @@ pub enum Done {
     Optimised(Figures),
     /// `check`: the journal is accepted, with so many records.
     Accepted(u64),
+    /// `flat`: the output is one model of so many instances and covers.
+    Flattened { instances: u32, covers: u64 },
 }
 
 /// Does what the words ask for.
@@ -67,6 +70,13 @@ pub(crate) fn work<R: Threads + Sync, S: Shelf, G: Gate>(
         Command::Demo { seed, settings } => {
             let figures = show(rt, alloc, gate, seed, &settings)?;
             Ok(Done::Optimised(figures))
+        }
+        Command::Flat { input, output } => {
+            let counts = flatten_input(alloc, shelf, input, output)?;
+            Ok(Done::Flattened {
+                instances: counts.instances,
+                covers: counts.covers,
+            })
         }
     }
 }

@@ -2,6 +2,7 @@
 mod check_rows;
 mod demo_rows;
 mod failing_calls;
+mod flat_rows;
 mod hostile_texts;
 mod limits;
 mod opt_rows;

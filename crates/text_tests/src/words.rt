@@ -42,6 +42,7 @@ fn command_text(alloc: Global, command: Command<'_>) -> Result<String, Fail> {
             let start = format!(in alloc; "demo {seed} ")?;
             with_settings(alloc, &start, settings)
         }
+        Command::Flat { input, output } => Ok(format!(in alloc; "flat {input} {output}")?),
     }
 }
 
@@ -54,7 +55,7 @@ fn reads(alloc: Global, line: &str, wanted: &str) -> Result<bool, Fail> {
     }
 }
 
-const REFUSED: [&str; 80] = [
+const REFUSED: [&str; 85] = [
     "",
     "~",
     "help",
@@ -135,6 +136,11 @@ const REFUSED: [&str; 80] = [
     "opt - - j",
     "opt -- -- -- j",
     "optcare a b c d",
+    "flat",
+    "flat a",
+    "flat a a",
+    "flat a b c",
+    "flat a b --tries 1",
 ];
 
 #[test]
@@ -197,6 +203,8 @@ fn reads_the_others(rt: HostRuntime) -> Result<(), Fail> {
         ),
         ("demo +7 --depth 0 --tries 200", "demo 7 0 256 200 1"),
         ("demo --workers 8 -- 1", "demo 1 1 256 20000 8"),
+        ("flat a b", "flat a b"),
+        ("flat -- --tries=1 b", "flat --tries=1 b"),
     ];
     for (line, wanted) in rows {
         assert!(rt; reads(rt.alloc(), line, wanted)?);

@@ -10,7 +10,7 @@ use Rattle.std.proofs.lemmas.Slice.Eq.{bytes_eq-Decides}
 use Rattle.clap.proofs.WalkLemmas.{both}
 use Rattle.rm_base.specs.declared.settings.Settings.{Settings}
 use Rattle.word_reading.specs.Commands.{HasNamesApart, HasSettingsInRange, IsInRange}
-use Rattle.word_reading.specs.Words.{Asked, CommandRule, Part, are_different, asked, asked_by, at_most_once, budget_rule, check, check_by, command_rules, demo, demo_by, depth_rule, given, has_keys, is_word, names, number, opt, opt_by, parts, rule_of, settings_of, together, tries_rule, value_in, workers_rule}
+use Rattle.word_reading.specs.Words.{Asked, CommandRule, Part, are_different, asked, asked_by, at_most_once, budget_rule, check, check_by, command_rules, demo, demo_by, depth_rule, flat, flat_by, given, has_keys, is_word, names, number, opt, opt_by, parts, rule_of, settings_of, together, tries_rule, value_in, workers_rule}
 use Rattle.word_reading.specs.declared.options.TheConstants.{LEAST_BUDGET, LEAST_WORKERS, MOST_BUDGET, MOST_DEPTH, MOST_TRIES, MOST_WORKERS, USUAL_BUDGET, USUAL_DEPTH, USUAL_TRIES, USUAL_WORKERS}
 use Rattle.word_reading.proofs.Numbers.{value_of}
 use Rattle.rm_base.proofs.Public.{some_is}
@@ -110,8 +110,20 @@ demo_sound [] s range x is = cc
 demo_sound (a ∷ []) s range x is = demo_made (number 0 (2 ^ 64 - 1) a) s range x is
 demo_sound (a ∷ b ∷ ws) s range x is = cc
 
+flat_made : (a b : Word) (t : Bool) → are_different (a ∷ b ∷ []) ≡ t → (x : Asked) → cond t (Some (flat a b)) None ≡ Some x → IsSound x
+flat_made a b true apart x is =
+    let one = both (not (is_word a b || false)) true apart in
+    subst IsSound (some_is (flat a b) x is) (different a b one.0, tt)
+flat_made a b false apart x is = cc
+
+flat_sound : (ws : List Word) (s : Settings) → IsInRange s → (x : Asked) → flat_by ws s ≡ Some x → IsSound x
+flat_sound [] s range x is = cc
+flat_sound (a ∷ []) s range x is = cc
+flat_sound (a ∷ b ∷ []) s range x is = flat_made a b (are_different (a ∷ b ∷ [])) refl x is
+flat_sound (a ∷ b ∷ c ∷ ws) s range x is = cc
+
 all_sound : AllByRecursion MakesSound command_rules
-all_sound = (opt_sound, (check_sound, (demo_sound, tt)))
+all_sound = (opt_sound, (check_sound, (demo_sound, (flat_sound, tt))))
 
 sound_of : (w : Word) (xs : List CommandRule) → AllByRecursion MakesSound xs → (c : CommandRule) → find (λ (d : CommandRule). is_word w d.word) xs ≡ Some c → MakesSound c
 sound_of w [] all c e = cc

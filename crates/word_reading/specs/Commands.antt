@@ -2,22 +2,24 @@
 use Rattle.std.specs.Prelude.{◌≢◌, ◌≤◌, Some, None, option_map}
 use Rattle.word_reading.specs.declared.options.TheConstants.{LEAST_BUDGET, LEAST_WORKERS, MOST_BUDGET, MOST_DEPTH, MOST_TRIES, MOST_WORKERS}
 use Rattle.rm_base.specs.declared.settings.Settings.{Settings}
-use Rattle.word_reading.specs.Words.{Asked, opt, check, demo}
+use Rattle.word_reading.specs.Words.{Asked, opt, check, demo, flat}
 use Rattle.word_reading.specs.declared.command.Command.{Command}
-use Rattle.word_reading.specs.declared.command.Command.TheVariants.{Opt, Check, Demo}
+use Rattle.word_reading.specs.declared.command.Command.TheVariants.{Opt, Check, Demo, Flat}
 
 -- the command as a value: its names are their bytes
 abbrev pub asked_of : Command → Asked
 asked_of (Opt input output journal settings) = opt input.now output.now (option_map (λ j. j.now) journal) settings
 asked_of (Check input journal output) = check input.now journal.now output.now
 asked_of (Demo seed settings) = demo seed settings
+asked_of (Flat input output) = flat input.now output.now
 
--- no two names of `opt` are alike
+-- no two names of `opt` or of `flat` are alike
 abbrev pub HasNamesApart : Asked → Type 0
 HasNamesApart (opt input output None settings) = input ≢ output
 HasNamesApart (opt input output (Some journal) settings) = (input ≢ output) × (input ≢ journal) × (output ≢ journal)
 HasNamesApart (check input journal output) = Unit {0}
 HasNamesApart (demo seed settings) = Unit {0}
+HasNamesApart (flat input output) = input ≢ output
 
 pub record IsInRange (settings : Settings) : Type 0 where
   pub depth : settings.depth ≤ MOST_DEPTH
@@ -31,3 +33,4 @@ abbrev pub HasSettingsInRange : Asked → Type 0
 HasSettingsInRange (opt input output journal settings) = IsInRange settings
 HasSettingsInRange (check input journal output) = Unit {0}
 HasSettingsInRange (demo seed settings) = IsInRange settings
+HasSettingsInRange (flat input output) = Unit {0}

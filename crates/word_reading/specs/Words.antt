@@ -146,6 +146,7 @@ pub data Asked : Type 0 where
   opt : Word → Word → Option Word → Settings → Asked
   check : Word → Word → Word → Asked
   demo : ℕ → Settings → Asked
+  flat : Word → Word → Asked
 
 -- no two of the names are alike
 abbrev pub are_different : List Word → Bool
@@ -168,6 +169,11 @@ abbrev pub demo_by : List Word → Settings → Option Asked
 demo_by (a ∷ []) s = option_map (λ seed. demo seed s) (number 0 (2 ^ 64 - 1) a)
 demo_by _ s = None
 
+-- two different names
+abbrev pub flat_by : List Word → Settings → Option Asked
+flat_by (a ∷ b ∷ []) s = if are_different (a ∷ b ∷ []) then Some (flat a b) else None
+flat_by _ s = None
+
 -- the word of a command, the keys of its options, and what its names and settings ask for
 pub record CommandRule : Type 0 where
   pub word : Word
@@ -179,6 +185,7 @@ command_rules =
     record { word = codes "opt"; keys = setting_keys; made = opt_by }
     ∷ record { word = codes "check"; keys = []; made = check_by }
     ∷ record { word = codes "demo"; keys = setting_keys; made = demo_by }
+    ∷ record { word = codes "flat"; keys = []; made = flat_by }
     ∷ []
 
 -- the command of a word

@@ -19,6 +19,8 @@ pub enum Command<'a> {
         journal: &'a str,
         output: &'a str,
     },
+    /// Makes one flat model of the input, and writes it as the output.
+    Flat { input: &'a str, output: &'a str },
     /// Optimises the generated model of the seed.
     Demo {
         seed: u64,

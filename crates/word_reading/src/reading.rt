@@ -4,7 +4,7 @@ ghost use Rattle.std.specs.String.{string_bytes};
 ghost use Rattle.clap.specs.Words.{first_of, found_of, rows_of};
 ghost use Rattle.clap.specs.Words.{fault_of, matches_of};
 ghost use Rattle.word_reading.specs.Commands.{HasNamesApart, HasSettingsInRange, asked_of};
-ghost use Rattle.word_reading.specs.Words.{asked, check_by, demo_by, is_word, number, opt_by};
+ghost use Rattle.word_reading.specs.Words.{asked, check_by, demo_by, flat_by, is_word, number, opt_by};
 ghost use Rattle.word_reading.specs.Inner.Commands.{command_in, has_only, names_in, number_at, settings_in, texts_of};
 ghost use Rattle.word_reading.specs.Inner.Judged.{accepted};
 ghost use Rattle.word_reading.specs.Inner.Program.{program as program_app};
@@ -167,6 +167,24 @@ fn check<'a>(names: Positionals<'a>, settings: Settings) -> Option<Command<'a>>
     })
 }
 
+fn flat<'a>(names: Positionals<'a>, settings: Settings) -> Option<Command<'a>>
+    ensures { option_map asked_of result ≡ flat_by (texts_of names.entry) settings }
+{
+    let Some(input) = names.first else {
+        return None;
+    };
+    let Some(output) = names.second else {
+        return None;
+    };
+    if names.third.is_some() {
+        return None;
+    }
+    if !differ(input, output) {
+        return None;
+    }
+    Some(Command::Flat { input, output })
+}
+
 fn seed(text: &str) -> Option<u64>
     ensures { result ≡ number 0 (2 ^ 64 - 1) text.now }
 {
@@ -201,6 +219,11 @@ fn command<'a>(word: &str, given: &ArgMatches<'a>) -> Option<Command<'a>>
         check(read_positionals(given), settings(given))
     } else if word == "demo" {
         demo(read_positionals(given), settings(given))
+    } else if word == "flat" {
+        if !has_no_option(given) {
+            return None;
+        }
+        flat(read_positionals(given), settings(given))
     } else {
         None
     }

@@ -13,6 +13,7 @@ use Rattle.optimisation.specs.declared.halt.Halt.{Halt}
 use Rattle.optimisation.specs.declared.halt.Halt.TheVariants as halt
 use Rattle.word_reading.specs.declared.command.WordFault.{WordFault}
 use Rattle.word_reading.specs.declared.command.WordFault.TheVariants as word
+use Rattle.rambo_cli.specs.Flat.{ExceedsFlat, HasFlatFault}
 use Rattle.rambo_cli.specs.Written.{HasFault, Exceeds, most_pins}
 use Rattle.rambo_cli.specs.Lines.{memory_line}
 use Rattle.rambo_cli.specs.declared.problem.Problem.{Problem}
@@ -74,6 +75,13 @@ TextCause text (Text kind place) = HasFault text kind place
 TextCause text (Limit quantity count) = Exceeds text quantity count
 TextCause text Memory = Unit {0}
 TextCause text _ = ⊥
+
+-- why a text has no flat model
+abbrev pub FlatTextCause : List ℕ → Problem → Type 0
+FlatTextCause text (Text kind place) = HasFlatFault text kind place
+FlatTextCause text (Limit quantity count) = ExceedsFlat text quantity count
+FlatTextCause text Memory = Unit {0}
+FlatTextCause text _ = ⊥
 
 -- why a model isn't optimised
 abbrev pub ModelCause : Model → ℕ → ℕ → Problem → Type 0

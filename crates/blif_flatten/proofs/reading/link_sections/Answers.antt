@@ -7,6 +7,7 @@ use Rattle.blif_flatten.specs.Laws.{AreRankedBy}
 use Rattle.blif_flatten.specs.Inner.Ranks.{AreKnownCalls}
 use Rattle.blif_flatten.specs.Inner.Tokens.{IsSectionWithin, sections_at}
 use Rattle.blif_flatten.proofs.Joined.{known-calls, lead-is, positive, some-length}
+use Rattle.blif_flatten.proofs.Placed.{light-modules}
 use Rattle.blif_flatten.proofs.reading.link_sections.Goals as goal
 
 pub rank_modules-requires : goal.rank_modules-requires
@@ -20,5 +21,6 @@ returns-in-Ok-lead_of-clause-linked c = record {
   modules_are = c.in-Ok-modules_of.ensures;
   lead_is = c.in-Ok-lead_of.ensures (plain_modules (sections_at c.args.text.now c.args.sections.now)) c.requires.known ∙ sym (lead-is c.args.text.now c.args.sections.now c.index-sections-0.result (read_stands c.args.sections.now 0 c.index-sections-0.result (some-length c.args.sections.now c.requires.some) c.index-sections-0.is));
   ranked = subst (λ (ms : List Module). (rank : ℕ → ℕ) × AreRankedBy ms rank) (c.as_slice.ensures.value ∙ c.in-Ok-modules_of.ensures) c.in-Ok-rank_modules.ensures.ranked;
+  light = light-modules (sections_at c.args.text.now c.args.sections.now);
   positive = positive c.args.text.now c.args.sections.now c.requires.within;
 }

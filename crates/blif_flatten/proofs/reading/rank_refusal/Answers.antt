@@ -7,4 +7,4 @@ use Rattle.blif_flatten.proofs.Formals.{token-at}
 use Rattle.blif_flatten.proofs.reading.rank_refusal.Goals as goal
 
 pub returns : goal.returns
-returns c = λ ranks e. unranked_at c.args.places.now ranks c.in-NoRank.cover (get_or c.args.places.now c.in-NoRank.cover (record { line = 0; column = 0 })) (subst (λ (r : RankFault). IsRefused (position is_none ranks) r) c.in-NoRank.is e) (token-at c.args.places.now c.in-NoRank.cover (record { line = 0; column = 0 }) c.if-cover-places.false)
+returns c = λ ranks e. unranked_at c.args.places.now ranks c.in-NoRank.cover (get_or c.args.places.now c.in-NoRank.cover (record { line = 0; column = 0 })) (subst (λ (r : RankFault). IsRefused (position is_none ranks) r) c.in-NoRank.is e) (token-at c.args.places.now c.in-NoRank.cover (record { line = 0; column = 0 }) (c.requires c.in-NoRank.cover c.in-NoRank.is))

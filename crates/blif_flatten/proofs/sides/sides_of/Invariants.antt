@@ -4,4 +4,4 @@ use Rattle.blif_flatten.proofs.Cuts.{behind_first}
 use Rattle.blif_flatten.proofs.sides.sides_of.Given as goal
 
 abbrev pub invariant-loop-i : goal.invariant-loop-i
-invariant-loop-i l = sides_at 61 l.word ≡ behind_first (take l.i l.word) (sides_at 61 (drop l.i l.word))
+invariant-loop-i l = sides_at l.byte l.word ≡ behind_first (take l.i l.word) (sides_at l.byte (drop l.i l.word))

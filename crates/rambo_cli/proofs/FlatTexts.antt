@@ -1,0 +1,87 @@
+-- From the flat text of what was read to what `flat` says of the files.
+use Rattle.std.proofs.Common.{◌≡◌, ◌≤◌, ◌⊎◌, ℕ, List, take, length, refl, sym, ◌∙◌, ap, subst, inl, inr, Result, Ok, Err}
+use Rattle.std.specs.Prelude.{Option, None, Some, IfErr, IfOk, IfSome}
+use Rattle.std.specs.Option.{option_map}
+use Rattle.rm_base.specs.Files.{Files, put_file}
+use Rattle.rm_base.specs.Words.{Word}
+use Rattle.blif_format.specs.declared.refusal.ReadRefusal.{ReadRefusal}
+use Rattle.blif_format.specs.declared.refusal.ReadRefusal.TheVariants as refusal
+use Rattle.blif_reader.specs.Meant.{IsRefusal}
+use Rattle.blif_flatten.specs.FirstFault.{first_fault}
+use Rattle.rambo_cli.specs.Contract.{Caused}
+use Rattle.rambo_cli.specs.Files.{Holds, IfTold}
+use Rattle.rambo_cli.specs.Flat.{BeginsFlat, ExceedsFlat, ExceedsFlatAt, FlatFinds, HasFlatFault, HasFlattened, IsFlattenedInto}
+use Rattle.rambo_cli.specs.Inner.Files.{BeginsFile}
+use Rattle.rambo_cli.specs.Inner.Problems.{FlatTextCause, read_problem}
+use Rattle.rambo_cli.specs.declared.flattening.FlatText.{FlatText}
+use Rattle.rambo_cli.specs.declared.problem.Problem.{Problem}
+use Rattle.rambo_cli.specs.declared.problem.Problem.TheVariants.{Words, Text, Limit, Missing, Fault, Journal, Record, Netlist, Memory}
+use Rattle.rambo_cli.proofs.Pieces.{held, long_whole, shorter}
+
+-- a refusal of a short text is why it has no flat text
+pub refused_flat : (text : List ℕ) (e : ReadRefusal) → length text ≤ 16777216 → IsRefusal e (first_fault text) → FlatTextCause text (read_problem e)
+refused_flat text (refusal.Fault kind place) short h = record { short = short; fault = h }
+refused_flat text (refusal.Limit quantity count place) short h = inr (record { short = short; place = place; fault = h })
+refused_flat text refusal.NoMemory short h = tt
+
+flat_whole : (instances covers : ℕ) (written bytes : List ℕ) → IsFlattenedInto (take 16777217 bytes) instances covers written → IsFlattenedInto bytes instances covers written
+flat_whole instances covers written bytes h = subst (λ (text : List ℕ). IsFlattenedInto text instances covers written) (shorter 16777216 bytes h.short) h
+
+module _ (text : List ℕ) (files : Option Files) (name : Word) (found : IfSome files (λ told. Holds told name (λ bytes. text ≡ take 16777217 bytes))) where
+  -- what holds of the bytes that were read holds of the file
+  held_whole : (P : List ℕ → Type 0) → ((bytes : List ℕ) → P (take 16777217 bytes) → P bytes) → P text → IfSome files (λ told. Holds told name P)
+  held_whole P whole h = held (λ bytes. text ≡ take 16777217 bytes) P (λ bytes e. whole bytes (subst P e h)) files name found
+
+  pub flat_read : (r : Result FlatText Problem) → IfOk r (λ f. IsFlattenedInto text f.instances f.covers f.text.items)
+      → IfOk r (λ f. IfSome files (λ told. Holds told name (λ bytes. IsFlattenedInto bytes f.instances f.covers f.text.items)))
+  flat_read (Err p) h = tt
+  flat_read (Ok f) h = held_whole (λ bytes. IsFlattenedInto bytes f.instances f.covers f.text.items) (flat_whole f.instances f.covers f.text.items) h
+
+  fault_found : (problem : Problem) (before now : ℕ) → FlatTextCause text problem → Caused (FlatFinds name files) before now problem
+  fault_found (Text kind place) before now h =
+      held_whole (λ bytes. HasFlatFault bytes kind place) (λ bytes f. subst (λ (t : List ℕ). HasFlatFault t kind place) (shorter 16777216 bytes f.short) f) h
+  fault_found (Limit quantity count) before now h =
+      held_whole (λ bytes. ExceedsFlat bytes quantity count)
+      (λ bytes f. elim f [
+        | inl long ↦ inl (long_whole quantity count bytes long)
+        | inr at ↦ inr (subst (λ (t : List ℕ). ExceedsFlatAt t quantity count) (shorter 16777216 bytes at.short) at)
+      ]) h
+  fault_found Memory before now h = tt
+  fault_found Words before now h = absurd h
+  fault_found Missing before now h = absurd h
+  fault_found Fault before now h = absurd h
+  fault_found (Journal f) before now h = absurd h
+  fault_found (Record r) before now h = absurd h
+  fault_found (Netlist byte) before now h = absurd h
+
+  pub flat_cause : (r : Result FlatText Problem) (before now : ℕ) → IfErr r (FlatTextCause text) → IfErr r (Caused (FlatFinds name files) before now)
+  flat_cause (Ok f) before now h = tt
+  flat_cause (Err p) before now h = fault_found p before now h
+
+-- nothing has changed, or the output holds a beginning
+abbrev BeginsOrKeeps : Word → Word → Files → Files → Type 0
+BeginsOrKeeps input output before after = (after ≡ before) ⊎ BeginsFlat input output before after
+
+pub flat_kept : (input output : Word) (old new : Option Files) → new ≡ old → IfTold old new (BeginsOrKeeps input output)
+flat_kept input output None new e = tt
+flat_kept input output (Some told) new e = subst (λ (o : Option Files). IfTold (Some told) o (BeginsOrKeeps input output)) (sym e) (inl refl)
+
+module _ (input output : Word) (f : FlatText) (text : List ℕ) (same : text ≡ f.text.items) (mid new : Option Files) where
+  pub flat_written : (old : Option Files) → mid ≡ old → IfSome old (λ told. Holds told input (λ bytes. IsFlattenedInto bytes f.instances f.covers f.text.items))
+      → new ≡ option_map (put_file output text) mid → IfTold old new (HasFlattened input output f.instances f.covers)
+  flat_written None kept result e = tt
+  flat_written (Some told) kept result e =
+      subst (λ (o : Option Files). IfTold (Some told) o (HasFlattened input output f.instances f.covers))
+      (sym (e ∙ ap (option_map (put_file output text)) kept))
+      (record { written = f.text.items; result = result; files = ap (λ (t : List ℕ). put_file output t told) same })
+
+  pub flat_begun : (old : Option Files) → mid ≡ old → IfSome old (λ told. Holds told input (λ bytes. IsFlattenedInto bytes f.instances f.covers f.text.items))
+      → BeginsFile output text mid new → IfTold old new (BeginsOrKeeps input output)
+  flat_begun None kept result begun = tt
+  flat_begun (Some told) kept result begun = elim begun [
+    | inl unchanged ↦ flat_kept input output (Some told) new (unchanged ∙ kept)
+    | inr part ↦
+        subst (λ (o : Option Files). IfTold (Some told) o (BeginsOrKeeps input output))
+        (sym (part.1 ∙ ap (option_map (put_file output (take part.0 text))) kept))
+        (inr (record { instances = f.instances; covers = f.covers; written = f.text.items; result = result; count = part.0; files = ap (λ (t : List ℕ). put_file output (take part.0 t) told) same }))
+  ]

@@ -1,0 +1,95 @@
+// Hierarchies that are made flat, faults of them, and each call of the shelf failing in turn.
+use super::running::{ends, hold, refuses, shelf};
+use std::alloc::Global;
+use std::test::Fail;
+
+const INVERTED: &str = ".model top\n.inputs a b\n.outputs z\n.names n b z\n11 1\n.names a s0_1_i\n1 1\n.names s0_1_i s0_1_o\n0 1\n.names s0_1_o n\n1 1\n.end\n";
+
+// A top with this fourth line, and an inverter.
+fn calling(alloc: Global, call: &str) -> Result<String, Fail> {
+    Ok(format!(in alloc; ".model top\n.inputs a b\n.outputs z\n{call}\n.names n b z\n11 1\n.end\n.model inv\n.inputs i\n.outputs o\n.names i o\n0 1\n.end\n")?)
+}
+
+#[test]
+fn an_inverter_is_joined(rt: HostRuntime) -> Result<(), Fail> {
+    let alloc = rt.alloc();
+    let text = calling(alloc, ".subckt inv i=a o=n")?;
+    let mut shelf = shelf(alloc, [&text, "old", "-"], &[])?;
+    assert!(rt; ends(&rt, alloc, "flat in out", &mut shelf, 0, "flat 2 4\n")?);
+    assert!(rt; hold(&shelf, [&text, INVERTED, "-"]));
+    assert!(rt; ends(&rt, alloc, "flat out again", &mut shelf, 0, "flat 1 4\n")?);
+    assert!(rt; shelf.file("again") == Some(INVERTED.as_bytes()));
+    Ok(())
+}
+
+const FAULTS: [(&str, &str); 9] = [
+    (".subckt inv o=n", "text 4:1 MissingPin\n"),
+    (".subckt inw i=a o=n", "text 4:9 UnknownModel\n"),
+    (".subckt inv i=a x=n", "text 4:17 BadPin\n"),
+    (".subckt top a=a b=b z=n", "text 4:1 Recursive\n"),
+    (".subckt inv i=a o", "text 4:17 BadPin\n"),
+    (".subckt inv i=a o=b", "text 4:17 DoubleDriven\n"),
+    (".subckt inv i=m o=n", "text 4:13 Undriven\n"),
+    (".subckt inv i=z o=n", "text 5:1 NoRank\n"),
+    (".search lib.blif", "text 4:1 Unsupported\n"),
+];
+
+#[test]
+fn faults_of_hierarchies(rt: HostRuntime) -> Result<(), Fail> {
+    let alloc = rt.alloc();
+    for (call, put) in FAULTS {
+        let text = calling(alloc, call)?;
+        assert!(rt;
+            refuses(&rt, alloc, "flat in out", [&text, "old", "-"], 1, put)?,
+            "{call}"
+        );
+    }
+    Ok(())
+}
+
+// What `opt` and `check` refuse stays refused, and so do these words.
+const REFUSED: [(&str, u8, &str); 6] = [
+    ("opt in out", 1, "text 4:1 Unsupported\n"),
+    ("check in out out", 1, "text 4:1 Unsupported\n"),
+    ("flat in", 2, "words refused\n"),
+    ("flat in in", 2, "words refused\n"),
+    ("flat in out --depth 1", 2, "words refused\n"),
+    ("flat missing out", 3, "fault shelf\n"),
+];
+
+#[test]
+fn what_changes_no_file(rt: HostRuntime) -> Result<(), Fail> {
+    let alloc = rt.alloc();
+    let text = calling(alloc, ".subckt inv i=a o=n")?;
+    for (line, status, put) in REFUSED {
+        assert!(rt;
+            refuses(&rt, alloc, line, [&text, "old", "-"], status, put)?,
+            "{line}"
+        );
+    }
+    Ok(())
+}
+
+// The calls of `flat`: a read, the output created, its text. A failing append adds the first half of its bytes.
+const CALLS: [(u64, &str); 3] = [
+    (1u64, "old"),
+    (2, "old"),
+    (
+        3,
+        ".model top\n.inputs a b\n.outputs z\n.names n b z\n11 1\n.names a ",
+    ),
+];
+
+#[test]
+fn calls_of_flat(rt: HostRuntime) -> Result<(), Fail> {
+    let alloc = rt.alloc();
+    let text = calling(alloc, ".subckt inv i=a o=n")?;
+    for (call, output) in CALLS {
+        let mut shelf = shelf(alloc, [&text, "old", "-"], &[call])?;
+        assert!(rt; ends(&rt, alloc, "flat in out", &mut shelf, 3, "fault shelf\n")?);
+        assert!(rt; hold(&shelf, [&text, output, "-"]), "call {call}");
+        assert!(rt; ends(&rt, alloc, "flat in out", &mut shelf, 0, "flat 2 4\n")?);
+        assert!(rt; hold(&shelf, [&text, INVERTED, "-"]), "call {call}");
+    }
+    Ok(())
+}
