@@ -15,8 +15,10 @@ use Rattle.journal_text.specs.Faults.{opening}
 use Rattle.journal_text.specs.Streams.{FinishGives, GivesNone, IsReadTo, NextGives, Pending, Stands, budget_with, empty_reader, given_at, records_of}
 use Rattle.journal_text.specs.Text.{AreEntries, entries_text, entry_line, entry_text, journal_entries}
 use Rattle.journal_check.specs.declared.refusal.JournalRefusal.{JournalRefusal}
-use Rattle.journal_audit.specs.Judging.{BeginsAccepted, BeginsWith, GoesTo, IsAcceptedText, IsFaultyText, IsOpen, IsRefusedText, NoneBefore}
+use Rattle.journal_audit.specs.Judging.{BeginsAccepted, BeginsWith, GoesTo, IsFaultyText, IsOpen, IsRefusedText, NoneBefore}
 use Rattle.journal_audit.specs.Inner.Stages.{EntryRefused, IsJudged, StageIs, TakenSays}
+use Rattle.journal_audit.specs.Inner.Tallies.{IsAcceptedWith}
+use Rattle.journal_audit.specs.declared.tally.Tally.{Tally}
 use Rattle.journal_audit.specs.declared.stage.Stage.{Stage}
 use Rattle.journal_audit.specs.declared.stage.Stage.TheVariants.{Ended, Header, Records}
 
@@ -207,27 +209,30 @@ cut_off cuts m text p stage f j none h = record {
   none_before = cut_none m text p stage f j h;
 }
 
-ended_case : CutsAgree → (m : Model) (text : List ℕ) (p : Pending) (g : Circuit) (count : ℕ) (a : Awaited) → (j : IsJudged m text p (Ended g count)) → GivesNone p → p.awaited ≡ a → StageIs m j.budget j.records a (Ended g count) → IsAcceptedText m text (net_of g) count
+ended_case : CutsAgree → (m : Model) (text : List ℕ) (p : Pending) (g : Circuit) (count : Tally) (a : Awaited) → (j : IsJudged m text p (Ended g count)) → GivesNone p → p.awaited ≡ a → StageIs m j.budget j.records a (Ended g count) → IsAcceptedWith m text (net_of g) count
 ended_case cuts m text p g count awaited.Header j none e is = absurd is
 ended_case cuts m text p g count awaited.Record j none e is = absurd is
 ended_case cuts m text p g count awaited.Nothing j none e is = record {
-  budget = j.budget;
-  records = j.records;
-  journal = cuts.ends text j.budget j.records p j.read none e;
-  accepted = is.0;
-  counts = is.1;
+  accepted = record {
+    budget = j.budget;
+    records = j.records;
+    journal = cuts.ends text j.budget j.records p j.read none e;
+    accepted = is.0;
+    counts = is.1.counts;
+  };
+  said = is.1.said;
 }
 
-pub ended : CutsAgree → (m : Model) (text : List ℕ) (p : Pending) (g : Circuit) (count : ℕ) → IsJudged m text p (Ended g count) → GivesNone p → IsAcceptedText m text (net_of g) count
+pub ended : CutsAgree → (m : Model) (text : List ℕ) (p : Pending) (g : Circuit) (count : Tally) → IsJudged m text p (Ended g count) → GivesNone p → IsAcceptedWith m text (net_of g) count
 ended cuts m text p g count j none = ended_case cuts m text p g count p.awaited j none refl j.is
 
 -- which stage it is
-stage_ended : (m : Model) (b : ℕ) (rs : List Record) (stage : Stage) → StageIs m b rs awaited.Nothing stage → (g : Circuit) × ((count : ℕ) × (stage ≡ Ended g count))
+stage_ended : (m : Model) (b : ℕ) (rs : List Record) (stage : Stage) → StageIs m b rs awaited.Nothing stage → (g : Circuit) × ((count : Tally) × (stage ≡ Ended g count))
 stage_ended m b rs Header is = absurd is
 stage_ended m b rs (Records replay count) is = absurd is
 stage_ended m b rs (Ended g count) is = (g, (count, refl))
 
-pub ended_stage : (m : Model) (text : List ℕ) (p : Pending) (stage : Stage) → IsJudged m text p stage → p.awaited ≡ awaited.Nothing → (g : Circuit) × ((count : ℕ) × (stage ≡ Ended g count))
+pub ended_stage : (m : Model) (text : List ℕ) (p : Pending) (stage : Stage) → IsJudged m text p stage → p.awaited ≡ awaited.Nothing → (g : Circuit) × ((count : Tally) × (stage ≡ Ended g count))
 ended_stage m text p stage j e = stage_ended m j.budget j.records stage (stage_at m text p stage awaited.Nothing j e)
 
 open_case : (m : Model) (text : List ℕ) (p : Pending) (stage : Stage) (a : Awaited) → (j : IsJudged m text p stage) → GivesNone p → p.awaited ≡ a → Stands text (given_at a j.budget j.records) p → StageIs m j.budget j.records a stage → IsOpen m text

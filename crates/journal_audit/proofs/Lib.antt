@@ -1,3 +1,4 @@
+pub mod Saying
 pub mod Judged
 pub mod Stepping
 pub mod Differing

@@ -21,6 +21,8 @@ use Rattle.journal_audit.specs.Inner.Problems.{refusal_problem, refused_for}
 use Rattle.journal_audit.specs.Inner.Stages.{EndRefused, IsRefusal, IsReplayed, StageIs, StepRefused, TakenSays}
 use Rattle.journal_audit.specs.declared.problem.AuditProblem.{AuditProblem}
 use Rattle.journal_audit.specs.declared.stage.Stage.TheVariants.{Ended, Header, Records}
+use Rattle.journal_audit.specs.declared.tally.Tally.{Tally}
+use Rattle.journal_audit.specs.Inner.Tallies.{IsTally}
 
 -- A REFUSAL, OR WANT OF MEMORY
 refusal_case : (r : JournalRefusal) (P : JournalRefusal → Type 0) (w : Why) → r.why ≡ w → (r.why ≢ why.NoMemory → P r) → IsRefusal (refused_for r w) P
@@ -49,10 +51,8 @@ step_goes law m b rs old new r u j l s =
       leads = law.more b (editing (net_of_model m)) old.position new.position rs r j.leads (subst (λ (k : ℕ). Leads k old.position r (goes_on new.position)) j.budget_is on.0);
     }
 
-pub step_stage : RecordsReplay → (m : Model) (b : ℕ) (rs : List Record) (old new : Standing) (r : Record) (u : Unit {0}) (count : ℕ) → IsReplayed m b rs old → length rs < 2 ^ 63 → Steps old.refusal old r new (Ok u) → count ≡ length rs → TakenSays m b rs (entry.Record r) (Ok (Records new (count + 1)))
-step_stage law m b rs old new r u count j l s c =
-    let long : length (rs ++ r ∷ []) ≡ length rs + 1 = length-append rs (r ∷ []) in
-    (step_goes law m b rs old new r u j l s, omega (arith, c, long))
+pub step_stage : RecordsReplay → (m : Model) (b : ℕ) (rs : List Record) (old new : Standing) (r : Record) (u : Unit {0}) (t : Tally) → IsReplayed m b rs old → length rs < 2 ^ 63 → Steps old.refusal old r new (Ok u) → IsTally (rs ++ r ∷ []) t → TakenSays m b rs (entry.Record r) (Ok (Records new t))
+step_stage law m b rs old new r u t j l s c = (step_goes law m b rs old new r u j l s, c)
 
 pub step_refused : (m : Model) (b : ℕ) (rs : List Record) (old new : Standing) (r : Record) (e : JournalRefusal) → IsReplayed m b rs old → Steps old.refusal old r new (Err e) → e.why ≢ why.NoMemory → StepRefused m b rs r e
 step_refused m b rs old new r e j s plain =
@@ -66,11 +66,11 @@ step_refused m b rs old new r e j s plain =
     }
 
 -- THE END
-pub end_stage : RecordsReplay → ReplaysAccept → (m : Model) (b : ℕ) (rs : List Record) (s : Standing) (g : Circuit) (count : ℕ) → IsReplayed m b rs s → Finishes s.refusal s (Ok g) → count ≡ length rs → TakenSays m b rs entry.End (Ok (Ended g count))
-end_stage law accept m b rs s g count j f c =
+pub end_stage : RecordsReplay → ReplaysAccept → (m : Model) (b : ℕ) (rs : List Record) (s : Standing) (g : Circuit) (t : Tally) → IsReplayed m b rs s → Finishes s.refusal s (Ok g) → IsTally rs t → TakenSays m b rs entry.End (Ok (Ended g t))
+end_stage law accept m b rs s g t j f c =
     let end = subst (λ (o : Option JournalRefusal). Finishes o s (Ok g)) j.unrefused f in
     let accepted : IsAccepted m b rs (net_of g) = (accept (net_of_model m) (net_of g) b rs).0 (law.ends b (editing (net_of_model m)) s.position rs (net_of g) j.leads end) in
-    subst (λ (xs : List Record). IsAccepted m b xs (net_of g) × (count ≡ length xs)) (sym (append-nil rs)) (accepted, c)
+    subst (λ (xs : List Record). IsAccepted m b xs (net_of g) × IsTally xs t) (sym (append-nil rs)) (accepted, c)
 
 pub end_refused : (m : Model) (b : ℕ) (rs : List Record) (s : Standing) (e : JournalRefusal) → IsReplayed m b rs s → Finishes s.refusal s (Err e) → e.why ≢ why.NoMemory → EndRefused m b rs e
 end_refused m b rs s e j f plain =
@@ -83,12 +83,12 @@ header_first m b rs awaited.Header is = (refl, is)
 header_first m b rs awaited.Record is = absurd is
 header_first m b rs awaited.Nothing is = absurd is
 
-pub records_next : (m : Model) (b : ℕ) (rs : List Record) (a : Awaited) (s : Standing) (k : ℕ) → StageIs m b rs a (Records s k) → (a ≡ awaited.Record) × (IsReplayed m b rs s × (k ≡ length rs))
+pub records_next : (m : Model) (b : ℕ) (rs : List Record) (a : Awaited) (s : Standing) (k : Tally) → StageIs m b rs a (Records s k) → (a ≡ awaited.Record) × (IsReplayed m b rs s × IsTally rs k)
 records_next m b rs awaited.Header s k is = absurd is
 records_next m b rs awaited.Record s k is = (refl, is)
 records_next m b rs awaited.Nothing s k is = absurd is
 
-pub ended_next : (m : Model) (b : ℕ) (rs : List Record) (a : Awaited) (g : Circuit) (k : ℕ) → StageIs m b rs a (Ended g k) → a ≡ awaited.Nothing
+pub ended_next : (m : Model) (b : ℕ) (rs : List Record) (a : Awaited) (g : Circuit) (k : Tally) → StageIs m b rs a (Ended g k) → a ≡ awaited.Nothing
 ended_next m b rs awaited.Header g k is = absurd is
 ended_next m b rs awaited.Record g k is = absurd is
 ended_next m b rs awaited.Nothing g k is = refl

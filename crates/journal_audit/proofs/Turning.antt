@@ -12,8 +12,8 @@ use Rattle.journal_text.specs.declared.faults.JournalFault.TheVariants as fault
 use Rattle.journal_text.specs.Cutting.{CutsAgree}
 use Rattle.journal_text.specs.Faults.{IsFault}
 use Rattle.journal_text.specs.Streams.{GivesNone, Pending}
-use Rattle.journal_audit.specs.Audited.{HasAccepted}
-use Rattle.journal_audit.specs.Judging.{IsAcceptedText, IsOpen}
+use Rattle.journal_audit.specs.Audited.{HasSaid}
+use Rattle.journal_audit.specs.Judging.{IsOpen}
 use Rattle.journal_audit.specs.Inner.Judging.{IsTextProblem}
 use Rattle.journal_audit.specs.Inner.Stages.{IsJudged}
 use Rattle.journal_audit.specs.Inner.Turns.{EndsAccepted, EndsWith, FileBegins, IsInside, IsJournalProblem, IsReadSoFar, TurnSays}
@@ -22,6 +22,8 @@ use Rattle.journal_audit.specs.declared.problem.AuditProblem.TheVariants.{Fault,
 use Rattle.journal_audit.specs.declared.reading.Turn.{Turn}
 use Rattle.journal_audit.specs.declared.reading.Turn.TheVariants.{Ends, GoesOn}
 use Rattle.journal_audit.specs.declared.stage.Stage.{Stage}
+use Rattle.journal_audit.specs.declared.tally.Tally.{Tally}
+use Rattle.journal_audit.specs.Inner.Tallies.{IsAcceptedWith}
 use Rattle.journal_audit.proofs.Judged.{opened, pushed}
 use Rattle.rm_base.specs.Words.{Word}
 
@@ -132,18 +134,21 @@ too_long (Some told) m journal from most old stage piece some more limit s gives
     (at.bytes, (at.there, (omega (arith, long, size, more), subst (λ (t : List ℕ). IsOpen m t) (sym first) (opened m s.text old stage s.judged s.none))))
 
 -- THE JOURNAL IS ACCEPTED
-pub ends_accepted : (files : Option Files) (m : Model) (journal : Word) (from most : ℕ) (old : Pending) (stage : Stage) (piece : List ℕ) (g : Circuit) (count : ℕ) → 0 < most → piece ≡ [] → (s : IsReadSoFar files m journal from old stage) → GivesPiece files journal from most (Some piece)
-    → IsAcceptedText m s.text (net_of g) count → EndsAccepted files m journal (net_of g) count
-ends_accepted files m journal from most old stage piece g count some empty s gives a = record {
-  is_last = record { budget = a.budget; records = a.records; accepted = a.accepted };
+pub ends_accepted : (files : Option Files) (m : Model) (journal : Word) (from most : ℕ) (old : Pending) (stage : Stage) (piece : List ℕ) (g : Circuit) (t : Tally) → 0 < most → piece ≡ [] → (s : IsReadSoFar files m journal from old stage) → GivesPiece files journal from most (Some piece)
+    → IsAcceptedWith m s.text (net_of g) t → EndsAccepted files m journal (net_of g) t
+ends_accepted files m journal from most old stage piece g t some empty s gives a = record {
+  is_last = record { budget = a.accepted.budget; records = a.accepted.records; accepted = a.accepted.accepted; said = a.said };
   told = told_case files s.begins gives;
 }
   where
-    told_case : (o : Option Files) → IfSome o (λ told. FileBegins told journal s.text) → GivesPiece o journal from most (Some piece) → IfSome o (λ told. HasAccepted m told journal (net_of g) count)
+    told_case : (o : Option Files) → IfSome o (λ told. FileBegins told journal s.text) → GivesPiece o journal from most (Some piece) → IfSome o (λ told. HasSaid m told journal (net_of g) t.count t.verdicts)
     told_case None b h = tt
     told_case (Some told) b h =
         let at = piece_at told journal s.text piece from most some s.size b h in
-        record { text = s.text; there = at.there ∙ ap (λ (t : List ℕ). Some t) (at.ends empty); short = s.judged.short; accepted = a }
+        record {
+          is = record { text = s.text; there = at.there ∙ ap (λ (bytes : List ℕ). Some bytes) (at.ends empty); short = s.judged.short; accepted = a.accepted };
+          said = a.said;
+        }
 
 pub turn_ends : (files : Option Files) (m : Model) (journal : Word) (from most : ℕ) (old new : Pending) (stage : Stage) (piece : List ℕ) (t : Turn) → 0 < most → piece ≡ [] → (s : IsReadSoFar files m journal from old stage) → GivesPiece files journal from most (Some piece) → EndsWith m s.text t → TurnSays files m journal from new t
 turn_ends files m journal from most old new stage piece (GoesOn after now) some empty s gives e = absurd e

@@ -6,7 +6,12 @@ use Rattle.gate_net.specs.Net.{Net}
 use Rattle.blif_format.specs.Text.{text_of}
 use Rattle.graph_to_model.specs.Laws.{AreFew}
 use Rattle.graph_to_model.specs.NetModel.{model_of_net}
+use Rattle.gate_graph.specs.Circuit.{net_of}
 use Rattle.journal_text.specs.declared.faults.JournalFault.TheVariants as fault
+use Rattle.journal_text.specs.declared.record.Record.{Record}
+use Rattle.journal_check.specs.Accepts.{IsAccepted}
+use Rattle.journal_audit.specs.Verdicts.{VerdictList, said_in, said_of}
+use Rattle.journal_audit.specs.declared.auditing.Audited.{Audited}
 use Rattle.journal_check.specs.declared.refusal.Why.TheVariants as why
 use Rattle.journal_audit.specs.Differences.{DifferAt}
 use Rattle.journal_audit.specs.Judging.{IsAcceptedText, IsFaultyText, IsOpen, IsRefusedText}
@@ -21,12 +26,30 @@ pub record HasAccepted (m : Model) (files : Files) (journal : Word) (last : Net)
   pub short : length text ≤ 2 ^ 62
   pub accepted : IsAcceptedText m text last count
 
+-- the net is the last one of an accepted journal, whose verdicts these are
+pub record IsLast (m : Model) (last : Net) (verdicts : VerdictList) : Type 0 where
+  pub budget : ℕ
+  pub records : List Record
+  pub accepted : IsAccepted m budget records last
+  pub said : said_in verdicts ≡ said_of records
+
+-- the journal is there and accepted, and these are its verdicts
+pub record HasSaid (m : Model) (files : Files) (journal : Word) (last : Net) (count : ℕ) (verdicts : VerdictList) : Type 0 where
+  pub is : HasAccepted m files journal last count
+  pub said : said_in verdicts ≡ said_of is.accepted.records
+
 -- the journal is accepted, and the output is the text of its last net's model, which is small enough to be read again
 pub record IsPassed (m : Model) (files : Files) (journal output : Word) (count : ℕ) : Type 0 where
   pub last : Net
   pub accepted : HasAccepted m files journal last count
   pub few : AreFew last m
   pub written : file_of files output ≡ Some (text_of (model_of_net m last))
+
+-- the audit is passed with that last net and these verdicts
+pub record PassedWith (m : Model) (files : Files) (journal output : Word) (a : Audited) : Type 0 where
+  pub is : IsPassed m files journal output a.count
+  pub last_is : is.last ≡ net_of a.graph
+  pub said : said_in a.verdicts ≡ said_of is.accepted.accepted.records
 
 abbrev pub JournalIs : Files → Word → (List ℕ → Type 0) → Type 0
 JournalIs files journal P = (text : List ℕ) × ((file_of files journal ≡ Some text) × P text)

@@ -3,4 +3,5 @@ pub mod Audited
 pub mod Judging
 pub mod Problems
 pub mod Stages
+pub mod Tallies
 pub mod Turns

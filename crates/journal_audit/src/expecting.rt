@@ -53,10 +53,10 @@ pub(crate) fn expect_piece(alloc: Global, stage: Stage, piece: &[u8]) -> Stage
 {
     match stage {
         Stage::Header => Stage::Header,
-        Stage::Records { replay, count } => Stage::Records {
+        Stage::Records { replay, tally } => Stage::Records {
             replay: let_know(alloc, replay, piece),
-            count,
+            tally,
         },
-        Stage::Ended { graph, count } => Stage::Ended { graph, count },
+        Stage::Ended { graph, tally } => Stage::Ended { graph, tally },
     }
 }

@@ -14,6 +14,7 @@ ghost use Rattle.journal_text.specs.declared.record.Record.{Record as RecordValu
 ghost use Rattle.journal_check.specs.Replaying.{IsLocalTree};
 ghost use Rattle.journal_audit.specs.Inner.Judging.{IsTextProblem};
 ghost use Rattle.journal_audit.specs.Inner.Problems.{fault_problem as problem_of_fault, refusal_problem as problem_of_refusal};
+ghost use Rattle.journal_audit.specs.Inner.Tallies.{IsTally};
 ghost use Rattle.journal_audit.specs.Inner.Stages.{IsJudged, IsReplayed, StageIs, TakenSays};
 ghost use Rattle.journal_audit.specs.declared.problem.AuditProblem.TheVariants.{NoMemory as Wanting};
 ghost use Rattle.cover_decompose.specs.Limits.{most_pins};
@@ -21,9 +22,11 @@ ghost use Rattle.cover_decompose.specs.Limits.{most_pins};
 use crate::expecting::expect_piece;
 use crate::problem::AuditProblem;
 use crate::stage::Stage;
+use crate::tally::Tally;
 use cover_decompose::DecomposeRefusal;
 use journal_check::{JournalRefusal, Replay, Why, records_replay, replays_accept};
 use journal_text::{Entry, JournalFault, JournalReader, Record, cuts_agree};
+use rm_base::NoMemory;
 use rm_model::RankedModel;
 use std::alloc::Global;
 
@@ -68,37 +71,43 @@ fn first_stage(alloc: Global, model: &RankedModel, budget: u32) -> Result<Stage,
     ensures memory { IfErr result (λ problem. problem ≡ Wanting) }
 {
     match Replay::new(alloc, model, budget) {
-        Ok(replay) => Ok(Stage::Records { replay, count: 0 }),
+        Ok(replay) => Ok(Stage::Records {
+            replay,
+            tally: Tally::new(alloc),
+        }),
         Err(DecomposeRefusal::Limit { pins: _ }) => unreachable!(),
         Err(DecomposeRefusal::NoMemory) => Err(AuditProblem::NoMemory),
     }
 }
 
 // One more record.
-fn stage_after_record(replay: Replay, count: u64, given: &Record) -> Result<Stage, AuditProblem>
+fn stage_after_record(replay: Replay, tally: Tally, given: &Record) -> Result<Stage, AuditProblem>
     requires tree { IsLocalTree given.now }
-    requires few { count < 2 ^ 63 }
-    ensures { (m : ModelValue) (budget : ℕ) (records : List RecordValue) → IsReplayed m budget records replay → count ≡ length records → TakenSays m budget records (entries.Record given.now) result }
+    requires few { tally.count < 2 ^ 63 }
+    ensures { (m : ModelValue) (budget : ℕ) (records : List RecordValue) → IsReplayed m budget records replay → IsTally records tally → TakenSays m budget records (entries.Record given.now) result }
 {
     records_replay();
     let mut replay = replay;
     match replay.step(given) {
-        Ok(()) => Ok(Stage::Records {
-            replay,
-            count: count + 1,
-        }),
+        Ok(()) => {
+            let mut tally = tally;
+            match tally.push(given) {
+                Ok(()) => Ok(Stage::Records { replay, tally }),
+                Err(NoMemory) => Err(AuditProblem::NoMemory),
+            }
+        }
         Err(refusal) => Err(refusal_problem(refusal)),
     }
 }
 
 // The end of the journal.
-fn stage_at_end(replay: Replay, count: u64) -> Result<Stage, AuditProblem>
-    ensures { (m : ModelValue) (budget : ℕ) (records : List RecordValue) → IsReplayed m budget records replay → count ≡ length records → TakenSays m budget records entries.End result }
+fn stage_at_end(replay: Replay, tally: Tally) -> Result<Stage, AuditProblem>
+    ensures { (m : ModelValue) (budget : ℕ) (records : List RecordValue) → IsReplayed m budget records replay → IsTally records tally → TakenSays m budget records entries.End result }
 {
     records_replay();
     replays_accept();
     match replay.finish() {
-        Ok(graph) => Ok(Stage::Ended { graph, count }),
+        Ok(graph) => Ok(Stage::Ended { graph, tally }),
         Err(refusal) => Err(refusal_problem(refusal)),
     }
 }
@@ -126,12 +135,12 @@ fn stage_after_entry(
             Entry::Record(_) => unreachable!(),
             Entry::End => unreachable!(),
         },
-        Stage::Records { replay, count } => match entry {
+        Stage::Records { replay, tally } => match entry {
             Entry::Header { budget: _ } => unreachable!(),
-            Entry::Record(record) => stage_after_record(replay, count, record),
-            Entry::End => stage_at_end(replay, count),
+            Entry::Record(record) => stage_after_record(replay, tally, record),
+            Entry::End => stage_at_end(replay, tally),
         },
-        Stage::Ended { graph: _, count: _ } => unreachable!(),
+        Stage::Ended { graph: _, tally: _ } => unreachable!(),
     }
 }
 

@@ -10,8 +10,11 @@ mod lines;
 mod problem;
 mod reading;
 mod stage;
+mod tally;
+mod verdicts;
 
-pub use auditing::{audit, net_text};
+pub use auditing::{Audited, audit, audit_verdicts, net_text};
 pub use laws::problems_exclude;
 pub use lines::{fault_line, netlist_line, refusal_line};
 pub use problem::AuditProblem;
+pub use verdicts::Verdicts;

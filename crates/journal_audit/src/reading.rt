@@ -20,6 +20,7 @@ ghost use Rattle.cover_decompose.specs.Limits.{most_pins};
 use crate::judge::judge_piece;
 use crate::problem::AuditProblem;
 use crate::stage::Stage;
+use crate::tally::Tally;
 use gate_graph::Graph;
 use journal_text::{JournalReader, cuts_agree};
 use rm_base::{NoMemory, Shelf};
@@ -34,7 +35,7 @@ const MOST_BYTES: u64 = 4_611_686_018_427_387_904;
 #[derive(Drop)]
 pub(crate) enum Turn {
     GoesOn { stage: Stage, from: u64 },
-    Ends { graph: Graph, count: u64 },
+    Ends { graph: Graph, tally: Tally },
 }
 
 // How many bytes are read at a place: never beyond the limit, but for one byte that shows more.
@@ -87,11 +88,11 @@ fn last(reader: &JournalReader, stage: Stage) -> Result<Turn, AuditProblem>
         return Err(AuditProblem::Text { fault });
     }
     match stage {
-        Stage::Ended { graph, count } => Ok(Turn::Ends { graph, count }),
+        Stage::Ended { graph, tally } => Ok(Turn::Ends { graph, tally }),
         Stage::Header => unreachable!(),
         Stage::Records {
             replay: _,
-            count: _,
+            tally: _,
         } => unreachable!(),
     }
 }
@@ -140,13 +141,13 @@ fn next_turn(
     Ok(Turn::GoesOn { stage, from })
 }
 
-/// Reads the journal to its end and judges each entry as soon as its line is whole: the last net and the number of records.
+/// Reads the journal to its end and judges each entry as soon as its line is whole: the last net, and what was read of the records.
 pub(crate) fn journal_net<S: Shelf>(
     alloc: Global,
     shelf: &mut S,
     model: &RankedModel,
     journal: &str,
-) -> Result<(Graph, u64), AuditProblem>
+) -> Result<(Graph, Tally), AuditProblem>
     requires formed { IsWellFormed model.now }
     requires ranked { first_without_rank model.now ≡ None }
     requires covers { length model.now.covers < 2 ^ 32 }
@@ -176,7 +177,7 @@ pub(crate) fn journal_net<S: Shelf>(
                 stage = next;
                 from = now;
             }
-            Turn::Ends { graph, count } => return Ok((graph, count)),
+            Turn::Ends { graph, tally } => return Ok((graph, tally)),
         }
     }
 }

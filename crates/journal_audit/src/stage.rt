@@ -1,4 +1,5 @@
 // How far a journal is judged.
+use crate::tally::Tally;
 use gate_graph::Graph;
 use journal_check::Replay;
 
@@ -6,7 +7,7 @@ use journal_check::Replay;
 #[derive(Drop)]
 pub(crate) enum Stage {
     Header,
-    Records { replay: Replay, count: u64 },
-    // The journal is accepted, with this last net and so many records.
-    Ended { graph: Graph, count: u64 },
+    Records { replay: Replay, tally: Tally },
+    // The journal is accepted, with this last net and such records.
+    Ended { graph: Graph, tally: Tally },
 }

@@ -10,7 +10,7 @@ use Rattle.wire_edit.specs.Order.{IsTidy}
 use Rattle.graph_to_model.specs.NetModel.{model_of_net}
 use Rattle.graph_to_model.specs.Fits.{Fits}
 use Rattle.graph_to_model.specs.Laws.{AreFew}
-use Rattle.model_faults.specs.ModelFaults.{gate_covers_of, DetectsIn}
+use Rattle.model_faults.specs.ModelFaults.{DetectsIn, ModelFault, faults_of_model, gate_covers_of}
 use Rattle.gate_net.specs.Faults.{gates_of, faults_of, fault_at, assigned, Gives}
 
 -- the gate has as many pins as the cover has inputs, and the same vectors detect their faults
@@ -47,3 +47,17 @@ VectorsGive = (vector : List Bool) → Gives (assigned vector) vector
 abbrev pub TidyNetsHaveModelFaults : Type 0
 TidyNetsHaveModelFaults =
     (net : Net) (m : Model) → IsNet net → IsTidy net → IsWellFormed m → Fits net m → AreFew net m → HasModelFaults net (model_of_net m net)
+
+-- the same vectors detect the fault of the net and that of the model
+pub record IsSameFault (net : Net) (m : Model) (fault : Fault) (own : ModelFault) : Type 0 where
+  pub to_model : (a : ℕ → Bool) (vector : List Bool) → length vector ≡ source_count net → Gives a vector → Detects net fault a → DetectsIn m vector own.cover own.position own.value
+  pub to_net : (a : ℕ → Bool) (vector : List Bool) → Gives a vector → DetectsIn m vector own.cover own.position own.value → Detects net fault a
+
+-- the net and the model have as many faults, and the same ones in the same order
+pub record ListAlike (net : Net) (m : Model) : Type 0 where
+  pub count : length (faults_of_model m) ≡ length (faults_of net)
+  pub each : (j : ℕ) (fault : Fault) (own : ModelFault) → slice_get (faults_of net) j ≡ Some fault → slice_get (faults_of_model m) j ≡ Some own → IsSameFault net m fault own
+
+-- a tidy net and its model list their faults alike
+abbrev pub TidyNetsListAlike : Type 0
+TidyNetsListAlike = (net : Net) (m : Model) → IsNet net → IsTidy net → IsWellFormed m → Fits net m → AreFew net m → ListAlike net (model_of_net m net)

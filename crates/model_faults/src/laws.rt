@@ -1,5 +1,5 @@
 //! Laws of faults.
-ghost use Rattle.model_faults.specs.Laws.{NetsListOnce, TidyNetsHaveModelFaults, VectorsGive};
+ghost use Rattle.model_faults.specs.Laws.{NetsListOnce, TidyNetsHaveModelFaults, TidyNetsListAlike, VectorsGive};
 ghost use Rattle.model_faults.specs.Valuations.{AllRunsDetect, FaultyValuationsExist, WiresAreOfGates};
 ghost use Rattle.std.specs.Prelude.{◌≡◌, [], ◌∷◌, codes, false, true, Some};
 ghost use Rattle.cover_decompose.specs.Decomposition.{net_of_model};
@@ -32,11 +32,12 @@ pub fn faults_of_models()
 {}
 
 /// The k-th gate of a tidy net is the k-th gate cover of its model, with as many inputs as pins, and the same vectors
-/// detect their faults; each fault stands once in the list of the net's faults.
+/// detect their faults; each fault stands once in the list of the net's faults, and the lists of both have the same order.
 pub fn tidy_nets_have_model_faults()
     ensures faults { TidyNetsHaveModelFaults }
     ensures once { NetsListOnce }
     ensures vectors { VectorsGive }
+    ensures alike { TidyNetsListAlike }
 {
     order_tells();
 }

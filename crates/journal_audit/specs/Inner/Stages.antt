@@ -14,6 +14,7 @@ use Rattle.journal_check.specs.Replaying.{EndLeads, LeadOn, Leads, Position, edi
 use Rattle.journal_check.specs.declared.refusal.JournalRefusal.{JournalRefusal}
 use Rattle.journal_check.specs.declared.refusal.Why.TheVariants as why
 use Rattle.journal_check.specs.Standing.{Standing}
+use Rattle.journal_audit.specs.Inner.Tallies.{IsTally}
 use Rattle.journal_audit.specs.declared.problem.AuditProblem.{AuditProblem}
 use Rattle.journal_audit.specs.declared.problem.AuditProblem.TheVariants.{NoMemory, Refused}
 use Rattle.journal_audit.specs.declared.stage.Stage.{Stage}
@@ -29,8 +30,8 @@ pub record IsReplayed (m : Model) (budget : ℕ) (records : List Record) (s : St
 -- the stage is that of these entries
 abbrev pub StageIs : Model → ℕ → List Record → Awaited → Stage → Type 0
 StageIs m budget records awaited.Header Header = records ≡ []
-StageIs m budget records awaited.Record (Records replay count) = IsReplayed m budget records replay × (count ≡ length records)
-StageIs m budget records awaited.Nothing (Ended graph count) = IsAccepted m budget records (net_of graph) × (count ≡ length records)
+StageIs m budget records awaited.Record (Records replay tally) = IsReplayed m budget records replay × IsTally records tally
+StageIs m budget records awaited.Nothing (Ended graph tally) = IsAccepted m budget records (net_of graph) × IsTally records tally
 StageIs m budget records _ _ = ⊥
 
 -- the text so far is read and judged

@@ -5,20 +5,20 @@ use Rattle.rm_base.specs.Shelves.{GivesPiece}
 use Rattle.rm_model.specs.declared.parts.Model.{Model}
 use Rattle.gate_net.specs.Net.{Net}
 use Rattle.gate_graph.specs.Circuit.{net_of}
-use Rattle.journal_text.specs.declared.record.Record.{Record}
 use Rattle.journal_text.specs.Streams.{GivesNone, Pending}
 use Rattle.journal_text.specs.declared.faults.JournalFault.TheVariants as fault
-use Rattle.journal_check.specs.Accepts.{IsAccepted}
 use Rattle.journal_check.specs.declared.refusal.Why.TheVariants as why
-use Rattle.journal_audit.specs.Audited.{HasAccepted, JournalIs}
-use Rattle.journal_audit.specs.Judging.{IsAcceptedText, IsOpen}
+use Rattle.journal_audit.specs.Audited.{HasSaid, IsLast, JournalIs}
+use Rattle.journal_audit.specs.Judging.{IsOpen}
 use Rattle.journal_audit.specs.Inner.Judging.{IsTextProblem}
 use Rattle.journal_audit.specs.Inner.Stages.{IsJudged}
+use Rattle.journal_audit.specs.Inner.Tallies.{IsAcceptedWith}
 use Rattle.journal_audit.specs.declared.problem.AuditProblem.{AuditProblem}
 use Rattle.journal_audit.specs.declared.problem.AuditProblem.TheVariants.{Fault, Netlist, NoJournal, NoMemory, NoOutput, Refused, Text, TooLong}
 use Rattle.journal_audit.specs.declared.reading.Turn.{Turn}
 use Rattle.journal_audit.specs.declared.reading.Turn.TheVariants.{Ends, GoesOn}
 use Rattle.journal_audit.specs.declared.stage.Stage.{Stage}
+use Rattle.journal_audit.specs.declared.tally.Tally.{Tally}
 use Rattle.rm_base.specs.Words.{Word}
 
 -- the file, where it is there, begins with the text
@@ -43,21 +43,15 @@ pub record GivesNext (files : Option Files) (m : Model) (journal : Word) (from m
   pub so_far : IsReadSoFar files m journal from p stage
   pub gives : GivesPiece files journal from most (Some piece)
 
--- the net is the last one of an accepted journal
-pub record IsLast (m : Model) (last : Net) : Type 0 where
-  pub budget : ℕ
-  pub records : List Record
-  pub accepted : IsAccepted m budget records last
-
--- the journal is accepted, with that last net and so many records
-pub record EndsAccepted (files : Option Files) (m : Model) (journal : Word) (last : Net) (count : ℕ) : Type 0 where
-  pub is_last : IsLast m last
-  pub told : IfSome files (λ told. HasAccepted m told journal last count)
+-- the journal is accepted, with that last net and such records
+pub record EndsAccepted (files : Option Files) (m : Model) (journal : Word) (last : Net) (t : Tally) : Type 0 where
+  pub is_last : IsLast m last t.verdicts
+  pub told : IfSome files (λ told. HasSaid m told journal last t.count t.verdicts)
 
 -- what one turn leads to
 abbrev pub TurnSays : Option Files → Model → Word → ℕ → Pending → Turn → Type 0
 TurnSays files m journal from p (GoesOn stage now) = IsReadSoFar files m journal now p stage × (from < now)
-TurnSays files m journal from p (Ends graph count) = EndsAccepted files m journal (net_of graph) count
+TurnSays files m journal from p (Ends graph tally) = EndsAccepted files m journal (net_of graph) tally
 
 -- what is wrong with the journal, where its shelf tells it
 abbrev pub IsJournalProblem : Model → Files → Word → AuditProblem → Type 0
@@ -77,7 +71,7 @@ IsToldProblem files m journal problem = IfSome files (λ told. IsJournalProblem 
 -- the whole text is accepted
 abbrev pub EndsWith : Model → List ℕ → Turn → Type 0
 EndsWith m text (GoesOn stage now) = ⊥
-EndsWith m text (Ends graph count) = IsAcceptedText m text (net_of graph) count
+EndsWith m text (Ends graph tally) = IsAcceptedWith m text (net_of graph) tally
 
 -- problems of the shelf and of memory
 abbrev pub IsOutside : AuditProblem → Type 0

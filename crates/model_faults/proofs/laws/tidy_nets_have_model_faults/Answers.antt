@@ -3,6 +3,7 @@ use Rattle.std.proofs.Common.{ℕ, ◌<◌, subst}
 use Rattle.std.proofs.lemmas.Option.{slice_get_within}
 use Rattle.rm_model.specs.declared.parts.Cover.{Cover}
 use Rattle.graph_to_model.proofs.Public.{lean}
+use Rattle.model_faults.proofs.Alike.{list_alike}
 use Rattle.model_faults.proofs.Gates.{gates_same, gate_pins, gate_covers_are}
 use Rattle.gate_net.specs.Faults.{gates_of}
 use Rattle.model_faults.proofs.Listed.{pin_listed, list_once}
@@ -37,3 +38,6 @@ returns-clause-vectors c = vectors_give
 
 pub returns-clause-once : goal.returns-clause-once
 returns-clause-once c = list_once
+
+pub returns-clause-alike : goal.returns-clause-alike
+returns-clause-alike c = λ net m formed tidy well fit few. list_alike m net (record { formed = formed; lean = lean c.order_tells.ensures.tidy net formed tidy; well = well; fit = fit; few = few })

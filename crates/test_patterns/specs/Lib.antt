@@ -1,0 +1,3 @@
+pub mod TestSets
+pub mod Classes
+pub mod Inner
