@@ -16,11 +16,12 @@ use Rattle.blif_format.specs.Text.{text_of}
 use Rattle.blif_format.specs.FirstFault.{first_fault}
 use Rattle.cover_decompose.specs.Count.{decomposed}
 use Rattle.cover_decompose.specs.Decomposition.{net_of_model}
+use Rattle.graph_to_model.specs.Laws.{AreFew}
 use Rattle.graph_to_model.specs.NetModel.{model_of_net}
 use Rattle.graph_to_model.specs.Wires.{wires}
 use Rattle.model_faults.specs.ModelFaults.{DetectsIn, gate_covers_of}
 use Rattle.journal_text.specs.Runs.{steps_of}
-use Rattle.journal_text.specs.Text.{journal_text}
+use Rattle.journal_text.specs.Text.{AreEntries, journal_entries, journal_text}
 use Rattle.rar_loop.specs.Rounds.{IsRun}
 use Rattle.journal_text.specs.declared.record.Record.{Record}
 use Rattle.journal_text.specs.declared.record.Record.TheVariants.{Step, Hit, Spent}
@@ -77,6 +78,9 @@ pub record IsOptimisedInto (m : Model) (settings : Settings) (figures : Figures)
   -- the checker accepts every journal step
   pub recorded : journal ≡ journal_text settings.budget (steps ++ verdicts)
   pub accepted : IsAccepted m settings.budget (steps ++ verdicts) net
+  -- and can read the journal, of which each number has at most 32 bits, and write the output anew
+  pub valid : AreEntries (journal_entries settings.budget (steps ++ verdicts))
+  pub small : AreFew net m
   -- and every remaining gate-input stuck-at fault has a written detecting vector, or a written search that spent its whole budget,
   pub tested : AreTested (model_of_net m net) net settings.budget verdicts
   -- impossible at 2^(n+1), n being the number of inputs, clocks and latch outputs of the original

@@ -1,11 +1,12 @@
 -- The command `opt IN OUT [JOURNAL]`.
-use Rattle.std.specs.Prelude.{◌≡◌, ◌≤◌, ◌⊎◌, ℕ, List, Option, None, Some, IsSomeAnd, take, true}
+use Rattle.std.specs.Prelude.{◌≡◌, ◌<◌, ◌≤◌, ◌^◌, ◌⊎◌, ℕ, List, Option, None, Some, IsSomeAnd, length, take, true}
 use Rattle.rm_base.specs.Files.{Files, put_file}
 use Rattle.rm_base.specs.declared.settings.Settings.{Settings}
 use Rattle.rm_model.specs.declared.parts.Model.{Model}
 use Rattle.cover_decompose.specs.Count.{decomposed}
 use Rattle.optimisation.specs.Begun.{IsBeginning}
 use Rattle.optimisation.specs.declared.optimised.Figures.{Figures}
+use Rattle.rambo_cli.specs.Check.{check_contract}
 use Rattle.rambo_cli.specs.Contract.{Contract}
 use Rattle.rambo_cli.specs.Files.{Holds, IfTold}
 use Rattle.rambo_cli.specs.Headline.{IsOptimisedInto}
@@ -29,10 +30,15 @@ pub record HasWritten (model : Model) (output : Word) (journal : Option Word) (s
   pub result : IsOptimisedInto model settings figures recorded written
   pub files : new ≡ put_file output written (with_journal journal recorded old)
 
--- that is so of the model that the input says
+-- over these files `check IN JOURNAL OUT` is good, or the journal is longer than it reads
+abbrev pub IsChecked : Word → Word → Option Word → Files → Type 0
+IsChecked input output None told = Unit {0}
+IsChecked input output (Some journal) told = (check_contract input journal output).IsGood (Some told) ⊎ Holds told journal (λ text. 2 ^ 62 < length text)
+
+-- that is so of the model that the input says, and of the files `check`
 abbrev pub HasOptimised : Word → Word → Option Word → Settings → Figures → Files → Files → Type 0
 HasOptimised input output journal settings figures old new =
-    (model : Model) × (Holds old input (λ text. IsSaid text model) × HasWritten model output journal settings figures old new)
+    (model : Model) × (Holds old input (λ text. IsSaid text model) × (HasWritten model output journal settings figures old new × IsChecked input output journal new))
 
 abbrev pub OptDoes : Word → Word → Option Word → Settings → Option Files → Option Files → Done → Type 0
 OptDoes input output journal settings old new (Optimised figures) = IfTold old new (HasOptimised input output journal settings figures)

@@ -6,6 +6,8 @@ ghost use Rattle.rm_base.specs.Files.{put_file};
 ghost use Rattle.gate_graph.specs.Circuit.{net_of};
 ghost use Rattle.cover_decompose.specs.Count.{decomposed};
 ghost use Rattle.optimisation.specs.Ranges.{AreSettings};
+ghost use Rattle.word_reading.specs.Commands.{HasNamesApart};
+ghost use Rattle.word_reading.specs.Words.{opt};
 ghost use Rattle.rambo_cli.specs.Files.{IfTold};
 ghost use Rattle.rambo_cli.specs.Input.{ReadCause};
 ghost use Rattle.rambo_cli.specs.Opt.{BeginsToWrite, BeginsToWriteFor, HasOptimised, HasWritten};
@@ -111,6 +113,7 @@ pub(crate) fn optimise_input<R: Threads + Sync, G: Gate, S: Shelf>(
     names: &Names<'_>,
     settings: &Settings,
 ) -> Result<Figures, Problem>
+    requires apart { HasNamesApart (opt names.now.input.now names.now.output.now (option_map (λ j. j.now) names.now.journal) settings.now) }
     requires settings { AreSettings settings.now }
     ensures done { IfOk result (λ figures. IfTold (S.files shelf.old) (S.files shelf.new) (HasOptimised names.now.input.now names.now.output.now (option_map (λ j. j.now) names.now.journal) settings.now figures)) }
     ensures cause { IfErr result (ReadCause names.now.input.now (S.files shelf.old) (S.faults shelf.old) (S.faults shelf.new)) }

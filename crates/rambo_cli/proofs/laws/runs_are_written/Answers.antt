@@ -27,6 +27,8 @@ returns c = λ m settings net steps verdicts figures model ranked parts few limi
       no_more_wires = omega (arith, is.wires, over.fewer);
       recorded = refl;
       accepted = record { steps = steps; verdicts = verdicts; parts = refl; leads = over.led; tidy = over.tidy; settled = over.settled };
+      valid = over.valid;
+      small = few;
       tested = tested net (model_of_net m net) settings.budget verdicts faults (c.tidy_nets_have_model_faults.ensures.once net) c.tidy_nets_have_model_faults.ensures.vectors over.settled over.searched;
       decided = λ enough. over.searched.decided (subst (λ (n : ℕ). 2 ^ (n + 1) ≤ settings.budget) (sym fit.sources) enough);
       run = over.run;

@@ -1,0 +1,85 @@
+-- `check` over the files that `opt` wrote.
+use Rattle.std.proofs.Common.{◌≡◌, ◌≢◌, ◌<◌, ◌≤◌, ◌^◌, ◌∙◌, ◌++◌, ℕ, List, ap, arith, cond, inl, inr, length, refl, rules, subst, sym}
+use Rattle.std.proofs.lemmas.Bool.{cases_lt}
+use Rattle.std.specs.Prelude.{Option, None, Some, IsSomeAnd}
+use Rattle.std.specs.FinMap.{gets}
+use Rattle.std.specs.Cmp.Lexicographic.{nat_list_cmp_total}
+use Rattle.rm_base.specs.Files.{Files, file_of, put_file}
+use Rattle.rm_base.specs.Words.{Word}
+use Rattle.rm_base.specs.declared.settings.Settings.{Settings}
+use Rattle.rm_model.specs.declared.parts.Model.{Model}
+use Rattle.journal_audit.specs.Audited.{IsPassed}
+use Rattle.journal_text.specs.declared.record.Record.{Record}
+use Rattle.optimisation.specs.declared.optimised.Figures.{Figures}
+use Rattle.word_reading.specs.Commands.{HasNamesApart}
+use Rattle.word_reading.specs.Words.{opt}
+use Rattle.rambo_cli.specs.Check.{HasPassed}
+use Rattle.rambo_cli.specs.Files.{Holds, IfTold}
+use Rattle.rambo_cli.specs.Headline.{IsOptimisedInto}
+use Rattle.rambo_cli.specs.Opt.{HasOptimised, HasWritten, IsChecked}
+use Rattle.rambo_cli.specs.Written.{IsSaid}
+
+here : (name bytes : List ℕ) (files : Files) → file_of (put_file name bytes files) name ≡ Some bytes
+here name bytes files = grind (gets, rules)
+
+elsewhere : (name other bytes : List ℕ) (files : Files) → other ≢ name → file_of (put_file name bytes files) other ≡ file_of files other
+elsewhere name other bytes files differ = grind (gets, rules, differ)
+
+module _ (input output journal : Word) (apart : (input ≢ output) × ((input ≢ journal) × (output ≢ journal))) (model : Model) (settings : Settings) (figures : Figures) (old new : Files) (said : Holds old input (λ text. IsSaid text model)) (w : HasWritten model output (Some journal) settings figures old new) where
+  input_stays : file_of new input ≡ file_of old input
+  input_stays =
+      ap (λ (files : Files). file_of files input) w.files
+      ∙ elsewhere output input w.written (put_file journal w.recorded old) apart.0
+      ∙ elsewhere journal input w.recorded old apart.1.0
+
+  output_there : file_of new output ≡ Some w.written
+  output_there = ap (λ (files : Files). file_of files output) w.files ∙ here output w.written (put_file journal w.recorded old)
+
+  journal_there : file_of new journal ≡ Some w.recorded
+  journal_there =
+      ap (λ (files : Files). file_of files journal) w.files
+      ∙ elsewhere output journal w.written (put_file journal w.recorded old) (λ same. apart.1.1 (sym same))
+      ∙ here journal w.recorded old
+
+  still_said : Holds new input (λ text. IsSaid text model)
+  still_said = subst (λ (o : Option (List ℕ)). IsSomeAnd o (λ text. IsSaid text model)) (sym input_stays) said
+
+  passes : length w.recorded ≤ 2 ^ 62 → IsPassed model new journal output (length (w.result.steps ++ w.result.verdicts))
+  passes short = record {
+    last = w.result.net;
+    accepted = record {
+      text = w.recorded;
+      there = journal_there;
+      short = short;
+      accepted = record {
+        budget = settings.budget;
+        records = w.result.steps ++ w.result.verdicts;
+        journal = record { valid = w.result.valid; is = w.result.recorded };
+        accepted = w.result.accepted;
+        counts = refl;
+      };
+    };
+    few = w.result.small;
+    written = output_there ∙ ap Some w.result.spelled;
+  }
+
+  passed : length w.recorded ≤ 2 ^ 62 → HasPassed input journal output (length (w.result.steps ++ w.result.verdicts)) new
+  passed short = (model, (still_said, (w.few, (passes short, w.result.same_function))))
+
+  too_long : 2 ^ 62 < length w.recorded → Holds new journal (λ text. 2 ^ 62 < length text)
+  too_long long = subst (λ (o : Option (List ℕ)). IsSomeAnd o (λ text. 2 ^ 62 < length text)) (sym journal_there) long
+
+pub checked : (input output : Word) (journal : Option Word) (model : Model) (settings : Settings) (figures : Figures) (old new : Files) → HasNamesApart (opt input output journal settings) → Holds old input (λ text. IsSaid text model) → HasWritten model output journal settings figures old new → IsChecked input output journal new
+checked input output None model settings figures old new apart said w = tt
+checked input output (Some journal) model settings figures old new apart said w = elim (cases_lt (2 ^ 62) (length w.recorded)) [
+  | inl long ↦ inr (too_long input output journal apart model settings figures old new said w long)
+  | inr short ↦ inl (length (w.result.steps ++ w.result.verdicts), passed input output journal apart model settings figures old new said w short)
+]
+
+-- what was written for the model that the input says
+pub optimised : (input output : Word) (journal : Option Word) (model : Model) (settings : Settings) (figures : Figures) (old new : Option Files) → HasNamesApart (opt input output journal settings) → ((files : Files) → old ≡ Some files → Holds files input (λ text. IsSaid text model)) → IfTold old new (HasWritten model output journal settings figures)
+    → IfTold old new (HasOptimised input output journal settings figures)
+optimised input output journal model settings figures None new apart said w = tt
+optimised input output journal model settings figures (Some old) None apart said w = absurd w
+optimised input output journal model settings figures (Some old) (Some new) apart said w =
+    (model, (said old refl, (w, checked input output journal model settings figures old new apart (said old refl) w)))
