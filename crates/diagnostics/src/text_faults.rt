@@ -55,8 +55,9 @@ fn say_first_driver(
     word: &[u8],
 ) -> Result<Message, NoMemory> {
     match first_driver(alloc, fault.text, word, Spelling::Same, fault.place) {
-        Some((place, _)) if is_before(place, fault.place) => say_place(message, fault.name, place)?
-            .say(&[Part::Text("note: it is driven here first\n")]),
+        Some((place, _)) if is_before(place, fault.place) => say_place(
+            message, fault.name, place,
+        )?.say(&[Part::Text("note: it is driven here first\n")]),
         _ => Ok(message),
     }
 }

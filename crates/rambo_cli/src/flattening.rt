@@ -56,11 +56,7 @@ fn flat_of_text(alloc: Global, text: &[u8]) -> Result<FlatText, Problem>
 }
 
 // The flat text of the input.
-fn flat_of_input<S: Shelf>(
-    alloc: Global,
-    shelf: &mut S,
-    input: &str,
-) -> Result<FlatText, Problem>
+fn flat_of_input<S: Shelf>(alloc: Global, shelf: &mut S, input: &str) -> Result<FlatText, Problem>
     ensures flat { IfOk result (λ f. IfSome (S.files shelf.old) (λ told. Holds told input.now (λ text. IsFlattenedInto text f.instances f.covers f.text.items))) }
     ensures cause { IfErr result (Caused (FlatFinds input.now (S.files shelf.old)) (S.faults shelf.old) (S.faults shelf.new)) }
     ensures files { S.files shelf.new ≡ S.files shelf.old }

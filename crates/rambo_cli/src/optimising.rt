@@ -38,7 +38,11 @@ pub(crate) struct Names<'a> {
 }
 
 /// Writes the text in place of the output.
-pub(crate) fn replace<S: Shelf>(shelf: &mut S, output: &str, text: &[u8]) -> Result<(), OutsideFault>
+pub(crate) fn replace<S: Shelf>(
+    shelf: &mut S,
+    output: &str,
+    text: &[u8],
+) -> Result<(), OutsideFault>
     ensures done { OnOk result (S.files shelf.new ≡ option_map (put_file output.now text.now) (S.files shelf.old)) }
     ensures begun { BeginsFile output.now text.now (S.files shelf.old) (S.files shelf.new) }
     ensures cause { HasCause (S.faults shelf.old) (S.faults shelf.new) result }

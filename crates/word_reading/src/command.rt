@@ -20,7 +20,10 @@ pub enum Command<'a> {
         output: &'a str,
     },
     /// Makes one flat model of the input, and writes it as the output.
-    Flat { input: &'a str, output: &'a str },
+    Flat {
+        input: &'a str,
+        output: &'a str,
+    },
     /// Optimises the generated model of the seed.
     Demo {
         seed: u64,

@@ -3,11 +3,14 @@ use super::running::{ends, hold, refuses, shelf};
 use std::alloc::Global;
 use std::test::Fail;
 
-const INVERTED: &str = ".model top\n.inputs a b\n.outputs z\n.names n b z\n11 1\n.names a s0_1_i\n1 1\n.names s0_1_i s0_1_o\n0 1\n.names s0_1_o n\n1 1\n.end\n";
+const INVERTED: &str =
+    ".model top\n.inputs a b\n.outputs z\n.names n b z\n11 1\n.names a s0_1_i\n1 1\n.names s0_1_i s0_1_o\n0 1\n.names s0_1_o n\n1 1\n.end\n";
 
 // A top with this fourth line, and an inverter.
 fn calling(alloc: Global, call: &str) -> Result<String, Fail> {
-    Ok(format!(in alloc; ".model top\n.inputs a b\n.outputs z\n{call}\n.names n b z\n11 1\n.end\n.model inv\n.inputs i\n.outputs o\n.names i o\n0 1\n.end\n")?)
+    Ok(format!(in alloc;
+        ".model top\n.inputs a b\n.outputs z\n{call}\n.names n b z\n11 1\n.end\n.model inv\n.inputs i\n.outputs o\n.names i o\n0 1\n.end\n"
+    )?)
 }
 
 #[test]
