@@ -1,9 +1,11 @@
 -- `check` over the files that `opt` wrote.
-use Rattle.std.proofs.Common.{◌≡◌, ◌≢◌, ◌<◌, ◌≤◌, ◌^◌, ◌∙◌, ◌++◌, ℕ, List, ap, arith, cond, inl, inr, length, refl, rules, subst, sym}
+use Rattle.std.proofs.Common.{Bool, true, false, nat_cmp, ◌≡◌, ◌≢◌, ◌<◌, ◌≤◌, ◌^◌, ◌∙◌, ◌++◌, ℕ, List, ap, arith, cond, inl, inr, length, refl, rules, subst, sym}
 use Rattle.std.proofs.lemmas.Bool.{cases_lt}
 use Rattle.std.specs.Prelude.{Option, None, Some, IsSomeAnd}
-use Rattle.std.specs.FinMap.{gets}
-use Rattle.std.specs.Cmp.Lexicographic.{nat_list_cmp_total}
+use Rattle.std.specs.Cmp.{Equal-is}
+use Rattle.std.specs.FinMap.{get, get-insert, gets, slice_cmp-IsAntisymmetric, nat_cmp-IsAntisymmetric}
+use Rattle.std.specs.Ordering.{is_eq}
+use Rattle.std.specs.Cmp.Lexicographic.{nat_list_cmp_total, slice_cmp}
 use Rattle.rm_base.specs.Files.{Files, file_of, put_file}
 use Rattle.rm_base.specs.Words.{Word}
 use Rattle.rm_base.specs.declared.settings.Settings.{Settings}
@@ -23,7 +25,11 @@ here : (name bytes : List ℕ) (files : Files) → file_of (put_file name bytes 
 here name bytes files = grind (gets, rules)
 
 elsewhere : (name other bytes : List ℕ) (files : Files) → other ≢ name → file_of (put_file name bytes files) other ≡ file_of files other
-elsewhere name other bytes files differ = grind (gets, rules, differ)
+elsewhere name other bytes files differ = get-insert nat_list_cmp_total files name bytes other ∙ at (is_eq (slice_cmp nat_cmp other name)) refl
+  where
+    at : (b : Bool) → is_eq (slice_cmp nat_cmp other name) ≡ b → cond b (Some bytes) (get files other) ≡ get files other
+    at true same = absurd (differ (slice_cmp-IsAntisymmetric nat_cmp-IsAntisymmetric other name ((Equal-is (slice_cmp nat_cmp other name)).0 same)))
+    at false e = refl
 
 module _ (input output journal : Word) (apart : (input ≢ output) × ((input ≢ journal) × (output ≢ journal))) (model : Model) (settings : Settings) (figures : Figures) (old new : Files) (said : Holds old input (λ text. IsSaid text model)) (w : HasWritten model output (Some journal) settings figures old new) where
   input_stays : file_of new input ≡ file_of old input
@@ -64,6 +70,7 @@ module _ (input output journal : Word) (apart : (input ≢ output) × ((input �
   }
 
   passed : length w.recorded ≤ 2 ^ 62 → HasPassed input journal output (length (w.result.steps ++ w.result.verdicts)) new
+  unfolding passes
   passed short = (model, (still_said, (w.few, (passes short, w.result.same_function))))
 
   too_long : 2 ^ 62 < length w.recorded → Holds new journal (λ text. 2 ^ 62 < length text)
@@ -72,8 +79,8 @@ module _ (input output journal : Word) (apart : (input ≢ output) × ((input �
 pub checked : (input output : Word) (journal : Option Word) (model : Model) (settings : Settings) (figures : Figures) (old new : Files) → HasNamesApart (opt input output journal settings) → Holds old input (λ text. IsSaid text model) → HasWritten model output journal settings figures old new → IsChecked input output journal new
 checked input output None model settings figures old new apart said w = tt
 checked input output (Some journal) model settings figures old new apart said w = elim (cases_lt (2 ^ 62) (length w.recorded)) [
-  | inl long ↦ inr (too_long input output journal apart model settings figures old new said w long)
-  | inr short ↦ inl (length (w.result.steps ++ w.result.verdicts), passed input output journal apart model settings figures old new said w short)
+  | inl long ↦ inr (too_long input output journal (apart.0, (apart.1, apart.2)) model settings figures old new said w long)
+  | inr short ↦ inl (length (w.result.steps ++ w.result.verdicts), passed input output journal (apart.0, (apart.1, apart.2)) model settings figures old new said w short)
 ]
 
 -- what was written for the model that the input says
