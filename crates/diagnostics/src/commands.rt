@@ -44,7 +44,7 @@ pub(crate) const OPTIONS: [OptionRule; 4] = [
         name: "--tries",
         low: 0,
         high: 1_000_000,
-        default: 20_000,
+        default: 1_000_000,
         meaning: "additions of a wire that the whole run may try",
     },
     OptionRule {

@@ -9,7 +9,7 @@ use std::test::Fail;
 const OPTIONS: &str =
     "  --depth 0..2  depth of recursive learning; 0 is direct implication (default 1)
   --budget 1..1048576  edges that one search for a test vector may enter (default 256)
-  --tries 0..1000000  additions of a wire that the whole run may try (default 20000)
+  --tries 0..1000000  additions of a wire that the whole run may try (default 1000000)
   --workers 1..64  threads that search for test vectors (default 1)
 ";
 

@@ -154,12 +154,12 @@ fn refuses(rt: HostRuntime) -> Result<(), Fail> {
 #[test]
 fn reads_opt(rt: HostRuntime) -> Result<(), Fail> {
     let rows = [
-        ("opt a b j", "opt a b j 1 256 20000 1"),
-        ("opt a b", "opt a b (none) 1 256 20000 1"),
-        ("opt --depth 2 a b", "opt a b (none) 2 256 20000 1"),
+        ("opt a b j", "opt a b j 1 256 1000000 1"),
+        ("opt a b", "opt a b (none) 1 256 1000000 1"),
+        ("opt --depth 2 a b", "opt a b (none) 2 256 1000000 1"),
         ("opt a --tries=7 -- b", "opt a b (none) 1 256 7 1"),
-        ("opt --budget=8 -- a b j", "opt a b j 1 8 20000 1"),
-        ("opt --budget +8 a b j", "opt a b j 1 8 20000 1"),
+        ("opt --budget=8 -- a b j", "opt a b j 1 8 1000000 1"),
+        ("opt --budget +8 a b j", "opt a b j 1 8 1000000 1"),
         (
             "opt a --depth 0 b --workers=64 j --tries=1000000",
             "opt a b j 0 256 1000000 64",
@@ -170,17 +170,17 @@ fn reads_opt(rt: HostRuntime) -> Result<(), Fail> {
         ),
         (
             "opt a b j --budget=0000000000000000000000000000000000000000000000000000000000000008",
-            "opt a b j 1 8 20000 1",
+            "opt a b j 1 8 1000000 1",
         ),
         ("opt a b j --tries=+000", "opt a b j 1 256 0 1"),
-        ("opt -- a -- j", "opt a -- j 1 256 20000 1"),
-        ("opt a -- --depth=1 -x", "opt a --depth=1 -x 1 256 20000 1"),
-        ("opt - b j", "opt - b j 1 256 20000 1"),
-        ("opt a b j --", "opt a b j 1 256 20000 1"),
-        ("opt ~ b j", "opt  b j 1 256 20000 1"),
-        ("opt help opt demo", "opt help opt demo 1 256 20000 1"),
-        ("opt a b j --depth 1 --", "opt a b j 1 256 20000 1"),
-        ("opt a=b b j", "opt a=b b j 1 256 20000 1"),
+        ("opt -- a -- j", "opt a -- j 1 256 1000000 1"),
+        ("opt a -- --depth=1 -x", "opt a --depth=1 -x 1 256 1000000 1"),
+        ("opt - b j", "opt - b j 1 256 1000000 1"),
+        ("opt a b j --", "opt a b j 1 256 1000000 1"),
+        ("opt ~ b j", "opt  b j 1 256 1000000 1"),
+        ("opt help opt demo", "opt help opt demo 1 256 1000000 1"),
+        ("opt a b j --depth 1 --", "opt a b j 1 256 1000000 1"),
+        ("opt a=b b j", "opt a=b b j 1 256 1000000 1"),
     ];
     for (line, wanted) in rows {
         assert!(rt; reads(rt.alloc(), line, wanted)?);
@@ -195,14 +195,14 @@ fn reads_the_others(rt: HostRuntime) -> Result<(), Fail> {
         ("check -- -a --b --", "check -a --b --"),
         (
             "demo 18446744073709551615",
-            "demo 18446744073709551615 1 256 20000 1",
+            "demo 18446744073709551615 1 256 1000000 1",
         ),
         (
             "demo 000000000000000000000018446744073709551615",
-            "demo 18446744073709551615 1 256 20000 1",
+            "demo 18446744073709551615 1 256 1000000 1",
         ),
         ("demo +7 --depth 0 --tries 200", "demo 7 0 256 200 1"),
-        ("demo --workers 8 -- 1", "demo 1 1 256 20000 8"),
+        ("demo --workers 8 -- 1", "demo 1 1 256 1000000 8"),
         ("flat a b", "flat a b"),
         ("flat -- --tries=1 b", "flat --tries=1 b"),
     ];

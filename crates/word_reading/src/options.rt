@@ -12,7 +12,7 @@ pub const USUAL_BUDGET: u32 = 256;
 
 pub const MOST_TRIES: u32 = 1_000_000;
 
-pub const USUAL_TRIES: u32 = 20_000;
+pub const USUAL_TRIES: u32 = 1_000_000;
 
 pub const LEAST_WORKERS: u8 = 1;
 
