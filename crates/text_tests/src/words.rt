@@ -174,7 +174,10 @@ fn reads_opt(rt: HostRuntime) -> Result<(), Fail> {
         ),
         ("opt a b j --tries=+000", "opt a b j 1 256 0 1"),
         ("opt -- a -- j", "opt a -- j 1 256 1000000 1"),
-        ("opt a -- --depth=1 -x", "opt a --depth=1 -x 1 256 1000000 1"),
+        (
+            "opt a -- --depth=1 -x",
+            "opt a --depth=1 -x 1 256 1000000 1",
+        ),
         ("opt - b j", "opt - b j 1 256 1000000 1"),
         ("opt a b j --", "opt a b j 1 256 1000000 1"),
         ("opt ~ b j", "opt  b j 1 256 1000000 1"),
