@@ -72,27 +72,3 @@ fn what_changes_no_file(rt: HostRuntime) -> Result<(), Fail> {
     }
     Ok(())
 }
-
-// The calls of `flat`: a read, the output created, its text. A failing append adds the first half of its bytes.
-const CALLS: [(u64, &str); 3] = [
-    (1u64, "old"),
-    (2, "old"),
-    (
-        3,
-        ".model top\n.inputs a b\n.outputs z\n.names n b z\n11 1\n.names a ",
-    ),
-];
-
-#[test]
-fn calls_of_flat(rt: HostRuntime) -> Result<(), Fail> {
-    let alloc = rt.alloc();
-    let text = calling(alloc, ".subckt inv i=a o=n")?;
-    for (call, output) in CALLS {
-        let mut shelf = shelf(alloc, [&text, "old", "-"], &[call])?;
-        assert!(rt; ends(&rt, alloc, "flat in out", &mut shelf, 3, "fault shelf\n")?);
-        assert!(rt; hold(&shelf, [&text, output, "-"]), "call {call}");
-        assert!(rt; ends(&rt, alloc, "flat in out", &mut shelf, 0, "flat 2 4\n")?);
-        assert!(rt; hold(&shelf, [&text, INVERTED, "-"]), "call {call}");
-    }
-    Ok(())
-}
