@@ -1,4 +1,4 @@
-// Hierarchies that are made flat, faults of them, and each call of the shelf failing in turn.
+// Hierarchies that are made flat, and faults of them.
 use super::running::{ends, hold, refuses, shelf};
 use std::alloc::Global;
 use std::test::Fail;
