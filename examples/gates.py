@@ -132,3 +132,8 @@ def lines_of_plain(path):
 def escaped(name):
     """A name as Verilog takes any: escaped, and ended by a blank."""
     return "\\" + name + " "
+
+
+def own(name):
+    """A name that no netlist has, as none holds a #."""
+    return "\\" + name + "# "
