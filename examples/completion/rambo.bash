@@ -3,7 +3,7 @@ _rambo() {
     local word="${COMP_WORDS[COMP_CWORD]}" before="${COMP_WORDS[COMP_CWORD - 1]}" command="${COMP_WORDS[1]}" names
     COMPREPLY=()
     if [ "$COMP_CWORD" = 1 ]; then
-        COMPREPLY=($(compgen -W "opt check demo flat --help --version" -- "$word"))
+        COMPREPLY=($(compgen -W "opt check demo flat tests --help --version" -- "$word"))
         return
     fi
     case "$before" in
