@@ -2,6 +2,7 @@
 use blif_flatten::{Flat, FlatRefusal, flatten};
 use blif_format::Quantity;
 use blif_writer::write_model;
+use rm_model::NameKeys;
 use std::alloc::Global;
 use std::fmt::Write;
 use std::test::Fail;
@@ -168,7 +169,7 @@ fn flatten_text(alloc: Global, text: &[u8]) -> Result<Result<Flat, FlatRefusal>,
     if text.len() > 16_777_216 {
         return Err(Fail::new("a text that is too long"));
     }
-    Ok(flatten(alloc, text))
+    Ok(flatten(alloc, NameKeys::Ordered, text))
 }
 
 /// What `flatten` gives of a text, and the text of its model.
@@ -183,7 +184,7 @@ fn flat_text(alloc: Global, text: &[u8]) -> Result<FlatText, Fail> {
     if text.len() > 16_777_216 {
         return Err(Fail::new("a text that is too long"));
     }
-    let flat = match flatten(alloc, text) {
+    let flat = match flatten(alloc, NameKeys::Ordered, text) {
         Ok(flat) => flat,
         Err(refusal) => return Err(Fail::from(refusal)),
     };

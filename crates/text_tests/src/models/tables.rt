@@ -1,6 +1,6 @@
 // Tests of numbered names.
 use rm_base::NoMemory;
-use rm_model::NameTable;
+use rm_model::{NameKeys, NameTable};
 use std::alloc::Global;
 use std::process::Abort;
 use std::test::Fail;
@@ -26,7 +26,7 @@ fn descending(alloc: Global, count: u32) -> Result<Vec<String>, NoMemory> {
 }
 
 fn table_of<'a>(alloc: Global, names: &'a [String]) -> Result<NameTable<'a>, NoMemory> {
-    let mut table = NameTable::new(alloc);
+    let mut table = NameTable::new(alloc, NameKeys::Ordered);
     for name in names {
         table.include(name.as_bytes())?;
     }
@@ -46,7 +46,7 @@ fn descending_names_are_numbered_in_order(rt: HostRuntime) -> Result<(), Fail> {
 
 #[test]
 fn a_name_that_comes_again_keeps_its_number(rt: HostRuntime) -> Result<(), Fail> {
-    let mut table = NameTable::new(rt.alloc());
+    let mut table = NameTable::new(rt.alloc(), NameKeys::Ordered);
     for name in &ADDED {
         table.include(name.as_bytes())?;
     }
