@@ -15,6 +15,7 @@ use crate::problem::Problem;
 use crate::work::{Done, work};
 use rm_base::Gate;
 use rm_base::outside::{OutsideFault, Shelf, Sink};
+use rm_model::NameKeys;
 use std::alloc::Global;
 use std::thread::Threads;
 
@@ -25,6 +26,7 @@ use std::thread::Threads;
 pub fn run<R: Threads + Sync, S: Shelf, O: Sink, G: Gate>(
     rt: &R,
     alloc: Global,
+    keys: NameKeys,
     words: &[String],
     shelf: &mut S,
     out: &mut O,
@@ -82,7 +84,7 @@ pub fn run<R: Threads + Sync, S: Shelf, O: Sink, G: Gate>(
 {
     good_runs_are_done();
     judged_runs_are_told();
-    match work(rt, alloc, words, shelf, gate) {
+    match work(rt, alloc, keys, words, shelf, gate) {
         Ok(done) => finish(alloc, out, &done),
         Err(problem) => report(alloc, out, problem),
     }

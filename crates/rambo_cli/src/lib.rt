@@ -16,3 +16,4 @@ mod work;
 
 pub use command::run;
 pub use laws::{kept_nets_fit, runs_are_written};
+pub use rm_model::NameKeys;

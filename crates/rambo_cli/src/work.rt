@@ -14,6 +14,7 @@ use crate::showing::show;
 use optimisation::Figures;
 use rm_base::Gate;
 use rm_base::outside::Shelf;
+use rm_model::NameKeys;
 use std::alloc::Global;
 use std::thread::Threads;
 use word_reading::{Command, read_words};
@@ -33,6 +34,7 @@ pub enum Done {
 pub(crate) fn work<R: Threads + Sync, S: Shelf, G: Gate>(
     rt: &R,
     alloc: Global,
+    keys: NameKeys,
     words: &[String],
     shelf: &mut S,
     gate: &G,
@@ -56,7 +58,7 @@ pub(crate) fn work<R: Threads + Sync, S: Shelf, G: Gate>(
                 output,
                 journal,
             };
-            let figures = optimise_input(rt, alloc, shelf, gate, &names, &settings)?;
+            let figures = optimise_input(rt, alloc, keys, shelf, gate, &names, &settings)?;
             Ok(Done::Optimised(figures))
         }
         Command::Check {
@@ -64,15 +66,15 @@ pub(crate) fn work<R: Threads + Sync, S: Shelf, G: Gate>(
             journal,
             output,
         } => {
-            let count = check(alloc, shelf, input, journal, output)?;
+            let count = check(alloc, keys, shelf, input, journal, output)?;
             Ok(Done::Accepted(count))
         }
         Command::Demo { seed, settings } => {
-            let figures = show(rt, alloc, gate, seed, &settings)?;
+            let figures = show(rt, alloc, keys, gate, seed, &settings)?;
             Ok(Done::Optimised(figures))
         }
         Command::Flat { input, output } => {
-            let counts = flatten_input(alloc, shelf, input, output)?;
+            let counts = flatten_input(alloc, keys, shelf, input, output)?;
             Ok(Done::Flattened {
                 instances: counts.instances,
                 covers: counts.covers,

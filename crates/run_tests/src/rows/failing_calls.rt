@@ -3,7 +3,7 @@ use super::running::{ends, hold, shelf, words};
 use super::texts::{
     FOUR_GATES, ONE_GATE, ONE_GATE_JOURNAL, ONE_GATE_SUMMARY, WIRE_JOURNAL, WITH_A_WIRE,
 };
-use rambo_cli::run;
+use rambo_cli::{NameKeys, run};
 use rm_base::{MemoryShelf, MemorySink, OpenGate};
 use std::alloc::Global;
 use std::test::Fail;
@@ -213,6 +213,7 @@ fn failing_puts(rt: HostRuntime) -> Result<(), Fail> {
         let status = run(
             &rt,
             alloc,
+            NameKeys::Ordered,
             words.as_slice(),
             &mut shelf,
             &mut sink,

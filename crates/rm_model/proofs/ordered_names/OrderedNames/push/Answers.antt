@@ -6,7 +6,7 @@ use Rattle.std.specs.Borrow.{Bor}
 use Rattle.rm_model.specs.Value.{is_among}
 use Rattle.rm_model.specs.Numbers.{place_of}
 use Rattle.rm_model.proofs.PlacedLemmas.{shown, placed-push}
-use Rattle.rm_model.proofs.name_table.NameTable.push.Goals as goal
+use Rattle.rm_model.proofs.ordered_names.OrderedNames.push.Goals as goal
 use Rattle.rm_base.specs.Words.{Word}
 
 pub invariant_of-self-2 : goal.invariant_of-self-2

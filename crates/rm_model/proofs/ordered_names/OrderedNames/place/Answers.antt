@@ -6,7 +6,7 @@ use Rattle.std.specs.Ordering.{nat_cmp, ordering_then}
 use Rattle.rm_model.specs.Numbers.{place_of}
 use Rattle.rm_model.specs.Inner.PlacedNames.{added_names}
 use Rattle.rm_model.proofs.PlacedLemmas.{place-below}
-use Rattle.rm_model.proofs.name_table.NameTable.place.Goals as goal
+use Rattle.rm_model.proofs.ordered_names.OrderedNames.place.Goals as goal
 use Rattle.rm_base.specs.Words.{Word}
 
 pub returns-in-Some-clause-place : goal.returns-in-Some-clause-place

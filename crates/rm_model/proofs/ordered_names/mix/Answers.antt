@@ -1,6 +1,6 @@
 use Rattle.std.proofs.Common.{ap, ℕ, ◌*◌, ◌+◌, ◌%◌, ◌^◌}
 use Rattle.rm_model.specs.Inner.PlacedNames.{mixed}
-use Rattle.rm_model.proofs.name_table.mix.Goals as goal
+use Rattle.rm_model.proofs.ordered_names.mix.Goals as goal
 
 pub returns : goal.returns
 unfolding mixed

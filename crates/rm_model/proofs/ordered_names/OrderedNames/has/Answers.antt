@@ -7,7 +7,7 @@ use Rattle.std.specs.Ordering.{nat_cmp, ordering_then}
 use Rattle.rm_model.specs.Value.{is_among}
 use Rattle.rm_model.specs.Inner.PlacedNames.{added_names}
 use Rattle.rm_model.proofs.PlacedLemmas.{place-among}
-use Rattle.rm_model.proofs.name_table.NameTable.has.Goals as goal
+use Rattle.rm_model.proofs.ordered_names.OrderedNames.has.Goals as goal
 use Rattle.rm_base.specs.Words.{Word}
 
 pub returns : goal.returns
