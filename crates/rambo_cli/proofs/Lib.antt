@@ -7,6 +7,7 @@ pub mod Tested
 pub mod Rising
 pub mod Auditing
 pub mod Writing
+pub mod Overlong
 pub mod Checked
 pub mod Wanting
 pub mod Limited

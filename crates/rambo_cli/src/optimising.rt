@@ -20,8 +20,9 @@ ghost use Rattle.rambo_cli.specs.Inner.Written.{BeginsRecord, IsRecorded, IsUsab
 use crate::laws::{kept_nets_fit, runs_are_written};
 use crate::problem::Problem;
 use crate::reading::read_input;
+use blif_format::reads_once;
 use cover_decompose::{decompositions_are_formed, decompositions_stand};
-use journal_audit::net_text;
+use journal_audit::{long_journals_tell, net_text};
 use optimisation::{Figures, Optimised, optimised_model};
 use rm_base::outside::{OutsideFault, Shelf};
 use rm_base::{Gate, Settings, SureShelf};
@@ -127,6 +128,8 @@ pub(crate) fn optimise_input<R: Threads + Sync, G: Gate, S: Shelf>(
     ensures safe { IfTold (S.files shelf.old) (S.files shelf.new) (BeginsToWrite names.now.input.now names.now.output.now (option_map (λ j. j.now) names.now.journal) settings.now) }
     ensures later { S.faults shelf.old ≤ S.faults shelf.new }
 {
+    reads_once();
+    long_journals_tell();
     let model = read_input(alloc, keys, shelf, names.input)?;
     optimise_model(
         rt,
