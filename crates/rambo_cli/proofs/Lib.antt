@@ -12,3 +12,4 @@ pub mod Wanting
 pub mod Limited
 pub mod FlatTexts
 pub mod Complete
+pub mod Patterns
