@@ -16,8 +16,8 @@ use rm_base::Shelf;
 use rm_model::{NameKeys, RankedModel};
 use std::alloc::Global;
 
-// Whether the decomposition keeps the limit on wires.
-fn fits(alloc: Global, model: &RankedModel) -> Result<(), Problem>
+/// Whether the decomposition keeps the limit on wires.
+pub(crate) fn fits(alloc: Global, model: &RankedModel) -> Result<(), Problem>
     requires usable { IsUsable model.now }
     ensures few { OnOk result (decomposed model.now ≤ most_pins) }
     ensures cause { IfErr result (ModelCause model.now 0 0) }

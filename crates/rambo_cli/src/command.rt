@@ -21,7 +21,8 @@ use std::thread::Threads;
 
 /// Does all that the program does, and answers its status.
 ///
-/// The words are those of `opt IN OUT [JOURNAL]`, `check IN JOURNAL OUT` or `demo SEED`, with their options. A gate lets the
+/// The words are those of `opt IN OUT [JOURNAL]`, `check IN JOURNAL OUT`, `demo SEED`, `flat IN OUT` or
+/// `tests IN JOURNAL OUT PATTERNS`, with their options. A gate lets the
 /// pieces of parallel work pass. What each command promises stands in its contract.
 pub fn run<R: Threads + Sync, S: Shelf, O: Sink, G: Gate>(
     rt: &R,

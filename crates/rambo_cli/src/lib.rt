@@ -12,6 +12,7 @@ mod problem;
 mod reading;
 mod showing;
 mod summary;
+mod testing;
 mod work;
 
 pub use command::run;

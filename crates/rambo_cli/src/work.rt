@@ -11,7 +11,9 @@ use crate::flattening::flatten_input;
 use crate::optimising::{Names, optimise_input};
 use crate::problem::Problem;
 use crate::showing::show;
+use crate::testing::{TestNames, write_tests};
 use optimisation::Figures;
+use pattern_text::Counts;
 use rm_base::Gate;
 use rm_base::outside::Shelf;
 use rm_model::NameKeys;
@@ -28,6 +30,8 @@ pub enum Done {
     Accepted(u64),
     /// `flat`: the output is one model of so many instances and covers.
     Flattened { instances: u32, covers: u64 },
+    /// `tests`: so many patterns are written, and how many faults they detect.
+    Tested(Counts),
 }
 
 /// Does what the words ask for.
@@ -79,6 +83,21 @@ pub(crate) fn work<R: Threads + Sync, S: Shelf, G: Gate>(
                 instances: counts.instances,
                 covers: counts.covers,
             })
+        }
+        Command::Tests {
+            input,
+            journal,
+            output,
+            patterns,
+        } => {
+            let names = TestNames {
+                input,
+                journal,
+                output,
+                patterns,
+            };
+            let counts = write_tests(alloc, shelf, &names)?;
+            Ok(Done::Tested(counts))
         }
     }
 }
