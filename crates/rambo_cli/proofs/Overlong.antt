@@ -19,7 +19,7 @@ use Rattle.rambo_cli.specs.Files.{Holds}
 use Rattle.rambo_cli.specs.Input.{CanBeOptimised}
 use Rattle.rambo_cli.specs.Written.{IsSaid}
 use Rattle.rambo_cli.specs.declared.work.Done.{Done}
-use Rattle.rambo_cli.specs.declared.work.Done.TheVariants.{Accepted, Flattened, Optimised}
+use Rattle.rambo_cli.specs.declared.work.Done.TheVariants.{Accepted, Flattened, Optimised, Tested}
 use Rattle.rambo_cli.specs.declared.problem.Problem.{Problem}
 use Rattle.rambo_cli.specs.declared.problem.Problem.TheVariants.{Words, Text, Limit, Missing, Fault, Journal, Record, Netlist, Memory}
 
@@ -66,6 +66,7 @@ module _ (once : ReadsOnce) (tell : LongJournalsTell) (input journal output : Wo
   does new (Accepted k) h = never_passes k h
   does new (Optimised figures) h = h
   does new (Flattened instances covers) h = h
+  does new (Tested counts) h = h
 
   pub overlong : FindsAlone (check_contract input journal output) (Some told) (Limit JournalLimit 4611686018427387905)
   overlong = record { never_done = does; alone = finds }

@@ -23,7 +23,7 @@ use journal_check::accepted_journals_tell;
 use model_faults::laws::tidy_nets_have_model_faults;
 use pattern_text::{Counts, count_tests, tests_text};
 use rm_base::{NoMemory, Shelf};
-use rm_model::RankedModel;
+use rm_model::{NameKeys, RankedModel};
 use std::alloc::Global;
 use test_patterns::compact;
 
@@ -44,7 +44,12 @@ struct Written {
 }
 
 // Few patterns for the faults of the last net's model.
-fn patterns_of(alloc: Global, model: &RankedModel, audited: &Audited) -> Result<Written, NoMemory>
+fn patterns_of(
+    alloc: Global,
+    keys: NameKeys,
+    model: &RankedModel,
+    audited: &Audited,
+) -> Result<Written, NoMemory>
     requires usable { IsUsable model.now }
     requires last { IsLast model.now (net_of audited.now.graph) audited.now.verdicts }
     requires fits { Fits (net_of audited.now.graph) model.now }
@@ -57,7 +62,7 @@ fn patterns_of(alloc: Global, model: &RankedModel, audited: &Audited) -> Result<
     let vectors = audited.verdicts.vectors();
     let numbers = audited.verdicts.numbers();
     let set = compact(alloc, &audited.graph, vectors, numbers)?;
-    let out = model_of_tidy(alloc, &audited.graph, model.model())?;
+    let out = model_of_tidy(alloc, keys, &audited.graph, model.model())?;
     let text = tests_text(
         alloc,
         &out,
@@ -78,6 +83,7 @@ fn patterns_of(alloc: Global, model: &RankedModel, audited: &Audited) -> Result<
 /// output's faults: how many, or the first reason against the journal or the output.
 pub(crate) fn write_tests<S: Shelf>(
     alloc: Global,
+    keys: NameKeys,
     shelf: &mut S,
     names: &TestNames<'_>,
 ) -> Result<Counts, Problem>
@@ -88,10 +94,10 @@ pub(crate) fn write_tests<S: Shelf>(
     ensures later { S.faults shelf.old ≤ S.faults shelf.new }
 {
     passed_audits_tell();
-    let model = read_input(alloc, shelf, names.input)?;
+    let model = read_input(alloc, keys, shelf, names.input)?;
     fits(alloc, &model)?;
-    let audited = audit_verdicts(alloc, shelf, &model, names.journal, names.output)?;
-    let written = patterns_of(alloc, &model, &audited)?;
+    let audited = audit_verdicts(alloc, keys, shelf, &model, names.journal, names.output)?;
+    let written = patterns_of(alloc, keys, &model, &audited)?;
     replace(shelf, names.patterns, written.text.as_slice())?;
     Ok(written.counts)
 }

@@ -96,7 +96,7 @@ pub(crate) fn work<R: Threads + Sync, S: Shelf, G: Gate>(
                 output,
                 patterns,
             };
-            let counts = write_tests(alloc, shelf, &names)?;
+            let counts = write_tests(alloc, keys, shelf, &names)?;
             Ok(Done::Tested(counts))
         }
     }
