@@ -17,7 +17,7 @@ use Rattle.cover_decompose.specs.Count.{decomposed}
 use Rattle.journal_audit.specs.Audited.{ProblemsExclude, IsProblem, IsOfFiles}
 use Rattle.journal_audit.specs.declared.problem.AuditProblem.{AuditProblem}
 use Rattle.journal_audit.specs.declared.problem.AuditProblem.TheVariants as audit
-use Rattle.word_reading.specs.Words.{Asked, opt, check, demo, flat}
+use Rattle.word_reading.specs.Words.{Asked, opt, check, demo, flat, tests}
 use Rattle.rambo_cli.specs.Check.{AreThere, Audited, CheckFinds, HasPassed}
 use Rattle.rambo_cli.specs.Commands.{contract_of}
 use Rattle.rambo_cli.specs.Contract.{Caused, Contract, IsCause, StoreFails}
@@ -161,6 +161,9 @@ module _ (once : ReadsOnce) (exclude : ProblemsExclude) where
   good_runs_are_done (Some (flat input output)) None m n problem good h = absurd good
   good_runs_are_done (Some (flat input output)) (Some told) m n problem good h =
       outside_alone (contract_of (Some (flat input output))) (Some told) m n problem (flat_finds_none input told problem good) h
+  good_runs_are_done (Some (tests input journal output patterns)) None m n problem good h = absurd good
+  good_runs_are_done (Some (tests input journal output patterns)) (Some told) m n problem good h =
+      outside_alone (contract_of (Some (tests input journal output patterns))) (Some told) m n problem (check_finds_none input journal output told good.0 problem good.1) h
 
 held : (o : Option (List ℕ)) → IsSome o → o ≡ None → ⊥
 held None h e = cc
@@ -210,6 +213,9 @@ judged_runs_are_told (Some (check input journal output)) (Some told) m n problem
     or_outside (contract_of (Some (check input journal output))) (Some told) m n problem (judged input journal output told problem there) h
 judged_runs_are_told (Some (demo seed settings)) files m n problem there h = absurd there
 judged_runs_are_told (Some (flat input output)) files m n problem there h = absurd there
+judged_runs_are_told (Some (tests input journal output patterns)) None m n problem there h = absurd there
+judged_runs_are_told (Some (tests input journal output patterns)) (Some told) m n problem there h =
+    or_outside (contract_of (Some (tests input journal output patterns))) (Some told) m n problem (judged input journal output told problem there) h
 
 -- so a run that reports a problem of good words and files ends with 4, where nothing outside fails
 pub reported_done : (law : GoodRunsAreDone) (may_want : Bool) (problem : Problem) (status : ℕ) (words : Option Asked) (files : Option Files) (m n : ℕ) (old new : Option (List ℕ)) (k l : ℕ) → IsReported may_want problem status old new k l → IsCause (contract_of words) files m n problem

@@ -14,3 +14,4 @@ pub mod Limited
 pub mod FlatTexts
 pub mod Complete
 pub mod Patterns
+pub mod PatternFiles

@@ -63,19 +63,11 @@ fn patterns_of(
     let numbers = audited.verdicts.numbers();
     let set = compact(alloc, &audited.graph, vectors, numbers)?;
     let out = model_of_tidy(alloc, keys, &audited.graph, model.model())?;
-    let text = tests_text(
-        alloc,
-        &out,
-        vectors,
-        set.patterns.as_slice(),
-        set.firsts.as_slice(),
-        set.lasts.as_slice(),
-    )?;
-    let counts = count_tests(
-        set.patterns.as_slice(),
-        set.firsts.as_slice(),
-        set.lasts.as_slice(),
-    );
+    let patterns = set.patterns.as_slice();
+    let firsts = set.firsts.as_slice();
+    let lasts = set.lasts.as_slice();
+    let text = tests_text(alloc, &out, vectors, patterns, firsts, lasts)?;
+    let counts = count_tests(patterns, firsts, lasts);
     Ok(Written { text, counts })
 }
 

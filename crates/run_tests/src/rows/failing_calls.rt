@@ -164,7 +164,7 @@ struct Put {
 }
 
 // The first put fails: half of what it was handed is there.
-const PUTS: [Put; 6] = [
+const PUTS: [Put; 7] = [
     Put {
         line: "opt in out journal",
         before: [ONE_GATE, "old", "old"],
@@ -194,6 +194,12 @@ const PUTS: [Put; 6] = [
         before: [ONE_GATE, "-", "-"],
         put: "fault ",
         after: [ONE_GATE, "-", "-"],
+    },
+    Put {
+        line: "tests in journal out patterns",
+        before: [ONE_GATE, ONE_GATE, ONE_GATE_JOURNAL],
+        put: "patterns 3 faults",
+        after: [ONE_GATE, ONE_GATE, ONE_GATE_JOURNAL],
     },
     Put {
         line: "opt in",
