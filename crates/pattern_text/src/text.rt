@@ -7,7 +7,7 @@ use crate::counts::{add_counts, count_tests};
 use crate::faults::add_covers;
 use crate::lines::{add_bits, add_names, add_number};
 use rm_base::{NoMemory, Vector};
-use rm_model::{Model, Name, list_observed, sources};
+use rm_model::{Model, Name, NameKeys, list_observed, sources};
 use std::alloc::Global;
 
 // Adds the line of a pattern.
@@ -53,10 +53,15 @@ fn add_names_line(text: &mut Vec<u8>, label: &[u8], names: &[Name]) -> Result<()
 }
 
 // Adds the header, and the names of the sources and of what is observed.
-fn add_head(alloc: Global, text: &mut Vec<u8>, model: &Model) -> Result<(), NoMemory>
+fn add_head(
+    alloc: Global,
+    keys: NameKeys,
+    text: &mut Vec<u8>,
+    model: &Model,
+) -> Result<(), NoMemory>
     ensures { OnOk result (text.new.items ≡ text.old.items ++ (header_line ++ (sources_line model.now ++ observed_line model.now))) }
 {
-    let sources = sources(alloc, model)?;
+    let sources = sources(alloc, keys, model)?;
     let observed = list_observed(alloc, model)?;
     text.extend_from_slice(b"tests 1\n")?;
     add_names_line(text, b"sources", sources.as_slice())?;
@@ -67,6 +72,7 @@ fn add_head(alloc: Global, text: &mut Vec<u8>, model: &Model) -> Result<(), NoMe
 /// in order, or None; with the faults that are the last of their classes marked.
 pub fn tests_text(
     alloc: Global,
+    keys: NameKeys,
     model: &Model,
     vectors: &[Vector],
     patterns: &[usize],
@@ -77,7 +83,7 @@ pub fn tests_text(
     ensures { IfOk result (λ text. text.items ≡ text_of_tests model.now (record { patterns = chosen vectors.now patterns.now; firsts = firsts.now; lasts = lasts.now })) }
 {
     let mut text = Vec::new(alloc);
-    add_head(alloc, &mut text, model)?;
+    add_head(alloc, keys, &mut text, model)?;
     add_patterns(&mut text, vectors, patterns)?;
     add_covers(&mut text, model.covers.items(), firsts)?;
     add_counts(&mut text, &count_tests(patterns, firsts, lasts))?;

@@ -66,7 +66,7 @@ fn patterns_of(
     let patterns = set.patterns.as_slice();
     let firsts = set.firsts.as_slice();
     let lasts = set.lasts.as_slice();
-    let text = tests_text(alloc, &out, vectors, patterns, firsts, lasts)?;
+    let text = tests_text(alloc, keys, &out, vectors, patterns, firsts, lasts)?;
     let counts = count_tests(patterns, firsts, lasts);
     Ok(Written { text, counts })
 }
