@@ -16,6 +16,7 @@ ghost use Rattle.blif_flatten.specs.LineFaults.{empty_fault, head_fault, lines_f
 ghost use Rattle.blif_flatten.specs.Meant.{IsFlatModel};
 ghost use Rattle.blif_flatten.specs.Sections.{layout_fault, sections_of, sound_lines};
 ghost use Rattle.blif_flatten.specs.Inner.Interfaces.{IsCallable};
+ghost use Rattle.blif_flatten.specs.Inner.Ranks.{AreFalling};
 ghost use Rattle.blif_flatten.specs.Inner.Reading.{IsLight, IsLinked, names_fault};
 ghost use Rattle.blif_flatten.specs.Inner.Tokens.{AreWithin, sections_at};
 
@@ -151,12 +152,13 @@ fn read_modules(alloc: Global, keys: NameKeys, text: &[u8]) -> Result<Linked, Re
 
 // Refuses more tokens than there may be.
 fn check_size(alloc: Global, modules: &[Module], numbers: &[usize]) -> Result<(), ReadRefusal>
+    requires falling { AreFalling numbers.now modules.now }
     requires ranked { (rank : ℕ → ℕ) × AreRankedBy modules.now rank }
     requires some { 0 < length modules.now }
     ensures ok { (top : ModuleValue) → slice_get modules.now 0 ≡ Some top → OnOk result (size_fault top (tree_of modules.now top) ≡ None) }
     ensures err { (top : ModuleValue) → slice_get modules.now 0 ≡ Some top → IfErr result (λ e. IsRefusal e (size_fault top (tree_of modules.now top))) }
 {
-    let Ok(Some(count)) = count_tokens(alloc, modules, numbers) else {
+    let Ok(count) = count_tokens(alloc, modules, numbers) else {
         return Err(ReadRefusal::NoMemory);
     };
     if count > 4_194_304 {
@@ -218,6 +220,7 @@ fn is_formed(alloc: Global, keys: NameKeys, model: &Model) -> bool
 
 // The flat model of linked modules.
 fn join_modules(alloc: Global, linked: Linked) -> Result<Flattened, ReadRefusal>
+    requires falling { AreFalling linked.numbers.items linked.modules.items }
     requires ranked { (rank : ℕ → ℕ) × AreRankedBy linked.modules.items rank }
     requires positive { (k : ℕ) (m : ModuleValue) → slice_get linked.modules.items k ≡ Some m → 1 ≤ m.tokens }
     requires light { IsLight linked.modules.items }
