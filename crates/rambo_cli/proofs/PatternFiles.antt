@@ -1,9 +1,12 @@
 -- From patterns of the last net's model to what `tests` says of the files.
-use Rattle.std.proofs.Common.{◌≡◌, ◌≤◌, ℕ, Bool, List, take, length, refl, sym, ◌∙◌, ap, ap₂, subst, inl, inr}
+use Rattle.std.proofs.Common.{◌≡◌, ◌≤◌, ℕ, Bool, List, take, length, refl, sym, ◌∙◌, ap, ap₂, subst, inl, inr, arith, Err}
 use Rattle.std.specs.Prelude.{Option, None, Some, IfSome}
 use Rattle.std.specs.Option.{option_map}
+use Rattle.rm_base.specs.Causes.{HasCause}
 use Rattle.rm_base.specs.Files.{Files, put_file}
 use Rattle.rm_base.specs.Words.{Word}
+use Rattle.rm_base.specs.declared.outside.OutsideFault.{OutsideFault}
+use Rattle.rm_base.specs.declared.outside.OutsideFault.TheVariants.{Failed, NoMemory}
 use Rattle.rm_model.specs.declared.parts.Model.{Model}
 use Rattle.rm_model.specs.Value.{Equivalent}
 use Rattle.gate_net.specs.Net.{Net}
@@ -21,15 +24,20 @@ use Rattle.journal_audit.specs.declared.auditing.Audited.{Audited}
 use Rattle.test_patterns.specs.Classes.{AreLast}
 use Rattle.test_patterns.specs.TestSets.{AreKnown, AreTests}
 use Rattle.pattern_text.specs.Text.{chosen, counts_of, tests_text}
+use Rattle.rambo_cli.specs.Contract.{Caused}
 use Rattle.rambo_cli.specs.Files.{Holds, IfTold}
+use Rattle.rambo_cli.specs.Problems.{KeepsFiles}
 use Rattle.rambo_cli.specs.Tests.{AreTestsOf, BeginsTests, HasTests, HasWrittenTests}
 use Rattle.rambo_cli.specs.Written.{IsSaid}
+use Rattle.rambo_cli.specs.declared.problem.Problem.{Problem}
 use Rattle.rambo_cli.specs.declared.testing.Written.{Written}
 use Rattle.rambo_cli.specs.Inner.Composition.{PassedAuditsTell}
 use Rattle.rambo_cli.specs.Inner.Files.{BeginsFile}
+use Rattle.rambo_cli.specs.Inner.Problems.{outside_problem}
 use Rattle.rambo_cli.specs.Inner.Tests.{AcceptedVerdictsTell, IsWritten}
 use Rattle.rambo_cli.specs.Inner.Written.{IsUsable}
 use Rattle.rambo_cli.proofs.Patterns.{model_tests, verdicts_tell}
+use Rattle.rambo_cli.proofs.Rising.{risen_after}
 
 -- what is known of the faults by the journal's vectors
 pub known_tests : (accepted : AcceptedVerdictsTell) (m : Model) (last : Net) (v : VerdictList) (vectors : List (List Bool)) (numbers : List (Option ℕ)) → vectors ≡ v.vectors → numbers ≡ v.numbers → AreVerdictsAt v.vectors v.numbers → IsLast m last v
@@ -59,13 +67,22 @@ written_tests give list_alike accepted m a w vectors numbers patterns firsts las
       counts = counts ∙ ap (λ (vs : List (List Bool)). counts_of (record { patterns = chosen vs patterns; firsts = firsts; lasts = lasts })) e;
     }
 
+-- a call of the store that fails
+pub store_cause : {T : Type 0} (Finds : Problem → Type 0) (found : OutsideFault) (before first mid now : ℕ) → before ≤ first → first ≤ mid → HasCause {T = T} mid now (Err found) → Caused Finds before now (outside_problem found)
+store_cause Finds Failed before first mid now e f h = risen_after before mid now (omega (arith, e, f)) (h.failed refl)
+store_cause Finds NoMemory before first mid now e f h = tt
+
+pub store_keeps : {A : Type 0} (found : OutsideFault) (old new : A) → KeepsFiles (outside_problem found) old new
+store_keeps Failed old new = tt
+store_keeps NoMemory old new = tt
+
 -- nothing has changed
 pub tests_kept : (input journal output patterns : Word) (files new : Option Files) → new ≡ files → IfTold files new (BeginsTests input journal output patterns)
 tests_kept input journal output patterns None new e = tt
 tests_kept input journal output patterns (Some old) new e = subst (λ (o : Option Files). IfTold (Some old) o (BeginsTests input journal output patterns)) (sym e) (inl refl)
 
 module _ (tell : PassedAuditsTell) (m : Model) (input journal output patterns : Word) (a : Audited) (w : Written) (usable : IsUsable m) (few : decomposed m ≤ 65536) (made : IsWritten m a w) where
-  out : Model
+  abbrev pub out : Model
   out = model_of_net m (net_of a.graph)
 
   has_tests : (told : Files) → PassedWith m told journal output a → HasTests m journal output told out made.t

@@ -8,6 +8,7 @@ use Rattle.rm_base.proofs.Public.{map_at, map_found, some_is, stands_below}
 use Rattle.rm_model.specs.declared.parts.Model.{Model}
 use Rattle.gate_net.specs.Net.{Net, source_count}
 use Rattle.gate_net.specs.Faults.{Gives, IsTest, assigned, faults_of}
+use Rattle.wire_edit.specs.Steps.{stepped}
 use Rattle.model_faults.specs.Laws.{IsSameFault, ListAlike, VectorsGive}
 use Rattle.model_faults.specs.ModelFaults.{ModelFault, faults_of_model}
 use Rattle.journal_text.specs.declared.record.Record.{Record}
@@ -25,7 +26,7 @@ use Rattle.rambo_cli.specs.Inner.Tests.{AcceptedVerdictsTell, VerdictsTell}
 -- STEPS SAY NOTHING OF FAULTS
 steps_silent : (net last : Net) (steps verdicts : List Record) → AcceptedTo net steps last → said_of (steps ++ verdicts) ≡ said_of verdicts
 steps_silent net last [] verdicts a = refl
-steps_silent net last (Step step tree ∷ steps) verdicts a = steps_silent _ last steps verdicts a.1
+steps_silent net last (Step step tree ∷ steps) verdicts a = steps_silent (stepped net step) last steps verdicts a.1
 steps_silent net last (Hit fault vector ∷ steps) verdicts a = absurd a
 steps_silent net last (Spent fault tree ∷ steps) verdicts a = absurd a
 
@@ -68,7 +69,7 @@ verdicts_tell m last v kept l =
 -- THE MODEL'S TESTS
 module _ (net : Net) (out : Model) (v : VerdictList) (patterns : List ℕ) (firsts : List (Option ℕ)) (lasts : List Bool) (give : VectorsGive) (alike : ListAlike net out)
     (kept : AreVerdictsAt v.vectors v.numbers) (tell : VerdictsTell net v) (tests : AreTests net (faults_of net) v.vectors v.numbers patterns firsts) where
-  made : Tests
+  abbrev pub made : Tests
   made = record { patterns = chosen v.vectors patterns; firsts = firsts; lasts = lasts }
 
   chosen_at : (n : ℕ) (vector : List Bool) → slice_get v.vectors n ≡ Some vector → slice_index_or v.vectors n [] ≡ vector

@@ -5,9 +5,10 @@ use Rattle.rm_base.specs.Files.{Files}
 use Rattle.journal_audit.specs.Audited.{IsProblem}
 use Rattle.rambo_cli.specs.Check.{CheckFinds}
 use Rattle.rambo_cli.specs.Contract.{Caused}
-use Rattle.rambo_cli.specs.Problems.{audit_problem}
+use Rattle.rambo_cli.specs.Problems.{KeepsFiles, audit_problem}
+use Rattle.rambo_cli.specs.Inner.Problems.{outside_problem}
 use Rattle.rambo_cli.proofs.Auditing.{audit_cause, read_in_check, too_many}
-use Rattle.rambo_cli.proofs.PatternFiles.{tests_begun, tests_done, tests_kept}
+use Rattle.rambo_cli.proofs.PatternFiles.{store_cause, store_keeps, tests_begun, tests_done}
 use Rattle.rambo_cli.proofs.Rising.{risen_after}
 use Rattle.rambo_cli.proofs.testing.write_tests.Goals as goal
 
@@ -55,3 +56,18 @@ returns-in_err-model-clause-cause g c =
     handed_on c.from_residual.result problem
     (Caused (CheckFinds c.args.names.now.input.now c.args.names.now.journal.now c.args.names.now.output.now (g.S.Shelf.files c.args.shelf.now)) (g.S.Shelf.faults c.args.shelf.now) (g.S.Shelf.faults c.read_input.new.shelf)) c.from_residual.ensures.1
     (read_in_check c.args.names.now.input.now c.args.names.now.journal.now c.args.names.now.output.now (g.S.Shelf.files c.args.shelf.now) (g.S.Shelf.faults c.args.shelf.now) (g.S.Shelf.faults c.read_input.new.shelf) problem c.in_err-model.ensures.cause)
+
+pub returns-in_err-replace-clause-cause : goal.returns-in_err-replace-clause-cause
+returns-in_err-replace-clause-cause g c =
+    let found = c.in_err-replace.field-0.0 in
+    handed_on c.from_residual-in_err-replace.result (outside_problem found)
+    (Caused (CheckFinds c.args.names.now.input.now c.args.names.now.journal.now c.args.names.now.output.now (g.S.Shelf.files c.args.shelf.now)) (g.S.Shelf.faults c.args.shelf.now) (g.S.Shelf.faults c.replace.new.shelf))
+    c.from_residual-in_err-replace.ensures.1
+    (store_cause (CheckFinds c.args.names.now.input.now c.args.names.now.journal.now c.args.names.now.output.now (g.S.Shelf.files c.args.shelf.now)) found (g.S.Shelf.faults c.args.shelf.now) (g.S.Shelf.faults c.read_input.new.shelf)
+    (g.S.Shelf.faults c.audit_verdicts.new.shelf) (g.S.Shelf.faults c.replace.new.shelf) c.in_ok-model.ensures.later c.in_ok-audited.ensures.later c.in_err-replace.ensures.cause)
+
+pub returns-in_err-replace-clause-unchanged : goal.returns-in_err-replace-clause-unchanged
+returns-in_err-replace-clause-unchanged g c =
+    let found = c.in_err-replace.field-0.0 in
+    handed_on c.from_residual-in_err-replace.result (outside_problem found) (λ problem. KeepsFiles problem (g.S.Shelf.files c.args.shelf.now) (g.S.Shelf.files c.replace.new.shelf)) c.from_residual-in_err-replace.ensures.1
+    (store_keeps found (g.S.Shelf.files c.args.shelf.now) (g.S.Shelf.files c.replace.new.shelf))
