@@ -31,7 +31,7 @@ pub returns : goal.returns
 returns c =
     let net = net_of c.args.audited.now.graph in
     let tests = subst (λ (firsts : List (Option ℕ)). AreTests net (faults_of net) c.vectors-vectors.result.now c.numbers-numbers.result.now c.as_slice-patterns.result.now firsts) (sym c.as_slice-firsts.ensures.value)
-        (subst (λ (patterns : List ℕ). AreTests net (faults_of net) c.vectors-vectors.result.now c.numbers-numbers.result.now patterns c.in_ok-set.set.firsts.items) (sym c.as_slice-patterns.ensures.value) c.in_ok-set.ensures.tests) in
+    (subst (λ (patterns : List ℕ). AreTests net (faults_of net) c.vectors-vectors.result.now c.numbers-numbers.result.now patterns c.in_ok-set.set.firsts.items) (sym c.as_slice-patterns.ensures.value) c.in_ok-set.ensures.tests) in
     let classes = subst (λ (lasts : List Bool). AreLast net (faults_of net) lasts) (sym c.as_slice-lasts.ensures.value) c.in_ok-set.ensures.classes in
     written_tests c.tidy_nets_have_model_faults.ensures.vectors c.tidy_nets_have_model_faults.ensures.alike c.accepted_journals_tell.ensures c.args.model.now c.args.audited.now
     (record { text = c.in_ok-text.text; counts = c.count_tests-counts.result }) c.vectors-vectors.result.now c.numbers-numbers.result.now c.as_slice-patterns.result.now c.as_slice-firsts.result.now c.as_slice-lasts.result.now c.in_ok-out.out
