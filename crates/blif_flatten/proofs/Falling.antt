@@ -1,10 +1,12 @@
 -- Numbers that fall along calls rank the modules.
-use Rattle.std.proofs.Common.{◌≡◌, ◌≤◌, ◌+◌, ◌-◌, ℕ, zero, suc, List, [], ◌∷◌, length, take, Some, ◌⊎◌, inl, inr, refl, sym, ap, ◌∙◌, subst, arith}
-use Rattle.std.specs.Prelude.{slice_get}
+use Rattle.std.proofs.Common.{◌≡◌, ◌≤◌, ◌+◌, ◌-◌, ℕ, zero, suc, List, [], ◌∷◌, length, take, None, Some, ◌⊎◌, inl, inr, refl, sym, ap, ◌∙◌, subst, arith}
+use Rattle.std.specs.Prelude.{IfOk, OnOk, Result, Ok, Err, slice_get}
 use Rattle.rm_base.proofs.Public.{pushed_stands, stands_below, take_one_more}
 use Rattle.blif_reader.proofs.Public.{take_whole}
 use Rattle.blif_flatten.specs.declared.modules.Module.{Module}
 use Rattle.blif_flatten.specs.Laws.{AreRankedBy}
+use Rattle.blif_flatten.specs.Recursion.{recursion_fault}
+use Rattle.blif_flatten.proofs.NoRecursion.{no-recursion}
 use Rattle.blif_flatten.specs.Inner.Ranks.{number_of, AreFalling, AreKnownCalls}
 
 -- what holds of the items before one and of it holds of all of these
@@ -27,6 +29,16 @@ ranked numbers modules falling known = record {
       let b = g.positive in
       omega (arith, a, b);
 }
+
+pub falling-ranked : (numbers : List ℕ) (modules : List Module) → AreFalling numbers modules → AreKnownCalls modules → (rank : ℕ → ℕ) × AreRankedBy modules rank
+falling-ranked numbers modules falling known = (λ (k : ℕ). number_of numbers k - 1, ranked numbers modules falling known)
+
+pub falling-calm : (numbers : List ℕ) (modules : List Module) → AreFalling numbers modules → AreKnownCalls modules → recursion_fault modules ≡ None
+falling-calm numbers modules falling known = no-recursion modules (λ (k : ℕ). number_of numbers k - 1) (ranked numbers modules falling known)
+
+pub ok-of : {A E : Type 0} {P : A → Type 0} {Q : Type 0} (r : Result A E) → ((a : A) → P a → Q) → IfOk r P → OnOk r Q
+ok-of (Ok a) f h = f a h
+ok-of (Err e) f h = tt
 
 length-take : {A : Type 0} (xs : List A) (i : ℕ) (x : A) → slice_get xs i ≡ Some x → length (take i xs) ≡ i
 length-take [] zero x e = absurd cc

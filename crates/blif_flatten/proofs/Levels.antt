@@ -15,13 +15,13 @@ use Rattle.blif_flatten.specs.Inner.Ranks.{number_of, DoNotRise, calls_one, head
 use Rattle.blif_flatten.proofs.NoRecursion.{any-at, same-number}
 use Rattle.blif_flatten.proofs.Lines.{drop-from}
 
-any-here : {A : Type 0} (test : A → Bool) (xs : List A) (j : ℕ) (x : A) → slice_get xs j ≡ Some x → test x ≡ true → list_any test xs ≡ true
+pub any-here : {A : Type 0} (test : A → Bool) (xs : List A) (j : ℕ) (x : A) → slice_get xs j ≡ Some x → test x ≡ true → list_any test xs ≡ true
 any-here test [] zero x e h = absurd cc
 any-here test [] (suc j) x e h = absurd cc
 any-here test (y ∷ ys) zero x e h = let same : y ≡ x = cc in ap (λ (b : Bool). b || list_any test ys) (ap test same ∙ h)
 any-here test (y ∷ ys) (suc j) x e h = ap (λ (b : Bool). test y || b) (any-here test ys j x e h) ∙ or-true (test y)
 
-either-true : (a b : Bool) → (a ≡ true) ⊎ (b ≡ true) → (a || b) ≡ true
+pub either-true : (a b : Bool) → (a ≡ true) ⊎ (b ≡ true) → (a || b) ≡ true
 either-true true b h = refl
 either-true false b (inl e) = absurd cc
 either-true false b (inr e) = e
@@ -49,7 +49,7 @@ leads-one modules (suc n) a b e =
     onward (inl p) f = inl p
     onward (inr q) f = inr (f q)
 
-leads-more : (modules : List Module) (n more a b : ℕ) → leads n modules a b ≡ true → leads (more + n) modules a b ≡ true
+pub leads-more : (modules : List Module) (n more a b : ℕ) → leads n modules a b ≡ true → leads (more + n) modules a b ≡ true
 leads-more modules n zero a b e = subst (λ (k : ℕ). leads k modules a b ≡ true) (zero-more n) e
   where
     zero-more : (n : ℕ) → n ≡ 0 + n

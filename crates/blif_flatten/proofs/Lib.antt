@@ -14,6 +14,7 @@ mod Leads
 mod Walks
 mod Same
 mod NoRecursion
+mod Heights
 pub mod Valuations
 pub mod Names
 mod Placed

@@ -114,26 +114,6 @@ light-modules ss = record {
 }
 
 -- THE TREE
-place-count : (l : Link) (m : Module) (lead : Word) (outer i : ℕ) (a b c : List Place) (x y z : List Cover)
-    → length a ≡ length x → length b ≡ length y → length c ≡ length z → length m.places ≡ length m.model.covers
-    → length ((map (λ (p : Pin). l.place) (input_pins l) ++ ((m.places ++ a) ++ map (λ (p : Pin). l.place) (output_pins l))) ++ b)
-    ≡ length ((copies_in lead outer i (input_pins l) ++ ((map (renamed_cover (name_in lead i)) m.model.covers ++ x) ++ copies_out lead outer i (output_pins l))) ++ y)
-place-count l m lead outer i a b c x y z ha hb hc hm =
-    let one = length-append (map (λ (p : Pin). l.place) (input_pins l) ++ ((m.places ++ a) ++ map (λ (p : Pin). l.place) (output_pins l))) b in
-    let two = length-append (map (λ (p : Pin). l.place) (input_pins l)) ((m.places ++ a) ++ map (λ (p : Pin). l.place) (output_pins l)) in
-    let three = length-append (m.places ++ a) (map (λ (p : Pin). l.place) (output_pins l)) in
-    let four = length-append m.places a in
-    let five = length-map (input_pins l) (λ (p : Pin). l.place) in
-    let six = length-map (output_pins l) (λ (p : Pin). l.place) in
-    let cone = length-append (copies_in lead outer i (input_pins l) ++ ((map (renamed_cover (name_in lead i)) m.model.covers ++ x) ++ copies_out lead outer i (output_pins l))) y in
-    let ctwo = length-append (copies_in lead outer i (input_pins l)) ((map (renamed_cover (name_in lead i)) m.model.covers ++ x) ++ copies_out lead outer i (output_pins l)) in
-    let cthree = length-append (map (renamed_cover (name_in lead i)) m.model.covers ++ x) (copies_out lead outer i (output_pins l)) in
-    let cfour = length-append (map (renamed_cover (name_in lead i)) m.model.covers) x in
-    let cfive = length-map (input_pins l) (λ (p : Pin). copy (name_in lead outer p.actual) (name_in lead i p.formal)) in
-    let csix = length-map (output_pins l) (λ (p : Pin). copy (name_in lead i p.formal) (name_in lead outer p.actual)) in
-    let cown = length-map m.model.covers (renamed_cover (name_in lead i)) in
-    omega (arith, one, two, three, four, five, six, cone, ctwo, cthree, cfour, cfive, csix, cown, ha, hb, hm)
-
 cover-count : (l : Link) (m : Module) (lead : Word) (outer i : ℕ) (x y : List Cover) →
     length ((copies_in lead outer i (input_pins l) ++ ((map (renamed_cover (name_in lead i)) m.model.covers ++ x) ++ copies_out lead outer i (output_pins l))) ++ y)
     ≡ ((length (input_pins l) + length (output_pins l)) + length m.model.covers) + (length x + length y)
@@ -146,6 +126,20 @@ cover-count l m lead outer i x y =
     let csix = length-map (output_pins l) (λ (p : Pin). copy (name_in lead i p.formal) (name_in lead outer p.actual)) in
     let cown = length-map m.model.covers (renamed_cover (name_in lead i)) in
     omega (arith, cone, ctwo, cthree, cfour, cfive, csix, cown)
+
+place-count : (l : Link) (m : Module) (lead : Word) (outer i : ℕ) (a b : List Place) (x y : List Cover)
+    → length a ≡ length x → length b ≡ length y → length m.places ≡ length m.model.covers
+    → length ((map (λ (p : Pin). l.place) (input_pins l) ++ ((m.places ++ a) ++ map (λ (p : Pin). l.place) (output_pins l))) ++ b)
+    ≡ length ((copies_in lead outer i (input_pins l) ++ ((map (renamed_cover (name_in lead i)) m.model.covers ++ x) ++ copies_out lead outer i (output_pins l))) ++ y)
+place-count l m lead outer i a b x y ha hb hm =
+    let one = length-append (map (λ (p : Pin). l.place) (input_pins l) ++ ((m.places ++ a) ++ map (λ (p : Pin). l.place) (output_pins l))) b in
+    let two = length-append (map (λ (p : Pin). l.place) (input_pins l)) ((m.places ++ a) ++ map (λ (p : Pin). l.place) (output_pins l)) in
+    let three = length-append (m.places ++ a) (map (λ (p : Pin). l.place) (output_pins l)) in
+    let four = length-append m.places a in
+    let five = length-map (input_pins l) (λ (p : Pin). l.place) in
+    let six = length-map (output_pins l) (λ (p : Pin). l.place) in
+    let covers = cover-count l m lead outer i x y in
+    omega (arith, one, two, three, four, five, six, covers, ha, hb, hm)
 
 parted : (ps : List Pin) → length (filter (λ (p : Pin). p.is_input) ps) + length (filter (λ (p : Pin). not p.is_input) ps) ≡ length ps
 parted [] = refl
@@ -166,8 +160,8 @@ module _ (modules : List Module) (lead : Word) (light : IsLight modules) where
           → length (places_in (then_call l inside o (all_calls inside modules ls))) ≡ length (covers_in lead outer i (then_call l inside o (all_calls inside modules ls)))
       at None is rest = rest i
       at (Some m) is rest =
-          place-count l m lead outer i (places_in (inside m.links)) (places_in (all_calls inside modules ls)) [] (covers_in lead i (i + 1) (inside m.links)) (covers_in lead outer (i + 1 + instance_count (inside m.links)) (all_calls inside modules ls)) []
-          (h i (i + 1) m.links) (rest (i + 1 + instance_count (inside m.links))) refl (light.placed l.called m is)
+          place-count l m lead outer i (places_in (inside m.links)) (places_in (all_calls inside modules ls)) (covers_in lead i (i + 1) (inside m.links)) (covers_in lead outer (i + 1 + instance_count (inside m.links)) (all_calls inside modules ls))
+          (h i (i + 1) m.links) (rest (i + 1 + instance_count (inside m.links))) (light.placed l.called m is)
 
   placed-calls : (n outer i : ℕ) (ls : List Link) → length (places_in (calls_in n modules ls)) ≡ length (covers_in lead outer i (calls_in n modules ls))
   placed-calls zero outer i ls = refl

@@ -6,5 +6,6 @@ pub mod Interfaces
 pub mod Uses
 pub mod Leads
 pub mod Ranks
+pub mod Rounds
 pub mod Sizes
 pub mod Reading

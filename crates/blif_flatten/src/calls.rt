@@ -21,7 +21,7 @@ use crate::sides::sides_of;
 use blif_format::{FaultKind, ReadRefusal};
 use blif_lines::Token;
 use blif_reader::{fault, word_of};
-use rm_model::NameTable;
+use rm_model::{NameKeys, NameTable};
 use std::alloc::Global;
 
 /// The models that calls may name, and their formals.
@@ -63,6 +63,7 @@ fn take_formal<'a>(
 // The formals of all pins, which are those of the model and stand once.
 fn take_formals<'a>(
     alloc: Global,
+    keys: NameKeys,
     text: &'a [u8],
     interface: &Interface<'a>,
     pins: &[Token],
@@ -72,7 +73,7 @@ fn take_formals<'a>(
     ensures given { (m : CircuitModel) → IsInterface interface.now m → IfOk result (λ given. given ≡ formals_of (pins_at text.now pins.now)) }
     ensures err { (m : CircuitModel) → IsInterface interface.now m → IfErr result (λ e. IsRefusal e (formals_fault m [] (pins_at text.now pins.now))) }
 {
-    let mut given = NameTable::new(alloc);
+    let mut given = NameTable::new(alloc, keys);
     for pin in pins {
         match take_formal(&mut given, text, interface, pin) {
             Ok(()) => {}
@@ -96,6 +97,7 @@ fn gives_inputs<'a>(interface: &Interface<'a>, given: &NameTable<'a>) -> bool
 
 fn check_pins<'a>(
     alloc: Global,
+    keys: NameKeys,
     text: &'a [u8],
     interface: &Interface<'a>,
     first: &Token,
@@ -105,7 +107,7 @@ fn check_pins<'a>(
     ensures ok { (m : CircuitModel) → IsInterface interface.now m → OnOk result (pins_fault_in m first.now.place (pins_at text.now pins.now) ≡ None) }
     ensures err { (m : CircuitModel) → IsInterface interface.now m → IfErr result (λ e. IsRefusal e (pins_fault_in m first.now.place (pins_at text.now pins.now))) }
 {
-    let given = match take_formals(alloc, text, interface, pins) {
+    let given = match take_formals(alloc, keys, text, interface, pins) {
         Ok(given) => given,
         Err(refusal) => return Err(refusal),
     };
@@ -157,6 +159,7 @@ pub fn callee<'a, 'b>(
 
 fn check_call<'a>(
     alloc: Global,
+    keys: NameKeys,
     text: &'a [u8],
     callable: &Callable<'a>,
     line: &[Token],
@@ -169,13 +172,14 @@ fn check_call<'a>(
         return Ok(());
     }
     match callee(callable, text, &line[1]) {
-        Some(interface) => check_pins(alloc, text, interface, &line[0], &line[2..]),
+        Some(interface) => check_pins(alloc, keys, text, interface, &line[0], &line[2..]),
         None => fault(FaultKind::UnknownModel, line[1].place),
     }
 }
 
 fn check_section<'a>(
     alloc: Global,
+    keys: NameKeys,
     text: &'a [u8],
     callable: &Callable<'a>,
     section: &Section,
@@ -185,7 +189,7 @@ fn check_section<'a>(
     ensures err { (modules : List ModuleValue) → IsCallable callable.now modules → IfErr result (λ e. IsRefusal e (section_calls_fault modules (section_at text.now section.now))) }
 {
     for line in section.body.items() {
-        match check_call(alloc, text, callable, line.items()) {
+        match check_call(alloc, keys, text, callable, line.items()) {
             Ok(()) => {}
             Err(refusal) => return Err(refusal),
         }
@@ -196,6 +200,7 @@ fn check_section<'a>(
 /// The first fault of the calls of all sections.
 pub fn check_calls<'a>(
     alloc: Global,
+    keys: NameKeys,
     text: &'a [u8],
     callable: &Callable<'a>,
     sections: &[Section],
@@ -206,7 +211,7 @@ pub fn check_calls<'a>(
     ensures err { IfErr result (λ e. IsRefusal e (calls_fault (sections_at text.now sections.now))) }
 {
     for section in sections {
-        match check_section(alloc, text, callable, section) {
+        match check_section(alloc, keys, text, callable, section) {
             Ok(()) => {}
             Err(refusal) => return Err(refusal),
         }

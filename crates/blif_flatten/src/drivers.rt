@@ -17,7 +17,7 @@ use crate::uses::{NameUse, uses_of};
 use blif_format::{FaultKind, ReadRefusal, Role};
 use blif_reader::fault;
 use rm_base::NoMemory;
-use rm_model::NameTable;
+use rm_model::{NameKeys, NameTable};
 use std::alloc::Global;
 
 /// The names that are driven so far.
@@ -76,22 +76,22 @@ fn take_use<'a>(drivers: &mut Drivers<'a>, this: &NameUse<'a>) -> Result<(), Rea
     }
 }
 
-fn no_drivers<'a>(alloc: Global) -> Drivers<'a>
+fn no_drivers<'a>(alloc: Global, keys: NameKeys) -> Drivers<'a>
     ensures { AreDrivers [] result }
 {
     Drivers {
-        inputs: NameTable::new(alloc),
-        clocks: NameTable::new(alloc),
-        inner: NameTable::new(alloc),
+        inputs: NameTable::new(alloc, keys),
+        clocks: NameTable::new(alloc, keys),
+        inner: NameTable::new(alloc, keys),
     }
 }
 
 // The first name that is driven a second time.
-fn check_driven_once(alloc: Global, uses: &[NameUse]) -> Result<(), ReadRefusal>
+fn check_driven_once(alloc: Global, keys: NameKeys, uses: &[NameUse]) -> Result<(), ReadRefusal>
     ensures ok { OnOk result (driven_twice_fault [] (uses_at uses.now) ≡ None) }
     ensures err { IfErr result (λ e. IsRefusal e (driven_twice_fault [] (uses_at uses.now))) }
 {
-    let mut drivers = no_drivers(alloc);
+    let mut drivers = no_drivers(alloc, keys);
     for this in uses {
         match take_use(&mut drivers, this) {
             Ok(()) => {}
@@ -128,10 +128,14 @@ fn include_driver<'a>(driven: &mut NameTable<'a>, this: &NameUse<'a>) -> Result<
     Ok(())
 }
 
-fn driven_names<'a>(alloc: Global, uses: &[NameUse<'a>]) -> Result<NameTable<'a>, NoMemory>
+fn driven_names<'a>(
+    alloc: Global,
+    keys: NameKeys,
+    uses: &[NameUse<'a>],
+) -> Result<NameTable<'a>, NoMemory>
     ensures { IfOk result (λ driven. (x : Word) → is_among driven x ≡ is_among (names_in driver_role (uses_at uses.now)) x) }
 {
-    let mut driven = NameTable::new(alloc);
+    let mut driven = NameTable::new(alloc, keys);
     for this in uses {
         include_driver(&mut driven, this)?;
     }
@@ -139,11 +143,11 @@ fn driven_names<'a>(alloc: Global, uses: &[NameUse<'a>]) -> Result<NameTable<'a>
 }
 
 // The first name that is used and that nothing drives.
-fn check_all_driven(alloc: Global, uses: &[NameUse]) -> Result<(), ReadRefusal>
+fn check_all_driven(alloc: Global, keys: NameKeys, uses: &[NameUse]) -> Result<(), ReadRefusal>
     ensures ok { OnOk result (undriven_fault (uses_at uses.now) ≡ None) }
     ensures err { IfErr result (λ e. IsRefusal e (undriven_fault (uses_at uses.now))) }
 {
-    let driven = match driven_names(alloc, uses) {
+    let driven = match driven_names(alloc, keys, uses) {
         Ok(driven) => driven,
         Err(_) => return Err(ReadRefusal::NoMemory),
     };
@@ -157,6 +161,7 @@ fn check_all_driven(alloc: Global, uses: &[NameUse]) -> Result<(), ReadRefusal>
 
 fn section_drivers<'a>(
     alloc: Global,
+    keys: NameKeys,
     text: &'a [u8],
     callable: &Callable<'a>,
     section: &Section,
@@ -166,13 +171,14 @@ fn section_drivers<'a>(
     ensures err { (modules : List ModuleValue) → IsCallable callable.now modules → IfErr result (λ e. IsRefusal e (section_drivers_fault modules (section_at text.now section.now))) }
 {
     match uses_of(alloc, text, callable, section) {
-        Ok(uses) => check_driven_once(alloc, uses.as_slice()),
+        Ok(uses) => check_driven_once(alloc, keys, uses.as_slice()),
         Err(_) => Err(ReadRefusal::NoMemory),
     }
 }
 
 fn section_users<'a>(
     alloc: Global,
+    keys: NameKeys,
     text: &'a [u8],
     callable: &Callable<'a>,
     section: &Section,
@@ -182,7 +188,7 @@ fn section_users<'a>(
     ensures err { (modules : List ModuleValue) → IsCallable callable.now modules → IfErr result (λ e. IsRefusal e (section_users_fault modules (section_at text.now section.now))) }
 {
     match uses_of(alloc, text, callable, section) {
-        Ok(uses) => check_all_driven(alloc, uses.as_slice()),
+        Ok(uses) => check_all_driven(alloc, keys, uses.as_slice()),
         Err(_) => Err(ReadRefusal::NoMemory),
     }
 }
@@ -190,6 +196,7 @@ fn section_users<'a>(
 /// The first name of a section that is driven twice.
 pub fn check_drivers<'a>(
     alloc: Global,
+    keys: NameKeys,
     text: &'a [u8],
     callable: &Callable<'a>,
     sections: &[Section],
@@ -200,7 +207,7 @@ pub fn check_drivers<'a>(
     ensures err { IfErr result (λ e. IsRefusal e (drivers_fault (sections_at text.now sections.now))) }
 {
     for section in sections {
-        match section_drivers(alloc, text, callable, section) {
+        match section_drivers(alloc, keys, text, callable, section) {
             Ok(()) => {}
             Err(refusal) => return Err(refusal),
         }
@@ -211,6 +218,7 @@ pub fn check_drivers<'a>(
 /// The first name of a section that is used and that nothing drives.
 pub fn check_users<'a>(
     alloc: Global,
+    keys: NameKeys,
     text: &'a [u8],
     callable: &Callable<'a>,
     sections: &[Section],
@@ -221,7 +229,7 @@ pub fn check_users<'a>(
     ensures err { IfErr result (λ e. IsRefusal e (users_fault (sections_at text.now sections.now))) }
 {
     for section in sections {
-        match section_users(alloc, text, callable, section) {
+        match section_users(alloc, keys, text, callable, section) {
             Ok(()) => {}
             Err(refusal) => return Err(refusal),
         }

@@ -16,7 +16,7 @@ use crate::sections::Section;
 use blif_lines::Token;
 use blif_reader::word_of;
 use rm_base::NoMemory;
-use rm_model::{Listed, NameTable};
+use rm_model::{Listed, NameKeys, NameTable};
 use std::alloc::Global;
 
 /// Names that are looked up, each once, and their list.
@@ -84,11 +84,11 @@ fn include_lines<'a>(
     Ok(())
 }
 
-fn no_formals<'a>(alloc: Global) -> Formals<'a>
+fn no_formals<'a>(alloc: Global, keys: NameKeys) -> Formals<'a>
     ensures { AreFormals result [] }
 {
     Formals {
-        table: NameTable::new(alloc),
+        table: NameTable::new(alloc, keys),
         names: Vec::new(alloc),
     }
 }
@@ -102,6 +102,7 @@ pub struct Interface<'a> {
 
 fn interface_of<'a>(
     alloc: Global,
+    keys: NameKeys,
     text: &'a [u8],
     section: &Section,
 ) -> Result<Interface<'a>, NoMemory>
@@ -109,8 +110,8 @@ fn interface_of<'a>(
     ensures { IfOk result (λ i. IsInterface i (plain_module (section_at text.now section.now)).model) }
 {
     let body = section.body.items();
-    let mut inward = no_formals(alloc);
-    let mut outputs = no_formals(alloc);
+    let mut inward = no_formals(alloc, keys);
+    let mut outputs = no_formals(alloc, keys);
     include_lines(&mut inward, text, body, ".inputs")?;
     include_lines(&mut inward, text, body, ".clock")?;
     include_lines(&mut outputs, text, body, ".outputs")?;
@@ -120,6 +121,7 @@ fn interface_of<'a>(
 /// The formals of the model of each section.
 pub fn interfaces_of<'a>(
     alloc: Global,
+    keys: NameKeys,
     text: &'a [u8],
     sections: &[Section],
 ) -> Result<Vec<Interface<'a>>, NoMemory>
@@ -128,7 +130,7 @@ pub fn interfaces_of<'a>(
 {
     let mut interfaces = Vec::new(alloc);
     for section in sections {
-        interfaces.push(interface_of(alloc, text, section)?)?;
+        interfaces.push(interface_of(alloc, keys, text, section)?)?;
     }
     Ok(interfaces)
 }

@@ -18,6 +18,7 @@ mod ranks;
 mod reading;
 mod recursion;
 mod renaming;
+mod rounds;
 mod rows;
 mod sections;
 mod sides;

@@ -26,7 +26,7 @@ use blif_reader::{
     OpenCover, check_length, check_row, check_word, command_of, fault, is_text, is_unsupported,
     least_words, limit, part_at, with_ending, word_of,
 };
-use rm_model::{Listed, NameTable};
+use rm_model::{Listed, NameKeys, NameTable};
 use std::alloc::Global;
 
 /// What the lines of a section so far have said.
@@ -324,7 +324,12 @@ fn take_line<'a>(body: &mut Body<'a>, text: &'a [u8], line: &[Token]) -> Result<
     }
 }
 
-fn check_body(alloc: Global, text: &[u8], lines: &[Listed<Token>]) -> Result<(), ReadRefusal>
+fn check_body(
+    alloc: Global,
+    keys: NameKeys,
+    text: &[u8],
+    lines: &[Listed<Token>],
+) -> Result<(), ReadRefusal>
     requires within { All (IsLineWithin text.now) lines.now }
     requires small { length text.now ≤ 2 ^ 24 }
     ensures ok { OnOk result (body_fault nothing_said (lines_at text.now lines.now) ≡ None) }
@@ -333,7 +338,7 @@ fn check_body(alloc: Global, text: &[u8], lines: &[Listed<Token>]) -> Result<(),
     let mut body = Body {
         ended: false,
         cover: None,
-        outputs: NameTable::new(alloc),
+        outputs: NameTable::new(alloc, keys),
     };
     for line in lines {
         match take_line(&mut body, text, line.items()) {
@@ -386,6 +391,7 @@ fn take_title<'a>(
 
 fn check_section<'a>(
     alloc: Global,
+    keys: NameKeys,
     models: &mut NameTable<'a>,
     text: &'a [u8],
     section: &Section,
@@ -406,12 +412,13 @@ fn check_section<'a>(
             Err(refusal) => return Err(refusal),
         },
     }
-    check_body(alloc, text, section.body.items())
+    check_body(alloc, keys, text, section.body.items())
 }
 
 /// The names of the models of sections, or the first fault of their lines.
 pub fn check_sections<'a>(
     alloc: Global,
+    keys: NameKeys,
     text: &'a [u8],
     sections: &[Section],
 ) -> Result<NameTable<'a>, ReadRefusal>
@@ -422,9 +429,9 @@ pub fn check_sections<'a>(
     ensures once { IfOk result (λ names. is_distinct names ≡ true) }
     ensures err { IfErr result (λ e. IsRefusal e (sections_fault [] (sections_at text.now sections.now))) }
 {
-    let mut models = NameTable::new(alloc);
+    let mut models = NameTable::new(alloc, keys);
     for section in sections {
-        match check_section(alloc, &mut models, text, section) {
+        match check_section(alloc, keys, &mut models, text, section) {
             Ok(()) => {}
             Err(refusal) => return Err(refusal),
         }

@@ -9,6 +9,7 @@ ghost use Rattle.blif_flatten.specs.Inner.Ranks.{AreFalling, AreKnownCalls, Fall
 use crate::components::component_numbers;
 use crate::modules::{Link, Module};
 use crate::recursion::first_recursion;
+use crate::rounds::heights_by_rounds;
 use blif_format::{FaultKind, ReadRefusal};
 use std::alloc::Global;
 
@@ -47,9 +48,33 @@ fn are_falling(numbers: &[usize], modules: &[Module]) -> bool
     true
 }
 
+// Numbers that fall along each call, or the first call that is recursive, where these numbers don't.
+fn rank_anew(
+    alloc: Global,
+    modules: &[Module],
+    numbers: &[usize],
+) -> Result<Vec<usize>, ReadRefusal>
+    requires { AreKnownCalls modules.now }
+    ensures falling { IfOk result (λ anew. AreFalling anew.items modules.now) }
+    ensures err { IfErr result (λ e. IsRefusal e (recursion_fault modules.now)) }
+{
+    match first_recursion(alloc, modules, numbers) {
+        Ok(Some(place)) => Err(ReadRefusal::Fault {
+            kind: FaultKind::Recursive,
+            place,
+        }),
+        Ok(None) => match heights_by_rounds(alloc, modules) {
+            Ok(heights) => Ok(heights),
+            Err(_) => Err(ReadRefusal::NoMemory),
+        },
+        Err(_) => Err(ReadRefusal::NoMemory),
+    }
+}
+
 /// Numbers that fall along each call, or the first call that is recursive. It takes time linear in the calls.
 pub fn rank_modules(alloc: Global, modules: &[Module]) -> Result<Vec<usize>, ReadRefusal>
     requires { AreKnownCalls modules.now }
+    ensures falling { IfOk result (λ numbers. AreFalling numbers.items modules.now) }
     ensures ranked { OnOk result ((rank : ℕ → ℕ) × AreRankedBy modules.now rank) }
     ensures ok { OnOk result (recursion_fault modules.now ≡ None) }
     ensures err { IfErr result (λ e. IsRefusal e (recursion_fault modules.now)) }
@@ -61,12 +86,5 @@ pub fn rank_modules(alloc: Global, modules: &[Module]) -> Result<Vec<usize>, Rea
     if are_falling(numbers.as_slice(), modules) {
         return Ok(numbers);
     }
-    match first_recursion(alloc, modules, numbers.as_slice()) {
-        Ok(Some(place)) => Err(ReadRefusal::Fault {
-            kind: FaultKind::Recursive,
-            place,
-        }),
-        Ok(None) => Err(ReadRefusal::NoMemory),
-        Err(_) => Err(ReadRefusal::NoMemory),
-    }
+    rank_anew(alloc, modules, numbers.as_slice())
 }

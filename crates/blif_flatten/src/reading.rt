@@ -16,6 +16,7 @@ ghost use Rattle.blif_flatten.specs.LineFaults.{empty_fault, head_fault, lines_f
 ghost use Rattle.blif_flatten.specs.Meant.{IsFlatModel};
 ghost use Rattle.blif_flatten.specs.Sections.{layout_fault, sections_of, sound_lines};
 ghost use Rattle.blif_flatten.specs.Inner.Interfaces.{IsCallable};
+ghost use Rattle.blif_flatten.specs.Inner.Ranks.{AreFalling};
 ghost use Rattle.blif_flatten.specs.Inner.Reading.{IsLight, IsLinked, names_fault};
 ghost use Rattle.blif_flatten.specs.Inner.Tokens.{AreWithin, sections_at};
 
@@ -32,7 +33,7 @@ use crate::sections::{Section, Sections, read_sections};
 use crate::size::count_tokens;
 use blif_format::{FaultKind, Quantity, ReadRefusal};
 use rm_base::Place;
-use rm_model::{Model, RankFault, is_well_formed, rank, ranks_exist};
+use rm_model::{Model, NameKeys, RankFault, is_well_formed, rank, ranks_exist};
 use std::alloc::Global;
 
 /// A flat model and the number of its instances, with the top.
@@ -48,6 +49,7 @@ pub type FlatRefusal = ReadRefusal;
 // The models that calls may name, where no line has a fault.
 fn callable_of<'a>(
     alloc: Global,
+    keys: NameKeys,
     text: &'a [u8],
     read: &Sections,
 ) -> Result<Callable<'a>, ReadRefusal>
@@ -60,14 +62,14 @@ fn callable_of<'a>(
     ensures callable { IfOk result (λ c. IsCallable c (plain_modules (sections_of text.now))) }
     ensures err { IfErr result (λ e. IsRefusal e (lines_fault (layout text.now) (sections_of text.now))) }
 {
-    let names = match check_sections(alloc, text, read.sections.as_slice()) {
+    let names = match check_sections(alloc, keys, text, read.sections.as_slice()) {
         Ok(names) => names,
         Err(refusal) => return Err(refusal),
     };
     if let Some(refusal) = read.last {
         return Err(refusal);
     }
-    match interfaces_of(alloc, text, read.sections.as_slice()) {
+    match interfaces_of(alloc, keys, text, read.sections.as_slice()) {
         Ok(interfaces) => Ok(Callable { names, interfaces }),
         Err(_) => Err(ReadRefusal::NoMemory),
     }
@@ -86,6 +88,7 @@ pub struct Linked {
 // The modules of sections without a fault of lines.
 fn link_sections<'a>(
     alloc: Global,
+    keys: NameKeys,
     text: &'a [u8],
     callable: &Callable<'a>,
     sections: &[Section],
@@ -97,7 +100,7 @@ fn link_sections<'a>(
     ensures linked { IfOk result (IsLinked (sections_at text.now sections.now)) }
     ensures err { IfErr result (λ e. IsRefusal e (names_fault (sections_at text.now sections.now))) }
 {
-    match check_calls(alloc, text, callable, sections) {
+    match check_calls(alloc, keys, text, callable, sections) {
         Ok(()) => {}
         Err(refusal) => return Err(refusal),
     }
@@ -109,11 +112,11 @@ fn link_sections<'a>(
         Ok(numbers) => numbers,
         Err(refusal) => return Err(refusal),
     };
-    match check_drivers(alloc, text, callable, sections) {
+    match check_drivers(alloc, keys, text, callable, sections) {
         Ok(()) => {}
         Err(refusal) => return Err(refusal),
     }
-    match check_users(alloc, text, callable, sections) {
+    match check_users(alloc, keys, text, callable, sections) {
         Ok(()) => {}
         Err(refusal) => return Err(refusal),
     }
@@ -128,7 +131,7 @@ fn link_sections<'a>(
 }
 
 // The modules of a text, or its first fault before they are joined.
-fn read_modules(alloc: Global, text: &[u8]) -> Result<Linked, ReadRefusal>
+fn read_modules(alloc: Global, keys: NameKeys, text: &[u8]) -> Result<Linked, ReadRefusal>
     requires { length text.now ≤ 16777216 }
     ensures lines { OnOk result (lines_fault (layout text.now) (sections_of text.now) ≡ None) }
     ensures names { OnOk result (names_fault (sections_of text.now) ≡ None) }
@@ -140,21 +143,22 @@ fn read_modules(alloc: Global, text: &[u8]) -> Result<Linked, ReadRefusal>
         Ok(read) => read,
         Err(refusal) => return Err(refusal),
     };
-    let callable = match callable_of(alloc, text, &read) {
+    let callable = match callable_of(alloc, keys, text, &read) {
         Ok(callable) => callable,
         Err(refusal) => return Err(refusal),
     };
-    link_sections(alloc, text, &callable, read.sections.as_slice())
+    link_sections(alloc, keys, text, &callable, read.sections.as_slice())
 }
 
 // Refuses more tokens than there may be.
 fn check_size(alloc: Global, modules: &[Module], numbers: &[usize]) -> Result<(), ReadRefusal>
+    requires falling { AreFalling numbers.now modules.now }
     requires ranked { (rank : ℕ → ℕ) × AreRankedBy modules.now rank }
     requires some { 0 < length modules.now }
     ensures ok { (top : ModuleValue) → slice_get modules.now 0 ≡ Some top → OnOk result (size_fault top (tree_of modules.now top) ≡ None) }
     ensures err { (top : ModuleValue) → slice_get modules.now 0 ≡ Some top → IfErr result (λ e. IsRefusal e (size_fault top (tree_of modules.now top))) }
 {
-    let Ok(Some(count)) = count_tokens(alloc, modules, numbers) else {
+    let Ok(count) = count_tokens(alloc, modules, numbers) else {
         return Err(ReadRefusal::NoMemory);
     };
     if count > 4_194_304 {
@@ -182,7 +186,12 @@ fn rank_refusal(refused: RankFault, places: &[Place]) -> ReadRefusal
 }
 
 // Refuses a model with a cover without rank.
-fn check_ranks(alloc: Global, model: &Model, places: &[Place]) -> Result<(), ReadRefusal>
+fn check_ranks(
+    alloc: Global,
+    keys: NameKeys,
+    model: &Model,
+    places: &[Place],
+) -> Result<(), ReadRefusal>
     requires formed { IsWellFormed model.now }
     requires placed { length places.now ≡ length model.now.covers }
     requires few { length model.now.covers ≤ 4194304 }
@@ -191,7 +200,7 @@ fn check_ranks(alloc: Global, model: &Model, places: &[Place]) -> Result<(), Rea
     ensures err { IfErr result (λ e. IsRefusal e (first_unranked places.now (ranks_of model.now))) }
 {
     ranks_exist();
-    let ranks = match rank(alloc, model) {
+    let ranks = match rank(alloc, keys, model) {
         Ok(ranks) => ranks,
         Err(refused) => return Err(rank_refusal(refused, places)),
     };
@@ -200,10 +209,10 @@ fn check_ranks(alloc: Global, model: &Model, places: &[Place]) -> Result<(), Rea
 }
 
 // Whether a model is well formed, and want of memory where that can't be told.
-fn is_formed(alloc: Global, model: &Model) -> bool
+fn is_formed(alloc: Global, keys: NameKeys, model: &Model) -> bool
     ensures { result ≡ true → IsWellFormed model.now }
 {
-    match is_well_formed(alloc, model) {
+    match is_well_formed(alloc, keys, model) {
         Ok(formed) => formed,
         Err(_) => false,
     }
@@ -211,6 +220,7 @@ fn is_formed(alloc: Global, model: &Model) -> bool
 
 // The flat model of linked modules.
 fn join_modules(alloc: Global, linked: Linked) -> Result<Flattened, ReadRefusal>
+    requires falling { AreFalling linked.numbers.items linked.modules.items }
     requires ranked { (rank : ℕ → ℕ) × AreRankedBy linked.modules.items rank }
     requires positive { (k : ℕ) (m : ModuleValue) → slice_get linked.modules.items k ≡ Some m → 1 ≤ m.tokens }
     requires light { IsLight linked.modules.items }
@@ -239,7 +249,7 @@ fn join_modules(alloc: Global, linked: Linked) -> Result<Flattened, ReadRefusal>
 }
 
 // The model, which is looked at once more: whether it is well formed, and ranked.
-fn check_flat(alloc: Global, flat: Flattened) -> Result<Flat, ReadRefusal>
+fn check_flat(alloc: Global, keys: NameKeys, flat: Flattened) -> Result<Flat, ReadRefusal>
     requires few { flat.instances < 2 ^ 32 }
     requires placed { length flat.places ≡ length flat.model.covers }
     requires few_covers { length flat.model.covers ≤ 4194304 }
@@ -250,10 +260,10 @@ fn check_flat(alloc: Global, flat: Flattened) -> Result<Flat, ReadRefusal>
     ensures ok { OnOk result (first_unranked flat.places (ranks_of flat.model) ≡ None) }
     ensures err { IfErr result (λ e. IsRefusal e (first_unranked flat.places (ranks_of flat.model))) }
 {
-    if !is_formed(alloc, &flat.model) {
+    if !is_formed(alloc, keys, &flat.model) {
         return Err(ReadRefusal::NoMemory);
     }
-    match check_ranks(alloc, &flat.model, flat.places.items()) {
+    match check_ranks(alloc, keys, &flat.model, flat.places.items()) {
         Ok(()) => {}
         Err(refusal) => return Err(refusal),
     }
@@ -270,12 +280,12 @@ fn check_flat(alloc: Global, flat: Flattened) -> Result<Flat, ReadRefusal>
 
 /// The flat model of a text with several models that call each other, or the text's first fault. It takes time n log n
 /// in the tokens of all instances, and no stack that grows with the text.
-pub fn flatten(alloc: Global, text: &[u8]) -> Result<Flat, FlatRefusal>
+pub fn flatten(alloc: Global, keys: NameKeys, text: &[u8]) -> Result<Flat, FlatRefusal>
     requires { length text.now ≤ 16777216 }
     ensures flat { IfOk result (λ f. IsFlatModel text.now f.model f.instances) }
     ensures fault { IfErr result (λ e. IsRefusal e (first_fault text.now)) }
 {
-    let linked = match read_modules(alloc, text) {
+    let linked = match read_modules(alloc, keys, text) {
         Ok(linked) => linked,
         Err(refusal) => return Err(refusal),
     };
@@ -283,7 +293,7 @@ pub fn flatten(alloc: Global, text: &[u8]) -> Result<Flat, FlatRefusal>
         Ok(flat) => flat,
         Err(refusal) => return Err(refusal),
     };
-    match check_flat(alloc, flat) {
+    match check_flat(alloc, keys, flat) {
         Ok(found) => Ok(found),
         Err(refusal) => Err(refusal),
     }

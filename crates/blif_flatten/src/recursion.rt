@@ -10,6 +10,7 @@ ghost use Rattle.blif_flatten.specs.Inner.Ranks.{DoNotRise, HasLinks, number_of}
 
 use crate::modules::{Link, Module};
 use crate::paths::{is_path, path_between};
+use crate::rounds::recursion_by_rounds;
 use rm_base::{NoMemory, Place};
 use std::alloc::Global;
 
@@ -106,8 +107,8 @@ fn is_way(modules: &[Module], path: &[usize], from: usize, to: usize) -> bool
     is_path(modules, path, to)
 }
 
-/// The first recursive call, by numbers that rise along no call and fall along those that aren't recursive.
-pub fn first_recursion(
+// The first call whose number doesn't fall, where the numbers rise along no call and it is found to be recursive.
+fn level_recursion(
     alloc: Global,
     modules: &[Module],
     numbers: &[usize],
@@ -124,4 +125,20 @@ pub fn first_recursion(
         return Ok(Some(call.place));
     }
     Ok(None)
+}
+
+/// The first recursive call. It takes time linear in the calls where the numbers rise along no call and fall along those
+/// that aren't recursive.
+pub fn first_recursion(
+    alloc: Global,
+    modules: &[Module],
+    numbers: &[usize],
+) -> Result<Option<Place>, NoMemory>
+    ensures none { IfOk result (λ found. found ≡ None → recursion_fault modules.now ≡ None) }
+    ensures some { IfOk result (λ found. IfSome found (λ place. recursion_fault modules.now ≡ fault Recursive place)) }
+{
+    if let Some(place) = level_recursion(alloc, modules, numbers)? {
+        return Ok(Some(place));
+    }
+    recursion_by_rounds(alloc, modules)
 }

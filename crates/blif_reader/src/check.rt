@@ -26,6 +26,7 @@ use crate::words::{
 use blif_format::{Command, FaultKind, Part, ReadRefusal, Role};
 use blif_lines::Token;
 use rm_base::Place;
+use rm_model::NameKeys;
 use std::alloc::Global;
 
 /// What the lines so far have said.
@@ -159,14 +160,14 @@ fn either(one: bool, other: bool) -> bool
 }
 
 impl<'a> Checker<'a> {
-    pub fn new(alloc: Global) -> Checker<'a>
+    pub fn new(alloc: Global, keys: NameKeys) -> Checker<'a>
         ensures { IsSaid nothing_said result }
     {
         Checker {
             began: false,
             ended: false,
             cover: None,
-            names: Names::new(alloc),
+            names: Names::new(alloc, keys),
         }
     }
 }

@@ -16,7 +16,7 @@ use crate::draft::model_of;
 use crate::read::{Lines, read_lines};
 use blif_format::{FaultKind, ReadRefusal};
 use rm_base::Place;
-use rm_model::{Model, RankFault, RankedModel, ranks_exist, ranks_follow};
+use rm_model::{Model, NameKeys, RankFault, RankedModel, ranks_exist, ranks_follow};
 use std::alloc::Global;
 
 fn fault(kind: FaultKind, place: Place) -> ReadRefusal
@@ -37,7 +37,12 @@ fn rank_refusal(refused: RankFault, places: &[Place]) -> ReadRefusal
 }
 
 // The model with its ranks.
-fn rank_model(alloc: Global, model: Model, places: &[Place]) -> Result<RankedModel, ReadRefusal>
+fn rank_model(
+    alloc: Global,
+    keys: NameKeys,
+    model: Model,
+    places: &[Place],
+) -> Result<RankedModel, ReadRefusal>
     requires formed { IsWellFormed model }
     requires few { length (source_names model) + length model.covers < 2 ^ 32 }
     requires placed { length places.now ≡ length model.covers }
@@ -46,7 +51,7 @@ fn rank_model(alloc: Global, model: Model, places: &[Place]) -> Result<RankedMod
     ensures err { IfErr result (λ e. IsRefusal e (rank_found model places.now)) }
 {
     ranks_follow();
-    match RankedModel::new(alloc, model) {
+    match RankedModel::new(alloc, keys, model) {
         Ok(ranked) => Ok(ranked),
         Err(refused) => Err(rank_refusal(refused, places)),
     }
@@ -55,7 +60,7 @@ fn rank_model(alloc: Global, model: Model, places: &[Place]) -> Result<RankedMod
 /// The model that a text says, or the text's first fault. Within the limits a text says a model exactly where it has no
 /// fault. It takes one pass over the text and time linear in it, but for two look-ups of each name that stands in it. The last clauses bound what
 /// is made of the model.
-pub fn read_model(alloc: Global, text: &[u8]) -> Result<RankedModel, ReadRefusal>
+pub fn read_model(alloc: Global, keys: NameKeys, text: &[u8]) -> Result<RankedModel, ReadRefusal>
     requires { length text.now ≤ 16777216 }
     ensures model { IfOk result (λ m. Reads (lines_of text.now) m) }
     ensures faultless { IfOk result (λ _. first_fault text.now ≡ None) }
@@ -66,7 +71,7 @@ pub fn read_model(alloc: Global, text: &[u8]) -> Result<RankedModel, ReadRefusal
     ensures weight { IfOk result (λ m. covers_weight m.covers ≤ 2 * length text.now) }
 {
     ranks_exist();
-    let lines = match read_lines(alloc, text) {
+    let lines = match read_lines(alloc, keys, text) {
         Ok(lines) => lines,
         Err(refusal) => return Err(refusal),
     };
@@ -88,5 +93,5 @@ pub fn read_model(alloc: Global, text: &[u8]) -> Result<RankedModel, ReadRefusal
         Ok(model) => model,
         Err(_) => return Err(ReadRefusal::NoMemory),
     };
-    rank_model(alloc, model, places.as_slice())
+    rank_model(alloc, keys, model, places.as_slice())
 }

@@ -7,7 +7,7 @@ ghost use Rattle.blif_reader.specs.Inner.Tally.{entry_of, put_entry};
 
 use crate::names::NameUse;
 use rm_base::NoMemory;
-use rm_model::NameTable;
+use rm_model::{NameKeys, NameTable};
 use std::alloc::Global;
 use std::marker::Model;
 
@@ -33,11 +33,11 @@ impl<'a> Model for NameUses<'a> {
 }
 
 impl<'a> NameUses<'a> {
-    pub fn new(alloc: Global) -> NameUses<'a>
+    pub fn new(alloc: Global, keys: NameKeys) -> NameUses<'a>
         ensures { result ≡ [] }
     {
         NameUses {
-            names: NameTable::new(alloc),
+            names: NameTable::new(alloc, keys),
             entries: Vec::new(alloc),
         }
     }

@@ -12,6 +12,7 @@ use crate::name_uses::NameUses;
 use crate::refusals::{fault, limit};
 use blif_format::{FaultKind, Quantity, ReadRefusal, Role};
 use rm_base::Place;
+use rm_model::NameKeys;
 use std::alloc::Global;
 use std::marker::Model;
 
@@ -274,11 +275,11 @@ impl<'a> Model for Names<'a> {
 }
 
 impl<'a> Names<'a> {
-    pub fn new(alloc: Global) -> Names<'a>
+    pub fn new(alloc: Global, keys: NameKeys) -> Names<'a>
         ensures { IsTally [] result }
     {
         Names {
-            entries: NameUses::new(alloc),
+            entries: NameUses::new(alloc, keys),
             sources: 0,
             observed: 0,
         }

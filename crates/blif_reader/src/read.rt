@@ -13,6 +13,7 @@ use crate::words::{is_text, word_of};
 use blif_format::{FaultKind, ReadRefusal};
 use blif_lines::{LineFault, LineReader, LogicalLine, Token};
 use rm_base::Place;
+use rm_model::NameKeys;
 use std::alloc::Global;
 
 /// What the lines so far have said, and the place of each `.names`.
@@ -105,7 +106,11 @@ fn next_line(reader: &mut LineReader<'_>) -> Result<Option<LogicalLine>, ReadRef
 }
 
 /// All lines of a text, or the first fault of lines.
-pub fn read_lines<'a>(alloc: Global, text: &'a [u8]) -> Result<Lines<'a>, ReadRefusal>
+pub fn read_lines<'a>(
+    alloc: Global,
+    keys: NameKeys,
+    text: &'a [u8],
+) -> Result<Lines<'a>, ReadRefusal>
     requires { length text.now ≤ 16777216 }
     ensures ok { IfOk result (λ r. IsRead text.now (said_by nothing_said (layout text.now)) r.checker r.draft r.places.items) }
     ensures faults { IfOk result (λ r. lines_fault nothing_said (layout text.now) ≡ fault_if (not r.checker.began) NoModel (record { line = 1; column = 1 })) }
@@ -113,7 +118,7 @@ pub fn read_lines<'a>(alloc: Global, text: &'a [u8]) -> Result<Lines<'a>, ReadRe
 {
     let mut reader = LineReader::new(alloc, text);
     let mut lines = Lines {
-        checker: Checker::new(alloc),
+        checker: Checker::new(alloc, keys),
         draft: new_draft(alloc),
         places: Vec::new(alloc),
     };

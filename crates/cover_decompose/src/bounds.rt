@@ -4,7 +4,7 @@ ghost use Rattle.rm_model.specs.Size.{rows_weight, covers_weight};
 ghost use Rattle.cover_decompose.specs.Bounds.{IsSmall};
 
 use rm_base::NoMemory;
-use rm_model::{Cover, Model, Row, list_observed, sources};
+use rm_model::{Cover, Model, NameKeys, Row, list_observed, sources};
 use std::alloc::Global;
 
 fn add_row(total: usize, row: &Row) -> Option<usize>
@@ -44,7 +44,7 @@ fn weight(covers: &[Cover]) -> Option<usize>
 }
 
 /// Whether the decomposition of the model can be counted and numbered.
-pub fn is_small(alloc: Global, model: &Model) -> Result<bool, NoMemory>
+pub fn is_small(alloc: Global, keys: NameKeys, model: &Model) -> Result<bool, NoMemory>
     ensures { IfOk result (λ small. small ≡ true → IsSmall model.now) }
 {
     if model.covers.items().len() >= 4_294_967_296 {
@@ -53,7 +53,7 @@ pub fn is_small(alloc: Global, model: &Model) -> Result<bool, NoMemory>
     if weight(model.covers.items()).is_none() {
         return Ok(false);
     }
-    let sources = sources(alloc, model)?;
+    let sources = sources(alloc, keys, model)?;
     if sources.len() > 1_024 {
         return Ok(false);
     }

@@ -11,7 +11,7 @@ use crate::laws::demo_models_are_ready;
 use crate::names::signal_names;
 use crate::parts::draw_covers;
 use rm_base::NoMemory;
-use rm_model::{Listed, Model, RankFault, RankedModel};
+use rm_model::{Listed, Model, NameKeys, RankFault, RankedModel};
 use std::alloc::Global;
 
 fn drawn_model(alloc: Global, seed: u64) -> Result<Model, NoMemory>
@@ -32,13 +32,13 @@ fn drawn_model(alloc: Global, seed: u64) -> Result<Model, NoMemory>
 }
 
 // A model that has ranks, with them.
-fn rank_model(alloc: Global, model: Model) -> Result<RankedModel, NoMemory>
+fn rank_model(alloc: Global, keys: NameKeys, model: Model) -> Result<RankedModel, NoMemory>
     requires formed { IsWellFormed model }
     requires ranked { first_without_rank model ≡ None }
     requires room { length (source_names model) + length model.covers < 2 ^ 32 }
     ensures { IfOk result (λ m. m ≡ model) }
 {
-    match RankedModel::new(alloc, model) {
+    match RankedModel::new(alloc, keys, model) {
         Ok(ranked) => Ok(ranked),
         Err(RankFault::NoMemory) => Err(NoMemory),
         Err(RankFault::NoRank { cover: _ }) => unreachable!(),
@@ -47,7 +47,7 @@ fn rank_model(alloc: Global, model: Model) -> Result<RankedModel, NoMemory>
 
 /// Draws the example of a seed: sixteen inputs, and sixty covers that each read three signals before them, of which
 /// the last eight are the outputs. One cover may read a signal twice.
-pub fn demo_model(alloc: Global, seed: u64) -> Result<RankedModel, NoMemory>
+pub fn demo_model(alloc: Global, keys: NameKeys, seed: u64) -> Result<RankedModel, NoMemory>
     ensures model { IfOk result (λ m. m ≡ model_of_seed seed) }
     ensures formed { IfOk result (λ m. IsWellFormed m) }
     ensures ranked { IfOk result (λ m. first_without_rank m ≡ None) }
@@ -58,5 +58,5 @@ pub fn demo_model(alloc: Global, seed: u64) -> Result<RankedModel, NoMemory>
 {
     demo_models_are_ready();
     let model = drawn_model(alloc, seed)?;
-    rank_model(alloc, model)
+    rank_model(alloc, keys, model)
 }

@@ -1,6 +1,6 @@
 use crate::demo_model;
 use crate::draws::Draws;
-use rm_model::Cover;
+use rm_model::{Cover, NameKeys};
 use std::test::Fail;
 
 // Whether the cover reads one name first and drives the other.
@@ -22,7 +22,7 @@ fn first_draw(rt: HostRuntime) -> Result<(), Fail> {
 
 #[test]
 fn first_cover_reads_i6(rt: HostRuntime) -> Result<(), Fail> {
-    let ranked = demo_model(rt.alloc(), 1)?;
+    let ranked = demo_model(rt.alloc(), NameKeys::Ordered, 1)?;
     let model = ranked.model();
     let reads = match model.covers.items().first() {
         Some(cover) => is_of(cover, "i6", "t0"),

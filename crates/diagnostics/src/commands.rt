@@ -19,7 +19,8 @@ pub(crate) struct CommandRule {
     pub(crate) names: &'static [&'static str],
     pub(crate) least: usize,
     pub(crate) has_options: bool,
-    pub(crate) names_differ: bool,
+    /// Pairs of its names, by their places, that must differ.
+    pub(crate) different: &'static [(usize, usize)],
     /// Those of its names that are written.
     pub(crate) written: &'static [&'static str],
     pub(crate) meaning: &'static str,
@@ -56,14 +57,14 @@ pub(crate) const OPTIONS: [OptionRule; 4] = [
     },
 ];
 
-pub(crate) const COMMANDS: [CommandRule; 4] = [
+pub(crate) const COMMANDS: [CommandRule; 5] = [
     CommandRule {
         name: "opt",
         usage: "opt IN OUT [JOURNAL] [options]",
         names: &["IN", "OUT", "JOURNAL"],
         least: 2,
         has_options: true,
-        names_differ: true,
+        different: &[(0, 1), (0, 2), (1, 2)],
         written: &["OUT", "JOURNAL"],
         meaning: "optimise the BLIF netlist IN; write the netlist OUT, and each change with its reason to JOURNAL",
     },
@@ -73,7 +74,7 @@ pub(crate) const COMMANDS: [CommandRule; 4] = [
         names: &["IN", "JOURNAL", "OUT"],
         least: 3,
         has_options: false,
-        names_differ: false,
+        different: &[],
         written: &[],
         meaning: "replay JOURNAL over IN, and compare the netlist at its end with OUT",
     },
@@ -83,7 +84,7 @@ pub(crate) const COMMANDS: [CommandRule; 4] = [
         names: &["SEED"],
         least: 1,
         has_options: true,
-        names_differ: false,
+        different: &[],
         written: &[],
         meaning: "optimise a netlist made from the number SEED; no file is read or written",
     },
@@ -93,9 +94,19 @@ pub(crate) const COMMANDS: [CommandRule; 4] = [
         names: &["IN", "OUT"],
         least: 2,
         has_options: false,
-        names_differ: true,
+        different: &[(0, 1)],
         written: &["OUT"],
         meaning: "join the models of the BLIF hierarchy IN into one, and write it to OUT",
+    },
+    CommandRule {
+        name: "tests",
+        usage: "tests IN JOURNAL OUT PATTERNS",
+        names: &["IN", "JOURNAL", "OUT", "PATTERNS"],
+        least: 4,
+        has_options: false,
+        different: &[(0, 3), (1, 3), (2, 3)],
+        written: &["PATTERNS"],
+        meaning: "check as check does, and write few test patterns for the stuck-at faults of OUT to PATTERNS",
     },
 ];
 

@@ -150,9 +150,7 @@ impl<'a> Reading<'a> {
         if let Some(word) = nth(self.names.as_slice(), command.names.len()) {
             self.refuse(Refusal::TooManyNames(word));
         }
-        if command.names_differ
-            && let Some((first, second)) = equal_pair(self.names.as_slice())
-        {
+        if let Some((first, second)) = equal_pair(self.names.as_slice(), command.different) {
             self.refuse(Refusal::EqualNames { first, second });
         }
         if command.name == "demo"
@@ -173,11 +171,18 @@ fn nth<'a>(names: &[&'a str], at: usize) -> Option<&'a str> {
     names.get(at).copied()
 }
 
-// Two of the first three names that are equal.
-fn equal_pair(names: &[&str]) -> Option<(usize, usize)> {
-    for (first, second) in [(0, 1), (0, 2), (1, 2)] {
-        if second < names.len() && names[first] == names[second] {
-            return Some((first, second));
+fn is_same(first: Option<&str>, second: Option<&str>) -> bool {
+    match (first, second) {
+        (Some(first), Some(second)) => first == second,
+        _ => false,
+    }
+}
+
+// The first of the pairs whose names are equal.
+fn equal_pair(names: &[&str], pairs: &[(usize, usize)]) -> Option<(usize, usize)> {
+    for (first, second) in pairs {
+        if is_same(nth(names, *first), nth(names, *second)) {
+            return Some((*first, *second));
         }
     }
     None

@@ -17,7 +17,7 @@ const OPTIONS: &str =
 const REFUSALS: [(&str, &str, bool); 18] = [
     (
         "optimise a b",
-        "rambo: error: no command 'optimise'; the commands are opt check demo flat\nusage:\n  rambo opt IN OUT [JOURNAL] [options]\n  rambo check IN JOURNAL OUT\n  rambo demo SEED [options]\n  rambo flat IN OUT\nrambo --help lists the options; man rambo has more\n",
+        "rambo: error: no command 'optimise'; the commands are opt check demo flat tests\nusage:\n  rambo opt IN OUT [JOURNAL] [options]\n  rambo check IN JOURNAL OUT\n  rambo demo SEED [options]\n  rambo flat IN OUT\n  rambo tests IN JOURNAL OUT PATTERNS\nrambo --help lists the options; man rambo has more\n",
         false,
     ),
     (

@@ -12,7 +12,7 @@ const WHAT: &str =
 
 const FURTHER: &str =
     "An option is written --depth 1 or --depth=1, before or after the names. After '--' every word is a name.
-IN, and all files of check, may be pipes such as /dev/stdin. IN is never written.
+IN, and all files that check and tests read, may be pipes such as /dev/stdin. IN is never written.
 
 exit status:
   0  done
@@ -21,7 +21,7 @@ exit status:
   3  a file or standard output failed
   4  out of memory
   5  something is over its limit
-  6  check: JOURNAL isn't accepted, or OUT differs
+  6  check, tests: JOURNAL isn't accepted, or OUT differs
 ";
 
 // The names of the options with their ranges.

@@ -8,7 +8,7 @@ use crate::driven_names::table_of_driven;
 use crate::gates::{cover_with, even_row, gate_covers};
 use gate_graph::Graph;
 use rm_base::NoMemory;
-use rm_model::{Cover, Literal, Name, NameTable, copy_name};
+use rm_model::{Cover, Literal, Name, NameKeys, NameTable, copy_name};
 use std::alloc::Global;
 
 fn copy_cover(alloc: Global, node: usize, name: &Name, names: &[Name]) -> Result<Cover, NoMemory>
@@ -67,6 +67,7 @@ pub fn copies<'a>(
 
 fn copies_beside(
     alloc: Global,
+    keys: NameKeys,
     sources: &[Name],
     gates: &[Cover],
     nodes: &[usize],
@@ -77,7 +78,7 @@ fn copies_beside(
     requires observed { length nodes.now ≡ length observed.now }
     ensures { IfOk result (λ covers. covers.items ≡ copies_by names.now (sources.now ++ map (λ c. c.output) gates.now) nodes.now observed.now) }
 {
-    let mut had = table_of_driven(alloc, sources, gates)?;
+    let mut had = table_of_driven(alloc, keys, sources, gates)?;
     let covers = copies(alloc, &mut had, nodes, observed, names)?;
     Ok(covers)
 }
@@ -94,6 +95,7 @@ fn append(covers: &mut Vec<Cover>, more: Vec<Cover>) -> Result<(), NoMemory>
 /// The covers of the gates, and then those of the other observed names.
 pub fn all_covers(
     alloc: Global,
+    keys: NameKeys,
     graph: &Graph,
     sources: &[Name],
     nodes: &[usize],
@@ -107,7 +109,15 @@ pub fn all_covers(
 {
     graph.well_formed();
     let mut covers = gate_covers(alloc, graph, names)?;
-    let copies = copies_beside(alloc, sources, covers.as_slice(), nodes, observed, names)?;
+    let copies = copies_beside(
+        alloc,
+        keys,
+        sources,
+        covers.as_slice(),
+        nodes,
+        observed,
+        names,
+    )?;
     append(&mut covers, copies)?;
     Ok(covers)
 }

@@ -16,7 +16,7 @@ use crate::naming::node_names;
 use crate::places::observed_nodes;
 use gate_graph::Graph;
 use rm_base::{NoMemory, NodeId};
-use rm_model::{Cover, Listed, Model, copy_name, list_observed, sources};
+use rm_model::{Cover, Listed, Model, NameKeys, copy_name, list_observed, sources};
 use std::alloc::Global;
 use std::error::Error;
 use std::fmt;
@@ -82,12 +82,17 @@ fn next_step(alloc: Global, graph: &Graph) -> Option<Step>
     }
 }
 
-fn covers_of(alloc: Global, graph: &Graph, original: &Model) -> Result<Listed<Cover>, NoMemory>
+fn covers_of(
+    alloc: Global,
+    keys: NameKeys,
+    graph: &Graph,
+    original: &Model,
+) -> Result<Listed<Cover>, NoMemory>
     requires { Fits (net_of graph.now) original.now }
     ensures { IfOk result (λ covers. covers ≡ (model_of_net original.now (net_of graph.now)).covers) }
 {
     graph.well_formed();
-    let sources = sources(alloc, original)?;
+    let sources = sources(alloc, keys, original)?;
     let observed = list_observed(alloc, original)?;
     let nodes = observed_nodes(alloc, graph)?;
     let names = node_names(
@@ -100,6 +105,7 @@ fn covers_of(alloc: Global, graph: &Graph, original: &Model) -> Result<Listed<Co
     )?;
     let covers = all_covers(
         alloc,
+        keys,
         graph,
         sources.as_slice(),
         nodes.as_slice(),
@@ -113,7 +119,12 @@ fn covers_of(alloc: Global, graph: &Graph, original: &Model) -> Result<Listed<Co
 /// copies and constants for the observed names that are left. Where the net is tidy it stands for that model
 /// (`tidy_nets_have_models`); nothing looks whether it is. It takes time linear in pins and names, but for the look-ups of
 /// names and the tries for a free prefix.
-pub fn model_of_tidy(alloc: Global, graph: &Graph, original: &Model) -> Result<Model, NoMemory>
+pub fn model_of_tidy(
+    alloc: Global,
+    keys: NameKeys,
+    graph: &Graph,
+    original: &Model,
+) -> Result<Model, NoMemory>
     requires formed { IsWellFormed original.now }
     requires fits { Fits (net_of graph.now) original.now }
     ensures model { IfOk result (λ m. m ≡ model_of_net original.now (net_of graph.now)) }
@@ -125,7 +136,7 @@ pub fn model_of_tidy(alloc: Global, graph: &Graph, original: &Model) -> Result<M
     let clocks = copy_names(alloc, original.clocks.items())?;
     let outputs = copy_names(alloc, original.outputs.items())?;
     let latches = copy_latches(alloc, original.latches.items())?;
-    let covers = covers_of(alloc, graph, original)?;
+    let covers = covers_of(alloc, keys, graph, original)?;
     Ok(Model {
         name,
         inputs,
@@ -137,7 +148,12 @@ pub fn model_of_tidy(alloc: Global, graph: &Graph, original: &Model) -> Result<M
 }
 
 /// The same of a net that may not be tidy, which is looked for first.
-pub fn model_of(alloc: Global, graph: &Graph, original: &Model) -> Result<Model, ModelRefusal>
+pub fn model_of(
+    alloc: Global,
+    keys: NameKeys,
+    graph: &Graph,
+    original: &Model,
+) -> Result<Model, ModelRefusal>
     requires formed { IsWellFormed original.now }
     requires fits { Fits (net_of graph.now) original.now }
     ensures model { IfOk result (λ m. m ≡ model_of_net original.now (net_of graph.now)) }
@@ -151,6 +167,6 @@ pub fn model_of(alloc: Global, graph: &Graph, original: &Model) -> Result<Model,
             node: gate_of(step),
         });
     }
-    let model = model_of_tidy(alloc, graph, original)?;
+    let model = model_of_tidy(alloc, keys, graph, original)?;
     Ok(model)
 }

@@ -19,8 +19,9 @@ use Rattle.journal_text.specs.Text.{AreEntries, entries_text, entry_line, journa
 use Rattle.journal_check.specs.Laws.{RecordsReplay, ReplaysAccept}
 use Rattle.journal_check.specs.Replaying.{Replays, editing}
 use Rattle.journal_check.specs.declared.refusal.JournalRefusal.{JournalRefusal}
-use Rattle.journal_audit.specs.Audited.{HasAccepted, ProblemsExclude}
+use Rattle.journal_audit.specs.Audited.{HasAccepted, IsOfFiles, IsProblem, LongJournalsTell, ProblemsExclude}
 use Rattle.journal_audit.specs.Judging.{BeginsWith, IsAcceptedText, IsRefusedText}
+use Rattle.journal_audit.specs.declared.problem.AuditProblem.{AuditProblem}
 use Rattle.journal_audit.specs.declared.problem.AuditProblem.TheVariants.{Fault, Netlist, NoJournal, NoMemory, NoOutput, Refused, Text, TooLong}
 use Rattle.rm_base.specs.Words.{Word}
 
@@ -126,3 +127,26 @@ problems_exclude laws ones law accept m files journal output (Netlist byte) coun
     let found : p.1.1.1.0 ≡ text_of (model_of_net m h.last) = text_is (file_of files output) (text_of (model_of_net m h.last)) p.1.1.1.0 h.written p.1.1.1.1.0 in
     let text : text_of (model_of_net m p.0) ≡ p.1.1.1.0 = ap (λ (n : Net). text_of (model_of_net m n)) same ∙ sym found in
     p.1.1.1.1.1.after.differ (ap (λ (t : List ℕ). slice_get t p.1.1.1.1.1.place) text)
+
+-- OF A LONG JOURNAL ITS LENGTH IS FOUND
+module _ (laws : LinesRead) (ones : JournalsAreOne) (law : RecordsReplay) (accept : ReplaysAccept) (m : Model) (files : Files) (journal output : Word) (text : List ℕ) (last : Net) (count : ℕ) (there : file_of files journal ≡ Some text) (a : IsAcceptedText m text last count) (long : 2 ^ 62 < length text) where
+  short_never : (other : Net) (k : ℕ) → HasAccepted m files journal other k → ⊥
+  short_never other k h =
+      let same : length h.text ≡ length text = ap (λ (t : List ℕ). length t) (text_is (file_of files journal) text h.text there h.there) in
+      omega (arith, same, long, h.short)
+
+  at_text : (other : List ℕ) → file_of files journal ≡ Some other → IsAcceptedText m other last count
+  at_text other e = subst (λ (t : List ℕ). IsAcceptedText m t last count) (text_is (file_of files journal) other text e there) a
+
+  length_alone : (problem : AuditProblem) → IsOfFiles problem → IsProblem m files journal output problem → problem ≡ TooLong
+  length_alone Fault o p = absurd o
+  length_alone NoMemory o p = absurd o
+  length_alone NoJournal o p = absurd (none_some (file_of files journal) text p there)
+  length_alone NoOutput o p = absurd (short_never p.0 p.1.0 p.1.1.0)
+  length_alone TooLong o p = refl
+  length_alone (Text f) o p = absurd (ones.faultless p.0 (at_text p.0 p.1.0).budget (at_text p.0 p.1.0).records f (at_text p.0 p.1.0).journal p.1.1.fault_is)
+  length_alone (Refused r) o p = absurd (refused_never laws law accept m p.0 r last count p.1.1 (at_text p.0 p.1.0))
+  length_alone (Netlist byte) o p = absurd (short_never p.0 p.1.0 p.1.1.0)
+
+pub long_journals_tell : LinesRead → JournalsAreOne → RecordsReplay → ReplaysAccept → LongJournalsTell
+long_journals_tell laws ones law accept m files journal output text last count there a long = length_alone laws ones law accept m files journal output text last count there a long

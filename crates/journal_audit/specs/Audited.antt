@@ -84,3 +84,9 @@ abbrev pub ProblemsExclude : Type 0
 ProblemsExclude =
     (m : Model) (files : Files) (journal output : Word) (problem : AuditProblem) (count : ℕ) → IsOfFiles problem → IsProblem m files journal output problem
     → IsPassed m files journal output count → ⊥
+
+-- of a journal that is accepted but longer than 2^62 bytes nothing is found but its length
+abbrev pub LongJournalsTell : Type 0
+LongJournalsTell =
+    (m : Model) (files : Files) (journal output : Word) (text : List ℕ) (last : Net) (count : ℕ) → file_of files journal ≡ Some text → IsAcceptedText m text last count → 2 ^ 62 < length text
+    → (problem : AuditProblem) → IsOfFiles problem → IsProblem m files journal output problem → problem ≡ TooLong

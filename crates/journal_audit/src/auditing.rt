@@ -24,17 +24,22 @@ use gate_graph::Graph;
 use graph_to_model::model_of_tidy;
 use journal_check::accepted_stand;
 use rm_base::{NoMemory, Shelf};
-use rm_model::RankedModel;
+use rm_model::{NameKeys, RankedModel};
 use std::alloc::Global;
 
 /// The text of the model that stands for a net.
-pub fn net_text(alloc: Global, graph: &Graph, model: &RankedModel) -> Result<Vec<u8>, NoMemory>
+pub fn net_text(
+    alloc: Global,
+    keys: NameKeys,
+    graph: &Graph,
+    model: &RankedModel,
+) -> Result<Vec<u8>, NoMemory>
     requires formed { IsWellFormed model.now }
     requires fits { Fits (net_of graph.now) model.now }
     ensures text { IfOk result (λ text. text.items ≡ model_text (model_of_net model.now (net_of graph.now))) }
     ensures few { OnOk result (AreFew (net_of graph.now) model.now) }
 {
-    let made = model_of_tidy(alloc, graph, model.model())?;
+    let made = model_of_tidy(alloc, keys, graph, model.model())?;
     let text = write_model(alloc, &made)?;
     Ok(text)
 }
@@ -66,6 +71,7 @@ pub struct Audited {
 /// that net, and what was read of the journal, or the first reason against it. No file changes.
 pub fn audit_verdicts<S: Shelf>(
     alloc: Global,
+    keys: NameKeys,
     shelf: &mut S,
     model: &RankedModel,
     journal: &str,
@@ -91,7 +97,7 @@ pub fn audit_verdicts<S: Shelf>(
 {
     accepted_stand();
     let (graph, tally) = journal_net(alloc, shelf, model, journal)?;
-    let text = net_text(alloc, &graph, model)?;
+    let text = net_text(alloc, keys, &graph, model)?;
     compare_output(shelf, output, text.as_slice())?;
     Ok(Audited {
         graph,
@@ -104,6 +110,7 @@ pub fn audit_verdicts<S: Shelf>(
 /// how many records the journal has, or the first reason against it. No file changes.
 pub fn audit<S: Shelf>(
     alloc: Global,
+    keys: NameKeys,
     shelf: &mut S,
     model: &RankedModel,
     journal: &str,
@@ -124,7 +131,7 @@ pub fn audit<S: Shelf>(
     ensures later { S.faults shelf.old ≤ S.faults shelf.new }
     ensures files { S.files shelf.new ≡ S.files shelf.old }
 {
-    match audit_verdicts(alloc, shelf, model, journal, output) {
+    match audit_verdicts(alloc, keys, shelf, model, journal, output) {
         Ok(audited) => Ok(audited.count),
         Err(problem) => Err(problem),
     }

@@ -1,5 +1,5 @@
 // What follows of the definitions, the contract of a function that does nothing.
-ghost use Rattle.journal_audit.specs.Audited.{ProblemsExclude};
+ghost use Rattle.journal_audit.specs.Audited.{LongJournalsTell, ProblemsExclude};
 
 use journal_check::{records_replay, replays_accept};
 use journal_text::{journals_are_one, lines_read};
@@ -7,6 +7,16 @@ use journal_text::{journals_are_one, lines_read};
 /// Files that have a problem don't pass: a journal is accepted or has one first fault or refusal, never both.
 pub fn problems_exclude()
     ensures { ProblemsExclude }
+{
+    lines_read();
+    journals_are_one();
+    records_replay();
+    replays_accept();
+}
+
+/// Of an accepted journal that is longer than the audit reads nothing is found but its length.
+pub fn long_journals_tell()
+    ensures { LongJournalsTell }
 {
     lines_read();
     journals_are_one();

@@ -14,7 +14,7 @@ mod tally;
 mod verdicts;
 
 pub use auditing::{Audited, audit, audit_verdicts, net_text};
-pub use laws::problems_exclude;
+pub use laws::{long_journals_tell, problems_exclude};
 pub use lines::{fault_line, netlist_line, refusal_line};
 pub use problem::AuditProblem;
 pub use verdicts::Verdicts;

@@ -7,6 +7,7 @@ use journal_check::{JournalRefusal, Why};
 use journal_text::JournalFault;
 use refutation_check::CheckRefusal;
 use rm_base::{Fault, MemoryShelf, NodeId};
+use rm_model::NameKeys;
 use std::alloc::Global;
 use std::test::Fail;
 use wire_edit::{EditRefusal, Rule};
@@ -33,7 +34,14 @@ fn shelf(alloc: Global, journal: &str, output: &str, failing: &[u64]) -> Result<
 fn answer(alloc: Global, input: &str, journal: &str, output: &str) -> Result<Answer, Fail> {
     let model = read(alloc, input)?;
     let mut shelf = shelf(alloc, journal, output, &[])?;
-    Ok(audit(alloc, &mut shelf, &model, "journal", "out"))
+    Ok(audit(
+        alloc,
+        NameKeys::Ordered,
+        &mut shelf,
+        &model,
+        "journal",
+        "out",
+    ))
 }
 
 fn refusal_at(number: u64, why: Why) -> Answer {
@@ -200,7 +208,14 @@ fn failing_calls(rt: HostRuntime) -> Result<(), Fail> {
     let model = read(alloc, ONE_GATE)?;
     for call in 1..5u64 {
         let mut shelf = shelf(alloc, ONE_GATE_JOURNAL, ONE_GATE, &[call])?;
-        let got = audit(alloc, &mut shelf, &model, "journal", "out");
+        let got = audit(
+            alloc,
+            NameKeys::Ordered,
+            &mut shelf,
+            &model,
+            "journal",
+            "out",
+        );
         let wanted = if call < 4 {
             Err(AuditProblem::Fault)
         } else {

@@ -7,7 +7,7 @@ ghost use Rattle.rm_model.specs.WellFormed.{IsWellFormed};
 
 use blif_reader::read_model;
 use cover_decompose::{decompose, is_small, wires_are_bounded};
-use rm_model::{RankedModel, is_well_formed, rank, ranks_exist};
+use rm_model::{NameKeys, RankedModel, is_well_formed, rank, ranks_exist};
 use std::alloc::Global;
 use std::test::Fail;
 
@@ -42,16 +42,16 @@ pub fn read(alloc: Global, text: &str) -> Result<RankedModel, Fail>
     if text.len() > 1_000 {
         return Err("too long".into());
     }
-    let Ok(model) = read_model(alloc, text.as_bytes()) else {
+    let Ok(model) = read_model(alloc, NameKeys::Ordered, text.as_bytes()) else {
         return Err("no model".into());
     };
-    if !is_well_formed(alloc, model.model())? {
+    if !is_well_formed(alloc, NameKeys::Ordered, model.model())? {
         return Err("not well formed".into());
     }
-    if !is_small(alloc, model.model())? {
+    if !is_small(alloc, NameKeys::Ordered, model.model())? {
         return Err("too large".into());
     }
-    let Ok(_ranks) = rank(alloc, model.model()) else {
+    let Ok(_ranks) = rank(alloc, NameKeys::Ordered, model.model()) else {
         return Err("no rank".into());
     };
     let Ok(_graph) = decompose(alloc, &model) else {

@@ -8,11 +8,12 @@ mod tests;
 use host_devices::{
     CountingGate, FileShelf, StdoutSink, Watch, report, report_undecodable, warn_ahead,
 };
-use rambo_cli::run;
+use rambo_cli::{NameKeys, run};
 use rm_base::{OutsideFault, Sink};
 use std::alloc::AllocError;
 use std::env;
 use std::fs::File;
+use std::hash::RandomState;
 use std::io::ErrorKind;
 use std::process::ExitCode;
 use std::rt::{Clock, Files};
@@ -44,9 +45,18 @@ fn without_memory(rt: &HostRuntime) -> u8 {
     }
 }
 
+// By what names are looked up. Where no keys can be drawn, it is their order.
+fn name_keys(rt: &HostRuntime) -> NameKeys {
+    match RandomState::new(rt) {
+        Ok(keys) => NameKeys::Drawn(keys),
+        Err(_) => NameKeys::Ordered,
+    }
+}
+
 // Runs the words, and answers the status.
 fn run_words<R: Files<File = File> + Clock + Print + Threads + Sync + AllocGlobal>(
     rt: &R,
+    keys: NameKeys,
     watch: &Watch<'_, R>,
     words: &[String],
     are_text: bool,
@@ -56,7 +66,7 @@ fn run_words<R: Files<File = File> + Clock + Print + Threads + Sync + AllocGloba
     let mut shelf = FileShelf::new(rt, alloc, watch);
     let mut sink = StdoutSink::new(rt, alloc);
     let gate = CountingGate::new(watch, alloc);
-    let status = run(rt, alloc, words, &mut shelf, &mut sink, &gate);
+    let status = run(rt, alloc, keys, words, &mut shelf, &mut sink, &gate);
     if are_text {
         report(rt, alloc, watch, words, &shelf, &sink, status);
     } else {
@@ -69,7 +79,7 @@ fn main(rt: HostRuntime) -> ExitCode {
     let watch = Watch::new(&rt, rt.stderr());
     match words(&rt) {
         Ok((words, are_text)) => {
-            ExitCode::from(run_words(&rt, &watch, words.as_slice(), are_text))
+            ExitCode::from(run_words(&rt, name_keys(&rt), &watch, words.as_slice(), are_text))
         }
         Err(_) => ExitCode::from(without_memory(&rt)),
     }

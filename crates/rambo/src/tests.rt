@@ -1,6 +1,6 @@
 //! The top call over the real files and standard output.
 use host_devices::{FileShelf, StdoutSink, Watch};
-use rambo_cli::run;
+use rambo_cli::{NameKeys, run};
 use rm_base::{OpenGate, Shelf};
 use std::alloc::{AllocError, Global};
 use std::test::Fail;
@@ -31,6 +31,7 @@ fn a_run_leaves_the_output_and_the_journal(rt: HostRuntime) -> Result<(), Fail> 
         run(
             &rt,
             alloc,
+            NameKeys::Ordered,
             words.as_slice(),
             &mut shelf,
             &mut sink,

@@ -10,15 +10,18 @@ use Rattle.rm_base.specs.Files.{Files, file_of, put_file}
 use Rattle.rm_base.specs.Words.{Word}
 use Rattle.rm_base.specs.declared.settings.Settings.{Settings}
 use Rattle.rm_model.specs.declared.parts.Model.{Model}
-use Rattle.journal_audit.specs.Audited.{IsPassed}
+use Rattle.blif_format.specs.Laws.{ReadsOnce}
+use Rattle.journal_audit.specs.Audited.{IsPassed, LongJournalsTell}
+use Rattle.journal_audit.specs.Judging.{IsAcceptedText}
 use Rattle.journal_text.specs.declared.record.Record.{Record}
 use Rattle.optimisation.specs.declared.optimised.Figures.{Figures}
 use Rattle.word_reading.specs.Commands.{HasNamesApart}
 use Rattle.word_reading.specs.Words.{opt}
+use Rattle.rambo_cli.proofs.Overlong.{overlong}
 use Rattle.rambo_cli.specs.Check.{HasPassed}
 use Rattle.rambo_cli.specs.Files.{Holds, IfTold}
 use Rattle.rambo_cli.specs.Headline.{IsOptimisedInto}
-use Rattle.rambo_cli.specs.Opt.{HasOptimised, HasWritten, IsChecked}
+use Rattle.rambo_cli.specs.Opt.{HasOptimised, HasWritten, IsChecked, IsOverlong}
 use Rattle.rambo_cli.specs.Written.{IsSaid}
 
 here : (name bytes : List ℕ) (files : Files) → file_of (put_file name bytes files) name ≡ Some bytes
@@ -50,6 +53,15 @@ module _ (input output journal : Word) (apart : (input ≢ output) × ((input �
   still_said : Holds new input (λ text. IsSaid text model)
   still_said = subst (λ (o : Option (List ℕ)). IsSomeAnd o (λ text. IsSaid text model)) (sym input_stays) said
 
+  accepted : IsAcceptedText model w.recorded w.result.net (length (w.result.steps ++ w.result.verdicts))
+  accepted = record {
+    budget = settings.budget;
+    records = w.result.steps ++ w.result.verdicts;
+    journal = record { valid = w.result.valid; is = w.result.recorded };
+    accepted = w.result.accepted;
+    counts = refl;
+  }
+
   passes : length w.recorded ≤ 2 ^ 62 → IsPassed model new journal output (length (w.result.steps ++ w.result.verdicts))
   passes short = record {
     last = w.result.net;
@@ -57,13 +69,7 @@ module _ (input output journal : Word) (apart : (input ≢ output) × ((input �
       text = w.recorded;
       there = journal_there;
       short = short;
-      accepted = record {
-        budget = settings.budget;
-        records = w.result.steps ++ w.result.verdicts;
-        journal = record { valid = w.result.valid; is = w.result.recorded };
-        accepted = w.result.accepted;
-        counts = refl;
-      };
+      accepted = accepted;
     };
     few = w.result.small;
     written = output_there ∙ ap Some w.result.spelled;
@@ -73,20 +79,23 @@ module _ (input output journal : Word) (apart : (input ≢ output) × ((input �
   unfolding passes
   passed short = (model, (still_said, (w.few, (passes short, w.result.same_function))))
 
-  too_long : 2 ^ 62 < length w.recorded → Holds new journal (λ text. 2 ^ 62 < length text)
-  too_long long = subst (λ (o : Option (List ℕ)). IsSomeAnd o (λ text. 2 ^ 62 < length text)) (sym journal_there) long
+  too_long : ReadsOnce → LongJournalsTell → 2 ^ 62 < length w.recorded → IsOverlong input journal output new
+  too_long once tell long = (
+    subst (λ (o : Option (List ℕ)). IsSomeAnd o (λ text. 2 ^ 62 < length text)) (sym journal_there) long,
+    overlong once tell input journal output new model w.few still_said w.recorded w.result.net (length (w.result.steps ++ w.result.verdicts)) journal_there accepted long
+  )
 
-pub checked : (input output : Word) (journal : Option Word) (model : Model) (settings : Settings) (figures : Figures) (old new : Files) → HasNamesApart (opt input output journal settings) → Holds old input (λ text. IsSaid text model) → HasWritten model output journal settings figures old new → IsChecked input output journal new
-checked input output None model settings figures old new apart said w = tt
-checked input output (Some journal) model settings figures old new apart said w = elim (cases_lt (2 ^ 62) (length w.recorded)) [
-  | inl long ↦ inr (too_long input output journal (apart.0, (apart.1, apart.2)) model settings figures old new said w long)
+pub checked : ReadsOnce → LongJournalsTell → (input output : Word) (journal : Option Word) (model : Model) (settings : Settings) (figures : Figures) (old new : Files) → HasNamesApart (opt input output journal settings) → Holds old input (λ text. IsSaid text model) → HasWritten model output journal settings figures old new → IsChecked input output journal new
+checked once tell input output None model settings figures old new apart said w = tt
+checked once tell input output (Some journal) model settings figures old new apart said w = elim (cases_lt (2 ^ 62) (length w.recorded)) [
+  | inl long ↦ inr (too_long input output journal (apart.0, (apart.1, apart.2)) model settings figures old new said w once tell long)
   | inr short ↦ inl (length (w.result.steps ++ w.result.verdicts), passed input output journal (apart.0, (apart.1, apart.2)) model settings figures old new said w short)
 ]
 
 -- what was written for the model that the input says
-pub optimised : (input output : Word) (journal : Option Word) (model : Model) (settings : Settings) (figures : Figures) (old new : Option Files) → HasNamesApart (opt input output journal settings) → ((files : Files) → old ≡ Some files → Holds files input (λ text. IsSaid text model)) → IfTold old new (HasWritten model output journal settings figures)
+pub optimised : ReadsOnce → LongJournalsTell → (input output : Word) (journal : Option Word) (model : Model) (settings : Settings) (figures : Figures) (old new : Option Files) → HasNamesApart (opt input output journal settings) → ((files : Files) → old ≡ Some files → Holds files input (λ text. IsSaid text model)) → IfTold old new (HasWritten model output journal settings figures)
     → IfTold old new (HasOptimised input output journal settings figures)
-optimised input output journal model settings figures None new apart said w = tt
-optimised input output journal model settings figures (Some old) None apart said w = absurd w
-optimised input output journal model settings figures (Some old) (Some new) apart said w =
-    (model, (said old refl, (w, checked input output journal model settings figures old new apart (said old refl) w)))
+optimised once tell input output journal model settings figures None new apart said w = tt
+optimised once tell input output journal model settings figures (Some old) None apart said w = absurd w
+optimised once tell input output journal model settings figures (Some old) (Some new) apart said w =
+    (model, (said old refl, (w, checked once tell input output journal model settings figures old new apart (said old refl) w)))

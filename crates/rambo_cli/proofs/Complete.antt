@@ -17,7 +17,7 @@ use Rattle.cover_decompose.specs.Count.{decomposed}
 use Rattle.journal_audit.specs.Audited.{ProblemsExclude, IsProblem, IsOfFiles}
 use Rattle.journal_audit.specs.declared.problem.AuditProblem.{AuditProblem}
 use Rattle.journal_audit.specs.declared.problem.AuditProblem.TheVariants as audit
-use Rattle.word_reading.specs.Words.{Asked, opt, check, demo, flat}
+use Rattle.word_reading.specs.Words.{Asked, opt, check, demo, flat, tests}
 use Rattle.rambo_cli.specs.Check.{AreThere, Audited, CheckFinds, HasPassed}
 use Rattle.rambo_cli.specs.Commands.{contract_of}
 use Rattle.rambo_cli.specs.Contract.{Caused, Contract, IsCause, StoreFails}
@@ -33,11 +33,11 @@ use Rattle.rambo_cli.specs.declared.problem.Problem.TheVariants.{Words, Text, Li
 use Rattle.rm_base.specs.Words.{Word}
 
 -- of one file two facts hold together
-together : (o : Option (List ℕ)) (P Q : List ℕ → Type 0) → IsSomeAnd o P → IsSomeAnd o Q → ((text : List ℕ) → P text → Q text → ⊥) → ⊥
+pub together : (o : Option (List ℕ)) (P Q : List ℕ → Type 0) → IsSomeAnd o P → IsSomeAnd o Q → ((text : List ℕ) → P text → Q text → ⊥) → ⊥
 together None P Q p q never = p
 together (Some text) P Q p q never = never text p q
 
-weaker : (o : Option (List ℕ)) (P Q : List ℕ → Type 0) → IsSomeAnd o P → ((text : List ℕ) → P text → Q text) → IsSomeAnd o Q
+pub weaker : (o : Option (List ℕ)) (P Q : List ℕ → Type 0) → IsSomeAnd o P → ((text : List ℕ) → P text → Q text) → IsSomeAnd o Q
 weaker None P Q p f = p
 weaker (Some text) P Q p f = f text p
 
@@ -61,7 +61,7 @@ no_limit quantity count text good h = elim h [
 ]
 
 -- nothing is found of an input that can be optimised
-read_finds_none : (input : Word) (told : Files) (problem : Problem) → Holds told input CanBeOptimised → ReadFinds input (Some told) problem → ⊥
+pub read_finds_none : (input : Word) (told : Files) (problem : Problem) → Holds told input CanBeOptimised → ReadFinds input (Some told) problem → ⊥
 read_finds_none input told (Text kind place) good h = together (file_of told input) CanBeOptimised (λ text. HasFault text kind place) good h (no_fault kind place)
 read_finds_none input told (Limit quantity count) good h = together (file_of told input) CanBeOptimised (λ text. Exceeds text quantity count) good h (no_limit quantity count)
 read_finds_none input told Missing good h = present (file_of told input) CanBeOptimised good h
@@ -103,21 +103,22 @@ outside_alone c files m n (Journal f) none h = absurd (none h)
 outside_alone c files m n (Record r) none h = absurd (none h)
 outside_alone c files m n (Netlist byte) none h = absurd (none h)
 
-module _ (once : ReadsOnce) (exclude : ProblemsExclude) where
-  said_good : (model : Model) (text : List ℕ) → decomposed model ≤ 65536 → IsSaid text model → CanBeOptimised text
+module _ (once : ReadsOnce) where
+  pub said_good : (model : Model) (text : List ℕ) → decomposed model ≤ 65536 → IsSaid text model → CanBeOptimised text
   said_good model text few said = record {
     short = said.short;
     faultless = said.faultless;
     few = λ other reads. subst (λ (m : Model). decomposed m ≤ 65536) (once (lines_of text) model other said.reads reads) few;
   }
 
-  same_model : (model other : Model) (P : Type 0) (text : List ℕ) → (model ≡ other → P) → IsSaid text model → IsSaid text other → P
+  pub same_model : (model other : Model) (P : Type 0) (text : List ℕ) → (model ≡ other → P) → IsSaid text model → IsSaid text other → P
   same_model model other P text f one two = f (once (lines_of text) model other one.reads two.reads)
 
+module _ (once : ReadsOnce) (exclude : ProblemsExclude) where
   no_problem : (input journal output : Word) (told : Files) (count : ℕ) (found : AuditProblem) → HasPassed input journal output count told → IsOfFiles found → Audited input journal output found told → ⊥
   no_problem input journal output told count found passed of_files audited =
       together (file_of told input) (λ text. IsSaid text passed.0) (λ text. IsSaid text audited.0) passed.1.0 audited.1.0
-      (λ text one two. same_model passed.0 audited.0 ⊥ text
+      (λ text one two. same_model once passed.0 audited.0 ⊥ text
       (λ same. exclude passed.0 told journal output found count of_files (subst (λ (m : Model). IsProblem m told journal output found) (sym same) audited.1.1.1) passed.1.1.1.0)
       one two)
 
@@ -125,7 +126,7 @@ module _ (once : ReadsOnce) (exclude : ProblemsExclude) where
   check_finds_none input journal output told count problem passed h = go problem h
     where
       good : Holds told input CanBeOptimised
-      good = weaker (file_of told input) (λ text. IsSaid text passed.0) CanBeOptimised passed.1.0 (λ text said. said_good passed.0 text passed.1.1.0 said)
+      good = weaker (file_of told input) (λ text. IsSaid text passed.0) CanBeOptimised passed.1.0 (λ text said. said_good once passed.0 text passed.1.1.0 said)
 
       go : (p : Problem) → CheckFinds input journal output (Some told) p → ⊥
       go (Text kind place) f = read_finds_none input told (Text kind place) good f
@@ -160,6 +161,9 @@ module _ (once : ReadsOnce) (exclude : ProblemsExclude) where
   good_runs_are_done (Some (flat input output)) None m n problem good h = absurd good
   good_runs_are_done (Some (flat input output)) (Some told) m n problem good h =
       outside_alone (contract_of (Some (flat input output))) (Some told) m n problem (flat_finds_none input told problem good) h
+  good_runs_are_done (Some (tests input journal output patterns)) None m n problem good h = absurd good
+  good_runs_are_done (Some (tests input journal output patterns)) (Some told) m n problem good h =
+      outside_alone (contract_of (Some (tests input journal output patterns))) (Some told) m n problem (check_finds_none input journal output told good.0 problem good.1) h
 
 held : (o : Option (List ℕ)) → IsSome o → o ≡ None → ⊥
 held None h e = cc
@@ -209,6 +213,9 @@ judged_runs_are_told (Some (check input journal output)) (Some told) m n problem
     or_outside (contract_of (Some (check input journal output))) (Some told) m n problem (judged input journal output told problem there) h
 judged_runs_are_told (Some (demo seed settings)) files m n problem there h = absurd there
 judged_runs_are_told (Some (flat input output)) files m n problem there h = absurd there
+judged_runs_are_told (Some (tests input journal output patterns)) None m n problem there h = absurd there
+judged_runs_are_told (Some (tests input journal output patterns)) (Some told) m n problem there h =
+    or_outside (contract_of (Some (tests input journal output patterns))) (Some told) m n problem (judged input journal output told problem there) h
 
 -- so a run that reports a problem of good words and files ends with 4, where nothing outside fails
 pub reported_done : (law : GoodRunsAreDone) (may_want : Bool) (problem : Problem) (status : ℕ) (words : Option Asked) (files : Option Files) (m n : ℕ) (old new : Option (List ℕ)) (k l : ℕ) → IsReported may_want problem status old new k l → IsCause (contract_of words) files m n problem

@@ -7,8 +7,11 @@ pub mod Tested
 pub mod Rising
 pub mod Auditing
 pub mod Writing
+pub mod Overlong
 pub mod Checked
 pub mod Wanting
 pub mod Limited
 pub mod FlatTexts
 pub mod Complete
+pub mod Patterns
+pub mod PatternFiles

@@ -1,11 +1,12 @@
 -- The contract of what the words ask for.
 use Rattle.std.specs.Prelude.{◌≡◌, Option, None, Some, false}
-use Rattle.word_reading.specs.Words.{Asked, opt, check, demo, flat}
+use Rattle.word_reading.specs.Words.{Asked, opt, check, demo, flat, tests}
 use Rattle.rambo_cli.specs.Contract.{Contract}
 use Rattle.rambo_cli.specs.Opt.{opt_contract}
 use Rattle.rambo_cli.specs.Check.{check_contract}
 use Rattle.rambo_cli.specs.Demo.{demo_contract}
 use Rattle.rambo_cli.specs.Flat.{flat_contract}
+use Rattle.rambo_cli.specs.Tests.{tests_contract}
 use Rattle.rambo_cli.specs.declared.problem.Problem.TheVariants.{Words}
 
 -- of words that ask for nothing
@@ -25,3 +26,4 @@ contract_of (Some (opt input output journal settings)) = opt_contract input outp
 contract_of (Some (check input journal output)) = check_contract input journal output
 contract_of (Some (demo seed settings)) = demo_contract seed settings
 contract_of (Some (flat input output)) = flat_contract input output
+contract_of (Some (tests input journal output patterns)) = tests_contract input journal output patterns

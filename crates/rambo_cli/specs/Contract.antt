@@ -1,5 +1,5 @@
 -- What a command promises over the files before and after: its contract. Each command's stands in a file of its own.
-use Rattle.std.specs.Prelude.{ℕ, Bool, Option, IsTrue}
+use Rattle.std.specs.Prelude.{◌≡◌, ℕ, Bool, Option, IsTrue}
 use Rattle.rm_base.specs.Causes.{Rose}
 use Rattle.rm_base.specs.Files.{Files}
 use Rattle.rambo_cli.specs.declared.work.Done.{Done}
@@ -25,6 +25,11 @@ abbrev pub Caused : (Problem → Type 0) → ℕ → ℕ → Problem → Type 0
 Caused Finds before now Fault = Rose before now
 Caused Finds before now Memory = Unit {0}
 Caused Finds before now problem = Finds problem
+
+-- over these files the command isn't done, and finds nothing but that problem
+pub record FindsAlone (c : Contract) (files : Option Files) (problem : Problem) : Type 0 where
+  pub never_done : (new : Option Files) (done : Done) → c.Does files new done → ⊥
+  pub alone : (other : Problem) → c.Finds files other → other ≡ problem
 
 -- a call of the file store has failed
 abbrev pub StoreFails : Contract → ℕ → ℕ → Type 0

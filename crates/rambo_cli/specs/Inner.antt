@@ -3,4 +3,5 @@ pub mod Complete
 pub mod Composition
 pub mod Files
 pub mod Problems
+pub mod Tests
 pub mod Written

@@ -10,6 +10,7 @@ pub mod Opt
 pub mod Check
 pub mod Demo
 pub mod Flat
+pub mod Tests
 pub mod Commands
 pub mod Problems
 pub mod Outcome

@@ -3,17 +3,19 @@ use Rattle.std.specs.Prelude.{◌≡◌, ◌<◌, ◌≤◌, ◌^◌, ◌⊎◌,
 use Rattle.rm_base.specs.Files.{Files, put_file}
 use Rattle.rm_base.specs.declared.settings.Settings.{Settings}
 use Rattle.rm_model.specs.declared.parts.Model.{Model}
+use Rattle.blif_format.specs.declared.refusal.Quantity.TheVariants.{Journal as JournalLimit}
 use Rattle.cover_decompose.specs.Count.{decomposed}
 use Rattle.optimisation.specs.Begun.{IsBeginning}
 use Rattle.optimisation.specs.declared.optimised.Figures.{Figures}
 use Rattle.rambo_cli.specs.Check.{check_contract}
-use Rattle.rambo_cli.specs.Contract.{Contract}
+use Rattle.rambo_cli.specs.Contract.{Contract, FindsAlone}
 use Rattle.rambo_cli.specs.Files.{Holds, IfTold}
 use Rattle.rambo_cli.specs.Headline.{IsOptimisedInto}
 use Rattle.rambo_cli.specs.Input.{CanBeOptimised, ReadFinds}
 use Rattle.rambo_cli.specs.Written.{IsSaid, most_pins}
 use Rattle.rambo_cli.specs.declared.work.Done.{Done}
 use Rattle.rambo_cli.specs.declared.work.Done.TheVariants.{Optimised}
+use Rattle.rambo_cli.specs.declared.problem.Problem.TheVariants.{Limit}
 use Rattle.rm_base.specs.Words.{Word}
 
 -- the files with the journal, where it is named
@@ -30,10 +32,15 @@ pub record HasWritten (model : Model) (output : Word) (journal : Option Word) (s
   pub result : IsOptimisedInto model settings figures recorded written
   pub files : new ≡ put_file output written (with_journal journal recorded old)
 
+-- the journal is longer than `check` reads, and nothing else is found of these files: it ends with 5
+abbrev pub IsOverlong : Word → Word → Word → Files → Type 0
+IsOverlong input journal output told =
+    Holds told journal (λ text. 2 ^ 62 < length text) × FindsAlone (check_contract input journal output) (Some told) (Limit JournalLimit 4611686018427387905)
+
 -- over these files `check IN JOURNAL OUT` is good, or the journal is longer than it reads
 abbrev pub IsChecked : Word → Word → Option Word → Files → Type 0
 IsChecked input output None told = Unit {0}
-IsChecked input output (Some journal) told = (check_contract input journal output).IsGood (Some told) ⊎ Holds told journal (λ text. 2 ^ 62 < length text)
+IsChecked input output (Some journal) told = (check_contract input journal output).IsGood (Some told) ⊎ IsOverlong input journal output told
 
 -- that is so of the model that the input says, and of the files `check`
 abbrev pub HasOptimised : Word → Word → Option Word → Settings → Figures → Files → Files → Type 0

@@ -4,10 +4,11 @@ use Rattle.blif_format.specs.declared.refusal.Quantity.TheVariants.{Journal as J
 use Rattle.journal_audit.specs.declared.problem.AuditProblem.{AuditProblem}
 use Rattle.journal_audit.specs.declared.problem.AuditProblem.TheVariants as audit
 use Rattle.journal_audit.specs.Lines.{fault_line as journal_fault_line, netlist_line, refusal_line}
+use Rattle.pattern_text.specs.Text.{tests_line}
 use Rattle.rambo_cli.specs.Summary.{summary_text}
 use Rattle.rambo_cli.specs.Lines.{accepted_line, fault_line, flat_line, limit_line, words_line, shelf_line, memory_line}
 use Rattle.rambo_cli.specs.declared.work.Done.{Done}
-use Rattle.rambo_cli.specs.declared.work.Done.TheVariants.{Optimised, Accepted, Flattened}
+use Rattle.rambo_cli.specs.declared.work.Done.TheVariants.{Optimised, Accepted, Flattened, Tested}
 use Rattle.rambo_cli.specs.declared.problem.Problem.{Problem}
 use Rattle.rambo_cli.specs.declared.problem.Problem.TheVariants.{Words, Text, Limit, Missing, Fault, Journal, Record, Netlist, Memory}
 
@@ -38,6 +39,7 @@ abbrev pub done_text : Done → List ℕ
 done_text (Optimised figures) = summary_text figures
 done_text (Accepted count) = accepted_line count
 done_text (Flattened instances covers) = flat_line instances covers
+done_text (Tested counts) = tests_line counts
 
 -- a problem of the words or of the files changes no file
 abbrev pub KeepsFiles : {A : Type 0} → Problem → A → A → Type 0

@@ -13,11 +13,11 @@ use crate::reading::read_input;
 use cover_decompose::{DecomposeRefusal, decompose};
 use journal_audit::audit;
 use rm_base::Shelf;
-use rm_model::RankedModel;
+use rm_model::{NameKeys, RankedModel};
 use std::alloc::Global;
 
-// Whether the decomposition keeps the limit on wires.
-fn fits(alloc: Global, model: &RankedModel) -> Result<(), Problem>
+/// Whether the decomposition keeps the limit on wires.
+pub(crate) fn fits(alloc: Global, model: &RankedModel) -> Result<(), Problem>
     requires usable { IsUsable model.now }
     ensures few { OnOk result (decomposed model.now ≤ most_pins) }
     ensures cause { IfErr result (ModelCause model.now 0 0) }
@@ -36,6 +36,7 @@ fn fits(alloc: Global, model: &RankedModel) -> Result<(), Problem>
 /// has, or the first reason against it.
 pub(crate) fn check<S: Shelf>(
     alloc: Global,
+    keys: NameKeys,
     shelf: &mut S,
     input: &str,
     journal: &str,
@@ -47,8 +48,8 @@ pub(crate) fn check<S: Shelf>(
     ensures later { S.faults shelf.old ≤ S.faults shelf.new }
 {
     passed_audits_tell();
-    let model = read_input(alloc, shelf, input)?;
+    let model = read_input(alloc, keys, shelf, input)?;
     fits(alloc, &model)?;
-    let count = audit(alloc, shelf, &model, journal, output)?;
+    let count = audit(alloc, keys, shelf, &model, journal, output)?;
     Ok(count)
 }

@@ -15,16 +15,19 @@ use crate::problem::Problem;
 use crate::work::{Done, work};
 use rm_base::Gate;
 use rm_base::outside::{OutsideFault, Shelf, Sink};
+use rm_model::NameKeys;
 use std::alloc::Global;
 use std::thread::Threads;
 
 /// Does all that the program does, and answers its status.
 ///
-/// The words are those of `opt IN OUT [JOURNAL]`, `check IN JOURNAL OUT` or `demo SEED`, with their options. A gate lets the
+/// The words are those of `opt IN OUT [JOURNAL]`, `check IN JOURNAL OUT`, `demo SEED`, `flat IN OUT` or
+/// `tests IN JOURNAL OUT PATTERNS`, with their options. A gate lets the
 /// pieces of parallel work pass. What each command promises stands in its contract.
 pub fn run<R: Threads + Sync, S: Shelf, O: Sink, G: Gate>(
     rt: &R,
     alloc: Global,
+    keys: NameKeys,
     words: &[String],
     shelf: &mut S,
     out: &mut O,
@@ -82,7 +85,7 @@ pub fn run<R: Threads + Sync, S: Shelf, O: Sink, G: Gate>(
 {
     good_runs_are_done();
     judged_runs_are_told();
-    match work(rt, alloc, words, shelf, gate) {
+    match work(rt, alloc, keys, words, shelf, gate) {
         Ok(done) => finish(alloc, out, &done),
         Err(problem) => report(alloc, out, problem),
     }

@@ -13,6 +13,7 @@ use blif_flatten::flatten;
 use blif_format::Quantity;
 use blif_writer::write_model;
 use rm_base::Shelf;
+use rm_model::NameKeys;
 use std::alloc::Global;
 
 /// The text of a flat model, and the numbers of its instances and of its covers.
@@ -24,12 +25,12 @@ pub(crate) struct FlatText {
 }
 
 // The flat text of a text of at most 16,777,216 bytes.
-fn flat_of_short(alloc: Global, text: &[u8]) -> Result<FlatText, Problem>
+fn flat_of_short(alloc: Global, keys: NameKeys, text: &[u8]) -> Result<FlatText, Problem>
     requires { length text.now ≤ 16777216 }
     ensures flat { IfOk result (λ f. IsFlattenedInto text.now f.instances f.covers f.text.items) }
     ensures cause { IfErr result (FlatTextCause text.now) }
 {
-    let flat = match flatten(alloc, text) {
+    let flat = match flatten(alloc, keys, text) {
         Ok(flat) => flat,
         Err(refusal) => return Err(Problem::from(refusal)),
     };
@@ -42,7 +43,7 @@ fn flat_of_short(alloc: Global, text: &[u8]) -> Result<FlatText, Problem>
 }
 
 // The flat text of a text.
-fn flat_of_text(alloc: Global, text: &[u8]) -> Result<FlatText, Problem>
+fn flat_of_text(alloc: Global, keys: NameKeys, text: &[u8]) -> Result<FlatText, Problem>
     ensures flat { IfOk result (λ f. IsFlattenedInto text.now f.instances f.covers f.text.items) }
     ensures cause { IfErr result (FlatTextCause text.now) }
 {
@@ -52,18 +53,23 @@ fn flat_of_text(alloc: Global, text: &[u8]) -> Result<FlatText, Problem>
             count: 16_777_217,
         });
     }
-    flat_of_short(alloc, text)
+    flat_of_short(alloc, keys, text)
 }
 
 // The flat text of the input.
-fn flat_of_input<S: Shelf>(alloc: Global, shelf: &mut S, input: &str) -> Result<FlatText, Problem>
+fn flat_of_input<S: Shelf>(
+    alloc: Global,
+    keys: NameKeys,
+    shelf: &mut S,
+    input: &str,
+) -> Result<FlatText, Problem>
     ensures flat { IfOk result (λ f. IfSome (S.files shelf.old) (λ told. Holds told input.now (λ text. IsFlattenedInto text f.instances f.covers f.text.items))) }
     ensures cause { IfErr result (Caused (FlatFinds input.now (S.files shelf.old)) (S.faults shelf.old) (S.faults shelf.new)) }
     ensures files { S.files shelf.new ≡ S.files shelf.old }
     ensures later { S.faults shelf.old ≤ S.faults shelf.new }
 {
     let text = bytes_of(shelf, input)?;
-    flat_of_text(alloc, text.as_slice())
+    flat_of_text(alloc, keys, text.as_slice())
 }
 
 /// What `flat` has made: a flat model of so many instances and covers.
@@ -76,6 +82,7 @@ pub(crate) struct FlatCounts {
 /// Makes one flat model of the input, and writes it as the output.
 pub(crate) fn flatten_input<S: Shelf>(
     alloc: Global,
+    keys: NameKeys,
     shelf: &mut S,
     input: &str,
     output: &str,
@@ -86,7 +93,7 @@ pub(crate) fn flatten_input<S: Shelf>(
     ensures safe { IfTold (S.files shelf.old) (S.files shelf.new) (λ before after. (after ≡ before) ⊎ BeginsFlat input.now output.now before after) }
     ensures later { S.faults shelf.old ≤ S.faults shelf.new }
 {
-    let flat = flat_of_input(alloc, shelf, input)?;
+    let flat = flat_of_input(alloc, keys, shelf, input)?;
     replace(shelf, output, flat.text.as_slice())?;
     Ok(FlatCounts {
         instances: flat.instances,

@@ -12,7 +12,9 @@ mod problem;
 mod reading;
 mod showing;
 mod summary;
+mod testing;
 mod work;
 
 pub use command::run;
 pub use laws::{kept_nets_fit, runs_are_written};
+pub use rm_model::NameKeys;

@@ -9,6 +9,7 @@ use crate::work::Done;
 use blif_format::{FaultKind, Quantity};
 use itoa::Buffer;
 use journal_audit::{fault_line, netlist_line, refusal_line};
+use pattern_text::tests_line;
 use rm_base::{NoMemory, Place};
 use std::alloc::Global;
 
@@ -132,5 +133,6 @@ pub fn done_line(alloc: Global, done: &Done) -> Result<Vec<u8>, NoMemory>
         Done::Optimised(figures) => summary(alloc, figures),
         Done::Accepted(count) => accepted_text(alloc, *count),
         Done::Flattened { instances, covers } => flat_text(alloc, *instances, *covers),
+        Done::Tested(counts) => tests_line(alloc, counts),
     }
 }

@@ -20,12 +20,13 @@ ghost use Rattle.rambo_cli.specs.Inner.Written.{BeginsRecord, IsRecorded, IsUsab
 use crate::laws::{kept_nets_fit, runs_are_written};
 use crate::problem::Problem;
 use crate::reading::read_input;
+use blif_format::reads_once;
 use cover_decompose::{decompositions_are_formed, decompositions_stand};
-use journal_audit::net_text;
+use journal_audit::{long_journals_tell, net_text};
 use optimisation::{Figures, Optimised, optimised_model};
 use rm_base::outside::{OutsideFault, Shelf};
 use rm_base::{Gate, Settings, SureShelf};
-use rm_model::RankedModel;
+use rm_model::{NameKeys, RankedModel};
 use std::alloc::Global;
 use std::thread::Threads;
 
@@ -83,6 +84,7 @@ fn whole_run<R: Threads + Sync, G: Gate, S: Shelf>(
 fn optimise_model<R: Threads + Sync, G: Gate, S: Shelf>(
     rt: &R,
     alloc: Global,
+    keys: NameKeys,
     shelf: &mut S,
     gate: &G,
     model: &RankedModel,
@@ -103,7 +105,7 @@ fn optimise_model<R: Threads + Sync, G: Gate, S: Shelf>(
     kept_nets_fit();
     runs_are_written();
     let run = whole_run(rt, alloc, shelf, gate, model, journal, settings)?;
-    let text = net_text(alloc, &run.graph, model)?;
+    let text = net_text(alloc, keys, &run.graph, model)?;
     replace(shelf, output, text.as_slice())?;
     Ok(run.figures)
 }
@@ -112,6 +114,7 @@ fn optimise_model<R: Threads + Sync, G: Gate, S: Shelf>(
 pub(crate) fn optimise_input<R: Threads + Sync, G: Gate, S: Shelf>(
     rt: &R,
     alloc: Global,
+    keys: NameKeys,
     shelf: &mut S,
     gate: &G,
     names: &Names<'_>,
@@ -125,10 +128,13 @@ pub(crate) fn optimise_input<R: Threads + Sync, G: Gate, S: Shelf>(
     ensures safe { IfTold (S.files shelf.old) (S.files shelf.new) (BeginsToWrite names.now.input.now names.now.output.now (option_map (λ j. j.now) names.now.journal) settings.now) }
     ensures later { S.faults shelf.old ≤ S.faults shelf.new }
 {
-    let model = read_input(alloc, shelf, names.input)?;
+    reads_once();
+    long_journals_tell();
+    let model = read_input(alloc, keys, shelf, names.input)?;
     optimise_model(
         rt,
         alloc,
+        keys,
         shelf,
         gate,
         &model,

@@ -13,7 +13,7 @@ use blif_format::Quantity;
 use blif_reader::{read_model, texts_keep_limits};
 use cover_decompose::wires_are_bounded;
 use rm_base::Shelf;
-use rm_model::{RankedModel, ranks_exist};
+use rm_model::{NameKeys, RankedModel, ranks_exist};
 use std::alloc::Global;
 
 pub(crate) const MOST_BYTES: usize = 16_777_216;
@@ -35,7 +35,7 @@ pub(crate) fn bytes_of<S: Shelf>(shelf: &mut S, input: &str) -> Result<Vec<u8>, 
 }
 
 // The model that a text of at most 16,777,216 bytes says.
-fn short_model(alloc: Global, text: &[u8]) -> Result<RankedModel, Problem>
+fn short_model(alloc: Global, keys: NameKeys, text: &[u8]) -> Result<RankedModel, Problem>
     requires { length text.now ≤ 16777216 }
     ensures said { IfOk result (λ model. IsSaid text.now model) }
     ensures usable { IfOk result IsUsable }
@@ -44,14 +44,14 @@ fn short_model(alloc: Global, text: &[u8]) -> Result<RankedModel, Problem>
     ranks_exist();
     wires_are_bounded();
     texts_keep_limits();
-    match read_model(alloc, text) {
+    match read_model(alloc, keys, text) {
         Ok(model) => Ok(model),
         Err(refusal) => Err(Problem::from(refusal)),
     }
 }
 
 // The model that a text says.
-fn model_of_text(alloc: Global, text: &[u8]) -> Result<RankedModel, Problem>
+fn model_of_text(alloc: Global, keys: NameKeys, text: &[u8]) -> Result<RankedModel, Problem>
     ensures said { IfOk result (λ model. IsSaid text.now model) }
     ensures usable { IfOk result IsUsable }
     ensures cause { IfErr result (TextCause text.now) }
@@ -62,12 +62,13 @@ fn model_of_text(alloc: Global, text: &[u8]) -> Result<RankedModel, Problem>
             count: 16_777_217,
         });
     }
-    short_model(alloc, text)
+    short_model(alloc, keys, text)
 }
 
 /// The model of the input.
 pub(crate) fn read_input<S: Shelf>(
     alloc: Global,
+    keys: NameKeys,
     shelf: &mut S,
     input: &str,
 ) -> Result<RankedModel, Problem>
@@ -78,5 +79,5 @@ pub(crate) fn read_input<S: Shelf>(
     ensures later { S.faults shelf.old ≤ S.faults shelf.new }
 {
     let text = bytes_of(shelf, input)?;
-    model_of_text(alloc, text.as_slice())
+    model_of_text(alloc, keys, text.as_slice())
 }

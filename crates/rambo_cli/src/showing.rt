@@ -8,6 +8,7 @@ use crate::problem::Problem;
 use demo_generator::demo_model;
 use optimisation::{Figures, optimised_model};
 use rm_base::{Gate, Settings, SureShelf};
+use rm_model::NameKeys;
 use std::alloc::Global;
 use std::thread::Threads;
 
@@ -15,6 +16,7 @@ use std::thread::Threads;
 pub(crate) fn show<R: Threads + Sync, G: Gate>(
     rt: &R,
     alloc: Global,
+    keys: NameKeys,
     gate: &G,
     seed: u64,
     settings: &Settings,
@@ -23,7 +25,7 @@ pub(crate) fn show<R: Threads + Sync, G: Gate>(
     ensures done { IfOk result (λ figures. HasShown seed settings.now figures) }
     ensures cause { IfErr result IsWant }
 {
-    let model = demo_model(alloc, seed)?;
+    let model = demo_model(alloc, keys, seed)?;
     let mut shelf = SureShelf::new(alloc);
     let run = optimised_model(rt, alloc, &model, settings, gate, &mut shelf, "journal")?;
     Ok(run.figures)

@@ -11,9 +11,12 @@ use crate::flattening::flatten_input;
 use crate::optimising::{Names, optimise_input};
 use crate::problem::Problem;
 use crate::showing::show;
+use crate::testing::{TestNames, write_tests};
 use optimisation::Figures;
+use pattern_text::Counts;
 use rm_base::Gate;
 use rm_base::outside::Shelf;
+use rm_model::NameKeys;
 use std::alloc::Global;
 use std::thread::Threads;
 use word_reading::{Command, read_words};
@@ -27,12 +30,15 @@ pub enum Done {
     Accepted(u64),
     /// `flat`: the output is one model of so many instances and covers.
     Flattened { instances: u32, covers: u64 },
+    /// `tests`: so many patterns are written, and how many faults they detect.
+    Tested(Counts),
 }
 
 /// Does what the words ask for.
 pub(crate) fn work<R: Threads + Sync, S: Shelf, G: Gate>(
     rt: &R,
     alloc: Global,
+    keys: NameKeys,
     words: &[String],
     shelf: &mut S,
     gate: &G,
@@ -56,7 +62,7 @@ pub(crate) fn work<R: Threads + Sync, S: Shelf, G: Gate>(
                 output,
                 journal,
             };
-            let figures = optimise_input(rt, alloc, shelf, gate, &names, &settings)?;
+            let figures = optimise_input(rt, alloc, keys, shelf, gate, &names, &settings)?;
             Ok(Done::Optimised(figures))
         }
         Command::Check {
@@ -64,19 +70,34 @@ pub(crate) fn work<R: Threads + Sync, S: Shelf, G: Gate>(
             journal,
             output,
         } => {
-            let count = check(alloc, shelf, input, journal, output)?;
+            let count = check(alloc, keys, shelf, input, journal, output)?;
             Ok(Done::Accepted(count))
         }
         Command::Demo { seed, settings } => {
-            let figures = show(rt, alloc, gate, seed, &settings)?;
+            let figures = show(rt, alloc, keys, gate, seed, &settings)?;
             Ok(Done::Optimised(figures))
         }
         Command::Flat { input, output } => {
-            let counts = flatten_input(alloc, shelf, input, output)?;
+            let counts = flatten_input(alloc, keys, shelf, input, output)?;
             Ok(Done::Flattened {
                 instances: counts.instances,
                 covers: counts.covers,
             })
+        }
+        Command::Tests {
+            input,
+            journal,
+            output,
+            patterns,
+        } => {
+            let names = TestNames {
+                input,
+                journal,
+                output,
+                patterns,
+            };
+            let counts = write_tests(alloc, keys, shelf, &names)?;
+            Ok(Done::Tested(counts))
         }
     }
 }

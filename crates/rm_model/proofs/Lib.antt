@@ -2,6 +2,7 @@ mod CoverLemmas
 mod DriverLemmas
 mod EvaluationLemmas
 mod FormLemmas
+mod HashedLemmas
 mod LookLemmas
 mod ModelLemmas
 mod NameLemmas

@@ -1,5 +1,6 @@
 -- Definitions that no public contract reaches: words of private contracts, of invariants, and of laws for proofs.
 pub mod Numbers
+pub mod HeldNames
 pub mod PlacedNames
 pub mod RankedInside
 pub mod Ranks

@@ -5,16 +5,21 @@ ghost use Rattle.rm_model.specs.Numbers.{place_of};
 ghost use Rattle.rm_model.specs.Inner.Numbers.{drivers_of};
 ghost use Rattle.rm_model.specs.WellFormed.{is_distinct};
 
+use crate::name_keys::NameKeys;
 use crate::name_table::NameTable;
 use crate::parts::Cover;
 use rm_base::NoMemory;
 use std::alloc::Global;
 
-fn output_table<'a>(alloc: Global, covers: &'a [Cover]) -> Result<NameTable<'a>, NoMemory>
+fn output_table<'a>(
+    alloc: Global,
+    keys: NameKeys,
+    covers: &'a [Cover],
+) -> Result<NameTable<'a>, NoMemory>
     requires { is_distinct (map (λ c. c.output) covers.now) ≡ true }
     ensures { IfOk result (λ table. table ≡ map (λ c. c.output) covers.now) }
 {
-    let mut table = NameTable::new(alloc);
+    let mut table = NameTable::new(alloc, keys);
     for cover in covers {
         table.add(cover.output.items())?;
     }
@@ -55,11 +60,11 @@ fn all_drivers<'a>(
 }
 
 /// For each cover the covers that it reads, in the order of its inputs.
-pub fn drivers(alloc: Global, covers: &[Cover]) -> Result<Vec<Vec<u32>>, NoMemory>
+pub fn drivers(alloc: Global, keys: NameKeys, covers: &[Cover]) -> Result<Vec<Vec<u32>>, NoMemory>
     requires once { is_distinct (map (λ c. c.output) covers.now) ≡ true }
     requires room { length covers.now < 2 ^ 32 }
     ensures { IfOk result (λ ds. map (λ d. d.items) ds.items ≡ map (drivers_of covers.now) covers.now) }
 {
-    let table = output_table(alloc, covers)?;
+    let table = output_table(alloc, keys, covers)?;
     all_drivers(alloc, &table, covers)
 }

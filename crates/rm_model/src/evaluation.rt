@@ -8,6 +8,7 @@ ghost use Rattle.rm_model.specs.Value.{is_among, observed_names, source_names, v
 ghost use Rattle.rm_model.specs.WellFormed.{is_distinct, IsWellFormed, IsWellFormedCover};
 ghost use Rattle.rm_base.specs.Words.{Word};
 
+use crate::name_keys::NameKeys;
 use crate::name_table::NameTable;
 use crate::parts::{Cover, Model, Name};
 use crate::points::{list_observed, sources};
@@ -24,12 +25,12 @@ pub struct Known<'a> {
 }
 
 impl<'a> Known<'a> {
-    fn new(alloc: Global) -> Known<'a>
+    fn new(alloc: Global, keys: NameKeys) -> Known<'a>
         ensures names { result.names ≡ [] }
         ensures values { result.values.items ≡ [] }
     {
         Known {
-            names: NameTable::new(alloc),
+            names: NameTable::new(alloc, keys),
             values: Vec::new(alloc),
         }
     }
@@ -73,6 +74,7 @@ impl<'a> Known<'a> {
 
 fn known_sources<'a>(
     alloc: Global,
+    keys: NameKeys,
     names: &'a [Name],
     values: &[bool],
 ) -> Result<Known<'a>, NoMemory>
@@ -81,7 +83,7 @@ fn known_sources<'a>(
     ensures names { IfOk result (λ known. known.names ≡ names.now) }
     ensures values { IfOk result (λ known. known.values.items ≡ values.now) }
 {
-    let mut known = Known::new(alloc);
+    let mut known = Known::new(alloc, keys);
     for (place, name) in names.iter().enumerate() {
         known.add(name.items(), values[place])?;
     }
@@ -144,6 +146,7 @@ fn vector_of(alloc: Global, values: &[bool]) -> Result<Vector, NoMemory>
 
 fn values_in_order(
     alloc: Global,
+    keys: NameKeys,
     model: &Model,
     order: &[u32],
     vector: &Vector,
@@ -157,9 +160,9 @@ fn values_in_order(
         → map v (source_names model.now) ≡ vector.now
         → values ≡ map v (observed_names model.now)) }
 {
-    let names = sources(alloc, model)?;
+    let names = sources(alloc, keys, model)?;
     let points = list_observed(alloc, model)?;
-    let mut known = known_sources(alloc, names.as_slice(), vector.values())?;
+    let mut known = known_sources(alloc, keys, names.as_slice(), vector.values())?;
     add_covers(alloc, &mut known, model.covers.items(), order)?;
     let values = known.values_of(alloc, points.as_slice())?;
     vector_of(alloc, values.as_slice())
@@ -167,7 +170,12 @@ fn values_in_order(
 
 /// The values of the model's observed points, in order, where its sources have the values of the
 /// vector, in order. It takes time linear in the model, but for the look-ups of names.
-pub fn evaluate(alloc: Global, model: &Model, vector: &Vector) -> Result<Vector, RankFault>
+pub fn evaluate(
+    alloc: Global,
+    keys: NameKeys,
+    model: &Model,
+    vector: &Vector,
+) -> Result<Vector, RankFault>
     requires well_formed { IsWellFormed model.now }
     requires covers { length model.now.covers < 2 ^ 32 }
     requires few_sources { length (source_names model.now) < 2 ^ 32 }
@@ -182,11 +190,11 @@ pub fn evaluate(alloc: Global, model: &Model, vector: &Vector) -> Result<Vector,
     ensures ranked { OnOk result (first_without_rank model.now ≡ None) }
     ensures refused { IfErr result (λ fault. IsRefused (first_without_rank model.now) fault) }
 {
-    let found = search_covers(alloc, model.covers.items())?;
+    let found = search_covers(alloc, keys, model.covers.items())?;
     if let Some(place) = first_missing(found.ranks.as_slice()) {
         return Err(RankFault::NoRank {
             cover: place as u32,
         });
     }
-    Ok(values_in_order(alloc, model, found.order.as_slice(), vector)?)
+    Ok(values_in_order(alloc, keys, model, found.order.as_slice(), vector)?)
 }

@@ -6,6 +6,7 @@ ghost use Rattle.rm_model.specs.WellFormed.{driven_names, ends_in_backslash as h
 ghost use Rattle.rm_model.specs.Inner.WellFormed.{AreFormed, AreOnce};
 ghost use Rattle.rm_base.specs.Words.{is_word_byte as word_byte};
 
+use crate::name_keys::NameKeys;
 use crate::name_table::NameTable;
 use crate::parts::{Cover, Latch, Model, Name};
 use crate::points::{
@@ -44,10 +45,10 @@ fn all_tokens(names: &[Name]) -> bool
     names.iter().all(|name| is_token(name.items()))
 }
 
-fn all_distinct(alloc: Global, names: &[Name]) -> Result<bool, NoMemory>
+fn all_distinct(alloc: Global, keys: NameKeys, names: &[Name]) -> Result<bool, NoMemory>
     ensures { IfOk result (λ once. once ≡ is_distinct names.now) }
 {
-    let mut seen = NameTable::new(alloc);
+    let mut seen = NameTable::new(alloc, keys);
     for name in names {
         if seen.has(name.items()) {
             return Ok(false);
@@ -86,10 +87,10 @@ fn push_inputs(alloc: Global, out: &mut Vec<Name>, covers: &[Cover]) -> Result<(
     Ok(())
 }
 
-fn list_driven(alloc: Global, model: &Model) -> Result<Vec<Name>, NoMemory>
+fn list_driven(alloc: Global, keys: NameKeys, model: &Model) -> Result<Vec<Name>, NoMemory>
     ensures { IfOk result (λ names. names.items ≡ driven_names model.now) }
 {
-    let mut names = sources(alloc, model)?;
+    let mut names = sources(alloc, keys, model)?;
     push_outputs(alloc, &mut names, model.covers.items())?;
     Ok(names)
 }
@@ -163,14 +164,19 @@ fn names_are_tokens(model: &Model, driven: &[Name], used: &[Name]) -> bool
         && all_tokens(used)
 }
 
-fn names_are_once(alloc: Global, model: &Model, driven: &[Name]) -> Result<bool, NoMemory>
+fn names_are_once(
+    alloc: Global,
+    keys: NameKeys,
+    model: &Model,
+    driven: &[Name],
+) -> Result<bool, NoMemory>
     requires { driven.now ≡ driven_names model.now }
     ensures { IfOk result (λ once. IsTrue once ↔ AreOnce model.now) }
 {
-    let inputs = all_distinct(alloc, model.inputs.items())?;
-    let clocks = all_distinct(alloc, model.clocks.items())?;
-    let outputs = all_distinct(alloc, model.outputs.items())?;
-    let all = all_distinct(alloc, driven)?;
+    let inputs = all_distinct(alloc, keys, model.inputs.items())?;
+    let clocks = all_distinct(alloc, keys, model.clocks.items())?;
+    let outputs = all_distinct(alloc, keys, model.outputs.items())?;
+    let all = all_distinct(alloc, keys, driven)?;
     Ok(inputs && clocks && outputs && all)
 }
 
@@ -190,13 +196,13 @@ fn all_of(once: bool, tokens: bool, known: bool, formed: bool) -> bool
 
 /// Whether a model is well formed, so that a text can have it. It takes time linear in the model,
 /// but for the look-ups of names.
-pub fn is_well_formed(alloc: Global, model: &Model) -> Result<bool, NoMemory>
+pub fn is_well_formed(alloc: Global, keys: NameKeys, model: &Model) -> Result<bool, NoMemory>
     ensures { IfOk result (λ formed. IsTrue formed ↔ IsWellFormed model.now) }
 {
-    let driven = list_driven(alloc, model)?;
+    let driven = list_driven(alloc, keys, model)?;
     let used = list_used(alloc, model)?;
-    let table = table_of(alloc, driven.as_slice())?;
-    let once = names_are_once(alloc, model, driven.as_slice())?;
+    let table = table_of(alloc, keys, driven.as_slice())?;
+    let once = names_are_once(alloc, keys, model, driven.as_slice())?;
     let tokens = names_are_tokens(model, driven.as_slice(), used.as_slice());
     let known = all_among(&table, used.as_slice());
     let formed = parts_are_formed(model);

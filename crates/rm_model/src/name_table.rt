@@ -1,40 +1,50 @@
 // Names that are numbered in the order in which they are added.
-ghost use Rattle.std.specs.Prelude.{◌≡◌, ◌^◌, ◌<◌, [], ◌∷◌, ◌++◌, length, map, false, is_some, OnOk, OnErr, IfSome, ◌||◌, List, ℕ};
+ghost use Rattle.std.specs.Prelude.{◌≡◌, ◌<◌, [], ◌∷◌, ◌++◌, length, false, OnOk, OnErr, IfSome, ◌||◌, List, ℕ};
 ghost use Rattle.rm_model.specs.Value.{is_among};
 ghost use Rattle.rm_model.specs.Numbers.{place_of};
-ghost use Rattle.rm_model.specs.Inner.PlacedNames.{mixed, name_hash};
 ghost use Rattle.rm_model.specs.Words.{is_word};
+ghost use Rattle.rm_model.specs.Inner.HeldNames.{held_names};
 
+use crate::hashed_names::HashedNames;
+use crate::name_keys::NameKeys;
+use crate::ordered_names::OrderedNames;
 use rm_base::NoMemory;
 use std::alloc::Global;
-use std::collections::BTreeMap;
 use std::marker::Model;
 
-// A number by which most names are told apart at once.
-fn hash_of(name: &[u8]) -> u64
-    ensures { result ≡ name_hash name.now }
+#[derive(Drop)]
+enum Held<'a> {
+    Hashed(HashedNames<'a>),
+    InOrder(OrderedNames<'a>),
+}
+
+// A name that isn't there.
+fn push_held<'a>(held: &mut Held<'a>, name: &'a [u8]) -> Result<(), NoMemory>
+    requires { is_among (held_names held.old) name.now ≡ false }
+    ensures ok { OnOk result (held_names held.new ≡ held_names held.old ++ name.now ∷ []) }
+    ensures err { OnErr result (held_names held.new ≡ held_names held.old) }
 {
-    let mut hash = 0u64;
-    for byte in name {
-        hash = mix(hash, *byte);
+    match held {
+        Held::Hashed(names) => names.push(name),
+        Held::InOrder(names) => names.push(name),
     }
-    hash
 }
 
-fn mix(hash: u64, byte: u8) -> u64
-    ensures { result ≡ mixed hash byte }
+fn include_held<'a>(held: &mut Held<'a>, name: &'a [u8]) -> Result<(), NoMemory>
+    ensures { OnOk result ((x : List ℕ)
+        → is_among (held_names held.new) x ≡ (is_among (held_names held.old) x || is_word x name.now)) }
 {
-    hash.wrapping_mul(6_364_136_223_846_793_005)
-        .wrapping_add(u64::from(byte))
+    match held {
+        Held::Hashed(names) => names.include(name),
+        Held::InOrder(names) => names.include(name),
+    }
 }
 
-/// Names in the order in which they were added, each once. They are looked up by a number made of their bytes, and where
-/// names share it, by their order as texts: so a look-up takes no more comparisons than the table's height, whatever the
-/// names are.
+/// Names in the order in which they were added, each once. Under drawn keys they are looked up by a hash, and else by
+/// their order, so a look-up takes no more comparisons than the table's height, whatever the names are.
 #[derive(Drop)]
 pub struct NameTable<'a> {
-    names: Vec<&'a [u8]>,
-    places: BTreeMap<(u64, &'a [u8]), usize>,
+    held: Held<'a>,
 }
 
 impl<'a> Model for NameTable<'a> {
@@ -42,21 +52,23 @@ impl<'a> Model for NameTable<'a> {
 
     ghost Value = { List (List ℕ) };
 
-    ghost use Rattle.rm_model.specs.Inner.PlacedNames.{added_names, IsPlaced};
+    ghost use Rattle.rm_model.specs.Inner.HeldNames.{held_names};
 
-    ghost view = { added_names };
-
-    ghost invariant = { IsPlaced };
+    ghost view = { λ a. held_names a.held };
 }
 
 impl<'a> NameTable<'a> {
     /// No name yet.
-    pub fn new(alloc: Global) -> NameTable<'a>
+    pub fn new(alloc: Global, keys: NameKeys) -> NameTable<'a>
         ensures { result ≡ [] }
     {
-        NameTable {
-            names: Vec::new(alloc),
-            places: BTreeMap::new(alloc),
+        match keys {
+            NameKeys::Drawn(keys) => NameTable {
+                held: Held::Hashed(HashedNames::new(alloc, keys)),
+            },
+            NameKeys::Ordered => NameTable {
+                held: Held::InOrder(OrderedNames::new(alloc)),
+            },
         }
     }
 
@@ -66,10 +78,7 @@ impl<'a> NameTable<'a> {
         ensures ok { OnOk result (self.new ≡ self.old ++ name.now ∷ []) }
         ensures err { OnErr result (self.new ≡ self.old) }
     {
-        self.names.reserve(1)?;
-        self.places.insert((hash_of(name), name), self.names.len())?;
-        self.names.push(name)?;
-        Ok(())
+        push_held(&mut self.held, name)
     }
 
     /// Adds a name that isn't there.
@@ -85,10 +94,7 @@ impl<'a> NameTable<'a> {
         ensures { OnOk result ((x : List ℕ)
             → is_among self.new x ≡ (is_among self.old x || is_word x name.now)) }
     {
-        if self.has(name) {
-            return Ok(());
-        }
-        self.push(name)
+        include_held(&mut self.held, name)
     }
 
     /// The name's number, from 0 in the order of adding; None where it isn't there.
@@ -96,9 +102,9 @@ impl<'a> NameTable<'a> {
         ensures place { result ≡ place_of self.now name.now }
         ensures within { IfSome result (λ k. k < length self.now) }
     {
-        match self.places.get(&(hash_of(name), name)) {
-            Some(place) => Some(*place),
-            None => None,
+        match &self.held {
+            Held::Hashed(names) => names.place(name),
+            Held::InOrder(names) => names.place(name),
         }
     }
 
@@ -106,6 +112,9 @@ impl<'a> NameTable<'a> {
     pub fn has(&self, name: &'a [u8]) -> bool
         ensures { result ≡ is_among self.now name.now }
     {
-        self.places.contains_key(&(hash_of(name), name))
+        match &self.held {
+            Held::Hashed(names) => names.has(name),
+            Held::InOrder(names) => names.has(name),
+        }
     }
 }

@@ -7,6 +7,7 @@ ghost use Rattle.rm_model.specs.Inner.Signals.{cover_at as cover_place};
 ghost use Rattle.rm_model.specs.Value.{is_among, observed_names, source_names};
 ghost use Rattle.rm_model.specs.WellFormed.{driven_names, is_distinct, IsWellFormed};
 
+use crate::name_keys::NameKeys;
 use crate::name_table::NameTable;
 use crate::parts::{Cover, Model, Name};
 use crate::points::{list_observed, sources};
@@ -44,13 +45,14 @@ fn add_outputs<'a>(table: &mut NameTable<'a>, covers: &'a [Cover]) -> Result<(),
 // The sources, and then the outputs of the covers.
 fn signal_table<'a>(
     alloc: Global,
+    keys: NameKeys,
     sources: &'a [Name],
     covers: &'a [Cover],
 ) -> Result<NameTable<'a>, NoMemory>
     requires { is_distinct (sources.now ++ map (λ c. c.output) covers.now) ≡ true }
     ensures { IfOk result (λ table. table ≡ sources.now ++ map (λ c. c.output) covers.now) }
 {
-    let mut table = NameTable::new(alloc);
+    let mut table = NameTable::new(alloc, keys);
     add_sources(&mut table, sources)?;
     add_outputs(&mut table, covers)?;
     Ok(table)
@@ -127,15 +129,15 @@ fn number_by<'a>(
 }
 
 /// Numbers the signals of a model. It takes time linear in the model, but for one look-up of each name that stands in it.
-pub fn number(alloc: Global, model: &Model) -> Result<Numbering, NoMemory>
+pub fn number(alloc: Global, keys: NameKeys, model: &Model) -> Result<Numbering, NoMemory>
     requires formed { IsWellFormed model.now }
     requires room { length (source_names model.now) + length model.now.covers < 2 ^ 32 }
     ensures numbers { IfOk result (λ n. AreNumbers model.now (map (λ ks. ks.items) n.inputs.items) n.observed.items) }
     ensures sources { IfOk result (λ n. n.sources ≡ length (source_names model.now)) }
 {
-    let sources = sources(alloc, model)?;
+    let sources = sources(alloc, keys, model)?;
     let observed = list_observed(alloc, model)?;
-    let table = signal_table(alloc, sources.as_slice(), model.covers.items())?;
+    let table = signal_table(alloc, keys, sources.as_slice(), model.covers.items())?;
     number_by(
         alloc,
         model,

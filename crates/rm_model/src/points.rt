@@ -6,6 +6,7 @@ ghost use Rattle.rm_base.specs.Words.{Word};
 ghost use Rattle.rm_model.specs.Value.{control_of, is_among as among, observed_names, source_names};
 
 use crate::list::Listed;
+use crate::name_keys::NameKeys;
 use crate::name_table::NameTable;
 use crate::parts::{Latch, Model, Name};
 use rm_base::NoMemory;
@@ -27,10 +28,14 @@ pub fn push_names(alloc: Global, out: &mut Vec<Name>, names: &[Name]) -> Result<
     Ok(())
 }
 
-pub fn table_of<'a>(alloc: Global, names: &'a [Name]) -> Result<NameTable<'a>, NoMemory>
+pub fn table_of<'a>(
+    alloc: Global,
+    keys: NameKeys,
+    names: &'a [Name],
+) -> Result<NameTable<'a>, NoMemory>
     ensures { IfOk result (λ table. (x : Word) → among table x ≡ among names.now x) }
 {
-    let mut table = NameTable::new(alloc);
+    let mut table = NameTable::new(alloc, keys);
     for name in names {
         table.include(name.items())?;
     }
@@ -56,6 +61,7 @@ fn push_unknown<'a>(
 
 fn push_others<'a>(
     alloc: Global,
+    keys: NameKeys,
     out: &mut Vec<Name>,
     inputs: &'a [Name],
     names: &'a [Name],
@@ -63,7 +69,7 @@ fn push_others<'a>(
     ensures { OnOk result (out.new.items
         ≡ out.old.items ++ filter (λ x. not (among inputs.now x)) names.now) }
 {
-    let known = table_of(alloc, inputs)?;
+    let known = table_of(alloc, keys, inputs)?;
     push_unknown(alloc, out, &known, names)
 }
 
@@ -112,13 +118,14 @@ pub fn push_controls(alloc: Global, out: &mut Vec<Name>, latches: &[Latch]) -> R
 /// The names that drive the model from outside, each once in a well-formed model: the inputs, the
 /// clocks that aren't inputs, and the latch outputs, each in order. It takes time linear in these
 /// lists, but for the look-ups of names.
-pub fn sources(alloc: Global, model: &Model) -> Result<Vec<Name>, NoMemory>
+pub fn sources(alloc: Global, keys: NameKeys, model: &Model) -> Result<Vec<Name>, NoMemory>
     ensures { IfOk result (λ names. names.items ≡ source_names model.now) }
 {
     let mut names = Vec::new(alloc);
     push_names(alloc, &mut names, model.inputs.items())?;
     push_others(
         alloc,
+        keys,
         &mut names,
         model.inputs.items(),
         model.clocks.items(),

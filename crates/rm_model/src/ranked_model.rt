@@ -6,6 +6,7 @@ ghost use Rattle.rm_model.specs.Signals.{AreNumbers};
 ghost use Rattle.rm_model.specs.Value.{source_names};
 ghost use Rattle.rm_model.specs.WellFormed.{IsWellFormed};
 
+use crate::name_keys::NameKeys;
 use crate::numbering::{Numbering, number};
 use crate::parts::Model as Netlist;
 use crate::ranking::{RankFault, rank_numbered};
@@ -34,14 +35,14 @@ impl Model for RankedModel {
 
 impl RankedModel {
     /// Numbers and ranks a model, or says which cover has no rank.
-    pub fn new(alloc: Global, model: Netlist) -> Result<RankedModel, RankFault>
+    pub fn new(alloc: Global, keys: NameKeys, model: Netlist) -> Result<RankedModel, RankFault>
         requires formed { IsWellFormed model }
         requires room { length (source_names model) + length model.covers < 2 ^ 32 }
         ensures same { IfOk result (λ ranked. ranked ≡ model) }
         ensures ranked { OnOk result (first_without_rank model ≡ None) }
         ensures refused { IfErr result (λ fault. IsRefused (first_without_rank model) fault) }
     {
-        let numbering = number(alloc, &model)?;
+        let numbering = number(alloc, keys, &model)?;
         let ranks = rank_numbered(alloc, &model, &numbering)?;
         Ok(RankedModel {
             model,

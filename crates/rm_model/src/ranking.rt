@@ -11,6 +11,7 @@ ghost use Rattle.rm_model.specs.Value.{source_names};
 ghost use Rattle.rm_model.specs.WellFormed.{is_distinct, IsWellFormed};
 
 use crate::drivers::drivers;
+use crate::name_keys::NameKeys;
 use crate::numbering::{Numbering, covers_read};
 use crate::parts::{Cover, Model};
 use crate::rank_search::{Search, find_ranks};
@@ -93,27 +94,27 @@ pub fn first_missing(ranks: &[Option<u32>]) -> Option<usize>
 }
 
 /// The search's result for the covers of a model.
-pub fn search_covers(alloc: Global, covers: &[Cover]) -> Result<Search, NoMemory>
+pub fn search_covers(alloc: Global, keys: NameKeys, covers: &[Cover]) -> Result<Search, NoMemory>
     requires once { is_distinct (map (λ c. c.output) covers.now) ≡ true }
     requires room { length covers.now < 2 ^ 32 }
     ensures sound { IfOk result (λ s. IsSound (map (drivers_of covers.now) covers.now) (state_of s)) }
     ensures ranks { IfOk result (λ s. IsFixed covers.now s.ranks.items) }
 {
-    let lists = drivers(alloc, covers)?;
+    let lists = drivers(alloc, keys, covers)?;
     find_ranks(alloc, lists.as_slice())
 }
 
 /// The rank of each cover, in the order of the model: 0 where it reads sources alone, and otherwise
 /// one more than the greatest rank of the covers that it reads. It takes time linear in the model,
 /// but for the look-ups of names.
-pub fn rank(alloc: Global, model: &Model) -> Result<Vec<u32>, RankFault>
+pub fn rank(alloc: Global, keys: NameKeys, model: &Model) -> Result<Vec<u32>, RankFault>
     requires well_formed { IsWellFormed model.now }
     requires covers { length model.now.covers < 2 ^ 32 }
     ensures ranks { IfOk result (λ ranks. map Some ranks.items ≡ ranks_of model.now) }
     ensures follow { IfOk result (λ ranks. AreRanks model.now (map Some ranks.items)) }
     ensures refused { IfErr result (λ fault. IsRefused (first_without_rank model.now) fault) }
 {
-    let found = search_covers(alloc, model.covers.items())?;
+    let found = search_covers(alloc, keys, model.covers.items())?;
     all_ranks(alloc, found.ranks.as_slice())
 }
 

@@ -9,6 +9,7 @@ mod opt_rows;
 mod refused_rows;
 mod running;
 mod step_rows;
+mod tests_rows;
 mod texts;
 mod workers;
 mod written_rows;

@@ -8,7 +8,7 @@ use cover_decompose::{DecomposeRefusal, decompose, is_small, wires_are_bounded};
 use gate_graph::{Graph, Inputs};
 use gate_net::Kind;
 use rm_base::{NoMemory, NodeId};
-use rm_model::{Model, RankedModel, is_well_formed, ranks_exist};
+use rm_model::{Model, NameKeys, RankedModel, is_well_formed, ranks_exist};
 use std::alloc::Global;
 use std::test::Fail;
 
@@ -16,13 +16,13 @@ use std::test::Fail;
 fn decompose_formed(alloc: Global, model: Model) -> Result<Option<Graph>, DecomposeRefusal> {
     ranks_exist();
     wires_are_bounded();
-    if !is_well_formed(alloc, &model)? {
+    if !is_well_formed(alloc, NameKeys::Ordered, &model)? {
         return Ok(None);
     }
-    if !is_small(alloc, &model)? || model.covers.len() > 1_000_000 {
+    if !is_small(alloc, NameKeys::Ordered, &model)? || model.covers.len() > 1_000_000 {
         return Ok(None);
     }
-    match RankedModel::new(alloc, model) {
+    match RankedModel::new(alloc, NameKeys::Ordered, model) {
         Ok(ranked) => Ok(Some(decompose(alloc, &ranked)?)),
         Err(_) => Ok(None),
     }

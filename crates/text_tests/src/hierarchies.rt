@@ -1,7 +1,9 @@
 // Hierarchies: texts with the answers of an independent reference, deep ones and large ones.
+use crate::ways::ways;
 use blif_flatten::{Flat, FlatRefusal, flatten};
 use blif_format::Quantity;
 use blif_writer::write_model;
+use rm_model::NameKeys;
 use std::alloc::Global;
 use std::fmt::Write;
 use std::test::Fail;
@@ -168,7 +170,7 @@ fn flatten_text(alloc: Global, text: &[u8]) -> Result<Result<Flat, FlatRefusal>,
     if text.len() > 16_777_216 {
         return Err(Fail::new("a text that is too long"));
     }
-    Ok(flatten(alloc, text))
+    Ok(flatten(alloc, NameKeys::Ordered, text))
 }
 
 /// What `flatten` gives of a text, and the text of its model.
@@ -179,11 +181,11 @@ struct FlatText {
     written: Vec<u8>,
 }
 
-fn flat_text(alloc: Global, text: &[u8]) -> Result<FlatText, Fail> {
+fn flat_text(alloc: Global, keys: NameKeys, text: &[u8]) -> Result<FlatText, Fail> {
     if text.len() > 16_777_216 {
         return Err(Fail::new("a text that is too long"));
     }
-    let flat = match flatten(alloc, text) {
+    let flat = match flatten(alloc, keys, text) {
         Ok(flat) => flat,
         Err(refusal) => return Err(Fail::from(refusal)),
     };
@@ -198,11 +200,13 @@ fn flat_text(alloc: Global, text: &[u8]) -> Result<FlatText, Fail> {
 #[test]
 fn the_flat_model_is_that_of_the_reference(rt: HostRuntime) -> Result<(), Fail> {
     let alloc = rt.alloc();
-    for (text, instances, covers, wanted) in FLAT {
-        let flat = flat_text(alloc, text.as_bytes())?;
-        assert!(rt; flat.instances == *instances);
-        assert!(rt; flat.covers == *covers);
-        assert!(rt; flat.written.as_slice() == wanted.as_bytes());
+    for keys in ways()? {
+        for (text, instances, covers, wanted) in FLAT {
+            let flat = flat_text(alloc, keys, text.as_bytes())?;
+            assert!(rt; flat.instances == *instances);
+            assert!(rt; flat.covers == *covers);
+            assert!(rt; flat.written.as_slice() == wanted.as_bytes());
+        }
     }
     Ok(())
 }

@@ -16,6 +16,8 @@ mod models;
 #[cfg(test)]
 mod untidy_nets;
 #[cfg(test)]
+mod ways;
+#[cfg(test)]
 mod words;
 #[cfg(test)]
 mod writing;

@@ -1,8 +1,8 @@
 // Tests of ranks, sources, observed points and values.
 use rm_base::{NoMemory, Vector};
 use rm_model::{
-    Cover, Latch, LatchKind, Listed, Literal, Model, Name, RankFault, Row, Timing, evaluate,
-    is_well_formed, list_observed, rank, sources,
+    Cover, Latch, LatchKind, Listed, Literal, Model, Name, NameKeys, RankFault, Row, Timing,
+    evaluate, is_well_formed, list_observed, rank, sources,
 };
 use std::alloc::Global;
 use std::test::Fail;
@@ -299,13 +299,13 @@ const RANKINGS: [Ranking; 3] = [
 
 // The ranks of a well-formed model.
 fn ranks(alloc: Global, model: &Model) -> Result<Result<Vec<u32>, RankFault>, Fail> {
-    if !is_well_formed(alloc, model)? {
+    if !is_well_formed(alloc, NameKeys::Ordered, model)? {
         return Err("not well formed".into());
     }
     if model.covers.len() > 1_000_000 {
         return Err("too many covers".into());
     }
-    Ok(rank(alloc, model))
+    Ok(rank(alloc, NameKeys::Ordered, model))
 }
 
 fn is_ranked(alloc: Global, row: &Ranking) -> Result<bool, Fail> {
@@ -397,20 +397,20 @@ fn values(
     model: &Model,
     vector: &Vector,
 ) -> Result<Result<Vector, RankFault>, Fail> {
-    if !is_well_formed(alloc, model)? {
+    if !is_well_formed(alloc, NameKeys::Ordered, model)? {
         return Err("not well formed".into());
     }
     if model.covers.len() > 1_000_000 {
         return Err("too many covers".into());
     }
-    let sources = sources(alloc, model)?;
+    let sources = sources(alloc, NameKeys::Ordered, model)?;
     if vector.len() != sources.len() || sources.len() > 1_000_000 {
         return Err("not a value for each source".into());
     }
     if list_observed(alloc, model)?.len() > 1_000_000 {
         return Err("too many observed points".into());
     }
-    Ok(evaluate(alloc, model, vector))
+    Ok(evaluate(alloc, NameKeys::Ordered, model, vector))
 }
 
 fn is_valued(alloc: Global, row: &Valuation) -> Result<bool, Fail> {
@@ -448,7 +448,7 @@ fn sources_of_latches(rt: HostRuntime) -> Result<(), Fail> {
         clocks: &["clk"],
         ..TWO_LATCHES
     };
-    let found = sources(rt.alloc(), &model(rt.alloc(), &net)?)?;
+    let found = sources(rt.alloc(), NameKeys::Ordered, &model(rt.alloc(), &net)?)?;
     assert!(rt; are_names(found.as_slice(), &["d", "e", "clk", "q", "s"]));
     Ok(())
 }

@@ -2,7 +2,7 @@
 use cover_decompose::{decompose, decompositions_stand, is_small, wires_are_bounded};
 use graph_to_model::{ModelRefusal, model_of};
 use rm_base::{NoMemory, NodeId};
-use rm_model::{Cover, Listed, Model, Name, RankedModel, is_well_formed};
+use rm_model::{Cover, Listed, Model, Name, NameKeys, RankedModel, is_well_formed};
 use std::alloc::Global;
 use std::test::Fail;
 
@@ -37,19 +37,19 @@ fn constant(alloc: Global) -> Result<Model, NoMemory> {
 fn refusal_of(alloc: Global, model: Model) -> Result<Option<ModelRefusal>, Fail> {
     decompositions_stand();
     wires_are_bounded();
-    if !is_well_formed(alloc, &model)? {
+    if !is_well_formed(alloc, NameKeys::Ordered, &model)? {
         return Err("not well formed".into());
     }
-    if !is_small(alloc, &model)? || model.covers.len() > 1_000_000 {
+    if !is_small(alloc, NameKeys::Ordered, &model)? || model.covers.len() > 1_000_000 {
         return Err("not small".into());
     }
-    let Ok(ranked) = RankedModel::new(alloc, model) else {
+    let Ok(ranked) = RankedModel::new(alloc, NameKeys::Ordered, model) else {
         return Err("not ranked".into());
     };
     let Ok(graph) = decompose(alloc, &ranked) else {
         return Err("not decomposed".into());
     };
-    match model_of(alloc, &graph, ranked.model()) {
+    match model_of(alloc, NameKeys::Ordered, &graph, ranked.model()) {
         Ok(_) => Ok(None),
         Err(refusal) => Ok(Some(refusal)),
     }

@@ -43,6 +43,12 @@ fn command_text(alloc: Global, command: Command<'_>) -> Result<String, Fail> {
             with_settings(alloc, &start, settings)
         }
         Command::Flat { input, output } => Ok(format!(in alloc; "flat {input} {output}")?),
+        Command::Tests {
+            input,
+            journal,
+            output,
+            patterns,
+        } => Ok(format!(in alloc; "tests {input} {journal} {output} {patterns}")?),
     }
 }
 
@@ -55,7 +61,7 @@ fn reads(alloc: Global, line: &str, wanted: &str) -> Result<bool, Fail> {
     }
 }
 
-const REFUSED: [&str; 85] = [
+const REFUSED: [&str; 91] = [
     "",
     "~",
     "help",
@@ -141,6 +147,12 @@ const REFUSED: [&str; 85] = [
     "flat a a",
     "flat a b c",
     "flat a b --tries 1",
+    "tests a b c",
+    "tests a b c d e",
+    "tests a b c a",
+    "tests a b c b",
+    "tests a b c c",
+    "tests a b c d --budget 1",
 ];
 
 #[test]
@@ -208,6 +220,8 @@ fn reads_the_others(rt: HostRuntime) -> Result<(), Fail> {
         ("demo --workers 8 -- 1", "demo 1 1 256 1000000 8"),
         ("flat a b", "flat a b"),
         ("flat -- --tries=1 b", "flat --tries=1 b"),
+        ("tests a a a b", "tests a a a b"),
+        ("tests a -- -b --c d", "tests a -b --c d"),
     ];
     for (line, wanted) in rows {
         assert!(rt; reads(rt.alloc(), line, wanted)?);

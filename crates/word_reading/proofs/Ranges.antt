@@ -1,7 +1,7 @@
 -- What is asked for has different names and settings in range.
 use Rattle.std.proofs.Common.{◌≡◌, ◌≢◌, ◌∙◌, ◌≤◌, ◌&&◌, ◌||◌, ◌-◌, ◌^◌, ℕ, Bool, true, false, not, cond, refl, sym, ap, subst, List, [], ◌∷◌, length, Option, Some, None, arith}
 use Rattle.std.specs.Prelude.{codes, find, nat_le, nat_lt, option_and_then, option_map}
-use Rattle.std.specs.List.{AllByRecursion, list_all}
+use Rattle.std.specs.List.{AllByRecursion, list_all, list_any}
 use Rattle.std.proofs.Math.Bool.{or-true}
 use Rattle.std.specs.Char.{digit_value}
 use Rattle.std.specs.Str.Parse.{without_leading_plus}
@@ -10,7 +10,7 @@ use Rattle.std.proofs.lemmas.Slice.Eq.{bytes_eq-Decides}
 use Rattle.clap.proofs.WalkLemmas.{both}
 use Rattle.rm_base.specs.declared.settings.Settings.{Settings}
 use Rattle.word_reading.specs.Commands.{HasNamesApart, HasSettingsInRange, IsInRange}
-use Rattle.word_reading.specs.Words.{Asked, CommandRule, Part, are_different, asked, asked_by, at_most_once, budget_rule, check, check_by, command_rules, demo, demo_by, depth_rule, flat, flat_by, given, has_keys, is_word, names, number, opt, opt_by, parts, rule_of, settings_of, together, tries_rule, value_in, workers_rule}
+use Rattle.word_reading.specs.Words.{Asked, CommandRule, Part, are_different, asked, asked_by, at_most_once, budget_rule, check, check_by, command_rules, demo, demo_by, depth_rule, flat, flat_by, given, has_keys, is_word, names, number, opt, opt_by, parts, rule_of, settings_of, tests, tests_by, together, tries_rule, value_in, workers_rule}
 use Rattle.word_reading.specs.declared.options.TheConstants.{LEAST_BUDGET, LEAST_WORKERS, MOST_BUDGET, MOST_DEPTH, MOST_TRIES, MOST_WORKERS, USUAL_BUDGET, USUAL_DEPTH, USUAL_TRIES, USUAL_WORKERS}
 use Rattle.word_reading.proofs.Numbers.{value_of}
 use Rattle.rm_base.proofs.Public.{some_is}
@@ -122,8 +122,31 @@ flat_sound (a ∷ []) s range x is = cc
 flat_sound (a ∷ b ∷ []) s range x is = flat_made a b (are_different (a ∷ b ∷ [])) refl x is
 flat_sound (a ∷ b ∷ c ∷ ws) s range x is = cc
 
+none_of_three : (p q r : Bool) → not (p || (q || (r || false))) ≡ true → (p ≡ false) × ((q ≡ false) × (r ≡ false))
+none_of_three true q r e = cc
+none_of_three false true r e = cc
+none_of_three false false true e = cc
+none_of_three false false false e = (refl, (refl, refl))
+
+unlike : (a b : Word) → is_word a b ≡ false → a ≢ b
+unlike a b e = λ same. let is = (bytes_eq-Decides a b).1 same in let bad : true ≡ false = sym is ∙ e in cc
+
+tests_made : (a b c d : Word) (t : Bool) → not (list_any (is_word d) (a ∷ b ∷ c ∷ [])) ≡ t → (x : Asked) → cond t (Some (tests a b c d)) None ≡ Some x → IsSound x
+tests_made a b c d true apart x is =
+    let n = none_of_three (is_word d a) (is_word d b) (is_word d c) apart in
+    subst IsSound (some_is (tests a b c d) x is) ((unlike d a n.0, unlike d b n.1.0, unlike d c n.1.1), tt)
+tests_made a b c d false apart x is = cc
+
+tests_sound : (ws : List Word) (s : Settings) → IsInRange s → (x : Asked) → tests_by ws s ≡ Some x → IsSound x
+tests_sound [] s range x is = cc
+tests_sound (a ∷ []) s range x is = cc
+tests_sound (a ∷ b ∷ []) s range x is = cc
+tests_sound (a ∷ b ∷ c ∷ []) s range x is = cc
+tests_sound (a ∷ b ∷ c ∷ d ∷ []) s range x is = tests_made a b c d (not (list_any (is_word d) (a ∷ b ∷ c ∷ []))) refl x is
+tests_sound (a ∷ b ∷ c ∷ d ∷ e ∷ ws) s range x is = cc
+
 all_sound : AllByRecursion MakesSound command_rules
-all_sound = (opt_sound, (check_sound, (demo_sound, (flat_sound, tt))))
+all_sound = (opt_sound, (check_sound, (demo_sound, (flat_sound, (tests_sound, tt)))))
 
 sound_of : (w : Word) (xs : List CommandRule) → AllByRecursion MakesSound xs → (c : CommandRule) → find (λ (d : CommandRule). is_word w d.word) xs ≡ Some c → MakesSound c
 sound_of w [] all c e = cc

@@ -2,9 +2,9 @@
 use Rattle.std.specs.Prelude.{◌≢◌, ◌≤◌, Some, None, option_map}
 use Rattle.word_reading.specs.declared.options.TheConstants.{LEAST_BUDGET, LEAST_WORKERS, MOST_BUDGET, MOST_DEPTH, MOST_TRIES, MOST_WORKERS}
 use Rattle.rm_base.specs.declared.settings.Settings.{Settings}
-use Rattle.word_reading.specs.Words.{Asked, opt, check, demo, flat}
+use Rattle.word_reading.specs.Words.{Asked, opt, check, demo, flat, tests}
 use Rattle.word_reading.specs.declared.command.Command.{Command}
-use Rattle.word_reading.specs.declared.command.Command.TheVariants.{Opt, Check, Demo, Flat}
+use Rattle.word_reading.specs.declared.command.Command.TheVariants.{Opt, Check, Demo, Flat, Tests}
 
 -- the command as a value: its names are their bytes
 abbrev pub asked_of : Command → Asked
@@ -12,14 +12,16 @@ asked_of (Opt input output journal settings) = opt input.now output.now (option_
 asked_of (Check input journal output) = check input.now journal.now output.now
 asked_of (Demo seed settings) = demo seed settings
 asked_of (Flat input output) = flat input.now output.now
+asked_of (Tests input journal output patterns) = tests input.now journal.now output.now patterns.now
 
--- no two names of `opt` or of `flat` are alike
+-- no two names of `opt` or of `flat` are alike, and the last one of `tests` is none of the others
 abbrev pub HasNamesApart : Asked → Type 0
 HasNamesApart (opt input output None settings) = input ≢ output
 HasNamesApart (opt input output (Some journal) settings) = (input ≢ output) × (input ≢ journal) × (output ≢ journal)
 HasNamesApart (check input journal output) = Unit {0}
 HasNamesApart (demo seed settings) = Unit {0}
 HasNamesApart (flat input output) = input ≢ output
+HasNamesApart (tests input journal output patterns) = (patterns ≢ input) × (patterns ≢ journal) × (patterns ≢ output)
 
 pub record IsInRange (settings : Settings) : Type 0 where
   pub depth : settings.depth ≤ MOST_DEPTH
@@ -34,3 +36,4 @@ HasSettingsInRange (opt input output journal settings) = IsInRange settings
 HasSettingsInRange (check input journal output) = Unit {0}
 HasSettingsInRange (demo seed settings) = IsInRange settings
 HasSettingsInRange (flat input output) = Unit {0}
+HasSettingsInRange (tests input journal output patterns) = Unit {0}

@@ -147,6 +147,7 @@ pub data Asked : Type 0 where
   check : Word → Word → Word → Asked
   demo : ℕ → Settings → Asked
   flat : Word → Word → Asked
+  tests : Word → Word → Word → Word → Asked
 
 -- no two of the names are alike
 abbrev pub are_different : List Word → Bool
@@ -174,6 +175,11 @@ abbrev pub flat_by : List Word → Settings → Option Asked
 flat_by (a ∷ b ∷ []) s = if are_different (a ∷ b ∷ []) then Some (flat a b) else None
 flat_by _ s = None
 
+-- four names, of which the last is none of the others
+abbrev pub tests_by : List Word → Settings → Option Asked
+tests_by (a ∷ b ∷ c ∷ d ∷ []) s = if not (list_any (is_word d) (a ∷ b ∷ c ∷ [])) then Some (tests a b c d) else None
+tests_by _ s = None
+
 -- the word of a command, the keys of its options, and what its names and settings ask for
 pub record CommandRule : Type 0 where
   pub word : Word
@@ -186,6 +192,7 @@ command_rules =
     ∷ record { word = codes "check"; keys = []; made = check_by }
     ∷ record { word = codes "demo"; keys = setting_keys; made = demo_by }
     ∷ record { word = codes "flat"; keys = []; made = flat_by }
+    ∷ record { word = codes "tests"; keys = []; made = tests_by }
     ∷ []
 
 -- the command of a word

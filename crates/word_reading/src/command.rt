@@ -19,6 +19,13 @@ pub enum Command<'a> {
         journal: &'a str,
         output: &'a str,
     },
+    /// Checks the same, and writes test patterns for the output's faults.
+    Tests {
+        input: &'a str,
+        journal: &'a str,
+        output: &'a str,
+        patterns: &'a str,
+    },
     /// Makes one flat model of the input, and writes it as the output.
     Flat {
         input: &'a str,

@@ -1,10 +1,11 @@
 //! The words, read by `clap`, and what `clap` has no rule for.
 ghost use Rattle.std.specs.Prelude.{◌≡◌, ◌≢◌, ◌^◌, ◌-◌, ◌∷◌, IfOk, IfErr, None, Some, [], is_some, map, not, codes, option_map};
+ghost use Rattle.std.specs.List.{list_any};
 ghost use Rattle.std.specs.String.{string_bytes};
 ghost use Rattle.clap.specs.Words.{first_of, found_of, rows_of};
 ghost use Rattle.clap.specs.Words.{fault_of, matches_of};
 ghost use Rattle.word_reading.specs.Commands.{HasNamesApart, HasSettingsInRange, asked_of};
-ghost use Rattle.word_reading.specs.Words.{asked, check_by, demo_by, flat_by, is_word, number, opt_by};
+ghost use Rattle.word_reading.specs.Words.{asked, check_by, demo_by, flat_by, is_word, number, opt_by, tests_by};
 ghost use Rattle.word_reading.specs.Inner.Commands.{command_in, has_only, names_in, number_at, settings_in, texts_of};
 ghost use Rattle.word_reading.specs.Inner.Judged.{accepted};
 ghost use Rattle.word_reading.specs.Inner.Program.{program as program_app};
@@ -185,6 +186,39 @@ fn flat<'a>(names: Positionals<'a>, settings: Settings) -> Option<Command<'a>>
     Some(Command::Flat { input, output })
 }
 
+// Whether the name is none of the others.
+fn is_apart(name: &str, first: &str, second: &str, third: &str) -> bool
+    ensures { result ≡ not (list_any (is_word name.now) (first.now ∷ second.now ∷ third.now ∷ [])) }
+{
+    differ(name, first) && differ(name, second) && differ(name, third)
+}
+
+fn tests<'a>(names: Positionals<'a>, settings: Settings) -> Option<Command<'a>>
+    ensures { option_map asked_of result ≡ tests_by (texts_of names.entry) settings }
+{
+    let Some(input) = names.first else {
+        return None;
+    };
+    let Some(journal) = names.second else {
+        return None;
+    };
+    let Some(output) = names.third else {
+        return None;
+    };
+    let Some(patterns) = names.fourth else {
+        return None;
+    };
+    if !is_apart(patterns, input, journal, output) {
+        return None;
+    }
+    Some(Command::Tests {
+        input,
+        journal,
+        output,
+        patterns,
+    })
+}
+
 fn seed(text: &str) -> Option<u64>
     ensures { result ≡ number 0 (2 ^ 64 - 1) text.now }
 {
@@ -224,6 +258,11 @@ fn command<'a>(word: &str, given: &ArgMatches<'a>) -> Option<Command<'a>>
             return None;
         }
         flat(read_positionals(given), settings(given))
+    } else if word == "tests" {
+        if !has_no_option(given) {
+            return None;
+        }
+        tests(read_positionals(given), settings(given))
     } else {
         None
     }

@@ -11,6 +11,7 @@ use Rattle.blif_flatten.specs.Recursion.{recursion_fault}
 use Rattle.blif_flatten.specs.Instances.{modules_of}
 use Rattle.blif_flatten.specs.Laws.{AreRankedBy}
 use Rattle.blif_flatten.specs.FirstFault.{lead_in}
+use Rattle.blif_flatten.specs.Inner.Ranks.{AreFalling}
 
 -- calls, recursion, drivers, users
 abbrev pub names_fault : List Section → Option ReadRefusal
@@ -32,6 +33,7 @@ pub record IsLight (modules : List Module) : Type 0 where
 pub record IsLinked (sections : List Section) (l : Linked) : Type 0 where
   pub modules_are : l.modules.items ≡ modules_of sections
   pub lead_is : l.lead.items ≡ lead_in sections
+  pub falling : AreFalling l.numbers.items (modules_of sections)
   pub ranked : (rank : ℕ → ℕ) × AreRankedBy (modules_of sections) rank
   pub light : IsLight (modules_of sections)
   pub positive : (k : ℕ) (m : Module) → slice_get (modules_of sections) k ≡ Some m → 1 ≤ m.tokens

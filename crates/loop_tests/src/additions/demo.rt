@@ -4,13 +4,14 @@ ghost use Rattle.std.specs.Prelude.{◌≤◌};
 use super::{End, counts_made, fault, optimised_at, outcome_spent, settled_after, wire};
 use cover_decompose::decompose;
 use demo_generator::demo_model;
+use rm_model::NameKeys;
 use std::alloc::Global;
 use std::test::Fail;
 
 fn end_at(alloc: Global, depth: u8, tries: u32) -> Result<End, Fail>
     requires { depth ≤ 2 }
 {
-    let model = demo_model(alloc, 1)?;
+    let model = demo_model(alloc, NameKeys::Ordered, 1)?;
     let Ok(graph) = decompose(alloc, &model) else {
         return Err("too many pins".into());
     };

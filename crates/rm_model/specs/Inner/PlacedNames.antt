@@ -7,7 +7,7 @@ use Rattle.std.specs.List.{fold}
 use Rattle.std.specs.Ordering.{nat_cmp, ordering_then}
 use Rattle.std.specs.declared.cmp.Ordering.{Ordering}
 use Rattle.rm_model.specs.Numbers.{place_of}
-use Rattle.rm_model.specs.declared.name_table.NameTable.TheInside.{Inside}
+use Rattle.rm_model.specs.declared.ordered_names.OrderedNames.TheInside.{Inside}
 use Rattle.rm_base.specs.Words.{Word}
 
 -- the number with one more byte

@@ -3,7 +3,7 @@ use super::running::{ends, hold, shelf, words};
 use super::texts::{
     FOUR_GATES, ONE_GATE, ONE_GATE_JOURNAL, ONE_GATE_SUMMARY, WIRE_JOURNAL, WITH_A_WIRE,
 };
-use rambo_cli::run;
+use rambo_cli::{NameKeys, run};
 use rm_base::{MemoryShelf, MemorySink, OpenGate};
 use std::alloc::Global;
 use std::test::Fail;
@@ -164,7 +164,7 @@ struct Put {
 }
 
 // The first put fails: half of what it was handed is there.
-const PUTS: [Put; 6] = [
+const PUTS: [Put; 7] = [
     Put {
         line: "opt in out journal",
         before: [ONE_GATE, "old", "old"],
@@ -196,6 +196,12 @@ const PUTS: [Put; 6] = [
         after: [ONE_GATE, "-", "-"],
     },
     Put {
+        line: "tests in journal out patterns",
+        before: [ONE_GATE, ONE_GATE, ONE_GATE_JOURNAL],
+        put: "patterns 3 faults",
+        after: [ONE_GATE, ONE_GATE, ONE_GATE_JOURNAL],
+    },
+    Put {
         line: "opt in",
         before: [ONE_GATE, "old", "old"],
         put: "words r",
@@ -213,6 +219,7 @@ fn failing_puts(rt: HostRuntime) -> Result<(), Fail> {
         let status = run(
             &rt,
             alloc,
+            NameKeys::Ordered,
             words.as_slice(),
             &mut shelf,
             &mut sink,

@@ -4,7 +4,7 @@ use super::texts::ONE_GATE;
 use std::alloc::Global;
 use std::test::Fail;
 
-const WORDS: [&str; 15] = [
+const WORDS: [&str; 18] = [
     "",
     "help",
     "--version",
@@ -18,6 +18,9 @@ const WORDS: [&str; 15] = [
     "opt in out journal --tries 1 --tries 2",
     "check in journal",
     "check in journal out --depth 1",
+    "tests in journal out",
+    "tests in journal out journal",
+    "tests in journal out patterns --depth 1",
     "demo",
     "demo 18446744073709551616",
 ];

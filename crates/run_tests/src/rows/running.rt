@@ -1,5 +1,5 @@
 // Runs of the program over files in memory. A file is named by its text, and a text `-` stands for no file.
-use rambo_cli::run;
+use rambo_cli::{NameKeys, run};
 use rm_base::{MemoryShelf, MemorySink, OpenGate};
 use std::alloc::Global;
 use std::test::Fail;
@@ -40,7 +40,15 @@ pub(crate) fn run_to_end<R: Threads + Sync>(
 ) -> Result<(u8, Vec<u8>), Fail> {
     let words = words(alloc, line)?;
     let mut sink = MemorySink::new(alloc, Vec::new(alloc));
-    let status = run(rt, alloc, words.as_slice(), shelf, &mut sink, &OpenGate);
+    let status = run(
+        rt,
+        alloc,
+        NameKeys::Ordered,
+        words.as_slice(),
+        shelf,
+        &mut sink,
+        &OpenGate,
+    );
     Ok((status, Vec::from_slice(alloc, sink.written_bytes())?))
 }
 

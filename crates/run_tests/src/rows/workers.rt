@@ -1,7 +1,7 @@
 // Pieces of a closing pass on two workers run at once.
 use super::running::{hold, shelf, words};
 use super::texts::{ONE_GATE, ONE_GATE_JOURNAL, ONE_GATE_SUMMARY};
-use rambo_cli::run;
+use rambo_cli::{NameKeys, run};
 use rm_base::{Gate, MemorySink};
 use std::sync::atomic::{AtomicU64, Ordering};
 use std::test::Fail;
@@ -45,7 +45,15 @@ fn two_pieces_meet(rt: HostRuntime) -> Result<(), Fail> {
         second: AtomicU64::new(0),
         missed: AtomicU64::new(0),
     };
-    let status = run(&rt, alloc, words.as_slice(), &mut shelf, &mut sink, &gate);
+    let status = run(
+        &rt,
+        alloc,
+        NameKeys::Ordered,
+        words.as_slice(),
+        &mut shelf,
+        &mut sink,
+        &gate,
+    );
     assert!(rt; status == 0);
     assert!(rt; sink.written_bytes() == ONE_GATE_SUMMARY.as_bytes());
     assert!(rt; hold(&shelf, [ONE_GATE, ONE_GATE, ONE_GATE_JOURNAL]));

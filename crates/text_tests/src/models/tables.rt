@@ -1,6 +1,7 @@
 // Tests of numbered names.
+use crate::ways::ways;
 use rm_base::NoMemory;
-use rm_model::NameTable;
+use rm_model::{NameKeys, NameTable};
 use std::alloc::Global;
 use std::process::Abort;
 use std::test::Fail;
@@ -15,6 +16,23 @@ const PLACES: [(&str, Option<usize>); 5] = [
     ("aa", None),
 ];
 
+// Names that a hash doesn't tell apart: the last 14 bits of it are the same for the first four under keys of zeros, and for the
+// next four under the fixed seed of the kit's tables; the others share the number by which names are ordered first.
+const COLLIDING: [&str; 12] = [
+    "awcy",
+    "bbcb",
+    "colb",
+    "duik",
+    "AAABWJ",
+    "AAAMdD",
+    "AAAMzo",
+    "AAAaaI",
+    "ilknjghnqklpqnkrilpmmfrlmphg",
+    "ilknjghnqklpqnphqnkmmthnmkrt",
+    "qoomqtsmjpnjilkrilpmmfrlmphg",
+    "qoomqtsmjpnjilphqnkmmthnmkrt",
+];
+
 // Names with one long beginning, each below the one before it.
 fn descending(alloc: Global, count: u32) -> Result<Vec<String>, NoMemory> {
     let mut names = Vec::new(alloc);
@@ -25,8 +43,12 @@ fn descending(alloc: Global, count: u32) -> Result<Vec<String>, NoMemory> {
     Ok(names)
 }
 
-fn table_of<'a>(alloc: Global, names: &'a [String]) -> Result<NameTable<'a>, NoMemory> {
-    let mut table = NameTable::new(alloc);
+fn table_of<'a>(
+    alloc: Global,
+    keys: NameKeys,
+    names: &'a [String],
+) -> Result<NameTable<'a>, NoMemory> {
+    let mut table = NameTable::new(alloc, keys);
     for name in names {
         table.include(name.as_bytes())?;
     }
@@ -36,23 +58,42 @@ fn table_of<'a>(alloc: Global, names: &'a [String]) -> Result<NameTable<'a>, NoM
 #[test]
 fn descending_names_are_numbered_in_order(rt: HostRuntime) -> Result<(), Fail> {
     let names = descending(rt.alloc(), 3_000)?;
-    let table = table_of(rt.alloc(), names.as_slice())?;
-    for (place, name) in names.iter().enumerate() {
-        assert!(rt; table.place(name.as_bytes()) == Some(place));
+    for keys in ways()? {
+        let table = table_of(rt.alloc(), keys, names.as_slice())?;
+        for (place, name) in names.iter().enumerate() {
+            assert!(rt; table.place(name.as_bytes()) == Some(place));
+        }
+        assert!(rt; table.place("a_beginning".as_bytes()).is_none());
     }
-    assert!(rt; table.place("a_beginning".as_bytes()).is_none());
     Ok(())
 }
 
 #[test]
 fn a_name_that_comes_again_keeps_its_number(rt: HostRuntime) -> Result<(), Fail> {
-    let mut table = NameTable::new(rt.alloc());
-    for name in &ADDED {
-        table.include(name.as_bytes())?;
+    for keys in ways()? {
+        let mut table = NameTable::new(rt.alloc(), keys);
+        for name in &ADDED {
+            table.include(name.as_bytes())?;
+        }
+        for (name, place) in &PLACES {
+            assert!(rt; table.place(name.as_bytes()) == *place);
+            assert!(rt; table.has(name.as_bytes()) == place.is_some());
+        }
     }
-    for (name, place) in &PLACES {
-        assert!(rt; table.place(name.as_bytes()) == *place);
-        assert!(rt; table.has(name.as_bytes()) == place.is_some());
+    Ok(())
+}
+
+#[test]
+fn names_that_share_a_hash_are_told_apart(rt: HostRuntime) -> Result<(), Fail> {
+    for keys in ways()? {
+        let mut table = NameTable::new(rt.alloc(), keys);
+        for name in &COLLIDING {
+            assert!(rt; !table.has(name.as_bytes()));
+            table.include(name.as_bytes())?;
+        }
+        for (place, name) in COLLIDING.iter().enumerate() {
+            assert!(rt; table.place(name.as_bytes()) == Some(place));
+        }
     }
     Ok(())
 }

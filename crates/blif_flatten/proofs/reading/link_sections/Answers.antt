@@ -4,7 +4,7 @@ use Rattle.rm_base.proofs.Public.{read_stands}
 use Rattle.blif_flatten.specs.declared.sections.Section.{Section}
 use Rattle.blif_flatten.specs.CallFaults.{plain_modules}
 use Rattle.blif_flatten.specs.Laws.{AreRankedBy}
-use Rattle.blif_flatten.specs.Inner.Ranks.{AreKnownCalls}
+use Rattle.blif_flatten.specs.Inner.Ranks.{AreFalling, AreKnownCalls}
 use Rattle.blif_flatten.specs.Inner.Tokens.{IsSectionWithin, sections_at}
 use Rattle.blif_flatten.proofs.Joined.{known-calls, lead-is, positive, some-length}
 use Rattle.blif_flatten.proofs.Placed.{light-modules}
@@ -20,6 +20,7 @@ pub returns-in-Ok-lead_of-clause-linked : goal.returns-in-Ok-lead_of-clause-link
 returns-in-Ok-lead_of-clause-linked c = record {
   modules_are = c.in-Ok-modules_of.ensures;
   lead_is = c.in-Ok-lead_of.ensures (plain_modules (sections_at c.args.text.now c.args.sections.now)) c.requires.known ∙ sym (lead-is c.args.text.now c.args.sections.now c.index-sections-0.result (read_stands c.args.sections.now 0 c.index-sections-0.result (some-length c.args.sections.now c.requires.some) c.index-sections-0.is));
+  falling = subst (λ (ms : List Module). AreFalling c.in-Ok-rank_modules.numbers.items ms) (c.as_slice.ensures.value ∙ c.in-Ok-modules_of.ensures) c.in-Ok-rank_modules.ensures.falling;
   ranked = subst (λ (ms : List Module). (rank : ℕ → ℕ) × AreRankedBy ms rank) (c.as_slice.ensures.value ∙ c.in-Ok-modules_of.ensures) c.in-Ok-rank_modules.ensures.ranked;
   light = light-modules (sections_at c.args.text.now c.args.sections.now);
   positive = positive c.args.text.now c.args.sections.now c.requires.within;

@@ -1,0 +1,4 @@
+mod Adding
+mod FaultLines
+mod Counting
+mod WholeText
