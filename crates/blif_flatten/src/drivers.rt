@@ -86,19 +86,28 @@ fn no_drivers<'a>(alloc: Global, keys: NameKeys) -> Drivers<'a>
     }
 }
 
+// Takes all uses; the first one that drives a name a second time is refused.
+fn take_uses<'a>(drivers: &mut Drivers<'a>, uses: &[NameUse<'a>]) -> Result<(), ReadRefusal>
+    requires { AreDrivers [] drivers.old }
+    ensures ok { OnOk result (driven_twice_fault [] (uses_at uses.now) ≡ None) }
+    ensures err { IfErr result (λ e. IsRefusal e (driven_twice_fault [] (uses_at uses.now))) }
+{
+    for this in uses {
+        match take_use(drivers, this) {
+            Ok(()) => {}
+            Err(refusal) => return Err(refusal),
+        }
+    }
+    Ok(())
+}
+
 // The first name that is driven a second time.
 fn check_driven_once(alloc: Global, keys: NameKeys, uses: &[NameUse]) -> Result<(), ReadRefusal>
     ensures ok { OnOk result (driven_twice_fault [] (uses_at uses.now) ≡ None) }
     ensures err { IfErr result (λ e. IsRefusal e (driven_twice_fault [] (uses_at uses.now))) }
 {
     let mut drivers = no_drivers(alloc, keys);
-    for this in uses {
-        match take_use(&mut drivers, this) {
-            Ok(()) => {}
-            Err(refusal) => return Err(refusal),
-        }
-    }
-    Ok(())
+    take_uses(&mut drivers, uses)
 }
 
 fn is_driver(role: Role) -> bool

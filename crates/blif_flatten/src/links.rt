@@ -10,7 +10,7 @@ ghost use Rattle.blif_flatten.specs.declared.modules.Module.{Module as ModuleVal
 ghost use Rattle.blif_flatten.specs.Calls.{call_of, calls_of, connection_of};
 ghost use Rattle.blif_flatten.specs.CallFaults.{plain_modules};
 ghost use Rattle.blif_flatten.specs.Instances.{link_of as link_said, modules_of as modules_said, pin_in};
-ghost use Rattle.blif_flatten.specs.Inner.Interfaces.{IsCallable, IsInterface, link_of_call, pins_at};
+ghost use Rattle.blif_flatten.specs.Inner.Interfaces.{IsCallable, IsInterface, call_at, link_of_call, pins_at};
 ghost use Rattle.blif_flatten.specs.Inner.Tokens.{AreWithin, IsLineWithin, IsSectionWithin, section_at, sections_at};
 
 use crate::calls::{Callable, interface_at, is_call};
@@ -61,6 +61,31 @@ fn pins_of<'a>(
     Ok(pins)
 }
 
+// The link of a call, if the text has its model.
+fn call_link<'a>(
+    alloc: Global,
+    text: &'a [u8],
+    callable: &Callable<'a>,
+    line: &[Token],
+) -> Result<Option<Link>, NoMemory>
+    requires within { IsLineWithin text.now line.now }
+    requires long { 2 ≤ length line.now }
+    ensures { (modules : List ModuleValue) → IsCallable callable.now modules → IfOk result (λ link. link ≡ link_said modules (call_at text.now line.now)) }
+{
+    let Some(called) = callable.names.place(word_of(text, &line[1])) else {
+        return Ok(None);
+    };
+    let Some(interface) = interface_at(callable.interfaces.as_slice(), called) else {
+        return Ok(None);
+    };
+    let pins = pins_of(alloc, text, interface, &line[2..])?;
+    Ok(Some(Link {
+        place: line[0].place,
+        called,
+        pins,
+    }))
+}
+
 // Adds the link of a line, if it is a call.
 fn push_link<'a>(
     alloc: Global,
@@ -75,18 +100,10 @@ fn push_link<'a>(
     if !is_call(text, line) {
         return Ok(());
     }
-    let Some(called) = callable.names.place(word_of(text, &line[1])) else {
-        return Ok(());
-    };
-    let Some(interface) = interface_at(callable.interfaces.as_slice(), called) else {
-        return Ok(());
-    };
-    let pins = pins_of(alloc, text, interface, &line[2..])?;
-    links.push(Link {
-        place: line[0].place,
-        called,
-        pins,
-    })
+    match call_link(alloc, text, callable, line)? {
+        Some(link) => links.push(link),
+        None => Ok(()),
+    }
 }
 
 fn links_of<'a>(
