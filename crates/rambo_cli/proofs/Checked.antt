@@ -82,7 +82,7 @@ module _ (input output journal : Word) (apart : (input ≢ output) × ((input �
   too_long : ReadsOnce → LongJournalsTell → 2 ^ 62 < length w.recorded → IsOverlong input journal output new
   too_long once tell long = (
     subst (λ (o : Option (List ℕ)). IsSomeAnd o (λ text. 2 ^ 62 < length text)) (sym journal_there) long,
-    overlong once tell input journal output new model w.few still_said w.recorded w.result.net (length (w.result.steps ++ w.result.verdicts)) journal_there accepted long
+    overlong once tell input journal output new model w.few still_said w.recorded w.result.net (length (w.result.steps ++ w.result.verdicts)) journal_there accepted long,
   )
 
 pub checked : ReadsOnce → LongJournalsTell → (input output : Word) (journal : Option Word) (model : Model) (settings : Settings) (figures : Figures) (old new : Files) → HasNamesApart (opt input output journal settings) → Holds old input (λ text. IsSaid text model) → HasWritten model output journal settings figures old new → IsChecked input output journal new

@@ -50,10 +50,10 @@ module _ (once : ReadsOnce) (tell : LongJournalsTell) (input journal output : Wo
 
   finds : (p : Problem) → CheckFinds input journal output (Some told) p → p ≡ Limit JournalLimit 4611686018427387905
   finds (Text kind place) f = absurd (read_finds_none input told (Text kind place) good f)
-  finds (Limit quantity bytes) f = elim f [ | inl read ↦ absurd (read_finds_none input told (Limit quantity bytes) good read) | inr over ↦ over.0 ]
+  finds (Limit quantity bytes) f = elim f [ inl read ↦ absurd (read_finds_none input told (Limit quantity bytes) good read) | inr over ↦ over.0 ]
   finds Missing f = elim f [
     | inl read ↦ absurd (read_finds_none input told Missing good read)
-    | inr other ↦ elim other [ | inl one ↦ absurd (differs audit.NoJournal (λ e. cc) tt one) | inr two ↦ absurd (differs audit.NoOutput (λ e. cc) tt two) ]
+    | inr other ↦ elim other [ inl one ↦ absurd (differs audit.NoJournal (λ e. cc) tt one) | inr two ↦ absurd (differs audit.NoOutput (λ e. cc) tt two) ]
   ]
   finds Fault f = absurd f
   finds Memory f = absurd f
