@@ -3,7 +3,7 @@ use Rattle.std.proofs.Common.{◌≡◌, ℕ, Bool, List, refl, sym, ◌∙◌, 
 use Rattle.std.specs.Prelude.{Option, None, Some}
 use Rattle.rm_base.specs.Causes.{Rose}
 use Rattle.rm_base.specs.Files.{Files}
-use Rattle.word_reading.specs.Words.{Asked, opt, check, demo, flat}
+use Rattle.word_reading.specs.Words.{Asked, opt, check, demo, flat, tests}
 use Rattle.rambo_cli.specs.declared.work.Done.{Done}
 use Rattle.rambo_cli.specs.declared.problem.Problem.{Problem}
 use Rattle.rambo_cli.specs.declared.problem.Problem.TheVariants.{Words, Text, Limit, Missing, Fault, Journal, Record, Netlist, Memory}
@@ -51,6 +51,7 @@ nothing_asked (Some (opt input output journal settings)) files h = absurd h
 nothing_asked (Some (check input journal output)) files h = absurd h
 nothing_asked (Some (demo seed settings)) files h = absurd h
 nothing_asked (Some (flat input output)) files h = absurd h
+nothing_asked (Some (tests input journal output patterns)) files h = absurd h
 
 pub refused : (w : Bool) (problem : Problem) (status : ℕ) (words : Option Asked) (files : Option Files) (m n : ℕ) (before after : Option (List ℕ)) (i j : ℕ)
     → IsReported w problem status before after i j → IsCause (contract_of words) files m n problem → status ≡ 2 → EndsRefused words before after
