@@ -18,3 +18,17 @@ mod Heights
 pub mod Valuations
 pub mod Names
 mod Placed
+mod FormedCounts
+mod FormedTree
+mod FormedHeld
+mod FormedTokens
+mod FormedFlat
+mod FormedCalls
+mod FormedLines
+mod FormedUses
+mod FormedBodies
+mod FormedOutputs
+mod FormedNames
+mod FormedPins
+mod FormedModels
+mod FormedText

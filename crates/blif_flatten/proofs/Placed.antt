@@ -46,7 +46,7 @@ places-there [] = refl
 places-there (l ∷ ls) = both-there (names_place l) (cover_on (words_in_line l) (map words_in_line ls)) (filter_map names_place ls) (covers_from (map words_in_line ls)) (line-there l (map words_in_line ls)) (places-there ls)
 
 -- a line has no more pins than words, and its cover is one
-kept-few : {A B : Type 0} (f : A → Option B) (xs : List A) → length (filter_map f xs) ≤ length xs
+pub kept-few : {A B : Type 0} (f : A → Option B) (xs : List A) → length (filter_map f xs) ≤ length xs
 kept-few f [] = omega arith
 kept-few {A = A} {B = B} f (x ∷ xs) = at (f x) (kept-few f xs)
   where

@@ -33,7 +33,7 @@ use crate::sections::{Section, Sections, read_sections};
 use crate::size::count_tokens;
 use blif_format::{FaultKind, Quantity, ReadRefusal};
 use rm_base::Place;
-use rm_model::{Model, NameKeys, RankFault, is_well_formed, rank, ranks_exist};
+use rm_model::{Model, NameKeys, RankFault, rank, ranks_exist};
 use std::alloc::Global;
 
 /// A flat model and the number of its instances, with the top.
@@ -208,16 +208,6 @@ fn check_ranks(
     Ok(())
 }
 
-// Whether a model is well formed, and want of memory where that can't be told.
-fn is_formed(alloc: Global, keys: NameKeys, model: &Model) -> bool
-    ensures { result ≡ true → IsWellFormed model.now }
-{
-    match is_well_formed(alloc, keys, model) {
-        Ok(formed) => formed,
-        Err(_) => false,
-    }
-}
-
 // The flat model of linked modules.
 fn join_modules(alloc: Global, linked: Linked) -> Result<Flattened, ReadRefusal>
     requires falling { AreFalling linked.numbers.items linked.modules.items }
@@ -248,21 +238,18 @@ fn join_modules(alloc: Global, linked: Linked) -> Result<Flattened, ReadRefusal>
     }
 }
 
-// The model, which is looked at once more: whether it is well formed, and ranked.
+// The model with its instances, where each of its covers has a rank.
 fn check_flat(alloc: Global, keys: NameKeys, flat: Flattened) -> Result<Flat, ReadRefusal>
+    requires formed { IsWellFormed flat.model }
     requires few { flat.instances < 2 ^ 32 }
     requires placed { length flat.places ≡ length flat.model.covers }
     requires few_covers { length flat.model.covers ≤ 4194304 }
     ensures model { IfOk result (λ f. f.model ≡ flat.model) }
     ensures count { IfOk result (λ f. f.instances ≡ flat.instances) }
-    ensures formed { OnOk result (IsWellFormed flat.model) }
     ensures ranked { OnOk result (IsRanked flat.model) }
     ensures ok { OnOk result (first_unranked flat.places (ranks_of flat.model) ≡ None) }
     ensures err { IfErr result (λ e. IsRefusal e (first_unranked flat.places (ranks_of flat.model))) }
 {
-    if !is_formed(alloc, keys, &flat.model) {
-        return Err(ReadRefusal::NoMemory);
-    }
     match check_ranks(alloc, keys, &flat.model, flat.places.items()) {
         Ok(()) => {}
         Err(refusal) => return Err(refusal),
