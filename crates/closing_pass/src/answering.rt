@@ -1,35 +1,123 @@
 // The verdicts of faults: what refutes them by learning, and else the answers of searches.
-ghost use Rattle.std.specs.Prelude.{◌≡◌, ◌<◌, ◌≤◌, ℕ, IfOk, OnOk};
+ghost use Rattle.std.specs.Prelude.{◌≡◌, ◌<◌, ◌≤◌, ℕ, IfOk, IfSome, OnOk};
+ghost use Rattle.fault_sim.specs.LaneStates.{Fits};
+ghost use Rattle.gate_net.specs.Faults.{IsTest};
 ghost use Rattle.gate_net.specs.Net.{Net};
 ghost use Rattle.gate_graph.specs.Circuit.{net_of};
 ghost use Rattle.podem.specs.Searchers.{Serves};
 ghost use Rattle.recursive_learning.specs.Serving.{IsServing};
 ghost use Rattle.closing_pass.specs.Verdicts.{AreVerdicts, HavePins, IsAnswer};
 
+use candidate_vectors::complete;
+use fault_sim::Lanes;
 use gate_graph::{Graph, Question};
 use podem::{Searcher, Verdict};
 use recursive_learning::refuter::Refuter;
-use rm_base::{Fault, NoMemory, Settings};
+use refutation::FactSet;
+use rm_base::{Fault, NoMemory, Settings, Vector};
 use std::alloc::Global;
 
-// The verdict of the fault: it is refuted at the depth of the settings, and else searched with their budget.
+// What searches for tests on a graph, and what simulates it.
+#[derive(Drop)]
+struct Tools {
+    searcher: Searcher,
+    lanes: Lanes,
+}
+
+// Most faults are detected by a search of so few edges, which costs less than learning.
+const FEW_EDGES: u32 = 16;
+
+// A vector that completes the facts to which lines lead, and detects the fault.
+fn complete_lines(
+    alloc: Global,
+    question: &Question<'_>,
+    refuter: &mut Refuter,
+    lanes: &mut Lanes,
+) -> Result<Option<Vector>, NoMemory>
+    requires refutes { IsServing (net_of question.now.graph.now) refuter.old }
+    requires fits { Fits lanes.old (net_of question.now.graph.now) }
+    ensures test { IfOk result (λ found. IfSome found (IsTest (net_of question.now.graph.now) question.now.fault)) }
+    ensures refutes { OnOk result (IsServing (net_of question.now.graph.now) refuter.new) }
+    ensures fits { (net : Net) → Fits lanes.old net → Fits lanes.new net }
+{
+    if refuter.close(question)? {
+        return Ok(None);
+    }
+    complete(alloc, question, refuter.facts(), lanes)
+}
+
+// A vector that detects the fault: that of a search of few edges, or else one that completes what lines lead to.
+fn detected_soon(
+    alloc: Global,
+    question: &Question<'_>,
+    refuter: &mut Refuter,
+    tools: &mut Tools,
+) -> Result<Option<Vector>, NoMemory>
+    requires refutes { IsServing (net_of question.now.graph.now) refuter.old }
+    requires searches { Serves tools.old.searcher (net_of question.now.graph.now) }
+    requires fits { Fits tools.old.lanes (net_of question.now.graph.now) }
+    ensures test { IfOk result (λ found. IfSome found (IsTest (net_of question.now.graph.now) question.now.fault)) }
+    ensures refutes { OnOk result (IsServing (net_of question.now.graph.now) refuter.new) }
+    ensures searches { (net : Net) → Serves tools.old.searcher net → Serves tools.new.searcher net }
+    ensures fits { (net : Net) → Fits tools.old.lanes net → Fits tools.new.lanes net }
+{
+    match tools.searcher.search(question, FEW_EDGES)? {
+        Verdict::Detected(vector) => Ok(Some(vector)),
+        Verdict::Refuted(_tree) => Ok(None),
+        Verdict::Spent(_tree) => complete_lines(alloc, question, refuter, &mut tools.lanes),
+    }
+}
+
+// The verdict of a fault that isn't refuted: a vector that completes the facts, or else what a search with the budget answers.
+fn search_open(
+    alloc: Global,
+    question: &Question<'_>,
+    budget: u32,
+    facts: &FactSet,
+    tools: &mut Tools,
+) -> Result<Verdict, NoMemory>
+    requires budget { 0 < budget }
+    requires searches { Serves tools.old.searcher (net_of question.now.graph.now) }
+    requires fits { Fits tools.old.lanes (net_of question.now.graph.now) }
+    ensures answer { IfOk result (IsAnswer (net_of question.now.graph.now) budget question.now.fault) }
+    ensures searches { (net : Net) → Serves tools.old.searcher net → Serves tools.new.searcher net }
+    ensures fits { (net : Net) → Fits tools.old.lanes net → Fits tools.new.lanes net }
+{
+    if budget > FEW_EDGES {
+        if let Some(vector) = complete(alloc, question, facts, &mut tools.lanes)? {
+            return Ok(Verdict::Detected(vector));
+        }
+    }
+    tools.searcher.search(question, budget)
+}
+
+// The verdict of the fault: it is refuted at the depth of the settings, and else searched with their budget. As most faults
+// have a test, one is looked for before that where it costs little; a budget of few edges asks for no more than these.
 fn answer(
+    alloc: Global,
     question: &Question<'_>,
     settings: &Settings,
     refuter: &mut Refuter,
-    searcher: &mut Searcher,
+    tools: &mut Tools,
 ) -> Result<Verdict, NoMemory>
     requires depth { settings.now.depth ≤ 2 }
     requires budget { 0 < settings.now.budget }
     requires refutes { IsServing (net_of question.now.graph.now) refuter.old }
-    requires searches { Serves searcher.old (net_of question.now.graph.now) }
+    requires searches { Serves tools.old.searcher (net_of question.now.graph.now) }
+    requires fits { Fits tools.old.lanes (net_of question.now.graph.now) }
     ensures answer { IfOk result (IsAnswer (net_of question.now.graph.now) settings.now.budget question.now.fault) }
     ensures refutes { OnOk result (IsServing (net_of question.now.graph.now) refuter.new) }
-    ensures searches { OnOk result ((net : Net) → Serves searcher.old net → Serves searcher.new net) }
+    ensures searches { (net : Net) → Serves tools.old.searcher net → Serves tools.new.searcher net }
+    ensures fits { (net : Net) → Fits tools.old.lanes net → Fits tools.new.lanes net }
 {
+    if settings.budget > FEW_EDGES {
+        if let Some(vector) = detected_soon(alloc, question, refuter, tools)? {
+            return Ok(Verdict::Detected(vector));
+        }
+    }
     match refuter.refute(question, settings.depth)? {
         Some(tree) => Ok(Verdict::Refuted(tree)),
-        None => searcher.search(question, settings.budget),
+        None => search_open(alloc, question, settings.budget, refuter.facts(), tools),
     }
 }
 
@@ -40,13 +128,14 @@ fn answer_each(
     faults: &[Fault],
     settings: &Settings,
     refuter: &mut Refuter,
-    searcher: &mut Searcher,
+    tools: &mut Tools,
 ) -> Result<Vec<Verdict>, NoMemory>
     requires pins { HavePins (net_of graph.now) faults.now }
     requires depth { settings.now.depth ≤ 2 }
     requires budget { 0 < settings.now.budget }
     requires refutes { IsServing (net_of graph.now) refuter.old }
-    requires searches { Serves searcher.old (net_of graph.now) }
+    requires searches { Serves tools.old.searcher (net_of graph.now) }
+    requires fits { Fits tools.old.lanes (net_of graph.now) }
     ensures { IfOk result (λ v. AreVerdicts (net_of graph.now) settings.now.budget faults.now v.items) }
 {
     let mut verdicts = Vec::with_capacity(alloc, faults.len())?;
@@ -55,7 +144,7 @@ fn answer_each(
             graph,
             fault: *fault,
         };
-        let verdict = answer(&question, settings, refuter, searcher)?;
+        let verdict = answer(alloc, &question, settings, refuter, tools)?;
         verdicts.push(verdict)?;
     }
     Ok(verdicts)
@@ -67,19 +156,20 @@ fn answer_all(
     graph: &Graph,
     faults: &[Fault],
     settings: &Settings,
-    searcher: &mut Searcher,
+    tools: &mut Tools,
 ) -> Result<Vec<Verdict>, NoMemory>
     requires pins { HavePins (net_of graph.now) faults.now }
     requires depth { settings.now.depth ≤ 2 }
     requires budget { 0 < settings.now.budget }
-    requires searches { Serves searcher.old (net_of graph.now) }
+    requires searches { Serves tools.old.searcher (net_of graph.now) }
+    requires fits { Fits tools.old.lanes (net_of graph.now) }
     ensures { IfOk result (λ v. AreVerdicts (net_of graph.now) settings.now.budget faults.now v.items) }
 {
     let mut refuter = Refuter::for_graph(alloc, graph)?;
-    answer_each(alloc, graph, faults, settings, &mut refuter, searcher)
+    answer_each(alloc, graph, faults, settings, &mut refuter, tools)
 }
 
-/// The verdicts of the faults, in order, by one refuter and one searcher.
+/// The verdicts of the faults, in order, by one refuter and one set of tools.
 pub(crate) fn answers(
     alloc: Global,
     graph: &Graph,
@@ -91,6 +181,9 @@ pub(crate) fn answers(
     requires budget { 0 < settings.now.budget }
     ensures { IfOk result (λ v. AreVerdicts (net_of graph.now) settings.now.budget faults.now v.items) }
 {
-    let mut searcher = Searcher::new(alloc, graph)?;
-    answer_all(alloc, graph, faults, settings, &mut searcher)
+    let mut tools = Tools {
+        searcher: Searcher::new(alloc, graph)?,
+        lanes: Lanes::new(alloc, graph)?,
+    };
+    answer_all(alloc, graph, faults, settings, &mut tools)
 }

@@ -1,7 +1,7 @@
 // The closing pass.
 ghost use Rattle.std.specs.Prelude.{◌≡◌, ◌≤◌, ◌<◌, ◌+◌, ◌^◌, Err, IfOk, OnErr, OnOk, map};
 ghost use Rattle.gate_graph.specs.Circuit.{live_nodes, net_of, pins_taken};
-ghost use Rattle.gate_net.specs.Net.{wire_count};
+ghost use Rattle.gate_net.specs.Net.{source_count, wire_count};
 ghost use Rattle.gate_net.specs.Values.{HasPin};
 ghost use Rattle.journal_text.specs.Accepted.{Keeps};
 ghost use Rattle.journal_text.specs.Appends.{IsThere};
@@ -13,12 +13,14 @@ ghost use Rattle.wire_edit.specs.Order.{IsTidy};
 ghost use Rattle.wire_edit.specs.Work.{work};
 ghost use Rattle.closing_pass.specs.Blocks.{HaveVectors};
 ghost use Rattle.closing_pass.specs.Inner.Closing.{HasRecordedFix, Went};
+ghost use Rattle.closing_pass.specs.Inner.Findings.{AreLong};
 ghost use Rattle.closing_pass.specs.Reports.{AreClosed, HasClosed, IsNoFuller};
 
 use crate::fixing::fix_and_tidy;
 use crate::passing::{Passed, pass};
 use crate::report::Report;
 use crate::words::blocks_of;
+use candidate_vectors::drawn_vectors;
 use gate_graph::Graph;
 use journal_ranges::records_fit;
 use journal_text::{
@@ -26,7 +28,7 @@ use journal_text::{
     texts_append,
 };
 use refutation::Tree;
-use rm_base::{Fault, Gate, Made, Settings, Shelf, Vector};
+use rm_base::{Fault, Gate, Made, NoMemory, Settings, Shelf, Vector};
 use std::alloc::Global;
 use std::thread::Threads;
 use wire_edit::{BeginRefusal, Room, Trial, tidying_ends};
@@ -67,6 +69,13 @@ fn record_fix<S: Shelf>(
     Ok(())
 }
 
+// The vectors with which the first pass begins.
+fn first_vectors(alloc: Global, trial: &Trial) -> Result<Vec<Vector>, NoMemory>
+    ensures { IfOk result (λ v. AreLong v.items (source_count (net_of trial.now.graph))) }
+{
+    drawn_vectors(alloc, trial.graph())
+}
+
 // Passes through the faults, from the first again after each that is fixed, until none is refuted.
 fn close_all<R: Threads + Sync, G: Gate, S: Shelf>(
     rt: &R,
@@ -97,7 +106,7 @@ fn close_all<R: Threads + Sync, G: Gate, S: Shelf>(
 {
     texts_append();
     runs_join();
-    let mut kept: Vec<Vector> = Vec::new(alloc);
+    let mut kept = first_vectors(alloc, trial)?;
     let mut made = Made {
         adds: 0,
         fixes: 0,

@@ -21,8 +21,6 @@ mod places;
 mod progress;
 mod reading;
 mod refusals;
-#[cfg(test)]
-mod tests;
 mod text_faults;
 mod usage;
 

@@ -7,8 +7,6 @@ mod failing;
 mod files;
 mod output;
 mod reporting;
-#[cfg(test)]
-mod tests;
 mod watch;
 
 pub use ahead::warn_ahead;

@@ -37,7 +37,14 @@ fn sweep_at(
     accepted_steps_keep();
     let graph = space.trial.graph();
     graph.well_formed();
-    let found = refuted_at(&mut space.refuter, &mut space.vectors, graph, gate, depth)?;
+    let found = refuted_at(
+        alloc,
+        &mut space.refuter,
+        &mut space.vectors,
+        graph,
+        gate,
+        depth,
+    )?;
     match found {
         None => Ok(false),
         Some((fault, tree)) => {

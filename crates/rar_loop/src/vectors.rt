@@ -12,10 +12,12 @@ ghost use Rattle.rar_loop.specs.Inner.Kept.{AreAsked, AreFor, HasKept, IsTurned,
 ghost use Rattle.rar_loop.specs.Inner.Trying.{IsNewPinOpen, MayAdd};
 
 use crate::drawing::{block_count, drawn_words};
+use candidate_vectors::completed_words;
 use candidate_wires::{Candidate, control_of};
 use fault_sim::{Blocks, Lanes};
 use gate_graph::{Graph, Question};
 use gate_net::outside_is_equal;
+use refutation::FactSet;
 use refutation::detected::detected_faults_stay_open;
 use rm_base::{Fault, NoMemory, NodeId};
 use std::alloc::Global;
@@ -33,6 +35,8 @@ pub(crate) struct Vectors {
     turned: Vec<Option<u64>>,
     // The gates of which a word is kept.
     asked: Vec<NodeId>,
+    // Whether vectors that complete facts are looked for: no search has found any yet.
+    completing: bool,
 }
 
 // Whether the word has a lane.
@@ -249,6 +253,7 @@ impl Vectors {
             hints,
             turned,
             asked: Vec::new(alloc),
+            completing: found.is_empty(),
         })
     }
 
@@ -290,6 +295,32 @@ impl Vectors {
             }
             None => false,
         }
+    }
+
+    /// Whether no search has found vectors yet, so that vectors that complete facts are looked for.
+    pub(crate) fn is_completing(&self) -> bool {
+        self.completing
+    }
+
+    /// Whether one of 64 vectors that complete the facts detects the fault. They are kept then.
+    pub(crate) fn complete(
+        &mut self,
+        alloc: Global,
+        question: &Question<'_>,
+        facts: &FactSet,
+    ) -> Result<bool, NoMemory>
+        requires vectors { AreFor self.old (net_of question.now.graph.now) }
+        ensures detected { IfOk result (λ found. IsTrue found → (a : ℕ → Bool) × Detects (net_of question.now.graph.now) question.now.fault a) }
+        ensures vectors { AreFor self.new (net_of question.now.graph.now) }
+    {
+        let words = completed_words(alloc, question.graph, facts)?;
+        let mut lanes = Lanes::new(alloc, question.graph)?;
+        lanes.simulate64(question.graph, words.as_slice());
+        let Some(_lane) = lanes.first_detecting(question) else {
+            return Ok(false);
+        };
+        keep_block(alloc, question.graph, words.as_slice(), &mut self.found)?;
+        Ok(true)
     }
 
     // Under which of them the gate turns, found once for each gate.

@@ -163,6 +163,25 @@ fn latches_and_layout(rt: HostRuntime) -> Result<(), Fail> {
     Ok(())
 }
 
+// An And of 40 inputs: a test of a fault gives all of them a value, which a search of 17 edges can't, so the tests are vectors that
+// complete what lines lead to.
+const WIDE_AND: &str =
+    ".model wide\n.inputs i0 i1 i2 i3 i4 i5 i6 i7 i8 i9 i10 i11 i12 i13 i14 i15 i16 i17 i18 i19 i20 i21 i22 i23 i24 i25 i26 i27 i28 i29 i30 i31 i32 i33 i34 i35 i36 i37 i38 i39\n.outputs z\n.names i0 i1 i2 i3 i4 i5 i6 i7 i8 i9 i10 i11 i12 i13 i14 i15 i16 i17 i18 i19 i20 i21 i22 i23 i24 i25 i26 i27 i28 i29 i30 i31 i32 i33 i34 i35 i36 i37 i38 i39 z\n1111111111111111111111111111111111111111 1\n.end\n";
+
+const WIDE_AND_SUMMARY: &str =
+    "wires 40 40\ngates 1 1\nsteps 0 0 0\ntries 0 settled\nfaults 80 0\n";
+
+#[test]
+fn wide_gates_have_tests_without_a_search(rt: HostRuntime) -> Result<(), Fail> {
+    for line in [
+        "opt in out journal --budget 17 --depth 0",
+        "opt in out journal --budget 17",
+    ] {
+        assert!(rt; optimises(&rt, rt.alloc(), line, WIDE_AND, WIDE_AND_SUMMARY, WIDE_AND)?);
+    }
+    Ok(())
+}
+
 // Whether a run over the four gates puts this summary and writes this output, and a journal that `check` accepts.
 fn leaves<R: Threads + Sync>(
     rt: &R,

@@ -10,6 +10,7 @@ loop-fault-preserved c = record {
       rw c.in_ok-push.ensures.items (zip_more (IsAnswer (net_of c.args.graph.now) c.args.settings.now.budget) c.args.faults.now c.loop-fault.verdicts.items c.loop-fault.fault-index _ c.in_ok-verdict.verdict c.loop-fault-test.true c.loop-fault.invariant.verdicts c.in_ok-verdict.ensures.answer);
   refutes = c.in_ok-verdict.ensures.refutes;
   searches = c.in_ok-verdict.ensures.searches (net_of c.args.graph.now) c.loop-fault.invariant.searches;
+  fits = c.in_ok-verdict.ensures.fits (net_of c.args.graph.now) c.loop-fault.invariant.fits;
 }
 
 pub invariant_of-question : goal.invariant_of-question

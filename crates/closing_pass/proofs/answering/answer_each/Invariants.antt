@@ -1,3 +1,4 @@
+use Rattle.fault_sim.specs.LaneStates.{Fits}
 use Rattle.gate_graph.specs.Circuit.{net_of}
 use Rattle.podem.specs.Searchers.{Serves}
 use Rattle.std.proofs.Common.{take}
@@ -9,5 +10,6 @@ abbrev pub invariant-loop-fault : goal.invariant-loop-fault
 invariant-loop-fault l = record {
   verdicts : AreVerdicts (net_of l.graph) l.settings.budget (take l.fault-index l.faults) l.verdicts.items;
   refutes : IsServing (net_of l.graph) l.refuter;
-  searches : Serves l.searcher (net_of l.graph);
+  searches : Serves l.tools.searcher (net_of l.graph);
+  fits : Fits l.tools.lanes (net_of l.graph);
 }

@@ -1,8 +1,6 @@
 //! The real files and standard output.
-use crate::files::FileShelf;
-use crate::output::StdoutSink;
-use crate::watch::Watch;
 use diagnostics::{Operation, Reason};
+use host_devices::{FileShelf, StdoutSink, Watch};
 use rm_base::{OutsideFault, Shelf, Sink};
 use std::alloc::{AllocError, Global};
 use std::fmt::Display;

@@ -1,5 +1,5 @@
 //! The wording of messages: what each ending of a run shows.
-use crate::{
+use diagnostics::{
     Ending, Failure, Operation, Progress, Reason, SubjectPart, closing_note, explanation,
     progress_line, subject_of, undecodable_word, warning,
 };
