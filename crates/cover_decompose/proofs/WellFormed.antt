@@ -113,6 +113,16 @@ module _ (m : Model) where
         ]
       ]
 
+  reader : (y p x : ℕ) → Reads (net_of_model m) y p x → (n : Node) × ((slice_get (last_state m).made y ≡ Some n) × (slice_get n.drivers p ≡ Some x))
+  reader y p x r = by_node (node_at (net_of_model m) y) refl r
+    where
+      by_node : (o : Option Node) → node_at (net_of_model m) y ≡ o → slice_get (drivers_in o) p ≡ Some x → (n : Node) × ((slice_get (last_state m).made y ≡ Some n) × (slice_get n.drivers p ≡ Some x))
+      by_node None e r = absurd cc
+      by_node (Some n) e r = (n, (there_node (last_state m).made (net_of_model m).observed y n e, r))
+
+  pub reads_lower : (y p x : ℕ) → Reads (net_of_model m) y p x → x < y
+  reads_lower y p x r = let n = reader y p x r in below_at y n.0.drivers p x (made.below y n.0 n.1.0) n.1.1
+
   pub well_formed : IsWellFormed (net_of_model m)
   unfolding by_kind
   well_formed = record {
@@ -141,16 +151,6 @@ module _ (m : Model) where
     where
       source_there : (n k : ℕ) → k < n → slice_get (plain Zero ∷ plain One ∷ replicate n (plain Source)) (2 + k) ≡ Some (plain Source)
       source_there n k lt = let e : 2 + k ≡ suc (suc k) = omega arith in rw e (replicate_there n k (plain Source) lt)
-
-      reader : (y p x : ℕ) → Reads (net_of_model m) y p x → (n : Node) × ((slice_get (last_state m).made y ≡ Some n) × (slice_get n.drivers p ≡ Some x))
-      reader y p x r = by_node (node_at (net_of_model m) y) refl r
-        where
-          by_node : (o : Option Node) → node_at (net_of_model m) y ≡ o → slice_get (drivers_in o) p ≡ Some x → (n : Node) × ((slice_get (last_state m).made y ≡ Some n) × (slice_get n.drivers p ≡ Some x))
-          by_node None e r = absurd cc
-          by_node (Some n) e r = (n, (there_node (last_state m).made (net_of_model m).observed y n e, r))
-
-      reads_lower : (y p x : ℕ) → Reads (net_of_model m) y p x → x < y
-      reads_lower y p x r = let n = reader y p x r in below_at y n.0.drivers p x (made.below y n.0 n.1.0) n.1.1
 
       reader_within : (y p x : ℕ) → Reads (net_of_model m) y p x → y < length (last_state m).made
       reader_within y p x r = let n = reader y p x r in slice_get_within (last_state m).made y n.0 n.1.0

@@ -1,6 +1,6 @@
 // Laws of the definitions, each the contract of a function that does nothing.
 ghost use Rattle.std.specs.Prelude.{◌≡◌, ◌≢◌, ◌+◌, ◌<◌, ◌≤◌, ◌↔◌, ℕ, [], ◌∷◌, Option, None, Some, Contains, length, slice_get};
-ghost use Rattle.gate_net.specs.Net.{IsGate, IsWellFormed as IsWellFormedNet, node_at, wire_count};
+ghost use Rattle.gate_net.specs.Net.{IsGate, IsWellFormed as IsWellFormedNet, Reads, node_at, wire_count};
 ghost use Rattle.rm_model.specs.Ranks.{first_without_rank};
 ghost use Rattle.rm_model.specs.Value.{source_names};
 ghost use Rattle.rm_model.specs.WellFormed.{IsWellFormed};
@@ -42,11 +42,12 @@ pub fn decompositions_stand()
     ranks_follow();
 }
 
-/// The net of every decomposition is well formed, and its gates have the numbers after the sources, with no gap.
+/// The net of every decomposition is well formed, its gates have the numbers after the sources, with no gap, and read lower numbers.
 pub fn decompositions_are_formed()
     ensures formed { (m : Model) → IsWellFormedNet (net_of_model m) }
     ensures gates { (m : Model) (x : ℕ) → IsGate (net_of_model m) x → 2 + length (source_names m) ≤ x }
     ensures no_gaps { (m : Model) (x : ℕ) → x < length (net_of_model m).nodes → node_at (net_of_model m) x ≢ None }
+    ensures order { (m : Model) (y p x : ℕ) → Reads (net_of_model m) y p x → x < y }
 {}
 
 /// The covers taken are those whose output is needed, and each reads sources and the outputs of covers before it.

@@ -9,16 +9,17 @@ pub(crate) struct OptionRule {
     pub(crate) high: u64,
     pub(crate) default: u64,
     pub(crate) meaning: &'static str,
+    /// The names of the commands that have it.
+    pub(crate) commands: &'static [&'static str],
 }
 
-/// A command: its names in their order, how many of them have to be there, and whether it has options.
+/// A command: its names in their order, and how many of them have to be there.
 #[derive(Clone, Copy)]
 pub(crate) struct CommandRule {
     pub(crate) name: &'static str,
     pub(crate) usage: &'static str,
     pub(crate) names: &'static [&'static str],
     pub(crate) least: usize,
-    pub(crate) has_options: bool,
     /// Pairs of its names, by their places, that must differ.
     pub(crate) different: &'static [(usize, usize)],
     /// Those of its names that are written.
@@ -33,6 +34,7 @@ pub(crate) const OPTIONS: [OptionRule; 4] = [
         high: 2,
         default: 1,
         meaning: "depth of recursive learning; 0 is direct implication",
+        commands: &["opt", "demo", "equal"],
     },
     OptionRule {
         name: "--budget",
@@ -40,6 +42,7 @@ pub(crate) const OPTIONS: [OptionRule; 4] = [
         high: 1_048_576,
         default: 256,
         meaning: "edges that one search for a test vector may enter",
+        commands: &["opt", "demo", "equal"],
     },
     OptionRule {
         name: "--tries",
@@ -47,6 +50,7 @@ pub(crate) const OPTIONS: [OptionRule; 4] = [
         high: 1_000_000,
         default: 1_000_000,
         meaning: "additions of a wire that the whole run may try",
+        commands: &["opt", "demo"],
     },
     OptionRule {
         name: "--workers",
@@ -54,16 +58,16 @@ pub(crate) const OPTIONS: [OptionRule; 4] = [
         high: 64,
         default: 1,
         meaning: "threads that search for test vectors",
+        commands: &["opt", "demo"],
     },
 ];
 
-pub(crate) const COMMANDS: [CommandRule; 5] = [
+pub(crate) const COMMANDS: [CommandRule; 8] = [
     CommandRule {
         name: "opt",
         usage: "opt IN OUT [JOURNAL] [options]",
         names: &["IN", "OUT", "JOURNAL"],
         least: 2,
-        has_options: true,
         different: &[(0, 1), (0, 2), (1, 2)],
         written: &["OUT", "JOURNAL"],
         meaning: "optimise the BLIF netlist IN; write the netlist OUT, and each change with its reason to JOURNAL",
@@ -73,7 +77,6 @@ pub(crate) const COMMANDS: [CommandRule; 5] = [
         usage: "check IN JOURNAL OUT",
         names: &["IN", "JOURNAL", "OUT"],
         least: 3,
-        has_options: false,
         different: &[],
         written: &[],
         meaning: "replay JOURNAL over IN, and compare the netlist at its end with OUT",
@@ -83,7 +86,6 @@ pub(crate) const COMMANDS: [CommandRule; 5] = [
         usage: "demo SEED [options]",
         names: &["SEED"],
         least: 1,
-        has_options: true,
         different: &[],
         written: &[],
         meaning: "optimise a netlist made from the number SEED; no file is read or written",
@@ -93,7 +95,6 @@ pub(crate) const COMMANDS: [CommandRule; 5] = [
         usage: "flat IN OUT",
         names: &["IN", "OUT"],
         least: 2,
-        has_options: false,
         different: &[(0, 1)],
         written: &["OUT"],
         meaning: "join the models of the BLIF hierarchy IN into one, and write it to OUT",
@@ -103,10 +104,36 @@ pub(crate) const COMMANDS: [CommandRule; 5] = [
         usage: "tests IN JOURNAL OUT PATTERNS",
         names: &["IN", "JOURNAL", "OUT", "PATTERNS"],
         least: 4,
-        has_options: false,
         different: &[(0, 3), (1, 3), (2, 3)],
         written: &["PATTERNS"],
         meaning: "check as check does, and write few test patterns for the stuck-at faults of OUT to PATTERNS",
+    },
+    CommandRule {
+        name: "replay",
+        usage: "replay IN JOURNAL OUT",
+        names: &["IN", "JOURNAL", "OUT"],
+        least: 3,
+        different: &[(0, 1), (0, 2), (1, 2)],
+        written: &["OUT"],
+        meaning: "make the steps of JOURNAL over IN, up to its end or a fault, and write the netlist after them to OUT",
+    },
+    CommandRule {
+        name: "convert",
+        usage: "convert FROM TO",
+        names: &["FROM", "TO"],
+        least: 2,
+        different: &[(0, 1)],
+        written: &["TO"],
+        meaning: "write the journal FROM, a text of version 1, to TO as the bytes of version 2",
+    },
+    CommandRule {
+        name: "equal",
+        usage: "equal A B PROOF [options]",
+        names: &["A", "B", "PROOF"],
+        least: 3,
+        different: &[(0, 1), (0, 2), (1, 2)],
+        written: &["PROOF"],
+        meaning: "decide whether the BLIF netlists A and B have the same function, and write the proof or the difference to PROOF",
     },
 ];
 

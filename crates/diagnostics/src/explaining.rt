@@ -2,11 +2,13 @@
 ghost use Rattle.std.specs.Prelude.{IfOk};
 ghost use Rattle.diagnostics.specs.Terminal.{IsTerminalText};
 
+use crate::comparisons::{UnlikeLists, say_differ, say_undecided, say_unlike};
 use crate::failures::{Failure, say_failure};
 use crate::journals::{RefusedLine, say_difference, say_refused_line};
 use crate::limits::say_limit;
 use crate::message::Message;
 use crate::parts::Part;
+use crate::printed::{Printed, journal_line, journal_place, number, printed_words};
 use crate::reading::{Reading, read_words};
 use crate::refusals::say_refusal;
 use crate::text_faults::{TextFault, say_text_fault};
@@ -22,7 +24,8 @@ pub struct Ending<'a> {
     pub printed: &'a str,
     /// The call that failed, if one did.
     pub failure: Option<Failure<'a>>,
-    /// Of the file that `subject_of` names: its bytes, or of a line of a journal that line; nothing where they aren't known.
+    /// Of the file that `subject_of` names: its bytes, or of a line of a journal what `LineFinder` gives; nothing where they aren't
+    /// known.
     pub text: &'a [u8],
 }
 
@@ -44,50 +47,19 @@ pub enum SubjectPart {
     UpTo(u64),
 }
 
-// The first line that was printed, cut at blanks.
-#[derive(Clone, Copy)]
-struct Printed<'a> {
-    first: &'a str,
-    second: &'a str,
-    third: &'a str,
-    fourth: &'a str,
-    rest: &'a str,
-}
-
-fn cut(text: &str) -> (&str, &str) {
-    match text.split_once(' ') {
-        Some(parts) => parts,
-        None => (text, ""),
-    }
-}
-
-fn printed_words(printed: &str) -> Printed<'_> {
-    let line = match printed.split_once('\n') {
-        Some((line, _)) => line,
-        None => printed,
-    };
-    let (first, rest) = cut(line);
-    let (second, rest) = cut(rest);
-    let (third, rest) = cut(rest);
-    let (fourth, rest) = cut(rest);
-    Printed {
-        first,
-        second,
-        third,
-        fourth,
-        rest,
-    }
-}
-
-fn number(word: &str) -> u64 {
-    word.parse::<u64>().unwrap_or(0)
-}
-
 fn place(word: &str) -> Place {
     let (line, column) = word.split_once(':').unwrap_or((word, ""));
     Place {
         line: line.parse::<u32>().unwrap_or(0),
         column: column.parse::<u32>().unwrap_or(0),
+    }
+}
+
+// Whether the words are of the command with this name.
+fn is_of(reading: &Reading<'_>, command: &str) -> bool {
+    match reading.command {
+        Some(rule) => rule.name == command,
+        None => false,
     }
 }
 
@@ -106,13 +78,35 @@ fn name_for<'a>(reading: &Reading<'a>, role: &str) -> &'a str {
     UNNAMED
 }
 
-// The line of a journal of which the words speak: record R stands on line R + 1.
-fn journal_line(printed: &Printed<'_>) -> u64 {
-    if printed.second == "line" {
-        number(printed.third)
+// The name of the journal that is read.
+fn journal_name<'a>(reading: &Reading<'a>) -> &'a str {
+    if is_of(reading, "convert") {
+        name_for(reading, "FROM")
     } else {
-        number(printed.third).saturating_add(1)
+        name_for(reading, "JOURNAL")
     }
+}
+
+// The name of the netlist of which the words speak.
+fn netlist_name<'a>(reading: &Reading<'a>, printed: &Printed<'_>) -> &'a str {
+    if printed.is_second {
+        name_for(reading, "B")
+    } else if is_of(reading, "equal") {
+        name_for(reading, "A")
+    } else {
+        name_for(reading, "IN")
+    }
+}
+
+// The line of the journal of which the words speak; a journal of bytes has none.
+fn journal_subject<'a>(reading: &Reading<'a>, printed: &Printed<'_>) -> Option<Subject<'a>> {
+    if printed.second == "entry" {
+        return None;
+    }
+    Some(Subject {
+        name: journal_name(reading),
+        part: SubjectPart::Line(journal_line(printed)),
+    })
 }
 
 /// The file that has to be looked at before the ending can be explained.
@@ -125,13 +119,10 @@ pub fn subject_of<'a>(
     let reading = read_words(alloc, words)?;
     let found = match printed.first {
         "text" => Some(Subject {
-            name: name_for(&reading, "IN"),
+            name: netlist_name(&reading, &printed),
             part: SubjectPart::Whole,
         }),
-        "journal" => Some(Subject {
-            name: name_for(&reading, "JOURNAL"),
-            part: SubjectPart::Line(journal_line(&printed)),
-        }),
+        "journal" => journal_subject(&reading, &printed),
         "netlist" => Some(Subject {
             name: name_for(&reading, "OUT"),
             part: SubjectPart::UpTo(number(printed.second)),
@@ -150,8 +141,8 @@ fn say_journal(
     say_refused_line(
         message,
         &RefusedLine {
-            name: name_for(reading, "JOURNAL"),
-            number: journal_line(printed),
+            name: journal_name(reading),
+            place: journal_place(printed, text),
             line: text,
             kind: printed.fourth,
             rest: printed.rest,
@@ -174,6 +165,27 @@ fn say_fault(
     }
 }
 
+// What there is to say of two netlists that aren't equal.
+fn say_comparison(
+    message: Message,
+    reading: &Reading<'_>,
+    printed: &Printed<'_>,
+) -> Result<Message, NoMemory> {
+    match printed.first {
+        "differ" => say_differ(message, printed.second),
+        "undecided" => say_undecided(message, number(printed.second)),
+        _ => say_unlike(
+            message,
+            &UnlikeLists {
+                first: name_for(reading, "A"),
+                second: name_for(reading, "B"),
+                list: printed.second,
+                place: number(printed.third),
+            },
+        ),
+    }
+}
+
 fn explained(alloc: Global, colours: bool, ending: &Ending<'_>) -> Result<Message, NoMemory> {
     let printed = printed_words(ending.printed);
     let reading = read_words(alloc, ending.words)?;
@@ -184,7 +196,7 @@ fn explained(alloc: Global, colours: bool, ending: &Ending<'_>) -> Result<Messag
             alloc,
             colours,
             &TextFault {
-                name: name_for(&reading, "IN"),
+                name: netlist_name(&reading, &printed),
                 text: ending.text,
                 place: place(printed.second),
                 kind: printed.third,
@@ -192,7 +204,7 @@ fn explained(alloc: Global, colours: bool, ending: &Ending<'_>) -> Result<Messag
         ),
         "limit" => say_limit(
             message,
-            limited_name(&reading, printed.second),
+            limited_name(&reading, &printed),
             printed.second,
             number(printed.third),
         ),
@@ -203,6 +215,7 @@ fn explained(alloc: Global, colours: bool, ending: &Ending<'_>) -> Result<Messag
             ending.text,
             number(printed.second),
         ),
+        "differ" | "undecided" | "unlike" => say_comparison(message, &reading, &printed),
         "memory" => message.say(&[
             Part::Text("rambo: "),
             Part::Red("error: "),
@@ -212,11 +225,11 @@ fn explained(alloc: Global, colours: bool, ending: &Ending<'_>) -> Result<Messag
     }
 }
 
-fn limited_name<'a>(reading: &Reading<'a>, quantity: &str) -> &'a str {
-    if quantity == "journal" {
-        name_for(reading, "JOURNAL")
+fn limited_name<'a>(reading: &Reading<'a>, printed: &Printed<'_>) -> &'a str {
+    if printed.second == "journal" {
+        journal_name(reading)
     } else {
-        name_for(reading, "IN")
+        netlist_name(reading, printed)
     }
 }
 

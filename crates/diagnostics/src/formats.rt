@@ -1,5 +1,7 @@
 // Formats that are taken for BLIF by mistake, told by the first bytes of a file.
 
+use crate::journals::JOURNAL_OF_BYTES;
+
 /// A format, the bytes with which it begins, and how it becomes BLIF.
 #[derive(Clone, Copy)]
 pub(crate) struct Format {
@@ -8,7 +10,10 @@ pub(crate) struct Format {
     pub(crate) hint: &'static str,
 }
 
-const FORMATS: [Format; 20] = [
+const JOURNAL_HINT: &str =
+    "IN is the first name, and of check, tests and replay JOURNAL the second";
+
+const FORMATS: [Format; 21] = [
     Format {
         begin: b"\x1f\x8b",
         name: "this is gzip data, not BLIF",
@@ -102,7 +107,12 @@ const FORMATS: [Format; 20] = [
     Format {
         begin: b"rambo 1 ",
         name: "this is a journal of rambo, not BLIF",
-        hint: "IN is the first name, and of check JOURNAL the second",
+        hint: JOURNAL_HINT,
+    },
+    Format {
+        begin: JOURNAL_OF_BYTES,
+        name: "this is a journal of rambo, not BLIF",
+        hint: JOURNAL_HINT,
     },
     Format {
         begin: b"(edif",

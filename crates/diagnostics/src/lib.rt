@@ -3,6 +3,7 @@
 #![tactic(auto)]
 
 mod commands;
+mod comparisons;
 mod drivers;
 mod escaping;
 mod excerpts;
@@ -18,6 +19,7 @@ mod notes;
 mod outputs;
 mod parts;
 mod places;
+mod printed;
 mod progress;
 mod reading;
 mod refusals;

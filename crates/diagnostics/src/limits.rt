@@ -13,7 +13,7 @@ struct LimitRule {
     hint: &'static str,
 }
 
-const BY_BLOCKS: &str = "optimise the design block by block";
+const BY_BLOCKS: &str = "split the design into blocks";
 
 const LIMITS: [LimitRule; 9] = [
     LimitRule {
@@ -56,7 +56,7 @@ const LIMITS: [LimitRule; 9] = [
         word: "pins",
         before: " needs ",
         after: " wires as And, Or and Not gates; at most 65536 are allowed",
-        hint: "let abc minimise the covers first, or optimise the design block by block",
+        hint: "let abc minimise the covers first, or split the design into blocks",
     },
     LimitRule {
         word: "journal",

@@ -1,15 +1,19 @@
 // A line of a text that comes in pieces.
+use crate::journals::JOURNAL_OF_BYTES;
 use rm_base::NoMemory;
 use std::alloc::Global;
 
 const MOST_OF_A_LINE: usize = 4_096;
 
-/// Finds the line of a number, from 1, and keeps its first 4,096 bytes.
+/// Finds the line of a number, from 1, and keeps its first 4,096 bytes. A journal of version 2 has no lines: of it the first eight
+/// bytes are kept, which no line is, as they end in a line feed.
 #[derive(Drop)]
 pub struct LineFinder {
     /// How many line ends are still to come before the line.
     left: u64,
     is_done: bool,
+    /// The first bytes of the text, up to eight.
+    begin: Vec<u8>,
     line: Vec<u8>,
 }
 
@@ -18,8 +22,25 @@ impl LineFinder {
         LineFinder {
             left: number.saturating_sub(1),
             is_done: false,
+            begin: Vec::new(alloc),
             line: Vec::new(alloc),
         }
+    }
+
+    // Whether the text is no text, but a journal of bytes.
+    fn is_of_bytes(&self) -> bool {
+        self.begin.as_slice() == JOURNAL_OF_BYTES
+    }
+
+    // Takes one of the first bytes.
+    fn take_begin(&mut self, byte: u8) -> Result<(), NoMemory> {
+        if self.begin.len() < JOURNAL_OF_BYTES.len() {
+            self.begin.push(byte)?;
+            if self.is_of_bytes() {
+                self.is_done = true;
+            }
+        }
+        Ok(())
     }
 
     /// Whether the line is whole, or as long as it is kept.
@@ -46,6 +67,7 @@ impl LineFinder {
             if self.is_done {
                 break;
             }
+            self.take_begin(byte)?;
             self.take_byte(byte)?;
         }
         Ok(())
@@ -53,6 +75,10 @@ impl LineFinder {
 
     /// What was found of the line.
     pub fn into_line(self) -> Vec<u8> {
-        self.line
+        if self.is_of_bytes() {
+            self.begin
+        } else {
+            self.line
+        }
     }
 }

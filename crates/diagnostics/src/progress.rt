@@ -46,13 +46,20 @@ fn say_stage(message: Message, progress: &Progress) -> Result<Message, NoMemory>
             Part::Number(progress.batches),
         ]);
     }
-    if progress.journal_bytes > 0 {
+    if progress.added > 0 || progress.fixed > 0 {
         return message.say(&[
             Part::Text("wires added "),
             Part::Number(progress.added),
             Part::Text(", removed "),
             Part::Number(progress.fixed),
             Part::Text(", journal "),
+            Part::Number(progress.journal_bytes / 1000),
+            Part::Text(" kB"),
+        ]);
+    }
+    if progress.journal_bytes > 0 {
+        return message.say(&[
+            Part::Text("written "),
             Part::Number(progress.journal_bytes / 1000),
             Part::Text(" kB"),
         ]);

@@ -90,7 +90,7 @@ impl<'a> Reading<'a> {
         }
     }
 
-    fn take_option(&mut self, word: &'a str, has_options: bool) -> Result<(), NoMemory> {
+    fn take_option(&mut self, word: &'a str, command: &CommandRule) -> Result<(), NoMemory> {
         let (name, value) = match word.split_once('=') {
             Some((name, value)) => (name, Some(value)),
             None => (word, None),
@@ -99,7 +99,7 @@ impl<'a> Reading<'a> {
             self.refuse(Refusal::NoOption(word));
             return Ok(());
         };
-        if !has_options {
+        if !option.commands.contains(&command.name) {
             self.refuse(Refusal::NoOption(word));
         }
         if self.given.contains(&name) {
@@ -121,7 +121,7 @@ impl<'a> Reading<'a> {
     }
 
     // Takes a word behind the command's.
-    fn take(&mut self, word: &'a str, has_options: bool) -> Result<(), NoMemory> {
+    fn take(&mut self, word: &'a str, command: &CommandRule) -> Result<(), NoMemory> {
         if let Some(option) = self.open {
             self.take_value(option, word);
         } else if self.only_names || word == "-" || !word.starts_with('-') {
@@ -133,7 +133,7 @@ impl<'a> Reading<'a> {
         } else if is_version(word) {
             self.refuse(Refusal::Version);
         } else {
-            self.take_option(word, has_options)?;
+            self.take_option(word, command)?;
         }
         Ok(())
     }
@@ -198,7 +198,7 @@ pub(crate) fn read_words<'a>(alloc: Global, words: &'a [String]) -> Result<Readi
     };
     let mut reading = Reading::new(alloc, Some(command), None);
     for word in rest {
-        reading.take(word.as_str(), command.has_options)?;
+        reading.take(word.as_str(), &command)?;
     }
     reading.end(command);
     Ok(reading)

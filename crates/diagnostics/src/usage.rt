@@ -1,5 +1,5 @@
 // The usage and the help.
-use crate::commands::{COMMANDS, CommandRule, OPTIONS};
+use crate::commands::{COMMANDS, CommandRule, OPTIONS, OptionRule};
 use crate::message::Message;
 use crate::parts::Part;
 use rm_base::NoMemory;
@@ -12,34 +12,44 @@ const WHAT: &str =
 
 const FURTHER: &str =
     "An option is written --depth 1 or --depth=1, before or after the names. After '--' every word is a name.
-IN, and all files that check and tests read, may be pipes such as /dev/stdin. IN is never written.
+IN, A and B, and all files that check, tests and replay read, may be pipes such as /dev/stdin. None of them is written.
 
 exit status:
-  0  done
-  1  IN has an error
+  0  done; equal: the netlists have the same function
+  1  IN, A or B has an error
   2  the command line is wrong
   3  a file or standard output failed
   4  out of memory
   5  something is over its limit
-  6  check, tests: JOURNAL isn't accepted, or OUT differs
+  6  check, tests: JOURNAL isn't accepted, or OUT differs; convert: FROM is no journal of version 1
+  7  equal: the netlists differ
+  8  equal: the search used up its budget
+  9  equal: the sources or the observed names of A and B aren't the same
 ";
 
-// The names of the options with their ranges.
-fn say_options(mut message: Message) -> Result<Message, NoMemory> {
+// An option with its range.
+fn say_option(message: Message, option: &OptionRule) -> Result<Message, NoMemory> {
+    message.say(&[
+        Part::Text("  "),
+        Part::Text(option.name),
+        Part::Text(" "),
+        Part::Number(option.low),
+        Part::Text(".."),
+        Part::Number(option.high),
+        Part::Text("  "),
+        Part::Text(option.meaning),
+        Part::Text(" (default "),
+        Part::Number(option.default),
+        Part::Text(")\n"),
+    ])
+}
+
+// The options of the command with this name.
+fn say_options(mut message: Message, command: &'static str) -> Result<Message, NoMemory> {
     for option in &OPTIONS {
-        message = message.say(&[
-            Part::Text("  "),
-            Part::Text(option.name),
-            Part::Text(" "),
-            Part::Number(option.low),
-            Part::Text(".."),
-            Part::Number(option.high),
-            Part::Text("  "),
-            Part::Text(option.meaning),
-            Part::Text(" (default "),
-            Part::Number(option.default),
-            Part::Text(")\n"),
-        ])?;
+        if option.commands.contains(&command) {
+            message = say_option(message, option)?;
+        }
     }
     Ok(message)
 }
@@ -81,8 +91,8 @@ pub(crate) fn say_command(
         Part::Text(command.usage),
         Part::Text("\n"),
     ])?;
-    if command.has_options && lists_options {
-        return say_options(message);
+    if lists_options {
+        return say_options(message, command.name);
     }
     Ok(message)
 }
@@ -90,6 +100,9 @@ pub(crate) fn say_command(
 /// All that `--help` shows.
 pub(crate) fn say_help(message: Message) -> Result<Message, NoMemory> {
     let message = say_commands(message.say(&[Part::Text(WHAT), Part::Text("\nusage:\n")])?)?;
-    let message = say_options(message.say(&[Part::Text("\noptions of opt and demo:\n")])?)?;
+    let message = say_options(
+        message.say(&[Part::Text("\noptions of opt and demo; equal has the first two:\n")])?,
+        "opt",
+    )?;
     message.say(&[Part::Text("\n"), Part::Text(FURTHER)])
 }

@@ -37,7 +37,7 @@ struct Created {
     written: u64,
 }
 
-// What a pipe that was read first has given, for a message that shows a line of it.
+// What the pipe that was begun last has given first, for a message that shows a line of it: messages speak of the last file read.
 #[derive(Drop)]
 struct Given {
     name: String,
@@ -194,7 +194,6 @@ fn written_to(created: &[Created], name: &str) -> u64 {
 // Keeps what a file has given from its start on, where it can't be read again. Without memory nothing is kept.
 fn keep(alloc: Global, given: &mut Option<Given>, name: &str, from: u64, bytes: &[u8]) {
     if from == 0
-        && given.is_none()
         && let Ok(name) = String::from_str(alloc, name)
         && let Ok(bytes) = Vec::from_slice(alloc, bytes)
     {
@@ -238,7 +237,7 @@ impl<'a, R: Files<File = File> + Clock> FileShelf<'a, R> {
         self.failed.as_ref()
     }
 
-    /// What a pipe of this name has given, from its start on.
+    /// What a pipe of this name has given, from its start on, where no other was begun after it.
     pub fn given(&self, name: &str) -> &[u8] {
         match &self.given {
             Some(given) if given.name.as_str() == name => given.bytes.as_slice(),

@@ -67,6 +67,15 @@ fn line_of<R: Files<File = fs::File>>(
     Ok(finder.into_line())
 }
 
+// A line of what a pipe has given, if it is there whole.
+fn line_in(alloc: Global, bytes: &[u8], line: u64) -> Vec<u8> {
+    let mut finder = LineFinder::new(alloc, line);
+    if finder.take(bytes).is_ok() && finder.is_done() {
+        return finder.into_line();
+    }
+    Vec::new(alloc)
+}
+
 // What a message shows of a file, or nothing where that can't be read again.
 fn text_of<R: Files<File = fs::File>>(rt: &R, alloc: Global, subject: &Subject<'_>) -> Vec<u8> {
     let found = match subject.part {
@@ -109,7 +118,14 @@ fn explain<R: Files<File = fs::File> + Clock + Print>(
     let mut given: &[u8] = &[];
     if let Some(subject) = subject_of(alloc, words, printed)? {
         given = shelf.given(subject.name);
-        text = text_of(rt, alloc, &subject);
+        if let SubjectPart::Line(line) = subject.part
+            && !given.is_empty()
+        {
+            text = line_in(alloc, given, line);
+            given = &[];
+        } else {
+            text = text_of(rt, alloc, &subject);
+        }
     }
     let ending = Ending {
         words,

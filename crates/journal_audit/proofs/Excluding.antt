@@ -8,87 +8,30 @@ use Rattle.gate_net.specs.Net.{Net}
 use Rattle.blif_format.specs.Text.{text_of}
 use Rattle.cover_decompose.specs.Decomposition.{net_of_model}
 use Rattle.graph_to_model.specs.NetModel.{model_of_net}
-use Rattle.journal_text.proofs.Public.{line_one, lines_before, record_is}
 use Rattle.journal_text.specs.declared.record.Record.{Record}
-use Rattle.journal_text.specs.declared.record.Entry.{Entry}
-use Rattle.journal_text.specs.declared.record.Entry.TheVariants as entry
-use Rattle.journal_text.specs.Cutting.{JournalsAreOne}
-use Rattle.journal_text.specs.Faults.{IsJournal, opening, whole_lines}
-use Rattle.journal_text.specs.Laws.{LinesRead}
-use Rattle.journal_text.specs.Text.{AreEntries, entries_text, entry_line, journal_entries, record_entries}
+use Rattle.journal_reading.specs.Laws.{JournalsAreOne}
 use Rattle.journal_check.specs.Laws.{RecordsReplay, ReplaysAccept}
 use Rattle.journal_check.specs.Replaying.{Replays, editing}
 use Rattle.journal_check.specs.declared.refusal.JournalRefusal.{JournalRefusal}
 use Rattle.journal_audit.specs.Audited.{HasAccepted, IsOfFiles, IsProblem, LongJournalsTell, ProblemsExclude}
-use Rattle.journal_audit.specs.Judging.{BeginsWith, IsAcceptedText, IsRefusedText}
+use Rattle.journal_audit.specs.Judging.{IsAcceptedText, IsRefusedText}
 use Rattle.journal_audit.specs.declared.problem.AuditProblem.{AuditProblem}
 use Rattle.journal_audit.specs.declared.problem.AuditProblem.TheVariants.{Fault, Netlist, NoJournal, NoMemory, NoOutput, Refused, Text, TooLong}
 use Rattle.rm_base.specs.Words.{Word}
 
-word_head : (x y : List ℕ) (xs ys : List (List ℕ)) → x ∷ xs ≡ y ∷ ys → x ≡ y
-word_head x y xs ys e = cc
-
-word_tail : (x y : List ℕ) (xs ys : List (List ℕ)) → x ∷ xs ≡ y ∷ ys → xs ≡ ys
-word_tail x y xs ys e = cc
-
-entry_head : (x y : Entry) (xs ys : List Entry) → x ∷ xs ≡ y ∷ ys → x ≡ y
-entry_head x y xs ys e = cc
-
-entry_tail : (x y : Entry) (xs ys : List Entry) → x ∷ xs ≡ y ∷ ys → xs ≡ ys
-entry_tail x y xs ys e = cc
-
-entries_begin : LinesRead → (es ds : List Entry) (more : List (List ℕ)) → AreEntries es → AreEntries ds → map entry_line es ++ more ≡ map entry_line ds → (tail : List Entry) × (ds ≡ es ++ tail)
-entries_begin laws [] ds more v w e = (ds, refl)
-entries_begin laws (x ∷ es) [] more v w e = cc
-entries_begin laws (x ∷ es) (d ∷ ds) more v w e =
-    let first : x ≡ d = line_one laws x d v.0 w.0 (word_head (entry_line x) (entry_line d) (map entry_line es ++ more) (map entry_line ds) e) in
-    let rest = entries_begin laws es ds more v.1 w.1 (word_tail (entry_line x) (entry_line d) (map entry_line es ++ more) (map entry_line ds) e) in
-    (rest.0, ap (λ (y : Entry). y ∷ ds) (sym first) ∙ ap (λ (ys : List Entry). x ∷ ys) rest.1)
-
--- the entries of a journal that begins so
-journal_begins : LinesRead → (text : List ℕ) (es : List Entry) (b : ℕ) (rs : List Record) → BeginsWith text es → IsJournal text b rs → (tail : List Entry) × (journal_entries b rs ≡ es ++ tail)
-journal_begins laws text es b rs begins j =
-    let whole : whole_lines text ≡ map entry_line (journal_entries b rs) =
-    ap whole_lines (j.is ∙ sym (append-nil (entries_text (journal_entries b rs)))) ∙ lines_before laws (journal_entries b rs) [] j.valid ∙ append-nil (map entry_line (journal_entries b rs)) in
-    let lines : whole_lines text ≡ map entry_line es ++ whole_lines begins.rest = ap whole_lines begins.is ∙ lines_before laws es begins.rest begins.valid in
-    entries_begin laws es (journal_entries b rs) (whole_lines begins.rest) begins.valid j.valid (sym lines ∙ whole)
-
-header_is : (b c : ℕ) → entry.Header b ≡ entry.Header c → b ≡ c
-header_is b c e = cc
-
-records_begin : (qs xs : List Record) (tail : List Entry) → record_entries qs ++ entry.End ∷ [] ≡ record_entries xs ++ tail → (behind : List Record) × (qs ≡ xs ++ behind)
-records_begin qs [] tail e = (qs, refl)
-records_begin [] (x ∷ xs) tail e = cc
-records_begin (q ∷ qs) (x ∷ xs) tail e =
-    let first : q ≡ x = record_is q x (entry_head (entry.Record q) (entry.Record x) (record_entries qs ++ entry.End ∷ []) (record_entries xs ++ tail) e) in
-    let rest = records_begin qs xs tail (entry_tail (entry.Record q) (entry.Record x) (record_entries qs ++ entry.End ∷ []) (record_entries xs ++ tail) e) in
-    (rest.0, ap (λ (r : Record). r ∷ qs) first ∙ ap (λ (rs : List Record). x ∷ rs) rest.1)
-
-records_end : (qs xs : List Record) (tail : List Entry) → record_entries qs ++ entry.End ∷ [] ≡ (record_entries xs ++ entry.End ∷ []) ++ tail → qs ≡ xs
-records_end [] [] tail e = refl
-records_end [] (x ∷ xs) tail e = cc
-records_end (q ∷ qs) [] tail e = cc
-records_end (q ∷ qs) (x ∷ xs) tail e =
-    let first : q ≡ x = record_is q x (entry_head (entry.Record q) (entry.Record x) (record_entries qs ++ entry.End ∷ []) ((record_entries xs ++ entry.End ∷ []) ++ tail) e) in
-    ap (λ (r : Record). r ∷ qs) first ∙ ap (λ (rs : List Record). x ∷ rs) (records_end qs xs tail (entry_tail (entry.Record q) (entry.Record x) (record_entries qs ++ entry.End ∷ []) ((record_entries xs ++ entry.End ∷ []) ++ tail) e))
-
 -- WHAT IS REFUSED ISN'T ACCEPTED
-refused_never : LinesRead → RecordsReplay → ReplaysAccept → (m : Model) (text : List ℕ) (r : JournalRefusal) (last : Net) (count : ℕ) → IsRefusedText m text r → IsAcceptedText m text last count → ⊥
-refused_never laws law accept m text r last count (inl x) a =
-    let begins = journal_begins laws text (opening x.budget (x.records ++ x.given ∷ [])) a.budget a.records x.begins a.journal in
-    let budget : a.budget ≡ x.budget = header_is a.budget x.budget (entry_head (entry.Header a.budget) (entry.Header x.budget) (record_entries a.records ++ entry.End ∷ []) (record_entries (x.records ++ x.given ∷ []) ++ begins.0) begins.1) in
-    let records = records_begin a.records (x.records ++ x.given ∷ []) begins.0 (entry_tail (entry.Header a.budget) (entry.Header x.budget) (record_entries a.records ++ entry.End ∷ []) (record_entries (x.records ++ x.given ∷ []) ++ begins.0) begins.1) in
-    let whole : a.records ≡ x.records ++ x.given ∷ records.0 = records.1 ∙ append_assoc x.records (x.given ∷ []) records.0 in
+refused_never : JournalsAreOne → RecordsReplay → ReplaysAccept → (m : Model) (text : List ℕ) (r : JournalRefusal) (last : Net) (count : ℕ) → IsRefusedText m text r → IsAcceptedText m text last count → ⊥
+refused_never ones law accept m text r last count (inl x) a =
+    let begins = ones.opens text a.budget x.budget a.records (x.records ++ x.given ∷ []) a.journal x.begins in
+    let whole : a.records ≡ x.records ++ x.given ∷ begins.1.0 = begins.1.1 ∙ append_assoc x.records (x.given ∷ []) begins.1.0 in
     let replays : Replays a.budget (editing (net_of_model m)) a.records last = (accept (net_of_model m) last a.budget a.records).1 a.accepted in
-    law.never x.budget (editing (net_of_model m)) x.records records.0 last x.given x.position r.why x.leads x.refuses
-    (subst (λ (rs : List Record). Replays x.budget (editing (net_of_model m)) rs last) whole (subst (λ (k : ℕ). Replays k (editing (net_of_model m)) a.records last) budget replays))
-refused_never laws law accept m text r last count (inr x) a =
-    let begins = journal_begins laws text (journal_entries x.budget x.records) a.budget a.records x.begins a.journal in
-    let budget : a.budget ≡ x.budget = header_is a.budget x.budget (entry_head (entry.Header a.budget) (entry.Header x.budget) (record_entries a.records ++ entry.End ∷ []) ((record_entries x.records ++ entry.End ∷ []) ++ begins.0) begins.1) in
-    let records : a.records ≡ x.records = records_end a.records x.records begins.0 (entry_tail (entry.Header a.budget) (entry.Header x.budget) (record_entries a.records ++ entry.End ∷ []) ((record_entries x.records ++ entry.End ∷ []) ++ begins.0) begins.1) in
+    law.never x.budget (editing (net_of_model m)) x.records begins.1.0 last x.given x.position r.why x.leads x.refuses
+    (subst (λ (rs : List Record). Replays x.budget (editing (net_of_model m)) rs last) whole (subst (λ (k : ℕ). Replays k (editing (net_of_model m)) a.records last) begins.0 replays))
+refused_never ones law accept m text r last count (inr x) a =
+    let begins = ones.whole text a.budget x.budget a.records x.records a.journal x.begins in
     let replays : Replays a.budget (editing (net_of_model m)) a.records last = (accept (net_of_model m) last a.budget a.records).1 a.accepted in
     law.never_end x.budget (editing (net_of_model m)) x.records last x.position r.why x.leads x.refuses
-    (subst (λ (rs : List Record). Replays x.budget (editing (net_of_model m)) rs last) records (subst (λ (k : ℕ). Replays k (editing (net_of_model m)) a.records last) budget replays))
+    (subst (λ (rs : List Record). Replays x.budget (editing (net_of_model m)) rs last) begins.1 (subst (λ (k : ℕ). Replays k (editing (net_of_model m)) a.records last) begins.0 replays))
 
 -- an accepted text has one last net
 last_one : JournalsAreOne → RecordsReplay → ReplaysAccept → (m : Model) (text : List ℕ) (last other : Net) (k l : ℕ) → IsAcceptedText m text last k → IsAcceptedText m text other l → last ≡ other
@@ -108,20 +51,20 @@ none_some o text e f = cc
 accepted_at : (m : Model) (files : Files) (journal : Word) (text : List ℕ) (last : Net) (count : ℕ) → file_of files journal ≡ Some text → HasAccepted m files journal last count → IsAcceptedText m text last count
 accepted_at m files journal text last count e h = subst (λ (t : List ℕ). IsAcceptedText m t last count) (text_is (file_of files journal) text h.text e h.there) h.accepted
 
-pub problems_exclude : LinesRead → JournalsAreOne → RecordsReplay → ReplaysAccept → ProblemsExclude
-problems_exclude laws ones law accept m files journal output Fault count o p h = absurd o
-problems_exclude laws ones law accept m files journal output NoMemory count o p h = absurd o
-problems_exclude laws ones law accept m files journal output NoJournal count o p h = none_some (file_of files journal) h.accepted.text p h.accepted.there
-problems_exclude laws ones law accept m files journal output NoOutput count o p h = none_some (file_of files output) (text_of (model_of_net m h.last)) p.1.1.1 h.written
-problems_exclude laws ones law accept m files journal output TooLong count o p h =
+pub problems_exclude : JournalsAreOne → RecordsReplay → ReplaysAccept → ProblemsExclude
+problems_exclude ones law accept m files journal output Fault count o p h = absurd o
+problems_exclude ones law accept m files journal output NoMemory count o p h = absurd o
+problems_exclude ones law accept m files journal output NoJournal count o p h = none_some (file_of files journal) h.accepted.text p h.accepted.there
+problems_exclude ones law accept m files journal output NoOutput count o p h = none_some (file_of files output) (text_of (model_of_net m h.last)) p.1.1.1 h.written
+problems_exclude ones law accept m files journal output TooLong count o p h =
     let same : length h.accepted.text ≡ length p.0 = ap (λ (t : List ℕ). length t) (text_is (file_of files journal) p.0 h.accepted.text p.1.0 h.accepted.there) in
     omega (arith, same, p.1.1.0, h.accepted.short)
-problems_exclude laws ones law accept m files journal output (Text f) count o p h =
+problems_exclude ones law accept m files journal output (Text f) count o p h =
     let a = accepted_at m files journal p.0 h.last count p.1.0 h.accepted in
     ones.faultless p.0 a.budget a.records f a.journal p.1.1.fault_is
-problems_exclude laws ones law accept m files journal output (Refused r) count o p h =
-    refused_never laws law accept m p.0 r h.last count p.1.1 (accepted_at m files journal p.0 h.last count p.1.0 h.accepted)
-problems_exclude laws ones law accept m files journal output (Netlist byte) count o p h =
+problems_exclude ones law accept m files journal output (Refused r) count o p h =
+    refused_never ones law accept m p.0 r h.last count p.1.1 (accepted_at m files journal p.0 h.last count p.1.0 h.accepted)
+problems_exclude ones law accept m files journal output (Netlist byte) count o p h =
     let first = p.1.1.0 in
     let same : p.0 ≡ h.last = last_one ones law accept m first.text p.0 h.last p.1.0 count first.accepted (accepted_at m files journal first.text h.last count first.there h.accepted) in
     let found : p.1.1.1.0 ≡ text_of (model_of_net m h.last) = text_is (file_of files output) (text_of (model_of_net m h.last)) p.1.1.1.0 h.written p.1.1.1.1.0 in
@@ -129,7 +72,7 @@ problems_exclude laws ones law accept m files journal output (Netlist byte) coun
     p.1.1.1.1.1.after.differ (ap (λ (t : List ℕ). slice_get t p.1.1.1.1.1.place) text)
 
 -- OF A LONG JOURNAL ITS LENGTH IS FOUND
-module _ (laws : LinesRead) (ones : JournalsAreOne) (law : RecordsReplay) (accept : ReplaysAccept) (m : Model) (files : Files) (journal output : Word) (text : List ℕ) (last : Net) (count : ℕ) (there : file_of files journal ≡ Some text) (a : IsAcceptedText m text last count) (long : 2 ^ 62 < length text) where
+module _ (ones : JournalsAreOne) (law : RecordsReplay) (accept : ReplaysAccept) (m : Model) (files : Files) (journal output : Word) (text : List ℕ) (last : Net) (count : ℕ) (there : file_of files journal ≡ Some text) (a : IsAcceptedText m text last count) (long : 2 ^ 62 < length text) where
   short_never : (other : Net) (k : ℕ) → HasAccepted m files journal other k → ⊥
   short_never other k h =
       let same : length h.text ≡ length text = ap (λ (t : List ℕ). length t) (text_is (file_of files journal) text h.text there h.there) in
@@ -145,8 +88,8 @@ module _ (laws : LinesRead) (ones : JournalsAreOne) (law : RecordsReplay) (accep
   length_alone NoOutput o p = absurd (short_never p.0 p.1.0 p.1.1.0)
   length_alone TooLong o p = refl
   length_alone (Text f) o p = absurd (ones.faultless p.0 (at_text p.0 p.1.0).budget (at_text p.0 p.1.0).records f (at_text p.0 p.1.0).journal p.1.1.fault_is)
-  length_alone (Refused r) o p = absurd (refused_never laws law accept m p.0 r last count p.1.1 (at_text p.0 p.1.0))
+  length_alone (Refused r) o p = absurd (refused_never ones law accept m p.0 r last count p.1.1 (at_text p.0 p.1.0))
   length_alone (Netlist byte) o p = absurd (short_never p.0 p.1.0 p.1.1.0)
 
-pub long_journals_tell : LinesRead → JournalsAreOne → RecordsReplay → ReplaysAccept → LongJournalsTell
-long_journals_tell laws ones law accept m files journal output text last count there a long = length_alone laws ones law accept m files journal output text last count there a long
+pub long_journals_tell : JournalsAreOne → RecordsReplay → ReplaysAccept → LongJournalsTell
+long_journals_tell ones law accept m files journal output text last count there a long = length_alone ones law accept m files journal output text last count there a long

@@ -1,4 +1,5 @@
 pub mod Saying
+pub mod Lists
 pub mod Judged
 pub mod Stepping
 pub mod Differing

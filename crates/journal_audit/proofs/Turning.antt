@@ -7,11 +7,11 @@ use Rattle.rm_base.specs.Files.{Files, file_of}
 use Rattle.rm_base.specs.Shelves.{GivesPiece}
 use Rattle.rm_model.specs.declared.parts.Model.{Model}
 use Rattle.gate_graph.specs.Circuit.{Circuit, net_of}
-use Rattle.journal_text.specs.declared.faults.JournalFault.{JournalFault}
-use Rattle.journal_text.specs.declared.faults.JournalFault.TheVariants as fault
-use Rattle.journal_text.specs.Cutting.{CutsAgree}
-use Rattle.journal_text.specs.Faults.{IsFault}
-use Rattle.journal_text.specs.Streams.{GivesNone, Pending}
+use Rattle.journal_reading.specs.declared.faults.JournalFault.{JournalFault}
+use Rattle.journal_reading.specs.declared.faults.JournalFault.TheVariants as fault
+use Rattle.journal_reading.specs.Faults.{IsFault}
+use Rattle.journal_reading.specs.Laws.{CutsAgree}
+use Rattle.journal_reading.specs.Streams.{GivesNone, Pending, pushed as pushed_on}
 use Rattle.journal_audit.specs.Audited.{HasSaid}
 use Rattle.journal_audit.specs.Judging.{IsOpen}
 use Rattle.journal_audit.specs.Inner.Judging.{IsTextProblem}
@@ -155,7 +155,7 @@ turn_ends files m journal from most old new stage piece (GoesOn after now) some 
 turn_ends files m journal from most old new stage piece (Ends g count) some empty s gives e = ends_accepted files m journal from most old stage piece g count some empty s gives e
 
 -- a problem of the text is one of the journal itself
-no_memory_fault : (text : List ℕ) (f : JournalFault) → IsFault text f → f ≢ fault.NoMemory
+pub no_memory_fault : (text : List ℕ) (f : JournalFault) → IsFault text f → f ≢ fault.NoMemory
 no_memory_fault text f p e = subst (λ (x : JournalFault). IsFault text x) e p
 
 pub inside : (m : Model) (text : List ℕ) (problem : AuditProblem) → IsTextProblem m text problem → IsInside problem
@@ -169,7 +169,7 @@ inside m text TooLong p = absurd p
 inside m text (Netlist byte) p = absurd p
 
 -- a piece is pushed
-pub push_judged : CutsAgree → (m : Model) (text piece : List ℕ) (old new : Pending) (stage : Stage) → length text + length piece ≤ 2 ^ 62 → new ≡ record old { held = old.held ++ piece } → IsJudged m text old stage → IsJudged m (text ++ piece) new stage
+pub push_judged : CutsAgree → (m : Model) (text piece : List ℕ) (old new : Pending) (stage : Stage) → length text + length piece ≤ 2 ^ 62 → new ≡ pushed_on old piece → IsJudged m text old stage → IsJudged m (text ++ piece) new stage
 push_judged cuts m text piece old new stage l e j = subst (λ (p : Pending). IsJudged m (text ++ piece) p stage) (sym e) (pushed cuts m text piece old stage l j)
 
 piece_length : (n : ℕ) (xs : List ℕ) → length (take n xs) ≤ n

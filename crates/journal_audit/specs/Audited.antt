@@ -7,7 +7,7 @@ use Rattle.blif_format.specs.Text.{text_of}
 use Rattle.graph_to_model.specs.Laws.{AreFew}
 use Rattle.graph_to_model.specs.NetModel.{model_of_net}
 use Rattle.gate_graph.specs.Circuit.{net_of}
-use Rattle.journal_text.specs.declared.faults.JournalFault.TheVariants as fault
+use Rattle.journal_reading.specs.declared.faults.JournalFault.TheVariants as fault
 use Rattle.journal_text.specs.declared.record.Record.{Record}
 use Rattle.journal_check.specs.Accepts.{IsAccepted}
 use Rattle.journal_audit.specs.Verdicts.{VerdictList, said_in, said_of}

@@ -5,8 +5,10 @@ use Rattle.refutation_check.specs.declared.refusals.CheckRefusal.{CheckRefusal}
 use Rattle.refutation_check.specs.declared.refusals.CheckRefusal.TheVariants as check
 use Rattle.wire_edit.specs.declared.refusal.EditRefusal.{EditRefusal}
 use Rattle.wire_edit.specs.declared.refusal.EditRefusal.TheVariants as edit
-use Rattle.journal_text.specs.declared.faults.JournalFault.{JournalFault}
-use Rattle.journal_text.specs.declared.faults.JournalFault.TheVariants as fault
+use Rattle.journal_reading.specs.declared.faults.JournalFault.{JournalFault}
+use Rattle.journal_reading.specs.declared.faults.JournalFault.TheVariants as fault
+use Rattle.journal_reading.specs.declared.faults.Version.{Version}
+use Rattle.journal_reading.specs.declared.faults.Version.TheVariants.{One, Two}
 use Rattle.journal_check.specs.declared.refusal.JournalRefusal.{JournalRefusal}
 use Rattle.journal_check.specs.declared.refusal.Why.{Why}
 use Rattle.journal_check.specs.declared.refusal.Why.TheVariants as why
@@ -39,18 +41,30 @@ item_in (check.Shape item) = item
 item_in check.NoMemory = 0
 
 abbrev pub fault_word : JournalFault → Word
-fault_word (fault.BadHeader line) = codes "BadHeader"
-fault_word (fault.BadRecord line) = codes "BadRecord"
-fault_word (fault.Truncated line) = codes "Truncated"
-fault_word (fault.AfterEnd line) = codes "AfterEnd"
+fault_word (fault.BadHeader v n) = codes "BadHeader"
+fault_word (fault.BadRecord v n) = codes "BadRecord"
+fault_word (fault.Truncated v n) = codes "Truncated"
+fault_word (fault.AfterEnd v n) = codes "AfterEnd"
 fault_word fault.NoMemory = codes "NoMemory"
 
-abbrev pub line_in : JournalFault → ℕ
-line_in (fault.BadHeader line) = line
-line_in (fault.BadRecord line) = line
-line_in (fault.Truncated line) = line
-line_in (fault.AfterEnd line) = line
-line_in fault.NoMemory = 0
+abbrev pub number_in : JournalFault → ℕ
+number_in (fault.BadHeader v n) = n
+number_in (fault.BadRecord v n) = n
+number_in (fault.Truncated v n) = n
+number_in (fault.AfterEnd v n) = n
+number_in fault.NoMemory = 0
+
+abbrev pub version_word : Version → Word
+version_word One = codes "line"
+version_word Two = codes "entry"
+
+-- where the text is wrong: a line, or an entry
+abbrev pub place_word : JournalFault → Word
+place_word (fault.BadHeader v n) = version_word v
+place_word (fault.BadRecord v n) = version_word v
+place_word (fault.Truncated v n) = version_word v
+place_word (fault.AfterEnd v n) = version_word v
+place_word fault.NoMemory = version_word One
 
 abbrev pub bit : Bool → ℕ
 bit b = if b then 1 else 0
@@ -74,9 +88,9 @@ why_words why.NoMemory = codes "NoMemory"
 abbrev pub refusal_line : JournalRefusal → List ℕ
 refusal_line r = codes "journal record" ++ (number r.number ++ (32 ∷ (why_words r.why ++ 10 ∷ [])))
 
--- `journal line L KIND`
+-- `journal line L KIND`, and `journal entry N KIND` of a journal of version 2
 abbrev pub fault_line : JournalFault → List ℕ
-fault_line f = codes "journal line" ++ (number (line_in f) ++ (32 ∷ (fault_word f ++ 10 ∷ [])))
+fault_line f = codes "journal " ++ (place_word f ++ (number (number_in f) ++ (32 ∷ (fault_word f ++ 10 ∷ []))))
 
 -- `netlist BYTE`
 abbrev pub netlist_line : ℕ → List ℕ

@@ -1,31 +1,33 @@
 // Judging a journal entry by entry.
-ghost use Rattle.std.specs.Prelude.{◌≡◌, ◌<◌, ◌≤◌, ◌++◌, ◌^◌, [], ℕ, List, IfErr, IfOk, None, OnOk, length, true};
+ghost use Rattle.std.specs.Prelude.{◌≡◌, ◌<◌, ◌≤◌, ◌++◌, ◌^◌, [], ℕ, List, Err, IfErr, IfOk, None, length, true};
 ghost use Rattle.rm_model.specs.Ranks.{first_without_rank};
 ghost use Rattle.rm_model.specs.Value.{observed_names, source_names};
 ghost use Rattle.rm_model.specs.WellFormed.{IsWellFormed};
 ghost use Rattle.rm_model.specs.declared.parts.Model.{Model as ModelValue};
 ghost use Rattle.cover_decompose.specs.Count.{decomposed};
-ghost use Rattle.journal_text.specs.Streams.{GivesNone, comes};
-ghost use Rattle.journal_text.specs.Text.{IsEntry};
+ghost use Rattle.journal_text.specs.Streams.{comes};
+ghost use Rattle.journal_text.specs.Text.{IsWritable};
 ghost use Rattle.journal_text.specs.declared.reader.Awaited.{Awaited as AwaitedValue};
 ghost use Rattle.journal_text.specs.declared.reader.Awaited.TheVariants as awaited;
 ghost use Rattle.journal_text.specs.declared.record.Entry.TheVariants as entries;
 ghost use Rattle.journal_text.specs.declared.record.Record.{Record as RecordValue};
+ghost use Rattle.journal_reading.specs.Streams.{GivesNone};
 ghost use Rattle.journal_check.specs.Replaying.{IsLocalTree};
 ghost use Rattle.journal_audit.specs.Inner.Judging.{IsTextProblem};
-ghost use Rattle.journal_audit.specs.Inner.Problems.{fault_problem as problem_of_fault, refusal_problem as problem_of_refusal};
+ghost use Rattle.journal_audit.specs.Inner.Problems.{refusal_problem as problem_of_refusal};
 ghost use Rattle.journal_audit.specs.Inner.Tallies.{IsTally};
-ghost use Rattle.journal_audit.specs.Inner.Stages.{IsJudged, IsReplayed, StageIs, TakenSays};
+ghost use Rattle.journal_audit.specs.Inner.Stages.{GatheredOn, IsJudged, IsReplayed, JudgedOn, JudgedSome, StageIs, TakenSays, unless_fault};
 ghost use Rattle.journal_audit.specs.declared.problem.AuditProblem.TheVariants.{NoMemory as Wanting};
 ghost use Rattle.cover_decompose.specs.Limits.{most_pins};
 
-use crate::expecting::expect_piece;
+use crate::expecting::expect_hits;
 use crate::problem::AuditProblem;
 use crate::stage::Stage;
 use crate::tally::Tally;
 use cover_decompose::DecomposeRefusal;
 use journal_check::{JournalRefusal, Replay, Why, records_replay, replays_accept};
-use journal_text::{Entry, JournalFault, JournalReader, Record, cuts_agree};
+use journal_reading::{JournalFault, JournalReader, cuts_agree, gather, places_tell};
+use journal_text::{Entry, Record};
 use rm_base::NoMemory;
 use rm_model::RankedModel;
 use std::alloc::Global;
@@ -43,19 +45,6 @@ fn refusal_problem(refusal: JournalRefusal) -> AuditProblem
         | Why::FaultMissing { .. }
         | Why::RecordExtra
         | Why::NotTidy { .. } => AuditProblem::Refused { refusal },
-    }
-}
-
-// A fault of the text, or want of memory.
-fn fault_problem(fault: JournalFault) -> AuditProblem
-    ensures { result ≡ problem_of_fault fault }
-{
-    match fault {
-        JournalFault::NoMemory => AuditProblem::NoMemory,
-        JournalFault::BadHeader { .. }
-        | JournalFault::BadRecord { .. }
-        | JournalFault::Truncated { .. }
-        | JournalFault::AfterEnd { .. } => AuditProblem::Text { fault },
     }
 }
 
@@ -125,7 +114,7 @@ fn stage_after_entry(
     requires sources { length (source_names model.now) ≤ 1024 }
     requires observed { length (observed_names model.now) ≤ 4096 }
     requires few { decomposed model.now ≤ most_pins }
-    requires valid { IsEntry entry.now }
+    requires valid { IsWritable entry.now }
     requires stage { (budget : ℕ) × ((records : List RecordValue) × ((a : AwaitedValue) × (StageIs model.now budget records a stage × ((comes a entry.now ≡ true) × (length records ≤ 2 ^ 62))))) }
     ensures { (budget : ℕ) (records : List RecordValue) (a : AwaitedValue) → StageIs model.now budget records a stage → comes a entry.now ≡ true → TakenSays model.now budget records entry.now result }
 {
@@ -144,12 +133,12 @@ fn stage_after_entry(
     }
 }
 
-// Judges all entries whose lines are whole.
-fn judge_entries(
+// Judges the entries, one after another.
+fn judge_all(
     alloc: Global,
     model: &RankedModel,
-    reader: &mut JournalReader,
     stage: Stage,
+    entries: &[Entry],
 ) -> Result<Stage, AuditProblem>
     requires formed { IsWellFormed model.now }
     requires ranked { first_without_rank model.now ≡ None }
@@ -157,29 +146,68 @@ fn judge_entries(
     requires sources { length (source_names model.now) ≤ 1024 }
     requires observed { length (observed_names model.now) ≤ 4096 }
     requires few { decomposed model.now ≤ most_pins }
-    requires judged { (text : List ℕ) × IsJudged model.now text reader.old stage }
-    ensures judged { (text : List ℕ) → IsJudged model.now text reader.old stage → IfOk result (λ after. IsJudged model.now text reader.new after) }
-    ensures none { OnOk result (GivesNone reader.new) }
-    ensures problem { (text more : List ℕ) → IsJudged model.now text reader.old stage → IfErr result (λ problem. IsTextProblem model.now (text ++ more) problem) }
+    requires judged { JudgedSome model.now stage entries.now }
+    ensures { JudgedOn model.now stage entries.now result }
 {
     cuts_agree();
+    places_tell();
     let mut stage = stage;
-    loop {
-        match reader.next() {
-            Ok(Some(entry)) => stage = stage_after_entry(alloc, model, stage, &entry)?,
-            Ok(None) => return Ok(stage),
-            Err(fault) => return Err(fault_problem(fault)),
-        }
+    for entry in entries {
+        stage = stage_after_entry(alloc, model, stage, entry)?;
+    }
+    Ok(stage)
+}
+
+// The problem, in place of the stage.
+fn give_up(stage: Stage, problem: AuditProblem) -> Result<Stage, AuditProblem>
+    ensures { result ≡ Err problem }
+{
+    let _stage = stage;
+    Err(problem)
+}
+
+// The stage, unless there is a fault.
+fn unless_broken(stage: Stage, fault: Option<JournalFault>) -> Result<Stage, AuditProblem>
+    ensures { result ≡ unless_fault stage fault }
+{
+    match fault {
+        Some(fault) => give_up(stage, AuditProblem::Text { fault }),
+        None => Ok(stage),
     }
 }
 
-/// Judges all entries whose lines are whole, of which the piece has the last. The vectors of its hits are made known first.
-pub(crate) fn judge_piece(
+// Judges entries, and then the fault behind them if there is one.
+fn judge_gathered(
+    alloc: Global,
+    model: &RankedModel,
+    stage: Stage,
+    entries: &[Entry],
+    fault: Option<JournalFault>,
+) -> Result<Stage, AuditProblem>
+    requires formed { IsWellFormed model.now }
+    requires ranked { first_without_rank model.now ≡ None }
+    requires covers { length model.now.covers < 2 ^ 32 }
+    requires sources { length (source_names model.now) ≤ 1024 }
+    requires observed { length (observed_names model.now) ≤ 4096 }
+    requires few { decomposed model.now ≤ most_pins }
+    requires judged { JudgedSome model.now stage entries.now }
+    ensures { GatheredOn model.now stage entries.now fault result }
+{
+    cuts_agree();
+    places_tell();
+    let stage = expect_hits(alloc, stage, entries);
+    match judge_all(alloc, model, stage, entries) {
+        Ok(stage) => unless_broken(stage, fault),
+        Err(problem) => Err(problem),
+    }
+}
+
+/// Judges all entries that are whole. The vectors of their hits are made known first.
+pub(crate) fn judge_entries(
     alloc: Global,
     model: &RankedModel,
     reader: &mut JournalReader,
     stage: Stage,
-    piece: &[u8],
 ) -> Result<Stage, AuditProblem>
     requires formed { IsWellFormed model.now }
     requires ranked { first_without_rank model.now ≡ None }
@@ -188,10 +216,17 @@ pub(crate) fn judge_piece(
     requires observed { length (observed_names model.now) ≤ 4096 }
     requires few { decomposed model.now ≤ most_pins }
     requires judged { (text : List ℕ) × IsJudged model.now text reader.old stage }
-    ensures judged { (text : List ℕ) → IsJudged model.now text reader.old stage → IfOk result (λ after. IsJudged model.now text reader.new after) }
-    ensures none { OnOk result (GivesNone reader.new) }
+    ensures judged { (text : List ℕ) → IsJudged model.now text reader.old stage → IfOk result (λ after. IsJudged model.now text reader.new after × GivesNone reader.new) }
     ensures problem { (text more : List ℕ) → IsJudged model.now text reader.old stage → IfErr result (λ problem. IsTextProblem model.now (text ++ more) problem) }
 {
-    let stage = expect_piece(alloc, stage, piece);
-    judge_entries(alloc, model, reader, stage)
+    match gather(alloc, reader) {
+        Ok(gathered) => judge_gathered(
+            alloc,
+            model,
+            stage,
+            gathered.entries.as_slice(),
+            gathered.fault,
+        ),
+        Err(NoMemory) => give_up(stage, AuditProblem::NoMemory),
+    }
 }

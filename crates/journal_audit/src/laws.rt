@@ -2,13 +2,12 @@
 ghost use Rattle.journal_audit.specs.Audited.{LongJournalsTell, ProblemsExclude};
 
 use journal_check::{records_replay, replays_accept};
-use journal_text::{journals_are_one, lines_read};
+use journal_reading::journals_are_one;
 
 /// Files that have a problem don't pass: a journal is accepted or has one first fault or refusal, never both.
 pub fn problems_exclude()
     ensures { ProblemsExclude }
 {
-    lines_read();
     journals_are_one();
     records_replay();
     replays_accept();
@@ -18,7 +17,6 @@ pub fn problems_exclude()
 pub fn long_journals_tell()
     ensures { LongJournalsTell }
 {
-    lines_read();
     journals_are_one();
     records_replay();
     replays_accept();

@@ -1,10 +1,10 @@
 // The lines that say why an audit isn't passed.
 ghost use Rattle.std.specs.Prelude.{◌≡◌, ◌++◌, IfOk, OnOk};
-ghost use Rattle.journal_audit.specs.Lines.{bit, check_word as word_of_check, edit_word as word_of_edit, fault_line as line_of_fault, fault_word as word_of_fault, item_in, line_in, netlist_line as line_of_netlist, number, refusal_line as line_of_refusal, why_words};
+ghost use Rattle.journal_audit.specs.Lines.{bit, check_word as word_of_check, edit_word as word_of_edit, fault_line as line_of_fault, fault_word as word_of_fault, item_in, netlist_line as line_of_netlist, number, number_in, place_word as word_of_place, refusal_line as line_of_refusal, version_word as word_of_version, why_words};
 
 use itoa::Buffer;
 use journal_check::{JournalRefusal, Why};
-use journal_text::JournalFault;
+use journal_reading::{JournalFault, Version};
 use refutation_check::CheckRefusal;
 use rm_base::{Fault, NoMemory};
 use std::alloc::Global;
@@ -62,15 +62,36 @@ fn fault_word(fault: JournalFault) -> &'static str
     }
 }
 
-fn line_of(fault: JournalFault) -> u64
-    ensures { result ≡ line_in fault }
+fn number_of(fault: JournalFault) -> u64
+    ensures { result ≡ number_in fault }
 {
     match fault {
-        JournalFault::BadHeader { line } => line,
-        JournalFault::BadRecord { line } => line,
-        JournalFault::Truncated { line } => line,
-        JournalFault::AfterEnd { line } => line,
+        JournalFault::BadHeader { number, .. } => number,
+        JournalFault::BadRecord { number, .. } => number,
+        JournalFault::Truncated { number, .. } => number,
+        JournalFault::AfterEnd { number, .. } => number,
         JournalFault::NoMemory => 0,
+    }
+}
+
+fn version_word(version: Version) -> &'static str
+    ensures { result.now ≡ word_of_version version }
+{
+    match version {
+        Version::One => "line",
+        Version::Two => "entry",
+    }
+}
+
+fn place_word(fault: JournalFault) -> &'static str
+    ensures { result.now ≡ word_of_place fault }
+{
+    match fault {
+        JournalFault::BadHeader { version, .. } => version_word(version),
+        JournalFault::BadRecord { version, .. } => version_word(version),
+        JournalFault::Truncated { version, .. } => version_word(version),
+        JournalFault::AfterEnd { version, .. } => version_word(version),
+        JournalFault::NoMemory => version_word(Version::One),
     }
 }
 
@@ -148,12 +169,13 @@ pub fn refusal_line(alloc: Global, refusal: &JournalRefusal) -> Result<Vec<u8>, 
     Ok(line)
 }
 
-/// The line of a fault of the journal's text: `journal line L KIND`.
+/// The line of a fault of the journal's text: `journal line L KIND`, or `journal entry N KIND` of version 2.
 pub fn fault_line(alloc: Global, fault: JournalFault) -> Result<Vec<u8>, NoMemory>
     ensures { IfOk result (λ line. line.items ≡ line_of_fault fault) }
 {
-    let mut line = Vec::from_slice(alloc, b"journal line")?;
-    put_number(&mut line, line_of(fault))?;
+    let mut line = Vec::from_slice(alloc, b"journal ")?;
+    put(&mut line, place_word(fault).as_bytes())?;
+    put_number(&mut line, number_of(fault))?;
     put(&mut line, b" ")?;
     put(&mut line, fault_word(fault).as_bytes())?;
     put(&mut line, b"\n")?;

@@ -4,7 +4,7 @@ ghost use Rattle.journal_audit.specs.Problems.{outside_problem};
 ghost use Rattle.journal_audit.specs.declared.problem.AuditProblem.TheVariants.{NoMemory as Wanting};
 
 use journal_check::JournalRefusal;
-use journal_text::JournalFault;
+use journal_reading::JournalFault;
 use rm_base::{NoMemory, OutsideFault};
 use std::error::Error;
 use std::fmt;

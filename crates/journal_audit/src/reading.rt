@@ -11,18 +11,18 @@ ghost use Rattle.rm_base.specs.Words.{Word};
 ghost use Rattle.rm_model.specs.declared.parts.Model.{Model as ModelValue};
 ghost use Rattle.cover_decompose.specs.Count.{decomposed};
 ghost use Rattle.gate_graph.specs.Circuit.{net_of};
-ghost use Rattle.journal_text.specs.Streams.{GivesNone};
+ghost use Rattle.journal_reading.specs.Streams.{GivesNone};
 ghost use Rattle.journal_audit.specs.Inner.Judging.{IsTextProblem};
 ghost use Rattle.journal_audit.specs.Inner.Stages.{IsJudged};
 ghost use Rattle.journal_audit.specs.Inner.Turns.{EndsAccepted, EndsWith, GivesNext, IsInside, IsOfJournal, IsOutside, IsRead, IsToldProblem, TurnSays};
 ghost use Rattle.cover_decompose.specs.Limits.{most_pins};
 
-use crate::judge::judge_piece;
+use crate::judge::judge_entries;
 use crate::problem::AuditProblem;
 use crate::stage::Stage;
 use crate::tally::Tally;
 use gate_graph::Graph;
-use journal_text::{JournalReader, cuts_agree};
+use journal_reading::{JournalReader, cuts_agree, places_tell};
 use rm_base::{NoMemory, Shelf};
 use rm_model::RankedModel;
 use std::alloc::Global;
@@ -84,6 +84,7 @@ fn last(reader: &JournalReader, stage: Stage) -> Result<Turn, AuditProblem>
     ensures problem { (m : ModelValue) (text : List ℕ) → IsJudged m text reader.now stage → IfErr result (λ problem. IsTextProblem m text problem) }
 {
     cuts_agree();
+    places_tell();
     if let Err(fault) = reader.finish() {
         return Err(AuditProblem::Text { fault });
     }
@@ -136,12 +137,12 @@ fn next_turn(
     if let Err(NoMemory) = reader.push(piece) {
         return Err(AuditProblem::NoMemory);
     }
-    let stage = judge_piece(alloc, model, reader, stage, piece)?;
+    let stage = judge_entries(alloc, model, reader, stage)?;
     let from = from + piece.len() as u64;
     Ok(Turn::GoesOn { stage, from })
 }
 
-/// Reads the journal to its end and judges each entry as soon as its line is whole: the last net, and what was read of the records.
+/// Reads the journal to its end and judges each entry as soon as it is whole: the last net, and what was read of the records.
 pub(crate) fn journal_net<S: Shelf>(
     alloc: Global,
     shelf: &mut S,

@@ -20,6 +20,7 @@ mod writing;
 
 pub use append::{Stop, append_entry};
 pub use faults::JournalFault;
+pub use items::put_items;
 pub use laws::{
     accepted_runs_are_writable, accepted_runs_keep, accepted_steps_keep, cuts_agree,
     faults_are_one, items_read, journals_are_one, lines_read, numbers_read, runs_join,

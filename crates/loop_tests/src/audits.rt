@@ -4,7 +4,7 @@ use crate::worked::{
 };
 use journal_audit::{AuditProblem, audit, fault_line, netlist_line, refusal_line};
 use journal_check::{JournalRefusal, Why};
-use journal_text::JournalFault;
+use journal_reading::{JournalFault, Version};
 use refutation_check::CheckRefusal;
 use rm_base::{Fault, MemoryShelf, NodeId};
 use rm_model::NameKeys;
@@ -73,11 +73,21 @@ fn changed_journals_are_refused(rt: HostRuntime) -> Result<(), Fail> {
             "add 9 2 !0",
             refusal_at(1, Why::Tree(CheckRefusal::NotClash { item: 1 })),
         ),
-        ("end\n", "", faulty(JournalFault::Truncated { line: 21 })),
+        (
+            "end\n",
+            "",
+            faulty(JournalFault::Truncated {
+                version: Version::One,
+                number: 21,
+            }),
+        ),
         (
             "end\n",
             "end\nx\n",
-            faulty(JournalFault::AfterEnd { line: 22 }),
+            faulty(JournalFault::AfterEnd {
+                version: Version::One,
+                number: 22,
+            }),
         ),
         (
             "hit 8 0 0 1101",
@@ -87,7 +97,10 @@ fn changed_journals_are_refused(rt: HostRuntime) -> Result<(), Fail> {
         (
             "rambo 1",
             "rambo 2",
-            faulty(JournalFault::BadHeader { line: 1 }),
+            faulty(JournalFault::BadHeader {
+                version: Version::One,
+                number: 1,
+            }),
         ),
     ];
     for (old, new, wanted) in rows {
@@ -171,10 +184,19 @@ fn other_journals_are_refused(rt: HostRuntime) -> Result<(), Fail> {
 }
 
 const FAULTY: [(&'static str, JournalFault); 2] = [
-    ("rambo 2 256\nend\n", JournalFault::BadHeader { line: 1 }),
+    (
+        "rambo 2 256\nend\n",
+        JournalFault::BadHeader {
+            version: Version::One,
+            number: 1,
+        },
+    ),
     (
         "rambo 1 256\nfix 06 0 1 .\nend\n",
-        JournalFault::BadRecord { line: 2 },
+        JournalFault::BadRecord {
+            version: Version::One,
+            number: 2,
+        },
     ),
 ];
 
@@ -278,7 +300,13 @@ fn lines_say_why(rt: HostRuntime) -> Result<(), Fail> {
         let wanted = format!(in alloc; "journal record 10 {words}\n")?;
         assert_eq!(rt; line.as_slice(), wanted.as_bytes());
     }
-    let line = fault_line(alloc, JournalFault::Truncated { line: 21 })?;
+    let line = fault_line(
+        alloc,
+        JournalFault::Truncated {
+            version: Version::One,
+            number: 21,
+        },
+    )?;
     assert_eq!(rt; line.as_slice(), b"journal line 21 Truncated\n".as_slice());
     let line = netlist_line(alloc, 8)?;
     assert_eq!(rt; line.as_slice(), b"netlist 8\n".as_slice());

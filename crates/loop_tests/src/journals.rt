@@ -2,6 +2,7 @@
 ghost use Rattle.std.specs.Prelude.{◌<◌};
 
 mod appending;
+mod binary;
 mod entries;
 mod faults;
 

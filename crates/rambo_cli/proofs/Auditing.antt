@@ -18,7 +18,7 @@ use Rattle.rambo_cli.specs.Inner.Problems.{ModelCause}
 use Rattle.rambo_cli.specs.Written.{Exceeds, IsSaid}
 use Rattle.rambo_cli.specs.Inner.Written.{IsUsable}
 use Rattle.rambo_cli.specs.declared.problem.Problem.{Problem}
-use Rattle.rambo_cli.specs.declared.problem.Problem.TheVariants.{Fault, Journal, Limit, Memory, Missing, Netlist, Record, Text, Words}
+use Rattle.rambo_cli.specs.declared.problem.Problem.TheVariants.{Fault, Journal, Limit, Memory, Missing, Netlist, Second, Unlike, Record, Text, Words}
 use Rattle.rm_base.specs.Words.{Word}
 
 audited : (found : AuditProblem) (m : Model) (input journal output : Word) (files : Option Files) → IfSome files (λ told. Holds told input (λ text. IsSaid text m)) → decomposed m ≤ 65536
@@ -26,7 +26,7 @@ audited : (found : AuditProblem) (m : Model) (input journal output : Word) (file
 audited found m input journal output None said few problem = tt
 audited found m input journal output (Some told) said few problem = (m, (said, (few, problem)))
 
-some_and : (files : Option Files) (P : Files → Type 0) → IsSome files → IfSome files P → IsSomeAnd files P
+pub some_and : (files : Option Files) (P : Files → Type 0) → IsSome files → IfSome files P → IsSomeAnd files P
 some_and None P some p = absurd cc
 some_and (Some told) P some p = p
 
@@ -56,6 +56,8 @@ read_in_check input journal output files before now Missing h = inl h
 read_in_check input journal output files before now (Journal f) h = absurd h
 read_in_check input journal output files before now (Record r) h = absurd h
 read_in_check input journal output files before now (Netlist byte) h = absurd h
+read_in_check input journal output files before now (Second found) h = absurd h
+read_in_check input journal output files before now (Unlike list at) h = absurd h
 
 -- and a passed audit is what `check` says
 pub audit_passed : (tell : PassedAuditsTell) (m : Model) (input journal output : Word) (count : ℕ) (files : Option Files) → IsUsable m → IfSome files (λ told. Holds told input (λ text. IsSaid text m)) → decomposed m ≤ 65536
@@ -79,3 +81,5 @@ too_many m input files before now Missing said cause = absurd cause
 too_many m input files before now (Journal fault) said cause = absurd cause
 too_many m input files before now (Record refusal) said cause = absurd cause
 too_many m input files before now (Netlist byte) said cause = absurd cause
+too_many m input files before now (Second found) said cause = absurd cause
+too_many m input files before now (Unlike list at) said cause = absurd cause

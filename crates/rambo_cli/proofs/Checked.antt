@@ -57,7 +57,7 @@ module _ (input output journal : Word) (apart : (input ≢ output) × ((input �
   accepted = record {
     budget = settings.budget;
     records = w.result.steps ++ w.result.verdicts;
-    journal = record { valid = w.result.valid; is = w.result.recorded };
+    journal = inl (record { valid = w.result.valid; is = w.result.recorded });
     accepted = w.result.accepted;
     counts = refl;
   }

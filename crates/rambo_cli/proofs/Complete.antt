@@ -17,19 +17,22 @@ use Rattle.cover_decompose.specs.Count.{decomposed}
 use Rattle.journal_audit.specs.Audited.{ProblemsExclude, IsProblem, IsOfFiles}
 use Rattle.journal_audit.specs.declared.problem.AuditProblem.{AuditProblem}
 use Rattle.journal_audit.specs.declared.problem.AuditProblem.TheVariants as audit
-use Rattle.word_reading.specs.Words.{Asked, opt, check, demo, flat, tests}
+use Rattle.journal_text.specs.Cutting.{JournalsAreOne}
+use Rattle.word_reading.specs.Words.{Asked, opt, check, demo, flat, tests, replay, convert, equal}
 use Rattle.rambo_cli.specs.Check.{AreThere, Audited, CheckFinds, HasPassed}
 use Rattle.rambo_cli.specs.Commands.{contract_of}
-use Rattle.rambo_cli.specs.Contract.{Caused, Contract, IsCause, StoreFails}
+use Rattle.rambo_cli.proofs.ConvertedFiles.{convert_finds_none}
+use Rattle.rambo_cli.specs.Contract.{Contract, IsCause, StoreFails}
 use Rattle.rambo_cli.specs.Files.{Holds}
 use Rattle.rambo_cli.specs.Flat.{CanBeFlattened, ExceedsFlat, FlatFinds, HasFlatFault}
 use Rattle.rambo_cli.specs.Input.{CanBeOptimised, ReadFinds}
 use Rattle.rambo_cli.specs.Problems.{status_of}
+use Rattle.rambo_cli.specs.Replay.{CanBeReplayed, ReplayFinds}
 use Rattle.rambo_cli.specs.Inner.Complete.{GoodRunsAreDone, IsOutsideOf, JudgedRunsAreTold}
 use Rattle.rambo_cli.specs.Inner.Problems.{IsReported, HasEnded}
 use Rattle.rambo_cli.specs.Written.{Exceeds, HasFault, IsSaid}
 use Rattle.rambo_cli.specs.declared.problem.Problem.{Problem}
-use Rattle.rambo_cli.specs.declared.problem.Problem.TheVariants.{Words, Text, Limit, Missing, Fault, Journal, Record, Netlist, Memory}
+use Rattle.rambo_cli.specs.declared.problem.Problem.TheVariants.{Words, Text, Limit, Missing, Fault, Journal, Record, Netlist, Second, Unlike, Memory}
 use Rattle.rm_base.specs.Words.{Word}
 
 -- of one file two facts hold together
@@ -71,6 +74,8 @@ read_finds_none input told Words good h = h
 read_finds_none input told (Journal f) good h = h
 read_finds_none input told (Record r) good h = h
 read_finds_none input told (Netlist byte) good h = h
+read_finds_none input told (Second found) good h = h
+read_finds_none input told (Unlike list at) good h = h
 
 -- nor of one that can be flattened
 flat_finds_none : (input : Word) (told : Files) (problem : Problem) → Holds told input CanBeFlattened → FlatFinds input (Some told) problem → ⊥
@@ -90,6 +95,28 @@ flat_finds_none input told Words good h = h
 flat_finds_none input told (Journal f) good h = h
 flat_finds_none input told (Record r) good h = h
 flat_finds_none input told (Netlist byte) good h = h
+flat_finds_none input told (Second found) good h = h
+flat_finds_none input told (Unlike list at) good h = h
+
+-- nor where the journal is there beside it
+replay_finds_none : (input journal : Word) (told : Files) (problem : Problem) → CanBeReplayed input journal told → ReplayFinds input journal (Some told) problem → ⊥
+replay_finds_none input journal told (Text kind place) good h = read_finds_none input told (Text kind place) good.input_is h
+replay_finds_none input journal told (Limit quantity count) good h = elim h [
+  | inl read ↦ read_finds_none input told (Limit quantity count) good.input_is read
+  | inr long ↦ together (file_of told journal) (λ text. length text ≤ 2 ^ 62) (λ text. 2 ^ 62 < length text) good.journal_is long.1 (λ text few many. omega (arith, few, many))
+]
+replay_finds_none input journal told Missing good h = elim h [
+  | inl read ↦ read_finds_none input told Missing good.input_is read
+  | inr absent ↦ present (file_of told journal) (λ text. length text ≤ 2 ^ 62) good.journal_is absent
+]
+replay_finds_none input journal told Fault good h = h
+replay_finds_none input journal told Memory good h = h
+replay_finds_none input journal told Words good h = h
+replay_finds_none input journal told (Journal f) good h = h
+replay_finds_none input journal told (Record r) good h = h
+replay_finds_none input journal told (Netlist byte) good h = h
+replay_finds_none input journal told (Second found) good h = h
+replay_finds_none input journal told (Unlike list at) good h = h
 
 -- where nothing is found, what keeps a run from its end is of the outside
 outside_alone : (c : Contract) (files : Option Files) (m n : ℕ) (problem : Problem) → (c.Finds files problem → ⊥) → IsCause c files m n problem → IsOutsideOf c m n problem
@@ -102,6 +129,8 @@ outside_alone c files m n Missing none h = absurd (none h)
 outside_alone c files m n (Journal f) none h = absurd (none h)
 outside_alone c files m n (Record r) none h = absurd (none h)
 outside_alone c files m n (Netlist byte) none h = absurd (none h)
+outside_alone c files m n (Second found) none h = absurd (none h)
+outside_alone c files m n (Unlike list at) none h = absurd (none h)
 
 module _ (once : ReadsOnce) where
   pub said_good : (model : Model) (text : List ℕ) → decomposed model ≤ 65536 → IsSaid text model → CanBeOptimised text
@@ -147,23 +176,32 @@ module _ (once : ReadsOnce) (exclude : ProblemsExclude) where
       go (Journal x) f = no_problem input journal output told count (audit.Text x) passed tt f
       go (Record r) f = no_problem input journal output told count (audit.Refused r) passed tt f
       go (Netlist byte) f = no_problem input journal output told count (audit.Netlist byte) passed tt f
+      go (Second found) f = f
+      go (Unlike list at) f = f
 
-  pub good_runs_are_done : GoodRunsAreDone
-  good_runs_are_done None files m n problem good h = absurd good
-  good_runs_are_done (Some (opt input output journal settings)) None m n problem good h = absurd good
-  good_runs_are_done (Some (opt input output journal settings)) (Some told) m n problem good h =
+  pub good_runs_are_done : JournalsAreOne → GoodRunsAreDone
+  good_runs_are_done ones None files m n problem good h = absurd good
+  good_runs_are_done ones (Some (opt input output journal settings)) None m n problem good h = absurd good
+  good_runs_are_done ones (Some (opt input output journal settings)) (Some told) m n problem good h =
       outside_alone (contract_of (Some (opt input output journal settings))) (Some told) m n problem (read_finds_none input told problem good) h
-  good_runs_are_done (Some (check input journal output)) None m n problem good h = absurd good
-  good_runs_are_done (Some (check input journal output)) (Some told) m n problem good h =
+  good_runs_are_done ones (Some (check input journal output)) None m n problem good h = absurd good
+  good_runs_are_done ones (Some (check input journal output)) (Some told) m n problem good h =
       outside_alone (contract_of (Some (check input journal output))) (Some told) m n problem (check_finds_none input journal output told good.0 problem good.1) h
-  good_runs_are_done (Some (demo seed settings)) files m n problem good h =
+  good_runs_are_done ones (Some (demo seed settings)) files m n problem good h =
       outside_alone (contract_of (Some (demo seed settings))) files m n problem (λ (x : ⊥). x) h
-  good_runs_are_done (Some (flat input output)) None m n problem good h = absurd good
-  good_runs_are_done (Some (flat input output)) (Some told) m n problem good h =
+  good_runs_are_done ones (Some (flat input output)) None m n problem good h = absurd good
+  good_runs_are_done ones (Some (flat input output)) (Some told) m n problem good h =
       outside_alone (contract_of (Some (flat input output))) (Some told) m n problem (flat_finds_none input told problem good) h
-  good_runs_are_done (Some (tests input journal output patterns)) None m n problem good h = absurd good
-  good_runs_are_done (Some (tests input journal output patterns)) (Some told) m n problem good h =
+  good_runs_are_done ones (Some (tests input journal output patterns)) None m n problem good h = absurd good
+  good_runs_are_done ones (Some (tests input journal output patterns)) (Some told) m n problem good h =
       outside_alone (contract_of (Some (tests input journal output patterns))) (Some told) m n problem (check_finds_none input journal output told good.0 problem good.1) h
+  good_runs_are_done ones (Some (replay input journal output)) None m n problem good h = absurd good
+  good_runs_are_done ones (Some (replay input journal output)) (Some told) m n problem good h =
+      outside_alone (contract_of (Some (replay input journal output))) (Some told) m n problem (replay_finds_none input journal told problem good) h
+  good_runs_are_done ones (Some (convert from to)) None m n problem good h = absurd good
+  good_runs_are_done ones (Some (convert from to)) (Some told) m n problem good h =
+      outside_alone (contract_of (Some (convert from to))) (Some told) m n problem (convert_finds_none ones from told problem good) h
+  good_runs_are_done ones (Some (equal first second proof settings)) files m n problem good h = absurd good
 
 held : (o : Option (List ℕ)) → IsSome o → o ≡ None → ⊥
 held None h e = cc
@@ -193,29 +231,36 @@ judged input journal output told Words there h = absurd h
 judged input journal output told (Journal f) there h = refl
 judged input journal output told (Record r) there h = refl
 judged input journal output told (Netlist byte) there h = refl
+judged input journal output told (Second found) there h = absurd h
+judged input journal output told (Unlike list at) there h = absurd h
 
-or_outside : (c : Contract) (files : Option Files) (m n : ℕ) (problem : Problem) → (c.Finds files problem → status_of problem ≡ 6) → IsCause c files m n problem → (status_of problem ≡ 6) ⊎ IsOutsideOf c m n problem
-or_outside c files m n Fault six h = inr (inr (refl, h))
-or_outside c files m n Memory six h = inr (inl refl)
-or_outside c files m n Words six h = inl (six h)
-or_outside c files m n (Text kind place) six h = inl (six h)
-or_outside c files m n (Limit quantity count) six h = inl (six h)
-or_outside c files m n Missing six h = inl (six h)
-or_outside c files m n (Journal f) six h = inl (six h)
-or_outside c files m n (Record r) six h = inl (six h)
-or_outside c files m n (Netlist byte) six h = inl (six h)
+pub or_outside : (k : ℕ) (c : Contract) (files : Option Files) (m n : ℕ) (problem : Problem) → (c.Finds files problem → status_of problem ≡ k) → IsCause c files m n problem → (status_of problem ≡ k) ⊎ IsOutsideOf c m n problem
+or_outside k c files m n Fault is h = inr (inr (refl, h))
+or_outside k c files m n Memory is h = inr (inl refl)
+or_outside k c files m n Words is h = inl (is h)
+or_outside k c files m n (Text kind place) is h = inl (is h)
+or_outside k c files m n (Limit quantity count) is h = inl (is h)
+or_outside k c files m n Missing is h = inl (is h)
+or_outside k c files m n (Journal f) is h = inl (is h)
+or_outside k c files m n (Record r) is h = inl (is h)
+or_outside k c files m n (Netlist byte) is h = inl (is h)
+or_outside k c files m n (Second found) is h = inl (is h)
+or_outside k c files m n (Unlike list at) is h = inl (is h)
 
 pub judged_runs_are_told : JudgedRunsAreTold
 judged_runs_are_told None files m n problem there h = absurd there
 judged_runs_are_told (Some (opt input output journal settings)) files m n problem there h = absurd there
 judged_runs_are_told (Some (check input journal output)) None m n problem there h = absurd there
 judged_runs_are_told (Some (check input journal output)) (Some told) m n problem there h =
-    or_outside (contract_of (Some (check input journal output))) (Some told) m n problem (judged input journal output told problem there) h
+    or_outside 6 (contract_of (Some (check input journal output))) (Some told) m n problem (judged input journal output told problem there) h
 judged_runs_are_told (Some (demo seed settings)) files m n problem there h = absurd there
 judged_runs_are_told (Some (flat input output)) files m n problem there h = absurd there
+judged_runs_are_told (Some (replay input journal output)) files m n problem there h = absurd there
+judged_runs_are_told (Some (convert from to)) files m n problem there h = absurd there
+judged_runs_are_told (Some (equal first second proof settings)) files m n problem there h = absurd there
 judged_runs_are_told (Some (tests input journal output patterns)) None m n problem there h = absurd there
 judged_runs_are_told (Some (tests input journal output patterns)) (Some told) m n problem there h =
-    or_outside (contract_of (Some (tests input journal output patterns))) (Some told) m n problem (judged input journal output told problem there) h
+    or_outside 6 (contract_of (Some (tests input journal output patterns))) (Some told) m n problem (judged input journal output told problem there) h
 
 -- so a run that reports a problem of good words and files ends with 4, where nothing outside fails
 pub reported_done : (law : GoodRunsAreDone) (may_want : Bool) (problem : Problem) (status : ℕ) (words : Option Asked) (files : Option Files) (m n : ℕ) (old new : Option (List ℕ)) (k l : ℕ) → IsReported may_want problem status old new k l → IsCause (contract_of words) files m n problem
@@ -228,10 +273,10 @@ reported_done law may_want problem status words files m n old new k l r cause go
   | inr other ↦ elim other [ inl failed ↦ absurd (sink_stands failed.1.0) | inr spent ↦ inr spent.0 ]
 ]
 
--- and one that has done its work with 0 or 4
-pub ended_done : (may_want : Bool) (text : List ℕ) (status : ℕ) (old new : Option (List ℕ)) (k l : ℕ) → HasEnded may_want text status old new k l → (Rose k l → ⊥) → (status ≡ 0) ⊎ (status ≡ 4)
-ended_done may_want text status old new k l h sink_stands = elim h [
-  | inl told ↦ inl told.0
+-- and one that has done its work with 0 or 4, where what is done has status 0
+pub ended_done : (may_want : Bool) (k : ℕ) (text : List ℕ) (status : ℕ) (old new : Option (List ℕ)) (i l : ℕ) → k ≡ 0 → HasEnded may_want k text status old new i l → (Rose i l → ⊥) → (status ≡ 0) ⊎ (status ≡ 4)
+ended_done may_want k text status old new i l zero h sink_stands = elim h [
+  | inl told ↦ inl (told.0 ∙ zero)
   | inr other ↦ elim other [ inl failed ↦ absurd (sink_stands failed.1.0) | inr spent ↦ inr spent.0 ]
 ]
 
@@ -247,8 +292,8 @@ reported_judged law may_want problem status words files m n old new k l r cause 
 ]
 
 -- and one that has done its work with 0 or 4
-pub ended_judged : (may_want : Bool) (text : List ℕ) (status : ℕ) (old new : Option (List ℕ)) (k l : ℕ) → HasEnded may_want text status old new k l → (Rose k l → ⊥) → (status ≡ 0) ⊎ ((status ≡ 6) ⊎ (status ≡ 4))
-ended_judged may_want text status old new k l h sink_stands = elim h [
-  | inl told ↦ inl told.0
+pub ended_judged : (may_want : Bool) (k : ℕ) (text : List ℕ) (status : ℕ) (old new : Option (List ℕ)) (i l : ℕ) → k ≡ 0 → HasEnded may_want k text status old new i l → (Rose i l → ⊥) → (status ≡ 0) ⊎ ((status ≡ 6) ⊎ (status ≡ 4))
+ended_judged may_want k text status old new i l zero h sink_stands = elim h [
+  | inl told ↦ inl (told.0 ∙ zero)
   | inr other ↦ elim other [ inl failed ↦ absurd (sink_stands failed.1.0) | inr spent ↦ inr (inr spent.0) ]
 ]

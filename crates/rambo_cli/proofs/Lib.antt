@@ -7,11 +7,15 @@ pub mod Tested
 pub mod Rising
 pub mod Auditing
 pub mod Writing
+pub mod Replayed
 pub mod Overlong
 pub mod Checked
 pub mod Wanting
 pub mod Limited
 pub mod FlatTexts
+pub mod ConvertedFiles
 pub mod Complete
+pub mod Comparisons
+pub mod Compared
 pub mod Patterns
 pub mod PatternFiles

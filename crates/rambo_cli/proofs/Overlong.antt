@@ -1,5 +1,5 @@
 -- `check` over files whose journal is accepted but longer than it reads.
-use Rattle.std.proofs.Common.{◌≡◌, ◌<◌, ◌≤◌, ◌^◌, ℕ, List, ap, arith, inl, inr, length, refl, subst, sym}
+use Rattle.std.proofs.Common.{◌≡◌, ◌<◌, ◌≤◌, ◌^◌, ℕ, List, ap, arith, inl, inr, length, subst, sym}
 use Rattle.std.specs.Prelude.{Option, None, Some, IsSomeAnd}
 use Rattle.rm_base.specs.Files.{Files, file_of}
 use Rattle.rm_base.specs.Words.{Word}
@@ -12,16 +12,16 @@ use Rattle.journal_audit.specs.Audited.{IsOfFiles, IsProblem, LongJournalsTell}
 use Rattle.journal_audit.specs.Judging.{IsAcceptedText}
 use Rattle.journal_audit.specs.declared.problem.AuditProblem.{AuditProblem}
 use Rattle.journal_audit.specs.declared.problem.AuditProblem.TheVariants as audit
-use Rattle.rambo_cli.proofs.Complete.{read_finds_none, said_good, same_model, together, weaker}
+use Rattle.rambo_cli.proofs.Complete.{read_finds_none, said_good, same_model, weaker}
 use Rattle.rambo_cli.specs.Check.{Audited, CheckDoes, CheckFinds, HasPassed, check_contract}
 use Rattle.rambo_cli.specs.Contract.{FindsAlone}
 use Rattle.rambo_cli.specs.Files.{Holds}
 use Rattle.rambo_cli.specs.Input.{CanBeOptimised}
 use Rattle.rambo_cli.specs.Written.{IsSaid}
 use Rattle.rambo_cli.specs.declared.work.Done.{Done}
-use Rattle.rambo_cli.specs.declared.work.Done.TheVariants.{Accepted, Flattened, Optimised, Tested}
+use Rattle.rambo_cli.specs.declared.work.Done.TheVariants.{Accepted, Converted, Differ, Equal, Flattened, Optimised, Replayed, Tested, Undecided}
 use Rattle.rambo_cli.specs.declared.problem.Problem.{Problem}
-use Rattle.rambo_cli.specs.declared.problem.Problem.TheVariants.{Words, Text, Limit, Missing, Fault, Journal, Record, Netlist, Memory}
+use Rattle.rambo_cli.specs.declared.problem.Problem.TheVariants.{Words, Text, Limit, Missing, Fault, Journal, Record, Netlist, Second, Unlike, Memory}
 
 one_text : (o : Option (List ℕ)) (text other : List ℕ) → o ≡ Some text → o ≡ Some other → other ≡ text
 one_text o text other e f = cc
@@ -61,12 +61,19 @@ module _ (once : ReadsOnce) (tell : LongJournalsTell) (input journal output : Wo
   finds (Journal x) f = absurd (differs (audit.Text x) (λ e. cc) tt f)
   finds (Record r) f = absurd (differs (audit.Refused r) (λ e. cc) tt f)
   finds (Netlist byte) f = absurd (differs (audit.Netlist byte) (λ e. cc) tt f)
+  finds (Second found) f = absurd f
+  finds (Unlike list at) f = absurd f
 
   does : (new : Option Files) (done : Done) → CheckDoes input journal output (Some told) new done → ⊥
   does new (Accepted k) h = never_passes k h
   does new (Optimised figures) h = h
   does new (Flattened instances covers) h = h
   does new (Tested counts) h = h
+  does new (Replayed steps stop) h = h
+  does new (Converted records) h = h
+  does new Equal h = h
+  does new (Differ bits) h = h
+  does new (Undecided budget) h = h
 
   pub overlong : FindsAlone (check_contract input journal output) (Some told) (Limit JournalLimit 4611686018427387905)
   overlong = record { never_done = does; alone = finds }

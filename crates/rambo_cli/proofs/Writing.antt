@@ -23,7 +23,7 @@ use Rattle.rambo_cli.specs.Opt.{BeginsToWriteFor, HasWritten, with_journal}
 use Rattle.rambo_cli.specs.Inner.Written.{BeginsRecord, IsRecorded, IsUsable}
 use Rattle.rm_base.specs.Words.{Word}
 
-told : (P : Files → Files → Type 0) (f : Files → Files) (old new : Option Files) → new ≡ option_map f old → ((files : Files) → P files (f files)) → IfTold old new P
+pub told : (P : Files → Files → Type 0) (f : Files → Files) (old new : Option Files) → new ≡ option_map f old → ((files : Files) → P files (f files)) → IfTold old new P
 told P f None new e h = tt
 told P f (Some files) new e h = subst (λ (o : Option Files). IfTold (Some files) o P) (sym e) (h files)
 

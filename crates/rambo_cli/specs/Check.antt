@@ -66,4 +66,5 @@ check_contract input journal output = record {
   needs_files = true;
   IsGood = λ files. IsSomeAnd files (λ told. (count : ℕ) × HasPassed input journal output count told);
   IsJudged = λ files. IsSomeAnd files (AreThere input journal output);
+  IsCompared = λ files. ⊥;
 }

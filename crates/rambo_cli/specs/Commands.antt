@@ -1,12 +1,15 @@
 -- The contract of what the words ask for.
 use Rattle.std.specs.Prelude.{◌≡◌, Option, None, Some, false}
-use Rattle.word_reading.specs.Words.{Asked, opt, check, demo, flat, tests}
+use Rattle.word_reading.specs.Words.{Asked, opt, check, demo, flat, tests, replay, convert, equal}
 use Rattle.rambo_cli.specs.Contract.{Contract}
 use Rattle.rambo_cli.specs.Opt.{opt_contract}
 use Rattle.rambo_cli.specs.Check.{check_contract}
 use Rattle.rambo_cli.specs.Demo.{demo_contract}
 use Rattle.rambo_cli.specs.Flat.{flat_contract}
 use Rattle.rambo_cli.specs.Tests.{tests_contract}
+use Rattle.rambo_cli.specs.Replay.{replay_contract}
+use Rattle.rambo_cli.specs.Convert.{convert_contract}
+use Rattle.rambo_cli.specs.Equal.{equal_contract}
 use Rattle.rambo_cli.specs.declared.problem.Problem.TheVariants.{Words}
 
 -- of words that ask for nothing
@@ -18,6 +21,7 @@ refused_contract = record {
   needs_files = false;
   IsGood = λ files. ⊥;
   IsJudged = λ files. ⊥;
+  IsCompared = λ files. ⊥;
 }
 
 abbrev pub contract_of : Option Asked → Contract
@@ -27,3 +31,6 @@ contract_of (Some (check input journal output)) = check_contract input journal o
 contract_of (Some (demo seed settings)) = demo_contract seed settings
 contract_of (Some (flat input output)) = flat_contract input output
 contract_of (Some (tests input journal output patterns)) = tests_contract input journal output patterns
+contract_of (Some (replay input journal output)) = replay_contract input journal output
+contract_of (Some (convert from to)) = convert_contract from to
+contract_of (Some (equal first second proof settings)) = equal_contract first second proof settings

@@ -19,6 +19,8 @@ pub record Contract : Type 1 where
   pub IsGood : Option Files → Type 0
   -- files with which nothing but the outside keeps it from status 0 or 6
   pub IsJudged : Option Files → Type 0
+  -- files with which nothing but the outside keeps it from status 0, 7, 8 or 9
+  pub IsCompared : Option Files → Type 0
 
 -- a problem of the outside: a call has failed, which the count tells, or memory ran out; or what is found of the files
 abbrev pub Caused : (Problem → Type 0) → ℕ → ℕ → Problem → Type 0

@@ -30,4 +30,5 @@ demo_contract seed settings = record {
   needs_files = false;
   IsGood = λ files. Unit {0};
   IsJudged = λ files. ⊥;
+  IsCompared = λ files. ⊥;
 }

@@ -86,4 +86,5 @@ flat_contract input output = record {
   needs_files = true;
   IsGood = λ files. IsSomeAnd files (λ told. Holds told input CanBeFlattened);
   IsJudged = λ files. ⊥;
+  IsCompared = λ files. ⊥;
 }

@@ -10,6 +10,9 @@ pub mod Opt
 pub mod Check
 pub mod Demo
 pub mod Flat
+pub mod Replay
+pub mod Convert
+pub mod Equal
 pub mod Tests
 pub mod Commands
 pub mod Problems

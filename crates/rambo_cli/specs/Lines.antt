@@ -1,5 +1,5 @@
 -- The lines that a run puts.
-use Rattle.std.specs.Prelude.{ℕ, List, [], ◌∷◌, ◌++◌, codes}
+use Rattle.std.specs.Prelude.{ℕ, List, [], ◌∷◌, ◌++◌, Option, None, Some, codes}
 use Rattle.std.specs.Fmt.{decimal}
 use Rattle.rm_base.specs.declared.numbers.Place.{Place}
 use Rattle.blif_format.specs.declared.refusal.FaultKind.{FaultKind}
@@ -7,6 +7,11 @@ use Rattle.blif_format.specs.declared.refusal.FaultKind.TheVariants.{BadByte, Op
 use Rattle.blif_format.specs.declared.refusal.Quantity.{Quantity}
 use Rattle.blif_format.specs.declared.refusal.Quantity.TheVariants.{Text, Name, Inputs, Sources, Observed, Signals, Pins, Journal, Flat}
 use Rattle.rm_base.specs.Words.{Word}
+use Rattle.journal_audit.specs.Lines.{fault_line as journal_fault_line, refusal_line}
+use Rattle.accepted_steps.specs.declared.stop.Stop.{Stop}
+use Rattle.accepted_steps.specs.declared.stop.Stop.TheVariants as stop
+use Rattle.rambo_cli.specs.declared.problem.NameList.{NameList}
+use Rattle.rambo_cli.specs.declared.problem.NameList.TheVariants.{Sources as SourceNames, Observed as ObservedNames}
 
 abbrev pub fault_word : FaultKind → Word
 fault_word BadByte = codes "BadByte"
@@ -64,6 +69,40 @@ memory_line = codes "memory" ++ 10 ∷ []
 abbrev pub flat_line : ℕ → ℕ → List ℕ
 flat_line instances covers = codes "flat " ++ (decimal instances ++ (codes " " ++ (decimal covers ++ 10 ∷ [])))
 
+-- a line about the second of two texts
+abbrev pub second_line : List ℕ → List ℕ
+second_line line = codes "second " ++ line
+
+abbrev pub list_word : NameList → Word
+list_word SourceNames = codes "sources"
+list_word ObservedNames = codes "observed"
+
+-- `unlike LIST PLACE`: where the names of two models differ first
+abbrev pub unlike_line : NameList → ℕ → List ℕ
+unlike_line list place = codes "unlike " ++ (list_word list ++ (codes " " ++ (decimal place ++ 10 ∷ [])))
+
 -- `accepted N`: how many records a journal has that is accepted
 abbrev pub accepted_line : ℕ → List ℕ
 accepted_line count = codes "accepted " ++ (decimal count ++ 10 ∷ [])
+
+-- what `check` prints of what ends the steps
+abbrev pub stop_line : Stop → List ℕ
+stop_line (stop.Text f) = journal_fault_line f
+stop_line (stop.Refused r) = refusal_line r
+
+-- `replayed R`: how many steps lead to the output; behind it, where something of the journal ends them, `stopped` and what `check`
+-- prints of that
+abbrev pub replayed_lines : ℕ → Option Stop → List ℕ
+replayed_lines count None = codes "replayed " ++ (decimal count ++ 10 ∷ [])
+replayed_lines count (Some found) = (codes "replayed " ++ (decimal count ++ 10 ∷ [])) ++ (codes "stopped " ++ stop_line found)
+
+-- `converted N`: how many records a journal has that is converted
+abbrev pub converted_line : ℕ → List ℕ
+converted_line count = codes "converted " ++ (decimal count ++ 10 ∷ [])
+
+abbrev pub equal_line : List ℕ
+equal_line = codes "equal" ++ 10 ∷ []
+
+-- `undecided BUDGET`: after so many edges of the search
+abbrev pub undecided_line : ℕ → List ℕ
+undecided_line budget = codes "undecided " ++ (decimal budget ++ 10 ∷ [])

@@ -82,4 +82,5 @@ opt_contract input output journal settings = record {
   needs_files = true;
   IsGood = λ files. IsSomeAnd files (λ told. Holds told input CanBeOptimised);
   IsJudged = λ files. ⊥;
+  IsCompared = λ files. ⊥;
 }

@@ -6,7 +6,7 @@ use Rattle.rm_base.specs.Files.{Files}
 use Rattle.word_reading.specs.Words.{Asked}
 use Rattle.rambo_cli.specs.Contract.{Contract, IsCause, StoreFails}
 use Rattle.rambo_cli.specs.Lines.{memory_line, shelf_line, words_line}
-use Rattle.rambo_cli.specs.Problems.{KeepsFiles, done_text, line_of, status_of}
+use Rattle.rambo_cli.specs.Problems.{KeepsFiles, done_status, done_text, line_of, status_of}
 use Rattle.rambo_cli.specs.declared.work.Done.{Done}
 use Rattle.rambo_cli.specs.declared.problem.Problem.{Problem}
 use Rattle.rambo_cli.specs.declared.problem.Problem.TheVariants.{Missing}
@@ -14,9 +14,9 @@ use Rattle.rambo_cli.specs.declared.problem.Problem.TheVariants.{Missing}
 abbrev pub Puts : Option (List ℕ) → Option (List ℕ) → List ℕ → Type 0
 Puts old new line = new ≡ option_map (λ w. w ++ line) old
 
--- 0: the command is done, and its line or its summary is printed
-abbrev pub EndsDone : Contract → Option Files → Option Files → Option (List ℕ) → Option (List ℕ) → Type 0
-EndsDone c old new before after = (done : Done) × (Puts before after (done_text done) × c.Does old new done)
+-- the command is done, with what has this status, and its line or its summary is printed
+abbrev pub EndsDone : ℕ → Contract → Option Files → Option Files → Option (List ℕ) → Option (List ℕ) → Type 0
+EndsDone status c old new before after = (done : Done) × ((done_status done ≡ status) × (Puts before after (done_text done) × c.Does old new done))
 
 -- a problem of this status is printed, and the command finds it of the files
 abbrev pub EndsBy : ℕ → Contract → Option Files → Option (List ℕ) → Option (List ℕ) → Type 0
@@ -51,3 +51,7 @@ abbrev pub PutsUnlessFailed : Contract → Option Files → Option Files → ℕ
 PutsUnlessFailed c files after store_before store_now old new before now =
     ((StoreFails c store_before store_now ⊎ (c.Finds files Missing × (after ≡ files))) × Puts old new shelf_line)
     ⊎ (Rose before now × ((line : List ℕ) × (MayPut c files after store_before store_now line × BeginsLine line old new)))
+
+-- the statuses of two models that are compared: the same, different, undecided, with unlike names; or memory ran out
+abbrev pub IsComparedBy : ℕ → Type 0
+IsComparedBy status = (status ≡ 0) ⊎ ((status ≡ 7) ⊎ ((status ≡ 8) ⊎ ((status ≡ 9) ⊎ (status ≡ 4))))

@@ -1,16 +1,26 @@
 -- What keeps a run from ending with 0: its line and its status; and what a run that has done its work prints.
 use Rattle.std.specs.Prelude.{◌≡◌, ℕ, List}
 use Rattle.blif_format.specs.declared.refusal.Quantity.TheVariants.{Journal as JournalLimit}
+use Rattle.file_pieces.specs.declared.PieceProblem.{PieceProblem}
+use Rattle.file_pieces.specs.declared.PieceProblem.TheVariants as piece
 use Rattle.journal_audit.specs.declared.problem.AuditProblem.{AuditProblem}
 use Rattle.journal_audit.specs.declared.problem.AuditProblem.TheVariants as audit
 use Rattle.journal_audit.specs.Lines.{fault_line as journal_fault_line, netlist_line, refusal_line}
 use Rattle.pattern_text.specs.Text.{tests_line}
 use Rattle.rambo_cli.specs.Summary.{summary_text}
-use Rattle.rambo_cli.specs.Lines.{accepted_line, fault_line, flat_line, limit_line, words_line, shelf_line, memory_line}
+use Rattle.equal_miter.specs.Proof.{differ_line}
+use Rattle.rambo_cli.specs.Lines.{accepted_line, converted_line, equal_line, fault_line, flat_line, limit_line, memory_line, replayed_lines, second_line, shelf_line, undecided_line, unlike_line, words_line}
 use Rattle.rambo_cli.specs.declared.work.Done.{Done}
-use Rattle.rambo_cli.specs.declared.work.Done.TheVariants.{Optimised, Accepted, Flattened, Tested}
+use Rattle.rambo_cli.specs.declared.work.Done.TheVariants.{Optimised, Accepted, Flattened, Tested, Replayed, Converted, Equal, Differ, Undecided}
+use Rattle.rambo_cli.specs.declared.problem.TextProblem.{TextProblem}
+use Rattle.rambo_cli.specs.declared.problem.TextProblem.TheVariants as text
 use Rattle.rambo_cli.specs.declared.problem.Problem.{Problem}
-use Rattle.rambo_cli.specs.declared.problem.Problem.TheVariants.{Words, Text, Limit, Missing, Fault, Journal, Record, Netlist, Memory}
+use Rattle.rambo_cli.specs.declared.problem.Problem.TheVariants.{Words, Text, Limit, Missing, Fault, Journal, Record, Netlist, Second, Unlike, Memory}
+
+-- the line of what is found of a text
+abbrev pub text_line : TextProblem → List ℕ
+text_line (text.Fault kind place) = fault_line kind place
+text_line (text.Limit quantity count) = limit_line quantity count
 
 abbrev pub line_of : Problem → List ℕ
 line_of Words = words_line
@@ -21,6 +31,8 @@ line_of Fault = shelf_line
 line_of (Journal f) = journal_fault_line f
 line_of (Record r) = refusal_line r
 line_of (Netlist byte) = netlist_line byte
+line_of (Second found) = second_line (text_line found)
+line_of (Unlike list place) = unlike_line list place
 line_of Memory = memory_line
 
 abbrev pub status_of : Problem → ℕ
@@ -32,6 +44,9 @@ status_of Fault = 3
 status_of (Journal f) = 6
 status_of (Record r) = 6
 status_of (Netlist byte) = 6
+status_of (Second (text.Fault kind place)) = 1
+status_of (Second (text.Limit quantity count)) = 5
+status_of (Unlike list place) = 9
 status_of Memory = 4
 
 -- the text that is printed of what a command has done
@@ -40,6 +55,23 @@ done_text (Optimised figures) = summary_text figures
 done_text (Accepted count) = accepted_line count
 done_text (Flattened instances covers) = flat_line instances covers
 done_text (Tested counts) = tests_line counts
+done_text (Replayed count stop) = replayed_lines count stop
+done_text (Converted count) = converted_line count
+done_text Equal = equal_line
+done_text (Differ bits) = differ_line bits
+done_text (Undecided budget) = undecided_line budget
+
+-- the status of a command that has decided whether two models compute the same tells which it is
+abbrev pub done_status : Done → ℕ
+done_status (Optimised figures) = 0
+done_status (Accepted count) = 0
+done_status (Flattened instances covers) = 0
+done_status (Tested counts) = 0
+done_status (Replayed count stop) = 0
+done_status (Converted count) = 0
+done_status Equal = 0
+done_status (Differ bits) = 7
+done_status (Undecided budget) = 8
 
 -- a problem of the words or of the files changes no file
 abbrev pub KeepsFiles : {A : Type 0} → Problem → A → A → Type 0
@@ -57,3 +89,10 @@ audit_problem (audit.Text f) = Journal f
 audit_problem (audit.Refused r) = Record r
 audit_problem (audit.Netlist byte) = Netlist byte
 audit_problem audit.NoMemory = Memory
+
+-- the problem that reading the steps of `replay` ends with
+abbrev pub piece_problem : PieceProblem → Problem
+piece_problem piece.Failed = Fault
+piece_problem piece.Missing = Missing
+piece_problem piece.TooLong = Limit JournalLimit 4611686018427387905
+piece_problem piece.NoMemory = Memory

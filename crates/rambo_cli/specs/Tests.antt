@@ -99,4 +99,5 @@ tests_contract input journal output patterns = record {
   needs_files = true;
   IsGood = λ files. IsSomeAnd files (λ told. (count : ℕ) × HasPassed input journal output count told);
   IsJudged = λ files. IsSomeAnd files (AreThere input journal output);
+  IsCompared = λ files. ⊥;
 }

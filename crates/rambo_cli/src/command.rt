@@ -5,11 +5,13 @@ ghost use Rattle.rm_base.specs.Causes.{Rose};
 ghost use Rattle.word_reading.specs.Words.{asked};
 ghost use Rattle.rambo_cli.specs.Commands.{contract_of};
 ghost use Rattle.rambo_cli.specs.Contract.{StoreFails};
-ghost use Rattle.rambo_cli.specs.Outcome.{EndsBy, EndsDone, EndsFaulty, EndsRefused, EndsWithoutMemory, PutsUnlessFailed};
-ghost use Rattle.rambo_cli.specs.Problems.{done_text};
+ghost use Rattle.rambo_cli.specs.Outcome.{EndsBy, EndsDone, EndsFaulty, EndsRefused, EndsWithoutMemory, IsComparedBy, PutsUnlessFailed};
+ghost use Rattle.rambo_cli.specs.Problems.{done_status, done_text};
 ghost use Rattle.rambo_cli.specs.Inner.Problems.{IsReported, IsPutWith, HasEnded};
 
-use crate::laws::{good_runs_are_done, judged_runs_are_told};
+use crate::laws::{
+    compared_runs_are_told, good_runs_are_done, judged_runs_are_told, others_end_with_0,
+};
 use crate::lines::{done_line, line};
 use crate::problem::Problem;
 use crate::work::{Done, work};
@@ -21,9 +23,9 @@ use std::thread::Threads;
 
 /// Does all that the program does, and answers its status.
 ///
-/// The words are those of `opt IN OUT [JOURNAL]`, `check IN JOURNAL OUT`, `demo SEED`, `flat IN OUT` or
-/// `tests IN JOURNAL OUT PATTERNS`, with their options. A gate lets the
-/// pieces of parallel work pass. What each command promises stands in its contract.
+/// The words are those of `opt IN OUT [JOURNAL]`, `check IN JOURNAL OUT`, `demo SEED`, `flat IN OUT`,
+/// `tests IN JOURNAL OUT PATTERNS`, `replay IN JOURNAL OUT`, `convert FROM TO` or `equal A B PROOF`, with their options.
+/// A gate lets the pieces of parallel work pass. What each command promises stands in its contract.
 pub fn run<R: Threads + Sync, S: Shelf, O: Sink, G: Gate>(
     rt: &R,
     alloc: Global,
@@ -33,10 +35,10 @@ pub fn run<R: Threads + Sync, S: Shelf, O: Sink, G: Gate>(
     out: &mut O,
     gate: &G,
 ) -> u8
-    ensures status { result ≤ 6 }
+    ensures status { result ≤ 9 }
 
     // 0: the command has done what its contract says, which is printed.
-    ensures done { result ≡ 0 → EndsDone (contract_of (asked (map string_bytes words.now))) (S.files shelf.old) (S.files shelf.new)
+    ensures done { result ≡ 0 → EndsDone 0 (contract_of (asked (map string_bytes words.now))) (S.files shelf.old) (S.files shelf.new)
         (O.written out.old) (O.written out.new) }
 
     // 1: the input has a fault, whose kind and place are printed, and no file has changed.
@@ -68,6 +70,17 @@ pub fn run<R: Threads + Sync, S: Shelf, O: Sink, G: Gate>(
         (O.written out.old) (O.written out.new) }
     ensures rejected_files { result ≡ 6 → S.files shelf.new ≡ S.files shelf.old }
 
+    // 7: the models of two texts differ. 8: a search spent its whole budget on them. Both are printed, and PROOF is written.
+    ensures differ { result ≡ 7 → EndsDone 7 (contract_of (asked (map string_bytes words.now))) (S.files shelf.old) (S.files shelf.new)
+        (O.written out.old) (O.written out.new) }
+    ensures undecided { result ≡ 8 → EndsDone 8 (contract_of (asked (map string_bytes words.now))) (S.files shelf.old) (S.files shelf.new)
+        (O.written out.old) (O.written out.new) }
+
+    // 9: the models of two texts have other sources or observed names, which is printed, and no file has changed.
+    ensures unlike { result ≡ 9 → EndsBy 9 (contract_of (asked (map string_bytes words.now))) (S.files shelf.old)
+        (O.written out.old) (O.written out.new) }
+    ensures unlike_files { result ≡ 9 → S.files shelf.new ≡ S.files shelf.old }
+
     // Whatever the status is.
     ensures safe { (contract_of (asked (map string_bytes words.now))).Leaves (S.files shelf.old) (S.files shelf.new) }
     ensures untouched { (contract_of (asked (map string_bytes words.now))).needs_files ≡ false → shelf.new ≡ shelf.old }
@@ -82,9 +95,16 @@ pub fn run<R: Threads + Sync, S: Shelf, O: Sink, G: Gate>(
     ensures judged { (contract_of (asked (map string_bytes words.now))).IsJudged (S.files shelf.old)
         → (StoreFails (contract_of (asked (map string_bytes words.now))) (S.faults shelf.old) (S.faults shelf.new) → ⊥) → (Rose (O.faults out.old) (O.faults out.new) → ⊥)
         → (result ≡ 0) ⊎ ((result ≡ 6) ⊎ (result ≡ 4)) }
+
+    // Two texts that can be optimised, and no such fault: their models are compared, or memory ran out.
+    ensures compared { (contract_of (asked (map string_bytes words.now))).IsCompared (S.files shelf.old)
+        → (StoreFails (contract_of (asked (map string_bytes words.now))) (S.faults shelf.old) (S.faults shelf.new) → ⊥) → (Rose (O.faults out.old) (O.faults out.new) → ⊥)
+        → IsComparedBy result }
 {
     good_runs_are_done();
     judged_runs_are_told();
+    compared_runs_are_told();
+    others_end_with_0();
     match work(rt, alloc, keys, words, shelf, gate) {
         Ok(done) => finish(alloc, out, &done),
         Err(problem) => report(alloc, out, problem),
@@ -104,11 +124,11 @@ fn put<O: Sink>(out: &mut O, line: &[u8], status: u8) -> u8
 
 // Puts what a command has done.
 fn finish<O: Sink>(alloc: Global, out: &mut O, done: &Done) -> u8
-    ensures ended { HasEnded O.may_want (done_text done.now) result (O.written out.old) (O.written out.new) (O.faults out.old) (O.faults out.new) }
+    ensures ended { HasEnded O.may_want (done_status done.now) (done_text done.now) result (O.written out.old) (O.written out.new) (O.faults out.old) (O.faults out.new) }
     ensures later { O.faults out.old ≤ O.faults out.new }
 {
     match done_line(alloc, done) {
-        Ok(line) => put(out, line.as_slice(), 0),
+        Ok(line) => put(out, line.as_slice(), done.status()),
         Err(_) => put(out, b"memory\n", 4),
     }
 }

@@ -1,6 +1,6 @@
 //! How the layers compose.
-ghost use Rattle.rambo_cli.specs.Inner.Complete.{GoodRunsAreDone, JudgedRunsAreTold};
-ghost use Rattle.rambo_cli.specs.Composition.{KeptNetsFit, RunsAreWritten};
+ghost use Rattle.rambo_cli.specs.Inner.Complete.{ComparedRunsAreTold, GoodRunsAreDone, JudgedRunsAreTold, OthersEndWith0};
+ghost use Rattle.rambo_cli.specs.Composition.{KeptNetsFit, ReplaysAreWritten, RunsAreWritten};
 ghost use Rattle.rambo_cli.specs.Inner.Composition.{PassedAuditsTell};
 
 use blif_format::reads_once;
@@ -11,6 +11,7 @@ use gate_net::values_exist;
 use graph_to_model::{tidy_nets_have_models, tidy_nets_have_small_models};
 use journal_audit::problems_exclude;
 use journal_check::accepted_journals_tell;
+use journal_text::journals_are_one;
 use model_faults::laws::tidy_nets_have_model_faults;
 
 /// A net that keeps what is observed of the decomposition has the sources and the observed points of the model.
@@ -27,6 +28,18 @@ pub fn runs_are_written()
     values_exist();
     tidy_nets_have_models();
     tidy_nets_have_model_faults();
+    tidy_nets_have_small_models();
+    written_texts_read();
+    read_texts_are_faultless();
+    texts_keep_limits();
+}
+
+/// The text of the net to which accepted steps lead, tidied, is what is written for them.
+pub fn replays_are_written()
+    ensures { ReplaysAreWritten }
+{
+    values_exist();
+    tidy_nets_have_models();
     tidy_nets_have_small_models();
     written_texts_read();
     read_texts_are_faultless();
@@ -50,9 +63,20 @@ pub fn good_runs_are_done()
 {
     reads_once();
     problems_exclude();
+    journals_are_one();
 }
 
 /// Where a journal and an output are there to be judged, nothing but the outside and what is found of them keeps a run from its end.
 pub fn judged_runs_are_told()
     ensures { JudgedRunsAreTold }
+{}
+
+/// Where two texts can be compared, nothing but the outside and unlike names keep a run from deciding.
+pub fn compared_runs_are_told()
+    ensures { ComparedRunsAreTold }
+{}
+
+/// What is done of good files, or of files that are judged, has status 0.
+pub fn others_end_with_0()
+    ensures { OthersEndWith0 }
 {}

@@ -4,17 +4,20 @@
 
 mod checking;
 mod command;
+mod comparing;
+mod converting;
 mod flattening;
 mod laws;
 mod lines;
 mod optimising;
 mod problem;
 mod reading;
+mod replaying;
 mod showing;
 mod summary;
 mod testing;
 mod work;
 
 pub use command::run;
-pub use laws::{kept_nets_fit, runs_are_written};
+pub use laws::{kept_nets_fit, replays_are_written, runs_are_written};
 pub use rm_model::NameKeys;

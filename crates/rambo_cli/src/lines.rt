@@ -1,12 +1,15 @@
 //! The lines that a run puts.
-ghost use Rattle.std.specs.Prelude.{◌≡◌, IfOk};
-ghost use Rattle.rambo_cli.specs.Lines.{fault_word as word_of_fault, quantity_word as word_of_quantity, accepted_line, fault_line as line_of_fault, flat_line, limit_line};
-ghost use Rattle.rambo_cli.specs.Problems.{done_text, line_of};
+ghost use Rattle.std.specs.Prelude.{◌≡◌, ◌++◌, ◌∷◌, [], IfOk, Some};
+ghost use Rattle.std.specs.Fmt.{decimal};
+ghost use Rattle.rambo_cli.specs.Lines.{fault_word as word_of_fault, list_word as word_of_list, quantity_word as word_of_quantity, fault_line as line_of_fault, flat_line, limit_line, replayed_lines, second_line, stop_line, unlike_line};
+ghost use Rattle.rambo_cli.specs.Problems.{done_text, line_of, text_line};
 
-use crate::problem::Problem;
+use crate::problem::{NameList, Problem, TextProblem};
 use crate::summary::summary;
 use crate::work::Done;
+use accepted_steps::Stop;
 use blif_format::{FaultKind, Quantity};
+use equal_miter::difference_line;
 use itoa::Buffer;
 use journal_audit::{fault_line, netlist_line, refusal_line};
 use pattern_text::tests_line;
@@ -84,6 +87,47 @@ fn limit_text(alloc: Global, quantity: Quantity, count: u64) -> Result<Vec<u8>, 
     Ok(line)
 }
 
+// The line of what is found of a text.
+fn text_line(alloc: Global, found: TextProblem) -> Result<Vec<u8>, NoMemory>
+    ensures { IfOk result (λ line. line.items ≡ text_line found) }
+{
+    match found {
+        TextProblem::Fault { kind, place } => fault_text(alloc, kind, place),
+        TextProblem::Limit { quantity, count } => limit_text(alloc, quantity, count),
+    }
+}
+
+// The line of what is found of the second text.
+fn second_text(alloc: Global, found: TextProblem) -> Result<Vec<u8>, NoMemory>
+    ensures { IfOk result (λ line. line.items ≡ second_line (text_line found)) }
+{
+    let own = text_line(alloc, found)?;
+    let mut line = Vec::from_slice(alloc, b"second ")?;
+    line.extend_from_slice(own.as_slice())?;
+    Ok(line)
+}
+
+fn list_word(list: NameList) -> &'static str
+    ensures { result.now ≡ word_of_list list }
+{
+    match list {
+        NameList::Sources => "sources",
+        NameList::Observed => "observed",
+    }
+}
+
+fn unlike_text(alloc: Global, list: NameList, at: u32) -> Result<Vec<u8>, NoMemory>
+    ensures { IfOk result (λ line. line.items ≡ unlike_line list at) }
+{
+    let mut buffer = Buffer::new();
+    let mut line = Vec::from_slice(alloc, b"unlike ")?;
+    line.extend_from_slice(list_word(list).as_bytes())?;
+    line.extend_from_slice(b" ")?;
+    line.extend_from_slice(buffer.format(at).as_bytes())?;
+    line.extend_from_slice(b"\n")?;
+    Ok(line)
+}
+
 /// The line that a problem puts.
 pub fn line(alloc: Global, problem: Problem) -> Result<Vec<u8>, NoMemory>
     ensures { IfOk result (λ line. line.items ≡ line_of problem) }
@@ -97,16 +141,18 @@ pub fn line(alloc: Global, problem: Problem) -> Result<Vec<u8>, NoMemory>
         Problem::Journal { fault } => fault_line(alloc, fault),
         Problem::Record { refusal } => refusal_line(alloc, &refusal),
         Problem::Netlist { byte } => netlist_line(alloc, byte),
+        Problem::Second { found } => second_text(alloc, found),
+        Problem::Unlike { list, at } => unlike_text(alloc, list, at),
         Problem::Memory => Ok(Vec::from_slice(alloc, b"memory\n")?),
     }
 }
 
-// The line of a journal that is accepted.
-fn accepted_text(alloc: Global, count: u64) -> Result<Vec<u8>, NoMemory>
-    ensures { IfOk result (λ line. line.items ≡ accepted_line count) }
+// A line of a label and a number.
+fn count_text(alloc: Global, label: &[u8], count: u64) -> Result<Vec<u8>, NoMemory>
+    ensures { IfOk result (λ line. line.items ≡ label.now ++ (decimal count ++ 10 ∷ [])) }
 {
     let mut buffer = Buffer::new();
-    let mut line = Vec::from_slice(alloc, b"accepted ")?;
+    let mut line = Vec::from_slice(alloc, label)?;
     line.extend_from_slice(buffer.format(count).as_bytes())?;
     line.extend_from_slice(b"\n")?;
     Ok(line)
@@ -125,14 +171,50 @@ fn flat_text(alloc: Global, instances: u32, covers: u64) -> Result<Vec<u8>, NoMe
     Ok(line)
 }
 
+// What `check` puts of what ends the steps.
+fn stop_text(alloc: Global, stop: Stop) -> Result<Vec<u8>, NoMemory>
+    ensures { IfOk result (λ line. line.items ≡ stop_line stop) }
+{
+    match stop {
+        Stop::Text { fault } => fault_line(alloc, fault),
+        Stop::Refused { refusal } => refusal_line(alloc, &refusal),
+    }
+}
+
+// The lines of steps that something of the journal ends.
+fn stopped_text(alloc: Global, count: u64, stop: Stop) -> Result<Vec<u8>, NoMemory>
+    ensures { IfOk result (λ lines. lines.items ≡ replayed_lines count (Some stop)) }
+{
+    let mut lines = count_text(alloc, b"replayed ", count)?;
+    let found = stop_text(alloc, stop)?;
+    lines.extend_from_slice(b"stopped ")?;
+    lines.extend_from_slice(found.as_slice())?;
+    Ok(lines)
+}
+
+// The lines of steps that are made, and of what ends them.
+fn replayed_text(alloc: Global, count: u64, stop: Option<Stop>) -> Result<Vec<u8>, NoMemory>
+    ensures { IfOk result (λ lines. lines.items ≡ replayed_lines count stop) }
+{
+    match stop {
+        Some(stop) => stopped_text(alloc, count, stop),
+        None => count_text(alloc, b"replayed ", count),
+    }
+}
+
 /// What a command that is done puts.
 pub fn done_line(alloc: Global, done: &Done) -> Result<Vec<u8>, NoMemory>
     ensures { IfOk result (λ line. line.items ≡ done_text done.now) }
 {
     match done {
         Done::Optimised(figures) => summary(alloc, figures),
-        Done::Accepted(count) => accepted_text(alloc, *count),
+        Done::Accepted(count) => count_text(alloc, b"accepted ", *count),
         Done::Flattened { instances, covers } => flat_text(alloc, *instances, *covers),
         Done::Tested(counts) => tests_line(alloc, counts),
+        Done::Replayed { count, stop } => replayed_text(alloc, *count, *stop),
+        Done::Converted(count) => count_text(alloc, b"converted ", *count),
+        Done::Equal => Ok(Vec::from_slice(alloc, b"equal\n")?),
+        Done::Differ(vector) => difference_line(alloc, vector),
+        Done::Undecided(budget) => count_text(alloc, b"undecided ", u64::from(*budget)),
     }
 }

@@ -1,17 +1,55 @@
 //! What keeps a run from ending with 0.
 ghost use Rattle.std.specs.Prelude.{◌≡◌};
-ghost use Rattle.rambo_cli.specs.Problems.{audit_problem, status_of};
+ghost use Rattle.rambo_cli.specs.Convert.{convert_problem, of_lines as fault_of_lines};
+ghost use Rattle.rambo_cli.specs.Problems.{audit_problem, piece_problem, status_of};
+ghost use Rattle.rambo_cli.specs.Inner.Equal.{miter_problem};
 ghost use Rattle.rambo_cli.specs.Inner.Problems.{halt_problem, outside_problem, read_problem, word_problem};
-ghost use Rattle.rambo_cli.specs.declared.problem.Problem.TheVariants.{Memory};
+ghost use Rattle.rambo_cli.specs.declared.problem.Problem.TheVariants as problem;
 
 use blif_format::{FaultKind, Quantity, ReadRefusal};
+use equal_miter::MiterRefusal;
+use file_pieces::PieceProblem;
 use journal_audit::AuditProblem;
 use journal_check::JournalRefusal;
-use journal_text::JournalFault;
+use journal_convert::ConvertProblem;
+use journal_reading::{JournalFault, Version};
+use journal_text::JournalFault as LineFault;
 use optimisation::Halt;
 use rm_base::outside::OutsideFault;
 use rm_base::{NoMemory, Place};
 use word_reading::WordFault;
+
+/// What is found of a text.
+#[derive(Clone, Copy, Debug, PartialEq, Eq)]
+pub enum TextProblem {
+    /// The text has a fault.
+    Fault { kind: FaultKind, place: Place },
+    /// Something is over its limit.
+    Limit { quantity: Quantity, count: u64 },
+}
+
+impl TextProblem {
+    fn status(&self) -> u8
+        ensures { result ≡ status_of (problem.Second self.now) }
+    {
+        match *self {
+            TextProblem::Fault { kind: _, place: _ } => 1,
+            TextProblem::Limit {
+                quantity: _,
+                count: _,
+            } => 5,
+        }
+    }
+}
+
+/// A list of names that two models have to share.
+#[derive(Clone, Copy, Debug, PartialEq, Eq)]
+pub enum NameList {
+    /// Inputs, clocks and latch outputs.
+    Sources,
+    /// Outputs, latch inputs and controls.
+    Observed,
+}
 
 #[derive(Clone, Copy, Debug, PartialEq, Eq)]
 pub enum Problem {
@@ -21,7 +59,7 @@ pub enum Problem {
     Text { kind: FaultKind, place: Place },
     /// Something is over its limit.
     Limit { quantity: Quantity, count: u64 },
-    /// The input isn't there.
+    /// A file that is to be read isn't there.
     Missing,
     /// A call of the shelf has failed.
     Fault,
@@ -31,6 +69,10 @@ pub enum Problem {
     Record { refusal: JournalRefusal },
     /// The output differs at this byte from the text of the last net.
     Netlist { byte: u64 },
+    /// This is found of the second text.
+    Second { found: TextProblem },
+    /// The lists of names of two models differ first at this place, counted from 1.
+    Unlike { list: NameList, at: u32 },
     Memory,
 }
 
@@ -51,6 +93,8 @@ impl Problem {
             Problem::Journal { fault: _ } => 6,
             Problem::Record { refusal: _ } => 6,
             Problem::Netlist { byte: _ } => 6,
+            Problem::Second { found } => found.status(),
+            Problem::Unlike { list: _, at: _ } => 9,
             Problem::Memory => 4,
         }
     }
@@ -118,6 +162,98 @@ impl From<AuditProblem> for Problem {
     }
 }
 
+impl From<PieceProblem> for Problem {
+    ghost from_gives = { λ e p. p ≡ piece_problem e };
+
+    fn from(problem: PieceProblem) -> Self {
+        match problem {
+            PieceProblem::Failed => Problem::Fault,
+            PieceProblem::Missing => Problem::Missing,
+            PieceProblem::TooLong => Problem::Limit {
+                quantity: Quantity::Journal,
+                count: 4_611_686_018_427_387_905,
+            },
+            PieceProblem::NoMemory => Problem::Memory,
+        }
+    }
+}
+
+// A fault of a journal of version 1 among those of either version.
+fn of_lines(fault: LineFault) -> JournalFault
+    ensures { result ≡ fault_of_lines fault }
+{
+    let version = Version::One;
+    match fault {
+        LineFault::BadHeader { line } => JournalFault::BadHeader {
+            version,
+            number: line,
+        },
+        LineFault::BadRecord { line } => JournalFault::BadRecord {
+            version,
+            number: line,
+        },
+        LineFault::Truncated { line } => JournalFault::Truncated {
+            version,
+            number: line,
+        },
+        LineFault::AfterEnd { line } => JournalFault::AfterEnd {
+            version,
+            number: line,
+        },
+        LineFault::NoMemory => JournalFault::NoMemory,
+    }
+}
+
+impl From<ConvertProblem> for Problem {
+    ghost from_gives = { λ e p. p ≡ convert_problem e };
+
+    fn from(problem: ConvertProblem) -> Self {
+        match problem {
+            ConvertProblem::Failed => Problem::Fault,
+            ConvertProblem::Missing => Problem::Missing,
+            ConvertProblem::TooLong => Problem::Limit {
+                quantity: Quantity::Journal,
+                count: 4_611_686_018_427_387_905,
+            },
+            ConvertProblem::Text { fault } => Problem::Journal {
+                fault: of_lines(fault),
+            },
+            ConvertProblem::NoMemory => Problem::Memory,
+        }
+    }
+}
+
+impl From<MiterRefusal> for Problem {
+    ghost from_gives = { λ e p. p ≡ miter_problem e };
+
+    fn from(refusal: MiterRefusal) -> Self {
+        match refusal {
+            MiterRefusal::UnlikeSources { at } => Problem::Unlike {
+                list: NameList::Sources,
+                at,
+            },
+            MiterRefusal::UnlikeObserved { at } => Problem::Unlike {
+                list: NameList::Observed,
+                at,
+            },
+            MiterRefusal::Limit {
+                second: false,
+                pins,
+            } => Problem::Limit {
+                quantity: Quantity::Pins,
+                count: pins,
+            },
+            MiterRefusal::Limit { second: true, pins } => Problem::Second {
+                found: TextProblem::Limit {
+                    quantity: Quantity::Pins,
+                    count: pins,
+                },
+            },
+            MiterRefusal::NoMemory => Problem::Memory,
+        }
+    }
+}
+
 impl From<WordFault> for Problem {
     ghost from_gives = { λ e p. p ≡ word_problem e };
 
@@ -130,7 +266,7 @@ impl From<WordFault> for Problem {
 }
 
 impl From<NoMemory> for Problem {
-    ghost from_gives = { λ _ p. p ≡ Memory };
+    ghost from_gives = { λ _ p. p ≡ problem.Memory };
 
     fn from(_: NoMemory) -> Self {
         Problem::Memory

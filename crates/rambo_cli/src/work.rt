@@ -4,25 +4,29 @@ ghost use Rattle.std.specs.String.{string_bytes};
 ghost use Rattle.word_reading.specs.Words.{asked};
 ghost use Rattle.rambo_cli.specs.Commands.{contract_of};
 ghost use Rattle.rambo_cli.specs.Contract.{IsCause};
-ghost use Rattle.rambo_cli.specs.Problems.{KeepsFiles};
+ghost use Rattle.rambo_cli.specs.Problems.{KeepsFiles, done_status};
 
 use crate::checking::check;
+use crate::comparing::{EqualNames, compare};
+use crate::converting::convert_file;
 use crate::flattening::flatten_input;
 use crate::optimising::{Names, optimise_input};
 use crate::problem::Problem;
+use crate::replaying::replay_journal;
 use crate::showing::show;
 use crate::testing::{TestNames, write_tests};
+use accepted_steps::Stop;
 use optimisation::Figures;
 use pattern_text::Counts;
-use rm_base::Gate;
 use rm_base::outside::Shelf;
+use rm_base::{Gate, Vector};
 use rm_model::NameKeys;
 use std::alloc::Global;
 use std::thread::Threads;
 use word_reading::{Command, read_words};
 
 /// What a command has done.
-#[derive(Clone, Copy, Debug)]
+#[derive(Debug, Drop)]
 pub enum Done {
     /// `opt` and `demo`: the figures of the run.
     Optimised(Figures),
@@ -32,6 +36,38 @@ pub enum Done {
     Flattened { instances: u32, covers: u64 },
     /// `tests`: so many patterns are written, and how many faults they detect.
     Tested(Counts),
+    /// `replay`: so many steps lead to the output, and what of the journal ends its accepted steps.
+    Replayed { count: u64, stop: Option<Stop> },
+    /// `convert`: the journal is written in version 2, with so many records.
+    Converted(u64),
+    /// `equal`: the models compute the same.
+    Equal,
+    /// `equal`: the models differ under these values of the sources.
+    Differ(Vector),
+    /// `equal`: the search entered so many edges, as many as it may.
+    Undecided(u32),
+}
+
+impl Done {
+    /// The status of the run.
+    pub(crate) fn status(&self) -> u8
+        ensures { result ≡ done_status self.now }
+    {
+        match self {
+            Done::Optimised(_figures) => 0,
+            Done::Accepted(_count) => 0,
+            Done::Flattened {
+                instances: _,
+                covers: _,
+            } => 0,
+            Done::Tested(_counts) => 0,
+            Done::Replayed { count: _, stop: _ } => 0,
+            Done::Converted(_count) => 0,
+            Done::Equal => 0,
+            Done::Differ(_vector) => 7,
+            Done::Undecided(_budget) => 8,
+        }
+    }
 }
 
 /// Does what the words ask for.
@@ -98,6 +134,34 @@ pub(crate) fn work<R: Threads + Sync, S: Shelf, G: Gate>(
             };
             let counts = write_tests(alloc, keys, shelf, &names)?;
             Ok(Done::Tested(counts))
+        }
+        Command::Replay {
+            input,
+            journal,
+            output,
+        } => {
+            let replayed = replay_journal(alloc, keys, shelf, input, journal, output)?;
+            Ok(Done::Replayed {
+                count: replayed.count,
+                stop: replayed.stop,
+            })
+        }
+        Command::Convert { from, to } => {
+            let count = convert_file(alloc, shelf, from, to)?;
+            Ok(Done::Converted(count))
+        }
+        Command::Equal {
+            first,
+            second,
+            proof,
+            settings,
+        } => {
+            let names = EqualNames {
+                first,
+                second,
+                proof,
+            };
+            compare(alloc, keys, shelf, &names, &settings)
         }
     }
 }

@@ -1,4 +1,4 @@
-//! Tests of the calls from text to model and back: devices, words, lines, models and their decomposition.
+//! Tests of the calls from text to model and back: devices, lines, models and their decomposition.
 #![tactic(auto)]
 
 #[cfg(test)]
@@ -17,7 +17,5 @@ mod models;
 mod untidy_nets;
 #[cfg(test)]
 mod ways;
-#[cfg(test)]
-mod words;
 #[cfg(test)]
 mod writing;

@@ -8,7 +8,7 @@ use Rattle.clap.specs.Walk.{Row, Rule, Text, first_of}
 use Rattle.rm_base.specs.declared.settings.Settings.{Settings}
 use Rattle.word_reading.specs.Inner.Judged.{accepted, judged, judged_parts, rules}
 use Rattle.word_reading.specs.Inner.Commands.{command_in, has_only, made_by, names_in, number_at, settings_in, up_to_none}
-use Rattle.word_reading.specs.Words.{Asked, CommandRule, OptionRule, Part, name, setting, asked, asked_by, at_most_once, budget_rule, check_by, command_rules, demo_by, depth_rule, flat_by, given, has_keys, is_word, names, opt_by, option_rules, parts, rule_of, setting_keys, settings_of, tests_by, together, tries_rule, value_in, workers_rule}
+use Rattle.word_reading.specs.Words.{Asked, CommandRule, OptionRule, Part, name, setting, asked, asked_by, at_most_once, budget_rule, check_by, command_rules, convert_by, demo_by, depth_rule, equal_by, flat_by, given, has_keys, is_word, names, opt_by, option_rules, parts, question_keys, replay_by, rule_of, setting_keys, settings_of, tests_by, together, tries_rule, value_in, workers_rule}
 use Rattle.word_reading.proofs.Numbers.{number_in_some, number_some}
 use Rattle.word_reading.proofs.Slots.{fits, row_with, row_for}
 use Rattle.word_reading.proofs.Judging.{IsOption, IsValue, absent, once, Holds, IsFaulty, unknown_key, crowded, bad_option, bad_name, Verdict, refuses, takes, first_row, judged_is, same_text}
@@ -227,12 +227,41 @@ tests_few (a ∷ b ∷ c ∷ []) s lt = absurd (omega arith)
 tests_few (a ∷ b ∷ c ∷ d ∷ []) s lt = absurd (omega arith)
 tests_few (a ∷ b ∷ c ∷ d ∷ e ∷ ws) s lt = refl
 
+replay_few : (ws : List Text) (s : Settings) → 4 < length ws → replay_by ws s ≡ None
+replay_few [] s lt = absurd (omega arith)
+replay_few (a ∷ []) s lt = absurd (omega arith)
+replay_few (a ∷ b ∷ []) s lt = absurd (omega arith)
+replay_few (a ∷ b ∷ c ∷ []) s lt = absurd (omega arith)
+replay_few (a ∷ b ∷ c ∷ d ∷ ws) s lt = refl
+
+convert_few : (ws : List Text) (s : Settings) → 4 < length ws → convert_by ws s ≡ None
+convert_few [] s lt = absurd (omega arith)
+convert_few (a ∷ []) s lt = absurd (omega arith)
+convert_few (a ∷ b ∷ []) s lt = absurd (omega arith)
+convert_few (a ∷ b ∷ c ∷ ws) s lt = refl
+
+equal_few : (ws : List Text) (s : Settings) → 4 < length ws → equal_by ws s ≡ None
+equal_few [] s lt = absurd (omega arith)
+equal_few (a ∷ []) s lt = absurd (omega arith)
+equal_few (a ∷ b ∷ []) s lt = absurd (omega arith)
+equal_few (a ∷ b ∷ c ∷ []) s lt = absurd (omega arith)
+equal_few (a ∷ b ∷ c ∷ d ∷ ws) s lt = refl
+
+-- of two keys in front of others, what is among the two is among all
+among_first : (x y : Bool) (z : Bool) → (x || (y || false)) ≡ true → (x || (y || z)) ≡ true
+among_first true y z e = refl
+among_first false true z e = refl
+among_first false false z e = cc
+
+questions_listed : (k : Text) → IsIn question_keys k → IsIn setting_keys k
+questions_listed k e = among_first (is_word k depth_rule.key) (is_word k budget_rule.key) (list_any (is_word k) (tries_rule.key ∷ workers_rule.key ∷ [])) e
+
 are_modest : AllByRecursion IsModest command_rules
 are_modest = (
   record { few = opt_few; listed = λ k e. e },
   (
     record { few = check_few; listed = λ k e. cc },
-    (record { few = demo_few; listed = λ k e. e }, (record { few = flat_few; listed = λ k e. cc }, (record { few = tests_few; listed = λ k e. cc }, tt))),
+    (record { few = demo_few; listed = λ k e. e }, (record { few = flat_few; listed = λ k e. cc }, (record { few = tests_few; listed = λ k e. cc }, (record { few = replay_few; listed = λ k e. cc }, (record { few = convert_few; listed = λ k e. cc }, (record { few = equal_few; listed = questions_listed }, tt)))))),
   ),
 )
 

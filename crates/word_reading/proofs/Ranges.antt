@@ -10,7 +10,7 @@ use Rattle.std.proofs.lemmas.Slice.Eq.{bytes_eq-Decides}
 use Rattle.clap.proofs.WalkLemmas.{both}
 use Rattle.rm_base.specs.declared.settings.Settings.{Settings}
 use Rattle.word_reading.specs.Commands.{HasNamesApart, HasSettingsInRange, IsInRange}
-use Rattle.word_reading.specs.Words.{Asked, CommandRule, Part, are_different, asked, asked_by, at_most_once, budget_rule, check, check_by, command_rules, demo, demo_by, depth_rule, flat, flat_by, given, has_keys, is_word, names, number, opt, opt_by, parts, rule_of, settings_of, tests, tests_by, together, tries_rule, value_in, workers_rule}
+use Rattle.word_reading.specs.Words.{Asked, CommandRule, Part, are_different, asked, asked_by, at_most_once, budget_rule, check, check_by, command_rules, convert, convert_by, demo, demo_by, depth_rule, equal, equal_by, flat, flat_by, given, has_keys, is_word, names, number, opt, opt_by, parts, replay, replay_by, rule_of, settings_of, tests, tests_by, together, tries_rule, value_in, workers_rule}
 use Rattle.word_reading.specs.declared.options.TheConstants.{LEAST_BUDGET, LEAST_WORKERS, MOST_BUDGET, MOST_DEPTH, MOST_TRIES, MOST_WORKERS, USUAL_BUDGET, USUAL_DEPTH, USUAL_TRIES, USUAL_WORKERS}
 use Rattle.word_reading.proofs.Numbers.{value_of}
 use Rattle.rm_base.proofs.Public.{some_is}
@@ -145,8 +145,50 @@ tests_sound (a ∷ b ∷ c ∷ []) s range x is = cc
 tests_sound (a ∷ b ∷ c ∷ d ∷ []) s range x is = tests_made a b c d (not (list_any (is_word d) (a ∷ b ∷ c ∷ []))) refl x is
 tests_sound (a ∷ b ∷ c ∷ d ∷ e ∷ ws) s range x is = cc
 
+replay_made : (a b c : Word) (t : Bool) → are_different (a ∷ b ∷ c ∷ []) ≡ t → (x : Asked) → cond t (Some (replay a b c)) None ≡ Some x → IsSound x
+replay_made a b c true apart x is =
+    let one = both (not (is_word a b || (is_word a c || false))) (are_different (b ∷ c ∷ [])) apart in
+    let two = both (not (is_word b c || false)) true one.1 in
+    let first = differ_first a b c one.0 in
+    subst IsSound (some_is (replay a b c) x is) ((first.0, first.1, different b c two.0), tt)
+replay_made a b c false apart x is = cc
+
+replay_sound : (ws : List Word) (s : Settings) → IsInRange s → (x : Asked) → replay_by ws s ≡ Some x → IsSound x
+replay_sound [] s range x is = cc
+replay_sound (a ∷ []) s range x is = cc
+replay_sound (a ∷ b ∷ []) s range x is = cc
+replay_sound (a ∷ b ∷ c ∷ []) s range x is = replay_made a b c (are_different (a ∷ b ∷ c ∷ [])) refl x is
+replay_sound (a ∷ b ∷ c ∷ d ∷ ws) s range x is = cc
+
+convert_made : (a b : Word) (t : Bool) → are_different (a ∷ b ∷ []) ≡ t → (x : Asked) → cond t (Some (convert a b)) None ≡ Some x → IsSound x
+convert_made a b true apart x is =
+    let one = both (not (is_word a b || false)) true apart in
+    subst IsSound (some_is (convert a b) x is) (different a b one.0, tt)
+convert_made a b false apart x is = cc
+
+convert_sound : (ws : List Word) (s : Settings) → IsInRange s → (x : Asked) → convert_by ws s ≡ Some x → IsSound x
+convert_sound [] s range x is = cc
+convert_sound (a ∷ []) s range x is = cc
+convert_sound (a ∷ b ∷ []) s range x is = convert_made a b (are_different (a ∷ b ∷ [])) refl x is
+convert_sound (a ∷ b ∷ c ∷ ws) s range x is = cc
+
+equal_made : (a b c : Word) (s : Settings) → IsInRange s → (t : Bool) → are_different (a ∷ b ∷ c ∷ []) ≡ t → (x : Asked) → cond t (Some (equal a b c s)) None ≡ Some x → IsSound x
+equal_made a b c s range true apart x is =
+    let one = both (not (is_word a b || (is_word a c || false))) (are_different (b ∷ c ∷ [])) apart in
+    let two = both (not (is_word b c || false)) true one.1 in
+    let first = differ_first a b c one.0 in
+    subst IsSound (some_is (equal a b c s) x is) ((first.0, first.1, different b c two.0), range)
+equal_made a b c s range false apart x is = cc
+
+equal_sound : (ws : List Word) (s : Settings) → IsInRange s → (x : Asked) → equal_by ws s ≡ Some x → IsSound x
+equal_sound [] s range x is = cc
+equal_sound (a ∷ []) s range x is = cc
+equal_sound (a ∷ b ∷ []) s range x is = cc
+equal_sound (a ∷ b ∷ c ∷ []) s range x is = equal_made a b c s range (are_different (a ∷ b ∷ c ∷ [])) refl x is
+equal_sound (a ∷ b ∷ c ∷ d ∷ ws) s range x is = cc
+
 all_sound : AllByRecursion MakesSound command_rules
-all_sound = (opt_sound, (check_sound, (demo_sound, (flat_sound, (tests_sound, tt)))))
+all_sound = (opt_sound, (check_sound, (demo_sound, (flat_sound, (tests_sound, (replay_sound, (convert_sound, (equal_sound, tt))))))))
 
 sound_of : (w : Word) (xs : List CommandRule) → AllByRecursion MakesSound xs → (c : CommandRule) → find (λ (d : CommandRule). is_word w d.word) xs ≡ Some c → MakesSound c
 sound_of w [] all c e = cc

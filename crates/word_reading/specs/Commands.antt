@@ -2,9 +2,9 @@
 use Rattle.std.specs.Prelude.{◌≢◌, ◌≤◌, Some, None, option_map}
 use Rattle.word_reading.specs.declared.options.TheConstants.{LEAST_BUDGET, LEAST_WORKERS, MOST_BUDGET, MOST_DEPTH, MOST_TRIES, MOST_WORKERS}
 use Rattle.rm_base.specs.declared.settings.Settings.{Settings}
-use Rattle.word_reading.specs.Words.{Asked, opt, check, demo, flat, tests}
+use Rattle.word_reading.specs.Words.{Asked, opt, check, demo, flat, tests, replay, convert, equal}
 use Rattle.word_reading.specs.declared.command.Command.{Command}
-use Rattle.word_reading.specs.declared.command.Command.TheVariants.{Opt, Check, Demo, Flat, Tests}
+use Rattle.word_reading.specs.declared.command.Command.TheVariants.{Opt, Check, Demo, Flat, Tests, Replay, Convert, Equal}
 
 -- the command as a value: its names are their bytes
 abbrev pub asked_of : Command → Asked
@@ -13,8 +13,11 @@ asked_of (Check input journal output) = check input.now journal.now output.now
 asked_of (Demo seed settings) = demo seed settings
 asked_of (Flat input output) = flat input.now output.now
 asked_of (Tests input journal output patterns) = tests input.now journal.now output.now patterns.now
+asked_of (Replay input journal output) = replay input.now journal.now output.now
+asked_of (Convert from to) = convert from.now to.now
+asked_of (Equal first second proof settings) = equal first.now second.now proof.now settings
 
--- no two names of `opt` or of `flat` are alike, and the last one of `tests` is none of the others
+-- no two names of `opt`, `flat`, `replay`, `convert` or `equal` are alike, and the last one of `tests` is none of the others
 abbrev pub HasNamesApart : Asked → Type 0
 HasNamesApart (opt input output None settings) = input ≢ output
 HasNamesApart (opt input output (Some journal) settings) = (input ≢ output) × (input ≢ journal) × (output ≢ journal)
@@ -22,6 +25,9 @@ HasNamesApart (check input journal output) = Unit {0}
 HasNamesApart (demo seed settings) = Unit {0}
 HasNamesApart (flat input output) = input ≢ output
 HasNamesApart (tests input journal output patterns) = (patterns ≢ input) × (patterns ≢ journal) × (patterns ≢ output)
+HasNamesApart (replay input journal output) = (input ≢ journal) × (input ≢ output) × (journal ≢ output)
+HasNamesApart (convert from to) = from ≢ to
+HasNamesApart (equal first second proof settings) = (first ≢ second) × (first ≢ proof) × (second ≢ proof)
 
 pub record IsInRange (settings : Settings) : Type 0 where
   pub depth : settings.depth ≤ MOST_DEPTH
@@ -37,3 +43,6 @@ HasSettingsInRange (check input journal output) = Unit {0}
 HasSettingsInRange (demo seed settings) = IsInRange settings
 HasSettingsInRange (flat input output) = Unit {0}
 HasSettingsInRange (tests input journal output patterns) = Unit {0}
+HasSettingsInRange (replay input journal output) = Unit {0}
+HasSettingsInRange (convert from to) = Unit {0}
+HasSettingsInRange (equal first second proof settings) = IsInRange settings

@@ -125,6 +125,10 @@ option_rules = depth_rule ∷ budget_rule ∷ tries_rule ∷ workers_rule ∷ []
 abbrev pub setting_keys : List Word
 setting_keys = map (λ (o : OptionRule). o.key) option_rules
 
+-- the options of a question that is refuted, and else searched
+abbrev pub question_keys : List Word
+question_keys = depth_rule.key ∷ budget_rule.key ∷ []
+
 -- the value of an option
 abbrev pub value_in : List Part → OptionRule → Option ℕ
 value_in ps o = at_most_once o.least o.most o.usual (given o.key ps)
@@ -148,6 +152,9 @@ pub data Asked : Type 0 where
   demo : ℕ → Settings → Asked
   flat : Word → Word → Asked
   tests : Word → Word → Word → Word → Asked
+  replay : Word → Word → Word → Asked
+  convert : Word → Word → Asked
+  equal : Word → Word → Word → Settings → Asked
 
 -- no two of the names are alike
 abbrev pub are_different : List Word → Bool
@@ -180,6 +187,21 @@ abbrev pub tests_by : List Word → Settings → Option Asked
 tests_by (a ∷ b ∷ c ∷ d ∷ []) s = if not (list_any (is_word d) (a ∷ b ∷ c ∷ [])) then Some (tests a b c d) else None
 tests_by _ s = None
 
+-- three names, pairwise different
+abbrev pub replay_by : List Word → Settings → Option Asked
+replay_by (a ∷ b ∷ c ∷ []) s = if are_different (a ∷ b ∷ c ∷ []) then Some (replay a b c) else None
+replay_by _ s = None
+
+-- two different names
+abbrev pub convert_by : List Word → Settings → Option Asked
+convert_by (a ∷ b ∷ []) s = if are_different (a ∷ b ∷ []) then Some (convert a b) else None
+convert_by _ s = None
+
+-- three names, pairwise different
+abbrev pub equal_by : List Word → Settings → Option Asked
+equal_by (a ∷ b ∷ c ∷ []) s = if are_different (a ∷ b ∷ c ∷ []) then Some (equal a b c s) else None
+equal_by _ s = None
+
 -- the word of a command, the keys of its options, and what its names and settings ask for
 pub record CommandRule : Type 0 where
   pub word : Word
@@ -193,6 +215,9 @@ command_rules =
     ∷ record { word = codes "demo"; keys = setting_keys; made = demo_by }
     ∷ record { word = codes "flat"; keys = []; made = flat_by }
     ∷ record { word = codes "tests"; keys = []; made = tests_by }
+    ∷ record { word = codes "replay"; keys = []; made = replay_by }
+    ∷ record { word = codes "convert"; keys = []; made = convert_by }
+    ∷ record { word = codes "equal"; keys = question_keys; made = equal_by }
     ∷ []
 
 -- the command of a word

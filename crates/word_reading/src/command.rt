@@ -26,6 +26,24 @@ pub enum Command<'a> {
         output: &'a str,
         patterns: &'a str,
     },
+    /// Makes the steps of the journal that are accepted, tidies, and writes the output.
+    Replay {
+        input: &'a str,
+        journal: &'a str,
+        output: &'a str,
+    },
+    /// Writes a journal that is a text as one of bytes.
+    Convert {
+        from: &'a str,
+        to: &'a str,
+    },
+    /// Decides whether two models compute the same, and writes the proof.
+    Equal {
+        first: &'a str,
+        second: &'a str,
+        proof: &'a str,
+        settings: Settings,
+    },
     /// Makes one flat model of the input, and writes it as the output.
     Flat {
         input: &'a str,

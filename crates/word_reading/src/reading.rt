@@ -5,7 +5,7 @@ ghost use Rattle.std.specs.String.{string_bytes};
 ghost use Rattle.clap.specs.Words.{first_of, found_of, rows_of};
 ghost use Rattle.clap.specs.Words.{fault_of, matches_of};
 ghost use Rattle.word_reading.specs.Commands.{HasNamesApart, HasSettingsInRange, asked_of};
-ghost use Rattle.word_reading.specs.Words.{asked, check_by, demo_by, flat_by, is_word, number, opt_by, tests_by};
+ghost use Rattle.word_reading.specs.Words.{asked, check_by, convert_by, demo_by, equal_by, flat_by, is_word, number, opt_by, question_keys, replay_by, tests_by};
 ghost use Rattle.word_reading.specs.Inner.Commands.{command_in, has_only, names_in, number_at, settings_in, texts_of};
 ghost use Rattle.word_reading.specs.Inner.Judged.{accepted};
 ghost use Rattle.word_reading.specs.Inner.Program.{program as program_app};
@@ -62,6 +62,13 @@ fn has_no_option(given: &ArgMatches<'_>) -> bool
         && !is_given(given, "budget")
         && !is_given(given, "tries")
         && !is_given(given, "workers")
+}
+
+// Whether no option is there but those of a question that is refuted, and else searched.
+fn has_question_options(given: &ArgMatches<'_>) -> bool
+    ensures { result ≡ has_only question_keys (rows_of (found_of given.now)) }
+{
+    !is_given(given, "tries") && !is_given(given, "workers")
 }
 
 // The names of a command, in order; none stands behind one that is missing.
@@ -219,6 +226,75 @@ fn tests<'a>(names: Positionals<'a>, settings: Settings) -> Option<Command<'a>>
     })
 }
 
+fn replay<'a>(names: Positionals<'a>, settings: Settings) -> Option<Command<'a>>
+    ensures { option_map asked_of result ≡ replay_by (texts_of names.entry) settings }
+{
+    let Some(input) = names.first else {
+        return None;
+    };
+    let Some(journal) = names.second else {
+        return None;
+    };
+    let Some(output) = names.third else {
+        return None;
+    };
+    if names.fourth.is_some() {
+        return None;
+    }
+    if !differ(input, journal) || !differ(input, output) || !differ(journal, output) {
+        return None;
+    }
+    Some(Command::Replay {
+        input,
+        journal,
+        output,
+    })
+}
+
+fn convert<'a>(names: Positionals<'a>, settings: Settings) -> Option<Command<'a>>
+    ensures { option_map asked_of result ≡ convert_by (texts_of names.entry) settings }
+{
+    let Some(from) = names.first else {
+        return None;
+    };
+    let Some(to) = names.second else {
+        return None;
+    };
+    if names.third.is_some() {
+        return None;
+    }
+    if !differ(from, to) {
+        return None;
+    }
+    Some(Command::Convert { from, to })
+}
+
+fn equal<'a>(names: Positionals<'a>, settings: Settings) -> Option<Command<'a>>
+    ensures { option_map asked_of result ≡ equal_by (texts_of names.entry) settings }
+{
+    let Some(first) = names.first else {
+        return None;
+    };
+    let Some(second) = names.second else {
+        return None;
+    };
+    let Some(proof) = names.third else {
+        return None;
+    };
+    if names.fourth.is_some() {
+        return None;
+    }
+    if !differ(first, second) || !differ(first, proof) || !differ(second, proof) {
+        return None;
+    }
+    Some(Command::Equal {
+        first,
+        second,
+        proof,
+        settings,
+    })
+}
+
 fn seed(text: &str) -> Option<u64>
     ensures { result ≡ number 0 (2 ^ 64 - 1) text.now }
 {
@@ -263,6 +339,21 @@ fn command<'a>(word: &str, given: &ArgMatches<'a>) -> Option<Command<'a>>
             return None;
         }
         tests(read_positionals(given), settings(given))
+    } else if word == "replay" {
+        if !has_no_option(given) {
+            return None;
+        }
+        replay(read_positionals(given), settings(given))
+    } else if word == "convert" {
+        if !has_no_option(given) {
+            return None;
+        }
+        convert(read_positionals(given), settings(given))
+    } else if word == "equal" {
+        if !has_question_options(given) {
+            return None;
+        }
+        equal(read_positionals(given), settings(given))
     } else {
         None
     }

@@ -1,5 +1,5 @@
 -- How far a journal is judged.
-use Rattle.std.specs.Prelude.{◌≡◌, ◌≢◌, ◌⊎◌, ℕ, ◌+◌, ◌≤◌, ◌^◌, List, [], ◌++◌, length, None, Result, Ok, Err}
+use Rattle.std.specs.Prelude.{◌≡◌, ◌≢◌, ◌⊎◌, ℕ, ◌+◌, ◌≤◌, ◌^◌, List, [], ◌++◌, length, Option, Some, None, Result, Ok, Err, IfOk, IfErr}
 use Rattle.rm_model.specs.declared.parts.Model.{Model}
 use Rattle.gate_graph.specs.Circuit.{net_of}
 use Rattle.cover_decompose.specs.Decomposition.{net_of_model}
@@ -8,7 +8,10 @@ use Rattle.journal_text.specs.declared.reader.Awaited.{Awaited}
 use Rattle.journal_text.specs.declared.reader.Awaited.TheVariants as awaited
 use Rattle.journal_text.specs.declared.record.Entry.{Entry}
 use Rattle.journal_text.specs.declared.record.Entry.TheVariants as entry
-use Rattle.journal_text.specs.Streams.{IsReadTo, Pending, awaited_after, budget_with, records_of}
+use Rattle.journal_text.specs.Streams.{awaited_after, budget_with, records_of}
+use Rattle.journal_reading.specs.declared.faults.JournalFault.{JournalFault}
+use Rattle.journal_reading.specs.Streams.{Gathers, GivesAll, GivesNone, IsReadTo, Pending, awaited_of}
+use Rattle.journal_audit.specs.Inner.Judging.{IsTextProblem}
 use Rattle.journal_check.specs.Accepts.{IsAccepted}
 use Rattle.journal_check.specs.Replaying.{EndLeads, LeadOn, Leads, Position, editing, refused}
 use Rattle.journal_check.specs.declared.refusal.JournalRefusal.{JournalRefusal}
@@ -16,7 +19,7 @@ use Rattle.journal_check.specs.declared.refusal.Why.TheVariants as why
 use Rattle.journal_check.specs.Standing.{Standing}
 use Rattle.journal_audit.specs.Inner.Tallies.{IsTally}
 use Rattle.journal_audit.specs.declared.problem.AuditProblem.{AuditProblem}
-use Rattle.journal_audit.specs.declared.problem.AuditProblem.TheVariants.{NoMemory, Refused}
+use Rattle.journal_audit.specs.declared.problem.AuditProblem.TheVariants.{NoMemory, Refused, Text}
 use Rattle.journal_audit.specs.declared.stage.Stage.{Stage}
 use Rattle.journal_audit.specs.declared.stage.Stage.TheVariants.{Header, Records, Ended}
 
@@ -40,7 +43,7 @@ pub record IsJudged (m : Model) (text : List ℕ) (p : Pending) (stage : Stage) 
   pub records : List Record
   pub short : length text ≤ 2 ^ 62
   pub read : IsReadTo text budget records p
-  pub is : StageIs m budget records p.awaited stage
+  pub is : StageIs m budget records (awaited_of p) stage
 
 -- a record is refused where the records before it lead
 pub record StepRefused (m : Model) (budget : ℕ) (records : List Record) (given : Record) (refusal : JournalRefusal) : Type 0 where
@@ -71,3 +74,24 @@ IsRefusal problem P = (problem ≡ NoMemory) ⊎ ((r : JournalRefusal) × ((prob
 abbrev pub TakenSays : Model → ℕ → List Record → Entry → Result Stage AuditProblem → Type 0
 TakenSays m budget records e (Ok after) = StageIs m (budget_with budget e) (records ++ records_of e) (awaited_after e) after
 TakenSays m budget records e (Err problem) = IsRefusal problem (λ r. EntryRefused m budget records e r)
+
+-- some text is judged so far, and these entries come next
+abbrev pub JudgedSome : Model → Stage → List Entry → Type 0
+JudgedSome m stage entries = (text : List ℕ) × ((old : Pending) × ((new : Pending) × (IsJudged m text old stage × GivesAll old entries new)))
+
+-- what these entries lead to, of whatever text they come
+abbrev pub JudgedOn : Model → Stage → List Entry → Result Stage AuditProblem → Type 0
+JudgedOn m stage entries answer =
+    (text : List ℕ) (old new : Pending) → IsJudged m text old stage → GivesAll old entries new
+    → IfOk answer (λ after. IsJudged m text new after) × ((more : List ℕ) → IfErr answer (λ problem. IsTextProblem m (text ++ more) problem))
+
+-- the stage, or the fault
+abbrev pub unless_fault : Stage → Option JournalFault → Result Stage AuditProblem
+unless_fault stage None = Ok stage
+unless_fault stage (Some f) = Err (Text f)
+
+-- what the entries of a reader lead to, and the fault behind them if there is one
+abbrev pub GatheredOn : Model → Stage → List Entry → Option JournalFault → Result Stage AuditProblem → Type 0
+GatheredOn m stage entries found answer =
+    (text : List ℕ) (old new : Pending) → IsJudged m text old stage → Gathers old entries found new
+    → IfOk answer (λ after. IsJudged m text new after × GivesNone new) × ((more : List ℕ) → IfErr answer (λ problem. IsTextProblem m (text ++ more) problem))

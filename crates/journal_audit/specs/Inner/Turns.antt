@@ -5,8 +5,8 @@ use Rattle.rm_base.specs.Shelves.{GivesPiece}
 use Rattle.rm_model.specs.declared.parts.Model.{Model}
 use Rattle.gate_net.specs.Net.{Net}
 use Rattle.gate_graph.specs.Circuit.{net_of}
-use Rattle.journal_text.specs.Streams.{GivesNone, Pending}
-use Rattle.journal_text.specs.declared.faults.JournalFault.TheVariants as fault
+use Rattle.journal_reading.specs.Streams.{GivesNone, Pending}
+use Rattle.journal_reading.specs.declared.faults.JournalFault.TheVariants as fault
 use Rattle.journal_check.specs.declared.refusal.Why.TheVariants as why
 use Rattle.journal_audit.specs.Audited.{HasSaid, IsLast, JournalIs}
 use Rattle.journal_audit.specs.Judging.{IsOpen}

@@ -17,7 +17,7 @@ use Rattle.rambo_cli.specs.Flat.{ExceedsFlat, HasFlatFault}
 use Rattle.rambo_cli.specs.Written.{HasFault, Exceeds, most_pins}
 use Rattle.rambo_cli.specs.Lines.{memory_line}
 use Rattle.rambo_cli.specs.declared.problem.Problem.{Problem}
-use Rattle.rambo_cli.specs.declared.problem.Problem.TheVariants.{Words, Text, Limit, Missing, Fault, Journal, Record, Netlist, Memory}
+use Rattle.rambo_cli.specs.declared.problem.Problem.TheVariants.{Words, Text, Limit, Missing, Fault, Memory}
 use Rattle.rambo_cli.specs.Problems.{line_of, status_of}
 use Rattle.rambo_cli.specs.Outcome.{BeginsLine}
 
@@ -90,9 +90,10 @@ ModelCause m before now Fault = Rose before now
 ModelCause m before now Memory = Unit {0}
 ModelCause m before now _ = ⊥
 
--- the text is put; or the sink failed, at that text or at the line on memory; or memory ran out, which is put unless the sink wanted memory
-abbrev pub HasEnded : Bool → List ℕ → ℕ → Option (List ℕ) → Option (List ℕ) → ℕ → ℕ → Type 0
-HasEnded may_want text status old new before now =
-    ((status ≡ 0) × (new ≡ option_map (λ w. w ++ text) old))
+-- the text is put and the status answered; or the sink failed, at that text or at the line on memory; or memory ran out, which is put
+-- unless the sink wanted memory
+abbrev pub HasEnded : Bool → ℕ → List ℕ → ℕ → Option (List ℕ) → Option (List ℕ) → ℕ → ℕ → Type 0
+HasEnded may_want wanted text status old new before now =
+    ((status ≡ wanted) × (new ≡ option_map (λ w. w ++ text) old))
     ⊎ (((status ≡ 3) × (Rose before now × (BeginsLine text old new ⊎ BeginsLine memory_line old new)))
     ⊎ ((status ≡ 4) × ((new ≡ option_map (λ w. w ++ memory_line) old) ⊎ PutsNothing may_want old new)))

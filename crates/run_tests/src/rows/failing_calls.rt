@@ -1,7 +1,7 @@
 // Each call of the shelf failing in turn, and the first put of the sink.
 use super::running::{ends, hold, shelf, words};
 use super::texts::{
-    FOUR_GATES, ONE_GATE, ONE_GATE_JOURNAL, ONE_GATE_SUMMARY, WIRE_JOURNAL, WITH_A_WIRE,
+    EITHER, FOUR_GATES, ONE_GATE, ONE_GATE_JOURNAL, ONE_GATE_SUMMARY, WIRE_JOURNAL, WITH_A_WIRE,
 };
 use rambo_cli::{NameKeys, run};
 use rm_base::{MemoryShelf, MemorySink, OpenGate};
@@ -164,7 +164,7 @@ struct Put {
 }
 
 // The first put fails: half of what it was handed is there.
-const PUTS: [Put; 7] = [
+const PUTS: [Put; 8] = [
     Put {
         line: "opt in out journal",
         before: [ONE_GATE, "old", "old"],
@@ -200,6 +200,12 @@ const PUTS: [Put; 7] = [
         before: [ONE_GATE, ONE_GATE, ONE_GATE_JOURNAL],
         put: "patterns 3 faults",
         after: [ONE_GATE, ONE_GATE, ONE_GATE_JOURNAL],
+    },
+    Put {
+        line: "equal in out journal",
+        before: [ONE_GATE, EITHER, "old"],
+        put: "diffe",
+        after: [ONE_GATE, EITHER, "rambo-equal 1 256\ndiffer 10\n"],
     },
     Put {
         line: "opt in",

@@ -1,6 +1,6 @@
 // Quantities at their limits, and one over them.
 use super::running::{ends, hold, refuses, repeat_part, shelf};
-use super::texts::NO_GATES_SUMMARY;
+use super::texts::{NO_GATES_SUMMARY, ONE_GATE};
 use std::alloc::Global;
 use std::test::Fail;
 use std::thread::Threads;
@@ -126,6 +126,25 @@ fn more_wires(rt: HostRuntime) -> Result<(), Fail> {
         let second = wide(alloc, second, "z")?;
         let text = format!(in alloc; ".model m\n.inputs a\n.outputs y z\n{first}{second}.end\n")?;
         assert!(rt; is_over_limit(&rt, alloc, &text, put)?);
+    }
+    Ok(())
+}
+
+// The first model counts before the second is read, and the second before their names are compared.
+#[test]
+fn more_wires_of_either(rt: HostRuntime) -> Result<(), Fail> {
+    let alloc = rt.alloc();
+    let first = wide(alloc, 40_000, "y")?;
+    let second = wide(alloc, 40_000, "z")?;
+    let text = format!(in alloc; ".model m\n.inputs a\n.outputs y z\n{first}{second}.end\n")?;
+    for (texts, put) in [
+        ([&text, "-", "old"], "limit pins 80000\n"),
+        ([ONE_GATE, &text, "old"], "second limit pins 80000\n"),
+    ] {
+        assert!(rt;
+            refuses(&rt, alloc, "equal in out journal", texts, 5, put)?,
+            "{put}"
+        );
     }
     Ok(())
 }

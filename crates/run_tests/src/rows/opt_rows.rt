@@ -2,7 +2,7 @@
 use super::running::{ends, hold, journal_of, run_to_end, shelf};
 use super::texts::{
     ABSORBED, CONSTANT_ZERO, FOUR_GATES, MULTIPLEXER, MULTIPLEXER_LEFT, NO_GATES_SUMMARY, ONE_GATE,
-    ONE_GATE_JOURNAL, ONE_GATE_SUMMARY, WITH_A_WIRE, WITHOUT, ZERO_ROW,
+    ONE_GATE_JOURNAL, ONE_GATE_SUMMARY, SOURCES, WITH_A_WIRE, WITHOUT, ZERO_ROW,
 };
 use rm_base::MemoryShelf;
 use std::alloc::Global;
@@ -101,8 +101,6 @@ fn models_of_few_gates(rt: HostRuntime) -> Result<(), Fail> {
     }
     Ok(())
 }
-
-const SOURCES: &str = ".model r7\n.inputs a\n.outputs a z\n.names a z\n1 1\n.end\n";
 
 const NO_GATES: [(&str, &str, &str); 5] = [
     (

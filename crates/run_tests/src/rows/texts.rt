@@ -46,3 +46,10 @@ pub(crate) const ZERO_ROW: &str = ".model r6\n.outputs z\n.names z\n0\n.end\n";
 // The summary where there is no gate before and none after.
 pub(crate) const NO_GATES_SUMMARY: &str =
     "wires 0 0\ngates 0 0\nsteps 0 0 0\ntries 0 settled\nfaults 0 0\n";
+
+// An Or with the sources and the output of the one gate.
+pub(crate) const EITHER: &str =
+    ".model r1\n.inputs a b\n.outputs z\n.names a b z\n1- 1\n-1 1\n.end\n";
+
+// An output that is a source, and a copy of it.
+pub(crate) const SOURCES: &str = ".model r7\n.inputs a\n.outputs a z\n.names a z\n1 1\n.end\n";

@@ -42,8 +42,8 @@ returns-then-from-eq-MOST_BYTES-clause-problem c = λ files journal most next.
     subst (λ (r : Result Turn AuditProblem). IfErr r (λ p. IfSome files (λ told. IsJournalProblem c.args.model.now told journal p))) (sym c.too_long.ensures)
     (too_long files c.args.model.now journal c.args.from most c.args.reader.now c.args.stage c.args.piece.now some more limit s gives)
 
-pub judge_piece-requires-clause-judged : goal.judge_piece-requires-clause-judged
-judge_piece-requires-clause-judged c =
+pub judge_entries-requires-clause-judged : goal.judge_entries-requires-clause-judged
+judge_entries-requires-clause-judged c =
     let read = c.requires.read in
     let within : c.args.from + length c.args.piece.now ≤ 2 ^ 62 = search rules in
     (read.0 ++ c.args.piece.now, push_judged c.cuts_agree.ensures c.args.model.now read.0 c.args.piece.now c.args.reader.now c.push.new.self c.args.stage (omega (arith, within, read.1.0)) c.in_default.ensures.ok read.1.1.0)
@@ -73,6 +73,5 @@ returns-clause-says c = λ files journal most next.
     let gives = next.gives in
     let within : c.args.from + length c.args.piece.now ≤ 2 ^ 62 = search rules in
     let more = some_bytes c.args.piece.now c.is_empty.result c.is_empty.ensures c.if-is_empty.false in
-    goes_on files c.args.model.now journal c.args.from most c.args.reader.now c.judge_piece.new.reader c.args.stage c.in_ok-stage.stage c.args.piece.now some more s gives
-    (c.in_ok-stage.ensures.judged (s.text ++ c.args.piece.now) (push_judged c.cuts_agree.ensures c.args.model.now s.text c.args.piece.now c.args.reader.now c.push.new.self c.args.stage (omega (arith, within, s.size)) c.in_default.ensures.ok s.judged))
-    c.in_ok-stage.ensures.none
+    let judged = c.in_ok-stage.ensures.judged (s.text ++ c.args.piece.now) (push_judged c.cuts_agree.ensures c.args.model.now s.text c.args.piece.now c.args.reader.now c.push.new.self c.args.stage (omega (arith, within, s.size)) c.in_default.ensures.ok s.judged) in
+    goes_on files c.args.model.now journal c.args.from most c.args.reader.now c.judge_entries.new.reader c.args.stage c.in_ok-stage.stage c.args.piece.now some more s gives judged.0 judged.1

@@ -1,0 +1,3 @@
+-- Definitions that no public contract reaches.
+pub mod Stops
+pub mod Taking

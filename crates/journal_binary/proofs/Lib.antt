@@ -1,0 +1,10 @@
+pub mod Joining
+pub mod Steady
+pub mod Going
+pub mod Turns
+pub mod Runs
+pub mod Spelled
+pub mod Heads
+pub mod ItemBytes
+pub mod Cuts
+pub mod Ones

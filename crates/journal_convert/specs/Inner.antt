@@ -1,0 +1,2 @@
+-- Definitions that no public contract reaches.
+pub mod Pieces

@@ -1,0 +1,3 @@
+-- Definitions that no public contract reaches.
+pub mod Faults
+pub mod Readers

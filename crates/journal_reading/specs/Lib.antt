@@ -1,0 +1,4 @@
+pub mod Faults
+pub mod Streams
+pub mod Laws
+pub mod Inner

@@ -1,0 +1,5 @@
+pub mod Beginnings
+pub mod Makeable
+pub mod Readying
+pub mod Leading
+pub mod Looping
