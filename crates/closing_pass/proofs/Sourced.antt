@@ -81,6 +81,9 @@ has_source : TidyMeans → TidyReadsNone → (net : Net) (fault : Fault) → IsW
 has_source means reads net fault well tidy pin none =
     no_gates means reads net well tidy none well.acyclic.0 well.acyclic.1 (suc (well.acyclic.0 fault.gate.0)) fault.gate.0 (omega arith) (reader_gate net well fault.gate.0 fault.position pin.0 pin.1)
 
+pub sourced : TidyMeans → TidyReadsNone → (net : Net) (j : ℕ) (fault : Fault) → IsWellFormed net → IsTidy net → slice_get (faults_of net) j ≡ Some fault → source_count net ≢ 0
+sourced means reads net j fault well tidy is = has_source means reads net fault well tidy (from_recursion (HasPin net) (faults_of net) (pins_all net) j fault is)
+
 has_item : (t : Branch) → items_of t ≢ []
 has_item (line l t) e = absurd (cc)
 has_item (split x first t u) e = absurd (cc)

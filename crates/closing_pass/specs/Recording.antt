@@ -1,7 +1,8 @@
 -- The records of verdicts.
-use Rattle.std.specs.Prelude.{◌≢◌, ◌++◌, ◌∷◌, [], ℕ, List}
+use Rattle.std.specs.Prelude.{◌≡◌, ◌≢◌, ◌++◌, ◌∷◌, [], ℕ, List, Some, slice_get}
 use Rattle.std.specs.List.{AllByRecursion}
-use Rattle.gate_net.specs.Net.{IsWellFormed, Net}
+use Rattle.gate_net.specs.Net.{IsWellFormed, Net, source_count}
+use Rattle.gate_net.specs.Faults.{faults_of}
 use Rattle.journal_text.specs.declared.record.Record.{Record}
 use Rattle.journal_text.specs.declared.record.Record.TheVariants as kept
 use Rattle.podem.specs.declared.verdict.Verdict.{Verdict}
@@ -33,3 +34,7 @@ verdict_records (entry ∷ verdicts) = verdict_record entry ++ verdict_records v
 -- what closes the faults of a tidy net can be recorded
 abbrev pub ClosedAreRecordable : Type 0
 ClosedAreRecordable = (net : Net) (budget : ℕ) (verdicts : List (Fault × Verdict)) → IsWellFormed net → IsTidy net → AreClosed net budget verdicts → AreRecordable verdicts
+
+-- a tidy net with a fault has a source
+abbrev pub TidyNetsHaveSources : Type 0
+TidyNetsHaveSources = (net : Net) (j : ℕ) (fault : Fault) → IsWellFormed net → IsTidy net → slice_get (faults_of net) j ≡ Some fault → source_count net ≢ 0

@@ -22,6 +22,6 @@ mod words;
 
 pub use batching::batch;
 pub use closing::close_faults;
-pub use laws::closed_are_recordable;
+pub use laws::{closed_are_recordable, tidy_nets_have_sources};
 pub use recording::write_verdicts;
 pub use report::Report;

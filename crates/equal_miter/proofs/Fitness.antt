@@ -1,28 +1,15 @@
--- Decompositions are small, ordered and alike.
-use Rattle.std.proofs.Common.{ap, arith, length, subst, sym, ℕ, ◌∙◌, ◌≡◌, ◌≤◌}
+-- Decompositions of models with the same names are alike.
+use Rattle.std.proofs.Common.{ap, length, subst, sym, ◌∙◌, ◌≡◌}
 use Rattle.std.specs.Prelude.{List, None}
-use Rattle.cover_decompose.specs.Count.{decomposed}
 use Rattle.cover_decompose.specs.Decomposition.{net_of_model}
 use Rattle.cover_decompose.specs.StandsFor.{StandsFor}
-use Rattle.gate_net.specs.Net.{IsWellFormed as IsWellFormedNet, Net, wire_count}
+use Rattle.gate_net.specs.Net.{IsWellFormed as IsWellFormedNet, Net}
 use Rattle.rm_base.specs.Words.{Word}
 use Rattle.rm_model.specs.Ranks.{first_without_rank}
 use Rattle.rm_model.specs.WellFormed.{IsWellFormed}
 use Rattle.rm_model.specs.declared.parts.Model.{Model}
-use Rattle.equal_miter.specs.Inner.Appending.{IsSmall}
 use Rattle.equal_miter.specs.Laws.{AreAlike}
 use Rattle.equal_miter.specs.Refusals.{HaveSameNames, IsReady}
-
-pub small_model : ((m : Model) → IsWellFormed m → first_without_rank m ≡ None → StandsFor (net_of_model m) m) → ((m : Model) → IsWellFormed m → first_without_rank m ≡ None → wire_count (net_of_model m) ≡ decomposed m) → (m : Model) (numbers : ℕ)
-    → IsReady m → decomposed m ≤ 65536 → numbers ≡ length (net_of_model m).nodes → numbers ≤ 66562 → IsSmall (net_of_model m)
-small_model stands wires m numbers ready few are less =
-    let s = stands m ready.formed ready.ranked in
-    let w = wires m ready.formed ready.ranked in
-    let sources = s.sources in
-    let observed = s.observed in
-    let few_sources = ready.sources in
-    let few_observed = ready.observed in
-    record { sources = omega (arith, sources, few_sources); observed = omega (arith, observed, few_observed); wires = omega (arith, w, few); nodes = omega (arith, are, less) }
 
 pub alike_models : ((m : Model) → IsWellFormed m → first_without_rank m ≡ None → StandsFor (net_of_model m) m) → ((m : Model) → IsWellFormedNet (net_of_model m)) → (m n : Model) (v w : Net)
     → IsReady m → IsReady n → HaveSameNames m n → v ≡ net_of_model m → w ≡ net_of_model n → AreAlike v w

@@ -1,16 +1,10 @@
 pub mod Listed
-pub mod Copied
+pub mod Sharing
 pub mod Comparing
 pub mod Telling
 pub mod Counting
 pub mod Models
 pub mod Answering
-pub mod Differing
-pub mod Appended
-pub mod Growing
-pub mod Moving
-pub mod Gates
-pub mod Both
 pub mod Pairs
 pub mod Sizes
 pub mod Fitness

@@ -1,8 +1,8 @@
 -- What the miter of two models tells of them.
-use Rattle.std.proofs.Common.{Bool, List, [], ap, arith, false, length, map, refl, suc, sym, true, zero, ℕ, ◌+◌, ◌-◌, ◌∙◌, ◌∷◌, ◌≡◌, ◌≢◌, ◌⊎◌, inl, inr, subst}
-use Rattle.std.specs.Prelude.{None, Some, slice_get, slice_index_or, ◌↔◌}
+use Rattle.std.proofs.Common.{Bool, List, [], ap, arith, false, length, map, refl, suc, sym, true, ℕ, ◌∙◌, ◌∷◌, ◌≡◌, ◌≢◌, ◌⊎◌, inl, inr, subst}
+use Rattle.std.specs.Prelude.{None, Some, slice_get, ◌↔◌}
 use Rattle.cover_decompose.specs.Decomposition.{net_of_model}
-use Rattle.cover_decompose.specs.StandsFor.{SameAssignment, StandsFor}
+use Rattle.cover_decompose.specs.StandsFor.{StandsFor}
 use Rattle.gate_net.specs.Faults.{IsTest, assigned}
 use Rattle.gate_net.specs.Laws.{ValuesExist}
 use Rattle.gate_net.specs.Net.{IsAcyclic, IsWellFormed as IsWellFormedNet, source_count}
@@ -13,6 +13,7 @@ use Rattle.rm_model.specs.Value.{IsConsistent, IsRanked, observed_names, source_
 use Rattle.rm_model.specs.WellFormed.{IsWellFormed, driven_names, is_distinct}
 use Rattle.rm_model.specs.declared.parts.Model.{Model}
 use Rattle.rm_base.proofs.Public.{map_at, map_found, one_stands, same-in-map}
+use Rattle.joined_nets.proofs.Public.{gives_names}
 use Rattle.equal_miter.proofs.Counting.{miter_sources}
 use Rattle.equal_miter.specs.Equal.{AreComparable, DifferBy, SameFunction, models_fault, models_miter}
 use Rattle.equal_miter.specs.Laws.{AreAlike, DifferUnder, MitersTell}
@@ -34,17 +35,6 @@ agree_or_differ v w (x ∷ xs) (y ∷ ys) e = by_head (v x) (w y) refl refl (agr
     by_head true true is other (inl same) = inl (rw (is, other, same) refl)
     by_head false false is other (inr (k, (z, (u, (a, (b, ne)))))) = inr (suc k, (z, (u, (a, (b, ne)))))
     by_head true true is other (inr (k, (z, (u, (a, (b, ne)))))) = inr (suc k, (z, (u, (a, (b, ne)))))
-
-value_of_item : (v : Word → Bool) (xs : List Word) (k : ℕ) (x : Word) → slice_get xs k ≡ Some x → slice_index_or (map v xs) k false ≡ v x
-value_of_item v [] k x e = absurd cc
-value_of_item v (y ∷ xs) zero x e = let same : y ≡ x = cc in ap v same
-value_of_item v (y ∷ xs) (suc k) x e = value_of_item v xs k x e
-
--- the assignment by a vector gives each source its name's value
-pub gives_names : (m : Model) (v : Word → Bool) (bits : List Bool) → map v (source_names m) ≡ bits → SameAssignment m (assigned bits) v
-gives_names m v bits e k x at =
-    let place : (2 + k) - 2 ≡ k = omega arith in
-    ap (λ (i : ℕ). slice_index_or bits i false) place ∙ (ap (λ (l : List Bool). slice_index_or l k false) (sym e) ∙ value_of_item v (source_names m) k x at)
 
 -- what the laws of the lower crates say of every model
 pub record Given : Type 1 where

@@ -7,9 +7,9 @@ use Rattle.gate_net.specs.Net.{Net, Node}
 use Rattle.pin_pool.specs.Ring.{has}
 use Rattle.rm_base.proofs.Public.{drop_end, drop_stands}
 use Rattle.rm_base.specs.declared.numbers.NodeId.{NodeId}
-use Rattle.equal_miter.specs.Inner.Appending.{Fits, live, with_nodes}
-use Rattle.equal_miter.specs.Miter.{and_gate, comparisons, differences, not_gate, or_gate}
-use Rattle.equal_miter.proofs.Growing.{fits_first, length_with, with_both, with_none}
+use Rattle.joined_nets.specs.Growing.{Fits, and_gate, live, with_nodes}
+use Rattle.equal_miter.specs.Miter.{comparisons, differences, not_gate, or_gate}
+use Rattle.joined_nets.proofs.Public.{fits_first, length_with, with_both, with_none}
 
 pub one_below : (d x size : ℕ) → x < size → has d (x ∷ []) ≡ true → d < size
 one_below d x size lt e = elim (eqb_tells d x) [

@@ -10,14 +10,12 @@ use Rattle.gate_net.specs.Net.{Net, Node, drivers_in, wire_count}
 use Rattle.pin_pool.specs.Ring.{has}
 use Rattle.rm_base.proofs.Public.{map_found}
 use Rattle.rm_base.specs.declared.numbers.NodeId.{NodeId}
-use Rattle.equal_miter.specs.Inner.Appending.{Fits, IsSmall, live, with_nodes}
+use Rattle.joined_nets.specs.Growing.{Fits, IsSmall, live, wires_in, with_nodes}
 use Rattle.equal_miter.specs.Inner.Tops.{tops}
 use Rattle.equal_miter.specs.Laws.{AreAlike}
-use Rattle.equal_miter.specs.Miter.{both, compared, comparisons, differences, first_gate, miter_fault, miter_of, moved, not_gate, observed_moved, or_gate, some_difference}
-use Rattle.equal_miter.proofs.Both.{both_length, both_wires, gates_later}
-use Rattle.equal_miter.proofs.Copied.{moved_high, moved_low}
-use Rattle.equal_miter.proofs.Growing.{length_with, wires_in, wires_with}
-use Rattle.equal_miter.proofs.Listed.{live_below}
+use Rattle.joined_nets.specs.Joined.{both, first_gate, moved, observed_moved}
+use Rattle.equal_miter.specs.Miter.{compared, comparisons, differences, miter_fault, miter_of, not_gate, or_gate, some_difference}
+use Rattle.joined_nets.proofs.Public.{both_length, both_wires, gates_later, length_with, live_below, moved_high, moved_low, wires_with}
 
 compared_wires : (next : ℕ) (xs ys : List ℕ) → wires_in (live (comparisons next xs ys)) ≤ 8 * length xs
 compared_wires next [] ys = omega arith
@@ -118,6 +116,18 @@ module _ (one two : Net) where
         let o = small.observed in
         record { pins = omega (arith, w, all, more, few, o); nodes = omega (arith, n, size) }
 
+    pub end_wires : wire_count (with_nodes with_places (live last)) ≤ 200000
+    end_wires =
+        let w = places_wires in
+        let all = wires_with with_places (live last) in
+        let more = last_wires in
+        let few = tops_length (length (both one two)) one.observed (observed_moved one two) in
+        let o = small.observed in
+        omega (arith, w, all, more, few, o)
+
+    pub end_nodes : length (with_nodes with_places (live last)).nodes ≤ 200000
+    end_nodes = let n = places_length in let size = length_with with_places (live last) in omega (arith, n, size)
+
 -- the same of a graph whose net is given by an equation
 module _ (one two v : Net) (ls rs : List ℕ) (is : v ≡ record { nodes = both one two; observed = [] }) (mine : ls ≡ one.observed) (others : rs ≡ observed_moved one two) where
   pub places_made : with_nodes v (live (comparisons (length v.nodes) ls rs)) ≡ record { nodes = both one two ++ live (compared one two); observed = [] }
@@ -150,6 +160,15 @@ module _ (one two v : Net) (ds : List ℕ) (is : v ≡ record { nodes = both one
       ∙ ap (λ (l : List (Option Node)). both one two ++ l)
       (ap (λ (i : ℕ). live (compared one two) ++ live (or_gate (tops one two) ∷ not_gate i ∷ [])) (size_is one two)
       ∙ sym (map-append (λ (n : Node). Some n) (compared one two) (or_gate (tops one two) ∷ not_gate (some_difference one two) ∷ [])))
+
+  pub few_wires : IsSmall one → IsSmall two → (w : Net) → w ≡ miter_of one two → wire_count w ≤ 200000
+  few_wires small other w made =
+      subst (λ (n : Net). wire_count n ≤ 200000) (sym made)
+      (subst (λ (l : List (Option Node)). sum_by (λ (o : Option Node). length (drivers_in o)) l ≤ 200000) nodes_are (end_wires one two small other))
+
+  pub few_nodes : IsSmall one → IsSmall two → (w : Net) → w ≡ miter_of one two → length w.nodes ≤ 200000
+  few_nodes small other w made =
+      subst (λ (n : Net). length n.nodes ≤ 200000) (sym made) (subst (λ (l : List (Option Node)). length l ≤ 200000) nodes_are (end_nodes one two small other))
 
   by_parts : (xs ys : List (Option Node)) (k m : ℕ) → xs ≡ ys → k ≡ m → ◌≡◌ {A = Net} (record { nodes = xs; observed = suc k ∷ [] }) (record { nodes = ys; observed = suc m ∷ [] })
   by_parts xs ys k m e f = rw (e, f) refl

@@ -1,16 +1,18 @@
 -- The miter's fault is detected exactly where the two nets differ.
-use Rattle.std.proofs.Common.{Bool, List, [], ap, arith, false, length, map, not, refl, subst, suc, sym, true, ℕ, ◌++◌, ◌+◌, ◌∙◌, ◌∷◌, ◌≡◌, ◌≢◌}
+use Rattle.std.proofs.Common.{Bool, List, [], ap, arith, false, length, map, not, refl, subst, suc, sym, true, ℕ, ◌++◌, ◌+◌, ◌<◌, ◌∙◌, ◌∷◌, ◌≡◌, ◌≢◌}
 use Rattle.std.specs.Prelude.{Option, Some, slice_get, slice_set}
 use Rattle.gate_net.specs.Laws.{FaultyValuesExist, ValuesExist}
 use Rattle.gate_net.specs.Net.{IsObserved, Net, Node, drivers_in, drivers_of, flatten_option, node_at}
 use Rattle.gate_net.specs.Values.{AreFaultyValues, AreGoodValues, Detects, HasPin, faulty_reads, junction, node_value}
 use Rattle.gate_net.proofs.Public.{reads_there}
 use Rattle.rm_base.proofs.Public.{map_at, map_found, only_stands}
-use Rattle.equal_miter.specs.Laws.{DifferUnder, MitersTell}
-use Rattle.equal_miter.specs.Miter.{both, compared, differences, first_gate, miter_fault, miter_of, moved, not_gate, observed_moved, or_gate, some_difference}
+use Rattle.equal_miter.specs.Laws.{AreAlike, DifferUnder, MitersTell}
+use Rattle.joined_nets.specs.Joined.{both, first_gate, moved, observed_moved}
+use Rattle.equal_miter.specs.Miter.{compared, differences, miter_fault, miter_of, not_gate, or_gate, some_difference}
+use Rattle.equal_miter.proofs.Sharing.{shared}
 use Rattle.equal_miter.proofs.Comparing.{DifferentPlace, differ_bits, differences_value, found_place, place_found}
-use Rattle.equal_miter.proofs.Copied.{ours_same, theirs_same}
-use Rattle.equal_miter.proofs.Listed.{Met, back_at, live_below, met_by_place, met_parts}
+use Rattle.joined_nets.proofs.Public.{back_at, live_below, ours_same, theirs_same}
+use Rattle.equal_miter.proofs.Listed.{Met, met_by_place, met_parts}
 
 module _ (one two : Net) where
   abbrev last_nodes : List Node
@@ -54,6 +56,13 @@ module _ (one two : Net) where
   pub fault_has_pin : HasPin (miter_of one two) (miter_fault one two)
   fault_has_pin = (some_difference one two, ap (λ (o : Option Node). slice_get (drivers_in o) 0) last_at)
 
+  -- inside the miter each net has its values
+  ours_in : AreAlike one two → (a v : ℕ → Bool) → AreGoodValues (miter_of one two) a v → (w : ℕ → Bool) → AreGoodValues one a w → (x : ℕ) → x < length one.nodes → v x ≡ w x
+  ours_in alike a v good = ours_same one two (shared one two alike) (miter_of one two) (map (λ (n : Node). Some n) added) refl a v good
+
+  theirs_in : AreAlike one two → (a v : ℕ → Bool) → AreGoodValues (miter_of one two) a v → (w : ℕ → Bool) → AreGoodValues two a w → (x : ℕ) → x < length two.nodes → v (moved (first_gate one) (length one.nodes) x) ≡ w x
+  theirs_in alike a v good = theirs_same one two (shared one two alike) (miter_of one two) (map (λ (n : Node). Some n) added) refl a v good
+
 not_true : (b : Bool) → not b ≢ true → b ≡ true
 not_true true ne = refl
 not_true false ne = absurd (ne refl)
@@ -74,8 +83,8 @@ miters_tell exist faulty_exist one two a alike acyclic = (to, from)
         let w = exist one alike.first.acyclic a in
         let u = exist two alike.second.acyclic a in
         let y = map_found (moved (first_gate one) (length one.nodes)) two.observed d.place d.y d.y_is in
-        let mine : v d.x ≡ w.0 d.x = ours_same one two alike a v run.good w.0 w.1.0 d.x (live_below one d.x (alike.first.observed_live d.x (d.place, d.x_is))) in
-        let theirs : v (moved (first_gate one) (length one.nodes) y.0) ≡ u.0 y.0 = theirs_same one two alike a v run.good u.0 u.1.0 y.0 (live_below two y.0 (alike.second.observed_live y.0 (d.place, y.1.0))) in
+        let mine : v d.x ≡ w.0 d.x = ours_in one two alike a v run.good w.0 w.1.0 d.x (live_below one d.x (alike.first.observed_live d.x (d.place, d.x_is))) in
+        let theirs : v (moved (first_gate one) (length one.nodes) y.0) ≡ u.0 y.0 = theirs_in one two alike a v run.good u.0 u.1.0 y.0 (live_below two y.0 (alike.second.observed_live y.0 (d.place, y.1.0))) in
         record {
           values = w.0;
           others = u.0;
@@ -92,8 +101,8 @@ miters_tell exist faulty_exist one two a alike acyclic = (to, from)
         let ends = ends_value one two a v.0 v.1.0 in
         let p = h.differs in
         let m : ℕ → ℕ = moved (first_gate one) (length one.nodes) in
-        let mine : v.0 p.ours ≡ h.values p.ours = ours_same one two alike a v.0 v.1.0 h.values h.good p.ours (live_below one p.ours (alike.first.observed_live p.ours (h.place, p.ours_is))) in
-        let theirs : v.0 (m p.theirs) ≡ h.others p.theirs = theirs_same one two alike a v.0 v.1.0 h.others h.other_good p.theirs (live_below two p.theirs (alike.second.observed_live p.theirs (h.place, p.theirs_is))) in
+        let mine : v.0 p.ours ≡ h.values p.ours = ours_in one two alike a v.0 v.1.0 h.values h.good p.ours (live_below one p.ours (alike.first.observed_live p.ours (h.place, p.ours_is))) in
+        let theirs : v.0 (m p.theirs) ≡ h.others p.theirs = theirs_in one two alike a v.0 v.1.0 h.others h.other_good p.theirs (live_below two p.theirs (alike.second.observed_live p.theirs (h.place, p.theirs_is))) in
         let moved_is : slice_get (observed_moved one two) h.place ≡ Some (m p.theirs) = map_at m two.observed h.place p.theirs p.theirs_is in
         let top : v.0 (some_difference one two) ≡ true = ends.0 ∙ found_place v.0 one.observed (observed_moved one two) h.place p.ours (m p.theirs) p.ours_is moved_is (λ e. p.differs (sym mine ∙ (e ∙ theirs))) in
         let bad : f.0 (suc (some_difference one two)) ≡ true = stuck one two a f.0 f.1.0 in

@@ -11,10 +11,10 @@ use Rattle.equal_miter.specs.declared.likeness.Likeness.{Likeness}
 use Rattle.equal_miter.specs.declared.likeness.Likeness.TheVariants.{Differ, Same, Undecided}
 
 -- each answer comes with its evidence on the net
-abbrev pub IsLikelihood : Net → Fault → ℕ → Likeness → Type 0
-IsLikelihood net fault budget (Same items) = AreAccepted net fault items
-IsLikelihood net fault budget (Differ bits) = IsTest net fault bits
-IsLikelihood net fault budget (Undecided items) = IsSpent net fault budget items
+abbrev pub IsEvidence : Net → Fault → ℕ → Likeness → Type 0
+IsEvidence net fault budget (Same items) = AreAccepted net fault items
+IsEvidence net fault budget (Differ bits) = IsTest net fault bits
+IsEvidence net fault budget (Undecided items) = IsSpent net fault budget items
 
 -- the models compute the same, with an accepted closed tree of their miter's fault; or they don't, with the values of the sources
 -- under which they differ; or a search spent its whole budget

@@ -4,20 +4,21 @@ ghost use Rattle.cover_decompose.specs.Decomposition.{net_of_model};
 ghost use Rattle.cover_decompose.specs.Count.{decomposed};
 ghost use Rattle.cover_decompose.specs.Limits.{most_pins};
 ghost use Rattle.equal_miter.specs.Equal.{AreComparable, models_fault, models_miter};
-ghost use Rattle.equal_miter.specs.Inner.Appending.{IsOrdered, IsSmall, IsWhole, live};
+ghost use Rattle.joined_nets.specs.Growing.{IsOrdered, IsSmall, IsWhole, live};
 ghost use Rattle.equal_miter.specs.Inner.Tops.{tops};
 ghost use Rattle.equal_miter.specs.Laws.{AreAlike};
-ghost use Rattle.equal_miter.specs.Miter.{both, compared, miter_fault, miter_of};
+ghost use Rattle.joined_nets.specs.Joined.{both};
+ghost use Rattle.equal_miter.specs.Miter.{compared, miter_fault, miter_of};
 ghost use Rattle.equal_miter.specs.Refusals.{HaveSameNames, IsLimit, IsMiterRefused, IsReady, IsUnlike, first_difference};
-ghost use Rattle.gate_graph.specs.Circuit.{net_of};
+ghost use Rattle.gate_graph.specs.Circuit.{live_nodes, net_of};
+ghost use Rattle.gate_graph.specs.Holds.{pins_held};
+ghost use Rattle.gate_net.specs.Net.{wire_count};
 
-use crate::copying::{copy_both, moved_all};
 use crate::places::{add_comparisons, observe_none};
 use crate::refusal::MiterRefusal;
-use cover_decompose::{
-    DecomposeRefusal, decompose, decompositions_are_formed, decompositions_stand,
-};
+use cover_decompose::{DecomposeRefusal, decompositions_are_formed, decompositions_stand};
 use gate_graph::Graph;
+use joined_nets::{copy_both, first_difference, moved_all, ordered_decomposition};
 use rm_base::{FIRST_SOURCE, Fault, NoMemory, NodeId};
 use rm_model::{Name, NameKeys, RankedModel, list_observed, sources};
 use std::alloc::Global;
@@ -54,6 +55,11 @@ fn miter_of_graphs(alloc: Global, a: &Graph, b: &Graph) -> Result<(Graph, Fault)
     requires other_small { IsSmall (net_of b.now) }
     ensures net { IfOk result (λ r. net_of r.0 ≡ miter_of (net_of a.now) (net_of b.now)) }
     ensures fault { IfOk result (λ r. r.1 ≡ miter_fault (net_of a.now) (net_of b.now)) }
+    ensures wires { IfOk result (λ r. wire_count (net_of r.0) ≤ 200000) }
+    ensures nodes { IfOk result (λ r. length (net_of r.0).nodes ≤ 200000) }
+    ensures live { IfOk result (λ r. live_nodes r.0 ≤ 200000) }
+    ensures observed { IfOk result (λ r. length (net_of r.0).observed ≡ 1) }
+    ensures held { IfOk result (λ r. pins_held r.0 ≡ 0) }
 {
     let mut graph = copy_both(alloc, a, b)?;
     let differing = compare_places(alloc, &mut graph, a, b)?;
@@ -66,29 +72,8 @@ fn miter_of_graphs(alloc: Global, a: &Graph, b: &Graph) -> Result<(Graph, Fault)
     Ok((graph, fault))
 }
 
-// The first place, from 1, where the lists differ or one has ended.
-fn first_difference(xs: &[Name], ys: &[Name]) -> Option<u32>
-    requires few { length xs.now ≤ 4096 }
-    ensures { result ≡ first_difference xs.now ys.now }
-{
-    let mut at = 0u32;
-    for x in xs {
-        let Some(y) = ys.get(at as usize) else {
-            return Some(at + 1);
-        };
-        if x.items() != y.items() {
-            return Some(at + 1);
-        }
-        at += 1;
-    }
-    if ys.len() > xs.len() {
-        return Some(at + 1);
-    }
-    None
-}
-
 // Whether the names are the same in both.
-#[tactic(auto, using(crate::proofs::Differing::no_difference))]
+#[tactic(auto, using(joined_nets::proofs::Public::no_difference))]
 fn compare_names(
     alloc: Global,
     keys: NameKeys,
@@ -121,9 +106,7 @@ fn graph_of(alloc: Global, model: &RankedModel, second: bool) -> Result<Graph, M
     ensures small { OnOk result (IsSmall (net_of_model model.now)) }
     ensures refused { IfErr result (λ refusal. IsLimit model.now second refusal) }
 {
-    decompositions_stand();
-    decompositions_are_formed();
-    match decompose(alloc, model) {
+    match ordered_decomposition(alloc, model) {
         Ok(graph) => Ok(graph),
         Err(DecomposeRefusal::Limit { pins }) => Err(MiterRefusal::Limit { second, pins }),
         Err(DecomposeRefusal::NoMemory) => Err(MiterRefusal::NoMemory),
@@ -146,6 +129,11 @@ pub fn miter(
     ensures net { IfOk result (λ r. net_of r.0 ≡ models_miter a.now b.now) }
     ensures fault { IfOk result (λ r. r.1 ≡ models_fault a.now b.now) }
     ensures comparable { OnOk result (AreComparable a.now b.now) }
+    ensures wires { IfOk result (λ r. wire_count (net_of r.0) ≤ 200000) }
+    ensures nodes { IfOk result (λ r. length (net_of r.0).nodes ≤ 200000) }
+    ensures live { IfOk result (λ r. live_nodes r.0 ≤ 200000) }
+    ensures observed { IfOk result (λ r. length (net_of r.0).observed ≡ 1) }
+    ensures held { IfOk result (λ r. pins_held r.0 ≡ 0) }
     ensures refused { IfErr result (λ refusal. IsMiterRefused a.now b.now refusal) }
 {
     decompositions_stand();

@@ -1,7 +1,7 @@
 // Deciding the fault of a miter.
 ghost use Rattle.std.specs.Prelude.{◌<◌, ◌≤◌, ◌+◌, ◌^◌, IfErr, IfOk, OnOk, length};
 ghost use Rattle.equal_miter.specs.Equal.{AreComparable};
-ghost use Rattle.equal_miter.specs.Likeness.{IsDecided, IsLikelihood, IsLikeness};
+ghost use Rattle.equal_miter.specs.Likeness.{IsDecided, IsEvidence, IsLikeness};
 ghost use Rattle.equal_miter.specs.Refusals.{IsMiterRefused, IsReady};
 ghost use Rattle.gate_graph.specs.Circuit.{net_of};
 ghost use Rattle.gate_net.specs.Net.{source_count};
@@ -23,7 +23,7 @@ use std::alloc::Global;
 // What a search answers.
 fn searched(alloc: Global, question: &Question<'_>, budget: u32) -> Result<Likeness, NoMemory>
     requires budget { 0 < budget }
-    ensures evidence { IfOk result (λ l. IsLikelihood (net_of question.now.graph.now) question.now.fault budget l) }
+    ensures evidence { IfOk result (λ l. IsEvidence (net_of question.now.graph.now) question.now.fault budget l) }
     ensures decided { 2 ^ (source_count (net_of question.now.graph.now) + 1) ≤ budget → IfOk result (λ l. IsDecided l) }
 {
     match search(alloc, question, budget)? {
@@ -42,7 +42,7 @@ fn decide_fault(
 ) -> Result<Likeness, NoMemory>
     requires depth { depth ≤ 2 }
     requires budget { 0 < budget }
-    ensures evidence { IfOk result (λ l. IsLikelihood (net_of question.now.graph.now) question.now.fault budget l) }
+    ensures evidence { IfOk result (λ l. IsEvidence (net_of question.now.graph.now) question.now.fault budget l) }
     ensures decided { 2 ^ (source_count (net_of question.now.graph.now) + 1) ≤ budget → IfOk result (λ l. IsDecided l) }
 {
     let mut refuter = Refuter::for_graph(alloc, question.graph)?;
@@ -63,7 +63,7 @@ fn decide_miter(
     requires pin { HasPin (net_of graph.now) fault }
     requires depth { depth ≤ 2 }
     requires budget { 0 < budget }
-    ensures evidence { IfOk result (λ l. IsLikelihood (net_of graph.now) fault budget l) }
+    ensures evidence { IfOk result (λ l. IsEvidence (net_of graph.now) fault budget l) }
     ensures decided { 2 ^ (source_count (net_of graph.now) + 1) ≤ budget → IfOk result (λ l. IsDecided l) }
 {
     decide_fault(alloc, &Question { graph, fault }, depth, budget)

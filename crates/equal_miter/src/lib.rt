@@ -1,9 +1,7 @@
 //! Whether two models compute the same: their miter, whose one fault is detected exactly where they differ, and what decides it.
 #![tactic(auto)]
 
-mod appending;
 mod building;
-mod copying;
 mod deciding;
 pub mod laws;
 mod likeness;

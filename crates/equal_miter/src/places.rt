@@ -1,13 +1,14 @@
 // The comparison of two nets in one graph, observed place by observed place.
 ghost use Rattle.std.specs.Prelude.{◌≡◌, ◌<◌, ◌++◌, ◌∷◌, [], IfOk, OnOk, Some, length, map, slice_get, suc, true, ℕ};
-ghost use Rattle.equal_miter.specs.Inner.Appending.{Fits, IsWhole, live, with_nodes};
-ghost use Rattle.equal_miter.specs.Miter.{and_gate, comparisons, differences, not_gate, or_gate};
-ghost use Rattle.gate_graph.specs.Circuit.{net_of};
+ghost use Rattle.joined_nets.specs.Growing.{Fits, IsWhole, and_gate, live, with_nodes};
+ghost use Rattle.equal_miter.specs.Miter.{comparisons, differences, not_gate, or_gate};
+ghost use Rattle.gate_graph.specs.Circuit.{live_nodes, net_of};
+ghost use Rattle.gate_graph.specs.Holds.{pins_held};
 ghost use Rattle.pin_pool.specs.Ring.{has};
 
-use crate::appending::add_last;
 use gate_graph::Graph;
 use gate_net::Kind;
+use joined_nets::add_last;
 use rm_base::{NoMemory, NodeId};
 use std::alloc::Global;
 
@@ -98,6 +99,8 @@ pub(crate) fn observe_none(graph: &mut Graph, nodes: &[NodeId]) -> Result<NodeId
     requires fits { Fits (with_nodes (net_of graph.old) (live (or_gate (map (λ n. n.0) nodes.now) ∷ not_gate (length (net_of graph.old).nodes) ∷ []))) }
     ensures net { OnOk result (net_of graph.new ≡ record { nodes = (net_of graph.old).nodes ++ live (or_gate (map (λ n. n.0) nodes.now) ∷ not_gate (length (net_of graph.old).nodes) ∷ []); observed = (net_of graph.old).observed ++ suc (length (net_of graph.old).nodes) ∷ [] }) }
     ensures number { IfOk result (λ gate. gate.0 ≡ suc (length (net_of graph.old).nodes)) }
+    ensures live { OnOk result (live_nodes graph.new ≡ length (net_of graph.new).nodes) }
+    ensures held { OnOk result (pins_held graph.new ≡ 0) }
 {
     let some = add_last(graph, Kind::Or, nodes)?;
     let none = add_last(graph, Kind::Not, &[some])?;

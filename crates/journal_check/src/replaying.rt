@@ -2,13 +2,15 @@
 ghost use Rattle.std.specs.Prelude.{◌≡◌, ◌<◌, ◌≤◌, ◌^◌, ◌≢◌, IfErr, IfOk, ℕ, None, Some, length};
 ghost use Rattle.journal_check.specs.declared.refusal.Why.TheVariants.{NoMemory as Wanting};
 ghost use Rattle.gate_graph.specs.Circuit.{net_of};
+ghost use Rattle.gate_graph.specs.Holds.{pins_held};
+ghost use Rattle.gate_net.specs.Net.{Net, wire_count};
 ghost use Rattle.rm_model.specs.Ranks.{first_without_rank};
 ghost use Rattle.rm_model.specs.Value.{observed_names, source_names};
 ghost use Rattle.rm_model.specs.WellFormed.{IsWellFormed};
 ghost use Rattle.cover_decompose.specs.Count.{decomposed};
 ghost use Rattle.cover_decompose.specs.Decomposition.{net_of_model};
 ghost use Rattle.cover_decompose.specs.Refusals.{IsRefused};
-ghost use Rattle.journal_check.specs.Inner.Benches.{IsBench, IsIdle, RecordSays, position_of};
+ghost use Rattle.journal_check.specs.Inner.Benches.{IsBench, IsIdle, RecordSays, net_in, position_of};
 ghost use Rattle.journal_check.specs.Replaying.{IsLocalTree, editing};
 ghost use Rattle.journal_check.specs.Standing.{Finishes, KeepsOthers, Steps};
 
@@ -20,7 +22,7 @@ use cover_decompose::{DecomposeRefusal, decompose, decompositions_stand};
 use gate_graph::Graph;
 use journal_text::Record;
 use refutation_check::TreeChecker;
-use rm_base::Vector;
+use rm_base::{NoMemory, Vector};
 use rm_model::RankedModel;
 use std::alloc::Global;
 use std::marker::Model;
@@ -74,6 +76,18 @@ fn apply_record(
     }
 }
 
+// The graph at work, with the steps so far.
+fn into_graph(bench: Bench) -> Graph
+    requires { IsBench bench }
+    ensures { net_of result ≡ net_in bench }
+{
+    match bench {
+        Bench::Idle { graph } => graph,
+        Bench::Trying { trial, left: _ } => trial.commit(),
+        Bench::Frozen { graph, settling: _ } => graph,
+    }
+}
+
 impl Replay {
     /// Before the first record, at the decomposition of the model.
     pub fn new(alloc: Global, model: &RankedModel, budget: u32) -> Result<Replay, DecomposeRefusal>
@@ -88,6 +102,18 @@ impl Replay {
     {
         decompositions_stand();
         let graph = decompose(alloc, model)?;
+        let checker = TreeChecker::new(alloc, graph.node_bound())?;
+        Ok(Replay::over(alloc, checker, graph, budget))
+    }
+
+    /// Before the first record, at the net of a graph: a journal's steps may lead on from any net that isn't too large.
+    pub fn from_graph(alloc: Global, graph: Graph, budget: u32) -> Result<Replay, NoMemory>
+        requires wires { wire_count (net_of graph) ≤ 1000000 }
+        requires nodes { length (net_of graph).nodes ≤ 1000000 }
+        requires observed { length (net_of graph).observed ≤ 131072 }
+        requires held { pins_held graph ≡ 0 }
+        ensures begins { IfOk result (λ r. r ≡ record { position = editing (net_of graph); budget = budget; number = 1; refusal = None }) }
+    {
         let checker = TreeChecker::new(alloc, graph.node_bound())?;
         Ok(Replay::over(alloc, checker, graph, budget))
     }
@@ -164,6 +190,23 @@ impl Replay {
         }
         self.number = self.number.saturating_add(1);
         Ok(())
+    }
+
+    /// The graph to which the steps so far lead.
+    pub fn into_graph(self) -> Graph
+        ensures { (net : Net) → self.position ≡ editing net → net_of result ≡ net }
+    {
+        let Replay {
+            alloc: _alloc,
+            checker: _checker,
+            bench,
+            ahead: _ahead,
+            budget: _budget,
+            number: _number,
+            refused: _refused,
+        } = self;
+        let Some(bench) = bench else { unreachable!() };
+        into_graph(bench)
     }
 
     /// The last net, where the journal is accepted.

@@ -1,3 +1,4 @@
+pub mod Public
 pub mod Texts
 pub mod RoundLaws
 pub mod VerdictLaws

@@ -1,7 +1,8 @@
 -- The last gates of the comparisons of two nets.
 use Rattle.std.specs.Prelude.{List, length, ℕ}
 use Rattle.gate_net.specs.Net.{Net}
-use Rattle.equal_miter.specs.Miter.{both, differences, observed_moved}
+use Rattle.joined_nets.specs.Joined.{both, observed_moved}
+use Rattle.equal_miter.specs.Miter.{differences}
 
 -- for each observed place the gate that is 1 where the nets differ there
 abbrev pub tops : Net → Net → List ℕ

@@ -3,9 +3,9 @@ use Rattle.std.specs.Prelude.{slice_get}
 use Rattle.gate_graph.specs.Circuit.{net_of}
 use Rattle.gate_net.specs.Net.{Net}
 use Rattle.rm_base.specs.declared.numbers.NodeId.{NodeId}
-use Rattle.equal_miter.specs.Inner.Appending.{Fits}
-use Rattle.equal_miter.specs.Miter.{first_gate, moved}
-use Rattle.equal_miter.proofs.Both.{both_length, list_stays}
+use Rattle.joined_nets.specs.Growing.{Fits}
+use Rattle.joined_nets.specs.Joined.{first_gate, moved}
+use Rattle.joined_nets.proofs.Public.{both_length, list_stays}
 use Rattle.equal_miter.proofs.Sizes.{moved_low_enough, ours_low, pairs_same, places_fit, places_made, theirs_low, tops_made}
 use Rattle.equal_miter.proofs.building.compare_places.Goals as goal
 

@@ -2,7 +2,7 @@ use Rattle.std.proofs.Common.{ap, subst, sym, ◌∙◌}
 use Rattle.cover_decompose.specs.Decomposition.{net_of_model}
 use Rattle.gate_graph.specs.Circuit.{net_of}
 use Rattle.gate_net.specs.Net.{Net}
-use Rattle.equal_miter.specs.Inner.Appending.{IsOrdered, IsSmall}
+use Rattle.joined_nets.specs.Growing.{IsOrdered, IsSmall}
 use Rattle.equal_miter.specs.Miter.{miter_fault, miter_of}
 use Rattle.equal_miter.proofs.Fitness.{alike_models}
 use Rattle.equal_miter.proofs.building.miter.Goals as goal
@@ -38,3 +38,18 @@ returns-clause-comparable c = record {
   sources = c.in_ok-compare_names.ensures.same.sources;
   observed = c.in_ok-compare_names.ensures.same.observed;
 }
+
+pub returns-clause-wires : goal.returns-clause-wires
+returns-clause-wires c = c.in_ok-made.ensures.wires
+
+pub returns-clause-nodes : goal.returns-clause-nodes
+returns-clause-nodes c = c.in_ok-made.ensures.nodes
+
+pub returns-clause-live : goal.returns-clause-live
+returns-clause-live c = c.in_ok-made.ensures.live
+
+pub returns-clause-observed : goal.returns-clause-observed
+returns-clause-observed c = c.in_ok-made.ensures.observed
+
+pub returns-clause-held : goal.returns-clause-held
+returns-clause-held c = c.in_ok-made.ensures.held

@@ -1,6 +1,6 @@
 use Rattle.std.proofs.Common.{length}
 use Rattle.gate_graph.specs.Circuit.{net_of}
-use Rattle.equal_miter.specs.Miter.{and_gate}
+use Rattle.joined_nets.specs.Growing.{and_gate}
 use Rattle.equal_miter.proofs.Pairs.{first_fits, second_fits, second_number, still_below, two_below, two_made}
 use Rattle.equal_miter.proofs.places.add_ands.Goals as goal
 

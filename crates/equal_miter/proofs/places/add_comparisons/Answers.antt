@@ -3,7 +3,7 @@ use Rattle.std.proofs.lemmas.Option.{slice_get-get_or}
 use Rattle.gate_graph.specs.Circuit.{net_of}
 use Rattle.rm_base.proofs.Public.{map_at}
 use Rattle.rm_base.specs.declared.numbers.NodeId.{NodeId}
-use Rattle.equal_miter.specs.Inner.Appending.{live, with_nodes}
+use Rattle.joined_nets.specs.Growing.{live, with_nodes}
 use Rattle.equal_miter.specs.Miter.{comparisons, differences}
 use Rattle.equal_miter.proofs.Pairs.{five_more, pair_fits, pair_step, pairs_end, tops_end, tops_step}
 use Rattle.equal_miter.proofs.places.add_comparisons.Goals as goal

@@ -1,6 +1,6 @@
 use Rattle.std.proofs.Common.{drop, length, map, ◌++◌, ◌≡◌, ◌≤◌}
 use Rattle.gate_graph.specs.Circuit.{net_of}
-use Rattle.equal_miter.specs.Inner.Appending.{IsWhole, live, with_nodes}
+use Rattle.joined_nets.specs.Growing.{IsWhole, live, with_nodes}
 use Rattle.equal_miter.specs.Miter.{comparisons, differences}
 use Rattle.equal_miter.proofs.places.add_comparisons.Given as goal
 

@@ -1,12 +1,12 @@
-use Rattle.std.proofs.Common.{arith, length, map, subst, sym, ◌≡◌}
+use Rattle.std.proofs.Common.{ap, arith, length, map, subst, sym, ◌∙◌, ◌≡◌}
 use Rattle.std.specs.Prelude.{Some}
 use Rattle.gate_graph.specs.Circuit.{net_of, pins_taken}
+use Rattle.gate_graph.specs.Holds.{pins_held}
 use Rattle.gate_net.specs.Net.{Net, wire_count}
 use Rattle.rm_base.specs.declared.numbers.NodeId.{NodeId}
-use Rattle.equal_miter.specs.Inner.Appending.{Fits}
+use Rattle.joined_nets.specs.Growing.{Fits}
 use Rattle.equal_miter.specs.Miter.{not_gate, or_gate}
-use Rattle.equal_miter.proofs.Appended.{live_driver}
-use Rattle.equal_miter.proofs.Both.{one_longer}
+use Rattle.joined_nets.proofs.Public.{live_driver, one_longer}
 use Rattle.equal_miter.proofs.Pairs.{first_fits, last_fits, last_made, observed_after, one_below, second_number}
 use Rattle.equal_miter.proofs.places.observe_none.Goals as goal
 
@@ -45,3 +45,16 @@ returns-clause-net c =
 
 pub returns-clause-number : goal.returns-clause-number
 returns-clause-number c = second_number (net_of c.args.graph.now) (net_of c.add_last.new.graph) (or_gate (map (λ (n : NodeId). n.0) c.args.nodes.now)) (not_gate c.in_ok-some.some.0) c.in_ok-some.ensures.net c.in_ok-none.none.0 c.in_ok-none.ensures.number
+
+pub returns-clause-live : goal.returns-clause-live
+returns-clause-live c =
+    let numbers = c.in_ok-none.ensures.whole.numbers in
+    let same = c.observe.ensures.nodes in
+    let nodes = ap (λ (n : Net). length n.nodes) c.in_ok-observe.ensures.observed in
+    omega (arith, numbers, same, nodes)
+
+pub returns-clause-held : goal.returns-clause-held
+returns-clause-held c =
+    let taken : pins_taken c.add_last-2.new.graph ≡ wire_count (net_of c.add_last-2.new.graph) = c.in_ok-none.ensures.whole.pins in
+    let none : pins_held c.add_last-2.new.graph ≡ 0 = omega (arith, taken) in
+    c.in_ok-observe.ensures.held ∙ none

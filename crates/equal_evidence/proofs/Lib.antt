@@ -1,0 +1,11 @@
+pub mod Last
+pub mod Sweeps
+pub mod Differences
+pub mod Showing
+pub mod Cuts
+pub mod Spelling
+pub mod Journals
+pub mod One
+pub mod Putting
+pub mod Readings
+pub mod Public

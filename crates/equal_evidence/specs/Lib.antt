@@ -1,0 +1,4 @@
+pub mod Evidence
+pub mod Shown
+pub mod Laws
+pub mod Inner

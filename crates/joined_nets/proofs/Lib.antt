@@ -1,0 +1,12 @@
+pub mod Listed
+pub mod Assigned
+pub mod Copied
+pub mod Counting
+pub mod Differing
+pub mod Appended
+pub mod Growing
+pub mod Moving
+pub mod Gates
+pub mod Both
+pub mod Fitness
+pub mod Public

@@ -1,0 +1,3 @@
+pub mod Joined
+pub mod Growing
+pub mod Ready

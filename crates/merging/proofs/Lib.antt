@@ -1,0 +1,4 @@
+pub mod Noting
+pub mod Sizing
+pub mod GoingOn
+pub mod Merges

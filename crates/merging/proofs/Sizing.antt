@@ -1,0 +1,117 @@
+-- What steps leave of the number of gates, of the observed places and of the sources, and how large a graph is then.
+use Rattle.std.proofs.Common.{◌≡◌, ℕ, zero, suc, ◌+◌, ◌≤◌, Option, Some, None, List, [], ◌∷◌, length, map, refl, sym, ◌∙◌, ap, arith}
+use Rattle.std.specs.Prelude.{slice_get, slice_set}
+use Rattle.std.specs.List.{sum_by}
+use Rattle.std.proofs.lemmas.List.Sums.{sum_by-cons}
+use Rattle.std.proofs.lemmas.List.{length-map}
+use Rattle.gate_net.specs.Net.{Node, Net, node_at, flatten_option, IsWellFormed, gate_count, source_count, wire_count, trimmed}
+use Rattle.gate_net.specs.declared.Kind.TheVariants.{Not}
+use Rattle.gate_net.specs.Edits.{redriven, redirected, node_redirected}
+use Rattle.gate_graph.specs.Circuit.{Circuit, net_of, pins_taken, live_nodes}
+use Rattle.gate_graph.specs.Holds.{held, pins_held, HoldsOn}
+use Rattle.wire_edit.proofs.Public.{total_least, total_map, total_trimmed}
+use Rattle.wire_edit.specs.declared.steps.Step.{Step}
+use Rattle.wire_edit.specs.Changes.{Change, append, remove, fix, readers, new_not, retire, changed, with_least_free}
+use Rattle.wire_edit.specs.Inner.Changes.{nodes_added}
+use Rattle.wire_edit.specs.Steps.{stepped, change_of}
+use Rattle.wire_edit.specs.Inner.Tests.{gate_weight}
+use Rattle.wire_edit.specs.Tried.{Tried}
+use Rattle.journal_text.specs.declared.record.Record.{Record}
+use Rattle.journal_text.specs.declared.record.Record.TheVariants as record_of
+use Rattle.journal_text.specs.Runs.{AcceptedTo}
+use Rattle.journal_text.specs.Accepted.{AcceptedStepsKeep}
+use Rattle.merging.specs.Merged.{IsWithin}
+
+set_keeps : (f : Option Node → ℕ) (ds : List ℕ) → ((o : Option Node) → f (redriven ds o) ≡ f o) → (os : List (Option Node)) (x : ℕ) → sum_by f (slice_set os x (redriven ds (flatten_option (slice_get os x)))) ≡ sum_by f os
+set_keeps f ds same [] x = refl
+set_keeps f ds same (o ∷ os) zero = sum_by-cons f (redriven ds o) os ∙ ap (λ (n : ℕ). n + sum_by f os) (same o) ∙ sym (sum_by-cons f o os)
+set_keeps f ds same (o ∷ os) (suc x) =
+    sum_by-cons f o (slice_set os x (redriven ds (flatten_option (slice_get os x)))) ∙ ap (λ (n : ℕ). f o + n) (set_keeps f ds same os x) ∙ sym (sum_by-cons f o os)
+
+gone_less : (f : Option Node → ℕ) → f None ≡ 0 → (os : List (Option Node)) (x : ℕ) → sum_by f (slice_set os x None) ≤ sum_by f os
+gone_less f none [] x = omega arith
+gone_less f none (o ∷ os) zero =
+    let a : sum_by f (None ∷ os) ≡ f None + sum_by f os = sum_by-cons f None os in
+    let b : sum_by f (o ∷ os) ≡ f o + sum_by f os = sum_by-cons f o os in
+    omega (arith, a, b, none)
+gone_less f none (o ∷ os) (suc x) =
+    let rest : sum_by f (slice_set os x None) ≤ sum_by f os = gone_less f none os x in
+    let a : sum_by f (o ∷ slice_set os x None) ≡ f o + sum_by f (slice_set os x None) = sum_by-cons f o (slice_set os x None) in
+    let b : sum_by f (o ∷ os) ≡ f o + sum_by f os = sum_by-cons f o os in
+    omega (arith, rest, a, b)
+
+redriven_weight : (ds : List ℕ) (o : Option Node) → gate_weight (redriven ds o) ≡ gate_weight o
+redriven_weight ds None = refl
+redriven_weight ds (Some n) = refl
+
+redirected_weight : (from to : ℕ) (o : Option Node) → gate_weight (node_redirected from to o) ≡ gate_weight o
+redirected_weight from to None = refl
+redirected_weight from to (Some n) = refl
+
+-- GATES
+driven_gates : (net : Net) (gate : ℕ) (ds : List ℕ) → sum_by gate_weight (slice_set net.nodes gate (redriven ds (node_at net gate))) ≤ gate_count net + 0
+driven_gates net gate ds = let e : sum_by gate_weight (slice_set net.nodes gate (redriven ds (node_at net gate))) ≡ sum_by gate_weight net.nodes = set_keeps gate_weight ds (redriven_weight ds) net.nodes gate in omega (arith, e)
+
+pub gate_budget : (net : Net) (change : Change) → gate_count (changed net change) ≤ gate_count net + nodes_added change
+gate_budget net (append gate driver) = driven_gates net gate _
+gate_budget net (remove gate position) = driven_gates net gate _
+gate_budget net (fix gate position value) = driven_gates net gate _
+gate_budget net (readers from to) = let e : sum_by gate_weight (map (node_redirected from to) net.nodes) ≡ sum_by gate_weight net.nodes = total_map gate_weight (node_redirected from to) (redirected_weight from to) net.nodes in omega (arith, e)
+gate_budget net (new_not driver) =
+    let n : Node = record { kind = Not; drivers = driver ∷ [] } in
+    let e : sum_by gate_weight (with_least_free net.nodes n) ≡ sum_by gate_weight net.nodes + 1 = total_least gate_weight refl net.nodes n in omega (arith, e)
+gate_budget net (retire gate) =
+    let e : sum_by gate_weight (trimmed (slice_set net.nodes gate None)) ≡ sum_by gate_weight (slice_set net.nodes gate None) = total_trimmed gate_weight refl (slice_set net.nodes gate None) in
+    let l : sum_by gate_weight (slice_set net.nodes gate None) ≤ sum_by gate_weight net.nodes = gone_less gate_weight refl net.nodes gate in
+    omega (arith, e, l)
+
+-- where a step makes no node there are no more gates
+pub no_gates : (net : Net) (step : Step) → nodes_added (change_of net step) ≡ 0 → gate_count (stepped net step) ≤ gate_count net
+no_gates net step none = let b : gate_count (stepped net step) ≤ gate_count net + nodes_added (change_of net step) = gate_budget net (change_of net step) in omega (arith, b, none)
+
+-- OBSERVED PLACES AND SOURCES
+places_stay : (net : Net) (change : Change) → length (changed net change).observed ≡ length net.observed
+places_stay net (append gate driver) = refl
+places_stay net (remove gate position) = refl
+places_stay net (fix gate position value) = refl
+places_stay net (readers from to) = length-map net.observed (redirected from to)
+places_stay net (new_not driver) = refl
+places_stay net (retire gate) = refl
+
+pub accepted_places : (net after : Net) (records : List Record) → AcceptedTo net records after → length after.observed ≡ length net.observed
+accepted_places net after [] a = ap (λ (n : Net). length n.observed) a
+accepted_places net after (record_of.Step step tree ∷ records) a = accepted_places (stepped net step) after records a.1 ∙ places_stay net (change_of net step)
+accepted_places net after (record_of.Hit fault vector ∷ records) a = absurd a
+accepted_places net after (record_of.Spent fault tree ∷ records) a = absurd a
+
+pub accepted_sources : AcceptedStepsKeep → (net after : Net) (records : List Record) → IsWellFormed net → AcceptedTo net records after → source_count after ≡ source_count net
+accepted_sources law net after [] well a = ap source_count a
+accepted_sources law net after (record_of.Step step tree ∷ records) well a =
+    let k = law net step tree well a.0 in
+    accepted_sources law (stepped net step) after records k.form a.1 ∙ k.sources
+accepted_sources law net after (record_of.Hit fault vector ∷ records) well a = absurd a
+accepted_sources law net after (record_of.Spent fault tree ∷ records) well a = absurd a
+
+-- SIZES OF GRAPHS
+-- what `well_formed` tells of a graph
+pub record HasSize (v : Circuit) : Type 0 where
+  pub live : live_nodes v ≡ 2 + source_count (net_of v) + gate_count (net_of v)
+  pub pins : wire_count (net_of v) + length (net_of v).observed + pins_held v ≡ pins_taken v
+
+pub within_by : (v w : Circuit) → HasSize v → HasSize w → pins_held w ≡ pins_held v → length (net_of w).observed ≡ length (net_of v).observed → source_count (net_of w) ≡ source_count (net_of v)
+    → wire_count (net_of w) + gate_count (net_of w) ≤ wire_count (net_of v) + gate_count (net_of v) → IsWithin v w
+within_by v w s t held places sources sum = record { size = omega (arith, s.live, s.pins, t.live, t.pins, held, places, sources, sum); held = held }
+
+-- a graph of the same net that holds as many pins
+pub within_same : (v w : Circuit) → HasSize v → HasSize w → net_of w ≡ net_of v → pins_held w ≡ pins_held v → IsWithin v w
+within_same v w s t is held =
+    within_by v w s t held (ap (λ (n : Net). length n.observed) is) (ap source_count is) (let e : wire_count (net_of w) + gate_count (net_of w) ≡ wire_count (net_of v) + gate_count (net_of v) = ap (λ (n : Net). wire_count n + gate_count n) is in omega (arith, e))
+
+pub within_then : (u v w : Circuit) → IsWithin u v → IsWithin v w → IsWithin u w
+within_then u v w a b = record { size = omega (arith, a.size, b.size); held = b.held ∙ a.held }
+
+-- once the undos' pins are given back as many are held as at the beginning
+pub held_back : (start : Circuit) (t u : Tried) (after : Circuit) → pins_held t.graph ≡ pins_held start → t.trail.entries ≡ [] → HoldsOn t.graph u.graph t.trail.entries u.trail.entries → pins_held after + length (held u.trail.entries) ≡ pins_held u.graph → pins_held after ≡ pins_held start
+held_back start t u after same none holds back =
+    let zero_held : length (held t.trail.entries) ≡ 0 = ap (λ es. length (held es)) none in
+    omega (arith, same, holds, back, zero_held)

@@ -1,0 +1,4 @@
+pub mod Flaws
+pub mod Refusals
+pub mod Laws
+pub mod Inner
