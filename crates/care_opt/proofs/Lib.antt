@@ -1,0 +1,17 @@
+pub mod Standing
+pub mod Numbering
+pub mod Extracted
+pub mod Tidied
+pub mod Starting
+pub mod Valued
+pub mod Sizes
+pub mod CareFit
+pub mod MainFaults
+pub mod Models
+pub mod GatingAnds
+pub mod Looking
+pub mod MainOrder
+pub mod Going
+pub mod Refuted
+pub mod Leading
+pub mod Finishing
