@@ -3,7 +3,7 @@ _rambo() {
     local word="${COMP_WORDS[COMP_CWORD]}" before="${COMP_WORDS[COMP_CWORD - 1]}" command="${COMP_WORDS[1]}" names
     COMPREPLY=()
     if [ "$COMP_CWORD" = 1 ]; then
-        COMPREPLY=($(compgen -W "opt check demo flat tests replay convert equal --help --version" -- "$word"))
+        COMPREPLY=($(compgen -W "opt check demo flat tests replay convert equal judge optcare --help --version" -- "$word"))
         return
     fi
     case "$before" in
@@ -12,7 +12,7 @@ _rambo() {
     esac
     case "$command:$word" in
         opt:-* | demo:-*) COMPREPLY=($(compgen -W "--depth --budget --tries --workers" -- "$word")); return ;;
-        equal:-*) COMPREPLY=($(compgen -W "--depth --budget" -- "$word")); return ;;
+        equal:-* | optcare:-*) COMPREPLY=($(compgen -W "--depth --budget" -- "$word")); return ;;
         demo:*) return ;;
     esac
     mapfile -t names < <(compgen -f -- "$word")

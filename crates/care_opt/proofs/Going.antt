@@ -1,11 +1,10 @@
 -- Going on with the main gates inside a trial.
-use Rattle.std.proofs.Common.{List, Option, None, Some, [], ap, arith, false, inl, inr, length, not, refl, subst, suc, sym, true, ℕ, ◌++◌, ◌+◌, ◌-◌, ◌<◌, ◌∙◌, ◌∷◌, ◌≡◌, ◌≤◌, Bool, zero}
-use Rattle.std.specs.Prelude.{Ok, Err, IfSome, IsNone, nat_lt, option_and_then, slice_get, ◌&&◌}
+use Rattle.std.proofs.Common.{List, Option, None, Some, [], ap, arith, false, inl, inr, not, refl, subst, suc, sym, true, ℕ, ◌++◌, ◌+◌, ◌<◌, ◌∙◌, ◌∷◌, ◌≡◌, ◌≤◌, Bool, zero}
+use Rattle.std.specs.Prelude.{Ok, IfSome, IsNone, nat_lt, option_and_then}
 use Rattle.std.proofs.lemmas.Bool.{cases_lt, lt-ltb}
-use Rattle.std.proofs.lemmas.Option.{slice_get_within}
-use Rattle.gate_graph.specs.Circuit.{Circuit, net_of, wiring}
+use Rattle.gate_graph.specs.Circuit.{net_of, wiring}
 use Rattle.gate_net.specs.Edits.{constant_node}
-use Rattle.gate_net.specs.Net.{IsGate, IsGateKind, IsWellFormed, Net, Node, Reads, drivers_in, drivers_of, kind_in, node_at, plain_node, source_count}
+use Rattle.gate_net.specs.Net.{IsGate, IsGateKind, IsWellFormed, Net, Node, kind_in, node_at}
 use Rattle.gate_net.specs.declared.Kind.{Kind}
 use Rattle.gate_net.specs.declared.Kind.TheVariants.{And, Not, One, Or, Source, Zero}
 use Rattle.graph_to_model.specs.Making.{gate_of_step}
@@ -18,7 +17,6 @@ use Rattle.rm_base.proofs.Public.{both_and}
 use Rattle.rm_base.specs.declared.numbers.Fault.{Fault}
 use Rattle.rm_base.specs.declared.settings.Made.{Made}
 use Rattle.wire_edit.specs.Laws.{IsTidying, NextApplies, TidyMeans}
-use Rattle.wire_edit.specs.Order.{IsTidy, next_step, node}
 use Rattle.wire_edit.specs.Refusals.{IsAnswer, has_room}
 use Rattle.wire_edit.specs.Removals.{FreeFixesApply, HasFreePin}
 use Rattle.wire_edit.specs.Rooms.{ApplicableIsMade}

@@ -1,10 +1,9 @@
 -- The faults of main gates come first in the list of all faults.
-use Rattle.std.proofs.Common.{Bool, List, None, Option, Some, [], ap, append_assoc, arith, drop, false, inl, inr, length, refl, subst, suc, sym, take, true, zero, ℕ, ◌++◌, ◌+◌, ◌<◌, ◌∙◌, ◌∷◌, ◌≡◌, ◌≤◌}
+use Rattle.std.proofs.Common.{Bool, List, Option, [], ap, append_assoc, arith, drop, false, length, refl, suc, sym, take, true, zero, ℕ, ◌++◌, ◌+◌, ◌<◌, ◌∙◌, ◌∷◌, ◌≡◌, ◌≤◌}
 use Rattle.std.specs.Prelude.{if◌then◌else◌, nat_lt}
 use Rattle.std.specs.List.{AllByRecursion}
 use Rattle.std.proofs.lemmas.Bool.{le-ltb, lt-ltb}
-use Rattle.std.proofs.lemmas.List.{append-nil}
-use Rattle.gate_net.specs.Faults.{fault_at, faults_from, faults_of, pin_faults}
+use Rattle.gate_net.specs.Faults.{faults_from, faults_of, pin_faults}
 use Rattle.gate_net.specs.Net.{Net, Node, drivers_in}
 use Rattle.rm_base.specs.declared.numbers.Fault.{Fault}
 use Rattle.care_opt.specs.Extract.{main_faults}

@@ -15,3 +15,5 @@ pub mod Going
 pub mod Refuted
 pub mod Leading
 pub mod Finishing
+pub mod Lanes
+pub mod Kept

@@ -5,7 +5,7 @@ use Rattle.std.specs.List.{AllByRecursion}
 use Rattle.std.proofs.lemmas.Bool.{cases_lt}
 use Rattle.std.proofs.lemmas.Option.{slice_get_within}
 use Rattle.gate_net.specs.Faults.{fault_at, faults_from, pin_faults}
-use Rattle.gate_net.specs.Net.{Net, Node, Reads, drivers_in, drivers_of, flatten_option, node_at}
+use Rattle.gate_net.specs.Net.{Net, Node, drivers_in, drivers_of, flatten_option, node_at}
 use Rattle.rm_base.proofs.Public.{stands_below}
 use Rattle.rm_base.specs.declared.numbers.Fault.{Fault}
 use Rattle.care_opt.specs.Extract.{main_faults}

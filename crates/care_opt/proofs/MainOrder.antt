@@ -1,12 +1,11 @@
 -- Where the next step of the tidying order is at no main gate, the net is main-tidy.
-use Rattle.std.proofs.Common.{Bool, List, None, Option, Some, [], ap, arith, false, inl, inr, length, refl, subst, suc, sym, take, true, zero, ℕ, ◌+◌, ◌<◌, ◌∙◌, ◌∷◌, ◌≡◌, ◌≤◌}
-use Rattle.std.specs.Prelude.{if◌then◌else◌, nat_lt, option_and_then, slice_get, ◌&&◌}
+use Rattle.std.proofs.Common.{Bool, List, None, Option, Some, ap, arith, false, inl, inr, length, refl, subst, suc, sym, take, true, zero, ℕ, ◌+◌, ◌<◌, ◌∙◌, ◌≡◌, ◌≤◌}
+use Rattle.std.specs.Prelude.{if◌then◌else◌, nat_lt, option_and_then, slice_get}
 use Rattle.std.proofs.lemmas.Bool.{cases_lt, ltb-true}
 use Rattle.std.proofs.lemmas.Option.{slice_get_within}
 use Rattle.gate_net.specs.Net.{Net, drivers_of}
 use Rattle.graph_to_model.specs.Making.{gate_of_step}
 use Rattle.rm_base.proofs.Public.{and_first, and_second}
-use Rattle.rm_base.specs.declared.numbers.NodeId.{NodeId}
 use Rattle.wire_edit.specs.Laws.{IsTidying, TidyMeans}
 use Rattle.wire_edit.specs.Order.{IsTidy, first_from, next_step, node, rule_at, where_met}
 use Rattle.wire_edit.specs.Refusals.{or_else}

@@ -1,26 +1,26 @@
 -- What a run of main steps says of the models.
-use Rattle.std.proofs.Common.{Bool, List, None, Option, Some, [], ap, arith, false, inl, inr, length, map, refl, subst, suc, sym, take, true, zero, ℕ, ◌++◌, ◌+◌, ◌<◌, ◌∙◌, ◌∷◌, ◌≡◌, ◌≢◌, ◌≤◌}
+use Rattle.std.proofs.Common.{Bool, List, None, Option, Some, [], ap, arith, inl, length, map, refl, subst, suc, sym, true, zero, ℕ, ◌+◌, ◌<◌, ◌∙◌, ◌∷◌, ◌≡◌, ◌≢◌, ◌≤◌}
 use Rattle.std.specs.Prelude.{slice_get, ◌^◌, ◌↔◌}
 use Rattle.std.proofs.lemmas.List.{length-append, length-map}
 use Rattle.std.proofs.lemmas.Option.{slice_get_within}
 use Rattle.cover_decompose.specs.Count.{decomposed}
 use Rattle.cover_decompose.specs.Decomposition.{net_of_model}
 use Rattle.cover_decompose.specs.StandsFor.{HasPoints, StandsFor}
-use Rattle.gate_net.specs.Faults.{IsTest, assigned, faults_of}
-use Rattle.gate_net.specs.Laws.{FaultyValuesExist, KeepsPlaces, ValuesExist}
-use Rattle.gate_net.specs.Net.{IsAcyclic, IsWellFormed as IsNet, Net, Node, Reads, drivers_in, node_at, source_count, wire_count}
-use Rattle.gate_net.specs.Values.{AreGoodValues, HasPin, junction}
+use Rattle.gate_net.specs.Faults.{assigned}
+use Rattle.gate_net.specs.Laws.{FaultyValuesExist, ValuesExist}
+use Rattle.gate_net.specs.Net.{IsWellFormed as IsNet, Net, Node, Reads, node_at, source_count, wire_count}
+use Rattle.gate_net.specs.Values.{AreGoodValues}
 use Rattle.graph_to_model.specs.Fits.{Fits}
 use Rattle.graph_to_model.specs.Laws.{AreFew, IsModelOf, TidyNetsHaveModels}
 use Rattle.graph_to_model.specs.NetModel.{model_of_net}
 use Rattle.joined_nets.specs.Growing.{IsOrdered, live}
-use Rattle.joined_nets.specs.Joined.{ShareSources, both, first_gate, moved}
+use Rattle.joined_nets.specs.Joined.{ShareSources, first_gate}
 use Rattle.joined_nets.specs.Ready.{IsReady}
 use Rattle.joined_nets.proofs.Public.{gives_names, live_below, ours_same, theirs_same}
 use Rattle.journal_text.specs.Accepted.{Keeps}
 use Rattle.journal_text.specs.Runs.{AcceptedRunsKeep}
 use Rattle.journal_text.specs.declared.record.Record.{Record}
-use Rattle.rm_base.proofs.Public.{map_agree, map_at, map_found}
+use Rattle.rm_base.proofs.Public.{map_agree, map_at}
 use Rattle.rm_base.specs.Words.{Word}
 use Rattle.rm_model.specs.Ranks.{first_without_rank}
 use Rattle.rm_model.specs.Value.{IsConsistent, IsRanked, observed_names, source_names}

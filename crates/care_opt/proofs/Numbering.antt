@@ -3,11 +3,11 @@ use Rattle.std.proofs.Common.{List, None, Option, Some, [], ap, arith, inl, inr,
 use Rattle.std.specs.Prelude.{slice_get, ◌++◌}
 use Rattle.std.proofs.lemmas.Bool.{cases_lt}
 use Rattle.std.proofs.lemmas.List.{length-map, map-append}
-use Rattle.gate_net.specs.Faults.{faults_from, faults_of, pin_faults}
-use Rattle.gate_net.specs.Net.{Net, Node, drivers_in, flatten_option, node_at}
+use Rattle.gate_net.specs.Faults.{faults_from, pin_faults}
+use Rattle.gate_net.specs.Net.{Net, Node, flatten_option, node_at}
 use Rattle.joined_nets.specs.Growing.{live}
 use Rattle.rm_base.specs.declared.numbers.Fault.{Fault}
-use Rattle.care_opt.specs.Extract.{extract, main_faults, main_nodes, new_number, numbered}
+use Rattle.care_opt.specs.Extract.{extract, main_nodes, new_number, numbered}
 use Rattle.care_opt.specs.Laws.{ExtractsKeepFaults}
 
 -- the node of that number in a list

@@ -1,19 +1,18 @@
 -- What refuting answers, and what passing over gates and faults collects.
 use Rattle.std.proofs.Common.{Bool, List, None, Option, Some, [], ap, arith, false, inl, inr, length, refl, subst, suc, sym, take, true, zero, ℕ, ◌*◌, ◌++◌, ◌+◌, ◌-◌, ◌<◌, ◌∙◌, ◌∷◌, ◌≡◌, ◌≤◌}
 use Rattle.std.specs.Prelude.{IfSome, if◌then◌else◌, slice_get, ◌||◌}
-use Rattle.std.specs.List.{AllByRecursion, AllZip}
+use Rattle.std.specs.List.{AllZip}
 use Rattle.std.proofs.lemmas.Bool.{cases_lt}
 use Rattle.std.proofs.lemmas.Option.{slice_get_within}
 use Rattle.gate_graph.specs.Circuit.{net_of}
-use Rattle.gate_net.specs.Faults.{fault_at, faults_from, pin_faults}
-use Rattle.gate_net.specs.Net.{Net, Node, Reads, drivers_in, drivers_of, flatten_option, node_at}
+use Rattle.gate_net.specs.Net.{Net}
 use Rattle.gate_net.specs.Values.{HasPin}
 use Rattle.recursive_learning.specs.Serving.{IsRefuted}
 use Rattle.refutation.specs.Detected.{HasOpenSet}
 use Rattle.refutation.specs.FactSets.{held_by}
 use Rattle.refutation.specs.declared.held.NodeFacts.{NodeFacts}
 use Rattle.refutation.specs.declared.items.Item.{Item}
-use Rattle.rm_base.proofs.Public.{some_is, stands_below, take_one_more}
+use Rattle.rm_base.proofs.Public.{some_is, take_one_more}
 use Rattle.rm_base.specs.declared.numbers.Fault.{Fault}
 use Rattle.rm_base.specs.declared.settings.Made.{Made}
 use Rattle.wire_edit.specs.Tried.{Tried}

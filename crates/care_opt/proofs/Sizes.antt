@@ -1,13 +1,12 @@
 -- The sources and the wires of an extract.
-use Rattle.std.proofs.Common.{List, None, Option, Some, [], ap, append_assoc, arith, drop, inl, inr, length, map, refl, suc, sym, take, zero, ℕ, ◌++◌, ◌+◌, ◌-◌, ◌<◌, ◌∙◌, ◌∷◌, ◌≡◌, ◌≢◌, ◌≤◌}
-use Rattle.std.specs.Prelude.{slice_get, sum_by}
+use Rattle.std.proofs.Common.{List, None, Option, Some, [], ap, append_assoc, arith, drop, inl, inr, length, map, refl, suc, sym, take, zero, ℕ, ◌++◌, ◌+◌, ◌-◌, ◌∙◌, ◌∷◌, ◌≡◌, ◌≢◌, ◌≤◌}
 use Rattle.std.proofs.lemmas.Bool.{cases_lt}
 use Rattle.std.proofs.lemmas.List.{length-map}
 use Rattle.std.proofs.lemmas.List.Sums.{sum_by-cons, sum_by-take-drop}
 use Rattle.gate_net.specs.Net.{IsKind, IsWellFormed, Net, Node, count_in, drivers_in, flatten_option, node_at, source_count, source_in, wire_count}
 use Rattle.gate_net.specs.declared.Kind.{Kind}
 use Rattle.gate_net.specs.declared.Kind.TheVariants.{Source}
-use Rattle.joined_nets.specs.Growing.{and_gate, live, sources_in, wires_in}
+use Rattle.joined_nets.specs.Growing.{live, sources_in, wires_in}
 use Rattle.joined_nets.specs.Joined.{both, first_gate, node_moved}
 use Rattle.joined_nets.proofs.Public.{from_drop, kind_uncounted, none_counted}
 use Rattle.journal_text.specs.Runs.{AcceptedTo, steps_of}

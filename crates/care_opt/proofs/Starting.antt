@@ -1,16 +1,16 @@
 -- The gated net of two nets, as it is made.
-use Rattle.std.proofs.Common.{Bool, List, None, Option, Some, [], ap, arith, false, inl, inr, length, map, refl, subst, sym, ℕ, ◌+◌, ◌-◌, ◌<◌, ◌∙◌, ◌∷◌, ◌≡◌, ◌≢◌, ◌≤◌}
+use Rattle.std.proofs.Common.{Bool, List, None, Option, Some, [], ap, arith, false, inl, inr, length, map, refl, subst, sym, ℕ, ◌+◌, ◌-◌, ◌<◌, ◌∙◌, ◌∷◌, ◌≡◌, ◌≤◌}
 use Rattle.std.specs.Prelude.{slice_get, slice_index_or}
 use Rattle.std.proofs.lemmas.Bool.{cases_lt}
 use Rattle.std.proofs.lemmas.List.{length-append, length-map}
 use Rattle.std.proofs.lemmas.Option.{slice_get_past}
-use Rattle.gate_net.specs.Net.{IsWellFormed, Net, Node, Reads, drivers_in, drivers_of, flatten_option, node_at, source_count}
+use Rattle.gate_net.specs.Net.{IsWellFormed, Net, Node, Reads, drivers_in, drivers_of, flatten_option, node_at}
 use Rattle.gate_net.specs.Values.{AreGoodValues, junction, node_value}
 use Rattle.joined_nets.specs.Growing.{IsOrdered, and_gate, live, sources_in}
-use Rattle.joined_nets.specs.Joined.{ShareSources, both, first_gate, moved, node_moved, observed_moved}
+use Rattle.joined_nets.specs.Joined.{ShareSources, both, first_gate, moved, node_moved}
 use Rattle.joined_nets.proofs.Public.{back_at, both_length, gates_later, joined_sources, live_below, moved_high, moved_low, ours_there, theirs_there}
 use Rattle.rm_base.proofs.Public.{map_at, map_found}
-use Rattle.care_opt.specs.Gated.{care_node, gated_net, gates_by, numbers_from}
+use Rattle.care_opt.specs.Gated.{care_node, gated_net, gates_by}
 use Rattle.care_opt.specs.Inner.Standing.{CanGate, IsGatedOver, IsNoMain}
 
 module _ (one two : Net) (share : ShareSources one two) (order : IsOrdered one) (other_order : IsOrdered two) (d : ℕ) (single : two.observed ≡ d ∷ []) where

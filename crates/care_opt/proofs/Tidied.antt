@@ -1,12 +1,11 @@
 -- The extract of a main-tidy gated net is tidy.
-use Rattle.std.proofs.Common.{Bool, None, Option, Some, [], ap, arith, false, inl, inr, length, map, not, refl, subst, sym, true, ℕ, ◌<◌, ◌∙◌, ◌∷◌, ◌≡◌, ◌≤◌}
+use Rattle.std.proofs.Common.{Bool, Option, Some, [], ap, arith, false, length, map, not, refl, subst, sym, true, ℕ, ◌<◌, ◌∙◌, ◌∷◌, ◌≡◌, ◌≤◌}
 use Rattle.std.specs.Prelude.{List, nat_eq, nat_lt, slice_get, ◌&&◌}
 use Rattle.std.proofs.lemmas.Bool.{eq-eqb, eqb-true, lt-ltb, ltb-true}
 use Rattle.std.proofs.lemmas.List.{length-map}
-use Rattle.gate_net.specs.Net.{IsGate, Net, Node, Reads, drivers_of, flatten_option, node_at}
-use Rattle.graph_to_model.specs.Making.{gate_of_step}
+use Rattle.gate_net.specs.Net.{IsGate, Net, drivers_of}
 use Rattle.joined_nets.specs.Joined.{first_gate}
-use Rattle.rm_base.proofs.Public.{and_first, and_second, both_and, map_found, not_excludes}
+use Rattle.rm_base.proofs.Public.{and_first, and_second, both_and, not_excludes}
 use Rattle.wire_edit.specs.Laws.{IsTidying, TidyMeans}
 use Rattle.wire_edit.specs.Order.{IsTidy, node}
 use Rattle.wire_edit.specs.Steps.{Applies, is_not_at, same_some}
@@ -17,7 +16,7 @@ use Rattle.wire_edit.proofs.Public.{gate_is, junction_gate}
 use Rattle.care_opt.specs.Extract.{extract, new_number}
 use Rattle.care_opt.specs.Inner.Standing.{CanGate, IsGatedOver}
 use Rattle.care_opt.specs.MainSteps.{IsMainTidy}
-use Rattle.care_opt.proofs.Extracted.{LiveMain, constant_same, drivers_same, gate_same, junction_same, kind_same, lower, not_same, repeated_same, same_of, use_from, use_to}
+use Rattle.care_opt.proofs.Extracted.{LiveMain, constant_same, drivers_same, gate_same, junction_same, lower, not_same, repeated_same, same_of, use_from, use_to}
 use Rattle.care_opt.proofs.Numbering.{extract_from, main, main_at, number_falls, take_below}
 use Rattle.care_opt.proofs.Standing.{gate_high, not_gate}
 

@@ -3,12 +3,11 @@ use Rattle.std.proofs.Common.{Bool, List, None, Option, Some, [], ap, arith, fal
 use Rattle.std.specs.Prelude.{if◌then◌else◌, nat_eq, slice_get, slice_set}
 use Rattle.std.proofs.lemmas.Bool.Decides.{eqb_tells}
 use Rattle.gate_net.specs.Laws.{FaultyValuesExist, KeepsPlaces, ValuesExist}
-use Rattle.gate_net.specs.Net.{IsAcyclic, IsGate, Net, Node, Reads, drivers_in, drivers_of, node_at, plain_node}
+use Rattle.gate_net.specs.Net.{IsAcyclic, Net, Node, Reads, drivers_in, drivers_of, node_at, plain_node}
 use Rattle.gate_net.specs.Values.{AreFaultyValues, AreGoodValues, Detects, faulty_reads, gate_value, junction, node_value}
 use Rattle.gate_net.specs.declared.Kind.{Kind}
 use Rattle.gate_net.specs.declared.Kind.TheVariants.{And, Not, One, Or, Source, Zero}
 use Rattle.gate_net.proofs.Public.{along_pins, reads_elsewhere}
-use Rattle.joined_nets.specs.Growing.{and_gate}
 use Rattle.joined_nets.specs.Joined.{both, first_gate}
 use Rattle.rm_base.proofs.Public.{map_agree, map_at, map_found, same-in-map}
 use Rattle.rm_base.specs.declared.numbers.Fault.{Fault}
@@ -17,7 +16,7 @@ use Rattle.care_opt.specs.Gated.{care_node, gated_net, numbers_from}
 use Rattle.care_opt.specs.Inner.Standing.{CanGate, IsGatedOver, IsNoMain}
 use Rattle.care_opt.specs.Laws.{renumbered}
 use Rattle.care_opt.proofs.Extracted.{LiveMain, drivers_same, lower, moved_live, number_found, number_there, same_of, seen_are}
-use Rattle.care_opt.proofs.Numbering.{extract_at, main, main_at, number_stays, redone}
+use Rattle.care_opt.proofs.Numbering.{extract_at, main, main_at, number_stays}
 
 -- only a source has the value that is assigned
 assigned_same : (kind : Kind) (p q : Bool) (reads : List Bool) → (kind ≡ Source → p ≡ q) → gate_value kind p reads ≡ gate_value kind q reads

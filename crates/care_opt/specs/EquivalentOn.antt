@@ -1,5 +1,5 @@
 -- When two models compute the same wherever a third one is 1.
-use Rattle.std.specs.Prelude.{Bool, [], length, map, true, ℕ, ◌∷◌, ◌≡◌}
+use Rattle.std.specs.Prelude.{Bool, [], length, map, true, ◌∷◌, ◌≡◌}
 use Rattle.rm_base.specs.Words.{Word}
 use Rattle.rm_model.specs.Value.{IsConsistent, IsRanked, observed_names, source_names}
 use Rattle.rm_model.specs.declared.parts.Model.{Model}

@@ -9,6 +9,7 @@ mod extracting;
 mod gating;
 mod laws;
 mod listing;
+mod optimising;
 mod refusal;
 mod refuting;
 mod sweeping;
@@ -18,4 +19,5 @@ mod working;
 
 pub use done::CareDone;
 pub use laws::extracts_keep_faults;
+pub use optimising::optimise_care;
 pub use refusal::CareRefusal;

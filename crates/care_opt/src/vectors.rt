@@ -1,15 +1,19 @@
 // Vectors that were found to detect faults of a net. A fault that one of them detects is never refuted, so it isn't learned about.
-ghost use Rattle.std.specs.Prelude.{◌≡◌, ℕ, Bool, IfOk, OnOk, IsTrue};
+ghost use Rattle.std.specs.Prelude.{◌≡◌, ◌<◌, ℕ, Bool, IfOk, IfSome, OnOk, IsTrue, length, map};
 ghost use Rattle.gate_graph.specs.Circuit.{net_of};
+ghost use Rattle.gate_net.specs.Faults.{IsTest};
+ghost use Rattle.gate_net.specs.Net.{Net, source_count};
 ghost use Rattle.gate_net.specs.Values.{Detects};
 ghost use Rattle.fault_sim.specs.BlockStates.{AreSimulated};
+ghost use Rattle.fault_sim.specs.LaneStates.{Fits};
+ghost use Rattle.fault_sim.specs.Words.{lane as lane_of};
 ghost use Rattle.care_opt.specs.Inner.Kept.{AreKept};
 
 use candidate_vectors::completed_words;
 use fault_sim::{Blocks, Lanes};
 use gate_graph::{Graph, Question};
 use refutation::FactSet;
-use rm_base::NoMemory;
+use rm_base::{NoMemory, Vector};
 use std::alloc::Global;
 
 // At most so many blocks of 64 vectors are kept.
@@ -66,6 +70,46 @@ fn blocks_for(alloc: Global, graph: &Graph, words: &[Vec<u64>]) -> Result<Blocks
     let mut blocks = Blocks::new(alloc, graph)?;
     keep_all(alloc, graph, words, &mut blocks)?;
     Ok(blocks)
+}
+
+// Whether the lane of the word is set.
+fn has_lane(word: u64, lane: u32) -> bool
+    requires { lane < 64 }
+    ensures { result ≡ lane_of lane word }
+{
+    (word >> lane) & 1 == 1
+}
+
+// The vector in a lane of the words.
+fn vector_in(alloc: Global, words: &[u64], lane: u32) -> Result<Vector, NoMemory>
+    requires { lane < 64 }
+    ensures { IfOk result (λ v. v ≡ map (lane_of lane) words.now) }
+{
+    let mut values = Vec::with_capacity(alloc, words.len())?;
+    for word in words {
+        values.push(has_lane(*word, lane))?;
+    }
+    Ok(Vector::of(values))
+}
+
+// A vector among the 64 of these words that detects the fault.
+fn test_among(
+    alloc: Global,
+    question: &Question<'_>,
+    words: &[u64],
+    lanes: &mut Lanes,
+) -> Result<Option<Vector>, NoMemory>
+    requires size { length words.now ≡ source_count (net_of question.now.graph.now) }
+    requires fits { Fits lanes.old (net_of question.now.graph.now) }
+    ensures test { IfOk result (λ found. IfSome found (IsTest (net_of question.now.graph.now) question.now.fault)) }
+    ensures fits { (net : Net) → Fits lanes.old net → Fits lanes.new net }
+{
+    lanes.simulate64(question.graph, words);
+    let Some(lane) = lanes.first_detecting(question) else {
+        return Ok(None);
+    };
+    let vector = vector_in(alloc, words, lane)?;
+    Ok(Some(vector))
 }
 
 impl Vectors {
@@ -132,5 +176,31 @@ impl Vectors {
         };
         self.keep(alloc, question.graph, words)?;
         Ok(true)
+    }
+
+    /// One of them that detects the fault.
+    pub(crate) fn test_of(
+        &mut self,
+        alloc: Global,
+        question: &Question<'_>,
+        lanes: &mut Lanes,
+    ) -> Result<Option<Vector>, NoMemory>
+        requires kept { AreKept self.old (net_of question.now.graph.now) }
+        requires fits { Fits lanes.old (net_of question.now.graph.now) }
+        ensures test { IfOk result (λ found. IfSome found (IsTest (net_of question.now.graph.now) question.now.fault)) }
+        ensures kept { AreKept self.new (net_of question.now.graph.now) }
+        ensures fits { (net : Net) → Fits lanes.old net → Fits lanes.new net }
+    {
+        question.graph.well_formed();
+        let Some(at) = self.blocks.detects_any(question) else {
+            return Ok(None);
+        };
+        let Some(words) = self.words.as_slice().get(at / 64) else {
+            return Ok(None);
+        };
+        if words.len() != question.graph.source_count() as usize {
+            return Ok(None);
+        }
+        test_among(alloc, question, words.as_slice(), lanes)
     }
 }

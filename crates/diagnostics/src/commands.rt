@@ -34,7 +34,7 @@ pub(crate) const OPTIONS: [OptionRule; 4] = [
         high: 2,
         default: 1,
         meaning: "depth of recursive learning; 0 is direct implication",
-        commands: &["opt", "demo", "equal"],
+        commands: &["opt", "demo", "equal", "optcare"],
     },
     OptionRule {
         name: "--budget",
@@ -42,7 +42,7 @@ pub(crate) const OPTIONS: [OptionRule; 4] = [
         high: 1_048_576,
         default: 256,
         meaning: "edges that one search for a test vector may enter",
-        commands: &["opt", "demo", "equal"],
+        commands: &["opt", "demo", "equal", "optcare"],
     },
     OptionRule {
         name: "--tries",
@@ -62,7 +62,7 @@ pub(crate) const OPTIONS: [OptionRule; 4] = [
     },
 ];
 
-pub(crate) const COMMANDS: [CommandRule; 8] = [
+pub(crate) const COMMANDS: [CommandRule; 10] = [
     CommandRule {
         name: "opt",
         usage: "opt IN OUT [JOURNAL] [options]",
@@ -134,6 +134,24 @@ pub(crate) const COMMANDS: [CommandRule; 8] = [
         different: &[(0, 1), (0, 2), (1, 2)],
         written: &["PROOF"],
         meaning: "decide whether the BLIF netlists A and B have the same function, and write the proof or the difference to PROOF",
+    },
+    CommandRule {
+        name: "judge",
+        usage: "judge A B PROOF",
+        names: &["A", "B", "PROOF"],
+        least: 3,
+        different: &[],
+        written: &[],
+        meaning: "replay PROOF over the BLIF netlists A and B, and tell what it shows of them",
+    },
+    CommandRule {
+        name: "optcare",
+        usage: "optcare IN CARE OUT TESTS [options]",
+        names: &["IN", "CARE", "OUT", "TESTS"],
+        least: 4,
+        different: &[(0, 1), (0, 2), (0, 3), (1, 2), (1, 3), (2, 3)],
+        written: &["OUT", "TESTS"],
+        meaning: "remove wires of the BLIF netlist IN where its values count only while the output of CARE is 1; write the netlist OUT, and a test for each fault that is left to TESTS",
     },
 ];
 

@@ -1,4 +1,4 @@
-// What there is to say of two netlists that are compared.
+// What there is to say of two netlists that belong together: those that are compared, and one with its care netlist.
 use crate::message::Message;
 use crate::parts::Part;
 use rm_base::NoMemory;
@@ -47,6 +47,19 @@ pub(crate) fn say_unlike(message: Message, unlike: &UnlikeLists<'_>) -> Result<M
         Part::Number(unlike.place),
         Part::Text("\n"),
         Part::Text(contents(unlike.list)),
+    ])
+}
+
+/// The care netlist isn't of the shape that it has to have.
+pub(crate) fn say_care_shape(message: Message, care: &str) -> Result<Message, NoMemory> {
+    message.say(&[
+        Part::Word(care.as_bytes()),
+        Part::Text(": "),
+        Part::Red("error: "),
+        Part::Text("CARE has to have exactly one output, and no latches and no clocks\n"),
+        Part::Text(
+            "hint: its .inputs line lists all sources of IN in order: the inputs, then the clocks, then the outputs of latches; its output is 1 where the values of IN count\n",
+        ),
     ])
 }
 

@@ -2,13 +2,16 @@
 ghost use Rattle.std.specs.Prelude.{IfOk};
 ghost use Rattle.diagnostics.specs.Terminal.{IsTerminalText};
 
-use crate::comparisons::{UnlikeLists, say_differ, say_undecided, say_unlike};
+use crate::comparisons::{UnlikeLists, say_care_shape, say_differ, say_undecided, say_unlike};
 use crate::failures::{Failure, say_failure};
 use crate::journals::{RefusedLine, say_difference, say_refused_line};
 use crate::limits::say_limit;
 use crate::message::Message;
 use crate::parts::Part;
-use crate::printed::{Printed, journal_line, journal_place, number, printed_words};
+use crate::printed::{
+    Printed, journal_line, journal_place, number, printed_words, proof_kind, proof_line,
+};
+use crate::proof_lines::{RefusedProof, say_refused_proof};
 use crate::reading::{Reading, read_words};
 use crate::refusals::say_refusal;
 use crate::text_faults::{TextFault, say_text_fault};
@@ -78,23 +81,41 @@ fn name_for<'a>(reading: &Reading<'a>, role: &str) -> &'a str {
     UNNAMED
 }
 
-// The name of the journal that is read.
+// The name of the journal or of the proof that is read.
 fn journal_name<'a>(reading: &Reading<'a>) -> &'a str {
     if is_of(reading, "convert") {
         name_for(reading, "FROM")
+    } else if is_of(reading, "judge") {
+        name_for(reading, "PROOF")
     } else {
         name_for(reading, "JOURNAL")
+    }
+}
+
+// The name of the netlist that is read first.
+fn first_name<'a>(reading: &Reading<'a>) -> &'a str {
+    if is_of(reading, "equal") || is_of(reading, "judge") {
+        name_for(reading, "A")
+    } else {
+        name_for(reading, "IN")
+    }
+}
+
+// The name of the netlist that is read second.
+fn second_name<'a>(reading: &Reading<'a>) -> &'a str {
+    if is_of(reading, "optcare") {
+        name_for(reading, "CARE")
+    } else {
+        name_for(reading, "B")
     }
 }
 
 // The name of the netlist of which the words speak.
 fn netlist_name<'a>(reading: &Reading<'a>, printed: &Printed<'_>) -> &'a str {
     if printed.is_second {
-        name_for(reading, "B")
-    } else if is_of(reading, "equal") {
-        name_for(reading, "A")
+        second_name(reading)
     } else {
-        name_for(reading, "IN")
+        first_name(reading)
     }
 }
 
@@ -106,6 +127,15 @@ fn journal_subject<'a>(reading: &Reading<'a>, printed: &Printed<'_>) -> Option<S
     Some(Subject {
         name: journal_name(reading),
         part: SubjectPart::Line(journal_line(printed)),
+    })
+}
+
+// The line of the proof of which the words speak, if they speak of one.
+fn proof_subject<'a>(reading: &Reading<'a>, printed: &Printed<'_>) -> Option<Subject<'a>> {
+    let number = proof_line(printed)?;
+    Some(Subject {
+        name: journal_name(reading),
+        part: SubjectPart::Line(number),
     })
 }
 
@@ -123,6 +153,7 @@ pub fn subject_of<'a>(
             part: SubjectPart::Whole,
         }),
         "journal" => journal_subject(&reading, &printed),
+        "proof" => proof_subject(&reading, &printed),
         "netlist" => Some(Subject {
             name: name_for(&reading, "OUT"),
             part: SubjectPart::UpTo(number(printed.second)),
@@ -150,6 +181,24 @@ fn say_journal(
     )
 }
 
+fn say_proof(
+    message: Message,
+    reading: &Reading<'_>,
+    printed: &Printed<'_>,
+    text: &[u8],
+) -> Result<Message, NoMemory> {
+    say_refused_proof(
+        message,
+        &RefusedProof {
+            name: journal_name(reading),
+            number: proof_line(printed),
+            line: text,
+            kind: proof_kind(printed),
+            rest: printed.rest,
+        },
+    )
+}
+
 fn say_fault(
     message: Message,
     reading: &Reading<'_>,
@@ -165,7 +214,7 @@ fn say_fault(
     }
 }
 
-// What there is to say of two netlists that aren't equal.
+// What there is to say of two netlists that aren't equal, or don't belong together.
 fn say_comparison(
     message: Message,
     reading: &Reading<'_>,
@@ -174,11 +223,12 @@ fn say_comparison(
     match printed.first {
         "differ" => say_differ(message, printed.second),
         "undecided" => say_undecided(message, number(printed.second)),
+        "care" => say_care_shape(message, second_name(reading)),
         _ => say_unlike(
             message,
             &UnlikeLists {
-                first: name_for(reading, "A"),
-                second: name_for(reading, "B"),
+                first: first_name(reading),
+                second: second_name(reading),
                 list: printed.second,
                 place: number(printed.third),
             },
@@ -205,17 +255,18 @@ fn explained(alloc: Global, colours: bool, ending: &Ending<'_>) -> Result<Messag
         "limit" => say_limit(
             message,
             limited_name(&reading, &printed),
-            printed.second,
+            limited_quantity(&reading, &printed),
             number(printed.third),
         ),
         "journal" => say_journal(message, &reading, &printed, ending.text),
+        "proof" => say_proof(message, &reading, &printed, ending.text),
         "netlist" => say_difference(
             message,
             name_for(&reading, "OUT"),
             ending.text,
             number(printed.second),
         ),
-        "differ" | "undecided" | "unlike" => say_comparison(message, &reading, &printed),
+        "differ" | "undecided" | "unlike" | "care" => say_comparison(message, &reading, &printed),
         "memory" => message.say(&[
             Part::Text("rambo: "),
             Part::Red("error: "),
@@ -230,6 +281,15 @@ fn limited_name<'a>(reading: &Reading<'a>, printed: &Printed<'_>) -> &'a str {
         journal_name(reading)
     } else {
         netlist_name(reading, printed)
+    }
+}
+
+// The quantity that is over its limit: a proof is read as a journal is.
+fn limited_quantity<'a>(reading: &Reading<'_>, printed: &Printed<'a>) -> &'a str {
+    if printed.second == "journal" && is_of(reading, "judge") {
+        "proof"
+    } else {
+        printed.second
     }
 }
 

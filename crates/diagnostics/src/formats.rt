@@ -13,7 +13,7 @@ pub(crate) struct Format {
 const JOURNAL_HINT: &str =
     "IN is the first name, and of check, tests and replay JOURNAL the second";
 
-const FORMATS: [Format; 21] = [
+const FORMATS: [Format; 22] = [
     Format {
         begin: b"\x1f\x8b",
         name: "this is gzip data, not BLIF",
@@ -113,6 +113,11 @@ const FORMATS: [Format; 21] = [
         begin: JOURNAL_OF_BYTES,
         name: "this is a journal of rambo, not BLIF",
         hint: JOURNAL_HINT,
+    },
+    Format {
+        begin: b"rambo-equal ",
+        name: "this is a proof of rambo, not BLIF",
+        hint: "A and B are the first names of judge, and PROOF is the third",
     },
     Format {
         begin: b"(edif",

@@ -205,7 +205,7 @@ const UNSUPPORTED: [(&str, &str); 11] = [
     ),
     (
         ".exdc",
-        "delete the don't-care section; the function is kept on every assignment",
+        "delete the don't-care section; rambo optcare reads a netlist of its own that is 1 where values count",
     ),
     (".attr", "write_blif of yosys without -attr leaves it out"),
     (".cname", "write_blif of yosys without -cname leaves it out"),

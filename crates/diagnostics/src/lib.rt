@@ -21,6 +21,7 @@ mod parts;
 mod places;
 mod printed;
 mod progress;
+mod proof_lines;
 mod reading;
 mod refusals;
 mod text_faults;

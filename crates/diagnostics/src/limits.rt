@@ -15,7 +15,7 @@ struct LimitRule {
 
 const BY_BLOCKS: &str = "split the design into blocks";
 
-const LIMITS: [LimitRule; 9] = [
+const LIMITS: [LimitRule; 10] = [
     LimitRule {
         word: "text",
         before: " has ",
@@ -62,6 +62,12 @@ const LIMITS: [LimitRule; 9] = [
         word: "journal",
         before: " has ",
         after: " bytes or more, and is no journal",
+        hint: "",
+    },
+    LimitRule {
+        word: "proof",
+        before: " has ",
+        after: " bytes or more, and is no proof",
         hint: "",
     },
     LimitRule {

@@ -60,6 +60,26 @@ pub(crate) fn journal_line(printed: &Printed<'_>) -> u64 {
     }
 }
 
+/// The kind of the refusal of a proof.
+pub(crate) fn proof_kind<'a>(printed: &Printed<'a>) -> &'a str {
+    if printed.second == "record" {
+        printed.fourth
+    } else {
+        printed.second
+    }
+}
+
+/// The line of a proof of which the words speak, if they speak of one: record R stands on line R + 1.
+pub(crate) fn proof_line(printed: &Printed<'_>) -> Option<u64> {
+    if printed.second == "record" {
+        Some(number(printed.third).saturating_add(1))
+    } else if printed.third.is_empty() {
+        None
+    } else {
+        Some(number(printed.third))
+    }
+}
+
 /// The place in a journal of which the words speak, where this is known of the journal's text.
 pub(crate) fn journal_place(printed: &Printed<'_>, text: &[u8]) -> JournalPlace {
     let has_records = printed.second == "record" && text == JOURNAL_OF_BYTES;

@@ -12,19 +12,21 @@ const WHAT: &str =
 
 const FURTHER: &str =
     "An option is written --depth 1 or --depth=1, before or after the names. After '--' every word is a name.
-IN, A and B, and all files that check, tests and replay read, may be pipes such as /dev/stdin. None of them is written.
+IN, CARE, A and B, and all files that check, tests, replay and judge read, may be pipes such as /dev/stdin. None of them is written.
 
 exit status:
   0  done; equal: the netlists have the same function
-  1  IN, A or B has an error
+  1  IN, CARE, A or B has an error
   2  the command line is wrong
   3  a file or standard output failed
   4  out of memory
   5  something is over its limit
-  6  check, tests: JOURNAL isn't accepted, or OUT differs; convert: FROM is no journal of version 1
+  6  check, tests: JOURNAL isn't accepted, or OUT differs; convert: FROM is no journal of version 1;
+     judge: PROOF isn't accepted
   7  equal: the netlists differ
   8  equal: the search used up its budget
-  9  equal: the sources or the observed names of A and B aren't the same
+  9  equal, judge: the sources or the observed names of A and B aren't the same;
+     optcare: CARE hasn't exactly one output, has a latch or a clock, or hasn't the sources of IN as its inputs
 ";
 
 // An option with its range.
@@ -101,7 +103,9 @@ pub(crate) fn say_command(
 pub(crate) fn say_help(message: Message) -> Result<Message, NoMemory> {
     let message = say_commands(message.say(&[Part::Text(WHAT), Part::Text("\nusage:\n")])?)?;
     let message = say_options(
-        message.say(&[Part::Text("\noptions of opt and demo; equal has the first two:\n")])?,
+        message.say(&[Part::Text(
+            "\noptions of opt and demo; equal and optcare have the first two:\n",
+        )])?,
         "opt",
     )?;
     message.say(&[Part::Text("\n"), Part::Text(FURTHER)])

@@ -237,6 +237,146 @@ const COMPARISONS: [(&str, &str, &str, &str); 11] = [
     ),
 ];
 
+// The same of a proof that is replayed.
+const PROOFS: [(&str, &str, &str, &str); 16] = [
+    (
+        "judge a b p",
+        "text 5:2 RowCharacter\n",
+        ".model m\n.inputs a b\n.outputs z\n.names a b z\n1x 1\n.end\n",
+        "a:5:2: error: 'x' in a row: inputs are 0, 1 or -, and the output is 0 or 1 [RowCharacter]\n  1x 1\n   ^\nhint: write - for an input that doesn't matter\n",
+    ),
+    (
+        "judge a b p",
+        "second text 5:2 RowCharacter\n",
+        ".model m\n.inputs a b\n.outputs z\n.names a b z\n1x 1\n.end\n",
+        "b:5:2: error: 'x' in a row: inputs are 0, 1 or -, and the output is 0 or 1 [RowCharacter]\n  1x 1\n   ^\nhint: write - for an input that doesn't matter\n",
+    ),
+    (
+        "judge a p b",
+        "second text 1:1 NoModel\n",
+        "rambo-equal 1 256\nsame .\n",
+        "p:1:1: error: this is a proof of rambo, not BLIF [NoModel]\nhint: A and B are the first names of judge, and PROOF is the third\n",
+    ),
+    (
+        "judge a b p",
+        "unlike observed 3\n",
+        "",
+        "b: error: its observed names aren't those of 'a', first at place 3\nhint: the observed names are the outputs, then the inputs of latches, then their controls; their order counts\n",
+    ),
+    (
+        "judge a b p",
+        "limit journal 4611686018427387905\n",
+        "",
+        "p: error: it has 4611686018427387905 bytes or more, and is no proof\n",
+    ),
+    (
+        "judge a b p",
+        "second limit pins 70000\n",
+        "",
+        "b: error: it needs 70000 wires as And, Or and Not gates; at most 65536 are allowed\nhint: let abc minimise the covers first, or split the design into blocks\n",
+    ),
+    (
+        "judge a b p",
+        "proof BadHeader 1\n",
+        ".model b",
+        "p:1: error: the first line isn't 'rambo-equal 1 BUDGET' or 'rambo-equal 2 BUDGET': another file, another version, or carriage returns [BadHeader]\n  .model b\nhint: the proof is of other netlists, or was changed; rambo equal writes it anew\n",
+    ),
+    (
+        "judge a b p",
+        "proof BadHeader 1\n",
+        "rambo 2\n",
+        "p:1: error: the first line isn't 'rambo-equal 1 BUDGET' or 'rambo-equal 2 BUDGET': another file, another version, or carriage returns [BadHeader]\nhint: the proof is of other netlists, or was changed; rambo equal writes it anew\n",
+    ),
+    (
+        "judge a b p",
+        "proof BadRecord 2\n",
+        "differs 10",
+        "p:2: error: the line is none that a proof may have there [BadRecord]\n  differs 10\nhint: the proof is of other netlists, or was changed; rambo equal writes it anew\n",
+    ),
+    (
+        "judge a b p",
+        "proof Truncated 4\n",
+        "",
+        "p:4: error: the text ends before its last line is whole: the file was cut short [Truncated]\nhint: the proof is of other netlists, or was changed; rambo equal writes it anew\n",
+    ),
+    (
+        "judge a b p",
+        "proof AfterEnd 3\n",
+        "x",
+        "p:3: error: something follows the last line [AfterEnd]\n  x\nhint: the proof is of other netlists, or was changed; rambo equal writes it anew\n",
+    ),
+    (
+        "judge a b p",
+        "proof record 2 NoStep\n",
+        "hit 8 0 0 0101",
+        "p:3: error: the record is no step [NoStep]\n  hit 8 0 0 0101\nhint: the proof is of other netlists, or was changed; rambo equal writes it anew\n",
+    ),
+    (
+        "judge a b p",
+        "proof record 1 VectorMisses\n",
+        "differ 11",
+        "p:2: error: the netlists have the same values under the vector, or it hasn't one bit for each source [VectorMisses]\n  differ 11\nhint: the proof is of other netlists, or was changed; rambo equal writes it anew\n",
+    ),
+    (
+        "judge a b p",
+        "proof record 1 BadLine item 2\n",
+        "same a g6",
+        "p:2: error: an implication doesn't follow from what is known [BadLine item 2]\n  same a g6\nhint: the proof is of other netlists, or was changed; rambo equal writes it anew\n",
+    ),
+    (
+        "judge a b p",
+        "proof record 1 SpentShort 1 256\n",
+        "spent /2,1 @ ?",
+        "p:2: error: the search ended before its budget was used up [SpentShort 1 256]\n  spent /2,1 @ ?\nhint: the proof is of other netlists, or was changed; rambo equal writes it anew\n",
+    ),
+    (
+        "judge a b p",
+        "proof NotOne\n",
+        "",
+        "p: error: the steps don't make the miter the constant One [NotOne]\nhint: the proof is of other netlists, or was changed; rambo equal writes it anew\n",
+    ),
+];
+
+// The same of a netlist with its care netlist.
+const CARES: [(&str, &str, &str, &str); 6] = [
+    (
+        "optcare i c o t",
+        "text 5:2 RowCharacter\n",
+        ".model m\n.inputs a b\n.outputs z\n.names a b z\n1x 1\n.end\n",
+        "i:5:2: error: 'x' in a row: inputs are 0, 1 or -, and the output is 0 or 1 [RowCharacter]\n  1x 1\n   ^\nhint: write - for an input that doesn't matter\n",
+    ),
+    (
+        "optcare i c o t --budget 8",
+        "second text 5:2 RowCharacter\n",
+        ".model m\n.inputs a b\n.outputs z\n.names a b z\n1x 1\n.end\n",
+        "c:5:2: error: 'x' in a row: inputs are 0, 1 or -, and the output is 0 or 1 [RowCharacter]\n  1x 1\n   ^\nhint: write - for an input that doesn't matter\n",
+    ),
+    (
+        "optcare i c o t",
+        "second text 4:1 Unsupported\n",
+        ".model m\n.inputs a\n.outputs a\n.exdc\n.end\n",
+        "c:4:1: error: '.exdc' is not part of a flat BLIF model [Unsupported]\n  .exdc\n  ^\nhint: delete the don't-care section; rambo optcare reads a netlist of its own that is 1 where values count\n",
+    ),
+    (
+        "optcare i c o t",
+        "second limit sources 1025\n",
+        "",
+        "c: error: it has 1025 or more primary inputs, clocks and latch outputs together; at most 1024 are allowed\nhint: split the design into blocks\n",
+    ),
+    (
+        "optcare i c o t",
+        "unlike sources 2\n",
+        "",
+        "c: error: its sources aren't those of 'i', first at place 2\nhint: the sources are the inputs, then the clocks, then the outputs of latches; their order counts\n",
+    ),
+    (
+        "optcare --depth 0 i c o t",
+        "care shape\n",
+        "",
+        "c: error: CARE has to have exactly one output, and no latches and no clocks\nhint: its .inputs line lists all sources of IN in order: the inputs, then the clocks, then the outputs of latches; its output is 1 where the values of IN count\n",
+    ),
+];
+
 #[test]
 fn endings_are_explained(rt: HostRuntime) -> Result<(), Fail> {
     let alloc = rt.alloc();
@@ -263,6 +403,28 @@ fn versions_are_explained(rt: HostRuntime) -> Result<(), Fail> {
 fn comparisons_are_explained(rt: HostRuntime) -> Result<(), Fail> {
     let alloc = rt.alloc();
     for (words, printed, text, wanted) in COMPARISONS {
+        let given = words_of(alloc, words)?;
+        let found = shown(alloc, given.as_slice(), printed, text.as_bytes(), None)?;
+        assert_eq!(rt; found.as_slice(), wanted.as_bytes(), "{printed}");
+    }
+    Ok(())
+}
+
+#[test]
+fn proofs_are_explained(rt: HostRuntime) -> Result<(), Fail> {
+    let alloc = rt.alloc();
+    for (words, printed, text, wanted) in PROOFS {
+        let given = words_of(alloc, words)?;
+        let found = shown(alloc, given.as_slice(), printed, text.as_bytes(), None)?;
+        assert_eq!(rt; found.as_slice(), wanted.as_bytes(), "{printed}");
+    }
+    Ok(())
+}
+
+#[test]
+fn cares_are_explained(rt: HostRuntime) -> Result<(), Fail> {
+    let alloc = rt.alloc();
+    for (words, printed, text, wanted) in CARES {
         let given = words_of(alloc, words)?;
         let found = shown(alloc, given.as_slice(), printed, text.as_bytes(), None)?;
         assert_eq!(rt; found.as_slice(), wanted.as_bytes(), "{printed}");

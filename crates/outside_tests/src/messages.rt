@@ -3,7 +3,7 @@ use diagnostics::{Ending, Failure, Operation, Reason, explanation, undecodable_w
 use std::alloc::{AllocError, Global};
 use std::test::Fail;
 
-// The options of `equal`, and then the others of `opt` and `demo`.
+// The options of `equal` and `optcare`, and then the others of `opt` and `demo`.
 const OPTIONS: [&str; 2] = [
     "  --depth 0..2  depth of recursive learning; 0 is direct implication (default 1)
   --budget 1..1048576  edges that one search for a test vector may enter (default 256)
@@ -17,7 +17,7 @@ const OPTIONS: [&str; 2] = [
 const REFUSALS: [(&str, &str); 17] = [
     (
         "optimise a b",
-        "rambo: error: no command 'optimise'; the commands are opt check demo flat tests replay convert equal\nusage:\n  rambo opt IN OUT [JOURNAL] [options]\n  rambo check IN JOURNAL OUT\n  rambo demo SEED [options]\n  rambo flat IN OUT\n  rambo tests IN JOURNAL OUT PATTERNS\n  rambo replay IN JOURNAL OUT\n  rambo convert FROM TO\n  rambo equal A B PROOF [options]\nrambo --help lists the options; man rambo has more\n",
+        "rambo: error: no command 'optimise'; the commands are opt check demo flat tests replay convert equal judge optcare\nusage:\n  rambo opt IN OUT [JOURNAL] [options]\n  rambo check IN JOURNAL OUT\n  rambo demo SEED [options]\n  rambo flat IN OUT\n  rambo tests IN JOURNAL OUT PATTERNS\n  rambo replay IN JOURNAL OUT\n  rambo convert FROM TO\n  rambo equal A B PROOF [options]\n  rambo judge A B PROOF\n  rambo optcare IN CARE OUT TESTS [options]\nrambo --help lists the options; man rambo has more\n",
     ),
     (
         "--version",
@@ -109,6 +109,62 @@ const EQUAL_REFUSALS: [(&str, &str); 5] = [
     ),
 ];
 
+// The same of `judge`.
+const JUDGE_REFUSALS: [(&str, &str); 4] = [
+    (
+        "judge",
+        "rambo: error: judge lacks A B PROOF\nusage: rambo judge A B PROOF\n",
+    ),
+    (
+        "judge a b",
+        "rambo: error: judge lacks PROOF\nusage: rambo judge A B PROOF\n",
+    ),
+    (
+        "judge a b p q",
+        "rambo: error: judge has one name too many: 'q'\nusage: rambo judge A B PROOF\n",
+    ),
+    (
+        "judge a b p --budget 8",
+        "rambo: error: judge has no option '--budget'\nusage: rambo judge A B PROOF\n",
+    ),
+];
+
+// The same of `optcare`.
+const CARE_REFUSALS: [(&str, &str); 8] = [
+    (
+        "optcare a c o",
+        "rambo: error: optcare lacks TESTS\nusage: rambo optcare IN CARE OUT TESTS [options]\n",
+    ),
+    (
+        "optcare",
+        "rambo: error: optcare lacks IN CARE OUT TESTS\nusage: rambo optcare IN CARE OUT TESTS [options]\n",
+    ),
+    (
+        "optcare a c o t u",
+        "rambo: error: optcare has one name too many: 'u'\nusage: rambo optcare IN CARE OUT TESTS [options]\n",
+    ),
+    (
+        "optcare a a o t",
+        "rambo: error: IN and CARE are both 'a'; the names must differ\nusage: rambo optcare IN CARE OUT TESTS [options]\n",
+    ),
+    (
+        "optcare a c a a",
+        "rambo: error: IN and OUT are both 'a'; the names must differ\nusage: rambo optcare IN CARE OUT TESTS [options]\n",
+    ),
+    (
+        "optcare a c o a --depth 2",
+        "rambo: error: IN and TESTS are both 'a'; the names must differ\nusage: rambo optcare IN CARE OUT TESTS [options]\n",
+    ),
+    (
+        "optcare a c c t",
+        "rambo: error: CARE and OUT are both 'c'; the names must differ\nusage: rambo optcare IN CARE OUT TESTS [options]\n",
+    ),
+    (
+        "optcare a c o o",
+        "rambo: error: OUT and TESTS are both 'o'; the names must differ\nusage: rambo optcare IN CARE OUT TESTS [options]\n",
+    ),
+];
+
 // Words of which an option is refused, and the first lines of what is shown: the options follow.
 const OPTION_REFUSALS: [(&str, &str); 7] = [
     (
@@ -157,6 +213,21 @@ const EQUAL_OPTION_REFUSALS: [(&str, &str); 4] = [
     (
         "equal a b p --budget=1 --budget=1",
         "rambo: error: --budget is given twice\nusage: rambo equal A B PROOF [options]\n",
+    ),
+];
+
+const CARE_OPTION_REFUSALS: [(&str, &str); 3] = [
+    (
+        "optcare a c o t --tries 7",
+        "rambo: error: optcare has no option '--tries'\nusage: rambo optcare IN CARE OUT TESTS [options]\n",
+    ),
+    (
+        "optcare a c o t --budget 0",
+        "rambo: error: --budget '0': not in the range 1 to 1048576\nusage: rambo optcare IN CARE OUT TESTS [options]\n",
+    ),
+    (
+        "optcare a c o t --depth",
+        "rambo: error: --depth has no value\nusage: rambo optcare IN CARE OUT TESTS [options]\n",
     ),
 ];
 
@@ -255,6 +326,12 @@ fn refused_words_are_explained(rt: HostRuntime) -> Result<(), Fail> {
     for (words, wanted) in EQUAL_REFUSALS {
         assert!(rt; is_refused(rt.alloc(), words, wanted, 0)?, "{words}");
     }
+    for (words, wanted) in JUDGE_REFUSALS {
+        assert!(rt; is_refused(rt.alloc(), words, wanted, 0)?, "{words}");
+    }
+    for (words, wanted) in CARE_REFUSALS {
+        assert!(rt; is_refused(rt.alloc(), words, wanted, 0)?, "{words}");
+    }
     Ok(())
 }
 
@@ -264,6 +341,9 @@ fn refused_options_are_explained(rt: HostRuntime) -> Result<(), Fail> {
         assert!(rt; is_refused(rt.alloc(), words, wanted, 2)?, "{words}");
     }
     for (words, wanted) in EQUAL_OPTION_REFUSALS {
+        assert!(rt; is_refused(rt.alloc(), words, wanted, 1)?, "{words}");
+    }
+    for (words, wanted) in CARE_OPTION_REFUSALS {
         assert!(rt; is_refused(rt.alloc(), words, wanted, 1)?, "{words}");
     }
     Ok(())

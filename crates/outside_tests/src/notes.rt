@@ -20,6 +20,7 @@ fn notes_and_progress_are_said(rt: HostRuntime) -> Result<(), Fail> {
     assert_eq!(rt; closing_note(alloc, "accepted 19\n")?.len(), 0);
     assert_eq!(rt; closing_note(alloc, "replayed 9\n")?.len(), 0);
     assert_eq!(rt; closing_note(alloc, "equal\n")?.len(), 0);
+    assert_eq!(rt; closing_note(alloc, "accepted 1\nequal\n")?.len(), 0);
     let given = words_of(alloc, "opt a none/o j")?;
     let found = warning(
         alloc,
@@ -121,7 +122,7 @@ fn lines_of_a_journal_are_found(rt: HostRuntime) -> Result<(), Fail> {
 }
 
 // Words of a run, what it printed, and the file that a message shows.
-const SUBJECTS: [(&str, &str, Option<(&str, SubjectPart)>); 10] = [
+const SUBJECTS: [(&str, &str, Option<(&str, SubjectPart)>); 17] = [
     (
         "check -- -i j o",
         "text 5:2 RowCharacter\n",
@@ -156,6 +157,33 @@ const SUBJECTS: [(&str, &str, Option<(&str, SubjectPart)>); 10] = [
     ),
     ("equal a b p", "second limit pins 70000\n", None),
     ("equal a b p", "unlike sources 2\n", None),
+    (
+        "judge a b -- -p",
+        "proof BadRecord 4\n",
+        Some(("-p", SubjectPart::Line(4))),
+    ),
+    (
+        "judge a b p",
+        "proof record 4 NoStep\n",
+        Some(("p", SubjectPart::Line(5))),
+    ),
+    ("judge a b p", "proof NotOne\n", None),
+    (
+        "judge a b p",
+        "second text 5:1 RowLength\n",
+        Some(("b", SubjectPart::Whole)),
+    ),
+    (
+        "optcare i c o t",
+        "text 5:1 RowLength\n",
+        Some(("i", SubjectPart::Whole)),
+    ),
+    (
+        "optcare i --depth=1 c o t",
+        "second text 5:1 RowLength\n",
+        Some(("c", SubjectPart::Whole)),
+    ),
+    ("optcare i c o t", "care shape\n", None),
 ];
 
 #[test]

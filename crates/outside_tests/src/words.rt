@@ -64,6 +64,21 @@ fn command_text(alloc: Global, command: Command<'_>) -> Result<String, Fail> {
             let start = format!(in alloc; "equal {first} {second} {proof} ")?;
             with_settings(alloc, &start, settings)
         }
+        Command::Judge {
+            first,
+            second,
+            proof,
+        } => Ok(format!(in alloc; "judge {first} {second} {proof}")?),
+        Command::Optcare {
+            input,
+            care,
+            output,
+            tests,
+            settings,
+        } => {
+            let start = format!(in alloc; "optcare {input} {care} {output} {tests} ")?;
+            with_settings(alloc, &start, settings)
+        }
     }
 }
 
@@ -76,7 +91,7 @@ fn reads(alloc: Global, line: &str, wanted: &str) -> Result<bool, Fail> {
     }
 }
 
-const REFUSED: [&str; 109] = [
+const REFUSED: [&str; 108] = [
     "",
     "~",
     "help",
@@ -156,7 +171,6 @@ const REFUSED: [&str; 109] = [
     "opt a b j --screen 0",
     "opt - - j",
     "opt -- -- -- j",
-    "optcare a b c d",
     "flat",
     "flat a",
     "flat a a",
@@ -226,6 +240,57 @@ fn refuses_equal(rt: HostRuntime) -> Result<(), Fail> {
     Ok(())
 }
 
+const JUDGE_REFUSED: [&str; 9] = [
+    "judge",
+    "judge a",
+    "judge a b",
+    "judge a b p q",
+    "judge a b p --depth 1",
+    "judge a b p --budget=8",
+    "judge --workers 1 a b p",
+    "judge a b p --help",
+    "Judge a b p",
+];
+
+#[test]
+fn refuses_judge(rt: HostRuntime) -> Result<(), Fail> {
+    for line in JUDGE_REFUSED {
+        assert!(rt; reads(rt.alloc(), line, "refused")?, "{line}");
+    }
+    Ok(())
+}
+
+const CARE_REFUSED: [&str; 20] = [
+    "optcare",
+    "optcare a",
+    "optcare a b",
+    "optcare a b c",
+    "optcare a b c d e",
+    "optcare a a c d",
+    "optcare a b a d",
+    "optcare a b c a",
+    "optcare a b b d",
+    "optcare a b c b",
+    "optcare a b c c",
+    "optcare -- a b c a",
+    "optcare a b c d --tries 1",
+    "optcare --workers=1 a b c d",
+    "optcare a b c d --depth 3",
+    "optcare a b c d --budget=0",
+    "optcare a b c d --depth 1 --depth=1",
+    "optcare a b c --budget 4",
+    "optcare a b c d --help",
+    "Optcare a b c d",
+];
+
+#[test]
+fn refuses_optcare(rt: HostRuntime) -> Result<(), Fail> {
+    for line in CARE_REFUSED {
+        assert!(rt; reads(rt.alloc(), line, "refused")?, "{line}");
+    }
+    Ok(())
+}
+
 #[test]
 fn reads_opt(rt: HostRuntime) -> Result<(), Fail> {
     let rows = [
@@ -289,6 +354,9 @@ fn reads_the_others(rt: HostRuntime) -> Result<(), Fail> {
         ("replay a -- --depth=1 replay", "replay a --depth=1 replay"),
         ("replay ~ - A", "replay  - A"),
         ("convert a b", "convert a b"),
+        ("judge a b p", "judge a b p"),
+        ("judge a a a", "judge a a a"),
+        ("judge ~ -- -b --depth=1", "judge  -b --depth=1"),
         ("convert -- -a --", "convert -a --"),
     ];
     for (line, wanted) in rows {
@@ -312,6 +380,33 @@ fn reads_equal(rt: HostRuntime) -> Result<(), Fail> {
             "equal a --depth=2 --tries 1 256 1000000 1",
         ),
         ("equal ~ - equal", "equal  - equal 1 256 1000000 1"),
+    ];
+    for (line, wanted) in rows {
+        assert!(rt; reads(rt.alloc(), line, wanted)?, "{line}");
+    }
+    Ok(())
+}
+
+#[test]
+fn reads_optcare(rt: HostRuntime) -> Result<(), Fail> {
+    let rows = [
+        ("optcare a b c d", "optcare a b c d 1 256 1000000 1"),
+        (
+            "optcare a --depth 2 A c C",
+            "optcare a A c C 2 256 1000000 1",
+        ),
+        (
+            "optcare --budget=1048576 a b c d --depth=0",
+            "optcare a b c d 0 1048576 1000000 1",
+        ),
+        (
+            "optcare a b -- --depth=2 --tries",
+            "optcare a b --depth=2 --tries 1 256 1000000 1",
+        ),
+        (
+            "optcare ~ - optcare x",
+            "optcare  - optcare x 1 256 1000000 1",
+        ),
     ];
     for (line, wanted) in rows {
         assert!(rt; reads(rt.alloc(), line, wanted)?, "{line}");

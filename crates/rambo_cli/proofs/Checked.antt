@@ -1,5 +1,5 @@
 -- `check` over the files that `opt` wrote.
-use Rattle.std.proofs.Common.{Bool, true, false, nat_cmp, ◌≡◌, ◌≢◌, ◌<◌, ◌≤◌, ◌^◌, ◌∙◌, ◌++◌, ℕ, List, ap, arith, cond, inl, inr, length, refl, rules, subst, sym}
+use Rattle.std.proofs.Common.{Bool, true, false, nat_cmp, ◌≡◌, ◌≢◌, ◌<◌, ◌≤◌, ◌^◌, ◌∙◌, ◌++◌, ℕ, List, ap, cond, inl, inr, length, refl, rules, subst, sym}
 use Rattle.std.proofs.lemmas.Bool.{cases_lt}
 use Rattle.std.specs.Prelude.{Option, None, Some, IsSomeAnd}
 use Rattle.std.specs.Cmp.{Equal-is}
@@ -13,14 +13,12 @@ use Rattle.rm_model.specs.declared.parts.Model.{Model}
 use Rattle.blif_format.specs.Laws.{ReadsOnce}
 use Rattle.journal_audit.specs.Audited.{IsPassed, LongJournalsTell}
 use Rattle.journal_audit.specs.Judging.{IsAcceptedText}
-use Rattle.journal_text.specs.declared.record.Record.{Record}
 use Rattle.optimisation.specs.declared.optimised.Figures.{Figures}
 use Rattle.word_reading.specs.Commands.{HasNamesApart}
 use Rattle.word_reading.specs.Words.{opt}
 use Rattle.rambo_cli.proofs.Overlong.{overlong}
 use Rattle.rambo_cli.specs.Check.{HasPassed}
 use Rattle.rambo_cli.specs.Files.{Holds, IfTold}
-use Rattle.rambo_cli.specs.Headline.{IsOptimisedInto}
 use Rattle.rambo_cli.specs.Opt.{HasOptimised, HasWritten, IsChecked, IsOverlong}
 use Rattle.rambo_cli.specs.Written.{IsSaid}
 

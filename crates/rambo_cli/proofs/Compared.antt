@@ -3,35 +3,33 @@ use Rattle.std.proofs.Common.{◌≡◌, ◌≤◌, ◌+◌, ◌^◌, ◌∙◌,
 use Rattle.std.specs.Prelude.{Option, None, Some, IfSome, false, true}
 use Rattle.std.specs.Option.{option_map}
 use Rattle.rm_base.specs.Causes.{Rose}
-use Rattle.rm_base.specs.Files.{Files, file_of, put_file}
+use Rattle.rm_base.specs.Files.{Files, put_file}
 use Rattle.rm_base.specs.Words.{Word}
 use Rattle.rm_base.specs.declared.outside.OutsideFault.{OutsideFault}
 use Rattle.rm_base.specs.declared.outside.OutsideFault.TheVariants.{Failed, NoMemory}
 use Rattle.rm_base.specs.declared.settings.Settings.{Settings}
 use Rattle.rm_model.specs.declared.parts.Model.{Model}
-use Rattle.blif_format.specs.Laws.{ReadsOnce}
 use Rattle.cover_decompose.specs.Count.{decomposed}
 use Rattle.rm_model.specs.Value.{source_names}
+use Rattle.equal_evidence.specs.Evidence.{IsWritten, evidence_text}
+use Rattle.equal_evidence.specs.Shown.{IsEvidenceFor}
+use Rattle.equal_evidence.specs.declared.evidence.Evidence.{Evidence}
 use Rattle.equal_miter.specs.Equal.{AreComparable}
-use Rattle.equal_miter.specs.Likeness.{IsDecided, IsLikeness}
-use Rattle.equal_miter.specs.Proof.{proof_text}
 use Rattle.equal_miter.specs.Refusals.{IsMiterRefused, IsReady}
-use Rattle.equal_miter.specs.declared.likeness.Likeness.{Likeness}
 use Rattle.equal_miter.specs.declared.refusal.MiterRefusal.{MiterRefusal}
 use Rattle.equal_miter.specs.declared.refusal.MiterRefusal.TheVariants as miter
+use Rattle.equal_sweep.specs.Decided.{IsDecided}
 use Rattle.rambo_cli.specs.Contract.{Caused}
-use Rattle.rambo_cli.specs.Equal.{AreRead, BeginsToCompare, EqualFinds, HasCompared}
-use Rattle.rambo_cli.specs.Files.{Holds, IfTold, OfFile}
-use Rattle.rambo_cli.specs.Input.{CanBeOptimised, ReadCause}
+use Rattle.rambo_cli.specs.Equal.{BeginsToCompare, EqualFinds, HasCompared}
+use Rattle.rambo_cli.specs.Files.{IfTold}
+use Rattle.rambo_cli.specs.Pairs.{AreRead, PairFinds}
 use Rattle.rambo_cli.specs.Problems.{KeepsFiles}
-use Rattle.rambo_cli.specs.Written.{IsSaid}
-use Rattle.rambo_cli.specs.Inner.Equal.{IsOfSecond, IsUnlikeFor, miter_problem, second_problem}
+use Rattle.rambo_cli.specs.Inner.Equal.{IsUnlikeFor, miter_problem}
 use Rattle.rambo_cli.specs.Inner.Files.{BeginsFile}
 use Rattle.rambo_cli.specs.Inner.Problems.{outside_problem}
 use Rattle.rambo_cli.specs.Inner.Written.{IsUsable}
 use Rattle.rambo_cli.specs.declared.problem.Problem.{Problem}
-use Rattle.rambo_cli.specs.declared.problem.Problem.TheVariants.{Words, Text, Limit, Missing, Fault, Journal, Record, Netlist, Second, Unlike, Memory}
-use Rattle.rambo_cli.proofs.Complete.{said_good, weaker}
+use Rattle.rambo_cli.specs.declared.problem.Problem.TheVariants.{Words, Text, Limit, Missing, Fault, Journal, Record, Netlist, Second, Unlike, CareShape, Proof, Memory}
 use Rattle.rambo_cli.proofs.Rising.{risen_after}
 use Rattle.rambo_cli.proofs.Writing.{told}
 
@@ -51,53 +49,25 @@ kept_for (Record r) old new e = e
 kept_for (Netlist byte) old new e = e
 kept_for (Second found) old new e = e
 kept_for (Unlike list at) old new e = e
+kept_for CareShape old new e = e
+kept_for (Proof found) old new e = e
 kept_for Memory old new e = tt
 
--- what is found of the first text
-pub first_cause : (first second : Word) (files : Option Files) (before now : ℕ) (problem : Problem) → ReadCause first files before now problem → Caused (EqualFinds first second files) before now problem
-first_cause first second files before now Fault h = h
-first_cause first second files before now Memory h = tt
-first_cause first second files before now Words h = absurd h
-first_cause first second files before now (Text kind place) h = h
-first_cause first second files before now (Limit quantity count) h = h
-first_cause first second files before now Missing h = inl h
-first_cause first second files before now (Journal f) h = absurd h
-first_cause first second files before now (Record r) h = absurd h
-first_cause first second files before now (Netlist byte) h = absurd h
-first_cause first second files before now (Second found) h = absurd h
-first_cause first second files before now (Unlike list at) h = absurd h
-
--- a first text that says a model within the limits can be optimised
-first_good : (once : ReadsOnce) (m : Model) (first : Word) (files : Option Files) → decomposed m ≤ 65536 → IfSome files (λ told. Holds told first (λ text. IsSaid text m)) → OfFile first files CanBeOptimised
-first_good once m first None few said = tt
-first_good once m first (Some told) few said = weaker (file_of told first) (λ text. IsSaid text m) CanBeOptimised said (λ text is. said_good once m text few is)
-
--- and of the second one behind it
-own_cause : (first second : Word) (files : Option Files) (before mid now : ℕ) (own : Problem) → before ≤ mid → OfFile first files CanBeOptimised → ReadCause second files mid now own → Caused (EqualFinds first second files) before now (second_problem own)
-own_cause first second files before mid now Fault later good h = risen_after before mid now later h
-own_cause first second files before mid now Memory later good h = tt
-own_cause first second files before mid now Words later good h = absurd h
-own_cause first second files before mid now (Text kind place) later good h = (good, h)
-own_cause first second files before mid now (Limit quantity count) later good h = (good, h)
-own_cause first second files before mid now Missing later good h = inr (good, h)
-own_cause first second files before mid now (Journal f) later good h = absurd h
-own_cause first second files before mid now (Record r) later good h = absurd h
-own_cause first second files before mid now (Netlist byte) later good h = absurd h
-own_cause first second files before mid now (Second found) later good h = absurd h
-own_cause first second files before mid now (Unlike list at) later good h = absurd h
-
-pub second_cause : (once : ReadsOnce) (m : Model) (first second : Word) (old read : Option Files) (before mid now : ℕ) (problem : Problem) → read ≡ old → before ≤ mid → decomposed m ≤ 65536 → IfSome old (λ told. Holds told first (λ text. IsSaid text m))
-    → IsOfSecond (ReadCause second read mid now) problem → Caused (EqualFinds first second old) before now problem
-second_cause once m first second old read before mid now problem same later few said cause =
-    subst (Caused (EqualFinds first second old) before now) (sym cause.1.0)
-    (own_cause first second old before mid now cause.0 later (first_good once m first old few said) (subst (λ (o : Option Files). ReadCause second o mid now cause.0) same cause.1.1))
-
--- both texts are read
-pub both_read : (m n : Model) (first second : Word) (old read : Option Files) → read ≡ old → decomposed m ≤ 65536 → decomposed n ≤ 65536 → IfSome old (λ told. Holds told first (λ text. IsSaid text m)) → IfSome read (λ told. Holds told second (λ text. IsSaid text n))
-    → IfSome old (AreRead first second m n)
-both_read m n first second None read same few more said other = tt
-both_read m n first second (Some told) read same few more said other =
-    record { first_is = said; second_is = subst (λ (o : Option Files). IfSome o (λ told. Holds told second (λ text. IsSaid text n))) same other; few = few; second_few = more }
+-- what is found of the two texts
+pub pair_equal : (first second : Word) (files : Option Files) (before now : ℕ) (problem : Problem) → Caused (PairFinds first second files) before now problem → Caused (EqualFinds first second files) before now problem
+pair_equal first second files before now Fault h = h
+pair_equal first second files before now Memory h = tt
+pair_equal first second files before now Words h = absurd h
+pair_equal first second files before now (Text kind place) h = h
+pair_equal first second files before now (Limit quantity count) h = h
+pair_equal first second files before now Missing h = h
+pair_equal first second files before now (Journal f) h = absurd h
+pair_equal first second files before now (Record r) h = absurd h
+pair_equal first second files before now (Netlist byte) h = absurd h
+pair_equal first second files before now (Second found) h = h
+pair_equal first second files before now (Unlike list at) h = absurd h
+pair_equal first second files before now CareShape h = absurd h
+pair_equal first second files before now (Proof found) h = absurd h
 
 -- why two models that were read aren't compared
 pub unlike_for : (m n : Model) (refusal : MiterRefusal) → decomposed m ≤ 65536 → decomposed n ≤ 65536 → IsMiterRefused m n refusal → IsUnlikeFor m n (miter_problem refusal)
@@ -123,6 +93,8 @@ unlike_cause m n first second files before now (Journal f) read h = absurd h
 unlike_cause m n first second files before now (Record r) read h = absurd h
 unlike_cause m n first second files before now (Netlist byte) read h = absurd h
 unlike_cause m n first second files before now (Second found) read h = absurd h
+unlike_cause m n first second files before now CareShape read h = absurd h
+unlike_cause m n first second files before now (Proof found) read h = absurd h
 
 -- a call of the store that failed, after others
 pub outside_cause : (fault : OutsideFault) (Finds : Problem → Type 0) (before mid now : ℕ) → before ≤ mid → (fault ≡ Failed → Rose mid now) → Caused Finds before now (outside_problem fault)
@@ -139,27 +111,27 @@ compare_kept first second proof settings None new e = tt
 compare_kept first second proof settings (Some files) new e = subst (λ (o : Option Files). IfTold (Some files) o (BeginsToCompare first second proof settings)) (sym e) (inl refl)
 
 -- what is decided, with the whole of PROOF
-pub compared_written : (m n : Model) (first second proof : Word) (settings : Settings) (l : Likeness) (items bytes : List ℕ) (old read new : Option Files) → read ≡ old → IfSome old (AreRead first second m n) → AreComparable m n
-    → IsLikeness m n settings.budget l → (2 ^ (length (source_names m) + 1) ≤ settings.budget → IsDecided l) → items ≡ proof_text settings.budget l → bytes ≡ items → new ≡ option_map (put_file proof bytes) read
-    → IfTold old new (HasCompared first second proof settings l)
-compared_written m n first second proof settings l items bytes None read new same said comparable likeness decided text whole done = tt
-compared_written m n first second proof settings l items bytes (Some files) read new same said comparable likeness decided text whole done =
-    subst (λ (o : Option Files). IfTold (Some files) o (HasCompared first second proof settings l)) (sym (done ∙ ap (option_map (put_file proof bytes)) same))
-    (record { model = m; other = n; read = said; decided = record { comparable = comparable; likeness = likeness; decided = decided; files = ap (λ (t : List ℕ). put_file proof t files) (whole ∙ text) } })
+pub compared_written : (m n : Model) (first second proof : Word) (settings : Settings) (e : Evidence) (items bytes : List ℕ) (old read new : Option Files) → read ≡ old → IfSome old (AreRead first second m n) → AreComparable m n
+    → IsEvidenceFor m n settings.budget e → IsWritten e → (2 ^ (length (source_names m) + 1) ≤ settings.budget → IsDecided e) → items ≡ evidence_text settings.budget e → bytes ≡ items → new ≡ option_map (put_file proof bytes) read
+    → IfTold old new (HasCompared first second proof settings e)
+compared_written m n first second proof settings e items bytes None read new same said comparable shown written decided text whole done = tt
+compared_written m n first second proof settings e items bytes (Some files) read new same said comparable shown written decided text whole done =
+    subst (λ (o : Option Files). IfTold (Some files) o (HasCompared first second proof settings e)) (sym (done ∙ ap (option_map (put_file proof bytes)) same))
+    (record { model = m; other = n; read = said; decided = record { comparable = comparable; evidence = shown; written = written; decided = decided; files = ap (λ (t : List ℕ). put_file proof t files) (whole ∙ text) } })
 
 -- or with a beginning of it
-pub compared_begun : (m n : Model) (first second proof : Word) (settings : Settings) (l : Likeness) (items bytes : List ℕ) (old read new : Option Files) → read ≡ old → IfSome old (AreRead first second m n) → AreComparable m n
-    → IsLikeness m n settings.budget l → (2 ^ (length (source_names m) + 1) ≤ settings.budget → IsDecided l) → items ≡ proof_text settings.budget l → bytes ≡ items → BeginsFile proof bytes read new
+pub compared_begun : (m n : Model) (first second proof : Word) (settings : Settings) (e : Evidence) (items bytes : List ℕ) (old read new : Option Files) → read ≡ old → IfSome old (AreRead first second m n) → AreComparable m n
+    → IsEvidenceFor m n settings.budget e → IsWritten e → (2 ^ (length (source_names m) + 1) ≤ settings.budget → IsDecided e) → items ≡ evidence_text settings.budget e → bytes ≡ items → BeginsFile proof bytes read new
     → IfTold old new (BeginsToCompare first second proof settings)
-compared_begun m n first second proof settings l items bytes None read new same said comparable likeness decided text whole begun = tt
-compared_begun m n first second proof settings l items bytes (Some files) read new same said comparable likeness decided text whole begun = elim begun [
+compared_begun m n first second proof settings e items bytes None read new same said comparable shown written decided text whole begun = tt
+compared_begun m n first second proof settings e items bytes (Some files) read new same said comparable shown written decided text whole begun = elim begun [
   | inl kept ↦ compare_kept first second proof settings (Some files) new (kept ∙ same)
   | inr part ↦
       subst (λ (o : Option Files). IfTold (Some files) o (BeginsToCompare first second proof settings)) (sym (part.1 ∙ ap (option_map (put_file proof (take part.0 bytes))) same))
       (inr (record {
-        l = l;
+        e = e;
         whole = put_file proof bytes files;
-        compared = record { model = m; other = n; read = said; decided = record { comparable = comparable; likeness = likeness; decided = decided; files = ap (λ (t : List ℕ). put_file proof t files) (whole ∙ text) } };
+        compared = record { model = m; other = n; read = said; decided = record { comparable = comparable; evidence = shown; written = written; decided = decided; files = ap (λ (t : List ℕ). put_file proof t files) (whole ∙ text) } };
         size = part.0;
         files = ap (λ (t : List ℕ). put_file proof (take part.0 t) files) (whole ∙ text);
       }))

@@ -3,79 +3,32 @@ use Rattle.std.proofs.Common.{◌≡◌, ◌≤◌, ◌<◌, ◌^◌, ◌⊎◌,
 use Rattle.std.specs.Prelude.{Option, None, Some, IsSome, IsSomeAnd}
 use Rattle.rm_base.specs.Causes.{Rose}
 use Rattle.rm_base.specs.Files.{Files, file_of}
-use Rattle.rm_base.specs.declared.numbers.Place.{Place}
 use Rattle.rm_model.specs.declared.parts.Model.{Model}
-use Rattle.blif_lines.specs.Layout.{lines_of}
 use Rattle.blif_format.specs.Laws.{ReadsOnce}
-use Rattle.blif_format.specs.FirstFault.{first_fault}
 use Rattle.blif_flatten.specs.FirstFault.{first_fault as first_hierarchy_fault}
-use Rattle.blif_format.specs.declared.refusal.FaultKind.{FaultKind}
-use Rattle.blif_format.specs.declared.refusal.ReadRefusal.{ReadRefusal}
 use Rattle.blif_format.specs.declared.refusal.ReadRefusal.TheVariants as refusal
-use Rattle.blif_format.specs.declared.refusal.Quantity.{Quantity}
-use Rattle.cover_decompose.specs.Count.{decomposed}
 use Rattle.journal_audit.specs.Audited.{ProblemsExclude, IsProblem, IsOfFiles}
 use Rattle.journal_audit.specs.declared.problem.AuditProblem.{AuditProblem}
 use Rattle.journal_audit.specs.declared.problem.AuditProblem.TheVariants as audit
 use Rattle.journal_text.specs.Cutting.{JournalsAreOne}
-use Rattle.word_reading.specs.Words.{Asked, opt, check, demo, flat, tests, replay, convert, equal}
+use Rattle.word_reading.specs.Words.{Asked, opt, check, demo, flat, tests, replay, convert, equal, judge, optcare}
 use Rattle.rambo_cli.specs.Check.{AreThere, Audited, CheckFinds, HasPassed}
 use Rattle.rambo_cli.specs.Commands.{contract_of}
 use Rattle.rambo_cli.proofs.ConvertedFiles.{convert_finds_none}
+use Rattle.rambo_cli.proofs.JudgedFiles.{flaw_judged, proved_finds_none}
+use Rattle.rambo_cli.proofs.TextsFound.{none_or_some, present, read_finds_none, said_good, same_model, together, weaker}
 use Rattle.rambo_cli.specs.Contract.{Contract, IsCause, StoreFails}
 use Rattle.rambo_cli.specs.Files.{Holds}
 use Rattle.rambo_cli.specs.Flat.{CanBeFlattened, ExceedsFlat, FlatFinds, HasFlatFault}
-use Rattle.rambo_cli.specs.Input.{CanBeOptimised, ReadFinds}
+use Rattle.rambo_cli.specs.Input.{CanBeOptimised}
 use Rattle.rambo_cli.specs.Problems.{status_of}
 use Rattle.rambo_cli.specs.Replay.{CanBeReplayed, ReplayFinds}
 use Rattle.rambo_cli.specs.Inner.Complete.{GoodRunsAreDone, IsOutsideOf, JudgedRunsAreTold}
 use Rattle.rambo_cli.specs.Inner.Problems.{IsReported, HasEnded}
-use Rattle.rambo_cli.specs.Written.{Exceeds, HasFault, IsSaid}
+use Rattle.rambo_cli.specs.Written.{IsSaid}
 use Rattle.rambo_cli.specs.declared.problem.Problem.{Problem}
-use Rattle.rambo_cli.specs.declared.problem.Problem.TheVariants.{Words, Text, Limit, Missing, Fault, Journal, Record, Netlist, Second, Unlike, Memory}
+use Rattle.rambo_cli.specs.declared.problem.Problem.TheVariants.{Words, Text, Limit, Missing, Fault, Journal, Record, Netlist, Second, Unlike, CareShape, Proof, Memory}
 use Rattle.rm_base.specs.Words.{Word}
-
--- of one file two facts hold together
-pub together : (o : Option (List ℕ)) (P Q : List ℕ → Type 0) → IsSomeAnd o P → IsSomeAnd o Q → ((text : List ℕ) → P text → Q text → ⊥) → ⊥
-together None P Q p q never = p
-together (Some text) P Q p q never = never text p q
-
-pub weaker : (o : Option (List ℕ)) (P Q : List ℕ → Type 0) → IsSomeAnd o P → ((text : List ℕ) → P text → Q text) → IsSomeAnd o Q
-weaker None P Q p f = p
-weaker (Some text) P Q p f = f text p
-
-present : (o : Option (List ℕ)) (P : List ℕ → Type 0) → IsSomeAnd o P → o ≡ None → ⊥
-present None P p e = p
-present (Some text) P p e = cc
-
-none_or_some : (o : Option ReadRefusal) (r : ReadRefusal) → o ≡ None → o ≡ Some r → ⊥
-none_or_some o r e f = cc
-
-no_fault : (kind : FaultKind) (place : Place) (text : List ℕ) → CanBeOptimised text → HasFault text kind place → ⊥
-no_fault kind place text good fault = none_or_some (first_fault text) (refusal.Fault kind place) good.faultless fault.fault
-
-no_limit : (quantity : Quantity) (count : ℕ) (text : List ℕ) → CanBeOptimised text → Exceeds text quantity count → ⊥
-no_limit quantity count text good h = elim h [
-  | inl long ↦ omega (arith, long.long, good.short)
-  | inr short ↦ elim short [
-    | inl at ↦ none_or_some (first_fault text) (refusal.Limit quantity count at.place) good.faultless at.fault
-    | inr pins ↦ omega (arith, pins.many, good.few pins.model pins.reads)
-  ]
-]
-
--- nothing is found of an input that can be optimised
-pub read_finds_none : (input : Word) (told : Files) (problem : Problem) → Holds told input CanBeOptimised → ReadFinds input (Some told) problem → ⊥
-read_finds_none input told (Text kind place) good h = together (file_of told input) CanBeOptimised (λ text. HasFault text kind place) good h (no_fault kind place)
-read_finds_none input told (Limit quantity count) good h = together (file_of told input) CanBeOptimised (λ text. Exceeds text quantity count) good h (no_limit quantity count)
-read_finds_none input told Missing good h = present (file_of told input) CanBeOptimised good h
-read_finds_none input told Fault good h = h
-read_finds_none input told Memory good h = h
-read_finds_none input told Words good h = h
-read_finds_none input told (Journal f) good h = h
-read_finds_none input told (Record r) good h = h
-read_finds_none input told (Netlist byte) good h = h
-read_finds_none input told (Second found) good h = h
-read_finds_none input told (Unlike list at) good h = h
 
 -- nor of one that can be flattened
 flat_finds_none : (input : Word) (told : Files) (problem : Problem) → Holds told input CanBeFlattened → FlatFinds input (Some told) problem → ⊥
@@ -97,6 +50,8 @@ flat_finds_none input told (Record r) good h = h
 flat_finds_none input told (Netlist byte) good h = h
 flat_finds_none input told (Second found) good h = h
 flat_finds_none input told (Unlike list at) good h = h
+flat_finds_none input told CareShape good h = h
+flat_finds_none input told (Proof found) good h = h
 
 -- nor where the journal is there beside it
 replay_finds_none : (input journal : Word) (told : Files) (problem : Problem) → CanBeReplayed input journal told → ReplayFinds input journal (Some told) problem → ⊥
@@ -117,6 +72,8 @@ replay_finds_none input journal told (Record r) good h = h
 replay_finds_none input journal told (Netlist byte) good h = h
 replay_finds_none input journal told (Second found) good h = h
 replay_finds_none input journal told (Unlike list at) good h = h
+replay_finds_none input journal told CareShape good h = h
+replay_finds_none input journal told (Proof found) good h = h
 
 -- where nothing is found, what keeps a run from its end is of the outside
 outside_alone : (c : Contract) (files : Option Files) (m n : ℕ) (problem : Problem) → (c.Finds files problem → ⊥) → IsCause c files m n problem → IsOutsideOf c m n problem
@@ -131,17 +88,8 @@ outside_alone c files m n (Record r) none h = absurd (none h)
 outside_alone c files m n (Netlist byte) none h = absurd (none h)
 outside_alone c files m n (Second found) none h = absurd (none h)
 outside_alone c files m n (Unlike list at) none h = absurd (none h)
-
-module _ (once : ReadsOnce) where
-  pub said_good : (model : Model) (text : List ℕ) → decomposed model ≤ 65536 → IsSaid text model → CanBeOptimised text
-  said_good model text few said = record {
-    short = said.short;
-    faultless = said.faultless;
-    few = λ other reads. subst (λ (m : Model). decomposed m ≤ 65536) (once (lines_of text) model other said.reads reads) few;
-  }
-
-  pub same_model : (model other : Model) (P : Type 0) (text : List ℕ) → (model ≡ other → P) → IsSaid text model → IsSaid text other → P
-  same_model model other P text f one two = f (once (lines_of text) model other one.reads two.reads)
+outside_alone c files m n CareShape none h = absurd (none h)
+outside_alone c files m n (Proof found) none h = absurd (none h)
 
 module _ (once : ReadsOnce) (exclude : ProblemsExclude) where
   no_problem : (input journal output : Word) (told : Files) (count : ℕ) (found : AuditProblem) → HasPassed input journal output count told → IsOfFiles found → Audited input journal output found told → ⊥
@@ -178,6 +126,8 @@ module _ (once : ReadsOnce) (exclude : ProblemsExclude) where
       go (Netlist byte) f = no_problem input journal output told count (audit.Netlist byte) passed tt f
       go (Second found) f = f
       go (Unlike list at) f = f
+      go CareShape f = f
+      go (Proof found) f = f
 
   pub good_runs_are_done : JournalsAreOne → GoodRunsAreDone
   good_runs_are_done ones None files m n problem good h = absurd good
@@ -202,6 +152,10 @@ module _ (once : ReadsOnce) (exclude : ProblemsExclude) where
   good_runs_are_done ones (Some (convert from to)) (Some told) m n problem good h =
       outside_alone (contract_of (Some (convert from to))) (Some told) m n problem (convert_finds_none ones from told problem good) h
   good_runs_are_done ones (Some (equal first second proof settings)) files m n problem good h = absurd good
+  good_runs_are_done ones (Some (judge first second proof)) None m n problem good h = absurd good
+  good_runs_are_done ones (Some (judge first second proof)) (Some told) m n problem good h =
+      outside_alone (contract_of (Some (judge first second proof))) (Some told) m n problem (proved_finds_none once first second proof told problem good) h
+  good_runs_are_done ones (Some (optcare input care output vectors settings)) files m n problem good h = absurd good
 
 held : (o : Option (List ℕ)) → IsSome o → o ≡ None → ⊥
 held None h e = cc
@@ -233,6 +187,8 @@ judged input journal output told (Record r) there h = refl
 judged input journal output told (Netlist byte) there h = refl
 judged input journal output told (Second found) there h = absurd h
 judged input journal output told (Unlike list at) there h = absurd h
+judged input journal output told CareShape there h = absurd h
+judged input journal output told (Proof found) there h = absurd h
 
 pub or_outside : (k : ℕ) (c : Contract) (files : Option Files) (m n : ℕ) (problem : Problem) → (c.Finds files problem → status_of problem ≡ k) → IsCause c files m n problem → (status_of problem ≡ k) ⊎ IsOutsideOf c m n problem
 or_outside k c files m n Fault is h = inr (inr (refl, h))
@@ -246,6 +202,8 @@ or_outside k c files m n (Record r) is h = inl (is h)
 or_outside k c files m n (Netlist byte) is h = inl (is h)
 or_outside k c files m n (Second found) is h = inl (is h)
 or_outside k c files m n (Unlike list at) is h = inl (is h)
+or_outside k c files m n CareShape is h = inl (is h)
+or_outside k c files m n (Proof found) is h = inl (is h)
 
 pub judged_runs_are_told : JudgedRunsAreTold
 judged_runs_are_told None files m n problem there h = absurd there
@@ -258,6 +216,10 @@ judged_runs_are_told (Some (flat input output)) files m n problem there h = absu
 judged_runs_are_told (Some (replay input journal output)) files m n problem there h = absurd there
 judged_runs_are_told (Some (convert from to)) files m n problem there h = absurd there
 judged_runs_are_told (Some (equal first second proof settings)) files m n problem there h = absurd there
+judged_runs_are_told (Some (judge first second proof)) None m n problem there h = absurd there
+judged_runs_are_told (Some (judge first second proof)) (Some told) m n problem there h =
+    or_outside 6 (contract_of (Some (judge first second proof))) (Some told) m n problem (flaw_judged first second proof told problem there) h
+judged_runs_are_told (Some (optcare input care output vectors settings)) files m n problem there h = absurd there
 judged_runs_are_told (Some (tests input journal output patterns)) None m n problem there h = absurd there
 judged_runs_are_told (Some (tests input journal output patterns)) (Some told) m n problem there h =
     or_outside 6 (contract_of (Some (tests input journal output patterns))) (Some told) m n problem (judged input journal output told problem there) h

@@ -15,7 +15,7 @@ use Rattle.rambo_cli.specs.Inner.Files.{BeginsFile}
 use Rattle.rambo_cli.specs.Inner.Problems.{FlatTextCause, read_problem}
 use Rattle.rambo_cli.specs.declared.flattening.FlatText.{FlatText}
 use Rattle.rambo_cli.specs.declared.problem.Problem.{Problem}
-use Rattle.rambo_cli.specs.declared.problem.Problem.TheVariants.{Words, Text, Limit, Missing, Fault, Journal, Record, Netlist, Second, Unlike, Memory}
+use Rattle.rambo_cli.specs.declared.problem.Problem.TheVariants.{Words, Text, Limit, Missing, Fault, Journal, Record, Netlist, Second, Unlike, CareShape, Proof, Memory}
 use Rattle.rambo_cli.proofs.Pieces.{held, long_whole, shorter}
 
 -- a refusal of a short text is why it has no flat text
@@ -55,6 +55,8 @@ module _ (text : List ℕ) (files : Option Files) (name : Word) (found : IfSome 
   fault_found (Netlist byte) before now h = absurd h
   fault_found (Second found) before now h = absurd h
   fault_found (Unlike list at) before now h = absurd h
+  fault_found CareShape before now h = absurd h
+  fault_found (Proof found) before now h = absurd h
 
   pub flat_cause : (r : Result FlatText Problem) (before now : ℕ) → IfErr r (FlatTextCause text) → IfErr r (Caused (FlatFinds name files) before now)
   flat_cause (Ok f) before now h = tt

@@ -14,8 +14,14 @@ pub mod Wanting
 pub mod Limited
 pub mod FlatTexts
 pub mod ConvertedFiles
+pub mod TextsFound
+pub mod JudgedFiles
 pub mod Complete
 pub mod Comparisons
+pub mod Pairings
 pub mod Compared
+pub mod JudgedProofs
+pub mod Cares
+pub mod CareFiles
 pub mod Patterns
 pub mod PatternFiles

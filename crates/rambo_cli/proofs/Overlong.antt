@@ -12,16 +12,16 @@ use Rattle.journal_audit.specs.Audited.{IsOfFiles, IsProblem, LongJournalsTell}
 use Rattle.journal_audit.specs.Judging.{IsAcceptedText}
 use Rattle.journal_audit.specs.declared.problem.AuditProblem.{AuditProblem}
 use Rattle.journal_audit.specs.declared.problem.AuditProblem.TheVariants as audit
-use Rattle.rambo_cli.proofs.Complete.{read_finds_none, said_good, same_model, weaker}
+use Rattle.rambo_cli.proofs.TextsFound.{read_finds_none, said_good, same_model, weaker}
 use Rattle.rambo_cli.specs.Check.{Audited, CheckDoes, CheckFinds, HasPassed, check_contract}
 use Rattle.rambo_cli.specs.Contract.{FindsAlone}
 use Rattle.rambo_cli.specs.Files.{Holds}
 use Rattle.rambo_cli.specs.Input.{CanBeOptimised}
 use Rattle.rambo_cli.specs.Written.{IsSaid}
 use Rattle.rambo_cli.specs.declared.work.Done.{Done}
-use Rattle.rambo_cli.specs.declared.work.Done.TheVariants.{Accepted, Converted, Differ, Equal, Flattened, Optimised, Replayed, Tested, Undecided}
+use Rattle.rambo_cli.specs.declared.work.Done.TheVariants.{Accepted, Compared, Converted, Flattened, Judged, Optimised, Replayed, Tested, Cared}
 use Rattle.rambo_cli.specs.declared.problem.Problem.{Problem}
-use Rattle.rambo_cli.specs.declared.problem.Problem.TheVariants.{Words, Text, Limit, Missing, Fault, Journal, Record, Netlist, Second, Unlike, Memory}
+use Rattle.rambo_cli.specs.declared.problem.Problem.TheVariants.{Words, Text, Limit, Missing, Fault, Journal, Record, Netlist, Second, Unlike, CareShape, Proof, Memory}
 
 one_text : (o : Option (List ℕ)) (text other : List ℕ) → o ≡ Some text → o ≡ Some other → other ≡ text
 one_text o text other e f = cc
@@ -63,6 +63,8 @@ module _ (once : ReadsOnce) (tell : LongJournalsTell) (input journal output : Wo
   finds (Netlist byte) f = absurd (differs (audit.Netlist byte) (λ e. cc) tt f)
   finds (Second found) f = absurd f
   finds (Unlike list at) f = absurd f
+  finds CareShape f = absurd f
+  finds (Proof found) f = absurd f
 
   does : (new : Option Files) (done : Done) → CheckDoes input journal output (Some told) new done → ⊥
   does new (Accepted k) h = never_passes k h
@@ -71,9 +73,9 @@ module _ (once : ReadsOnce) (tell : LongJournalsTell) (input journal output : Wo
   does new (Tested counts) h = h
   does new (Replayed steps stop) h = h
   does new (Converted records) h = h
-  does new Equal h = h
-  does new (Differ bits) h = h
-  does new (Undecided budget) h = h
+  does new (Compared verdict) h = h
+  does new (Judged records verdict) h = h
+  does new (Cared figures) h = h
 
   pub overlong : FindsAlone (check_contract input journal output) (Some told) (Limit JournalLimit 4611686018427387905)
   overlong = record { never_done = does; alone = finds }

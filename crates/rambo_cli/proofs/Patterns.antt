@@ -1,5 +1,5 @@
 -- From the tests of a net to those of its model, and from an accepted journal to its verdicts.
-use Rattle.std.proofs.Common.{◌≡◌, ◌≢◌, ℕ, zero, suc, ◌+◌, ◌<◌, ◌≤◌, ◌⊎◌, inl, inr, Bool, Option, None, Some, List, [], ◌∷◌, ◌++◌, length, map, refl, sym, ◌∙◌, ap, subst, arith}
+use Rattle.std.proofs.Common.{◌≡◌, ℕ, zero, suc, ◌<◌, ◌⊎◌, inl, inr, Bool, Option, None, Some, List, [], ◌∷◌, ◌++◌, length, refl, sym, ◌∙◌, ap, subst, arith}
 use Rattle.std.specs.Prelude.{slice_get, slice_index_or}
 use Rattle.std.proofs.lemmas.List.{length-map}
 use Rattle.std.proofs.lemmas.Option.{get_or_from_slice_get, slice_get_within}
@@ -7,18 +7,16 @@ use Rattle.rm_base.specs.declared.numbers.Fault.{Fault}
 use Rattle.rm_base.proofs.Public.{map_at, map_found, some_is, stands_below}
 use Rattle.rm_model.specs.declared.parts.Model.{Model}
 use Rattle.gate_net.specs.Net.{Net, source_count}
-use Rattle.gate_net.specs.Faults.{Gives, IsTest, assigned, faults_of}
+use Rattle.gate_net.specs.Faults.{IsTest, assigned, faults_of}
 use Rattle.wire_edit.specs.Steps.{stepped}
-use Rattle.model_faults.specs.Laws.{IsSameFault, ListAlike, VectorsGive}
+use Rattle.model_faults.specs.Laws.{ListAlike, VectorsGive}
 use Rattle.model_faults.specs.ModelFaults.{ModelFault, faults_of_model}
 use Rattle.journal_text.specs.declared.record.Record.{Record}
 use Rattle.journal_text.specs.declared.record.Record.TheVariants.{Step, Hit, Spent}
 use Rattle.journal_text.specs.Runs.{AcceptedTo}
-use Rattle.journal_check.specs.Accepts.{IsAccepted}
-use Rattle.journal_check.specs.Verdicts.{SettleAll, Settles}
-use Rattle.journal_audit.specs.Audited.{IsLast}
-use Rattle.journal_audit.specs.Verdicts.{AreVerdictsAt, VerdictList, said_by, said_in, said_of, said_of_record}
-use Rattle.test_patterns.specs.TestSets.{AreKnown, AreTests, HasKnown, IsFirst, IsPattern}
+use Rattle.journal_check.specs.Verdicts.{SettleAll}
+use Rattle.journal_audit.specs.Verdicts.{AreVerdictsAt, VerdictList, said_by, said_in, said_of}
+use Rattle.test_patterns.specs.TestSets.{AreTests, HasKnown, IsFirst, IsPattern}
 use Rattle.pattern_text.specs.Text.{Tests, chosen}
 use Rattle.rambo_cli.specs.Tests.{AreTestsOf, IsFirstTest, IsTestOf, StandsBy}
 use Rattle.rambo_cli.specs.Inner.Tests.{AcceptedVerdictsTell, VerdictsTell}

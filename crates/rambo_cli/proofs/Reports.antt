@@ -2,15 +2,18 @@
 use Rattle.std.proofs.Common.{◌≡◌, ℕ, Bool, List, refl, sym, ◌∙◌, arith, inl, inr, subst}
 use Rattle.std.specs.Prelude.{Option, None, Some}
 use Rattle.rm_base.specs.Files.{Files}
-use Rattle.word_reading.specs.Words.{Asked, opt, check, demo, flat, tests, replay, convert, equal}
+use Rattle.word_reading.specs.Words.{Asked, opt, check, demo, flat, tests, replay, convert, equal, judge, optcare}
 use Rattle.rambo_cli.specs.declared.work.Done.{Done}
-use Rattle.rambo_cli.specs.declared.work.Done.TheVariants.{Optimised, Accepted, Flattened, Tested, Replayed, Converted, Equal, Differ, Undecided}
+use Rattle.rambo_cli.specs.declared.work.Done.TheVariants.{Optimised, Accepted, Flattened, Tested, Replayed, Converted, Compared, Judged, Cared}
+use Rattle.rambo_cli.specs.declared.verdict.Verdict.{Verdict}
+use Rattle.rambo_cli.specs.declared.verdict.Verdict.TheVariants.{Equal, Differ, Undecided}
 use Rattle.rambo_cli.specs.declared.problem.TextProblem.TheVariants as text
 use Rattle.rambo_cli.specs.declared.problem.Problem.{Problem}
-use Rattle.rambo_cli.specs.declared.problem.Problem.TheVariants.{Words, Text, Limit, Missing, Fault, Journal, Record, Netlist, Second, Unlike, Memory}
+use Rattle.rambo_cli.specs.declared.problem.Problem.TheVariants.{Words, Text, Limit, Missing, Fault, Journal, Record, Netlist, Second, Unlike, CareShape, Proof, Memory}
 use Rattle.rambo_cli.specs.Commands.{contract_of}
 use Rattle.rambo_cli.specs.Contract.{Contract, IsCause}
 use Rattle.rambo_cli.specs.Problems.{KeepsFiles, done_status, done_text, line_of, status_of}
+use Rattle.rambo_cli.specs.Verdicts.{verdict_status}
 use Rattle.rambo_cli.specs.Outcome.{EndsBy, EndsDone, EndsFaulty, EndsRefused, MayPut, Puts, PutsUnlessFailed}
 use Rattle.rambo_cli.specs.Inner.Problems.{HasEnded, IsReported}
 
@@ -26,6 +29,8 @@ finds c (Record r) files m n three four h = h
 finds c (Netlist byte) files m n three four h = h
 finds c (Second found) files m n three four h = h
 finds c (Unlike list at) files m n three four h = h
+finds c CareShape files m n three four h = h
+finds c (Proof found) files m n three four h = h
 finds c Memory files m n three four h = absurd (four refl)
 
 pub reported_by : (k : ℕ) → (k ≡ 3 → ⊥) → (k ≡ 4 → ⊥) → (w : Bool) (problem : Problem) (status : ℕ) (c : Contract) (files : Option Files) (m n : ℕ) (before after : Option (List ℕ)) (i j : ℕ)
@@ -49,6 +54,8 @@ words_alone (Netlist byte) e = absurd (omega (arith, e))
 words_alone (Second (text.Fault kind place)) e = absurd (omega (arith, e))
 words_alone (Second (text.Limit q count)) e = absurd (omega (arith, e))
 words_alone (Unlike list at) e = absurd (omega (arith, e))
+words_alone CareShape e = absurd (omega (arith, e))
+words_alone (Proof found) e = absurd (omega (arith, e))
 words_alone Memory e = absurd (omega (arith, e))
 
 nothing_asked : (words : Option Asked) (files : Option Files) → (contract_of words).Finds files Words → words ≡ None
@@ -61,6 +68,8 @@ nothing_asked (Some (tests input journal output patterns)) files h = absurd h
 nothing_asked (Some (replay input journal output)) files h = absurd h
 nothing_asked (Some (convert from to)) files h = absurd h
 nothing_asked (Some (equal first second proof settings)) files h = absurd h
+nothing_asked (Some (judge first second proof)) files h = absurd h
+nothing_asked (Some (optcare input care output vectors settings)) files h = absurd h
 
 pub refused : (w : Bool) (problem : Problem) (status : ℕ) (words : Option Asked) (files : Option Files) (m n : ℕ) (before after : Option (List ℕ)) (i j : ℕ)
     → IsReported w problem status before after i j → IsCause (contract_of words) files m n problem → status ≡ 2 → EndsRefused words before after
@@ -81,6 +90,8 @@ faulty_with (Netlist byte) c files m n k l e h = absurd (omega (arith, e))
 faulty_with (Second (text.Fault kind place)) c files m n k l e h = absurd (omega (arith, e))
 faulty_with (Second (text.Limit q count)) c files m n k l e h = absurd (omega (arith, e))
 faulty_with (Unlike list at) c files m n k l e h = absurd (omega (arith, e))
+faulty_with CareShape c files m n k l e h = absurd (omega (arith, e))
+faulty_with (Proof found) c files m n k l e h = absurd (omega (arith, e))
 faulty_with Memory c files m n k l e h = absurd (omega (arith, e))
 
 pub faulty : (w : Bool) (problem : Problem) (status : ℕ) (c : Contract) (files : Option Files) (m n : ℕ) (before after : Option (List ℕ)) (k l : ℕ) → IsReported w problem status before after k l → IsCause c files m n problem → status ≡ 3 → EndsFaulty c files m n k l
@@ -102,6 +113,8 @@ line_with (Netlist byte) c files after m n old new k l e put h kept = absurd (om
 line_with (Second (text.Fault kind place)) c files after m n old new k l e put h kept = absurd (omega (arith, e))
 line_with (Second (text.Limit q count)) c files after m n old new k l e put h kept = absurd (omega (arith, e))
 line_with (Unlike list at) c files after m n old new k l e put h kept = absurd (omega (arith, e))
+line_with CareShape c files after m n old new k l e put h kept = absurd (omega (arith, e))
+line_with (Proof found) c files after m n old new k l e put h kept = absurd (omega (arith, e))
 line_with Memory c files after m n old new k l e put h kept = absurd (omega (arith, e))
 
 memory_line_put : (c : Contract) (files after : Option Files) (m n : ℕ) → MayPut c files after m n (line_of Memory)
@@ -120,6 +133,12 @@ reported_line w problem status c files after m n old new k l r h kept e = elim r
   ]
 ]
 
+-- the status of what is decided
+verdict_never_3 : (verdict : Verdict) → verdict_status verdict ≡ 3 → ⊥
+verdict_never_3 Equal e = omega (arith, e)
+verdict_never_3 (Differ bits) e = omega (arith, e)
+verdict_never_3 (Undecided budget) e = omega (arith, e)
+
 -- the status of what is done
 pub never_3 : (done : Done) → done_status done ≡ 3 → ⊥
 never_3 (Optimised figures) e = omega (arith, e)
@@ -128,9 +147,9 @@ never_3 (Flattened instances covers) e = omega (arith, e)
 never_3 (Tested counts) e = omega (arith, e)
 never_3 (Replayed count stop) e = omega (arith, e)
 never_3 (Converted count) e = omega (arith, e)
-never_3 Equal e = omega (arith, e)
-never_3 (Differ bits) e = omega (arith, e)
-never_3 (Undecided budget) e = omega (arith, e)
+never_3 (Compared verdict) e = verdict_never_3 verdict e
+never_3 (Judged count verdict) e = omega (arith, e)
+never_3 (Cared figures) e = omega (arith, e)
 
 pub ended_line : (w : Bool) (done : Done) (status : ℕ) (c : Contract) (files after : Option Files) (m n : ℕ) (old new : Option (List ℕ)) (k l : ℕ) → HasEnded w (done_status done) (done_text done) status old new k l → c.Does files after done → status ≡ 3
     → PutsUnlessFailed c files after m n old new k l

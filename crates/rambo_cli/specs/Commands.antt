@@ -1,6 +1,6 @@
 -- The contract of what the words ask for.
 use Rattle.std.specs.Prelude.{◌≡◌, Option, None, Some, false}
-use Rattle.word_reading.specs.Words.{Asked, opt, check, demo, flat, tests, replay, convert, equal}
+use Rattle.word_reading.specs.Words.{Asked, opt, check, demo, flat, tests, replay, convert, equal, judge, optcare}
 use Rattle.rambo_cli.specs.Contract.{Contract}
 use Rattle.rambo_cli.specs.Opt.{opt_contract}
 use Rattle.rambo_cli.specs.Check.{check_contract}
@@ -10,6 +10,8 @@ use Rattle.rambo_cli.specs.Tests.{tests_contract}
 use Rattle.rambo_cli.specs.Replay.{replay_contract}
 use Rattle.rambo_cli.specs.Convert.{convert_contract}
 use Rattle.rambo_cli.specs.Equal.{equal_contract}
+use Rattle.rambo_cli.specs.Judge.{judge_contract}
+use Rattle.rambo_cli.specs.Optcare.{optcare_contract}
 use Rattle.rambo_cli.specs.declared.problem.Problem.TheVariants.{Words}
 
 -- of words that ask for nothing
@@ -34,3 +36,5 @@ contract_of (Some (tests input journal output patterns)) = tests_contract input 
 contract_of (Some (replay input journal output)) = replay_contract input journal output
 contract_of (Some (convert from to)) = convert_contract from to
 contract_of (Some (equal first second proof settings)) = equal_contract first second proof settings
+contract_of (Some (judge first second proof)) = judge_contract first second proof
+contract_of (Some (optcare input care output vectors settings)) = optcare_contract input care output vectors settings

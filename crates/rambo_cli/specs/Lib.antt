@@ -6,6 +6,7 @@ pub mod Composition
 pub mod Files
 pub mod Contract
 pub mod Input
+pub mod Pairs
 pub mod Opt
 pub mod Check
 pub mod Demo
@@ -13,6 +14,9 @@ pub mod Flat
 pub mod Replay
 pub mod Convert
 pub mod Equal
+pub mod Verdicts
+pub mod Judge
+pub mod Optcare
 pub mod Tests
 pub mod Commands
 pub mod Problems

@@ -7,11 +7,15 @@ use Rattle.blif_format.specs.declared.refusal.FaultKind.TheVariants.{BadByte, Op
 use Rattle.blif_format.specs.declared.refusal.Quantity.{Quantity}
 use Rattle.blif_format.specs.declared.refusal.Quantity.TheVariants.{Text, Name, Inputs, Sources, Observed, Signals, Pins, Journal, Flat}
 use Rattle.rm_base.specs.Words.{Word}
-use Rattle.journal_audit.specs.Lines.{fault_line as journal_fault_line, refusal_line}
+use Rattle.journal_audit.specs.Lines.{fault_line as journal_fault_line, number, refusal_line, why_words}
+use Rattle.journal_text.specs.declared.faults.JournalFault.{JournalFault as LineFault}
+use Rattle.journal_text.specs.declared.faults.JournalFault.TheVariants as line
 use Rattle.accepted_steps.specs.declared.stop.Stop.{Stop}
 use Rattle.accepted_steps.specs.declared.stop.Stop.TheVariants as stop
 use Rattle.rambo_cli.specs.declared.problem.NameList.{NameList}
 use Rattle.rambo_cli.specs.declared.problem.NameList.TheVariants.{Sources as SourceNames, Observed as ObservedNames}
+use Rattle.rambo_cli.specs.declared.problem.ProofProblem.{ProofProblem}
+use Rattle.rambo_cli.specs.declared.problem.ProofProblem.TheVariants as flaw
 
 abbrev pub fault_word : FaultKind → Word
 fault_word BadByte = codes "BadByte"
@@ -80,6 +84,29 @@ list_word ObservedNames = codes "observed"
 -- `unlike LIST PLACE`: where the names of two models differ first
 abbrev pub unlike_line : NameList → ℕ → List ℕ
 unlike_line list place = codes "unlike " ++ (list_word list ++ (codes " " ++ (decimal place ++ 10 ∷ [])))
+
+-- CARE is no single condition
+abbrev pub care_shape_line : List ℕ
+care_shape_line = codes "care shape" ++ 10 ∷ []
+
+-- what is wrong with a line of a proof, and which line it is
+abbrev pub line_words : LineFault → List ℕ
+line_words (line.BadHeader n) = codes "BadHeader" ++ number n
+line_words (line.BadRecord n) = codes "BadRecord" ++ number n
+line_words (line.Truncated n) = codes "Truncated" ++ number n
+line_words (line.AfterEnd n) = codes "AfterEnd" ++ number n
+line_words line.NoMemory = codes "NoMemory"
+
+-- `KIND LINE` of a text that is no proof; `record N` and why that line of evidence is refused, in the words of `check`; or `NotOne`
+abbrev pub flaw_words : ProofProblem → List ℕ
+flaw_words (flaw.Text f) = line_words f
+flaw_words (flaw.Record r) = codes "record" ++ (number r.number ++ (32 ∷ why_words r.why))
+flaw_words (flaw.NoStep n) = codes "record" ++ (number n ++ codes " NoStep")
+flaw_words flaw.NotOne = codes "NotOne"
+
+-- `proof`, and the first flaw of it
+abbrev pub proof_line : ProofProblem → List ℕ
+proof_line found = codes "proof " ++ (flaw_words found ++ 10 ∷ [])
 
 -- `accepted N`: how many records a journal has that is accepted
 abbrev pub accepted_line : ℕ → List ℕ

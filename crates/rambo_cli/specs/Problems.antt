@@ -7,15 +7,15 @@ use Rattle.journal_audit.specs.declared.problem.AuditProblem.{AuditProblem}
 use Rattle.journal_audit.specs.declared.problem.AuditProblem.TheVariants as audit
 use Rattle.journal_audit.specs.Lines.{fault_line as journal_fault_line, netlist_line, refusal_line}
 use Rattle.pattern_text.specs.Text.{tests_line}
-use Rattle.rambo_cli.specs.Summary.{summary_text}
-use Rattle.equal_miter.specs.Proof.{differ_line}
-use Rattle.rambo_cli.specs.Lines.{accepted_line, converted_line, equal_line, fault_line, flat_line, limit_line, memory_line, replayed_lines, second_line, shelf_line, undecided_line, unlike_line, words_line}
+use Rattle.rambo_cli.specs.Summary.{summary_text, care_text}
+use Rattle.rambo_cli.specs.Lines.{accepted_line, care_shape_line, converted_line, fault_line, flat_line, limit_line, memory_line, proof_line, replayed_lines, second_line, shelf_line, unlike_line, words_line}
+use Rattle.rambo_cli.specs.Verdicts.{judged_lines, verdict_line, verdict_status}
 use Rattle.rambo_cli.specs.declared.work.Done.{Done}
-use Rattle.rambo_cli.specs.declared.work.Done.TheVariants.{Optimised, Accepted, Flattened, Tested, Replayed, Converted, Equal, Differ, Undecided}
+use Rattle.rambo_cli.specs.declared.work.Done.TheVariants.{Optimised, Accepted, Flattened, Tested, Replayed, Converted, Compared, Judged, Cared}
 use Rattle.rambo_cli.specs.declared.problem.TextProblem.{TextProblem}
 use Rattle.rambo_cli.specs.declared.problem.TextProblem.TheVariants as text
 use Rattle.rambo_cli.specs.declared.problem.Problem.{Problem}
-use Rattle.rambo_cli.specs.declared.problem.Problem.TheVariants.{Words, Text, Limit, Missing, Fault, Journal, Record, Netlist, Second, Unlike, Memory}
+use Rattle.rambo_cli.specs.declared.problem.Problem.TheVariants.{Words, Text, Limit, Missing, Fault, Journal, Record, Netlist, Second, Unlike, CareShape, Proof, Memory}
 
 -- the line of what is found of a text
 abbrev pub text_line : TextProblem → List ℕ
@@ -33,6 +33,8 @@ line_of (Record r) = refusal_line r
 line_of (Netlist byte) = netlist_line byte
 line_of (Second found) = second_line (text_line found)
 line_of (Unlike list place) = unlike_line list place
+line_of CareShape = care_shape_line
+line_of (Proof found) = proof_line found
 line_of Memory = memory_line
 
 abbrev pub status_of : Problem → ℕ
@@ -47,6 +49,8 @@ status_of (Netlist byte) = 6
 status_of (Second (text.Fault kind place)) = 1
 status_of (Second (text.Limit quantity count)) = 5
 status_of (Unlike list place) = 9
+status_of CareShape = 9
+status_of (Proof found) = 6
 status_of Memory = 4
 
 -- the text that is printed of what a command has done
@@ -57,9 +61,9 @@ done_text (Flattened instances covers) = flat_line instances covers
 done_text (Tested counts) = tests_line counts
 done_text (Replayed count stop) = replayed_lines count stop
 done_text (Converted count) = converted_line count
-done_text Equal = equal_line
-done_text (Differ bits) = differ_line bits
-done_text (Undecided budget) = undecided_line budget
+done_text (Compared verdict) = verdict_line verdict
+done_text (Judged count verdict) = judged_lines count verdict
+done_text (Cared figures) = care_text figures
 
 -- the status of a command that has decided whether two models compute the same tells which it is
 abbrev pub done_status : Done → ℕ
@@ -69,9 +73,9 @@ done_status (Flattened instances covers) = 0
 done_status (Tested counts) = 0
 done_status (Replayed count stop) = 0
 done_status (Converted count) = 0
-done_status Equal = 0
-done_status (Differ bits) = 7
-done_status (Undecided budget) = 8
+done_status (Compared verdict) = verdict_status verdict
+done_status (Judged count verdict) = 0
+done_status (Cared figures) = 0
 
 -- a problem of the words or of the files changes no file
 abbrev pub KeepsFiles : {A : Type 0} → Problem → A → A → Type 0

@@ -1,7 +1,8 @@
--- The summary of a run: five lines.
+-- The summary of a run: five lines, and four where no wire is added.
 use Rattle.std.specs.Prelude.{ℕ, Bool, List, [], ◌∷◌, ◌++◌, codes, if◌then◌else◌}
 use Rattle.std.specs.Fmt.{decimal}
 use Rattle.optimisation.specs.declared.optimised.Figures.{Figures}
+use Rattle.rambo_cli.specs.declared.summary.CareFigures.{CareFigures}
 
 abbrev pub settled_word : Bool → List ℕ
 settled_word settled = if settled then codes "settled" else codes "spent"
@@ -28,3 +29,11 @@ faults_line f = codes "faults " ++ (decimal f.tested ++ (codes " " ++ (decimal f
 
 abbrev pub summary_text : Figures → List ℕ
 summary_text f = wires_line f ++ (gates_line f ++ (steps_line f ++ (tries_line f ++ faults_line f)))
+
+-- the lines `wires`, `gates`, `steps` and `faults` of `optcare`
+abbrev pub care_text : CareFigures → List ℕ
+care_text f =
+    (codes "wires " ++ (decimal f.wires_before ++ (codes " " ++ (decimal f.wires ++ 10 ∷ []))))
+    ++ ((codes "gates " ++ (decimal f.gates_before ++ (codes " " ++ (decimal f.gates ++ 10 ∷ []))))
+    ++ ((codes "steps " ++ (decimal f.made.adds ++ (codes " " ++ (decimal f.made.fixes ++ (codes " " ++ (decimal f.made.local ++ 10 ∷ []))))))
+    ++ (codes "faults " ++ (decimal f.tested ++ (codes " " ++ (decimal f.spent ++ 10 ∷ []))))))

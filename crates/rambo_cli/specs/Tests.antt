@@ -4,7 +4,6 @@ use Rattle.rm_base.specs.Files.{Files, put_file}
 use Rattle.rm_base.specs.Words.{Word}
 use Rattle.rm_model.specs.declared.parts.Model.{Model}
 use Rattle.rm_model.specs.Value.{Equivalent}
-use Rattle.gate_net.specs.Net.{Net}
 use Rattle.gate_net.specs.Faults.{faults_of}
 use Rattle.cover_decompose.specs.Count.{decomposed}
 use Rattle.graph_to_model.specs.NetModel.{model_of_net}

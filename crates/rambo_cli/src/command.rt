@@ -24,7 +24,8 @@ use std::thread::Threads;
 /// Does all that the program does, and answers its status.
 ///
 /// The words are those of `opt IN OUT [JOURNAL]`, `check IN JOURNAL OUT`, `demo SEED`, `flat IN OUT`,
-/// `tests IN JOURNAL OUT PATTERNS`, `replay IN JOURNAL OUT`, `convert FROM TO` or `equal A B PROOF`, with their options.
+/// `tests IN JOURNAL OUT PATTERNS`, `replay IN JOURNAL OUT`, `convert FROM TO`, `equal A B PROOF`, `judge A B PROOF` or
+/// `optcare IN CARE OUT TESTS`, with their options.
 /// A gate lets the pieces of parallel work pass. What each command promises stands in its contract.
 pub fn run<R: Threads + Sync, S: Shelf, O: Sink, G: Gate>(
     rt: &R,
@@ -65,7 +66,7 @@ pub fn run<R: Threads + Sync, S: Shelf, O: Sink, G: Gate>(
         (O.written out.old) (O.written out.new) }
     ensures over_files { result ≡ 5 → S.files shelf.new ≡ S.files shelf.old }
 
-    // 6: the journal isn't accepted, or the output differs, which is printed, and no file has changed.
+    // 6: the journal or the proof isn't accepted, or the output differs, which is printed, and no file has changed.
     ensures rejected { result ≡ 6 → EndsBy 6 (contract_of (asked (map string_bytes words.now))) (S.files shelf.old)
         (O.written out.old) (O.written out.new) }
     ensures rejected_files { result ≡ 6 → S.files shelf.new ≡ S.files shelf.old }
@@ -90,8 +91,8 @@ pub fn run<R: Threads + Sync, S: Shelf, O: Sink, G: Gate>(
         → (StoreFails (contract_of (asked (map string_bytes words.now))) (S.faults shelf.old) (S.faults shelf.new) → ⊥) → (Rose (O.faults out.old) (O.faults out.new) → ⊥)
         → (result ≡ 0) ⊎ (result ≡ 4) }
 
-    // A journal and an output that are there, over an input that can be optimised, and no such fault: they are accepted, or the
-    // first reason against them is printed, or memory ran out.
+    // A journal and an output that are there, over an input that can be optimised, or a proof beside two texts whose models have
+    // the same names, and no such fault: they are accepted, or the first reason against them is printed, or memory ran out.
     ensures judged { (contract_of (asked (map string_bytes words.now))).IsJudged (S.files shelf.old)
         → (StoreFails (contract_of (asked (map string_bytes words.now))) (S.faults shelf.old) (S.faults shelf.new) → ⊥) → (Rose (O.faults out.old) (O.faults out.new) → ⊥)
         → (result ≡ 0) ⊎ ((result ≡ 6) ⊎ (result ≡ 4)) }

@@ -68,7 +68,7 @@ fn flat_of_input<S: Shelf>(
     ensures files { S.files shelf.new ≡ S.files shelf.old }
     ensures later { S.faults shelf.old ≤ S.faults shelf.new }
 {
-    let text = bytes_of(shelf, input)?;
+    let text = bytes_of(shelf, input, MOST_BYTES + 1)?;
     flat_of_text(alloc, keys, text.as_slice())
 }
 

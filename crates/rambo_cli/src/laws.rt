@@ -2,10 +2,13 @@
 ghost use Rattle.rambo_cli.specs.Inner.Complete.{ComparedRunsAreTold, GoodRunsAreDone, JudgedRunsAreTold, OthersEndWith0};
 ghost use Rattle.rambo_cli.specs.Composition.{KeptNetsFit, ReplaysAreWritten, RunsAreWritten};
 ghost use Rattle.rambo_cli.specs.Inner.Composition.{PassedAuditsTell};
+ghost use Rattle.rambo_cli.specs.Inner.Optcare.{CaredNetsAreWritten};
 
 use blif_format::reads_once;
 use blif_reader::texts_keep_limits;
 use blif_writer::{read_texts_are_faultless, written_texts_read};
+use care_opt::extracts_keep_faults;
+use closing_pass::tidy_nets_have_sources;
 use cover_decompose::{decompositions_are_formed, decompositions_stand};
 use gate_net::values_exist;
 use graph_to_model::{tidy_nets_have_models, tidy_nets_have_small_models};
@@ -41,6 +44,20 @@ pub fn replays_are_written()
     values_exist();
     tidy_nets_have_models();
     tidy_nets_have_small_models();
+    written_texts_read();
+    read_texts_are_faultless();
+    texts_keep_limits();
+}
+
+/// What remains of a model under a care model is written as the records of its faults and the text of its net.
+pub(crate) fn cared_nets_are_written()
+    ensures { CaredNetsAreWritten }
+{
+    tidy_nets_have_models();
+    tidy_nets_have_model_faults();
+    tidy_nets_have_small_models();
+    tidy_nets_have_sources();
+    extracts_keep_faults();
     written_texts_read();
     read_texts_are_faultless();
     texts_keep_limits();

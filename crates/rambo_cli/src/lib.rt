@@ -2,20 +2,25 @@
 //! it is handed.
 #![tactic(auto)]
 
+mod caring;
 mod checking;
 mod command;
 mod comparing;
 mod converting;
 mod flattening;
+mod judging;
 mod laws;
 mod lines;
 mod optimising;
+mod pairs;
 mod problem;
+mod proof_lines;
 mod reading;
 mod replaying;
 mod showing;
 mod summary;
 mod testing;
+mod verdict;
 mod work;
 
 pub use command::run;

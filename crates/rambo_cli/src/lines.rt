@@ -3,9 +3,12 @@ ghost use Rattle.std.specs.Prelude.{◌≡◌, ◌++◌, ◌∷◌, [], IfOk, So
 ghost use Rattle.std.specs.Fmt.{decimal};
 ghost use Rattle.rambo_cli.specs.Lines.{fault_word as word_of_fault, list_word as word_of_list, quantity_word as word_of_quantity, fault_line as line_of_fault, flat_line, limit_line, replayed_lines, second_line, stop_line, unlike_line};
 ghost use Rattle.rambo_cli.specs.Problems.{done_text, line_of, text_line};
+ghost use Rattle.rambo_cli.specs.Verdicts.{judged_lines, verdict_line};
 
 use crate::problem::{NameList, Problem, TextProblem};
-use crate::summary::summary;
+use crate::proof_lines::proof_line;
+use crate::summary::{care_summary, summary};
+use crate::verdict::Verdict;
 use crate::work::Done;
 use accepted_steps::Stop;
 use blif_format::{FaultKind, Quantity};
@@ -143,6 +146,8 @@ pub fn line(alloc: Global, problem: Problem) -> Result<Vec<u8>, NoMemory>
         Problem::Netlist { byte } => netlist_line(alloc, byte),
         Problem::Second { found } => second_text(alloc, found),
         Problem::Unlike { list, at } => unlike_text(alloc, list, at),
+        Problem::CareShape => Ok(Vec::from_slice(alloc, b"care shape\n")?),
+        Problem::Proof { found } => proof_line(alloc, found),
         Problem::Memory => Ok(Vec::from_slice(alloc, b"memory\n")?),
     }
 }
@@ -202,6 +207,27 @@ fn replayed_text(alloc: Global, count: u64, stop: Option<Stop>) -> Result<Vec<u8
     }
 }
 
+// The line of what is decided of two models.
+fn verdict_text(alloc: Global, verdict: &Verdict) -> Result<Vec<u8>, NoMemory>
+    ensures { IfOk result (λ line. line.items ≡ verdict_line verdict.now) }
+{
+    match verdict {
+        Verdict::Equal => Ok(Vec::from_slice(alloc, b"equal\n")?),
+        Verdict::Differ(vector) => difference_line(alloc, vector),
+        Verdict::Undecided(budget) => count_text(alloc, b"undecided ", u64::from(*budget)),
+    }
+}
+
+// The lines of a proof that is accepted.
+fn judged_text(alloc: Global, count: u64, verdict: &Verdict) -> Result<Vec<u8>, NoMemory>
+    ensures { IfOk result (λ lines. lines.items ≡ judged_lines count verdict.now) }
+{
+    let mut lines = count_text(alloc, b"accepted ", count)?;
+    let said = verdict_text(alloc, verdict)?;
+    lines.extend_from_slice(said.as_slice())?;
+    Ok(lines)
+}
+
 /// What a command that is done puts.
 pub fn done_line(alloc: Global, done: &Done) -> Result<Vec<u8>, NoMemory>
     ensures { IfOk result (λ line. line.items ≡ done_text done.now) }
@@ -213,8 +239,8 @@ pub fn done_line(alloc: Global, done: &Done) -> Result<Vec<u8>, NoMemory>
         Done::Tested(counts) => tests_line(alloc, counts),
         Done::Replayed { count, stop } => replayed_text(alloc, *count, *stop),
         Done::Converted(count) => count_text(alloc, b"converted ", *count),
-        Done::Equal => Ok(Vec::from_slice(alloc, b"equal\n")?),
-        Done::Differ(vector) => difference_line(alloc, vector),
-        Done::Undecided(budget) => count_text(alloc, b"undecided ", u64::from(*budget)),
+        Done::Compared(verdict) => verdict_text(alloc, verdict),
+        Done::Judged { count, verdict } => judged_text(alloc, *count, verdict),
+        Done::Cared(figures) => care_summary(alloc, figures),
     }
 }

@@ -1,20 +1,24 @@
 //! What keeps a run from ending with 0.
 ghost use Rattle.std.specs.Prelude.{◌≡◌};
 ghost use Rattle.rambo_cli.specs.Convert.{convert_problem, of_lines as fault_of_lines};
+ghost use Rattle.rambo_cli.specs.Judge.{judge_problem, only_record};
 ghost use Rattle.rambo_cli.specs.Problems.{audit_problem, piece_problem, status_of};
 ghost use Rattle.rambo_cli.specs.Inner.Equal.{miter_problem};
-ghost use Rattle.rambo_cli.specs.Inner.Problems.{halt_problem, outside_problem, read_problem, word_problem};
+ghost use Rattle.rambo_cli.specs.Inner.Optcare.{care_problem};
+ghost use Rattle.rambo_cli.specs.Inner.Problems.{halt_problem, outside_problem, read_problem, stop_problem, word_problem};
 ghost use Rattle.rambo_cli.specs.declared.problem.Problem.TheVariants as problem;
 
 use blif_format::{FaultKind, Quantity, ReadRefusal};
+use care_opt::CareRefusal;
 use equal_miter::MiterRefusal;
 use file_pieces::PieceProblem;
 use journal_audit::AuditProblem;
-use journal_check::JournalRefusal;
+use journal_check::{JournalRefusal, Why};
 use journal_convert::ConvertProblem;
 use journal_reading::{JournalFault, Version};
-use journal_text::JournalFault as LineFault;
+use journal_text::{JournalFault as LineFault, Stop};
 use optimisation::Halt;
+use proof_check::JudgeRefusal;
 use rm_base::outside::OutsideFault;
 use rm_base::{NoMemory, Place};
 use word_reading::WordFault;
@@ -51,6 +55,19 @@ pub enum NameList {
     Observed,
 }
 
+/// The first flaw of a proof that is judged.
+#[derive(Clone, Copy, Debug, PartialEq, Eq)]
+pub enum ProofProblem {
+    /// The text is no proof, at a line of it.
+    Text { fault: LineFault },
+    /// A line of its evidence isn't accepted.
+    Record { refusal: JournalRefusal },
+    /// This line of its evidence, counted from 1, is no step.
+    NoStep { number: u64 },
+    /// All steps are accepted, and the last net doesn't observe the constant One alone.
+    NotOne,
+}
+
 #[derive(Clone, Copy, Debug, PartialEq, Eq)]
 pub enum Problem {
     /// The words ask for no command.
@@ -73,6 +90,10 @@ pub enum Problem {
     Second { found: TextProblem },
     /// The lists of names of two models differ first at this place, counted from 1.
     Unlike { list: NameList, at: u32 },
+    /// The second model, which is to say what is cared for, has more or fewer outputs than one, or latches.
+    CareShape,
+    /// The proof isn't accepted.
+    Proof { found: ProofProblem },
     Memory,
 }
 
@@ -95,6 +116,8 @@ impl Problem {
             Problem::Netlist { byte: _ } => 6,
             Problem::Second { found } => found.status(),
             Problem::Unlike { list: _, at: _ } => 9,
+            Problem::CareShape => 9,
+            Problem::Proof { found: _ } => 6,
             Problem::Memory => 4,
         }
     }
@@ -250,6 +273,95 @@ impl From<MiterRefusal> for Problem {
                 },
             },
             MiterRefusal::NoMemory => Problem::Memory,
+        }
+    }
+}
+
+// A tree or a vector that is refused, as the refusal of the first record.
+fn only_record(why: Why) -> JournalRefusal
+    ensures { result ≡ only_record why }
+{
+    JournalRefusal { number: 1, why }
+}
+
+// The flaw of a proof, or what else keeps it from being accepted.
+fn judge_problem(refusal: JudgeRefusal) -> Problem
+    ensures { result ≡ judge_problem refusal }
+{
+    let found = match refusal {
+        JudgeRefusal::UnlikeSources { at } => {
+            return Problem::Unlike {
+                list: NameList::Sources,
+                at,
+            };
+        }
+        JudgeRefusal::UnlikeObserved { at } => {
+            return Problem::Unlike {
+                list: NameList::Observed,
+                at,
+            };
+        }
+        JudgeRefusal::Text(fault) => ProofProblem::Text { fault },
+        JudgeRefusal::NoStep { number } => ProofProblem::NoStep { number },
+        JudgeRefusal::Record(refusal) => ProofProblem::Record { refusal },
+        JudgeRefusal::NotOne => ProofProblem::NotOne,
+        JudgeRefusal::Tree(refusal) => ProofProblem::Record {
+            refusal: only_record(Why::Tree(refusal)),
+        },
+        JudgeRefusal::VectorMisses => ProofProblem::Record {
+            refusal: only_record(Why::VectorMisses),
+        },
+        JudgeRefusal::SpentShort { edges, budget } => ProofProblem::Record {
+            refusal: only_record(Why::SpentShort { edges, budget }),
+        },
+        JudgeRefusal::NoMemory => return Problem::Memory,
+    };
+    Problem::Proof { found }
+}
+
+impl From<JudgeRefusal> for Problem {
+    ghost from_gives = { λ e p. p ≡ judge_problem e };
+
+    fn from(refusal: JudgeRefusal) -> Self {
+        judge_problem(refusal)
+    }
+}
+
+impl From<CareRefusal> for Problem {
+    ghost from_gives = { λ e p. p ≡ care_problem e };
+
+    fn from(refusal: CareRefusal) -> Self {
+        match refusal {
+            CareRefusal::Shape => Problem::CareShape,
+            CareRefusal::UnlikeSources { at } => Problem::Unlike {
+                list: NameList::Sources,
+                at,
+            },
+            CareRefusal::Limit {
+                second: false,
+                pins,
+            } => Problem::Limit {
+                quantity: Quantity::Pins,
+                count: pins,
+            },
+            CareRefusal::Limit { second: true, pins } => Problem::Second {
+                found: TextProblem::Limit {
+                    quantity: Quantity::Pins,
+                    count: pins,
+                },
+            },
+            CareRefusal::NoMemory => Problem::Memory,
+        }
+    }
+}
+
+impl From<Stop> for Problem {
+    ghost from_gives = { λ e p. p ≡ stop_problem e };
+
+    fn from(stop: Stop) -> Self {
+        match stop {
+            Stop::Failed => Problem::Fault,
+            Stop::NoMemory => Problem::Memory,
         }
     }
 }

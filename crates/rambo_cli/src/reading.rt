@@ -18,17 +18,17 @@ use std::alloc::Global;
 
 pub(crate) const MOST_BYTES: usize = 16_777_216;
 
-/// The bytes of the input, at most one more than a text may have.
-pub(crate) fn bytes_of<S: Shelf>(shelf: &mut S, input: &str) -> Result<Vec<u8>, Problem>
-    ensures found { IfOk result (λ text. IfSome (S.files shelf.old) (λ told. Holds told input.now (λ bytes. text.items ≡ take 16777217 bytes))) }
-    ensures missing { result ≡ Err Problem.Missing → IfSome (S.files shelf.old) (λ told. file_of told input.now ≡ None) }
+/// The bytes of a file, at most so many.
+pub(crate) fn bytes_of<S: Shelf>(shelf: &mut S, name: &str, most: usize) -> Result<Vec<u8>, Problem>
+    ensures found { IfOk result (λ text. IfSome (S.files shelf.old) (λ told. Holds told name.now (λ bytes. text.items ≡ take most bytes))) }
+    ensures missing { result ≡ Err Problem.Missing → IfSome (S.files shelf.old) (λ told. file_of told name.now ≡ None) }
     ensures told { result ≡ Err Problem.Missing → IsSome (S.files shelf.old) }
     ensures fault { result ≡ Err Problem.Fault → Rose (S.faults shelf.old) (S.faults shelf.new) }
     ensures others { IfErr result IsOutside }
     ensures later { S.faults shelf.old ≤ S.faults shelf.new }
     ensures files { S.files shelf.new ≡ S.files shelf.old }
 {
-    let Some(text) = shelf.read(input, 0, MOST_BYTES + 1)? else {
+    let Some(text) = shelf.read(name, 0, most)? else {
         return Err(Problem::Missing);
     };
     Ok(text)
@@ -78,6 +78,6 @@ pub(crate) fn read_input<S: Shelf>(
     ensures files { S.files shelf.new ≡ S.files shelf.old }
     ensures later { S.faults shelf.old ≤ S.faults shelf.new }
 {
-    let text = bytes_of(shelf, input)?;
+    let text = bytes_of(shelf, input, MOST_BYTES + 1)?;
     model_of_text(alloc, keys, text.as_slice())
 }

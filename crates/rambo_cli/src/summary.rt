@@ -1,7 +1,7 @@
-//! The summary of a run.
+//! The summaries of runs.
 ghost use Rattle.std.specs.Prelude.{◌≡◌, ◌++◌, ◌∷◌, [], codes, IfOk, OnOk};
 ghost use Rattle.std.specs.Fmt.{decimal};
-ghost use Rattle.rambo_cli.specs.Summary.{settled_word as word_of_settled, summary_text};
+ghost use Rattle.rambo_cli.specs.Summary.{care_text, settled_word as word_of_settled, summary_text};
 
 use itoa::Buffer;
 use optimisation::Figures;
@@ -74,6 +74,42 @@ pub fn summary(alloc: Global, figures: &Figures) -> Result<Vec<u8>, NoMemory>
     text.extend_from_slice(b"steps ")?;
     add_steps(&mut text, figures.made)?;
     add_tries(&mut text, figures.tries, figures.settled)?;
+    add_pair(&mut text, b"faults ", figures.tested, figures.spent)?;
+    Ok(text)
+}
+
+/// The figures of `optcare`: wires and gates of the decomposition and of the output, the steps made by kind, and the faults with
+/// a vector and with a search that spent its budget.
+#[derive(Clone, Copy, Debug)]
+pub struct CareFigures {
+    pub wires_before: u32,
+    pub wires: u32,
+    pub gates_before: u32,
+    pub gates: u32,
+    pub made: Made,
+    pub tested: u64,
+    pub spent: u64,
+}
+
+/// The four lines of the summary of `optcare`.
+pub fn care_summary(alloc: Global, figures: &CareFigures) -> Result<Vec<u8>, NoMemory>
+    ensures { IfOk result (λ text. text.items ≡ care_text figures.now) }
+{
+    let mut text = Vec::new(alloc);
+    add_pair(
+        &mut text,
+        b"wires ",
+        u64::from(figures.wires_before),
+        u64::from(figures.wires),
+    )?;
+    add_pair(
+        &mut text,
+        b"gates ",
+        u64::from(figures.gates_before),
+        u64::from(figures.gates),
+    )?;
+    text.extend_from_slice(b"steps ")?;
+    add_steps(&mut text, figures.made)?;
     add_pair(&mut text, b"faults ", figures.tested, figures.spent)?;
     Ok(text)
 }

@@ -6,20 +6,24 @@ ghost use Rattle.rambo_cli.specs.Commands.{contract_of};
 ghost use Rattle.rambo_cli.specs.Contract.{IsCause};
 ghost use Rattle.rambo_cli.specs.Problems.{KeepsFiles, done_status};
 
+use crate::caring::{CareNames, optimise_cared};
 use crate::checking::check;
 use crate::comparing::{EqualNames, compare};
 use crate::converting::convert_file;
 use crate::flattening::flatten_input;
+use crate::judging::judge_proof;
 use crate::optimising::{Names, optimise_input};
 use crate::problem::Problem;
 use crate::replaying::replay_journal;
 use crate::showing::show;
+use crate::summary::CareFigures;
 use crate::testing::{TestNames, write_tests};
+use crate::verdict::Verdict;
 use accepted_steps::Stop;
 use optimisation::Figures;
 use pattern_text::Counts;
+use rm_base::Gate;
 use rm_base::outside::Shelf;
-use rm_base::{Gate, Vector};
 use rm_model::NameKeys;
 use std::alloc::Global;
 use std::thread::Threads;
@@ -40,12 +44,12 @@ pub enum Done {
     Replayed { count: u64, stop: Option<Stop> },
     /// `convert`: the journal is written in version 2, with so many records.
     Converted(u64),
-    /// `equal`: the models compute the same.
-    Equal,
-    /// `equal`: the models differ under these values of the sources.
-    Differ(Vector),
-    /// `equal`: the search entered so many edges, as many as it may.
-    Undecided(u32),
+    /// `equal`: what is decided of the models.
+    Compared(Verdict),
+    /// `judge`: the proof is accepted, with so many lines of evidence, and this is what it says.
+    Judged { count: u64, verdict: Verdict },
+    /// `optcare`: the figures of the run.
+    Cared(CareFigures),
 }
 
 impl Done {
@@ -63,9 +67,12 @@ impl Done {
             Done::Tested(_counts) => 0,
             Done::Replayed { count: _, stop: _ } => 0,
             Done::Converted(_count) => 0,
-            Done::Equal => 0,
-            Done::Differ(_vector) => 7,
-            Done::Undecided(_budget) => 8,
+            Done::Compared(verdict) => verdict.status(),
+            Done::Judged {
+                count: _,
+                verdict: _,
+            } => 0,
+            Done::Cared(_figures) => 0,
         }
     }
 }
@@ -162,6 +169,34 @@ pub(crate) fn work<R: Threads + Sync, S: Shelf, G: Gate>(
                 proof,
             };
             compare(alloc, keys, shelf, &names, &settings)
+        }
+        Command::Judge {
+            first,
+            second,
+            proof,
+        } => {
+            let names = EqualNames {
+                first,
+                second,
+                proof,
+            };
+            judge_proof(alloc, keys, shelf, &names)
+        }
+        Command::Optcare {
+            input,
+            care,
+            output,
+            tests,
+            settings,
+        } => {
+            let names = CareNames {
+                input,
+                care,
+                output,
+                tests,
+            };
+            let figures = optimise_cared(alloc, keys, shelf, &names, &settings)?;
+            Ok(Done::Cared(figures))
         }
     }
 }

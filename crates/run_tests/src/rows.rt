@@ -1,10 +1,12 @@
 //! The commands over files in memory, against rows that were worked out by hand.
+mod care_rows;
 mod check_rows;
 mod demo_rows;
 mod equal_rows;
 mod failing_calls;
 mod flat_rows;
 mod hostile_texts;
+mod judge_rows;
 mod limits;
 mod opt_rows;
 mod refused_rows;

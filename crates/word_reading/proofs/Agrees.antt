@@ -8,7 +8,7 @@ use Rattle.clap.specs.Walk.{Row, Rule, Text, first_of}
 use Rattle.rm_base.specs.declared.settings.Settings.{Settings}
 use Rattle.word_reading.specs.Inner.Judged.{accepted, judged, judged_parts, rules}
 use Rattle.word_reading.specs.Inner.Commands.{command_in, has_only, made_by, names_in, number_at, settings_in, up_to_none}
-use Rattle.word_reading.specs.Words.{Asked, CommandRule, OptionRule, Part, name, setting, asked, asked_by, at_most_once, budget_rule, check_by, command_rules, convert_by, demo_by, depth_rule, equal_by, flat_by, given, has_keys, is_word, names, opt_by, option_rules, parts, question_keys, replay_by, rule_of, setting_keys, settings_of, tests_by, together, tries_rule, value_in, workers_rule}
+use Rattle.word_reading.specs.Words.{Asked, CommandRule, OptionRule, Part, name, setting, asked, asked_by, at_most_once, budget_rule, check_by, command_rules, convert_by, demo_by, depth_rule, equal_by, flat_by, given, has_keys, is_word, judge_by, names, opt_by, optcare_by, option_rules, parts, question_keys, replay_by, rule_of, setting_keys, settings_of, tests_by, together, tries_rule, value_in, workers_rule}
 use Rattle.word_reading.proofs.Numbers.{number_in_some, number_some}
 use Rattle.word_reading.proofs.Slots.{fits, row_with, row_for}
 use Rattle.word_reading.proofs.Judging.{IsOption, IsValue, absent, once, Holds, IsFaulty, unknown_key, crowded, bad_option, bad_name, Verdict, refuses, takes, first_row, judged_is, same_text}
@@ -247,6 +247,21 @@ equal_few (a ∷ b ∷ []) s lt = absurd (omega arith)
 equal_few (a ∷ b ∷ c ∷ []) s lt = absurd (omega arith)
 equal_few (a ∷ b ∷ c ∷ d ∷ ws) s lt = refl
 
+judge_few : (ws : List Text) (s : Settings) → 4 < length ws → judge_by ws s ≡ None
+judge_few [] s lt = absurd (omega arith)
+judge_few (a ∷ []) s lt = absurd (omega arith)
+judge_few (a ∷ b ∷ []) s lt = absurd (omega arith)
+judge_few (a ∷ b ∷ c ∷ []) s lt = absurd (omega arith)
+judge_few (a ∷ b ∷ c ∷ d ∷ ws) s lt = refl
+
+optcare_few : (ws : List Text) (s : Settings) → 4 < length ws → optcare_by ws s ≡ None
+optcare_few [] s lt = absurd (omega arith)
+optcare_few (a ∷ []) s lt = absurd (omega arith)
+optcare_few (a ∷ b ∷ []) s lt = absurd (omega arith)
+optcare_few (a ∷ b ∷ c ∷ []) s lt = absurd (omega arith)
+optcare_few (a ∷ b ∷ c ∷ d ∷ []) s lt = absurd (omega arith)
+optcare_few (a ∷ b ∷ c ∷ d ∷ e ∷ ws) s lt = refl
+
 -- of two keys in front of others, what is among the two is among all
 among_first : (x y : Bool) (z : Bool) → (x || (y || false)) ≡ true → (x || (y || z)) ≡ true
 among_first true y z e = refl
@@ -261,7 +276,7 @@ are_modest = (
   record { few = opt_few; listed = λ k e. e },
   (
     record { few = check_few; listed = λ k e. cc },
-    (record { few = demo_few; listed = λ k e. e }, (record { few = flat_few; listed = λ k e. cc }, (record { few = tests_few; listed = λ k e. cc }, (record { few = replay_few; listed = λ k e. cc }, (record { few = convert_few; listed = λ k e. cc }, (record { few = equal_few; listed = questions_listed }, tt)))))),
+    (record { few = demo_few; listed = λ k e. e }, (record { few = flat_few; listed = λ k e. cc }, (record { few = tests_few; listed = λ k e. cc }, (record { few = replay_few; listed = λ k e. cc }, (record { few = convert_few; listed = λ k e. cc }, (record { few = equal_few; listed = questions_listed }, (record { few = judge_few; listed = λ k e. cc }, (record { few = optcare_few; listed = questions_listed }, tt)))))))),
   ),
 )
 

@@ -10,7 +10,7 @@ use Rattle.std.proofs.lemmas.Slice.Eq.{bytes_eq-Decides}
 use Rattle.clap.proofs.WalkLemmas.{both}
 use Rattle.rm_base.specs.declared.settings.Settings.{Settings}
 use Rattle.word_reading.specs.Commands.{HasNamesApart, HasSettingsInRange, IsInRange}
-use Rattle.word_reading.specs.Words.{Asked, CommandRule, Part, are_different, asked, asked_by, at_most_once, budget_rule, check, check_by, command_rules, convert, convert_by, demo, demo_by, depth_rule, equal, equal_by, flat, flat_by, given, has_keys, is_word, names, number, opt, opt_by, parts, replay, replay_by, rule_of, settings_of, tests, tests_by, together, tries_rule, value_in, workers_rule}
+use Rattle.word_reading.specs.Words.{Asked, CommandRule, Part, are_different, asked, asked_by, at_most_once, budget_rule, check, check_by, command_rules, convert, convert_by, demo, demo_by, depth_rule, equal, equal_by, flat, flat_by, given, has_keys, is_word, judge, judge_by, names, number, opt, opt_by, optcare, optcare_by, parts, replay, replay_by, rule_of, settings_of, tests, tests_by, together, tries_rule, value_in, workers_rule}
 use Rattle.word_reading.specs.declared.options.TheConstants.{LEAST_BUDGET, LEAST_WORKERS, MOST_BUDGET, MOST_DEPTH, MOST_TRIES, MOST_WORKERS, USUAL_BUDGET, USUAL_DEPTH, USUAL_TRIES, USUAL_WORKERS}
 use Rattle.word_reading.proofs.Numbers.{value_of}
 use Rattle.rm_base.proofs.Public.{some_is}
@@ -187,8 +187,38 @@ equal_sound (a ∷ b ∷ []) s range x is = cc
 equal_sound (a ∷ b ∷ c ∷ []) s range x is = equal_made a b c s range (are_different (a ∷ b ∷ c ∷ [])) refl x is
 equal_sound (a ∷ b ∷ c ∷ d ∷ ws) s range x is = cc
 
+judge_sound : (ws : List Word) (s : Settings) → IsInRange s → (x : Asked) → judge_by ws s ≡ Some x → IsSound x
+judge_sound [] s range x is = cc
+judge_sound (a ∷ []) s range x is = cc
+judge_sound (a ∷ b ∷ []) s range x is = cc
+judge_sound (a ∷ b ∷ c ∷ []) s range x is = subst IsSound (some_is (judge a b c) x is) (tt, tt)
+judge_sound (a ∷ b ∷ c ∷ d ∷ ws) s range x is = cc
+
+apart_of_three : (a b c d : Word) → not (is_word a b || (is_word a c || (is_word a d || false))) ≡ true → (a ≢ b) × ((a ≢ c) × (a ≢ d))
+apart_of_three a b c d e =
+    let n = none_of_three (is_word a b) (is_word a c) (is_word a d) e in
+    (unlike a b n.0, (unlike a c n.1.0, unlike a d n.1.1))
+
+optcare_made : (a b c d : Word) (s : Settings) → IsInRange s → (t : Bool) → are_different (a ∷ b ∷ c ∷ d ∷ []) ≡ t → (x : Asked) → cond t (Some (optcare a b c d s)) None ≡ Some x → IsSound x
+optcare_made a b c d s range true apart x is =
+    let one = both (not (is_word a b || (is_word a c || (is_word a d || false)))) (are_different (b ∷ c ∷ d ∷ [])) apart in
+    let two = both (not (is_word b c || (is_word b d || false))) (are_different (c ∷ d ∷ [])) one.1 in
+    let three = both (not (is_word c d || false)) true two.1 in
+    let first = apart_of_three a b c d one.0 in
+    let second = differ_first b c d two.0 in
+    subst IsSound (some_is (optcare a b c d s) x is) ((first.0, first.1.0, first.1.1, second.0, second.1, different c d three.0), range)
+optcare_made a b c d s range false apart x is = cc
+
+optcare_sound : (ws : List Word) (s : Settings) → IsInRange s → (x : Asked) → optcare_by ws s ≡ Some x → IsSound x
+optcare_sound [] s range x is = cc
+optcare_sound (a ∷ []) s range x is = cc
+optcare_sound (a ∷ b ∷ []) s range x is = cc
+optcare_sound (a ∷ b ∷ c ∷ []) s range x is = cc
+optcare_sound (a ∷ b ∷ c ∷ d ∷ []) s range x is = optcare_made a b c d s range (are_different (a ∷ b ∷ c ∷ d ∷ [])) refl x is
+optcare_sound (a ∷ b ∷ c ∷ d ∷ e ∷ ws) s range x is = cc
+
 all_sound : AllByRecursion MakesSound command_rules
-all_sound = (opt_sound, (check_sound, (demo_sound, (flat_sound, (tests_sound, (replay_sound, (convert_sound, (equal_sound, tt))))))))
+all_sound = (opt_sound, (check_sound, (demo_sound, (flat_sound, (tests_sound, (replay_sound, (convert_sound, (equal_sound, (judge_sound, (optcare_sound, tt))))))))))
 
 sound_of : (w : Word) (xs : List CommandRule) → AllByRecursion MakesSound xs → (c : CommandRule) → find (λ (d : CommandRule). is_word w d.word) xs ≡ Some c → MakesSound c
 sound_of w [] all c e = cc

@@ -2,9 +2,9 @@
 use Rattle.std.specs.Prelude.{◌≢◌, ◌≤◌, Some, None, option_map}
 use Rattle.word_reading.specs.declared.options.TheConstants.{LEAST_BUDGET, LEAST_WORKERS, MOST_BUDGET, MOST_DEPTH, MOST_TRIES, MOST_WORKERS}
 use Rattle.rm_base.specs.declared.settings.Settings.{Settings}
-use Rattle.word_reading.specs.Words.{Asked, opt, check, demo, flat, tests, replay, convert, equal}
+use Rattle.word_reading.specs.Words.{Asked, opt, check, demo, flat, tests, replay, convert, equal, judge, optcare}
 use Rattle.word_reading.specs.declared.command.Command.{Command}
-use Rattle.word_reading.specs.declared.command.Command.TheVariants.{Opt, Check, Demo, Flat, Tests, Replay, Convert, Equal}
+use Rattle.word_reading.specs.declared.command.Command.TheVariants.{Opt, Check, Demo, Flat, Tests, Replay, Convert, Equal, Judge, Optcare}
 
 -- the command as a value: its names are their bytes
 abbrev pub asked_of : Command → Asked
@@ -16,8 +16,10 @@ asked_of (Tests input journal output patterns) = tests input.now journal.now out
 asked_of (Replay input journal output) = replay input.now journal.now output.now
 asked_of (Convert from to) = convert from.now to.now
 asked_of (Equal first second proof settings) = equal first.now second.now proof.now settings
+asked_of (Judge first second proof) = judge first.now second.now proof.now
+asked_of (Optcare input care output vectors settings) = optcare input.now care.now output.now vectors.now settings
 
--- no two names of `opt`, `flat`, `replay`, `convert` or `equal` are alike, and the last one of `tests` is none of the others
+-- no two names of `opt`, `flat`, `replay`, `convert`, `equal` or `optcare` are alike, and the last one of `tests` is none of the others
 abbrev pub HasNamesApart : Asked → Type 0
 HasNamesApart (opt input output None settings) = input ≢ output
 HasNamesApart (opt input output (Some journal) settings) = (input ≢ output) × (input ≢ journal) × (output ≢ journal)
@@ -28,6 +30,8 @@ HasNamesApart (tests input journal output patterns) = (patterns ≢ input) × (p
 HasNamesApart (replay input journal output) = (input ≢ journal) × (input ≢ output) × (journal ≢ output)
 HasNamesApart (convert from to) = from ≢ to
 HasNamesApart (equal first second proof settings) = (first ≢ second) × (first ≢ proof) × (second ≢ proof)
+HasNamesApart (judge first second proof) = Unit {0}
+HasNamesApart (optcare input care output vectors settings) = (input ≢ care) × (input ≢ output) × (input ≢ vectors) × (care ≢ output) × (care ≢ vectors) × (output ≢ vectors)
 
 pub record IsInRange (settings : Settings) : Type 0 where
   pub depth : settings.depth ≤ MOST_DEPTH
@@ -46,3 +50,5 @@ HasSettingsInRange (tests input journal output patterns) = Unit {0}
 HasSettingsInRange (replay input journal output) = Unit {0}
 HasSettingsInRange (convert from to) = Unit {0}
 HasSettingsInRange (equal first second proof settings) = IsInRange settings
+HasSettingsInRange (judge first second proof) = Unit {0}
+HasSettingsInRange (optcare input care output vectors settings) = IsInRange settings

@@ -155,6 +155,8 @@ pub data Asked : Type 0 where
   replay : Word → Word → Word → Asked
   convert : Word → Word → Asked
   equal : Word → Word → Word → Settings → Asked
+  judge : Word → Word → Word → Asked
+  optcare : Word → Word → Word → Word → Settings → Asked
 
 -- no two of the names are alike
 abbrev pub are_different : List Word → Bool
@@ -202,6 +204,16 @@ abbrev pub equal_by : List Word → Settings → Option Asked
 equal_by (a ∷ b ∷ c ∷ []) s = if are_different (a ∷ b ∷ c ∷ []) then Some (equal a b c s) else None
 equal_by _ s = None
 
+-- three names
+abbrev pub judge_by : List Word → Settings → Option Asked
+judge_by (a ∷ b ∷ c ∷ []) s = Some (judge a b c)
+judge_by _ s = None
+
+-- four names, pairwise different
+abbrev pub optcare_by : List Word → Settings → Option Asked
+optcare_by (a ∷ b ∷ c ∷ d ∷ []) s = if are_different (a ∷ b ∷ c ∷ d ∷ []) then Some (optcare a b c d s) else None
+optcare_by _ s = None
+
 -- the word of a command, the keys of its options, and what its names and settings ask for
 pub record CommandRule : Type 0 where
   pub word : Word
@@ -218,6 +230,8 @@ command_rules =
     ∷ record { word = codes "replay"; keys = []; made = replay_by }
     ∷ record { word = codes "convert"; keys = []; made = convert_by }
     ∷ record { word = codes "equal"; keys = question_keys; made = equal_by }
+    ∷ record { word = codes "judge"; keys = []; made = judge_by }
+    ∷ record { word = codes "optcare"; keys = question_keys; made = optcare_by }
     ∷ []
 
 -- the command of a word

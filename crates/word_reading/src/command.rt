@@ -44,6 +44,20 @@ pub enum Command<'a> {
         proof: &'a str,
         settings: Settings,
     },
+    /// Replays the proof over the two models.
+    Judge {
+        first: &'a str,
+        second: &'a str,
+        proof: &'a str,
+    },
+    /// Optimises the input where the care model is 1, and writes the output, and tests that are told apart there.
+    Optcare {
+        input: &'a str,
+        care: &'a str,
+        output: &'a str,
+        tests: &'a str,
+        settings: Settings,
+    },
     /// Makes one flat model of the input, and writes it as the output.
     Flat {
         input: &'a str,

@@ -5,7 +5,7 @@ ghost use Rattle.std.specs.String.{string_bytes};
 ghost use Rattle.clap.specs.Words.{first_of, found_of, rows_of};
 ghost use Rattle.clap.specs.Words.{fault_of, matches_of};
 ghost use Rattle.word_reading.specs.Commands.{HasNamesApart, HasSettingsInRange, asked_of};
-ghost use Rattle.word_reading.specs.Words.{asked, check_by, convert_by, demo_by, equal_by, flat_by, is_word, number, opt_by, question_keys, replay_by, tests_by};
+ghost use Rattle.word_reading.specs.Words.{are_different, asked, check_by, convert_by, demo_by, equal_by, flat_by, is_word, judge_by, number, opt_by, optcare_by, question_keys, replay_by, tests_by};
 ghost use Rattle.word_reading.specs.Inner.Commands.{command_in, has_only, names_in, number_at, settings_in, texts_of};
 ghost use Rattle.word_reading.specs.Inner.Judged.{accepted};
 ghost use Rattle.word_reading.specs.Inner.Program.{program as program_app};
@@ -295,6 +295,67 @@ fn equal<'a>(names: Positionals<'a>, settings: Settings) -> Option<Command<'a>>
     })
 }
 
+fn judge<'a>(names: Positionals<'a>, settings: Settings) -> Option<Command<'a>>
+    ensures { option_map asked_of result ≡ judge_by (texts_of names.entry) settings }
+{
+    let Some(first) = names.first else {
+        return None;
+    };
+    let Some(second) = names.second else {
+        return None;
+    };
+    let Some(proof) = names.third else {
+        return None;
+    };
+    if names.fourth.is_some() {
+        return None;
+    }
+    Some(Command::Judge {
+        first,
+        second,
+        proof,
+    })
+}
+
+// Whether no two of the four names are alike.
+fn are_apart(first: &str, second: &str, third: &str, fourth: &str) -> bool
+    ensures { result ≡ are_different (first.now ∷ second.now ∷ third.now ∷ fourth.now ∷ []) }
+{
+    differ(first, second)
+        && differ(first, third)
+        && differ(first, fourth)
+        && differ(second, third)
+        && differ(second, fourth)
+        && differ(third, fourth)
+}
+
+fn optcare<'a>(names: Positionals<'a>, settings: Settings) -> Option<Command<'a>>
+    ensures { option_map asked_of result ≡ optcare_by (texts_of names.entry) settings }
+{
+    let Some(input) = names.first else {
+        return None;
+    };
+    let Some(care) = names.second else {
+        return None;
+    };
+    let Some(output) = names.third else {
+        return None;
+    };
+    let Some(tests) = names.fourth else {
+        return None;
+    };
+    if !are_apart(input, care, output, tests) {
+        return None;
+    }
+    Some(Command::Optcare {
+        input,
+        care,
+        output,
+        tests,
+        settings,
+    })
+}
+
 fn seed(text: &str) -> Option<u64>
     ensures { result ≡ number 0 (2 ^ 64 - 1) text.now }
 {
@@ -354,6 +415,16 @@ fn command<'a>(word: &str, given: &ArgMatches<'a>) -> Option<Command<'a>>
             return None;
         }
         equal(read_positionals(given), settings(given))
+    } else if word == "judge" {
+        if !has_no_option(given) {
+            return None;
+        }
+        judge(read_positionals(given), settings(given))
+    } else if word == "optcare" {
+        if !has_question_options(given) {
+            return None;
+        }
+        optcare(read_positionals(given), settings(given))
     } else {
         None
     }

@@ -9,6 +9,8 @@ use Rattle.blif_format.specs.declared.refusal.ReadRefusal.{ReadRefusal}
 use Rattle.blif_format.specs.declared.refusal.ReadRefusal.TheVariants.{Fault as ReadFault, Limit as ReadLimit, NoMemory as ReadNoMemory}
 use Rattle.blif_format.specs.declared.refusal.Quantity.TheVariants.{Pins}
 use Rattle.cover_decompose.specs.Count.{decomposed}
+use Rattle.journal_text.specs.declared.append.Stop.{Stop}
+use Rattle.journal_text.specs.declared.append.Stop.TheVariants as stop
 use Rattle.optimisation.specs.declared.halt.Halt.{Halt}
 use Rattle.optimisation.specs.declared.halt.Halt.TheVariants as halt
 use Rattle.word_reading.specs.declared.command.WordFault.{WordFault}
@@ -34,6 +36,10 @@ abbrev pub halt_problem : Halt → Problem
 halt_problem (halt.Limit pins) = Limit Pins pins
 halt_problem halt.Failed = Fault
 halt_problem halt.NoMemory = Memory
+
+abbrev pub stop_problem : Stop → Problem
+stop_problem stop.Failed = Fault
+stop_problem stop.NoMemory = Memory
 
 abbrev pub word_problem : WordFault → Problem
 word_problem word.Refused = Words

@@ -1,4 +1,4 @@
-use Rattle.std.proofs.Common.{refl, subst, ℕ}
+use Rattle.std.proofs.Common.{refl, subst}
 use Rattle.gate_graph.specs.Circuit.{Circuit, net_of}
 use Rattle.recursive_learning.specs.Serving.{IsServing}
 use Rattle.care_opt.specs.Inner.Kept.{AreKept}

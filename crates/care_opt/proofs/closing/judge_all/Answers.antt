@@ -1,5 +1,4 @@
-use Rattle.std.proofs.Common.{List, [], arith, false, get_or, length, subst, sym, take, ◌<◌, ℕ, ◌≡◌, ◌≤◌}
-use Rattle.std.specs.Prelude.{None, Option, Some, slice_get}
+use Rattle.std.proofs.Common.{List, [], arith, false, get_or, subst, sym}
 use Rattle.std.specs.List.{AllZip}
 use Rattle.std.proofs.lemmas.Option.{slice_get-get_or}
 use Rattle.gate_graph.specs.Circuit.{net_of}
@@ -18,7 +17,7 @@ pub invariant_of-question : goal.invariant_of-question
 invariant_of-question c = record { pin = c.requires.pins c.loop-at.at (get_or c.args.faults.now c.loop-at.at no_fault) (slice_get-get_or c.args.faults.now c.loop-at.at no_fault c.loop-at-test.true) }
 
 pub loop-at-init : goal.loop-at-init
-loop-at-init c = record { within = omega arith; records = subst (λ (rs : List Record). AllZip (IsRecordOf (net_of c.args.graph.now) c.args.budget) [] rs) (sym c.new-records.ensures.items) tt; unrefuted = λ k fault lt at. absurd (omega (arith, lt)); refutes = c.requires.refutes; kept = c.requires.kept; searches = c.requires.searches }
+loop-at-init c = record { within = omega arith; records = subst (λ (rs : List Record). AllZip (IsRecordOf (net_of c.args.graph.now) c.args.budget) [] rs) (sym c.new-records.ensures.items) tt; unrefuted = λ k fault lt at. absurd (omega (arith, lt)); refutes = c.requires.refutes; kept = c.requires.kept; searches = c.requires.searches; fits = c.requires.fits }
 
 pub returns-in_default-clause-judged : goal.returns-in_default-clause-judged
 returns-in_default-clause-judged c =
@@ -33,7 +32,8 @@ loop-at-preserved c = record {
   unrefuted = open_more (net_of c.args.graph.now) c.args.depth c.args.faults.now c.loop-at.at (get_or c.args.faults.now c.loop-at.at no_fault) (slice_get-get_or c.args.faults.now c.loop-at.at no_fault c.loop-at-test.true) c.loop-at.invariant.unrefuted (told (λ _. HasOpenSet (net_of c.args.graph.now) (get_or c.args.faults.now c.loop-at.at no_fault) c.args.depth) c.in_ok-found.found c.in-Some.record c.in-Some.is c.in_ok-found.ensures.unrefuted);
   refutes = c.in_ok-found.ensures.refutes;
   kept = c.in_ok-found.ensures.kept;
-  searches = c.judged.ensures.searches;
+  searches = c.in_ok-found.ensures.searches;
+  fits = c.in_ok-found.ensures.fits;
 }
 
 pub returns-clause-judged : goal.returns-clause-judged

@@ -1,6 +1,7 @@
 use Rattle.std.proofs.Common.{length, take, ℕ, ◌<◌, ◌≡◌, ◌≤◌}
 use Rattle.std.specs.Prelude.{Some, slice_get}
 use Rattle.std.specs.List.{AllZip}
+use Rattle.fault_sim.specs.LaneStates.{Fits}
 use Rattle.gate_graph.specs.Circuit.{net_of}
 use Rattle.podem.specs.Searchers.{Serves}
 use Rattle.recursive_learning.specs.Serving.{IsServing}
@@ -17,5 +18,6 @@ invariant-loop-at l = record {
   unrefuted : (k : ℕ) (fault : Fault) → k < l.at → slice_get l.faults k ≡ Some fault → HasOpenSet (net_of l.graph) fault l.depth;
   refutes : IsServing (net_of l.graph) l.refuter;
   kept : AreKept l.vectors (net_of l.graph);
-  searches : Serves l.searcher (net_of l.graph);
+  searches : Serves l.tools.searcher (net_of l.graph);
+  fits : Fits l.tools.lanes (net_of l.graph);
 }

@@ -1,6 +1,5 @@
-use Rattle.std.proofs.Common.{List, ap, ◌∙◌}
+use Rattle.std.proofs.Common.{◌∙◌}
 use Rattle.gate_graph.specs.Circuit.{net_of}
-use Rattle.rm_base.specs.declared.numbers.Fault.{Fault}
 use Rattle.care_opt.proofs.Refuted.{passed_of, pins_of}
 use Rattle.care_opt.proofs.closing.pass.Goals as goal
 

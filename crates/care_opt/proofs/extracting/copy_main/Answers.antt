@@ -1,5 +1,4 @@
-use Rattle.std.proofs.Common.{List, ap, map, subst, sym, ◌∙◌, ℕ}
-use Rattle.std.specs.Prelude.{None}
+use Rattle.std.proofs.Common.{List, ap, map, subst, sym, ◌∙◌}
 use Rattle.gate_graph.specs.Circuit.{net_of}
 use Rattle.gate_net.specs.Net.{Net}
 use Rattle.joined_nets.specs.Growing.{Fits}

@@ -1,11 +1,9 @@
-use Rattle.std.proofs.Common.{List, [], ap, map, refl, suc, ℕ, ◌++◌, ◌∙◌, ◌∷◌, ◌≡◌, sym}
-use Rattle.std.specs.Prelude.{None, Option, Some, slice_get}
-use Rattle.std.specs.Option.{option_map}
+use Rattle.std.proofs.Common.{List, ap, map, suc, ℕ, ◌++◌, ◌∙◌, ◌≡◌, sym}
+use Rattle.std.specs.Prelude.{slice_get}
 use Rattle.gate_graph.specs.Circuit.{net_of}
 use Rattle.gate_net.specs.Net.{drivers_of}
 use Rattle.rm_base.specs.declared.numbers.NodeId.{NodeId}
 use Rattle.wire_edit.specs.Steps.{or_zero}
-use Rattle.care_opt.specs.Extract.{gated_nodes}
 use Rattle.care_opt.specs.Inner.Looking.{looked}
 use Rattle.care_opt.proofs.Looking.{driver_none, driver_some, gated_step}
 use Rattle.care_opt.proofs.extracting.gated_numbers.Goals as goal

@@ -1,4 +1,4 @@
-use Rattle.std.proofs.Common.{List, [], ap, arith, get_or, length, map, refl, ◌++◌, ◌∙◌, ◌∷◌, sym, ℕ}
+use Rattle.std.proofs.Common.{List, ap, arith, get_or, length, map, refl, ◌++◌, ◌∙◌, sym}
 use Rattle.std.proofs.lemmas.Option.{slice_get-get_or}
 use Rattle.gate_graph.specs.Circuit.{net_of}
 use Rattle.rm_base.proofs.Public.{map_at}

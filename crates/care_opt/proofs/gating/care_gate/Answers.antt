@@ -1,5 +1,4 @@
-use Rattle.std.proofs.Common.{List, ap, arith, length, map, sym, ℕ, ◌+◌, ◌<◌, ◌∙◌, ◌≡◌}
-use Rattle.std.specs.Prelude.{slice_get, slice_index_or}
+use Rattle.std.proofs.Common.{ap, arith, length, sym, ℕ, ◌+◌, ◌∙◌}
 use Rattle.gate_graph.specs.Circuit.{net_of}
 use Rattle.joined_nets.specs.Joined.{first_gate, moved}
 use Rattle.joined_nets.proofs.Public.{live_below}

@@ -1,4 +1,4 @@
-use Rattle.std.proofs.Common.{List, ap, arith, length, map, subst, sym, ℕ, ◌+◌, ◌<◌, ◌∙◌, ◌≡◌, ◌≤◌}
+use Rattle.std.proofs.Common.{List, ap, arith, length, map, sym, ℕ, ◌∙◌, ◌≡◌}
 use Rattle.std.specs.Prelude.{slice_get}
 use Rattle.std.proofs.lemmas.List.{length-map}
 use Rattle.gate_graph.specs.Circuit.{live_nodes, net_of, pins_taken}
@@ -7,7 +7,7 @@ use Rattle.joined_nets.proofs.Public.{live_below, live_driver}
 use Rattle.rm_base.specs.declared.numbers.NodeId.{NodeId}
 use Rattle.care_opt.specs.Inner.Standing.{CanGate}
 use Rattle.care_opt.proofs.CareFit.{one_in}
-use Rattle.care_opt.proofs.GatingAnds.{fits_made, gated_made, gates_count, gates_low, length_made, size_is, wires_made}
+use Rattle.care_opt.proofs.GatingAnds.{fits_made, gated_made, gates_count, gates_low, length_made, wires_made}
 use Rattle.care_opt.proofs.Starting.{can_gate}
 use Rattle.care_opt.proofs.gating.gated_graph.Goals as goal
 

@@ -1,8 +1,7 @@
-use Rattle.std.proofs.Common.{List, Option, ap, arith, get_or, length, map, refl, sym, ◌∙◌, ◌+◌, ℕ, ◌≡◌}
+use Rattle.std.proofs.Common.{ap, arith, get_or, refl, ◌∙◌}
 use Rattle.std.proofs.lemmas.Option.{slice_get-get_or}
 use Rattle.gate_graph.specs.Circuit.{net_of}
-use Rattle.gate_net.specs.Net.{Net, Node, flatten_option}
-use Rattle.std.specs.Prelude.{slice_get}
+use Rattle.gate_net.specs.Net.{Net}
 use Rattle.rm_base.proofs.Public.{map_at}
 use Rattle.rm_base.specs.declared.numbers.NodeId.{NodeId}
 use Rattle.care_opt.proofs.GatingAnds.{live_still, nets_same, seen_end, seen_step}

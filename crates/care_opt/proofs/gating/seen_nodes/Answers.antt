@@ -1,4 +1,3 @@
-use Rattle.std.proofs.Common.{List, [], ap, append_assoc, map, sym, ℕ, ◌++◌, ◌∙◌, ◌∷◌}
 use Rattle.care_opt.proofs.GatingAnds.{node_step}
 use Rattle.care_opt.proofs.gating.seen_nodes.Goals as goal
 use Rattle.gate_graph.specs.Circuit.{net_of}

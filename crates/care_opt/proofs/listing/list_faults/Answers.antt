@@ -1,7 +1,4 @@
-use Rattle.std.proofs.Common.{List, ap, sym, take, ◌∙◌}
 use Rattle.gate_graph.specs.Circuit.{net_of}
-use Rattle.rm_base.specs.declared.numbers.Fault.{Fault}
-use Rattle.care_opt.specs.Inner.Leading.{leading}
 use Rattle.care_opt.proofs.Leading.{main_taken}
 use Rattle.care_opt.proofs.listing.list_faults.Goals as goal
 

@@ -1,6 +1,5 @@
-use Rattle.std.proofs.Common.{Option, refl, subst, sym}
+use Rattle.std.proofs.Common.{refl, subst}
 use Rattle.gate_graph.specs.Circuit.{Circuit, net_of}
-use Rattle.recursive_learning.specs.Serving.{IsServing}
 use Rattle.care_opt.specs.Inner.Working.{IsFoundAt}
 use Rattle.care_opt.proofs.Going.{works_same}
 use Rattle.care_opt.proofs.Refuted.{found_main}

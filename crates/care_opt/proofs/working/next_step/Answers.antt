@@ -1,5 +1,5 @@
-use Rattle.std.proofs.Common.{ap, arith, refl, subst, sym, ℕ, ◌∙◌, ◌≤◌, ◌≡◌}
-use Rattle.std.specs.Prelude.{Err, Ok}
+use Rattle.std.proofs.Common.{ap, arith, subst, ◌∙◌, ◌≡◌}
+use Rattle.std.specs.Prelude.{Err}
 use Rattle.gate_graph.specs.Circuit.{Circuit, net_of}
 use Rattle.gate_net.specs.Net.{IsWellFormed, Net}
 use Rattle.wire_edit.proofs.Public.{never_full}

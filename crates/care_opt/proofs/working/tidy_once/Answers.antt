@@ -1,5 +1,5 @@
 use Rattle.std.proofs.Common.{subst}
-use Rattle.std.specs.Prelude.{None, Some}
+use Rattle.std.specs.Prelude.{None}
 use Rattle.gate_graph.specs.Circuit.{Circuit, net_of}
 use Rattle.gate_net.specs.Net.{IsWellFormed}
 use Rattle.care_opt.specs.Inner.Working.{HasStepped}

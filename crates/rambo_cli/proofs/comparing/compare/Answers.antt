@@ -4,7 +4,7 @@ use Rattle.rambo_cli.specs.Contract.{Caused}
 use Rattle.rambo_cli.specs.Equal.{EqualFinds}
 use Rattle.rambo_cli.specs.Inner.Problems.{outside_problem}
 use Rattle.rambo_cli.specs.Problems.{KeepsFiles}
-use Rattle.rambo_cli.proofs.Compared.{compare_kept, compared_begun, compared_written, kept_for, outside_cause, outside_kept, unlike_cause}
+use Rattle.rambo_cli.proofs.Compared.{compare_kept, compared_begun, compared_written, kept_for, outside_cause, outside_kept, pair_equal, unlike_cause}
 use Rattle.rambo_cli.proofs.comparing.compare.Goals as goal
 
 pub returns-in_err-pair-clause-unchanged : goal.returns-in_err-pair-clause-unchanged
@@ -12,43 +12,49 @@ returns-in_err-pair-clause-unchanged g c =
     handed_on c.from_residual.result c.in_err-pair.field-0.0 (λ p. KeepsFiles p (g.S.Shelf.files c.args.shelf.now) (g.S.Shelf.files c.read_pair.new.shelf)) c.from_residual.ensures.1
     (kept_for c.in_err-pair.field-0.0 (g.S.Shelf.files c.args.shelf.now) (g.S.Shelf.files c.read_pair.new.shelf) c.in_err-pair.ensures.files)
 
-pub returns-in_err-likeness-clause-unchanged : goal.returns-in_err-likeness-clause-unchanged
-returns-in_err-likeness-clause-unchanged g c =
-    handed_on c.from_residual-in_err-likeness.result c.in_err-likeness.field-0.0 (λ p. KeepsFiles p (g.S.Shelf.files c.args.shelf.now) (g.S.Shelf.files c.read_pair.new.shelf)) c.from_residual-in_err-likeness.ensures.1
-    (kept_for c.in_err-likeness.field-0.0 (g.S.Shelf.files c.args.shelf.now) (g.S.Shelf.files c.read_pair.new.shelf) c.in_ok-pair.ensures.files)
+pub returns-in_err-pair-clause-cause : goal.returns-in_err-pair-clause-cause
+returns-in_err-pair-clause-cause g c =
+    let problem = c.in_err-pair.field-0.0 in
+    handed_on c.from_residual.result problem (Caused (EqualFinds c.args.names.now.first.now c.args.names.now.second.now (g.S.Shelf.files c.args.shelf.now)) (g.S.Shelf.faults c.args.shelf.now) (g.S.Shelf.faults c.read_pair.new.shelf)) c.from_residual.ensures.1
+    (pair_equal c.args.names.now.first.now c.args.names.now.second.now (g.S.Shelf.files c.args.shelf.now) (g.S.Shelf.faults c.args.shelf.now) (g.S.Shelf.faults c.read_pair.new.shelf) problem c.in_err-pair.ensures.cause)
 
-pub returns-in_err-likeness-clause-cause : goal.returns-in_err-likeness-clause-cause
-returns-in_err-likeness-clause-cause g c =
-    let problem = c.in_err-likeness.field-0.0 in
-    handed_on c.from_residual-in_err-likeness.result problem (Caused (EqualFinds c.args.names.now.first.now c.args.names.now.second.now (g.S.Shelf.files c.args.shelf.now)) (g.S.Shelf.faults c.args.shelf.now) (g.S.Shelf.faults c.read_pair.new.shelf)) c.from_residual-in_err-likeness.ensures.1
-    (unlike_cause c.in_ok-pair.pair.model c.in_ok-pair.pair.other c.args.names.now.first.now c.args.names.now.second.now (g.S.Shelf.files c.args.shelf.now) (g.S.Shelf.faults c.args.shelf.now) (g.S.Shelf.faults c.read_pair.new.shelf) problem c.in_ok-pair.ensures.read c.in_err-likeness.ensures.unlike)
+pub returns-in_err-evidence-clause-unchanged : goal.returns-in_err-evidence-clause-unchanged
+returns-in_err-evidence-clause-unchanged g c =
+    handed_on c.from_residual-in_err-evidence.result c.in_err-evidence.field-0.0 (λ p. KeepsFiles p (g.S.Shelf.files c.args.shelf.now) (g.S.Shelf.files c.read_pair.new.shelf)) c.from_residual-in_err-evidence.ensures.1
+    (kept_for c.in_err-evidence.field-0.0 (g.S.Shelf.files c.args.shelf.now) (g.S.Shelf.files c.read_pair.new.shelf) c.in_ok-pair.ensures.files)
+
+pub returns-in_err-evidence-clause-cause : goal.returns-in_err-evidence-clause-cause
+returns-in_err-evidence-clause-cause g c =
+    let problem = c.in_err-evidence.field-0.0 in
+    handed_on c.from_residual-in_err-evidence.result problem (Caused (EqualFinds c.args.names.now.first.now c.args.names.now.second.now (g.S.Shelf.files c.args.shelf.now)) (g.S.Shelf.faults c.args.shelf.now) (g.S.Shelf.faults c.read_pair.new.shelf)) c.from_residual-in_err-evidence.ensures.1
+    (unlike_cause c.in_ok-pair.pair.model c.in_ok-pair.pair.other c.args.names.now.first.now c.args.names.now.second.now (g.S.Shelf.files c.args.shelf.now) (g.S.Shelf.faults c.args.shelf.now) (g.S.Shelf.faults c.read_pair.new.shelf) problem c.in_ok-pair.ensures.read c.in_err-evidence.ensures.unlike)
 
 pub returns-in_err-pair-clause-safe : goal.returns-in_err-pair-clause-safe
 returns-in_err-pair-clause-safe g c = compare_kept c.args.names.now.first.now c.args.names.now.second.now c.args.names.now.proof.now c.args.settings.now (g.S.Shelf.files c.args.shelf.now) (g.S.Shelf.files c.read_pair.new.shelf) c.in_err-pair.ensures.files
 
-pub returns-in_err-likeness-clause-safe : goal.returns-in_err-likeness-clause-safe
-returns-in_err-likeness-clause-safe g c = compare_kept c.args.names.now.first.now c.args.names.now.second.now c.args.names.now.proof.now c.args.settings.now (g.S.Shelf.files c.args.shelf.now) (g.S.Shelf.files c.read_pair.new.shelf) c.in_ok-pair.ensures.files
+pub returns-in_err-evidence-clause-safe : goal.returns-in_err-evidence-clause-safe
+returns-in_err-evidence-clause-safe g c = compare_kept c.args.names.now.first.now c.args.names.now.second.now c.args.names.now.proof.now c.args.settings.now (g.S.Shelf.files c.args.shelf.now) (g.S.Shelf.files c.read_pair.new.shelf) c.in_ok-pair.ensures.files
 
 pub returns-in_err-text-clause-safe : goal.returns-in_err-text-clause-safe
 returns-in_err-text-clause-safe g c = compare_kept c.args.names.now.first.now c.args.names.now.second.now c.args.names.now.proof.now c.args.settings.now (g.S.Shelf.files c.args.shelf.now) (g.S.Shelf.files c.read_pair.new.shelf) c.in_ok-pair.ensures.files
 
 pub returns-in_err-replace-clause-safe : goal.returns-in_err-replace-clause-safe
 returns-in_err-replace-clause-safe g c =
-    compared_begun c.in_ok-pair.pair.model c.in_ok-pair.pair.other c.args.names.now.first.now c.args.names.now.second.now c.args.names.now.proof.now c.args.settings.now c.in_ok-likeness.likeness c.in_ok-text.text.items c.as_slice.result.now (g.S.Shelf.files c.args.shelf.now) (g.S.Shelf.files c.read_pair.new.shelf)
-    (g.S.Shelf.files c.replace.new.shelf) c.in_ok-pair.ensures.files c.in_ok-pair.ensures.read c.in_ok-likeness.ensures.comparable c.in_ok-likeness.ensures.likeness c.in_ok-likeness.ensures.decided c.in_ok-text.ensures c.as_slice.ensures.value c.in_err-replace.ensures.begun
+    compared_begun c.in_ok-pair.pair.model c.in_ok-pair.pair.other c.args.names.now.first.now c.args.names.now.second.now c.args.names.now.proof.now c.args.settings.now c.in_ok-evidence.evidence c.in_ok-text.text.items c.as_slice.result.now (g.S.Shelf.files c.args.shelf.now) (g.S.Shelf.files c.read_pair.new.shelf)
+    (g.S.Shelf.files c.replace.new.shelf) c.in_ok-pair.ensures.files c.in_ok-pair.ensures.read c.in_ok-evidence.ensures.comparable c.in_ok-evidence.ensures.evidence c.in_ok-evidence.ensures.written c.in_ok-evidence.ensures.decided c.in_ok-text.ensures c.as_slice.ensures.value c.in_err-replace.ensures.begun
 
 pub returns-clause-safe : goal.returns-clause-safe
 returns-clause-safe g c =
-    compared_begun c.in_ok-pair.pair.model c.in_ok-pair.pair.other c.args.names.now.first.now c.args.names.now.second.now c.args.names.now.proof.now c.args.settings.now c.in_ok-likeness.likeness c.in_ok-text.text.items c.as_slice.result.now (g.S.Shelf.files c.args.shelf.now) (g.S.Shelf.files c.read_pair.new.shelf)
-    (g.S.Shelf.files c.replace.new.shelf) c.in_ok-pair.ensures.files c.in_ok-pair.ensures.read c.in_ok-likeness.ensures.comparable c.in_ok-likeness.ensures.likeness c.in_ok-likeness.ensures.decided c.in_ok-text.ensures c.as_slice.ensures.value c.in_ok-replace.ensures.begun
+    compared_begun c.in_ok-pair.pair.model c.in_ok-pair.pair.other c.args.names.now.first.now c.args.names.now.second.now c.args.names.now.proof.now c.args.settings.now c.in_ok-evidence.evidence c.in_ok-text.text.items c.as_slice.result.now (g.S.Shelf.files c.args.shelf.now) (g.S.Shelf.files c.read_pair.new.shelf)
+    (g.S.Shelf.files c.replace.new.shelf) c.in_ok-pair.ensures.files c.in_ok-pair.ensures.read c.in_ok-evidence.ensures.comparable c.in_ok-evidence.ensures.evidence c.in_ok-evidence.ensures.written c.in_ok-evidence.ensures.decided c.in_ok-text.ensures c.as_slice.ensures.value c.in_ok-replace.ensures.begun
 
 pub returns-clause-done : goal.returns-clause-done
 returns-clause-done g c = (
-  c.in_ok-likeness.likeness,
+  c.in_ok-evidence.evidence,
   (
-    c.done_by.ensures,
-    compared_written c.in_ok-pair.pair.model c.in_ok-pair.pair.other c.args.names.now.first.now c.args.names.now.second.now c.args.names.now.proof.now c.args.settings.now c.in_ok-likeness.likeness c.in_ok-text.text.items c.as_slice.result.now (g.S.Shelf.files c.args.shelf.now) (g.S.Shelf.files c.read_pair.new.shelf)
-        (g.S.Shelf.files c.replace.new.shelf) c.in_ok-pair.ensures.files c.in_ok-pair.ensures.read c.in_ok-likeness.ensures.comparable c.in_ok-likeness.ensures.likeness c.in_ok-likeness.ensures.decided c.in_ok-text.ensures c.as_slice.ensures.value c.in_ok-replace.ensures.done,
+    c.verdict_of.ensures,
+    compared_written c.in_ok-pair.pair.model c.in_ok-pair.pair.other c.args.names.now.first.now c.args.names.now.second.now c.args.names.now.proof.now c.args.settings.now c.in_ok-evidence.evidence c.in_ok-text.text.items c.as_slice.result.now (g.S.Shelf.files c.args.shelf.now) (g.S.Shelf.files c.read_pair.new.shelf)
+        (g.S.Shelf.files c.replace.new.shelf) c.in_ok-pair.ensures.files c.in_ok-pair.ensures.read c.in_ok-evidence.ensures.comparable c.in_ok-evidence.ensures.evidence c.in_ok-evidence.ensures.written c.in_ok-evidence.ensures.decided c.in_ok-text.ensures c.as_slice.ensures.value c.in_ok-replace.ensures.done,
   ),
 )
 

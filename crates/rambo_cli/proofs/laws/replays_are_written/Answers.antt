@@ -1,4 +1,4 @@
-use Rattle.std.proofs.Common.{◌≤◌, refl, arith}
+use Rattle.std.proofs.Common.{refl, arith}
 use Rattle.rambo_cli.proofs.Composed.{fits, equivalent}
 use Rattle.blif_format.specs.FirstFault.{first_fault}
 use Rattle.blif_format.specs.Text.{text_of}

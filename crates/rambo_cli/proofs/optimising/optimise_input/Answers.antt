@@ -1,5 +1,5 @@
-use Rattle.std.proofs.Common.{List, subst, sym, ◌≡◌, ℕ}
-use Rattle.std.specs.Prelude.{IfSome, Option, Some}
+use Rattle.std.proofs.Common.{subst}
+use Rattle.std.specs.Prelude.{IfSome, Option}
 use Rattle.std.specs.Option.{option_map}
 use Rattle.std.proofs.lemmas.Result.{IfOk-weaker}
 use Rattle.rm_base.specs.Files.{Files}

@@ -1,7 +1,7 @@
 use Rattle.journal_check.proofs.Public.{handed_on}
 use Rattle.rambo_cli.specs.Input.{ReadCause}
 use Rattle.rambo_cli.proofs.Auditing.{too_many}
-use Rattle.rambo_cli.proofs.comparing.read_fitting.Goals as goal
+use Rattle.rambo_cli.proofs.pairs.read_fitting.Goals as goal
 
 pub returns-in_err-model-clause-cause : goal.returns-in_err-model-clause-cause
 returns-in_err-model-clause-cause g c =

@@ -1,0 +1,4 @@
+pub mod Entries
+pub mod Lanes
+pub mod Showing
+pub mod Telling
