@@ -22,10 +22,10 @@ use Rattle.rambo_cli.specs.Files.{Holds, IfTold}
 use Rattle.rambo_cli.specs.Opt.{HasOptimised, HasWritten, IsChecked, IsOverlong}
 use Rattle.rambo_cli.specs.Written.{IsSaid}
 
-here : (name bytes : List ℕ) (files : Files) → file_of (put_file name bytes files) name ≡ Some bytes
+pub here : (name bytes : List ℕ) (files : Files) → file_of (put_file name bytes files) name ≡ Some bytes
 here name bytes files = grind (gets, rules)
 
-elsewhere : (name other bytes : List ℕ) (files : Files) → other ≢ name → file_of (put_file name bytes files) other ≡ file_of files other
+pub elsewhere : (name other bytes : List ℕ) (files : Files) → other ≢ name → file_of (put_file name bytes files) other ≡ file_of files other
 elsewhere name other bytes files differ = get-insert nat_list_cmp_total files name bytes other ∙ at (is_eq (slice_cmp nat_cmp other name)) refl
   where
     at : (b : Bool) → is_eq (slice_cmp nat_cmp other name) ≡ b → cond b (Some bytes) (get files other) ≡ get files other

@@ -11,7 +11,7 @@ use Rattle.blif_format.specs.Laws.{ReadsOnce}
 use Rattle.equal_evidence.specs.Evidence.{IsProof}
 use Rattle.equal_evidence.specs.Shown.{IsEvidenceFor}
 use Rattle.equal_miter.specs.Refusals.{HaveSameNames, first_difference}
-use Rattle.rambo_cli.specs.Equal.{DifferAt}
+use Rattle.rambo_cli.specs.Pairs.{DifferAt}
 use Rattle.rambo_cli.specs.Judge.{CanBeJudged, IsNoEvidence, IsProved, IsRefused, JudgeFinds}
 use Rattle.rambo_cli.specs.Problems.{status_of}
 use Rattle.rambo_cli.specs.Written.{IsSaid}

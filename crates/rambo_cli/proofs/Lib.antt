@@ -20,6 +20,7 @@ pub mod Complete
 pub mod Comparisons
 pub mod Pairings
 pub mod Compared
+pub mod EqualJudged
 pub mod JudgedProofs
 pub mod Cares
 pub mod CareFiles

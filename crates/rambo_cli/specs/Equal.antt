@@ -1,24 +1,22 @@
 -- The command `equal A B PROOF`.
-use Rattle.std.specs.Prelude.{◌≡◌, ◌≤◌, ◌+◌, ◌^◌, ◌⊎◌, ℕ, Option, Some, IfSome, IsSomeAnd, length, take, true}
+use Rattle.std.specs.Prelude.{◌≡◌, ◌<◌, ◌≤◌, ◌+◌, ◌^◌, ◌⊎◌, ℕ, Option, IfSome, IsSomeAnd, length, take, true}
 use Rattle.rm_base.specs.Files.{Files, put_file}
 use Rattle.rm_base.specs.Words.{Word}
 use Rattle.rm_base.specs.declared.settings.Settings.{Settings}
-use Rattle.rm_model.specs.Value.{observed_names, source_names}
+use Rattle.rm_model.specs.Value.{source_names}
 use Rattle.rm_model.specs.declared.parts.Model.{Model}
 use Rattle.equal_evidence.specs.Evidence.{IsWritten, evidence_text}
 use Rattle.equal_evidence.specs.Shown.{IsEvidenceFor}
 use Rattle.equal_evidence.specs.declared.evidence.Evidence.{Evidence}
 use Rattle.equal_miter.specs.Equal.{AreComparable}
 use Rattle.equal_sweep.specs.Decided.{IsDecided}
-use Rattle.equal_miter.specs.Refusals.{first_difference}
 use Rattle.rambo_cli.specs.Contract.{Contract}
-use Rattle.rambo_cli.specs.Files.{IfTold}
-use Rattle.rambo_cli.specs.Pairs.{AreRead, CanBeCompared, PairFinds}
+use Rattle.rambo_cli.specs.Files.{Holds, IfTold}
+use Rattle.rambo_cli.specs.Judge.{IsProved}
+use Rattle.rambo_cli.specs.Pairs.{AreRead, AreUnlike, CanBeCompared, PairFinds}
 use Rattle.rambo_cli.specs.Verdicts.{verdict_of}
 use Rattle.rambo_cli.specs.declared.work.Done.{Done}
 use Rattle.rambo_cli.specs.declared.work.Done.TheVariants.{Compared}
-use Rattle.rambo_cli.specs.declared.problem.NameList.{NameList}
-use Rattle.rambo_cli.specs.declared.problem.NameList.TheVariants.{Sources, Observed}
 use Rattle.rambo_cli.specs.declared.problem.Problem.{Problem}
 use Rattle.rambo_cli.specs.declared.problem.Problem.TheVariants.{Unlike}
 
@@ -38,23 +36,19 @@ pub record HasCompared (first second proof : Word) (settings : Settings) (e : Ev
   pub read : AreRead first second model other old
   pub decided : HasDecided model other proof settings e old new
 
+-- over these files `judge A B PROOF` is good, or PROOF is longer than it reads
+abbrev pub IsJudgedOver : Word → Word → Word → Files → Type 0
+IsJudgedOver first second proof told = IsProved first second proof told ⊎ Holds told proof (λ text. 2 ^ 62 < length text)
+
+-- that is so, and of the files `judge`
+abbrev pub HasComparedWell : Word → Word → Word → Settings → Evidence → Files → Files → Type 0
+HasComparedWell first second proof settings e old new = HasCompared first second proof settings e old new × IsJudgedOver first second proof new
+
 -- and what the evidence says is printed
 abbrev pub EqualDoes : Word → Word → Word → Settings → Option Files → Option Files → Done → Type 0
 EqualDoes first second proof settings old new (Compared verdict) =
-    (e : Evidence) × ((verdict ≡ verdict_of settings.budget e) × IfTold old new (HasCompared first second proof settings e))
+    (e : Evidence) × ((verdict ≡ verdict_of settings.budget e) × IfTold old new (HasComparedWell first second proof settings e))
 EqualDoes first second proof settings old new _ = ⊥
-
--- the first place at which these lists of two models differ; that of the observed names counts where the sources are the same
-abbrev pub DifferAt : Model → Model → NameList → ℕ → Type 0
-DifferAt m n Sources at = first_difference (source_names m) (source_names n) ≡ Some at
-DifferAt m n Observed at = (source_names m ≡ source_names n) × (first_difference (observed_names m) (observed_names n) ≡ Some at)
-
--- that is so of the models that the texts say
-pub record AreUnlike (first second : Word) (list : NameList) (at : ℕ) (told : Files) : Type 0 where
-  pub model : Model
-  pub other : Model
-  pub read : AreRead first second model other told
-  pub differ : DifferAt model other list at
 
 -- what is found of the two texts; or the first place at which the names differ
 abbrev pub EqualFinds : Word → Word → Option Files → Problem → Type 0

@@ -16,9 +16,8 @@ use Rattle.proof_check.specs.Refusals.{IsJudgeRefused}
 use Rattle.proof_check.specs.declared.refusal.JudgeRefusal.{JudgeRefusal}
 use Rattle.proof_check.specs.declared.refusal.JudgeRefusal.TheVariants as judge
 use Rattle.rambo_cli.specs.Contract.{Contract}
-use Rattle.rambo_cli.specs.Equal.{AreUnlike}
 use Rattle.rambo_cli.specs.Files.{Holds}
-use Rattle.rambo_cli.specs.Pairs.{AreRead, CanBeCompared, PairFinds}
+use Rattle.rambo_cli.specs.Pairs.{AreRead, AreUnlike, CanBeCompared, PairFinds}
 use Rattle.rambo_cli.specs.Verdicts.{records_in, verdict_of}
 use Rattle.rambo_cli.specs.declared.verdict.Verdict.{Verdict}
 use Rattle.rambo_cli.specs.declared.work.Done.{Done}

@@ -8,6 +8,8 @@ ghost use Rattle.equal_miter.specs.Equal.{AreComparable};
 ghost use Rattle.equal_sweep.specs.Decided.{IsDecided};
 ghost use Rattle.rm_model.specs.Value.{source_names};
 ghost use Rattle.optimisation.specs.Ranges.{AreSettings};
+ghost use Rattle.word_reading.specs.Commands.{HasNamesApart};
+ghost use Rattle.word_reading.specs.Words.{equal};
 ghost use Rattle.rambo_cli.specs.Contract.{Caused};
 ghost use Rattle.rambo_cli.specs.Equal.{BeginsToCompare, EqualDoes, EqualFinds};
 ghost use Rattle.rambo_cli.specs.Files.{IfTold};
@@ -75,6 +77,7 @@ pub(crate) fn compare<S: Shelf>(
     names: &EqualNames<'_>,
     settings: &Settings,
 ) -> Result<Done, Problem>
+    requires apart { HasNamesApart (equal names.now.first.now names.now.second.now names.now.proof.now settings.now) }
     requires settings { AreSettings settings.now }
     ensures done { IfOk result (EqualDoes names.now.first.now names.now.second.now names.now.proof.now settings.now (S.files shelf.old) (S.files shelf.new)) }
     ensures cause { IfErr result (Caused (EqualFinds names.now.first.now names.now.second.now (S.files shelf.old)) (S.faults shelf.old) (S.faults shelf.new)) }

@@ -4,7 +4,7 @@ use Rattle.rm_model.specs.declared.parts.Model.{Model}
 use Rattle.blif_format.specs.declared.refusal.Quantity.TheVariants.{Pins}
 use Rattle.equal_miter.specs.declared.refusal.MiterRefusal.{MiterRefusal}
 use Rattle.equal_miter.specs.declared.refusal.MiterRefusal.TheVariants as miter
-use Rattle.rambo_cli.specs.Equal.{DifferAt}
+use Rattle.rambo_cli.specs.Pairs.{DifferAt}
 use Rattle.rambo_cli.specs.declared.problem.NameList.TheVariants.{Sources, Observed}
 use Rattle.rambo_cli.specs.declared.problem.TextProblem.TheVariants as found
 use Rattle.rambo_cli.specs.declared.problem.Problem.{Problem}

@@ -3,7 +3,7 @@ use Rattle.std.specs.Prelude.{ℕ, List, Option}
 use Rattle.rm_base.specs.Files.{Files}
 use Rattle.rm_base.specs.Words.{Word}
 use Rattle.rm_model.specs.declared.parts.Model.{Model}
-use Rattle.rambo_cli.specs.Equal.{DifferAt}
+use Rattle.rambo_cli.specs.Pairs.{DifferAt}
 use Rattle.rambo_cli.specs.Files.{IsAbsent}
 use Rattle.rambo_cli.specs.Judge.{IsNoEvidence}
 use Rattle.rambo_cli.specs.Replay.{IsLongJournal}

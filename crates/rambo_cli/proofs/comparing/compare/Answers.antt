@@ -5,6 +5,7 @@ use Rattle.rambo_cli.specs.Equal.{EqualFinds}
 use Rattle.rambo_cli.specs.Inner.Problems.{outside_problem}
 use Rattle.rambo_cli.specs.Problems.{KeepsFiles}
 use Rattle.rambo_cli.proofs.Compared.{compare_kept, compared_begun, compared_written, kept_for, outside_cause, outside_kept, pair_equal, unlike_cause}
+use Rattle.rambo_cli.proofs.EqualJudged.{compared_well}
 use Rattle.rambo_cli.proofs.comparing.compare.Goals as goal
 
 pub returns-in_err-pair-clause-unchanged : goal.returns-in_err-pair-clause-unchanged
@@ -53,8 +54,9 @@ returns-clause-done g c = (
   c.in_ok-evidence.evidence,
   (
     c.verdict_of.ensures,
-    compared_written c.in_ok-pair.pair.model c.in_ok-pair.pair.other c.args.names.now.first.now c.args.names.now.second.now c.args.names.now.proof.now c.args.settings.now c.in_ok-evidence.evidence c.in_ok-text.text.items c.as_slice.result.now (g.S.Shelf.files c.args.shelf.now) (g.S.Shelf.files c.read_pair.new.shelf)
-        (g.S.Shelf.files c.replace.new.shelf) c.in_ok-pair.ensures.files c.in_ok-pair.ensures.read c.in_ok-evidence.ensures.comparable c.in_ok-evidence.ensures.evidence c.in_ok-evidence.ensures.written c.in_ok-evidence.ensures.decided c.in_ok-text.ensures c.as_slice.ensures.value c.in_ok-replace.ensures.done,
+    compared_well c.args.names.now.first.now c.args.names.now.second.now c.args.names.now.proof.now (c.requires.apart.1, c.requires.apart.2) c.args.settings.now c.requires.settings.budget c.in_ok-evidence.evidence (g.S.Shelf.files c.args.shelf.now) (g.S.Shelf.files c.replace.new.shelf)
+        (compared_written c.in_ok-pair.pair.model c.in_ok-pair.pair.other c.args.names.now.first.now c.args.names.now.second.now c.args.names.now.proof.now c.args.settings.now c.in_ok-evidence.evidence c.in_ok-text.text.items c.as_slice.result.now (g.S.Shelf.files c.args.shelf.now) (g.S.Shelf.files c.read_pair.new.shelf)
+        (g.S.Shelf.files c.replace.new.shelf) c.in_ok-pair.ensures.files c.in_ok-pair.ensures.read c.in_ok-evidence.ensures.comparable c.in_ok-evidence.ensures.evidence c.in_ok-evidence.ensures.written c.in_ok-evidence.ensures.decided c.in_ok-text.ensures c.as_slice.ensures.value c.in_ok-replace.ensures.done),
   ),
 )
 
