@@ -7,11 +7,11 @@ _rambo() {
         return
     fi
     case "$before" in
-        --depth) COMPREPLY=($(compgen -W "0 1 2" -- "$word")); return ;;
+        --depth | --merge) COMPREPLY=($(compgen -W "0 1 2" -- "$word")); return ;;
         --budget | --tries | --workers) return ;;
     esac
     case "$command:$word" in
-        opt:-* | demo:-*) COMPREPLY=($(compgen -W "--depth --budget --tries --workers" -- "$word")); return ;;
+        opt:-* | demo:-*) COMPREPLY=($(compgen -W "--depth --budget --tries --workers --merge" -- "$word")); return ;;
         equal:-* | optcare:-*) COMPREPLY=($(compgen -W "--depth --budget" -- "$word")); return ;;
         demo:*) return ;;
     esac

@@ -4,13 +4,10 @@ use Rattle.std.specs.Prelude.{slice_get}
 use Rattle.std.proofs.Math.Nat.{min_comm}
 use Rattle.std.proofs.lemmas.List.{drop_min, map-append, take_min}
 use Rattle.podem.specs.declared.verdict.Verdict.{Verdict}
-use Rattle.podem.specs.declared.verdict.Verdict.TheVariants as verdict
 use Rattle.rm_base.specs.declared.numbers.Fault.{Fault}
 use Rattle.closing_pass.specs.Blocks.{HaveVector, HaveVectors}
 use Rattle.closing_pass.specs.Inner.Blocks.{AreBlocksOf, AreKept}
-use Rattle.closing_pass.specs.Inner.Findings.{AreLong, ArePacked, AreVerdictsOf, IsVerdictOf}
-use Rattle.closing_pass.specs.declared.finding.Finding.{Finding}
-use Rattle.closing_pass.specs.declared.finding.Finding.TheVariants.{Detected, Open, Spent}
+use Rattle.closing_pass.specs.Inner.Findings.{AreLong, ArePacked}
 use Rattle.closing_pass.proofs.Standing.{stands_dropped, stands_taken, taken_stands}
 use Rattle.closing_pass.proofs.Tries.{lt_or_le}
 
@@ -56,18 +53,7 @@ blocks_have vectors (words ∷ blocks) (packed, are) n v is = at (lt_or_le n 64)
     at (inl lt) rest = (0, n, (lt, (words, (refl, packed n v (taken_stands vectors 64 n lt ∙ is)))))
     at (inr le) rest = let e : 64 + (n - 64) ≡ n = omega (arith, le) in later (rest (n - 64) (stands_dropped vectors 64 (n - 64) ∙ ap (slice_get vectors) e ∙ is))
 
--- the verdicts' vectors are kept
-pub verdicts_kept : (kept : List (List Bool)) (faults : List Fault) (found : List Finding) (verdicts : List (Fault × Verdict)) → AreVerdictsOf kept faults found verdicts → AreKept kept verdicts
-verdicts_kept kept faults found verdicts are j fault vector is =
-    let f : (finding : Finding) × ((slice_get found j ≡ Some finding) × IsVerdictOf kept finding (verdict.Detected vector)) = are.verdicts_are j (fault, verdict.Detected vector) is in
-    at f.0 f.1.1
-  where
-    at : (finding : Finding) → IsVerdictOf kept finding (verdict.Detected vector) → (k : ℕ) × (slice_get kept k ≡ Some vector)
-    at Open h = absurd h
-    at (Detected number) there = (number, there)
-    at (Spent tree) h = absurd h
-
--- and so the blocks have them
+-- the blocks have all vectors of verdicts, where these are kept
 pub blocks_have_all : (kept : List (List Bool)) (blocks : List (List ℕ)) (verdicts : List (Fault × Verdict)) → AreBlocksOf kept blocks → AreKept kept verdicts → HaveVectors blocks verdicts
 blocks_have_all kept blocks verdicts are all j fault vector is =
     let k : (n : ℕ) × (slice_get kept n ≡ Some vector) = all j fault vector is in

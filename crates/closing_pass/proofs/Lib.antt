@@ -5,6 +5,7 @@ pub mod Taking
 pub mod LastOnes
 pub mod Packing
 pub mod BlockLaws
+pub mod UsedVectors
 pub mod Falling
 pub mod GoingOn
 pub mod Recorded

@@ -6,3 +6,4 @@ pub mod Going
 pub mod Passing
 pub mod Searching
 pub mod Trying
+pub mod Used

@@ -17,6 +17,7 @@ mod report;
 mod searching;
 mod tidying;
 mod trying;
+mod used;
 mod verdicts;
 mod words;
 

@@ -9,6 +9,7 @@ ghost use Rattle.closing_pass.specs.declared.finding.Finding.TheVariants.{Open};
 use crate::finding::Finding;
 use crate::searching::search_and_try;
 use crate::trying::try_kept;
+use crate::used::used_vectors;
 use crate::verdicts::verdicts_of;
 use fault_sim::Lanes;
 use gate_graph::{Graph, faults_of};
@@ -39,7 +40,8 @@ fn all_open(alloc: Global, count: usize) -> Result<Vec<Finding>, NoMemory>
 }
 
 /// Goes through the faults of the graph. Those that a kept vector detects have the first such vector; the next 64
-/// others are searched together, and the vectors that this finds are kept.
+/// others are searched together, and the vectors that this finds are kept. Where every fault is closed, only the vectors
+/// that a verdict has stay kept.
 pub(crate) fn pass<R: Threads + Sync, G: Gate>(
     rt: &R,
     alloc: Global,
@@ -78,6 +80,8 @@ pub(crate) fn pass<R: Threads + Sync, G: Gate>(
             return Ok(Passed::Refuted { fault, tree });
         }
     }
+    let used = used_vectors(alloc, found.as_slice(), kept.as_slice())?;
     let verdicts = verdicts_of(alloc, faults, found, kept.as_slice())?;
+    *kept = used;
     Ok(Passed::Closed(verdicts))
 }

@@ -4,7 +4,8 @@ use rm_base::Fault;
 
 /// What a closing pass did and found: how many pins it fixed, how many other steps it made, and each fault of the net
 /// that it left, by gate, position and value, with a vector that detects it or the tree of a search that spent its budget.
-/// `found` has the vectors once more, and those of the nets before: blocks of up to 64, with a word for each source.
+/// `found` has these vectors once more, a vector of several faults once, in the order in which they were found: blocks of
+/// up to 64, with a word for each source.
 #[derive(Debug, Drop)]
 pub struct Report {
     pub fixed: u32,

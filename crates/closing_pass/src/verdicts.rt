@@ -8,7 +8,8 @@ use podem::Verdict;
 use rm_base::{Fault, NoMemory, Vector};
 use std::alloc::Global;
 
-fn copy_of(alloc: Global, vector: &Vector) -> Result<Vector, NoMemory>
+/// A copy of the vector.
+pub(crate) fn copy_of(alloc: Global, vector: &Vector) -> Result<Vector, NoMemory>
     ensures { IfOk result (λ v. v ≡ vector.now) }
 {
     let values = vector.values().to_vec(alloc)?;

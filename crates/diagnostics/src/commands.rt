@@ -27,7 +27,7 @@ pub(crate) struct CommandRule {
     pub(crate) meaning: &'static str,
 }
 
-pub(crate) const OPTIONS: [OptionRule; 4] = [
+pub(crate) const OPTIONS: [OptionRule; 5] = [
     OptionRule {
         name: "--depth",
         low: 0,
@@ -58,6 +58,14 @@ pub(crate) const OPTIONS: [OptionRule; 4] = [
         high: 64,
         default: 1,
         meaning: "threads that search for test vectors",
+        commands: &["opt", "demo"],
+    },
+    OptionRule {
+        name: "--merge",
+        low: 0,
+        high: 2,
+        default: 1,
+        meaning: "merge gates of equal or opposite values: 0 never, 1 after the additions, 2 also before them",
         commands: &["opt", "demo"],
     },
 ];

@@ -1,6 +1,7 @@
 pub mod Public
 pub mod Texts
 pub mod RoundLaws
+pub mod StageLaws
 pub mod VerdictLaws
 pub mod WholeLaws
 pub mod FilledLaws

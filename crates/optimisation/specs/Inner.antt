@@ -4,3 +4,4 @@ pub mod Ended
 pub mod Filled
 pub mod Halts
 pub mod Ran
+pub mod Staged

@@ -1,5 +1,6 @@
 pub mod Tests
 pub mod Begun
+pub mod Stages
 pub mod Whole
 pub mod Halts
 pub mod Ranges

@@ -5,6 +5,7 @@
 mod halt;
 mod optimised;
 mod rounds;
+mod stages;
 mod whole;
 
 pub use halt::Halt;

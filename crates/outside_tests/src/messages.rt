@@ -10,6 +10,7 @@ const OPTIONS: [&str; 2] = [
 ",
     "  --tries 0..1000000  additions of a wire that the whole run may try (default 1000000)
   --workers 1..64  threads that search for test vectors (default 1)
+  --merge 0..2  merge gates of equal or opposite values: 0 never, 1 after the additions, 2 also before them (default 1)
 ",
 ];
 
@@ -166,7 +167,7 @@ const CARE_REFUSALS: [(&str, &str); 8] = [
 ];
 
 // Words of which an option is refused, and the first lines of what is shown: the options follow.
-const OPTION_REFUSALS: [(&str, &str); 7] = [
+const OPTION_REFUSALS: [(&str, &str); 11] = [
     (
         "opt a b j --dept 2",
         "rambo: error: opt has no option '--dept'\nusage: rambo opt IN OUT [JOURNAL] [options]\n",
@@ -195,9 +196,25 @@ const OPTION_REFUSALS: [(&str, &str); 7] = [
         "opt a b j --workers",
         "rambo: error: --workers has no value\nusage: rambo opt IN OUT [JOURNAL] [options]\n",
     ),
+    (
+        "opt a b j --merge 3",
+        "rambo: error: --merge '3': not in the range 0 to 2\nusage: rambo opt IN OUT [JOURNAL] [options]\n",
+    ),
+    (
+        "opt a b --merge=yes",
+        "rambo: error: --merge 'yes': not a decimal number\nusage: rambo opt IN OUT [JOURNAL] [options]\n",
+    ),
+    (
+        "opt --merge 2 a b --merge=2",
+        "rambo: error: --merge is given twice\nusage: rambo opt IN OUT [JOURNAL] [options]\n",
+    ),
+    (
+        "opt a b j --merged 1",
+        "rambo: error: opt has no option '--merged'\nusage: rambo opt IN OUT [JOURNAL] [options]\n",
+    ),
 ];
 
-const EQUAL_OPTION_REFUSALS: [(&str, &str); 4] = [
+const EQUAL_OPTION_REFUSALS: [(&str, &str); 5] = [
     (
         "equal a b p --tries 7",
         "rambo: error: equal has no option '--tries'\nusage: rambo equal A B PROOF [options]\n",
@@ -205,6 +222,10 @@ const EQUAL_OPTION_REFUSALS: [(&str, &str); 4] = [
     (
         "equal a b p --workers=1",
         "rambo: error: equal has no option '--workers=1'\nusage: rambo equal A B PROOF [options]\n",
+    ),
+    (
+        "equal a b p --merge 1",
+        "rambo: error: equal has no option '--merge'\nusage: rambo equal A B PROOF [options]\n",
     ),
     (
         "equal a b p --depth 3",
@@ -216,10 +237,14 @@ const EQUAL_OPTION_REFUSALS: [(&str, &str); 4] = [
     ),
 ];
 
-const CARE_OPTION_REFUSALS: [(&str, &str); 3] = [
+const CARE_OPTION_REFUSALS: [(&str, &str); 4] = [
     (
         "optcare a c o t --tries 7",
         "rambo: error: optcare has no option '--tries'\nusage: rambo optcare IN CARE OUT TESTS [options]\n",
+    ),
+    (
+        "optcare a c o t --merge=0",
+        "rambo: error: optcare has no option '--merge=0'\nusage: rambo optcare IN CARE OUT TESTS [options]\n",
     ),
     (
         "optcare a c o t --budget 0",

@@ -20,6 +20,11 @@ fn with_settings(alloc: Global, start: &str, s: Settings) -> Result<String, Fail
     Ok(format!(in alloc; "{start}{} {} {} {}", s.depth, s.budget, s.tries, s.workers)?)
 }
 
+fn with_merge(alloc: Global, start: &str, settings: Settings, merge: u8) -> Result<String, Fail> {
+    let text = with_settings(alloc, start, settings)?;
+    Ok(format!(in alloc; "{text} {merge}")?)
+}
+
 // What was read, as one line.
 fn command_text(alloc: Global, command: Command<'_>) -> Result<String, Fail> {
     match command {
@@ -28,19 +33,24 @@ fn command_text(alloc: Global, command: Command<'_>) -> Result<String, Fail> {
             output,
             journal,
             settings,
+            merge,
         } => {
             let journal = journal.unwrap_or("(none)");
             let start = format!(in alloc; "opt {input} {output} {journal} ")?;
-            with_settings(alloc, &start, settings)
+            with_merge(alloc, &start, settings, merge)
         }
         Command::Check {
             input,
             journal,
             output,
         } => Ok(format!(in alloc; "check {input} {journal} {output}")?),
-        Command::Demo { seed, settings } => {
+        Command::Demo {
+            seed,
+            settings,
+            merge,
+        } => {
             let start = format!(in alloc; "demo {seed} ")?;
-            with_settings(alloc, &start, settings)
+            with_merge(alloc, &start, settings, merge)
         }
         Command::Flat { input, output } => Ok(format!(in alloc; "flat {input} {output}")?),
         Command::Tests {
@@ -91,7 +101,7 @@ fn reads(alloc: Global, line: &str, wanted: &str) -> Result<bool, Fail> {
     }
 }
 
-const REFUSED: [&str; 108] = [
+const REFUSED: [&str; 120] = [
     "",
     "~",
     "help",
@@ -117,6 +127,12 @@ const REFUSED: [&str; 108] = [
     "opt a b j --tries 1000001",
     "opt a b j --workers 0",
     "opt a b j --workers 65",
+    "opt a b j --merge 3",
+    "opt a b j --merge=-1",
+    "opt a b --merge",
+    "opt a b j --merge 1 --merge=1",
+    "opt a b j --merged 1",
+    "opt a b j --Merge 1",
     "opt a b j --tries 1 --tries 2",
     "opt a b j --tries=1 --tries=1",
     "opt a b j --depth",
@@ -157,6 +173,7 @@ const REFUSED: [&str; 108] = [
     "check a b c --help",
     "check a b c --depth 1",
     "check a b c --depth=1",
+    "check a b c --merge=1",
     "demo",
     "demo ~",
     "demo x",
@@ -166,6 +183,7 @@ const REFUSED: [&str; 108] = [
     "demo 18446744073709551616",
     "demo --depth 1",
     "demo 1 --depth=3",
+    "demo 1 --merge=3",
     "demo 1 --seed=1",
     "help opt",
     "opt a b j --screen 0",
@@ -176,12 +194,14 @@ const REFUSED: [&str; 108] = [
     "flat a a",
     "flat a b c",
     "flat a b --tries 1",
+    "flat a b --merge 0",
     "tests a b c",
     "tests a b c d e",
     "tests a b c a",
     "tests a b c b",
     "tests a b c c",
     "tests a b c d --budget 1",
+    "tests a b c d --merge 2",
     "replay",
     "replay a b",
     "replay a b c d",
@@ -191,6 +211,7 @@ const REFUSED: [&str; 108] = [
     "replay a a a",
     "replay a b c --depth 1",
     "replay a b c --workers=1",
+    "replay --merge 1 a b c",
     "replay a b c --resume",
     "Replay a b c",
     "convert",
@@ -198,6 +219,7 @@ const REFUSED: [&str; 108] = [
     "convert a a",
     "convert a b c",
     "convert a b --budget 1",
+    "convert a b --merge 1",
     "convert a --tries=1",
     "convert -- a a",
 ];
@@ -210,7 +232,7 @@ fn refuses(rt: HostRuntime) -> Result<(), Fail> {
     Ok(())
 }
 
-const EQUAL_REFUSED: [&str; 19] = [
+const EQUAL_REFUSED: [&str; 20] = [
     "equal",
     "equal a",
     "equal a b",
@@ -223,6 +245,7 @@ const EQUAL_REFUSED: [&str; 19] = [
     "equal a b p --tries 1",
     "equal a b p --tries=0",
     "equal --workers=1 a b p",
+    "equal a b p --merge 1",
     "equal a b p --depth 3",
     "equal a b p --budget 0",
     "equal a b p --budget=1048577",
@@ -240,7 +263,7 @@ fn refuses_equal(rt: HostRuntime) -> Result<(), Fail> {
     Ok(())
 }
 
-const JUDGE_REFUSED: [&str; 9] = [
+const JUDGE_REFUSED: [&str; 10] = [
     "judge",
     "judge a",
     "judge a b",
@@ -248,6 +271,7 @@ const JUDGE_REFUSED: [&str; 9] = [
     "judge a b p --depth 1",
     "judge a b p --budget=8",
     "judge --workers 1 a b p",
+    "judge a b p --merge=0",
     "judge a b p --help",
     "Judge a b p",
 ];
@@ -260,7 +284,7 @@ fn refuses_judge(rt: HostRuntime) -> Result<(), Fail> {
     Ok(())
 }
 
-const CARE_REFUSED: [&str; 20] = [
+const CARE_REFUSED: [&str; 21] = [
     "optcare",
     "optcare a",
     "optcare a b",
@@ -275,6 +299,7 @@ const CARE_REFUSED: [&str; 20] = [
     "optcare -- a b c a",
     "optcare a b c d --tries 1",
     "optcare --workers=1 a b c d",
+    "optcare a b c d --merge 2",
     "optcare a b c d --depth 3",
     "optcare a b c d --budget=0",
     "optcare a b c d --depth 1 --depth=1",
@@ -294,36 +319,43 @@ fn refuses_optcare(rt: HostRuntime) -> Result<(), Fail> {
 #[test]
 fn reads_opt(rt: HostRuntime) -> Result<(), Fail> {
     let rows = [
-        ("opt a b j", "opt a b j 1 256 1000000 1"),
-        ("opt a b", "opt a b (none) 1 256 1000000 1"),
-        ("opt --depth 2 a b", "opt a b (none) 2 256 1000000 1"),
-        ("opt a --tries=7 -- b", "opt a b (none) 1 256 7 1"),
-        ("opt --budget=8 -- a b j", "opt a b j 1 8 1000000 1"),
-        ("opt --budget +8 a b j", "opt a b j 1 8 1000000 1"),
+        ("opt a b j", "opt a b j 1 256 1000000 1 1"),
+        ("opt a b", "opt a b (none) 1 256 1000000 1 1"),
+        ("opt --depth 2 a b", "opt a b (none) 2 256 1000000 1 1"),
+        ("opt a --tries=7 -- b", "opt a b (none) 1 256 7 1 1"),
+        ("opt --budget=8 -- a b j", "opt a b j 1 8 1000000 1 1"),
+        ("opt --budget +8 a b j", "opt a b j 1 8 1000000 1 1"),
         (
             "opt a --depth 0 b --workers=64 j --tries=1000000",
-            "opt a b j 0 256 1000000 64",
+            "opt a b j 0 256 1000000 64 1",
         ),
         (
             "opt a b j --budget 1048576 --depth=2 --tries 0",
-            "opt a b j 2 1048576 0 1",
+            "opt a b j 2 1048576 0 1 1",
         ),
         (
             "opt a b j --budget=0000000000000000000000000000000000000000000000000000000000000008",
-            "opt a b j 1 8 1000000 1",
+            "opt a b j 1 8 1000000 1 1",
         ),
-        ("opt a b j --tries=+000", "opt a b j 1 256 0 1"),
-        ("opt -- a -- j", "opt a -- j 1 256 1000000 1"),
+        ("opt a b j --tries=+000", "opt a b j 1 256 0 1 1"),
+        ("opt -- a -- j", "opt a -- j 1 256 1000000 1 1"),
         (
             "opt a -- --depth=1 -x",
-            "opt a --depth=1 -x 1 256 1000000 1",
+            "opt a --depth=1 -x 1 256 1000000 1 1",
         ),
-        ("opt - b j", "opt - b j 1 256 1000000 1"),
-        ("opt a b j --", "opt a b j 1 256 1000000 1"),
-        ("opt ~ b j", "opt  b j 1 256 1000000 1"),
-        ("opt help opt demo", "opt help opt demo 1 256 1000000 1"),
-        ("opt a b j --depth 1 --", "opt a b j 1 256 1000000 1"),
-        ("opt a=b b j", "opt a=b b j 1 256 1000000 1"),
+        ("opt - b j", "opt - b j 1 256 1000000 1 1"),
+        ("opt a b j --", "opt a b j 1 256 1000000 1 1"),
+        ("opt ~ b j", "opt  b j 1 256 1000000 1 1"),
+        ("opt help opt demo", "opt help opt demo 1 256 1000000 1 1"),
+        ("opt a b j --depth 1 --", "opt a b j 1 256 1000000 1 1"),
+        ("opt a=b b j", "opt a=b b j 1 256 1000000 1 1"),
+        ("opt a b j --merge 0", "opt a b j 1 256 1000000 1 0"),
+        ("opt --merge=1 a b", "opt a b (none) 1 256 1000000 1 1"),
+        ("opt a --merge +2 b j --tries=0", "opt a b j 1 256 0 1 2"),
+        (
+            "opt a b -- --merge=3",
+            "opt a b --merge=3 1 256 1000000 1 1",
+        ),
     ];
     for (line, wanted) in rows {
         assert!(rt; reads(rt.alloc(), line, wanted)?);
@@ -338,14 +370,16 @@ fn reads_the_others(rt: HostRuntime) -> Result<(), Fail> {
         ("check -- -a --b --", "check -a --b --"),
         (
             "demo 18446744073709551615",
-            "demo 18446744073709551615 1 256 1000000 1",
+            "demo 18446744073709551615 1 256 1000000 1 1",
         ),
         (
             "demo 000000000000000000000018446744073709551615",
-            "demo 18446744073709551615 1 256 1000000 1",
+            "demo 18446744073709551615 1 256 1000000 1 1",
         ),
-        ("demo +7 --depth 0 --tries 200", "demo 7 0 256 200 1"),
-        ("demo --workers 8 -- 1", "demo 1 1 256 1000000 8"),
+        ("demo +7 --depth 0 --tries 200", "demo 7 0 256 200 1 1"),
+        ("demo --workers 8 -- 1", "demo 1 1 256 1000000 8 1"),
+        ("demo 1 --merge 0", "demo 1 1 256 1000000 1 0"),
+        ("demo --merge=02 1", "demo 1 1 256 1000000 1 2"),
         ("flat a b", "flat a b"),
         ("flat -- --tries=1 b", "flat --tries=1 b"),
         ("tests a a a b", "tests a a a b"),

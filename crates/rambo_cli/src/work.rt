@@ -99,13 +99,14 @@ pub(crate) fn work<R: Threads + Sync, S: Shelf, G: Gate>(
             output,
             journal,
             settings,
+            merge,
         } => {
             let names = Names {
                 input,
                 output,
                 journal,
             };
-            let figures = optimise_input(rt, alloc, keys, shelf, gate, &names, &settings)?;
+            let figures = optimise_input(rt, alloc, keys, shelf, gate, &names, &settings, merge)?;
             Ok(Done::Optimised(figures))
         }
         Command::Check {
@@ -116,8 +117,12 @@ pub(crate) fn work<R: Threads + Sync, S: Shelf, G: Gate>(
             let count = check(alloc, keys, shelf, input, journal, output)?;
             Ok(Done::Accepted(count))
         }
-        Command::Demo { seed, settings } => {
-            let figures = show(rt, alloc, keys, gate, seed, &settings)?;
+        Command::Demo {
+            seed,
+            settings,
+            merge,
+        } => {
+            let figures = show(rt, alloc, keys, gate, seed, &settings, merge)?;
             Ok(Done::Optimised(figures))
         }
         Command::Flat { input, output } => {

@@ -8,6 +8,7 @@ mod flat_rows;
 mod hostile_texts;
 mod judge_rows;
 mod limits;
+mod merge_rows;
 mod opt_rows;
 mod refused_rows;
 mod replay_rows;

@@ -6,9 +6,10 @@ use Rattle.std.proofs.lemmas.Slice.Eq.{bytes_eq-Decides}
 use Rattle.clap.specs.ValueTests.{is_unsigned_in}
 use Rattle.clap.specs.Walk.{Row, Rule, Text, first_of}
 use Rattle.rm_base.specs.declared.settings.Settings.{Settings}
+use Rattle.word_reading.specs.declared.options.Options.{Options}
 use Rattle.word_reading.specs.Inner.Judged.{accepted, judged, judged_parts, rules}
-use Rattle.word_reading.specs.Inner.Commands.{command_in, has_only, made_by, names_in, number_at, settings_in, up_to_none}
-use Rattle.word_reading.specs.Words.{Asked, CommandRule, OptionRule, Part, name, setting, asked, asked_by, at_most_once, budget_rule, check_by, command_rules, convert_by, demo_by, depth_rule, equal_by, flat_by, given, has_keys, is_word, judge_by, names, opt_by, optcare_by, option_rules, parts, question_keys, replay_by, rule_of, setting_keys, settings_of, tests_by, together, tries_rule, value_in, workers_rule}
+use Rattle.word_reading.specs.Inner.Commands.{command_in, has_only, made_by, names_in, number_at, options_in, settings_in, up_to_none}
+use Rattle.word_reading.specs.Words.{Asked, CommandRule, OptionRule, Part, name, setting, all_together, asked, asked_by, at_most_once, budget_rule, check_by, command_rules, convert_by, demo_by, depth_rule, equal_by, flat_by, given, has_keys, is_word, judge_by, merge_rule, names, opt_by, optcare_by, option_rules, options_of, parts, question_keys, replay_by, rule_of, setting_keys, settings_of, tests_by, together, tries_rule, value_in, workers_rule}
 use Rattle.word_reading.proofs.Numbers.{number_in_some, number_some}
 use Rattle.word_reading.proofs.Slots.{fits, row_with, row_for}
 use Rattle.word_reading.proofs.Judging.{IsOption, IsValue, absent, once, Holds, IsFaulty, unknown_key, crowded, bad_option, bad_name, Verdict, refuses, takes, first_row, judged_is, same_text}
@@ -27,14 +28,22 @@ no_setting (Some d) (Some b) (Some t) (Some w) (inr (inl e)) = cc
 no_setting (Some d) (Some b) (Some t) (Some w) (inr (inr (inl e))) = cc
 no_setting (Some d) (Some b) (Some t) (Some w) (inr (inr (inr e))) = cc
 
-settings_none : (ps : List Part) (j : OptionRule) → IsOption j → value_in ps j ≡ None → settings_of ps ≡ None
-settings_none ps =
+no_options : (s : Option Settings) (m : Option ℕ) → (s ≡ None) ⊎ (m ≡ None) → all_together s m ≡ None
+no_options None m e = refl
+no_options (Some s) None e = refl
+no_options (Some s) (Some m) (inl e) = cc
+no_options (Some s) (Some m) (inr e) = cc
+
+options_none : (ps : List Part) (j : OptionRule) → IsOption j → value_in ps j ≡ None → options_of ps ≡ None
+options_none ps =
     let d = value_in ps depth_rule in
     let b = value_in ps budget_rule in
     let t = value_in ps tries_rule in
     let w = value_in ps workers_rule in
-    each_option (λ (j : OptionRule). value_in ps j ≡ None → settings_of ps ≡ None)
-    ((λ e. no_setting d b t w (inl e)), ((λ e. no_setting d b t w (inr (inl e))), ((λ e. no_setting d b t w (inr (inr (inl e)))), ((λ e. no_setting d b t w (inr (inr (inr e)))), tt))))
+    let m = value_in ps merge_rule in
+    let failed : settings_of ps ≡ None → options_of ps ≡ None = λ e. no_options (settings_of ps) m (inl e) in
+    each_option (λ (j : OptionRule). value_in ps j ≡ None → options_of ps ≡ None)
+    ((λ e. failed (no_setting d b t w (inl e))), ((λ e. failed (no_setting d b t w (inr (inl e)))), ((λ e. failed (no_setting d b t w (inr (inr (inl e))))), ((λ e. failed (no_setting d b t w (inr (inr (inr e))))), ((λ e. no_options (settings_of ps) m (inr e)), tt)))))
 
 read_in_order : (a b c d : Option Text) (xs : List Text) → a ≡ slice_get xs 0 → b ≡ slice_get xs 1 → c ≡ slice_get xs 2 → d ≡ slice_get xs 3 → length xs ≤ 4 → up_to_none (a ∷ b ∷ c ∷ d ∷ []) ≡ xs
 read_in_order a b c d [] e f g k few = rw e refl
@@ -57,6 +66,9 @@ module _ (ps : List Part) (rows : List Row) (h : Holds form rows ps) where
 
   settings_are : settings_of ps ≡ Some (settings_in rows)
   settings_are = rw (value depth_rule (0, refl) 8 (lit< tt), value budget_rule (1, refl) 32 (lit< tt), value tries_rule (2, refl) 32 (lit< tt), value workers_rule (3, refl) 8 (lit< tt)) refl
+
+  options_are : options_of ps ≡ Some (options_in rows)
+  options_are = rw (settings_are, value merge_rule (4, refl) 8 (lit< tt)) refl
 
   -- ---- the names
 
@@ -191,76 +203,76 @@ module _ (ps : List Part) (rows : List Row) (h : Holds form rows ps) where
 
 -- a command takes at most four names, and no key that isn't an option's
 pub record IsModest (c : CommandRule) : Type 0 where
-  pub few : (ws : List Text) (s : Settings) → 4 < length ws → c.made ws s ≡ None
+  pub few : (ws : List Text) (o : Options) → 4 < length ws → c.made ws o ≡ None
   pub listed : (k : Text) → IsIn c.keys k → IsIn setting_keys k
 
-opt_few : (ws : List Text) (s : Settings) → 4 < length ws → opt_by ws s ≡ None
-opt_few [] s lt = absurd (omega arith)
-opt_few (a ∷ []) s lt = absurd (omega arith)
-opt_few (a ∷ b ∷ []) s lt = absurd (omega arith)
-opt_few (a ∷ b ∷ c ∷ []) s lt = absurd (omega arith)
-opt_few (a ∷ b ∷ c ∷ d ∷ ws) s lt = refl
+opt_few : (ws : List Text) (o : Options) → 4 < length ws → opt_by ws o ≡ None
+opt_few [] o lt = absurd (omega arith)
+opt_few (a ∷ []) o lt = absurd (omega arith)
+opt_few (a ∷ b ∷ []) o lt = absurd (omega arith)
+opt_few (a ∷ b ∷ c ∷ []) o lt = absurd (omega arith)
+opt_few (a ∷ b ∷ c ∷ d ∷ ws) o lt = refl
 
-check_few : (ws : List Text) (s : Settings) → 4 < length ws → check_by ws s ≡ None
-check_few [] s lt = absurd (omega arith)
-check_few (a ∷ []) s lt = absurd (omega arith)
-check_few (a ∷ b ∷ []) s lt = absurd (omega arith)
-check_few (a ∷ b ∷ c ∷ []) s lt = absurd (omega arith)
-check_few (a ∷ b ∷ c ∷ d ∷ ws) s lt = refl
+check_few : (ws : List Text) (o : Options) → 4 < length ws → check_by ws o ≡ None
+check_few [] o lt = absurd (omega arith)
+check_few (a ∷ []) o lt = absurd (omega arith)
+check_few (a ∷ b ∷ []) o lt = absurd (omega arith)
+check_few (a ∷ b ∷ c ∷ []) o lt = absurd (omega arith)
+check_few (a ∷ b ∷ c ∷ d ∷ ws) o lt = refl
 
-demo_few : (ws : List Text) (s : Settings) → 4 < length ws → demo_by ws s ≡ None
-demo_few [] s lt = absurd (omega arith)
-demo_few (a ∷ []) s lt = absurd (omega arith)
-demo_few (a ∷ b ∷ ws) s lt = refl
+demo_few : (ws : List Text) (o : Options) → 4 < length ws → demo_by ws o ≡ None
+demo_few [] o lt = absurd (omega arith)
+demo_few (a ∷ []) o lt = absurd (omega arith)
+demo_few (a ∷ b ∷ ws) o lt = refl
 
-flat_few : (ws : List Text) (s : Settings) → 4 < length ws → flat_by ws s ≡ None
-flat_few [] s lt = absurd (omega arith)
-flat_few (a ∷ []) s lt = absurd (omega arith)
-flat_few (a ∷ b ∷ []) s lt = absurd (omega arith)
-flat_few (a ∷ b ∷ c ∷ ws) s lt = refl
+flat_few : (ws : List Text) (o : Options) → 4 < length ws → flat_by ws o ≡ None
+flat_few [] o lt = absurd (omega arith)
+flat_few (a ∷ []) o lt = absurd (omega arith)
+flat_few (a ∷ b ∷ []) o lt = absurd (omega arith)
+flat_few (a ∷ b ∷ c ∷ ws) o lt = refl
 
-tests_few : (ws : List Text) (s : Settings) → 4 < length ws → tests_by ws s ≡ None
-tests_few [] s lt = absurd (omega arith)
-tests_few (a ∷ []) s lt = absurd (omega arith)
-tests_few (a ∷ b ∷ []) s lt = absurd (omega arith)
-tests_few (a ∷ b ∷ c ∷ []) s lt = absurd (omega arith)
-tests_few (a ∷ b ∷ c ∷ d ∷ []) s lt = absurd (omega arith)
-tests_few (a ∷ b ∷ c ∷ d ∷ e ∷ ws) s lt = refl
+tests_few : (ws : List Text) (o : Options) → 4 < length ws → tests_by ws o ≡ None
+tests_few [] o lt = absurd (omega arith)
+tests_few (a ∷ []) o lt = absurd (omega arith)
+tests_few (a ∷ b ∷ []) o lt = absurd (omega arith)
+tests_few (a ∷ b ∷ c ∷ []) o lt = absurd (omega arith)
+tests_few (a ∷ b ∷ c ∷ d ∷ []) o lt = absurd (omega arith)
+tests_few (a ∷ b ∷ c ∷ d ∷ e ∷ ws) o lt = refl
 
-replay_few : (ws : List Text) (s : Settings) → 4 < length ws → replay_by ws s ≡ None
-replay_few [] s lt = absurd (omega arith)
-replay_few (a ∷ []) s lt = absurd (omega arith)
-replay_few (a ∷ b ∷ []) s lt = absurd (omega arith)
-replay_few (a ∷ b ∷ c ∷ []) s lt = absurd (omega arith)
-replay_few (a ∷ b ∷ c ∷ d ∷ ws) s lt = refl
+replay_few : (ws : List Text) (o : Options) → 4 < length ws → replay_by ws o ≡ None
+replay_few [] o lt = absurd (omega arith)
+replay_few (a ∷ []) o lt = absurd (omega arith)
+replay_few (a ∷ b ∷ []) o lt = absurd (omega arith)
+replay_few (a ∷ b ∷ c ∷ []) o lt = absurd (omega arith)
+replay_few (a ∷ b ∷ c ∷ d ∷ ws) o lt = refl
 
-convert_few : (ws : List Text) (s : Settings) → 4 < length ws → convert_by ws s ≡ None
-convert_few [] s lt = absurd (omega arith)
-convert_few (a ∷ []) s lt = absurd (omega arith)
-convert_few (a ∷ b ∷ []) s lt = absurd (omega arith)
-convert_few (a ∷ b ∷ c ∷ ws) s lt = refl
+convert_few : (ws : List Text) (o : Options) → 4 < length ws → convert_by ws o ≡ None
+convert_few [] o lt = absurd (omega arith)
+convert_few (a ∷ []) o lt = absurd (omega arith)
+convert_few (a ∷ b ∷ []) o lt = absurd (omega arith)
+convert_few (a ∷ b ∷ c ∷ ws) o lt = refl
 
-equal_few : (ws : List Text) (s : Settings) → 4 < length ws → equal_by ws s ≡ None
-equal_few [] s lt = absurd (omega arith)
-equal_few (a ∷ []) s lt = absurd (omega arith)
-equal_few (a ∷ b ∷ []) s lt = absurd (omega arith)
-equal_few (a ∷ b ∷ c ∷ []) s lt = absurd (omega arith)
-equal_few (a ∷ b ∷ c ∷ d ∷ ws) s lt = refl
+equal_few : (ws : List Text) (o : Options) → 4 < length ws → equal_by ws o ≡ None
+equal_few [] o lt = absurd (omega arith)
+equal_few (a ∷ []) o lt = absurd (omega arith)
+equal_few (a ∷ b ∷ []) o lt = absurd (omega arith)
+equal_few (a ∷ b ∷ c ∷ []) o lt = absurd (omega arith)
+equal_few (a ∷ b ∷ c ∷ d ∷ ws) o lt = refl
 
-judge_few : (ws : List Text) (s : Settings) → 4 < length ws → judge_by ws s ≡ None
-judge_few [] s lt = absurd (omega arith)
-judge_few (a ∷ []) s lt = absurd (omega arith)
-judge_few (a ∷ b ∷ []) s lt = absurd (omega arith)
-judge_few (a ∷ b ∷ c ∷ []) s lt = absurd (omega arith)
-judge_few (a ∷ b ∷ c ∷ d ∷ ws) s lt = refl
+judge_few : (ws : List Text) (o : Options) → 4 < length ws → judge_by ws o ≡ None
+judge_few [] o lt = absurd (omega arith)
+judge_few (a ∷ []) o lt = absurd (omega arith)
+judge_few (a ∷ b ∷ []) o lt = absurd (omega arith)
+judge_few (a ∷ b ∷ c ∷ []) o lt = absurd (omega arith)
+judge_few (a ∷ b ∷ c ∷ d ∷ ws) o lt = refl
 
-optcare_few : (ws : List Text) (s : Settings) → 4 < length ws → optcare_by ws s ≡ None
-optcare_few [] s lt = absurd (omega arith)
-optcare_few (a ∷ []) s lt = absurd (omega arith)
-optcare_few (a ∷ b ∷ []) s lt = absurd (omega arith)
-optcare_few (a ∷ b ∷ c ∷ []) s lt = absurd (omega arith)
-optcare_few (a ∷ b ∷ c ∷ d ∷ []) s lt = absurd (omega arith)
-optcare_few (a ∷ b ∷ c ∷ d ∷ e ∷ ws) s lt = refl
+optcare_few : (ws : List Text) (o : Options) → 4 < length ws → optcare_by ws o ≡ None
+optcare_few [] o lt = absurd (omega arith)
+optcare_few (a ∷ []) o lt = absurd (omega arith)
+optcare_few (a ∷ b ∷ []) o lt = absurd (omega arith)
+optcare_few (a ∷ b ∷ c ∷ []) o lt = absurd (omega arith)
+optcare_few (a ∷ b ∷ c ∷ d ∷ []) o lt = absurd (omega arith)
+optcare_few (a ∷ b ∷ c ∷ d ∷ e ∷ ws) o lt = refl
 
 -- of two keys in front of others, what is among the two is among all
 among_first : (x y : Bool) (z : Bool) → (x || (y || false)) ≡ true → (x || (y || z)) ≡ true
@@ -269,7 +281,7 @@ among_first false true z e = refl
 among_first false false z e = cc
 
 questions_listed : (k : Text) → IsIn question_keys k → IsIn setting_keys k
-questions_listed k e = among_first (is_word k depth_rule.key) (is_word k budget_rule.key) (list_any (is_word k) (tries_rule.key ∷ workers_rule.key ∷ [])) e
+questions_listed k e = among_first (is_word k depth_rule.key) (is_word k budget_rule.key) (list_any (is_word k) (tries_rule.key ∷ workers_rule.key ∷ merge_rule.key ∷ [])) e
 
 are_modest : AllByRecursion IsModest command_rules
 are_modest = (
@@ -296,14 +308,14 @@ module _ (c : CommandRule) (modest : IsModest c) (ps : List Part) where
   by_keys : has_keys c.keys ps ≡ false → asked_by c ps ≡ None
   by_keys e = rw e refl
 
-  by_made : (t : Bool) (o : Option Settings) → ((s : Settings) → c.made (names ps) s ≡ None) → cond t (option_and_then (c.made (names ps)) o) None ≡ None
+  by_made : (t : Bool) (o : Option Options) → ((said : Options) → c.made (names ps) said ≡ None) → cond t (option_and_then (c.made (names ps)) o) None ≡ None
   by_made true None none = refl
-  by_made true (Some s) none = none s
+  by_made true (Some said) none = none said
   by_made false o none = refl
 
-  by_settings : (t : Bool) → cond {A = Option Asked} t None None ≡ None
-  by_settings true = refl
-  by_settings false = refl
+  by_options : (t : Bool) → cond {A = Option Asked} t None None ≡ None
+  by_options true = refl
+  by_options false = refl
 
   past_names : (i : ℕ) → slice_get form.named i ≡ None → 4 ≤ i
   past_names zero e = cc
@@ -314,8 +326,8 @@ module _ (c : CommandRule) (modest : IsModest c) (ps : List Part) where
 
   refused : IsFaulty form ps → asked_by c ps ≡ None
   refused (unknown_key e) = by_keys (has_more c modest ps e)
-  refused (crowded i e lt) = let most = past_names i e in by_made (has_keys c.keys ps) (settings_of ps) (λ s. modest.few (names ps) s (omega arith))
-  refused (bad_option j on e) = rw (settings_none ps j on e) (by_settings (has_keys c.keys ps))
+  refused (crowded i e lt) = let most = past_names i e in by_made (has_keys c.keys ps) (options_of ps) (λ said. modest.few (names ps) said (omega arith))
+  refused (bad_option j on e) = rw (options_none ps j on e) (by_options (has_keys c.keys ps))
   refused (bad_name i a v e g bad) =
       let all : fits a v ≡ true = each_name (λ (r : Rule). (x : Text) → fits r x ≡ true) ((λ x. refl), ((λ x. refl), ((λ x. refl), ((λ x. refl), tt)))) i a e v in
       cc
@@ -323,8 +335,8 @@ module _ (c : CommandRule) (modest : IsModest c) (ps : List Part) where
   asked_is : (r : Option (List Row)) → Verdict form ps r → option_and_then (made_by c) r ≡ asked_by c ps
   asked_is r (refuses faulty) = sym (refused faulty)
   asked_is r (takes rows h) =
-      ap₂ (λ (t : Bool) (ws : List Text). cond t (c.made ws (settings_in rows)) None) (only_these ps rows h c.keys) (names_are ps rows h)
-      ∙ ap (λ o. cond (has_keys c.keys ps) (option_and_then (c.made (names ps)) o) None) (sym (settings_are ps rows h))
+      ap₂ (λ (t : Bool) (ws : List Text). cond t (c.made ws (options_in rows)) None) (only_these ps rows h c.keys) (names_are ps rows h)
+      ∙ ap (λ o. cond (has_keys c.keys ps) (option_and_then (c.made (names ps)) o) None) (sym (options_are ps rows h))
 
   pub agrees_by : option_and_then (made_by c) (judged rules 1 [] ps) ≡ asked_by c ps
   agrees_by = asked_is (judged rules 1 [] ps) (judged_is form form_is ps)

@@ -10,8 +10,9 @@ use Rattle.std.proofs.lemmas.Slice.Eq.{bytes_eq-Decides}
 use Rattle.clap.proofs.WalkLemmas.{both}
 use Rattle.rm_base.specs.declared.settings.Settings.{Settings}
 use Rattle.word_reading.specs.Commands.{HasNamesApart, HasSettingsInRange, IsInRange}
-use Rattle.word_reading.specs.Words.{Asked, CommandRule, Part, are_different, asked, asked_by, at_most_once, budget_rule, check, check_by, command_rules, convert, convert_by, demo, demo_by, depth_rule, equal, equal_by, flat, flat_by, given, has_keys, is_word, judge, judge_by, names, number, opt, opt_by, optcare, optcare_by, parts, replay, replay_by, rule_of, settings_of, tests, tests_by, together, tries_rule, value_in, workers_rule}
-use Rattle.word_reading.specs.declared.options.TheConstants.{LEAST_BUDGET, LEAST_WORKERS, MOST_BUDGET, MOST_DEPTH, MOST_TRIES, MOST_WORKERS, USUAL_BUDGET, USUAL_DEPTH, USUAL_TRIES, USUAL_WORKERS}
+use Rattle.word_reading.specs.Words.{Asked, CommandRule, Part, all_together, are_different, asked, asked_by, at_most_once, budget_rule, check, check_by, command_rules, convert, convert_by, demo, demo_by, depth_rule, equal, equal_by, flat, flat_by, given, has_keys, is_word, judge, judge_by, merge_rule, names, number, opt, opt_by, optcare, optcare_by, options_of, parts, replay, replay_by, rule_of, settings_of, tests, tests_by, together, tries_rule, value_in, workers_rule}
+use Rattle.word_reading.specs.declared.options.TheConstants.{LEAST_BUDGET, LEAST_WORKERS, MOST_BUDGET, MOST_DEPTH, MOST_MERGE, MOST_TRIES, MOST_WORKERS, USUAL_BUDGET, USUAL_DEPTH, USUAL_MERGE, USUAL_TRIES, USUAL_WORKERS}
+use Rattle.word_reading.specs.declared.options.Options.{Options}
 use Rattle.word_reading.proofs.Numbers.{value_of}
 use Rattle.rm_base.proofs.Public.{some_is}
 use Rattle.rm_base.specs.Words.{Word}
@@ -55,14 +56,30 @@ settings_range ps s e =
     let w = once_range LEAST_WORKERS MOST_WORKERS USUAL_WORKERS (omega arith) (omega arith) (given (codes "workers") ps) s.workers all.3 in
     record { depth = d.1; least_budget = b.0; most_budget = b.1; tries = t.1; least_workers = w.0; most_workers = w.1 }
 
+options_parts : (s : Option Settings) (m : Option ℕ) (o : Options) → all_together s m ≡ Some o → (s ≡ Some o.settings) × (m ≡ Some o.merge)
+options_parts (Some s) (Some m) o e =
+    let same : record { settings = s; merge = m } ≡ o = some_is _ o e in
+    (ap (λ (x : Options). Some x.settings) same, ap (λ (x : Options). Some x.merge) same)
+options_parts None m o e = cc
+options_parts (Some s) None o e = cc
+
+abbrev AreInRange : Options → Type 0
+AreInRange o = IsInRange o.settings × (o.merge ≤ MOST_MERGE)
+
+options_range : (ps : List Part) (o : Options) → options_of ps ≡ Some o → AreInRange o
+options_range ps o e =
+    let all = options_parts (settings_of ps) (value_in ps merge_rule) o e in
+    let m = once_range 0 MOST_MERGE USUAL_MERGE (omega arith) (omega arith) (given (codes "merge") ps) o.merge all.1 in
+    (settings_range ps o.settings all.0, m.1)
+
 -- ---- the commands
 
 abbrev IsSound : Asked → Type 0
 IsSound x = HasNamesApart x × HasSettingsInRange x
 
--- what a command makes of settings in range
+-- what a command makes of options in range
 abbrev MakesSound : CommandRule → Type 0
-MakesSound c = (ws : List Word) (s : Settings) → IsInRange s → (x : Asked) → c.made ws s ≡ Some x → IsSound x
+MakesSound c = (ws : List Word) (o : Options) → AreInRange o → (x : Asked) → c.made ws o ≡ Some x → IsSound x
 
 different : (a b : Word) → not (is_word a b || false) ≡ true → a ≢ b
 different a b e = λ same. let is = (bytes_eq-Decides a b).1 same in let bad : not true ≡ true = ap (λ t. not (t || false)) (sym is) ∙ e in cc
@@ -73,42 +90,42 @@ differ_first a b c e = (
   (λ same. let is = (bytes_eq-Decides a c).1 same in let bad : not true ≡ true = sym (ap not (or-true (is_word a b))) ∙ ap (λ t. not (is_word a b || (t || false))) (sym is) ∙ e in cc),
 )
 
-two_made : (a b : Word) (s : Settings) → IsInRange s → (t : Bool) → are_different (a ∷ b ∷ []) ≡ t → (x : Asked) → cond t (Some (opt a b None s)) None ≡ Some x → IsSound x
-two_made a b s range true apart x is =
+two_made : (a b : Word) (said : Options) → AreInRange said → (t : Bool) → are_different (a ∷ b ∷ []) ≡ t → (x : Asked) → cond t (Some (opt a b None said.settings said.merge)) None ≡ Some x → IsSound x
+two_made a b said range true apart x is =
     let one = both (not (is_word a b || false)) true apart in
-    subst IsSound (some_is (opt a b None s) x is) (different a b one.0, range)
-two_made a b s range false apart x is = cc
+    subst IsSound (some_is (opt a b None said.settings said.merge) x is) (different a b one.0, range)
+two_made a b said range false apart x is = cc
 
-three_made : (a b c : Word) (s : Settings) → IsInRange s → (t : Bool) → are_different (a ∷ b ∷ c ∷ []) ≡ t → (x : Asked) → cond t (Some (opt a b (Some c) s)) None ≡ Some x → IsSound x
-three_made a b c s range true apart x is =
+three_made : (a b c : Word) (said : Options) → AreInRange said → (t : Bool) → are_different (a ∷ b ∷ c ∷ []) ≡ t → (x : Asked) → cond t (Some (opt a b (Some c) said.settings said.merge)) None ≡ Some x → IsSound x
+three_made a b c said range true apart x is =
     let one = both (not (is_word a b || (is_word a c || false))) (are_different (b ∷ c ∷ [])) apart in
     let two = both (not (is_word b c || false)) true one.1 in
     let first = differ_first a b c one.0 in
-    subst IsSound (some_is (opt a b (Some c) s) x is) ((first.0, first.1, different b c two.0), range)
-three_made a b c s range false apart x is = cc
+    subst IsSound (some_is (opt a b (Some c) said.settings said.merge) x is) ((first.0, first.1, different b c two.0), range)
+three_made a b c said range false apart x is = cc
 
-opt_sound : (ws : List Word) (s : Settings) → IsInRange s → (x : Asked) → opt_by ws s ≡ Some x → IsSound x
-opt_sound [] s range x is = cc
-opt_sound (a ∷ []) s range x is = cc
-opt_sound (a ∷ b ∷ []) s range x is = two_made a b s range (are_different (a ∷ b ∷ [])) refl x is
-opt_sound (a ∷ b ∷ c ∷ []) s range x is = three_made a b c s range (are_different (a ∷ b ∷ c ∷ [])) refl x is
-opt_sound (a ∷ b ∷ c ∷ d ∷ ws) s range x is = cc
+opt_sound : (ws : List Word) (o : Options) → AreInRange o → (x : Asked) → opt_by ws o ≡ Some x → IsSound x
+opt_sound [] o range x is = cc
+opt_sound (a ∷ []) o range x is = cc
+opt_sound (a ∷ b ∷ []) o range x is = two_made a b o range (are_different (a ∷ b ∷ [])) refl x is
+opt_sound (a ∷ b ∷ c ∷ []) o range x is = three_made a b c o range (are_different (a ∷ b ∷ c ∷ [])) refl x is
+opt_sound (a ∷ b ∷ c ∷ d ∷ ws) o range x is = cc
 
-check_sound : (ws : List Word) (s : Settings) → IsInRange s → (x : Asked) → check_by ws s ≡ Some x → IsSound x
-check_sound [] s range x is = cc
-check_sound (a ∷ []) s range x is = cc
-check_sound (a ∷ b ∷ []) s range x is = cc
-check_sound (a ∷ b ∷ c ∷ []) s range x is = subst IsSound (some_is (check a b c) x is) (tt, tt)
-check_sound (a ∷ b ∷ c ∷ d ∷ ws) s range x is = cc
+check_sound : (ws : List Word) (o : Options) → AreInRange o → (x : Asked) → check_by ws o ≡ Some x → IsSound x
+check_sound [] o range x is = cc
+check_sound (a ∷ []) o range x is = cc
+check_sound (a ∷ b ∷ []) o range x is = cc
+check_sound (a ∷ b ∷ c ∷ []) o range x is = subst IsSound (some_is (check a b c) x is) (tt, tt)
+check_sound (a ∷ b ∷ c ∷ d ∷ ws) o range x is = cc
 
-demo_made : (o : Option ℕ) (s : Settings) → IsInRange s → (x : Asked) → option_map (λ seed. demo seed s) o ≡ Some x → IsSound x
-demo_made None s range x is = cc
-demo_made (Some n) s range x is = subst IsSound (some_is (demo n s) x is) (tt, range)
+demo_made : (o : Option ℕ) (said : Options) → AreInRange said → (x : Asked) → option_map (λ seed. demo seed said.settings said.merge) o ≡ Some x → IsSound x
+demo_made None said range x is = cc
+demo_made (Some n) said range x is = subst IsSound (some_is (demo n said.settings said.merge) x is) (tt, range)
 
-demo_sound : (ws : List Word) (s : Settings) → IsInRange s → (x : Asked) → demo_by ws s ≡ Some x → IsSound x
-demo_sound [] s range x is = cc
-demo_sound (a ∷ []) s range x is = demo_made (number 0 (2 ^ 64 - 1) a) s range x is
-demo_sound (a ∷ b ∷ ws) s range x is = cc
+demo_sound : (ws : List Word) (o : Options) → AreInRange o → (x : Asked) → demo_by ws o ≡ Some x → IsSound x
+demo_sound [] o range x is = cc
+demo_sound (a ∷ []) o range x is = demo_made (number 0 (2 ^ 64 - 1) a) o range x is
+demo_sound (a ∷ b ∷ ws) o range x is = cc
 
 flat_made : (a b : Word) (t : Bool) → are_different (a ∷ b ∷ []) ≡ t → (x : Asked) → cond t (Some (flat a b)) None ≡ Some x → IsSound x
 flat_made a b true apart x is =
@@ -116,11 +133,11 @@ flat_made a b true apart x is =
     subst IsSound (some_is (flat a b) x is) (different a b one.0, tt)
 flat_made a b false apart x is = cc
 
-flat_sound : (ws : List Word) (s : Settings) → IsInRange s → (x : Asked) → flat_by ws s ≡ Some x → IsSound x
-flat_sound [] s range x is = cc
-flat_sound (a ∷ []) s range x is = cc
-flat_sound (a ∷ b ∷ []) s range x is = flat_made a b (are_different (a ∷ b ∷ [])) refl x is
-flat_sound (a ∷ b ∷ c ∷ ws) s range x is = cc
+flat_sound : (ws : List Word) (o : Options) → AreInRange o → (x : Asked) → flat_by ws o ≡ Some x → IsSound x
+flat_sound [] o range x is = cc
+flat_sound (a ∷ []) o range x is = cc
+flat_sound (a ∷ b ∷ []) o range x is = flat_made a b (are_different (a ∷ b ∷ [])) refl x is
+flat_sound (a ∷ b ∷ c ∷ ws) o range x is = cc
 
 none_of_three : (p q r : Bool) → not (p || (q || (r || false))) ≡ true → (p ≡ false) × ((q ≡ false) × (r ≡ false))
 none_of_three true q r e = cc
@@ -137,13 +154,13 @@ tests_made a b c d true apart x is =
     subst IsSound (some_is (tests a b c d) x is) ((unlike d a n.0, unlike d b n.1.0, unlike d c n.1.1), tt)
 tests_made a b c d false apart x is = cc
 
-tests_sound : (ws : List Word) (s : Settings) → IsInRange s → (x : Asked) → tests_by ws s ≡ Some x → IsSound x
-tests_sound [] s range x is = cc
-tests_sound (a ∷ []) s range x is = cc
-tests_sound (a ∷ b ∷ []) s range x is = cc
-tests_sound (a ∷ b ∷ c ∷ []) s range x is = cc
-tests_sound (a ∷ b ∷ c ∷ d ∷ []) s range x is = tests_made a b c d (not (list_any (is_word d) (a ∷ b ∷ c ∷ []))) refl x is
-tests_sound (a ∷ b ∷ c ∷ d ∷ e ∷ ws) s range x is = cc
+tests_sound : (ws : List Word) (o : Options) → AreInRange o → (x : Asked) → tests_by ws o ≡ Some x → IsSound x
+tests_sound [] o range x is = cc
+tests_sound (a ∷ []) o range x is = cc
+tests_sound (a ∷ b ∷ []) o range x is = cc
+tests_sound (a ∷ b ∷ c ∷ []) o range x is = cc
+tests_sound (a ∷ b ∷ c ∷ d ∷ []) o range x is = tests_made a b c d (not (list_any (is_word d) (a ∷ b ∷ c ∷ []))) refl x is
+tests_sound (a ∷ b ∷ c ∷ d ∷ e ∷ ws) o range x is = cc
 
 replay_made : (a b c : Word) (t : Bool) → are_different (a ∷ b ∷ c ∷ []) ≡ t → (x : Asked) → cond t (Some (replay a b c)) None ≡ Some x → IsSound x
 replay_made a b c true apart x is =
@@ -153,12 +170,12 @@ replay_made a b c true apart x is =
     subst IsSound (some_is (replay a b c) x is) ((first.0, first.1, different b c two.0), tt)
 replay_made a b c false apart x is = cc
 
-replay_sound : (ws : List Word) (s : Settings) → IsInRange s → (x : Asked) → replay_by ws s ≡ Some x → IsSound x
-replay_sound [] s range x is = cc
-replay_sound (a ∷ []) s range x is = cc
-replay_sound (a ∷ b ∷ []) s range x is = cc
-replay_sound (a ∷ b ∷ c ∷ []) s range x is = replay_made a b c (are_different (a ∷ b ∷ c ∷ [])) refl x is
-replay_sound (a ∷ b ∷ c ∷ d ∷ ws) s range x is = cc
+replay_sound : (ws : List Word) (o : Options) → AreInRange o → (x : Asked) → replay_by ws o ≡ Some x → IsSound x
+replay_sound [] o range x is = cc
+replay_sound (a ∷ []) o range x is = cc
+replay_sound (a ∷ b ∷ []) o range x is = cc
+replay_sound (a ∷ b ∷ c ∷ []) o range x is = replay_made a b c (are_different (a ∷ b ∷ c ∷ [])) refl x is
+replay_sound (a ∷ b ∷ c ∷ d ∷ ws) o range x is = cc
 
 convert_made : (a b : Word) (t : Bool) → are_different (a ∷ b ∷ []) ≡ t → (x : Asked) → cond t (Some (convert a b)) None ≡ Some x → IsSound x
 convert_made a b true apart x is =
@@ -166,11 +183,11 @@ convert_made a b true apart x is =
     subst IsSound (some_is (convert a b) x is) (different a b one.0, tt)
 convert_made a b false apart x is = cc
 
-convert_sound : (ws : List Word) (s : Settings) → IsInRange s → (x : Asked) → convert_by ws s ≡ Some x → IsSound x
-convert_sound [] s range x is = cc
-convert_sound (a ∷ []) s range x is = cc
-convert_sound (a ∷ b ∷ []) s range x is = convert_made a b (are_different (a ∷ b ∷ [])) refl x is
-convert_sound (a ∷ b ∷ c ∷ ws) s range x is = cc
+convert_sound : (ws : List Word) (o : Options) → AreInRange o → (x : Asked) → convert_by ws o ≡ Some x → IsSound x
+convert_sound [] o range x is = cc
+convert_sound (a ∷ []) o range x is = cc
+convert_sound (a ∷ b ∷ []) o range x is = convert_made a b (are_different (a ∷ b ∷ [])) refl x is
+convert_sound (a ∷ b ∷ c ∷ ws) o range x is = cc
 
 equal_made : (a b c : Word) (s : Settings) → IsInRange s → (t : Bool) → are_different (a ∷ b ∷ c ∷ []) ≡ t → (x : Asked) → cond t (Some (equal a b c s)) None ≡ Some x → IsSound x
 equal_made a b c s range true apart x is =
@@ -180,19 +197,19 @@ equal_made a b c s range true apart x is =
     subst IsSound (some_is (equal a b c s) x is) ((first.0, first.1, different b c two.0), range)
 equal_made a b c s range false apart x is = cc
 
-equal_sound : (ws : List Word) (s : Settings) → IsInRange s → (x : Asked) → equal_by ws s ≡ Some x → IsSound x
-equal_sound [] s range x is = cc
-equal_sound (a ∷ []) s range x is = cc
-equal_sound (a ∷ b ∷ []) s range x is = cc
-equal_sound (a ∷ b ∷ c ∷ []) s range x is = equal_made a b c s range (are_different (a ∷ b ∷ c ∷ [])) refl x is
-equal_sound (a ∷ b ∷ c ∷ d ∷ ws) s range x is = cc
+equal_sound : (ws : List Word) (o : Options) → AreInRange o → (x : Asked) → equal_by ws o ≡ Some x → IsSound x
+equal_sound [] o range x is = cc
+equal_sound (a ∷ []) o range x is = cc
+equal_sound (a ∷ b ∷ []) o range x is = cc
+equal_sound (a ∷ b ∷ c ∷ []) o range x is = equal_made a b c o.settings range.0 (are_different (a ∷ b ∷ c ∷ [])) refl x is
+equal_sound (a ∷ b ∷ c ∷ d ∷ ws) o range x is = cc
 
-judge_sound : (ws : List Word) (s : Settings) → IsInRange s → (x : Asked) → judge_by ws s ≡ Some x → IsSound x
-judge_sound [] s range x is = cc
-judge_sound (a ∷ []) s range x is = cc
-judge_sound (a ∷ b ∷ []) s range x is = cc
-judge_sound (a ∷ b ∷ c ∷ []) s range x is = subst IsSound (some_is (judge a b c) x is) (tt, tt)
-judge_sound (a ∷ b ∷ c ∷ d ∷ ws) s range x is = cc
+judge_sound : (ws : List Word) (o : Options) → AreInRange o → (x : Asked) → judge_by ws o ≡ Some x → IsSound x
+judge_sound [] o range x is = cc
+judge_sound (a ∷ []) o range x is = cc
+judge_sound (a ∷ b ∷ []) o range x is = cc
+judge_sound (a ∷ b ∷ c ∷ []) o range x is = subst IsSound (some_is (judge a b c) x is) (tt, tt)
+judge_sound (a ∷ b ∷ c ∷ d ∷ ws) o range x is = cc
 
 apart_of_three : (a b c d : Word) → not (is_word a b || (is_word a c || (is_word a d || false))) ≡ true → (a ≢ b) × ((a ≢ c) × (a ≢ d))
 apart_of_three a b c d e =
@@ -209,13 +226,13 @@ optcare_made a b c d s range true apart x is =
     subst IsSound (some_is (optcare a b c d s) x is) ((first.0, first.1.0, first.1.1, second.0, second.1, different c d three.0), range)
 optcare_made a b c d s range false apart x is = cc
 
-optcare_sound : (ws : List Word) (s : Settings) → IsInRange s → (x : Asked) → optcare_by ws s ≡ Some x → IsSound x
-optcare_sound [] s range x is = cc
-optcare_sound (a ∷ []) s range x is = cc
-optcare_sound (a ∷ b ∷ []) s range x is = cc
-optcare_sound (a ∷ b ∷ c ∷ []) s range x is = cc
-optcare_sound (a ∷ b ∷ c ∷ d ∷ []) s range x is = optcare_made a b c d s range (are_different (a ∷ b ∷ c ∷ d ∷ [])) refl x is
-optcare_sound (a ∷ b ∷ c ∷ d ∷ e ∷ ws) s range x is = cc
+optcare_sound : (ws : List Word) (o : Options) → AreInRange o → (x : Asked) → optcare_by ws o ≡ Some x → IsSound x
+optcare_sound [] o range x is = cc
+optcare_sound (a ∷ []) o range x is = cc
+optcare_sound (a ∷ b ∷ []) o range x is = cc
+optcare_sound (a ∷ b ∷ c ∷ []) o range x is = cc
+optcare_sound (a ∷ b ∷ c ∷ d ∷ []) o range x is = optcare_made a b c d o.settings range.0 (are_different (a ∷ b ∷ c ∷ d ∷ [])) refl x is
+optcare_sound (a ∷ b ∷ c ∷ d ∷ e ∷ ws) o range x is = cc
 
 all_sound : AllByRecursion MakesSound command_rules
 all_sound = (opt_sound, (check_sound, (demo_sound, (flat_sound, (tests_sound, (replay_sound, (convert_sound, (equal_sound, (judge_sound, (optcare_sound, tt))))))))))
@@ -228,8 +245,8 @@ sound_of w (x ∷ xs) all c e = go (is_word w x.word) e (sound_of w xs all.1 c)
     go true is later = subst MakesSound (some_is x c is) all.0
     go false is later = later is
 
-made_sound : (c : CommandRule) → MakesSound c → (ps : List Part) (t : Bool) (o : Option Settings) → settings_of ps ≡ o → (x : Asked) → cond t (option_and_then (c.made (names ps)) o) None ≡ Some x → IsSound x
-made_sound c makes ps true (Some s) e x is = makes (names ps) s (settings_range ps s e) x is
+made_sound : (c : CommandRule) → MakesSound c → (ps : List Part) (t : Bool) (o : Option Options) → options_of ps ≡ o → (x : Asked) → cond t (option_and_then (c.made (names ps)) o) None ≡ Some x → IsSound x
+made_sound c makes ps true (Some said) e x is = makes (names ps) said (options_range ps said e) x is
 made_sound c makes ps true None e x is = cc
 made_sound c makes ps false o e x is = cc
 
@@ -240,4 +257,4 @@ asked_is_sound (w ∷ ws) x is = go (rule_of w) refl (parts None ws) is
     go : (r : Option CommandRule) → rule_of w ≡ r → (o : Option (List Part)) → option_and_then (λ c. option_and_then (asked_by c) o) r ≡ Some x → IsSound x
     go None f o e = cc
     go (Some c) f None e = cc
-    go (Some c) f (Some ps) e = made_sound c (sound_of w command_rules all_sound c f) ps (has_keys c.keys ps) (settings_of ps) refl x e
+    go (Some c) f (Some ps) e = made_sound c (sound_of w command_rules all_sound c f) ps (has_keys c.keys ps) (options_of ps) refl x e

@@ -8,7 +8,8 @@ use Rattle.std.specs.Str.{bytes_eq}
 use Rattle.std.specs.Str.Parse.{digits_value, without_leading_plus}
 use Rattle.rm_base.specs.declared.settings.Settings.{Settings}
 use Rattle.rm_base.specs.Words.{Word}
-use Rattle.word_reading.specs.declared.options.TheConstants.{LEAST_BUDGET, LEAST_WORKERS, MOST_BUDGET, MOST_DEPTH, MOST_TRIES, MOST_WORKERS, USUAL_BUDGET, USUAL_DEPTH, USUAL_TRIES, USUAL_WORKERS}
+use Rattle.word_reading.specs.declared.options.Options.{Options}
+use Rattle.word_reading.specs.declared.options.TheConstants.{LEAST_BUDGET, LEAST_WORKERS, MOST_BUDGET, MOST_DEPTH, MOST_MERGE, MOST_TRIES, MOST_WORKERS, USUAL_BUDGET, USUAL_DEPTH, USUAL_MERGE, USUAL_TRIES, USUAL_WORKERS}
 
 abbrev pub is_word : Word → Word → Bool
 is_word = bytes_eq
@@ -119,8 +120,11 @@ tries_rule = record { key = codes "tries"; least = 0; most = MOST_TRIES; usual =
 abbrev pub workers_rule : OptionRule
 workers_rule = record { key = codes "workers"; least = LEAST_WORKERS; most = MOST_WORKERS; usual = USUAL_WORKERS }
 
+abbrev pub merge_rule : OptionRule
+merge_rule = record { key = codes "merge"; least = 0; most = MOST_MERGE; usual = USUAL_MERGE }
+
 abbrev pub option_rules : List OptionRule
-option_rules = depth_rule ∷ budget_rule ∷ tries_rule ∷ workers_rule ∷ []
+option_rules = depth_rule ∷ budget_rule ∷ tries_rule ∷ workers_rule ∷ merge_rule ∷ []
 
 abbrev pub setting_keys : List Word
 setting_keys = map (λ (o : OptionRule). o.key) option_rules
@@ -143,13 +147,21 @@ together depths budgets all_tries all_workers =
 abbrev pub settings_of : List Part → Option Settings
 settings_of ps = together (value_in ps depth_rule) (value_in ps budget_rule) (value_in ps tries_rule) (value_in ps workers_rule)
 
+-- the settings and what the other options say, where each is there
+abbrev pub all_together : Option Settings → Option ℕ → Option Options
+all_together all_settings merges =
+    option_and_then (λ settings. option_map (λ merge. record { settings = settings; merge = merge }) merges) all_settings
+
+abbrev pub options_of : List Part → Option Options
+options_of ps = all_together (settings_of ps) (value_in ps merge_rule)
+
 -- ---- the commands
 
--- a command with its names: of `opt` the journal's may be left out
+-- a command with its names, its settings, and the number that `--merge` says: of `opt` the journal's name may be left out
 pub data Asked : Type 0 where
-  opt : Word → Word → Option Word → Settings → Asked
+  opt : Word → Word → Option Word → Settings → ℕ → Asked
   check : Word → Word → Word → Asked
-  demo : ℕ → Settings → Asked
+  demo : ℕ → Settings → ℕ → Asked
   flat : Word → Word → Asked
   tests : Word → Word → Word → Word → Asked
   replay : Word → Word → Word → Asked
@@ -164,61 +176,61 @@ are_different [] = true
 are_different (a ∷ bs) = not (list_any (is_word a) bs) && are_different bs
 
 -- two or three names, pairwise different
-abbrev pub opt_by : List Word → Settings → Option Asked
-opt_by (a ∷ b ∷ []) s = if are_different (a ∷ b ∷ []) then Some (opt a b None s) else None
-opt_by (a ∷ b ∷ c ∷ []) s = if are_different (a ∷ b ∷ c ∷ []) then Some (opt a b (Some c) s) else None
-opt_by _ s = None
+abbrev pub opt_by : List Word → Options → Option Asked
+opt_by (a ∷ b ∷ []) o = if are_different (a ∷ b ∷ []) then Some (opt a b None o.settings o.merge) else None
+opt_by (a ∷ b ∷ c ∷ []) o = if are_different (a ∷ b ∷ c ∷ []) then Some (opt a b (Some c) o.settings o.merge) else None
+opt_by _ o = None
 
 -- three names
-abbrev pub check_by : List Word → Settings → Option Asked
-check_by (a ∷ b ∷ c ∷ []) s = Some (check a b c)
-check_by _ s = None
+abbrev pub check_by : List Word → Options → Option Asked
+check_by (a ∷ b ∷ c ∷ []) o = Some (check a b c)
+check_by _ o = None
 
 -- a number
-abbrev pub demo_by : List Word → Settings → Option Asked
-demo_by (a ∷ []) s = option_map (λ seed. demo seed s) (number 0 (2 ^ 64 - 1) a)
-demo_by _ s = None
+abbrev pub demo_by : List Word → Options → Option Asked
+demo_by (a ∷ []) o = option_map (λ seed. demo seed o.settings o.merge) (number 0 (2 ^ 64 - 1) a)
+demo_by _ o = None
 
 -- two different names
-abbrev pub flat_by : List Word → Settings → Option Asked
-flat_by (a ∷ b ∷ []) s = if are_different (a ∷ b ∷ []) then Some (flat a b) else None
-flat_by _ s = None
+abbrev pub flat_by : List Word → Options → Option Asked
+flat_by (a ∷ b ∷ []) o = if are_different (a ∷ b ∷ []) then Some (flat a b) else None
+flat_by _ o = None
 
 -- four names, of which the last is none of the others
-abbrev pub tests_by : List Word → Settings → Option Asked
-tests_by (a ∷ b ∷ c ∷ d ∷ []) s = if not (list_any (is_word d) (a ∷ b ∷ c ∷ [])) then Some (tests a b c d) else None
-tests_by _ s = None
+abbrev pub tests_by : List Word → Options → Option Asked
+tests_by (a ∷ b ∷ c ∷ d ∷ []) o = if not (list_any (is_word d) (a ∷ b ∷ c ∷ [])) then Some (tests a b c d) else None
+tests_by _ o = None
 
 -- three names, pairwise different
-abbrev pub replay_by : List Word → Settings → Option Asked
-replay_by (a ∷ b ∷ c ∷ []) s = if are_different (a ∷ b ∷ c ∷ []) then Some (replay a b c) else None
-replay_by _ s = None
+abbrev pub replay_by : List Word → Options → Option Asked
+replay_by (a ∷ b ∷ c ∷ []) o = if are_different (a ∷ b ∷ c ∷ []) then Some (replay a b c) else None
+replay_by _ o = None
 
 -- two different names
-abbrev pub convert_by : List Word → Settings → Option Asked
-convert_by (a ∷ b ∷ []) s = if are_different (a ∷ b ∷ []) then Some (convert a b) else None
-convert_by _ s = None
+abbrev pub convert_by : List Word → Options → Option Asked
+convert_by (a ∷ b ∷ []) o = if are_different (a ∷ b ∷ []) then Some (convert a b) else None
+convert_by _ o = None
 
 -- three names, pairwise different
-abbrev pub equal_by : List Word → Settings → Option Asked
-equal_by (a ∷ b ∷ c ∷ []) s = if are_different (a ∷ b ∷ c ∷ []) then Some (equal a b c s) else None
-equal_by _ s = None
+abbrev pub equal_by : List Word → Options → Option Asked
+equal_by (a ∷ b ∷ c ∷ []) o = if are_different (a ∷ b ∷ c ∷ []) then Some (equal a b c o.settings) else None
+equal_by _ o = None
 
 -- three names
-abbrev pub judge_by : List Word → Settings → Option Asked
-judge_by (a ∷ b ∷ c ∷ []) s = Some (judge a b c)
-judge_by _ s = None
+abbrev pub judge_by : List Word → Options → Option Asked
+judge_by (a ∷ b ∷ c ∷ []) o = Some (judge a b c)
+judge_by _ o = None
 
 -- four names, pairwise different
-abbrev pub optcare_by : List Word → Settings → Option Asked
-optcare_by (a ∷ b ∷ c ∷ d ∷ []) s = if are_different (a ∷ b ∷ c ∷ d ∷ []) then Some (optcare a b c d s) else None
-optcare_by _ s = None
+abbrev pub optcare_by : List Word → Options → Option Asked
+optcare_by (a ∷ b ∷ c ∷ d ∷ []) o = if are_different (a ∷ b ∷ c ∷ d ∷ []) then Some (optcare a b c d o.settings) else None
+optcare_by _ o = None
 
--- the word of a command, the keys of its options, and what its names and settings ask for
+-- the word of a command, the keys of its options, and what its names and options ask for
 pub record CommandRule : Type 0 where
   pub word : Word
   pub keys : List Word
-  pub made : List Word → Settings → Option Asked
+  pub made : List Word → Options → Option Asked
 
 abbrev pub command_rules : List CommandRule
 command_rules =
@@ -239,7 +251,7 @@ abbrev pub rule_of : Word → Option CommandRule
 rule_of w = find (λ (c : CommandRule). is_word w c.word) command_rules
 
 abbrev pub asked_by : CommandRule → List Part → Option Asked
-asked_by c ps = if has_keys c.keys ps then option_and_then (c.made (names ps)) (settings_of ps) else None
+asked_by c ps = if has_keys c.keys ps then option_and_then (c.made (names ps)) (options_of ps) else None
 
 -- what the words ask for, or None where they are refused
 abbrev pub asked : List Word → Option Asked

@@ -12,6 +12,7 @@ pub enum Command<'a> {
         output: &'a str,
         journal: Option<&'a str>,
         settings: Settings,
+        merge: u8,
     },
     /// Replays the journal over the input, and compares with the output.
     Check {
@@ -67,6 +68,7 @@ pub enum Command<'a> {
     Demo {
         seed: u64,
         settings: Settings,
+        merge: u8,
     },
 }
 

@@ -1,4 +1,6 @@
-//! The options: their ranges, and their values where they aren't given.
+//! The options: their ranges, their values where they aren't given, and what they say.
+
+use rm_base::Settings;
 
 pub const MOST_DEPTH: u8 = 2;
 
@@ -19,3 +21,15 @@ pub const LEAST_WORKERS: u8 = 1;
 pub const MOST_WORKERS: u8 = 64;
 
 pub const USUAL_WORKERS: u8 = 1;
+
+pub const MOST_MERGE: u8 = 2;
+
+pub const USUAL_MERGE: u8 = 1;
+
+/// What the options say: the settings of a run, and when gates that always have the same value, or opposite ones, are
+/// merged: 0 is never, 1 when the additions have ended, 2 before the first addition as well.
+#[derive(Clone, Copy)]
+pub struct Options {
+    pub settings: Settings,
+    pub merge: u8,
+}

@@ -1,13 +1,13 @@
 //! The words behind the command's own as `clap` reads them: options, and up to four names.
-ghost use Rattle.std.specs.Prelude.{◌≡◌, IfOk, false, map};
+ghost use Rattle.std.specs.Prelude.{◌≡◌, ◌∷◌, IfOk, [], false, map};
 ghost use Rattle.clap.specs.Simple.{new_rule};
 ghost use Rattle.clap.specs.Words.{app_of, rule_of, with_rule};
 ghost use Rattle.clap.specs.declared.builder.command.Command.TheViews.{out-Command as fields_of};
-ghost use Rattle.word_reading.specs.Words.{option_rules};
+ghost use Rattle.word_reading.specs.Words.{budget_rule, depth_rule, option_rules, tries_rule, workers_rule};
 ghost use Rattle.word_reading.specs.Inner.Program.{bare as bare_app, clap_option, name_ids, number_rule, program as program_app, with_rules};
 
 use crate::options::{
-    LEAST_BUDGET, LEAST_WORKERS, MOST_BUDGET, MOST_DEPTH, MOST_TRIES, MOST_WORKERS,
+    LEAST_BUDGET, LEAST_WORKERS, MOST_BUDGET, MOST_DEPTH, MOST_MERGE, MOST_TRIES, MOST_WORKERS,
 };
 use clap::builder::ValueParser;
 use clap::{Arg, Command};
@@ -32,8 +32,9 @@ fn with<'a>(command: Command<'a>, arg: Arg<'a>) -> Result<Command<'a>, AllocErro
     command.arg(arg)
 }
 
-fn with_options<'a>(alloc: Global, command: Command<'a>) -> Result<Command<'a>, AllocError>
-    ensures shape { IfOk result (λ r. app_of r ≡ with_rules (app_of command.entry) (map clap_option option_rules)) }
+// The command with the options of the settings.
+fn with_settings<'a>(alloc: Global, command: Command<'a>) -> Result<Command<'a>, AllocError>
+    ensures shape { IfOk result (λ r. app_of r ≡ with_rules (app_of command.entry) (map clap_option (depth_rule ∷ budget_rule ∷ tries_rule ∷ workers_rule ∷ []))) }
     ensures globals { IfOk result (λ r. (fields_of r).has_globals ≡ (fields_of command.entry).has_globals) }
 {
     let depth = option(alloc, "depth", 0, u64::from(MOST_DEPTH));
@@ -54,6 +55,14 @@ fn with_options<'a>(alloc: Global, command: Command<'a>) -> Result<Command<'a>, 
     let command = with(command, budget)?;
     let command = with(command, tries)?;
     with(command, workers)
+}
+
+fn with_options<'a>(alloc: Global, command: Command<'a>) -> Result<Command<'a>, AllocError>
+    ensures shape { IfOk result (λ r. app_of r ≡ with_rules (app_of command.entry) (map clap_option option_rules)) }
+    ensures globals { IfOk result (λ r. (fields_of r).has_globals ≡ (fields_of command.entry).has_globals) }
+{
+    let command = with_settings(alloc, command)?;
+    with(command, option(alloc, "merge", 0, u64::from(MOST_MERGE)))
 }
 
 fn with_names<'a>(alloc: Global, command: Command<'a>) -> Result<Command<'a>, AllocError>

@@ -6,12 +6,12 @@ ghost use Rattle.clap.specs.Words.{first_of, found_of, rows_of};
 ghost use Rattle.clap.specs.Words.{fault_of, matches_of};
 ghost use Rattle.word_reading.specs.Commands.{HasNamesApart, HasSettingsInRange, asked_of};
 ghost use Rattle.word_reading.specs.Words.{are_different, asked, check_by, convert_by, demo_by, equal_by, flat_by, is_word, judge_by, number, opt_by, optcare_by, question_keys, replay_by, tests_by};
-ghost use Rattle.word_reading.specs.Inner.Commands.{command_in, has_only, names_in, number_at, settings_in, texts_of};
+ghost use Rattle.word_reading.specs.Inner.Commands.{command_in, has_only, names_in, number_at, options_in, settings_in, texts_of};
 ghost use Rattle.word_reading.specs.Inner.Judged.{accepted};
 ghost use Rattle.word_reading.specs.Inner.Program.{program as program_app};
 
 use crate::command::{Command, WordFault};
-use crate::options::{USUAL_BUDGET, USUAL_DEPTH, USUAL_TRIES, USUAL_WORKERS};
+use crate::options::{Options, USUAL_BUDGET, USUAL_DEPTH, USUAL_MERGE, USUAL_TRIES, USUAL_WORKERS};
 use crate::program::program;
 use clap::ArgMatches;
 use clap::error::ErrorKind;
@@ -41,6 +41,15 @@ fn settings(given: &ArgMatches<'_>) -> Settings
     }
 }
 
+fn read_options(given: &ArgMatches<'_>) -> Options
+    ensures { result ≡ options_in (rows_of (found_of given.now)) }
+{
+    Options {
+        settings: settings(given),
+        merge: byte_option(given, "merge").unwrap_or(USUAL_MERGE),
+    }
+}
+
 fn text<'a>(given: &ArgMatches<'a>, id: &str) -> Option<&'a str>
     ensures { option_map (λ s. s.now) result ≡ first_of id.now (rows_of (found_of given.now)) }
 {
@@ -62,13 +71,14 @@ fn has_no_option(given: &ArgMatches<'_>) -> bool
         && !is_given(given, "budget")
         && !is_given(given, "tries")
         && !is_given(given, "workers")
+        && !is_given(given, "merge")
 }
 
 // Whether no option is there but those of a question that is refuted, and else searched.
 fn has_question_options(given: &ArgMatches<'_>) -> bool
     ensures { result ≡ has_only question_keys (rows_of (found_of given.now)) }
 {
-    !is_given(given, "tries") && !is_given(given, "workers")
+    !is_given(given, "tries") && !is_given(given, "workers") && !is_given(given, "merge")
 }
 
 // The names of a command, in order; none stands behind one that is missing.
@@ -98,12 +108,8 @@ fn differ(first: &str, second: &str) -> bool
     !(first == second)
 }
 
-fn opt_without_journal<'a>(
-    input: &'a str,
-    output: &'a str,
-    settings: Settings,
-) -> Option<Command<'a>>
-    ensures { option_map asked_of result ≡ opt_by (input.entry.now ∷ output.entry.now ∷ []) settings }
+fn opt_without_journal<'a>(input: &'a str, output: &'a str, options: Options) -> Option<Command<'a>>
+    ensures { option_map asked_of result ≡ opt_by (input.entry.now ∷ output.entry.now ∷ []) options }
 {
     if !differ(input, output) {
         return None;
@@ -112,7 +118,8 @@ fn opt_without_journal<'a>(
         input,
         output,
         journal: None,
-        settings,
+        settings: options.settings,
+        merge: options.merge,
     })
 }
 
@@ -120,9 +127,9 @@ fn opt_with_journal<'a>(
     input: &'a str,
     output: &'a str,
     journal: &'a str,
-    settings: Settings,
+    options: Options,
 ) -> Option<Command<'a>>
-    ensures { option_map asked_of result ≡ opt_by (input.entry.now ∷ output.entry.now ∷ journal.entry.now ∷ []) settings }
+    ensures { option_map asked_of result ≡ opt_by (input.entry.now ∷ output.entry.now ∷ journal.entry.now ∷ []) options }
 {
     if !differ(input, output) || !differ(input, journal) || !differ(output, journal) {
         return None;
@@ -131,12 +138,13 @@ fn opt_with_journal<'a>(
         input,
         output,
         journal: Some(journal),
-        settings,
+        settings: options.settings,
+        merge: options.merge,
     })
 }
 
-fn opt<'a>(names: Positionals<'a>, settings: Settings) -> Option<Command<'a>>
-    ensures { option_map asked_of result ≡ opt_by (texts_of names.entry) settings }
+fn opt<'a>(names: Positionals<'a>, options: Options) -> Option<Command<'a>>
+    ensures { option_map asked_of result ≡ opt_by (texts_of names.entry) options }
 {
     let Some(input) = names.first else {
         return None;
@@ -145,16 +153,16 @@ fn opt<'a>(names: Positionals<'a>, settings: Settings) -> Option<Command<'a>>
         return None;
     };
     let Some(journal) = names.third else {
-        return opt_without_journal(input, output, settings);
+        return opt_without_journal(input, output, options);
     };
     if names.fourth.is_some() {
         return None;
     }
-    opt_with_journal(input, output, journal, settings)
+    opt_with_journal(input, output, journal, options)
 }
 
-fn check<'a>(names: Positionals<'a>, settings: Settings) -> Option<Command<'a>>
-    ensures { option_map asked_of result ≡ check_by (texts_of names.entry) settings }
+fn check<'a>(names: Positionals<'a>, options: Options) -> Option<Command<'a>>
+    ensures { option_map asked_of result ≡ check_by (texts_of names.entry) options }
 {
     let Some(input) = names.first else {
         return None;
@@ -175,8 +183,8 @@ fn check<'a>(names: Positionals<'a>, settings: Settings) -> Option<Command<'a>>
     })
 }
 
-fn flat<'a>(names: Positionals<'a>, settings: Settings) -> Option<Command<'a>>
-    ensures { option_map asked_of result ≡ flat_by (texts_of names.entry) settings }
+fn flat<'a>(names: Positionals<'a>, options: Options) -> Option<Command<'a>>
+    ensures { option_map asked_of result ≡ flat_by (texts_of names.entry) options }
 {
     let Some(input) = names.first else {
         return None;
@@ -200,8 +208,8 @@ fn is_apart(name: &str, first: &str, second: &str, third: &str) -> bool
     differ(name, first) && differ(name, second) && differ(name, third)
 }
 
-fn tests<'a>(names: Positionals<'a>, settings: Settings) -> Option<Command<'a>>
-    ensures { option_map asked_of result ≡ tests_by (texts_of names.entry) settings }
+fn tests<'a>(names: Positionals<'a>, options: Options) -> Option<Command<'a>>
+    ensures { option_map asked_of result ≡ tests_by (texts_of names.entry) options }
 {
     let Some(input) = names.first else {
         return None;
@@ -226,8 +234,8 @@ fn tests<'a>(names: Positionals<'a>, settings: Settings) -> Option<Command<'a>>
     })
 }
 
-fn replay<'a>(names: Positionals<'a>, settings: Settings) -> Option<Command<'a>>
-    ensures { option_map asked_of result ≡ replay_by (texts_of names.entry) settings }
+fn replay<'a>(names: Positionals<'a>, options: Options) -> Option<Command<'a>>
+    ensures { option_map asked_of result ≡ replay_by (texts_of names.entry) options }
 {
     let Some(input) = names.first else {
         return None;
@@ -251,8 +259,8 @@ fn replay<'a>(names: Positionals<'a>, settings: Settings) -> Option<Command<'a>>
     })
 }
 
-fn convert<'a>(names: Positionals<'a>, settings: Settings) -> Option<Command<'a>>
-    ensures { option_map asked_of result ≡ convert_by (texts_of names.entry) settings }
+fn convert<'a>(names: Positionals<'a>, options: Options) -> Option<Command<'a>>
+    ensures { option_map asked_of result ≡ convert_by (texts_of names.entry) options }
 {
     let Some(from) = names.first else {
         return None;
@@ -269,8 +277,8 @@ fn convert<'a>(names: Positionals<'a>, settings: Settings) -> Option<Command<'a>
     Some(Command::Convert { from, to })
 }
 
-fn equal<'a>(names: Positionals<'a>, settings: Settings) -> Option<Command<'a>>
-    ensures { option_map asked_of result ≡ equal_by (texts_of names.entry) settings }
+fn equal<'a>(names: Positionals<'a>, options: Options) -> Option<Command<'a>>
+    ensures { option_map asked_of result ≡ equal_by (texts_of names.entry) options }
 {
     let Some(first) = names.first else {
         return None;
@@ -291,12 +299,12 @@ fn equal<'a>(names: Positionals<'a>, settings: Settings) -> Option<Command<'a>>
         first,
         second,
         proof,
-        settings,
+        settings: options.settings,
     })
 }
 
-fn judge<'a>(names: Positionals<'a>, settings: Settings) -> Option<Command<'a>>
-    ensures { option_map asked_of result ≡ judge_by (texts_of names.entry) settings }
+fn judge<'a>(names: Positionals<'a>, options: Options) -> Option<Command<'a>>
+    ensures { option_map asked_of result ≡ judge_by (texts_of names.entry) options }
 {
     let Some(first) = names.first else {
         return None;
@@ -329,8 +337,8 @@ fn are_apart(first: &str, second: &str, third: &str, fourth: &str) -> bool
         && differ(third, fourth)
 }
 
-fn optcare<'a>(names: Positionals<'a>, settings: Settings) -> Option<Command<'a>>
-    ensures { option_map asked_of result ≡ optcare_by (texts_of names.entry) settings }
+fn optcare<'a>(names: Positionals<'a>, options: Options) -> Option<Command<'a>>
+    ensures { option_map asked_of result ≡ optcare_by (texts_of names.entry) options }
 {
     let Some(input) = names.first else {
         return None;
@@ -352,7 +360,7 @@ fn optcare<'a>(names: Positionals<'a>, settings: Settings) -> Option<Command<'a>
         care,
         output,
         tests,
-        settings,
+        settings: options.settings,
     })
 }
 
@@ -362,8 +370,8 @@ fn seed(text: &str) -> Option<u64>
     text.parse::<u64>().ok()
 }
 
-fn demo<'a>(names: Positionals<'a>, settings: Settings) -> Option<Command<'a>>
-    ensures { option_map asked_of result ≡ demo_by (texts_of names.entry) settings }
+fn demo<'a>(names: Positionals<'a>, options: Options) -> Option<Command<'a>>
+    ensures { option_map asked_of result ≡ demo_by (texts_of names.entry) options }
 {
     let Some(name) = names.first else {
         return None;
@@ -372,7 +380,11 @@ fn demo<'a>(names: Positionals<'a>, settings: Settings) -> Option<Command<'a>>
         return None;
     }
     match seed(name) {
-        Some(seed) => Some(Command::Demo { seed, settings }),
+        Some(seed) => Some(Command::Demo {
+            seed,
+            settings: options.settings,
+            merge: options.merge,
+        }),
         None => None,
     }
 }
@@ -382,49 +394,49 @@ fn command<'a>(word: &str, given: &ArgMatches<'a>) -> Option<Command<'a>>
     ensures { option_map asked_of result ≡ command_in word.now (rows_of (found_of given.now)) }
 {
     if word == "opt" {
-        opt(read_positionals(given), settings(given))
+        opt(read_positionals(given), read_options(given))
     } else if word == "check" {
         if !has_no_option(given) {
             return None;
         }
-        check(read_positionals(given), settings(given))
+        check(read_positionals(given), read_options(given))
     } else if word == "demo" {
-        demo(read_positionals(given), settings(given))
+        demo(read_positionals(given), read_options(given))
     } else if word == "flat" {
         if !has_no_option(given) {
             return None;
         }
-        flat(read_positionals(given), settings(given))
+        flat(read_positionals(given), read_options(given))
     } else if word == "tests" {
         if !has_no_option(given) {
             return None;
         }
-        tests(read_positionals(given), settings(given))
+        tests(read_positionals(given), read_options(given))
     } else if word == "replay" {
         if !has_no_option(given) {
             return None;
         }
-        replay(read_positionals(given), settings(given))
+        replay(read_positionals(given), read_options(given))
     } else if word == "convert" {
         if !has_no_option(given) {
             return None;
         }
-        convert(read_positionals(given), settings(given))
+        convert(read_positionals(given), read_options(given))
     } else if word == "equal" {
         if !has_question_options(given) {
             return None;
         }
-        equal(read_positionals(given), settings(given))
+        equal(read_positionals(given), read_options(given))
     } else if word == "judge" {
         if !has_no_option(given) {
             return None;
         }
-        judge(read_positionals(given), settings(given))
+        judge(read_positionals(given), read_options(given))
     } else if word == "optcare" {
         if !has_question_options(given) {
             return None;
         }
-        optcare(read_positionals(given), settings(given))
+        optcare(read_positionals(given), read_options(given))
     } else {
         None
     }

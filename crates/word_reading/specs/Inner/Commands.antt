@@ -7,7 +7,8 @@ use Rattle.clap.specs.Walk.{Row, Text, first_of, one_of}
 use Rattle.rm_base.specs.declared.settings.Settings.{Settings}
 use Rattle.word_reading.specs.Words.{Asked, CommandRule, OptionRule, is_word, option_rules, rule_of}
 use Rattle.word_reading.specs.Inner.Program.{name_ids}
-use Rattle.word_reading.specs.declared.options.TheConstants.{USUAL_BUDGET, USUAL_DEPTH, USUAL_TRIES, USUAL_WORKERS}
+use Rattle.word_reading.specs.declared.options.Options.{Options}
+use Rattle.word_reading.specs.declared.options.TheConstants.{USUAL_BUDGET, USUAL_DEPTH, USUAL_MERGE, USUAL_TRIES, USUAL_WORKERS}
 use Rattle.word_reading.specs.declared.reading.Positionals.{Positionals}
 
 -- the number of a text, where it has at most `bits` bits
@@ -27,6 +28,12 @@ settings_in rows = record {
   workers = unwrap_or (number_at 8 (codes "workers") rows) USUAL_WORKERS;
 }
 
+abbrev pub options_in : List Row → Options
+options_in rows = record {
+  settings = settings_in rows;
+  merge = unwrap_or (number_at 8 (codes "merge") rows) USUAL_MERGE;
+}
+
 -- what stands before the first that is missing
 abbrev pub up_to_none : {X : Type 0} → List (Option X) → List X
 up_to_none [] = []
@@ -42,7 +49,7 @@ abbrev pub has_only : List Text → List Row → Bool
 has_only keys rows = list_all (λ (o : OptionRule). list_any (is_word o.key) keys || not (is_some (first_of o.key rows))) option_rules
 
 abbrev pub made_by : CommandRule → List Row → Option Asked
-made_by c rows = if has_only c.keys rows then c.made (names_in rows) (settings_in rows) else None
+made_by c rows = if has_only c.keys rows then c.made (names_in rows) (options_in rows) else None
 
 abbrev pub command_in : Text → List Row → Option Asked
 command_in w rows = option_and_then (λ c. made_by c rows) (rule_of w)
