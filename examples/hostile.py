@@ -7,7 +7,7 @@ import shutil
 import subprocess
 import tempfile
 
-FASTEST = ("--tries", "0", "--depth", "0", "--budget", "1")
+FASTEST = ("--tries", "0", "--depth", "0", "--merge", "0", "--budget", "1")
 
 
 class Lacking(Exception):
