@@ -118,7 +118,7 @@ fn tells<R: Threads + Sync>(
     rt: &R,
     alloc: Global,
     told: &Told,
-    before: [&str; 2],
+    before: [&'static str; 2],
 ) -> Result<bool, Fail> {
     let [input, care] = told.models;
     let [output, tests] = before;
