@@ -3,16 +3,17 @@ _rambo() {
     local word="${COMP_WORDS[COMP_CWORD]}" before="${COMP_WORDS[COMP_CWORD - 1]}" command="${COMP_WORDS[1]}" names
     COMPREPLY=()
     if [ "$COMP_CWORD" = 1 ]; then
-        COMPREPLY=($(compgen -W "opt check demo flat tests replay convert equal judge optcare --help --version" -- "$word"))
+        COMPREPLY=($(compgen -W "opt check demo flat tests replay convert equal judge optcare cut --help --version" -- "$word"))
         return
     fi
     case "$before" in
         --depth | --merge) COMPREPLY=($(compgen -W "0 1 2" -- "$word")); return ;;
-        --budget | --tries | --workers) return ;;
+        --budget | --tries | --workers | --shift) return ;;
     esac
     case "$command:$word" in
         opt:-* | demo:-*) COMPREPLY=($(compgen -W "--depth --budget --tries --workers --merge" -- "$word")); return ;;
         equal:-* | optcare:-*) COMPREPLY=($(compgen -W "--depth --budget" -- "$word")); return ;;
+        cut:-*) COMPREPLY=($(compgen -W "--shift" -- "$word")); return ;;
         demo:*) return ;;
     esac
     mapfile -t names < <(compgen -f -- "$word")

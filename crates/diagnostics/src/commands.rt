@@ -27,7 +27,7 @@ pub(crate) struct CommandRule {
     pub(crate) meaning: &'static str,
 }
 
-pub(crate) const OPTIONS: [OptionRule; 5] = [
+pub(crate) const OPTIONS: [OptionRule; 6] = [
     OptionRule {
         name: "--depth",
         low: 0,
@@ -68,9 +68,17 @@ pub(crate) const OPTIONS: [OptionRule; 5] = [
         meaning: "merge gates of equal or opposite values: 0 never, 1 after the additions, 2 also before them",
         commands: &["opt", "demo"],
     },
+    OptionRule {
+        name: "--shift",
+        low: 0,
+        high: 65_536,
+        default: 0,
+        meaning: "wires of the first window, which moves all others; 0 gives it as many as they have",
+        commands: &["cut"],
+    },
 ];
 
-pub(crate) const COMMANDS: [CommandRule; 10] = [
+pub(crate) const COMMANDS: [CommandRule; 11] = [
     CommandRule {
         name: "opt",
         usage: "opt IN OUT [JOURNAL] [options]",
@@ -160,6 +168,15 @@ pub(crate) const COMMANDS: [CommandRule; 10] = [
         different: &[(0, 1), (0, 2), (0, 3), (1, 2), (1, 3), (2, 3)],
         written: &["OUT", "TESTS"],
         meaning: "remove wires of the BLIF netlist IN where its values count only while the output of CARE is 1; write the netlist OUT, and a test for each fault that is left to TESTS",
+    },
+    CommandRule {
+        name: "cut",
+        usage: "cut IN WIDTH PREFIX [options]",
+        names: &["IN", "WIDTH", "PREFIX"],
+        least: 3,
+        different: &[],
+        written: &[],
+        meaning: "cut the BLIF netlist IN, of any size, into windows of about WIDTH wires, netlists of their own, and write them to PREFIX1.blif, PREFIX2.blif and so on",
     },
 ];
 

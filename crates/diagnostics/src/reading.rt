@@ -16,6 +16,8 @@ pub(crate) enum Refusal<'a> {
     NotANumber { option: &'a str, value: &'a str },
     NotInRange { option: OptionRule, value: &'a str },
     NotASeed(&'a str),
+    NotAWidth(&'a str),
+    IsOfWindow { input: &'a str, prefix: &'a str },
     TooFewNames(usize),
     TooManyNames(&'a str),
     EqualNames { first: usize, second: usize },
@@ -45,6 +47,32 @@ fn is_version(word: &str) -> bool {
 fn is_number(value: &str) -> bool {
     let digits = value.strip_prefix('+').unwrap_or(value).as_bytes();
     !digits.is_empty() && digits.iter().all(|digit| digit.is_ascii_digit())
+}
+
+// The least and the greatest width of windows.
+pub(crate) const LEAST_WIDTH: u64 = 1;
+
+pub(crate) const MOST_WIDTH: u64 = 65_536;
+
+fn is_width(word: &str) -> bool {
+    if !is_number(word) {
+        return false;
+    }
+    match word.parse::<u64>() {
+        Ok(number) => LEAST_WIDTH <= number && number <= MOST_WIDTH,
+        Err(_) => false,
+    }
+}
+
+// Whether the name is the prefix, a number and `.blif`.
+fn is_of_window(name: &str, prefix: &str) -> bool {
+    let Some(rest) = name.strip_prefix(prefix) else {
+        return false;
+    };
+    let Some(digits) = rest.strip_suffix(".blif") else {
+        return false;
+    };
+    !digits.is_empty() && digits.as_bytes().iter().all(|digit| digit.is_ascii_digit())
 }
 
 // Why the value isn't one of the option.
@@ -157,6 +185,24 @@ impl<'a> Reading<'a> {
             && let Some(word) = nth(self.names.as_slice(), 0)
         {
             self.take_seed(word);
+        }
+        if command.name == "cut" {
+            self.take_windows();
+        }
+    }
+
+    // Looks at the names of `cut`.
+    fn take_windows(&mut self) {
+        if let Some(word) = nth(self.names.as_slice(), 1)
+            && !is_width(word)
+        {
+            self.refuse(Refusal::NotAWidth(word));
+        }
+        if let Some(input) = nth(self.names.as_slice(), 0)
+            && let Some(prefix) = nth(self.names.as_slice(), 2)
+            && is_of_window(input, prefix)
+        {
+            self.refuse(Refusal::IsOfWindow { input, prefix });
         }
     }
 

@@ -2,7 +2,7 @@
 use crate::commands::{COMMANDS, CommandRule};
 use crate::message::Message;
 use crate::parts::Part;
-use crate::reading::{Reading, Refusal};
+use crate::reading::{LEAST_WIDTH, MOST_WIDTH, Reading, Refusal};
 use crate::usage::{VERSION, say_command, say_help, say_usage};
 use rm_base::NoMemory;
 
@@ -66,6 +66,33 @@ fn say_word(
             Part::Text(command),
             Part::Text(" has one name too many: '"),
             Part::Word(word.as_bytes()),
+            Part::Text("'\n"),
+        ]),
+        _ => Ok(message),
+    }
+}
+
+// The reason alone, of the names of windows.
+fn say_windows(message: Message, refusal: Refusal<'_>) -> Result<Message, NoMemory> {
+    match refusal {
+        Refusal::NotAWidth(word) => message.say(&[
+            BEGIN,
+            Part::Red("error: "),
+            Part::Text("WIDTH '"),
+            Part::Word(word.as_bytes()),
+            Part::Text("' is not a decimal number from "),
+            Part::Number(LEAST_WIDTH),
+            Part::Text(" to "),
+            Part::Number(MOST_WIDTH),
+            Part::Text("\n"),
+        ]),
+        Refusal::IsOfWindow { input, prefix } => message.say(&[
+            BEGIN,
+            Part::Red("error: "),
+            Part::Text("IN '"),
+            Part::Word(input.as_bytes()),
+            Part::Text("' is the name of a window's file, of PREFIX '"),
+            Part::Word(prefix.as_bytes()),
             Part::Text("'\n"),
         ]),
         _ => Ok(message),
@@ -173,6 +200,7 @@ pub(crate) fn say_refusal(message: Message, reading: &Reading<'_>) -> Result<Mes
         _ => {}
     }
     let message = say_word(message, name_of(&reading.command), refusal)?;
+    let message = say_windows(message, refusal)?;
     let message = say_option(message, refusal)?;
     let message = say_names(message, reading, refusal)?;
     match &reading.command {

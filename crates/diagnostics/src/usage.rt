@@ -108,5 +108,6 @@ pub(crate) fn say_help(message: Message) -> Result<Message, NoMemory> {
         )])?,
         "opt",
     )?;
+    let message = say_options(message.say(&[Part::Text("\noption of cut:\n")])?, "cut")?;
     message.say(&[Part::Text("\n"), Part::Text(FURTHER)])
 }

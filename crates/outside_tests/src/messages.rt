@@ -18,7 +18,7 @@ const OPTIONS: [&str; 2] = [
 const REFUSALS: [(&str, &str); 17] = [
     (
         "optimise a b",
-        "rambo: error: no command 'optimise'; the commands are opt check demo flat tests replay convert equal judge optcare\nusage:\n  rambo opt IN OUT [JOURNAL] [options]\n  rambo check IN JOURNAL OUT\n  rambo demo SEED [options]\n  rambo flat IN OUT\n  rambo tests IN JOURNAL OUT PATTERNS\n  rambo replay IN JOURNAL OUT\n  rambo convert FROM TO\n  rambo equal A B PROOF [options]\n  rambo judge A B PROOF\n  rambo optcare IN CARE OUT TESTS [options]\nrambo --help lists the options; man rambo has more\n",
+        "rambo: error: no command 'optimise'; the commands are opt check demo flat tests replay convert equal judge optcare cut\nusage:\n  rambo opt IN OUT [JOURNAL] [options]\n  rambo check IN JOURNAL OUT\n  rambo demo SEED [options]\n  rambo flat IN OUT\n  rambo tests IN JOURNAL OUT PATTERNS\n  rambo replay IN JOURNAL OUT\n  rambo convert FROM TO\n  rambo equal A B PROOF [options]\n  rambo judge A B PROOF\n  rambo optcare IN CARE OUT TESTS [options]\n  rambo cut IN WIDTH PREFIX [options]\nrambo --help lists the options; man rambo has more\n",
     ),
     (
         "--version",
@@ -127,6 +127,30 @@ const JUDGE_REFUSALS: [(&str, &str); 4] = [
     (
         "judge a b p --budget 8",
         "rambo: error: judge has no option '--budget'\nusage: rambo judge A B PROOF\n",
+    ),
+];
+
+// The same of `cut`.
+const CUT_REFUSALS: [(&str, &str); 5] = [
+    (
+        "cut a 7",
+        "rambo: error: cut lacks PREFIX\nusage: rambo cut IN WIDTH PREFIX [options]\n",
+    ),
+    (
+        "cut a 7 p q",
+        "rambo: error: cut has one name too many: 'q'\nusage: rambo cut IN WIDTH PREFIX [options]\n",
+    ),
+    (
+        "cut a wide p",
+        "rambo: error: WIDTH 'wide' is not a decimal number from 1 to 65536\nusage: rambo cut IN WIDTH PREFIX [options]\n",
+    ),
+    (
+        "cut a 65537 p",
+        "rambo: error: WIDTH '65537' is not a decimal number from 1 to 65536\nusage: rambo cut IN WIDTH PREFIX [options]\n",
+    ),
+    (
+        "cut d/p12.blif 7 d/p",
+        "rambo: error: IN 'd/p12.blif' is the name of a window's file, of PREFIX 'd/p'\nusage: rambo cut IN WIDTH PREFIX [options]\n",
     ),
 ];
 
@@ -352,6 +376,9 @@ fn refused_words_are_explained(rt: HostRuntime) -> Result<(), Fail> {
         assert!(rt; is_refused(rt.alloc(), words, wanted, 0)?, "{words}");
     }
     for (words, wanted) in JUDGE_REFUSALS {
+        assert!(rt; is_refused(rt.alloc(), words, wanted, 0)?, "{words}");
+    }
+    for (words, wanted) in CUT_REFUSALS {
         assert!(rt; is_refused(rt.alloc(), words, wanted, 0)?, "{words}");
     }
     for (words, wanted) in CARE_REFUSALS {

@@ -25,8 +25,8 @@ fn with_merge(alloc: Global, start: &str, settings: Settings, merge: u8) -> Resu
     Ok(format!(in alloc; "{text} {merge}")?)
 }
 
-// What was read, as one line.
-fn command_text(alloc: Global, command: Command<'_>) -> Result<String, Fail> {
+// The text of a command with its options.
+fn optioned_text(alloc: Global, command: Command<'_>) -> Result<String, Fail> {
     match command {
         Command::Opt {
             input,
@@ -39,11 +39,6 @@ fn command_text(alloc: Global, command: Command<'_>) -> Result<String, Fail> {
             let start = format!(in alloc; "opt {input} {output} {journal} ")?;
             with_merge(alloc, &start, settings, merge)
         }
-        Command::Check {
-            input,
-            journal,
-            output,
-        } => Ok(format!(in alloc; "check {input} {journal} {output}")?),
         Command::Demo {
             seed,
             settings,
@@ -52,6 +47,43 @@ fn command_text(alloc: Global, command: Command<'_>) -> Result<String, Fail> {
             let start = format!(in alloc; "demo {seed} ")?;
             with_merge(alloc, &start, settings, merge)
         }
+        Command::Equal {
+            first,
+            second,
+            proof,
+            settings,
+        } => {
+            let start = format!(in alloc; "equal {first} {second} {proof} ")?;
+            with_settings(alloc, &start, settings)
+        }
+        Command::Optcare {
+            input,
+            care,
+            output,
+            tests,
+            settings,
+        } => {
+            let start = format!(in alloc; "optcare {input} {care} {output} {tests} ")?;
+            with_settings(alloc, &start, settings)
+        }
+        Command::Cut {
+            input,
+            width,
+            prefix,
+            shift,
+        } => Ok(format!(in alloc; "cut {input} {width} {prefix} {shift}")?),
+        _ => Ok(String::from_str(alloc, "another command")?),
+    }
+}
+
+// What was read, as one line.
+fn command_text(alloc: Global, command: Command<'_>) -> Result<String, Fail> {
+    match command {
+        Command::Check {
+            input,
+            journal,
+            output,
+        } => Ok(format!(in alloc; "check {input} {journal} {output}")?),
         Command::Flat { input, output } => Ok(format!(in alloc; "flat {input} {output}")?),
         Command::Tests {
             input,
@@ -65,30 +97,12 @@ fn command_text(alloc: Global, command: Command<'_>) -> Result<String, Fail> {
             output,
         } => Ok(format!(in alloc; "replay {input} {journal} {output}")?),
         Command::Convert { from, to } => Ok(format!(in alloc; "convert {from} {to}")?),
-        Command::Equal {
-            first,
-            second,
-            proof,
-            settings,
-        } => {
-            let start = format!(in alloc; "equal {first} {second} {proof} ")?;
-            with_settings(alloc, &start, settings)
-        }
         Command::Judge {
             first,
             second,
             proof,
         } => Ok(format!(in alloc; "judge {first} {second} {proof}")?),
-        Command::Optcare {
-            input,
-            care,
-            output,
-            tests,
-            settings,
-        } => {
-            let start = format!(in alloc; "optcare {input} {care} {output} {tests} ")?;
-            with_settings(alloc, &start, settings)
-        }
+        command => optioned_text(alloc, command),
     }
 }
 
@@ -312,6 +326,65 @@ const CARE_REFUSED: [&str; 21] = [
 fn refuses_optcare(rt: HostRuntime) -> Result<(), Fail> {
     for line in CARE_REFUSED {
         assert!(rt; reads(rt.alloc(), line, "refused")?, "{line}");
+    }
+    Ok(())
+}
+
+const CUT_REFUSED: [&str; 25] = [
+    "cut",
+    "cut a",
+    "cut a 1",
+    "cut a 1 p x",
+    "cut a 0 p",
+    "cut a 65537 p",
+    "cut a -1 p",
+    "cut a ~ p",
+    "cut a + p",
+    "cut a 1x p",
+    "cut a 99999999999999999999 p",
+    "cut p1.blif 1 p",
+    "cut p0042.blif 1 p",
+    "cut 1.blif 1 ~",
+    "cut d/p7.blif 1 d/p",
+    "cut a 1 p --shift 65537",
+    "cut a 1 p --shift",
+    "cut a 1 p --shift=1 --shift=1",
+    "cut a 1 p --depth 1",
+    "cut a 1 p --budget=1",
+    "cut a 1 p --tries 1",
+    "cut a 1 p --workers 1",
+    "cut a 1 p --merge 1",
+    "cut a 1 p --help",
+    "Cut a 1 p",
+];
+
+#[test]
+fn refuses_cut(rt: HostRuntime) -> Result<(), Fail> {
+    for line in CUT_REFUSED {
+        assert!(rt; reads(rt.alloc(), line, "refused")?, "{line}");
+    }
+    for line in ["opt a b --shift 1", "demo 1 --shift=0", "equal a b p --shift 1"] {
+        assert!(rt; reads(rt.alloc(), line, "refused")?, "{line}");
+    }
+    Ok(())
+}
+
+#[test]
+fn reads_cut(rt: HostRuntime) -> Result<(), Fail> {
+    let rows = [
+        ("cut a 1 p", "cut a 1 p 0"),
+        ("cut a +65536 a", "cut a 65536 a 0"),
+        ("cut --shift 65536 a 007 p", "cut a 7 p 65536"),
+        ("cut a 1 --shift=+3 p", "cut a 1 p 3"),
+        ("cut p.blif 1 p", "cut p.blif 1 p 0"),
+        ("cut p1.blif 1 q", "cut p1.blif 1 q 0"),
+        ("cut p1.bliff 1 p", "cut p1.bliff 1 p 0"),
+        ("cut p1.2.blif 1 p", "cut p1.2.blif 1 p 0"),
+        ("cut p 1 p1.blif", "cut p 1 p1.blif 0"),
+        ("cut -- -a 1 --shift", "cut -a 1 --shift 0"),
+    ];
+    for (line, wanted) in rows {
+        assert!(rt; reads(rt.alloc(), line, wanted)?, "{line}");
     }
     Ok(())
 }

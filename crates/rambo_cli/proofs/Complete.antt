@@ -11,7 +11,7 @@ use Rattle.journal_audit.specs.Audited.{ProblemsExclude, IsProblem, IsOfFiles}
 use Rattle.journal_audit.specs.declared.problem.AuditProblem.{AuditProblem}
 use Rattle.journal_audit.specs.declared.problem.AuditProblem.TheVariants as audit
 use Rattle.journal_text.specs.Cutting.{JournalsAreOne}
-use Rattle.word_reading.specs.Words.{Asked, opt, check, demo, flat, tests, replay, convert, equal, judge, optcare}
+use Rattle.word_reading.specs.Words.{Asked, opt, check, demo, flat, tests, replay, convert, equal, judge, optcare, cut}
 use Rattle.rambo_cli.specs.Check.{AreThere, Audited, CheckFinds, HasPassed}
 use Rattle.rambo_cli.specs.Commands.{contract_of}
 use Rattle.rambo_cli.proofs.ConvertedFiles.{convert_finds_none}
@@ -142,6 +142,9 @@ module _ (once : ReadsOnce) (exclude : ProblemsExclude) where
   good_runs_are_done ones (Some (flat input output)) None m n problem good h = absurd good
   good_runs_are_done ones (Some (flat input output)) (Some told) m n problem good h =
       outside_alone (contract_of (Some (flat input output))) (Some told) m n problem (flat_finds_none input told problem good) h
+  good_runs_are_done ones (Some (cut input width prefix shift)) None m n problem good h = absurd good
+  good_runs_are_done ones (Some (cut input width prefix shift)) (Some told) m n problem good h =
+      outside_alone (contract_of (Some (cut input width prefix shift))) (Some told) m n problem (flat_finds_none input told problem good) h
   good_runs_are_done ones (Some (tests input journal output patterns)) None m n problem good h = absurd good
   good_runs_are_done ones (Some (tests input journal output patterns)) (Some told) m n problem good h =
       outside_alone (contract_of (Some (tests input journal output patterns))) (Some told) m n problem (check_finds_none input journal output told good.0 problem good.1) h
@@ -213,6 +216,7 @@ judged_runs_are_told (Some (check input journal output)) (Some told) m n problem
     or_outside 6 (contract_of (Some (check input journal output))) (Some told) m n problem (judged input journal output told problem there) h
 judged_runs_are_told (Some (demo seed settings merge)) files m n problem there h = absurd there
 judged_runs_are_told (Some (flat input output)) files m n problem there h = absurd there
+judged_runs_are_told (Some (cut input width prefix shift)) files m n problem there h = absurd there
 judged_runs_are_told (Some (replay input journal output)) files m n problem there h = absurd there
 judged_runs_are_told (Some (convert from to)) files m n problem there h = absurd there
 judged_runs_are_told (Some (equal first second proof settings)) files m n problem there h = absurd there

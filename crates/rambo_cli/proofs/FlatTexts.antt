@@ -58,7 +58,7 @@ module _ (text : List ℕ) (files : Option Files) (name : Word) (found : IfSome 
   fault_found CareShape before now h = absurd h
   fault_found (Proof found) before now h = absurd h
 
-  pub flat_cause : (r : Result FlatText Problem) (before now : ℕ) → IfErr r (FlatTextCause text) → IfErr r (Caused (FlatFinds name files) before now)
+  pub flat_cause : {V : Type 0} (r : Result V Problem) (before now : ℕ) → IfErr r (FlatTextCause text) → IfErr r (Caused (FlatFinds name files) before now)
   flat_cause (Ok f) before now h = tt
   flat_cause (Err p) before now h = fault_found p before now h
 

@@ -13,6 +13,7 @@ pub mod Checked
 pub mod Wanting
 pub mod Limited
 pub mod FlatTexts
+pub mod CutTexts
 pub mod ConvertedFiles
 pub mod TextsFound
 pub mod JudgedFiles

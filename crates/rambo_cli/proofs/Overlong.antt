@@ -19,7 +19,7 @@ use Rattle.rambo_cli.specs.Files.{Holds}
 use Rattle.rambo_cli.specs.Input.{CanBeOptimised}
 use Rattle.rambo_cli.specs.Written.{IsSaid}
 use Rattle.rambo_cli.specs.declared.work.Done.{Done}
-use Rattle.rambo_cli.specs.declared.work.Done.TheVariants.{Accepted, Compared, Converted, Flattened, Judged, Optimised, Replayed, Tested, Cared}
+use Rattle.rambo_cli.specs.declared.work.Done.TheVariants.{Accepted, Compared, Converted, Flattened, Judged, Optimised, Replayed, Tested, Cared, Cut}
 use Rattle.rambo_cli.specs.declared.problem.Problem.{Problem}
 use Rattle.rambo_cli.specs.declared.problem.Problem.TheVariants.{Words, Text, Limit, Missing, Fault, Journal, Record, Netlist, Second, Unlike, CareShape, Proof, Memory}
 
@@ -76,6 +76,7 @@ module _ (once : ReadsOnce) (tell : LongJournalsTell) (input journal output : Wo
   does new (Compared verdict) h = h
   does new (Judged records verdict) h = h
   does new (Cared figures) h = h
+  does new (Cut windows signals) h = h
 
   pub overlong : FindsAlone (check_contract input journal output) (Some told) (Limit JournalLimit 4611686018427387905)
   overlong = record { never_done = does; alone = finds }

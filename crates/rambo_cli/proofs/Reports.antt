@@ -2,9 +2,9 @@
 use Rattle.std.proofs.Common.{◌≡◌, ℕ, Bool, List, refl, sym, ◌∙◌, arith, inl, inr, subst}
 use Rattle.std.specs.Prelude.{Option, None, Some}
 use Rattle.rm_base.specs.Files.{Files}
-use Rattle.word_reading.specs.Words.{Asked, opt, check, demo, flat, tests, replay, convert, equal, judge, optcare}
+use Rattle.word_reading.specs.Words.{Asked, opt, check, demo, flat, tests, replay, convert, equal, judge, optcare, cut}
 use Rattle.rambo_cli.specs.declared.work.Done.{Done}
-use Rattle.rambo_cli.specs.declared.work.Done.TheVariants.{Optimised, Accepted, Flattened, Tested, Replayed, Converted, Compared, Judged, Cared}
+use Rattle.rambo_cli.specs.declared.work.Done.TheVariants.{Optimised, Accepted, Flattened, Tested, Replayed, Converted, Compared, Judged, Cared, Cut}
 use Rattle.rambo_cli.specs.declared.verdict.Verdict.{Verdict}
 use Rattle.rambo_cli.specs.declared.verdict.Verdict.TheVariants.{Equal, Differ, Undecided}
 use Rattle.rambo_cli.specs.declared.problem.TextProblem.TheVariants as text
@@ -70,6 +70,7 @@ nothing_asked (Some (convert from to)) files h = absurd h
 nothing_asked (Some (equal first second proof settings)) files h = absurd h
 nothing_asked (Some (judge first second proof)) files h = absurd h
 nothing_asked (Some (optcare input care output vectors settings)) files h = absurd h
+nothing_asked (Some (cut input width prefix shift)) files h = absurd h
 
 pub refused : (w : Bool) (problem : Problem) (status : ℕ) (words : Option Asked) (files : Option Files) (m n : ℕ) (before after : Option (List ℕ)) (i j : ℕ)
     → IsReported w problem status before after i j → IsCause (contract_of words) files m n problem → status ≡ 2 → EndsRefused words before after
@@ -150,6 +151,7 @@ never_3 (Converted count) e = omega (arith, e)
 never_3 (Compared verdict) e = verdict_never_3 verdict e
 never_3 (Judged count verdict) e = omega (arith, e)
 never_3 (Cared figures) e = omega (arith, e)
+never_3 (Cut windows signals) e = omega (arith, e)
 
 pub ended_line : (w : Bool) (done : Done) (status : ℕ) (c : Contract) (files after : Option Files) (m n : ℕ) (old new : Option (List ℕ)) (k l : ℕ) → HasEnded w (done_status done) (done_text done) status old new k l → c.Does files after done → status ≡ 3
     → PutsUnlessFailed c files after m n old new k l

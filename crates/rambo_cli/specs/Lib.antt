@@ -11,6 +11,7 @@ pub mod Opt
 pub mod Check
 pub mod Demo
 pub mod Flat
+pub mod Cut
 pub mod Replay
 pub mod Convert
 pub mod Equal

@@ -73,6 +73,10 @@ memory_line = codes "memory" ++ 10 ∷ []
 abbrev pub flat_line : ℕ → ℕ → List ℕ
 flat_line instances covers = codes "flat " ++ (decimal instances ++ (codes " " ++ (decimal covers ++ 10 ∷ [])))
 
+-- `cut N B`: how many windows a model is cut into, and how many signals they hand on
+abbrev pub cut_line : ℕ → ℕ → List ℕ
+cut_line windows signals = codes "cut " ++ (decimal windows ++ (codes " " ++ (decimal signals ++ 10 ∷ [])))
+
 -- a line about the second of two texts
 abbrev pub second_line : List ℕ → List ℕ
 second_line line = codes "second " ++ line

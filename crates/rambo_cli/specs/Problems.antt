@@ -8,10 +8,10 @@ use Rattle.journal_audit.specs.declared.problem.AuditProblem.TheVariants as audi
 use Rattle.journal_audit.specs.Lines.{fault_line as journal_fault_line, netlist_line, refusal_line}
 use Rattle.pattern_text.specs.Text.{tests_line}
 use Rattle.rambo_cli.specs.Summary.{summary_text, care_text}
-use Rattle.rambo_cli.specs.Lines.{accepted_line, care_shape_line, converted_line, fault_line, flat_line, limit_line, memory_line, proof_line, replayed_lines, second_line, shelf_line, unlike_line, words_line}
+use Rattle.rambo_cli.specs.Lines.{accepted_line, care_shape_line, converted_line, cut_line, fault_line, flat_line, limit_line, memory_line, proof_line, replayed_lines, second_line, shelf_line, unlike_line, words_line}
 use Rattle.rambo_cli.specs.Verdicts.{judged_lines, verdict_line, verdict_status}
 use Rattle.rambo_cli.specs.declared.work.Done.{Done}
-use Rattle.rambo_cli.specs.declared.work.Done.TheVariants.{Optimised, Accepted, Flattened, Tested, Replayed, Converted, Compared, Judged, Cared}
+use Rattle.rambo_cli.specs.declared.work.Done.TheVariants.{Optimised, Accepted, Flattened, Tested, Replayed, Converted, Compared, Judged, Cared, Cut}
 use Rattle.rambo_cli.specs.declared.problem.TextProblem.{TextProblem}
 use Rattle.rambo_cli.specs.declared.problem.TextProblem.TheVariants as text
 use Rattle.rambo_cli.specs.declared.problem.Problem.{Problem}
@@ -64,6 +64,7 @@ done_text (Converted count) = converted_line count
 done_text (Compared verdict) = verdict_line verdict
 done_text (Judged count verdict) = judged_lines count verdict
 done_text (Cared figures) = care_text figures
+done_text (Cut windows signals) = cut_line windows signals
 
 -- the status of a command that has decided whether two models compute the same tells which it is
 abbrev pub done_status : Done → ℕ
@@ -76,6 +77,7 @@ done_status (Converted count) = 0
 done_status (Compared verdict) = verdict_status verdict
 done_status (Judged count verdict) = 0
 done_status (Cared figures) = 0
+done_status (Cut windows signals) = 0
 
 -- a problem of the words or of the files changes no file
 abbrev pub KeepsFiles : {A : Type 0} → Problem → A → A → Type 0

@@ -24,8 +24,8 @@ use std::thread::Threads;
 /// Does all that the program does, and answers its status.
 ///
 /// The words are those of `opt IN OUT [JOURNAL]`, `check IN JOURNAL OUT`, `demo SEED`, `flat IN OUT`,
-/// `tests IN JOURNAL OUT PATTERNS`, `replay IN JOURNAL OUT`, `convert FROM TO`, `equal A B PROOF`, `judge A B PROOF` or
-/// `optcare IN CARE OUT TESTS`, with their options.
+/// `tests IN JOURNAL OUT PATTERNS`, `replay IN JOURNAL OUT`, `convert FROM TO`, `equal A B PROOF`, `judge A B PROOF`,
+/// `optcare IN CARE OUT TESTS` or `cut IN WIDTH PREFIX`, with their options.
 /// A gate lets the pieces of parallel work pass. What each command promises stands in its contract.
 pub fn run<R: Threads + Sync, S: Shelf, O: Sink, G: Gate>(
     rt: &R,

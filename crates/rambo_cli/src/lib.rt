@@ -7,6 +7,7 @@ mod checking;
 mod command;
 mod comparing;
 mod converting;
+mod cutting;
 mod flattening;
 mod judging;
 mod laws;

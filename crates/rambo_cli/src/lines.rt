@@ -1,7 +1,7 @@
 //! The lines that a run puts.
 ghost use Rattle.std.specs.Prelude.{◌≡◌, ◌++◌, ◌∷◌, [], IfOk, Some};
 ghost use Rattle.std.specs.Fmt.{decimal};
-ghost use Rattle.rambo_cli.specs.Lines.{fault_word as word_of_fault, list_word as word_of_list, quantity_word as word_of_quantity, fault_line as line_of_fault, flat_line, limit_line, replayed_lines, second_line, stop_line, unlike_line};
+ghost use Rattle.rambo_cli.specs.Lines.{fault_word as word_of_fault, list_word as word_of_list, quantity_word as word_of_quantity, fault_line as line_of_fault, cut_line, flat_line, limit_line, replayed_lines, second_line, stop_line, unlike_line};
 ghost use Rattle.rambo_cli.specs.Problems.{done_text, line_of, text_line};
 ghost use Rattle.rambo_cli.specs.Verdicts.{judged_lines, verdict_line};
 
@@ -176,6 +176,18 @@ fn flat_text(alloc: Global, instances: u32, covers: u64) -> Result<Vec<u8>, NoMe
     Ok(line)
 }
 
+fn cut_text(alloc: Global, windows: u64, signals: u64) -> Result<Vec<u8>, NoMemory>
+    ensures { IfOk result (λ line. line.items ≡ cut_line windows signals) }
+{
+    let mut buffer = Buffer::new();
+    let mut line = Vec::from_slice(alloc, b"cut ")?;
+    line.extend_from_slice(buffer.format(windows).as_bytes())?;
+    line.extend_from_slice(b" ")?;
+    line.extend_from_slice(buffer.format(signals).as_bytes())?;
+    line.extend_from_slice(b"\n")?;
+    Ok(line)
+}
+
 // What `check` puts of what ends the steps.
 fn stop_text(alloc: Global, stop: Stop) -> Result<Vec<u8>, NoMemory>
     ensures { IfOk result (λ line. line.items ≡ stop_line stop) }
@@ -242,5 +254,6 @@ pub fn done_line(alloc: Global, done: &Done) -> Result<Vec<u8>, NoMemory>
         Done::Compared(verdict) => verdict_text(alloc, verdict),
         Done::Judged { count, verdict } => judged_text(alloc, *count, verdict),
         Done::Cared(figures) => care_summary(alloc, figures),
+        Done::Cut { windows, signals } => cut_text(alloc, *windows, *signals),
     }
 }

@@ -10,6 +10,7 @@ use crate::caring::{CareNames, optimise_cared};
 use crate::checking::check;
 use crate::comparing::{EqualNames, compare};
 use crate::converting::convert_file;
+use crate::cutting::cut_input;
 use crate::flattening::flatten_input;
 use crate::judging::judge_proof;
 use crate::optimising::{Names, optimise_input};
@@ -50,6 +51,8 @@ pub enum Done {
     Judged { count: u64, verdict: Verdict },
     /// `optcare`: the figures of the run.
     Cared(CareFigures),
+    /// `cut`: so many windows are written, which hand on so many signals.
+    Cut { windows: u64, signals: u64 },
 }
 
 impl Done {
@@ -73,6 +76,10 @@ impl Done {
                 verdict: _,
             } => 0,
             Done::Cared(_figures) => 0,
+            Done::Cut {
+                windows: _,
+                signals: _,
+            } => 0,
         }
     }
 }
@@ -202,6 +209,18 @@ pub(crate) fn work<R: Threads + Sync, S: Shelf, G: Gate>(
             };
             let figures = optimise_cared(alloc, keys, shelf, &names, &settings)?;
             Ok(Done::Cared(figures))
+        }
+        Command::Cut {
+            input,
+            width,
+            prefix,
+            shift,
+        } => {
+            let counts = cut_input(alloc, keys, shelf, input, width, prefix, shift)?;
+            Ok(Done::Cut {
+                windows: counts.windows,
+                signals: counts.signals,
+            })
         }
     }
 }

@@ -1,6 +1,7 @@
 //! The commands over files in memory, against rows that were worked out by hand.
 mod care_rows;
 mod check_rows;
+mod cut_rows;
 mod demo_rows;
 mod equal_rows;
 mod failing_calls;

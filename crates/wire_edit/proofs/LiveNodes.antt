@@ -13,6 +13,8 @@ use Rattle.wire_edit.specs.declared.steps.Step.{Step}
 use Rattle.wire_edit.specs.Tests.{live_in}
 use Rattle.wire_edit.specs.Steps.{stepped, change_of}
 use Rattle.wire_edit.specs.Refusals.{live_count, nodes_made}
+use Rattle.wire_edit.specs.Inner.Changes.{least_free}
+use Rattle.wire_edit.proofs.Canonical.{least_is_free, below_is_live}
 use Rattle.wire_edit.proofs.Budgets.{length_budget}
 use Rattle.wire_edit.proofs.TrialSteps.{step_pins}
 use Rattle.rm_base.proofs.Public.{front_stands, last_stands}
@@ -108,3 +110,7 @@ least_one net x y a b = elim (cases_lt x y) [
     | inr le ↦ omega (arith, ge, le)
   ]
 ]
+
+-- the least number that no live node has is one
+pub least_meets : (net : Net) → IsLeastFree net (least_free net.nodes)
+least_meets net = record { free = least_is_free net.nodes; least = λ m lt. below_is_live net.nodes m lt }

@@ -1,7 +1,7 @@
 -- Where no rule applies at a gate that a change doesn't touch, none applies afterwards.
 use Rattle.std.proofs.Common.{◌≡◌, ◌≢◌, ℕ, zero, suc, ◌<◌, Bool, true, false, not, ◌&&◌, ◌||◌, ◌⊎◌, inl, inr, Option, Some, None, List, [], ◌∷◌, ◌++◌, length, map, refl, sym, ◌∙◌, ap, arith}
 use Rattle.std.specs.Prelude.{slice_get, slice_set, nat_lt, nat_eq, option_and_then}
-use Rattle.std.proofs.lemmas.Bool.{both_ways, and_from, and_left, cases_lt, eq-eqb, and_parts, false_from_ne_true}
+use Rattle.std.proofs.lemmas.Bool.{both_ways, and_from, and_left, cases_lt, ltb-true, eq-eqb, and_parts, false_from_ne_true}
 use Rattle.std.proofs.lemmas.Bool.Decides.{eqb_tells}
 use Rattle.gate_net.proofs.Public.{drivers_redirected, node_at-moved, node_at-other, node_at-there, redirect_cases}
 use Rattle.gate_net.specs.declared.Kind.TheVariants.{Not}
@@ -55,7 +55,7 @@ pub record Stays (net after : Net) (x : ℕ) : Type 0 where
   pub drivers : drivers_of after x ≡ drivers_of net x
   pub used : is_gate net x ≡ true → is_in_use net x ≡ true → is_in_use after x ≡ true
   pub kinds : (p d : ℕ) → Reads net x p d → kind_of after d ≡ kind_of net d
-  pub twins : (other d : ℕ) → is_not net x ≡ true → Reads net x 0 d → is_not after other ≡ true → Reads after other 0 d → (is_not net other ≡ true) × Reads net other 0 d
+  pub twins : (other d : ℕ) → other < x → is_not net x ≡ true → Reads net x 0 d → is_not after other ≡ true → Reads after other 0 d → (is_not net other ≡ true) × Reads net other 0 d
 
 module _ (net after : Net) (x : ℕ) (r : NoRules net x) (s : Stays net after x) where
   junction_back : is_junction after x ≡ true → is_junction net x ≡ true
@@ -124,7 +124,7 @@ module _ (net after : Net) (x : ℕ) (r : NoRules net x) (s : Stays net after x)
       let d : (d : ℕ) × ((driver_at after x 0 ≡ Some d) × (driver_at after other 0 ≡ Some d)) = same_at (driver_at after x 0) (driver_at after other 0) l.1 in
       let n : is_not net x ≡ true = not_back a.0 in
       let own : Reads net x 0 d.0 = ap (λ ds. slice_get ds 0) (sym s.drivers) ∙ d.1.0 in
-      let t : (is_not net other ≡ true) × Reads net other 0 d.0 = s.twins other d.0 n own o.0 d.1.1 in
+      let t : (is_not net other ≡ true) × Reads net other 0 d.0 = s.twins other d.0 (ltb-true other x l.0) n own o.0 d.1.1 in
       both_ways _ (r.no_twin other) (and_from (is_not net x) _ n (and_from (is_in_use net x) _ (used (not_gate net x n))
       (and_from (is_not net other) _ t.0 (and_from (nat_lt other x) _ l.0 (same_there (driver_at net x 0) (driver_at net other 0) d.0 own t.1))))))
     where
@@ -187,8 +187,8 @@ module _ (net : Net) (gate : ℕ) (ds : List ℕ) (g : IsGate net gate) (x : ℕ
         | inr t ↦ (p, ap (λ es. slice_get es p) (other_drivers y t.1) ∙ r)
       ]
 
-      twins : (other d : ℕ) → is_not net x ≡ true → Reads net x 0 d → is_not after other ≡ true → Reads after other 0 d → (is_not net other ≡ true) × Reads net other 0 d
-      twins other d n own is r =
+      twins : (other d : ℕ) → other < x → is_not net x ≡ true → Reads net x 0 d → is_not after other ≡ true → Reads after other 0 d → (is_not net other ≡ true) × Reads net other 0 d
+      twins other d lt n own is r =
           let was : is_not net other ≡ true = ap is_not_kind (sym (with_kinds net gate ds g other)) ∙ is in
           elim (eqb_tells other gate) [
             | inl t ↦
@@ -260,8 +260,8 @@ module _ (net : Net) (from to : ℕ) (well : IsWellFormed net) (can : CanChange 
             ]
           ]
 
-      twins : (other d : ℕ) → is_not net x ≡ true → Reads net x 0 d → is_not moved other ≡ true → Reads moved other 0 d → (is_not net other ≡ true) × Reads net other 0 d
-      twins other d n own is reads =
+      twins : (other d : ℕ) → other < x → is_not net x ≡ true → Reads net x 0 d → is_not moved other ≡ true → Reads moved other 0 d → (is_not net other ≡ true) × Reads net other 0 d
+      twins other d lt n own is reads =
           let was : is_not net other ≡ true = ap is_not_kind (sym (moved_kinds net from to well can other)) ∙ is in
           elim (redirect_cases from to (drivers_of net other) 0 d (ap (λ es. slice_get es 0) (sym (moved_drivers other)) ∙ reads)) [
             | inl old ↦ (was, old)
@@ -282,7 +282,8 @@ module _ (net : Net) (driver : ℕ) (well : IsWellFormed net) (live : IsLive net
   others y h = (new_differs net driver).others y h
 
   not_new : x ≢ new
-  not_new e = untouched (ap (is_not grown) e ∙ ap (λ o. is_not_kind (kind_in o)) made, ap (λ y. slice_get (drivers_of grown y) 0) e ∙ ap (λ o. slice_get (drivers_in o) 0) made)
+  not_new e =
+      untouched (omega (arith, e), (ap (is_not grown) e ∙ ap (λ o. is_not_kind (kind_in o)) made, ap (λ y. slice_get (drivers_of grown y) 0) e ∙ ap (λ o. slice_get (drivers_in o) 0) made))
 
   live_apart : (d : ℕ) → node_at net d ≢ None → d ≢ new
   live_apart d alive e = alive (ap (node_at net) e ∙ least_is_free net.nodes)
@@ -300,11 +301,11 @@ module _ (net : Net) (driver : ℕ) (well : IsWellFormed net) (live : IsLive net
     twins = twins;
   }
     where
-      twins : (other d : ℕ) → is_not net x ≡ true → Reads net x 0 d → is_not grown other ≡ true → Reads grown other 0 d → (is_not net other ≡ true) × Reads net other 0 d
-      twins other d n own is reads = elim (eqb_tells other new) [
+      twins : (other d : ℕ) → other < x → is_not net x ≡ true → Reads net x 0 d → is_not grown other ≡ true → Reads grown other 0 d → (is_not net other ≡ true) × Reads net other 0 d
+      twins other d lt n own is reads = elim (eqb_tells other new) [
         | inl t ↦
             let e : Some driver ≡ Some d = ap (λ o. slice_get (drivers_in o) 0) (sym made) ∙ ap (λ z. slice_get (drivers_of grown z) 0) (sym t.1) ∙ reads in
-            absurd (untouched (ap (λ o. is_not_kind (kind_in o)) (others x not_new) ∙ n, ap (λ o. slice_get (drivers_in o) 0) (others x not_new) ∙ own ∙ sym e))
+            absurd (untouched (omega (arith, lt, t.1), (ap (λ o. is_not_kind (kind_in o)) (others x not_new) ∙ n, ap (λ o. slice_get (drivers_in o) 0) (others x not_new) ∙ own ∙ sym e)))
         | inr t ↦ (ap (λ o. is_not_kind (kind_in o)) (sym (others other t.1)) ∙ is, ap (λ o. slice_get (drivers_in o) 0) (sym (others other t.1)) ∙ reads)
       ]
 
@@ -322,7 +323,7 @@ module _ (net : Net) (gate : ℕ) (unread : IsUnread net gate) (x : ℕ) (ne : x
     used = λ k u. still_used net rest x
         (λ y p e. (p, ap (λ o. slice_get (drivers_in o) p) (resting y (λ is. untouched (p, ap (λ z. slice_get (drivers_of net z) p) (sym is) ∙ e))) ∙ e)) (λ o. o) u;
     kinds = λ p d e. ap kind_in (resting d (λ is. unread.unread x p (e ∙ ap Some is)));
-    twins = λ other d n own is reads.
+    twins = λ other d lt n own is reads.
         let apart : other ≢ gate = λ e. let wrong : false ≡ true = ap (λ o. is_not_kind (kind_in o)) (sym (ap (node_at rest) e ∙ gone-there net.nodes gate)) ∙ is in cc in
         (ap (λ o. is_not_kind (kind_in o)) (sym (resting other apart)) ∙ is, ap (λ o. slice_get (drivers_in o) 0) (sym (resting other apart)) ∙ reads);
   }

@@ -19,6 +19,7 @@ use Rattle.std.specs.Prelude.{not}
 use Rattle.wire_edit.specs.Order.{rule_at, next_step, IsTidy}
 use Rattle.wire_edit.specs.Work.{pins_made}
 use Rattle.wire_edit.specs.Edited.{edit_of, IsNewNot}
+use Rattle.wire_edit.specs.Inner.Changes.{least_free}
 use Rattle.wire_edit.specs.Inner.Touched.{IsNotOf}
 use Rattle.wire_edit.specs.Inner.Marked.{is_marked, KeepsMarks, IsQuiet, MarksTouched}
 use Rattle.wire_edit.specs.Inner.Trials.{IsTrial}
@@ -52,14 +53,14 @@ room_left room (Dead gate) p n s a b e = same_room _ _ (omega (arith, a)) (omega
 before_edit : (v : Circuit) (change : Change) (edit : Edit) (mid next : List Bool) → edit ≡ edit_of change → (IsNewNot change → ⊥) → ((change' : Change) → edit ≡ edit_of change' → (IsNewNot change' → ⊥) → MarksTouched (net_of v) change' mid) → KeepsMarks mid next → MarksTouched (net_of v) change next
 before_edit v change edit mid next e other before k x t lt = k.kept x (before change e other x t (omega (arith, lt, k.count)))
 
-pub touched_carried : (v w : Circuit) (change : Change) (edit : Edit) (mid next : List Bool) → IsWellFormed (net_of v) → IsWellFormed (net_of w) → edit ≡ edit_of change → Edits v (edit_of change) w → ((change' : Change) → edit ≡ edit_of change' → (IsNewNot change' → ⊥) → MarksTouched (net_of v) change' mid) → KeepsMarks mid next → ((driver y : ℕ) → edit ≡ edit_of (new_not driver) → IsNotOf (net_of w) driver y → y < length next → is_marked next y ≡ true) → MarksTouched (net_of v) change next
+pub touched_carried : (v w : Circuit) (change : Change) (edit : Edit) (mid next : List Bool) → IsWellFormed (net_of v) → IsWellFormed (net_of w) → edit ≡ edit_of change → Edits v (edit_of change) w → ((change' : Change) → edit ≡ edit_of change' → (IsNewNot change' → ⊥) → MarksTouched (net_of v) change' mid) → KeepsMarks mid next → ((driver y : ℕ) → edit ≡ edit_of (new_not driver) → least_free (net_of v).nodes ≤ y → IsNotOf (net_of w) driver y → y < length next → is_marked next y ≡ true) → MarksTouched (net_of v) change next
 touched_carried v w (append gate driver) edit mid next well well' e edits before k after = before_edit v (append gate driver) edit mid next e (λ n. n) before k
 touched_carried v w (remove gate position) edit mid next well well' e edits before k after = before_edit v (remove gate position) edit mid next e (λ n. n) before k
 touched_carried v w (fix gate position value) edit mid next well well' e edits before k after = before_edit v (fix gate position value) edit mid next e (λ n. n) before k
 touched_carried v w (readers from to) edit mid next well well' e edits before k after = before_edit v (readers from to) edit mid next e (λ n. n) before k
 touched_carried v w (retire gate) edit mid next well well' e edits before k after = before_edit v (retire gate) edit mid next e (λ n. n) before k
 touched_carried v w (new_not driver) edit mid next well well' e edits before k after =
-    λ x t lt. after driver x e (subst (λ (n : Net). IsNotOf n driver x) (sym (edited_net v w (new_not driver) well well' edits)) t) lt
+    λ x t lt. after driver x e t.0 (subst (λ (n : Net). IsNotOf n driver x) (sym (edited_net v w (new_not driver) well well' edits)) t.1) lt
 
 -- THE NEXT STEP BY MARKS
 pub next_found : (net : Net) (marks : List Bool) (x : ℕ) (step : Step) → IsQuiet net marks → ((k : ℕ) → k < x → is_marked marks k ≡ false) → rule_at net x ≡ Some step → next_step net ≡ Some step

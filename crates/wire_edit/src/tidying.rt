@@ -17,7 +17,7 @@ use crate::kept::Kept;
 use crate::rules::{rule_again, rule_at};
 use crate::seen::Seen;
 use crate::steps::Step;
-use crate::touch::{mark_after, mark_before};
+use crate::touch::{mark_after, mark_before, number_for};
 use crate::worklist::Worklist;
 use gate_graph::{Edit, Graph, Undos};
 use rm_base::NodeId;
@@ -40,10 +40,11 @@ pub(crate) fn carry_out(graph: &mut Graph, undos: &mut Undos, worklist: &mut Wor
 {
     graph.well_formed();
     let edit = edit_for(graph, step);
+    let number = number_for(graph, &edit);
     mark_before(worklist, graph, &edit);
     graph.edit(&edit, undos);
     graph.well_formed();
-    mark_after(worklist, graph, &edit);
+    mark_after(worklist, graph, &edit, number);
 }
 
 // Whether the step takes a pin out of its gate.

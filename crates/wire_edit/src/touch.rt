@@ -1,17 +1,18 @@
 //! Marks the gates that a step touches.
-ghost use Rattle.std.specs.Prelude.{◌≡◌, ◌<◌, ◌≢◌, ℕ, true, false, length};
+ghost use Rattle.std.specs.Prelude.{◌≡◌, ◌<◌, ◌≤◌, ◌≢◌, ℕ, true, false, length};
 ghost use Rattle.gate_graph.specs.Circuit.{net_of};
 ghost use Rattle.gate_net.specs.Net.{Reads};
 ghost use Rattle.wire_edit.specs.Changes.{Change, readers, new_not};
 ghost use Rattle.wire_edit.specs.Tests.{is_not};
 ghost use Rattle.wire_edit.specs.Edited.{edit_of, IsNewNot};
+ghost use Rattle.wire_edit.specs.Inner.Changes.{least_free};
 ghost use Rattle.wire_edit.specs.Inner.Marked.{is_marked, KeepsMarks, MarksTouched};
 ghost use Rattle.wire_edit.specs.Inner.Touched.{IsReadBy, IsNotOf};
 
 use crate::looks::{is_live, is_not};
 use crate::worklist::Worklist;
 use gate_graph::{Edit, Graph};
-use rm_base::NodeId;
+use rm_base::{NodeId, ZERO};
 
 // Marks the readers of a node, and tells whether a Not is among them.
 fn mark_readers(worklist: &mut Worklist, graph: &Graph, node: NodeId) -> bool
@@ -115,12 +116,27 @@ pub(crate) fn mark_before(worklist: &mut Worklist, graph: &Graph, edit: &Edit)
     }
 }
 
-// Marks, after an edit, the Nots of the driver of a new Not.
-pub(crate) fn mark_after(worklist: &mut Worklist, graph: &Graph, edit: &Edit)
+// The number that a new Not takes.
+pub(crate) fn number_for(graph: &Graph, edit: &Edit) -> NodeId
+    ensures { (driver : ℕ) → edit.now ≡ edit_of (new_not driver) → result.0 ≡ least_free (net_of graph.now).nodes }
+{
+    match *edit {
+        Edit::NewNot { driver: _ } => graph.least_free(),
+        _ => ZERO,
+    }
+}
+
+// Marks, after an edit, a new Not and those Nots of its driver that have higher numbers: where it has the highest of
+// all numbers, that is itself alone.
+pub(crate) fn mark_after(worklist: &mut Worklist, graph: &Graph, edit: &Edit, made: NodeId)
     ensures kept { KeepsMarks worklist.old worklist.new }
-    ensures nots { (driver y : ℕ) → edit.now ≡ edit_of (new_not driver) → IsNotOf (net_of graph.now) driver y → y < length worklist.new → is_marked worklist.new y ≡ true }
+    ensures nots { (driver y : ℕ) → edit.now ≡ edit_of (new_not driver) → made.0 ≤ y → IsNotOf (net_of graph.now) driver y → y < length worklist.new → is_marked worklist.new y ≡ true }
 {
     if let Edit::NewNot { driver } = *edit {
+        if graph.node_bound().saturating_sub(1) == made.0 {
+            worklist.mark(made.0);
+            return;
+        }
         mark_nots(worklist, graph, driver);
     }
 }

@@ -10,8 +10,8 @@ use Rattle.std.proofs.lemmas.Slice.Eq.{bytes_eq-Decides}
 use Rattle.clap.proofs.WalkLemmas.{both}
 use Rattle.rm_base.specs.declared.settings.Settings.{Settings}
 use Rattle.word_reading.specs.Commands.{HasNamesApart, HasSettingsInRange, IsInRange}
-use Rattle.word_reading.specs.Words.{Asked, CommandRule, Part, all_together, are_different, asked, asked_by, at_most_once, budget_rule, check, check_by, command_rules, convert, convert_by, demo, demo_by, depth_rule, equal, equal_by, flat, flat_by, given, has_keys, is_word, judge, judge_by, merge_rule, names, number, opt, opt_by, optcare, optcare_by, options_of, parts, replay, replay_by, rule_of, settings_of, tests, tests_by, together, tries_rule, value_in, workers_rule}
-use Rattle.word_reading.specs.declared.options.TheConstants.{LEAST_BUDGET, LEAST_WORKERS, MOST_BUDGET, MOST_DEPTH, MOST_MERGE, MOST_TRIES, MOST_WORKERS, USUAL_BUDGET, USUAL_DEPTH, USUAL_MERGE, USUAL_TRIES, USUAL_WORKERS}
+use Rattle.word_reading.specs.Words.{Asked, CommandRule, Part, all_together, are_different, asked, asked_by, at_most_once, budget_rule, check, check_by, command_rules, convert, convert_by, cut, cut_by, demo, demo_by, depth_rule, equal, equal_by, flat, flat_by, given, has_keys, is_window_file, is_word, judge, judge_by, merge_rule, names, number, opt, opt_by, optcare, optcare_by, options_of, parts, replay, replay_by, rule_of, settings_of, shift_rule, tests, tests_by, together, tries_rule, value_in, workers_rule}
+use Rattle.word_reading.specs.declared.options.TheConstants.{LEAST_BUDGET, LEAST_WIDTH, LEAST_WORKERS, MOST_BUDGET, MOST_DEPTH, MOST_MERGE, MOST_SHIFT, MOST_TRIES, MOST_WIDTH, MOST_WORKERS, USUAL_BUDGET, USUAL_DEPTH, USUAL_MERGE, USUAL_SHIFT, USUAL_TRIES, USUAL_WORKERS}
 use Rattle.word_reading.specs.declared.options.Options.{Options}
 use Rattle.word_reading.proofs.Numbers.{value_of}
 use Rattle.rm_base.proofs.Public.{some_is}
@@ -56,21 +56,23 @@ settings_range ps s e =
     let w = once_range LEAST_WORKERS MOST_WORKERS USUAL_WORKERS (omega arith) (omega arith) (given (codes "workers") ps) s.workers all.3 in
     record { depth = d.1; least_budget = b.0; most_budget = b.1; tries = t.1; least_workers = w.0; most_workers = w.1 }
 
-options_parts : (s : Option Settings) (m : Option ℕ) (o : Options) → all_together s m ≡ Some o → (s ≡ Some o.settings) × (m ≡ Some o.merge)
-options_parts (Some s) (Some m) o e =
-    let same : record { settings = s; merge = m } ≡ o = some_is _ o e in
-    (ap (λ (x : Options). Some x.settings) same, ap (λ (x : Options). Some x.merge) same)
-options_parts None m o e = cc
-options_parts (Some s) None o e = cc
+options_parts : (s : Option Settings) (m h : Option ℕ) (o : Options) → all_together s m h ≡ Some o → (s ≡ Some o.settings) × (m ≡ Some o.merge) × (h ≡ Some o.shift)
+options_parts (Some s) (Some m) (Some h) o e =
+    let same : record { settings = s; merge = m; shift = h } ≡ o = some_is _ o e in
+    (ap (λ (x : Options). Some x.settings) same, ap (λ (x : Options). Some x.merge) same, ap (λ (x : Options). Some x.shift) same)
+options_parts None m h o e = cc
+options_parts (Some s) None h o e = cc
+options_parts (Some s) (Some m) None o e = cc
 
 abbrev AreInRange : Options → Type 0
-AreInRange o = IsInRange o.settings × (o.merge ≤ MOST_MERGE)
+AreInRange o = IsInRange o.settings × (o.merge ≤ MOST_MERGE) × (o.shift ≤ MOST_SHIFT)
 
 options_range : (ps : List Part) (o : Options) → options_of ps ≡ Some o → AreInRange o
 options_range ps o e =
-    let all = options_parts (settings_of ps) (value_in ps merge_rule) o e in
+    let all = options_parts (settings_of ps) (value_in ps merge_rule) (value_in ps shift_rule) o e in
     let m = once_range 0 MOST_MERGE USUAL_MERGE (omega arith) (omega arith) (given (codes "merge") ps) o.merge all.1 in
-    (settings_range ps o.settings all.0, m.1)
+    let h = once_range 0 MOST_SHIFT USUAL_SHIFT (omega arith) (omega arith) (given (codes "shift") ps) o.shift all.2 in
+    (settings_range ps o.settings all.0, m.1, h.1)
 
 -- ---- the commands
 
@@ -93,7 +95,7 @@ differ_first a b c e = (
 two_made : (a b : Word) (said : Options) → AreInRange said → (t : Bool) → are_different (a ∷ b ∷ []) ≡ t → (x : Asked) → cond t (Some (opt a b None said.settings said.merge)) None ≡ Some x → IsSound x
 two_made a b said range true apart x is =
     let one = both (not (is_word a b || false)) true apart in
-    subst IsSound (some_is (opt a b None said.settings said.merge) x is) (different a b one.0, range)
+    subst IsSound (some_is (opt a b None said.settings said.merge) x is) (different a b one.0, (range.0, range.1))
 two_made a b said range false apart x is = cc
 
 three_made : (a b c : Word) (said : Options) → AreInRange said → (t : Bool) → are_different (a ∷ b ∷ c ∷ []) ≡ t → (x : Asked) → cond t (Some (opt a b (Some c) said.settings said.merge)) None ≡ Some x → IsSound x
@@ -101,7 +103,7 @@ three_made a b c said range true apart x is =
     let one = both (not (is_word a b || (is_word a c || false))) (are_different (b ∷ c ∷ [])) apart in
     let two = both (not (is_word b c || false)) true one.1 in
     let first = differ_first a b c one.0 in
-    subst IsSound (some_is (opt a b (Some c) said.settings said.merge) x is) ((first.0, first.1, different b c two.0), range)
+    subst IsSound (some_is (opt a b (Some c) said.settings said.merge) x is) ((first.0, first.1, different b c two.0), (range.0, range.1))
 three_made a b c said range false apart x is = cc
 
 opt_sound : (ws : List Word) (o : Options) → AreInRange o → (x : Asked) → opt_by ws o ≡ Some x → IsSound x
@@ -120,7 +122,7 @@ check_sound (a ∷ b ∷ c ∷ d ∷ ws) o range x is = cc
 
 demo_made : (o : Option ℕ) (said : Options) → AreInRange said → (x : Asked) → option_map (λ seed. demo seed said.settings said.merge) o ≡ Some x → IsSound x
 demo_made None said range x is = cc
-demo_made (Some n) said range x is = subst IsSound (some_is (demo n said.settings said.merge) x is) (tt, range)
+demo_made (Some n) said range x is = subst IsSound (some_is (demo n said.settings said.merge) x is) (tt, (range.0, range.1))
 
 demo_sound : (ws : List Word) (o : Options) → AreInRange o → (x : Asked) → demo_by ws o ≡ Some x → IsSound x
 demo_sound [] o range x is = cc
@@ -234,8 +236,25 @@ optcare_sound (a ∷ b ∷ c ∷ []) o range x is = cc
 optcare_sound (a ∷ b ∷ c ∷ d ∷ []) o range x is = optcare_made a b c d o.settings range.0 (are_different (a ∷ b ∷ c ∷ d ∷ [])) refl x is
 optcare_sound (a ∷ b ∷ c ∷ d ∷ e ∷ ws) o range x is = cc
 
+width_made : (a c : Word) (o : Options) → AreInRange o → is_window_file c a ≡ false → (r : Option ℕ) → ((n : ℕ) → r ≡ Some n → (LEAST_WIDTH ≤ n) × (n ≤ MOST_WIDTH)) → (x : Asked)
+    → option_map (λ width. cut a width c o.shift) r ≡ Some x → IsSound x
+width_made a c o range apart None within x is = cc
+width_made a c o range apart (Some n) within x is = let w = within n refl in subst IsSound (some_is (cut a n c o.shift) x is) (apart, (w.0, w.1, range.2))
+
+cut_made : (a b c : Word) (o : Options) → AreInRange o → (t : Bool) → is_window_file c a ≡ t → (x : Asked)
+    → cond t None (option_map (λ width. cut a width c o.shift) (number LEAST_WIDTH MOST_WIDTH b)) ≡ Some x → IsSound x
+cut_made a b c o range true apart x is = cc
+cut_made a b c o range false apart x is = width_made a c o range apart (number LEAST_WIDTH MOST_WIDTH b) (λ n e. number_range LEAST_WIDTH MOST_WIDTH b n e) x is
+
+cut_sound : (ws : List Word) (o : Options) → AreInRange o → (x : Asked) → cut_by ws o ≡ Some x → IsSound x
+cut_sound [] o range x is = cc
+cut_sound (a ∷ []) o range x is = cc
+cut_sound (a ∷ b ∷ []) o range x is = cc
+cut_sound (a ∷ b ∷ c ∷ []) o range x is = cut_made a b c o range (is_window_file c a) refl x is
+cut_sound (a ∷ b ∷ c ∷ d ∷ ws) o range x is = cc
+
 all_sound : AllByRecursion MakesSound command_rules
-all_sound = (opt_sound, (check_sound, (demo_sound, (flat_sound, (tests_sound, (replay_sound, (convert_sound, (equal_sound, (judge_sound, (optcare_sound, tt))))))))))
+all_sound = (opt_sound, (check_sound, (demo_sound, (flat_sound, (tests_sound, (replay_sound, (convert_sound, (equal_sound, (judge_sound, (optcare_sound, (cut_sound, tt)))))))))))
 
 sound_of : (w : Word) (xs : List CommandRule) → AllByRecursion MakesSound xs → (c : CommandRule) → find (λ (d : CommandRule). is_word w d.word) xs ≡ Some c → MakesSound c
 sound_of w [] all c e = cc

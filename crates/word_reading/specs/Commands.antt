@@ -1,10 +1,10 @@
 -- A command as a value, and what holds of each that is read.
-use Rattle.std.specs.Prelude.{◌≢◌, ◌≤◌, Some, None, option_map}
-use Rattle.word_reading.specs.declared.options.TheConstants.{LEAST_BUDGET, LEAST_WORKERS, MOST_BUDGET, MOST_DEPTH, MOST_MERGE, MOST_TRIES, MOST_WORKERS}
+use Rattle.std.specs.Prelude.{◌≡◌, ◌≢◌, ◌≤◌, Some, None, false, option_map}
+use Rattle.word_reading.specs.declared.options.TheConstants.{LEAST_BUDGET, LEAST_WIDTH, LEAST_WORKERS, MOST_BUDGET, MOST_DEPTH, MOST_MERGE, MOST_SHIFT, MOST_TRIES, MOST_WIDTH, MOST_WORKERS}
 use Rattle.rm_base.specs.declared.settings.Settings.{Settings}
-use Rattle.word_reading.specs.Words.{Asked, opt, check, demo, flat, tests, replay, convert, equal, judge, optcare}
+use Rattle.word_reading.specs.Words.{Asked, opt, check, demo, flat, tests, replay, convert, equal, judge, optcare, cut, is_window_file}
 use Rattle.word_reading.specs.declared.command.Command.{Command}
-use Rattle.word_reading.specs.declared.command.Command.TheVariants.{Opt, Check, Demo, Flat, Tests, Replay, Convert, Equal, Judge, Optcare}
+use Rattle.word_reading.specs.declared.command.Command.TheVariants.{Opt, Check, Demo, Flat, Tests, Replay, Convert, Equal, Judge, Optcare, Cut}
 
 -- the command as a value: its names are their bytes
 abbrev pub asked_of : Command → Asked
@@ -18,8 +18,10 @@ asked_of (Convert from to) = convert from.now to.now
 asked_of (Equal first second proof settings) = equal first.now second.now proof.now settings
 asked_of (Judge first second proof) = judge first.now second.now proof.now
 asked_of (Optcare input care output vectors settings) = optcare input.now care.now output.now vectors.now settings
+asked_of (Cut input width prefix shift) = cut input.now width prefix.now shift
 
--- no two names of `opt`, `flat`, `replay`, `convert`, `equal` or `optcare` are alike, and the last one of `tests` is none of the others
+-- no two names of `opt`, `flat`, `replay`, `convert`, `equal` or `optcare` are alike, the last one of `tests` is none of the others, and
+-- the input of `cut` is no file of a window
 abbrev pub HasNamesApart : Asked → Type 0
 HasNamesApart (opt input output None settings merge) = input ≢ output
 HasNamesApart (opt input output (Some journal) settings merge) = (input ≢ output) × (input ≢ journal) × (output ≢ journal)
@@ -32,6 +34,7 @@ HasNamesApart (convert from to) = from ≢ to
 HasNamesApart (equal first second proof settings) = (first ≢ second) × (first ≢ proof) × (second ≢ proof)
 HasNamesApart (judge first second proof) = Unit {0}
 HasNamesApart (optcare input care output vectors settings) = (input ≢ care) × (input ≢ output) × (input ≢ vectors) × (care ≢ output) × (care ≢ vectors) × (output ≢ vectors)
+HasNamesApart (cut input width prefix shift) = is_window_file prefix input ≡ false
 
 pub record IsInRange (settings : Settings) : Type 0 where
   pub depth : settings.depth ≤ MOST_DEPTH
@@ -52,3 +55,4 @@ HasSettingsInRange (convert from to) = Unit {0}
 HasSettingsInRange (equal first second proof settings) = IsInRange settings
 HasSettingsInRange (judge first second proof) = Unit {0}
 HasSettingsInRange (optcare input care output vectors settings) = IsInRange settings
+HasSettingsInRange (cut input width prefix shift) = (LEAST_WIDTH ≤ width) × (width ≤ MOST_WIDTH) × (shift ≤ MOST_SHIFT)

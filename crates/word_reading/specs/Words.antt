@@ -1,5 +1,5 @@
 -- What the words ask for: how they are parted into names and options, and what each command makes of them.
-use Rattle.std.specs.Prelude.{◌^◌, ◌-◌, ◌==◌, ◌&&◌, ℕ, Bool, true, false, not, List, [], ◌∷◌}
+use Rattle.std.specs.Prelude.{◌^◌, ◌-◌, ◌==◌, ◌&&◌, ◌||◌, ℕ, Bool, true, false, not, List, [], ◌∷◌}
 use Rattle.std.specs.Prelude.{map, Option, Some, None, if◌then◌else◌, nat_le, nat_lt, codes, length}
 use Rattle.std.specs.Prelude.{option_map, option_and_then, find}
 use Rattle.std.specs.List.{after_first, before_first, list_all, list_any}
@@ -9,7 +9,7 @@ use Rattle.std.specs.Str.Parse.{digits_value, without_leading_plus}
 use Rattle.rm_base.specs.declared.settings.Settings.{Settings}
 use Rattle.rm_base.specs.Words.{Word}
 use Rattle.word_reading.specs.declared.options.Options.{Options}
-use Rattle.word_reading.specs.declared.options.TheConstants.{LEAST_BUDGET, LEAST_WORKERS, MOST_BUDGET, MOST_DEPTH, MOST_MERGE, MOST_TRIES, MOST_WORKERS, USUAL_BUDGET, USUAL_DEPTH, USUAL_MERGE, USUAL_TRIES, USUAL_WORKERS}
+use Rattle.word_reading.specs.declared.options.TheConstants.{LEAST_BUDGET, LEAST_WIDTH, LEAST_WORKERS, MOST_BUDGET, MOST_DEPTH, MOST_MERGE, MOST_SHIFT, MOST_TRIES, MOST_WIDTH, MOST_WORKERS, USUAL_BUDGET, USUAL_DEPTH, USUAL_MERGE, USUAL_SHIFT, USUAL_TRIES, USUAL_WORKERS}
 
 abbrev pub is_word : Word → Word → Bool
 is_word = bytes_eq
@@ -123,11 +123,22 @@ workers_rule = record { key = codes "workers"; least = LEAST_WORKERS; most = MOS
 abbrev pub merge_rule : OptionRule
 merge_rule = record { key = codes "merge"; least = 0; most = MOST_MERGE; usual = USUAL_MERGE }
 
+abbrev pub shift_rule : OptionRule
+shift_rule = record { key = codes "shift"; least = 0; most = MOST_SHIFT; usual = USUAL_SHIFT }
+
 abbrev pub option_rules : List OptionRule
-option_rules = depth_rule ∷ budget_rule ∷ tries_rule ∷ workers_rule ∷ merge_rule ∷ []
+option_rules = depth_rule ∷ budget_rule ∷ tries_rule ∷ workers_rule ∷ merge_rule ∷ shift_rule ∷ []
 
 abbrev pub setting_keys : List Word
 setting_keys = map (λ (o : OptionRule). o.key) option_rules
+
+-- the options of a run
+abbrev pub run_keys : List Word
+run_keys = depth_rule.key ∷ budget_rule.key ∷ tries_rule.key ∷ workers_rule.key ∷ merge_rule.key ∷ []
+
+-- the option of windows
+abbrev pub window_keys : List Word
+window_keys = shift_rule.key ∷ []
 
 -- the options of a question that is refuted, and else searched
 abbrev pub question_keys : List Word
@@ -148,16 +159,19 @@ abbrev pub settings_of : List Part → Option Settings
 settings_of ps = together (value_in ps depth_rule) (value_in ps budget_rule) (value_in ps tries_rule) (value_in ps workers_rule)
 
 -- the settings and what the other options say, where each is there
-abbrev pub all_together : Option Settings → Option ℕ → Option Options
-all_together all_settings merges =
-    option_and_then (λ settings. option_map (λ merge. record { settings = settings; merge = merge }) merges) all_settings
+abbrev pub all_together : Option Settings → Option ℕ → Option ℕ → Option Options
+all_together all_settings merges shifts =
+    option_and_then (λ settings. option_and_then (λ merge. option_map (λ shift.
+    record { settings = settings; merge = merge; shift = shift })
+    shifts) merges) all_settings
 
 abbrev pub options_of : List Part → Option Options
-options_of ps = all_together (settings_of ps) (value_in ps merge_rule)
+options_of ps = all_together (settings_of ps) (value_in ps merge_rule) (value_in ps shift_rule)
 
 -- ---- the commands
 
--- a command with its names, its settings, and the number that `--merge` says: of `opt` the journal's name may be left out
+-- a command with its names, its settings, and the number that `--merge` says: of `opt` the journal's name may be left out; of `cut` the
+-- width of windows, and the number that `--shift` says
 pub data Asked : Type 0 where
   opt : Word → Word → Option Word → Settings → ℕ → Asked
   check : Word → Word → Word → Asked
@@ -169,6 +183,7 @@ pub data Asked : Type 0 where
   equal : Word → Word → Word → Settings → Asked
   judge : Word → Word → Word → Asked
   optcare : Word → Word → Word → Word → Settings → Asked
+  cut : Word → ℕ → Word → ℕ → Asked
 
 -- no two of the names are alike
 abbrev pub are_different : List Word → Bool
@@ -226,6 +241,30 @@ abbrev pub optcare_by : List Word → Options → Option Asked
 optcare_by (a ∷ b ∷ c ∷ d ∷ []) o = if are_different (a ∷ b ∷ c ∷ d ∷ []) then Some (optcare a b c d o.settings) else None
 optcare_by _ o = None
 
+-- what follows a prefix of the name, if it has that
+abbrev pub behind : Word → Word → Option Word
+behind [] text = Some text
+behind (p ∷ ps) [] = None
+behind (p ∷ ps) (b ∷ bs) = if b == p then behind ps bs else None
+
+-- decimal digits, at least one, and then the ending
+abbrev pub has_number_then : Word → Word → Bool
+has_number_then ending [] = false
+has_number_then ending (b ∷ bs) = nat_lt (digit_value b) 10 && (is_word bs ending || has_number_then ending bs)
+
+abbrev pub is_numbered : Option Word → Bool
+is_numbered None = false
+is_numbered (Some rest) = has_number_then (codes ".blif") rest
+
+-- the name is the prefix, a number and `.blif`
+abbrev pub is_window_file : Word → Word → Bool
+is_window_file prefix file = is_numbered (behind prefix file)
+
+-- a name, a number and a prefix; the name is none of those of the windows' files
+abbrev pub cut_by : List Word → Options → Option Asked
+cut_by (a ∷ b ∷ c ∷ []) o = if is_window_file c a then None else option_map (λ width. cut a width c o.shift) (number LEAST_WIDTH MOST_WIDTH b)
+cut_by _ o = None
+
 -- the word of a command, the keys of its options, and what its names and options ask for
 pub record CommandRule : Type 0 where
   pub word : Word
@@ -234,9 +273,9 @@ pub record CommandRule : Type 0 where
 
 abbrev pub command_rules : List CommandRule
 command_rules =
-    record { word = codes "opt"; keys = setting_keys; made = opt_by }
+    record { word = codes "opt"; keys = run_keys; made = opt_by }
     ∷ record { word = codes "check"; keys = []; made = check_by }
-    ∷ record { word = codes "demo"; keys = setting_keys; made = demo_by }
+    ∷ record { word = codes "demo"; keys = run_keys; made = demo_by }
     ∷ record { word = codes "flat"; keys = []; made = flat_by }
     ∷ record { word = codes "tests"; keys = []; made = tests_by }
     ∷ record { word = codes "replay"; keys = []; made = replay_by }
@@ -244,6 +283,7 @@ command_rules =
     ∷ record { word = codes "equal"; keys = question_keys; made = equal_by }
     ∷ record { word = codes "judge"; keys = []; made = judge_by }
     ∷ record { word = codes "optcare"; keys = question_keys; made = optcare_by }
+    ∷ record { word = codes "cut"; keys = window_keys; made = cut_by }
     ∷ []
 
 -- the command of a word

@@ -59,6 +59,14 @@ pub enum Command<'a> {
         tests: &'a str,
         settings: Settings,
     },
+    /// Makes one flat model of the input, cuts it into windows of about so many wires, the first of `shift` unless that is 0,
+    /// and writes each under the prefix, its number and `.blif`.
+    Cut {
+        input: &'a str,
+        width: u32,
+        prefix: &'a str,
+        shift: u32,
+    },
     /// Makes one flat model of the input, and writes it as the output.
     Flat {
         input: &'a str,

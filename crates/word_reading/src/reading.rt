@@ -5,14 +5,19 @@ ghost use Rattle.std.specs.String.{string_bytes};
 ghost use Rattle.clap.specs.Words.{first_of, found_of, rows_of};
 ghost use Rattle.clap.specs.Words.{fault_of, matches_of};
 ghost use Rattle.word_reading.specs.Commands.{HasNamesApart, HasSettingsInRange, asked_of};
-ghost use Rattle.word_reading.specs.Words.{are_different, asked, check_by, convert_by, demo_by, equal_by, flat_by, is_word, judge_by, number, opt_by, optcare_by, question_keys, replay_by, tests_by};
-ghost use Rattle.word_reading.specs.Inner.Commands.{command_in, has_only, names_in, number_at, options_in, settings_in, texts_of};
+ghost use Rattle.word_reading.specs.Words.{are_different, asked, check_by, convert_by, cut_by, demo_by, equal_by, flat_by, is_word, judge_by, number, opt_by, optcare_by, question_keys, replay_by, run_keys, tests_by, window_keys};
+ghost use Rattle.word_reading.specs.Inner.Commands.{command_in, has_only, names_in, number_at, options_in, settings_in, texts_of, within};
+ghost use Rattle.word_reading.specs.declared.options.TheConstants.{LEAST_WIDTH, MOST_WIDTH};
 ghost use Rattle.word_reading.specs.Inner.Judged.{accepted};
 ghost use Rattle.word_reading.specs.Inner.Program.{program as program_app};
 
 use crate::command::{Command, WordFault};
-use crate::options::{Options, USUAL_BUDGET, USUAL_DEPTH, USUAL_MERGE, USUAL_TRIES, USUAL_WORKERS};
+use crate::options::{
+    LEAST_WIDTH, MOST_WIDTH, Options, USUAL_BUDGET, USUAL_DEPTH, USUAL_MERGE, USUAL_SHIFT,
+    USUAL_TRIES, USUAL_WORKERS,
+};
 use crate::program::program;
+use crate::window_names::is_window_file;
 use clap::ArgMatches;
 use clap::error::ErrorKind;
 use rm_base::Settings;
@@ -47,6 +52,7 @@ fn read_options(given: &ArgMatches<'_>) -> Options
     Options {
         settings: settings(given),
         merge: byte_option(given, "merge").unwrap_or(USUAL_MERGE),
+        shift: word_option(given, "shift").unwrap_or(USUAL_SHIFT),
     }
 }
 
@@ -72,13 +78,35 @@ fn has_no_option(given: &ArgMatches<'_>) -> bool
         && !is_given(given, "tries")
         && !is_given(given, "workers")
         && !is_given(given, "merge")
+        && !is_given(given, "shift")
 }
 
 // Whether no option is there but those of a question that is refuted, and else searched.
 fn has_question_options(given: &ArgMatches<'_>) -> bool
     ensures { result ≡ has_only question_keys (rows_of (found_of given.now)) }
 {
-    !is_given(given, "tries") && !is_given(given, "workers") && !is_given(given, "merge")
+    !is_given(given, "tries")
+        && !is_given(given, "workers")
+        && !is_given(given, "merge")
+        && !is_given(given, "shift")
+}
+
+// Whether no option is there but those of a run.
+fn has_run_options(given: &ArgMatches<'_>) -> bool
+    ensures { result ≡ has_only run_keys (rows_of (found_of given.now)) }
+{
+    !is_given(given, "shift")
+}
+
+// Whether no option is there but that of windows.
+fn has_window_options(given: &ArgMatches<'_>) -> bool
+    ensures { result ≡ has_only window_keys (rows_of (found_of given.now)) }
+{
+    !is_given(given, "depth")
+        && !is_given(given, "budget")
+        && !is_given(given, "tries")
+        && !is_given(given, "workers")
+        && !is_given(given, "merge")
 }
 
 // The names of a command, in order; none stands behind one that is missing.
@@ -364,10 +392,61 @@ fn optcare<'a>(names: Positionals<'a>, options: Options) -> Option<Command<'a>>
     })
 }
 
-fn seed(text: &str) -> Option<u64>
+fn whole_number(text: &str) -> Option<u64>
     ensures { result ≡ number 0 (2 ^ 64 - 1) text.now }
 {
     text.parse::<u64>().ok()
+}
+
+// The number as a width, if it is one.
+fn as_width(number: u64) -> Option<u32>
+    ensures { result ≡ within LEAST_WIDTH MOST_WIDTH number }
+{
+    if number < u64::from(LEAST_WIDTH) {
+        return None;
+    }
+    if number > u64::from(MOST_WIDTH) {
+        return None;
+    }
+    Some(number as u32)
+}
+
+fn width(text: &str) -> Option<u32>
+    ensures { result ≡ number LEAST_WIDTH MOST_WIDTH text.now }
+{
+    match whole_number(text) {
+        Some(number) => as_width(number),
+        None => None,
+    }
+}
+
+fn cut<'a>(names: Positionals<'a>, options: Options) -> Option<Command<'a>>
+    ensures { option_map asked_of result ≡ cut_by (texts_of names.entry) options }
+{
+    let Some(input) = names.first else {
+        return None;
+    };
+    let Some(second) = names.second else {
+        return None;
+    };
+    let Some(prefix) = names.third else {
+        return None;
+    };
+    if names.fourth.is_some() {
+        return None;
+    }
+    if is_window_file(prefix.as_bytes(), input.as_bytes()) {
+        return None;
+    }
+    match width(second) {
+        Some(width) => Some(Command::Cut {
+            input,
+            width,
+            prefix,
+            shift: options.shift,
+        }),
+        None => None,
+    }
 }
 
 fn demo<'a>(names: Positionals<'a>, options: Options) -> Option<Command<'a>>
@@ -379,7 +458,7 @@ fn demo<'a>(names: Positionals<'a>, options: Options) -> Option<Command<'a>>
     if names.second.is_some() {
         return None;
     }
-    match seed(name) {
+    match whole_number(name) {
         Some(seed) => Some(Command::Demo {
             seed,
             settings: options.settings,
@@ -394,6 +473,9 @@ fn command<'a>(word: &str, given: &ArgMatches<'a>) -> Option<Command<'a>>
     ensures { option_map asked_of result ≡ command_in word.now (rows_of (found_of given.now)) }
 {
     if word == "opt" {
+        if !has_run_options(given) {
+            return None;
+        }
         opt(read_positionals(given), read_options(given))
     } else if word == "check" {
         if !has_no_option(given) {
@@ -401,6 +483,9 @@ fn command<'a>(word: &str, given: &ArgMatches<'a>) -> Option<Command<'a>>
         }
         check(read_positionals(given), read_options(given))
     } else if word == "demo" {
+        if !has_run_options(given) {
+            return None;
+        }
         demo(read_positionals(given), read_options(given))
     } else if word == "flat" {
         if !has_no_option(given) {
@@ -437,6 +522,11 @@ fn command<'a>(word: &str, given: &ArgMatches<'a>) -> Option<Command<'a>>
             return None;
         }
         optcare(read_positionals(given), read_options(given))
+    } else if word == "cut" {
+        if !has_window_options(given) {
+            return None;
+        }
+        cut(read_positionals(given), read_options(given))
     } else {
         None
     }

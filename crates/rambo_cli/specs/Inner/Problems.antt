@@ -89,6 +89,12 @@ FlatTextCause text (Limit quantity count) = ExceedsFlat text quantity count
 FlatTextCause text Memory = Unit {0}
 FlatTextCause text _ = ⊥
 
+-- why files aren't written
+abbrev pub StoreCause : ℕ → ℕ → Problem → Type 0
+StoreCause before now Fault = Rose before now
+StoreCause before now Memory = Unit {0}
+StoreCause before now _ = ⊥
+
 -- why a model isn't optimised
 abbrev pub ModelCause : Model → ℕ → ℕ → Problem → Type 0
 ModelCause m before now (Limit quantity count) = (quantity ≡ Pins) × ((count ≡ decomposed m) × (most_pins < decomposed m))

@@ -1,5 +1,5 @@
 -- Beside Commands.antt: what only private contracts, invariants and laws speak of.
-use Rattle.std.specs.Prelude.{◌^◌, ◌&&◌, ◌||◌, ℕ, Bool, not, Option, Some, None, is_some, List, [], ◌∷◌, map, if◌then◌else◌, nat_lt, codes, option_map, option_and_then, unwrap_or}
+use Rattle.std.specs.Prelude.{◌^◌, ◌&&◌, ◌||◌, ℕ, Bool, not, Option, Some, None, is_some, List, [], ◌∷◌, map, if◌then◌else◌, nat_le, nat_lt, codes, option_map, option_and_then, unwrap_or}
 use Rattle.std.specs.List.{list_all, list_any}
 use Rattle.std.specs.Str.Parse.{digits_value, without_leading_plus}
 use Rattle.clap.specs.ValueTests.{is_numeral}
@@ -8,7 +8,7 @@ use Rattle.rm_base.specs.declared.settings.Settings.{Settings}
 use Rattle.word_reading.specs.Words.{Asked, CommandRule, OptionRule, is_word, option_rules, rule_of}
 use Rattle.word_reading.specs.Inner.Program.{name_ids}
 use Rattle.word_reading.specs.declared.options.Options.{Options}
-use Rattle.word_reading.specs.declared.options.TheConstants.{USUAL_BUDGET, USUAL_DEPTH, USUAL_MERGE, USUAL_TRIES, USUAL_WORKERS}
+use Rattle.word_reading.specs.declared.options.TheConstants.{USUAL_BUDGET, USUAL_DEPTH, USUAL_MERGE, USUAL_SHIFT, USUAL_TRIES, USUAL_WORKERS}
 use Rattle.word_reading.specs.declared.reading.Positionals.{Positionals}
 
 -- the number of a text, where it has at most `bits` bits
@@ -32,7 +32,12 @@ abbrev pub options_in : List Row → Options
 options_in rows = record {
   settings = settings_in rows;
   merge = unwrap_or (number_at 8 (codes "merge") rows) USUAL_MERGE;
+  shift = unwrap_or (number_at 32 (codes "shift") rows) USUAL_SHIFT;
 }
+
+-- the number, if it is in the range
+abbrev pub within : ℕ → ℕ → ℕ → Option ℕ
+within low high n = if nat_le low n && nat_le n high then Some n else None
 
 -- what stands before the first that is missing
 abbrev pub up_to_none : {X : Type 0} → List (Option X) → List X

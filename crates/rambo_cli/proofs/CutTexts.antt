@@ -1,0 +1,177 @@
+-- From the windows of what was read to what `cut` says of the files.
+use Rattle.std.proofs.Common.{◌≡◌, ◌≤◌, ◌<◌, ◌+◌, ◌⊎◌, ℕ, zero, suc, List, [], ◌∷◌, ◌++◌, take, length, refl, sym, ◌∙◌, ap, subst, arith, inl, inr, Result, Ok, Err}
+use Rattle.std.specs.Prelude.{All, Option, None, Some, IfOk, IfSome, slice_get, slice_index_or}
+use Rattle.std.specs.Option.{option_map}
+use Rattle.std.proofs.lemmas.List.{take_all}
+use Rattle.std.proofs.lemmas.List.Elements.{All-weaker}
+use Rattle.rm_base.specs.Files.{Files, put_file}
+use Rattle.rm_base.specs.Words.{Word}
+use Rattle.rm_model.specs.declared.parts.Cover.{Cover}
+use Rattle.rm_model.specs.declared.parts.Model.{Model}
+use Rattle.blif_format.specs.Laws.{WrittenTextsRead}
+use Rattle.blif_format.specs.Text.{text_of}
+use Rattle.window_cut.specs.Laws.{IsSound}
+use Rattle.window_cut.specs.Cut.{windows as cut_windows}
+use Rattle.window_cut.specs.Windows.{models_from, window_models}
+use Rattle.rambo_cli.specs.Contract.{Caused}
+use Rattle.rambo_cli.specs.Cut.{BeginsCut, HasCut, HaveFirst, HavePart, IsCutInto, IsWindow, put_windows, signals_of, window_file}
+use Rattle.rambo_cli.specs.Files.{Holds, IfTold}
+use Rattle.rambo_cli.specs.Flat.{FlatFinds}
+use Rattle.rambo_cli.specs.Inner.Cut.{BeginsWindows, all_put}
+use Rattle.rambo_cli.specs.Inner.Files.{BeginsFile}
+use Rattle.rambo_cli.specs.Inner.Problems.{StoreCause}
+use Rattle.rambo_cli.specs.Problems.{KeepsFiles}
+use Rattle.rambo_cli.specs.declared.problem.Problem.{Problem}
+use Rattle.rambo_cli.specs.declared.problem.Problem.TheVariants.{Words, Text, Limit, Missing, Fault, Journal, Record, Netlist, Second, Unlike, CareShape, Proof, Memory}
+use Rattle.rambo_cli.proofs.Pieces.{held, shorter}
+
+cut_whole : (width shift : ℕ) (windows : List Model) (bytes : List ℕ) → IsCutInto (take 16777217 bytes) width shift windows → IsCutInto bytes width shift windows
+cut_whole width shift windows bytes h = subst (λ (text : List ℕ). IsCutInto text width shift windows) (shorter 16777216 bytes h.short) h
+
+-- the windows of what was read are those of the file
+pub cut_read : {V : Type 0} (items : V → List Model) (width shift : ℕ) (text : List ℕ) (files : Option Files) (name : Word) → IfSome files (λ told. Holds told name (λ bytes. text ≡ take 16777217 bytes))
+    → (r : Result V Problem) → IfOk r (λ w. IsCutInto text width shift (items w)) → IfOk r (λ w. IfSome files (λ told. Holds told name (λ bytes. IsCutInto bytes width shift (items w))))
+cut_read items width shift text files name found (Err p) h = tt
+cut_read items width shift text files name found (Ok w) h =
+    held (λ bytes. text ≡ take 16777217 bytes) (λ bytes. IsCutInto bytes width shift (items w))
+    (λ bytes e. cut_whole width shift (items w) bytes (subst (λ (t : List ℕ). IsCutInto t width shift (items w)) e h)) files name found
+
+-- ONE WINDOW AFTER THE OTHER
+next_taken : (ws : List Model) (k : ℕ) (w : Model) → slice_get ws k ≡ Some w → take (suc k) ws ≡ take k ws ++ w ∷ []
+next_taken [] k w e = cc
+next_taken (x ∷ xs) zero w e = let is : x ≡ w = cc in ap (λ y. y ∷ []) is
+next_taken (x ∷ xs) (suc k) w e = ap (λ ys. x ∷ ys) (next_taken xs k w e)
+
+taken_length : (ws : List Model) (k : ℕ) (w : Model) → slice_get ws k ≡ Some w → length (take k ws) ≡ k
+taken_length [] k w e = cc
+taken_length (x ∷ xs) zero w e = refl
+taken_length (x ∷ xs) (suc k) w e = ap suc (taken_length xs k w e)
+
+pub stands_there : (ws : List Model) (k : ℕ) (w : Model) → k < length ws → w ≡ slice_index_or ws k w → slice_get ws k ≡ Some w
+stands_there [] k w lt e = absurd (omega arith)
+stands_there (x ∷ xs) zero w lt e = ap Some (sym e)
+stands_there (x ∷ xs) (suc k) w lt e = stands_there xs k w (omega arith) e
+
+put_last : (prefix : Word) (k : ℕ) (ws : List Model) (w : Model) (files : Files) → put_windows prefix k (ws ++ w ∷ []) files ≡ put_file (window_file prefix (length ws + k)) (text_of w) (put_windows prefix k ws files)
+put_last prefix k [] w files = ap (λ (n : ℕ). put_file (window_file prefix n) (text_of w) files) (omega arith)
+put_last prefix k (x ∷ xs) w files =
+    put_last prefix (suc k) xs w (put_file (window_file prefix k) (text_of x) files)
+    ∙ ap (λ (n : ℕ). put_file (window_file prefix n) (text_of w) (put_windows prefix (suc k) xs (put_file (window_file prefix k) (text_of x) files))) (omega arith)
+
+-- with the window at a place written, one more is
+pub put_next : (prefix : Word) (ws : List Model) (k : ℕ) (w : Model) (files : Files) → slice_get ws k ≡ Some w
+    → put_windows prefix 1 (take (suc k) ws) files ≡ put_file (window_file prefix (k + 1)) (text_of w) (put_windows prefix 1 (take k ws) files)
+put_next prefix ws k w files e =
+    ap (λ (xs : List Model). put_windows prefix 1 xs files) (next_taken ws k w e) ∙ put_last prefix 1 (take k ws) w files
+    ∙ ap (λ (n : ℕ). put_file (window_file prefix (n + 1)) (text_of w) (put_windows prefix 1 (take k ws) files)) (taken_length ws k w e)
+
+abbrev pub first_put : Word → List Model → ℕ → Option Files → Option Files
+first_put prefix ws k files = option_map (put_windows prefix 1 (take k ws)) files
+
+pub none_put : (prefix : Word) (ws : List Model) (files : Option Files) → files ≡ first_put prefix ws 0 files
+none_put prefix ws None = refl
+none_put prefix ws (Some told) = ap (λ (xs : List Model). Some (put_windows prefix 1 xs told)) (none_taken ws)
+  where
+    none_taken : (ws : List Model) → [] ≡ take 0 ws
+    none_taken [] = refl
+    none_taken (x ∷ xs) = refl
+
+pub one_more : (prefix : Word) (ws : List Model) (k : ℕ) (w : Model) (old mid new : Option Files) → slice_get ws k ≡ Some w → mid ≡ first_put prefix ws k old
+    → new ≡ option_map (put_file (window_file prefix (k + 1)) (text_of w)) mid → new ≡ first_put prefix ws (k + 1) old
+one_more prefix ws k w None mid new there e f = f ∙ ap (option_map (put_file (window_file prefix (k + 1)) (text_of w))) e
+one_more prefix ws k w (Some told) mid new there e f =
+    f ∙ ap (option_map (put_file (window_file prefix (k + 1)) (text_of w))) e ∙ ap Some (sym (put_next prefix ws k w told there)) ∙ ap (λ (n : ℕ). first_put prefix ws n (Some told)) next
+  where
+    next : suc k ≡ k + 1
+    next = omega arith
+
+pub all_are_put : (prefix : Word) (ws : List Model) (k : ℕ) (old new : Option Files) → length ws ≤ k → new ≡ first_put prefix ws k old → new ≡ all_put prefix ws old
+all_are_put prefix ws k old new le e = e ∙ ap (λ (xs : List Model). option_map (put_windows prefix 1 xs) old) (take_all k ws le)
+
+pub begins_first : (prefix : Word) (ws : List Model) (k : ℕ) (old new : Option Files) → new ≡ first_put prefix ws k old → BeginsWindows prefix ws old new
+begins_first prefix ws k None new e = tt
+begins_first prefix ws k (Some told) new e =
+    subst (λ (o : Option Files). BeginsWindows prefix ws (Some told) o) (sym e) (inl (record { whole = k; files = refl }))
+
+pub begins_part : (prefix : Word) (ws : List Model) (k : ℕ) (w : Model) (old mid new : Option Files) → slice_get ws k ≡ Some w → mid ≡ first_put prefix ws k old
+    → BeginsFile (window_file prefix (k + 1)) (text_of w) mid new → BeginsWindows prefix ws old new
+begins_part prefix ws k w None mid new there e begun = tt
+begins_part prefix ws k w (Some told) mid new there e begun = elim begun [
+  | inl unchanged ↦ begins_first prefix ws k (Some told) new (unchanged ∙ e)
+  | inr part ↦
+      subst (λ (o : Option Files). BeginsWindows prefix ws (Some told) o)
+      (sym (part.1 ∙ ap (option_map (put_file (window_file prefix (k + 1)) (take part.0 (text_of w)))) e))
+      (inr (record { whole = k; window = w; next = there; count = part.0; files = refl }))
+]
+
+-- WHAT THE COMMAND SAYS
+pub store_keeps : (problem : Problem) (before now : ℕ) (old new : Option Files) → StoreCause before now problem → KeepsFiles problem old new
+store_keeps Fault before now old new h = tt
+store_keeps Memory before now old new h = tt
+store_keeps Words before now old new h = absurd h
+store_keeps (Text kind place) before now old new h = absurd h
+store_keeps (Limit quantity count) before now old new h = absurd h
+store_keeps Missing before now old new h = absurd h
+store_keeps (Journal f) before now old new h = absurd h
+store_keeps (Record r) before now old new h = absurd h
+store_keeps (Netlist byte) before now old new h = absurd h
+store_keeps (Second found) before now old new h = absurd h
+store_keeps (Unlike list at) before now old new h = absurd h
+store_keeps CareShape before now old new h = absurd h
+store_keeps (Proof found) before now old new h = absurd h
+
+pub store_found : (Finds : Problem → Type 0) (problem : Problem) (first before now : ℕ) → first ≤ before → StoreCause before now problem → Caused Finds first now problem
+store_found Finds Fault first before now le h = omega (arith, le, h)
+store_found Finds Memory first before now le h = tt
+store_found Finds Words first before now le h = absurd h
+store_found Finds (Text kind place) first before now le h = absurd h
+store_found Finds (Limit quantity count) first before now le h = absurd h
+store_found Finds Missing first before now le h = absurd h
+store_found Finds (Journal f) first before now le h = absurd h
+store_found Finds (Record r) first before now le h = absurd h
+store_found Finds (Netlist byte) first before now le h = absurd h
+store_found Finds (Second found) first before now le h = absurd h
+store_found Finds (Unlike list at) first before now le h = absurd h
+store_found Finds CareShape first before now le h = absurd h
+store_found Finds (Proof found) first before now le h = absurd h
+
+abbrev BeginsOrKeeps : Word → ℕ → Word → ℕ → Files → Files → Type 0
+BeginsOrKeeps input width prefix shift before after = (after ≡ before) ⊎ BeginsCut input width prefix shift before after
+
+pub cut_kept : (input : Word) (width : ℕ) (prefix : Word) (shift : ℕ) (old new : Option Files) → new ≡ old → IfTold old new (BeginsOrKeeps input width prefix shift)
+cut_kept input width prefix shift None new e = tt
+cut_kept input width prefix shift (Some told) new e = subst (λ (o : Option Files). IfTold (Some told) o (BeginsOrKeeps input width prefix shift)) (sym e) (inl refl)
+
+module _ (input : Word) (width : ℕ) (prefix : Word) (shift : ℕ) (windows : List Model) where
+  pub cut_written : (count signals : ℕ) → count ≡ length windows → signals ≡ signals_of windows → (old mid new : Option Files) → mid ≡ old
+      → IfSome old (λ told. Holds told input (λ text. IsCutInto text width shift windows)) → new ≡ all_put prefix windows mid → IfTold old new (HasCut input width prefix shift count signals)
+  cut_written count signals c s None mid new kept result e = tt
+  cut_written count signals c s (Some told) mid new kept result e =
+      subst (λ (o : Option Files). IfTold (Some told) o (HasCut input width prefix shift count signals)) (sym (e ∙ ap (all_put prefix windows) kept))
+      (record { windows = windows; result = result; counted = c; handed_on = s; files = refl })
+
+  pub cut_begun : (old mid new : Option Files) → mid ≡ old → IfSome old (λ told. Holds told input (λ text. IsCutInto text width shift windows)) → BeginsWindows prefix windows mid new
+      → IfTold old new (BeginsOrKeeps input width prefix shift)
+  cut_begun None mid new kept result begun = tt
+  cut_begun (Some told) mid new kept result begun = go new (subst (λ (o : Option Files). BeginsWindows prefix windows o new) kept begun)
+    where
+      go : (new : Option Files) → BeginsWindows prefix windows (Some told) new → IfTold (Some told) new (BeginsOrKeeps input width prefix shift)
+      go None h = absurd h
+      go (Some after) h = inr (record { windows = windows; result = result; begun = h })
+
+-- sound models can be written, and their texts say them
+pub windows_are : WrittenTextsRead → (width shift : ℕ) (m : Model) (windows : List Model) → windows ≡ window_models width shift m → All IsSound (window_models width shift m) → All IsWindow windows
+windows_are read width shift m windows e sound =
+    All-weaker IsSound IsWindow (λ w s. (s, (read w s.formed s.ranked).1)) windows (subst (All IsSound) (sym e) sound)
+
+pub each_read : {V : Type 0} (items : V → List Model) (width shift : ℕ) (text : List ℕ) (r : Result V Problem) → IfOk r (λ w. IsCutInto text width shift (items w)) → IfOk r (λ w. All IsWindow (items w))
+each_read items width shift text (Err p) h = tt
+each_read items width shift text (Ok w) h = h.each
+
+models_count : (m : Model) (all : List (List Cover)) (n : ℕ) (ws : List (List Cover)) → length (models_from m all n ws) ≡ length ws
+models_count m all n [] = refl
+models_count m all n (w ∷ ws) = ap suc (models_count m all (suc n) ws)
+
+-- there are as many models as windows
+pub windows_count : (width shift : ℕ) (m : Model) (models : List Model) → models ≡ window_models width shift m → length (cut_windows width shift m) ≡ length models
+windows_count width shift m models e = sym (models_count m (cut_windows width shift m) 1 (cut_windows width shift m)) ∙ ap (λ (xs : List Model). length xs) (sym e)

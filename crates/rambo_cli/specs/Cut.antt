@@ -1,0 +1,87 @@
+-- The command `cut IN WIDTH PREFIX`.
+use Rattle.std.specs.Prelude.{◌≡◌, ◌≤◌, ◌+◌, ◌⊎◌, ℕ, suc, List, [], ◌∷◌, ◌++◌, All, Option, None, Some, IsSomeAnd, codes, decimal, length, slice_get, take, true}
+use Rattle.rm_base.specs.Files.{Files, put_file}
+use Rattle.rm_base.specs.Words.{Word}
+use Rattle.rm_model.specs.declared.parts.Model.{Model}
+use Rattle.blif_lines.specs.Layout.{lines_of}
+use Rattle.blif_format.specs.Grammar.{Reads}
+use Rattle.blif_format.specs.Text.{text_of}
+use Rattle.blif_flatten.specs.Meant.{IsFlatModel}
+use Rattle.window_cut.specs.Laws.{IsSound}
+use Rattle.window_cut.specs.Windows.{window_models}
+use Rattle.rambo_cli.specs.Contract.{Contract}
+use Rattle.rambo_cli.specs.Files.{Holds, IfTold}
+use Rattle.rambo_cli.specs.Flat.{CanBeFlattened, FlatFinds}
+use Rattle.rambo_cli.specs.Written.{most_bytes}
+use Rattle.rambo_cli.specs.declared.work.Done.{Done}
+use Rattle.rambo_cli.specs.declared.work.Done.TheVariants.{Cut}
+
+-- the name of the file of a window
+abbrev pub window_file : Word → ℕ → Word
+window_file prefix k = prefix ++ (decimal k ++ codes ".blif")
+
+-- each window's text in its file; the first has the number k
+abbrev pub put_windows : Word → ℕ → List Model → Files → Files
+put_windows prefix k [] files = files
+put_windows prefix k (w ∷ ws) files = put_windows prefix (suc k) ws (put_file (window_file prefix k) (text_of w) files)
+
+-- how many signals the windows hand on, to other windows or to what is observed
+abbrev pub signals_of : List Model → ℕ
+signals_of [] = 0
+signals_of (w ∷ ws) = length w.outputs + signals_of ws
+
+-- a model that can be optimised by itself, and whose text says it
+abbrev pub IsWindow : Model → Type 0
+IsWindow w = IsSound w × Reads (lines_of (text_of w)) w
+
+-- the windows of the text's flat model
+pub record IsCutInto (text : List ℕ) (width shift : ℕ) (windows : List Model) : Type 0 where
+  pub short : length text ≤ most_bytes
+  pub model : Model
+  pub instances : ℕ
+  pub flat : IsFlatModel text model instances
+  pub are : windows ≡ window_models width shift model
+  pub each : All IsWindow windows
+
+-- each window of the input's text stands in its file, and all other files are as before
+pub record HasCut (input : Word) (width : ℕ) (prefix : Word) (shift count signals : ℕ) (old new : Files) : Type 0 where
+  pub windows : List Model
+  pub result : Holds old input (λ text. IsCutInto text width shift windows)
+  pub counted : count ≡ length windows
+  pub handed_on : signals ≡ signals_of windows
+  pub files : new ≡ put_windows prefix 1 windows old
+
+abbrev pub CutDoes : Word → ℕ → Word → ℕ → Option Files → Option Files → Done → Type 0
+CutDoes input width prefix shift old new (Cut count signals) = IfTold old new (HasCut input width prefix shift count signals)
+CutDoes input width prefix shift old new _ = ⊥
+
+-- the first windows stand in their files, and of the next one a beginning does
+pub record HavePart (prefix : Word) (windows : List Model) (old new : Files) : Type 0 where
+  pub whole : ℕ
+  pub window : Model
+  pub next : slice_get windows whole ≡ Some window
+  pub count : ℕ
+  pub files : new ≡ put_file (window_file prefix (whole + 1)) (take count (text_of window)) (put_windows prefix 1 (take whole windows) old)
+
+-- so many of the windows stand in their files
+pub record HaveFirst (prefix : Word) (windows : List Model) (old new : Files) : Type 0 where
+  pub whole : ℕ
+  pub files : new ≡ put_windows prefix 1 (take whole windows) old
+
+-- some windows of the input's text stand in their files
+pub record BeginsCut (input : Word) (width : ℕ) (prefix : Word) (shift : ℕ) (old new : Files) : Type 0 where
+  pub windows : List Model
+  pub result : Holds old input (λ text. IsCutInto text width shift windows)
+  pub begun : HaveFirst prefix windows old new ⊎ HavePart prefix windows old new
+
+-- the input's text has a flat model, or what is found of it is what `flat` finds
+abbrev pub cut_contract : Word → ℕ → Word → ℕ → Contract
+cut_contract input width prefix shift = record {
+  Does = CutDoes input width prefix shift;
+  Finds = FlatFinds input;
+  Leaves = λ old new. IfTold old new (λ before after. (after ≡ before) ⊎ BeginsCut input width prefix shift before after);
+  needs_files = true;
+  IsGood = λ files. IsSomeAnd files (λ told. Holds told input CanBeFlattened);
+  IsJudged = λ files. ⊥;
+  IsCompared = λ files. ⊥;
+}

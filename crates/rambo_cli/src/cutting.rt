@@ -1,0 +1,182 @@
+//! The command `cut`.
+ghost use Rattle.std.specs.Prelude.{◌≡◌, ◌≤◌, ◌⊎◌, All, IfErr, IfOk, IfSome, OnOk, length};
+ghost use Rattle.std.specs.Option.{option_map};
+ghost use Rattle.std.specs.String.{string_bytes};
+ghost use Rattle.rm_base.specs.Files.{put_file};
+ghost use Rattle.blif_format.specs.Text.{text_of};
+ghost use Rattle.rambo_cli.specs.Contract.{Caused};
+ghost use Rattle.rambo_cli.specs.Cut.{BeginsCut, HasCut, IsCutInto, IsWindow, signals_of, window_file};
+ghost use Rattle.rambo_cli.specs.Files.{Holds, IfTold};
+ghost use Rattle.rambo_cli.specs.Flat.{FlatFinds};
+ghost use Rattle.rambo_cli.specs.Inner.Cut.{BeginsWindows, all_put};
+ghost use Rattle.rambo_cli.specs.Inner.Files.{BeginsFile};
+ghost use Rattle.rambo_cli.specs.Inner.Problems.{FlatTextCause, StoreCause};
+ghost use Rattle.rambo_cli.specs.Problems.{KeepsFiles};
+
+use crate::optimising::replace;
+use crate::problem::Problem;
+use crate::reading::{MOST_BYTES, bytes_of};
+use blif_flatten::flatten;
+use blif_format::Quantity;
+use blif_writer::{write_model, written_texts_read};
+use rm_base::{NoMemory, Shelf};
+use rm_model::{Model, NameKeys};
+use std::alloc::Global;
+use window_cut::{cut, windows_are_models};
+
+// The windows of a text of at most 16,777,216 bytes.
+fn windows_of_short(
+    alloc: Global,
+    keys: NameKeys,
+    text: &[u8],
+    width: u32,
+    shift: u32,
+) -> Result<Vec<Model>, Problem>
+    requires { length text.now ≤ 16777216 }
+    ensures cut { IfOk result (λ windows. IsCutInto text.now width shift windows.items) }
+    ensures cause { IfErr result (FlatTextCause text.now) }
+{
+    windows_are_models();
+    written_texts_read();
+    let flat = match flatten(alloc, keys, text) {
+        Ok(flat) => flat,
+        Err(refusal) => return Err(Problem::from(refusal)),
+    };
+    let windows = cut(alloc, keys, &flat.model, width, shift)?;
+    Ok(windows)
+}
+
+// The windows of a text.
+fn windows_of_text(
+    alloc: Global,
+    keys: NameKeys,
+    text: &[u8],
+    width: u32,
+    shift: u32,
+) -> Result<Vec<Model>, Problem>
+    ensures cut { IfOk result (λ windows. IsCutInto text.now width shift windows.items) }
+    ensures cause { IfErr result (FlatTextCause text.now) }
+{
+    if text.len() > MOST_BYTES {
+        return Err(Problem::Limit {
+            quantity: Quantity::Text,
+            count: 16_777_217,
+        });
+    }
+    windows_of_short(alloc, keys, text, width, shift)
+}
+
+// The windows of the input.
+fn windows_of_input<S: Shelf>(
+    alloc: Global,
+    keys: NameKeys,
+    shelf: &mut S,
+    input: &str,
+    width: u32,
+    shift: u32,
+) -> Result<Vec<Model>, Problem>
+    ensures cut { IfOk result (λ windows. IfSome (S.files shelf.old) (λ told. Holds told input.now (λ text. IsCutInto text width shift windows.items))) }
+    ensures each { IfOk result (λ windows. All IsWindow windows.items) }
+    ensures cause { IfErr result (Caused (FlatFinds input.now (S.files shelf.old)) (S.faults shelf.old) (S.faults shelf.new)) }
+    ensures files { S.files shelf.new ≡ S.files shelf.old }
+    ensures later { S.faults shelf.old ≤ S.faults shelf.new }
+{
+    let text = bytes_of(shelf, input, MOST_BYTES + 1)?;
+    windows_of_text(alloc, keys, text.as_slice(), width, shift)
+}
+
+// The name of a window's file.
+fn window_name(alloc: Global, prefix: &str, number: usize) -> Result<String, NoMemory>
+    ensures { IfOk result (λ name. string_bytes name ≡ window_file prefix.now number) }
+{
+    Ok(format!(in alloc; "{prefix}{number}.blif")?)
+}
+
+// Writes the text of a window to its file.
+fn write_window<S: Shelf>(
+    alloc: Global,
+    shelf: &mut S,
+    prefix: &str,
+    number: usize,
+    window: &Model,
+) -> Result<(), Problem>
+    requires { IsWindow window.now }
+    ensures done { OnOk result (S.files shelf.new ≡ option_map (put_file (window_file prefix.now number) (text_of window.now)) (S.files shelf.old)) }
+    ensures begun { BeginsFile (window_file prefix.now number) (text_of window.now) (S.files shelf.old) (S.files shelf.new) }
+    ensures cause { IfErr result (StoreCause (S.faults shelf.old) (S.faults shelf.new)) }
+    ensures later { S.faults shelf.old ≤ S.faults shelf.new }
+{
+    let name = window_name(alloc, prefix, number)?;
+    let text = write_model(alloc, window)?;
+    replace(shelf, name.as_str(), text.as_slice())?;
+    Ok(())
+}
+
+// Writes the text of each window to its file, in order.
+fn write_windows<S: Shelf>(
+    alloc: Global,
+    shelf: &mut S,
+    prefix: &str,
+    windows: &[Model],
+) -> Result<(), Problem>
+    requires { All IsWindow windows.now }
+    ensures done { OnOk result (S.files shelf.new ≡ all_put prefix.now windows.now (S.files shelf.old)) }
+    ensures begun { BeginsWindows prefix.now windows.now (S.files shelf.old) (S.files shelf.new) }
+    ensures cause { IfErr result (StoreCause (S.faults shelf.old) (S.faults shelf.new)) }
+    ensures later { S.faults shelf.old ≤ S.faults shelf.new }
+{
+    for place in 0..windows.len() {
+        write_window(alloc, shelf, prefix, place + 1, &windows[place])?;
+    }
+    Ok(())
+}
+
+// How many signals the windows hand on.
+fn count_signals(windows: &[Model]) -> Result<u64, NoMemory>
+    ensures { IfOk result (λ count. count ≡ signals_of windows.now) }
+{
+    let mut count = 0u64;
+    let mut left = windows;
+    while let Some((window, rest)) = left.split_first() {
+        match count.checked_add(window.outputs.len() as u64) {
+            Some(sum) => count = sum,
+            // No memory holds so many.
+            None => return Err(NoMemory),
+        }
+        left = rest;
+    }
+    Ok(count)
+}
+
+/// What `cut` has made: so many windows, which hand on so many signals.
+#[derive(Clone, Copy, Debug)]
+pub(crate) struct CutCounts {
+    pub(crate) windows: u64,
+    pub(crate) signals: u64,
+}
+
+/// Cuts the flat model of the input into windows of about so many wires, the first of `shift` unless that is 0, and writes
+/// each under the prefix, its number and `.blif`.
+pub(crate) fn cut_input<S: Shelf>(
+    alloc: Global,
+    keys: NameKeys,
+    shelf: &mut S,
+    input: &str,
+    width: u32,
+    prefix: &str,
+    shift: u32,
+) -> Result<CutCounts, Problem>
+    ensures done { IfOk result (λ c. IfTold (S.files shelf.old) (S.files shelf.new) (HasCut input.now width prefix.now shift c.windows c.signals)) }
+    ensures cause { IfErr result (Caused (FlatFinds input.now (S.files shelf.old)) (S.faults shelf.old) (S.faults shelf.new)) }
+    ensures unchanged { IfErr result (λ problem. KeepsFiles problem (S.files shelf.old) (S.files shelf.new)) }
+    ensures safe { IfTold (S.files shelf.old) (S.files shelf.new) (λ before after. (after ≡ before) ⊎ BeginsCut input.now width prefix.now shift before after) }
+    ensures later { S.faults shelf.old ≤ S.faults shelf.new }
+{
+    let windows = windows_of_input(alloc, keys, shelf, input, width, shift)?;
+    let signals = count_signals(windows.as_slice())?;
+    write_windows(alloc, shelf, prefix, windows.as_slice())?;
+    Ok(CutCounts {
+        windows: windows.len() as u64,
+        signals,
+    })
+}

@@ -1,0 +1,15 @@
+pub mod Members
+pub mod Leads
+pub mod Tokens
+pub mod Stages
+pub mod Values
+pub mod Outputs
+pub mod Ranks
+pub mod Formed
+pub mod Composed
+pub mod Marks
+pub mod Counts
+pub mod Taken
+pub mod Needed
+pub mod Wires
+pub mod Public

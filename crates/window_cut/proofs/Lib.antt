@@ -1,0 +1,15 @@
+pub mod Cuts
+pub mod Fits
+pub mod Fuel
+pub mod Grown
+pub mod Heights
+pub mod Inputs
+pub mod Lists
+pub mod Models
+pub mod Ordered
+pub mod Outputs
+pub mod Public
+pub mod Reading
+pub mod Sound
+pub mod Tokens
+pub mod Walks

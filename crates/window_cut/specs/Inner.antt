@@ -1,0 +1,6 @@
+-- Definitions that no public contract reaches: words of private contracts, of invariants, and of laws for proofs.
+pub mod Falling
+pub mod Models
+pub mod Places
+pub mod Walk
+pub mod Weights
