@@ -72,3 +72,11 @@ lane_tests net fault vector words i found lt size same tells =
       λ t. record { size = size; detects = subst (λ (a : ℕ → Bool). Detects net fault a) same (here.0 (subst IsTrue test t)) },
       λ h. subst IsTrue (sym test) (here.1 (subst (λ (a : ℕ → Bool). Detects net fault a) (sym same) h.detects)),
     )
+
+-- whether the fault is detected in the lane says whether the vector does
+pub detects_tests : (net : Net) (fault : Fault) (vector : List Bool) (words : List ℕ) (i : ℕ) (found : Bool) → length vector ≡ source_count net → assignment words i ≡ assigned vector
+    → IsTrue found ↔ Detects net fault (assignment words i) → IsTrue found ↔ IsTest net fault vector
+detects_tests net fault vector words i found size same tells = (
+  λ t. record { size = size; detects = subst (λ (a : ℕ → Bool). Detects net fault a) same (tells.0 t) },
+  λ h. tells.1 (subst (λ (a : ℕ → Bool). Detects net fault a) (sym same) h.detects),
+)

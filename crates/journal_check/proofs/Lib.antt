@@ -12,3 +12,5 @@ pub mod WithinLaws
 pub mod DecompositionLaws
 pub mod Public
 pub mod BatchLaws
+pub mod PassingLaws
+pub mod TracingLaws

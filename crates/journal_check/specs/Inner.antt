@@ -3,5 +3,6 @@ pub mod Batches
 pub mod Benches
 pub mod Replaying
 pub mod Standing
+pub mod Tracing
 pub mod Vectors
 pub mod Within

@@ -1,12 +1,16 @@
 // Vectors that were simulated, 64 at a time.
-ghost use Rattle.std.specs.Prelude.{◌≡◌, ◌<◌, ◌↔◌, IsTrue, IfOk, IfSome, Some, length, slice_get};
+ghost use Rattle.std.specs.Prelude.{◌≡◌, ◌<◌, ◌↔◌, IsTrue, IfOk, IfSome, List, Some, length, slice_get, ℕ};
 ghost use Rattle.std.specs.List.{AllByRecursion};
 ghost use Rattle.gate_graph.specs.Circuit.{net_of};
 ghost use Rattle.gate_net.specs.Net.{Net, source_count};
 ghost use Rattle.gate_net.specs.Faults.{IsTest};
+ghost use Rattle.gate_net.specs.Values.{Detects};
+ghost use Rattle.fault_sim.specs.Words.{assignment};
 ghost use Rattle.journal_check.specs.Inner.Batches.{IsBatch, IsLaneOf};
+ghost use Rattle.journal_check.specs.Inner.Tracing.{AreShown};
 ghost use Rattle.journal_check.specs.declared.batches.Batch.{Batch as BatchValue};
 
+use crate::showing::{detects_in, none_shown};
 use fault_sim::Lanes;
 use gate_graph::{Graph, Question};
 use rm_base::{NoMemory, Vector};
@@ -18,6 +22,8 @@ use std::collections::BTreeMap;
 pub(crate) struct Batch {
     pub(crate) lanes: Lanes,
     pub(crate) words: Vec<u64>,
+    // of each node, the lanes in which its change is known to be seen
+    pub(crate) shown: Vec<u64>,
 }
 
 /// Where a vector stands: its batch, and its bit in the words.
@@ -34,6 +40,9 @@ pub(crate) struct Batches {
     pub(crate) kept: Vec<Batch>,
     // the batch that is made next, in place of the oldest where there are enough
     next: usize,
+    // the batch that was made last, and how many of its lanes are taken
+    last: usize,
+    taken: u32,
     places: BTreeMap<u64, LanePlace>,
 }
 
@@ -78,6 +87,28 @@ fn add_lane(words: &mut Vec<u64>, lane: u32, vector: &[bool])
     }
 }
 
+// Whether the fault is detected in a lane of the batch.
+fn detects_by(batch: &mut Batch, question: &Question<'_>, lane: u32) -> bool
+    requires lane { lane < 64 }
+    requires batch { IsBatch (net_of question.now.graph.now) batch.old }
+    ensures found { IsTrue result ↔ Detects (net_of question.now.graph.now) question.now.fault (assignment batch.old.words.items lane) }
+    ensures batch { IsBatch (net_of question.now.graph.now) batch.new }
+{
+    detects_in(&mut batch.lanes, &mut batch.shown, question, lane)
+}
+
+// Simulates other words in the lanes of a batch.
+fn renew(batch: &mut Batch, graph: &Graph, words: Vec<u64>, shown: Vec<u64>)
+    requires batch { IsBatch (net_of graph.now) batch.old }
+    requires size { length words.items ≡ length batch.old.words.items }
+    requires shown { (net : Net) (ws : List ℕ) → AreShown net ws shown.items }
+    ensures { IsBatch (net_of graph.now) batch.new }
+{
+    batch.lanes.simulate64(graph, words.as_slice());
+    batch.words = words;
+    batch.shown = shown;
+}
+
 impl Batches {
     /// No vectors yet.
     pub(crate) fn new(alloc: Global) -> Batches
@@ -87,6 +118,8 @@ impl Batches {
             alloc,
             kept: Vec::new(alloc),
             next: 0,
+            last: 0,
+            taken: 0,
             places: BTreeMap::new(alloc),
         }
     }
@@ -107,28 +140,58 @@ impl Batches {
         Some(place)
     }
 
+    // Whether a vector with that signature was put into a lane, be it of the batch that is being made.
+    fn stands(&self, key: u64, batch: usize, vector: &[bool]) -> bool {
+        let Some(place) = self.places.get(&key).copied() else {
+            return false;
+        };
+        if place.batch == batch {
+            return place.lane < self.taken;
+        }
+        if place.lane >= 64 || place.batch >= self.kept.len() {
+            return false;
+        }
+        is_in_lane(self.kept[place.batch].words.as_slice(), place.lane, vector)
+    }
+
+    // Puts a vector into the next lane of a batch's words, if there is one.
+    fn take_lane(
+        &mut self,
+        words: &mut Vec<u64>,
+        batch: usize,
+        key: u64,
+        vector: &[bool],
+    ) -> Result<(), NoMemory>
+        ensures kept { self.new.kept ≡ self.old.kept }
+        ensures words { length words.new.items ≡ length words.old.items }
+    {
+        let lane = self.taken;
+        if lane < 64 {
+            add_lane(words, lane, vector);
+            self.places.insert(key, LanePlace { batch, lane })?;
+            self.taken = lane + 1;
+        }
+        Ok(())
+    }
+
     // The words of a batch with that vector and others that were not simulated yet, and where they stand from now on.
     fn gather(
         &mut self,
+        words: &[u64],
         batch: usize,
         vector: &[bool],
         ahead: &[Vector],
     ) -> Result<Vec<u64>, NoMemory>
         ensures kept { self.new.kept ≡ self.old.kept }
-        ensures words { IfOk result (λ w. length w.items ≡ length vector.now) }
+        ensures words { IfOk result (λ w. length w.items ≡ length words.now) }
     {
-        let mut words = vec![in self.alloc; 0u64; vector.len()]?;
-        add_lane(&mut words, 0, vector);
-        self.places
-            .insert(signature(vector), LanePlace { batch, lane: 0 })?;
-        let mut lane = 1;
+        let mut words = Vec::from_slice(self.alloc, words)?;
+        self.take_lane(&mut words, batch, signature(vector), vector)?;
         for other in ahead {
-            if lane < 64 && other.len() == vector.len() {
+            if self.taken < 64 && other.len() == words.len() {
                 let key = signature(other.values());
-                if !self.places.contains_key(&key) {
-                    add_lane(&mut words, lane, other.values());
-                    self.places.insert(key, LanePlace { batch, lane })?;
-                    lane += 1;
+                if !self.stands(key, batch, other.values()) {
+                    self.take_lane(&mut words, batch, key, other.values())?;
                 }
             }
         }
@@ -152,6 +215,40 @@ impl Batches {
         Ok(())
     }
 
+    // A batch of that vector and others.
+    fn add(&mut self, graph: &Graph, vector: &[bool], ahead: &[Vector]) -> Result<(), NoMemory>
+        requires batches { AllByRecursion (IsBatch (net_of graph.now)) self.old.kept.items }
+        requires size { length vector.now ≡ source_count (net_of graph.now) }
+        ensures batches { AllByRecursion (IsBatch (net_of graph.now)) self.new.kept.items }
+    {
+        let none = vec![in self.alloc; 0u64; vector.len()]?;
+        self.last = self.next;
+        self.taken = 0;
+        let words = self.gather(none.as_slice(), self.next, vector, ahead)?;
+        let mut lanes = Lanes::new(self.alloc, graph)?;
+        lanes.simulate64(graph, words.as_slice());
+        let shown = none_shown(self.alloc, graph)?;
+        self.keep(Batch {
+            lanes,
+            words,
+            shown,
+        })
+    }
+
+    // More vectors in the batch that was made last.
+    fn extend(&mut self, graph: &Graph, vector: &[bool], ahead: &[Vector]) -> Result<(), NoMemory>
+        requires last { self.old.last < length self.old.kept.items }
+        requires batches { AllByRecursion (IsBatch (net_of graph.now)) self.old.kept.items }
+        ensures batches { AllByRecursion (IsBatch (net_of graph.now)) self.new.kept.items }
+    {
+        let last = self.last;
+        let shown = none_shown(self.alloc, graph)?;
+        let before = Vec::from_slice(self.alloc, self.kept[last].words.as_slice())?;
+        let words = self.gather(before.as_slice(), last, vector, ahead)?;
+        renew(&mut self.kept[last], graph, words, shown);
+        Ok(())
+    }
+
     /// Simulates the vector, and with it others that are likely to follow.
     pub(crate) fn simulate(
         &mut self,
@@ -163,10 +260,10 @@ impl Batches {
         requires size { length vector.now ≡ source_count (net_of graph.now) }
         ensures batches { AllByRecursion (IsBatch (net_of graph.now)) self.new.kept.items }
     {
-        let words = self.gather(self.next, vector, ahead)?;
-        let mut lanes = Lanes::new(self.alloc, graph)?;
-        lanes.simulate64(graph, words.as_slice());
-        self.keep(Batch { lanes, words })
+        if self.taken < 64 && self.last < self.kept.len() {
+            return self.extend(graph, vector, ahead);
+        }
+        self.add(graph, vector, ahead)
     }
 
     /// Whether the vector detects the fault, if it was simulated.
@@ -177,7 +274,7 @@ impl Batches {
         ensures found { IfSome result (λ found. IsTrue found ↔ IsTest (net_of question.now.graph.now) question.now.fault vector.now) }
     {
         let place = self.place_of(vector)?;
-        let found = self.kept[place.batch].lanes.detect(question);
-        Some((found >> place.lane) & 1 == 1)
+        let batch = &mut self.kept[place.batch];
+        Some(detects_by(batch, question, place.lane))
     }
 }

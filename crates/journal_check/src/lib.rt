@@ -9,6 +9,8 @@ mod laws;
 mod refusal;
 mod replaying;
 mod settling;
+mod showing;
+mod tracing;
 mod trying;
 mod whole;
 

@@ -1,0 +1,20 @@
+-- The windows that are cut of a model are windows that can be sewn.
+use Rattle.std.specs.Prelude.{◌<◌, ◌^◌, ℕ, List, length}
+use Rattle.rm_model.specs.Value.{IsRanked}
+use Rattle.rm_model.specs.WellFormed.{IsWellFormed}
+use Rattle.rm_model.specs.declared.parts.Model.{Model}
+use Rattle.sewing.specs.Windows.{IsWindowed}
+use Rattle.sewing.specs.Sewn.{sewn}
+use Rattle.sewing.specs.Laws.{AreFew, AreParts, IsReplacement}
+use Rattle.window_cut.specs.Windows.{window_models}
+
+abbrev pub CutsCanBeSewn : Type 0
+CutsCanBeSewn =
+    (width shift : ℕ) (m : Model) → IsWellFormed m → IsRanked m → length (window_models width shift m) < 2 ^ 64
+    → IsWindowed m (window_models width shift m)
+
+-- what is sewn of replacements for the windows of a cut computes what the model does
+abbrev pub CutsCompose : Type 0
+CutsCompose =
+    (width shift : ℕ) (m : Model) (parts : List Model) → IsWellFormed m → IsRanked m → length (window_models width shift m) < 2 ^ 64
+    → AreParts (window_models width shift m) parts → AreFew m parts → IsReplacement m (sewn m parts)
