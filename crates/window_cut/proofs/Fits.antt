@@ -13,7 +13,8 @@ use Rattle.cover_decompose.proofs.Public.{among_in, in_among}
 use Rattle.cover_decompose.specs.Needed.{IsNeeded, observed}
 use Rattle.window_cut.proofs.Lists.{outputs-joined}
 use Rattle.window_cut.proofs.Ordered.{distinct_join, not_among}
-use Rattle.window_cut.proofs.Reading.{Reading, reading_before, reading_parts, reading_within}
+use Rattle.window_cut.specs.Inner.Reading.{Reading}
+use Rattle.window_cut.proofs.Reading.{reading_before, reading_parts, reading_within}
 use Rattle.window_cut.specs.Cut.{joined}
 use Rattle.window_cut.specs.Laws.{AreInOrder, FitTogether, IsGivenOnce, IsReadElsewhere, outputs_before}
 use Rattle.window_cut.specs.Windows.{new_names, read_names, wanted_names, window_inputs, window_outputs}

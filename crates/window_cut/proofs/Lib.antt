@@ -8,7 +8,6 @@ pub mod Lists
 pub mod Models
 pub mod Ordered
 pub mod Outputs
-pub mod Public
 pub mod Reading
 pub mod Sound
 pub mod Tokens

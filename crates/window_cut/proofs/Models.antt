@@ -11,7 +11,8 @@ use Rattle.rm_model.specs.declared.parts.Model.{Model}
 use Rattle.cover_decompose.proofs.Public.{among_in, in_among}
 use Rattle.window_cut.proofs.Fits.{given_once, in_flat, new_read, new_unknown, wanted_input, windows_reading}
 use Rattle.window_cut.proofs.Ordered.{output_cover, seen_driven}
-use Rattle.window_cut.proofs.Reading.{Reading, reading_parts, reading_within}
+use Rattle.window_cut.specs.Inner.Reading.{Reading}
+use Rattle.window_cut.proofs.Reading.{reading_parts, reading_within}
 use Rattle.window_cut.proofs.Sound.{all_pass}
 use Rattle.window_cut.specs.Cut.{joined}
 use Rattle.window_cut.specs.Laws.{AreInOrder, ReadKnown, model_covers, model_outputs}

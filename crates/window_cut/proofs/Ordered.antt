@@ -18,7 +18,8 @@ use Rattle.cover_decompose.proofs.Public.{among_in, in_among}
 use Rattle.cover_decompose.specs.Needed.{IsNeeded, observed, read}
 use Rattle.window_cut.proofs.Grown.{Grown, start, grow, post_order-visits}
 use Rattle.window_cut.proofs.Lists.{covers_at-push, outputs-joined}
-use Rattle.window_cut.proofs.Reading.{Reading, before_reading, reading_append}
+use Rattle.window_cut.specs.Inner.Reading.{Reading}
+use Rattle.window_cut.proofs.Reading.{before_reading, reading_append}
 use Rattle.window_cut.specs.Inner.Falling.{Falls}
 use Rattle.window_cut.specs.Laws.{AreInOrder}
 use Rattle.window_cut.specs.Order.{covers_at, ordered_covers, post_order}

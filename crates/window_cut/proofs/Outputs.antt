@@ -15,7 +15,8 @@ use Rattle.window_cut.proofs.Cuts.{HasLast}
 use Rattle.window_cut.proofs.Fits.{in_flat, in_joined, joined_in, one_window, outputs-window, read_new, windows_reading}
 use Rattle.window_cut.proofs.Lists.{outputs-joined}
 use Rattle.window_cut.proofs.Ordered.{distinct_join, in_read}
-use Rattle.window_cut.proofs.Reading.{Reading, reading_parts}
+use Rattle.window_cut.specs.Inner.Reading.{Reading}
+use Rattle.window_cut.proofs.Reading.{reading_parts}
 use Rattle.window_cut.specs.Cut.{joined}
 use Rattle.window_cut.specs.Laws.{AreInOrder}
 use Rattle.window_cut.specs.Windows.{read_names, wanted_names, window_inputs, window_outputs}

@@ -6,12 +6,8 @@ use Rattle.rm_base.specs.Members.{In}
 use Rattle.rm_base.specs.Words.{Word}
 use Rattle.rm_model.specs.Value.{outputs_of}
 use Rattle.rm_model.specs.declared.parts.Cover.{Cover}
+use Rattle.window_cut.specs.Inner.Reading.{Reading}
 use Rattle.window_cut.specs.Windows.{read_names}
-
--- each cover reads names that are there, or that covers before it give
-abbrev pub Reading : List Word → List Cover → Type 0
-Reading there [] = Unit {0}
-Reading there (c ∷ cs) = ((x : Word) → In c.inputs x → In there x) × Reading (there ++ c.output ∷ []) cs
 
 pub reading_append : (there : List Word) (cs ds : List Cover) → Reading there cs → Reading (there ++ outputs_of cs) ds → Reading there (cs ++ ds)
 reading_append there [] ds r s = subst (λ (l : List Word). Reading l ds) (append-nil there) s

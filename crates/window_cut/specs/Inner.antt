@@ -2,5 +2,6 @@
 pub mod Falling
 pub mod Models
 pub mod Places
+pub mod Reading
 pub mod Walk
 pub mod Weights
