@@ -10,7 +10,7 @@ use Rattle.rm_model.specs.declared.parts.Cover.{Cover}
 use Rattle.rm_model.specs.declared.parts.Model.{Model}
 use Rattle.blif_format.specs.Laws.{WrittenTextsRead}
 use Rattle.blif_format.specs.Text.{text_of}
-use Rattle.window_cut.specs.Laws.{IsSound}
+use Rattle.window_cut.specs.Laws.{IsStandalone}
 use Rattle.window_cut.specs.Cut.{windows as cut_windows}
 use Rattle.window_cut.specs.Windows.{models_from, window_models}
 use Rattle.rambo_cli.specs.Contract.{Caused}
@@ -159,10 +159,10 @@ module _ (input : Word) (width : ℕ) (prefix : Word) (shift : ℕ) (windows : L
       go None h = absurd h
       go (Some after) h = inr (record { windows = windows; result = result; begun = h })
 
--- sound models can be written, and their texts say them
-pub windows_are : WrittenTextsRead → (width shift : ℕ) (m : Model) (windows : List Model) → windows ≡ window_models width shift m → All IsSound (window_models width shift m) → All IsWindow windows
-windows_are read width shift m windows e sound =
-    All-weaker IsSound IsWindow (λ w s. (s, (read w s.formed s.ranked).1)) windows (subst (All IsSound) (sym e) sound)
+-- standalone models can be written, and their texts say them
+pub windows_are : WrittenTextsRead → (width shift : ℕ) (m : Model) (windows : List Model) → windows ≡ window_models width shift m → All IsStandalone (window_models width shift m) → All IsWindow windows
+windows_are read width shift m windows e standalone =
+    All-weaker IsStandalone IsWindow (λ w s. (s, (read w s.formed s.ranked).1)) windows (subst (All IsStandalone) (sym e) standalone)
 
 pub each_read : {V : Type 0} (items : V → List Model) (width shift : ℕ) (text : List ℕ) (r : Result V Problem) → IfOk r (λ w. IsCutInto text width shift (items w)) → IfOk r (λ w. All IsWindow (items w))
 each_read items width shift text (Err p) h = tt

@@ -7,7 +7,7 @@ use Rattle.blif_lines.specs.Layout.{lines_of}
 use Rattle.blif_format.specs.Grammar.{Reads}
 use Rattle.blif_format.specs.Text.{text_of}
 use Rattle.blif_flatten.specs.Meant.{IsFlatModel}
-use Rattle.window_cut.specs.Laws.{IsSound}
+use Rattle.window_cut.specs.Laws.{IsStandalone}
 use Rattle.window_cut.specs.Windows.{window_models}
 use Rattle.rambo_cli.specs.Contract.{Contract}
 use Rattle.rambo_cli.specs.Files.{Holds, IfTold}
@@ -32,7 +32,7 @@ signals_of (w ∷ ws) = length w.outputs + signals_of ws
 
 -- a model that can be optimised by itself, and whose text says it
 abbrev pub IsWindow : Model → Type 0
-IsWindow w = IsSound w × Reads (lines_of (text_of w)) w
+IsWindow w = IsStandalone w × Reads (lines_of (text_of w)) w
 
 -- the windows of the text's flat model
 pub record IsCutInto (text : List ℕ) (width shift : ℕ) (windows : List Model) : Type 0 where

@@ -1,4 +1,4 @@
--- In a model whose covers have numbers that fall along each path, a visit to the depth of the number of covers is as good as any deeper one.
+-- In a model whose covers have levels, a visit to the depth of the number of covers is as good as any deeper one.
 use Rattle.std.proofs.Common.{◌≡◌, ◌<◌, ◌+◌, ℕ, zero, suc, List, [], ◌∷◌, ◌++◌, length, fold, refl, ap, ◌∙◌, subst, arith, inl, inr}
 use Rattle.std.specs.Prelude.{Option, None, Some, if◌then◌else◌}
 use Rattle.rm_base.specs.Members.{In}
@@ -6,7 +6,7 @@ use Rattle.rm_base.specs.Words.{Word}
 use Rattle.rm_model.specs.Ranks.{cover_of}
 use Rattle.rm_model.specs.declared.parts.Model.{Model}
 use Rattle.rm_model.proofs.Public.{drives-of}
-use Rattle.window_cut.specs.Inner.Falling.{Falls}
+use Rattle.window_cut.specs.Inner.Levels.{IsLevelled}
 use Rattle.window_cut.specs.Inner.Walk.{steps, steps_over, steps_within, sum_of, visit}
 use Rattle.window_cut.specs.Order.{inputs_at, inputs_of, is_done, visited, with_cover}
 
@@ -18,19 +18,19 @@ sum_agree : (f g : Word → ℕ) (xs : List Word) → ((x : Word) → In xs x �
 sum_agree f g [] h = refl
 sum_agree f g (x ∷ xs) h = let here : f x ≡ g x = h x (inl refl) in let rest = sum_agree f g xs (λ y m. h y (inr m)) in omega (arith, here, rest)
 
-module _ (m : Model) (height : ℕ → ℕ) (falls : Falls m height) where
-  -- the cover of a name, if it has one, has a number below
+module _ (m : Model) (level : ℕ → ℕ) (levelled : IsLevelled m level) where
+  -- the cover of a name, if it has one, has a level below
   abbrev pub Below : ℕ → Word → Type 0
-  Below n x = (k : ℕ) → cover_of m.covers x ≡ Some k → height k < n
+  Below n x = (k : ℕ) → cover_of m.covers x ≡ Some k → level k < n
 
   pub below_all : (x : Word) → Below (length m.covers) x
-  below_all x k e = let d = drives-of m.covers x k e in falls.small k d.cover d.there
+  below_all x k e = let d = drives-of m.covers x k e in levelled.small k d.cover d.there
 
   -- what a cover reads is lower
-  pub input_lower : (x y : Word) (k j : ℕ) → cover_of m.covers x ≡ Some k → In (inputs_at m.covers k) y → cover_of m.covers y ≡ Some j → height j < height k
+  pub input_lower : (x y : Word) (k j : ℕ) → cover_of m.covers x ≡ Some k → In (inputs_at m.covers k) y → cover_of m.covers y ≡ Some j → level j < level k
   input_lower x y k j e here f =
       let d = drives-of m.covers x k e in
-      falls.lower k j d.cover y d.there (subst (λ (ys : List Word). In ys y) (ap inputs_of d.there) here) f
+      levelled.lower k j d.cover y d.there (subst (λ (ys : List Word). In ys y) (ap inputs_of d.there) here) f
 
   pub below_inputs : (n : ℕ) (x : Word) (k : ℕ) → Below (suc n) x → cover_of m.covers x ≡ Some k → (y : Word) → In (inputs_at m.covers k) y → Below n y
   below_inputs n x k below e y here j f = let lower = input_lower x y k j e here f in let less = below k e in omega (arith, lower, less)

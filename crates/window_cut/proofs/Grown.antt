@@ -13,7 +13,7 @@ use Rattle.rm_model.specs.declared.parts.Model.{Model}
 use Rattle.cover_decompose.proofs.Public.{among_in}
 use Rattle.cover_decompose.specs.Needed.{IsNeeded, observed, read}
 use Rattle.window_cut.proofs.Fuel.{Below, below_all, below_inputs, input_lower}
-use Rattle.window_cut.specs.Inner.Falling.{Falls}
+use Rattle.window_cut.specs.Inner.Levels.{IsLevelled}
 use Rattle.window_cut.specs.Order.{inputs_at, inputs_of, is_done, post_order, visited, with_cover}
 
 pub done_in : (done : List ℕ) (k : ℕ) → is_done done k ≡ true → In done k
@@ -30,25 +30,25 @@ pub data Grown (m : Model) : List ℕ → Type 0 where
   grow : (done all : List ℕ) (k : ℕ) (c : Cover) → all ≡ done ++ k ∷ [] → Grown m done → slice_get m.covers k ≡ Some c → (In done k → ⊥)
       → ((x : Word) (j : ℕ) → In c.inputs x → cover_of m.covers x ≡ Some j → In done j) → IsNeeded m c.output → Grown m all
 
--- the cover of a name is done, and those that are done anew have numbers below a bound
-pub record Visited (m : Model) (height : ℕ → ℕ) (done after : List ℕ) (x : Word) (bound : ℕ) : Type 0 where
+-- the cover of a name is done, and those that are done anew have levels below a bound
+pub record Visited (m : Model) (level : ℕ → ℕ) (done after : List ℕ) (x : Word) (bound : ℕ) : Type 0 where
   pub grown : Grown m after
   pub keeps : (j : ℕ) → In done j → In after j
-  pub low : (j : ℕ) → In after j → In done j ⊎ (height j < bound)
+  pub low : (j : ℕ) → In after j → In done j ⊎ (level j < bound)
   pub has : (j : ℕ) → cover_of m.covers x ≡ Some j → In after j
 
-pub record VisitedAll (m : Model) (height : ℕ → ℕ) (done after : List ℕ) (xs : List Word) (bound : ℕ) : Type 0 where
+pub record VisitedAll (m : Model) (level : ℕ → ℕ) (done after : List ℕ) (xs : List Word) (bound : ℕ) : Type 0 where
   pub grown : Grown m after
   pub keeps : (j : ℕ) → In done j → In after j
-  pub low : (j : ℕ) → In after j → In done j ⊎ (height j < bound)
+  pub low : (j : ℕ) → In after j → In done j ⊎ (level j < bound)
   pub has : (x : Word) → In xs x → (j : ℕ) → cover_of m.covers x ≡ Some j → In after j
 
-visits_all : (m : Model) (height : ℕ → ℕ) (visit : List ℕ → Word → List ℕ) (xs : List Word) (done : List ℕ) (bound : ℕ) → Grown m done
-    → ((x : Word) → In xs x → (d : List ℕ) → Grown m d → Visited m height d (visit d x) x bound) → VisitedAll m height done (fold visit done xs) xs bound
-visits_all m height visit [] done bound g h = record { grown = g; keeps = λ j i. i; low = λ j i. inl i; has = λ x i j e. absurd i }
-visits_all m height visit (x ∷ xs) done bound g h =
+visits_all : (m : Model) (level : ℕ → ℕ) (visit : List ℕ → Word → List ℕ) (xs : List Word) (done : List ℕ) (bound : ℕ) → Grown m done
+    → ((x : Word) → In xs x → (d : List ℕ) → Grown m d → Visited m level d (visit d x) x bound) → VisitedAll m level done (fold visit done xs) xs bound
+visits_all m level visit [] done bound g h = record { grown = g; keeps = λ j i. i; low = λ j i. inl i; has = λ x i j e. absurd i }
+visits_all m level visit (x ∷ xs) done bound g h =
     let first = h x (inl refl) done g in
-    let rest = visits_all m height visit xs (visit done x) bound first.grown (λ y i. h y (inr i)) in
+    let rest = visits_all m level visit xs (visit done x) bound first.grown (λ y i. h y (inr i)) in
     record {
       grown = rest.grown;
       keeps = λ j i. rest.keeps j (first.keeps j i);
@@ -56,41 +56,41 @@ visits_all m height visit (x ∷ xs) done bound g h =
       has = λ y i j e. elim i [ inl s ↦ rest.keeps j (first.has j (ap (cover_of m.covers) s ∙ e)) | inr r ↦ rest.has y r j e ];
     }
 
-module _ (m : Model) (height : ℕ → ℕ) (falls : Falls m height) where
-  visits : (n : ℕ) (x : Word) → Below m height falls n x → IsNeeded m x → (bound : ℕ) → Below m height falls bound x → (done : List ℕ) → Grown m done → Visited m height done (visited n m done x) x bound
+module _ (m : Model) (level : ℕ → ℕ) (levelled : IsLevelled m level) where
+  visits : (n : ℕ) (x : Word) → Below m level levelled n x → IsNeeded m x → (bound : ℕ) → Below m level levelled bound x → (done : List ℕ) → Grown m done → Visited m level done (visited n m done x) x bound
   visits zero x below needed bound low done g = record { grown = g; keeps = λ j i. i; low = λ j i. inl i; has = λ j e. absurd (omega (arith, below j e)) }
   visits (suc n) x below needed bound low done g = by_cover (cover_of m.covers x) refl (λ y. visits n y)
     where
       by_done : (k : ℕ) → cover_of m.covers x ≡ Some k
-          → ((y : Word) → Below m height falls n y → IsNeeded m y → (b : ℕ) → Below m height falls b y → (d : List ℕ) → Grown m d → Visited m height d (visited n m d y) y b)
-          → (b : Bool) → is_done done k ≡ b → Visited m height done (if b then done else fold (visited n m) done (inputs_at m.covers k) ++ k ∷ []) x bound
+          → ((y : Word) → Below m level levelled n y → IsNeeded m y → (b : ℕ) → Below m level levelled b y → (d : List ℕ) → Grown m d → Visited m level d (visited n m d y) y b)
+          → (b : Bool) → is_done done k ≡ b → Visited m level done (if b then done else fold (visited n m) done (inputs_at m.covers k) ++ k ∷ []) x bound
       by_done k e next true is = record { grown = g; keeps = λ j i. i; low = λ j i. inl i; has = λ j f. subst (λ (i : ℕ). In done i) (some_same (sym e ∙ f)) (done_in done k is) }
       by_done k e next false is =
           let d = drives-of m.covers x k e in
           let at : inputs_at m.covers k ≡ d.cover.inputs = ap inputs_of d.there in
           let needed_cover : IsNeeded m d.cover.output = subst (λ (y : Word). IsNeeded m y) d.drives needed in
           let after : List ℕ = fold (visited n m) done (inputs_at m.covers k) in
-          let all : VisitedAll m height done after (inputs_at m.covers k) (height k) =
-          visits_all m height (visited n m) (inputs_at m.covers k) done (height k) g
-          (λ y i d2 g2. next y (below_inputs m height falls n x k below e y i) (read d.cover (in_contains m.covers d.cover (in_at m.covers k d.cover d.there)) needed_cover (among_in d.cover.inputs y (subst (λ (l : List Word). In l y) at i))) (height k) (λ j f. input_lower m height falls x y k j e i f) d2 g2) in
-          let less : height k < bound = low k e in
+          let all : VisitedAll m level done after (inputs_at m.covers k) (level k) =
+          visits_all m level (visited n m) (inputs_at m.covers k) done (level k) g
+          (λ y i d2 g2. next y (below_inputs m level levelled n x k below e y i) (read d.cover (in_contains m.covers d.cover (in_at m.covers k d.cover d.there)) needed_cover (among_in d.cover.inputs y (subst (λ (l : List Word). In l y) at i))) (level k) (λ j f. input_lower m level levelled x y k j e i f) d2 g2) in
+          let less : level k < bound = low k e in
           record {
             grown = grow after (after ++ k ∷ []) k d.cover refl all.grown d.there (λ i. elim (all.low k i) [ inl a ↦ not_in done k is a | inr lt ↦ omega (arith, lt) ]) (λ y j i f. all.has y (subst (λ (l : List Word). In l y) (sym at) i) j f) needed_cover;
             keeps = λ j i. in_left after (k ∷ []) j (all.keeps j i);
             low = λ j i. elim (in_append after (k ∷ []) j i) [
               | inl a ↦ elim (all.low j a) [ inl b ↦ inl b | inr lt ↦ inr (omega (arith, lt, less)) ]
-              | inr b ↦ elim b [ inl s ↦ inr (subst (λ (i : ℕ). height i < bound) s less) | inr z ↦ absurd z ]
+              | inr b ↦ elim b [ inl s ↦ inr (subst (λ (i : ℕ). level i < bound) s less) | inr z ↦ absurd z ]
             ];
             has = λ j f. in_right after (k ∷ []) j (inl (some_same (sym e ∙ f)));
           }
 
       by_cover : (o : Option ℕ) → cover_of m.covers x ≡ o
-          → ((y : Word) → Below m height falls n y → IsNeeded m y → (b : ℕ) → Below m height falls b y → (d : List ℕ) → Grown m d → Visited m height d (visited n m d y) y b)
-          → Visited m height done (with_cover (visited n m) m done o) x bound
+          → ((y : Word) → Below m level levelled n y → IsNeeded m y → (b : ℕ) → Below m level levelled b y → (d : List ℕ) → Grown m d → Visited m level d (visited n m d y) y b)
+          → Visited m level done (with_cover (visited n m) m done o) x bound
       by_cover None e next = record { grown = g; keeps = λ j i. i; low = λ j i. inl i; has = λ j f. let bad : None ≡ Some j = sym e ∙ f in absurd cc }
       by_cover (Some k) e next = by_done k e next (is_done done k) refl
 
-  pub post_order-visits : VisitedAll m height [] (post_order m) (observed_names m) (length m.covers)
+  pub post_order-visits : VisitedAll m level [] (post_order m) (observed_names m) (length m.covers)
   post_order-visits =
-      visits_all m height (visited (length m.covers) m) (observed_names m) [] (length m.covers) (start [] refl)
-      (λ x i d g. visits (length m.covers) x (below_all m height falls x) (observed (among_in (observed_names m) x i)) (length m.covers) (below_all m height falls x) d g)
+      visits_all m level (visited (length m.covers) m) (observed_names m) [] (length m.covers) (start [] refl)
+      (λ x i d g. visits (length m.covers) x (below_all m level levelled x) (observed (among_in (observed_names m) x i)) (length m.covers) (below_all m level levelled x) d g)

@@ -2,13 +2,13 @@ pub mod Cuts
 pub mod Fits
 pub mod Fuel
 pub mod Grown
-pub mod Heights
 pub mod Inputs
+pub mod Levels
 pub mod Lists
 pub mod Models
 pub mod Ordered
 pub mod Outputs
 pub mod Reading
-pub mod Sound
+pub mod Standalone
 pub mod Tokens
 pub mod Walks

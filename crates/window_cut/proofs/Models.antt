@@ -13,7 +13,7 @@ use Rattle.window_cut.proofs.Fits.{given_once, in_flat, new_read, new_unknown, w
 use Rattle.window_cut.proofs.Ordered.{output_cover, seen_driven}
 use Rattle.window_cut.specs.Inner.Reading.{Reading}
 use Rattle.window_cut.proofs.Reading.{reading_parts, reading_within}
-use Rattle.window_cut.proofs.Sound.{all_pass}
+use Rattle.window_cut.proofs.Standalone.{all_pass}
 use Rattle.window_cut.specs.Cut.{joined}
 use Rattle.window_cut.specs.Laws.{AreInOrder, ReadKnown, model_covers, model_outputs}
 use Rattle.window_cut.specs.Windows.{models_from, read_names, wanted_names, window_inputs, window_outputs}

@@ -20,7 +20,7 @@ use Rattle.window_cut.proofs.Grown.{Grown, start, grow, post_order-visits}
 use Rattle.window_cut.proofs.Lists.{covers_at-push, outputs-joined}
 use Rattle.window_cut.specs.Inner.Reading.{Reading}
 use Rattle.window_cut.proofs.Reading.{before_reading, reading_append}
-use Rattle.window_cut.specs.Inner.Falling.{Falls}
+use Rattle.window_cut.specs.Inner.Levels.{IsLevelled}
 use Rattle.window_cut.specs.Laws.{AreInOrder}
 use Rattle.window_cut.specs.Order.{covers_at, ordered_covers, post_order}
 use Rattle.window_cut.specs.Windows.{read_names}
@@ -157,22 +157,22 @@ module _ (m : Model) (formed : IsWellFormed m) where
           let driven : cover_of m.covers x ≡ Some r.0 = ap (cover_of m.covers) (sym r.1.1.1) ∙ own r.0 r.1.0 r.1.1.0 in
           subst (λ (y : Word). In (outputs_of (covers_at m.covers done)) y) r.1.1.1 (in_mapped (λ (c : Cover). c.output) (covers_at m.covers done) r.1.0 (done_cover m.covers done r.0 r.1.0 (reads x r.0 i driven) r.1.1.0))
 
-  module _ (height : ℕ → ℕ) (falls : Falls m height) where
+  module _ (level : ℕ → ℕ) (levelled : IsLevelled m level) where
     reached : (x : Word) → IsNeeded m x → (j : ℕ) → cover_of m.covers x ≡ Some j → In (post_order m) j
-    reached x (observed o) j e = (post_order-visits m height falls).has x (in_among (observed_names m) x o) j e
+    reached x (observed o) j e = (post_order-visits m level levelled).has x (in_among (observed_names m) x o) j e
     reached x (read c there needed among) j e =
         let i = in_contained m.covers c there.0 there.1 there.2 in
         let p = place_of_member m.covers c i in
-        closed_place (post_order m) (post_order-visits m height falls).grown p.0 c (reached c.output needed p.0 (own p.0 c p.1)) p.1 x j (in_among c.inputs x among) e
+        closed_place (post_order m) (post_order-visits m level levelled).grown p.0 c (reached c.output needed p.0 (own p.0 c p.1)) p.1 x j (in_among c.inputs x among) e
 
     pub covers_in_order : AreInOrder m (ordered_covers m)
     covers_in_order = record {
       needed = λ c. (
-        (λ i. let h = cover_done m.covers (post_order m) c (in_contained (ordered_covers m) c i.0 i.1 i.2) in (in_contains m.covers c (in_at m.covers h.0 c h.1.1), needed_place (post_order m) (post_order-visits m height falls).grown h.0 c h.1.0 h.1.1)),
+        (λ i. let h = cover_done m.covers (post_order m) c (in_contained (ordered_covers m) c i.0 i.1 i.2) in (in_contains m.covers c (in_at m.covers h.0 c h.1.1), needed_place (post_order m) (post_order-visits m level levelled).grown h.0 c h.1.0 h.1.1)),
         (λ p. let q = place_of_member m.covers c (in_contained m.covers c p.0.0 p.0.1 p.0.2) in in_contains (ordered_covers m) c (done_cover m.covers (post_order m) q.0 c (reached c.output p.1 q.0 (own q.0 c q.1)) q.1)),
       );
-      once = once_grown (post_order m) (post_order-visits m height falls).grown;
-      before = λ k c x at r. elim (in_append (source_names m) (outputs_of (take k (ordered_covers m))) x (before_reading (source_names m) (ordered_covers m) k c x (reading_grown (post_order m) (post_order-visits m height falls).grown) at (in_among c.inputs x r))) [
+      once = once_grown (post_order m) (post_order-visits m level levelled).grown;
+      before = λ k c x at r. elim (in_append (source_names m) (outputs_of (take k (ordered_covers m))) x (before_reading (source_names m) (ordered_covers m) k c x (reading_grown (post_order m) (post_order-visits m level levelled).grown) at (in_among c.inputs x r))) [
         | inl s ↦ inl (among_in (source_names m) x s)
         | inr o ↦ inr (among_in (outputs_of (take k (ordered_covers m))) x o)
       ];

@@ -16,7 +16,7 @@ use Rattle.rm_model.specs.declared.parts.Cover.{Cover}
 use Rattle.rm_model.specs.declared.parts.Model.{Model}
 use Rattle.rm_model.proofs.Public.{drives-of}
 use Rattle.window_cut.proofs.Fuel.{steps_cover, visit_covers}
-use Rattle.window_cut.specs.Inner.Falling.{Falls}
+use Rattle.window_cut.specs.Inner.Levels.{IsLevelled}
 use Rattle.window_cut.specs.Inner.Walk.{AreWithin, IsMarked, Steps, after, due, due_steps, entered, finished, first_frame, remaining, steps, steps_over, sum_of, visit}
 use Rattle.window_cut.specs.Order.{inputs_at, is_done, with_cover}
 use Rattle.window_cut.specs.declared.walk.Frame.{Frame}
@@ -97,7 +97,7 @@ pub record IsOn (m : Model) (end : List ℕ) (done : List ℕ) (fs : List Frame)
   pub marked : IsMarked m done marks
   pub within : AreWithin m fs
 
-module _ (m : Model) (height : ℕ → ℕ) (falls : Falls m height) where
+module _ (m : Model) (level : ℕ → ℕ) (levelled : IsLevelled m level) where
   finished_on : (f : Frame) (x : Word) (done : List ℕ) → slice_get (inputs_at m.covers f.place) f.next ≡ Some x → finished m done f ≡ finished m (visit m done x) (after f)
   finished_on f x done at = ap (λ (xs : List Word). fold (visit m) done xs ++ f.place ∷ []) (drop_more (inputs_at m.covers f.place) f.next x at)
 
@@ -105,26 +105,26 @@ module _ (m : Model) (height : ℕ → ℕ) (falls : Falls m height) where
   sum_on f x at = ap (sum_of (steps m)) (drop_more (inputs_at m.covers f.place) f.next x at)
 
   visit_source : (done : List ℕ) (x : Word) → cover_of m.covers x ≡ None → visit m done x ≡ done
-  visit_source done x e = visit_covers m height falls done x ∙ ap (with_cover (visit m) m done) e
+  visit_source done x e = visit_covers m level levelled done x ∙ ap (with_cover (visit m) m done) e
 
   visit_done : (done : List ℕ) (x : Word) (k : ℕ) → cover_of m.covers x ≡ Some k → is_done done k ≡ true → visit m done x ≡ done
-  visit_done done x k e is = visit_covers m height falls done x ∙ (ap (with_cover (visit m) m done) e ∙ ap (λ (b : Bool). if b then done else fold (visit m) done (inputs_at m.covers k) ++ k ∷ []) is)
+  visit_done done x k e is = visit_covers m level levelled done x ∙ (ap (with_cover (visit m) m done) e ∙ ap (λ (b : Bool). if b then done else fold (visit m) done (inputs_at m.covers k) ++ k ∷ []) is)
 
   visit_new : (done : List ℕ) (x : Word) (k : ℕ) → cover_of m.covers x ≡ Some k → is_done done k ≡ false → visit m done x ≡ finished m done (first_frame k)
   visit_new done x k e is =
-      visit_covers m height falls done x
+      visit_covers m level levelled done x
       ∙ (ap (with_cover (visit m) m done) e
       ∙ (ap (λ (b : Bool). if b then done else fold (visit m) done (inputs_at m.covers k) ++ k ∷ []) is
       ∙ ap (λ (xs : List Word). fold (visit m) done xs ++ k ∷ []) (sym (drop_zero (inputs_at m.covers k)))))
 
   steps_new : (x : Word) (k : ℕ) → cover_of m.covers x ≡ Some k → steps m x ≡ 2 + sum_of (steps m) (remaining m (first_frame k))
-  steps_new x k e = steps_cover m height falls x ∙ (ap (steps_over (steps m) m) e ∙ ap (λ (xs : List Word). 2 + sum_of (steps m) xs) (sym (drop_zero (inputs_at m.covers k))))
+  steps_new x k e = steps_cover m level levelled x ∙ (ap (steps_over (steps m) m) e ∙ ap (λ (xs : List Word). 2 + sum_of (steps m) xs) (sym (drop_zero (inputs_at m.covers k))))
 
   some_steps : (x : Word) → 1 ≤ steps m x
   some_steps x = by_cover (cover_of m.covers x) refl
     where
       by_cover : (o : Option ℕ) → cover_of m.covers x ≡ o → 1 ≤ steps m x
-      by_cover None e = let is : steps m x ≡ 1 = steps_cover m height falls x ∙ ap (steps_over (steps m) m) e in omega (arith, is)
+      by_cover None e = let is : steps m x ≡ 1 = steps_cover m level levelled x ∙ ap (steps_over (steps m) m) e in omega (arith, is)
       by_cover (Some k) e = omega (arith, steps_new x k e)
 
   place_within : (x : Word) (k : ℕ) → cover_of m.covers x ≡ Some k → k < length m.covers

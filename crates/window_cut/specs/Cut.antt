@@ -1,4 +1,4 @@
--- Windows: the needed covers cut into consecutive runs of about the same weight.
+-- Windows: the needed covers in post-order, cut into consecutive runs of about the same weight.
 use Rattle.std.specs.Prelude.{ℕ, zero, suc, List, [], ◌∷◌, ◌++◌, nat_le, sum_by, if◌then◌else◌}
 use Rattle.std.specs.List.{flat_map}
 use Rattle.rm_model.specs.declared.parts.Cover.{Cover}
@@ -10,7 +10,7 @@ use Rattle.window_cut.specs.Order.{ordered_covers}
 abbrev pub weight : List Cover → ℕ
 weight cs = sum_by cover_wires cs
 
--- what is left at the end is a window, if it is anything
+-- what is left at the end is the last window, unless nothing is
 abbrev pub last_window : List Cover → List (List Cover)
 last_window [] = []
 last_window (c ∷ cs) = (c ∷ cs) ∷ []

@@ -56,7 +56,7 @@ abbrev pub model_outputs : List Model → List Word
 model_outputs ws = flat_map (λ (w : Model). w.outputs) ws
 
 -- a model of some covers alone that can be written and optimised by itself
-pub record IsSound (m : Model) : Type 0 where
+pub record IsStandalone (m : Model) : Type 0 where
   pub formed : IsWellFormed m
   pub ranked : IsRanked m
   pub no_clocks : m.clocks ≡ []

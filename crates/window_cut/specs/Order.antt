@@ -1,4 +1,4 @@
--- The needed covers in a depth-first post-order: from each observed name down, each cover behind those that it reads.
+-- The needed covers in depth-first post-order: from each observed name towards the sources, each cover after those that it reads.
 use Rattle.std.specs.Prelude.{ℕ, zero, suc, Bool, List, [], ◌∷◌, ◌++◌, length, fold, nat_eq, Option, None, Some, slice_get, if◌then◌else◌}
 use Rattle.std.specs.List.{list_any, filter_map}
 use Rattle.rm_model.specs.Ranks.{cover_of}
@@ -19,12 +19,12 @@ inputs_of (Some c) = c.inputs
 abbrev pub inputs_at : List Cover → ℕ → List Word
 inputs_at cs k = inputs_of (slice_get cs k)
 
--- the places that are done once a cover is: where it isn't yet, those of its inputs in order, and then its own
+-- the places that are done after a cover is visited: unless it was done, those of its inputs' covers in order, and then its own
 abbrev pub with_cover : (List ℕ → Word → List ℕ) → Model → List ℕ → Option ℕ → List ℕ
 with_cover visit m done None = done
 with_cover visit m done (Some k) = if is_done done k then done else fold visit done (inputs_at m.covers k) ++ k ∷ []
 
--- the places that are done once the cover of a name is, down to a depth
+-- the places that are done after the cover of a name is visited, down to a depth
 abbrev pub visited : ℕ → Model → List ℕ → Word → List ℕ
 visited zero m done x = done
 visited (suc n) m done x = with_cover (visited n m) m done (cover_of m.covers x)

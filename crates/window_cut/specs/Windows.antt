@@ -1,4 +1,4 @@
--- The model of a window: what it reads from outside are its inputs, and what is read of it outside are its outputs.
+-- The model of a window: its inputs are what it reads from outside, and its outputs are what is read or observed outside.
 use Rattle.std.specs.Prelude.{ℕ, suc, List, [], ◌∷◌, ◌++◌, codes, decimal, filter, if◌then◌else◌}
 use Rattle.std.specs.List.{flat_map}
 use Rattle.rm_model.specs.Value.{is_among, observed_names, outputs_of}
@@ -11,20 +11,20 @@ use Rattle.window_cut.specs.Cut.{windows}
 abbrev pub read_names : List Cover → List Word
 read_names cs = flat_map (λ (c : Cover). c.inputs) cs
 
--- the names that aren't among the known ones, each where it first stands
+-- the names that aren't among the known ones, each at its first appearance
 abbrev pub new_names : List Word → List Word → List Word
 new_names known [] = []
 new_names known (x ∷ xs) = if is_among known x then new_names known xs else x ∷ new_names (known ++ x ∷ []) xs
 
--- the names that a window reads and gives not itself, in the order in which they first stand
+-- the names that a window reads but doesn't drive, in the order of their first appearance
 abbrev pub window_inputs : List Cover → List Word
 window_inputs w = new_names (outputs_of w) (read_names w)
 
--- the names that are to be had outside of the windows that give them: the observed ones, and the inputs of windows
+-- the names that are needed outside the windows that drive them: the observed ones, and the inputs of windows
 abbrev pub wanted_names : Model → List (List Cover) → List Word
 wanted_names m ws = observed_names m ++ flat_map window_inputs ws
 
--- the wanted outputs of a window's covers, in order
+-- the outputs of a window's covers that are wanted, in order
 abbrev pub window_outputs : Model → List (List Cover) → List Cover → List Word
 window_outputs m ws w = filter (is_among (wanted_names m ws)) (outputs_of w)
 

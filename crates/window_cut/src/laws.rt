@@ -5,8 +5,8 @@ ghost use Rattle.rm_model.specs.Value.{is_among, observed_names, outputs_of, sou
 ghost use Rattle.rm_model.specs.WellFormed.{IsWellFormed};
 ghost use Rattle.rm_model.specs.declared.parts.Model.{Model};
 ghost use Rattle.window_cut.specs.Cut.{joined, windows};
-ghost use Rattle.window_cut.specs.Inner.Falling.{Falls};
-ghost use Rattle.window_cut.specs.Laws.{AreInOrder, FitTogether, IsSound, ReadKnown, model_covers, model_outputs};
+ghost use Rattle.window_cut.specs.Inner.Levels.{IsLevelled};
+ghost use Rattle.window_cut.specs.Laws.{AreInOrder, FitTogether, IsStandalone, ReadKnown, model_covers, model_outputs};
 ghost use Rattle.window_cut.specs.Order.{ordered_covers, post_order};
 ghost use Rattle.window_cut.specs.Rows.{first_half, four_gates, second_half};
 ghost use Rattle.window_cut.specs.Windows.{window_models};
@@ -21,9 +21,9 @@ pub fn worked_rows()
         ≡ (codes "p" ∷ []) ∷ (codes "t" ∷ codes "z" ∷ []) ∷ (codes "y" ∷ []) ∷ [] }
 {}
 
-/// The covers of a ranked model have numbers that fall along each path.
-pub fn ranked_models_fall()
-    ensures { (m : Model) → IsWellFormed m → IsRanked m → (height : ℕ → ℕ) × Falls m height }
+/// The covers of a ranked model have levels.
+pub fn ranked_models_have_levels()
+    ensures { (m : Model) → IsWellFormed m → IsRanked m → (level : ℕ → ℕ) × IsLevelled m level }
 {
     ranks_follow();
     ranks_exist();
@@ -34,14 +34,14 @@ pub fn windows_are_ordered()
     ensures joined { (width shift : ℕ) (m : Model) → joined (windows width shift m) ≡ ordered_covers m }
     ensures order { (m : Model) → IsWellFormed m → IsRanked m → AreInOrder m (ordered_covers m) }
 {
-    ranked_models_fall();
+    ranked_models_have_levels();
 }
 
 /// The model of each window can be written, read and optimised by itself. Together they have the needed covers; each reads
 /// sources and outputs of models before it, and the sources and their outputs have all observed names.
 pub fn windows_are_models()
-    ensures sound { (width shift : ℕ) (m : Model) → IsWellFormed m → IsRanked m
-        → length (windows width shift m) < 2 ^ 64 → All IsSound (window_models width shift m) }
+    ensures standalone { (width shift : ℕ) (m : Model) → IsWellFormed m → IsRanked m
+        → length (windows width shift m) < 2 ^ 64 → All IsStandalone (window_models width shift m) }
     ensures covers { (width shift : ℕ) (m : Model) → model_covers (window_models width shift m) ≡ ordered_covers m }
     ensures reads { (width shift : ℕ) (m : Model) → IsWellFormed m → IsRanked m → ReadKnown (source_names m) (window_models width shift m) }
     ensures observed { (width shift : ℕ) (m : Model) → IsWellFormed m → IsRanked m

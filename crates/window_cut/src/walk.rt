@@ -4,7 +4,7 @@ ghost use Rattle.std.specs.Option.{option_copied};
 ghost use Rattle.rm_model.specs.Numbers.{place_of};
 ghost use Rattle.rm_model.specs.Value.{observed_names, outputs_of};
 ghost use Rattle.rm_model.specs.WellFormed.{is_distinct, IsWellFormed};
-ghost use Rattle.window_cut.specs.Inner.Falling.{Falls};
+ghost use Rattle.window_cut.specs.Inner.Levels.{IsLevelled};
 ghost use Rattle.window_cut.specs.Inner.Walk.{AreWithin, IsMarked, Steps, entered, visit as visit_of};
 ghost use Rattle.window_cut.specs.Order.{inputs_at, post_order as post_order_of};
 
@@ -74,7 +74,7 @@ fn take_step<'a>(
     order: &mut Vec<usize>,
     stack: &mut Vec<Frame>,
 ) -> Result<(), NoMemory>
-    requires falls { (height : ℕ → ℕ) × Falls model.now height }
+    requires levelled { (level : ℕ → ℕ) × IsLevelled model.now level }
     requires table { table.now ≡ outputs_of model.now.covers }
     requires marked { IsMarked model.now order.old.items marks.old }
     requires place { frame.place < length model.now.covers }
@@ -106,7 +106,7 @@ fn visit<'a>(
     marks: &mut [bool],
     order: &mut Vec<usize>,
 ) -> Result<(), NoMemory>
-    requires falls { (height : ℕ → ℕ) × Falls model.now height }
+    requires levelled { (level : ℕ → ℕ) × IsLevelled model.now level }
     requires table { table.now ≡ outputs_of model.now.covers }
     requires marked { IsMarked model.now order.old.items marks.old }
     ensures done { OnOk result (order.new.items ≡ visit_of model.now order.old.items name.now) }
@@ -126,7 +126,7 @@ fn visit_all<'a>(
     table: &NameTable<'a>,
     names: &'a [Name],
 ) -> Result<Vec<usize>, NoMemory>
-    requires falls { (height : ℕ → ℕ) × Falls model.now height }
+    requires levelled { (level : ℕ → ℕ) × IsLevelled model.now level }
     requires table { table.now ≡ outputs_of model.now.covers }
     ensures { IfOk result (λ order. order.items ≡ fold (visit_of model.now) [] names.now) }
 {
@@ -142,7 +142,7 @@ fn visit_all<'a>(
 /// The places of the needed covers in post-order. Each name that a needed cover reads is looked up once.
 pub fn post_order(alloc: Global, keys: NameKeys, model: &Model) -> Result<Vec<usize>, NoMemory>
     requires formed { IsWellFormed model.now }
-    requires falls { (height : ℕ → ℕ) × Falls model.now height }
+    requires levelled { (level : ℕ → ℕ) × IsLevelled model.now level }
     ensures { IfOk result (λ order. order.items ≡ post_order_of model.now) }
 {
     let observed = list_observed(alloc, model)?;

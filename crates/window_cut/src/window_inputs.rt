@@ -111,7 +111,7 @@ fn include_lent<'a>(table: &mut NameTable<'a>, names: &[&'a Name]) -> Result<(),
     Ok(())
 }
 
-/// The names that are to be had outside of the windows that give them.
+/// The names that are needed outside the windows that drive them.
 pub fn wanted_names_of<'a>(
     alloc: Global,
     keys: NameKeys,

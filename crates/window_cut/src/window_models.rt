@@ -10,7 +10,7 @@ ghost use Rattle.window_cut.specs.Windows.{models_of, window_models, window_name
 
 use crate::copies::{copy_covers, copy_lent};
 use crate::cutting::windows_of;
-use crate::laws::ranked_models_fall;
+use crate::laws::ranked_models_have_levels;
 use crate::places::cover_at;
 use crate::walk::post_order;
 use crate::window_inputs::{wanted_names_of, window_inputs};
@@ -130,7 +130,7 @@ pub fn cut(
     requires ranked { IsRanked model.now }
     ensures { IfOk result (λ models. models.items ≡ window_models width shift model.now) }
 {
-    ranked_models_fall();
+    ranked_models_have_levels();
     let order = post_order(alloc, keys, model)?;
     let windows = windows_of(alloc, model.covers.items(), order.as_slice(), width, shift)?;
     models_of_windows(alloc, keys, model, windows.as_slice())

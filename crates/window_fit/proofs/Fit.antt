@@ -13,25 +13,25 @@ use Rattle.sewing.specs.Windows.{AreWindows, IsWindowed}
 use Rattle.sewing.proofs.Public.{all-in, in-all}
 use Rattle.window_cut.specs.Order.{ordered_covers}
 use Rattle.window_cut.specs.Windows.{models_from}
-use Rattle.window_cut.specs.Laws.{AreInOrder, IsSound, ReadKnown, model_covers, model_outputs}
+use Rattle.window_cut.specs.Laws.{AreInOrder, IsStandalone, ReadKnown, model_covers, model_outputs}
 
 -- as many models as windows
 pub models-count : (m : Model) (ws : List (List Cover)) (n : ℕ) (rest : List (List Cover)) → length (models_from m ws n rest) ≡ length rest
 models-count m ws n [] = refl
 models-count m ws n (w ∷ rest) = ap suc (models-count m ws (suc n) rest)
 
-in-order : (known : List Word) (ws : List Model) → ((w : Model) → In ws w → IsSound w) → ReadKnown known ws → AreWindows known ws
-in-order known [] sound reads = tt
-in-order known (w ∷ ws) sound reads =
-    let s : IsSound w = sound w (inl refl) in (
+in-order : (known : List Word) (ws : List Model) → ((w : Model) → In ws w → IsStandalone w) → ReadKnown known ws → AreWindows known ws
+in-order known [] standalone reads = tt
+in-order known (w ∷ ws) standalone reads =
+    let s : IsStandalone w = standalone w (inl refl) in (
       record { formed = s.formed; no_clocks = s.no_clocks; no_latches = s.no_latches; reads = reads.0; gives = s.gives },
-      in-order (known ++ w.outputs) ws (λ x h. sound x (inr h)) reads.1,
+      in-order (known ++ w.outputs) ws (λ x h. standalone x (inr h)) reads.1,
     )
 
-pub windowed : (m : Model) (ws : List Model) → All IsSound ws → model_covers ws ≡ ordered_covers m → AreInOrder m (ordered_covers m) → ReadKnown (source_names m) ws
+pub windowed : (m : Model) (ws : List Model) → All IsStandalone ws → model_covers ws ≡ ordered_covers m → AreInOrder m (ordered_covers m) → ReadKnown (source_names m) ws
     → list_all (is_among (source_names m ++ model_outputs ws)) (observed_names m) ≡ true → IsWindowed m ws
-windowed m ws sound same order reads observed = record {
-  in_order = in-order (source_names m) ws (λ w h. all-in IsSound ws w sound h) reads;
+windowed m ws standalone same order reads observed = record {
+  in_order = in-order (source_names m) ws (λ w h. all-in IsStandalone ws w standalone h) reads;
   taken = in-all (λ (c : Cover). Contains m.covers c) (model_covers ws) (λ c h. ((order.needed c).0 (in_contains (ordered_covers m) c (subst (λ (l : List Cover). In l c) same h))).0);
   once = subst (λ (l : List Cover). is_distinct (outputs_of l) ≡ true) (sym same) order.once;
   observed = observed;

@@ -14,5 +14,5 @@ returns-clause-cut c =
       flat = c.in-Ok.ensures.flat;
       are = c.in_ok-windows.ensures;
       each = windows_are c.written_texts_read.ensures c.args.width c.args.shift c.in-Ok.flat.model c.in_ok-windows.windows.items c.in_ok-windows.ensures
-          (c.windows_are_models.ensures.sound c.args.width c.args.shift c.in-Ok.flat.model c.in-Ok.ensures.flat.formed c.in-Ok.ensures.flat.ranked (omega (arith, count, small)));
+          (c.windows_are_models.ensures.standalone c.args.width c.args.shift c.in-Ok.flat.model c.in-Ok.ensures.flat.formed c.in-Ok.ensures.flat.ranked (omega (arith, count, small)));
     }

@@ -9,4 +9,4 @@ pub returns-clause-joined : goal.returns-clause-joined
 returns-clause-joined c = λ width shift m. joined_from (first_width width shift) width [] (ordered_covers m)
 
 pub returns-clause-order : goal.returns-clause-order
-returns-clause-order c = λ m formed ranked. let falls = c.ranked_models_fall.ensures m formed ranked in covers_in_order m formed falls.0 falls.1
+returns-clause-order c = λ m formed ranked. let levelled = c.ranked_models_have_levels.ensures m formed ranked in covers_in_order m formed levelled.0 levelled.1

@@ -19,7 +19,7 @@ use Rattle.window_cut.proofs.Fits.{in_joined, new_distinct, new_read, new_unknow
 use Rattle.window_cut.proofs.Ordered.{distinct_join, in_read, read_used, reader_of}
 use Rattle.window_cut.proofs.Tokens.{window_token}
 use Rattle.window_cut.specs.Cut.{joined}
-use Rattle.window_cut.specs.Laws.{AreInOrder, IsSound}
+use Rattle.window_cut.specs.Laws.{AreInOrder, IsStandalone}
 use Rattle.window_cut.specs.Windows.{models_from, read_names, wanted_names, window_inputs, window_model, window_name, window_outputs}
 
 pub all_pass : (p : Word → Bool) (xs : List Word) → ((x : Word) → In xs x → p x ≡ true) → list_all p xs ≡ true
@@ -140,9 +140,9 @@ module _ (m : Model) (formed : IsWellFormed m) (ws : List (List Cover)) (order :
   )
 
 module _ (m : Model) (formed : IsWellFormed m) (ranked : IsRanked m) (all : List (List Cover)) (order : AreInOrder m (joined all)) (last : (w : List Cover) → In all w → HasLast w) where
-  models_sound : (n : ℕ) (ws : List (List Cover)) → n + length ws ≤ 2 ^ 64 → ((w : List Cover) → In ws w → In all w) → AllByRecursion IsSound (models_from m all n ws)
-  models_sound n [] few h = tt
-  models_sound n (w ∷ ws) few h = (
+  models_standalone : (n : ℕ) (ws : List (List Cover)) → n + length ws ≤ 2 ^ 64 → ((w : List Cover) → In ws w → In all w) → AllByRecursion IsStandalone (models_from m all n ws)
+  models_standalone n [] few h = tt
+  models_standalone n (w ∷ ws) few h = (
     record {
       formed = window_formed m formed all order n (omega (arith, few)) w (h w (inl refl));
       ranked = window_ranked m formed all order n (omega (arith, few)) w (h w (inl refl)) ranked;
@@ -151,8 +151,8 @@ module _ (m : Model) (formed : IsWellFormed m) (ranked : IsRanked m) (all : List
       some_outputs = window_gives m formed all order w (h w (inl refl)) (last w (h w (inl refl)));
       gives = all_pass (is_among (outputs_of w)) (window_outputs m all w) (λ x i. among_in (outputs_of w) x (in_filter (is_among (wanted_names m all)) (outputs_of w) x i).0);
     },
-    models_sound (suc n) ws (omega (arith, few)) (λ v i. h v (inr i)),
+    models_standalone (suc n) ws (omega (arith, few)) (λ v i. h v (inr i)),
   )
 
-  pub all_sound : length all < 2 ^ 64 → All IsSound (models_from m all 1 all)
-  all_sound few = let each = models_sound 1 all (omega (arith, few)) (λ w i. i) in all_from_places IsSound (models_from m all 1 all) (λ k d at. all_in IsSound (models_from m all 1 all) d each (in_at (models_from m all 1 all) k d at))
+  pub all_standalone : length all < 2 ^ 64 → All IsStandalone (models_from m all 1 all)
+  all_standalone few = let each = models_standalone 1 all (omega (arith, few)) (λ w i. i) in all_from_places IsStandalone (models_from m all 1 all) (λ k d at. all_in IsStandalone (models_from m all 1 all) d each (in_at (models_from m all 1 all) k d at))
