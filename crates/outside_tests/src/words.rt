@@ -363,7 +363,11 @@ fn refuses_cut(rt: HostRuntime) -> Result<(), Fail> {
     for line in CUT_REFUSED {
         assert!(rt; reads(rt.alloc(), line, "refused")?, "{line}");
     }
-    for line in ["opt a b --shift 1", "demo 1 --shift=0", "equal a b p --shift 1"] {
+    for line in [
+        "opt a b --shift 1",
+        "demo 1 --shift=0",
+        "equal a b p --shift 1",
+    ] {
         assert!(rt; reads(rt.alloc(), line, "refused")?, "{line}");
     }
     Ok(())

@@ -20,7 +20,9 @@ fn are_windows(shelf: &MemoryShelf, first: &str, second: Option<&str>) -> bool {
     let has_first = shelf.file("w1.blif") == Some(first.as_bytes());
     match second {
         Some(text) => {
-            has_first && shelf.file("w2.blif") == Some(text.as_bytes()) && shelf.file("w3.blif").is_none()
+            has_first
+                && shelf.file("w2.blif") == Some(text.as_bytes())
+                && shelf.file("w3.blif").is_none()
         }
         None => has_first && shelf.file("w2.blif").is_none(),
     }
