@@ -11,7 +11,7 @@ use crate::modules::Module;
 use crate::pieces::{Pieces, push_own};
 use crate::walk::{Walked, walk_calls};
 use rm_base::{NoMemory, Place};
-use rm_model::{Listed, Model, Name, copy_name};
+use rm_model::{Listed, Model, copy_name, copy_names};
 use std::alloc::Global;
 
 /// A flat model, the place of each of its covers, and how many instances it has.
@@ -20,16 +20,6 @@ pub struct Flattened {
     pub model: Model,
     pub places: Listed<Place>,
     pub instances: usize,
-}
-
-fn copy_names(alloc: Global, names: &[Name]) -> Result<Listed<Name>, NoMemory>
-    ensures { IfOk result (λ copies. copies ≡ names.now) }
-{
-    let mut copies = Vec::new(alloc);
-    for name in names {
-        copies.push(copy_name(alloc, name)?)?;
-    }
-    Ok(Listed::from_vec(copies))
 }
 
 // The model of the top with other latches and covers.

@@ -33,7 +33,8 @@ fn add_cover(total: usize, cover: &Cover) -> Option<usize>
     sum.checked_add(1)
 }
 
-fn weight(covers: &[Cover]) -> Option<usize>
+/// A bound of the wires of covers, if a number of 64 bits says it.
+pub fn weight(covers: &[Cover]) -> Option<usize>
     ensures { IfSome result (λ n. n ≡ covers_weight covers.now) }
 {
     let mut sum = 0usize;

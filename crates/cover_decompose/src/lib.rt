@@ -10,6 +10,7 @@ mod model_graph;
 mod needed;
 mod numbering;
 mod plan;
+mod whole_count;
 
 pub use bounds::is_small;
 pub use laws::{
@@ -17,3 +18,4 @@ pub use laws::{
     worked_rows,
 };
 pub use model_graph::{DecomposeRefusal, MOST_PINS, decompose};
+pub use whole_count::count_wires;

@@ -2,7 +2,6 @@
 #![tactic(auto)]
 
 mod copies;
-mod copying;
 mod driven_names;
 mod gates;
 mod laws;

@@ -11,12 +11,13 @@ ghost use Rattle.graph_to_model.specs.NetModel.{model_of_net};
 ghost use Rattle.graph_to_model.specs.Refusals.{IsRefused};
 
 use crate::copies::all_covers;
-use crate::copying::{copy_latches, copy_names};
 use crate::naming::node_names;
 use crate::places::observed_nodes;
 use gate_graph::Graph;
 use rm_base::{NoMemory, NodeId};
-use rm_model::{Cover, Listed, Model, NameKeys, copy_name, list_observed, sources};
+use rm_model::{
+    Cover, Listed, Model, NameKeys, copy_latches, copy_name, copy_names, list_observed, sources,
+};
 use std::alloc::Global;
 use std::error::Error;
 use std::fmt;

@@ -19,6 +19,7 @@ pub fn copy_name(alloc: Global, name: &Name) -> Result<Name, NoMemory>
     Ok(Listed::from_vec(Vec::from_slice(alloc, name.items())?))
 }
 
+/// Copies of names, behind those that are there.
 pub fn push_names(alloc: Global, out: &mut Vec<Name>, names: &[Name]) -> Result<(), NoMemory>
     ensures { OnOk result (out.new.items ≡ out.old.items ++ names.now) }
 {

@@ -1,7 +1,6 @@
 //! Sewing: a model whose windows are replaced by models of the same function.
 #![tactic(auto)]
 
-mod copying;
 mod laws;
 mod lead;
 mod renaming;

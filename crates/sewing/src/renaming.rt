@@ -8,7 +8,7 @@ ghost use Rattle.sewing.specs.Sewn.{renamed_cover as cover_renamed};
 
 use itoa::Buffer;
 use rm_base::NoMemory;
-use rm_model::{Cover, Listed, Model, Name, NameKeys, NameTable, Row, copy_name};
+use rm_model::{Cover, Listed, Model, Name, NameKeys, NameTable, copy_name, copy_rows};
 use std::alloc::Global;
 
 fn include_names<'a>(table: &mut NameTable<'a>, names: &'a [Name]) -> Result<(), NoMemory>
@@ -69,22 +69,6 @@ fn sewn_names<'a>(
         made.push(sewn_name(alloc, lead, number, edge, name)?)?;
     }
     Ok(Listed::from_vec(made))
-}
-
-fn copy_row(alloc: Global, row: &Row) -> Result<Row, NoMemory>
-    ensures { IfOk result (λ copy. copy ≡ row.now) }
-{
-    Ok(Listed::from_vec(Vec::from_slice(alloc, row.items())?))
-}
-
-fn copy_rows(alloc: Global, rows: &[Row]) -> Result<Listed<Row>, NoMemory>
-    ensures { IfOk result (λ copies. copies ≡ rows.now) }
-{
-    let mut copies = Vec::with_capacity(alloc, rows.len())?;
-    for row in rows {
-        copies.push(copy_row(alloc, row)?)?;
-    }
-    Ok(Listed::from_vec(copies))
 }
 
 fn renamed_cover<'a>(

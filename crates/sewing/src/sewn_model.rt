@@ -4,11 +4,12 @@ ghost use Rattle.sewing.specs.Laws.{AreFew};
 ghost use Rattle.sewing.specs.Sewn.{sewn, sewn_covers as covers_sewn};
 ghost use Rattle.sewing.specs.Windows.{kept_names as names_kept, window_outputs};
 
-use crate::copying::{copy_latches, copy_names, push_names};
 use crate::lead::free_lead;
 use crate::renaming::push_part;
 use rm_base::NoMemory;
-use rm_model::{Cover, Listed, Model, Name, NameKeys, copy_name, sources};
+use rm_model::{
+    Cover, Listed, Model, Name, NameKeys, copy_latches, copy_name, copy_names, push_names, sources,
+};
 use std::alloc::Global;
 
 fn push_outputs(alloc: Global, names: &mut Vec<Name>, parts: &[Model]) -> Result<(), NoMemory>

@@ -5,48 +5,8 @@ ghost use Rattle.window_cut.specs.Order.{covers_at};
 
 use crate::places::cover_at;
 use rm_base::NoMemory;
-use rm_model::{Cover, Listed, Name, Row, copy_name};
+use rm_model::{Cover, Listed, Name, copy_cover, copy_name};
 use std::alloc::Global;
-
-fn copy_names(alloc: Global, names: &[Name]) -> Result<Listed<Name>, NoMemory>
-    ensures { IfOk result (λ made. made ≡ names.now) }
-{
-    let mut made = Vec::with_capacity(alloc, names.len())?;
-    for name in names {
-        made.push(copy_name(alloc, name)?)?;
-    }
-    Ok(Listed::from_vec(made))
-}
-
-fn copy_row(alloc: Global, row: &Row) -> Result<Row, NoMemory>
-    ensures { IfOk result (λ made. made ≡ row.now) }
-{
-    Ok(Listed::from_vec(Vec::from_slice(alloc, row.items())?))
-}
-
-fn copy_rows(alloc: Global, rows: &[Row]) -> Result<Listed<Row>, NoMemory>
-    ensures { IfOk result (λ made. made ≡ rows.now) }
-{
-    let mut made = Vec::with_capacity(alloc, rows.len())?;
-    for row in rows {
-        made.push(copy_row(alloc, row)?)?;
-    }
-    Ok(Listed::from_vec(made))
-}
-
-fn copy_cover(alloc: Global, cover: &Cover) -> Result<Cover, NoMemory>
-    ensures { IfOk result (λ made. made ≡ cover.now) }
-{
-    let inputs = copy_names(alloc, cover.inputs.items())?;
-    let output = copy_name(alloc, &cover.output)?;
-    let rows = copy_rows(alloc, cover.rows.items())?;
-    Ok(Cover {
-        inputs,
-        output,
-        on: cover.on,
-        rows,
-    })
-}
 
 // Adds a copy of the cover at a place.
 fn push_copy(

@@ -1,5 +1,5 @@
 use Rattle.std.proofs.Common.{◌≡◌, take}
-use Rattle.sewing.proofs.copying.copy_latches.Given as goal
+use Rattle.rm_model.proofs.copies.copy_latches.Given as goal
 
 abbrev pub invariant-loop-latch : goal.invariant-loop-latch
 invariant-loop-latch l = l.copies.items ≡ take l.latch-index l.latches
