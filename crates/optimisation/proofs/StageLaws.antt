@@ -20,6 +20,7 @@ use Rattle.journal_text.specs.declared.record.Record.TheVariants as record_of
 use Rattle.closing_pass.specs.Reports.{AreClosed}
 use Rattle.closing_pass.specs.declared.report.Report.{Report}
 use Rattle.rar_loop.specs.Rounds.{IsRun, NoPairGains}
+use Rattle.rar_loop.specs.Removed.{HasRemoved}
 use Rattle.rar_loop.specs.Swept.{IsSwept}
 use Rattle.optimisation.specs.Inner.Ended.{HasEnded}
 use Rattle.optimisation.specs.Inner.Ran.{sum_of}
@@ -74,6 +75,27 @@ run_goes_further start now mid before merged steps merge depth limit used tries 
 -- the steps of two runs
 two_counted : (join : RunsJoin) (a b : List Record) → made_by none_made (steps_of (a ++ b)) ≡ sum_of (made_by none_made (steps_of a)) (made_by none_made (steps_of b))
 two_counted join a b = ap (made_by none_made) (join.steps a b) ∙ (join.made none_made (steps_of a) (steps_of b) ∙ counted_on (made_by none_made (steps_of a)) (steps_of b))
+
+-- a sweep, and gates merged behind it
+pub swept_merged : (join : RunsJoin) (texts : TextsAppend) (start swept after : Net) (depth : ℕ) (removed made sum : Made) (changed : Bool) (old one new : Option Files) (name : List ℕ)
+    → HasRemoved start swept depth removed old one name → HasMerged swept after made changed one new name → AreUpTo 35184372088832 made → sum ≡ sum_of removed made
+    → HasMerged start after sum true old new name
+swept_merged join texts start swept after depth removed made sum changed old one new name r m few sum_is =
+    let left : removed.adds + removed.fixes + removed.local ≤ 2097168 = r.few in
+    record {
+      records = r.records ++ m.records;
+      accepted = join.accepted start swept after r.records m.records r.accepted m.accepted;
+      fewer = omega (arith, r.fewer, m.fewer);
+      written = subst (λ (text : List ℕ). HasAppended old new name text) (sym (join.text r.records m.records)) (texts.follows old one new name (records_text r.records) (records_text m.records) r.written m.written);
+      fit = fits_then r.records m.records r.fit m.fit;
+      counted = sum_is ∙ (ap (λ (x : Made). sum_of x made) r.counted ∙ (ap (sum_of (made_by none_made (steps_of r.records))) m.counted ∙ sym (two_counted join r.records m.records)));
+      few = subst (AreUpTo 70368744177664) (sym sum_is) (record {
+        adds = omega (arith, left, few.adds);
+        fixes = omega (arith, left, few.fixes);
+        local = omega (arith, left, few.local);
+      });
+      none = λ same. absurd (true≢false same);
+    }
 
 -- rounds alone are a stage
 pub rounds_staged : (start : Net) (settings : Settings) (merge : ℕ) (rounds : Rounds) (old new : Option Files) (name : List ℕ) → HasEnded start settings rounds old new name → HasStages start settings merge rounds old new name
@@ -207,6 +229,14 @@ merged_few join net after records made accepted counts few =
       fixes = omega (arith, sum, each, few);
       local = omega (arith, sum, each, few);
     }
+
+-- a bound that is greater
+pub up_to : (most more : ℕ) (made : Made) → most ≤ more → AreUpTo most made → AreUpTo more made
+up_to most more made within few = record {
+  adds = omega (arith, within, few.adds);
+  fixes = omega (arith, within, few.fixes);
+  local = omega (arith, within, few.local);
+}
 
 -- where the first record stops, nothing was written; and a part of accepted records is one
 pub stopped_at_once : (texts : TextsAppend) (start : Net) (files : Option Files) (name : List ℕ) → IsThere files name → IsStopped start files files name

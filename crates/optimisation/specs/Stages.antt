@@ -1,4 +1,4 @@
--- The stages of a run: equal gates may be merged before its rounds, and again between them.
+-- The stages of a run: equal gates may be merged after a first sweep, and again between its rounds.
 use Rattle.std.specs.Prelude.{◌≡◌, ◌≤◌, ◌+◌, ◌-◌, ◌++◌, ℕ, Bool, List, true, false}
 use Rattle.gate_net.specs.Net.{Net}
 use Rattle.wire_edit.specs.declared.steps.Step.{Step}
@@ -6,8 +6,8 @@ use Rattle.candidate_wires.specs.Additions.{net_after}
 use Rattle.rar_loop.specs.Rounds.{IsRun, NoPairGains}
 use Rattle.rar_loop.specs.Swept.{IsSwept}
 
--- the steps of a run fall into stages, each of steps that merge gates, or none, and then of rounds with the tries that the stages
--- before have left; how many tries there were in all of them, and whether the last one settled
+-- the steps of a run fall into stages, each of steps that sweep and merge gates, or none, and then of rounds with the tries that the
+-- stages before have left; how many tries there were in all of them, and whether the last one settled
 pub data HaveStages (net : Net) (depth limit : ℕ) : List Step → ℕ → Bool → Type 0 where
   first : (merged steps : List Step) {tries : ℕ} {settled : Bool} → IsRun (net_after net merged) steps depth limit tries settled → HaveStages net depth limit (merged ++ steps) tries settled
   further :

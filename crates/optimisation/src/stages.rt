@@ -1,4 +1,4 @@
-//! The stages of a run: equal gates are merged before its rounds or after them, and rounds go on behind that.
+//! The stages of a run: equal gates are merged after a first sweep or after rounds, and rounds go on behind that.
 ghost use Rattle.std.specs.Prelude.{◌≡◌, ◌≤◌, ◌+◌, Err, IfOk, OnErr, true};
 ghost use Rattle.rm_base.specs.Causes.{Rose};
 ghost use Rattle.gate_net.specs.Net.{wire_count};
@@ -20,6 +20,7 @@ use journal_text::{
     Stop, accepted_runs_are_writable, append_records, count_records, runs_join, texts_append,
 };
 use merging::merge_equal;
+use rar_loop::remove_redundant;
 use rm_base::{Gate, Made, Settings, Shelf};
 use std::alloc::Global;
 use std::thread::Threads;
@@ -44,6 +45,7 @@ fn merge_gates<S: Shelf>(
     requires settings { AreSettings settings.now }
     requires there { IsThere (S.files shelf.old) journal.now }
     ensures merged { IfOk result (λ m. HasMerged (net_of graph) (net_of m.graph) m.made m.changed (S.files shelf.old) (S.files shelf.new) journal.now) }
+    ensures few { IfOk result (λ m. AreUpTo 35184372088832 m.made) }
     ensures tidy { IfOk result (λ m. IsTidy (net_of m.graph)) }
     ensures within { IfOk result (λ m. IsWithin graph m.graph) }
     ensures stopped { OnErr result (IsStopped (net_of graph) (S.files shelf.old) (S.files shelf.new) journal.now) }
@@ -107,6 +109,35 @@ fn counted_on(made: Made, tries: u32, rounds: Rounds) -> Rounds
     Rounds { last, report }
 }
 
+// What is redundant without any addition goes, and then equal gates are merged: the steps of both.
+fn sweep_and_merge<S: Shelf>(
+    alloc: Global,
+    graph: Graph,
+    settings: &Settings,
+    shelf: &mut S,
+    journal: &str,
+) -> Result<Merged, Stop>
+    requires few { pins_taken graph + live_nodes graph ≤ 1048576 }
+    requires settings { AreSettings settings.now }
+    requires there { IsThere (S.files shelf.old) journal.now }
+    ensures merged { IfOk result (λ m. HasMerged (net_of graph) (net_of m.graph) m.made m.changed (S.files shelf.old) (S.files shelf.new) journal.now) }
+    ensures few { IfOk result (λ m. pins_taken m.graph + live_nodes m.graph ≤ 1048576) }
+    ensures stopped { OnErr result (IsStopped (net_of graph) (S.files shelf.old) (S.files shelf.new) journal.now) }
+    ensures there { IsThere (S.files shelf.new) journal.now }
+    ensures failed { result ≡ Err stop.Failed → Rose (S.faults shelf.old) (S.faults shelf.new) }
+    ensures later { S.faults shelf.old ≤ S.faults shelf.new }
+{
+    runs_join();
+    texts_append();
+    let (swept, made) = remove_redundant(alloc, graph, settings.depth, shelf, journal)?;
+    let merged = merge_gates(alloc, swept, settings, shelf, journal)?;
+    Ok(Merged {
+        graph: merged.graph,
+        made: both(made, merged.made),
+        changed: true,
+    })
+}
+
 // Whether gates are merged before the first round.
 fn merges_first(merge: u8, tries: u32) -> bool
     ensures { result ≡ true → merge ≡ 0 → ⊥ }
@@ -128,7 +159,7 @@ fn merges_again(merge: u8, tries: u32) -> bool
     }
 }
 
-// The first stage: rounds alone, or behind a merging.
+// The first stage: rounds alone, or behind a sweep and a merging.
 fn first_stage<R: Threads + Sync, G: Gate, S: Shelf>(
     rt: &R,
     alloc: Global,
@@ -155,7 +186,7 @@ fn first_stage<R: Threads + Sync, G: Gate, S: Shelf>(
     if !merges_first(merge, settings.tries) {
         return go_rounds(rt, alloc, graph, settings, gate, shelf, journal);
     }
-    let merged = merge_gates(alloc, graph, settings, shelf, journal)?;
+    let merged = sweep_and_merge(alloc, graph, settings, shelf, journal)?;
     let rounds = go_rounds(rt, alloc, merged.graph, settings, gate, shelf, journal)?;
     Ok(counted_on(merged.made, 0, rounds))
 }
@@ -213,8 +244,8 @@ fn further_stage<R: Threads + Sync, G: Gate, S: Shelf>(
     Ok(counted_on(both(made, merged.made), tries, more))
 }
 
-/// Goes round by round. Equal gates aren't merged (`merge` is 0); or once the rounds have ended, and without tries before they
-/// begin (1); or both (2 and more). Where some were merged behind rounds, further rounds have the tries that are left.
+/// Goes round by round. Equal gates aren't merged (`merge` is 0); or once the rounds have ended, and without tries after a sweep
+/// before they begin (1); or both (2 and more). Where some were merged behind rounds, further rounds have the tries that are left.
 pub(crate) fn go_stages<R: Threads + Sync, G: Gate, S: Shelf>(
     rt: &R,
     alloc: Global,

@@ -113,8 +113,8 @@ fn fill_journal<R: Threads + Sync, G: Gate, S: Shelf>(
 }
 
 /// Optimises the decomposition of a model, and writes the journal of it: the header, every step with its tree, a verdict for
-/// each fault that remains, and the end. Equal gates are merged once the addition loop has ended, or, without tries, before it
-/// (`merge` is 1), or both (2 and more), or never (0).
+/// each fault that remains, and the end. Equal gates are merged once the addition loop has ended, or, without tries, after a
+/// first sweep (`merge` is 1), or both (2 and more), or never (0).
 pub fn optimised_model<R: Threads + Sync, G: Gate, S: Shelf>(
     rt: &R,
     alloc: Global,

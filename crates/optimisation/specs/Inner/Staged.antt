@@ -30,7 +30,7 @@ pub record HasMerged (net after : Net) (made : Made) (changed : Bool) (old new :
   pub written : HasAppended old new journal (records_text records)
   pub fit : AreFit records
   pub counted : made ≡ made_by none_made (steps_of records)
-  pub few : AreUpTo 35184372088832 made
+  pub few : AreUpTo 70368744177664 made
   pub none : changed ≡ false → records ≡ []
 
 -- accepted records lead from the first net to that of the last round; they are a run of stages, and their steps are counted

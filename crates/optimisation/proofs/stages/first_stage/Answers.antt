@@ -20,13 +20,13 @@ pub returns-in_err-rounds-clause-stopped : goal.returns-in_err-rounds-clause-sto
 returns-in_err-rounds-clause-stopped g c =
     let m = c.in_ok-merged.ensures.merged in
     on_err c.from_residual-in_err-rounds.result
-    (stopped_then c.runs_join.ensures c.texts_append.ensures (net_of c.args.graph) (net_of c.in_ok-merged.merged.graph) m.records (g.S.Shelf.files c.args.shelf.now) (g.S.Shelf.files c.merge_gates.new.shelf) (g.S.Shelf.files c.go_rounds-2.new.shelf) c.args.journal.now
+    (stopped_then c.runs_join.ensures c.texts_append.ensures (net_of c.args.graph) (net_of c.in_ok-merged.merged.graph) m.records (g.S.Shelf.files c.args.shelf.now) (g.S.Shelf.files c.sweep_and_merge.new.shelf) (g.S.Shelf.files c.go_rounds-2.new.shelf) c.args.journal.now
     m.accepted m.written c.in_err-rounds.ensures.stopped)
 
 pub returns-clause-staged : goal.returns-clause-staged
 returns-clause-staged g c =
     let t = c.counted_on.ensures.tries in
     merged_staged c.runs_join.ensures c.texts_append.ensures (net_of c.args.graph) c.in_ok-merged.merged.graph c.args.settings.now c.args.merge c.in_ok-merged.merged.made c.in_ok-merged.merged.changed c.in_ok-rounds.rounds c.counted_on.result
-    (g.S.Shelf.files c.args.shelf.now) (g.S.Shelf.files c.merge_gates.new.shelf) (g.S.Shelf.files c.go_rounds-2.new.shelf) c.args.journal.now
+    (g.S.Shelf.files c.args.shelf.now) (g.S.Shelf.files c.sweep_and_merge.new.shelf) (g.S.Shelf.files c.go_rounds-2.new.shelf) c.args.journal.now
     (c.merges_first.ensures c.if-not-merges_first.false)
     c.in_ok-merged.ensures.merged c.in_ok-rounds.ensures.ended c.counted_on.ensures.graph c.counted_on.ensures.made (omega (arith, t)) c.counted_on.ensures.settled c.counted_on.ensures.report
