@@ -3,7 +3,7 @@ _rambo() {
     local word="${COMP_WORDS[COMP_CWORD]}" before="${COMP_WORDS[COMP_CWORD - 1]}" command="${COMP_WORDS[1]}" names
     COMPREPLY=()
     if [ "$COMP_CWORD" = 1 ]; then
-        COMPREPLY=($(compgen -W "opt check demo flat tests replay convert equal judge optcare cut --help --version" -- "$word"))
+        COMPREPLY=($(compgen -W "opt check demo flat tests replay convert equal judge optcare cut sew --help --version" -- "$word"))
         return
     fi
     case "$before" in
@@ -13,7 +13,7 @@ _rambo() {
     case "$command:$word" in
         opt:-* | demo:-*) COMPREPLY=($(compgen -W "--depth --budget --tries --workers --merge" -- "$word")); return ;;
         equal:-* | optcare:-*) COMPREPLY=($(compgen -W "--depth --budget" -- "$word")); return ;;
-        cut:-*) COMPREPLY=($(compgen -W "--shift" -- "$word")); return ;;
+        cut:-* | sew:-*) COMPREPLY=($(compgen -W "--shift" -- "$word")); return ;;
         demo:*) return ;;
     esac
     mapfile -t names < <(compgen -f -- "$word")

@@ -74,11 +74,11 @@ pub(crate) const OPTIONS: [OptionRule; 6] = [
         high: 65_536,
         default: 0,
         meaning: "wires of the first window, which moves all others; 0 gives it as many as they have",
-        commands: &["cut"],
+        commands: &["cut", "sew"],
     },
 ];
 
-pub(crate) const COMMANDS: [CommandRule; 11] = [
+pub(crate) const COMMANDS: [CommandRule; 12] = [
     CommandRule {
         name: "opt",
         usage: "opt IN OUT [JOURNAL] [options]",
@@ -176,7 +176,16 @@ pub(crate) const COMMANDS: [CommandRule; 11] = [
         least: 3,
         different: &[],
         written: &[],
-        meaning: "cut the BLIF netlist IN, of any size, into windows of about WIDTH wires, netlists of their own, and write them to PREFIX1.blif, PREFIX2.blif and so on",
+        meaning: "cut the BLIF netlist IN, of up to 16,777,216 bytes, into windows of about WIDTH wires, netlists of their own, and write them to PREFIX1.blif, PREFIX2.blif and so on",
+    },
+    CommandRule {
+        name: "sew",
+        usage: "sew IN WIDTH PREFIX OUT [options]",
+        names: &["IN", "WIDTH", "PREFIX", "OUT"],
+        least: 4,
+        different: &[(0, 3)],
+        written: &["OUT"],
+        meaning: "cut the BLIF netlist IN as cut does, make the steps of PREFIX1.journal, PREFIX2.journal and so on over those windows that have one, and write IN with what the windows become to OUT",
     },
 ];
 

@@ -4,12 +4,13 @@ ghost use Rattle.diagnostics.specs.Terminal.{IsTerminalText};
 
 use crate::comparisons::{UnlikeLists, say_care_shape, say_differ, say_undecided, say_unlike};
 use crate::failures::{Failure, say_failure};
-use crate::journals::{RefusedLine, say_difference, say_refused_line};
+use crate::journals::{RefusedLine, say_difference, say_refused, say_refused_line};
 use crate::limits::say_limit;
 use crate::message::Message;
 use crate::parts::Part;
 use crate::printed::{
     Printed, journal_line, journal_place, number, printed_words, proof_kind, proof_line,
+    window_words,
 };
 use crate::proof_lines::{RefusedProof, say_refused_proof};
 use crate::reading::{Reading, read_words};
@@ -87,6 +88,8 @@ fn journal_name<'a>(reading: &Reading<'a>) -> &'a str {
         name_for(reading, "FROM")
     } else if is_of(reading, "judge") {
         name_for(reading, "PROOF")
+    } else if is_of(reading, "sew") {
+        "the journal of a window"
     } else {
         name_for(reading, "JOURNAL")
     }
@@ -181,6 +184,29 @@ fn say_journal(
     )
 }
 
+// What is wrong with the journal of the window with this number.
+fn say_window(
+    alloc: Global,
+    message: Message,
+    reading: &Reading<'_>,
+    number: &str,
+    words: &str,
+) -> Result<Message, NoMemory> {
+    let printed = printed_words(words);
+    let name = format!(in alloc; "{}{}.journal", name_for(reading, "PREFIX"), number)?;
+    let message = say_refused(
+        message,
+        &RefusedLine {
+            name: name.as_str(),
+            place: journal_place(&printed, &[]),
+            line: &[],
+            kind: printed.fourth,
+            rest: printed.rest,
+        },
+    )?;
+    message.say(&[Part::Text("hint: a window whose journal isn't there stays as it is\n")])
+}
+
 fn say_proof(
     message: Message,
     reading: &Reading<'_>,
@@ -240,6 +266,9 @@ fn explained(alloc: Global, colours: bool, ending: &Ending<'_>) -> Result<Messag
     let printed = printed_words(ending.printed);
     let reading = read_words(alloc, ending.words)?;
     let message = Message::new(alloc, colours);
+    if let Some((number, words)) = window_words(ending.printed) {
+        return say_window(alloc, message, &reading, number, words);
+    }
     match printed.first {
         "words" => say_refusal(message, &reading),
         "text" => say_text_fault(

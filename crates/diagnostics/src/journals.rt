@@ -149,6 +149,14 @@ pub(crate) fn say_refused_line(
     message: Message,
     refused: &RefusedLine<'_>,
 ) -> Result<Message, NoMemory> {
+    say_hint(say_refused(message, refused)?, hint_of(refused))
+}
+
+/// Where the journal is refused and why.
+pub(crate) fn say_refused(
+    message: Message,
+    refused: &RefusedLine<'_>,
+) -> Result<Message, NoMemory> {
     let message = message.say(&[Part::Word(refused.name.as_bytes())])?;
     let mut message = say_place(message, refused.place)?.say(&[
         Part::Red("error: "),
@@ -158,7 +166,7 @@ pub(crate) fn say_refused_line(
     if !refused.line.is_empty() && refused.line != JOURNAL_OF_BYTES {
         message = message.say(&[Part::Text("  "), Part::Word(refused.line), Part::Text("\n")])?;
     }
-    say_hint(message, hint_of(refused))
+    Ok(message)
 }
 
 /// The byte at which the output differs, in the text of the output as far as it is known.

@@ -26,6 +26,7 @@ mod reading;
 mod refusals;
 mod text_faults;
 mod usage;
+mod windows;
 
 pub use explaining::{Ending, Subject, SubjectPart, explanation, subject_of};
 pub use failures::{Failure, Operation, Reason};
@@ -35,3 +36,4 @@ pub use notes::{closing_note, undecodable_word, warning};
 pub use outputs::{Outputs, outputs_of};
 pub use parts::Part;
 pub use progress::{Progress, progress_line};
+pub use windows::{is_window_journal, journals_prefix};

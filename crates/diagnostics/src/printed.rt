@@ -46,6 +46,12 @@ pub(crate) fn printed_words(printed: &str) -> Printed<'_> {
     }
 }
 
+/// The number of the window of which the line speaks, and what it says of its journal.
+pub(crate) fn window_words(printed: &str) -> Option<(&str, &str)> {
+    let rest = first_line(printed).strip_prefix("window ")?;
+    Some(cut(rest))
+}
+
 /// The number that a word is, or 0.
 pub(crate) fn number(word: &str) -> u64 {
     word.parse::<u64>().unwrap_or(0)

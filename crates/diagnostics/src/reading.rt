@@ -1,5 +1,6 @@
 // The words of the command line, read once more to say why they are refused and which file has which name.
 use crate::commands::{CommandRule, OptionRule, command_named, option_named};
+use crate::windows::{is_window_file, is_window_journal};
 use rm_base::NoMemory;
 use std::alloc::Global;
 
@@ -13,14 +14,28 @@ pub(crate) enum Refusal<'a> {
     NoOption(&'a str),
     NoValue(&'a str),
     GivenTwice(&'a str),
-    NotANumber { option: &'a str, value: &'a str },
-    NotInRange { option: OptionRule, value: &'a str },
+    NotANumber {
+        option: &'a str,
+        value: &'a str,
+    },
+    NotInRange {
+        option: OptionRule,
+        value: &'a str,
+    },
     NotASeed(&'a str),
     NotAWidth(&'a str),
-    IsOfWindow { input: &'a str, prefix: &'a str },
+    IsOfWindow {
+        role: &'static str,
+        name: &'a str,
+        prefix: &'a str,
+        kind: &'static str,
+    },
     TooFewNames(usize),
     TooManyNames(&'a str),
-    EqualNames { first: usize, second: usize },
+    EqualNames {
+        first: usize,
+        second: usize,
+    },
 }
 
 /// What was read of the words.
@@ -64,15 +79,15 @@ fn is_width(word: &str) -> bool {
     }
 }
 
-// Whether the name is the prefix, a number and `.blif`.
-fn is_of_window(name: &str, prefix: &str) -> bool {
-    let Some(rest) = name.strip_prefix(prefix) else {
-        return false;
-    };
-    let Some(digits) = rest.strip_suffix(".blif") else {
-        return false;
-    };
-    !digits.is_empty() && digits.as_bytes().iter().all(|digit| digit.is_ascii_digit())
+// What of a window has the name, if anything: its file, or its journal where there are journals.
+fn kind_of_window(name: &str, prefix: &str, has_journals: bool) -> Option<&'static str> {
+    if is_window_file(name, prefix) {
+        return Some("file");
+    }
+    if has_journals && is_window_journal(name, prefix) {
+        return Some("journal");
+    }
+    None
 }
 
 // Why the value isn't one of the option.
@@ -187,22 +202,37 @@ impl<'a> Reading<'a> {
             self.take_seed(word);
         }
         if command.name == "cut" {
-            self.take_windows();
+            self.take_width();
+            self.take_beside_windows("IN", 0, false);
+        }
+        if command.name == "sew" {
+            self.take_width();
+            self.take_beside_windows("IN", 0, true);
+            self.take_beside_windows("OUT", 3, true);
         }
     }
 
-    // Looks at the names of `cut`.
-    fn take_windows(&mut self) {
+    // Looks at the second name of `cut` or `sew`.
+    fn take_width(&mut self) {
         if let Some(word) = nth(self.names.as_slice(), 1)
             && !is_width(word)
         {
             self.refuse(Refusal::NotAWidth(word));
         }
-        if let Some(input) = nth(self.names.as_slice(), 0)
+    }
+
+    // Looks whether the name at this place is one of a window, by the third name.
+    fn take_beside_windows(&mut self, role: &'static str, at: usize, has_journals: bool) {
+        if let Some(name) = nth(self.names.as_slice(), at)
             && let Some(prefix) = nth(self.names.as_slice(), 2)
-            && is_of_window(input, prefix)
+            && let Some(kind) = kind_of_window(name, prefix, has_journals)
         {
-            self.refuse(Refusal::IsOfWindow { input, prefix });
+            self.refuse(Refusal::IsOfWindow {
+                role,
+                name,
+                prefix,
+                kind,
+            });
         }
     }
 

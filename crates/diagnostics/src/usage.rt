@@ -22,7 +22,7 @@ exit status:
   4  out of memory
   5  something is over its limit
   6  check, tests: JOURNAL isn't accepted, or OUT differs; convert: FROM is no journal of version 1;
-     judge: PROOF isn't accepted
+     judge: PROOF isn't accepted; sew: the journal of a window isn't accepted
   7  equal: the netlists differ
   8  equal: the search used up its budget
   9  equal, judge: the sources or the observed names of A and B aren't the same;
@@ -108,6 +108,9 @@ pub(crate) fn say_help(message: Message) -> Result<Message, NoMemory> {
         )])?,
         "opt",
     )?;
-    let message = say_options(message.say(&[Part::Text("\noption of cut:\n")])?, "cut")?;
+    let message = say_options(
+        message.say(&[Part::Text("\noption of cut and sew:\n")])?,
+        "cut",
+    )?;
     message.say(&[Part::Text("\n"), Part::Text(FURTHER)])
 }

@@ -4,8 +4,8 @@ ghost use Rattle.rm_base.specs.Causes.{HasCause};
 
 use crate::failing::{Cause, Failed};
 use crate::watch::Watch;
-use diagnostics::{Operation, Progress};
-use rm_base::{OutsideFault, Shelf};
+use diagnostics::{Operation, Progress, is_window_journal, journals_prefix};
+use rm_base::{NoMemory, OutsideFault, Shelf};
 use std::alloc::Global;
 use std::fs::{File, Metadata, OpenOptions, TryLockError};
 use std::io::{Error, ErrorKind, Read, Seek, SeekFrom, Write};
@@ -36,6 +36,9 @@ struct Created {
     file: File,
     written: u64,
 }
+
+// So many of the files that were created stay open. Only windows are more: of those the one that was created first is closed.
+const MOST_CREATED: usize = 64;
 
 // What the pipe that was begun last has given first, for a message that shows a line of it: messages speak of the last file read.
 #[derive(Drop)]
@@ -181,6 +184,15 @@ fn add(created: &mut Vec<Created>, name: &str, bytes: &[u8]) -> io::Result<()> {
     Err(Error::from(ErrorKind::NotFound))
 }
 
+// One more file that was created.
+fn hold(created: &mut Vec<Created>, one: Created) -> Result<(), NoMemory> {
+    if created.len() >= MOST_CREATED {
+        created.remove(0);
+    }
+    created.push(one)?;
+    Ok(())
+}
+
 // How many bytes were added to the file that was created under this name.
 fn written_to(created: &[Created], name: &str) -> u64 {
     for one in created {
@@ -202,11 +214,13 @@ fn keep(alloc: Global, given: &mut Option<Given>, name: &str, from: u64, bytes: 
 }
 
 /// The real files. A file is read or created in a run, and not both, whatever names it has. The last call that failed is kept.
+/// The journal of a window that may be left out is read as an empty file where it isn't there.
 #[derive(Drop)]
 pub struct FileShelf<'a, R: Files<File = File> + Clock> {
     rt: &'a R,
     alloc: Global,
     watch: &'a Watch<'a, R>,
+    windows: Option<&'a str>,
     faults: u64,
     reading: Option<Reading>,
     created: Vec<Created>,
@@ -222,6 +236,7 @@ impl<'a, R: Files<File = File> + Clock> FileShelf<'a, R> {
             rt,
             alloc,
             watch,
+            windows: None,
             faults: 0,
             reading: None,
             created: Vec::new(alloc),
@@ -230,6 +245,12 @@ impl<'a, R: Files<File = File> + Clock> FileShelf<'a, R> {
             failed: None,
             progress: Progress::default(),
         }
+    }
+
+    /// Which files may be left out in the run of these words.
+    pub fn fit_to(&mut self, words: &'a [String]) -> Result<(), NoMemory> {
+        self.windows = journals_prefix(self.alloc, words)?;
+        Ok(())
     }
 
     /// The last call that failed.
@@ -250,6 +271,14 @@ impl<'a, R: Files<File = File> + Clock> FileShelf<'a, R> {
         ensures { self.new.faults ≡ self.old.faults }
     {
         self.failed = Failed::new(self.alloc, operation, name, cause);
+    }
+
+    // Whether a file of this name may be left out.
+    fn may_be_absent(&self, name: &str) -> bool {
+        match self.windows {
+            Some(prefix) => is_window_journal(name, prefix),
+            None => false,
+        }
     }
 
     fn is_pipe(&self) -> bool {
@@ -291,6 +320,9 @@ impl<'a, R: Files<File = File> + Clock> Shelf for FileShelf<'a, R> {
                 if error.kind() == ErrorKind::OutOfMemory {
                     return Err(OutsideFault::NoMemory);
                 }
+                if error.kind() == ErrorKind::NotFound && self.may_be_absent(name) {
+                    return Ok(Some(Vec::new(self.alloc)));
+                }
                 self.faults = self.faults.saturating_add(1);
                 self.note(Operation::Read, name, Cause::Host(error));
                 Err(OutsideFault::Failed)
@@ -306,11 +338,12 @@ impl<'a, R: Files<File = File> + Clock> Shelf for FileShelf<'a, R> {
         match open_emptied(self.rt, self.used.as_slice(), name) {
             Ok((file, node)) => {
                 self.used.push(node)?;
-                self.created.push(Created {
+                let created = Created {
                     name: kept,
                     file,
                     written: 0,
-                })?;
+                };
+                hold(&mut self.created, created)?;
                 Ok(())
             }
             Err(cause) => {

@@ -11,4 +11,6 @@ mod messages;
 #[cfg(test)]
 mod notes;
 #[cfg(test)]
+mod refused_words;
+#[cfg(test)]
 mod words;

@@ -18,7 +18,7 @@ const OPTIONS: [&str; 2] = [
 const REFUSALS: [(&str, &str); 17] = [
     (
         "optimise a b",
-        "rambo: error: no command 'optimise'; the commands are opt check demo flat tests replay convert equal judge optcare cut\nusage:\n  rambo opt IN OUT [JOURNAL] [options]\n  rambo check IN JOURNAL OUT\n  rambo demo SEED [options]\n  rambo flat IN OUT\n  rambo tests IN JOURNAL OUT PATTERNS\n  rambo replay IN JOURNAL OUT\n  rambo convert FROM TO\n  rambo equal A B PROOF [options]\n  rambo judge A B PROOF\n  rambo optcare IN CARE OUT TESTS [options]\n  rambo cut IN WIDTH PREFIX [options]\nrambo --help lists the options; man rambo has more\n",
+        "rambo: error: no command 'optimise'; the commands are opt check demo flat tests replay convert equal judge optcare cut sew\nusage:\n  rambo opt IN OUT [JOURNAL] [options]\n  rambo check IN JOURNAL OUT\n  rambo demo SEED [options]\n  rambo flat IN OUT\n  rambo tests IN JOURNAL OUT PATTERNS\n  rambo replay IN JOURNAL OUT\n  rambo convert FROM TO\n  rambo equal A B PROOF [options]\n  rambo judge A B PROOF\n  rambo optcare IN CARE OUT TESTS [options]\n  rambo cut IN WIDTH PREFIX [options]\n  rambo sew IN WIDTH PREFIX OUT [options]\nrambo --help lists the options; man rambo has more\n",
     ),
     (
         "--version",
@@ -151,6 +151,34 @@ const CUT_REFUSALS: [(&str, &str); 5] = [
     (
         "cut d/p12.blif 7 d/p",
         "rambo: error: IN 'd/p12.blif' is the name of a window's file, of PREFIX 'd/p'\nusage: rambo cut IN WIDTH PREFIX [options]\n",
+    ),
+];
+
+// The same of `sew`.
+const SEW_REFUSALS: [(&str, &str); 6] = [
+    (
+        "sew a 7 p",
+        "rambo: error: sew lacks OUT\nusage: rambo sew IN WIDTH PREFIX OUT [options]\n",
+    ),
+    (
+        "sew a 0x7 p o",
+        "rambo: error: WIDTH '0x7' is not a decimal number from 1 to 65536\nusage: rambo sew IN WIDTH PREFIX OUT [options]\n",
+    ),
+    (
+        "sew a 7 p a",
+        "rambo: error: IN and OUT are both 'a'; the names must differ\nusage: rambo sew IN WIDTH PREFIX OUT [options]\n",
+    ),
+    (
+        "sew d/p12.blif 7 d/p o",
+        "rambo: error: IN 'd/p12.blif' is the name of a window's file, of PREFIX 'd/p'\nusage: rambo sew IN WIDTH PREFIX OUT [options]\n",
+    ),
+    (
+        "sew a 7 p p1.blif",
+        "rambo: error: OUT 'p1.blif' is the name of a window's file, of PREFIX 'p'\nusage: rambo sew IN WIDTH PREFIX OUT [options]\n",
+    ),
+    (
+        "sew a 7 p p1.journal",
+        "rambo: error: OUT 'p1.journal' is the name of a window's journal, of PREFIX 'p'\nusage: rambo sew IN WIDTH PREFIX OUT [options]\n",
     ),
 ];
 
@@ -379,6 +407,9 @@ fn refused_words_are_explained(rt: HostRuntime) -> Result<(), Fail> {
         assert!(rt; is_refused(rt.alloc(), words, wanted, 0)?, "{words}");
     }
     for (words, wanted) in CUT_REFUSALS {
+        assert!(rt; is_refused(rt.alloc(), words, wanted, 0)?, "{words}");
+    }
+    for (words, wanted) in SEW_REFUSALS {
         assert!(rt; is_refused(rt.alloc(), words, wanted, 0)?, "{words}");
     }
     for (words, wanted) in CARE_REFUSALS {

@@ -38,8 +38,8 @@ fn words(rt: &HostRuntime) -> Result<(Vec<String>, bool), AllocError> {
 }
 
 // The status where there is no memory for the words.
-fn without_memory(rt: &HostRuntime) -> u8 {
-    match StdoutSink::new(rt, rt.alloc()).put(b"memory\n") {
+fn without_memory<O: Sink>(out: &mut O) -> u8 {
+    match out.put(b"memory\n") {
         Err(OutsideFault::Failed) => 3,
         _ => 4,
     }
@@ -65,6 +65,9 @@ fn run_words<R: Files<File = File> + Clock + Print + Threads + Sync + AllocGloba
     warn_ahead(rt, alloc, watch, words);
     let mut shelf = FileShelf::new(rt, alloc, watch);
     let mut sink = StdoutSink::new(rt, alloc);
+    if shelf.fit_to(words).is_err() {
+        return without_memory(&mut sink);
+    }
     let gate = CountingGate::new(watch, alloc);
     let status = run(rt, alloc, keys, words, &mut shelf, &mut sink, &gate);
     if are_text {
@@ -81,6 +84,6 @@ fn main(rt: HostRuntime) -> ExitCode {
         Ok((words, are_text)) => {
             ExitCode::from(run_words(&rt, name_keys(&rt), &watch, words.as_slice(), are_text))
         }
-        Err(_) => ExitCode::from(without_memory(&rt)),
+        Err(_) => ExitCode::from(without_memory(&mut StdoutSink::new(&rt, rt.alloc()))),
     }
 }

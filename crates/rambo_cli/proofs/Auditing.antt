@@ -18,7 +18,7 @@ use Rattle.rambo_cli.specs.Inner.Problems.{ModelCause}
 use Rattle.rambo_cli.specs.Written.{Exceeds, IsSaid}
 use Rattle.rambo_cli.specs.Inner.Written.{IsUsable}
 use Rattle.rambo_cli.specs.declared.problem.Problem.{Problem}
-use Rattle.rambo_cli.specs.declared.problem.Problem.TheVariants.{Fault, Journal, Limit, Proof, Memory, Missing, Netlist, Second, Unlike, Record, Text, Words, CareShape}
+use Rattle.rambo_cli.specs.declared.problem.Problem.TheVariants.{Fault, Journal, Limit, Proof, Memory, Missing, Netlist, Second, Unlike, Record, Text, Words, CareShape, Window}
 use Rattle.rm_base.specs.Words.{Word}
 
 audited : (found : AuditProblem) (m : Model) (input journal output : Word) (files : Option Files) → IfSome files (λ told. Holds told input (λ text. IsSaid text m)) → decomposed m ≤ 65536
@@ -59,6 +59,7 @@ read_in_check input journal output files before now (Netlist byte) h = absurd h
 read_in_check input journal output files before now (Second found) h = absurd h
 read_in_check input journal output files before now (Unlike list at) h = absurd h
 read_in_check input journal output files before now CareShape h = absurd h
+read_in_check input journal output files before now (Window number stop) h = absurd h
 read_in_check input journal output files before now (Proof found) h = absurd h
 
 -- and a passed audit is what `check` says
@@ -86,4 +87,5 @@ too_many m input files before now (Netlist byte) said cause = absurd cause
 too_many m input files before now (Second found) said cause = absurd cause
 too_many m input files before now (Unlike list at) said cause = absurd cause
 too_many m input files before now CareShape said cause = absurd cause
+too_many m input files before now (Window number stop) said cause = absurd cause
 too_many m input files before now (Proof found) said cause = absurd cause

@@ -29,7 +29,7 @@ use Rattle.rambo_cli.specs.Inner.Problems.{outside_problem, stop_problem}
 use Rattle.rambo_cli.specs.declared.problem.NameList.{NameList}
 use Rattle.rambo_cli.specs.declared.summary.CareFigures.{CareFigures}
 use Rattle.rambo_cli.specs.declared.problem.Problem.{Problem}
-use Rattle.rambo_cli.specs.declared.problem.Problem.TheVariants.{Words, Text, Limit, Missing, Fault, Journal, Record as OfRecord, Netlist, Second, Unlike, CareShape, Proof, Memory}
+use Rattle.rambo_cli.specs.declared.problem.Problem.TheVariants.{Words, Text, Limit, Missing, Fault, Journal, Record as OfRecord, Netlist, Second, Unlike, CareShape, Window, Proof, Memory}
 use Rattle.rambo_cli.proofs.Rising.{risen_after}
 
 -- what is found of the two texts
@@ -46,6 +46,7 @@ pair_care input care files before now (Netlist byte) h = absurd h
 pair_care input care files before now (Second found) h = h
 pair_care input care files before now (Unlike list at) h = absurd h
 pair_care input care files before now CareShape h = absurd h
+pair_care input care files before now (Window number stop) h = absurd h
 pair_care input care files before now (Proof found) h = absurd h
 
 -- or of their models
@@ -60,6 +61,7 @@ shape_told m c input care (Some told) read h = record { model = m; cares = c; re
 pub misfit_cause : (m c : Model) (input care : Word) (files : Option Files) (before now : ℕ) (problem : Problem) → IfSome files (AreRead input care m c) → IsMisfit m c problem → Caused (OptcareFinds input care files) before now problem
 misfit_cause m c input care files before now (Unlike list at) read h = misfit_told m c input care files list at read h
 misfit_cause m c input care files before now CareShape read h = shape_told m c input care files read h
+misfit_cause m c input care files before now (Window number stop) read h = absurd h
 misfit_cause m c input care files before now (Proof found) read h = absurd h
 misfit_cause m c input care files before now Memory read h = tt
 misfit_cause m c input care files before now Fault read h = absurd h
@@ -86,6 +88,7 @@ cut_cause Finds before mid now (Netlist byte) later h = absurd h
 cut_cause Finds before mid now (Second found) later h = absurd h
 cut_cause Finds before mid now (Unlike list at) later h = absurd h
 cut_cause Finds before mid now CareShape later h = absurd h
+cut_cause Finds before mid now (Window number stop) later h = absurd h
 cut_cause Finds before mid now (Proof found) later h = absurd h
 
 pub cut_kept : {A : Type 0} (before now : ℕ) (problem : Problem) (old new : A) → IsCutShort before now problem → KeepsFiles problem old new
@@ -101,6 +104,7 @@ cut_kept before now (Netlist byte) old new h = absurd h
 cut_kept before now (Second found) old new h = absurd h
 cut_kept before now (Unlike list at) old new h = absurd h
 cut_kept before now CareShape old new h = absurd h
+cut_kept before now (Window number stop) old new h = absurd h
 cut_kept before now (Proof found) old new h = absurd h
 
 -- the text of records, by its header and the rest

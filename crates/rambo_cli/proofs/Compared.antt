@@ -29,7 +29,7 @@ use Rattle.rambo_cli.specs.Inner.Files.{BeginsFile}
 use Rattle.rambo_cli.specs.Inner.Problems.{outside_problem}
 use Rattle.rambo_cli.specs.Inner.Written.{IsUsable}
 use Rattle.rambo_cli.specs.declared.problem.Problem.{Problem}
-use Rattle.rambo_cli.specs.declared.problem.Problem.TheVariants.{Words, Text, Limit, Missing, Fault, Journal, Record, Netlist, Second, Unlike, CareShape, Proof, Memory}
+use Rattle.rambo_cli.specs.declared.problem.Problem.TheVariants.{Words, Text, Limit, Missing, Fault, Journal, Record, Netlist, Second, Unlike, CareShape, Window, Proof, Memory}
 use Rattle.rambo_cli.proofs.Rising.{risen_after}
 use Rattle.rambo_cli.proofs.Writing.{told}
 
@@ -50,6 +50,7 @@ kept_for (Netlist byte) old new e = e
 kept_for (Second found) old new e = e
 kept_for (Unlike list at) old new e = e
 kept_for CareShape old new e = e
+kept_for (Window number stop) old new e = e
 kept_for (Proof found) old new e = e
 kept_for Memory old new e = tt
 
@@ -67,6 +68,7 @@ pair_equal first second files before now (Netlist byte) h = absurd h
 pair_equal first second files before now (Second found) h = h
 pair_equal first second files before now (Unlike list at) h = absurd h
 pair_equal first second files before now CareShape h = absurd h
+pair_equal first second files before now (Window number stop) h = absurd h
 pair_equal first second files before now (Proof found) h = absurd h
 
 -- why two models that were read aren't compared
@@ -94,6 +96,7 @@ unlike_cause m n first second files before now (Record r) read h = absurd h
 unlike_cause m n first second files before now (Netlist byte) read h = absurd h
 unlike_cause m n first second files before now (Second found) read h = absurd h
 unlike_cause m n first second files before now CareShape read h = absurd h
+unlike_cause m n first second files before now (Window number stop) read h = absurd h
 unlike_cause m n first second files before now (Proof found) read h = absurd h
 
 -- a call of the store that failed, after others

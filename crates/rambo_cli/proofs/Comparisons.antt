@@ -4,7 +4,7 @@ use Rattle.std.specs.Prelude.{Option, None, Some}
 use Rattle.rm_base.specs.Causes.{Rose}
 use Rattle.rm_base.specs.Files.{Files}
 use Rattle.rm_base.specs.Words.{Word}
-use Rattle.word_reading.specs.Words.{Asked, opt, check, demo, flat, tests, replay, convert, equal, judge, optcare, cut}
+use Rattle.word_reading.specs.Words.{Asked, opt, check, demo, flat, tests, replay, convert, equal, judge, optcare, cut, sew}
 use Rattle.rambo_cli.specs.Commands.{contract_of}
 use Rattle.rambo_cli.specs.Contract.{IsCause, StoreFails}
 use Rattle.rambo_cli.specs.Equal.{EqualFinds}
@@ -16,12 +16,12 @@ use Rattle.rambo_cli.specs.Verdicts.{verdict_status}
 use Rattle.rambo_cli.specs.Inner.Complete.{ComparedRunsAreTold, OthersEndWith0}
 use Rattle.rambo_cli.specs.Inner.Problems.{HasEnded, IsReported}
 use Rattle.rambo_cli.specs.declared.work.Done.{Done}
-use Rattle.rambo_cli.specs.declared.work.Done.TheVariants.{Optimised, Accepted, Flattened, Tested, Replayed, Converted, Compared, Judged, Cared, Cut}
+use Rattle.rambo_cli.specs.declared.work.Done.TheVariants.{Optimised, Accepted, Flattened, Tested, Replayed, Converted, Compared, Judged, Cared, Cut, Sewn}
 use Rattle.rambo_cli.specs.declared.verdict.Verdict.{Verdict}
 use Rattle.rambo_cli.specs.declared.verdict.Verdict.TheVariants.{Equal, Differ, Undecided}
 use Rattle.rambo_cli.specs.declared.problem.TextProblem.TheVariants as found
 use Rattle.rambo_cli.specs.declared.problem.Problem.{Problem}
-use Rattle.rambo_cli.specs.declared.problem.Problem.TheVariants.{Words, Text, Limit, Missing, Fault, Journal, Record, Netlist, Second, Unlike, CareShape, Proof, Memory}
+use Rattle.rambo_cli.specs.declared.problem.Problem.TheVariants.{Words, Text, Limit, Missing, Fault, Journal, Record, Netlist, Second, Unlike, CareShape, Window, Proof, Memory}
 use Rattle.rambo_cli.proofs.Complete.{or_outside}
 use Rattle.rambo_cli.proofs.TextsFound.{read_finds_none}
 
@@ -37,6 +37,7 @@ no_pair first second told (Second (found.Fault kind place)) good h = read_finds_
 no_pair first second told (Second (found.Limit quantity count)) good h = read_finds_none second told (Limit quantity count) good.second_is h.1
 no_pair first second told (Unlike list at) good h = h
 no_pair first second told CareShape good h = h
+no_pair first second told (Window number stop) good h = h
 no_pair first second told (Proof found) good h = h
 no_pair first second told Words good h = h
 no_pair first second told Fault good h = h
@@ -53,6 +54,7 @@ unlike_alone first second told Missing good h = absurd (no_pair first second tol
 unlike_alone first second told (Second problem) good h = absurd (no_pair first second told (Second problem) good h)
 unlike_alone first second told (Unlike list at) good h = refl
 unlike_alone first second told CareShape good h = absurd h
+unlike_alone first second told (Window number stop) good h = absurd h
 unlike_alone first second told (Proof found) good h = absurd h
 unlike_alone first second told Words good h = absurd h
 unlike_alone first second told Fault good h = absurd h
@@ -69,6 +71,7 @@ misfit_alone input care told Missing good h = absurd (no_pair input care told Mi
 misfit_alone input care told (Second problem) good h = absurd (no_pair input care told (Second problem) good h)
 misfit_alone input care told (Unlike list at) good h = refl
 misfit_alone input care told CareShape good h = refl
+misfit_alone input care told (Window number stop) good h = absurd h
 misfit_alone input care told (Proof found) good h = absurd h
 misfit_alone input care told Words good h = absurd h
 misfit_alone input care told Fault good h = absurd h
@@ -94,6 +97,7 @@ compared_runs_are_told (Some (optcare input care output vectors settings)) None 
 compared_runs_are_told (Some (optcare input care output vectors settings)) (Some told) m n problem there h =
     or_outside 9 (contract_of (Some (optcare input care output vectors settings))) (Some told) m n problem (misfit_alone input care told problem there) h
 compared_runs_are_told (Some (cut input width prefix shift)) files m n problem there h = absurd there
+compared_runs_are_told (Some (sew input width prefix output shift)) files m n problem there h = absurd there
 
 -- what is done of such files is no answer of a command that compares
 never_compared : (verdict : Verdict) (words : Option Asked) (files new : Option Files) → ((contract_of words).IsGood files ⊎ (contract_of words).IsJudged files) → (contract_of words).Does files new (Compared verdict) → ⊥
@@ -109,6 +113,7 @@ never_compared verdict (Some (equal first second proof settings)) files new good
 never_compared verdict (Some (judge first second proof)) files new good does = does
 never_compared verdict (Some (optcare input care output vectors settings)) files new good does = does
 never_compared verdict (Some (cut input width prefix shift)) files new good does = does
+never_compared verdict (Some (sew input width prefix output shift)) files new good does = does
 
 pub others_end_with_0 : OthersEndWith0
 others_end_with_0 words files new (Optimised figures) good does = refl
@@ -121,6 +126,7 @@ others_end_with_0 words files new (Compared verdict) good does = absurd (never_c
 others_end_with_0 words files new (Judged count verdict) good does = refl
 others_end_with_0 words files new (Cared figures) good does = refl
 others_end_with_0 words files new (Cut windows signals) good does = refl
+others_end_with_0 words files new (Sewn windows replayed wires before) good does = refl
 
 -- a run that reports a problem of two texts that can be compared ends with 9 or 4, where nothing outside fails
 pub reported_compared : (law : ComparedRunsAreTold) (may_want : Bool) (problem : Problem) (status : ℕ) (words : Option Asked) (files : Option Files) (m n : ℕ) (old new : Option (List ℕ)) (k l : ℕ) → IsReported may_want problem status old new k l → IsCause (contract_of words) files m n problem
@@ -151,6 +157,7 @@ done_compared (Compared verdict) status e = verdict_compared verdict status e
 done_compared (Judged count verdict) status e = inl e
 done_compared (Cared figures) status e = inl e
 done_compared (Cut windows signals) status e = inl e
+done_compared (Sewn windows replayed wires before) status e = inl e
 
 -- and one that has decided ends with 0, 7, 8 or 4
 pub ended_compared : (may_want : Bool) (done : Done) (text : List ℕ) (status : ℕ) (old new : Option (List ℕ)) (i l : ℕ) → HasEnded may_want (done_status done) text status old new i l → (Rose i l → ⊥) → IsComparedBy status

@@ -1,6 +1,6 @@
 -- Good words and files leave no problem but those of the outside.
 use Rattle.std.proofs.Common.{◌≡◌, ◌≤◌, ◌<◌, ◌^◌, ◌⊎◌, ℕ, Bool, List, length, refl, sym, ◌∙◌, ap, subst, arith, inl, inr}
-use Rattle.std.specs.Prelude.{Option, None, Some, IsSome, IsSomeAnd}
+use Rattle.std.specs.Prelude.{Option, None, Some, IfSome, IsSome, IsSomeAnd}
 use Rattle.rm_base.specs.Causes.{Rose}
 use Rattle.rm_base.specs.Files.{Files, file_of}
 use Rattle.rm_model.specs.declared.parts.Model.{Model}
@@ -11,7 +11,7 @@ use Rattle.journal_audit.specs.Audited.{ProblemsExclude, IsProblem, IsOfFiles}
 use Rattle.journal_audit.specs.declared.problem.AuditProblem.{AuditProblem}
 use Rattle.journal_audit.specs.declared.problem.AuditProblem.TheVariants as audit
 use Rattle.journal_text.specs.Cutting.{JournalsAreOne}
-use Rattle.word_reading.specs.Words.{Asked, opt, check, demo, flat, tests, replay, convert, equal, judge, optcare, cut}
+use Rattle.word_reading.specs.Words.{Asked, opt, check, demo, flat, tests, replay, convert, equal, judge, optcare, cut, sew}
 use Rattle.rambo_cli.specs.Check.{AreThere, Audited, CheckFinds, HasPassed}
 use Rattle.rambo_cli.specs.Commands.{contract_of}
 use Rattle.rambo_cli.proofs.ConvertedFiles.{convert_finds_none}
@@ -23,11 +23,13 @@ use Rattle.rambo_cli.specs.Flat.{CanBeFlattened, ExceedsFlat, FlatFinds, HasFlat
 use Rattle.rambo_cli.specs.Input.{CanBeOptimised}
 use Rattle.rambo_cli.specs.Problems.{status_of}
 use Rattle.rambo_cli.specs.Replay.{CanBeReplayed, ReplayFinds}
+use Rattle.rambo_cli.specs.Sew.{CanBeSewn, HasNoJournal, IsLongWindow, SewFinds}
+use Rattle.rambo_cli.specs.Windows.{window_journal}
 use Rattle.rambo_cli.specs.Inner.Complete.{GoodRunsAreDone, IsOutsideOf, JudgedRunsAreTold}
 use Rattle.rambo_cli.specs.Inner.Problems.{IsReported, HasEnded}
 use Rattle.rambo_cli.specs.Written.{IsSaid}
 use Rattle.rambo_cli.specs.declared.problem.Problem.{Problem}
-use Rattle.rambo_cli.specs.declared.problem.Problem.TheVariants.{Words, Text, Limit, Missing, Fault, Journal, Record, Netlist, Second, Unlike, CareShape, Proof, Memory}
+use Rattle.rambo_cli.specs.declared.problem.Problem.TheVariants.{Words, Text, Limit, Missing, Fault, Journal, Record, Netlist, Second, Unlike, CareShape, Window, Proof, Memory}
 use Rattle.rm_base.specs.Words.{Word}
 
 -- nor of one that can be flattened
@@ -51,6 +53,7 @@ flat_finds_none input told (Netlist byte) good h = h
 flat_finds_none input told (Second found) good h = h
 flat_finds_none input told (Unlike list at) good h = h
 flat_finds_none input told CareShape good h = h
+flat_finds_none input told (Window number stop) good h = h
 flat_finds_none input told (Proof found) good h = h
 
 -- nor where the journal is there beside it
@@ -73,7 +76,43 @@ replay_finds_none input journal told (Netlist byte) good h = h
 replay_finds_none input journal told (Second found) good h = h
 replay_finds_none input journal told (Unlike list at) good h = h
 replay_finds_none input journal told CareShape good h = h
+replay_finds_none input journal told (Window number stop) good h = h
 replay_finds_none input journal told (Proof found) good h = h
+
+-- no journal is longer than is read
+not_long : (prefix : Word) (told : Files) (problem : Problem) → ((number : ℕ) → IfSome (file_of told (window_journal prefix number)) (λ text. length text ≤ 2 ^ 62)) → IsLongWindow prefix (Some told) problem → ⊥
+not_long prefix told problem short long = clash (file_of told (window_journal prefix long.1.0)) (short long.1.0) long.1.1
+  where
+    clash : (o : Option (List ℕ)) → IfSome o (λ text. length text ≤ 2 ^ 62) → IsSomeAnd o (λ text. 2 ^ 62 < length text) → ⊥
+    clash None few many = many
+    clash (Some text) few many = omega (arith, few, many)
+
+short_if_none : (o : Option (List ℕ)) → o ≡ None → IfSome o (λ text. length text ≤ 2 ^ 62)
+short_if_none None e = tt
+short_if_none (Some text) e = cc
+
+not_both : (o : Option (List ℕ)) (text : List ℕ) → o ≡ None → o ≡ Some text → ⊥
+not_both o text e f = cc
+
+-- nor where no journal stands beside one that can be flattened
+sew_finds_none : (input : Word) (width : ℕ) (prefix : Word) (shift : ℕ) (told : Files) (problem : Problem) → HasNoJournal input prefix told → SewFinds input width prefix shift (Some told) problem → ⊥
+sew_finds_none input width prefix shift told (Limit quantity count) good h = elim h [
+  | inl read ↦ flat_finds_none input told (Limit quantity count) good.input_is read
+  | inr long ↦ not_long prefix told (Limit quantity count) (λ number. short_if_none (file_of told (window_journal prefix number)) (good.journals_are number)) long
+]
+sew_finds_none input width prefix shift told (Window number stop) good h = not_both (file_of told (window_journal prefix number)) h.taken.0 (good.journals_are number) h.taken.1.0
+sew_finds_none input width prefix shift told (Text kind place) good h = flat_finds_none input told (Text kind place) good.input_is h
+sew_finds_none input width prefix shift told Missing good h = flat_finds_none input told Missing good.input_is h
+sew_finds_none input width prefix shift told Fault good h = h
+sew_finds_none input width prefix shift told Memory good h = h
+sew_finds_none input width prefix shift told Words good h = h
+sew_finds_none input width prefix shift told (Journal f) good h = h
+sew_finds_none input width prefix shift told (Record r) good h = h
+sew_finds_none input width prefix shift told (Netlist byte) good h = h
+sew_finds_none input width prefix shift told (Second found) good h = h
+sew_finds_none input width prefix shift told (Unlike list at) good h = h
+sew_finds_none input width prefix shift told CareShape good h = h
+sew_finds_none input width prefix shift told (Proof found) good h = h
 
 -- where nothing is found, what keeps a run from its end is of the outside
 outside_alone : (c : Contract) (files : Option Files) (m n : ℕ) (problem : Problem) → (c.Finds files problem → ⊥) → IsCause c files m n problem → IsOutsideOf c m n problem
@@ -89,6 +128,7 @@ outside_alone c files m n (Netlist byte) none h = absurd (none h)
 outside_alone c files m n (Second found) none h = absurd (none h)
 outside_alone c files m n (Unlike list at) none h = absurd (none h)
 outside_alone c files m n CareShape none h = absurd (none h)
+outside_alone c files m n (Window number stop) none h = absurd (none h)
 outside_alone c files m n (Proof found) none h = absurd (none h)
 
 module _ (once : ReadsOnce) (exclude : ProblemsExclude) where
@@ -127,6 +167,7 @@ module _ (once : ReadsOnce) (exclude : ProblemsExclude) where
       go (Second found) f = f
       go (Unlike list at) f = f
       go CareShape f = f
+      go (Window number stop) f = f
       go (Proof found) f = f
 
   pub good_runs_are_done : JournalsAreOne → GoodRunsAreDone
@@ -145,6 +186,9 @@ module _ (once : ReadsOnce) (exclude : ProblemsExclude) where
   good_runs_are_done ones (Some (cut input width prefix shift)) None m n problem good h = absurd good
   good_runs_are_done ones (Some (cut input width prefix shift)) (Some told) m n problem good h =
       outside_alone (contract_of (Some (cut input width prefix shift))) (Some told) m n problem (flat_finds_none input told problem good) h
+  good_runs_are_done ones (Some (sew input width prefix output shift)) None m n problem good h = absurd good
+  good_runs_are_done ones (Some (sew input width prefix output shift)) (Some told) m n problem good h =
+      outside_alone (contract_of (Some (sew input width prefix output shift))) (Some told) m n problem (sew_finds_none input width prefix shift told problem good) h
   good_runs_are_done ones (Some (tests input journal output patterns)) None m n problem good h = absurd good
   good_runs_are_done ones (Some (tests input journal output patterns)) (Some told) m n problem good h =
       outside_alone (contract_of (Some (tests input journal output patterns))) (Some told) m n problem (check_finds_none input journal output told good.0 problem good.1) h
@@ -191,7 +235,28 @@ judged input journal output told (Netlist byte) there h = refl
 judged input journal output told (Second found) there h = absurd h
 judged input journal output told (Unlike list at) there h = absurd h
 judged input journal output told CareShape there h = absurd h
+judged input journal output told (Window number stop) there h = absurd h
 judged input journal output told (Proof found) there h = absurd h
+
+-- journals of windows that can be read: only one of them is found at fault
+sew_judged : (input : Word) (width : ℕ) (prefix : Word) (shift : ℕ) (told : Files) (problem : Problem) → CanBeSewn input prefix told → SewFinds input width prefix shift (Some told) problem → status_of problem ≡ 6
+sew_judged input width prefix shift told (Limit quantity count) good h = elim h [
+  | inl read ↦ absurd (flat_finds_none input told (Limit quantity count) good.input_is read)
+  | inr long ↦ absurd (not_long prefix told (Limit quantity count) good.journals_are long)
+]
+sew_judged input width prefix shift told (Window number stop) good h = refl
+sew_judged input width prefix shift told (Text kind place) good h = absurd (flat_finds_none input told (Text kind place) good.input_is h)
+sew_judged input width prefix shift told Missing good h = absurd (flat_finds_none input told Missing good.input_is h)
+sew_judged input width prefix shift told Fault good h = absurd h
+sew_judged input width prefix shift told Memory good h = absurd h
+sew_judged input width prefix shift told Words good h = absurd h
+sew_judged input width prefix shift told (Journal f) good h = absurd h
+sew_judged input width prefix shift told (Record r) good h = absurd h
+sew_judged input width prefix shift told (Netlist byte) good h = absurd h
+sew_judged input width prefix shift told (Second found) good h = absurd h
+sew_judged input width prefix shift told (Unlike list at) good h = absurd h
+sew_judged input width prefix shift told CareShape good h = absurd h
+sew_judged input width prefix shift told (Proof found) good h = absurd h
 
 pub or_outside : (k : ℕ) (c : Contract) (files : Option Files) (m n : ℕ) (problem : Problem) → (c.Finds files problem → status_of problem ≡ k) → IsCause c files m n problem → (status_of problem ≡ k) ⊎ IsOutsideOf c m n problem
 or_outside k c files m n Fault is h = inr (inr (refl, h))
@@ -206,6 +271,7 @@ or_outside k c files m n (Netlist byte) is h = inl (is h)
 or_outside k c files m n (Second found) is h = inl (is h)
 or_outside k c files m n (Unlike list at) is h = inl (is h)
 or_outside k c files m n CareShape is h = inl (is h)
+or_outside k c files m n (Window number stop) is h = inl (is h)
 or_outside k c files m n (Proof found) is h = inl (is h)
 
 pub judged_runs_are_told : JudgedRunsAreTold
@@ -217,6 +283,9 @@ judged_runs_are_told (Some (check input journal output)) (Some told) m n problem
 judged_runs_are_told (Some (demo seed settings merge)) files m n problem there h = absurd there
 judged_runs_are_told (Some (flat input output)) files m n problem there h = absurd there
 judged_runs_are_told (Some (cut input width prefix shift)) files m n problem there h = absurd there
+judged_runs_are_told (Some (sew input width prefix output shift)) None m n problem there h = absurd there
+judged_runs_are_told (Some (sew input width prefix output shift)) (Some told) m n problem there h =
+    or_outside 6 (contract_of (Some (sew input width prefix output shift))) (Some told) m n problem (sew_judged input width prefix shift told problem there) h
 judged_runs_are_told (Some (replay input journal output)) files m n problem there h = absurd there
 judged_runs_are_told (Some (convert from to)) files m n problem there h = absurd there
 judged_runs_are_told (Some (equal first second proof settings)) files m n problem there h = absurd there

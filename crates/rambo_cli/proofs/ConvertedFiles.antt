@@ -15,7 +15,7 @@ use Rattle.rambo_cli.specs.Convert.{BeginsConverted, CanBeConverted, ConvertFind
 use Rattle.rambo_cli.specs.Files.{Holds, IfTold, IsAbsent, OfFile}
 use Rattle.rambo_cli.specs.Inner.Files.{BeginsFile}
 use Rattle.rambo_cli.specs.declared.problem.Problem.{Problem}
-use Rattle.rambo_cli.specs.declared.problem.Problem.TheVariants.{Words, Text, Limit, Missing, Fault, Journal, Record, Netlist, Second, Unlike, CareShape, Proof, Memory}
+use Rattle.rambo_cli.specs.declared.problem.Problem.TheVariants.{Words, Text, Limit, Missing, Fault, Journal, Record, Netlist, Second, Unlike, CareShape, Window, Proof, Memory}
 
 -- the file is there, and this holds of its bytes
 holds_of : (P : List ℕ → Type 0) (o : Option (List ℕ)) → (text : List ℕ) × ((o ≡ Some text) × P text) → IsSomeAnd o P
@@ -104,5 +104,6 @@ convert_finds_none laws from told (Netlist byte) good h = h
 convert_finds_none laws from told (Second found) good h = h
 convert_finds_none laws from told (Unlike list at) good h = h
 convert_finds_none laws from told CareShape good h = h
+convert_finds_none laws from told (Window number stop) good h = h
 convert_finds_none laws from told (Proof found) good h = h
 convert_finds_none laws from told Memory good h = h

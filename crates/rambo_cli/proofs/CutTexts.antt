@@ -6,43 +6,31 @@ use Rattle.std.proofs.lemmas.List.{take_all}
 use Rattle.std.proofs.lemmas.List.Elements.{All-weaker}
 use Rattle.rm_base.specs.Files.{Files, put_file}
 use Rattle.rm_base.specs.Words.{Word}
-use Rattle.rm_model.specs.declared.parts.Cover.{Cover}
 use Rattle.rm_model.specs.declared.parts.Model.{Model}
 use Rattle.blif_format.specs.Laws.{WrittenTextsRead}
 use Rattle.blif_format.specs.Text.{text_of}
 use Rattle.window_cut.specs.Laws.{IsStandalone}
-use Rattle.window_cut.specs.Cut.{windows as cut_windows}
-use Rattle.window_cut.specs.Windows.{models_from, window_models}
+use Rattle.window_fit.specs.Shared.{shared_windows}
 use Rattle.rambo_cli.specs.Contract.{Caused}
-use Rattle.rambo_cli.specs.Cut.{BeginsCut, HasCut, HaveFirst, HavePart, IsCutInto, IsWindow, put_windows, signals_of, window_file}
+use Rattle.rambo_cli.specs.Cut.{BeginsCut, HasCut, IsCutInto, put_windows, signals_of}
 use Rattle.rambo_cli.specs.Files.{Holds, IfTold}
-use Rattle.rambo_cli.specs.Flat.{FlatFinds}
+use Rattle.rambo_cli.specs.Flat.{IsFlat}
 use Rattle.rambo_cli.specs.Inner.Cut.{BeginsWindows, all_put}
 use Rattle.rambo_cli.specs.Inner.Files.{BeginsFile}
 use Rattle.rambo_cli.specs.Inner.Problems.{StoreCause}
 use Rattle.rambo_cli.specs.Problems.{KeepsFiles}
+use Rattle.rambo_cli.specs.Windows.{IsWindow, window_file}
 use Rattle.rambo_cli.specs.declared.problem.Problem.{Problem}
-use Rattle.rambo_cli.specs.declared.problem.Problem.TheVariants.{Words, Text, Limit, Missing, Fault, Journal, Record, Netlist, Second, Unlike, CareShape, Proof, Memory}
-use Rattle.rambo_cli.proofs.Pieces.{held, shorter}
-
-cut_whole : (width shift : ℕ) (windows : List Model) (bytes : List ℕ) → IsCutInto (take 16777217 bytes) width shift windows → IsCutInto bytes width shift windows
-cut_whole width shift windows bytes h = subst (λ (text : List ℕ). IsCutInto text width shift windows) (shorter 16777216 bytes h.short) h
-
--- the windows of what was read are those of the file
-pub cut_read : {V : Type 0} (items : V → List Model) (width shift : ℕ) (text : List ℕ) (files : Option Files) (name : Word) → IfSome files (λ told. Holds told name (λ bytes. text ≡ take 16777217 bytes))
-    → (r : Result V Problem) → IfOk r (λ w. IsCutInto text width shift (items w)) → IfOk r (λ w. IfSome files (λ told. Holds told name (λ bytes. IsCutInto bytes width shift (items w))))
-cut_read items width shift text files name found (Err p) h = tt
-cut_read items width shift text files name found (Ok w) h =
-    held (λ bytes. text ≡ take 16777217 bytes) (λ bytes. IsCutInto bytes width shift (items w))
-    (λ bytes e. cut_whole width shift (items w) bytes (subst (λ (t : List ℕ). IsCutInto t width shift (items w)) e h)) files name found
+use Rattle.rambo_cli.specs.declared.problem.Problem.TheVariants.{Words, Text, Limit, Missing, Fault, Journal, Record, Netlist, Second, Unlike, CareShape, Window, Proof, Memory}
+use Rattle.rambo_cli.proofs.Pieces.{held}
 
 -- ONE WINDOW AFTER THE OTHER
-next_taken : (ws : List Model) (k : ℕ) (w : Model) → slice_get ws k ≡ Some w → take (suc k) ws ≡ take k ws ++ w ∷ []
+pub next_taken : (ws : List Model) (k : ℕ) (w : Model) → slice_get ws k ≡ Some w → take (suc k) ws ≡ take k ws ++ w ∷ []
 next_taken [] k w e = cc
 next_taken (x ∷ xs) zero w e = let is : x ≡ w = cc in ap (λ y. y ∷ []) is
 next_taken (x ∷ xs) (suc k) w e = ap (λ ys. x ∷ ys) (next_taken xs k w e)
 
-taken_length : (ws : List Model) (k : ℕ) (w : Model) → slice_get ws k ≡ Some w → length (take k ws) ≡ k
+pub taken_length : (ws : List Model) (k : ℕ) (w : Model) → slice_get ws k ≡ Some w → length (take k ws) ≡ k
 taken_length [] k w e = cc
 taken_length (x ∷ xs) zero w e = refl
 taken_length (x ∷ xs) (suc k) w e = ap suc (taken_length xs k w e)
@@ -118,6 +106,7 @@ store_keeps (Netlist byte) before now old new h = absurd h
 store_keeps (Second found) before now old new h = absurd h
 store_keeps (Unlike list at) before now old new h = absurd h
 store_keeps CareShape before now old new h = absurd h
+store_keeps (Window number stop) before now old new h = absurd h
 store_keeps (Proof found) before now old new h = absurd h
 
 pub store_found : (Finds : Problem → Type 0) (problem : Problem) (first before now : ℕ) → first ≤ before → StoreCause before now problem → Caused Finds first now problem
@@ -133,6 +122,7 @@ store_found Finds (Netlist byte) first before now le h = absurd h
 store_found Finds (Second found) first before now le h = absurd h
 store_found Finds (Unlike list at) first before now le h = absurd h
 store_found Finds CareShape first before now le h = absurd h
+store_found Finds (Window number stop) first before now le h = absurd h
 store_found Finds (Proof found) first before now le h = absurd h
 
 abbrev BeginsOrKeeps : Word → ℕ → Word → ℕ → Files → Files → Type 0
@@ -159,19 +149,12 @@ module _ (input : Word) (width : ℕ) (prefix : Word) (shift : ℕ) (windows : L
       go None h = absurd h
       go (Some after) h = inr (record { windows = windows; result = result; begun = h })
 
--- standalone models can be written, and their texts say them
-pub windows_are : WrittenTextsRead → (width shift : ℕ) (m : Model) (windows : List Model) → windows ≡ window_models width shift m → All IsStandalone (window_models width shift m) → All IsWindow windows
-windows_are read width shift m windows e standalone =
-    All-weaker IsStandalone IsWindow (λ w s. (s, (read w s.formed s.ranked).1)) windows (subst (All IsStandalone) (sym e) standalone)
+-- models that stand alone can be written, and their texts say them
+pub windows_are : WrittenTextsRead → (windows : List Model) → All IsStandalone windows → All IsWindow windows
+windows_are read windows standalone = All-weaker IsStandalone IsWindow (λ w s. (s, (read w s.formed s.ranked).1)) windows standalone
 
-pub each_read : {V : Type 0} (items : V → List Model) (width shift : ℕ) (text : List ℕ) (r : Result V Problem) → IfOk r (λ w. IsCutInto text width shift (items w)) → IfOk r (λ w. All IsWindow (items w))
-each_read items width shift text (Err p) h = tt
-each_read items width shift text (Ok w) h = h.each
-
-models_count : (m : Model) (all : List (List Cover)) (n : ℕ) (ws : List (List Cover)) → length (models_from m all n ws) ≡ length ws
-models_count m all n [] = refl
-models_count m all n (w ∷ ws) = ap suc (models_count m all (suc n) ws)
-
--- there are as many models as windows
-pub windows_count : (width shift : ℕ) (m : Model) (models : List Model) → models ≡ window_models width shift m → length (cut_windows width shift m) ≡ length models
-windows_count width shift m models e = sym (models_count m (cut_windows width shift m) 1 (cut_windows width shift m)) ∙ ap (λ (xs : List Model). length xs) (sym e)
+-- these are the windows of the file
+pub cut_of : (width shift : ℕ) (model : Model) (instances : ℕ) (windows : List Model) → windows ≡ shared_windows width shift model → All IsWindow windows → (files : Option Files) (name : Word)
+    → IfSome files (λ told. Holds told name (λ text. IsFlat text model instances)) → IfSome files (λ told. Holds told name (λ text. IsCutInto text width shift windows))
+cut_of width shift model instances windows are each files name flat =
+    held (λ text. IsFlat text model instances) (λ text. IsCutInto text width shift windows) (λ text h. record { model = model; instances = instances; flat = h; are = are; each = each }) files name flat

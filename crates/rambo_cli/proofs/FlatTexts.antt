@@ -4,18 +4,24 @@ use Rattle.std.specs.Prelude.{Option, None, Some, IfErr, IfOk, IfSome}
 use Rattle.std.specs.Option.{option_map}
 use Rattle.rm_base.specs.Files.{Files, put_file}
 use Rattle.rm_base.specs.Words.{Word}
+use Rattle.rm_model.specs.declared.parts.Model.{Model}
+use Rattle.blif_lines.specs.Layout.{lines_of}
+use Rattle.blif_format.specs.FirstFault.{first_fault as first_flat_fault}
+use Rattle.blif_format.specs.Grammar.{Reads}
+use Rattle.blif_format.specs.Laws.{IsAtMostLimit}
+use Rattle.blif_format.specs.Text.{text_of}
 use Rattle.blif_format.specs.declared.refusal.ReadRefusal.{ReadRefusal}
 use Rattle.blif_format.specs.declared.refusal.ReadRefusal.TheVariants as refusal
 use Rattle.blif_reader.specs.Meant.{IsRefusal}
 use Rattle.blif_flatten.specs.FirstFault.{first_fault}
 use Rattle.rambo_cli.specs.Contract.{Caused}
 use Rattle.rambo_cli.specs.Files.{Holds, IfTold}
-use Rattle.rambo_cli.specs.Flat.{BeginsFlat, ExceedsFlat, ExceedsFlatAt, FlatFinds, HasFlatFault, HasFlattened, IsFlattenedInto}
+use Rattle.rambo_cli.specs.Flat.{BeginsFlat, ExceedsFlat, ExceedsFlatAt, FlatFinds, HasFlatFault, HasFlattened, IsFlat, IsFlattenedInto}
 use Rattle.rambo_cli.specs.Inner.Files.{BeginsFile}
 use Rattle.rambo_cli.specs.Inner.Problems.{FlatTextCause, read_problem}
-use Rattle.rambo_cli.specs.declared.flattening.FlatText.{FlatText}
+use Rattle.rambo_cli.specs.declared.input_model.FlatModel.{FlatModel}
 use Rattle.rambo_cli.specs.declared.problem.Problem.{Problem}
-use Rattle.rambo_cli.specs.declared.problem.Problem.TheVariants.{Words, Text, Limit, Missing, Fault, Journal, Record, Netlist, Second, Unlike, CareShape, Proof, Memory}
+use Rattle.rambo_cli.specs.declared.problem.Problem.TheVariants.{Words, Text, Limit, Missing, Fault, Journal, Record, Netlist, Second, Unlike, CareShape, Window, Proof, Memory}
 use Rattle.rambo_cli.proofs.Pieces.{held, long_whole, shorter}
 
 -- a refusal of a short text is why it has no flat text
@@ -24,18 +30,17 @@ refused_flat text (refusal.Fault kind place) short h = record { short = short; f
 refused_flat text (refusal.Limit quantity count place) short h = inr (record { short = short; place = place; fault = h })
 refused_flat text refusal.NoMemory short h = tt
 
-flat_whole : (instances covers : ℕ) (written bytes : List ℕ) → IsFlattenedInto (take 16777217 bytes) instances covers written → IsFlattenedInto bytes instances covers written
-flat_whole instances covers written bytes h = subst (λ (text : List ℕ). IsFlattenedInto text instances covers written) (shorter 16777216 bytes h.short) h
+flat_whole : (model : Model) (instances : ℕ) (bytes : List ℕ) → IsFlat (take 16777217 bytes) model instances → IsFlat bytes model instances
+flat_whole model instances bytes h = subst (λ (text : List ℕ). IsFlat text model instances) (shorter 16777216 bytes h.short) h
 
 module _ (text : List ℕ) (files : Option Files) (name : Word) (found : IfSome files (λ told. Holds told name (λ bytes. text ≡ take 16777217 bytes))) where
   -- what holds of the bytes that were read holds of the file
   held_whole : (P : List ℕ → Type 0) → ((bytes : List ℕ) → P (take 16777217 bytes) → P bytes) → P text → IfSome files (λ told. Holds told name P)
   held_whole P whole h = held (λ bytes. text ≡ take 16777217 bytes) P (λ bytes e. whole bytes (subst P e h)) files name found
 
-  pub flat_read : (r : Result FlatText Problem) → IfOk r (λ f. IsFlattenedInto text f.instances f.covers f.text.items)
-      → IfOk r (λ f. IfSome files (λ told. Holds told name (λ bytes. IsFlattenedInto bytes f.instances f.covers f.text.items)))
+  pub flat_read : (r : Result FlatModel Problem) → IfOk r (λ f. IsFlat text f.model f.instances) → IfOk r (λ f. IfSome files (λ told. Holds told name (λ bytes. IsFlat bytes f.model f.instances)))
   flat_read (Err p) h = tt
-  flat_read (Ok f) h = held_whole (λ bytes. IsFlattenedInto bytes f.instances f.covers f.text.items) (flat_whole f.instances f.covers f.text.items) h
+  flat_read (Ok f) h = held_whole (λ bytes. IsFlat bytes f.model f.instances) (flat_whole f.model f.instances) h
 
   fault_found : (problem : Problem) (before now : ℕ) → FlatTextCause text problem → Caused (FlatFinds name files) before now problem
   fault_found (Text kind place) before now h =
@@ -56,6 +61,7 @@ module _ (text : List ℕ) (files : Option Files) (name : Word) (found : IfSome 
   fault_found (Second found) before now h = absurd h
   fault_found (Unlike list at) before now h = absurd h
   fault_found CareShape before now h = absurd h
+  fault_found (Window number stop) before now h = absurd h
   fault_found (Proof found) before now h = absurd h
 
   pub flat_cause : {V : Type 0} (r : Result V Problem) (before now : ℕ) → IfErr r (FlatTextCause text) → IfErr r (Caused (FlatFinds name files) before now)
@@ -70,22 +76,30 @@ pub flat_kept : (input output : Word) (old new : Option Files) → new ≡ old �
 flat_kept input output None new e = tt
 flat_kept input output (Some told) new e = subst (λ (o : Option Files). IfTold (Some told) o (BeginsOrKeeps input output)) (sym e) (inl refl)
 
-module _ (input output : Word) (f : FlatText) (text : List ℕ) (same : text ≡ f.text.items) (mid new : Option Files) where
-  pub flat_written : (old : Option Files) → mid ≡ old → IfSome old (λ told. Holds told input (λ bytes. IsFlattenedInto bytes f.instances f.covers f.text.items))
-      → new ≡ option_map (put_file output text) mid → IfTold old new (HasFlattened input output f.instances f.covers)
+-- what is written for a file with this flat model
+pub flat_of : (input : Word) (model : Model) (instances covers : ℕ) (text : List ℕ) (files : Option Files) → covers ≡ length model.covers → text ≡ text_of model → Reads (lines_of text) model → IsAtMostLimit (first_flat_fault text)
+    → IfSome files (λ told. Holds told input (λ bytes. IsFlat bytes model instances)) → IfSome files (λ told. Holds told input (λ bytes. IsFlattenedInto bytes instances covers text))
+flat_of input model instances covers text files counted spelled reads faultless flat =
+    held (λ bytes. IsFlat bytes model instances) (λ bytes. IsFlattenedInto bytes instances covers text)
+    (λ bytes h. record { short = h.short; model = model; flat = h.flat; counted = counted; spelled = spelled; of_the_grammar = reads; faultless = faultless })
+    files input flat
+
+module _ (input output : Word) (instances covers : ℕ) (text written : List ℕ) (same : written ≡ text) (mid new : Option Files) where
+  pub flat_written : (old : Option Files) → mid ≡ old → IfSome old (λ told. Holds told input (λ bytes. IsFlattenedInto bytes instances covers text))
+      → new ≡ option_map (put_file output written) mid → IfTold old new (HasFlattened input output instances covers)
   flat_written None kept result e = tt
   flat_written (Some told) kept result e =
-      subst (λ (o : Option Files). IfTold (Some told) o (HasFlattened input output f.instances f.covers))
-      (sym (e ∙ ap (option_map (put_file output text)) kept))
-      (record { written = f.text.items; result = result; files = ap (λ (t : List ℕ). put_file output t told) same })
+      subst (λ (o : Option Files). IfTold (Some told) o (HasFlattened input output instances covers))
+      (sym (e ∙ ap (option_map (put_file output written)) kept))
+      (record { written = text; result = result; files = ap (λ (t : List ℕ). put_file output t told) same })
 
-  pub flat_begun : (old : Option Files) → mid ≡ old → IfSome old (λ told. Holds told input (λ bytes. IsFlattenedInto bytes f.instances f.covers f.text.items))
-      → BeginsFile output text mid new → IfTold old new (BeginsOrKeeps input output)
+  pub flat_begun : (old : Option Files) → mid ≡ old → IfSome old (λ told. Holds told input (λ bytes. IsFlattenedInto bytes instances covers text))
+      → BeginsFile output written mid new → IfTold old new (BeginsOrKeeps input output)
   flat_begun None kept result begun = tt
   flat_begun (Some told) kept result begun = elim begun [
     | inl unchanged ↦ flat_kept input output (Some told) new (unchanged ∙ kept)
     | inr part ↦
         subst (λ (o : Option Files). IfTold (Some told) o (BeginsOrKeeps input output))
-        (sym (part.1 ∙ ap (option_map (put_file output (take part.0 text))) kept))
-        (inr (record { instances = f.instances; covers = f.covers; written = f.text.items; result = result; count = part.0; files = ap (λ (t : List ℕ). put_file output (take part.0 t) told) same }))
+        (sym (part.1 ∙ ap (option_map (put_file output (take part.0 written))) kept))
+        (inr (record { instances = instances; covers = covers; written = text; result = result; count = part.0; files = ap (λ (t : List ℕ). put_file output (take part.0 t) told) same }))
   ]

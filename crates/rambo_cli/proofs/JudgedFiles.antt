@@ -19,7 +19,7 @@ use Rattle.rambo_cli.specs.declared.problem.NameList.{NameList}
 use Rattle.rambo_cli.specs.declared.problem.NameList.TheVariants.{Sources, Observed}
 use Rattle.rambo_cli.specs.declared.problem.ProofProblem.{ProofProblem}
 use Rattle.rambo_cli.specs.declared.problem.Problem.{Problem}
-use Rattle.rambo_cli.specs.declared.problem.Problem.TheVariants.{Words, Text, Limit, Missing, Fault, Journal, Record, Netlist, Second, Unlike, CareShape, Proof, Memory}
+use Rattle.rambo_cli.specs.declared.problem.Problem.TheVariants.{Words, Text, Limit, Missing, Fault, Journal, Record, Netlist, Second, Unlike, CareShape, Window, Proof, Memory}
 use Rattle.rambo_cli.proofs.TextsFound.{pair_finds_none, pair_good, present, together, weaker}
 
 -- a list differs from itself nowhere
@@ -56,6 +56,7 @@ flaw_alone first second proof told (Journal f) good h = absurd h
 flaw_alone first second proof told (Record r) good h = absurd h
 flaw_alone first second proof told (Netlist byte) good h = absurd h
 flaw_alone first second proof told CareShape good h = absurd h
+flaw_alone first second proof told (Window number stop) good h = absurd h
 
 pub flaw_judged : (first second proof : Word) (told : Files) (problem : Problem) → CanBeJudged first second proof told → JudgeFinds first second proof (Some told) problem → status_of problem ≡ 6
 flaw_judged first second proof told problem good h = ap status_of (flaw_alone first second proof told problem good h).1.0

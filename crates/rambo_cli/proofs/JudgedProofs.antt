@@ -22,7 +22,7 @@ use Rattle.rambo_cli.specs.declared.verdict.Verdict.{Verdict}
 use Rattle.rambo_cli.specs.declared.problem.NameList.{NameList}
 use Rattle.rambo_cli.specs.declared.problem.ProofProblem.{ProofProblem}
 use Rattle.rambo_cli.specs.declared.problem.Problem.{Problem}
-use Rattle.rambo_cli.specs.declared.problem.Problem.TheVariants.{Words, Text, Limit, Missing, Fault, Journal, Record, Netlist, Second, Unlike, CareShape, Proof, Memory}
+use Rattle.rambo_cli.specs.declared.problem.Problem.TheVariants.{Words, Text, Limit, Missing, Fault, Journal, Record, Netlist, Second, Unlike, CareShape, Window, Proof, Memory}
 use Rattle.rambo_cli.proofs.TextsFound.{pair_good, weaker}
 use Rattle.rambo_cli.proofs.Pieces.{held, shorter}
 use Rattle.rambo_cli.proofs.Rising.{risen_after}
@@ -74,6 +74,7 @@ pair_judged first second proof files before now (Netlist byte) h = absurd h
 pair_judged first second proof files before now (Second found) h = h
 pair_judged first second proof files before now (Unlike list at) h = absurd h
 pair_judged first second proof files before now CareShape h = absurd h
+pair_judged first second proof files before now (Window number stop) h = absurd h
 pair_judged first second proof files before now (Proof found) h = absurd h
 
 module _ (once : ReadsOnce) (m n : Model) (first second proof : Word) where
@@ -98,6 +99,7 @@ module _ (once : ReadsOnce) (m n : Model) (first second proof : Word) where
   found_of files before mid now (Second found) later read h = absurd h
   found_of files before mid now (Unlike list at) later read h = absurd h
   found_of files before mid now CareShape later read h = absurd h
+  found_of files before mid now (Window number stop) later read h = absurd h
   found_of files before mid now (Proof found) later read h = absurd h
 
   -- what is found of PROOF behind them
@@ -137,6 +139,7 @@ module _ (m n : Model) (first second proof : Word) (text : List ℕ) where
   refused_in files before now (Netlist byte) read there h = absurd h
   refused_in files before now (Second found) read there h = absurd h
   refused_in files before now CareShape read there h = absurd h
+  refused_in files before now (Window number stop) read there h = absurd h
 
   -- why it isn't that of evidence on the models
   pub refused_judged : (old mid : Option Files) (before now : ℕ) (problem : Problem) → mid ≡ old → IfSome old (AreRead first second m n) → IfSome mid IsText → IsRefusedFor m n text problem → Caused (JudgeFinds first second proof old) before now problem

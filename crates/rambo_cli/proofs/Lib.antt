@@ -14,6 +14,7 @@ pub mod Wanting
 pub mod Limited
 pub mod FlatTexts
 pub mod CutTexts
+pub mod SewTexts
 pub mod ConvertedFiles
 pub mod TextsFound
 pub mod JudgedFiles

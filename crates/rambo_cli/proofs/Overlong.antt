@@ -19,9 +19,9 @@ use Rattle.rambo_cli.specs.Files.{Holds}
 use Rattle.rambo_cli.specs.Input.{CanBeOptimised}
 use Rattle.rambo_cli.specs.Written.{IsSaid}
 use Rattle.rambo_cli.specs.declared.work.Done.{Done}
-use Rattle.rambo_cli.specs.declared.work.Done.TheVariants.{Accepted, Compared, Converted, Flattened, Judged, Optimised, Replayed, Tested, Cared, Cut}
+use Rattle.rambo_cli.specs.declared.work.Done.TheVariants.{Accepted, Compared, Converted, Flattened, Judged, Optimised, Replayed, Tested, Cared, Cut, Sewn}
 use Rattle.rambo_cli.specs.declared.problem.Problem.{Problem}
-use Rattle.rambo_cli.specs.declared.problem.Problem.TheVariants.{Words, Text, Limit, Missing, Fault, Journal, Record, Netlist, Second, Unlike, CareShape, Proof, Memory}
+use Rattle.rambo_cli.specs.declared.problem.Problem.TheVariants.{Words, Text, Limit, Missing, Fault, Journal, Record, Netlist, Second, Unlike, CareShape, Window, Proof, Memory}
 
 one_text : (o : Option (List ℕ)) (text other : List ℕ) → o ≡ Some text → o ≡ Some other → other ≡ text
 one_text o text other e f = cc
@@ -64,6 +64,7 @@ module _ (once : ReadsOnce) (tell : LongJournalsTell) (input journal output : Wo
   finds (Second found) f = absurd f
   finds (Unlike list at) f = absurd f
   finds CareShape f = absurd f
+  finds (Window number stop) f = absurd f
   finds (Proof found) f = absurd f
 
   does : (new : Option Files) (done : Done) → CheckDoes input journal output (Some told) new done → ⊥
@@ -77,6 +78,7 @@ module _ (once : ReadsOnce) (tell : LongJournalsTell) (input journal output : Wo
   does new (Judged records verdict) h = h
   does new (Cared figures) h = h
   does new (Cut windows signals) h = h
+  does new (Sewn windows replayed wires before) h = h
 
   pub overlong : FindsAlone (check_contract input journal output) (Some told) (Limit JournalLimit 4611686018427387905)
   overlong = record { never_done = does; alone = finds }

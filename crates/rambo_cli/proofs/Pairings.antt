@@ -13,7 +13,7 @@ use Rattle.rambo_cli.specs.Pairs.{AreRead, PairFinds}
 use Rattle.rambo_cli.specs.Written.{IsSaid}
 use Rattle.rambo_cli.specs.Inner.Pairs.{IsOfSecond, second_problem}
 use Rattle.rambo_cli.specs.declared.problem.Problem.{Problem}
-use Rattle.rambo_cli.specs.declared.problem.Problem.TheVariants.{Words, Text, Limit, Missing, Fault, Journal, Record, Netlist, Second, Unlike, CareShape, Proof, Memory}
+use Rattle.rambo_cli.specs.declared.problem.Problem.TheVariants.{Words, Text, Limit, Missing, Fault, Journal, Record, Netlist, Second, Unlike, CareShape, Window, Proof, Memory}
 use Rattle.rambo_cli.proofs.TextsFound.{said_good, weaker}
 use Rattle.rambo_cli.proofs.Rising.{risen_after}
 
@@ -31,6 +31,7 @@ first_cause first second files before now (Netlist byte) h = absurd h
 first_cause first second files before now (Second found) h = absurd h
 first_cause first second files before now (Unlike list at) h = absurd h
 first_cause first second files before now CareShape h = absurd h
+first_cause first second files before now (Window number stop) h = absurd h
 first_cause first second files before now (Proof found) h = absurd h
 
 -- a first text that says a model within the limits can be optimised
@@ -52,6 +53,7 @@ own_cause first second files before mid now (Netlist byte) later good h = absurd
 own_cause first second files before mid now (Second found) later good h = absurd h
 own_cause first second files before mid now (Unlike list at) later good h = absurd h
 own_cause first second files before mid now CareShape later good h = absurd h
+own_cause first second files before mid now (Window number stop) later good h = absurd h
 own_cause first second files before mid now (Proof found) later good h = absurd h
 
 pub second_cause : (once : ReadsOnce) (m : Model) (first second : Word) (old read : Option Files) (before mid now : ℕ) (problem : Problem) → read ≡ old → before ≤ mid → decomposed m ≤ 65536 → IfSome old (λ told. Holds told first (λ text. IsSaid text m))

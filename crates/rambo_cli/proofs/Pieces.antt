@@ -12,7 +12,7 @@ use Rattle.rambo_cli.specs.Files.{Holds}
 use Rattle.rambo_cli.specs.Input.{ReadCause}
 use Rattle.rambo_cli.specs.Inner.Problems.{TextCause}
 use Rattle.rambo_cli.specs.declared.problem.Problem.{Problem}
-use Rattle.rambo_cli.specs.declared.problem.Problem.TheVariants.{Words, Text, Limit, Missing, Fault, Journal, Record, Netlist, Second, Unlike, CareShape, Proof, Memory}
+use Rattle.rambo_cli.specs.declared.problem.Problem.TheVariants.{Words, Text, Limit, Missing, Fault, Journal, Record, Netlist, Second, Unlike, CareShape, Window, Proof, Memory}
 use Rattle.rm_base.specs.Words.{Word}
 
 pub shorter : (n : ℕ) (xs : List ℕ) → length (take (n + 1) xs) ≤ n → take (n + 1) xs ≡ xs
@@ -64,6 +64,7 @@ cause_whole (Netlist byte) text bytes name before now told at e h = absurd h
 cause_whole (Second found) text bytes name before now told at e h = absurd h
 cause_whole (Unlike list place) text bytes name before now told at e h = absurd h
 cause_whole CareShape text bytes name before now told at e h = absurd h
+cause_whole (Window number stop) text bytes name before now told at e h = absurd h
 cause_whole (Proof found) text bytes name before now told at e h = absurd h
 
 -- where nothing is told, nothing is said but of memory and faults
@@ -80,6 +81,7 @@ cause_untold (Netlist byte) text name before now h = absurd h
 cause_untold (Second found) text name before now h = absurd h
 cause_untold (Unlike list at) text name before now h = absurd h
 cause_untold CareShape text name before now h = absurd h
+cause_untold (Window number stop) text name before now h = absurd h
 cause_untold (Proof found) text name before now h = absurd h
 
 cause_at : (problem : Problem) (text : List ℕ) (name : Word) (before now : ℕ) (told : Files) (o : Option (List ℕ)) → file_of told name ≡ o → IsSomeAnd o (λ bytes. text ≡ take 16777217 bytes) → TextCause text problem → ReadCause name (Some told) before now problem

@@ -27,7 +27,7 @@ use Rattle.rambo_cli.specs.Inner.Files.{BeginsFile}
 use Rattle.rambo_cli.specs.Inner.Problems.{ModelCause}
 use Rattle.rambo_cli.specs.Inner.Written.{IsUsable}
 use Rattle.rambo_cli.specs.declared.problem.Problem.{Problem}
-use Rattle.rambo_cli.specs.declared.problem.Problem.TheVariants.{Words, Text, Limit, Missing, Fault, Journal, Record, Netlist, Second, Unlike, CareShape, Proof, Memory}
+use Rattle.rambo_cli.specs.declared.problem.Problem.TheVariants.{Words, Text, Limit, Missing, Fault, Journal, Record, Netlist, Second, Unlike, CareShape, Window, Proof, Memory}
 use Rattle.rambo_cli.specs.Replay.{BeginsToReplay, BeginsToReplayFrom, HasReplayed, HasReplayedFrom, IsReplayedInto, ReplayFinds}
 use Rattle.rambo_cli.proofs.Auditing.{some_and}
 use Rattle.rambo_cli.proofs.Rising.{risen_after}
@@ -73,6 +73,7 @@ read_in_replay input journal files before now (Netlist byte) h = absurd h
 read_in_replay input journal files before now (Second found) h = absurd h
 read_in_replay input journal files before now (Unlike list at) h = absurd h
 read_in_replay input journal files before now CareShape h = absurd h
+read_in_replay input journal files before now (Window number stop) h = absurd h
 read_in_replay input journal files before now (Proof found) h = absurd h
 
 held_by : (o : Option (List ℕ)) (P : List ℕ → Type 0) (text : List ℕ) → o ≡ Some text → P text → IsSomeAnd o P
@@ -104,6 +105,7 @@ write_cause m Finds before mid now (Netlist byte) few later cause = absurd cause
 write_cause m Finds before mid now (Second found) few later cause = absurd cause
 write_cause m Finds before mid now (Unlike list at) few later cause = absurd cause
 write_cause m Finds before mid now CareShape few later cause = absurd cause
+write_cause m Finds before mid now (Window number stop) few later cause = absurd cause
 write_cause m Finds before mid now (Proof found) few later cause = absurd cause
 
 pub replay_from_kept : (input journal output : Word) (old new : Option Files) → new ≡ old → IfTold old new (BeginsToReplayFrom input journal output)

@@ -2,14 +2,14 @@
 use Rattle.std.proofs.Common.{◌≡◌, ℕ, Bool, List, refl, sym, ◌∙◌, arith, inl, inr, subst}
 use Rattle.std.specs.Prelude.{Option, None, Some}
 use Rattle.rm_base.specs.Files.{Files}
-use Rattle.word_reading.specs.Words.{Asked, opt, check, demo, flat, tests, replay, convert, equal, judge, optcare, cut}
+use Rattle.word_reading.specs.Words.{Asked, opt, check, demo, flat, tests, replay, convert, equal, judge, optcare, cut, sew}
 use Rattle.rambo_cli.specs.declared.work.Done.{Done}
-use Rattle.rambo_cli.specs.declared.work.Done.TheVariants.{Optimised, Accepted, Flattened, Tested, Replayed, Converted, Compared, Judged, Cared, Cut}
+use Rattle.rambo_cli.specs.declared.work.Done.TheVariants.{Optimised, Accepted, Flattened, Tested, Replayed, Converted, Compared, Judged, Cared, Cut, Sewn}
 use Rattle.rambo_cli.specs.declared.verdict.Verdict.{Verdict}
 use Rattle.rambo_cli.specs.declared.verdict.Verdict.TheVariants.{Equal, Differ, Undecided}
 use Rattle.rambo_cli.specs.declared.problem.TextProblem.TheVariants as text
 use Rattle.rambo_cli.specs.declared.problem.Problem.{Problem}
-use Rattle.rambo_cli.specs.declared.problem.Problem.TheVariants.{Words, Text, Limit, Missing, Fault, Journal, Record, Netlist, Second, Unlike, CareShape, Proof, Memory}
+use Rattle.rambo_cli.specs.declared.problem.Problem.TheVariants.{Words, Text, Limit, Missing, Fault, Journal, Record, Netlist, Second, Unlike, CareShape, Window, Proof, Memory}
 use Rattle.rambo_cli.specs.Commands.{contract_of}
 use Rattle.rambo_cli.specs.Contract.{Contract, IsCause}
 use Rattle.rambo_cli.specs.Problems.{KeepsFiles, done_status, done_text, line_of, status_of}
@@ -30,6 +30,7 @@ finds c (Netlist byte) files m n three four h = h
 finds c (Second found) files m n three four h = h
 finds c (Unlike list at) files m n three four h = h
 finds c CareShape files m n three four h = h
+finds c (Window number stop) files m n three four h = h
 finds c (Proof found) files m n three four h = h
 finds c Memory files m n three four h = absurd (four refl)
 
@@ -55,6 +56,7 @@ words_alone (Second (text.Fault kind place)) e = absurd (omega (arith, e))
 words_alone (Second (text.Limit q count)) e = absurd (omega (arith, e))
 words_alone (Unlike list at) e = absurd (omega (arith, e))
 words_alone CareShape e = absurd (omega (arith, e))
+words_alone (Window number stop) e = absurd (omega (arith, e))
 words_alone (Proof found) e = absurd (omega (arith, e))
 words_alone Memory e = absurd (omega (arith, e))
 
@@ -71,6 +73,7 @@ nothing_asked (Some (equal first second proof settings)) files h = absurd h
 nothing_asked (Some (judge first second proof)) files h = absurd h
 nothing_asked (Some (optcare input care output vectors settings)) files h = absurd h
 nothing_asked (Some (cut input width prefix shift)) files h = absurd h
+nothing_asked (Some (sew input width prefix output shift)) files h = absurd h
 
 pub refused : (w : Bool) (problem : Problem) (status : ℕ) (words : Option Asked) (files : Option Files) (m n : ℕ) (before after : Option (List ℕ)) (i j : ℕ)
     → IsReported w problem status before after i j → IsCause (contract_of words) files m n problem → status ≡ 2 → EndsRefused words before after
@@ -92,6 +95,7 @@ faulty_with (Second (text.Fault kind place)) c files m n k l e h = absurd (omega
 faulty_with (Second (text.Limit q count)) c files m n k l e h = absurd (omega (arith, e))
 faulty_with (Unlike list at) c files m n k l e h = absurd (omega (arith, e))
 faulty_with CareShape c files m n k l e h = absurd (omega (arith, e))
+faulty_with (Window number stop) c files m n k l e h = absurd (omega (arith, e))
 faulty_with (Proof found) c files m n k l e h = absurd (omega (arith, e))
 faulty_with Memory c files m n k l e h = absurd (omega (arith, e))
 
@@ -115,6 +119,7 @@ line_with (Second (text.Fault kind place)) c files after m n old new k l e put h
 line_with (Second (text.Limit q count)) c files after m n old new k l e put h kept = absurd (omega (arith, e))
 line_with (Unlike list at) c files after m n old new k l e put h kept = absurd (omega (arith, e))
 line_with CareShape c files after m n old new k l e put h kept = absurd (omega (arith, e))
+line_with (Window number stop) c files after m n old new k l e put h kept = absurd (omega (arith, e))
 line_with (Proof found) c files after m n old new k l e put h kept = absurd (omega (arith, e))
 line_with Memory c files after m n old new k l e put h kept = absurd (omega (arith, e))
 
@@ -152,6 +157,7 @@ never_3 (Compared verdict) e = verdict_never_3 verdict e
 never_3 (Judged count verdict) e = omega (arith, e)
 never_3 (Cared figures) e = omega (arith, e)
 never_3 (Cut windows signals) e = omega (arith, e)
+never_3 (Sewn windows replayed wires before) e = omega (arith, e)
 
 pub ended_line : (w : Bool) (done : Done) (status : ℕ) (c : Contract) (files after : Option Files) (m n : ℕ) (old new : Option (List ℕ)) (k l : ℕ) → HasEnded w (done_status done) (done_text done) status old new k l → c.Does files after done → status ≡ 3
     → PutsUnlessFailed c files after m n old new k l

@@ -19,7 +19,7 @@ use Rattle.rambo_cli.specs.Pairs.{AreRead, CanBeCompared, PairFinds}
 use Rattle.rambo_cli.specs.Written.{Exceeds, HasFault, IsSaid}
 use Rattle.rambo_cli.specs.declared.problem.TextProblem.TheVariants as found
 use Rattle.rambo_cli.specs.declared.problem.Problem.{Problem}
-use Rattle.rambo_cli.specs.declared.problem.Problem.TheVariants.{Words, Text, Limit, Missing, Fault, Journal, Record, Netlist, Second, Unlike, CareShape, Proof, Memory}
+use Rattle.rambo_cli.specs.declared.problem.Problem.TheVariants.{Words, Text, Limit, Missing, Fault, Journal, Record, Netlist, Second, Unlike, CareShape, Window, Proof, Memory}
 
 -- of one file two facts hold together
 pub together : (o : Option (List ℕ)) (P Q : List ℕ → Type 0) → IsSomeAnd o P → IsSomeAnd o Q → ((text : List ℕ) → P text → Q text → ⊥) → ⊥
@@ -63,6 +63,7 @@ read_finds_none input told (Netlist byte) good h = h
 read_finds_none input told (Second found) good h = h
 read_finds_none input told (Unlike list at) good h = h
 read_finds_none input told CareShape good h = h
+read_finds_none input told (Window number stop) good h = h
 read_finds_none input told (Proof found) good h = h
 
 -- nor of two texts that can
@@ -83,6 +84,7 @@ pair_finds_none first second told (Record r) good h = h
 pair_finds_none first second told (Netlist byte) good h = h
 pair_finds_none first second told (Unlike list at) good h = h
 pair_finds_none first second told CareShape good h = h
+pair_finds_none first second told (Window number stop) good h = h
 pair_finds_none first second told (Proof found) good h = h
 
 module _ (once : ReadsOnce) where

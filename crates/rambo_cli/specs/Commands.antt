@@ -1,12 +1,13 @@
 -- The contract of what the words ask for.
 use Rattle.std.specs.Prelude.{◌≡◌, Option, None, Some, false}
-use Rattle.word_reading.specs.Words.{Asked, opt, check, demo, flat, tests, replay, convert, equal, judge, optcare, cut}
+use Rattle.word_reading.specs.Words.{Asked, opt, check, demo, flat, tests, replay, convert, equal, judge, optcare, cut, sew}
 use Rattle.rambo_cli.specs.Contract.{Contract}
 use Rattle.rambo_cli.specs.Opt.{opt_contract}
 use Rattle.rambo_cli.specs.Check.{check_contract}
 use Rattle.rambo_cli.specs.Demo.{demo_contract}
 use Rattle.rambo_cli.specs.Flat.{flat_contract}
 use Rattle.rambo_cli.specs.Cut.{cut_contract}
+use Rattle.rambo_cli.specs.Sew.{sew_contract}
 use Rattle.rambo_cli.specs.Tests.{tests_contract}
 use Rattle.rambo_cli.specs.Replay.{replay_contract}
 use Rattle.rambo_cli.specs.Convert.{convert_contract}
@@ -40,3 +41,4 @@ contract_of (Some (equal first second proof settings)) = equal_contract first se
 contract_of (Some (judge first second proof)) = judge_contract first second proof
 contract_of (Some (optcare input care output vectors settings)) = optcare_contract input care output vectors settings
 contract_of (Some (cut input width prefix shift)) = cut_contract input width prefix shift
+contract_of (Some (sew input width prefix output shift)) = sew_contract input width prefix output shift

@@ -1,24 +1,16 @@
 -- The command `cut IN WIDTH PREFIX`.
-use Rattle.std.specs.Prelude.{◌≡◌, ◌≤◌, ◌+◌, ◌⊎◌, ℕ, suc, List, [], ◌∷◌, ◌++◌, All, Option, None, Some, IsSomeAnd, codes, decimal, length, slice_get, take, true}
+use Rattle.std.specs.Prelude.{◌≡◌, ◌+◌, ◌⊎◌, ℕ, suc, List, [], ◌∷◌, All, Option, None, Some, IsSomeAnd, length, slice_get, take, true}
 use Rattle.rm_base.specs.Files.{Files, put_file}
 use Rattle.rm_base.specs.Words.{Word}
 use Rattle.rm_model.specs.declared.parts.Model.{Model}
-use Rattle.blif_lines.specs.Layout.{lines_of}
-use Rattle.blif_format.specs.Grammar.{Reads}
 use Rattle.blif_format.specs.Text.{text_of}
-use Rattle.blif_flatten.specs.Meant.{IsFlatModel}
-use Rattle.window_cut.specs.Laws.{IsStandalone}
-use Rattle.window_cut.specs.Windows.{window_models}
+use Rattle.window_fit.specs.Shared.{shared_windows}
 use Rattle.rambo_cli.specs.Contract.{Contract}
 use Rattle.rambo_cli.specs.Files.{Holds, IfTold}
-use Rattle.rambo_cli.specs.Flat.{CanBeFlattened, FlatFinds}
-use Rattle.rambo_cli.specs.Written.{most_bytes}
+use Rattle.rambo_cli.specs.Flat.{CanBeFlattened, FlatFinds, IsFlat}
+use Rattle.rambo_cli.specs.Windows.{IsWindow, window_file}
 use Rattle.rambo_cli.specs.declared.work.Done.{Done}
 use Rattle.rambo_cli.specs.declared.work.Done.TheVariants.{Cut}
-
--- the name of the file of a window
-abbrev pub window_file : Word → ℕ → Word
-window_file prefix k = prefix ++ (decimal k ++ codes ".blif")
 
 -- each window's text in its file; the first has the number k
 abbrev pub put_windows : Word → ℕ → List Model → Files → Files
@@ -30,17 +22,12 @@ abbrev pub signals_of : List Model → ℕ
 signals_of [] = 0
 signals_of (w ∷ ws) = length w.outputs + signals_of ws
 
--- a model that can be optimised by itself, and whose text says it
-abbrev pub IsWindow : Model → Type 0
-IsWindow w = IsStandalone w × Reads (lines_of (text_of w)) w
-
--- the windows of the text's flat model
+-- the windows of the text's flat model, in which equal covers are merged first
 pub record IsCutInto (text : List ℕ) (width shift : ℕ) (windows : List Model) : Type 0 where
-  pub short : length text ≤ most_bytes
   pub model : Model
   pub instances : ℕ
-  pub flat : IsFlatModel text model instances
-  pub are : windows ≡ window_models width shift model
+  pub flat : IsFlat text model instances
+  pub are : windows ≡ shared_windows width shift model
   pub each : All IsWindow windows
 
 -- each window of the input's text stands in its file, and all other files are as before

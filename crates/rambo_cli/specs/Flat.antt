@@ -22,6 +22,11 @@ use Rattle.rambo_cli.specs.declared.work.Done.TheVariants.{Flattened}
 use Rattle.rambo_cli.specs.declared.problem.Problem.{Problem}
 use Rattle.rambo_cli.specs.declared.problem.Problem.TheVariants.{Text, Limit, Missing}
 
+-- the flat model of the text, of so many instances
+pub record IsFlat (text : List ℕ) (model : Model) (instances : ℕ) : Type 0 where
+  pub short : length text ≤ most_bytes
+  pub flat : IsFlatModel text model instances
+
 -- what is written for a text that has no fault: the text of its flat model, which is well formed, ranked and means what the
 -- hierarchy means; read again it is that model, and exceeds a limit at most
 pub record IsFlattenedInto (input : List ℕ) (instances covers : ℕ) (written : List ℕ) : Type 0 where

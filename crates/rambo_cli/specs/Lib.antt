@@ -11,7 +11,9 @@ pub mod Opt
 pub mod Check
 pub mod Demo
 pub mod Flat
+pub mod Windows
 pub mod Cut
+pub mod Sew
 pub mod Replay
 pub mod Convert
 pub mod Equal

@@ -77,6 +77,10 @@ flat_line instances covers = codes "flat " ++ (decimal instances ++ (codes " " +
 abbrev pub cut_line : ℕ → ℕ → List ℕ
 cut_line windows signals = codes "cut " ++ (decimal windows ++ (codes " " ++ (decimal signals ++ 10 ∷ [])))
 
+-- `sewn N R W D`: how many windows there are, how many of them were replayed, and the wires of what is written and of the input
+abbrev pub sewn_line : ℕ → ℕ → ℕ → ℕ → List ℕ
+sewn_line windows replayed wires before = codes "sewn" ++ (number windows ++ (number replayed ++ (number wires ++ (number before ++ 10 ∷ []))))
+
 -- a line about the second of two texts
 abbrev pub second_line : List ℕ → List ℕ
 second_line line = codes "second " ++ line
@@ -126,6 +130,10 @@ stop_line (stop.Refused r) = refusal_line r
 abbrev pub replayed_lines : ℕ → Option Stop → List ℕ
 replayed_lines count None = codes "replayed " ++ (decimal count ++ 10 ∷ [])
 replayed_lines count (Some found) = (codes "replayed " ++ (decimal count ++ 10 ∷ [])) ++ (codes "stopped " ++ stop_line found)
+
+-- `window K`, and what `check` prints of what ends the steps of the K-th window's journal
+abbrev pub window_line : ℕ → Stop → List ℕ
+window_line number found = codes "window " ++ (decimal number ++ (codes " " ++ stop_line found))
 
 -- `converted N`: how many records a journal has that is converted
 abbrev pub converted_line : ℕ → List ℕ

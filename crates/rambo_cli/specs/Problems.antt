@@ -8,14 +8,14 @@ use Rattle.journal_audit.specs.declared.problem.AuditProblem.TheVariants as audi
 use Rattle.journal_audit.specs.Lines.{fault_line as journal_fault_line, netlist_line, refusal_line}
 use Rattle.pattern_text.specs.Text.{tests_line}
 use Rattle.rambo_cli.specs.Summary.{summary_text, care_text}
-use Rattle.rambo_cli.specs.Lines.{accepted_line, care_shape_line, converted_line, cut_line, fault_line, flat_line, limit_line, memory_line, proof_line, replayed_lines, second_line, shelf_line, unlike_line, words_line}
+use Rattle.rambo_cli.specs.Lines.{accepted_line, care_shape_line, converted_line, cut_line, fault_line, flat_line, limit_line, memory_line, proof_line, replayed_lines, second_line, shelf_line, sewn_line, unlike_line, window_line, words_line}
 use Rattle.rambo_cli.specs.Verdicts.{judged_lines, verdict_line, verdict_status}
 use Rattle.rambo_cli.specs.declared.work.Done.{Done}
-use Rattle.rambo_cli.specs.declared.work.Done.TheVariants.{Optimised, Accepted, Flattened, Tested, Replayed, Converted, Compared, Judged, Cared, Cut}
+use Rattle.rambo_cli.specs.declared.work.Done.TheVariants.{Optimised, Accepted, Flattened, Tested, Replayed, Converted, Compared, Judged, Cared, Cut, Sewn}
 use Rattle.rambo_cli.specs.declared.problem.TextProblem.{TextProblem}
 use Rattle.rambo_cli.specs.declared.problem.TextProblem.TheVariants as text
 use Rattle.rambo_cli.specs.declared.problem.Problem.{Problem}
-use Rattle.rambo_cli.specs.declared.problem.Problem.TheVariants.{Words, Text, Limit, Missing, Fault, Journal, Record, Netlist, Second, Unlike, CareShape, Proof, Memory}
+use Rattle.rambo_cli.specs.declared.problem.Problem.TheVariants.{Words, Text, Limit, Missing, Fault, Journal, Record, Netlist, Second, Unlike, CareShape, Window, Proof, Memory}
 
 -- the line of what is found of a text
 abbrev pub text_line : TextProblem → List ℕ
@@ -34,6 +34,7 @@ line_of (Netlist byte) = netlist_line byte
 line_of (Second found) = second_line (text_line found)
 line_of (Unlike list place) = unlike_line list place
 line_of CareShape = care_shape_line
+line_of (Window number stop) = window_line number stop
 line_of (Proof found) = proof_line found
 line_of Memory = memory_line
 
@@ -50,6 +51,7 @@ status_of (Second (text.Fault kind place)) = 1
 status_of (Second (text.Limit quantity count)) = 5
 status_of (Unlike list place) = 9
 status_of CareShape = 9
+status_of (Window number stop) = 6
 status_of (Proof found) = 6
 status_of Memory = 4
 
@@ -65,6 +67,7 @@ done_text (Compared verdict) = verdict_line verdict
 done_text (Judged count verdict) = judged_lines count verdict
 done_text (Cared figures) = care_text figures
 done_text (Cut windows signals) = cut_line windows signals
+done_text (Sewn windows replayed wires before) = sewn_line windows replayed wires before
 
 -- the status of a command that has decided whether two models compute the same tells which it is
 abbrev pub done_status : Done → ℕ
@@ -78,6 +81,7 @@ done_status (Compared verdict) = verdict_status verdict
 done_status (Judged count verdict) = 0
 done_status (Cared figures) = 0
 done_status (Cut windows signals) = 0
+done_status (Sewn windows replayed wires before) = 0
 
 -- a problem of the words or of the files changes no file
 abbrev pub KeepsFiles : {A : Type 0} → Problem → A → A → Type 0

@@ -25,7 +25,7 @@ use std::thread::Threads;
 ///
 /// The words are those of `opt IN OUT [JOURNAL]`, `check IN JOURNAL OUT`, `demo SEED`, `flat IN OUT`,
 /// `tests IN JOURNAL OUT PATTERNS`, `replay IN JOURNAL OUT`, `convert FROM TO`, `equal A B PROOF`, `judge A B PROOF`,
-/// `optcare IN CARE OUT TESTS` or `cut IN WIDTH PREFIX`, with their options.
+/// `optcare IN CARE OUT TESTS`, `cut IN WIDTH PREFIX` or `sew IN WIDTH PREFIX OUT`, with their options.
 /// A gate lets the pieces of parallel work pass. What each command promises stands in its contract.
 pub fn run<R: Threads + Sync, S: Shelf, O: Sink, G: Gate>(
     rt: &R,
@@ -66,7 +66,7 @@ pub fn run<R: Threads + Sync, S: Shelf, O: Sink, G: Gate>(
         (O.written out.old) (O.written out.new) }
     ensures over_files { result ≡ 5 → S.files shelf.new ≡ S.files shelf.old }
 
-    // 6: the journal or the proof isn't accepted, or the output differs, which is printed, and no file has changed.
+    // 6: the journal, one of a window or the proof isn't accepted, or the output differs, which is printed, and no file has changed.
     ensures rejected { result ≡ 6 → EndsBy 6 (contract_of (asked (map string_bytes words.now))) (S.files shelf.old)
         (O.written out.old) (O.written out.new) }
     ensures rejected_files { result ≡ 6 → S.files shelf.new ≡ S.files shelf.old }

@@ -1,89 +1,27 @@
 //! The command `cut`.
-ghost use Rattle.std.specs.Prelude.{◌≡◌, ◌≤◌, ◌⊎◌, All, IfErr, IfOk, IfSome, OnOk, length};
+ghost use Rattle.std.specs.Prelude.{◌≡◌, ◌≤◌, ◌⊎◌, All, IfErr, IfOk, OnOk};
 ghost use Rattle.std.specs.Option.{option_map};
 ghost use Rattle.std.specs.String.{string_bytes};
 ghost use Rattle.rm_base.specs.Files.{put_file};
 ghost use Rattle.blif_format.specs.Text.{text_of};
 ghost use Rattle.rambo_cli.specs.Contract.{Caused};
-ghost use Rattle.rambo_cli.specs.Cut.{BeginsCut, HasCut, IsCutInto, IsWindow, signals_of, window_file};
-ghost use Rattle.rambo_cli.specs.Files.{Holds, IfTold};
+ghost use Rattle.window_cut.specs.Laws.{IsStandalone};
+ghost use Rattle.rambo_cli.specs.Cut.{BeginsCut, HasCut, signals_of};
+ghost use Rattle.rambo_cli.specs.Files.{IfTold};
 ghost use Rattle.rambo_cli.specs.Flat.{FlatFinds};
 ghost use Rattle.rambo_cli.specs.Inner.Cut.{BeginsWindows, all_put};
 ghost use Rattle.rambo_cli.specs.Inner.Files.{BeginsFile};
-ghost use Rattle.rambo_cli.specs.Inner.Problems.{FlatTextCause, StoreCause};
+ghost use Rattle.rambo_cli.specs.Inner.Problems.{StoreCause};
 ghost use Rattle.rambo_cli.specs.Problems.{KeepsFiles};
+ghost use Rattle.rambo_cli.specs.Windows.{window_file};
 
+use crate::input_model::{flat_model, windows_of};
 use crate::optimising::replace;
 use crate::problem::Problem;
-use crate::reading::{MOST_BYTES, bytes_of};
-use blif_flatten::flatten;
-use blif_format::Quantity;
 use blif_writer::{write_model, written_texts_read};
 use rm_base::{NoMemory, Shelf};
 use rm_model::{Model, NameKeys};
 use std::alloc::Global;
-use window_cut::{cut, windows_are_models};
-
-// The windows of a text of at most 16,777,216 bytes.
-fn windows_of_short(
-    alloc: Global,
-    keys: NameKeys,
-    text: &[u8],
-    width: u32,
-    shift: u32,
-) -> Result<Vec<Model>, Problem>
-    requires { length text.now ≤ 16777216 }
-    ensures cut { IfOk result (λ windows. IsCutInto text.now width shift windows.items) }
-    ensures cause { IfErr result (FlatTextCause text.now) }
-{
-    windows_are_models();
-    written_texts_read();
-    let flat = match flatten(alloc, keys, text) {
-        Ok(flat) => flat,
-        Err(refusal) => return Err(Problem::from(refusal)),
-    };
-    let windows = cut(alloc, keys, &flat.model, width, shift)?;
-    Ok(windows)
-}
-
-// The windows of a text.
-fn windows_of_text(
-    alloc: Global,
-    keys: NameKeys,
-    text: &[u8],
-    width: u32,
-    shift: u32,
-) -> Result<Vec<Model>, Problem>
-    ensures cut { IfOk result (λ windows. IsCutInto text.now width shift windows.items) }
-    ensures cause { IfErr result (FlatTextCause text.now) }
-{
-    if text.len() > MOST_BYTES {
-        return Err(Problem::Limit {
-            quantity: Quantity::Text,
-            count: 16_777_217,
-        });
-    }
-    windows_of_short(alloc, keys, text, width, shift)
-}
-
-// The windows of the input.
-fn windows_of_input<S: Shelf>(
-    alloc: Global,
-    keys: NameKeys,
-    shelf: &mut S,
-    input: &str,
-    width: u32,
-    shift: u32,
-) -> Result<Vec<Model>, Problem>
-    ensures cut { IfOk result (λ windows. IfSome (S.files shelf.old) (λ told. Holds told input.now (λ text. IsCutInto text width shift windows.items))) }
-    ensures each { IfOk result (λ windows. All IsWindow windows.items) }
-    ensures cause { IfErr result (Caused (FlatFinds input.now (S.files shelf.old)) (S.faults shelf.old) (S.faults shelf.new)) }
-    ensures files { S.files shelf.new ≡ S.files shelf.old }
-    ensures later { S.faults shelf.old ≤ S.faults shelf.new }
-{
-    let text = bytes_of(shelf, input, MOST_BYTES + 1)?;
-    windows_of_text(alloc, keys, text.as_slice(), width, shift)
-}
 
 // The name of a window's file.
 fn window_name(alloc: Global, prefix: &str, number: usize) -> Result<String, NoMemory>
@@ -100,7 +38,7 @@ fn write_window<S: Shelf>(
     number: usize,
     window: &Model,
 ) -> Result<(), Problem>
-    requires { IsWindow window.now }
+    requires { IsStandalone window.now }
     ensures done { OnOk result (S.files shelf.new ≡ option_map (put_file (window_file prefix.now number) (text_of window.now)) (S.files shelf.old)) }
     ensures begun { BeginsFile (window_file prefix.now number) (text_of window.now) (S.files shelf.old) (S.files shelf.new) }
     ensures cause { IfErr result (StoreCause (S.faults shelf.old) (S.faults shelf.new)) }
@@ -119,7 +57,7 @@ fn write_windows<S: Shelf>(
     prefix: &str,
     windows: &[Model],
 ) -> Result<(), Problem>
-    requires { All IsWindow windows.now }
+    requires { All IsStandalone windows.now }
     ensures done { OnOk result (S.files shelf.new ≡ all_put prefix.now windows.now (S.files shelf.old)) }
     ensures begun { BeginsWindows prefix.now windows.now (S.files shelf.old) (S.files shelf.new) }
     ensures cause { IfErr result (StoreCause (S.faults shelf.old) (S.faults shelf.new)) }
@@ -155,8 +93,8 @@ pub(crate) struct CutCounts {
     pub(crate) signals: u64,
 }
 
-/// Cuts the flat model of the input into windows of about so many wires, the first of `shift` unless that is 0, and writes
-/// each under the prefix, its number and `.blif`.
+/// Cuts the flat model of the input, in which equal covers are merged first, into windows of about so many wires, the first of
+/// `shift` unless that is 0, and writes each under the prefix, its number and `.blif`.
 pub(crate) fn cut_input<S: Shelf>(
     alloc: Global,
     keys: NameKeys,
@@ -172,9 +110,12 @@ pub(crate) fn cut_input<S: Shelf>(
     ensures safe { IfTold (S.files shelf.old) (S.files shelf.new) (λ before after. (after ≡ before) ⊎ BeginsCut input.now width prefix.now shift before after) }
     ensures later { S.faults shelf.old ≤ S.faults shelf.new }
 {
-    let windows = windows_of_input(alloc, keys, shelf, input, width, shift)?;
-    let signals = count_signals(windows.as_slice())?;
-    write_windows(alloc, shelf, prefix, windows.as_slice())?;
+    written_texts_read();
+    let flat = flat_model(alloc, keys, shelf, input)?;
+    let windowed = windows_of(alloc, keys, &flat.model, width, shift)?;
+    let windows = windowed.windows.as_slice();
+    let signals = count_signals(windows)?;
+    write_windows(alloc, shelf, prefix, windows)?;
     Ok(CutCounts {
         windows: windows.len() as u64,
         signals,

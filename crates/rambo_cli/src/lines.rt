@@ -1,7 +1,8 @@
 //! The lines that a run puts.
-ghost use Rattle.std.specs.Prelude.{◌≡◌, ◌++◌, ◌∷◌, [], IfOk, Some};
+ghost use Rattle.std.specs.Prelude.{◌≡◌, ◌++◌, ◌∷◌, [], IfOk, OnOk, Some};
 ghost use Rattle.std.specs.Fmt.{decimal};
-ghost use Rattle.rambo_cli.specs.Lines.{fault_word as word_of_fault, list_word as word_of_list, quantity_word as word_of_quantity, fault_line as line_of_fault, cut_line, flat_line, limit_line, replayed_lines, second_line, stop_line, unlike_line};
+ghost use Rattle.rambo_cli.specs.Lines.{fault_word as word_of_fault, list_word as word_of_list, quantity_word as word_of_quantity, fault_line as line_of_fault, cut_line, flat_line, limit_line, replayed_lines, second_line, sewn_line, stop_line, unlike_line, window_line};
+ghost use Rattle.journal_audit.specs.Lines.{number as number_of};
 ghost use Rattle.rambo_cli.specs.Problems.{done_text, line_of, text_line};
 ghost use Rattle.rambo_cli.specs.Verdicts.{judged_lines, verdict_line};
 
@@ -131,6 +132,29 @@ fn unlike_text(alloc: Global, list: NameList, at: u32) -> Result<Vec<u8>, NoMemo
     Ok(line)
 }
 
+// What `check` puts of what ends the steps.
+fn stop_text(alloc: Global, stop: Stop) -> Result<Vec<u8>, NoMemory>
+    ensures { IfOk result (λ line. line.items ≡ stop_line stop) }
+{
+    match stop {
+        Stop::Text { fault } => fault_line(alloc, fault),
+        Stop::Refused { refusal } => refusal_line(alloc, &refusal),
+    }
+}
+
+// The line of a window whose journal isn't accepted.
+fn window_text(alloc: Global, number: u64, stop: Stop) -> Result<Vec<u8>, NoMemory>
+    ensures { IfOk result (λ line. line.items ≡ window_line number stop) }
+{
+    let mut buffer = Buffer::new();
+    let found = stop_text(alloc, stop)?;
+    let mut line = Vec::from_slice(alloc, b"window ")?;
+    line.extend_from_slice(buffer.format(number).as_bytes())?;
+    line.extend_from_slice(b" ")?;
+    line.extend_from_slice(found.as_slice())?;
+    Ok(line)
+}
+
 /// The line that a problem puts.
 pub fn line(alloc: Global, problem: Problem) -> Result<Vec<u8>, NoMemory>
     ensures { IfOk result (λ line. line.items ≡ line_of problem) }
@@ -147,6 +171,7 @@ pub fn line(alloc: Global, problem: Problem) -> Result<Vec<u8>, NoMemory>
         Problem::Second { found } => second_text(alloc, found),
         Problem::Unlike { list, at } => unlike_text(alloc, list, at),
         Problem::CareShape => Ok(Vec::from_slice(alloc, b"care shape\n")?),
+        Problem::Window { number, stop } => window_text(alloc, number, stop),
         Problem::Proof { found } => proof_line(alloc, found),
         Problem::Memory => Ok(Vec::from_slice(alloc, b"memory\n")?),
     }
@@ -188,14 +213,33 @@ fn cut_text(alloc: Global, windows: u64, signals: u64) -> Result<Vec<u8>, NoMemo
     Ok(line)
 }
 
-// What `check` puts of what ends the steps.
-fn stop_text(alloc: Global, stop: Stop) -> Result<Vec<u8>, NoMemory>
-    ensures { IfOk result (λ line. line.items ≡ stop_line stop) }
+// A space and a number behind a line that is begun.
+fn push_number(line: &mut Vec<u8>, number: u64) -> Result<(), NoMemory>
+    ensures { OnOk result (line.new.items ≡ line.old.items ++ number_of number) }
 {
-    match stop {
-        Stop::Text { fault } => fault_line(alloc, fault),
-        Stop::Refused { refusal } => refusal_line(alloc, &refusal),
-    }
+    let mut buffer = Buffer::new();
+    line.extend_from_slice(b" ")?;
+    line.extend_from_slice(buffer.format(number).as_bytes())?;
+    Ok(())
+}
+
+// The line of windows that are sewn.
+fn sewn_text(
+    alloc: Global,
+    windows: u64,
+    replayed: u64,
+    wires: u64,
+    before: u64,
+) -> Result<Vec<u8>, NoMemory>
+    ensures { IfOk result (λ line. line.items ≡ sewn_line windows replayed wires before) }
+{
+    let mut line = Vec::from_slice(alloc, b"sewn")?;
+    push_number(&mut line, windows)?;
+    push_number(&mut line, replayed)?;
+    push_number(&mut line, wires)?;
+    push_number(&mut line, before)?;
+    line.extend_from_slice(b"\n")?;
+    Ok(line)
 }
 
 // The lines of steps that something of the journal ends.
@@ -255,5 +299,11 @@ pub fn done_line(alloc: Global, done: &Done) -> Result<Vec<u8>, NoMemory>
         Done::Judged { count, verdict } => judged_text(alloc, *count, verdict),
         Done::Cared(figures) => care_summary(alloc, figures),
         Done::Cut { windows, signals } => cut_text(alloc, *windows, *signals),
+        Done::Sewn {
+            windows,
+            replayed,
+            wires,
+            before,
+        } => sewn_text(alloc, *windows, *replayed, *wires, *before),
     }
 }

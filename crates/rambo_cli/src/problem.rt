@@ -8,6 +8,7 @@ ghost use Rattle.rambo_cli.specs.Inner.Optcare.{care_problem};
 ghost use Rattle.rambo_cli.specs.Inner.Problems.{halt_problem, outside_problem, read_problem, stop_problem, word_problem};
 ghost use Rattle.rambo_cli.specs.declared.problem.Problem.TheVariants as problem;
 
+use accepted_steps::Stop as StepsStop;
 use blif_format::{FaultKind, Quantity, ReadRefusal};
 use care_opt::CareRefusal;
 use equal_miter::MiterRefusal;
@@ -92,6 +93,8 @@ pub enum Problem {
     Unlike { list: NameList, at: u32 },
     /// The second model, which is to say what is cared for, has more or fewer outputs than one, or latches.
     CareShape,
+    /// The journal of the window of this number, from 1 on, isn't accepted to its end: this ends its accepted steps.
+    Window { number: u64, stop: StepsStop },
     /// The proof isn't accepted.
     Proof { found: ProofProblem },
     Memory,
@@ -117,6 +120,7 @@ impl Problem {
             Problem::Second { found } => found.status(),
             Problem::Unlike { list: _, at: _ } => 9,
             Problem::CareShape => 9,
+            Problem::Window { number: _, stop: _ } => 6,
             Problem::Proof { found: _ } => 6,
             Problem::Memory => 4,
         }

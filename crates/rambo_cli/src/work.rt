@@ -17,6 +17,7 @@ use crate::optimising::{Names, optimise_input};
 use crate::problem::Problem;
 use crate::replaying::replay_journal;
 use crate::showing::show;
+use crate::stitching::{SewNames, sew_input};
 use crate::summary::CareFigures;
 use crate::testing::{TestNames, write_tests};
 use crate::verdict::Verdict;
@@ -38,21 +39,40 @@ pub enum Done {
     /// `check`: the journal is accepted, with so many records.
     Accepted(u64),
     /// `flat`: the output is one model of so many instances and covers.
-    Flattened { instances: u32, covers: u64 },
+    Flattened {
+        instances: u32,
+        covers: u64,
+    },
     /// `tests`: so many patterns are written, and how many faults they detect.
     Tested(Counts),
     /// `replay`: so many steps lead to the output, and what of the journal ends its accepted steps.
-    Replayed { count: u64, stop: Option<Stop> },
+    Replayed {
+        count: u64,
+        stop: Option<Stop>,
+    },
     /// `convert`: the journal is written in version 2, with so many records.
     Converted(u64),
     /// `equal`: what is decided of the models.
     Compared(Verdict),
     /// `judge`: the proof is accepted, with so many lines of evidence, and this is what it says.
-    Judged { count: u64, verdict: Verdict },
+    Judged {
+        count: u64,
+        verdict: Verdict,
+    },
     /// `optcare`: the figures of the run.
     Cared(CareFigures),
     /// `cut`: so many windows are written, which hand on so many signals.
-    Cut { windows: u64, signals: u64 },
+    Cut {
+        windows: u64,
+        signals: u64,
+    },
+    /// `sew`: so many windows, of which so many are replayed, and the wires of the output and of the input.
+    Sewn {
+        windows: u64,
+        replayed: u64,
+        wires: u64,
+        before: u64,
+    },
 }
 
 impl Done {
@@ -79,6 +99,12 @@ impl Done {
             Done::Cut {
                 windows: _,
                 signals: _,
+            } => 0,
+            Done::Sewn {
+                windows: _,
+                replayed: _,
+                wires: _,
+                before: _,
             } => 0,
         }
     }
@@ -220,6 +246,26 @@ pub(crate) fn work<R: Threads + Sync, S: Shelf, G: Gate>(
             Ok(Done::Cut {
                 windows: counts.windows,
                 signals: counts.signals,
+            })
+        }
+        Command::Sew {
+            input,
+            width,
+            prefix,
+            output,
+            shift,
+        } => {
+            let names = SewNames {
+                input,
+                prefix,
+                output,
+            };
+            let counts = sew_input(alloc, keys, shelf, &names, width, shift)?;
+            Ok(Done::Sewn {
+                windows: counts.windows,
+                replayed: counts.replayed,
+                wires: counts.wires,
+                before: counts.before,
             })
         }
     }

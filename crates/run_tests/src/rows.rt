@@ -14,6 +14,7 @@ mod opt_rows;
 mod refused_rows;
 mod replay_rows;
 mod running;
+mod sew_rows;
 mod step_rows;
 mod tests_rows;
 mod texts;

@@ -55,7 +55,7 @@ model_covers ws = flat_map (λ (w : Model). w.covers) ws
 abbrev pub model_outputs : List Model → List Word
 model_outputs ws = flat_map (λ (w : Model). w.outputs) ws
 
--- a model of some covers alone that can be written and optimised by itself
+-- a model of some covers alone: well formed and acyclic, without clocks and latches, with an output, and each output is one of a cover
 pub record IsStandalone (m : Model) : Type 0 where
   pub formed : IsWellFormed m
   pub ranked : IsRanked m

@@ -37,7 +37,7 @@ pub fn windows_are_ordered()
     ranked_models_have_levels();
 }
 
-/// The model of each window can be written, read and optimised by itself. Together they have the needed covers; each reads
+/// The model of each window stands alone: it is well formed and acyclic, and gives something. Together they have the needed covers; each reads
 /// sources and outputs of models before it, and the sources and their outputs have all observed names.
 pub fn windows_are_models()
     ensures standalone { (width shift : ℕ) (m : Model) → IsWellFormed m → IsRanked m

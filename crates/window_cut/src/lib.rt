@@ -5,6 +5,7 @@
 mod copies;
 mod cutting;
 mod laws;
+mod ordered_places;
 mod places;
 mod walk;
 mod weights;
@@ -12,4 +13,5 @@ mod window_inputs;
 mod window_models;
 
 pub use laws::{windows_are_models, windows_are_ordered, windows_fit_together, worked_rows};
+pub use ordered_places::places_in_order;
 pub use window_models::cut;

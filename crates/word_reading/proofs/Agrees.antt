@@ -9,7 +9,7 @@ use Rattle.rm_base.specs.declared.settings.Settings.{Settings}
 use Rattle.word_reading.specs.declared.options.Options.{Options}
 use Rattle.word_reading.specs.Inner.Judged.{accepted, judged, judged_parts, rules}
 use Rattle.word_reading.specs.Inner.Commands.{command_in, has_only, made_by, names_in, number_at, options_in, settings_in, up_to_none}
-use Rattle.word_reading.specs.Words.{Asked, CommandRule, OptionRule, Part, name, setting, all_together, asked, asked_by, at_most_once, budget_rule, check_by, command_rules, convert_by, cut_by, demo_by, depth_rule, equal_by, flat_by, given, has_keys, is_word, judge_by, merge_rule, names, opt_by, optcare_by, option_rules, options_of, is_window_file, number, parts, question_keys, replay_by, rule_of, run_keys, setting_keys, settings_of, shift_rule, tests_by, together, tries_rule, value_in, window_keys, workers_rule}
+use Rattle.word_reading.specs.Words.{Asked, CommandRule, OptionRule, Part, name, setting, all_together, asked, asked_by, at_most_once, budget_rule, check_by, command_rules, convert_by, cut_by, demo_by, depth_rule, equal_by, flat_by, given, has_keys, is_word, judge_by, merge_rule, names, opt_by, optcare_by, option_rules, options_of, is_window_file, number, parts, question_keys, replay_by, rule_of, run_keys, setting_keys, settings_of, sew_by, shift_rule, tests_by, together, tries_rule, value_in, window_keys, workers_rule}
 use Rattle.word_reading.specs.declared.options.TheConstants.{LEAST_WIDTH, MOST_WIDTH}
 use Rattle.word_reading.proofs.Numbers.{number_in_some, number_some}
 use Rattle.word_reading.proofs.Slots.{fits, row_with, row_for}
@@ -285,6 +285,14 @@ cut_few (a ∷ b ∷ []) o lt = absurd (omega arith)
 cut_few (a ∷ b ∷ c ∷ []) o lt = absurd (omega arith)
 cut_few (a ∷ b ∷ c ∷ d ∷ ws) o lt = refl
 
+sew_few : (ws : List Text) (o : Options) → 4 < length ws → sew_by ws o ≡ None
+sew_few [] o lt = absurd (omega arith)
+sew_few (a ∷ []) o lt = absurd (omega arith)
+sew_few (a ∷ b ∷ []) o lt = absurd (omega arith)
+sew_few (a ∷ b ∷ c ∷ []) o lt = absurd (omega arith)
+sew_few (a ∷ b ∷ c ∷ d ∷ []) o lt = absurd (omega arith)
+sew_few (a ∷ b ∷ c ∷ d ∷ e ∷ ws) o lt = refl
+
 -- of two keys in front of others, what is among the two is among all
 among_first : (x y : Bool) (z : Bool) → (x || (y || false)) ≡ true → (x || (y || z)) ≡ true
 among_first true y z e = refl
@@ -323,7 +331,7 @@ are_modest = (
   record { few = opt_few; listed = runs_listed },
   (
     record { few = check_few; listed = λ k e. cc },
-    (record { few = demo_few; listed = runs_listed }, (record { few = flat_few; listed = λ k e. cc }, (record { few = tests_few; listed = λ k e. cc }, (record { few = replay_few; listed = λ k e. cc }, (record { few = convert_few; listed = λ k e. cc }, (record { few = equal_few; listed = questions_listed }, (record { few = judge_few; listed = λ k e. cc }, (record { few = optcare_few; listed = questions_listed }, (record { few = cut_few; listed = windows_listed }, tt))))))))),
+    (record { few = demo_few; listed = runs_listed }, (record { few = flat_few; listed = λ k e. cc }, (record { few = tests_few; listed = λ k e. cc }, (record { few = replay_few; listed = λ k e. cc }, (record { few = convert_few; listed = λ k e. cc }, (record { few = equal_few; listed = questions_listed }, (record { few = judge_few; listed = λ k e. cc }, (record { few = optcare_few; listed = questions_listed }, (record { few = cut_few; listed = windows_listed }, (record { few = sew_few; listed = windows_listed }, tt)))))))))),
   ),
 )
 

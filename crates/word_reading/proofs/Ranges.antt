@@ -10,7 +10,7 @@ use Rattle.std.proofs.lemmas.Slice.Eq.{bytes_eq-Decides}
 use Rattle.clap.proofs.WalkLemmas.{both}
 use Rattle.rm_base.specs.declared.settings.Settings.{Settings}
 use Rattle.word_reading.specs.Commands.{HasNamesApart, HasSettingsInRange, IsInRange}
-use Rattle.word_reading.specs.Words.{Asked, CommandRule, Part, all_together, are_different, asked, asked_by, at_most_once, budget_rule, check, check_by, command_rules, convert, convert_by, cut, cut_by, demo, demo_by, depth_rule, equal, equal_by, flat, flat_by, given, has_keys, is_window_file, is_word, judge, judge_by, merge_rule, names, number, opt, opt_by, optcare, optcare_by, options_of, parts, replay, replay_by, rule_of, settings_of, shift_rule, tests, tests_by, together, tries_rule, value_in, workers_rule}
+use Rattle.word_reading.specs.Words.{Asked, CommandRule, Part, all_together, are_different, are_outside, asked, asked_by, at_most_once, budget_rule, check, check_by, command_rules, convert, convert_by, cut, cut_by, demo, demo_by, depth_rule, equal, equal_by, flat, flat_by, given, has_keys, is_of_window, is_window_file, is_word, judge, judge_by, merge_rule, names, number, opt, opt_by, optcare, optcare_by, options_of, parts, replay, replay_by, rule_of, settings_of, sew, sew_by, shift_rule, tests, tests_by, together, tries_rule, value_in, workers_rule}
 use Rattle.word_reading.specs.declared.options.TheConstants.{LEAST_BUDGET, LEAST_WIDTH, LEAST_WORKERS, MOST_BUDGET, MOST_DEPTH, MOST_MERGE, MOST_SHIFT, MOST_TRIES, MOST_WIDTH, MOST_WORKERS, USUAL_BUDGET, USUAL_DEPTH, USUAL_MERGE, USUAL_SHIFT, USUAL_TRIES, USUAL_WORKERS}
 use Rattle.word_reading.specs.declared.options.Options.{Options}
 use Rattle.word_reading.proofs.Numbers.{value_of}
@@ -253,8 +253,37 @@ cut_sound (a ∷ b ∷ []) o range x is = cc
 cut_sound (a ∷ b ∷ c ∷ []) o range x is = cut_made a b c o range (is_window_file c a) refl x is
 cut_sound (a ∷ b ∷ c ∷ d ∷ ws) o range x is = cc
 
+not_true : (t : Bool) → not t ≡ true → t ≡ false
+not_true true e = cc
+not_true false e = refl
+
+outside : (a c d : Word) → are_outside c a d ≡ true → (a ≢ d) × ((is_of_window c a ≡ false) × (is_of_window c d ≡ false))
+outside a c d e =
+    let one = both (not (is_word a d) && not (is_of_window c a)) (not (is_of_window c d)) e in
+    let two = both (not (is_word a d)) (not (is_of_window c a)) one.0 in
+    (unlike a d (not_true (is_word a d) two.0), (not_true (is_of_window c a) two.1, not_true (is_of_window c d) one.1))
+
+sewn_width : (a c d : Word) (o : Options) → AreInRange o → are_outside c a d ≡ true → (r : Option ℕ) → ((n : ℕ) → r ≡ Some n → (LEAST_WIDTH ≤ n) × (n ≤ MOST_WIDTH)) → (x : Asked)
+    → option_map (λ width. sew a width c d o.shift) r ≡ Some x → IsSound x
+sewn_width a c d o range apart None within x is = cc
+sewn_width a c d o range apart (Some n) within x is = let w = within n refl in let out = outside a c d apart in
+    subst IsSound (some_is (sew a n c d o.shift) x is) ((out.0, out.1.0, out.1.1), (w.0, w.1, range.2))
+
+sew_made : (a b c d : Word) (o : Options) → AreInRange o → (t : Bool) → are_outside c a d ≡ t → (x : Asked)
+    → cond t (option_map (λ width. sew a width c d o.shift) (number LEAST_WIDTH MOST_WIDTH b)) None ≡ Some x → IsSound x
+sew_made a b c d o range false apart x is = cc
+sew_made a b c d o range true apart x is = sewn_width a c d o range apart (number LEAST_WIDTH MOST_WIDTH b) (λ n e. number_range LEAST_WIDTH MOST_WIDTH b n e) x is
+
+sew_sound : (ws : List Word) (o : Options) → AreInRange o → (x : Asked) → sew_by ws o ≡ Some x → IsSound x
+sew_sound [] o range x is = cc
+sew_sound (a ∷ []) o range x is = cc
+sew_sound (a ∷ b ∷ []) o range x is = cc
+sew_sound (a ∷ b ∷ c ∷ []) o range x is = cc
+sew_sound (a ∷ b ∷ c ∷ d ∷ []) o range x is = sew_made a b c d o range (are_outside c a d) refl x is
+sew_sound (a ∷ b ∷ c ∷ d ∷ e ∷ ws) o range x is = cc
+
 all_sound : AllByRecursion MakesSound command_rules
-all_sound = (opt_sound, (check_sound, (demo_sound, (flat_sound, (tests_sound, (replay_sound, (convert_sound, (equal_sound, (judge_sound, (optcare_sound, (cut_sound, tt)))))))))))
+all_sound = (opt_sound, (check_sound, (demo_sound, (flat_sound, (tests_sound, (replay_sound, (convert_sound, (equal_sound, (judge_sound, (optcare_sound, (cut_sound, (sew_sound, tt))))))))))))
 
 sound_of : (w : Word) (xs : List CommandRule) → AllByRecursion MakesSound xs → (c : CommandRule) → find (λ (d : CommandRule). is_word w d.word) xs ≡ Some c → MakesSound c
 sound_of w [] all c e = cc

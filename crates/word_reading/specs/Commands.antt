@@ -2,9 +2,9 @@
 use Rattle.std.specs.Prelude.{◌≡◌, ◌≢◌, ◌≤◌, Some, None, false, option_map}
 use Rattle.word_reading.specs.declared.options.TheConstants.{LEAST_BUDGET, LEAST_WIDTH, LEAST_WORKERS, MOST_BUDGET, MOST_DEPTH, MOST_MERGE, MOST_SHIFT, MOST_TRIES, MOST_WIDTH, MOST_WORKERS}
 use Rattle.rm_base.specs.declared.settings.Settings.{Settings}
-use Rattle.word_reading.specs.Words.{Asked, opt, check, demo, flat, tests, replay, convert, equal, judge, optcare, cut, is_window_file}
+use Rattle.word_reading.specs.Words.{Asked, opt, check, demo, flat, tests, replay, convert, equal, judge, optcare, cut, sew, is_of_window, is_window_file}
 use Rattle.word_reading.specs.declared.command.Command.{Command}
-use Rattle.word_reading.specs.declared.command.Command.TheVariants.{Opt, Check, Demo, Flat, Tests, Replay, Convert, Equal, Judge, Optcare, Cut}
+use Rattle.word_reading.specs.declared.command.Command.TheVariants.{Opt, Check, Demo, Flat, Tests, Replay, Convert, Equal, Judge, Optcare, Cut, Sew}
 
 -- the command as a value: its names are their bytes
 abbrev pub asked_of : Command → Asked
@@ -19,9 +19,10 @@ asked_of (Equal first second proof settings) = equal first.now second.now proof.
 asked_of (Judge first second proof) = judge first.now second.now proof.now
 asked_of (Optcare input care output vectors settings) = optcare input.now care.now output.now vectors.now settings
 asked_of (Cut input width prefix shift) = cut input.now width prefix.now shift
+asked_of (Sew input width prefix output shift) = sew input.now width prefix.now output.now shift
 
--- no two names of `opt`, `flat`, `replay`, `convert`, `equal` or `optcare` are alike, the last one of `tests` is none of the others, and
--- the input of `cut` is no file of a window
+-- no two names of `opt`, `flat`, `replay`, `convert`, `equal` or `optcare` are alike, the last one of `tests` is none of the others,
+-- the input of `cut` is no file of a window, and the input and the output of `sew` aren't alike, and neither is of a window
 abbrev pub HasNamesApart : Asked → Type 0
 HasNamesApart (opt input output None settings merge) = input ≢ output
 HasNamesApart (opt input output (Some journal) settings merge) = (input ≢ output) × (input ≢ journal) × (output ≢ journal)
@@ -35,6 +36,7 @@ HasNamesApart (equal first second proof settings) = (first ≢ second) × (first
 HasNamesApart (judge first second proof) = Unit {0}
 HasNamesApart (optcare input care output vectors settings) = (input ≢ care) × (input ≢ output) × (input ≢ vectors) × (care ≢ output) × (care ≢ vectors) × (output ≢ vectors)
 HasNamesApart (cut input width prefix shift) = is_window_file prefix input ≡ false
+HasNamesApart (sew input width prefix output shift) = (input ≢ output) × (is_of_window prefix input ≡ false) × (is_of_window prefix output ≡ false)
 
 pub record IsInRange (settings : Settings) : Type 0 where
   pub depth : settings.depth ≤ MOST_DEPTH
@@ -56,3 +58,4 @@ HasSettingsInRange (equal first second proof settings) = IsInRange settings
 HasSettingsInRange (judge first second proof) = Unit {0}
 HasSettingsInRange (optcare input care output vectors settings) = IsInRange settings
 HasSettingsInRange (cut input width prefix shift) = (LEAST_WIDTH ≤ width) × (width ≤ MOST_WIDTH) × (shift ≤ MOST_SHIFT)
+HasSettingsInRange (sew input width prefix output shift) = (LEAST_WIDTH ≤ width) × (width ≤ MOST_WIDTH) × (shift ≤ MOST_SHIFT)

@@ -170,8 +170,8 @@ options_of ps = all_together (settings_of ps) (value_in ps merge_rule) (value_in
 
 -- ---- the commands
 
--- a command with its names, its settings, and the number that `--merge` says: of `opt` the journal's name may be left out; of `cut` the
--- width of windows, and the number that `--shift` says
+-- a command with its names, its settings, and the number that `--merge` says: of `opt` the journal's name may be left out; of `cut`
+-- and `sew` the width of windows, and the number that `--shift` says
 pub data Asked : Type 0 where
   opt : Word → Word → Option Word → Settings → ℕ → Asked
   check : Word → Word → Word → Asked
@@ -184,6 +184,7 @@ pub data Asked : Type 0 where
   judge : Word → Word → Word → Asked
   optcare : Word → Word → Word → Word → Settings → Asked
   cut : Word → ℕ → Word → ℕ → Asked
+  sew : Word → ℕ → Word → Word → ℕ → Asked
 
 -- no two of the names are alike
 abbrev pub are_different : List Word → Bool
@@ -252,18 +253,35 @@ abbrev pub has_number_then : Word → Word → Bool
 has_number_then ending [] = false
 has_number_then ending (b ∷ bs) = nat_lt (digit_value b) 10 && (is_word bs ending || has_number_then ending bs)
 
-abbrev pub is_numbered : Option Word → Bool
-is_numbered None = false
-is_numbered (Some rest) = has_number_then (codes ".blif") rest
+abbrev pub is_numbered : Word → Option Word → Bool
+is_numbered ending None = false
+is_numbered ending (Some rest) = has_number_then ending rest
 
 -- the name is the prefix, a number and `.blif`
 abbrev pub is_window_file : Word → Word → Bool
-is_window_file prefix file = is_numbered (behind prefix file)
+is_window_file prefix file = is_numbered (codes ".blif") (behind prefix file)
+
+-- the name is the prefix, a number and `.journal`
+abbrev pub is_window_journal : Word → Word → Bool
+is_window_journal prefix file = is_numbered (codes ".journal") (behind prefix file)
+
+-- the name is that of a window's file, or of a window's journal
+abbrev pub is_of_window : Word → Word → Bool
+is_of_window prefix file = is_window_file prefix file || is_window_journal prefix file
 
 -- a name, a number and a prefix; the name is none of those of the windows' files
 abbrev pub cut_by : List Word → Options → Option Asked
 cut_by (a ∷ b ∷ c ∷ []) o = if is_window_file c a then None else option_map (λ width. cut a width c o.shift) (number LEAST_WIDTH MOST_WIDTH b)
 cut_by _ o = None
+
+-- the names of the input and of the output aren't alike, and neither is that of a window's file or journal
+abbrev pub are_outside : Word → Word → Word → Bool
+are_outside prefix a d = not (is_word a d) && not (is_of_window prefix a) && not (is_of_window prefix d)
+
+-- a name, a number, a prefix and a name
+abbrev pub sew_by : List Word → Options → Option Asked
+sew_by (a ∷ b ∷ c ∷ d ∷ []) o = if are_outside c a d then option_map (λ width. sew a width c d o.shift) (number LEAST_WIDTH MOST_WIDTH b) else None
+sew_by _ o = None
 
 -- the word of a command, the keys of its options, and what its names and options ask for
 pub record CommandRule : Type 0 where
@@ -284,6 +302,7 @@ command_rules =
     ∷ record { word = codes "judge"; keys = []; made = judge_by }
     ∷ record { word = codes "optcare"; keys = question_keys; made = optcare_by }
     ∷ record { word = codes "cut"; keys = window_keys; made = cut_by }
+    ∷ record { word = codes "sew"; keys = window_keys; made = sew_by }
     ∷ []
 
 -- the command of a word

@@ -67,6 +67,15 @@ pub enum Command<'a> {
         prefix: &'a str,
         shift: u32,
     },
+    /// Cuts the input into the same windows, makes the steps of each one's journal, which is named by the prefix, its number and
+    /// `.journal`, and writes the input's model with what the windows become as the output.
+    Sew {
+        input: &'a str,
+        width: u32,
+        prefix: &'a str,
+        output: &'a str,
+        shift: u32,
+    },
     /// Makes one flat model of the input, and writes it as the output.
     Flat {
         input: &'a str,

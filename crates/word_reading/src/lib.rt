@@ -2,9 +2,12 @@
 #![tactic(auto)]
 
 mod command;
+mod option_values;
 mod options;
+mod positionals;
 mod program;
 mod reading;
+mod requests;
 mod window_names;
 
 pub use command::{Command, WordFault};

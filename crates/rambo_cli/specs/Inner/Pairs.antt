@@ -2,7 +2,7 @@
 use Rattle.std.specs.Prelude.{◌≡◌}
 use Rattle.rambo_cli.specs.declared.problem.TextProblem.TheVariants as found
 use Rattle.rambo_cli.specs.declared.problem.Problem.{Problem}
-use Rattle.rambo_cli.specs.declared.problem.Problem.TheVariants.{Words, Text, Limit, Missing, Fault, Journal, Record, Netlist, Second, Unlike, CareShape, Proof, Memory}
+use Rattle.rambo_cli.specs.declared.problem.Problem.TheVariants.{Words, Text, Limit, Missing, Fault, Journal, Record, Netlist, Second, Unlike, CareShape, Window, Proof, Memory}
 
 -- a problem of a text as one of the second text
 abbrev pub second_problem : Problem → Problem
@@ -17,6 +17,7 @@ second_problem (Netlist byte) = Netlist byte
 second_problem (Second found) = Second found
 second_problem (Unlike list at) = Unlike list at
 second_problem CareShape = CareShape
+second_problem (Window number stop) = Window number stop
 second_problem (Proof found) = Proof found
 second_problem Memory = Memory
 

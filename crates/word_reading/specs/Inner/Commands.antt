@@ -9,7 +9,7 @@ use Rattle.word_reading.specs.Words.{Asked, CommandRule, OptionRule, is_word, op
 use Rattle.word_reading.specs.Inner.Program.{name_ids}
 use Rattle.word_reading.specs.declared.options.Options.{Options}
 use Rattle.word_reading.specs.declared.options.TheConstants.{USUAL_BUDGET, USUAL_DEPTH, USUAL_MERGE, USUAL_SHIFT, USUAL_TRIES, USUAL_WORKERS}
-use Rattle.word_reading.specs.declared.reading.Positionals.{Positionals}
+use Rattle.word_reading.specs.declared.positionals.Positionals.{Positionals}
 
 -- the number of a text, where it has at most `bits` bits
 abbrev pub number_in : ℕ → Text → Option ℕ

@@ -1,0 +1,24 @@
+-- Why there is nothing to sew, over files that may not be told.
+use Rattle.std.specs.Prelude.{◌≡◌, ◌<◌, ◌+◌, ◌^◌, ℕ, List, Option, Some, IfSome, length, slice_get}
+use Rattle.rm_base.specs.Files.{Files}
+use Rattle.rm_base.specs.Words.{Word}
+use Rattle.rm_model.specs.declared.parts.Model.{Model}
+use Rattle.wire_edit.specs.declared.steps.Step.{Step}
+use Rattle.blif_format.specs.declared.refusal.Quantity.TheVariants.{Journal as JournalLimit}
+use Rattle.accepted_steps.specs.Taken.{TakenFrom}
+use Rattle.accepted_steps.specs.declared.stop.Stop.{Stop}
+use Rattle.rambo_cli.specs.Files.{Holds}
+use Rattle.rambo_cli.specs.Sew.{IsLongWindow}
+use Rattle.rambo_cli.specs.Windows.{window_journal}
+use Rattle.rambo_cli.specs.declared.problem.Problem.{Problem}
+use Rattle.rambo_cli.specs.declared.problem.Problem.TheVariants.{Limit, Window}
+
+-- of the window with this number
+abbrev pub PartFinds : Model → Word → ℕ → Option Files → Problem → Type 0
+PartFinds w prefix k files (Window number stop) = (number ≡ k) × IfSome files (λ told. (steps : List Step) × TakenFrom w (window_journal prefix k) steps (Some stop) told)
+PartFinds w prefix k files (Limit quantity count) = IsLongWindow prefix files (Limit quantity count)
+PartFinds w prefix k files _ = ⊥
+
+-- of one of these windows
+abbrev pub PartsFind : Word → List Model → Option Files → Problem → Type 0
+PartsFind prefix windows files problem = (place : ℕ) × ((w : Model) × ((slice_get windows place ≡ Some w) × PartFinds w prefix (place + 1) files problem))
