@@ -13,6 +13,10 @@ const TWO_LEVELS: &str =
 const IN_ORDER: &str =
     ".model x\n.inputs a b c d\n.outputs y z\n.names a b p\n11 1\n.names p c q\n1- 1\n-1 1\n.names q d y\n11 1\n.names p d z\n1- 1\n-1 1\n.end\n";
 
+// The same where q and y stand in one window, the second, so that q is an inner name.
+const INNER_OR: &str =
+    ".model x\n.inputs a b c d\n.outputs y z\n.names a b p\n11 1\n.names p c w0_2_q\n1- 1\n-1 1\n.names w0_2_q d y\n11 1\n.names p d z\n1- 1\n-1 1\n.end\n";
+
 // An And of d and of a with b or c, in eight wires, of which five are enough.
 const EIGHT_WIRES: &str =
     ".model r3\n.inputs a b c d\n.outputs k\n.names a b c o\n11- 1\n1-1 1\n.names o d k\n11 1\n.end\n";
@@ -63,7 +67,7 @@ const SEWN: [(&str, &str, &str, &str, &str); 9] = [
         "",
         "sew in 4 w out --shift 2",
         "sewn 3 0 8 8\n",
-        IN_ORDER,
+        INNER_OR,
     ),
     (
         TWO_LEVELS,
