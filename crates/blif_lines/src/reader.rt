@@ -10,21 +10,23 @@ use rm_base::{NoMemory, Place};
 use std::alloc::Global;
 use std::marker::Model;
 
-/// A place in the text, the number of its physical line and the start of that.
+/// A place in the text, the number of its physical line and the start of that. Behind the longest text of LFs alone the
+/// number is one that no place has.
 #[derive(Clone, Copy, PartialEq, Eq)]
 struct Cursor {
     at: usize,
-    line: u32,
+    line: u64,
     start: usize,
 }
 
 fn place_of(cursor: Cursor, at: usize) -> Place
-    requires within { at ≤ 2 ^ 24 }
+    requires within { at < 4294967295 }
     requires behind { cursor.start ≤ at }
+    requires line { cursor.line ≤ cursor.start + 1 }
     ensures { result ≡ place_at cursor.line cursor.start at }
 {
     Place {
-        line: cursor.line,
+        line: cursor.line as u32,
         column: (at - cursor.start) as u32 + 1,
     }
 }
@@ -32,7 +34,7 @@ fn place_of(cursor: Cursor, at: usize) -> Place
 /// The start of the next physical line, or the end of the text.
 fn behind_line(text: &[u8], cursor: Cursor, at: usize) -> Cursor
     requires within { at ≤ length text.now }
-    requires line { cursor.line ≤ 2 ^ 25 }
+    requires line { cursor.line ≤ 2 ^ 33 }
     ensures at { result.at ≡ min (line_end_of text.now at + 1) (length text.now) }
     ensures start { result.start ≡ result.at }
     ensures line { result.line ≡ cursor.line + 1 }
@@ -77,7 +79,7 @@ struct Taken {
 /// The logical line that starts at the cursor.
 fn take_line(alloc: Global, text: &[u8], from: Cursor) -> Result<Taken, LineFault>
     requires some { from.at < length text.now }
-    requires small { length text.now ≤ 2 ^ 24 }
+    requires small { length text.now < 2 ^ 32 }
     requires start { from.start ≡ from.at }
     requires line { from.line ≤ from.at + 1 }
     ensures ok { IfOk result (λ t. layout_from from.at (line_start from.line) (drop from.at text.now) ≡ record { tokens = map (spot_of text.now) t.line; flaw = None } ∷ layout_from t.next.at (line_start t.next.line) (drop t.next.at text.now)) }
@@ -123,7 +125,7 @@ struct Found {
 /// The first logical line with tokens from the cursor on.
 fn find_line(alloc: Global, text: &[u8], from: Cursor) -> Result<Found, LineFault>
     requires within { from.at ≤ length text.now }
-    requires small { length text.now ≤ 2 ^ 24 }
+    requires small { length text.now < 2 ^ 32 }
     requires start { from.start ≡ from.at }
     requires line { from.line ≤ from.at + 1 }
     ensures ok { IfOk result (λ f. GivesLine text.now (layout_from from.at (line_start from.line) (drop from.at text.now)) (layout_from f.next.at (line_start f.next.line) (drop f.next.at text.now)) f.line) }
@@ -155,7 +157,7 @@ fn find_line(alloc: Global, text: &[u8], from: Cursor) -> Result<Found, LineFaul
 pub struct LineReader<'a> {
     text: &'a [u8],
     at: usize,
-    line: u32,
+    line: u64,
     alloc: Global,
 }
 
@@ -172,8 +174,9 @@ impl<'a> Model for LineReader<'a> {
 }
 
 impl<'a> LineReader<'a> {
+    /// A reader of a text of less than 2^32 bytes, so that the numbers of its lines and columns fit into places.
     pub fn new(alloc: Global, text: &'a [u8]) -> LineReader<'a>
-        requires { length text.now ≤ 16777216 }
+        requires { length text.now < 2 ^ 32 }
         ensures text { result.text ≡ text.now }
         ensures rest { result.rest ≡ layout text.now }
     {

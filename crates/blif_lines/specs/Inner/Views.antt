@@ -1,5 +1,5 @@
 -- A reader as the text and the logical lines from its place on.
-use Rattle.std.specs.Prelude.{◌≤◌, ◌+◌, length, drop}
+use Rattle.std.specs.Prelude.{◌≤◌, ◌<◌, ◌+◌, ◌^◌, length, drop}
 use Rattle.blif_lines.specs.Layout.{Reading, layout_from}
 use Rattle.blif_lines.specs.declared.reader.LineReader.TheInside.{Inside}
 
@@ -8,5 +8,5 @@ reading r = record { text = r.text.now; rest = layout_from r.at (record { line =
 
 pub record IsReading (r : Inside) : Type 0 where
   pub within : r.at ≤ length r.text.now
-  pub small : length r.text.now ≤ 16777216
+  pub small : length r.text.now < 2 ^ 32
   pub number : r.line ≤ r.at + 1
