@@ -95,6 +95,7 @@ pub enum Quantity {
     Pins,
     Journal,
     Flat,
+    Windows,
 }
 
 impl fmt::Display for Quantity {
@@ -109,6 +110,7 @@ impl fmt::Display for Quantity {
             Quantity::Pins => f.write_str("the wires of the decomposition"),
             Quantity::Journal => f.write_str("the bytes of the journal"),
             Quantity::Flat => f.write_str("the tokens of all instances"),
+            Quantity::Windows => f.write_str("the windows"),
         }
     }
 }

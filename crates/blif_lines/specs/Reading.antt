@@ -1,5 +1,5 @@
 -- What a reader of lines has still to come, and its answers.
-use Rattle.std.specs.Prelude.{◌≡◌, ◌≤◌, ◌<◌, ◌-◌, ℕ, List, [], ◌∷◌, map, length, take, drop, Option, None, Some}
+use Rattle.std.specs.Prelude.{◌≡◌, ◌≤◌, ◌<◌, ◌+◌, ◌-◌, ℕ, List, [], ◌∷◌, map, length, take, drop, Option, None, Some}
 use Rattle.blif_lines.specs.Layout.{Spot, Flaw, BadByteAt, OpenJoinAt, Logical, Reading}
 use Rattle.blif_lines.specs.declared.line.Token.{Token}
 use Rattle.blif_lines.specs.declared.line.LogicalLine.{LogicalLine}
@@ -23,7 +23,7 @@ spot_of text t = record { word = take (t.end - t.start) (drop t.start text); sta
 pub record IsWithin (text : List ℕ) (t : Token) : Type 0 where
   pub some : t.start < t.end
   pub end : t.end ≤ length text
-  pub column : t.place.column ≤ length text
+  pub column : t.place.column ≤ t.start + 1
 
 -- what a reader that finds no flaw gives of the lines of a text, and the lines that it leaves
 abbrev pub GivesLine : List ℕ → List Logical → List Logical → Option LogicalLine → Type 0

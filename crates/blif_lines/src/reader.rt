@@ -58,7 +58,7 @@ fn push_token(
     place: Place,
 ) -> Result<(), NoMemory>
     requires end { end ≤ length text.now }
-    requires column { place.column ≤ length text.now }
+    requires column { place.column ≤ start + 1 }
     requires known { All (IsWithin text.now) line.old }
     ensures spots { OnOk result (map (spot_of text.now) line.new ≡ map (spot_of text.now) line.old ++ spots_between text.now start end place) }
     ensures within { OnOk result (All (IsWithin text.now) line.new) }

@@ -1,5 +1,5 @@
 // The first fault of a row.
-ghost use Rattle.std.specs.Prelude.{◌≡◌, ◌≤◌, ◌^◌, ◌∷◌, [], length, map, IfOk, All, Some};
+ghost use Rattle.std.specs.Prelude.{◌≡◌, ◌≤◌, ◌<◌, ◌+◌, ◌^◌, ◌∷◌, [], length, map, IfOk, All, Some};
 ghost use Rattle.blif_lines.specs.Reading.{spot_of, IsWithin};
 ghost use Rattle.blif_format.specs.Text.{on_word};
 ghost use Rattle.blif_format.specs.FirstFault.{ending_fault, character_fault, row_fault, or_else, extra_fault, last_word, is_literal as literal_byte};
@@ -52,8 +52,7 @@ fn is_literal(b: u8) -> bool
 
 // The place of the byte `i` behind a place.
 fn behind(place: Place, i: usize) -> Place
-    requires column { place.column ≤ 2 ^ 25 }
-    requires i { i ≤ 2 ^ 25 }
+    requires { place.column + i < 2 ^ 32 }
     ensures { result ≡ columns_on place i }
 {
     Place {
@@ -63,8 +62,7 @@ fn behind(place: Place, i: usize) -> Place
 }
 
 fn check_characters(word: &[u8], place: Place) -> Result<(), ReadRefusal>
-    requires column { place.column ≤ 2 ^ 25 }
-    requires small { length word.now ≤ 2 ^ 25 }
+    requires { place.column + length word.now ≤ 2 ^ 32 }
     ensures { refusal_of result ≡ character_fault place word.now }
 {
     for (i, b) in word.iter().enumerate() {
@@ -99,7 +97,7 @@ fn check_last(
 
 fn check_inputs(text: &[u8], inputs: usize, first: &Token) -> Result<(), ReadRefusal>
     requires word { IsWithin text.now first.now }
-    requires small { length text.now ≤ 2 ^ 24 }
+    requires small { length text.now < 2 ^ 32 }
     ensures { refusal_of result ≡ inputs_fault inputs (spot_of text.now first.now) }
 {
     let word = word_of(text, first);
@@ -118,7 +116,7 @@ pub fn check_row(
 ) -> Result<bool, ReadRefusal>
     requires word { IsWithin text.now first.now }
     requires words { All (IsWithin text.now) rest.now }
-    requires small { length text.now ≤ 2 ^ 24 }
+    requires small { length text.now < 2 ^ 32 }
     ensures fault { refusal_of result ≡ row_fault (said_cover cover) (spot_of text.now first.now) (map (spot_of text.now) rest.now) }
     ensures ok { IfOk result (λ on. last_word (spot_of text.now first.now ∷ map (spot_of text.now) rest.now) ≡ Some (on_word on)) }
 {
