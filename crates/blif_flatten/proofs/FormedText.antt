@@ -197,7 +197,7 @@ each-sound models (u ∷ us) none h zero s at =
     }
 each-sound models (u ∷ us) none h (suc k) s at = each-sound (titles_with models u.title) us (none-second (section_fault models u) (sections_fault (titles_with models u.title) us) none) h.1 k s at
 
-held-few : (plains : List Module) (s : Section) (us : List Section) → all_tokens (s ∷ us) ≤ 16777216 → length (names_held plains s) ≤ 16777216
+held-few : (plains : List Module) (s : Section) (us : List Section) → all_tokens (s ∷ us) < 2 ^ 32 → length (names_held plains s) < 2 ^ 32
 held-few plains s us few =
     let count = uses-few plains s.body in
     let names = length-map (section_uses plains s) (λ (u : Use). u.name) in
@@ -233,7 +233,7 @@ module _ (ss : List Section) (lines : sections_fault [] ss ≡ None) (text : Are
       drivers-held plains (second_word (words_in_line s.title)) s.body clean x
       (subst (λ (d : Module). 1 ≤ all_times x d.model (outs_of d.links)) (sym same) (subst (λ (ws : List Word). 1 ≤ all_times x top.model ws) level h))
 
-  module _ (rank : ℕ → ℕ) (ranked : AreRankedBy (modules_of ss) rank) (s : Section) (here : slice_get ss 0 ≡ Some s) (few : length (names_held plains s) ≤ 16777216) where
+  module _ (rank : ℕ → ℕ) (ranked : AreRankedBy (modules_of ss) rank) (s : Section) (here : slice_get ss 0 ≡ Some s) (few : length (names_held plains s) < 2 ^ 32) where
     abbrev number : ℕ
     number = free_number (names_held plains s)
 
@@ -253,18 +253,18 @@ module _ (ss : List Section) (lines : sections_fault [] ss ≡ None) (text : Are
         number-free number-small small
         (top-held s (each-sound [] ss lines text 0 s here).lines top (whole (modules_of ss) top.links) same (level-whole (modules_of ss) rank ranked 0 top first).0)
 
-  pub formed-from : (rank : ℕ → ℕ) → AreRankedBy (modules_of ss) rank → all_tokens ss ≤ 16777216 → (top : Module) → slice_get (modules_of ss) 0 ≡ Some top → 1 + instance_count (whole (modules_of ss) top.links) < 2 ^ 64
+  pub formed-from : (rank : ℕ → ℕ) → AreRankedBy (modules_of ss) rank → all_tokens ss < 2 ^ 32 → (top : Module) → slice_get (modules_of ss) 0 ≡ Some top → 1 + instance_count (whole (modules_of ss) top.links) < 2 ^ 64
       → (s : Section) (us : List Section) → ss ≡ s ∷ us → IsWellFormed (flat_model (lead_in ss) top.model (whole (modules_of ss) top.links))
   formed-from rank ranked few top first small s us is =
       let here : slice_get ss 0 ≡ Some s = ap (λ (xs : List Section). slice_get xs 0) is in
       let from = map_found (module_of plains) ss 0 top first in
       let same : from.0 ≡ s = some_same (sym from.1.0 ∙ here) in
-      let tokens : all_tokens (s ∷ us) ≤ 16777216 = subst (λ (xs : List Section). all_tokens xs ≤ 16777216) is few in
+      let tokens : all_tokens (s ∷ us) < 2 ^ 32 = subst (λ (xs : List Section). all_tokens xs < 2 ^ 32) is few in
       let lead_is : lead_in ss ≡ lead (free_number (names_held plains s)) = subst (λ (xs : List Section). lead_in xs ≡ lead (free_number (names_held (plain_modules xs) s))) (sym is) refl in
       subst (λ (w : Word). IsWellFormed (flat_model w top.model (whole (modules_of ss) top.links))) (sym lead_is)
       (top-formed rank ranked s here (held-few plains s us tokens) top first (ap (module_of plains) (sym same) ∙ from.1.1) small)
 
-  pub formed-some : (rank : ℕ → ℕ) → AreRankedBy (modules_of ss) rank → all_tokens ss ≤ 16777216 → (top : Module) → slice_get (modules_of ss) 0 ≡ Some top → 1 + instance_count (whole (modules_of ss) top.links) < 2 ^ 64
+  pub formed-some : (rank : ℕ → ℕ) → AreRankedBy (modules_of ss) rank → all_tokens ss < 2 ^ 32 → (top : Module) → slice_get (modules_of ss) 0 ≡ Some top → 1 + instance_count (whole (modules_of ss) top.links) < 2 ^ 64
       → IsWellFormed (flat_model (lead_in ss) top.model (whole (modules_of ss) top.links))
   formed-some rank ranked few top first small = at ss refl
     where
@@ -279,14 +279,14 @@ module _ (ss : List Section) (lines : sections_fault [] ss ≡ None) (text : Are
       at (s ∷ us) e = formed-from rank ranked few top first small s us e
 
 -- THE FLAT MODEL
-at-most : (a b : ℕ) → a ≤ b → b ≤ 16777216 → a ≤ 16777216
+at-most : (a b : ℕ) → a ≤ b → b < 2 ^ 32 → a < 2 ^ 32
 at-most a b h k = omega (arith, h, k)
 
 few-more : (n k : ℕ) → n ≡ 1 + k → n < 2 ^ 32 → 1 + k < 2 ^ 64
 few-more n k e h = omega (arith, e, h)
 
 -- the flat model of modules that are linked
-linked-formed : (ss : List Section) (front behind : Option ReadRefusal) → or_else front (or_else (sections_fault [] ss) behind) ≡ None → AreTextSections ss → names_fault ss ≡ None → all_tokens ss ≤ 16777216
+linked-formed : (ss : List Section) (front behind : Option ReadRefusal) → or_else front (or_else (sections_fault [] ss) behind) ≡ None → AreTextSections ss → names_fault ss ≡ None → all_tokens ss < 2 ^ 32
     → (rank : ℕ → ℕ) × AreRankedBy (modules_of ss) rank → (top : Module) → slice_get (modules_of ss) 0 ≡ Some top → (ms : List Module) (before : Word) (flat : Flattened) → ms ≡ modules_of ss → before ≡ lead_in ss
     → IsFlatOf before ms top flat → flat.instances < 2 ^ 32 → IsWellFormed flat.model
 linked-formed ss front behind lines text names few ranked top first ms before flat same leads made small =
@@ -301,7 +301,7 @@ linked-formed ss front behind lines text names few ranked top first ms before fl
     (formed-some ss sections text calls (none-first (drivers_fault ss) (users_fault ss) last) (none-second (drivers_fault ss) (users_fault ss) last) ranked.0 ranked.1 few top first
     (few-more flat.instances (instance_count (whole (modules_of ss) top.links)) count small))
 
-pub joined-formed : (text : List ℕ) → length text ≤ 16777216 → lines_fault (layout text) (sections_of text) ≡ None → names_fault (sections_of text) ≡ None → (rank : ℕ → ℕ) × AreRankedBy (modules_of (sections_of text)) rank
+pub joined-formed : (text : List ℕ) → length text < 2 ^ 32 → lines_fault (layout text) (sections_of text) ≡ None → names_fault (sections_of text) ≡ None → (rank : ℕ → ℕ) × AreRankedBy (modules_of (sections_of text)) rank
     → (top : Module) → slice_get (modules_of (sections_of text)) 0 ≡ Some top → (ms : List Module) (before : Word) (flat : Flattened) → ms ≡ modules_of (sections_of text) → before ≡ lead_in (sections_of text)
     → IsFlatOf before ms top flat → flat.instances < 2 ^ 32 → IsWellFormed flat.model
 joined-formed text few lines names ranked top first ms before flat same leads made small =

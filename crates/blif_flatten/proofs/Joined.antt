@@ -125,35 +125,35 @@ regroup None (Some b) c d f = refl
 regroup None None (Some c) d f = refl
 regroup None None None d f = refl
 
-names-then-top : (ss : List Section) → or_else (names_fault ss) (top_fault (lead_in ss) (modules_of ss)) ≡ sections_fault ss
-names-then-top ss = regroup (calls_fault ss) (recursion_fault (modules_of ss)) (drivers_fault ss) (users_fault ss) (top_fault (lead_in ss) (modules_of ss))
+names-then-top : (most : ℕ) (ss : List Section) → or_else (names_fault ss) (top_fault most (lead_in ss) (modules_of ss)) ≡ sections_fault most ss
+names-then-top most ss = regroup (calls_fault ss) (recursion_fault (modules_of ss)) (drivers_fault ss) (users_fault ss) (top_fault most (lead_in ss) (modules_of ss))
 
 regroup-two : (a b f : Option ReadRefusal) → or_else (or_else a b) f ≡ or_else a (or_else b f)
 regroup-two (Some a) b f = refl
 regroup-two None b f = refl
 
-pub first-is : (text : Word) → first_fault text ≡ or_else (or_else (lines_fault (layout text) (sections_of text)) (names_fault (sections_of text))) (top_fault (lead_in (sections_of text)) (modules_of (sections_of text)))
-first-is text =
-    ap (or_else (lines_fault (layout text) (sections_of text))) (sym (names-then-top (sections_of text)))
-    ∙ sym (regroup-two (lines_fault (layout text) (sections_of text)) (names_fault (sections_of text)) (top_fault (lead_in (sections_of text)) (modules_of (sections_of text))))
+pub first-is : (most : ℕ) (text : Word) → first_fault most text ≡ or_else (or_else (lines_fault (layout text) (sections_of text)) (names_fault (sections_of text))) (top_fault most (lead_in (sections_of text)) (modules_of (sections_of text)))
+first-is most text =
+    ap (or_else (lines_fault (layout text) (sections_of text))) (sym (names-then-top most (sections_of text)))
+    ∙ sym (regroup-two (lines_fault (layout text) (sections_of text)) (names_fault (sections_of text)) (top_fault most (lead_in (sections_of text)) (modules_of (sections_of text))))
 
-pub early-refused : (text : Word) (e : ReadRefusal) → IsRefusal e (or_else (lines_fault (layout text) (sections_of text)) (names_fault (sections_of text))) → IsRefusal e (first_fault text)
-early-refused text e h = refused-same e _ (first_fault text) (sym (first-is text)) (refused-first e _ (top_fault (lead_in (sections_of text)) (modules_of (sections_of text))) h)
+pub early-refused : (most : ℕ) (text : Word) (e : ReadRefusal) → IsRefusal e (or_else (lines_fault (layout text) (sections_of text)) (names_fault (sections_of text))) → IsRefusal e (first_fault most text)
+early-refused most text e h = refused-same e _ (first_fault most text) (sym (first-is most text)) (refused-first e _ (top_fault most (lead_in (sections_of text)) (modules_of (sections_of text))) h)
 
-module _ (text : Word) (lines : lines_fault (layout text) (sections_of text) ≡ None) (names : names_fault (sections_of text) ≡ None) where
-  top-first : first_fault text ≡ top_fault (lead_in (sections_of text)) (modules_of (sections_of text))
-  top-first = first-is text ∙ none-then _ _ (none-then _ _ lines ∙ names)
+module _ (most : ℕ) (text : Word) (lines : lines_fault (layout text) (sections_of text) ≡ None) (names : names_fault (sections_of text) ≡ None) where
+  top-first : first_fault most text ≡ top_fault most (lead_in (sections_of text)) (modules_of (sections_of text))
+  top-first = first-is most text ∙ none-then _ _ (none-then _ _ lines ∙ names)
 
-  by-top : (top : Module) (others : List Module) → modules_of (sections_of text) ≡ top ∷ others → first_fault text ≡ or_else (size_fault top (tree_of (top ∷ others) top)) (rank_fault (lead_in (sections_of text)) top (tree_of (top ∷ others) top))
-  by-top top others is = top-first ∙ ap (top_fault (lead_in (sections_of text))) is
+  by-top : (top : Module) (others : List Module) → modules_of (sections_of text) ≡ top ∷ others → first_fault most text ≡ or_else (size_fault most top (tree_of (top ∷ others) top)) (rank_fault (lead_in (sections_of text)) top (tree_of (top ∷ others) top))
+  by-top top others is = top-first ∙ ap (top_fault most (lead_in (sections_of text))) is
 
-  pub size-refused : (top : Module) (others ms : List Module) (e : ReadRefusal) → modules_of (sections_of text) ≡ top ∷ others → ms ≡ modules_of (sections_of text) → IsRefusal e (size_fault top (tree_of ms top)) → IsRefusal e (first_fault text)
+  pub size-refused : (top : Module) (others ms : List Module) (e : ReadRefusal) → modules_of (sections_of text) ≡ top ∷ others → ms ≡ modules_of (sections_of text) → IsRefusal e (size_fault most top (tree_of ms top)) → IsRefusal e (first_fault most text)
   size-refused top others ms e is same h =
-      refused-same e _ (first_fault text) (sym (by-top top others is))
-      (refused-first e (size_fault top (tree_of (top ∷ others) top)) _ (subst (λ (xs : List Module). IsRefusal e (size_fault top (tree_of xs top))) (same ∙ is) h))
+      refused-same e _ (first_fault most text) (sym (by-top top others is))
+      (refused-first e (size_fault most top (tree_of (top ∷ others) top)) _ (subst (λ (xs : List Module). IsRefusal e (size_fault most top (tree_of xs top))) (same ∙ is) h))
 
   module _ (top : Module) (others ms : List Module) (lead : Word) (flat : Flattened) (is : modules_of (sections_of text) ≡ top ∷ others) (same : ms ≡ modules_of (sections_of text)) (leads : lead ≡ lead_in (sections_of text))
-      (size : size_fault top (tree_of ms top) ≡ None) (made : IsFlatOf lead ms top flat) where
+      (size : size_fault most top (tree_of ms top) ≡ None) (made : IsFlatOf lead ms top flat) where
     rank-is : rank_fault (lead_in (sections_of text)) top (tree_of (top ∷ others) top) ≡ first_unranked flat.places (ranks_of flat.model)
     rank-is =
         ap (λ (xs : List Module). rank_fault (lead_in (sections_of text)) top (tree_of xs top)) (sym (same ∙ is))
@@ -161,13 +161,13 @@ module _ (text : Word) (lines : lines_fault (layout text) (sections_of text) ≡
         ∙ (ap (λ (m : Model). first_unranked (flat_places top (tree_of ms top)) (ranks_of m)) (sym made.model)
         ∙ ap (λ (ps : List Place). first_unranked ps (ranks_of flat.model)) (sym made.places)))
 
-    by-rank : first_fault text ≡ first_unranked flat.places (ranks_of flat.model)
-    by-rank = by-top top others is ∙ (none-then _ _ (ap (λ (xs : List Module). size_fault top (tree_of xs top)) (sym (same ∙ is)) ∙ size) ∙ rank-is)
+    by-rank : first_fault most text ≡ first_unranked flat.places (ranks_of flat.model)
+    by-rank = by-top top others is ∙ (none-then _ _ (ap (λ (xs : List Module). size_fault most top (tree_of xs top)) (sym (same ∙ is)) ∙ size) ∙ rank-is)
 
-    pub rank-refused : (e : ReadRefusal) → IsRefusal e (first_unranked flat.places (ranks_of flat.model)) → IsRefusal e (first_fault text)
-    rank-refused e h = refused-same e _ (first_fault text) (sym by-rank) h
+    pub rank-refused : (e : ReadRefusal) → IsRefusal e (first_unranked flat.places (ranks_of flat.model)) → IsRefusal e (first_fault most text)
+    rank-refused e h = refused-same e _ (first_fault most text) (sym by-rank) h
 
-    pub whole-flat : (m : Model) (n : ℕ) → m ≡ flat.model → n ≡ flat.instances → IsWellFormed flat.model → IsRanked flat.model → first_unranked flat.places (ranks_of flat.model) ≡ None → IsFlatModel text m n
+    pub whole-flat : (m : Model) (n : ℕ) → m ≡ flat.model → n ≡ flat.instances → IsWellFormed flat.model → IsRanked flat.model → first_unranked flat.places (ranks_of flat.model) ≡ None → IsFlatModel most text m n
     whole-flat m n model count formed rank none =
         let model_is : m ≡ flat_model (lead_in (sections_of text)) top.model (tree_of (top ∷ others) top) =
         model ∙ (made.model ∙ (ap (λ (w : Word). flat_model w top.model (tree_of ms top)) leads ∙ ap (λ (xs : List Module). flat_model (lead_in (sections_of text)) top.model (tree_of xs top)) (same ∙ is))) in
@@ -200,32 +200,33 @@ module _ (modules : List Module) (some : (k : ℕ) (m : Module) → slice_get mo
   few-calls zero ls = omega arith
   few-calls (suc n) ls = few-all (calls_in n modules) (few-calls n) ls
 
-pub size-small : (total : ℕ) (top : Module) → limit_if (nat_lt 4194304 total) Flat 4194305 top.place ≡ None → total ≤ 4194304
-size-small total top e = at (nat_lt 4194304 total) refl e
+pub size-small : (most total : ℕ) (top : Module) → limit_if (nat_lt most total) Flat (most + 1) top.place ≡ None → total ≤ most
+size-small most total top e = at (nat_lt most total) refl e
   where
-    at : (b : Bool) → nat_lt 4194304 total ≡ b → limit_if b Flat 4194305 top.place ≡ None → total ≤ 4194304
+    at : (b : Bool) → nat_lt most total ≡ b → limit_if b Flat (most + 1) top.place ≡ None → total ≤ most
     at true is f = absurd cc
-    at false is f = ltb-false 4194304 total is
+    at false is f = ltb-false most total is
 
-pub few-instances : (modules : List Module) (top : Module) → ((k : ℕ) (m : Module) → slice_get modules k ≡ Some m → 1 ≤ m.tokens) → size_fault top (tree_of modules top) ≡ None → instance_count (whole modules top.links) ≤ 4194304
-few-instances modules top some e =
-    let small : top.tokens + tokens_in (whole modules top.links) ≤ 4194304 = size-small (top.tokens + tokens_in (whole modules top.links)) top e in
+-- the top has a token too
+pub few-instances : (most : ℕ) (modules : List Module) (top : Module) → ((k : ℕ) (m : Module) → slice_get modules k ≡ Some m → 1 ≤ m.tokens) → 1 ≤ top.tokens → size_fault most top (tree_of modules top) ≡ None → 1 + instance_count (whole modules top.links) ≤ most
+few-instances most modules top some one e =
+    let small : top.tokens + tokens_in (whole modules top.links) ≤ most = size-small most (top.tokens + tokens_in (whole modules top.links)) top e in
     let few : instance_count (whole modules top.links) ≤ tokens_in (whole modules top.links) = few-calls modules some (length modules) top.links in
-    omega (arith, small, few)
+    omega (arith, small, few, one)
 
 -- THE SIZE
-pub size-over : (modules : List Module) (top : Module) (count : ℕ) → count ≡ capped (module_total modules top) → 4194304 < count → size_fault top (tree_of modules top) ≡ Some (Limit Flat count top.place)
-size-over modules top count is over =
+pub size-over : (most : ℕ) (modules : List Module) (top : Module) (count : ℕ) → count ≡ capped most (module_total modules top) → most < count → size_fault most top (tree_of modules top) ≡ Some (Limit Flat count top.place)
+size-over most modules top count is over =
     let total : ℕ = module_total modules top in
-    let more : 4194304 < total = omega (arith, is, over) in
-    let at : count ≡ 4194305 = omega (arith, is, over) in
-    ap (λ (b : Bool). limit_if b Flat 4194305 top.place) (lt-ltb 4194304 total more) ∙ ap (λ (n : ℕ). Some (Limit Flat n top.place)) (sym at)
+    let more : most < total = omega (arith, is, over) in
+    let at : count ≡ most + 1 = omega (arith, is, over) in
+    ap (λ (b : Bool). limit_if b Flat (most + 1) top.place) (lt-ltb most total more) ∙ ap (λ (n : ℕ). Some (Limit Flat n top.place)) (sym at)
 
-pub size-under : (modules : List Module) (top : Module) (count : ℕ) → count ≡ capped (module_total modules top) → count ≤ 4194304 → size_fault top (tree_of modules top) ≡ None
-size-under modules top count is under =
+pub size-under : (most : ℕ) (modules : List Module) (top : Module) (count : ℕ) → count ≡ capped most (module_total modules top) → count ≤ most → size_fault most top (tree_of modules top) ≡ None
+size-under most modules top count is under =
     let total : ℕ = module_total modules top in
-    let less : total ≤ 4194304 = omega (arith, is, under) in
-    ap (λ (b : Bool). limit_if b Flat 4194305 top.place) (le-ltb 4194304 total less)
+    let less : total ≤ most = omega (arith, is, under) in
+    ap (λ (b : Bool). limit_if b Flat (most + 1) top.place) (le-ltb most total less)
 
 pub some-length : {A : Type 0} (xs : List A) → xs ≢ [] → 0 < length xs
 some-length [] some = absurd (some refl)
@@ -238,21 +239,22 @@ some-module (s ∷ ss) some = (module_of (plain_modules (s ∷ ss)) s, (map (mod
 pub top-at : (ms : List Module) (top : Module) (others : List Module) → ms ≡ top ∷ others → slice_get ms 0 ≡ Some top
 top-at ms top others is = ap (λ (xs : List Module). slice_get xs 0) is
 
-pub joined-few : (ms as_ : List Module) → as_ ≡ ms → 0 < length ms → ((k : ℕ) (m : Module) → slice_get ms k ≡ Some m → 1 ≤ m.tokens) → ((top : Module) → slice_get ms 0 ≡ Some top → size_fault top (tree_of ms top) ≡ None)
-    → instance_count (whole as_ (links_of as_ 0)) ≤ 4194304
-joined-few ms as_ same some each small =
+-- 1 and the instances of the top's calls, by modules that are equal to these
+pub joined-few : (most : ℕ) (ms as_ : List Module) → as_ ≡ ms → 0 < length ms → ((k : ℕ) (m : Module) → slice_get ms k ≡ Some m → 1 ≤ m.tokens) → ((top : Module) → slice_get ms 0 ≡ Some top → size_fault most top (tree_of ms top) ≡ None)
+    → 1 + instance_count (whole as_ (links_of as_ 0)) ≤ most
+joined-few most ms as_ same some each small =
     let top = stands_below ms 0 some in
     let links : links_of ms 0 ≡ top.0.links = ap links_in top.1 in
-    let few : instance_count (whole ms top.0.links) ≤ 4194304 = few-instances ms top.0 each (small top.0 top.1) in
-    subst (λ (xs : List Module). instance_count (whole xs (links_of xs 0)) ≤ 4194304) (sym same) (subst (λ (ls : List Link). instance_count (whole ms ls) ≤ 4194304) (sym links) few)
+    let few : 1 + instance_count (whole ms top.0.links) ≤ most = few-instances most ms top.0 each (each 0 top.0 top.1) (small top.0 top.1) in
+    subst (λ (xs : List Module). 1 + instance_count (whole xs (links_of xs 0)) ≤ most) (sym same) (subst (λ (ls : List Link). 1 + instance_count (whole ms ls) ≤ most) (sym links) few)
 
-pub flat-few : (ms as_ : List Module) (lead : Word) (f : Flattened) → as_ ≡ ms → 0 < length ms → ((k : ℕ) (m : Module) → slice_get ms k ≡ Some m → 1 ≤ m.tokens) → ((top : Module) → slice_get ms 0 ≡ Some top → size_fault top (tree_of ms top) ≡ None)
-    → ((top : Module) → slice_get as_ 0 ≡ Some top → IsFlatOf lead as_ top f) → f.instances < 2 ^ 32
-flat-few ms as_ lead f same some each small made =
+pub flat-few : (most : ℕ) (ms as_ : List Module) (lead : Word) (f : Flattened) → as_ ≡ ms → 0 < length ms → ((k : ℕ) (m : Module) → slice_get ms k ≡ Some m → 1 ≤ m.tokens) → ((top : Module) → slice_get ms 0 ≡ Some top → size_fault most top (tree_of ms top) ≡ None)
+    → ((top : Module) → slice_get as_ 0 ≡ Some top → IsFlatOf lead as_ top f) → f.instances ≤ most
+flat-few most ms as_ lead f same some each small made =
     let top = stands_below ms 0 some in
     let at : slice_get as_ 0 ≡ Some top.0 = ap (λ (xs : List Module). slice_get xs 0) same ∙ top.1 in
     let is = (made top.0 at).instances in
-    let few : instance_count (whole as_ top.0.links) ≤ 4194304 = subst (λ (xs : List Module). instance_count (whole xs top.0.links) ≤ 4194304) (sym same) (few-instances ms top.0 each (small top.0 top.1)) in
+    let few : 1 + instance_count (whole as_ top.0.links) ≤ most = subst (λ (xs : List Module). 1 + instance_count (whole xs top.0.links) ≤ most) (sym same) (few-instances most ms top.0 each (each 0 top.0 top.1) (small top.0 top.1)) in
     omega (arith, is, few)
 
 -- THERE IS A SECTION

@@ -209,10 +209,10 @@ all-within text (x ∷ xs) h few =
     All-cons (IsSectionWithin text) x xs (record { some = one.some; title = one.title; body = one.body; few = omega (arith, few, same) })
     (all-within text xs (All-tail (IsBareSectionWithin text) x xs h) (omega (arith, few)))
 
-pub read-within : (text : Word) (rest : List Logical) (sections : List TokenSection) → AreReadTo text rest sections → length text ≤ 16777216 → All (IsSectionWithin text) sections
+pub read-within : (text : Word) (rest : List Logical) (sections : List TokenSection) → AreReadTo text rest sections → length text < 2 ^ 32 → All (IsSectionWithin text) sections
 read-within text rest sections p small = let c = p.count in all-within text sections p.within (omega (arith, c, small))
 
-pub read-few : (text : Word) (ls ms : List Logical) (tokens : List Token) (old : List TokenSection) → AreReadTo text ls old → pending ls ≡ record { tokens = map (spot_of text) tokens; flaw = None } ∷ ms → length text ≤ 16777216 → length tokens ≤ 2 ^ 32
+pub read-few : (text : Word) (ls ms : List Logical) (tokens : List Token) (old : List TokenSection) → AreReadTo text ls old → pending ls ≡ record { tokens = map (spot_of text) tokens; flaw = None } ∷ ms → length text < 2 ^ 32 → length tokens ≤ 2 ^ 32
 read-few text ls ms tokens old p e small =
     let sum : token_sum ls ≡ length (map (spot_of text) tokens) + token_sum ms = line-count text ls ms tokens e in
     let same : length (map (spot_of text) tokens) ≡ length tokens = length-map tokens (spot_of text) in

@@ -197,13 +197,13 @@ module _ (modules : List Module) (lead : Word) (light : IsLight modules) where
       let c = ap (λ (cs : List Cover). length cs) (ap (λ m. m.covers) made.model) in
       omega (arith, own, calls, one, two, p, c)
 
-  pub flat-light : (top : Module) (f : Flattened) → slice_get modules 0 ≡ Some top → IsFlatOf lead modules top f → size_fault top (tree_of modules top) ≡ None → length f.model.covers ≤ 4194304
-  flat-light top f at made small =
+  pub flat-light : (most : ℕ) (top : Module) (f : Flattened) → slice_get modules 0 ≡ Some top → IsFlatOf lead modules top f → size_fault most top (tree_of modules top) ≡ None → length f.model.covers ≤ most
+  flat-light most top f at made small =
       let own = light.light 0 top at in
       let calls = light-calls (length modules) 0 1 top.links in
       let two = length-append top.model.covers (covers_in lead 0 1 (whole modules top.links)) in
       let c = ap (λ (cs : List Cover). length cs) (ap (λ m. m.covers) made.model) in
-      let size = size-small (top.tokens + tokens_in (whole modules top.links)) top small in
+      let size = size-small most (top.tokens + tokens_in (whole modules top.links)) top small in
       omega (arith, own, calls, two, c, size)
 
 -- THE FLAT MODEL OF LINKED MODULES
@@ -213,9 +213,9 @@ joined-placed ms as_ lead f same some light made =
     let at : slice_get as_ 0 ≡ Some top.0 = ap (λ (xs : List Module). slice_get xs 0) same ∙ top.1 in
     flat-placed as_ lead (subst IsLight (sym same) light) top.0 f at (made top.0 at)
 
-pub joined-light : (ms as_ : List Module) (lead : Word) (f : Flattened) → as_ ≡ ms → 0 < length ms → IsLight ms → ((top : Module) → slice_get ms 0 ≡ Some top → size_fault top (tree_of ms top) ≡ None)
-    → ((top : Module) → slice_get as_ 0 ≡ Some top → IsFlatOf lead as_ top f) → length f.model.covers ≤ 4194304
-joined-light ms as_ lead f same some light small made =
+pub joined-light : (most : ℕ) (ms as_ : List Module) (lead : Word) (f : Flattened) → as_ ≡ ms → 0 < length ms → IsLight ms → ((top : Module) → slice_get ms 0 ≡ Some top → size_fault most top (tree_of ms top) ≡ None)
+    → ((top : Module) → slice_get as_ 0 ≡ Some top → IsFlatOf lead as_ top f) → length f.model.covers ≤ most
+joined-light most ms as_ lead f same some light small made =
     let top = stands_below ms 0 some in
     let at : slice_get as_ 0 ≡ Some top.0 = ap (λ (xs : List Module). slice_get xs 0) same ∙ top.1 in
-    flat-light as_ lead (subst IsLight (sym same) light) top.0 f at (made top.0 at) (subst (λ (xs : List Module). size_fault top.0 (tree_of xs top.0) ≡ None) (sym same) (small top.0 top.1))
+    flat-light as_ lead (subst IsLight (sym same) light) most top.0 f at (made top.0 at) (subst (λ (xs : List Module). size_fault most top.0 (tree_of xs top.0) ≡ None) (sym same) (small top.0 top.1))

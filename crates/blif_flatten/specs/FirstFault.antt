@@ -18,30 +18,31 @@ use Rattle.blif_flatten.specs.Flat.{flat_model, flat_places}
 abbrev pub tree_of : List Module → Module → Calls
 tree_of modules top = whole modules top.links
 
--- the tokens of all instances, with the top
-abbrev pub size_fault : Module → Calls → Option ReadRefusal
-size_fault top calls = limit_if (nat_lt 4194304 (top.tokens + tokens_in calls)) Flat 4194305 top.place
+-- more tokens of all instances, with the top, than there may be at most
+abbrev pub size_fault : ℕ → Module → Calls → Option ReadRefusal
+size_fault most top calls = limit_if (nat_lt most (top.tokens + tokens_in calls)) Flat (most + 1) top.place
 
 -- the first cover of the flat model that has no rank
 abbrev pub rank_fault : Word → Module → Calls → Option ReadRefusal
 rank_fault lead top calls = first_unranked (flat_places top calls) (ranks_of (flat_model lead top.model calls))
 
-abbrev pub top_fault : Word → List Module → Option ReadRefusal
-top_fault lead [] = None
-top_fault lead (top ∷ ms) = or_else (size_fault top (tree_of (top ∷ ms) top)) (rank_fault lead top (tree_of (top ∷ ms) top))
+abbrev pub top_fault : ℕ → Word → List Module → Option ReadRefusal
+top_fault most lead [] = None
+top_fault most lead (top ∷ ms) = or_else (size_fault most top (tree_of (top ∷ ms) top)) (rank_fault lead top (tree_of (top ∷ ms) top))
 
 abbrev pub lead_in : List Section → Word
 lead_in [] = []
 lead_in (top ∷ ss) = lead_of (top ∷ ss) top
 
 -- calls, recursion, drivers, users, size, ranks
-abbrev pub sections_fault : List Section → Option ReadRefusal
-sections_fault sections =
+abbrev pub sections_fault : ℕ → List Section → Option ReadRefusal
+sections_fault most sections =
     or_else (calls_fault sections)
     (or_else (recursion_fault (modules_of sections))
     (or_else (drivers_fault sections)
     (or_else (users_fault sections)
-    (top_fault (lead_in sections) (modules_of sections)))))
+    (top_fault most (lead_in sections) (modules_of sections)))))
 
-abbrev pub first_fault : List ℕ → Option ReadRefusal
-first_fault text = or_else (lines_fault (layout text) (sections_of text)) (sections_fault (sections_of text))
+-- the first fault of a text whose instances have at most so many tokens in all
+abbrev pub first_fault : ℕ → List ℕ → Option ReadRefusal
+first_fault most text = or_else (lines_fault (layout text) (sections_of text)) (sections_fault most (sections_of text))

@@ -11,9 +11,9 @@ use Rattle.blif_flatten.specs.Flat.{flat_model}
 use Rattle.blif_flatten.specs.Hierarchy.{IsHierarchyValuation, read_by}
 use Rattle.blif_flatten.specs.FirstFault.{first_fault, lead_in, tree_of}
 
--- the flat model of a text without a first fault, and what its valuations mean
-pub record IsFlatModel (text : List ℕ) (m : Model) (instances : ℕ) : Type 0 where
-  pub faultless : first_fault text ≡ None
+-- the flat model of a text without a first fault, its instances having at most so many tokens in all, and what its valuations mean
+pub record IsFlatModel (most : ℕ) (text : List ℕ) (m : Model) (instances : ℕ) : Type 0 where
+  pub faultless : first_fault most text ≡ None
   pub top : Module
   pub others : List Module
   pub modules : modules_of (sections_of text) ≡ top ∷ others

@@ -1,5 +1,5 @@
 // The first fault of the lines of a section.
-ghost use Rattle.std.specs.Prelude.{◌≡◌, ◌≤◌, ◌+◌, ◌^◌, ◌&&◌, ◌++◌, ◌∷◌, [], nat_lt, true, false, fold, length, map, OnOk, IfOk, IfErr, All, None, Some};
+ghost use Rattle.std.specs.Prelude.{◌≡◌, ◌≤◌, ◌<◌, ◌+◌, ◌^◌, ◌&&◌, ◌++◌, ◌∷◌, [], nat_lt, true, false, fold, length, map, OnOk, IfOk, IfErr, All, None, Some};
 ghost use Rattle.std.specs.Option.{option_map};
 ghost use Rattle.rm_base.specs.Words.{Word};
 ghost use Rattle.rm_model.specs.Value.{is_among};
@@ -273,7 +273,7 @@ fn take_row<'a>(
 ) -> Result<(), ReadRefusal>
     requires word { IsWithin text.now first.now }
     requires words { All (IsWithin text.now) rest.now }
-    requires small { length text.now ≤ 2 ^ 24 }
+    requires small { length text.now < 2 ^ 32 }
     requires row { is_dotted (spot_of text.now first.now).word ≡ false }
     requires going { body.old.ended ≡ false }
     ensures faultless { OnOk result (line_fault (said_of body.old) (line_at text.now first.now rest.now) ≡ None) }
@@ -305,7 +305,7 @@ fn starts_with_dot(text: &[u8], token: &Token) -> bool
 // Takes a line, or refuses it at its first fault.
 fn take_line<'a>(body: &mut Body<'a>, text: &'a [u8], line: &[Token]) -> Result<(), ReadRefusal>
     requires within { IsLineWithin text.now line.now }
-    requires small { length text.now ≤ 2 ^ 24 }
+    requires small { length text.now < 2 ^ 32 }
     ensures faultless { OnOk result (line_fault (said_of body.old) (spots_at text.now line.now) ≡ None) }
     ensures said { OnOk result (said_of body.new ≡ after_line (said_of body.old) (spots_at text.now line.now)) }
     ensures err { IfErr result (λ e. IsRefusal e (line_fault (said_of body.old) (spots_at text.now line.now))) }
@@ -331,7 +331,7 @@ fn check_body(
     lines: &[Listed<Token>],
 ) -> Result<(), ReadRefusal>
     requires within { All (IsLineWithin text.now) lines.now }
-    requires small { length text.now ≤ 2 ^ 24 }
+    requires small { length text.now < 2 ^ 32 }
     ensures ok { OnOk result (body_fault nothing_said (lines_at text.now lines.now) ≡ None) }
     ensures err { IfErr result (λ e. IsRefusal e (body_fault nothing_said (lines_at text.now lines.now))) }
 {
@@ -397,7 +397,7 @@ fn check_section<'a>(
     section: &Section,
 ) -> Result<(), ReadRefusal>
     requires within { IsSectionWithin text.now section.now }
-    requires small { length text.now ≤ 2 ^ 24 }
+    requires small { length text.now < 2 ^ 32 }
     requires once { is_distinct models.old ≡ true }
     ensures faultless { OnOk result (section_fault models.old (section_at text.now section.now) ≡ None) }
     ensures models { OnOk result (models.new ≡ titles_with models.old (section_at text.now section.now).title) }
@@ -423,7 +423,7 @@ pub fn check_sections<'a>(
     sections: &[Section],
 ) -> Result<NameTable<'a>, ReadRefusal>
     requires within { AreWithin text.now sections.now }
-    requires small { length text.now ≤ 2 ^ 24 }
+    requires small { length text.now < 2 ^ 32 }
     ensures ok { OnOk result (sections_fault [] (sections_at text.now sections.now) ≡ None) }
     ensures names { IfOk result (λ names. names ≡ map module_name (plain_modules (sections_at text.now sections.now))) }
     ensures once { IfOk result (λ names. is_distinct names ≡ true) }

@@ -54,7 +54,7 @@ fn callable_of<'a>(
     read: &Sections,
 ) -> Result<Callable<'a>, ReadRefusal>
     requires within { AreWithin text.now read.now.sections.items }
-    requires small { length text.now ≤ 2 ^ 24 }
+    requires small { length text.now < 2 ^ 32 }
     requires sections { sections_at text.now read.now.sections.items ≡ sections_of text.now }
     requires head { head_fault (sound_lines (layout text.now)) ≡ None }
     requires last { read.now.last ≡ or_else (layout_fault (layout text.now)) (empty_fault (sound_lines (layout text.now))) }
@@ -132,7 +132,7 @@ fn link_sections<'a>(
 
 // The modules of a text, or its first fault before they are joined.
 fn read_modules(alloc: Global, keys: NameKeys, text: &[u8]) -> Result<Linked, ReadRefusal>
-    requires { length text.now ≤ 16777216 }
+    requires { length text.now < 2 ^ 32 }
     ensures lines { OnOk result (lines_fault (layout text.now) (sections_of text.now) ≡ None) }
     ensures names { OnOk result (names_fault (sections_of text.now) ≡ None) }
     ensures linked { IfOk result (IsLinked (sections_of text.now)) }
@@ -151,17 +151,22 @@ fn read_modules(alloc: Global, keys: NameKeys, text: &[u8]) -> Result<Linked, Re
 }
 
 // Refuses more tokens than there may be.
-fn check_size(alloc: Global, modules: &[Module], numbers: &[usize]) -> Result<(), ReadRefusal>
+fn check_size(
+    alloc: Global,
+    modules: &[Module],
+    numbers: &[usize],
+    most: u32,
+) -> Result<(), ReadRefusal>
     requires falling { AreFalling numbers.now modules.now }
     requires ranked { (rank : ℕ → ℕ) × AreRankedBy modules.now rank }
     requires some { 0 < length modules.now }
-    ensures ok { (top : ModuleValue) → slice_get modules.now 0 ≡ Some top → OnOk result (size_fault top (tree_of modules.now top) ≡ None) }
-    ensures err { (top : ModuleValue) → slice_get modules.now 0 ≡ Some top → IfErr result (λ e. IsRefusal e (size_fault top (tree_of modules.now top))) }
+    ensures ok { (top : ModuleValue) → slice_get modules.now 0 ≡ Some top → OnOk result (size_fault most top (tree_of modules.now top) ≡ None) }
+    ensures err { (top : ModuleValue) → slice_get modules.now 0 ≡ Some top → IfErr result (λ e. IsRefusal e (size_fault most top (tree_of modules.now top))) }
 {
-    let Ok(count) = count_tokens(alloc, modules, numbers) else {
+    let Ok(count) = count_tokens(alloc, modules, numbers, most) else {
         return Err(ReadRefusal::NoMemory);
     };
-    if count > 4_194_304 {
+    if count > most as u64 {
         return Err(ReadRefusal::Limit {
             quantity: Quantity::Flat,
             count,
@@ -194,7 +199,7 @@ fn check_ranks(
 ) -> Result<(), ReadRefusal>
     requires formed { IsWellFormed model.now }
     requires placed { length places.now ≡ length model.now.covers }
-    requires few { length model.now.covers ≤ 4194304 }
+    requires few { length model.now.covers < 2 ^ 32 }
     ensures ranked { OnOk result (IsRanked model.now) }
     ensures ok { OnOk result (first_unranked places.now (ranks_of model.now) ≡ None) }
     ensures err { IfErr result (λ e. IsRefusal e (first_unranked places.now (ranks_of model.now))) }
@@ -209,25 +214,25 @@ fn check_ranks(
 }
 
 // The flat model of linked modules.
-fn join_modules(alloc: Global, linked: Linked) -> Result<Flattened, ReadRefusal>
+fn join_modules(alloc: Global, linked: Linked, most: u32) -> Result<Flattened, ReadRefusal>
     requires falling { AreFalling linked.numbers.items linked.modules.items }
     requires ranked { (rank : ℕ → ℕ) × AreRankedBy linked.modules.items rank }
     requires positive { (k : ℕ) (m : ModuleValue) → slice_get linked.modules.items k ≡ Some m → 1 ≤ m.tokens }
     requires light { IsLight linked.modules.items }
     requires some { 0 < length linked.modules.items }
-    ensures size { (top : ModuleValue) → slice_get linked.modules.items 0 ≡ Some top → OnOk result (size_fault top (tree_of linked.modules.items top) ≡ None) }
+    ensures size { (top : ModuleValue) → slice_get linked.modules.items 0 ≡ Some top → OnOk result (size_fault most top (tree_of linked.modules.items top) ≡ None) }
     ensures flat { (top : ModuleValue) → slice_get linked.modules.items 0 ≡ Some top → IfOk result (IsFlatOf linked.lead.items linked.modules.items top) }
     ensures few { IfOk result (λ f. f.instances < 2 ^ 32) }
     ensures placed { IfOk result (λ f. length f.places ≡ length f.model.covers) }
-    ensures few_covers { IfOk result (λ f. length f.model.covers ≤ 4194304) }
-    ensures err { (top : ModuleValue) → slice_get linked.modules.items 0 ≡ Some top → IfErr result (λ e. IsRefusal e (size_fault top (tree_of linked.modules.items top))) }
+    ensures few_covers { IfOk result (λ f. length f.model.covers < 2 ^ 32) }
+    ensures err { (top : ModuleValue) → slice_get linked.modules.items 0 ≡ Some top → IfErr result (λ e. IsRefusal e (size_fault most top (tree_of linked.modules.items top))) }
 {
     let Linked {
         modules,
         numbers,
         lead,
     } = linked;
-    match check_size(alloc, modules.as_slice(), numbers.as_slice()) {
+    match check_size(alloc, modules.as_slice(), numbers.as_slice(), most) {
         Ok(()) => {}
         Err(refusal) => return Err(refusal),
     }
@@ -243,7 +248,7 @@ fn check_flat(alloc: Global, keys: NameKeys, flat: Flattened) -> Result<Flat, Re
     requires formed { IsWellFormed flat.model }
     requires few { flat.instances < 2 ^ 32 }
     requires placed { length flat.places ≡ length flat.model.covers }
-    requires few_covers { length flat.model.covers ≤ 4194304 }
+    requires few_covers { length flat.model.covers < 2 ^ 32 }
     ensures model { IfOk result (λ f. f.model ≡ flat.model) }
     ensures count { IfOk result (λ f. f.instances ≡ flat.instances) }
     ensures ranked { OnOk result (IsRanked flat.model) }
@@ -265,18 +270,19 @@ fn check_flat(alloc: Global, keys: NameKeys, flat: Flattened) -> Result<Flat, Re
     })
 }
 
-/// The flat model of a text with several models that call each other, or the text's first fault. It takes time n log n
-/// in the tokens of all instances, and no stack that grows with the text.
-pub fn flatten(alloc: Global, keys: NameKeys, text: &[u8]) -> Result<Flat, FlatRefusal>
-    requires { length text.now ≤ 16777216 }
-    ensures flat { IfOk result (λ f. IsFlatModel text.now f.model f.instances) }
-    ensures fault { IfErr result (λ e. IsRefusal e (first_fault text.now)) }
+/// The flat model of a text with several models that call each other, or the text's first fault. The text has less than
+/// 2^32 bytes, and its instances have at most `most` tokens in all. It takes time n log n in these tokens, and no stack
+/// that grows with the text.
+pub fn flatten(alloc: Global, keys: NameKeys, text: &[u8], most: u32) -> Result<Flat, FlatRefusal>
+    requires { length text.now < 2 ^ 32 }
+    ensures flat { IfOk result (λ f. IsFlatModel most text.now f.model f.instances) }
+    ensures fault { IfErr result (λ e. IsRefusal e (first_fault most text.now)) }
 {
     let linked = match read_modules(alloc, keys, text) {
         Ok(linked) => linked,
         Err(refusal) => return Err(refusal),
     };
-    let flat = match join_modules(alloc, linked) {
+    let flat = match join_modules(alloc, linked, most) {
         Ok(flat) => flat,
         Err(refusal) => return Err(refusal),
     };

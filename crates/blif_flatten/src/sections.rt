@@ -1,5 +1,5 @@
 // The sections of a text, each with the tokens of its lines.
-ghost use Rattle.std.specs.Prelude.{◌≡◌, ◌≢◌, ◌≤◌, ◌^◌, [], length, List, OnOk, IfOk, IfErr, All, true, false, None};
+ghost use Rattle.std.specs.Prelude.{◌≡◌, ◌≢◌, ◌≤◌, ◌<◌, ◌^◌, [], length, List, OnOk, IfOk, IfErr, All, true, false, None};
 ghost use Rattle.rm_base.specs.Words.{Word};
 ghost use Rattle.blif_lines.specs.Layout.{Logical, layout};
 ghost use Rattle.blif_lines.specs.Reading.{IsWithin, IsFault};
@@ -176,7 +176,7 @@ fn end_fault(sections: &[Section]) -> Option<ReadRefusal>
 
 /// The sections of a text, or the fault of its first line.
 pub fn read_sections(alloc: Global, text: &[u8]) -> Result<Sections, ReadRefusal>
-    requires { length text.now ≤ 16777216 }
+    requires { length text.now < 2 ^ 32 }
     ensures sections { IfOk result (λ r. sections_at text.now r.sections.items ≡ sections_of text.now) }
     ensures within { IfOk result (λ r. AreWithin text.now r.sections.items) }
     ensures last { IfOk result (λ r. r.last ≡ or_else (layout_fault (layout text.now)) (empty_fault (sound_lines (layout text.now)))) }

@@ -155,7 +155,7 @@ const FLAT: &[(&str, u32, usize, &str)] = &[
 fn the_first_fault_is_that_of_the_reference(rt: HostRuntime) -> Result<(), Fail> {
     let alloc = rt.alloc();
     for (text, wanted) in FAULTS {
-        let Err(refusal) = flatten_text(alloc, text.as_bytes())? else {
+        let Err(refusal) = flatten_text(alloc, NameKeys::Ordered, text.as_bytes(), MOST)? else {
             return Err(Fail::new("a text without a fault"));
         };
         let mut line = String::new(alloc);
@@ -165,12 +165,20 @@ fn the_first_fault_is_that_of_the_reference(rt: HostRuntime) -> Result<(), Fail>
     Ok(())
 }
 
-// A text that is no longer than texts may be.
-fn flatten_text(alloc: Global, text: &[u8]) -> Result<Result<Flat, FlatRefusal>, Fail> {
-    if text.len() > 16_777_216 {
+// The most tokens of all instances that `flat` takes.
+const MOST: u32 = 4_194_304;
+
+// A text that is no longer than texts may be, whose instances may have so many tokens.
+fn flatten_text(
+    alloc: Global,
+    keys: NameKeys,
+    text: &[u8],
+    most: u32,
+) -> Result<Result<Flat, FlatRefusal>, Fail> {
+    if text.len() > 4_294_967_295 {
         return Err(Fail::new("a text that is too long"));
     }
-    Ok(flatten(alloc, NameKeys::Ordered, text))
+    Ok(flatten(alloc, keys, text, most))
 }
 
 /// What `flatten` gives of a text, and the text of its model.
@@ -182,13 +190,7 @@ struct FlatText {
 }
 
 fn flat_text(alloc: Global, keys: NameKeys, text: &[u8]) -> Result<FlatText, Fail> {
-    if text.len() > 16_777_216 {
-        return Err(Fail::new("a text that is too long"));
-    }
-    let flat = match flatten(alloc, keys, text) {
-        Ok(flat) => flat,
-        Err(refusal) => return Err(Fail::from(refusal)),
-    };
+    let flat = flatten_text(alloc, keys, text, MOST)??;
     let written = write_model(alloc, &flat.model)?;
     Ok(FlatText {
         instances: flat.instances,
@@ -233,17 +235,16 @@ fn tower(alloc: Global, levels: usize, lines: &[&str]) -> Result<String, Fail> {
 fn a_chain_of_many_models_is_flattened(rt: HostRuntime) -> Result<(), Fail> {
     let alloc = rt.alloc();
     let text = tower(alloc, 2_000, &["i=i o=o"])?;
-    let flat = flatten_text(alloc, text.as_str().as_bytes())??;
+    let flat = flatten_text(alloc, NameKeys::Ordered, text.as_str().as_bytes(), MOST)??;
     assert!(rt; flat.instances == 2_002);
     assert!(rt; flat.model.covers.len() == 4_003);
     Ok(())
 }
 
-#[test]
-fn instances_that_double_exceed_the_limit(rt: HostRuntime) -> Result<(), Fail> {
-    let alloc = rt.alloc();
-    let text = tower(alloc, 60, &["i=i o=x", "i=x o=o"])?;
-    match flatten_text(alloc, text.as_str().as_bytes())? {
+// The count of tokens that is refused, where the text's instances may have so many.
+fn refused_count(alloc: Global, text: &String, most: u32) -> Result<Option<u64>, Fail> {
+    match flatten_text(alloc, NameKeys::Ordered, text.as_str().as_bytes(), most)? {
+        Ok(_) => Ok(None),
         Err(
             FlatRefusal::Limit {
                 quantity: Quantity::Flat,
@@ -251,10 +252,39 @@ fn instances_that_double_exceed_the_limit(rt: HostRuntime) -> Result<(), Fail> {
                 place,
             },
         ) => {
-            assert!(rt; count == 4_194_305);
-            assert!(rt; place.line == 1);
-            Ok(())
+            if place.line != 1 {
+                return Err(Fail::new("another place"));
+            }
+            Ok(Some(count))
         }
-        _ => Err(Fail::new("within the limit")),
+        Err(refusal) => Err(Fail::from(refusal)),
     }
+}
+
+// Whether this count is refused.
+fn is_refused(alloc: Global, text: &String, most: u32, wanted: u64) -> Result<bool, Fail> {
+    match refused_count(alloc, text, most)? {
+        Some(count) => Ok(count == wanted),
+        None => Ok(false),
+    }
+}
+
+#[test]
+fn instances_that_double_exceed_every_limit(rt: HostRuntime) -> Result<(), Fail> {
+    let alloc = rt.alloc();
+    let text = tower(alloc, 60, &["i=i o=x", "i=x o=o"])?;
+    assert!(rt; is_refused(alloc, &text, MOST, 4_194_305)?);
+    assert!(rt; is_refused(alloc, &text, u32::MAX, 4_294_967_296)?);
+    Ok(())
+}
+
+#[test]
+fn as_many_tokens_as_may_be_are_taken(rt: HostRuntime) -> Result<(), Fail> {
+    let alloc = rt.alloc();
+    // 10 tokens of the top, 10 of each of three models, and 12 of the last.
+    let text = tower(alloc, 3, &["i=i o=o"])?;
+    assert!(rt; refused_count(alloc, &text, 52)?.is_none());
+    assert!(rt; is_refused(alloc, &text, 51, 52)?);
+    assert!(rt; is_refused(alloc, &text, 0, 1)?);
+    Ok(())
 }

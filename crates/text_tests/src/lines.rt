@@ -6,7 +6,7 @@ use std::test::Fail;
 // Each token as `word@line:column`, lines apart by `|`, and what ended them.
 fn token_text(alloc: Global, text: &[u8]) -> Result<String, Fail> {
     let mut out = String::new(alloc);
-    if text.len() > 16_777_216 {
+    if text.len() > 4_294_967_295 {
         return Ok(out);
     }
     let mut reader = LineReader::new(alloc, text);
