@@ -176,7 +176,7 @@ pub(crate) const COMMANDS: [CommandRule; 12] = [
         least: 3,
         different: &[],
         written: &[],
-        meaning: "cut the BLIF netlist IN, of up to 16,777,216 bytes, into windows of about WIDTH wires, netlists of their own, and write them to PREFIX1.blif, PREFIX2.blif and so on",
+        meaning: "cut the BLIF netlist IN, of up to 4,294,967,295 bytes, into windows of about WIDTH wires, netlists of their own, and write them to PREFIX1.blif, PREFIX2.blif and so on",
     },
     CommandRule {
         name: "sew",

@@ -3,7 +3,7 @@ use super::messages::{shown, words_of};
 use std::test::Fail;
 
 // Words of a run, what it printed, the text of which that speaks, and what is shown.
-const ENDINGS: [(&str, &str, &str, &str); 17] = [
+const ENDINGS: [(&str, &str, &str, &str); 19] = [
     (
         "opt bad.blif o j",
         "text 5:2 RowCharacter\n",
@@ -94,6 +94,18 @@ const ENDINGS: [(&str, &str, &str, &str); 17] = [
         "limit flat 4194305\n",
         "",
         "h: error: it has 4194305 or more tokens once every call is written out; at most 4194304 are allowed\nhint: flatten and optimise the design block by block\n",
+    ),
+    (
+        "cut h 300 w",
+        "limit text 4294967296\n",
+        "",
+        "h: error: it has 4294967296 bytes or more; at most 4294967295 can be read\nhint: split the design, or shorten its names\n",
+    ),
+    (
+        "sew h 300 w o",
+        "limit windows 1048577\n",
+        "",
+        "h: error: it gives 1048577 windows; at most 1048576 are allowed\nhint: a greater WIDTH gives fewer windows\n",
     ),
     (
         "flat h h",

@@ -19,7 +19,8 @@ use Rattle.rambo_cli.proofs.JudgedFiles.{flaw_judged, proved_finds_none}
 use Rattle.rambo_cli.proofs.TextsFound.{none_or_some, present, read_finds_none, said_good, same_model, together, weaker}
 use Rattle.rambo_cli.specs.Contract.{Contract, IsCause, StoreFails}
 use Rattle.rambo_cli.specs.Files.{Holds}
-use Rattle.rambo_cli.specs.Flat.{CanBeFlattened, ExceedsFlat, FlatFinds, HasFlatFault}
+use Rattle.rambo_cli.specs.Cut.{CanBeCut, CutFinds, HasManyWindows}
+use Rattle.rambo_cli.specs.Flat.{CanBeFlattened, ExceedsFlat, FlatFinds, HasFlatFault, flat_limits, wide_limits}
 use Rattle.rambo_cli.specs.Input.{CanBeOptimised}
 use Rattle.rambo_cli.specs.Problems.{status_of}
 use Rattle.rambo_cli.specs.Replay.{CanBeReplayed, ReplayFinds}
@@ -28,33 +29,66 @@ use Rattle.rambo_cli.specs.Windows.{window_journal}
 use Rattle.rambo_cli.specs.Inner.Complete.{GoodRunsAreDone, IsOutsideOf, JudgedRunsAreTold}
 use Rattle.rambo_cli.specs.Inner.Problems.{IsReported, HasEnded}
 use Rattle.rambo_cli.specs.Written.{IsSaid}
+use Rattle.rambo_cli.specs.declared.input_model.FlatLimits.{FlatLimits}
 use Rattle.rambo_cli.specs.declared.problem.Problem.{Problem}
 use Rattle.rambo_cli.specs.declared.problem.Problem.TheVariants.{Words, Text, Limit, Missing, Fault, Journal, Record, Netlist, Second, Unlike, CareShape, Window, Proof, Memory}
 use Rattle.rm_base.specs.Words.{Word}
 
 -- nor of one that can be flattened
-flat_finds_none : (input : Word) (told : Files) (problem : Problem) → Holds told input CanBeFlattened → FlatFinds input (Some told) problem → ⊥
-flat_finds_none input told (Text kind place) good h =
-    together (file_of told input) CanBeFlattened (λ text. HasFlatFault text kind place) good h
-    (λ text fine fault. none_or_some (first_hierarchy_fault text) (refusal.Fault kind place) fine.faultless fault.fault)
-flat_finds_none input told (Limit quantity count) good h =
-    together (file_of told input) CanBeFlattened (λ text. ExceedsFlat text quantity count) good h
+flat_finds_none : (limits : FlatLimits) (input : Word) (told : Files) (problem : Problem) → Holds told input (CanBeFlattened limits) → FlatFinds limits input (Some told) problem → ⊥
+flat_finds_none limits input told (Text kind place) good h =
+    together (file_of told input) (CanBeFlattened limits) (λ text. HasFlatFault limits text kind place) good h
+    (λ text fine fault. none_or_some (first_hierarchy_fault limits.tokens text) (refusal.Fault kind place) fine.faultless fault.fault)
+flat_finds_none limits input told (Limit quantity count) good h =
+    together (file_of told input) (CanBeFlattened limits) (λ text. ExceedsFlat limits text quantity count) good h
     (λ text fine over. elim over [
       | inl long ↦ omega (arith, long.long, fine.short)
-      | inr at ↦ none_or_some (first_hierarchy_fault text) (refusal.Limit quantity count at.place) fine.faultless at.fault
+      | inr at ↦ none_or_some (first_hierarchy_fault limits.tokens text) (refusal.Limit quantity count at.place) fine.faultless at.fault
     ])
-flat_finds_none input told Missing good h = present (file_of told input) CanBeFlattened good h
-flat_finds_none input told Fault good h = h
-flat_finds_none input told Memory good h = h
-flat_finds_none input told Words good h = h
-flat_finds_none input told (Journal f) good h = h
-flat_finds_none input told (Record r) good h = h
-flat_finds_none input told (Netlist byte) good h = h
-flat_finds_none input told (Second found) good h = h
-flat_finds_none input told (Unlike list at) good h = h
-flat_finds_none input told CareShape good h = h
-flat_finds_none input told (Window number stop) good h = h
-flat_finds_none input told (Proof found) good h = h
+flat_finds_none limits input told Missing good h = present (file_of told input) (CanBeFlattened limits) good h
+flat_finds_none limits input told Fault good h = h
+flat_finds_none limits input told Memory good h = h
+flat_finds_none limits input told Words good h = h
+flat_finds_none limits input told (Journal f) good h = h
+flat_finds_none limits input told (Record r) good h = h
+flat_finds_none limits input told (Netlist byte) good h = h
+flat_finds_none limits input told (Second found) good h = h
+flat_finds_none limits input told (Unlike list at) good h = h
+flat_finds_none limits input told CareShape good h = h
+flat_finds_none limits input told (Window number stop) good h = h
+flat_finds_none limits input told (Proof found) good h = h
+
+-- nor, for `cut`, of one that can be cut
+can_be_flattened : (width shift : ℕ) (input : Word) (told : Files) → Holds told input (CanBeCut width shift) → Holds told input (CanBeFlattened wide_limits)
+can_be_flattened width shift input told good = go (file_of told input) good
+  where
+    go : (o : Option (List ℕ)) → IsSomeAnd o (CanBeCut width shift) → IsSomeAnd o (CanBeFlattened wide_limits)
+    go None h = h
+    go (Some text) h = h.flattened
+
+cut_finds_none : (input : Word) (width shift : ℕ) (told : Files) (problem : Problem) → Holds told input (CanBeCut width shift) → CutFinds input width shift (Some told) problem → ⊥
+cut_finds_none input width shift told (Limit quantity count) good h = elim h [
+  | inl read ↦ flat_finds_none wide_limits input told (Limit quantity count) (can_be_flattened width shift input told good) read
+  | inr many ↦
+      together (file_of told input) (CanBeCut width shift) (λ text. HasManyWindows width shift text quantity count) good many
+      (λ text fine more. not_more (fine.few more.model more.instances more.flat) more.many)
+]
+  where
+    not_more : {a b : ℕ} → a ≤ b → b < a → ⊥
+    not_more le lt = omega (arith, le, lt)
+cut_finds_none input width shift told (Text kind place) good h = flat_finds_none wide_limits input told (Text kind place) (can_be_flattened width shift input told good) h
+cut_finds_none input width shift told Missing good h = flat_finds_none wide_limits input told Missing (can_be_flattened width shift input told good) h
+cut_finds_none input width shift told Fault good h = h
+cut_finds_none input width shift told Memory good h = h
+cut_finds_none input width shift told Words good h = h
+cut_finds_none input width shift told (Journal f) good h = h
+cut_finds_none input width shift told (Record r) good h = h
+cut_finds_none input width shift told (Netlist byte) good h = h
+cut_finds_none input width shift told (Second found) good h = h
+cut_finds_none input width shift told (Unlike list at) good h = h
+cut_finds_none input width shift told CareShape good h = h
+cut_finds_none input width shift told (Window number stop) good h = h
+cut_finds_none input width shift told (Proof found) good h = h
 
 -- nor where the journal is there beside it
 replay_finds_none : (input journal : Word) (told : Files) (problem : Problem) → CanBeReplayed input journal told → ReplayFinds input journal (Some told) problem → ⊥
@@ -94,15 +128,15 @@ short_if_none (Some text) e = cc
 not_both : (o : Option (List ℕ)) (text : List ℕ) → o ≡ None → o ≡ Some text → ⊥
 not_both o text e f = cc
 
--- nor where no journal stands beside one that can be flattened
-sew_finds_none : (input : Word) (width : ℕ) (prefix : Word) (shift : ℕ) (told : Files) (problem : Problem) → HasNoJournal input prefix told → SewFinds input width prefix shift (Some told) problem → ⊥
+-- nor where no journal stands beside one that can be cut
+sew_finds_none : (input : Word) (width : ℕ) (prefix : Word) (shift : ℕ) (told : Files) (problem : Problem) → HasNoJournal input width prefix shift told → SewFinds input width prefix shift (Some told) problem → ⊥
 sew_finds_none input width prefix shift told (Limit quantity count) good h = elim h [
-  | inl read ↦ flat_finds_none input told (Limit quantity count) good.input_is read
+  | inl read ↦ cut_finds_none input width shift told (Limit quantity count) good.input_is read
   | inr long ↦ not_long prefix told (Limit quantity count) (λ number. short_if_none (file_of told (window_journal prefix number)) (good.journals_are number)) long
 ]
 sew_finds_none input width prefix shift told (Window number stop) good h = not_both (file_of told (window_journal prefix number)) h.taken.0 (good.journals_are number) h.taken.1.0
-sew_finds_none input width prefix shift told (Text kind place) good h = flat_finds_none input told (Text kind place) good.input_is h
-sew_finds_none input width prefix shift told Missing good h = flat_finds_none input told Missing good.input_is h
+sew_finds_none input width prefix shift told (Text kind place) good h = cut_finds_none input width shift told (Text kind place) good.input_is h
+sew_finds_none input width prefix shift told Missing good h = cut_finds_none input width shift told Missing good.input_is h
 sew_finds_none input width prefix shift told Fault good h = h
 sew_finds_none input width prefix shift told Memory good h = h
 sew_finds_none input width prefix shift told Words good h = h
@@ -182,10 +216,10 @@ module _ (once : ReadsOnce) (exclude : ProblemsExclude) where
       outside_alone (contract_of (Some (demo seed settings merge))) files m n problem (λ (x : ⊥). x) h
   good_runs_are_done ones (Some (flat input output)) None m n problem good h = absurd good
   good_runs_are_done ones (Some (flat input output)) (Some told) m n problem good h =
-      outside_alone (contract_of (Some (flat input output))) (Some told) m n problem (flat_finds_none input told problem good) h
+      outside_alone (contract_of (Some (flat input output))) (Some told) m n problem (flat_finds_none flat_limits input told problem good) h
   good_runs_are_done ones (Some (cut input width prefix shift)) None m n problem good h = absurd good
   good_runs_are_done ones (Some (cut input width prefix shift)) (Some told) m n problem good h =
-      outside_alone (contract_of (Some (cut input width prefix shift))) (Some told) m n problem (flat_finds_none input told problem good) h
+      outside_alone (contract_of (Some (cut input width prefix shift))) (Some told) m n problem (cut_finds_none input width shift told problem good) h
   good_runs_are_done ones (Some (sew input width prefix output shift)) None m n problem good h = absurd good
   good_runs_are_done ones (Some (sew input width prefix output shift)) (Some told) m n problem good h =
       outside_alone (contract_of (Some (sew input width prefix output shift))) (Some told) m n problem (sew_finds_none input width prefix shift told problem good) h
@@ -239,14 +273,14 @@ judged input journal output told (Window number stop) there h = absurd h
 judged input journal output told (Proof found) there h = absurd h
 
 -- journals of windows that can be read: only one of them is found at fault
-sew_judged : (input : Word) (width : ℕ) (prefix : Word) (shift : ℕ) (told : Files) (problem : Problem) → CanBeSewn input prefix told → SewFinds input width prefix shift (Some told) problem → status_of problem ≡ 6
+sew_judged : (input : Word) (width : ℕ) (prefix : Word) (shift : ℕ) (told : Files) (problem : Problem) → CanBeSewn input width prefix shift told → SewFinds input width prefix shift (Some told) problem → status_of problem ≡ 6
 sew_judged input width prefix shift told (Limit quantity count) good h = elim h [
-  | inl read ↦ absurd (flat_finds_none input told (Limit quantity count) good.input_is read)
+  | inl read ↦ absurd (cut_finds_none input width shift told (Limit quantity count) good.input_is read)
   | inr long ↦ absurd (not_long prefix told (Limit quantity count) good.journals_are long)
 ]
 sew_judged input width prefix shift told (Window number stop) good h = refl
-sew_judged input width prefix shift told (Text kind place) good h = absurd (flat_finds_none input told (Text kind place) good.input_is h)
-sew_judged input width prefix shift told Missing good h = absurd (flat_finds_none input told Missing good.input_is h)
+sew_judged input width prefix shift told (Text kind place) good h = absurd (cut_finds_none input width shift told (Text kind place) good.input_is h)
+sew_judged input width prefix shift told Missing good h = absurd (cut_finds_none input width shift told Missing good.input_is h)
 sew_judged input width prefix shift told Fault good h = absurd h
 sew_judged input width prefix shift told Memory good h = absurd h
 sew_judged input width prefix shift told Words good h = absurd h

@@ -12,14 +12,14 @@ use Rattle.blif_format.specs.Text.{text_of}
 use Rattle.window_cut.specs.Laws.{IsStandalone}
 use Rattle.window_fit.specs.Shared.{shared_windows}
 use Rattle.rambo_cli.specs.Contract.{Caused}
-use Rattle.rambo_cli.specs.Cut.{BeginsCut, HasCut, IsCutInto, put_windows, signals_of}
+use Rattle.rambo_cli.specs.Cut.{BeginsCut, CutFinds, HasCut, HasManyWindows, IsCutInto, put_windows, signals_of}
 use Rattle.rambo_cli.specs.Files.{Holds, IfTold}
-use Rattle.rambo_cli.specs.Flat.{IsFlat}
-use Rattle.rambo_cli.specs.Inner.Cut.{BeginsWindows, all_put}
+use Rattle.rambo_cli.specs.Flat.{FlatFinds, IsFlat, wide_limits}
+use Rattle.rambo_cli.specs.Inner.Cut.{BeginsWindows, WindowsCause, all_put}
 use Rattle.rambo_cli.specs.Inner.Files.{BeginsFile}
 use Rattle.rambo_cli.specs.Inner.Problems.{StoreCause}
 use Rattle.rambo_cli.specs.Problems.{KeepsFiles}
-use Rattle.rambo_cli.specs.Windows.{IsWindow, window_file}
+use Rattle.rambo_cli.specs.Windows.{IsWindow, most_windows, window_file}
 use Rattle.rambo_cli.specs.declared.problem.Problem.{Problem}
 use Rattle.rambo_cli.specs.declared.problem.Problem.TheVariants.{Words, Text, Limit, Missing, Fault, Journal, Record, Netlist, Second, Unlike, CareShape, Window, Proof, Memory}
 use Rattle.rambo_cli.proofs.Pieces.{held}
@@ -125,6 +125,43 @@ store_found Finds CareShape first before now le h = absurd h
 store_found Finds (Window number stop) first before now le h = absurd h
 store_found Finds (Proof found) first before now le h = absurd h
 
+-- what flattening the input finds
+pub flat_found : (input : Word) (width shift : ℕ) (files : Option Files) (before now : ℕ) (problem : Problem) → Caused (FlatFinds wide_limits input files) before now problem → Caused (CutFinds input width shift files) before now problem
+flat_found input width shift files before now Fault h = h
+flat_found input width shift files before now Memory h = tt
+flat_found input width shift files before now Words h = h
+flat_found input width shift files before now (Text kind place) h = h
+flat_found input width shift files before now (Limit quantity count) h = inl h
+flat_found input width shift files before now Missing h = h
+flat_found input width shift files before now (Journal f) h = h
+flat_found input width shift files before now (Record r) h = h
+flat_found input width shift files before now (Netlist byte) h = h
+flat_found input width shift files before now (Second found) h = h
+flat_found input width shift files before now (Unlike list at) h = h
+flat_found input width shift files before now CareShape h = h
+flat_found input width shift files before now (Window number stop) h = h
+flat_found input width shift files before now (Proof found) h = h
+
+-- that the input has too many windows
+pub many_found : (input : Word) (width shift : ℕ) (model : Model) (instances : ℕ) (files : Option Files) → IfSome files (λ told. Holds told input (λ text. IsFlat wide_limits text model instances)) → (before now : ℕ) (problem : Problem)
+    → WindowsCause (length (shared_windows width shift model)) problem → Caused (CutFinds input width shift files) before now problem
+many_found input width shift model instances files flat before now (Limit quantity count) h =
+    inr (held (λ text. IsFlat wide_limits text model instances) (λ text. HasManyWindows width shift text quantity count)
+    (λ text is. record { model = model; instances = instances; flat = is; many = h.1.1; named = h.0; counted = h.1.0 }) files input flat)
+many_found input width shift model instances files flat before now Memory h = tt
+many_found input width shift model instances files flat before now Fault h = absurd h
+many_found input width shift model instances files flat before now Words h = absurd h
+many_found input width shift model instances files flat before now (Text kind place) h = absurd h
+many_found input width shift model instances files flat before now Missing h = absurd h
+many_found input width shift model instances files flat before now (Journal f) h = absurd h
+many_found input width shift model instances files flat before now (Record r) h = absurd h
+many_found input width shift model instances files flat before now (Netlist byte) h = absurd h
+many_found input width shift model instances files flat before now (Second found) h = absurd h
+many_found input width shift model instances files flat before now (Unlike list at) h = absurd h
+many_found input width shift model instances files flat before now CareShape h = absurd h
+many_found input width shift model instances files flat before now (Window number stop) h = absurd h
+many_found input width shift model instances files flat before now (Proof found) h = absurd h
+
 abbrev BeginsOrKeeps : Word → ℕ → Word → ℕ → Files → Files → Type 0
 BeginsOrKeeps input width prefix shift before after = (after ≡ before) ⊎ BeginsCut input width prefix shift before after
 
@@ -154,7 +191,7 @@ pub windows_are : WrittenTextsRead → (windows : List Model) → All IsStandalo
 windows_are read windows standalone = All-weaker IsStandalone IsWindow (λ w s. (s, (read w s.formed s.ranked).1)) windows standalone
 
 -- these are the windows of the file
-pub cut_of : (width shift : ℕ) (model : Model) (instances : ℕ) (windows : List Model) → windows ≡ shared_windows width shift model → All IsWindow windows → (files : Option Files) (name : Word)
-    → IfSome files (λ told. Holds told name (λ text. IsFlat text model instances)) → IfSome files (λ told. Holds told name (λ text. IsCutInto text width shift windows))
-cut_of width shift model instances windows are each files name flat =
-    held (λ text. IsFlat text model instances) (λ text. IsCutInto text width shift windows) (λ text h. record { model = model; instances = instances; flat = h; are = are; each = each }) files name flat
+pub cut_of : (width shift : ℕ) (model : Model) (instances : ℕ) (windows : List Model) → windows ≡ shared_windows width shift model → length windows ≤ most_windows → All IsWindow windows → (files : Option Files) (name : Word)
+    → IfSome files (λ told. Holds told name (λ text. IsFlat wide_limits text model instances)) → IfSome files (λ told. Holds told name (λ text. IsCutInto text width shift windows))
+cut_of width shift model instances windows are few each files name flat =
+    held (λ text. IsFlat wide_limits text model instances) (λ text. IsCutInto text width shift windows) (λ text h. record { model = model; instances = instances; flat = h; are = are; few = few; each = each }) files name flat

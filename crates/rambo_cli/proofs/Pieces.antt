@@ -18,7 +18,7 @@ use Rattle.rm_base.specs.Words.{Word}
 pub shorter : (n : ℕ) (xs : List ℕ) → length (take (n + 1) xs) ≤ n → take (n + 1) xs ≡ xs
 shorter n xs h = take_all (n + 1) xs (omega (arith, length-take (n + 1) xs))
 
-longer : (n most : ℕ) (xs : List ℕ) → most < length (take n xs) → most < length xs
+pub longer : (n most : ℕ) (xs : List ℕ) → most < length (take n xs) → most < length xs
 longer n most xs h = omega (arith, length-take n xs)
 
 pub said_whole : (model : Model) (bytes : List ℕ) → IsSaid (take 16777217 bytes) model → IsSaid bytes model

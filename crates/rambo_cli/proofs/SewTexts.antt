@@ -27,16 +27,17 @@ use Rattle.accepted_steps.specs.Taken.{TakenFrom}
 use Rattle.accepted_steps.specs.declared.stop.Stop.{Stop}
 use Rattle.rambo_cli.specs.Contract.{Caused}
 use Rattle.rambo_cli.specs.Files.{Holds, IfTold}
-use Rattle.rambo_cli.specs.Flat.{FlatFinds, IsFlat}
+use Rattle.rambo_cli.specs.Flat.{FlatFinds, IsFlat, wide_limits}
 use Rattle.rambo_cli.specs.Inner.Files.{BeginsFile}
-use Rattle.rambo_cli.specs.Inner.Sew.{PartFinds, PartsFind}
+use Rattle.rambo_cli.specs.Inner.Cut.{WindowsCause}
+use Rattle.rambo_cli.specs.Inner.Sew.{IsSewnOf, ModelFinds, PartFinds, PartsFind}
 use Rattle.rambo_cli.specs.Sew.{AreMadeOf, BeginsSewn, HasSewn, HaveParts, IsChosen, IsLongWindow, IsSewnFrom, IsSewnInto, SewFinds, Stops, count_replayed}
-use Rattle.rambo_cli.specs.Windows.{window_journal}
+use Rattle.rambo_cli.specs.Windows.{most_windows, window_journal}
 use Rattle.rambo_cli.specs.declared.stitching.SewnText.{SewnText}
 use Rattle.rambo_cli.specs.declared.problem.Problem.{Problem}
 use Rattle.rambo_cli.specs.declared.problem.Problem.TheVariants.{Words, Text, Limit, Missing, Fault, Journal, Record, Netlist, Second, Unlike, CareShape, Window, Proof, Memory}
 use Rattle.rambo_cli.proofs.Pieces.{held}
-use Rattle.rambo_cli.proofs.CutTexts.{next_taken, taken_length}
+use Rattle.rambo_cli.proofs.CutTexts.{many_found, next_taken, taken_length}
 
 -- ONE PART AFTER THE OTHER
 more_made : (prefix : Word) (k : ℕ) (ws ps : List Model) (bs : List Bool) (w p : Model) (b : Bool) (told : Files) → AreMadeOf prefix k ws ps bs told → IsPartOf w (window_journal prefix (length ws + k)) p b told
@@ -128,7 +129,7 @@ part_cause prefix ws place w files mid before start now problem there same le h 
     go (Window number stop) h = (place, (w, (there, h)))
     go (Proof found) h = absurd h
 
-stops_at : (input : Word) (width : ℕ) (prefix : Word) (shift number : ℕ) (model : Model) (instances : ℕ) (files : Option Files) → IfSome files (λ told. Holds told input (λ text. IsFlat text model instances)) → (place : ℕ) (w : Model)
+stops_at : (input : Word) (width : ℕ) (prefix : Word) (shift number : ℕ) (model : Model) (instances : ℕ) (files : Option Files) → IfSome files (λ told. Holds told input (λ text. IsFlat wide_limits text model instances)) → (place : ℕ) (w : Model)
     → slice_get (shared_windows width shift model) place ≡ Some w → number ≡ place + 1 → (stop : Stop) → PartFinds w prefix (place + 1) files (Window number stop) → IfSome files (Stops input width prefix shift number stop)
 stops_at input width prefix shift number model instances None flat place w there e stop h = tt
 stops_at input width prefix shift number model instances (Some told) flat place w there e stop h = record {
@@ -143,36 +144,111 @@ stops_at input width prefix shift number model instances (Some told) flat place 
   taken = subst (λ (n : ℕ). TakenFrom w (window_journal prefix n) h.1.0 (Some stop) told) (sym e) h.1.1;
 }
 
--- of the windows of the input
-pub parts_cause : (input : Word) (width : ℕ) (prefix : Word) (shift : ℕ) (model : Model) (instances : ℕ) (windows : List Model) (files mid : Option Files) (before start now : ℕ) (problem : Problem)
-    → IfSome files (λ told. Holds told input (λ text. IsFlat text model instances)) → windows ≡ shared_windows width shift model → mid ≡ files → before ≤ start
-    → Caused (PartsFind prefix windows mid) start now problem → Caused (SewFinds input width prefix shift files) before now problem
-parts_cause input width prefix shift model instances windows files mid before start now problem flat are same le h =
-    go problem (subst (λ (ws : List Model). Caused (PartsFind prefix ws files) start now problem) are (subst (λ (o : Option Files). Caused (PartsFind prefix windows o) start now problem) same h))
+-- of a model with too many windows
+pub windows_found : (m : Model) (width : ℕ) (prefix : Word) (shift : ℕ) (files : Option Files) (before now : ℕ) (problem : Problem) → WindowsCause (length (shared_windows width shift m)) problem → Caused (ModelFinds m width prefix shift files) before now problem
+windows_found m width prefix shift files before now (Limit quantity count) h = inl h
+windows_found m width prefix shift files before now Memory h = tt
+windows_found m width prefix shift files before now Fault h = absurd h
+windows_found m width prefix shift files before now (Window number stop) h = absurd h
+windows_found m width prefix shift files before now Words h = absurd h
+windows_found m width prefix shift files before now (Text kind at) h = absurd h
+windows_found m width prefix shift files before now Missing h = absurd h
+windows_found m width prefix shift files before now (Journal f) h = absurd h
+windows_found m width prefix shift files before now (Record r) h = absurd h
+windows_found m width prefix shift files before now (Netlist byte) h = absurd h
+windows_found m width prefix shift files before now (Second found) h = absurd h
+windows_found m width prefix shift files before now (Unlike list at) h = absurd h
+windows_found m width prefix shift files before now CareShape h = absurd h
+windows_found m width prefix shift files before now (Proof found) h = absurd h
+
+-- of the windows of a model
+pub parts_found : (m : Model) (width : ℕ) (prefix : Word) (shift : ℕ) (windows : List Model) (files : Option Files) (before now : ℕ) (problem : Problem) → windows ≡ shared_windows width shift m
+    → Caused (PartsFind prefix windows files) before now problem → Caused (ModelFinds m width prefix shift files) before now problem
+parts_found m width prefix shift windows files before now problem are h = go problem (subst (λ (ws : List Model). Caused (PartsFind prefix ws files) before now problem) are h)
   where
-    go : (problem : Problem) → Caused (PartsFind prefix (shared_windows width shift model) files) start now problem → Caused (SewFinds input width prefix shift files) before now problem
+    go : (problem : Problem) → Caused (PartsFind prefix (shared_windows width shift m) files) before now problem → Caused (ModelFinds m width prefix shift files) before now problem
+    go Fault h = h
+    go Memory h = tt
+    go (Limit quantity count) h = inr h
+    go (Window number stop) h = inr h
+    go Words h = inr h
+    go (Text kind at) h = inr h
+    go Missing h = inr h
+    go (Journal f) h = inr h
+    go (Record r) h = inr h
+    go (Netlist byte) h = inr h
+    go (Second found) h = inr h
+    go (Unlike list at) h = inr h
+    go CareShape h = inr h
+    go (Proof found) h = inr h
+
+-- of the model of the input
+pub model_found : (input : Word) (width : ℕ) (prefix : Word) (shift : ℕ) (model : Model) (instances : ℕ) (files mid : Option Files) (before start now : ℕ) (problem : Problem)
+    → IfSome files (λ told. Holds told input (λ text. IsFlat wide_limits text model instances)) → mid ≡ files → before ≤ start
+    → Caused (ModelFinds model width prefix shift mid) start now problem → Caused (SewFinds input width prefix shift files) before now problem
+model_found input width prefix shift model instances files mid before start now problem flat same le h =
+    go problem (subst (λ (o : Option Files). Caused (ModelFinds model width prefix shift o) start now problem) same h)
+  where
+    go : (problem : Problem) → Caused (ModelFinds model width prefix shift files) start now problem → Caused (SewFinds input width prefix shift files) before now problem
     go Fault h = omega (arith, le, h)
     go Memory h = tt
-    go Words h = absurd h.1.1.1
-    go (Text kind at) h = absurd h.1.1.1
-    go (Limit quantity count) h = inr h.1.1.1
-    go Missing h = absurd h.1.1.1
-    go (Journal f) h = absurd h.1.1.1
-    go (Record r) h = absurd h.1.1.1
-    go (Netlist byte) h = absurd h.1.1.1
-    go (Second found) h = absurd h.1.1.1
-    go (Unlike list at) h = absurd h.1.1.1
-    go CareShape h = absurd h.1.1.1
-    go (Window number stop) h = stops_at input width prefix shift number model instances files flat h.0 h.1.0 h.1.1.0 h.1.1.1.0 stop h.1.1.1
-    go (Proof found) h = absurd h.1.1.1
+    go (Limit quantity count) h = elim h [
+      | inl many ↦ inl (many_found input width shift model instances files flat before now (Limit quantity count) many)
+      | inr part ↦ inr part.1.1.1
+    ]
+    go (Window number stop) h = elim h [
+      | inl many ↦ absurd many
+      | inr part ↦ stops_at input width prefix shift number model instances files flat part.0 part.1.0 part.1.1.0 part.1.1.1.0 stop part.1.1.1
+    ]
+    go Words h = elim h [
+      | inl many ↦ absurd many
+      | inr part ↦ absurd part.1.1.1
+    ]
+    go (Text kind at) h = elim h [
+      | inl many ↦ absurd many
+      | inr part ↦ absurd part.1.1.1
+    ]
+    go Missing h = elim h [
+      | inl many ↦ absurd many
+      | inr part ↦ absurd part.1.1.1
+    ]
+    go (Journal f) h = elim h [
+      | inl many ↦ absurd many
+      | inr part ↦ absurd part.1.1.1
+    ]
+    go (Record r) h = elim h [
+      | inl many ↦ absurd many
+      | inr part ↦ absurd part.1.1.1
+    ]
+    go (Netlist byte) h = elim h [
+      | inl many ↦ absurd many
+      | inr part ↦ absurd part.1.1.1
+    ]
+    go (Second found) h = elim h [
+      | inl many ↦ absurd many
+      | inr part ↦ absurd part.1.1.1
+    ]
+    go (Unlike list at) h = elim h [
+      | inl many ↦ absurd many
+      | inr part ↦ absurd part.1.1.1
+    ]
+    go CareShape h = elim h [
+      | inl many ↦ absurd many
+      | inr part ↦ absurd part.1.1.1
+    ]
+    go (Proof found) h = elim h [
+      | inl many ↦ absurd many
+      | inr part ↦ absurd part.1.1.1
+    ]
 
--- what is found of the input is what `flat` finds
-pub input_cause : (input : Word) (width : ℕ) (prefix : Word) (shift : ℕ) (files : Option Files) (before now : ℕ) (problem : Problem) → Caused (FlatFinds input files) before now problem → Caused (SewFinds input width prefix shift files) before now problem
+-- what is found of the input is what `cut` finds
+pub input_cause : (input : Word) (width : ℕ) (prefix : Word) (shift : ℕ) (files : Option Files) (before now : ℕ) (problem : Problem) → Caused (FlatFinds wide_limits input files) before now problem → Caused (SewFinds input width prefix shift files) before now problem
 input_cause input width prefix shift files before now Fault h = h
 input_cause input width prefix shift files before now Memory h = tt
+input_cause input width prefix shift files before now (Limit quantity count) h = inl (inl h)
+input_cause input width prefix shift files before now (Window number stop) h = absurd h
 input_cause input width prefix shift files before now Words h = h
 input_cause input width prefix shift files before now (Text kind at) h = h
-input_cause input width prefix shift files before now (Limit quantity count) h = inl h
 input_cause input width prefix shift files before now Missing h = h
 input_cause input width prefix shift files before now (Journal f) h = h
 input_cause input width prefix shift files before now (Record r) h = h
@@ -180,7 +256,6 @@ input_cause input width prefix shift files before now (Netlist byte) h = h
 input_cause input width prefix shift files before now (Second found) h = h
 input_cause input width prefix shift files before now (Unlike list at) h = h
 input_cause input width prefix shift files before now CareShape h = h
-input_cause input width prefix shift files before now (Window number stop) h = absurd h
 input_cause input width prefix shift files before now (Proof found) h = h
 
 -- WHAT IS WRITTEN
@@ -210,6 +285,18 @@ sewn_text read model made parts wires before chosen rep counted counted_before l
 sewn_text read model made parts wires before chosen rep counted counted_before le (Ok s) t w b =
     sewn_into read model made parts s.wires s.before s.text.items chosen rep (w ∙ counted) (b ∙ counted_before) (omega (arith, w, b, le)) t
 
+-- of a model and what stands for its windows
+pub sewn_of : (m : Model) (width : ℕ) (prefix : Word) (shift : ℕ) (windows parts : List Model) (count replayed wires before : ℕ) (text : List ℕ) (files : Option Files) → windows ≡ shared_windows width shift m → length windows ≤ most_windows
+    → count ≡ length windows → IfSome files (HaveParts prefix windows parts replayed) → IsSewnInto m parts wires before text → IfSome files (IsSewnOf m width prefix shift count replayed wires before text)
+sewn_of m width prefix shift windows parts count replayed wires before text None are few counted have sewn = tt
+sewn_of m width prefix shift windows parts count replayed wires before text (Some told) are few counted have sewn = record {
+  few = subst (λ (ws : List Model). length ws ≤ most_windows) are few;
+  parts = parts;
+  are = subst (λ (ws : List Model). HaveParts prefix ws parts replayed told) are have;
+  counted = counted ∙ ap (λ (ws : List Model). length ws) are;
+  sewn = sewn;
+}
+
 -- WHAT THE COMMAND SAYS
 abbrev BeginsOrKeeps : Word → ℕ → Word → Word → ℕ → Files → Files → Type 0
 BeginsOrKeeps input width prefix output shift before after = (after ≡ before) ⊎ BeginsSewn input width prefix output shift before after
@@ -223,21 +310,14 @@ both_of P Q f None h = absurd h
 both_of P Q f (Some bytes) h = f bytes h
 
 -- what is written for the file
-pub sewn_from : (input : Word) (width : ℕ) (prefix : Word) (shift : ℕ) (model : Model) (instances : ℕ) (parts windows : List Model) (count replayed wires before : ℕ) (text : List ℕ) (files : Option Files)
-    → windows ≡ shared_windows width shift model → count ≡ length windows → IfSome files (HaveParts prefix windows parts replayed) → IsSewnInto model parts wires before text
-    → IfSome files (λ told. Holds told input (λ bytes. IsFlat bytes model instances)) → IfSome files (λ told. Holds told input (λ bytes. IsSewnFrom bytes width prefix shift count replayed wires before text told))
-sewn_from input width prefix shift model instances parts windows count replayed wires before text None are counted have sewn flat = tt
-sewn_from input width prefix shift model instances parts windows count replayed wires before text (Some told) are counted have sewn flat =
-    both_of (λ bytes. IsFlat bytes model instances) (λ bytes. IsSewnFrom bytes width prefix shift count replayed wires before text told)
-    (λ bytes h. record {
-      model = model;
-      instances = instances;
-      flat = h;
-      parts = parts;
-      are = subst (λ (ws : List Model). HaveParts prefix ws parts replayed told) are have;
-      counted = counted ∙ ap (λ (ws : List Model). length ws) are;
-      sewn = sewn;
-    })
+pub sewn_from : (input : Word) (width : ℕ) (prefix : Word) (shift : ℕ) (model : Model) (instances count replayed wires before : ℕ) (text : List ℕ) (files mid : Option Files) → mid ≡ files
+    → IfSome mid (IsSewnOf model width prefix shift count replayed wires before text) → IfSome files (λ told. Holds told input (λ bytes. IsFlat wide_limits bytes model instances))
+    → IfSome files (λ told. Holds told input (λ bytes. IsSewnFrom bytes width prefix shift count replayed wires before text told))
+sewn_from input width prefix shift model instances count replayed wires before text None mid same of flat = tt
+sewn_from input width prefix shift model instances count replayed wires before text (Some told) mid same of flat =
+    let sewn : IsSewnOf model width prefix shift count replayed wires before text told = subst (λ (o : Option Files). IfSome o (IsSewnOf model width prefix shift count replayed wires before text)) same of in
+    both_of (λ bytes. IsFlat wide_limits bytes model instances) (λ bytes. IsSewnFrom bytes width prefix shift count replayed wires before text told)
+    (λ bytes h. record { model = model; instances = instances; flat = h; few = sewn.few; parts = sewn.parts; are = sewn.are; counted = sewn.counted; sewn = sewn.sewn })
     (file_of told input) flat
 
 module _ (input : Word) (width : ℕ) (prefix output : Word) (shift count replayed wires before : ℕ) (text written : List ℕ) (same : written ≡ text) where

@@ -5,7 +5,7 @@ use Rattle.rm_base.specs.declared.numbers.Place.{Place}
 use Rattle.blif_format.specs.declared.refusal.FaultKind.{FaultKind}
 use Rattle.blif_format.specs.declared.refusal.FaultKind.TheVariants.{BadByte, OpenJoin, NoModel, Unsupported, UnknownCommand, MissingWord, ExtraWord, RowOutsideCover, RowLength, RowCharacter, MixedCover, BadLatchWord, DoubleDriven, DoubleOutput, AfterEnd, Undriven, NoRank, BadPin, MissingPin, UnknownModel, DoubleModel, Recursive}
 use Rattle.blif_format.specs.declared.refusal.Quantity.{Quantity}
-use Rattle.blif_format.specs.declared.refusal.Quantity.TheVariants.{Text, Name, Inputs, Sources, Observed, Signals, Pins, Journal, Flat}
+use Rattle.blif_format.specs.declared.refusal.Quantity.TheVariants.{Text, Name, Inputs, Sources, Observed, Signals, Pins, Journal, Flat, Windows}
 use Rattle.rm_base.specs.Words.{Word}
 use Rattle.journal_audit.specs.Lines.{fault_line as journal_fault_line, number, refusal_line, why_words}
 use Rattle.journal_text.specs.declared.faults.JournalFault.{JournalFault as LineFault}
@@ -51,6 +51,7 @@ quantity_word Signals = codes "signals"
 quantity_word Pins = codes "pins"
 quantity_word Journal = codes "journal"
 quantity_word Flat = codes "flat"
+quantity_word Windows = codes "windows"
 
 -- `text LINE:COLUMN KIND`
 abbrev pub fault_line : FaultKind → Place → List ℕ

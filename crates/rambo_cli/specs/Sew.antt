@@ -16,8 +16,9 @@ use Rattle.window_parts.specs.Part.{IsPartOf}
 use Rattle.window_fit.specs.Shared.{sewn_again, shared_windows}
 use Rattle.rambo_cli.specs.Contract.{Contract}
 use Rattle.rambo_cli.specs.Files.{Holds, IfTold}
-use Rattle.rambo_cli.specs.Flat.{CanBeFlattened, FlatFinds, IsFlat}
-use Rattle.rambo_cli.specs.Windows.{window_journal}
+use Rattle.rambo_cli.specs.Flat.{IsFlat, wide_limits}
+use Rattle.rambo_cli.specs.Cut.{CanBeCut, CutFinds}
+use Rattle.rambo_cli.specs.Windows.{most_windows, window_journal}
 use Rattle.rambo_cli.specs.declared.work.Done.{Done}
 use Rattle.rambo_cli.specs.declared.work.Done.TheVariants.{Sewn}
 use Rattle.rambo_cli.specs.declared.problem.Problem.{Problem}
@@ -67,7 +68,8 @@ pub record IsSewnInto (model : Model) (parts : List Model) (wires before : ℕ) 
 pub record IsSewnFrom (text : List ℕ) (width : ℕ) (prefix : Word) (shift count replayed wires before : ℕ) (output : List ℕ) (told : Files) : Type 0 where
   pub model : Model
   pub instances : ℕ
-  pub flat : IsFlat text model instances
+  pub flat : IsFlat wide_limits text model instances
+  pub few : length (shared_windows width shift model) ≤ most_windows
   pub parts : List Model
   pub are : HaveParts prefix (shared_windows width shift model) parts replayed told
   pub counted : count ≡ length (shared_windows width shift model)
@@ -87,7 +89,7 @@ SewDoes input width prefix output shift old new _ = ⊥
 pub record Stops (input : Word) (width : ℕ) (prefix : Word) (shift number : ℕ) (stop : Stop) (told : Files) : Type 0 where
   pub model : Model
   pub instances : ℕ
-  pub flat : Holds told input (λ text. IsFlat text model instances)
+  pub flat : Holds told input (λ text. IsFlat wide_limits text model instances)
   pub place : ℕ
   pub window : Model
   pub there : slice_get (shared_windows width shift model) place ≡ Some window
@@ -100,11 +102,11 @@ abbrev pub IsLongWindow : Word → Option Files → Problem → Type 0
 IsLongWindow prefix files problem =
     (problem ≡ Limit JournalLimit 4611686018427387905) × IfSome files (λ told. (number : ℕ) × Holds told (window_journal prefix number) (λ text. 2 ^ 62 < length text))
 
--- what `flat` finds of the input; or that a window's journal is longer than is read, or what ends its accepted steps
+-- what `cut` finds of the input; or that a window's journal is longer than is read, or what ends its accepted steps
 abbrev pub SewFinds : Word → ℕ → Word → ℕ → Option Files → Problem → Type 0
 SewFinds input width prefix shift files (Window number stop) = IfSome files (Stops input width prefix shift number stop)
-SewFinds input width prefix shift files (Limit quantity count) = FlatFinds input files (Limit quantity count) ⊎ IsLongWindow prefix files (Limit quantity count)
-SewFinds input width prefix shift files problem = FlatFinds input files problem
+SewFinds input width prefix shift files (Limit quantity count) = CutFinds input width shift files (Limit quantity count) ⊎ IsLongWindow prefix files (Limit quantity count)
+SewFinds input width prefix shift files problem = CutFinds input width shift files problem
 
 -- the output holds a beginning of what is written for the input's text and its windows' journals
 pub record BeginsSewn (input : Word) (width : ℕ) (prefix output : Word) (shift : ℕ) (old new : Files) : Type 0 where
@@ -117,14 +119,14 @@ pub record BeginsSewn (input : Word) (width : ℕ) (prefix output : Word) (shift
   pub kept : ℕ
   pub files : new ≡ put_file output (take kept written) old
 
--- the input can be flattened, and no journal under the prefix is longer than is read
-pub record CanBeSewn (input prefix : Word) (told : Files) : Type 0 where
-  pub input_is : Holds told input CanBeFlattened
+-- the input can be cut, and no journal under the prefix is longer than is read
+pub record CanBeSewn (input : Word) (width : ℕ) (prefix : Word) (shift : ℕ) (told : Files) : Type 0 where
+  pub input_is : Holds told input (CanBeCut width shift)
   pub journals_are : (number : ℕ) → IfSome (file_of told (window_journal prefix number)) (λ text. length text ≤ 2 ^ 62)
 
--- the input can be flattened, and no journal stands under the prefix
-pub record HasNoJournal (input prefix : Word) (told : Files) : Type 0 where
-  pub input_is : Holds told input CanBeFlattened
+-- the input can be cut, and no journal stands under the prefix
+pub record HasNoJournal (input : Word) (width : ℕ) (prefix : Word) (shift : ℕ) (told : Files) : Type 0 where
+  pub input_is : Holds told input (CanBeCut width shift)
   pub journals_are : (number : ℕ) → file_of told (window_journal prefix number) ≡ None
 
 abbrev pub sew_contract : Word → ℕ → Word → Word → ℕ → Contract
@@ -133,7 +135,7 @@ sew_contract input width prefix output shift = record {
   Finds = SewFinds input width prefix shift;
   Leaves = λ old new. IfTold old new (λ before after. (after ≡ before) ⊎ BeginsSewn input width prefix output shift before after);
   needs_files = true;
-  IsGood = λ files. IsSomeAnd files (HasNoJournal input prefix);
-  IsJudged = λ files. IsSomeAnd files (CanBeSewn input prefix);
+  IsGood = λ files. IsSomeAnd files (HasNoJournal input width prefix shift);
+  IsJudged = λ files. IsSomeAnd files (CanBeSewn input width prefix shift);
   IsCompared = λ files. ⊥;
 }

@@ -7,6 +7,10 @@ use Rattle.blif_format.specs.Grammar.{Reads}
 use Rattle.blif_format.specs.Text.{text_of}
 use Rattle.window_cut.specs.Laws.{IsStandalone}
 
+-- how many windows there may be
+abbrev pub most_windows : ℕ
+most_windows = 1048576
+
 -- a model that stands alone, well formed, ranked and with an output, and whose text says it
 abbrev pub IsWindow : Model → Type 0
 IsWindow w = IsStandalone w × Reads (lines_of (text_of w)) w

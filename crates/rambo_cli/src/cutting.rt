@@ -6,16 +6,15 @@ ghost use Rattle.rm_base.specs.Files.{put_file};
 ghost use Rattle.blif_format.specs.Text.{text_of};
 ghost use Rattle.rambo_cli.specs.Contract.{Caused};
 ghost use Rattle.window_cut.specs.Laws.{IsStandalone};
-ghost use Rattle.rambo_cli.specs.Cut.{BeginsCut, HasCut, signals_of};
+ghost use Rattle.rambo_cli.specs.Cut.{BeginsCut, CutFinds, HasCut, signals_of};
 ghost use Rattle.rambo_cli.specs.Files.{IfTold};
-ghost use Rattle.rambo_cli.specs.Flat.{FlatFinds};
 ghost use Rattle.rambo_cli.specs.Inner.Cut.{BeginsWindows, all_put};
 ghost use Rattle.rambo_cli.specs.Inner.Files.{BeginsFile};
 ghost use Rattle.rambo_cli.specs.Inner.Problems.{StoreCause};
 ghost use Rattle.rambo_cli.specs.Problems.{KeepsFiles};
 ghost use Rattle.rambo_cli.specs.Windows.{window_file};
 
-use crate::input_model::{flat_model, windows_of};
+use crate::input_model::{wide_model, windows_of};
 use crate::optimising::replace;
 use crate::problem::Problem;
 use blif_writer::{write_model, written_texts_read};
@@ -105,13 +104,13 @@ pub(crate) fn cut_input<S: Shelf>(
     shift: u32,
 ) -> Result<CutCounts, Problem>
     ensures done { IfOk result (λ c. IfTold (S.files shelf.old) (S.files shelf.new) (HasCut input.now width prefix.now shift c.windows c.signals)) }
-    ensures cause { IfErr result (Caused (FlatFinds input.now (S.files shelf.old)) (S.faults shelf.old) (S.faults shelf.new)) }
+    ensures cause { IfErr result (Caused (CutFinds input.now width shift (S.files shelf.old)) (S.faults shelf.old) (S.faults shelf.new)) }
     ensures unchanged { IfErr result (λ problem. KeepsFiles problem (S.files shelf.old) (S.files shelf.new)) }
     ensures safe { IfTold (S.files shelf.old) (S.files shelf.new) (λ before after. (after ≡ before) ⊎ BeginsCut input.now width prefix.now shift before after) }
     ensures later { S.faults shelf.old ≤ S.faults shelf.new }
 {
     written_texts_read();
-    let flat = flat_model(alloc, keys, shelf, input)?;
+    let flat = wide_model(alloc, keys, shelf, input)?;
     let windowed = windows_of(alloc, keys, &flat.model, width, shift)?;
     let windows = windowed.windows.as_slice();
     let signals = count_signals(windows)?;

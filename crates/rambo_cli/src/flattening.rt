@@ -2,7 +2,7 @@
 ghost use Rattle.std.specs.Prelude.{◌≡◌, ◌≤◌, ◌⊎◌, IfOk, IfErr};
 ghost use Rattle.rambo_cli.specs.Contract.{Caused};
 ghost use Rattle.rambo_cli.specs.Files.{IfTold};
-ghost use Rattle.rambo_cli.specs.Flat.{BeginsFlat, FlatFinds, HasFlattened};
+ghost use Rattle.rambo_cli.specs.Flat.{BeginsFlat, FlatFinds, HasFlattened, flat_limits};
 ghost use Rattle.rambo_cli.specs.Problems.{KeepsFiles};
 
 use crate::input_model::flat_model;
@@ -29,7 +29,7 @@ pub(crate) fn flatten_input<S: Shelf>(
     output: &str,
 ) -> Result<FlatCounts, Problem>
     ensures done { IfOk result (λ c. IfTold (S.files shelf.old) (S.files shelf.new) (HasFlattened input.now output.now c.instances c.covers)) }
-    ensures cause { IfErr result (Caused (FlatFinds input.now (S.files shelf.old)) (S.faults shelf.old) (S.faults shelf.new)) }
+    ensures cause { IfErr result (Caused (FlatFinds flat_limits input.now (S.files shelf.old)) (S.faults shelf.old) (S.faults shelf.new)) }
     ensures unchanged { IfErr result (λ problem. KeepsFiles problem (S.files shelf.old) (S.files shelf.new)) }
     ensures safe { IfTold (S.files shelf.old) (S.files shelf.new) (λ before after. (after ≡ before) ⊎ BeginsFlat input.now output.now before after) }
     ensures later { S.faults shelf.old ≤ S.faults shelf.new }

@@ -62,6 +62,7 @@ fn quantity_word(quantity: Quantity) -> &'static str
         Quantity::Pins => "pins",
         Quantity::Journal => "journal",
         Quantity::Flat => "flat",
+        Quantity::Windows => "windows",
     }
 }
 

@@ -16,7 +16,7 @@ use rm_base::Shelf;
 use rm_model::{NameKeys, RankedModel, ranks_exist};
 use std::alloc::Global;
 
-pub(crate) const MOST_BYTES: usize = 16_777_216;
+const MOST_BYTES: usize = 16_777_216;
 
 /// The bytes of a file, at most so many.
 pub(crate) fn bytes_of<S: Shelf>(shelf: &mut S, name: &str, most: usize) -> Result<Vec<u8>, Problem>

@@ -1,7 +1,9 @@
 //! The command `sew`.
-ghost use Rattle.std.specs.Prelude.{◌≡◌, ◌≤◌, ◌<◌, ◌+◌, ◌++◌, ◌∷◌, ◌^◌, ◌⊎◌, [], All, IfErr, IfOk, IfSome, OnOk, if◌then◌else◌, length};
+ghost use Rattle.std.specs.Prelude.{◌≡◌, ◌≤◌, ◌<◌, ◌+◌, ◌++◌, ◌∷◌, ◌^◌, ◌⊎◌, [], All, IfErr, IfOk, IfSome, List, OnOk, if◌then◌else◌, length};
 ghost use Rattle.std.specs.String.{string_bytes};
+ghost use Rattle.cover_decompose.specs.Count.{decomposed};
 ghost use Rattle.rm_model.specs.Value.{IsRanked, source_names};
+ghost use Rattle.rm_model.specs.declared.parts.Model.{Model as CircuitModel};
 ghost use Rattle.blif_format.specs.Text.{text_of};
 ghost use Rattle.rm_model.specs.WellFormed.{IsWellFormed};
 ghost use Rattle.cover_sharing.specs.Shared.{shared};
@@ -11,12 +13,12 @@ ghost use Rattle.window_fit.specs.Shared.{sewn_again};
 ghost use Rattle.window_parts.specs.Part.{IsPartOf};
 ghost use Rattle.rambo_cli.specs.Contract.{Caused};
 ghost use Rattle.rambo_cli.specs.Files.{IfTold};
-ghost use Rattle.rambo_cli.specs.Inner.Sew.{PartFinds, PartsFind};
+ghost use Rattle.rambo_cli.specs.Inner.Sew.{IsSewnOf, ModelFinds, PartFinds, PartsFind};
 ghost use Rattle.rambo_cli.specs.Problems.{KeepsFiles};
 ghost use Rattle.rambo_cli.specs.Sew.{BeginsSewn, HasSewn, HaveParts, IsSewnInto, SewFinds};
 ghost use Rattle.rambo_cli.specs.Windows.{window_journal};
 
-use crate::input_model::{flat_model, windows_of};
+use crate::input_model::{wide_model, windows_of};
 use crate::optimising::replace;
 use crate::problem::Problem;
 use blif_format::Quantity;
@@ -126,6 +128,13 @@ fn parts_of<S: Shelf>(
     Ok(parts)
 }
 
+// A model with its ranks and its wires.
+#[derive(Drop)]
+struct CountedModel {
+    ranked: RankedModel,
+    wires: u64,
+}
+
 // A model with its ranks.
 fn rank_model(alloc: Global, keys: NameKeys, model: Model) -> Result<RankedModel, NoMemory>
     requires formed { IsWellFormed model }
@@ -146,6 +155,18 @@ fn rank_model(alloc: Global, keys: NameKeys, model: Model) -> Result<RankedModel
     }
 }
 
+// A model with its ranks, and the wires of its decomposition.
+fn count_model(alloc: Global, keys: NameKeys, model: Model) -> Result<CountedModel, NoMemory>
+    requires formed { IsWellFormed model }
+    requires ranked { IsRanked model }
+    ensures same { IfOk result (λ c. c.ranked ≡ model) }
+    ensures wires { IfOk result (λ c. c.wires ≡ decomposed model) }
+{
+    let ranked = rank_model(alloc, keys, model)?;
+    let wires = count_wires(alloc, &ranked)?;
+    Ok(CountedModel { ranked, wires })
+}
+
 /// The text of what is sewn, and the wires of its model and of the input's.
 #[derive(Drop)]
 struct SewnText {
@@ -154,51 +175,94 @@ struct SewnText {
     before: u64,
 }
 
-// The text of a model, with these wires of it and of the input.
-fn text_with(
-    alloc: Global,
-    model: &RankedModel,
-    wires: u64,
-    before: u64,
-) -> Result<SewnText, NoMemory>
-    requires { All (λ l. IfSome l.init (λ n. n ≤ 3)) model.now.latches }
-    ensures text { IfOk result (λ s. s.text.items ≡ text_of model.now) }
-    ensures wires { IfOk result (λ s. s.wires ≡ wires) }
+// The text of a model, with the wires of it and of the input.
+fn text_with(alloc: Global, made: &CountedModel, before: u64) -> Result<SewnText, NoMemory>
+    requires { All (λ l. IfSome l.init (λ n. n ≤ 3)) made.now.ranked.latches }
+    ensures text { IfOk result (λ s. s.text.items ≡ text_of made.now.ranked) }
+    ensures wires { IfOk result (λ s. s.wires ≡ made.now.wires) }
     ensures before { IfOk result (λ s. s.before ≡ before) }
 {
-    let text = write_model(alloc, model.model())?;
+    let text = write_model(alloc, made.ranked.model())?;
     Ok(SewnText {
         text,
-        wires,
+        wires: made.wires,
         before,
     })
 }
 
-// Sews these parts together; where that has more wires than the model, it stays as it is.
-fn sew_parts(
-    alloc: Global,
-    keys: NameKeys,
-    model: Model,
-    whole: &Model,
-    parts: &[Model],
-) -> Result<SewnText, NoMemory>
-    requires formed { IsWellFormed model }
-    requires ranked { IsRanked model }
-    requires whole { whole.now ≡ shared model }
-    requires fit { AreFew whole.now parts.now → IsReplacement model (sewn_again model parts.now) }
-    ensures { IfOk result (λ s. IsSewnInto model parts.now s.wires s.before s.text.items) }
+// The text of what is sewn of the parts of a model; where that has more wires than the model, of the model.
+fn chosen_text(alloc: Global, own: &CountedModel, made: &CountedModel) -> Result<SewnText, NoMemory>
+    requires formed { IsWellFormed own.now.ranked }
+    requires ranked { IsRanked own.now.ranked }
+    requires counted { own.now.wires ≡ decomposed own.now.ranked }
+    requires made { IsReplacement own.now.ranked made.now.ranked }
+    requires wires { made.now.wires ≡ decomposed made.now.ranked }
+    ensures { (parts : List CircuitModel) → made.now.ranked ≡ sewn_again own.now.ranked parts → IfOk result (λ s. IsSewnInto own.now.ranked parts s.wires s.before s.text.items) }
 {
     windows_may_stay();
     written_texts_read();
-    let sewn = sew(alloc, keys, whole, parts)?;
-    let sewn = rank_model(alloc, keys, sewn)?;
-    let model = rank_model(alloc, keys, model)?;
-    let wires = count_wires(alloc, &sewn)?;
-    let before = count_wires(alloc, &model)?;
-    if wires <= before {
-        return text_with(alloc, &sewn, wires, before);
+    if made.wires <= own.wires {
+        return text_with(alloc, made, own.wires);
     }
-    text_with(alloc, &model, before, before)
+    text_with(alloc, own, own.wires)
+}
+
+// Sews these parts of a model together.
+fn sew_parts(
+    alloc: Global,
+    keys: NameKeys,
+    own: &CountedModel,
+    whole: &Model,
+    parts: &[Model],
+) -> Result<SewnText, NoMemory>
+    requires formed { IsWellFormed own.now.ranked }
+    requires ranked { IsRanked own.now.ranked }
+    requires counted { own.now.wires ≡ decomposed own.now.ranked }
+    requires whole { whole.now ≡ shared own.now.ranked }
+    requires fit { AreFew whole.now parts.now → IsReplacement own.now.ranked (sewn_again own.now.ranked parts.now) }
+    ensures { IfOk result (λ s. IsSewnInto own.now.ranked parts.now s.wires s.before s.text.items) }
+{
+    let sewn = sew(alloc, keys, whole, parts)?;
+    let made = count_model(alloc, keys, sewn)?;
+    chosen_text(alloc, own, &made)
+}
+
+// What is sewn of a model: so many windows, of which so many are replayed, and the text.
+#[derive(Drop)]
+struct Sewn {
+    windows: u64,
+    replayed: u64,
+    text: SewnText,
+}
+
+// Makes the windows of a model again, replaces each by what the steps of its journal lead to, if there is one, and sews them.
+fn sew_model<S: Shelf>(
+    alloc: Global,
+    keys: NameKeys,
+    shelf: &mut S,
+    prefix: &str,
+    own: &CountedModel,
+    width: u32,
+    shift: u32,
+) -> Result<Sewn, Problem>
+    requires formed { IsWellFormed own.now.ranked }
+    requires ranked { IsRanked own.now.ranked }
+    requires counted { own.now.wires ≡ decomposed own.now.ranked }
+    ensures sewn { IfOk result (λ s. IfSome (S.files shelf.old) (IsSewnOf own.now.ranked width prefix.now shift s.windows s.replayed s.text.wires s.text.before s.text.text.items)) }
+    ensures cause { IfErr result (Caused (ModelFinds own.now.ranked width prefix.now shift (S.files shelf.old)) (S.faults shelf.old) (S.faults shelf.new)) }
+    ensures files { S.files shelf.new ≡ S.files shelf.old }
+    ensures later { S.faults shelf.old ≤ S.faults shelf.new }
+{
+    shared_windows_compose();
+    let windowed = windows_of(alloc, keys, own.ranked.model(), width, shift)?;
+    let windows = windowed.windows.as_slice();
+    let parts = parts_of(alloc, keys, shelf, prefix, windows)?;
+    let text = sew_parts(alloc, keys, own, &windowed.whole, parts.models.as_slice())?;
+    Ok(Sewn {
+        windows: windows.len() as u64,
+        replayed: parts.replayed,
+        text,
+    })
 }
 
 /// What `sew` has made: so many windows, of which so many are replayed, and the wires of the output and of the input.
@@ -226,23 +290,14 @@ pub(crate) fn sew_input<S: Shelf>(
     ensures safe { IfTold (S.files shelf.old) (S.files shelf.new) (λ before after. (after ≡ before) ⊎ BeginsSewn names.now.input.now width names.now.prefix.now names.now.output.now shift before after) }
     ensures later { S.faults shelf.old ≤ S.faults shelf.new }
 {
-    shared_windows_compose();
-    let flat = flat_model(alloc, keys, shelf, names.input)?;
-    let windowed = windows_of(alloc, keys, &flat.model, width, shift)?;
-    let windows = windowed.windows.as_slice();
-    let parts = parts_of(alloc, keys, shelf, names.prefix, windows)?;
-    let sewn = sew_parts(
-        alloc,
-        keys,
-        flat.model,
-        &windowed.whole,
-        parts.models.as_slice(),
-    )?;
-    replace(shelf, names.output, sewn.text.as_slice())?;
+    let flat = wide_model(alloc, keys, shelf, names.input)?;
+    let own = count_model(alloc, keys, flat.model)?;
+    let sewn = sew_model(alloc, keys, shelf, names.prefix, &own, width, shift)?;
+    replace(shelf, names.output, sewn.text.text.as_slice())?;
     Ok(SewnCounts {
-        windows: windows.len() as u64,
-        replayed: parts.replayed,
-        wires: sewn.wires,
-        before: sewn.before,
+        windows: sewn.windows,
+        replayed: sewn.replayed,
+        wires: sewn.text.wires,
+        before: sewn.text.before,
     })
 }

@@ -16,6 +16,7 @@ use Rattle.optimisation.specs.declared.halt.Halt.TheVariants as halt
 use Rattle.word_reading.specs.declared.command.WordFault.{WordFault}
 use Rattle.word_reading.specs.declared.command.WordFault.TheVariants as word
 use Rattle.rambo_cli.specs.Flat.{ExceedsFlat, HasFlatFault}
+use Rattle.rambo_cli.specs.declared.input_model.FlatLimits.{FlatLimits}
 use Rattle.rambo_cli.specs.Written.{HasFault, Exceeds, most_pins}
 use Rattle.rambo_cli.specs.Lines.{memory_line}
 use Rattle.rambo_cli.specs.declared.problem.Problem.{Problem}
@@ -83,11 +84,11 @@ TextCause text Memory = Unit {0}
 TextCause text _ = ⊥
 
 -- why a text has no flat model
-abbrev pub FlatTextCause : List ℕ → Problem → Type 0
-FlatTextCause text (Text kind place) = HasFlatFault text kind place
-FlatTextCause text (Limit quantity count) = ExceedsFlat text quantity count
-FlatTextCause text Memory = Unit {0}
-FlatTextCause text _ = ⊥
+abbrev pub FlatTextCause : FlatLimits → List ℕ → Problem → Type 0
+FlatTextCause limits text (Text kind place) = HasFlatFault limits text kind place
+FlatTextCause limits text (Limit quantity count) = ExceedsFlat limits text quantity count
+FlatTextCause limits text Memory = Unit {0}
+FlatTextCause limits text _ = ⊥
 
 -- why files aren't written
 abbrev pub StoreCause : ℕ → ℕ → Problem → Type 0

@@ -149,6 +149,20 @@ fn more_wires_of_either(rt: HostRuntime) -> Result<(), Fail> {
     Ok(())
 }
 
+// Whether `flat` doesn't take the text, and `cut` and `sew` do.
+fn longer_texts_are_cut<R: Threads + Sync>(
+    rt: &R,
+    alloc: Global,
+    input: &str,
+) -> Result<bool, Fail> {
+    let texts = [input, "old", "-"];
+    let refused = refuses(rt, alloc, "flat in out", texts, 5, "limit text 16777217\n")?;
+    let mut shelf = shelf(alloc, texts, &[])?;
+    let cut = ends(rt, alloc, "cut in 4 w", &mut shelf, 0, "cut 1 1\n")?;
+    let sewn = ends(rt, alloc, "sew in 4 w out", &mut shelf, 0, "sewn 1 0 2 2\n")?;
+    Ok(refused && cut && sewn)
+}
+
 #[test]
 fn longest_texts(rt: HostRuntime) -> Result<(), Fail> {
     let alloc = rt.alloc();
@@ -166,5 +180,8 @@ fn longest_texts(rt: HostRuntime) -> Result<(), Fail> {
     );
     text.push('#')?;
     assert!(rt; is_over_limit(&rt, alloc, &text, "limit text 16777217\n")?);
+    text.push('\n')?;
+    text.push_str(ONE_GATE)?;
+    assert!(rt; longer_texts_are_cut(&rt, alloc, &text)?);
     Ok(())
 }

@@ -29,11 +29,11 @@ loop-place-preserved g c =
     let p = c.in_ok-part.part in
     let there = stands_there ws place w (omega (arith, c.loop-place-test.true)) c.index-windows-place.is in
     record {
-      parts = subst (λ (l : List Model). IfSome (g.S.Shelf.files c.args.shelf.now) (HaveParts c.args.prefix.now (take (place + 1) ws) l c.push_part.new.parts.replayed)) (sym c.in_ok-push_part.ensures.models)
+      parts = subst (λ (l : List Model). IfSome (g.S.Shelf.files c.args.shelf.now) (HaveParts c.args.prefix.now (take (place + 1) ws) l c.push_part.new.parts.replayed)) (sym {A = List Model} c.in_ok-push_part.ensures.models)
           (one_more_part c.args.prefix.now ws c.loop-place.parts.models.items c.loop-place.parts.replayed c.push_part.new.parts.replayed place w p.model p.replayed (g.S.Shelf.files c.args.shelf.now) there c.loop-place.invariant.parts
           (subst (λ (o : Option Files). IfSome o (IsPartOf w (window_journal c.args.prefix.now (place + 1)) p.model p.replayed)) c.loop-place.invariant.files c.in_ok-part.ensures.part)
           c.in_ok-push_part.ensures.replayed);
-      replacements = subst (λ (l : List Model). AreParts (take (place + 1) ws) l) (sym c.in_ok-push_part.ensures.models)
+      replacements = subst (λ (l : List Model). AreParts (take (place + 1) ws) l) (sym {A = List Model} c.in_ok-push_part.ensures.models)
           (one_more_replaced c.parts_follow.ensures ws c.loop-place.parts.models.items place w p.model there c.loop-place.invariant.replacements c.in_ok-part.ensures.replacement);
       files = c.in_ok-part.ensures.files ∙ c.loop-place.invariant.files;
       later = omega (arith, c.loop-place.invariant.later, c.in_ok-part.ensures.later);
