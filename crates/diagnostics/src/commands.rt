@@ -27,7 +27,7 @@ pub(crate) struct CommandRule {
     pub(crate) meaning: &'static str,
 }
 
-pub(crate) const OPTIONS: [OptionRule; 6] = [
+pub(crate) const OPTIONS: [OptionRule; 7] = [
     OptionRule {
         name: "--depth",
         low: 0,
@@ -66,6 +66,14 @@ pub(crate) const OPTIONS: [OptionRule; 6] = [
         high: 2,
         default: 1,
         meaning: "merge gates of equal or opposite values: 0 never, 1 after the additions, 2 also before them",
+        commands: &["opt", "demo"],
+    },
+    OptionRule {
+        name: "--perturb",
+        low: 0,
+        high: 64,
+        default: 0,
+        meaning: "turns in which wires are exchanged for others at no cost, each with further additions behind it",
         commands: &["opt", "demo"],
     },
     OptionRule {

@@ -3,6 +3,7 @@ ghost use Rattle.std.specs.Prelude.{◌≡◌, ◌≤◌, ◌<◌, ◌+◌, IfOk
 ghost use Rattle.gate_graph.specs.Circuit.{live_nodes, net_of, pins_taken};
 ghost use Rattle.wire_edit.specs.Order.{IsTidy};
 
+mod depths;
 mod meetings;
 
 use closing_pass::{Report, close_faults, closed_are_recordable, write_verdicts};

@@ -29,11 +29,11 @@ use Rattle.optimisation.specs.Stages.{HaveStages, IsStagedRun, first, further}
 use Rattle.optimisation.specs.declared.rounds.Rounds.{Rounds}
 use Rattle.optimisation.proofs.RoundLaws.{counted_on, three_counted}
 
-net_then : (net : Net) (xs ys : List Step) → net_after net (xs ++ ys) ≡ net_after (net_after net xs) ys
+pub net_then : (net : Net) (xs ys : List Step) → net_after net (xs ++ ys) ≡ net_after (net_after net xs) ys
 net_then net [] ys = refl
 net_then net (x ∷ xs) ys = net_then (stepped net x) xs ys
 
-led_after : (net after : Net) (records : List Record) → AcceptedTo net records after → net_after net (steps_of records) ≡ after
+pub led_after : (net after : Net) (records : List Record) → AcceptedTo net records after → net_after net (steps_of records) ≡ after
 led_after net after [] a = sym a
 led_after net after (record_of.Step step tree ∷ records) a = led_after (stepped net step) after records a.1
 led_after net after (record_of.Hit fault vector ∷ records) a = absurd a

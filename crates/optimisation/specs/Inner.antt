@@ -5,3 +5,4 @@ pub mod Filled
 pub mod Halts
 pub mod Ran
 pub mod Staged
+pub mod Turned

@@ -6,6 +6,7 @@ mod halt;
 mod optimised;
 mod rounds;
 mod stages;
+mod turns;
 mod whole;
 
 pub use halt::Halt;

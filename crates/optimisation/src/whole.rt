@@ -27,7 +27,7 @@ ghost use Rattle.cover_decompose.specs.Limits.{most_pins};
 use crate::halt::Halt;
 use crate::optimised::{Figures, Optimised};
 use crate::rounds::Rounds;
-use crate::stages::go_stages;
+use crate::turns::go_turns;
 use closing_pass::{Report, closed_are_recordable, write_verdicts};
 use cover_decompose::{decompose, decompositions_stand};
 use gate_graph::Graph;
@@ -86,6 +86,7 @@ fn fill_journal<R: Threads + Sync, G: Gate, S: Shelf>(
     graph: Graph,
     settings: &Settings,
     merge: u8,
+    perturb: u8,
     gate: &G,
     shelf: &mut S,
     journal: &str,
@@ -94,7 +95,7 @@ fn fill_journal<R: Threads + Sync, G: Gate, S: Shelf>(
     requires wires { wire_count (net_of graph) ≤ most_pins }
     requires settings { AreSettings settings.now }
     requires there { IsThere (S.files shelf.old) journal.now }
-    ensures filled { IfOk result (λ r. IsFilled (net_of graph) settings.now merge r (S.files shelf.old) (S.files shelf.new) journal.now) }
+    ensures filled { IfOk result (λ r. IsFilled (net_of graph) settings.now merge perturb r (S.files shelf.old) (S.files shelf.new) journal.now) }
     ensures stopped { OnErr result (IsLeft (net_of graph) settings.now.budget (S.files shelf.old) (S.files shelf.new) journal.now) }
     ensures failed { result ≡ Err stop.Failed → Rose (S.faults shelf.old) (S.faults shelf.new) }
     ensures later { S.faults shelf.old ≤ S.faults shelf.new }
@@ -106,7 +107,9 @@ fn fill_journal<R: Threads + Sync, G: Gate, S: Shelf>(
     runs_join();
     accepted_runs_are_writable();
     fitting_are_entries();
-    let rounds = go_stages(rt, alloc, graph, settings, merge, gate, shelf, journal)?;
+    let rounds = go_turns(
+        rt, alloc, graph, settings, merge, perturb, gate, shelf, journal,
+    )?;
     write_verdicts(alloc, &rounds.report, shelf, journal)?;
     append_entry(alloc, shelf, journal, &Entry::End)?;
     Ok(rounds)
@@ -114,13 +117,15 @@ fn fill_journal<R: Threads + Sync, G: Gate, S: Shelf>(
 
 /// Optimises the decomposition of a model, and writes the journal of it: the header, every step with its tree, a verdict for
 /// each fault that remains, and the end. Equal gates are merged once the addition loop has ended, or, without tries, after a
-/// first sweep (`merge` is 1), or both (2 and more), or never (0).
+/// first sweep (`merge` is 1), or both (2 and more), or never (0). Behind that targets are exchanged for wires that cost no
+/// more, for at most `perturb` turns, with further additions behind each.
 pub fn optimised_model<R: Threads + Sync, G: Gate, S: Shelf>(
     rt: &R,
     alloc: Global,
     model: &RankedModel,
     settings: &Settings,
     merge: u8,
+    perturb: u8,
     gate: &G,
     shelf: &mut S,
     journal: &str,
@@ -132,7 +137,7 @@ pub fn optimised_model<R: Threads + Sync, G: Gate, S: Shelf>(
     requires observed { length (observed_names model.now) ≤ 4096 }
     requires fits { decomposed model.now < 2 ^ 64 }
     requires settings { AreSettings settings.now }
-    ensures whole { IfOk result (λ o. IsWhole model.now settings.now merge (net_of o.graph) o.figures (S.files shelf.old) (S.files shelf.new) journal.now) }
+    ensures whole { IfOk result (λ o. IsWhole model.now settings.now merge perturb (net_of o.graph) o.figures (S.files shelf.old) (S.files shelf.new) journal.now) }
     ensures within { OnOk result (decomposed model.now ≤ most_pins) }
     ensures over { (pins : ℕ) → result ≡ Err (halt.Limit pins) → (pins ≡ decomposed model.now) × ((most_pins < decomposed model.now) × (S.files shelf.new ≡ S.files shelf.old)) }
     ensures begun { IfErr result (λ _. HasBegun model.now settings.now.budget journal.now (S.files shelf.old) (S.files shelf.new)) }
@@ -146,7 +151,9 @@ pub fn optimised_model<R: Threads + Sync, G: Gate, S: Shelf>(
     let wires_before = graph.wire_count();
     let gates_before = graph.gate_count();
     open_journal(alloc, shelf, journal, settings.budget)?;
-    let rounds = fill_journal(rt, alloc, graph, settings, merge, gate, shelf, journal)?;
+    let rounds = fill_journal(
+        rt, alloc, graph, settings, merge, perturb, gate, shelf, journal,
+    )?;
     let (tested, spent) = count_verdicts(&rounds.report);
     let figures = Figures {
         wires_before,

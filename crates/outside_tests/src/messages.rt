@@ -11,6 +11,7 @@ const OPTIONS: [&str; 2] = [
     "  --tries 0..1000000  additions of a wire that the whole run may try (default 1000000)
   --workers 1..64  threads that search for test vectors (default 1)
   --merge 0..2  merge gates of equal or opposite values: 0 never, 1 after the additions, 2 also before them (default 1)
+  --perturb 0..64  turns in which wires are exchanged for others at no cost, each with further additions behind it (default 0)
 ",
 ];
 
@@ -22,7 +23,7 @@ const REFUSALS: [(&str, &str); 17] = [
     ),
     (
         "--version",
-        "rambo 1.0.0; proved with rattle-kit-13f logic dac8208d650f15bf\n",
+        "rambo 1.0.0; proved with rattle-kit-13b logic dac8208d650f15bf\n",
     ),
     (
         "opt in.blif",

@@ -2,7 +2,7 @@
 use crate::words::reads;
 use std::test::Fail;
 
-const REFUSED: [&str; 120] = [
+const REFUSED: [&str; 124] = [
     "",
     "~",
     "help",
@@ -33,6 +33,9 @@ const REFUSED: [&str; 120] = [
     "opt a b --merge",
     "opt a b j --merge 1 --merge=1",
     "opt a b j --merged 1",
+    "opt a b j --perturb 65",
+    "opt a b --perturb",
+    "opt a b --perturb 1 --perturb 1",
     "opt a b j --Merge 1",
     "opt a b j --tries 1 --tries 2",
     "opt a b j --tries=1 --tries=1",
@@ -85,6 +88,7 @@ const REFUSED: [&str; 120] = [
     "demo --depth 1",
     "demo 1 --depth=3",
     "demo 1 --merge=3",
+    "demo 1 --perturb=-1",
     "demo 1 --seed=1",
     "help opt",
     "opt a b j --screen 0",
@@ -133,7 +137,7 @@ fn refuses(rt: HostRuntime) -> Result<(), Fail> {
     Ok(())
 }
 
-const EQUAL_REFUSED: [&str; 20] = [
+const EQUAL_REFUSED: [&str; 21] = [
     "equal",
     "equal a",
     "equal a b",
@@ -147,6 +151,7 @@ const EQUAL_REFUSED: [&str; 20] = [
     "equal a b p --tries=0",
     "equal --workers=1 a b p",
     "equal a b p --merge 1",
+    "equal a b p --perturb 1",
     "equal a b p --depth 3",
     "equal a b p --budget 0",
     "equal a b p --budget=1048577",
@@ -217,7 +222,7 @@ fn refuses_optcare(rt: HostRuntime) -> Result<(), Fail> {
     Ok(())
 }
 
-const CUT_REFUSED: [&str; 25] = [
+const CUT_REFUSED: [&str; 26] = [
     "cut",
     "cut a",
     "cut a 1",
@@ -241,6 +246,7 @@ const CUT_REFUSED: [&str; 25] = [
     "cut a 1 p --tries 1",
     "cut a 1 p --workers 1",
     "cut a 1 p --merge 1",
+    "cut a 1 p --perturb 1",
     "cut a 1 p --help",
     "Cut a 1 p",
 ];

@@ -21,9 +21,15 @@ fn with_settings(alloc: Global, start: &str, s: Settings) -> Result<String, Fail
     Ok(format!(in alloc; "{start}{} {} {} {}", s.depth, s.budget, s.tries, s.workers)?)
 }
 
-fn with_merge(alloc: Global, start: &str, settings: Settings, merge: u8) -> Result<String, Fail> {
+fn with_passes(
+    alloc: Global,
+    start: &str,
+    settings: Settings,
+    merge: u8,
+    perturb: u8,
+) -> Result<String, Fail> {
     let text = with_settings(alloc, start, settings)?;
-    Ok(format!(in alloc; "{text} {merge}")?)
+    Ok(format!(in alloc; "{text} {merge} {perturb}")?)
 }
 
 // The text of a command with its options.
@@ -35,18 +41,20 @@ fn optioned_text(alloc: Global, command: Command<'_>) -> Result<String, Fail> {
             journal,
             settings,
             merge,
+            perturb,
         } => {
             let journal = journal.unwrap_or("(none)");
             let start = format!(in alloc; "opt {input} {output} {journal} ")?;
-            with_merge(alloc, &start, settings, merge)
+            with_passes(alloc, &start, settings, merge, perturb)
         }
         Command::Demo {
             seed,
             settings,
             merge,
+            perturb,
         } => {
             let start = format!(in alloc; "demo {seed} ")?;
-            with_merge(alloc, &start, settings, merge)
+            with_passes(alloc, &start, settings, merge, perturb)
         }
         Command::Equal {
             first,
@@ -171,42 +179,47 @@ fn reads_sew(rt: HostRuntime) -> Result<(), Fail> {
 #[test]
 fn reads_opt(rt: HostRuntime) -> Result<(), Fail> {
     let rows = [
-        ("opt a b j", "opt a b j 1 256 1000000 1 1"),
-        ("opt a b", "opt a b (none) 1 256 1000000 1 1"),
-        ("opt --depth 2 a b", "opt a b (none) 2 256 1000000 1 1"),
-        ("opt a --tries=7 -- b", "opt a b (none) 1 256 7 1 1"),
-        ("opt --budget=8 -- a b j", "opt a b j 1 8 1000000 1 1"),
-        ("opt --budget +8 a b j", "opt a b j 1 8 1000000 1 1"),
+        ("opt a b j", "opt a b j 1 256 1000000 1 1 0"),
+        ("opt a b", "opt a b (none) 1 256 1000000 1 1 0"),
+        ("opt --depth 2 a b", "opt a b (none) 2 256 1000000 1 1 0"),
+        ("opt a --tries=7 -- b", "opt a b (none) 1 256 7 1 1 0"),
+        ("opt --budget=8 -- a b j", "opt a b j 1 8 1000000 1 1 0"),
+        ("opt --budget +8 a b j", "opt a b j 1 8 1000000 1 1 0"),
         (
             "opt a --depth 0 b --workers=64 j --tries=1000000",
-            "opt a b j 0 256 1000000 64 1",
+            "opt a b j 0 256 1000000 64 1 0",
         ),
         (
             "opt a b j --budget 1048576 --depth=2 --tries 0",
-            "opt a b j 2 1048576 0 1 1",
+            "opt a b j 2 1048576 0 1 1 0",
         ),
         (
             "opt a b j --budget=0000000000000000000000000000000000000000000000000000000000000008",
-            "opt a b j 1 8 1000000 1 1",
+            "opt a b j 1 8 1000000 1 1 0",
         ),
-        ("opt a b j --tries=+000", "opt a b j 1 256 0 1 1"),
-        ("opt -- a -- j", "opt a -- j 1 256 1000000 1 1"),
+        ("opt a b j --tries=+000", "opt a b j 1 256 0 1 1 0"),
+        ("opt -- a -- j", "opt a -- j 1 256 1000000 1 1 0"),
         (
             "opt a -- --depth=1 -x",
-            "opt a --depth=1 -x 1 256 1000000 1 1",
+            "opt a --depth=1 -x 1 256 1000000 1 1 0",
         ),
-        ("opt - b j", "opt - b j 1 256 1000000 1 1"),
-        ("opt a b j --", "opt a b j 1 256 1000000 1 1"),
-        ("opt ~ b j", "opt  b j 1 256 1000000 1 1"),
-        ("opt help opt demo", "opt help opt demo 1 256 1000000 1 1"),
-        ("opt a b j --depth 1 --", "opt a b j 1 256 1000000 1 1"),
-        ("opt a=b b j", "opt a=b b j 1 256 1000000 1 1"),
-        ("opt a b j --merge 0", "opt a b j 1 256 1000000 1 0"),
-        ("opt --merge=1 a b", "opt a b (none) 1 256 1000000 1 1"),
-        ("opt a --merge +2 b j --tries=0", "opt a b j 1 256 0 1 2"),
+        ("opt - b j", "opt - b j 1 256 1000000 1 1 0"),
+        ("opt a b j --", "opt a b j 1 256 1000000 1 1 0"),
+        ("opt ~ b j", "opt  b j 1 256 1000000 1 1 0"),
+        ("opt help opt demo", "opt help opt demo 1 256 1000000 1 1 0"),
+        ("opt a b j --depth 1 --", "opt a b j 1 256 1000000 1 1 0"),
+        ("opt a=b b j", "opt a=b b j 1 256 1000000 1 1 0"),
+        ("opt a b j --merge 0", "opt a b j 1 256 1000000 1 0 0"),
+        ("opt --merge=1 a b", "opt a b (none) 1 256 1000000 1 1 0"),
+        ("opt a --merge +2 b j --tries=0", "opt a b j 1 256 0 1 2 0"),
+        (
+            "opt a b --perturb 64",
+            "opt a b (none) 1 256 1000000 1 1 64",
+        ),
+        ("opt --perturb=+01 a b j", "opt a b j 1 256 1000000 1 1 1"),
         (
             "opt a b -- --merge=3",
-            "opt a b --merge=3 1 256 1000000 1 1",
+            "opt a b --merge=3 1 256 1000000 1 1 0",
         ),
     ];
     for (line, wanted) in rows {
@@ -222,16 +235,17 @@ fn reads_the_others(rt: HostRuntime) -> Result<(), Fail> {
         ("check -- -a --b --", "check -a --b --"),
         (
             "demo 18446744073709551615",
-            "demo 18446744073709551615 1 256 1000000 1 1",
+            "demo 18446744073709551615 1 256 1000000 1 1 0",
         ),
         (
             "demo 000000000000000000000018446744073709551615",
-            "demo 18446744073709551615 1 256 1000000 1 1",
+            "demo 18446744073709551615 1 256 1000000 1 1 0",
         ),
-        ("demo +7 --depth 0 --tries 200", "demo 7 0 256 200 1 1"),
-        ("demo --workers 8 -- 1", "demo 1 1 256 1000000 8 1"),
-        ("demo 1 --merge 0", "demo 1 1 256 1000000 1 0"),
-        ("demo --merge=02 1", "demo 1 1 256 1000000 1 2"),
+        ("demo +7 --depth 0 --tries 200", "demo 7 0 256 200 1 1 0"),
+        ("demo --workers 8 -- 1", "demo 1 1 256 1000000 8 1 0"),
+        ("demo 1 --merge 0", "demo 1 1 256 1000000 1 0 0"),
+        ("demo --merge=02 1", "demo 1 1 256 1000000 1 2 0"),
+        ("demo 1 --perturb 3", "demo 1 1 256 1000000 1 1 3"),
         ("flat a b", "flat a b"),
         ("flat -- --tries=1 b", "flat --tries=1 b"),
         ("tests a a a b", "tests a a a b"),

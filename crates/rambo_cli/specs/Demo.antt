@@ -12,19 +12,19 @@ use Rattle.rambo_cli.specs.declared.work.Done.{Done}
 use Rattle.rambo_cli.specs.declared.work.Done.TheVariants.{Optimised}
 
 -- the figures are those of a run over the model of the seed
-pub record HasShown (seed : ℕ) (settings : Settings) (merge : ℕ) (figures : Figures) : Type 0 where
+pub record HasShown (seed : ℕ) (settings : Settings) (merge perturb : ℕ) (figures : Figures) : Type 0 where
   pub net : Net
   pub steps : List Record
   pub verdicts : List Record
-  pub over : IsRunOver (model_of_seed seed) settings merge net steps verdicts figures
+  pub over : IsRunOver (model_of_seed seed) settings merge perturb net steps verdicts figures
 
-abbrev pub DemoDoes : ℕ → Settings → ℕ → Option Files → Option Files → Done → Type 0
-DemoDoes seed settings merge old new (Optimised figures) = HasShown seed settings merge figures
-DemoDoes seed settings merge old new _ = ⊥
+abbrev pub DemoDoes : ℕ → Settings → ℕ → ℕ → Option Files → Option Files → Done → Type 0
+DemoDoes seed settings merge perturb old new (Optimised figures) = HasShown seed settings merge perturb figures
+DemoDoes seed settings merge perturb old new _ = ⊥
 
-abbrev pub demo_contract : ℕ → Settings → ℕ → Contract
-demo_contract seed settings merge = record {
-  Does = DemoDoes seed settings merge;
+abbrev pub demo_contract : ℕ → Settings → ℕ → ℕ → Contract
+demo_contract seed settings merge perturb = record {
+  Does = DemoDoes seed settings merge perturb;
   Finds = λ files problem. ⊥;
   Leaves = λ old new. new ≡ old;
   needs_files = false;

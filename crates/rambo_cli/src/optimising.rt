@@ -62,10 +62,11 @@ fn whole_run<R: Threads + Sync, G: Gate, S: Shelf>(
     journal: Option<&str>,
     settings: &Settings,
     merge: u8,
+    perturb: u8,
 ) -> Result<Optimised, Problem>
     requires usable { IsUsable model.now }
     requires settings { AreSettings settings.now }
-    ensures recorded { IfOk result (λ o. IsRecorded model.now settings.now merge (net_of o.graph) o.figures (S.files shelf.old) (S.files shelf.new) (option_map (λ j. j.now) journal.entry)) }
+    ensures recorded { IfOk result (λ o. IsRecorded model.now settings.now merge perturb (net_of o.graph) o.figures (S.files shelf.old) (S.files shelf.new) (option_map (λ j. j.now) journal.entry)) }
     ensures within { OnOk result (decomposed model.now ≤ most_pins) }
     ensures begun { IfErr result (λ _. BeginsRecord model.now settings.now.budget (option_map (λ j. j.now) journal.entry) (S.files shelf.old) (S.files shelf.new)) }
     ensures cause { IfErr result (ModelCause model.now (S.faults shelf.old) (S.faults shelf.new)) }
@@ -74,7 +75,7 @@ fn whole_run<R: Threads + Sync, G: Gate, S: Shelf>(
 {
     match journal {
         Some(journal) => Ok(optimised_model(
-            rt, alloc, model, settings, merge, gate, shelf, journal,
+            rt, alloc, model, settings, merge, perturb, gate, shelf, journal,
         )?),
         None => {
             let mut memory = SureShelf::new(alloc);
@@ -84,6 +85,7 @@ fn whole_run<R: Threads + Sync, G: Gate, S: Shelf>(
                 model,
                 settings,
                 merge,
+                perturb,
                 gate,
                 &mut memory,
                 "journal",
@@ -104,20 +106,23 @@ fn optimise_model<R: Threads + Sync, G: Gate, S: Shelf>(
     journal: Option<&str>,
     settings: &Settings,
     merge: u8,
+    perturb: u8,
 ) -> Result<Figures, Problem>
     requires usable { IsUsable model.now }
     requires settings { AreSettings settings.now }
-    ensures done { IfOk result (λ figures. IfTold (S.files shelf.old) (S.files shelf.new) (HasWritten model.now output.now (option_map (λ j. j.now) journal.entry) settings.now merge figures)) }
+    ensures done { IfOk result (λ figures. IfTold (S.files shelf.old) (S.files shelf.new) (HasWritten model.now output.now (option_map (λ j. j.now) journal.entry) settings.now merge perturb figures)) }
     ensures cause { IfErr result (ModelCause model.now (S.faults shelf.old) (S.faults shelf.new)) }
     ensures unchanged { IfErr result (λ problem. KeepsFiles problem (S.files shelf.old) (S.files shelf.new)) }
-    ensures safe { IfTold (S.files shelf.old) (S.files shelf.new) (BeginsToWriteFor model.now output.now (option_map (λ j. j.now) journal.entry) settings.now merge) }
+    ensures safe { IfTold (S.files shelf.old) (S.files shelf.new) (BeginsToWriteFor model.now output.now (option_map (λ j. j.now) journal.entry) settings.now merge perturb) }
     ensures later { S.faults shelf.old ≤ S.faults shelf.new }
 {
     decompositions_stand();
     decompositions_are_formed();
     kept_nets_fit();
     runs_are_written();
-    let run = whole_run(rt, alloc, shelf, gate, model, journal, settings, merge)?;
+    let run = whole_run(
+        rt, alloc, shelf, gate, model, journal, settings, merge, perturb,
+    )?;
     let text = net_text(alloc, keys, &run.graph, model)?;
     replace(shelf, output, text.as_slice())?;
     Ok(run.figures)
@@ -133,13 +138,14 @@ pub(crate) fn optimise_input<R: Threads + Sync, G: Gate, S: Shelf>(
     names: &Names<'_>,
     settings: &Settings,
     merge: u8,
+    perturb: u8,
 ) -> Result<Figures, Problem>
-    requires apart { HasNamesApart (opt names.now.input.now names.now.output.now (option_map (λ j. j.now) names.now.journal) settings.now merge) }
+    requires apart { HasNamesApart (opt names.now.input.now names.now.output.now (option_map (λ j. j.now) names.now.journal) settings.now merge perturb) }
     requires settings { AreSettings settings.now }
-    ensures done { IfOk result (λ figures. IfTold (S.files shelf.old) (S.files shelf.new) (HasOptimised names.now.input.now names.now.output.now (option_map (λ j. j.now) names.now.journal) settings.now merge figures)) }
+    ensures done { IfOk result (λ figures. IfTold (S.files shelf.old) (S.files shelf.new) (HasOptimised names.now.input.now names.now.output.now (option_map (λ j. j.now) names.now.journal) settings.now merge perturb figures)) }
     ensures cause { IfErr result (ReadCause names.now.input.now (S.files shelf.old) (S.faults shelf.old) (S.faults shelf.new)) }
     ensures unchanged { IfErr result (λ problem. KeepsFiles problem (S.files shelf.old) (S.files shelf.new)) }
-    ensures safe { IfTold (S.files shelf.old) (S.files shelf.new) (BeginsToWrite names.now.input.now names.now.output.now (option_map (λ j. j.now) names.now.journal) settings.now merge) }
+    ensures safe { IfTold (S.files shelf.old) (S.files shelf.new) (BeginsToWrite names.now.input.now names.now.output.now (option_map (λ j. j.now) names.now.journal) settings.now merge perturb) }
     ensures later { S.faults shelf.old ≤ S.faults shelf.new }
 {
     reads_once();
@@ -156,5 +162,6 @@ pub(crate) fn optimise_input<R: Threads + Sync, G: Gate, S: Shelf>(
         names.journal,
         settings,
         merge,
+        perturb,
     )
 }

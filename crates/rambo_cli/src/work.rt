@@ -133,13 +133,16 @@ pub(crate) fn work<R: Threads + Sync, S: Shelf, G: Gate>(
             journal,
             settings,
             merge,
+            perturb,
         } => {
             let names = Names {
                 input,
                 output,
                 journal,
             };
-            let figures = optimise_input(rt, alloc, keys, shelf, gate, &names, &settings, merge)?;
+            let figures = optimise_input(
+                rt, alloc, keys, shelf, gate, &names, &settings, merge, perturb,
+            )?;
             Ok(Done::Optimised(figures))
         }
         Command::Check {
@@ -154,8 +157,9 @@ pub(crate) fn work<R: Threads + Sync, S: Shelf, G: Gate>(
             seed,
             settings,
             merge,
+            perturb,
         } => {
-            let figures = show(rt, alloc, keys, gate, seed, &settings, merge)?;
+            let figures = show(rt, alloc, keys, gate, seed, &settings, merge, perturb)?;
             Ok(Done::Optimised(figures))
         }
         Command::Flat { input, output } => {

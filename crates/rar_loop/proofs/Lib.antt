@@ -16,3 +16,5 @@ pub mod WireFaults
 pub mod Filtering
 pub mod Spacing
 pub mod Noting
+pub mod Exchanges
+pub mod Turning

@@ -114,22 +114,33 @@ one_addition net c fault rest r false is =
     let none : (additions_from None n rest ≡ []) × _ = removals_add_none n rest r in
     rw (is, none.0, none.1) refl
 
+-- the steps of a pair that was put through
+steps_put : (net after : Net) (pair : Pair) (depth : ℕ) (records : List Record) → (r : IsReplaced net pair depth records after)
+    → steps_of records ≡ (if pair.candidate.fresh then NewNot pair.candidate.node ∷ [] else []) ++ (Add pair.candidate.gate (node (wire_for net pair.candidate)) ∷ Fix pair.fault.gate pair.fault.position pair.fault.value ∷ steps_of r.rest)
+steps_put net after pair depth records r = ap steps_of r.are ∙ steps_are pair.candidate net r.tree r.fix_tree pair.fault r.rest pair.candidate.fresh
+
+-- and their one addition
+pub addition_of : (net after : Net) (pair : Pair) (depth : ℕ) (records : List Record) → IsReplaced net pair depth records after
+    → additions net (steps_of records) ≡ record { before = net; candidate = pair.candidate; target = Some pair.fault; after = after } ∷ []
+addition_of net after pair depth records r =
+    let c : Candidate = pair.candidate in
+    let steps : List Step = (if c.fresh then NewNot c.node ∷ [] else []) ++ (Add c.gate (node (wire_for net c)) ∷ Fix pair.fault.gate pair.fault.position pair.fault.value ∷ steps_of r.rest) in
+    let are : steps_of records ≡ steps = steps_put net after pair depth records r in
+    let one : additions net steps ≡ record { before = net; candidate = c; target = Some pair.fault; after = net_after net steps } ∷ [] = one_addition net c pair.fault (steps_of r.rest) r.removals c.fresh refl in
+    let at : net_after net steps ≡ after = ap (net_after net) (sym are) ∙ accepted_after net after records r.accepted in
+    ap (additions net) are ∙ one ∙ ap (λ (n : Net). let a : Addition = record { before = net; candidate = c; target = Some pair.fault; after = n } in a ∷ []) at
+
 pub gained_of : (net after : Net) (pair : Pair) (depth : ℕ) (records : List Record) → IsReplaced net pair depth records after → wire_count after < wire_count net → IsGained net pair depth records after
 gained_of net after pair depth records r fewer =
     let c : Candidate = pair.candidate in
-    let steps : List Step = (if c.fresh then NewNot c.node ∷ [] else []) ++ (Add c.gate (node (wire_for net c)) ∷ Fix pair.fault.gate pair.fault.position pair.fault.value ∷ steps_of r.rest) in
-    let are : steps_of records ≡ steps = ap steps_of r.are ∙ steps_are c net r.tree r.fix_tree pair.fault r.rest c.fresh in
-    let last : net_after net (steps_of records) ≡ after = accepted_after net after records r.accepted in
-    let one : additions net steps ≡ record { before = net; candidate = c; target = Some pair.fault; after = net_after net steps } ∷ [] = one_addition net c pair.fault (steps_of r.rest) r.removals c.fresh refl in
-    let at : net_after net steps ≡ after = ap (net_after net) (sym are) ∙ last in
     record {
       accepted = r.accepted;
       fewer = fewer;
       tidy = r.tidy;
       swept = r.swept.swept;
       cost = (r.mid, (r.tidied, r.no_more));
-      clean = subst (IsClean false) (sym are) (clean_steps c (node (wire_for net c)) pair.fault (steps_of r.rest) r.removals c.fresh);
-      addition = ap (additions net) are ∙ one ∙ ap (λ (n : Net). let a : Addition = record { before = net; candidate = c; target = Some pair.fault; after = n } in a ∷ []) at;
+      clean = subst (IsClean false) (sym (steps_put net after pair depth records r)) (clean_steps c (node (wire_for net c)) pair.fault (steps_of r.rest) r.removals c.fresh);
+      addition = addition_of net after pair depth records r;
     }
 
 pub better_of :

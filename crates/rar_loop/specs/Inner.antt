@@ -1,8 +1,10 @@
 -- Definitions that no public contract reaches: words of private contracts, of invariants, and of laws for proofs.
 pub mod Changing
+pub mod Exchanging
 pub mod Going
 pub mod Improving
 pub mod Kept
+pub mod Perturbing
 pub mod Spaces
 pub mod Swept
 pub mod Trying

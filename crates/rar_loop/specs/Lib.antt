@@ -4,5 +4,6 @@ pub mod Removed
 pub mod Trying
 pub mod Ended
 pub mod Rounds
+pub mod Perturbed
 pub mod Rows
 pub mod Inner

@@ -18,7 +18,7 @@ use wire_edit::{BeginRefusal, Room, Trial, tidying_ends};
 
 // Room for all tries on a graph and on what they leave: one that gains makes a Not and two pins at most, and leaves fewer
 // wires.
-fn whole_room(graph: &Graph) -> Room
+pub(crate) fn whole_room(graph: &Graph) -> Room
     requires { pins_taken graph.now + live_nodes graph.now ≤ 1048576 }
     ensures pins { result.pins ≡ 2 * wire_count (net_of graph.now) }
     ensures nodes { result.nodes ≡ wire_count (net_of graph.now) }

@@ -5,9 +5,11 @@ mod beginning;
 mod candidates;
 mod changes;
 mod drawing;
+mod exchanging;
 mod fixing;
 mod laws;
 mod optimising;
+mod perturbing;
 mod refuting;
 mod removing;
 mod sweeping;
@@ -19,4 +21,5 @@ mod workspace;
 
 pub use laws::{run_begins, run_goes_on, worked_rows};
 pub use optimising::optimise;
+pub use perturbing::{Perturbed, perturb};
 pub use removing::remove_redundant;

@@ -94,7 +94,7 @@ fn new_pin(graph: &Graph, gate: NodeId) -> Fault
 }
 
 // The nodes that the candidate's wire may change: the gate, and the number that a fresh Not takes.
-fn changed_nodes(
+pub(crate) fn changed_nodes(
     alloc: Global,
     graph: &Graph,
     candidate: &Candidate,
@@ -168,7 +168,7 @@ fn add_wire(
 
 // Adds the wire, fixes the target and tidies, as far as both faults are refuted, and sweeps where that leaves no more
 // wires than before; whether it came to that.
-fn replace(
+pub(crate) fn replace(
     alloc: Global,
     space: &mut Workspace,
     log: &mut Vec<Record>,
@@ -233,7 +233,7 @@ fn replace(
 }
 
 // Takes the trial back to where it was lent.
-fn give_back(trial: &mut Trial)
+pub(crate) fn give_back(trial: &mut Trial)
     ensures { (lent : Tried) → IsLent lent → start_of trial.old ≡ start_of lent → trial.old.first ≡ lent.first → live_nodes lent.graph ≡ 2 + source_count (net_of lent.graph) + gate_count (net_of lent.graph) → IsBack lent trial.new }
 {
     trial.take_back();

@@ -1,4 +1,4 @@
-//! Searches on three nets, each with its verdict; the verdicts are those of an independent slow program.
+//! Searches on small nets, each with its verdict; the verdicts are those of an independent slow program, or worked by hand.
 ghost use Rattle.gate_graph.specs.Circuit.{net_of};
 ghost use Rattle.podem.specs.Searchers.{Serves};
 
@@ -6,14 +6,14 @@ mod beside;
 mod drawn;
 mod used;
 
-use gate_graph::{Graph, Question};
+use gate_graph::{Edit, Graph, Question, Undos};
 use podem::{Searcher, Verdict};
 use refutation::Item;
 use rm_base::NodeId;
 use std::alloc::Global;
 use std::test::Fail;
 use test_nets::worked::{ABSORBED, FOUR_GATES, ONE_GATE, ONE_GATE_TWICE};
-use test_nets::{Gate, Wiring, build_net, fault_at};
+use test_nets::{Gate, Wiring, build_net, fault_at, try_edit};
 
 #[derive(Clone, Copy)]
 enum Answer {
@@ -141,6 +141,54 @@ const ON_NOT_AT_FIRST: [Case; 6] = [
     hit!(5 0 true 2 [false true false]),
 ];
 
+// (7 + 11) b' and 7 d d', where 7 is a' b and 11 is a' c. The sum is gate 10, which gets its pin of 11 by an edit alone: so its
+// number is less than that of its driver.
+const BEFORE_THE_EDIT: Wiring<'static> = Wiring {
+    sources: 4,
+    gates: &[
+        Gate::Not(2),
+        Gate::And(&[6, 3]),
+        Gate::Not(5),
+        Gate::And(&[7, 5, 8]),
+        Gate::Or(&[7]),
+        Gate::And(&[6, 4]),
+        Gate::Not(3),
+        Gate::And(&[10, 12]),
+    ],
+    observed: &[9, 13],
+};
+
+// What a search wants next, by the rule: first the opposite of the stuck value at the pin's driver, and then, at the first
+// unknown pin of the least gate to which the difference has come and where it may go on, the value that lets it on. A gate is
+// to have a value through its first unknown pin.
+const ON_A_LATE_PIN: [Case; 4] = [
+    // a = 0, as 6 is to differ. Of its readers 7 is the lesser: b = 1. Then 9 and 11 are open, and 9 is the lesser: d = 1, which
+    // makes 9 equal, as b does 13; and so does d = 0. So b = 0, and 7 is equal. Only 11 still has the difference at a pin, and
+    // not 10, which had it under b = 1 and has the lesser number: c = 1, the sixth edge, and 13 differs.
+    tree!(Spent 6 0 true 5 [zero 2, one 3, one 5, quiet, quiet, here, untried]),
+    hit!(6 0 true 6 [false false true false]),
+    // 10 is to be 1, and so 7, and so 6: a = 0. Now 7 is to be 1 still: b = 1, which makes 13 equal. Under b = 0 it is 11 that
+    // is to be 1: c = 1, the fourth edge, and 13 differs.
+    tree!(Spent 13 0 false 3 [zero 2, one 3, quiet, here, untried]),
+    hit!(13 0 false 4 [false false true false]),
+];
+
+// The net after the edit.
+fn net_with_late_pin(alloc: Global) -> Result<Graph, Fail> {
+    let mut graph = build_net(alloc, &BEFORE_THE_EDIT)?;
+    graph.leads_back();
+    let mut undos = Undos::new(alloc);
+    let edit = Edit::Append {
+        gate: NodeId(10),
+        driver: NodeId(11),
+    };
+    if try_edit(alloc, &mut graph, &mut undos, &edit)? {
+        Ok(graph)
+    } else {
+        Err("not edited".into())
+    }
+}
+
 fn agrees(verdict: &Verdict, answer: Answer) -> bool {
     match (verdict, answer) {
         (Verdict::Detected(vector), Answer::Detected(bits)) => vector.values() == bits,
@@ -212,5 +260,12 @@ fn searches_on_four_gates(rt: HostRuntime) -> Result<(), Fail> {
 fn a_search_turns_where_it_should_at_first(rt: HostRuntime) -> Result<(), Fail> {
     let graph = build_net(rt.alloc(), &NOT_AT_FIRST)?;
     assert!(rt; holds(rt.alloc(), &graph, &ON_NOT_AT_FIRST)?);
+    Ok(())
+}
+
+#[test]
+fn a_search_goes_on_at_the_least_gate(rt: HostRuntime) -> Result<(), Fail> {
+    let graph = net_with_late_pin(rt.alloc())?;
+    assert!(rt; holds(rt.alloc(), &graph, &ON_A_LATE_PIN)?);
     Ok(())
 }

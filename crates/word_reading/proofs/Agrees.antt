@@ -9,7 +9,7 @@ use Rattle.rm_base.specs.declared.settings.Settings.{Settings}
 use Rattle.word_reading.specs.declared.options.Options.{Options}
 use Rattle.word_reading.specs.Inner.Judged.{accepted, judged, judged_parts, rules}
 use Rattle.word_reading.specs.Inner.Commands.{command_in, has_only, made_by, names_in, number_at, options_in, settings_in, up_to_none}
-use Rattle.word_reading.specs.Words.{Asked, CommandRule, OptionRule, Part, name, setting, all_together, asked, asked_by, at_most_once, budget_rule, check_by, command_rules, convert_by, cut_by, demo_by, depth_rule, equal_by, flat_by, given, has_keys, is_word, judge_by, merge_rule, names, opt_by, optcare_by, option_rules, options_of, is_window_file, number, parts, question_keys, replay_by, rule_of, run_keys, setting_keys, settings_of, sew_by, shift_rule, tests_by, together, tries_rule, value_in, window_keys, workers_rule}
+use Rattle.word_reading.specs.Words.{Asked, CommandRule, OptionRule, Part, name, setting, all_together, asked, asked_by, at_most_once, budget_rule, check_by, command_rules, convert_by, cut_by, demo_by, depth_rule, equal_by, flat_by, given, has_keys, is_word, judge_by, merge_rule, names, opt_by, optcare_by, option_rules, perturb_rule, options_of, is_window_file, number, parts, question_keys, replay_by, rule_of, run_keys, setting_keys, settings_of, sew_by, shift_rule, tests_by, together, tries_rule, value_in, window_keys, workers_rule}
 use Rattle.word_reading.specs.declared.options.TheConstants.{LEAST_WIDTH, MOST_WIDTH}
 use Rattle.word_reading.proofs.Numbers.{number_in_some, number_some}
 use Rattle.word_reading.proofs.Slots.{fits, row_with, row_for}
@@ -29,13 +29,15 @@ no_setting (Some d) (Some b) (Some t) (Some w) (inr (inl e)) = cc
 no_setting (Some d) (Some b) (Some t) (Some w) (inr (inr (inl e))) = cc
 no_setting (Some d) (Some b) (Some t) (Some w) (inr (inr (inr e))) = cc
 
-no_options : (s : Option Settings) (m h : Option ℕ) → (s ≡ None) ⊎ ((m ≡ None) ⊎ (h ≡ None)) → all_together s m h ≡ None
-no_options None m h e = refl
-no_options (Some s) None h e = refl
-no_options (Some s) (Some m) None e = refl
-no_options (Some s) (Some m) (Some h) (inl e) = cc
-no_options (Some s) (Some m) (Some h) (inr (inl e)) = cc
-no_options (Some s) (Some m) (Some h) (inr (inr e)) = cc
+no_options : (s : Option Settings) (m p h : Option ℕ) → (s ≡ None) ⊎ ((m ≡ None) ⊎ ((p ≡ None) ⊎ (h ≡ None))) → all_together s m p h ≡ None
+no_options None m p h e = refl
+no_options (Some s) None p h e = refl
+no_options (Some s) (Some m) None h e = refl
+no_options (Some s) (Some m) (Some p) None e = refl
+no_options (Some s) (Some m) (Some p) (Some h) (inl e) = cc
+no_options (Some s) (Some m) (Some p) (Some h) (inr (inl e)) = cc
+no_options (Some s) (Some m) (Some p) (Some h) (inr (inr (inl e))) = cc
+no_options (Some s) (Some m) (Some p) (Some h) (inr (inr (inr e))) = cc
 
 options_none : (ps : List Part) (j : OptionRule) → IsOption j → value_in ps j ≡ None → options_of ps ≡ None
 options_none ps =
@@ -44,10 +46,11 @@ options_none ps =
     let t = value_in ps tries_rule in
     let w = value_in ps workers_rule in
     let m = value_in ps merge_rule in
+    let p = value_in ps perturb_rule in
     let h = value_in ps shift_rule in
-    let failed : settings_of ps ≡ None → options_of ps ≡ None = λ e. no_options (settings_of ps) m h (inl e) in
+    let failed : settings_of ps ≡ None → options_of ps ≡ None = λ e. no_options (settings_of ps) m p h (inl e) in
     each_option (λ (j : OptionRule). value_in ps j ≡ None → options_of ps ≡ None)
-    ((λ e. failed (no_setting d b t w (inl e))), ((λ e. failed (no_setting d b t w (inr (inl e)))), ((λ e. failed (no_setting d b t w (inr (inr (inl e))))), ((λ e. failed (no_setting d b t w (inr (inr (inr e))))), ((λ e. no_options (settings_of ps) m h (inr (inl e))), ((λ e. no_options (settings_of ps) m h (inr (inr e))), tt))))))
+    ((λ e. failed (no_setting d b t w (inl e))), ((λ e. failed (no_setting d b t w (inr (inl e)))), ((λ e. failed (no_setting d b t w (inr (inr (inl e))))), ((λ e. failed (no_setting d b t w (inr (inr (inr e))))), ((λ e. no_options (settings_of ps) m p h (inr (inl e))), ((λ e. no_options (settings_of ps) m p h (inr (inr (inl e)))), ((λ e. no_options (settings_of ps) m p h (inr (inr (inr e)))), tt)))))))
 
 read_in_order : (a b c d : Option Text) (xs : List Text) → a ≡ slice_get xs 0 → b ≡ slice_get xs 1 → c ≡ slice_get xs 2 → d ≡ slice_get xs 3 → length xs ≤ 4 → up_to_none (a ∷ b ∷ c ∷ d ∷ []) ≡ xs
 read_in_order a b c d [] e f g k few = rw e refl
@@ -72,7 +75,7 @@ module _ (ps : List Part) (rows : List Row) (h : Holds form rows ps) where
   settings_are = rw (value depth_rule (0, refl) 8 (lit< tt), value budget_rule (1, refl) 32 (lit< tt), value tries_rule (2, refl) 32 (lit< tt), value workers_rule (3, refl) 8 (lit< tt)) refl
 
   options_are : options_of ps ≡ Some (options_in rows)
-  options_are = rw (settings_are, value merge_rule (4, refl) 8 (lit< tt), value shift_rule (5, refl) 32 (lit< tt)) refl
+  options_are = rw (settings_are, value merge_rule (4, refl) 8 (lit< tt), value perturb_rule (5, refl) 8 (lit< tt), value shift_rule (6, refl) 32 (lit< tt)) refl
 
   -- ---- the names
 
@@ -300,31 +303,33 @@ among_first false true z e = refl
 among_first false false z e = cc
 
 questions_listed : (k : Text) → IsIn question_keys k → IsIn setting_keys k
-questions_listed k e = among_first (is_word k depth_rule.key) (is_word k budget_rule.key) (list_any (is_word k) (tries_rule.key ∷ workers_rule.key ∷ merge_rule.key ∷ shift_rule.key ∷ [])) e
+questions_listed k e = among_first (is_word k depth_rule.key) (is_word k budget_rule.key) (list_any (is_word k) (tries_rule.key ∷ workers_rule.key ∷ merge_rule.key ∷ perturb_rule.key ∷ shift_rule.key ∷ [])) e
 
--- of five keys in front of another one
-among_five : (p q r s t z : Bool) → (p || (q || (r || (s || (t || false))))) ≡ true → (p || (q || (r || (s || (t || (z || false)))))) ≡ true
-among_five true q r s t z e = refl
-among_five false true r s t z e = refl
-among_five false false true s t z e = refl
-among_five false false false true t z e = refl
-among_five false false false false true z e = refl
-among_five false false false false false z e = cc
+-- of six keys in front of another one
+among_six : (p q r s t u z : Bool) → (p || (q || (r || (s || (t || (u || false)))))) ≡ true → (p || (q || (r || (s || (t || (u || (z || false))))))) ≡ true
+among_six true q r s t u z e = refl
+among_six false true r s t u z e = refl
+among_six false false true s t u z e = refl
+among_six false false false true t u z e = refl
+among_six false false false false true u z e = refl
+among_six false false false false false true z e = refl
+among_six false false false false false false z e = cc
 
 runs_listed : (k : Text) → IsIn run_keys k → IsIn setting_keys k
-runs_listed k e = among_five (is_word k depth_rule.key) (is_word k budget_rule.key) (is_word k tries_rule.key) (is_word k workers_rule.key) (is_word k merge_rule.key) (is_word k shift_rule.key) e
+runs_listed k e = among_six (is_word k depth_rule.key) (is_word k budget_rule.key) (is_word k tries_rule.key) (is_word k workers_rule.key) (is_word k merge_rule.key) (is_word k perturb_rule.key) (is_word k shift_rule.key) e
 
--- the last of six keys
-among_last : (p q r s t z : Bool) → (z || false) ≡ true → (p || (q || (r || (s || (t || (z || false)))))) ≡ true
-among_last true q r s t z e = refl
-among_last false true r s t z e = refl
-among_last false false true s t z e = refl
-among_last false false false true t z e = refl
-among_last false false false false true z e = refl
-among_last false false false false false z e = e
+-- the last of seven keys
+among_last : (p q r s t u z : Bool) → (z || false) ≡ true → (p || (q || (r || (s || (t || (u || (z || false))))))) ≡ true
+among_last true q r s t u z e = refl
+among_last false true r s t u z e = refl
+among_last false false true s t u z e = refl
+among_last false false false true t u z e = refl
+among_last false false false false true u z e = refl
+among_last false false false false false true z e = refl
+among_last false false false false false false z e = e
 
 windows_listed : (k : Text) → IsIn window_keys k → IsIn setting_keys k
-windows_listed k e = among_last (is_word k depth_rule.key) (is_word k budget_rule.key) (is_word k tries_rule.key) (is_word k workers_rule.key) (is_word k merge_rule.key) (is_word k shift_rule.key) e
+windows_listed k e = among_last (is_word k depth_rule.key) (is_word k budget_rule.key) (is_word k tries_rule.key) (is_word k workers_rule.key) (is_word k merge_rule.key) (is_word k perturb_rule.key) (is_word k shift_rule.key) e
 
 are_modest : AllByRecursion IsModest command_rules
 are_modest = (

@@ -13,6 +13,7 @@ pub enum Command<'a> {
         journal: Option<&'a str>,
         settings: Settings,
         merge: u8,
+        perturb: u8,
     },
     /// Replays the journal over the input, and compares with the output.
     Check {
@@ -86,6 +87,7 @@ pub enum Command<'a> {
         seed: u64,
         settings: Settings,
         merge: u8,
+        perturb: u8,
     },
 }
 

@@ -5,7 +5,8 @@ ghost use Rattle.word_reading.specs.Words.{question_keys, run_keys, window_keys}
 ghost use Rattle.word_reading.specs.Inner.Commands.{has_only, number_at, options_in, settings_in};
 
 use crate::options::{
-    Options, USUAL_BUDGET, USUAL_DEPTH, USUAL_MERGE, USUAL_SHIFT, USUAL_TRIES, USUAL_WORKERS,
+    Options, USUAL_BUDGET, USUAL_DEPTH, USUAL_MERGE, USUAL_PERTURB, USUAL_SHIFT, USUAL_TRIES,
+    USUAL_WORKERS,
 };
 use clap::ArgMatches;
 use rm_base::Settings;
@@ -40,6 +41,7 @@ pub(crate) fn read_options(given: &ArgMatches<'_>) -> Options
     Options {
         settings: settings(given),
         merge: byte_option(given, "merge").unwrap_or(USUAL_MERGE),
+        perturb: byte_option(given, "perturb").unwrap_or(USUAL_PERTURB),
         shift: word_option(given, "shift").unwrap_or(USUAL_SHIFT),
     }
 }
@@ -67,6 +69,7 @@ pub(crate) fn has_no_option(given: &ArgMatches<'_>) -> bool
         && !is_given(given, "tries")
         && !is_given(given, "workers")
         && !is_given(given, "merge")
+        && !is_given(given, "perturb")
         && !is_given(given, "shift")
 }
 
@@ -77,6 +80,7 @@ pub(crate) fn has_question_options(given: &ArgMatches<'_>) -> bool
     !is_given(given, "tries")
         && !is_given(given, "workers")
         && !is_given(given, "merge")
+        && !is_given(given, "perturb")
         && !is_given(given, "shift")
 }
 
@@ -96,4 +100,5 @@ pub(crate) fn has_window_options(given: &ArgMatches<'_>) -> bool
         && !is_given(given, "tries")
         && !is_given(given, "workers")
         && !is_given(given, "merge")
+        && !is_given(given, "perturb")
 }

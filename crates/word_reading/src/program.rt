@@ -7,8 +7,8 @@ ghost use Rattle.word_reading.specs.Words.{budget_rule, depth_rule, option_rules
 ghost use Rattle.word_reading.specs.Inner.Program.{bare as bare_app, clap_option, name_ids, number_rule, program as program_app, with_rules};
 
 use crate::options::{
-    LEAST_BUDGET, LEAST_WORKERS, MOST_BUDGET, MOST_DEPTH, MOST_MERGE, MOST_SHIFT, MOST_TRIES,
-    MOST_WORKERS,
+    LEAST_BUDGET, LEAST_WORKERS, MOST_BUDGET, MOST_DEPTH, MOST_MERGE, MOST_PERTURB, MOST_SHIFT,
+    MOST_TRIES, MOST_WORKERS,
 };
 use clap::builder::ValueParser;
 use clap::{Arg, Command};
@@ -64,8 +64,10 @@ fn with_options<'a>(alloc: Global, command: Command<'a>) -> Result<Command<'a>, 
 {
     let command = with_settings(alloc, command)?;
     let merge = option(alloc, "merge", 0, u64::from(MOST_MERGE));
+    let perturb = option(alloc, "perturb", 0, u64::from(MOST_PERTURB));
     let shift = option(alloc, "shift", 0, u64::from(MOST_SHIFT));
     let command = with(command, merge)?;
+    let command = with(command, perturb)?;
     with(command, shift)
 }
 

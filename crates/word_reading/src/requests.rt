@@ -27,6 +27,7 @@ fn opt_without_journal<'a>(input: &'a str, output: &'a str, options: Options) ->
         journal: None,
         settings: options.settings,
         merge: options.merge,
+        perturb: options.perturb,
     })
 }
 
@@ -47,6 +48,7 @@ fn opt_with_journal<'a>(
         journal: Some(journal),
         settings: options.settings,
         merge: options.merge,
+        perturb: options.perturb,
     })
 }
 
@@ -362,6 +364,7 @@ fn demo<'a>(names: Positionals<'a>, options: Options) -> Option<Command<'a>>
             seed,
             settings: options.settings,
             merge: options.merge,
+            perturb: options.perturb,
         }),
         None => None,
     }

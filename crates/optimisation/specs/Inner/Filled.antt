@@ -11,13 +11,13 @@ use Rattle.journal_text.specs.declared.record.Entry.TheVariants.{End}
 use Rattle.journal_check.specs.Accepts.{IsAcceptedFrom}
 use Rattle.closing_pass.specs.Recording.{verdict_records}
 use Rattle.closing_pass.specs.Reports.{AreClosed}
-use Rattle.optimisation.specs.Inner.Staged.{AreStages}
+use Rattle.optimisation.specs.Inner.Turned.{AreTurns}
 use Rattle.optimisation.specs.declared.rounds.Rounds.{Rounds}
 
 -- all steps, the verdicts and the end
-pub record IsFilled (start : Net) (settings : Settings) (merge : ℕ) (rounds : Rounds) (old new : Option Files) (journal : List ℕ) : Type 0 where
+pub record IsFilled (start : Net) (settings : Settings) (merge perturb : ℕ) (rounds : Rounds) (old new : Option Files) (journal : List ℕ) : Type 0 where
   pub records : List Record
-  pub run : AreStages start settings merge records rounds
+  pub run : AreTurns start settings merge perturb records rounds
   pub valid : AreEntries (journal_entries settings.budget (records ++ verdict_records rounds.report.verdicts.items))
   pub closed : AreClosed (net_of rounds.last.graph) settings.budget rounds.report.verdicts.items
   pub written : HasAppended old new journal (records_text (records ++ verdict_records rounds.report.verdicts.items) ++ entry_text End)

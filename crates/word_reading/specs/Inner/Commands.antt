@@ -8,7 +8,7 @@ use Rattle.rm_base.specs.declared.settings.Settings.{Settings}
 use Rattle.word_reading.specs.Words.{Asked, CommandRule, OptionRule, is_word, option_rules, rule_of}
 use Rattle.word_reading.specs.Inner.Program.{name_ids}
 use Rattle.word_reading.specs.declared.options.Options.{Options}
-use Rattle.word_reading.specs.declared.options.TheConstants.{USUAL_BUDGET, USUAL_DEPTH, USUAL_MERGE, USUAL_SHIFT, USUAL_TRIES, USUAL_WORKERS}
+use Rattle.word_reading.specs.declared.options.TheConstants.{USUAL_BUDGET, USUAL_DEPTH, USUAL_MERGE, USUAL_PERTURB, USUAL_SHIFT, USUAL_TRIES, USUAL_WORKERS}
 use Rattle.word_reading.specs.declared.positionals.Positionals.{Positionals}
 
 -- the number of a text, where it has at most `bits` bits
@@ -32,6 +32,7 @@ abbrev pub options_in : List Row → Options
 options_in rows = record {
   settings = settings_in rows;
   merge = unwrap_or (number_at 8 (codes "merge") rows) USUAL_MERGE;
+  perturb = unwrap_or (number_at 8 (codes "perturb") rows) USUAL_PERTURB;
   shift = unwrap_or (number_at 32 (codes "shift") rows) USUAL_SHIFT;
 }
 

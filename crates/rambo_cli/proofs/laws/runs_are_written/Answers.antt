@@ -8,7 +8,7 @@ use Rattle.graph_to_model.specs.NetModel.{model_of_net}
 use Rattle.blif_format.specs.Text.{text_of}
 
 pub returns : goal.returns
-returns c = λ m settings merge net steps verdicts figures model ranked parts few limits most over.
+returns c = λ m settings merge perturb net steps verdicts figures model ranked parts few limits most over.
     let fit = fits c.values_exist.ensures m net parts over.keeps in
     let is = c.tidy_nets_have_models.ensures net m over.keeps.form over.tidy model fit few in
     let text = c.written_texts_read.ensures (model_of_net m net) is.well_formed is.ranked in
