@@ -5,10 +5,13 @@ ghost use Rattle.gate_net.specs.Faults.{IsTest};
 ghost use Rattle.gate_net.specs.Net.{Net};
 ghost use Rattle.gate_graph.specs.Circuit.{net_of};
 ghost use Rattle.podem.specs.Searchers.{Serves};
+ghost use Rattle.podem.specs.Verdicts.{IsDecided, IsVerdict};
+ghost use Rattle.fault_decision.specs.Serving.{IsServing as DecidesOn};
 ghost use Rattle.recursive_learning.specs.Serving.{IsServing};
 ghost use Rattle.closing_pass.specs.Verdicts.{AreVerdicts, HavePins, IsAnswer};
 
 use candidate_vectors::complete;
+use fault_decision::Decider;
 use fault_sim::Lanes;
 use gate_graph::{Graph, Question};
 use podem::{Searcher, Verdict};
@@ -26,6 +29,15 @@ struct Tools {
 
 // Most faults are detected by a search of so few edges, which costs less than learning.
 const FEW_EDGES: u32 = 16;
+
+// A smaller budget asks for no more than it says.
+const USUAL_BUDGET: u32 = 256;
+
+// So many splits decide most faults whose search was cut short; fewer where the graph is large, since each may look at every
+// node.
+const MOST_SPLITS: u32 = 4096;
+
+const MOST_NODES: u32 = 8192;
 
 // A vector that completes the facts to which lines lead, and detects the fault.
 fn complete_lines(
@@ -68,6 +80,83 @@ fn detected_soon(
     }
 }
 
+// Whether the search was cut short.
+fn is_spent(verdict: &Verdict) -> bool {
+    match verdict {
+        Verdict::Spent(_) => true,
+        _ => false,
+    }
+}
+
+// Makes a decider, where none is kept.
+fn make_decider(alloc: Global, graph: &Graph, kept: &mut Option<Decider>) -> Result<(), NoMemory>
+    requires { IfSome kept.old (DecidesOn (net_of graph.now)) }
+    ensures decides { OnOk result (IfSome kept.new (DecidesOn (net_of graph.now))) }
+{
+    if kept.is_none() {
+        *kept = Some(Decider::for_graph(alloc, graph)?);
+    }
+    Ok(())
+}
+
+// How many splits a fault may take.
+fn splits_for(graph: &Graph) -> u32 {
+    let bound = graph.node_bound();
+    if bound <= MOST_NODES {
+        return MOST_SPLITS;
+    }
+    MOST_SPLITS * MOST_NODES / bound
+}
+
+// The verdict of a fault whose search was cut short, where it is decided. The decider is made when it is first asked, and kept.
+fn decide_spent(
+    alloc: Global,
+    question: &Question<'_>,
+    kept: &mut Option<Decider>,
+    lanes: &mut Lanes,
+) -> Result<Option<Verdict>, NoMemory>
+    requires decides { IfSome kept.old (DecidesOn (net_of question.now.graph.now)) }
+    requires fits { Fits lanes.old (net_of question.now.graph.now) }
+    ensures verdict { IfOk result (λ found. IfSome found (λ v. (budget : ℕ) → IsVerdict (net_of question.now.graph.now) question.now.fault budget v)) }
+    ensures decided { IfOk result (λ found. IfSome found IsDecided) }
+    ensures decides { OnOk result (IfSome kept.new (DecidesOn (net_of question.now.graph.now))) }
+    ensures fits { (net : Net) → Fits lanes.old net → Fits lanes.new net }
+{
+    make_decider(alloc, question.graph, kept)?;
+    match kept {
+        Some(decider) => decider.decide(question, splits_for(question.graph), lanes),
+        None => Ok(None),
+    }
+}
+
+// The verdict of a search with the budget, or where that was cut short what the fault is decided to be.
+fn search_longer(
+    alloc: Global,
+    question: &Question<'_>,
+    budget: u32,
+    tools: &mut Tools,
+    decider: &mut Option<Decider>,
+) -> Result<Verdict, NoMemory>
+    requires budget { 0 < budget }
+    requires searches { Serves tools.old.searcher (net_of question.now.graph.now) }
+    requires fits { Fits tools.old.lanes (net_of question.now.graph.now) }
+    requires decides { IfSome decider.old (DecidesOn (net_of question.now.graph.now)) }
+    ensures answer { IfOk result (IsAnswer (net_of question.now.graph.now) budget question.now.fault) }
+    ensures searches { (net : Net) → Serves tools.old.searcher net → Serves tools.new.searcher net }
+    ensures fits { (net : Net) → Fits tools.old.lanes net → Fits tools.new.lanes net }
+    ensures decides { OnOk result (IfSome decider.new (DecidesOn (net_of question.now.graph.now))) }
+{
+    let verdict = tools.searcher.search(question, budget)?;
+    if budget < USUAL_BUDGET || !is_spent(&verdict) {
+        return Ok(verdict);
+    }
+    let decided = decide_spent(alloc, question, decider, &mut tools.lanes)?;
+    match decided {
+        Some(other) => Ok(other),
+        None => Ok(verdict),
+    }
+}
+
 // The verdict of a fault that isn't refuted: a vector that completes the facts, or else what a search with the budget answers.
 fn search_open(
     alloc: Global,
@@ -75,20 +164,23 @@ fn search_open(
     budget: u32,
     facts: &FactSet,
     tools: &mut Tools,
+    decider: &mut Option<Decider>,
 ) -> Result<Verdict, NoMemory>
     requires budget { 0 < budget }
     requires searches { Serves tools.old.searcher (net_of question.now.graph.now) }
     requires fits { Fits tools.old.lanes (net_of question.now.graph.now) }
+    requires decides { IfSome decider.old (DecidesOn (net_of question.now.graph.now)) }
     ensures answer { IfOk result (IsAnswer (net_of question.now.graph.now) budget question.now.fault) }
     ensures searches { (net : Net) → Serves tools.old.searcher net → Serves tools.new.searcher net }
     ensures fits { (net : Net) → Fits tools.old.lanes net → Fits tools.new.lanes net }
+    ensures decides { OnOk result (IfSome decider.new (DecidesOn (net_of question.now.graph.now))) }
 {
     if budget > FEW_EDGES {
         if let Some(vector) = complete(alloc, question, facts, &mut tools.lanes)? {
             return Ok(Verdict::Detected(vector));
         }
     }
-    tools.searcher.search(question, budget)
+    search_longer(alloc, question, budget, tools, decider)
 }
 
 // The verdict of the fault: it is refuted at the depth of the settings, and else searched with their budget. As most faults
@@ -99,16 +191,19 @@ fn answer(
     settings: &Settings,
     refuter: &mut Refuter,
     tools: &mut Tools,
+    decider: &mut Option<Decider>,
 ) -> Result<Verdict, NoMemory>
     requires depth { settings.now.depth ≤ 2 }
     requires budget { 0 < settings.now.budget }
     requires refutes { IsServing (net_of question.now.graph.now) refuter.old }
     requires searches { Serves tools.old.searcher (net_of question.now.graph.now) }
     requires fits { Fits tools.old.lanes (net_of question.now.graph.now) }
+    requires decides { IfSome decider.old (DecidesOn (net_of question.now.graph.now)) }
     ensures answer { IfOk result (IsAnswer (net_of question.now.graph.now) settings.now.budget question.now.fault) }
     ensures refutes { OnOk result (IsServing (net_of question.now.graph.now) refuter.new) }
     ensures searches { (net : Net) → Serves tools.old.searcher net → Serves tools.new.searcher net }
     ensures fits { (net : Net) → Fits tools.old.lanes net → Fits tools.new.lanes net }
+    ensures decides { OnOk result (IfSome decider.new (DecidesOn (net_of question.now.graph.now))) }
 {
     if settings.budget > FEW_EDGES {
         if let Some(vector) = detected_soon(alloc, question, refuter, tools)? {
@@ -117,12 +212,50 @@ fn answer(
     }
     match refuter.refute(question, settings.depth)? {
         Some(tree) => Ok(Verdict::Refuted(tree)),
-        None => search_open(alloc, question, settings.budget, refuter.facts(), tools),
+        None => search_open(
+            alloc,
+            question,
+            settings.budget,
+            refuter.facts(),
+            tools,
+            decider,
+        ),
     }
 }
 
 // The verdicts of the faults, in order.
 fn answer_each(
+    alloc: Global,
+    graph: &Graph,
+    faults: &[Fault],
+    settings: &Settings,
+    refuter: &mut Refuter,
+    tools: &mut Tools,
+    decider: &mut Option<Decider>,
+) -> Result<Vec<Verdict>, NoMemory>
+    requires pins { HavePins (net_of graph.now) faults.now }
+    requires depth { settings.now.depth ≤ 2 }
+    requires budget { 0 < settings.now.budget }
+    requires refutes { IsServing (net_of graph.now) refuter.old }
+    requires searches { Serves tools.old.searcher (net_of graph.now) }
+    requires fits { Fits tools.old.lanes (net_of graph.now) }
+    requires decides { IfSome decider.old (DecidesOn (net_of graph.now)) }
+    ensures { IfOk result (λ v. AreVerdicts (net_of graph.now) settings.now.budget faults.now v.items) }
+{
+    let mut verdicts = Vec::with_capacity(alloc, faults.len())?;
+    for fault in faults {
+        let question = Question {
+            graph,
+            fault: *fault,
+        };
+        let verdict = answer(alloc, &question, settings, refuter, tools, decider)?;
+        verdicts.push(verdict)?;
+    }
+    Ok(verdicts)
+}
+
+// The same, with no decider made yet.
+fn answer_lazily(
     alloc: Global,
     graph: &Graph,
     faults: &[Fault],
@@ -138,16 +271,8 @@ fn answer_each(
     requires fits { Fits tools.old.lanes (net_of graph.now) }
     ensures { IfOk result (λ v. AreVerdicts (net_of graph.now) settings.now.budget faults.now v.items) }
 {
-    let mut verdicts = Vec::with_capacity(alloc, faults.len())?;
-    for fault in faults {
-        let question = Question {
-            graph,
-            fault: *fault,
-        };
-        let verdict = answer(alloc, &question, settings, refuter, tools)?;
-        verdicts.push(verdict)?;
-    }
-    Ok(verdicts)
+    let mut decider = None;
+    answer_each(alloc, graph, faults, settings, refuter, tools, &mut decider)
 }
 
 // The same, by a refuter that is made for them.
@@ -166,7 +291,7 @@ fn answer_all(
     ensures { IfOk result (λ v. AreVerdicts (net_of graph.now) settings.now.budget faults.now v.items) }
 {
     let mut refuter = Refuter::for_graph(alloc, graph)?;
-    answer_each(alloc, graph, faults, settings, &mut refuter, tools)
+    answer_lazily(alloc, graph, faults, settings, &mut refuter, tools)
 }
 
 /// The verdicts of the faults, in order, by one refuter and one set of tools.

@@ -11,6 +11,7 @@ loop-fault-preserved c = record {
   refutes = c.in_ok-verdict.ensures.refutes;
   searches = c.in_ok-verdict.ensures.searches (net_of c.args.graph.now) c.loop-fault.invariant.searches;
   fits = c.in_ok-verdict.ensures.fits (net_of c.args.graph.now) c.loop-fault.invariant.fits;
+  decides = c.in_ok-verdict.ensures.decides;
 }
 
 pub invariant_of-question : goal.invariant_of-question
