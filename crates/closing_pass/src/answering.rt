@@ -35,7 +35,7 @@ const USUAL_BUDGET: u32 = 256;
 
 // So many splits decide most faults whose search was cut short; fewer where the graph is large, since each may look at every
 // node.
-const MOST_SPLITS: u32 = 1024;
+const MOST_SPLITS: u32 = 4096;
 
 const MOST_NODES: u32 = 2048;
 

@@ -190,7 +190,13 @@ struct FlatText {
 }
 
 fn flat_text(alloc: Global, keys: NameKeys, text: &[u8]) -> Result<FlatText, Fail> {
-    let flat = flatten_text(alloc, keys, text, MOST)??;
+    if text.len() > 4_294_967_295 {
+        return Err(Fail::new("a text that is too long"));
+    }
+    let flat = match flatten(alloc, keys, text, MOST) {
+        Ok(flat) => flat,
+        Err(refusal) => return Err(Fail::from(refusal)),
+    };
     let written = write_model(alloc, &flat.model)?;
     Ok(FlatText {
         instances: flat.instances,
