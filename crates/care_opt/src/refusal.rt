@@ -3,7 +3,7 @@ use rm_base::NoMemory as WantOfMemory;
 use std::error::Error;
 use std::fmt;
 
-/// Why a model isn't optimised under a care model. The first that stands in this order is told, and want of memory may come at
+/// Why a model isn't optimised under a care model. The first that stands in this order is told, and out of memory may come at
 /// any models.
 #[derive(Clone, Copy, Debug, PartialEq, Eq)]
 pub enum CareRefusal {

@@ -10,6 +10,7 @@ ghost use Rattle.fault_decision.specs.Serving.{IsServing as DecidesOn};
 ghost use Rattle.recursive_learning.specs.Serving.{IsServing};
 ghost use Rattle.closing_pass.specs.Verdicts.{AreVerdicts, HavePins, IsAnswer};
 
+use crate::answers::Answers;
 use candidate_vectors::complete;
 use fault_decision::Decider;
 use fault_sim::Lanes;
@@ -20,11 +21,12 @@ use refutation::FactSet;
 use rm_base::{Fault, NoMemory, Settings, Vector};
 use std::alloc::Global;
 
-// What searches for tests on a graph, and what simulates it.
+// What searches for tests on a graph, and what simulates it; and whether faults whose search was cut short are searched again.
 #[derive(Drop)]
 struct Tools {
     searcher: Searcher,
     lanes: Lanes,
+    again: bool,
 }
 
 // Most faults are detected by a search of so few edges, which costs less than learning.
@@ -147,7 +149,7 @@ fn search_longer(
     ensures decides { OnOk result (IfSome decider.new (DecidesOn (net_of question.now.graph.now))) }
 {
     let verdict = tools.searcher.search(question, budget)?;
-    if budget < USUAL_BUDGET || !is_spent(&verdict) {
+    if !tools.again || budget < USUAL_BUDGET || !is_spent(&verdict) {
         return Ok(verdict);
     }
     let decided = decide_spent(alloc, question, decider, &mut tools.lanes)?;
@@ -254,6 +256,18 @@ fn answer_each(
     Ok(verdicts)
 }
 
+// How many units of work all that served the faults has done.
+fn work_of(refuter: &Refuter, searcher: &Searcher, decider: &Option<Decider>) -> u64 {
+    let decided = match decider {
+        Some(made) => made.work_done(),
+        None => 0,
+    };
+    refuter
+        .work_done()
+        .saturating_add(searcher.work_done())
+        .saturating_add(decided)
+}
+
 // The same, with no decider made yet.
 fn answer_lazily(
     alloc: Global,
@@ -262,17 +276,19 @@ fn answer_lazily(
     settings: &Settings,
     refuter: &mut Refuter,
     tools: &mut Tools,
-) -> Result<Vec<Verdict>, NoMemory>
+) -> Result<Answers, NoMemory>
     requires pins { HavePins (net_of graph.now) faults.now }
     requires depth { settings.now.depth ≤ 2 }
     requires budget { 0 < settings.now.budget }
     requires refutes { IsServing (net_of graph.now) refuter.old }
     requires searches { Serves tools.old.searcher (net_of graph.now) }
     requires fits { Fits tools.old.lanes (net_of graph.now) }
-    ensures { IfOk result (λ v. AreVerdicts (net_of graph.now) settings.now.budget faults.now v.items) }
+    ensures { IfOk result (λ a. AreVerdicts (net_of graph.now) settings.now.budget faults.now a.verdicts.items) }
 {
     let mut decider = None;
-    answer_each(alloc, graph, faults, settings, refuter, tools, &mut decider)
+    let verdicts = answer_each(alloc, graph, faults, settings, refuter, tools, &mut decider)?;
+    let work = work_of(refuter, &tools.searcher, &decider);
+    Ok(Answers { verdicts, work })
 }
 
 // The same, by a refuter that is made for them.
@@ -282,33 +298,36 @@ fn answer_all(
     faults: &[Fault],
     settings: &Settings,
     tools: &mut Tools,
-) -> Result<Vec<Verdict>, NoMemory>
+) -> Result<Answers, NoMemory>
     requires pins { HavePins (net_of graph.now) faults.now }
     requires depth { settings.now.depth ≤ 2 }
     requires budget { 0 < settings.now.budget }
     requires searches { Serves tools.old.searcher (net_of graph.now) }
     requires fits { Fits tools.old.lanes (net_of graph.now) }
-    ensures { IfOk result (λ v. AreVerdicts (net_of graph.now) settings.now.budget faults.now v.items) }
+    ensures { IfOk result (λ a. AreVerdicts (net_of graph.now) settings.now.budget faults.now a.verdicts.items) }
 {
     let mut refuter = Refuter::for_graph(alloc, graph)?;
     answer_lazily(alloc, graph, faults, settings, &mut refuter, tools)
 }
 
-/// The verdicts of the faults, in order, by one refuter and one set of tools.
+/// The verdicts of the faults, in order, by one refuter and one set of tools. Those whose search is cut short are searched again,
+/// where that is asked for.
 pub(crate) fn answers(
     alloc: Global,
     graph: &Graph,
     faults: &[Fault],
     settings: &Settings,
-) -> Result<Vec<Verdict>, NoMemory>
+    again: bool,
+) -> Result<Answers, NoMemory>
     requires pins { HavePins (net_of graph.now) faults.now }
     requires depth { settings.now.depth ≤ 2 }
     requires budget { 0 < settings.now.budget }
-    ensures { IfOk result (λ v. AreVerdicts (net_of graph.now) settings.now.budget faults.now v.items) }
+    ensures { IfOk result (λ a. AreVerdicts (net_of graph.now) settings.now.budget faults.now a.verdicts.items) }
 {
     let mut tools = Tools {
         searcher: Searcher::new(alloc, graph)?,
         lanes: Lanes::new(alloc, graph)?,
+        again,
     };
     answer_all(alloc, graph, faults, settings, &mut tools)
 }

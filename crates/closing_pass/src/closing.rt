@@ -85,6 +85,7 @@ fn close_all<R: Threads + Sync, G: Gate, S: Shelf>(
     gate: &G,
     shelf: &mut S,
     journal: &str,
+    done: &mut u64,
 ) -> Result<Report, Stop>
     requires tidy { IsTidy (net_of trial.old.graph) }
     requires room { work (net_of trial.old.graph) ≤ trial.old.room.steps }
@@ -113,7 +114,7 @@ fn close_all<R: Threads + Sync, G: Gate, S: Shelf>(
         local: 0,
     };
     loop {
-        match pass(rt, alloc, trial.graph(), settings, gate, &mut kept)? {
+        match pass(rt, alloc, trial.graph(), settings, gate, &mut kept, done)? {
             Passed::Closed(verdicts) => {
                 let sources = trial.graph().source_count();
                 let found = blocks_of(alloc, kept.as_slice(), sources)?;
@@ -133,7 +134,9 @@ fn close_all<R: Threads + Sync, G: Gate, S: Shelf>(
 
 /// Closes each fault of a tidy net: with a vector that detects it, or, where a search spends its budget, with the tree of
 /// that search. A pin whose fault no assignment detects is fixed, the net tidied, and the pass begins again; the vectors
-/// that were found are kept for that. Each step is recorded with its tree. After a `Stop` the graph is dropped.
+/// that were found are kept for that. Each step is recorded with its tree. `work` is how many units of work the run was before,
+/// and counts on: once it reaches the limit of the settings, faults whose search is cut short aren't searched again. After a
+/// `Stop` the graph is dropped.
 pub fn close_faults<R: Threads + Sync, G: Gate, S: Shelf>(
     rt: &R,
     alloc: Global,
@@ -142,6 +145,7 @@ pub fn close_faults<R: Threads + Sync, G: Gate, S: Shelf>(
     gate: &G,
     shelf: &mut S,
     journal: &str,
+    work: &mut u64,
 ) -> Result<(Graph, Report), Stop>
     requires tidy { IsTidy (net_of graph) }
     requires few { pins_taken graph + live_nodes graph ≤ 1048576 }
@@ -156,6 +160,7 @@ pub fn close_faults<R: Threads + Sync, G: Gate, S: Shelf>(
     ensures keeps { IfOk result (λ r. Keeps (net_of graph) (net_of r.0)) }
     ensures no_fuller { IfOk result (λ r. IsNoFuller graph r.0) }
     ensures local { IfOk result (λ r. r.1.local ≤ 2 ^ 45) }
+    ensures grown { work.old ≤ work.new }
     ensures there { IsThere (S.files shelf.new) journal.now }
     ensures stopped { OnErr result (IsStopped (net_of graph) (S.files shelf.old) (S.files shelf.new) journal.now) }
     ensures later { S.faults shelf.old ≤ S.faults shelf.new }
@@ -170,7 +175,11 @@ pub fn close_faults<R: Threads + Sync, G: Gate, S: Shelf>(
         Ok(trial) => trial,
         Err(BeginRefusal::NoMemory { graph: _ }) => return Err(Stop::NoMemory),
     };
-    let report = close_all(rt, alloc, &mut trial, settings, gate, shelf, journal)?;
+    let mut done = *work;
+    let report = close_all(
+        rt, alloc, &mut trial, settings, gate, shelf, journal, &mut done,
+    )?;
+    *work = (*work).max(done);
     let last = trial.commit();
     last.well_formed();
     Ok((last, report))

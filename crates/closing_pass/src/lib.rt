@@ -4,6 +4,7 @@
 #![tactic(auto)]
 
 mod answering;
+mod answers;
 mod batching;
 mod choosing;
 mod closing;

@@ -41,7 +41,7 @@ fn all_open(alloc: Global, count: usize) -> Result<Vec<Finding>, NoMemory>
 
 /// Goes through the faults of the graph. Those that a kept vector detects have the first such vector; the next 64
 /// others are searched together, and the vectors that this finds are kept. Where every fault is closed, only the vectors
-/// that a verdict has stay kept.
+/// that a verdict has stay kept. `work` counts on.
 pub(crate) fn pass<R: Threads + Sync, G: Gate>(
     rt: &R,
     alloc: Global,
@@ -49,6 +49,7 @@ pub(crate) fn pass<R: Threads + Sync, G: Gate>(
     settings: &Settings,
     gate: &G,
     kept: &mut Vec<Vector>,
+    work: &mut u64,
 ) -> Result<Passed, NoMemory>
     requires depth { settings.now.depth ≤ 2 }
     requires budget { 0 < settings.now.budget }
@@ -74,7 +75,7 @@ pub(crate) fn pass<R: Threads + Sync, G: Gate>(
     let mut next = 0usize;
     while next < faults.len() {
         let refuted = search_and_try(
-            rt, alloc, graph, faults, settings, gate, &mut lanes, &mut found, kept, &mut next,
+            rt, alloc, graph, faults, settings, gate, &mut lanes, &mut found, kept, &mut next, work,
         )?;
         if let Some((fault, tree)) = refuted {
             return Ok(Passed::Refuted { fault, tree });

@@ -6,6 +6,7 @@ ghost use Rattle.gate_graph.specs.Circuit.{net_of};
 ghost use Rattle.closing_pass.specs.Verdicts.{AreVerdicts, HavePins};
 
 use crate::answering::answers;
+use crate::answers::Answers;
 use gate_graph::Graph;
 use podem::Verdict;
 use rm_base::{Fault, Gate, NoMemory, Settings};
@@ -19,15 +20,16 @@ fn piece<G: Gate>(
     faults: &[Fault],
     settings: &Settings,
     gate: &G,
+    again: bool,
     number: usize,
-) -> Result<Vec<Verdict>, NoMemory>
+) -> Result<Answers, NoMemory>
     requires pins { HavePins (net_of graph.now) faults.now }
     requires depth { settings.now.depth ≤ 2 }
     requires budget { 0 < settings.now.budget }
-    ensures { IfOk result (λ v. AreVerdicts (net_of graph.now) settings.now.budget faults.now v.items) }
+    ensures { IfOk result (λ a. AreVerdicts (net_of graph.now) settings.now.budget faults.now a.verdicts.items) }
 {
     gate.pass(number);
-    answers(alloc, graph, faults, settings)
+    answers(alloc, graph, faults, settings, again)
 }
 
 // The verdicts of these and then of those.
@@ -38,6 +40,15 @@ fn join_verdicts(mut verdicts: Vec<Verdict>, others: Vec<Verdict>) -> Result<Vec
         verdicts.push(verdict)?;
     }
     Ok(verdicts)
+}
+
+// These answers and then those.
+fn join_answers(front: Answers, back: Answers) -> Result<Answers, NoMemory>
+    ensures { IfOk result (λ a. a.verdicts.items ≡ front.verdicts.items ++ back.verdicts.items) }
+{
+    let work = front.work.saturating_add(back.work);
+    let verdicts = join_verdicts(front.verdicts, back.verdicts)?;
+    Ok(Answers { verdicts, work })
 }
 
 // Cuts the faults for so many pieces of them all: the front has a fault for each of its pieces, and so has the back.
@@ -64,9 +75,10 @@ pub(crate) fn pieces<R: Threads + Sync, G: Gate>(
     faults: &[Fault],
     settings: &Settings,
     gate: &G,
+    again: bool,
     first: usize,
     count: usize,
-) -> Result<Vec<Verdict>, NoMemory>
+) -> Result<Answers, NoMemory>
     requires pins { HavePins (net_of graph.now) faults.now }
     requires depth { settings.now.depth ≤ 2 }
     requires budget { 0 < settings.now.budget }
@@ -74,24 +86,36 @@ pub(crate) fn pieces<R: Threads + Sync, G: Gate>(
     requires few { count ≤ length faults.now }
     requires short { length faults.now ≤ 64 }
     requires numbers { first + count ≤ 64 }
-    ensures { IfOk result (λ v. AreVerdicts (net_of graph.now) settings.now.budget faults.now v.items) }
+    ensures { IfOk result (λ a. AreVerdicts (net_of graph.now) settings.now.budget faults.now a.verdicts.items) }
 {
     if count == 1 {
-        return piece(alloc, graph, faults, settings, gate, first);
+        return piece(alloc, graph, faults, settings, gate, again, first);
     }
     let left = count / 2;
     let right = count - left;
     let (front, back) = cut(faults, left, count);
     let (verdicts, others) = join(
         rt,
-        || -> Result<Vec<Verdict>, NoMemory>
+        || -> Result<Answers, NoMemory>
             requires { IsSync R.row × IsSync G.row × (settings.now.depth ≤ 2) × (0 < settings.now.budget) × HavePins (net_of graph.now) front.now × (0 < left) × (left ≤ length front.now) × (length front.now ≤ 64) × (first + left ≤ 64) }
-            ensures { IfOk result (λ v. AreVerdicts (net_of graph.entry.now) settings.entry.now.budget front.entry.now v.items) }
-        { pieces(rt, alloc, graph, front, settings, gate, first, left) },
-        || -> Result<Vec<Verdict>, NoMemory>
+            ensures { IfOk result (λ v. AreVerdicts (net_of graph.entry.now) settings.entry.now.budget front.entry.now v.verdicts.items) }
+        { pieces(rt, alloc, graph, front, settings, gate, again, first, left) },
+        || -> Result<Answers, NoMemory>
             requires { IsSync R.row × IsSync G.row × (settings.now.depth ≤ 2) × (0 < settings.now.budget) × HavePins (net_of graph.now) back.now × (0 < right) × (right ≤ length back.now) × (length back.now ≤ 64) × (first + left + right ≤ 64) }
-            ensures { IfOk result (λ v. AreVerdicts (net_of graph.entry.now) settings.entry.now.budget back.entry.now v.items) }
-        { pieces(rt, alloc, graph, back, settings, gate, first + left, right) },
+            ensures { IfOk result (λ v. AreVerdicts (net_of graph.entry.now) settings.entry.now.budget back.entry.now v.verdicts.items) }
+        {
+            pieces(
+                rt,
+                alloc,
+                graph,
+                back,
+                settings,
+                gate,
+                again,
+                first + left,
+                right,
+            )
+        },
     );
-    join_verdicts(verdicts?, others?)
+    join_answers(verdicts?, others?)
 }

@@ -7,7 +7,8 @@ ghost use Rattle.closing_pass.specs.Inner.Findings.{AreLong, HasCome};
 ghost use Rattle.closing_pass.specs.Inner.Searching.{HasTaken, IsSearched, tree_in};
 ghost use Rattle.closing_pass.specs.Verdicts.{HavePins};
 
-use crate::batching::batch;
+use crate::answers::Answers;
+use crate::batching::answer_batch;
 use crate::choosing::choose;
 use crate::finding::Finding;
 use crate::trying::try_kept;
@@ -44,7 +45,8 @@ fn take_one(
     }
 }
 
-// Searches the next open faults. Their verdicts are taken in order, up to the first that is refuted.
+// Searches the next open faults, again where a search is cut short and the work has not reached its limit. Their verdicts are
+// taken in order, up to the first that is refuted.
 fn search_next<R: Threads + Sync, G: Gate>(
     rt: &R,
     alloc: Global,
@@ -55,6 +57,7 @@ fn search_next<R: Threads + Sync, G: Gate>(
     found: &mut Vec<Finding>,
     kept: &mut Vec<Vector>,
     next: &mut usize,
+    work: &mut u64,
 ) -> Result<Option<(Fault, Tree)>, NoMemory>
     requires pins { HavePins (net_of graph.now) faults.now }
     requires depth { settings.now.depth ≤ 2 }
@@ -67,7 +70,20 @@ fn search_next<R: Threads + Sync, G: Gate>(
     ensures more { OnOk result (length kept.old.items ≤ length kept.new.items) }
 {
     let chosen = choose(alloc, faults, found, *next)?;
-    let verdicts = batch(rt, alloc, graph, chosen.faults.as_slice(), settings, gate)?;
+    let again = !settings.is_worked_off(*work);
+    let Answers {
+        verdicts,
+        work: done,
+    } = answer_batch(
+        rt,
+        alloc,
+        graph,
+        chosen.faults.as_slice(),
+        settings,
+        gate,
+        again,
+    )?;
+    *work = work.saturating_add(done);
     let mut at = 0usize;
     for verdict in verdicts {
         if let Some(tree) = take_one(verdict, chosen.places[at], found, kept)? {
@@ -80,7 +96,7 @@ fn search_next<R: Threads + Sync, G: Gate>(
 }
 
 /// Searches the next 64 open faults of a pass, or as many as there are, and tries the vectors that this finds on each
-/// fault that is sought. The first refuted fault, with its tree, ends it.
+/// fault that is sought. The first refuted fault, with its tree, ends it. `work` counts on.
 pub(crate) fn search_and_try<R: Threads + Sync, G: Gate>(
     rt: &R,
     alloc: Global,
@@ -92,6 +108,7 @@ pub(crate) fn search_and_try<R: Threads + Sync, G: Gate>(
     found: &mut Vec<Finding>,
     kept: &mut Vec<Vector>,
     next: &mut usize,
+    work: &mut u64,
 ) -> Result<Option<(Fault, Tree)>, NoMemory>
     requires pins { HavePins (net_of graph.now) faults.now }
     requires depth { settings.now.depth ≤ 2 }
@@ -105,7 +122,9 @@ pub(crate) fn search_and_try<R: Threads + Sync, G: Gate>(
     ensures fits { OnOk result (Fits lanes.new (net_of graph.now)) }
 {
     let tried = kept.len();
-    let refuted = search_next(rt, alloc, graph, faults, settings, gate, found, kept, next)?;
+    let refuted = search_next(
+        rt, alloc, graph, faults, settings, gate, found, kept, next, work,
+    )?;
     if let Some(found_refuted) = refuted {
         return Ok(Some(found_refuted));
     }

@@ -27,7 +27,7 @@ pub(crate) struct CommandRule {
     pub(crate) meaning: &'static str,
 }
 
-pub(crate) const OPTIONS: [OptionRule; 7] = [
+pub(crate) const OPTIONS: [OptionRule; 8] = [
     OptionRule {
         name: "--depth",
         low: 0,
@@ -74,6 +74,14 @@ pub(crate) const OPTIONS: [OptionRule; 7] = [
         high: 64,
         default: 0,
         meaning: "turns in which wires are exchanged for others at no cost, each with further additions behind it",
+        commands: &["opt", "demo"],
+    },
+    OptionRule {
+        name: "--work",
+        low: 0,
+        high: 1_000_000,
+        default: 0,
+        meaning: "millions of units of work after which no more additions are tried; 0 is no limit",
         commands: &["opt", "demo"],
     },
     OptionRule {

@@ -3,7 +3,7 @@ use rm_base::NoMemory as WantOfMemory;
 use std::error::Error;
 use std::fmt;
 
-/// Why two models aren't compared. The first that stands in this order is told, and want of memory may come at any models.
+/// Why two models aren't compared. The first that stands in this order is told, and out of memory may come at any models.
 #[derive(Clone, Copy, Debug, PartialEq, Eq)]
 pub enum MiterRefusal {
     /// The lists of sources differ, at this place from 1 first.

@@ -42,7 +42,8 @@ fn merge_to_one(
     ensures written { IfOk result (λ found. IfSome found (λ run. IsWritten (evidence.Merged run))) }
 {
     accepted_runs_are_writable();
-    let (merged, records) = merge_equal(alloc, graph, depth, budget)?;
+    let mut work = 0u64;
+    let (merged, records) = merge_equal(alloc, graph, depth, budget, &mut work)?;
     if !observes_one(&merged) {
         return Ok(None);
     }

@@ -137,8 +137,14 @@ impl Decider {
         })
     }
 
+    /// The work of its calls together, which a limit of work bounds: a unit for each fact that was held, and for each node that
+    /// a faulty gate reaches.
+    pub fn work_done(&self) -> u64 {
+        self.engine.work_done()
+    }
+
     /// A vector that detects the fault, or a tree that refutes it; None where more than `splits` splits would be needed, or
-    /// where they alone don't decide it. After want of memory it serves no graph.
+    /// where they alone don't decide it. After `NoMemory` it serves no graph.
     pub fn decide(
         &mut self,
         question: &Question<'_>,

@@ -70,6 +70,7 @@ fn add_good(
 {
     let fact = Fact::Good(value);
     log.trail.push((node, fact))?;
+    log.work_done = log.work_done.saturating_add(1);
     touch(question, facts, agenda, tallies, node, fact);
     facts.insert(node, fact);
     work_off(question, facts, log, agenda, tallies)

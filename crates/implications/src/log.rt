@@ -7,11 +7,13 @@ use crate::found::Found;
 use refutation::{Fact, FactSet, Line};
 use rm_base::{NoMemory, NodeId};
 
-/// The lines of a call, and the facts that were added and not taken back.
+/// The lines of a call, and the facts that were added and not taken back; and the work of all calls together: a unit for each
+/// fact that was held, and for each node that a faulty gate reaches.
 #[derive(Drop)]
 pub struct Log {
     pub lines: Vec<Line>,
     pub trail: Vec<(NodeId, Fact)>,
+    pub work_done: u64,
 }
 
 // Begins the lines of a call, and tells where the trail ends now.
@@ -33,6 +35,7 @@ pub(crate) fn hold(facts: &mut FactSet, log: &mut Log, found: Found) -> Result<(
 {
     log.lines.push(found.line)?;
     log.trail.push((found.node, found.fact))?;
+    log.work_done = log.work_done.saturating_add(1);
     facts.insert(found.node, found.fact);
     Ok(())
 }

@@ -137,6 +137,8 @@ impl Engine {
         let _mark = start(&mut self.log);
         come_to_rest(&mut self.log.trail, &mut basis.facts, &mut basis.taken);
         self.site.mark_reached(question.graph, question.fault.gate);
+        let reached = self.site.reached_numbers().len() as u64;
+        self.log.work_done = self.log.work_done.saturating_add(reached);
         take_reached(question, &self.site, &mut basis.facts, &mut basis.taken);
         let answer = open_begun(
             question,

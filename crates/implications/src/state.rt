@@ -57,6 +57,7 @@ impl Engine {
         let log = Log {
             lines: Vec::with_capacity(alloc, numbers as usize)?,
             trail: Vec::with_capacity(alloc, numbers as usize)?,
+            work_done: 0,
         };
         Ok(Engine {
             alloc,
@@ -73,6 +74,19 @@ impl Engine {
         ensures { result.now ≡ self.now.lines }
     {
         self.log.lines.as_slice()
+    }
+
+    /// The work of its calls together, which a limit of work bounds: a unit for each fact that they held, and for each node that
+    /// a faulty gate reaches.
+    pub fn work_done(&self) -> u64 {
+        self.log.work_done
+    }
+
+    /// Counts this work as its own too, as that of an engine in whose place it comes.
+    pub fn count_work(&mut self, before: u64)
+        ensures { self.new ≡ self.old }
+    {
+        self.log.work_done = self.log.work_done.saturating_add(before);
     }
 
     /// Where the trail ends now, to come back to by `take_back`.

@@ -1,5 +1,5 @@
 //! The addition loop, against rows that are worked out by hand.
-ghost use Rattle.std.specs.Prelude.{◌≤◌, ◌+◌, IfOk};
+ghost use Rattle.std.specs.Prelude.{◌≡◌, ◌≤◌, ◌+◌, IfOk};
 ghost use Rattle.gate_graph.specs.Circuit.{live_nodes, pins_taken};
 
 mod demo;
@@ -27,19 +27,19 @@ struct End {
     text: Vec<u8>,
 }
 
-/// Runs the loop on a net, at this depth with so many tries.
-fn optimised_at(alloc: Global, graph: Graph, depth: u8, tries: u32) -> Result<End, Fail>
+/// Runs the loop on a net, with these settings, behind so much work.
+fn optimised_by(
+    alloc: Global,
+    graph: Graph,
+    settings: &Settings,
+    before_it: u64,
+) -> Result<End, Fail>
     requires few { pins_taken graph + live_nodes graph ≤ 1048576 }
-    requires depth { depth ≤ 2 }
+    requires depth { settings.now.depth ≤ 2 }
     ensures few { IfOk result (λ e. pins_taken e.graph + live_nodes e.graph ≤ pins_taken graph + live_nodes graph) }
 {
     let before = graph.wire_count();
-    let settings = Settings {
-        depth,
-        budget: 256,
-        tries,
-        workers: 1,
-    };
+    let mut work = before_it;
     let mut shelf = SureShelf::new(alloc);
     shelf.create("journal")?;
     let Some(_) = shelf.file("journal") else {
@@ -49,11 +49,12 @@ fn optimised_at(alloc: Global, graph: Graph, depth: u8, tries: u32) -> Result<En
     let Ok((graph, outcome, made)) = optimise(
         alloc,
         graph,
-        &settings,
+        settings,
         &mut shelf,
         "journal",
         &[],
         &mut start,
+        &mut work,
     ) else {
         return Err("stopped".into());
     };
@@ -65,6 +66,30 @@ fn optimised_at(alloc: Global, graph: Graph, depth: u8, tries: u32) -> Result<En
         made,
         text,
     })
+}
+
+// These tries at this depth, and a limit of work in millions, 0 for none.
+fn settings_of(depth: u8, tries: u32, work: u32) -> Settings
+    ensures { result.depth ≡ depth }
+{
+    Settings {
+        depth,
+        budget: 256,
+        tries,
+        workers: 1,
+        merge: 0,
+        perturb: 0,
+        work,
+    }
+}
+
+/// Runs the loop on a net, at this depth with so many tries.
+fn optimised_at(alloc: Global, graph: Graph, depth: u8, tries: u32) -> Result<End, Fail>
+    requires few { pins_taken graph + live_nodes graph ≤ 1048576 }
+    requires depth { depth ≤ 2 }
+    ensures few { IfOk result (λ e. pins_taken e.graph + live_nodes e.graph ≤ pins_taken graph + live_nodes graph) }
+{
+    optimised_by(alloc, graph, &settings_of(depth, tries, 0), 0)
 }
 
 /// Runs the loop on a net, at depth 1 with so many tries.
@@ -110,6 +135,27 @@ fn outcome_spent(tries: u32, fault: Fault, candidate: Candidate) -> Outcome {
 
 fn counts_made(adds: u64, fixes: u64, local: u64) -> Made {
     Made { adds, fixes, local }
+}
+
+// The outcome of the loop on the four gates with 40 tries, by a limit of work in millions and the work before.
+fn outcome_behind(alloc: Global, work: u32, before_it: u64) -> Result<Outcome, Fail> {
+    let graph = build_net(alloc, &FOUR_GATES)?;
+    let end = optimised_by(alloc, graph, &settings_of(1, 40, work), before_it)?;
+    Ok(end.outcome)
+}
+
+#[test]
+fn no_pair_is_tried_once_the_work_reaches_its_limit(rt: HostRuntime) -> Result<(), Fail> {
+    let alloc = rt.alloc();
+    let at_once = outcome_spent(0, fault(6, 0, true), wire(5, true, 6));
+    if outcome_behind(alloc, 1, 1_000_000)? != at_once {
+        return Err("tried past the limit".into());
+    }
+    let without = outcome_behind(alloc, 0, u64::MAX)?;
+    if outcome_behind(alloc, 2, 1_000_000)? != without || without == at_once {
+        return Err("the limit came too soon".into());
+    }
+    Ok(())
 }
 
 #[test]

@@ -185,6 +185,9 @@ fn settings(budget: u32, workers: u8) -> Settings
         budget,
         tries: 0,
         workers,
+        merge: 0,
+        perturb: 0,
+        work: 0,
     }
 }
 
@@ -226,7 +229,10 @@ fn close<R: Threads + Sync, G: Gate>(
     let Some(_text) = shelf.file("journal") else {
         return Err(Stop::NoMemory);
     };
-    let (last, report) = close_faults(rt, alloc, graph, settings, gate, shelf, "journal")?;
+    let mut work = 0u64;
+    let (last, report) = close_faults(
+        rt, alloc, graph, settings, gate, shelf, "journal", &mut work,
+    )?;
     last.well_formed();
     write_verdicts(alloc, &report, shelf, "journal")?;
     Ok(report)

@@ -22,12 +22,13 @@ use std::alloc::Global;
 /// Chatterjee, Jiang and Brayton, FRAIGs, 2005). Gates that agree under drawn vectors are merged where each fault that this
 /// needs is refuted by learning to the depth, 0 to 2, or by a search that enters at most `budget` edges: the gate gets a pin
 /// that reads the earlier one, and its other pins are fixed. Which gates agree but aren't merged isn't told. The records are of
-/// all steps, each with its tree.
+/// all steps, each with its tree. The units of work that the refutations were come to `work`.
 pub fn merge_equal(
     alloc: Global,
     graph: Graph,
     depth: u8,
     budget: u32,
+    work: &mut u64,
 ) -> Result<(Graph, Vec<Record>), NoMemory>
     requires few { pins_taken graph + live_nodes graph ≤ 1048576 }
     requires depth { depth ≤ 2 }
@@ -37,12 +38,15 @@ pub fn merge_equal(
     ensures tidy { IfOk result (λ r. IsTidy (net_of r.0)) }
     ensures fewer { IfOk result (λ r. wire_count (net_of r.0) ≤ wire_count (net_of graph)) }
     ensures within { IfOk result (λ r. IsWithin graph r.0) }
+    ensures grown { work.old ≤ work.new }
     ensures records { IfOk result (λ r. length r.1.items ≤ 2 ^ 45) }
 {
     accepted_runs_keep();
     graph.well_formed();
     let (mut space, mut log) = open_space(alloc, graph)?;
     merge_all(alloc, &mut space, &mut log, Effort { depth, budget })?;
+    let done = work.saturating_add(space.refuter.work_done());
+    *work = (*work).max(done);
     space.trial.graph().well_formed();
     let merged = into_graph(space);
     merged.well_formed();

@@ -36,9 +36,9 @@ valid_records join writable fitting start after budget rs verdicts low high acce
     fitting budget (rs ++ verdict_records verdicts) low high (join.writable rs (verdict_records verdicts) (writable start after rs accepted) (writable_verdicts verdicts recordable)) (fits_then rs (verdict_records verdicts) fit fits)
 
 -- the steps, the verdicts and the end
-pub filled : (join : RunsJoin) (writable : AcceptedRunsAreWritable) (fitting : FittingAreEntries) (texts : TextsAppend) (start : Net) (settings : Settings) (merge perturb : ℕ) (rounds : Rounds) (old one two new : Option Files) (name : List ℕ) → HasTurns start settings merge perturb rounds old one name → 1 ≤ settings.budget → settings.budget ≤ 1048576 → AreRecordable rounds.report.verdicts.items → AreFit (verdict_records rounds.report.verdicts.items)
-    → HasAppended one two name (records_text (verdict_records rounds.report.verdicts.items)) → HasAppended two new name (entry_text End) → IsFilled start settings merge perturb rounds old new name
-filled join writable fitting texts start settings merge perturb rounds old one two new name ended low high recordable fits verdicts end =
+pub filled : (join : RunsJoin) (writable : AcceptedRunsAreWritable) (fitting : FittingAreEntries) (texts : TextsAppend) (start : Net) (settings : Settings) (rounds : Rounds) (old one two new : Option Files) (name : List ℕ) → HasTurns start settings settings.perturb rounds old one name → 1 ≤ settings.budget → settings.budget ≤ 1048576 → AreRecordable rounds.report.verdicts.items → AreFit (verdict_records rounds.report.verdicts.items)
+    → HasAppended one two name (records_text (verdict_records rounds.report.verdicts.items)) → HasAppended two new name (entry_text End) → IsFilled start settings rounds old new name
+filled join writable fitting texts start settings rounds old one two new name ended low high recordable fits verdicts end =
     let rs : List Record = ended.records in
     let vs : List Record = verdict_records rounds.report.verdicts.items in
     record {
@@ -51,9 +51,9 @@ filled join writable fitting texts start settings merge perturb rounds old one t
     }
 
 -- all the records are accepted
-records_accepted : (start : Net) (settings : Settings) (merge perturb : ℕ) (rounds : Rounds) (old one : Option Files) (name : List ℕ) → (ended : HasTurns start settings merge perturb rounds old one name)
+records_accepted : (start : Net) (settings : Settings) (rounds : Rounds) (old one : Option Files) (name : List ℕ) → (ended : HasTurns start settings settings.perturb rounds old one name)
     → IsAcceptedFrom start settings.budget (ended.records ++ verdict_records rounds.report.verdicts.items) (net_of rounds.last.graph)
-records_accepted start settings merge perturb rounds old one name ended = record {
+records_accepted start settings rounds old one name ended = record {
   steps = ended.records;
   verdicts = verdict_records rounds.report.verdicts.items;
   parts = refl;
@@ -63,29 +63,29 @@ records_accepted start settings merge perturb rounds old one name ended = record
 }
 
 -- a part of the verdicts
-pub left_in_verdicts : (texts : TextsAppend) (start : Net) (settings : Settings) (merge perturb : ℕ) (rounds : Rounds) (old one new : Option Files) (name : List ℕ) → HasTurns start settings merge perturb rounds old one name
+pub left_in_verdicts : (texts : TextsAppend) (start : Net) (settings : Settings) (rounds : Rounds) (old one new : Option Files) (name : List ℕ) → HasTurns start settings settings.perturb rounds old one name
     → HasAppendedPart one new name (records_text (verdict_records rounds.report.verdicts.items)) → IsLeftWhole start settings.budget old new name
-left_in_verdicts texts start settings merge perturb rounds old one new name ended part =
+left_in_verdicts texts start settings rounds old one new name ended part =
     let rs : List Record = ended.records in
     let vs : List Record = verdict_records rounds.report.verdicts.items in
     record {
       records = rs ++ vs;
       last = net_of rounds.last.graph;
-      accepted = records_accepted start settings merge perturb rounds old one name ended;
+      accepted = records_accepted start settings rounds old one name ended;
       written = subst (λ (text : List ℕ). HasAppendedPart old new name (text ++ entry_text End)) (sym (records_then rs vs))
           (texts.longer old new name (records_text rs ++ records_text vs) (entry_text End) (texts.part old one new name (records_text rs) (records_text vs) ended.written part));
     }
 
 -- all the verdicts and a part of the end
-pub left_in_end : (texts : TextsAppend) (start : Net) (settings : Settings) (merge perturb : ℕ) (rounds : Rounds) (old one two new : Option Files) (name : List ℕ) → HasTurns start settings merge perturb rounds old one name
+pub left_in_end : (texts : TextsAppend) (start : Net) (settings : Settings) (rounds : Rounds) (old one two new : Option Files) (name : List ℕ) → HasTurns start settings settings.perturb rounds old one name
     → HasAppended one two name (records_text (verdict_records rounds.report.verdicts.items)) → HasAppendedPart two new name (entry_text End) → IsLeftWhole start settings.budget old new name
-left_in_end texts start settings merge perturb rounds old one two new name ended verdicts part =
+left_in_end texts start settings rounds old one two new name ended verdicts part =
     let rs : List Record = ended.records in
     let vs : List Record = verdict_records rounds.report.verdicts.items in
     record {
       records = rs ++ vs;
       last = net_of rounds.last.graph;
-      accepted = records_accepted start settings merge perturb rounds old one name ended;
+      accepted = records_accepted start settings rounds old one name ended;
       written = subst (λ (text : List ℕ). HasAppendedPart old new name (text ++ entry_text End)) (sym (records_then rs vs))
           (texts.part old two new name (records_text rs ++ records_text vs) (entry_text End)
           (texts.follows old one two name (records_text rs) (records_text vs) ended.written verdicts)

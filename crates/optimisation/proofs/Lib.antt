@@ -1,5 +1,7 @@
 pub mod Public
 pub mod Texts
+pub mod AllowedLaws
+pub mod Lowering
 pub mod RoundLaws
 pub mod StageLaws
 pub mod TurnLaws

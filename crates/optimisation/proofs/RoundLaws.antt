@@ -15,13 +15,16 @@ use Rattle.journal_text.specs.Runs.{AcceptedTo, AreRemovals, HasAppended, HasApp
 use Rattle.journal_text.specs.declared.record.Record.{Record}
 use Rattle.closing_pass.specs.Reports.{HasClosed, IsNoFuller, made_in}
 use Rattle.closing_pass.specs.declared.report.Report.{Report}
-use Rattle.rar_loop.specs.Ended.{IsImproved, turn_at}
+use Rattle.candidate_wires.specs.declared.candidate.Outcome.{Outcome}
+use Rattle.candidate_wires.specs.declared.candidate.Outcome.TheVariants.{Settled, TriesSpent}
+use Rattle.rar_loop.specs.Ended.{IsImproved, allowed_to, turn_at}
 use Rattle.rar_loop.specs.Removed.{HasRemoved}
 use Rattle.rar_loop.specs.Sizes.{IsWithin}
 use Rattle.rar_loop.specs.Rounds.{IsRun, RunBegins, RunGoesOn, is_settled, tries_of}
 use Rattle.wire_edit.specs.Order.{IsTidy}
 use Rattle.optimisation.specs.Inner.Ran.{AreBounded, HasGoneOn, HasRecorded, sum_of}
 use Rattle.optimisation.specs.declared.rounds.Round.{Round}
+use Rattle.optimisation.proofs.Lowering.{run_lowered}
 
 same_made : (a b f g l k : ℕ) → a ≡ b → f ≡ g → l ≡ k → ◌≡◌ {A = Made} (record { adds = a; fixes = f; local = l }) (record { adds = b; fixes = g; local = k })
 same_made a b f g l k x y z =
@@ -75,12 +78,22 @@ stopped_then join texts start mid records old now new name accepted written stop
   written = subst (λ (text : List ℕ). HasAppendedPart old new name text) (sym (join.text records stopped.records)) (texts.part old now new name (records_text records) (records_text stopped.records) written stopped.written);
 }
 
+-- no more tries are allowed to a call than it was given
+allowed_within : (given : ℕ) (outcome : Outcome) → tries_of outcome ≤ given → allowed_to given outcome ≤ given
+allowed_within given (Settled tries) le = omega arith
+allowed_within given (TriesSpent tries at) le = le
+
+-- as many tries as were made are allowed, at least
+pub went_within : (tries limit all after : ℕ) (outcome : Outcome) → all ≡ tries + tries_of outcome → after ≡ tries + allowed_to (limit - tries) outcome → tries_of outcome ≤ limit - tries → all ≤ after
+went_within tries limit all after (Settled more) sum is le = omega (arith, sum, is, le)
+went_within tries limit all after (TriesSpent more at) sum is le = omega (arith, sum, is)
+
 -- what goes without any addition, and the first call, are the first round
 pub first_run : (law : RunBegins) (join : RunsJoin) (texts : TextsAppend) (start swept closed : Circuit) (settings : Settings) (report : Report) (made : Made) (after : Round) (old one two new : Option Files) (name : List ℕ)
     → pins_taken start + live_nodes start ≤ 1048576 → wire_count (net_of start) ≤ 65536
     → HasRemoved (net_of start) (net_of swept) settings.depth made old one name → IsWithin start swept
     → HasClosed (net_of swept) (net_of closed) report one two name → report.local ≤ 35184372088832 → IsNoFuller swept closed
-    → HasGoneOn settings closed (sum_of made (made_in report)) 0 None after two new name
+    → HasGoneOn settings closed (sum_of made (made_in report)) 0 settings.tries None after two new name
     → HasRecorded (net_of start) settings after old new name
 first_run law join texts start swept closed settings report made after old one two new name few wires r within c small fuller g =
     let first : List Record = r.records ++ c.records in
@@ -88,12 +101,12 @@ first_run law join texts start swept closed settings report made after old one t
     let same : first ++ g.optimised.records ≡ records = append_assoc r.records c.records g.optimised.records in
     let to : AcceptedTo (net_of start) first (net_of closed) = join.accepted (net_of start) (net_of swept) (net_of closed) r.records c.records r.accepted c.steps.accepted in
     let removals : AreRemovals (steps_of first) = subst AreRemovals (sym (join.steps r.records c.records)) (join.removals (steps_of r.records) (steps_of c.records) r.removals c.steps.removals) in
-    let all_tries : settings.tries - 0 ≡ settings.tries = omega arith in
-    let improved : IsImproved (net_of closed) None settings.depth settings.tries g.optimised.records (net_of after.graph) g.outcome =
-    subst (λ (k : ℕ). IsImproved (net_of closed) None settings.depth k g.optimised.records (net_of after.graph) g.outcome) all_tries g.optimised.improved in
-    let run : IsRun (net_of start) (steps_of (first ++ g.optimised.records)) settings.depth settings.tries (tries_of g.outcome) (is_settled g.outcome)
+    let allowed : allowed_to (settings.tries - 0) g.outcome ≡ after.limit = let l = g.limit_is in omega (arith, l) in
+    let improved : IsImproved (net_of closed) None settings.depth after.limit g.optimised.records (net_of after.graph) g.outcome =
+    subst (λ (k : ℕ). IsImproved (net_of closed) None settings.depth k g.optimised.records (net_of after.graph) g.outcome) allowed g.optimised.improved in
+    let run : IsRun (net_of start) (steps_of (first ++ g.optimised.records)) settings.depth after.limit (tries_of g.outcome) (is_settled g.outcome)
     × (turn_at None (net_of start) (steps_of (first ++ g.optimised.records)) ≡ turn_at None (net_of closed) (steps_of g.optimised.records)) =
-    law (net_of start) (net_of closed) (net_of after.graph) first g.optimised.records settings.depth settings.tries g.outcome g.keeps.form to removals improved in
+    law (net_of start) (net_of closed) (net_of after.graph) first g.optimised.records settings.depth after.limit g.outcome g.keeps.form to removals improved in
     let tries : tries_of g.outcome ≡ after.tries = let t = g.tries_are in omega (arith, t) in
     let counts : after.made ≡ made_by none_made (steps_of records) =
     g.made_are
@@ -112,9 +125,9 @@ first_run law join texts start swept closed settings report made after old one t
       run = record {
         accepted = join.accepted (net_of start) (net_of swept) (net_of after.graph) r.records (c.records ++ g.optimised.records) r.accepted
             (join.accepted (net_of swept) (net_of closed) (net_of after.graph) c.records g.optimised.records c.steps.accepted g.optimised.improved.accepted);
-        run = subst (λ (rs : List Record). IsRun (net_of start) (steps_of rs) settings.depth settings.tries after.tries after.settled) same
-            (subst (λ (b : Bool). IsRun (net_of start) (steps_of (first ++ g.optimised.records)) settings.depth settings.tries after.tries b) (sym g.settled_is)
-            (subst (λ (k : ℕ). IsRun (net_of start) (steps_of (first ++ g.optimised.records)) settings.depth settings.tries k (is_settled g.outcome)) tries run.0));
+        run = subst (λ (rs : List Record). IsRun (net_of start) (steps_of rs) settings.depth after.limit after.tries after.settled) same
+            (subst (λ (b : Bool). IsRun (net_of start) (steps_of (first ++ g.optimised.records)) settings.depth after.limit after.tries b) (sym g.settled_is)
+            (subst (λ (k : ℕ). IsRun (net_of start) (steps_of (first ++ g.optimised.records)) settings.depth after.limit k (is_settled g.outcome)) tries run.0));
         turn_is = g.optimised.next_is ∙ sym run.1 ∙ ap (λ (rs : List Record). turn_at None (net_of start) (steps_of rs)) same;
         tidy = g.optimised.improved.tidy;
         fewer = omega (arith, g.optimised.improved.fewer, c.steps.fewer, r.fewer);
@@ -133,7 +146,7 @@ first_run law join texts start swept closed settings report made after old one t
 pub further_run : (law : RunGoesOn) (join : RunsJoin) (texts : TextsAppend) (start : Net) (settings : Settings) (before : Round) (closed : Circuit) (report : Report) (after : Round) (old one two new : Option Files) (name : List ℕ)
     → wire_count start ≤ 65536
     → HasRecorded start settings before old one name → HasClosed (net_of before.graph) (net_of closed) report one two name → 0 < report.fixed → report.local ≤ 35184372088832
-    → IsNoFuller before.graph closed → HasGoneOn settings closed (sum_of before.made (made_in report)) before.tries before.start after two new name
+    → IsNoFuller before.graph closed → HasGoneOn settings closed (sum_of before.made (made_in report)) before.tries before.limit before.start after two new name
     → HasRecorded start settings after old new name
 further_run law join texts start settings before closed report after old one two new name few r c some small fuller g =
     let records : List Record = r.records ++ (c.records ++ g.optimised.records) in
@@ -142,11 +155,18 @@ further_run law join texts start settings before closed report after old one two
     (join.accepted (net_of before.graph) (net_of closed) (net_of after.graph) c.records g.optimised.records c.steps.accepted g.optimised.improved.accepted) in
     let fixes : 0 < (made_by none_made (steps_of c.records)).fixes = subst (λ (m : Made). 0 < m.fixes) c.steps.counted some in
     let turn : Option Fault = turn_at None start (steps_of r.records) in
-    let improved : IsImproved (net_of closed) turn settings.depth (settings.tries - before.tries) g.optimised.records (net_of after.graph) g.outcome =
-    subst (λ (t : Option Fault). IsImproved (net_of closed) t settings.depth (settings.tries - before.tries) g.optimised.records (net_of after.graph) g.outcome) r.run.turn_is g.optimised.improved in
-    let run : IsRun start (steps_of records) settings.depth settings.tries (before.tries + tries_of g.outcome) (is_settled g.outcome) × (turn_at None start (steps_of records) ≡ turn_at turn (net_of closed) (steps_of g.optimised.records)) =
-    law start (net_of before.graph) (net_of closed) (net_of after.graph) r.records c.records g.optimised.records settings.depth settings.tries before.tries before.settled g.outcome g.keeps.form
-    r.run.run r.run.accepted c.steps.accepted c.steps.removals fixes improved in
+    let left : ℕ = allowed_to (before.limit - before.tries) g.outcome in
+    let fits : left ≤ before.limit - before.tries = allowed_within (before.limit - before.tries) g.outcome g.some in
+    let limit_is : after.limit ≡ before.tries + left = g.limit_is in
+    let left_is : left ≡ after.limit - before.tries = omega (arith, limit_is) in
+    let improved : IsImproved (net_of closed) turn settings.depth (after.limit - before.tries) g.optimised.records (net_of after.graph) g.outcome =
+    subst (λ (t : Option Fault). IsImproved (net_of closed) t settings.depth (after.limit - before.tries) g.optimised.records (net_of after.graph) g.outcome) r.run.turn_is
+    (subst (λ (k : ℕ). IsImproved (net_of closed) before.start settings.depth k g.optimised.records (net_of after.graph) g.outcome) left_is g.optimised.improved) in
+    let was : IsRun start (steps_of r.records) settings.depth after.limit before.tries before.settled =
+    run_lowered start (steps_of r.records) settings.depth before.limit after.limit before.tries before.settled r.run.run (omega (arith, limit_is)) (omega (arith, limit_is, fits, r.run.run.within)) in
+    let run : IsRun start (steps_of records) settings.depth after.limit (before.tries + tries_of g.outcome) (is_settled g.outcome) × (turn_at None start (steps_of records) ≡ turn_at turn (net_of closed) (steps_of g.optimised.records)) =
+    law start (net_of before.graph) (net_of closed) (net_of after.graph) r.records c.records g.optimised.records settings.depth after.limit before.tries before.settled g.outcome g.keeps.form
+    was r.run.accepted c.steps.accepted c.steps.removals fixes improved in
     let counts : after.made ≡ made_by none_made (steps_of records) =
     g.made_are
     ∙ (ap (λ (m : Made). sum_of (sum_of m (made_in report)) g.more) r.run.counted
@@ -163,8 +183,8 @@ further_run law join texts start settings before closed report after old one two
       fit = fits_then r.records (c.records ++ g.optimised.records) r.fit (fits_then c.records g.optimised.records c.fit g.optimised.fit);
       run = record {
         accepted = led;
-        run = subst (λ (b : Bool). IsRun start (steps_of records) settings.depth settings.tries after.tries b) (sym g.settled_is)
-            (subst (λ (k : ℕ). IsRun start (steps_of records) settings.depth settings.tries k (is_settled g.outcome)) (sym g.tries_are) run.0);
+        run = subst (λ (b : Bool). IsRun start (steps_of records) settings.depth after.limit after.tries b) (sym g.settled_is)
+            (subst (λ (k : ℕ). IsRun start (steps_of records) settings.depth after.limit k (is_settled g.outcome)) (sym g.tries_are) run.0);
         turn_is = g.optimised.next_is ∙ ap (λ (t : Option Fault). turn_at t (net_of closed) (steps_of g.optimised.records)) r.run.turn_is ∙ sym run.1;
         tidy = g.optimised.improved.tidy;
         fewer = omega (arith, less, r.run.fewer);
@@ -182,9 +202,9 @@ further_run law join texts start settings before closed report after old one two
 -- a closing pass that fixed nothing leaves the round as it was
 pub nothing_closed : (texts : TextsAppend) (start : Net) (settings : Settings) (before after : Round) (report : Report) (old one new : Option Files) (name : List ℕ)
     → HasRecorded start settings before old one name → HasClosed (net_of before.graph) (net_of after.graph) report one new name → report.fixed ≡ 0 → IsNoFuller before.graph after.graph
-    → after.made ≡ before.made → after.tries ≡ before.tries → after.settled ≡ before.settled → after.start ≡ before.start
+    → after.made ≡ before.made → after.tries ≡ before.tries → after.limit ≡ before.limit → after.settled ≡ before.settled → after.start ≡ before.start
     → HasRecorded start settings after old new name
-nothing_closed texts start settings before after report old one new name r c none fuller made tries settled turn =
+nothing_closed texts start settings before after report old one new name r c none fuller made tries limit settled turn =
     let empty : c.records ≡ [] = c.steps.none none in
     let same : net_of after.graph ≡ net_of before.graph = subst (λ (rs : List Record). AcceptedTo (net_of before.graph) rs (net_of after.graph)) empty c.steps.accepted in
     let more : HasAppended one new name [] = subst (λ (rs : List Record). HasAppended one new name (records_text rs)) empty c.written in
@@ -194,8 +214,9 @@ nothing_closed texts start settings before after report old one new name r c non
       fit = r.fit;
       run = record {
         accepted = subst (λ (net : Net). AcceptedTo start r.records net) (sym same) r.run.accepted;
-        run = subst (λ (b : Bool). IsRun start (steps_of r.records) settings.depth settings.tries after.tries b) (sym settled)
-            (subst (λ (k : ℕ). IsRun start (steps_of r.records) settings.depth settings.tries k before.settled) (sym tries) r.run.run);
+        run = subst (λ (b : Bool). IsRun start (steps_of r.records) settings.depth after.limit after.tries b) (sym settled)
+            (subst (λ (k : ℕ). IsRun start (steps_of r.records) settings.depth after.limit k before.settled) (sym tries)
+            (subst (λ (k : ℕ). IsRun start (steps_of r.records) settings.depth k before.tries before.settled) (sym limit) r.run.run));
         turn_is = turn ∙ r.run.turn_is;
         tidy = subst IsTidy (sym same) r.run.tidy;
         fewer = subst (λ (net : Net). wire_count net ≤ wire_count start) (sym same) r.run.fewer;

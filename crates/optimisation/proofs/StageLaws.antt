@@ -27,6 +27,7 @@ use Rattle.optimisation.specs.Inner.Ran.{sum_of}
 use Rattle.optimisation.specs.Inner.Staged.{AreSame, AreUpTo, HasGoneFurther, HasMerged, HasStages, HaveFollowed, left_of}
 use Rattle.optimisation.specs.Stages.{HaveStages, IsStagedRun, first, further}
 use Rattle.optimisation.specs.declared.rounds.Rounds.{Rounds}
+use Rattle.optimisation.proofs.Lowering.{staged_lowered}
 use Rattle.optimisation.proofs.RoundLaws.{counted_on, three_counted}
 
 pub net_then : (net : Net) (xs ys : List Step) → net_after net (xs ++ ys) ≡ net_after (net_after net xs) ys
@@ -98,14 +99,14 @@ swept_merged join texts start swept after depth removed made sum changed old one
     }
 
 -- rounds alone are a stage
-pub rounds_staged : (start : Net) (settings : Settings) (merge : ℕ) (rounds : Rounds) (old new : Option Files) (name : List ℕ) → HasEnded start settings rounds old new name → HasStages start settings merge rounds old new name
-rounds_staged start settings merge rounds old new name h =
+pub rounds_staged : (start : Net) (settings : Settings) (rounds : Rounds) (old new : Option Files) (name : List ℕ) → HasEnded start settings rounds old new name → HasStages start settings rounds old new name
+rounds_staged start settings rounds old new name h =
     let r = h.recorded in
     record {
       records = r.records;
       run = record {
         accepted = r.run.accepted;
-        run = run_staged start start [] (steps_of r.records) merge settings.depth settings.tries rounds.last.tries rounds.last.settled (λ never. refl) refl r.run.run;
+        run = run_staged start start [] (steps_of r.records) settings.merge settings.depth rounds.last.limit rounds.last.tries rounds.last.settled (λ never. refl) refl r.run.run;
         tidy = r.run.tidy;
         fewer = r.run.fewer;
         within = r.run.within;
@@ -117,23 +118,24 @@ rounds_staged start settings merge rounds old new name h =
     }
 
 -- so are rounds after gates were merged
-pub merged_staged : (join : RunsJoin) (texts : TextsAppend) (start : Net) (mid : Circuit) (settings : Settings) (merge : ℕ) (made : Made) (changed : Bool) (rounds after : Rounds) (old one new : Option Files) (name : List ℕ)
-    → (merge ≡ 0 → ⊥) → HasMerged start (net_of mid) made changed old one name → HasEnded (net_of mid) settings rounds one new name
-    → after.last.graph ≡ rounds.last.graph → after.last.made ≡ sum_of made rounds.last.made → after.last.tries ≡ rounds.last.tries → after.last.settled ≡ rounds.last.settled → after.report ≡ rounds.report
-    → HasStages start settings merge after old new name
-merged_staged join texts start mid settings merge made changed rounds after old one new name merges m h graph made_is tries settled report =
+pub merged_staged : (join : RunsJoin) (texts : TextsAppend) (start : Net) (mid : Circuit) (settings : Settings) (made : Made) (changed : Bool) (rounds after : Rounds) (old one new : Option Files) (name : List ℕ)
+    → (settings.merge ≡ 0 → ⊥) → HasMerged start (net_of mid) made changed old one name → HasEnded (net_of mid) settings rounds one new name
+    → after.last.graph ≡ rounds.last.graph → after.last.made ≡ sum_of made rounds.last.made → after.last.tries ≡ rounds.last.tries → after.last.limit ≡ rounds.last.limit → after.last.settled ≡ rounds.last.settled → after.report ≡ rounds.report
+    → HasStages start settings after old new name
+merged_staged join texts start mid settings made changed rounds after old one new name merges m h graph made_is tries limit settled report =
     let r = h.recorded in
     let records : List Record = m.records ++ r.records in
     let at : net_after start (steps_of m.records) ≡ net_of mid = led_after start (net_of mid) m.records m.accepted in
-    let run : IsStagedRun start (steps_of m.records ++ steps_of r.records) merge settings.depth settings.tries rounds.last.tries rounds.last.settled =
-    run_staged start (net_of mid) (steps_of m.records) (steps_of r.records) merge settings.depth settings.tries rounds.last.tries rounds.last.settled (λ never. absurd (merges never)) at r.run.run in
+    let run : IsStagedRun start (steps_of m.records ++ steps_of r.records) settings.merge settings.depth rounds.last.limit rounds.last.tries rounds.last.settled =
+    run_staged start (net_of mid) (steps_of m.records) (steps_of r.records) settings.merge settings.depth rounds.last.limit rounds.last.tries rounds.last.settled (λ never. absurd (merges never)) at r.run.run in
     record {
       records = records;
       run = record {
         accepted = subst (λ (g : Circuit). AcceptedTo start records (net_of g)) (sym graph) (join.accepted start (net_of mid) (net_of rounds.last.graph) m.records r.records m.accepted r.run.accepted);
-        run = subst (λ (ss : List Step). IsStagedRun start ss merge settings.depth settings.tries after.last.tries after.last.settled) (sym (join.steps m.records r.records))
-            (subst (λ (k : ℕ). IsStagedRun start (steps_of m.records ++ steps_of r.records) merge settings.depth settings.tries k after.last.settled) (sym tries)
-            (subst (λ (b : Bool). IsStagedRun start (steps_of m.records ++ steps_of r.records) merge settings.depth settings.tries rounds.last.tries b) (sym settled) run));
+        run = subst (λ (ss : List Step). IsStagedRun start ss settings.merge settings.depth after.last.limit after.last.tries after.last.settled) (sym (join.steps m.records r.records))
+            (subst (λ (k : ℕ). IsStagedRun start (steps_of m.records ++ steps_of r.records) settings.merge settings.depth k after.last.tries after.last.settled) (sym limit)
+            (subst (λ (k : ℕ). IsStagedRun start (steps_of m.records ++ steps_of r.records) settings.merge settings.depth rounds.last.limit k after.last.settled) (sym tries)
+            (subst (λ (b : Bool). IsStagedRun start (steps_of m.records ++ steps_of r.records) settings.merge settings.depth rounds.last.limit rounds.last.tries b) (sym settled) run)));
         tidy = subst (λ (g : Circuit). IsTidy (net_of g)) (sym graph) r.run.tidy;
         fewer = subst (λ (g : Circuit). wire_count (net_of g) ≤ wire_count start) (sym graph) (omega (arith, r.run.fewer, m.fewer));
         within = subst (λ (g : Circuit). pins_taken g + live_nodes g ≤ 1048576) (sym graph) r.run.within;
@@ -145,14 +147,15 @@ merged_staged join texts start mid settings merge made changed rounds after old 
     }
 
 -- where no gate was merged the stages are what they were
-same_staged : (texts : TextsAppend) (start : Net) (settings : Settings) (merge : ℕ) (before after : Rounds) (old one new : Option Files) (name : List ℕ)
-    → HasStages start settings merge before old one name → AreSame before after one new name → HasStages start settings merge after old new name
-same_staged texts start settings merge before after old one new name b s = record {
+same_staged : (texts : TextsAppend) (start : Net) (settings : Settings) (before after : Rounds) (old one new : Option Files) (name : List ℕ)
+    → HasStages start settings before old one name → AreSame before after one new name → HasStages start settings after old new name
+same_staged texts start settings before after old one new name b s = record {
   records = b.records;
   run = record {
     accepted = subst (λ (n : Net). AcceptedTo start b.records n) (sym s.net) b.run.accepted;
-    run = subst (λ (k : ℕ). IsStagedRun start (steps_of b.records) merge settings.depth settings.tries k after.last.settled) (sym s.tries)
-        (subst (λ (x : Bool). IsStagedRun start (steps_of b.records) merge settings.depth settings.tries before.last.tries x) (sym s.settled) b.run.run);
+    run = subst (λ (k : ℕ). IsStagedRun start (steps_of b.records) settings.merge settings.depth k after.last.tries after.last.settled) (sym s.limit)
+        (subst (λ (k : ℕ). IsStagedRun start (steps_of b.records) settings.merge settings.depth before.last.limit k after.last.settled) (sym s.tries)
+        (subst (λ (x : Bool). IsStagedRun start (steps_of b.records) settings.merge settings.depth before.last.limit before.last.tries x) (sym s.settled) b.run.run));
     tidy = subst IsTidy (sym s.net) b.run.tidy;
     fewer = subst (λ (n : Net). wire_count n ≤ wire_count start) (sym s.net) b.run.fewer;
     within = s.within;
@@ -164,9 +167,9 @@ same_staged texts start settings merge before after old one new name b s = recor
 }
 
 -- and where some were, there is a stage more
-followed_staged : (join : RunsJoin) (texts : TextsAppend) (start : Net) (settings : Settings) (merge : ℕ) (before after : Rounds) (old one new : Option Files) (name : List ℕ)
-    → (merge ≡ 0 → ⊥) → HasStages start settings merge before old one name → HaveFollowed settings before after one new name → HasStages start settings merge after old new name
-followed_staged join texts start settings merge before after old one new name merges b f =
+followed_staged : (join : RunsJoin) (texts : TextsAppend) (start : Net) (settings : Settings) (before after : Rounds) (old one new : Option Files) (name : List ℕ)
+    → (settings.merge ≡ 0 → ⊥) → HasStages start settings before old one name → HaveFollowed settings before after one new name → HasStages start settings after old new name
+followed_staged join texts start settings before after old one new name merges b f =
     let m = f.merged in
     let r = f.ended.recorded in
     let now : Net = net_of before.last.graph in
@@ -175,18 +178,25 @@ followed_staged join texts start settings merge before after old one new name me
     let records : List Record = b.records ++ rest in
     let steps : List Step = steps_of b.records ++ (steps_of m.records ++ steps_of r.records) in
     let steps_are : steps_of records ≡ steps = join.steps b.records rest ∙ ap (λ (ss : List Step). steps_of b.records ++ ss) (join.steps m.records r.records) in
-    let run : IsStagedRun start steps merge settings.depth settings.tries (before.last.tries + f.rounds.last.tries) f.rounds.last.settled =
-    run_goes_further start now mid (steps_of b.records) (steps_of m.records) (steps_of r.records) merge settings.depth settings.tries before.last.tries f.rounds.last.tries before.last.settled f.rounds.last.settled merges b.run.run
-    (led_after start now b.records b.run.accepted) (led_after now mid m.records m.accepted) r.run.run in
+    let limit : ℕ = before.last.tries + f.rounds.last.limit in
+    let some : f.rounds.last.limit ≤ before.last.limit - before.last.tries = f.within in
+    let left : f.rounds.last.limit ≡ limit - before.last.tries = omega arith in
+    let was : IsStagedRun start (steps_of b.records) settings.merge settings.depth limit before.last.tries before.last.settled =
+    staged_lowered start (steps_of b.records) settings.merge settings.depth before.last.limit limit before.last.tries before.last.settled b.run.run (omega arith) (omega (arith, some, b.run.run.within)) in
+    let run : IsStagedRun start steps settings.merge settings.depth limit (before.last.tries + f.rounds.last.tries) f.rounds.last.settled =
+    run_goes_further start now mid (steps_of b.records) (steps_of m.records) (steps_of r.records) settings.merge settings.depth limit before.last.tries f.rounds.last.tries before.last.settled f.rounds.last.settled merges was
+    (led_after start now b.records b.run.accepted) (led_after now mid m.records m.accepted)
+    (subst (λ (k : ℕ). IsRun mid (steps_of r.records) settings.depth k f.rounds.last.tries f.rounds.last.settled) left r.run.run) in
     let led : AcceptedTo start records (net_of f.rounds.last.graph) =
     join.accepted start now (net_of f.rounds.last.graph) b.records rest b.run.accepted (join.accepted now mid (net_of f.rounds.last.graph) m.records r.records m.accepted r.run.accepted) in
     record {
       records = records;
       run = record {
         accepted = subst (λ (g : Circuit). AcceptedTo start records (net_of g)) (sym f.graph) led;
-        run = subst (λ (ss : List Step). IsStagedRun start ss merge settings.depth settings.tries after.last.tries after.last.settled) (sym steps_are)
-            (subst (λ (k : ℕ). IsStagedRun start steps merge settings.depth settings.tries k after.last.settled) (sym f.tries)
-            (subst (λ (x : Bool). IsStagedRun start steps merge settings.depth settings.tries (before.last.tries + f.rounds.last.tries) x) (sym f.settled) run));
+        run = subst (λ (ss : List Step). IsStagedRun start ss settings.merge settings.depth after.last.limit after.last.tries after.last.settled) (sym steps_are)
+            (subst (λ (k : ℕ). IsStagedRun start steps settings.merge settings.depth k after.last.tries after.last.settled) (sym f.limit)
+            (subst (λ (k : ℕ). IsStagedRun start steps settings.merge settings.depth limit k after.last.settled) (sym f.tries)
+            (subst (λ (x : Bool). IsStagedRun start steps settings.merge settings.depth limit (before.last.tries + f.rounds.last.tries) x) (sym f.settled) run)));
         tidy = subst (λ (g : Circuit). IsTidy (net_of g)) (sym f.graph) r.run.tidy;
         fewer = subst (λ (g : Circuit). wire_count (net_of g) ≤ wire_count start) (sym f.graph) (omega (arith, r.run.fewer, m.fewer, b.run.fewer));
         within = subst (λ (g : Circuit). pins_taken g + live_nodes g ≤ 1048576) (sym f.graph) r.run.within;
@@ -203,11 +213,11 @@ followed_staged join texts start settings merge before after old one new name me
       closed = subst (λ (p : Report). AreClosed (net_of after.last.graph) settings.budget p.verdicts.items) (sym f.report) (subst (λ (g : Circuit). AreClosed (net_of g) settings.budget f.rounds.report.verdicts.items) (sym f.graph) f.ended.closed);
     }
 
-pub further_staged : (join : RunsJoin) (texts : TextsAppend) (start : Net) (settings : Settings) (merge : ℕ) (before after : Rounds) (old one new : Option Files) (name : List ℕ)
-    → (merge ≡ 0 → ⊥) → HasStages start settings merge before old one name → HasGoneFurther settings before after one new name → HasStages start settings merge after old new name
-further_staged join texts start settings merge before after old one new name merges b h = elim h [
-  | inl same ↦ same_staged texts start settings merge before after old one new name b same
-  | inr more ↦ followed_staged join texts start settings merge before after old one new name merges b more
+pub further_staged : (join : RunsJoin) (texts : TextsAppend) (start : Net) (settings : Settings) (before after : Rounds) (old one new : Option Files) (name : List ℕ)
+    → (settings.merge ≡ 0 → ⊥) → HasStages start settings before old one name → HasGoneFurther settings before after one new name → HasStages start settings after old new name
+further_staged join texts start settings before after old one new name merges b h = elim h [
+  | inl same ↦ same_staged texts start settings before after old one new name b same
+  | inr more ↦ followed_staged join texts start settings before after old one new name merges b more
 ]
 
 -- rounds that ended made no more steps than the bound says

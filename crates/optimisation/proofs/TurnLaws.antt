@@ -28,12 +28,13 @@ use Rattle.optimisation.specs.Inner.Turned.{HasTurned, HasTurnedInVain, HasTurne
 use Rattle.optimisation.specs.Stages.{IsStagedRun}
 use Rattle.optimisation.specs.Turns.{HaveTurns, IsTurnedRun, staged, turned, in_vain}
 use Rattle.optimisation.specs.declared.rounds.Rounds.{Rounds}
+use Rattle.optimisation.proofs.Lowering.{turn_lowered, turned_lowered}
 use Rattle.optimisation.proofs.RoundLaws.{three_counted}
 use Rattle.optimisation.proofs.StageLaws.{led_after, net_then}
 
 -- stages are no turn yet
-pub turns_first : (start : Net) (settings : Settings) (merge : ℕ) (rounds : Rounds) (old new : Option Files) (name : List ℕ) → HasStages start settings merge rounds old new name → HasTurns start settings merge 0 rounds old new name
-turns_first start settings merge rounds old new name h =
+pub turns_first : (start : Net) (settings : Settings) (rounds : Rounds) (old new : Option Files) (name : List ℕ) → HasStages start settings rounds old new name → HasTurns start settings 0 rounds old new name
+turns_first start settings rounds old new name h =
     let r = h.run.run in
     record {
       records = h.records;
@@ -63,8 +64,8 @@ none_zero : (k perturb : ℕ) → k ≤ perturb → perturb ≡ 0 → k ≡ 0
 none_zero k perturb le none = omega (arith, le, none)
 
 -- there may be more turns than there are
-pub turns_within : (start : Net) (settings : Settings) (merge k perturb : ℕ) (rounds : Rounds) (old new : Option Files) (name : List ℕ) → k ≤ perturb → HasTurns start settings merge k rounds old new name → HasTurns start settings merge perturb rounds old new name
-turns_within start settings merge k perturb rounds old new name le h =
+pub turns_within : (start : Net) (settings : Settings) (k perturb : ℕ) (rounds : Rounds) (old new : Option Files) (name : List ℕ) → k ≤ perturb → HasTurns start settings k rounds old new name → HasTurns start settings perturb rounds old new name
+turns_within start settings k perturb rounds old new name le h =
     let r = h.run.run in
     record {
       records = h.records;
@@ -114,22 +115,23 @@ in_vain_run net steps merge k depth limit used spent le r = record {
 }
 
 -- a turn in vain is one more
-pub turns_in_vain : (join : RunsJoin) (texts : TextsAppend) (start : Net) (settings : Settings) (merge k : ℕ) (before after : Rounds) (old one new : Option Files) (name : List ℕ) → before.last.settled ≡ true
-    → HasTurns start settings merge k before old one name → HasTurnedInVain settings before after one new name → HasTurns start settings merge (suc k) after old new name
-turns_in_vain join texts start settings merge k before after old one new name settles b v =
+pub turns_in_vain : (join : RunsJoin) (texts : TextsAppend) (start : Net) (settings : Settings) (k : ℕ) (before after : Rounds) (old one new : Option Files) (name : List ℕ) → before.last.settled ≡ true
+    → HasTurns start settings k before old one name → HasTurnedInVain settings before after one new name → HasTurns start settings (suc k) after old new name
+turns_in_vain join texts start settings k before after old one new name settles b v =
     let p = v.perturbed in
     let none : p.records ≡ [] = no_records join (net_of before.last.graph) (net_of after.last.graph) p.records v.made p.accepted p.counted v.none in
     let same : net_of after.last.graph ≡ net_of before.last.graph = subst (λ (rs : List Record). AcceptedTo (net_of before.last.graph) rs (net_of after.last.graph)) none p.accepted in
     let written : HasAppended one new name [] = subst (λ (rs : List Record). HasAppended one new name (records_text rs)) none p.written in
-    let spent : v.spent ≤ settings.tries - before.last.tries = p.turn.within in
-    let run : IsTurnedRun start (steps_of b.records) merge k settings.depth settings.tries before.last.tries true = subst (λ (x : Bool). IsTurnedRun start (steps_of b.records) merge k settings.depth settings.tries before.last.tries x) settles b.run.run in
-    let more : IsTurnedRun start (steps_of b.records) merge (suc k) settings.depth settings.tries (before.last.tries + v.spent) true = in_vain_run start (steps_of b.records) merge k settings.depth settings.tries before.last.tries v.spent (omega (arith, spent, run.within)) run in
+    let spent : v.spent ≤ before.last.limit - before.last.tries = p.turn.within in
+    let run : IsTurnedRun start (steps_of b.records) settings.merge k settings.depth before.last.limit before.last.tries true = subst (λ (x : Bool). IsTurnedRun start (steps_of b.records) settings.merge k settings.depth before.last.limit before.last.tries x) settles b.run.run in
+    let more : IsTurnedRun start (steps_of b.records) settings.merge (suc k) settings.depth before.last.limit (before.last.tries + v.spent) true = in_vain_run start (steps_of b.records) settings.merge k settings.depth before.last.limit before.last.tries v.spent (omega (arith, spent, run.within)) run in
     record {
       records = b.records;
       run = record {
         accepted = subst (λ (n : Net). AcceptedTo start b.records n) (sym same) b.run.accepted;
-        run = subst (λ (n : ℕ). IsTurnedRun start (steps_of b.records) merge (suc k) settings.depth settings.tries n after.last.settled) (sym v.tries)
-            (subst (λ (x : Bool). IsTurnedRun start (steps_of b.records) merge (suc k) settings.depth settings.tries (before.last.tries + v.spent) x) (sym (v.settled ∙ settles)) more);
+        run = subst (λ (n : ℕ). IsTurnedRun start (steps_of b.records) settings.merge (suc k) settings.depth n after.last.tries after.last.settled) (sym v.limit)
+            (subst (λ (n : ℕ). IsTurnedRun start (steps_of b.records) settings.merge (suc k) settings.depth before.last.limit n after.last.settled) (sym v.tries)
+            (subst (λ (x : Bool). IsTurnedRun start (steps_of b.records) settings.merge (suc k) settings.depth before.last.limit (before.last.tries + v.spent) x) (sym (v.settled ∙ settles)) more));
         tidy = subst IsTidy (sym same) b.run.tidy;
         fewer = subst (λ (n : Net). wire_count n ≤ wire_count start) (sym same) b.run.fewer;
         within = v.within;
@@ -159,9 +161,9 @@ turned_run start now mid before turn steps merge k depth limit used spent tries 
     }
 
 -- a turn with rounds behind it is one more
-pub turns_on : (join : RunsJoin) (texts : TextsAppend) (start : Net) (settings : Settings) (merge k : ℕ) (before after : Rounds) (old one new : Option Files) (name : List ℕ) → before.last.settled ≡ true
-    → HasTurns start settings merge k before old one name → HasTurnedOn settings before after one new name → HasTurns start settings merge (suc k) after old new name
-turns_on join texts start settings merge k before after old one new name settles b h =
+pub turns_on : (join : RunsJoin) (texts : TextsAppend) (start : Net) (settings : Settings) (k : ℕ) (before after : Rounds) (old one new : Option Files) (name : List ℕ) → before.last.settled ≡ true
+    → HasTurns start settings k before old one name → HasTurnedOn settings before after one new name → HasTurns start settings (suc k) after old new name
+turns_on join texts start settings k before after old one new name settles b h =
     let p = h.perturbed in
     let f = h.followed in
     let r = f.ended.recorded in
@@ -171,19 +173,30 @@ turns_on join texts start settings merge k before after old one new name settles
     let records : List Record = b.records ++ rest in
     let steps : List Step = steps_of b.records ++ (steps_of p.records ++ steps_of r.records) in
     let steps_are : steps_of records ≡ steps = join.steps b.records rest ∙ ap (λ (ss : List Step). steps_of b.records ++ ss) (join.steps p.records r.records) in
-    let was : IsTurnedRun start (steps_of b.records) merge k settings.depth settings.tries before.last.tries true = subst (λ (x : Bool). IsTurnedRun start (steps_of b.records) merge k settings.depth settings.tries before.last.tries x) settles b.run.run in
-    let run : IsTurnedRun start steps merge (suc k) settings.depth settings.tries (before.last.tries + h.spent + f.rounds.last.tries) f.rounds.last.settled =
-    turned_run start now mid (steps_of b.records) (steps_of p.records) (steps_of r.records) merge k settings.depth settings.tries before.last.tries h.spent f.rounds.last.tries f.rounds.last.settled was
-    (led_after start now b.records b.run.accepted) p.turn (led_after now mid p.records p.accepted) r.run.run in
+    let used : ℕ = before.last.tries + h.spent in
+    let limit : ℕ = used + f.rounds.last.limit in
+    let spent : h.spent ≤ before.last.limit - before.last.tries = p.turn.within in
+    let some : f.rounds.last.limit ≤ before.last.limit - used = f.within in
+    let left : f.rounds.last.limit ≡ limit - used = omega arith in
+    let within : limit ≤ before.last.limit = omega (arith, some, spent, b.run.run.within) in
+    let before_is : IsTurnedRun start (steps_of b.records) settings.merge k settings.depth before.last.limit before.last.tries true =
+    subst (λ (x : Bool). IsTurnedRun start (steps_of b.records) settings.merge k settings.depth before.last.limit before.last.tries x) settles b.run.run in
+    let was : IsTurnedRun start (steps_of b.records) settings.merge k settings.depth limit before.last.tries true =
+    turned_lowered start (steps_of b.records) settings.merge k settings.depth before.last.limit limit before.last.tries true before_is (omega arith) within in
+    let run : IsTurnedRun start steps settings.merge (suc k) settings.depth limit (used + f.rounds.last.tries) f.rounds.last.settled =
+    turned_run start now mid (steps_of b.records) (steps_of p.records) (steps_of r.records) settings.merge k settings.depth limit before.last.tries h.spent f.rounds.last.tries f.rounds.last.settled was
+    (led_after start now b.records b.run.accepted) (turn_lowered now settings.depth (before.last.limit - before.last.tries) (limit - before.last.tries) (steps_of p.records) mid h.spent p.turn (omega arith)) (led_after now mid p.records p.accepted)
+    (subst (λ (n : ℕ). IsRun mid (steps_of r.records) settings.depth n f.rounds.last.tries f.rounds.last.settled) left r.run.run) in
     let led : AcceptedTo start records (net_of f.rounds.last.graph) =
     join.accepted start now (net_of f.rounds.last.graph) b.records rest b.run.accepted (join.accepted now mid (net_of f.rounds.last.graph) p.records r.records p.accepted r.run.accepted) in
     record {
       records = records;
       run = record {
         accepted = subst (λ (g : Circuit). AcceptedTo start records (net_of g)) (sym f.graph) led;
-        run = subst (λ (ss : List Step). IsTurnedRun start ss merge (suc k) settings.depth settings.tries after.last.tries after.last.settled) (sym steps_are)
-            (subst (λ (n : ℕ). IsTurnedRun start steps merge (suc k) settings.depth settings.tries n after.last.settled) (sym f.tries_are)
-            (subst (λ (x : Bool). IsTurnedRun start steps merge (suc k) settings.depth settings.tries (before.last.tries + h.spent + f.rounds.last.tries) x) (sym f.settled) run));
+        run = subst (λ (ss : List Step). IsTurnedRun start ss settings.merge (suc k) settings.depth after.last.limit after.last.tries after.last.settled) (sym steps_are)
+            (subst (λ (n : ℕ). IsTurnedRun start steps settings.merge (suc k) settings.depth n after.last.tries after.last.settled) (sym f.limit_is)
+            (subst (λ (n : ℕ). IsTurnedRun start steps settings.merge (suc k) settings.depth limit n after.last.settled) (sym f.tries_are)
+            (subst (λ (x : Bool). IsTurnedRun start steps settings.merge (suc k) settings.depth limit (used + f.rounds.last.tries) x) (sym f.settled) run)));
         tidy = subst (λ (g : Circuit). IsTidy (net_of g)) (sym f.graph) r.run.tidy;
         fewer = subst (λ (g : Circuit). wire_count (net_of g) ≤ wire_count start) (sym f.graph) (omega (arith, r.run.fewer, p.fewer, b.run.fewer));
         within = subst (λ (g : Circuit). pins_taken g + live_nodes g ≤ 1048576) (sym f.graph) r.run.within;
@@ -200,20 +213,20 @@ turns_on join texts start settings merge k before after old one new name settles
       closed = subst (λ (q : Report). AreClosed (net_of after.last.graph) settings.budget q.verdicts.items) (sym f.report) (subst (λ (g : Circuit). AreClosed (net_of g) settings.budget f.rounds.report.verdicts.items) (sym f.graph) f.ended.closed);
     }
 
-pub turns_more : (join : RunsJoin) (texts : TextsAppend) (start : Net) (settings : Settings) (merge k : ℕ) (before after : Rounds) (changed : Bool) (old one new : Option Files) (name : List ℕ) → before.last.settled ≡ true
-    → HasTurns start settings merge k before old one name → HasTurned settings before after changed one new name → HasTurns start settings merge (suc k) after old new name
-turns_more join texts start settings merge k before after true old one new name settles b h = turns_on join texts start settings merge k before after old one new name settles b h
-turns_more join texts start settings merge k before after false old one new name settles b h = turns_in_vain join texts start settings merge k before after old one new name settles b h
+pub turns_more : (join : RunsJoin) (texts : TextsAppend) (start : Net) (settings : Settings) (k : ℕ) (before after : Rounds) (changed : Bool) (old one new : Option Files) (name : List ℕ) → before.last.settled ≡ true
+    → HasTurns start settings k before old one name → HasTurned settings before after changed one new name → HasTurns start settings (suc k) after old new name
+turns_more join texts start settings k before after true old one new name settles b h = turns_on join texts start settings k before after old one new name settles b h
+turns_more join texts start settings k before after false old one new name settles b h = turns_in_vain join texts start settings k before after old one new name settles b h
 
 has_settled : (b : Bool) → not b ≡ false → b ≡ true
 has_settled true e = refl
 has_settled false e = absurd (true≢false e)
 
-pub turns_next : (join : RunsJoin) (texts : TextsAppend) (start : Net) (settings : Settings) (merge k : ℕ) (before after : Rounds) (changed : Bool) (old one new : Option Files) (name : List ℕ) → not before.last.settled ≡ false
-    → HasTurns start settings merge k before old one name → HasTurned settings before after changed one new name → HasTurns start settings merge (k + 1) after old new name
-turns_next join texts start settings merge k before after changed old one new name ends b h =
+pub turns_next : (join : RunsJoin) (texts : TextsAppend) (start : Net) (settings : Settings) (k : ℕ) (before after : Rounds) (changed : Bool) (old one new : Option Files) (name : List ℕ) → not before.last.settled ≡ false
+    → HasTurns start settings k before old one name → HasTurned settings before after changed one new name → HasTurns start settings (k + 1) after old new name
+turns_next join texts start settings k before after changed old one new name ends b h =
     let next : suc k ≡ k + 1 = omega arith in
-    subst (λ (n : ℕ). HasTurns start settings merge n after old new name) next (turns_more join texts start settings merge k before after changed old one new name (has_settled before.last.settled ends) b h)
+    subst (λ (n : ℕ). HasTurns start settings n after old new name) next (turns_more join texts start settings k before after changed old one new name (has_settled before.last.settled ends) b h)
 
 -- WHERE IT STOPS
 pub ended_stopped : (texts : TextsAppend) (start : Net) (settings : Settings) (rounds : Rounds) (old new : Option Files) (name : List ℕ) → HasEnded start settings rounds old new name → IsStopped start old new name
@@ -224,5 +237,5 @@ ended_stopped texts start settings rounds old new name h =
 pub perturbed_stopped : (texts : TextsAppend) (net after : Net) (depth limit tries : ℕ) (made : Made) (old new : Option Files) (name : List ℕ) → HasPerturbed net after depth limit tries made old new name → IsStopped net old new name
 perturbed_stopped texts net after depth limit tries made old new name p = record { records = p.records; after = after; accepted = p.accepted; written = texts.whole old new name (records_text p.records) p.written }
 
-pub turns_stopped : (texts : TextsAppend) (start : Net) (settings : Settings) (merge k : ℕ) (rounds : Rounds) (old new : Option Files) (name : List ℕ) → HasTurns start settings merge k rounds old new name → IsStopped start old new name
-turns_stopped texts start settings merge k rounds old new name h = record { records = h.records; after = net_of rounds.last.graph; accepted = h.run.accepted; written = texts.whole old new name (records_text h.records) h.written }
+pub turns_stopped : (texts : TextsAppend) (start : Net) (settings : Settings) (k : ℕ) (rounds : Rounds) (old new : Option Files) (name : List ℕ) → HasTurns start settings k rounds old new name → IsStopped start old new name
+turns_stopped texts start settings k rounds old new name h = record { records = h.records; after = net_of rounds.last.graph; accepted = h.run.accepted; written = texts.whole old new name (records_text h.records) h.written }

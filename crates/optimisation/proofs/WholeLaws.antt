@@ -13,6 +13,7 @@ use Rattle.journal_text.specs.Text.{entry_text}
 use Rattle.journal_text.specs.declared.record.Record.{Record}
 use Rattle.journal_text.specs.declared.record.Entry.TheVariants.{Header, End}
 use Rattle.closing_pass.specs.Recording.{verdict_records}
+use Rattle.optimisation.specs.Allowed.{IsAllowed}
 use Rattle.optimisation.specs.Turns.{IsTurnedRun}
 use Rattle.optimisation.specs.Begun.{BeginsSteps, HasBegun}
 use Rattle.optimisation.specs.Inner.Begun.{BeginsHeader}
@@ -69,13 +70,13 @@ left_begun m budget name old opened new e h = elim h [
 ]
 
 -- a journal that was filled is whole
-pub filled_whole : (keep : AcceptedRunsKeep) (m : Model) (settings : Settings) (merge perturb : ℕ) (rounds : Rounds) (f : Figures) (old opened new : Option Files) (name : List ℕ) → IsWellFormed (net_of_model m) → wire_count (net_of_model m) ≡ decomposed m
-    → opened ≡ option_map (put_file name (entry_text (Header settings.budget))) old → IsFilled (net_of_model m) settings merge perturb rounds opened new name
+pub filled_whole : (keep : AcceptedRunsKeep) (m : Model) (settings : Settings) (rounds : Rounds) (f : Figures) (old opened new : Option Files) (name : List ℕ) → IsWellFormed (net_of_model m) → wire_count (net_of_model m) ≡ decomposed m
+    → opened ≡ option_map (put_file name (entry_text (Header settings.budget))) old → IsFilled (net_of_model m) settings rounds opened new name → IsAllowed settings rounds.last.limit f.work
     → f.wires_before ≡ decomposed m → f.gates_before ≡ gate_count (net_of_model m) → f.wires ≡ wire_count (net_of rounds.last.graph) → f.gates ≡ gate_count (net_of rounds.last.graph)
     → f.made ≡ rounds.last.made → f.tries ≡ rounds.last.tries → f.settled ≡ rounds.last.settled
     → f.tested ≡ hits_among (verdict_records rounds.report.verdicts.items) → f.spent ≡ spents_among (verdict_records rounds.report.verdicts.items)
-    → IsWhole m settings merge perturb (net_of rounds.last.graph) f old new name
-filled_whole keep m settings merge perturb rounds f old opened new name formed wires e h wires_before gates_before wires_after gates_after made tries settled tested spent =
+    → IsWhole m settings (net_of rounds.last.graph) f old new name
+filled_whole keep m settings rounds f old opened new name formed wires e h allowed wires_before gates_before wires_after gates_after made tries settled tested spent =
     let H : List ℕ = entry_text (Header settings.budget) in
     let net : Net = net_of rounds.last.graph in
     let verdicts : List Record = verdict_records rounds.report.verdicts.items in
@@ -91,8 +92,10 @@ filled_whole keep m settings merge perturb rounds f old opened new name formed w
         fewer = omega (arith, h.run.fewer, wires);
         settled = settled_of net settings.budget rounds.report.verdicts.items h.closed;
         searched = searched net settings.budget rounds.report.verdicts.items h.closed;
-        run = subst (λ (b : Bool). IsTurnedRun (net_of_model m) (steps_of h.records) merge perturb settings.depth settings.tries f.tries b) (sym settled)
-            (subst (λ (k : ℕ). IsTurnedRun (net_of_model m) (steps_of h.records) merge perturb settings.depth settings.tries k rounds.last.settled) (sym tries) h.run.run);
+        limit = rounds.last.limit;
+        allowed = allowed;
+        run = subst (λ (b : Bool). IsTurnedRun (net_of_model m) (steps_of h.records) settings.merge settings.perturb settings.depth rounds.last.limit f.tries b) (sym settled)
+            (subst (λ (k : ℕ). IsTurnedRun (net_of_model m) (steps_of h.records) settings.merge settings.perturb settings.depth rounds.last.limit k rounds.last.settled) (sym tries) h.run.run);
         figures = record {
           wires_before = wires_before;
           gates_before = gates_before;

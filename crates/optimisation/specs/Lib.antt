@@ -1,4 +1,5 @@
 pub mod Tests
+pub mod Allowed
 pub mod Begun
 pub mod Stages
 pub mod Turns

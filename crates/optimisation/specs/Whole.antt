@@ -15,6 +15,7 @@ use Rattle.journal_text.specs.Text.{AreEntries, journal_entries, journal_text}
 use Rattle.journal_text.specs.declared.record.Record.{Record}
 use Rattle.journal_check.specs.Verdicts.{SettleAll}
 use Rattle.optimisation.specs.declared.optimised.Figures.{Figures}
+use Rattle.optimisation.specs.Allowed.{IsAllowed}
 use Rattle.optimisation.specs.Turns.{IsTurnedRun}
 use Rattle.optimisation.specs.Tests.{AreSearched, hits_among, spents_among}
 
@@ -29,21 +30,23 @@ pub record AreFigures (m : Model) (net : Net) (steps verdicts : List Record) (f 
   pub spent : f.spent ≡ spents_among verdicts
 
 -- accepted steps lead from the decomposition to a tidy net with no more wires, of which each fault has its verdict; the steps are
--- a run of turns, the figures tell of all that, and the records are entries of a journal
-pub record IsRunOver (m : Model) (settings : Settings) (merge perturb : ℕ) (net : Net) (steps verdicts : List Record) (f : Figures) : Type 0 where
+-- a run of turns with the tries that are allowed, the figures tell of all that, and the records are entries of a journal
+pub record IsRunOver (m : Model) (settings : Settings) (net : Net) (steps verdicts : List Record) (f : Figures) : Type 0 where
   pub led : AcceptedTo (net_of_model m) steps net
   pub tidy : IsTidy net
   pub keeps : Keeps (net_of_model m) net
   pub fewer : wire_count net ≤ decomposed m
   pub settled : SettleAll net settings.budget (faults_of net) verdicts
   pub searched : AreSearched net settings.budget verdicts
-  pub run : IsTurnedRun (net_of_model m) (steps_of steps) merge perturb settings.depth settings.tries f.tries f.settled
+  pub limit : ℕ
+  pub allowed : IsAllowed settings limit f.work
+  pub run : IsTurnedRun (net_of_model m) (steps_of steps) settings.merge settings.perturb settings.depth limit f.tries f.settled
   pub figures : AreFigures m net steps verdicts f
   pub valid : AreEntries (journal_entries settings.budget (steps ++ verdicts))
 
 -- and the journal is the text of these records
-pub record IsWhole (m : Model) (settings : Settings) (merge perturb : ℕ) (net : Net) (f : Figures) (old new : Option Files) (journal : List ℕ) : Type 0 where
+pub record IsWhole (m : Model) (settings : Settings) (net : Net) (f : Figures) (old new : Option Files) (journal : List ℕ) : Type 0 where
   pub steps : List Record
   pub verdicts : List Record
-  pub over : IsRunOver m settings merge perturb net steps verdicts f
+  pub over : IsRunOver m settings net steps verdicts f
   pub written : new ≡ option_map (put_file journal (journal_text settings.budget (steps ++ verdicts))) old

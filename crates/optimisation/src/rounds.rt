@@ -1,5 +1,5 @@
 // Rounds: the addition loop and then the closing pass, until the pass fixes nothing.
-ghost use Rattle.std.specs.Prelude.{◌≡◌, ◌≢◌, ◌≤◌, ◌<◌, ◌+◌, Err, IfOk, OnErr, OnOk, IfErr};
+ghost use Rattle.std.specs.Prelude.{◌≡◌, ◌≢◌, ◌≤◌, ◌<◌, ◌+◌, ◌-◌, ◌⊎◌, Err, IfOk, OnErr, OnOk, IfErr};
 ghost use Rattle.rm_base.specs.Causes.{Rose};
 ghost use Rattle.gate_net.specs.Net.{wire_count};
 ghost use Rattle.gate_graph.specs.Circuit.{live_nodes, net_of, pins_taken};
@@ -8,7 +8,10 @@ ghost use Rattle.candidate_wires.specs.declared.candidate.Outcome.TheVariants.{S
 ghost use Rattle.journal_text.specs.Appends.{IsThere};
 ghost use Rattle.journal_text.specs.Runs.{IsStopped};
 ghost use Rattle.journal_text.specs.declared.append.Stop.TheVariants as stop;
+ghost use Rattle.rar_loop.specs.Ended.{allowed_to};
 ghost use Rattle.rar_loop.specs.Rounds.{is_settled, tries_of};
+ghost use Rattle.rm_base.specs.Work.{IsWorkedOff};
+ghost use Rattle.optimisation.specs.Allowed.{IsAllowed};
 ghost use Rattle.optimisation.specs.Inner.Ended.{HasEnded};
 ghost use Rattle.optimisation.specs.Inner.Ran.{AreBounded, HasGoneOn, HasRecorded, sum_of};
 ghost use Rattle.closing_pass.specs.Reports.{made_in};
@@ -24,13 +27,15 @@ use rm_base::{Fault, Gate, Made, Settings, Shelf};
 use std::alloc::Global;
 use std::thread::Threads;
 
-/// The graph after the addition loop of a round, the steps and the tries so far, whether the loop tried all pairs in vain,
-/// and the target at which its turns begin.
+/// The graph after the addition loop of a round, the steps and the tries so far, how many tries are allowed, whether the loop
+/// tried all pairs in vain, and the target at which its turns begin. As many tries are allowed as the settings say, or, once a
+/// loop was cut short, as many as were made.
 #[derive(Drop)]
 pub(crate) struct Round {
     pub(crate) graph: Graph,
     pub(crate) made: Made,
     pub(crate) tries: u32,
+    pub(crate) limit: u32,
     pub(crate) settled: bool,
     pub(crate) start: Option<Fault>,
 }
@@ -60,6 +65,18 @@ fn is_settled(outcome: &Outcome) -> bool
     }
 }
 
+// How many tries are allowed after a call that was given those that were left.
+fn limit_after(outcome: &Outcome, tries: u32, limit: u32) -> u32
+    requires tries { tries ≤ limit }
+    requires within { tries_of outcome.now ≤ limit - tries }
+    ensures { result ≡ tries + allowed_to (limit - tries) outcome.now }
+{
+    match outcome {
+        Outcome::Settled { tries: _ } => limit,
+        Outcome::TriesSpent { tries: more, at: _ } => tries + *more,
+    }
+}
+
 // With the steps of a closing pass and of a further call.
 fn sum_of(made: Made, fixed: u32, local: u64, more: Made) -> Made
     requires adds { made.adds + more.adds ≤ 18446744073709551615 }
@@ -81,38 +98,44 @@ fn further_round<S: Shelf>(
     report: &Report,
     made: Made,
     tries: u32,
+    limit: u32,
     start: Option<Fault>,
     settings: &Settings,
     shelf: &mut S,
     journal: &str,
+    work: &mut u64,
 ) -> Result<Round, Stop>
     requires few { pins_taken graph + live_nodes graph ≤ 1048576 }
     requires settings { AreSettings settings.now }
-    requires tries { tries ≤ settings.now.tries }
+    requires tries { tries ≤ limit }
+    requires limit { limit ≤ settings.now.tries }
     requires adds { made.adds ≤ 4611826755915743232 }
     requires fixes { made.fixes ≤ 4611826755915743232 }
     requires local { (made.local ≤ 4611826755915743232) × (report.now.local ≤ 35184372088832) }
     requires there { IsThere (S.files shelf.old) journal.now }
-    ensures went { IfOk result (λ r. HasGoneOn settings.now graph (sum_of made (made_in report.now)) tries start r (S.files shelf.old) (S.files shelf.new) journal.now) }
-    ensures within { IfOk result (λ r. r.tries ≤ settings.now.tries) }
+    ensures went { IfOk result (λ r. HasGoneOn settings.now graph (sum_of made (made_in report.now)) tries limit start r (S.files shelf.old) (S.files shelf.new) journal.now) }
+    ensures within { IfOk result (λ r. r.limit ≤ limit) }
+    ensures cut_short { IfOk result (λ r. (r.limit ≡ limit) ⊎ IsWorkedOff settings.now work.new) }
+    ensures grown { work.old ≤ work.new }
     ensures there { IsThere (S.files shelf.new) journal.now }
     ensures stopped { OnErr result (IsStopped (net_of graph) (S.files shelf.old) (S.files shelf.new) journal.now) }
     ensures failed { result ≡ Err stop.Failed → Rose (S.faults shelf.old) (S.faults shelf.new) }
     ensures later { S.faults shelf.old ≤ S.faults shelf.new }
 {
     let left = Settings {
-        depth: settings.depth,
-        budget: settings.budget,
-        tries: settings.tries - tries,
-        workers: settings.workers,
+        tries: limit - tries,
+        ..*settings
     };
     let found = report.found.as_slice();
     let mut start = start;
-    let (graph, outcome, more) = optimise(alloc, graph, &left, shelf, journal, found, &mut start)?;
+    let (graph, outcome, more) = optimise(
+        alloc, graph, &left, shelf, journal, found, &mut start, work,
+    )?;
     Ok(Round {
         graph,
         made: sum_of(made, report.fixed, report.local, more),
         tries: tries + tries_of(&outcome),
+        limit: limit_after(&outcome, tries, limit),
         settled: is_settled(&outcome),
         start,
     })
@@ -128,13 +151,15 @@ fn first_round<R: Threads + Sync, G: Gate, S: Shelf>(
     gate: &G,
     shelf: &mut S,
     journal: &str,
+    work: &mut u64,
 ) -> Result<Round, Stop>
     requires few { pins_taken graph + live_nodes graph ≤ 1048576 }
     requires wires { wire_count (net_of graph) ≤ most_pins }
     requires settings { AreSettings settings.now }
     requires there { IsThere (S.files shelf.old) journal.now }
     ensures ran { IfOk result (λ r. HasRecorded (net_of graph) settings.now r (S.files shelf.old) (S.files shelf.new) journal.now) }
-    ensures within { IfOk result (λ r. r.tries ≤ settings.now.tries) }
+    ensures allowed { IfOk result (λ r. IsAllowed settings.now r.limit work.new) }
+    ensures grown { work.old ≤ work.new }
     ensures there { IsThere (S.files shelf.new) journal.now }
     ensures stopped { OnErr result (IsStopped (net_of graph) (S.files shelf.old) (S.files shelf.new) journal.now) }
     ensures failed { result ≡ Err stop.Failed → Rose (S.faults shelf.old) (S.faults shelf.new) }
@@ -143,15 +168,25 @@ fn first_round<R: Threads + Sync, G: Gate, S: Shelf>(
     run_begins();
     runs_join();
     texts_append();
-    let (swept, made) = remove_redundant(alloc, graph, settings.depth, shelf, journal)?;
-    let (closed, report) = close_faults(rt, alloc, swept, settings, gate, shelf, journal)?;
+    let (swept, made) = remove_redundant(alloc, graph, settings.depth, shelf, journal, work)?;
+    let (closed, report) = close_faults(rt, alloc, swept, settings, gate, shelf, journal, work)?;
     let round = further_round(
-        alloc, closed, &report, made, 0, None, settings, shelf, journal,
+        alloc,
+        closed,
+        &report,
+        made,
+        0,
+        settings.tries,
+        None,
+        settings,
+        shelf,
+        journal,
+        work,
     )?;
     Ok(round)
 }
 
-/// Goes round by round until a closing pass fixes nothing.
+/// Goes round by round until a closing pass fixes nothing. The units of work come to `work`.
 pub(crate) fn go_rounds<R: Threads + Sync, G: Gate, S: Shelf>(
     rt: &R,
     alloc: Global,
@@ -160,11 +195,14 @@ pub(crate) fn go_rounds<R: Threads + Sync, G: Gate, S: Shelf>(
     gate: &G,
     shelf: &mut S,
     journal: &str,
+    work: &mut u64,
 ) -> Result<Rounds, Stop>
     requires few { pins_taken graph + live_nodes graph ≤ 1048576 }
     requires wires { wire_count (net_of graph) ≤ most_pins }
     requires settings { AreSettings settings.now }
     requires there { IsThere (S.files shelf.old) journal.now }
+    ensures allowed { IfOk result (λ r. IsAllowed settings.now r.last.limit work.new) }
+    ensures grown { work.old ≤ work.new }
     ensures ended { IfOk result (λ r. HasEnded (net_of graph) settings.now r (S.files shelf.old) (S.files shelf.new) journal.now) }
     ensures there { IsThere (S.files shelf.new) journal.now }
     ensures stopped { OnErr result (IsStopped (net_of graph) (S.files shelf.old) (S.files shelf.new) journal.now) }
@@ -174,28 +212,32 @@ pub(crate) fn go_rounds<R: Threads + Sync, G: Gate, S: Shelf>(
     run_goes_on();
     runs_join();
     texts_append();
-    let mut round = first_round(rt, alloc, graph, settings, gate, shelf, journal)?;
+    let mut round = first_round(rt, alloc, graph, settings, gate, shelf, journal, work)?;
     loop {
         let Round {
             graph,
             made,
             tries,
+            limit,
             settled,
             start,
         } = round;
-        let (closed, report) = close_faults(rt, alloc, graph, settings, gate, shelf, journal)?;
+        let (closed, report) = close_faults(
+            rt, alloc, graph, settings, gate, shelf, journal, work,
+        )?;
         if report.fixed == 0 {
             let last = Round {
                 graph: closed,
                 made,
                 tries,
+                limit,
                 settled,
                 start,
             };
             return Ok(Rounds { last, report });
         }
         round = further_round(
-            alloc, closed, &report, made, tries, start, settings, shelf, journal,
+            alloc, closed, &report, made, tries, limit, start, settings, shelf, journal, work,
         )?;
     }
 }

@@ -10,6 +10,7 @@ ghost use Rattle.journal_text.specs.declared.append.Stop.TheVariants as stop;
 ghost use Rattle.merging.specs.Merged.{IsWithin};
 ghost use Rattle.optimisation.specs.Inner.Ran.{sum_of};
 ghost use Rattle.optimisation.specs.Inner.Staged.{AreUpTo, HasGoneFurther, HasMerged, HasStages};
+ghost use Rattle.optimisation.specs.Allowed.{IsAllowed};
 ghost use Rattle.optimisation.specs.Ranges.{AreSettings};
 ghost use Rattle.cover_decompose.specs.Limits.{most_pins};
 
@@ -40,10 +41,12 @@ fn merge_gates<S: Shelf>(
     settings: &Settings,
     shelf: &mut S,
     journal: &str,
+    work: &mut u64,
 ) -> Result<Merged, Stop>
     requires few { pins_taken graph + live_nodes graph ≤ 1048576 }
     requires settings { AreSettings settings.now }
     requires there { IsThere (S.files shelf.old) journal.now }
+    ensures grown { work.old ≤ work.new }
     ensures merged { IfOk result (λ m. HasMerged (net_of graph) (net_of m.graph) m.made m.changed (S.files shelf.old) (S.files shelf.new) journal.now) }
     ensures few { IfOk result (λ m. AreUpTo 35184372088832 m.made) }
     ensures tidy { IfOk result (λ m. IsTidy (net_of m.graph)) }
@@ -61,7 +64,7 @@ fn merge_gates<S: Shelf>(
         fixes: 0,
         local: 0,
     };
-    let (after, records) = merge_equal(alloc, graph, settings.depth, settings.budget)?;
+    let (after, records) = merge_equal(alloc, graph, settings.depth, settings.budget, work)?;
     append_records(alloc, shelf, journal, &records)?;
     count_records(&records, &mut made);
     records_fit(&records);
@@ -92,9 +95,11 @@ fn counted_on(made: Made, tries: u32, rounds: Rounds) -> Rounds
     requires fixes { made.fixes + rounds.last.made.fixes ≤ 18446744073709551615 }
     requires local { made.local + rounds.last.made.local ≤ 18446744073709551615 }
     requires tries { tries + rounds.last.tries ≤ 4294967295 }
+    requires limit { tries + rounds.last.limit ≤ 4294967295 }
     ensures graph { result.last.graph ≡ rounds.last.graph }
     ensures made { result.last.made ≡ sum_of made rounds.last.made }
     ensures tries { result.last.tries ≡ tries + rounds.last.tries }
+    ensures limit { result.last.limit ≡ tries + rounds.last.limit }
     ensures settled { result.last.settled ≡ rounds.last.settled }
     ensures report { result.report ≡ rounds.report }
 {
@@ -103,6 +108,7 @@ fn counted_on(made: Made, tries: u32, rounds: Rounds) -> Rounds
         graph: last.graph,
         made: both(made, last.made),
         tries: tries + last.tries,
+        limit: tries + last.limit,
         settled: last.settled,
         start: last.start,
     };
@@ -116,10 +122,12 @@ fn sweep_and_merge<S: Shelf>(
     settings: &Settings,
     shelf: &mut S,
     journal: &str,
+    work: &mut u64,
 ) -> Result<Merged, Stop>
     requires few { pins_taken graph + live_nodes graph ≤ 1048576 }
     requires settings { AreSettings settings.now }
     requires there { IsThere (S.files shelf.old) journal.now }
+    ensures grown { work.old ≤ work.new }
     ensures merged { IfOk result (λ m. HasMerged (net_of graph) (net_of m.graph) m.made m.changed (S.files shelf.old) (S.files shelf.new) journal.now) }
     ensures few { IfOk result (λ m. pins_taken m.graph + live_nodes m.graph ≤ 1048576) }
     ensures stopped { OnErr result (IsStopped (net_of graph) (S.files shelf.old) (S.files shelf.new) journal.now) }
@@ -129,8 +137,8 @@ fn sweep_and_merge<S: Shelf>(
 {
     runs_join();
     texts_append();
-    let (swept, made) = remove_redundant(alloc, graph, settings.depth, shelf, journal)?;
-    let merged = merge_gates(alloc, swept, settings, shelf, journal)?;
+    let (swept, made) = remove_redundant(alloc, graph, settings.depth, shelf, journal, work)?;
+    let merged = merge_gates(alloc, swept, settings, shelf, journal, work)?;
     Ok(Merged {
         graph: merged.graph,
         made: both(made, merged.made),
@@ -165,16 +173,18 @@ fn first_stage<R: Threads + Sync, G: Gate, S: Shelf>(
     alloc: Global,
     graph: Graph,
     settings: &Settings,
-    merge: u8,
     gate: &G,
     shelf: &mut S,
     journal: &str,
+    work: &mut u64,
 ) -> Result<Rounds, Stop>
     requires few { pins_taken graph + live_nodes graph ≤ 1048576 }
     requires wires { wire_count (net_of graph) ≤ most_pins }
     requires settings { AreSettings settings.now }
     requires there { IsThere (S.files shelf.old) journal.now }
-    ensures staged { IfOk result (λ r. HasStages (net_of graph) settings.now merge r (S.files shelf.old) (S.files shelf.new) journal.now) }
+    ensures allowed { IfOk result (λ r. IsAllowed settings.now r.last.limit work.new) }
+    ensures grown { work.old ≤ work.new }
+    ensures staged { IfOk result (λ r. HasStages (net_of graph) settings.now r (S.files shelf.old) (S.files shelf.new) journal.now) }
     ensures few { IfOk result (λ r. AreUpTo 4611897124659920896 r.last.made) }
     ensures there { IsThere (S.files shelf.new) journal.now }
     ensures stopped { OnErr result (IsStopped (net_of graph) (S.files shelf.old) (S.files shelf.new) journal.now) }
@@ -183,11 +193,20 @@ fn first_stage<R: Threads + Sync, G: Gate, S: Shelf>(
 {
     runs_join();
     texts_append();
-    if !merges_first(merge, settings.tries) {
-        return go_rounds(rt, alloc, graph, settings, gate, shelf, journal);
+    if !merges_first(settings.merge, settings.tries) {
+        return go_rounds(rt, alloc, graph, settings, gate, shelf, journal, work);
     }
-    let merged = sweep_and_merge(alloc, graph, settings, shelf, journal)?;
-    let rounds = go_rounds(rt, alloc, merged.graph, settings, gate, shelf, journal)?;
+    let merged = sweep_and_merge(alloc, graph, settings, shelf, journal, work)?;
+    let rounds = go_rounds(
+        rt,
+        alloc,
+        merged.graph,
+        settings,
+        gate,
+        shelf,
+        journal,
+        work,
+    )?;
     Ok(counted_on(merged.made, 0, rounds))
 }
 
@@ -200,13 +219,17 @@ fn further_stage<R: Threads + Sync, G: Gate, S: Shelf>(
     gate: &G,
     shelf: &mut S,
     journal: &str,
+    work: &mut u64,
 ) -> Result<Rounds, Stop>
     requires few { pins_taken rounds.last.graph + live_nodes rounds.last.graph ≤ 1048576 }
     requires wires { wire_count (net_of rounds.last.graph) ≤ most_pins }
     requires settings { AreSettings settings.now }
-    requires tries { rounds.last.tries ≤ settings.now.tries }
+    requires tries { rounds.last.tries ≤ rounds.last.limit }
+    requires allowed { IsAllowed settings.now rounds.last.limit work.old }
     requires made { AreUpTo 4611897124659920896 rounds.last.made }
     requires there { IsThere (S.files shelf.old) journal.now }
+    ensures allowed { IfOk result (λ r. IsAllowed settings.now r.last.limit work.new) }
+    ensures grown { work.old ≤ work.new }
     ensures went { IfOk result (λ r. HasGoneFurther settings.now rounds r (S.files shelf.old) (S.files shelf.new) journal.now) }
     ensures there { IsThere (S.files shelf.new) journal.now }
     ensures stopped { OnErr result (IsStopped (net_of rounds.last.graph) (S.files shelf.old) (S.files shelf.new) journal.now) }
@@ -220,47 +243,50 @@ fn further_stage<R: Threads + Sync, G: Gate, S: Shelf>(
         graph,
         made,
         tries,
+        limit,
         settled,
         start,
     } = last;
-    let merged = merge_gates(alloc, graph, settings, shelf, journal)?;
+    let merged = merge_gates(alloc, graph, settings, shelf, journal, work)?;
     if !merged.changed {
         let last = Round {
             graph: merged.graph,
             made,
             tries,
+            limit,
             settled,
             start,
         };
         return Ok(Rounds { last, report });
     }
     let left = Settings {
-        depth: settings.depth,
-        budget: settings.budget,
-        tries: settings.tries - tries,
-        workers: settings.workers,
+        tries: limit - tries,
+        ..*settings
     };
-    let more = go_rounds(rt, alloc, merged.graph, &left, gate, shelf, journal)?;
+    let more = go_rounds(rt, alloc, merged.graph, &left, gate, shelf, journal, work)?;
     Ok(counted_on(both(made, merged.made), tries, more))
 }
 
-/// Goes round by round. Equal gates aren't merged (`merge` is 0); or once the rounds have ended, and without tries after a sweep
-/// before they begin (1); or both (2 and more). Where some were merged behind rounds, further rounds have the tries that are left.
+/// Goes round by round. By the settings equal gates aren't merged (`merge` is 0); or once the rounds have ended, and without tries
+/// after a sweep before they begin (1); or both (2 and more). Where some were merged behind rounds, further rounds have the tries
+/// that are left. The units of work come to `work`.
 pub(crate) fn go_stages<R: Threads + Sync, G: Gate, S: Shelf>(
     rt: &R,
     alloc: Global,
     graph: Graph,
     settings: &Settings,
-    merge: u8,
     gate: &G,
     shelf: &mut S,
     journal: &str,
+    work: &mut u64,
 ) -> Result<Rounds, Stop>
     requires few { pins_taken graph + live_nodes graph ≤ 1048576 }
     requires wires { wire_count (net_of graph) ≤ most_pins }
     requires settings { AreSettings settings.now }
     requires there { IsThere (S.files shelf.old) journal.now }
-    ensures staged { IfOk result (λ r. HasStages (net_of graph) settings.now merge r (S.files shelf.old) (S.files shelf.new) journal.now) }
+    ensures allowed { IfOk result (λ r. IsAllowed settings.now r.last.limit work.new) }
+    ensures grown { work.old ≤ work.new }
+    ensures staged { IfOk result (λ r. HasStages (net_of graph) settings.now r (S.files shelf.old) (S.files shelf.new) journal.now) }
     ensures there { IsThere (S.files shelf.new) journal.now }
     ensures stopped { OnErr result (IsStopped (net_of graph) (S.files shelf.old) (S.files shelf.new) journal.now) }
     ensures failed { result ≡ Err stop.Failed → Rose (S.faults shelf.old) (S.faults shelf.new) }
@@ -268,10 +294,10 @@ pub(crate) fn go_stages<R: Threads + Sync, G: Gate, S: Shelf>(
 {
     runs_join();
     texts_append();
-    let rounds = first_stage(rt, alloc, graph, settings, merge, gate, shelf, journal)?;
-    if !merges_again(merge, settings.tries) {
+    let rounds = first_stage(rt, alloc, graph, settings, gate, shelf, journal, work)?;
+    if !merges_again(settings.merge, settings.tries) {
         return Ok(rounds);
     }
-    let more = further_stage(rt, alloc, rounds, settings, gate, shelf, journal)?;
+    let more = further_stage(rt, alloc, rounds, settings, gate, shelf, journal, work)?;
     Ok(more)
 }

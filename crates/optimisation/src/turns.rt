@@ -8,6 +8,7 @@ ghost use Rattle.journal_text.specs.Runs.{IsStopped};
 ghost use Rattle.journal_text.specs.declared.append.Stop.TheVariants as stop;
 ghost use Rattle.optimisation.specs.Inner.Ran.{sum_of};
 ghost use Rattle.optimisation.specs.Inner.Turned.{HasTurned, HasTurns, HaveFollowed};
+ghost use Rattle.optimisation.specs.Allowed.{IsAllowed};
 ghost use Rattle.optimisation.specs.Ranges.{AreSettings};
 ghost use Rattle.cover_decompose.specs.Limits.{most_pins};
 
@@ -39,10 +40,11 @@ fn is_none(made: Made) -> bool
 }
 
 // The rounds with these steps and tries in place of their own.
-fn with_counts(rounds: Rounds, made: Made, tries: u32) -> Rounds
+fn with_counts(rounds: Rounds, made: Made, tries: u32, limit: u32) -> Rounds
     ensures graph { result.last.graph ≡ rounds.last.graph }
     ensures made { result.last.made ≡ made }
     ensures tries { result.last.tries ≡ tries }
+    ensures limit { result.last.limit ≡ limit }
     ensures settled { result.last.settled ≡ rounds.last.settled }
     ensures report { result.report ≡ rounds.report }
 {
@@ -51,6 +53,7 @@ fn with_counts(rounds: Rounds, made: Made, tries: u32) -> Rounds
         graph: last.graph,
         made,
         tries,
+        limit,
         settled: last.settled,
         start: last.start,
     };
@@ -64,17 +67,22 @@ fn rounds_behind<R: Threads + Sync, G: Gate, S: Shelf>(
     graph: Graph,
     made: Made,
     tries: u32,
+    limit: u32,
     settings: &Settings,
     gate: &G,
     shelf: &mut S,
     journal: &str,
+    work: &mut u64,
 ) -> Result<Rounds, Stop>
     requires few { pins_taken graph + live_nodes graph ≤ 1048576 }
     requires wires { wire_count (net_of graph) ≤ most_pins }
     requires settings { AreSettings settings.now }
-    requires tries { tries ≤ settings.now.tries }
+    requires tries { tries ≤ limit }
+    requires allowed { IsAllowed settings.now limit work.old }
     requires there { IsThere (S.files shelf.old) journal.now }
-    ensures followed { IfOk result (λ r. HaveFollowed settings.now graph made tries r (S.files shelf.old) (S.files shelf.new) journal.now) }
+    ensures allowed { IfOk result (λ r. IsAllowed settings.now r.last.limit work.new) }
+    ensures grown { work.old ≤ work.new }
+    ensures followed { IfOk result (λ r. HaveFollowed settings.now graph made tries limit r (S.files shelf.old) (S.files shelf.new) journal.now) }
     ensures there { IsThere (S.files shelf.new) journal.now }
     ensures stopped { OnErr result (IsStopped (net_of graph) (S.files shelf.old) (S.files shelf.new) journal.now) }
     ensures failed { result ≡ Err stop.Failed → Rose (S.faults shelf.old) (S.faults shelf.new) }
@@ -83,18 +91,17 @@ fn rounds_behind<R: Threads + Sync, G: Gate, S: Shelf>(
     runs_join();
     texts_append();
     let left = Settings {
-        depth: settings.depth,
-        budget: settings.budget,
-        tries: settings.tries - tries,
-        workers: settings.workers,
+        tries: limit - tries,
+        ..*settings
     };
-    let rounds = go_rounds(rt, alloc, graph, &left, gate, shelf, journal)?;
+    let rounds = go_rounds(rt, alloc, graph, &left, gate, shelf, journal, work)?;
     let Some(all) = sum(made, rounds.last.made) else {
         // No journal holds so many steps.
         return Err(Stop::NoMemory);
     };
     let all_tries = tries + rounds.last.tries;
-    Ok(with_counts(rounds, all, all_tries))
+    let all_limit = tries + rounds.last.limit;
+    Ok(with_counts(rounds, all, all_tries, all_limit))
 }
 
 // A turn, and rounds behind it where something was exchanged; and whether it was.
@@ -106,12 +113,16 @@ fn turn_once<R: Threads + Sync, G: Gate, S: Shelf>(
     gate: &G,
     shelf: &mut S,
     journal: &str,
+    work: &mut u64,
 ) -> Result<(Rounds, bool), Stop>
     requires few { pins_taken rounds.last.graph + live_nodes rounds.last.graph ≤ 1048576 }
     requires wires { wire_count (net_of rounds.last.graph) ≤ most_pins }
     requires settings { AreSettings settings.now }
-    requires tries { rounds.last.tries ≤ settings.now.tries }
+    requires tries { rounds.last.tries ≤ rounds.last.limit }
+    requires allowed { IsAllowed settings.now rounds.last.limit work.old }
     requires there { IsThere (S.files shelf.old) journal.now }
+    ensures allowed { IfOk result (λ r. IsAllowed settings.now r.0.last.limit work.new) }
+    ensures grown { work.old ≤ work.new }
     ensures turned { IfOk result (λ r. HasTurned settings.now rounds r.0 r.1 (S.files shelf.old) (S.files shelf.new) journal.now) }
     ensures there { IsThere (S.files shelf.new) journal.now }
     ensures stopped { OnErr result (IsStopped (net_of rounds.last.graph) (S.files shelf.old) (S.files shelf.new) journal.now) }
@@ -125,25 +136,23 @@ fn turn_once<R: Threads + Sync, G: Gate, S: Shelf>(
         graph,
         made,
         tries,
+        limit,
         settled,
         start,
     } = last;
     let found = report.found.as_slice();
-    let turned = perturb(
-        alloc,
-        graph,
-        settings.depth,
-        settings.tries - tries,
-        shelf,
-        journal,
-        found,
-    )?;
+    let left = Settings {
+        tries: limit - tries,
+        ..*settings
+    };
+    let turned = perturb(alloc, graph, &left, shelf, journal, found, work)?;
     let tries = tries + turned.tries;
     if is_none(turned.made) {
         let last = Round {
             graph: turned.graph,
             made,
             tries,
+            limit,
             settled,
             start,
         };
@@ -159,31 +168,35 @@ fn turn_once<R: Threads + Sync, G: Gate, S: Shelf>(
         turned.graph,
         made,
         tries,
+        limit,
         settings,
         gate,
         shelf,
         journal,
+        work,
     )?;
     Ok((rounds, true))
 }
 
-/// Goes stage by stage, and then, as long as pairs were tried in vain and a turn exchanges something, for at most so many turns.
+/// Goes stage by stage, and then, as long as pairs were tried in vain and a turn exchanges something, for at most as many turns as
+/// the settings say, and none once the work has reached its limit. The units of work come to `work`.
 pub(crate) fn go_turns<R: Threads + Sync, G: Gate, S: Shelf>(
     rt: &R,
     alloc: Global,
     graph: Graph,
     settings: &Settings,
-    merge: u8,
-    perturb: u8,
     gate: &G,
     shelf: &mut S,
     journal: &str,
+    work: &mut u64,
 ) -> Result<Rounds, Stop>
     requires few { pins_taken graph + live_nodes graph ≤ 1048576 }
     requires wires { wire_count (net_of graph) ≤ most_pins }
     requires settings { AreSettings settings.now }
     requires there { IsThere (S.files shelf.old) journal.now }
-    ensures turned { IfOk result (λ r. HasTurns (net_of graph) settings.now merge perturb r (S.files shelf.old) (S.files shelf.new) journal.now) }
+    ensures allowed { IfOk result (λ r. IsAllowed settings.now r.last.limit work.new) }
+    ensures grown { work.old ≤ work.new }
+    ensures turned { IfOk result (λ r. HasTurns (net_of graph) settings.now settings.now.perturb r (S.files shelf.old) (S.files shelf.new) journal.now) }
     ensures there { IsThere (S.files shelf.new) journal.now }
     ensures stopped { OnErr result (IsStopped (net_of graph) (S.files shelf.old) (S.files shelf.new) journal.now) }
     ensures failed { result ≡ Err stop.Failed → Rose (S.faults shelf.old) (S.faults shelf.new) }
@@ -191,12 +204,15 @@ pub(crate) fn go_turns<R: Threads + Sync, G: Gate, S: Shelf>(
 {
     runs_join();
     texts_append();
-    let mut rounds = go_stages(rt, alloc, graph, settings, merge, gate, shelf, journal)?;
-    for turn in 0..perturb {
+    let mut rounds = go_stages(rt, alloc, graph, settings, gate, shelf, journal, work)?;
+    for turn in 0..settings.perturb {
         if !rounds.last.settled {
             return Ok(rounds);
         }
-        let (more, changed) = turn_once(rt, alloc, rounds, settings, gate, shelf, journal)?;
+        if settings.is_worked_off(*work) {
+            return Ok(rounds);
+        }
+        let (more, changed) = turn_once(rt, alloc, rounds, settings, gate, shelf, journal, work)?;
         rounds = more;
         if !changed {
             return Ok(rounds);

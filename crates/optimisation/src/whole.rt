@@ -17,6 +17,7 @@ ghost use Rattle.optimisation.specs.Begun.{HasBegun};
 ghost use Rattle.optimisation.specs.Inner.Begun.{BeginsHeader};
 ghost use Rattle.optimisation.specs.Inner.Halts.{IsHalt};
 ghost use Rattle.optimisation.specs.Inner.Filled.{IsFilled, IsLeft};
+ghost use Rattle.optimisation.specs.Allowed.{IsAllowed};
 ghost use Rattle.optimisation.specs.Ranges.{AreSettings};
 ghost use Rattle.optimisation.specs.Tests.{hits_among, spents_among};
 ghost use Rattle.optimisation.specs.Whole.{IsWhole};
@@ -85,17 +86,17 @@ fn fill_journal<R: Threads + Sync, G: Gate, S: Shelf>(
     alloc: Global,
     graph: Graph,
     settings: &Settings,
-    merge: u8,
-    perturb: u8,
     gate: &G,
     shelf: &mut S,
     journal: &str,
+    work: &mut u64,
 ) -> Result<Rounds, Stop>
     requires few { pins_taken graph + live_nodes graph ≤ 1048576 }
     requires wires { wire_count (net_of graph) ≤ most_pins }
     requires settings { AreSettings settings.now }
     requires there { IsThere (S.files shelf.old) journal.now }
-    ensures filled { IfOk result (λ r. IsFilled (net_of graph) settings.now merge perturb r (S.files shelf.old) (S.files shelf.new) journal.now) }
+    ensures allowed { IfOk result (λ r. IsAllowed settings.now r.last.limit work.new) }
+    ensures filled { IfOk result (λ r. IsFilled (net_of graph) settings.now r (S.files shelf.old) (S.files shelf.new) journal.now) }
     ensures stopped { OnErr result (IsLeft (net_of graph) settings.now.budget (S.files shelf.old) (S.files shelf.new) journal.now) }
     ensures failed { result ≡ Err stop.Failed → Rose (S.faults shelf.old) (S.faults shelf.new) }
     ensures later { S.faults shelf.old ≤ S.faults shelf.new }
@@ -107,9 +108,7 @@ fn fill_journal<R: Threads + Sync, G: Gate, S: Shelf>(
     runs_join();
     accepted_runs_are_writable();
     fitting_are_entries();
-    let rounds = go_turns(
-        rt, alloc, graph, settings, merge, perturb, gate, shelf, journal,
-    )?;
+    let rounds = go_turns(rt, alloc, graph, settings, gate, shelf, journal, work)?;
     write_verdicts(alloc, &rounds.report, shelf, journal)?;
     append_entry(alloc, shelf, journal, &Entry::End)?;
     Ok(rounds)
@@ -118,14 +117,13 @@ fn fill_journal<R: Threads + Sync, G: Gate, S: Shelf>(
 /// Optimises the decomposition of a model, and writes the journal of it: the header, every step with its tree, a verdict for
 /// each fault that remains, and the end. Equal gates are merged once the addition loop has ended, or, without tries, after a
 /// first sweep (`merge` is 1), or both (2 and more), or never (0). Behind that targets are exchanged for wires that cost no
-/// more, for at most `perturb` turns, with further additions behind each.
+/// more, for at most `perturb` turns, with further additions behind each. Once the limit of work is reached no more additions
+/// are tried, no further turn begins, and faults whose search was cut short aren't searched again: all else goes on to its end.
 pub fn optimised_model<R: Threads + Sync, G: Gate, S: Shelf>(
     rt: &R,
     alloc: Global,
     model: &RankedModel,
     settings: &Settings,
-    merge: u8,
-    perturb: u8,
     gate: &G,
     shelf: &mut S,
     journal: &str,
@@ -137,7 +135,7 @@ pub fn optimised_model<R: Threads + Sync, G: Gate, S: Shelf>(
     requires observed { length (observed_names model.now) ≤ 4096 }
     requires fits { decomposed model.now < 2 ^ 64 }
     requires settings { AreSettings settings.now }
-    ensures whole { IfOk result (λ o. IsWhole model.now settings.now merge perturb (net_of o.graph) o.figures (S.files shelf.old) (S.files shelf.new) journal.now) }
+    ensures whole { IfOk result (λ o. IsWhole model.now settings.now (net_of o.graph) o.figures (S.files shelf.old) (S.files shelf.new) journal.now) }
     ensures within { OnOk result (decomposed model.now ≤ most_pins) }
     ensures over { (pins : ℕ) → result ≡ Err (halt.Limit pins) → (pins ≡ decomposed model.now) × ((most_pins < decomposed model.now) × (S.files shelf.new ≡ S.files shelf.old)) }
     ensures begun { IfErr result (λ _. HasBegun model.now settings.now.budget journal.now (S.files shelf.old) (S.files shelf.new)) }
@@ -151,9 +149,8 @@ pub fn optimised_model<R: Threads + Sync, G: Gate, S: Shelf>(
     let wires_before = graph.wire_count();
     let gates_before = graph.gate_count();
     open_journal(alloc, shelf, journal, settings.budget)?;
-    let rounds = fill_journal(
-        rt, alloc, graph, settings, merge, perturb, gate, shelf, journal,
-    )?;
+    let mut work = 0u64;
+    let rounds = fill_journal(rt, alloc, graph, settings, gate, shelf, journal, &mut work)?;
     let (tested, spent) = count_verdicts(&rounds.report);
     let figures = Figures {
         wires_before,
@@ -165,6 +162,7 @@ pub fn optimised_model<R: Threads + Sync, G: Gate, S: Shelf>(
         settled: rounds.last.settled,
         tested,
         spent,
+        work,
     };
     Ok(Optimised {
         graph: rounds.last.graph,

@@ -12,6 +12,7 @@ const OPTIONS: [&str; 2] = [
   --workers 1..64  threads that search for test vectors (default 1)
   --merge 0..2  merge gates of equal or opposite values: 0 never, 1 after the additions, 2 also before them (default 1)
   --perturb 0..64  turns in which wires are exchanged for others at no cost, each with further additions behind it (default 0)
+  --work 0..1000000  millions of units of work after which no more additions are tried; 0 is no limit (default 0)
 ",
 ];
 
@@ -23,7 +24,7 @@ const REFUSALS: [(&str, &str); 17] = [
     ),
     (
         "--version",
-        "rambo 1.0.0; proved with rattle-kit-13b logic dac8208d650f15bf\n",
+        "rambo 1.0.0; proved with rattle-kit-13f logic dac8208d650f15bf\n",
     ),
     (
         "opt in.blif",
@@ -220,7 +221,7 @@ const CARE_REFUSALS: [(&str, &str); 8] = [
 ];
 
 // Words of which an option is refused, and the first lines of what is shown: the options follow.
-const OPTION_REFUSALS: [(&str, &str); 11] = [
+const OPTION_REFUSALS: [(&str, &str); 12] = [
     (
         "opt a b j --dept 2",
         "rambo: error: opt has no option '--dept'\nusage: rambo opt IN OUT [JOURNAL] [options]\n",
@@ -260,6 +261,10 @@ const OPTION_REFUSALS: [(&str, &str); 11] = [
     (
         "opt --merge 2 a b --merge=2",
         "rambo: error: --merge is given twice\nusage: rambo opt IN OUT [JOURNAL] [options]\n",
+    ),
+    (
+        "opt a b --work 1000001",
+        "rambo: error: --work '1000001': not in the range 0 to 1000000\nusage: rambo opt IN OUT [JOURNAL] [options]\n",
     ),
     (
         "opt a b j --merged 1",

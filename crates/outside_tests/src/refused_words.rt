@@ -2,7 +2,7 @@
 use crate::words::reads;
 use std::test::Fail;
 
-const REFUSED: [&str; 124] = [
+const REFUSED: [&str; 132] = [
     "",
     "~",
     "help",
@@ -36,6 +36,11 @@ const REFUSED: [&str; 124] = [
     "opt a b j --perturb 65",
     "opt a b --perturb",
     "opt a b --perturb 1 --perturb 1",
+    "opt a b j --work 1000001",
+    "opt a b --work",
+    "opt a b --work 1 --work 1",
+    "opt a b j --work=-1",
+    "opt a b j --works 1",
     "opt a b j --Merge 1",
     "opt a b j --tries 1 --tries 2",
     "opt a b j --tries=1 --tries=1",
@@ -78,6 +83,7 @@ const REFUSED: [&str; 124] = [
     "check a b c --depth 1",
     "check a b c --depth=1",
     "check a b c --merge=1",
+    "check a b c --work=1",
     "demo",
     "demo ~",
     "demo x",
@@ -89,6 +95,7 @@ const REFUSED: [&str; 124] = [
     "demo 1 --depth=3",
     "demo 1 --merge=3",
     "demo 1 --perturb=-1",
+    "demo 1 --work=1000001",
     "demo 1 --seed=1",
     "help opt",
     "opt a b j --screen 0",
@@ -107,6 +114,7 @@ const REFUSED: [&str; 124] = [
     "tests a b c c",
     "tests a b c d --budget 1",
     "tests a b c d --merge 2",
+    "tests a b c d --work 0",
     "replay",
     "replay a b",
     "replay a b c d",
@@ -137,7 +145,7 @@ fn refuses(rt: HostRuntime) -> Result<(), Fail> {
     Ok(())
 }
 
-const EQUAL_REFUSED: [&str; 21] = [
+const EQUAL_REFUSED: [&str; 22] = [
     "equal",
     "equal a",
     "equal a b",
@@ -152,6 +160,7 @@ const EQUAL_REFUSED: [&str; 21] = [
     "equal --workers=1 a b p",
     "equal a b p --merge 1",
     "equal a b p --perturb 1",
+    "equal a b p --work 1",
     "equal a b p --depth 3",
     "equal a b p --budget 0",
     "equal a b p --budget=1048577",
@@ -190,7 +199,7 @@ fn refuses_judge(rt: HostRuntime) -> Result<(), Fail> {
     Ok(())
 }
 
-const CARE_REFUSED: [&str; 21] = [
+const CARE_REFUSED: [&str; 22] = [
     "optcare",
     "optcare a",
     "optcare a b",
@@ -206,6 +215,7 @@ const CARE_REFUSED: [&str; 21] = [
     "optcare a b c d --tries 1",
     "optcare --workers=1 a b c d",
     "optcare a b c d --merge 2",
+    "optcare a b c d --work=0",
     "optcare a b c d --depth 3",
     "optcare a b c d --budget=0",
     "optcare a b c d --depth 1 --depth=1",
@@ -222,7 +232,7 @@ fn refuses_optcare(rt: HostRuntime) -> Result<(), Fail> {
     Ok(())
 }
 
-const CUT_REFUSED: [&str; 26] = [
+const CUT_REFUSED: [&str; 27] = [
     "cut",
     "cut a",
     "cut a 1",
@@ -247,6 +257,7 @@ const CUT_REFUSED: [&str; 26] = [
     "cut a 1 p --workers 1",
     "cut a 1 p --merge 1",
     "cut a 1 p --perturb 1",
+    "cut a 1 p --work 1",
     "cut a 1 p --help",
     "Cut a 1 p",
 ];
@@ -266,7 +277,7 @@ fn refuses_cut(rt: HostRuntime) -> Result<(), Fail> {
     Ok(())
 }
 
-const SEW_REFUSED: [&str; 26] = [
+const SEW_REFUSED: [&str; 27] = [
     "sew",
     "sew a 1 p",
     "sew a 1 p o x",
@@ -291,6 +302,7 @@ const SEW_REFUSED: [&str; 26] = [
     "sew a 1 p o --tries 1",
     "sew a 1 p o --workers 1",
     "sew a 1 p o --merge 1",
+    "sew a 1 p o --work=1",
     "sew a 1 p o --help",
     "Sew a 1 p o",
 ];

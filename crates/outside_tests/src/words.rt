@@ -17,19 +17,10 @@ fn words(alloc: Global, line: &str) -> Result<Vec<String>, Fail> {
     Ok(list)
 }
 
+// The start, and behind it the settings in the order of their fields.
 fn with_settings(alloc: Global, start: &str, s: Settings) -> Result<String, Fail> {
-    Ok(format!(in alloc; "{start}{} {} {} {}", s.depth, s.budget, s.tries, s.workers)?)
-}
-
-fn with_passes(
-    alloc: Global,
-    start: &str,
-    settings: Settings,
-    merge: u8,
-    perturb: u8,
-) -> Result<String, Fail> {
-    let text = with_settings(alloc, start, settings)?;
-    Ok(format!(in alloc; "{text} {merge} {perturb}")?)
+    let text = format!(in alloc; "{start}{} {} {} {}", s.depth, s.budget, s.tries, s.workers)?;
+    Ok(format!(in alloc; "{text} {} {} {}", s.merge, s.perturb, s.work)?)
 }
 
 // The text of a command with its options.
@@ -40,21 +31,14 @@ fn optioned_text(alloc: Global, command: Command<'_>) -> Result<String, Fail> {
             output,
             journal,
             settings,
-            merge,
-            perturb,
         } => {
             let journal = journal.unwrap_or("(none)");
             let start = format!(in alloc; "opt {input} {output} {journal} ")?;
-            with_passes(alloc, &start, settings, merge, perturb)
+            with_settings(alloc, &start, settings)
         }
-        Command::Demo {
-            seed,
-            settings,
-            merge,
-            perturb,
-        } => {
+        Command::Demo { seed, settings } => {
             let start = format!(in alloc; "demo {seed} ")?;
-            with_passes(alloc, &start, settings, merge, perturb)
+            with_settings(alloc, &start, settings)
         }
         Command::Equal {
             first,
@@ -179,47 +163,63 @@ fn reads_sew(rt: HostRuntime) -> Result<(), Fail> {
 #[test]
 fn reads_opt(rt: HostRuntime) -> Result<(), Fail> {
     let rows = [
-        ("opt a b j", "opt a b j 1 256 1000000 1 1 0"),
-        ("opt a b", "opt a b (none) 1 256 1000000 1 1 0"),
-        ("opt --depth 2 a b", "opt a b (none) 2 256 1000000 1 1 0"),
-        ("opt a --tries=7 -- b", "opt a b (none) 1 256 7 1 1 0"),
-        ("opt --budget=8 -- a b j", "opt a b j 1 8 1000000 1 1 0"),
-        ("opt --budget +8 a b j", "opt a b j 1 8 1000000 1 1 0"),
+        ("opt a b j", "opt a b j 1 256 1000000 1 1 0 0"),
+        ("opt a b", "opt a b (none) 1 256 1000000 1 1 0 0"),
+        ("opt --depth 2 a b", "opt a b (none) 2 256 1000000 1 1 0 0"),
+        ("opt a --tries=7 -- b", "opt a b (none) 1 256 7 1 1 0 0"),
+        ("opt --budget=8 -- a b j", "opt a b j 1 8 1000000 1 1 0 0"),
+        ("opt --budget +8 a b j", "opt a b j 1 8 1000000 1 1 0 0"),
         (
             "opt a --depth 0 b --workers=64 j --tries=1000000",
-            "opt a b j 0 256 1000000 64 1 0",
+            "opt a b j 0 256 1000000 64 1 0 0",
         ),
         (
             "opt a b j --budget 1048576 --depth=2 --tries 0",
-            "opt a b j 2 1048576 0 1 1 0",
+            "opt a b j 2 1048576 0 1 1 0 0",
         ),
         (
             "opt a b j --budget=0000000000000000000000000000000000000000000000000000000000000008",
-            "opt a b j 1 8 1000000 1 1 0",
+            "opt a b j 1 8 1000000 1 1 0 0",
         ),
-        ("opt a b j --tries=+000", "opt a b j 1 256 0 1 1 0"),
-        ("opt -- a -- j", "opt a -- j 1 256 1000000 1 1 0"),
+        ("opt a b j --tries=+000", "opt a b j 1 256 0 1 1 0 0"),
+        ("opt -- a -- j", "opt a -- j 1 256 1000000 1 1 0 0"),
         (
             "opt a -- --depth=1 -x",
-            "opt a --depth=1 -x 1 256 1000000 1 1 0",
+            "opt a --depth=1 -x 1 256 1000000 1 1 0 0",
         ),
-        ("opt - b j", "opt - b j 1 256 1000000 1 1 0"),
-        ("opt a b j --", "opt a b j 1 256 1000000 1 1 0"),
-        ("opt ~ b j", "opt  b j 1 256 1000000 1 1 0"),
-        ("opt help opt demo", "opt help opt demo 1 256 1000000 1 1 0"),
-        ("opt a b j --depth 1 --", "opt a b j 1 256 1000000 1 1 0"),
-        ("opt a=b b j", "opt a=b b j 1 256 1000000 1 1 0"),
-        ("opt a b j --merge 0", "opt a b j 1 256 1000000 1 0 0"),
-        ("opt --merge=1 a b", "opt a b (none) 1 256 1000000 1 1 0"),
-        ("opt a --merge +2 b j --tries=0", "opt a b j 1 256 0 1 2 0"),
+        ("opt - b j", "opt - b j 1 256 1000000 1 1 0 0"),
+        ("opt a b j --", "opt a b j 1 256 1000000 1 1 0 0"),
+        ("opt ~ b j", "opt  b j 1 256 1000000 1 1 0 0"),
+        (
+            "opt help opt demo",
+            "opt help opt demo 1 256 1000000 1 1 0 0",
+        ),
+        ("opt a b j --depth 1 --", "opt a b j 1 256 1000000 1 1 0 0"),
+        ("opt a=b b j", "opt a=b b j 1 256 1000000 1 1 0 0"),
+        ("opt a b j --merge 0", "opt a b j 1 256 1000000 1 0 0 0"),
+        ("opt --merge=1 a b", "opt a b (none) 1 256 1000000 1 1 0 0"),
+        (
+            "opt a --merge +2 b j --tries=0",
+            "opt a b j 1 256 0 1 2 0 0",
+        ),
         (
             "opt a b --perturb 64",
-            "opt a b (none) 1 256 1000000 1 1 64",
+            "opt a b (none) 1 256 1000000 1 1 64 0",
         ),
-        ("opt --perturb=+01 a b j", "opt a b j 1 256 1000000 1 1 1"),
+        ("opt --perturb=+01 a b j", "opt a b j 1 256 1000000 1 1 1 0"),
+        ("opt a b j --work 0", "opt a b j 1 256 1000000 1 1 0 0"),
+        ("opt a b --work=+05", "opt a b (none) 1 256 1000000 1 1 0 5"),
+        (
+            "opt --work 1000000 a b j --merge=2 --perturb 3 --tries=4 --workers 6 --depth 0 --budget=9",
+            "opt a b j 0 9 4 6 2 3 1000000",
+        ),
+        (
+            "opt a b -- --work=1",
+            "opt a b --work=1 1 256 1000000 1 1 0 0",
+        ),
         (
             "opt a b -- --merge=3",
-            "opt a b --merge=3 1 256 1000000 1 1 0",
+            "opt a b --merge=3 1 256 1000000 1 1 0 0",
         ),
     ];
     for (line, wanted) in rows {
@@ -235,17 +235,18 @@ fn reads_the_others(rt: HostRuntime) -> Result<(), Fail> {
         ("check -- -a --b --", "check -a --b --"),
         (
             "demo 18446744073709551615",
-            "demo 18446744073709551615 1 256 1000000 1 1 0",
+            "demo 18446744073709551615 1 256 1000000 1 1 0 0",
         ),
         (
             "demo 000000000000000000000018446744073709551615",
-            "demo 18446744073709551615 1 256 1000000 1 1 0",
+            "demo 18446744073709551615 1 256 1000000 1 1 0 0",
         ),
-        ("demo +7 --depth 0 --tries 200", "demo 7 0 256 200 1 1 0"),
-        ("demo --workers 8 -- 1", "demo 1 1 256 1000000 8 1 0"),
-        ("demo 1 --merge 0", "demo 1 1 256 1000000 1 0 0"),
-        ("demo --merge=02 1", "demo 1 1 256 1000000 1 2 0"),
-        ("demo 1 --perturb 3", "demo 1 1 256 1000000 1 1 3"),
+        ("demo +7 --depth 0 --tries 200", "demo 7 0 256 200 1 1 0 0"),
+        ("demo --workers 8 -- 1", "demo 1 1 256 1000000 8 1 0 0"),
+        ("demo 1 --merge 0", "demo 1 1 256 1000000 1 0 0 0"),
+        ("demo --merge=02 1", "demo 1 1 256 1000000 1 2 0 0"),
+        ("demo 1 --perturb 3", "demo 1 1 256 1000000 1 1 3 0"),
+        ("demo --work=7 1", "demo 1 1 256 1000000 1 1 0 7"),
         ("flat a b", "flat a b"),
         ("flat -- --tries=1 b", "flat --tries=1 b"),
         ("tests a a a b", "tests a a a b"),
@@ -268,18 +269,18 @@ fn reads_the_others(rt: HostRuntime) -> Result<(), Fail> {
 #[test]
 fn reads_equal(rt: HostRuntime) -> Result<(), Fail> {
     let rows = [
-        ("equal a b p", "equal a b p 1 256 1000000 1"),
-        ("equal a A p --depth 2", "equal a A p 2 256 1000000 1"),
+        ("equal a b p", "equal a b p 1 256 1000000 1 1 0 0"),
+        ("equal a A p --depth 2", "equal a A p 2 256 1000000 1 1 0 0"),
         (
             "equal --budget=1048576 a b p --depth=0",
-            "equal a b p 0 1048576 1000000 1",
+            "equal a b p 0 1048576 1000000 1 1 0 0",
         ),
-        ("equal a --budget +1 b p", "equal a b p 1 1 1000000 1"),
+        ("equal a --budget +1 b p", "equal a b p 1 1 1000000 1 1 0 0"),
         (
             "equal a -- --depth=2 --tries",
-            "equal a --depth=2 --tries 1 256 1000000 1",
+            "equal a --depth=2 --tries 1 256 1000000 1 1 0 0",
         ),
-        ("equal ~ - equal", "equal  - equal 1 256 1000000 1"),
+        ("equal ~ - equal", "equal  - equal 1 256 1000000 1 1 0 0"),
     ];
     for (line, wanted) in rows {
         assert!(rt; reads(rt.alloc(), line, wanted)?, "{line}");
@@ -290,22 +291,22 @@ fn reads_equal(rt: HostRuntime) -> Result<(), Fail> {
 #[test]
 fn reads_optcare(rt: HostRuntime) -> Result<(), Fail> {
     let rows = [
-        ("optcare a b c d", "optcare a b c d 1 256 1000000 1"),
+        ("optcare a b c d", "optcare a b c d 1 256 1000000 1 1 0 0"),
         (
             "optcare a --depth 2 A c C",
-            "optcare a A c C 2 256 1000000 1",
+            "optcare a A c C 2 256 1000000 1 1 0 0",
         ),
         (
             "optcare --budget=1048576 a b c d --depth=0",
-            "optcare a b c d 0 1048576 1000000 1",
+            "optcare a b c d 0 1048576 1000000 1 1 0 0",
         ),
         (
             "optcare a b -- --depth=2 --tries",
-            "optcare a b --depth=2 --tries 1 256 1000000 1",
+            "optcare a b --depth=2 --tries 1 256 1000000 1 1 0 0",
         ),
         (
             "optcare ~ - optcare x",
-            "optcare  - optcare x 1 256 1000000 1",
+            "optcare  - optcare x 1 256 1000000 1 1 0 0",
         ),
     ];
     for (line, wanted) in rows {

@@ -91,7 +91,7 @@ unread_refused m n text (refusal.Tree c) u = absurd u
 unread_refused m n text refusal.VectorMisses u = absurd u
 unread_refused m n text (refusal.SpentShort edges budget) u = absurd u
 
--- where a text is read, nothing is refused but for want of memory
+-- where a text is read, nothing is refused but out of memory
 pub unread_only : (text : List ℕ) (budget : ℕ) (e : Evidence) (r : JudgeRefusal) → IsProof text budget e → IsUnread text r → r ≡ refusal.NoMemory
 unread_only text budget e (refusal.Text f) p u = absurd (u budget e p)
 unread_only text budget e refusal.NoMemory p u = refl

@@ -9,7 +9,7 @@ use rm_base::NoMemory as WantOfMemory;
 use std::error::Error;
 use std::fmt;
 
-/// Why a text isn't accepted as a proof on two models. The first that stands in this order is told, and want of memory may come
+/// Why a text isn't accepted as a proof on two models. The first that stands in this order is told, and out of memory may come
 /// at any models and any text. None of `Text`, `Record` and `Tree` carries it.
 #[derive(Clone, Copy, Debug, PartialEq, Eq)]
 pub enum JudgeRefusal {

@@ -32,7 +32,7 @@ elsewhere name other bytes files differ = get-insert nat_list_cmp_total files na
     at true same = absurd (differ (slice_cmp-IsAntisymmetric nat_cmp-IsAntisymmetric other name ((Equal-is (slice_cmp nat_cmp other name)).0 same)))
     at false e = refl
 
-module _ (input output journal : Word) (apart : (input ≢ output) × ((input ≢ journal) × (output ≢ journal))) (model : Model) (settings : Settings) (merge perturb : ℕ) (figures : Figures) (old new : Files) (said : Holds old input (λ text. IsSaid text model)) (w : HasWritten model output (Some journal) settings merge perturb figures old new) where
+module _ (input output journal : Word) (apart : (input ≢ output) × ((input ≢ journal) × (output ≢ journal))) (model : Model) (settings : Settings) (figures : Figures) (old new : Files) (said : Holds old input (λ text. IsSaid text model)) (w : HasWritten model output (Some journal) settings figures old new) where
   input_stays : file_of new input ≡ file_of old input
   input_stays =
       ap (λ (files : Files). file_of files input) w.files
@@ -83,17 +83,17 @@ module _ (input output journal : Word) (apart : (input ≢ output) × ((input �
     overlong once tell input journal output new model w.few still_said w.recorded w.result.net (length (w.result.steps ++ w.result.verdicts)) journal_there accepted long,
   )
 
-pub checked : ReadsOnce → LongJournalsTell → (input output : Word) (journal : Option Word) (model : Model) (settings : Settings) (merge perturb : ℕ) (figures : Figures) (old new : Files) → HasNamesApart (opt input output journal settings merge perturb) → Holds old input (λ text. IsSaid text model) → HasWritten model output journal settings merge perturb figures old new → IsChecked input output journal new
-checked once tell input output None model settings merge perturb figures old new apart said w = tt
-checked once tell input output (Some journal) model settings merge perturb figures old new apart said w = elim (cases_lt (2 ^ 62) (length w.recorded)) [
-  | inl long ↦ inr (too_long input output journal (apart.0, (apart.1, apart.2)) model settings merge perturb figures old new said w once tell long)
-  | inr short ↦ inl (length (w.result.steps ++ w.result.verdicts), passed input output journal (apart.0, (apart.1, apart.2)) model settings merge perturb figures old new said w short)
+pub checked : ReadsOnce → LongJournalsTell → (input output : Word) (journal : Option Word) (model : Model) (settings : Settings) (figures : Figures) (old new : Files) → HasNamesApart (opt input output journal settings) → Holds old input (λ text. IsSaid text model) → HasWritten model output journal settings figures old new → IsChecked input output journal new
+checked once tell input output None model settings figures old new apart said w = tt
+checked once tell input output (Some journal) model settings figures old new apart said w = elim (cases_lt (2 ^ 62) (length w.recorded)) [
+  | inl long ↦ inr (too_long input output journal (apart.0, (apart.1, apart.2)) model settings figures old new said w once tell long)
+  | inr short ↦ inl (length (w.result.steps ++ w.result.verdicts), passed input output journal (apart.0, (apart.1, apart.2)) model settings figures old new said w short)
 ]
 
 -- what was written for the model that the input says
-pub optimised : ReadsOnce → LongJournalsTell → (input output : Word) (journal : Option Word) (model : Model) (settings : Settings) (merge perturb : ℕ) (figures : Figures) (old new : Option Files) → HasNamesApart (opt input output journal settings merge perturb) → ((files : Files) → old ≡ Some files → Holds files input (λ text. IsSaid text model)) → IfTold old new (HasWritten model output journal settings merge perturb figures)
-    → IfTold old new (HasOptimised input output journal settings merge perturb figures)
-optimised once tell input output journal model settings merge perturb figures None new apart said w = tt
-optimised once tell input output journal model settings merge perturb figures (Some old) None apart said w = absurd w
-optimised once tell input output journal model settings merge perturb figures (Some old) (Some new) apart said w =
-    (model, (said old refl, (w, checked once tell input output journal model settings merge perturb figures old new apart (said old refl) w)))
+pub optimised : ReadsOnce → LongJournalsTell → (input output : Word) (journal : Option Word) (model : Model) (settings : Settings) (figures : Figures) (old new : Option Files) → HasNamesApart (opt input output journal settings) → ((files : Files) → old ≡ Some files → Holds files input (λ text. IsSaid text model)) → IfTold old new (HasWritten model output journal settings figures)
+    → IfTold old new (HasOptimised input output journal settings figures)
+optimised once tell input output journal model settings figures None new apart said w = tt
+optimised once tell input output journal model settings figures (Some old) None apart said w = absurd w
+optimised once tell input output journal model settings figures (Some old) (Some new) apart said w =
+    (model, (said old refl, (w, checked once tell input output journal model settings figures old new apart (said old refl) w)))

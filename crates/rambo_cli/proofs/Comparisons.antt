@@ -82,9 +82,9 @@ misfit_alone input care told Memory good h = absurd h
 
 pub compared_runs_are_told : ComparedRunsAreTold
 compared_runs_are_told None files m n problem there h = absurd there
-compared_runs_are_told (Some (opt input output journal settings merge perturb)) files m n problem there h = absurd there
+compared_runs_are_told (Some (opt input output journal settings)) files m n problem there h = absurd there
 compared_runs_are_told (Some (check input journal output)) files m n problem there h = absurd there
-compared_runs_are_told (Some (demo seed settings merge perturb)) files m n problem there h = absurd there
+compared_runs_are_told (Some (demo seed settings)) files m n problem there h = absurd there
 compared_runs_are_told (Some (flat input output)) files m n problem there h = absurd there
 compared_runs_are_told (Some (tests input journal output patterns)) files m n problem there h = absurd there
 compared_runs_are_told (Some (replay input journal output)) files m n problem there h = absurd there
@@ -102,9 +102,9 @@ compared_runs_are_told (Some (sew input width prefix output shift)) files m n pr
 -- what is done of such files is no answer of a command that compares
 never_compared : (verdict : Verdict) (words : Option Asked) (files new : Option Files) → ((contract_of words).IsGood files ⊎ (contract_of words).IsJudged files) → (contract_of words).Does files new (Compared verdict) → ⊥
 never_compared verdict None files new good does = does
-never_compared verdict (Some (opt input output journal settings merge perturb)) files new good does = does
+never_compared verdict (Some (opt input output journal settings)) files new good does = does
 never_compared verdict (Some (check input journal output)) files new good does = does
-never_compared verdict (Some (demo seed settings merge perturb)) files new good does = does
+never_compared verdict (Some (demo seed settings)) files new good does = does
 never_compared verdict (Some (flat input output)) files new good does = does
 never_compared verdict (Some (tests input journal output patterns)) files new good does = does
 never_compared verdict (Some (replay input journal output)) files new good does = does

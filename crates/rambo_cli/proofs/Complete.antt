@@ -206,14 +206,14 @@ module _ (once : ReadsOnce) (exclude : ProblemsExclude) where
 
   pub good_runs_are_done : JournalsAreOne → GoodRunsAreDone
   good_runs_are_done ones None files m n problem good h = absurd good
-  good_runs_are_done ones (Some (opt input output journal settings merge perturb)) None m n problem good h = absurd good
-  good_runs_are_done ones (Some (opt input output journal settings merge perturb)) (Some told) m n problem good h =
-      outside_alone (contract_of (Some (opt input output journal settings merge perturb))) (Some told) m n problem (read_finds_none input told problem good) h
+  good_runs_are_done ones (Some (opt input output journal settings)) None m n problem good h = absurd good
+  good_runs_are_done ones (Some (opt input output journal settings)) (Some told) m n problem good h =
+      outside_alone (contract_of (Some (opt input output journal settings))) (Some told) m n problem (read_finds_none input told problem good) h
   good_runs_are_done ones (Some (check input journal output)) None m n problem good h = absurd good
   good_runs_are_done ones (Some (check input journal output)) (Some told) m n problem good h =
       outside_alone (contract_of (Some (check input journal output))) (Some told) m n problem (check_finds_none input journal output told good.0 problem good.1) h
-  good_runs_are_done ones (Some (demo seed settings merge perturb)) files m n problem good h =
-      outside_alone (contract_of (Some (demo seed settings merge perturb))) files m n problem (λ (x : ⊥). x) h
+  good_runs_are_done ones (Some (demo seed settings)) files m n problem good h =
+      outside_alone (contract_of (Some (demo seed settings))) files m n problem (λ (x : ⊥). x) h
   good_runs_are_done ones (Some (flat input output)) None m n problem good h = absurd good
   good_runs_are_done ones (Some (flat input output)) (Some told) m n problem good h =
       outside_alone (contract_of (Some (flat input output))) (Some told) m n problem (flat_finds_none flat_limits input told problem good) h
@@ -310,11 +310,11 @@ or_outside k c files m n (Proof found) is h = inl (is h)
 
 pub judged_runs_are_told : JudgedRunsAreTold
 judged_runs_are_told None files m n problem there h = absurd there
-judged_runs_are_told (Some (opt input output journal settings merge perturb)) files m n problem there h = absurd there
+judged_runs_are_told (Some (opt input output journal settings)) files m n problem there h = absurd there
 judged_runs_are_told (Some (check input journal output)) None m n problem there h = absurd there
 judged_runs_are_told (Some (check input journal output)) (Some told) m n problem there h =
     or_outside 6 (contract_of (Some (check input journal output))) (Some told) m n problem (judged input journal output told problem there) h
-judged_runs_are_told (Some (demo seed settings merge perturb)) files m n problem there h = absurd there
+judged_runs_are_told (Some (demo seed settings)) files m n problem there h = absurd there
 judged_runs_are_told (Some (flat input output)) files m n problem there h = absurd there
 judged_runs_are_told (Some (cut input width prefix shift)) files m n problem there h = absurd there
 judged_runs_are_told (Some (sew input width prefix output shift)) None m n problem there h = absurd there

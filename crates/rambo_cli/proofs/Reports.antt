@@ -62,9 +62,9 @@ words_alone Memory e = absurd (omega (arith, e))
 
 nothing_asked : (words : Option Asked) (files : Option Files) → (contract_of words).Finds files Words → words ≡ None
 nothing_asked None files h = refl
-nothing_asked (Some (opt input output journal settings merge perturb)) files h = absurd h
+nothing_asked (Some (opt input output journal settings)) files h = absurd h
 nothing_asked (Some (check input journal output)) files h = absurd h
-nothing_asked (Some (demo seed settings merge perturb)) files h = absurd h
+nothing_asked (Some (demo seed settings)) files h = absurd h
 nothing_asked (Some (flat input output)) files h = absurd h
 nothing_asked (Some (tests input journal output patterns)) files h = absurd h
 nothing_asked (Some (replay input journal output)) files h = absurd h

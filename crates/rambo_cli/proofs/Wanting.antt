@@ -1,4 +1,4 @@
--- A halt over a small model on a sure shelf is want of memory.
+-- A halt over a small model on a sure shelf is out of memory.
 use Rattle.std.proofs.Common.{◌≡◌, ℕ, arith, refl}
 use Rattle.rm_base.specs.Causes.{Rose}
 use Rattle.optimisation.specs.declared.halt.Halt.{Halt}

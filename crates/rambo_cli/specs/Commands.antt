@@ -30,9 +30,9 @@ refused_contract = record {
 
 abbrev pub contract_of : Option Asked → Contract
 contract_of None = refused_contract
-contract_of (Some (opt input output journal settings merge perturb)) = opt_contract input output journal settings merge perturb
+contract_of (Some (opt input output journal settings)) = opt_contract input output journal settings
 contract_of (Some (check input journal output)) = check_contract input journal output
-contract_of (Some (demo seed settings merge perturb)) = demo_contract seed settings merge perturb
+contract_of (Some (demo seed settings)) = demo_contract seed settings
 contract_of (Some (flat input output)) = flat_contract input output
 contract_of (Some (tests input journal output patterns)) = tests_contract input journal output patterns
 contract_of (Some (replay input journal output)) = replay_contract input journal output

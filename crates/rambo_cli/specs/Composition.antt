@@ -38,9 +38,9 @@ KeptNetsFit = (m : Model) (last : Net) → IsDecomposed m → Keeps (net_of_mode
 -- the journal and the text of the last net of a run over a model are what the headline says
 abbrev pub RunsAreWritten : Type 0
 RunsAreWritten =
-    (m : Model) (settings : Settings) (merge perturb : ℕ) (net : Net) (steps verdicts : List Record) (figures : Figures) → IsModel m → IsRanked m → IsDecomposed m → AreFew net m → IsWithinLimits m
-    → decomposed m ≤ most_pins → IsRunOver m settings merge perturb net steps verdicts figures
-    → IsOptimisedInto m settings merge perturb figures (journal_text settings.budget (steps ++ verdicts)) (text_of (model_of_net m net))
+    (m : Model) (settings : Settings) (net : Net) (steps verdicts : List Record) (figures : Figures) → IsModel m → IsRanked m → IsDecomposed m → AreFew net m → IsWithinLimits m
+    → decomposed m ≤ most_pins → IsRunOver m settings net steps verdicts figures
+    → IsOptimisedInto m settings figures (journal_text settings.budget (steps ++ verdicts)) (text_of (model_of_net m net))
 
 -- the text of the net to which accepted steps lead, tidied, is what is written for them
 abbrev pub ReplaysAreWritten : Type 0

@@ -12,19 +12,19 @@ use Rattle.rambo_cli.specs.declared.work.Done.{Done}
 use Rattle.rambo_cli.specs.declared.work.Done.TheVariants.{Optimised}
 
 -- the figures are those of a run over the model of the seed
-pub record HasShown (seed : ℕ) (settings : Settings) (merge perturb : ℕ) (figures : Figures) : Type 0 where
+pub record HasShown (seed : ℕ) (settings : Settings) (figures : Figures) : Type 0 where
   pub net : Net
   pub steps : List Record
   pub verdicts : List Record
-  pub over : IsRunOver (model_of_seed seed) settings merge perturb net steps verdicts figures
+  pub over : IsRunOver (model_of_seed seed) settings net steps verdicts figures
 
-abbrev pub DemoDoes : ℕ → Settings → ℕ → ℕ → Option Files → Option Files → Done → Type 0
-DemoDoes seed settings merge perturb old new (Optimised figures) = HasShown seed settings merge perturb figures
-DemoDoes seed settings merge perturb old new _ = ⊥
+abbrev pub DemoDoes : ℕ → Settings → Option Files → Option Files → Done → Type 0
+DemoDoes seed settings old new (Optimised figures) = HasShown seed settings figures
+DemoDoes seed settings old new _ = ⊥
 
-abbrev pub demo_contract : ℕ → Settings → ℕ → ℕ → Contract
-demo_contract seed settings merge perturb = record {
-  Does = DemoDoes seed settings merge perturb;
+abbrev pub demo_contract : ℕ → Settings → Contract
+demo_contract seed settings = record {
+  Does = DemoDoes seed settings;
   Finds = λ files problem. ⊥;
   Leaves = λ old new. new ≡ old;
   needs_files = false;

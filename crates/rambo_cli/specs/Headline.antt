@@ -26,6 +26,7 @@ use Rattle.journal_text.specs.declared.record.Record.{Record}
 use Rattle.journal_text.specs.declared.record.Record.TheVariants.{Step, Hit, Spent}
 use Rattle.journal_check.specs.Accepts.{IsAccepted}
 use Rattle.optimisation.specs.Turns.{IsTurnedRun}
+use Rattle.optimisation.specs.Allowed.{IsAllowed}
 use Rattle.optimisation.specs.Whole.{AreFigures}
 use Rattle.optimisation.specs.declared.optimised.Figures.{Figures}
 
@@ -62,7 +63,7 @@ abbrev pub NoneIsSpent : List Record → Type 0
 NoneIsSpent records = (place : ℕ) (fault : Fault) (tree : List Item) → slice_get records place ≡ Some (Spent fault tree) → ⊥
 
 -- The headline, sentence by sentence: the output and the journal that are written for a model.
-pub record IsOptimisedInto (m : Model) (settings : Settings) (merge perturb : ℕ) (figures : Figures) (journal output : List ℕ) : Type 0 where
+pub record IsOptimisedInto (m : Model) (settings : Settings) (figures : Figures) (journal output : List ℕ) : Type 0 where
   pub net : Net
   pub steps : List Record
   pub verdicts : List Record
@@ -85,7 +86,10 @@ pub record IsOptimisedInto (m : Model) (settings : Settings) (merge perturb : �
   pub tested : AreTested (model_of_net m net) net settings.budget verdicts
   -- impossible at 2^(n+1), n being the number of inputs, clocks and latch outputs of the original
   pub decided : 2 ^ (length (source_names m) + 1) ≤ settings.budget → NoneIsSpent verdicts
-  -- what `settled` and the count of tries mean of the steps, between which gates may be merged
-  pub run : IsTurnedRun (net_of_model m) (steps_of steps) merge perturb settings.depth settings.tries figures.tries figures.settled
+  -- what `settled` and the count of tries mean of the steps, between which gates may be merged: so many tries are allowed,
+  pub limit : ℕ
+  pub run : IsTurnedRun (net_of_model m) (steps_of steps) settings.merge settings.perturb settings.depth limit figures.tries figures.settled
+  -- as many as the settings say, and fewer only where the work has reached the limit that is set
+  pub allowed : IsAllowed settings limit figures.work
   -- and the other figures of the summary
   pub figures_are : AreFigures m net steps verdicts figures

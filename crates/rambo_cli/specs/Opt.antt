@@ -25,11 +25,11 @@ with_journal (Some journal) recorded files = put_file journal recorded files
 
 -- an output is written for the model, and the journal where it is named, and all other files are as before; there is an accepted
 -- journal in either case
-pub record HasWritten (model : Model) (output : Word) (journal : Option Word) (settings : Settings) (merge perturb : ℕ) (figures : Figures) (old new : Files) : Type 0 where
+pub record HasWritten (model : Model) (output : Word) (journal : Option Word) (settings : Settings) (figures : Figures) (old new : Files) : Type 0 where
   pub few : decomposed model ≤ most_pins
   pub recorded : List ℕ
   pub written : List ℕ
-  pub result : IsOptimisedInto model settings merge perturb figures recorded written
+  pub result : IsOptimisedInto model settings figures recorded written
   pub files : new ≡ put_file output written (with_journal journal recorded old)
 
 -- the journal is longer than `check` reads, and nothing else is found of these files: it ends with 5
@@ -43,13 +43,13 @@ IsChecked input output None told = Unit {0}
 IsChecked input output (Some journal) told = (check_contract input journal output).IsGood (Some told) ⊎ IsOverlong input journal output told
 
 -- that is so of the model that the input says, and of the files `check`
-abbrev pub HasOptimised : Word → Word → Option Word → Settings → ℕ → ℕ → Figures → Files → Files → Type 0
-HasOptimised input output journal settings merge perturb figures old new =
-    (model : Model) × (Holds old input (λ text. IsSaid text model) × (HasWritten model output journal settings merge perturb figures old new × IsChecked input output journal new))
+abbrev pub HasOptimised : Word → Word → Option Word → Settings → Figures → Files → Files → Type 0
+HasOptimised input output journal settings figures old new =
+    (model : Model) × (Holds old input (λ text. IsSaid text model) × (HasWritten model output journal settings figures old new × IsChecked input output journal new))
 
-abbrev pub OptDoes : Word → Word → Option Word → Settings → ℕ → ℕ → Option Files → Option Files → Done → Type 0
-OptDoes input output journal settings merge perturb old new (Optimised figures) = IfTold old new (HasOptimised input output journal settings merge perturb figures)
-OptDoes input output journal settings merge perturb old new _ = ⊥
+abbrev pub OptDoes : Word → Word → Option Word → Settings → Option Files → Option Files → Done → Type 0
+OptDoes input output journal settings old new (Optimised figures) = IfTold old new (HasOptimised input output journal settings figures)
+OptDoes input output journal settings old new _ = ⊥
 
 -- the journal holds a beginning of the header and of accepted records, and the output is as it was
 abbrev pub BeginsJournal : Model → ℕ → Option Word → Files → Files → Type 0
@@ -57,28 +57,28 @@ BeginsJournal model budget None old new = ⊥
 BeginsJournal model budget (Some journal) old new = (bytes : List ℕ) × (IsBeginning model budget bytes × (new ≡ put_file journal bytes old))
 
 -- the journal is whole, and the output holds what it held or a beginning of its text
-pub record BeginsOutput (model : Model) (settings : Settings) (merge perturb : ℕ) (output : Word) (journal : Option Word) (old new : Files) : Type 0 where
+pub record BeginsOutput (model : Model) (settings : Settings) (output : Word) (journal : Option Word) (old new : Files) : Type 0 where
   pub figures : Figures
   pub recorded : List ℕ
   pub written : List ℕ
-  pub result : IsOptimisedInto model settings merge perturb figures recorded written
+  pub result : IsOptimisedInto model settings figures recorded written
   pub files : (new ≡ with_journal journal recorded old) ⊎ ((k : ℕ) × (new ≡ put_file output (take k written) (with_journal journal recorded old)))
 
 -- nothing has changed, or one of these is so of the model
-abbrev pub BeginsToWriteFor : Model → Word → Option Word → Settings → ℕ → ℕ → Files → Files → Type 0
-BeginsToWriteFor model output journal settings merge perturb old new =
-    (new ≡ old) ⊎ (BeginsJournal model settings.budget journal old new ⊎ BeginsOutput model settings merge perturb output journal old new)
+abbrev pub BeginsToWriteFor : Model → Word → Option Word → Settings → Files → Files → Type 0
+BeginsToWriteFor model output journal settings old new =
+    (new ≡ old) ⊎ (BeginsJournal model settings.budget journal old new ⊎ BeginsOutput model settings output journal old new)
 
 -- of the model that the input says
-abbrev pub BeginsToWrite : Word → Word → Option Word → Settings → ℕ → ℕ → Files → Files → Type 0
-BeginsToWrite input output journal settings merge perturb old new =
-    (new ≡ old) ⊎ ((model : Model) × (Holds old input (λ text. IsSaid text model) × BeginsToWriteFor model output journal settings merge perturb old new))
+abbrev pub BeginsToWrite : Word → Word → Option Word → Settings → Files → Files → Type 0
+BeginsToWrite input output journal settings old new =
+    (new ≡ old) ⊎ ((model : Model) × (Holds old input (λ text. IsSaid text model) × BeginsToWriteFor model output journal settings old new))
 
-abbrev pub opt_contract : Word → Word → Option Word → Settings → ℕ → ℕ → Contract
-opt_contract input output journal settings merge perturb = record {
-  Does = OptDoes input output journal settings merge perturb;
+abbrev pub opt_contract : Word → Word → Option Word → Settings → Contract
+opt_contract input output journal settings = record {
+  Does = OptDoes input output journal settings;
   Finds = ReadFinds input;
-  Leaves = λ old new. IfTold old new (BeginsToWrite input output journal settings merge perturb);
+  Leaves = λ old new. IfTold old new (BeginsToWrite input output journal settings);
   needs_files = true;
   IsGood = λ files. IsSomeAnd files (λ told. Holds told input CanBeOptimised);
   IsJudged = λ files. ⊥;

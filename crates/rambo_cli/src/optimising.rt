@@ -61,12 +61,10 @@ fn whole_run<R: Threads + Sync, G: Gate, S: Shelf>(
     model: &RankedModel,
     journal: Option<&str>,
     settings: &Settings,
-    merge: u8,
-    perturb: u8,
 ) -> Result<Optimised, Problem>
     requires usable { IsUsable model.now }
     requires settings { AreSettings settings.now }
-    ensures recorded { IfOk result (λ o. IsRecorded model.now settings.now merge perturb (net_of o.graph) o.figures (S.files shelf.old) (S.files shelf.new) (option_map (λ j. j.now) journal.entry)) }
+    ensures recorded { IfOk result (λ o. IsRecorded model.now settings.now (net_of o.graph) o.figures (S.files shelf.old) (S.files shelf.new) (option_map (λ j. j.now) journal.entry)) }
     ensures within { OnOk result (decomposed model.now ≤ most_pins) }
     ensures begun { IfErr result (λ _. BeginsRecord model.now settings.now.budget (option_map (λ j. j.now) journal.entry) (S.files shelf.old) (S.files shelf.new)) }
     ensures cause { IfErr result (ModelCause model.now (S.faults shelf.old) (S.faults shelf.new)) }
@@ -74,22 +72,10 @@ fn whole_run<R: Threads + Sync, G: Gate, S: Shelf>(
     ensures later { S.faults shelf.old ≤ S.faults shelf.new }
 {
     match journal {
-        Some(journal) => Ok(optimised_model(
-            rt, alloc, model, settings, merge, perturb, gate, shelf, journal,
-        )?),
+        Some(journal) => Ok(optimised_model(rt, alloc, model, settings, gate, shelf, journal)?),
         None => {
             let mut memory = SureShelf::new(alloc);
-            Ok(optimised_model(
-                rt,
-                alloc,
-                model,
-                settings,
-                merge,
-                perturb,
-                gate,
-                &mut memory,
-                "journal",
-            )?)
+            Ok(optimised_model(rt, alloc, model, settings, gate, &mut memory, "journal")?)
         }
     }
 }
@@ -105,24 +91,20 @@ fn optimise_model<R: Threads + Sync, G: Gate, S: Shelf>(
     output: &str,
     journal: Option<&str>,
     settings: &Settings,
-    merge: u8,
-    perturb: u8,
 ) -> Result<Figures, Problem>
     requires usable { IsUsable model.now }
     requires settings { AreSettings settings.now }
-    ensures done { IfOk result (λ figures. IfTold (S.files shelf.old) (S.files shelf.new) (HasWritten model.now output.now (option_map (λ j. j.now) journal.entry) settings.now merge perturb figures)) }
+    ensures done { IfOk result (λ figures. IfTold (S.files shelf.old) (S.files shelf.new) (HasWritten model.now output.now (option_map (λ j. j.now) journal.entry) settings.now figures)) }
     ensures cause { IfErr result (ModelCause model.now (S.faults shelf.old) (S.faults shelf.new)) }
     ensures unchanged { IfErr result (λ problem. KeepsFiles problem (S.files shelf.old) (S.files shelf.new)) }
-    ensures safe { IfTold (S.files shelf.old) (S.files shelf.new) (BeginsToWriteFor model.now output.now (option_map (λ j. j.now) journal.entry) settings.now merge perturb) }
+    ensures safe { IfTold (S.files shelf.old) (S.files shelf.new) (BeginsToWriteFor model.now output.now (option_map (λ j. j.now) journal.entry) settings.now) }
     ensures later { S.faults shelf.old ≤ S.faults shelf.new }
 {
     decompositions_stand();
     decompositions_are_formed();
     kept_nets_fit();
     runs_are_written();
-    let run = whole_run(
-        rt, alloc, shelf, gate, model, journal, settings, merge, perturb,
-    )?;
+    let run = whole_run(rt, alloc, shelf, gate, model, journal, settings)?;
     let text = net_text(alloc, keys, &run.graph, model)?;
     replace(shelf, output, text.as_slice())?;
     Ok(run.figures)
@@ -137,15 +119,13 @@ pub(crate) fn optimise_input<R: Threads + Sync, G: Gate, S: Shelf>(
     gate: &G,
     names: &Names<'_>,
     settings: &Settings,
-    merge: u8,
-    perturb: u8,
 ) -> Result<Figures, Problem>
-    requires apart { HasNamesApart (opt names.now.input.now names.now.output.now (option_map (λ j. j.now) names.now.journal) settings.now merge perturb) }
+    requires apart { HasNamesApart (opt names.now.input.now names.now.output.now (option_map (λ j. j.now) names.now.journal) settings.now) }
     requires settings { AreSettings settings.now }
-    ensures done { IfOk result (λ figures. IfTold (S.files shelf.old) (S.files shelf.new) (HasOptimised names.now.input.now names.now.output.now (option_map (λ j. j.now) names.now.journal) settings.now merge perturb figures)) }
+    ensures done { IfOk result (λ figures. IfTold (S.files shelf.old) (S.files shelf.new) (HasOptimised names.now.input.now names.now.output.now (option_map (λ j. j.now) names.now.journal) settings.now figures)) }
     ensures cause { IfErr result (ReadCause names.now.input.now (S.files shelf.old) (S.faults shelf.old) (S.faults shelf.new)) }
     ensures unchanged { IfErr result (λ problem. KeepsFiles problem (S.files shelf.old) (S.files shelf.new)) }
-    ensures safe { IfTold (S.files shelf.old) (S.files shelf.new) (BeginsToWrite names.now.input.now names.now.output.now (option_map (λ j. j.now) names.now.journal) settings.now merge perturb) }
+    ensures safe { IfTold (S.files shelf.old) (S.files shelf.new) (BeginsToWrite names.now.input.now names.now.output.now (option_map (λ j. j.now) names.now.journal) settings.now) }
     ensures later { S.faults shelf.old ≤ S.faults shelf.new }
 {
     reads_once();
@@ -161,7 +141,5 @@ pub(crate) fn optimise_input<R: Threads + Sync, G: Gate, S: Shelf>(
         names.output,
         names.journal,
         settings,
-        merge,
-        perturb,
     )
 }

@@ -20,17 +20,13 @@ pub(crate) fn show<R: Threads + Sync, G: Gate>(
     gate: &G,
     seed: u64,
     settings: &Settings,
-    merge: u8,
-    perturb: u8,
 ) -> Result<Figures, Problem>
     requires settings { AreSettings settings.now }
-    ensures done { IfOk result (λ figures. HasShown seed settings.now merge perturb figures) }
+    ensures done { IfOk result (λ figures. HasShown seed settings.now figures) }
     ensures cause { IfErr result IsWant }
 {
     let model = demo_model(alloc, keys, seed)?;
     let mut shelf = SureShelf::new(alloc);
-    let run = optimised_model(
-        rt, alloc, &model, settings, merge, perturb, gate, &mut shelf, "journal",
-    )?;
+    let run = optimised_model(rt, alloc, &model, settings, gate, &mut shelf, "journal")?;
     Ok(run.figures)
 }

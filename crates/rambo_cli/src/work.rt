@@ -132,17 +132,13 @@ pub(crate) fn work<R: Threads + Sync, S: Shelf, G: Gate>(
             output,
             journal,
             settings,
-            merge,
-            perturb,
         } => {
             let names = Names {
                 input,
                 output,
                 journal,
             };
-            let figures = optimise_input(
-                rt, alloc, keys, shelf, gate, &names, &settings, merge, perturb,
-            )?;
+            let figures = optimise_input(rt, alloc, keys, shelf, gate, &names, &settings)?;
             Ok(Done::Optimised(figures))
         }
         Command::Check {
@@ -153,13 +149,8 @@ pub(crate) fn work<R: Threads + Sync, S: Shelf, G: Gate>(
             let count = check(alloc, keys, shelf, input, journal, output)?;
             Ok(Done::Accepted(count))
         }
-        Command::Demo {
-            seed,
-            settings,
-            merge,
-            perturb,
-        } => {
-            let figures = show(rt, alloc, keys, gate, seed, &settings, merge, perturb)?;
+        Command::Demo { seed, settings } => {
+            let figures = show(rt, alloc, keys, gate, seed, &settings)?;
             Ok(Done::Optimised(figures))
         }
         Command::Flat { input, output } => {

@@ -143,7 +143,7 @@ ahead_back t u v pair depth records back a = record { better = better_back t.gra
 pub tour_back : (t u v : Tried) (target : Fault) (depth left after : ℕ) (end : Tour) → IsBack t u → IsTargetTour u target depth left after v end → IsTargetTour t target depth left after v end
 tour_back t u v target depth left after tour.Done back w =
     (back_then t u v back w.0, subst (λ (n : Net). (here : List Candidate) × (AreTried n target here (length here) × (after + length here ≡ left))) back.same.net w.1)
-tour_back t u v target depth left after (tour.Spent at) back w =
+tour_back t u v target depth left after (tour.Spent at work) back w =
     (back_then t u v back w.0, (w.1.0, (w.1.1.0, (subst (λ (n : Net). AreTried n target w.1.0 w.1.1.0) back.same.net w.1.1.1.0, w.1.1.1.1))))
 tour_back t u v target depth left after (tour.Gained pair records) back w =
     (w.0, (w.1.0, (subst (λ (n : Net). AreTried n target w.0 w.1.0) back.same.net w.1.1.0, (w.1.1.1.0, (w.1.1.1.1.0, (w.1.1.1.1.1.0, ahead_back t u v pair depth records.items back w.1.1.1.1.1.1))))))
@@ -151,7 +151,7 @@ tour_back t u v target depth left after (tour.Gained pair records) back w =
 -- what a tour of a trial comes to on its graph
 pub walk_here : (t u : Tried) (start : Option Fault) (depth left after : ℕ) (end : Tour) → IsTour t start depth left after u end → IsWalk t.graph start depth left after u.graph end
 walk_here t u start depth left after tour.Done w = (w.0.same, w.1)
-walk_here t u start depth left after (tour.Spent at) w = (w.0.same, w.1)
+walk_here t u start depth left after (tour.Spent at work) w = (w.0.same, w.1)
 walk_here t u start depth left after (tour.Gained pair records) w = (w.0, (w.1.0, (w.1.1.0, (w.1.1.1.0, w.1.1.1.1.better))))
 
 -- PAIRS

@@ -1,9 +1,10 @@
 -- The addition loop with its journal.
-use Rattle.std.proofs.Common.{◌≡◌, ℕ, suc, ◌+◌, ◌-◌, ◌≤◌, Option, Some, List, [], ◌++◌, Vec, Global, length, refl, sym, ◌∙◌, ap, subst, arith}
+use Rattle.std.proofs.Common.{◌≡◌, ℕ, suc, ◌+◌, ◌-◌, ◌*◌, ◌≤◌, inl, inr, Option, Some, List, [], ◌++◌, Vec, Global, length, refl, sym, ◌∙◌, ap, subst, arith}
 use Rattle.std.proofs.lemmas.List.{length-append}
 use Rattle.rm_base.specs.Files.{Files}
 use Rattle.rm_base.specs.declared.numbers.Fault.{Fault}
 use Rattle.rm_base.specs.declared.settings.Made.{Made}
+use Rattle.rm_base.specs.declared.settings.Settings.{Settings}
 use Rattle.gate_net.specs.Net.{Net, wire_count}
 use Rattle.gate_graph.specs.Circuit.{Circuit, net_of}
 use Rattle.candidate_wires.specs.declared.candidate.Pair.{Pair}
@@ -19,7 +20,7 @@ use Rattle.journal_text.specs.Runs.{AcceptedTo, steps_of, none_made, made_by, Ha
 use Rattle.rar_loop.specs.declared.walking.Tour.TheVariants.{Done, Spent, Gained}
 use Rattle.rar_loop.specs.Sizes.{IsSame, most_steps}
 use Rattle.rar_loop.specs.Inner.Walking.{IsWalk}
-use Rattle.rar_loop.specs.Ended.{IsImproved, IsOptimised, AreFew, turn_at}
+use Rattle.rar_loop.specs.Ended.{IsCutShort, IsImproved, IsOptimised, AreFew, turn_at}
 use Rattle.rar_loop.specs.Inner.Improving.{HasBegun, HasImproved, IsThrough, IsUnderWay}
 use Rattle.rar_loop.proofs.Looping.{improved_first, improved_more}
 use Rattle.rar_loop.proofs.Sizing.{within_same, within_then}
@@ -90,17 +91,17 @@ removed_few join before after records made accepted counts few =
     subst (λ (m : Made). m.adds + m.fixes + m.local ≤ most_steps) (sym counts) (omega (arith, sum, each, few))
 
 -- AT THE END
-streams_to : (before mid last : Circuit) (start turn : Option Fault) (depth limit left : ℕ) (outcome : Outcome) (made : Made) (old now : Option Files) (name : List ℕ) → (o : IsUnderWay before start turn depth limit left mid made old now name)
-    → IsImproved (net_of before) start depth limit o.records (net_of mid) outcome → IsSame mid last → IsThrough before start turn depth limit last outcome made old now name
-streams_to before mid last start turn depth limit left outcome made old now name o i same = record {
-  optimised = subst (λ (n : Net). IsOptimised (net_of before) n start turn depth limit outcome made old now name) (sym same.net) (record { records = o.records; improved = i; next_is = o.turn_is; written = o.written; fit = o.fit; counted = o.counts });
+streams_to : (before mid last : Circuit) (start turn : Option Fault) (depth limit left allowed : ℕ) (outcome : Outcome) (made : Made) (old now : Option Files) (name : List ℕ) → (o : IsUnderWay before start turn depth limit left mid made old now name)
+    → IsImproved (net_of before) start depth allowed o.records (net_of mid) outcome → IsSame mid last → IsThrough before start turn depth allowed last outcome made old now name
+streams_to before mid last start turn depth limit left allowed outcome made old now name o i same = record {
+  optimised = subst (λ (n : Net). IsOptimised (net_of before) n start turn depth allowed outcome made old now name) (sym same.net) (record { records = o.records; improved = i; next_is = o.turn_is; written = o.written; fit = o.fit; counted = o.counts });
   within = within_then before mid last o.within (within_same mid last same);
 }
 
 pub streams_done : (before mid : Circuit) (start turn : Option Fault) (depth limit left left' : ℕ) (last : Circuit) (made : Made) (old now : Option Files) (name : List ℕ) → IsUnderWay before start turn depth limit left mid made old now name → IsWalk mid turn depth left left' last Done
     → IsThrough before start turn depth limit last (Settled (limit - left')) made old now name
 streams_done before mid start turn depth limit left left' last made old now name o w =
-    streams_to before mid last start turn depth limit left (Settled (limit - left')) made old now name o (record {
+    streams_to before mid last start turn depth limit left limit (Settled (limit - left')) made old now name o (record {
       accepted = o.improved.accepted;
       clean = o.improved.clean;
       fewer = o.improved.fewer;
@@ -110,17 +111,17 @@ streams_done before mid start turn depth limit left left' last made old now name
       ends = record { pairs = w.1.0; all = subst (λ (t : Option Fault). ArePairsInTurn (net_of mid) t w.1.0) o.turn_is w.1.1.0; none = w.1.1.1.0; counted = limit - left; are_tries = o.improved.are_tries; sum = omega (arith, o.left_within, w.1.1.1.1); within = omega arith };
     }) w.0
 
-pub streams_spent : (before mid : Circuit) (start turn : Option Fault) (depth limit left left' : ℕ) (last : Circuit) (at : Pair) (made : Made) (old now : Option Files) (name : List ℕ) → IsUnderWay before start turn depth limit left mid made old now name → IsWalk mid turn depth left left' last (Spent at)
-    → IsThrough before start turn depth limit last (TriesSpent limit at) made old now name
-streams_spent before mid start turn depth limit left left' last at made old now name o w =
-    streams_to before mid last start turn depth limit left (TriesSpent limit at) made old now name o (record {
+pub streams_spent : (before mid : Circuit) (start turn : Option Fault) (depth limit left left' : ℕ) (last : Circuit) (at : Pair) (work : ℕ) (made : Made) (old now : Option Files) (name : List ℕ) → IsUnderWay before start turn depth limit left mid made old now name → IsWalk mid turn depth left left' last (Spent at work)
+    → IsThrough before start turn depth (limit - left') last (TriesSpent (limit - left') at) made old now name
+streams_spent before mid start turn depth limit left left' last at work made old now name o w =
+    streams_to before mid last start turn depth limit left (limit - left') (TriesSpent (limit - left') at) made old now name o (record {
       accepted = o.improved.accepted;
       clean = o.improved.clean;
       fewer = o.improved.fewer;
       tidy = o.improved.tidy;
       swept = o.improved.swept;
       improves = o.improved.improves;
-      ends = record { pairs = w.1.0; before = subst (λ (t : Option Fault). ArePairsBefore (net_of mid) t at w.1.0) o.turn_is w.1.1.0; none = w.1.1.1.0; counted = limit - left; are_tries = o.improved.are_tries; sum = omega (arith, o.left_within, w.1.1.1.1.1); used_up = refl };
+      ends = record { pairs = w.1.0; before = subst (λ (t : Option Fault). ArePairsBefore (net_of mid) t at w.1.0) o.turn_is w.1.1.0; none = w.1.1.1.0; counted = limit - left; are_tries = o.improved.are_tries; sum = omega (arith, o.left_within, w.1.1.1.1); used_up = refl };
     }) w.0
 
 -- the same of a graph that is given in place of the last
@@ -129,6 +130,12 @@ through_same before last given start turn depth limit outcome made old now name 
   optimised = subst (λ (n : Net). IsOptimised (net_of before) n start turn depth limit outcome made old now name) (sym same.net) t.optimised;
   within = within_then before last given t.within (within_same last given same);
 }
+
+-- what cut a call short still does as the work goes on
+pub cut_on : (settings : Settings) (work more : ℕ) (outcome : Outcome) → IsCutShort settings work outcome → work ≤ more → IsCutShort settings more outcome
+cut_on settings work more (Settled tries) cut le = tt
+cut_on settings work more (TriesSpent tries at) (inl all) le = inl all
+cut_on settings work more (TriesSpent tries at) (inr over) le = let reached : settings.work * 1000000 ≤ work = over.1 in inr (over.0, omega (arith, reached, le))
 
 -- WHERE IT STOPS
 pub stopped_none : TextsAppend → (net : Net) (old : Option Files) (name : List ℕ) → IsThere old name → IsStopped net old old name

@@ -1,8 +1,10 @@
 -- How the addition loop ends.
-use Rattle.std.specs.Prelude.{◌≡◌, ◌≤◌, ◌+◌, ℕ, false, List, Option, length}
+use Rattle.std.specs.Prelude.{◌≡◌, ◌⊎◌, ◌≤◌, ◌+◌, ℕ, false, List, Option, length}
 use Rattle.rm_base.specs.Files.{Files}
 use Rattle.rm_base.specs.declared.numbers.Fault.{Fault}
+use Rattle.rm_base.specs.Work.{IsWorkedOff}
 use Rattle.rm_base.specs.declared.settings.Made.{Made}
+use Rattle.rm_base.specs.declared.settings.Settings.{Settings}
 use Rattle.gate_net.specs.Net.{Net, wire_count}
 use Rattle.wire_edit.specs.Order.{IsTidy}
 use Rattle.wire_edit.specs.declared.steps.Step.{Step}
@@ -46,6 +48,20 @@ pub record IsSpent (net after : Net) (start : Option Fault) (steps : List Step) 
 abbrev pub Ends : Net → Net → Option Fault → List Step → ℕ → Outcome → Type 0
 Ends net after start steps limit (Settled tries) = IsSettled net after start steps limit tries
 Ends net after start steps limit (TriesSpent tries at) = IsSpent net after start steps limit tries at
+
+-- no try is left, or the work has reached the limit that is set
+abbrev pub IsUsedUp : Settings → ℕ → ℕ → Type 0
+IsUsedUp settings left work = (left ≡ 0) ⊎ IsWorkedOff settings work
+
+-- how many tries a call might make: as many as it was given, or, where it was cut short, as many as it made
+abbrev pub allowed_to : ℕ → Outcome → ℕ
+allowed_to limit (Settled tries) = limit
+allowed_to limit (TriesSpent tries at) = tries
+
+-- where a call is cut short, it has used up the tries that it was given, or the work has reached its limit
+abbrev pub IsCutShort : Settings → ℕ → Outcome → Type 0
+IsCutShort settings work (Settled tries) = Unit {0}
+IsCutShort settings work (TriesSpent tries at) = (tries ≡ settings.tries) ⊎ IsWorkedOff settings work
 
 -- the records are accepted steps, which lead to a tidy and swept net of no more wires, and of which the last makes no Not; each
 -- addition was the next pair in turn to gain, where the first turn began at that target, and then wires went; and how it ended

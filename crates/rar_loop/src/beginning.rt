@@ -7,6 +7,7 @@ ghost use Rattle.rar_loop.specs.Inner.Improving.{HasBegun};
 ghost use Rattle.rar_loop.specs.Inner.Spaces.{IsReady};
 
 use crate::changes::Changed;
+use crate::limits::raise;
 use crate::sweeping::sweep;
 use crate::tidying::tidy;
 use crate::workspace::{Workspace, into_graph};
@@ -74,16 +75,18 @@ fn begin_removals(alloc: Global, graph: Graph) -> Result<Trial, NoMemory>
     }
 }
 
-/// The graph, tidied and swept, and the records of that.
+/// The graph, tidied and swept, and the records of that. The units of work that this was come to `work`.
 pub(crate) fn swept_graph(
     alloc: Global,
     graph: Graph,
     depth: u8,
     found: &[Vec<u64>],
+    work: &mut u64,
 ) -> Result<(Graph, Vec<Record>), NoMemory>
     requires few { pins_taken graph + live_nodes graph ≤ 1048576 }
     requires depth { depth ≤ 2 }
     ensures begun { IfOk result (λ r. HasBegun graph depth r.0 r.1.items) }
+    ensures grown { work.old ≤ work.new }
 {
     tidying_ends();
     accepted_steps_keep();
@@ -93,6 +96,8 @@ pub(crate) fn swept_graph(
     tidy(alloc, &mut trial, &mut log, &mut Changed::new(alloc))?;
     let mut space = Workspace::over(alloc, trial, found)?;
     sweep(alloc, &mut space, &mut log, depth)?;
+    let done = work.saturating_add(space.refuter.work_done());
+    raise(work, done);
     space.trial.keep();
     space.trial.graph().well_formed();
     let swept = into_graph(space);
@@ -100,19 +105,22 @@ pub(crate) fn swept_graph(
     Ok((swept, log))
 }
 
-/// Tidies and sweeps, and gives the records of that beside a workspace that is ready for tries.
+/// Tidies and sweeps, and gives the records of that beside a workspace that is ready for tries. The units of work that this was
+/// come to `work`.
 pub(crate) fn open_workspace(
     alloc: Global,
     graph: Graph,
     depth: u8,
     found: &[Vec<u64>],
+    work: &mut u64,
 ) -> Result<(Workspace, Vec<Record>), NoMemory>
     requires few { pins_taken graph + live_nodes graph ≤ 1048576 }
     requires depth { depth ≤ 2 }
     ensures begun { IfOk result (λ r. HasBegun graph depth r.0.trial.graph r.1.items) }
     ensures ready { IfOk result (λ r. IsReady r.0) }
+    ensures grown { work.old ≤ work.new }
 {
-    let (swept, log) = swept_graph(alloc, graph, depth, found)?;
+    let (swept, log) = swept_graph(alloc, graph, depth, found, work)?;
     swept.well_formed();
     let lent = begin(alloc, swept)?;
     lent.graph().well_formed();

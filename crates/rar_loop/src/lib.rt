@@ -8,6 +8,7 @@ mod drawing;
 mod exchanging;
 mod fixing;
 mod laws;
+mod limits;
 mod optimising;
 mod perturbing;
 mod refuting;

@@ -17,14 +17,15 @@ use journal_text::{
 use rm_base::{Made, Shelf};
 use std::alloc::Global;
 
-/// Tidies the net and fixes refuted pins until none is left. Each step is recorded with its tree. After a `Stop` the graph
-/// is dropped.
+/// Tidies the net and fixes refuted pins until none is left. Each step is recorded with its tree. The units of work that this
+/// was come to `work`. After a `Stop` the graph is dropped.
 pub fn remove_redundant<S: Shelf>(
     alloc: Global,
     graph: Graph,
     depth: u8,
     shelf: &mut S,
     journal: &str,
+    work: &mut u64,
 ) -> Result<(Graph, Made), Stop>
     requires few { pins_taken graph + live_nodes graph ≤ 1048576 }
     requires depth { depth ≤ 2 }
@@ -32,6 +33,7 @@ pub fn remove_redundant<S: Shelf>(
     ensures removed { IfOk result (λ r. HasRemoved (net_of graph) (net_of r.0) depth r.1 (S.files shelf.old) (S.files shelf.new) journal.now) }
     ensures tidy { IfOk result (λ r. IsTidy (net_of r.0)) }
     ensures within { IfOk result (λ r. IsWithin graph r.0) }
+    ensures grown { work.old ≤ work.new }
     ensures stopped { IfErr result (λ _. IsStopped (net_of graph) (S.files shelf.old) (S.files shelf.new) journal.now) }
     ensures there { IsThere (S.files shelf.new) journal.now }
     ensures failed { result ≡ Err Stop.Failed → Rose (S.faults shelf.old) (S.faults shelf.new) }
@@ -45,7 +47,7 @@ pub fn remove_redundant<S: Shelf>(
         fixes: 0,
         local: 0,
     };
-    let (swept, records) = swept_graph(alloc, graph, depth, &[])?;
+    let (swept, records) = swept_graph(alloc, graph, depth, &[], work)?;
     append_records(alloc, shelf, journal, &records)?;
     count_records(&records, &mut made);
     records_fit(&records);

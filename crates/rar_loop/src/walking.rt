@@ -1,13 +1,15 @@
 //! Going through the pairs of a net.
-ghost use Rattle.std.specs.Prelude.{◌≡◌, ◌≤◌, IfOk, OnOk, length};
+ghost use Rattle.std.specs.Prelude.{◌≡◌, ◌<◌, ◌≤◌, IfNone, IfOk, IfSome, OnOk, length};
 ghost use Rattle.gate_net.specs.Net.{wire_count};
 ghost use Rattle.gate_net.specs.Values.{HasPin};
 ghost use Rattle.gate_graph.specs.Circuit.{net_of};
 ghost use Rattle.rar_loop.specs.Inner.Spaces.{HasToolsFor, IsReady};
 ghost use Rattle.rar_loop.specs.Inner.Trying.{IsAttempt, MayTry};
-ghost use Rattle.rar_loop.specs.Inner.Walking.{IsTargetTour, IsTour};
+ghost use Rattle.rar_loop.specs.Ended.{IsUsedUp};
+ghost use Rattle.rar_loop.specs.Inner.Walking.{AreUsedUp, IsTargetTour, IsTour};
 
 use crate::candidates::candidates_of;
+use crate::limits::Limits;
 use crate::trying::{Attempt, try_pair};
 use crate::workspace::Workspace;
 use candidate_wires::{Finder, Pair, turn};
@@ -22,8 +24,8 @@ use std::alloc::Global;
 pub(crate) enum Tour {
     /// No pair is left.
     Done,
-    /// The tries are used up, and this pair would come next.
-    Spent { at: Pair },
+    /// The tries are used up, or the work, which is so much, has reached its limit, and this pair would come next.
+    Spent { at: Pair, work: u64 },
     /// This pair gained.
     Gained { pair: Pair, records: Vec<Record> },
 }
@@ -51,6 +53,21 @@ fn try_unless_detected(
     try_pair(alloc, space, wires, pair, depth)
 }
 
+// How much work the run is, where no further pair is tried: no try is left, or the work has reached its limit.
+fn work_at_end(space: &Workspace, limits: &Limits, left: u32) -> Option<u64>
+    ensures ends { IfSome result (IsUsedUp limits.now.settings left) }
+    ensures goes { IfNone result (0 < left) }
+{
+    let work = limits.work_done(&space.refuter, left);
+    if left == 0 {
+        return Some(work);
+    }
+    if limits.settings.is_worked_off(work) {
+        return Some(work);
+    }
+    None
+}
+
 // Tries the pairs of one target, with so many tries left.
 fn walk_target(
     alloc: Global,
@@ -58,15 +75,16 @@ fn walk_target(
     finder: &mut Finder,
     wires: u32,
     target: Fault,
-    depth: u8,
+    limits: &Limits,
     left: &mut u32,
 ) -> Result<Tour, NoMemory>
     requires ready { IsReady space.old }
     requires numbers { length (net_of space.old.trial.graph).nodes ≤ finder.old }
     requires pin { HasPin (net_of space.old.trial.graph) target }
     requires wires { wires ≡ wire_count (net_of space.old.trial.graph) }
-    requires depth { depth ≤ 2 }
-    ensures tour { IfOk result (IsTargetTour space.old.trial target depth left.old left.new space.new.trial) }
+    requires depth { limits.now.settings.depth ≤ 2 }
+    ensures tour { IfOk result (IsTargetTour space.old.trial target limits.now.settings.depth left.old left.new space.new.trial) }
+    ensures ends { IfOk result (AreUsedUp limits.now.settings left.new) }
     ensures numbers { finder.new ≡ finder.old }
     ensures tools { OnOk result (HasToolsFor (net_of space.new.trial.graph) space.new) }
 {
@@ -80,11 +98,11 @@ fn walk_target(
             fault: target,
             candidate: found[place],
         };
-        if *left == 0 {
-            return Ok(Tour::Spent { at: pair });
+        if let Some(work) = work_at_end(space, limits, *left) {
+            return Ok(Tour::Spent { at: pair, work });
         }
         *left -= 1;
-        match try_unless_detected(alloc, space, wires, &pair, depth)? {
+        match try_unless_detected(alloc, space, wires, &pair, limits.settings.depth)? {
             Attempt::Failed => {}
             Attempt::Gained { records } => return Ok(Tour::Gained { pair, records }),
         }
@@ -99,22 +117,23 @@ fn walk_targets(
     finder: &mut Finder,
     wires: u32,
     start: Option<Fault>,
-    depth: u8,
+    limits: &Limits,
     left: &mut u32,
 ) -> Result<Tour, NoMemory>
     requires ready { IsReady space.old }
     requires numbers { length (net_of space.old.trial.graph).nodes ≤ finder.old }
     requires wires { wires ≡ wire_count (net_of space.old.trial.graph) }
-    requires depth { depth ≤ 2 }
-    ensures tour { IfOk result (IsTour space.old.trial start depth left.old left.new space.new.trial) }
+    requires depth { limits.now.settings.depth ≤ 2 }
+    ensures tour { IfOk result (IsTour space.old.trial start limits.now.settings.depth left.old left.new space.new.trial) }
+    ensures ends { IfOk result (AreUsedUp limits.now.settings left.new) }
     ensures ready { OnOk result (IsReady space.new) }
 {
     let faults = turn(alloc, space.trial.graph(), start)?;
     for place in 0..faults.len() {
         let target = faults[place];
-        match walk_target(alloc, space, finder, wires, target, depth, left)? {
+        match walk_target(alloc, space, finder, wires, target, limits, left)? {
             Tour::Done => {}
-            Tour::Spent { at } => return Ok(Tour::Spent { at }),
+            Tour::Spent { at, work } => return Ok(Tour::Spent { at, work }),
             Tour::Gained { pair, records } => return Ok(Tour::Gained { pair, records }),
         }
     }
@@ -126,15 +145,16 @@ pub(crate) fn walk_pairs(
     alloc: Global,
     space: &mut Workspace,
     start: Option<Fault>,
-    depth: u8,
+    limits: &Limits,
     left: &mut u32,
 ) -> Result<Tour, NoMemory>
     requires ready { IsReady space.old }
-    requires depth { depth ≤ 2 }
-    ensures tour { IfOk result (IsTour space.old.trial start depth left.old left.new space.new.trial) }
+    requires depth { limits.now.settings.depth ≤ 2 }
+    ensures tour { IfOk result (IsTour space.old.trial start limits.now.settings.depth left.old left.new space.new.trial) }
+    ensures ends { IfOk result (AreUsedUp limits.now.settings left.new) }
     ensures ready { OnOk result (IsReady space.new) }
 {
     let mut finder = Finder::new(alloc, space.trial.graph().node_bound())?;
     let wires = space.trial.graph().wire_count();
-    walk_targets(alloc, space, &mut finder, wires, start, depth, left)
+    walk_targets(alloc, space, &mut finder, wires, start, limits, left)
 }

@@ -155,6 +155,12 @@ impl Refuter {
         Ok(refuter)
     }
 
+    /// The work of its calls together, which a limit of work bounds: a unit for each fact that was held, and for each node that
+    /// a faulty gate reaches.
+    pub fn work_done(&self) -> u64 {
+        self.engine.work_done()
+    }
+
     // Whether there is room for the node numbers of the graph.
     fn has_room(&self, graph: &Graph) -> bool
         ensures { IsTrue result → HasAllRoom (net_of graph.now) self.now }
@@ -175,13 +181,14 @@ impl Refuter {
         if self.has_room(graph) {
             return Ok(());
         }
-        let more = Refuter::new(self.alloc, graph.node_bound())?;
+        let mut more = Refuter::new(self.alloc, graph.node_bound())?;
+        more.engine.count_work(self.work_done());
         *self = more;
         Ok(())
     }
 
     /// Fits it to the net of the graph, which it serves from then on until that changes. It makes more room where there is
-    /// too little, and goes over the whole net. After want of memory, here or in another call, it is to be fitted again.
+    /// too little, and goes over the whole net. After `NoMemory`, here or in another call, it is to be fitted again.
     pub fn fit(&mut self, graph: &Graph) -> Result<(), NoMemory>
         ensures serves { OnOk result (IsServing (net_of graph.now) self.new) }
     {

@@ -20,5 +20,6 @@ mod step_rows;
 mod tests_rows;
 mod texts;
 mod version_rows;
+mod work_rows;
 mod workers;
 mod written_rows;

@@ -9,8 +9,7 @@ use Rattle.rm_base.specs.declared.settings.Settings.{Settings}
 use Rattle.word_reading.specs.declared.options.Options.{Options}
 use Rattle.word_reading.specs.Inner.Judged.{accepted, judged, judged_parts, rules}
 use Rattle.word_reading.specs.Inner.Commands.{command_in, has_only, made_by, names_in, number_at, options_in, settings_in, up_to_none}
-use Rattle.word_reading.specs.Words.{Asked, CommandRule, OptionRule, Part, name, setting, all_together, asked, asked_by, at_most_once, budget_rule, check_by, command_rules, convert_by, cut_by, demo_by, depth_rule, equal_by, flat_by, given, has_keys, is_word, judge_by, merge_rule, names, opt_by, optcare_by, option_rules, perturb_rule, options_of, is_window_file, number, parts, question_keys, replay_by, rule_of, run_keys, setting_keys, settings_of, sew_by, shift_rule, tests_by, together, tries_rule, value_in, window_keys, workers_rule}
-use Rattle.word_reading.specs.declared.options.TheConstants.{LEAST_WIDTH, MOST_WIDTH}
+use Rattle.word_reading.specs.Words.{Asked, CommandRule, OptionRule, Part, name, setting, all_together, asked, asked_by, at_most_once, budget_rule, check_by, command_rules, convert_by, cut_by, demo_by, depth_rule, equal_by, flat_by, given, has_keys, is_word, judge_by, merge_rule, names, opt_by, optcare_by, option_rules, perturb_rule, options_of, parts, question_keys, replay_by, rule_of, run_keys, setting_keys, settings_of, sew_by, shift_rule, tests_by, together, tries_rule, value_in, window_keys, work_rule, workers_rule}
 use Rattle.word_reading.proofs.Numbers.{number_in_some, number_some}
 use Rattle.word_reading.proofs.Slots.{fits, row_with, row_for}
 use Rattle.word_reading.proofs.Judging.{IsOption, IsValue, absent, once, Holds, IsFaulty, unknown_key, crowded, bad_option, bad_name, Verdict, refuses, takes, first_row, judged_is, same_text}
@@ -19,25 +18,27 @@ use Rattle.rm_base.proofs.Public.{some_is}
 
 -- ---- the settings
 
-no_setting : (d b t w : Option ℕ) → (d ≡ None) ⊎ ((b ≡ None) ⊎ ((t ≡ None) ⊎ (w ≡ None))) → together d b t w ≡ None
-no_setting None b t w e = refl
-no_setting (Some d) None t w e = refl
-no_setting (Some d) (Some b) None w e = refl
-no_setting (Some d) (Some b) (Some t) None e = refl
-no_setting (Some d) (Some b) (Some t) (Some w) (inl e) = cc
-no_setting (Some d) (Some b) (Some t) (Some w) (inr (inl e)) = cc
-no_setting (Some d) (Some b) (Some t) (Some w) (inr (inr (inl e))) = cc
-no_setting (Some d) (Some b) (Some t) (Some w) (inr (inr (inr e))) = cc
+no_setting : (d b t w m p l : Option ℕ) → (d ≡ None) ⊎ ((b ≡ None) ⊎ ((t ≡ None) ⊎ ((w ≡ None) ⊎ ((m ≡ None) ⊎ ((p ≡ None) ⊎ (l ≡ None)))))) → together d b t w m p l ≡ None
+no_setting None b t w m p l e = refl
+no_setting (Some d) None t w m p l e = refl
+no_setting (Some d) (Some b) None w m p l e = refl
+no_setting (Some d) (Some b) (Some t) None m p l e = refl
+no_setting (Some d) (Some b) (Some t) (Some w) None p l e = refl
+no_setting (Some d) (Some b) (Some t) (Some w) (Some m) None l e = refl
+no_setting (Some d) (Some b) (Some t) (Some w) (Some m) (Some p) None e = refl
+no_setting (Some d) (Some b) (Some t) (Some w) (Some m) (Some p) (Some l) (inl e) = cc
+no_setting (Some d) (Some b) (Some t) (Some w) (Some m) (Some p) (Some l) (inr (inl e)) = cc
+no_setting (Some d) (Some b) (Some t) (Some w) (Some m) (Some p) (Some l) (inr (inr (inl e))) = cc
+no_setting (Some d) (Some b) (Some t) (Some w) (Some m) (Some p) (Some l) (inr (inr (inr (inl e)))) = cc
+no_setting (Some d) (Some b) (Some t) (Some w) (Some m) (Some p) (Some l) (inr (inr (inr (inr (inl e))))) = cc
+no_setting (Some d) (Some b) (Some t) (Some w) (Some m) (Some p) (Some l) (inr (inr (inr (inr (inr (inl e)))))) = cc
+no_setting (Some d) (Some b) (Some t) (Some w) (Some m) (Some p) (Some l) (inr (inr (inr (inr (inr (inr e)))))) = cc
 
-no_options : (s : Option Settings) (m p h : Option ℕ) → (s ≡ None) ⊎ ((m ≡ None) ⊎ ((p ≡ None) ⊎ (h ≡ None))) → all_together s m p h ≡ None
-no_options None m p h e = refl
-no_options (Some s) None p h e = refl
-no_options (Some s) (Some m) None h e = refl
-no_options (Some s) (Some m) (Some p) None e = refl
-no_options (Some s) (Some m) (Some p) (Some h) (inl e) = cc
-no_options (Some s) (Some m) (Some p) (Some h) (inr (inl e)) = cc
-no_options (Some s) (Some m) (Some p) (Some h) (inr (inr (inl e))) = cc
-no_options (Some s) (Some m) (Some p) (Some h) (inr (inr (inr e))) = cc
+no_options : (s : Option Settings) (h : Option ℕ) → (s ≡ None) ⊎ (h ≡ None) → all_together s h ≡ None
+no_options None h e = refl
+no_options (Some s) None e = refl
+no_options (Some s) (Some h) (inl e) = cc
+no_options (Some s) (Some h) (inr e) = cc
 
 options_none : (ps : List Part) (j : OptionRule) → IsOption j → value_in ps j ≡ None → options_of ps ≡ None
 options_none ps =
@@ -47,10 +48,11 @@ options_none ps =
     let w = value_in ps workers_rule in
     let m = value_in ps merge_rule in
     let p = value_in ps perturb_rule in
+    let l = value_in ps work_rule in
     let h = value_in ps shift_rule in
-    let failed : settings_of ps ≡ None → options_of ps ≡ None = λ e. no_options (settings_of ps) m p h (inl e) in
+    let failed : settings_of ps ≡ None → options_of ps ≡ None = λ e. no_options (settings_of ps) h (inl e) in
     each_option (λ (j : OptionRule). value_in ps j ≡ None → options_of ps ≡ None)
-    ((λ e. failed (no_setting d b t w (inl e))), ((λ e. failed (no_setting d b t w (inr (inl e)))), ((λ e. failed (no_setting d b t w (inr (inr (inl e))))), ((λ e. failed (no_setting d b t w (inr (inr (inr e))))), ((λ e. no_options (settings_of ps) m p h (inr (inl e))), ((λ e. no_options (settings_of ps) m p h (inr (inr (inl e)))), ((λ e. no_options (settings_of ps) m p h (inr (inr (inr e)))), tt)))))))
+    ((λ e. failed (no_setting d b t w m p l (inl e))), ((λ e. failed (no_setting d b t w m p l (inr (inl e)))), ((λ e. failed (no_setting d b t w m p l (inr (inr (inl e))))), ((λ e. failed (no_setting d b t w m p l (inr (inr (inr (inl e)))))), ((λ e. failed (no_setting d b t w m p l (inr (inr (inr (inr (inl e))))))), ((λ e. failed (no_setting d b t w m p l (inr (inr (inr (inr (inr (inl e)))))))), ((λ e. failed (no_setting d b t w m p l (inr (inr (inr (inr (inr (inr e)))))))), ((λ e. no_options (settings_of ps) h (inr e)), tt))))))))
 
 read_in_order : (a b c d : Option Text) (xs : List Text) → a ≡ slice_get xs 0 → b ≡ slice_get xs 1 → c ≡ slice_get xs 2 → d ≡ slice_get xs 3 → length xs ≤ 4 → up_to_none (a ∷ b ∷ c ∷ d ∷ []) ≡ xs
 read_in_order a b c d [] e f g k few = rw e refl
@@ -72,10 +74,10 @@ module _ (ps : List Part) (rows : List Row) (h : Holds form rows ps) where
   value j on bits lt = one_value j on bits lt (given j.key ps) (h.values j on) (h.options j on)
 
   settings_are : settings_of ps ≡ Some (settings_in rows)
-  settings_are = rw (value depth_rule (0, refl) 8 (lit< tt), value budget_rule (1, refl) 32 (lit< tt), value tries_rule (2, refl) 32 (lit< tt), value workers_rule (3, refl) 8 (lit< tt)) refl
+  settings_are = rw (value depth_rule (0, refl) 8 (lit< tt), value budget_rule (1, refl) 32 (lit< tt), value tries_rule (2, refl) 32 (lit< tt), value workers_rule (3, refl) 8 (lit< tt), value merge_rule (4, refl) 8 (lit< tt), value perturb_rule (5, refl) 8 (lit< tt), value work_rule (6, refl) 32 (lit< tt)) refl
 
   options_are : options_of ps ≡ Some (options_in rows)
-  options_are = rw (settings_are, value merge_rule (4, refl) 8 (lit< tt), value perturb_rule (5, refl) 8 (lit< tt), value shift_rule (6, refl) 32 (lit< tt)) refl
+  options_are = rw (settings_are, value shift_rule (7, refl) 32 (lit< tt)) refl
 
   -- ---- the names
 
@@ -303,33 +305,35 @@ among_first false true z e = refl
 among_first false false z e = cc
 
 questions_listed : (k : Text) → IsIn question_keys k → IsIn setting_keys k
-questions_listed k e = among_first (is_word k depth_rule.key) (is_word k budget_rule.key) (list_any (is_word k) (tries_rule.key ∷ workers_rule.key ∷ merge_rule.key ∷ perturb_rule.key ∷ shift_rule.key ∷ [])) e
+questions_listed k e = among_first (is_word k depth_rule.key) (is_word k budget_rule.key) (list_any (is_word k) (tries_rule.key ∷ workers_rule.key ∷ merge_rule.key ∷ perturb_rule.key ∷ work_rule.key ∷ shift_rule.key ∷ [])) e
 
--- of six keys in front of another one
-among_six : (p q r s t u z : Bool) → (p || (q || (r || (s || (t || (u || false)))))) ≡ true → (p || (q || (r || (s || (t || (u || (z || false))))))) ≡ true
-among_six true q r s t u z e = refl
-among_six false true r s t u z e = refl
-among_six false false true s t u z e = refl
-among_six false false false true t u z e = refl
-among_six false false false false true u z e = refl
-among_six false false false false false true z e = refl
-among_six false false false false false false z e = cc
+-- of seven keys in front of another one
+among_seven : (p q r s t u v z : Bool) → (p || (q || (r || (s || (t || (u || (v || false))))))) ≡ true → (p || (q || (r || (s || (t || (u || (v || (z || false)))))))) ≡ true
+among_seven true q r s t u v z e = refl
+among_seven false true r s t u v z e = refl
+among_seven false false true s t u v z e = refl
+among_seven false false false true t u v z e = refl
+among_seven false false false false true u v z e = refl
+among_seven false false false false false true v z e = refl
+among_seven false false false false false false true z e = refl
+among_seven false false false false false false false z e = cc
 
 runs_listed : (k : Text) → IsIn run_keys k → IsIn setting_keys k
-runs_listed k e = among_six (is_word k depth_rule.key) (is_word k budget_rule.key) (is_word k tries_rule.key) (is_word k workers_rule.key) (is_word k merge_rule.key) (is_word k perturb_rule.key) (is_word k shift_rule.key) e
+runs_listed k e = among_seven (is_word k depth_rule.key) (is_word k budget_rule.key) (is_word k tries_rule.key) (is_word k workers_rule.key) (is_word k merge_rule.key) (is_word k perturb_rule.key) (is_word k work_rule.key) (is_word k shift_rule.key) e
 
--- the last of seven keys
-among_last : (p q r s t u z : Bool) → (z || false) ≡ true → (p || (q || (r || (s || (t || (u || (z || false))))))) ≡ true
-among_last true q r s t u z e = refl
-among_last false true r s t u z e = refl
-among_last false false true s t u z e = refl
-among_last false false false true t u z e = refl
-among_last false false false false true u z e = refl
-among_last false false false false false true z e = refl
-among_last false false false false false false z e = e
+-- the last of eight keys
+among_last : (p q r s t u v z : Bool) → (z || false) ≡ true → (p || (q || (r || (s || (t || (u || (v || (z || false)))))))) ≡ true
+among_last true q r s t u v z e = refl
+among_last false true r s t u v z e = refl
+among_last false false true s t u v z e = refl
+among_last false false false true t u v z e = refl
+among_last false false false false true u v z e = refl
+among_last false false false false false true v z e = refl
+among_last false false false false false false true z e = refl
+among_last false false false false false false false z e = e
 
 windows_listed : (k : Text) → IsIn window_keys k → IsIn setting_keys k
-windows_listed k e = among_last (is_word k depth_rule.key) (is_word k budget_rule.key) (is_word k tries_rule.key) (is_word k workers_rule.key) (is_word k merge_rule.key) (is_word k perturb_rule.key) (is_word k shift_rule.key) e
+windows_listed k e = among_last (is_word k depth_rule.key) (is_word k budget_rule.key) (is_word k tries_rule.key) (is_word k workers_rule.key) (is_word k merge_rule.key) (is_word k perturb_rule.key) (is_word k work_rule.key) (is_word k shift_rule.key) e
 
 are_modest : AllByRecursion IsModest command_rules
 are_modest = (

@@ -29,7 +29,7 @@ abbrev pub form : Form
 form = record {
   rules = rules;
   option = λ j. rule_with j.key rules;
-  named = rule_at 7 rules ∷ rule_at 8 rules ∷ rule_at 9 rules ∷ rule_at 10 rules ∷ [];
+  named = rule_at 8 rules ∷ rule_at 9 rules ∷ rule_at 10 rules ∷ rule_at 11 rules ∷ [];
 }
 
 -- ---- members of lists
@@ -93,8 +93,8 @@ keys k = go (found k option_rules)
     go : Found k option_rules → KeyCase form k
     go (at i j here is) = known j (i, here) is
     go (nowhere all) =
-        unknown (rw (all.0, all.1.0, all.1.1.0, all.1.1.1.0, all.1.1.1.1.0, all.1.1.1.1.1.0, all.1.1.1.1.1.1.0) refl)
-        (rw (apart_both _ k all.0, apart_both _ k all.1.0, apart_both _ k all.1.1.0, apart_both _ k all.1.1.1.0, apart_both _ k all.1.1.1.1.0, apart_both _ k all.1.1.1.1.1.0, apart_both _ k all.1.1.1.1.1.1.0) refl)
+        unknown (rw (all.0, all.1.0, all.1.1.0, all.1.1.1.0, all.1.1.1.1.0, all.1.1.1.1.1.0, all.1.1.1.1.1.1.0, all.1.1.1.1.1.1.1.0) refl)
+        (rw (apart_both _ k all.0, apart_both _ k all.1.0, apart_both _ k all.1.1.0, apart_both _ k all.1.1.1.0, apart_both _ k all.1.1.1.1.0, apart_both _ k all.1.1.1.1.1.0, apart_both _ k all.1.1.1.1.1.1.0, apart_both _ k all.1.1.1.1.1.1.1.0) refl)
 
 pub each_option : (P : OptionRule → Type 0) → AllByRecursion P option_rules → (j : OptionRule) → IsOption j → P j
 each_option P all j on = each_at P option_rules all on.0 j on.1
@@ -107,7 +107,7 @@ options_apart j k on there = go (there.0 == on.0) refl
         let same : there.0 ≡ on.0 = (Decides-eqb there.0 on.0).0 e in
         let here : slice_get option_rules on.0 ≡ Some k = subst (λ i. slice_get option_rules i ≡ Some k) same there.1 in
         inl (some_is j k (sym on.1 ∙ here))
-    go false e = inr (once (λ (o : OptionRule). o.key) option_rules ((refl, (refl, (refl, (refl, (refl, (refl, tt)))))), ((refl, (refl, (refl, (refl, (refl, tt))))), ((refl, (refl, (refl, (refl, tt)))), ((refl, (refl, (refl, tt))), ((refl, (refl, tt)), ((refl, tt), (tt, tt))))))) on.0 there.0 j k on.1 there.1
+    go false e = inr (once (λ (o : OptionRule). o.key) option_rules ((refl, (refl, (refl, (refl, (refl, (refl, (refl, tt))))))), ((refl, (refl, (refl, (refl, (refl, (refl, tt)))))), ((refl, (refl, (refl, (refl, (refl, tt))))), ((refl, (refl, (refl, (refl, tt)))), ((refl, (refl, (refl, tt))), ((refl, (refl, tt)), ((refl, tt), (tt, tt)))))))) on.0 there.0 j k on.1 there.1
         (λ same. let bad = (Decides-eqb there.0 on.0).1 same in cc))
 
 -- ---- the names
@@ -137,17 +137,17 @@ each_name P all i a e = each_at P form.named all i a e
 pub form_is : IsForm form
 form_is = record {
   key_case = keys;
-  option_found = each_option (λ j. arg_by_long rules j.key ≡ Some (rule_with j.key rules)) (refl, (refl, (refl, (refl, (refl, (refl, (refl, tt)))))));
-  option_listed = each_option (λ j. list_any (is_word j.key) setting_keys ≡ true) (refl, (refl, (refl, (refl, (refl, (refl, (refl, tt)))))));
-  option_small = each_option (λ j. j.most < 2 ^ 64) (lit< tt, (lit< tt, (lit< tt, (lit< tt, (lit< tt, (lit< tt, (lit< tt, tt)))))));
+  option_found = each_option (λ j. arg_by_long rules j.key ≡ Some (rule_with j.key rules)) (refl, (refl, (refl, (refl, (refl, (refl, (refl, (refl, tt))))))));
+  option_listed = each_option (λ j. list_any (is_word j.key) setting_keys ≡ true) (refl, (refl, (refl, (refl, (refl, (refl, (refl, (refl, tt))))))));
+  option_small = each_option (λ j. j.most < 2 ^ 64) (lit< tt, (lit< tt, (lit< tt, (lit< tt, (lit< tt, (lit< tt, (lit< tt, (lit< tt, tt))))))));
   option_apart = options_apart;
-  option_plain = each_option (λ j. IsPlain (rule_with j.key rules)) (record { action = refl; reading = refl; range = refl }, (record { action = refl; reading = refl; range = refl }, (record { action = refl; reading = refl; range = refl }, (record { action = refl; reading = refl; range = refl }, (record { action = refl; reading = refl; range = refl }, (record { action = refl; reading = refl; range = refl }, (record { action = refl; reading = refl; range = refl }, tt)))))));
-  option_id = each_option (λ j. (rule_with j.key rules).id ≡ j.key) (refl, (refl, (refl, (refl, (refl, (refl, (refl, tt)))))));
-  option_fits = each_option (λ j. (v : Text) → fits (rule_with j.key rules) v ≡ is_unsigned_in j.least j.most v) ((λ v. refl), ((λ v. refl), ((λ v. refl), ((λ v. refl), ((λ v. refl), ((λ v. refl), ((λ v. refl), tt)))))));
+  option_plain = each_option (λ j. IsPlain (rule_with j.key rules)) (record { action = refl; reading = refl; range = refl }, (record { action = refl; reading = refl; range = refl }, (record { action = refl; reading = refl; range = refl }, (record { action = refl; reading = refl; range = refl }, (record { action = refl; reading = refl; range = refl }, (record { action = refl; reading = refl; range = refl }, (record { action = refl; reading = refl; range = refl }, (record { action = refl; reading = refl; range = refl }, tt))))))));
+  option_id = each_option (λ j. (rule_with j.key rules).id ≡ j.key) (refl, (refl, (refl, (refl, (refl, (refl, (refl, (refl, tt))))))));
+  option_fits = each_option (λ j. (v : Text) → fits (rule_with j.key rules) v ≡ is_unsigned_in j.least j.most v) ((λ v. refl), ((λ v. refl), ((λ v. refl), ((λ v. refl), ((λ v. refl), ((λ v. refl), ((λ v. refl), ((λ v. refl), tt))))))));
   name_found = names_found;
   name_plain = each_name IsPlain (record { action = refl; reading = refl; range = refl }, (record { action = refl; reading = refl; range = refl }, (record { action = refl; reading = refl; range = refl }, (record { action = refl; reading = refl; range = refl }, tt))));
   name_few = λ i a e. let h = within form.named i a e in omega arith;
   name_apart = each_name (λ a. (j : OptionRule) → IsOption j → bytes_eq a.id j.key ≡ false)
-      (each_option _ (refl, (refl, (refl, (refl, (refl, (refl, (refl, tt))))))), (each_option _ (refl, (refl, (refl, (refl, (refl, (refl, (refl, tt))))))), (each_option _ (refl, (refl, (refl, (refl, (refl, (refl, (refl, tt))))))), (each_option _ (refl, (refl, (refl, (refl, (refl, (refl, (refl, tt))))))), tt))));
+      (each_option _ (refl, (refl, (refl, (refl, (refl, (refl, (refl, (refl, tt)))))))), (each_option _ (refl, (refl, (refl, (refl, (refl, (refl, (refl, (refl, tt)))))))), (each_option _ (refl, (refl, (refl, (refl, (refl, (refl, (refl, (refl, tt)))))))), (each_option _ (refl, (refl, (refl, (refl, (refl, (refl, (refl, (refl, tt)))))))), tt))));
   name_once = once (λ (a : Rule). a.id) form.named ((refl, (refl, (refl, tt))), ((refl, (refl, tt)), ((refl, tt), (tt, tt))));
 }

@@ -54,10 +54,10 @@ single : (c : List Rule) (a : Rule) → arg_by_id c a.id ≡ Some a → takes_se
 single c a f s m t v o w = record { found = f; several = s; multiple = m; trailing = t; takes = v; most = o; wants = w }
 
 are_single : AreSingle rules
-are_single = (single _ _ refl refl refl refl refl refl (λ rows. refl), (single _ _ refl refl refl refl refl refl (λ rows. refl), (single _ _ refl refl refl refl refl refl (λ rows. refl), (single _ _ refl refl refl refl refl refl (λ rows. refl), (single _ _ refl refl refl refl refl refl (λ rows. refl), (single _ _ refl refl refl refl refl refl (λ rows. refl), (single _ _ refl refl refl refl refl refl (λ rows. refl), (single _ _ refl refl refl refl refl refl (λ rows. refl), (single _ _ refl refl refl refl refl refl (λ rows. refl), (single _ _ refl refl refl refl refl refl (λ rows. refl), (single _ _ refl refl refl refl refl refl (λ rows. refl), tt)))))))))))
+are_single = (single _ _ refl refl refl refl refl refl (λ rows. refl), (single _ _ refl refl refl refl refl refl (λ rows. refl), (single _ _ refl refl refl refl refl refl (λ rows. refl), (single _ _ refl refl refl refl refl refl (λ rows. refl), (single _ _ refl refl refl refl refl refl (λ rows. refl), (single _ _ refl refl refl refl refl refl (λ rows. refl), (single _ _ refl refl refl refl refl refl (λ rows. refl), (single _ _ refl refl refl refl refl refl (λ rows. refl), (single _ _ refl refl refl refl refl refl (λ rows. refl), (single _ _ refl refl refl refl refl refl (λ rows. refl), (single _ _ refl refl refl refl refl refl (λ rows. refl), (single _ _ refl refl refl refl refl refl (λ rows. refl), tt))))))))))))
 
 are_keyed : AllByRecursion IsKeyed rules
-are_keyed = ((λ k e rows. either (has_row (codes "depth") rows) _ _), ((λ k e rows. either (has_row (codes "budget") rows) _ _), ((λ k e rows. either (has_row (codes "tries") rows) _ _), ((λ k e rows. either (has_row (codes "workers") rows) _ _), ((λ k e rows. either (has_row (codes "merge") rows) _ _), ((λ k e rows. either (has_row (codes "perturb") rows) _ _), ((λ k e rows. either (has_row (codes "shift") rows) _ _), ((λ k e. cc), ((λ k e. cc), ((λ k e. cc), ((λ k e. cc), tt)))))))))))
+are_keyed = ((λ k e rows. either (has_row (codes "depth") rows) _ _), ((λ k e rows. either (has_row (codes "budget") rows) _ _), ((λ k e rows. either (has_row (codes "tries") rows) _ _), ((λ k e rows. either (has_row (codes "workers") rows) _ _), ((λ k e rows. either (has_row (codes "merge") rows) _ _), ((λ k e rows. either (has_row (codes "perturb") rows) _ _), ((λ k e rows. either (has_row (codes "work") rows) _ _), ((λ k e rows. either (has_row (codes "shift") rows) _ _), ((λ k e. cc), ((λ k e. cc), ((λ k e. cc), ((λ k e. cc), tt))))))))))))
 
 pub singles : IsSingles rules
 singles = singles_of rules are_single are_keyed (λ x. refl)

@@ -78,7 +78,7 @@ free_rules : (rows : List Row) → check_fault (leaf (codes "rambo") rules) rows
 free_rules rows = refl
 
 no_rule_has_default : AllByRecursion HasNone rules
-no_rule_has_default = (refl, (refl, (refl, (refl, (refl, (refl, (refl, (refl, (refl, (refl, (refl, tt)))))))))))
+no_rule_has_default = (refl, (refl, (refl, (refl, (refl, (refl, (refl, (refl, (refl, (refl, (refl, (refl, tt))))))))))))
 
 abbrev pub parsed_rows : List Text → Option (List Row)
 parsed_rows ws = if clean (fault_of program ws) then Some (matches_of program ws) else None

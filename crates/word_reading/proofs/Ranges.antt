@@ -10,8 +10,8 @@ use Rattle.std.proofs.lemmas.Slice.Eq.{bytes_eq-Decides}
 use Rattle.clap.proofs.WalkLemmas.{both}
 use Rattle.rm_base.specs.declared.settings.Settings.{Settings}
 use Rattle.word_reading.specs.Commands.{HasNamesApart, HasSettingsInRange, IsInRange}
-use Rattle.word_reading.specs.Words.{Asked, CommandRule, Part, all_together, are_different, are_outside, asked, asked_by, at_most_once, budget_rule, check, check_by, command_rules, convert, convert_by, cut, cut_by, demo, demo_by, depth_rule, equal, equal_by, flat, flat_by, given, has_keys, is_of_window, is_window_file, is_word, judge, judge_by, merge_rule, names, number, opt, opt_by, optcare, optcare_by, options_of, perturb_rule, parts, replay, replay_by, rule_of, settings_of, sew, sew_by, shift_rule, tests, tests_by, together, tries_rule, value_in, workers_rule}
-use Rattle.word_reading.specs.declared.options.TheConstants.{LEAST_BUDGET, LEAST_WIDTH, LEAST_WORKERS, MOST_BUDGET, MOST_DEPTH, MOST_MERGE, MOST_PERTURB, MOST_SHIFT, MOST_TRIES, MOST_WIDTH, MOST_WORKERS, USUAL_BUDGET, USUAL_DEPTH, USUAL_MERGE, USUAL_PERTURB, USUAL_SHIFT, USUAL_TRIES, USUAL_WORKERS}
+use Rattle.word_reading.specs.Words.{Asked, CommandRule, Part, all_together, are_different, are_outside, asked, asked_by, at_most_once, budget_rule, check, check_by, command_rules, convert, convert_by, cut, cut_by, demo, demo_by, depth_rule, equal, equal_by, flat, flat_by, given, has_keys, is_of_window, is_window_file, is_word, judge, judge_by, merge_rule, names, number, opt, opt_by, optcare, optcare_by, options_of, perturb_rule, parts, replay, replay_by, rule_of, settings_of, sew, sew_by, shift_rule, tests, tests_by, together, tries_rule, value_in, work_rule, workers_rule}
+use Rattle.word_reading.specs.declared.options.TheConstants.{LEAST_BUDGET, LEAST_WIDTH, LEAST_WORKERS, MOST_BUDGET, MOST_DEPTH, MOST_MERGE, MOST_PERTURB, MOST_SHIFT, MOST_TRIES, MOST_WIDTH, MOST_WORK, MOST_WORKERS, USUAL_BUDGET, USUAL_DEPTH, USUAL_MERGE, USUAL_PERTURB, USUAL_SHIFT, USUAL_TRIES, USUAL_WORK, USUAL_WORKERS}
 use Rattle.word_reading.specs.declared.options.Options.{Options}
 use Rattle.word_reading.proofs.Numbers.{value_of}
 use Rattle.rm_base.proofs.Public.{some_is}
@@ -37,44 +37,46 @@ once_range low high default least most [] n e = let same = some_is default n e i
 once_range low high default least most (v ∷ []) n e = number_range low high v n e
 once_range low high default least most (v ∷ w ∷ ws) n e = cc
 
-parts_of : (d b t w : Option ℕ) (s : Settings) → together d b t w ≡ Some s
-    → (d ≡ Some s.depth) × (b ≡ Some s.budget) × (t ≡ Some s.tries) × (w ≡ Some s.workers)
-parts_of (Some d) (Some b) (Some t) (Some w) s e =
-    let same : record { depth = d; budget = b; tries = t; workers = w } ≡ s = some_is _ s e in
-    (ap (λ (x : Settings). Some x.depth) same, ap (λ (x : Settings). Some x.budget) same, ap (λ (x : Settings). Some x.tries) same, ap (λ (x : Settings). Some x.workers) same)
-parts_of None b t w s e = cc
-parts_of (Some d) None t w s e = cc
-parts_of (Some d) (Some b) None w s e = cc
-parts_of (Some d) (Some b) (Some t) None s e = cc
+parts_of : (d b t w m p l : Option ℕ) (s : Settings) → together d b t w m p l ≡ Some s
+    → (d ≡ Some s.depth) × (b ≡ Some s.budget) × (t ≡ Some s.tries) × (w ≡ Some s.workers) × (m ≡ Some s.merge) × (p ≡ Some s.perturb) × (l ≡ Some s.work)
+parts_of (Some d) (Some b) (Some t) (Some w) (Some m) (Some p) (Some l) s e =
+    let same : record { depth = d; budget = b; tries = t; workers = w; merge = m; perturb = p; work = l } ≡ s = some_is _ s e in
+    (ap (λ (x : Settings). Some x.depth) same, ap (λ (x : Settings). Some x.budget) same, ap (λ (x : Settings). Some x.tries) same, ap (λ (x : Settings). Some x.workers) same, ap (λ (x : Settings). Some x.merge) same, ap (λ (x : Settings). Some x.perturb) same, ap (λ (x : Settings). Some x.work) same)
+parts_of None b t w m p l s e = cc
+parts_of (Some d) None t w m p l s e = cc
+parts_of (Some d) (Some b) None w m p l s e = cc
+parts_of (Some d) (Some b) (Some t) None m p l s e = cc
+parts_of (Some d) (Some b) (Some t) (Some w) None p l s e = cc
+parts_of (Some d) (Some b) (Some t) (Some w) (Some m) None l s e = cc
+parts_of (Some d) (Some b) (Some t) (Some w) (Some m) (Some p) None s e = cc
 
 settings_range : (ps : List Part) (s : Settings) → settings_of ps ≡ Some s → IsInRange s
 settings_range ps s e =
-    let all = parts_of (value_in ps depth_rule) (value_in ps budget_rule) (value_in ps tries_rule) (value_in ps workers_rule) s e in
+    let all = parts_of (value_in ps depth_rule) (value_in ps budget_rule) (value_in ps tries_rule) (value_in ps workers_rule) (value_in ps merge_rule) (value_in ps perturb_rule) (value_in ps work_rule) s e in
     let d = once_range 0 MOST_DEPTH USUAL_DEPTH (omega arith) (omega arith) (given (codes "depth") ps) s.depth all.0 in
     let b = once_range LEAST_BUDGET MOST_BUDGET USUAL_BUDGET (omega arith) (omega arith) (given (codes "budget") ps) s.budget all.1 in
     let t = once_range 0 MOST_TRIES USUAL_TRIES (omega arith) (omega arith) (given (codes "tries") ps) s.tries all.2 in
     let w = once_range LEAST_WORKERS MOST_WORKERS USUAL_WORKERS (omega arith) (omega arith) (given (codes "workers") ps) s.workers all.3 in
-    record { depth = d.1; least_budget = b.0; most_budget = b.1; tries = t.1; least_workers = w.0; most_workers = w.1 }
+    let m = once_range 0 MOST_MERGE USUAL_MERGE (omega arith) (omega arith) (given (codes "merge") ps) s.merge all.4 in
+    let p = once_range 0 MOST_PERTURB USUAL_PERTURB (omega arith) (omega arith) (given (codes "perturb") ps) s.perturb all.5 in
+    let l = once_range 0 MOST_WORK USUAL_WORK (omega arith) (omega arith) (given (codes "work") ps) s.work all.6 in
+    record { depth = d.1; least_budget = b.0; most_budget = b.1; tries = t.1; least_workers = w.0; most_workers = w.1; merge = m.1; perturb = p.1; work = l.1 }
 
-options_parts : (s : Option Settings) (m p h : Option ℕ) (o : Options) → all_together s m p h ≡ Some o → (s ≡ Some o.settings) × (m ≡ Some o.merge) × (p ≡ Some o.perturb) × (h ≡ Some o.shift)
-options_parts (Some s) (Some m) (Some p) (Some h) o e =
-    let same : record { settings = s; merge = m; perturb = p; shift = h } ≡ o = some_is _ o e in
-    (ap (λ (x : Options). Some x.settings) same, ap (λ (x : Options). Some x.merge) same, ap (λ (x : Options). Some x.perturb) same, ap (λ (x : Options). Some x.shift) same)
-options_parts None m p h o e = cc
-options_parts (Some s) None p h o e = cc
-options_parts (Some s) (Some m) None h o e = cc
-options_parts (Some s) (Some m) (Some p) None o e = cc
+options_parts : (s : Option Settings) (h : Option ℕ) (o : Options) → all_together s h ≡ Some o → (s ≡ Some o.settings) × (h ≡ Some o.shift)
+options_parts (Some s) (Some h) o e =
+    let same : record { settings = s; shift = h } ≡ o = some_is _ o e in
+    (ap (λ (x : Options). Some x.settings) same, ap (λ (x : Options). Some x.shift) same)
+options_parts None h o e = cc
+options_parts (Some s) None o e = cc
 
 abbrev AreInRange : Options → Type 0
-AreInRange o = IsInRange o.settings × (o.merge ≤ MOST_MERGE) × (o.perturb ≤ MOST_PERTURB) × (o.shift ≤ MOST_SHIFT)
+AreInRange o = IsInRange o.settings × (o.shift ≤ MOST_SHIFT)
 
 options_range : (ps : List Part) (o : Options) → options_of ps ≡ Some o → AreInRange o
 options_range ps o e =
-    let all = options_parts (settings_of ps) (value_in ps merge_rule) (value_in ps perturb_rule) (value_in ps shift_rule) o e in
-    let m = once_range 0 MOST_MERGE USUAL_MERGE (omega arith) (omega arith) (given (codes "merge") ps) o.merge all.1 in
-    let p = once_range 0 MOST_PERTURB USUAL_PERTURB (omega arith) (omega arith) (given (codes "perturb") ps) o.perturb all.2 in
-    let h = once_range 0 MOST_SHIFT USUAL_SHIFT (omega arith) (omega arith) (given (codes "shift") ps) o.shift all.3 in
-    (settings_range ps o.settings all.0, m.1, p.1, h.1)
+    let all = options_parts (settings_of ps) (value_in ps shift_rule) o e in
+    let h = once_range 0 MOST_SHIFT USUAL_SHIFT (omega arith) (omega arith) (given (codes "shift") ps) o.shift all.1 in
+    (settings_range ps o.settings all.0, h.1)
 
 -- ---- the commands
 
@@ -94,18 +96,18 @@ differ_first a b c e = (
   (λ same. let is = (bytes_eq-Decides a c).1 same in let bad : not true ≡ true = sym (ap not (or-true (is_word a b))) ∙ ap (λ t. not (is_word a b || (t || false))) (sym is) ∙ e in cc),
 )
 
-two_made : (a b : Word) (said : Options) → AreInRange said → (t : Bool) → are_different (a ∷ b ∷ []) ≡ t → (x : Asked) → cond t (Some (opt a b None said.settings said.merge said.perturb)) None ≡ Some x → IsSound x
+two_made : (a b : Word) (said : Options) → AreInRange said → (t : Bool) → are_different (a ∷ b ∷ []) ≡ t → (x : Asked) → cond t (Some (opt a b None said.settings)) None ≡ Some x → IsSound x
 two_made a b said range true apart x is =
     let one = both (not (is_word a b || false)) true apart in
-    subst IsSound (some_is (opt a b None said.settings said.merge said.perturb) x is) (different a b one.0, (range.0, range.1, range.2))
+    subst IsSound (some_is (opt a b None said.settings) x is) (different a b one.0, range.0)
 two_made a b said range false apart x is = cc
 
-three_made : (a b c : Word) (said : Options) → AreInRange said → (t : Bool) → are_different (a ∷ b ∷ c ∷ []) ≡ t → (x : Asked) → cond t (Some (opt a b (Some c) said.settings said.merge said.perturb)) None ≡ Some x → IsSound x
+three_made : (a b c : Word) (said : Options) → AreInRange said → (t : Bool) → are_different (a ∷ b ∷ c ∷ []) ≡ t → (x : Asked) → cond t (Some (opt a b (Some c) said.settings)) None ≡ Some x → IsSound x
 three_made a b c said range true apart x is =
     let one = both (not (is_word a b || (is_word a c || false))) (are_different (b ∷ c ∷ [])) apart in
     let two = both (not (is_word b c || false)) true one.1 in
     let first = differ_first a b c one.0 in
-    subst IsSound (some_is (opt a b (Some c) said.settings said.merge said.perturb) x is) ((first.0, first.1, different b c two.0), (range.0, range.1, range.2))
+    subst IsSound (some_is (opt a b (Some c) said.settings) x is) ((first.0, first.1, different b c two.0), range.0)
 three_made a b c said range false apart x is = cc
 
 opt_sound : (ws : List Word) (o : Options) → AreInRange o → (x : Asked) → opt_by ws o ≡ Some x → IsSound x
@@ -122,9 +124,9 @@ check_sound (a ∷ b ∷ []) o range x is = cc
 check_sound (a ∷ b ∷ c ∷ []) o range x is = subst IsSound (some_is (check a b c) x is) (tt, tt)
 check_sound (a ∷ b ∷ c ∷ d ∷ ws) o range x is = cc
 
-demo_made : (o : Option ℕ) (said : Options) → AreInRange said → (x : Asked) → option_map (λ seed. demo seed said.settings said.merge said.perturb) o ≡ Some x → IsSound x
+demo_made : (o : Option ℕ) (said : Options) → AreInRange said → (x : Asked) → option_map (λ seed. demo seed said.settings) o ≡ Some x → IsSound x
 demo_made None said range x is = cc
-demo_made (Some n) said range x is = subst IsSound (some_is (demo n said.settings said.merge said.perturb) x is) (tt, (range.0, range.1, range.2))
+demo_made (Some n) said range x is = subst IsSound (some_is (demo n said.settings) x is) (tt, range.0)
 
 demo_sound : (ws : List Word) (o : Options) → AreInRange o → (x : Asked) → demo_by ws o ≡ Some x → IsSound x
 demo_sound [] o range x is = cc
@@ -241,7 +243,7 @@ optcare_sound (a ∷ b ∷ c ∷ d ∷ e ∷ ws) o range x is = cc
 width_made : (a c : Word) (o : Options) → AreInRange o → is_window_file c a ≡ false → (r : Option ℕ) → ((n : ℕ) → r ≡ Some n → (LEAST_WIDTH ≤ n) × (n ≤ MOST_WIDTH)) → (x : Asked)
     → option_map (λ width. cut a width c o.shift) r ≡ Some x → IsSound x
 width_made a c o range apart None within x is = cc
-width_made a c o range apart (Some n) within x is = let w = within n refl in subst IsSound (some_is (cut a n c o.shift) x is) (apart, (w.0, w.1, range.3))
+width_made a c o range apart (Some n) within x is = let w = within n refl in subst IsSound (some_is (cut a n c o.shift) x is) (apart, (w.0, w.1, range.1))
 
 cut_made : (a b c : Word) (o : Options) → AreInRange o → (t : Bool) → is_window_file c a ≡ t → (x : Asked)
     → cond t None (option_map (λ width. cut a width c o.shift) (number LEAST_WIDTH MOST_WIDTH b)) ≡ Some x → IsSound x
@@ -269,7 +271,7 @@ sewn_width : (a c d : Word) (o : Options) → AreInRange o → are_outside c a d
     → option_map (λ width. sew a width c d o.shift) r ≡ Some x → IsSound x
 sewn_width a c d o range apart None within x is = cc
 sewn_width a c d o range apart (Some n) within x is = let w = within n refl in let out = outside a c d apart in
-    subst IsSound (some_is (sew a n c d o.shift) x is) ((out.0, out.1.0, out.1.1), (w.0, w.1, range.3))
+    subst IsSound (some_is (sew a n c d o.shift) x is) ((out.0, out.1.0, out.1.1), (w.0, w.1, range.1))
 
 sew_made : (a b c d : Word) (o : Options) → AreInRange o → (t : Bool) → are_outside c a d ≡ t → (x : Asked)
     → cond t (option_map (λ width. sew a width c d o.shift) (number LEAST_WIDTH MOST_WIDTH b)) None ≡ Some x → IsSound x

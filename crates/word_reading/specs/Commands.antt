@@ -1,6 +1,6 @@
 -- A command as a value, and what holds of each that is read.
 use Rattle.std.specs.Prelude.{◌≡◌, ◌≢◌, ◌≤◌, Some, None, false, option_map}
-use Rattle.word_reading.specs.declared.options.TheConstants.{LEAST_BUDGET, LEAST_WIDTH, LEAST_WORKERS, MOST_BUDGET, MOST_DEPTH, MOST_MERGE, MOST_PERTURB, MOST_SHIFT, MOST_TRIES, MOST_WIDTH, MOST_WORKERS}
+use Rattle.word_reading.specs.declared.options.TheConstants.{LEAST_BUDGET, LEAST_WIDTH, LEAST_WORKERS, MOST_BUDGET, MOST_DEPTH, MOST_MERGE, MOST_PERTURB, MOST_SHIFT, MOST_TRIES, MOST_WIDTH, MOST_WORK, MOST_WORKERS}
 use Rattle.rm_base.specs.declared.settings.Settings.{Settings}
 use Rattle.word_reading.specs.Words.{Asked, opt, check, demo, flat, tests, replay, convert, equal, judge, optcare, cut, sew, is_of_window, is_window_file}
 use Rattle.word_reading.specs.declared.command.Command.{Command}
@@ -8,9 +8,9 @@ use Rattle.word_reading.specs.declared.command.Command.TheVariants.{Opt, Check, 
 
 -- the command as a value: its names are their bytes
 abbrev pub asked_of : Command → Asked
-asked_of (Opt input output journal settings merge perturb) = opt input.now output.now (option_map (λ j. j.now) journal) settings merge perturb
+asked_of (Opt input output journal settings) = opt input.now output.now (option_map (λ j. j.now) journal) settings
 asked_of (Check input journal output) = check input.now journal.now output.now
-asked_of (Demo seed settings merge perturb) = demo seed settings merge perturb
+asked_of (Demo seed settings) = demo seed settings
 asked_of (Flat input output) = flat input.now output.now
 asked_of (Tests input journal output patterns) = tests input.now journal.now output.now patterns.now
 asked_of (Replay input journal output) = replay input.now journal.now output.now
@@ -24,10 +24,10 @@ asked_of (Sew input width prefix output shift) = sew input.now width prefix.now 
 -- no two names of `opt`, `flat`, `replay`, `convert`, `equal` or `optcare` are alike, the last one of `tests` is none of the others,
 -- the input of `cut` is no file of a window, and the input and the output of `sew` aren't alike, and neither is of a window
 abbrev pub HasNamesApart : Asked → Type 0
-HasNamesApart (opt input output None settings merge perturb) = input ≢ output
-HasNamesApart (opt input output (Some journal) settings merge perturb) = (input ≢ output) × (input ≢ journal) × (output ≢ journal)
+HasNamesApart (opt input output None settings) = input ≢ output
+HasNamesApart (opt input output (Some journal) settings) = (input ≢ output) × (input ≢ journal) × (output ≢ journal)
 HasNamesApart (check input journal output) = Unit {0}
-HasNamesApart (demo seed settings merge perturb) = Unit {0}
+HasNamesApart (demo seed settings) = Unit {0}
 HasNamesApart (flat input output) = input ≢ output
 HasNamesApart (tests input journal output patterns) = (patterns ≢ input) × (patterns ≢ journal) × (patterns ≢ output)
 HasNamesApart (replay input journal output) = (input ≢ journal) × (input ≢ output) × (journal ≢ output)
@@ -45,11 +45,14 @@ pub record IsInRange (settings : Settings) : Type 0 where
   pub tries : settings.tries ≤ MOST_TRIES
   pub least_workers : LEAST_WORKERS ≤ settings.workers
   pub most_workers : settings.workers ≤ MOST_WORKERS
+  pub merge : settings.merge ≤ MOST_MERGE
+  pub perturb : settings.perturb ≤ MOST_PERTURB
+  pub work : settings.work ≤ MOST_WORK
 
 abbrev pub HasSettingsInRange : Asked → Type 0
-HasSettingsInRange (opt input output journal settings merge perturb) = IsInRange settings × (merge ≤ MOST_MERGE) × (perturb ≤ MOST_PERTURB)
+HasSettingsInRange (opt input output journal settings) = IsInRange settings
 HasSettingsInRange (check input journal output) = Unit {0}
-HasSettingsInRange (demo seed settings merge perturb) = IsInRange settings × (merge ≤ MOST_MERGE) × (perturb ≤ MOST_PERTURB)
+HasSettingsInRange (demo seed settings) = IsInRange settings
 HasSettingsInRange (flat input output) = Unit {0}
 HasSettingsInRange (tests input journal output patterns) = Unit {0}
 HasSettingsInRange (replay input journal output) = Unit {0}

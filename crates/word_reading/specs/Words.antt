@@ -9,7 +9,7 @@ use Rattle.std.specs.Str.Parse.{digits_value, without_leading_plus}
 use Rattle.rm_base.specs.declared.settings.Settings.{Settings}
 use Rattle.rm_base.specs.Words.{Word}
 use Rattle.word_reading.specs.declared.options.Options.{Options}
-use Rattle.word_reading.specs.declared.options.TheConstants.{LEAST_BUDGET, LEAST_WIDTH, LEAST_WORKERS, MOST_BUDGET, MOST_DEPTH, MOST_MERGE, MOST_PERTURB, MOST_SHIFT, MOST_TRIES, MOST_WIDTH, MOST_WORKERS, USUAL_BUDGET, USUAL_DEPTH, USUAL_MERGE, USUAL_PERTURB, USUAL_SHIFT, USUAL_TRIES, USUAL_WORKERS}
+use Rattle.word_reading.specs.declared.options.TheConstants.{LEAST_BUDGET, LEAST_WIDTH, LEAST_WORKERS, MOST_BUDGET, MOST_DEPTH, MOST_MERGE, MOST_PERTURB, MOST_SHIFT, MOST_TRIES, MOST_WIDTH, MOST_WORK, MOST_WORKERS, USUAL_BUDGET, USUAL_DEPTH, USUAL_MERGE, USUAL_PERTURB, USUAL_SHIFT, USUAL_TRIES, USUAL_WORK, USUAL_WORKERS}
 
 abbrev pub is_word : Word → Word → Bool
 is_word = bytes_eq
@@ -126,18 +126,21 @@ merge_rule = record { key = codes "merge"; least = 0; most = MOST_MERGE; usual =
 abbrev pub perturb_rule : OptionRule
 perturb_rule = record { key = codes "perturb"; least = 0; most = MOST_PERTURB; usual = USUAL_PERTURB }
 
+abbrev pub work_rule : OptionRule
+work_rule = record { key = codes "work"; least = 0; most = MOST_WORK; usual = USUAL_WORK }
+
 abbrev pub shift_rule : OptionRule
 shift_rule = record { key = codes "shift"; least = 0; most = MOST_SHIFT; usual = USUAL_SHIFT }
 
 abbrev pub option_rules : List OptionRule
-option_rules = depth_rule ∷ budget_rule ∷ tries_rule ∷ workers_rule ∷ merge_rule ∷ perturb_rule ∷ shift_rule ∷ []
+option_rules = depth_rule ∷ budget_rule ∷ tries_rule ∷ workers_rule ∷ merge_rule ∷ perturb_rule ∷ work_rule ∷ shift_rule ∷ []
 
 abbrev pub setting_keys : List Word
 setting_keys = map (λ (o : OptionRule). o.key) option_rules
 
 -- the options of a run
 abbrev pub run_keys : List Word
-run_keys = depth_rule.key ∷ budget_rule.key ∷ tries_rule.key ∷ workers_rule.key ∷ merge_rule.key ∷ perturb_rule.key ∷ []
+run_keys = depth_rule.key ∷ budget_rule.key ∷ tries_rule.key ∷ workers_rule.key ∷ merge_rule.key ∷ perturb_rule.key ∷ work_rule.key ∷ []
 
 -- the option of windows
 abbrev pub window_keys : List Word
@@ -151,34 +154,32 @@ question_keys = depth_rule.key ∷ budget_rule.key ∷ []
 abbrev pub value_in : List Part → OptionRule → Option ℕ
 value_in ps o = at_most_once o.least o.most o.usual (given o.key ps)
 
--- the four settings, where each is there
-abbrev pub together : Option ℕ → Option ℕ → Option ℕ → Option ℕ → Option Settings
-together depths budgets all_tries all_workers =
-    option_and_then (λ depth. option_and_then (λ budget. option_and_then (λ tries. option_map (λ workers.
-    record { depth = depth; budget = budget; tries = tries; workers = workers })
-    all_workers) all_tries) budgets) depths
+-- the seven settings, where each is there
+abbrev pub together : Option ℕ → Option ℕ → Option ℕ → Option ℕ → Option ℕ → Option ℕ → Option ℕ → Option Settings
+together depths budgets all_tries all_workers merges perturbs works =
+    option_and_then (λ depth. option_and_then (λ budget. option_and_then (λ tries. option_and_then (λ workers. option_and_then (λ merge. option_and_then (λ perturb. option_map (λ work.
+    record { depth = depth; budget = budget; tries = tries; workers = workers; merge = merge; perturb = perturb; work = work })
+    works) perturbs) merges) all_workers) all_tries) budgets) depths
 
 abbrev pub settings_of : List Part → Option Settings
-settings_of ps = together (value_in ps depth_rule) (value_in ps budget_rule) (value_in ps tries_rule) (value_in ps workers_rule)
+settings_of ps = together (value_in ps depth_rule) (value_in ps budget_rule) (value_in ps tries_rule) (value_in ps workers_rule) (value_in ps merge_rule) (value_in ps perturb_rule) (value_in ps work_rule)
 
--- the settings and what the other options say, where each is there
-abbrev pub all_together : Option Settings → Option ℕ → Option ℕ → Option ℕ → Option Options
-all_together all_settings merges perturbs shifts =
-    option_and_then (λ settings. option_and_then (λ merge. option_and_then (λ perturb. option_map (λ shift.
-    record { settings = settings; merge = merge; perturb = perturb; shift = shift })
-    shifts) perturbs) merges) all_settings
+-- the settings and what the other option says, where each is there
+abbrev pub all_together : Option Settings → Option ℕ → Option Options
+all_together all_settings shifts =
+    option_and_then (λ settings. option_map (λ shift. record { settings = settings; shift = shift }) shifts) all_settings
 
 abbrev pub options_of : List Part → Option Options
-options_of ps = all_together (settings_of ps) (value_in ps merge_rule) (value_in ps perturb_rule) (value_in ps shift_rule)
+options_of ps = all_together (settings_of ps) (value_in ps shift_rule)
 
 -- ---- the commands
 
--- a command with its names, its settings, and the numbers that `--merge` and `--perturb` say: of `opt` the journal's name may be left out; of `cut`
--- and `sew` the width of windows, and the number that `--shift` says
+-- a command with its names and its settings: of `opt` the journal's name may be left out; of `cut` and `sew` the width of windows, and the number
+-- that `--shift` says
 pub data Asked : Type 0 where
-  opt : Word → Word → Option Word → Settings → ℕ → ℕ → Asked
+  opt : Word → Word → Option Word → Settings → Asked
   check : Word → Word → Word → Asked
-  demo : ℕ → Settings → ℕ → ℕ → Asked
+  demo : ℕ → Settings → Asked
   flat : Word → Word → Asked
   tests : Word → Word → Word → Word → Asked
   replay : Word → Word → Word → Asked
@@ -196,8 +197,8 @@ are_different (a ∷ bs) = not (list_any (is_word a) bs) && are_different bs
 
 -- two or three names, pairwise different
 abbrev pub opt_by : List Word → Options → Option Asked
-opt_by (a ∷ b ∷ []) o = if are_different (a ∷ b ∷ []) then Some (opt a b None o.settings o.merge o.perturb) else None
-opt_by (a ∷ b ∷ c ∷ []) o = if are_different (a ∷ b ∷ c ∷ []) then Some (opt a b (Some c) o.settings o.merge o.perturb) else None
+opt_by (a ∷ b ∷ []) o = if are_different (a ∷ b ∷ []) then Some (opt a b None o.settings) else None
+opt_by (a ∷ b ∷ c ∷ []) o = if are_different (a ∷ b ∷ c ∷ []) then Some (opt a b (Some c) o.settings) else None
 opt_by _ o = None
 
 -- three names
@@ -207,7 +208,7 @@ check_by _ o = None
 
 -- a number
 abbrev pub demo_by : List Word → Options → Option Asked
-demo_by (a ∷ []) o = option_map (λ seed. demo seed o.settings o.merge o.perturb) (number 0 (2 ^ 64 - 1) a)
+demo_by (a ∷ []) o = option_map (λ seed. demo seed o.settings) (number 0 (2 ^ 64 - 1) a)
 demo_by _ o = None
 
 -- two different names

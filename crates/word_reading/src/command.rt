@@ -12,8 +12,6 @@ pub enum Command<'a> {
         output: &'a str,
         journal: Option<&'a str>,
         settings: Settings,
-        merge: u8,
-        perturb: u8,
     },
     /// Replays the journal over the input, and compares with the output.
     Check {
@@ -86,8 +84,6 @@ pub enum Command<'a> {
     Demo {
         seed: u64,
         settings: Settings,
-        merge: u8,
-        perturb: u8,
     },
 }
 

@@ -6,7 +6,7 @@ ghost use Rattle.word_reading.specs.Inner.Commands.{has_only, number_at, options
 
 use crate::options::{
     Options, USUAL_BUDGET, USUAL_DEPTH, USUAL_MERGE, USUAL_PERTURB, USUAL_SHIFT, USUAL_TRIES,
-    USUAL_WORKERS,
+    USUAL_WORK, USUAL_WORKERS,
 };
 use clap::ArgMatches;
 use rm_base::Settings;
@@ -31,6 +31,9 @@ fn settings(given: &ArgMatches<'_>) -> Settings
         budget: word_option(given, "budget").unwrap_or(USUAL_BUDGET),
         tries: word_option(given, "tries").unwrap_or(USUAL_TRIES),
         workers: byte_option(given, "workers").unwrap_or(USUAL_WORKERS),
+        merge: byte_option(given, "merge").unwrap_or(USUAL_MERGE),
+        perturb: byte_option(given, "perturb").unwrap_or(USUAL_PERTURB),
+        work: word_option(given, "work").unwrap_or(USUAL_WORK),
     }
 }
 
@@ -40,8 +43,6 @@ pub(crate) fn read_options(given: &ArgMatches<'_>) -> Options
 {
     Options {
         settings: settings(given),
-        merge: byte_option(given, "merge").unwrap_or(USUAL_MERGE),
-        perturb: byte_option(given, "perturb").unwrap_or(USUAL_PERTURB),
         shift: word_option(given, "shift").unwrap_or(USUAL_SHIFT),
     }
 }
@@ -70,6 +71,7 @@ pub(crate) fn has_no_option(given: &ArgMatches<'_>) -> bool
         && !is_given(given, "workers")
         && !is_given(given, "merge")
         && !is_given(given, "perturb")
+        && !is_given(given, "work")
         && !is_given(given, "shift")
 }
 
@@ -81,6 +83,7 @@ pub(crate) fn has_question_options(given: &ArgMatches<'_>) -> bool
         && !is_given(given, "workers")
         && !is_given(given, "merge")
         && !is_given(given, "perturb")
+        && !is_given(given, "work")
         && !is_given(given, "shift")
 }
 
@@ -101,4 +104,5 @@ pub(crate) fn has_window_options(given: &ArgMatches<'_>) -> bool
         && !is_given(given, "workers")
         && !is_given(given, "merge")
         && !is_given(given, "perturb")
+        && !is_given(given, "work")
 }

@@ -30,6 +30,10 @@ pub const MOST_PERTURB: u8 = 64;
 
 pub const USUAL_PERTURB: u8 = 0;
 
+pub const MOST_WORK: u32 = 1_000_000;
+
+pub const USUAL_WORK: u32 = 0;
+
 pub const LEAST_WIDTH: u32 = 1;
 
 pub const MOST_WIDTH: u32 = 65_536;
@@ -38,13 +42,9 @@ pub const MOST_SHIFT: u32 = 65_536;
 
 pub const USUAL_SHIFT: u32 = 0;
 
-/// What the options say: the settings of a run; when gates that always have the same value, or opposite ones, are merged: 0
-/// is never, 1 when the additions have ended, 2 before the first addition as well; for how many turns targets are exchanged
-/// for wires that cost no more; and after how many wires the first window of a model ends, where it isn't 0.
+/// What the options say: the settings of a run, and after how many wires the first window of a model ends, where it isn't 0.
 #[derive(Clone, Copy)]
 pub struct Options {
     pub settings: Settings,
-    pub merge: u8,
-    pub perturb: u8,
     pub shift: u32,
 }

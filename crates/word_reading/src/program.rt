@@ -8,7 +8,7 @@ ghost use Rattle.word_reading.specs.Inner.Program.{bare as bare_app, clap_option
 
 use crate::options::{
     LEAST_BUDGET, LEAST_WORKERS, MOST_BUDGET, MOST_DEPTH, MOST_MERGE, MOST_PERTURB, MOST_SHIFT,
-    MOST_TRIES, MOST_WORKERS,
+    MOST_TRIES, MOST_WORK, MOST_WORKERS,
 };
 use clap::builder::ValueParser;
 use clap::{Arg, Command};
@@ -65,9 +65,11 @@ fn with_options<'a>(alloc: Global, command: Command<'a>) -> Result<Command<'a>, 
     let command = with_settings(alloc, command)?;
     let merge = option(alloc, "merge", 0, u64::from(MOST_MERGE));
     let perturb = option(alloc, "perturb", 0, u64::from(MOST_PERTURB));
+    let work = option(alloc, "work", 0, u64::from(MOST_WORK));
     let shift = option(alloc, "shift", 0, u64::from(MOST_SHIFT));
     let command = with(command, merge)?;
     let command = with(command, perturb)?;
+    let command = with(command, work)?;
     with(command, shift)
 }
 

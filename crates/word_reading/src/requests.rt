@@ -26,8 +26,6 @@ fn opt_without_journal<'a>(input: &'a str, output: &'a str, options: Options) ->
         output,
         journal: None,
         settings: options.settings,
-        merge: options.merge,
-        perturb: options.perturb,
     })
 }
 
@@ -47,8 +45,6 @@ fn opt_with_journal<'a>(
         output,
         journal: Some(journal),
         settings: options.settings,
-        merge: options.merge,
-        perturb: options.perturb,
     })
 }
 
@@ -363,8 +359,6 @@ fn demo<'a>(names: Positionals<'a>, options: Options) -> Option<Command<'a>>
         Some(seed) => Some(Command::Demo {
             seed,
             settings: options.settings,
-            merge: options.merge,
-            perturb: options.perturb,
         }),
         None => None,
     }

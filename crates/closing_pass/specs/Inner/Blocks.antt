@@ -1,4 +1,4 @@
--- Beside Blocks.antt: what only private contracts, invariants and laws speak of.
+-- How kept vectors are packed into blocks of 64, and that they are those of verdicts.
 use Rattle.std.specs.Prelude.{◌≡◌, ◌∷◌, [], ℕ, Bool, List, Some, drop, slice_get, take}
 use Rattle.podem.specs.declared.verdict.Verdict.{Verdict}
 use Rattle.podem.specs.declared.verdict.Verdict.TheVariants.{Detected}

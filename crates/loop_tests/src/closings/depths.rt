@@ -89,6 +89,9 @@ fn is_right<R: Threads + Sync>(rt: &R, alloc: Global, row: &Row) -> Result<bool,
         budget: 1,
         tries: 0,
         workers: 1,
+        merge: 0,
+        perturb: 0,
+        work: 0,
     };
     let verdicts = batch(rt, alloc, &graph, &[fault], &settings, &OpenGate)?;
     match verdicts.first() {

@@ -1,4 +1,4 @@
--- Beside Begun.antt: what only private contracts, invariants and laws speak of.
+-- The journal while its header is written.
 use Rattle.std.specs.Prelude.{◌≡◌, ◌⊎◌, ℕ, List, take, Option}
 use Rattle.std.specs.Option.{option_map}
 use Rattle.rm_base.specs.Files.{Files, put_file}

@@ -15,9 +15,9 @@ use Rattle.optimisation.specs.Inner.Turned.{AreTurns}
 use Rattle.optimisation.specs.declared.rounds.Rounds.{Rounds}
 
 -- all steps, the verdicts and the end
-pub record IsFilled (start : Net) (settings : Settings) (merge perturb : ℕ) (rounds : Rounds) (old new : Option Files) (journal : List ℕ) : Type 0 where
+pub record IsFilled (start : Net) (settings : Settings) (rounds : Rounds) (old new : Option Files) (journal : List ℕ) : Type 0 where
   pub records : List Record
-  pub run : AreTurns start settings merge perturb records rounds
+  pub run : AreTurns start settings settings.perturb records rounds
   pub valid : AreEntries (journal_entries settings.budget (records ++ verdict_records rounds.report.verdicts.items))
   pub closed : AreClosed (net_of rounds.last.graph) settings.budget rounds.report.verdicts.items
   pub written : HasAppended old new journal (records_text (records ++ verdict_records rounds.report.verdicts.items) ++ entry_text End)

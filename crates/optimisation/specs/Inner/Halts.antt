@@ -1,4 +1,4 @@
--- Beside Halts.antt: what only private contracts, invariants and laws speak of.
+-- A run that ends early once its model is within the limits.
 use Rattle.optimisation.specs.declared.halt.Halt.{Halt}
 use Rattle.optimisation.specs.declared.halt.Halt.TheVariants.{Limit, Failed, NoMemory}
 

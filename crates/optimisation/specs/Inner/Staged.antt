@@ -34,25 +34,25 @@ pub record HasMerged (net after : Net) (made : Made) (changed : Bool) (old new :
   pub none : changed ≡ false → records ≡ []
 
 -- accepted records lead from the first net to that of the last round; they are a run of stages, and their steps are counted
-pub record AreStages (start : Net) (settings : Settings) (merge : ℕ) (records : List Record) (rounds : Rounds) : Type 0 where
+pub record AreStages (start : Net) (settings : Settings) (records : List Record) (rounds : Rounds) : Type 0 where
   pub accepted : AcceptedTo start records (net_of rounds.last.graph)
-  pub run : IsStagedRun start (steps_of records) merge settings.depth settings.tries rounds.last.tries rounds.last.settled
+  pub run : IsStagedRun start (steps_of records) settings.merge settings.depth rounds.last.limit rounds.last.tries rounds.last.settled
   pub tidy : IsTidy (net_of rounds.last.graph)
   pub fewer : wire_count (net_of rounds.last.graph) ≤ wire_count start
   pub within : pins_taken rounds.last.graph + live_nodes rounds.last.graph ≤ 1048576
   pub counted : rounds.last.made ≡ made_by none_made (steps_of records)
 
 -- their text was appended to the journal, and each fault of the last net has its verdict
-pub record HasStages (start : Net) (settings : Settings) (merge : ℕ) (rounds : Rounds) (old new : Option Files) (journal : List ℕ) : Type 0 where
+pub record HasStages (start : Net) (settings : Settings) (rounds : Rounds) (old new : Option Files) (journal : List ℕ) : Type 0 where
   pub records : List Record
-  pub run : AreStages start settings merge records rounds
+  pub run : AreStages start settings records rounds
   pub written : HasAppended old new journal (records_text records)
   pub fit : AreFit records
   pub closed : AreClosed (net_of rounds.last.graph) settings.budget rounds.report.verdicts.items
 
--- the settings with the tries that are left
-abbrev pub left_of : Settings → ℕ → Settings
-left_of settings tries = record settings { tries = settings.tries - tries }
+-- the settings with the tries that are left, of so many that are allowed
+abbrev pub left_of : Settings → ℕ → ℕ → Settings
+left_of settings limit tries = record settings { tries = limit - tries }
 
 -- no gate was merged, and all is as it was
 pub record AreSame (before after : Rounds) (old new : Option Files) (journal : List ℕ) : Type 0 where
@@ -60,6 +60,7 @@ pub record AreSame (before after : Rounds) (old new : Option Files) (journal : L
   pub within : pins_taken after.last.graph + live_nodes after.last.graph ≤ 1048576
   pub made : after.last.made ≡ before.last.made
   pub tries : after.last.tries ≡ before.last.tries
+  pub limit : after.last.limit ≡ before.last.limit
   pub settled : after.last.settled ≡ before.last.settled
   pub report : after.report ≡ before.report
   pub written : HasAppended old new journal []
@@ -72,10 +73,12 @@ pub record HaveFollowed (settings : Settings) (before after : Rounds) (old new :
   pub one : Option Files
   pub merged : HasMerged (net_of before.last.graph) (net_of mid) made changed old one journal
   pub rounds : Rounds
-  pub ended : HasEnded (net_of mid) (left_of settings before.last.tries) rounds one new journal
+  pub ended : HasEnded (net_of mid) (left_of settings before.last.limit before.last.tries) rounds one new journal
+  pub within : rounds.last.limit ≤ before.last.limit - before.last.tries
   pub graph : after.last.graph ≡ rounds.last.graph
   pub made_are : after.last.made ≡ sum_of (sum_of before.last.made made) rounds.last.made
   pub tries : after.last.tries ≡ before.last.tries + rounds.last.tries
+  pub limit : after.last.limit ≡ before.last.tries + rounds.last.limit
   pub settled : after.last.settled ≡ rounds.last.settled
   pub report : after.report ≡ rounds.report
 

@@ -18,18 +18,18 @@ use Rattle.optimisation.specs.Turns.{IsTurnedRun}
 use Rattle.optimisation.specs.declared.rounds.Rounds.{Rounds}
 
 -- accepted records lead from the first net to that of the last round; they are a run of turns, and their steps are counted
-pub record AreTurns (start : Net) (settings : Settings) (merge perturb : ℕ) (records : List Record) (rounds : Rounds) : Type 0 where
+pub record AreTurns (start : Net) (settings : Settings) (perturb : ℕ) (records : List Record) (rounds : Rounds) : Type 0 where
   pub accepted : AcceptedTo start records (net_of rounds.last.graph)
-  pub run : IsTurnedRun start (steps_of records) merge perturb settings.depth settings.tries rounds.last.tries rounds.last.settled
+  pub run : IsTurnedRun start (steps_of records) settings.merge perturb settings.depth rounds.last.limit rounds.last.tries rounds.last.settled
   pub tidy : IsTidy (net_of rounds.last.graph)
   pub fewer : wire_count (net_of rounds.last.graph) ≤ wire_count start
   pub within : pins_taken rounds.last.graph + live_nodes rounds.last.graph ≤ 1048576
   pub counted : rounds.last.made ≡ made_by none_made (steps_of records)
 
 -- their text was appended to the journal, and each fault of the last net has its verdict
-pub record HasTurns (start : Net) (settings : Settings) (merge perturb : ℕ) (rounds : Rounds) (old new : Option Files) (journal : List ℕ) : Type 0 where
+pub record HasTurns (start : Net) (settings : Settings) (perturb : ℕ) (rounds : Rounds) (old new : Option Files) (journal : List ℕ) : Type 0 where
   pub records : List Record
-  pub run : AreTurns start settings merge perturb records rounds
+  pub run : AreTurns start settings perturb records rounds
   pub written : HasAppended old new journal (records_text records)
   pub fit : AreFit records
   pub closed : AreClosed (net_of rounds.last.graph) settings.budget rounds.report.verdicts.items
@@ -38,21 +38,24 @@ pub record HasTurns (start : Net) (settings : Settings) (merge perturb : ℕ) (r
 pub record HasTurnedInVain (settings : Settings) (before after : Rounds) (old new : Option Files) (journal : List ℕ) : Type 0 where
   pub spent : ℕ
   pub made : Made
-  pub perturbed : HasPerturbed (net_of before.last.graph) (net_of after.last.graph) settings.depth (settings.tries - before.last.tries) spent made old new journal
+  pub perturbed : HasPerturbed (net_of before.last.graph) (net_of after.last.graph) settings.depth (before.last.limit - before.last.tries) spent made old new journal
   pub none : made.adds + made.fixes + made.local ≡ 0
   pub within : pins_taken after.last.graph + live_nodes after.last.graph ≤ 1048576
   pub made_are : after.last.made ≡ before.last.made
   pub tries : after.last.tries ≡ before.last.tries + spent
+  pub limit : after.last.limit ≡ before.last.limit
   pub settled : after.last.settled ≡ before.last.settled
   pub report : after.report ≡ before.report
 
--- rounds behind a net, with the tries that are left, are counted on from these steps and tries
-pub record HaveFollowed (settings : Settings) (mid : Circuit) (made : Made) (tries : ℕ) (after : Rounds) (old new : Option Files) (journal : List ℕ) : Type 0 where
+-- rounds behind a net, with the tries that are left of those that are allowed, are counted on from these steps and tries
+pub record HaveFollowed (settings : Settings) (mid : Circuit) (made : Made) (tries limit : ℕ) (after : Rounds) (old new : Option Files) (journal : List ℕ) : Type 0 where
   pub rounds : Rounds
-  pub ended : HasEnded (net_of mid) (left_of settings tries) rounds old new journal
+  pub ended : HasEnded (net_of mid) (left_of settings limit tries) rounds old new journal
+  pub within : rounds.last.limit ≤ limit - tries
   pub graph : after.last.graph ≡ rounds.last.graph
   pub made_are : after.last.made ≡ sum_of made rounds.last.made
   pub tries_are : after.last.tries ≡ tries + rounds.last.tries
+  pub limit_is : after.last.limit ≡ tries + rounds.last.limit
   pub settled : after.last.settled ≡ rounds.last.settled
   pub report : after.report ≡ rounds.report
 
@@ -62,8 +65,8 @@ pub record HasTurnedOn (settings : Settings) (before after : Rounds) (old new : 
   pub spent : ℕ
   pub made : Made
   pub one : Option Files
-  pub perturbed : HasPerturbed (net_of before.last.graph) (net_of mid) settings.depth (settings.tries - before.last.tries) spent made old one journal
-  pub followed : HaveFollowed settings mid (sum_of before.last.made made) (before.last.tries + spent) after one new journal
+  pub perturbed : HasPerturbed (net_of before.last.graph) (net_of mid) settings.depth (before.last.limit - before.last.tries) spent made old one journal
+  pub followed : HaveFollowed settings mid (sum_of before.last.made made) (before.last.tries + spent) before.last.limit after one new journal
 
 -- the one where nothing was exchanged, and else the other
 abbrev pub HasTurned : Settings → Rounds → Rounds → Bool → Option Files → Option Files → List ℕ → Type 0

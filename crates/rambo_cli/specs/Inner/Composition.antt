@@ -1,4 +1,4 @@
--- Beside Composition.antt: what only private contracts, invariants and laws speak of.
+-- What an audit that an output passes says of it.
 use Rattle.std.specs.Prelude.{◌≡◌, ℕ, None}
 use Rattle.rm_base.specs.Files.{Files}
 use Rattle.rm_model.specs.Ranks.{first_without_rank}

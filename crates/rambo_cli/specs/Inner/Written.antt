@@ -30,10 +30,10 @@ pub record IsUsable (m : Model) : Type 0 where
   pub fits : decomposed m < 2 ^ 64
 
 -- a whole run over the model, whose journal stands in the named file
-pub record IsRecorded (m : Model) (settings : Settings) (merge perturb : ℕ) (net : Net) (f : Figures) (old new : Option Files) (journal : Option Word) : Type 0 where
+pub record IsRecorded (m : Model) (settings : Settings) (net : Net) (f : Figures) (old new : Option Files) (journal : Option Word) : Type 0 where
   pub steps : List Record
   pub verdicts : List Record
-  pub over : IsRunOver m settings merge perturb net steps verdicts f
+  pub over : IsRunOver m settings net steps verdicts f
   pub written : new ≡ option_map (with_journal journal (journal_text settings.budget (steps ++ verdicts))) old
 
 -- or what one leaves that ended early

@@ -12,7 +12,7 @@ use Rattle.candidate_wires.specs.Tries.{AreTriesFrom, EachImproves}
 use Rattle.journal_ranges.specs.Ranges.{AreFit}
 use Rattle.journal_text.specs.declared.record.Record.{Record}
 use Rattle.journal_text.specs.Runs.{AcceptedTo, AreRemovals, HasAppended, IsStopped, made_by, none_made, records_text, steps_of}
-use Rattle.rar_loop.specs.Ended.{IsOptimised, turn_at}
+use Rattle.rar_loop.specs.Ended.{IsOptimised, allowed_to, turn_at}
 use Rattle.rar_loop.specs.Sizes.{IsWithin, most_steps}
 use Rattle.rar_loop.specs.Swept.{IsSwept}
 use Rattle.rar_loop.specs.Trying.{IsClean}
@@ -63,7 +63,7 @@ IsHere turn depth limit mid made now name =
 -- from wherever a run that has come here began, it has come through
 abbrev pub ComesThrough : Option Fault → Option Fault → ℕ → ℕ → Circuit → Made → Option Files → Circuit → Outcome → Made → Option Files → List ℕ → Type 0
 ComesThrough start turn depth limit mid made now last outcome counted then name =
-    (before : Circuit) (old : Option Files) → IsUnderWay before start start depth limit limit mid made old now name → IsThrough before start turn depth limit last outcome counted old then name
+    (before : Circuit) (old : Option Files) → IsUnderWay before start start depth limit limit mid made old now name → IsThrough before start turn depth (allowed_to limit outcome) last outcome counted old then name
 
 -- or it has stopped
 abbrev pub StopsFrom : Option Fault → ℕ → ℕ → Circuit → Made → Option Files → Option Files → List ℕ → Type 0
@@ -73,4 +73,4 @@ StopsFrom start depth limit mid made now then name =
 -- a run whose sweep is done has come through
 abbrev pub SweepComesThrough : Option Fault → Option Fault → ℕ → ℕ → Circuit → List Record → Option Files → Circuit → Outcome → Made → Option Files → List ℕ → Type 0
 SweepComesThrough start turn depth limit swept records now last outcome counted then name =
-    (before : Circuit) → HasBegun before depth swept records → IsThrough before start turn depth limit last outcome counted now then name
+    (before : Circuit) → HasBegun before depth swept records → IsThrough before start turn depth (allowed_to limit outcome) last outcome counted now then name

@@ -1,4 +1,4 @@
--- Beside Swept.antt: what only private contracts, invariants and laws speak of.
+-- How far a sweep has come: pin by pin, gate by gate, pass by pass.
 use Rattle.std.specs.Prelude.{◌≡◌, ◌<◌, ◌⊎◌, ℕ, Bool, true, false, List, Option, Some, None, length}
 use Rattle.rm_base.specs.declared.numbers.Fault.{Fault}
 use Rattle.gate_net.specs.Net.{Net, drivers_of, wire_count}

@@ -1,4 +1,4 @@
--- Beside Trying.antt: what only private contracts, invariants and laws speak of.
+-- A try step by step: its wire, its records, and whether it gains or leaves all as it was.
 use Rattle.std.specs.Prelude.{◌≡◌, ◌<◌, ◌≤◌, ◌+◌, ◌++◌, ◌∷◌, [], ◌⊎◌, ℕ, Bool, true, false, not, List, Some, if◌then◌else◌, length, max}
 use Rattle.gate_net.specs.Net.{Net, wire_count, gate_count}
 use Rattle.gate_net.specs.Values.{HasPin}

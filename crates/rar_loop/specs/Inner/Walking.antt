@@ -1,5 +1,6 @@
 -- Going through the pairs of a net.
 use Rattle.std.specs.Prelude.{◌≡◌, ◌+◌, ℕ, suc, List, Option, Some, length, map, take, slice_get}
+use Rattle.rm_base.specs.declared.settings.Settings.{Settings}
 use Rattle.rm_base.specs.declared.numbers.Fault.{Fault}
 use Rattle.gate_net.specs.Net.{Net}
 use Rattle.gate_graph.specs.Circuit.{Circuit, net_of}
@@ -10,6 +11,7 @@ use Rattle.candidate_wires.specs.Pairs.{ArePairsBefore, ArePairsInTurn, paired}
 use Rattle.candidate_wires.specs.Tries.{NoneGains}
 use Rattle.rar_loop.specs.declared.walking.Tour.{Tour}
 use Rattle.rar_loop.specs.declared.walking.Tour.TheVariants as tour
+use Rattle.rar_loop.specs.Ended.{IsUsedUp}
 use Rattle.rar_loop.specs.Sizes.{IsSame}
 use Rattle.rar_loop.specs.Inner.Trying.{IsBetter, IsBack, IsAhead}
 use Rattle.wire_edit.specs.Tried.{Tried}
@@ -19,22 +21,22 @@ pub record AreTried (net : Net) (target : Fault) (here : List Candidate) (count 
   pub candidates : AreCandidatesOf net target here
   pub none : NoneGains net (map (paired target) (take count here))
 
--- all candidates of the target were tried in vain; or the tries are used up at one of them; or one gained
+-- all candidates of the target were tried in vain; or those before one at which the call ends; or those before one that gained
 abbrev pub IsTargetTour : Tried → Fault → ℕ → ℕ → ℕ → Tried → Tour → Type 0
 IsTargetTour before target depth left after now tour.Done =
     IsBack before now × ((here : List Candidate) × (AreTried (net_of before.graph) target here (length here) × (after + length here ≡ left)))
-IsTargetTour before target depth left after now (tour.Spent at) =
-    IsBack before now × ((here : List Candidate) × ((place : ℕ) × (AreTried (net_of before.graph) target here place × ((at.fault ≡ target) × ((slice_get here place ≡ Some at.candidate) × ((after ≡ 0) × (place ≡ left)))))))
+IsTargetTour before target depth left after now (tour.Spent at work) =
+    IsBack before now × ((here : List Candidate) × ((place : ℕ) × (AreTried (net_of before.graph) target here place × ((at.fault ≡ target) × ((slice_get here place ≡ Some at.candidate) × (after + place ≡ left))))))
 IsTargetTour before target depth left after now (tour.Gained pair records) =
     (here : List Candidate) × ((place : ℕ) × (AreTried (net_of before.graph) target here place × ((pair.fault ≡ target) × ((slice_get here place ≡ Some pair.candidate) × ((after + suc place ≡ left) × IsAhead before pair depth records.items now)))))
 
--- all pairs of a turn were tried in vain; or those before one at which the tries are used up, or before one that gained, on the graph
--- of the trial
+-- all pairs of a turn were tried in vain; or those before one at which the call ends, or before one that gained, on the graph of the
+-- trial
 abbrev pub IsTour : Tried → Option Fault → ℕ → ℕ → ℕ → Tried → Tour → Type 0
 IsTour before start depth left after now tour.Done =
     IsBack before now × ((pairs : List Pair) × (ArePairsInTurn (net_of before.graph) start pairs × (NoneGains (net_of before.graph) pairs × (after + length pairs ≡ left))))
-IsTour before start depth left after now (tour.Spent at) =
-    IsBack before now × ((pairs : List Pair) × (ArePairsBefore (net_of before.graph) start at pairs × (NoneGains (net_of before.graph) pairs × ((after ≡ 0) × (length pairs ≡ left)))))
+IsTour before start depth left after now (tour.Spent at work) =
+    IsBack before now × ((pairs : List Pair) × (ArePairsBefore (net_of before.graph) start at pairs × (NoneGains (net_of before.graph) pairs × (after + length pairs ≡ left))))
 IsTour before start depth left after now (tour.Gained pair records) =
     (pairs : List Pair) × (ArePairsBefore (net_of before.graph) start pair pairs × (NoneGains (net_of before.graph) pairs × ((after + suc (length pairs) ≡ left) × IsAhead before pair depth records.items now)))
 
@@ -42,7 +44,13 @@ IsTour before start depth left after now (tour.Gained pair records) =
 abbrev pub IsWalk : Circuit → Option Fault → ℕ → ℕ → ℕ → Circuit → Tour → Type 0
 IsWalk before start depth left after graph tour.Done =
     IsSame before graph × ((pairs : List Pair) × (ArePairsInTurn (net_of before) start pairs × (NoneGains (net_of before) pairs × (after + length pairs ≡ left))))
-IsWalk before start depth left after graph (tour.Spent at) =
-    IsSame before graph × ((pairs : List Pair) × (ArePairsBefore (net_of before) start at pairs × (NoneGains (net_of before) pairs × ((after ≡ 0) × (length pairs ≡ left)))))
+IsWalk before start depth left after graph (tour.Spent at work) =
+    IsSame before graph × ((pairs : List Pair) × (ArePairsBefore (net_of before) start at pairs × (NoneGains (net_of before) pairs × (after + length pairs ≡ left))))
 IsWalk before start depth left after graph (tour.Gained pair records) =
     (pairs : List Pair) × (ArePairsBefore (net_of before) start pair pairs × (NoneGains (net_of before) pairs × ((after + suc (length pairs) ≡ left) × IsBetter before pair depth records.items graph)))
+
+-- where the call ends at a pair, the tries are used up, or the work has reached the limit that is set
+abbrev pub AreUsedUp : Settings → ℕ → Tour → Type 0
+AreUsedUp settings left tour.Done = Unit {0}
+AreUsedUp settings left (tour.Spent at work) = IsUsedUp settings left work
+AreUsedUp settings left (tour.Gained pair records) = Unit {0}

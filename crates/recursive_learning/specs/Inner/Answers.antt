@@ -1,4 +1,4 @@
--- Beside Answers.antt: what only private contracts, invariants and laws speak of.
+-- The depth at which learning ends.
 use Rattle.std.specs.Prelude.{None, Option, Some, ℕ, ◌≤◌}
 use Rattle.gate_net.specs.Net.{Net}
 use Rattle.recursive_learning.specs.Least.{IsLeastAt}

@@ -1,4 +1,4 @@
--- Beside Resting.antt: what only private contracts, invariants and laws speak of.
+-- The lists of what rests on a place, linked through their entries.
 use Rattle.std.specs.Prelude.{List, Some, length, slice_get, slice_index, suc, ℕ, ◌<◌, ◌≡◌, ◌≤◌}
 use Rattle.recursive_learning.specs.declared.resting.Rest.{Rest}
 

@@ -1,4 +1,4 @@
--- Beside Serving.antt: what only private contracts, invariants and laws speak of.
+-- What a refuter comes to before its tree is written.
 use Rattle.std.specs.Prelude.{List, None, Option, Some, ℕ, ◌≤◌}
 use Rattle.gate_net.specs.Net.{Net}
 use Rattle.recursive_learning.specs.Inner.Bodies.{IsBody}

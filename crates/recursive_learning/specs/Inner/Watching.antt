@@ -1,4 +1,4 @@
--- Beside Watching.antt: what only private contracts, invariants and laws speak of.
+-- The watch: which gates are listed to be examined, and on which places what is known of a gate rests.
 use Rattle.std.specs.Prelude.{Bool, List, [], false, length, map, replicate, slice_get, Some, true, ℕ, ◌<◌, ◌≡◌, ◌⊎◌, suc, ◌*◌, ◌+◌}
 use Rattle.gate_graph.specs.Search.{IsSeen}
 use Rattle.gate_net.specs.Net.{IsLive, Net, Reads}

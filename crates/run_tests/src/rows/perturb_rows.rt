@@ -24,7 +24,7 @@ const TURNS: &str =
 const SHORT_TURN: &str =
     ".model one_of\n.inputs a b c\n.outputs p q\n.names a b n0_5\n11 1\n.names a c n0_6\n11 1\n.names n0_5 n0_11 p\n11 1\n.names n0_5 n0_9\n0 1\n.names n0_6 n0_9 q\n11 1\n.names c n0_11\n0 1\n.end\n";
 
-const EXCHANGED: [(&str, &str, &str); 7] = [
+pub(crate) const EXCHANGED: [(&str, &str, &str); 7] = [
     (
         "opt in out journal",
         "wires 10 10\ngates 6 6\nsteps 0 0 0\ntries 16 settled\nfaults 20 0\n",
@@ -63,7 +63,7 @@ const EXCHANGED: [(&str, &str, &str); 7] = [
 ];
 
 // Whether a run puts this summary and writes this output, and a journal that `check` accepts.
-fn exchanges<R: Threads + Sync>(
+pub(crate) fn exchanges<R: Threads + Sync>(
     rt: &R,
     alloc: Global,
     line: &str,

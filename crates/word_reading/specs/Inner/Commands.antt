@@ -1,4 +1,4 @@
--- Beside Commands.antt: what only private contracts, invariants and laws speak of.
+-- What `clap` found, as the values of options and the names of a command.
 use Rattle.std.specs.Prelude.{◌^◌, ◌&&◌, ◌||◌, ℕ, Bool, not, Option, Some, None, is_some, List, [], ◌∷◌, map, if◌then◌else◌, nat_le, nat_lt, codes, option_map, option_and_then, unwrap_or}
 use Rattle.std.specs.List.{list_all, list_any}
 use Rattle.std.specs.Str.Parse.{digits_value, without_leading_plus}
@@ -8,7 +8,7 @@ use Rattle.rm_base.specs.declared.settings.Settings.{Settings}
 use Rattle.word_reading.specs.Words.{Asked, CommandRule, OptionRule, is_word, option_rules, rule_of}
 use Rattle.word_reading.specs.Inner.Program.{name_ids}
 use Rattle.word_reading.specs.declared.options.Options.{Options}
-use Rattle.word_reading.specs.declared.options.TheConstants.{USUAL_BUDGET, USUAL_DEPTH, USUAL_MERGE, USUAL_PERTURB, USUAL_SHIFT, USUAL_TRIES, USUAL_WORKERS}
+use Rattle.word_reading.specs.declared.options.TheConstants.{USUAL_BUDGET, USUAL_DEPTH, USUAL_MERGE, USUAL_PERTURB, USUAL_SHIFT, USUAL_TRIES, USUAL_WORK, USUAL_WORKERS}
 use Rattle.word_reading.specs.declared.positionals.Positionals.{Positionals}
 
 -- the number of a text, where it has at most `bits` bits
@@ -26,13 +26,14 @@ settings_in rows = record {
   budget = unwrap_or (number_at 32 (codes "budget") rows) USUAL_BUDGET;
   tries = unwrap_or (number_at 32 (codes "tries") rows) USUAL_TRIES;
   workers = unwrap_or (number_at 8 (codes "workers") rows) USUAL_WORKERS;
+  merge = unwrap_or (number_at 8 (codes "merge") rows) USUAL_MERGE;
+  perturb = unwrap_or (number_at 8 (codes "perturb") rows) USUAL_PERTURB;
+  work = unwrap_or (number_at 32 (codes "work") rows) USUAL_WORK;
 }
 
 abbrev pub options_in : List Row → Options
 options_in rows = record {
   settings = settings_in rows;
-  merge = unwrap_or (number_at 8 (codes "merge") rows) USUAL_MERGE;
-  perturb = unwrap_or (number_at 8 (codes "perturb") rows) USUAL_PERTURB;
   shift = unwrap_or (number_at 32 (codes "shift") rows) USUAL_SHIFT;
 }
 

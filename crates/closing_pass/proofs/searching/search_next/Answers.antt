@@ -10,8 +10,8 @@ use Rattle.closing_pass.proofs.Standing.{empty_is, zip_end}
 use Rattle.closing_pass.proofs.Taking.{IsNext, chosen_pins, next_is, next_refuted, taken_all, taking_more}
 use Rattle.closing_pass.proofs.searching.search_next.Goals as goal
 
-pub batch-requires-clause-pins : goal.batch-requires-clause-pins
-batch-requires-clause-pins g c κs within =
+pub answer_batch-requires-clause-pins : goal.answer_batch-requires-clause-pins
+answer_batch-requires-clause-pins g c κs within =
     let of : AreChosen c.args.faults.now c.args.found.now.items c.args.next.now c.in_ok-chosen.chosen = rw c.deref.ensures.value at c.in_ok-chosen.ensures.chosen in
     subst (HavePins (net_of c.args.graph.now)) (sym c.as_slice.ensures.value) (chosen_pins (net_of c.args.graph.now) c.args.faults.now c.args.found.now.items c.args.next.now c.in_ok-chosen.chosen of c.requires.pins)
 

@@ -1,5 +1,6 @@
 use Rattle.std.proofs.Common.{arith}
 use Rattle.gate_graph.specs.Circuit.{net_of}
+use Rattle.optimisation.proofs.AllowedLaws.{allowed_first, allowed_on}
 use Rattle.optimisation.proofs.RoundLaws.{first_run, removed_stopped, stopped_then}
 use Rattle.optimisation.proofs.rounds.first_round.Goals as goal
 use Rattle.rm_base.proofs.Public.{on_err}
@@ -35,3 +36,8 @@ further_round-requires-clause-fixes g c = omega (arith, c.in_ok-swept.ensures.re
 
 pub further_round-requires-clause-local : goal.further_round-requires-clause-local
 further_round-requires-clause-local g c = (omega (arith, c.in_ok-swept.ensures.removed.few), omega (arith, c.in_ok-closed.ensures.local))
+
+pub returns-clause-allowed : goal.returns-clause-allowed
+returns-clause-allowed g c =
+    allowed_on c.args.settings.now c.args.settings.now.tries c.in_ok-round.round.limit c.args.work.now c.further_round.new.work (allowed_first c.args.settings.now c.args.work.now) c.in_ok-round.ensures.within c.in_ok-round.ensures.cut_short
+    (omega (arith, c.remove_redundant.ensures.grown, c.close_faults.ensures.grown, c.further_round.ensures.grown))

@@ -1,7 +1,8 @@
-use Rattle.std.proofs.Common.{arith}
+use Rattle.std.proofs.Common.{arith, subst, ℕ}
 use Rattle.std.proofs.lemmas.Result.{IfOk-weaker}
 use Rattle.gate_graph.specs.Circuit.{net_of}
 use Rattle.rm_base.proofs.Public.{on_err}
+use Rattle.optimisation.specs.Allowed.{IsAllowed}
 use Rattle.optimisation.specs.Inner.Ended.{HasEnded}
 use Rattle.optimisation.specs.Inner.Staged.{HasStages}
 use Rattle.optimisation.proofs.RoundLaws.{stopped_then}
@@ -12,8 +13,8 @@ pub returns-then-not-merges_first-clause-staged : goal.returns-then-not-merges_f
 returns-then-not-merges_first-clause-staged g c =
     IfOk-weaker c.go_rounds.result
     (λ r. HasEnded (net_of c.args.graph) c.args.settings.now r (g.S.Shelf.files c.args.shelf.now) (g.S.Shelf.files c.go_rounds.new.shelf) c.args.journal.now)
-    (λ r. HasStages (net_of c.args.graph) c.args.settings.now c.args.merge r (g.S.Shelf.files c.args.shelf.now) (g.S.Shelf.files c.go_rounds.new.shelf) c.args.journal.now)
-    (λ r h. rounds_staged (net_of c.args.graph) c.args.settings.now c.args.merge r (g.S.Shelf.files c.args.shelf.now) (g.S.Shelf.files c.go_rounds.new.shelf) c.args.journal.now h)
+    (λ r. HasStages (net_of c.args.graph) c.args.settings.now r (g.S.Shelf.files c.args.shelf.now) (g.S.Shelf.files c.go_rounds.new.shelf) c.args.journal.now)
+    (λ r h. rounds_staged (net_of c.args.graph) c.args.settings.now r (g.S.Shelf.files c.args.shelf.now) (g.S.Shelf.files c.go_rounds.new.shelf) c.args.journal.now h)
     c.go_rounds.ensures.ended
 
 pub returns-in_err-rounds-clause-stopped : goal.returns-in_err-rounds-clause-stopped
@@ -26,7 +27,13 @@ returns-in_err-rounds-clause-stopped g c =
 pub returns-clause-staged : goal.returns-clause-staged
 returns-clause-staged g c =
     let t = c.counted_on.ensures.tries in
-    merged_staged c.runs_join.ensures c.texts_append.ensures (net_of c.args.graph) c.in_ok-merged.merged.graph c.args.settings.now c.args.merge c.in_ok-merged.merged.made c.in_ok-merged.merged.changed c.in_ok-rounds.rounds c.counted_on.result
+    let l = c.counted_on.ensures.limit in
+    merged_staged c.runs_join.ensures c.texts_append.ensures (net_of c.args.graph) c.in_ok-merged.merged.graph c.args.settings.now c.in_ok-merged.merged.made c.in_ok-merged.merged.changed c.in_ok-rounds.rounds c.counted_on.result
     (g.S.Shelf.files c.args.shelf.now) (g.S.Shelf.files c.sweep_and_merge.new.shelf) (g.S.Shelf.files c.go_rounds-2.new.shelf) c.args.journal.now
     (c.merges_first.ensures c.if-not-merges_first.false)
-    c.in_ok-merged.ensures.merged c.in_ok-rounds.ensures.ended c.counted_on.ensures.graph c.counted_on.ensures.made (omega (arith, t)) c.counted_on.ensures.settled c.counted_on.ensures.report
+    c.in_ok-merged.ensures.merged c.in_ok-rounds.ensures.ended c.counted_on.ensures.graph c.counted_on.ensures.made (omega (arith, t)) (omega (arith, l)) c.counted_on.ensures.settled c.counted_on.ensures.report
+
+pub returns-clause-allowed : goal.returns-clause-allowed
+returns-clause-allowed g c =
+    let l = c.counted_on.ensures.limit in
+    subst (λ (k : ℕ). IsAllowed c.args.settings.now k c.go_rounds-2.new.work) (omega (arith, l)) c.in_ok-rounds.ensures.allowed

@@ -1,8 +1,10 @@
-use Rattle.std.proofs.Common.{ap, arith, inr, ◌∙◌}
+use Rattle.std.proofs.Common.{ap, arith, inr, subst, sym, ℕ, ◌∙◌}
 use Rattle.rm_base.specs.declared.settings.Made.{Made}
 use Rattle.gate_graph.specs.Circuit.{net_of}
 use Rattle.rm_base.proofs.Public.{on_err}
+use Rattle.optimisation.specs.Allowed.{IsAllowed}
 use Rattle.optimisation.specs.Inner.Ran.{sum_of}
+use Rattle.optimisation.proofs.AllowedLaws.{allowed_still, allowed_then}
 use Rattle.optimisation.proofs.RoundLaws.{stopped_then}
 use Rattle.optimisation.proofs.stages.further_stage.Goals as goal
 
@@ -23,9 +25,21 @@ returns-clause-went g c =
       merged = c.in_ok-merged.ensures.merged;
       rounds = c.in_ok-more.more;
       ended = c.in_ok-more.ensures.ended;
+      within = c.in_ok-more.ensures.allowed.within;
       graph = c.counted_on.ensures.graph;
       made_are = c.counted_on.ensures.made ∙ ap (λ (x : Made). sum_of x c.in_ok-more.more.last.made) c.both.ensures;
       tries = c.counted_on.ensures.tries;
+      limit = c.counted_on.ensures.limit;
       settled = c.counted_on.ensures.settled;
       report = c.counted_on.ensures.report;
     })
+
+pub returns-clause-allowed : goal.returns-clause-allowed
+returns-clause-allowed g c =
+    let before = c.args.rounds.last in
+    subst (λ (k : ℕ). IsAllowed c.args.settings.now k c.go_rounds.new.work) (sym c.counted_on.ensures.limit)
+    (allowed_then c.args.settings.now before.limit before.tries c.in_ok-more.more.last.limit c.args.work.now c.go_rounds.new.work c.requires.allowed c.requires.tries c.in_ok-more.ensures.allowed (omega (arith, c.merge_gates.ensures.grown, c.go_rounds.ensures.grown)))
+
+pub returns-then-not-merged-clause-allowed : goal.returns-then-not-merged-clause-allowed
+returns-then-not-merged-clause-allowed g c =
+    allowed_still c.args.settings.now c.args.rounds.last.limit c.args.work.now c.merge_gates.new.work c.requires.allowed c.merge_gates.ensures.grown

@@ -23,7 +23,7 @@ returns-in_err-more-clause-stopped g c =
 
 pub returns-clause-staged : goal.returns-clause-staged
 returns-clause-staged g c =
-    further_staged c.runs_join.ensures c.texts_append.ensures (net_of c.args.graph) c.args.settings.now c.args.merge c.in_ok-rounds.rounds c.in_ok-more.more
+    further_staged c.runs_join.ensures c.texts_append.ensures (net_of c.args.graph) c.args.settings.now c.in_ok-rounds.rounds c.in_ok-more.more
     (g.S.Shelf.files c.args.shelf.now) (g.S.Shelf.files c.first_stage.new.shelf) (g.S.Shelf.files c.further_stage.new.shelf) c.args.journal.now
     (c.merges_again.ensures c.if-not-merges_again.false)
     c.in_ok-rounds.ensures.staged c.in_ok-more.ensures.went

@@ -23,7 +23,7 @@ returns-in_err-rounds-clause-begun g c =
 pub returns-clause-whole : goal.returns-clause-whole
 returns-clause-whole g c =
     let same = c.in_ok-graph.ensures.net in
-    filled_whole c.accepted_runs_keep.ensures c.args.model.now c.args.settings.now c.args.merge c.args.perturb c.in_ok-rounds.rounds
+    filled_whole c.accepted_runs_keep.ensures c.args.model.now c.args.settings.now c.in_ok-rounds.rounds
     (record {
       wires_before = c.wire_count-wires_before.result;
       gates_before = c.gate_count-gates_before.result;
@@ -34,12 +34,14 @@ returns-clause-whole g c =
       settled = c.in_ok-rounds.rounds.last.settled;
       tested = c.count_verdicts-tested.result.0;
       spent = c.count_verdicts-tested.result.1;
+      work = c.fill_journal.new.work;
     })
     (g.S.Shelf.files c.args.shelf.now) (g.S.Shelf.files c.open_journal.new.shelf) (g.S.Shelf.files c.fill_journal.new.shelf) c.args.journal.now
     (subst IsWellFormed same c.well_formed-2.ensures.net)
     (c.decompositions_stand.ensures.wires c.args.model.now c.requires.formed c.requires.ranked)
     c.in_ok-open_journal.ensures.opened
-    (subst (λ (net : Net). IsFilled net c.args.settings.now c.args.merge c.args.perturb c.in_ok-rounds.rounds (g.S.Shelf.files c.open_journal.new.shelf) (g.S.Shelf.files c.fill_journal.new.shelf) c.args.journal.now) same c.in_ok-rounds.ensures.filled)
+    (subst (λ (net : Net). IsFilled net c.args.settings.now c.in_ok-rounds.rounds (g.S.Shelf.files c.open_journal.new.shelf) (g.S.Shelf.files c.fill_journal.new.shelf) c.args.journal.now) same c.in_ok-rounds.ensures.filled)
+    c.in_ok-rounds.ensures.allowed
     (c.wire_count-wires_before.ensures ∙ (ap wire_count same ∙ c.decompositions_stand.ensures.wires c.args.model.now c.requires.formed c.requires.ranked))
     (c.gate_count-gates_before.ensures ∙ ap gate_count same)
     c.wire_count.ensures c.gate_count.ensures refl refl refl c.count_verdicts-tested.ensures.tested c.count_verdicts-tested.ensures.spent

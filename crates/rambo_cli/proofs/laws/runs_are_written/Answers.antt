@@ -8,7 +8,7 @@ use Rattle.graph_to_model.specs.NetModel.{model_of_net}
 use Rattle.blif_format.specs.Text.{text_of}
 
 pub returns : goal.returns
-returns c = λ m settings merge perturb net steps verdicts figures model ranked parts few limits most over.
+returns c = λ m settings net steps verdicts figures model ranked parts few limits most over.
     let fit = fits c.values_exist.ensures m net parts over.keeps in
     let is = c.tidy_nets_have_models.ensures net m over.keeps.form over.tidy model fit few in
     let text = c.written_texts_read.ensures (model_of_net m net) is.well_formed is.ranked in
@@ -31,6 +31,8 @@ returns c = λ m settings merge perturb net steps verdicts figures model ranked 
       small = few;
       tested = tested net (model_of_net m net) settings.budget verdicts faults (c.tidy_nets_have_model_faults.ensures.once net) c.tidy_nets_have_model_faults.ensures.vectors over.settled over.searched;
       decided = λ enough. over.searched.decided (subst (λ (n : ℕ). 2 ^ (n + 1) ≤ settings.budget) (sym fit.sources) enough);
+      limit = over.limit;
       run = over.run;
+      allowed = over.allowed;
       figures_are = over.figures;
     }

@@ -6,11 +6,11 @@ use Rattle.rambo_cli.proofs.optimising.optimise_model.Goals as goal
 
 pub returns-in_err-text-clause-safe : goal.returns-in_err-text-clause-safe
 returns-in_err-text-clause-safe g c =
-    whole_begun c.args.model.now c.args.settings.now c.args.merge c.args.perturb (net_of c.in_ok-run.run'.graph) c.in_ok-run.run'.figures (g.S.Shelf.files c.args.shelf.now) (g.S.Shelf.files c.whole_run.new.shelf) c.args.output.now (option_map (λ j. j.now) c.args.journal) c.in_ok-run.ensures.recorded
+    whole_begun c.args.model.now c.args.settings.now (net_of c.in_ok-run.run'.graph) c.in_ok-run.run'.figures (g.S.Shelf.files c.args.shelf.now) (g.S.Shelf.files c.whole_run.new.shelf) c.args.output.now (option_map (λ j. j.now) c.args.journal) c.in_ok-run.ensures.recorded
 
 pub returns-in_err-replace-clause-safe : goal.returns-in_err-replace-clause-safe
 returns-in_err-replace-clause-safe g c =
-    output_begun c.runs_are_written.ensures c.args.model.now c.args.settings.now c.args.merge c.args.perturb (net_of c.in_ok-run.run'.graph) c.in_ok-run.run'.figures (g.S.Shelf.files c.args.shelf.now) (g.S.Shelf.files c.whole_run.new.shelf) (g.S.Shelf.files c.replace.new.shelf) c.args.output.now (option_map (λ j. j.now) c.args.journal) c.as_slice.result.now
+    output_begun c.runs_are_written.ensures c.args.model.now c.args.settings.now (net_of c.in_ok-run.run'.graph) c.in_ok-run.run'.figures (g.S.Shelf.files c.args.shelf.now) (g.S.Shelf.files c.whole_run.new.shelf) (g.S.Shelf.files c.replace.new.shelf) c.args.output.now (option_map (λ j. j.now) c.args.journal) c.as_slice.result.now
     c.requires.usable
     (record {
       formed = c.decompositions_are_formed.ensures.formed c.args.model.now;
@@ -22,7 +22,7 @@ returns-in_err-replace-clause-safe g c =
 
 pub returns-clause-done : goal.returns-clause-done
 returns-clause-done g c =
-    output_written c.runs_are_written.ensures c.args.model.now c.args.settings.now c.args.merge c.args.perturb (net_of c.in_ok-run.run'.graph) c.in_ok-run.run'.figures (g.S.Shelf.files c.args.shelf.now) (g.S.Shelf.files c.whole_run.new.shelf) (g.S.Shelf.files c.replace.new.shelf) c.args.output.now (option_map (λ j. j.now) c.args.journal) c.as_slice.result.now
+    output_written c.runs_are_written.ensures c.args.model.now c.args.settings.now (net_of c.in_ok-run.run'.graph) c.in_ok-run.run'.figures (g.S.Shelf.files c.args.shelf.now) (g.S.Shelf.files c.whole_run.new.shelf) (g.S.Shelf.files c.replace.new.shelf) c.args.output.now (option_map (λ j. j.now) c.args.journal) c.as_slice.result.now
     c.requires.usable
     (record {
       formed = c.decompositions_are_formed.ensures.formed c.args.model.now;
@@ -34,7 +34,7 @@ returns-clause-done g c =
 
 pub returns-clause-safe : goal.returns-clause-safe
 returns-clause-safe g c =
-    output_begun c.runs_are_written.ensures c.args.model.now c.args.settings.now c.args.merge c.args.perturb (net_of c.in_ok-run.run'.graph) c.in_ok-run.run'.figures (g.S.Shelf.files c.args.shelf.now) (g.S.Shelf.files c.whole_run.new.shelf) (g.S.Shelf.files c.replace.new.shelf) c.args.output.now (option_map (λ j. j.now) c.args.journal) c.as_slice.result.now
+    output_begun c.runs_are_written.ensures c.args.model.now c.args.settings.now (net_of c.in_ok-run.run'.graph) c.in_ok-run.run'.figures (g.S.Shelf.files c.args.shelf.now) (g.S.Shelf.files c.whole_run.new.shelf) (g.S.Shelf.files c.replace.new.shelf) c.args.output.now (option_map (λ j. j.now) c.args.journal) c.as_slice.result.now
     c.requires.usable
     (record {
       formed = c.decompositions_are_formed.ensures.formed c.args.model.now;
@@ -46,4 +46,4 @@ returns-clause-safe g c =
 
 pub returns-in_err-run-clause-safe : goal.returns-in_err-run-clause-safe
 returns-in_err-run-clause-safe g c =
-    early_begun c.args.model.now c.args.settings.now c.args.merge c.args.perturb (g.S.Shelf.files c.args.shelf.now) (g.S.Shelf.files c.whole_run.new.shelf) c.args.output.now (option_map (λ j. j.now) c.args.journal) c.in_err-run.ensures.begun
+    early_begun c.args.model.now c.args.settings.now (g.S.Shelf.files c.args.shelf.now) (g.S.Shelf.files c.whole_run.new.shelf) c.args.output.now (option_map (λ j. j.now) c.args.journal) c.in_err-run.ensures.begun

@@ -22,8 +22,8 @@ sweep-requires-clause-room c =
     let r : c.in_ok-space.space.trial.room.steps ≡ c.tidy.new.trial.room.steps = ap (λ (t : Tried). t.room.steps) c.in_ok-space.ensures.trial in
     omega (arith, zero, w, r)
 
-pub returns : goal.returns
-returns c =
+pub returns-clause-begun : goal.returns-clause-begun
+returns-clause-begun c =
     let second : Goes c.tidy.new.trial c.sweep.new.space.trial c.tidy.new.log.items c.sweep.new.log.items = subst (λ (t : Tried). Goes t c.sweep.new.space.trial c.tidy.new.log.items c.sweep.new.log.items) c.in_ok-space.ensures.trial c.in_ok-sweep.ensures.goes in
     let swept : HasSwept (net_of c.tidy.new.trial.graph) (net_of c.sweep.new.space.trial.graph) c.args.depth = subst (λ (t : Tried). HasSwept (net_of t.graph) (net_of c.sweep.new.space.trial.graph) c.args.depth) c.in_ok-space.ensures.trial c.in_ok-sweep.ensures.swept in
     let size : HasSize c.keep.new.self.graph = subst HasSize c.graph.ensures (record { live = c.well_formed-3.ensures.live; pins = c.well_formed-3.ensures.held }) in
@@ -32,7 +32,7 @@ returns c =
     begun_first c.accepted_steps_keep.ensures c.args.graph c.args.depth c.in_ok-trial.trial c.tidy.new.trial c.sweep.new.space.trial c.keep.new.self.graph c.new-log.result.items c.tidy.new.log.items c.sweep.new.log.items c.well_formed-2.ensures.net
     (record { live = c.well_formed-2.ensures.live; pins = c.well_formed-2.ensures.held }) size c.requires.few
     c.in_ok-trial.ensures.net c.in_ok-trial.ensures.steps c.new-log.ensures.items c.in_ok-tidy.ensures.goes second c.in_ok-sweep.ensures.tidy swept c.keep.ensures.net held in
-    record { begun = begun_again c.args.graph c.args.depth c.keep.new.self.graph c.into_graph-swept.result c.sweep.new.log.items begun c.into_graph-swept.ensures }
+    begun_again c.args.graph c.args.depth c.keep.new.self.graph c.into_graph-swept.result c.sweep.new.log.items begun c.into_graph-swept.ensures
 
-pub returns-in_err-sweep : goal.returns-in_err-sweep
-returns-in_err-sweep c = record { begun = err_ok c.from_residual-in_err-sweep.result _ _ c.from_residual-in_err-sweep.ensures.1 }
+pub returns-in_err-sweep-clause-begun : goal.returns-in_err-sweep-clause-begun
+returns-in_err-sweep-clause-begun c = err_ok c.from_residual-in_err-sweep.result _ _ c.from_residual-in_err-sweep.ensures.1

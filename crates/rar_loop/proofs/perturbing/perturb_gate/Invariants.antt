@@ -8,7 +8,7 @@ use Rattle.rar_loop.proofs.perturbing.perturb_gate.Given as goal
 
 abbrev pub invariant-loop-position : goal.invariant-loop-position
 invariant-loop-position g l = record {
-  on : PerturbsOn l.depth l.limit (record { left = l.initial.left; gate = l.gate.0; position = 0 }) l.initial.space.trial.graph l.initial.made (g.S.Shelf.files l.initial.shelf) (record { left = l.left; gate = l.gate.0; position = l.position }) l.space.trial.graph l.made (g.S.Shelf.files l.shelf) l.journal;
+  on : PerturbsOn l.limits.settings.depth l.limits.settings.tries (record { left = l.initial.left; gate = l.gate.0; position = 0 }) l.initial.space.trial.graph l.initial.made (g.S.Shelf.files l.initial.shelf) (record { left = l.left; gate = l.gate.0; position = l.position }) l.space.trial.graph l.made (g.S.Shelf.files l.shelf) l.journal;
   numbers : HasNumbers (net_of l.space.trial.graph) l.finder;
   ready : IsReady l.space;
   there : IsThere (g.S.Shelf.files l.shelf) l.journal;

@@ -21,20 +21,20 @@ count_records-requires-clause-local g c = omega (arith, c.requires.begun.1.few)
 
 pub perturb_swept-requires-clause-way : goal.perturb_swept-requires-clause-way
 perturb_swept-requires-clause-way g c =
-    (c.requires.begun.0, (g.S.Shelf.files c.args.shelf.now, turn_first c.requires.begun.0 c.args.space.now.trial.graph c.args.depth c.args.tries c.args.records.now none_made c.count_records.new.made (g.S.Shelf.files c.args.shelf.now) (g.S.Shelf.files c.append_records.new.shelf) c.args.journal.now c.requires.begun.1 c.in_ok-append_records.ensures.written c.records_fit.ensures refl c.count_records.ensures))
+    (c.requires.begun.0, (g.S.Shelf.files c.args.shelf.now, turn_first c.requires.begun.0 c.args.space.now.trial.graph c.args.limits.now.settings.depth c.args.limits.now.settings.tries c.args.records.now none_made c.count_records.new.made (g.S.Shelf.files c.args.shelf.now) (g.S.Shelf.files c.append_records.new.shelf) c.args.journal.now c.requires.begun.1 c.in_ok-append_records.ensures.written c.records_fit.ensures refl c.count_records.ensures))
 
 pub returns-clause-through : goal.returns-clause-through
 returns-clause-through g c =
     let on = c.in_ok-used.ensures.on in
-    λ before b. (on.0, on.1 before (g.S.Shelf.files c.args.shelf.now) (turn_first before c.args.space.now.trial.graph c.args.depth c.args.tries c.args.records.now none_made c.count_records.new.made (g.S.Shelf.files c.args.shelf.now) (g.S.Shelf.files c.append_records.new.shelf) c.args.journal.now b c.in_ok-append_records.ensures.written c.records_fit.ensures refl c.count_records.ensures))
+    λ before b. (on.0, on.1 before (g.S.Shelf.files c.args.shelf.now) (turn_first before c.args.space.now.trial.graph c.args.limits.now.settings.depth c.args.limits.now.settings.tries c.args.records.now none_made c.count_records.new.made (g.S.Shelf.files c.args.shelf.now) (g.S.Shelf.files c.append_records.new.shelf) c.args.journal.now b c.in_ok-append_records.ensures.written c.records_fit.ensures refl c.count_records.ensures))
 
 pub returns-in_err-append_records-clause-stopped : goal.returns-in_err-append_records-clause-stopped
 returns-in_err-append_records-clause-stopped g c =
-    if_err c.from_residual.result _ (λ e before b. stopped_first before c.args.space.now.trial.graph c.args.depth c.args.records.now (g.S.Shelf.files c.args.shelf.now) (g.S.Shelf.files c.append_records.new.shelf) c.args.journal.now b c.in_err-append_records.ensures.stopped)
+    if_err c.from_residual.result _ (λ e before b. stopped_first before c.args.space.now.trial.graph c.args.limits.now.settings.depth c.args.records.now (g.S.Shelf.files c.args.shelf.now) (g.S.Shelf.files c.append_records.new.shelf) c.args.journal.now b c.in_err-append_records.ensures.stopped)
 
 pub returns-in_err-used-clause-stopped : goal.returns-in_err-used-clause-stopped
 returns-in_err-used-clause-stopped g c =
-    if_err c.from_residual-in_err-used.result _ (λ e before b. c.in_err-used.ensures.stopped before (g.S.Shelf.files c.args.shelf.now) (turn_first before c.args.space.now.trial.graph c.args.depth c.args.tries c.args.records.now none_made c.count_records.new.made (g.S.Shelf.files c.args.shelf.now) (g.S.Shelf.files c.append_records.new.shelf) c.args.journal.now b c.in_ok-append_records.ensures.written c.records_fit.ensures refl c.count_records.ensures))
+    if_err c.from_residual-in_err-used.result _ (λ e before b. c.in_err-used.ensures.stopped before (g.S.Shelf.files c.args.shelf.now) (turn_first before c.args.space.now.trial.graph c.args.limits.now.settings.depth c.args.limits.now.settings.tries c.args.records.now none_made c.count_records.new.made (g.S.Shelf.files c.args.shelf.now) (g.S.Shelf.files c.append_records.new.shelf) c.args.journal.now b c.in_ok-append_records.ensures.written c.records_fit.ensures refl c.count_records.ensures))
 
 pub returns-in_err-append_records-clause-failed : goal.returns-in_err-append_records-clause-failed
 returns-in_err-append_records-clause-failed g c = λ failed.

@@ -40,8 +40,8 @@ returns-in-Gained-clause-tour c =
     let pair : Pair = paired c.args.target c.index.result.now in
     let lt : c.loop-place.place < length c.in_ok-found.found.items = omega (arith, c.loop-place-test.true, c.len-place-end.ensures, c.in_ok-found.found.ok.0) in
     let at : slice_get c.in_ok-found.found.items c.loop-place.place ≡ Some c.index.result.now = read_stands c.in_ok-found.found.items c.loop-place.place c.index.result.now lt c.index.ensures in
-    let gained : IsAhead c.loop-place.space.trial pair c.args.depth c.in-Gained.records.items c.try_unless_detected.new.space.trial = subst (IsAttempt c.loop-place.space.trial pair c.args.depth c.try_unless_detected.new.space.trial) c.in-Gained.is c.in_ok-try_unless_detected.ensures.attempt in
-    (c.in_ok-found.found.items, (c.loop-place.place, (inv.tried, (refl, (at, (omega (arith, inv.sum, c.if-left-eq0.false), ahead_back c.args.space.now.trial c.loop-place.space.trial c.try_unless_detected.new.space.trial pair c.args.depth c.in-Gained.records.items inv.stays gained))))))
+    let gained : IsAhead c.loop-place.space.trial pair c.args.limits.now.settings.depth c.in-Gained.records.items c.try_unless_detected.new.space.trial = subst (IsAttempt c.loop-place.space.trial pair c.args.limits.now.settings.depth c.try_unless_detected.new.space.trial) c.in-Gained.is c.in_ok-try_unless_detected.ensures.attempt in
+    (c.in_ok-found.found.items, (c.loop-place.place, (inv.tried, (refl, (at, (omega (arith, inv.sum, c.in_default.ensures.goes), ahead_back c.args.space.now.trial c.loop-place.space.trial c.try_unless_detected.new.space.trial pair c.args.limits.now.settings.depth c.in-Gained.records.items inv.stays gained))))))
 
 pub loop-place-preserved : goal.loop-place-preserved
 loop-place-preserved c =
@@ -49,20 +49,20 @@ loop-place-preserved c =
     let pair : Pair = paired c.args.target c.index.result.now in
     let lt : c.loop-place.place < length c.in_ok-found.found.items = omega (arith, c.loop-place-test.true, c.len-place-end.ensures, c.in_ok-found.found.ok.0) in
     let at : slice_get c.in_ok-found.found.items c.loop-place.place ≡ Some c.index.result.now = read_stands c.in_ok-found.found.items c.loop-place.place c.index.result.now lt c.index.ensures in
-    let failed : IsBack c.loop-place.space.trial c.try_unless_detected.new.space.trial × (Gains (net_of c.loop-place.space.trial.graph) pair → ⊥) = subst (IsAttempt c.loop-place.space.trial pair c.args.depth c.try_unless_detected.new.space.trial) c.in-Failed.is c.in_ok-try_unless_detected.ensures.attempt in
+    let failed : IsBack c.loop-place.space.trial c.try_unless_detected.new.space.trial × (Gains (net_of c.loop-place.space.trial.graph) pair → ⊥) = subst (IsAttempt c.loop-place.space.trial pair c.args.limits.now.settings.depth c.try_unless_detected.new.space.trial) c.in-Failed.is c.in_ok-try_unless_detected.ensures.attempt in
     record {
       stays = back_then c.args.space.now.trial c.loop-place.space.trial c.try_unless_detected.new.space.trial inv.stays failed.0;
       tried = tried_more (net_of c.args.space.now.trial.graph) c.args.target c.in_ok-found.found.items c.loop-place.place c.index.result.now inv.tried at (subst (λ (n : Net). Gains n pair → ⊥) inv.stays.same.net failed.1);
-      sum = omega (arith, inv.sum, c.if-left-eq0.false);
+      sum = omega (arith, inv.sum, c.in_default.ensures.goes);
       tools = c.in_ok-try_unless_detected.ensures.tools;
     }
 
-pub returns-then-left-eq0-clause-tour : goal.returns-then-left-eq0-clause-tour
-returns-then-left-eq0-clause-tour c =
+pub returns-in-Some-clause-tour : goal.returns-in-Some-clause-tour
+returns-in-Some-clause-tour c =
     let inv = c.loop-place.invariant in
     let lt : c.loop-place.place < length c.in_ok-found.found.items = omega (arith, c.loop-place-test.true, c.len-place-end.ensures, c.in_ok-found.found.ok.0) in
     let at : slice_get c.in_ok-found.found.items c.loop-place.place ≡ Some c.index.result.now = read_stands c.in_ok-found.found.items c.loop-place.place c.index.result.now lt c.index.ensures in
-    (inv.stays, (c.in_ok-found.found.items, (c.loop-place.place, (inv.tried, (refl, (at, (c.if-left-eq0.true, omega (arith, inv.sum, c.if-left-eq0.true))))))))
+    (inv.stays, (c.in_ok-found.found.items, (c.loop-place.place, (inv.tried, (refl, (at, inv.sum))))))
 
 pub try_unless_detected-requires-clause-ready : goal.try_unless_detected-requires-clause-ready
 try_unless_detected-requires-clause-ready c =
