@@ -8,10 +8,10 @@ _rambo() {
     fi
     case "$before" in
         --depth | --merge) COMPREPLY=($(compgen -W "0 1 2" -- "$word")); return ;;
-        --budget | --tries | --workers | --perturb | --shift) return ;;
+        --budget | --tries | --workers | --perturb | --work | --shift) return ;;
     esac
     case "$command:$word" in
-        opt:-* | demo:-*) COMPREPLY=($(compgen -W "--depth --budget --tries --workers --merge --perturb" -- "$word")); return ;;
+        opt:-* | demo:-*) COMPREPLY=($(compgen -W "--depth --budget --tries --workers --merge --perturb --work" -- "$word")); return ;;
         equal:-* | optcare:-*) COMPREPLY=($(compgen -W "--depth --budget" -- "$word")); return ;;
         cut:-* | sew:-*) COMPREPLY=($(compgen -W "--shift" -- "$word")); return ;;
         demo:*) return ;;
