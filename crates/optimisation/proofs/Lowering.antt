@@ -29,7 +29,7 @@ stages_lowered : (net : Net) (depth limit less : ℕ) (all_steps : List Step) (a
 stages_lowered net depth limit less all_steps all_tries ended (first merged steps run) le within = first merged steps (run_lowered _ steps depth limit less all_tries ended run le within)
 stages_lowered net depth limit less all_steps all_tries ended (further {before} {used} {was} b merged steps {tries} {settled} run) le within =
     further (stages_lowered net depth limit less before used was b (omega (arith, le)) within) merged steps
-        (run_lowered _ steps depth (limit - used) (less - used) tries settled run (omega (arith, le)) (omega (arith, within)))
+    (run_lowered _ steps depth (limit - used) (less - used) tries settled run (omega (arith, le)) (omega (arith, within)))
 
 pub staged_lowered : (net : Net) (steps : List Step) (merge depth limit less tries : ℕ) (settled : Bool) → IsStagedRun net steps merge depth limit tries settled → tries ≤ less → less ≤ limit → IsStagedRun net steps merge depth less tries settled
 staged_lowered net steps merge depth limit less tries settled r le within = record {
@@ -58,7 +58,7 @@ turns_lowered : (net : Net) (merge depth limit less : ℕ) (all_steps : List Ste
 turns_lowered net merge depth limit less all_steps all_tries ended count (staged run) le within = staged (staged_lowered net all_steps merge depth limit less all_tries ended run le within)
 turns_lowered net merge depth limit less all_steps all_tries ended count (turned {before} {used} {turns} b turn mid {spent} t steps {tries} {settled} run) le within =
     turned (turns_lowered net merge depth limit less before used true turns b (omega (arith, le)) within) turn mid (turn_lowered _ depth (limit - used) (less - used) turn mid spent t (omega (arith, le))) steps
-        (run_lowered mid steps depth (limit - (used + spent)) (less - (used + spent)) tries settled run (omega (arith, le)) (omega (arith, within)))
+    (run_lowered mid steps depth (limit - (used + spent)) (less - (used + spent)) tries settled run (omega (arith, le)) (omega (arith, within)))
 turns_lowered net merge depth limit less all_steps all_tries ended count (in_vain {steps} {used} {turns} b spent some) le within =
     in_vain (turns_lowered net merge depth limit less steps used true turns b (omega (arith, le)) within) spent le
 
