@@ -74,7 +74,10 @@ def drawn(draw):
     names, covers = inputs + clocks + states, []
     for at in range(draw.randint(1, 9)):
         reads = [draw.choice(names) for _ in range(draw.choice((0, 1, 2, 2, 3, 3, 4, 5)))] if names else []
-        covers.append((reads, f"n{at}", drawn_rows(draw, len(reads)), draw.choice("1110")))
+        rows = drawn_rows(draw, len(reads))
+        if len(reads) == 2 == len(set(reads)) and draw.random() < 0.4:
+            rows = draw.choice((["10", "01"], ["01", "10"], ["11", "00"], ["00", "11"]))
+        covers.append((reads, f"n{at}", rows, draw.choice("1110")))
         names = names + [f"n{at}"]
     gates = [output for _, output, _, _ in covers]
     latches = [[draw.choice(names), state] + draw.choice(([], ["0"], ["re", draw.choice(names), "2"])) for state in states]

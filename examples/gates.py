@@ -1,9 +1,9 @@
-"""The netlists that `rambo opt` writes: And, Or and Not gates, copies and constants. For the scripts of this folder."""
+"""The netlists that `rambo opt` writes: And, Or, Not and Xor gates, copies and constants. For the scripts of this folder."""
 import sys
 
 
 class Gate:
-    """A cover that is no copy and no constant: its kind (and, or, not), the names that it reads, and its output."""
+    """A cover that is no copy and no constant: its kind (and, or, not, xor), the names that it reads, and its output."""
 
     def __init__(self, kind, inputs, output):
         self.kind, self.inputs, self.output = kind, inputs, output
@@ -46,6 +46,8 @@ class Netlist:
             self.copies.append((output, 1 if rows == [["1"]] else 0))
         elif rows == [["0", "1"]]:
             self.gates.append(Gate("not", inputs, output))
+        elif rows == [["10", "1"], ["01", "1"]]:
+            self.gates.append(Gate("xor", inputs, output))
         elif rows == [["1" * count, "1"]]:
             if count == 1:
                 self.copies.append((output, inputs[0]))
@@ -78,9 +80,9 @@ class Netlist:
         value = dict(zip(self.sources, (word for word, _ in bits)))
         every = bits[0][1] if bits else 1
         for gate in order:
-            word = 0 if gate.kind == "or" else every
+            word = every if gate.kind in ("and", "not") else 0
             for name in gate.inputs:
-                word = word | value[name] if gate.kind == "or" else word & value[name]
+                word = word | value[name] if gate.kind == "or" else word ^ value[name] if gate.kind == "xor" else word & value[name]
             value[gate.output] = every ^ word if gate.kind == "not" else word
         for output, shown in self.copies:
             value[output] = (every if shown else 0) if isinstance(shown, int) else value[shown]

@@ -7,7 +7,6 @@ use mathlib.Core.Bool.{beq}
 use Rattle.gate_net.specs.Net.{Net, Node, kind_in, node_at}
 use Rattle.gate_net.specs.Values.{IsJunction, controlling}
 use Rattle.gate_net.specs.declared.Kind.{Kind}
-use Rattle.gate_net.specs.declared.Kind.TheVariants.{And, Not, One, Or, Source, Zero}
 use Rattle.refutation.specs.Facts.{Held}
 use Rattle.wire_edit.specs.Tests.{control_of, gate_control}
 use Rattle.candidate_wires.specs.Candidates.{AreAmong, listed}
@@ -26,12 +25,7 @@ junction_one net y b c (kind, ((ds, is), control)) (kind', ((ds', is'), control'
     some_same (sym control ∙ ap controlling (some_same kinds) ∙ control')
 
 gate_control_is : (kind : Kind) → gate_control (Some kind) ≡ controlling kind
-gate_control_is And = refl
-gate_control_is Or = refl
-gate_control_is Not = refl
-gate_control_is Zero = refl
-gate_control_is One = refl
-gate_control_is Source = refl
+gate_control_is kind = refl
 
 -- an And or an Or is one by its controlling value
 pub junction_from : (net : Net) (y : ℕ) (c : Bool) → control_of net y ≡ Some c → IsJunction net y c

@@ -10,7 +10,8 @@ use Rattle.joined_nets.specs.Growing.{and_gate}
 use Rattle.joined_nets.specs.Joined.{both, first_gate}
 use Rattle.rm_base.proofs.Public.{map_at, map_found, some_is}
 use Rattle.wire_edit.specs.Steps.{or_zero}
-use Rattle.wire_edit.specs.Tests.{constant_at, constant_of, gate_control, is_among, is_gate, is_in_use, is_junction, is_not, is_not_kind, is_present, is_read_in, is_repeated, kind_constant}
+use Rattle.wire_edit.specs.Tests.{constant_at, constant_of, family_in, gate_control, is_among, is_gate, is_in_use, is_junction, is_not, is_not_kind, is_present, is_read_in, is_repeated, is_xor_kind, kind_constant, reads_several}
+use Rattle.gate_net.specs.Meaning.{is_gate_family}
 use Rattle.wire_edit.proofs.Public.{among_at}
 use Rattle.care_opt.specs.Extract.{extract, gated_nodes, new_number}
 use Rattle.care_opt.specs.Gated.{care_node, numbers_from}
@@ -109,7 +110,10 @@ module _ (b : ℕ) (net : Net) where
   not_same x at = ap (λ (k : Option Kind). is_not_kind k) (kind_same x at)
 
   pub gate_same : (x : ℕ) → LiveMain b net x → is_gate (extract b net) (f x) ≡ is_gate net x
-  gate_same x at = ap (λ (k : Option Kind). is_present (gate_control k) || is_not_kind k) (kind_same x at)
+  gate_same x at = ap (λ (k : Option Kind). is_gate_family (family_in k)) (kind_same x at)
+
+  pub several_same : (x : ℕ) → LiveMain b net x → reads_several (extract b net) (f x) ≡ reads_several net x
+  several_same x at = ap (λ (k : Option Kind). is_present (gate_control k) || is_xor_kind k) (kind_same x at)
 
   pub constant_same : (x p : ℕ) → LiveMain b net x → ((q d : ℕ) → Reads net x q d → LiveMain b net d) → constant_at (extract b net) (f x) p ≡ constant_at net x p
   constant_same x p at lower = ap (λ (ds : List ℕ). option_and_then (constant_of (extract b net)) (slice_get ds p)) (drivers_same x at) ∙ along (drivers_of net x) p (λ d is. lower p d is)

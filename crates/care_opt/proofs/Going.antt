@@ -6,7 +6,7 @@ use Rattle.gate_graph.specs.Circuit.{net_of, wiring}
 use Rattle.gate_net.specs.Edits.{constant_node}
 use Rattle.gate_net.specs.Net.{IsGate, IsGateKind, IsWellFormed, Net, Node, kind_in, node_at}
 use Rattle.gate_net.specs.declared.Kind.{Kind}
-use Rattle.gate_net.specs.declared.Kind.TheVariants.{And, Not, One, Or, Source, Zero}
+use Rattle.gate_net.specs.declared.Kind.TheVariants.{One, Source, Zero}
 use Rattle.graph_to_model.specs.Making.{gate_of_step}
 use Rattle.journal_text.specs.Accepted.{IsAcceptedStep, IsJustified, MayGrow}
 use Rattle.journal_text.specs.Joining.{RunsJoin}
@@ -144,12 +144,10 @@ gate_there : (net : Net) (x : ℕ) → IsGate net x → is_gate net x ≡ true
 gate_there net x (kind, ((ds, is), k)) = by_kind kind is k
   where
     by_kind : (kind : Kind) → node_at net x ≡ Some (record { kind = kind; drivers = ds }) → IsGateKind kind → is_gate net x ≡ true
-    by_kind And is k = rw is refl
-    by_kind Or is k = rw is refl
-    by_kind Not is k = rw is refl
     by_kind Zero is k = absurd k
     by_kind One is k = absurd k
     by_kind Source is k = absurd k
+    by_kind kind is k = rw is refl
 
 below_two : (x : ℕ) → x ≤ 1 → (b : Bool) × (x ≡ constant_node b)
 below_two zero le = (false, refl)

@@ -10,7 +10,7 @@ use Rattle.std.proofs.lemmas.Option.{slice_get_past}
 use Rattle.gate_graph.specs.Start.{first_net}
 use Rattle.gate_net.specs.Net.{IsGate, IsGateKind, IsLive, IsWellFormed, Net, Node, Reads, drivers_in, drivers_of, flatten_option, kind_in, kind_of, node_at, plain_node, source_count, wire_count}
 use Rattle.gate_net.specs.declared.Kind.{Kind}
-use Rattle.gate_net.specs.declared.Kind.TheVariants.{And, Not, One, Or, Source, Zero}
+use Rattle.gate_net.specs.declared.Kind.TheVariants.{Not, One, Source, Xor, Zero}
 use Rattle.joined_nets.specs.Growing.{Fits, live, with_nodes}
 use Rattle.joined_nets.specs.Joined.{first_gate}
 use Rattle.joined_nets.proofs.Public.{begins_so, by_nodes, fits_first, length_with, live_below, moved_step, with_both, with_none}
@@ -83,6 +83,12 @@ module _ (net : Net) (x : ℕ) where
         let n = live_kind kind e in
         let one = formed.nots_have_one x (n.0, n.1 ∙ ap (λ (k : Kind). let m : Node = record { kind = k; drivers = n.0 } in Some m) is) in
         sym (length-map ids (λ (n : NodeId). n.0)) ∙ (ap (λ (l : List ℕ). length l) (are ∙ ap (λ (l : List ℕ). map (looked numbers) l) one.1))
+
+    pub two_drivers : IsWellFormed net → kind ≡ Xor → length ids ≡ 2
+    two_drivers formed is =
+        let n = live_kind kind e in
+        let two = formed.xors_have_two x (n.0, n.1 ∙ ap (λ (k : Kind). let m : Node = record { kind = k; drivers = n.0 } in Some m) is) in
+        sym (length-map ids (λ (n : NodeId). n.0)) ∙ (ap (λ (l : List ℕ). length l) (are ∙ ap (λ (l : List ℕ). map (looked numbers) l) two.2))
 
     pub drivers_below : ((p d : ℕ) → Reads net x p d → looked numbers d < length small.nodes) → (d : ℕ) → has d (map (λ (n : NodeId). n.0) ids) ≡ true → d < length small.nodes
     drivers_below lower d among =
@@ -214,9 +220,7 @@ gate_above net x formed le live = by_node (node_at net x) refl
     by_kind Source ds is = absurd (let bounds = formed.sources.only x (ds, is) in let high = bounds.1 in omega (arith, high, le))
     by_kind Zero ds is = absurd (let same = formed.only_zero x (ds, is) in omega (arith, same, le))
     by_kind One ds is = absurd (let same = formed.only_one x (ds, is) in omega (arith, same, le))
-    by_kind And ds is = (And, ((ds, is), tt))
-    by_kind Or ds is = (Or, ((ds, is), tt))
-    by_kind Not ds is = (Not, ((ds, is), tt))
+    by_kind kind ds is = (kind, ((ds, is), tt))
 
     by_node : (o : Option Node) → node_at net x ≡ o → IsGate net x
     by_node None is = absurd (live is)

@@ -10,7 +10,7 @@ use Rattle.wire_edit.specs.Laws.{IsTidying, TidyMeans}
 use Rattle.wire_edit.specs.Order.{IsTidy, first_from, next_step, node, rule_at, where_met}
 use Rattle.wire_edit.specs.Refusals.{or_else}
 use Rattle.wire_edit.specs.Steps.{Applies, rule_applies}
-use Rattle.wire_edit.specs.Tests.{constant_at, constant_of, is_gate, is_in_use, is_junction, is_not, is_present, is_repeated, is_some_among}
+use Rattle.wire_edit.specs.Tests.{constant_at, constant_of, is_gate, is_in_use, is_not, is_present, is_repeated, is_some_among, reads_several}
 use Rattle.wire_edit.specs.declared.steps.Step.{Step}
 use Rattle.wire_edit.specs.declared.steps.Step.TheVariants.{Add, Const, Dead, Fix, NewNot, NoPins, OnePin, Same, Twice, Twin}
 use Rattle.care_opt.specs.MainSteps.{IsMainTidy}
@@ -141,7 +141,7 @@ none_at net x e step t is a = by_step step t (parts_none net (gate_of_step step)
         let lt = slice_get_within (drivers_of net gate.0) p d.0 d.1 in
         met_none net (Const (node gate.0) p) (from_none (λ position. where_met net (Const (node gate.0) position)) 0 (length (drivers_of net gate.0)) n.consts p (omega arith) (omega (arith, lt))) a
     by_step (Same gate p) t n a =
-        let d = some_repeated (drivers_of net gate.0) p (and_second (is_in_use net gate.0) _ (and_second (is_junction net gate.0) _ a)) in
+        let d = some_repeated (drivers_of net gate.0) p (and_second (is_in_use net gate.0) _ (and_second (reads_several net gate.0) _ a)) in
         let lt = slice_get_within (drivers_of net gate.0) p d.0 d.1 in
         met_none net (Same (node gate.0) p) (from_none (λ position. where_met net (Same (node gate.0) position)) 0 (length (drivers_of net gate.0)) n.sames p (omega arith) (omega (arith, lt))) a
     by_step (NoPins gate) t n a = met_none net (NoPins (node gate.0)) n.empty a

@@ -1,15 +1,16 @@
 -- Main steps keep a gated net a gated net of the same two nets.
 use Rattle.std.proofs.Common.{Bool, List, None, Option, Some, [], ap, arith, false, inl, inr, length, map, not, refl, subst, suc, sym, true, zero, ℕ, ◌+◌, ◌<◌, ◌∙◌, ◌∷◌, ◌≡◌, ◌≢◌, ◌≤◌}
-use Rattle.std.specs.Prelude.{if◌then◌else◌, nat_lt, option_and_then, slice_get, slice_set, ◌||◌}
+use Rattle.std.specs.Prelude.{if◌then◌else◌, nat_lt, option_and_then, slice_get, slice_set}
 use Rattle.std.proofs.lemmas.Bool.{cases_eq, cases_lt, ltb-true}
 use Rattle.std.proofs.lemmas.Bool.Decides.{eqb_tells}
-use Rattle.std.proofs.Math.Bool.{or-true}
-use Rattle.gate_net.specs.Edits.{constant_node, node_redirected, redirected, with_drivers, with_readers_moved, without}
+use Rattle.gate_net.specs.Edits.{constant_node, node_redirected, redirected, with_drivers, with_node, with_readers_moved, without}
 use Rattle.gate_net.specs.Net.{IsGate, IsGateKind, IsWellFormed, Net, Node, Reads, before_dead, drivers_in, drivers_of, flatten_option, kind_in, node_at, plain_node, source_count, trimmed}
 use Rattle.gate_net.specs.Values.{same_bool}
 use Rattle.gate_net.specs.declared.Kind.{Kind}
-use Rattle.gate_net.specs.declared.Kind.TheVariants.{One, Source, Zero}
-use Rattle.gate_net.proofs.Public.{drivers_redirected, node_at-moved, node_at-other, node_at-there, redirect_cases}
+use Rattle.gate_net.specs.declared.Kind.TheVariants.{Not, One, Source, Zero}
+use Rattle.gate_net.specs.declared.Family.{Family}
+use Rattle.gate_net.specs.declared.Family.TheVariants.{Constant, Input, Junction, Parity}
+use Rattle.gate_net.proofs.Public.{drivers_redirected, node_at-moved, redirect_cases, redriven_node, with_node-other, with_node-there}
 use Rattle.graph_to_model.specs.Making.{gate_of_step}
 use Rattle.joined_nets.specs.Growing.{and_gate}
 use Rattle.joined_nets.specs.Joined.{both, first_gate}
@@ -18,14 +19,14 @@ use Rattle.journal_text.specs.declared.record.Record.{Record}
 use Rattle.journal_text.specs.declared.record.Record.TheVariants as kept
 use Rattle.rm_base.proofs.Public.{and_first, and_second, set_cases, set_other, some_is}
 use Rattle.rm_base.specs.declared.numbers.NodeId.{NodeId}
-use Rattle.wire_edit.specs.Changes.{changed, fix, readers, remove, without_node}
+use Rattle.wire_edit.specs.Changes.{changed, fix, readers, remove, to_not, without_node}
 use Rattle.wire_edit.specs.Laws.{StepsKeepForm, StepsKeepSources}
 use Rattle.wire_edit.specs.Removals.{IsRemoval}
-use Rattle.wire_edit.specs.Steps.{Applies, constant_change, empty_node, or_zero, stepped}
-use Rattle.wire_edit.specs.Tests.{control_of, constant_at, driver_at, is_gate, is_in_use, is_junction, is_not, second_driver}
+use Rattle.wire_edit.specs.Steps.{Applies, constant_change, empty_node, or_zero, other_driver, same_change, stepped}
+use Rattle.wire_edit.specs.Tests.{control_of, constant_at, driver_at, family_of, is_gate, is_in_use, is_junction, is_not, is_xor, other_position, reads_several, second_driver}
 use Rattle.wire_edit.specs.declared.steps.Step.{Step}
 use Rattle.wire_edit.specs.declared.steps.Step.TheVariants.{Add, Const, Dead, Fix, NewNot, NoPins, OnePin, Same, Twice, Twin}
-use Rattle.wire_edit.proofs.Public.{gate_is, junction_gate}
+use Rattle.wire_edit.proofs.Public.{gate_is, junction_gate, not_gate, several_gate}
 use Rattle.care_opt.specs.Gated.{care_node, gated_net, numbers_from}
 use Rattle.care_opt.specs.Inner.Standing.{CanGate, IsGatedOver, IsNoMain}
 use Rattle.care_opt.specs.MainSteps.{AreMainSteps, IsMainStep}
@@ -36,9 +37,6 @@ without_cases [] p q x e = (q, e)
 without_cases (d ∷ ds) zero q x e = (suc q, e)
 without_cases (d ∷ ds) (suc p) zero x e = (0, e)
 without_cases (d ∷ ds) (suc p) (suc q) x e = let rest = without_cases ds p q x e in (suc rest.0, rest.1)
-
-pub not_gate : (net : Net) (x : ℕ) → is_not net x ≡ true → is_gate net x ≡ true
-not_gate net x e = ap (λ (t : Bool). is_junction net x || t) e ∙ or-true (is_junction net x)
 
 flatten-trimmed : (os : List (Option Node)) (x : ℕ) → flatten_option (slice_get (trimmed os) x) ≡ flatten_option (slice_get os x)
 flatten-trimmed [] x = refl
@@ -112,7 +110,7 @@ gate_of net (Add gate node) r a = absurd r
 gate_of net (NewNot node) r a = absurd r
 gate_of net (Fix gate position value) r a = a.0
 gate_of net (Const gate position) r a = and_first (is_gate net gate.0) _ a
-gate_of net (Same gate position) r a = junction_gate net gate.0 (and_first (is_junction net gate.0) _ a)
+gate_of net (Same gate position) r a = several_gate net gate.0 (and_first (reads_several net gate.0) _ a)
 gate_of net (NoPins gate) r a = junction_gate net gate.0 (and_first (is_junction net gate.0) _ a)
 gate_of net (OnePin gate) r a = junction_gate net gate.0 (and_first (is_junction net gate.0) _ a)
 gate_of net (Twice gate) r a = not_gate net gate.0 (and_first (is_not net gate.0) _ a)
@@ -138,27 +136,33 @@ module _ (one two : Net) (can : CanGate one two) where
     main_apart x (inl low) is = omega (arith, low, is, high)
     main_apart x (inr up) is = omega (arith, up, is, lt)
 
-    redriven_over : (n : Node) (ds : List ℕ) → node_at net g ≡ Some n → ((p x : ℕ) → slice_get ds p ≡ Some x → x < g) → IsWellFormed (with_drivers net g ds) → source_count (with_drivers net g ds) ≡ source_count net → IsGatedOver one two (with_drivers net g ds)
-    redriven_over n ds is lower formed sources = record {
+    node_over : (n m : Node) → node_at net g ≡ Some n → ((p x : ℕ) → slice_get m.drivers p ≡ Some x → x < g) → IsWellFormed (with_node net g m) → source_count (with_node net g m) ≡ source_count net → IsGatedOver one two (with_node net g m)
+    node_over n m is lower formed sources = record {
       formed = formed;
       sources = sources ∙ over.sources;
       order = ordered;
       moved = over.moved;
       plain = over.plain;
       low = over.low;
-      theirs = λ y le more. node_at-other net g ds y (λ i. omega (arith, i, le, lt)) ∙ over.theirs y le more;
-      gates = λ k x at. let late = can.later in node_at-other net g ds (e + k) (λ i. omega (arith, i, late, lt)) ∙ over.gates k x at;
-      last = λ y le. let late = can.later in node_at-other net g ds y (λ i. omega (arith, i, le, late, lt)) ∙ over.last y le;
+      theirs = λ y le more. with_node-other net g m y (λ i. omega (arith, i, le, lt)) ∙ over.theirs y le more;
+      gates = λ k x at. let late = can.later in with_node-other net g m (e + k) (λ i. omega (arith, i, late, lt)) ∙ over.gates k x at;
+      last = λ y le. let late = can.later in with_node-other net g m y (λ i. omega (arith, i, le, late, lt)) ∙ over.last y le;
       observed = over.observed;
     }
       where
-        ordered : (y p x : ℕ) → y < b → Reads (with_drivers net g ds) y p x → x < y
+        ordered : (y p x : ℕ) → y < b → Reads (with_node net g m) y p x → x < y
         ordered y p x less reads = elim (cases_eq y g) [
           | inl same ↦
-              let here : slice_get ds p ≡ Some x = ap (λ (o : Option Node). slice_get (drivers_in o) p) (sym (ap (λ (i : ℕ). node_at (with_drivers net g ds) i) same ∙ node_at-there net g ds n is)) ∙ reads in
+              let here : slice_get m.drivers p ≡ Some x = ap (λ (o : Option Node). slice_get (drivers_in o) p) (sym (ap (λ (i : ℕ). node_at (with_node net g m) i) same ∙ with_node-there net g m n is)) ∙ reads in
               let under = lower p x here in omega (arith, under, same)
-          | inr other ↦ over.order y p x less (ap (λ (o : Option Node). slice_get (drivers_in o) p) (sym (node_at-other net g ds y other)) ∙ reads)
+          | inr other ↦ over.order y p x less (ap (λ (o : Option Node). slice_get (drivers_in o) p) (sym (with_node-other net g m y other)) ∙ reads)
         ]
+
+    redriven_over : (n : Node) (ds : List ℕ) → node_at net g ≡ Some n → ((p x : ℕ) → slice_get ds p ≡ Some x → x < g) → IsWellFormed (with_drivers net g ds) → source_count (with_drivers net g ds) ≡ source_count net → IsGatedOver one two (with_drivers net g ds)
+    redriven_over n ds is lower formed sources =
+        let same : with_drivers net g ds ≡ with_node net g (record n { drivers = ds }) = redriven_node net g ds n is in
+        subst (λ (w : Net). IsGatedOver one two w) (sym same)
+        (node_over n (record n { drivers = ds }) is lower (subst (λ (w : Net). IsWellFormed w) same formed) (subst (λ (w : Net). source_count w ≡ source_count net) same sources))
 
     moved_over : (to : ℕ) → to < g → IsWellFormed (with_readers_moved net g to) → source_count (with_readers_moved net g to) ≡ source_count net → IsGatedOver one two (with_readers_moved net g to)
     moved_over to under formed sources = record {
@@ -229,6 +233,14 @@ module _ (one two : Net) (can : CanGate one two) where
         removed : (p : ℕ) → Kept (changed net (remove g p)) → IsGatedOver one two (changed net (remove g p))
         removed p k = redriven_over net over g lt high (record { kind = gate.0; drivers = gate.1.0.0 }) (without (drivers_of net g) p) gate.1.0.1 (λ q x at. let was = without_cases (drivers_of net g) p q x at in over.order g was.0 x lt was.1) k.0 k.1
 
+        turned_over : (p : ℕ) → Kept (changed net (to_not g p)) → IsGatedOver one two (changed net (to_not g p))
+        turned_over p k =
+            node_over net over g lt high (record { kind = gate.0; drivers = gate.1.0.0 }) (record { kind = Not; drivers = without (drivers_of net g) p }) gate.1.0.1
+            (λ q x at. let was = without_cases (drivers_of net g) p q x at in over.order g was.0 x lt was.1) k.0 k.1
+
+        to_driver : (p : ℕ) → Kept (changed net (readers g (or_zero (driver_at net g p)))) → IsGatedOver one two (changed net (readers g (or_zero (driver_at net g p))))
+        to_driver p k = moved_over net over g lt high (or_zero (driver_at net g p)) (driver_low g p lt (let up = high in omega (arith, up))) k.0 k.1
+
         fixed_over : (p : ℕ) (value : Bool) → Kept (changed net (fix g p value)) → IsGatedOver one two (changed net (fix g p value))
         fixed_over p value k =
             redriven_over net over g lt high (record { kind = gate.0; drivers = gate.1.0.0 }) (slice_set (drivers_of net g) p (constant_node value)) gate.1.0.1
@@ -240,14 +252,22 @@ module _ (one two : Net) (can : CanGate one two) where
         to_constant : (value : Bool) → Kept (changed net (readers g (constant_node value))) → IsGatedOver one two (changed net (readers g (constant_node value)))
         to_constant value k = moved_over net over g lt high (constant_node value) (let small = constant_low value in let up = high in omega (arith, small, up)) k.0 k.1
 
-        const_over : (p : ℕ) (control value : Option Bool) → Kept (changed net (constant_change g p control value)) → IsGatedOver one two (changed net (constant_change g p control value))
-        const_over p control None k = removed p k
-        const_over p None (Some v) k = to_constant (not v) k
-        const_over p (Some c) (Some v) k = by_test (same_bool v c) k
+        const_over : (p : ℕ) (f : Family) (value : Option Bool) → Kept (changed net (constant_change g p (other_driver net g p) f value)) → IsGatedOver one two (changed net (constant_change g p (other_driver net g p) f value))
+        const_over p f None k = removed p k
+        const_over p Input (Some v) k = removed p k
+        const_over p (Constant c) (Some v) k = removed p k
+        const_over p (Parity true) (Some v) k = to_constant (not v) k
+        const_over p (Parity false) (Some true) k = turned_over p k
+        const_over p (Parity false) (Some false) k = to_driver (other_position p) k
+        const_over p (Junction c) (Some v) k = by_test (same_bool v c) k
           where
             by_test : (t : Bool) → Kept (changed net (if t then readers g (constant_node c) else remove g p)) → IsGatedOver one two (changed net (if t then readers g (constant_node c) else remove g p))
             by_test true k = to_constant c k
             by_test false k = removed p k
+
+        same_over : (p : ℕ) (xor : Bool) → Kept (changed net (same_change g p xor)) → IsGatedOver one two (changed net (same_change g p xor))
+        same_over p true k = to_constant false k
+        same_over p false k = removed p k
 
         empty_over : (control : Option Bool) → Kept (changed net (readers g (empty_node control))) → IsGatedOver one two (changed net (readers g (empty_node control)))
         empty_over None k = moved_over net over g lt high 0 (let up = high in omega (arith, up)) k.0 k.1
@@ -260,10 +280,10 @@ module _ (one two : Net) (can : CanGate one two) where
           by_step (Add gate node) lt r a g k = absurd r
           by_step (NewNot node) lt r a g k = absurd r
           by_step (Fix gate position value) lt r a g k = fixed_over gate.0 lt g position value k
-          by_step (Const gate position) lt r a g k = const_over gate.0 lt g position (control_of net gate.0) (constant_at net gate.0 position) k
-          by_step (Same gate position) lt r a g k = removed gate.0 lt g position k
+          by_step (Const gate position) lt r a g k = const_over gate.0 lt g position (family_of net gate.0) (constant_at net gate.0 position) k
+          by_step (Same gate position) lt r a g k = same_over gate.0 lt g position (is_xor net gate.0) k
           by_step (NoPins gate) lt r a g k = empty_over gate.0 lt g (control_of net gate.0) k
-          by_step (OnePin gate) lt r a g k = moved_over net over gate.0 lt (high gate.0 lt g) (or_zero (driver_at net gate.0 0)) (driver_low gate.0 0 lt (let up = high gate.0 lt g in omega (arith, up))) k.0 k.1
+          by_step (OnePin gate) lt r a g k = to_driver gate.0 lt g 0 k
           by_step (Twice gate) lt r a g k = moved_over net over gate.0 lt (high gate.0 lt g) (or_zero (second_driver net gate.0)) (second_low gate.0 lt (let up = high gate.0 lt g in omega (arith, up))) k.0 k.1
           by_step (Twin gate other) lt r a g k = moved_over net over gate.0 lt (high gate.0 lt g) other.0 (twin_low net gate other a) k.0 k.1
           by_step (Dead gate) lt r a g k = retired_over net over gate.0 lt (high gate.0 lt g) k.0 k.1

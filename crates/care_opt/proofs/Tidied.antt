@@ -9,16 +9,16 @@ use Rattle.rm_base.proofs.Public.{and_first, and_second, both_and, not_excludes}
 use Rattle.wire_edit.specs.Laws.{IsTidying, TidyMeans}
 use Rattle.wire_edit.specs.Order.{IsTidy, node}
 use Rattle.wire_edit.specs.Steps.{Applies, is_not_at, same_some}
-use Rattle.wire_edit.specs.Tests.{constant_at, driver_at, is_gate, is_in_use, is_junction, is_not, is_present, is_repeated}
+use Rattle.wire_edit.specs.Tests.{constant_at, driver_at, is_gate, is_in_use, is_junction, is_not, is_present, is_repeated, reads_several}
 use Rattle.wire_edit.specs.declared.steps.Step.{Step}
 use Rattle.wire_edit.specs.declared.steps.Step.TheVariants.{Add, Const, Dead, Fix, NewNot, NoPins, OnePin, Same, Twice, Twin}
-use Rattle.wire_edit.proofs.Public.{gate_is, junction_gate}
+use Rattle.wire_edit.proofs.Public.{gate_is, junction_gate, not_gate, several_gate}
 use Rattle.care_opt.specs.Extract.{extract, new_number}
 use Rattle.care_opt.specs.Inner.Standing.{CanGate, IsGatedOver}
 use Rattle.care_opt.specs.MainSteps.{IsMainTidy}
-use Rattle.care_opt.proofs.Extracted.{LiveMain, constant_same, drivers_same, gate_same, junction_same, lower, not_same, repeated_same, same_of, use_from, use_to}
+use Rattle.care_opt.proofs.Extracted.{LiveMain, constant_same, drivers_same, gate_same, junction_same, lower, not_same, repeated_same, same_of, several_same, use_from, use_to}
 use Rattle.care_opt.proofs.Numbering.{extract_from, main, main_at, number_falls, take_below}
-use Rattle.care_opt.proofs.Standing.{gate_high, not_gate}
+use Rattle.care_opt.proofs.Standing.{gate_high}
 
 module _ (one two : Net) (can : CanGate one two) (net : Net) (over : IsGatedOver one two net) where
   abbrev b : ℕ
@@ -55,13 +55,13 @@ module _ (one two : Net) (can : CanGate one two) (net : Net) (over : IsGatedOver
         let c : is_present (constant_at net x p) ≡ true = ap (λ (o : Option Bool). is_present o) (sym (constant_same b net x p at (lower one two can net over x at.0))) ∙ and_second (is_in_use E (f x)) _ rest in
         is_tidy (Const (node x) p) tt at.0 (both_and (is_gate net x) _ g (both_and (is_in_use net x) _ u c))
 
-    no_same : (x p : ℕ) → LiveMain b net x → (is_junction E (f x) && (is_in_use E (f x) && is_repeated (drivers_of E (f x)) p)) ≡ true → ⊥
+    no_same : (x p : ℕ) → LiveMain b net x → (reads_several E (f x) && (is_in_use E (f x) && is_repeated (drivers_of E (f x)) p)) ≡ true → ⊥
     no_same x p at e =
-        let j : is_junction net x ≡ true = sym (junction_same b net x at) ∙ and_first (is_junction E (f x)) _ e in
-        let rest = and_second (is_junction E (f x)) _ e in
+        let j : reads_several net x ≡ true = sym (several_same b net x at) ∙ and_first (reads_several E (f x)) _ e in
+        let rest = and_second (reads_several E (f x)) _ e in
         let u : is_in_use net x ≡ true = use_to one two can net over x at (and_first (is_in_use E (f x)) _ rest) in
         let r : is_repeated (drivers_of net x) p ≡ true = repeated_same b net x p at (lower one two can net over x at.0) (and_second (is_in_use E (f x)) _ rest) in
-        is_tidy (Same (node x) p) tt at.0 (both_and (is_junction net x) _ j (both_and (is_in_use net x) _ u r))
+        is_tidy (Same (node x) p) tt at.0 (both_and (reads_several net x) _ j (both_and (is_in_use net x) _ u r))
 
     size_same : (x : ℕ) → LiveMain b net x → length (drivers_of E (f x)) ≡ length (drivers_of net x)
     size_same x at = ap (λ (ds : List ℕ). length ds) (drivers_same b net x at) ∙ length-map (drivers_of net x) f
@@ -127,7 +127,7 @@ module _ (one two : Net) (can : CanGate one two) (net : Net) (over : IsGatedOver
         let o = old_of gate.0 (and_first (is_gate E gate.0) _ a) in
         no_const o.old position o.alive (subst (λ (y : ℕ). Applies E (Const (node y) position)) (sym o.number) a)
     none_applies (Same gate position) t a =
-        let o = old_of gate.0 (junction_gate E gate.0 (and_first (is_junction E gate.0) _ a)) in
+        let o = old_of gate.0 (several_gate E gate.0 (and_first (reads_several E gate.0) _ a)) in
         no_same o.old position o.alive (subst (λ (y : ℕ). Applies E (Same (node y) position)) (sym o.number) a)
     none_applies (NoPins gate) t a =
         let o = old_of gate.0 (junction_gate E gate.0 (and_first (is_junction E gate.0) _ a)) in

@@ -6,7 +6,7 @@ use Rattle.gate_net.specs.Laws.{FaultyValuesExist, KeepsPlaces, ValuesExist}
 use Rattle.gate_net.specs.Net.{IsAcyclic, Net, Node, Reads, drivers_in, drivers_of, node_at, plain_node}
 use Rattle.gate_net.specs.Values.{AreFaultyValues, AreGoodValues, Detects, faulty_reads, gate_value, junction, node_value}
 use Rattle.gate_net.specs.declared.Kind.{Kind}
-use Rattle.gate_net.specs.declared.Kind.TheVariants.{And, Not, One, Or, Source, Zero}
+use Rattle.gate_net.specs.declared.Kind.TheVariants.{One, Source, Zero}
 use Rattle.gate_net.proofs.Public.{along_pins, reads_elsewhere}
 use Rattle.joined_nets.specs.Joined.{both, first_gate}
 use Rattle.rm_base.proofs.Public.{map_agree, map_at, map_found, same-in-map}
@@ -21,11 +21,7 @@ use Rattle.care_opt.proofs.Numbering.{extract_at, main, main_at, number_stays}
 -- only a source has the value that is assigned
 assigned_same : (kind : Kind) (p q : Bool) (reads : List Bool) → (kind ≡ Source → p ≡ q) → gate_value kind p reads ≡ gate_value kind q reads
 assigned_same Source p q reads h = h refl
-assigned_same Zero p q reads h = refl
-assigned_same One p q reads h = refl
-assigned_same And p q reads h = refl
-assigned_same Or p q reads h = refl
-assigned_same Not p q reads h = refl
+assigned_same kind p q reads h = refl
 
 through : (r s : ℕ → Bool) (g : ℕ → ℕ) (ds : List ℕ) → ((p d : ℕ) → slice_get ds p ≡ Some d → r (g d) ≡ s d) → map r (map g ds) ≡ map s ds
 through r s g [] h = refl

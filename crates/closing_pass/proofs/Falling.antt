@@ -1,5 +1,5 @@
 -- What a removal leaves no larger, and what a fix in a tidy net takes.
-use Rattle.std.proofs.Common.{◌≡◌, ℕ, zero, suc, ◌+◌, ◌<◌, ◌≤◌, Option, Some, None, List, [], ◌∷◌, length, map, refl, arith}
+use Rattle.std.proofs.Common.{◌≡◌, ℕ, zero, suc, ◌+◌, ◌<◌, ◌≤◌, Option, Some, None, List, [], ◌∷◌, length, map, ap, refl, arith}
 use Rattle.std.specs.Prelude.{slice_get, slice_set}
 use Rattle.std.specs.List.{sum_by}
 use Rattle.std.proofs.lemmas.List.Sums.{sum_by-cons}
@@ -7,10 +7,12 @@ use Rattle.rm_base.specs.declared.numbers.Fault.{Fault}
 use Rattle.gate_net.specs.Net.{Node, Net, before_dead, drivers_of, flatten_option, node_at, trimmed, IsWellFormed, gate_count, wire_count}
 use Rattle.gate_net.specs.Values.{HasPin}
 use Rattle.gate_net.specs.Edits.{constant_node, fixed, node_redirected, redirected, redriven, with_drivers, without}
-use Rattle.wire_edit.proofs.Public.{removal_makes, removal_pins}
+use Rattle.wire_edit.proofs.Public.{applies_changes, removal_makes, removal_pins}
 use Rattle.wire_edit.specs.declared.steps.Step.{Step}
 use Rattle.wire_edit.specs.declared.steps.Step.TheVariants.{Fix}
-use Rattle.wire_edit.specs.Changes.{Change, append, remove, fix, readers, new_not, retire, changed}
+use Rattle.wire_edit.specs.Changes.{Change, append, remove, fix, readers, new_not, retire, to_not, changed}
+use Rattle.gate_net.specs.declared.Kind.TheVariants.{Not}
+use Rattle.wire_edit.specs.Inner.Changes.{CanChange}
 use Rattle.wire_edit.specs.Laws.{StepsKeepSources}
 use Rattle.wire_edit.specs.Steps.{Applies, stepped, change_of}
 use Rattle.wire_edit.specs.Order.{IsTidy}
@@ -81,13 +83,15 @@ with_gates net gate ds = lower_at net.nodes gate (redriven ds (node_at net gate)
     same None = omega arith
     same (Some n) = omega arith
 
-change_gates : (net : Net) (change : Change) → MakesNoPin change → gate_count (changed net change) ≤ gate_count net
-change_gates net (append gate driver) none = omega (arith, none)
-change_gates net (new_not driver) none = omega (arith, none)
-change_gates net (remove gate position) none = with_gates net gate (without (drivers_of net gate) position)
-change_gates net (fix gate position value) none = with_gates net gate (slice_set (drivers_of net gate) position (constant_node value))
-change_gates net (readers from to) none = let e : gates_in (map (node_redirected from to) net.nodes) ≡ gates_in net.nodes = moved_gates from to net.nodes in omega (arith, e)
-change_gates net (retire gate) none =
+change_gates : (net : Net) (change : Change) → CanChange net change → MakesNoPin change → gate_count (changed net change) ≤ gate_count net
+change_gates net (append gate driver) can none = omega (arith, none)
+change_gates net (new_not driver) can none = omega (arith, none)
+change_gates net (remove gate position) can none = with_gates net gate (without (drivers_of net gate) position)
+change_gates net (fix gate position value) can none = with_gates net gate (slice_set (drivers_of net gate) position (constant_node value))
+change_gates net (readers from to) can none = let e : gates_in (map (node_redirected from to) net.nodes) ≡ gates_in net.nodes = moved_gates from to net.nodes in omega (arith, e)
+change_gates net (to_not gate position) can none =
+    lower_at net.nodes gate (Some (record { kind = Not; drivers = without (drivers_of net gate) position })) (let there : gate_weight (node_at net gate) ≡ 1 = ap gate_weight can.0.1 in omega (arith, there))
+change_gates net (retire gate) can none =
     let a : gates_in (trimmed (slice_set net.nodes gate None)) ≤ gates_in (slice_set net.nodes gate None) = trimmed_gates (slice_set net.nodes gate None) in
     let b : gates_in (slice_set net.nodes gate None) ≤ gates_in net.nodes = lower_at net.nodes gate None (omega arith) in
     omega (arith, a, b)
@@ -103,6 +107,7 @@ change_places net (remove gate position) = refl
 change_places net (fix gate position value) = refl
 change_places net (readers from to) = length_moved (redirected from to) net.observed
 change_places net (retire gate) = refl
+change_places net (to_not gate position) = refl
 
 pub no_larger : RemovalLaws → (net : Net) (step : Step) → IsWellFormed net → Applies net step → IsRemoval step → IsNoLarger net (stepped net step)
 no_larger laws net step well applies r =
@@ -111,7 +116,7 @@ no_larger laws net step well applies r =
     record {
       wires = omega (arith, w, none);
       free = laws.frees net step well applies r;
-      gates = change_gates net (change_of net step) (removal_makes net step r);
+      gates = change_gates net (change_of net step) (applies_changes net step well applies) (removal_makes net step r);
       sources = laws.sources net step well applies;
       places = change_places net (change_of net step);
     }

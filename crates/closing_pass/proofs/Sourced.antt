@@ -4,7 +4,7 @@ use Rattle.std.specs.Prelude.{nat_eq, slice_get}
 use Rattle.std.proofs.lemmas.Bool.{and_from}
 use Rattle.rm_base.specs.declared.numbers.Fault.{Fault}
 use Rattle.gate_net.specs.declared.Kind.{Kind}
-use Rattle.gate_net.specs.declared.Kind.TheVariants.{Source, Zero, One, And, Or, Not}
+use Rattle.gate_net.specs.declared.Kind.TheVariants.{Source, Zero, One, And, Or, Not, Xor}
 use Rattle.gate_net.specs.Faults.{faults_of}
 use Rattle.gate_net.specs.Net.{Net, Node, drivers_in, drivers_of, kind_in, node_at, Reads, IsGate, IsGateKind, IsRanked, IsWellFormed, source_count}
 use Rattle.std.proofs.lemmas.Option.{slice_get-map}
@@ -15,7 +15,8 @@ use Rattle.podem.specs.declared.verdict.Verdict.TheVariants.{Detected, Refuted, 
 use Rattle.refutation.specs.Branches.{Branch, line, split, clash, quiet, here, untried, items_of}
 use Rattle.wire_edit.specs.declared.steps.Step.TheVariants.{NoPins, Dead}
 use Rattle.wire_edit.specs.Order.{IsTidy, node}
-use Rattle.wire_edit.specs.Tests.{gate_control, is_gate, is_in_use, is_junction, is_not_kind, is_present}
+use Rattle.wire_edit.specs.Tests.{gate_control, is_gate, is_in_use, is_junction, is_present, family_in}
+use Rattle.gate_net.specs.Meaning.{is_gate_family}
 use Rattle.wire_edit.specs.Laws.{TidyMeans}
 use Rattle.wire_edit.specs.Removals.{TidyReadsNone}
 use Rattle.closing_pass.specs.Recording.{AreRecordable, IsRecordable}
@@ -35,6 +36,7 @@ gate_of net well none x lt there = at (node_at net x) refl
     kinds And ds is = (And, ((ds, is), tt))
     kinds Or ds is = (Or, ((ds, is), tt))
     kinds Not ds is = (Not, ((ds, is), tt))
+    kinds Xor ds is = (Xor, ((ds, is), tt))
 
     at : (o : Option Node) → node_at net x ≡ o → IsGate net x
     at None is = absurd (there is)
@@ -58,8 +60,8 @@ has_pin means net well tidy y (kind, ((ds, is), gk)) = at kind ds is gk
     junction_is : (o : Option Node) → node_at net y ≡ o → is_junction net y ≡ is_present (gate_control (kind_in o))
     junction_is o is = ap (λ (o : Option Node). is_present (gate_control (kind_in o))) is
 
-    gate_is : (o : Option Node) → node_at net y ≡ o → is_gate net y ≡ (is_present (gate_control (kind_in o)) || is_not_kind (kind_in o))
-    gate_is o is = ap (λ (o : Option Node). is_present (gate_control (kind_in o)) || is_not_kind (kind_in o)) is
+    gate_is : (o : Option Node) → node_at net y ≡ o → is_gate net y ≡ is_gate_family (family_in (kind_in o))
+    gate_is o is = ap (λ (o : Option Node). is_gate_family (family_in (kind_in o))) is
 
     at : (k : Kind) (ds : List ℕ) → node_at net y ≡ Some (record { kind = k; drivers = ds }) → IsGateKind k → (x : ℕ) × Reads net y 0 x
     at Source ds is gk = absurd gk
@@ -68,6 +70,7 @@ has_pin means net well tidy y (kind, ((ds, is), gk)) = at kind ds is gk
     at And ds is gk = first And ds is (junction_is _ is) (gate_is _ is)
     at Or ds is gk = first Or ds is (junction_is _ is) (gate_is _ is)
     at Not ds is gk = let d : (d : ℕ) × (drivers_of net y ≡ d ∷ []) = well.nots_have_one y (ds, is) in (d.0, ap (λ (xs : List ℕ). slice_get xs 0) d.1)
+    at Xor ds is gk = let d : (d e : ℕ) × (drivers_of net y ≡ d ∷ e ∷ []) = well.xors_have_two y (ds, is) in (d.0, ap (λ (xs : List ℕ). slice_get xs 0) d.2)
 
 -- so without sources there would be gates of ever lower ranks
 no_gates : TidyMeans → TidyReadsNone → (net : Net) → IsWellFormed net → IsTidy net → source_count net ≡ 0 → (rank : ℕ → ℕ) → IsRanked net rank → (n y : ℕ) → rank y < n → IsGate net y → ⊥

@@ -1,6 +1,6 @@
 -- A decomposition has no more wires than its rows and literals allow.
 use Rattle.std.proofs.Common.{◌≡◌, ◌≤◌, ◌<◌, ◌+◌, ℕ, zero, suc, Bool, true, false, List, [], ◌∷◌, ◌++◌, map, filter, length, refl, sym, ◌∙◌, arith, nat_eq, inl, inr, length-append}
-use Rattle.std.specs.Prelude.{if◌then◌else◌, sum_by, unwrap_or}
+use Rattle.std.specs.Prelude.{Option, None, Some, if◌then◌else◌, sum_by, unwrap_or}
 use Rattle.std.specs.List.{flat_map, zip}
 use Rattle.std.proofs.lemmas.List.Sums.{sum_by-cons, sum_by-append}
 use Rattle.std.proofs.lemmas.Bool.Decides.{eqb_tells}
@@ -10,7 +10,9 @@ use Rattle.rm_model.specs.declared.parts.Literal.{Literal}
 use Rattle.rm_model.specs.declared.parts.Literal.TheVariants.{Zero, One, Any}
 use Rattle.rm_model.specs.declared.parts.Cover.{Cover}
 use Rattle.cover_decompose.specs.Needed.{taken, of_rank, of_ranks, covers_by_rank, is_needed, needed_of}
-use Rattle.cover_decompose.specs.Count.{literal_count, joining, cover_wires, zero_names, cover_zero_names, new_count}
+use Rattle.cover_decompose.specs.Count.{literal_count, joining, cover_wires, wires_by, zero_names, cover_zero_names, new_count, zero_names_by}
+use Rattle.cover_decompose.specs.Parity.{parity_ending}
+use Rattle.cover_decompose.proofs.Parities.{IsParity, is_parity}
 use Rattle.rm_model.specs.Size.{rows_weight, covers_weight}
 use Rattle.cover_decompose.specs.Bounds.{WiresAreBounded}
 use Rattle.rm_base.specs.Words.{Word}
@@ -60,12 +62,19 @@ closing : (b : Bool) → (if b then 0 else 1) ≤ 1
 closing true = omega arith
 closing false = omega arith
 
-cover_le : (c : Cover) → cover_wires c + length (cover_zero_names c) ≤ weight c
-cover_le c =
+sum_le : (c : Cover) (o : Option Bool) → parity_ending c ≡ o → wires_by o c + length (zero_names_by o c) ≤ weight c
+sum_le c (Some ends) e =
+    let h : IsParity c ends = is_parity c ends e in
+    let end : (if ends then 0 else 1) ≤ 1 = closing ends in
+    omega (arith, h.weight, end)
+sum_le c None e =
     let rows : sum_by (λ row. joining (literal_count row)) c.rows + length c.rows + length (flat_map (zero_names c.inputs) c.rows) ≤ rows_weight c.rows = rows_le c.inputs c.rows in
     let count : joining (length c.rows) ≤ length c.rows = joining_le (length c.rows) in
     let end : (if c.on then 0 else 1) ≤ 1 = closing c.on in
     omega arith
+
+cover_le : (c : Cover) → cover_wires c + length (cover_zero_names c) ≤ weight c
+cover_le c = sum_le c (parity_ending c) refl
 
 covers_le : (cs : List Cover) → sum_by cover_wires cs + length (flat_map cover_zero_names cs) ≤ sum_by weight cs
 covers_le [] = omega arith

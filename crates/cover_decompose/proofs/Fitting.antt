@@ -6,8 +6,7 @@ use Rattle.std.proofs.lemmas.Bool.Decides.{eqb_tells}
 use Rattle.std.proofs.lemmas.List.Sums.{sum_by-take-le}
 use Rattle.std.proofs.lemmas.Option.{slice_get_within}
 use Rattle.cover_decompose.proofs.WellFormed.{gate_at}
-use Rattle.gate_net.specs.declared.Kind.{Kind}
-use Rattle.gate_net.specs.declared.Kind.TheVariants.{Source, Zero, One, And, Or, Not}
+use Rattle.gate_net.specs.declared.Kind.TheVariants.{Source, Zero, One, Not, Xor}
 use Rattle.gate_net.specs.Net.{Node, Net, node_at, plain_node, IsGateKind, IsLive}
 use Rattle.gate_graph.specs.Circuit.{Circuit, net_of, fanouts_of, pins_taken, live_nodes}
 use Rattle.gate_graph.specs.Start.{first_net}
@@ -71,6 +70,7 @@ pub record NextFits (v : Circuit) (n : Node) : Type 0 where
   pub small : All (λ d. d < 4294967296) n.drivers
   pub kind : IsGateKind n.kind
   pub one : n.kind ≡ Not → length n.drivers ≡ 1
+  pub two : n.kind ≡ Xor → length n.drivers ≡ 2
   pub live : (d : ℕ) → has d n.drivers ≡ true → IsLive (net_of v) d
   pub pins : pins_taken v + length n.drivers ≤ 4294967295
   pub nodes : live_nodes v < 4294967295
@@ -94,8 +94,9 @@ next_fits v made sources at n b le e h =
     let nodes_are : live_nodes v ≡ length (take at made) = h.nodes in
     record {
       small = below_all at 4294967296 n.drivers (omega arith) below;
-      kind = kind_is gate;
-      one = one_is gate;
+      kind = gate.kind;
+      one = λ e. ap (λ (l : List ℕ). length l) (gate.one e).1;
+      two = λ e. ap (λ (l : List ℕ). length l) (gate.two e).2;
       live = λ d m. node_live v (take at made) [] d h (let low : d < at = has_below at n.drivers d below m in omega arith);
       pins = omega arith;
       nodes = omega arith;
@@ -107,15 +108,6 @@ next_fits v made sources at n b le e h =
     by_place : (slice_get (plain Zero ∷ plain One ∷ replicate sources (plain Source)) at ≡ Some n) ⊎ ((j : ℕ) × ((at ≡ length (plain Zero ∷ plain One ∷ replicate sources (plain Source)) + j) × (slice_get b.gates j ≡ Some n))) → IsGateNode n
     by_place (inl s) = absurd (let low : at < length (plain Zero ∷ plain One ∷ replicate sources (plain Source)) = slice_get_within (plain Zero ∷ plain One ∷ replicate sources (plain Source)) at n s in let first : length (plain Zero ∷ plain One ∷ replicate sources (plain Source)) ≡ 2 + sources = start_length sources in omega arith)
     by_place (inr g) = gate_at b.gates g.0 n b.are_gates g.1.1
-
-    kind_by : (one other : Kind) → one ≡ other → IsGateKind other → IsGateKind one
-    kind_by one other e g = let P : Kind → Type 0 = λ k. IsGateKind k in subst P (sym e) g
-
-    kind_is : IsGateNode n → IsGateKind n.kind
-    kind_is g = elim g.kind [ inl a ↦ kind_by n.kind And a tt | inr r ↦ elim r [ inl o ↦ kind_by n.kind Or o tt | inr t ↦ kind_by n.kind Not t.0 tt ] ]
-
-    one_is : IsGateNode n → n.kind ≡ Not → length n.drivers ≡ 1
-    one_is g e = elim g.kind [ inl a ↦ (let f : n.kind ≡ And = a in absurd cc) | inr r ↦ elim r [ inl o ↦ (let f : n.kind ≡ Or = o in absurd cc) | inr t ↦ ap (λ (l : List ℕ). length l) t.1.1 ] ]
 
 -- the graph of the constants and the sources
 take_first : (xs ys : List Node) (k : ℕ) → k ≡ length xs → take k (xs ++ ys) ≡ xs

@@ -1,5 +1,5 @@
 -- The nodes of a decomposition: each gate reads nodes made before it.
-use Rattle.std.proofs.Common.{◌≡◌, ◌<◌, ◌≤◌, ◌+◌, ℕ, zero, suc, Bool, true, false, cond, List, [], ◌∷◌, ◌++◌, length, refl, ap, subst, ◌∙◌, ◌⊎◌, inl, inr, arith, append_assoc}
+use Rattle.std.proofs.Common.{◌≡◌, ◌<◌, ◌≤◌, ◌+◌, ℕ, zero, suc, Bool, true, false, cond, List, [], ◌∷◌, ◌++◌, length, map, refl, sym, ap, subst, ◌∙◌, ◌⊎◌, inl, inr, arith, append_assoc}
 use Rattle.std.specs.Prelude.{Some, None, Option, slice_get}
 use Rattle.std.specs.List.{AllByRecursion}
 use Rattle.rm_model.specs.Words.{is_word}
@@ -7,10 +7,12 @@ use Rattle.rm_model.specs.declared.parts.Literal.{Literal}
 use Rattle.rm_model.specs.declared.parts.Literal.TheVariants.{Zero, One, Any}
 use Rattle.rm_model.specs.declared.parts.Cover.{Cover}
 use Rattle.gate_net.specs.declared.Kind.{Kind}
-use Rattle.gate_net.specs.declared.Kind.TheVariants.{And, Or, Not}
+use Rattle.gate_net.specs.declared.Kind.TheVariants.{And, Or, Not, Xor}
 use Rattle.gate_net.specs.Net.{Node}
-use Rattle.cover_decompose.specs.Decomposition.{State, with_gate, with_not, literals, joined, term, terms, closed, cover_node, with_cover, with_covers}
+use Rattle.cover_decompose.specs.Decomposition.{State, with_gate, with_not, literals, joined, term, terms, closed, cover_node, node_by, with_cover, with_covers}
+use Rattle.cover_decompose.specs.Parity.{parity_ending}
 use Rattle.cover_decompose.specs.Inner.Built.{AllBelow, IsGateNode}
+use Rattle.cover_decompose.proofs.Parities.{is_parity}
 use Rattle.cover_decompose.proofs.Places.{get_parts, length-push}
 use Rattle.rm_base.specs.Words.{Word}
 
@@ -36,6 +38,21 @@ below_more n k (x ∷ xs) le h = (let lt : x < n = h.0 in omega arith, below_mor
 all_push : {A : Type 0} (P : A → Type 0) (xs : List A) (y : A) → AllByRecursion P xs → P y → AllByRecursion P (xs ++ y ∷ [])
 all_push P [] y h p = (p, tt)
 all_push P (x ∷ xs) y h p = (h.0, all_push P xs y h.1 p)
+
+-- a Not of one node, and a junction of some
+not_gate : (d : ℕ) → IsGateNode (record { kind = Not; drivers = d ∷ [] })
+not_gate d = record { kind = tt; one = λ e. (d, refl); two = λ e. absurd cc; reads = omega arith }
+
+junction_gate : (kind : Kind) (n i : ℕ) (ns : List ℕ) → (kind ≡ And) ⊎ (kind ≡ Or) → IsGateNode (record { kind = kind; drivers = n ∷ i ∷ ns })
+junction_gate kind n i ns (inl a) = let P : Kind → Type 0 = λ k. IsGateNode (record { kind = k; drivers = n ∷ i ∷ ns }) in subst P (sym a) (record { kind = tt; one = λ e. absurd cc; two = λ e. absurd cc; reads = omega arith })
+junction_gate kind n i ns (inr o) = let P : Kind → Type 0 = λ k. IsGateNode (record { kind = k; drivers = n ∷ i ∷ ns }) in subst P (sym o) (record { kind = tt; one = λ e. absurd cc; two = λ e. absurd cc; reads = omega arith })
+
+xor_gate : (ds : List ℕ) → (d e : ℕ) × (ds ≡ d ∷ e ∷ []) → IsGateNode (record { kind = Xor; drivers = ds })
+xor_gate ds h = record { kind = tt; one = λ e. absurd cc; two = λ e. h; reads = let two : length ds ≡ 2 = ap (λ (l : List ℕ). length l) h.2 in omega arith }
+
+each_below : (f : Word → ℕ) (n : ℕ) (xs : List Word) → ((x : Word) → f x < n) → AllBelow n (map f xs)
+each_below f n [] h = tt
+each_below f n (x ∷ xs) h = (h x, each_below f n xs h)
 
 module _ (first : List Node) where
   stays : (s : State) → IsMade first s → Grows first s s
@@ -80,7 +97,7 @@ module _ (first : List Node) where
   not_made s x None e h =
       let node : Node = record { kind = Not; drivers = s.node_of x ∷ [] } in
       let longer : length (s.made ++ node ∷ []) ≡ suc (length s.made) = length-push s.made node in
-      let g = gate_made s Not (s.node_of x ∷ []) h (record { kind = inr (inr (refl, (s.node_of x, refl))); reads = omega arith }) (h.nodes x, tt) in (
+      let g = gate_made s Not (s.node_of x ∷ []) h (not_gate (s.node_of x)) (h.nodes x, tt) in (
         record {
           made = record {
             gates = g.made.gates;
@@ -122,7 +139,7 @@ module _ (first : List Node) where
   joined_made s kind empty (n ∷ []) k lt h b = (stays s h, b.0)
   joined_made s kind empty (n ∷ i ∷ ns) k lt h b =
       let longer : length (s.made ++ record { kind = kind; drivers = n ∷ i ∷ ns } ∷ []) ≡ suc (length s.made) = length-push s.made _ in
-      (gate_made s kind (n ∷ i ∷ ns) h (record { kind = elim k [ inl a ↦ inl a | inr o ↦ inr (inl o) ]; reads = omega arith }) b, omega arith)
+      (gate_made s kind (n ∷ i ∷ ns) h (junction_gate kind n i ns k) b, omega arith)
 
   term_made : (s : State) (xs : List Word) (row : List Literal) → 1 < length s.made → IsMade first s → Grows first s (term s xs row).0 × ((term s xs row).1 < length (term s xs row).0.made)
   term_made s xs row one h =
@@ -143,16 +160,27 @@ module _ (first : List Node) where
   closed_made true t h lt = (stays t.0 h, lt)
   closed_made false t h lt =
       let longer : length (t.0.made ++ record { kind = Not; drivers = t.1 ∷ [] } ∷ []) ≡ suc (length t.0.made) = length-push t.0.made _ in
-      (gate_made t.0 Not (t.1 ∷ []) h (record { kind = inr (inr (refl, (t.1, refl))); reads = omega arith }) (lt, tt), omega arith)
+      (gate_made t.0 Not (t.1 ∷ []) h (not_gate t.1) (lt, tt), omega arith)
 
-  pub node_made : (s : State) (c : Cover) → 1 < length s.made → IsMade first s → Grows first s (cover_node s c).0 × ((cover_node s c).1 < length (cover_node s c).0.made)
-  node_made s c one h =
+  sum_made : (s : State) (c : Cover) (o : Option Bool) → parity_ending c ≡ o → 1 < length s.made → IsMade first s → Grows first s (node_by o s c).0 × ((node_by o s c).1 < length (node_by o s c).0.made)
+  sum_made s c (Some ends) p one h =
+      let inputs = (is_parity c ends p).inputs in
+      let drivers : List ℕ = map s.node_of c.inputs in
+      let two : (d e : ℕ) × (drivers ≡ d ∷ e ∷ []) = (s.node_of inputs.0, s.node_of inputs.1, ap (λ (l : List Word). map s.node_of l) inputs.2) in
+      let g = gate_made s Xor drivers h (xor_gate drivers two) (each_below s.node_of (length s.made) c.inputs h.nodes) in
+      let longer : length (s.made ++ record { kind = Xor; drivers = drivers } ∷ []) ≡ suc (length s.made) = length-push s.made _ in
+      let e = closed_made ends (with_gate s Xor drivers, length s.made) g.made (omega arith) in
+      (then_grows s (with_gate s Xor drivers) (node_by (Some ends) s c).0 g e.0, e.1)
+  sum_made s c None p one h =
       let r = terms_made s c.inputs c.rows one h in
       let t : State = (terms s c.inputs c.rows).0 in
       let sum : State × ℕ = joined Or 0 t (terms s c.inputs c.rows).1 in
       let j = joined_made t Or 0 (terms s c.inputs c.rows).1 (inr refl) (let le : length s.made ≤ length t.made = r.0.longer in omega arith) r.0.made r.1 in
       let e = closed_made c.on sum j.0.made j.1 in
-      (then_grows s sum.0 (cover_node s c).0 (then_grows s t sum.0 r.0 j.0) e.0, e.1)
+      (then_grows s sum.0 (node_by None s c).0 (then_grows s t sum.0 r.0 j.0) e.0, e.1)
+
+  pub node_made : (s : State) (c : Cover) → 1 < length s.made → IsMade first s → Grows first s (cover_node s c).0 × ((cover_node s c).1 < length (cover_node s c).0.made)
+  node_made s c one h = sum_made s c (parity_ending c) refl one h
 
   pub cover_made : (s : State) (c : Cover) → 1 < length s.made → IsMade first s → IsMade first (with_cover s c) × (length s.made ≤ length (with_cover s c).made)
   cover_made s c one h =

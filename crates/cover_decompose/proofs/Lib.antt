@@ -1,4 +1,6 @@
 pub mod Joins
+pub mod Parities
+pub mod Spelled
 pub mod Places
 pub mod Values
 pub mod Members

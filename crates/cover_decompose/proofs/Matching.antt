@@ -9,10 +9,11 @@ use Rattle.rm_model.specs.declared.parts.Literal.{Literal}
 use Rattle.rm_model.specs.declared.parts.Literal.TheVariants.{Zero, One, Any}
 use Rattle.rm_model.specs.declared.parts.Cover.{Cover}
 use Rattle.gate_net.specs.declared.Kind.{Kind}
-use Rattle.gate_net.specs.declared.Kind.TheVariants.{And, Or, Not}
+use Rattle.gate_net.specs.declared.Kind.TheVariants.{And, Or, Not, Xor}
 use Rattle.gate_net.specs.Net.{Node}
-use Rattle.cover_decompose.specs.Decomposition.{State, with_entry, with_gate, with_not, literals, joined, term, terms, closed, cover_node, with_cover, with_covers}
-use Rattle.cover_decompose.specs.Inner.Plan.{Planned, gate_planned, not_planned, not_of, literals_planned, joined_planned, term_planned, terms_planned, closed_planned, node_planned, cover_planned, one_planned, covers_planned}
+use Rattle.cover_decompose.specs.Decomposition.{State, with_entry, with_gate, with_not, literals, joined, term, terms, closed, cover_node, node_by, with_cover, with_covers}
+use Rattle.cover_decompose.specs.Parity.{parity_ending}
+use Rattle.cover_decompose.specs.Inner.Plan.{Planned, gate_planned, not_planned, not_of, literals_planned, joined_planned, term_planned, terms_planned, closed_planned, node_planned, planned_by, cover_planned, one_planned, covers_planned}
 use Rattle.cover_decompose.specs.Inner.Chosen.{AreNumbered, AtPlaces, Signals}
 use Rattle.cover_decompose.specs.Inner.Signals.{signal_of}
 use Rattle.rm_base.specs.Words.{Word}
@@ -140,12 +141,25 @@ module _ (names : List Word) where
   closed_match true p s n k h e = (h, e)
   closed_match false p s n k h e = (gate_matches p s Not (n ∷ []) (k ∷ []) h (ap (λ (i : ℕ). i ∷ []) e), ap (λ (l : List Node). length l) h.made)
 
-  node_match : (p : Planned) (s : State) (c : Cover) (ks : List ℕ) → Matches p s → Signals names c.inputs ks → Matches (node_planned p ks c).0 (cover_node s c).0 × ((node_planned p ks c).1 ≡ (cover_node s c).1)
-  node_match p s c ks h e =
+  nodes_match : (p : Planned) (s : State) (xs : List Word) (ks : List ℕ) → Matches p s → Signals names xs ks → map (slice_index p.nodes) ks ≡ map s.node_of xs
+  nodes_match p s [] [] h e = refl
+  nodes_match p s [] (k ∷ ks) h e = absurd e
+  nodes_match p s (x ∷ xs) [] h e = absurd e
+  nodes_match p s (x ∷ xs) (k ∷ ks) h e = rw (h.nodes x k e.0, nodes_match p s xs ks h e.1) refl
+
+  sum_match : (o : Option Bool) (p : Planned) (s : State) (c : Cover) (ks : List ℕ) → Matches p s → Signals names c.inputs ks → Matches (planned_by o p ks c).0 (node_by o s c).0 × ((planned_by o p ks c).1 ≡ (node_by o s c).1)
+  sum_match (Some ends) p s c ks h e =
+      let reads : map (slice_index p.nodes) ks ≡ map s.node_of c.inputs = nodes_match p s c.inputs ks h e in
+      closed_match ends (gate_planned p Xor (map (slice_index p.nodes) ks)) (with_gate s Xor (map s.node_of c.inputs)) (length p.made) (length s.made)
+      (gate_matches p s Xor (map (slice_index p.nodes) ks) (map s.node_of c.inputs) h reads) (ap (λ (l : List Node). length l) h.made)
+  sum_match None p s c ks h e =
       let t = terms_match p s c.inputs ks c.rows h e in
       let j = joined_matches (terms_planned p ks c.rows).0 (terms s c.inputs c.rows).0 Or 0 (terms_planned p ks c.rows).1 (terms s c.inputs c.rows).1 t.0 t.1 in
       closed_match c.on (joined_planned Or 0 (terms_planned p ks c.rows).0 (terms_planned p ks c.rows).1).0 (joined Or 0 (terms s c.inputs c.rows).0 (terms s c.inputs c.rows).1).0
       (joined_planned Or 0 (terms_planned p ks c.rows).0 (terms_planned p ks c.rows).1).1 (joined Or 0 (terms s c.inputs c.rows).0 (terms s c.inputs c.rows).1).1 j.0 j.1
+
+  node_match : (p : Planned) (s : State) (c : Cover) (ks : List ℕ) → Matches p s → Signals names c.inputs ks → Matches (node_planned p ks c).0 (cover_node s c).0 × ((node_planned p ks c).1 ≡ (cover_node s c).1)
+  node_match p s c ks h e = sum_match (parity_ending c) p s c ks h e
 
   pub cover_match : (p : Planned) (s : State) (c : Cover) (ks : List ℕ) (k : ℕ) → Matches p s → Signals names c.inputs ks → signal_of names c.output ≡ Some k → Matches (cover_planned p ks k c) (with_cover s c)
   cover_match p s c ks k h e at =

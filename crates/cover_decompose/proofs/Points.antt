@@ -1,5 +1,5 @@
 -- On which nodes the observed names stand, and which covers are taken.
-use Rattle.std.proofs.Common.{◌≡◌, ◌+◌, ℕ, zero, suc, Bool, true, false, cond, not, List, [], ◌∷◌, ◌++◌, map, refl, sym, ap, subst, ◌∙◌, ◌⊎◌, inl, inr, arith}
+use Rattle.std.proofs.Common.{◌≡◌, ◌+◌, ℕ, zero, suc, Bool, true, false, cond, not, List, [], ◌∷◌, ◌++◌, length, map, refl, sym, ap, subst, ◌∙◌, ◌⊎◌, inl, inr, arith}
 use Rattle.std.specs.Prelude.{Some, None, Option, slice_get, ◌&&◌}
 use Rattle.std.specs.Option.{option_map}
 use Rattle.std.specs.List.{list_any}
@@ -13,9 +13,10 @@ use Rattle.rm_model.specs.declared.parts.Literal.{Literal}
 use Rattle.rm_model.specs.declared.parts.Literal.TheVariants.{Zero, One, Any}
 use Rattle.rm_model.specs.declared.parts.Model.{Model}
 use Rattle.gate_net.specs.declared.Kind.{Kind}
-use Rattle.gate_net.specs.declared.Kind.TheVariants.{And, Or}
+use Rattle.gate_net.specs.declared.Kind.TheVariants.{And, Or, Xor}
 use Rattle.cover_decompose.specs.Needed.{is_needed, needed_of, taken, IsNeeded, observed, read}
-use Rattle.cover_decompose.specs.Decomposition.{State, cover_node, closed, joined, last_state, literals, net_of_model, source_node, start, term, terms, with_cover, with_covers, with_not}
+use Rattle.cover_decompose.specs.Decomposition.{State, cover_node, closed, joined, last_state, literals, net_of_model, node_by, source_node, start, term, terms, with_cover, with_covers, with_gate, with_not}
+use Rattle.cover_decompose.specs.Parity.{parity_ending}
 use Rattle.cover_decompose.specs.StandsFor.{HasPoints}
 use Rattle.cover_decompose.proofs.Members.{among_in, in_among}
 use Rattle.cover_decompose.proofs.Order.{Reading, outputs_onto}
@@ -100,8 +101,12 @@ closed_nodes : (on : Bool) (t : State × ℕ) → (closed on t).0.node_of ≡ t.
 closed_nodes true t = refl
 closed_nodes false t = refl
 
+sum_nodes : (o : Option Bool) (s : State) (c : Cover) → (node_by o s c).0.node_of ≡ s.node_of
+sum_nodes (Some ends) s c = closed_nodes ends (with_gate s Xor (map s.node_of c.inputs), length s.made)
+sum_nodes None s c = closed_nodes c.on (joined Or 0 (terms s c.inputs c.rows).0 (terms s c.inputs c.rows).1) ∙ (joined_nodes Or 0 (terms s c.inputs c.rows).0 (terms s c.inputs c.rows).1 ∙ terms_nodes s c.inputs c.rows)
+
 cover_nodes : (s : State) (c : Cover) → (cover_node s c).0.node_of ≡ s.node_of
-cover_nodes s c = closed_nodes c.on (joined Or 0 (terms s c.inputs c.rows).0 (terms s c.inputs c.rows).1) ∙ (joined_nodes Or 0 (terms s c.inputs c.rows).0 (terms s c.inputs c.rows).1 ∙ terms_nodes s c.inputs c.rows)
+cover_nodes s c = sum_nodes (parity_ending c) s c
 
 other_kept : (s : State) (cs : List Cover) (x : Word) → ((c : Cover) → In cs c → c.output ≡ x → ⊥) → (with_covers s cs).node_of x ≡ s.node_of x
 other_kept s [] x h = refl

@@ -9,12 +9,15 @@ use Rattle.rm_model.specs.declared.parts.Literal.{Literal}
 use Rattle.rm_model.specs.declared.parts.Literal.TheVariants.{Zero, One, Any}
 use Rattle.rm_model.specs.declared.parts.Cover.{Cover}
 use Rattle.gate_net.specs.declared.Kind.{Kind}
-use Rattle.gate_net.specs.declared.Kind.TheVariants.{And, Or}
+use Rattle.gate_net.specs.declared.Kind.TheVariants.{And, Or, Xor}
 use Rattle.gate_net.specs.Net.{Node}
-use Rattle.gate_net.specs.Values.{gate_value}
-use Rattle.cover_decompose.specs.Decomposition.{State, with_entry, with_not, literals, joined, term, terms, closed, cover_node, with_cover, with_covers}
+use Rattle.gate_net.specs.Values.{gate_value, parity}
+use Rattle.gate_net.proofs.Public.{not_is}
+use Rattle.cover_decompose.specs.Decomposition.{State, with_entry, with_gate, with_not, literals, joined, term, terms, closed, cover_node, node_by, with_cover, with_covers}
+use Rattle.cover_decompose.specs.Parity.{parity_ending}
 use Rattle.cover_decompose.proofs.Joins.{junction-and, junction-or, and-true, or-false}
 use Rattle.cover_decompose.proofs.Order.{Reading, AreAmong, outputs_onto}
+use Rattle.cover_decompose.proofs.Parities.{ended, is_parity, parity_value}
 use Rattle.rm_model.specs.Value.{is_among}
 use Rattle.rm_base.proofs.Public.{front_stands, seam_stands}
 use Rattle.rm_base.specs.Words.{Word}
@@ -56,7 +59,7 @@ module _ (val a : ℕ → Bool) (v : Word → Bool) where
   with_not-value s x (Some n) e here nots h = (nots x n e, record { meets = h; nodes = refl; nots = nots })
   with_not-value s x None e here nots h =
       let parts = front_meets s.made _ h in
-      let made : val (length s.made) ≡ not (v x) = parts.1 ∙ ap not here in
+      let made : val (length s.made) ≡ not (v x) = parts.1 ∙ (not_is (val (s.node_of x)) ∙ ap not here) in
       (made, record { meets = parts.0; nodes = refl; nots = not_entry s.not_of x (length s.made) made nots })
 
   known_after : (s t : State) (xs : List Word) → t.node_of ≡ s.node_of → Known s.node_of xs → Known t.node_of xs
@@ -150,17 +153,31 @@ module _ (val a : ℕ → Bool) (v : Word → Bool) where
 
   closed-value : (on : Bool) (t : State × ℕ) → NotsKnown t.0.not_of → Meets (closed on t).0.made → (val (closed on t).1 ≡ cond on (val t.1) (not (val t.1))) × Goes t.0 (closed on t).0
   closed-value true t nots h = (refl, stays t.0 h nots)
-  closed-value false t nots h = let parts = front_meets t.0.made _ h in (parts.1, record { meets = parts.0; nodes = refl; nots = nots })
+  closed-value false t nots h = let parts = front_meets t.0.made _ h in (parts.1 ∙ not_is (val t.1), record { meets = parts.0; nodes = refl; nots = nots })
 
-  cover-meets : (s : State) (c : Cover) → Meets (cover_node s c).0.made → Meets s.made
-  cover-meets s c h =
+  sum-meets : (o : Option Bool) (s : State) (c : Cover) → Meets (node_by o s c).0.made → Meets s.made
+  sum-meets (Some ends) s c h = (front_meets s.made _ (closed-meets ends (with_gate s Xor (map s.node_of c.inputs), length s.made) h)).0
+  sum-meets None s c h =
       let t : State = (terms s c.inputs c.rows).0 in
       let ns : List ℕ = (terms s c.inputs c.rows).1 in
       terms-meets s c.inputs c.rows (joined-meets Or 0 t ns (closed-meets c.on (joined Or 0 t ns) h))
 
+  cover-meets : (s : State) (c : Cover) → Meets (cover_node s c).0.made → Meets s.made
+  cover-meets s c h = sum-meets (parity_ending c) s c h
+
+  reads_known : (f : Word → ℕ) (xs : List Word) → Known f xs → map val (map f xs) ≡ map v xs
+  reads_known f [] h = refl
+  reads_known f (x ∷ xs) h = rw (h.0, reads_known f xs h.1) refl
+
   -- a cover's node is worth the cover's value, where its rows, if there are none, end in 1
-  pub cover-value : (s : State) (c : Cover) → val 0 ≡ false → val 1 ≡ true → (c.rows ≡ [] → c.on ≡ true) → Known s.node_of c.inputs → NotsKnown s.not_of → Meets (cover_node s c).0.made → (val (cover_node s c).1 ≡ value_of c (map v c.inputs)) × Goes s (cover_node s c).0
-  cover-value s c none one empty known nots h =
+  sum-value : (o : Option Bool) (s : State) (c : Cover) → parity_ending c ≡ o → val 0 ≡ false → val 1 ≡ true → (c.rows ≡ [] → c.on ≡ true) → Known s.node_of c.inputs → NotsKnown s.not_of → Meets (node_by o s c).0.made → (val (node_by o s c).1 ≡ value_of c (map v c.inputs)) × Goes s (node_by o s c).0
+  sum-value (Some ends) s c p none one empty known nots h =
+      let sum : State × ℕ = (with_gate s Xor (map s.node_of c.inputs), length s.made) in
+      let parts = front_meets s.made _ (closed-meets ends sum h) in
+      let xor : val (length s.made) ≡ parity false (map v c.inputs) = parts.1 ∙ ap (λ (bs : List Bool). parity false bs) (reads_known s.node_of c.inputs known) in
+      let end = closed-value ends sum nots h in
+      (end.0 ∙ (ap (λ (b : Bool). ended ends b) xor ∙ sym (parity_value c ends v (is_parity c ends p))), then_goes s sum.0 (node_by (Some ends) s c).0 (record { meets = parts.0; nodes = refl; nots = nots }) end.1)
+  sum-value None s c p none one empty known nots h =
       let t : State = (terms s c.inputs c.rows).0 in
       let ns : List ℕ = (terms s c.inputs c.rows).1 in
       let sum : State × ℕ = joined Or 0 t ns in
@@ -169,7 +186,7 @@ module _ (val a : ℕ → Bool) (v : Word → Bool) where
       let total : val sum.1 ≡ list_any (λ row. row_matches row (map v c.inputs)) c.rows = or-value t ns none meets ∙ rows.0 in
       let summed = joined-goes Or 0 t ns rows.1.nots meets in
       let end = closed-value c.on sum summed.nots h in
-      (end.0 ∙ rw total (by_rows c.rows c.on (map v c.inputs) empty), then_goes s sum.0 (cover_node s c).0 (then_goes s t sum.0 rows.1 summed) end.1)
+      (end.0 ∙ rw total (by_rows c.rows c.on (map v c.inputs) empty), then_goes s sum.0 (node_by None s c).0 (then_goes s t sum.0 rows.1 summed) end.1)
     where
       turned : (on a : Bool) → cond on a (not a) ≡ cond a on (not on)
       turned true true = refl
@@ -180,6 +197,9 @@ module _ (val a : ℕ → Bool) (v : Word → Bool) where
       by_rows : (rows : List (List Literal)) (on : Bool) (bs : List Bool) → (rows ≡ [] → on ≡ true) → cond on (list_any (λ row. row_matches row bs) rows) (not (list_any (λ row. row_matches row bs) rows)) ≡ value_of_rows rows on bs
       by_rows [] on bs empty = rw (empty refl) refl
       by_rows (r ∷ rs) on bs empty = turned on (list_any (λ row. row_matches row bs) (r ∷ rs))
+
+  pub cover-value : (s : State) (c : Cover) → val 0 ≡ false → val 1 ≡ true → (c.rows ≡ [] → c.on ≡ true) → Known s.node_of c.inputs → NotsKnown s.not_of → Meets (cover_node s c).0.made → (val (cover_node s c).1 ≡ value_of c (map v c.inputs)) × Goes s (cover_node s c).0
+  cover-value s c none one empty known nots h = sum-value (parity_ending c) s c refl none one empty known nots h
 
   -- what is among these names is worth what the signals are
   abbrev pub KnownAmong : (Word → ℕ) → List Word → Type 0

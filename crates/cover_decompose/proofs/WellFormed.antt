@@ -7,8 +7,8 @@ use Rattle.std.proofs.lemmas.Option.{slice_get-map, slice_get_within}
 use Rattle.rm_model.specs.Value.{source_names, observed_names}
 use Rattle.rm_model.specs.declared.parts.Model.{Model}
 use Rattle.gate_net.specs.declared.Kind.{Kind}
-use Rattle.gate_net.specs.declared.Kind.TheVariants.{Source, Zero, One, Not}
-use Rattle.gate_net.specs.Net.{Node, node_at, drivers_of, drivers_in, flatten_option, IsKind, Reads, source_count, source_in, count_in, trimmed, IsWellFormed, IsGate, IsGateKind, wire_count}
+use Rattle.gate_net.specs.declared.Kind.TheVariants.{Source, Zero, One, And, Or, Not, Xor}
+use Rattle.gate_net.specs.Net.{Node, node_at, drivers_in, flatten_option, IsKind, Reads, source_count, source_in, count_in, trimmed, IsWellFormed, IsGate, IsGateKind, wire_count}
 use Rattle.cover_decompose.specs.Inner.Built.{AllBelow, IsGateNode}
 use Rattle.cover_decompose.specs.Needed.{taken}
 use Rattle.cover_decompose.specs.Decomposition.{plain, start, last_state, net_of_model}
@@ -65,11 +65,20 @@ all_live (x ∷ xs) = ap (λ (ys : List (Option Node)). Some x ∷ ys) (all_live
 source_of : Node → ℕ
 source_of n = source_in n.kind
 
+no_source : (kind : Kind) → IsGateKind kind → source_in kind ≡ 0
+no_source Source g = absurd g
+no_source Zero g = refl
+no_source One g = refl
+no_source And g = refl
+no_source Or g = refl
+no_source Not g = refl
+no_source Xor g = refl
+
 no_sources : (gates : List Node) → AllByRecursion IsGateNode gates → total (λ (n : Node). source_in n.kind) gates ≡ 0
 no_sources [] h = refl
 no_sources (g ∷ gates) h =
     let rest : total (λ (n : Node). source_in n.kind) gates ≡ 0 = no_sources gates h.1 in
-    let here : source_in g.kind ≡ 0 = elim h.0.kind [ inl e ↦ ap source_in e | inr r ↦ elim r [ inl e ↦ ap source_in e | inr n ↦ ap source_in n.0 ] ] in
+    let here : source_in g.kind ≡ 0 = no_source g.kind h.0.kind in
     omega arith
 
 each_source : (n : ℕ) → total (λ (n : Node). source_in n.kind) (replicate n (plain Source)) ≡ n
@@ -104,14 +113,18 @@ module _ (m : Model) where
   by_kind x kind k = (record { kind = kind; drivers = k.0 }, (there_node (last_state m).made (net_of_model m).observed x (record { kind = kind; drivers = k.0 }) k.1, refl))
 
   gate_kind : (n : Node) → IsGateNode n → (n.kind ≡ Zero → ⊥) × ((n.kind ≡ One → ⊥) × (n.kind ≡ Source → ⊥))
-  gate_kind n g =
-      elim g.kind [
-        | inl a ↦ ((λ e. absurd cc), ((λ e. absurd cc), (λ e. absurd cc)))
-        | inr r ↦ elim r [
-          | inl a ↦ ((λ e. absurd cc), ((λ e. absurd cc), (λ e. absurd cc)))
-          | inr b ↦ let a : n.kind ≡ Not = b.0 in ((λ e. absurd cc), ((λ e. absurd cc), (λ e. absurd cc)))
-        ]
-      ]
+  gate_kind n g = let P : Kind → Type 0 = λ k. IsGateKind k in ((λ e. subst P e g.kind), ((λ e. subst P e g.kind), (λ e. subst P e g.kind)))
+
+  placed_gate : (y : ℕ) (n : Node) → IsPlaced (length (source_names m)) y n → IsGateKind n.kind → IsGateNode n
+  placed_gate y n (inl a) g = absurd (let P : Kind → Type 0 = λ k. IsGateKind k in subst P a.1 g)
+  placed_gate y n (inr (inl a)) g = absurd (let P : Kind → Type 0 = λ k. IsGateKind k in subst P a.1 g)
+  placed_gate y n (inr (inr (inl a))) g = absurd (let P : Kind → Type 0 = λ k. IsGateKind k in subst P a.1 g)
+  placed_gate y n (inr (inr (inr a))) g = a.1
+
+  -- what is known of a gate of this kind
+  gate_of : (y : ℕ) (kind : Kind) (k : IsKind (net_of_model m) y kind) → IsGateKind kind → IsGateNode (record { kind = kind; drivers = k.0 })
+  unfolding by_kind
+  gate_of y kind k g = let n = by_kind y kind k in placed_gate y (record { kind = kind; drivers = k.0 }) (placed y n.0 n.1.0) g
 
   reader : (y p x : ℕ) → Reads (net_of_model m) y p x → (n : Node) × ((slice_get (last_state m).made y ≡ Some n) × (slice_get n.drivers p ≡ Some x))
   reader y p x r = by_node (node_at (net_of_model m) y) refl r
@@ -143,7 +156,8 @@ module _ (m : Model) where
         | inr r ↦ elim r [ inl a ↦ (let e : n.0.kind ≡ Source = n.1.1 in let f : n.0.kind ≡ One = a.1 in absurd cc) | inr s ↦ elim s [ inl a ↦ (a.0.0, (let e : source_count (net_of_model m) ≡ length (source_names m) = sources_are in let lt : x < 2 + length (source_names m) = a.0.1 in omega arith)) | inr g ↦ absurd ((gate_kind n.0 g.1).1.1 n.1.1) ] ]
       ];
     };
-    nots_have_one = λ y k. one_driver y k;
+    nots_have_one = λ y k. let d = (gate_of y Not k tt).one refl in (d.0, ap drivers_in k.1 ∙ d.1);
+    xors_have_two = λ y k. let d = (gate_of y Xor k tt).two refl in (d.0, d.1, ap drivers_in k.1 ∙ d.2);
     drivers_live = λ y p x r. let lt : x < y = reads_lower y p x r in let within : y < length (last_state m).made = reader_within y p x r in is_live (last_state m).made (net_of_model m).observed x (omega arith);
     observed_live = λ x o. is_live (last_state m).made (net_of_model m).observed x (observed_within x o.0 o.1);
     canonical = all_live (last_state m).made;
@@ -161,24 +175,6 @@ module _ (m : Model) where
           by_name : (o : Option Word) → option_map (last_state m).node_of o ≡ Some x → x < length (last_state m).made
           by_name None e = absurd cc
           by_name (Some w) e = let is : (last_state m).node_of w ≡ x = cc in let lt : (last_state m).node_of w < length (last_state m).made = made.nodes w in omega arith
-
-      one_driver : (y : ℕ) → IsKind (net_of_model m) y Not → (d : ℕ) × (drivers_of (net_of_model m) y ≡ d ∷ [])
-      one_driver y k =
-          let n = by_kind y Not k in
-          let is : drivers_of (net_of_model m) y ≡ n.0.drivers = ap drivers_in k.1 in
-          elim (placed y n.0 n.1.0) [
-            | inl a ↦ (let e : n.0.kind ≡ Not = n.1.1 in let f : n.0.kind ≡ Zero = a.1 in absurd cc)
-            | inr r ↦ elim r [
-              | inl a ↦ (let e : n.0.kind ≡ Not = n.1.1 in let f : n.0.kind ≡ One = a.1 in absurd cc)
-              | inr s ↦ elim s [
-                | inl a ↦ (let e : n.0.kind ≡ Not = n.1.1 in let f : n.0.kind ≡ Source = a.1 in absurd cc)
-                | inr g ↦ elim g.1.kind [
-                  | inl a ↦ (let e : n.0.kind ≡ Not = n.1.1 in absurd cc)
-                  | inr b ↦ elim b [ inl a ↦ (let e : n.0.kind ≡ Not = n.1.1 in absurd cc) | inr d ↦ (d.1.0, is ∙ d.1.1) ]
-                ]
-              ]
-            ]
-          ]
 
   -- gates come after the sources
   pub gates_after : (x : ℕ) → IsGate (net_of_model m) x → 2 + length (source_names m) ≤ x

@@ -1,5 +1,5 @@
 -- A decomposition has as many wires as are counted over the covers.
-use Rattle.std.proofs.Common.{◌≡◌, ◌+◌, ℕ, suc, Bool, true, false, cond, List, [], ◌∷◌, ◌++◌, length, refl, sym, ap, subst, ◌∙◌, arith}
+use Rattle.std.proofs.Common.{◌≡◌, ◌+◌, ℕ, suc, Bool, true, false, cond, List, [], ◌∷◌, ◌++◌, length, map, refl, sym, ap, subst, ◌∙◌, arith}
 use Rattle.std.specs.Prelude.{Some, None, Option, is_some, ◌||◌, sum_by}
 use Rattle.std.specs.List.{AllByRecursion, flat_map}
 use Rattle.rm_model.specs.Words.{is_word}
@@ -8,10 +8,12 @@ use Rattle.rm_model.specs.declared.parts.Literal.{Literal}
 use Rattle.rm_model.specs.declared.parts.Literal.TheVariants.{Zero, One, Any}
 use Rattle.rm_model.specs.declared.parts.Cover.{Cover}
 use Rattle.gate_net.specs.declared.Kind.{Kind}
-use Rattle.gate_net.specs.declared.Kind.TheVariants.{And, Or, Not}
+use Rattle.gate_net.specs.declared.Kind.TheVariants.{And, Or, Not, Xor}
 use Rattle.gate_net.specs.Net.{Node}
-use Rattle.cover_decompose.specs.Decomposition.{State, with_entry, with_gate, with_not, literals, joined, term, terms, closed, cover_node, with_cover, with_covers}
-use Rattle.cover_decompose.specs.Count.{literal_count, joining, cover_wires, zero_names, cover_zero_names, new_count}
+use Rattle.cover_decompose.specs.Decomposition.{State, with_entry, with_gate, with_not, literals, joined, term, terms, closed, node_by, with_cover, with_covers}
+use Rattle.cover_decompose.specs.Count.{literal_count, joining, cover_wires, wires_by, zero_names, cover_zero_names, new_count, zero_names_by}
+use Rattle.cover_decompose.specs.Parity.{parity_ending}
+use Rattle.cover_decompose.proofs.Parities.{is_parity}
 use Rattle.cover_decompose.proofs.Sums.{total, total-append, sum-total}
 use Rattle.rm_base.specs.Words.{Word}
 
@@ -145,23 +147,37 @@ closed_wires false t earlier h = record { wires_are = gate_wires t.0 Not (t.1 �
 abbrev pub AreEven : Cover → Type 0
 AreEven c = AllByRecursion (λ (r : List Literal). length r ≡ length c.inputs) c.rows
 
-cover_counts : (s : State) (c : Cover) (earlier : List Word) → AreEven c → NotsAre earlier s.not_of → Counts s (with_cover s c) (cover_wires c + new_count earlier (cover_zero_names c)) (seen earlier (cover_zero_names c))
-cover_counts s c earlier len h =
+-- an Xor of two nodes, and the Not that may close it
+parity_counts : (s : State) (c : Cover) (ends : Bool) (earlier : List Word) → parity_ending c ≡ Some ends → NotsAre earlier s.not_of → Counts s (node_by (Some ends) s c).0 (wires_by (Some ends) c + 0) earlier
+parity_counts s c ends earlier p h =
+    let drivers : List ℕ = map s.node_of c.inputs in
+    let two : length drivers ≡ 2 = ap (λ (l : List Word). length (map s.node_of l)) (is_parity c ends p).inputs.2 in
+    let made : wires (with_gate s Xor drivers) ≡ wires s + length drivers = gate_wires s Xor drivers in
+    let sum : Counts s (with_gate s Xor drivers) 2 earlier = record { wires_are = made ∙ ap (λ (n : ℕ). wires s + n) two; nots = h } in
+    counts_same s (node_by (Some ends) s c).0 (2 + cond ends 0 1) (wires_by (Some ends) c + 0) earlier earlier (omega arith) refl
+    (then_counts s (with_gate s Xor drivers) (node_by (Some ends) s c).0 2 (cond ends 0 1) earlier earlier sum (closed_wires ends (with_gate s Xor drivers, length s.made) earlier h))
+
+sum_counts : (o : Option Bool) (s : State) (c : Cover) (earlier : List Word) → parity_ending c ≡ o → AreEven c → NotsAre earlier s.not_of → Counts s (node_by o s c).0 (wires_by o c + new_count earlier (zero_names_by o c)) (seen earlier (zero_names_by o c))
+sum_counts (Some ends) s c earlier p len h = parity_counts s c ends earlier p h
+sum_counts None s c earlier p len h =
     let t : State = (terms s c.inputs c.rows).0 in
     let ns : List ℕ = (terms s c.inputs c.rows).1 in
     let sum : State × ℕ = joined Or 0 t ns in
-    let names : List Word = seen earlier (cover_zero_names c) in
+    let names : List Word = seen earlier (zero_names_by None c) in
     let rows = terms_wires s c.inputs c.rows earlier len h in
     let summed = counts_same t sum.0 (joining (length ns)) (joining (length c.rows)) names names (ap joining (terms_length s c.inputs c.rows)) refl (joined_wires t Or 0 ns names rows.nots) in
     let end = closed_wires c.on sum names summed.nots in
     let literal_wires : ℕ = total (λ row. joining (literal_count row)) c.rows in
     let is : sum_by (λ row. joining (literal_count row)) c.rows ≡ literal_wires = sum-total (λ row. joining (literal_count row)) c.rows in
-    let new : ℕ = new_count earlier (cover_zero_names c) in
-    let all = then_counts s sum.0 (cover_node s c).0 ((literal_wires + new) + joining (length c.rows)) (cond c.on 0 1) names names (then_counts s t sum.0 (literal_wires + new) (joining (length c.rows)) names names rows summed) end in
+    let new : ℕ = new_count earlier (zero_names_by None c) in
+    let all = then_counts s sum.0 (node_by None s c).0 ((literal_wires + new) + joining (length c.rows)) (cond c.on 0 1) names names (then_counts s t sum.0 (literal_wires + new) (joining (length c.rows)) names names rows summed) end in
     record { wires_are = all.wires_are ∙ ap (λ (n : ℕ). wires s + n) (count_is literal_wires (sum_by (λ row. joining (literal_count row)) c.rows) new (joining (length c.rows)) (cond c.on 0 1) is); nots = all.nots }
   where
     count_is : (l k n j o : ℕ) → k ≡ l → ((l + n) + j) + o ≡ ((k + j) + o) + n
     count_is l k n j o e = omega arith
+
+cover_counts : (s : State) (c : Cover) (earlier : List Word) → AreEven c → NotsAre earlier s.not_of → Counts s (with_cover s c) (cover_wires c + new_count earlier (cover_zero_names c)) (seen earlier (cover_zero_names c))
+cover_counts s c earlier len h = let sum = sum_counts (parity_ending c) s c earlier refl len h in record { wires_are = sum.wires_are; nots = sum.nots }
 
 pub covers_counts : (s : State) (cs : List Cover) (earlier : List Word) → AllByRecursion AreEven cs → NotsAre earlier s.not_of → wires (with_covers s cs) ≡ wires s + (total cover_wires cs + new_count earlier (flat_map cover_zero_names cs))
 covers_counts s [] earlier len h = omega arith

@@ -1,4 +1,4 @@
--- The net of a model: each needed cover is an Or of Ands of literals, closed by a Not where its rows end in 0.
+-- The net of a model: each needed cover is an Xor of its inputs or an Or of Ands of literals, closed by a Not where it ends in 0.
 use Rattle.std.specs.Prelude.{ℕ, suc, Bool, true, false, List, [], ◌∷◌, ◌++◌, map, length, replicate, if◌then◌else◌, Option, None, Some}
 use Rattle.rm_model.specs.Words.{is_word}
 use Rattle.rm_model.specs.Value.{source_names, observed_names}
@@ -7,10 +7,11 @@ use Rattle.rm_model.specs.declared.parts.Literal.TheVariants.{Zero, One, Any}
 use Rattle.rm_model.specs.declared.parts.Cover.{Cover}
 use Rattle.rm_model.specs.declared.parts.Model.{Model}
 use Rattle.gate_net.specs.declared.Kind.{Kind}
-use Rattle.gate_net.specs.declared.Kind.TheVariants.{Source, And, Or, Not}
+use Rattle.gate_net.specs.declared.Kind.TheVariants.{Source, And, Or, Not, Xor}
 use Rattle.gate_net.specs.declared.Kind.TheVariants as kind
 use Rattle.gate_net.specs.Net.{Node, Net}
 use Rattle.cover_decompose.specs.Needed.{taken}
+use Rattle.cover_decompose.specs.Parity.{parity_ending}
 use Rattle.rm_base.specs.Words.{Word}
 
 -- what is made so far: the nodes by number, the node of each signal, and the Not of each signal that was read as 0
@@ -54,14 +55,18 @@ abbrev pub terms : State → List Word → List (List Literal) → State × List
 terms s inputs [] = (s, [])
 terms s inputs (r ∷ rs) = let t = term s inputs r in let u = terms t.0 inputs rs in (u.0, t.1 ∷ u.1)
 
--- a Not closes the sum where the rows end in 0
+-- a Not closes the sum where it ends in 0
 abbrev pub closed : Bool → State × ℕ → State × ℕ
 closed true t = t
 closed false t = (with_gate t.0 Not (t.1 ∷ []), length t.0.made)
 
--- a cover's sum: an Or of its terms, and Zero if it has none
+-- a cover's sum: an Xor of a parity cover's inputs; else an Or of its terms, and Zero if it has none
+abbrev pub node_by : Option Bool → State → Cover → State × ℕ
+node_by (Some ends) s c = closed ends (with_gate s Xor (map s.node_of c.inputs), length s.made)
+node_by None s c = let t = terms s c.inputs c.rows in closed c.on (joined Or 0 t.0 t.1)
+
 abbrev pub cover_node : State → Cover → State × ℕ
-cover_node s c = let t = terms s c.inputs c.rows in closed c.on (joined Or 0 t.0 t.1)
+cover_node s c = node_by (parity_ending c) s c
 
 abbrev pub with_cover : State → Cover → State
 with_cover s c = let t = cover_node s c in record t.0 { node_of = with_entry t.0.node_of c.output t.1 }

@@ -1,7 +1,9 @@
 pub mod Limits
 pub mod Needed
+pub mod Parity
 pub mod Decomposition
 pub mod Count
+pub mod Spelled
 pub mod StandsFor
 pub mod Rows
 pub mod Built

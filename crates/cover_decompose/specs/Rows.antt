@@ -1,10 +1,10 @@
 -- Models that are worked out by hand, and the gates of their nets.
-use Rattle.std.specs.Prelude.{ℕ, true, false, List, [], ◌∷◌, ◌++◌, Some, codes, map}
+use Rattle.std.specs.Prelude.{ℕ, Bool, true, false, List, [], ◌∷◌, ◌++◌, Some, codes, map}
 use Rattle.rm_model.specs.declared.parts.Literal.{Literal}
 use Rattle.rm_model.specs.declared.parts.Literal.TheVariants.{Zero, One, Any}
 use Rattle.rm_model.specs.declared.parts.Cover.{Cover}
 use Rattle.rm_model.specs.declared.parts.Model.{Model}
-use Rattle.gate_net.specs.declared.Kind.TheVariants.{And, Or, Not}
+use Rattle.gate_net.specs.declared.Kind.TheVariants.{And, Or, Not, Xor}
 use Rattle.gate_net.specs.Net.{Node, Net}
 use Rattle.cover_decompose.specs.Decomposition.{start}
 use Rattle.rm_base.specs.Words.{Word}
@@ -24,6 +24,9 @@ or_gate drivers = record { kind = Or; drivers = drivers }
 
 abbrev pub not_gate : ℕ → Node
 not_gate driver = record { kind = Not; drivers = driver ∷ [] }
+
+abbrev pub xor_gate : ℕ → ℕ → Node
+xor_gate one other = record { kind = Xor; drivers = one ∷ other ∷ [] }
 
 -- a row of one literal, and a row that it covers
 abbrev pub r2 : Model
@@ -54,6 +57,22 @@ mux = model_with (codes "mux") (codes "s" ∷ codes "a" ∷ codes "b" ∷ []) (c
 -- constants: no rows, one row without literals, and two such rows
 abbrev pub constant : List (List Literal) → Model
 constant rows = model_with (codes "r6") [] (codes "z" ∷ []) (record { inputs = []; output = codes "z"; on = true; rows = rows } ∷ [])
+
+-- one cover of these inputs, with two rows of this ending
+abbrev pub two_rows : List Word → Bool → List Literal → List Literal → Model
+two_rows inputs on first second = model_with (codes "x") (codes "a" ∷ codes "b" ∷ []) (codes "z" ∷ [])
+    (record { inputs = inputs; output = codes "z"; on = on; rows = first ∷ second ∷ [] } ∷ [])
+
+-- whether two inputs differ, and whether they agree, by rows of either ending
+abbrev pub differ : Bool → Model
+differ on = two_rows (codes "a" ∷ codes "b" ∷ []) on (One ∷ Zero ∷ []) (Zero ∷ One ∷ [])
+
+abbrev pub agree : Bool → Model
+agree on = two_rows (codes "a" ∷ codes "b" ∷ []) on (Zero ∷ Zero ∷ []) (One ∷ One ∷ [])
+
+-- the same rows over one name twice
+abbrev pub twice : Model
+twice = two_rows (codes "a" ∷ codes "a" ∷ []) true (One ∷ Zero ∷ []) (Zero ∷ One ∷ [])
 
 -- a later cover that reads an earlier one only through `-`, and one that nothing needs
 abbrev pub dashed : Model

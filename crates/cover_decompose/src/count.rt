@@ -3,6 +3,7 @@ ghost use Rattle.std.specs.Prelude.{◌≡◌, ◌<◌, ◌≤◌, ◌+◌, ◌^
 ghost use Rattle.cover_decompose.specs.Count.{is_read as is_read_literal, joining as joining_wires, literal_count as count_of_literals};
 ghost use Rattle.cover_decompose.specs.Inner.Tally.{AreEven, cover_tally, covers_tally, literal_tally, one_tally, row_tally, rows_tally, zeros_tally};
 
+use crate::parity::parity_ending;
 use rm_base::NoMemory;
 use rm_model::{Cover, Literal, Row};
 use std::alloc::Global;
@@ -93,6 +94,9 @@ fn cover_wires(seen: &mut [bool], inputs: &[u32], cover: &Cover) -> u64
     requires fits { (cover_tally seen.old inputs.now cover.now).0 < 2 ^ 64 }
     ensures { (result, seen.new) ≡ cover_tally seen.old inputs.now cover.now }
 {
+    if let Some(ends) = parity_ending(cover) {
+        return if ends { 2 } else { 3 };
+    }
     let rows = rows_wires(seen, inputs, cover.rows.items());
     let sum = wires_to_join(cover.rows.len());
     let closing = if cover.on { 0 } else { 1 };

@@ -114,7 +114,7 @@ fn numbered_graph(
     Ok(graph)
 }
 
-/// Makes the graph of a model: its sources, and each needed cover as an Or of Ands of literals.
+/// Makes the graph of a model: its sources, and each needed cover as an Xor of its inputs or an Or of Ands of literals.
 pub fn decompose(alloc: Global, model: &RankedModel) -> Result<Graph, DecomposeRefusal>
     requires formed { IsWellFormed model.now }
     requires ranked { first_without_rank model.now ≡ None }

@@ -2,12 +2,13 @@
 ghost use Rattle.std.specs.Prelude.{◌≡◌, ◌<◌, ◌+◌, ◌≤◌, ◌^◌, ◌++◌, ◌∷◌, length, map, replicate, All, IfOk, OnOk, None, slice_get, slice_index};
 ghost use Rattle.cover_decompose.specs.Decomposition.{plain as plain_node};
 ghost use Rattle.cover_decompose.specs.Inner.Tally.{AreEven};
-ghost use Rattle.gate_net.specs.declared.Kind.TheVariants.{Source, Zero, One};
+ghost use Rattle.gate_net.specs.declared.Kind.TheVariants.{Source, Xor, Zero, One};
 ghost use Rattle.std.specs.Option.{option_to_list};
 ghost use Rattle.cover_decompose.specs.Inner.PlanView.{node_of_plan};
 ghost use Rattle.cover_decompose.specs.Inner.Plan.{closed_planned, counting, cover_planned, covers_planned, gate_planned, joined_planned, literal_planned, literals_planned, node_planned, not_of, not_planned, one_planned, start_planned, term_planned, terms_planned};
 ghost use Rattle.rm_base.specs.Numbers.{first_source};
 
+use crate::parity::parity_ending;
 use gate_net::Kind;
 use rm_base::{FIRST_SOURCE, NoMemory};
 use rm_model::{Cover, Literal, Row};
@@ -234,6 +235,27 @@ impl Plan {
         self.gate(Kind::Not, Vec::from_array(self.alloc, [node])?)
     }
 
+    fn nodes_of(&self, signals: &[u32]) -> Result<Vec<usize>, NoMemory>
+        requires { All (λ k. k < length self.now.nodes) signals.now }
+        ensures { IfOk result (λ ns. ns.items ≡ map (slice_index self.now.nodes) signals.now) }
+    {
+        let mut nodes = Vec::new(self.alloc);
+        for signal in signals {
+            nodes.push(self.nodes[*signal as usize])?;
+        }
+        Ok(nodes)
+    }
+
+    fn parity(&mut self, inputs: &[u32]) -> Result<usize, NoMemory>
+        requires { All (λ k. k < length self.old.nodes) inputs.now }
+        ensures plan { OnOk result (self.new ≡ gate_planned self.old Xor (map (slice_index self.old.nodes) inputs.now)) }
+        ensures number { IfOk result (λ n. n ≡ length self.old.made) }
+        ensures kept { OnOk result (length self.new.nodes ≡ length self.old.nodes) }
+    {
+        let drivers = self.nodes_of(inputs)?;
+        self.gate(Kind::Xor, drivers)
+    }
+
     fn sum(&mut self, inputs: &[u32], cover: &Cover) -> Result<usize, NoMemory>
         requires even { All (λ r. length r ≡ length inputs.now) cover.now.rows }
         requires within { All (λ k. k < length self.old.nodes) inputs.now }
@@ -241,6 +263,10 @@ impl Plan {
         ensures number { IfOk result (λ n. n ≡ (node_planned self.old inputs.now cover.now).1) }
         ensures kept { OnOk result (length self.new.nodes ≡ length self.old.nodes) }
     {
+        if let Some(ends) = parity_ending(cover) {
+            let sum = self.parity(inputs)?;
+            return self.with_ending(ends, sum);
+        }
         let terms = self.terms(inputs, cover.rows.items())?;
         let sum = self.join_nodes(Kind::Or, 0, terms)?;
         self.with_ending(cover.on, sum)

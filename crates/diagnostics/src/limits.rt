@@ -63,7 +63,7 @@ const LIMITS: [LimitRule; 11] = [
     LimitRule {
         word: "pins",
         before: " needs ",
-        after: " wires as And, Or and Not gates; at most 65536 are allowed",
+        after: " wires as And, Or, Not and Xor gates; at most 65536 are allowed",
         behind_limit: "",
         hint: "let abc minimise the covers first, or split the design into blocks",
     },

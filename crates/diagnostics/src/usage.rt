@@ -5,7 +5,7 @@ use crate::parts::Part;
 use rm_base::NoMemory;
 
 /// What `--version` shows.
-pub(crate) const VERSION: &str = "rambo 1.0.0; proved with rattle-kit-13f logic dac8208d650f15bf\n";
+pub(crate) const VERSION: &str = "rambo 2.0.0; proved with rattle-kit-13f logic dac8208d650f15bf\n";
 
 const WHAT: &str =
     "rambo optimises flat BLIF netlists by redundancy addition and removal, with a proof for each change\n";

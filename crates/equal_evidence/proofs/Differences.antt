@@ -2,7 +2,7 @@
 use Rattle.std.proofs.Common.{Bool, List, [], ap, arith, false, length, map, subst, suc, sym, zero, ℕ, ◌+◌, ◌-◌, ◌∙◌, ◌∷◌, ◌≡◌}
 use Rattle.std.specs.Prelude.{None, Some, slice_get, slice_index_or}
 use Rattle.std.proofs.lemmas.List.{length-map}
-use Rattle.cover_decompose.specs.Decomposition.{net_of_model}
+use Rattle.cover_decompose.specs.Spelled.{plain_net}
 use Rattle.cover_decompose.specs.StandsFor.{SameAssignment, StandsFor}
 use Rattle.gate_net.specs.Faults.{IsTest, assigned}
 use Rattle.gate_net.specs.Laws.{ValuesExist}
@@ -33,17 +33,17 @@ pub record Given : Type 1 where
   pub tell : MitersTell
   pub sources : MitersHaveSources
   pub exist : ValuesExist
-  pub stands : (m : Model) → IsWellFormed m → first_without_rank m ≡ None → StandsFor (net_of_model m) m
-  pub formed : (m : Model) → IsWellFormedNet (net_of_model m)
+  pub stands : (m : Model) → IsWellFormed m → first_without_rank m ≡ None → StandsFor (plain_net m) m
+  pub formed : (m : Model) → IsWellFormedNet (plain_net m)
 
 module _ (given : Given) (m n : Model) (h : AreComparable m n) (acyclic : IsAcyclic (models_miter m n)) (bits : List Bool) (d : DifferBy m n bits) where
-  ours : StandsFor (net_of_model m) m
+  ours : StandsFor (plain_net m) m
   ours = given.stands m h.formed h.ranks
 
-  theirs : StandsFor (net_of_model n) n
+  theirs : StandsFor (plain_net n) n
   theirs = given.stands n h.other_formed h.other_ranks
 
-  alike : AreAlike (net_of_model m) (net_of_model n)
+  alike : AreAlike (plain_net m) (plain_net n)
   alike = record {
     first = given.formed m;
     second = given.formed n;
@@ -51,16 +51,16 @@ module _ (given : Given) (m n : Model) (h : AreComparable m n) (acyclic : IsAcyc
     places = ours.observed ∙ (ap (λ (l : List Word). length l) h.observed ∙ sym theirs.observed);
   }
 
-  differ : DifferUnder (net_of_model m) (net_of_model n) (assigned bits)
+  differ : DifferUnder (plain_net m) (plain_net n) (assigned bits)
   differ =
       let a : ℕ → Bool = assigned bits in
-      let u = given.exist (net_of_model m) (given.formed m).acyclic a in
-      let t = given.exist (net_of_model n) (given.formed n).acyclic a in
-      let mine : map u.0 (net_of_model m).observed ≡ map d.values (observed_names m) = ours.values a u.0 d.values u.1.0 d.consistent (gives_names m d.values bits d.given) in
-      let other : map t.0 (net_of_model n).observed ≡ map d.others (observed_names n) = theirs.values a t.0 d.others t.1.0 d.other_consistent (gives_names n d.others bits d.other_given) in
+      let u = given.exist (plain_net m) (given.formed m).acyclic a in
+      let t = given.exist (plain_net n) (given.formed n).acyclic a in
+      let mine : map u.0 (plain_net m).observed ≡ map d.values (observed_names m) = ours.values a u.0 d.values u.1.0 d.consistent (gives_names m d.values bits d.given) in
+      let other : map t.0 (plain_net n).observed ≡ map d.others (observed_names n) = theirs.values a t.0 d.others t.1.0 d.other_consistent (gives_names n d.others bits d.other_given) in
       let there : slice_get (observed_names n) d.place ≡ Some d.name = ap (λ (l : List Word). slice_get l d.place) (sym h.observed) ∙ d.is_observed in
-      let x = map_found u.0 (net_of_model m).observed d.place (d.values d.name) (subst (λ (l : List Bool). slice_get l d.place ≡ Some (d.values d.name)) (sym mine) (map_at d.values (observed_names m) d.place d.name d.is_observed)) in
-      let y = map_found t.0 (net_of_model n).observed d.place (d.others d.name) (subst (λ (l : List Bool). slice_get l d.place ≡ Some (d.others d.name)) (sym other) (map_at d.others (observed_names n) d.place d.name there)) in
+      let x = map_found u.0 (plain_net m).observed d.place (d.values d.name) (subst (λ (l : List Bool). slice_get l d.place ≡ Some (d.values d.name)) (sym mine) (map_at d.values (observed_names m) d.place d.name d.is_observed)) in
+      let y = map_found t.0 (plain_net n).observed d.place (d.others d.name) (subst (λ (l : List Bool). slice_get l d.place ≡ Some (d.others d.name)) (sym other) (map_at d.others (observed_names n) d.place d.name there)) in
       record {
         values = u.0;
         others = t.0;
@@ -73,5 +73,5 @@ module _ (given : Given) (m n : Model) (h : AreComparable m n) (acyclic : IsAcyc
   pub differences_are_tests : IsTest (models_miter m n) (models_fault m n) bits
   differences_are_tests = record {
     size = ap (λ (l : List Bool). length l) (sym d.given) ∙ (length-map (source_names m) d.values ∙ sym (given.sources m n h));
-    detects = (given.tell (net_of_model m) (net_of_model n) (assigned bits) alike acyclic).1 differ;
+    detects = (given.tell (plain_net m) (plain_net n) (assigned bits) alike acyclic).1 differ;
   }

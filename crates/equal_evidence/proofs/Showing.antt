@@ -1,7 +1,7 @@
 -- What is shown on a miter is evidence of its models, and no other is.
 use Rattle.std.proofs.Common.{List, ℕ, ◌≡◌}
 use Rattle.std.specs.Prelude.{◌↔◌}
-use Rattle.cover_decompose.specs.Decomposition.{net_of_model}
+use Rattle.cover_decompose.specs.Spelled.{plain_net}
 use Rattle.equal_evidence.specs.Laws.{EvidenceIsShown, LikenessesAreEvidence, SweptMeansSame}
 use Rattle.equal_evidence.specs.Shown.{IsEvidenceFor, IsShown}
 use Rattle.equal_evidence.specs.declared.evidence.Evidence.TheVariants.{Merged, Plain}
@@ -17,7 +17,7 @@ shown swept refute same apart not_both given m n budget (Plain (Same items)) h f
   where
     to : IsShown (models_miter m n) (models_fault m n) budget (Plain (Same items)) → IsEvidenceFor m n budget (Plain (Same items))
     to accepted =
-        let pin = fault_has_pin (net_of_model m) (net_of_model n) in
+        let pin = fault_has_pin (plain_net m) (plain_net n) in
         (accepted, same m n h formed.acyclic (refute (models_miter m n) (models_fault m n) pin.0 items formed.acyclic pin.1 accepted))
 shown swept refute same apart not_both given m n budget (Plain (Differ bits)) h formed = (to, λ e. differences_are_tests given m n h formed.acyclic bits e.0)
   where

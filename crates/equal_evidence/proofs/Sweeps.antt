@@ -1,6 +1,6 @@
 -- Models whose miter is swept to One compute the same.
 use Rattle.std.proofs.Common.{Bool, List, [], ap, map, refl, suc, sym, true, ℕ, ◌∙◌, ◌∷◌, ◌≡◌}
-use Rattle.cover_decompose.specs.Decomposition.{net_of_model}
+use Rattle.cover_decompose.specs.Spelled.{plain_net}
 use Rattle.gate_net.specs.Laws.{ValuesExist}
 use Rattle.gate_net.specs.Net.{IsWellFormed, drivers_in, node_at}
 use Rattle.gate_net.specs.Values.{IsUndetected, node_value}
@@ -20,7 +20,7 @@ heads b c e = cc
 
 module _ (exist : ValuesExist) (runs_keep : AcceptedRunsKeep) (m n : Model) (records : List Record) (formed : IsWellFormed (models_miter m n)) (swept : IsSwept (models_miter m n) records) where
   last : ℕ
-  last = suc (some_difference (net_of_model m) (net_of_model n))
+  last = suc (some_difference (plain_net m) (plain_net n))
 
   keeps : Keeps (models_miter m n) swept.after
   keeps = runs_keep (models_miter m n) swept.after records formed swept.accepted
@@ -30,15 +30,15 @@ module _ (exist : ValuesExist) (runs_keep : AcceptedRunsKeep) (m n : Model) (rec
   unfolding last
   always_one a v good =
       let w = exist swept.after keeps.form.acyclic a in
-      let same : v (suc (some_difference (net_of_model m) (net_of_model n))) ∷ [] ≡ map w.0 swept.after.observed = keeps.values a v w.0 good w.1.0 in
+      let same : v (suc (some_difference (plain_net m) (plain_net n))) ∷ [] ≡ map w.0 swept.after.observed = keeps.values a v w.0 good w.1.0 in
       let one : w.0 1 ≡ true = w.1.0 1 ∙ ap (λ (o : _). node_value o (a 1) (map w.0 (drivers_in o))) keeps.form.constants.one_is in
-      heads (v (suc (some_difference (net_of_model m) (net_of_model n)))) true (same ∙ (ap (λ (l : List ℕ). map w.0 l) swept.one ∙ ap (λ (b : Bool). let l : List Bool = b ∷ [] in l) one))
+      heads (v (suc (some_difference (plain_net m) (plain_net n)))) true (same ∙ (ap (λ (l : List ℕ). map w.0 l) swept.one ∙ ap (λ (b : Bool). let l : List Bool = b ∷ [] in l) one))
 
   pub undetected : IsUndetected (models_miter m n) (models_fault m n)
   unfolding last
   undetected a (v, (f, (run, (x, (seen, ne))))) =
-      let at : x ≡ suc (some_difference (net_of_model m) (net_of_model n)) = observed_last (net_of_model m) (net_of_model n) x seen in
-      let bad : f (suc (some_difference (net_of_model m) (net_of_model n))) ≡ true = stuck (net_of_model m) (net_of_model n) a f run.faulty in
+      let at : x ≡ suc (some_difference (plain_net m) (plain_net n)) = observed_last (plain_net m) (plain_net n) x seen in
+      let bad : f (suc (some_difference (plain_net m) (plain_net n))) ≡ true = stuck (plain_net m) (plain_net n) a f run.faulty in
       ne (ap v at ∙ (always_one a v run.good ∙ (sym bad ∙ ap f (sym at))))
 
 pub swept_means_same : ValuesExist → AcceptedRunsKeep → UndetectedMeansSame → SweptMeansSame

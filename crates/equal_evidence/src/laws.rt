@@ -1,7 +1,7 @@
 // What follows of evidence, each the contract of a function that does nothing.
 ghost use Rattle.equal_evidence.specs.Laws.{EvidenceIsShown, LikenessesAreEvidence, ProofsAreOne, ProofsAreWritable, SweptMeansSame};
 
-use cover_decompose::{decompositions_are_formed, decompositions_stand};
+use cover_decompose::{plain_nets_are_formed, plain_nets_stand};
 use equal_miter::laws::{miters_tell, miters_tell_models};
 use gate_net::values_exist;
 use journal_text::{accepted_runs_keep, journals_are_one, lines_read, numbers_read};
@@ -25,8 +25,8 @@ pub fn evidence_is_shown()
     miters_tell();
     miters_tell_models();
     values_exist();
-    decompositions_stand();
-    decompositions_are_formed();
+    plain_nets_stand();
+    plain_nets_are_formed();
 }
 
 /// What deciding whether two models compute the same answers is evidence.

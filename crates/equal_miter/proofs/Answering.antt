@@ -1,6 +1,6 @@
 -- What an answer about the miter's fault says of the models.
 use Rattle.std.proofs.Common.{subst, sym, ℕ, ◌≡◌}
-use Rattle.cover_decompose.specs.Decomposition.{net_of_model}
+use Rattle.cover_decompose.specs.Spelled.{plain_net}
 use Rattle.gate_net.specs.Net.{IsAcyclic, Net}
 use Rattle.gate_net.specs.Values.{HasPin}
 use Rattle.refutation.specs.Laws.{TreesRefute}
@@ -14,7 +14,7 @@ use Rattle.equal_miter.specs.declared.likeness.Likeness.TheVariants.{Differ, Sam
 use Rattle.equal_miter.proofs.Telling.{fault_has_pin}
 
 pub models_have_pin : (m n : Model) → HasPin (models_miter m n) (models_fault m n)
-models_have_pin m n = fault_has_pin (net_of_model m) (net_of_model n)
+models_have_pin m n = fault_has_pin (plain_net m) (plain_net n)
 
 pub likeness_of : UndetectedMeansSame → TestsTellApart → ApartIsNotSame → TreesRefute → (m n : Model) (budget : ℕ) (l : Likeness) → AreComparable m n → IsAcyclic (models_miter m n)
     → IsEvidence (models_miter m n) (models_fault m n) budget l → IsLikeness m n budget l

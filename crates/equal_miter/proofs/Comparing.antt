@@ -1,7 +1,8 @@
 -- The values of the comparisons.
-use Rattle.std.proofs.Common.{Bool, List, [], false, map, not, refl, suc, true, zero, ℕ, ◌∷◌, ◌≡◌, ◌≢◌}
+use Rattle.std.proofs.Common.{Bool, List, [], false, map, not, refl, suc, true, zero, ℕ, ◌∙◌, ◌∷◌, ◌≡◌, ◌≢◌}
 use Rattle.std.specs.Prelude.{Some, slice_get}
 use Rattle.gate_net.specs.Values.{junction, same_bool}
+use Rattle.gate_net.proofs.Public.{not_is}
 use Rattle.equal_miter.specs.Miter.{comparisons, differences}
 use Rattle.equal_miter.proofs.Listed.{Met}
 
@@ -25,7 +26,7 @@ differences_value v a next [] ys h = refl
 differences_value v a next (x ∷ xs) [] h = refl
 differences_value v a next (x ∷ xs) (y ∷ ys) (e0, (e1, (e2, (e3, (e4, rest))))) =
     rw (
-      five (v next) (v (suc next)) (v (suc (suc next))) (v (suc (suc (suc next)))) (v (suc (suc (suc (suc next))))) (v x) (v y) e0 e1 e2 e3 e4,
+      five (v next) (v (suc next)) (v (suc (suc next))) (v (suc (suc (suc next)))) (v (suc (suc (suc (suc next))))) (v x) (v y) (e0 ∙ not_is (v x)) (e1 ∙ not_is (v y)) e2 e3 e4,
       differences_value v a (suc (suc (suc (suc (suc next))))) xs ys rest,
     ) refl
 

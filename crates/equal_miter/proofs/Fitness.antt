@@ -1,7 +1,7 @@
 -- Decompositions of models with the same names are alike.
 use Rattle.std.proofs.Common.{ap, length, subst, sym, ◌∙◌, ◌≡◌}
 use Rattle.std.specs.Prelude.{List, None}
-use Rattle.cover_decompose.specs.Decomposition.{net_of_model}
+use Rattle.cover_decompose.specs.Spelled.{plain_net}
 use Rattle.cover_decompose.specs.StandsFor.{StandsFor}
 use Rattle.gate_net.specs.Net.{IsWellFormed as IsWellFormedNet, Net}
 use Rattle.rm_base.specs.Words.{Word}
@@ -11,17 +11,17 @@ use Rattle.rm_model.specs.declared.parts.Model.{Model}
 use Rattle.equal_miter.specs.Laws.{AreAlike}
 use Rattle.equal_miter.specs.Refusals.{HaveSameNames, IsReady}
 
-pub alike_models : ((m : Model) → IsWellFormed m → first_without_rank m ≡ None → StandsFor (net_of_model m) m) → ((m : Model) → IsWellFormedNet (net_of_model m)) → (m n : Model) (v w : Net)
-    → IsReady m → IsReady n → HaveSameNames m n → v ≡ net_of_model m → w ≡ net_of_model n → AreAlike v w
-alike_models stands formed m n v w ready other same is are = subst (λ (x : Net). AreAlike x w) (sym is) (subst (λ (y : Net). AreAlike (net_of_model m) y) (sym are) alike)
+pub alike_models : ((m : Model) → IsWellFormed m → first_without_rank m ≡ None → StandsFor (plain_net m) m) → ((m : Model) → IsWellFormedNet (plain_net m)) → (m n : Model) (v w : Net)
+    → IsReady m → IsReady n → HaveSameNames m n → v ≡ plain_net m → w ≡ plain_net n → AreAlike v w
+alike_models stands formed m n v w ready other same is are = subst (λ (x : Net). AreAlike x w) (sym is) (subst (λ (y : Net). AreAlike (plain_net m) y) (sym are) alike)
   where
-    ours : StandsFor (net_of_model m) m
+    ours : StandsFor (plain_net m) m
     ours = stands m ready.formed ready.ranked
 
-    theirs : StandsFor (net_of_model n) n
+    theirs : StandsFor (plain_net n) n
     theirs = stands n other.formed other.ranked
 
-    alike : AreAlike (net_of_model m) (net_of_model n)
+    alike : AreAlike (plain_net m) (plain_net n)
     alike = record {
       first = formed m;
       second = formed n;

@@ -1,7 +1,7 @@
 -- What the miter of two models tells of them.
 use Rattle.std.proofs.Common.{Bool, List, [], ap, arith, false, length, map, refl, suc, sym, true, ℕ, ◌∙◌, ◌∷◌, ◌≡◌, ◌≢◌, ◌⊎◌, inl, inr, subst}
 use Rattle.std.specs.Prelude.{None, Some, slice_get, ◌↔◌}
-use Rattle.cover_decompose.specs.Decomposition.{net_of_model}
+use Rattle.cover_decompose.specs.Spelled.{plain_net}
 use Rattle.cover_decompose.specs.StandsFor.{StandsFor}
 use Rattle.gate_net.specs.Faults.{IsTest, assigned}
 use Rattle.gate_net.specs.Laws.{ValuesExist}
@@ -40,19 +40,19 @@ agree_or_differ v w (x ∷ xs) (y ∷ ys) e = by_head (v x) (w y) refl refl (agr
 pub record Given : Type 1 where
   pub tell : MitersTell
   pub exist : ValuesExist
-  pub stands : (m : Model) → IsWellFormed m → first_without_rank m ≡ None → StandsFor (net_of_model m) m
-  pub formed : (m : Model) → IsWellFormedNet (net_of_model m)
+  pub stands : (m : Model) → IsWellFormed m → first_without_rank m ≡ None → StandsFor (plain_net m) m
+  pub formed : (m : Model) → IsWellFormedNet (plain_net m)
   pub ranked : (m : Model) → is_distinct (driven_names m) ≡ true → (IsRanked m ↔ (first_without_rank m ≡ None))
   pub valuation : (m : Model) (values : List Bool) → IsWellFormed m → IsRanked m → length values ≡ length (source_names m) → ((v : Word → Bool) × (IsConsistent m v × (map v (source_names m) ≡ values)))
 
 module _ (given : Given) (m n : Model) (h : AreComparable m n) where
-  ours : StandsFor (net_of_model m) m
+  ours : StandsFor (plain_net m) m
   ours = given.stands m h.formed h.ranks
 
-  theirs : StandsFor (net_of_model n) n
+  theirs : StandsFor (plain_net n) n
   theirs = given.stands n h.other_formed h.other_ranks
 
-  pub alike : AreAlike (net_of_model m) (net_of_model n)
+  pub alike : AreAlike (plain_net m) (plain_net n)
   alike = record {
     first = given.formed m;
     second = given.formed n;
@@ -61,7 +61,7 @@ module _ (given : Given) (m n : Model) (h : AreComparable m n) where
   }
 
   pub sources_of_miter : source_count (models_miter m n) ≡ length (source_names m)
-  sources_of_miter = miter_sources (net_of_model m) (net_of_model n) alike ∙ ours.sources
+  sources_of_miter = miter_sources (plain_net m) (plain_net n) alike ∙ ours.sources
 
   is_ranked : IsRanked m
   is_ranked = (given.ranked m h.formed.driven_once).1 h.ranks
@@ -74,14 +74,14 @@ module _ (given : Given) (m n : Model) (h : AreComparable m n) where
     agrees undetected v w right right' e =
         let bits : List Bool = map v (source_names m) in
         let a : ℕ → Bool = assigned bits in
-        let u = given.exist (net_of_model m) (given.formed m).acyclic a in
-        let t = given.exist (net_of_model n) (given.formed n).acyclic a in
-        let mine : map u.0 (net_of_model m).observed ≡ map v (observed_names m) = ours.values a u.0 v u.1.0 right (gives_names m v bits refl) in
-        let other : map t.0 (net_of_model n).observed ≡ map w (observed_names n) = theirs.values a t.0 w t.1.0 right' (gives_names n w bits (sym e)) in
-        elim (agree_or_differ u.0 t.0 (net_of_model m).observed (net_of_model n).observed alike.places) [
+        let u = given.exist (plain_net m) (given.formed m).acyclic a in
+        let t = given.exist (plain_net n) (given.formed n).acyclic a in
+        let mine : map u.0 (plain_net m).observed ≡ map v (observed_names m) = ours.values a u.0 v u.1.0 right (gives_names m v bits refl) in
+        let other : map t.0 (plain_net n).observed ≡ map w (observed_names n) = theirs.values a t.0 w t.1.0 right' (gives_names n w bits (sym e)) in
+        elim (agree_or_differ u.0 t.0 (plain_net m).observed (plain_net n).observed alike.places) [
           | inl same ↦ sym mine ∙ (same ∙ other)
           | inr d ↦
-              let differ : DifferUnder (net_of_model m) (net_of_model n) a = record {
+              let differ : DifferUnder (plain_net m) (plain_net n) a = record {
                 values = u.0;
                 others = t.0;
                 good = u.1.0;
@@ -89,7 +89,7 @@ module _ (given : Given) (m n : Model) (h : AreComparable m n) where
                 place = d.0;
                 differs = record { ours = d.1.0; theirs = d.1.1.0; ours_is = d.1.1.1.0; theirs_is = d.1.1.1.1.0; differs = d.1.1.1.1.1 };
               } in
-              absurd (undetected a ((given.tell (net_of_model m) (net_of_model n) a alike acyclic).1 differ))
+              absurd (undetected a ((given.tell (plain_net m) (plain_net n) a alike acyclic).1 differ))
         ]
 
     pub same_function : IsUndetected (models_miter m n) (models_fault m n) → SameFunction m n
@@ -104,17 +104,17 @@ module _ (given : Given) (m n : Model) (h : AreComparable m n) where
     -- the names at the place where the nets differ
     pub told_apart : (bits : List Bool) → IsTest (models_miter m n) (models_fault m n) bits → DifferBy m n bits
     told_apart bits test =
-        let d : DifferUnder (net_of_model m) (net_of_model n) (assigned bits) = (given.tell (net_of_model m) (net_of_model n) (assigned bits) alike acyclic).0 test.detects in
+        let d : DifferUnder (plain_net m) (plain_net n) (assigned bits) = (given.tell (plain_net m) (plain_net n) (assigned bits) alike acyclic).0 test.detects in
         let p = d.differs in
-        let size : length bits ≡ length (source_names m) = test.size ∙ (miter_sources (net_of_model m) (net_of_model n) alike ∙ ours.sources) in
+        let size : length bits ≡ length (source_names m) = test.size ∙ (miter_sources (plain_net m) (plain_net n) alike ∙ ours.sources) in
         let other_size : length bits ≡ length (source_names n) = size ∙ ap (λ (l : List Word). length l) h.sources in
         let v = given.valuation m bits h.formed is_ranked size in
         let w = given.valuation n bits h.other_formed other_is_ranked other_size in
-        let mine : map d.values (net_of_model m).observed ≡ map v.0 (observed_names m) = ours.values (assigned bits) d.values v.0 d.good v.1.0 (gives_names m v.0 bits v.1.1) in
-        let other : map d.others (net_of_model n).observed ≡ map w.0 (observed_names n) = theirs.values (assigned bits) d.others w.0 d.other_good w.1.0 (gives_names n w.0 bits w.1.1) in
-        let at : slice_get (map v.0 (observed_names m)) d.place ≡ Some (d.values p.ours) = subst (λ (l : List Bool). slice_get l d.place ≡ Some (d.values p.ours)) mine (map_at d.values (net_of_model m).observed d.place p.ours p.ours_is) in
+        let mine : map d.values (plain_net m).observed ≡ map v.0 (observed_names m) = ours.values (assigned bits) d.values v.0 d.good v.1.0 (gives_names m v.0 bits v.1.1) in
+        let other : map d.others (plain_net n).observed ≡ map w.0 (observed_names n) = theirs.values (assigned bits) d.others w.0 d.other_good w.1.0 (gives_names n w.0 bits w.1.1) in
+        let at : slice_get (map v.0 (observed_names m)) d.place ≡ Some (d.values p.ours) = subst (λ (l : List Bool). slice_get l d.place ≡ Some (d.values p.ours)) mine (map_at d.values (plain_net m).observed d.place p.ours p.ours_is) in
         let x = map_found v.0 (observed_names m) d.place (d.values p.ours) at in
-        let at' : slice_get (map w.0 (observed_names n)) d.place ≡ Some (d.others p.theirs) = subst (λ (l : List Bool). slice_get l d.place ≡ Some (d.others p.theirs)) other (map_at d.others (net_of_model n).observed d.place p.theirs p.theirs_is) in
+        let at' : slice_get (map w.0 (observed_names n)) d.place ≡ Some (d.others p.theirs) = subst (λ (l : List Bool). slice_get l d.place ≡ Some (d.others p.theirs)) other (map_at d.others (plain_net n).observed d.place p.theirs p.theirs_is) in
         let y = map_found w.0 (observed_names n) d.place (d.others p.theirs) at' in
         let same : x.0 ≡ y.0 = one_stands (observed_names m) d.place x.0 y.0 x.1.0 (ap (λ (l : List Word). slice_get l d.place) h.observed ∙ y.1.0) in
         record {

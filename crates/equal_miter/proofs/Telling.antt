@@ -4,7 +4,7 @@ use Rattle.std.specs.Prelude.{Option, Some, slice_get, slice_set}
 use Rattle.gate_net.specs.Laws.{FaultyValuesExist, ValuesExist}
 use Rattle.gate_net.specs.Net.{IsObserved, Net, Node, drivers_in, drivers_of, flatten_option, node_at}
 use Rattle.gate_net.specs.Values.{AreFaultyValues, AreGoodValues, Detects, HasPin, faulty_reads, junction, node_value}
-use Rattle.gate_net.proofs.Public.{reads_there}
+use Rattle.gate_net.proofs.Public.{not_is, reads_there}
 use Rattle.rm_base.proofs.Public.{map_at, map_found, only_stands}
 use Rattle.equal_miter.specs.Laws.{AreAlike, DifferUnder, MitersTell}
 use Rattle.joined_nets.specs.Joined.{both, first_gate, moved, observed_moved}
@@ -32,7 +32,7 @@ module _ (one two : Net) where
       → (v (some_difference one two) ≡ junction true (differ_bits v one.observed (observed_moved one two))) × (v (suc (some_difference one two)) ≡ not (v (some_difference one two)))
   ends_value a v good =
       let parts = met_parts v a (length (both one two)) (compared one two) last_nodes (all_met a v good) in
-      (parts.1.0 ∙ ap (λ (l : List Bool). junction true l) (differences_value v a (length (both one two)) one.observed (observed_moved one two) parts.0), parts.1.1.0)
+      (parts.1.0 ∙ ap (λ (l : List Bool). junction true l) (differences_value v a (length (both one two)) one.observed (observed_moved one two) parts.0), parts.1.1.0 ∙ not_is (v (some_difference one two)))
 
   last_at : node_at (miter_of one two) (suc (some_difference one two)) ≡ Some (not_gate (some_difference one two))
   last_at =

@@ -1,8 +1,7 @@
 // The graph of a miter.
 ghost use Rattle.std.specs.Prelude.{◌≡◌, ◌<◌, ◌≤◌, ◌+◌, ◌++◌, [], IfErr, IfOk, None, OnOk, length, map};
-ghost use Rattle.cover_decompose.specs.Decomposition.{net_of_model};
-ghost use Rattle.cover_decompose.specs.Count.{decomposed};
 ghost use Rattle.cover_decompose.specs.Limits.{most_pins};
+ghost use Rattle.cover_decompose.specs.Spelled.{plain_decomposed, plain_net};
 ghost use Rattle.equal_miter.specs.Equal.{AreComparable, models_fault, models_miter};
 ghost use Rattle.joined_nets.specs.Growing.{IsOrdered, IsSmall, IsWhole, live};
 ghost use Rattle.equal_miter.specs.Inner.Tops.{tops};
@@ -16,9 +15,9 @@ ghost use Rattle.gate_net.specs.Net.{wire_count};
 
 use crate::places::{add_comparisons, observe_none};
 use crate::refusal::MiterRefusal;
-use cover_decompose::{DecomposeRefusal, decompositions_are_formed, decompositions_stand};
+use cover_decompose::{DecomposeRefusal, plain_nets_are_formed, plain_nets_stand};
 use gate_graph::Graph;
-use joined_nets::{copy_both, first_difference, moved_all, ordered_decomposition};
+use joined_nets::{copy_both, first_difference, moved_all, plain_decomposition};
 use rm_base::{FIRST_SOURCE, Fault, NoMemory, NodeId};
 use rm_model::{Name, NameKeys, RankedModel, list_observed, sources};
 use std::alloc::Global;
@@ -98,15 +97,20 @@ fn compare_names(
 }
 
 // The graph of one of the models.
-fn graph_of(alloc: Global, model: &RankedModel, second: bool) -> Result<Graph, MiterRefusal>
+fn graph_of(
+    alloc: Global,
+    keys: NameKeys,
+    model: &RankedModel,
+    second: bool,
+) -> Result<Graph, MiterRefusal>
     requires ready { IsReady model.now }
-    ensures net { IfOk result (λ g. net_of g ≡ net_of_model model.now) }
-    ensures within { OnOk result (decomposed model.now ≤ most_pins) }
-    ensures order { OnOk result (IsOrdered (net_of_model model.now)) }
-    ensures small { OnOk result (IsSmall (net_of_model model.now)) }
+    ensures net { IfOk result (λ g. net_of g ≡ plain_net model.now) }
+    ensures within { OnOk result (plain_decomposed model.now ≤ most_pins) }
+    ensures order { OnOk result (IsOrdered (plain_net model.now)) }
+    ensures small { OnOk result (IsSmall (plain_net model.now)) }
     ensures refused { IfErr result (λ refusal. IsLimit model.now second refusal) }
 {
-    match ordered_decomposition(alloc, model) {
+    match plain_decomposition(alloc, keys, model) {
         Ok(graph) => Ok(graph),
         Err(DecomposeRefusal::Limit { pins }) => Err(MiterRefusal::Limit { second, pins }),
         Err(DecomposeRefusal::NoMemory) => Err(MiterRefusal::NoMemory),
@@ -115,9 +119,10 @@ fn graph_of(alloc: Global, model: &RankedModel, second: bool) -> Result<Graph, M
 
 /// The miter of two models (Brand, Verification of large synthesized designs, ICCAD 1993): both decompositions in one graph
 /// over the same sources, compared at every observed place, and observed at one gate, whose pin has the fault that is asked
-/// of it. An assignment detects the fault exactly where the models differ under it. As graphs have no Xor, the comparison of a
-/// place is five gates of And, Or and Not. It takes the time of the wires of both, but for the look-ups of names, whose keys
-/// change the time alone. A refusal names the sources before the observed names, and these before a limit.
+/// of it. An assignment detects the fault exactly where the models differ under it. The miter has And, Or and Not gates alone,
+/// in place of a parity cover and to compare a place: equal gates are merged by wires, and a wire can't be added to an Xor. It
+/// takes the time of the wires of both, but for the look-ups of names, whose keys change the time alone. A refusal names the
+/// sources before the observed names, and these before a limit.
 pub fn miter(
     alloc: Global,
     keys: NameKeys,
@@ -136,11 +141,11 @@ pub fn miter(
     ensures held { IfOk result (λ r. pins_held r.0 ≡ 0) }
     ensures refused { IfErr result (λ refusal. IsMiterRefused a.now b.now refusal) }
 {
-    decompositions_stand();
-    decompositions_are_formed();
+    plain_nets_stand();
+    plain_nets_are_formed();
     compare_names(alloc, keys, a, b)?;
-    let ours = graph_of(alloc, a, false)?;
-    let theirs = graph_of(alloc, b, true)?;
+    let ours = graph_of(alloc, keys, a, false)?;
+    let theirs = graph_of(alloc, keys, b, true)?;
     let made = miter_of_graphs(alloc, &ours, &theirs)?;
     Ok(made)
 }

@@ -2,7 +2,7 @@
 ghost use Rattle.equal_miter.specs.Laws.{MitersTell};
 ghost use Rattle.equal_miter.specs.ModelLaws.{ApartIsNotSame, MitersHaveSources, TestsTellApart, UndetectedMeansSame};
 
-use cover_decompose::{decompositions_are_formed, decompositions_stand};
+use cover_decompose::{plain_nets_are_formed, plain_nets_stand};
 use gate_net::{faulty_values_exist, values_exist};
 use rm_model::{one_valuation, ranks_exist};
 
@@ -23,8 +23,8 @@ pub fn miters_tell_models()
 {
     miters_tell();
     values_exist();
-    decompositions_stand();
-    decompositions_are_formed();
+    plain_nets_stand();
+    plain_nets_are_formed();
     ranks_exist();
     one_valuation();
 }

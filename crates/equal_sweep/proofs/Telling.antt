@@ -1,7 +1,7 @@
 -- A vector that detects the fault of a miter tells the models apart.
 use Rattle.std.proofs.Common.{Bool, List, subst, sym, ◌≡◌}
 use Rattle.std.specs.Prelude.{IfSome, None, Option, Some}
-use Rattle.cover_decompose.specs.Decomposition.{net_of_model}
+use Rattle.cover_decompose.specs.Spelled.{plain_net}
 use Rattle.equal_evidence.proofs.Public.{fault_has_pin}
 use Rattle.equal_miter.specs.Equal.{AreComparable, DifferBy, SameFunction, models_fault, models_miter}
 use Rattle.equal_miter.specs.ModelLaws.{ApartIsNotSame, TestsTellApart}
@@ -13,7 +13,7 @@ use Rattle.rm_model.specs.declared.parts.Model.{Model}
 
 module _ (m n : Model) (net : Net) (fault : Fault) (is : net ≡ models_miter m n) (stuck : fault ≡ models_fault m n) where
   pub pin_there : HasPin net fault
-  pin_there = subst (λ (x : Net). HasPin x fault) (sym is) (subst (λ (f : Fault). HasPin (models_miter m n) f) (sym stuck) (fault_has_pin (net_of_model m) (net_of_model n)))
+  pin_there = subst (λ (x : Net). HasPin x fault) (sym is) (subst (λ (f : Fault). HasPin (models_miter m n) f) (sym stuck) (fault_has_pin (plain_net m) (plain_net n)))
 
   test_there : (bits : List Bool) → IsTest net fault bits → IsTest (models_miter m n) (models_fault m n) bits
   test_there bits t = subst (λ (f : Fault). IsTest (models_miter m n) f bits) stuck (subst (λ (x : Net). IsTest x fault bits) is t)

@@ -1,33 +1,27 @@
 // Where the difference may go on.
-use crate::goals::{Goal, equal_of, good_of};
+use crate::goals::{Goal, equal_of, first_unknown};
 use gate_graph::Graph;
-use refutation::following::gate_pins;
-use refutation::pins::controlling;
+use gate_net::{Family, Kind};
 use refutation::{Fact, FactSet};
 use rm_base::NodeId;
 
-// The first driver whose good value isn't known.
-fn first_unknown(graph: &Graph, facts: &FactSet, gate: NodeId) -> Option<NodeId> {
-    let _kind = graph.kind(gate)?;
-    for driver in gate_pins(graph, gate) {
-        if good_of(facts, driver).is_none() {
-            return Some(driver);
-        }
+// The good value of other drivers that lets a difference on through a gate: the noncontrolling one, and 0 at an Xor.
+fn passing_value(kind: Kind) -> Option<bool> {
+    match kind.family() {
+        Family::Junction { controlling } => Some(!controlling),
+        Family::Parity { inverts: false } => Some(false),
+        _ => None,
     }
-    None
 }
 
 // What lets a difference on through a gate that reads it, where it isn't known whether the gate differs.
 fn goal_through(graph: &Graph, facts: &FactSet, gate: NodeId) -> Option<Goal> {
-    let value = controlling(graph.kind(gate)?)?;
+    let value = passing_value(graph.kind(gate)?)?;
     if equal_of(facts, gate).is_some() {
         return None;
     }
     let node = first_unknown(graph, facts, gate)?;
-    Some(Goal {
-        node,
-        value: !value,
-    })
+    Some(Goal { node, value })
 }
 
 // What lets the difference of a node on through one of its readers.
@@ -52,7 +46,7 @@ fn goal_by(graph: &Graph, facts: &FactSet, added: (NodeId, Fact)) -> Option<Goal
     goal_after(graph, facts, node)
 }
 
-/// A driver of a gate of the frontier, with the noncontrolling value of the gate. The nodes that differ are among those whose
+/// A driver of a gate of the frontier, with the value that lets the difference on. The nodes that differ are among those whose
 /// facts were added.
 pub(crate) fn frontier_goal(
     graph: &Graph,

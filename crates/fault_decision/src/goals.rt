@@ -5,6 +5,7 @@ ghost use Rattle.fault_decision.specs.Inner.Working.{MaySplitOn};
 
 use gate_graph::Graph;
 use refutation::FactSet;
+use refutation::following::gate_pins;
 use refutation::pins::{Aspect, known_of};
 use rm_base::NodeId;
 
@@ -29,6 +30,17 @@ pub(crate) fn equal_of(facts: &FactSet, node: NodeId) -> Option<bool> {
         return None;
     }
     known_of(facts, Aspect::OfEqual, node)
+}
+
+/// The first driver whose good value isn't known.
+pub(crate) fn first_unknown(graph: &Graph, facts: &FactSet, gate: NodeId) -> Option<NodeId> {
+    let _kind = graph.kind(gate)?;
+    for driver in gate_pins(graph, gate) {
+        if good_of(facts, driver).is_none() {
+            return Some(driver);
+        }
+    }
+    None
 }
 
 /// The goal, where its node is a live one whose good value isn't known.

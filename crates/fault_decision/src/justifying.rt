@@ -1,13 +1,13 @@
 // Gates whose good values are still to be justified.
-use crate::goals::{Goal, good_of};
+use crate::goals::{Goal, first_unknown, good_of};
 use gate_graph::Graph;
+use gate_net::Family;
 use refutation::following::gate_pins;
-use refutation::pins::controlling;
 use refutation::{Fact, FactSet};
 use rm_base::NodeId;
 
 // A gate that is known to have its controlling value while no driver is known to, how many drivers may have it, and the
-// first of them.
+// first of them; or an Xor with a known value, the two values that a driver may have, and the first unknown driver.
 #[derive(Clone, Copy)]
 struct Unjustified {
     gate: NodeId,
@@ -55,13 +55,29 @@ fn open_drivers_of(
     found
 }
 
+// The Xor, where some driver isn't known: it may have either value.
+fn open_parity(graph: &Graph, facts: &FactSet, gate: NodeId) -> Option<Unjustified> {
+    let node = first_unknown(graph, facts, gate)?;
+    Some(Unjustified {
+        gate,
+        open: 2,
+        goal: Goal { node, value: false },
+    })
+}
+
 // The gate, where its value is still to be justified.
 fn look_at(graph: &Graph, facts: &FactSet, gate: NodeId) -> Option<Unjustified> {
-    let value = controlling(graph.kind(gate)?)?;
-    if good_of(facts, gate) != Some(value) {
-        return None;
+    let known = good_of(facts, gate)?;
+    match graph.kind(gate)?.family() {
+        Family::Junction { controlling } => {
+            if known != controlling {
+                return None;
+            }
+            open_drivers_of(graph, facts, gate, controlling)
+        }
+        Family::Parity { inverts: false } => open_parity(graph, facts, gate),
+        _ => None,
     }
-    open_drivers_of(graph, facts, gate, value)
 }
 
 // Whether the first comes before the second: fewer drivers may have its value, or as many and it has the lesser number, or the
@@ -104,7 +120,7 @@ fn look_at_added(graph: &Graph, facts: &FactSet, added: (NodeId, Fact)) -> Optio
 }
 
 /// A driver that may justify a gate, and the value that does. Of the gates whose good values were added it is the one with
-/// the fewest such drivers, and of these the least or the greatest.
+/// the fewest such ways, and of these the least or the greatest.
 pub(crate) fn justification(
     graph: &Graph,
     facts: &FactSet,

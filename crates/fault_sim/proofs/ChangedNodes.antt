@@ -2,8 +2,8 @@
 use Rattle.std.proofs.Common.{Err, List, None, Ok, Option, Result, Some, [], ap, arith, inl, inr, map, refl, suc, sym, ℕ, ◌∙◌, ◌∷◌, ◌≡◌, ◌≢◌}
 use Rattle.std.proofs.lemmas.Bool.Decides.{eqb_tells}
 use Rattle.std.specs.Prelude.{IfOk, slice_get}
-use Rattle.gate_net.specs.Edits.{DiffersAt, IsLeastFree, node_redirected, redirected, with_drivers, with_readers_moved}
-use Rattle.gate_net.proofs.Public.{node_at-moved, node_at-other}
+use Rattle.gate_net.specs.Edits.{DiffersAt, IsLeastFree, node_redirected, redirected, with_drivers, with_node, with_readers_moved}
+use Rattle.gate_net.proofs.Public.{node_at-moved, node_at-other, with_node-other}
 use Rattle.gate_net.specs.Net.{Net, Node, Reads, drivers_in, node_at}
 use Rattle.fault_sim.proofs.Lists.{below_or}
 use Rattle.gate_net.specs.Edits.{IsSameBut}
@@ -13,6 +13,9 @@ not_one xs gate x one none same = none 0 (ap (λ (ys : List ℕ). slice_get ys 0
 
 pub drivers_changed : (net after : Net) (gate : ℕ) (drivers xs : List ℕ) → after ≡ with_drivers net gate drivers → xs ≡ gate ∷ [] → IsSameBut net after xs
 drivers_changed net after gate drivers xs e one x none = ap (λ (n : Net). node_at n x) e ∙ node_at-other net gate drivers x (not_one xs gate x one none)
+
+pub node_changed : (net after : Net) (gate : ℕ) (node : Node) (xs : List ℕ) → after ≡ with_node net gate node → xs ≡ gate ∷ [] → IsSameBut net after xs
+node_changed net after gate node xs e one x none = ap (λ (n : Net). node_at n x) e ∙ with_node-other net gate node x (not_one xs gate x one none)
 
 pub one_changed : (net after : Net) (gate : ℕ) (xs : List ℕ) → DiffersAt net after gate → xs ≡ gate ∷ [] → IsSameBut net after xs
 one_changed net after gate xs differs one x none = differs.others x (not_one xs gate x one none)

@@ -60,5 +60,6 @@ pub fn changed_by(alloc: Global, graph: &Graph, edit: &Edit) -> Result<Vec<NodeI
         Edit::Readers { from, to: _ } => readers(alloc, graph, from),
         Edit::NewNot { driver: _ } => one_node(alloc, first_free(graph)),
         Edit::Retire { gate } => one_node(alloc, gate),
+        Edit::ToNot { gate, position: _ } => one_node(alloc, gate),
     }
 }

@@ -1,11 +1,12 @@
 -- A pin is added.
-use Rattle.std.proofs.Common.{◌≡◌, ◌≢◌, ℕ, Bool, true, false, List, [], ◌∷◌, ◌++◌, map, Option, Some, None, refl, sym, ap, ◌∙◌, arith, inl, inr, ◌⊎◌}
+use Rattle.std.proofs.Common.{◌≡◌, ◌≢◌, ℕ, Bool, true, false, List, [], ◌∷◌, ◌++◌, map, Option, Some, None, refl, sym, ap, ◌∙◌, arith, inl, inr, ◌⊎◌, length}
 use mathlib.Core.Path.{fun_ext}
 use Rattle.std.proofs.lemmas.Bool.{cases_eq, false_from_ne_true, false≢true}
 use Rattle.std.proofs.lemmas.Bool.Decides.{eqb_tells, nat_tests}
 use Rattle.std.proofs.lemmas.List.{map-append}
 use Rattle.gate_net.specs.declared.Kind.{Kind}
-use Rattle.gate_net.specs.declared.Kind.TheVariants.{Source, Not}
+use Rattle.gate_net.specs.Meaning.{inversion}
+use Rattle.gate_net.specs.declared.Kind.TheVariants.{Source}
 use Rattle.gate_net.specs.Net.{drivers_of, IsAcyclic, IsLive}
 use Rattle.gate_net.specs.Edits.{with_pin}
 use Rattle.gate_net.specs.Paths.{Reaches}
@@ -19,7 +20,7 @@ use Rattle.pin_pool.specs.declared.names.PinNo.{PinNo}
 use Rattle.gate_graph.specs.declared.undo_list.Undo.{Undo}
 use Rattle.gate_graph.specs.declared.undo_list.Undo.TheVariants.{Appended}
 use Rattle.gate_graph.specs.Undoing.{taken_back, LeadOn}
-use Rattle.gate_graph.proofs.LeadOns.{lead-on, back-rings, within-same, kind-of, live-in, not-not, not-source, not-constant}
+use Rattle.gate_graph.proofs.LeadOns.{lead-on, back-rings, within-same, kind-of, live-in, no-parity, one-parity, not-source, not-constant}
 use Rattle.gate_graph.specs.Circuit.{Circuit, wiring, net_of, home}
 use Rattle.gate_graph.proofs.NetOf.{home-here, map-same, net-with, drivers-there, node-there}
 use Rattle.gate_graph.proofs.Ranked.{acyclic-net, wired-by}
@@ -65,7 +66,7 @@ dropped-linked r p g d once free =
     same-rings _ _ (without-pushed r.inputs g p (fresh-out _ _ p once.inputs free)) (without-pushed r.fanouts d p (fresh-out _ _ p once.fanouts free))
     (ap (λ (b : Bool). changed (changed r.taken p true) p b) (sym free) ∙ changed-back r.taken p true)
 
-pub shaped-linked : (kind : ℕ → Option Kind) (r : Rings) (p g d : ℕ) → IsShaped (record { kind = kind; rings = r }) → kind g ≢ None → kind g ≢ Some Not → kind g ≢ Some Source → g ≢ 1 → kind d ≢ None → IsShaped (record { kind = kind; rings = linked p g d r })
+pub shaped-linked : (kind : ℕ → Option Kind) (r : Rings) (p g d : ℕ) → IsShaped (record { kind = kind; rings = r }) → kind g ≢ None → ((k : Kind) (i : Bool) → kind g ≡ Some k → inversion k ≡ Some i → ⊥) → kind g ≢ Some Source → g ≢ 1 → kind d ≢ None → IsShaped (record { kind = kind; rings = linked p g d r })
 shaped-linked kind r p g d s live junction plain ne1 driver = record {
   zero_is = s.zero_is;
   one_is = s.one_is;
@@ -80,10 +81,9 @@ shaped-linked kind r p g d s live junction plain ne1 driver = record {
     | inl old ↦ let by = s.read n q old in (by.0, pushed-keeps r.inputs g p by.0 q by.1)
     | inr new ↦ (g, rw new.1 (pushed-has r.inputs g p))
   ];
-  nots = λ y e.
-      let ne : y ≢ g = λ is. junction (rw is at e) in
-      let old = s.nots y e in
-      (old.0, changed-other r.inputs g (r.inputs g ++ p ∷ []) y ne ∙ old.1);
+  parities = λ y k i e some.
+      let ne : y ≢ g = λ is. junction k i (ap kind (sym is) ∙ e) some in
+      ap length (changed-other r.inputs g (r.inputs g ++ p ∷ []) y ne) ∙ s.parities y k i e some;
   sources = s.sources;
   first = s.first;
   sources_read = λ n e. changed-other r.inputs g (r.inputs g ++ p ∷ []) n (λ is. plain (ap kind (sym is) ∙ e)) ∙ s.sources_read n e;
@@ -120,12 +120,11 @@ module _ (v w : Circuit) (p g d : ℕ) (kind : Kind) (same : w.kinds ≡ v.kinds
       ∙ ap (λ (x : ℕ). map (home v.pool.fanouts) (ins g) ++ x ∷ []) home-new
       ∙ ap (λ (l : List ℕ). l ++ d ∷ []) (sym (drivers-there v g kind ne live)))
 
-  pub wired-appended : kind ≢ Not → kind ≢ Source → g ≢ 1 → kind_at v.kinds d ≢ None → d ≢ g → (Reaches (net_of v) g d → ⊥) → IsWired (wiring w)
+  pub wired-appended : inversion kind ≡ None → kind ≢ Source → g ≢ 1 → kind_at v.kinds d ≢ None → d ≢ g → (Reaches (net_of v) g d → ⊥) → IsWired (wiring w)
   wired-appended junction plain ne1 driver apart path =
       let some : kind_at v.kinds g ≢ None = λ none. (let wrong : Some kind ≡ None = sym live ∙ none in cc) in
-      let no : kind_at v.kinds g ≢ Some Not = λ is. junction (let both : Some kind ≡ Some Not = sym live ∙ is in cc) in
       let source : kind_at v.kinds g ≢ Some Source = λ is. plain (let both : Some kind ≡ Some Source = sym live ∙ is in cc) in
-      let shape : IsShaped (wiring w) = rw (same, e) (shaped-linked (λ n. kind_at v.kinds n) (rings_of v.pool) p g d ww.shape some no source ne1 driver) in
+      let shape : IsShaped (wiring w) = rw (same, e) (shaped-linked (λ n. kind_at v.kinds n) (rings_of v.pool) p g d ww.shape some (λ k i is inverts. one-parity (kind_at v.kinds g) kind k i live junction is inverts) source ne1 driver) in
       let acyclic : IsAcyclic (net_of w) = rw net-appended (pins_keep_acyclic (net_of v) g d (acyclic-net v rv ww) (kind, (map (home v.pool.fanouts) (ins g), node-there v g kind ne live)) apart path) in
       wired-by w rw' shape acyclic
 
@@ -150,7 +149,7 @@ appends v w g d pin same e rv rw' ww junction driver apart path free =
     let live : kind_at v.kinds g ≡ Some k = kind-of v g _ junction.1.1.0.1 in
     let ne = not-constant v ww.shape g k junction.0 live junction.1.1.1 in
     record {
-      wired = wired-appended v w pin.0 g d k same e rv rw' ww ne.0 live (not-not k junction.0 junction.1.1.1) (not-source k junction.0 junction.1.1.1) ne.1 (live-in v d driver) apart path;
+      wired = wired-appended v w pin.0 g d k same e rv rw' ww ne.0 live (no-parity k junction.0 junction.1.1.1) (not-source k junction.0 junction.1.1.1) ne.1 (live-in v d driver) apart path;
       net = net-appended v w pin.0 g d k same e rv rw' ww ne.0 live;
       undos = back-appended v w pin.0 g d k same e rv rw' ww ne.0 live pin refl free;
     }

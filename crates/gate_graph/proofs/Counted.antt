@@ -6,7 +6,7 @@ use Rattle.std.proofs.lemmas.Bool.{cases_lt, ne_eqb}
 use Rattle.std.proofs.lemmas.List.{length-map}
 use Rattle.std.proofs.lemmas.List.Sums.{sum_by-cons}
 use Rattle.gate_net.specs.declared.Kind.{Kind}
-use Rattle.gate_net.specs.declared.Kind.TheVariants.{Source, Zero, One, And, Or, Not}
+use Rattle.gate_net.specs.declared.Kind.TheVariants.{Source, Zero, One, And, Or, Not, Xor}
 use Rattle.gate_net.specs.Net.{Node, flatten_option, drivers_in, kind_in, count_in, source_in, gate_in, source_count, gate_count, wire_count}
 use Rattle.pin_pool.proofs.Public.{no-pins-from, pins-few, pins-more}
 use Rattle.pin_pool.specs.Pins.{Pins, list_of}
@@ -77,6 +77,7 @@ one-each One a b = absurd (b refl)
 one-each And a b = refl
 one-each Or a b = refl
 one-each Not a b = refl
+one-each Xor a b = refl
 
 varied-count : (ks : List (Option Kind)) → ((n : ℕ) → IsVaried (kind_at ks n)) → sum_kinds source_in ks + sum_kinds gate_in ks + free_in ks ≡ length ks
 varied-count [] h = refl

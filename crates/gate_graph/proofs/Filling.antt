@@ -5,7 +5,11 @@ use Rattle.std.proofs.lemmas.Bool.{cases_eq, ne_eqb, eq-eqb, or_left, or_right}
 use Rattle.std.proofs.lemmas.Bool.Decides.{eqb_tells}
 use Rattle.std.proofs.lemmas.List.{map-append, length-map, take_more}
 use Rattle.gate_net.specs.declared.Kind.{Kind}
-use Rattle.gate_net.specs.declared.Kind.TheVariants.{Source, Zero, One, Not}
+use Rattle.gate_net.specs.declared.Kind.TheVariants.{Source, Zero, One, Not, Xor}
+use Rattle.gate_net.specs.declared.Family.{Family}
+use Rattle.gate_net.specs.declared.Family.TheVariants.{Constant, Input, Junction, Parity}
+use Rattle.gate_net.specs.Meaning.{family, inversion, inversion_in}
+use Rattle.gate_net.proofs.Public.{parity_is}
 use Rattle.gate_net.specs.Net.{node_at}
 use Rattle.rm_base.specs.declared.numbers.NodeId.{NodeId}
 use Rattle.gate_net.specs.Net.{IsGateKind}
@@ -14,7 +18,7 @@ use Rattle.pin_pool.proofs.Public.{changed-other, changed-same, has-push}
 use Rattle.pin_pool.specs.Ring.{has}
 use Rattle.pin_pool.specs.Pins.{Pins, list_of}
 use Rattle.pin_pool.specs.Rings.{Rings, AreRings, rings_of, linked, changed}
-use Rattle.gate_graph.specs.Wirings.{IsShaped, IsWired, kind_at}
+use Rattle.gate_graph.specs.Wirings.{IsShaped, IsWired, kind_at, parity_pins}
 use Rattle.gate_graph.specs.Inner.Filled.{IsFilled}
 use Rattle.gate_graph.specs.Circuit.{Circuit, wiring, net_of, fanouts_of, fans_in, node_with, gate_pins, home}
 use Rattle.gate_graph.proofs.NetOf.{home-here, map-same, node_at-net, observed-net}
@@ -31,10 +35,16 @@ has-more ds d x h = has-push ds d x ∙ or_left _ _ h
 has-last : (ds : List ℕ) (d : ℕ) → has d (ds ++ d ∷ []) ≡ true
 has-last ds d = has-push ds d d ∙ or_right _ _ (eq-eqb d d refl)
 
-only : (xs : List ℕ) → length xs ≡ 1 → (p : ℕ) × (xs ≡ p ∷ [])
-only [] e = absurd (omega arith)
-only (x ∷ []) e = (x, refl)
-only (x ∷ y ∷ ys) e = absurd (omega arith)
+inverting : (f : Family) (i : Bool) → inversion_in f ≡ Some i → f ≡ Parity i
+inverting Input i e = cc
+inverting (Constant b) i e = cc
+inverting (Junction c) i e = cc
+inverting (Parity j) i e = let same : j ≡ i = cc in ap (λ b. Parity b) same
+
+-- a Not has one pin, and an Xor two
+pub parity-count : (kind : Kind) (n : ℕ) → (kind ≡ Not → n ≡ 1) → (kind ≡ Xor → n ≡ 2) → (i : Bool) → inversion kind ≡ Some i → n ≡ parity_pins i
+parity-count kind n one two true e = one (parity_is kind true (inverting (family kind) true e))
+parity-count kind n one two false e = two (parity_is kind false (inverting (family kind) false e))
 
 -- before any pin is made
 pub filled-start : (v : Pins) (n : ℕ) → AreRings (rings_of v) → list_of v.inputs n ≡ [] → IsFilled v v n []
@@ -84,7 +94,7 @@ filled-step v w u n p d ds ne i e ru free =
       ];
     }
 
-module _ (v w : Circuit) (n : ℕ) (kind : Kind) (ds : List ℕ) (rv : AreRings (rings_of v.pool)) (ww : IsWired (wiring v)) (free : kind_at v.kinds n ≡ None) (i : IsFilled v.pool w.pool n ds) (now : (m : ℕ) → kind_at w.kinds m ≡ changed (λ m. kind_at v.kinds m) n (Some kind) m) (live : (d : ℕ) → has d ds ≡ true → kind_at v.kinds d ≢ None) (one : kind ≡ Not → length ds ≡ 1) (gate : IsGateKind kind) where
+module _ (v w : Circuit) (n : ℕ) (kind : Kind) (ds : List ℕ) (rv : AreRings (rings_of v.pool)) (ww : IsWired (wiring v)) (free : kind_at v.kinds n ≡ None) (i : IsFilled v.pool w.pool n ds) (now : (m : ℕ) → kind_at w.kinds m ≡ changed (λ m. kind_at v.kinds m) n (Some kind) m) (live : (d : ℕ) → has d ds ≡ true → kind_at v.kinds d ≢ None) (count : (i : Bool) → inversion kind ≡ Some i → length ds ≡ parity_pins i) (gate : IsGateKind kind) where
   abbrev kinds : ℕ → Option Kind
   kinds m = kind_at v.kinds m
 
@@ -156,12 +166,11 @@ module _ (v w : Circuit) (n : ℕ) (kind : Kind) (ds : List ℕ) (rv : AreRings 
               (by.0, ap (has q) (i.old_in by.0 (live-other by.0 (s.gates_live by.0 q by.1))) ∙ by.1)
           | inr new ↦ (n, new.0)
         ];
-        nots = λ y is. elim (cases_eq y n) [
-          | inr ne ↦ let old = s.nots y (sym (kind-other y ne) ∙ is) in (old.0, i.old_in y ne ∙ old.1)
+        parities = λ y k t is some. elim (cases_eq y n) [
+          | inr ne ↦ ap length (i.old_in y ne) ∙ s.parities y k t (sym (kind-other y ne) ∙ is) some
           | inl here ↦
-              let this : kind ≡ Not = (let both : Some kind ≡ Some Not = sym kind-there ∙ ap (λ (x : ℕ). kind_at w.kinds x) (sym here) ∙ is in cc) in
-              let count : length (list_of w.pool.inputs n) ≡ 1 = sym (length-map (list_of w.pool.inputs n) (home w.pool.fanouts)) ∙ ap length i.homes ∙ one this in
-              rw here (only (list_of w.pool.inputs n) count)
+              let this : kind ≡ k = (let both : Some kind ≡ Some k = sym kind-there ∙ ap (λ (x : ℕ). kind_at w.kinds x) (sym here) ∙ is in cc) in
+              ap (λ (x : ℕ). length (list_of w.pool.inputs x)) here ∙ sym (length-map (list_of w.pool.inputs n) (home w.pool.fanouts)) ∙ ap length i.homes ∙ count t (ap inversion this ∙ some)
         ];
         sources = s.sources;
         first = rw (kinds-now) (first-changed (λ m. kind_at v.kinds m) n s.sources (Some kind) s.first (rw free none-no_first) (gate-no_first kind gate));
@@ -217,12 +226,12 @@ pub record Fills (v w : Circuit) (n : ℕ) (kind : Kind) (ds : List ℕ) : Type 
   pub differs : DiffersAt (net_of v) (net_of w) n
   pub node : node_at (net_of w) n ≡ Some (record { kind = kind; drivers = ds })
 
-pub fills : (v w : Circuit) (n : ℕ) (kind : Kind) (ds : List ℕ) → AreRings (rings_of v.pool) → IsWired (wiring v) → kind_at v.kinds n ≡ None → IsFilled v.pool w.pool n ds → ((m : ℕ) → kind_at w.kinds m ≡ changed (λ m. kind_at v.kinds m) n (Some kind) m) → ((d : ℕ) → has d ds ≡ true → kind_at v.kinds d ≢ None) → (kind ≡ Not → length ds ≡ 1) → IsGateKind kind → Fills v w n kind ds
-fills v w n kind ds rv ww free i now live one gate =
+pub fills : (v w : Circuit) (n : ℕ) (kind : Kind) (ds : List ℕ) → AreRings (rings_of v.pool) → IsWired (wiring v) → kind_at v.kinds n ≡ None → IsFilled v.pool w.pool n ds → ((m : ℕ) → kind_at w.kinds m ≡ changed (λ m. kind_at v.kinds m) n (Some kind) m) → ((d : ℕ) → has d ds ≡ true → kind_at v.kinds d ≢ None) → ((i : Bool) → inversion kind ≡ Some i → length ds ≡ parity_pins i) → IsGateKind kind → Fills v w n kind ds
+fills v w n kind ds rv ww free i now live count gate =
     let r : ℕ → ℕ = λ m. changed ww.rank n (rank_sum ww.rank ds) m in
-    let net = net-filled v w n kind ds rv ww free i now live one gate in
+    let net = net-filled v w n kind ds rv ww free i now live count gate in
     record {
-      wired = ranked-filled v w n kind ds rv ww free i now live one gate r
+      wired = ranked-filled v w n kind ds rv ww free i now live count gate r
           (λ d h. rw (changed-same ww.rank n (rank_sum ww.rank ds)) (above-sum ww.rank ds d h))
           (λ m ne. changed-other ww.rank n (rank_sum ww.rank ds) m ne);
       differs = net.0;

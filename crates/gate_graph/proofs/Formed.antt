@@ -1,23 +1,23 @@
 -- Each graph's net is well formed.
-use Rattle.std.proofs.Common.{◌≡◌, ◌≢◌, ℕ, zero, suc, ◌+◌, ◌<◌, ◌≤◌, arith, List, [], ◌∷◌, length, map, Option, Some, None, inl, inr, refl, sym, ap, ◌∙◌}
+use Rattle.std.proofs.Common.{◌≡◌, ◌≢◌, ℕ, zero, suc, ◌+◌, ◌<◌, ◌≤◌, arith, List, [], ◌∷◌, length, map, Option, Some, None, inl, inr, refl, sym, ap, ◌∙◌, Bool, true, false}
 use Rattle.std.specs.Prelude.{slice_get, sum_by}
 use Rattle.std.proofs.lemmas.List.Sums.{sum_by-cons}
 use Rattle.std.specs.Option.{option_map}
-use Rattle.std.proofs.lemmas.Bool.{cases_lt, ne_eqb}
-use Rattle.std.proofs.lemmas.List.{get_or_past}
+use Rattle.std.proofs.lemmas.Bool.{cases_lt}
+use Rattle.std.proofs.lemmas.List.{get_or_past, length-map}
 use Rattle.std.proofs.lemmas.Option.{slice_get-map}
 use Rattle.gate_net.specs.declared.Kind.{Kind}
-use Rattle.gate_net.specs.declared.Kind.TheVariants.{Source, Zero, One, And, Or, Not}
+use Rattle.gate_net.specs.declared.Kind.TheVariants.{Source, Zero, One, And, Or, Not, Xor}
+use Rattle.gate_net.specs.Meaning.{inversion}
 use Rattle.gate_net.specs.Edits.{IsLeastFree}
-use Rattle.gate_net.specs.Net.{Net, Node, flatten_option, node_at, kind_in, kind_of, IsKind, count_in, source_in, source_count, IsWellFormed}
+use Rattle.gate_net.specs.Net.{Net, Node, flatten_option, node_at, kind_in, kind_of, IsKind, count_in, source_in, source_count, IsWellFormed, drivers_of}
 use Rattle.pin_pool.specs.Pins.{list_of}
 use Rattle.pin_pool.specs.Rings.{AreRings, rings_of}
-use Rattle.gate_graph.specs.Wirings.{IsShaped, IsWired, kind_at}
+use Rattle.gate_graph.specs.Wirings.{IsShaped, IsWired, kind_at, parity_pins}
 use Rattle.gate_graph.specs.Circuit.{Circuit, wiring, net_of, node_with, gate_pins, home}
 use Rattle.gate_graph.specs.Inner.Circuit.{kinds_live}
-use Rattle.gate_graph.proofs.NetOf.{node_at-net, node-there, observed-net, nodes-trimmed, home-here}
-use Rattle.gate_graph.proofs.LeadOns.{kind-of}
-use Rattle.gate_graph.proofs.Pinned.{drivers-all}
+use Rattle.gate_graph.proofs.NetOf.{node_at-net, node-there, observed-net, nodes-trimmed, home-here, drivers-there}
+use Rattle.gate_graph.proofs.LeadOns.{kind-of, one-parity}
 use Rattle.gate_graph.proofs.Ranked.{acyclic-net, read-by, mapped}
 use Rattle.pin_pool.proofs.Public.{has-there}
 
@@ -67,6 +67,7 @@ no-source (Some n) ne = by n.kind (λ is. ne (ap (λ (k : Kind). Some k) is))
     by And ne = refl
     by Or ne = refl
     by Not ne = refl
+    by Xor ne = refl
 
 -- a list that begins with so many sources, and has no others
 count-first : (xs : List (Option Node)) (s : ℕ) → ((k : ℕ) → k < s → kind_in (flatten_option (slice_get xs k)) ≡ Some Source) → ((k : ℕ) → kind_in (flatten_option (slice_get xs k)) ≡ Some Source → k < s) → sum_by is_source xs ≡ s
@@ -101,6 +102,23 @@ sources-net v s =
     (λ k h. kind (suc (suc k)) ∙ (let e : suc (suc k) ≡ 2 + k = omega arith in ap (kind_at v.kinds) e ∙ s.first.source_is k h))
     (λ k e. (let found : (2 ≤ suc (suc k)) × (suc (suc k) < 2 + s.sources) = s.first.only_source (suc (suc k)) (sym (kind (suc (suc k))) ∙ e) in let h = found.1 in omega (arith, h)))
 
+one-of : (xs : List ℕ) → length xs ≡ 1 → (d : ℕ) × (xs ≡ d ∷ [])
+one-of [] e = absurd (omega arith)
+one-of (x ∷ []) e = (x, refl)
+one-of (x ∷ y ∷ ys) e = absurd (omega arith)
+
+two-of : (xs : List ℕ) → length xs ≡ 2 → (d e : ℕ) × (xs ≡ d ∷ e ∷ [])
+two-of [] e = absurd (omega arith)
+two-of (x ∷ []) e = absurd (omega arith)
+two-of (x ∷ y ∷ []) e = (x, y, refl)
+two-of (x ∷ y ∷ z ∷ zs) e = absurd (omega arith)
+
+parity-drivers : (v : Circuit) → IsShaped (wiring v) → (y : ℕ) (kind : Kind) (i : Bool) → IsKind (net_of v) y kind → inversion kind ≡ Some i → length (drivers_of (net_of v) y) ≡ parity_pins i
+parity-drivers v s y kind i is some =
+    let live : kind_at v.kinds y ≡ Some kind = kind-of v y _ is.1 in
+    let ne : y ≢ 0 = λ zero. one-parity (kind_at v.kinds 0) Zero kind i s.zero_is refl (ap (λ (n : ℕ). kind_at v.kinds n) (sym zero) ∙ live) some in
+    ap length (drivers-there v y kind ne live) ∙ length-map (list_of v.pool.inputs y) (home v.pool.fanouts) ∙ s.parities y kind i live some
+
 pub well-formed : (v : Circuit) → AreRings (rings_of v.pool) → IsWired (wiring v) → IsWellFormed (net_of v)
 well-formed v r w =
     let s = w.shape in record {
@@ -116,11 +134,8 @@ well-formed v r w =
           let by = s.driven 0 pin.0 (has-there (list_of v.pool.inputs 0) at.0 pin.0 (sym pin.1.0)) in
           let is : by.0 ≡ x = sym (home-here v.pool.fanouts _ pin.0 by.0 r.fanouts by.1) ∙ pin.1.1 in
           live-node v x (λ none. s.drivers_live by.0 pin.0 by.1 (ap (λ (n : ℕ). kind_at v.kinds n) is ∙ none)));
-      nots_have_one = λ y is. (
-          let kind : kind_at v.kinds y ≡ Some Not = kind-of v y _ is.1 in
-          let one = s.nots y kind in
-          let ne : y ≢ 0 = λ zero. (let both : Some Zero ≡ Some Not = sym s.zero_is ∙ ap (λ (n : ℕ). kind_at v.kinds n) (sym zero) ∙ kind in cc) in
-          (home v.pool.fanouts one.0, drivers-all v s y ∙ rw (ne_eqb y 0 ne, one.1) refl));
+      nots_have_one = λ y is. one-of (drivers_of (net_of v) y) (parity-drivers v s y Not true is refl);
+      xors_have_two = λ y is. two-of (drivers_of (net_of v) y) (parity-drivers v s y Xor false is refl);
       only_zero = λ x is. s.first.only_zero x (kind-of v x _ is.1);
       only_one = λ x is. s.first.only_one x (kind-of v x _ is.1);
       sources = record {

@@ -1,10 +1,12 @@
 -- A new graph, and a pool that has grown.
-use Rattle.std.proofs.Common.{◌≡◌, ◌≢◌, ℕ, zero, suc, ◌+◌, ◌<◌, ◌≤◌, List, [], ◌∷◌, ◌++◌, length, set, replicate, Option, Some, None, refl, sym, ap, ◌∙◌, arith, subst, length-append}
+use Rattle.std.proofs.Common.{◌≡◌, ◌≢◌, ℕ, zero, suc, ◌+◌, ◌<◌, ◌≤◌, List, [], ◌∷◌, ◌++◌, length, set, replicate, Option, Some, None, refl, sym, ap, ◌∙◌, arith, subst, length-append, Bool}
 use Rattle.std.proofs.lemmas.List.{length-replicate}
 use Rattle.gate_net.specs.declared.Kind.{Kind}
-use Rattle.gate_net.specs.declared.Kind.TheVariants.{Source, Zero, One, Not}
+use Rattle.gate_net.specs.declared.Kind.TheVariants.{Source, Zero, One}
 use Rattle.pin_pool.specs.Pins.{Pins}
 use Rattle.pin_pool.specs.Rings.{Rings, rings_of, no_rings}
+use Rattle.gate_net.specs.Meaning.{inversion}
+use Rattle.gate_graph.proofs.LeadOns.{one-parity}
 use Rattle.gate_graph.specs.Wirings.{Wiring, kind_at, wiring_of, AreFirst, IsShaped, IsWired}
 use Rattle.gate_graph.specs.Circuit.{Circuit, wiring, net_of}
 use Rattle.gate_graph.specs.Inner.Circuit.{IsGraph, kinds_live, kinds_dead}
@@ -21,15 +23,15 @@ kinds-new xs zero s e f = absurd (omega arith)
 kinds-new xs (suc zero) s e f = absurd (omega arith)
 kinds-new xs (suc (suc n)) s e f = let g : n ≡ s = omega arith in rw (e, g) refl
 
-source-or-none : (n m : ℕ) → kind_at (replicate n (Some Source)) m ≡ Some Not → ⊥
-source-or-none zero m e = cc
-source-or-none (suc n) zero e = cc
-source-or-none (suc n) (suc m) e = source-or-none n m e
+sources-alone : (n m : ℕ) (k : Kind) (i : Bool) → kind_at (replicate n (Some Source)) m ≡ Some k → inversion k ≡ Some i → ⊥
+sources-alone zero m k i e some = cc
+sources-alone (suc n) zero k i e some = one-parity (Some Source) Source k i refl refl e some
+sources-alone (suc n) (suc m) k i e some = sources-alone n m k i e some
 
-no-not : (n y : ℕ) → kind_at (first_kinds n) y ≡ Some Not → ⊥
-no-not n zero e = cc
-no-not n (suc zero) e = cc
-no-not n (suc (suc y)) e = source-or-none n y e
+no-parities : (n y : ℕ) (k : Kind) (i : Bool) → kind_at (first_kinds n) y ≡ Some k → inversion k ≡ Some i → ⊥
+no-parities n zero k i e some = one-parity (Some Zero) Zero k i refl refl e some
+no-parities n (suc zero) k i e some = one-parity (Some One) One k i refl refl e some
+no-parities n (suc (suc y)) k i e some = sources-alone n y k i e some
 
 within-sources : (n m : ℕ) → kind_at (replicate n (Some Source)) m ≢ None → m < n
 within-sources zero m live = absurd (live refl)
@@ -80,7 +82,7 @@ wired-new kinds v s e f =
       drivers_live = λ n p h. cc;
       driven = λ g p h. absurd cc;
       read = λ n p h. absurd cc;
-      nots = λ y h. absurd (no-not s y h);
+      parities = λ y k i e some. absurd (no-parities s y k i e some);
       sources = s;
       first = first-new s;
       sources_read = λ n h. refl;

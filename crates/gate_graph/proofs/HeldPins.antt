@@ -14,7 +14,7 @@ use Rattle.pin_pool.specs.Ring.{has}
 use Rattle.pin_pool.specs.Pins.{Pins, list_of}
 use Rattle.pin_pool.specs.Rings.{rings_of, AreRings, IsLinked}
 use Rattle.gate_graph.specs.declared.undo_list.Undo.{Undo}
-use Rattle.gate_graph.specs.declared.undo_list.Undo.TheVariants.{Appended, Removed, Redriven, Moved, Made, Retired}
+use Rattle.gate_graph.specs.declared.undo_list.Undo.TheVariants.{Appended, Removed, Redriven, Moved, Made, Retired, Turned}
 use Rattle.gate_graph.specs.Undoing.{CanTakeBack, taken_back}
 use Rattle.gate_graph.proofs.KindAt.{kind-within}
 use Rattle.gate_graph.specs.Wirings.{Wiring, wiring_of}
@@ -84,6 +84,9 @@ linked-back kinds kinds' v w (Made node pin) size r room can is = omega (arith, 
 linked-back kinds kinds' v w (Removed pin slot) size r room can is =
     let within : slot.gate < length kinds = kind-within kinds slot.gate can.1.1.1.0 in
     omega (arith, linked-more v w size slot.gate 1 _ (ap (λ (x : Wiring). x.rings.inputs) is) (omega (arith, within)) (length-put_after (list_of v.inputs slot.gate) slot.in_gate pin.0))
+linked-back kinds kinds' v w (Turned pin slot kind) size r room can is =
+    let within : slot.gate < length kinds = kind-within kinds slot.gate can.1.1.1.0 in
+    omega (arith, linked-more v w size slot.gate 1 _ (ap (λ (x : Wiring). x.rings.inputs) is) (omega (arith, within)) (length-put_after (list_of v.inputs slot.gate) slot.in_gate pin.0))
 linked-back kinds kinds' v w (Redriven pin slot) size r room can is = omega (arith, linked-same v w size (ap (λ (x : Wiring). x.rings.inputs) is))
 linked-back kinds kinds' v w (Moved splice) size r room can is = omega (arith, linked-same v w size (ap (λ (x : Wiring). x.rings.inputs) is))
 linked-back kinds kinds' v w (Retired node kind) size r room can is = omega (arith, linked-same v w size (ap (λ (x : Wiring). x.rings.inputs) is))
@@ -95,6 +98,7 @@ made-more (Removed pin slot) es = omega arith
 made-more (Redriven pin slot) es = omega arith
 made-more (Moved splice) es = omega arith
 made-more (Retired node kind) es = omega arith
+made-more (Turned pin slot kind) es = omega arith
 
 -- what undoing keeps
 pub record IsUndoing (v : Pins) (es : List Undo) (w : Pins) (fs : List Undo) : Type 0 where

@@ -1,10 +1,12 @@
 -- Undos lead on where the new entry can be taken back.
 use Rattle.std.proofs.Common.{◌≡◌, ◌≢◌, ℕ, List, ◌∷◌, length, refl, sym, ap, ◌∙◌, subst, Option, Some, None, Bool}
 use Rattle.gate_net.specs.declared.Kind.{Kind}
-use Rattle.gate_net.specs.declared.Kind.TheVariants.{Zero, One, Not, And, Or, Source}
+use Rattle.gate_net.specs.declared.Family.{Family}
+use Rattle.gate_net.specs.declared.Family.TheVariants.{Constant, Input, Junction, Parity}
+use Rattle.gate_net.specs.declared.Kind.TheVariants.{Zero, One, Source}
 use Rattle.gate_net.specs.Net.{node_at}
 use Rattle.gate_net.specs.Net.{IsLive}
-use Rattle.gate_net.specs.Values.{controlling}
+use Rattle.gate_net.specs.Meaning.{controlling, controlling_in, family, inversion, inversion_in}
 use Rattle.gate_graph.specs.declared.undo_list.Undo.{Undo}
 use Rattle.pin_pool.specs.Rings.{Rings, rings_of}
 use Rattle.gate_graph.specs.Wirings.{Wiring, kind_at, IsShaped}
@@ -58,30 +60,27 @@ kind-of v x n e = kind-with (kind_at v.kinds x) _ n (sym (node_at-net v x) ∙ e
 pub live-in : (v : Circuit) (x : ℕ) → IsLive (net_of v) x → kind_at v.kinds x ≢ None
 live-in v x l none = let some = kind-of v x _ l.1.1 in (let wrong : Some l.0 ≡ None = sym some ∙ none in cc)
 
--- a junction is neither a constant nor a Not
-pub not-not : (k : Kind) (c : Bool) → controlling k ≡ Some c → k ≢ Not
-not-not Source c e = cc
-not-not Zero c e = cc
-not-not One c e = cc
-not-not Not c e = cc
-not-not And c e = λ is. cc
-not-not Or c e = λ is. cc
+no-inversion : (f : Family) (c : Bool) → controlling_in f ≡ Some c → inversion_in f ≡ None
+no-inversion Input c e = cc
+no-inversion (Constant b) c e = cc
+no-inversion (Junction b) c e = refl
+no-inversion (Parity i) c e = cc
+
+-- a junction is no parity, no source and no constant
+pub no-parity : (k : Kind) (c : Bool) → controlling k ≡ Some c → inversion k ≡ None
+no-parity k = no-inversion (family k)
 
 pub not-source : (k : Kind) (c : Bool) → controlling k ≡ Some c → k ≢ Source
-not-source Source c e = cc
-not-source Zero c e = cc
-not-source One c e = cc
-not-source Not c e = cc
-not-source And c e = λ is. cc
-not-source Or c e = λ is. cc
+not-source k c e is = let none : None ≡ Some c = ap controlling (sym is) ∙ e in cc
 
 not-zero-kind : (k : Kind) (c : Bool) → controlling k ≡ Some c → (k ≢ Zero) × (k ≢ One)
-not-zero-kind Source c e = cc
-not-zero-kind Zero c e = cc
-not-zero-kind One c e = cc
-not-zero-kind Not c e = cc
-not-zero-kind And c e = (λ is. cc, λ is. cc)
-not-zero-kind Or c e = (λ is. cc, λ is. cc)
+not-zero-kind k c e = (λ is. let none : None ≡ Some c = ap controlling (sym is) ∙ e in cc, λ is. let none : None ≡ Some c = ap controlling (sym is) ∙ e in cc)
+
+-- one number has one kind
+pub one-parity : (o : Option Kind) (j k : Kind) (i : Bool) → o ≡ Some j → inversion j ≡ None → o ≡ Some k → inversion k ≡ Some i → ⊥
+one-parity o j k i is none is' some =
+    let same : j ≡ k = (let both : Some j ≡ Some k = sym is ∙ is' in cc) in
+    let wrong : None ≡ Some i = sym none ∙ ap inversion same ∙ some in cc
 
 pub not-constant : (v : Circuit) → IsShaped (wiring v) → (x : ℕ) (k : Kind) (c : Bool) → kind_at v.kinds x ≡ Some k → controlling k ≡ Some c → (x ≢ 0) × (x ≢ 1)
 not-constant v s x k c e j =

@@ -23,6 +23,7 @@ pub mod Numbers
 pub mod Making
 pub mod Retiring
 pub mod SameWired
+pub mod Turned
 pub mod Holding
 pub mod Observing
 pub mod PlaceLists

@@ -3,6 +3,7 @@ use Rattle.std.proofs.Common.{◌≡◌, ◌≢◌, ℕ, suc, ◌<◌, Bool, tru
 use Rattle.std.proofs.lemmas.Bool.{cases_eq, cases_lt, ne_eqb, false≢true}
 use Rattle.gate_net.specs.declared.Kind.{Kind}
 use Rattle.gate_net.specs.declared.Kind.TheVariants.{Source, Zero, One, Not}
+use Rattle.gate_net.specs.Meaning.{inversion}
 use Rattle.gate_net.specs.Net.{node_at}
 use Rattle.gate_net.specs.Net.{IsLive}
 use Rattle.pin_pool.proofs.Public.{changed-back, changed-other, changed-same}
@@ -133,9 +134,12 @@ module _ (v w : Circuit) (p n d : ℕ) (e : rings_of w.pool ≡ linked p n d (ri
           | inl old ↦ let by = s.read m q old in (by.0, pushed-keeps ins n p by.0 q by.1)
           | inr new ↦ (n, rw new.1 (pushed-has ins n p))
         ];
-        nots = λ y is. elim (cases_eq y n) [
-          | inl here ↦ (p, rw here (changed-same ins n (ins n ++ p ∷ []) ∙ ap (λ (l : List ℕ). l ++ p ∷ []) (dead-pins v s n free)))
-          | inr ne ↦ let old = s.nots y (sym (changed-other kinds n (Some Not) y ne) ∙ is) in (old.0, changed-other ins n (ins n ++ p ∷ []) y ne ∙ old.1)
+        parities = λ y k i is some. elim (cases_eq y n) [
+          | inl here ↦
+              let this : Not ≡ k = (let both : Some Not ≡ Some k = sym (changed-same kinds n (Some Not)) ∙ ap made (sym here) ∙ is in cc) in
+              let turns : i ≡ true = (let both : Some true ≡ Some i = ap inversion this ∙ some in cc) in
+              rw (here, turns) (ap length (changed-same ins n (ins n ++ p ∷ []) ∙ ap (λ (l : List ℕ). l ++ p ∷ []) (dead-pins v s n free)))
+          | inr ne ↦ ap length (changed-other ins n (ins n ++ p ∷ []) y ne) ∙ s.parities y k i (sym (changed-other kinds n (Some Not) y ne) ∙ is) some
         ];
         sources = s.sources;
         first = first-changed kinds n s.sources (Some Not) s.first (rw free none-no_first) (gate-no_first Not tt);

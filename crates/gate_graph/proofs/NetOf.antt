@@ -6,14 +6,14 @@ use Rattle.std.proofs.lemmas.Bool.Decides.{nat_tests}
 use Rattle.std.proofs.lemmas.List.{get_or_past}
 use Rattle.gate_net.specs.declared.Kind.{Kind}
 use Rattle.gate_net.specs.Net.{Node, Net, flatten_option, node_at, drivers_of, drivers_in}
-use Rattle.gate_net.specs.Edits.{with_drivers, redriven}
+use Rattle.gate_net.specs.Edits.{with_drivers, with_node, redriven}
 use Rattle.pin_pool.specs.Ring.{has}
 use Rattle.pin_pool.specs.Pins.{list_of}
 use Rattle.pin_pool.specs.Rings.{AreOnce}
 use Rattle.gate_graph.specs.Wirings.{kind_at}
 use Rattle.gate_net.specs.Net.{trimmed, before_dead}
 use Rattle.gate_graph.specs.Circuit.{Circuit, net_of, node_in, node_with, gate_pins, home, number_with, number_or_zero, each_from}
-use Rattle.gate_net.proofs.Public.{node_at-other, node_at-there}
+use Rattle.gate_net.proofs.Public.{with_node-other, with_node-there}
 
 before-get : (x : Option Node) (ys : List (Option Node)) (n : ℕ) → flatten_option (slice_get (before_dead x ys) n) ≡ flatten_option (slice_get (x ∷ ys) n)
 before-get None [] zero = refl
@@ -116,22 +116,26 @@ node-there v g kind ne e = node_at-net v g ∙ rw (e, ne_eqb g 0 ne) refl
 pub drivers-there : (v : Circuit) (g : ℕ) (kind : Kind) → g ≢ 0 → kind_at v.kinds g ≡ Some kind → drivers_of (net_of v) g ≡ map (home v.pool.fanouts) (list_of v.pool.inputs g)
 drivers-there v g kind ne e = ap drivers_in (node-there v g kind ne e)
 
--- what differs between two circuits is the drivers of one gate
-pub net-with : (v w : Circuit) (g : ℕ) (kind : Kind) (drivers : List ℕ) → g ≢ 0 → kind_at v.kinds g ≡ Some kind → ((n : ℕ) → kind_at w.kinds n ≡ kind_at v.kinds n) → ((n : ℕ) → n ≢ g → map (home w.pool.fanouts) (list_of w.pool.inputs n) ≡ map (home v.pool.fanouts) (list_of v.pool.inputs n)) → map (home w.pool.fanouts) (list_of w.pool.inputs g) ≡ drivers → net_of w ≡ with_drivers (net_of v) g drivers
-net-with v w g kind drivers ne live kinds others there =
-    let old = node-there v g kind ne live in
-    let after = with_drivers (net_of v) g drivers in
-    let is : redriven drivers (node_at (net_of v) g) ≡ Some (record { kind = kind; drivers = drivers }) = ap (redriven drivers) old in
-    net-ext w after
-    (rw is (trimmed-set (net_of v).nodes g (record { kind = kind; drivers = drivers }) (nodes-trimmed v)))
+-- what differs between two circuits is the node of one gate
+pub net-node : (v w : Circuit) (g : ℕ) (kind kind' : Kind) (drivers : List ℕ) → g ≢ 0 → kind_at v.kinds g ≡ Some kind → kind_at w.kinds g ≡ Some kind' → ((n : ℕ) → n ≢ g → kind_at w.kinds n ≡ kind_at v.kinds n) → ((n : ℕ) → n ≢ g → map (home w.pool.fanouts) (list_of w.pool.inputs n) ≡ map (home v.pool.fanouts) (list_of v.pool.inputs n)) → map (home w.pool.fanouts) (list_of w.pool.inputs g) ≡ drivers → net_of w ≡ with_node (net_of v) g (record { kind = kind'; drivers = drivers })
+net-node v w g kind kind' drivers ne was live kinds others there =
+    let old = node-there v g kind ne was in
+    let new : Node = record { kind = kind'; drivers = drivers } in
+    net-ext w (with_node (net_of v) g new) (trimmed-set (net_of v).nodes g new (nodes-trimmed v))
     (λ n. elim (cases_eq n g) [
-      | inl e ↦ rw e (rw (kinds g, live, ne_eqb g 0 ne, there) (sym (node_at-there (net_of v) g drivers _ old)))
-      | inr ne' ↦ node-other n ne' ∙ sym (node_at-net v n) ∙ sym (node_at-other (net_of v) g drivers n ne')
+      | inl e ↦ rw e (rw (live, ne_eqb g 0 ne, there) (sym (with_node-there (net_of v) g new _ old)))
+      | inr ne' ↦ node-other n ne' ∙ sym (node_at-net v n) ∙ sym (with_node-other (net_of v) g new n ne')
     ])
     (others 0 (λ e. ne (sym e)) ∙ sym (observed-net v))
   where
     node-other : (n : ℕ) → n ≢ g → node_in w n ≡ node_in v n
     node-other n ne' = elim (cases_eq n 0) [
-      | inl e ↦ rw (kinds n, e) refl
-      | inr e ↦ rw (kinds n, ne_eqb n 0 e, others n ne') refl
+      | inl e ↦ let k = kinds n ne' in rw (k, e) refl
+      | inr e ↦ let k = kinds n ne' in rw (k, ne_eqb n 0 e, others n ne') refl
     ]
+
+-- or only its drivers
+pub net-with : (v w : Circuit) (g : ℕ) (kind : Kind) (drivers : List ℕ) → g ≢ 0 → kind_at v.kinds g ≡ Some kind → ((n : ℕ) → kind_at w.kinds n ≡ kind_at v.kinds n) → ((n : ℕ) → n ≢ g → map (home w.pool.fanouts) (list_of w.pool.inputs n) ≡ map (home v.pool.fanouts) (list_of v.pool.inputs n)) → map (home w.pool.fanouts) (list_of w.pool.inputs g) ≡ drivers → net_of w ≡ with_drivers (net_of v) g drivers
+net-with v w g kind drivers ne live kinds others there =
+    net-node v w g kind kind drivers ne live (kinds g ∙ live) (λ n other. kinds n) others there
+    ∙ ap (λ (o : Option Node). let x : Net = record (net_of v) { nodes = set (net_of v).nodes g o } in x) (sym (ap (redriven drivers) (node-there v g kind ne live)))

@@ -3,12 +3,13 @@ use Rattle.std.proofs.Common.{◌≡◌, ◌≢◌, ℕ, Bool, true, false, List
 use Rattle.std.proofs.lemmas.Bool.{cases_eq, ne_eqb, false≢true}
 use Rattle.std.proofs.lemmas.List.{map-append}
 use Rattle.gate_net.specs.declared.Kind.{Kind}
-use Rattle.gate_net.specs.declared.Kind.TheVariants.{Source, Zero, Not}
+use Rattle.gate_net.specs.declared.Kind.TheVariants.{Source, Zero}
 use Rattle.gate_net.specs.Net.{Net}
 use Rattle.pin_pool.proofs.Public.{changed-other, changed-same}
 use Rattle.pin_pool.specs.Ring.{has}
 use Rattle.pin_pool.specs.Pins.{list_of}
 use Rattle.pin_pool.specs.Rings.{Rings, AreRings, rings_of, linked}
+use Rattle.gate_graph.proofs.LeadOns.{one-parity}
 use Rattle.gate_graph.specs.Wirings.{Wiring, IsWired, kind_at}
 use Rattle.gate_graph.specs.Circuit.{Circuit, wiring, net_of, fanouts_of, node_with, gate_pins, home}
 use Rattle.gate_graph.proofs.NetOf.{home-here, map-same, net-ext, node_at-net, nodes-trimmed, observed-net}
@@ -38,10 +39,9 @@ observes v w p d same e rv rw' ww driver free =
     let x : Wiring = record { kind = λ n. kind_at v.kinds n; rings = linked p 0 d (rings_of v.pool) } in
     let now : wiring w ≡ x = rw (same, e) refl in
     let no-zero : kind_at v.kinds 0 ≢ None = λ none. (let both : Some Zero ≡ None = sym s.zero_is ∙ none in cc) in
-    let no-not : kind_at v.kinds 0 ≢ Some Not = λ is. (let both : Some Zero ≡ Some Not = sym s.zero_is ∙ is in cc) in
     let no-source : kind_at v.kinds 0 ≢ Some Source = λ is. (let both : Some Zero ≡ Some Source = sym s.zero_is ∙ is in cc) in
     let wired : IsWired x = record {
-      shape = shaped-linked (λ n. kind_at v.kinds n) (rings_of v.pool) p 0 d s no-zero no-not no-source (λ is. absurd (omega arith)) driver;
+      shape = shaped-linked (λ n. kind_at v.kinds n) (rings_of v.pool) p 0 d s no-zero (λ k i is inverts. one-parity (kind_at v.kinds 0) Zero k i s.zero_is refl is inverts) no-source (λ is. absurd (omega arith)) driver;
       rank = ww.rank;
       ranked = λ g m q ne h k.
           let was : has q (ins g) ≡ true = ap (has q) (sym (changed-other ins 0 (ins 0 ++ p ∷ []) g ne)) ∙ h in

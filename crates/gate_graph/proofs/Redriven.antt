@@ -133,7 +133,7 @@ module _ (v w : Circuit) (p d : ℕ) (same : w.kinds ≡ v.kinds) (e : rings_of 
             | inr ne' ↦ let by = s.driven n q h in (by.0, pushed-keeps rest d p by.0 q (keeps outs _ rv.fanouts p by.0 q by.1 ne'))
           ];
           read = λ n q h. elim (pushed-had rest d p n q h) [ inl old ↦ s.read n q (had outs _ rv.fanouts p n q old).0 | inr new ↦ (g, rw new.1 in-gate) ];
-          nots = s.nots;
+          parities = s.parities;
           sources = s.sources;
           first = s.first;
           sources_read = s.sources_read;

@@ -136,7 +136,7 @@ module _ (v w : Circuit) (from to : ℕ) (apart : from ≢ to) (same : w.kinds �
         drivers_live = λ n q h. elim (after-had outs from to apart n q h) [ inl old ↦ s.drivers_live n q old | inr new ↦ rw new.0 live ];
         driven = λ n q h. (let by = s.driven n q h in (redirected from to by.0, after-keeps outs from to apart by.0 q by.1));
         read = λ n q h. elim (after-had outs from to apart n q h) [ inl old ↦ s.read n q old | inr new ↦ s.read from q new.1 ];
-        nots = s.nots;
+        parities = s.parities;
         sources = s.sources;
         first = s.first;
         sources_read = s.sources_read;

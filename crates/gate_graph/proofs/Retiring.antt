@@ -7,7 +7,7 @@ use Rattle.std.proofs.lemmas.Bool.{cases_eq, ne_eqb, false≢true, false_from_ne
 use Rattle.std.proofs.lemmas.Option.{slice_get-map}
 use Rattle.std.proofs.lemmas.List.{length-map}
 use Rattle.gate_net.specs.declared.Kind.{Kind}
-use Rattle.gate_net.specs.declared.Kind.TheVariants.{Source, Zero, One, And, Or, Not}
+use Rattle.gate_net.specs.declared.Kind.TheVariants.{Source, Zero, One}
 use Rattle.gate_net.specs.Net.{node_at, drivers_of}
 use Rattle.gate_net.specs.Net.{IsGate, IsGateKind}
 use Rattle.gate_net.specs.Edits.{IsUnread, DiffersAt}
@@ -79,12 +79,7 @@ emptied-step v w u g pin slot es fs ww nz i same e ru at s =
     )
 
 gate-not-constant : (k : Kind) → IsGateKind k → (k ≢ Zero) × (k ≢ One)
-gate-not-constant Source h = absurd h
-gate-not-constant Zero h = absurd h
-gate-not-constant One h = absurd h
-gate-not-constant And h = (λ is. cc, λ is. cc)
-gate-not-constant Or h = (λ is. cc, λ is. cc)
-gate-not-constant Not h = (λ is. cc, λ is. cc)
+gate-not-constant k h = (λ is. subst (λ (x : Kind). IsGateKind x) is h, λ is. subst (λ (x : Kind). IsGateKind x) is h)
 
 -- nothing reads a node without readers
 pub no-fanouts : (v : Circuit) (g : ℕ) → AreRings (rings_of v.pool) → IsShaped (wiring v) → IsUnread (net_of v) g → (q : ℕ) → has q (list_of v.pool.fanouts g) ≡ true → ⊥
@@ -140,10 +135,9 @@ module _ (v w u : Circuit) (g : ℕ) (es fs : List Undo) (kind : Kind) (rv : Are
             let was = i.less_out n q h in
             let by = s.read n q was in
             (by.0, i.read n q h by.0 by.1));
-        nots = λ y is. (
-            let ne : y ≢ g = λ here. (let both : None ≡ Some Not = sym left-there ∙ ap left (sym here) ∙ is in cc) in
-            let old = s.nots y (sym (left-other y ne) ∙ is) in
-            (old.0, i.others y ne ∙ old.1));
+        parities = λ y k t is some. (
+            let ne : y ≢ g = λ here. (let both : None ≡ Some k = sym left-there ∙ ap left (sym here) ∙ is in cc) in
+            ap length (i.others y ne) ∙ s.parities y k t (sym (left-other y ne) ∙ is) some);
         sources = s.sources;
         first = first-changed (λ n. kind_at w.kinds n) g s.sources None (subst (λ (f : ℕ → Option Kind). AreFirst f s.sources) (fun_ext (λ n. sym (kind-was n))) s.first) (rw (kind-was g ∙ live) (gate-no_first kind gate)) none-no_first;
         sources_read = λ y is. (

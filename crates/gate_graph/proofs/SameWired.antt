@@ -3,7 +3,7 @@ use Rattle.std.proofs.Common.{◌≡◌, ℕ, suc, ◌≤◌, List, [], ◌∷�
 use Rattle.pin_pool.specs.Pins.{list_of}
 use Rattle.gate_graph.specs.Wirings.{Wiring, kind_at}
 use Rattle.gate_graph.specs.declared.undo_list.Undo.{Undo}
-use Rattle.gate_graph.specs.declared.undo_list.Undo.TheVariants.{Appended, Removed, Redriven, Moved, Made, Retired}
+use Rattle.gate_graph.specs.declared.undo_list.Undo.TheVariants.{Appended, Removed, Redriven, Moved, Made, Retired, Turned}
 use Rattle.gate_graph.specs.Undoing.{LeadOn, CanGoBack, back_to, AreWithin, IsWithin}
 use Rattle.gate_graph.specs.Circuit.{Circuit, wiring, net_of, fanouts_of, node_with, gate_pins, home, number_with, number_or_zero, next_number, reader, SameWiring}
 use Rattle.gate_graph.proofs.NetOf.{net-ext, nodes-trimmed, node_at-net, observed-net, map-same}
@@ -56,6 +56,7 @@ within-more m n (e ∷ es) h a = (one e a.0, within-more m n es h a.1)
     one (Moved splice) w = tt
     one (Made node pin) w = tt
     one (Retired node kind) w = omega arith
+    one (Turned pin slot kind) w = tt
 
 pub lead-same : (v w : Circuit) (es : List Undo) → wiring w ≡ wiring v → length v.kinds ≤ length w.kinds → LeadOn v w es es
 lead-same v w es e more = record {

@@ -2,17 +2,17 @@
 use Rattle.std.specs.Prelude.{◌≡◌, ◌≢◌, ℕ, ◌+◌, ◌<◌, Bool, None, [], ◌∷◌, length, slice_set}
 use Rattle.gate_net.specs.Net.{node_at, drivers_of}
 use Rattle.gate_net.specs.Paths.{Reaches}
-use Rattle.gate_net.specs.Net.{IsLive, IsGate}
+use Rattle.gate_net.specs.Net.{IsLive, IsGate, IsKind}
 use Rattle.gate_net.specs.Edits.{with_drivers, with_pin}
 use Rattle.gate_net.specs.Edits.{with_readers_moved}
 use Rattle.gate_net.specs.Values.{IsJunction}
-use Rattle.gate_net.specs.Edits.{without_pin, IsUnread, DiffersAt}
+use Rattle.gate_net.specs.Edits.{without_pin, turned_to_not, IsUnread, DiffersAt}
 use Rattle.gate_net.specs.Edits.{MakesGate}
 use Rattle.gate_graph.specs.Circuit.{Circuit, net_of, free_pins, free_nodes, Uses, Frees}
 use Rattle.gate_graph.specs.Readers.{LastReader, ReaderGoes, ReaderMoves, ReadersMove, GateGoes}
-use Rattle.gate_net.specs.declared.Kind.TheVariants.{Not}
+use Rattle.gate_net.specs.declared.Kind.TheVariants.{Not, Xor}
 use Rattle.gate_graph.specs.declared.editing.Edit.{Edit}
-use Rattle.gate_graph.specs.declared.editing.Edit.TheVariants.{Append, Remove, Redrive, Readers, NewNot, Retire}
+use Rattle.gate_graph.specs.declared.editing.Edit.TheVariants.{Append, Remove, Redrive, Readers, NewNot, Retire, ToNot}
 
 abbrev pub CanEdit : Circuit → Edit → Type 0
 CanEdit v (Append gate driver) =
@@ -23,6 +23,7 @@ CanEdit v (Redrive gate position driver) =
 CanEdit v (Readers from to) = IsGate (net_of v) from.0 × (IsLive (net_of v) to.0 × ((to.0 ≢ from.0) × (Reaches (net_of v) from.0 to.0 → ⊥)))
 CanEdit v (NewNot driver) = IsLive (net_of v) driver.0 × ((0 < free_pins v) × (0 < free_nodes v))
 CanEdit v (Retire gate) = IsGate (net_of v) gate.0 × IsUnread (net_of v) gate.0
+CanEdit v (ToNot gate position) = IsKind (net_of v) gate.0 Xor × (position < length (drivers_of (net_of v) gate.0))
 
 -- how many entries the edit takes
 abbrev pub entries_for : Circuit → Edit → ℕ
@@ -38,3 +39,4 @@ Edits v (Redrive gate position driver) w =
 Edits v (Readers from to) w = (net_of w ≡ with_readers_moved (net_of v) from.0 to.0) × (ReadersMove v w from.0 to.0 × Uses v w 0 0)
 Edits v (NewNot driver) w = ((node : ℕ) × (MakesGate (net_of v) (net_of w) Not (driver.0 ∷ []) node × LastReader v w node driver.0)) × Uses v w 1 1
 Edits v (Retire gate) w = (DiffersAt (net_of v) (net_of w) gate.0 × (node_at (net_of w) gate.0 ≡ None)) × (GateGoes v w gate.0 × Frees v w)
+Edits v (ToNot gate position) w = (net_of w ≡ turned_to_not (net_of v) gate.0 position) × (ReaderGoes v w gate.0 position × Uses v w 0 0)

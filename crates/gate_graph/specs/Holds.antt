@@ -2,11 +2,12 @@
 use Rattle.std.specs.Prelude.{◌≡◌, ℕ, suc, ◌+◌, ◌-◌, List, [], ◌∷◌, ◌++◌, length}
 use Rattle.gate_net.specs.Net.{wire_count}
 use Rattle.gate_graph.specs.declared.undo_list.Undo.{Undo}
-use Rattle.gate_graph.specs.declared.undo_list.Undo.TheVariants.{Appended, Removed, Made}
+use Rattle.gate_graph.specs.declared.undo_list.Undo.TheVariants.{Appended, Removed, Made, Turned}
 use Rattle.gate_graph.specs.Circuit.{Circuit, net_of, pins_taken}
 
 abbrev pub held_by : Undo → List ℕ
 held_by (Removed pin slot) = pin.0 ∷ []
+held_by (Turned pin slot kind) = pin.0 ∷ []
 held_by _ = []
 
 abbrev pub held : List Undo → List ℕ

@@ -1,7 +1,8 @@
 -- The kinds and the pins by node number, however much room there is, and what holds of them.
-use Rattle.std.specs.Prelude.{◌≡◌, ◌≢◌, ℕ, suc, ◌+◌, ◌<◌, ◌≤◌, true, List, [], ◌∷◌, Option, Some, None, slice_index_or}
+use Rattle.std.specs.Prelude.{◌≡◌, ◌≢◌, ℕ, suc, ◌+◌, ◌<◌, ◌≤◌, Bool, true, List, [], ◌∷◌, Option, Some, None, length, slice_index_or, if◌then◌else◌}
 use Rattle.gate_net.specs.declared.Kind.{Kind}
-use Rattle.gate_net.specs.declared.Kind.TheVariants.{Source, Zero, One, Not}
+use Rattle.gate_net.specs.declared.Kind.TheVariants.{Source, Zero, One}
+use Rattle.gate_net.specs.Meaning.{inversion}
 use Rattle.pin_pool.specs.Ring.{has}
 use Rattle.pin_pool.specs.Pins.{Pins}
 use Rattle.pin_pool.specs.Rings.{Rings, rings_of, IsIn}
@@ -25,6 +26,10 @@ pub record AreFirst (kind : ℕ → Option Kind) (sources : ℕ) : Type 0 where
   pub only_zero : (n : ℕ) → kind n ≡ Some Zero → n ≡ 0
   pub only_one : (n : ℕ) → kind n ≡ Some One → n ≡ 1
 
+-- how many pins a Not has, which inverts, and how many an Xor
+abbrev pub parity_pins : Bool → ℕ
+parity_pins i = if i then 1 else 2
+
 -- what holds of every graph, but that no pins make a circle
 pub record IsShaped (w : Wiring) : Type 0 where
   pub zero_is : w.kind zero_number ≡ Some Zero
@@ -34,7 +39,7 @@ pub record IsShaped (w : Wiring) : Type 0 where
   pub drivers_live : (n p : ℕ) → has p (w.rings.fanouts n) ≡ true → w.kind n ≢ None
   pub driven : (g p : ℕ) → has p (w.rings.inputs g) ≡ true → IsIn w.rings.fanouts p
   pub read : (n p : ℕ) → has p (w.rings.fanouts n) ≡ true → IsIn w.rings.inputs p
-  pub nots : (y : ℕ) → w.kind y ≡ Some Not → (p : ℕ) × (w.rings.inputs y ≡ p ∷ [])
+  pub parities : (y : ℕ) (kind : Kind) (i : Bool) → w.kind y ≡ Some kind → inversion kind ≡ Some i → length (w.rings.inputs y) ≡ parity_pins i
   pub sources : ℕ
   pub first : AreFirst w.kind sources
   pub sources_read : (n : ℕ) → w.kind n ≡ Some Source → w.rings.inputs n ≡ []

@@ -9,12 +9,12 @@ ghost use Rattle.gate_graph.specs.Circuit.{net_of, free_pins, free_nodes, Uses, 
 ghost use Rattle.gate_graph.specs.Readers.{LastReader, ReadersMove, ReaderMoves, ReaderGoes, GateGoes};
 ghost use Rattle.gate_net.specs.Net.{drivers_of, node_at};
 ghost use Rattle.gate_net.specs.Paths.{Reaches};
-ghost use Rattle.gate_net.specs.Net.{IsLive, IsGate};
+ghost use Rattle.gate_net.specs.Net.{IsLive, IsGate, IsKind};
 ghost use Rattle.gate_net.specs.Values.{IsJunction};
-ghost use Rattle.gate_net.specs.Edits.{without_pin, IsUnread, DiffersAt};
+ghost use Rattle.gate_net.specs.Edits.{without_pin, turned_to_not, IsUnread, DiffersAt};
 ghost use Rattle.gate_net.specs.Edits.{with_readers_moved};
 ghost use Rattle.gate_net.specs.Edits.{with_pin, with_drivers};
-ghost use Rattle.gate_net.specs.declared.Kind.TheVariants.{One, Not};
+ghost use Rattle.gate_net.specs.declared.Kind.TheVariants.{One, Not, Xor};
 
 use crate::pins::{least_free, nth_pin};
 use crate::rings::{link_new, move_fanouts, redrive_pin, tell_rings, unlink_at, unlink_pin};
@@ -50,6 +50,10 @@ pub enum Edit {
     Retire {
         gate: NodeId,
     },
+    ToNot {
+        gate: NodeId,
+        position: u32,
+    },
 }
 
 impl Graph {
@@ -79,6 +83,7 @@ impl Graph {
                 let _node = self.new_not(driver, undos);
             }
             Edit::Retire { gate } => self.retire(gate, undos),
+            Edit::ToNot { gate, position } => self.turn(gate, position, undos),
         }
     }
 
@@ -246,5 +251,35 @@ impl Graph {
             }
             None => unreachable!(),
         }
+    }
+
+    // The pin of an Xor goes, and the gate becomes a Not.
+    fn turn(&mut self, gate: NodeId, position: u32, undos: &mut Undos)
+        requires gate { IsKind (net_of self.old) gate.0 Xor }
+        requires position { position < length (drivers_of (net_of self.old) gate.0) }
+        requires entry { 0 < undos.old.spare }
+        ensures net { net_of self.new ≡ turned_to_not (net_of self.old) gate.0 position }
+        ensures readers { ReaderGoes self.old self.new gate.0 position }
+        ensures undos { LeadOn self.old self.new undos.old.entries undos.new.entries }
+        ensures held { HoldsOn self.old self.new undos.old.entries undos.new.entries }
+        ensures epoch { self.new.epoch ≡ self.old.epoch }
+        ensures numbers { length self.new.kinds ≡ length self.old.kinds }
+        ensures uses { Uses self.old self.new 0 0 }
+        ensures entry { undos.new.spare + 1 ≡ undos.old.spare }
+        ensures together { length undos.new.entries + undos.new.spare ≡ length undos.old.entries + undos.old.spare }
+        ensures left { undos.new.entries ≢ [] }
+    {
+        let pin = self.pin_of(gate, position);
+        let slot = unlink_at(&mut self.pool, pin, gate.0, position);
+        tell_rings(&self.pool);
+        set_kind(
+            &mut self.kinds,
+            &mut self.free,
+            &mut self.bound,
+            gate.0,
+            Some(Kind::Not),
+        );
+        let kind = Kind::Xor;
+        undos.push(Undo::Turned { pin, slot, kind });
     }
 }

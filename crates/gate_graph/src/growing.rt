@@ -5,7 +5,7 @@ ghost use Rattle.gate_graph.specs.declared.undo_list.Undo.{Undo};
 ghost use Rattle.gate_net.specs.Edits.{MakesGate};
 ghost use Rattle.gate_graph.specs.Circuit.{wiring, net_of, free_pins, free_nodes, pins_taken, live_nodes};
 ghost use Rattle.gate_net.specs.Net.{IsLive, IsGateKind};
-ghost use Rattle.gate_net.specs.declared.Kind.TheVariants.{Not};
+ghost use Rattle.gate_net.specs.declared.Kind.TheVariants.{Not, Xor};
 ghost use Rattle.pin_pool.specs.Ring.{has};
 ghost use Rattle.gate_graph.specs.Holds.{pins_held};
 ghost use Rattle.gate_graph.specs.Readers.{NewReaders, SameReaders};
@@ -52,6 +52,7 @@ impl Graph {
     pub fn add_gate(&mut self, kind: Kind, drivers: &[NodeId]) -> Result<NodeId, NoMemory>
         requires kind { IsGateKind kind }
         requires one { kind ≡ Not → length drivers.now ≡ 1 }
+        requires two { kind ≡ Xor → length drivers.now ≡ 2 }
         requires drivers { (d : ℕ) → has d (map (λ n. n.0) drivers.now) ≡ true → IsLive (net_of self.old) d }
         requires pins { pins_taken self.old + length drivers.now ≤ number_bound }
         requires nodes { live_nodes self.old < number_bound }
@@ -77,6 +78,7 @@ impl Graph {
     fn new_gate(&mut self, kind: Kind, drivers: &[NodeId]) -> u32
         requires kind { IsGateKind kind }
         requires one { kind ≡ Not → length drivers.now ≡ 1 }
+        requires two { kind ≡ Xor → length drivers.now ≡ 2 }
         requires drivers { (d : ℕ) → has d (map (λ n. n.0) drivers.now) ≡ true → IsLive (net_of self.old) d }
         requires pins { length drivers.now ≤ free_pins self.old }
         requires nodes { 0 < free_nodes self.old }

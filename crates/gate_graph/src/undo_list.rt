@@ -17,6 +17,7 @@ pub enum Undo {
     Moved { splice: Splice },
     Made { node: u32, pin: PinNo },
     Retired { node: u32, kind: Kind },
+    Turned { pin: PinNo, slot: Slot, kind: Kind },
 }
 
 /// Entries, of which the last is undone first.

@@ -1,12 +1,12 @@
 //! Undoing and keeping changes.
-ghost use Rattle.std.specs.Prelude.{◌≡◌, ◌≢◌, ◌+◌, ◌<◌, ◌≤◌, [], length, ℕ, Some, None, min, ◌^◌, ◌-◌, ◌∷◌};
+ghost use Rattle.std.specs.Prelude.{◌≡◌, ◌≢◌, ◌+◌, ◌<◌, ◌≤◌, [], length, ℕ, Some, None, IfSome, min, ◌^◌, ◌-◌, ◌∷◌};
 ghost use Rattle.std.specs.FinSet as set;
 ghost use Rattle.pin_pool.specs.Pins.{Pins};
 ghost use Rattle.pin_pool.specs.Rings.{AreRings, changed, rings_of};
 ghost use Rattle.gate_graph.specs.Wirings.{wiring_of, kind_at, free_in};
 ghost use Rattle.gate_graph.specs.Inner.Wirings.{free_bit};
 ghost use Rattle.gate_graph.specs.Undoing.{CanGoBack, AreWithin, back_to, taken_back, CanTakeBack, IsWithin};
-ghost use Rattle.gate_graph.specs.Holds.{held, pins_held, pins_made};
+ghost use Rattle.gate_graph.specs.Holds.{held, held_by, pins_held, pins_made};
 ghost use Rattle.gate_graph.specs.declared.undo_list.Undo.{Undo};
 ghost use Rattle.gate_graph.specs.Circuit.{wiring, net_of, free_pins, free_nodes, pins_taken, live_nodes};
 ghost use Rattle.gate_graph.specs.Inner.Circuit.{kinds_live, kinds_dead};
@@ -18,7 +18,7 @@ use crate::rings::{drop_pin, move_fanouts_back, relink_pin, restore_pin, tell_ri
 use crate::state::Graph;
 use crate::undo_list::{Undo, Undos};
 use gate_net::Kind;
-use pin_pool::Pool;
+use pin_pool::{PinNo, Pool};
 
 impl Graph {
     pub fn undo(&mut self, undos: &mut Undos)
@@ -69,12 +69,28 @@ impl Graph {
         }
         self.tell();
         while let Some(entry) = undos.pop() {
-            if let Undo::Removed { pin, slot: _ } = entry {
+            if let Some(pin) = held_pin(entry) {
                 self.pool.give_back(pin);
             }
         }
         tell_rings(&self.pool);
         self.epoch = self.epoch.saturating_add(1);
+    }
+}
+
+// The pin that an entry holds.
+fn held_pin(entry: Undo) -> Option<PinNo>
+    ensures some { IfSome result (λ pin. held_by entry ≡ pin.0 ∷ []) }
+    ensures none { result ≡ None → held_by entry ≡ [] }
+{
+    match entry {
+        Undo::Removed { pin, slot: _ } => Some(pin),
+        Undo::Turned {
+            pin,
+            slot: _,
+            kind: _,
+        } => Some(pin),
+        _ => None,
     }
 }
 
@@ -175,5 +191,9 @@ pub(crate) fn take_back(
             }
         }
         Undo::Retired { node, kind } => set_kind(kinds, free, bound, node, Some(kind)),
+        Undo::Turned { pin, slot, kind } => {
+            relink_pin(pool, pin, slot);
+            set_kind(kinds, free, bound, slot.gate, Some(kind));
+        }
     }
 }

@@ -1,5 +1,6 @@
 pub mod Told
 pub mod Looks
+pub mod Parities
 pub mod Walks
 pub mod Yielding
 pub mod OnlyReaders

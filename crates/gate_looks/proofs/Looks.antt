@@ -80,7 +80,7 @@ some_fails test (o ∷ os) h = at (test o) refl (some_fails test os)
     at true is ih = rw is (ih (rw is at h))
     at false is ih = rw is refl
 
-passes_at : (test : Option Bool → Bool) (os : List (Option Bool)) (k : ℕ) → failing test os ≡ 0 → FailsAt test os k → ⊥
+pub passes_at : (test : Option Bool → Bool) (os : List (Option Bool)) (k : ℕ) → failing test os ≡ 0 → FailsAt test os k → ⊥
 passes_at test [] k e (o, (there, fails)) = cc
 passes_at test (x ∷ os) k e fails = at (test x) refl (passes_at test os) k fails
   where
@@ -102,7 +102,7 @@ all_but_all test (suc q) (o ∷ os) e = at (test o) refl (all_but_all test q os)
     at true is ih = rw is (ih (rw is at e))
     at false is ih = let wrong : false ≡ true = rw is at e in cc
 
-one_fails : (test : Option Bool → Bool) (q k : ℕ) (os : List (Option Bool)) → failing test os ≡ 1 → FailsAt test os k → all_but test q os ≡ nat_eq k q
+pub one_fails : (test : Option Bool → Bool) (q k : ℕ) (os : List (Option Bool)) → failing test os ≡ 1 → FailsAt test os k → all_but test q os ≡ nat_eq k q
 one_fails test q k [] e fails = absurd (omega arith)
 one_fails test q k (x ∷ os) e fails = at (test x) refl q k fails (λ q' k' e' f'. one_fails test q' k' os e' f')
   where
@@ -114,7 +114,7 @@ one_fails test q k (x ∷ os) e fails = at (test x) refl q k fails (λ q' k' e' 
     at false is (suc q) zero fails ih = rw (is, eqb-zero-suc q) refl
     at false is q (suc k) (o, (there, fails)) ih = let none : suc (failing test os) ≡ 1 = rw is at e in absurd (passes_at test os k (omega arith) (o, (there, fails)))
 
-many_fail : (test : Option Bool → Bool) (q : ℕ) (os : List (Option Bool)) → 2 ≤ failing test os → all_but test q os ≡ false
+pub many_fail : (test : Option Bool → Bool) (q : ℕ) (os : List (Option Bool)) → 2 ≤ failing test os → all_but test q os ≡ false
 many_fail test q [] h = absurd (omega arith)
 many_fail test q (x ∷ os) h = at (test x) refl q (λ q' h'. many_fail test q' os h')
   where

@@ -5,7 +5,7 @@ pub use Rattle.gate_looks.proofs.Agendas.{clear_less, count-clear, count-set, co
 pub use Rattle.gate_looks.proofs.Agendas.{read_is, seen_left, seen_stays}
 -- One look at a gate's pins tells all that follows there.
 pub use Rattle.gate_looks.proofs.Looks.{glance_all, glance_many, glance_not_all, glance_one}
-pub use Rattle.gate_looks.proofs.Looks.{never_other, pin_at, pins_length, stuck_reads}
+pub use Rattle.gate_looks.proofs.Looks.{many_fail, never_other, one_fails, passes_at, pin_at, pins_length, stuck_reads}
 -- Searching on from a gate along its readers.
 pub use Rattle.gate_looks.proofs.Reaches.{marks_all, marks_new, reached_live, search_ends, search_first}
 pub use Rattle.gate_looks.proofs.Reaches.{search_less, search_more}
@@ -13,7 +13,7 @@ pub use Rattle.gate_looks.proofs.Reaches.{search_less, search_more}
 pub use Rattle.gate_looks.proofs.Readers.{all_came, next_below, next_reads}
 -- What the calls of a graph tell.
 pub use Rattle.gate_looks.proofs.Told.{beq_same, drivers_below, gate_live}
-pub use Rattle.gate_looks.proofs.Told.{kind_is, kind_live, kind_told, live_below, live_from, reader_live}
+pub use Rattle.gate_looks.proofs.Told.{kind_is, kind_live, kind_told, live_below, live_from, reader_live, source_is}
 -- A node whose readers are none reaches nothing.
 pub use Rattle.gate_looks.proofs.Sites.{unreached}
 -- A walk along the chain of a gate.

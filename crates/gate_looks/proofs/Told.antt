@@ -4,8 +4,10 @@ use Rattle.std.proofs.lemmas.Bool.{eqb-true, or_cases}
 use Rattle.std.specs.Prelude.{option_map, slice_get}
 use Rattle.gate_looks.specs.Pins.{AreBelow}
 use Rattle.gate_net.specs.Net.{IsKind, IsLive, IsWellFormed, Net, Node, Reads, drivers_in, drivers_of, flatten_option, kind_in, kind_of, node_at}
-use Rattle.gate_net.specs.Values.{HasPin, same_bool}
+use Rattle.gate_net.specs.Values.{HasPin, family, same_bool}
+use Rattle.gate_net.specs.declared.Family.TheVariants.{Input}
 use Rattle.gate_net.specs.declared.Kind.{Kind}
+use Rattle.gate_net.specs.declared.Kind.TheVariants.{And, Not, One, Or, Source, Xor, Zero}
 use Rattle.rm_base.specs.declared.numbers.Fault.{Fault}
 use Rattle.rm_base.specs.declared.numbers.NodeId.{NodeId}
 use mathlib.Core.Bool.{beq}
@@ -45,6 +47,16 @@ kind_in_is (Some n) kind e = let same : n.kind ≡ kind = cc in (n.drivers, ap (
 
 pub kind_is : (net : Net) (x : ℕ) (kind : Kind) → Some kind ≡ kind_of net x → IsKind net x kind
 kind_is net x kind e = kind_in_is (node_at net x) kind (sym e)
+
+-- the kind that means an input
+pub source_is : (kind : Kind) → Input ≡ family kind → kind ≡ Source
+source_is Source e = refl
+source_is Zero e = cc
+source_is One e = cc
+source_is And e = cc
+source_is Or e = cc
+source_is Not e = cc
+source_is Xor e = cc
 
 pub kind_below : (net : Net) (x : ℕ) (kind : Kind) → Some kind ≡ kind_of net x → x < length net.nodes
 kind_below net x kind e = live_below net x (λ dead. let is : node_at net x ≡ Some (record { kind = kind; drivers = (kind_is net x kind e).0 }) = (kind_is net x kind e).1 in cc)

@@ -3,7 +3,7 @@ use Rattle.std.specs.List.{list_any}
 use Rattle.std.specs.Prelude.{Bool, List, None, Option, Some, [], false, if◌then◌else◌, nat_eq, not, slice_get, slice_set, suc, ℕ, ◌<◌, ◌∷◌, ◌≡◌}
 use Rattle.gate_looks.specs.declared.pins.Glance.{Glance}
 use Rattle.gate_looks.specs.declared.pins.Stuck.{Stuck}
-use Rattle.gate_net.specs.Meaning.{is_known}
+use Rattle.gate_net.specs.Meaning.{is_known, turned}
 use Rattle.rm_base.specs.declared.numbers.Fault.{Fault}
 
 -- the values with one pin stuck
@@ -18,6 +18,11 @@ pin_value (Some s) q o = if nat_eq q s.position then Some s.value else o
 -- the stuck pin, where the gate has it
 abbrev pub stuck_of : Fault → ℕ → Option Stuck
 stuck_of fault y = if nat_eq y fault.gate.0 then Some (record { position = fault.position; value = fault.value }) else None
+
+-- the parity turned by one pin more, where both are known
+abbrev pub turned_known : Option Bool → Option Bool → Option Bool
+turned_known (Some i) (Some b) = Some (turned b i)
+turned_known _ _ = None
 
 -- how many fail the test
 abbrev pub failing : (Option Bool → Bool) → List (Option Bool) → ℕ

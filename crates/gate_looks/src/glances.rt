@@ -1,12 +1,12 @@
 //! Looks at a gate's pins.
 ghost use Rattle.std.specs.Prelude.{◌≡◌, ◌<◌, ◌≤◌, Bool, Option, length, map, ℕ};
-ghost use Rattle.gate_net.specs.Meaning.{kind_forward, value_forward, value_back, first_known};
+ghost use Rattle.gate_net.specs.Meaning.{kind_forward, parity_back, parity_follows, value_back, value_forward};
 ghost use Rattle.gate_looks.specs.Pins.{with_stuck, Glances, AreBelow};
 ghost use Rattle.rm_base.specs.Numbers.{number_bound};
 
-use crate::pins::{Glance, Stuck, at_pin, is_value, junction_back, junction_forward, opposite};
+use crate::pins::{Glance, Stuck, at_pin, is_value, junction_back, junction_forward, turn};
 use gate_graph::Inputs;
-use gate_net::Kind;
+use gate_net::{Family, Kind};
 use rm_base::NodeId;
 
 /// What is known of the values of nodes.
@@ -47,15 +47,50 @@ pub fn look<K: Known>(drivers: Inputs<'_>, stuck: Option<Stuck>, known: &K, valu
     Glance { any, rest, at }
 }
 
-fn first_pin<K: Known>(mut drivers: Inputs<'_>, stuck: Option<Stuck>, known: &K) -> Option<bool>
+/// The parity of a gate's pins, where all are known.
+pub fn parity_forward<K: Known>(
+    drivers: Inputs<'_>,
+    stuck: Option<Stuck>,
+    known: &K,
+    inverts: bool,
+) -> Option<bool>
     requires within { AreBelow drivers (K.bound known.now) }
     requires few { length drivers ≤ number_bound }
-    ensures { result ≡ first_known (with_stuck stuck (map (K.knows known.now) drivers.entry)) }
+    ensures { result ≡ parity_follows inverts (with_stuck stuck (map (K.knows known.now) drivers.entry)) }
 {
-    match drivers.next() {
-        Some(driver) => at_pin(stuck, 0, known.known_of(driver)),
-        None => None,
+    let mut parity = Some(inverts);
+    let mut q: usize = 0;
+    for driver in drivers {
+        parity = turn(parity, at_pin(stuck, q, known.known_of(driver)));
+        q += 1;
     }
+    parity
+}
+
+/// The parity of all pins but one, where they are known and there is that one.
+pub fn parity_back<K: Known>(
+    drivers: Inputs<'_>,
+    stuck: Option<Stuck>,
+    known: &K,
+    inverts: bool,
+    at: usize,
+) -> Option<bool>
+    requires within { AreBelow drivers (K.bound known.now) }
+    requires few { length drivers ≤ number_bound }
+    ensures { result ≡ parity_back inverts (with_stuck stuck (map (K.knows known.now) drivers.entry)) at }
+{
+    let mut parity = Some(inverts);
+    let mut there = false;
+    let mut q: usize = 0;
+    for driver in drivers {
+        if q == at {
+            there = true;
+        } else {
+            parity = turn(parity, at_pin(stuck, q, known.known_of(driver)));
+        }
+        q += 1;
+    }
+    if there { parity } else { None }
 }
 
 /// The value of a gate that follows from its pins.
@@ -69,11 +104,12 @@ pub fn forward<K: Known>(
     requires few { length drivers ≤ number_bound }
     ensures { result ≡ value_forward kind (with_stuck stuck (map (K.knows known.now) drivers.entry)) }
 {
-    match kind {
-        Kind::And => junction_forward(look(drivers, stuck, known, false), false),
-        Kind::Or => junction_forward(look(drivers, stuck, known, true), true),
-        Kind::Not => opposite(first_pin(drivers, stuck, known)),
-        Kind::Source | Kind::Zero | Kind::One => None,
+    match kind.family() {
+        Family::Junction { controlling: c } => {
+            junction_forward(look(drivers, stuck, known, c), c)
+        }
+        Family::Parity { inverts } => parity_forward(drivers, stuck, known, inverts),
+        Family::Input | Family::Constant { .. } => None,
     }
 }
 
@@ -89,10 +125,9 @@ pub fn node_forward<K: Known>(
     requires few { length drivers ≤ number_bound }
     ensures { result ≡ kind_forward kind own (with_stuck stuck (map (K.knows known.now) drivers.entry)) }
 {
-    match kind {
-        Kind::Source => own,
-        Kind::Zero => Some(false),
-        Kind::One => Some(true),
+    match kind.family() {
+        Family::Input => own,
+        Family::Constant { value } => Some(value),
         _ => forward(kind, drivers, stuck, known),
     }
 }
@@ -110,10 +145,11 @@ pub fn back<K: Known>(
     requires few { length drivers ≤ number_bound }
     ensures { result ≡ value_back kind value (with_stuck stuck (map (K.knows known.now) drivers.entry)) q }
 {
-    match kind {
-        Kind::And => junction_back(look(drivers, stuck, known, false), false, value, q),
-        Kind::Or => junction_back(look(drivers, stuck, known, true), true, value, q),
-        Kind::Not => { if q == 0 { Some(!value) } else { None } }
-        Kind::Source | Kind::Zero | Kind::One => None,
+    match kind.family() {
+        Family::Junction { controlling: c } => {
+            junction_back(look(drivers, stuck, known, c), c, value, q)
+        }
+        Family::Parity { inverts } => parity_back(drivers, stuck, known, inverts != value, q),
+        Family::Input | Family::Constant { .. } => None,
     }
 }

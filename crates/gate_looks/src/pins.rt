@@ -1,7 +1,7 @@
 //! What is known at a gate's pins, of which one may be stuck, and what one look at them tells.
 ghost use Rattle.std.specs.Prelude.{◌≡◌, List, Option, Bool, not};
-ghost use Rattle.gate_net.specs.Meaning.{junction_follows, junction_back, is_known, not_known, all_but};
-ghost use Rattle.gate_looks.specs.Pins.{pin_value, stuck_of, Glances};
+ghost use Rattle.gate_net.specs.Meaning.{junction_follows, junction_back, is_known, all_but};
+ghost use Rattle.gate_looks.specs.Pins.{pin_value, stuck_of, turned_known, Glances};
 
 use rm_base::{Fault, NodeId};
 
@@ -94,12 +94,12 @@ pub fn junction_back(glance: Glance, c: bool, value: bool, q: usize) -> Option<b
     None
 }
 
-/// The opposite, where it is known.
-pub fn opposite(known: Option<bool>) -> Option<bool>
-    ensures { result ≡ not_known known }
+/// The parity turned by one pin more, where both are known.
+pub fn turn(parity: Option<bool>, here: Option<bool>) -> Option<bool>
+    ensures { result ≡ turned_known parity here }
 {
-    match known {
-        Some(b) => Some(!b),
-        None => None,
+    match (parity, here) {
+        (Some(before), Some(pin)) => Some(before != pin),
+        _ => None,
     }
 }

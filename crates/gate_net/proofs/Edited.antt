@@ -1,7 +1,7 @@
 -- Nodes after an edit.
 use Rattle.std.proofs.Common.{Bool, List, None, Option, Some, ap, inl, inr, refl, sym, ℕ, ◌∙◌, ◌≡◌, ◌≢◌}
-use Rattle.std.specs.Prelude.{slice_get}
-use Rattle.gate_net.specs.Edits.{with_drivers}
+use Rattle.std.specs.Prelude.{slice_get, slice_set}
+use Rattle.gate_net.specs.Edits.{redriven, with_drivers, with_node}
 use Rattle.gate_net.specs.Net.{Net, Node, drivers_in, flatten_option, node_at}
 use Rattle.gate_net.specs.Values.{IsRun, IsUndetected, SameObserved}
 use Rattle.rm_base.specs.declared.numbers.Fault.{Fault}
@@ -16,6 +16,16 @@ node_at-other net gate drivers x ne = ap flatten_option (set_other net.nodes gat
 
 pub node_at-there : (net : Net) (gate : ℕ) (drivers : List ℕ) (n : Node) → node_at net gate ≡ Some n → node_at (with_drivers net gate drivers) gate ≡ Some (record n { drivers = drivers })
 node_at-there net gate drivers n e = rw e (ap flatten_option (set_there net.nodes gate (Some n) (Some (record n { drivers = drivers })) (flatten_some (slice_get net.nodes gate) n e)))
+
+pub with_node-other : (net : Net) (gate : ℕ) (node : Node) (x : ℕ) → x ≢ gate → node_at (with_node net gate node) x ≡ node_at net x
+with_node-other net gate node x ne = ap flatten_option (set_other net.nodes gate x _ ne)
+
+pub with_node-there : (net : Net) (gate : ℕ) (node n : Node) → node_at net gate ≡ Some n → node_at (with_node net gate node) gate ≡ Some node
+with_node-there net gate node n e = ap flatten_option (set_there net.nodes gate (Some n) (Some node) (flatten_some (slice_get net.nodes gate) n e))
+
+-- other drivers make another node
+pub redriven_node : (net : Net) (gate : ℕ) (drivers : List ℕ) (n : Node) → node_at net gate ≡ Some n → with_drivers net gate drivers ≡ with_node net gate (record n { drivers = drivers })
+redriven_node net gate drivers n e = ap (λ o. record net { nodes = slice_set net.nodes gate (redriven drivers o) }) e
 
 pub live_reader : (o : Option Node) (p x : ℕ) → slice_get (drivers_in o) p ≡ Some x → (n : Node) × (o ≡ Some n)
 live_reader None p x e = cc

@@ -1,15 +1,16 @@
 -- What follows forward and backward at a gate is right.
-use Rattle.std.proofs.Common.{Bool, List, None, Option, Some, [], ap, arith, false, inl, inr, map, not, refl, suc, sym, true, zero, ℕ, ◌∙◌, ◌∷◌, ◌≡◌}
+use Rattle.std.proofs.Common.{Bool, List, None, Option, Some, [], ap, false, inl, inr, map, not, refl, suc, sym, true, zero, ℕ, ◌∙◌, ◌∷◌, ◌≡◌}
 use Rattle.std.specs.List.{list_all, list_any}
 use Rattle.std.specs.Prelude.{if◌then◌else◌, slice_get, slice_set}
 use Rattle.std.proofs.Math.Bool.{not-not}
 use Rattle.std.proofs.lemmas.Bool.{and_parts, or_cases}
 use Rattle.gate_net.proofs.Bools.{same_bool_false, same_bool_true}
 use Rattle.gate_net.proofs.Junctions.{junction_cons_other, junction_cons_same, junction_member}
-use Rattle.gate_net.specs.Forward.{all_but, is_known, junction_back, junction_follows, value_back, value_forward}
-use Rattle.gate_net.specs.Values.{gate_value, junction, not_first, same_bool}
+use Rattle.gate_net.specs.Forward.{all_but, family_back, family_forward, is_known, junction_back, junction_follows, parity_back, parity_follows, value_back, value_forward}
+use Rattle.gate_net.specs.Values.{family, family_value, gate_value, junction, parity, same_bool, turned}
+use Rattle.gate_net.specs.declared.Family.{Family}
+use Rattle.gate_net.specs.declared.Family.TheVariants.{Constant, Input, Junction, Parity}
 use Rattle.gate_net.specs.declared.Kind.{Kind}
-use Rattle.gate_net.specs.declared.Kind.TheVariants.{And, Not, One, Or, Source, Zero}
 use Rattle.rm_base.proofs.Public.{bool_cases, never_opposite, some_same}
 use Rattle.gate_net.specs.Inner.Stays.{Approximates}
 
@@ -70,16 +71,21 @@ junction_forward c value os bs h e = any (list_any (is_known c) os) refl
     any true is = junction_any c os bs h is ∙ some_same (rw is at e)
     any false is = all_same (list_all (is_known (not c)) os) refl (rw is at e)
 
+pub parity_forward : (i value : Bool) (os : List (Option Bool)) (bs : List Bool) → Approximates os bs → parity_follows i os ≡ Some value → parity i bs ≡ value
+parity_forward i value [] [] h e = some_same e
+parity_forward i value [] (b ∷ bs) h e = absurd h
+parity_forward i value (o ∷ os) [] h e = absurd h
+parity_forward i value (None ∷ os) (b ∷ bs) h e = cc
+parity_forward i value (Some c ∷ os) (b ∷ bs) h e = rw (h.0 c refl) (parity_forward (turned c i) value os bs h.1 e)
+
+pub family_forward_right : (family : Family) (value assigned : Bool) (os : List (Option Bool)) (bs : List Bool) → Approximates os bs → family_forward family os ≡ Some value → family_value family assigned bs ≡ value
+family_forward_right Input value assigned os bs h e = cc
+family_forward_right (Constant b) value assigned os bs h e = cc
+family_forward_right (Junction c) value assigned os bs h e = junction_forward c value os bs h e
+family_forward_right (Parity i) value assigned os bs h e = parity_forward i value os bs h e
+
 pub value_forward_right : (kind : Kind) (value assigned : Bool) (os : List (Option Bool)) (bs : List Bool) → Approximates os bs → value_forward kind os ≡ Some value → gate_value kind assigned bs ≡ value
-value_forward_right Source value assigned os bs h e = cc
-value_forward_right Zero value assigned os bs h e = cc
-value_forward_right One value assigned os bs h e = cc
-value_forward_right And value assigned os bs h e = junction_forward false value os bs h e
-value_forward_right Or value assigned os bs h e = junction_forward true value os bs h e
-value_forward_right Not value assigned [] bs h e = cc
-value_forward_right Not value assigned (None ∷ os) bs h e = cc
-value_forward_right Not value assigned (Some b ∷ os) [] h e = absurd h
-value_forward_right Not value assigned (Some b ∷ os) (c ∷ bs) h e = ap not (h.0 b refl) ∙ some_same e
+value_forward_right kind = family_forward_right (family kind)
 
 pub junction_backward : (c value other r : Bool) (os : List (Option Bool)) (bs : List Bool) (q : ℕ) → Approximates os bs → slice_get bs q ≡ Some r → junction c bs ≡ value → junction_back c value os q ≡ Some other → r ≡ other
 junction_backward c value other r os bs q h there is e = at_value (same_bool value c) refl
@@ -95,16 +101,48 @@ junction_backward c value other r os bs q h there is e = at_value (same_bool val
       | inr opposite ↦ opposite ∙ some_same (rw test at e)
     ]
 
-pub not_first_back : (bs : List Bool) (q : ℕ) (value r : Bool) → q ≡ 0 → slice_get bs q ≡ Some r → not_first bs ≡ value → r ≡ not value
-not_first_back [] q value r zero_is there is = cc
-not_first_back (b ∷ bs) zero value r zero_is there is = sym (some_same there) ∙ sym (not-not b) ∙ ap not is
-not_first_back (b ∷ bs) (suc q) value r zero_is there is = absurd (omega arith)
+pub turned_twice : (b i : Bool) → turned b (turned b i) ≡ i
+turned_twice true i = not-not i
+turned_twice false i = refl
+
+pub turned_apart : (b c i : Bool) → turned b (turned c i) ≡ turned c (turned b i)
+turned_apart true true i = refl
+turned_apart true false i = refl
+turned_apart false true i = refl
+turned_apart false false i = refl
+
+pub turned_swapped : (b c : Bool) → turned b c ≡ turned c b
+turned_swapped true true = refl
+turned_swapped true false = refl
+turned_swapped false true = refl
+turned_swapped false false = refl
+
+-- what turns the inversion turns the parity
+pub parity_turned : (b i : Bool) (bs : List Bool) → parity (turned b i) bs ≡ turned b (parity i bs)
+parity_turned b i [] = refl
+parity_turned b i (c ∷ bs) = ap (λ (j : Bool). parity j bs) (turned_apart c b i) ∙ parity_turned b (turned c i) bs
+
+-- the value at a pin is that of the gate, turned by all others
+pub parity_backward : (i value other r : Bool) (os : List (Option Bool)) (bs : List Bool) (q : ℕ) → Approximates os bs → slice_get bs q ≡ Some r → parity i bs ≡ value → parity_back (turned value i) os q ≡ Some other → r ≡ other
+parity_backward i value other r os [] q h there is e = cc
+parity_backward i value other r [] (b ∷ bs) q h there is e = absurd h
+parity_backward i value other r (o ∷ os) (b ∷ bs) zero h there is e =
+    let rest : parity (turned value i) bs ≡ other = parity_forward (turned value i) other os bs h.1 e in
+    let whole : turned b (parity i bs) ≡ value = sym (parity_turned b i bs) ∙ is in
+    let same : b ≡ r = some_same there in
+    sym same ∙ sym (turned_twice (parity i bs) b) ∙ ap (turned (parity i bs)) (turned_swapped (parity i bs) b ∙ whole)
+    ∙ turned_swapped (parity i bs) value ∙ sym (parity_turned value i bs) ∙ rest
+parity_backward i value other r (None ∷ os) (b ∷ bs) (suc q) h there is e = cc
+parity_backward i value other r (Some c ∷ os) (b ∷ bs) (suc q) h there is e =
+    let same : b ≡ c = h.0 c refl in
+    parity_backward (turned c i) value other r os bs q h.1 there (ap (λ (d : Bool). parity (turned d i) bs) (sym same) ∙ is)
+    (ap (λ (j : Bool). parity_back j os q) (turned_apart value c i) ∙ e)
+
+pub family_back_right : (family : Family) (value other r assigned : Bool) (os : List (Option Bool)) (bs : List Bool) (q : ℕ) → Approximates os bs → slice_get bs q ≡ Some r → family_value family assigned bs ≡ value → family_back family value os q ≡ Some other → r ≡ other
+family_back_right Input value other r assigned os bs q h there is e = cc
+family_back_right (Constant b) value other r assigned os bs q h there is e = cc
+family_back_right (Junction c) value other r assigned os bs q h there is e = junction_backward c value other r os bs q h there is e
+family_back_right (Parity i) value other r assigned os bs q h there is e = parity_backward i value other r os bs q h there is e
 
 pub value_back_right : (kind : Kind) (value other r assigned : Bool) (os : List (Option Bool)) (bs : List Bool) (q : ℕ) → Approximates os bs → slice_get bs q ≡ Some r → gate_value kind assigned bs ≡ value → value_back kind value os q ≡ Some other → r ≡ other
-value_back_right Source value other r assigned os bs q h there is e = cc
-value_back_right Zero value other r assigned os bs q h there is e = cc
-value_back_right One value other r assigned os bs q h there is e = cc
-value_back_right And value other r assigned os bs q h there is e = junction_backward false value other r os bs q h there is e
-value_back_right Or value other r assigned os bs q h there is e = junction_backward true value other r os bs q h there is e
-value_back_right Not value other r assigned os bs zero h there is e = not_first_back bs zero value r refl there is ∙ some_same e
-value_back_right Not value other r assigned os bs (suc q) h there is e = cc
+value_back_right kind = family_back_right (family kind)

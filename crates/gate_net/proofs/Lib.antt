@@ -10,6 +10,7 @@ pub mod Fixed
 pub mod Added
 pub mod Ordered
 pub mod Moved
+pub mod Parities
 pub mod Follows
 pub mod Stays
 pub mod Readings

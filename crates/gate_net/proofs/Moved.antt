@@ -5,15 +5,15 @@ use Rattle.std.specs.Prelude.{slice_get}
 use Rattle.std.proofs.Math.Bool.{not-not}
 use Rattle.std.proofs.lemmas.Bool.{false_from_ne_true}
 use Rattle.gate_net.proofs.AlongPins.{value_at}
-use Rattle.gate_net.proofs.Junctions.{first_is}
+use Rattle.gate_net.proofs.Junctions.{not_is}
 use Rattle.gate_net.proofs.Ordered.{acyclic_lifted, after_right, after_there, after_upward}
 use Rattle.gate_net.proofs.Valuations.{values_unique}
 use Rattle.gate_net.specs.Edits.{node_redirected, redirected, with_readers_moved}
 use Rattle.gate_net.specs.Laws.{MovesKeep, MovesKeepAcyclic, TwiceKeeps}
-use Rattle.gate_net.specs.Net.{Net, Node, Reads, drivers_in, drivers_of, flatten_option, node_at}
-use Rattle.gate_net.specs.Values.{AreGoodValues, gate_value, node_value}
+use Rattle.gate_net.specs.Net.{IsKind, Net, Node, Reads, drivers_in, drivers_of, flatten_option, node_at}
+use Rattle.gate_net.specs.Values.{AreGoodValues, gate_value, node_value, parity}
 use Rattle.gate_net.specs.declared.Kind.TheVariants.{Not}
-use Rattle.rm_base.proofs.Public.{map_at, map_pointwise}
+use Rattle.rm_base.proofs.Public.{map_pointwise}
 use Rattle.gate_net.specs.Inner.Paths.{is_after}
 
 pub flatten-map : (from to : ℕ) (os : List (Option Node)) (x : ℕ) → flatten_option (slice_get (map (node_redirected from to) os) x) ≡ node_redirected from to (flatten_option (slice_get os x))
@@ -49,14 +49,16 @@ moves_keep net from to acyclic same a v w good after =
     sym (map_redirected v from to (same a v good) net.observed)
     ∙ map_pointwise v w (values_unique (with_readers_moved net from to) acyclic a v w (good_after net from to a v (same a v good) good) after) (map (redirected from to) net.observed)
 
+-- a Not has the opposite of its driver's value
+pub opposite_of : (net : Net) (a v : ℕ → Bool) (gate driver : ℕ) → IsKind net gate Not → drivers_of net gate ≡ driver ∷ [] → AreGoodValues net a v → v gate ≡ not (v driver)
+opposite_of net a v gate driver is one good =
+    value_at net a v gate Not (map v (drivers_of net gate)) is (good gate) ∙ ap (λ (ds : List ℕ). parity true (map v ds)) one ∙ not_is (v driver)
+
 pub twice_keeps : TwiceKeeps
-twice_keeps net gate inner driver is is' reads reads' acyclic = moves_keep net gate driver acyclic same
+twice_keeps net gate inner driver is is' one one' acyclic = moves_keep net gate driver acyclic same
   where
     same : (a v : ℕ → Bool) → AreGoodValues net a v → v gate ≡ v driver
-    same a v good =
-        value_at net a v gate Not (map v (drivers_of net gate)) is (good gate) ∙ first_is (map v (drivers_of net gate)) (v inner) (map_at v (drivers_of net gate) 0 inner reads)
-        ∙ ap not (value_at net a v inner Not (map v (drivers_of net inner)) is' (good inner) ∙ first_is (map v (drivers_of net inner)) (v driver) (map_at v (drivers_of net inner) 0 driver reads'))
-        ∙ not-not (v driver)
+    same a v good = opposite_of net a v gate inner is one good ∙ ap not (opposite_of net a v inner driver is' one' good) ∙ not-not (v driver)
 
 pub redirect_cases : (from to : ℕ) (ds : List ℕ) (p x : ℕ) → slice_get (map (redirected from to) ds) p ≡ Some x → (slice_get ds p ≡ Some x) ⊎ ((x ≡ to) × (slice_get ds p ≡ Some from))
 redirect_cases from to [] p x e = inl e

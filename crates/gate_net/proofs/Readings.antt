@@ -7,13 +7,15 @@ use Rattle.std.specs.Prelude.{if◌then◌else◌, nat_eq, slice_get}
 use Rattle.std.proofs.lemmas.Bool.{and_parts, or_cases}
 use Rattle.gate_net.proofs.AlongPins.{along_pins, reads_agree}
 use Rattle.gate_net.proofs.Bools.{same_bool_true}
-use Rattle.gate_net.proofs.Follows.{approximates_map, approximates_set, is_known_true, value_forward_right}
+use Rattle.gate_net.proofs.Follows.{approximates_map, approximates_set, family_forward_right, is_known_true}
 use Rattle.gate_net.proofs.Spread.{same_elsewhere, same_idle}
-use Rattle.gate_net.specs.Forward.{Completes, IsForwardReading, IsTrueAt, Marking, ReadingsAgree, ReadingsHold, both_known_same, equal_forward, is_idle, is_known, kind_forward, node_forward}
+use Rattle.gate_net.specs.Forward.{Completes, IsForwardReading, IsTrueAt, Marking, ReadingsAgree, ReadingsHold, both_known_same, equal_forward, is_idle, is_known, known_forward, node_forward}
 use Rattle.gate_net.specs.Net.{IsAcyclic, Net, Node, Reads, drivers_of, node_at}
-use Rattle.gate_net.specs.Values.{IsRun, faulty_reads, gate_value, node_value}
+use Rattle.gate_net.specs.Values.{IsRun, family, family_value, faulty_reads, node_value}
+use Rattle.gate_net.specs.declared.Family.{Family}
+use Rattle.gate_net.specs.declared.Family.TheVariants.{Constant, Input, Junction, Parity}
 use Rattle.gate_net.specs.declared.Kind.{Kind}
-use Rattle.gate_net.specs.declared.Kind.TheVariants.{And, Not, One, Or, Source, Zero}
+use Rattle.gate_net.specs.declared.Kind.TheVariants.{And, Not, One, Or, Source, Xor, Zero}
 use Rattle.rm_base.specs.declared.numbers.Fault.{Fault}
 use Rattle.rm_base.proofs.Public.{map_agree, some_same}
 use Rattle.gate_net.specs.Inner.Stays.{Approximates}
@@ -23,18 +25,26 @@ list_all_at test [] e p x there = cc
 list_all_at test (d ∷ ds) e zero x there = let same : d ≡ x = cc in rw (← same) ((and_parts (test d) (list_all test ds) e).0)
 list_all_at test (d ∷ ds) e (suc p) x there = list_all_at test ds (and_parts (test d) (list_all test ds) e).1 p x there
 
-kind_forward_right : (kind : Kind) (known : Option Bool) (assigned c : Bool) (os : List (Option Bool)) (bs : List Bool) → Approximates os bs → ((b : Bool) → kind ≡ Source → known ≡ Some b → assigned ≡ b) → kind_forward kind known os ≡ Some c → gate_value kind assigned bs ≡ c
-kind_forward_right Source known assigned c os bs h k e = k c refl e
-kind_forward_right Zero known assigned c os bs h k e = some_same e
-kind_forward_right One known assigned c os bs h k e = some_same e
-kind_forward_right And known assigned c os bs h k e = value_forward_right And c assigned os bs h e
-kind_forward_right Or known assigned c os bs h k e = value_forward_right Or c assigned os bs h e
-kind_forward_right Not known assigned c os bs h k e = value_forward_right Not c assigned os bs h e
+family_known : (family : Family) (known : Option Bool) (assigned c : Bool) (os : List (Option Bool)) (bs : List Bool) → Approximates os bs → ((b : Bool) → family ≡ Input → known ≡ Some b → assigned ≡ b) → known_forward family known os ≡ Some c → family_value family assigned bs ≡ c
+family_known Input known assigned c os bs h k e = k c refl e
+family_known (Constant b) known assigned c os bs h k e = some_same e
+family_known (Junction d) known assigned c os bs h k e = family_forward_right (Junction d) c assigned os bs h e
+family_known (Parity i) known assigned c os bs h k e = family_forward_right (Parity i) c assigned os bs h e
+
+-- sources alone are assigned
+source_is : (kind : Kind) → family kind ≡ Input → kind ≡ Source
+source_is Source e = refl
+source_is Zero e = cc
+source_is One e = cc
+source_is And e = cc
+source_is Or e = cc
+source_is Not e = cc
+source_is Xor e = cc
 
 node_forward_right : (net : Net) (known : ℕ → Option Bool) (a : ℕ → Bool) → Completes net known a → (x : ℕ) (c : Bool) (os : List (Option Bool)) (bs : List Bool) (o : Option Node) → node_at net x ≡ o → Approximates os bs → node_forward o (known x) os ≡ Some c → node_value o (a x) bs ≡ c
 node_forward_right net known a completes x c os bs None is h e = cc
 node_forward_right net known a completes x c os bs (Some n) is h e =
-    kind_forward_right n.kind (known x) (a x) c os bs h (λ b source k. completes x b (n.drivers, is ∙ ap (λ kind. Some (record { kind = kind; drivers = n.drivers })) source) k) e
+    family_known (family n.kind) (known x) (a x) c os bs h (λ b source k. completes x b (n.drivers, is ∙ ap (λ kind. Some (record { kind = kind; drivers = n.drivers })) (source_is n.kind source)) k) e
 
 pub both_known : (o u : Option Bool) (b c : Bool) → both_known_same o u ≡ true → (d : Bool) × ((o ≡ Some d) × (u ≡ Some d))
 both_known None None b c e = cc

@@ -7,11 +7,12 @@ use Rattle.std.proofs.Math.Bool.{or-true}
 use Rattle.std.proofs.lemmas.Bool.{and_parts, or_cases}
 use Rattle.gate_net.proofs.Bools.{same_bool_refl}
 use Rattle.gate_net.proofs.Follows.{is_known_true}
-use Rattle.gate_net.specs.Meaning.{all_but, is_known, junction_back, junction_follows, kind_forward, same_bool, value_back, value_forward}
+use Rattle.gate_net.specs.Meaning.{all_but, family, family_back, family_forward, is_known, junction_back, junction_follows, kind_forward, known_forward, parity_back, parity_follows, same_bool, turned, value_back, value_forward}
+use Rattle.gate_net.specs.declared.Family.{Family}
+use Rattle.gate_net.specs.declared.Family.TheVariants.{Constant, Input, Junction, Parity}
 use Rattle.gate_net.specs.Net.{Net, drivers_of}
 use Rattle.gate_net.specs.Values.{faulty_reads}
 use Rattle.gate_net.specs.declared.Kind.{Kind}
-use Rattle.gate_net.specs.declared.Kind.TheVariants.{And, Not, One, Or, Source, Zero}
 use Rattle.gate_net.specs.Inner.Stays.{Stays, AllStay}
 use Rattle.rm_base.specs.declared.numbers.Fault.{Fault}
 use Rattle.rm_base.proofs.Public.{both_and}
@@ -83,16 +84,21 @@ junction_stays c os us h value e = any (list_any (is_known c) os) refl
     any true is = rw (any_stays c os us h is) (rw is at e)
     any false is = all (list_all (is_known (not c)) os) refl (rw is at e)
 
+pub parity_stays : (i : Bool) (os us : List (Option Bool)) → AllStay os us → Stays (parity_follows i os) (parity_follows i us)
+parity_stays i [] [] h value e = e
+parity_stays i [] (u ∷ us) h value e = absurd h
+parity_stays i (o ∷ os) [] h value e = absurd h
+parity_stays i (None ∷ os) (u ∷ us) h value e = cc
+parity_stays i (Some b ∷ os) (u ∷ us) h value e = rw (h.0 b refl) (parity_stays (turned b i) os us h.1 value e)
+
+pub family_stays : (family : Family) (os us : List (Option Bool)) → AllStay os us → Stays (family_forward family os) (family_forward family us)
+family_stays Input os us h value e = cc
+family_stays (Constant b) os us h value e = cc
+family_stays (Junction c) os us h value e = junction_stays c os us h value e
+family_stays (Parity i) os us h value e = parity_stays i os us h value e
+
 pub forward_stays : (kind : Kind) (os us : List (Option Bool)) → AllStay os us → Stays (value_forward kind os) (value_forward kind us)
-forward_stays Source os us h value e = cc
-forward_stays Zero os us h value e = cc
-forward_stays One os us h value e = cc
-forward_stays And os us h value e = junction_stays false os us h value e
-forward_stays Or os us h value e = junction_stays true os us h value e
-forward_stays Not [] us h value e = cc
-forward_stays Not (o ∷ os) [] h value e = absurd h
-forward_stays Not (None ∷ os) (u ∷ us) h value e = cc
-forward_stays Not (Some b ∷ os) (u ∷ us) h value e = rw (h.0 b refl) e
+forward_stays kind = family_stays (family kind)
 
 junction_back_stays : (c value : Bool) (os us : List (Option Bool)) (q : ℕ) → AllStay os us → Stays (junction_back c value os q) (junction_back c value us q)
 junction_back_stays c value os us q h other e = at (same_bool value c) refl
@@ -105,22 +111,30 @@ junction_back_stays c value os us q h other e = at (same_bool value c) refl
     at true is = rw is (others (all_but (is_known (not c)) q os) refl (rw is at e))
     at false is = rw is (rw is at e)
 
+parity_back_stays : (i : Bool) (os us : List (Option Bool)) (q : ℕ) → AllStay os us → Stays (parity_back i os q) (parity_back i us q)
+parity_back_stays i [] us q h value e = cc
+parity_back_stays i (o ∷ os) [] q h value e = absurd h
+parity_back_stays i (o ∷ os) (u ∷ us) zero h value e = parity_stays i os us h.1 value e
+parity_back_stays i (None ∷ os) (u ∷ us) (suc q) h value e = cc
+parity_back_stays i (Some b ∷ os) (u ∷ us) (suc q) h value e = rw (h.0 b refl) (parity_back_stays (turned b i) os us q h.1 value e)
+
+family_back_stays : (family : Family) (value : Bool) (os us : List (Option Bool)) (q : ℕ) → AllStay os us → Stays (family_back family value os q) (family_back family value us q)
+family_back_stays Input value os us q h other e = cc
+family_back_stays (Constant b) value os us q h other e = cc
+family_back_stays (Junction c) value os us q h other e = junction_back_stays c value os us q h other e
+family_back_stays (Parity i) value os us q h other e = parity_back_stays (turned value i) os us q h other e
+
 pub back_stays : (kind : Kind) (value : Bool) (os us : List (Option Bool)) (q : ℕ) → AllStay os us → Stays (value_back kind value os q) (value_back kind value us q)
-back_stays Source value os us q h other e = cc
-back_stays Zero value os us q h other e = cc
-back_stays One value os us q h other e = cc
-back_stays And value os us q h other e = junction_back_stays false value os us q h other e
-back_stays Or value os us q h other e = junction_back_stays true value os us q h other e
-back_stays Not value os us zero h other e = e
-back_stays Not value os us (suc q) h other e = cc
+back_stays kind = family_back_stays (family kind)
+
+known_stays : (family : Family) (known known' : Option Bool) (os us : List (Option Bool)) → Stays known known' → AllStay os us → Stays (known_forward family known os) (known_forward family known' us)
+known_stays Input known known' os us k h value e = k value e
+known_stays (Constant b) known known' os us k h value e = e
+known_stays (Junction c) known known' os us k h value e = family_stays (Junction c) os us h value e
+known_stays (Parity i) known known' os us k h value e = family_stays (Parity i) os us h value e
 
 pub kind_stays : (kind : Kind) (known known' : Option Bool) (os us : List (Option Bool)) → Stays known known' → AllStay os us → Stays (kind_forward kind known os) (kind_forward kind known' us)
-kind_stays Source known known' os us k h value e = k value e
-kind_stays Zero known known' os us k h value e = e
-kind_stays One known known' os us k h value e = e
-kind_stays And known known' os us k h value e = forward_stays And os us h value e
-kind_stays Or known known' os us k h value e = forward_stays Or os us h value e
-kind_stays Not known known' os us k h value e = forward_stays Not os us h value e
+kind_stays kind = known_stays (family kind)
 
 -- at the pins of a gate, of which one may be stuck
 pub reads_stay : (net : Net) (fault : Fault) (f f' : ℕ → Option Bool) (x : ℕ) → ((y : ℕ) → Stays (f y) (f' y)) → AllStay (faulty_reads net fault Some f x) (faulty_reads net fault Some f' x)

@@ -2,6 +2,7 @@
 use Rattle.std.specs.Prelude.{◌≡◌, ◌≢◌, ℕ, zero, suc, ◌<◌, List, [], ◌∷◌, ◌++◌, map, Option, Some, None, Bool, nat_eq, length, slice_get, slice_set, if◌then◌else◌}
 use Rattle.rm_base.specs.declared.numbers.Fault.{Fault}
 use Rattle.gate_net.specs.declared.Kind.{Kind}
+use Rattle.gate_net.specs.declared.Kind.TheVariants.{Not}
 use Rattle.gate_net.specs.Net.{Node, Net, node_at, drivers_of, Reads, IsObserved}
 use Rattle.rm_base.specs.Numbers.{one_number, zero_number}
 
@@ -38,6 +39,14 @@ without (x ∷ xs) (suc p) = x ∷ without xs p
 -- the pin goes, and later pins have one position less
 abbrev pub without_pin : Net → ℕ → ℕ → Net
 without_pin net gate position = with_drivers net gate (without (drivers_of net gate) position)
+
+-- the number has this node instead
+abbrev pub with_node : Net → ℕ → Node → Net
+with_node net gate node = record net { nodes = slice_set net.nodes gate (Some node) }
+
+-- the pin goes, later pins have one position less, and the gate becomes a Not
+abbrev pub turned_to_not : Net → ℕ → ℕ → Net
+turned_to_not net gate position = with_node net gate (record { kind = Not; drivers = without (drivers_of net gate) position })
 
 -- x, or the new node in place of the old
 abbrev pub redirected : ℕ → ℕ → ℕ → ℕ

@@ -5,7 +5,7 @@ use Rattle.std.specs.Prelude.{Bool, IsTrue, List, None, Option, Some, false, ifâ
 use Rattle.gate_net.specs.Net.{IsAcyclic, IsKind, IsObserved, Net, Node, drivers_of, node_at}
 use Rattle.gate_net.specs.Values.{IsRun, faulty_reads, same_bool}
 use Rattle.gate_net.specs.declared.Kind.TheVariants.{Source}
-pub use Rattle.gate_net.specs.Meaning.{all_but, first_known, is_known, junction_back, junction_follows, kind_forward, not_known, value_back, value_forward}
+pub use Rattle.gate_net.specs.Meaning.{all_but, family_back, family_forward, is_known, junction_back, junction_follows, kind_forward, known_forward, parity_back, parity_follows, value_back, value_forward}
 use Rattle.rm_base.specs.declared.numbers.Fault.{Fault}
 
 -- what is known of each node's good value and faulty value, and which nodes are marked equal

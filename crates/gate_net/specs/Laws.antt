@@ -1,9 +1,9 @@
 -- Laws of nets and their values.
-use Rattle.std.specs.Prelude.{◌≡◌, ◌≢◌, ℕ, map, Some, Bool, not}
+use Rattle.std.specs.Prelude.{◌≡◌, ◌≢◌, ◌∷◌, ℕ, [], map, Some, Bool, not}
 use Rattle.rm_base.specs.declared.numbers.Fault.{Fault}
 use Rattle.gate_net.specs.declared.Kind.{Kind}
 use Rattle.gate_net.specs.declared.Kind.TheVariants.{Not}
-use Rattle.gate_net.specs.Net.{Net, Reads, IsKind, IsLive, IsAcyclic, HasConstants}
+use Rattle.gate_net.specs.Net.{Net, Reads, drivers_of, IsKind, IsLive, IsAcyclic, HasConstants}
 use Rattle.gate_net.specs.Values.{AreGoodValues, AreFaultyValues, IsRun, SameObserved, IsUndetected, controlling}
 use Rattle.gate_net.specs.Paths.{Reaches, IsInChain}
 use Rattle.gate_net.specs.Edits.{fixed, with_pin, last_pin, with_readers_moved}
@@ -70,7 +70,7 @@ MovesKeep =
 -- readers of a Not of a Not may read the driver of that
 abbrev pub TwiceKeeps : Type 0
 TwiceKeeps =
-    (net : Net) (gate inner driver : ℕ) → IsKind net gate Not → IsKind net inner Not → Reads net gate 0 inner → Reads net inner 0 driver → IsAcyclic (with_readers_moved net gate driver) → KeepsPlaces net (with_readers_moved net gate driver)
+    (net : Net) (gate inner driver : ℕ) → IsKind net gate Not → IsKind net inner Not → drivers_of net gate ≡ inner ∷ [] → drivers_of net inner ≡ driver ∷ [] → IsAcyclic (with_readers_moved net gate driver) → KeepsPlaces net (with_readers_moved net gate driver)
 
 -- and the net stays acyclic, where the new node isn't the old one and isn't reached from it
 abbrev pub MovesKeepAcyclic : Type 0

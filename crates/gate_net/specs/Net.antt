@@ -1,7 +1,7 @@
 -- A net of gates: live nodes by number, each with its kind and its drivers, and the observed nodes.
 use Rattle.std.specs.Prelude.{◌≡◌, ◌≢◌, ℕ, ◌+◌, ◌<◌, ◌≤◌, List, [], ◌∷◌, Option, Some, None, slice_get, length, sum_by, if◌then◌else◌}
 use Rattle.gate_net.specs.declared.Kind.{Kind}
-use Rattle.gate_net.specs.declared.Kind.TheVariants.{Source, Zero, One, Not}
+use Rattle.gate_net.specs.declared.Kind.TheVariants.{Source, Zero, One, Not, Xor}
 use Rattle.rm_base.specs.Numbers.{first_source, one_number, zero_number}
 pub use Rattle.gate_net.specs.Meaning.{IsGateKind, is_gate_kind}
 
@@ -117,6 +117,7 @@ pub record IsWellFormed (net : Net) : Type 0 where
   pub only_one : (x : ℕ) → IsKind net x One → x ≡ one_number
   pub sources : HasSources net
   pub nots_have_one : (y : ℕ) → IsKind net y Not → (d : ℕ) × (drivers_of net y ≡ d ∷ [])
+  pub xors_have_two : (y : ℕ) → IsKind net y Xor → (d e : ℕ) × (drivers_of net y ≡ d ∷ e ∷ [])
   pub drivers_live : (y position x : ℕ) → Reads net y position x → node_at net x ≢ None
   pub observed_live : (x : ℕ) → IsObserved net x → node_at net x ≢ None
   pub canonical : trimmed net.nodes ≡ net.nodes

@@ -2,7 +2,7 @@
 use Rattle.std.specs.Prelude.{◌≡◌, ◌≢◌, ℕ, List, map, Option, Some, None, Bool, false, nat_eq, slice_set, if◌then◌else◌}
 use Rattle.rm_base.specs.declared.numbers.Fault.{Fault}
 use Rattle.gate_net.specs.declared.Kind.{Kind}
-pub use Rattle.gate_net.specs.Meaning.{controlling, gate_value, junction, not_first, same_bool}
+pub use Rattle.gate_net.specs.Meaning.{controlling, family, family_value, gate_value, inversion, junction, parity, same_bool, turned}
 use Rattle.gate_net.specs.Net.{Node, Net, node_at, drivers_of, Reads, IsObserved, IsKind}
 
 -- an And or an Or, with its controlling value

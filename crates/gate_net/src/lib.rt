@@ -15,6 +15,19 @@ pub enum Kind {
     And,
     Or,
     Not,
+    Xor,
+}
+
+/// What a kind means. A Not is the parity of one pin, inverted, and an Xor that of two.
+#[derive(Clone, Copy, Debug, PartialEq, Eq)]
+pub enum Family {
+    /// A source has the value that it is assigned.
+    Input,
+    Constant { value: bool },
+    /// An And or an Or: a pin with the controlling value decides.
+    Junction { controlling: bool },
+    /// 1 where an odd number of pins is 1, and the opposite where it inverts.
+    Parity { inverts: bool },
 }
 
 /// An acyclic net has exactly one valuation for each assignment.

@@ -1,9 +1,9 @@
 //! What each kind of node means. What other crates ask of a kind they ask here, so that a new kind is met in one place.
 ghost use Rattle.std.specs.Prelude.{◌≡◌, ◌↔◌, IsTrue, [], false};
-ghost use Rattle.gate_net.specs.Meaning.{is_gate_kind, IsGateKind, constant_value, controlling, gate_value, junction, not_first};
+ghost use Rattle.gate_net.specs.Meaning.{is_gate_kind, IsGateKind, constant_value, controlling, family, gate_value, junction, parity};
 ghost use Rattle.gate_net.specs.Inner.Meaning.{noncontrolling, TakesPins};
 
-use crate::Kind;
+use crate::{Family, Kind};
 
 fn junction(c: bool, reads: &[bool]) -> bool
     ensures { result ≡ junction c reads.now }
@@ -16,24 +16,40 @@ fn junction(c: bool, reads: &[bool]) -> bool
     !c
 }
 
-fn not_first(reads: &[bool]) -> bool
-    ensures { result ≡ not_first reads.now }
+fn parity(inverts: bool, reads: &[bool]) -> bool
+    ensures { result ≡ parity inverts reads.now }
 {
-    match reads.first() {
-        Some(read) => !*read,
-        None => false,
+    let mut value = inverts;
+    for read in reads {
+        value = value != *read;
     }
+    value
 }
 
 impl Kind {
+    /// What the kind means.
+    pub fn family(self) -> Family
+        ensures { result ≡ family self }
+    {
+        match self {
+            Kind::Source => Family::Input,
+            Kind::Zero => Family::Constant { value: false },
+            Kind::One => Family::Constant { value: true },
+            Kind::And => Family::Junction { controlling: false },
+            Kind::Or => Family::Junction { controlling: true },
+            Kind::Not => Family::Parity { inverts: true },
+            Kind::Xor => Family::Parity { inverts: false },
+        }
+    }
+
     /// Whether a node of the kind is a gate.
     pub fn is_gate(self) -> bool
         ensures value { result ≡ is_gate_kind self }
         ensures gate { IsTrue result ↔ IsGateKind self }
     {
-        match self {
-            Kind::And | Kind::Or | Kind::Not => true,
-            Kind::Source | Kind::Zero | Kind::One => false,
+        match self.family() {
+            Family::Junction { .. } | Family::Parity { .. } => true,
+            Family::Input | Family::Constant { .. } => false,
         }
     }
 
@@ -41,9 +57,8 @@ impl Kind {
     pub fn constant_value(self) -> Option<bool>
         ensures { result ≡ constant_value self }
     {
-        match self {
-            Kind::Zero => Some(false),
-            Kind::One => Some(true),
+        match self.family() {
+            Family::Constant { value } => Some(value),
             _ => None,
         }
     }
@@ -52,9 +67,8 @@ impl Kind {
     pub fn controlling_value(self) -> Option<bool>
         ensures { result ≡ controlling self }
     {
-        match self {
-            Kind::And => Some(false),
-            Kind::Or => Some(true),
+        match self.family() {
+            Family::Junction { controlling } => Some(controlling),
             _ => None,
         }
     }
@@ -80,13 +94,11 @@ impl Kind {
     pub fn value(self, assigned: bool, reads: &[bool]) -> bool
         ensures { result ≡ gate_value self assigned reads.now }
     {
-        match self {
-            Kind::Source => assigned,
-            Kind::Zero => false,
-            Kind::One => true,
-            Kind::And => junction(false, reads),
-            Kind::Or => junction(true, reads),
-            Kind::Not => not_first(reads),
+        match self.family() {
+            Family::Input => assigned,
+            Family::Constant { value } => value,
+            Family::Junction { controlling } => junction(controlling, reads),
+            Family::Parity { inverts } => parity(inverts, reads),
         }
     }
 

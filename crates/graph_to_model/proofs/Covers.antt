@@ -9,7 +9,7 @@ use Rattle.rm_model.specs.WellFormed.{is_distinct}
 use Rattle.rm_model.specs.declared.parts.Cover.{Cover}
 use Rattle.rm_model.specs.declared.parts.Model.{Model}
 use Rattle.gate_net.specs.declared.Kind.{Kind}
-use Rattle.gate_net.specs.declared.Kind.TheVariants.{Source, Zero, One, And, Or, Not}
+use Rattle.gate_net.specs.declared.Kind.TheVariants.{Source, Zero, One, And, Or, Not, Xor}
 use Rattle.gate_net.specs.Net.{Node, Net, node_at, flatten_option, IsGateKind}
 use Rattle.cover_decompose.proofs.Public.{among_in, in_among}
 use Rattle.graph_to_model.specs.Names.{node_name}
@@ -50,6 +50,7 @@ cover_made One inputs output h = absurd h
 cover_made And inputs output h = (_, refl)
 cover_made Or inputs output h = (_, refl)
 cover_made Not inputs output h = (_, refl)
+cover_made Xor inputs output h = (_, refl)
 
 pub rest_from : (net : Net) (n : ℕ) (o : Option Node) (os : List (Option Node)) → AreNodesFrom net n (o ∷ os) → AreNodesFrom net (n + 1) os
 rest_from net n o os same k p e = let next : n + suc k ≡ n + 1 + k = omega arith in subst (λ (z : ℕ). node_at net z ≡ p) next (same (suc k) p e)

@@ -12,7 +12,7 @@ use Rattle.rm_model.specs.declared.parts.Cover.{Cover}
 use Rattle.rm_model.specs.declared.parts.Latch.{Latch}
 use Rattle.rm_model.specs.declared.parts.Model.{Model}
 use Rattle.gate_net.specs.declared.Kind.{Kind}
-use Rattle.gate_net.specs.declared.Kind.TheVariants.{Source, Zero, One, And, Or, Not}
+use Rattle.gate_net.specs.declared.Kind.TheVariants.{Source, Zero, One, Not, Xor}
 use Rattle.gate_net.specs.Net.{Node, Net, node_at, Reads, IsGateKind, source_count}
 use Rattle.cover_decompose.proofs.Public.{among_in}
 use Rattle.std.specs.Fmt.{decimal}
@@ -29,7 +29,7 @@ use Rattle.rm_base.proofs.Public.{all_pass_in, in_append, in_at, in_left, in_map
 use Rattle.rm_base.specs.Members.{In}
 use Rattle.rm_base.specs.Words.{Word}
 use Rattle.graph_to_model.specs.Inner.Writable.{IsWritable}
-use Rattle.graph_to_model.specs.Inner.Covers.{IsGateCover, IsCopyCover}
+use Rattle.graph_to_model.specs.Inner.Covers.{HasPins, IsGateCover, IsCopyCover}
 
 all_pass : (test : Word → Bool) (xs : List Word) → ((x : Word) → In xs x → test x ≡ true) → list_all test xs ≡ true
 all_pass test [] h = refl
@@ -66,9 +66,7 @@ module _ (m : Model) (net : Net) (w : IsWritable m net) where
       inl (x - 2, (omega arith, omega arith))
   by_kind x node Zero at e no_zero no_one = absurd (no_zero (w.formed.only_zero x (kind_is net x node Zero at e)))
   by_kind x node One at e no_zero no_one = absurd (no_one (w.formed.only_one x (kind_is net x node One at e)))
-  by_kind x node And at e no_zero no_one = inr (record { node = node; at = at; gate = subst IsGateKind (sym e) tt })
-  by_kind x node Or at e no_zero no_one = inr (record { node = node; at = at; gate = subst IsGateKind (sym e) tt })
-  by_kind x node Not at e no_zero no_one = inr (record { node = node; at = at; gate = subst IsGateKind (sym e) tt })
+  by_kind x node kind at e no_zero no_one = inr (record { node = node; at = at; gate = subst IsGateKind (sym e) tt })
 
   pub live_named : (x : ℕ) → node_at net x ≢ None → x ≢ 0 → x ≢ 1 → HasName m net x
   live_named x live no_zero no_one = told (node_at net x) refl
@@ -156,11 +154,20 @@ module _ (m : Model) (net : Net) (w : IsWritable m net) where
       cases (inl j) = let f = in_gates m net 0 net.nodes c (all_from_start net) j in inl (f.0, (omega (arith, f.1.1.0), f.1.1.1))
       cases (inr j) = inr (in_copies m net (names_before_copies m net) net.observed (observed_names m) c j)
 
-  pub one_pin_not : (x : ℕ) (node : Node) → node_at net x ≡ Some node → node.kind ≡ Not → length (map (node_name m net) node.drivers) ≡ 1
+  one_pin_not : (x : ℕ) (node : Node) → node_at net x ≡ Some node → node.kind ≡ Not → length (map (node_name m net) node.drivers) ≡ 1
   one_pin_not x node at e =
       let one = w.formed.nots_have_one x (kind_is net x node Not at e) in
       let drivers : node.drivers ≡ one.0 ∷ [] = sym (rw at refl) ∙ one.1 in
       rw drivers refl
+
+  two_pins_xor : (x : ℕ) (node : Node) → node_at net x ≡ Some node → node.kind ≡ Xor → length (map (node_name m net) node.drivers) ≡ 2
+  two_pins_xor x node at e =
+      let two = w.formed.xors_have_two x (kind_is net x node Xor at e) in
+      let drivers : node.drivers ≡ two.0 ∷ two.1 ∷ [] = sym (rw at refl) ∙ two.2 in
+      rw drivers refl
+
+  pub has_pins : (x : ℕ) (node : Node) → node_at net x ≡ Some node → HasPins node.kind (length (map (node_name m net) node.drivers))
+  has_pins x node at = record { one = one_pin_not x node at; two = two_pins_xor x node at }
 
   copy_formed : (n : ℕ) (x : Word) (a b : Bool) → IsWellFormedCover (if a then cover_with [] x true [] else (if b then cover_with [] x true ([] ∷ []) else cover_with (node_name m net n ∷ []) x true ((One1 ∷ []) ∷ [])))
   copy_formed n x true b = record { no_rows = λ e. refl; row_lengths = All-nil (λ (r : List Literal). length r ≡ 0) }
@@ -168,7 +175,7 @@ module _ (m : Model) (net : Net) (w : IsWritable m net) where
   copy_formed n x false false = record { no_rows = λ e. refl; row_lengths = one_row 1 One1 }
 
   formed_cover : (c : Cover) → IsOfGate c ⊎ IsOfCopy c → IsWellFormedCover c
-  formed_cover c (inl (x, (h, g))) = g.cover.formed (one_pin_not x g.node g.at)
+  formed_cover c (inl (x, (h, g))) = g.cover.formed (has_pins x g.node g.at)
   formed_cover c (inr copy) = subst IsWellFormedCover (sym copy.is) (copy_formed copy.node copy.name (nat_eq copy.node 0) (nat_eq copy.node 1))
 
   -- what a cover reads has a name

@@ -10,8 +10,8 @@ use Rattle.rm_model.specs.declared.parts.Literal.{Literal}
 use Rattle.rm_model.specs.declared.parts.Literal.TheVariants.{Zero, One, Any}
 use Rattle.rm_model.specs.declared.parts.Cover.{Cover}
 use Rattle.gate_net.specs.declared.Kind.{Kind}
-use Rattle.gate_net.specs.declared.Kind.TheVariants.{Source, And, Or, Not}
-use Rattle.gate_net.specs.Values.{junction, not_first}
+use Rattle.gate_net.specs.declared.Kind.TheVariants.{Source, And, Or, Not, Xor}
+use Rattle.gate_net.specs.Values.{junction, parity}
 use Rattle.graph_to_model.specs.NetModel.{row_per_pin, gate_cover_of}
 use Rattle.rm_base.proofs.Public.{some_is}
 use Rattle.rm_base.specs.Words.{Word}
@@ -97,11 +97,25 @@ row_lengths (suc n) =
 not_one : (n : ℕ) → 2 ≤ n → nat_eq n 1 ≡ false
 not_one n h = ne_eqb n 1 (λ (e : n ≡ 1). let f : ⊥ = omega arith in f)
 
-not_value : (n : ℕ) (bs : List Bool) → length bs ≡ n → n ≡ 1 → value_of_rows ((Zero ∷ []) ∷ []) true bs ≡ not_first bs
+not_value : (n : ℕ) (bs : List Bool) → length bs ≡ n → n ≡ 1 → value_of_rows ((Zero ∷ []) ∷ []) true bs ≡ parity true bs
 not_value n [] e one = absurd (omega arith)
 not_value n (true ∷ []) e one = refl
 not_value n (false ∷ []) e one = refl
 not_value n (b ∷ d ∷ bs) e one = absurd (omega arith)
+
+xor_value : (n : ℕ) (bs : List Bool) → length bs ≡ n → n ≡ 2 → value_of_rows ((One ∷ Zero ∷ []) ∷ (Zero ∷ One ∷ []) ∷ []) true bs ≡ parity false bs
+xor_value n [] e two = absurd (omega arith)
+xor_value n (b ∷ []) e two = absurd (omega arith)
+xor_value n (true ∷ true ∷ []) e two = refl
+xor_value n (true ∷ false ∷ []) e two = refl
+xor_value n (false ∷ true ∷ []) e two = refl
+xor_value n (false ∷ false ∷ []) e two = refl
+xor_value n (b ∷ d ∷ f ∷ bs) e two = absurd (omega arith)
+
+two_rows : All (λ (r : List Literal). length r ≡ 2) ((One ∷ Zero ∷ []) ∷ (Zero ∷ One ∷ []) ∷ [])
+two_rows =
+    All-cons (λ (r : List Literal). length r ≡ 2) (One ∷ Zero ∷ []) ((Zero ∷ One ∷ []) ∷ []) refl
+    (All-cons (λ (r : List Literal). length r ≡ 2) (Zero ∷ One ∷ []) [] refl (All-nil (λ (r : List Literal). length r ≡ 2)))
 
 pub cover_of : (kind : Kind) (inputs : List Word) (output : Word) (c : Cover) → gate_cover_of kind inputs output ≡ Some c → CoverOf kind inputs output c
 cover_of Source inputs output c e = absurd cc
@@ -138,7 +152,15 @@ cover_of Not inputs output c e = subst (CoverOf Not inputs output) (some_is _ _ 
   gate = tt;
   in_is = refl;
   out_is = refl;
-  formed = λ one. record { no_rows = λ none. refl; row_lengths = subst (λ (k : ℕ). All (λ (r : List Literal). length r ≡ k) ((Zero ∷ []) ∷ [])) (sym (one refl)) (one_row 1 Zero) };
-  value = λ bs l one. not_value (length inputs) bs l (one refl);
+  formed = λ one. record { no_rows = λ none. refl; row_lengths = subst (λ (k : ℕ). All (λ (r : List Literal). length r ≡ k) ((Zero ∷ []) ∷ [])) (sym (one.one refl)) (one_row 1 Zero) };
+  value = λ bs l one. not_value (length inputs) bs l (one.one refl);
   no_copy = λ one two. and-false (nat_eq (length inputs) 1);
+})
+cover_of Xor inputs output c e = subst (CoverOf Xor inputs output) (some_is _ _ e) (record {
+  gate = tt;
+  in_is = refl;
+  out_is = refl;
+  formed = λ pins. record { no_rows = λ none. refl; row_lengths = subst (λ (k : ℕ). All (λ (r : List Literal). length r ≡ k) ((One ∷ Zero ∷ []) ∷ (Zero ∷ One ∷ []) ∷ [])) (sym (pins.two refl)) two_rows };
+  value = λ bs l pins. xor_value (length inputs) bs l (pins.two refl);
+  no_copy = λ pins two. rw (not_one (length inputs) (two (λ (f : Xor ≡ Not). let g : ⊥ = cc in g))) refl;
 })

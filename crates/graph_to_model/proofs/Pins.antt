@@ -7,15 +7,15 @@ use Rattle.rm_model.specs.declared.parts.Literal.TheVariants.{One as One1}
 use Rattle.rm_model.specs.declared.parts.Cover.{Cover}
 use Rattle.rm_model.specs.declared.parts.Model.{Model}
 use Rattle.gate_net.specs.declared.Kind.{Kind}
-use Rattle.gate_net.specs.declared.Kind.TheVariants.{Source, Zero, One, And, Or, Not}
+use Rattle.gate_net.specs.declared.Kind.TheVariants.{Source, Zero, One, And, Or, Not, Xor}
 use Rattle.gate_net.specs.Net.{Node, Net, node_at, drivers_in, drivers_of, wire_count, IsGateKind, plain_node}
 use Rattle.graph_to_model.specs.Names.{node_name}
 use Rattle.graph_to_model.specs.NetModel.{cover_with, gate_cover_of, gate_cover, gate_covers, onto, copy_cover, copy_covers, model_of_net, covers_of_gates, names_before_copies, covers_of_copies}
 use Rattle.graph_to_model.specs.Wires.{is_copy, wires}
 use Rattle.graph_to_model.proofs.TidyFacts.{kind_is, source_plain, zero_plain, one_plain}
 use Rattle.graph_to_model.proofs.GateValues.{cover_of}
-use Rattle.graph_to_model.proofs.Covers.{rest_from, first_from, all_from_start}
-use Rattle.graph_to_model.proofs.Formed.{one_pin_not}
+use Rattle.graph_to_model.proofs.Covers.{cover_made, rest_from, first_from, all_from_start}
+use Rattle.graph_to_model.proofs.Formed.{has_pins}
 use Rattle.rm_base.proofs.Public.{some_is}
 use Rattle.rm_base.specs.Words.{Word}
 use Rattle.graph_to_model.specs.Inner.Writable.{IsWritable}
@@ -39,18 +39,10 @@ module _ (m : Model) (net : Net) (w : IsWritable m net) where
   no_cover x node Source at e none = plain_pins x node Source at (source_plain net w.formed x (kind_is net x node Source at e))
   no_cover x node Zero at e none = plain_pins x node Zero at (zero_plain net w.formed x (kind_is net x node Zero at e))
   no_cover x node One at e none = plain_pins x node One at (one_plain net w.formed x (kind_is net x node One at e))
-  no_cover x node And at e none = absurd (made (rw e at none))
-    where
-      made : gate_cover_of And (map (node_name m net) node.drivers) (node_name m net x) ≡ None → ⊥
-      made f = cc
-  no_cover x node Or at e none = absurd (made (rw e at none))
-    where
-      made : gate_cover_of Or (map (node_name m net) node.drivers) (node_name m net x) ≡ None → ⊥
-      made f = cc
-  no_cover x node Not at e none = absurd (made (rw e at none))
-    where
-      made : gate_cover_of Not (map (node_name m net) node.drivers) (node_name m net x) ≡ None → ⊥
-      made f = cc
+  no_cover x node kind at e none =
+      let made = cover_made kind (map (node_name m net) node.drivers) (node_name m net x) tt in
+      let none_is : gate_cover_of kind (map (node_name m net) node.drivers) (node_name m net x) ≡ None = rw e at none in
+      let bad : Some made.0 ≡ None = sym made.1 ∙ none_is in absurd cc
 
   pub two_or_more : (x : ℕ) (node : Node) (kind : Kind) → node_at net x ≡ Some node → node.kind ≡ kind → IsGateKind kind → kind ≢ Not → 2 ≤ length (map (node_name m net) node.drivers)
   two_or_more x node Source at e gate ne = absurd gate
@@ -65,11 +57,12 @@ module _ (m : Model) (net : Net) (w : IsWritable m net) where
       let own : length (drivers_of net x) ≡ length node.drivers = rw at refl in
       let names : length (map (node_name m net) node.drivers) ≡ length node.drivers = map_words (node_name m net) node.drivers in omega arith
   two_or_more x node Not at e gate ne = absurd (ne refl)
+  two_or_more x node Xor at e gate ne = let two : length (map (node_name m net) node.drivers) ≡ 2 = (has_pins m net w x node at).two e in omega arith
 
   pub cover_pins : (x : ℕ) (node : Node) (c : Cover) → node_at net x ≡ Some node → gate_cover m net x (Some node) ≡ Some c → pins c ≡ length node.drivers
   cover_pins x node c at e =
       let h = cover_of node.kind (map (node_name m net) node.drivers) (node_name m net x) c e in
-      let no : is_copy c ≡ false = h.no_copy (one_pin_not m net w x node at) (two_or_more x node node.kind at refl h.gate) in
+      let no : is_copy c ≡ false = h.no_copy (has_pins m net w x node at) (two_or_more x node node.kind at refl h.gate) in
       rw no (ap length h.in_is ∙ map_words (node_name m net) node.drivers)
 
   pub gate_pins : (n : ℕ) (os : List (Option Node)) → AreNodesFrom net n os → sum_by pins (gate_covers m net n os) ≡ sum_by node_pins os

@@ -7,7 +7,7 @@ pub use Rattle.graph_to_model.proofs.Covers.{distinct_tail, first_from, in_copie
 pub use Rattle.graph_to_model.proofs.Covers.{live_within, place_of, rest_from}
 -- The model of a net is well formed.
 pub use Rattle.graph_to_model.proofs.Formed.{all_in_list, cover_at, driver_named, live_named}
-pub use Rattle.graph_to_model.proofs.Formed.{name_driven, one_pin_not}
+pub use Rattle.graph_to_model.proofs.Formed.{has_pins, name_driven}
 -- The cover of a gate has the gate's value.
 pub use Rattle.graph_to_model.proofs.GateValues.{cover_of}
 -- Nodes have different names.
@@ -17,5 +17,7 @@ pub use Rattle.graph_to_model.proofs.Outputs.{cover_number, driven_are, gate_num
 pub use Rattle.graph_to_model.proofs.Outputs.{observed_driven, one_gate}
 -- What a tidy net is free of.
 pub use Rattle.graph_to_model.proofs.TidyFacts.{kind_is, lean}
+-- How many pins the gates have.
+pub use Rattle.graph_to_model.proofs.Pins.{two_or_more}
 -- The net stands for its model.
-pub use Rattle.graph_to_model.proofs.Standing.{all_at}
+pub use Rattle.graph_to_model.proofs.Standing.{all_at, assigned}

@@ -1,6 +1,6 @@
 -- The model of a net is ranked.
 use Rattle.std.proofs.Common.{◌≡◌, ◌≢◌, ◌≤◌, ◌<◌, ◌+◌, ◌^◌, ℕ, zero, suc, Bool, true, false, ◌&&◌, List, [], ◌∷◌, ◌++◌, length, refl, sym, ◌∙◌, ap, arith, subst, ◌⊎◌, inl, inr, All, max}
-use Rattle.std.specs.Prelude.{Option, None, Some, if◌then◌else◌}
+use Rattle.std.specs.Prelude.{Option, None, Some, T, if◌then◌else◌}
 use Rattle.std.proofs.lemmas.Bool.Decides.{eqb_tells}
 use Rattle.std.proofs.lemmas.Bool.{and_parts}
 use Rattle.rm_model.specs.Words.{is_word}
@@ -9,8 +9,8 @@ use Rattle.rm_model.specs.WellFormed.{is_distinct}
 use Rattle.rm_model.specs.declared.parts.Cover.{Cover}
 use Rattle.rm_model.specs.declared.parts.Model.{Model}
 use Rattle.gate_net.specs.declared.Kind.{Kind}
-use Rattle.gate_net.specs.declared.Kind.TheVariants.{Source, Zero, One, And, Or, Not}
-use Rattle.gate_net.specs.Net.{Node, Net, node_at, Reads, IsGateKind}
+use Rattle.gate_net.specs.declared.Kind.TheVariants.{Source, Zero, One}
+use Rattle.gate_net.specs.Net.{Node, Net, node_at, Reads, IsGateKind, is_gate_kind}
 use Rattle.wire_edit.specs.Tests.{is_gate}
 use Rattle.graph_to_model.specs.Names.{node_name}
 use Rattle.graph_to_model.specs.Inner.Names.{IsGateNumber, HasName}
@@ -33,23 +33,13 @@ apart (y ∷ xs) ys x e (inr i) j = apart xs ys x (distinct_tail y (xs ++ ys) e)
 
 gate_node : (o : Option Node) (net : Net) (n : ℕ) → node_at net n ≡ o → is_gate net n ≡ true → IsGateNumber net n
 gate_node None net n at e = let bad : false ≡ true = rw at at e in absurd cc
-gate_node (Some node) net n at e = record { node = node; at = at; gate = by_kind node.kind refl }
-  where
-    by_kind : (kind : Kind) → node.kind ≡ kind → IsGateKind node.kind
-    by_kind Source f = let bad : false ≡ true = rw (at, f) at e in absurd cc
-    by_kind Zero f = let bad : false ≡ true = rw (at, f) at e in absurd cc
-    by_kind One f = let bad : false ≡ true = rw (at, f) at e in absurd cc
-    by_kind And f = subst IsGateKind (sym f) tt
-    by_kind Or f = subst IsGateKind (sym f) tt
-    by_kind Not f = subst IsGateKind (sym f) tt
+gate_node (Some node) net n at e = let is : is_gate_kind node.kind ≡ true = rw at at e in record { node = node; at = at; gate = subst (λ (b : Bool). T b) (sym is) tt }
 
 gate_test : (net : Net) (n : ℕ) (node : Node) (kind : Kind) → node_at net n ≡ Some node → node.kind ≡ kind → IsGateKind kind → is_gate net n ≡ true
 gate_test net n node Source at f h = absurd h
 gate_test net n node Zero at f h = absurd h
 gate_test net n node One at f h = absurd h
-gate_test net n node And at f h = rw (at, f) refl
-gate_test net n node Or at f h = rw (at, f) refl
-gate_test net n node Not at f h = rw (at, f) refl
+gate_test net n node kind at f h = rw (at, f) refl
 
 module _ (m : Model) (net : Net) (w : IsWritable m net) where
   abbrev r : ℕ → ℕ

@@ -11,7 +11,7 @@ use Rattle.rm_model.specs.declared.parts.Literal.TheVariants.{One as One1}
 use Rattle.rm_model.specs.declared.parts.Cover.{Cover}
 use Rattle.rm_model.specs.declared.parts.Model.{Model}
 use Rattle.gate_net.specs.declared.Kind.{Kind}
-use Rattle.gate_net.specs.declared.Kind.TheVariants.{Source, Zero, One, And, Or, Not}
+use Rattle.gate_net.specs.declared.Kind.TheVariants.{Not}
 use Rattle.gate_net.specs.Net.{Net, wire_count, IsGateKind}
 use Rattle.cover_decompose.proofs.Public.{among_in}
 use Rattle.graph_to_model.specs.Laws.{IsSmall, IsNamed}
@@ -20,7 +20,7 @@ use Rattle.graph_to_model.specs.NetModel.{cover_with, copy_cover, copy_covers, m
 use Rattle.graph_to_model.specs.Wires.{is_copy}
 use Rattle.graph_to_model.proofs.Covers.{all_from_start, in_gates, in_copies, copy_out}
 use Rattle.graph_to_model.proofs.Outputs.{cover_number}
-use Rattle.graph_to_model.proofs.Formed.{one_pin_not}
+use Rattle.graph_to_model.proofs.Formed.{has_pins}
 use Rattle.graph_to_model.proofs.Pins.{pins, two_or_more, gate_pins}
 use Rattle.graph_to_model.proofs.Tokens.{least_le}
 use Rattle.rm_base.proofs.Public.{all_from_members, in_append, in_at}
@@ -110,7 +110,7 @@ module _ (m : Model) (net : Net) (w : IsWritable m net) where
   gate_inputs x c g = (rw no refl, some g.node.kind refl)
     where
       no : is_copy c ≡ false
-      no = g.cover.no_copy (one_pin_not m net w x g.node g.at) (two_or_more m net w x g.node g.node.kind g.at refl g.cover.gate)
+      no = g.cover.no_copy (has_pins m net w x g.node g.at) (two_or_more m net w x g.node g.node.kind g.at refl g.cover.gate)
 
       same : length c.inputs ≡ length (map (node_name m net) g.node.drivers)
       same = ap length g.cover.in_is
@@ -123,14 +123,10 @@ module _ (m : Model) (net : Net) (w : IsWritable m net) where
 
       some : (k : Kind) → g.node.kind ≡ k → 1 ≤ length c.inputs
       some Not e =
-          let one : length (map (node_name m net) g.node.drivers) ≡ 1 = one_pin_not m net w x g.node g.at e in
+          let one : length (map (node_name m net) g.node.drivers) ≡ 1 = (has_pins m net w x g.node g.at).one e in
           let s : length c.inputs ≡ length (map (node_name m net) g.node.drivers) = same in
           omega arith
-      some And e = two And e (λ h. cc)
-      some Or e = two Or e (λ h. cc)
-      some Source e = two Source e (λ h. cc)
-      some Zero e = two Zero e (λ h. cc)
-      some One e = two One e (λ h. cc)
+      some k e = two k e (λ h. cc)
 
   of_gate : (c : Cover) → In (covers_of_gates m net) c → (x : ℕ) × ((x < length net.nodes) × IsGateCover m net x c)
   of_gate c i = let f = in_gates m net 0 net.nodes c (all_from_start net) i in (f.0, (omega (arith, f.1.1.0), f.1.1.1))

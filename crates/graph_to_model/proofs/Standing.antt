@@ -1,6 +1,6 @@
 -- The net stands for its model.
 use Rattle.std.proofs.Common.{◌≡◌, ◌≢◌, ◌<◌, ◌+◌, ℕ, zero, suc, Bool, true, false, List, [], ◌∷◌, map, length, refl, sym, ◌∙◌, ap, arith, subst, ◌⊎◌, inl, inr, All, nat_eq}
-use Rattle.std.specs.Prelude.{Option, None, Some, slice_get, if◌then◌else◌}
+use Rattle.std.specs.Prelude.{Option, None, Some, T, slice_get, if◌then◌else◌}
 use Rattle.std.proofs.lemmas.Option.{slice_get_within}
 use Rattle.std.proofs.lemmas.Bool.{eq-eqb}
 use Rattle.std.proofs.lemmas.Bool.Decides.{eqb_tells}
@@ -12,9 +12,12 @@ use Rattle.rm_model.specs.declared.parts.Cover.{Cover}
 use Rattle.rm_model.specs.declared.parts.Model.{Model}
 use Rattle.gate_net.proofs.Public.{along_pins}
 use Rattle.gate_net.specs.declared.Kind.{Kind}
-use Rattle.gate_net.specs.declared.Kind.TheVariants.{Source, Zero, One, And, Or, Not}
+use Rattle.gate_net.specs.declared.Kind.TheVariants.{Source}
+use Rattle.gate_net.specs.declared.Family.{Family}
+use Rattle.gate_net.specs.declared.Family.TheVariants.{Constant, Input, Junction, Parity}
+use Rattle.gate_net.specs.Meaning.{is_gate_family}
 use Rattle.gate_net.specs.Net.{Net, node_at, Reads, IsGateKind, plain_node, source_count}
-use Rattle.gate_net.specs.Values.{AreGoodValues, gate_value}
+use Rattle.gate_net.specs.Values.{AreGoodValues, family, family_value, gate_value}
 use Rattle.cover_decompose.specs.StandsFor.{StandsFor, SameAssignment}
 use Rattle.graph_to_model.specs.Names.{node_name}
 use Rattle.graph_to_model.specs.Inner.Names.{IsGateNumber, HasName}
@@ -22,7 +25,7 @@ use Rattle.graph_to_model.specs.NetModel.{cover_with, copy_cover, model_of_net, 
 use Rattle.graph_to_model.proofs.Named.{source_name, stands_on_gate}
 use Rattle.graph_to_model.proofs.Covers.{in_copies, copies_in, in_gates, all_from_start, place_of, copy_out, HasOrCopies}
 use Rattle.graph_to_model.proofs.Outputs.{cover_number}
-use Rattle.graph_to_model.proofs.Formed.{cover_at, driver_named, live_named, one_pin_not}
+use Rattle.graph_to_model.proofs.Formed.{cover_at, driver_named, has_pins, live_named}
 use Rattle.rm_base.proofs.Public.{in_append, in_left, in_map, in_right, some_is, stands_below}
 use Rattle.rm_base.specs.Members.{In}
 use Rattle.rm_base.specs.Words.{Word}
@@ -70,13 +73,14 @@ got_map f [] (suc k) b e = absurd cc
 got_map f (x ∷ xs) zero b e = (x, (refl, some_is (f x) b e))
 got_map f (x ∷ xs) (suc k) b e = got_map f xs k b e
 
-assigned : (kind : Kind) (a : Bool) (bs : List Bool) → IsGateKind kind → gate_value kind a bs ≡ gate_value kind false bs
-assigned Source a bs h = absurd h
-assigned Zero a bs h = refl
-assigned One a bs h = refl
-assigned And a bs h = refl
-assigned Or a bs h = refl
-assigned Not a bs h = refl
+pub assigned : (kind : Kind) (a : Bool) (bs : List Bool) → IsGateKind kind → gate_value kind a bs ≡ gate_value kind false bs
+assigned kind a bs h = by_family (family kind) h
+  where
+    by_family : (f : Family) → T (is_gate_family f) → family_value f a bs ≡ family_value f false bs
+    by_family Input h = absurd h
+    by_family (Constant b) h = refl
+    by_family (Junction c) h = refl
+    by_family (Parity i) h = refl
 
 module _ (m : Model) (net : Net) (w : IsWritable m net) (a values : ℕ → Bool) (v : Word → Bool) (good : AreGoodValues net a values) (consistent : IsConsistent (model_of_net m net) v) (same : SameAssignment (model_of_net m net) a v) where
   abbrev Right : ℕ → Type 0
@@ -101,7 +105,7 @@ module _ (m : Model) (net : Net) (w : IsWritable m net) (a values : ℕ → Bool
       map_map v (node_name m net) node.drivers ∙ map_agree (λ d. v (node_name m net d)) values node.drivers (λ p d e. h p d (rw at e) (driver_named m net w x node p d at e)) in
       let inputs : map v (c.0).inputs ≡ map values node.drivers = ap (map v) c.1.1.cover.in_is ∙ drivers in
       let counted : length (map values node.drivers) ≡ length (map (node_name m net) node.drivers) = map_length values node.drivers ∙ sym (map_words (node_name m net) node.drivers) in
-      let value : value_of c.0 (map v (c.0).inputs) ≡ gate_value node.kind false (map values node.drivers) = ap (value_of c.0) inputs ∙ c.1.1.cover.value (map values node.drivers) counted (one_pin_not m net w x node at) in
+      let value : value_of c.0 (map v (c.0).inputs) ≡ gate_value node.kind false (map values node.drivers) = ap (value_of c.0) inputs ∙ c.1.1.cover.value (map values node.drivers) counted (has_pins m net w x node at) in
       let node_is : values x ≡ gate_value node.kind (a x) (map values node.drivers) = good x ∙ rw at refl in
       ap v (sym c.1.1.cover.out_is) ∙ (kept ∙ (value ∙ (sym (assigned node.kind (a x) (map values node.drivers) c.1.1.cover.gate) ∙ sym node_is)))
 

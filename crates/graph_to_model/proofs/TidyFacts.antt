@@ -2,7 +2,7 @@
 use Rattle.std.proofs.Common.{◌≡◌, ◌≤◌, ◌<◌, ◌+◌, ◌-◌, ℕ, zero, suc, Bool, true, false, not, [], length, refl, sym, ◌∙◌, ap, arith, subst}
 use Rattle.std.specs.Prelude.{Option, None, Some, slice_get, nat_eq}
 use Rattle.gate_net.specs.declared.Kind.{Kind}
-use Rattle.gate_net.specs.declared.Kind.TheVariants.{Source, Zero, One, And, Or, Not}
+use Rattle.gate_net.specs.declared.Kind.TheVariants.{Source, Zero, One}
 use Rattle.gate_net.specs.Net.{Node, Net, node_at, drivers_of, Reads, IsKind, IsWellFormed, plain_node, source_count}
 use Rattle.wire_edit.specs.declared.steps.Step.{Step}
 use Rattle.wire_edit.specs.declared.steps.Step.TheVariants.{Const, NoPins, OnePin, Dead}
@@ -10,6 +10,7 @@ use Rattle.wire_edit.specs.Tests.{is_present, is_gate, is_junction, is_in_use, c
 use Rattle.wire_edit.specs.Steps.{Applies}
 use Rattle.wire_edit.specs.Order.{IsTidy}
 use Rattle.wire_edit.specs.Laws.{TidyMeans, IsTidying}
+use Rattle.wire_edit.proofs.Public.{junction_gate}
 use Rattle.rm_base.proofs.Public.{both_and, not_from_false}
 use Rattle.graph_to_model.specs.Inner.Writable.{IsLean}
 
@@ -25,16 +26,13 @@ module _ (net : Net) (none : (step : Step) → IsTidying step → Applies net st
   no_constant y p gate constant =
       none (Const (record { 0 = y }) p) tt (both_and (is_gate net y) _ gate (both_and (is_in_use net y) _ (in_use y gate) constant))
 
-  is_gate_junction : (y : ℕ) → is_junction net y ≡ true → is_gate net y ≡ true
-  is_gate_junction y e = rw e refl
-
   some_pins : (y : ℕ) → is_junction net y ≡ true → nat_eq (length (drivers_of net y)) 0 ≡ true → ⊥
   some_pins y junction e =
-      none (NoPins (record { 0 = y })) tt (both_and (is_junction net y) _ junction (both_and (is_in_use net y) _ (in_use y (is_gate_junction y junction)) e))
+      none (NoPins (record { 0 = y })) tt (both_and (is_junction net y) _ junction (both_and (is_in_use net y) _ (in_use y (junction_gate net y junction)) e))
 
   more_pins : (y : ℕ) → is_junction net y ≡ true → nat_eq (length (drivers_of net y)) 1 ≡ true → ⊥
   more_pins y junction e =
-      none (OnePin (record { 0 = y })) tt (both_and (is_junction net y) _ junction (both_and (is_in_use net y) _ (in_use y (is_gate_junction y junction)) e))
+      none (OnePin (record { 0 = y })) tt (both_and (is_junction net y) _ junction (both_and (is_in_use net y) _ (in_use y (junction_gate net y junction)) e))
 
   two_pins : (y : ℕ) → is_junction net y ≡ true → 2 ≤ length (drivers_of net y)
   two_pins y junction = count (length (drivers_of net y)) (some_pins y junction) (more_pins y junction)
@@ -75,9 +73,7 @@ module _ (net : Net) (formed : IsWellFormed net) where
   reader_kind y p x n reads e Source f = absurd (no_pin y p x Source reads (source_plain y (kind_is net y n Source e f)))
   reader_kind y p x n reads e Zero f = absurd (no_pin y p x Zero reads (zero_plain y (kind_is net y n Zero e f)))
   reader_kind y p x n reads e One f = absurd (no_pin y p x One reads (one_plain y (kind_is net y n One e f)))
-  reader_kind y p x n reads e And f = rw (e, f) refl
-  reader_kind y p x n reads e Or f = rw (e, f) refl
-  reader_kind y p x n reads e Not f = rw (e, f) refl
+  reader_kind y p x n reads e kind f = rw (e, f) refl
 
   pub reader_is_gate : (y p x : ℕ) → Reads net y p x → is_gate net y ≡ true
   reader_is_gate y p x reads = told (node_at net y) refl

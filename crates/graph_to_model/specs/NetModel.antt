@@ -6,7 +6,7 @@ use Rattle.rm_model.specs.declared.parts.Literal.TheVariants.{Zero, One, Any}
 use Rattle.rm_model.specs.declared.parts.Cover.{Cover}
 use Rattle.rm_model.specs.declared.parts.Model.{Model}
 use Rattle.gate_net.specs.declared.Kind.{Kind}
-use Rattle.gate_net.specs.declared.Kind.TheVariants.{And, Or, Not}
+use Rattle.gate_net.specs.declared.Kind.TheVariants.{And, Or, Not, Xor}
 use Rattle.gate_net.specs.Net.{Node, Net}
 use Rattle.graph_to_model.specs.Names.{node_name}
 use Rattle.rm_base.specs.Words.{Word}
@@ -19,13 +19,14 @@ row_per_pin (suc n) = (One ∷ replicate n Any) ∷ map (λ r. Any ∷ r) (row_p
 abbrev pub cover_with : List Word → Word → Bool → List (List Literal) → Cover
 cover_with inputs output on rows = record { inputs = inputs; output = output; on = on; rows = rows }
 
--- an And is one row of 1s; an Or of at most 64 pins one row a pin, and a wider one a row of 0s that ends in 0
+-- an And is one row of 1s; an Or of at most 64 pins one row a pin, and a wider one a row of 0s that ends in 0; a Not is a row of 0; an Xor two rows
 abbrev pub gate_cover_of : Kind → List Word → Word → Option Cover
 gate_cover_of And inputs output = Some (cover_with inputs output true (replicate (length inputs) One ∷ []))
 gate_cover_of Or inputs output =
     Some (if nat_le (length inputs) 64 then cover_with inputs output true (row_per_pin (length inputs))
     else cover_with inputs output false (replicate (length inputs) Zero ∷ []))
 gate_cover_of Not inputs output = Some (cover_with inputs output true ((Zero ∷ []) ∷ []))
+gate_cover_of Xor inputs output = Some (cover_with inputs output true ((One ∷ Zero ∷ []) ∷ (Zero ∷ One ∷ []) ∷ []))
 gate_cover_of kind inputs output = None
 
 abbrev pub gate_cover : Model → Net → ℕ → Option Node → Option Cover

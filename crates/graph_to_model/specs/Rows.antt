@@ -25,6 +25,12 @@ r5_out =
     ∷ cover_with (codes "n0_4" ∷ codes "n0_5" ∷ []) (codes "n0_6") true ((One ∷ One ∷ []) ∷ [])
     ∷ cover_with (codes "n0_6" ∷ []) (codes "z") true ((Zero ∷ []) ∷ []) ∷ []
 
+-- an Xor that a Not closes
+abbrev pub agree_out : List Cover
+agree_out =
+    cover_with (codes "a" ∷ codes "b" ∷ []) (codes "n0_4") true ((One ∷ Zero ∷ []) ∷ (Zero ∷ One ∷ []) ∷ [])
+    ∷ cover_with (codes "n0_4" ∷ []) (codes "z") true ((Zero ∷ []) ∷ []) ∷ []
+
 -- an output that is a source, and a copy of it
 abbrev pub copies : Model
 copies = model_with (codes "r7") (codes "a" ∷ []) (codes "a" ∷ codes "z" ∷ []) (cover_with (codes "a" ∷ []) (codes "z") true ((One ∷ []) ∷ []) ∷ [])

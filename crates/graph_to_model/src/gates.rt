@@ -1,6 +1,6 @@
 // The covers of gates.
 ghost use Rattle.std.specs.Prelude.{◌≡◌, ◌<◌, ◌-◌, ◌+◌, ◌++◌, ◌∷◌, [], IfOk, OnOk, length, map, replicate};
-ghost use Rattle.rm_model.specs.declared.parts.Literal.TheVariants.{Any, One};
+ghost use Rattle.rm_model.specs.declared.parts.Literal.TheVariants.{Any, One, Zero};
 ghost use Rattle.gate_graph.specs.Circuit.{net_of};
 ghost use Rattle.gate_net.specs.Net.{IsLive, drivers_of, node_at};
 ghost use Rattle.graph_to_model.specs.NetModel.{cover_with as cover_of, gate_cover_of, onto, row_per_pin};
@@ -56,6 +56,22 @@ fn rows_per_pin(alloc: Global, count: usize) -> Result<Vec<Row>, NoMemory>
     Ok(rows)
 }
 
+fn pair_row(alloc: Global, one: Literal, other: Literal) -> Result<Row, NoMemory>
+    ensures { IfOk result (λ row. row ≡ one ∷ other ∷ []) }
+{
+    Ok(Listed::from_vec(Vec::from_array(alloc, [one, other])?))
+}
+
+// The rows where one of two pins is 1.
+fn xor_rows(alloc: Global) -> Result<Vec<Row>, NoMemory>
+    ensures { IfOk result (λ rows. rows.items ≡ (One ∷ Zero ∷ []) ∷ (Zero ∷ One ∷ []) ∷ []) }
+{
+    let mut rows = Vec::new(alloc);
+    rows.push(pair_row(alloc, Literal::One, Literal::Zero)?)?;
+    rows.push(pair_row(alloc, Literal::Zero, Literal::One)?)?;
+    Ok(rows)
+}
+
 pub fn gate_cover(
     alloc: Global,
     kind: Kind,
@@ -75,6 +91,7 @@ pub fn gate_cover(
                 (false, even_row(alloc, count, Literal::Zero)?)
             }
         }
+        Kind::Xor => (true, xor_rows(alloc)?),
         Kind::Source | Kind::Zero | Kind::One => return Ok(None),
     };
     Ok(Some(cover_with(inputs, output, on, rows)))

@@ -1,10 +1,10 @@
 //! Laws of the definitions.
-ghost use Rattle.std.specs.Prelude.{◌≡◌, Some};
+ghost use Rattle.std.specs.Prelude.{◌≡◌, Some, true};
 ghost use Rattle.graph_to_model.specs.Laws.{TidyNetsHaveModels, TidyNetsHaveSmallModels};
 ghost use Rattle.cover_decompose.specs.Decomposition.{net_of_model};
-ghost use Rattle.cover_decompose.specs.Rows.{r2, r5};
+ghost use Rattle.cover_decompose.specs.Rows.{agree, differ, r2, r5};
 ghost use Rattle.graph_to_model.specs.NetModel.{model_of_net};
-ghost use Rattle.graph_to_model.specs.Rows.{copies, gate_of_next, gate_two, many_ones, one_zero, or_cover, r2_out, r5_out, rows_and_ending, taken_prefix, taken_prefix_out, zero_row};
+ghost use Rattle.graph_to_model.specs.Rows.{agree_out, copies, gate_of_next, gate_two, many_ones, one_zero, or_cover, r2_out, r5_out, rows_and_ending, taken_prefix, taken_prefix_out, zero_row};
 ghost use Rattle.graph_to_model.specs.Wires.{wires};
 
 use wire_edit::order_tells;
@@ -15,6 +15,10 @@ pub fn worked_rows()
     ensures r2_wires { wires (model_of_net r2 (net_of_model r2)) ≡ 4 }
     ensures r5 { (model_of_net r5 (net_of_model r5)).covers ≡ r5_out }
     ensures r5_wires { wires (model_of_net r5 (net_of_model r5)) ≡ 5 }
+    ensures differ { model_of_net (differ true) (net_of_model (differ true)) ≡ differ true }
+    ensures differ_wires { wires (differ true) ≡ 2 }
+    ensures agree { (model_of_net (agree true) (net_of_model (agree true))).covers ≡ agree_out }
+    ensures agree_again { net_of_model (model_of_net (agree true) (net_of_model (agree true))) ≡ net_of_model (agree true) }
     ensures copies { model_of_net copies (net_of_model copies) ≡ copies }
     ensures copies_wires { wires copies ≡ 0 }
     ensures not_tidy { gate_of_next (net_of_model zero_row) ≡ Some gate_two }

@@ -3,12 +3,14 @@ use Rattle.std.proofs.Common.{Bool, List, None, Option, Some, ap, arith, false, 
 use Rattle.std.proofs.lemmas.Bool.{eq-eqb, eqb-true}
 use Rattle.std.proofs.lemmas.Option.{slice_get_within}
 use Rattle.std.specs.List.{list_all}
-use Rattle.std.specs.Prelude.{IsTrue, nat_eq, slice_get}
+use Rattle.std.specs.Prelude.{IsTrue, T, nat_eq, slice_get}
 use Rattle.gate_net.specs.Forward.{is_known, junction_back, value_back, value_forward}
 use Rattle.gate_net.specs.Net.{IsGate, IsGateKind, IsKind, IsWellFormed, Net, Node, Reads, drivers_of}
 use Rattle.gate_net.specs.Values.{IsJunction, controlling, faulty_reads}
+use Rattle.gate_net.specs.Meaning.{controlling_in, family, family_back, is_gate_family}
+use Rattle.gate_net.specs.declared.Family.{Family}
+use Rattle.gate_net.specs.declared.Family.TheVariants.{Constant, Input, Junction, Parity}
 use Rattle.gate_net.specs.declared.Kind.{Kind}
-use Rattle.gate_net.specs.declared.Kind.TheVariants.{And, Not, One, Or, Source, Zero}
 use Rattle.refutation.proofs.Public.{driver_live, faulty_pins, junction_kind, known_held, one_of_true, pin_at}
 use Rattle.implications.specs.Inner.Pulls.{AreDoneEqual, AreDoneFaulty, AreDoneGood, AreDoneSide, IsEqualPull, IsPlaced, IsPull, IsPulled, SomePin}
 use Rattle.implications.specs.Inner.Settled.{IsDone, IsFresh}
@@ -91,21 +93,23 @@ kind_once net x k l (ds, is) (es, is') = let e : Some (record { kind = k; driver
     kind_field : Node → Kind
     kind_field n = n.kind
 
+junction_back_family : (f : Family) (c v : Bool) (os : List (Option Bool)) (q : ℕ) → controlling_in f ≡ Some c → family_back f v os q ≡ junction_back c v os q
+junction_back_family Input c v os q e = cc
+junction_back_family (Constant b) c v os q e = cc
+junction_back_family (Junction b) c v os q e = ap (λ (d : Bool). junction_back d v os q) (some_same e)
+junction_back_family (Parity i) c v os q e = cc
+
 pub junction_back_kind : (kind : Kind) (c v : Bool) (os : List (Option Bool)) (q : ℕ) → controlling kind ≡ Some c → value_back kind v os q ≡ junction_back c v os q
-junction_back_kind Source c v os q e = cc
-junction_back_kind Zero c v os q e = cc
-junction_back_kind One c v os q e = cc
-junction_back_kind And c v os q e = let is : c ≡ false = cc in rw is refl
-junction_back_kind Or c v os q e = let is : c ≡ true = cc in rw is refl
-junction_back_kind Not c v os q e = cc
+junction_back_kind kind = junction_back_family (family kind)
+
+junction_gate_family : (f : Family) (c : Bool) → controlling_in f ≡ Some c → T (is_gate_family f)
+junction_gate_family Input c e = cc
+junction_gate_family (Constant b) c e = cc
+junction_gate_family (Junction b) c e = tt
+junction_gate_family (Parity i) c e = tt
 
 pub junction_gate : (kind : Kind) (c : Bool) → controlling kind ≡ Some c → IsGateKind kind
-junction_gate Source c e = cc
-junction_gate Zero c e = cc
-junction_gate One c e = cc
-junction_gate And c e = tt
-junction_gate Or c e = tt
-junction_gate Not c e = cc
+junction_gate kind = junction_gate_family (family kind)
 
 -- THE STUCK PIN
 -- at a pin that isn't the stuck one the driver is read

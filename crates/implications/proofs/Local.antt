@@ -7,7 +7,7 @@ use Rattle.gate_net.specs.Net.{Net, Reads, drivers_of}
 use Rattle.gate_net.specs.Values.{faulty_reads}
 use Rattle.implications.specs.Settled.{AgreeAt, place_of}
 use Rattle.refutation.specs.Facts.{Held, known_equal, known_faulty, known_good}
-use Rattle.refutation.specs.Lines.{Concludes}
+use Rattle.refutation.specs.Lines.{Concludes, OneDiffers}
 use Rattle.refutation.specs.declared.reasoning.Fact.{Fact}
 use Rattle.refutation.specs.declared.reasoning.Fact.TheVariants.{Differs, Equal, Faulty, Good}
 use Rattle.refutation.specs.declared.reasoning.Line.{Line}
@@ -36,6 +36,9 @@ module _ (net : Net) (fault : Fault) (held other : Held) (y : ℕ) (here : Agree
 
   faulty_pins : faulty_reads net fault Some (known_faulty held) y ≡ faulty_reads net fault Some (known_faulty other) y
   faulty_pins = ap (λ os. if nat_eq y fault.gate.0 then slice_set os fault.position (Some fault.value) else os) faulties
+
+  one_differs : OneDiffers held (drivers_of net y) → OneDiffers other (drivers_of net y)
+  one_differs h = (h.0, h.1, h.2, rw (equal_at h.1 (drivers h.0 h.1 h.2)) at h.3, rw equals at h.4)
 
   pub line_local : (l : Line) (x : ℕ) (fact : Fact) → place_of l ≡ Some y → Concludes net fault held l x fact → Concludes net fault other l x fact
   line_local Act x fact e h = cc
@@ -104,7 +107,7 @@ module _ (net : Net) (fault : Fault) (held other : Held) (y : ℕ) (here : Agree
       )
   line_local (NotDiffers z) x fact e h =
       let is : x ≡ y = cc in
-      (h.0, h.1, h.2, h.3, rw (equal_at h.0 (drivers 0 h.0 (subst (λ w. Reads net w 0 h.0) is h.3))) at h.4, h.5, h.6)
+      (h.0, h.1, h.2, subst (λ w. OneDiffers other (drivers_of net w)) (sym is) (one_differs (subst (λ w. OneDiffers held (drivers_of net w)) is h.3)), h.4, h.5)
   line_local (NotEqual z) x fact e h =
       let is : z.0 ≡ y = cc in
       (h.0, h.1, subst (λ w. known_equal other w ≡ Some true) (sym is) (rw (equal_at y here) at (subst (λ w. known_equal held w ≡ Some true) is h.2)), h.3, h.4)

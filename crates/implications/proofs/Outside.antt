@@ -1,15 +1,18 @@
 -- The nodes that the faulty gate doesn't reach, and what their being equal settles.
-use Rattle.std.proofs.Common.{Bool, List, None, Option, Some, [], false, inl, inr, map, refl, subst, sym, true, ℕ, ◌∷◌, ◌≡◌, ◌≢◌}
+use Rattle.std.proofs.Common.{Bool, List, None, Option, Some, [], ap, false, inl, inr, map, refl, subst, sym, true, ℕ, ◌∷◌, ◌≡◌, ◌≢◌}
 use Rattle.std.proofs.lemmas.Bool.{ne_eqb}
 use Rattle.std.specs.List.{list_all, list_any}
-use Rattle.std.specs.Prelude.{IsTrue, if◌then◌else◌, ◌⊎◌}
+use Rattle.std.specs.Prelude.{IsTrue, T, if◌then◌else◌, slice_get}
 use mathlib.Core.Path.{fun_ext}
 use Rattle.gate_net.specs.Forward.{is_known, value_forward}
-use Rattle.gate_net.specs.Net.{IsGateKind, IsKind, IsWellFormed, Net, drivers_of}
+use Rattle.gate_net.specs.Net.{IsKind, IsWellFormed, Net, Reads, drivers_of}
 use Rattle.gate_net.specs.Paths.{Reaches, on, pin}
 use Rattle.gate_net.specs.Values.{faulty_reads}
+use Rattle.gate_net.specs.Meaning.{family, family_forward, is_gate_family}
+use Rattle.gate_net.specs.declared.Family.{Family}
+use Rattle.gate_net.specs.declared.Family.TheVariants.{Constant, Input, Junction, Parity}
 use Rattle.gate_net.specs.declared.Kind.{Kind}
-use Rattle.gate_net.specs.declared.Kind.TheVariants.{And, Not, One, Or, Source, Zero}
+use Rattle.gate_net.specs.declared.Kind.TheVariants.{One, Zero}
 use Rattle.refutation.proofs.Public.{all_known, driver_live, one_of_true}
 use Rattle.implications.specs.Beginning.{node_of}
 use Rattle.implications.specs.Inner.Beginning.{AreDoneOutside}
@@ -40,16 +43,13 @@ any_none c k [] none = refl
 any_none c k (d ∷ ds) none = rw (none d) (any_none c k ds none)
 
 -- no value follows from drivers of which none is known, where there is one
-forward_none : (kind : Kind) (k : ℕ → Option Bool) (ds : List ℕ) (v : Bool) → ((d : ℕ) → k d ≡ None) → ((kind ≡ And) ⊎ (kind ≡ Or) → ds ≢ []) → value_forward kind (map k ds) ≡ Some v → ⊥
-forward_none Source k ds v none pins e = cc
-forward_none Zero k ds v none pins e = cc
-forward_none One k ds v none pins e = cc
-forward_none And k [] v none pins e = pins (inl refl) refl
-forward_none And k (d ∷ ds) v none pins e = let wrong : None ≡ Some v = (rw (none d, any_none false k ds none) at e) in cc
-forward_none Or k [] v none pins e = pins (inr refl) refl
-forward_none Or k (d ∷ ds) v none pins e = let wrong : None ≡ Some v = (rw (none d, any_none true k ds none) at e) in cc
-forward_none Not k [] v none pins e = cc
-forward_none Not k (d ∷ ds) v none pins e = let wrong : None ≡ Some v = (rw (none d) at e) in cc
+forward_none : (f : Family) (k : ℕ → Option Bool) (ds : List ℕ) (v : Bool) → ((d : ℕ) → k d ≡ None) → (T (is_gate_family f) → ds ≢ []) → family_forward f (map k ds) ≡ Some v → ⊥
+forward_none Input k ds v none pins e = cc
+forward_none (Constant b) k ds v none pins e = cc
+forward_none (Junction c) k [] v none pins e = pins tt refl
+forward_none (Junction c) k (d ∷ ds) v none pins e = let wrong : None ≡ Some v = (rw (none d, any_none c k ds none) at e) in cc
+forward_none (Parity i) k [] v none pins e = pins tt refl
+forward_none (Parity i) k (d ∷ ds) v none pins e = let wrong : None ≡ Some v = (rw (none d) at e) in cc
 
 constant_is : (net : Net) → IsWellFormed net → (value : Bool) (x : ℕ) → IsKind net x (if value then One else Zero) → x ≢ 0 → x ≢ 1 → ⊥
 constant_is net formed true x kind zero' one' = one' (formed.only_one x kind)
@@ -81,11 +81,7 @@ module _ (net : Net) (fault : Fault) (start : Held) (formed : IsWellFormed net) 
   equal_drivers x all (on {z = z} p reaches reads) = (equal_is z (all_known (known_equal start) (drivers_of net x) all p z reads)).2 reaches
 
   forward_never : (k : ℕ → Option Bool) → ((d : ℕ) → k d ≡ None) → (y : ℕ) → (IsPinless net y → ⊥) → (kind : Kind) (v : Bool) → IsKind net y kind → value_forward kind (map k (drivers_of net y)) ≡ Some v → ⊥
-  forward_never k none y pinned kind v is e = forward_none kind k (drivers_of net y) v none (λ which empty. pinned ((kind, (is, gate which)), empty)) e
-    where
-      gate : (kind ≡ And) ⊎ (kind ≡ Or) → IsGateKind kind
-      gate (inl e) = rw e tt
-      gate (inr e) = rw e tt
+  forward_never k none y pinned kind v is e = forward_none (family kind) k (drivers_of net y) v none (λ gate empty. pinned ((kind, (is, gate)), empty)) e
 
   module _ (y : ℕ) (zero' : y ≢ 0) (one' : y ≢ 1) (ne : y ≢ fault.gate.0) (pinned : IsPinless net y → ⊥) where
     not_stuck : faulty_reads net fault Some (known_faulty start) y ≡ map (known_faulty start) (drivers_of net y)
@@ -106,16 +102,17 @@ module _ (net : Net) (fault : Fault) (start : Held) (formed : IsWellFormed net) 
     settled_here (Compare z) x fact e h = let wrong : known_good start x ≡ None = no_good x in let known : known_good start x ≡ Some h.1 = h.3 in cc
     settled_here (ToFaulty z) x fact e h = let wrong : known_good start x ≡ None = no_good x in let known : known_good start x ≡ Some h.1 = h.3 in cc
     settled_here (ToGood z) x fact e h = let wrong : known_faulty start x ≡ None = no_faulty x in let known : known_faulty start x ≡ Some h.1 = h.3 in cc
-    settled_here (NotDiffers z) x fact e h = absurd (no_differs h.0 h.4)
+    settled_here (NotDiffers z) x fact e h = absurd (no_differs h.3.1 h.3.3)
     settled_here (DiffersBack z q) x fact e h = absurd (no_differs z.0 h.2)
     settled_here (Side z q) x fact e h = absurd (no_differs z.0 h.4)
     settled_here (EqualForward z) x fact e h = (o x fact).1 ((h.0.0, h.0.1.0), h.1, equal_drivers x h.2, refl, h.4)
     settled_here (NotEqual z) x fact e h =
         let reader = equal_is z.0 h.2 in
+        let reads : Reads net z.0 0 x = ap (λ (ds : List ℕ). slice_get ds 0) h.3 in
         (o x fact).1 (
-          driver_live net formed z.0 0 x h.3,
-          λ is. reader.2 (subst (λ w. Reaches net w z.0) is (pin 0 h.3)),
-          λ reaches. reader.2 (on 0 reaches h.3),
+          driver_live net formed z.0 0 x reads,
+          λ is. reader.2 (subst (λ w. Reaches net w z.0) is (pin 0 reads)),
+          λ reaches. reader.2 (on 0 reaches reads),
           refl,
           h.4,
         )

@@ -24,8 +24,8 @@ place_live net fault held (FaultyForward z) x y fact e h = let is : x ≡ y = cc
 place_live net fault held (FaultyBack z q) x y fact e h = let is : z.0 ≡ y = cc in rw (← is) (reader_live net z.0 q x h.7)
 place_live net fault held (ToFaulty z) x y fact e h = let is : x ≡ y = cc in rw (← is) h.0
 place_live net fault held (ToGood z) x y fact e h = let is : x ≡ y = cc in rw (← is) h.0
-place_live net fault held (NotDiffers z) x y fact e h = let is : x ≡ y = cc in rw (← is) (_, h.1)
-place_live net fault held (NotEqual z) x y fact e h = let is : z.0 ≡ y = cc in rw (← is) (reader_live net z.0 0 x h.3)
+place_live net fault held (NotDiffers z) x y fact e h = let is : x ≡ y = cc in rw (← is) (h.1.0, h.1.1)
+place_live net fault held (NotEqual z) x y fact e h = let is : z.0 ≡ y = cc in rw (← is) (_, h.0)
 place_live net fault held (EqualForward z) x y fact e h = let is : x ≡ y = cc in rw (← is) (h.0.0, h.0.1.0)
 place_live net fault held (DiffersBack z q) x y fact e h = let is : z.0 ≡ y = cc in rw (← is) (reader_live net z.0 q x h.4)
 place_live net fault held (Side z q) x y fact e h = let is : z.0 ≡ y = cc in rw (← is) (reader_live net z.0 q x h.7)

@@ -1,4 +1,4 @@
-// Lines at an And, an Or or a Not, by glances at its pins.
+// Lines at a gate, by glances at its pins.
 ghost use Rattle.std.specs.Prelude.{◌≡◌, ◌<◌, ◌≤◌, Option, None, length, false, true};
 ghost use Rattle.gate_graph.specs.Circuit.{net_of};
 ghost use Rattle.gate_net.specs.Net.{IsGate, IsLive, drivers_of};

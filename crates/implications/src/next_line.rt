@@ -4,11 +4,12 @@ ghost use Rattle.gate_graph.specs.Circuit.{net_of};
 ghost use Rattle.gate_net.specs.Net.{IsGateKind, IsKind};
 ghost use Rattle.gate_net.specs.Values.{IsJunction};
 ghost use Rattle.gate_net.specs.declared.Kind.{Kind};
-ghost use Rattle.gate_net.specs.declared.Kind.TheVariants.{Not};
 ghost use Rattle.refutation.specs.Answers.{IsAnswer};
 ghost use Rattle.refutation.specs.Closing.{IsClashFree};
 ghost use Rattle.refutation.specs.FactSets.{held_by};
-ghost use Rattle.implications.specs.Inner.Pulls.{AreDoneFaulty, AreDoneGood, AreDoneNot, AreDoneValues, Finds};
+ghost use Rattle.refutation.specs.Lines.{IsParity};
+ghost use Rattle.refutation.specs.declared.reasoning.Line.TheVariants.{FaultyBack, GoodBack};
+ghost use Rattle.implications.specs.Inner.Pulls.{AreDoneFaulty, AreDoneGood, AreDoneParity, AreDoneValues, Finds};
 ghost use Rattle.implications.specs.Inner.Settled.{IsNext, IsReady, IsTried};
 ghost use Rattle.implications.specs.Inner.Tallies.{AreTallied};
 
@@ -17,7 +18,7 @@ use crate::gate_lines::equal_line;
 use crate::tallied_lines::tallied_line;
 use crate::tallies::Tallies;
 use gate_graph::Question;
-use gate_net::Kind;
+use gate_net::Family;
 use refutation::equal_lines::{line_not_differs, line_not_equal};
 use refutation::place_lines::line_constant;
 use refutation::value_lines::{
@@ -83,40 +84,86 @@ fn junction_line(
     tallied_line(question, facts, &tally, node, c)
 }
 
-// The lines on the good value at a Not.
-fn not_good_line(question: &Question<'_>, facts: &FactSet, node: NodeId) -> Option<Found>
+// The good value of one pin's driver.
+fn good_back_line(
+    question: &Question<'_>,
+    facts: &FactSet,
+    node: NodeId,
+    position: u32,
+) -> Option<Found>
     requires ready { IsReady (net_of question.now.graph.now) question.now.fault facts.now }
-    requires kind { IsKind (net_of question.now.graph.now) node.0 Not }
+    ensures { IsTried (net_of question.now.graph.now) question.now.fault facts.now (GoodBack node position) result }
+{
+    let given = line_good_back(question, facts, node, position);
+    try_line(question, facts, Line::GoodBack { node, position }, given)
+}
+
+// The faulty value of one pin's driver.
+fn faulty_back_line(
+    question: &Question<'_>,
+    facts: &FactSet,
+    node: NodeId,
+    position: u32,
+) -> Option<Found>
+    requires ready { IsReady (net_of question.now.graph.now) question.now.fault facts.now }
+    ensures { IsTried (net_of question.now.graph.now) question.now.fault facts.now (FaultyBack node position) result }
+{
+    let given = line_faulty_back(question, facts, node, position);
+    try_line(question, facts, Line::FaultyBack { node, position }, given)
+}
+
+// The lines on the good value at a Not, which inverts the parity of its pins, or an Xor.
+fn parity_good_line(
+    question: &Question<'_>,
+    facts: &FactSet,
+    node: NodeId,
+    inverts: bool,
+) -> Option<Found>
+    requires ready { IsReady (net_of question.now.graph.now) question.now.fault facts.now }
+    requires kind { IsParity (net_of question.now.graph.now) node.0 inverts }
     ensures { Finds (net_of question.now.graph.now) question.now.fault facts.now (AreDoneGood (net_of question.now.graph.now) question.now.fault facts.now node) result }
 {
     let given = line_good_forward(question, facts, node);
     if let Some(found) = try_line(question, facts, Line::GoodForward { node }, given) {
         return Some(found);
     }
-    let position = 0;
-    let given = line_good_back(question, facts, node, position);
-    try_line(question, facts, Line::GoodBack { node, position }, given)
+    if let Some(found) = good_back_line(question, facts, node, 0) {
+        return Some(found);
+    }
+    if inverts {
+        return None;
+    }
+    good_back_line(question, facts, node, 1)
 }
 
-// The lines on the faulty value at a Not.
-fn not_faulty_line(question: &Question<'_>, facts: &FactSet, node: NodeId) -> Option<Found>
+// The lines on the faulty value at a Not, which inverts the parity of its pins, or an Xor.
+fn parity_faulty_line(
+    question: &Question<'_>,
+    facts: &FactSet,
+    node: NodeId,
+    inverts: bool,
+) -> Option<Found>
     requires ready { IsReady (net_of question.now.graph.now) question.now.fault facts.now }
-    requires kind { IsKind (net_of question.now.graph.now) node.0 Not }
+    requires kind { IsParity (net_of question.now.graph.now) node.0 inverts }
     ensures { Finds (net_of question.now.graph.now) question.now.fault facts.now (AreDoneFaulty (net_of question.now.graph.now) question.now.fault facts.now node) result }
 {
     let given = line_faulty_forward(question, facts, node);
     if let Some(found) = try_line(question, facts, Line::FaultyForward { node }, given) {
         return Some(found);
     }
-    let position = 0;
-    let given = line_faulty_back(question, facts, node, position);
-    try_line(question, facts, Line::FaultyBack { node, position }, given)
+    if let Some(found) = faulty_back_line(question, facts, node, 0) {
+        return Some(found);
+    }
+    if inverts {
+        return None;
+    }
+    faulty_back_line(question, facts, node, 1)
 }
 
-// The lines by which a Not and its driver differ or are equal together.
-fn not_equal_line(question: &Question<'_>, facts: &FactSet, node: NodeId) -> Option<Found>
+// The lines by which a Not or an Xor differs where a driver does, or a driver of a Not is equal where that is.
+fn parity_equal_line(question: &Question<'_>, facts: &FactSet, node: NodeId) -> Option<Found>
     requires ready { IsReady (net_of question.now.graph.now) question.now.fault facts.now }
-    ensures { Finds (net_of question.now.graph.now) question.now.fault facts.now (AreDoneNot (net_of question.now.graph.now) question.now.fault facts.now node) result }
+    ensures { Finds (net_of question.now.graph.now) question.now.fault facts.now (AreDoneParity (net_of question.now.graph.now) question.now.fault facts.now node) result }
 {
     let given = line_not_differs(question, facts, node);
     if let Some(found) = try_line(question, facts, Line::NotDiffers { node }, given) {
@@ -126,26 +173,31 @@ fn not_equal_line(question: &Question<'_>, facts: &FactSet, node: NodeId) -> Opt
     try_line(question, facts, Line::NotEqual { node }, given)
 }
 
-// The lines at a Not.
-fn not_line(question: &Question<'_>, facts: &FactSet, node: NodeId) -> Option<Found>
+// The lines at a Not, which inverts the parity of its pins, or an Xor.
+fn parity_line(
+    question: &Question<'_>,
+    facts: &FactSet,
+    node: NodeId,
+    inverts: bool,
+) -> Option<Found>
     requires ready { IsReady (net_of question.now.graph.now) question.now.fault facts.now }
     requires free { IsClashFree (held_by facts.now) }
-    requires kind { IsKind (net_of question.now.graph.now) node.0 Not }
+    requires kind { IsParity (net_of question.now.graph.now) node.0 inverts }
     ensures { IsNext (net_of question.now.graph.now) question.now.fault facts.now node.0 result }
 {
     if let Some(found) = value_line(question, facts, node) {
         return Some(found);
     }
-    if let Some(found) = not_good_line(question, facts, node) {
+    if let Some(found) = parity_good_line(question, facts, node, inverts) {
         return Some(found);
     }
-    if let Some(found) = not_faulty_line(question, facts, node) {
+    if let Some(found) = parity_faulty_line(question, facts, node, inverts) {
         return Some(found);
     }
     if let Some(found) = equal_line(question, facts, node) {
         return Some(found);
     }
-    not_equal_line(question, facts, node)
+    parity_equal_line(question, facts, node)
 }
 
 // The lines at a constant or a source.
@@ -176,10 +228,11 @@ pub(crate) fn next_line(
     ensures tallied { AreTallied (net_of question.now.graph.now) (held_by facts.now) question.now.fault.position tallies.new }
     ensures room { length tallies.new.counted ≡ length tallies.old.counted }
 {
-    match question.graph.kind(node)? {
-        Kind::And => junction_line(question, facts, tallies, node, false),
-        Kind::Or => junction_line(question, facts, tallies, node, true),
-        Kind::Not => not_line(question, facts, node),
-        _ => plain_line(question, facts, node),
+    match question.graph.kind(node)?.family() {
+        Family::Junction { controlling } => {
+            junction_line(question, facts, tallies, node, controlling)
+        }
+        Family::Parity { inverts } => parity_line(question, facts, node, inverts),
+        Family::Input | Family::Constant { .. } => plain_line(question, facts, node),
     }
 }

@@ -1,13 +1,13 @@
 -- The nodes of both nets, one after another.
 use Rattle.std.proofs.Common.{List, [], ap, arith, drop, inl, inr, length, map, refl, subst, suc, sym, take, zero, ℕ, ◌++◌, ◌+◌, ◌-◌, ◌<◌, ◌∙◌, ◌∷◌, ◌≡◌, ◌≢◌, ◌≤◌}
-use Rattle.std.specs.Prelude.{None, Option, Some, replicate, slice_get, sum_by}
+use Rattle.std.specs.Prelude.{None, Option, Some, replicate, slice_get}
 use Rattle.std.proofs.lemmas.Bool.{cases_lt}
 use Rattle.std.proofs.lemmas.List.{length-drop, length-map, length-replicate, map-id, take-append-drop}
 use Rattle.std.proofs.lemmas.List.Sums.{sum_by-cons, sum_by-take-drop}
 use Rattle.gate_graph.specs.Circuit.{Circuit, live_nodes, net_of, pins_taken}
 use Rattle.gate_graph.specs.Start.{first_net}
 use Rattle.gate_net.specs.declared.Kind.{Kind}
-use Rattle.gate_net.specs.declared.Kind.TheVariants.{And, Not, One, Or, Source, Zero}
+use Rattle.gate_net.specs.declared.Kind.TheVariants.{One, Source, Zero}
 use Rattle.gate_net.specs.Net.{IsGate, IsKind, IsLive, IsWellFormed, Net, Node, drivers_in, flatten_option, node_at, plain_node, source_count, wire_count}
 use Rattle.gate_net.proofs.Public.{node_live}
 use Rattle.rm_base.proofs.Public.{drop_stands, map_pointwise, stands_below}
@@ -27,9 +27,7 @@ is_gate net x formed no_gaps le lt = by_kind l.0 l.1
     by_kind Source k = absurd (let bounds = formed.sources.only x k in let high = bounds.1 in omega (arith, high, le))
     by_kind Zero k = absurd (let is = formed.only_zero x k in omega (arith, is, le))
     by_kind One k = absurd (let is = formed.only_one x k in omega (arith, is, le))
-    by_kind And k = (And, (k, tt))
-    by_kind Or k = (Or, (k, tt))
-    by_kind Not k = (Not, (k, tt))
+    by_kind kind k = (kind, (k, tt))
 
 module _ (v target net : Net) (f : Option Node → Option Node) (k : ℕ) (lt : k < length net.nodes) (left : with_nodes v (map f (drop k net.nodes)) ≡ target) where
   next_is : map f (drop k net.nodes) ≡ f (node_at net k) ∷ map f (drop (suc k) net.nodes)

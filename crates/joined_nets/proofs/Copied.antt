@@ -3,7 +3,7 @@ use Rattle.std.proofs.Common.{Bool, List, [], ap, arith, drop, false, length, ma
 use Rattle.std.specs.Prelude.{None, Option, Some, slice_get}
 use Rattle.std.proofs.lemmas.Bool.{cases_lt, le-ltb, lt-ltb}
 use Rattle.gate_net.specs.declared.Kind.{Kind}
-use Rattle.gate_net.specs.declared.Kind.TheVariants.{And, Not, One, Or, Source, Zero}
+use Rattle.gate_net.specs.declared.Kind.TheVariants.{One, Source, Zero}
 use Rattle.gate_net.specs.Net.{IsKind, IsWellFormed, Net, Node, Reads, drivers_in, drivers_of, flatten_option, node_at, plain_node, source_count}
 use Rattle.gate_net.specs.Values.{AreGoodValues, gate_value, node_value}
 use Rattle.gate_net.proofs.Public.{along_pins}
@@ -14,11 +14,7 @@ use Rattle.joined_nets.proofs.Listed.{back_at, drop_at, live_below}
 -- only a source has the value that is assigned
 unassigned : (kind : Kind) (b c : Bool) (reads : List Bool) → kind ≢ Source → gate_value kind b reads ≡ gate_value kind c reads
 unassigned Source b c reads ne = absurd (ne refl)
-unassigned Zero b c reads ne = refl
-unassigned One b c reads ne = refl
-unassigned And b c reads ne = refl
-unassigned Or b c reads ne = refl
-unassigned Not b c reads ne = refl
+unassigned kind b c reads ne = refl
 
 fused : (v : ℕ → Bool) (m : ℕ → ℕ) (ds : List ℕ) → map v (map m ds) ≡ map (λ (d : ℕ). v (m d)) ds
 fused v m [] = refl

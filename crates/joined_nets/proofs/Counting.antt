@@ -3,7 +3,7 @@ use Rattle.std.proofs.Common.{List, [], ap, arith, drop, length, map, refl, suc,
 use Rattle.std.specs.Prelude.{None, Option, Some, slice_get}
 use Rattle.std.proofs.lemmas.List.Sums.{sum_by-append, sum_by-cons}
 use Rattle.gate_net.specs.declared.Kind.{Kind}
-use Rattle.gate_net.specs.declared.Kind.TheVariants.{And, Not, One, Or, Source, Zero}
+use Rattle.gate_net.specs.declared.Kind.TheVariants.{Source}
 use Rattle.gate_net.specs.Net.{Net, Node, count_in, flatten_option, source_count, source_in}
 use Rattle.joined_nets.specs.Growing.{sources_in}
 use Rattle.joined_nets.specs.Joined.{ShareSources, both, first_gate, node_moved}
@@ -22,11 +22,7 @@ none_counted (o ∷ os) h =
 
 pub kind_uncounted : (kind : Kind) → kind ≢ Source → source_in kind ≡ 0
 kind_uncounted Source ne = absurd (ne refl)
-kind_uncounted Zero ne = refl
-kind_uncounted One ne = refl
-kind_uncounted And ne = refl
-kind_uncounted Or ne = refl
-kind_uncounted Not ne = refl
+kind_uncounted kind ne = refl
 
 moved_uncounted : (first count : ℕ) (o : Option Node) → ((n : Node) → o ≡ Some n → n.kind ≢ Source) → counted (node_moved first count o) ≡ 0
 moved_uncounted first count None h = refl

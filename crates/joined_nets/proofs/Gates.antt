@@ -1,11 +1,11 @@
 -- A gate of another net, on the next number.
-use Rattle.std.proofs.Common.{Bool, List, [], ap, arith, inl, inr, length, map, subst, suc, sym, true, ℕ, ◌+◌, ◌-◌, ◌<◌, ◌∙◌, ◌∷◌, ◌≡◌, ◌≤◌}
+use Rattle.std.proofs.Common.{Bool, List, [], ap, arith, inl, inr, length, map, subst, suc, sym, true, ℕ, ◌+◌, ◌<◌, ◌∙◌, ◌∷◌, ◌≡◌, ◌≤◌}
 use Rattle.std.specs.Prelude.{Option, Some, slice_get, ◌||◌}
 use Rattle.std.proofs.lemmas.Bool.{cases_lt}
 use Rattle.std.proofs.lemmas.Bool.Decides.{eqb_tells}
 use Rattle.std.proofs.lemmas.List.{length-map}
 use Rattle.gate_net.specs.declared.Kind.{Kind}
-use Rattle.gate_net.specs.declared.Kind.TheVariants.{Not}
+use Rattle.gate_net.specs.declared.Kind.TheVariants.{Not, Xor}
 use Rattle.gate_net.specs.Net.{IsGate, IsGateKind, IsWellFormed, Net, Node, Reads, drivers_in, drivers_of, kind_in, kind_of, node_at}
 use Rattle.pin_pool.specs.Ring.{has}
 use Rattle.rm_base.proofs.Public.{map_found}
@@ -50,6 +50,11 @@ module _ (net : Net) (x : ℕ) (kind : Kind) (gate : IsGate net x) (is : Some ki
     one_driver formed e =
         let one = formed.nots_have_one x (drivers, there ∙ ap (λ (k : Kind). let n : Node = record { kind = k; drivers = drivers } in Some n) e) in
         sym (length-map ids (λ (n : NodeId). n.0)) ∙ (ap (λ (l : List ℕ). length l) (are ∙ ap (λ (l : List ℕ). map (moved first count) l) one.1))
+
+    pub two_drivers : IsWellFormed net → kind ≡ Xor → length ids ≡ 2
+    two_drivers formed e =
+        let two = formed.xors_have_two x (drivers, there ∙ ap (λ (k : Kind). let n : Node = record { kind = k; drivers = drivers } in Some n) e) in
+        sym (length-map ids (λ (n : NodeId). n.0)) ∙ (ap (λ (l : List ℕ). length l) (are ∙ ap (λ (l : List ℕ). map (moved first count) l) two.2))
 
 pub moved_below : (first count x d size : ℕ) → d < x → first ≤ count → size + first ≡ count + x → moved first count d < size
 moved_below first count x d size lt le e = elim (cases_lt d first) [

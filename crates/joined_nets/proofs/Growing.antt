@@ -1,6 +1,6 @@
 -- Nets that grow at their end, and their size.
 use Rattle.std.proofs.Common.{List, [], ap, arith, append_assoc, length, subst, sym, ℕ, ◌++◌, ◌+◌, ◌∙◌, ◌∷◌, ◌≡◌}
-use Rattle.std.specs.Prelude.{Option, Some, sum_by}
+use Rattle.std.specs.Prelude.{Option, Some}
 use Rattle.std.proofs.lemmas.List.{append-nil, length-append}
 use Rattle.std.proofs.lemmas.List.Sums.{sum_by-append, sum_by-cons}
 use Rattle.gate_net.specs.Net.{Net, Node, drivers_in, wire_count}

@@ -3,7 +3,7 @@ ghost use Rattle.std.specs.Prelude.{◌≡◌, ◌<◌, ◌∷◌, [], IfOk, OnO
 ghost use Rattle.joined_nets.specs.Growing.{Fits, IsWhole, with_nodes};
 ghost use Rattle.gate_graph.specs.Circuit.{net_of};
 ghost use Rattle.gate_net.specs.Net.{IsGateKind};
-ghost use Rattle.gate_net.specs.declared.Kind.TheVariants.{Not};
+ghost use Rattle.gate_net.specs.declared.Kind.TheVariants.{Not, Xor};
 ghost use Rattle.pin_pool.specs.Ring.{has};
 
 use gate_graph::Graph;
@@ -14,6 +14,7 @@ use rm_base::{NoMemory, NodeId};
 pub fn add_last(graph: &mut Graph, kind: Kind, drivers: &[NodeId]) -> Result<NodeId, NoMemory>
     requires kind { IsGateKind kind }
     requires one { kind ≡ Not → length drivers.now ≡ 1 }
+    requires two { kind ≡ Xor → length drivers.now ≡ 2 }
     requires whole { IsWhole graph.old }
     requires drivers { (d : ℕ) → has d (map (λ n. n.0) drivers.now) ≡ true → d < length (net_of graph.old).nodes }
     requires fits { Fits (with_nodes (net_of graph.old) (Some (record { kind = kind; drivers = map (λ n. n.0) drivers.now }) ∷ [])) }

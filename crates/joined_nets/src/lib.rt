@@ -9,5 +9,5 @@ mod names;
 
 pub use appending::add_last;
 pub use copying::{copy_both, moved, moved_all};
-pub use decomposing::ordered_decomposition;
+pub use decomposing::{ordered_decomposition, plain_decomposition};
 pub use names::first_difference;

@@ -17,7 +17,7 @@ use Rattle.wire_edit.specs.declared.steps.Step.{Step}
 use Rattle.wire_edit.specs.declared.steps.Step.TheVariants as step
 use Rattle.wire_edit.specs.declared.refusal.EditRefusal.{EditRefusal}
 use Rattle.wire_edit.specs.declared.refusal.EditRefusal.TheVariants.{Full}
-use Rattle.wire_edit.specs.Tests.{constant_at, constant_of, driver_at, gate_control, is_among, is_gate, is_in_use, is_junction, is_live, is_not, is_not_kind, is_present, is_repeated, is_some_among}
+use Rattle.wire_edit.specs.Tests.{constant_at, constant_of, driver_at, gate_control, is_among, is_gate, is_in_use, is_junction, is_live, is_not, is_not_kind, is_present, is_repeated, is_some_among, reads_several, family_in}
 use Rattle.wire_edit.specs.Steps.{Applies, rule_applies, stepped}
 use Rattle.wire_edit.specs.Order.{next_step}
 use Rattle.wire_edit.specs.Refusals.{ClosesCycle, IsAnswer, ceiling, fault_of, first_of, has_room, live_count, or_else, refusal_of, unless}
@@ -26,6 +26,8 @@ use Rattle.journal_text.specs.declared.record.Record.TheVariants as kept
 use Rattle.journal_text.specs.Accepted.{IsAcceptedStep, IsJustified, MayGrow}
 use Rattle.journal_check.specs.declared.refusal.Why.TheVariants as why
 use Rattle.journal_check.specs.Replaying.{EndLeads, FreezeLeads, HitLeads, LastLeads, Leads, Outcome, Position, RefusesTree, SpentLeads, StepLeads, VerdictLeads, editing, one_each, refused, settling, gate_of}
+use Rattle.gate_net.specs.Meaning.{is_gate_family}
+use Rattle.wire_edit.proofs.Public.{junction_gate, not_gate, several_gate}
 use Rattle.rm_base.proofs.Public.{not_from_false}
 
 -- ONE ANSWER TO A STEP
@@ -51,14 +53,6 @@ and_rest : (a b : Bool) → a && b ≡ true → b ≡ true
 and_rest true b e = e
 and_rest false b e = cc
 
-or_first : (a b : Bool) → a ≡ true → a || b ≡ true
-or_first true b e = refl
-or_first false b e = cc
-
-or_second : (a b : Bool) → b ≡ true → a || b ≡ true
-or_second true b e = refl
-or_second false b e = e
-
 last_passes : (b : Bool) (r : EditRefusal) → b ≡ true → unless b r ≡ None
 last_passes true r e = refl
 last_passes false r e = cc
@@ -71,15 +65,9 @@ not_live : (o : Option Node) → is_not_kind (kind_in o) ≡ true → is_present
 not_live None e = e
 not_live (Some n) e = refl
 
-gate_live : (o : Option Node) → is_present (gate_control (kind_in o)) || is_not_kind (kind_in o) ≡ true → is_present o ≡ true
+gate_live : (o : Option Node) → is_gate_family (family_in (kind_in o)) ≡ true → is_present o ≡ true
 gate_live None e = e
 gate_live (Some n) e = refl
-
-junction_gate : (net : Net) (x : ℕ) → is_junction net x ≡ true → is_gate net x ≡ true
-junction_gate net x e = or_first (is_junction net x) (is_not net x) e
-
-not_gate : (net : Net) (x : ℕ) → is_not net x ≡ true → is_gate net x ≡ true
-not_gate net x e = or_second (is_junction net x) (is_not net x) e
 
 get_within : (xs : List ℕ) (p : ℕ) → is_present (slice_get xs p) ≡ true → p < length xs
 get_within [] p e = cc
@@ -136,9 +124,8 @@ faultless net (step.Const gate position) cyclic tells a =
     four (is_live net gate.0) (is_gate net gate.0) (nat_lt position (length (drivers_of net gate.0))) (rule_applies net (step.Const gate position)) _ _ _ _
     (gate_live (node_at net gate.0) g) g (below position (length (drivers_of net gate.0)) (constant_within (constant_of net) (drivers_of net gate.0) position (driver_at net gate.0 position) refl c)) a
 faultless net (step.Same gate position) cyclic tells a =
-    let j : is_junction net gate.0 ≡ true = and_first (is_junction net gate.0) _ a in
-    let g : is_gate net gate.0 ≡ true = junction_gate net gate.0 j in
-    let r : is_repeated (drivers_of net gate.0) position ≡ true = and_rest (is_in_use net gate.0) _ (and_rest (is_junction net gate.0) _ a) in
+    let g : is_gate net gate.0 ≡ true = several_gate net gate.0 (and_first (reads_several net gate.0) _ a) in
+    let r : is_repeated (drivers_of net gate.0) position ≡ true = and_rest (is_in_use net gate.0) _ (and_rest (reads_several net gate.0) _ a) in
     four (is_live net gate.0) (is_gate net gate.0) (nat_lt position (length (drivers_of net gate.0))) (rule_applies net (step.Same gate position)) _ _ _ _
     (gate_live (node_at net gate.0) g) g (below position (length (drivers_of net gate.0)) (repeated_within (drivers_of net gate.0) position (slice_get (drivers_of net gate.0) position) refl r)) a
 faultless net (step.NoPins gate) cyclic tells a =

@@ -1,14 +1,13 @@
 -- Following a fault in a lane.
-use Rattle.std.proofs.Common.{◌≡◌, ◌≢◌, ◌<◌, ◌↔◌, ◌∙◌, ℕ, zero, suc, Bool, true, false, not, IsTrue, List, [], ◌∷◌, Option, Some, None, map, ap, arith, inl, inr, refl, sym, subst}
+use Rattle.std.proofs.Common.{◌≡◌, ◌≢◌, ◌<◌, ◌↔◌, ◌∙◌, ℕ, zero, suc, Bool, true, false, not, IsTrue, List, [], ◌∷◌, Option, Some, None, drop, map, ap, arith, inl, inr, refl, sym, subst}
 use Rattle.std.proofs.lemmas.Bool.Decides.{eqb_tells}
 use Rattle.std.specs.Prelude.{bit_or, if◌then◌else◌, nat_eq, slice_get, slice_index, slice_set}
-use Rattle.rm_base.proofs.Public.{map_at, set_other, set_there, some_is}
+use Rattle.rm_base.proofs.Public.{map_at, set_other, set_there, some_is, some_same}
 use Rattle.gate_graph.specs.Circuit.{Circuit, fanouts_of, net_of}
 use Rattle.gate_graph.specs.Readers.{ListReaders}
-use Rattle.gate_net.specs.declared.Kind.TheVariants.{Not}
-use Rattle.gate_net.specs.Meaning.{junction}
-use Rattle.gate_net.specs.Net.{IsAcyclic, IsLive, IsObserved, Net, Node, Reads, drivers_in, drivers_of, kind_in, node_at}
-use Rattle.gate_net.specs.Values.{AreGoodValues, Detects, node_value}
+use Rattle.gate_net.specs.Meaning.{junction, parity, turned}
+use Rattle.gate_net.specs.Net.{IsAcyclic, IsLive, IsObserved, Net, Node, Reads, drivers_in, drivers_of, node_at}
+use Rattle.gate_net.specs.Values.{AreGoodValues, Detects}
 use Rattle.gate_net.proofs.Public.{same_bool_true}
 use mathlib.Core.Bool.{beq}
 use Rattle.refutation.proofs.Public.{beq_same}
@@ -37,14 +36,27 @@ none_controls true (false ∷ bs) h = none_controls true bs (λ k e. h (suc k) e
 none_controls false (true ∷ bs) h = none_controls false bs (λ k e. h (suc k) e)
 none_controls false (false ∷ bs) h = absurd (h 0 refl)
 
--- the one pin of a Not is stuck
-pub not_value : (o : Option Node) (x : Bool) (v : ℕ → Bool) (ds : List ℕ) (p d only : ℕ) (b : Bool) → kind_in o ≡ Some Not → ds ≡ only ∷ [] → slice_get ds p ≡ Some d → not b ≡ node_value o x (slice_set (map v ds) p b)
-not_value None x v ds p d only b e one reads = cc
-not_value (Some n) x v ds p d only b e one reads = let is : n.kind ≡ Not = cc in rw (is, one) (at p (rw one at reads))
-  where
-    at : (q : ℕ) → slice_get (only ∷ []) q ≡ Some d → not b ≡ node_value (Some (record { kind = Not; drivers = [] })) x (slice_set (map v (only ∷ [])) q b)
-    at zero r = refl
-    at (suc q) r = absurd (cc)
+-- the parity of what is read from a place on
+pub parity_at : (bs : List Bool) (q r : ℕ) (b value : Bool) → r ≡ q + 1 → slice_get bs q ≡ Some b → parity value (drop q bs) ≡ parity (turned b value) (drop r bs)
+parity_at [] q r b value is e = cc
+parity_at (x ∷ bs) zero zero b value is e = absurd (omega (arith, is))
+parity_at (x ∷ bs) zero (suc zero) b value is e = ap (λ (c : Bool). parity (turned c value) bs) (some_same e)
+parity_at (x ∷ bs) zero (suc (suc r)) b value is e = absurd (omega (arith, is))
+parity_at (x ∷ bs) (suc q) zero b value is e = absurd (omega (arith, is))
+parity_at (x ∷ bs) (suc q) (suc r) b value is e = parity_at bs q r b value (omega (arith, is)) e
+
+pub turned_is : (b value : Bool) → turned b value ≡ not (beq value b)
+turned_is true true = refl
+turned_is true false = refl
+turned_is false true = refl
+turned_is false false = refl
+
+-- behind the last
+pub parity_end : (bs : List Bool) (n : ℕ) (value : Bool) → ((k : ℕ) (b : Bool) → slice_get bs k ≡ Some b → k < n) → parity value (drop n bs) ≡ value
+parity_end [] zero value h = refl
+parity_end [] (suc n) value h = refl
+parity_end (b ∷ bs) zero value h = absurd (let bad : 0 < 0 = h 0 b refl in omega (arith, bad))
+parity_end (b ∷ bs) (suc n) value h = parity_end bs n value (λ k c e. let less : suc k < suc n = h (suc k) c e in omega (arith, less))
 
 -- a node of which one pin is listed as reader
 pub one_pin : (g : Circuit) (x : ℕ) (place : ℕ × ℕ) → ListReaders g → fanouts_of g x ≡ place ∷ [] → (IsObserved (net_of g) x → ⊥) → IsOnlyPin (net_of g) x place.0 place.1

@@ -5,16 +5,16 @@ use Rattle.std.specs.List.{sum_by}
 use Rattle.std.proofs.lemmas.List.Sums.{sum_by-cons}
 use Rattle.std.proofs.lemmas.List.{length_push}
 use Rattle.gate_net.specs.declared.Kind.{Kind}
-use Rattle.gate_net.specs.declared.Kind.TheVariants.{And, Not, One, Or, Source, Zero}
+use Rattle.gate_net.specs.declared.Kind.TheVariants.{And, Not, One, Or, Source, Xor, Zero}
 use Rattle.gate_net.specs.Net.{Node, Net, IsGate, IsWellFormed, count_in, drivers_in, drivers_of, gate_count, gate_in, node_at, source_count, source_in, wire_count}
-use Rattle.gate_net.specs.Edits.{constant_node, node_redirected, redirected, with_drivers, without}
-use Rattle.gate_net.specs.Values.{IsJunction, same_bool}
-use Rattle.wire_edit.specs.Changes.{Change, append, remove, fix, readers, new_not, retire, changed}
+use Rattle.gate_net.specs.Edits.{constant_node, node_redirected, redirected, with_drivers, with_node, without}
+use Rattle.gate_net.specs.Values.{IsJunction}
+use Rattle.wire_edit.specs.Changes.{Change, append, remove, fix, readers, new_not, retire, to_not, changed}
 use Rattle.wire_edit.specs.Inner.Changes.{CanChange}
-use Rattle.wire_edit.proofs.Public.{applies_changes, live_within, total_gone, total_least, total_map, total_with}
+use Rattle.wire_edit.proofs.Public.{applies_changes, constant_cases, live_within, total_gone, total_least, total_map, total_node, total_with}
 use Rattle.wire_edit.specs.Refusals.{ceiling, live_count}
-use Rattle.wire_edit.specs.Steps.{Applies, change_of, constant_change, stepped}
-use Rattle.wire_edit.specs.Tests.{constant_at, control_of, live_in}
+use Rattle.wire_edit.specs.Steps.{Applies, change_of, other_driver, same_change, stepped}
+use Rattle.wire_edit.specs.Tests.{constant_at, family_of, is_xor, live_in}
 use Rattle.wire_edit.specs.declared.steps.Step.{Step}
 use Rattle.wire_edit.specs.declared.steps.Step.TheVariants as step
 use Rattle.journal_text.specs.Accepted.{MayGrow}
@@ -56,6 +56,7 @@ live_kind One = omega arith
 live_kind And = omega arith
 live_kind Or = omega arith
 live_kind Not = omega arith
+live_kind Xor = omega arith
 
 live_one : (o : Option Node) → count_in o source_in + count_in o gate_in ≤ live_in o
 live_one None = omega arith
@@ -118,6 +119,15 @@ appended net gate driver n e l w =
     let f : sum_by more_pins net.nodes ≤ wire_count net = below_wires net.nodes in
     record { pins = omega (arith, a, c, d, f, l); nodes = omega (arith, b, w.nodes); observed = w.observed }
 
+turned : (net : Net) (gate position : ℕ) (n : Node) → node_at net gate ≡ Some n → IsWithin net → IsWithin (changed net (to_not gate position))
+turned net gate position n e w =
+    let m : Node = record { kind = Not; drivers = without (drivers_of net gate) position } in
+    let a : sum_by more_pins (with_node net gate m).nodes + (length n.drivers - 1) ≡ sum_by more_pins net.nodes + (length m.drivers - 1) = total_node more_pins net gate m n e in
+    let b : live_count (with_node net gate m) + 1 ≡ live_count net + 1 = total_node live_in net gate m n e in
+    let c : length (without (drivers_of net gate) position) ≤ length (drivers_of net gate) = length_without (drivers_of net gate) position in
+    let d : length (drivers_of net gate) ≡ length n.drivers = drivers_at net gate n e in
+    record { pins = omega (arith, a, c, d, w.pins); nodes = omega (arith, b, w.nodes); observed = w.observed }
+
 removed : (net : Net) (gate position : ℕ) (n : Node) → node_at net gate ≡ Some n → IsWithin net → IsWithin (changed net (remove gate position))
 removed net gate position n e w =
     let a : length (without (drivers_of net gate) position) ≤ length (drivers_of net gate) = length_without (drivers_of net gate) position in
@@ -179,23 +189,19 @@ within_change net (remove gate position) can g w = let n = junction_there net ga
 within_change net (fix gate position value) can g w = let n = gate_there net gate can.0 in fixed_pin net gate position value n.0 n.1 w
 within_change net (readers from to) can g w = moved net from to w
 within_change net (new_not driver) can g w = made_not net driver g w
+within_change net (to_not gate position) can g w = turned net gate position (record { kind = Xor; drivers = can.0.0 }) can.0.1 w
 within_change net (retire gate) can g w = let n = gate_there net gate can.0 in gone net gate n.0 n.1 w
 
-constant_grows : (net : Net) (gate p : ℕ) (control constant : Option Bool) → Grows net (constant_change gate p control constant)
-constant_grows net gate p control None = tt
-constant_grows net gate p None (Some b) = tt
-constant_grows net gate p (Some c) (Some b) = at (same_bool b c)
-  where
-    at : (t : Bool) → Grows net (if t then readers gate (constant_node c) else remove gate p)
-    at true = tt
-    at false = tt
+same_grows : (net : Net) (gate p : ℕ) (at_xor : Bool) → Grows net (same_change gate p at_xor)
+same_grows net gate p true = tt
+same_grows net gate p false = tt
 
 grows : (net : Net) (s : Step) → MayGrow net s → Grows net (change_of net s)
 grows net (step.Add gate node) m = m
 grows net (step.Fix gate position value) m = tt
 grows net (step.NewNot node) m = m
-grows net (step.Const gate position) m = constant_grows net gate.0 position (control_of net gate.0) (constant_at net gate.0 position)
-grows net (step.Same gate position) m = tt
+grows net (step.Const gate position) m = constant_cases (Grows net) gate.0 position (other_driver net gate.0 position) (family_of net gate.0) (constant_at net gate.0 position) tt tt (λ to. tt)
+grows net (step.Same gate position) m = same_grows net gate.0 position (is_xor net gate.0)
 grows net (step.NoPins gate) m = tt
 grows net (step.OnePin gate) m = tt
 grows net (step.Twice gate) m = tt

@@ -2,7 +2,7 @@
 ghost use Rattle.std.specs.Prelude.{◌≡◌, ◌<◌, ◌≤◌, IsTrue, IfSome, if◌then◌else◌, length, map, nat_eq, slice_index, slice_set};
 ghost use Rattle.rm_base.specs.Numbers.{number_bound};
 ghost use Rattle.gate_graph.specs.Circuit.{net_of};
-ghost use Rattle.gate_net.specs.Meaning.{junction};
+ghost use Rattle.gate_net.specs.Meaning.{junction, parity};
 ghost use Rattle.gate_net.specs.Net.{IsLive};
 ghost use Rattle.gate_net.specs.Values.{HasPin};
 ghost use Rattle.fault_sim.specs.LaneStates.{IsSimulated};
@@ -11,7 +11,7 @@ ghost use Rattle.journal_check.specs.Inner.Tracing.{AreShown, IsOnlyPin, Passage
 
 use fault_sim::Lanes;
 use gate_graph::{Graph, Inputs};
-use gate_net::Kind;
+use gate_net::Family;
 use rm_base::{Fault, NodeId};
 
 /// What becomes of a fault at its gate: whether it is detected, or it goes no further alone, or it is that of a later pin.
@@ -70,6 +70,21 @@ fn stuck_junction(
     !controlling
 }
 
+// The value of a Not or an Xor with the stuck pin.
+fn stuck_parity(drivers: Inputs<'_>, lanes: &Lanes, fault: Fault, lane: u32, inverts: bool) -> bool
+    requires lane { lane < 64 }
+    requires few { length drivers ≤ number_bound }
+    ensures { result ≡ parity inverts (slice_set (map (lane_values lanes.now.good lane) drivers.entry) fault.position fault.value) }
+{
+    let mut place: usize = 0;
+    let mut value = inverts;
+    for driver in drivers {
+        value = value != read_at(lanes, fault, place, driver, lane);
+        place += 1;
+    }
+    value
+}
+
 // The value of the fault's gate with the stuck pin.
 fn stuck_value(graph: &Graph, lanes: &Lanes, fault: Fault, lane: u32) -> bool
     requires lane { lane < 64 }
@@ -78,13 +93,23 @@ fn stuck_value(graph: &Graph, lanes: &Lanes, fault: Fault, lane: u32) -> bool
     ensures { result ≡ stuck_value (net_of graph.now) fault (assignment lanes.now.words lane) (lane_values lanes.now.good lane) }
 {
     graph.well_formed();
-    match graph.kind(fault.gate) {
-        Some(Kind::And) => stuck_junction(graph.gate_inputs(fault.gate), lanes, fault, lane, false),
-        Some(Kind::Or) => stuck_junction(graph.gate_inputs(fault.gate), lanes, fault, lane, true),
-        Some(Kind::Not) => !fault.value,
-        Some(Kind::Source) | Some(Kind::Zero) | Some(Kind::One) | None => {
-            value_in(lanes, fault.gate, lane)
+    let Some(kind) = graph.kind(fault.gate) else {
+        return value_in(lanes, fault.gate, lane);
+    };
+    match kind.family() {
+        Family::Junction { controlling } => {
+            stuck_junction(
+                graph.gate_inputs(fault.gate),
+                lanes,
+                fault,
+                lane,
+                controlling,
+            )
         }
+        Family::Parity { inverts } => {
+            stuck_parity(graph.gate_inputs(fault.gate), lanes, fault, lane, inverts)
+        }
+        Family::Input | Family::Constant { .. } => value_in(lanes, fault.gate, lane),
     }
 }
 

@@ -3,7 +3,7 @@ use Rattle.std.proofs.Common.{◌≡◌, ◌≢◌, ℕ, zero, suc, ◌+◌, ◌
 use Rattle.std.specs.Prelude.{map}
 use Rattle.rm_base.specs.declared.numbers.Fault.{Fault}
 use Rattle.gate_net.specs.declared.Kind.{Kind}
-use Rattle.gate_net.specs.declared.Kind.TheVariants.{Source, Zero, One, And, Or, Not}
+use Rattle.gate_net.specs.declared.Kind.TheVariants.{Source, Zero, One, And, Or, Not, Xor}
 use Rattle.gate_net.specs.Net.{Node, Net, IsWellFormed, node_at, plain_node, source_count}
 use Rattle.gate_net.specs.Edits.{last_pin}
 use Rattle.gate_net.specs.Laws.{KeepsPlaces, ValuesExist}
@@ -60,6 +60,7 @@ stays_plain net after x form formed same live plain =
     at And drivers e = absurd (differ (sym plain ∙ rw e refl))
     at Or drivers e = absurd (differ (sym plain ∙ rw e refl))
     at Not drivers e = absurd (differ (sym plain ∙ rw e refl))
+    at Xor drivers e = absurd (differ (sym plain ∙ rw e refl))
 
 observed_then : (net mid after : Net) → IsWellFormed net → IsWellFormed mid → source_count mid ≡ source_count net → KeepsObserved net mid → KeepsObserved mid after → KeepsObserved net after
 observed_then net mid after form formed same first second = record {

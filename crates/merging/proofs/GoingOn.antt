@@ -16,16 +16,16 @@ use Rattle.gate_graph.specs.Circuit.{Circuit, net_of}
 use Rattle.refutation.specs.Branches.{AreAccepted}
 use Rattle.refutation.specs.declared.items.Item.{Item}
 use Rattle.recursive_learning.specs.Serving.{IsServing}
-use Rattle.wire_edit.proofs.Public.{fix_applies, gate_is, junction_gate, next_applies, removal_pins, room_steps, tidying_removes, wires_grow}
+use Rattle.wire_edit.proofs.Public.{applies_changes, constant_cases, fix_applies, gate_is, junction_gate, next_applies, removal_pins, room_steps, tidying_removes, wires_grow}
 use Rattle.wire_edit.specs.declared.steps.Step.{Step}
 use Rattle.wire_edit.specs.declared.steps.Step.TheVariants.{Add, Fix, NewNot, Const, Same, NoPins, OnePin, Twice, Twin, Dead}
 use Rattle.wire_edit.specs.declared.refusal.EditRefusal.TheVariants.{Full}
 use Rattle.wire_edit.specs.declared.room.Room.{Room}
-use Rattle.wire_edit.specs.Changes.{new_not, remove, readers}
+use Rattle.wire_edit.specs.Changes.{Change, new_not}
 use Rattle.wire_edit.specs.Edited.{edit_of}
 use Rattle.wire_edit.specs.Inner.Changes.{nodes_added}
-use Rattle.wire_edit.specs.Tests.{control_of, constant_at}
-use Rattle.wire_edit.specs.Steps.{Applies, stepped, change_of, constant_change}
+use Rattle.wire_edit.specs.Tests.{constant_at, control_of, family_of, is_xor}
+use Rattle.wire_edit.specs.Steps.{Applies, stepped, change_of, other_driver, same_change}
 use Rattle.wire_edit.specs.Refusals.{fault_of, has_room, live_count, ceiling, or_else, room_after, unless, IsAnswer}
 use Rattle.wire_edit.specs.Removals.{HasFreePin, IsRemoval}
 use Rattle.wire_edit.specs.Sizes.{AddedIsLast}
@@ -40,7 +40,7 @@ use Rattle.merging.specs.Inner.Changing.{IsUnlisted, TouchesOn}
 use Rattle.merging.specs.Inner.Going.{Follows, Goes, Logs, Stays}
 use Rattle.merging.specs.declared.space.Space.{Space}
 use Rattle.merging.proofs.Noting.{unlisted_append}
-use Rattle.merging.proofs.Sizing.{gate_budget}
+use Rattle.merging.proofs.Sizing.{TurnsXor, gate_budget, turns_xor}
 
 -- LISTS OF RECORDS
 pub logs_none : (net : Net) (log : List Record) → Logs net net log log
@@ -117,11 +117,11 @@ goes_more g e h f t u a b gates extra one = record { logs = one.logs; made = ome
 
 -- a step was made and recorded
 goes_one :
-    (g e : ℕ) (t u : Tried) (step : Step) (tree : List Item) (log new : List Record) → IsAcceptedStep (net_of t.graph) step tree → net_of u.graph ≡ stepped (net_of t.graph) step → new ≡ log ++ record_of.Step step tree ∷ []
+    (g e : ℕ) (t u : Tried) (step : Step) (tree : List Item) (log new : List Record) → TurnsXor (net_of t.graph) (change_of (net_of t.graph) step) → IsAcceptedStep (net_of t.graph) step tree → net_of u.graph ≡ stepped (net_of t.graph) step → new ≡ log ++ record_of.Step step tree ∷ []
     → nodes_added (change_of (net_of t.graph) step) ≤ g → 0 < t.room.steps → u.room ≡ room_after t.room step
     → ((k : ℕ) → work (net_of t.graph) + (e + k) ≤ t.room.steps → work (stepped (net_of t.graph) step) + k ≤ t.room.steps - 1) → Goes g e t u log new
-goes_one g e t u step tree log new accepted net is gates some room work_on =
-    let made : gate_count (stepped (net_of t.graph) step) ≤ gate_count (net_of t.graph) + nodes_added (change_of (net_of t.graph) step) = gate_budget (net_of t.graph) (change_of (net_of t.graph) step) in
+goes_one g e t u step tree log new turns accepted net is gates some room work_on =
+    let made : gate_count (stepped (net_of t.graph) step) ≤ gate_count (net_of t.graph) + nodes_added (change_of (net_of t.graph) step) = gate_budget (net_of t.graph) (change_of (net_of t.graph) step) turns in
     let gate_e : gate_count (net_of u.graph) ≡ gate_count (stepped (net_of t.graph) step) = ap gate_count net in
     let n : length new ≡ length log + 1 = ap (λ (rs : List Record). length rs) is ∙ length-append log (record_of.Step step tree ∷ []) in
     let steps : u.room.steps ≡ t.room.steps - 1 = ap (λ (r : Room). r.steps) room ∙ room_steps t.room step in
@@ -156,21 +156,16 @@ both_right true b e = e
 both_right false b e = cc
 
 -- TIDYING
-nodes_constant : (gate p : ℕ) (control constant : Option Bool) → nodes_added (constant_change gate p control constant) ≡ 0
-nodes_constant gate p control None = refl
-nodes_constant gate p None (Some b) = refl
-nodes_constant gate p (Some c) (Some b) = at (same_bool b c)
-  where
-    at : (t : Bool) → nodes_added (if t then readers gate (constant_node c) else remove gate p) ≡ 0
-    at true = refl
-    at false = refl
+nodes_same : (gate p : ℕ) (at_xor : Bool) → nodes_added (same_change gate p at_xor) ≡ 0
+nodes_same gate p true = refl
+nodes_same gate p false = refl
 
 removal_nodes : (net : Net) (step : Step) → IsRemoval step → nodes_added (change_of net step) ≡ 0
 removal_nodes net (Add gate y) r = absurd r
 removal_nodes net (Fix gate position value) r = refl
 removal_nodes net (NewNot y) r = absurd r
-removal_nodes net (Const gate position) r = nodes_constant gate.0 position (control_of net gate.0) (constant_at net gate.0 position)
-removal_nodes net (Same gate position) r = refl
+removal_nodes net (Const gate position) r = constant_cases (λ (c : Change). nodes_added c ≡ 0) gate.0 position (other_driver net gate.0 position) (family_of net gate.0) (constant_at net gate.0 position) refl refl (λ to. refl)
+removal_nodes net (Same gate position) r = nodes_same gate.0 position (is_xor net gate.0)
 removal_nodes net (NoPins gate) r = refl
 removal_nodes net (OnePin gate) r = refl
 removal_nodes net (Twice gate) r = refl
@@ -213,7 +208,7 @@ pub tidied_step :
 tidied_step law t u step log new well made is some =
     let n : IsTidying step × Applies (net_of t.graph) step = next_applies (net_of t.graph) step made.0 in
     let none : nodes_added (change_of (net_of t.graph) step) ≡ 0 = removal_nodes (net_of t.graph) step (tidying_removes step n.0) in
-    goes_one 0 0 t u step [] log new (record { applies = n.1; grows = tidying_grows (net_of t.graph) step n.0; justified = tidying_justified (net_of t.graph) step n.0 }) made.1.0 is (omega (arith, none)) some made.1.1.1.1
+    goes_one 0 0 t u step [] log new (turns_xor (net_of t.graph) (change_of (net_of t.graph) step) (applies_changes (net_of t.graph) step well n.1)) (record { applies = n.1; grows = tidying_grows (net_of t.graph) step n.0; justified = tidying_justified (net_of t.graph) step n.0 }) made.1.0 is (omega (arith, none)) some made.1.1.1.1
     (λ k le. (law (net_of t.graph) step k t.room.steps well made.0 (omega (arith, le))).1)
 
 -- WHAT IS READ OF A GRAPH
@@ -231,7 +226,7 @@ fixed_step law t u fault tree log new well pin accepted answer net room is =
     let step : Step = Fix fault.gate fault.position fault.value in
     let applies : Applies (net_of t.graph) step = fix_applies (net_of t.graph) fault well pin in
     let some : 0 < t.room.steps = ltb-true 0 t.room.steps (answered_room (net_of t.graph) t.room step answer) in
-    goes_one 0 0 t u step tree log new (record { applies = applies; grows = tt; justified = accepted }) net is (omega arith) some room
+    goes_one 0 0 t u step tree log new tt (record { applies = applies; grows = tt; justified = accepted }) net is (omega arith) some room
     (λ k le. (law (net_of t.graph) step pin.0 k t.room.steps well applies pin.1.0 pin.1.1 (omega (arith, le))).1)
 
 pub fix_changes : (net after : Net) (fault : Fault) → after ≡ stepped net (Fix fault.gate fault.position fault.value) → IsSameBut net after (numbers_of (fault.gate ∷ []))
@@ -264,7 +259,7 @@ added_step law apply_law t u gate node control fault tree log new well controls 
     let grows : wire_count (net_of t.graph) < ceiling = ltb-true (wire_count (net_of t.graph)) ceiling (both_right (nat_lt 0 t.room.pins) _ (both_right (nat_lt 0 t.room.steps) _ there)) in
     let a : AreAccepted (stepped (net_of t.graph) step) fault tree = subst (λ (n : Net). AreAccepted n fault tree) net accepted in
     let b : AreAccepted (stepped (net_of t.graph) step) (last_pin (net_of t.graph) gate.0 (not control)) tree = subst (λ (f : Fault). AreAccepted (stepped (net_of t.graph) step) f tree) pin a in
-    goes_one 0 4 t u step tree log new (record { applies = applies; grows = grows; justified = (control, (controls, b)) }) net is (omega arith) some room
+    goes_one 0 4 t u step tree log new tt (record { applies = applies; grows = grows; justified = (control, (controls, b)) }) net is (omega arith) some room
     (λ k le. (law (net_of t.graph) step k t.room.steps well applies tt (omega (arith, le))).1)
 
 -- A NEW NOT
@@ -286,5 +281,5 @@ not_step law apply_law t u node log new well answer net room is =
     let there : has_room (net_of t.graph) t.room step ≡ true = answered_room (net_of t.graph) t.room step answer in
     let some : 0 < t.room.steps = ltb-true 0 t.room.steps (both_left (nat_lt 0 t.room.steps) _ there) in
     let grows : live_count (net_of t.graph) < ceiling = ltb-true (live_count (net_of t.graph)) ceiling (both_right (nat_lt 0 t.room.nodes) _ (both_right (nat_lt 0 t.room.pins) _ (both_right (nat_lt 0 t.room.steps) _ there))) in
-    goes_one 1 5 t u step [] log new (record { applies = applies; grows = grows; justified = refl }) net is (omega arith) some room
+    goes_one 1 5 t u step [] log new tt (record { applies = applies; grows = grows; justified = refl }) net is (omega arith) some room
     (λ k le. (law (net_of t.graph) step k t.room.steps well applies tt (omega (arith, le))).1)

@@ -2,7 +2,7 @@
 
 use crate::drawing::{block_count, drawn_words};
 use gate_graph::Graph;
-use gate_net::Kind;
+use gate_net::Family;
 use rm_base::{FIRST_SOURCE, NoMemory, NodeId};
 use std::alloc::Global;
 
@@ -20,13 +20,18 @@ fn word_of(words: &[u64], number: u32) -> u64 {
     }
 }
 
+// All lanes with this value.
+fn spread(value: bool) -> u64 {
+    if value { u64::MAX } else { 0 }
+}
+
 // The word of an And or an Or, by those of its drivers.
-fn junction_word(graph: &Graph, gate: NodeId, words: &[u64], and: bool) -> u64 {
+fn junction_word(graph: &Graph, gate: NodeId, words: &[u64], controlling: bool) -> u64 {
     let Some(_kind) = graph.kind(gate) else {
         return 0;
     };
     // An And is the opposite of the Or of opposites.
-    let mask = if and { u64::MAX } else { 0 };
+    let mask = spread(!controlling);
     let mut sum = 0u64;
     for driver in graph.inputs_of(gate) {
         sum |= word_of(words, driver.0) ^ mask;
@@ -34,15 +39,28 @@ fn junction_word(graph: &Graph, gate: NodeId, words: &[u64], and: bool) -> u64 {
     sum ^ mask
 }
 
+// The word of a Not or an Xor, by those of its drivers.
+fn parity_word(graph: &Graph, gate: NodeId, words: &[u64], inverts: bool) -> u64 {
+    let Some(_kind) = graph.kind(gate) else {
+        return 0;
+    };
+    let mut sum = spread(inverts);
+    for driver in graph.inputs_of(gate) {
+        sum ^= word_of(words, driver.0);
+    }
+    sum
+}
+
 // The word of a node by what it is and reads.
 fn node_word(graph: &Graph, node: NodeId, words: &[u64], sources: &[u64]) -> u64 {
-    match graph.kind(node) {
-        Some(Kind::One) => u64::MAX,
-        Some(Kind::Source) => word_of(sources, node.0.wrapping_sub(FIRST_SOURCE)),
-        Some(Kind::And) => junction_word(graph, node, words, true),
-        Some(Kind::Or) => junction_word(graph, node, words, false),
-        Some(Kind::Not) => junction_word(graph, node, words, false) ^ u64::MAX,
-        Some(Kind::Zero) | None => 0,
+    let Some(kind) = graph.kind(node) else {
+        return 0;
+    };
+    match kind.family() {
+        Family::Input => word_of(sources, node.0.wrapping_sub(FIRST_SOURCE)),
+        Family::Constant { value } => spread(value),
+        Family::Junction { controlling } => junction_word(graph, node, words, controlling),
+        Family::Parity { inverts } => parity_word(graph, node, words, inverts),
     }
 }
 

@@ -5,7 +5,7 @@ use Rattle.rm_model.specs.declared.parts.Cover.{Cover}
 use Rattle.rm_model.specs.declared.parts.Model.{Model}
 use Rattle.rm_base.specs.declared.numbers.Fault.{Fault}
 use Rattle.gate_net.specs.declared.Kind.{Kind}
-use Rattle.gate_net.specs.declared.Kind.TheVariants.{Source, Zero, One, And, Or, Not}
+use Rattle.gate_net.specs.declared.Kind.TheVariants.{Source, Zero, One}
 use Rattle.gate_net.specs.Faults.{fault_at, faults_from, faults_of, is_gate_kind, pin_faults}
 use Rattle.gate_net.specs.Net.{IsGateKind, IsWellFormed, Net, Node, drivers_in, drivers_of, node_at, plain_node, source_count}
 use Rattle.graph_to_model.proofs.Public.{all_from_start, cover_made, cover_of, first_from, rest_from}
@@ -29,9 +29,7 @@ plain_drivers net well x Source ds is k =
     ap drivers_in (sym is ∙ here)
 plain_drivers net well x Zero ds is k = let e : x ≡ 0 = well.only_zero x (ds, is) in ap drivers_in (sym is ∙ ap (node_at net) e ∙ well.constants.zero_is)
 plain_drivers net well x One ds is k = let e : x ≡ 1 = well.only_one x (ds, is) in ap drivers_in (sym is ∙ ap (node_at net) e ∙ well.constants.one_is)
-plain_drivers net well x And ds is k = absurd (k tt)
-plain_drivers net well x Or ds is k = absurd (k tt)
-plain_drivers net well x Not ds is k = absurd (k tt)
+plain_drivers net well x kind ds is k = absurd (k tt)
 
 module _ (m : Model) (net : Net) (w : IsWritable m net) where
   -- the cover is that of the fault's gate

@@ -1,6 +1,6 @@
 -- The gate covers of the model of a net are its gates, in order.
 use Rattle.std.proofs.Common.{◌≡◌, ◌≢◌, ◌≤◌, ◌<◌, ◌+◌, ℕ, zero, suc, Bool, true, false, cond, List, [], ◌∷◌, ◌++◌, map, length, refl, sym, ◌∙◌, ap, arith, subst, inl, inr, nat_eq, nat_lt}
-use Rattle.std.specs.Prelude.{Option, None, Some, slice_get, filter, if◌then◌else◌}
+use Rattle.std.specs.Prelude.{Option, None, Some, T, slice_get, filter, if◌then◌else◌}
 use Rattle.std.proofs.lemmas.List.Elements.{filter-append}
 use Rattle.std.proofs.lemmas.Bool.{lt-ltb}
 use Rattle.std.proofs.lemmas.List.{length-map}
@@ -9,9 +9,9 @@ use Rattle.rm_model.specs.declared.parts.Literal.TheVariants.{One as One1}
 use Rattle.rm_model.specs.declared.parts.Cover.{Cover}
 use Rattle.rm_model.specs.declared.parts.Model.{Model}
 use Rattle.gate_net.specs.declared.Kind.{Kind}
-use Rattle.gate_net.specs.declared.Kind.TheVariants.{Source, Zero, One, And, Or, Not}
+use Rattle.gate_net.specs.declared.Kind.TheVariants.{Not}
 use Rattle.gate_net.specs.Net.{Node, Net, node_at, drivers_of, IsGateKind}
-use Rattle.graph_to_model.proofs.Public.{all_from_start, cover_made, cover_of, first_from, in_gates, one_pin_not, rest_from}
+use Rattle.graph_to_model.proofs.Public.{all_from_start, cover_made, cover_of, first_from, has_pins, in_gates, rest_from, two_or_more}
 use Rattle.graph_to_model.specs.Names.{node_name}
 use Rattle.graph_to_model.specs.NetModel.{cover_with, gate_cover, gate_covers, onto, copy_cover, copy_covers, model_of_net, covers_of_gates, names_before_copies, covers_of_copies}
 use Rattle.graph_to_model.specs.Wires.{is_copy}
@@ -24,20 +24,14 @@ use Rattle.graph_to_model.specs.Inner.Writable.{IsWritable}
 use Rattle.graph_to_model.specs.Inner.Covers.{AreNodesFrom, IsGateCover}
 
 pub gate_kind : (kind : Kind) → IsGateKind kind → is_gate_kind kind ≡ true
-gate_kind Source h = absurd h
-gate_kind Zero h = absurd h
-gate_kind One h = absurd h
-gate_kind And h = refl
-gate_kind Or h = refl
-gate_kind Not h = refl
+gate_kind kind h = by_test (is_gate_kind kind) h
+  where
+    by_test : (b : Bool) → T b → b ≡ true
+    by_test true h = refl
+    by_test false h = absurd h
 
 pub kind_gate : (kind : Kind) → is_gate_kind kind ≡ true → IsGateKind kind
-kind_gate Source e = absurd cc
-kind_gate Zero e = absurd cc
-kind_gate One e = absurd cc
-kind_gate And e = tt
-kind_gate Or e = tt
-kind_gate Not e = tt
+kind_gate kind e = subst (λ (b : Bool). T b) (sym e) tt
 
 pub all_kept : (test : Cover → Bool) (cs : List Cover) → ((c : Cover) → In cs c → test c ≡ true) → filter test cs ≡ cs
 all_kept test [] h = refl
@@ -48,18 +42,6 @@ append_none [] = refl
 append_none (c ∷ cs) = ap (λ (ds : List Cover). c ∷ ds) (append_none cs)
 
 module _ (m : Model) (net : Net) (w : IsWritable m net) where
-  two_or_more : (x : ℕ) (node : Node) (kind : Kind) → node_at net x ≡ Some node → node.kind ≡ kind → IsGateKind kind → kind ≢ Not → 2 ≤ length node.drivers
-  two_or_more x node Source at e gate ne = absurd gate
-  two_or_more x node Zero at e gate ne = absurd gate
-  two_or_more x node One at e gate ne = absurd gate
-  two_or_more x node And at e gate ne =
-      let two : 2 ≤ length (drivers_of net x) = w.lean.two_pins x (rw (at, e) refl) in
-      let own : length (drivers_of net x) ≡ length node.drivers = rw at refl in omega arith
-  two_or_more x node Or at e gate ne =
-      let two : 2 ≤ length (drivers_of net x) = w.lean.two_pins x (rw (at, e) refl) in
-      let own : length (drivers_of net x) ≡ length node.drivers = rw at refl in omega arith
-  two_or_more x node Not at e gate ne = absurd (ne refl)
-
   -- as many inputs as pins
   pub gate_pins : (x : ℕ) (c : Cover) → IsGateCover m net x c → length c.inputs ≡ length (drivers_of net x)
   gate_pins x c g =
@@ -69,20 +51,15 @@ module _ (m : Model) (net : Net) (w : IsWritable m net) where
   gate_kept : (x : ℕ) (c : Cover) → IsGateCover m net x c → is_gate_cover c ≡ true
   gate_kept x c g =
       let node = g.node in
-      let names : length (map (node_name m net) node.drivers) ≡ length node.drivers = length-map node.drivers (node_name m net) in
-      let two : node.kind ≢ Not → 2 ≤ length (map (node_name m net) node.drivers) = λ ne. (let t : 2 ≤ length node.drivers = two_or_more x node node.kind g.at refl g.cover.gate ne in omega arith) in
-      let no_copy : is_copy c ≡ false = g.cover.no_copy (one_pin_not m net w x node g.at) two in
+      let two : node.kind ≢ Not → 2 ≤ length (map (node_name m net) node.drivers) = two_or_more m net w x node node.kind g.at refl g.cover.gate in
+      let no_copy : is_copy c ≡ false = g.cover.no_copy (has_pins m net w x node g.at) two in
       let count : length c.inputs ≡ length (map (node_name m net) node.drivers) = ap length g.cover.in_is in
       let some : nat_lt 0 (length c.inputs) ≡ true = lt-ltb 0 (length c.inputs) (some_inputs node.kind refl two count) in
       rw (no_copy, some) refl
     where
       some_inputs : (kind : Kind) → g.node.kind ≡ kind → (g.node.kind ≢ Not → 2 ≤ length (map (node_name m net) g.node.drivers)) → length c.inputs ≡ length (map (node_name m net) g.node.drivers) → 0 < length c.inputs
-      some_inputs Not e two count = let one : length (map (node_name m net) g.node.drivers) ≡ 1 = one_pin_not m net w x g.node g.at e in omega arith
-      some_inputs Source e two count = let t : 2 ≤ length (map (node_name m net) g.node.drivers) = two (λ f. (let bad : Source ≡ Not = sym e ∙ f in cc)) in omega arith
-      some_inputs Zero e two count = let t : 2 ≤ length (map (node_name m net) g.node.drivers) = two (λ f. (let bad : Zero ≡ Not = sym e ∙ f in cc)) in omega arith
-      some_inputs One e two count = let t : 2 ≤ length (map (node_name m net) g.node.drivers) = two (λ f. (let bad : One ≡ Not = sym e ∙ f in cc)) in omega arith
-      some_inputs And e two count = let t : 2 ≤ length (map (node_name m net) g.node.drivers) = two (λ f. (let bad : And ≡ Not = sym e ∙ f in cc)) in omega arith
-      some_inputs Or e two count = let t : 2 ≤ length (map (node_name m net) g.node.drivers) = two (λ f. (let bad : Or ≡ Not = sym e ∙ f in cc)) in omega arith
+      some_inputs Not e two count = let one : length (map (node_name m net) g.node.drivers) ≡ 1 = (has_pins m net w x g.node g.at).one e in omega arith
+      some_inputs kind e two count = let t : 2 ≤ length (map (node_name m net) g.node.drivers) = two (λ f. (let bad : kind ≡ Not = sym e ∙ f in cc)) in omega arith
 
   copy_dropped : (n : ℕ) (x : Word) (a b : Bool) → is_gate_cover (if a then cover_with [] x true [] else (if b then cover_with [] x true ([] ∷ []) else cover_with (node_name m net n ∷ []) x true ((One1 ∷ []) ∷ []))) ≡ false
   copy_dropped n x true b = refl

@@ -6,6 +6,8 @@ mod lanes;
 #[cfg(test)]
 mod lent_trials;
 #[cfg(test)]
+mod parities;
+#[cfg(test)]
 mod plain_lists;
 #[cfg(test)]
 mod pools;

@@ -1,6 +1,7 @@
 //! A script of calls on a trial, and what is left after a rollback.
 use crate::trials::{begin_trial, trial_of};
 use gate_graph::Graph;
+use gate_net::Kind;
 use rm_base::{NoMemory, NodeId};
 use std::alloc::Global;
 use std::process::Abort;
@@ -61,11 +62,26 @@ fn push_place(list: &mut Vec<u32>, gate: u32, position: u32) -> Result<(), NoMem
     Ok(())
 }
 
-// The drivers of a node and its readers in order, each list with a mark at its end.
+// A number for the kind of a node.
+fn kind_number(graph: &Graph, node: NodeId) -> u32 {
+    match graph.kind(node) {
+        None => 0,
+        Some(Kind::Source) => 1,
+        Some(Kind::Zero) => 2,
+        Some(Kind::One) => 3,
+        Some(Kind::And) => 4,
+        Some(Kind::Or) => 5,
+        Some(Kind::Not) => 6,
+        Some(Kind::Xor) => 7,
+    }
+}
+
+// The kind of a node, its drivers, and its readers in order, each list with a mark at its end.
 fn push_node(list: &mut Vec<u32>, graph: &Graph, node: NodeId) -> Result<(), NoMemory> {
     if !is_live(graph, node) {
         return push_place(list, u32::MAX, 0);
     }
+    list.push(kind_number(graph, node))?;
     for driver in graph.inputs_of(node) {
         list.push(driver.0)?;
     }

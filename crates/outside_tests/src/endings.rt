@@ -209,7 +209,7 @@ const COMPARISONS: [(&str, &str, &str, &str); 11] = [
         "equal a b p",
         "second limit pins 70000\n",
         "",
-        "b: error: it needs 70000 wires as And, Or and Not gates; at most 65536 are allowed\nhint: let abc minimise the covers first, or split the design into blocks\n",
+        "b: error: it needs 70000 wires as And, Or, Not and Xor gates; at most 65536 are allowed\nhint: let abc minimise the covers first, or split the design into blocks\n",
     ),
     (
         "equal a b p",
@@ -285,7 +285,7 @@ const PROOFS: [(&str, &str, &str, &str); 16] = [
         "judge a b p",
         "second limit pins 70000\n",
         "",
-        "b: error: it needs 70000 wires as And, Or and Not gates; at most 65536 are allowed\nhint: let abc minimise the covers first, or split the design into blocks\n",
+        "b: error: it needs 70000 wires as And, Or, Not and Xor gates; at most 65536 are allowed\nhint: let abc minimise the covers first, or split the design into blocks\n",
     ),
     (
         "judge a b p",

@@ -24,7 +24,7 @@ const REFUSALS: [(&str, &str); 17] = [
     ),
     (
         "--version",
-        "rambo 1.0.0; proved with rattle-kit-13f logic dac8208d650f15bf\n",
+        "rambo 2.0.0; proved with rattle-kit-13f logic dac8208d650f15bf\n",
     ),
     (
         "opt in.blif",

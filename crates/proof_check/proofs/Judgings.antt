@@ -2,7 +2,7 @@
 use Rattle.std.proofs.Common.{Bool, List, None, Ok, Some, [], ap, arith, false, refl, subst, sym, true, ℕ, ◌<◌, ◌∙◌, ◌∷◌, ◌≡◌, ◌≢◌, ◌≤◌}
 use Rattle.std.specs.Option.{option_map}
 use Rattle.std.specs.Prelude.{Option}
-use Rattle.cover_decompose.specs.Count.{decomposed}
+use Rattle.cover_decompose.specs.Spelled.{plain_decomposed, plain_net}
 use Rattle.cover_decompose.specs.Limits.{most_pins}
 use Rattle.equal_evidence.specs.Evidence.{IsProof}
 use Rattle.equal_evidence.specs.Laws.{EvidenceIsShown}
@@ -13,7 +13,6 @@ use Rattle.equal_miter.specs.Equal.{AreComparable, models_fault, models_miter}
 use Rattle.equal_miter.specs.Refusals.{HaveSameNames, IsMiterRefused, first_difference}
 use Rattle.equal_miter.specs.declared.likeness.Likeness.TheVariants.{Differ, Same, Undecided}
 use Rattle.equal_miter.specs.declared.refusal.MiterRefusal.TheVariants as miter
-use Rattle.cover_decompose.specs.Decomposition.{net_of_model}
 use Rattle.equal_evidence.proofs.Public.{fault_has_pin}
 use Rattle.gate_net.specs.Net.{IsWellFormed, Net}
 use Rattle.gate_net.specs.Values.{HasPin}
@@ -31,7 +30,7 @@ use Rattle.rm_model.specs.declared.parts.Model.{Model}
 use Rattle.rm_model.proofs.Public.{is_word-same}
 
 -- models that aren't too large aren't refused for it
-pub no_limit : (m n : Model) (second : Bool) (pins : ℕ) → decomposed m ≤ most_pins → decomposed n ≤ most_pins → IsMiterRefused m n (miter.Limit second pins) → ⊥
+pub no_limit : (m n : Model) (second : Bool) (pins : ℕ) → plain_decomposed m ≤ most_pins → plain_decomposed n ≤ most_pins → IsMiterRefused m n (miter.Limit second pins) → ⊥
 no_limit m n false pins few other (names, (more, is)) = omega (arith, few, more)
 no_limit m n true pins few other (names, (less, (more, is))) = omega (arith, other, more)
 
@@ -121,7 +120,7 @@ shown_for law m n net fault budget e is are comparable formed =
 -- the pin of the fault is there
 pub pin_for : (m n : Model) (net : Net) (fault : Fault) → net ≡ models_miter m n → fault ≡ models_fault m n → HasPin net fault
 pin_for m n net fault is are =
-    subst (λ (x : Net). HasPin x fault) (sym is) (subst (λ (f : Fault). HasPin (models_miter m n) f) (sym are) (fault_has_pin (net_of_model m) (net_of_model n)))
+    subst (λ (x : Net). HasPin x fault) (sym is) (subst (λ (f : Fault). HasPin (models_miter m n) f) (sym are) (fault_has_pin (plain_net m) (plain_net n)))
 
 flaw_at : (m n : Model) (net : Net) (fault : Fault) (budget : ℕ) (e : Evidence) (r : JudgeRefusal) → net ≡ models_miter m n → fault ≡ models_fault m n → IsFlaw net fault budget e r → IsFlaw (models_miter m n) (models_fault m n) budget e r
 flaw_at m n net fault budget e r is are f = subst (λ (x : Net). IsFlaw x (models_fault m n) budget e r) is (subst (λ (g : Fault). IsFlaw net g budget e r) are f)

@@ -1,6 +1,6 @@
 // Judging the proof on two models.
 ghost use Rattle.std.specs.Prelude.{◌≡◌, ◌≤◌, IfErr, IfOk, OnOk, length, ℕ};
-ghost use Rattle.cover_decompose.specs.Count.{decomposed};
+ghost use Rattle.cover_decompose.specs.Spelled.{plain_decomposed};
 ghost use Rattle.cover_decompose.specs.Limits.{most_pins};
 ghost use Rattle.equal_evidence.specs.Evidence.{IsProof};
 ghost use Rattle.equal_evidence.specs.Shown.{IsEvidenceFor};
@@ -41,8 +41,8 @@ fn miter_of_pair(
 ) -> Result<(Graph, Fault), JudgeRefusal>
     requires first { IsReady a.now }
     requires second { IsReady b.now }
-    requires few { decomposed a.now ≤ most_pins }
-    requires second_few { decomposed b.now ≤ most_pins }
+    requires few { plain_decomposed a.now ≤ most_pins }
+    requires second_few { plain_decomposed b.now ≤ most_pins }
     ensures net { IfOk result (λ r. net_of r.0 ≡ models_miter a.now b.now) }
     ensures fault { IfOk result (λ r. r.1 ≡ models_fault a.now b.now) }
     ensures comparable { OnOk result (AreComparable a.now b.now) }
@@ -98,8 +98,8 @@ pub fn judge(
 ) -> Result<Judged, JudgeRefusal>
     requires first { IsReady a.now }
     requires second { IsReady b.now }
-    requires few { decomposed a.now ≤ most_pins }
-    requires second_few { decomposed b.now ≤ most_pins }
+    requires few { plain_decomposed a.now ≤ most_pins }
+    requires second_few { plain_decomposed b.now ≤ most_pins }
     ensures judged { IfOk result (λ j. IsProof text.now j.budget j.evidence) }
     ensures shown { IfOk result (λ j. IsEvidenceFor a.now b.now j.budget j.evidence) }
     ensures comparable { OnOk result (AreComparable a.now b.now) }

@@ -12,10 +12,10 @@ use Rattle.rambo_cli.specs.Inner.Composition.{PassedAuditsTell}
 use Rattle.rambo_cli.specs.Check.{Audited, CheckFinds, HasPassed}
 use Rattle.rambo_cli.specs.Contract.{Caused}
 use Rattle.rambo_cli.specs.Files.{Holds}
-use Rattle.rambo_cli.specs.Input.{ReadCause}
+use Rattle.rambo_cli.specs.Input.{CauseBy, ReadCause}
 use Rattle.rambo_cli.specs.Problems.{audit_problem}
-use Rattle.rambo_cli.specs.Inner.Problems.{ModelCause}
-use Rattle.rambo_cli.specs.Written.{Exceeds, IsSaid}
+use Rattle.rambo_cli.specs.Inner.Problems.{ModelCauseBy}
+use Rattle.rambo_cli.specs.Written.{ExceedsBy, IsSaid}
 use Rattle.rambo_cli.specs.Inner.Written.{IsUsable}
 use Rattle.rambo_cli.specs.declared.problem.Problem.{Problem}
 use Rattle.rambo_cli.specs.declared.problem.Problem.TheVariants.{Fault, Journal, Limit, Proof, Memory, Missing, Netlist, Second, Unlike, Record, Text, Words, CareShape, Window}
@@ -69,23 +69,23 @@ audit_passed tell m input journal output count None usable said few passed = tt
 audit_passed tell m input journal output count (Some told) usable said few passed = (m, (said, (few, (passed, tell m told journal output count usable.formed usable.ranked usable.ranks passed))))
 
 -- a model that was read and has too many pins is why its text isn't decomposed
-pub too_many : (m : Model) (input : Word) (files : Option Files) (before now : ℕ) (problem : Problem) → IfSome files (λ told. Holds told input (λ text. IsSaid text m)) → ModelCause m 0 0 problem → ReadCause input files before now problem
-too_many m input None before now (Limit quantity count) said cause = tt
-too_many m input (Some told) before now (Limit quantity count) said (named, (counted, many)) = at (file_of told input) said
+pub too_many : (wires : Model → ℕ) (m : Model) (input : Word) (files : Option Files) (before now : ℕ) (problem : Problem) → IfSome files (λ told. Holds told input (λ text. IsSaid text m)) → ModelCauseBy wires m 0 0 problem → CauseBy wires input files before now problem
+too_many wires m input None before now (Limit quantity count) said cause = tt
+too_many wires m input (Some told) before now (Limit quantity count) said (named, (counted, many)) = at (file_of told input) said
   where
-    at : (text : Option (List ℕ)) → IsSomeAnd text (λ t. IsSaid t m) → IsSomeAnd text (λ t. Exceeds t quantity count)
+    at : (text : Option (List ℕ)) → IsSomeAnd text (λ t. IsSaid t m) → IsSomeAnd text (λ t. ExceedsBy wires t quantity count)
     at None none = absurd none
     at (Some text) is = inr (inr (record { short = is.short; model = m; faultless = is.faultless; reads = is.reads; many = many; named = named; counted = counted }))
-too_many m input files before now Memory said cause = tt
-too_many m input files before now Fault said cause = absurd (omega (arith, cause))
-too_many m input files before now Words said cause = absurd cause
-too_many m input files before now (Text kind place) said cause = absurd cause
-too_many m input files before now Missing said cause = absurd cause
-too_many m input files before now (Journal fault) said cause = absurd cause
-too_many m input files before now (Record refusal) said cause = absurd cause
-too_many m input files before now (Netlist byte) said cause = absurd cause
-too_many m input files before now (Second found) said cause = absurd cause
-too_many m input files before now (Unlike list at) said cause = absurd cause
-too_many m input files before now CareShape said cause = absurd cause
-too_many m input files before now (Window number stop) said cause = absurd cause
-too_many m input files before now (Proof found) said cause = absurd cause
+too_many wires m input files before now Memory said cause = tt
+too_many wires m input files before now Fault said cause = absurd (omega (arith, cause))
+too_many wires m input files before now Words said cause = absurd cause
+too_many wires m input files before now (Text kind place) said cause = absurd cause
+too_many wires m input files before now Missing said cause = absurd cause
+too_many wires m input files before now (Journal fault) said cause = absurd cause
+too_many wires m input files before now (Record refusal) said cause = absurd cause
+too_many wires m input files before now (Netlist byte) said cause = absurd cause
+too_many wires m input files before now (Second found) said cause = absurd cause
+too_many wires m input files before now (Unlike list at) said cause = absurd cause
+too_many wires m input files before now CareShape said cause = absurd cause
+too_many wires m input files before now (Window number stop) said cause = absurd cause
+too_many wires m input files before now (Proof found) said cause = absurd cause

@@ -18,6 +18,7 @@ use Rattle.journal_text.specs.declared.append.Stop.TheVariants as stop
 use Rattle.journal_text.specs.declared.record.Entry.TheVariants.{End, Header}
 use Rattle.journal_text.specs.declared.record.Record.{Record}
 use Rattle.optimisation.proofs.Public.{put_then, whole_text}
+use Rattle.cover_decompose.specs.Count.{decomposed}
 use Rattle.rambo_cli.specs.Contract.{Caused}
 use Rattle.rambo_cli.specs.Files.{IfTold}
 use Rattle.rambo_cli.specs.Optcare.{BeginsToCare, HasCaredFor, IsCaredInto, OptcareFinds}
@@ -33,7 +34,7 @@ use Rattle.rambo_cli.specs.declared.problem.Problem.TheVariants.{Words, Text, Li
 use Rattle.rambo_cli.proofs.Rising.{risen_after}
 
 -- what is found of the two texts
-pub pair_care : (input care : Word) (files : Option Files) (before now : ℕ) (problem : Problem) → Caused (PairFinds input care files) before now problem → Caused (OptcareFinds input care files) before now problem
+pub pair_care : (input care : Word) (files : Option Files) (before now : ℕ) (problem : Problem) → Caused (PairFinds decomposed input care files) before now problem → Caused (OptcareFinds input care files) before now problem
 pair_care input care files before now Fault h = h
 pair_care input care files before now Memory h = tt
 pair_care input care files before now Words h = absurd h
@@ -50,15 +51,15 @@ pair_care input care files before now (Window number stop) h = absurd h
 pair_care input care files before now (Proof found) h = absurd h
 
 -- or of their models
-misfit_told : (m c : Model) (input care : Word) (files : Option Files) (list : NameList) (at : ℕ) → IfSome files (AreRead input care m c) → IsMisfit m c (Unlike list at) → OptcareFinds input care files (Unlike list at)
+misfit_told : (m c : Model) (input care : Word) (files : Option Files) (list : NameList) (at : ℕ) → IfSome files (AreRead decomposed input care m c) → IsMisfit m c (Unlike list at) → OptcareFinds input care files (Unlike list at)
 misfit_told m c input care None list at read h = tt
 misfit_told m c input care (Some told) list at read h = record { model = m; cares = c; read = read; misfits = h }
 
-shape_told : (m c : Model) (input care : Word) (files : Option Files) → IfSome files (AreRead input care m c) → IsMisfit m c CareShape → OptcareFinds input care files CareShape
+shape_told : (m c : Model) (input care : Word) (files : Option Files) → IfSome files (AreRead decomposed input care m c) → IsMisfit m c CareShape → OptcareFinds input care files CareShape
 shape_told m c input care None read h = tt
 shape_told m c input care (Some told) read h = record { model = m; cares = c; read = read; misfits = h }
 
-pub misfit_cause : (m c : Model) (input care : Word) (files : Option Files) (before now : ℕ) (problem : Problem) → IfSome files (AreRead input care m c) → IsMisfit m c problem → Caused (OptcareFinds input care files) before now problem
+pub misfit_cause : (m c : Model) (input care : Word) (files : Option Files) (before now : ℕ) (problem : Problem) → IfSome files (AreRead decomposed input care m c) → IsMisfit m c problem → Caused (OptcareFinds input care files) before now problem
 misfit_cause m c input care files before now (Unlike list at) read h = misfit_told m c input care files list at read h
 misfit_cause m c input care files before now CareShape read h = shape_told m c input care files read h
 misfit_cause m c input care files before now (Window number stop) read h = absurd h
@@ -173,7 +174,7 @@ care_kept input care output tests settings (Some files) new e = subst (λ (o : O
 
 module _ (m c : Model) (input care output tests : Word) (settings : Settings) (figures : CareFigures) (recorded written : List ℕ) (result : IsCaredInto m c settings figures recorded written) where
   -- both files are written
-  pub care_written : (old read new : Option Files) → read ≡ old → IfSome old (AreRead input care m c) → IfTold read new (AreBothPut output tests recorded written) → IfTold old new (HasCaredFor input care output tests settings figures)
+  pub care_written : (old read new : Option Files) → read ≡ old → IfSome old (AreRead decomposed input care m c) → IfTold read new (AreBothPut output tests recorded written) → IfTold old new (HasCaredFor input care output tests settings figures)
   care_written None read new e said put = tt
   care_written (Some files) read new e said put = go new (subst (λ (o : Option Files). IfTold o new (AreBothPut output tests recorded written)) e put)
     where
@@ -182,7 +183,7 @@ module _ (m c : Model) (input care output tests : Word) (settings : Settings) (f
       go (Some after) h = record { model = m; cares = c; read = said; cared = record { recorded = recorded; written = written; result = result; files = h } }
 
   -- or a beginning
-  pub care_begun : (old read new : Option Files) → read ≡ old → IfSome old (AreRead input care m c) → IfTold read new (BeginsBoth output tests recorded written) → IfTold old new (BeginsToCare input care output tests settings)
+  pub care_begun : (old read new : Option Files) → read ≡ old → IfSome old (AreRead decomposed input care m c) → IfTold read new (BeginsBoth output tests recorded written) → IfTold old new (BeginsToCare input care output tests settings)
   care_begun None read new e said begun = tt
   care_begun (Some files) read new e said begun = go new (subst (λ (o : Option Files). IfTold o new (BeginsBoth output tests recorded written)) e begun)
     where

@@ -9,7 +9,6 @@ use Rattle.rm_base.specs.declared.outside.OutsideFault.{OutsideFault}
 use Rattle.rm_base.specs.declared.outside.OutsideFault.TheVariants.{Failed, NoMemory}
 use Rattle.rm_base.specs.declared.settings.Settings.{Settings}
 use Rattle.rm_model.specs.declared.parts.Model.{Model}
-use Rattle.cover_decompose.specs.Count.{decomposed}
 use Rattle.rm_model.specs.Value.{source_names}
 use Rattle.equal_evidence.specs.Evidence.{IsWritten, evidence_text}
 use Rattle.equal_evidence.specs.Shown.{IsEvidenceFor}
@@ -19,6 +18,7 @@ use Rattle.equal_miter.specs.Refusals.{IsMiterRefused, IsReady}
 use Rattle.equal_miter.specs.declared.refusal.MiterRefusal.{MiterRefusal}
 use Rattle.equal_miter.specs.declared.refusal.MiterRefusal.TheVariants as miter
 use Rattle.equal_sweep.specs.Decided.{IsDecided}
+use Rattle.cover_decompose.specs.Spelled.{plain_decomposed}
 use Rattle.rambo_cli.specs.Contract.{Caused}
 use Rattle.rambo_cli.specs.Equal.{BeginsToCompare, EqualFinds, HasCompared}
 use Rattle.rambo_cli.specs.Files.{IfTold}
@@ -55,7 +55,7 @@ kept_for (Proof found) old new e = e
 kept_for Memory old new e = tt
 
 -- what is found of the two texts
-pub pair_equal : (first second : Word) (files : Option Files) (before now : ℕ) (problem : Problem) → Caused (PairFinds first second files) before now problem → Caused (EqualFinds first second files) before now problem
+pub pair_equal : (first second : Word) (files : Option Files) (before now : ℕ) (problem : Problem) → Caused (PairFinds plain_decomposed first second files) before now problem → Caused (EqualFinds first second files) before now problem
 pair_equal first second files before now Fault h = h
 pair_equal first second files before now Memory h = tt
 pair_equal first second files before now Words h = absurd h
@@ -72,18 +72,18 @@ pair_equal first second files before now (Window number stop) h = absurd h
 pair_equal first second files before now (Proof found) h = absurd h
 
 -- why two models that were read aren't compared
-pub unlike_for : (m n : Model) (refusal : MiterRefusal) → decomposed m ≤ 65536 → decomposed n ≤ 65536 → IsMiterRefused m n refusal → IsUnlikeFor m n (miter_problem refusal)
+pub unlike_for : (m n : Model) (refusal : MiterRefusal) → plain_decomposed m ≤ 65536 → plain_decomposed n ≤ 65536 → IsMiterRefused m n refusal → IsUnlikeFor m n (miter_problem refusal)
 unlike_for m n (miter.UnlikeSources at) few more h = h
 unlike_for m n (miter.UnlikeObserved at) few more h = h
 unlike_for m n (miter.Limit false pins) few more h = absurd (omega (arith, few, h.1.0))
 unlike_for m n (miter.Limit true pins) few more h = absurd (omega (arith, more, h.1.1.0))
 unlike_for m n miter.NoMemory few more h = tt
 
-unlike_told : (m n : Model) (first second : Word) (files : Option Files) (list : _) (at : ℕ) → IfSome files (AreRead first second m n) → IsUnlikeFor m n (Unlike list at) → EqualFinds first second files (Unlike list at)
+unlike_told : (m n : Model) (first second : Word) (files : Option Files) (list : _) (at : ℕ) → IfSome files (AreRead plain_decomposed first second m n) → IsUnlikeFor m n (Unlike list at) → EqualFinds first second files (Unlike list at)
 unlike_told m n first second None list at read h = tt
 unlike_told m n first second (Some told) list at read h = record { model = m; other = n; read = read; differ = h }
 
-pub unlike_cause : (m n : Model) (first second : Word) (files : Option Files) (before now : ℕ) (problem : Problem) → IfSome files (AreRead first second m n) → IsUnlikeFor m n problem → Caused (EqualFinds first second files) before now problem
+pub unlike_cause : (m n : Model) (first second : Word) (files : Option Files) (before now : ℕ) (problem : Problem) → IfSome files (AreRead plain_decomposed first second m n) → IsUnlikeFor m n problem → Caused (EqualFinds first second files) before now problem
 unlike_cause m n first second files before now (Unlike list at) read h = unlike_told m n first second files list at read h
 unlike_cause m n first second files before now Memory read h = tt
 unlike_cause m n first second files before now Fault read h = absurd h
@@ -114,7 +114,7 @@ compare_kept first second proof settings None new e = tt
 compare_kept first second proof settings (Some files) new e = subst (λ (o : Option Files). IfTold (Some files) o (BeginsToCompare first second proof settings)) (sym e) (inl refl)
 
 -- what is decided, with the whole of PROOF
-pub compared_written : (m n : Model) (first second proof : Word) (settings : Settings) (e : Evidence) (items bytes : List ℕ) (old read new : Option Files) → read ≡ old → IfSome old (AreRead first second m n) → AreComparable m n
+pub compared_written : (m n : Model) (first second proof : Word) (settings : Settings) (e : Evidence) (items bytes : List ℕ) (old read new : Option Files) → read ≡ old → IfSome old (AreRead plain_decomposed first second m n) → AreComparable m n
     → IsEvidenceFor m n settings.budget e → IsWritten e → (2 ^ (length (source_names m) + 1) ≤ settings.budget → IsDecided e) → items ≡ evidence_text settings.budget e → bytes ≡ items → new ≡ option_map (put_file proof bytes) read
     → IfTold old new (HasCompared first second proof settings e)
 compared_written m n first second proof settings e items bytes None read new same said comparable shown written decided text whole done = tt
@@ -123,7 +123,7 @@ compared_written m n first second proof settings e items bytes (Some files) read
     (record { model = m; other = n; read = said; decided = record { comparable = comparable; evidence = shown; written = written; decided = decided; files = ap (λ (t : List ℕ). put_file proof t files) (whole ∙ text) } })
 
 -- or with a beginning of it
-pub compared_begun : (m n : Model) (first second proof : Word) (settings : Settings) (e : Evidence) (items bytes : List ℕ) (old read new : Option Files) → read ≡ old → IfSome old (AreRead first second m n) → AreComparable m n
+pub compared_begun : (m n : Model) (first second proof : Word) (settings : Settings) (e : Evidence) (items bytes : List ℕ) (old read new : Option Files) → read ≡ old → IfSome old (AreRead plain_decomposed first second m n) → AreComparable m n
     → IsEvidenceFor m n settings.budget e → IsWritten e → (2 ^ (length (source_names m) + 1) ≤ settings.budget → IsDecided e) → items ≡ evidence_text settings.budget e → bytes ≡ items → BeginsFile proof bytes read new
     → IfTold old new (BeginsToCompare first second proof settings)
 compared_begun m n first second proof settings e items bytes None read new same said comparable shown written decided text whole begun = tt

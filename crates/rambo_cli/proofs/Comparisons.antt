@@ -5,6 +5,9 @@ use Rattle.rm_base.specs.Causes.{Rose}
 use Rattle.rm_base.specs.Files.{Files}
 use Rattle.rm_base.specs.Words.{Word}
 use Rattle.word_reading.specs.Words.{Asked, opt, check, demo, flat, tests, replay, convert, equal, judge, optcare, cut, sew}
+use Rattle.cover_decompose.specs.Count.{decomposed}
+use Rattle.cover_decompose.specs.Spelled.{plain_decomposed}
+use Rattle.rm_model.specs.declared.parts.Model.{Model}
 use Rattle.rambo_cli.specs.Commands.{contract_of}
 use Rattle.rambo_cli.specs.Contract.{IsCause, StoreFails}
 use Rattle.rambo_cli.specs.Equal.{EqualFinds}
@@ -26,32 +29,32 @@ use Rattle.rambo_cli.proofs.Complete.{or_outside}
 use Rattle.rambo_cli.proofs.TextsFound.{read_finds_none}
 
 -- nothing is found of two texts that can be read
-no_pair : (first second : Word) (told : Files) (problem : Problem) → CanBeCompared first second told → PairFinds first second (Some told) problem → ⊥
-no_pair first second told (Text kind place) good h = read_finds_none first told (Text kind place) good.first_is h
-no_pair first second told (Limit quantity count) good h = read_finds_none first told (Limit quantity count) good.first_is h
-no_pair first second told Missing good h = elim h [
-  | inl one ↦ read_finds_none first told Missing good.first_is one
-  | inr two ↦ read_finds_none second told Missing good.second_is two.1
+no_pair : (wires : Model → ℕ) (first second : Word) (told : Files) (problem : Problem) → CanBeCompared wires first second told → PairFinds wires first second (Some told) problem → ⊥
+no_pair wires first second told (Text kind place) good h = read_finds_none wires first told (Text kind place) good.first_is h
+no_pair wires first second told (Limit quantity count) good h = read_finds_none wires first told (Limit quantity count) good.first_is h
+no_pair wires first second told Missing good h = elim h [
+  | inl one ↦ read_finds_none wires first told Missing good.first_is one
+  | inr two ↦ read_finds_none wires second told Missing good.second_is two.1
 ]
-no_pair first second told (Second (found.Fault kind place)) good h = read_finds_none second told (Text kind place) good.second_is h.1
-no_pair first second told (Second (found.Limit quantity count)) good h = read_finds_none second told (Limit quantity count) good.second_is h.1
-no_pair first second told (Unlike list at) good h = h
-no_pair first second told CareShape good h = h
-no_pair first second told (Window number stop) good h = h
-no_pair first second told (Proof found) good h = h
-no_pair first second told Words good h = h
-no_pair first second told Fault good h = h
-no_pair first second told (Journal f) good h = h
-no_pair first second told (Record r) good h = h
-no_pair first second told (Netlist byte) good h = h
-no_pair first second told Memory good h = h
+no_pair wires first second told (Second (found.Fault kind place)) good h = read_finds_none wires second told (Text kind place) good.second_is h.1
+no_pair wires first second told (Second (found.Limit quantity count)) good h = read_finds_none wires second told (Limit quantity count) good.second_is h.1
+no_pair wires first second told (Unlike list at) good h = h
+no_pair wires first second told CareShape good h = h
+no_pair wires first second told (Window number stop) good h = h
+no_pair wires first second told (Proof found) good h = h
+no_pair wires first second told Words good h = h
+no_pair wires first second told Fault good h = h
+no_pair wires first second told (Journal f) good h = h
+no_pair wires first second told (Record r) good h = h
+no_pair wires first second told (Netlist byte) good h = h
+no_pair wires first second told Memory good h = h
 
 -- but that their names differ
-unlike_alone : (first second : Word) (told : Files) (problem : Problem) → CanBeCompared first second told → EqualFinds first second (Some told) problem → status_of problem ≡ 9
-unlike_alone first second told (Text kind place) good h = absurd (no_pair first second told (Text kind place) good h)
-unlike_alone first second told (Limit quantity count) good h = absurd (no_pair first second told (Limit quantity count) good h)
-unlike_alone first second told Missing good h = absurd (no_pair first second told Missing good h)
-unlike_alone first second told (Second problem) good h = absurd (no_pair first second told (Second problem) good h)
+unlike_alone : (first second : Word) (told : Files) (problem : Problem) → CanBeCompared plain_decomposed first second told → EqualFinds first second (Some told) problem → status_of problem ≡ 9
+unlike_alone first second told (Text kind place) good h = absurd (no_pair plain_decomposed first second told (Text kind place) good h)
+unlike_alone first second told (Limit quantity count) good h = absurd (no_pair plain_decomposed first second told (Limit quantity count) good h)
+unlike_alone first second told Missing good h = absurd (no_pair plain_decomposed first second told Missing good h)
+unlike_alone first second told (Second problem) good h = absurd (no_pair plain_decomposed first second told (Second problem) good h)
 unlike_alone first second told (Unlike list at) good h = refl
 unlike_alone first second told CareShape good h = absurd h
 unlike_alone first second told (Window number stop) good h = absurd h
@@ -64,11 +67,11 @@ unlike_alone first second told (Netlist byte) good h = absurd h
 unlike_alone first second told Memory good h = absurd h
 
 -- or that the second is no care model for the first
-misfit_alone : (input care : Word) (told : Files) (problem : Problem) → CanBeCompared input care told → OptcareFinds input care (Some told) problem → status_of problem ≡ 9
-misfit_alone input care told (Text kind place) good h = absurd (no_pair input care told (Text kind place) good h)
-misfit_alone input care told (Limit quantity count) good h = absurd (no_pair input care told (Limit quantity count) good h)
-misfit_alone input care told Missing good h = absurd (no_pair input care told Missing good h)
-misfit_alone input care told (Second problem) good h = absurd (no_pair input care told (Second problem) good h)
+misfit_alone : (input care : Word) (told : Files) (problem : Problem) → CanBeCompared decomposed input care told → OptcareFinds input care (Some told) problem → status_of problem ≡ 9
+misfit_alone input care told (Text kind place) good h = absurd (no_pair decomposed input care told (Text kind place) good h)
+misfit_alone input care told (Limit quantity count) good h = absurd (no_pair decomposed input care told (Limit quantity count) good h)
+misfit_alone input care told Missing good h = absurd (no_pair decomposed input care told Missing good h)
+misfit_alone input care told (Second problem) good h = absurd (no_pair decomposed input care told (Second problem) good h)
 misfit_alone input care told (Unlike list at) good h = refl
 misfit_alone input care told CareShape good h = refl
 misfit_alone input care told (Window number stop) good h = absurd h

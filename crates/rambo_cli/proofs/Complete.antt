@@ -12,6 +12,7 @@ use Rattle.journal_audit.specs.declared.problem.AuditProblem.{AuditProblem}
 use Rattle.journal_audit.specs.declared.problem.AuditProblem.TheVariants as audit
 use Rattle.journal_text.specs.Cutting.{JournalsAreOne}
 use Rattle.word_reading.specs.Words.{Asked, opt, check, demo, flat, tests, replay, convert, equal, judge, optcare, cut, sew}
+use Rattle.cover_decompose.specs.Count.{decomposed}
 use Rattle.rambo_cli.specs.Check.{AreThere, Audited, CheckFinds, HasPassed}
 use Rattle.rambo_cli.specs.Commands.{contract_of}
 use Rattle.rambo_cli.proofs.ConvertedFiles.{convert_finds_none}
@@ -92,13 +93,13 @@ cut_finds_none input width shift told (Proof found) good h = h
 
 -- nor where the journal is there beside it
 replay_finds_none : (input journal : Word) (told : Files) (problem : Problem) → CanBeReplayed input journal told → ReplayFinds input journal (Some told) problem → ⊥
-replay_finds_none input journal told (Text kind place) good h = read_finds_none input told (Text kind place) good.input_is h
+replay_finds_none input journal told (Text kind place) good h = read_finds_none decomposed input told (Text kind place) good.input_is h
 replay_finds_none input journal told (Limit quantity count) good h = elim h [
-  | inl read ↦ read_finds_none input told (Limit quantity count) good.input_is read
+  | inl read ↦ read_finds_none decomposed input told (Limit quantity count) good.input_is read
   | inr long ↦ together (file_of told journal) (λ text. length text ≤ 2 ^ 62) (λ text. 2 ^ 62 < length text) good.journal_is long.1 (λ text few many. omega (arith, few, many))
 ]
 replay_finds_none input journal told Missing good h = elim h [
-  | inl read ↦ read_finds_none input told Missing good.input_is read
+  | inl read ↦ read_finds_none decomposed input told Missing good.input_is read
   | inr absent ↦ present (file_of told journal) (λ text. length text ≤ 2 ^ 62) good.journal_is absent
 ]
 replay_finds_none input journal told Fault good h = h
@@ -177,16 +178,16 @@ module _ (once : ReadsOnce) (exclude : ProblemsExclude) where
   check_finds_none input journal output told count problem passed h = go problem h
     where
       good : Holds told input CanBeOptimised
-      good = weaker (file_of told input) (λ text. IsSaid text passed.0) CanBeOptimised passed.1.0 (λ text said. said_good once passed.0 text passed.1.1.0 said)
+      good = weaker (file_of told input) (λ text. IsSaid text passed.0) CanBeOptimised passed.1.0 (λ text said. said_good once decomposed passed.0 text passed.1.1.0 said)
 
       go : (p : Problem) → CheckFinds input journal output (Some told) p → ⊥
-      go (Text kind place) f = read_finds_none input told (Text kind place) good f
+      go (Text kind place) f = read_finds_none decomposed input told (Text kind place) good f
       go (Limit quantity bytes) f = elim f [
-        | inl read ↦ read_finds_none input told (Limit quantity bytes) good read
+        | inl read ↦ read_finds_none decomposed input told (Limit quantity bytes) good read
         | inr long ↦ no_problem input journal output told count audit.TooLong passed tt long.1
       ]
       go Missing f = elim f [
-        | inl read ↦ read_finds_none input told Missing good read
+        | inl read ↦ read_finds_none decomposed input told Missing good read
         | inr other ↦ elim other [
           | inl one ↦ no_problem input journal output told count audit.NoJournal passed tt one
           | inr two ↦ no_problem input journal output told count audit.NoOutput passed tt two
@@ -208,7 +209,7 @@ module _ (once : ReadsOnce) (exclude : ProblemsExclude) where
   good_runs_are_done ones None files m n problem good h = absurd good
   good_runs_are_done ones (Some (opt input output journal settings)) None m n problem good h = absurd good
   good_runs_are_done ones (Some (opt input output journal settings)) (Some told) m n problem good h =
-      outside_alone (contract_of (Some (opt input output journal settings))) (Some told) m n problem (read_finds_none input told problem good) h
+      outside_alone (contract_of (Some (opt input output journal settings))) (Some told) m n problem (read_finds_none decomposed input told problem good) h
   good_runs_are_done ones (Some (check input journal output)) None m n problem good h = absurd good
   good_runs_are_done ones (Some (check input journal output)) (Some told) m n problem good h =
       outside_alone (contract_of (Some (check input journal output))) (Some told) m n problem (check_finds_none input journal output told good.0 problem good.1) h
@@ -248,13 +249,13 @@ short_enough (Some t) text h e long = let same : t ≡ text = cc in let few : le
 
 -- a journal and an output that are there, and an input that can be optimised: only the journal and the output are found at fault
 judged : (input journal output : Word) (told : Files) (problem : Problem) → AreThere input journal output told → CheckFinds input journal output (Some told) problem → status_of problem ≡ 6
-judged input journal output told (Text kind place) there h = absurd (read_finds_none input told (Text kind place) there.input_is h)
+judged input journal output told (Text kind place) there h = absurd (read_finds_none decomposed input told (Text kind place) there.input_is h)
 judged input journal output told (Limit quantity count) there h = elim h [
-  | inl read ↦ absurd (read_finds_none input told (Limit quantity count) there.input_is read)
+  | inl read ↦ absurd (read_finds_none decomposed input told (Limit quantity count) there.input_is read)
   | inr long ↦ absurd (short_enough (file_of told journal) long.1.1.1.1.0 there.journal_is long.1.1.1.1.1.0 long.1.1.1.1.1.1.0)
 ]
 judged input journal output told Missing there h = elim h [
-  | inl read ↦ absurd (read_finds_none input told Missing there.input_is read)
+  | inl read ↦ absurd (read_finds_none decomposed input told Missing there.input_is read)
   | inr other ↦ elim other [
     | inl one ↦ absurd (present (file_of told journal) (λ t. length t ≤ 2 ^ 62) there.journal_is one.1.1.1)
     | inr two ↦ absurd (held (file_of told output) there.output_is two.1.1.1.1.1.1)

@@ -7,6 +7,7 @@ use Rattle.rm_base.specs.Words.{Word}
 use Rattle.rm_base.specs.declared.settings.Settings.{Settings}
 use Rattle.equal_evidence.specs.Evidence.{IsProof, evidence_text}
 use Rattle.equal_evidence.specs.declared.evidence.Evidence.{Evidence}
+use Rattle.cover_decompose.specs.Spelled.{plain_decomposed}
 use Rattle.rambo_cli.specs.Equal.{HasCompared, HasComparedWell, IsJudgedOver}
 use Rattle.rambo_cli.specs.Files.{Holds, IfTold}
 use Rattle.rambo_cli.specs.Judge.{IsProved}
@@ -24,7 +25,7 @@ module _ (first second proof : Word) (apart : (first ≢ proof) × (second ≢ p
   stays : (name : Word) → name ≢ proof → file_of new name ≡ file_of old name
   stays name differ = ap (λ (files : Files). file_of files name) h.decided.files ∙ elsewhere proof name text old differ
 
-  still_read : AreRead first second h.model h.other new
+  still_read : AreRead plain_decomposed first second h.model h.other new
   still_read = record {
     first_is = subst (λ (o : Option (List ℕ)). IsSomeAnd o (λ t. IsSaid t h.model)) (sym (stays first apart.0)) h.read.first_is;
     second_is = subst (λ (o : Option (List ℕ)). IsSomeAnd o (λ t. IsSaid t h.other)) (sym (stays second apart.1)) h.read.second_is;

@@ -11,6 +11,7 @@ use Rattle.blif_format.specs.Laws.{ReadsOnce}
 use Rattle.equal_evidence.specs.Evidence.{IsProof}
 use Rattle.equal_evidence.specs.Shown.{IsEvidenceFor}
 use Rattle.equal_miter.specs.Refusals.{HaveSameNames, first_difference}
+use Rattle.cover_decompose.specs.Spelled.{plain_decomposed}
 use Rattle.rambo_cli.specs.Pairs.{DifferAt}
 use Rattle.rambo_cli.specs.Judge.{CanBeJudged, IsNoEvidence, IsProved, IsRefused, JudgeFinds}
 use Rattle.rambo_cli.specs.Problems.{status_of}
@@ -37,16 +38,16 @@ never_unlike m n Observed at names h = none_differs (observed_names m) (observed
 -- nothing is found but a flaw of PROOF, where that is there beside two such texts, whose models have the same names
 flaw_alone : (first second proof : Word) (told : Files) (problem : Problem) → CanBeJudged first second proof told → JudgeFinds first second proof (Some told) problem
     → (flaw : ProofProblem) × ((problem ≡ Proof flaw) × IsRefused first second proof flaw told)
-flaw_alone first second proof told (Text kind place) good h = absurd (pair_finds_none first second told (Text kind place) good.pair h)
+flaw_alone first second proof told (Text kind place) good h = absurd (pair_finds_none plain_decomposed first second told (Text kind place) good.pair h)
 flaw_alone first second proof told (Limit quantity count) good h = elim h [
-  | inl read ↦ absurd (pair_finds_none first second told (Limit quantity count) good.pair read)
+  | inl read ↦ absurd (pair_finds_none plain_decomposed first second told (Limit quantity count) good.pair read)
   | inr long ↦ absurd (together (file_of told proof) (λ text. length text ≤ 2 ^ 62) (λ text. 2 ^ 62 < length text) good.proof_is long.1.1 (λ text few many. omega (arith, few, many)))
 ]
 flaw_alone first second proof told Missing good h = elim h [
-  | inl read ↦ absurd (pair_finds_none first second told Missing good.pair read)
+  | inl read ↦ absurd (pair_finds_none plain_decomposed first second told Missing good.pair read)
   | inr absent ↦ absurd (present (file_of told proof) (λ text. length text ≤ 2 ^ 62) good.proof_is absent.1)
 ]
-flaw_alone first second proof told (Second text) good h = absurd (pair_finds_none first second told (Second text) good.pair h)
+flaw_alone first second proof told (Second text) good h = absurd (pair_finds_none plain_decomposed first second told (Second text) good.pair h)
 flaw_alone first second proof told (Unlike list at) good h = absurd (never_unlike h.0.model h.0.other list at (good.names h.0.model h.0.other h.0.read) h.0.differ)
 flaw_alone first second proof told (Proof flaw) good h = (flaw, (refl, h))
 flaw_alone first second proof told Fault good h = absurd h
@@ -69,7 +70,7 @@ module _ (once : ReadsOnce) where
   -- a proof that is the text of evidence can be judged
   proved_judged : (first second proof : Word) (told : Files) → IsProved first second proof told → CanBeJudged first second proof told
   proved_judged first second proof told (m, (n, (budget, (e, has)))) = record {
-    pair = pair_good once m n first second told has.read;
+    pair = pair_good once plain_decomposed m n first second told has.read;
     names = λ p q read.
         subst (λ (x : Model). HaveSameNames x q) (one_said (file_of told first) m p has.read.first_is read.first_is)
         (subst (λ (x : Model). HaveSameNames m x) (one_said (file_of told second) n q has.read.second_is read.second_is) has.names);

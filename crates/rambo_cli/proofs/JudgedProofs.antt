@@ -12,6 +12,7 @@ use Rattle.equal_miter.specs.Equal.{AreComparable}
 use Rattle.proof_check.specs.Refusals.{IsJudgeRefused, IsOfText}
 use Rattle.proof_check.specs.declared.refusal.JudgeRefusal.{JudgeRefusal}
 use Rattle.proof_check.specs.declared.refusal.JudgeRefusal.TheVariants as judge
+use Rattle.cover_decompose.specs.Spelled.{plain_decomposed}
 use Rattle.rambo_cli.specs.Contract.{Caused}
 use Rattle.rambo_cli.specs.Files.{Holds}
 use Rattle.rambo_cli.specs.Judge.{HasJudged, HasLongProof, HasNoProof, HasUnlike, IsNoEvidence, IsRefused, JudgeFinds, judge_problem}
@@ -61,7 +62,7 @@ refused_for m n text (judge.SpentShort edges budget) first none = record { refus
 refused_for m n text judge.NoMemory first none = tt
 
 -- what is found of the two texts
-pub pair_judged : (first second proof : Word) (files : Option Files) (before now : ℕ) (problem : Problem) → Caused (PairFinds first second files) before now problem → Caused (JudgeFinds first second proof files) before now problem
+pub pair_judged : (first second proof : Word) (files : Option Files) (before now : ℕ) (problem : Problem) → Caused (PairFinds plain_decomposed first second files) before now problem → Caused (JudgeFinds first second proof files) before now problem
 pair_judged first second proof files before now Fault h = h
 pair_judged first second proof files before now Memory h = tt
 pair_judged first second proof files before now Words h = absurd h
@@ -78,15 +79,15 @@ pair_judged first second proof files before now (Window number stop) h = absurd 
 pair_judged first second proof files before now (Proof found) h = absurd h
 
 module _ (once : ReadsOnce) (m n : Model) (first second proof : Word) where
-  long_told : (files : Option Files) → IfSome files (AreRead first second m n) → IfSome files (λ told. Holds told proof (λ text. 2 ^ 62 < length text)) → IfSome files (HasLongProof first second proof)
+  long_told : (files : Option Files) → IfSome files (AreRead plain_decomposed first second m n) → IfSome files (λ told. Holds told proof (λ text. 2 ^ 62 < length text)) → IfSome files (HasLongProof first second proof)
   long_told None read long = tt
-  long_told (Some told) read long = (pair_good once m n first second told read, long)
+  long_told (Some told) read long = (pair_good once plain_decomposed m n first second told read, long)
 
-  absent_told : (files : Option Files) → IfSome files (AreRead first second m n) → IsSomeAnd files (λ told. file_of told proof ≡ None) → IsSomeAnd files (HasNoProof first second proof)
+  absent_told : (files : Option Files) → IfSome files (AreRead plain_decomposed first second m n) → IsSomeAnd files (λ told. file_of told proof ≡ None) → IsSomeAnd files (HasNoProof first second proof)
   absent_told None read none = none
-  absent_told (Some told) read none = (pair_good once m n first second told read, none)
+  absent_told (Some told) read none = (pair_good once plain_decomposed m n first second told read, none)
 
-  found_of : (files : Option Files) (before mid now : ℕ) (problem : Problem) → before ≤ mid → IfSome files (AreRead first second m n) → Caused (ProofFinds proof files) mid now problem → Caused (JudgeFinds first second proof files) before now problem
+  found_of : (files : Option Files) (before mid now : ℕ) (problem : Problem) → before ≤ mid → IfSome files (AreRead plain_decomposed first second m n) → Caused (ProofFinds proof files) mid now problem → Caused (JudgeFinds first second proof files) before now problem
   found_of files before mid now Fault later read h = risen_after before mid now later h
   found_of files before mid now Memory later read h = tt
   found_of files before mid now Words later read h = absurd h
@@ -103,7 +104,7 @@ module _ (once : ReadsOnce) (m n : Model) (first second proof : Word) where
   found_of files before mid now (Proof found) later read h = absurd h
 
   -- what is found of PROOF behind them
-  pub proof_judged : (old mid : Option Files) (before between now : ℕ) (problem : Problem) → mid ≡ old → before ≤ between → IfSome old (AreRead first second m n) → Caused (ProofFinds proof mid) between now problem → Caused (JudgeFinds first second proof old) before now problem
+  pub proof_judged : (old mid : Option Files) (before between now : ℕ) (problem : Problem) → mid ≡ old → before ≤ between → IfSome old (AreRead plain_decomposed first second m n) → Caused (ProofFinds proof mid) between now problem → Caused (JudgeFinds first second proof old) before now problem
   proof_judged old mid before between now problem same later read cause = found_of old before between now problem later read (subst (λ (o : Option Files). Caused (ProofFinds proof o) between now problem) same cause)
 
 module _ (m n : Model) (first second proof : Word) (text : List ℕ) where
@@ -111,12 +112,12 @@ module _ (m n : Model) (first second proof : Word) (text : List ℕ) where
   abbrev IsText : Files → Type 0
   IsText told = Holds told proof (λ bytes. (length bytes ≤ 2 ^ 62) × (text ≡ bytes))
 
-  unlike_told : (files : Option Files) (list : NameList) (at : ℕ) → IfSome files (AreRead first second m n) → IfSome files IsText → IsRefusedFor m n text (Unlike list at) → IfSome files (HasUnlike first second proof list at)
+  unlike_told : (files : Option Files) (list : NameList) (at : ℕ) → IfSome files (AreRead plain_decomposed first second m n) → IfSome files IsText → IsRefusedFor m n text (Unlike list at) → IfSome files (HasUnlike first second proof list at)
   unlike_told None list at read there h = tt
   unlike_told (Some told) list at read there h =
       (record { model = m; other = n; read = read; differ = h }, weaker (file_of told proof) (λ bytes. (length bytes ≤ 2 ^ 62) × (text ≡ bytes)) (λ bytes. length bytes ≤ 2 ^ 62) there (λ bytes is. is.0))
 
-  flaw_told : (files : Option Files) (found : ProofProblem) → IfSome files (AreRead first second m n) → IfSome files IsText → IsNoEvidence m n text found → IfSome files (IsRefused first second proof found)
+  flaw_told : (files : Option Files) (found : ProofProblem) → IfSome files (AreRead plain_decomposed first second m n) → IfSome files IsText → IsNoEvidence m n text found → IfSome files (IsRefused first second proof found)
   flaw_told None found read there h = tt
   flaw_told (Some told) found read there h = record {
     model = m;
@@ -125,7 +126,7 @@ module _ (m n : Model) (first second proof : Word) (text : List ℕ) where
     proof_is = weaker (file_of told proof) (λ bytes. (length bytes ≤ 2 ^ 62) × (text ≡ bytes)) (λ bytes. (length bytes ≤ 2 ^ 62) × IsNoEvidence m n bytes found) there (λ bytes is. (is.0, subst (λ (t : List ℕ). IsNoEvidence m n t found) is.1 h));
   }
 
-  refused_in : (files : Option Files) (before now : ℕ) (problem : Problem) → IfSome files (AreRead first second m n) → IfSome files IsText → IsRefusedFor m n text problem → Caused (JudgeFinds first second proof files) before now problem
+  refused_in : (files : Option Files) (before now : ℕ) (problem : Problem) → IfSome files (AreRead plain_decomposed first second m n) → IfSome files IsText → IsRefusedFor m n text problem → Caused (JudgeFinds first second proof files) before now problem
   refused_in files before now (Unlike list at) read there h = unlike_told files list at read there h
   refused_in files before now (Proof found) read there h = flaw_told files found read there h
   refused_in files before now Memory read there h = tt
@@ -142,10 +143,10 @@ module _ (m n : Model) (first second proof : Word) (text : List ℕ) where
   refused_in files before now (Window number stop) read there h = absurd h
 
   -- why it isn't that of evidence on the models
-  pub refused_judged : (old mid : Option Files) (before now : ℕ) (problem : Problem) → mid ≡ old → IfSome old (AreRead first second m n) → IfSome mid IsText → IsRefusedFor m n text problem → Caused (JudgeFinds first second proof old) before now problem
+  pub refused_judged : (old mid : Option Files) (before now : ℕ) (problem : Problem) → mid ≡ old → IfSome old (AreRead plain_decomposed first second m n) → IfSome mid IsText → IsRefusedFor m n text problem → Caused (JudgeFinds first second proof old) before now problem
   refused_judged old mid before now problem same read there h = refused_in old before now problem read (subst (λ (o : Option Files). IfSome o IsText) same there) h
 
-  accepted_in : (files : Option Files) (budget count : ℕ) (e : Evidence) (verdict : Verdict) → IfSome files (AreRead first second m n) → IfSome files IsText → AreComparable m n → IsProof text budget e → IsEvidenceFor m n budget e
+  accepted_in : (files : Option Files) (budget count : ℕ) (e : Evidence) (verdict : Verdict) → IfSome files (AreRead plain_decomposed first second m n) → IfSome files IsText → AreComparable m n → IsProof text budget e → IsEvidenceFor m n budget e
       → count ≡ records_in e → verdict ≡ verdict_of budget e → IfSome files (HasJudged first second proof count verdict)
   accepted_in None budget count e verdict read there comparable says shown counts is = tt
   accepted_in (Some told) budget count e verdict read there comparable says shown counts is = record {
@@ -165,7 +166,7 @@ module _ (m n : Model) (first second proof : Word) (text : List ℕ) where
   }
 
   -- or what its evidence says
-  pub accepted_judged : (old mid : Option Files) (budget count : ℕ) (e : Evidence) (verdict : Verdict) → mid ≡ old → IfSome old (AreRead first second m n) → IfSome mid IsText → AreComparable m n → IsProof text budget e → IsEvidenceFor m n budget e
+  pub accepted_judged : (old mid : Option Files) (budget count : ℕ) (e : Evidence) (verdict : Verdict) → mid ≡ old → IfSome old (AreRead plain_decomposed first second m n) → IfSome mid IsText → AreComparable m n → IsProof text budget e → IsEvidenceFor m n budget e
       → count ≡ records_in e → verdict ≡ verdict_of budget e → IfSome old (HasJudged first second proof count verdict)
   accepted_judged old mid budget count e verdict same read there comparable says shown counts is =
       accepted_in old budget count e verdict read (subst (λ (o : Option Files). IfSome o IsText) same there) comparable says shown counts is

@@ -28,7 +28,7 @@ one_text o text other e f = cc
 
 module _ (once : ReadsOnce) (tell : LongJournalsTell) (input journal output : Word) (told : Files) (model : Model) (few : decomposed model ≤ 65536) (said : Holds told input (λ text. IsSaid text model)) (text : List ℕ) (last : Net) (count : ℕ) (there : file_of told journal ≡ Some text) (accepted : IsAcceptedText model text last count) (long : 2 ^ 62 < length text) where
   good : Holds told input CanBeOptimised
-  good = weaker (file_of told input) (λ t. IsSaid t model) CanBeOptimised said (λ t s. said_good once model t few s)
+  good = weaker (file_of told input) (λ t. IsSaid t model) CanBeOptimised said (λ t s. said_good once decomposed model t few s)
 
   never_passes : (k : ℕ) → HasPassed input journal output k told → ⊥
   never_passes k passed =
@@ -49,10 +49,10 @@ module _ (once : ReadsOnce) (tell : LongJournalsTell) (input journal output : Wo
   differs found other of_files audited = other (too_long found of_files audited)
 
   finds : (p : Problem) → CheckFinds input journal output (Some told) p → p ≡ Limit JournalLimit 4611686018427387905
-  finds (Text kind place) f = absurd (read_finds_none input told (Text kind place) good f)
-  finds (Limit quantity bytes) f = elim f [ inl read ↦ absurd (read_finds_none input told (Limit quantity bytes) good read) | inr over ↦ over.0 ]
+  finds (Text kind place) f = absurd (read_finds_none decomposed input told (Text kind place) good f)
+  finds (Limit quantity bytes) f = elim f [ inl read ↦ absurd (read_finds_none decomposed input told (Limit quantity bytes) good read) | inr over ↦ over.0 ]
   finds Missing f = elim f [
-    | inl read ↦ absurd (read_finds_none input told Missing good read)
+    | inl read ↦ absurd (read_finds_none decomposed input told Missing good read)
     | inr other ↦ elim other [ inl one ↦ absurd (differs audit.NoJournal (λ e. cc) tt one) | inr two ↦ absurd (differs audit.NoOutput (λ e. cc) tt two) ]
   ]
   finds Fault f = absurd f

@@ -10,6 +10,7 @@ use Rattle.equal_evidence.specs.Shown.{IsEvidenceFor}
 use Rattle.equal_evidence.specs.declared.evidence.Evidence.{Evidence}
 use Rattle.equal_miter.specs.Equal.{AreComparable}
 use Rattle.equal_sweep.specs.Decided.{IsDecided}
+use Rattle.cover_decompose.specs.Spelled.{plain_decomposed}
 use Rattle.rambo_cli.specs.Contract.{Contract}
 use Rattle.rambo_cli.specs.Files.{Holds, IfTold}
 use Rattle.rambo_cli.specs.Judge.{IsProved}
@@ -33,7 +34,7 @@ pub record HasDecided (m n : Model) (proof : Word) (settings : Settings) (e : Ev
 pub record HasCompared (first second proof : Word) (settings : Settings) (e : Evidence) (old new : Files) : Type 0 where
   pub model : Model
   pub other : Model
-  pub read : AreRead first second model other old
+  pub read : AreRead plain_decomposed first second model other old
   pub decided : HasDecided model other proof settings e old new
 
 -- over these files `judge A B PROOF` is good, or PROOF is longer than it reads
@@ -52,8 +53,8 @@ EqualDoes first second proof settings old new _ = ⊥
 
 -- what is found of the two texts; or the first place at which the names differ
 abbrev pub EqualFinds : Word → Word → Option Files → Problem → Type 0
-EqualFinds first second files (Unlike list at) = IfSome files (AreUnlike first second list at)
-EqualFinds first second files problem = PairFinds first second files problem
+EqualFinds first second files (Unlike list at) = IfSome files (AreUnlike plain_decomposed first second list at)
+EqualFinds first second files problem = PairFinds plain_decomposed first second files problem
 
 -- nothing has changed, or PROOF holds a beginning of what is written for the models that the texts say
 pub record BeginsCompared (first second proof : Word) (settings : Settings) (old new : Files) : Type 0 where
@@ -74,5 +75,5 @@ equal_contract first second proof settings = record {
   needs_files = true;
   IsGood = λ files. ⊥;
   IsJudged = λ files. ⊥;
-  IsCompared = λ files. IsSomeAnd files (CanBeCompared first second);
+  IsCompared = λ files. IsSomeAnd files (CanBeCompared plain_decomposed first second);
 }

@@ -15,6 +15,7 @@ use Rattle.journal_check.specs.declared.refusal.Why.TheVariants as why
 use Rattle.proof_check.specs.Refusals.{IsJudgeRefused}
 use Rattle.proof_check.specs.declared.refusal.JudgeRefusal.{JudgeRefusal}
 use Rattle.proof_check.specs.declared.refusal.JudgeRefusal.TheVariants as judge
+use Rattle.cover_decompose.specs.Spelled.{plain_decomposed}
 use Rattle.rambo_cli.specs.Contract.{Contract}
 use Rattle.rambo_cli.specs.Files.{Holds}
 use Rattle.rambo_cli.specs.Pairs.{AreRead, AreUnlike, CanBeCompared, PairFinds}
@@ -48,7 +49,7 @@ judge_problem judge.NoMemory = Memory
 
 -- the texts say these models, which have the same names, and PROOF is the text of evidence on them
 pub record HasProof (first second proof : Word) (m n : Model) (budget : ℕ) (e : Evidence) (told : Files) : Type 0 where
-  pub read : AreRead first second m n told
+  pub read : AreRead plain_decomposed first second m n told
   pub names : HaveSameNames m n
   pub proof_is : Holds told proof (λ text. (length text ≤ 2 ^ 62) × IsProof text budget e)
   pub shown : IsEvidenceFor m n budget e
@@ -70,11 +71,11 @@ JudgeDoes first second proof old new _ = ⊥
 
 -- both texts can be optimised, and PROOF isn't there
 abbrev pub HasNoProof : Word → Word → Word → Files → Type 0
-HasNoProof first second proof told = CanBeCompared first second told × (file_of told proof ≡ None)
+HasNoProof first second proof told = CanBeCompared plain_decomposed first second told × (file_of told proof ≡ None)
 
 -- both texts can be optimised, and PROOF has more than 2^62 bytes
 abbrev pub HasLongProof : Word → Word → Word → Files → Type 0
-HasLongProof first second proof told = CanBeCompared first second told × Holds told proof (λ text. 2 ^ 62 < length text)
+HasLongProof first second proof told = CanBeCompared plain_decomposed first second told × Holds told proof (λ text. 2 ^ 62 < length text)
 
 -- PROOF is there, and isn't longer than is read
 abbrev pub IsThere : Word → Files → Type 0
@@ -91,30 +92,30 @@ pub record IsNoEvidence (m n : Model) (text : List ℕ) (found : ProofProblem) :
 pub record IsRefused (first second proof : Word) (found : ProofProblem) (told : Files) : Type 0 where
   pub model : Model
   pub other : Model
-  pub read : AreRead first second model other told
+  pub read : AreRead plain_decomposed first second model other told
   pub proof_is : Holds told proof (λ text. (length text ≤ 2 ^ 62) × IsNoEvidence model other text found)
 
 -- the names of the models that the texts say differ first at this place, and PROOF is there
 abbrev pub HasUnlike : Word → Word → Word → NameList → ℕ → Files → Type 0
-HasUnlike first second proof list at told = AreUnlike first second list at told × IsThere proof told
+HasUnlike first second proof list at told = AreUnlike plain_decomposed first second list at told × IsThere proof told
 
 -- what is found of the two texts; that PROOF isn't there, or is longer than is read; the first place at which the names differ; the
 -- first flaw of PROOF
 abbrev pub JudgeFinds : Word → Word → Word → Option Files → Problem → Type 0
-JudgeFinds first second proof files (Text kind place) = PairFinds first second files (Text kind place)
+JudgeFinds first second proof files (Text kind place) = PairFinds plain_decomposed first second files (Text kind place)
 JudgeFinds first second proof files (Limit quantity count) =
-    PairFinds first second files (Limit quantity count)
+    PairFinds plain_decomposed first second files (Limit quantity count)
     ⊎ ((Limit quantity count ≡ Limit JournalLimit 4611686018427387905) × IfSome files (HasLongProof first second proof))
-JudgeFinds first second proof files Missing = PairFinds first second files Missing ⊎ IsSomeAnd files (HasNoProof first second proof)
-JudgeFinds first second proof files (Second found) = PairFinds first second files (Second found)
+JudgeFinds first second proof files Missing = PairFinds plain_decomposed first second files Missing ⊎ IsSomeAnd files (HasNoProof first second proof)
+JudgeFinds first second proof files (Second found) = PairFinds plain_decomposed first second files (Second found)
 JudgeFinds first second proof files (Unlike list at) = IfSome files (HasUnlike first second proof list at)
 JudgeFinds first second proof files (Proof found) = IfSome files (IsRefused first second proof found)
 JudgeFinds first second proof files _ = ⊥
 
 -- both texts can be optimised, their models have the same names, and PROOF is there, whatever it holds
 pub record CanBeJudged (first second proof : Word) (told : Files) : Type 0 where
-  pub pair : CanBeCompared first second told
-  pub names : (m n : Model) → AreRead first second m n told → HaveSameNames m n
+  pub pair : CanBeCompared plain_decomposed first second told
+  pub names : (m n : Model) → AreRead plain_decomposed first second m n told → HaveSameNames m n
   pub proof_is : IsThere proof told
 
 -- PROOF is the text of evidence on the models that the texts say

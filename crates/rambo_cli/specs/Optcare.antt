@@ -117,7 +117,7 @@ pub record HasCared (m c : Model) (output tests : Word) (settings : Settings) (f
 pub record HasCaredFor (input care output tests : Word) (settings : Settings) (figures : CareFigures) (old new : Files) : Type 0 where
   pub model : Model
   pub cares : Model
-  pub read : AreRead input care model cares old
+  pub read : AreRead decomposed input care model cares old
   pub cared : HasCared model cares output tests settings figures old new
 
 abbrev pub OptcareDoes : Word → Word → Word → Word → Settings → Option Files → Option Files → Done → Type 0
@@ -135,14 +135,14 @@ Misfits m c _ = ⊥
 pub record AreMisfit (input care : Word) (problem : Problem) (told : Files) : Type 0 where
   pub model : Model
   pub cares : Model
-  pub read : AreRead input care model cares told
+  pub read : AreRead decomposed input care model cares told
   pub misfits : Misfits model cares problem
 
 -- what is found of the two texts; or that the second is no care model for the first
 abbrev pub OptcareFinds : Word → Word → Option Files → Problem → Type 0
 OptcareFinds input care files (Unlike list at) = IfSome files (AreMisfit input care (Unlike list at))
 OptcareFinds input care files CareShape = IfSome files (AreMisfit input care CareShape)
-OptcareFinds input care files problem = PairFinds input care files problem
+OptcareFinds input care files problem = PairFinds decomposed input care files problem
 
 -- TESTS holds a beginning of its text, and the output is as it was; or TESTS is whole, and the output holds a beginning of its text
 abbrev pub BeginsFiles : Word → Word → List ℕ → List ℕ → Files → Files → Type 0
@@ -152,7 +152,7 @@ BeginsFiles output tests recorded written old new =
 pub record BeginsCared (input care output tests : Word) (settings : Settings) (old new : Files) : Type 0 where
   pub model : Model
   pub cares : Model
-  pub read : AreRead input care model cares old
+  pub read : AreRead decomposed input care model cares old
   pub figures : CareFigures
   pub recorded : List ℕ
   pub written : List ℕ
@@ -171,5 +171,5 @@ optcare_contract input care output tests settings = record {
   needs_files = true;
   IsGood = λ files. ⊥;
   IsJudged = λ files. ⊥;
-  IsCompared = λ files. IsSomeAnd files (CanBeCompared input care);
+  IsCompared = λ files. IsSomeAnd files (CanBeCompared decomposed input care);
 }

@@ -27,7 +27,7 @@ pub record HasFault (text : List ℕ) (kind : FaultKind) (place : Place) : Type 
   pub short : length text ≤ most_bytes
   pub fault : first_fault text ≡ Some (Fault kind place)
 
--- a quantity of the text is over its limit: its length, one of its first fault, or the wires of the decomposition
+-- a quantity of the text is over its limit: its length, one of its first fault, or the wires of the decomposition, which are counted so
 pub record IsLong (text : List ℕ) (quantity : Quantity) (count : ℕ) : Type 0 where
   pub long : most_bytes < length text
   pub named : quantity ≡ Text
@@ -38,14 +38,17 @@ pub record ExceedsAt (text : List ℕ) (quantity : Quantity) (count : ℕ) : Typ
   pub place : Place
   pub fault : first_fault text ≡ Some (Limit quantity count place)
 
-pub record HasManyPins (text : List ℕ) (quantity : Quantity) (count : ℕ) : Type 0 where
+pub record HasManyPins (wires : Model → ℕ) (text : List ℕ) (quantity : Quantity) (count : ℕ) : Type 0 where
   pub short : length text ≤ most_bytes
   pub model : Model
   pub faultless : first_fault text ≡ None
   pub reads : Reads (lines_of text) model
-  pub many : most_pins < decomposed model
+  pub many : most_pins < wires model
   pub named : quantity ≡ Pins
-  pub counted : count ≡ decomposed model
+  pub counted : count ≡ wires model
+
+abbrev pub ExceedsBy : (Model → ℕ) → List ℕ → Quantity → ℕ → Type 0
+ExceedsBy wires text quantity count = IsLong text quantity count ⊎ (ExceedsAt text quantity count ⊎ HasManyPins wires text quantity count)
 
 abbrev pub Exceeds : List ℕ → Quantity → ℕ → Type 0
-Exceeds text quantity count = IsLong text quantity count ⊎ (ExceedsAt text quantity count ⊎ HasManyPins text quantity count)
+Exceeds = ExceedsBy decomposed

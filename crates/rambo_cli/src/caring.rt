@@ -24,7 +24,7 @@ ghost use Rattle.rambo_cli.specs.Problems.{KeepsFiles};
 
 use crate::laws::cared_nets_are_written;
 use crate::optimising::replace;
-use crate::pairs::{Pair, read_pair};
+use crate::pairs::{Pair, Parities, read_pair};
 use crate::problem::Problem;
 use crate::summary::CareFigures;
 use care_opt::{CareDone, optimise_care};
@@ -245,7 +245,14 @@ pub(crate) fn optimise_cared<S: Shelf>(
     ensures safe { IfTold (S.files shelf.old) (S.files shelf.new) (BeginsToCare names.now.input.now names.now.care.now names.now.output.now names.now.tests.now settings.now) }
     ensures later { S.faults shelf.old ≤ S.faults shelf.new }
 {
-    let pair = read_pair(alloc, keys, shelf, names.input, names.care)?;
+    let pair = read_pair(
+        alloc,
+        keys,
+        shelf,
+        Parities::AsGates,
+        names.input,
+        names.care,
+    )?;
     let cared = cared_of(alloc, keys, &pair, settings)?;
     write_cared(
         alloc,

@@ -1,7 +1,7 @@
 //! The command `equal`.
 ghost use Rattle.std.specs.Prelude.{◌≡◌, ◌≤◌, ◌+◌, ◌^◌, IfErr, IfOk, OnOk, length};
-ghost use Rattle.cover_decompose.specs.Count.{decomposed};
 ghost use Rattle.cover_decompose.specs.Limits.{most_pins};
+ghost use Rattle.cover_decompose.specs.Spelled.{plain_decomposed};
 ghost use Rattle.equal_evidence.specs.Evidence.{IsWritable, IsWritten};
 ghost use Rattle.equal_evidence.specs.Shown.{IsEvidenceFor};
 ghost use Rattle.equal_miter.specs.Equal.{AreComparable};
@@ -18,7 +18,7 @@ ghost use Rattle.rambo_cli.specs.Inner.Written.{IsUsable};
 ghost use Rattle.rambo_cli.specs.Problems.{KeepsFiles};
 
 use crate::optimising::replace;
-use crate::pairs::{Pair, read_pair};
+use crate::pairs::{Pair, Parities, read_pair};
 use crate::problem::Problem;
 use crate::verdict::verdict_of;
 use crate::work::Done;
@@ -46,8 +46,8 @@ fn decide_pair(
 ) -> Result<Evidence, Problem>
     requires usable { IsUsable pair.now.model }
     requires second_usable { IsUsable pair.now.other }
-    requires few { decomposed pair.now.model ≤ most_pins }
-    requires second_few { decomposed pair.now.other ≤ most_pins }
+    requires few { plain_decomposed pair.now.model ≤ most_pins }
+    requires second_few { plain_decomposed pair.now.other ≤ most_pins }
     requires settings { AreSettings settings.now }
     ensures comparable { OnOk result (AreComparable pair.now.model pair.now.other) }
     ensures evidence { IfOk result (IsEvidenceFor pair.now.model pair.now.other settings.now.budget) }
@@ -85,7 +85,14 @@ pub(crate) fn compare<S: Shelf>(
     ensures safe { IfTold (S.files shelf.old) (S.files shelf.new) (BeginsToCompare names.now.first.now names.now.second.now names.now.proof.now settings.now) }
     ensures later { S.faults shelf.old ≤ S.faults shelf.new }
 {
-    let pair = read_pair(alloc, keys, shelf, names.first, names.second)?;
+    let pair = read_pair(
+        alloc,
+        keys,
+        shelf,
+        Parities::ByRows,
+        names.first,
+        names.second,
+    )?;
     let evidence = decide_pair(alloc, keys, &pair, settings)?;
     let text = write_evidence(alloc, settings.budget, &evidence)?;
     replace(shelf, names.proof, text.as_slice())?;

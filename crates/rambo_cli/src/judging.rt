@@ -1,7 +1,7 @@
 //! The command `judge`.
 ghost use Rattle.std.specs.Prelude.{◌≡◌, ◌≤◌, ◌^◌, IfErr, IfOk, IfSome, OnOk, length};
-ghost use Rattle.cover_decompose.specs.Count.{decomposed};
 ghost use Rattle.cover_decompose.specs.Limits.{most_pins};
+ghost use Rattle.cover_decompose.specs.Spelled.{plain_decomposed};
 ghost use Rattle.equal_evidence.specs.Evidence.{IsProof};
 ghost use Rattle.equal_evidence.specs.Shown.{IsEvidenceFor};
 ghost use Rattle.equal_miter.specs.Equal.{AreComparable};
@@ -12,7 +12,7 @@ ghost use Rattle.rambo_cli.specs.Inner.Written.{IsUsable};
 ghost use Rattle.rambo_cli.specs.Judge.{JudgeDoes, JudgeFinds};
 
 use crate::comparing::EqualNames;
-use crate::pairs::{Pair, read_pair};
+use crate::pairs::{Pair, Parities, read_pair};
 use crate::problem::Problem;
 use crate::reading::bytes_of;
 use crate::verdict::{records_in, verdict_of};
@@ -48,8 +48,8 @@ fn read_proof<S: Shelf>(shelf: &mut S, proof: &str) -> Result<Vec<u8>, Problem>
 fn weigh_proof(alloc: Global, keys: NameKeys, pair: &Pair, text: &[u8]) -> Result<Judged, Problem>
     requires usable { IsUsable pair.now.model }
     requires second_usable { IsUsable pair.now.other }
-    requires few { decomposed pair.now.model ≤ most_pins }
-    requires second_few { decomposed pair.now.other ≤ most_pins }
+    requires few { plain_decomposed pair.now.model ≤ most_pins }
+    requires second_few { plain_decomposed pair.now.other ≤ most_pins }
     ensures comparable { OnOk result (AreComparable pair.now.model pair.now.other) }
     ensures says { IfOk result (λ j. IsProof text.now j.budget j.evidence) }
     ensures shown { IfOk result (λ j. IsEvidenceFor pair.now.model pair.now.other j.budget j.evidence) }
@@ -74,7 +74,14 @@ pub(crate) fn judge_proof<S: Shelf>(
     ensures later { S.faults shelf.old ≤ S.faults shelf.new }
 {
     reads_once();
-    let pair = read_pair(alloc, keys, shelf, names.first, names.second)?;
+    let pair = read_pair(
+        alloc,
+        keys,
+        shelf,
+        Parities::ByRows,
+        names.first,
+        names.second,
+    )?;
     let text = read_proof(shelf, names.proof)?;
     let judged = weigh_proof(alloc, keys, &pair, text.as_slice())?;
     let count = records_in(&judged.evidence);

@@ -1,9 +1,11 @@
 //! Reads the input as a model.
 ghost use Rattle.std.specs.Prelude.{◌≡◌, ◌≤◌, length, IfOk, IfSome, None, Err, take, IfErr, IsSome};
+ghost use Rattle.cover_decompose.specs.Count.{decomposed};
+ghost use Rattle.cover_decompose.specs.Spelled.{plain_decomposed};
 ghost use Rattle.rm_base.specs.Causes.{Rose};
 ghost use Rattle.rm_base.specs.Files.{file_of};
 ghost use Rattle.rambo_cli.specs.Files.{Holds};
-ghost use Rattle.rambo_cli.specs.Input.{ReadCause};
+ghost use Rattle.rambo_cli.specs.Input.{CauseBy, ReadCause};
 ghost use Rattle.rambo_cli.specs.Inner.Problems.{IsOutside, TextCause};
 ghost use Rattle.rambo_cli.specs.Written.{IsSaid};
 ghost use Rattle.rambo_cli.specs.Inner.Written.{IsUsable};
@@ -39,7 +41,8 @@ fn short_model(alloc: Global, keys: NameKeys, text: &[u8]) -> Result<RankedModel
     requires { length text.now ≤ 16777216 }
     ensures said { IfOk result (λ model. IsSaid text.now model) }
     ensures usable { IfOk result IsUsable }
-    ensures cause { IfErr result (TextCause text.now) }
+    ensures cause { IfErr result (TextCause decomposed text.now) }
+    ensures plain_cause { IfErr result (TextCause plain_decomposed text.now) }
 {
     ranks_exist();
     wires_are_bounded();
@@ -54,7 +57,8 @@ fn short_model(alloc: Global, keys: NameKeys, text: &[u8]) -> Result<RankedModel
 fn model_of_text(alloc: Global, keys: NameKeys, text: &[u8]) -> Result<RankedModel, Problem>
     ensures said { IfOk result (λ model. IsSaid text.now model) }
     ensures usable { IfOk result IsUsable }
-    ensures cause { IfErr result (TextCause text.now) }
+    ensures cause { IfErr result (TextCause decomposed text.now) }
+    ensures plain_cause { IfErr result (TextCause plain_decomposed text.now) }
 {
     if text.len() > MOST_BYTES {
         return Err(Problem::Limit {
@@ -75,6 +79,7 @@ pub(crate) fn read_input<S: Shelf>(
     ensures said { IfOk result (λ model. IfSome (S.files shelf.old) (λ told. Holds told input.now (λ text. IsSaid text model))) }
     ensures usable { IfOk result IsUsable }
     ensures cause { IfErr result (ReadCause input.now (S.files shelf.old) (S.faults shelf.old) (S.faults shelf.new)) }
+    ensures plain_cause { IfErr result (CauseBy plain_decomposed input.now (S.files shelf.old) (S.faults shelf.old) (S.faults shelf.new)) }
     ensures files { S.files shelf.new ≡ S.files shelf.old }
     ensures later { S.faults shelf.old ≤ S.faults shelf.new }
 {

@@ -6,7 +6,7 @@ use Rattle.rm_base.specs.declared.numbers.Fault.{Fault}
 use Rattle.rm_base.specs.declared.numbers.NodeId.{NodeId}
 use Rattle.gate_net.proofs.Public.{node_at-other, node_at-there}
 use Rattle.gate_net.specs.declared.Kind.{Kind}
-use Rattle.gate_net.specs.declared.Kind.TheVariants.{Source, Zero, One, And, Or, Not}
+use Rattle.gate_net.specs.declared.Kind.TheVariants.{Not}
 use Rattle.gate_net.specs.Net.{Net, node_at, kind_in, drivers_in, drivers_of, Reads, IsLive, IsWellFormed, wire_count}
 use Rattle.gate_net.specs.Values.{IsJunction, controlling}
 use Rattle.gate_net.specs.Edits.{IsSameBut, with_pin, last_pin}
@@ -27,12 +27,7 @@ use Rattle.rm_base.specs.Numbers.{numbers_of}
 
 -- KINDS
 kind_control : (kind : Kind) → gate_control (Some kind) ≡ controlling kind
-kind_control Source = refl
-kind_control Zero = refl
-kind_control One = refl
-kind_control And = refl
-kind_control Or = refl
-kind_control Not = refl
+kind_control kind = refl
 
 pub junction_control : (net : Net) (y : ℕ) (c : Bool) → IsJunction net y c → control_of net y ≡ Some c
 junction_control net y c (kind, (is, e)) = ap (λ o. gate_control (kind_in o)) is.1 ∙ kind_control kind ∙ e

@@ -3,7 +3,7 @@ use Rattle.std.proofs.Common.{◌≡◌, ℕ, ◌+◌, ◌-◌, ◌<◌, ◌≤�
 use Rattle.std.specs.Prelude.{Ok, nat_lt, if◌then◌else◌}
 use Rattle.gate_net.specs.Values.{same_bool}
 use Rattle.gate_net.specs.Edits.{constant_node, fixed}
-use Rattle.wire_edit.specs.Changes.{remove, readers}
+use Rattle.wire_edit.specs.Changes.{Change}
 use Rattle.wire_edit.specs.Inner.Changes.{nodes_added}
 use Rattle.std.proofs.lemmas.Bool.{lt-ltb}
 use Rattle.std.proofs.lemmas.List.{append-nil, length-append}
@@ -14,13 +14,13 @@ use Rattle.gate_graph.specs.Circuit.{net_of}
 use Rattle.gate_graph.specs.Holds.{HoldsOn}
 use Rattle.refutation.specs.Branches.{AreAccepted}
 use Rattle.refutation.specs.declared.items.Item.{Item}
-use Rattle.wire_edit.proofs.Public.{fix_applies, gate_live, is_live_there, length_budget, next_applies, removal_pins, room_on, room_steps, tidying_removes, wires_grow}
+use Rattle.wire_edit.proofs.Public.{applies_changes, constant_cases, fix_applies, gate_live, is_live_there, length_budget, next_applies, removal_pins, room_on, room_steps, tidying_removes, wires_grow}
 use Rattle.wire_edit.specs.declared.steps.Step.{Step}
 use Rattle.wire_edit.specs.declared.steps.Step.TheVariants.{Add, Fix, NewNot, Const, Same, NoPins, OnePin, Twice, Twin, Dead}
 use Rattle.wire_edit.specs.declared.refusal.EditRefusal.{EditRefusal}
 use Rattle.wire_edit.specs.declared.room.Room.{Room}
-use Rattle.wire_edit.specs.Tests.{is_live, control_of, constant_at}
-use Rattle.wire_edit.specs.Steps.{Applies, stepped, change_of, constant_change}
+use Rattle.wire_edit.specs.Tests.{is_live, is_xor, control_of, constant_at, family_of}
+use Rattle.wire_edit.specs.Steps.{Applies, stepped, change_of, other_driver, same_change}
 use Rattle.wire_edit.specs.Refusals.{refusal_of, room_after, IsAnswer}
 use Rattle.wire_edit.specs.Laws.{IsTidying}
 use Rattle.wire_edit.specs.Tried.{Tried, start_of, Tidies}
@@ -29,7 +29,7 @@ use Rattle.journal_text.specs.declared.record.Record.{Record}
 use Rattle.journal_text.specs.Accepted.{IsJustified, MayGrow, IsAcceptedStep}
 use Rattle.journal_text.specs.Runs.{steps_of, AreRemovals}
 use Rattle.rar_loop.specs.Inner.Going.{Logs, IsLeft, IsNoLarger, Tallies, Goes}
-use Rattle.rar_loop.proofs.Sizing.{no_gates}
+use Rattle.rar_loop.proofs.Sizing.{no_gates, turns_xor}
 use Rattle.journal_text.proofs.Public.{accepted_then}
 use Rattle.wire_edit.specs.Removals.{HasFreePin, IsRemoval}
 use Rattle.journal_text.specs.declared.record.Record.TheVariants as record_of
@@ -56,21 +56,16 @@ pub logs_one : (net : Net) (step : Step) (tree : List Item) (log new : List Reco
 logs_one net step tree log new accepted removal is = record { more = record_of.Step step tree ∷ []; added = is; accepted = (accepted, refl); removals = (removal, tt) }
 
 -- SIZES
-nodes_constant : (gate p : ℕ) (control constant : Option Bool) → nodes_added (constant_change gate p control constant) ≡ 0
-nodes_constant gate p control None = refl
-nodes_constant gate p None (Some b) = refl
-nodes_constant gate p (Some c) (Some b) = at (same_bool b c)
-  where
-    at : (t : Bool) → nodes_added (if t then readers gate (constant_node c) else remove gate p) ≡ 0
-    at true = refl
-    at false = refl
+nodes_same : (gate p : ℕ) (at_xor : Bool) → nodes_added (same_change gate p at_xor) ≡ 0
+nodes_same gate p true = refl
+nodes_same gate p false = refl
 
 removal_nodes : (net : Net) (step : Step) → IsRemoval step → nodes_added (change_of net step) ≡ 0
 removal_nodes net (Add gate y) r = absurd r
 removal_nodes net (Fix gate position value) r = refl
 removal_nodes net (NewNot y) r = absurd r
-removal_nodes net (Const gate position) r = nodes_constant gate.0 position (control_of net gate.0) (constant_at net gate.0 position)
-removal_nodes net (Same gate position) r = refl
+removal_nodes net (Const gate position) r = constant_cases (λ (c : Change). nodes_added c ≡ 0) gate.0 position (other_driver net gate.0 position) (family_of net gate.0) (constant_at net gate.0 position) refl refl (λ to. refl)
+removal_nodes net (Same gate position) r = nodes_same gate.0 position (is_xor net gate.0)
 removal_nodes net (NoPins gate) r = refl
 removal_nodes net (OnePin gate) r = refl
 removal_nodes net (Twice gate) r = refl
@@ -87,7 +82,7 @@ pub no_larger : (net : Net) (step : Step) → IsWellFormed net → Applies net s
 no_larger net step well applies r =
     let w : wire_count (stepped net step) ≤ wire_count net + pins_made step = wires_grow net step well applies in
     let none : pins_made step ≡ 0 = removal_pins step r in
-    record { wires = omega (arith, w, none); gates = no_gates net step (removal_nodes net step r); numbers = no_nodes net step r }
+    record { wires = omega (arith, w, none); gates = no_gates net step (turns_xor net (change_of net step) (applies_changes net step well applies)) (removal_nodes net step r); numbers = no_nodes net step r }
 
 -- TALLIES
 pub tallies_none : (t : Tried) (log : List Record) → Tallies t t log log

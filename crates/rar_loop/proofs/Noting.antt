@@ -6,23 +6,28 @@ use Rattle.std.proofs.lemmas.Bool.Decides.{eqb_tells}
 use Rattle.std.proofs.lemmas.Option.{slice_get-map}
 use Rattle.fault_sim.proofs.Public.{unread_same}
 use Rattle.rm_base.specs.declared.numbers.NodeId.{NodeId}
-use Rattle.gate_net.proofs.Public.{drivers_redirected, node_at-moved, node_at-other}
-use Rattle.gate_net.specs.Edits.{DiffersAt, IsSameBut, constant_node, node_redirected, redirected, with_drivers, with_readers_moved}
-use Rattle.gate_net.specs.Net.{Net, source_count, Node, Reads, drivers_in, drivers_of, node_at}
+use Rattle.gate_net.proofs.Public.{drivers_redirected, node_at-moved, node_at-other, with_node-other}
+use Rattle.gate_net.specs.Edits.{DiffersAt, IsSameBut, constant_node, node_redirected, redirected, with_drivers, with_readers_moved, without}
+use Rattle.gate_net.specs.Net.{Net, source_count, Node, Reads, drivers_in, drivers_of, kind_in, node_at}
 use Rattle.gate_net.specs.Values.{same_bool}
+use Rattle.gate_net.specs.declared.Family.{Family}
+use Rattle.gate_net.specs.declared.Family.TheVariants.{Constant, Input, Junction, Parity}
+use Rattle.gate_net.specs.declared.Kind.{Kind}
+use Rattle.gate_net.specs.declared.Kind.TheVariants.{And, Not, One, Or, Source, Xor, Zero}
 use Rattle.gate_graph.specs.Changes.{Edits}
 use Rattle.gate_graph.specs.Circuit.{Circuit, net_of}
-use Rattle.wire_edit.proofs.Public.{applies_changes}
-use Rattle.wire_edit.specs.Changes.{Change, append, remove, fix, readers, new_not, retire}
+use Rattle.wire_edit.proofs.Public.{applies_changes, constant_cases}
+use Rattle.wire_edit.specs.Changes.{Change, append, remove, fix, readers, new_not, retire, to_not}
+use Rattle.wire_edit.specs.Inner.Changes.{CanChange}
 use Rattle.wire_edit.specs.Edited.{edit_of, IsNewNot}
 use Rattle.wire_edit.specs.Laws.{IsTidying}
-use Rattle.wire_edit.specs.Steps.{change_of, constant_change, empty_node, or_zero}
-use Rattle.wire_edit.specs.Tests.{constant_at, control_of, driver_at, second_driver}
+use Rattle.wire_edit.specs.Steps.{change_of, constant_change, empty_node, or_zero, other_driver, same_change}
+use Rattle.wire_edit.specs.Tests.{constant_at, control_of, driver_at, family_in, family_of, is_xor, is_xor_kind, other_position, second_driver}
 use Rattle.wire_edit.specs.declared.steps.Step.{Step}
 use Rattle.wire_edit.specs.declared.steps.Step.TheVariants.{Add, Fix, NewNot, Const, Same, NoPins, OnePin, Twice, Twin, Dead}
 use Rattle.fault_sim.specs.Following.{DiffersAmong}
 use Rattle.rar_loop.specs.declared.changes.Changed.{Changed}
-use Rattle.rar_loop.specs.Inner.Changing.{AreNoted, HasListed, HasNoted, IsNoted, IsUnlisted, ListsNoted, NotesOn}
+use Rattle.rar_loop.specs.Inner.Changing.{AreNoted, HasListed, HasNoted, IsNoted, IsUnlisted, ListsNoted, NotesOn, passed_driver}
 use Rattle.rar_loop.specs.Inner.Spaces.{TouchesOn}
 use Rattle.rm_base.specs.Numbers.{numbers_of}
 use Rattle.wire_edit.specs.Removals.{ReadsNoConstants}
@@ -95,6 +100,7 @@ Covers (fix gate position value) gates homes = IsUnlisted gates gate → ⊥
 Covers (readers from to) gates homes = 1 < to → IsUnlisted homes to → ⊥
 Covers (new_not driver) gates homes = ⊥
 Covers (retire gate) gates homes = IsUnlisted gates gate → ⊥
+Covers (to_not gate position) gates homes = IsUnlisted gates gate → ⊥
 
 driven : (net after : Net) (gate : ℕ) (drivers gates homes : List ℕ) → (IsUnlisted gates gate → ⊥) → after ≡ with_drivers net gate drivers → IsNoted net after gates homes
 driven net after gate drivers gates homes covers is x unlisted none =
@@ -107,16 +113,16 @@ edit_noted v w (fix gate position value) gates homes covers edits = driven (net_
 edit_noted v w (readers from to) gates homes covers edits = subst (λ (n : Net). IsNoted (net_of v) n gates homes) (sym edits.0) (moved_same (net_of v) from to gates homes covers)
 edit_noted v w (new_not driver) gates homes covers edits = absurd covers
 edit_noted v w (retire gate) gates homes covers edits = λ x unlisted none. edits.0.0.others x (λ same. covers (subst (IsUnlisted gates) same unlisted))
+edit_noted v w (to_not gate position) gates homes covers edits = λ x unlisted none.
+    ap (λ (n : Net). node_at n x) edits.0 ∙ with_node-other (net_of v) gate (record { kind = Not; drivers = without (drivers_of (net_of v) gate) position }) x (λ same. covers (subst (IsUnlisted gates) same unlisted))
 
 -- STEPS
-pub const_covers : (gate p : ℕ) (control constant : Option Bool) (gates homes : List ℕ) → (IsUnlisted gates gate → ⊥) → Covers (constant_change gate p control constant) gates homes
-const_covers gate p control None gates homes covers = covers
-const_covers gate p None (Some b) gates homes covers = λ lt. absurd (low (not b) lt)
-  where
-    low : (c : Bool) → 1 < constant_node c → ⊥
-    low true lt = omega (arith, lt)
-    low false lt = omega (arith, lt)
-const_covers gate p (Some c) (Some b) gates homes covers = at (same_bool b c)
+pub const_covers : (gate p other : ℕ) (family : Family) (constant : Option Bool) (gates homes : List ℕ) → (IsUnlisted gates gate → ⊥)
+    → (family ≡ Parity false → constant ≡ Some false → 1 < other → IsUnlisted homes other → ⊥) → Covers (constant_change gate p other family constant) gates homes
+const_covers gate p other family None gates homes covers passes = covers
+const_covers gate p other Input (Some b) gates homes covers passes = covers
+const_covers gate p other (Constant c) (Some b) gates homes covers passes = covers
+const_covers gate p other (Junction c) (Some b) gates homes covers passes = at (same_bool b c)
   where
     low : (d : Bool) → 1 < constant_node d → ⊥
     low true lt = omega (arith, lt)
@@ -125,6 +131,17 @@ const_covers gate p (Some c) (Some b) gates homes covers = at (same_bool b c)
     at : (t : Bool) → Covers (if t then readers gate (constant_node c) else remove gate p) gates homes
     at true = λ lt. absurd (low c lt)
     at false = covers
+const_covers gate p other (Parity true) (Some b) gates homes covers passes = λ lt. absurd (low (not b) lt)
+  where
+    low : (c : Bool) → 1 < constant_node c → ⊥
+    low true lt = omega (arith, lt)
+    low false lt = omega (arith, lt)
+const_covers gate p other (Parity false) (Some true) gates homes covers passes = covers
+const_covers gate p other (Parity false) (Some false) gates homes covers passes = passes refl refl
+
+pub same_covers : (gate p : ℕ) (at_xor : Bool) (gates homes : List ℕ) → (IsUnlisted gates gate → ⊥) → Covers (same_change gate p at_xor) gates homes
+same_covers gate p true gates homes covers = λ lt. absurd (omega (arith, lt))
+same_covers gate p false gates homes covers = covers
 
 pub empty_covers : (gate : ℕ) (control : Option Bool) (gates homes : List ℕ) → Covers (readers gate (empty_node control)) gates homes
 empty_covers gate None gates homes lt = absurd (omega (arith, lt))
@@ -171,6 +188,41 @@ second_home net after gate found gates homes is ne tells listed = at (driver_at 
         let z : to ≡ 0 = ap (λ (o : Option ℕ). or_zero (option_and_then (λ k. driver_at net k 0) o)) e in
         omega (arith, lt, z)
     at (Some m) e lt none = inner m e (driver_at net m 0) refl lt none
+
+-- an Xor stays one where readers move
+xor_family : (o : Option Kind) → family_in o ≡ Parity false → is_xor_kind o ≡ true
+xor_family None e = cc
+xor_family (Some Source) e = cc
+xor_family (Some Zero) e = cc
+xor_family (Some One) e = cc
+xor_family (Some And) e = cc
+xor_family (Some Or) e = cc
+xor_family (Some Not) e = let wrong : true ≡ false = cc in cc
+xor_family (Some Xor) e = refl
+
+kind_still : (from to : ℕ) (o : Option Node) → kind_in (node_redirected from to o) ≡ kind_in o
+kind_still from to None = refl
+kind_still from to (Some n) = refl
+
+xor_still : (net : Net) (from to x : ℕ) → family_of net x ≡ Parity false → is_xor (with_readers_moved net from to) x ≡ true
+xor_still net from to x e = ap is_xor_kind (ap kind_in (node_at-moved net from to x) ∙ kind_still from to (node_at net x)) ∙ xor_family (kind_in (node_at net x)) e
+
+-- the home of an Xor's readers, as the graph afterwards tells it
+pub passed_home : (net after : Net) (gate p : ℕ) (found : Option ℕ) (homes : List ℕ) → after ≡ with_readers_moved net gate (other_driver net gate p) → other_driver net gate p ≢ gate → family_of net gate ≡ Parity false
+    → found ≡ passed_driver after gate p → ((d : ℕ) → found ≡ Some d → IsUnlisted homes d → ⊥) → 1 < other_driver net gate p → IsUnlisted homes (other_driver net gate p) → ⊥
+passed_home net after gate p found homes is ne family tells listed = at (driver_at net gate (other_position p)) refl
+  where
+    to : ℕ
+    to = other_driver net gate p
+
+    at : (o : Option ℕ) → driver_at net gate (other_position p) ≡ o → 1 < to → IsUnlisted homes to → ⊥
+    at None e lt none = let z : to ≡ 0 = ap or_zero e in omega (arith, lt, z)
+    at (Some d) e lt none =
+        let home : to ≡ d = ap or_zero e in
+        let there : driver_at after gate (other_position p) ≡ Some d = ap (λ (n : Net). driver_at n gate (other_position p)) is ∙ driver_still net gate to gate (other_position p) d e (λ same. ne (home ∙ same)) in
+        let xor : is_xor after gate ≡ true = ap (λ (n : Net). is_xor n gate) is ∙ xor_still net gate to gate family in
+        let passed : passed_driver after gate p ≡ Some d = rw xor there in
+        listed d (tells ∙ passed) (subst (IsUnlisted homes) home none)
 
 -- NOTES
 -- a step's change is noted where the new lists have the old ones and what the change changes
@@ -249,22 +301,48 @@ empty_noted w gate same v well applies none edits =
 pub not_noted : (w : Circuit) (x : NodeId) (same : Changed) → HasNoted (NewNot x) w same same
 not_noted w x same v well applies none edits = absurd (none tt)
 
--- tidying makes no node
-const_no_not : (gate p : ℕ) (control constant : Option Bool) → IsNewNot (constant_change gate p control constant) → ⊥
-const_no_not gate p control None n = n
-const_no_not gate p None (Some b) n = n
-const_no_not gate p (Some c) (Some b) n = at (same_bool b c) n
+pub same_noted : (w : Circuit) (gate : NodeId) (position : ℕ) (old new : Changed) → HasListed old.gates.items new.gates.items gate.0 → new.homes.items ≡ old.homes.items → HasNoted (Same gate position) w old new
+same_noted w gate position old new listed homes = gate_noted w (Same gate position) gate.0 old new (λ net gates homes covers. same_covers gate.0 position (is_xor net gate.0) gates homes covers) listed homes
+
+pub const_noted : (w : Circuit) (gate : NodeId) (position : ℕ) (found : Option NodeId) (old mid new : Changed) → option_map (λ (n : NodeId). n.0) found ≡ passed_driver (net_of w) gate.0 position
+    → HasListed old.gates.items mid.gates.items gate.0 → mid.homes.items ≡ old.homes.items → new.gates.items ≡ mid.gates.items
+    → ((node : NodeId) → found ≡ Some node → HasListed mid.homes.items new.homes.items node.0) → (found ≡ None → new.homes.items ≡ mid.homes.items) → HasNoted (Const gate position) w old new
+const_noted w gate position found old mid new tells listed homes gates some none v well applies not_new edits =
+    notes_step v w change old new (λ y u. (listed y (earlier y u)).0)
+    (λ y u. subst (λ (ns : List NodeId). IsUnlisted (numbers_of ns) y) homes (homes_more found mid.homes.items new.homes.items some none y u))
+    (const_covers gate.0 position other (family_of (net_of v) gate.0) (constant_at (net_of v) gate.0 position) (numbers_of new.gates.items) (numbers_of new.homes.items)
+    (λ u. (listed gate.0 (earlier gate.0 u)).1 refl) passes) edits
   where
-    at : (t : Bool) → IsNewNot (if t then readers gate (constant_node c) else remove gate p) → ⊥
-    at true n = n
-    at false n = n
+    change : Change
+    change = change_of (net_of v) (Const gate position)
+
+    other : ℕ
+    other = other_driver (net_of v) gate.0 position
+
+    earlier : (y : ℕ) → IsUnlisted (numbers_of new.gates.items) y → IsUnlisted (numbers_of mid.gates.items) y
+    earlier y u = subst (λ (ns : List NodeId). IsUnlisted (numbers_of ns) y) gates u
+
+    passes : family_of (net_of v) gate.0 ≡ Parity false → constant_at (net_of v) gate.0 position ≡ Some false → 1 < other → IsUnlisted (numbers_of new.homes.items) other → ⊥
+    passes family constant =
+        let moves : change ≡ readers gate.0 other =
+        ap (λ (f : Family). constant_change gate.0 position other f (constant_at (net_of v) gate.0 position)) family
+        ∙ ap (λ (o : Option Bool). constant_change gate.0 position other (Parity false) o) constant in
+        let made = subst (λ (c : Change). Edits v (edit_of c) w) moves edits in
+        let can = subst (λ (c : Change). CanChange (net_of v) c) moves (applies_changes (net_of v) (Const gate position) well applies) in
+        passed_home (net_of v) (net_of w) gate.0 position (option_map (λ (n : NodeId). n.0) found) (numbers_of new.homes.items) made.0 can.1.1.0 family tells
+        (homes_have found mid.homes.items new.homes.items some)
+
+-- tidying makes no node
+same_no_not : (gate p : ℕ) (at_xor : Bool) → IsNewNot (same_change gate p at_xor) → ⊥
+same_no_not gate p true n = n
+same_no_not gate p false n = n
 
 pub tidying_no_not : (net : Net) (step : Step) → IsTidying step → IsNewNot (change_of net step) → ⊥
 tidying_no_not net (Add gate y) t n = n
 tidying_no_not net (Fix gate position value) t n = n
 tidying_no_not net (NewNot y) t n = absurd t
-tidying_no_not net (Const gate position) t n = const_no_not gate.0 position (control_of net gate.0) (constant_at net gate.0 position) n
-tidying_no_not net (Same gate position) t n = n
+tidying_no_not net (Const gate position) t n = constant_cases (λ (c : Change). IsNewNot c → ⊥) gate.0 position (other_driver net gate.0 position) (family_of net gate.0) (constant_at net gate.0 position) (λ m. m) (λ m. m) (λ to m. m) n
+tidying_no_not net (Same gate position) t n = same_no_not gate.0 position (is_xor net gate.0) n
 tidying_no_not net (NoPins gate) t n = n
 tidying_no_not net (OnePin gate) t n = n
 tidying_no_not net (Twice gate) t n = n

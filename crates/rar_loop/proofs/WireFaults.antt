@@ -6,7 +6,7 @@ use Rattle.std.proofs.lemmas.Bool.Decides.{eqb_tells}
 use Rattle.std.proofs.lemmas.Bool.{eq-eqb}
 use Rattle.std.proofs.Math.Bool.{not-not}
 use Rattle.rm_base.specs.declared.numbers.Fault.{Fault}
-use Rattle.gate_net.proofs.Public.{controlled, gate_more, node_at-other, node_at-there, reads_elsewhere, reads_there, value_at, values_unique}
+use Rattle.gate_net.proofs.Public.{controlled, gate_more, node_at-other, node_at-there, not_is, reads_elsewhere, reads_there, value_at, values_unique}
 use Rattle.gate_net.specs.Net.{Net, node_at, drivers_in, drivers_of, Reads, IsLive, IsObserved, IsWellFormed}
 use Rattle.gate_net.specs.Values.{AreGoodValues, AreFaultyValues, Detects, IsJunction, IsRun, faulty_reads, gate_value, node_value}
 use Rattle.gate_net.specs.Edits.{with_pin, last_pin}
@@ -96,7 +96,7 @@ module _ (net : Net) (x : ℕ) (well : IsWellFormed net) (live : IsLive net x) w
   reads_same v y = map_agree (with_not_value net x v) v (drivers_of net y) (λ p d reads. value_old v d (λ e. well.drivers_live y p d reads (ap (node_at net) e ∙ least_dead net)))
 
   not_value_of : (o : Bool) (v : ℕ → Bool) → node_value (node_at more n) o (map (with_not_value net x v) (drivers_of more n)) ≡ not (v x)
-  not_value_of o v = ap (λ m. node_value m o (map (with_not_value net x v) (drivers_in m))) (not_there net x) ∙ ap not (value_old v x (live_apart net x live))
+  not_value_of o v = ap (λ m. node_value m o (map (with_not_value net x v) (drivers_in m))) (not_there net x) ∙ not_is (with_not_value net x v x) ∙ ap not (value_old v x (live_apart net x live))
 
   not_good : (a v : ℕ → Bool) → AreGoodValues net a v → AreGoodValues more a (with_not_value net x v)
   not_good a v good k = elim (eqb_tells k n) [

@@ -3,11 +3,13 @@ ghost use Rattle.std.specs.Prelude.{◌≡◌, ◌<◌, ℕ, IfOk, OnOk, None, S
 ghost use Rattle.gate_graph.specs.Circuit.{net_of};
 ghost use Rattle.gate_net.specs.Edits.{DiffersAt};
 ghost use Rattle.gate_net.specs.Net.{IsLive, Net, Reads};
-ghost use Rattle.wire_edit.specs.Tests.{second_driver};
-ghost use Rattle.rar_loop.specs.Inner.Changing.{AreNoted, HasListed, HasNoted, IsUnlisted, ListsNoted, NotesOn};
+ghost use Rattle.wire_edit.specs.Tests.{is_xor, other_position, second_driver};
+ghost use Rattle.wire_edit.specs.declared.steps.Step.TheVariants.{Const};
+ghost use Rattle.rar_loop.specs.Inner.Changing.{AreNoted, HasListed, HasNoted, IsUnlisted, ListsNoted, NotesOn, passed_driver};
 ghost use Rattle.rm_base.specs.Numbers.{numbers_of};
 
 use gate_graph::Graph;
+use gate_net::Kind;
 use rm_base::{NoMemory, NodeId};
 use std::alloc::Global;
 use wire_edit::Step;
@@ -36,6 +38,30 @@ fn second_driver(graph: &Graph, gate: NodeId) -> Option<NodeId>
         Some(inner) => graph.driver(inner, 0),
         None => None,
     }
+}
+
+// Whether the node is an Xor.
+fn is_xor(graph: &Graph, node: NodeId) -> bool
+    ensures { result ≡ is_xor (net_of graph.now) node.0 }
+{
+    graph.kind(node) == Some(Kind::Xor)
+}
+
+// The position of the other of two pins.
+fn other_position(position: u32) -> u32
+    ensures { result ≡ other_position position }
+{
+    if position == 0 { 1 } else { 0 }
+}
+
+// The driver of an Xor's other pin, which its readers have instead where the one reads a 0.
+fn passed_driver(graph: &Graph, gate: NodeId, position: u32) -> Option<NodeId>
+    ensures { option_map (λ n. n.0) result ≡ passed_driver (net_of graph.now) gate.0 position }
+{
+    if is_xor(graph, gate) {
+        return graph.driver(gate, other_position(position));
+    }
+    None
 }
 
 // Adds the readers of a node.
@@ -92,6 +118,14 @@ impl Changed {
         }
     }
 
+    // Notes a gate whose pin read a constant, and where its readers may have moved.
+    fn note_constant(&mut self, graph: &Graph, gate: NodeId, position: u32) -> Result<(), NoMemory>
+        ensures { OnOk result (HasNoted (Const gate position) graph.now self.old self.new) }
+    {
+        self.note_gate(gate)?;
+        self.note_home(passed_driver(graph, gate, position))
+    }
+
     /// Notes what a step changed, by the graph after it. A new Not is noted by its number.
     pub(crate) fn note(&mut self, graph: &Graph, step: Step) -> Result<(), NoMemory>
         ensures { OnOk result (HasNoted step graph.now self.old self.new) }
@@ -104,7 +138,7 @@ impl Changed {
                 value: _,
             } => self.note_gate(gate),
             Step::NewNot { node: _ } => Ok(()),
-            Step::Const { gate, position: _ } => self.note_gate(gate),
+            Step::Const { gate, position } => self.note_constant(graph, gate, position),
             Step::Same { gate, position: _ } => self.note_gate(gate),
             Step::NoPins { gate: _ } => Ok(()),
             Step::OnePin { gate } => self.note_home(graph.driver(gate, 0)),

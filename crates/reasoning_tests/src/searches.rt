@@ -173,6 +173,30 @@ const ON_A_LATE_PIN: [Case; 4] = [
     hit!(13 0 false 4 [false false true false]),
 ];
 
+// (a differs from b) c.
+const PARITY_FIRST: Wiring<'static> = Wiring {
+    sources: 3,
+    gates: &[Gate::Xor(2, 3), Gate::And(&[5, 4])],
+    observed: &[6],
+};
+
+// What a search wants of an Xor, by the rule: as it goes back, the value stays at the first unknown pin, and is turned where the
+// other pin is 1; and the other pin of an Xor to which the difference has come is to be 0.
+const ON_PARITY_FIRST: [Case; 8] = [
+    // 5 is to be 1: a = 1, and then, as a is 1, b = 0. Then c = 1 lets it on.
+    tree!(Spent 6 0 false 2 [one 2, zero 3, here, untried, untried]),
+    hit!(6 0 false 3 [true false true]),
+    // 5 is to be 0: a = 0, and then b = 0.
+    tree!(Spent 6 0 true 2 [zero 2, zero 3, here, untried, untried]),
+    hit!(6 0 true 3 [false false true]),
+    // a is to be 1. The Xor is open: b = 0, and then c = 1.
+    tree!(Spent 5 0 false 2 [one 2, zero 3, here, untried, untried]),
+    hit!(5 0 false 3 [true false true]),
+    // b is to be 0. The Xor is open at its first pin: a = 0.
+    tree!(Spent 5 1 true 2 [zero 3, zero 2, here, untried, untried]),
+    hit!(5 1 true 3 [false false true]),
+];
+
 // The net after the edit.
 fn net_with_late_pin(alloc: Global) -> Result<Graph, Fail> {
     let mut graph = build_net(alloc, &BEFORE_THE_EDIT)?;
@@ -260,6 +284,13 @@ fn searches_on_four_gates(rt: HostRuntime) -> Result<(), Fail> {
 fn a_search_turns_where_it_should_at_first(rt: HostRuntime) -> Result<(), Fail> {
     let graph = build_net(rt.alloc(), &NOT_AT_FIRST)?;
     assert!(rt; holds(rt.alloc(), &graph, &ON_NOT_AT_FIRST)?);
+    Ok(())
+}
+
+#[test]
+fn a_search_turns_at_a_parity(rt: HostRuntime) -> Result<(), Fail> {
+    let graph = build_net(rt.alloc(), &PARITY_FIRST)?;
+    assert!(rt; holds(rt.alloc(), &graph, &ON_PARITY_FIRST)?);
     Ok(())
 }
 

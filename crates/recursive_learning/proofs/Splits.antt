@@ -6,7 +6,7 @@ use mathlib.Core.Bool.{beq}
 use Rattle.gate_net.specs.Forward.{is_known, value_forward}
 use Rattle.gate_net.specs.Net.{IsKind, IsLive, Net, Reads, drivers_of}
 use Rattle.gate_net.specs.declared.Kind.{Kind}
-use Rattle.gate_net.specs.declared.Kind.TheVariants.{And, Not, One, Or, Source, Zero}
+use Rattle.gate_net.specs.declared.Kind.TheVariants.{And, Not, One, Or, Source, Xor, Zero}
 use Rattle.recursive_learning.proofs.Commons.{held_known}
 use Rattle.recursive_learning.proofs.Tells.{writes_join}
 use Rattle.recursive_learning.specs.Inner.Lessons.{IsLesson}
@@ -47,6 +47,7 @@ may_split net fault held x settled live unknown = at live.0 live.1
     at And is = ((And, (is, tt)), without)
     at Or is = ((Or, (is, tt)), without)
     at Not is = ((Not, (is, tt)), without)
+    at Xor is = ((Xor, (is, tt)), without)
 
 abbrev two : Held → Held → List Due → List Due
 two one other below = tree one ∷ tree other ∷ below

@@ -1,5 +1,5 @@
 -- Sets that are closed at a depth of learning.
-use Rattle.std.proofs.Common.{Bool, List, None, Option, Some, [], false, inl, inr, map, not, refl, suc, true, zero, ℕ, ◌∙◌, ◌∷◌, ◌≡◌, ◌⊎◌}
+use Rattle.std.proofs.Common.{Bool, List, None, Option, Some, [], ap, false, inl, inr, map, not, refl, suc, true, zero, ℕ, ◌∙◌, ◌∷◌, ◌≡◌, ◌⊎◌}
 use Rattle.std.specs.List.{list_all}
 use Rattle.std.specs.Prelude.{IsTrue, slice_get}
 use Rattle.std.proofs.lemmas.Bool.{and_parts}
@@ -8,7 +8,9 @@ use Rattle.gate_net.proofs.Public.{is_known_true, all_not_any, is_known_some}
 use Rattle.gate_net.specs.Net.{IsAcyclic, Net, Reads, drivers_of}
 use Rattle.gate_net.specs.Values.{IsRun, SameObserved, controlling}
 use Rattle.gate_net.specs.declared.Kind.{Kind}
-use Rattle.gate_net.specs.declared.Kind.TheVariants.{And, Not, One, Or, Source, Zero}
+use Rattle.gate_net.specs.declared.Family.{Family}
+use Rattle.gate_net.specs.declared.Family.TheVariants.{Constant, Input, Junction, Parity}
+use Rattle.gate_net.specs.Meaning.{controlling_in, family, family_forward}
 use Rattle.refutation.proofs.Closings.{right_true, true_held, true_known, true_right, with_more, with_there, with_within}
 use Rattle.refutation.proofs.Grows.{good_stays, line_grows}
 use Rattle.refutation.proofs.Known.{one_of_true}
@@ -21,7 +23,7 @@ use Rattle.refutation.specs.Learning.{AllHold, HasFew, IsClosedAt, IsJustificati
 use Rattle.refutation.specs.declared.reasoning.Fact.TheVariants.{Good}
 use Rattle.refutation.specs.declared.reasoning.Line.TheVariants.{GoodForward}
 use Rattle.rm_base.specs.declared.numbers.Fault.{Fault}
-use Rattle.rm_base.proofs.Public.{both_and}
+use Rattle.rm_base.proofs.Public.{both_and, some_same}
 use Rattle.gate_net.specs.Inner.Stays.{Stays}
 
 pub closed_below : ClosedBelow
@@ -80,13 +82,14 @@ pub all_of : (test : Option Bool → Bool) (k : ℕ → Option Bool) (ds : List 
 all_of test k [] h = refl
 all_of test k (d ∷ ds) h = both_and (test (k d)) (list_all test (map k ds)) (h 0 d refl) (all_of test k ds (λ p x e. h (suc p) x e))
 
+junction_family : (f : Family) (c : Bool) (os : List (Option Bool)) → controlling_in f ≡ Some c → family_forward f os ≡ junction_follows c os
+junction_family Input c os e = cc
+junction_family (Constant b) c os e = cc
+junction_family (Junction b) c os e = ap (λ (d : Bool). junction_follows d os) (some_same e)
+junction_family (Parity i) c os e = cc
+
 pub junction_kind : (kind : Kind) (c : Bool) (os : List (Option Bool)) → controlling kind ≡ Some c → value_forward kind os ≡ junction_follows c os
-junction_kind Source c os e = cc
-junction_kind Zero c os e = cc
-junction_kind One c os e = cc
-junction_kind And c os e = let is : c ≡ false = cc in rw is refl
-junction_kind Or c os e = let is : c ≡ true = cc in rw is refl
-junction_kind Not c os e = cc
+junction_kind kind = junction_family (family kind)
 
 -- a known value is held
 pub known_held : (s : Held) (x : ℕ) (b : Bool) → known_good s x ≡ Some b → IsTrue (s x (Good b))

@@ -7,7 +7,7 @@ use Rattle.gate_net.specs.Inner.Stays.{Stays, AllStay}
 use Rattle.refutation.specs.Closing.{IsClashFree, IsWithin}
 use Rattle.refutation.specs.Facts.{Held, known_equal, known_faulty, known_good, one_of}
 use Rattle.refutation.specs.Laws.{LinesGrow}
-use Rattle.refutation.specs.Lines.{Concludes}
+use Rattle.refutation.specs.Lines.{Concludes, OneDiffers}
 use Rattle.refutation.specs.declared.reasoning.Fact.{Fact}
 use Rattle.refutation.specs.declared.reasoning.Fact.TheVariants.{Differs, Equal, Faulty, Good}
 use Rattle.refutation.specs.declared.reasoning.Line.{Line}
@@ -43,6 +43,9 @@ module _ (net : Net) (fault : Fault) (held more : Held) (within : IsWithin held 
   faulties : (y : ℕ) → AllStay (faulty_reads net fault Some (known_faulty held) y) (faulty_reads net fault Some (known_faulty more) y)
   faulties y = reads_stay net fault (known_faulty held) (known_faulty more) y faulty_stays
 
+  one_differs_stays : (y : ℕ) → OneDiffers held (drivers_of net y) → OneDiffers more (drivers_of net y)
+  one_differs_stays y h = (h.0, h.1, h.2, equal_stays h.1 false h.3, all_but_stays true h.0 (map (known_equal held) (drivers_of net y)) (map (known_equal more) (drivers_of net y)) (equals y) h.4)
+
   pub line_grows : (l : Line) (x : ℕ) (fact : Fact) → Concludes net fault held l x fact → Concludes net fault more l x fact
   line_grows Act x fact h = h
   line_grows Site x fact h = h
@@ -62,7 +65,7 @@ module _ (net : Net) (fault : Fault) (held more : Held) (within : IsWithin held 
       (h.0, h.1, h.2, h.3, faulty_stays y.0 h.1 h.4, back_stays h.0 h.1 (faulty_reads net fault Some (known_faulty held) y.0) (faulty_reads net fault Some (known_faulty more) y.0) q (faulties y.0) h.2 h.5, h.6, h.7, h.8)
   line_grows (ToFaulty y) x fact h = (h.0, h.1, h.2, good_stays x h.1 h.3, equal_stays x h.2 h.4, h.5, h.6)
   line_grows (ToGood y) x fact h = (h.0, h.1, h.2, faulty_stays x h.1 h.3, equal_stays x h.2 h.4, h.5, h.6)
-  line_grows (NotDiffers y) x fact h = (h.0, h.1, h.2, h.3, equal_stays h.0 false h.4, h.5, h.6)
+  line_grows (NotDiffers y) x fact h = (h.0, h.1, h.2, one_differs_stays x h.3, h.4, h.5)
   line_grows (NotEqual y) x fact h = (h.0, h.1, equal_stays y.0 true h.2, h.3, h.4)
 
 pub lines_grow : LinesGrow

@@ -1,4 +1,5 @@
 pub mod Known
+pub mod Parities
 pub mod LinesRight
 pub mod Refuting
 pub mod Readings

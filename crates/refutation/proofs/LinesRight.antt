@@ -1,20 +1,21 @@
 -- Each line is right wherever some observed node differs.
-use Rattle.std.proofs.Common.{Bool, Some, [], ap, false, inl, inr, map, not, refl, sym, true, ℕ, ◌∙◌, ◌≡◌, ◌≢◌}
+use Rattle.std.proofs.Common.{Bool, Some, [], ap, false, inl, inr, map, not, refl, sym, true, ℕ, ◌∙◌, ◌∷◌, ◌≡◌, ◌≢◌, ◌⊎◌}
 use Rattle.std.proofs.lemmas.Bool.Decides.{eqb_tells}
 use Rattle.std.specs.List.{list_all}
 use Rattle.std.specs.Prelude.{if◌then◌else◌, slice_get}
 use Rattle.std.proofs.Math.Bool.{not-not}
 use Rattle.gate_net.specs.Forward.{all_but, is_known, value_back, value_forward}
-use Rattle.gate_net.proofs.Public.{approximates_map, approximates_set, controlled, first_is, reads_faulty, same_bool_false, same_bool_true, same_elsewhere, same_idle, same_observed, same_outside, value_at, value_back_right, value_forward_right}
+use Rattle.gate_net.proofs.Public.{approximates_map, approximates_set, controlled, not_is, opposite_of, reads_elsewhere, reads_faulty, same_bool_false, same_bool_true, same_elsewhere, same_idle, same_observed, same_outside, value_at, value_back_right, value_forward_right}
 use Rattle.gate_net.specs.Net.{IsAcyclic, IsKind, Net, Reads, drivers_of}
 use Rattle.gate_net.specs.Paths.{IsInChain, start}
-use Rattle.gate_net.specs.Values.{IsRun, SameObserved, controlling, faulty_reads, same_bool}
+use Rattle.gate_net.specs.Values.{IsRun, SameObserved, controlling, faulty_reads, parity, same_bool}
 use Rattle.gate_net.specs.declared.Kind.{Kind}
 use Rattle.gate_net.specs.declared.Kind.TheVariants.{Not, One, Zero}
+use Rattle.refutation.proofs.Parities.{parity_one, parity_value}
 use Rattle.refutation.proofs.Known.{all_but_known, all_known, differs_right, equal_right, facts_with, faulty_right, good_right}
 use Rattle.refutation.specs.Facts.{AreTrueFacts, Held, IsTrueFact, known_equal, known_faulty, known_good}
 use Rattle.refutation.specs.Laws.{LinesHold}
-use Rattle.refutation.specs.Lines.{Concludes}
+use Rattle.refutation.specs.Lines.{Concludes, IsParity, OneDiffers}
 use Rattle.refutation.specs.declared.reasoning.Fact.{Fact}
 use Rattle.refutation.specs.declared.reasoning.Fact.TheVariants.{Differs, Equal}
 use Rattle.refutation.specs.declared.reasoning.Line.{Line}
@@ -112,21 +113,27 @@ module _ (net : Net) (fault : Fault) (driver : ℕ) (a v f : ℕ → Bool) (run 
     to_good_right x value true known e = equal_right v f held facts x e ∙ faulty_right v f held facts x value known
     to_good_right x value false known e = differs_right v f held facts x e ∙ ap not (faulty_right v f held facts x value known)
 
-    not_values : (y x : ℕ) → IsKind net y Not → y ≢ fault.gate.0 → Reads net y 0 x → (v y ≡ not (v x)) × (f y ≡ not (f x))
-    not_values y x is ne reads = (
-      value_at net a v y Not (map v (drivers_of net y)) is (run.good y) ∙ first_is (map v (drivers_of net y)) (v x) (map_at v (drivers_of net y) 0 x reads),
-      value_at net a f y Not (faulty_reads net fault (λ b. b) f y) is (run.faulty y) ∙ first_is (faulty_reads net fault (λ b. b) f y) (f x) (reads_faulty net fault f y 0 x (λ same. ne same.0) reads),
-    )
+    -- what other gates read under the fault
+    faulty_elsewhere : (y : ℕ) → y ≢ fault.gate.0 → faulty_reads net fault (λ b. b) f y ≡ map f (drivers_of net y)
+    faulty_elsewhere y ne = reads_elsewhere net fault (λ b. b) f y ne
 
-    not_differs_right : (y x : ℕ) → IsKind net y Not → y ≢ fault.gate.0 → Reads net y 0 x → known_equal held x ≡ Some false → v y ≡ not (f y)
-    not_differs_right y x is ne reads e =
-        let both : (v y ≡ not (v x)) × (f y ≡ not (f x)) = not_values y x is ne reads in
-        both.0 ∙ ap not (differs_right v f held facts x e ∙ sym both.1)
+    parity_differs_right : (y : ℕ) (i : Bool) → IsParity net y i → y ≢ fault.gate.0 → OneDiffers held (drivers_of net y) → v y ≡ not (f y)
+    parity_differs_right y i (kind, is, inverts) ne (q, d, reads, differs, others) =
+        value_at net a v y kind (map v (drivers_of net y)) is (run.good y) ∙ parity_value kind i (a y) (map v (drivers_of net y)) inverts
+        ∙ parity_one i v f (drivers_of net y) q d reads (differs_right v f held facts d differs) each_other
+        ∙ ap not (sym (value_at net a f y kind (faulty_reads net fault (λ b. b) f y) is (run.faulty y) ∙ parity_value kind i (a y) (faulty_reads net fault (λ b. b) f y) inverts ∙ ap (parity i) (faulty_elsewhere y ne)))
+      where
+        each_other : (p x : ℕ) → Reads net y p x → (p ≡ q) ⊎ (v x ≡ f x)
+        each_other p x there = elim (all_but_known (known_equal held) (drivers_of net y) q others p x there) [
+          | inl at_q ↦ inl at_q
+          | inr known ↦ inr (equal_right v f held facts x known)
+        ]
 
-    not_equal_right : (y x : ℕ) → IsKind net y Not → y ≢ fault.gate.0 → Reads net y 0 x → known_equal held y ≡ Some true → v x ≡ f x
-    not_equal_right y x is ne reads e =
-        let both : (v y ≡ not (v x)) × (f y ≡ not (f x)) = not_values y x is ne reads in
-        sym (not-not (v x)) ∙ ap not (sym both.0 ∙ equal_right v f held facts y e ∙ both.1) ∙ not-not (f x)
+    not_equal_right : (y x : ℕ) → IsKind net y Not → y ≢ fault.gate.0 → drivers_of net y ≡ x ∷ [] → known_equal held y ≡ Some true → v x ≡ f x
+    not_equal_right y x is ne one e =
+        let good : v y ≡ not (v x) = opposite_of net a v y x is one run.good in
+        let faulty : f y ≡ not (f x) = value_at net a f y Not (faulty_reads net fault (λ b. b) f y) is (run.faulty y) ∙ ap (parity true) (faulty_elsewhere y ne ∙ ap (map f) one) ∙ not_is (f x) in
+        sym (not-not (v x)) ∙ ap not (sym good ∙ equal_right v f held facts y e ∙ faulty) ∙ not-not (f x)
 
     -- each line is right
     pub line_right : (line : Line) (x : ℕ) (fact : Fact) → Concludes net fault held line x fact → IsTrueFact v f x fact
@@ -147,7 +154,7 @@ module _ (net : Net) (fault : Fault) (driver : ℕ) (a v f : ℕ → Bool) (run 
     line_right (FaultyBack y q) x fact h = rw h.8 (faulty_back_right y.0 q x h.0 h.1 h.2 h.3 h.4 h.5 h.6 h.7)
     line_right (ToFaulty y) x fact h = rw h.6 (to_faulty_right x h.1 h.2 h.3 h.4)
     line_right (ToGood y) x fact h = rw h.6 (to_good_right x h.1 h.2 h.3 h.4)
-    line_right (NotDiffers y) x fact h = rw h.6 (not_differs_right x h.0 h.1 h.2 h.3 h.4)
+    line_right (NotDiffers y) x fact h = rw h.5 (parity_differs_right x h.0 h.1 h.2 h.3)
     line_right (NotEqual y) x fact h = rw h.4 (not_equal_right y.0 x h.0 h.1 h.3 h.2)
 
 pub lines_hold : LinesHold

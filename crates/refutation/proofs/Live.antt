@@ -1,5 +1,6 @@
 -- The node of a fact that a line gives is live.
-use Rattle.std.proofs.Common.{ℕ}
+use Rattle.std.proofs.Common.{List, ap, ℕ}
+use Rattle.std.specs.Prelude.{slice_get}
 use Rattle.gate_looks.proofs.Public.{chain_live, gate_live}
 use Rattle.gate_net.specs.Net.{IsLive, IsWellFormed, Net, Reads}
 use Rattle.gate_net.specs.Values.{HasPin}
@@ -31,5 +32,5 @@ concludes_live net fault held formed stuck (FaultyForward y) x fact h = (h.0, h.
 concludes_live net fault held formed stuck (FaultyBack y q) x fact h = driver_live net formed y.0 q x h.7
 concludes_live net fault held formed stuck (ToFaulty y) x fact h = h.0
 concludes_live net fault held formed stuck (ToGood y) x fact h = h.0
-concludes_live net fault held formed stuck (NotDiffers y) x fact h = (_, h.1)
-concludes_live net fault held formed stuck (NotEqual y) x fact h = driver_live net formed y.0 0 x h.3
+concludes_live net fault held formed stuck (NotDiffers y) x fact h = (h.1.0, h.1.1)
+concludes_live net fault held formed stuck (NotEqual y) x fact h = driver_live net formed y.0 0 x (ap (λ (ds : List ℕ). slice_get ds 0) h.3)

@@ -33,7 +33,7 @@ pub use Rattle.refutation.proofs.Stacks.{closed_reads}
 pub use Rattle.gate_looks.proofs.Public.{beq_same, drivers_below, gate_live}
 -- What the calls of a graph and of the facts tell.
 pub use Rattle.refutation.proofs.Told.{faulty_pins}
-pub use Rattle.gate_looks.proofs.Public.{kind_is, kind_live, live_below, live_from, reader_live}
+pub use Rattle.gate_looks.proofs.Public.{kind_is, kind_live, live_below, live_from, reader_live, source_is}
 -- A walk along the chain of a gate.
 pub use Rattle.gate_looks.proofs.Public.{walk_ends, walk_goes_on, walk_live, walk_short}
 pub use Rattle.gate_looks.proofs.Public.{walk_starts}

@@ -1,12 +1,13 @@
 -- What the calls of a graph and of the facts tell.
 use Rattle.gate_looks.proofs.Public.{stuck_reads}
 use Rattle.gate_looks.proofs.Public.{kind_is, kind_told}
-use Rattle.std.proofs.Common.{Bool, None, Option, Some, ap, refl, sym, ℕ, ◌∙◌, ◌≡◌}
+use Rattle.std.proofs.Common.{Bool, None, Option, Some, [], ap, refl, sym, ℕ, ◌∙◌, ◌∷◌, ◌≡◌}
 use Rattle.std.specs.Prelude.{slice_get}
 use Rattle.gate_net.specs.Forward.{value_back, value_forward}
-use Rattle.gate_net.specs.Net.{IsKind, Net, Reads, drivers_of, kind_of}
+use Rattle.gate_net.specs.Net.{IsKind, IsWellFormed, Net, Reads, drivers_of, kind_of}
 use Rattle.gate_net.specs.Values.{faulty_reads}
 use Rattle.gate_net.specs.declared.Kind.{Kind}
+use Rattle.gate_net.specs.declared.Kind.TheVariants.{Not}
 use Rattle.refutation.specs.Answers.{backward_at, bind, both_at, forward_at}
 use Rattle.refutation.specs.Facts.{Held, known_faulty}
 use Rattle.refutation.specs.Pins.{known_on, pins_of, stuck_of}
@@ -15,6 +16,13 @@ use Rattle.refutation.specs.declared.pins.Aspect.TheVariants.{OfFaulty}
 use Rattle.gate_looks.specs.declared.pins.Stuck.{Stuck}
 use Rattle.rm_base.specs.declared.numbers.Fault.{Fault}
 use Rattle.rm_base.proofs.Public.{some_same}
+
+-- the only driver of a Not
+pub one_driver : (net : Net) (y x : ℕ) → IsWellFormed net → IsKind net y Not → Reads net y 0 x → drivers_of net y ≡ x ∷ []
+one_driver net y x formed is reads =
+    let one : (d : ℕ) × (drivers_of net y ≡ d ∷ []) = formed.nots_have_one y is in
+    let first : slice_get (one.0 ∷ []) 0 ≡ Some x = rw one.1 at reads in
+    one.1 ∙ ap (λ (d : ℕ). d ∷ []) (some_same first)
 
 pub bind_some : {A B : Type 0} (o : Option A) (f : A → Option B) (b : B) → Some b ≡ bind o f → (a : A) × ((o ≡ Some a) × (Some b ≡ f a))
 bind_some None f b e = cc

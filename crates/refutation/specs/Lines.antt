@@ -1,10 +1,10 @@
 -- The lines of reasoning: the condition of each, and the node and the fact that it gives.
 use Rattle.std.specs.List.{list_all}
-use Rattle.std.specs.Prelude.{Bool, IsTrue, Some, false, if◌then◌else◌, map, not, true, ℕ, ◌≡◌, ◌≢◌}
+use Rattle.std.specs.Prelude.{Bool, IsTrue, List, Some, [], false, if◌then◌else◌, map, not, slice_get, true, ℕ, ◌∷◌, ◌≡◌, ◌≢◌}
 use Rattle.gate_net.specs.Forward.{IsForwardReading, Marking, MarksQuiet, all_but, is_known, value_back, value_forward}
 use Rattle.gate_net.specs.Net.{IsGate, IsKind, IsLive, Net, Reads, drivers_of}
 use Rattle.gate_net.specs.Paths.{IsInChain, Reaches}
-use Rattle.gate_net.specs.Values.{controlling, faulty_reads, same_bool}
+use Rattle.gate_net.specs.Values.{controlling, faulty_reads, inversion, same_bool}
 use Rattle.gate_net.specs.declared.Kind.{Kind}
 use Rattle.gate_net.specs.declared.Kind.TheVariants.{Not, One, Zero}
 use Rattle.refutation.specs.Facts.{Held, known_equal, known_faulty, known_good}
@@ -17,6 +17,16 @@ use Rattle.rm_base.specs.declared.numbers.Fault.{Fault}
 -- the pin is the stuck one
 abbrev pub IsStuckPin : Fault → ℕ → ℕ → Type 0
 IsStuckPin fault y q = (y ≡ fault.gate.0) × (q ≡ fault.position)
+
+-- a Not, which inverts the parity of its pins, or an Xor
+abbrev pub IsParity : Net → ℕ → Bool → Type 0
+IsParity net gate inverts = (kind : Kind) × IsKind net gate kind × (inversion kind ≡ Some inverts)
+
+-- the driver of one pin is known to differ, and those of all other pins to be equal
+abbrev pub OneDiffers : Held → List ℕ → Type 0
+OneDiffers held drivers =
+    (q : ℕ) × (driver : ℕ) × (slice_get drivers q ≡ Some driver) × (known_equal held driver ≡ Some false)
+    × IsTrue (all_but (is_known true) q (map (known_equal held) drivers))
 
 -- the line's condition is met with these facts held, and it gives that fact on node x
 abbrev pub Concludes : Net → Fault → Held → Line → ℕ → Fact → Type 0
@@ -78,13 +88,12 @@ Concludes net fault held (ToFaulty y) x fact =
 Concludes net fault held (ToGood y) x fact =
     IsLive net x × (value : Bool) × (equal : Bool) × (known_faulty held x ≡ Some value) × (known_equal held x ≡ Some equal)
     × (x ≡ y.0) × (fact ≡ Good (same_bool equal value))
--- a Not that isn't the faulty gate differs where its driver does
+-- a Not or an Xor that isn't the faulty gate differs where one driver does and all others are equal
 Concludes net fault held (NotDiffers y) x fact =
-    (driver : ℕ) × IsKind net x Not × (x ≢ fault.gate.0) × Reads net x 0 driver × (known_equal held driver ≡ Some false)
-    × (x ≡ y.0) × (fact ≡ Differs)
+    (inverts : Bool) × IsParity net x inverts × (x ≢ fault.gate.0) × OneDiffers held (drivers_of net x) × (x ≡ y.0) × (fact ≡ Differs)
 -- the driver of a Not that isn't the faulty gate is equal where the Not is
 Concludes net fault held (NotEqual y) x fact =
-    IsKind net y.0 Not × (y.0 ≢ fault.gate.0) × (known_equal held y.0 ≡ Some true) × Reads net y.0 0 x × (fact ≡ Equal)
+    IsKind net y.0 Not × (y.0 ≢ fault.gate.0) × (known_equal held y.0 ≡ Some true) × (drivers_of net y.0 ≡ x ∷ []) × (fact ≡ Equal)
 
 -- forward reading from the known sources marks every observed node equal
 abbrev pub IsQuiet : Net → Fault → Held → Type 0

@@ -5,9 +5,9 @@ ghost use Rattle.refutation.specs.FactSets.{held_by};
 ghost use Rattle.refutation.specs.Answers.{IsAnswer};
 
 use crate::following::{gate_pins, pin_driver};
-use crate::glances::{all_equal, others_equal};
+use crate::glances::{all_equal, one_differs, others_equal};
 use crate::held::FactSet;
-use crate::pins::{Aspect, is_stuck, known_of};
+use crate::pins::{Aspect, inversion, is_stuck, known_of};
 use crate::reasoning::{Fact, Line};
 use gate_graph::Question;
 use gate_net::Kind;
@@ -36,7 +36,7 @@ pub fn line_equal_forward(
     Some((node, Fact::Equal))
 }
 
-/// A Not other than the faulty gate differs where its driver does.
+/// A Not or an Xor other than the faulty gate differs where one driver does and all others are equal.
 pub fn line_not_differs(
     question: &Question<'_>,
     facts: &FactSet,
@@ -46,15 +46,11 @@ pub fn line_not_differs(
     ensures { IsAnswer (net_of question.now.graph.now) question.now.fault (held_by facts.now) (Line.NotDiffers node) result }
 {
     let kind = question.graph.kind(node)?;
-    if kind != Kind::Not {
-        return None;
-    }
+    let _inverts = inversion(kind)?;
     if node.0 == question.fault.gate.0 {
         return None;
     }
-    let driver = pin_driver(question.graph, node, 0)?;
-    let equal = known_of(facts, Aspect::OfEqual, driver)?;
-    if equal {
+    if !one_differs(gate_pins(question.graph, node), facts) {
         return None;
     }
     Some((node, Fact::Differs))
@@ -80,6 +76,7 @@ pub fn line_not_equal(
     if !equal {
         return None;
     }
+    question.graph.well_formed();
     let driver = pin_driver(question.graph, node, 0)?;
     Some((driver, Fact::Equal))
 }

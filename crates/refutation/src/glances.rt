@@ -1,9 +1,10 @@
 //! Looks at a gate's pins by the facts that are held.
-ghost use Rattle.std.specs.Prelude.{◌≡◌, ◌≤◌, length, map, true};
+ghost use Rattle.std.specs.Prelude.{◌≡◌, ◌≤◌, ◌↔◌, IsTrue, length, map, true};
 ghost use Rattle.std.specs.List.{list_all};
 ghost use Rattle.gate_net.specs.Forward.{value_forward, value_back, is_known, all_but};
 ghost use Rattle.refutation.specs.Facts.{known_equal};
 ghost use Rattle.refutation.specs.FactSets.{held_by};
+ghost use Rattle.refutation.specs.Lines.{OneDiffers};
 ghost use Rattle.refutation.specs.Pins.{pins_of, Glances, AreBelow, known_on};
 ghost use Rattle.rm_base.specs.Numbers.{number_bound};
 
@@ -88,6 +89,19 @@ pub fn all_equal(drivers: Inputs<'_>, facts: &FactSet) -> bool
     ensures { result ≡ list_all (is_known true) (map (known_equal (held_by facts.now)) drivers.entry) }
 {
     look_at_facts(drivers, None, facts, Aspect::OfEqual, false).rest == 0
+}
+
+/// Whether the driver of one pin is known to differ and those of all other pins to be equal.
+pub fn one_differs(drivers: Inputs<'_>, facts: &FactSet) -> bool
+    requires within { AreBelow drivers (length facts.now) }
+    requires few { length drivers ≤ number_bound }
+    ensures { IsTrue result ↔ OneDiffers (held_by facts.now) drivers.entry }
+{
+    let glance = look_at_facts(drivers, None, facts, Aspect::OfEqual, false);
+    if glance.rest != 1 {
+        return false;
+    }
+    glance.any
 }
 
 /// Whether the drivers of all pins but `q` are known to be equal.

@@ -1,7 +1,7 @@
 //! What is known of a node.
 ghost use Rattle.std.specs.Prelude.{◌≡◌, ◌<◌, ◌↔◌, length, IsTrue};
 ghost use Rattle.gate_net.specs.Net.{IsGateKind};
-ghost use Rattle.gate_net.specs.Values.{controlling};
+ghost use Rattle.gate_net.specs.Values.{controlling, inversion};
 ghost use Rattle.refutation.specs.Facts.{one_of};
 ghost use Rattle.refutation.specs.FactSets.{held_by};
 ghost use Rattle.refutation.specs.Lines.{IsStuckPin};
@@ -10,10 +10,9 @@ ghost use Rattle.refutation.specs.Pins.{known_on};
 use crate::held::FactSet;
 use crate::reasoning::Fact;
 pub use gate_looks::pins::{
-    Glance, Stuck, at_pin, is_value, junction_back, junction_forward, opposite, others_pass,
-    stuck_at,
+    Glance, Stuck, at_pin, is_value, junction_back, junction_forward, others_pass, stuck_at,
 };
-use gate_net::Kind;
+use gate_net::{Family, Kind};
 use rm_base::{Fault, NodeId};
 
 /// What may be known of a node: its good value, its faulty value, or whether they are equal.
@@ -60,6 +59,16 @@ pub fn controlling(kind: Kind) -> Option<bool>
     ensures { result ≡ controlling kind }
 {
     kind.controlling_value()
+}
+
+/// Whether a Not or an Xor inverts the parity of its pins.
+pub fn inversion(kind: Kind) -> Option<bool>
+    ensures { result ≡ inversion kind }
+{
+    match kind.family() {
+        Family::Parity { inverts } => Some(inverts),
+        _ => None,
+    }
 }
 
 /// Whether the node is a gate.

@@ -43,7 +43,7 @@ pub enum Line {
     ToGood { node: NodeId },
     /// A gate whose drivers are all equal is equal.
     EqualForward { node: NodeId },
-    /// A Not differs where its driver does.
+    /// A Not or an Xor differs where one driver does and the others are equal.
     NotDiffers { node: NodeId },
     /// A Not's driver is equal where the Not is.
     NotEqual { node: NodeId },

@@ -1,15 +1,16 @@
 -- Forward reading from what is known of the sources.
 use Rattle.std.proofs.Common.{Bool, List, None, Option, Some, ap, arith, length, suc, zero, ℕ, ◌+◌, ◌-◌, ◌<◌, ◌∙◌, ◌∷◌, ◌≡◌, ◌≤◌, [], refl}
 use Rattle.std.specs.Prelude.{IsTrue, slice_get, slice_index_or, ◌↔◌}
-use Rattle.gate_net.specs.Forward.{IsForwardReading, Marking, MarksQuiet, ReadingsAgree, kind_forward, node_forward}
+use Rattle.gate_net.specs.Forward.{IsForwardReading, Marking, MarksQuiet, ReadingsAgree, node_forward}
 use Rattle.gate_net.specs.Net.{HasSources, IsAcyclic, IsKind, Net, Node, flatten_option, node_at, source_count}
 use Rattle.gate_net.specs.declared.Kind.{Kind}
-use Rattle.gate_net.specs.declared.Kind.TheVariants.{And, Not, One, Or, Source, Zero}
+use Rattle.gate_net.specs.declared.Kind.TheVariants.{Source}
 use Rattle.refutation.specs.Facts.{Held, known_good}
 use Rattle.refutation.specs.Lines.{IsQuiet}
 use Rattle.rm_base.specs.declared.numbers.Fault.{Fault}
 use Rattle.rm_base.specs.declared.vectors.Value3.{Value3}
 use Rattle.rm_base.specs.declared.vectors.Value3.TheVariants.{Unknown}
+use Rattle.ternary_sim.proofs.Public.{own_counts}
 use Rattle.ternary_sim.specs.Marks.{known_source, seen}
 
 -- a live node's number is below the length of the list
@@ -22,17 +23,9 @@ live_within net x n e = below net.nodes x n e
     below (o ∷ nodes) (suc x) n e = let rest : x < length nodes = below nodes x n e in omega arith
 
 -- only a source's value is taken from what is known
-kind_same : (k : Kind) (a b : Option Bool) (os : List (Option Bool)) → (k ≡ Source → a ≡ b) → kind_forward k a os ≡ kind_forward k b os
-kind_same Source a b os h = h refl
-kind_same Zero a b os h = refl
-kind_same One a b os h = refl
-kind_same And a b os h = refl
-kind_same Or a b os h = refl
-kind_same Not a b os h = refl
-
 node_same : (o : Option Node) (a b : Option Bool) (os : List (Option Bool)) → ((drivers : List ℕ) → o ≡ Some (record { kind = Source; drivers = drivers }) → a ≡ b) → node_forward o a os ≡ node_forward o b os
 node_same None a b os h = refl
-node_same (Some n) a b os h = kind_same n.kind a b os (λ e. h n.drivers (ap (λ (k : Kind). Some (record n { kind = k })) e))
+node_same (Some n) a b os h = own_counts n.kind a b os (λ e. h n.drivers (ap (λ (k : Kind). Some (record n { kind = k })) e))
 
 -- what is known of the sources alone counts
 pub same_reading : (net : Net) (fault : Fault) (known other : ℕ → Option Bool) (m : Marking) → ((x : ℕ) → IsKind net x Source → known x ≡ other x) → IsForwardReading net fault known m → IsForwardReading net fault other m

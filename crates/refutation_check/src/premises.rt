@@ -183,8 +183,8 @@ impl Premises {
         }
     }
 
-    // What the value of a driver rests on: that of the gate, and those of the other pins where the gate has the
-    // controlling value.
+    // What the value of a driver rests on: that of the gate, and those of the other pins, but at an And or an Or without
+    // its controlling value.
     fn ask_back(
         &mut self,
         graph: &Graph,
@@ -198,11 +198,10 @@ impl Premises {
         let Some(kind) = graph.kind(node) else {
             return Ok(());
         };
-        let Some(value) = kind.controlling_value() else {
-            return Ok(());
-        };
-        if !is_value(known_within(facts, aspect, node), value) {
-            return Ok(());
+        if let Some(value) = kind.controlling_value() {
+            if !is_value(known_within(facts, aspect, node), value) {
+                return Ok(());
+            }
         }
         self.ask_drivers(gate_pins(graph, node), stuck, Some(position), facts, aspect)
     }

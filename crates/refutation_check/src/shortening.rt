@@ -77,6 +77,28 @@ fn ask_around(
     Ok(())
 }
 
+// Reads so what isn't reached of the drivers that aren't held to differ.
+fn ask_beside(
+    question: &Question<'_>,
+    site: &Site,
+    account: &mut Account,
+    node: NodeId,
+) -> Result<(), NoMemory>
+    requires site { IsSiteOf (net_of question.now.graph.now) question.now.fault.gate.0 site.now }
+    requires numbers { length (net_of question.now.graph.now).nodes ≤ account.old.trail.numbers }
+    ensures { OnOk result (account.new.trail.numbers ≡ account.old.trail.numbers) }
+{
+    let Some(_kind) = question.graph.kind(node) else {
+        return Ok(());
+    };
+    for driver in gate_pins(question.graph, node) {
+        if !account.holds(driver, Fact::Differs) {
+            ask_at(question, site, account, driver)?;
+        }
+    }
+    Ok(())
+}
+
 // Reads so the nodes of which the line's condition asks whether they are equal.
 fn ask_for_line(
     question: &Question<'_>,
@@ -95,6 +117,7 @@ fn ask_for_line(
         Line::EqualForward { node } | Line::DiffersBack { node, .. } => {
             ask_around(question, site, account, node)
         }
+        Line::NotDiffers { node } => ask_beside(question, site, account, node),
         Line::Side { node, position } => match pin_driver(question.graph, node, position) {
             Some(driver) => ask_at(question, site, account, driver),
             None => Ok(()),
@@ -102,7 +125,7 @@ fn ask_for_line(
         Line::Act | Line::Site | Line::Chain { .. } | Line::Out { .. } => Ok(()),
         Line::Constant { .. } | Line::GoodForward { .. } | Line::GoodBack { .. } => Ok(()),
         Line::FaultyForward { .. } | Line::FaultyBack { .. } => Ok(()),
-        Line::Compare { .. } | Line::NotDiffers { .. } => Ok(()),
+        Line::Compare { .. } => Ok(()),
     }
 }
 

@@ -11,6 +11,7 @@ mod judge_rows;
 mod limits;
 mod merge_rows;
 mod opt_rows;
+mod parity_rows;
 mod perturb_rows;
 mod refused_rows;
 mod replay_rows;

@@ -1,11 +1,14 @@
 -- Sums and counts over lists of which one stands within the other.
 use Rattle.std.proofs.Common.{◌≡◌, ◌≤◌, ◌+◌, ℕ, suc, Bool, true, false, not, List, [], ◌∷◌, ◌++◌, length, map, ◌⊎◌, inl, inr, refl, sym, ap, ◌∙◌, subst, arith, zero-le, length-append}
-use Rattle.std.specs.Prelude.{if◌then◌else◌, sum_by}
+use Rattle.std.specs.Prelude.{None, Option, Some, if◌then◌else◌, sum_by}
+use Rattle.std.specs.Option.{option_map}
 use Rattle.std.specs.List.{flat_map}
 use Rattle.std.proofs.lemmas.Bool.{and_parts}
 use Rattle.std.proofs.lemmas.List.{length-map, map-append}
 use Rattle.std.proofs.lemmas.List.Sums.{sum_by-append, sum_by-cons}
 use Rattle.rm_model.specs.Value.{is_among, outputs_of}
+use Rattle.rm_model.specs.Words.{is_word}
+use Rattle.rm_model.proofs.Public.{is_word-same, same_word}
 use Rattle.rm_model.specs.WellFormed.{is_distinct}
 use Rattle.rm_model.specs.declared.parts.Literal.{Literal}
 use Rattle.rm_model.specs.declared.parts.Literal.TheVariants.{Zero, One, Any}
@@ -13,7 +16,8 @@ use Rattle.rm_model.specs.declared.parts.Cover.{Cover}
 use Rattle.rm_base.specs.Members.{In}
 use Rattle.rm_base.specs.Words.{Word}
 use Rattle.rm_base.proofs.Public.{in_append, in_left, in_map, in_mapped, in_right, not_excludes}
-use Rattle.cover_decompose.specs.Count.{cover_wires, cover_zero_names, new_count, zero_names}
+use Rattle.cover_decompose.specs.Count.{cover_wires, cover_zero_names, new_count, wires_by, zero_names, zero_names_by}
+use Rattle.cover_decompose.specs.Parity.{are_two, differ_in_rows, parity_ending}
 use Rattle.sewing.specs.Sewn.{renamed_cover}
 use Rattle.sewing.proofs.Members.{among-in, in-among, in-outputs}
 
@@ -179,18 +183,50 @@ rows-renamed f inputs (r ∷ rs) =
     ∙ (ap (λ (l : List Word). map f (zero_names inputs r) ++ l) (rows-renamed f inputs rs)
     ∙ sym (map-append f (zero_names inputs r) (flat_map (zero_names inputs) rs)))
 
-pub zeros-renamed : (f : Word → Word) (cs : List Cover) → flat_map cover_zero_names (map (renamed_cover f) cs) ≡ map f (flat_map cover_zero_names cs)
-zeros-renamed f [] = refl
-zeros-renamed f (c ∷ cs) =
-    ap (λ (l : List Word). l ++ flat_map cover_zero_names (map (renamed_cover f) cs)) (rows-renamed f c.inputs c.rows)
-    ∙ (ap (λ (l : List Word). map f (cover_zero_names c) ++ l) (zeros-renamed f cs)
+-- different names stay different
+abbrev pub Tells : (Word → Word) → Type 0
+Tells f = (x y : Word) → f x ≡ f y → x ≡ y
+
+two-renamed : (f : Word → Word) → Tells f → (xs : List Word) → are_two (map f xs) ≡ are_two xs
+two-renamed f tells (x ∷ y ∷ []) = go (is_word (f x) (f y)) refl (is_word x y) refl
+  where
+    go : (a : Bool) → is_word (f x) (f y) ≡ a → (b : Bool) → is_word x y ≡ b → not a ≡ not b
+    go true same true is = refl
+    go false same false is = refl
+    go true same false is = let here : is_word x y ≡ true = ap (λ (z : Word). is_word x z) (sym (tells x y (same_word (f x) (f y) same))) ∙ is_word-same x in let bad : true ≡ false = sym here ∙ is in absurd cc
+    go false same true is = let here : is_word (f x) (f y) ≡ true = ap (λ (z : Word). is_word (f x) (f z)) (sym (same_word x y is)) ∙ is_word-same (f x) in let bad : true ≡ false = sym here ∙ same in absurd cc
+two-renamed f tells xs = refl
+
+ending-renamed : (f : Word → Word) → Tells f → (c : Cover) → parity_ending (renamed_cover f c) ≡ parity_ending c
+ending-renamed f tells c = ap (λ (two : Bool). if two then option_map (λ (differ : Bool). if differ then c.on else not c.on) (differ_in_rows c.rows) else None) (two-renamed f tells c.inputs)
+
+cover-zeros-renamed : (f : Word → Word) → Tells f → (c : Cover) → cover_zero_names (renamed_cover f c) ≡ map f (cover_zero_names c)
+cover-zeros-renamed f tells c = ap (λ (o : Option Bool). zero_names_by o (renamed_cover f c)) (ending-renamed f tells c) ∙ go (parity_ending c)
+  where
+    go : (o : Option Bool) → zero_names_by o (renamed_cover f c) ≡ map f (zero_names_by o c)
+    go (Some ends) = refl
+    go None = rows-renamed f c.inputs c.rows
+
+cover-wires-renamed : (f : Word → Word) → Tells f → (c : Cover) → cover_wires (renamed_cover f c) ≡ cover_wires c
+cover-wires-renamed f tells c = ap (λ (o : Option Bool). wires_by o (renamed_cover f c)) (ending-renamed f tells c) ∙ go (parity_ending c)
+  where
+    go : (o : Option Bool) → wires_by o (renamed_cover f c) ≡ wires_by o c
+    go (Some ends) = refl
+    go None = refl
+
+pub zeros-renamed : (f : Word → Word) → Tells f → (cs : List Cover) → flat_map cover_zero_names (map (renamed_cover f) cs) ≡ map f (flat_map cover_zero_names cs)
+zeros-renamed f tells [] = refl
+zeros-renamed f tells (c ∷ cs) =
+    ap (λ (l : List Word). l ++ flat_map cover_zero_names (map (renamed_cover f) cs)) (cover-zeros-renamed f tells c)
+    ∙ (ap (λ (l : List Word). map f (cover_zero_names c) ++ l) (zeros-renamed f tells cs)
     ∙ sym (map-append f (cover_zero_names c) (flat_map cover_zero_names cs)))
 
-pub wires-renamed : (f : Word → Word) (cs : List Cover) → sum_by cover_wires (map (renamed_cover f) cs) ≡ sum_by cover_wires cs
-wires-renamed f [] = refl
-wires-renamed f (c ∷ cs) =
+pub wires-renamed : (f : Word → Word) → Tells f → (cs : List Cover) → sum_by cover_wires (map (renamed_cover f) cs) ≡ sum_by cover_wires cs
+wires-renamed f tells [] = refl
+wires-renamed f tells (c ∷ cs) =
     sum_by-cons cover_wires (renamed_cover f c) (map (renamed_cover f) cs)
-    ∙ (ap (λ (n : ℕ). cover_wires c + n) (wires-renamed f cs) ∙ sym (sum_by-cons cover_wires c cs))
+    ∙ (ap (λ (n : ℕ). n + sum_by cover_wires (map (renamed_cover f) cs)) (cover-wires-renamed f tells c)
+    ∙ (ap (λ (n : ℕ). cover_wires c + n) (wires-renamed f tells cs) ∙ sym (sum_by-cons cover_wires c cs)))
 
 -- the names that covers of a list read as 0 stand in a list that has these covers
 pub zeros-in : (cs ds : List Cover) → ((c : Cover) → In cs c → In ds c) → (x : Word) → In (flat_map cover_zero_names cs) x → In (flat_map cover_zero_names ds) x

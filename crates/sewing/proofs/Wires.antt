@@ -1,5 +1,5 @@
 -- A sewn model has no more wires than its parts have by themselves.
-use Rattle.std.proofs.Common.{◌≡◌, ◌≤◌, ◌<◌, ◌+◌, ◌^◌, ℕ, zero, suc, true, List, [], ◌∷◌, ◌++◌, length, map, sym, ap, subst, arith, zero-le}
+use Rattle.std.proofs.Common.{◌≡◌, ◌≤◌, ◌<◌, ◌+◌, ◌^◌, ℕ, zero, suc, true, List, [], ◌∷◌, ◌++◌, length, map, refl, sym, ap, subst, arith, zero-le}
 use Rattle.std.specs.Prelude.{Contains, None, Some, slice_get, sum_by, ◌↔◌}
 use Rattle.std.specs.List.{flat_map}
 use Rattle.std.proofs.lemmas.Grind.{flat_map-append}
@@ -22,11 +22,12 @@ use Rattle.sewing.specs.Laws.{AreParts, IsReplacement, WiresAddUp}
 use Rattle.sewing.proofs.Composed.{composed, observed-kept, same-kept, stage}
 use Rattle.sewing.proofs.Leads.{free-none}
 use Rattle.sewing.proofs.Members.{contains-in, in-outputs}
+use Rattle.sewing.proofs.Outputs.{names-told}
 use Rattle.sewing.proofs.Needed.{Origin, needed-inside, origin, piece-at, place-small}
 use Rattle.sewing.proofs.Stages.{Piece, Stage, same-length}
 use Rattle.sewing.proofs.Taken.{taken-once}
 use Rattle.sewing.proofs.Tokens.{leads-are-least}
-use Rattle.sewing.proofs.Counts.{Once, count-join, count-less, count-map, covers-once, sum-within, wires-renamed, zeros-in, zeros-renamed}
+use Rattle.sewing.proofs.Counts.{Once, Tells, count-join, count-less, count-map, covers-once, sum-within, wires-renamed, zeros-in, zeros-renamed}
 
 -- the wires of the gates of covers, and one for each name that one of them reads as 0
 abbrev pub counted : List Cover → ℕ
@@ -52,20 +53,31 @@ in-chosen t lead k (q ∷ ps) (suc i) p d there h =
     in_right (map (renamed_cover (sewn_name lead k q)) (t q)) (chosen t lead (k + 1) ps) (renamed_cover (sewn_name lead (k + suc i) p) d)
     (subst (λ (j : ℕ). In (chosen t lead (k + 1) ps) (renamed_cover (sewn_name lead j p) d)) here (in-chosen t lead (k + 1) ps i p d there h))
 
-chosen-counted : (t : Model → List Cover) (lead : Word) (k : ℕ) (ps : List Model) → counted (chosen t lead k ps) ≤ sum_by (λ p. counted (t p)) ps
+-- the names of each part stay different
+abbrev pub AreTold : Word → ℕ → List Model → Type 0
+AreTold lead k ps = (i : ℕ) (p : Model) → slice_get ps i ≡ Some p → Tells (sewn_name lead (k + i) p)
+
+told-first : (lead : Word) (k : ℕ) (p : Model) (ps : List Model) → AreTold lead k (p ∷ ps) → Tells (sewn_name lead k p)
+told-first lead k p ps told = let here : k + 0 ≡ k = omega arith in subst (λ (j : ℕ). Tells (sewn_name lead j p)) here (told 0 p refl)
+
+told-rest : (lead : Word) (k : ℕ) (p : Model) (ps : List Model) → AreTold lead k (p ∷ ps) → AreTold lead (k + 1) ps
+told-rest lead k p ps told i q there = let next : k + suc i ≡ k + 1 + i = omega arith in subst (λ (j : ℕ). Tells (sewn_name lead j q)) next (told (suc i) q there)
+
+chosen-counted : (t : Model → List Cover) (lead : Word) (k : ℕ) (ps : List Model) → AreTold lead k ps → counted (chosen t lead k ps) ≤ sum_by (λ p. counted (t p)) ps
 unfolding chosen
-chosen-counted t lead k [] = zero-le
-chosen-counted t lead k (p ∷ ps) =
+chosen-counted t lead k [] told = zero-le
+chosen-counted t lead k (p ∷ ps) told =
     let f : Word → Word = sewn_name lead k p in
+    let tells : Tells f = told-first lead k p ps told in
     let first : List Cover = map (renamed_cover f) (t p) in
     let rest : List Cover = chosen t lead (k + 1) ps in
     let wires : sum_by cover_wires (first ++ rest) ≡ sum_by cover_wires first + sum_by cover_wires rest = sum_by-append cover_wires first rest in
-    let own : sum_by cover_wires first ≡ sum_by cover_wires (t p) = wires-renamed f (t p) in
+    let own : sum_by cover_wires first ≡ sum_by cover_wires (t p) = wires-renamed f tells (t p) in
     let zeros : new_count [] (flat_map cover_zero_names (first ++ rest)) ≤ new_count [] (flat_map cover_zero_names first) + new_count [] (flat_map cover_zero_names rest) =
     subst (λ (l : List Word). new_count [] l ≤ new_count [] (flat_map cover_zero_names first) + new_count [] (flat_map cover_zero_names rest)) (sym (flat_map-append cover_zero_names first rest)) (count-join (flat_map cover_zero_names first) (flat_map cover_zero_names rest)) in
     let own_zeros : new_count [] (flat_map cover_zero_names first) ≤ new_count [] (flat_map cover_zero_names (t p)) =
-    subst (λ (l : List Word). new_count [] l ≤ new_count [] (flat_map cover_zero_names (t p))) (sym (zeros-renamed f (t p))) (count-map f (flat_map cover_zero_names (t p))) in
-    let later : counted rest ≤ sum_by (λ q. counted (t q)) ps = chosen-counted t lead (k + 1) ps in
+    subst (λ (l : List Word). new_count [] l ≤ new_count [] (flat_map cover_zero_names (t p))) (sym (zeros-renamed f tells (t p))) (count-map f (flat_map cover_zero_names (t p))) in
+    let later : counted rest ≤ sum_by (λ q. counted (t q)) ps = chosen-counted t lead (k + 1) ps (told-rest lead k p ps told) in
     let whole : sum_by (λ q. counted (t q)) (p ∷ ps) ≡ counted (t p) + sum_by (λ q. counted (t q)) ps = sum_by-cons (λ q. counted (t q)) p ps in
     added (sum_by cover_wires (first ++ rest)) (sum_by cover_wires first) (sum_by cover_wires rest) (sum_by cover_wires (t p))
     (new_count [] (flat_map cover_zero_names (first ++ rest))) (new_count [] (flat_map cover_zero_names first)) (new_count [] (flat_map cover_zero_names rest)) (new_count [] (flat_map cover_zero_names (t p)))
@@ -75,11 +87,11 @@ chosen-counted t lead k (p ∷ ps) =
     added a b c d z y x w s u wires own zeros own_zeros later whole = omega arith
 
 -- covers that stand once, each one of those
-pub wires-bounded : (t : Model → List Cover) (lead : Word) (k : ℕ) (ps : List Model) (cs : List Cover) → Once cs → ((c : Cover) → In cs c → In (chosen t lead k ps) c) → counted cs ≤ sum_by (λ p. counted (t p)) ps
-wires-bounded t lead k ps cs once within =
+pub wires-bounded : (t : Model → List Cover) (lead : Word) (k : ℕ) (ps : List Model) (cs : List Cover) → AreTold lead k ps → Once cs → ((c : Cover) → In cs c → In (chosen t lead k ps) c) → counted cs ≤ sum_by (λ p. counted (t p)) ps
+wires-bounded t lead k ps cs told once within =
     let wires : sum_by cover_wires cs ≤ sum_by cover_wires (chosen t lead k ps) = sum-within cover_wires cs (chosen t lead k ps) once within in
     let zeros : new_count [] (flat_map cover_zero_names cs) ≤ new_count [] (flat_map cover_zero_names (chosen t lead k ps)) = count-less (flat_map cover_zero_names cs) (flat_map cover_zero_names (chosen t lead k ps)) (zeros-in cs (chosen t lead k ps) within) in
-    let all : counted (chosen t lead k ps) ≤ sum_by (λ p. counted (t p)) ps = chosen-counted t lead k ps in
+    let all : counted (chosen t lead k ps) ≤ sum_by (λ p. counted (t p)) ps = chosen-counted t lead k ps told in
     added (sum_by cover_wires cs) (sum_by cover_wires (chosen t lead k ps)) (new_count [] (flat_map cover_zero_names cs)) (new_count [] (flat_map cover_zero_names (chosen t lead k ps))) (sum_by (λ p. counted (t p)) ps) wires zeros all
   where
     added : (a b c d s : ℕ) → a ≤ b → c ≤ d → b + d ≤ s → a + c ≤ s
@@ -122,8 +134,10 @@ module _ (needed : TakenAreNeeded) (ranks : RanksExist) where
     pub add-up-with : decomposed (sewn_with lead m parts) ≤ sum_by decomposed parts
     add-up-with =
         let whole : IsReplacement m (sewn_with lead m parts) = composed lead m windows parts formed ranked windowed replaced few is_lead in
+        let s : Stage lead 1 (source_names m) windows parts = stage lead m windows parts formed ranked windowed replaced few is_lead in
+        let told : AreTold lead 1 parts = λ i p there. let q : (old : List Word) × Piece lead old p = piece-at lead 1 (source_names m) windows parts s i p there in names-told lead (1 + i) q.0 p q.1 in
         let once : is_distinct (outputs_of (sewn_covers lead 1 parts)) ≡ true = distinct-right (source_names m) (outputs_of (sewn_covers lead 1 parts)) whole.formed.driven_once in
-        wires-bounded taken lead 1 parts (taken (sewn_with lead m parts)) (covers-once (taken (sewn_with lead m parts)) (taken-once (sewn_with lead m parts) once)) part-taken
+        wires-bounded taken lead 1 parts (taken (sewn_with lead m parts)) told (covers-once (taken (sewn_with lead m parts)) (taken-once (sewn_with lead m parts) once)) part-taken
 
   pub add-up : WiresAddUp
   add-up m windows parts formed ranked windowed replaced few =

@@ -3,11 +3,14 @@ use Rattle.std.proofs.Common.{Bool, List, Option, Some, [], ap, append-nil, fals
 use Rattle.std.proofs.lemmas.List.{length-map}
 use Rattle.std.specs.List.{list_all}
 use Rattle.std.specs.Prelude.{slice_get, slice_set}
-use Rattle.gate_net.specs.Forward.{IsForwardReading, kind_forward, node_forward}
+use Rattle.gate_net.specs.Forward.{IsForwardReading, kind_forward, known_forward, node_forward}
 use Rattle.gate_net.specs.Net.{IsKind, Net, drivers_of, node_at}
-use Rattle.gate_net.specs.Values.{HasPin}
+use Rattle.gate_net.specs.Values.{HasPin, family}
+use Rattle.gate_net.specs.declared.Family.{Family}
+use Rattle.gate_net.specs.declared.Family.TheVariants.{Constant, Input, Junction, Parity}
 use Rattle.gate_net.specs.declared.Kind.{Kind}
-use Rattle.gate_net.specs.declared.Kind.TheVariants.{And, Not, One, Or, Source, Zero}
+use Rattle.gate_net.specs.declared.Kind.TheVariants.{Source}
+use Rattle.gate_looks.proofs.Public.{source_is}
 use Rattle.gate_looks.specs.Pins.{AreBelow}
 use Rattle.rm_base.specs.declared.numbers.Fault.{Fault}
 use Rattle.rm_base.specs.declared.numbers.NodeId.{NodeId}
@@ -36,16 +39,17 @@ pub source_known : (x : ℕ) (sources : List Value3) (v : Value3) → v ≡ get_
 source_known x sources v e = ap seen e
 
 -- what is known of a node itself counts at a source alone
-pub own_forward : (net : Net) (x : ℕ) (kind : Kind) (own known : Option Bool) (os : List (Option Bool)) → IsKind net x kind → (kind ≡ Source → own ≡ known) → kind_forward kind own os ≡ node_forward (node_at net x) known os
-own_forward net x kind own known os is h = rw is.1 (at kind own h)
+pub own_counts : (kind : Kind) (own known : Option Bool) (os : List (Option Bool)) → (kind ≡ Source → own ≡ known) → kind_forward kind own os ≡ kind_forward kind known os
+own_counts kind own known os h = at (family kind) (λ means. h (source_is kind (sym means)))
   where
-    at : (k : Kind) (o : Option Bool) → (k ≡ Source → o ≡ known) → kind_forward k o os ≡ kind_forward k known os
-    at Source o h = h refl
-    at Zero o h = refl
-    at One o h = refl
-    at And o h = refl
-    at Or o h = refl
-    at Not o h = refl
+    at : (f : Family) → (f ≡ Input → own ≡ known) → known_forward f own os ≡ known_forward f known os
+    at Input h = h refl
+    at (Constant b) h = refl
+    at (Junction c) h = refl
+    at (Parity i) h = refl
+
+pub own_forward : (net : Net) (x : ℕ) (kind : Kind) (own known : Option Bool) (os : List (Option Bool)) → IsKind net x kind → (kind ≡ Source → own ≡ known) → kind_forward kind own os ≡ node_forward (node_at net x) known os
+own_forward net x kind own known os is h = rw is.1 (own_counts kind own known os h)
 
 pub drivers_marked : (net : Net) (order : List ℕ) (marks : List NodeMarks) → IsWalk net order → IsMarked order marks → (i x : ℕ) → slice_get order i ≡ Some x → AreBelow (drivers_of net x) (length marks)
 drivers_marked net order marks fits marked i x there p d reads =

@@ -3,9 +3,10 @@ use Rattle.std.proofs.Common.{◌≡◌, ℕ, ◌⊎◌, inl, inr, Bool, true, f
 use Rattle.std.specs.Prelude.{eqb}
 use Rattle.rm_base.specs.declared.numbers.NodeId.{NodeId}
 use Rattle.gate_net.specs.declared.Kind.{Kind}
-use Rattle.gate_net.specs.Net.{Net, Node, IsLive, kind_in, kind_of, node_at}
+use Rattle.gate_net.specs.Net.{Net, Node, IsKind, IsLive, kind_in, kind_of, node_at}
 use Rattle.pin_pool.specs.Ring.{has}
 use Rattle.rm_base.specs.Numbers.{numbers_of}
+use Rattle.rm_base.proofs.Public.{some_same}
 
 -- a node with a kind is live
 pub live_if : (net : Net) (x : ℕ) (kind : Kind) → kind_of net x ≡ Some kind → IsLive net x
@@ -17,6 +18,14 @@ live_if net x kind is = at (node_at net x) refl
     at : (o : Option Node) → node_at net x ≡ o → IsLive net x
     at None e = none (ap kind_in (sym e) ∙ is)
     at (Some n) e = (n.kind, (n.drivers, e))
+
+-- and of that kind
+pub kind_if : (net : Net) (x : ℕ) (kind : Kind) → kind_of net x ≡ Some kind → IsKind net x kind
+kind_if net x kind is = at (node_at net x) refl
+  where
+    at : (o : Option Node) → node_at net x ≡ o → IsKind net x kind
+    at None e = let none : None ≡ Some kind = sym (ap kind_in e) ∙ is in absurd (cc)
+    at (Some n) e = subst (λ (k : Kind). IsKind net x k) (some_same (sym (ap kind_in e) ∙ is)) (n.drivers, e)
 
 -- what is in a list with one more is in the list or is the last
 pub has_more : (d : ℕ) (xs : List NodeId) (y : NodeId) → has d (numbers_of (xs ++ y ∷ [])) ≡ true → (has d (numbers_of xs) ≡ true) ⊎ (d ≡ y.0)

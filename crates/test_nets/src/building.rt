@@ -1,7 +1,7 @@
 //! A net that grows gate by gate and stays small, so that whoever grows it owes no bounds.
 ghost use Rattle.std.specs.Prelude.{◌≡◌, ◌≢◌, ◌+◌, ◌≤◌, ℕ, IfOk, length, map, true};
 ghost use Rattle.gate_net.specs.Net.{IsGateKind, IsLive};
-ghost use Rattle.gate_net.specs.declared.Kind.TheVariants.{Not};
+ghost use Rattle.gate_net.specs.declared.Kind.TheVariants.{Not, Xor};
 ghost use Rattle.gate_graph.specs.Circuit.{live_nodes, net_of, pins_taken};
 ghost use Rattle.pin_pool.specs.Ring.{has};
 
@@ -70,6 +70,7 @@ impl NetBuilder {
     fn add_over(&mut self, kind: Kind, drivers: &[u32]) -> Result<NodeId, Fail>
         requires kind { IsGateKind kind }
         requires one { kind ≡ Not → length drivers.now ≡ 1 }
+        requires two { kind ≡ Xor → length drivers.now ≡ 2 }
     {
         if drivers.len() >= self.left as usize {
             return Err("too many pins".into());
@@ -86,6 +87,7 @@ impl NetBuilder {
             Gate::And(drivers) => self.add_over(Kind::And, drivers),
             Gate::Or(drivers) => self.add_over(Kind::Or, drivers),
             Gate::Not(driver) => self.add_over(Kind::Not, &[driver]),
+            Gate::Xor(one, other) => self.add_over(Kind::Xor, &[one, other]),
         }
     }
 

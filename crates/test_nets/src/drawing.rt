@@ -34,18 +34,19 @@ impl Draws {
     }
 }
 
-/// Adds an And or an Or of two or three drivers below the bound, or a Not of one.
+/// Adds an And or an Or of two or three drivers below the bound, an Xor of two, or a Not of one.
 pub fn add_drawn(net: &mut NetBuilder, draws: &mut Draws, bound: u32) -> Result<NodeId, Fail>
     requires { 0 < bound }
 {
     let one = draws.below(bound);
     let other = draws.below(bound);
     let third = draws.below(bound);
-    match draws.below(5) {
+    match draws.below(6) {
         0 => net.add(Gate::And(&[one, other])),
         1 => net.add(Gate::And(&[one, other, third])),
         2 => net.add(Gate::Or(&[one, other])),
         3 => net.add(Gate::Or(&[one, other, third])),
+        4 => net.add(Gate::Xor(one, other)),
         _ => net.add(Gate::Not(one)),
     }
 }

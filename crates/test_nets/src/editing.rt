@@ -5,12 +5,14 @@ ghost use Rattle.gate_graph.specs.Circuit.{free_nodes, free_pins, live_nodes, ne
 ghost use Rattle.gate_graph.specs.Undoing.{AreWithin, CanGoBack};
 ghost use Rattle.gate_graph.specs.declared.editing.Edit.{Edit};
 ghost use Rattle.gate_net.specs.Edits.{IsUnread};
-ghost use Rattle.gate_net.specs.Net.{IsGate, IsLive, drivers_of};
+ghost use Rattle.gate_net.specs.Net.{IsGate, IsKind, IsLive, drivers_of};
 ghost use Rattle.gate_net.specs.Paths.{Reaches};
+ghost use Rattle.gate_net.specs.declared.Kind.TheVariants.{Xor};
 ghost use Rattle.gate_net.specs.Values.{IsJunction};
 ghost use Rattle.rm_base.specs.Numbers.{number_bound};
 
 use gate_graph::{Edit, Graph, Marks, Undos};
+use gate_net::Kind;
 use rm_base::{NoMemory, NodeId};
 use std::alloc::Global;
 use std::test::Fail;
@@ -51,6 +53,15 @@ fn is_gate(graph: &Graph, node: NodeId) -> bool
     match graph.kind(node) {
         Some(kind) => kind.is_gate(),
         None => false,
+    }
+}
+
+fn is_xor(graph: &Graph, node: NodeId) -> bool
+    ensures { result ≡ true → IsKind (net_of graph.now) node.0 Xor }
+{
+    match graph.kind(node) {
+        Some(Kind::Xor) => true,
+        _ => false,
     }
 }
 
@@ -145,6 +156,15 @@ fn may_retire(graph: &Graph, gate: NodeId) -> bool
     is_unread(graph, gate)
 }
 
+fn may_turn(graph: &Graph, gate: NodeId, position: u32) -> bool
+    ensures { result ≡ true → CanEdit graph.now (Edit.ToNot gate position) }
+{
+    if !is_xor(graph, gate) {
+        return false;
+    }
+    has_pin(graph, gate, position)
+}
+
 /// Whether the edit may be made.
 pub fn may_edit(alloc: Global, graph: &Graph, edit: &Edit) -> Result<bool, NoMemory>
     requires pins { 0 < free_pins graph.now }
@@ -161,6 +181,7 @@ pub fn may_edit(alloc: Global, graph: &Graph, edit: &Edit) -> Result<bool, NoMem
         } => may_redrive(alloc, graph, gate, position, driver),
         Edit::Readers { from, to } => may_reread(alloc, graph, from, to),
         Edit::NewNot { driver } => Ok(is_live(graph, driver)),
+        Edit::ToNot { gate, position } => Ok(may_turn(graph, gate, position)),
         Edit::Retire { gate } => Ok(may_retire(graph, gate)),
     }
 }

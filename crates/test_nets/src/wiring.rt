@@ -13,6 +13,7 @@ pub enum Gate<'a> {
     And(&'a [u32]),
     Or(&'a [u32]),
     Not(u32),
+    Xor(u32, u32),
 }
 
 /// How many sources a net has, which are numbered from 2 on, its gates, which take the numbers after them, and what is

@@ -18,7 +18,7 @@ fn forced(kind: Kind, value: bool) -> Option<bool>
         Kind::And => { if value { None } else { Some(false) } }
         Kind::Or => { if value { Some(true) } else { None } }
         Kind::Not => Some(!value),
-        Kind::Source | Kind::Zero | Kind::One => None,
+        Kind::Source | Kind::Zero | Kind::One | Kind::Xor => None,
     }
 }
 

@@ -3,6 +3,7 @@ ghost use Rattle.std.specs.Prelude.{◌≡◌, sum_by};
 ghost use Rattle.cover_decompose.specs.Count.{cover_wires as wires_of_cover, is_read as is_read_literal, joining, literal_count as count_of_literals};
 ghost use Rattle.window_cut.specs.Inner.Weights.{capped};
 
+use cover_decompose::parity_ending;
 use rm_model::{Cover, Literal, Row};
 
 fn is_read(literal: Literal) -> bool
@@ -46,6 +47,9 @@ fn rows_wires(rows: &[Row]) -> u64
 pub fn cover_wires(cover: &Cover) -> u64
     ensures { result ≡ capped (wires_of_cover cover.now) }
 {
+    if let Some(ends) = parity_ending(cover) {
+        return if ends { 2 } else { 3 };
+    }
     let rows = cover.rows.items();
     let wires = rows_wires(rows).saturating_add(wires_to_join(rows.len()));
     if cover.on {

@@ -3,7 +3,7 @@ use Rattle.std.proofs.Common.{◌≡◌, ◌≢◌, ℕ, inl, inr, None, [], ◌
 use Rattle.std.specs.Prelude.{slice_get}
 use Rattle.std.proofs.lemmas.Bool.Decides.{eqb_tells}
 use Rattle.gate_net.specs.declared.Kind.{Kind}
-use Rattle.gate_net.specs.declared.Kind.TheVariants.{Zero, One, Not}
+use Rattle.gate_net.specs.declared.Kind.TheVariants.{Zero, One, Not, Xor}
 use Rattle.gate_net.specs.Net.{Net, node_at, drivers_in, drivers_of, Reads, IsObserved, IsKind, IsGateKind, IsAcyclic, IsWellFormed, plain_node, source_count, trimmed}
 use Rattle.gate_net.specs.Edits.{IsUnread, DiffersAt}
 use Rattle.wire_edit.proofs.Plain.{KeepsPlain, plain_constants, plain_sources}
@@ -27,14 +27,15 @@ module _ (net after : Net) (gate : ℕ) (well : IsWellFormed net) (d : DiffersAt
   live_after : (x : ℕ) → x ≢ gate → node_at net x ≢ None → node_at after x ≢ None
   live_after x ne live e = live (sym (d.others x ne) ∙ e)
 
-  pub apart_formed : IsAcyclic after → ((p x : ℕ) → Reads after gate p x → (x ≢ gate) × (node_at net x ≢ None)) → (IsKind after gate Not → (e : ℕ) × (drivers_of after gate ≡ e ∷ [])) → trimmed after.nodes ≡ after.nodes → IsWellFormed after
-  apart_formed acyclic live one canonical = record {
+  pub apart_formed : IsAcyclic after → ((p x : ℕ) → Reads after gate p x → (x ≢ gate) × (node_at net x ≢ None)) → (IsKind after gate Not → (e : ℕ) × (drivers_of after gate ≡ e ∷ [])) → (IsKind after gate Xor → (d e : ℕ) × (drivers_of after gate ≡ d ∷ e ∷ [])) → trimmed after.nodes ≡ after.nodes → IsWellFormed after
+  apart_formed acyclic live one two canonical = record {
     acyclic = acyclic;
     constants = plain_constants net after well keeps;
     only_zero = λ x is. well.only_zero x (keeps.back x Zero is (λ e. e));
     only_one = λ x is. well.only_one x (keeps.back x One is (λ e. e));
     sources = plain_sources net after well keeps;
     nots_have_one = nots;
+    xors_have_two = xors;
     drivers_live = drivers;
     observed_live = λ x o.
         let old : IsObserved net x = (o.0, ap (λ xs. slice_get xs o.0) (sym d.observed) ∙ o.1) in
@@ -50,6 +51,12 @@ module _ (net after : Net) (gate : ℕ) (well : IsWellFormed net) (d : DiffersAt
         | inr t ↦
             let e : (e : ℕ) × (drivers_of net y ≡ e ∷ []) = well.nots_have_one y (is.0, sym (d.others y t.1) ∙ is.1) in
             (e.0, ap drivers_in (d.others y t.1) ∙ e.1)
+      ]
+
+      xors : (y : ℕ) → IsKind after y Xor → (d e : ℕ) × (drivers_of after y ≡ d ∷ e ∷ [])
+      xors y is = elim (eqb_tells y gate) [
+        | inl t ↦ let e = two (rw t.1 at is) in (e.0, e.1, ap (drivers_of after) t.1 ∙ e.2)
+        | inr t ↦ let e = well.xors_have_two y (is.0, sym (d.others y t.1) ∙ is.1) in (e.0, e.1, ap drivers_in (d.others y t.1) ∙ e.2)
       ]
 
       drivers : (y p x : ℕ) → Reads after y p x → node_at after x ≢ None

@@ -3,10 +3,10 @@ use Rattle.std.proofs.Common.{◌≡◌, ℕ, zero, suc, ◌+◌, ◌≤◌, Opt
 use Rattle.std.specs.Prelude.{slice_set}
 use Rattle.gate_net.specs.Net.{Node, Net, drivers_in, drivers_of, IsGate, IsWellFormed, wire_count}
 use Rattle.gate_net.specs.Edits.{node_redirected}
-use Rattle.wire_edit.specs.Changes.{Change, append, remove, fix, readers, new_not, retire, changed, with_least_free, without_node}
+use Rattle.wire_edit.specs.Changes.{Change, append, remove, fix, readers, new_not, retire, to_not, changed, with_least_free, without_node}
 use Rattle.wire_edit.specs.Inner.Changes.{CanChange, pins_added, nodes_added}
 use Rattle.wire_edit.proofs.Totals.{total_gone}
-use Rattle.wire_edit.proofs.Working.{remove_wires, fix_wires, append_raises, moved_wires, new_raises}
+use Rattle.wire_edit.proofs.Working.{remove_wires, turn_wires, fix_wires, append_raises, moved_wires, new_raises}
 use Rattle.wire_edit.proofs.Editing.{length_trimmed}
 
 -- pins that go with a gate
@@ -26,6 +26,7 @@ wires_budget net (remove gate position) well can = let e : _ ≤ _ = remove_wire
 wires_budget net (fix gate position value) well can = let e : _ ≤ _ = fix_wires net gate position value can in omega (arith, e)
 wires_budget net (readers from to) well can = let e : _ ≡ _ = moved_wires net from to well can in omega (arith, e)
 wires_budget net (new_not driver) well can = let e : _ ≡ _ = (new_raises net well driver can).1 in omega (arith, e)
+wires_budget net (to_not gate position) well can = let e : _ ≤ _ = turn_wires net gate position can in omega (arith, e)
 wires_budget net (retire gate) well (g, unread) = let e : _ ≡ _ = retire_wires net gate g in omega (arith, e)
 
 length_set : (os : List (Option Node)) (x : ℕ) (o : Option Node) → length (slice_set os x o) ≡ length os
@@ -51,6 +52,7 @@ length_budget net (remove gate position) = set_within net.nodes gate _
 length_budget net (fix gate position value) = set_within net.nodes gate _
 length_budget net (readers from to) = omega (arith, length_map (node_redirected from to) net.nodes)
 length_budget net (new_not driver) = length_least net.nodes _
+length_budget net (to_not gate position) = set_within net.nodes gate _
 length_budget net (retire gate) =
     let a : length (changed net (retire gate)).nodes ≤ length (slice_set net.nodes gate None) = length_trimmed (slice_set net.nodes gate None) in
     omega (arith, a, length_set net.nodes gate None)

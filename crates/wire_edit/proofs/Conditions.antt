@@ -1,10 +1,13 @@
 -- A step that may be made makes a change that may be made.
 use Rattle.std.proofs.Common.{◌≡◌, ◌≢◌, ℕ, zero, suc, ◌<◌, Bool, true, false, not, Option, Some, None, List, [], ◌∷◌, length, refl, sym, ◌∙◌, ap, arith}
 use Rattle.std.specs.Prelude.{slice_get, nat_eq, nat_lt, if◌then◌else◌, option_and_then}
-use Rattle.std.proofs.lemmas.Bool.{and_parts, ltb-true}
+use Rattle.std.proofs.lemmas.Bool.{and_parts, both_ways, ltb-true}
 use Rattle.std.proofs.lemmas.Option.{slice_get_within}
 use Rattle.gate_net.specs.declared.Kind.{Kind}
 use Rattle.gate_net.specs.declared.Kind.TheVariants.{Zero, One, Not}
+use Rattle.gate_net.specs.declared.Family.{Family}
+use Rattle.gate_net.specs.declared.Family.TheVariants.{Constant, Input, Junction, Parity}
+use Rattle.gate_net.specs.Meaning.{is_gate_family}
 use Rattle.gate_net.specs.Net.{Node, Net, node_at, kind_in, drivers_of, Reads, IsKind, IsLive, IsGate, IsGateKind, IsAcyclic, IsRanked, HasConstants, IsWellFormed}
 use Rattle.gate_net.specs.Values.{same_bool, IsJunction}
 use Rattle.gate_net.specs.Paths.{Reaches, pin, on}
@@ -12,11 +15,12 @@ use Rattle.gate_net.specs.Edits.{constant_node}
 use Rattle.gate_net.specs.Inner.Edits.{constant_kind}
 use Rattle.wire_edit.specs.declared.steps.Step.{Step}
 use Rattle.wire_edit.specs.declared.steps.Step.TheVariants.{Add, Fix, NewNot, Const, Same, NoPins, OnePin, Twice, Twin, Dead}
-use Rattle.wire_edit.specs.Tests.{is_junction, is_not, is_gate, control_of, driver_at, constant_at, second_driver, is_in_use, is_repeated}
+use Rattle.wire_edit.specs.Tests.{is_junction, is_not, is_xor, is_gate, reads_several, control_of, family_of, other_position, driver_at, constant_at, second_driver, is_in_use, is_repeated}
 use Rattle.wire_edit.specs.Changes.{remove, readers}
 use Rattle.wire_edit.specs.Inner.Changes.{CanChange}
-use Rattle.wire_edit.specs.Steps.{is_not_at, Applies, constant_change, empty_node, or_zero, change_of}
-use Rattle.wire_edit.proofs.Tested.{present, live_is, junction_is_one, control_is, not_is, constant_read, gate_is, junction_gate, not_gate, unused, repeated_at, one_in, not_at, same_at}
+use Rattle.wire_edit.specs.Steps.{is_not_at, Applies, constant_change, same_change, other_driver, empty_node, or_zero, change_of}
+use Rattle.wire_edit.proofs.Tested.{present, live_is, junction_is_one, junction_at, xor_at_family, not_is, constant_read, gate_is, junction_gate, not_gate, several_gate, several_junction, unused, repeated_at, one_in, not_at, same_at}
+use Rattle.wire_edit.proofs.XorPins.{xor_pin}
 
 pub reaches_rank : (net : Net) (rank : ℕ → ℕ) → IsRanked net rank → {x y : ℕ} → Reaches net x y → rank x < rank y
 reaches_rank net rank ranked {x} {y} (pin p reads) = ranked y p x reads
@@ -96,15 +100,35 @@ second_is net gate well e =
     let first : Reads net i.0 0 only.0 = ap (λ ds. slice_get ds 0) only.1 in
     (i.0, (only.0, (i.1.0, (kind, (first, ap (option_and_then (λ (inner : ℕ). driver_at net inner 0)) i.1.0 ∙ first)))))
 
-const_can : (net : Net) → IsWellFormed net → (gate p : ℕ) → is_gate net gate ≡ true → (b : Bool) → constant_at net gate p ≡ Some b → (control : Option Bool) → control_of net gate ≡ control → CanChange net (constant_change gate p control (Some b))
-const_can net well gate p g b e None is = to_constant net well gate (gate_is net gate g) (not b)
-const_can net well gate p g b e (Some c) is = at (same_bool b c)
+-- a gate is neither a source nor a constant
+pub no_gate_family : (net : Net) (x : ℕ) (f : Family) → is_gate net x ≡ true → family_of net x ≡ f → is_gate_family f ≡ false → ⊥
+no_gate_family net x f g e none = both_ways (is_gate_family f) none (sym (ap is_gate_family e) ∙ g)
+
+const_can : (net : Net) → IsWellFormed net → (gate p : ℕ) → is_gate net gate ≡ true → (b : Bool) → constant_at net gate p ≡ Some b → (f : Family) → family_of net gate ≡ f → CanChange net (constant_change gate p (other_driver net gate p) f (Some b))
+const_can net well gate p g b e f is = by f b is e
   where
-    at : (t : Bool) → CanChange net (if t then readers gate (constant_node c) else remove gate p)
-    at true = to_constant net well gate (gate_is net gate g) c
-    at false =
-        let d : (d : ℕ) × (Reads net gate p d × _) = constant_read net gate p b e in
-        ((c, control_is net gate c is), slice_get_within (drivers_of net gate) p d.0 d.1.0)
+    within : (b : Bool) → constant_at net gate p ≡ Some b → p < length (drivers_of net gate)
+    within b e = let d : (d : ℕ) × (Reads net gate p d × _) = constant_read net gate p b e in slice_get_within (drivers_of net gate) p d.0 d.1.0
+
+    at : (c b : Bool) → IsJunction net gate c → constant_at net gate p ≡ Some b → (t : Bool) → CanChange net (if t then readers gate (constant_node c) else remove gate p)
+    at c b j e true = to_constant net well gate (gate_is net gate g) c
+    at c b j e false = ((c, j), within b e)
+
+    by : (f : Family) (b : Bool) → family_of net gate ≡ f → constant_at net gate p ≡ Some b → CanChange net (constant_change gate p (other_driver net gate p) f (Some b))
+    by Input b is e = absurd (no_gate_family net gate Input g is refl)
+    by (Constant c) b is e = absurd (no_gate_family net gate (Constant c) g is refl)
+    by (Junction c) b is e = at c b (junction_at net gate c is) e (same_bool b c)
+    by (Parity true) b is e = to_constant net well gate (gate_is net gate g) (not b)
+    by (Parity false) true is e = (xor_at_family net gate is, within true e)
+    by (Parity false) false is e =
+        let d : (d : ℕ) × (Reads net gate p d × _) = constant_read net gate p false e in
+        let o = xor_pin net well gate p d.0 (xor_at_family net gate is) d.1.0 in
+        readers_to net gate o.0 _ (ap or_zero o.1.reads)
+        (down net well well.acyclic gate o.0 (gate_is net gate g) (driver_live net well gate (other_position p) o.0 o.1.reads) (well.acyclic.1 gate (other_position p) o.0 o.1.reads))
+
+same_can : (net : Net) → IsWellFormed net → (gate p : ℕ) → reads_several net gate ≡ true → p < length (drivers_of net gate) → (t : Bool) → is_xor net gate ≡ t → CanChange net (same_change gate p t)
+same_can net well gate p s lt true is = to_constant net well gate (gate_is net gate (several_gate net gate s)) false
+same_can net well gate p s lt false is = let c = junction_is_one net gate (several_junction net gate s is) in ((c.0, c.1.1), lt)
 
 pub applies_changes : (net : Net) (step : Step) → IsWellFormed net → Applies net step → CanChange net (change_of net step)
 applies_changes net (Add gate node) well (j, (live, (ne, (apart, fresh)))) =
@@ -116,13 +140,12 @@ applies_changes net (Const gate position) well e =
     let a : (is_gate net gate.0 ≡ true) × _ = and_parts (is_gate net gate.0) _ e in
     let b : (is_in_use net gate.0 ≡ true) × _ = and_parts (is_in_use net gate.0) _ a.1 in
     let k : (k : Bool) × (constant_at net gate.0 position ≡ Some k) = present (constant_at net gate.0 position) b.1 in
-    rw k.1 (const_can net well gate.0 position a.0 k.0 k.1 (control_of net gate.0) refl)
+    rw k.1 (const_can net well gate.0 position a.0 k.0 k.1 (family_of net gate.0) refl)
 applies_changes net (Same gate position) well e =
-    let a : (is_junction net gate.0 ≡ true) × _ = and_parts (is_junction net gate.0) _ e in
+    let a : (reads_several net gate.0 ≡ true) × _ = and_parts (reads_several net gate.0) _ e in
     let b : (is_in_use net gate.0 ≡ true) × (is_repeated (drivers_of net gate.0) position ≡ true) = and_parts (is_in_use net gate.0) _ a.1 in
-    let c : (c : Bool) × ((control_of net gate.0 ≡ Some c) × IsJunction net gate.0 c) = junction_is_one net gate.0 a.0 in
     let r : (d : ℕ) × ((q : ℕ) × ((q < position) × ((slice_get (drivers_of net gate.0) q ≡ Some d) × (slice_get (drivers_of net gate.0) position ≡ Some d)))) = repeated_at (drivers_of net gate.0) position b.1 in
-    ((c.0, c.1.1), slice_get_within (drivers_of net gate.0) position r.0 r.1.1.1.1)
+    same_can net well gate.0 position a.0 (slice_get_within (drivers_of net gate.0) position r.0 r.1.1.1.1) (is_xor net gate.0) refl
 applies_changes net (NoPins gate) well e =
     let a : (is_junction net gate.0 ≡ true) × _ = and_parts (is_junction net gate.0) _ e in
     let c : (c : Bool) × ((control_of net gate.0 ≡ Some c) × IsJunction net gate.0 c) = junction_is_one net gate.0 a.0 in

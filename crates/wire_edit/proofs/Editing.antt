@@ -7,7 +7,7 @@ use Rattle.gate_net.specs.Net.{Node, Net, node_at, flatten_option, before_dead, 
 use Rattle.gate_net.specs.Edits.{constant_node, DiffersAt, MakesGate}
 use Rattle.gate_graph.specs.Circuit.{Circuit, net_of, free_pins, free_nodes}
 use Rattle.gate_graph.specs.Changes.{CanEdit, Edits}
-use Rattle.wire_edit.specs.Changes.{Change, append, remove, fix, readers, new_not, retire, changed, with_least_free, with_new_not, without_node}
+use Rattle.wire_edit.specs.Changes.{Change, append, remove, fix, readers, new_not, retire, to_not, changed, with_least_free, with_new_not, without_node}
 use Rattle.wire_edit.specs.Inner.Changes.{CanChange, least_free, pins_added, nodes_added}
 use Rattle.wire_edit.specs.Edited.{edit_of}
 use Rattle.wire_edit.proofs.Canonical.{least_is_free, below_is_live, least-there, least-other, gone-other, gone-there, same_nodes, canonical_least, canonical_trimmed}
@@ -22,6 +22,7 @@ can_edit v (fix gate position value) well (g, lt) pins free =
 can_edit v (readers from to) well can pins free = can
 can_edit v (new_not driver) well live pins free = (live, (pins, free))
 can_edit v (retire gate) well can pins free = can
+can_edit v (to_not gate position) well can pins free = can
 
 same_net : (n m : Net) → n.nodes ≡ m.nodes → n.observed ≡ m.observed → n ≡ m
 same_net n m a b =
@@ -68,6 +69,7 @@ edited_net v w (fix gate position value) well well' e = e.0
 edited_net v w (readers from to) well well' e = e.0
 edited_net v w (new_not driver) well well' e = same_net (net_of w) (with_new_not (net_of v) driver) (made_net v w driver e.0.0 _ well well' e.0.1.0) e.0.1.0.differs.observed
 edited_net v w (retire gate) well well' e = same_net (net_of w) (without_node (net_of v) gate) (gone_net v w gate well' e.0.0 e.0.1) e.0.0.observed
+edited_net v w (to_not gate position) well well' e = e.0
 
 -- what is free of pins and nodes afterwards
 pub edited_room : (v w : Circuit) (change : Change) → Edits v (edit_of change) w → (free_pins w + pins_added change ≡ free_pins v) × (free_nodes v ≤ free_nodes w + nodes_added change)
@@ -77,6 +79,7 @@ edited_room v w (fix gate position value) e = (e.1.1.pins_left, omega (arith, e.
 edited_room v w (readers from to) e = (e.1.1.pins_left, omega (arith, e.1.1.nodes_left))
 edited_room v w (new_not driver) e = (e.1.pins_left, omega (arith, e.1.nodes_left))
 edited_room v w (retire gate) e = (omega (arith, e.1.1.pins_left), omega (arith, e.1.1.nodes_left))
+edited_room v w (to_not gate position) e = (e.1.1.pins_left, omega (arith, e.1.1.nodes_left))
 
 -- NODES AND THEIR ROOM
 length_before : (o : Option Node) (os : List (Option Node)) → length (before_dead o os) ≤ suc (length os)

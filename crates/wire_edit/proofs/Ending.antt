@@ -5,21 +5,25 @@ use Rattle.std.proofs.lemmas.Bool.{and_parts, ltb-true}
 use Rattle.rm_base.specs.declared.numbers.NodeId.{NodeId}
 use Rattle.gate_net.specs.Net.{Net, drivers_of, Reads, IsKind, IsWellFormed, wire_count}
 use Rattle.gate_net.specs.declared.Kind.TheVariants.{Not}
+use Rattle.gate_net.specs.declared.Family.{Family}
+use Rattle.gate_net.specs.declared.Family.TheVariants.{Constant, Input, Junction, Parity}
 use Rattle.gate_net.specs.Values.{same_bool}
 use Rattle.gate_net.specs.Edits.{constant_node}
 use Rattle.wire_edit.specs.declared.steps.Step.{Step}
 use Rattle.wire_edit.specs.declared.steps.Step.TheVariants.{Add, Fix, NewNot, Const, Same, NoPins, OnePin, Twice, Twin, Dead}
-use Rattle.wire_edit.specs.Tests.{is_gate, is_junction, is_not, is_in_use, control_of, constant_at, driver_at, second_driver}
-use Rattle.wire_edit.specs.Changes.{Change, append, remove, fix, readers, new_not, retire, changed}
+use Rattle.wire_edit.specs.Tests.{is_gate, is_junction, is_not, is_xor, reads_several, is_in_use, control_of, family_of, other_position, constant_at, driver_at, second_driver}
+use Rattle.wire_edit.specs.Changes.{Change, append, remove, fix, readers, new_not, retire, to_not, changed}
 use Rattle.wire_edit.specs.Inner.Changes.{CanChange}
-use Rattle.wire_edit.specs.Steps.{rule_applies, is_not_at, Applies, constant_change, empty_node, or_zero, change_of, stepped}
+use Rattle.wire_edit.specs.Steps.{rule_applies, is_not_at, Applies, constant_change, same_change, other_driver, empty_node, or_zero, change_of, stepped}
 use Rattle.wire_edit.specs.Order.{node, next_step, rule_at}
 use Rattle.wire_edit.specs.Laws.{IsTidying}
 use Rattle.wire_edit.specs.Work.{work, FixesPin, MakesPin, most_raised, pins_made}
-use Rattle.wire_edit.proofs.Tested.{gate_is, not_gate, read_in_use, one_in}
+use Rattle.wire_edit.proofs.Tested.{constant_read, gate_is, not_gate, read_in_use, one_in, xor_at_family}
+use Rattle.wire_edit.proofs.XorPins.{xor_pin}
+use Rattle.wire_edit.proofs.ConstantCases.{constant_cases, same_cases}
 use Rattle.wire_edit.proofs.Conditions.{constant_apart, second_is, applies_changes}
 use Rattle.wire_edit.proofs.Ordering.{NoRules, none_rules, next_at, next_applies, twin_gate}
-use Rattle.wire_edit.proofs.Working.{remove_wires, fix_wires, remove_falls, fix_falls, append_raises, moved_wires, readers_fall, retire_falls, new_raises}
+use Rattle.wire_edit.proofs.Working.{turn_falls, turn_wires, remove_wires, fix_wires, remove_falls, fix_falls, append_raises, moved_wires, readers_fall, retire_falls, new_raises}
 use Rattle.rm_base.specs.Numbers.{one_if}
 
 -- the change falls, where readers move from a node in use to one that is in use or no gate
@@ -34,15 +38,25 @@ to_node : (net : Net) → IsWellFormed net → (from to y p to' : ℕ) → is_in
 to_node net well from to y p to' used reads is can =
     readers_fall net from to well can used (λ g. ap (is_in_use net) is ∙ read_in_use net to' y p reads)
 
-const_falls : (net : Net) → IsWellFormed net → (gate p : ℕ) → is_in_use net gate ≡ true → (control constant : Option Bool) → CanChange net (constant_change gate p control constant) → Falls net (constant_change gate p control constant)
-const_falls net well gate p used None (Some b) can = to_constant net well gate (not b) used can
-const_falls net well gate p used (Some c) (Some b) can = at (same_bool b c) can
+const_falls : (net : Net) → IsWellFormed net → (gate p : ℕ) → is_in_use net gate ≡ true → (f : Family) (constant : Option Bool) → family_of net gate ≡ f → constant_at net gate p ≡ constant → CanChange net (constant_change gate p (other_driver net gate p) f constant) → Falls net (constant_change gate p (other_driver net gate p) f constant)
+const_falls net well gate p used f None is e can = remove_falls net gate p can
+const_falls net well gate p used Input (Some b) is e can = remove_falls net gate p can
+const_falls net well gate p used (Constant c) (Some b) is e can = remove_falls net gate p can
+const_falls net well gate p used (Junction c) (Some b) is e can = at (same_bool b c) can
   where
     at : (t : Bool) → CanChange net (if t then readers gate (constant_node c) else remove gate p) → Falls net (if t then readers gate (constant_node c) else remove gate p)
     at true can = to_constant net well gate c used can
     at false can = remove_falls net gate p can
-const_falls net well gate p used None None can = remove_falls net gate p can
-const_falls net well gate p used (Some c) None can = remove_falls net gate p can
+const_falls net well gate p used (Parity true) (Some b) is e can = to_constant net well gate (not b) used can
+const_falls net well gate p used (Parity false) (Some true) is e can = turn_falls net gate p can
+const_falls net well gate p used (Parity false) (Some false) is e can =
+    let d : (d : ℕ) × (Reads net gate p d × _) = constant_read net gate p false e in
+    let o = xor_pin net well gate p d.0 (xor_at_family net gate is) d.1.0 in
+    to_node net well gate (other_driver net gate p) gate (other_position p) o.0 used o.1.reads (ap or_zero o.1.reads) can
+
+same_falls : (net : Net) → IsWellFormed net → (gate p : ℕ) → is_in_use net gate ≡ true → (t : Bool) → CanChange net (same_change gate p t) → Falls net (same_change gate p t)
+same_falls net well gate p used true can = to_constant net well gate false used can
+same_falls net well gate p used false can = remove_falls net gate p can
 
 empty_falls : (net : Net) → IsWellFormed net → (gate : ℕ) → is_in_use net gate ≡ true → (control : Option Bool) → CanChange net (readers gate (empty_node control)) → Falls net (readers gate (empty_node control))
 empty_falls net well gate used None can = to_constant net well gate false used can
@@ -56,8 +70,11 @@ falls net (Const gate position) well t e twin =
     let can : CanChange net (change_of net (Const gate position)) = applies_changes net (Const gate position) well e in
     let a : (is_gate net gate.0 ≡ true) × _ = and_parts (is_gate net gate.0) _ e in
     let u : (is_in_use net gate.0 ≡ true) × _ = and_parts (is_in_use net gate.0) _ a.1 in
-    const_falls net well gate.0 position u.0 (control_of net gate.0) (constant_at net gate.0 position) can
-falls net (Same gate position) well t e twin = remove_falls net gate.0 position (applies_changes net (Same gate position) well e)
+    const_falls net well gate.0 position u.0 (family_of net gate.0) (constant_at net gate.0 position) refl refl can
+falls net (Same gate position) well t e twin =
+    let a : (reads_several net gate.0 ≡ true) × _ = and_parts (reads_several net gate.0) _ e in
+    let u : (is_in_use net gate.0 ≡ true) × _ = and_parts (is_in_use net gate.0) _ a.1 in
+    same_falls net well gate.0 position u.0 (is_xor net gate.0) (applies_changes net (Same gate position) well e)
 falls net (NoPins gate) well t e twin =
     let a : (is_junction net gate.0 ≡ true) × _ = and_parts (is_junction net gate.0) _ e in
     let u : (is_in_use net gate.0 ≡ true) × _ = and_parts (is_in_use net gate.0) _ a.1 in
@@ -141,23 +158,16 @@ wires_change net (remove gate position) well can = remove_wires net gate positio
 wires_change net (fix gate position value) well can = fix_wires net gate position value can
 wires_change net (readers from to) well can = let e : _ ≡ _ = moved_wires net from to well can in omega arith
 wires_change net (new_not driver) well can = let e : _ ≡ _ = (new_raises net well driver can).1 in omega arith
+wires_change net (to_not gate position) well can = turn_wires net gate position can
 wires_change net (retire gate) well can = let e : _ ≤ _ = (retire_falls net gate can).1 in omega arith
-
-constant_made : (gate p : ℕ) (control constant : Option Bool) → made (constant_change gate p control constant) ≡ 0
-constant_made gate p control None = refl
-constant_made gate p None (Some b) = refl
-constant_made gate p (Some c) (Some b) = at (same_bool b c)
-  where
-    at : (t : Bool) → made (if t then readers gate (constant_node c) else remove gate p) ≡ 0
-    at true = refl
-    at false = refl
 
 made_by : (net : Net) (step : Step) → made (change_of net step) ≡ pins_made step
 made_by net (Add gate node) = refl
 made_by net (Fix gate position value) = refl
 made_by net (NewNot node) = refl
-made_by net (Const gate position) = constant_made gate.0 position (control_of net gate.0) (constant_at net gate.0 position)
-made_by net (Same gate position) = refl
+made_by net (Const gate position) =
+    constant_cases (λ change. made change ≡ 0) gate.0 position (other_driver net gate.0 position) (family_of net gate.0) (constant_at net gate.0 position) refl refl (λ to. refl)
+made_by net (Same gate position) = same_cases (λ change. made change ≡ 0) gate.0 position (is_xor net gate.0) refl refl
 made_by net (NoPins gate) = refl
 made_by net (OnePin gate) = refl
 made_by net (Twice gate) = refl

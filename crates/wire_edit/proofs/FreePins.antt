@@ -1,29 +1,30 @@
 -- A tidy net has no pin that a constant drives, and no removal makes another pin free.
-use Rattle.std.proofs.Common.{◌≡◌, ℕ, zero, suc, ◌+◌, ◌-◌, ◌<◌, ◌≤◌, Bool, true, false, not, Option, Some, None, List, [], ◌∷◌, length, map, refl, sym, ◌∙◌, ap, arith}
-use Rattle.std.specs.Prelude.{slice_get, slice_set, nat_lt, option_and_then, if◌then◌else◌}
+use Rattle.std.proofs.Common.{◌≡◌, ℕ, zero, suc, ◌+◌, ◌<◌, ◌≤◌, Bool, true, false, not, Option, Some, None, List, [], ◌∷◌, length, map, refl, sym, ◌∙◌, ap, arith}
+use Rattle.std.specs.Prelude.{slice_get, slice_set, nat_lt, option_and_then}
 use Rattle.std.specs.List.{sum_by}
-use Rattle.std.proofs.lemmas.Bool.{and_from, ltb-true, ltb-false, lt-ltb}
+use Rattle.std.proofs.lemmas.Bool.{and_from, both_ways, ltb-true, ltb-false, lt-ltb}
 use Rattle.std.proofs.lemmas.List.Sums.{sum_by-cons}
 use Rattle.rm_base.specs.declared.numbers.NodeId.{NodeId}
 use Rattle.gate_net.specs.declared.Kind.{Kind}
-use Rattle.gate_net.specs.declared.Kind.TheVariants.{Source, Zero, One, And, Or, Not}
-use Rattle.gate_net.specs.Net.{Node, Net, node_at, kind_in, drivers_in, drivers_of, flatten_option, Reads, IsGate, IsWellFormed, plain_node, source_count, wire_count}
-use Rattle.gate_net.specs.Values.{same_bool}
+use Rattle.gate_net.specs.declared.Family.{Family}
+use Rattle.gate_net.specs.Meaning.{is_gate_kind}
+use Rattle.gate_net.specs.Net.{Node, Net, node_at, kind_in, drivers_in, drivers_of, flatten_option, Reads, IsGate, IsWellFormed, wire_count}
 use Rattle.gate_net.specs.Edits.{without, constant_node, node_redirected}
 use Rattle.wire_edit.specs.declared.steps.Step.{Step}
 use Rattle.wire_edit.specs.declared.steps.Step.TheVariants.{Add, Fix, NewNot, Const, Same, NoPins, OnePin, Twice, Twin, Dead}
-use Rattle.wire_edit.specs.Tests.{is_gate, is_in_use, is_present, constant_at, constant_of, control_of, kind_constant}
-use Rattle.wire_edit.specs.Changes.{Change, append, remove, fix, readers, new_not, retire, changed}
+use Rattle.wire_edit.specs.Tests.{is_gate, is_in_use, is_present, is_xor, constant_at, constant_of, family_of, kind_constant}
+use Rattle.wire_edit.specs.Changes.{Change, append, remove, fix, readers, new_not, retire, to_not, changed}
 use Rattle.wire_edit.specs.Inner.Changes.{CanChange}
-use Rattle.wire_edit.specs.Steps.{Applies, change_of, constant_change, stepped}
+use Rattle.wire_edit.specs.Steps.{Applies, change_of, constant_change, other_driver, stepped}
 use Rattle.wire_edit.specs.Order.{IsTidy, node}
 use Rattle.wire_edit.specs.Work.{free_in, free_pins}
-use Rattle.wire_edit.proofs.Tested.{is_gate_there}
-use Rattle.wire_edit.proofs.Conditions.{applies_changes, no_pins}
+use Rattle.wire_edit.proofs.Tested.{is_gate_there, junction_kind, tells, told}
+use Rattle.wire_edit.proofs.Conditions.{applies_changes}
 use Rattle.wire_edit.proofs.Ordering.{tidy_refuses}
 use Rattle.wire_edit.proofs.Totals.{total_gone}
-use Rattle.wire_edit.proofs.Formed.{junction_kind}
-use Rattle.wire_edit.proofs.Working.{above_constants, constant_bound, with_free}
+use Rattle.wire_edit.proofs.Working.{above_constants, constant_bound, turn_frees, with_free}
+use Rattle.wire_edit.proofs.ConstantCases.{constant_cases, same_cases}
+use Rattle.wire_edit.proofs.Plain.{plain_drivers}
 use Rattle.wire_edit.proofs.Counting.{free_without, free_set, free_moved}
 use Rattle.wire_edit.specs.Removals.{IsRemoval, ReadsNoConstants}
 use Rattle.wire_edit.specs.Inner.Removals.{MakesNoPin}
@@ -38,21 +39,15 @@ reader_gate net well y p x reads = at (node_at net y) refl
     none_reads : slice_get {X = ℕ} [] p ≡ Some x → ⊥
     none_reads e = cc
 
-    gate : (kind : Kind) (ds : List ℕ) → node_at net y ≡ Some (record { kind = kind; drivers = ds }) → IsGate net y
-    gate Source ds is =
-        let s : (2 ≤ y) × (y < 2 + source_count net) = well.sources.only y (ds, is) in
-        let same : 2 + (y - 2) ≡ y = omega (arith, s.0) in
-        let here : node_at net y ≡ plain_node Source = rw same at (well.sources.first (y - 2) (omega (arith, s.0, s.1))) in
-        absurd (no_pins net y Source p x here reads)
-    gate Zero ds is = let e : y ≡ 0 = well.only_zero y (ds, is) in absurd (no_pins net y Zero p x (ap (node_at net) e ∙ well.constants.zero_is) reads)
-    gate One ds is = let e : y ≡ 1 = well.only_one y (ds, is) in absurd (no_pins net y One p x (ap (node_at net) e ∙ well.constants.one_is) reads)
-    gate And ds is = (And, ((ds, is), tt))
-    gate Or ds is = (Or, ((ds, is), tt))
-    gate Not ds is = (Not, ((ds, is), tt))
+    gate : (kind : Kind) (ds : List ℕ) → node_at net y ≡ Some (record { kind = kind; drivers = ds }) → (b : Bool) → is_gate_kind kind ≡ b → IsGate net y
+    gate kind ds is true k = (kind, ((ds, is), told (is_gate_kind kind) k))
+    gate kind ds is false k =
+        let none : ds ≡ [] = plain_drivers net well y kind ds is (λ g. both_ways (is_gate_kind kind) k (tells (is_gate_kind kind) g)) in
+        absurd (none_reads (ap (λ es. slice_get es p) (sym (ap drivers_in is ∙ none)) ∙ reads))
 
     at : (o : Option Node) → node_at net y ≡ o → IsGate net y
     at None is = absurd (none_reads (ap (λ o. slice_get (drivers_in o) p) (sym is) ∙ reads))
-    at (Some n) is = gate n.kind n.drivers is
+    at (Some n) is = gate n.kind n.drivers is (is_gate_kind n.kind) refl
 
 pub constant_node_is : (net : Net) → IsWellFormed net → (b : Bool) → constant_of net (constant_node b) ≡ Some b
 constant_node_is net well true = ap (λ o. kind_constant (kind_in o)) well.constants.one_is
@@ -131,6 +126,7 @@ change_frees net well (remove gate p) (j, lt) none =
     let a : _ ≡ _ = with_free net gate (without (drivers_of net gate) p) (junction_kind net gate j.0 j.1) in
     let f : _ ≤ _ = free_without (drivers_of net gate) p in
     omega arith
+change_frees net well (to_not gate p) can none = turn_frees net gate p can
 change_frees net well (fix gate p value) (g, lt) none =
     let d : (d : ℕ) × Reads net gate p d = stands_below (drivers_of net gate) p lt in
     let a : _ ≡ _ = with_free net gate (slice_set (drivers_of net gate) p (constant_node value)) g in
@@ -141,21 +137,15 @@ change_frees net well (retire gate) (g, unread) none =
     let a : free_pins (changed net (retire gate)) + free_in g.1.0.0 ≡ free_pins net = total_gone (λ (o : Option Node). free_in (drivers_in o)) refl net gate (record { kind = g.0; drivers = g.1.0.0 }) g.1.0.1 in
     omega arith
 
-pub constant_makes : (gate p : ℕ) (control constant : Option Bool) → MakesNoPin (constant_change gate p control constant)
-constant_makes gate p control None = refl
-constant_makes gate p None (Some b) = refl
-constant_makes gate p (Some c) (Some b) = at (same_bool b c)
-  where
-    at : (t : Bool) → MakesNoPin (if t then readers gate (constant_node c) else remove gate p)
-    at true = refl
-    at false = refl
+pub constant_makes : (gate p other : ℕ) (f : Family) (constant : Option Bool) → MakesNoPin (constant_change gate p other f constant)
+constant_makes gate p other f constant = constant_cases MakesNoPin gate p other f constant refl refl (λ to. refl)
 
 pub removal_makes : (net : Net) (step : Step) → IsRemoval step → MakesNoPin (change_of net step)
 removal_makes net (Add gate y) r = absurd r
 removal_makes net (Fix gate position value) r = refl
 removal_makes net (NewNot y) r = absurd r
-removal_makes net (Const gate position) r = constant_makes gate.0 position (control_of net gate.0) (constant_at net gate.0 position)
-removal_makes net (Same gate position) r = refl
+removal_makes net (Const gate position) r = constant_makes gate.0 position (other_driver net gate.0 position) (family_of net gate.0) (constant_at net gate.0 position)
+removal_makes net (Same gate position) r = same_cases MakesNoPin gate.0 position (is_xor net gate.0) refl refl
 removal_makes net (NoPins gate) r = refl
 removal_makes net (OnePin gate) r = refl
 removal_makes net (Twice gate) r = refl

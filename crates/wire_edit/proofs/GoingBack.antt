@@ -15,7 +15,7 @@ use Rattle.gate_graph.specs.declared.undo_list.Undo.{Undo}
 use Rattle.wire_edit.specs.declared.steps.Step.{Step}
 use Rattle.wire_edit.specs.declared.room.Room.{Room}
 use Rattle.wire_edit.specs.Tests.{is_gate}
-use Rattle.wire_edit.specs.Changes.{Change, append, remove, fix, readers, new_not, retire}
+use Rattle.wire_edit.specs.Changes.{Change, append, remove, fix, readers, new_not, retire, to_not}
 use Rattle.wire_edit.specs.Order.{IsTidy}
 use Rattle.wire_edit.specs.Edited.{edit_of}
 use Rattle.wire_edit.specs.Inner.Marked.{is_marked, IsQuiet}
@@ -67,6 +67,7 @@ edited_sum v w (fix gate position value) e = omega (arith, e.1.1.pins_left, e.1.
 edited_sum v w (readers from to) e = omega (arith, e.1.1.pins_left, e.1.1.pins_more)
 edited_sum v w (new_not driver) e = omega (arith, e.1.pins_left, e.1.pins_more)
 edited_sum v w (retire gate) e = omega (arith, e.1.1.pins_left, e.1.1.pins_more)
+edited_sum v w (to_not gate position) e = omega (arith, e.1.1.pins_left, e.1.1.pins_more)
 
 pub step_back : (v w : Circuit) (trail after : Trail) (steps : List Step) (step : Step) (change : Change) (spare left : ℕ) (first : Room) (marks : ℕ) (tidy : Bool) (next : List Step) → next ≡ steps ++ step ∷ [] → GoesBack v trail steps spare first marks tidy → Edits v (edit_of change) w → LeadOn v w trail.entries after.entries → length after.entries + after.spare ≡ length trail.entries + trail.spare → after.spare + entries_for v (edit_of change) ≡ trail.spare → length w.kinds ≡ length v.kinds → left + 1 ≡ spare → GoesBack w after next left first marks tidy
 step_back v w trail after steps step change spare left first marks tidy next are b edits lead together spent kinds one =

@@ -1,28 +1,32 @@
 -- Steps keep the value of every observed place.
-use Rattle.std.proofs.Common.{◌≡◌, ◌≢◌, ℕ, zero, suc, ◌<◌, Bool, true, false, not, inl, inr, Option, Some, None, List, [], ◌∷◌, length, map, refl, sym, ◌∙◌, ap, arith}
+use Rattle.std.proofs.Common.{◌≡◌, ◌≢◌, ℕ, zero, suc, ◌<◌, Bool, true, false, not, inl, inr, Some, List, [], ◌∷◌, length, map, refl, subst, sym, ◌∙◌, ap, arith}
 use Rattle.std.specs.Prelude.{slice_get, nat_eq, nat_lt, if◌then◌else◌}
 use Rattle.std.proofs.lemmas.Bool.Decides.{eqb_tells}
-use Rattle.std.proofs.lemmas.Bool.{and_parts, both_ways, or_cases}
+use Rattle.std.proofs.lemmas.Bool.{and_parts}
 use Rattle.std.proofs.Math.Bool.{not-not}
-use Rattle.gate_net.proofs.Public.{adds_keep, along_pins, first_is, fixes_keep, junction_member, moves_keep, node_at-other, node_at-there, same_bool_false, same_bool_not, same_bool_refl, same_bool_true, value_at, values_unique}
+use Rattle.gate_net.proofs.Public.{adds_keep, along_pins, fixes_keep, junction_member, moves_keep, not_is as parity_not, opposite_of, redriven_node, same_bool_false, same_bool_not, same_bool_refl, same_bool_true, value_at, values_unique, with_node-other, with_node-there, xor_of}
 use Rattle.gate_net.specs.declared.Kind.{Kind}
-use Rattle.gate_net.specs.declared.Kind.TheVariants.{Source, Zero, One, And, Or, Not}
+use Rattle.gate_net.specs.declared.Kind.TheVariants.{Zero, One, Not, Xor}
+use Rattle.gate_net.specs.declared.Family.{Family}
+use Rattle.gate_net.specs.declared.Family.TheVariants.{Constant, Input, Junction, Parity}
+use Rattle.gate_net.specs.Meaning.{controlling_in}
 use Rattle.rm_base.specs.declared.numbers.Fault.{Fault}
 use Rattle.gate_net.specs.Net.{Node, Net, node_at, drivers_in, drivers_of, Reads, IsKind, IsGate, IsAcyclic, IsWellFormed}
-use Rattle.gate_net.specs.Values.{same_bool, junction, gate_value, node_value, AreGoodValues, controlling, IsJunction}
-use Rattle.gate_net.specs.Edits.{with_drivers, with_pin, fixed, without, without_pin, constant_node, with_readers_moved, IsUnread, DiffersAt}
+use Rattle.gate_net.specs.Values.{same_bool, family, family_value, junction, parity, turned, gate_value, node_value, AreGoodValues, controlling, IsJunction}
+use Rattle.gate_net.specs.Edits.{with_drivers, with_node, turned_to_not, with_pin, fixed, without, without_pin, constant_node, with_readers_moved, IsUnread, DiffersAt}
 use Rattle.gate_net.specs.Inner.Edits.{constant_kind}
 use Rattle.gate_net.specs.Laws.{KeepsValues, KeepsPlaces}
 use Rattle.wire_edit.specs.declared.steps.Step.{Step}
 use Rattle.wire_edit.specs.declared.steps.Step.TheVariants.{Add, Fix, NewNot, Const, Same, NoPins, OnePin, Twice, Twin, Dead}
-use Rattle.wire_edit.specs.Tests.{is_present, is_junction, is_not, is_gate, control_of, driver_at, constant_at, second_driver, is_in_use, is_repeated}
+use Rattle.wire_edit.specs.Tests.{is_junction, is_not, is_xor, is_gate, reads_several, control_of, family_of, driver_at, constant_at, second_driver, is_in_use, is_repeated}
 use Rattle.wire_edit.specs.Changes.{remove, readers, changed, with_new_not, without_node}
 use Rattle.wire_edit.specs.Inner.Changes.{least_free}
-use Rattle.wire_edit.specs.Steps.{is_not_at, Applies, constant_change, empty_node, or_zero, change_of, stepped}
+use Rattle.wire_edit.specs.Steps.{is_not_at, Applies, constant_change, same_change, other_driver, empty_node, or_zero, change_of, stepped}
 use Rattle.wire_edit.specs.Laws.{IsSound}
-use Rattle.wire_edit.proofs.Tested.{present, junction_is_one, control_is, not_is, constant_read, repeated_at, one_in, none_in, same_at}
+use Rattle.wire_edit.proofs.Tested.{present, junction_is_one, junction_at, not_at_family, xor_at_family, not_is, xor_is, several_junction, constant_read, repeated_at, one_in, none_in, same_at}
+use Rattle.wire_edit.proofs.XorPins.{xor_pin, xor_same}
 use Rattle.wire_edit.proofs.Canonical.{least_is_free}
-use Rattle.wire_edit.proofs.Conditions.{constant_is, second_is, applies_changes}
+use Rattle.wire_edit.proofs.Conditions.{constant_is, no_gate_family, second_is, applies_changes}
 use Rattle.wire_edit.proofs.Formed.{changes_keep_form, new_differs, gone_differs, free_unread}
 use Rattle.rm_base.proofs.Public.{bool_cases, map_agree, map_at, map_pointwise, stands_below}
 
@@ -38,16 +42,21 @@ values_places : (net after : Net) → KeepsValues net after → after.observed �
 values_places net after keeps same a v w good good' = rw same (places v w net.observed (λ x k. keeps a v w good good' x k))
 
 -- a node whose function of its drivers stays as it was
-redriven_keeps : (net : Net) (gate : ℕ) (n : Node) (drivers : List ℕ) → node_at net gate ≡ Some n → IsAcyclic (with_drivers net gate drivers) → ((a v : ℕ → Bool) → AreGoodValues net a v → gate_value n.kind (a gate) (map v drivers) ≡ gate_value n.kind (a gate) (map v n.drivers)) → KeepsPlaces net (with_drivers net gate drivers)
-redriven_keeps net gate n drivers is acyclic same a v w good after =
-    map_pointwise v w (values_unique (with_drivers net gate drivers) acyclic a v w kept after) net.observed
+node_keeps : (net : Net) (gate : ℕ) (n new : Node) → node_at net gate ≡ Some n → IsAcyclic (with_node net gate new) → ((a v : ℕ → Bool) → AreGoodValues net a v → gate_value new.kind (a gate) (map v new.drivers) ≡ gate_value n.kind (a gate) (map v n.drivers)) → KeepsPlaces net (with_node net gate new)
+node_keeps net gate n new is acyclic same a v w good after =
+    map_pointwise v w (values_unique (with_node net gate new) acyclic a v w kept after) net.observed
   where
-    kept : AreGoodValues (with_drivers net gate drivers) a v
+    kept : AreGoodValues (with_node net gate new) a v
     kept x = elim (eqb_tells x gate) [
       | inl t ↦ rw t.1 (good gate ∙ ap (λ o. node_value o (a gate) (map v (drivers_in o))) is ∙ sym (same a v good)
-          ∙ sym (ap (λ o. node_value o (a gate) (map v (drivers_in o))) (node_at-there net gate drivers n is)))
-      | inr t ↦ good x ∙ sym (ap (λ o. node_value o (a x) (map v (drivers_in o))) (node_at-other net gate drivers x t.1))
+          ∙ sym (ap (λ o. node_value o (a gate) (map v (drivers_in o))) (with_node-there net gate new n is)))
+      | inr t ↦ good x ∙ sym (ap (λ o. node_value o (a x) (map v (drivers_in o))) (with_node-other net gate new x t.1))
     ]
+
+redriven_keeps : (net : Net) (gate : ℕ) (n : Node) (drivers : List ℕ) → node_at net gate ≡ Some n → IsAcyclic (with_drivers net gate drivers) → ((a v : ℕ → Bool) → AreGoodValues net a v → gate_value n.kind (a gate) (map v drivers) ≡ gate_value n.kind (a gate) (map v n.drivers)) → KeepsPlaces net (with_drivers net gate drivers)
+redriven_keeps net gate n drivers is acyclic same =
+    let e = redriven_node net gate drivers n is in
+    subst (λ (m : Net). KeepsPlaces net m) (sym e) (node_keeps net gate n (record n { drivers = drivers }) is (subst (λ (m : Net). IsAcyclic m) e acyclic) same)
 
 -- a pin with the noncontrolling value, or that another one repeats, may go
 junction_same : (c b : Bool) (bs : List Bool) → b ≡ c → junction c (b ∷ bs) ≡ c
@@ -71,20 +80,26 @@ junction-repeated c v (x ∷ ds) zero (suc p) d lt e f = elim (bool_cases (v x) 
 junction-repeated c v (x ∷ ds) (suc q) (suc p) d lt e f = ap (λ t. if same_bool (v x) c then c else t) (junction-repeated c v ds q p d (omega arith) e f)
 
 -- the value of a junction by its controlling value
+junction_family : (f : Family) (c assigned : Bool) (bs : List Bool) → controlling_in f ≡ Some c → family_value f assigned bs ≡ junction c bs
+junction_family Input c assigned bs e = cc
+junction_family (Constant b) c assigned bs e = cc
+junction_family (Junction b) c assigned bs e = let same : b ≡ c = cc in ap (λ x. junction x bs) same
+junction_family (Parity i) c assigned bs e = cc
+
 junction_value : (kind : Kind) (c assigned : Bool) (bs : List Bool) → controlling kind ≡ Some c → gate_value kind assigned bs ≡ junction c bs
-junction_value Source c assigned bs e = cc
-junction_value Zero c assigned bs e = cc
-junction_value One c assigned bs e = cc
-junction_value And c assigned bs e = let same : c ≡ false = cc in rw same refl
-junction_value Or c assigned bs e = let same : c ≡ true = cc in rw same refl
-junction_value Not c assigned bs e = cc
+junction_value kind = junction_family (family kind)
 
 constant_value : (net : Net) (a v : ℕ → Bool) (x : ℕ) (b : Bool) → AreGoodValues net a v → IsKind net x (constant_kind b) → v x ≡ b
 constant_value net a v x true good is = value_at net a v x One (map v (drivers_of net x)) is (good x)
 constant_value net a v x false good is = value_at net a v x Zero (map v (drivers_of net x)) is (good x)
 
-not_value : (net : Net) (a v : ℕ → Bool) (x d : ℕ) → AreGoodValues net a v → IsKind net x Not → Reads net x 0 d → v x ≡ not (v d)
-not_value net a v x d good is reads = value_at net a v x Not (map v (drivers_of net x)) is (good x) ∙ first_is (map v (drivers_of net x)) (v d) (map_at v (drivers_of net x) 0 d reads)
+only_driver : (ds : List ℕ) (e d : ℕ) → ds ≡ e ∷ [] → slice_get ds 0 ≡ Some d → ds ≡ d ∷ []
+only_driver ds e d is reads = let first : slice_get (e ∷ []) 0 ≡ Some d = rw is at reads in let same : e ≡ d = cc in is ∙ ap (λ x. x ∷ []) same
+
+not_value : (net : Net) → IsWellFormed net → (a v : ℕ → Bool) (x d : ℕ) → AreGoodValues net a v → IsKind net x Not → Reads net x 0 d → v x ≡ not (v d)
+not_value net well a v x d good is reads =
+    let only : (e : ℕ) × (drivers_of net x ≡ e ∷ []) = well.nots_have_one x is in
+    opposite_of net a v x d is (only_driver (drivers_of net x) only.0 d only.1 reads) good
 
 junction_is : (net : Net) (a v : ℕ → Bool) (x : ℕ) (c : Bool) (j : IsJunction net x c) → AreGoodValues net a v → v x ≡ junction c (map v (drivers_of net x))
 junction_is net a v x c j good = value_at net a v x j.0 (map v (drivers_of net x)) j.1.0 (good x) ∙ junction_value j.0 c (a x) (map v (drivers_of net x)) j.1.1
@@ -127,29 +142,64 @@ not_pin net well gate p d kind reads = let only : (e : ℕ) × (drivers_of net g
     at (x ∷ []) e (suc p) is there = cc
     at (x ∷ y ∷ ds) e (suc p) is there = cc
 
-gate_no_control : (net : Net) (gate : ℕ) → is_gate net gate ≡ true → control_of net gate ≡ None → is_not net gate ≡ true
-gate_no_control net gate g e = let h : _ = ap (λ o. is_present o) e in elim (or_cases (is_junction net gate) (is_not net gate) g) [ inl j ↦ absurd (both_ways (is_junction net gate) h j) | inr n ↦ n ]
-
 module _ (net : Net) (well : IsWellFormed net) (gate p : ℕ) (g : is_gate net gate ≡ true) (b : Bool) (constant : constant_at net gate p ≡ Some b) where
   reads : (d : ℕ) × (Reads net gate p d × IsKind net d (constant_kind b))
   reads = let r : (d : ℕ) × (Reads net gate p d × (_ × IsKind net d (constant_kind b))) = constant_read net gate p b constant in (r.0, (r.1.0, r.1.1.1))
 
-  at_junction : (c t : Bool) → control_of net gate ≡ Some c → same_bool b c ≡ t → IsAcyclic (changed net (if t then readers gate (constant_node c) else remove gate p)) → KeepsPlaces net (changed net (if t then readers gate (constant_node c) else remove gate p))
+  at_junction : (c t : Bool) → IsJunction net gate c → same_bool b c ≡ t → IsAcyclic (changed net (if t then readers gate (constant_node c) else remove gate p)) → KeepsPlaces net (changed net (if t then readers gate (constant_node c) else remove gate p))
   at_junction c true is same acyclic =
       let e : b ≡ c = same_bool_true b c same in
       to_value net well gate (constant_node c) c refl acyclic (λ a v good.
-      junction_is net a v gate c (control_is net gate c is) good
+      junction_is net a v gate c is good
       ∙ junction_member c (map v (drivers_of net gate)) p (map_at v (drivers_of net gate) p reads.0 reads.1.0 ∙ ap Some (constant_value net a v reads.0 b good reads.1.1 ∙ e)))
   at_junction c false is same acyclic =
       let e : b ≡ not c = same_bool_false b c same in
-      pin_gone net gate p c acyclic (control_is net gate c is) (λ a v good. junction-without c v (drivers_of net gate) p reads.0 reads.1.0 (constant_value net a v reads.0 b good reads.1.1 ∙ e))
+      pin_gone net gate p c acyclic is (λ a v good. junction-without c v (drivers_of net gate) p reads.0 reads.1.0 (constant_value net a v reads.0 b good reads.1.1 ∙ e))
 
-  pub constant_keeps : (control : Option Bool) → control_of net gate ≡ control → IsAcyclic (changed net (constant_change gate p control (Some b))) → KeepsPlaces net (changed net (constant_change gate p control (Some b)))
-  constant_keeps None is acyclic =
-      let kind : IsKind net gate Not = not_is net gate (gate_no_control net gate g is) in
+  at_not : IsKind net gate Not → IsAcyclic (with_readers_moved net gate (constant_node (not b))) → KeepsPlaces net (with_readers_moved net gate (constant_node (not b)))
+  at_not kind acyclic =
       to_value net well gate (constant_node (not b)) (not b) refl acyclic (λ a v good.
-      not_value net a v gate reads.0 good kind (not_pin net well gate p reads.0 kind reads.1.0) ∙ ap not (constant_value net a v reads.0 b good reads.1.1))
-  constant_keeps (Some c) is acyclic = at_junction c (same_bool b c) is refl acyclic
+      not_value net well a v gate reads.0 good kind (not_pin net well gate p reads.0 kind reads.1.0) ∙ ap not (constant_value net a v reads.0 b good reads.1.1))
+
+  -- an Xor is its other pin, turned by the constant
+  xor_value : (kind : IsKind net gate Xor) (a v : ℕ → Bool) → AreGoodValues net a v → (let o = xor_pin net well gate p reads.0 kind reads.1.0 in parity false (map v (drivers_of net gate)) ≡ turned b (v o.0))
+  xor_value kind a v good =
+      let o = xor_pin net well gate p reads.0 kind reads.1.0 in
+      o.1.value v ∙ ap (λ x. turned x (v o.0)) (constant_value net a v reads.0 b good reads.1.1)
+
+  at_zero : b ≡ false → IsKind net gate Xor → IsAcyclic (with_readers_moved net gate (other_driver net gate p)) → KeepsPlaces net (with_readers_moved net gate (other_driver net gate p))
+  at_zero none kind acyclic =
+      let o = xor_pin net well gate p reads.0 kind reads.1.0 in
+      moves_keep net gate (other_driver net gate p) acyclic (λ a v good.
+      xor_of net a v gate kind good ∙ xor_value kind a v good ∙ ap (λ x. turned x (v o.0)) none ∙ ap v (sym (ap or_zero o.1.reads)))
+
+  at_one : b ≡ true → IsKind net gate Xor → IsAcyclic (turned_to_not net gate p) → KeepsPlaces net (turned_to_not net gate p)
+  at_one one kind acyclic =
+      let o = xor_pin net well gate p reads.0 kind reads.1.0 in
+      node_keeps net gate _ (record { kind = Not; drivers = without (drivers_of net gate) p }) kind.1 acyclic (λ a v good.
+      ap (λ ds. parity true (map v ds)) o.1.left ∙ parity_not (v o.0) ∙ sym (ap (λ x. turned x (v o.0)) one) ∙ sym (xor_value kind a v good)
+      ∙ ap (λ n. parity false (map v (drivers_in n))) kind.1)
+
+  pub constant_keeps : (f : Family) → family_of net gate ≡ f → (t : Bool) → b ≡ t → IsAcyclic (changed net (constant_change gate p (other_driver net gate p) f (Some t))) → KeepsPlaces net (changed net (constant_change gate p (other_driver net gate p) f (Some t)))
+  constant_keeps Input is t e acyclic = absurd (no_gate_family net gate Input g is refl)
+  constant_keeps (Constant c) is t e acyclic = absurd (no_gate_family net gate (Constant c) g is refl)
+  constant_keeps (Junction c) is t e acyclic =
+      let at : IsAcyclic (changed net (if same_bool b c then readers gate (constant_node c) else remove gate p)) = rw e acyclic in
+      rw (← e) (at_junction c (same_bool b c) (junction_at net gate c is) refl at)
+  constant_keeps (Parity true) is t e acyclic =
+      let at : IsAcyclic (with_readers_moved net gate (constant_node (not b))) = rw e acyclic in
+      rw (← e) (at_not (not_at_family net gate is) at)
+  constant_keeps (Parity false) is true e acyclic = at_one e (xor_at_family net gate is) acyclic
+  constant_keeps (Parity false) is false e acyclic = at_zero e (xor_at_family net gate is) acyclic
+
+-- a pin whose driver an earlier pin has
+same_keeps : (net : Net) → IsWellFormed net → (gate q p d : ℕ) → reads_several net gate ≡ true → q < p → Reads net gate q d → Reads net gate p d → (t : Bool) → is_xor net gate ≡ t → IsAcyclic (changed net (same_change gate p t)) → KeepsPlaces net (changed net (same_change gate p t))
+same_keeps net well gate q p d s lt first second true is acyclic =
+    let kind : IsKind net gate Xor = xor_is net gate is in
+    to_value net well gate (constant_node false) false refl acyclic (λ a v good. xor_of net a v gate kind good ∙ xor_same net well gate q p d kind lt first second v)
+same_keeps net well gate q p d s lt first second false is acyclic =
+    let c : (c : Bool) × ((control_of net gate ≡ Some c) × IsJunction net gate c) = junction_is_one net gate (several_junction net gate s is) in
+    pin_gone net gate p c.0 acyclic c.1.1 (λ a v good. junction-repeated c.0 v (drivers_of net gate) q p d lt first second)
 
 -- EACH STEP
 keeps_from : (net : Net) (step : Step) → IsAcyclic (stepped net step) → IsWellFormed net → Applies net step → IsSound net step → KeepsPlaces net (stepped net step)
@@ -166,14 +216,13 @@ keeps_from net (Const gate position) acyclic well e sound =
     let a : (is_gate net gate.0 ≡ true) × _ = and_parts (is_gate net gate.0) _ e in
     let u : (is_in_use net gate.0 ≡ true) × _ = and_parts (is_in_use net gate.0) _ a.1 in
     let k : (k : Bool) × (constant_at net gate.0 position ≡ Some k) = present (constant_at net gate.0 position) u.1 in
-    let at : IsAcyclic (changed net (constant_change gate.0 position (control_of net gate.0) (Some k.0))) = rw k.1 at acyclic in
-    rw k.1 (constant_keeps net well gate.0 position a.0 k.0 k.1 (control_of net gate.0) refl at)
+    let at : IsAcyclic (changed net (constant_change gate.0 position (other_driver net gate.0 position) (family_of net gate.0) (Some k.0))) = rw k.1 at acyclic in
+    rw k.1 (constant_keeps net well gate.0 position a.0 k.0 k.1 (family_of net gate.0) refl k.0 refl at)
 keeps_from net (Same gate position) acyclic well e sound =
-    let a : (is_junction net gate.0 ≡ true) × _ = and_parts (is_junction net gate.0) _ e in
+    let a : (reads_several net gate.0 ≡ true) × _ = and_parts (reads_several net gate.0) _ e in
     let u : (is_in_use net gate.0 ≡ true) × (is_repeated (drivers_of net gate.0) position ≡ true) = and_parts (is_in_use net gate.0) _ a.1 in
-    let c : (c : Bool) × ((control_of net gate.0 ≡ Some c) × IsJunction net gate.0 c) = junction_is_one net gate.0 a.0 in
     let r : (d : ℕ) × ((q : ℕ) × ((q < position) × ((slice_get (drivers_of net gate.0) q ≡ Some d) × (slice_get (drivers_of net gate.0) position ≡ Some d)))) = repeated_at (drivers_of net gate.0) position u.1 in
-    pin_gone net gate.0 position c.0 acyclic c.1.1 (λ a v good. junction-repeated c.0 v (drivers_of net gate.0) r.1.0 position r.0 r.1.1.0 r.1.1.1.0 r.1.1.1.1)
+    same_keeps net well gate.0 r.1.0 position r.0 a.0 r.1.1.0 r.1.1.1.0 r.1.1.1.1 (is_xor net gate.0) refl acyclic
 keeps_from net (NoPins gate) acyclic well e sound =
     let a : (is_junction net gate.0 ≡ true) × _ = and_parts (is_junction net gate.0) _ e in
     let u : (is_in_use net gate.0 ≡ true) × (nat_eq (length (drivers_of net gate.0)) 0 ≡ true) = and_parts (is_in_use net gate.0) _ a.1 in
@@ -193,7 +242,7 @@ keeps_from net (Twice gate) acyclic well e sound =
     let u : (is_in_use net gate.0 ≡ true) × (is_not_at net (driver_at net gate.0 0) ≡ true) = and_parts (is_in_use net gate.0) _ a.1 in
     let s : (inner : ℕ) × ((driver : ℕ) × (Reads net gate.0 0 inner × (IsKind net inner Not × (Reads net inner 0 driver × (second_driver net gate.0 ≡ Some driver))))) = second_is net gate.0 well u.1 in
     moves_keep net gate.0 (or_zero (second_driver net gate.0)) acyclic (λ sources v good.
-    not_value net sources v gate.0 s.0 good (not_is net gate.0 a.0) s.1.1.0 ∙ ap not (not_value net sources v s.0 s.1.0 good s.1.1.1.0 s.1.1.1.1.0) ∙ not-not (v s.1.0)
+    not_value net well sources v gate.0 s.0 good (not_is net gate.0 a.0) s.1.1.0 ∙ ap not (not_value net well sources v s.0 s.1.0 good s.1.1.1.0 s.1.1.1.1.0) ∙ not-not (v s.1.0)
     ∙ ap v (sym (ap or_zero s.1.1.1.1.1)))
 keeps_from net (Twin gate other) acyclic well e sound =
     let a : (is_not net gate.0 ≡ true) × _ = and_parts (is_not net gate.0) _ e in
@@ -201,7 +250,7 @@ keeps_from net (Twin gate other) acyclic well e sound =
     let o : (is_not net other.0 ≡ true) × _ = and_parts (is_not net other.0) _ u.1 in
     let l : (nat_lt other.0 gate.0 ≡ true) × _ = and_parts (nat_lt other.0 gate.0) _ o.1 in
     let d : (d : ℕ) × ((driver_at net gate.0 0 ≡ Some d) × (driver_at net other.0 0 ≡ Some d)) = same_at (driver_at net gate.0 0) (driver_at net other.0 0) l.1 in
-    moves_keep net gate.0 other.0 acyclic (λ sources v good. not_value net sources v gate.0 d.0 good (not_is net gate.0 a.0) d.1.0 ∙ sym (not_value net sources v other.0 d.0 good (not_is net other.0 o.0) d.1.1))
+    moves_keep net gate.0 other.0 acyclic (λ sources v good. not_value net well sources v gate.0 d.0 good (not_is net gate.0 a.0) d.1.0 ∙ sym (not_value net well sources v other.0 d.0 good (not_is net other.0 o.0) d.1.1))
 keeps_from net (Dead gate) acyclic well e sound =
     let can : IsGate net gate.0 × IsUnread net gate.0 = applies_changes net (Dead gate) well e in
     apart_keeps net (without_node net gate.0) gate.0 well.acyclic (gone_differs net gate.0) can.1

@@ -1,26 +1,27 @@
 -- What is known of the pins of a gate, and what steps leave of it.
 use Rattle.std.proofs.Common.{◌≡◌, ℕ, zero, suc, ◌+◌, ◌-◌, ◌<◌, ◌≤◌, Bool, true, false, ◌⊎◌, inl, inr, Option, Some, None, List, [], ◌∷◌, ◌++◌, length, map, take, drop, refl, sym, ◌∙◌, ap, subst, arith}
-use Rattle.std.specs.Prelude.{if◌then◌else◌, slice_get, sum_by, option_and_then, unwrap_or}
+use Rattle.std.specs.Prelude.{slice_get, sum_by, option_and_then, unwrap_or}
 use Rattle.std.proofs.lemmas.Bool.{cases_lt, cases_eq, and_parts}
 use Rattle.std.proofs.lemmas.List.{length-drop}
 use Rattle.std.proofs.lemmas.List.Sums.{sum_by-cons}
 use Rattle.std.proofs.lemmas.Option.{slice_get_past}
 use Rattle.rm_base.specs.declared.numbers.NodeId.{NodeId}
 use Rattle.gate_net.specs.Net.{Node, Net, flatten_option, drivers_in, drivers_of, wire_count, IsGate}
-use Rattle.gate_net.specs.Edits.{constant_node, without, without_pin}
-use Rattle.gate_net.specs.Values.{same_bool}
+use Rattle.gate_net.specs.Edits.{without, without_pin}
+use Rattle.gate_net.specs.declared.Family.{Family}
 use Rattle.wire_edit.specs.declared.steps.Step.{Step}
 use Rattle.wire_edit.specs.declared.steps.Step.TheVariants.{Add, Fix, NewNot, Const, Same, NoPins, OnePin, Twice, Twin, Dead}
 use Rattle.wire_edit.specs.declared.kept.Kept.{Kept}
-use Rattle.wire_edit.specs.Tests.{is_present, is_gate, is_junction, is_in_use, is_among, is_some_among, is_repeated, control_of, constant_of, constant_at}
-use Rattle.wire_edit.specs.Changes.{Change, remove, readers, changed}
-use Rattle.wire_edit.specs.Steps.{rule_applies, Applies, constant_change, change_of, stepped}
+use Rattle.wire_edit.specs.Tests.{is_present, is_gate, is_xor, reads_several, is_in_use, is_among, is_some_among, is_repeated, family_of, constant_of, constant_at}
+use Rattle.wire_edit.specs.Changes.{Change, remove, changed}
+use Rattle.wire_edit.specs.Steps.{rule_applies, Applies, constant_change, same_change, other_driver, change_of, stepped}
 use Rattle.wire_edit.specs.Order.{node, rule_at, next_step}
 use Rattle.wire_edit.specs.Inner.Marked.{IsBlank}
 use Rattle.wire_edit.specs.Inner.Edited.{TakesOut}
 use Rattle.wire_edit.specs.Inner.Firsts.{IsFirst, reads_constant, ReadsNoConstant, IsPlainAfter}
 use Rattle.wire_edit.specs.Inner.Known.{MarksFirst, IsPlainBefore, IsKept, IsFresh}
-use Rattle.wire_edit.proofs.Tested.{gate_is, junction_gate}
+use Rattle.wire_edit.proofs.Tested.{gate_is, several_gate}
+use Rattle.wire_edit.proofs.ConstantCases.{constant_cases, same_cases}
 use Rattle.wire_edit.proofs.Walks.{next_place, pushed, walked}
 use Rattle.wire_edit.proofs.Ordering.{IsRuleAt, some_rule, next_at, next_applies, gate_of_step, const_within}
 use Rattle.wire_edit.proofs.RuleAt.{constant_rule}
@@ -115,25 +116,28 @@ repeated_without ds k p lt =
     ∙ ap (is_some_among (slice_get ds k)) (take_without ds k p (omega (arith, lt)))
 
 -- a `Same` leaves the pins before its own as they are
-pub same_left : (net : Net) (gate : NodeId) (position : ℕ) → Applies net (Same gate position) → (drivers_of (stepped net (Same gate position)) gate.0 ≡ without (drivers_of net gate.0) position)
-same_left net gate position a =
-    let j : (is_junction net gate.0 ≡ true) × _ = and_parts (is_junction net gate.0) _ a in
-    drivers_after net gate.0 position (gate_is net gate.0 (junction_gate net gate.0 j.0))
+pub same_left : (net : Net) (gate : NodeId) (position : ℕ) → is_xor net gate.0 ≡ false → Applies net (Same gate position) → (drivers_of (stepped net (Same gate position)) gate.0 ≡ without (drivers_of net gate.0) position)
+same_left net gate position kind a =
+    let j : (reads_several net gate.0 ≡ true) × _ = and_parts (reads_several net gate.0) _ a in
+    ap (λ b. drivers_of (changed net (same_change gate.0 position b)) gate.0) kind ∙ drivers_after net gate.0 position (gate_is net gate.0 (several_gate net gate.0 j.0))
 
-pub same_apart : (net : Net) (gate : NodeId) (position n : ℕ) → Applies net (Same gate position) → n ≤ position → ((k : ℕ) → k < n → is_repeated (drivers_of net gate.0) k ≡ false) → (k : ℕ) → k < n → is_repeated (drivers_of (stepped net (Same gate position)) gate.0) k ≡ false
-same_apart net gate position n a le apart k lt =
-    ap (λ (ds : List ℕ). is_repeated ds k) (same_left net gate position a) ∙ repeated_without (drivers_of net gate.0) k position (omega (arith, lt, le)) ∙ apart k lt
+pub same_apart : (net : Net) (gate : NodeId) (position n : ℕ) → is_xor net gate.0 ≡ false → Applies net (Same gate position) → n ≤ position → ((k : ℕ) → k < n → is_repeated (drivers_of net gate.0) k ≡ false) → (k : ℕ) → k < n → is_repeated (drivers_of (stepped net (Same gate position)) gate.0) k ≡ false
+same_apart net gate position n kind a le apart k lt =
+    ap (λ (ds : List ℕ). is_repeated ds k) (same_left net gate position kind a) ∙ repeated_without (drivers_of net gate.0) k position (omega (arith, lt, le)) ∙ apart k lt
 
-pub same_marks : (net : Net) (gate : NodeId) (position n : ℕ) (marks : List Bool) → Applies net (Same gate position) → n ≤ position → MarksFirst (drivers_of net gate.0) n marks → MarksFirst (drivers_of (stepped net (Same gate position)) gate.0) n marks
-same_marks net gate position n marks a le m x =
-    m x ∙ sym (ap (is_among x) (ap (take n) (same_left net gate position a) ∙ take_without (drivers_of net gate.0) n position le))
+pub same_marks : (net : Net) (gate : NodeId) (position n : ℕ) (marks : List Bool) → is_xor net gate.0 ≡ false → Applies net (Same gate position) → n ≤ position → MarksFirst (drivers_of net gate.0) n marks → MarksFirst (drivers_of (stepped net (Same gate position)) gate.0) n marks
+same_marks net gate position n marks kind a le m x =
+    m x ∙ sym (ap (is_among x) (ap (take n) (same_left net gate position kind a) ∙ take_without (drivers_of net gate.0) n position le))
 
-pub same_kept : (net : Net) (kept : Kept) (step : Step) (gate : NodeId) (position : ℕ) → step ≡ Same gate position → gate ≡ kept.gate → kept.apart ≤ position → Applies net step → IsKept net kept → IsKept (stepped net step) (record { gate = kept.gate; plain = Some 0; apart = kept.apart; marks = kept.marks })
-same_kept net kept step gate position is own le a k =
+pub same_kept : (net : Net) (kept : Kept) (step : Step) (gate : NodeId) (position : ℕ) → step ≡ Same gate position → gate ≡ kept.gate → kept.apart ≤ position → is_xor net gate.0 ≡ false → Applies net step → IsKept net kept → IsKept (stepped net step) (record { gate = kept.gate; plain = Some 0; apart = kept.apart; marks = kept.marks })
+same_kept net kept step gate position is own le kind a k =
     subst P (sym same) at a
   where
     same : step ≡ Same kept.gate position
     same = is ∙ ap (λ (g : NodeId). Same g position) own
+
+    here : is_xor net kept.gate.0 ≡ false
+    here = ap (λ (g : NodeId). is_xor net g.0) (sym own) ∙ kind
 
     P : Step → Type 0
     P s = Applies net s → IsKept (stepped net s) (record { gate = kept.gate; plain = Some 0; apart = kept.apart; marks = kept.marks })
@@ -141,8 +145,8 @@ same_kept net kept step gate position is own le a k =
     at : P (Same kept.gate position)
     at b = record {
       plain = λ j lt. absurd (omega (arith, lt));
-      apart = same_apart net kept.gate position kept.apart b le k.apart;
-      marks = same_marks net kept.gate position kept.apart kept.marks.items b le k.marks;
+      apart = same_apart net kept.gate position kept.apart here b le k.apart;
+      marks = same_marks net kept.gate position kept.apart kept.marks.items here b le k.marks;
     }
 
 -- the next rule of a gate
@@ -195,14 +199,12 @@ const_first net from p e k lt =
         some_same e = cc
 
 -- a change by a constant that takes a pin out is that of its position
-takes_out : (gate p : ℕ) (control constant : Option Bool) → TakesOut (constant_change gate p control constant) → constant_change gate p control constant ≡ remove gate p
-takes_out gate p control None t = refl
-takes_out gate p None (Some b) t = absurd t
-takes_out gate p (Some c) (Some b) t = at (same_bool b c) t
-  where
-    at : (s : Bool) → TakesOut (if s then readers gate (constant_node c) else remove gate p) → (if s then readers gate (constant_node c) else remove gate p) ≡ remove gate p
-    at true t = absurd t
-    at false t = refl
+takes_out : (gate p other : ℕ) (f : Family) (constant : Option Bool) → TakesOut (constant_change gate p other f constant) → constant_change gate p other f constant ≡ remove gate p
+takes_out gate p other f constant =
+    constant_cases (λ change. TakesOut change → change ≡ remove gate p) gate p other f constant (λ t. refl) (λ t. absurd t) (λ to t. absurd t)
+
+same_takes_out : (gate p : ℕ) (b : Bool) → TakesOut (same_change gate p b) → same_change gate p b ≡ remove gate p
+same_takes_out gate p b = same_cases (λ change. TakesOut change → change ≡ remove gate p) gate p b (λ t. refl) (λ t. absurd t)
 
 const_after : (net : Net) (gate p k : ℕ) → IsGate net gate → k < p → reads_constant net gate k ≡ false → reads_constant (without_pin net gate p) gate k ≡ false
 const_after net gate p k g lt none =
@@ -214,13 +216,13 @@ const_after net gate p k g lt none =
 -- the gate of a `Same` of the order reads no constant
 same_plain : (net : Net) (from : NodeId) (p : ℕ) → next_step net ≡ Some (Same from p) → ReadsNoConstant net from.0
 same_plain net from p e =
-    let j : (is_junction net from.0 ≡ true) × _ = and_parts (is_junction net from.0) _ (next_applies net (Same from p) e).1 in
+    let j : (reads_several net from.0 ≡ true) × _ = and_parts (reads_several net from.0) _ (next_applies net (Same from p) e).1 in
     let u : (is_in_use net from.0 ≡ true) × _ = and_parts (is_in_use net from.0) _ j.1 in
     let here : rule_at net from.0 ≡ Some (Same from p) = next_own net (Same from p) from.0 e refl in
     elim (scan (reads_constant net from.0) (length (drivers_of net from.0))) [
       | inl none ↦ plain_all net from.0 none
       | inr q ↦
-          let first : rule_at net from.0 ≡ Some (Const (node from.0) q.0) = constant_rule net from.0 u.0 (junction_gate net from.0 j.0) q.0 (q.1.0, q.1.1) in
+          let first : rule_at net from.0 ≡ Some (Const (node from.0) q.0) = constant_rule net from.0 u.0 (several_gate net from.0 j.0) q.0 (q.1.0, q.1.1) in
           absurd (apart (sym first ∙ here))
     ]
   where
@@ -233,11 +235,12 @@ same_plain net from p e =
 -- what the gate of a pin that was taken out reads of constants
 pub plain_after : (net : Net) (step : Step) → next_step net ≡ Some step → TakesOut (change_of net step) → IsPlainAfter (stepped net step) step
 plain_after net (Same gate position) e t =
-    let a : (is_junction net gate.0 ≡ true) × _ = and_parts (is_junction net gate.0) _ (next_applies net (Same gate position) e).1 in
-    plain_removed net gate.0 position (gate_is net gate.0 (junction_gate net gate.0 a.0)) (same_plain net gate position e)
+    let a : (reads_several net gate.0 ≡ true) × _ = and_parts (reads_several net gate.0) _ (next_applies net (Same gate position) e).1 in
+    subst (λ (change : Change). ReadsNoConstant (changed net change) gate.0) (sym (same_takes_out gate.0 position (is_xor net gate.0) t))
+    (plain_removed net gate.0 position (gate_is net gate.0 (several_gate net gate.0 a.0)) (same_plain net gate position e))
 plain_after net (Const gate position) e t = λ k lt.
     let a : (is_gate net gate.0 ≡ true) × _ = and_parts (is_gate net gate.0) _ (next_applies net (Const gate position) e).1 in
-    ap (λ (change : Change). reads_constant (changed net change) gate.0 k) (takes_out gate.0 position (control_of net gate.0) (constant_at net gate.0 position) t)
+    ap (λ (change : Change). reads_constant (changed net change) gate.0 k) (takes_out gate.0 position (other_driver net gate.0 position) (family_of net gate.0) (constant_at net gate.0 position) t)
     ∙ const_after net gate.0 position k (gate_is net gate.0 a.0) lt (const_first net gate position e k lt)
 plain_after net (Add gate node) e t = tt
 plain_after net (Fix gate position value) e t = tt

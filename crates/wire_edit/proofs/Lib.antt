@@ -1,4 +1,6 @@
 pub mod Tested
+pub mod XorPins
+pub mod ConstantCases
 pub mod Totals
 pub mod Canonical
 pub mod Conditions

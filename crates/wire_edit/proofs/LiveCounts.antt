@@ -4,7 +4,7 @@ use Rattle.std.specs.Prelude.{slice_get}
 use Rattle.std.specs.List.{sum_by}
 use Rattle.std.proofs.lemmas.List.Sums.{sum_by-cons}
 use Rattle.gate_net.specs.declared.Kind.{Kind}
-use Rattle.gate_net.specs.declared.Kind.TheVariants.{Source, Zero, One, And, Or, Not}
+use Rattle.gate_net.specs.declared.Kind.TheVariants.{Source, Zero, One, And, Or, Not, Xor}
 use Rattle.gate_net.specs.Net.{Node, Net, node_at, flatten_option, IsWellFormed, source_count, gate_count, count_in, source_in, gate_in}
 use Rattle.wire_edit.specs.Refusals.{live_count}
 use Rattle.wire_edit.specs.Tests.{live_in}
@@ -20,6 +20,7 @@ kind_live One z o = absurd (o refl)
 kind_live And z o = omega arith
 kind_live Or z o = omega arith
 kind_live Not z o = omega arith
+kind_live Xor z o = omega arith
 
 -- of nodes none of which is a constant
 live_rest : (os : List (Option Node)) → ((k : ℕ) (n : Node) → slice_get os k ≡ Some (Some n) → (n.kind ≡ Zero → ⊥) × (n.kind ≡ One → ⊥))

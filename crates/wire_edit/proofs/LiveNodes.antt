@@ -6,7 +6,7 @@ use Rattle.std.proofs.lemmas.Bool.{cases_eq, cases_lt}
 use Rattle.std.proofs.lemmas.List.Sums.{sum_by-cons}
 use Rattle.gate_net.proofs.Public.{live_reader, node_at-other, node_at-there}
 use Rattle.gate_net.specs.declared.Kind.{Kind}
-use Rattle.gate_net.specs.declared.Kind.TheVariants.{Source, Zero, One, And, Or, Not}
+use Rattle.gate_net.specs.declared.Kind.TheVariants.{Source, Zero, One, And, Or, Not, Xor}
 use Rattle.gate_net.specs.Net.{Node, Net, node_at, drivers_in, drivers_of, flatten_option, Reads, IsLive, IsWellFormed, plain_node, count_in, source_in, gate_in, source_count, gate_count}
 use Rattle.gate_net.specs.Edits.{IsLeastFree, with_pin}
 use Rattle.wire_edit.specs.declared.steps.Step.{Step}
@@ -36,6 +36,7 @@ one_kind One z o = absurd (o refl)
 one_kind And z o = refl
 one_kind Or z o = refl
 one_kind Not z o = refl
+one_kind Xor z o = refl
 
 -- of nodes none of which is a constant
 live_rest : (os : List (Option Node)) → ((k : ℕ) (n : Node) → slice_get os k ≡ Some (Some n) → (n.kind ≢ Zero) × (n.kind ≢ One)) → sum_by live_in os ≡ sum_by sources_in os + sum_by gates_in os

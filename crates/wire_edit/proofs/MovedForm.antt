@@ -3,7 +3,7 @@ use Rattle.std.proofs.Common.{◌≡◌, ◌≢◌, ℕ, inl, inr, Option, Some,
 use Rattle.std.specs.Prelude.{slice_get}
 use Rattle.gate_net.proofs.Public.{drivers_redirected, node_at-moved, redirect_cases}
 use Rattle.gate_net.specs.declared.Kind.{Kind}
-use Rattle.gate_net.specs.declared.Kind.TheVariants.{Zero, One, Not}
+use Rattle.gate_net.specs.declared.Kind.TheVariants.{Zero, One, Not, Xor}
 use Rattle.gate_net.specs.Net.{Node, Net, node_at, kind_in, drivers_in, drivers_of, IsKind, IsLive, IsAcyclic, IsWellFormed}
 use Rattle.gate_net.specs.Edits.{redirected, node_redirected, with_readers_moved}
 use Rattle.wire_edit.proofs.Totals.{total_map}
@@ -67,6 +67,10 @@ module _ (net : Net) (from to : ℕ) (well : IsWellFormed net) (live : IsLive ne
         let w : (es : List ℕ) × ((node_at net y ≡ Some (record { kind = Not; drivers = es })) × (drivers_of after y ≡ map (redirected from to) es)) = was y Not is in
         let d : (d : ℕ) × (drivers_of net y ≡ d ∷ []) = well.nots_have_one y (w.0, w.1.0) in
         (redirected from to d.0, w.1.1 ∙ ap (map (redirected from to)) (sym (ap drivers_in w.1.0) ∙ d.1));
+    xors_have_two = λ y is.
+        let w : (es : List ℕ) × ((node_at net y ≡ Some (record { kind = Xor; drivers = es })) × (drivers_of after y ≡ map (redirected from to) es)) = was y Xor is in
+        let d = well.xors_have_two y (w.0, w.1.0) in
+        (redirected from to d.0, redirected from to d.1, w.1.1 ∙ ap (map (redirected from to)) (sym (ap drivers_in w.1.0) ∙ d.2));
     drivers_live = λ y p x reads.
         places (drivers_of net y) (λ q z e. well.drivers_live y q z e) p x
         (ap (λ es. slice_get es p) (sym (ap drivers_in (node_at-moved net from to y) ∙ drivers_redirected from to (node_at net y))) ∙ reads);

@@ -6,7 +6,7 @@ use Rattle.std.proofs.lemmas.Bool.Decides.{eqb_tells}
 use Rattle.gate_net.specs.Net.{Net}
 use Rattle.gate_net.specs.Edits.{redirected}
 use Rattle.wire_edit.specs.Tests.{is_gate}
-use Rattle.wire_edit.specs.Changes.{Change, append, remove, fix, readers, new_not, retire, changed}
+use Rattle.wire_edit.specs.Changes.{Change, append, remove, fix, readers, new_not, retire, to_not, changed}
 use Rattle.wire_edit.specs.Inner.Changes.{CanChange}
 use Rattle.wire_edit.specs.Laws.{KeepsObserved}
 use Rattle.wire_edit.proofs.Tested.{is_gate_there}
@@ -44,3 +44,4 @@ changes_keep_observed net (readers from to) can = record { together = together; 
     stays k x is plain = there k ∙ ap (option_map (redirected from to)) is ∙ ap Some (away x plain)
 changes_keep_observed net (new_not driver) can = same_observed net (changed net (new_not driver)) refl
 changes_keep_observed net (retire gate) can = same_observed net (changed net (retire gate)) refl
+changes_keep_observed net (to_not gate position) can = same_observed net (changed net (to_not gate position)) refl

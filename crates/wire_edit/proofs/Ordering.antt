@@ -7,12 +7,12 @@ use Rattle.rm_base.specs.declared.numbers.NodeId.{NodeId}
 use Rattle.gate_net.specs.Net.{Node, Net, flatten_option, drivers_of, IsGate}
 use Rattle.wire_edit.specs.declared.steps.Step.{Step}
 use Rattle.wire_edit.specs.declared.steps.Step.TheVariants.{Add, Fix, NewNot, Const, Same, NoPins, OnePin, Twice, Twin, Dead}
-use Rattle.wire_edit.specs.Tests.{is_gate, is_junction, is_not, is_in_use, constant_at, is_repeated}
+use Rattle.wire_edit.specs.Tests.{is_gate, is_junction, reads_several, is_not, is_in_use, constant_at, is_repeated}
 use Rattle.wire_edit.specs.Steps.{rule_applies, Applies}
 use Rattle.wire_edit.specs.Refusals.{or_else}
 use Rattle.wire_edit.specs.Order.{node, where_met, first_from, rule_at, next_step, IsTidy}
 use Rattle.wire_edit.specs.Laws.{IsTidying}
-use Rattle.wire_edit.proofs.Tested.{present, gate_is, junction_gate, not_gate, repeated_at, constant_read}
+use Rattle.wire_edit.proofs.Tested.{present, several_gate, gate_is, junction_gate, not_gate, repeated_at, constant_read}
 
 -- THE FIRST OF MANY
 pub or_none : {A : Type 0} (o p : Option A) → or_else o p ≡ None → (o ≡ None) × (p ≡ None)
@@ -114,7 +114,7 @@ const_within net gate p e =
 
 same_within : (net : Net) (gate p : ℕ) → rule_applies net (Same (node gate) p) ≡ true → p < length (drivers_of net gate)
 same_within net gate p e =
-    let a : (is_junction net gate ≡ true) × _ = and_parts (is_junction net gate) _ e in
+    let a : (reads_several net gate ≡ true) × _ = and_parts (reads_several net gate) _ e in
     let b : (is_in_use net gate ≡ true) × (is_repeated (drivers_of net gate) p ≡ true) = and_parts (is_in_use net gate) _ a.1 in
     let r : (d : ℕ) × ((q : ℕ) × ((q < p) × ((slice_get (drivers_of net gate) q ≡ Some d) × (slice_get (drivers_of net gate) p ≡ Some d)))) = repeated_at (drivers_of net gate) p b.1 in
     slice_get_within (drivers_of net gate) p r.0 r.1.1.1.1
@@ -291,7 +291,7 @@ tidy_refuses net tidy (NewNot node) t e = t
 tidy_refuses net tidy (Const gate position) t e =
     let g : (is_gate net gate.0 ≡ true) × _ = and_parts (is_gate net gate.0) _ e in both_ways _ ((tidy_no_rules net tidy gate.0 g.0).no_const position) e
 tidy_refuses net tidy (Same gate position) t e =
-    let g : (is_junction net gate.0 ≡ true) × _ = and_parts (is_junction net gate.0) _ e in both_ways _ ((tidy_no_rules net tidy gate.0 (junction_gate net gate.0 g.0)).no_same position) e
+    let g : (reads_several net gate.0 ≡ true) × _ = and_parts (reads_several net gate.0) _ e in both_ways _ ((tidy_no_rules net tidy gate.0 (several_gate net gate.0 g.0)).no_same position) e
 tidy_refuses net tidy (NoPins gate) t e =
     let g : (is_junction net gate.0 ≡ true) × _ = and_parts (is_junction net gate.0) _ e in both_ways _ (tidy_no_rules net tidy gate.0 (junction_gate net gate.0 g.0)).no_empty e
 tidy_refuses net tidy (OnePin gate) t e =

@@ -1,7 +1,7 @@
 -- Sources and constants stay as they are.
 use Rattle.std.proofs.Common.{◌≡◌, ℕ, ◌+◌, ◌-◌, ◌<◌, ◌≤◌, Option, Some, None, List, [], refl, sym, ◌∙◌, ap, arith}
 use Rattle.gate_net.specs.declared.Kind.{Kind}
-use Rattle.gate_net.specs.declared.Kind.TheVariants.{Source, Zero, One, And, Or, Not}
+use Rattle.gate_net.specs.declared.Kind.TheVariants.{Source, Zero, One, And, Or, Not, Xor}
 use Rattle.gate_net.specs.Net.{Node, Net, node_at, drivers_in, IsKind, IsGateKind, HasConstants, HasSources, IsWellFormed, plain_node, count_in, source_in, source_count}
 
 pub some_none : {n : Node} → ◌≡◌ {A = Option Node} (Some n) None → ⊥
@@ -18,8 +18,10 @@ gate_weight One k = absurd k
 gate_weight And k = refl
 gate_weight Or k = refl
 gate_weight Not k = refl
+gate_weight Xor k = refl
 
-plain_drivers : (net : Net) → IsWellFormed net → (x : ℕ) (kind : Kind) (ds : List ℕ) → node_at net x ≡ Some (record { kind = kind; drivers = ds }) → (IsGateKind kind → ⊥) → ds ≡ []
+-- sources and constants have no pins
+pub plain_drivers : (net : Net) → IsWellFormed net → (x : ℕ) (kind : Kind) (ds : List ℕ) → node_at net x ≡ Some (record { kind = kind; drivers = ds }) → (IsGateKind kind → ⊥) → ds ≡ []
 plain_drivers net well x Source ds is k =
     let at : (2 ≤ x) × (x < 2 + source_count net) = well.sources.only x (ds, is) in
     let same : 2 + (x - 2) ≡ x = omega (arith, at.0) in
@@ -30,6 +32,7 @@ plain_drivers net well x One ds is k = let e : x ≡ 1 = well.only_one x (ds, is
 plain_drivers net well x And ds is k = absurd (k tt)
 plain_drivers net well x Or ds is k = absurd (k tt)
 plain_drivers net well x Not ds is k = absurd (k tt)
+plain_drivers net well x Xor ds is k = absurd (k tt)
 
 -- sources and constants are the same in both nets
 pub record KeepsPlain (net after : Net) : Type 0 where

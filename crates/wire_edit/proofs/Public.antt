@@ -17,11 +17,13 @@ pub use Rattle.wire_edit.proofs.Plain.{some_none}
 -- What the calls that read a graph tell of its net.
 pub use Rattle.wire_edit.proofs.Reading.{gate_live}
 -- What the tests of nodes tell.
-pub use Rattle.wire_edit.proofs.Tested.{among_at, gate_is, is_live_there, junction_gate}
+pub use Rattle.wire_edit.proofs.Tested.{among_at, gate_is, is_live_there, junction_at, junction_gate, not_at_family, not_gate, several_gate, several_junction, xor_at_family, xor_is}
+-- The changes that constants and repeated drivers make, by cases, and the pins of an Xor.
+pub use Rattle.wire_edit.proofs.ConstantCases.{constant_cases, same_cases}
 -- Sums over the numbers of a net.
 pub use Rattle.wire_edit.proofs.Totalling.{live_within}
 -- Sums over the nodes of a net.
-pub use Rattle.wire_edit.proofs.Totals.{total_gone, total_least, total_map, total_trimmed, total_with}
+pub use Rattle.wire_edit.proofs.Totals.{total_gone, total_least, total_map, total_node, total_trimmed, total_with}
 -- Walks along lists.
 pub use Rattle.wire_edit.proofs.Walks.{march, next_place}
 -- A tidy net has no pin that a constant drives, and no removal makes another pin free.

@@ -1,15 +1,15 @@
 -- What the calls that read a graph tell of its net.
-use Rattle.std.proofs.Common.{◌≡◌, ℕ, zero, suc, ◌<◌, ◌≤◌, Bool, true, false, ◌||◌, ◌&&◌, ◌↔◌, Option, Some, None, List, [], ◌∷◌, length, map, take, refl, sym, ◌∙◌, ap, arith}
+use Rattle.std.proofs.Common.{◌≡◌, ℕ, zero, suc, ◌<◌, ◌≤◌, Bool, true, false, ◌&&◌, ◌↔◌, Option, Some, None, List, [], ◌∷◌, length, map, take, refl, sym, ◌∙◌, ap, arith}
 use Rattle.std.specs.Prelude.{not, nat_lt, slice_get, option_and_then}
 use Rattle.std.proofs.lemmas.Bool.{eq-eqb, and_from, both_ways, lt-ltb, or_left, or_right, and_parts, false_from_ne_true}
 use Rattle.gate_net.specs.Net.{Net, node_at, drivers_in, drivers_of, Reads, IsObserved, IsLive, IsGate, IsWellFormed}
 use Rattle.gate_graph.specs.Circuit.{Circuit, net_of, fanouts_of}
 use Rattle.gate_graph.specs.Readers.{ListReaders}
-use Rattle.wire_edit.specs.Tests.{is_live, is_present, is_gate, is_not, is_junction, constant_of, driver_at, is_read_in, is_in_use, is_among, is_some_among, is_repeated}
+use Rattle.wire_edit.specs.Tests.{is_live, is_present, is_gate, is_not, is_xor, is_junction, reads_several, constant_of, driver_at, is_read_in, is_in_use, is_among, is_some_among, is_repeated}
 use Rattle.wire_edit.specs.Inner.Firsts.{IsFirst, reads_constant, is_twin}
 use Rattle.wire_edit.specs.Steps.{same_some}
 use Rattle.wire_edit.specs.Inner.Marked.{IsQuietBelow}
-use Rattle.wire_edit.proofs.Tested.{absent, unread_unused, gate_is, not_is, among_at, at_among, at_read, read_at, same_at, not_gate}
+use Rattle.wire_edit.proofs.Tested.{several_junction, xor_is, absent, unread_unused, gate_is, not_is, among_at, at_among, at_read, read_at, same_at, not_gate}
 use Rattle.wire_edit.proofs.Keeping.{not_pin}
 use Rattle.wire_edit.proofs.Ordering.{NoRules, none_rules}
 use Rattle.wire_edit.proofs.Gates.{gates_of, gate_listed, gate_reads, no_gate}
@@ -51,13 +51,12 @@ constant_test net gate p d e = ap (λ o. is_present (option_and_then (constant_o
 pub repeated_test : (ds : List ℕ) (k d : ℕ) → slice_get ds k ≡ Some d → is_repeated ds k ≡ is_among d (take k ds)
 repeated_test ds k d e = ap (λ o. is_some_among o (take k ds)) e
 
-pub junction_of : (net : Net) (x : ℕ) → is_gate net x ≡ true → is_not net x ≡ false → is_junction net x ≡ true
-junction_of net x g n = at (is_junction net x) (is_not net x) g n
-  where
-    at : (j n : Bool) → (j || n) ≡ true → n ≡ false → j ≡ true
-    at true n g e = refl
-    at false true g e = cc
-    at false false g e = cc
+-- an And or an Or, where there are fewer pins than an Xor has
+pub few_junction : (net : Net) → IsWellFormed net → (x : ℕ) → reads_several net x ≡ true → length (drivers_of net x) < 2 → is_junction net x ≡ true
+few_junction net well x s few = several_junction net x s (false_from_ne_true (is_xor net x) (λ y.
+    let two = well.xors_have_two x (xor_is net x y) in
+    let count : length (drivers_of net x) ≡ 2 = ap length two.2 in
+    omega (arith, few, count)))
 
 -- THE LEAST TWIN
 same_there : (o q : Option ℕ) (d : ℕ) → o ≡ Some d → q ≡ Some d → same_some o q ≡ true

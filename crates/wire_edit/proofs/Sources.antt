@@ -3,12 +3,12 @@ use Rattle.std.proofs.Common.{◌≡◌, ℕ, ◌+◌, Option, Some, None, [], �
 use Rattle.std.specs.Prelude.{List, slice_set, sum_by}
 use Rattle.gate_net.specs.declared.Kind.TheVariants.{Not}
 use Rattle.gate_net.specs.Net.{Node, Net, drivers_of, IsGate, source_in, source_count}
-use Rattle.gate_net.specs.Edits.{with_drivers, constant_node, without, node_redirected}
-use Rattle.wire_edit.specs.Changes.{Change, append, remove, fix, readers, new_not, retire, changed, with_new_not, without_node}
+use Rattle.gate_net.specs.Edits.{turned_to_not, with_drivers, constant_node, without, node_redirected}
+use Rattle.wire_edit.specs.Changes.{Change, append, remove, fix, readers, new_not, retire, to_not, changed, with_new_not, without_node}
 use Rattle.wire_edit.specs.Inner.Changes.{CanChange}
-use Rattle.wire_edit.proofs.Totals.{total_with, total_map, total_least, total_gone}
+use Rattle.wire_edit.proofs.Tested.{junction_kind}
+use Rattle.wire_edit.proofs.Totals.{total_node, total_with, total_map, total_least, total_gone}
 use Rattle.wire_edit.proofs.Plain.{source_weight, gate_weight}
-use Rattle.wire_edit.proofs.Formed.{junction_kind}
 
 with_count : (net : Net) (gate : ℕ) (ds : List ℕ) → IsGate net gate → source_count (with_drivers net gate ds) ≡ source_count net
 with_count net gate ds g =
@@ -32,3 +32,5 @@ changes_keep_sources net (retire gate) (g, unread) =
     let e : source_count (without_node net gate) + source_weight (Some (record { kind = g.0; drivers = g.1.0.0 })) ≡ source_count net = total_gone source_weight refl net gate (record { kind = g.0; drivers = g.1.0.0 }) g.1.0.1 in
     let z : source_in g.0 ≡ 0 = gate_weight g.0 g.1.1 in
     omega arith
+changes_keep_sources net (to_not gate position) (is, lt) =
+    let e : source_count (turned_to_not net gate position) + 0 ≡ source_count net + 0 = total_node source_weight net gate _ _ is.1 in omega arith

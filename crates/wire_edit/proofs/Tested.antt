@@ -1,15 +1,19 @@
 -- What the tests of nodes tell.
 use Rattle.std.proofs.Common.{◌≡◌, ℕ, zero, suc, ◌<◌, Bool, true, false, ◌||◌, ◌⊎◌, inl, inr, Option, Some, None, List, [], ◌∷◌, refl, sym, ◌∙◌, ap, arith, length, take}
-use Rattle.std.specs.Prelude.{slice_get, nat_eq, option_and_then}
+use Rattle.std.specs.Prelude.{T, slice_get, nat_eq, option_and_then}
 use Rattle.std.proofs.lemmas.Bool.{eqb-true, eq-eqb, both_ways, false_from_ne_true, or_cases}
 use Rattle.std.proofs.Math.Bool.{or-true}
 use Rattle.gate_net.specs.declared.Kind.{Kind}
-use Rattle.gate_net.specs.declared.Kind.TheVariants.{Source, Zero, One, And, Or, Not}
+use Rattle.gate_net.specs.declared.Kind.TheVariants.{Source, Zero, One, And, Or, Not, Xor}
+use Rattle.gate_net.specs.declared.Family.{Family}
+use Rattle.gate_net.specs.declared.Family.TheVariants.{Constant, Input, Junction, Parity}
+use Rattle.gate_net.specs.Meaning.{controlling_in, family, is_gate_family}
+use Rattle.gate_net.proofs.Public.{constant_is, parity_is}
 use Rattle.gate_net.specs.Net.{Node, Net, node_at, kind_in, drivers_in, flatten_option, Reads, IsKind, IsLive, IsGate, IsGateKind, IsObserved}
 use Rattle.gate_net.specs.Values.{controlling, IsJunction}
 use Rattle.gate_net.specs.Edits.{IsUnread}
 use Rattle.gate_net.specs.Inner.Edits.{constant_kind}
-use Rattle.wire_edit.specs.Tests.{is_present, is_live, gate_control, control_of, is_junction, is_not_kind, is_not, is_gate, kind_constant, constant_of, driver_at, constant_at, is_among, is_read_in, is_in_use, is_some_among, is_repeated}
+use Rattle.wire_edit.specs.Tests.{is_present, is_live, gate_control, control_of, is_junction, is_not_kind, is_not, is_xor_kind, is_xor, reads_several, family_in, family_of, is_gate, kind_constant, constant_of, driver_at, constant_at, is_among, is_read_in, is_in_use, is_some_among, is_repeated}
 use Rattle.wire_edit.specs.Steps.{is_not_at, same_some}
 
 pub present : {A : Type 0} (o : Option A) → is_present o ≡ true → (x : A) × (o ≡ Some x)
@@ -30,17 +34,9 @@ live_is net x e = let n : (n : Node) × (node_at net x ≡ Some n) = present (no
 pub is_live_there : (net : Net) (x : ℕ) → IsLive net x → is_live net x ≡ true
 is_live_there net x l = present_is (node_at net x) _ l.1.1
 
-control_kind : (k : Kind) (c : Bool) → gate_control (Some k) ≡ Some c → controlling k ≡ Some c
-control_kind Source c e = cc
-control_kind Zero c e = cc
-control_kind One c e = cc
-control_kind And c e = e
-control_kind Or c e = e
-control_kind Not c e = cc
-
 control_node : (o : Option Node) (c : Bool) → gate_control (kind_in o) ≡ Some c → (kind : Kind) × (((ds : List ℕ) × (o ≡ Some (record { kind = kind; drivers = ds }))) × (controlling kind ≡ Some c))
 control_node None c e = cc
-control_node (Some n) c e = (n.kind, ((n.drivers, refl), control_kind n.kind c e))
+control_node (Some n) c e = (n.kind, ((n.drivers, refl), e))
 
 pub control_is : (net : Net) (x : ℕ) (c : Bool) → control_of net x ≡ Some c → IsJunction net x c
 control_is net x c e = control_node (node_at net x) c e
@@ -59,23 +55,33 @@ not_node (Some n) e = (n.drivers, ap (λ (k : Kind). Some (record { kind = k; dr
     at And e = cc
     at Or e = cc
     at Not e = refl
+    at Xor e = cc
 
 pub not_is : (net : Net) (x : ℕ) → is_not net x ≡ true → IsKind net x Not
 not_is net x e = not_node (node_at net x) e
 
+xor_node : (o : Option Node) → is_xor_kind (kind_in o) ≡ true → (ds : List ℕ) × (o ≡ Some (record { kind = Xor; drivers = ds }))
+xor_node None e = cc
+xor_node (Some n) e = (n.drivers, ap (λ (k : Kind). Some (record { kind = k; drivers = n.drivers })) (at n.kind e))
+  where
+    at : (k : Kind) → is_xor_kind (Some k) ≡ true → k ≡ Xor
+    at Source e = cc
+    at Zero e = cc
+    at One e = cc
+    at And e = cc
+    at Or e = cc
+    at Not e = cc
+    at Xor e = refl
+
+pub xor_is : (net : Net) (x : ℕ) → is_xor net x ≡ true → IsKind net x Xor
+xor_is net x e = xor_node (node_at net x) e
+
+pub is_xor_there : (net : Net) (x : ℕ) → IsKind net x Xor → is_xor net x ≡ true
+is_xor_there net x is = ap (λ o. is_xor_kind (kind_in o)) is.1
+
 constant_node_is : (o : Option Node) (b : Bool) → kind_constant (kind_in o) ≡ Some b → (ds : List ℕ) × (o ≡ Some (record { kind = constant_kind b; drivers = ds }))
 constant_node_is None b e = cc
-constant_node_is (Some n) b e = (n.drivers, ap (λ (k : Kind). Some (record { kind = k; drivers = n.drivers })) (at n.kind b e))
-  where
-    at : (k : Kind) (b : Bool) → kind_constant (Some k) ≡ Some b → k ≡ constant_kind b
-    at Source b e = cc
-    at Zero true e = cc
-    at Zero false e = refl
-    at One true e = refl
-    at One false e = cc
-    at And b e = cc
-    at Or b e = cc
-    at Not b e = cc
+constant_node_is (Some n) b e = (n.drivers, ap (λ (k : Kind). Some (record { kind = k; drivers = n.drivers })) (constant_is n.kind b e))
 
 pub constant_is_one : (net : Net) (x : ℕ) (b : Bool) → constant_of net x ≡ Some b → IsKind net x (constant_kind b)
 constant_is_one net x b e = constant_node_is (node_at net x) b e
@@ -87,37 +93,89 @@ constant_read net gate p b e = at (driver_at net gate p) refl e
     at None is e = cc
     at (Some d) is e = (d, (is, (e, constant_is_one net d b e)))
 
-gate_either : (o : Option Node) → (is_present (gate_control (kind_in o)) || is_not_kind (kind_in o)) ≡ true → (kind : Kind) × (((ds : List ℕ) × (o ≡ Some (record { kind = kind; drivers = ds }))) × IsGateKind kind)
-gate_either None e = cc
-gate_either (Some n) e = (n.kind, ((n.drivers, refl), at n.kind e))
+-- GATES BY FAMILY
+pub told : (b : Bool) → b ≡ true → T b
+told true e = tt
+told false e = cc
+
+pub tells : (b : Bool) → T b → b ≡ true
+tells true t = refl
+tells false t = absurd t
+
+-- a gate of that family
+pub family_known : (net : Net) (x : ℕ) (f : Family) → family_of net x ≡ f → is_gate_family f ≡ true → (kind : Kind) × (IsKind net x kind × (family kind ≡ f))
+family_known net x f e g = at (node_at net x) refl
   where
-    at : (k : Kind) → (is_present (gate_control (Some k)) || is_not_kind (Some k)) ≡ true → IsGateKind k
-    at Source e = cc
-    at Zero e = cc
-    at One e = cc
-    at And e = tt
-    at Or e = tt
-    at Not e = tt
+    at : (o : Option Node) → node_at net x ≡ o → (kind : Kind) × (IsKind net x kind × (family kind ≡ f))
+    at None is =
+        let none : Input ≡ f = sym (ap (λ o. family_in (kind_in o)) is) ∙ e in
+        let wrong : false ≡ true = ap is_gate_family none ∙ g in cc
+    at (Some n) is = (n.kind, ((n.drivers, is), sym (ap (λ o. family_in (kind_in o)) is) ∙ e))
+
+pub junction_at : (net : Net) (x : ℕ) (c : Bool) → family_of net x ≡ Junction c → IsJunction net x c
+junction_at net x c e = let k = family_known net x (Junction c) e refl in (k.0, (k.1.0, ap controlling_in k.1.1))
+
+pub not_at_family : (net : Net) (x : ℕ) → family_of net x ≡ Parity true → IsKind net x Not
+not_at_family net x e =
+    let k = family_known net x (Parity true) e refl in
+    let same : k.0 ≡ Not = parity_is k.0 true k.1.1 in rw same at k.1.0
+
+pub xor_at_family : (net : Net) (x : ℕ) → family_of net x ≡ Parity false → IsKind net x Xor
+xor_at_family net x e =
+    let k = family_known net x (Parity false) e refl in
+    let same : k.0 ≡ Xor = parity_is k.0 false k.1.1 in rw same at k.1.0
 
 pub gate_is : (net : Net) (x : ℕ) → is_gate net x ≡ true → IsGate net x
-gate_is net x e = gate_either (node_at net x) e
+gate_is net x e = let k = family_known net x (family_of net x) refl e in (k.0, (k.1.0, told (is_gate_family (family k.0)) (ap is_gate_family k.1.1 ∙ e)))
 
 pub is_gate_there : (net : Net) (x : ℕ) → IsGate net x → is_gate net x ≡ true
-is_gate_there net x (kind, ((ds, is), k)) = ap (λ o. is_present (gate_control (kind_in o)) || is_not_kind (kind_in o)) is ∙ at kind k
-  where
-    at : (k : Kind) → IsGateKind k → (is_present (gate_control (Some k)) || is_not_kind (Some k)) ≡ true
-    at Source k = absurd k
-    at Zero k = absurd k
-    at One k = absurd k
-    at And k = refl
-    at Or k = refl
-    at Not k = refl
+is_gate_there net x (kind, ((ds, is), k)) = ap (λ o. is_gate_family (family_in (kind_in o))) is ∙ tells (is_gate_family (family kind)) k
+
+control_family : (f : Family) (c : Bool) → controlling_in f ≡ Some c → T (is_gate_family f)
+control_family Input c e = cc
+control_family (Constant b) c e = cc
+control_family (Junction b) c e = tt
+control_family (Parity i) c e = cc
+
+pub control_gate : (kind : Kind) (c : Bool) → controlling kind ≡ Some c → IsGateKind kind
+control_gate kind = control_family (family kind)
+
+abbrev pub junction_kind : (net : Net) (x : ℕ) (c : Bool) → IsJunction net x c → IsGate net x
+junction_kind net x c j = (j.0, (j.1.0, control_gate j.0 c j.1.1))
 
 pub junction_gate : (net : Net) (x : ℕ) → is_junction net x ≡ true → is_gate net x ≡ true
-junction_gate net x e = ap (λ b. b || is_not net x) e
+junction_gate net x e = let c = junction_is_one net x e in is_gate_there net x (junction_kind net x c.0 c.1.1)
 
 pub not_gate : (net : Net) (x : ℕ) → is_not net x ≡ true → is_gate net x ≡ true
-not_gate net x e = ap (λ b. is_junction net x || b) e ∙ or-true (is_junction net x)
+not_gate net x e = is_gate_there net x (Not, (not_is net x e, tt))
+
+pub several_gate : (net : Net) (x : ℕ) → reads_several net x ≡ true → is_gate net x ≡ true
+several_gate net x e = elim (or_cases (is_junction net x) (is_xor net x) e) [ inl j ↦ junction_gate net x j | inr y ↦ is_gate_there net x (Xor, (xor_is net x y, tt)) ]
+
+-- an And or an Or, where it is no Xor
+pub several_junction : (net : Net) (x : ℕ) → reads_several net x ≡ true → is_xor net x ≡ false → is_junction net x ≡ true
+several_junction net x e none = elim (or_cases (is_junction net x) (is_xor net x) e) [ inl j ↦ j | inr y ↦ absurd (both_ways (is_xor net x) none y) ]
+
+pub not_several : (net : Net) (x : ℕ) → is_not net x ≡ true → reads_several net x ≡ false
+not_several net x e = ap (λ o. is_present (gate_control (kind_in o)) || is_xor_kind (kind_in o)) (not_is net x e).1
+
+pub several_no_not : (net : Net) (x : ℕ) → reads_several net x ≡ true → is_not net x ≡ false
+several_no_not net x e = false_from_ne_true (is_not net x) (λ n. both_ways (reads_several net x) (not_several net x n) e)
+
+-- a gate is a Not or may read several nodes
+pub several_of : (net : Net) (x : ℕ) → is_gate net x ≡ true → is_not net x ≡ false → reads_several net x ≡ true
+several_of net x g n =
+    let k : IsGate net x = gate_is net x g in
+    ap (λ o. is_present (gate_control (kind_in o)) || is_xor_kind (kind_in o)) k.1.0.1 ∙ at k.0 k.1.1 (sym (ap (λ o. is_not_kind (kind_in o)) k.1.0.1) ∙ n)
+  where
+    at : (k : Kind) → IsGateKind k → is_not_kind (Some k) ≡ false → (is_present (gate_control (Some k)) || is_xor_kind (Some k)) ≡ true
+    at Source g e = absurd g
+    at Zero g e = absurd g
+    at One g e = absurd g
+    at And g e = refl
+    at Or g e = refl
+    at Not g e = cc
+    at Xor g e = refl
 
 -- MEMBERS
 pub among_at : (x : ℕ) (xs : List ℕ) → is_among x xs ≡ true → (k : ℕ) × (slice_get xs k ≡ Some x)

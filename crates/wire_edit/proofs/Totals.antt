@@ -5,7 +5,7 @@ use Rattle.std.specs.List.{sum_by}
 use Rattle.std.proofs.lemmas.List.Sums.{sum_by-cons}
 use Rattle.gate_net.proofs.Public.{flatten_some}
 use Rattle.gate_net.specs.Net.{Node, Net, node_at, before_dead, trimmed}
-use Rattle.gate_net.specs.Edits.{with_drivers}
+use Rattle.gate_net.specs.Edits.{with_drivers, with_node}
 use Rattle.wire_edit.specs.Changes.{with_least_free}
 
 pub total_set : (f : Option Node → ℕ) (os : List (Option Node)) (x : ℕ) (o p : Option Node) → slice_get os x ≡ Some o → sum_by f (slice_set os x p) + f o ≡ sum_by f os + f p
@@ -51,6 +51,10 @@ total_map f g same (o ∷ os) =
     let a : sum_by f (g o ∷ map g os) ≡ f (g o) + sum_by f (map g os) = sum_by-cons f (g o) (map g os) in
     let b : sum_by f (o ∷ os) ≡ f o + sum_by f os = sum_by-cons f o os in
     omega arith
+
+-- where there is another node
+pub total_node : (f : Option Node → ℕ) (net : Net) (gate : ℕ) (m n : Node) → node_at net gate ≡ Some n → sum_by f (with_node net gate m).nodes + f (Some n) ≡ sum_by f net.nodes + f (Some m)
+total_node f net gate m n e = total_set f net.nodes gate (Some n) (Some m) (flatten_some (slice_get net.nodes gate) n e)
 
 -- where one gate has other drivers
 pub total_with : (f : Option Node → ℕ) (net : Net) (gate : ℕ) (drivers : List ℕ) (n : Node) → node_at net gate ≡ Some n → sum_by f (with_drivers net gate drivers).nodes + f (Some n) ≡ sum_by f net.nodes + f (Some (record n { drivers = drivers }))

@@ -1,10 +1,8 @@
 -- What holds of a trial holds after each step.
-use Rattle.std.proofs.Common.{◌≡◌, ℕ, ◌+◌, ◌-◌, ◌<◌, ◌≤◌, Bool, true, false, inl, inr, Option, Some, None, List, length, refl, sym, ap, subst, arith}
-use Rattle.std.specs.Prelude.{nat_lt, if◌then◌else◌}
+use Rattle.std.proofs.Common.{◌≡◌, ℕ, ◌+◌, ◌-◌, ◌<◌, ◌≤◌, Bool, true, false, inl, inr, List, length, refl, sym, ap, subst, arith}
+use Rattle.std.specs.Prelude.{nat_lt}
 use Rattle.std.proofs.lemmas.Bool.{and_parts, both_ways, cases_lt, false_from_ne_true, ltb-true}
 use Rattle.gate_net.specs.Net.{Net, IsWellFormed, wire_count}
-use Rattle.gate_net.specs.Values.{same_bool}
-use Rattle.gate_net.specs.Edits.{constant_node}
 use Rattle.gate_graph.specs.Circuit.{Circuit, net_of, free_pins, free_nodes}
 use Rattle.gate_graph.specs.Undoing.{LeadOn}
 use Rattle.gate_graph.specs.Changes.{CanEdit, Edits, entries_for}
@@ -12,15 +10,16 @@ use Rattle.gate_graph.specs.Trail.{Trail}
 use Rattle.wire_edit.specs.declared.steps.Step.{Step}
 use Rattle.wire_edit.specs.declared.steps.Step.TheVariants.{Add, Fix, NewNot, Const, Same, NoPins, OnePin, Twice, Twin, Dead}
 use Rattle.wire_edit.specs.declared.room.Room.{Room}
-use Rattle.wire_edit.specs.Tests.{is_gate, control_of, constant_at}
-use Rattle.wire_edit.specs.Changes.{Change, append, remove, fix, readers, new_not, retire, changed}
+use Rattle.wire_edit.specs.Tests.{is_gate, is_xor, family_of, constant_at}
+use Rattle.wire_edit.specs.Changes.{Change, append, remove, fix, readers, new_not, retire, to_not, changed}
 use Rattle.wire_edit.specs.Inner.Changes.{CanChange, pins_added, nodes_added}
-use Rattle.wire_edit.specs.Steps.{Applies, constant_change, change_of, stepped}
+use Rattle.wire_edit.specs.Steps.{Applies, other_driver, change_of, stepped}
 use Rattle.wire_edit.specs.Refusals.{has_room, room_after, nodes_made}
 use Rattle.wire_edit.specs.Work.{pins_made}
 use Rattle.wire_edit.specs.Edited.{edit_of}
 use Rattle.wire_edit.specs.Inner.Marked.{is_marked, KeepsMarks, IsQuiet, MarksTouched}
 use Rattle.wire_edit.specs.Inner.Trials.{IsTrial}
+use Rattle.wire_edit.proofs.ConstantCases.{constant_cases, same_cases}
 use Rattle.wire_edit.proofs.Conditions.{applies_changes}
 use Rattle.wire_edit.proofs.Ordering.{none_rules, rules_none, gate_below}
 use Rattle.wire_edit.proofs.Staying.{no_gate_rules, untouched_quiet}
@@ -39,21 +38,16 @@ quiet_after net change marks next well can quiet k touched le x unmarked = elim 
 ]
 
 -- WHAT A STEP TAKES
-constant_pins : (gate p : ℕ) (control constant : Option Bool) → (pins_added (constant_change gate p control constant) ≡ 0) × (nodes_added (constant_change gate p control constant) ≡ 0)
-constant_pins gate p control None = (refl, refl)
-constant_pins gate p None (Some b) = (refl, refl)
-constant_pins gate p (Some c) (Some b) = at (same_bool b c)
-  where
-    at : (t : Bool) → (pins_added (if t then readers gate (constant_node c) else remove gate p) ≡ 0) × (nodes_added (if t then readers gate (constant_node c) else remove gate p) ≡ 0)
-    at true = (refl, refl)
-    at false = (refl, refl)
+-- no pin and no node
+abbrev AddsNone : Change → Type 0
+AddsNone change = (pins_added change ≡ 0) × (nodes_added change ≡ 0)
 
 pub step_pins : (net : Net) (step : Step) → (pins_added (change_of net step) ≡ pins_made step) × (nodes_added (change_of net step) ≡ nodes_made step)
 step_pins net (Add gate node) = (refl, refl)
 step_pins net (Fix gate position value) = (refl, refl)
 step_pins net (NewNot node) = (refl, refl)
-step_pins net (Const gate position) = constant_pins gate.0 position (control_of net gate.0) (constant_at net gate.0 position)
-step_pins net (Same gate position) = (refl, refl)
+step_pins net (Const gate position) = constant_cases AddsNone gate.0 position (other_driver net gate.0 position) (family_of net gate.0) (constant_at net gate.0 position) (refl, refl) (refl, refl) (λ to. (refl, refl))
+step_pins net (Same gate position) = same_cases AddsNone gate.0 position (is_xor net gate.0) (refl, refl) (refl, refl)
 step_pins net (NoPins gate) = (refl, refl)
 step_pins net (OnePin gate) = (refl, refl)
 step_pins net (Twice gate) = (refl, refl)
@@ -97,6 +91,7 @@ entries_are v (fix gate position value) = refl
 entries_are v (readers from to) = refl
 entries_are v (new_not driver) = refl
 entries_are v (retire gate) = refl
+entries_are v (to_not gate position) = refl
 
 -- THE EDIT OF A STEP
 module _ (v : Circuit) (trail : Trail) (room : Room) (marks : ℕ) (worklist : List Bool) (step : Step) (well : IsWellFormed (net_of v)) (t : IsTrial v trail room marks worklist) (applies : Applies (net_of v) step) (roomy : has_room (net_of v) room step ≡ true) where

@@ -12,7 +12,7 @@ use Rattle.wire_edit.specs.declared.steps.Step.{Step}
 use Rattle.wire_edit.specs.declared.steps.Step.TheVariants.{Add, Fix, NewNot, Const, Same, NoPins, OnePin, Twice, Twin, Dead}
 use Rattle.wire_edit.specs.declared.room.Room.{Room}
 use Rattle.wire_edit.specs.Tests.{is_gate}
-use Rattle.wire_edit.specs.Changes.{Change, append, remove, fix, readers, new_not, retire}
+use Rattle.wire_edit.specs.Changes.{Change, append, remove, fix, readers, new_not, retire, to_not}
 use Rattle.wire_edit.specs.Refusals.{has_room, room_after, nodes_made}
 use Rattle.wire_edit.specs.Laws.{IsTidying}
 use Rattle.std.specs.Prelude.{not}
@@ -59,6 +59,7 @@ touched_carried v w (remove gate position) edit mid next well well' e edits befo
 touched_carried v w (fix gate position value) edit mid next well well' e edits before k after = before_edit v (fix gate position value) edit mid next e (λ n. n) before k
 touched_carried v w (readers from to) edit mid next well well' e edits before k after = before_edit v (readers from to) edit mid next e (λ n. n) before k
 touched_carried v w (retire gate) edit mid next well well' e edits before k after = before_edit v (retire gate) edit mid next e (λ n. n) before k
+touched_carried v w (to_not gate position) edit mid next well well' e edits before k after = before_edit v (to_not gate position) edit mid next e (λ n. n) before k
 touched_carried v w (new_not driver) edit mid next well well' e edits before k after =
     λ x t lt. after driver x e t.0 (subst (λ (n : Net). IsNotOf n driver x) (sym (edited_net v w (new_not driver) well well' edits)) t.1) lt
 

@@ -10,12 +10,12 @@ use Rattle.wire_edit.specs.declared.steps.Step.TheVariants.{Add, Fix, NewNot, Co
 use Rattle.wire_edit.specs.declared.refusal.EditRefusal.{EditRefusal}
 use Rattle.wire_edit.specs.declared.refusal.EditRefusal.TheVariants.{Full}
 use Rattle.wire_edit.specs.declared.room.Room.{Room}
-use Rattle.wire_edit.specs.Tests.{is_live, is_junction, is_not, is_gate, is_in_use, is_repeated, is_among, constant_at}
+use Rattle.wire_edit.specs.Tests.{is_live, is_junction, reads_several, is_not, is_gate, is_in_use, is_repeated, is_among, constant_at}
 use Rattle.wire_edit.specs.Steps.{Applies, rule_applies}
 use Rattle.wire_edit.specs.Refusals.{fault_of, refusal_of, or_else, unless, has_room, ClosesCycle, IsAnswer, live_count, ceiling, nodes_made}
 use Rattle.wire_edit.specs.Work.{pins_made}
 use Rattle.wire_edit.specs.Rooms.{IsUnspent}
-use Rattle.wire_edit.proofs.Tested.{present, is_live_there, constant_read, junction_gate, not_gate, repeated_at}
+use Rattle.wire_edit.proofs.Tested.{present, several_gate, is_live_there, constant_read, junction_gate, not_gate, repeated_at}
 use Rattle.wire_edit.proofs.Reading.{gate_live}
 
 pub not_closing : (net : Net) (gate x : NodeId) (cyclic : Bool) → Applies net (Add gate x) → (cyclic ≡ true) ↔ ClosesCycle net (Add gate x) → cyclic ≡ false
@@ -53,9 +53,9 @@ applies_faultless net (Const gate position) cyclic applies tells =
     let p : nat_lt position (length (drivers_of net gate.0)) ≡ true = lt-ltb position (length (drivers_of net gate.0)) (slice_get_within (drivers_of net gate.0) position d.0 d.1.0) in
     none_four (is_live net gate.0) (is_gate net gate.0) (nat_lt position (length (drivers_of net gate.0))) (rule_applies net (Const gate position)) _ _ _ _ (lives net gate g.0) g.0 p applies
 applies_faultless net (Same gate position) cyclic applies tells =
-    let j : (is_junction net gate.0 ≡ true) × _ = and_parts (is_junction net gate.0) _ applies in
+    let j : (reads_several net gate.0 ≡ true) × _ = and_parts (reads_several net gate.0) _ applies in
     let u : (is_in_use net gate.0 ≡ true) × (is_repeated (drivers_of net gate.0) position ≡ true) = and_parts (is_in_use net gate.0) _ j.1 in
-    let g : is_gate net gate.0 ≡ true = junction_gate net gate.0 j.0 in
+    let g : is_gate net gate.0 ≡ true = several_gate net gate.0 j.0 in
     let r : (d : ℕ) × ((q : ℕ) × ((q < position) × ((slice_get (drivers_of net gate.0) q ≡ Some d) × (slice_get (drivers_of net gate.0) position ≡ Some d)))) = repeated_at (drivers_of net gate.0) position u.1 in
     let p : nat_lt position (length (drivers_of net gate.0)) ≡ true = lt-ltb position (length (drivers_of net gate.0)) (slice_get_within (drivers_of net gate.0) position r.0 r.1.1.1.1) in
     none_four (is_live net gate.0) (is_gate net gate.0) (nat_lt position (length (drivers_of net gate.0))) (rule_applies net (Same gate position)) _ _ _ _ (lives net gate g) g p applies

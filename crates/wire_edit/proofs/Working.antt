@@ -1,28 +1,29 @@
 -- Each tidying step lowers the work that is left.
-use Rattle.std.proofs.Common.{◌≡◌, ◌≢◌, ℕ, zero, suc, ◌+◌, ◌*◌, ◌<◌, ◌≤◌, Bool, true, false, ◌||◌, ◌⊎◌, inl, inr, Option, Some, None, List, [], ◌∷◌, ◌++◌, length, map, refl, sym, ◌∙◌, ap, arith}
-use Rattle.std.specs.Prelude.{slice_get, slice_set, nat_lt}
+use Rattle.std.proofs.Common.{◌≡◌, ◌≢◌, ℕ, zero, suc, ◌+◌, ◌*◌, ◌<◌, ◌≤◌, Bool, true, false, ◌⊎◌, inl, inr, Option, Some, None, List, [], ◌∷◌, ◌++◌, length, map, refl, sym, ◌∙◌, ap, arith}
+use Rattle.std.specs.Prelude.{T, slice_get, slice_set, nat_lt, if◌then◌else◌}
 use Rattle.std.specs.List.{sum_by}
 use Rattle.std.proofs.lemmas.Bool.{and_from, and_parts, false_from_ne_true}
 use Rattle.std.proofs.lemmas.Bool.Decides.{eqb_tells}
 use Rattle.std.proofs.lemmas.List.Sums.{sum_by-cons}
 use Rattle.std.proofs.lemmas.List.{length_push}
-use Rattle.gate_net.proofs.Public.{drivers_redirected, node_at-moved, node_at-other, node_at-there, redirect_cases}
+use Rattle.gate_net.proofs.Public.{drivers_redirected, node_at-moved, node_at-other, node_at-there, redirect_cases, redriven_node, with_node-other, with_node-there}
 use Rattle.gate_net.specs.declared.Kind.{Kind}
-use Rattle.gate_net.specs.declared.Kind.TheVariants.{Source, Zero, One, And, Or, Not}
+use Rattle.gate_net.specs.declared.Kind.TheVariants.{Not, Xor}
+use Rattle.gate_net.specs.Meaning.{is_gate_family, is_gate_kind}
 use Rattle.gate_net.specs.Net.{Node, Net, node_at, kind_in, kind_of, drivers_in, drivers_of, flatten_option, Reads, IsObserved, IsLive, IsGate, IsGateKind, IsWellFormed, gate_in, wire_count, gate_count}
-use Rattle.gate_net.specs.Edits.{with_drivers, with_pin, without, without_pin, constant_node, redirected, node_redirected, with_readers_moved, IsUnread}
-use Rattle.wire_edit.specs.Tests.{is_present, gate_control, is_not_kind, is_gate, is_in_use, live_in}
+use Rattle.gate_net.specs.Edits.{with_drivers, with_node, with_pin, turned_to_not, without, without_pin, constant_node, redirected, node_redirected, with_readers_moved, IsUnread}
+use Rattle.wire_edit.specs.Tests.{family_in, is_gate, is_in_use, live_in}
 use Rattle.wire_edit.specs.Inner.Tests.{gate_weight}
-use Rattle.wire_edit.specs.Changes.{append, remove, fix, readers, retire, changed, with_new_not, without_node}
+use Rattle.wire_edit.specs.Changes.{append, remove, fix, readers, retire, to_not, changed, with_new_not, without_node}
 use Rattle.wire_edit.specs.Inner.Changes.{CanChange, least_free}
 use Rattle.wire_edit.specs.Refusals.{live_count}
 use Rattle.wire_edit.specs.Work.{free_in, free_pins, count_from, is_used_gate, used_gates, work}
-use Rattle.wire_edit.proofs.Tested.{gate_is, is_gate_there, read_in_use, observed_in_use, used_by}
-use Rattle.wire_edit.proofs.Totals.{total_with, total_map, total_least, total_gone}
+use Rattle.wire_edit.proofs.Tested.{gate_is, is_gate_there, read_in_use, observed_in_use, used_by, junction_kind}
+use Rattle.wire_edit.proofs.Totals.{total_node, total_map, total_least, total_gone}
 use Rattle.wire_edit.proofs.Canonical.{least_is_free, least-there, gone-there}
 use Rattle.wire_edit.proofs.Plain.{some_none}
 use Rattle.wire_edit.proofs.Conditions.{constant_apart}
-use Rattle.wire_edit.proofs.Formed.{without_before, new_differs, gone_differs, free_unread, junction_kind}
+use Rattle.wire_edit.proofs.Formed.{without_before, new_differs, gone_differs, free_unread}
 use Rattle.wire_edit.proofs.Ordering.{gate_below}
 use Rattle.wire_edit.proofs.Counting.{at_most_one, count_mono, count_strict, count_more, count_beyond, count_places, free_length, free_without, length_without, free_set, free_last, free_moved, length_moved}
 use Rattle.rm_base.proofs.Public.{last_cases, length_set, set_cases}
@@ -44,20 +45,18 @@ sum_mono f g h (o ∷ os) =
     omega arith
 
 gate_one : (k : Kind) → gate_in k ≤ 1
-gate_one Source = omega arith
-gate_one Zero = omega arith
-gate_one One = omega arith
-gate_one And = omega arith
-gate_one Or = omega arith
-gate_one Not = omega arith
+gate_one k = at (is_gate_kind k)
+  where
+    at : (b : Bool) → (if b then 1 else 0) ≤ 1
+    at true = omega arith
+    at false = omega arith
 
 gate_is_one : (k : Kind) → IsGateKind k → gate_in k ≡ 1
-gate_is_one Source g = absurd g
-gate_is_one Zero g = absurd g
-gate_is_one One g = absurd g
-gate_is_one And g = refl
-gate_is_one Or g = refl
-gate_is_one Not g = refl
+gate_is_one k g = at (is_gate_kind k) g
+  where
+    at : (b : Bool) → T b → ◌≡◌ {A = ℕ} (if b then 1 else 0) 1
+    at true g = refl
+    at false g = absurd g
 
 pub work_bounded : (net : Net) → work net ≤ 2 * wire_count net + 2 * live_count net
 work_bounded net =
@@ -75,7 +74,7 @@ work_bounded net =
     places j n None e there =
         let is : n ≡ j = omega (arith, e) in
         let dead : node_at net n ≡ None = ap (node_at net) is ∙ ap flatten_option there in
-        let no_gate : is_gate net n ≡ false = ap (λ o. is_present (gate_control (kind_in o)) || is_not_kind (kind_in o)) dead in
+        let no_gate : is_gate net n ≡ false = ap (λ o. is_gate_family (family_in (kind_in o))) dead in
         rw no_gate (omega arith)
 
 -- GATES IN USE IN TWO NETS
@@ -127,50 +126,78 @@ only_left (inl a) = a
 only_left (inr none) = absurd none
 
 gate_same : (net after : Net) (x : ℕ) → kind_of after x ≡ kind_of net x → is_gate after x ≡ true → is_gate net x ≡ true
-gate_same net after x e h = ap (λ k. is_present (gate_control k) || is_not_kind k) (sym e) ∙ h
+gate_same net after x e h = ap (λ k. is_gate_family (family_in k)) (sym e) ∙ h
 
 abbrev Nothing : ℕ → Type 0
 Nothing x = ⊥
 
--- OTHER DRIVERS AT A GATE
-module _ (net : Net) (gate : ℕ) (ds : List ℕ) (g : IsGate net gate) where
+-- ANOTHER GATE IN THE PLACE OF ONE
+module _ (net : Net) (gate : ℕ) (new : Node) (g : IsGate net gate) (k' : IsGateKind new.kind) where
   abbrev node : Node
   node = record { kind = g.0; drivers = g.1.0.0 }
 
   abbrev after : Net
-  after = with_drivers net gate ds
+  after = with_node net gate new
 
-  there : node_at after gate ≡ Some (record { kind = g.0; drivers = ds })
-  there = node_at-there net gate ds node g.1.0.1
+  there : node_at after gate ≡ Some new
+  there = with_node-there net gate new node g.1.0.1
 
-  pub with_kinds : (x : ℕ) → kind_of after x ≡ kind_of net x
-  with_kinds x = elim (eqb_tells x gate) [
-    | inl t ↦ ap (kind_of after) t.1 ∙ ap kind_in there ∙ sym (ap (kind_of net) t.1 ∙ ap kind_in g.1.0.1)
-    | inr t ↦ ap kind_in (node_at-other net gate ds x t.1)
+  gates : (x : ℕ) → is_gate after x ≡ true → is_gate net x ≡ true
+  gates x e = elim (eqb_tells x gate) [
+    | inl t ↦ ap (is_gate net) t.1 ∙ is_gate_there net gate g
+    | inr t ↦ gate_same net after x (ap kind_in (with_node-other net gate new x t.1)) e
   ]
 
   old : drivers_of net gate ≡ g.1.0.0
   old = ap drivers_in g.1.0.1
 
-  pub with_used : (Extra : ℕ → Type 0) → ((x p : ℕ) → is_gate net x ≡ true → slice_get ds p ≡ Some x → ((q : ℕ) × Reads net gate q x) ⊎ Extra x) → (x : ℕ) → is_used_gate after x ≡ true → (is_used_gate net x ≡ true) ⊎ Extra x
-  with_used Extra h = use_back net after Extra (λ x e. gate_same net after x (with_kinds x) e) reads (λ x k o. inl (observed_in_use net x o))
+  pub node_used : (Extra : ℕ → Type 0) → ((x p : ℕ) → is_gate net x ≡ true → slice_get new.drivers p ≡ Some x → ((q : ℕ) × Reads net gate q x) ⊎ Extra x) → (x : ℕ) → is_used_gate after x ≡ true → (is_used_gate net x ≡ true) ⊎ Extra x
+  node_used Extra h = use_back net after Extra gates reads (λ x k o. inl (observed_in_use net x o))
     where
       reads : (x y p : ℕ) → is_gate net x ≡ true → Reads after y p x → (is_in_use net x ≡ true) ⊎ Extra x
       reads x y p k r = elim (eqb_tells y gate) [
         | inl t ↦
-            let here : slice_get ds p ≡ Some x = ap (λ es. slice_get es p) (sym (ap (drivers_of after) t.1 ∙ ap drivers_in there)) ∙ r in
+            let here : slice_get new.drivers p ≡ Some x = ap (λ es. slice_get es p) (sym (ap (drivers_of after) t.1 ∙ ap drivers_in there)) ∙ r in
             elim (h x p k here) [ inl q ↦ inl (read_in_use net x gate q.0 q.1) | inr extra ↦ inr extra ]
-        | inr t ↦ inl (read_in_use net x y p (ap (λ o. slice_get (drivers_in o) p) (sym (node_at-other net gate ds y t.1)) ∙ r))
+        | inr t ↦ inl (read_in_use net x y p (ap (λ o. slice_get (drivers_in o) p) (sym (with_node-other net gate new y t.1)) ∙ r))
       ]
 
-  pub with_free : free_pins after + free_in (drivers_of net gate) ≡ free_pins net + free_in ds
-  with_free = rw old (total_with free_weight net gate ds node g.1.0.1)
+  pub node_free : free_pins after + free_in (drivers_of net gate) ≡ free_pins net + free_in new.drivers
+  node_free = rw old (total_node free_weight net gate new node g.1.0.1)
 
-  pub with_wires : wire_count after + length (drivers_of net gate) ≡ wire_count net + length ds
-  with_wires = rw old (total_with wire_weight net gate ds node g.1.0.1)
+  pub node_wires : wire_count after + length (drivers_of net gate) ≡ wire_count net + length new.drivers
+  node_wires = rw old (total_node wire_weight net gate new node g.1.0.1)
 
-  pub with_gates : gate_count after ≡ gate_count net
-  with_gates = let e : gate_count after + gate_in g.0 ≡ gate_count net + gate_in g.0 = total_with gate_weight net gate ds node g.1.0.1 in omega arith
+  pub node_gates : gate_count after ≡ gate_count net
+  node_gates =
+      let e : gate_count after + gate_in g.0 ≡ gate_count net + gate_in new.kind = total_node gate_weight net gate new node g.1.0.1 in
+      omega (arith, e, gate_is_one g.0 g.1.1, gate_is_one new.kind k')
+
+-- OTHER DRIVERS AT A GATE
+module _ (net : Net) (gate : ℕ) (ds : List ℕ) (g : IsGate net gate) where
+  abbrev redriven : Node
+  redriven = record { kind = g.0; drivers = ds }
+
+  same : with_drivers net gate ds ≡ with_node net gate redriven
+  same = redriven_node net gate ds (record { kind = g.0; drivers = g.1.0.0 }) g.1.0.1
+
+  pub with_kinds : (x : ℕ) → kind_of (with_drivers net gate ds) x ≡ kind_of net x
+  with_kinds x = elim (eqb_tells x gate) [
+    | inl t ↦ ap (kind_of (with_drivers net gate ds)) t.1 ∙ ap kind_in (node_at-there net gate ds (record { kind = g.0; drivers = g.1.0.0 }) g.1.0.1) ∙ sym (ap (kind_of net) t.1 ∙ ap kind_in g.1.0.1)
+    | inr t ↦ ap kind_in (node_at-other net gate ds x t.1)
+  ]
+
+  pub with_used : (Extra : ℕ → Type 0) → ((x p : ℕ) → is_gate net x ≡ true → slice_get ds p ≡ Some x → ((q : ℕ) × Reads net gate q x) ⊎ Extra x) → (x : ℕ) → is_used_gate (with_drivers net gate ds) x ≡ true → (is_used_gate net x ≡ true) ⊎ Extra x
+  with_used Extra h x e = node_used net gate redriven g g.1.1 Extra h x (ap (λ (n : Net). is_used_gate n x) (sym same) ∙ e)
+
+  pub with_free : free_pins (with_drivers net gate ds) + free_in (drivers_of net gate) ≡ free_pins net + free_in ds
+  with_free = ap (λ (n : Net). free_pins n + free_in (drivers_of net gate)) same ∙ node_free net gate redriven g g.1.1
+
+  pub with_wires : wire_count (with_drivers net gate ds) + length (drivers_of net gate) ≡ wire_count net + length ds
+  with_wires = ap (λ (n : Net). wire_count n + length (drivers_of net gate)) same ∙ node_wires net gate redriven g g.1.1
+
+  pub with_gates : gate_count (with_drivers net gate ds) ≡ gate_count net
+  with_gates = ap gate_count same ∙ node_gates net gate redriven g g.1.1
 
 pub remove_falls : (net : Net) (gate p : ℕ) → CanChange net (remove gate p) → work (without_pin net gate p) + 1 ≤ work net
 remove_falls net gate p (j, lt) =
@@ -180,6 +207,32 @@ remove_falls net gate p (j, lt) =
     let c : _ ≡ _ = with_gates net gate (without (drivers_of net gate) p) g in
     let d : _ ≤ _ = used_mono net (without_pin net gate p) (λ x e. only_left (with_used net gate (without (drivers_of net gate) p) g Nothing (λ y q k there. inl (without_before (drivers_of net gate) p q y there)) x e)) in
     let f : _ ≤ _ = free_without (drivers_of net gate) p in
+    let l : _ ≡ _ = length_without (drivers_of net gate) p lt in
+    omega arith
+
+abbrev turned : Net → ℕ → ℕ → Node
+turned net gate p = record { kind = Not; drivers = without (drivers_of net gate) p }
+
+pub turn_frees : (net : Net) (gate p : ℕ) → CanChange net (to_not gate p) → free_pins (turned_to_not net gate p) ≤ free_pins net
+turn_frees net gate p (is, lt) =
+    let a : _ ≡ _ = node_free net gate (turned net gate p) (Xor, (is, tt)) tt in
+    let f : _ ≤ _ = free_without (drivers_of net gate) p in
+    omega arith
+
+pub turn_falls : (net : Net) (gate p : ℕ) → CanChange net (to_not gate p) → work (turned_to_not net gate p) + 1 ≤ work net
+turn_falls net gate p (is, lt) =
+    let g : IsGate net gate = (Xor, (is, tt)) in
+    let a : _ ≡ _ = node_free net gate (turned net gate p) g tt in
+    let b : _ ≡ _ = node_wires net gate (turned net gate p) g tt in
+    let c : _ ≡ _ = node_gates net gate (turned net gate p) g tt in
+    let d : _ ≤ _ = used_mono net (turned_to_not net gate p) (λ x e. only_left (node_used net gate (turned net gate p) g tt Nothing (λ y q k there. inl (without_before (drivers_of net gate) p q y there)) x e)) in
+    let f : _ ≤ _ = free_without (drivers_of net gate) p in
+    let l : _ ≡ _ = length_without (drivers_of net gate) p lt in
+    omega arith
+
+pub turn_wires : (net : Net) (gate p : ℕ) → CanChange net (to_not gate p) → wire_count (turned_to_not net gate p) ≤ wire_count net + 0
+turn_wires net gate p (is, lt) =
+    let b : _ ≡ _ = node_wires net gate (turned net gate p) (Xor, (is, tt)) tt in
     let l : _ ≡ _ = length_without (drivers_of net gate) p lt in
     omega arith
 

@@ -2,7 +2,7 @@
 use Rattle.std.specs.Prelude.{ℕ, Bool, Option, Some, None, List, [], ◌∷◌, slice_set}
 use Rattle.gate_net.specs.declared.Kind.TheVariants.{Not}
 use Rattle.gate_net.specs.Net.{Node, Net, trimmed}
-use Rattle.gate_net.specs.Edits.{with_pin, without_pin, fixed, with_readers_moved}
+use Rattle.gate_net.specs.Edits.{with_pin, without_pin, fixed, with_readers_moved, turned_to_not}
 
 pub data Change : Type 0 where
   append : (gate driver : ℕ) → Change
@@ -11,6 +11,7 @@ pub data Change : Type 0 where
   readers : (from to : ℕ) → Change
   new_not : (driver : ℕ) → Change
   retire : (gate : ℕ) → Change
+  to_not : (gate position : ℕ) → Change
 
 -- the node has the least number that no live node has
 abbrev pub with_least_free : List (Option Node) → Node → List (Option Node)
@@ -34,3 +35,4 @@ changed net (fix gate position value) = fixed net (record { gate = record { 0 = 
 changed net (readers from to) = with_readers_moved net from to
 changed net (new_not driver) = with_new_not net driver
 changed net (retire gate) = without_node net gate
+changed net (to_not gate position) = turned_to_not net gate position

@@ -1,8 +1,8 @@
 -- Changes of a net as edits of a graph.
 use Rattle.gate_net.specs.Edits.{constant_node}
 use Rattle.gate_graph.specs.declared.editing.Edit.{Edit}
-use Rattle.gate_graph.specs.declared.editing.Edit.TheVariants.{Append, Remove, Redrive, Readers, NewNot, Retire}
-use Rattle.wire_edit.specs.Changes.{Change, append, remove, fix, readers, new_not, retire}
+use Rattle.gate_graph.specs.declared.editing.Edit.TheVariants.{Append, Remove, Redrive, Readers, NewNot, Retire, ToNot}
+use Rattle.wire_edit.specs.Changes.{Change, append, remove, fix, readers, new_not, retire, to_not}
 use Rattle.wire_edit.specs.Order.{node}
 
 -- the edit that makes the change
@@ -13,6 +13,7 @@ edit_of (fix gate position value) = Redrive (node gate) position (node (constant
 edit_of (readers from to) = Readers (node from) (node to)
 edit_of (new_not driver) = NewNot (node driver)
 edit_of (retire gate) = Retire (node gate)
+edit_of (to_not gate position) = ToNot (node gate) position
 
 -- the change makes a Not
 abbrev pub IsNewNot : Change → Type 0

@@ -1,7 +1,7 @@
 -- Nets that are worked out by hand.
 use Rattle.std.specs.Prelude.{ℕ, true, List, [], ◌∷◌, Option, Some}
 use Rattle.gate_net.specs.declared.Kind.{Kind}
-use Rattle.gate_net.specs.declared.Kind.TheVariants.{Source, Zero, One, And, Or, Not}
+use Rattle.gate_net.specs.declared.Kind.TheVariants.{Source, Zero, One, And, Or, Not, Xor}
 use Rattle.gate_net.specs.Net.{Node, Net, plain_node}
 use Rattle.wire_edit.specs.declared.steps.Step.{Step}
 use Rattle.wire_edit.specs.declared.steps.Step.TheVariants.{Add, Fix, Const, Same, OnePin, Dead}
@@ -95,3 +95,30 @@ dead_3 = Dead (node 3)
 
 abbrev pub buffer_tidy : Net
 buffer_tidy = record { nodes = plain_node Zero ∷ plain_node One ∷ plain_node Source ∷ []; observed = 2 ∷ [] }
+
+-- an observed Xor of a source and One, and as a Not
+abbrev pub turn_row : Net
+turn_row = record { nodes = plain_node Zero ∷ plain_node One ∷ plain_node Source ∷ gate_of Xor (2 ∷ 1 ∷ []) ∷ []; observed = 3 ∷ [] }
+
+abbrev pub const_3_1 : Step
+const_3_1 = Const (node 3) 1
+
+abbrev pub turn_row_tidy : Net
+turn_row_tidy = record { nodes = plain_node Zero ∷ plain_node One ∷ plain_node Source ∷ gate_of Not (2 ∷ []) ∷ []; observed = 3 ∷ [] }
+
+-- an observed Xor of Zero and a source
+abbrev pub pass_row : Net
+pass_row = record { nodes = plain_node Zero ∷ plain_node One ∷ plain_node Source ∷ gate_of Xor (0 ∷ 2 ∷ []) ∷ []; observed = 3 ∷ [] }
+
+abbrev pub const_3_0 : Step
+const_3_0 = Const (node 3) 0
+
+abbrev pub pass_row_moved : Net
+pass_row_moved = record pass_row { observed = 2 ∷ [] }
+
+-- an observed Xor that reads a source twice
+abbrev pub even_row : Net
+even_row = record { nodes = plain_node Zero ∷ plain_node One ∷ plain_node Source ∷ gate_of Xor (2 ∷ 2 ∷ []) ∷ []; observed = 3 ∷ [] }
+
+abbrev pub even_row_moved : Net
+even_row_moved = record even_row { observed = 0 ∷ [] }

@@ -2,12 +2,14 @@
 use Rattle.std.specs.Prelude.{◌≡◌, ◌≢◌, ℕ, ◌<◌, Bool, true, false, not, ◌&&◌, Option, Some, None, length, nat_eq, nat_lt, if◌then◌else◌}
 use Rattle.gate_net.specs.Net.{Net, drivers_of}
 use Rattle.gate_net.specs.Values.{same_bool}
+use Rattle.gate_net.specs.declared.Family.{Family}
+use Rattle.gate_net.specs.declared.Family.TheVariants.{Constant, Input, Junction, Parity}
 use Rattle.gate_net.specs.Paths.{Reaches}
 use Rattle.gate_net.specs.Edits.{constant_node}
-use Rattle.wire_edit.specs.Changes.{Change, append, remove, fix, readers, new_not, retire, changed}
+use Rattle.wire_edit.specs.Changes.{Change, append, remove, fix, readers, new_not, retire, to_not, changed}
 use Rattle.wire_edit.specs.declared.steps.Step.{Step}
 use Rattle.wire_edit.specs.declared.steps.Step.TheVariants.{Add, Fix, NewNot, Const, Same, NoPins, OnePin, Twice, Twin, Dead}
-use Rattle.wire_edit.specs.Tests.{is_present, is_live, is_junction, is_not, is_gate, control_of, driver_at, constant_at, second_driver, is_among, is_in_use, is_repeated}
+use Rattle.wire_edit.specs.Tests.{is_present, is_live, is_junction, is_not, is_xor, is_gate, reads_several, control_of, family_of, other_position, driver_at, constant_at, second_driver, is_among, is_in_use, is_repeated}
 
 abbrev pub is_not_at : Net → Option ℕ → Bool
 is_not_at net None = false
@@ -23,7 +25,7 @@ rule_applies net (Add gate node) = false
 rule_applies net (Fix gate position value) = false
 rule_applies net (NewNot node) = is_live net node.0
 rule_applies net (Const gate position) = is_gate net gate.0 && (is_in_use net gate.0 && is_present (constant_at net gate.0 position))
-rule_applies net (Same gate position) = is_junction net gate.0 && (is_in_use net gate.0 && is_repeated (drivers_of net gate.0) position)
+rule_applies net (Same gate position) = reads_several net gate.0 && (is_in_use net gate.0 && is_repeated (drivers_of net gate.0) position)
 rule_applies net (NoPins gate) = is_junction net gate.0 && (is_in_use net gate.0 && nat_eq (length (drivers_of net gate.0)) 0)
 rule_applies net (OnePin gate) = is_junction net gate.0 && (is_in_use net gate.0 && nat_eq (length (drivers_of net gate.0)) 1)
 rule_applies net (Twice gate) = is_not net gate.0 && (is_in_use net gate.0 && is_not_at net (driver_at net gate.0 0))
@@ -42,11 +44,24 @@ abbrev pub or_zero : Option ℕ → ℕ
 or_zero None = 0
 or_zero (Some x) = x
 
--- of a pin that reads a constant: by the controlling value of an And or an Or, and else at a Not
-abbrev pub constant_change : ℕ → ℕ → Option Bool → Option Bool → Change
-constant_change gate position control None = remove gate position
-constant_change gate position (Some c) (Some b) = if same_bool b c then readers gate (constant_node c) else remove gate position
-constant_change gate position None (Some b) = readers gate (constant_node (not b))
+-- the driver of the other of two pins
+abbrev pub other_driver : Net → ℕ → ℕ → ℕ
+other_driver net gate position = or_zero (driver_at net gate (other_position position))
+
+-- of a pin that reads a constant: by the controlling value of an And or an Or, at a Not, and at an Xor whose other pin has that driver
+abbrev pub constant_change : ℕ → ℕ → ℕ → Family → Option Bool → Change
+constant_change gate position other family None = remove gate position
+constant_change gate position other (Junction c) (Some b) = if same_bool b c then readers gate (constant_node c) else remove gate position
+constant_change gate position other (Parity true) (Some b) = readers gate (constant_node (not b))
+constant_change gate position other (Parity false) (Some false) = readers gate other
+constant_change gate position other (Parity false) (Some true) = to_not gate position
+constant_change gate position other Input (Some b) = remove gate position
+constant_change gate position other (Constant c) (Some b) = remove gate position
+
+-- of a pin whose driver an earlier pin has: whether at an Xor
+abbrev pub same_change : ℕ → ℕ → Bool → Change
+same_change gate position true = readers gate (constant_node false)
+same_change gate position false = remove gate position
 
 -- what an And or an Or without pins gives
 abbrev pub empty_node : Option Bool → ℕ
@@ -58,8 +73,8 @@ abbrev pub change_of : Net → Step → Change
 change_of net (Add gate node) = append gate.0 node.0
 change_of net (Fix gate position value) = fix gate.0 position value
 change_of net (NewNot node) = new_not node.0
-change_of net (Const gate position) = constant_change gate.0 position (control_of net gate.0) (constant_at net gate.0 position)
-change_of net (Same gate position) = remove gate.0 position
+change_of net (Const gate position) = constant_change gate.0 position (other_driver net gate.0 position) (family_of net gate.0) (constant_at net gate.0 position)
+change_of net (Same gate position) = same_change gate.0 position (is_xor net gate.0)
 change_of net (NoPins gate) = readers gate.0 (empty_node (control_of net gate.0))
 change_of net (OnePin gate) = readers gate.0 (or_zero (driver_at net gate.0 0))
 change_of net (Twice gate) = readers gate.0 (or_zero (second_driver net gate.0))

@@ -1,8 +1,10 @@
 -- Tests of the nodes of a net.
-use Rattle.std.specs.Prelude.{ℕ, Bool, true, false, ◌||◌, Option, Some, None, List, [], ◌∷◌, option_and_then, slice_get, take, nat_eq}
+use Rattle.std.specs.Prelude.{ℕ, zero, suc, Bool, true, false, ◌||◌, Option, Some, None, List, [], ◌∷◌, option_and_then, slice_get, take, nat_eq}
 use Rattle.gate_net.specs.declared.Kind.{Kind}
-use Rattle.gate_net.specs.declared.Kind.TheVariants.{Not}
-use Rattle.gate_net.specs.Meaning.{constant_value, controlling}
+use Rattle.gate_net.specs.declared.Kind.TheVariants.{Not, Xor}
+use Rattle.gate_net.specs.declared.Family.{Family}
+use Rattle.gate_net.specs.declared.Family.TheVariants.{Input}
+use Rattle.gate_net.specs.Meaning.{constant_value, controlling, family, is_gate_family}
 use Rattle.gate_net.specs.Net.{Node, Net, node_at, kind_of, drivers_in, drivers_of}
 
 abbrev pub is_present : {A : Type 0} → Option A → Bool
@@ -31,8 +33,27 @@ is_not_kind _ = false
 abbrev pub is_not : Net → ℕ → Bool
 is_not net x = is_not_kind (kind_of net x)
 
+abbrev pub is_xor_kind : Option Kind → Bool
+is_xor_kind (Some Xor) = true
+is_xor_kind _ = false
+
+abbrev pub is_xor : Net → ℕ → Bool
+is_xor net x = is_xor_kind (kind_of net x)
+
+-- an And, an Or or an Xor
+abbrev pub reads_several : Net → ℕ → Bool
+reads_several net x = is_junction net x || is_xor net x
+
+abbrev pub family_in : Option Kind → Family
+family_in None = Input
+family_in (Some kind) = family kind
+
+-- what the node is, where a number without one is as a source
+abbrev pub family_of : Net → ℕ → Family
+family_of net x = family_in (kind_of net x)
+
 abbrev pub is_gate : Net → ℕ → Bool
-is_gate net x = is_junction net x || is_not net x
+is_gate net x = is_gate_family (family_of net x)
 
 abbrev pub kind_constant : Option Kind → Option Bool
 kind_constant None = None
@@ -44,6 +65,11 @@ constant_of net x = kind_constant (kind_of net x)
 
 abbrev pub driver_at : Net → ℕ → ℕ → Option ℕ
 driver_at net gate position = slice_get (drivers_of net gate) position
+
+-- the position of the other of two pins
+abbrev pub other_position : ℕ → ℕ
+other_position zero = 1
+other_position (suc position) = 0
 
 -- the constant that the pin reads
 abbrev pub constant_at : Net → ℕ → ℕ → Option Bool

@@ -11,6 +11,7 @@ ghost use Rattle.wire_edit.specs.Inner.Refusals.{IsFault};
 
 use crate::looks::{
     control_of, drives, is_constant, is_gate, is_in_use, is_junction, is_live, is_not,
+    reads_several,
 };
 use crate::refusal::EditRefusal;
 use crate::rules::reads_before;
@@ -32,12 +33,12 @@ fn const_met(graph: &Graph, gate: NodeId, position: u32) -> bool
     }
 }
 
-// Whether a junction in use has an earlier pin of the same driver.
+// Whether an And, an Or or an Xor in use has an earlier pin of the same driver.
 fn same_met(graph: &Graph, gate: NodeId, position: u32) -> bool
     requires { is_gate (net_of graph.now) gate.0 ≡ true }
     ensures { result ≡ rule_applies (net_of graph.now) (Same gate position) }
 {
-    if !is_junction(graph, gate) {
+    if !reads_several(graph, gate) {
         return false;
     }
     if !is_in_use(graph, gate) {

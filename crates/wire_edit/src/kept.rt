@@ -2,12 +2,12 @@
 ghost use Rattle.std.specs.Prelude.{◌≡◌, ◌<◌, ◌≤◌, ℕ, length, true, false, IfOk};
 ghost use Rattle.gate_graph.specs.Circuit.{net_of};
 ghost use Rattle.gate_net.specs.Net.{Net, drivers_of};
-ghost use Rattle.wire_edit.specs.Tests.{is_gate, is_repeated};
+ghost use Rattle.wire_edit.specs.Tests.{is_gate, is_xor, is_repeated};
 ghost use Rattle.wire_edit.specs.Inner.Firsts.{IsFirst, reads_constant};
 ghost use Rattle.wire_edit.specs.Steps.{stepped, Applies};
 ghost use Rattle.wire_edit.specs.Inner.Known.{IsKept, IsFresh, IsPlainBefore};
 
-use crate::looks::is_live;
+use crate::looks::{is_live, is_xor};
 use crate::rules::constant_from;
 use crate::seen::{mark_drivers, unmark_drivers};
 use crate::steps::Step;
@@ -85,6 +85,21 @@ impl Kept {
         self.apart = 0;
     }
 
+    // Whether a `Same` takes out a pin of this gate that comes after those known to be apart. At an Xor it takes out none.
+    fn stays_apart(&self, graph: &Graph, gate: NodeId, position: u32) -> bool
+        ensures gate { result ≡ true → gate ≡ self.now.gate }
+        ensures before { result ≡ true → self.now.apart ≤ position }
+        ensures kind { result ≡ true → is_xor (net_of graph.now) gate.0 ≡ false }
+    {
+        if gate != self.gate {
+            return false;
+        }
+        if self.apart > position {
+            return false;
+        }
+        !is_xor(graph, gate)
+    }
+
     // Forgets, before a step, what won't hold after it. A `Same` leaves the pins before its own.
     pub(crate) fn ready_for(&mut self, graph: &Graph, step: Step)
         requires applies { Applies (net_of graph.now) step }
@@ -94,11 +109,9 @@ impl Kept {
         ensures same { length self.new.marks.items ≡ length self.old.marks.items }
     {
         if let Step::Same { gate, position } = step {
-            if gate == self.gate {
-                if self.apart <= position {
-                    self.plain = Some(0);
-                    return;
-                }
+            if self.stays_apart(graph, gate, position) {
+                self.plain = Some(0);
+                return;
             }
         }
         self.forget(graph);

@@ -7,7 +7,7 @@ ghost use Rattle.wire_edit.specs.Steps.{stepped};
 ghost use Rattle.wire_edit.specs.Refusals.{refusal_of};
 ghost use Rattle.wire_edit.specs.Order.{next_step};
 ghost use Rattle.wire_edit.specs.declared.refusal.EditRefusal.TheVariants.{Full};
-ghost use Rattle.wire_edit.specs.Rows.{four_gates, much, no_pins, add, zero_row, zero_row_moved, zero_row_tidy, buffer_row, add_9_2, const_6_0, no_node_40, cycle_6_9, already_6_2, wrong_2, no_pin_6_5, not_met_6, fix_6_5, const_2_0, dead_2, same_3_1, one_pin_3, dead_3, buffer_once, buffer_moved, buffer_tidy};
+ghost use Rattle.wire_edit.specs.Rows.{four_gates, much, no_pins, add, zero_row, zero_row_moved, zero_row_tidy, buffer_row, add_9_2, const_6_0, no_node_40, cycle_6_9, already_6_2, wrong_2, no_pin_6_5, not_met_6, fix_6_5, const_2_0, dead_2, same_3_1, one_pin_3, dead_3, buffer_once, buffer_moved, buffer_tidy, turn_row, const_3_1, turn_row_tidy, pass_row, const_3_0, pass_row_moved, even_row, even_row_moved};
 
 use gate_graph::same_wiring;
 
@@ -76,4 +76,13 @@ pub fn worked_rows()
     ensures buffer_moves { stepped buffer_once one_pin_3 ≡ buffer_moved }
     ensures buffer_third { next_step buffer_moved ≡ Some dead_3 }
     ensures buffer_tidies { stepped buffer_moved dead_3 ≡ buffer_tidy }
+    ensures turn_first { next_step turn_row ≡ Some const_3_1 }
+    ensures turn_goes { stepped turn_row const_3_1 ≡ turn_row_tidy }
+    ensures turn_tidy { next_step turn_row_tidy ≡ None }
+    ensures pass_first { next_step pass_row ≡ Some const_3_0 }
+    ensures pass_moves { stepped pass_row const_3_0 ≡ pass_row_moved }
+    ensures pass_second { next_step pass_row_moved ≡ Some dead_3 }
+    ensures even_first { next_step even_row ≡ Some same_3_1 }
+    ensures even_moves { stepped even_row same_3_1 ≡ even_row_moved }
+    ensures even_second { next_step even_row_moved ≡ Some dead_3 }
 {}

@@ -3,10 +3,10 @@ ghost use Rattle.std.specs.Prelude.{◌≡◌, ◌<◌, length, nat_lt, slice_ge
 ghost use Rattle.std.specs.Option.{option_map};
 ghost use Rattle.gate_graph.specs.Circuit.{net_of};
 ghost use Rattle.gate_net.specs.Net.{drivers_of};
-ghost use Rattle.wire_edit.specs.Tests.{is_present, is_live, is_gate, is_junction, is_not, control_of, constant_of, driver_at, second_driver, is_in_use, is_among};
+ghost use Rattle.wire_edit.specs.Tests.{is_present, is_live, is_gate, is_junction, is_not, is_xor, reads_several, control_of, family_of, constant_of, driver_at, second_driver, is_in_use, is_among};
 
 use gate_graph::Graph;
-use gate_net::Kind;
+use gate_net::{Family, Kind};
 use rm_base::NodeId;
 
 // Whether the number is that of a live node.
@@ -41,7 +41,34 @@ pub(crate) fn is_not(graph: &Graph, node: NodeId) -> bool
 pub(crate) fn is_gate(graph: &Graph, node: NodeId) -> bool
     ensures { result ≡ is_gate (net_of graph.now) node.0 }
 {
-    is_junction(graph, node) || is_not(graph, node)
+    match graph.kind(node) {
+        Some(kind) => kind.is_gate(),
+        None => false,
+    }
+}
+
+// Whether the node is an Xor.
+pub(crate) fn is_xor(graph: &Graph, node: NodeId) -> bool
+    ensures { result ≡ is_xor (net_of graph.now) node.0 }
+{
+    graph.kind(node) == Some(Kind::Xor)
+}
+
+// Whether the node is an And, an Or or an Xor.
+pub(crate) fn reads_several(graph: &Graph, node: NodeId) -> bool
+    ensures { result ≡ reads_several (net_of graph.now) node.0 }
+{
+    is_junction(graph, node) || is_xor(graph, node)
+}
+
+// What the node is, where a number without one is as a source.
+pub(crate) fn family_of(graph: &Graph, node: NodeId) -> Family
+    ensures { result ≡ family_of (net_of graph.now) node.0 }
+{
+    match graph.kind(node) {
+        Some(kind) => kind.family(),
+        None => Family::Input,
+    }
 }
 
 // The value of a constant.

@@ -2,7 +2,7 @@
 ghost use Rattle.std.specs.Prelude.{◌≡◌, ◌<◌, ◌≤◌, length, take, Some, None, true, false, ℕ, IfSome};
 ghost use Rattle.gate_graph.specs.Circuit.{net_of};
 ghost use Rattle.gate_net.specs.Net.{drivers_of, IsLive};
-ghost use Rattle.wire_edit.specs.Tests.{is_gate, is_junction, is_not, is_in_use, is_repeated, is_among, driver_at};
+ghost use Rattle.wire_edit.specs.Tests.{is_gate, is_not, reads_several, is_in_use, is_repeated, is_among, driver_at};
 ghost use Rattle.wire_edit.specs.Inner.Firsts.{IsFirst, reads_constant, is_twin};
 ghost use Rattle.wire_edit.specs.Order.{rule_at, next_step};
 ghost use Rattle.wire_edit.specs.Inner.Known.{IsKept};
@@ -119,14 +119,15 @@ fn rule_of_not(graph: &Graph, gate: NodeId) -> Option<Step>
     }
 }
 
-// The rule at an And or an Or in use that reads no constant and no driver twice.
-fn rule_of_junction(graph: &Graph, gate: NodeId) -> Option<Step>
-    requires kind { is_junction (net_of graph.now) gate.0 ≡ true }
+// The rule at an And, an Or or an Xor in use that reads no constant and no driver twice. An Xor has two pins.
+fn rule_of_several(graph: &Graph, gate: NodeId) -> Option<Step>
+    requires kind { reads_several (net_of graph.now) gate.0 ≡ true }
     requires used { is_in_use (net_of graph.now) gate.0 ≡ true }
     requires none { IsFirst (reads_constant (net_of graph.now) gate.0) (length (drivers_of (net_of graph.now) gate.0)) None }
     requires apart { IsFirst (is_repeated (drivers_of (net_of graph.now) gate.0)) (length (drivers_of (net_of graph.now) gate.0)) None }
     ensures { result ≡ rule_at (net_of graph.now) gate.0 }
 {
+    graph.well_formed();
     let Some(_) = graph.driver(gate, 0) else {
         return Some(Step::NoPins { gate });
     };
@@ -166,7 +167,7 @@ fn late_rule(graph: &Graph, gate: NodeId, repeated: Option<u32>) -> Option<Step>
     }
     match repeated {
         Some(position) => Some(Step::Same { gate, position }),
-        None => rule_of_junction(graph, gate),
+        None => rule_of_several(graph, gate),
     }
 }
 

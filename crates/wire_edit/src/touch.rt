@@ -2,13 +2,14 @@
 ghost use Rattle.std.specs.Prelude.{◌≡◌, ◌<◌, ◌≤◌, ◌≢◌, ℕ, true, false, length};
 ghost use Rattle.gate_graph.specs.Circuit.{net_of};
 ghost use Rattle.gate_net.specs.Net.{Reads};
-ghost use Rattle.wire_edit.specs.Changes.{Change, readers, new_not};
+ghost use Rattle.wire_edit.specs.Changes.{Change, readers, new_not, to_not};
 ghost use Rattle.wire_edit.specs.Tests.{is_not};
 ghost use Rattle.wire_edit.specs.Edited.{edit_of, IsNewNot};
 ghost use Rattle.wire_edit.specs.Inner.Changes.{least_free};
 ghost use Rattle.wire_edit.specs.Inner.Marked.{is_marked, KeepsMarks, MarksTouched};
 ghost use Rattle.wire_edit.specs.Inner.Touched.{IsReadBy, IsNotOf};
 
+use crate::edits::other_position;
 use crate::looks::{is_live, is_not};
 use crate::worklist::Worklist;
 use gate_graph::{Edit, Graph};
@@ -97,6 +98,28 @@ fn mark_move(worklist: &mut Worklist, graph: &Graph, from: NodeId, to: NodeId)
     }
 }
 
+// Marks the Nots of the driver of a pin, if that is no constant.
+fn mark_nots_at(worklist: &mut Worklist, graph: &Graph, gate: NodeId, position: u32)
+    ensures kept { KeepsMarks worklist.old worklist.new }
+    ensures nots { (d y : ℕ) → 1 < d → Reads (net_of graph.now) gate.0 position d → IsNotOf (net_of graph.now) d y → y < length worklist.new → is_marked worklist.new y ≡ true }
+{
+    if let Some(driver) = graph.driver(gate, position) {
+        if driver.0 > 1 {
+            mark_nots(worklist, graph, driver);
+        }
+    }
+}
+
+// Marks what turning an Xor into a Not touches.
+fn mark_turn(worklist: &mut Worklist, graph: &Graph, gate: NodeId, position: u32)
+    ensures kept { KeepsMarks worklist.old worklist.new }
+    ensures touched { MarksTouched (net_of graph.now) (to_not gate.0 position) worklist.new }
+{
+    mark_pin(worklist, graph, gate, position);
+    mark_nots(worklist, graph, gate);
+    mark_nots_at(worklist, graph, gate, other_position(position));
+}
+
 // Marks, before an edit, what it touches.
 pub(crate) fn mark_before(worklist: &mut Worklist, graph: &Graph, edit: &Edit)
     ensures kept { KeepsMarks worklist.old worklist.new }
@@ -113,6 +136,7 @@ pub(crate) fn mark_before(worklist: &mut Worklist, graph: &Graph, edit: &Edit)
         Edit::Readers { from, to } => mark_move(worklist, graph, from, to),
         Edit::NewNot { driver: _ } => {}
         Edit::Retire { gate } => mark_drivers(worklist, graph, gate),
+        Edit::ToNot { gate, position } => mark_turn(worklist, graph, gate, position),
     }
 }
 

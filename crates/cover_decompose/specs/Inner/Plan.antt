@@ -1,13 +1,14 @@
 -- A decomposition over signals that have numbers in place of names.
-use Rattle.std.specs.Prelude.{ℕ, zero, suc, ◌+◌, ◌++◌, replicate, Bool, true, false, List, [], ◌∷◌, length, Option, None, Some, slice_index, slice_get, slice_index_or, slice_set}
+use Rattle.std.specs.Prelude.{ℕ, zero, suc, ◌+◌, ◌++◌, replicate, Bool, true, false, List, [], ◌∷◌, length, map, Option, None, Some, slice_index, slice_get, slice_index_or, slice_set}
 use Rattle.std.specs.Option.{option_to_list}
 use Rattle.rm_model.specs.declared.parts.Literal.{Literal}
 use Rattle.rm_model.specs.declared.parts.Literal.TheVariants.{Zero, One, Any}
 use Rattle.rm_model.specs.declared.parts.Cover.{Cover}
 use Rattle.gate_net.specs.declared.Kind.{Kind}
-use Rattle.gate_net.specs.declared.Kind.TheVariants.{Source, And, Or, Not}
+use Rattle.gate_net.specs.declared.Kind.TheVariants.{Source, And, Or, Not, Xor}
 use Rattle.gate_net.specs.declared.Kind.TheVariants as kind
 use Rattle.cover_decompose.specs.Decomposition.{plain}
+use Rattle.cover_decompose.specs.Parity.{parity_ending}
 use Rattle.gate_net.specs.Net.{Node}
 
 -- what is made so far: the nodes, and by the number of each signal its node and its Not
@@ -53,8 +54,12 @@ abbrev pub closed_planned : Bool → Planned × ℕ → Planned × ℕ
 closed_planned true t = t
 closed_planned false t = (gate_planned t.0 Not (t.1 ∷ []), length t.0.made)
 
+abbrev pub planned_by : Option Bool → Planned → List ℕ → Cover → Planned × ℕ
+planned_by (Some ends) p inputs c = closed_planned ends (gate_planned p Xor (map (slice_index p.nodes) inputs), length p.made)
+planned_by None p inputs c = let t = terms_planned p inputs c.rows in closed_planned c.on (joined_planned Or 0 t.0 t.1)
+
 abbrev pub node_planned : Planned → List ℕ → Cover → Planned × ℕ
-node_planned p inputs c = let t = terms_planned p inputs c.rows in closed_planned c.on (joined_planned Or 0 t.0 t.1)
+node_planned p inputs c = planned_by (parity_ending c) p inputs c
 
 -- the cover's output has the number k
 abbrev pub cover_planned : Planned → List ℕ → ℕ → Cover → Planned

@@ -4,6 +4,7 @@ use Rattle.rm_model.specs.declared.parts.Literal.{Literal}
 use Rattle.rm_model.specs.declared.parts.Literal.TheVariants.{Zero, One, Any}
 use Rattle.rm_model.specs.declared.parts.Cover.{Cover}
 use Rattle.cover_decompose.specs.Count.{joining, literal_count}
+use Rattle.cover_decompose.specs.Parity.{parity_ending}
 
 -- one for a signal that is read as 0 for the first time
 abbrev pub literal_tally : List Bool → ℕ → Literal → ℕ × List Bool
@@ -23,8 +24,12 @@ abbrev pub rows_tally : List Bool → List ℕ → List (List Literal) → ℕ �
 rows_tally seen ks [] = (0, seen)
 rows_tally seen ks (r ∷ rs) = let t = row_tally seen ks r in let u = rows_tally t.1 ks rs in (t.0 + u.0, u.1)
 
+abbrev pub tally_by : Option Bool → List Bool → List ℕ → Cover → ℕ × List Bool
+tally_by (Some ends) seen ks c = (2 + (if ends then 0 else 1), seen)
+tally_by None seen ks c = let t = rows_tally seen ks c.rows in ((t.0 + joining (length c.rows)) + (if c.on then 0 else 1), t.1)
+
 abbrev pub cover_tally : List Bool → List ℕ → Cover → ℕ × List Bool
-cover_tally seen ks c = let t = rows_tally seen ks c.rows in ((t.0 + joining (length c.rows)) + (if c.on then 0 else 1), t.1)
+cover_tally seen ks c = tally_by (parity_ending c) seen ks c
 
 abbrev pub one_tally : List Bool → Option (List ℕ) → Option Cover → ℕ × List Bool
 one_tally seen None c = (0, seen)

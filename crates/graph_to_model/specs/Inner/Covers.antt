@@ -6,7 +6,7 @@ use Rattle.rm_model.specs.WellFormed.{IsWellFormedCover}
 use Rattle.rm_model.specs.declared.parts.Cover.{Cover}
 use Rattle.rm_model.specs.declared.parts.Model.{Model}
 use Rattle.gate_net.specs.declared.Kind.{Kind}
-use Rattle.gate_net.specs.declared.Kind.TheVariants.{Not}
+use Rattle.gate_net.specs.declared.Kind.TheVariants.{Not, Xor}
 use Rattle.gate_net.specs.Net.{Node, Net, node_at, IsGateKind}
 use Rattle.gate_net.specs.Values.{gate_value}
 use Rattle.graph_to_model.specs.Names.{node_name}
@@ -17,14 +17,19 @@ use Rattle.graph_to_model.specs.Wires.{is_copy}
 abbrev pub AreNodesFrom : Net → ℕ → List (Option Node) → Type 0
 AreNodesFrom net n os = (k : ℕ) (o : Option Node) → slice_get os k ≡ Some o → node_at net (n + k) ≡ o
 
+-- a Not has one pin, and an Xor two
+pub record HasPins (kind : Kind) (count : ℕ) : Type 0 where
+  pub one : kind ≡ Not → count ≡ 1
+  pub two : kind ≡ Xor → count ≡ 2
+
 -- what holds of the cover of a gate of that kind
 pub record CoverOf (kind : Kind) (inputs : List Word) (output : Word) (c : Cover) : Type 0 where
   pub gate : IsGateKind kind
   pub in_is : c.inputs ≡ inputs
   pub out_is : c.output ≡ output
-  pub formed : (kind ≡ Not → length inputs ≡ 1) → IsWellFormedCover c
-  pub value : (bs : List Bool) → length bs ≡ length inputs → (kind ≡ Not → length inputs ≡ 1) → value_of c bs ≡ gate_value kind false bs
-  pub no_copy : (kind ≡ Not → length inputs ≡ 1) → (kind ≢ Not → 2 ≤ length inputs) → is_copy c ≡ false
+  pub formed : HasPins kind (length inputs) → IsWellFormedCover c
+  pub value : (bs : List Bool) → length bs ≡ length inputs → HasPins kind (length inputs) → value_of c bs ≡ gate_value kind false bs
+  pub no_copy : HasPins kind (length inputs) → (kind ≢ Not → 2 ≤ length inputs) → is_copy c ≡ false
 
 -- the cover of the gate of that number
 pub record IsGateCover (m : Model) (net : Net) (n : ℕ) (c : Cover) : Type 0 where

@@ -59,8 +59,8 @@ AreDoneEqual net fault facts y = IsDone net fault facts (EqualForward y) × ((q 
 abbrev pub AreDoneSide : Net → Fault → List NodeFacts → NodeId → Type 0
 AreDoneSide net fault facts y = (q : ℕ) → IsDone net fault facts (Side y q)
 
-abbrev pub AreDoneNot : Net → Fault → List NodeFacts → NodeId → Type 0
-AreDoneNot net fault facts y = IsDone net fault facts (NotDiffers y) × IsDone net fault facts (NotEqual y)
+abbrev pub AreDoneParity : Net → Fault → List NodeFacts → NodeId → Type 0
+AreDoneParity net fault facts y = IsDone net fault facts (NotDiffers y) × IsDone net fault facts (NotEqual y)
 
 -- a fresh fact, or none, and then that holds
 abbrev pub Finds : Net → Fault → List NodeFacts → Type 0 → Option Found → Type 0

@@ -17,7 +17,7 @@ use Rattle.word_reading.specs.declared.command.WordFault.{WordFault}
 use Rattle.word_reading.specs.declared.command.WordFault.TheVariants as word
 use Rattle.rambo_cli.specs.Flat.{ExceedsFlat, HasFlatFault}
 use Rattle.rambo_cli.specs.declared.input_model.FlatLimits.{FlatLimits}
-use Rattle.rambo_cli.specs.Written.{HasFault, Exceeds, most_pins}
+use Rattle.rambo_cli.specs.Written.{HasFault, ExceedsBy, most_pins}
 use Rattle.rambo_cli.specs.Lines.{memory_line}
 use Rattle.rambo_cli.specs.declared.problem.Problem.{Problem}
 use Rattle.rambo_cli.specs.declared.problem.Problem.TheVariants.{Words, Text, Limit, Missing, Fault, Memory}
@@ -76,12 +76,12 @@ abbrev pub IsWant : Problem → Type 0
 IsWant Memory = Unit {0}
 IsWant _ = ⊥
 
--- why a text isn't read
-abbrev pub TextCause : List ℕ → Problem → Type 0
-TextCause text (Text kind place) = HasFault text kind place
-TextCause text (Limit quantity count) = Exceeds text quantity count
-TextCause text Memory = Unit {0}
-TextCause text _ = ⊥
+-- why a text isn't read, where the wires of the decomposition are counted so
+abbrev pub TextCause : (Model → ℕ) → List ℕ → Problem → Type 0
+TextCause wires text (Text kind place) = HasFault text kind place
+TextCause wires text (Limit quantity count) = ExceedsBy wires text quantity count
+TextCause wires text Memory = Unit {0}
+TextCause wires text _ = ⊥
 
 -- why a text has no flat model
 abbrev pub FlatTextCause : FlatLimits → List ℕ → Problem → Type 0
@@ -96,12 +96,15 @@ StoreCause before now Fault = Rose before now
 StoreCause before now Memory = Unit {0}
 StoreCause before now _ = ⊥
 
--- why a model isn't optimised
+-- why a model isn't optimised, or isn't compared
+abbrev pub ModelCauseBy : (Model → ℕ) → Model → ℕ → ℕ → Problem → Type 0
+ModelCauseBy wires m before now (Limit quantity count) = (quantity ≡ Pins) × ((count ≡ wires m) × (most_pins < wires m))
+ModelCauseBy wires m before now Fault = Rose before now
+ModelCauseBy wires m before now Memory = Unit {0}
+ModelCauseBy wires m before now _ = ⊥
+
 abbrev pub ModelCause : Model → ℕ → ℕ → Problem → Type 0
-ModelCause m before now (Limit quantity count) = (quantity ≡ Pins) × ((count ≡ decomposed m) × (most_pins < decomposed m))
-ModelCause m before now Fault = Rose before now
-ModelCause m before now Memory = Unit {0}
-ModelCause m before now _ = ⊥
+ModelCause = ModelCauseBy decomposed
 
 -- the text is put and the status answered; or the sink failed, at that text or at the line on memory; or memory ran out, which is put
 -- unless the sink wanted memory

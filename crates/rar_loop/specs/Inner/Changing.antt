@@ -1,14 +1,19 @@
 -- The nodes that steps change.
-use Rattle.std.specs.Prelude.{◌≡◌, ◌≢◌, ◌<◌, ℕ, List, Some, slice_get}
+use Rattle.std.specs.Prelude.{◌≡◌, ◌≢◌, ◌<◌, ℕ, List, Option, None, Some, slice_get, if◌then◌else◌}
 use Rattle.rm_base.specs.declared.numbers.NodeId.{NodeId}
 use Rattle.gate_net.specs.Net.{IsWellFormed, Net, Reads, node_at}
 use Rattle.gate_graph.specs.Changes.{Edits}
 use Rattle.gate_graph.specs.Circuit.{Circuit, net_of}
 use Rattle.wire_edit.specs.Edited.{edit_of, IsNewNot}
 use Rattle.wire_edit.specs.Steps.{Applies, change_of}
+use Rattle.wire_edit.specs.Tests.{driver_at, is_xor, other_position}
 use Rattle.wire_edit.specs.declared.steps.Step.{Step}
 use Rattle.rar_loop.specs.declared.changes.Changed.{Changed}
 use Rattle.rm_base.specs.Numbers.{numbers_of}
+
+-- the driver of an Xor's other pin
+abbrev pub passed_driver : Net → ℕ → ℕ → Option ℕ
+passed_driver net gate position = if is_xor net gate then driver_at net gate (other_position position) else None
 
 abbrev pub IsUnlisted : List ℕ → ℕ → Type 0
 IsUnlisted xs x = (k : ℕ) → slice_get xs k ≡ Some x → ⊥

@@ -5,8 +5,9 @@ use std::test::Fail;
 use std::thread::Threads;
 
 // The same parity twice: of the one gates, and of the other, nothing is redundant, and no gate of the one is a twin of another's.
+// The first cover has three inputs, so that it isn't read as one gate.
 const TWICE: &str =
-    ".model twice\n.inputs a b\n.outputs x y\n.names a b x\n10 1\n01 1\n.names a b o\n1- 1\n-1 1\n.names a b n\n11 1\n.names o n y\n10 1\n.end\n";
+    ".model twice\n.inputs a b\n.outputs x y\n.names a b a x\n10- 1\n01- 1\n.names a b o\n1- 1\n-1 1\n.names a b n\n11 1\n.names o n y\n10 1\n.end\n";
 
 // Its decomposition, written.
 const BOTH: &str =

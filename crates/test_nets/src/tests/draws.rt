@@ -28,7 +28,7 @@ impl Draw {
         let gate = self.node(bound);
         let driver = self.node(bound);
         let position = self.next(4);
-        match self.next(16) {
+        match self.next(18) {
             0..6 => Edit::Append { gate, driver },
             6..9 => Edit::Remove { gate, position },
             9..13 => Edit::Redrive {
@@ -41,6 +41,10 @@ impl Draw {
                 to: driver,
             },
             14 => Edit::NewNot { driver },
+            15 | 16 => Edit::ToNot {
+                gate,
+                position: position % 2,
+            },
             _ => Edit::Retire { gate },
         }
     }
@@ -54,6 +58,7 @@ pub struct Tally {
     redrive: u32,
     readers: u32,
     new_not: u32,
+    to_not: u32,
     retire: u32,
 }
 
@@ -65,6 +70,7 @@ impl Tally {
             redrive: 0,
             readers: 0,
             new_not: 0,
+            to_not: 0,
             retire: 0,
         }
     }
@@ -83,17 +89,22 @@ impl Tally {
             } => self.redrive = self.redrive.saturating_add(1),
             Edit::Readers { from: _, to: _ } => self.readers = self.readers.saturating_add(1),
             Edit::NewNot { driver: _ } => self.new_not = self.new_not.saturating_add(1),
+            Edit::ToNot {
+                gate: _,
+                position: _,
+            } => self.to_not = self.to_not.saturating_add(1),
             Edit::Retire { gate: _ } => self.retire = self.retire.saturating_add(1),
         }
     }
 
-    // The least of the six numbers.
+    // The least of the seven numbers.
     pub fn least(&self) -> u32 {
         self.append
             .min(self.remove)
             .min(self.redrive)
             .min(self.readers)
             .min(self.new_not)
+            .min(self.to_not)
             .min(self.retire)
     }
 
@@ -103,6 +114,7 @@ impl Tally {
             .saturating_add(self.redrive)
             .saturating_add(self.readers)
             .saturating_add(self.new_not)
+            .saturating_add(self.to_not)
             .saturating_add(self.retire)
     }
 }

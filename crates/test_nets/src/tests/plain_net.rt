@@ -113,6 +113,7 @@ impl PlainNet {
             Gate::And(drivers) => self.add_over(Kind::And, drivers),
             Gate::Or(drivers) => self.add_over(Kind::Or, drivers),
             Gate::Not(driver) => self.add_over(Kind::Not, &[driver]),
+            Gate::Xor(one, other) => self.add_over(Kind::Xor, &[one, other]),
         }
     }
 
@@ -195,6 +196,10 @@ impl PlainNet {
             } => self.redrive(alloc, gate.0, position, driver.0),
             Edit::Readers { from, to } => self.reread(alloc, from.0, to.0),
             Edit::NewNot { driver } => self.add(Gate::Not(driver.0)),
+            Edit::ToNot { gate, position } => {
+                self.remove(alloc, gate.0, position)?;
+                self.set_kind(gate.0, Some(Kind::Not))
+            }
             Edit::Retire { gate } => self.retire(alloc, gate.0),
         }
     }

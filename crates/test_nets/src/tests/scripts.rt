@@ -54,15 +54,17 @@ fn both_wired(alloc: Global, wiring: &Wiring) -> Result<BothNets, Fail> {
     Ok(nets)
 }
 
-// So many Ands and as many Ors of drawn drivers, with a drawn node observed after each of both.
+// So many Ands, as many Ors, and twice as many Xors of drawn drivers, with a drawn node observed after each four.
 fn both_drawn(alloc: Global, draw: &mut Draw, count: u32) -> Result<BothNets, Fail> {
     let mut nets = BothNets::new(alloc, 4)?;
     let mut bound = 6u32;
     for _ in 0..count {
         nets.add(Gate::And(&[draw.node(bound).0, draw.node(bound).0]))?;
         nets.add(Gate::Or(&[draw.node(bound).0, draw.node(bound).0]))?;
+        nets.add(Gate::Xor(draw.node(bound).0, draw.node(bound).0))?;
+        nets.add(Gate::Xor(draw.node(bound).0, draw.node(bound).0))?;
         nets.observe(draw.node(bound).0)?;
-        bound = bound.saturating_add(2);
+        bound = bound.saturating_add(4);
     }
     Ok(nets)
 }

@@ -1,10 +1,11 @@
 -- Beside Changes.antt: what only private contracts, invariants and laws speak of.
 use Rattle.std.specs.Prelude.{◌≢◌, ℕ, ◌<◌, Bool, Option, Some, None, List, [], ◌∷◌, length, suc}
-use Rattle.gate_net.specs.Net.{Node, Net, drivers_of, IsLive, IsGate}
+use Rattle.gate_net.specs.declared.Kind.TheVariants.{Xor}
+use Rattle.gate_net.specs.Net.{Node, Net, drivers_of, IsKind, IsLive, IsGate}
 use Rattle.gate_net.specs.Values.{IsJunction}
 use Rattle.gate_net.specs.Paths.{Reaches}
 use Rattle.gate_net.specs.Edits.{IsUnread}
-use Rattle.wire_edit.specs.Changes.{Change, append, remove, fix, readers, new_not, retire}
+use Rattle.wire_edit.specs.Changes.{Change, append, remove, fix, readers, new_not, retire, to_not}
 
 -- the least number that no live node has
 abbrev pub least_free : List (Option Node) → ℕ
@@ -21,6 +22,7 @@ CanChange net (fix gate position value) = IsGate net gate × (position < length 
 CanChange net (readers from to) = IsGate net from × (IsLive net to × ((to ≢ from) × (Reaches net from to → ⊥)))
 CanChange net (new_not driver) = IsLive net driver
 CanChange net (retire gate) = IsGate net gate × IsUnread net gate
+CanChange net (to_not gate position) = IsKind net gate Xor × (position < length (drivers_of net gate))
 
 -- how many pins a change makes
 abbrev pub pins_added : Change → ℕ

@@ -4,7 +4,7 @@ use Rattle.gate_net.specs.Net.{Net}
 use Rattle.joined_nets.specs.Growing.{Fits}
 use Rattle.rm_base.specs.declared.numbers.NodeId.{NodeId}
 use Rattle.care_opt.proofs.Going.{none_of}
-use Rattle.care_opt.proofs.Looking.{drivers_below, gate_kind, is_live, is_there, made_node, nothing, one_driver}
+use Rattle.care_opt.proofs.Looking.{drivers_below, gate_kind, is_live, is_there, made_node, nothing, one_driver, two_drivers}
 use Rattle.care_opt.proofs.extracting.copy_main.Goals as goal
 
 pub new_drivers-requires : goal.new_drivers-requires
@@ -16,6 +16,11 @@ add_last-requires-clause-kind c = gate_kind (net_of c.args.graph.now) c.args.nod
 pub add_last-requires-clause-one : goal.add_last-requires-clause-one
 add_last-requires-clause-one c = λ e.
     one_driver (net_of c.args.graph.now) c.args.node.0 (net_of c.args.small.now) c.args.numbers.now c.in-Some.kind c.in-Some.ensures c.as_slice.result.now
+    (ap (λ (l : List NodeId). map (λ (n : NodeId). n.0) l) c.as_slice.ensures.value ∙ c.in_ok-drivers.ensures) c.well_formed-2.ensures.net e
+
+pub add_last-requires-clause-two : goal.add_last-requires-clause-two
+add_last-requires-clause-two c = λ e.
+    two_drivers (net_of c.args.graph.now) c.args.node.0 (net_of c.args.small.now) c.args.numbers.now c.in-Some.kind c.in-Some.ensures c.as_slice.result.now
     (ap (λ (l : List NodeId). map (λ (n : NodeId). n.0) l) c.as_slice.ensures.value ∙ c.in_ok-drivers.ensures) c.well_formed-2.ensures.net e
 
 pub add_last-requires-clause-drivers : goal.add_last-requires-clause-drivers

@@ -36,6 +36,14 @@ add_gate-requires-clause-one c = λ e.
     let ids : map (λ (i : NodeId). i.0) c.as_slice-2.result.now ≡ c.index-made-at.result.drivers.items = ap (λ (l : List NodeId). map (λ (i : NodeId). i.0) l) c.as_slice-2.ensures.value ∙ (c.in_ok-drivers.ensures ∙ c.as_slice.ensures.value) in
     sym (length-map c.as_slice-2.result.now (λ (i : NodeId). i.0)) ∙ (ap (λ (l : List ℕ). length l) ids ∙ fits.one e)
 
+pub add_gate-requires-clause-two : goal.add_gate-requires-clause-two
+add_gate-requires-clause-two c = λ e.
+    let fits : NextFits c.args.graph.now (node_of_plan c.index-made-at.result) =
+    next_fits c.args.graph.now (map (λ (n : PlanNode). node_of_plan n) c.args.made.now) c.args.sources c.args.at (node_of_plan c.index-made-at.result) c.requires.plan c.requires.after
+    (item_there (λ (n : PlanNode). node_of_plan n) c.args.made.now c.args.at c.index-made-at.result c.requires.within c.index-made-at.is) c.requires.built in
+    let ids : map (λ (i : NodeId). i.0) c.as_slice-2.result.now ≡ c.index-made-at.result.drivers.items = ap (λ (l : List NodeId). map (λ (i : NodeId). i.0) l) c.as_slice-2.ensures.value ∙ (c.in_ok-drivers.ensures ∙ c.as_slice.ensures.value) in
+    sym (length-map c.as_slice-2.result.now (λ (i : NodeId). i.0)) ∙ (ap (λ (l : List ℕ). length l) ids ∙ fits.two e)
+
 pub add_gate-requires-clause-drivers : goal.add_gate-requires-clause-drivers
 add_gate-requires-clause-drivers c =
     let fits : NextFits c.args.graph.now (node_of_plan c.index-made-at.result) =

@@ -8,7 +8,7 @@ returns c =
       tell = c.miters_tell.ensures;
       sources = c.miters_tell_models.ensures.sources;
       exist = c.values_exist.ensures;
-      stands = c.decompositions_stand.ensures.stands;
-      formed = c.decompositions_are_formed.ensures.formed;
+      stands = c.plain_nets_stand.ensures.stands;
+      formed = c.plain_nets_are_formed.ensures.formed;
     } in
     shown c.swept_models_agree.ensures c.trees_refute.ensures c.miters_tell_models.ensures.same c.miters_tell_models.ensures.apart c.miters_tell_models.ensures.not_both given

@@ -5,7 +5,7 @@ use Rattle.gate_graph.specs.Circuit.{Circuit, net_of}
 use Rattle.gate_graph.specs.declared.editing.Edit.{Edit}
 use Rattle.gate_net.specs.Edits.{DiffersAt}
 use Rattle.gate_net.specs.Net.{Reads}
-use Rattle.fault_sim.proofs.ChangedNodes.{drivers_changed, if_ok, least_same, one_changed, readers_changed}
+use Rattle.fault_sim.proofs.ChangedNodes.{drivers_changed, if_ok, least_same, node_changed, one_changed, readers_changed}
 use Rattle.gate_net.specs.Edits.{IsSameBut}
 use Rattle.fault_sim.proofs.changed.changed_by.Goals as goal
 use Rattle.rm_base.specs.Numbers.{numbers_of}
@@ -48,3 +48,9 @@ returns-in-NewNot c =
     (λ ns one after made. (let edits = subst (λ (e : Edit). Edits c.args.graph.now e after) c.in-NewNot.is made in
     let same : edits.0.0 ≡ c.first_free.result.0 = least_same (net_of c.args.graph.now) edits.0.0 c.first_free.result.0 edits.0.1.0.number c.first_free.ensures in
     one_changed (net_of c.args.graph.now) (net_of after) c.first_free.result.0 (numbers_of ns.items) (subst (λ x. DiffersAt (net_of c.args.graph.now) (net_of after) x) same edits.0.1.0.differs) one)) c.one_node-in-NewNot.ensures
+
+pub returns-in-ToNot : goal.returns-in-ToNot
+returns-in-ToNot c =
+    if_ok c.one_node-in-ToNot.result (λ ns. numbers_of ns.items ≡ c.in-ToNot.gate.0 ∷ [])
+    (λ ns. (after : Circuit) → Edits c.args.graph.now c.args.edit.now after → IsSameBut (net_of c.args.graph.now) (net_of after) (numbers_of ns.items))
+    (λ ns one after made. (let edits = subst (λ (e : Edit). Edits c.args.graph.now e after) c.in-ToNot.is made in node_changed (net_of c.args.graph.now) (net_of after) c.in-ToNot.gate.0 _ (numbers_of ns.items) edits.0 one)) c.one_node-in-ToNot.ensures

@@ -1,4 +1,4 @@
-use Rattle.std.proofs.Common.{List, Some, [], ◌∷◌, ◌++◌, ap, length, length-append, map, sym, take, ℕ, ◌+◌, ◌∙◌, ◌≡◌}
+use Rattle.std.proofs.Common.{List, not, Some, [], ◌∷◌, ◌++◌, ap, length, length-append, map, sym, take, ℕ, ◌+◌, ◌∙◌, ◌≡◌}
 use Rattle.std.proofs.Math.Seq.{take-length}
 use Rattle.std.proofs.lemmas.List.{length-map}
 use Rattle.std.specs.List.{fold}
@@ -19,10 +19,10 @@ loop-driver-preserved c =
     record {
       all = yielded_more (λ d. d.0) c.args.drivers c.loop-driver.yielded c.in-Some.driver _ _ c.loop-driver.invariant.all c.in-Some.ensures.steps;
       word = c.join-word.ensures
-          ∙ ap (λ (w : ℕ). join_word c.args.is_and c.loop-driver.word w) c.good_at.ensures
-          ∙ ap (λ (w : ℕ). join_word c.args.is_and w (slice_index c.args.good.now c.in-Some.driver.0)) c.loop-driver.invariant.word
-          ∙ sym (fold_take (join_word c.args.is_and) (word_of c.args.is_and) (map (slice_index c.args.good.now) c.args.drivers) (length c.loop-driver.yielded) _ (map_at (slice_index c.args.good.now) c.args.drivers (length c.loop-driver.yielded) c.in-Some.driver.0 there))
-          ∙ ap (λ (n : ℕ). fold (join_word c.args.is_and) (word_of c.args.is_and) (take n (map (slice_index c.args.good.now) c.args.drivers))) (sym more);
+          ∙ ap (λ (w : ℕ). join_word c.args.controlling c.loop-driver.word w) c.good_at.ensures
+          ∙ ap (λ (w : ℕ). join_word c.args.controlling w (slice_index c.args.good.now c.in-Some.driver.0)) c.loop-driver.invariant.word
+          ∙ sym (fold_take (join_word c.args.controlling) (word_of (not c.args.controlling)) (map (slice_index c.args.good.now) c.args.drivers) (length c.loop-driver.yielded) _ (map_at (slice_index c.args.good.now) c.args.drivers (length c.loop-driver.yielded) c.in-Some.driver.0 there))
+          ∙ ap (λ (n : ℕ). fold (join_word c.args.controlling) (word_of (not c.args.controlling)) (take n (map (slice_index c.args.good.now) c.args.drivers))) (sym more);
     }
 
 pub returns : goal.returns
@@ -30,5 +30,5 @@ returns c =
     let all : length c.args.drivers ≡ length c.loop-driver.yielded = yielded_all (λ d. d.0) c.args.drivers c.loop-driver.yielded _ c.loop-driver.invariant.all c.in-None.ensures.steps.0 in
     let count : length c.loop-driver.yielded ≡ length (map (slice_index c.args.good.now) c.args.drivers) = sym all ∙ sym (length-map c.args.drivers (slice_index c.args.good.now)) in
     c.loop-driver.invariant.word
-    ∙ ap (λ (xs : List ℕ). fold (join_word c.args.is_and) (word_of c.args.is_and) xs)
+    ∙ ap (λ (xs : List ℕ). fold (join_word c.args.controlling) (word_of (not c.args.controlling)) xs)
     (ap (λ (n : ℕ). take n (map (slice_index c.args.good.now) c.args.drivers)) count ∙ take-length (map (slice_index c.args.good.now) c.args.drivers))

@@ -1,4 +1,4 @@
-use Rattle.std.proofs.Common.{◌≡◌, ◌++◌, length, map, take}
+use Rattle.std.proofs.Common.{not, ◌≡◌, ◌++◌, length, map, take}
 use Rattle.std.specs.List.{fold}
 use Rattle.std.specs.Prelude.{slice_index}
 use Rattle.fault_sim.specs.Inner.Words.{join_word, word_of}
@@ -7,5 +7,5 @@ use Rattle.fault_sim.proofs.good_reading.good_junction.Given as goal
 abbrev pub invariant-loop-driver : goal.invariant-loop-driver
 invariant-loop-driver l = record {
   all : l.fn.drivers ≡ map (λ d. d.0) l.yielded ++ l.driver-iterator;
-  word : l.word ≡ fold (join_word l.is_and) (word_of l.is_and) (take (length l.yielded) (map (slice_index l.good) l.fn.drivers));
+  word : l.word ≡ fold (join_word l.controlling) (word_of (not l.controlling)) (take (length l.yielded) (map (slice_index l.good) l.fn.drivers));
 }

@@ -24,3 +24,11 @@ returns-else-node-least-clause-live c =
 pub returns-in-Retired-clause-live : goal.returns-in-Retired-clause-live
 returns-in-Retired-clause-live c =
     live-set c.args.kinds.now.items _ c.args.pool.now _ _ c.args.least.now c.args.least.now c.set_kind-in-Retired.ensures.kinds c.requires.live (omega arith) (inr (λ e. cc))
+
+pub returns-in-Turned-clause-wiring : goal.returns-in-Turned-clause-wiring
+returns-in-Turned-clause-wiring c =
+    rw c.in-Turned.is (wired-set c.args.kinds.now.items c.set_kind-in-Turned.new.kinds.items c.args.pool.now c.relink_pin-in-Turned.new.pool _ _ _ c.set_kind-in-Turned.ensures.kinds c.relink_pin-in-Turned.ensures.rings)
+
+pub returns-in-Turned-clause-live : goal.returns-in-Turned-clause-live
+returns-in-Turned-clause-live c =
+    live-set c.args.kinds.now.items _ c.args.pool.now _ _ c.args.least.now c.args.least.now c.set_kind-in-Turned.ensures.kinds c.requires.live (omega arith) (inr (λ e. cc))

@@ -1,7 +1,9 @@
+use Rattle.std.proofs.Common.{sym, ◌∙◌}
+use Rattle.gate_looks.proofs.Parities.{forward_by}
 use Rattle.gate_looks.proofs.glances.forward.Goals as goal
 
-pub returns-in-And : goal.returns-in-And
-returns-in-And g c = rw c.in-And.is (c.junction_forward.ensures _ c.look.ensures)
+pub returns-in-Junction : goal.returns-in-Junction
+returns-in-Junction g c = forward_by c.args.kind _ _ _ (c.junction_forward.ensures _ c.look.ensures) (sym c.in-Junction.is ∙ c.family.ensures)
 
-pub returns-in-Or : goal.returns-in-Or
-returns-in-Or g c = rw c.in-Or.is (c.junction_forward-in-Or.ensures _ c.look-in-Or.ensures)
+pub returns-in-Parity : goal.returns-in-Parity
+returns-in-Parity g c = forward_by c.args.kind _ _ _ c.parity_forward.ensures (sym c.in-Parity.is ∙ c.family.ensures)

@@ -18,3 +18,11 @@ returns-clause-prefix c = refl
 pub returns-clause-not_tidy : goal.returns-clause-not_tidy
 unfolding rule_at
 returns-clause-not_tidy c = refl
+
+pub returns-clause-agree : goal.returns-clause-agree
+unfolding digits
+returns-clause-agree c = refl
+
+pub returns-clause-agree_again : goal.returns-clause-agree_again
+unfolding digits
+returns-clause-agree_again c = refl

@@ -5,7 +5,7 @@ use Rattle.gate_net.specs.Net.{Node}
 use Rattle.rm_base.specs.declared.numbers.NodeId.{NodeId}
 use Rattle.joined_nets.specs.Growing.{Fits, with_nodes}
 use Rattle.joined_nets.specs.Joined.{moved}
-use Rattle.joined_nets.proofs.Gates.{drivers_below, gate_kind, moved_node, one_driver}
+use Rattle.joined_nets.proofs.Gates.{drivers_below, gate_kind, moved_node, one_driver, two_drivers}
 use Rattle.joined_nets.proofs.copying.copy_gate.Goals as goal
 
 pub moved_all-requires : goal.moved_all-requires
@@ -22,6 +22,11 @@ add_last-requires-clause-kind c = gate_kind (net_of c.args.from.now) c.args.node
 pub add_last-requires-clause-one : goal.add_last-requires-clause-one
 add_last-requires-clause-one c = λ e.
     one_driver (net_of c.args.from.now) c.args.node.0 c.in-Some.kind c.requires.gate c.in-Some.ensures c.args.first c.args.count c.as_slice.result.now
+    (ap (λ (l : List NodeId). map (λ (n : NodeId). n.0) l) c.as_slice.ensures.value ∙ (c.in_ok-drivers.ensures ∙ ap (λ (l : List ℕ). map (moved c.args.first c.args.count) l) c.gate_inputs.ensures.drivers)) c.well_formed-2.ensures.net e
+
+pub add_last-requires-clause-two : goal.add_last-requires-clause-two
+add_last-requires-clause-two c = λ e.
+    two_drivers (net_of c.args.from.now) c.args.node.0 c.in-Some.kind c.requires.gate c.in-Some.ensures c.args.first c.args.count c.as_slice.result.now
     (ap (λ (l : List NodeId). map (λ (n : NodeId). n.0) l) c.as_slice.ensures.value ∙ (c.in_ok-drivers.ensures ∙ ap (λ (l : List ℕ). map (moved c.args.first c.args.count) l) c.gate_inputs.ensures.drivers)) c.well_formed-2.ensures.net e
 
 pub add_last-requires-clause-drivers : goal.add_last-requires-clause-drivers

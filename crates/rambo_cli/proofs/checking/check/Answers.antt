@@ -3,6 +3,7 @@ use Rattle.std.specs.Prelude.{IfSome, IsSome}
 use Rattle.journal_check.proofs.Public.{handed_on}
 use Rattle.rm_base.specs.Files.{Files}
 use Rattle.journal_audit.specs.Audited.{IsPassed, IsProblem}
+use Rattle.cover_decompose.specs.Count.{decomposed}
 use Rattle.rambo_cli.specs.Check.{CheckFinds}
 use Rattle.rambo_cli.specs.Contract.{Caused}
 use Rattle.rambo_cli.specs.Problems.{audit_problem}
@@ -31,7 +32,7 @@ returns-in_err-fits-clause-cause g c =
     let problem = c.in_err-fits.field-0.0 in
     handed_on c.from_residual-in_err-fits.result problem (Caused (CheckFinds c.args.input.now c.args.journal.now c.args.output.now (g.S.Shelf.files c.args.shelf.now)) (g.S.Shelf.faults c.args.shelf.now) (g.S.Shelf.faults c.read_input.new.shelf)) c.from_residual-in_err-fits.ensures.1
     (read_in_check c.args.input.now c.args.journal.now c.args.output.now (g.S.Shelf.files c.args.shelf.now) (g.S.Shelf.faults c.args.shelf.now) (g.S.Shelf.faults c.read_input.new.shelf) problem
-    (too_many c.in_ok-model.model c.args.input.now (g.S.Shelf.files c.args.shelf.now) (g.S.Shelf.faults c.args.shelf.now) (g.S.Shelf.faults c.read_input.new.shelf) problem c.in_ok-model.ensures.said c.in_err-fits.ensures.cause))
+    (too_many decomposed c.in_ok-model.model c.args.input.now (g.S.Shelf.files c.args.shelf.now) (g.S.Shelf.faults c.args.shelf.now) (g.S.Shelf.faults c.read_input.new.shelf) problem c.in_ok-model.ensures.said c.in_err-fits.ensures.cause))
 
 pub returns-in_err-model-clause-cause : goal.returns-in_err-model-clause-cause
 returns-in_err-model-clause-cause g c =

@@ -4,6 +4,7 @@ use Rattle.journal_check.proofs.Public.{handed_on}
 use Rattle.rm_base.specs.Files.{Files}
 use Rattle.wire_edit.specs.declared.steps.Step.{Step}
 use Rattle.accepted_steps.specs.Taken.{NotTaken, TakenFrom}
+use Rattle.cover_decompose.specs.Count.{decomposed}
 use Rattle.rambo_cli.specs.Contract.{Caused}
 use Rattle.rambo_cli.specs.Problems.{KeepsFiles, piece_problem}
 use Rattle.rambo_cli.specs.Replay.{ReplayFinds}
@@ -23,7 +24,7 @@ returns-in_err-fits-clause-cause g c =
     let problem = c.in_err-fits.field-0.0 in
     handed_on c.from_residual-in_err-fits.result problem (Caused (ReplayFinds c.args.input.now c.args.journal.now (g.S.Shelf.files c.args.shelf.now)) (g.S.Shelf.faults c.args.shelf.now) (g.S.Shelf.faults c.read_input.new.shelf)) c.from_residual-in_err-fits.ensures.1
     (read_in_replay c.args.input.now c.args.journal.now (g.S.Shelf.files c.args.shelf.now) (g.S.Shelf.faults c.args.shelf.now) (g.S.Shelf.faults c.read_input.new.shelf) problem
-    (too_many c.in_ok-model.model c.args.input.now (g.S.Shelf.files c.args.shelf.now) (g.S.Shelf.faults c.args.shelf.now) (g.S.Shelf.faults c.read_input.new.shelf) problem c.in_ok-model.ensures.said c.in_err-fits.ensures.cause))
+    (too_many decomposed c.in_ok-model.model c.args.input.now (g.S.Shelf.files c.args.shelf.now) (g.S.Shelf.faults c.args.shelf.now) (g.S.Shelf.faults c.read_input.new.shelf) problem c.in_ok-model.ensures.said c.in_err-fits.ensures.cause))
 
 pub returns-in_err-accepted-clause-cause : goal.returns-in_err-accepted-clause-cause
 returns-in_err-accepted-clause-cause g c =

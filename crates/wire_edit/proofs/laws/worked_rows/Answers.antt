@@ -29,3 +29,27 @@ returns-clause-buffer_second c = refl
 pub returns-clause-buffer_third : goal.returns-clause-buffer_third
 unfolding rule_at
 returns-clause-buffer_third c = refl
+
+pub returns-clause-turn_first : goal.returns-clause-turn_first
+unfolding rule_at
+returns-clause-turn_first c = refl
+
+pub returns-clause-turn_tidy : goal.returns-clause-turn_tidy
+unfolding rule_at
+returns-clause-turn_tidy c = refl
+
+pub returns-clause-pass_first : goal.returns-clause-pass_first
+unfolding rule_at
+returns-clause-pass_first c = refl
+
+pub returns-clause-pass_second : goal.returns-clause-pass_second
+unfolding rule_at
+returns-clause-pass_second c = refl
+
+pub returns-clause-even_first : goal.returns-clause-even_first
+unfolding rule_at
+returns-clause-even_first c = refl
+
+pub returns-clause-even_second : goal.returns-clause-even_second
+unfolding rule_at
+returns-clause-even_second c = refl

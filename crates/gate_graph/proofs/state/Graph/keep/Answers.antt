@@ -1,15 +1,16 @@
-use Rattle.std.proofs.Common.{arith, refl, sym, ap, ◌∙◌, ◌≡◌, List, Option}
+use Rattle.std.proofs.Common.{[], arith, refl, subst, sym, ap, ◌∙◌, ◌≡◌, List, Option, ℕ}
 use Rattle.pin_pool.specs.Rings.{Rings}
 use Rattle.gate_net.specs.declared.Kind.{Kind}
-use Rattle.gate_graph.specs.Wirings.{kind_at, free_in}
+use Rattle.gate_graph.specs.Inner.Holds.{AreHeld}
+use Rattle.gate_graph.specs.Wirings.{kind_at, free_in, wiring_of}
 use Rattle.gate_graph.specs.Circuit.{Circuit}
 use Rattle.gate_graph.specs.Inner.Circuit.{IsGraph}
 use Rattle.gate_graph.proofs.Kept.{graph-kept, net-kept, readers-kept}
-use Rattle.gate_graph.proofs.Holding.{are-held, held-step, held-here, held-count}
+use Rattle.gate_graph.proofs.Holding.{are-held, held-step, held-same, held-here, held-count}
 use Rattle.std.specs.FinSet as finset
 use Rattle.pin_pool.proofs.Public.{len-one_less}
 use Rattle.std.proofs.Common.{length, ◌≡◌}
-use Rattle.gate_graph.specs.Holds.{held}
+use Rattle.gate_graph.specs.Holds.{held, held_by}
 use Rattle.gate_graph.specs.declared.undo_list.Undo.{Undo}
 use Rattle.gate_graph.proofs.HeldPins.{held-are}
 use Rattle.pin_pool.proofs.Public.{linked-same}
@@ -34,10 +35,10 @@ loop-entry-init c =
 
 pub give_back-requires : goal.give_back-requires
 give_back-requires c =
-    held-here c.loop-entry.self-inside.kinds.items c.loop-entry.self-inside.pool c.in-Removed.pin c.in-Removed.slot c.in-Some.entry c.loop-entry.undos.entries c.pop.new.self.entries c.in-Some.ensures.0 c.in-Removed.is c.loop-entry.invariant.held_pins
+    held-here c.loop-entry.self-inside.kinds.items c.loop-entry.self-inside.pool c.in-Some-held_pin.pin c.in-Some.entry c.loop-entry.undos.entries c.pop.new.self.entries c.in-Some.ensures.0 c.in-Some-held_pin.ensures.some c.loop-entry.invariant.held_pins
 
-pub loop-entry-preserved-in-Removed : goal.loop-entry-preserved-in-Removed
-loop-entry-preserved-in-Removed c =
+pub loop-entry-preserved-in-Some-held_pin : goal.loop-entry-preserved-in-Some-held_pin
+loop-entry-preserved-in-Some-held_pin c =
     let i = c.loop-entry.invariant in
     let e = c.give_back.ensures in
     record {
@@ -45,9 +46,29 @@ loop-entry-preserved-in-Removed c =
       inputs = ap (λ (r : Rings). r.inputs) e.rings ∙ i.inputs;
       fanouts = ap (λ (r : Rings). r.fanouts) e.rings ∙ i.fanouts;
       nodes = e.nodes ∙ i.nodes;
-      held_pins = held-step c.loop-entry.self-inside.kinds.items c.loop-entry.self-inside.pool c.give_back.new.self c.in-Removed.pin c.in-Removed.slot c.in-Some.entry c.loop-entry.undos.entries c.pop.new.self.entries c.in-Some.ensures.0 c.in-Removed.is i.held_pins e.rings;
-      spare = omega (arith, i.spare, e.spare, held-count c.in-Removed.pin c.in-Removed.slot c.in-Some.entry c.loop-entry.undos.entries c.pop.new.self.entries c.in-Some.ensures.0 c.in-Removed.is);
-      taken = omega (arith, i.taken, ap finset.len e.taken, len-one_less c.loop-entry.self-inside.pool.taken c.in-Removed.pin.0 (held-here c.loop-entry.self-inside.kinds.items c.loop-entry.self-inside.pool c.in-Removed.pin c.in-Removed.slot c.in-Some.entry c.loop-entry.undos.entries c.pop.new.self.entries c.in-Some.ensures.0 c.in-Removed.is i.held_pins).0, held-count c.in-Removed.pin c.in-Removed.slot c.in-Some.entry c.loop-entry.undos.entries c.pop.new.self.entries c.in-Some.ensures.0 c.in-Removed.is);
+      held_pins = held-step c.loop-entry.self-inside.kinds.items c.loop-entry.self-inside.pool c.give_back.new.self c.in-Some-held_pin.pin c.in-Some.entry c.loop-entry.undos.entries c.pop.new.self.entries c.in-Some.ensures.0 c.in-Some-held_pin.ensures.some i.held_pins e.rings;
+      spare = omega (arith, i.spare, e.spare, held-count c.in-Some-held_pin.pin c.in-Some.entry c.loop-entry.undos.entries c.pop.new.self.entries c.in-Some.ensures.0 c.in-Some-held_pin.ensures.some);
+      taken = omega (arith, i.taken, ap finset.len e.taken, len-one_less c.loop-entry.self-inside.pool.taken c.in-Some-held_pin.pin.0 (held-here c.loop-entry.self-inside.kinds.items c.loop-entry.self-inside.pool c.in-Some-held_pin.pin c.in-Some.entry c.loop-entry.undos.entries c.pop.new.self.entries c.in-Some.ensures.0 c.in-Some-held_pin.ensures.some i.held_pins).0, held-count c.in-Some-held_pin.pin c.in-Some.entry c.loop-entry.undos.entries c.pop.new.self.entries c.in-Some.ensures.0 c.in-Some-held_pin.ensures.some);
+      free = i.free;
+      places = omega (arith, i.places, c.in-Some.ensures.1, ap (λ (l : List Undo). length l) c.in-Some.ensures.0);
+      epoch = i.epoch;
+      least = i.least;
+      bound = i.bound;
+    }
+
+pub loop-entry-preserved : goal.loop-entry-preserved
+loop-entry-preserved c =
+    let i = c.loop-entry.invariant in
+    let none : held_by c.in-Some.entry ≡ [] = c.held_pin.ensures.none c.in_default-held_pin.is in
+    let same : held c.loop-entry.undos.entries ≡ held c.pop.new.self.entries = held-same c.in-Some.entry c.loop-entry.undos.entries c.pop.new.self.entries c.in-Some.ensures.0 none in
+    record {
+      kinds = i.kinds;
+      inputs = i.inputs;
+      fanouts = i.fanouts;
+      nodes = i.nodes;
+      held_pins = subst (λ (l : List ℕ). AreHeld (wiring_of c.loop-entry.self-inside.kinds.items c.loop-entry.self-inside.pool) l) same i.held_pins;
+      spare = omega (arith, i.spare, ap (λ (l : List ℕ). length l) same);
+      taken = omega (arith, i.taken, ap (λ (l : List ℕ). length l) same);
       free = i.free;
       places = omega (arith, i.places, c.in-Some.ensures.1, ap (λ (l : List Undo). length l) c.in-Some.ensures.0);
       epoch = i.epoch;

@@ -10,7 +10,7 @@ use Rattle.gate_graph.proofs.KindAt.{kind-within, live-next}
 use Rattle.gate_graph.proofs.Pinned.{dead-pins}
 use Rattle.gate_graph.proofs.Formed.{dead-node, live-node}
 use Rattle.gate_graph.proofs.Making.{free-found}
-use Rattle.gate_graph.proofs.Filling.{fills, new-readers, free-not_zero}
+use Rattle.gate_graph.proofs.Filling.{fills, new-readers, free-not_zero, parity-count}
 use Rattle.gate_graph.proofs.Numbers.{bit-none, free-within}
 use Rattle.gate_graph.proofs.HeldPins.{held-by, linked-filled}
 use Rattle.gate_graph.proofs.state.Graph.new_gate.Goals as goal
@@ -69,7 +69,7 @@ invariant_of-self c =
     let free : kind_at i.kinds.items c.least_free-node.result ≡ None = (rw c.deref.ensures.value at c.least_free-node.ensures.free) within in
     let drivers : (d : ℕ) → has d (map (λ (n : NodeId). n.0) c.args.drivers.now) ≡ true → kind_at v.kinds d ≢ None = λ d h. live-in v d ((rw (← c.self.view_is) at c.requires.drivers) d h) in
     let w : Circuit = record { kinds = c.set_kind.new.kinds.items; pool = c.link_all.new.pool; epoch = i.epoch } in
-    let a = fills v w c.least_free-node.result c.args.kind (map (λ (n : NodeId). n.0) c.args.drivers.now) c.tell_rings.ensures.rings g.wired free c.link_all.ensures.filled (λ m. ap (λ (x : Wiring). x.kind m) (c.set_kind.ensures.kinds i.pool)) drivers (λ is. length-map c.args.drivers.now (λ (n : NodeId). n.0) ∙ c.requires.one is) c.requires.kind in (
+    let a = fills v w c.least_free-node.result c.args.kind (map (λ (n : NodeId). n.0) c.args.drivers.now) c.tell_rings.ensures.rings g.wired free c.link_all.ensures.filled (λ m. ap (λ (x : Wiring). x.kind m) (c.set_kind.ensures.kinds i.pool)) drivers (λ i some. length-map c.args.drivers.now (λ (n : NodeId). n.0) ∙ parity-count c.args.kind (length c.args.drivers.now) c.requires.one c.requires.two i some) c.requires.kind in (
       record { wired = a.wired; room = omega (arith, g.room, c.link_all.ensures.nodes, c.set_kind.ensures.len); few = omega (arith, g.few, c.set_kind.ensures.len) },
       (live-next i.kinds.items c.set_kind.new.kinds.items i.pool c.least_free-node.result _ c.set_kind.ensures.kinds least (λ e. cc), (c.set_kind.ensures.dead, c.set_kind.ensures.free)),
     )
@@ -84,7 +84,7 @@ returns-clause-made c =
     let free : kind_at i.kinds.items c.least_free-node.result ≡ None = (rw c.deref.ensures.value at c.least_free-node.ensures.free) within in
     let drivers : (d : ℕ) → has d (map (λ (n : NodeId). n.0) c.args.drivers.now) ≡ true → kind_at v.kinds d ≢ None = λ d h. live-in v d ((rw (← c.self.view_is) at c.requires.drivers) d h) in
     let w : Circuit = record { kinds = c.set_kind.new.kinds.items; pool = c.link_all.new.pool; epoch = i.epoch } in
-    let a = fills v w c.least_free-node.result c.args.kind (map (λ (n : NodeId). n.0) c.args.drivers.now) c.tell_rings.ensures.rings g.wired free c.link_all.ensures.filled (λ m. ap (λ (x : Wiring). x.kind m) (c.set_kind.ensures.kinds i.pool)) drivers (λ is. length-map c.args.drivers.now (λ (n : NodeId). n.0) ∙ c.requires.one is) c.requires.kind in
+    let a = fills v w c.least_free-node.result c.args.kind (map (λ (n : NodeId). n.0) c.args.drivers.now) c.tell_rings.ensures.rings g.wired free c.link_all.ensures.filled (λ m. ap (λ (x : Wiring). x.kind m) (c.set_kind.ensures.kinds i.pool)) drivers (λ i some. length-map c.args.drivers.now (λ (n : NodeId). n.0) ∙ parity-count c.args.kind (length c.args.drivers.now) c.requires.one c.requires.two i some) c.requires.kind in
     rw (← c.self.view_is) (record { number = record { free = dead-node v c.least_free-node.result free; least = λ m h. live-node v m (least m h) }; differs = a.differs; made = a.node })
 
 pub returns-clause-fanouts : goal.returns-clause-fanouts
@@ -131,7 +131,7 @@ returns-clause-held c =
     let free : kind_at i.kinds.items c.least_free-node.result ≡ None = (rw c.deref.ensures.value at c.least_free-node.ensures.free) within in
     let drivers : (d : ℕ) → has d (map (λ (n : NodeId). n.0) c.args.drivers.now) ≡ true → kind_at v.kinds d ≢ None = λ d h. live-in v d ((rw (← c.self.view_is) at c.requires.drivers) d h) in
     let w : Circuit = record { kinds = c.set_kind.new.kinds.items; pool = c.link_all.new.pool; epoch = i.epoch } in
-    let a = fills v w c.least_free-node.result c.args.kind (map (λ (n : NodeId). n.0) c.args.drivers.now) c.tell_rings.ensures.rings g.wired free c.link_all.ensures.filled (λ m. ap (λ (x : Wiring). x.kind m) (c.set_kind.ensures.kinds i.pool)) drivers (λ is. length-map c.args.drivers.now (λ (n : NodeId). n.0) ∙ c.requires.one is) c.requires.kind in
+    let a = fills v w c.least_free-node.result c.args.kind (map (λ (n : NodeId). n.0) c.args.drivers.now) c.tell_rings.ensures.rings g.wired free c.link_all.ensures.filled (λ m. ap (λ (x : Wiring). x.kind m) (c.set_kind.ensures.kinds i.pool)) drivers (λ i some. length-map c.args.drivers.now (λ (n : NodeId). n.0) ∙ parity-count c.args.kind (length c.args.drivers.now) c.requires.one c.requires.two i some) c.requires.kind in
     let gw : IsGraph w = record { wired = a.wired; room = omega (arith, g.room, c.link_all.ensures.nodes, c.set_kind.ensures.len); few = omega (arith, g.few, c.set_kind.ensures.len) } in
     let more = linked-filled v.pool w.pool c.link_all.ensures.nodes c.least_free-node.result (map (λ (n : NodeId). n.0) c.args.drivers.now) c.link_all.ensures.filled (omega (arith, within, g.room)) (dead-pins v g.wired.shape c.least_free-node.result free) in
     rw (← c.self.view_is) (held-by v w c.tell_rings.ensures.rings c.link_all.ensures.filled.rings g gw (omega (arith, more, length-map c.args.drivers.now (λ (n : NodeId). n.0), c.link_all.ensures.taken)))

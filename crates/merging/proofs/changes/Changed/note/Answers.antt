@@ -1,10 +1,9 @@
 use Rattle.std.proofs.Common.{sym, refl, subst}
 use Rattle.std.specs.Prelude.{OnOk}
-use Rattle.wire_edit.specs.Tests.{constant_at, control_of}
 use Rattle.wire_edit.specs.declared.steps.Step.{Step}
 use Rattle.wire_edit.specs.declared.steps.Step.TheVariants.{Add, Fix, Const, Same, Dead}
 use Rattle.merging.specs.Inner.Changing.{HasNoted}
-use Rattle.merging.proofs.Noting.{const_covers, empty_noted, gate_noted, not_noted, on_ok, one_noted, second_noted, twin_noted}
+use Rattle.merging.proofs.Noting.{empty_noted, gate_noted, not_noted, on_ok, one_noted, same_noted, second_noted, twin_noted}
 use Rattle.merging.proofs.changes.Changed.note.Goals as goal
 
 pub returns-in-Add : goal.returns-in-Add
@@ -19,13 +18,12 @@ returns-in-Fix c =
 
 pub returns-in-Const : goal.returns-in-Const
 returns-in-Const c =
-    subst (λ (s : Step). OnOk c.note_gate-in-Const.result (HasNoted s c.args.graph.now c.args.self.now c.note_gate-in-Const.new.self)) (sym c.in-Const.is)
-    (on_ok c.note_gate-in-Const.result _ _ (λ listed. gate_noted c.args.graph.now (Const c.in-Const.gate c.in-Const.position) c.in-Const.gate.0 c.args.self.now c.note_gate-in-Const.new.self (λ net gates homes covers. const_covers c.in-Const.gate.0 c.in-Const.position (control_of net c.in-Const.gate.0) (constant_at net c.in-Const.gate.0 c.in-Const.position) gates homes covers) listed c.note_gate-in-Const.ensures.homes) c.note_gate-in-Const.ensures.gates)
+    subst (λ (s : Step). OnOk c.note_constant.result (HasNoted s c.args.graph.now c.args.self.now c.note_constant.new.self)) (sym c.in-Const.is) c.note_constant.ensures
 
 pub returns-in-Same : goal.returns-in-Same
 returns-in-Same c =
     subst (λ (s : Step). OnOk c.note_gate-in-Same.result (HasNoted s c.args.graph.now c.args.self.now c.note_gate-in-Same.new.self)) (sym c.in-Same.is)
-    (on_ok c.note_gate-in-Same.result _ _ (λ listed. gate_noted c.args.graph.now (Same c.in-Same.gate c.in-Same.position) c.in-Same.gate.0 c.args.self.now c.note_gate-in-Same.new.self (λ net gates homes covers. covers) listed c.note_gate-in-Same.ensures.homes) c.note_gate-in-Same.ensures.gates)
+    (on_ok c.note_gate-in-Same.result _ _ (λ listed. same_noted c.args.graph.now c.in-Same.gate c.in-Same.position c.args.self.now c.note_gate-in-Same.new.self listed c.note_gate-in-Same.ensures.homes) c.note_gate-in-Same.ensures.gates)
 
 pub returns-in-Dead : goal.returns-in-Dead
 returns-in-Dead c =
